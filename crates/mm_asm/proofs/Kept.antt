@@ -10,7 +10,7 @@ use Rattle.std.proofs.lemmas.Slice.Eq.{bytes_eq-Decides}
 use Rattle.mm_line.specs.declared.fault.Fault.TheVariants.{Full, Limit}
 use Rattle.mm_draft.specs.declared.source.Source.{Source}
 use Rattle.mm_draft.specs.declared.segment.Word.{Word}
-use Rattle.mm_draft.specs.declared.place.Place.{Place}
+use Rattle.mm_draft.specs.declared.place.Location.{Location}
 use Rattle.mm_draft.specs.declared.thread.Register.{Register}
 use Rattle.mm_draft.specs.Drafts.{Segment, Entry, Thread, Draft, place_in, last, words_so_far, words_of, pointers_among, pointers_of, change_last, with_words, with_register, zero_word}
 use Rattle.mm_draft.specs.Faults.{segment_limit, word_limit, pointer_limit, room_of, fault_if, has_register, words_faults}
@@ -19,7 +19,7 @@ use Rattle.mm_object.specs.Objects.{is_among, are_apart}
 use Rattle.mm_model.proofs.ImageBytes.Clean.{neither}
 use Rattle.mm_object.proofs.Bools.{any-map, is_false, none_of}
 use Rattle.mm_object.proofs.Apartness.{apart-push}
-use Rattle.mm_asm.specs.Bounds.{IsWord, IsRegister, AreApart, IsSegment, IsThread, HasWord, IsPlace, AreNamed, AreSegments, AreThreads}
+use Rattle.mm_asm.specs.Bounds.{IsWord, IsRegister, AreApart, IsSegment, IsThread, HasWord, IsLocation, AreNamed, AreSegments, AreThreads}
 use Rattle.mm_asm.proofs.Lists.{each_weaker, each_changed, length_changed, map_changed, total, total_more, total_changed, none_both}
 use Rattle.mm_object.proofs.Members.{each_more, each_map}
 use Rattle.mm_asm.proofs.Order.{is_other, each_among}
@@ -27,7 +27,7 @@ use Rattle.mm_asm.proofs.ExternalNames.{fault_none}
 
 -- 1. Names.
 
-place_more : (entries more : List Entry) (name : List ℕ) (p : Place) → place_in entries name ≡ Some p → place_in (entries ++ more) name ≡ Some p
+place_more : (entries more : List Entry) (name : List ℕ) (p : Location) → place_in entries name ≡ Some p → place_in (entries ++ more) name ≡ Some p
 place_more [] more name p e = absurd cc
 place_more (x ∷ entries) more name p e = by (bytes_eq name x.name) e (place_more entries more name p)
   where
@@ -75,10 +75,10 @@ named_push : (entries : List Entry) (k : ℕ) (segments : List Segment) (s : Seg
     → AreNamed entries k (segments ++ s ∷ [])
 named_push entries k [] s h e =
     let same : k + 0 ≡ k = omega arith in
-    (e ∙ ap (λ (i : ℕ). Some (let p : Place = record { segment = i; word = 0; is_label = false } in p)) same, tt)
+    (e ∙ ap (λ (i : ℕ). Some (let p : Location = record { segment = i; word = 0; is_label = false } in p)) same, tt)
 named_push entries k (x ∷ segments) s h e =
     let same : k + length (x ∷ segments) ≡ k + 1 + length segments = omega arith in
-    (h.0, named_push entries (k + 1) segments s h.1 (e ∙ ap (λ (i : ℕ). Some (let p : Place = record { segment = i; word = 0; is_label = false } in p)) same))
+    (h.0, named_push entries (k + 1) segments s h.1 (e ∙ ap (λ (i : ℕ). Some (let p : Location = record { segment = i; word = 0; is_label = false } in p)) same))
 
 named_longer : (entries : List Entry) (words : List Word) (k : ℕ) (segments : List Segment) → AreNamed entries k segments → AreNamed entries k (change_last (with_words words) segments)
 named_longer entries words k [] h = tt
@@ -86,7 +86,7 @@ named_longer entries words k (x ∷ []) h = h
 named_longer entries words k (x ∷ y ∷ segments) h = (h.0, named_longer entries words (k + 1) (y ∷ segments) h.1)
 
 -- each segment's name stands for something
-pub each_stands : (entries : List Entry) (k : ℕ) (segments : List Segment) → AreNamed entries k segments → AllByRecursion (λ (s : Segment). (p : Place) × (place_in entries s.name ≡ Some p)) segments
+pub each_stands : (entries : List Entry) (k : ℕ) (segments : List Segment) → AreNamed entries k segments → AllByRecursion (λ (s : Segment). (p : Location) × (place_in entries s.name ≡ Some p)) segments
 each_stands entries k [] h = tt
 each_stands entries k (s ∷ segments) h = ((record { segment = k; word = 0; is_label = false }, h.0), each_stands entries (k + 1) segments h.1)
 
@@ -94,8 +94,8 @@ each_stands entries k (s ∷ segments) h = ((record { segment = k; word = 0; is_
 name_is_new : (entries : List Entry) (name : List ℕ) (segments : List Segment) → AreNamed entries 0 segments
     → is_some (place_in entries name) ≡ false → is_among name (map (λ (s : Segment). s.name) segments) ≡ false
 name_is_new entries name segments h new = is_false (is_among name (map (λ (s : Segment). s.name) segments)) (λ among.
-    let Stands : List ℕ → Type 0 = λ n. (p : Place) × (place_in entries n ≡ Some p) in
-    let stands : (p : Place) × (place_in entries name ≡ Some p) = each_among Stands name
+    let Stands : List ℕ → Type 0 = λ n. (p : Location) × (place_in entries n ≡ Some p) in
+    let stands : (p : Location) × (place_in entries name ≡ Some p) = each_among Stands name
     (map (λ (s : Segment). s.name) segments) (each_map Stands (λ (s : Segment). s.name) segments
     (each_stands entries 0 segments h)) among in
     let some : is_some (place_in entries name) ≡ true = ap is_some stands.1 in
@@ -157,7 +157,7 @@ label_kept segments entries name s h e new =
       pointers = h.pointers;
       named = named_more entries entered 0 segments h.named;
       alone = entries_apart entries entered h.alone new;
-      places = each_more (λ (x : Entry). IsPlace segments x.place) entries (entered ∷ []) h.places (place_of_label segments s e, tt);
+      places = each_more (λ (x : Entry). IsLocation segments x.place) entries (entered ∷ []) h.places (place_of_label segments s e, tt);
     }
 
 module _ (segments : List Segment) (entries : List Entry) (name : List ℕ) (log : ℕ) (h : AreSegments segments entries) where
@@ -171,7 +171,7 @@ module _ (segments : List Segment) (entries : List Entry) (name : List ℕ) (log
   begin_kept few new is least greatest =
       let same : length segments ≡ 0 + length segments = omega arith in
       let first : Some entered.place ≡ Some (record { segment = 0 + length segments; word = 0; is_label = false }) = ap
-      (λ (i : ℕ). Some (let p : Place = record { segment = i; word = 0; is_label = false } in p)) same in
+      (λ (i : ℕ). Some (let p : Location = record { segment = i; word = 0; is_label = false } in p)) same in
       let is_segment : IsSegment begun = record { name = is; least = least; greatest = greatest; room = omega arith; words = tt } in
       let words_same : words_of (segments ++ begun ∷ []) ≡ words_of segments = omega (
         arith,
@@ -196,8 +196,8 @@ module _ (segments : List Segment) (entries : List Entry) (name : List ℕ) (log
         alone = entries_apart entries entered h.alone new;
         words = omega (arith, words_same, h.words);
         pointers = omega (arith, pointers_same, h.pointers);
-        places = each_more (λ (x : Entry). IsPlace (segments ++ begun ∷ []) x.place) entries (entered ∷ [])
-            (each_weaker (λ (x : Entry). IsPlace segments x.place) (λ (x : Entry). IsPlace (segments ++ begun ∷ [])
+        places = each_more (λ (x : Entry). IsLocation (segments ++ begun ∷ []) x.place) entries (entered ∷ [])
+            (each_weaker (λ (x : Entry). IsLocation segments x.place) (λ (x : Entry). IsLocation (segments ++ begun ∷ [])
             x.place) entries (λ x k. place_stays segments (begun ∷ []) x.place.segment x.place.word k) h.places)
             (place_of_last segments begun, tt);
       }
@@ -226,7 +226,7 @@ module _ (d : Draft) (h : AreSegments d.segments d.names) (words : List Word) (c
         alone = h.alone;
         words = omega (arith, words_total longer, words_total d.segments, words_grow, is_count, word_room);
         pointers = omega (arith, pointers_total longer, pointers_total d.segments, pointers_grow, is_pointers, pointer_room);
-        places = each_weaker (λ (x : Entry). IsPlace d.segments x.place) (λ (x : Entry). IsPlace longer x.place) d.names
+        places = each_weaker (λ (x : Entry). IsLocation d.segments x.place) (λ (x : Entry). IsLocation longer x.place) d.names
             (λ x k. place_in_longer words d.segments x.place.segment x.place.word k) h.places;
       }
 

@@ -28,7 +28,7 @@ use Rattle.mm_draft.specs.Faults.{line_faults, first_of, source_of, step_by, ste
 use Rattle.mm_draft.specs.Laws.{Pair, failure_pair, precedes, sooner, least}
 use Rattle.mm_asm.specs.Names.{Use, constant_uses, content_uses, word_uses, segment_uses, register_uses, thread_uses, merge, uses_of, with_use}
 use Rattle.mm_asm.specs.Faults.{in_source, word_failures, goal_failures, use_failures, limit_failures, late_failures}
-use Rattle.mm_asm.specs.Sources.{IsSmall, IsSmallError, HasSmallWords, HasSmallRegisters, IsFromSmall, IsPlace}
+use Rattle.mm_asm.specs.Sources.{IsSmall, IsSmallError, HasSmallWords, HasSmallRegisters, IsFromSmall, IsPosition}
 use Rattle.mm_asm.proofs.Lists.{each_weaker, each_changed}
 use Rattle.mm_object.proofs.Members.{each_in, each_from, each_more}
 use Rattle.mm_asm.proofs.Uses.{from_merge}
@@ -226,18 +226,18 @@ module _ (d : Draft) where
       (each_flat FromSmall (use_failures d) (uses_of d) (each_weaker UsedSmall (λ (u : Use). AllByRecursion FromSmall (use_failures d u)) (uses_of d) (λ u m. in_small u.source _ m) uses)))
       (limits_small (uses_of d) [] uses)
 
-pub pair_is : (f : Failure) → IsSmall f.source → IsPlace (failure_pair f)
+pub pair_is : (f : Failure) → IsSmall f.source → IsPosition (failure_pair f)
 pair_is f h = record { line = h.0; column = let k = h.1 in omega arith }
 
 abbrev HoldsOf : Option Pair → Type 0
 HoldsOf None = Unit {0}
-HoldsOf (Some p) = IsPlace p
+HoldsOf (Some p) = IsPosition p
 
 least_small : (failures : List Failure) → AllByRecursion FromSmall failures → HoldsOf (least (map failure_pair failures))
 least_small [] h = tt
 least_small (f ∷ failures) h = by (least (map failure_pair failures)) (least_small failures h.1)
   where
-    chosen : (b : Bool) (q : Pair) → IsPlace q → HoldsOf (if b then Some q else Some (failure_pair f))
+    chosen : (b : Bool) (q : Pair) → IsPosition q → HoldsOf (if b then Some q else Some (failure_pair f))
     chosen true q k = k
     chosen false q k = pair_is f h.0
 
@@ -246,5 +246,5 @@ least_small (f ∷ failures) h = by (least (map failure_pair failures)) (least_s
     by (Some q) k = chosen (precedes q (failure_pair f)) q k
 
 -- the place of the least late fault
-pub late_place : (d : Draft) (p : Pair) → IsFromSmall d → least (map failure_pair (late_failures d)) ≡ Some p → IsPlace p
+pub late_place : (d : Draft) (p : Pair) → IsFromSmall d → least (map failure_pair (late_failures d)) ≡ Some p → IsPosition p
 late_place d p h e = subst HoldsOf e (least_small (late_failures d) (late_small d h))

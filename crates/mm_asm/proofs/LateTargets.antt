@@ -11,7 +11,7 @@ use Rattle.mm_line.specs.declared.statement.Content.{Content}
 use Rattle.mm_line.specs.declared.statement.Content.TheVariants as content
 use Rattle.mm_draft.specs.declared.source.Source.{Source}
 use Rattle.mm_draft.specs.declared.segment.Word.{Word}
-use Rattle.mm_draft.specs.declared.place.Place.{Place}
+use Rattle.mm_draft.specs.declared.place.Location.{Location}
 use Rattle.mm_draft.specs.declared.thread.Register.{Register}
 use Rattle.mm_draft.specs.Drafts as draft
 use Rattle.mm_draft.specs.Drafts.{Draft, place_of}
@@ -69,7 +69,7 @@ module _ (d : Draft) (is_draft : IsDraft d) (late : late_failures d ≡ []) wher
       (slice_get (segments_of d) t.index) refl logs (omega (arith, count, is_draft.segments.few))
       (omega (arith, count, is_draft.segments.few, few))
       (targets_are d late u m (uses_placed d u is_draft m)) in
-      record { index = r.0; addend = r.1; known = λ none. used_among d u (uses_of d) [] m (ap (λ (o : Option Place). not (is_some o)) none) }
+      record { index = r.0; addend = r.1; known = λ none. used_among d u (uses_of d) [] m (ap (λ (o : Option Location). not (is_some o)) none) }
 
   constant_fits : (source : Source) (c : Constant) → ((u : Use) → In u (constant_uses source c) → FitsTarget d u.target) → FitsConstant d c
   constant_fits source (Integer n) h = tt
@@ -95,12 +95,12 @@ module _ (d : Draft) (is_draft : IsDraft d) (late : late_failures d ≡ []) wher
 
 -- 3. Where a target is.
 
-pub here_fits : (d : Draft) (t : text.Target) (name : List ℕ) (p : Place) → name ≡ t.mark.name → place_of d name ≡ Some p → FitsTarget d t → (p.segment < 2 ^ 16) × (8 * p.word + t.addend < 2 ^ 32)
+pub here_fits : (d : Draft) (t : text.Target) (name : List ℕ) (p : Location) → name ≡ t.mark.name → place_of d name ≡ Some p → FitsTarget d t → (p.segment < 2 ^ 16) × (8 * p.word + t.addend < 2 ^ 32)
 here_fits d t name p e f h =
     let found : place_of d t.mark.name ≡ Some p = ap (place_of d) (sym e) ∙ f in
-    (subst (λ (o : Option Place). (target_by d (meant_by o t)).index < 2 ^ 16) found h.index, subst (λ (o : Option Place). (target_by d (meant_by o t)).addend < 2 ^ 32) found h.addend)
+    (subst (λ (o : Option Location). (target_by d (meant_by o t)).index < 2 ^ 16) found h.index, subst (λ (o : Option Location). (target_by d (meant_by o t)).addend < 2 ^ 32) found h.addend)
 
 pub elsewhere_fits : (d : Draft) (t : text.Target) (name : List ℕ) → name ≡ t.mark.name → place_of d name ≡ None → FitsTarget d t → length d.segments + position_of name (externals_of d) < 2 ^ 16
 elsewhere_fits d t name e f h =
     let none : place_of d t.mark.name ≡ None = ap (place_of d) (sym e) ∙ f in
-    subst (λ (n : List ℕ). length d.segments + position_of n (externals_of d) < 2 ^ 16) (sym e) (subst (λ (o : Option Place). (target_by d (meant_by o t)).index < 2 ^ 16) none h.index)
+    subst (λ (n : List ℕ). length d.segments + position_of n (externals_of d) < 2 ^ 16) (sym e) (subst (λ (o : Option Location). (target_by d (meant_by o t)).index < 2 ^ 16) none h.index)

@@ -19,7 +19,7 @@ use Rattle.mm_line.specs.declared.statement.Content.TheVariants as content
 use Rattle.mm_line.specs.Forms as forms
 use Rattle.mm_line.specs.Ranges.{IsMark, IsContent}
 use Rattle.mm_draft.specs.declared.segment.Word.{Word}
-use Rattle.mm_draft.specs.declared.place.Place.{Place}
+use Rattle.mm_draft.specs.declared.place.Location.{Location}
 use Rattle.mm_draft.specs.Drafts as draft
 use Rattle.mm_draft.specs.Drafts.{Entry, Draft, place_in, place_of}
 use Rattle.mm_object.specs.declared.item.Item.{Item}
@@ -27,7 +27,7 @@ use Rattle.mm_object.specs.Names.{begins_name, goes_on, has_form, is_name}
 use Rattle.mm_object.specs.Objects as object
 use Rattle.mm_model.proofs.ImageBytes.Rising.{both, and_true}
 use Rattle.mm_asm.specs.Meaning.{distance_to, with_goal, bits_of, items_from, segment_of}
-use Rattle.mm_asm.specs.Bounds.{IsWord, IsSegment, HasWord, IsPlace, IsDraft}
+use Rattle.mm_asm.specs.Bounds.{IsWord, IsSegment, HasWord, IsLocation, IsDraft}
 use Rattle.mm_object.proofs.Members.{In}
 
 -- 1. Names.
@@ -79,7 +79,7 @@ word_in (s ∷ segments) zero word h = omega (arith, h)
 word_in (s ∷ segments) (suc i) word h = omega (arith, word_in segments i word h)
 
 -- what is true of all entries' places is true of what a name stands for
-pub place_is : (P : Place → Type 0) (entries : List Entry) (name : List ℕ) (p : Place) → AllByRecursion (λ (e : Entry). P e.place) entries → place_in entries name ≡ Some p → P p
+pub place_is : (P : Location → Type 0) (entries : List Entry) (name : List ℕ) (p : Location) → AllByRecursion (λ (e : Entry). P e.place) entries → place_in entries name ≡ Some p → P p
 place_is P [] name p h e = absurd cc
 place_is P (x ∷ entries) name p h e = by (bytes_eq name x.name) e (place_is P entries name p h.1)
   where
@@ -88,13 +88,13 @@ place_is P (x ∷ entries) name p h e = by (bytes_eq name x.name) e (place_is P 
     by false f later = later f
 
 module _ (d : Draft) (is_draft : IsDraft d) where
-  distance_fits : (o : Option Place) (k : ℕ) → ((p : Place) → o ≡ Some p → p.word ≤ 131072) → k ≤ 131072 → FitsSigned w32 (distance_to o k)
+  distance_fits : (o : Option Location) (k : ℕ) → ((p : Location) → o ≡ Some p → p.word ≤ 131072) → k ≤ 131072 → FitsSigned w32 (distance_to o k)
   distance_fits None k h le = omega (arith, ints)
   distance_fits (Some p) k h le = let small = h p refl in omega (arith, ints, small, le)
 
-  place_small : (name : List ℕ) (p : Place) → place_of d name ≡ Some p → p.word ≤ 131072
+  place_small : (name : List ℕ) (p : Location) → place_of d name ≡ Some p → p.word ≤ 131072
   place_small name p e =
-      let has = place_is (IsPlace d.segments) d.names name p is_draft.segments.places e in
+      let has = place_is (IsLocation d.segments) d.names name p is_draft.segments.places e in
       omega (arith, word_in d.segments p.segment p.word has, is_draft.segments.words)
 
   pub fields_fit_with : (k : ℕ) (goal : Option Mark) (fields : Fields) → k ≤ 131072 → FitInWord fields → FitInWord (with_goal d k goal fields)

@@ -5,7 +5,7 @@ use Rattle.std.proofs.lemmas.List.{length-map}
 use Rattle.std.proofs.lemmas.Bool.Decides.{nat_tests}
 use Rattle.mm_line.specs.declared.fault.Fault.TheVariants.{Range}
 use Rattle.mm_line.specs.declared.statement.Target as text
-use Rattle.mm_draft.specs.declared.place.Place.{Place}
+use Rattle.mm_draft.specs.declared.place.Location.{Location}
 use Rattle.mm_draft.specs.Drafts as draft
 use Rattle.mm_draft.specs.Drafts.{Draft, place_of}
 use Rattle.mm_object.specs.Objects.{Segment, is_among, is_within, is_target, external_limit, greatest_log}
@@ -47,7 +47,7 @@ module _ (d : Draft) where
     within None all index offset e = absurd cc
     within (Some s) all index offset e = grind (arith, nat_tests, e)
 
-    here : (p : Place) (t : text.Target) (left : ℕ) → meant_faults d left (Here p.segment (8 * p.word + t.addend)) ≡ []
+    here : (p : Location) (t : text.Target) (left : ℕ) → meant_faults d left (Here p.segment (8 * p.word + t.addend)) ≡ []
         → is_target segments_of external_count (target_by d (meant_by (Some p) t)) ≡ true
     here p t left e =
         let offset : ℕ = 8 * p.word + t.addend in
@@ -75,6 +75,6 @@ module _ (d : Draft) where
         none : meant_faults d left (meant d u.target) ≡ []
         none = none_map _ (meant_faults d left (meant d u.target)) (none_flat (use_failures d) u (uses_of d) uses_none m)
 
-        by : (o : Option Place) → place_of d u.target.mark.name ≡ o → is_target segments_of external_count (target_by d (meant_by o u.target)) ≡ true
-        by (Some p) e = here p u.target left (subst (λ (o : Option Place). meant_faults d left (meant_by o u.target) ≡ []) e none)
-        by None e = elsewhere u.target (used_among d u (uses_of d) [] m (ap (λ (o : Option Place). not (is_some o)) e)) h.1.addend
+        by : (o : Option Location) → place_of d u.target.mark.name ≡ o → is_target segments_of external_count (target_by d (meant_by o u.target)) ≡ true
+        by (Some p) e = here p u.target left (subst (λ (o : Option Location). meant_faults d left (meant_by o u.target) ≡ []) e none)
+        by None e = elsewhere u.target (used_among d u (uses_of d) [] m (ap (λ (o : Option Location). not (is_some o)) e)) h.1.addend

@@ -37,10 +37,10 @@ module _ (u : Use) where
   in_merge [] ys (inr n) = n
   in_merge (x ∷ xs) ys h = keeps x xs ys (in_merge xs) h
 
-  abbrev Gives : List Use → Type 0
-  Gives xs = (ys : List Use) → In u (merge xs ys) → In u xs ⊎ In u ys
+  abbrev IsOfEither : List Use → Type 0
+  IsOfEither xs = (ys : List Use) → In u (merge xs ys) → In u xs ⊎ In u ys
 
-  gives : (x : Use) (xs ys : List Use) → Gives xs → In u (merge (x ∷ xs) ys) → In u (x ∷ xs) ⊎ In u ys
+  gives : (x : Use) (xs ys : List Use) → IsOfEither xs → In u (merge (x ∷ xs) ys) → In u (x ∷ xs) ⊎ In u ys
   gives x xs [] k (inl e) = inl (inl e)
   gives x xs [] k (inr m) = elim (k [] m) [ inl l ↦ inl (inr l) | inr r ↦ absurd r ]
   gives x xs (y ∷ ys) k h = by (nat_lt y.source.line x.source.line) (λ g. gives x xs ys k g) h
@@ -51,7 +51,7 @@ module _ (u : Use) where
       by false g (inl e) = inl (inl e)
       by false g (inr m) = elim (k (y ∷ ys) m) [ inl l ↦ inl (inr l) | inr r ↦ inr r ]
 
-  pub from_merge : (xs : List Use) → Gives xs
+  pub from_merge : (xs : List Use) → IsOfEither xs
   from_merge [] ys h = inr h
   from_merge (x ∷ xs) ys h = gives x xs ys (from_merge xs) h
 

@@ -6,7 +6,7 @@ use Rattle.std.specs.List.{flat_map, list_any, list_all, AllByRecursion}
 use Rattle.std.specs.List.Sorted.{IsStrictlyIncreasing}
 use Rattle.std.proofs.lemmas.List.{length-map}
 use Rattle.std.proofs.lemmas.Bool.Decides.{nat_tests}
-use Rattle.mm_draft.specs.declared.place.Place.{Place}
+use Rattle.mm_draft.specs.declared.place.Location.{Location}
 use Rattle.mm_draft.specs.Drafts as draft
 use Rattle.mm_draft.specs.Drafts.{Draft, place_of}
 use Rattle.mm_object.specs.declared.target.Target.{Target}
@@ -72,9 +72,9 @@ module _ (d : Draft) (is_draft : IsDraft d) (late : late_failures d ≡ []) wher
 
   -- 2. Externals.
 
-  no_place : (u : Use) (o : Option Place) → place_of d u.target.mark.name ≡ o → is_external d u ≡ true → o ≡ None
+  no_place : (u : Use) (o : Option Location) → place_of d u.target.mark.name ≡ o → is_external d u ≡ true → o ≡ None
   no_place u None e h = refl
-  no_place u (Some p) e h = absurd (let f = ap (λ (o : Option Place). not (is_some o)) (sym e) ∙ h in cc f)
+  no_place u (Some p) e h = absurd (let f = ap (λ (o : Option Location). not (is_some o)) (sym e) ∙ h in cc f)
 
   -- an external is the name of a target
   abbrev IsUsed : List ℕ → Type 0
@@ -87,7 +87,7 @@ module _ (d : Draft) (is_draft : IsDraft d) (late : late_failures d ≡ []) wher
   externals_named = externals_each d (λ name. is_name name ≡ true) (uses_of d) [] tt (λ u m e. let h = uses_placed d u is_draft m in mark_name h.0 u.target.mark h.1.mark)
 
   abbrev Stands : List ℕ → Type 0
-  Stands name = (p : Place) × (place_of d name ≡ Some p)
+  Stands name = (p : Location) × (place_of d name ≡ Some p)
 
   segments_stand : AllByRecursion Stands (names_of (segments_of d))
   segments_stand = subst (AllByRecursion Stands) (sym (names_same d d.segments)) (each_map Stands (λ (s : draft.Segment). s.name) d.segments (each_stands d.names 0 d.segments is_draft.segments.named))
@@ -111,7 +111,7 @@ module _ (d : Draft) (is_draft : IsDraft d) (late : late_failures d ≡ []) wher
       let u = each_in IsUsed name (externals_of d) externals_used (get_in (externals_of d) i lt) in
       let none = no_place u.0 (place_of d (name_of u.0)) refl u.2 in
       let place : position_of (name_of u.0) (externals_of d) ≡ i = ap (λ (n : List ℕ). position_of n (externals_of d)) (sym u.3) ∙ position_at (externals_of d) i (externals_rising d) lt in
-      let index : (target_of d u.0.target).index ≡ length d.segments + position_of (name_of u.0) (externals_of d) = ap (λ (o : Option Place). (target_by d (meant_by o u.0.target)).index) none in
+      let index : (target_of d u.0.target).index ≡ length d.segments + position_of (name_of u.0) (externals_of d) = ap (λ (o : Option Location). (target_by d (meant_by o u.0.target)).index) none in
       let same : (target_of d u.0.target).index ≡ length (segments_of d) + i = omega (arith, index, place, length-map d.segments (segment_of d)) in
       any_found (λ (t : Target). t.index == length (segments_of d) + i) (target_of d u.0.target)
       (targets_of relocs threads) (target_in u.0 u.1)

@@ -19,9 +19,9 @@ Fails fault (errors.Fault kind line column) =
 Fails fault errors.NoMemory = Unit {0}
 
 -- a function found no fault and this value, or it found this fault, unless memory ran out
-abbrev pub Gives : {X : Type 0} → Option Pair → X → Result X AsmError → Type 0
-Gives fault value (Ok x) = (fault ≡ None) × (x ≡ value)
-Gives fault value (Err e) = Fails fault e
+abbrev pub ValueOrFault : {X : Type 0} → Option Pair → X → Result X AsmError → Type 0
+ValueOrFault fault value (Ok x) = (fault ≡ None) × (x ≡ value)
+ValueOrFault fault value (Err e) = Fails fault e
 
 -- the function fails only for want of memory
 abbrev pub IsNoMemory : {X : Type 0} → Result X AsmError → Type 0

@@ -7,7 +7,7 @@ use Rattle.mm_line.specs.declared.statement.Target.{Target}
 use Rattle.mm_line.specs.declared.statement.Constant.{Constant}
 use Rattle.mm_line.specs.Ranges.{IsTarget, IsConstant, IsContent, IsHandler}
 use Rattle.mm_draft.specs.declared.segment.Word.{Word}
-use Rattle.mm_draft.specs.declared.place.Place.{Place}
+use Rattle.mm_draft.specs.declared.place.Location.{Location}
 use Rattle.mm_draft.specs.declared.thread.Register.{Register}
 use Rattle.mm_draft.specs.Drafts.{Segment, Entry, Thread, Draft, place_in, words_of, pointers_of}
 use Rattle.mm_draft.specs.Faults.{segment_limit, word_limit, pointer_limit, room_of}
@@ -53,8 +53,8 @@ HasWord None word = ⊥
 HasWord (Some s) word = word ≤ length s.words
 
 -- a word of a segment, or the place after its last one
-abbrev pub IsPlace : List Segment → Place → Type 0
-IsPlace segments p = HasWord (slice_get segments p.segment) p.word
+abbrev pub IsLocation : List Segment → Location → Type 0
+IsLocation segments p = HasWord (slice_get segments p.segment) p.word
 
 -- the name of each segment, from a number on, stands for its first word
 abbrev pub AreNamed : List Entry → ℕ → List Segment → Type 0
@@ -72,7 +72,7 @@ pub record AreSegments (segments : List Segment) (entries : List Entry) : Type 0
   pub pointers : pointers_of segments ≤ pointer_limit
   pub named : AreNamed entries 0 segments
   pub alone : are_apart (map (λ (e : Entry). e.name) entries) ≡ true
-  pub places : AllByRecursion (λ (e : Entry). IsPlace segments e.place) entries
+  pub places : AllByRecursion (λ (e : Entry). IsLocation segments e.place) entries
 
 pub record AreThreads (threads : List Thread) : Type 0 where
   pub each : AllByRecursion IsThread threads

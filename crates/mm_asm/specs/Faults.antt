@@ -9,7 +9,7 @@ use Rattle.mm_line.specs.declared.statement.Content.{Content}
 use Rattle.mm_line.specs.declared.statement.Content.TheVariants as content
 use Rattle.mm_draft.specs.declared.source.Source.{Source}
 use Rattle.mm_draft.specs.declared.segment.Word.{Word}
-use Rattle.mm_draft.specs.declared.place.Place.{Place}
+use Rattle.mm_draft.specs.declared.place.Location.{Location}
 use Rattle.mm_draft.specs.declared.fault.Failure.{Failure}
 use Rattle.mm_draft.specs.Drafts.{Segment, Draft, place_of}
 use Rattle.mm_draft.specs.Faults.{fault_if, draft_of}
@@ -20,7 +20,7 @@ use Rattle.mm_asm.specs.Meaning.{object_of}
 
 -- 1. Late faults.
 
-abbrev pub is_label_in : Option Place → ℕ → Bool
+abbrev pub is_label_in : Option Location → ℕ → Bool
 is_label_in None segment = false
 is_label_in (Some p) segment = p.is_label && p.segment == segment
 

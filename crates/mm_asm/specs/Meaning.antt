@@ -12,7 +12,7 @@ use Rattle.mm_line.specs.declared.statement.Content.{Content}
 use Rattle.mm_line.specs.declared.statement.Content.TheVariants as content
 use Rattle.mm_draft.specs.Drafts as draft
 use Rattle.mm_draft.specs.declared.segment.Word.{Word}
-use Rattle.mm_draft.specs.declared.place.Place.{Place}
+use Rattle.mm_draft.specs.declared.place.Location.{Location}
 use Rattle.mm_draft.specs.declared.thread.Register.{Register}
 use Rattle.mm_draft.specs.Drafts.{Draft, place_of}
 use Rattle.mm_object.specs.declared.item.Item.{Item}
@@ -27,7 +27,7 @@ use Rattle.mm_asm.specs.Names.{Meant, Here, Elsewhere, meant, position_of, exter
 -- 1. Words.
 
 -- the distance in words from word k to a label, which may come before it
-abbrev pub distance_to : Option Place → ℕ → ℤ
+abbrev pub distance_to : Option Location → ℕ → ℤ
 distance_to None k = pos 0
 distance_to (Some p) k = pos p.word -ℤ pos k
 

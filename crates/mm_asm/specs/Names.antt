@@ -11,7 +11,7 @@ use Rattle.mm_object.specs.Names.{is_before}
 use Rattle.mm_object.specs.Objects.{same_name, is_among}
 use Rattle.mm_draft.specs.declared.source.Source.{Source}
 use Rattle.mm_draft.specs.declared.segment.Word.{Word}
-use Rattle.mm_draft.specs.declared.place.Place.{Place}
+use Rattle.mm_draft.specs.declared.place.Location.{Location}
 use Rattle.mm_draft.specs.declared.thread.Register.{Register}
 use Rattle.mm_draft.specs.Drafts.{Segment, Thread, Draft, place_of}
 
@@ -99,7 +99,7 @@ pub data Meant : Type 0 where
   Here : (segment offset : ℕ) → Meant
   Elsewhere : (name : List ℕ) (addend : ℕ) → Meant
 
-abbrev pub meant_by : Option Place → Target → Meant
+abbrev pub meant_by : Option Location → Target → Meant
 meant_by None t = Elsewhere t.mark.name t.addend
 meant_by (Some p) t = Here p.segment (8 * p.word + t.addend)
 

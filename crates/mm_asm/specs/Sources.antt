@@ -30,6 +30,6 @@ IsSmallError (early.Fault failure) = IsSmall failure.source
 IsSmallError early.NoMemory = Unit {0}
 
 -- the line and the column of a pair have 32 bits each
-pub record IsPlace (p : Pair) : Type 0 where
+pub record IsPosition (p : Pair) : Type 0 where
   pub line : p.line < 2 ^ 32
   pub column : p.column < 2 ^ 32

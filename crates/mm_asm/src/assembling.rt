@@ -14,7 +14,7 @@ ghost use Rattle.mm_asm.specs.Fits.{FitsSegment, FitsPointers, FitsThread};
 ghost use Rattle.mm_draft.specs.Drafts.{Segment as SegmentValue};
 ghost use Rattle.mm_asm.specs.Bounds.{IsDraft};
 ghost use Rattle.mm_asm.specs.Sources.{IsSmallError, IsFromSmall};
-ghost use Rattle.mm_asm.specs.Answers.{Fails, Gives, IsNoMemory, pair_of_error};
+ghost use Rattle.mm_asm.specs.Answers.{Fails, ValueOrFault, IsNoMemory, pair_of_error};
 ghost use Rattle.mm_asm.specs.Faults.{Means, first_fault, late_failures};
 ghost use Rattle.mm_asm.specs.Meaning.{object_of};
 ghost use Rattle.mm_asm.specs.Names.{externals_of};
@@ -67,7 +67,7 @@ fn early(error: DraftError) -> AsmError
 fn assemble_draft(alloc: Global, draft: &Draft<'_>) -> Result<Object, AsmError>
     requires bounded { IsDraft draft.now }
     requires small { IsFromSmall draft.now }
-    ensures { Gives (least (map failure_pair (late_failures draft.now))) (object_of draft.now) result }
+    ensures { ValueOrFault (least (map failure_pair (late_failures draft.now))) (object_of draft.now) result }
 {
     let mut first = None;
     let uses = uses(alloc, draft)?;

@@ -9,11 +9,11 @@ ghost use Rattle.mm_asm.specs.Faults.{is_label_in, is_outside, word_failures, go
 
 use crate::diagnostics::meet_if;
 use crate::text_order::Use;
-use mm_draft::{Draft, Failure, Place, Segment, Word};
+use mm_draft::{Draft, Failure, Location, Segment, Word};
 use mm_line::{Code, Content, Fault, Problem};
 
 // Whether a name stands for a label of a segment.
-fn is_label_in(place: Option<Place>, segment: usize) -> bool
+fn is_label_in(place: Option<Location>, segment: usize) -> bool
     ensures { result ≡ is_label_in place segment }
 {
     match place {

@@ -5,7 +5,7 @@ ghost use Rattle.mm_draft.specs.Faults.{fault_if};
 ghost use Rattle.mm_draft.specs.Laws.{precedes, failure_pair};
 ghost use Rattle.mm_asm.specs.Answers.{Fails, Meets};
 ghost use Rattle.mm_asm.specs.Faults.{in_source};
-ghost use Rattle.mm_asm.specs.Sources.{IsPlace};
+ghost use Rattle.mm_asm.specs.Sources.{IsPosition};
 
 use crate::AsmError;
 use mm_draft::{Failure, Source};
@@ -44,7 +44,7 @@ pub(crate) fn meet_if(first: &mut Option<Failure>, wrong: bool, source: Source, 
 
 /// The error that names a fault.
 pub(crate) fn error_of(failure: Failure) -> AsmError
-    requires { IsPlace (failure_pair failure) }
+    requires { IsPosition (failure_pair failure) }
     ensures { Fails (Some (failure_pair failure)) result }
 {
     let column = failure.source.size.saturating_sub(failure.problem.left) + 1;

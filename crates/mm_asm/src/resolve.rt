@@ -8,7 +8,7 @@ ghost use Rattle.std.specs.Ordering.{nat_cmp};
 ghost use Rattle.std.specs.Cmp.Lexicographic.{slice_cmp};
 ghost use Rattle.mm_object.specs.Objects.{ascend, is_among};
 
-use mm_draft::{Draft, Place};
+use mm_draft::{Draft, Location};
 use mm_line::{Constant, Target as Named};
 use mm_object::{Name, Target, Value};
 use std::cmp::Ordering;
@@ -33,7 +33,7 @@ fn position_of(names: &[Name], name: &[u8]) -> usize
 }
 
 // The target that is `addend` bytes after a place of the draft.
-fn here(place: Place, addend: u32) -> Target
+fn here(place: Location, addend: u32) -> Target
     requires segment { place.segment < 2 ^ 16 }
     requires offset { 8 * place.word + addend < 2 ^ 32 }
     ensures { result ≡ record { index = place.segment; addend = 8 * place.word + addend } }

@@ -6,8 +6,8 @@ use Rattle.mm_model.specs.Spelling.{IsImage}
 use Rattle.mm_model.specs.Reach.{Entries}
 use Rattle.mm_model.specs.Audit.{MaximalSegments}
 use Rattle.mm_seg.specs.Segments.{IsSet, Covered}
-use Rattle.mm_audit.specs.declared.span.Access.{Access}
-use Rattle.mm_audit.specs.declared.span.Access.TheVariants.{Touch, Write}
+use Rattle.mm_model.specs.declared.word_use.WordUse.{WordUse}
+use Rattle.mm_model.specs.declared.word_use.WordUse.TheVariants.{Touch, Write}
 use Rattle.mm_audit.specs.Audits.{Audits, set_of}
 use Rattle.mm_audit.specs.GroupSets.{AreGroupSets}
 use Rattle.mm_audit.specs.Spans.{can}
@@ -21,7 +21,7 @@ empty_set : IsSet []
 empty_set = record { segments = λ k lt. absurd (omega arith); rise = λ m n up lt. absurd (omega arith) }
 
 -- a group that no slot can have is granted nothing
-pub none_maximal : (i : Image) (e : Entries) → IsImage i → (access : Access) (g : ℕ) → 64 ≤ g
+pub none_maximal : (i : Image) (e : Entries) → IsImage i → (access : WordUse) (g : ℕ) → 64 ≤ g
     → MaximalSegments i e g (can access) []
 none_maximal i e image access g le = record {
   ascending = tt;
@@ -32,7 +32,7 @@ none_maximal i e image access g le = record {
 }
 
 module _ (i : Image) (e : Entries) (s : SurveyValue) (h : Surveys i e s) where
-  module _ (access : Access) (sets : List (List (ℕ × ℕ))) (own : AreGroupSets s.spans access 64 sets) where
+  module _ (access : WordUse) (sets : List (List (ℕ × ℕ))) (own : AreGroupSets s.spans access 64 sets) where
     empty : (g : ℕ) → 64 ≤ g → set_of sets g ≡ []
     empty g le = empty_past sets g (let len = own.len in omega arith)
 

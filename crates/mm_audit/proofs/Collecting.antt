@@ -4,7 +4,7 @@ use Rattle.std.specs.Int.{bit_at}
 use Rattle.std.proofs.lemmas.List.{get_or_append_left, get_or_push}
 use Rattle.mm_seg.specs.Segments.{IsSet, IsSegment, IsBehind, segment_at, end_of}
 use Rattle.mm_seg.proofs.Searches.{same_or_below}
-use Rattle.mm_audit.specs.declared.span.Access.{Access}
+use Rattle.mm_model.specs.declared.word_use.WordUse.{WordUse}
 use Rattle.mm_audit.specs.declared.span.Span.{Span}
 use Rattle.mm_audit.specs.Spans.{mask, span_at}
 use Rattle.mm_audit.specs.GroupSets.{AreGroupSets, SameUsers}
@@ -31,7 +31,7 @@ module _ (s : ℕ × ℕ) (ys : List (ℕ × ℕ)) where
       subst (λ (v : ℕ × ℕ). end_of v ≤ s.0) (get_or_append_left xs (s ∷ ys) (0, 0) k lt) (subst (λ (v : ℕ × ℕ). end_of (segment_at (xs ++ s ∷ ys) k) ≤ v.0) (in_middle xs) up)
 
 -- one span more
-pub same_more : (spans : List Span) (access : Access) (all m k : ℕ) → ((g : ℕ) → (bit_at all g ≡ 1 → ⊥) → SameUsers spans access g (g + 1) k) → m ≡ mask access (span_at spans k)
+pub same_more : (spans : List Span) (access : WordUse) (all m k : ℕ) → ((g : ℕ) → (bit_at all g ≡ 1 → ⊥) → SameUsers spans access g (g + 1) k) → m ≡ mask access (span_at spans k)
     → (g : ℕ) → (bit_at (bit_or all (bit_xor m (m / 2))) g ≡ 1 → ⊥) → SameUsers spans access g (g + 1) (k + 1)
 same_more spans access all m k same is g clear n lt = elim (same_or_below n k lt) [
   | inl less ↦ same g (λ bit. clear (or_left all (bit_xor m (m / 2)) g bit)) n less
@@ -40,7 +40,7 @@ same_more spans access all m k same is g clear n lt = elim (same_or_below n k lt
 ]
 
 -- one set more
-pub sets_more : (spans : List Span) (access : Access) (g : ℕ) (sets : List (List (ℕ × ℕ))) (set : List (ℕ × ℕ))
+pub sets_more : (spans : List Span) (access : WordUse) (g : ℕ) (sets : List (List (ℕ × ℕ))) (set : List (ℕ × ℕ))
     → AreGroupSets spans access g sets → set ≡ outermost access (2 ^ g) 0 spans → AreGroupSets spans access (g + 1)
     (sets ++ set ∷ [])
 sets_more spans access g sets set old new = record {
@@ -52,7 +52,7 @@ sets_more spans access g sets set old new = record {
 }
 
 -- a group that uses the same spans as the one before it has the same set
-pub same_set : (spans : List Span) (access : Access) (g : ℕ) → SameUsers spans access g (g + 1) (length spans) → outermost access (2 ^ g) 0 spans ≡ outermost access (2 ^ (g + 1)) 0 spans
+pub same_set : (spans : List Span) (access : WordUse) (g : ℕ) → SameUsers spans access g (g + 1) (length spans) → outermost access (2 ^ g) 0 spans ≡ outermost access (2 ^ (g + 1)) 0 spans
 same_set spans access g same =
     outermost_agree access (2 ^ g) (2 ^ (g + 1)) spans 0
     (λ n lt. one_test (mask access (span_at spans n)) g ∙ ap (λ b. b == 1) (same n lt) ∙ sym (one_test (mask access (span_at spans n)) (g + 1)))

@@ -12,8 +12,8 @@ use Rattle.mm_model.specs.Audit.{GrantedSegment, MaximalSegment, MaximalSegments
 use Rattle.mm_seg.specs.Segments.{IsSet, SomeHolds, Covered, At, LiesIn, segment_at, end_of}
 use Rattle.mm_seg.proofs.Searches.{compare}
 use Rattle.mm_graph.proofs.Bounds.{covers_in, in_covers}
-use Rattle.mm_audit.specs.declared.span.Access.{Access}
-use Rattle.mm_audit.specs.declared.span.Access.TheVariants.{Touch, Write}
+use Rattle.mm_model.specs.declared.word_use.WordUse.{WordUse}
+use Rattle.mm_model.specs.declared.word_use.WordUse.TheVariants.{Touch, Write}
 use Rattle.mm_audit.specs.declared.span.Span.{Span}
 use Rattle.mm_audit.specs.Spans.{AreSpans, Uses, can, mask, span_at, base_at, end_at}
 use Rattle.mm_audit.specs.Walks.{outermost}
@@ -22,7 +22,7 @@ use Rattle.mm_audit.proofs.Outermost.{is_of, from_spans, outermost_set, outermos
 use Rattle.mm_audit.proofs.PointerSegments.{segment_of, between, in_by, shorter}
 
 -- a granted pointer with the right covers the word
-pub record CanUse (i : Image) (e : Entries) (access : Access) (g w : ℕ) : Type 0 where
+pub record CanUse (i : Image) (e : Entries) (access : WordUse) (g w : ℕ) : Type 0 where
   pub by : Pointer
   pub granted : Grants i e g by
   pub word : w % 8 ≡ 0
@@ -42,7 +42,7 @@ write_use i e g w = (
 )
 
 -- the group uses a span that has the word
-pub record UsedSpan (spans : List Span) (access : Access) (g w : ℕ) : Type 0 where
+pub record UsedSpan (spans : List Span) (access : WordUse) (g w : ℕ) : Type 0 where
   pub at : ℕ
   pub small : at < length spans
   pub uses : Uses spans access at g
@@ -55,7 +55,7 @@ rises (x ∷ []) h = tt
 rises (x ∷ y ∷ zs) h =
     (h 0 (omega arith), rises (y ∷ zs) (λ k lt. let e : suc k + 1 ≡ suc (k + 1) = omega arith in subst (λ v. (segment_at (y ∷ zs) k).0 < (segment_at (x ∷ y ∷ zs) v).0) e (h (suc k) (omega arith))))
 
-module _ (i : Image) (e : Entries) (spans : List Span) (a : AreSpans i e spans) (access : Access) where
+module _ (i : Image) (e : Entries) (spans : List Span) (a : AreSpans i e spans) (access : WordUse) where
   -- 1. Words.
 
   long_of : (p : Pointer) (w : ℕ) → Covers p w → 3 ≤ p.log

@@ -7,7 +7,7 @@ use Rattle.mm_model.specs.Image.{Image}
 use Rattle.mm_model.specs.Spelling.{IsImage}
 use Rattle.mm_model.specs.Reach.{Entries}
 use Rattle.mm_model.specs.Audit.{MaximalSegments}
-use Rattle.mm_audit.specs.declared.span.Access.{Access}
+use Rattle.mm_model.specs.declared.word_use.WordUse.{WordUse}
 use Rattle.mm_audit.specs.declared.span.Span.{Span}
 use Rattle.mm_seg.specs.Segments.{end_of}
 use Rattle.mm_audit.specs.Spans.{AreSpans, can, mask, segment_of}
@@ -19,16 +19,16 @@ use Rattle.mm_audit.proofs.Exactly.{are_maximal}
 abbrev pub mask_of : ℕ → ℕ
 mask_of g = if nat_lt g 64 then 2 ^ g else 0
 
-none_next : (access : Access) (from : ℕ) (s : Span) → is_next access 0 from s ≡ false
+none_next : (access : WordUse) (from : ℕ) (s : Span) → is_next access 0 from s ≡ false
 none_next access from s = ap (λ v. not (v == 0) && nat_le from s.base) (and_zero_r (mask access s))
 
-none_outermost : (access : Access) (spans : List Span) → outermost access 0 0 spans ≡ []
+none_outermost : (access : WordUse) (spans : List Span) → outermost access 0 0 spans ≡ []
 none_outermost access [] = refl
 none_outermost access (s ∷ spans) =
     let skips : Bool → List (ℕ × ℕ) = λ next. if next then segment_of s ∷ outermost access 0 (end_of (segment_of s)) spans else outermost access 0 0 spans in
     ap skips (none_next access 0 s) ∙ none_outermost access spans
 
-module _ (i : Image) (e : Entries) (image : IsImage i) (spans : List Span) (are : AreSpans i e spans) (access : Access) (g : ℕ) where
+module _ (i : Image) (e : Entries) (image : IsImage i) (spans : List Span) (are : AreSpans i e spans) (access : WordUse) (g : ℕ) where
   by_mask : (m : ℕ) → mask_of g ≡ m → MaximalSegments i e g (can access) (outermost access m 0 spans)
       → MaximalSegments i e g (can access) (outermost access (mask_of g) 0 spans)
   by_mask m is = subst (λ v. MaximalSegments i e g (can access) (outermost access v 0 spans)) (sym is)

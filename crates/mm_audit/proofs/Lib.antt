@@ -13,6 +13,8 @@ mod MarkedSpans
 mod Spanning
 mod Outermost
 mod SharedSets
+mod Servers
+mod EmptyRows
 mod Bits
 mod Collecting
 mod Noting

@@ -28,11 +28,11 @@ use Rattle.mm_graph.specs.Key.{key_at, no_key, pointer_at}
 use Rattle.mm_graph.specs.Marked.{IsMarked, node_pointer}
 use Rattle.mm_graph.proofs.Nesting.{log_is}
 use Rattle.mm_graph.proofs.Bounds.{three_then}
-use Rattle.mm_audit.specs.declared.span.Access.{Access}
-use Rattle.mm_audit.specs.declared.span.Access.TheVariants.{Touch, Write}
+use Rattle.mm_model.specs.declared.word_use.WordUse.{WordUse}
+use Rattle.mm_model.specs.declared.word_use.WordUse.TheVariants.{Touch, Write}
 use Rattle.mm_audit.specs.declared.span.Span.{Span}
 use Rattle.mm_audit.specs.Spans.{AreSpans, IsHeld, Uses, can, mask, span_at, segment_of as span_segment}
-use Rattle.mm_audit.specs.Marks.{kept_mask, span_of, whole_span, IsUsed, Stands, SpansOf}
+use Rattle.mm_audit.specs.Marks.{kept_mask, span_of, whole_span, IsUsed, IsListed, SpansOf}
 use Rattle.mm_audit.specs.Surveys.{ArePrivileged}
 use Rattle.mm_audit.proofs.Granted.{granted-well_formed}
 use Rattle.mm_audit.proofs.KeyOrder.{key_segment, in_memory}
@@ -71,7 +71,7 @@ module _ (i : Image) (e : Entries) (image : IsImage i) (keys : List CanonicalPtr
     are_privileged g = (λ bit. (x.rights g).0 (eq-eqb _ _ bit), λ p. eqb-true _ _ ((x.rights g).1 p))
 
     module _ (spans : List Span) (s : SpansOf keys nodes marks privileged (length keys) spans) where
-      module _ (access : Access) (right : Right) (whole : Perm) (can_whole : can access whole ≡ true) (no_key_right : can access KeyPerm ≡ true → ⊥)
+      module _ (access : WordUse) (right : Right) (whole : Perm) (can_whole : can access whole ≡ true) (no_key_right : can access KeyPerm ≡ true → ⊥)
           (below-can : (p q : Pointer) → IsBelow q p → can access q.perm ≡ true → can access p.perm ≡ true)
           (tests : (k : ℕ) → k < length keys → right_at nodes right k ≡ (can access (node_pointer keys k).perm && nat_le 3 (node_pointer keys k).log))
           (node_mask : (k : ℕ) → mask access (span_of keys nodes marks k) ≡ kept_mask (right_at nodes right k) (slice_index marks k))
@@ -119,7 +119,7 @@ module _ (i : Image) (e : Entries) (image : IsImage i) (keys : List CanonicalPtr
         not_powerless q c long (inl e2) = no_key_right (ap (can access) (sym e2) ∙ c)
         not_powerless q c long (inr short) = let lt = short.0 in omega arith
 
-        held_by : (t : Span) (q : ℕ × ℕ) → bit_at (mask access t) g ≡ 1 → LiesIn q (span_segment t) → Stands spans t → IsHeld spans access g q
+        held_by : (t : Span) (q : ℕ × ℕ) → bit_at (mask access t) g ≡ 1 → LiesIn q (span_segment t) → IsListed spans t → IsHeld spans access g q
         held_by t q bit within st = record {
           at = st.at;
           small = st.small;
@@ -159,11 +159,11 @@ module _ (i : Image) (e : Entries) (image : IsImage i) (keys : List CanonicalPtr
       no_store_key : can_store KeyPerm ≡ true → ⊥
       no_store_key h = cc
 
-      granted_at : (access : Access) (g n : ℕ) → n < length spans → Uses spans access n g → GrantedSegment i e g (can access) (span_segment (span_at spans n))
+      granted_at : (access : WordUse) (g n : ℕ) → n < length spans → Uses spans access n g → GrantedSegment i e g (can access) (span_segment (span_at spans n))
       granted_at Touch g = granted Touch Load Ro refl no_load_key below-can_load m.loads (λ k. refl) refl (λ t u. inl u) g
       granted_at Write g = granted Write Store Rw refl no_store_key below-can_store m.stores (λ k. refl) refl (λ t u. inr u) g
 
-      held_at : (access : Access) (g : ℕ) (p : Pointer) → Grants i e g p → can access p.perm ≡ true → 3 ≤ p.log → IsHeld spans access g (base_of p, p.log)
+      held_at : (access : WordUse) (g : ℕ) (p : Pointer) → Grants i e g p → can access p.perm ≡ true → 3 ≤ p.log → IsHeld spans access g (base_of p, p.log)
       held_at Touch g = held Touch Load Ro refl no_load_key below-can_load m.loads (λ k. refl) refl (λ t u. inl u) g
       held_at Write g = held Write Store Rw refl no_store_key below-can_store m.stores (λ k. refl) refl (λ t u. inr u) g
 

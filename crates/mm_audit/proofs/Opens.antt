@@ -4,8 +4,8 @@ use Rattle.std.specs.Int.{bit_at}
 use Rattle.std.proofs.lemmas.List.{get_or-take, get_or_append_left, get_or_push}
 use Rattle.std.proofs.lemmas.Nat.Bits.{bit_at-zero}
 use Rattle.mm_seg.proofs.Searches.{compare, same_or_below}
-use Rattle.mm_audit.specs.declared.span.Access.{Access}
-use Rattle.mm_audit.specs.declared.span.Access.TheVariants.{Touch, Write}
+use Rattle.mm_model.specs.declared.word_use.WordUse.{WordUse}
+use Rattle.mm_model.specs.declared.word_use.WordUse.TheVariants.{Touch, Write}
 use Rattle.mm_audit.specs.declared.span.Span.{Span}
 use Rattle.mm_audit.specs.declared.opening.Open.{Open}
 use Rattle.mm_audit.specs.Spans.{AreInOrder, Uses, mask, span_at, base_at, end_at}
@@ -30,7 +30,7 @@ open_later spans top from upto stack le h = record {
   outside = λ access a g low past. h.outside access a g (omega arith) past;
 }
 
-users_none : (access : Access) (g : ℕ) → bit_at (users access no_open) g ≡ 1 → ⊥
+users_none : (access : WordUse) (g : ℕ) → bit_at (users access no_open) g ≡ 1 → ⊥
 users_none Touch g h = let z = bit_at-zero g in omega arith
 users_none Write g h = let z = bit_at-zero g in omega arith
 
@@ -92,7 +92,7 @@ module _ (spans : List Span) (o : AreInOrder spans) (k : ℕ) (place : k < lengt
 
   -- 3. Who uses the span, or one around it.
 
-  over_users : (access : Access) (a g : ℕ) → base ≤ a → (0 < length new → a < open_end new (length new - 1)) → (bit_at (users access over) g ≡ 1) ↔ IsLive spans access k a g
+  over_users : (access : WordUse) (a g : ℕ) → base ≤ a → (0 < length new → a < open_end new (length new - 1)) → (bit_at (users access over) g ≡ 1) ↔ IsLive spans access k a g
   over_users access a g low inner = elim (compare 0 (length new)) [
     | inl some ↦ subst (λ v. (bit_at (users access v) g ≡ 1) ↔ IsLive spans access k a g) (sym (last.some some))
         (still.inside access (length new - 1) a g low (record { small = omega arith; holds = inner some; last = λ lt. absurd (omega arith) }))
@@ -106,21 +106,21 @@ module _ (spans : List Span) (o : AreInOrder spans) (k : ℕ) (place : k < lengt
   abbrev Now : ℕ → Open
   Now last_end = record { end = last_end; touch = bit_or (span_at spans k).touch over.touch; write = bit_or (span_at spans k).write over.write }
 
-  now_users : (access : Access) (last_end : ℕ) → users access (Now last_end) ≡ bit_or (mask access (span_at spans k)) (users access over)
+  now_users : (access : WordUse) (last_end : ℕ) → users access (Now last_end) ≡ bit_or (mask access (span_at spans k)) (users access over)
   now_users Touch last_end = refl
   now_users Write last_end = refl
 
-  wider : (access : Access) (a g : ℕ) → IsLive spans access k a g → IsLive spans access (k + 1) a g
+  wider : (access : WordUse) (a g : ℕ) → IsLive spans access k a g → IsLive spans access (k + 1) a g
   wider access a g live = record { span = live.span; small = (let s = live.small in omega arith); uses = live.uses; live = live.live }
 
   -- a span that is live is one of the first, or the one at the place
-  live_cases : (access : Access) (a g : ℕ) → IsLive spans access (k + 1) a g → IsLive spans access k a g ⊎ (Uses spans access k g × (a < end))
+  live_cases : (access : WordUse) (a g : ℕ) → IsLive spans access (k + 1) a g → IsLive spans access k a g ⊎ (Uses spans access k g × (a < end))
   live_cases access a g live = elim (same_or_below live.span k live.small) [
     | inl less ↦ inl (record { span = live.span; small = less; uses = live.uses; live = live.live })
     | inr e ↦ inr (subst (λ v. Uses spans access v g × (a < end_at spans v)) e (live.uses, live.live))
   ]
 
-  users_at : (access : Access) (last_end a g : ℕ) → base ≤ a → a < end → (bit_at (users access (Now last_end)) g ≡ 1) ↔ IsLive spans access (k + 1) a g
+  users_at : (access : WordUse) (last_end a g : ℕ) → base ≤ a → a < end → (bit_at (users access (Now last_end)) g ≡ 1) ↔ IsLive spans access (k + 1) a g
   users_at access last_end a g low lt =
       let o_users = over_users access a g low (λ some. let t = holds_end (length new - 1) (omega arith) in omega arith) in
       subst (λ v. (bit_at v g ≡ 1) ↔ IsLive spans access (k + 1) a g) (sym (now_users access last_end)) (
@@ -168,7 +168,7 @@ module _ (spans : List Span) (o : AreInOrder spans) (k : ℕ) (place : k < lengt
       | inr e ↦ let f = last_end_is n e in omega arith
     ]
 
-    inside_before : (access : Access) (n a g : ℕ) → base ≤ a → n < length new → IsInnermost after n a → (bit_at (users access (open_at after n)) g ≡ 1) ↔ IsLive spans access (k + 1) a g
+    inside_before : (access : WordUse) (n a g : ℕ) → base ≤ a → n < length new → IsInnermost after n a → (bit_at (users access (open_at after n)) g ≡ 1) ↔ IsLive spans access (k + 1) a g
     inside_before access n a g low less inn =
         let past = inn.last (let l = after_len in omega arith) in
         let ended = none_shorter (n + 1) (let l = after_len in omega arith) in
@@ -183,7 +183,7 @@ module _ (spans : List Span) (o : AreInOrder spans) (k : ℕ) (place : k < lengt
           λ live. elim (live_cases access a g live) [ inl earlier ↦ w.1 earlier | inr own ↦ absurd (let lt = own.1 in omega arith) ],
         )
 
-    inside_last : (access : Access) (n a g : ℕ) → base ≤ a → n ≡ length new → IsInnermost after n a → (bit_at (users access (open_at after n)) g ≡ 1) ↔ IsLive spans access (k + 1) a g
+    inside_last : (access : WordUse) (n a g : ℕ) → base ≤ a → n ≡ length new → IsInnermost after n a → (bit_at (users access (open_at after n)) g ≡ 1) ↔ IsLive spans access (k + 1) a g
     inside_last access n a g low e inn =
         let t = inn.holds in
         let f = last_end_is n e in

@@ -3,7 +3,7 @@ use Rattle.std.proofs.Common.{◌≡◌, ℕ, zero, suc, ◌<◌, ◌≤◌, ◌
 use Rattle.std.proofs.Common.{bit_and, if◌then◌else◌, List, [], ◌∷◌, length, refl, sym, ap, subst, arith, pow_pos}
 use Rattle.std.proofs.lemmas.Bool.{and_parts}
 use Rattle.std.proofs.lemmas.Bool.Decides.{nat_tests}
-use Rattle.mm_audit.specs.declared.span.Access.{Access}
+use Rattle.mm_model.specs.declared.word_use.WordUse.{WordUse}
 use Rattle.mm_audit.specs.declared.span.Span.{Span}
 use Rattle.mm_seg.specs.Segments.{IsSegment, IsSet, SomeHolds, segment_at, end_of}
 use Rattle.mm_audit.specs.Spans.{AreInOrder, mask, segment_of, span_at, base_at, end_at}
@@ -20,7 +20,7 @@ behind : (a b : Bool) → a ≡ true → (a && b) ≡ false → b ≡ false
 behind true b t e = e
 behind false b t e = cc
 
-module _ (access : Access) (groups : ℕ) where
+module _ (access : WordUse) (groups : ℕ) where
   -- one of the groups uses the span
   abbrev pub is_of : Span → Bool
   is_of s = not (bit_and (mask access s) groups == 0)
@@ -110,7 +110,7 @@ module _ (access : Access) (groups : ℕ) where
   outermost_holds spans o k lt u = elim (held_from spans 0 o (λ n small low. absurd (omega arith)) k lt u) [ inl none ↦ absurd (let room = pow_pos (span_at spans k).log in omega arith) | inr h ↦ h ]
 
 -- where two groups use the same spans, they have the same segments
-module _ (access : Access) (one other : ℕ) where
+module _ (access : WordUse) (one other : ℕ) where
   agree_more : (from : ℕ) (s : Span) (spans : List Span) → ((upto : ℕ) → outermost access one upto spans ≡ outermost
       access other upto spans) → (a b : Bool) → a ≡ b → Out access one a from s spans ≡ Out access other b from s spans
   agree_more from s spans all true true e = ap (λ l. segment_of s ∷ l) (all (end_of (segment_of s)))

@@ -11,7 +11,7 @@ use Rattle.mm_model.specs.Reach.Entries.{All}
 use Rattle.mm_model.specs.Worlds.{Touchable}
 use Rattle.mm_seg.specs.Segments.{Covered, At, end_of}
 use Rattle.mm_audit.specs.Own.{CoversTouched, is_covered}
-use Rattle.mm_audit.specs.declared.span.Access.TheVariants.{Touch}
+use Rattle.mm_model.specs.declared.word_use.WordUse.TheVariants.{Touch}
 use Rattle.mm_audit.specs.declared.span.Span.{Span}
 use Rattle.mm_audit.specs.Spans.{AreSpans, span_at}
 use Rattle.mm_audit.specs.Walks.{outermost}

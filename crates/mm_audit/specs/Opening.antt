@@ -1,8 +1,8 @@
 -- The groups that use an address, by the spans that begin before or at it.
 use Rattle.std.specs.Prelude.{◌≡◌, ℕ, ◌+◌, ◌-◌, ◌<◌, ◌≤◌, ◌↔◌, List, length, take, slice_index_or}
 use Rattle.std.specs.Int.{bit_at}
-use Rattle.mm_audit.specs.declared.span.Access.{Access}
-use Rattle.mm_audit.specs.declared.span.Access.TheVariants.{Touch, Write}
+use Rattle.mm_model.specs.declared.word_use.WordUse.{WordUse}
+use Rattle.mm_model.specs.declared.word_use.WordUse.TheVariants.{Touch, Write}
 use Rattle.mm_audit.specs.declared.span.Span.{Span}
 use Rattle.mm_audit.specs.declared.opening.Open.{Open}
 use Rattle.mm_audit.specs.Spans.{Uses, base_at, end_at}
@@ -16,12 +16,12 @@ open_at stack n = slice_index_or stack n no_open
 abbrev pub open_end : List Open → ℕ → ℕ
 open_end stack n = (open_at stack n).end
 
-abbrev pub users : Access → Open → ℕ
+abbrev pub users : WordUse → Open → ℕ
 users Touch o = o.touch
 users Write o = o.write
 
 -- the group uses one of the first `top` spans that ends after the address
-pub record IsLive (spans : List Span) (access : Access) (top a g : ℕ) : Type 0 where
+pub record IsLive (spans : List Span) (access : WordUse) (top a g : ℕ) : Type 0 where
   pub span : ℕ
   pub small : span < top
   pub uses : Uses spans access span g
@@ -48,12 +48,12 @@ pub record IsInnermost (stack : List Open) (n a : ℕ) : Type 0 where
 pub record AreOpen (spans : List Span) (top from : ℕ) (stack : List Open) : Type 0 where
   pub fall : (m n : ℕ) → m < n → n < length stack → open_end stack n ≤ open_end stack m
   pub ends : (n : ℕ) → n < length stack → (j : ℕ) × (j < top) × (open_end stack n ≡ end_at spans j)
-  pub inside : (access : Access) (n a g : ℕ) → from ≤ a → IsInnermost stack n a
+  pub inside : (access : WordUse) (n a g : ℕ) → from ≤ a → IsInnermost stack n a
       → (bit_at (users access (open_at stack n)) g ≡ 1) ↔ IsLive spans access top a g
-  pub outside : (access : Access) (a g : ℕ) → from ≤ a → (0 < length stack → open_end stack 0 ≤ a)
+  pub outside : (access : WordUse) (a g : ℕ) → from ≤ a → (0 < length stack → open_end stack 0 ≤ a)
       → ¬ IsLive spans access top a g
 
 -- the open span says which groups use the first address of the span at an index
 abbrev pub IsOpenAt : List Span → ℕ → Open → Type 0
 IsOpenAt spans k o =
-    (access : Access) (g : ℕ) → (bit_at (users access o) g ≡ 1) ↔ IsLive spans access (k + 1) (base_at spans k) g
+    (access : WordUse) (g : ℕ) → (bit_at (users access o) g ≡ 1) ↔ IsLive spans access (k + 1) (base_at spans k) g

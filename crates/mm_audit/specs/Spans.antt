@@ -8,20 +8,20 @@ use Rattle.mm_model.specs.Image.{Image}
 use Rattle.mm_model.specs.Reach.{Entries, Grants}
 use Rattle.mm_model.specs.Audit.{GrantedSegment}
 use Rattle.mm_seg.specs.Segments.{IsSegment, LiesIn, end_of}
-use Rattle.mm_audit.specs.declared.span.Access.{Access}
-use Rattle.mm_audit.specs.declared.span.Access.TheVariants.{Touch, Write}
+use Rattle.mm_model.specs.declared.word_use.WordUse.{WordUse}
+use Rattle.mm_model.specs.declared.word_use.WordUse.TheVariants.{Touch, Write}
 use Rattle.mm_audit.specs.declared.span.Span.{Span}
 
 abbrev pub segment_of : Span → ℕ × ℕ
 segment_of s = (s.base, s.log)
 
 -- the groups that use the span in this way
-abbrev pub mask : Access → Span → ℕ
+abbrev pub mask : WordUse → Span → ℕ
 mask Touch s = s.touch
 mask Write s = s.write
 
 -- the permission that a use of a word needs
-abbrev pub can : Access → Perm → Bool
+abbrev pub can : WordUse → Perm → Bool
 can Touch p = can_load p
 can Write p = can_store p
 
@@ -39,7 +39,7 @@ abbrev pub end_at : List Span → ℕ → ℕ
 end_at spans n = end_of (segment_of (span_at spans n))
 
 -- the group uses the span at an index
-abbrev pub Uses : List Span → Access → ℕ → ℕ → Type 0
+abbrev pub Uses : List Span → WordUse → ℕ → ℕ → Type 0
 Uses spans access n g = bit_at (mask access (span_at spans n)) g ≡ 1
 
 -- the spans are segments, ascending by base; a span that begins within an earlier one ends within it
@@ -49,7 +49,7 @@ pub record AreInOrder (spans : List Span) : Type 0 where
   pub nested : (m n : ℕ) → m < n → n < length spans → base_at spans n < end_at spans m → end_at spans n ≤ end_at spans m
 
 -- the segment lies in a span that the group uses
-pub record IsHeld (spans : List Span) (access : Access) (g : ℕ) (s : ℕ × ℕ) : Type 0 where
+pub record IsHeld (spans : List Span) (access : WordUse) (g : ℕ) (s : ℕ × ℕ) : Type 0 where
   pub at : ℕ
   pub small : at < length spans
   pub uses : Uses spans access at g
@@ -59,7 +59,7 @@ pub record IsHeld (spans : List Span) (access : Access) (g : ℕ) (s : ℕ × �
 -- pointer lies in one of them
 pub record AreSpans (i : Image) (e : Entries) (spans : List Span) : Type 0 where
   pub order : AreInOrder spans
-  pub granted : (access : Access) (g n : ℕ) → n < length spans → Uses spans access n g
+  pub granted : (access : WordUse) (g n : ℕ) → n < length spans → Uses spans access n g
       → GrantedSegment i e g (can access) (segment_of (span_at spans n))
-  pub held : (access : Access) (g : ℕ) (p : Pointer) → Grants i e g p → can access p.perm ≡ true → 3 ≤ p.log
+  pub held : (access : WordUse) (g : ℕ) (p : Pointer) → Grants i e g p → can access p.perm ≡ true → 3 ≤ p.log
       → IsHeld spans access g (base_of p, p.log)

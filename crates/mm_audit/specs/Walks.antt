@@ -1,16 +1,16 @@
 -- The outermost spans of groups.
 use Rattle.std.specs.Prelude.{ℕ, Bool, not, ◌==◌, ◌&&◌, nat_le, bit_and, if◌then◌else◌, List, [], ◌∷◌}
-use Rattle.mm_audit.specs.declared.span.Access.{Access}
+use Rattle.mm_model.specs.declared.word_use.WordUse.{WordUse}
 use Rattle.mm_audit.specs.declared.span.Span.{Span}
 use Rattle.mm_seg.specs.Segments.{end_of}
 use Rattle.mm_audit.specs.Spans.{mask, segment_of}
 
 -- one of the groups uses the span, and the span does not begin before the address
-abbrev pub is_next : Access → ℕ → ℕ → Span → Bool
+abbrev pub is_next : WordUse → ℕ → ℕ → Span → Bool
 is_next access groups from s = not (bit_and (mask access s) groups == 0) && nat_le from s.base
 
 -- the segments of such spans from an address on, each from the end of the segment before
-abbrev pub outermost : Access → ℕ → ℕ → List Span → List (ℕ × ℕ)
+abbrev pub outermost : WordUse → ℕ → ℕ → List Span → List (ℕ × ℕ)
 outermost access groups from [] = []
 outermost access groups from (s ∷ spans) =
     if is_next access groups from s

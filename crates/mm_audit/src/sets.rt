@@ -8,8 +8,9 @@ ghost use Rattle.mm_audit.specs.Walks.{outermost};
 ghost use Rattle.mm_audit.specs.GroupSets.{AreGroupSets, SameUsers};
 
 use crate::group_sets::GroupSets;
-use crate::span::{Access, Span};
+use crate::span::Span;
 use crate::walk::Segments;
+use mm_model::WordUse;
 use mm_seg::SegSet;
 use mm_word::NoMemory;
 use std::alloc::Global;
@@ -18,7 +19,7 @@ use std::alloc::Global;
 pub fn set_of(
     alloc: Global,
     spans: &[Span],
-    access: Access,
+    access: WordUse,
     groups: u64,
 ) -> Result<SegSet, NoMemory>
     requires { AreInOrder spans.now }
@@ -33,7 +34,7 @@ pub fn set_of(
 }
 
 /// The mask of the groups that do not use the same spans as the next group.
-fn changes(spans: &[Span], access: Access) -> u64
+fn changes(spans: &[Span], access: WordUse) -> u64
     ensures { (g : ℕ) → (bit_at result g ≡ 1 → ⊥) → SameUsers spans.now access g (g + 1) (length spans.now) }
 {
     let mut all = 0;
@@ -45,7 +46,7 @@ fn changes(spans: &[Span], access: Access) -> u64
 }
 
 /// The segments that each group reaches. A group that uses the same spans as the one before it shares its set.
-pub fn group_sets(alloc: Global, spans: &[Span], access: Access) -> Result<GroupSets, NoMemory>
+pub fn group_sets(alloc: Global, spans: &[Span], access: WordUse) -> Result<GroupSets, NoMemory>
     requires { AreInOrder spans.now }
     ensures { IfOk result (λ sets. AreGroupSets spans.now access 64 sets) }
 {

@@ -4,12 +4,7 @@ ghost use Rattle.std.specs.Prelude.{◌≡◌};
 ghost use Rattle.mm_seg.specs.Segments.{IsSegment, end_of};
 ghost use Rattle.mm_audit.specs.Spans.{mask, segment_of};
 
-/// How a group uses a word: it touches or writes it.
-#[derive(Clone, Copy, Debug, PartialEq, Eq)]
-pub enum Access {
-    Touch,
-    Write,
-}
+use mm_model::WordUse;
 
 /// A segment of pointers that groups are granted.
 #[derive(Clone, Copy, Debug)]
@@ -34,12 +29,12 @@ impl Span {
     }
 
     /// The mask of the groups that use the span in this way.
-    pub fn mask(self, access: Access) -> u64
+    pub fn mask(self, access: WordUse) -> u64
         ensures { result ≡ mask access self }
     {
         match access {
-            Access::Touch => self.touch,
-            Access::Write => self.write,
+            WordUse::Touch => self.touch,
+            WordUse::Write => self.write,
         }
     }
 }

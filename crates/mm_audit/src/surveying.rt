@@ -11,12 +11,13 @@ use crate::least::least_words;
 use crate::reach::Reach;
 use crate::served::served_in;
 use crate::sets::group_sets;
-use crate::span::{Access, Span};
+use crate::span::Span;
 use crate::spans::spans_of;
 use crate::surveys::Survey;
 use mm_flow::{Right, any};
 use mm_graph::{Entries, marked};
 use mm_image::Image;
+use mm_model::WordUse;
 use mm_word::NoMemory;
 use std::alloc::Global;
 
@@ -71,8 +72,8 @@ pub fn audit(alloc: Global, img: &Image, entries: &Entries) -> Result<Reach, NoM
         served,
         least,
     } = survey;
-    let touch = group_sets(alloc, &spans, Access::Touch)?;
-    let write = group_sets(alloc, &spans, Access::Write)?;
+    let touch = group_sets(alloc, &spans, WordUse::Touch)?;
+    let write = group_sets(alloc, &spans, WordUse::Write)?;
     Ok(Reach {
         privileged,
         touch,

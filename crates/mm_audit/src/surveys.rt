@@ -11,8 +11,9 @@ use crate::judge::{Apart, judge};
 use crate::meets::Meets;
 use crate::reach::is_privileged;
 use crate::served::Served;
-use crate::span::{Access, Span};
+use crate::span::Span;
 use crate::walk::Segments;
+use mm_model::WordUse;
 use std::marker::Model;
 
 /// A survey of an image: an audit that keeps one list of segments for all groups, and gives each group's own segments
@@ -66,7 +67,7 @@ impl Survey {
             → Surveys i e self.now
             → MaximalSegments i e group can_load result }
     {
-        Segments::new(&self.spans, Access::Touch, mask_of(group))
+        Segments::new(&self.spans, WordUse::Touch, mask_of(group))
     }
 
     /// The maximal segments of at least a word that a group can write: none for a group that no slot can have.
@@ -75,7 +76,7 @@ impl Survey {
             → Surveys i e self.now
             → MaximalSegments i e group can_store result }
     {
-        Segments::new(&self.spans, Access::Write, mask_of(group))
+        Segments::new(&self.spans, WordUse::Write, mask_of(group))
     }
 
     /// Whether groups stand apart from all others. If not, the answer is the least slot with a handler on the other

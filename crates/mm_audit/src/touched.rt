@@ -4,10 +4,10 @@ ghost use Rattle.std.specs.Prelude.{IfOk};
 ghost use Rattle.mm_audit.specs.Own.{CoversTouched};
 
 use crate::sets::set_of;
-use crate::span::Access;
 use crate::surveying::granted_in;
 use mm_graph::Entries;
 use mm_image::Image;
+use mm_model::WordUse;
 use mm_seg::SegSet;
 use mm_word::NoMemory;
 use std::alloc::Global;
@@ -18,6 +18,6 @@ pub fn touched_by(alloc: Global, img: &Image, groups: u64) -> Result<SegSet, NoM
 {
     let _slots = img.slots();
     let granted = granted_in(alloc, img, &Entries::All)?;
-    let set = set_of(alloc, &granted.spans, Access::Touch, groups)?;
+    let set = set_of(alloc, &granted.spans, WordUse::Touch, groups)?;
     Ok(set)
 }

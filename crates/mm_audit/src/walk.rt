@@ -4,7 +4,8 @@ ghost use Rattle.std.specs.Prelude.{◌≡◌, ◌<◌, ◌≤◌, drop, length,
 ghost use Rattle.mm_audit.specs.Spans.{span_at};
 ghost use Rattle.mm_audit.specs.Walks.{is_next, outermost};
 
-use crate::span::{Access, Span};
+use crate::span::Span;
+use mm_model::WordUse;
 use std::marker::Model;
 
 /// The maximal segments that groups reach, ascending: of each the base, and the base-2 logarithm of the length in
@@ -12,7 +13,7 @@ use std::marker::Model;
 #[derive(Drop)]
 pub struct Segments<'a> {
     spans: &'a [Span],
-    access: Access,
+    access: WordUse,
     groups: u64,
     /// The index at which the search for the next span begins.
     at: usize,
@@ -33,14 +34,14 @@ impl<'a> Model for Segments<'a> {
 }
 
 /// Whether one of the groups uses the span in this way, and the span does not begin before the address.
-fn is_next(span: Span, access: Access, groups: u64, from: u64) -> bool
+fn is_next(span: Span, access: WordUse, groups: u64, from: u64) -> bool
     ensures { result ≡ is_next access groups from span }
 {
     span.mask(access) & groups != 0 && from <= span.base
 }
 
 /// The index of the next such span; the count of spans if there is none.
-fn next_place(spans: &[Span], access: Access, groups: u64, from: u64, at: usize) -> usize
+fn next_place(spans: &[Span], access: WordUse, groups: u64, from: u64, at: usize) -> usize
     requires { at ≤ length spans.now }
     ensures fits { result ≤ length spans.now }
     ensures same { outermost access groups from (drop at spans.now) ≡ outermost access groups from
@@ -60,7 +61,7 @@ impl<'a> Segments<'a> {
     ghost use Rattle.mm_audit.specs.Spans.{AreInOrder};
 
     /// The segments of these groups.
-    pub(crate) fn new(spans: &'a [Span], access: Access, groups: u64) -> Segments<'a>
+    pub(crate) fn new(spans: &'a [Span], access: WordUse, groups: u64) -> Segments<'a>
         requires { AreInOrder spans.now }
         ensures { result ≡ outermost access groups 0 spans.now }
     {

@@ -11,10 +11,10 @@ ghost use Rattle.mm_audit.specs.Surveys.{Surveys};
 ghost use Rattle.mm_audit_text.specs.Parts.{IsPart, if_present};
 
 use crate::lines::{put_apart, put_kind, put_segments};
-use crate::right::Right;
 use mm_audit::Survey;
 use mm_image::{Image, has_group};
 use mm_io::Sink;
+use mm_model::WordUse;
 use mm_text::Gather;
 
 /// The count of groups that there can be.
@@ -27,8 +27,8 @@ fn put_group<O: Sink>(text: &mut Gather, out: &mut O, survey: &Survey, group: u8
         × ((i : ImageValue) → Surveys i All survey.now → AuditOf i group own) }
 {
     put_kind(text, out, group, survey.privileged(group));
-    put_segments(text, out, Right::Touch, &mut survey.touched(group));
-    put_segments(text, out, Right::Write, &mut survey.written(group));
+    put_segments(text, out, WordUse::Touch, &mut survey.touched(group));
+    put_segments(text, out, WordUse::Write, &mut survey.written(group));
 }
 
 /// Appends the lines of a group if it has a slot; with `apart`, also whether it stands apart.

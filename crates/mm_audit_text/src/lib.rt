@@ -4,6 +4,6 @@
 mod audit;
 mod groups;
 mod lines;
-mod right;
+mod uses;
 
 pub use audit::{write_audit, write_audit_of};

@@ -8,11 +8,12 @@ ghost use Rattle.mm_model.specs.Reach.Entries.{All};
 ghost use Rattle.mm_text.specs.Gathers.{Gathers};
 ghost use Rattle.mm_audit.specs.Surveys.{Surveys};
 ghost use Rattle.mm_audit.specs.Crossing.{verdict_of};
-ghost use Rattle.mm_audit_text.specs.Rights.{right_text};
+ghost use Rattle.mm_audit_text.specs.Uses.{use_text};
 
-use crate::right::{Right, right_name};
+use crate::uses::use_name;
 use mm_audit::{Apart, Segments, Survey};
 use mm_io::Sink;
+use mm_model::WordUse;
 use mm_text::{Gather, Line, Piece};
 
 /// Appends whether a group is privileged.
@@ -36,8 +37,8 @@ pub fn put_kind<O: Sink>(text: &mut Gather, out: &mut O, group: u8, privileged: 
 
 /// Appends the line of a segment.
 #[tactic(auto, using(mm_text::proofs::LineLengths::line_lengths))]
-fn put_segment<O: Sink>(text: &mut Gather, out: &mut O, right: Right, base: u64, log: u8)
-    ensures { Gathers O.taken O.faults out.old out.new text.old text.new (segment_line (right_text right) (base, log)) }
+fn put_segment<O: Sink>(text: &mut Gather, out: &mut O, how: WordUse, base: u64, log: u8)
+    ensures { Gathers O.taken O.faults out.old out.new text.old text.new (segment_line (use_text how) (base, log)) }
 {
     let mut line = Line::new();
     line.put_byte(b'\n');
@@ -45,7 +46,7 @@ fn put_segment<O: Sink>(text: &mut Gather, out: &mut O, right: Right, base: u64,
     line.put_byte(b' ');
     line.put_hex(base, 14);
     line.put_byte(b' ');
-    line.put_text(right_name(right));
+    line.put_text(use_name(how));
     text.put_bytes(out, line.as_bytes());
 }
 
@@ -53,14 +54,14 @@ fn put_segment<O: Sink>(text: &mut Gather, out: &mut O, right: Right, base: u64,
 pub fn put_segments<O: Sink>(
     text: &mut Gather,
     out: &mut O,
-    right: Right,
+    how: WordUse,
     segments: &mut Segments<'_>,
 )
     ensures { Gathers O.taken O.faults out.old out.new text.old text.new
-        (flat_map (segment_line (right_text right)) segments.old) }
+        (flat_map (segment_line (use_text how)) segments.old) }
 {
     while let Some((base, log)) = segments.next() {
-        put_segment(text, out, right, base, log);
+        put_segment(text, out, how, base, log);
     }
 }
 

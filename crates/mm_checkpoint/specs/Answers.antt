@@ -1,14 +1,7 @@
 -- The answers of a reader of checkpoints.
-use Rattle.std.specs.Prelude.{◌≡◌, ℕ, Option, Result, Ok, Err}
-use Rattle.mm_machine.specs.Snapshot.{Parts}
+use Rattle.std.specs.Prelude.{◌≡◌, ℕ, Result, Ok, Err}
 use Rattle.mm_checkpoint.specs.declared.fault.SaveError.{SaveError}
 use Rattle.mm_checkpoint.specs.declared.fault.SaveError.TheVariants.{Fault, NoMemory}
-use Rattle.mm_checkpoint.specs.Checkpoints.{Saved, saved_of}
-
--- the answer is a state and a last slot with this saved form, unless memory ran out
-abbrev pub IsUnlessNoMemory : Saved → Result (Parts × Option ℕ) SaveError → Type 0
-IsUnlessNoMemory saved (Ok read) = saved_of read.0 read.1 ≡ saved
-IsUnlessNoMemory saved (Err e) = e ≡ NoMemory
 
 -- the error is a fault at this place, unless memory ran out
 abbrev pub FailsAt : ℕ → SaveError → Type 0

@@ -7,6 +7,7 @@ ghost use Rattle.mm_checkpoint.specs.Format.{header};
 
 use mm_format::{ReadError, Reader, refuse_if};
 use mm_image::ImageFault;
+use mm_model::CYCLE_LIMIT;
 
 /// The only version.
 const VERSION: u16 = 1;
@@ -16,9 +17,6 @@ const SLOT_NUMBERS: u8 = 64;
 
 /// The byte for no slot, in the field of the slot that was issued last.
 pub(crate) const NO_SLOT: u8 = 255;
-
-/// The most cycles of a state that is saved.
-const CYCLE_LIMIT: u64 = 1_000_000;
 
 /// The fields of the header.
 #[derive(Clone, Copy)]
@@ -35,9 +33,7 @@ pub(crate) fn read_header(reader: &mut Reader, frames: u32) -> Result<Header, Re
         result }
     ensures same { reader.new.bytes.now ≡ reader.old.bytes.now }
 {
-    let at = reader.at;
-    let magic = reader.raw(4)?;
-    refuse_if(magic != b"MMS1".as_slice(), ImageFault::Magic, at)?;
+    reader.literal(b"MMS1", ImageFault::Magic)?;
     let at = reader.at;
     let version = reader.u16()?;
     refuse_if(version != VERSION, ImageFault::Version, at)?;
@@ -51,9 +47,7 @@ pub(crate) fn read_header(reader: &mut Reader, frames: u32) -> Result<Header, Re
     let at = reader.at;
     let zero = reader.u8()?;
     refuse_if(zero != 0, ImageFault::Count, at)?;
-    let at = reader.at;
-    let cycles = reader.u64()?;
-    refuse_if(cycles > CYCLE_LIMIT, ImageFault::Count, at)?;
+    let cycles = reader.u64_up_to(CYCLE_LIMIT, ImageFault::Count)?;
     let at = reader.at;
     let pages = reader.u16()?;
     refuse_if(u32::from(pages) > frames, ImageFault::Frames, at)?;

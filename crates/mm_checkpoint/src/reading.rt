@@ -1,6 +1,7 @@
 //! The reader of checkpoints.
 
 ghost use Rattle.std.specs.Prelude.{◌≡◌, ◌≤◌, ℕ, IfOk, Err, Some, Option, map, vec_len};
+ghost use Rattle.mm_model.specs.Answers.{HasViewUnless};
 ghost use Rattle.mm_model.specs.Spelling.{IsImage};
 ghost use Rattle.mm_format.specs.Formats.{file};
 ghost use Rattle.mm_format.specs.Reading.{Reads, ReadsFile};
@@ -8,7 +9,7 @@ ghost use Rattle.mm_image.specs.Faults.{number_of};
 ghost use Rattle.mm_machine.specs.Snapshot.{Parts, parts_of};
 ghost use Rattle.mm_checkpoint.specs.Checkpoints.{Saves, saved_of};
 ghost use Rattle.mm_checkpoint.specs.Faults.{said_of, save_fault};
-ghost use Rattle.mm_checkpoint.specs.Answers.{IsUnlessNoMemory, FailsUnlessNoMemory};
+ghost use Rattle.mm_checkpoint.specs.Answers.{FailsUnlessNoMemory};
 ghost use Rattle.mm_checkpoint.specs.Format.{checkpoint, contents_from, front, front_from, tested, waiters_in};
 ghost use Rattle.mm_checkpoint.specs.Steps.{put_out};
 ghost use Rattle.mm_checkpoint.specs.declared.rows.SlotRow.{SlotRow as RowValue};
@@ -31,7 +32,7 @@ pub fn read(alloc: Global, img: &Image, bytes: &[u8]) -> Result<(Snapshot, Optio
     // The checkpoint that is read is spelled by the bytes, and a checkpoint that the bytes spell is read.
     ensures saves { IfOk result (λ read. Saves bytes.now img.now read.0 read.1) }
     ensures again { (p : Parts) (last : Option ℕ) → Saves bytes.now img.now p last
-        → IsUnlessNoMemory (saved_of p last) result }
+        → HasViewUnless (λ read. saved_of read.0 read.1) SaveError.NoMemory (saved_of p last) result }
 
     // A fault that is answered is the first one, and if there is one it is answered.
     ensures fault { (offset : ℕ) → result ≡ Err (SaveError.Fault offset) → save_fault img.now bytes.now ≡ Some offset }

@@ -68,12 +68,8 @@ fn read_row(
     let at = reader.at;
     let place = reader.u8()?;
     refuse_if(!waits && place != 0, ImageFault::Handler, at)?;
-    let at = reader.at;
-    let past = reader.u8()?;
-    refuse_if(past > 1, ImageFault::Count, at)?;
-    let at = reader.at;
-    let turns = reader.u64()?;
-    refuse_if(turns > cycles, ImageFault::Count, at)?;
+    let past = reader.u8_up_to(1, ImageFault::Count)?;
+    let turns = reader.u64_up_to(cycles, ImageFault::Count)?;
     let ip = read_ip(reader)?;
     let tags = reader.u16()?;
     let at = reader.at;

@@ -1,4 +1,4 @@
--- Words that are read for the places of a row, one after the other.
+-- Words that are read for the parameters of a row, one after the other.
 use Rattle.std.proofs.Common.{◌≡◌, ℕ, ◌+◌, ◌<◌, ◌≤◌, ◌==◌, ◌⊎◌, inl, inr, true, false, String, string_bytes, List, []}
 use Rattle.std.proofs.Common.{◌∷◌, ◌++◌, length, map, take, drop, get_or, refl, sym, ap, ◌∙◌, subst, arith}
 use Rattle.std.proofs.Common.{append_assoc, append-nil}
@@ -6,25 +6,25 @@ use Rattle.std.specs.declared.alloc.Global.{Global}
 use Rattle.std.proofs.lemmas.List.{take_more, drop_more, take_all, drop_all, length-map}
 use Rattle.std.proofs.lemmas.Bool.{eqb-true}
 use Rattle.mm_cli.specs.declared.table.Kind.{Kind}
-use Rattle.mm_cli.specs.declared.table.Place.{Place}
-use Rattle.mm_cli.specs.declared.table.Place.TheVariants.{File, Number, Groups, Mode, Range, Address, Use}
+use Rattle.mm_cli.specs.declared.table.Parameter.{Parameter}
+use Rattle.mm_cli.specs.declared.table.Parameter.TheVariants.{File, Number, Groups, Mode, Range, Address, Use}
 use Rattle.mm_cli.specs.declared.table.Last.{Last}
 use Rattle.mm_cli.specs.declared.table.Last.TheVariants.{Nothing, Several}
 use Rattle.mm_cli.specs.declared.words.Word.{Word as Read}
 use Rattle.mm_cli.specs.Words.{Word, file_word, number_word, groups_word, mode_word, range_word, use_word, text_list}
-use Rattle.mm_cli.specs.Words.{spelled, spoken, texts, words_of, FitsPlace, FitsLast, FitsRow, IsOfPlace, AreOfLast}
+use Rattle.mm_cli.specs.Words.{spelled, spoken, texts, words_of, FitsParameter, FitsLast, FitsRow, IsOfParameter, AreOfLast}
 use Rattle.mm_cli.specs.Words.{AreOfRow}
 
--- 1. What is left after the words of one place.
+-- 1. What is left after the words of one parameter.
 
--- as many texts say what is in one place
+-- as many texts say what is in one parameter
 after_one : (t u : List ℕ) (a b : List (List ℕ)) → t ∷ a ≡ u ∷ b → a ≡ b
 after_one t u a b same = cc
 
 after_two : (s t u v : List ℕ) (a b : List (List ℕ)) → s ∷ t ∷ a ≡ u ∷ v ∷ b → a ≡ b
 after_two s t u v a b same = cc
 
-pub same_after : (p : Place) (v w : Word) (a b : List (List ℕ)) → FitsPlace p v → FitsPlace p w → text_list v ++ a ≡ text_list w ++ b → a ≡ b
+pub same_after : (p : Parameter) (v w : Word) (a b : List (List ℕ)) → FitsParameter p v → FitsParameter p w → text_list v ++ a ≡ text_list w ++ b → a ≡ b
 same_after (File k) (file_word l n) (file_word m o) a b one two same = after_one n o a b same
 same_after (File k) (file_word l n) w a b one two same = absurd two
 same_after (Number least most) (number_word n) (number_word m) a b one two same = after_one _ _ a b same
@@ -54,15 +54,15 @@ spoken_more xs ys x more = ap spoken more ∙ by xs
     by [] = append-nil (words_of x)
     by (z ∷ zs) = ap (λ (ws : List Word). words_of z ++ ws) (by zs) ∙ sym (append_assoc (words_of z) (spoken zs) (words_of x))
 
--- one place more
-place_more : (ps : List Place) (p : Place) (ws : List Word) (w : Word) → FitsRow ps Nothing ws → FitsPlace p w → FitsRow (ps ++ p ∷ []) Nothing (ws ++ w ∷ [])
+-- one parameter more
+place_more : (ps : List Parameter) (p : Parameter) (ws : List Word) (w : Word) → FitsRow ps Nothing ws → FitsParameter p w → FitsRow (ps ++ p ∷ []) Nothing (ws ++ w ∷ [])
 place_more [] p [] w fits one = (one, tt)
 place_more [] p (v ∷ ws) w fits one = absurd fits
 place_more (q ∷ ps) p [] w fits one = absurd fits
 place_more (q ∷ ps) p (v ∷ ws) w fits one = (fits.0, place_more ps p ws w fits.1 one)
 
--- what comes last, after the places
-pub with_last : (ps : List Place) (last : Last) (ws vs : List Word) → FitsRow ps Nothing ws → FitsLast last vs → FitsRow ps last (ws ++ vs)
+-- what comes last, after the parameters
+pub with_last : (ps : List Parameter) (last : Last) (ws vs : List Word) → FitsRow ps Nothing ws → FitsLast last vs → FitsRow ps last (ws ++ vs)
 with_last [] last [] vs fits rest = rest
 with_last [] last (w ∷ ws) vs fits rest = absurd fits
 with_last (p ∷ ps) last [] vs fits rest = absurd fits
@@ -70,65 +70,65 @@ with_last (p ∷ ps) last (w ∷ ws) vs fits rest = (fits.0, with_last ps last w
 
 -- 3. Words so far.
 
--- Of these texts some were read as the words of the first places, and the rest is left.
-pub record ReadSoFar (places : List Place) (last : Last) (texts : List (List ℕ)) (at : ℕ) (words : List Word) (rest : List (List ℕ)) : Type 0 where
-  pub fits : FitsRow (take at places) Nothing words
+-- Of these texts some were read as the words of the first parameters, and the rest is left.
+pub record ReadSoFar (parameters : List Parameter) (last : Last) (texts : List (List ℕ)) (at : ℕ) (words : List Word) (rest : List (List ℕ)) : Type 0 where
+  pub fits : FitsRow (take at parameters) Nothing words
   pub said : texts ≡ spelled words ++ rest
-  -- whatever words of the whole row they are, the rest is those of the other places
-  pub goes_on : (all : List Word) → FitsRow places last all → texts ≡ spelled all → (more : List Word) × FitsRow (drop at places) last more × (rest ≡ spelled more)
+  -- whatever words of the whole row they are, the rest is those of the other parameters
+  pub goes_on : (all : List Word) → FitsRow parameters last all → texts ≡ spelled all → (more : List Word) × FitsRow (drop at parameters) last more × (rest ≡ spelled more)
 
-pub read_none : (places : List Place) (last : Last) (texts : List (List ℕ)) → ReadSoFar places last texts 0 [] texts
-read_none places last texts = record { fits = tt; said = refl; goes_on = λ all fits said. (all, fits, said) }
+pub read_none : (parameters : List Parameter) (last : Last) (texts : List (List ℕ)) → ReadSoFar parameters last texts 0 [] texts
+read_none parameters last texts = record { fits = tt; said = refl; goes_on = λ all fits said. (all, fits, said) }
 
--- the rest begins with a word for the next place
-next_word : (places : List Place) (last : Last) (at : ℕ) (d : Place) (more : List Word) (rest : List (List ℕ)) → at < length places → FitsRow (drop at places) last more
-    → rest ≡ spelled more → (word : Word) × (others : List Word) × FitsPlace (get_or places at d) word × FitsRow (drop (at + 1) places) last others × (rest ≡ text_list word ++ spelled others)
-next_word places last at d more rest inside fits said = by more (subst (λ (ps : List Place). FitsRow ps last more) (drop_more places at d inside) fits) said
+-- the rest begins with a word for the next parameter
+next_word : (parameters : List Parameter) (last : Last) (at : ℕ) (d : Parameter) (more : List Word) (rest : List (List ℕ)) → at < length parameters → FitsRow (drop at parameters) last more
+    → rest ≡ spelled more → (word : Word) × (others : List Word) × FitsParameter (get_or parameters at d) word × FitsRow (drop (at + 1) parameters) last others × (rest ≡ text_list word ++ spelled others)
+next_word parameters last at d more rest inside fits said = by more (subst (λ (ps : List Parameter). FitsRow ps last more) (drop_more parameters at d inside) fits) said
   where
-    by : (ws : List Word) → FitsRow (get_or places at d ∷ drop (at + 1) places) last ws → rest ≡ spelled ws
-        → (word : Word) × (others : List Word) × FitsPlace (get_or places at d) word × FitsRow (drop (at + 1) places) last others × (rest ≡ text_list word ++ spelled others)
+    by : (ws : List Word) → FitsRow (get_or parameters at d ∷ drop (at + 1) parameters) last ws → rest ≡ spelled ws
+        → (word : Word) × (others : List Word) × FitsParameter (get_or parameters at d) word × FitsRow (drop (at + 1) parameters) last others × (rest ≡ text_list word ++ spelled others)
     by [] fit is = absurd fit
     by (w ∷ ws) fit is = (w, ws, fit.0, fit.1, is)
 
-pub read_more : (places : List Place) (last : Last) (texts : List (List ℕ)) (at : ℕ) (d : Place) (words more : List Word) (word : Word) (rest after : List (List ℕ)) → at < length places
-    → ReadSoFar places last texts at words rest → FitsPlace (get_or places at d) word → rest ≡ text_list word ++ after → more ≡ words ++ word ∷ []
-    → ReadSoFar places last texts (at + 1) more after
-read_more places last texts at d words more word rest after inside so_far one said also = record {
+pub read_more : (parameters : List Parameter) (last : Last) (texts : List (List ℕ)) (at : ℕ) (d : Parameter) (words more : List Word) (word : Word) (rest after : List (List ℕ)) → at < length parameters
+    → ReadSoFar parameters last texts at words rest → FitsParameter (get_or parameters at d) word → rest ≡ text_list word ++ after → more ≡ words ++ word ∷ []
+    → ReadSoFar parameters last texts (at + 1) more after
+read_more parameters last texts at d words more word rest after inside so_far one said also = record {
   fits =
-      subst (λ (ws : List Word). FitsRow (take (at + 1) places) Nothing ws) (sym also)
-      (subst (λ (ps : List Place). FitsRow ps Nothing (words ++ word ∷ [])) (sym (take_more places at d inside)) (place_more (take at places) (get_or places at d) words word so_far.fits one));
+      subst (λ (ws : List Word). FitsRow (take (at + 1) parameters) Nothing ws) (sym also)
+      (subst (λ (ps : List Parameter). FitsRow ps Nothing (words ++ word ∷ [])) (sym (take_more parameters at d inside)) (place_more (take at parameters) (get_or parameters at d) words word so_far.fits one));
   said =
       so_far.said ∙ ap (λ (xs : List (List ℕ)). spelled words ++ xs) said
       ∙ sym (append_assoc (spelled words) (text_list word) after)
       ∙ ap (λ (xs : List (List ℕ)). xs ++ after) (ap (λ (xs : List (List ℕ)). spelled words ++ xs) (sym (append-nil (text_list word))) ∙ sym (spelled_both words (word ∷ [])) ∙ ap spelled (sym also));
   goes_on = λ all fits is.
       let (ws, fit, are) = so_far.goes_on all fits is in
-      let (w, others, first, then, spells) = next_word places last at d ws rest inside fit are in
-      (others, then, same_after (get_or places at d) word w after (spelled others) one first (sym said ∙ spells));
+      let (w, others, first, then, spells) = next_word parameters last at d ws rest inside fit are in
+      (others, then, same_after (get_or parameters at d) word w after (spelled others) one first (sym said ∙ spells));
 }
 
--- no words of the row are said where none is read for the next place
-pub read_no_more : (places : List Place) (last : Last) (texts : List (List ℕ)) (at : ℕ) (d : Place) (words : List Word) (rest : List (List ℕ)) → at < length places
-    → ReadSoFar places last texts at words rest → ((word : Word) (after : List (List ℕ)) → FitsPlace (get_or places at d) word → rest ≡ text_list word ++ after → ⊥)
-    → (all : List Word) → FitsRow places last all → texts ≡ spelled all → ⊥
-read_no_more places last texts at d words rest inside so_far none all fits is =
+-- no words of the row are said where none is read for the next parameter
+pub read_no_more : (parameters : List Parameter) (last : Last) (texts : List (List ℕ)) (at : ℕ) (d : Parameter) (words : List Word) (rest : List (List ℕ)) → at < length parameters
+    → ReadSoFar parameters last texts at words rest → ((word : Word) (after : List (List ℕ)) → FitsParameter (get_or parameters at d) word → rest ≡ text_list word ++ after → ⊥)
+    → (all : List Word) → FitsRow parameters last all → texts ≡ spelled all → ⊥
+read_no_more parameters last texts at d words rest inside so_far none all fits is =
     let (ws, fit, are) = so_far.goes_on all fits is in
-    let (w, others, first, then, spells) = next_word places last at d ws rest inside fit are in
+    let (w, others, first, then, spells) = next_word parameters last at d ws rest inside fit are in
     none w (spelled others) first spells
 
--- and what comes last is all that is left after the places
-pub read_no_last : (places : List Place) (last : Last) (texts : List (List ℕ)) (at : ℕ) (words : List Word) (rest : List (List ℕ)) → length places ≤ at
-    → ReadSoFar places last texts at words rest → ((said : List Word) → FitsLast last said → rest ≡ spelled said → ⊥)
-    → (all : List Word) → FitsRow places last all → texts ≡ spelled all → ⊥
-read_no_last places last texts at words rest all_read so_far none all fits is =
+-- and what comes last is all that is left after the parameters
+pub read_no_last : (parameters : List Parameter) (last : Last) (texts : List (List ℕ)) (at : ℕ) (words : List Word) (rest : List (List ℕ)) → length parameters ≤ at
+    → ReadSoFar parameters last texts at words rest → ((said : List Word) → FitsLast last said → rest ≡ spelled said → ⊥)
+    → (all : List Word) → FitsRow parameters last all → texts ≡ spelled all → ⊥
+read_no_last parameters last texts at words rest all_read so_far none all fits is =
     let (ws, fit, are) = so_far.goes_on all fits is in
-    none ws (subst (λ (ps : List Place). FitsRow ps last ws) (drop_all at places all_read) fit) are
+    none ws (subst (λ (ps : List Parameter). FitsRow ps last ws) (drop_all at parameters all_read) fit) are
 
-pub read_all : (places : List Place) (last : Last) (texts : List (List ℕ)) (at : ℕ) (words said all : List Word) (rest : List (List ℕ)) → length places ≤ at
-    → ReadSoFar places last texts at words rest → FitsLast last said → rest ≡ spelled said → all ≡ words ++ said → FitsRow places last all × (texts ≡ spelled all)
-read_all places last texts at words said all rest all_read so_far fit are whole = (
-  subst (λ (ws : List Word). FitsRow places last ws) (sym whole)
-      (with_last places last words said (subst (λ (ps : List Place). FitsRow ps Nothing words) (take_all at places all_read) so_far.fits) fit),
+pub read_all : (parameters : List Parameter) (last : Last) (texts : List (List ℕ)) (at : ℕ) (words said all : List Word) (rest : List (List ℕ)) → length parameters ≤ at
+    → ReadSoFar parameters last texts at words rest → FitsLast last said → rest ≡ spelled said → all ≡ words ++ said → FitsRow parameters last all × (texts ≡ spelled all)
+read_all parameters last texts at words said all rest all_read so_far fit are whole = (
+  subst (λ (ws : List Word). FitsRow parameters last ws) (sym whole)
+      (with_last parameters last words said (subst (λ (ps : List Parameter). FitsRow ps Nothing words) (take_all at parameters all_read) so_far.fits) fit),
   so_far.said ∙ ap (λ (xs : List (List ℕ)). spelled words ++ xs) are ∙ sym (spelled_both words said) ∙ ap spelled (sym whole),
 )
 
@@ -167,30 +167,30 @@ several_none kind most said words (names, is, some, few) are wrong =
 
 -- 5. Words as they are read.
 
--- one place more
-formed_place : (ps : List Place) (p : Place) (rs : List Read) (r : Read) → AreOfRow ps Nothing rs → IsOfPlace p r → AreOfRow (ps ++ p ∷ []) Nothing (rs ++ r ∷ [])
+-- one parameter more
+formed_place : (ps : List Parameter) (p : Parameter) (rs : List Read) (r : Read) → AreOfRow ps Nothing rs → IsOfParameter p r → AreOfRow (ps ++ p ∷ []) Nothing (rs ++ r ∷ [])
 formed_place [] p [] r are one = (one, tt)
 formed_place [] p (s ∷ rs) r are one = absurd are
 formed_place (q ∷ ps) p [] r are one = absurd are
 formed_place (q ∷ ps) p (s ∷ rs) r are one = (are.0, formed_place ps p rs r are.1 one)
 
-pub formed_more : (places : List Place) (at : ℕ) (d : Place) (read more : List Read) (r : Read) → at < length places → AreOfRow (take at places) Nothing read → IsOfPlace (get_or places at d) r
-    → more ≡ read ++ r ∷ [] → AreOfRow (take (at + 1) places) Nothing more
-formed_more places at d read more r inside are one also =
-    subst (λ (rs : List Read). AreOfRow (take (at + 1) places) Nothing rs) (sym also)
-    (subst (λ (ps : List Place). AreOfRow ps Nothing (read ++ r ∷ [])) (sym (take_more places at d inside)) (formed_place (take at places) (get_or places at d) read r are one))
+pub formed_more : (parameters : List Parameter) (at : ℕ) (d : Parameter) (read more : List Read) (r : Read) → at < length parameters → AreOfRow (take at parameters) Nothing read → IsOfParameter (get_or parameters at d) r
+    → more ≡ read ++ r ∷ [] → AreOfRow (take (at + 1) parameters) Nothing more
+formed_more parameters at d read more r inside are one also =
+    subst (λ (rs : List Read). AreOfRow (take (at + 1) parameters) Nothing rs) (sym also)
+    (subst (λ (ps : List Parameter). AreOfRow ps Nothing (read ++ r ∷ [])) (sym (take_more parameters at d inside)) (formed_place (take at parameters) (get_or parameters at d) read r are one))
 
-with_formed : (ps : List Place) (last : Last) (rs more : List Read) → AreOfRow ps Nothing rs → AreOfLast last more → AreOfRow ps last (rs ++ more)
+with_formed : (ps : List Parameter) (last : Last) (rs more : List Read) → AreOfRow ps Nothing rs → AreOfLast last more → AreOfRow ps last (rs ++ more)
 with_formed [] last [] more are rest = rest
 with_formed [] last (r ∷ rs) more are rest = absurd are
 with_formed (p ∷ ps) last [] more are rest = absurd are
 with_formed (p ∷ ps) last (r ∷ rs) more are rest = (are.0, with_formed ps last rs more are.1 rest)
 
-pub formed_all : (places : List Place) (last : Last) (at : ℕ) (read more all : List Read) → length places ≤ at → AreOfRow (take at places) Nothing read → AreOfLast last more → all ≡ read ++ more
-    → AreOfRow places last all
-formed_all places last at read more all all_read are rest whole =
-    subst (λ (rs : List Read). AreOfRow places last rs) (sym whole)
-    (with_formed places last read more (subst (λ (ps : List Place). AreOfRow ps Nothing read) (take_all at places all_read) are) rest)
+pub formed_all : (parameters : List Parameter) (last : Last) (at : ℕ) (read more all : List Read) → length parameters ≤ at → AreOfRow (take at parameters) Nothing read → AreOfLast last more → all ≡ read ++ more
+    → AreOfRow parameters last all
+formed_all parameters last at read more all all_read are rest whole =
+    subst (λ (rs : List Read). AreOfRow parameters last rs) (sym whole)
+    (with_formed parameters last read more (subst (λ (ps : List Parameter). AreOfRow ps Nothing read) (take_all at parameters all_read) are) rest)
 
 pub spoken_both : (xs ys zs : List Read) → zs ≡ xs ++ ys → spoken zs ≡ spoken xs ++ spoken ys
 spoken_both xs ys zs whole = ap spoken whole ∙ by xs

@@ -14,13 +14,13 @@ use Rattle.std.proofs.lemmas.Slice.Eq.{bytes_eq-Decides}
 use denote.Enum.Declared.{tag_of}
 use Rattle.mm_cli.specs.contracts.table.Command.{the_type}
 use Rattle.mm_cli.specs.declared.table.Command.{Command}
-use Rattle.mm_cli.specs.declared.table.Place.{Place}
-use Rattle.mm_cli.specs.declared.table.Place.TheVariants.{File, Number, Groups, Mode, Range, Address, Use}
+use Rattle.mm_cli.specs.declared.table.Parameter.{Parameter}
+use Rattle.mm_cli.specs.declared.table.Parameter.TheVariants.{File, Number, Groups, Mode, Range, Address, Use}
 use Rattle.mm_cli.specs.declared.table.Last.{Last}
 use Rattle.mm_cli.specs.declared.table.Last.TheVariants.{Nothing, Perhaps, Several}
 use Rattle.mm_cli.specs.declared.words.Word.{Word as Read}
 use Rattle.mm_cli.specs.Words.{AreOfRow, Word, file_word, number_word, groups_word, mode_word, range_word, use_word}
-use Rattle.mm_cli.specs.Words.{mode_text, use_text, text_list, FitsPlace, FitsLast, FitsRow, room, spelled, spoken}
+use Rattle.mm_cli.specs.Words.{mode_text, use_text, text_list, FitsParameter, FitsLast, FitsRow, room, spelled, spoken}
 use Rattle.mm_cli.specs.Words.{texts}
 use Rattle.mm_cli.specs.Table.{Listed, Row, IsInTable, Asks, Fits, InNoRow, is_same, row_for, table}
 use Rattle.mm_cli.specs.Said.{said, said_by}
@@ -88,13 +88,13 @@ one_named j k a b one two same = one_named_in table j k a b table_names one two 
 -- 3. The words of a row have room.
 
 abbrev has_room : Listed → Bool
-has_room row = nat_lt (length row.places + room row.last) 5
+has_room row = nat_lt (length row.parameters + room row.last) 5
 
 table_room : each has_room table ≡ true
 table_room = refl
 
-pub room_for_words : (k : ℕ) (row : Listed) → slice_get table k ≡ Some row → length row.places + room row.last ≤ 4
-room_for_words k row at = let few : length row.places + room row.last < 5 = ltb-true (length row.places + room row.last) 5 (at_each has_room table k row table_room at) in omega (arith, few)
+pub room_for_words : (k : ℕ) (row : Listed) → slice_get table k ≡ Some row → length row.parameters + room row.last ≤ 4
+room_for_words k row at = let few : length row.parameters + room row.last < 5 = ltb-true (length row.parameters + room row.last) 5 (at_each has_room table k row table_room at) in omega (arith, few)
 
 -- 4. Words that are read.
 
@@ -108,15 +108,15 @@ first_and_rest (w ∷ words) word some is =
 
 -- nor where the rest is not that of the row that the first names
 pub no_rest_of : (words : List (List ℕ)) (name : List ℕ) (rest : List (List ℕ)) (number : ℕ) (listed : Listed) → words ≡ name ∷ rest → slice_get table number ≡ Some listed → listed.name ≡ name
-    → ((said : List Word) → FitsRow listed.places listed.last said → rest ≢ spelled said) → InNoRow words
+    → ((said : List Word) → FitsRow listed.parameters listed.last said → rest ≢ spelled said) → InNoRow words
 no_rest_of words name rest number listed are at named none row asks =
     let same : asks.in_table.listed.name ≡ name = cc (asks.said, are) in
     let one : asks.in_table.listed ≡ listed = one_named asks.in_table.number number asks.in_table.listed listed asks.in_table.at at (same ∙ sym named) in
     let spells : rest ≡ spelled row.words = cc (asks.said, are) in
-    none row.words (subst (λ (l : Listed). FitsRow l.places l.last row.words) one asks.in_table.fits) spells
+    none row.words (subst (λ (l : Listed). FitsRow l.parameters l.last row.words) one asks.in_table.fits) spells
 
 pub asks_for : (words : List (List ℕ)) (name : List ℕ) (rest : List (List ℕ)) (number : ℕ) (listed : Listed) (said : List Word) → words ≡ name ∷ rest → slice_get table number ≡ Some listed
-    → listed.name ≡ name → FitsRow listed.places listed.last said → rest ≡ spelled said → Asks words (record { command = listed.command; words = said })
+    → listed.name ≡ name → FitsRow listed.parameters listed.last said → rest ≡ spelled said → Asks words (record { command = listed.command; words = said })
 asks_for words name rest number listed said are at named fits spells = record {
   in_table = record { number = number; listed = listed; at = at; command = refl; fits = fits };
   said = are ∙ ap (λ (n : List ℕ). n ∷ rest) (sym named) ∙ ap (λ (xs : List (List ℕ)). listed.name ∷ xs) spells;
@@ -167,24 +167,24 @@ pub fits_of : (row : Row) → IsInTable row → Fits row.command row.words
 fits_of row is =
     let found : row_for is.listed.command ≡ Some is.listed = found_in table is.number is.listed table_commands is.at in
     let same : row_for row.command ≡ Some is.listed = ap row_for (sym is.command) ∙ found in
-    subst (λ (o : Option Listed). IfSome o (λ r. FitsRow r.places r.last row.words)) (sym same) is.fits
+    subst (λ (o : Option Listed). IfSome o (λ r. FitsRow r.parameters r.last row.words)) (sym same) is.fits
 
 -- 6. Words are in one row at most.
 
-abbrev small : Place → Bool
+abbrev small : Parameter → Bool
 small (Number least most) = nat_lt most (2 ^ 64)
-small place = true
+small parameter = true
 
-abbrev all_small : List Place → Bool
+abbrev all_small : List Parameter → Bool
 all_small [] = true
-all_small (place ∷ places) = cond (small place) (all_small places) false
+all_small (parameter ∷ parameters) = cond (small parameter) (all_small parameters) false
 
 abbrev small_last : Last → Bool
-small_last (Perhaps place) = small place
+small_last (Perhaps parameter) = small parameter
 small_last last = true
 
 abbrev is_small : Listed → Bool
-is_small row = cond (all_small row.places) (small_last row.last) false
+is_small row = cond (all_small row.parameters) (small_last row.last) false
 
 table_small : each is_small table ≡ true
 table_small = refl
@@ -211,7 +211,7 @@ first_text t u a b same = cc
 second_text : (s t u v : List ℕ) (a b : List (List ℕ)) → s ∷ t ∷ a ≡ u ∷ v ∷ b → t ≡ v
 second_text s t u v a b same = cc
 
-one_word : (p : Place) (v w : Word) (a b : List (List ℕ)) → small p ≡ true → FitsPlace p v → FitsPlace p w → text_list v ++ a ≡ text_list w ++ b → v ≡ w
+one_word : (p : Parameter) (v w : Word) (a b : List (List ℕ)) → small p ≡ true → FitsParameter p v → FitsParameter p w → text_list v ++ a ≡ text_list w ++ b → v ≡ w
 one_word (File k) (file_word l n) (file_word m o) a b few one two same = let names = first_text n o a b same in cc
 one_word (File k) (file_word l n) w a b few one two same = absurd two
 one_word (Number least most) (number_word n) (number_word m) a b few one two same =
@@ -257,7 +257,7 @@ one_last (Several k most) vs ws few one two same =
     let names : one.0 ≡ two.0 = sym (names_spelled k one.0) ∙ sym (ap spelled one.1) ∙ same ∙ ap spelled two.1 ∙ names_spelled k two.0 in
     one.1 ∙ ap (map (file_word k)) names ∙ sym two.1
 
-one_row_of : (ps : List Place) (last : Last) (vs ws : List Word) → all_small ps ≡ true → small_last last ≡ true → FitsRow ps last vs → FitsRow ps last ws → spelled vs ≡ spelled ws → vs ≡ ws
+one_row_of : (ps : List Parameter) (last : Last) (vs ws : List Word) → all_small ps ≡ true → small_last last ≡ true → FitsRow ps last vs → FitsRow ps last ws → spelled vs ≡ spelled ws → vs ≡ ws
 one_row_of [] last vs ws few least one two same = one_last last vs ws least one two same
 one_row_of (p ∷ ps) last [] ws few least one two same = absurd one
 one_row_of (p ∷ ps) last (v ∷ vs) [] few least one two same = absurd two
@@ -275,15 +275,15 @@ one_row words a b one two =
     let names : d.name ≡ e.name = cc (one.said, two.said) in
     let rows : d ≡ e = one_named one.in_table.number two.in_table.number d e one.in_table.at two.in_table.at names in
     let texts : spelled a.words ≡ spelled b.words = cc (one.said, two.said) in
-    let (few, least) = both (all_small d.places) (small_last d.last) (at_each is_small table one.in_table.number d table_small one.in_table.at) in
-    let fits : FitsRow d.places d.last b.words = subst (λ (l : Listed). FitsRow l.places l.last b.words) (sym rows) two.in_table.fits in
-    let words_same : a.words ≡ b.words = one_row_of d.places d.last a.words b.words few least one.in_table.fits fits texts in
+    let (few, least) = both (all_small d.parameters) (small_last d.last) (at_each is_small table one.in_table.number d table_small one.in_table.at) in
+    let fits : FitsRow d.parameters d.last b.words = subst (λ (l : Listed). FitsRow l.parameters l.last b.words) (sym rows) two.in_table.fits in
+    let words_same : a.words ≡ b.words = one_row_of d.parameters d.last a.words b.words few least one.in_table.fits fits texts in
     let commands : a.command ≡ b.command = sym one.in_table.command ∙ ap (λ (l : Listed). l.command) rows ∙ two.in_table.command in
     ap (λ (c : Command). record { command = c; words = a.words }) commands ∙ ap (λ (ws : List Word). record { command = b.command; words = ws }) words_same
 
 -- what was read for a row of the table is what the words of its command say
 pub as_said : (number : ℕ) (row : Listed) (words : List Read) → slice_get table number ≡ Some row
-    → AreOfRow row.places row.last words → spoken words ≡ said row.command words
+    → AreOfRow row.parameters row.last words → spoken words ≡ said row.command words
 as_said number row words at are =
     let found : row_for row.command ≡ Some row = found_in table number row table_commands at in
-    said_row row.places row.last words are ∙ ap (λ (o : Option Listed). said_by o words) (sym found)
+    said_row row.parameters row.last words are ∙ ap (λ (o : Option Listed). said_by o words) (sym found)

@@ -3,16 +3,16 @@ use Rattle.std.proofs.Common.{◌≡◌, ℕ, suc, ◌≤◌, List, [], ◌∷�
 use Rattle.std.specs.declared.alloc.Global.{Global}
 use Rattle.std.proofs.lemmas.List.{length-map}
 use Rattle.mm_cli.specs.declared.table.Kind.{Kind}
-use Rattle.mm_cli.specs.declared.table.Place.{Place}
-use Rattle.mm_cli.specs.declared.table.Place.TheVariants.{File, Number, Groups, Mode, Range, Address, Use}
+use Rattle.mm_cli.specs.declared.table.Parameter.{Parameter}
+use Rattle.mm_cli.specs.declared.table.Parameter.TheVariants.{File, Number, Groups, Mode, Range, Address, Use}
 use Rattle.mm_cli.specs.declared.table.Last.{Last}
 use Rattle.mm_cli.specs.declared.table.Last.TheVariants.{Nothing, Perhaps, Several}
 use Rattle.mm_cli.specs.declared.words.Word.{Word as Read}
 use Rattle.mm_cli.specs.declared.words.Word.TheVariants as read
-use Rattle.mm_cli.specs.Words.{Word, file_word, spoken, texts, words_of, FitsLast, IsOfPlace, AreOfLast, AreOfRow}
+use Rattle.mm_cli.specs.Words.{Word, file_word, spoken, texts, words_of, FitsLast, IsOfParameter, AreOfLast, AreOfRow}
 use Rattle.mm_cli.specs.Said.{said_at, said_last, said_from}
 
-word_said : (place : Place) (word : Read) → IsOfPlace place word → words_of word ≡ said_at place (Some word) ∷ []
+word_said : (parameter : Parameter) (word : Read) → IsOfParameter parameter word → words_of word ≡ said_at parameter (Some word) ∷ []
 word_said (File kind) (read.File other name) same = ap (λ (k : Kind). file_word k name.now ∷ []) same
 word_said (Number least most) (read.Number n) fits = refl
 word_said Groups (read.Groups groups) fits = refl
@@ -20,14 +20,14 @@ word_said Mode (read.Mode split) fits = refl
 word_said Range (read.Range base log) fits = refl
 word_said Address (read.Number n) fits = refl
 word_said Use (read.Use write) fits = refl
-word_said place word is = absurd is
+word_said parameter word is = absurd is
 
-none_said : (place : Place) → [] ≡ said_last (Perhaps place) None
+none_said : (parameter : Parameter) → [] ≡ said_last (Perhaps parameter) None
 none_said (File kind) = refl
 none_said Groups = refl
-none_said place = refl
+none_said parameter = refl
 
-one_said : (place : Place) (word : Read) → IsOfPlace place word → spoken (word ∷ []) ≡ said_last (Perhaps place) (Some word)
+one_said : (parameter : Parameter) (word : Read) → IsOfParameter parameter word → spoken (word ∷ []) ≡ said_last (Perhaps parameter) (Some word)
 one_said (File kind) (read.File other name) same = ap (λ (k : Kind). file_word k name.now ∷ []) same
 one_said Groups (read.Groups groups) fits = refl
 one_said (Number least most) (read.Number n) fits = refl
@@ -35,32 +35,32 @@ one_said Mode (read.Mode split) fits = refl
 one_said Range (read.Range base log) fits = refl
 one_said Address (read.Number n) fits = refl
 one_said Use (read.Use write) fits = refl
-one_said place word is = absurd is
+one_said parameter word is = absurd is
 
 last_said : (last : Last) (words : List Read) → AreOfLast last words → spoken words ≡ said_last last (slice_get words 0)
 last_said Nothing [] are = refl
-last_said (Perhaps place) [] are = none_said place
-last_said (Perhaps place) (word ∷ []) is = one_said place word is
-last_said (Perhaps place) (word ∷ other ∷ words) are = absurd are
+last_said (Perhaps parameter) [] are = none_said parameter
+last_said (Perhaps parameter) (word ∷ []) is = one_said parameter word is
+last_said (Perhaps parameter) (word ∷ other ∷ words) are = absurd are
 last_said (Several kind most) (read.Files other names ∷ []) are =
     append-nil (map (file_word other) (texts names.now)) ∙ ap (λ (k : Kind). map (file_word k) (texts names.now)) are.0
 last_said last words are = absurd are
 
--- places after the first
-after_first : (places : List Place) (last : Last) (at : ℕ) (word : Read) (words : List Read)
-    → said_from places last (suc at) (word ∷ words) ≡ said_from places last at words
+-- parameters after the first
+after_first : (parameters : List Parameter) (last : Last) (at : ℕ) (word : Read) (words : List Read)
+    → said_from parameters last (suc at) (word ∷ words) ≡ said_from parameters last at words
 after_first [] last at word words = refl
-after_first (place ∷ places) last at word words =
-    ap (λ (ws : List Word). said_at place (slice_get words at) ∷ ws) (after_first places last (suc at) word words)
+after_first (parameter ∷ parameters) last at word words =
+    ap (λ (ws : List Word). said_at parameter (slice_get words at) ∷ ws) (after_first parameters last (suc at) word words)
 
-pub said_row : (places : List Place) (last : Last) (words : List Read) → AreOfRow places last words
-    → spoken words ≡ said_from places last 0 words
+pub said_row : (parameters : List Parameter) (last : Last) (words : List Read) → AreOfRow parameters last words
+    → spoken words ≡ said_from parameters last 0 words
 said_row [] last words are = last_said last words are
-said_row (place ∷ places) last [] are = absurd are
-said_row (place ∷ places) last (word ∷ words) are =
-    ap (λ (ws : List Word). ws ++ spoken words) (word_said place word are.0)
-    ∙ ap (λ (ws : List Word). said_at place (Some word) ∷ ws) (said_row places last words are.1)
-    ∙ ap (λ (ws : List Word). said_at place (Some word) ∷ ws) (sym (after_first places last 0 word words))
+said_row (parameter ∷ parameters) last [] are = absurd are
+said_row (parameter ∷ parameters) last (word ∷ words) are =
+    ap (λ (ws : List Word). ws ++ spoken words) (word_said parameter word are.0)
+    ∙ ap (λ (ws : List Word). said_at parameter (Some word) ∷ ws) (said_row parameters last words are.1)
+    ∙ ap (λ (ws : List Word). said_at parameter (Some word) ∷ ws) (sym (after_first parameters last 0 word words))
 
 -- as many files are named as there may be
 pub named_few : (kind : Kind) (most : ℕ) (names : List (String Global))

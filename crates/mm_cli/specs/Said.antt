@@ -1,9 +1,9 @@
--- What the words of a command say, place by place.
+-- What the words of a command say, parameter by parameter.
 use Rattle.std.specs.Prelude.{ℕ, suc, Bool, false, List, [], ◌∷◌, map, slice_get, String, Option, None, Some}
 use Rattle.std.specs.declared.alloc.Global.{Global}
 use Rattle.mm_cli.specs.declared.table.Command.{Command}
-use Rattle.mm_cli.specs.declared.table.Place.{Place}
-use Rattle.mm_cli.specs.declared.table.Place.TheVariants.{File, Number, Groups, Mode, Range, Address, Use}
+use Rattle.mm_cli.specs.declared.table.Parameter.{Parameter}
+use Rattle.mm_cli.specs.declared.table.Parameter.TheVariants.{File, Number, Groups, Mode, Range, Address, Use}
 use Rattle.mm_cli.specs.declared.table.Last.{Last}
 use Rattle.mm_cli.specs.declared.table.Last.TheVariants.{Nothing, Perhaps, Several}
 use Rattle.mm_cli.specs.declared.words.Word.{Word as Read}
@@ -52,8 +52,8 @@ use_of _ = false
 
 -- 2. What all words of a row say.
 
--- what the word in a place says
-abbrev pub said_at : Place → Option Read → Word
+-- what the word of a parameter says
+abbrev pub said_at : Parameter → Option Read → Word
 said_at (File kind) word = file_word kind (name_of word)
 said_at (Number least most) word = number_word (number_of word)
 said_at Groups word = groups_word (groups_of word)
@@ -67,18 +67,18 @@ abbrev pub said_last : Last → Option Read → List Word
 said_last Nothing word = []
 said_last (Perhaps (File kind)) word = perhaps (file_word kind) (name_perhaps_of word)
 said_last (Perhaps Groups) word = perhaps groups_word (groups_perhaps_of word)
-said_last (Perhaps place) None = []
-said_last (Perhaps place) (Some word) = said_at place (Some word) ∷ []
+said_last (Perhaps parameter) None = []
+said_last (Perhaps parameter) (Some word) = said_at parameter (Some word) ∷ []
 said_last (Several kind most) word = map (file_word kind) (texts (names_of word))
 
--- what the words in the places from `at` on say, and then the last words
-abbrev pub said_from : List Place → Last → (at : ℕ) → List Read → List Word
+-- what the words of the parameters from `at` on say, and then the last words
+abbrev pub said_from : List Parameter → Last → (at : ℕ) → List Read → List Word
 said_from [] last at words = said_last last (slice_get words at)
-said_from (place ∷ places) last at words = said_at place (slice_get words at) ∷ said_from places last (suc at) words
+said_from (parameter ∷ parameters) last at words = said_at parameter (slice_get words at) ∷ said_from parameters last (suc at) words
 
 abbrev pub said_by : Option Listed → List Read → List Word
 said_by None words = []
-said_by (Some row) words = said_from row.places row.last 0 words
+said_by (Some row) words = said_from row.parameters row.last 0 words
 
 -- what the words of a command say
 abbrev pub said : Command → List Read → List Word

@@ -9,24 +9,24 @@ use Rattle.mm_cli.specs.declared.table.Command.{Command}
 use Rattle.mm_cli.specs.declared.table.Command.TheVariants.{Debug}
 use Rattle.mm_cli.specs.declared.table.Kind.{Kind}
 use Rattle.mm_cli.specs.declared.table.Kind.TheVariants as kind
-use Rattle.mm_cli.specs.declared.table.Place.{Place}
+use Rattle.mm_cli.specs.declared.table.Parameter.{Parameter}
 use Rattle.mm_cli.specs.declared.table.Last.{Last}
 use Rattle.mm_cli.specs.Words.{Word, FitsRow, files_in, spelled}
 
--- A row of the table of src/table.rt: the command's name, the command, the places after the name, and what comes after
--- these places.
+-- A row of the table of src/table.rt: the command's name, the command, the parameters after the name, and what comes after
+-- these parameters.
 pub record Listed : Type 0 where
   pub name : List ℕ
   pub command : Command
-  pub places : List Place
+  pub parameters : List Parameter
   pub last : Last
 
 -- a row of src/table.rt as a record
-abbrev pub listed : Bor (List ℕ) × Command × Bor (List Place) × Last → Listed
-listed row = record { name = row.0.now; command = row.1; places = row.2.now; last = row.3 }
+abbrev pub listed : Bor (List ℕ) × Command × Bor (List Parameter) × Last → Listed
+listed row = record { name = row.0.now; command = row.1; parameters = row.2.now; last = row.3 }
 
 abbrev pub table : List Listed
-table = map (λ row. record { name = row.0.now; command = row.1; places = row.2.now; last = row.3 }) TABLE
+table = map (λ row. record { name = row.0.now; command = row.1; parameters = row.2.now; last = row.3 }) TABLE
 
 -- no row has this name
 abbrev pub NoneIsNamed : List ℕ → Type 0
@@ -51,11 +51,11 @@ pub record IsInTable (row : Row) : Type 0 where
   pub listed : Listed
   pub at : slice_get table number ≡ Some listed
   pub command : listed.command ≡ row.command
-  pub fits : FitsRow listed.places listed.last row.words
+  pub fits : FitsRow listed.parameters listed.last row.words
 
 -- words fit in the row of a command
 abbrev pub Fits : Command → List Word → Type 0
-Fits command words = IfSome (row_for command) (λ row. FitsRow row.places row.last words)
+Fits command words = IfSome (row_for command) (λ row. FitsRow row.parameters row.last words)
 
 -- The words ask for a row: they are the name of its command, and after that its words.
 pub record Asks (words : List (List ℕ)) (row : Row) : Type 0 where

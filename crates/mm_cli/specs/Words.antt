@@ -6,8 +6,8 @@ use Rattle.std.specs.declared.alloc.Global.{Global}
 use Rattle.mm_model.specs.Audit.{groups_text}
 use Rattle.mm_cli.specs.GroupList.{AreGroups}
 use Rattle.mm_cli.specs.declared.table.Kind.{Kind}
-use Rattle.mm_cli.specs.declared.table.Place.{Place}
-use Rattle.mm_cli.specs.declared.table.Place.TheVariants.{File, Number, Groups, Mode, Range, Address, Use}
+use Rattle.mm_cli.specs.declared.table.Parameter.{Parameter}
+use Rattle.mm_cli.specs.declared.table.Parameter.TheVariants.{File, Number, Groups, Mode, Range, Address, Use}
 use Rattle.mm_cli.specs.declared.words.Word.{Word as Read}
 use Rattle.mm_cli.specs.declared.words.Word.TheVariants as read
 use Rattle.mm_cli.specs.declared.table.Last.{Last}
@@ -75,31 +75,31 @@ IsRange base log = (base ≤ 2 ^ 54 - 1) × (3 ≤ log) × (log ≤ 54) × (base
 abbrev pub IsWordAddress : ℕ → Type 0
 IsWordAddress n = (n % 8 ≡ 0) × (n < 2 ^ 54)
 
--- the word fits in the place
-abbrev pub FitsPlace : Place → Word → Type 0
-FitsPlace (File kind) (file_word other name) = other ≡ kind
-FitsPlace (Number least most) (number_word n) = (least ≤ n) × (n ≤ most)
-FitsPlace Groups (groups_word groups) = AreGroups groups
-FitsPlace Mode (mode_word split) = ⊤
-FitsPlace Range (range_word base log) = IsRange base log
-FitsPlace Address (number_word n) = IsWordAddress n
-FitsPlace Use (use_word write) = ⊤
-FitsPlace _ _ = ⊥
+-- the word fits in the parameter
+abbrev pub FitsParameter : Parameter → Word → Type 0
+FitsParameter (File kind) (file_word other name) = other ≡ kind
+FitsParameter (Number least most) (number_word n) = (least ≤ n) × (n ≤ most)
+FitsParameter Groups (groups_word groups) = AreGroups groups
+FitsParameter Mode (mode_word split) = ⊤
+FitsParameter Range (range_word base log) = IsRange base log
+FitsParameter Address (number_word n) = IsWordAddress n
+FitsParameter Use (use_word write) = ⊤
+FitsParameter _ _ = ⊥
 
--- the words fit in what comes after the places of a row
+-- the words fit in what comes after the parameters of a row
 abbrev pub FitsLast : Last → List Word → Type 0
 FitsLast Nothing [] = ⊤
-FitsLast (Perhaps place) [] = ⊤
-FitsLast (Perhaps place) (word ∷ []) = FitsPlace place word
+FitsLast (Perhaps parameter) [] = ⊤
+FitsLast (Perhaps parameter) (word ∷ []) = FitsParameter parameter word
 FitsLast (Several kind most) words =
     (names : List (List ℕ)) × (words ≡ map (file_word kind) names) × (1 ≤ length names) × (length names ≤ most)
 FitsLast _ _ = ⊥
 
--- the words fit in the places, and then in what comes after them
-abbrev pub FitsRow : List Place → Last → List Word → Type 0
+-- the words fit in the parameters, and then in what comes after them
+abbrev pub FitsRow : List Parameter → Last → List Word → Type 0
 FitsRow [] last words = FitsLast last words
-FitsRow (place ∷ places) last (word ∷ words) = FitsPlace place word × FitsRow places last words
-FitsRow (place ∷ places) last [] = ⊥
+FitsRow (parameter ∷ parameters) last (word ∷ words) = FitsParameter parameter word × FitsRow parameters last words
+FitsRow (parameter ∷ parameters) last [] = ⊥
 
 -- 3. The words of a command line.
 
@@ -120,36 +120,36 @@ abbrev pub spoken : List Read → List Word
 spoken [] = []
 spoken (word ∷ words) = words_of word ++ spoken words
 
--- the most words that are read for what comes after the places of a row
+-- the most words that are read for what comes after the parameters of a row
 abbrev pub room : Last → ℕ
 room Nothing = 0
-room (Perhaps place) = 1
+room (Perhaps parameter) = 1
 room (Several kind most) = 1
 
--- 4. Words as they are read, place by place.
+-- 4. Words as they are read, parameter by parameter.
 
--- the word that was read has the variant of the place, and is in its range
-abbrev pub IsOfPlace : Place → Read → Type 0
-IsOfPlace (File kind) (read.File other name) = other ≡ kind
-IsOfPlace (Number least most) (read.Number n) = (least ≤ n) × (n ≤ most)
-IsOfPlace Groups (read.Groups groups) = AreGroups groups.items
-IsOfPlace Mode (read.Mode split) = ⊤
-IsOfPlace Range (read.Range base log) = IsRange base log
-IsOfPlace Address (read.Number n) = IsWordAddress n
-IsOfPlace Use (read.Use write) = ⊤
-IsOfPlace _ _ = ⊥
+-- the word that was read has the variant of the parameter, and is in its range
+abbrev pub IsOfParameter : Parameter → Read → Type 0
+IsOfParameter (File kind) (read.File other name) = other ≡ kind
+IsOfParameter (Number least most) (read.Number n) = (least ≤ n) × (n ≤ most)
+IsOfParameter Groups (read.Groups groups) = AreGroups groups.items
+IsOfParameter Mode (read.Mode split) = ⊤
+IsOfParameter Range (read.Range base log) = IsRange base log
+IsOfParameter Address (read.Number n) = IsWordAddress n
+IsOfParameter Use (read.Use write) = ⊤
+IsOfParameter _ _ = ⊥
 
--- at most one word was read for what comes after the places of a row: several files are one word
+-- at most one word was read for what comes after the parameters of a row: several files are one word
 abbrev pub AreOfLast : Last → List Read → Type 0
 AreOfLast Nothing [] = ⊤
-AreOfLast (Perhaps place) [] = ⊤
-AreOfLast (Perhaps place) (word ∷ []) = IsOfPlace place word
+AreOfLast (Perhaps parameter) [] = ⊤
+AreOfLast (Perhaps parameter) (word ∷ []) = IsOfParameter parameter word
 AreOfLast (Several kind most) (read.Files other names ∷ []) = (other ≡ kind) × (1 ≤ length names.now)
     × (length names.now ≤ most)
 AreOfLast _ _ = ⊥
 
--- one word was read for each place, and then at most one for what comes after them
-abbrev pub AreOfRow : List Place → Last → List Read → Type 0
+-- one word was read for each parameter, and then at most one for what comes after them
+abbrev pub AreOfRow : List Parameter → Last → List Read → Type 0
 AreOfRow [] last words = AreOfLast last words
-AreOfRow (place ∷ places) last (word ∷ words) = IsOfPlace place word × AreOfRow places last words
-AreOfRow (place ∷ places) last [] = ⊥
+AreOfRow (parameter ∷ parameters) last (word ∷ words) = IsOfParameter parameter word × AreOfRow parameters last words
+AreOfRow (parameter ∷ parameters) last [] = ⊥

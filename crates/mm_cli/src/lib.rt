@@ -12,5 +12,5 @@ pub use said::{
     groups_at, groups_perhaps_at, mode_at, name_at, name_perhaps_at, names_at, number_at, range_at,
     use_at,
 };
-pub use table::{Command, Kind, Last, Listed, Place, TABLE};
+pub use table::{Command, Kind, Last, Listed, Parameter, TABLE};
 pub use words::Word;

@@ -8,8 +8,8 @@ ghost use Rattle.mm_cli.specs.Words.{texts};
 ghost use Rattle.mm_cli.specs.Table.{InNoRow, Asks, NoneIsNamed, listed, table};
 ghost use Rattle.mm_cli.specs.Asked.{row_of};
 
-use crate::table::{Command, Last, Listed, Place, TABLE};
-use crate::words::{Word, read_place};
+use crate::table::{Command, Last, Listed, Parameter, TABLE};
+use crate::words::{Word, read_parameter};
 use arrayvec::ArrayVec;
 
 /// The most words that are read for a row. Several files count as one word.
@@ -59,17 +59,21 @@ fn row_at(number: usize) -> &'static Listed<'static>
     &TABLE[number]
 }
 
-/// Reads all words by the places of a row and by what comes after these places.
-fn read_row<'a>(places: &[Place], last: Last, words: &'a [String]) -> Option<ArrayVec<Word<'a>, 4>>
-    requires { length places.now + room last ≤ 4 }
-    ensures { MatchOption result ((said : List Spoken) → FitsRow places.now last said → texts words.now ≢ spelled said)
-        (λ read. AreOfRow places.now last read.items × FitsRow places.now last (spoken read.items)
+/// Reads all words by the parameters of a row and by what comes after these parameters.
+fn read_row<'a>(
+    parameters: &[Parameter],
+    last: Last,
+    words: &'a [String],
+) -> Option<ArrayVec<Word<'a>, 4>>
+    requires { length parameters.now + room last ≤ 4 }
+    ensures { MatchOption result ((said : List Spoken) → FitsRow parameters.now last said → texts words.now ≢ spelled said)
+        (λ read. AreOfRow parameters.now last read.items × FitsRow parameters.now last (spoken read.items)
         × (texts words.now ≡ spelled (spoken read.items))) }
 {
     let mut read = ArrayVec::new();
     let mut rest = words;
-    for place in places {
-        let (word, after) = read_place(*place, rest)?;
+    for parameter in parameters {
+        let (word, after) = read_parameter(*parameter, rest)?;
         read.push(word);
         rest = after;
     }
@@ -77,7 +81,7 @@ fn read_row<'a>(places: &[Place], last: Last, words: &'a [String]) -> Option<Arr
     Some(read)
 }
 
-/// Reads all words by what comes after the places of a row, and appends what they say.
+/// Reads all words by what comes after the parameters of a row, and appends what they say.
 fn push_last<'a>(read: &mut ArrayVec<Word<'a>, 4>, last: Last, words: &'a [String]) -> Option<()>
     requires { array_vec_len read.old + room last ≤ 4 }
     ensures some { IsSome result → (more : List Read) × AreOfLast last more × (read.new.items ≡ read.old.items ++ more)
@@ -90,9 +94,9 @@ fn push_last<'a>(read: &mut ArrayVec<Word<'a>, 4>, last: Last, words: &'a [Strin
                 return None;
             }
         }
-        Last::Perhaps(place) => {
+        Last::Perhaps(parameter) => {
             if !words.is_empty() {
-                let (word, after) = read_place(place, words)?;
+                let (word, after) = read_parameter(parameter, words)?;
                 if !after.is_empty() {
                     return None;
                 }

@@ -1,4 +1,4 @@
-//! What the words of a command say, place by place.
+//! What the words of a command say, parameter by parameter.
 ghost use Rattle.std.specs.Prelude.{◌≡◌, slice_get};
 ghost use Rattle.std.specs.Option.{option_map};
 ghost use Rattle.mm_cli.specs.Said.{name_of, name_perhaps_of, names_of, number_of, groups_of, groups_perhaps_of};
@@ -6,7 +6,7 @@ ghost use Rattle.mm_cli.specs.Said.{mode_of, range_of, use_of};
 
 use crate::words::Word;
 
-/// The name of the file in a place; empty if no file is there.
+/// The name of the file of a parameter; empty if it has none.
 pub fn name_at<'a>(words: &[Word<'a>], at: usize) -> &'a str
     ensures { result.now ≡ name_of (slice_get words.now at) }
 {
@@ -16,7 +16,7 @@ pub fn name_at<'a>(words: &[Word<'a>], at: usize) -> &'a str
     }
 }
 
-/// The name of the file in a place, if one is there.
+/// The name of the file of a parameter, if it has one.
 pub fn name_perhaps_at<'a>(words: &[Word<'a>], at: usize) -> Option<&'a str>
     ensures { option_map (λ name. name.now) result ≡ name_perhaps_of (slice_get words.now at) }
 {
@@ -26,7 +26,7 @@ pub fn name_perhaps_at<'a>(words: &[Word<'a>], at: usize) -> Option<&'a str>
     }
 }
 
-/// The names of the files in a place; none if no files are there.
+/// The names of the files of a parameter; none if it has none.
 pub fn names_at<'a>(words: &[Word<'a>], at: usize) -> &'a [String]
     ensures { result.now ≡ names_of (slice_get words.now at) }
 {
@@ -36,7 +36,7 @@ pub fn names_at<'a>(words: &[Word<'a>], at: usize) -> &'a [String]
     }
 }
 
-/// The number or address in a place; zero if none is there.
+/// The number or address of a parameter; zero if it has none.
 pub fn number_at(words: &[Word<'_>], at: usize) -> u64
     ensures { result ≡ number_of (slice_get words.now at) }
 {
@@ -46,7 +46,7 @@ pub fn number_at(words: &[Word<'_>], at: usize) -> u64
     }
 }
 
-/// The groups in a place; none if no groups are there.
+/// The groups of a parameter; none if it has none.
 pub fn groups_at<'a>(words: &'a [Word<'_>], at: usize) -> &'a [u8]
     ensures { result.now ≡ groups_of (slice_get words.now at) }
 {
@@ -56,7 +56,7 @@ pub fn groups_at<'a>(words: &'a [Word<'_>], at: usize) -> &'a [u8]
     }
 }
 
-/// The groups in a place, if they are there.
+/// The groups of a parameter, if it has any.
 pub fn groups_perhaps_at<'a>(words: &'a [Word<'_>], at: usize) -> Option<&'a [u8]>
     ensures { option_map (λ groups. groups.now) result ≡ groups_perhaps_of (slice_get words.now at) }
 {
@@ -66,7 +66,7 @@ pub fn groups_perhaps_at<'a>(words: &'a [Word<'_>], at: usize) -> Option<&'a [u8
     }
 }
 
-/// Whether the mode in a place says that loads are split. `false` if no mode is there.
+/// Whether the mode of a parameter says that loads are split. `false` if it has none.
 pub fn mode_at(words: &[Word<'_>], at: usize) -> bool
     ensures { result ≡ mode_of (slice_get words.now at) }
 {
@@ -76,7 +76,7 @@ pub fn mode_at(words: &[Word<'_>], at: usize) -> bool
     }
 }
 
-/// The range in a place: its base and the logarithm of its length. Zeros if no range is there.
+/// The range of a parameter: its base and the logarithm of its length. Zeros if it has none.
 pub fn range_at(words: &[Word<'_>], at: usize) -> (u64, u8)
     ensures { (result.0, result.1) ≡ range_of (slice_get words.now at) }
 {
@@ -86,7 +86,7 @@ pub fn range_at(words: &[Word<'_>], at: usize) -> (u64, u8)
     }
 }
 
-/// Whether the use in a place is a write. `false` if no use is there.
+/// Whether the use of a parameter is a write. `false` if it has none.
 pub fn use_at(words: &[Word<'_>], at: usize) -> bool
     ensures { result ≡ use_of (slice_get words.now at) }
 {

@@ -1,5 +1,7 @@
 //! The table of commands. The program's contracts refer to this table.
 
+use mm_model::CYCLE_LIMIT;
+
 #[derive(Clone, Copy)]
 pub enum Command {
     Run,
@@ -39,9 +41,9 @@ pub enum Kind {
     Text,
 }
 
-/// What one place of a row takes.
+/// What one parameter of a row takes.
 #[derive(Clone, Copy)]
-pub enum Place {
+pub enum Parameter {
     /// The name of a file of a kind.
     File(Kind),
     /// A number in decimal digits.
@@ -58,66 +60,66 @@ pub enum Place {
     Use,
 }
 
-/// What comes after the places of a row.
+/// What comes after the parameters of a row.
 #[derive(Clone, Copy)]
 pub enum Last {
     Nothing,
-    /// One place, or nothing.
-    Perhaps(Place),
+    /// One parameter, or nothing.
+    Perhaps(Parameter),
     /// The names of one or more files of a kind, up to `most`.
     Several { kind: Kind, most: usize },
 }
 
-/// A row of the table: the command's name, the command, the places after the name, and what comes after these places.
-pub type Listed<'a> = (&'a str, Command, &'a [Place], Last);
+/// A row of the table: the command's name, the command, the parameters after the name, and what comes after these parameters.
+pub type Listed<'a> = (&'a str, Command, &'a [Parameter], Last);
 
-const IMAGE: Place = Place::File(Kind::Image);
+const IMAGE: Parameter = Parameter::File(Kind::Image);
 
-const SCHEDULE: Place = Place::File(Kind::Schedule);
+const SCHEDULE: Parameter = Parameter::File(Kind::Schedule);
 
-const SOURCE: Place = Place::File(Kind::Source);
+const SOURCE: Parameter = Parameter::File(Kind::Source);
 
-const OBJECT: Place = Place::File(Kind::Object);
+const OBJECT: Parameter = Parameter::File(Kind::Object);
 
-const CHECKPOINT: Place = Place::File(Kind::Checkpoint);
+const CHECKPOINT: Parameter = Parameter::File(Kind::Checkpoint);
 
-const LINKS: Place = Place::File(Kind::Links);
+const LINKS: Parameter = Parameter::File(Kind::Links);
 
-const EVENTS: Place = Place::File(Kind::Events);
+const EVENTS: Parameter = Parameter::File(Kind::Events);
 
-const GROUPS: Place = Place::Groups;
+const GROUPS: Parameter = Parameter::Groups;
 
-const MODE: Place = Place::Mode;
+const MODE: Parameter = Parameter::Mode;
 
-const RANGE: Place = Place::Range;
+const RANGE: Parameter = Parameter::Range;
 
-const ADDRESS: Place = Place::Address;
+const ADDRESS: Parameter = Parameter::Address;
 
-const USE: Place = Place::Use;
+const USE: Parameter = Parameter::Use;
 
 /// One group.
-const GROUP: Place = Place::Number { least: 0, most: 63 };
+const GROUP: Parameter = Parameter::Number { least: 0, most: 63 };
 
 /// The number of cycles.
-const CYCLES: Place = Place::Number {
+const CYCLES: Parameter = Parameter::Number {
     least: 0,
-    most: 1_000_000,
+    most: CYCLE_LIMIT,
 };
 
 /// The most configurations that are looked at.
-const STATES: Place = Place::Number {
+const STATES: Parameter = Parameter::Number {
     least: 1,
     most: 1_000_000,
 };
 
 /// The number from which an image is generated.
-const SEED: Place = Place::Number {
+const SEED: Parameter = Parameter::Number {
     least: 0,
     most: u64::MAX,
 };
 
 /// The number of slots of a generated image.
-const SIZE: Place = Place::Number { least: 1, most: 16 };
+const SIZE: Parameter = Parameter::Number { least: 1, most: 16 };
 
 const OBJECTS: Last = Last::Several {
     kind: Kind::Object,

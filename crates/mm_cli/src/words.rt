@@ -1,15 +1,15 @@
 //! What the words of the command line say.
 ghost use Rattle.std.specs.Prelude.{◌≡◌, ◌≢◌, ◌≤◌, ◌++◌, ◌∷◌, [], ℕ, Bool, List, MatchOption, decimal, string_bytes};
-ghost use Rattle.mm_cli.specs.Words.{Word as Spoken, FitsPlace, IsOfPlace, IsRange, IsWordAddress, range_word};
+ghost use Rattle.mm_cli.specs.Words.{Word as Spoken, FitsParameter, IsOfParameter, IsRange, IsWordAddress, range_word};
 ghost use Rattle.mm_cli.specs.Words.{mode_text};
 ghost use Rattle.mm_cli.specs.Words.{use_text, text_list, texts, words_of};
 
 use crate::groups::read_groups;
-use crate::table::{Kind, Place};
+use crate::table::{Kind, Parameter};
 use arrayvec::ArrayVec;
 use mm_sched::number;
 
-/// What the words in a place of a row say.
+/// What the words in a parameter of a row say.
 #[derive(Drop)]
 pub enum Word<'a> {
     /// The name of a file of a kind.
@@ -32,21 +32,24 @@ impl Default for Word<'_> {
     }
 }
 
-/// Reads the first word by a place, or the first two words if the place is a range. Gives what they say, and the words
+/// Reads the first word by a parameter, or the first two words if the parameter is a range. Gives what they say, and the words
 /// after them.
-pub fn read_place<'a>(place: Place, words: &'a [String]) -> Option<(Word<'a>, &'a [String])>
+pub fn read_parameter<'a>(
+    parameter: Parameter,
+    words: &'a [String],
+) -> Option<(Word<'a>, &'a [String])>
     ensures { MatchOption result
-        ((word : Spoken) (after : List (List ℕ)) → FitsPlace place word → texts words.now ≢ text_list word ++ after)
-        (λ read. (word : Spoken) × IsOfPlace place read.0 × (words_of read.0 ≡ word ∷ []) × FitsPlace place word
+        ((word : Spoken) (after : List (List ℕ)) → FitsParameter parameter word → texts words.now ≢ text_list word ++ after)
+        (λ read. (word : Spoken) × IsOfParameter parameter read.0 × (words_of read.0 ≡ word ∷ []) × FitsParameter parameter word
         × (texts words.now ≡ text_list word ++ texts read.1.now)) }
 {
-    if let Place::Range = place {
+    if let Parameter::Range = parameter {
         return read_range_place(words);
     }
     let [word, after @ ..] = words else {
         return None;
     };
-    Some((read_word(place, word)?, after))
+    Some((read_word(parameter, word)?, after))
 }
 
 /// Reads a range of addresses from the first two words. Gives the range, and the words after them.
@@ -54,7 +57,7 @@ fn read_range_place(words: &[String]) -> Option<(Word<'_>, &[String])>
     ensures { MatchOption result
         ((first width : ℕ) (after : List (List ℕ)) → IsRange first width → texts words.now ≢ decimal first
         ∷ decimal width ∷ after)
-        (λ read. (first : ℕ) × (width : ℕ) × IsOfPlace Place.Range read.0
+        (λ read. (first : ℕ) × (width : ℕ) × IsOfParameter Parameter.Range read.0
         × (words_of read.0 ≡ range_word first width ∷ []) × IsRange first width
         × (texts words.now ≡ decimal first ∷ decimal width ∷ texts read.1.now)) }
 {
@@ -65,29 +68,29 @@ fn read_range_place(words: &[String]) -> Option<(Word<'_>, &[String])>
     Some((Word::Range { base, log }, after))
 }
 
-/// Reads one word by a place. `None` if the place is a range, which takes two words.
-fn read_word(place: Place, word: &String) -> Option<Word<'_>>
-    ensures { MatchOption result ((said : Spoken) → FitsPlace place said → string_bytes word.now ∷ [] ≢ text_list said)
-        (λ read. (said : Spoken) × IsOfPlace place read × (words_of read ≡ said ∷ []) × FitsPlace place said
+/// Reads one word by a parameter. `None` if the parameter is a range, which takes two words.
+fn read_word(parameter: Parameter, word: &String) -> Option<Word<'_>>
+    ensures { MatchOption result ((said : Spoken) → FitsParameter parameter said → string_bytes word.now ∷ [] ≢ text_list said)
+        (λ read. (said : Spoken) × IsOfParameter parameter read × (words_of read ≡ said ∷ []) × FitsParameter parameter said
         × (string_bytes word.now ∷ [] ≡ text_list said)) }
 {
-    match place {
-        Place::File(kind) => Some(Word::File {
+    match parameter {
+        Parameter::File(kind) => Some(Word::File {
             kind,
             name: word.as_str(),
         }),
-        Place::Number { least, most } => Some(Word::Number(read_number(
+        Parameter::Number { least, most } => Some(Word::Number(read_number(
             word.as_bytes(),
             least,
             most,
         )?)),
-        Place::Groups => Some(Word::Groups(read_groups(word.as_bytes())?)),
-        Place::Mode => Some(Word::Mode {
+        Parameter::Groups => Some(Word::Groups(read_groups(word.as_bytes())?)),
+        Parameter::Mode => Some(Word::Mode {
             split: read_mode(word.as_str())?,
         }),
-        Place::Range => None,
-        Place::Address => Some(Word::Number(read_address(word.as_bytes())?)),
-        Place::Use => Some(Word::Use {
+        Parameter::Range => None,
+        Parameter::Address => Some(Word::Number(read_address(word.as_bytes())?)),
+        Parameter::Use => Some(Word::Use {
             write: read_use(word.as_str())?,
         }),
     }

@@ -8,7 +8,7 @@ use Rattle.std.proofs.lemmas.Bool.{cases_eq, ne_eqb}
 use Rattle.mm_word.specs.declared.word.Cell.{Cell}
 use Rattle.mm_model.specs.declared.event.Event.{Event}
 use Rattle.mm_model.specs.Slot.{Slot}
-use Rattle.mm_model.specs.State.{Row, Core, State, row_in, queue_of, queue_at, output_of}
+use Rattle.mm_model.specs.State.{ThreadRow, Core, State, row_in, queue_of, queue_at, output_of}
 use Rattle.mm_model.specs.Groups.{has_group}
 use Rattle.mm_model.specs.Spelling.{numbers_of}
 use Rattle.mm_model.specs.Fits.{slots_of}
@@ -34,60 +34,60 @@ for_other : (n k : ℕ) (es : List Event) (rest : List (ℕ × Event)) → k ≢
 for_other n k [] rest ne = refl
 for_other n k (e ∷ es) rest ne = rw (ne_eqb k n ne) (for_other n k es rest ne)
 
-abbrev slots_in : List Row → List Slot
-slots_in rows = map (λ (row : Row). row.slot) rows
+abbrev slots_in : List ThreadRow → List Slot
+slots_in rows = map (λ (row : ThreadRow). row.slot) rows
 
 -- rows with greater numbers than one
-abbrev AreAbove : ℕ → List Row → Type 0
-AreAbove n rows = AllByRecursion (λ (row : Row). n < row.slot.number) rows
+abbrev AreAbove : ℕ → List ThreadRow → Type 0
+AreAbove n rows = AllByRecursion (λ (row : ThreadRow). n < row.slot.number) rows
 
-above_rows : (n : ℕ) (rows : List Row) → AllByRecursion (λ y. n < y) (numbers_of (slots_in rows)) → AreAbove n rows
+above_rows : (n : ℕ) (rows : List ThreadRow) → AllByRecursion (λ y. n < y) (numbers_of (slots_in rows)) → AreAbove n rows
 above_rows n [] h = tt
 above_rows n (row ∷ rows) h = (h.0, above_rows n rows h.1)
 
-rows_above : (row : Row) (rows : List Row) → IsStrictlyIncreasing (numbers_of (slots_in (row ∷ rows))) → AreAbove row.slot.number rows
+rows_above : (row : ThreadRow) (rows : List ThreadRow) → IsStrictlyIncreasing (numbers_of (slots_in (row ∷ rows))) → AreAbove row.slot.number rows
 rows_above row rows rising = above_rows row.slot.number rows (above_first row.slot.number (numbers_of (slots_in rows)) rising)
 
-own_queues : (rows : List Row) → IsStrictlyIncreasing (numbers_of (slots_in rows)) → AllByRecursion (λ (row : Row). queue_of (row_in rows row.slot.number) ≡ row.queue) rows
+own_queues : (rows : List ThreadRow) → IsStrictlyIncreasing (numbers_of (slots_in rows)) → AllByRecursion (λ (row : ThreadRow). queue_of (row_in rows row.slot.number) ≡ row.queue) rows
 own_queues [] rising = tt
 own_queues (row ∷ rows) rising = (
   rw (eq-eqb row.slot.number row.slot.number refl) refl,
-  each_both (λ (x : Row). row.slot.number < x.slot.number) (λ (x : Row). queue_of (row_in rows x.slot.number) ≡ x.queue) (λ (x : Row). queue_of (row_in (row ∷ rows) x.slot.number) ≡ x.queue)
+  each_both (λ (x : ThreadRow). row.slot.number < x.slot.number) (λ (x : ThreadRow). queue_of (row_in rows x.slot.number) ≡ x.queue) (λ (x : ThreadRow). queue_of (row_in (row ∷ rows) x.slot.number) ≡ x.queue)
       (λ x up is. rw (ne_eqb row.slot.number x.slot.number (λ e. omega arith)) is) rows (rows_above row rows rising) (own_queues rows (rest_rises row.slot.number (numbers_of (slots_in rows)) rising)),
 )
 
 module _ (core : Core) where
-  abbrev all_of : List Row → List (ℕ × Event)
+  abbrev all_of : List ThreadRow → List (ℕ × Event)
   all_of rows = flat_map (queued_at core) (slots_in rows)
 
-  for_none : (n : ℕ) (rows : List Row) → AreAbove n rows → events_for n (all_of rows) ≡ []
+  for_none : (n : ℕ) (rows : List ThreadRow) → AreAbove n rows → events_for n (all_of rows) ≡ []
   for_none n [] above = refl
   for_none n (row ∷ rows) above = for_other n row.slot.number (queue_at core row.slot.number) (all_of rows) (λ e. omega (arith, e, above.0)) ∙ for_none n rows above.1
 
   -- the events beside each row's number are its queue
-  for_each : (rows : List Row) → IsStrictlyIncreasing (numbers_of (slots_in rows)) → AllByRecursion (λ (row : Row). queue_at core row.slot.number ≡ row.queue) rows
-      → AllByRecursion (λ (row : Row). events_for row.slot.number (all_of rows) ≡ row.queue) rows
+  for_each : (rows : List ThreadRow) → IsStrictlyIncreasing (numbers_of (slots_in rows)) → AllByRecursion (λ (row : ThreadRow). queue_at core row.slot.number ≡ row.queue) rows
+      → AllByRecursion (λ (row : ThreadRow). events_for row.slot.number (all_of rows) ≡ row.queue) rows
   for_each [] rising own = tt
   for_each (row ∷ rows) rising own =
       let n : ℕ = row.slot.number in
       let above = rows_above row rows rising in (
         for_own n (queue_at core n) (all_of rows) ∙ ap (λ (es : List Event). queue_at core n ++ es) (for_none n rows above) ∙ append-nil (queue_at core n) ∙ own.0,
-        each_both (λ (x : Row). n < x.slot.number) (λ (x : Row). events_for x.slot.number (all_of rows) ≡ x.queue) (λ (x : Row). events_for x.slot.number (all_of (row ∷ rows)) ≡ x.queue)
+        each_both (λ (x : ThreadRow). n < x.slot.number) (λ (x : ThreadRow). events_for x.slot.number (all_of rows) ≡ x.queue) (λ (x : ThreadRow). events_for x.slot.number (all_of (row ∷ rows)) ≡ x.queue)
             (λ x up is. for_other x.slot.number n (queue_at core n) (all_of rows) (λ e. omega (arith, e)) ∙ is) rows above (for_each rows (rest_rises n (numbers_of (slots_in rows)) rising) own.1),
       )
 
-  queues_for : Rises core → AllByRecursion (λ (row : Row). events_for row.slot.number (queued core) ≡ row.queue) core.rows
+  queues_for : Rises core → AllByRecursion (λ (row : ThreadRow). events_for row.slot.number (queued core) ≡ row.queue) core.rows
   unfolding queue_at
   queues_for rising = for_each core.rows rising (own_queues core.rows rising)
 
-abbrev row_with : List (ℕ × Event) → Slot → Row
+abbrev row_with : List (ℕ × Event) → Slot → ThreadRow
 row_with events s = record { slot = s; queue = events_for s.number events }
 
-rows_back : (events : List (ℕ × Event)) (rows : List Row) → AllByRecursion (λ (row : Row). events_for row.slot.number events ≡ row.queue) rows → map (row_with events) (slots_in rows) ≡ rows
+rows_back : (events : List (ℕ × Event)) (rows : List ThreadRow) → AllByRecursion (λ (row : ThreadRow). events_for row.slot.number events ≡ row.queue) rows → map (row_with events) (slots_in rows) ≡ rows
 rows_back events [] h = refl
 rows_back events (row ∷ rows) h =
-    ap (λ (es : List Event). let first : Row = record { slot = row.slot; queue = es } in first ∷ map (row_with events) (slots_in rows)) h.0
-    ∙ ap (λ (rest : List Row). row ∷ rest) (rows_back events rows h.1)
+    ap (λ (es : List Event). let first : ThreadRow = record { slot = row.slot; queue = es } in first ∷ map (row_with events) (slots_in rows)) h.0
+    ∙ ap (λ (rest : List ThreadRow). row ∷ rest) (rows_back events rows h.1)
 
 -- so the rows are those of the snapshot
 rows_of : (t : State) (p : Parts) → IsSnapshotOf t p → map (row_with p.events) p.slots ≡ t.core.rows
@@ -145,7 +145,7 @@ module _ (u t : State) (p : Parts) (one : IsSnapshotOf u p) (other : IsSnapshotO
 
 -- 3. States.
 
-abbrev made : List Row → List (List ℕ) → ℕ → Bool → List (ℕ × List Cell) → ℕ → ℕ → State
+abbrev made : List ThreadRow → List (List ℕ) → ℕ → Bool → List (ℕ × List Cell) → ℕ → ℕ → State
 made rows outputs version split pages frames cycles = record {
   core = record { rows = rows; outputs = outputs; version = version; split = split };
   memory = record { pages = pages; frames = frames };
@@ -160,7 +160,7 @@ pub record AreAlike (s t : State) : Type 0 where
 
 pub same_state : (u t : State) (p : Parts) → AreAlike u t → IsSnapshotOf u p → IsSnapshotOf t p → IsQuiet u.core → IsQuiet t.core → u ≡ t
 same_state u t p alike one other first second =
-    ap (λ (x : List Row). made x u.core.outputs u.core.version u.core.split u.memory.pages u.memory.frames u.cycles) (sym (rows_of u p one) ∙ rows_of t p other)
+    ap (λ (x : List ThreadRow). made x u.core.outputs u.core.version u.core.split u.memory.pages u.memory.frames u.cycles) (sym (rows_of u p one) ∙ rows_of t p other)
     ∙ ap (λ (x : List (List ℕ)). made t.core.rows x u.core.version u.core.split u.memory.pages u.memory.frames u.cycles) (outputs_same u t p one other first second)
     ∙ ap (λ (x : ℕ). made t.core.rows t.core.outputs x u.core.split u.memory.pages u.memory.frames u.cycles) alike.version
     ∙ ap (λ (x : Bool). made t.core.rows t.core.outputs t.core.version x u.memory.pages u.memory.frames u.cycles) alike.split

@@ -5,14 +5,15 @@ use Rattle.std.proofs.Math.Logic.{∥∥₁_elim}
 use Rattle.std.proofs.lemmas.Bool.Decides.{nat_tests}
 use Rattle.std.specs.List.{AllByRecursion}
 use Rattle.mm_model.specs.Slot.{Slot}
-use Rattle.mm_model.specs.State.{Row}
+use Rattle.mm_model.specs.State.{ThreadRow}
 use Rattle.mm_model.specs.Turn.{is_running}
 use Rattle.mm_model.specs.Run.{after, first_running, or_else, any_number, next_running}
 use Rattle.mm_model.specs.Fits.{IsSlot, slots_of}
 use Rattle.mm_model.proofs.CoreRows.{each_map}
 use Rattle.mm_machine.specs.Kept.{Kept}
 use Rattle.mm_sched.specs.declared.schedule.Order.TheVariants as order
-use Rattle.mm_debug.specs.Session.{Session, total_of, item_in, next_item, issued, then_stepped, stepped}
+use Rattle.mm_debug.specs.Session.{Session, total_of, next_item, issued, then_stepped, stepped}
+use Rattle.mm_sched.specs.Orders.{item_in}
 
 -- 1. The next item.
 
@@ -37,7 +38,7 @@ item_below_limit s item next = elim (below_or_not (total_of s) 1000000) [
 
 -- 2. An item of round robin is a slot's number.
 
-first_small : (p : ℕ → Bool) (rows : List Row) (n : ℕ) → AllByRecursion (λ (s : Slot). s.number < 64) (map (λ (row : Row). row.slot) rows) → first_running p rows ≡ Some n → n < 64
+first_small : (p : ℕ → Bool) (rows : List ThreadRow) (n : ℕ) → AllByRecursion (λ (s : Slot). s.number < 64) (map (λ (row : ThreadRow). row.slot) rows) → first_running p rows ≡ Some n → n < 64
 first_small p [] n small is = cc
 first_small p (row ∷ rows) n small is = by (is_running row.slot.state) (p row.slot.number) (λ later. first_small p rows n small.1 later) is
   where
@@ -47,7 +48,7 @@ first_small p (row ∷ rows) n small is = by (is_running row.slot.state) (p row.
     by true false rest here = rest here
     by false b rest here = rest here
 
-next_small : (rows : List Row) (last : Option ℕ) (n : ℕ) → AllByRecursion (λ (s : Slot). s.number < 64) (map (λ (row : Row). row.slot) rows) → next_running rows last ≡ Some n → n < 64
+next_small : (rows : List ThreadRow) (last : Option ℕ) (n : ℕ) → AllByRecursion (λ (s : Slot). s.number < 64) (map (λ (row : ThreadRow). row.slot) rows) → next_running rows last ≡ Some n → n < 64
 next_small rows None n small is = first_small any_number rows n small is
 next_small rows (Some last) n small is = by (first_running (nat_lt last) rows) refl is
   where

@@ -1,6 +1,6 @@
 -- The answer of a session to a line, and the session after it.
 use Rattle.std.specs.Prelude.{ℕ, zero, suc, ◌+◌, ◌-◌, ◌*◌, Bool, true, false, not, ◌&&◌, nat_lt, if◌then◌else◌, List}
-use Rattle.std.specs.Prelude.{[], ◌∷◌, ◌++◌, slice_get, codes, decimal, Option, Some, None}
+use Rattle.std.specs.Prelude.{[], ◌∷◌, ◌++◌, codes, decimal, Option, Some, None}
 use Rattle.std.specs.List.{flat_map, range_with_len}
 use Rattle.mm_word.specs.declared.perm.Kind.{Kind}
 use Rattle.mm_word.specs.declared.perm.Kind.TheVariants.{Fetch, Load, LoadSet, Store}
@@ -15,9 +15,9 @@ use Rattle.mm_model.specs.Memory.{Memory, cell_at}
 use Rattle.mm_model.specs.Slot.{Slot}
 use Rattle.mm_model.specs.State.{State, slot_at}
 use Rattle.mm_model.specs.Turn.{is_running}
-use Rattle.mm_model.specs.Run.{turn_of, after, next_running}
+use Rattle.mm_model.specs.Run.{turn_of, after}
 use Rattle.mm_sched.specs.declared.schedule.Order.{Order}
-use Rattle.mm_sched.specs.declared.schedule.Order.TheVariants as order
+use Rattle.mm_sched.specs.Orders.{item_in, last_after}
 use Rattle.mm_debug.specs.declared.command.Command.{Command}
 use Rattle.mm_debug.specs.declared.command.Command.TheVariants.{Nothing, Step, Run, Break, Watch, Regs, Mem, Quit, Bad}
 use Rattle.mm_debug.specs.declared.breakpoints.Break.{Break as Breakpoint}
@@ -52,19 +52,9 @@ cycle_limit = 1000000
 
 -- 2. Cycles.
 
--- the item that an order has next; none if the order has ended
-abbrev pub item_in : Order → Option ℕ → State → Option ℕ
-item_in order.Robin last state = next_running state.core.rows last
-item_in (order.List items) last state = slice_get items state.cycles
-
 -- the next item; none if the order or the limit has ended
 unfoldable pub next_item : Session → Option ℕ
 next_item s = if nat_lt (total_of s) cycle_limit then item_in s.order s.last s.state else None
-
--- the last item that round robin issued, after one more item of an order
-abbrev pub last_after : Order → Option ℕ → ℕ → Option ℕ
-last_after order.Robin last item = Some item
-last_after (order.List items) last item = last
 
 -- the session after the cycle of an item
 abbrev pub issued : Session → ℕ → Session

@@ -6,6 +6,7 @@ ghost use Rattle.mm_debug.specs.Commands.{command_of, lines_of, is_blank, tokens
 ghost use Rattle.mm_debug.specs.Commands.{with_one, with_two, is_count, is_slot, is_address, is_word, are_words};
 
 use mm_line::{Token, next_token};
+use mm_model::CYCLE_LIMIT;
 
 /// The command that a line gives.
 #[derive(Clone, Copy, Debug, PartialEq, Eq)]
@@ -29,9 +30,6 @@ pub enum Command {
     /// Anything else.
     Bad,
 }
-
-/// The most cycles of one `step`.
-const MAX_STEPS: u64 = 1_000_000;
 
 /// Numbers of slots are below this one.
 const SLOT_END: u64 = 64;
@@ -160,7 +158,7 @@ fn with_two(word: &[u8], first: Option<u64>, second: Option<u64>) -> Command
 fn is_count(count: u64) -> bool
     ensures { result ≡ is_count count }
 {
-    1 <= count && count <= MAX_STEPS
+    1 <= count && count <= CYCLE_LIMIT
 }
 
 /// Whether a slot may have this number.

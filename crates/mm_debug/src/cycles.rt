@@ -6,10 +6,10 @@ ghost use Rattle.mm_debug.specs.Session.{next_item, issued, stepped, stops_befor
 ghost use Rattle.mm_debug.specs.Shown.{session_of};
 
 use crate::breakpoints::Watches;
-use crate::session::{CYCLE_LIMIT, Session};
+use crate::session::Session;
 use crate::stop::Stop;
 use mm_mem::Memory;
-use mm_model::{SlotState, Step, Tick};
+use mm_model::{CYCLE_LIMIT, SlotState, Step, Tick};
 use mm_sched::{Order, Robin};
 use mm_word::Kind;
 

@@ -13,9 +13,6 @@ use mm_mem::{Inspect, Memory};
 use mm_sched::{Order, Robin};
 use mm_text::{Gather, Piece};
 
-/// The most cycles of a session.
-pub(crate) const CYCLE_LIMIT: u64 = 1_000_000;
-
 /// Whether another line may follow.
 #[derive(Clone, Copy, Debug, PartialEq, Eq)]
 pub enum Go {

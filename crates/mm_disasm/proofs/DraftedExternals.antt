@@ -2,7 +2,7 @@
 use Rattle.std.proofs.Common.{◌≡◌, ℕ, zero, suc, ◌+◌, ◌*◌, ◌<◌, true, not, ◌==◌, List, [], ◌∷◌, length, get_or, Option, is_some, refl, sym, ap, ◌∙◌, subst, inl, inr, arith}
 use Rattle.mm_line.proofs.Choices.{same_number}
 use Rattle.mm_line.specs.declared.statement.Target as text
-use Rattle.mm_draft.specs.declared.place.Place.{Place}
+use Rattle.mm_draft.specs.declared.place.Location.{Location}
 use Rattle.mm_draft.specs.Drafts as draft
 use Rattle.mm_draft.specs.Drafts.{Draft, place_of}
 use Rattle.mm_object.specs.declared.target.Target.{Target}
@@ -44,7 +44,7 @@ module _ (o : Object) (is : IsObject o) (d : Draft) (drafted : IsDraftOf o d) wh
       elim (own_or_foreign o h.0 (target_is o is d drafted h.0 h.1)) [
         | inl own ↦
             let place = own_place o is d drafted h.0 u.target own h.2 in
-            absurd (let f = ap (λ (found : Option Place). not (is_some found)) (sym place) ∙ e in cc f)
+            absurd (let f = ap (λ (found : Option Location). not (is_some found)) (sym place) ∙ e in cc f)
         | inr foreign ↦ subst (λ (n : List ℕ). In n o.externals) (sym (h.2.0 ∙ foreign_name o is d drafted h.0 foreign)) (at_in o.externals foreign.place foreign.low)
       ]
 
@@ -58,7 +58,7 @@ module _ (o : Object) (is : IsObject o) (d : Draft) (drafted : IsDraftOf o d) wh
       let u = target_use o is d drafted t.0 t.1 in
       let foreign : IsForeign o t.0 = record { place = at.0; is = same_number t.0.index (length o.segments + at.0) t.2; low = at.1 } in
       let same : name_of u.0 ≡ name = u.2.0 ∙ foreign_name o is d drafted t.0 foreign ∙ sym at.2 in
-      let external : is_external d u.0 ≡ true = ap (λ (found : Option Place). not (is_some found)) (foreign_place o is d drafted t.0 u.0.target foreign u.2) in
+      let external : is_external d u.0 ≡ true = ap (λ (found : Option Location). not (is_some found)) (foreign_place o is d drafted t.0 u.0.target foreign u.2) in
       subst (λ (n : List ℕ). In n (externals_of d)) same (among_in (name_of u.0) (externals_of d) (used_among d u.0 (uses_of d) [] u.1 external))
 
   one_way : (a b : List ℕ) → is_before a b ≡ true → is_before b a ≡ true → ⊥
@@ -79,7 +79,7 @@ module _ (o : Object) (is : IsObject o) (d : Draft) (drafted : IsDraftOf o d) wh
   pub own_means : (t : Target) (written : text.Target) → IsOwn o t → IsTargetOf o t written → meant d written ≡ Here t.index t.addend
   own_means t written own h =
       let offset : 8 * 0 + written.addend ≡ t.addend = omega (arith, h.1) in
-      ap (λ (found : Option Place). meant_by found written) (own_place o is d drafted t written own h) ∙ ap (Here t.index) offset
+      ap (λ (found : Option Location). meant_by found written) (own_place o is d drafted t written own h) ∙ ap (Here t.index) offset
 
   external_place : (t : Target) (foreign : IsForeign o t) → position_of (name_of_target o t) (externals_of d) ≡ foreign.place
   external_place t foreign =
@@ -97,6 +97,6 @@ module _ (o : Object) (is : IsObject o) (d : Draft) (drafted : IsDraftOf o d) wh
             let position : position_of written.mark.name (externals_of d) ≡ foreign.place = ap (λ (n : List ℕ). position_of n (externals_of d)) h.0 ∙ place in
             let index : length d.segments + position_of written.mark.name (externals_of d) ≡ t.index = omega (arith, position, foreign.is, same_length 0 o.segments d.segments drafted.segments) in
             let addend = h.1 in
-            ap (λ (found : Option Place). target_by d (meant_by found written)) (foreign_place o is d drafted t written foreign h)
+            ap (λ (found : Option Location). target_by d (meant_by found written)) (foreign_place o is d drafted t written foreign h)
             ∙ (λ i. let x : Target = record { index = index i; addend = addend i } in x)
       ]

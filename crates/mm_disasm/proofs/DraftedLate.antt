@@ -8,7 +8,7 @@ use Rattle.mm_line.specs.declared.fault.Fault.TheVariants.{Range, Limit}
 use Rattle.mm_line.specs.declared.statement.Content.{Content}
 use Rattle.mm_line.specs.declared.statement.Content.TheVariants as content
 use Rattle.mm_draft.specs.declared.segment.Word.{Word}
-use Rattle.mm_draft.specs.declared.place.Place.{Place}
+use Rattle.mm_draft.specs.declared.place.Location.{Location}
 use Rattle.mm_draft.specs.Drafts as draft
 use Rattle.mm_draft.specs.Drafts.{Draft}
 use Rattle.mm_draft.specs.Faults.{fault_if}
@@ -145,7 +145,7 @@ module _ (o : Object) (is : IsObject o) (d : Draft) (drafted : IsDraftOf o d) wh
             ap (λ (place : Meant). in_source u.source (meant_faults d left place)) (own_means o is d drafted t.0 u.target own t.2)
             ∙ ap (in_source u.source) (clear (is_outside (slice_get d.segments t.0.index) t.0.addend) Range left outside)
         | inr foreign ↦
-            ap (λ (found : Option Place). in_source u.source (meant_faults d left (meant_by found u.target))) (foreign_place o is d drafted t.0 u.target foreign t.2)
+            ap (λ (found : Option Location). in_source u.source (meant_faults d left (meant_by found u.target))) (foreign_place o is d drafted t.0 u.target foreign t.2)
       ]
 
   -- 4. The whole.

@@ -4,17 +4,17 @@ use Rattle.std.specs.Str.{bytes_eq}
 use Rattle.std.specs.Map.{lookup}
 use Rattle.indexmap.specs.IndexMap.{insert_entry}
 use denote.Ref.{Bor}
-use Rattle.mm_draft.specs.declared.place.Place.{Place}
+use Rattle.mm_draft.specs.declared.place.Location.{Location}
 use Rattle.mm_draft.specs.Drafts.{place_in}
 use Rattle.mm_draft.specs.Counts.{entries_of}
 
 -- what the map has under a name is what the name stands for
-pub found : (es : List (Bor (List ℕ) × Place)) (name : List ℕ) → lookup (λ y. bytes_eq name y.now) es ≡ place_in (entries_of es) name
+pub found : (es : List (Bor (List ℕ) × Location)) (name : List ℕ) → lookup (λ y. bytes_eq name y.now) es ≡ place_in (entries_of es) name
 found [] name = refl
 found (e ∷ es) name = ap (λ r. cond (bytes_eq name e.0.now) (Some e.1) r) (found es name)
 
 -- a new name goes last
-pub inserted : (es : List (Bor (List ℕ) × Place)) (k : Bor (List ℕ)) (v : Place) → place_in (entries_of es) k.now ≡ None
+pub inserted : (es : List (Bor (List ℕ) × Location)) (k : Bor (List ℕ)) (v : Location) → place_in (entries_of es) k.now ≡ None
     → entries_of (insert_entry (λ x y. bytes_eq x.now y.now) es k v) ≡ entries_of es ++ record { name = k.now; place = v } ∷ []
 inserted [] k v h = refl
 inserted (e ∷ es) k v h = by (bytes_eq k.now e.0.now) (inserted es k v) h

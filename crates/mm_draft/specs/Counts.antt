@@ -4,12 +4,12 @@ use denote.Ref.{Bor}
 use Rattle.mm_line.specs.declared.fault.Problem.{Problem}
 use Rattle.mm_line.specs.declared.statement.Statement.{Statement}
 use Rattle.mm_line.specs.declared.statement.Statement.TheVariants as statement
-use Rattle.mm_draft.specs.declared.place.Place.{Place}
+use Rattle.mm_draft.specs.declared.place.Location.{Location}
 use Rattle.mm_draft.specs.Drafts.{Segment, Entry, Draft, place_of, words_of, pointers_of}
 use Rattle.mm_draft.specs.Faults.{word_limit, pointer_limit, one_if_pointer}
 
 -- the entries of a map from names to places
-abbrev pub entries_of : List (Bor (List ℕ) × Place) → List Entry
+abbrev pub entries_of : List (Bor (List ℕ) × Location) → List Entry
 entries_of es = map (λ e. record { name = e.0.now; place = e.1 }) es
 
 -- the counts of words and pointers in the segments, within the limits

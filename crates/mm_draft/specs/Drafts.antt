@@ -16,7 +16,7 @@ use Rattle.mm_line.specs.declared.line.Body.{Body}
 use Rattle.mm_line.specs.declared.fault.Problem.{Problem}
 use Rattle.mm_draft.specs.declared.source.Source.{Source}
 use Rattle.mm_draft.specs.declared.segment.Word.{Word}
-use Rattle.mm_draft.specs.declared.place.Place.{Place}
+use Rattle.mm_draft.specs.declared.place.Location.{Location}
 use Rattle.mm_draft.specs.declared.thread.Register.{Register}
 
 pub record Segment : Type 0 where
@@ -28,7 +28,7 @@ pub record Segment : Type 0 where
 -- a name that the text has, and what it stands for
 pub record Entry : Type 0 where
   pub name : List ℕ
-  pub place : Place
+  pub place : Location
 
 pub record Thread : Type 0 where
   pub slot : ℕ
@@ -51,12 +51,12 @@ nothing = record { segments = []; names = []; threads = []; spare = None }
 
 -- 1. What is there already.
 
-abbrev pub place_in : List Entry → List ℕ → Option Place
+abbrev pub place_in : List Entry → List ℕ → Option Location
 place_in [] name = None
 place_in (e ∷ entries) name = if bytes_eq name e.name then Some e.place else place_in entries name
 
 -- what a name stands for, if the text has it
-abbrev pub place_of : Draft → List ℕ → Option Place
+abbrev pub place_of : Draft → List ℕ → Option Location
 place_of d name = place_in d.names name
 
 -- the item that came last
@@ -103,7 +103,7 @@ with_words words s = record s { words = s.words ++ words }
 abbrev pub add_words : List Word → Draft → Draft
 add_words words d = record d { segments = change_last (with_words words) d.segments }
 
-abbrev pub add_name : List ℕ → Place → Draft → Draft
+abbrev pub add_name : List ℕ → Location → Draft → Draft
 add_name name place d = record d { names = d.names ++ record { name = name; place = place } ∷ [] }
 
 -- the draft with this label, which names the next word of the last segment

@@ -7,7 +7,7 @@ ghost use Rattle.mm_draft.specs.Faults.{one_if_pointer};
 ghost use Rattle.mm_draft.specs.Counts.{HasRoom, MayAdd, MayAddReading};
 
 use crate::checks::one_if_pointer;
-use crate::{Draft, Place, Register, Segment, Source, Thread, Word};
+use crate::{Draft, Location, Register, Segment, Source, Thread, Word};
 use mm_line::{Mark, Problem, Statement};
 use std::alloc::AllocError;
 
@@ -27,7 +27,7 @@ impl<'a> Draft<'a> {
         requires { place_of self.old mark.name ≡ None }
         ensures { OnOk result (self.new ≡ add_label mark.entry self.old) }
     {
-        let place = Place {
+        let place = Location {
             segment: self.segments.len().saturating_sub(1),
             word: self.words_so_far(),
             is_label: true,
@@ -42,7 +42,7 @@ impl<'a> Draft<'a> {
         requires size { log ≤ 20 }
         ensures { OnOk result (self.new ≡ add_segment mark.entry log self.old) }
     {
-        let place = Place {
+        let place = Location {
             segment: self.segments.len(),
             word: 0,
             is_label: false,

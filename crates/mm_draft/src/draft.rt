@@ -3,7 +3,7 @@
 ghost use Rattle.std.specs.Prelude.{◌≡◌};
 ghost use Rattle.mm_draft.specs.Drafts.{place_of, nothing};
 
-use crate::{Place, Segment, Thread};
+use crate::{Location, Segment, Thread};
 use indexmap::IndexMap;
 use std::alloc::Global;
 use std::marker::Model;
@@ -22,7 +22,7 @@ pub(crate) const POINTERS: usize = 65_535;
 pub struct Draft<'a> {
     pub(crate) segments: Vec<Segment<'a>>,
     // Labels and segments, in the order of the text.
-    pub(crate) names: IndexMap<&'a [u8], Place>,
+    pub(crate) names: IndexMap<&'a [u8], Location>,
     pub(crate) threads: Vec<Thread<'a>>,
     pub(crate) spare: Option<u16>,
     // The count of words in the segments, and of pointers among them.
@@ -83,7 +83,7 @@ impl<'a> Draft<'a> {
     }
 
     /// The place that a name stands for, if the text has the name.
-    pub fn place_of(&self, name: &[u8]) -> Option<Place>
+    pub fn place_of(&self, name: &[u8]) -> Option<Location>
         ensures { result ≡ place_of self.now name.now }
     {
         self.names.get(&name).copied()

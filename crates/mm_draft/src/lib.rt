@@ -17,7 +17,7 @@ mod thread;
 
 pub use draft::Draft;
 pub use fault::{DraftError, Failure};
-pub use place::Place;
+pub use place::Location;
 pub use reading::read_draft;
 pub use segment::{Segment, Word};
 pub use source::Source;

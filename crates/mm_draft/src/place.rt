@@ -2,7 +2,7 @@
 
 /// The place that a name stands for: a segment, or a word of one.
 #[derive(Clone, Copy, Debug, PartialEq, Eq)]
-pub struct Place {
+pub struct Location {
     /// The number of the segment, from 0.
     pub segment: usize,
     /// The count of words of the segment before the place.

@@ -1,27 +1,27 @@
--- The table of commands, written out: of each command its name, what stands at the places after the name, and what may
+-- The table of commands, written out: of each command its name, the parameters after it, and what may
 -- come after these.
 use Rattle.std.specs.Prelude.{◌≡◌, ℕ, List, [], ◌∷◌, codes}
 use Rattle.mm_cli.specs.declared.table.Command.{Command}
 use Rattle.mm_cli.specs.declared.table.Command.TheVariants as command
 use Rattle.mm_cli.specs.declared.table.Kind.TheVariants as kind
-use Rattle.mm_cli.specs.declared.table.Place.{Place}
-use Rattle.mm_cli.specs.declared.table.Place.TheVariants.{File, Number, Groups, Mode, Range, Address, Use}
+use Rattle.mm_cli.specs.declared.table.Parameter.{Parameter}
+use Rattle.mm_cli.specs.declared.table.Parameter.TheVariants.{File, Number, Groups, Mode, Range, Address, Use}
 use Rattle.mm_cli.specs.declared.table.Last.{Last}
 use Rattle.mm_cli.specs.declared.table.Last.TheVariants.{Nothing, Perhaps, Several}
 use Rattle.mm_cli.specs.Table.{Listed, table}
 
-abbrev image : Place
+abbrev image : Parameter
 image = File kind.Image
 
 -- the number of cycles, up to 1,000,000
-abbrev cycles : Place
+abbrev cycles : Parameter
 cycles = Number 0 1000000
 
 abbrev perhaps_a_schedule : Last
 perhaps_a_schedule = Perhaps (File kind.Schedule)
 
-abbrev row : List ℕ → Command → List Place → Last → Listed
-row name command places last = record { name = name; command = command; places = places; last = last }
+abbrev row : List ℕ → Command → List Parameter → Last → Listed
+row name command parameters last = record { name = name; command = command; parameters = parameters; last = last }
 
 abbrev pub rows : List Listed
 rows = row (codes "run") command.Run (image ∷ cycles ∷ []) perhaps_a_schedule

@@ -24,7 +24,7 @@ use Rattle.mm_word.specs.declared.word.Cell.{Cell}
 use Rattle.mm_word.specs.Word.{IsWord}
 use Rattle.mm_model.specs.declared.event.Event.{Event}
 use Rattle.mm_model.specs.Memory.{Memory, page_at, cell_in, cell_at, put_cell, page_of, zero_cell, IsPage, IsPaged}
-use Rattle.mm_model.specs.State.{Row, Core, State, row_in, queue_of, queue_at, output_of}
+use Rattle.mm_model.specs.State.{ThreadRow, Core, State, row_in, queue_of, queue_at, output_of}
 use Rattle.mm_model.specs.Groups.{has_group}
 use Rattle.mm_model.specs.Image.{Image, start}
 use Rattle.mm_model.specs.Spelling.{IsImage, HoldsWords, numbers_of}
@@ -43,40 +43,40 @@ use Rattle.mm_explore.proofs.Members.{none_in, in_first, in_rest, in_cases, in_f
 
 -- 1. Rows.
 
-above_rows : (n : ℕ) (rows : List Row) → AllByRecursion (λ y. n < y) (numbers_of (map (λ (row : Row). row.slot) rows)) → AllByRecursion (λ (row : Row). n < row.slot.number) rows
+above_rows : (n : ℕ) (rows : List ThreadRow) → AllByRecursion (λ y. n < y) (numbers_of (map (λ (row : ThreadRow). row.slot) rows)) → AllByRecursion (λ (row : ThreadRow). n < row.slot.number) rows
 above_rows n [] h = tt
 above_rows n (row ∷ rows) h = (h.0, above_rows n rows h.1)
 
-own_here : (row : Row) (rows : List Row) → queue_of (row_in (row ∷ rows) row.slot.number) ≡ row.queue
+own_here : (row : ThreadRow) (rows : List ThreadRow) → queue_of (row_in (row ∷ rows) row.slot.number) ≡ row.queue
 own_here row rows = ap (λ b. queue_of (if b then Some row else row_in rows row.slot.number)) (eq-eqb row.slot.number row.slot.number refl)
 
-own_later : (row x : Row) (rows : List Row) → row.slot.number < x.slot.number → queue_of (row_in rows x.slot.number) ≡ x.queue → queue_of (row_in (row ∷ rows) x.slot.number) ≡ x.queue
+own_later : (row x : ThreadRow) (rows : List ThreadRow) → row.slot.number < x.slot.number → queue_of (row_in rows x.slot.number) ≡ x.queue → queue_of (row_in (row ∷ rows) x.slot.number) ≡ x.queue
 own_later row x rows lt e =
     let ne : row.slot.number ≢ x.slot.number = λ same. omega (arith, lt, same) in
     ap (λ b. queue_of (if b then Some row else row_in rows x.slot.number)) (ne_eqb row.slot.number x.slot.number ne) ∙ e
 
-own_queues : (rows : List Row) → IsStrictlyIncreasing (numbers_of (map (λ (row : Row). row.slot) rows)) → AllByRecursion (λ (row : Row). queue_of (row_in rows row.slot.number) ≡ row.queue) rows
+own_queues : (rows : List ThreadRow) → IsStrictlyIncreasing (numbers_of (map (λ (row : ThreadRow). row.slot) rows)) → AllByRecursion (λ (row : ThreadRow). queue_of (row_in rows row.slot.number) ≡ row.queue) rows
 own_queues [] rising = tt
 own_queues (row ∷ rows) rising =
-    let numbers : List ℕ = numbers_of (map (λ (x : Row). x.slot) rows) in (
+    let numbers : List ℕ = numbers_of (map (λ (x : ThreadRow). x.slot) rows) in (
       own_here row rows,
-      each_both (λ (x : Row). row.slot.number < x.slot.number) (λ (x : Row). queue_of (row_in rows x.slot.number) ≡ x.queue) (λ (x : Row). queue_of (row_in (row ∷ rows) x.slot.number) ≡ x.queue)
+      each_both (λ (x : ThreadRow). row.slot.number < x.slot.number) (λ (x : ThreadRow). queue_of (row_in rows x.slot.number) ≡ x.queue) (λ (x : ThreadRow). queue_of (row_in (row ∷ rows) x.slot.number) ≡ x.queue)
           (λ x up is. own_later row x rows up is) rows (above_rows row.slot.number rows (above_first row.slot.number numbers rising)) (own_queues rows (rest_rises row.slot.number numbers rising)),
     )
 
-rows_made : (events : List (ℕ × Event)) (rows : List Row) → AllByRecursion (λ (row : Row). events_for row.slot.number events ≡ row.queue) rows
-    → map (row_with events) (map uncounted_slot (map (λ (row : Row). row.slot) rows)) ≡ map uncounted_row rows
+rows_made : (events : List (ℕ × Event)) (rows : List ThreadRow) → AllByRecursion (λ (row : ThreadRow). events_for row.slot.number events ≡ row.queue) rows
+    → map (row_with events) (map uncounted_slot (map (λ (row : ThreadRow). row.slot) rows)) ≡ map uncounted_row rows
 rows_made events [] h = refl
 rows_made events (row ∷ rows) h =
-    let make : List Event → Row = λ es. record { slot = uncounted_slot row.slot; queue = es } in
-    ap (λ es. make es ∷ map (row_with events) (map uncounted_slot (map (λ (x : Row). x.slot) rows))) h.0
+    let make : List Event → ThreadRow = λ es. record { slot = uncounted_slot row.slot; queue = es } in
+    ap (λ es. make es ∷ map (row_with events) (map uncounted_slot (map (λ (x : ThreadRow). x.slot) rows))) h.0
     ∙ ap (λ rest. uncounted_row row ∷ rest) (rows_made events rows h.1)
 
 all_rows : (core : Core) → IsStrictlyIncreasing (numbers_of (slots_of core)) → map (row_with (queued core)) (map uncounted_slot (slots_of core)) ≡ map uncounted_row core.rows
 unfolding queue_at
 all_rows core rising =
     rows_made (queued core) core.rows
-    (each_map (λ (row : Row). queue_of (row_in core.rows row.slot.number) ≡ row.queue) (λ (row : Row). events_for row.slot.number (queued core) ≡ row.queue)
+    (each_map (λ (row : ThreadRow). queue_of (row_in core.rows row.slot.number) ≡ row.queue) (λ (row : ThreadRow). events_for row.slot.number (queued core) ≡ row.queue)
     (λ row own. queued_for core rising row.slot.number ∙ own) core.rows (own_queues core.rows rising))
 
 -- 2. Outputs.
@@ -139,7 +139,7 @@ in_range low (suc n) g le lt = elim (cases_eq low g) [
   | inr ne ↦ in_rest low (range_with_len (low + 1) n) g (in_range (low + 1) n g (omega (arith, le, ne)) (omega (arith, lt)))
 ]
 
-any_row : (g : ℕ) (rows : List Row) → list_any (is_of g) rows ≡ has_group (map (λ (row : Row). row.slot) rows) g
+any_row : (g : ℕ) (rows : List ThreadRow) → list_any (is_of g) rows ≡ has_group (map (λ (row : ThreadRow). row.slot) rows) g
 any_row g [] = refl
 any_row g (row ∷ rows) = ap (λ b. (row.slot.group == g) || b) (any_row g rows)
 

@@ -9,7 +9,7 @@ use Rattle.mm_model.specs.Report.{is_of, groups_of}
 use Rattle.mm_model.specs.Run.{run}
 use Rattle.mm_model.specs.Slot.{Slot}
 use Rattle.mm_model.specs.Spelling.{IsImage}
-use Rattle.mm_model.specs.State.{Row, State, output_of}
+use Rattle.mm_model.specs.State.{ThreadRow, State, output_of}
 use Rattle.mm_thread.specs.Output.{Output}
 use Rattle.mm_explore.specs.Benches.{ArePartsAt, parts_held}
 use Rattle.mm_explore.specs.Configurations.{uncounted_slot, moves}
@@ -28,7 +28,7 @@ use Rattle.mm_explore.proofs.KeptRuns.{runs_state_of}
 
 -- 1. The groups of a run are those of the image.
 
-of_identity : (g : ℕ) (rows : List Row) → list_any (is_of g) rows ≡ list_any (λ (x : ℕ). x == g) (map (λ (s : Slot). s.group) (map (λ (row : Row). row.slot) rows))
+of_identity : (g : ℕ) (rows : List ThreadRow) → list_any (is_of g) rows ≡ list_any (λ (x : ℕ). x == g) (map (λ (s : Slot). s.group) (map (λ (row : ThreadRow). row.slot) rows))
 of_identity g [] = refl
 of_identity g (row ∷ rows) = ap (λ b. (row.slot.group == g) || b) (of_identity g rows)
 
@@ -42,7 +42,7 @@ groups_from (s ∷ slots) (o ∷ other) e =
     let rest = groups_from slots other tail in
     λ j. (head j).1 ∷ rest j
 
-started : (slots : List Slot) → map (λ (row : Row). row.slot) (map (λ (s : Slot). let row : Row = record { slot = s; queue = [] } in row) slots) ≡ slots
+started : (slots : List Slot) → map (λ (row : ThreadRow). row.slot) (map (λ (s : Slot). let row : ThreadRow = record { slot = s; queue = [] } in row) slots) ≡ slots
 started [] = refl
 started (s ∷ slots) = ap (λ l. s ∷ l) (started slots)
 
@@ -60,7 +60,7 @@ groups_stay i t img =
 
 -- 2. Parts and outcomes.
 
-states_of : (rows : List Row) → map (λ (s : Slot). s.state) (map uncounted_slot (map (λ (row : Row). row.slot) rows)) ≡ map (λ (row : Row). row.slot.state) rows
+states_of : (rows : List ThreadRow) → map (λ (s : Slot). s.state) (map uncounted_slot (map (λ (row : ThreadRow). row.slot) rows)) ≡ map (λ (row : ThreadRow). row.slot.state) rows
 states_of [] = refl
 states_of (row ∷ rows) = ap (λ l. row.slot.state ∷ l) (states_of rows)
 
@@ -72,7 +72,7 @@ bytes_of s (g ∷ groups) = ap (λ l. output_of s.core g ∷ l) (bytes_of s grou
 abbrev pub numbered : Slot → ℕ × SlotState
 numbered s = (s.number, s.state)
 
-pub states_text : (rows : List Row) → flat_map results.state_line (map numbered (map uncounted_slot (map (λ (row : Row). row.slot) rows))) ≡ flat_map texts.state_line rows
+pub states_text : (rows : List ThreadRow) → flat_map results.state_line (map numbered (map uncounted_slot (map (λ (row : ThreadRow). row.slot) rows))) ≡ flat_map texts.state_line rows
 states_text [] = refl
 states_text (row ∷ rows) = ap (λ l. texts.state_line row ++ l) (states_text rows)
 
@@ -89,7 +89,7 @@ module _ (i : Image) (t : List ℕ) (img : IsImage i) (slots : List Slot) (outpu
       → outcome_form (record { ended = ended; states = map (λ (s : Slot). s.state) slots; outputs = map (λ (o : Output). o.bytes) outputs }) ≡ outcome_form (outcome_at i t)
   unfolding outcome_of
   outcome_is ended is =
-      let states : map (λ (s : Slot). s.state) slots ≡ map (λ (row : Row). row.slot.state) there.core.rows = ap (map (λ (s : Slot). s.state)) are_slots ∙ states_of there.core.rows in
+      let states : map (λ (s : Slot). s.state) slots ≡ map (λ (row : ThreadRow). row.slot.state) there.core.rows = ap (map (λ (s : Slot). s.state)) are_slots ∙ states_of there.core.rows in
       let bytes : map (λ (o : Output). o.bytes) outputs ≡ map (output_of there.core) (groups_of there.core) =
       ap (map (λ (o : Output). o.bytes)) are_outputs ∙ bytes_of there (groups_of (start i).core) ∙ ap (map (output_of there.core)) (sym (groups_stay i t img)) in
       λ j. outcome_form (record { ended = is j; states = states j; outputs = bytes j })

@@ -3,7 +3,7 @@ use Rattle.std.proofs.Common.{◌≡◌, ℕ, ◌+◌, Bool, true, false, cond, 
 use Rattle.std.specs.List.{filter, list_any, range_with_len}
 use Rattle.mm_model.specs.declared.slot.SlotState.{SlotState}
 use Rattle.mm_model.specs.Slot.{Slot}
-use Rattle.mm_model.specs.State.{Row, Core, State, slot_at, output_of}
+use Rattle.mm_model.specs.State.{ThreadRow, Core, State, slot_at, output_of}
 use Rattle.mm_model.specs.Turn.{Turned, turn}
 use Rattle.mm_model.specs.Run.{turn_of, after}
 use Rattle.mm_model.specs.Trace.{group_of, group_in}
@@ -15,7 +15,7 @@ use Rattle.mm_explore.proofs.Uncounted.{uncounted_one, slot_at_so, SameTurn, tur
 
 -- 1. What is read of the rows without counts.
 
-filter_bare : (p : Row → Bool) → ((row : Row) → p (uncounted_row row) ≡ p row) → (rows : List Row) → filter p (map uncounted_row rows) ≡ map uncounted_row (filter p rows)
+filter_bare : (p : ThreadRow → Bool) → ((row : ThreadRow) → p (uncounted_row row) ≡ p row) → (rows : List ThreadRow) → filter p (map uncounted_row rows) ≡ map uncounted_row (filter p rows)
 filter_bare p h [] = refl
 filter_bare p h (row ∷ rows) =
     ap (λ l. cond (p (uncounted_row row)) (uncounted_row row ∷ l) l) (filter_bare p h rows)
@@ -26,23 +26,23 @@ filter_bare p h (row ∷ rows) =
     by true = refl
     by false = refl
 
-map_bare : {Y : Type 0} (f : Row → Y) → ((row : Row) → f (uncounted_row row) ≡ f row) → (rows : List Row) → map f (map uncounted_row rows) ≡ map f rows
+map_bare : {Y : Type 0} (f : ThreadRow → Y) → ((row : ThreadRow) → f (uncounted_row row) ≡ f row) → (rows : List ThreadRow) → map f (map uncounted_row rows) ≡ map f rows
 map_bare f h [] = refl
 map_bare f h (row ∷ rows) = ap (λ x. x ∷ map f (map uncounted_row rows)) (h row) ∙ ap (λ l. f row ∷ l) (map_bare f h rows)
 
-any_bare : (g : ℕ) (rows : List Row) → list_any (is_of g) (map uncounted_row rows) ≡ list_any (is_of g) rows
+any_bare : (g : ℕ) (rows : List ThreadRow) → list_any (is_of g) (map uncounted_row rows) ≡ list_any (is_of g) rows
 any_bare g [] = refl
 any_bare g (row ∷ rows) = ap (λ b. is_of g row || b) (any_bare g rows)
 
-running_bare : (rows : List Row) → running_slots (map uncounted_row rows) ≡ running_slots rows
+running_bare : (rows : List ThreadRow) → running_slots (map uncounted_row rows) ≡ running_slots rows
 running_bare rows =
-    ap (map (λ (row : Row). row.slot.number)) (filter_bare runs (λ row. refl) rows)
-    ∙ map_bare (λ (row : Row). row.slot.number) (λ row. refl) (filter runs rows)
+    ap (map (λ (row : ThreadRow). row.slot.number)) (filter_bare runs (λ row. refl) rows)
+    ∙ map_bare (λ (row : ThreadRow). row.slot.number) (λ row. refl) (filter runs rows)
 
-loaded_bare : (rows : List Row) → loaded_ports (map uncounted_row rows) ≡ loaded_ports rows
+loaded_bare : (rows : List ThreadRow) → loaded_ports (map uncounted_row rows) ≡ loaded_ports rows
 loaded_bare rows =
-    ap (map (λ (row : Row). 128 + row.slot.number)) (filter_bare has_load (λ row. refl) rows)
-    ∙ map_bare (λ (row : Row). 128 + row.slot.number) (λ row. refl) (filter has_load rows)
+    ap (map (λ (row : ThreadRow). 128 + row.slot.number)) (filter_bare has_load (λ row. refl) rows)
+    ∙ map_bare (λ (row : ThreadRow). 128 + row.slot.number) (λ row. refl) (filter has_load rows)
 
 -- the moves of a configuration
 pub moves_bare : (s : State) → moves (configuration s) ≡ moves s
@@ -64,9 +64,9 @@ unfolding outcome_of configuration output_of
 outcome_bare s =
     let core = s.core in
     let make : List ℕ → List SlotState → List (List ℕ) → Outcome = λ ms states outputs. record { ended = is_none ms; states = states; outputs = outputs } in
-    ap (λ ms. make ms (map (λ (row : Row). row.slot.state) (map uncounted_row core.rows)) (map (output_of core) (groups_of (uncounted core)))) (moves_bare s)
-    ∙ ap (λ states. make (moves s) states (map (output_of core) (groups_of (uncounted core)))) (map_bare (λ (row : Row). row.slot.state) (λ row. refl) core.rows)
-    ∙ ap (λ gs. make (moves s) (map (λ (row : Row). row.slot.state) core.rows) (map (output_of core) gs)) (groups_bare core)
+    ap (λ ms. make ms (map (λ (row : ThreadRow). row.slot.state) (map uncounted_row core.rows)) (map (output_of core) (groups_of (uncounted core)))) (moves_bare s)
+    ∙ ap (λ states. make (moves s) states (map (output_of core) (groups_of (uncounted core)))) (map_bare (λ (row : ThreadRow). row.slot.state) (λ row. refl) core.rows)
+    ∙ ap (λ gs. make (moves s) (map (λ (row : ThreadRow). row.slot.state) core.rows) (map (output_of core) gs)) (groups_bare core)
 
 pub same_outcomes : (s t : State) → configuration s ≡ configuration t → outcome_of s ≡ outcome_of t
 same_outcomes s t e = sym (outcome_bare s) ∙ ap outcome_of e ∙ outcome_bare t

@@ -8,7 +8,7 @@ use Rattle.mm_model.specs.declared.event.Event.{Event}
 use Rattle.mm_model.specs.declared.slot.Pending.{Pending}
 use Rattle.mm_model.specs.Memory.{Memory, page_at}
 use Rattle.mm_model.specs.Slot.{Slot}
-use Rattle.mm_model.specs.State.{Row, Core, State, row_in, queue_of, slot_at, queue_at, output_of}
+use Rattle.mm_model.specs.State.{ThreadRow, Core, State, row_in, queue_of, slot_at, queue_at, output_of}
 use Rattle.mm_model.specs.Image.{Image, slot_limit}
 use Rattle.mm_model.specs.Spelling.{IsFresh, HoldsWords, IsImage}
 use Rattle.mm_model.specs.Report.{same_cell, changes_from, cells_or_zero}
@@ -62,7 +62,7 @@ keepables limit all (b ∷ base) (s ∷ slots) same f h =
     let rest : map identity_of slots ≡ map identity_of base = cc in
     ((keepable limit all b s head f.0 h.0, unused limit all b f.0), keepables limit all base slots rest f.1 h.1)
 
-slots_hold : (rows : List Row) → AllByRecursion RowHoldsWords rows → AllByRecursion SlotHoldsWords (map (λ (row : Row). row.slot) rows)
+slots_hold : (rows : List ThreadRow) → AllByRecursion RowHoldsWords rows → AllByRecursion SlotHoldsWords (map (λ (row : ThreadRow). row.slot) rows)
 slots_hold [] h = tt
 slots_hold (row ∷ rows) h = (h.0.slot, slots_hold rows h.1)
 
@@ -78,7 +78,7 @@ uncounted_twice (s ∷ slots) = ap (λ l. uncounted_slot s ∷ l) (uncounted_twi
 
 -- 2. Events.
 
-queue_holds : (rows : List Row) (n : ℕ) → AllByRecursion RowHoldsWords rows → AllByRecursion EventHoldsWords (queue_of (row_in rows n))
+queue_holds : (rows : List ThreadRow) (n : ℕ) → AllByRecursion RowHoldsWords rows → AllByRecursion EventHoldsWords (queue_of (row_in rows n))
 queue_holds [] n h = tt
 queue_holds (row ∷ rows) n h = by (row.slot.number == n) (queue_holds rows n h.1)
   where

@@ -4,7 +4,7 @@ use Rattle.std.specs.Prelude.{slice_set}
 use Rattle.std.specs.List.{AllByRecursion, flat_map}
 use Rattle.mm_model.specs.declared.event.Event.{Event}
 use Rattle.mm_model.specs.Slot.{Slot}
-use Rattle.mm_model.specs.State.{Row, Core, State, output_of}
+use Rattle.mm_model.specs.State.{ThreadRow, Core, State, output_of}
 use Rattle.mm_model.specs.Image.{Image, start}
 use Rattle.mm_model.specs.Spelling.{IsImage}
 use Rattle.mm_model.specs.Run.{after, run}
@@ -24,16 +24,16 @@ use Rattle.mm_explore.proofs.Tame.{OutputMoves, turns_are_tame}
 use Rattle.mm_explore.proofs.Keepables.{kept_tells}
 use Rattle.mm_explore.proofs.Assembling.{assembles}
 
-slots_bare : (rows : List Row) → map uncounted_slot (map (λ (row : Row). row.slot) (map uncounted_row rows)) ≡ map uncounted_slot (map (λ (row : Row). row.slot) rows)
+slots_bare : (rows : List ThreadRow) → map uncounted_slot (map (λ (row : ThreadRow). row.slot) (map uncounted_row rows)) ≡ map uncounted_slot (map (λ (row : ThreadRow). row.slot) rows)
 slots_bare [] = refl
 slots_bare (row ∷ rows) = ap (λ l. uncounted_slot row.slot ∷ l) (slots_bare rows)
 
-queued_bare : (core : Core) (rows : List Row) → flat_map (queued_at (uncounted core))
-    (map (λ (row : Row). row.slot) (map uncounted_row rows)) ≡ flat_map (queued_at core)
-    (map (λ (row : Row). row.slot) rows)
+queued_bare : (core : Core) (rows : List ThreadRow) → flat_map (queued_at (uncounted core))
+    (map (λ (row : ThreadRow). row.slot) (map uncounted_row rows)) ≡ flat_map (queued_at core)
+    (map (λ (row : ThreadRow). row.slot) rows)
 queued_bare core [] = refl
 queued_bare core (row ∷ rows) =
-    ap (λ q. map (λ (e : Event). (row.slot.number, e)) q ++ flat_map (queued_at (uncounted core)) (map (λ (r : Row). r.slot) (map uncounted_row rows))) (queue_at_so core row.slot.number)
+    ap (λ q. map (λ (e : Event). (row.slot.number, e)) q ++ flat_map (queued_at (uncounted core)) (map (λ (r : ThreadRow). r.slot) (map uncounted_row rows))) (queue_at_so core row.slot.number)
     ∙ ap (λ l. queued_at core row.slot ++ l) (queued_bare core rows)
 
 -- the parts of a configuration

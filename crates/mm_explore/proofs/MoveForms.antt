@@ -6,7 +6,7 @@ use Rattle.mm_model.specs.Groups.{has_group}
 use Rattle.mm_model.specs.Image.{Image, start}
 use Rattle.mm_model.specs.Report.{is_of, groups_of}
 use Rattle.mm_model.specs.Slot.{Slot}
-use Rattle.mm_model.specs.State.{Row, State}
+use Rattle.mm_model.specs.State.{ThreadRow, State}
 use Rattle.mm_model.specs.Turn.{is_running}
 use Rattle.mm_explore.specs.Assembled.{IsStateOf}
 use Rattle.mm_explore.specs.Configurations.{uncounted_slot, runs, has_load, are_some, running_slots, loaded_ports, moves}
@@ -14,24 +14,24 @@ use Rattle.mm_explore.specs.MoveLists.{running_item, loaded_item, ports_in, move
 
 -- 1. Moves.
 
-bare : List Row → List Slot
-bare rows = map uncounted_slot (map (λ (row : Row). row.slot) rows)
+bare : List ThreadRow → List Slot
+bare rows = map uncounted_slot (map (λ (row : ThreadRow). row.slot) rows)
 
-running_are : (rows : List Row) → flat_map running_item (map uncounted_slot (map (λ (row : Row). row.slot) rows)) ≡ running_slots rows
+running_are : (rows : List ThreadRow) → flat_map running_item (map uncounted_slot (map (λ (row : ThreadRow). row.slot) rows)) ≡ running_slots rows
 running_are [] = refl
 running_are (row ∷ rows) =
     ap (λ l. (if is_running row.slot.state then row.slot.number ∷ [] else []) ++ l) (running_are rows) ∙ by (is_running row.slot.state)
   where
-    by : (b : Bool) → (if b then row.slot.number ∷ [] else []) ++ running_slots rows ≡ map (λ (r : Row). r.slot.number) (cond b (row ∷ filter runs rows) (filter runs rows))
+    by : (b : Bool) → (if b then row.slot.number ∷ [] else []) ++ running_slots rows ≡ map (λ (r : ThreadRow). r.slot.number) (cond b (row ∷ filter runs rows) (filter runs rows))
     by true = refl
     by false = refl
 
-loaded_are : (rows : List Row) → flat_map loaded_item (map uncounted_slot (map (λ (row : Row). row.slot) rows)) ≡ loaded_ports rows
+loaded_are : (rows : List ThreadRow) → flat_map loaded_item (map uncounted_slot (map (λ (row : ThreadRow). row.slot) rows)) ≡ loaded_ports rows
 loaded_are [] = refl
 loaded_are (row ∷ rows) =
     ap (λ l. (if are_some row.slot.pending then (128 + row.slot.number) ∷ [] else []) ++ l) (loaded_are rows) ∙ by (are_some row.slot.pending)
   where
-    by : (b : Bool) → (if b then (128 + row.slot.number) ∷ [] else []) ++ loaded_ports rows ≡ map (λ (r : Row). 128 + r.slot.number) (cond b (row ∷ filter has_load rows) (filter has_load rows))
+    by : (b : Bool) → (if b then (128 + row.slot.number) ∷ [] else []) ++ loaded_ports rows ≡ map (λ (r : ThreadRow). 128 + r.slot.number) (cond b (row ∷ filter has_load rows) (filter has_load rows))
     by true = refl
     by false = refl
 
@@ -43,7 +43,7 @@ moves_are s split slots e is =
     ∙ ap (λ l. l ++ ports_in s.core.split own) (running_are s.core.rows)
     ∙ ap (λ l. running_slots s.core.rows ++ (if s.core.split then l else [])) (loaded_are s.core.rows)
 
-small_in : (rows : List Row) → AllByRecursion IsSlot (map (λ (row : Row). row.slot) rows) → AllByRecursion (λ (s : Slot). s.number < 64) (map uncounted_slot (map (λ (row : Row). row.slot) rows))
+small_in : (rows : List ThreadRow) → AllByRecursion IsSlot (map (λ (row : ThreadRow). row.slot) rows) → AllByRecursion (λ (s : Slot). s.number < 64) (map uncounted_slot (map (λ (row : ThreadRow). row.slot) rows))
 small_in [] h = tt
 small_in (row ∷ rows) h = (h.0.number, small_in rows h.1)
 
@@ -52,7 +52,7 @@ small_numbers i s slots h is = subst (AllByRecursion (λ (x : Slot). x.number < 
 
 -- 2. Groups.
 
-any_started : (g : ℕ) (slots : List Slot) → list_any (is_of g) (map (λ s. let row : Row = record { slot = s; queue = [] } in row) slots) ≡ has_group slots g
+any_started : (g : ℕ) (slots : List Slot) → list_any (is_of g) (map (λ s. let row : ThreadRow = record { slot = s; queue = [] } in row) slots) ≡ has_group slots g
 any_started g [] = refl
 any_started g (s ∷ slots) = ap (λ b. is_of g (record { slot = s; queue = [] }) || b) (any_started g slots)
 
@@ -63,7 +63,7 @@ filter_same p q h (x ∷ xs) = ap (λ l. cond (p x) (x ∷ l) l) (filter_same p 
 pub groups_start : (i : Image) → filter (has_group i.slots) (range_with_len 0 64) ≡ groups_of (start i).core
 unfolding start
 groups_start i = sym (filter_same
-    (λ g. list_any (is_of g) (map (λ s. let row : Row = record { slot = s; queue = [] } in row) i.slots))
+    (λ g. list_any (is_of g) (map (λ s. let row : ThreadRow = record { slot = s; queue = [] } in row) i.slots))
     (has_group i.slots) (λ g. any_started g i.slots) (range_with_len 0 64))
 
 pub groups_from : (i : Image) (slots : List Slot) (groups : List ℕ) → slots ≡ i.slots → groups ≡ filter (has_group slots) (range_with_len 0 64) → groups ≡ groups_of (start i).core

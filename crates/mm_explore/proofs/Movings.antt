@@ -9,7 +9,7 @@ use Rattle.std.proofs.lemmas.List.Elements.{Contains-append_left, Contains-appen
 use Rattle.mm_model.specs.declared.slot.Pending.{Pending}
 use Rattle.mm_model.specs.Memory.{Memory}
 use Rattle.mm_model.specs.Slot.{Slot}
-use Rattle.mm_model.specs.State.{Row, Core, State, row_in, slot_of, slot_at}
+use Rattle.mm_model.specs.State.{ThreadRow, Core, State, row_in, slot_of, slot_at}
 use Rattle.mm_model.specs.Turn.{Turned, is_running, started, idle, arrives, taken_by_port, taken_by, turn}
 use Rattle.mm_model.specs.Run.{turn_of, after, run}
 use Rattle.std.specs.List.Sorted.{IsStrictlyIncreasing}
@@ -34,13 +34,13 @@ both_second false b e = cc
 
 -- 1. Rows by number.
 
-record RowOf (rows : List Row) (n : ℕ) (s : Slot) : Type 0 where
-  row : Row
+record RowOf (rows : List ThreadRow) (n : ℕ) (s : Slot) : Type 0 where
+  row : ThreadRow
   inside : Contains rows row
   number : row.slot.number ≡ n
   slot : row.slot ≡ s
 
-row_of : (rows : List Row) (n : ℕ) (s : Slot) → slot_of (row_in rows n) ≡ Some s → RowOf rows n s
+row_of : (rows : List ThreadRow) (n : ℕ) (s : Slot) → slot_of (row_in rows n) ≡ Some s → RowOf rows n s
 row_of [] n s e = cc
 row_of (row ∷ rows) n s e = by (row.slot.number == n) refl (row_of rows n s) e
   where
@@ -59,7 +59,7 @@ module _ (core : Core) (m : Memory) (n : ℕ) where
   unfolding slot_at moves
   runs_here s at going =
       let k = row_of core.rows n s at in
-      let number : Row → ℕ = λ row. row.slot.number in
+      let number : ThreadRow → ℕ = λ row. row.slot.number in
       let one = in_map number (filter runs core.rows) k.row (in_filter runs core.rows k.row k.inside (ap (λ (x : Slot). is_running x.state) k.slot ∙ going)) in
       Contains-append_left (running_slots core.rows) (if core.split then loaded_ports core.rows else []) n (subst (Contains (running_slots core.rows)) k.number one)
 
@@ -67,7 +67,7 @@ module _ (core : Core) (m : Memory) (n : ℕ) where
   unfolding slot_at moves
   loads_here s p loads split low at is =
       let k = row_of core.rows (n - 128) s at in
-      let port : Row → ℕ = λ row. 128 + row.slot.number in
+      let port : ThreadRow → ℕ = λ row. 128 + row.slot.number in
       let same : 128 + k.row.slot.number ≡ n = let e = k.number in omega (arith, e, low) in
       let one = in_map port (filter has_load core.rows) k.row (in_filter has_load core.rows k.row k.inside (ap (λ (x : Slot). are_some x.pending) k.slot ∙ ap are_some is)) in
       Contains-append_right (running_slots core.rows) (if core.split then loaded_ports core.rows else []) n
@@ -119,28 +119,28 @@ others_are_idle s n never = elim (moves_or_idles s n) [
 
 -- 3. The moves of a state of a run ascend.
 
-abbrev Lower : Row → Row → Type 0
+abbrev Lower : ThreadRow → ThreadRow → Type 0
 Lower a b = a.slot.number < b.slot.number
 
-numbers_above : (n : ℕ) (rows : List Row) → AllByRecursion (λ y. n < y) (map (λ (s : Slot). s.number) (map (λ (row : Row). row.slot) rows)) → AllByRecursion (λ (x : Row). n < x.slot.number) rows
+numbers_above : (n : ℕ) (rows : List ThreadRow) → AllByRecursion (λ y. n < y) (map (λ (s : Slot). s.number) (map (λ (row : ThreadRow). row.slot) rows)) → AllByRecursion (λ (x : ThreadRow). n < x.slot.number) rows
 numbers_above n [] h = tt
 numbers_above n (row ∷ rows) h = (h.0, numbers_above n rows h.1)
 
-rows_rise : (rows : List Row) → IsStrictlyIncreasing (map (λ (s : Slot). s.number) (map (λ (row : Row). row.slot) rows)) → EachPair Lower rows
+rows_rise : (rows : List ThreadRow) → IsStrictlyIncreasing (map (λ (s : Slot). s.number) (map (λ (row : ThreadRow). row.slot) rows)) → EachPair Lower rows
 rows_rise [] h = tt
 rows_rise (row ∷ rows) h =
-    let numbers : List ℕ = map (λ (s : Slot). s.number) (map (λ (r : Row). r.slot) rows) in
+    let numbers : List ℕ = map (λ (s : Slot). s.number) (map (λ (r : ThreadRow). r.slot) rows) in
     (numbers_above row.slot.number rows (above_first row.slot.number numbers h), rows_rise rows (rest_rises row.slot.number numbers h))
 
-abbrev slot_number : Row → ℕ
+abbrev slot_number : ThreadRow → ℕ
 slot_number row = row.slot.number
 
-abbrev port_number : Row → ℕ
+abbrev port_number : ThreadRow → ℕ
 port_number row = 128 + row.slot.number
 
 module _ (core : Core) (h : IsFormed core) where
-  low : (row : Row) → Contains core.rows row → row.slot.number < 64
-  low row inside = (all_at IsSlot (slots_of core) row.slot h.slots (in_map (λ (r : Row). r.slot) core.rows row inside)).number
+  low : (row : ThreadRow) → Contains core.rows row → row.slot.number < 64
+  low row inside = (all_at IsSlot (slots_of core) row.slot h.slots (in_map (λ (r : ThreadRow). r.slot) core.rows row inside)).number
 
   running_rise : EachPair ◌<◌ (running_slots core.rows)
   running_rise = pairs_map Lower ◌<◌ slot_number (filter runs core.rows) (λ a b left right lt. lt) (pairs_filter Lower runs core.rows (rows_rise core.rows h.rising))

@@ -10,7 +10,7 @@ use Rattle.mm_model.specs.Run.{run}
 use Rattle.mm_model.specs.Report.{groups_of}
 use Rattle.mm_model.specs.Slot.{Slot}
 use Rattle.mm_model.specs.Spelling.{IsFresh, IsImage}
-use Rattle.mm_model.specs.State.{Row, Core, State}
+use Rattle.mm_model.specs.State.{ThreadRow, Core, State}
 use Rattle.mm_model.proofs.CoreRows.{each_map}
 use Rattle.mm_model.proofs.Fitted.{paged_of}
 use Rattle.mm_machine.specs.Snapshot.{queued, page_numbers}
@@ -50,7 +50,7 @@ pub core_given : (i : Image) (s : State) (slots : List Slot) (events : List (ℕ
 core_given i s slots events outputs pages cells version split img h e is_version is_split =
     (λ j. core_of (is_version j) (is_split j) (e j).slots (e j).events (e j).outputs) ∙ made i s img h
 
-rows_twice : (rows : List Row) → map uncounted_row (map uncounted_row rows) ≡ map uncounted_row rows
+rows_twice : (rows : List ThreadRow) → map uncounted_row (map uncounted_row rows) ≡ map uncounted_row rows
 rows_twice [] = refl
 rows_twice (row ∷ rows) = ap (λ l. uncounted_row row ∷ l) (rows_twice rows)
 
@@ -63,7 +63,7 @@ standing_at core m s e f =
     (λ j. let x : State = record { core = uncounted (e j); memory = f j; cycles = 0 } in x)
     ∙ ap (λ (c : Core). let x : State = record { core = c; memory = s.memory; cycles = 0 } in x) (twice s.core)
 
-no_turns : (rows : List Row) → AllByRecursion (λ (s : Slot). s.turns < 2 ^ 61) (map (λ (row : Row). row.slot) (map uncounted_row rows))
+no_turns : (rows : List ThreadRow) → AllByRecursion (λ (s : Slot). s.turns < 2 ^ 61) (map (λ (row : ThreadRow). row.slot) (map uncounted_row rows))
 no_turns [] = tt
 no_turns (row ∷ rows) = (omega arith, no_turns rows)
 
@@ -72,7 +72,7 @@ turns_few core s e = subst (λ (c : Core). AllByRecursion (λ (x : Slot). x.turn
 
 -- 3. What a machine at a configuration has in common with the state.
 
-identities_bare : (rows : List Row) → map identity_of (map (λ (row : Row). row.slot) (map uncounted_row rows)) ≡ map identity_of (map (λ (row : Row). row.slot) rows)
+identities_bare : (rows : List ThreadRow) → map identity_of (map (λ (row : ThreadRow). row.slot) (map uncounted_row rows)) ≡ map identity_of (map (λ (row : ThreadRow). row.slot) rows)
 identities_bare [] = refl
 identities_bare (row ∷ rows) = ap (λ l. identity_of row.slot ∷ l) (identities_bare rows)
 

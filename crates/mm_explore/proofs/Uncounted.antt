@@ -29,7 +29,7 @@ use Rattle.mm_model.specs.declared.event.Event.{Event}
 use Rattle.mm_model.specs.Memory.{Memory, cell_at, passes}
 use Rattle.mm_model.specs.Uses.{Use, Accessed}
 use Rattle.mm_model.specs.Slot.{Slot, register, is_empty}
-use Rattle.mm_model.specs.State.{Row, Core, row_in, slot_of, queue_of, slot_at, queue_at, at_number, put_slot, put_queue, output_of, put_output}
+use Rattle.mm_model.specs.State.{ThreadRow, Core, row_in, slot_of, queue_of, slot_at, queue_at, at_number, put_slot, put_queue, output_of, put_output}
 use Rattle.mm_model.specs.Operands.{addr_operand, value_operand, field_a, field_b, field_imm, fields_d, word_a, word_b, field_empty, lacks}
 use Rattle.std.specs.List.{list_any}
 use Rattle.mm_model.specs.Ask.{Ask, ask, is_privileged}
@@ -48,14 +48,14 @@ use Rattle.mm_explore.specs.Configurations.{uncounted_slot, uncounted_row, uncou
 
 -- 1. Cores without counts of turns.
 
-rows_again : (rows : List Row) → map uncounted_row (map uncounted_row rows) ≡ map uncounted_row rows
+rows_again : (rows : List ThreadRow) → map uncounted_row (map uncounted_row rows) ≡ map uncounted_row rows
 rows_again [] = refl
 rows_again (row ∷ rows) = ap (λ l. uncounted_row row ∷ l) (rows_again rows)
 
 pub uncounted_again : (core : Core) → uncounted (uncounted core) ≡ uncounted core
-uncounted_again core = ap (λ (rows : List Row). record core { rows = rows }) (rows_again core.rows)
+uncounted_again core = ap (λ (rows : List ThreadRow). record core { rows = rows }) (rows_again core.rows)
 
-put_rows : (n : ℕ) (s : Slot) (rows : List Row)
+put_rows : (n : ℕ) (s : Slot) (rows : List ThreadRow)
     → map uncounted_row (map (at_number n (λ row. record row { slot = s })) rows)
     ≡ map (at_number n (λ row. record row { slot = uncounted_slot s })) (map uncounted_row rows)
 put_rows n s [] = refl
@@ -70,9 +70,9 @@ put_rows n s (row ∷ rows) =
 
 put_slot_so : (core : Core) (s : Slot) → uncounted (put_slot core s) ≡ put_slot (uncounted core) (uncounted_slot s)
 unfolding put_slot
-put_slot_so core s = ap (λ (rows : List Row). record core { rows = rows }) (put_rows s.number s core.rows)
+put_slot_so core s = ap (λ (rows : List ThreadRow). record core { rows = rows }) (put_rows s.number s core.rows)
 
-queue_rows : (n : ℕ) (q : List Event) (rows : List Row)
+queue_rows : (n : ℕ) (q : List Event) (rows : List ThreadRow)
     → map uncounted_row (map (at_number n (λ row. record row { queue = q })) rows)
     ≡ map (at_number n (λ row. record row { queue = q })) (map uncounted_row rows)
 queue_rows n q [] = refl
@@ -87,9 +87,9 @@ queue_rows n q (row ∷ rows) =
 
 put_queue_so : (core : Core) (n : ℕ) (q : List Event) → uncounted (put_queue core n q) ≡ put_queue (uncounted core) n q
 unfolding put_queue
-put_queue_so core n q = ap (λ (rows : List Row). record core { rows = rows }) (queue_rows n q core.rows)
+put_queue_so core n q = ap (λ (rows : List ThreadRow). record core { rows = rows }) (queue_rows n q core.rows)
 
-abbrev pub uncounted_found : Option Row → Option Row
+abbrev pub uncounted_found : Option ThreadRow → Option ThreadRow
 uncounted_found None = None
 uncounted_found (Some row) = Some (uncounted_row row)
 
@@ -97,7 +97,7 @@ abbrev pub uncounted_one : Option Slot → Option Slot
 uncounted_one None = None
 uncounted_one (Some s) = Some (uncounted_slot s)
 
-row_in_so : (rows : List Row) (n : ℕ) → row_in (map uncounted_row rows) n ≡ uncounted_found (row_in rows n)
+row_in_so : (rows : List ThreadRow) (n : ℕ) → row_in (map uncounted_row rows) n ≡ uncounted_found (row_in rows n)
 row_in_so [] n = refl
 row_in_so (row ∷ rows) n = by (row.slot.number == n) (row_in_so rows n)
   where
@@ -107,11 +107,11 @@ row_in_so (row ∷ rows) n = by (row.slot.number == n) (row_in_so rows n)
     by true rest = refl
     by false rest = rest
 
-slot_of_so : (o : Option Row) → slot_of (uncounted_found o) ≡ uncounted_one (slot_of o)
+slot_of_so : (o : Option ThreadRow) → slot_of (uncounted_found o) ≡ uncounted_one (slot_of o)
 slot_of_so None = refl
 slot_of_so (Some row) = refl
 
-queue_of_so : (o : Option Row) → queue_of (uncounted_found o) ≡ queue_of o
+queue_of_so : (o : Option ThreadRow) → queue_of (uncounted_found o) ≡ queue_of o
 queue_of_so None = refl
 queue_of_so (Some row) = refl
 

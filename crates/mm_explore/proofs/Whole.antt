@@ -8,7 +8,7 @@ use Rattle.mm_model.specs.Groups.{has_group}
 use Rattle.mm_model.specs.Image.{Image}
 use Rattle.mm_model.specs.Slot.{Slot, register, is_empty}
 use Rattle.mm_model.specs.Spelling.{numbers_of, IsOther, IsImage}
-use Rattle.mm_model.specs.State.{Row, Core, State, slot_at, queue_at, output_of}
+use Rattle.mm_model.specs.State.{ThreadRow, Core, State, slot_at, queue_at, output_of}
 use Rattle.mm_model.specs.Fits.{IsSlot, slots_of, IsFormed, LoadsMatch, events_of, waits_for, WaitsForSome, Matches, identity_of, IsAtSlot, LoadsAreKept, TakenBySome, IsKept, IsOfVersion, IsCore}
 use Rattle.mm_model.proofs.CoreRows.{each_map}
 use Rattle.mm_model.proofs.Fitted.{core_of as core_of_state}
@@ -23,22 +23,22 @@ use Rattle.mm_explore.proofs.Assembling.{assembles}
 
 -- 1. Slots with no counts.
 
-abbrev slots_in : List Row → List Slot
-slots_in rows = map (λ (row : Row). row.slot) rows
+abbrev slots_in : List ThreadRow → List Slot
+slots_in rows = map (λ (row : ThreadRow). row.slot) rows
 
-slots_bare : (rows : List Row) → slots_in (map uncounted_row rows) ≡ map uncounted_slot (slots_in rows)
+slots_bare : (rows : List ThreadRow) → slots_in (map uncounted_row rows) ≡ map uncounted_slot (slots_in rows)
 slots_bare [] = refl
 slots_bare (row ∷ rows) = ap (λ l. uncounted_slot row.slot ∷ l) (slots_bare rows)
 
-each_bare : (P Q : Slot → Type 0) → ((s : Slot) → P s → Q (uncounted_slot s)) → (rows : List Row) → AllByRecursion P (slots_in rows) → AllByRecursion Q (slots_in (map uncounted_row rows))
+each_bare : (P Q : Slot → Type 0) → ((s : Slot) → P s → Q (uncounted_slot s)) → (rows : List ThreadRow) → AllByRecursion P (slots_in rows) → AllByRecursion Q (slots_in (map uncounted_row rows))
 each_bare P Q f [] h = h
 each_bare P Q f (row ∷ rows) h = (f row.slot h.0, each_bare P Q f rows h.1)
 
-numbers_bare : (rows : List Row) → numbers_of (slots_in (map uncounted_row rows)) ≡ numbers_of (slots_in rows)
+numbers_bare : (rows : List ThreadRow) → numbers_of (slots_in (map uncounted_row rows)) ≡ numbers_of (slots_in rows)
 numbers_bare [] = refl
 numbers_bare (row ∷ rows) = ap (λ l. row.slot.number ∷ l) (numbers_bare rows)
 
-group_bare : (g : ℕ) (rows : List Row) → has_group (slots_in (map uncounted_row rows)) g ≡ has_group (slots_in rows) g
+group_bare : (g : ℕ) (rows : List ThreadRow) → has_group (slots_in (map uncounted_row rows)) g ≡ has_group (slots_in rows) g
 group_bare g [] = refl
 group_bare g (row ∷ rows) = ap (λ b. (row.slot.group == g) || b) (group_bare g rows)
 
@@ -46,7 +46,7 @@ identities_bare : (slots : List Slot) → map identity_of (map uncounted_slot sl
 identities_bare [] = refl
 identities_bare (s ∷ slots) = ap (λ l. identity_of s ∷ l) (identities_bare slots)
 
-other_bare : (rows : List Row) (n h : ℕ) → IsOther (slots_in rows) n h → IsOther (slots_in (map uncounted_row rows)) n h
+other_bare : (rows : List ThreadRow) (n h : ℕ) → IsOther (slots_in rows) n h → IsOther (slots_in (map uncounted_row rows)) n h
 other_bare rows n h o =
     let at = o.1 in
     let inside = subst (λ (l : List Slot). Contains l (uncounted_slot at.0)) (sym (slots_bare rows)) (in_map uncounted_slot (slots_in rows) at.0 at.1) in

@@ -4,7 +4,7 @@ use Rattle.std.specs.Prelude.{decimal, zip, Option, Some, None}
 use Rattle.std.specs.List.{AllZip, flat_map, range_with_len}
 use Rattle.mm_model.specs.Digits.{hex}
 use Rattle.mm_model.specs.Lines.{newline, state_text, output_lines}
-use Rattle.mm_model.specs.State.{Row, State, output_of}
+use Rattle.mm_model.specs.State.{ThreadRow, State, output_of}
 use Rattle.mm_model.specs.Image.{Image, start}
 use Rattle.mm_model.specs.Slot.{Slot}
 use Rattle.mm_model.specs.Run.{run}
@@ -69,7 +69,7 @@ abbrev pub end_text : Bool → List ℕ
 end_text true = codes " ended\n"
 end_text false = codes " stuck\n"
 
-abbrev pub state_line : Row → List ℕ
+abbrev pub state_line : ThreadRow → List ℕ
 state_line row = codes "slot " ++ decimal row.slot.number ++ codes " " ++ state_text row.slot.state ++ newline
 
 abbrev pub group_lines : State → ℕ → List ℕ

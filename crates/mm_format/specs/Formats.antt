@@ -20,14 +20,14 @@ pub record Format (A : Type 0) : Type 1 where
   pub read : (bytes : List ℕ) (at : ℕ) → Outcome A
 
 -- the text is what the bytes have at this place
-abbrev pub Stands : (bytes : List ℕ) (at : ℕ) (text : List ℕ) → Type 0
-Stands bytes at text = take (length text) (drop at bytes) ≡ text
+abbrev pub IsAt : (bytes : List ℕ) (at : ℕ) (text : List ℕ) → Type 0
+IsAt bytes at text = take (length text) (drop at bytes) ≡ text
 
 -- what a format has to be: what is read fits and is spelled where it was read; what fits is read where it is spelled
 pub record IsFormat {A : Type 0} (f : Format A) : Type 0 where
   pub sound : (bytes : List ℕ) → IsBytes bytes → (at : ℕ) (a : A) (next : ℕ) → f.read bytes at ≡ Outcome.Got a next
-      → f.Fits a × Stands bytes at (f.spell a) × (next ≡ at + length (f.spell a))
-  pub complete : (bytes : List ℕ) (at : ℕ) (a : A) → f.Fits a → Stands bytes at (f.spell a)
+      → f.Fits a × IsAt bytes at (f.spell a) × (next ≡ at + length (f.spell a))
+  pub complete : (bytes : List ℕ) (at : ℕ) (a : A) → f.Fits a → IsAt bytes at (f.spell a)
       → at ≤ length bytes → f.read bytes at ≡ Outcome.Got a (at + length (f.spell a))
 
 -- 2. Fields.

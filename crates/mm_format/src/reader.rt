@@ -1,7 +1,7 @@
 //! A reader of bytes from the front, field by field.
 
-ghost use Rattle.std.specs.Prelude.{◌≡◌, if◌then◌else◌, false, IfOk, OnOk, OnErr, length};
-ghost use Rattle.mm_format.specs.Formats.{text, byte, u16, u32, u64, Outcome};
+ghost use Rattle.std.specs.Prelude.{◌≡◌, ◌≤◌, if◌then◌else◌, false, nat_lt, IfOk, OnOk, OnErr, length};
+ghost use Rattle.mm_format.specs.Formats.{text, byte, u16, u32, u64, test, literal, Outcome};
 ghost use Rattle.mm_format.specs.Reading.{ReadsAlone};
 
 use std::alloc::{AllocError, AllocFailed};
@@ -115,6 +115,69 @@ impl<'a> Reader<'a> {
         Ok(u64::from_be_bytes([
             field[0], field[1], field[2], field[3], field[4], field[5], field[6], field[7],
         ]))
+    }
+
+    /// The number of one byte, if it is at most `most`.
+    pub fn u8_up_to<K: FaultKind>(&mut self, most: u8, kind: K) -> Result<u8, ReadError<K>>
+        ensures read { ReadsAlone K.number (λ n. n)
+            ((test byte (K.number kind) (nat_lt most)).read self.old.bytes.now self.old.at) self.new.at result }
+        ensures same { self.new.bytes.now ≡ self.old.bytes.now }
+        ensures few { IfOk result (λ n. n ≤ most) }
+    {
+        let at = self.at;
+        let value = self.u8()?;
+        refuse_if(value > most, kind, at)?;
+        Ok(value)
+    }
+
+    /// The number of two bytes, if it is at most `most`.
+    pub fn u16_up_to<K: FaultKind>(&mut self, most: u16, kind: K) -> Result<u16, ReadError<K>>
+        ensures read { ReadsAlone K.number (λ n. n)
+            ((test u16 (K.number kind) (nat_lt most)).read self.old.bytes.now self.old.at) self.new.at result }
+        ensures same { self.new.bytes.now ≡ self.old.bytes.now }
+        ensures few { IfOk result (λ n. n ≤ most) }
+    {
+        let at = self.at;
+        let value = self.u16()?;
+        refuse_if(value > most, kind, at)?;
+        Ok(value)
+    }
+
+    /// The number of four bytes, if it is at most `most`.
+    pub fn u32_up_to<K: FaultKind>(&mut self, most: u32, kind: K) -> Result<u32, ReadError<K>>
+        ensures read { ReadsAlone K.number (λ n. n)
+            ((test u32 (K.number kind) (nat_lt most)).read self.old.bytes.now self.old.at) self.new.at result }
+        ensures same { self.new.bytes.now ≡ self.old.bytes.now }
+        ensures few { IfOk result (λ n. n ≤ most) }
+    {
+        let at = self.at;
+        let value = self.u32()?;
+        refuse_if(value > most, kind, at)?;
+        Ok(value)
+    }
+
+    /// The number of eight bytes, if it is at most `most`.
+    pub fn u64_up_to<K: FaultKind>(&mut self, most: u64, kind: K) -> Result<u64, ReadError<K>>
+        ensures read { ReadsAlone K.number (λ n. n)
+            ((test u64 (K.number kind) (nat_lt most)).read self.old.bytes.now self.old.at) self.new.at result }
+        ensures same { self.new.bytes.now ≡ self.old.bytes.now }
+        ensures few { IfOk result (λ n. n ≤ most) }
+    {
+        let at = self.at;
+        let value = self.u64()?;
+        refuse_if(value > most, kind, at)?;
+        Ok(value)
+    }
+
+    /// Reads bytes that have to be these.
+    pub fn literal<K: FaultKind>(&mut self, wanted: &[u8], kind: K) -> Result<(), ReadError<K>>
+        ensures read { ReadsAlone K.number (λ _. wanted.now)
+            ((literal wanted.now (K.number kind)).read self.old.bytes.now self.old.at) self.new.at result }
+        ensures same { self.new.bytes.now ≡ self.old.bytes.now }
+    {
+        let at = self.at;
+        let found = self.raw(wanted.len())?;
+        refuse_if(found != wanted, kind, at)
     }
 }
 

@@ -11,7 +11,7 @@ ghost use Rattle.mm_model.specs.Memory.{IsPage};
 ghost use Rattle.mm_frames.specs.Framed.{memory_of, times, rows_with};
 
 use crate::frame::Frame;
-use crate::row::Row;
+use crate::row::PageRow;
 use crate::search::search;
 use mm_mem::{BLOCK, Block};
 use mm_model::Page;
@@ -36,7 +36,7 @@ fn zeros(alloc: Global, count: u32) -> Result<Vec<Frame>, NoMemory>
 }
 
 // Copies each page into the frame with its index, and makes a row for it.
-fn seat(rows: &mut Vec<Row>, frames: &mut Vec<Frame>, pages: &[Page])
+fn seat(rows: &mut Vec<PageRow>, frames: &mut Vec<Frame>, pages: &[Page])
     requires none { vec_len rows.old ≡ 0 }
     requires room { length pages.now ≤ vec_capacity rows.old }
     requires enough { length pages.now ≤ vec_len frames.old }
@@ -51,7 +51,7 @@ fn seat(rows: &mut Vec<Row>, frames: &mut Vec<Frame>, pages: &[Page])
 {
     for (i, page) in pages.iter().enumerate() {
         frames[i].copy(page);
-        let Ok(()) = rows.push(Row {
+        let Ok(()) = rows.push(PageRow {
             page: page.number(),
             frame: i as u32,
         }) else {
@@ -82,7 +82,7 @@ fn release(free: &mut Vec<u32>, from: u32, count: u32)
 /// are reset. The frame of a page is found by a binary search over the mapped pages.
 #[derive(Drop)]
 pub struct Frames {
-    rows: Vec<Row>,
+    rows: Vec<PageRow>,
     free: Vec<u32>,
     frames: Vec<Frame>,
     reads: u64,
@@ -161,7 +161,7 @@ impl Frames {
         let i = search(&self.rows, page).err()?;
         let frame = self.free.pop()?;
         self.frames[frame as usize].clear();
-        let Ok(()) = self.rows.insert(i, Row { page, frame }) else {
+        let Ok(()) = self.rows.insert(i, PageRow { page, frame }) else {
             unreachable!();
         };
         Some(frame)

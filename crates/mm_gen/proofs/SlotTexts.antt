@@ -4,16 +4,16 @@ use Rattle.std.specs.List.{flat_map}
 use Rattle.mm_word.specs.declared.word.Word.{Word}
 use Rattle.mm_model.specs.Lines.{newline, numbers_text, state_text, word_text}
 use Rattle.mm_model.specs.Slot.{Slot, register}
-use Rattle.mm_model.specs.State.{Row, Core, output_of}
+use Rattle.mm_model.specs.State.{ThreadRow, Core, output_of}
 use Rattle.mm_model.specs.Fits.{slots_of}
 use Rattle.mm_gen.specs.Summary.{slot_summary}
 
-row_texts : (core : Core) (rows : List Row) → flat_map (slot_summary core) (map (λ row. row.slot) rows) ≡ flat_map (λ (row : Row). slot_summary core row.slot) rows
+row_texts : (core : Core) (rows : List ThreadRow) → flat_map (slot_summary core) (map (λ row. row.slot) rows) ≡ flat_map (λ (row : ThreadRow). slot_summary core row.slot) rows
 row_texts core [] = refl
 row_texts core (row ∷ rows) = ap (λ (text : List ℕ). slot_summary core row.slot ++ text) (row_texts core rows)
 
 -- the texts of the slots are those of the rows
-pub slot_texts : (core : Core) → flat_map (slot_summary core) (slots_of core) ≡ flat_map (λ (row : Row). slot_summary core row.slot) core.rows
+pub slot_texts : (core : Core) → flat_map (slot_summary core) (slots_of core) ≡ flat_map (λ (row : ThreadRow). slot_summary core row.slot) core.rows
 slot_texts core = row_texts core core.rows
 
 -- the text of a slot, from its parts

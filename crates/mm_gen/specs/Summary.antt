@@ -3,7 +3,7 @@ use Rattle.std.specs.Prelude.{ℕ, List, ◌++◌, length, codes, decimal}
 use Rattle.std.specs.List.{flat_map}
 use Rattle.mm_model.specs.Lines.{newline, numbers_text, state_text, word_text}
 use Rattle.mm_model.specs.Slot.{Slot, register}
-use Rattle.mm_model.specs.State.{Row, Core, State, output_of}
+use Rattle.mm_model.specs.State.{ThreadRow, Core, State, output_of}
 use Rattle.mm_model.specs.Report.{cycles_line}
 
 -- the line of a slot: its turns and state, the count of bytes that its group has put out, and its register 3
@@ -14,4 +14,4 @@ slot_summary core s =
 
 -- the summary: the total of cycles, and a line for each slot
 unfoldable pub summary : State → List ℕ
-summary s = cycles_line s.cycles ++ flat_map (λ (row : Row). slot_summary s.core row.slot) s.core.rows
+summary s = cycles_line s.cycles ++ flat_map (λ (row : ThreadRow). slot_summary s.core row.slot) s.core.rows

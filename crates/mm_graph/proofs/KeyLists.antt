@@ -36,7 +36,7 @@ contains_cases y x xs m = at m.0 m.1 m.2
     at (suc k) lt e = inr (k, omega arith, e)
 
 -- an element that gives another
-pub record Gives {A B : Type 0} (h : A → Option B) (xs : List A) (y : B) : Type 0 where
+pub record HasImage {A B : Type 0} (h : A → Option B) (xs : List A) (y : B) : Type 0 where
   pub from : A
   pub is_in : Contains xs from
   pub gives : h from ≡ Some y
@@ -52,14 +52,14 @@ in_filter_map {A} {B} h (z ∷ zs) x y m e = elim (contains_cases z x zs m) [
     rest None c = c
     rest (Some w) c = contains_rest w y (filter_map h zs) c
 
-pub from_filter_map : {A B : Type 0} (h : A → Option B) (xs : List A) (y : B) → Contains (filter_map h xs) y → Gives h xs y
+pub from_filter_map : {A B : Type 0} (h : A → Option B) (xs : List A) (y : B) → Contains (filter_map h xs) y → HasImage h xs y
 from_filter_map h [] y m = absurd (let lt = m.1 in omega arith)
 from_filter_map {A} {B} h (z ∷ zs) y m = at (from_filter_map h zs y) (h z) refl m
   where
-    later : Gives h zs y → Gives h (z ∷ zs) y
+    later : HasImage h zs y → HasImage h (z ∷ zs) y
     later g = record { from = g.from; is_in = contains_rest z g.from zs g.is_in; gives = g.gives }
 
-    at : (Contains (filter_map h zs) y → Gives h zs y) → (o : Option B) → h z ≡ o → Contains (cons_option o (filter_map h zs)) y → Gives h (z ∷ zs) y
+    at : (Contains (filter_map h zs) y → HasImage h zs y) → (o : Option B) → h z ≡ o → Contains (cons_option o (filter_map h zs)) y → HasImage h (z ∷ zs) y
     at before None e c = later (before c)
     at before (Some w) e c = elim (contains_cases w y (filter_map h zs) c) [
       | inl same ↦ record { from = z; is_in = contains_here z zs; gives = e ∙ ap Some same }
@@ -121,7 +121,7 @@ module _ (found : List Found) (seeds : List Seed) where
 
     data Origin (x : CanonicalPtr) : Type 0 where
       direct : Contains zs x → Origin x
-      entry : Gives entry_key zs x → Origin x
+      entry : HasImage entry_key zs x → Origin x
 
     origin : (x : CanonicalPtr) → Contains new x → Origin x
     origin x m = elim (Contains-append_cases zs (filter_map entry_key zs) x ((same x).0 m)) [

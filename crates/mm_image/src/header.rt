@@ -29,9 +29,7 @@ pub(crate) fn read_header(reader: &mut Reader) -> Result<Header, ReadError<Image
     ensures read { ReadsAlone number_of (λ h. h) (header.read reader.old.bytes.now reader.old.at) reader.new.at result }
     ensures same { reader.new.bytes.now ≡ reader.old.bytes.now }
 {
-    let at = reader.at;
-    let magic = reader.raw(4)?;
-    refuse_if(magic != b"MMI1".as_slice(), ImageFault::Magic, at)?;
+    reader.literal(b"MMI1", ImageFault::Magic)?;
     let at = reader.at;
     let version = reader.u16()?;
     refuse_if(!(version == 1 || version == 2), ImageFault::Version, at)?;
@@ -49,12 +47,8 @@ pub(crate) fn read_header(reader: &mut Reader) -> Result<Header, ReadError<Image
         ImageFault::Frames,
         at,
     )?;
-    let at = reader.at;
-    let pages = reader.u16()?;
-    refuse_if(pages > frames, ImageFault::Frames, at)?;
-    let at = reader.at;
-    let mode = reader.u32()?;
-    refuse_if(mode > u32::from(version - 1), ImageFault::Count, at)?;
+    let pages = reader.u16_up_to(frames, ImageFault::Frames)?;
+    let mode = reader.u32_up_to(u32::from(version - 1), ImageFault::Count)?;
     Ok(Header {
         version,
         slots,

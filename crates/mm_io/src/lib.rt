@@ -15,8 +15,6 @@ mod read;
 mod sources;
 mod sure;
 mod system;
-#[cfg(test)]
-mod tests;
 mod write;
 
 pub use files::MemFiles;

@@ -5,7 +5,7 @@ use Rattle.std.specs.List.Sorted.{IsStrictlyIncreasing}
 use Rattle.std.proofs.lemmas.Bool.{both_ways, cases_Bool, cases_eq, ne_eqb}
 use Rattle.mm_model.specs.declared.event.Event.{Event}
 use Rattle.mm_model.specs.Slot.{Slot}
-use Rattle.mm_model.specs.State.{Row, Core, row_in, slot_of, queue_of, slot_at, queue_at, at_number, put_slot, put_queue}
+use Rattle.mm_model.specs.State.{ThreadRow, Core, row_in, slot_of, queue_of, slot_at, queue_at, at_number, put_slot, put_queue}
 use Rattle.mm_model.specs.Fits.{identity_of}
 use Rattle.mm_model.proofs.CoreRows.{each_map, above_first, rest_rises, Rises, identities_of, rises_by, stays_by, identities_of-put_slot}
 use Rattle.mm_model.proofs.Filters.{filter_takes, filter_drops}
@@ -15,39 +15,39 @@ use Rattle.mm_laws.proofs.GrantedTurns.{same_slot}
 
 -- 1. Rows of the groups, by number.
 
-abbrev pub mine : (ℕ → Bool) → Core → List Row
+abbrev pub mine : (ℕ → Bool) → Core → List ThreadRow
 mine c core = filter (is_row_of c) core.rows
 
 -- each row's number is below those of the rows behind it
-abbrev Ascends : List Row → Type 0
+abbrev Ascends : List ThreadRow → Type 0
 Ascends [] = Unit {0}
-Ascends (row ∷ rows) = AllByRecursion (λ (x : Row). row.slot.number < x.slot.number) rows × Ascends rows
+Ascends (row ∷ rows) = AllByRecursion (λ (x : ThreadRow). row.slot.number < x.slot.number) rows × Ascends rows
 
-numbers_above : (n : ℕ) (rows : List Row) → AllByRecursion (λ y. n < y) (map (λ (s : Slot). s.number) (map (λ (row : Row). row.slot) rows)) → AllByRecursion (λ (x : Row). n < x.slot.number) rows
+numbers_above : (n : ℕ) (rows : List ThreadRow) → AllByRecursion (λ y. n < y) (map (λ (s : Slot). s.number) (map (λ (row : ThreadRow). row.slot) rows)) → AllByRecursion (λ (x : ThreadRow). n < x.slot.number) rows
 numbers_above n [] h = tt
 numbers_above n (row ∷ rows) h = (h.0, numbers_above n rows h.1)
 
-ascends : (rows : List Row) → IsStrictlyIncreasing (map (λ (s : Slot). s.number) (map (λ (row : Row). row.slot) rows)) → Ascends rows
+ascends : (rows : List ThreadRow) → IsStrictlyIncreasing (map (λ (s : Slot). s.number) (map (λ (row : ThreadRow). row.slot) rows)) → Ascends rows
 ascends [] h = tt
 ascends (row ∷ rows) h =
-    let numbers : List ℕ = map (λ (s : Slot). s.number) (map (λ (r : Row). r.slot) rows) in
+    let numbers : List ℕ = map (λ (s : Slot). s.number) (map (λ (r : ThreadRow). r.slot) rows) in
     (numbers_above row.slot.number rows (above_first row.slot.number numbers h), ascends rows (rest_rises row.slot.number numbers h))
 
-row_here : (row : Row) (rows : List Row) (n : ℕ) → row.slot.number ≡ n → row_in (row ∷ rows) n ≡ Some row
+row_here : (row : ThreadRow) (rows : List ThreadRow) (n : ℕ) → row.slot.number ≡ n → row_in (row ∷ rows) n ≡ Some row
 row_here row rows n e = ap (λ b. if b then Some row else row_in rows n) (eq-eqb row.slot.number n e)
 
-row_later : (row : Row) (rows : List Row) (n : ℕ) → row.slot.number ≢ n → row_in (row ∷ rows) n ≡ row_in rows n
+row_later : (row : ThreadRow) (rows : List ThreadRow) (n : ℕ) → row.slot.number ≢ n → row_in (row ∷ rows) n ≡ row_in rows n
 row_later row rows n ne = ap (λ b. if b then Some row else row_in rows n) (ne_eqb row.slot.number n ne)
 
-row_number : (rows : List Row) (n : ℕ) (row : Row) → row_in rows n ≡ Some row → row.slot.number ≡ n
+row_number : (rows : List ThreadRow) (n : ℕ) (row : ThreadRow) → row_in rows n ≡ Some row → row.slot.number ≡ n
 row_number [] n row is = cc
 row_number (r ∷ rows) n row is = elim (cases_eq r.slot.number n) [
-  | inl e ↦ let two : ◌≡◌ {A = Option Row} (Some r) (Some row) = sym (row_here r rows n e) ∙ is in let same : r ≡ row = cc in sym (ap (λ (x : Row). x.slot.number) same) ∙ e
+  | inl e ↦ let two : ◌≡◌ {A = Option ThreadRow} (Some r) (Some row) = sym (row_here r rows n e) ∙ is in let same : r ≡ row = cc in sym (ap (λ (x : ThreadRow). x.slot.number) same) ∙ e
   | inr ne ↦ row_number rows n row (sym (row_later r rows n ne) ∙ is)
 ]
 
 module _ (c : ℕ → Bool) where
-  row_kept : (rows : List Row) (n : ℕ) (row : Row) → row_in rows n ≡ Some row → is_row_of c row ≡ true → row_in (filter (is_row_of c) rows) n ≡ Some row
+  row_kept : (rows : List ThreadRow) (n : ℕ) (row : ThreadRow) → row_in rows n ≡ Some row → is_row_of c row ≡ true → row_in (filter (is_row_of c) rows) n ≡ Some row
   row_kept [] n row is e = cc
   row_kept (r ∷ rows) n row is e = elim (cases_Bool (is_row_of c r)) [
     | inl t ↦ ap (λ l. row_in l n) (filter_takes (is_row_of c) r rows t) ∙ elim (cases_eq r.slot.number n) [
@@ -55,20 +55,20 @@ module _ (c : ℕ → Bool) where
       | inr ne ↦ row_later r (filter (is_row_of c) rows) n ne ∙ row_kept rows n row (sym (row_later r rows n ne) ∙ is) e
     ]
     | inr f ↦ ap (λ l. row_in l n) (filter_drops (is_row_of c) r rows f) ∙ elim (cases_eq r.slot.number n) [
-      | inl here ↦ absurd (let two : ◌≡◌ {A = Option Row} (Some r) (Some row) = sym (row_here r rows n here)
+      | inl here ↦ absurd (let two : ◌≡◌ {A = Option ThreadRow} (Some r) (Some row) = sym (row_here r rows n here)
           ∙ is in let same : r ≡ row = cc in both_ways (is_row_of c row) (sym (ap (is_row_of c) same) ∙ f) e)
       | inr ne ↦ row_kept rows n row (sym (row_later r rows n ne) ∙ is) e
     ]
   ]
 
-  each_filtered : (P : Row → Type 0) (rows : List Row) → AllByRecursion P rows → AllByRecursion P (filter (is_row_of c) rows)
+  each_filtered : (P : ThreadRow → Type 0) (rows : List ThreadRow) → AllByRecursion P rows → AllByRecursion P (filter (is_row_of c) rows)
   each_filtered P [] h = tt
   each_filtered P (row ∷ rows) h = elim (cases_Bool (is_row_of c row)) [
     | inl t ↦ subst (AllByRecursion P) (sym (filter_takes (is_row_of c) row rows t)) (h.0, each_filtered P rows h.1)
     | inr f ↦ subst (AllByRecursion P) (sym (filter_drops (is_row_of c) row rows f)) (each_filtered P rows h.1)
   ]
 
-  row_back : (rows : List Row) → Ascends rows → (n : ℕ) (row : Row) → row_in (filter (is_row_of c) rows) n ≡ Some row → row_in rows n ≡ Some row
+  row_back : (rows : List ThreadRow) → Ascends rows → (n : ℕ) (row : ThreadRow) → row_in (filter (is_row_of c) rows) n ≡ Some row → row_in rows n ≡ Some row
   row_back [] up n row is = cc
   row_back (r ∷ rows) up n row is = elim (cases_Bool (is_row_of c r)) [
     | inl t ↦
@@ -79,7 +79,7 @@ module _ (c : ℕ → Bool) where
         ]
     | inr f ↦
         let at = sym (ap (λ l. row_in l n) (filter_drops (is_row_of c) r rows f)) ∙ is in
-        let above = row_has (λ (x : Row). r.slot.number < x.slot.number) (filter (is_row_of c) rows) n row (each_filtered (λ (x : Row). r.slot.number < x.slot.number) rows up.0) at in
+        let above = row_has (λ (x : ThreadRow). r.slot.number < x.slot.number) (filter (is_row_of c) rows) n row (each_filtered (λ (x : ThreadRow). r.slot.number < x.slot.number) rows up.0) at in
         let number = row_number (filter (is_row_of c) rows) n row at in
         row_later r rows n (λ e. let below : r.slot.number < row.slot.number = above in absurd (omega arith)) ∙ row_back rows up.1 n row at
   ]
@@ -99,9 +99,9 @@ module _ (c : ℕ → Bool) where
 
 -- 2. Rows of the groups after something was put.
 
-module _ (c : ℕ → Bool) (n : ℕ) (f : Row → Row) where
+module _ (c : ℕ → Bool) (n : ℕ) (f : ThreadRow → ThreadRow) where
   -- a change that leaves each row of the number in its group, or outside the groups
-  pub filter_at : (rows : List Row) → AllByRecursion (λ (row : Row). row.slot.number ≡ n → is_row_of c (f row) ≡ is_row_of c row) rows
+  pub filter_at : (rows : List ThreadRow) → AllByRecursion (λ (row : ThreadRow). row.slot.number ≡ n → is_row_of c (f row) ≡ is_row_of c row) rows
       → filter (is_row_of c) (map (at_number n f) rows) ≡ map (at_number n f) (filter (is_row_of c) rows)
   filter_at [] h = refl
   filter_at (row ∷ rows) h =
@@ -123,7 +123,7 @@ module _ (c : ℕ → Bool) (n : ℕ) (f : Row → Row) where
       by false e = refl
 
   -- a change of rows outside the groups
-  pub filter_beside : (rows : List Row) → AllByRecursion (λ (row : Row). row.slot.number ≡ n → (is_row_of c row ≡ false) × (is_row_of c (f row) ≡ false)) rows
+  pub filter_beside : (rows : List ThreadRow) → AllByRecursion (λ (row : ThreadRow). row.slot.number ≡ n → (is_row_of c row ≡ false) × (is_row_of c (f row) ≡ false)) rows
       → filter (is_row_of c) (map (at_number n f) rows) ≡ filter (is_row_of c) rows
   filter_beside [] h = refl
   filter_beside (row ∷ rows) h = by (nat_eq row.slot.number n) refl (filter_beside rows h.1)
@@ -151,40 +151,40 @@ module _ (first core : Core) (k : Sames first core) where
       record { same = ids ∙ k.same; rises = rises_by core (put_slot core s) ids k.rises }
 
   -- the rows at a number are of the slot that stood there at first
-  pub group_at : (n : ℕ) (was : Slot) → slot_at first n ≡ Some was → AllByRecursion (λ (row : Row). row.slot.number ≡ n → row.slot.group ≡ was.group) core.rows
+  pub group_at : (n : ℕ) (was : Slot) → slot_at first n ≡ Some was → AllByRecursion (λ (row : ThreadRow). row.slot.number ≡ n → row.slot.group ≡ was.group) core.rows
   group_at n was at =
       let now = stays_by first core n was k.same at in
-      each_map (λ (row : Row). row.slot.number ≡ n → row.slot ≡ now.now) (λ (row : Row). row.slot.number ≡ n → row.slot.group ≡ was.group)
+      each_map (λ (row : ThreadRow). row.slot.number ≡ n → row.slot ≡ now.now) (λ (row : ThreadRow). row.slot.number ≡ n → row.slot.group ≡ was.group)
       (λ row one number. ap (λ (x : Slot). x.group) (one number) ∙ ap (λ (x : ℕ × ℕ × Option ℕ). x.1) now.same)
       core.rows (same_slot core k.rises n now.now now.is)
 
   module _ (c : ℕ → Bool) where
     pub mine-put_slot : (s was : Slot) → slot_at first s.number ≡ Some was → was.group ≡ s.group
-        → mine c (put_slot core s) ≡ map (at_number s.number (λ (row : Row). record row { slot = s })) (mine c core)
+        → mine c (put_slot core s) ≡ map (at_number s.number (λ (row : ThreadRow). record row { slot = s })) (mine c core)
     unfolding put_slot
     mine-put_slot s was at group =
-        filter_at c s.number (λ (row : Row). record row { slot = s }) core.rows
-        (each_map (λ (row : Row). row.slot.number ≡ s.number → row.slot.group ≡ was.group) (λ (row : Row). row.slot.number ≡ s.number → c s.group ≡ c row.slot.group)
+        filter_at c s.number (λ (row : ThreadRow). record row { slot = s }) core.rows
+        (each_map (λ (row : ThreadRow). row.slot.number ≡ s.number → row.slot.group ≡ was.group) (λ (row : ThreadRow). row.slot.number ≡ s.number → c s.group ≡ c row.slot.group)
         (λ row one number. sym (ap c (one number ∙ group))) core.rows (group_at s.number was at))
 
-    pub mine-put_queue : (n : ℕ) (q : List Event) → mine c (put_queue core n q) ≡ map (at_number n (λ (row : Row). record row { queue = q })) (mine c core)
+    pub mine-put_queue : (n : ℕ) (q : List Event) → mine c (put_queue core n q) ≡ map (at_number n (λ (row : ThreadRow). record row { queue = q })) (mine c core)
     unfolding put_queue
-    mine-put_queue n q = filter_at c n (λ (row : Row). record row { queue = q }) core.rows (all core.rows)
+    mine-put_queue n q = filter_at c n (λ (row : ThreadRow). record row { queue = q }) core.rows (all core.rows)
       where
-        all : (rows : List Row) → AllByRecursion (λ (row : Row). row.slot.number ≡ n → c row.slot.group ≡ c row.slot.group) rows
+        all : (rows : List ThreadRow) → AllByRecursion (λ (row : ThreadRow). row.slot.number ≡ n → c row.slot.group ≡ c row.slot.group) rows
         all [] = tt
         all (row ∷ rows) = ((λ e. refl), all rows)
 
     pub beside-put_slot : (s was : Slot) → slot_at first s.number ≡ Some was → was.group ≡ s.group → c s.group ≡ false → mine c (put_slot core s) ≡ mine c core
     unfolding put_slot
     beside-put_slot s was at group out =
-        filter_beside c s.number (λ (row : Row). record row { slot = s }) core.rows
-        (each_map (λ (row : Row). row.slot.number ≡ s.number → row.slot.group ≡ was.group) (λ (row : Row). row.slot.number ≡ s.number → (c row.slot.group ≡ false) × (c s.group ≡ false))
+        filter_beside c s.number (λ (row : ThreadRow). record row { slot = s }) core.rows
+        (each_map (λ (row : ThreadRow). row.slot.number ≡ s.number → row.slot.group ≡ was.group) (λ (row : ThreadRow). row.slot.number ≡ s.number → (c row.slot.group ≡ false) × (c s.group ≡ false))
         (λ row one number. (ap c (one number ∙ group) ∙ out, out)) core.rows (group_at s.number was at))
 
     pub beside-put_queue : (n : ℕ) (q : List Event) (was : Slot) → slot_at first n ≡ Some was → c was.group ≡ false → mine c (put_queue core n q) ≡ mine c core
     unfolding put_queue
     beside-put_queue n q was at out =
-        filter_beside c n (λ (row : Row). record row { queue = q }) core.rows
-        (each_map (λ (row : Row). row.slot.number ≡ n → row.slot.group ≡ was.group) (λ (row : Row). row.slot.number ≡ n → (c row.slot.group ≡ false) × (c row.slot.group ≡ false))
+        filter_beside c n (λ (row : ThreadRow). record row { queue = q }) core.rows
+        (each_map (λ (row : ThreadRow). row.slot.number ≡ n → row.slot.group ≡ was.group) (λ (row : ThreadRow). row.slot.number ≡ n → (c row.slot.group ≡ false) × (c row.slot.group ≡ false))
         (λ row one number. (ap c (one number) ∙ out, ap c (one number) ∙ out)) core.rows (group_at n was at))

@@ -23,7 +23,7 @@ use Rattle.mm_model.specs.declared.event.Event.{Event}
 use Rattle.mm_model.specs.Memory.{Memory, cell_at, put_cell, map_page, unmap_page, can_map, is_mapped, IsPaged}
 use Rattle.mm_model.specs.Uses.{Use, Accessed}
 use Rattle.mm_model.specs.Slot.{Slot, register}
-use Rattle.mm_model.specs.State.{Row, Core, slot_at, queue_at, put_slot, put_queue, output_of, put_output, at_number}
+use Rattle.mm_model.specs.State.{ThreadRow, Core, slot_at, queue_at, put_slot, put_queue, output_of, put_output, at_number}
 use Rattle.mm_model.specs.Image.{Image, output_limit}
 use Rattle.mm_model.specs.Spelling.{IsOther}
 use Rattle.mm_model.specs.Fits.{slots_of, identity_of, is_waiting}
@@ -220,12 +220,12 @@ module _ (i j : Image) (c : ℕ → Bool) (a b : Core) (ma mb : Memory) (h : Bot
         ≡ Some was_a → was_a.group ≡ s.group → slot_at b s.number ≡ Some was_b → was_b.group ≡ s.group
         → mine c (put_slot p s) ≡ mine c (put_slot q s)
     put_both p q kp kq e s was_a was_b stands_a group_a stands_b group_b =
-        mine-put_slot a p kp c s was_a stands_a group_a ∙ ap (map (at_number s.number (λ (row : Row). record row { slot = s }))) e ∙ sym (mine-put_slot b q kq c s was_b stands_b group_b)
+        mine-put_slot a p kp c s was_a stands_a group_a ∙ ap (map (at_number s.number (λ (row : ThreadRow). record row { slot = s }))) e ∙ sym (mine-put_slot b q kq c s was_b stands_b group_b)
 
     queue_both : (p q : Core) → Sames a p → Sames b q → mine c p ≡ mine c q → (n : ℕ) (u v : List Event) → u ≡ v → mine c (put_queue p n u) ≡ mine c (put_queue q n v)
     queue_both p q kp kq e n u v same =
-        mine-put_queue a p kp c n u ∙ ap (map (at_number n (λ (row : Row). record row { queue = u }))) e
-        ∙ ap (λ (l : List Event). map (at_number n (λ (row : Row). record row { queue = l })) (mine c q)) same
+        mine-put_queue a p kp c n u ∙ ap (map (at_number n (λ (row : ThreadRow). record row { queue = u }))) e
+        ∙ ap (λ (l : List Event). map (at_number n (λ (row : ThreadRow). record row { queue = l })) (mine c q)) same
         ∙ sym (mine-put_queue b q kq c n v)
 
     sames_a : Sames a a

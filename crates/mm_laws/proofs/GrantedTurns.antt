@@ -30,7 +30,7 @@ use Rattle.mm_model.specs.declared.step.Tick.TheVariants.{Did}
 use Rattle.mm_model.specs.Memory.{Memory, cell_at, page_of, map_page, unmap_page}
 use Rattle.mm_model.specs.Uses.{Use}
 use Rattle.mm_model.specs.Slot.{Slot, register}
-use Rattle.mm_model.specs.State.{Row, Core, State, slot_at, queue_at, at_number, put_slot, put_queue, put_output}
+use Rattle.mm_model.specs.State.{ThreadRow, Core, State, slot_at, queue_at, at_number, put_slot, put_queue, put_output}
 use Rattle.mm_model.specs.Image.{Image}
 use Rattle.mm_model.specs.Spelling.{IsImage, IsOther}
 use Rattle.mm_model.specs.Fits.{slots_of, identity_of, IsState, Fits}
@@ -70,19 +70,19 @@ use Rattle.mm_laws.proofs.GrantedRows.{checked, effect_granted, addr_operand-gra
 -- 1. Rows after a slot or a queue was put.
 
 -- of the rows at a number there is one alone
-pub same_slot : (core : Core) → Rises core → (n : ℕ) (s : Slot) → slot_at core n ≡ Some s → AllByRecursion (λ (row : Row). row.slot.number ≡ n → row.slot ≡ s) core.rows
+pub same_slot : (core : Core) → Rises core → (n : ℕ) (s : Slot) → slot_at core n ≡ Some s → AllByRecursion (λ (row : ThreadRow). row.slot.number ≡ n → row.slot ≡ s) core.rows
 same_slot core up n s at = rows_by core.rows (slots_found core up)
   where
-    rows_by : (rows : List Row) → AllByRecursion (λ (t : Slot). slot_at core t.number ≡ Some t)
-        (map (λ (row : Row). row.slot) rows) → AllByRecursion (λ (row : Row). row.slot.number ≡ n → row.slot ≡ s) rows
+    rows_by : (rows : List ThreadRow) → AllByRecursion (λ (t : Slot). slot_at core t.number ≡ Some t)
+        (map (λ (row : ThreadRow). row.slot) rows) → AllByRecursion (λ (row : ThreadRow). row.slot.number ≡ n → row.slot ≡ s) rows
     rows_by [] k = tt
     rows_by (row ∷ rows) k = (
       (λ e. let two : ◌≡◌ {A = Option Slot} (Some row.slot) (Some s) = sym k.0 ∙ ap (slot_at core) e ∙ at in cc),
       rows_by rows k.1,
     )
 
-each_changed : (P : Row → Type 0) (n : ℕ) (f : Row → Row) (rows : List Row)
-    → AllByRecursion (λ (row : Row). row.slot.number ≡ n → P row → P (f row)) rows → AllByRecursion P rows
+each_changed : (P : ThreadRow → Type 0) (n : ℕ) (f : ThreadRow → ThreadRow) (rows : List ThreadRow)
+    → AllByRecursion (λ (row : ThreadRow). row.slot.number ≡ n → P row → P (f row)) rows → AllByRecursion P rows
     → AllByRecursion P (map (at_number n f) rows)
 each_changed P n f [] keeps h = tt
 each_changed P n f (row ∷ rows) keeps h = (by (nat_eq row.slot.number n) refl, each_changed P n f rows keeps.1 h.1)
@@ -108,8 +108,8 @@ module _ (i : Image) (e : Entries) (first core : Core) (good : Good i e first co
         same = ids ∙ good.same;
         rises = rises_by core (put_slot core s) ids good.rises;
         rows =
-            each_changed (RowGranted i e) s.number (λ (row : Row). record row { slot = s }) core.rows
-            (each_map (λ (row : Row). row.slot.number ≡ s.number → row.slot ≡ now.now) (λ (row : Row). row.slot.number ≡ s.number → RowGranted i e row → RowGranted i e (record row { slot = s }))
+            each_changed (RowGranted i e) s.number (λ (row : ThreadRow). record row { slot = s }) core.rows
+            (each_map (λ (row : ThreadRow). row.slot.number ≡ s.number → row.slot ≡ now.now) (λ (row : ThreadRow). row.slot.number ≡ s.number → RowGranted i e row → RowGranted i e (record row { slot = s }))
             (λ row one number granted. record {
               slot = own;
               events = subst (λ g. AllByRecursion (EventGranted i e g) row.queue) (ap (λ (x : Slot). x.group) (one number) ∙ ap (λ (x : ℕ × ℕ × Option ℕ). x.1) kept) granted.events;
@@ -127,8 +127,8 @@ module _ (i : Image) (e : Entries) (first core : Core) (good : Good i e first co
         same = ids ∙ good.same;
         rises = rises_by core (put_queue core n q) ids good.rises;
         rows =
-            each_changed (RowGranted i e) n (λ (row : Row). record row { queue = q }) core.rows
-            (each_map (λ (row : Row). row.slot.number ≡ n → row.slot ≡ now.now) (λ (row : Row). row.slot.number ≡ n → RowGranted i e row → RowGranted i e (record row { queue = q }))
+            each_changed (RowGranted i e) n (λ (row : ThreadRow). record row { queue = q }) core.rows
+            (each_map (λ (row : ThreadRow). row.slot.number ≡ n → row.slot ≡ now.now) (λ (row : ThreadRow). row.slot.number ≡ n → RowGranted i e row → RowGranted i e (record row { queue = q }))
             (λ row one number granted. record {
               slot = granted.slot;
               events = subst (λ g. AllByRecursion (EventGranted i e g) q) (sym (ap (λ (x : Slot). x.group) (one number) ∙ ap (λ (x : ℕ × ℕ × Option ℕ). x.1) now.same)) new;

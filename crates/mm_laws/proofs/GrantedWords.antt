@@ -9,7 +9,7 @@ use Rattle.mm_model.specs.declared.slot.Pending.{Pending}
 use Rattle.mm_model.specs.declared.event.Event.{Event}
 use Rattle.mm_model.specs.Memory.{Memory}
 use Rattle.mm_model.specs.Slot.{Slot, register}
-use Rattle.mm_model.specs.State.{Row, Core, row_in, slot_of, queue_of, slot_at, queue_at}
+use Rattle.mm_model.specs.State.{ThreadRow, Core, row_in, slot_of, queue_of, slot_at, queue_at}
 use Rattle.mm_model.specs.Image.{Image, start}
 use Rattle.mm_model.specs.Fits.{identity_of}
 use Rattle.mm_model.specs.Effect.{delivers, delivered}
@@ -42,7 +42,7 @@ contained_last (y ∷ xs) x = let later = contained_last xs x in (suc later.0, o
 -- 2. Rows by number.
 
 -- what holds of each row holds of the row at a number
-pub row_has : (P : Row → Type 0) (rows : List Row) (n : ℕ) (row : Row) → AllByRecursion P rows → row_in rows n ≡ Some row → P row
+pub row_has : (P : ThreadRow → Type 0) (rows : List ThreadRow) (n : ℕ) (row : ThreadRow) → AllByRecursion P rows → row_in rows n ≡ Some row → P row
 row_has P [] n row h is = cc
 row_has P (r ∷ rows) n row h is = by (nat_eq r.slot.number n) is (λ e. row_has P rows n row h.1 e)
   where
@@ -52,7 +52,7 @@ row_has P (r ∷ rows) n row h is = by (nat_eq r.slot.number n) is (λ e. row_ha
 
 -- the row of a slot
 pub record RowOf (core : Core) (n : ℕ) (s : Slot) : Type 0 where
-  pub row : Row
+  pub row : ThreadRow
   pub is : row_in core.rows n ≡ Some row
   pub slot : row.slot ≡ s
   pub queue : row.queue ≡ queue_at core n
@@ -61,7 +61,7 @@ pub row_of : (core : Core) (n : ℕ) (s : Slot) → slot_at core n ≡ Some s �
 unfolding slot_at queue_at
 row_of core n s at = by (row_in core.rows n) refl at
   where
-    by : (o : Option Row) → row_in core.rows n ≡ o → slot_of o ≡ Some s → RowOf core n s
+    by : (o : Option ThreadRow) → row_in core.rows n ≡ o → slot_of o ≡ Some s → RowOf core n s
     by None is e = cc
     by (Some row) is e = record { row = row; is = is; slot = cc; queue = sym (ap queue_of is) }
 
@@ -149,7 +149,7 @@ module _ (i : Image) (e f : Entries) (more : Grow e f) where
   pub event_grows : (g : ℕ) (event : Event) → EventGranted i e g event → EventGranted i f g event
   event_grows g event h = record { ip = grants_grow i e f more _ _ h.ip; address = word_grows g event.addr_op h.address; value = word_grows g event.value_op h.value }
 
-  pub row_grows : (row : Row) → RowGranted i e row → RowGranted i f row
+  pub row_grows : (row : ThreadRow) → RowGranted i e row → RowGranted i f row
   row_grows row h = record { slot = slot_grows row.slot h.slot; events = each_map (EventGranted i e row.slot.group) (EventGranted i f row.slot.group) (event_grows row.slot.group) row.queue h.events }
 
   pub write_grows : (g w : ℕ) → CanWrite i e g w → CanWrite i f g w
@@ -160,7 +160,7 @@ module _ (i : Image) (e f : Entries) (more : Grow e f) where
   cell_grows w (Ptr q) (inl own) = inl own
   cell_grows w (Ptr q) (inr h) = inr (record { group = h.group; granted = grants_grow i e f more _ _ h.granted; writes = write_grows h.group w h.writes })
 
-  pub rows_grow : (rows : List Row) → AllByRecursion (RowGranted i e) rows → AllByRecursion (RowGranted i f) rows
+  pub rows_grow : (rows : List ThreadRow) → AllByRecursion (RowGranted i e) rows → AllByRecursion (RowGranted i f) rows
   rows_grow rows h = each_map (RowGranted i e) (RowGranted i f) row_grows rows h
 
   pub cells_grow : (m : Memory) → CellsGranted i e m → CellsGranted i f m

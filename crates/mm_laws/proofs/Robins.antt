@@ -6,7 +6,7 @@ use Rattle.std.specs.List.{AllByRecursion}
 use Rattle.std.specs.List.Sorted.{IsStrictlyIncreasing}
 use Rattle.std.proofs.lemmas.Bool.{lt-ltb}
 use Rattle.mm_model.specs.Slot.{Slot}
-use Rattle.mm_model.specs.State.{Row, Core, State, slot_at}
+use Rattle.mm_model.specs.State.{ThreadRow, Core, State, slot_at}
 use Rattle.mm_model.specs.Spelling.{numbers_of}
 use Rattle.mm_model.specs.Turn.{is_running}
 use Rattle.mm_model.specs.Run.{after, run, first_running, or_else, any_number, next_running, then_issued, robin_from, last_item}
@@ -15,12 +15,12 @@ use Rattle.mm_model.proofs.CoreRows.{each_map, each_contained, above_first, rest
 use Rattle.mm_model.proofs.StateKeeps.{after_state}
 use Rattle.mm_laws.specs.Schedules.{NoneRuns, AnyNumber, IsLeast, IsNext}
 
-abbrev slots_in : List Row → List Slot
-slots_in rows = map (λ (row : Row). row.slot) rows
+abbrev slots_in : List ThreadRow → List Slot
+slots_in rows = map (λ (row : ThreadRow). row.slot) rows
 
 -- 1. The first running slot that passes.
 
-none_says : (p : ℕ → Bool) (rows : List Row) → first_running p rows ≡ None → AllByRecursion (λ (s : Slot). is_running s.state ≡ true → p s.number ≡ false) (slots_in rows)
+none_says : (p : ℕ → Bool) (rows : List ThreadRow) → first_running p rows ≡ None → AllByRecursion (λ (s : Slot). is_running s.state ≡ true → p s.number ≡ false) (slots_in rows)
 none_says p [] e = tt
 none_says p (row ∷ rows) e = by (is_running row.slot.state) (p row.slot.number) refl refl e (λ k. none_says p rows k)
   where
@@ -45,7 +45,7 @@ above : (x : ℕ) (slots : List Slot) → AllByRecursion (λ y. x < y) (numbers_
 above x [] h = tt
 above x (s ∷ slots) h = (h.0, above x slots h.1)
 
-some_says : (p : ℕ → Bool) (rows : List Row) (n : ℕ) → IsStrictlyIncreasing (numbers_of (slots_in rows)) → first_running p rows ≡ Some n → IsFirst p (slots_in rows) n
+some_says : (p : ℕ → Bool) (rows : List ThreadRow) (n : ℕ) → IsStrictlyIncreasing (numbers_of (slots_in rows)) → first_running p rows ≡ Some n → IsFirst p (slots_in rows) n
 some_says p [] n up e = cc
 some_says p (row ∷ rows) n up e =
     by (is_running row.slot.state) (p row.slot.number) refl refl e (λ k. some_says p rows n (rest_rises row.slot.number (numbers_of (slots_in rows)) up) k)

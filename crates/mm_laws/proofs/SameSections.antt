@@ -2,7 +2,7 @@
 use Rattle.std.proofs.Common.{◌≡◌, ℕ, Bool, true, false, cond, ◌||◌, List, [], ◌∷◌, ◌++◌, length, refl, sym, ap, ◌∙◌, inl, inr, eqb-true}
 use Rattle.std.specs.List.{flat_map, filter, list_any, range_with_len}
 use Rattle.std.proofs.lemmas.Bool.{both_ways, cases_Bool}
-use Rattle.mm_model.specs.State.{Row, Core, output_of}
+use Rattle.mm_model.specs.State.{ThreadRow, Core, output_of}
 use Rattle.mm_model.specs.Lines.{slot_lines, output_lines}
 use Rattle.mm_model.specs.Report.{is_of, group_line, section}
 use Rattle.mm_model.specs.Worlds.{sections_of}
@@ -11,29 +11,29 @@ use Rattle.mm_laws.specs.Isolated.{is_row_of}
 use Rattle.mm_laws.proofs.AlikeRows.{mine}
 
 -- a row of one group of the groups is a row of the groups
-of_groups : (c : ℕ → Bool) (g : ℕ) (row : Row) → c g ≡ true → is_of g row ≡ true → is_row_of c row ≡ true
+of_groups : (c : ℕ → Bool) (g : ℕ) (row : ThreadRow) → c g ≡ true → is_of g row ≡ true → is_row_of c row ≡ true
 of_groups c g row cg e = ap c (eqb-true row.slot.group g e) ∙ cg
 
-not_of : (c : ℕ → Bool) (g : ℕ) (row : Row) → c g ≡ true → is_row_of c row ≡ false → is_of g row ≡ false
+not_of : (c : ℕ → Bool) (g : ℕ) (row : ThreadRow) → c g ≡ true → is_row_of c row ≡ false → is_of g row ≡ false
 not_of c g row cg out = by (is_of g row) refl
   where
     by : (b : Bool) → is_of g row ≡ b → b ≡ false
     by true e = absurd (both_ways (is_row_of c row) out (of_groups c g row cg e))
     by false e = refl
 
-rows_of : (c : ℕ → Bool) (g : ℕ) → c g ≡ true → (rows : List Row) → filter (is_of g) (filter (is_row_of c) rows) ≡ filter (is_of g) rows
+rows_of : (c : ℕ → Bool) (g : ℕ) → c g ≡ true → (rows : List ThreadRow) → filter (is_of g) (filter (is_row_of c) rows) ≡ filter (is_of g) rows
 rows_of c g cg [] = refl
 rows_of c g cg (row ∷ rows) = elim (cases_Bool (is_row_of c row)) [
   | inl t ↦
       ap (filter (is_of g)) (filter_takes (is_row_of c) row rows t)
-      ∙ ap (λ (l : List Row). cond (is_of g row) (row ∷ l) l) (rows_of c g cg rows)
+      ∙ ap (λ (l : List ThreadRow). cond (is_of g row) (row ∷ l) l) (rows_of c g cg rows)
   | inr f ↦
       ap (filter (is_of g)) (filter_drops (is_row_of c) row rows f)
       ∙ rows_of c g cg rows
       ∙ sym (filter_drops (is_of g) row rows (not_of c g row cg f))
 ]
 
-any_of : (c : ℕ → Bool) (g : ℕ) → c g ≡ true → (rows : List Row) → list_any (is_of g) (filter (is_row_of c) rows) ≡ list_any (is_of g) rows
+any_of : (c : ℕ → Bool) (g : ℕ) → c g ≡ true → (rows : List ThreadRow) → list_any (is_of g) (filter (is_row_of c) rows) ≡ list_any (is_of g) rows
 any_of c g cg [] = refl
 any_of c g cg (row ∷ rows) = elim (cases_Bool (is_row_of c row)) [
   | inl t ↦ ap (list_any (is_of g)) (filter_takes (is_row_of c) row rows t) ∙ ap (λ b. is_of g row || b) (any_of c g cg rows)
@@ -48,8 +48,8 @@ module _ (c : ℕ → Bool) (a b : Core) (rows : mine c a ≡ mine c b) (outputs
   unfolding section
   same_section g cg =
       let lines : filter (is_of g) a.rows ≡ filter (is_of g) b.rows = sym (rows_of c g cg a.rows) ∙ ap (filter (is_of g)) rows ∙ rows_of c g cg b.rows in
-      ap (λ (bytes : List ℕ). group_line g (length bytes) ++ output_lines bytes ++ flat_map (λ (row : Row). slot_lines row.slot) (filter (is_of g) a.rows)) (outputs g cg)
-      ∙ ap (λ (l : List Row). group_line g (length (output_of b g)) ++ output_lines (output_of b g) ++ flat_map (λ (row : Row). slot_lines row.slot) l) lines
+      ap (λ (bytes : List ℕ). group_line g (length bytes) ++ output_lines bytes ++ flat_map (λ (row : ThreadRow). slot_lines row.slot) (filter (is_of g) a.rows)) (outputs g cg)
+      ∙ ap (λ (l : List ThreadRow). group_line g (length (output_of b g)) ++ output_lines (output_of b g) ++ flat_map (λ (row : ThreadRow). slot_lines row.slot) l) lines
 
   same_any : (g : ℕ) → c g ≡ true → list_any (is_of g) a.rows ≡ list_any (is_of g) b.rows
   same_any g cg = sym (any_of c g cg a.rows) ∙ ap (list_any (is_of g)) rows ∙ any_of c g cg b.rows

@@ -14,7 +14,7 @@ use Rattle.mm_model.specs.declared.slot.Pending.{Pending}
 use Rattle.mm_model.specs.Memory.{Memory, cell_at}
 use Rattle.mm_model.specs.Uses.{Use, Accessed}
 use Rattle.mm_model.specs.Slot.{Slot}
-use Rattle.mm_model.specs.State.{Row, Core, State, slot_at, output_of}
+use Rattle.mm_model.specs.State.{ThreadRow, Core, State, slot_at, output_of}
 use Rattle.mm_model.specs.Image.{Image, start}
 use Rattle.mm_model.specs.Schedule.{is_kept, only}
 use Rattle.mm_model.specs.Operands.{lacks}
@@ -253,7 +253,7 @@ module _ (i j : Image) (c : ℕ → Bool) (g : AgreeApart i j c) where
           (map (λ (x : Slot). record { slot = x; queue = [] }) slots))
           (filter (is_row_of c) (map (λ (x : Slot). record { slot = x; queue = [] }) slots))
           ≡ map (λ (x : Slot). record { slot = x; queue = [] }) (cond b (s ∷ filter (λ (x : Slot). c x.group) slots) (filter (λ (x : Slot). c x.group) slots))
-      by true rest = ap (λ (l : List Row). record { slot = s; queue = [] } ∷ l) rest
+      by true rest = ap (λ (l : List ThreadRow). record { slot = s; queue = [] } ∷ l) rest
       by false rest = rest
 
   start_alike : Alike i c (start i) (start j)

@@ -13,7 +13,7 @@ use Rattle.mm_model.specs.declared.slot.Pending.{Pending}
 use Rattle.mm_model.specs.Digits.{hex}
 use Rattle.mm_model.specs.Memory.{Memory, is_mapped}
 use Rattle.mm_model.specs.Slot.{Slot, register, is_empty}
-use Rattle.mm_model.specs.State.{Row, Core, State, output_of}
+use Rattle.mm_model.specs.State.{ThreadRow, Core, State, output_of}
 use Rattle.mm_model.specs.Image.{Image, start}
 use Rattle.mm_model.specs.Groups.{HasSlot}
 use Rattle.mm_model.specs.Spelling.{IsImage}
@@ -115,11 +115,11 @@ rows_end (suc count) bytes = both (output_row (take 32 bytes)) (output_rows coun
 section_ends : (core : Core) (g : ℕ) → EndsALine (section core g)
 unfolding section
 section_ends core g =
-    both (group_line g (length (output_of core g)) ++ output_lines (output_of core g)) (flat_map (λ (row : Row). slot_lines row.slot) (filter (is_of g) core.rows))
+    both (group_line g (length (output_of core g)) ++ output_lines (output_of core g)) (flat_map (λ (row : ThreadRow). slot_lines row.slot) (filter (is_of g) core.rows))
     (both (group_line g (length (output_of core g))) (output_lines (output_of core g))
     (inr (codes "group " ++ decimal g ++ codes " output " ++ decimal (length (output_of core g)), refl))
     (rows_end ((length (output_of core g) + 31) / 32) (output_of core g)))
-    (each (λ (row : Row). slot_lines row.slot) (λ row. slot_ends row.slot) (filter (is_of g) core.rows))
+    (each (λ (row : ThreadRow). slot_lines row.slot) (λ row. slot_ends row.slot) (filter (is_of g) core.rows))
 
 change_ends : (p : ℕ) (now was : Bool) → EndsALine (page_change p now was)
 change_ends p true false = inr (behind (codes "page " ++ hex 11 p) (codes " new\n") (codes " new", refl))

@@ -12,7 +12,7 @@ use Rattle.mm_model.specs.declared.slot.Pending.{Pending}
 use Rattle.mm_model.specs.declared.event.Event.{Event}
 use Rattle.mm_model.specs.Memory.{Memory, cell_at}
 use Rattle.mm_model.specs.Slot.{Slot}
-use Rattle.mm_model.specs.State.{Row, State, slot_at, queue_at}
+use Rattle.mm_model.specs.State.{ThreadRow, State, slot_at, queue_at}
 use Rattle.mm_model.specs.Image.{Image, start}
 use Rattle.mm_model.specs.Spelling.{IsImage}
 use Rattle.mm_model.specs.Fits.{IsState, Fits}
@@ -42,7 +42,7 @@ pub record EventGranted (i : Image) (e : Entries) (g : ℕ) (event : Event) : Ty
   pub value : WordGranted i e g event.value_op
 
 -- the pointers of a slot, and of the events in its queue, are granted to its group
-pub record RowGranted (i : Image) (e : Entries) (row : Row) : Type 0 where
+pub record RowGranted (i : Image) (e : Entries) (row : ThreadRow) : Type 0 where
   pub slot : SlotGranted i e row.slot
   pub events : AllByRecursion (EventGranted i e row.slot.group) row.queue
 

@@ -2,7 +2,7 @@
 use Rattle.std.specs.Prelude.{◌≡◌, ℕ, Bool, true, false, List}
 use Rattle.std.specs.List.{filter}
 use Rattle.mm_model.specs.Memory.{cell_at}
-use Rattle.mm_model.specs.State.{Row, State, output_of}
+use Rattle.mm_model.specs.State.{ThreadRow, State, output_of}
 use Rattle.mm_model.specs.Image.{Image, start}
 use Rattle.mm_model.specs.Groups.{HasSlot}
 use Rattle.mm_model.specs.Spelling.{IsImage}
@@ -16,7 +16,7 @@ use Rattle.mm_laws.specs.Granted.{WordsGranted}
 -- 1. Two states that are alike to the groups.
 
 -- the slot is of one of the groups
-abbrev pub is_row_of : (ℕ → Bool) → Row → Bool
+abbrev pub is_row_of : (ℕ → Bool) → ThreadRow → Bool
 is_row_of c row = c row.slot.group
 
 -- the slots of the groups with their queues, the outputs of the groups, and the cells at the words that they can touch

@@ -7,15 +7,11 @@ use Rattle.mm_model.specs.declared.step.Step.{Step}
 use Rattle.mm_model.specs.declared.step.Tick.TheVariants.{Faulted}
 use Rattle.mm_model.specs.Uses.{Use}
 use Rattle.mm_model.specs.Image.{Image, start}
-use Rattle.mm_model.specs.Run.{run, steps, uses}
-use Rattle.mm_model.specs.Report.{report}
+use Rattle.mm_model.specs.Run.{steps}
+use Rattle.mm_model.specs.Report.{report_after}
 use Rattle.mm_model.specs.Trace.{trace}
 use Rattle.mm_model.specs.Reach.{Entries, CanTouch, CanWrite}
 use Rattle.mm_model.specs.Worlds.{Apart, migrated}
-
--- the report of a run over a memory that tells these counts of its uses
-abbrev pub report_over : (List Use → Option Counts) → Image → List ℕ → List ℕ
-report_over tells i items = report (run (start i) items) i (tells (uses (start i) items))
 
 -- no turn of the run faults because an output is full
 abbrev pub NoOutputIsFull : Image → List ℕ → Type 0
@@ -24,7 +20,7 @@ NoOutputIsFull i items = AllByRecursion (λ (step : Step). step.tick ≢ Faulted
 -- two images show the same of their runs, and the same groups reach the same words in both
 pub record ShowsTheSame (i j : Image) (items : List ℕ) : Type 0 where
   -- the reports are the same over every memory
-  pub report : (tells : List Use → Option Counts) → report_over tells i items ≡ report_over tells j items
+  pub report : (tells : List Use → Option Counts) → report_after tells i items ≡ report_after tells j items
   pub trace : trace (start i) items ≡ trace (start j) items
   pub can_touch : (e : Entries) (g w : ℕ) → CanTouch i e g w ↔ CanTouch j e g w
   pub can_write : (e : Entries) (g w : ℕ) → CanWrite i e g w ↔ CanWrite j e g w

@@ -3,6 +3,7 @@ use Rattle.std.proofs.Common.{◌≡◌, ℕ, suc, ◌+◌, ◌-◌, ◌<◌, �
 use Rattle.std.proofs.Common.{get_or, take, drop, map, replicate, refl, sym, ap, ◌∙◌, arith, append_assoc, append-nil}
 use Rattle.std.proofs.Common.{inl, inr, eqb-true, eq-eqb}
 use Rattle.std.specs.Prelude.{◌==◌}
+use Rattle.std.specs.List.{flat_map, range_with_len}
 use Rattle.std.proofs.Math.Seq.{take-append-add}
 use Rattle.std.proofs.lemmas.Bool.{cases_lt}
 use Rattle.std.proofs.lemmas.List.{take_all, drop_all, take-append-le, take-replicate}
@@ -83,3 +84,19 @@ module _ (sites : List Site) (o : Object) (n : ℕ) (threads : List Thread) (i :
       let t = get_or threads i d in
       pushing (λ k ts. numbered n (map (slot_of sites o) ts)) all old threads i so_far new [] t lt (itself threads i d lt) (now ∙ sym (append-nil old))
       (numbered_other sites o n t (drop (i + 1) threads) (is_false (t.slot == n) (λ e. other (eqb-true t.slot n e))))
+
+-- 3. Slots by rising number.
+
+module _ (slots whole : List Slot) where
+  -- the slots of the numbers from `n` on
+  abbrev pub from_number : ℕ → List Slot
+  from_number n = flat_map (λ k. numbered k slots) (range_with_len n (16 - n))
+
+  pub number_more : (old new : List Slot) (n : ℕ) → n < 16 → old ++ from_number n ≡ whole → new ≡ old ++ numbered n slots → new ++ from_number (n + 1) ≡ whole
+  number_more old new n lt so_far now =
+      let more : 16 - n ≡ suc (16 - (n + 1)) = omega arith in
+      ap (λ v. v ++ from_number (n + 1)) now ∙ append_assoc old (numbered n slots) (from_number (n + 1))
+      ∙ ap (λ k. old ++ flat_map (λ k. numbered k slots) (range_with_len n k)) (sym more) ∙ so_far
+
+  pub number_last : (new : List Slot) (n : ℕ) → n ≡ 16 → new ++ from_number n ≡ whole → new ≡ whole
+  number_last new n end so_far = sym (append-nil new) ∙ ap (λ k. new ++ from_number k) (sym end) ∙ so_far

@@ -9,16 +9,16 @@ use Rattle.std.specs.Map.{lookup}
 use Rattle.indexmap.specs.IndexMap.{insert_entry}
 use denote.Ref.{Bor}
 use Rattle.mm_object.specs.Objects.{same_name}
-use Rattle.mm_link.specs.declared.sites.Place.{Place}
+use Rattle.mm_link.specs.declared.sites.Placement.{Placement}
 use Rattle.mm_link.specs.Placing.{Part, Site, site_in, site_named, site_or_none, sites_from}
 use Rattle.mm_link.specs.Steps.{entries_of, place_of, FitsSite, part_names, same_part}
 use Rattle.mm_link.proofs.Again.{same_bytes, same_turned}
 use Rattle.mm_link.proofs.Lists.{rest_at, each_at}
 
 abbrev pub Entries : Type 0
-Entries = List (Bor (List ℕ) × Place)
+Entries = List (Bor (List ℕ) × Placement)
 
-abbrev site_of : Bor (List ℕ) × Place → Site
+abbrev site_of : Bor (List ℕ) × Placement → Site
 site_of e = record { name = e.0.now; log = e.1.log; base = e.1.base }
 
 -- what the map has under a name is where its segment stands
@@ -32,7 +32,7 @@ found (e ∷ es) name = ap (λ b. cond b (Some e.1) (lookup (λ y. bytes_eq name
     by false rest = rest
 
 -- a new name goes last
-pub inserted : (es : Entries) (k : Bor (List ℕ)) (v : Place) → site_in (entries_of es) k.now ≡ None
+pub inserted : (es : Entries) (k : Bor (List ℕ)) (v : Placement) → site_in (entries_of es) k.now ≡ None
     → entries_of (insert_entry (λ x y. bytes_eq x.now y.now) es k v) ≡ entries_of es ++ site_of (k, v) ∷ []
 inserted [] k v h = refl
 inserted (e ∷ es) k v h =

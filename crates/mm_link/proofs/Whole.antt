@@ -17,7 +17,7 @@ use Rattle.mm_link.specs.declared.fault.LinkError.TheVariants as errors
 use Rattle.mm_link.specs.Placing.{Part, Site, parts_of, by_length, bytes_of, sites_from, sites_of, origin}
 use Rattle.mm_link.specs.Faults.{first_again, twice, undefined, offset, slot_twice, no_thread, handler, too_large, first_of, link_fault, page_count, frames_of}
 use Rattle.mm_link.specs.Linked.{Linked, object_slots, by_number, slots_of, part_cells, cells_of, pages_from, first_page, pages_of, image_of}
-use Rattle.mm_link.specs.Answers.{Fails, Gives}
+use Rattle.mm_link.specs.Answers.{Fails, ValueOrFault}
 use Rattle.mm_link.specs.Steps.{part_names, same_part}
 use Rattle.mm_link.proofs.Firsts.{sooner, sooner_none, first_of-append, fails_sooner, fails_later}
 use Rattle.mm_link.proofs.Clean.{few_frames, page_frames}
@@ -108,24 +108,17 @@ module _ (objects : List Object) where
       → Fails (link_fault objects) e
   fails_apart items given e e1 e2 h = fails_twice e (subst (λ ps. Fails (option_map Twice (first_again [] (part_names ps))) e) (e2 ∙ e1) h)
 
-  module _ (are : AllByRecursion IsObject objects) (small : length objects ≤ 16) (items given again placed at : List Part) (e1 : items ≡ parts_of objects)
-      (few : length items ≤ 256 * length objects) (e2 : given ≡ items)
-      (apart : option_map Twice (first_again [] (part_names given)) ≡ None) (e3 : again ≡ items) (e4 : placed ≡ by_length again) (e5 : at ≡ placed) where
-    pub order_is : at ≡ by_length (parts_of objects)
-    order_is = e5 ∙ e4 ∙ ap by_length (e3 ∙ e1)
+  module _ (are : AllByRecursion IsObject objects) (small : length objects ≤ 16) (parts placed : List Part) (given : parts ≡ parts_of objects)
+      (few : length parts ≤ 256 * length objects) (order : placed ≡ by_length (parts_of objects)) (apart : twice objects ≡ None) where
+    pub order_few : length placed ≤ 4096
+    order_few = subst (λ (ps : List Part). length ps ≤ 4096) (sym order) (placed_few are small (subst (λ (ps : List Part). length ps ≤ 256 * length objects) given few))
 
-    pub order_few : length at ≤ 4096
-    order_few = subst (λ (ps : List Part). length ps ≤ 4096) (sym order_is) (placed_few are small (subst (λ (ps : List Part). length ps ≤ 256 * length objects) e1 few))
+    pub order_apart : IsDistinct same_part placed
+    order_apart = subst (IsDistinct same_part) (sym order) (placed_apart are (unmapped (first_again [] (part_names (parts_of objects))) apart))
 
-    pub order_apart : IsDistinct same_part at
-    order_apart = subst (IsDistinct same_part) (sym order_is) (placed_apart are (unmapped (first_again [] (part_names (parts_of objects))) (apart_is items given e1 e2 apart)))
-
-    pub order_stands : (sites : List Site) → sites ≡ sites_from origin at → sites ≡ sites_of objects
-    order_stands sites is = sites_are at sites order_is is
-
-  pub few_pages : (count : ℕ) (items at : List Part) → too_large objects ≡ None → count ≡ (bytes_of at + 4095) / 4096 → at ≡ items → items ≡ parts_of objects → count ≤ 256
-  few_pages count items at small is e1 e2 =
-      let same : count ≡ page_count objects = is ∙ ap (λ ps. (bytes_of ps + 4095) / 4096) (e1 ∙ e2) in
+  pub few_pages : (count : ℕ) (parts : List Part) → too_large objects ≡ None → count ≡ (bytes_of parts + 4095) / 4096 → parts ≡ parts_of objects → count ≤ 256
+  few_pages count parts small is given =
+      let same : count ≡ page_count objects = is ∙ ap (λ ps. (bytes_of ps + 4095) / 4096) given in
       omega (arith, same, few_frames objects small, page_frames objects)
 
   -- 3. The image of what was made.
@@ -146,18 +139,18 @@ module _ (objects : List Object) where
 
   -- 4. Answers.
 
-  pub is_linked : (r : Result Image LinkError) → Gives (link_fault objects) (image_of objects) r → IfOk r (λ i. Linked objects i)
+  pub is_linked : (r : Result Image LinkError) → ValueOrFault (link_fault objects) (image_of objects) r → IfOk r (λ i. Linked objects i)
   is_linked (Ok i) h = record { clean = h.0; image = h.1 }
   is_linked (Err e) h = tt
 
-  pub is_again : (r : Result Image LinkError) (i : Image) → Gives (link_fault objects) (image_of objects) r → Linked objects i → IsUnless errors.NoMemory i r
+  pub is_again : (r : Result Image LinkError) (i : Image) → ValueOrFault (link_fault objects) (image_of objects) r → Linked objects i → IsUnless errors.NoMemory i r
   is_again (Ok x) i h linked = h.1 ∙ sym linked.image
   is_again (Err (errors.Fault f)) i h linked = absurd (let impossible : Some f ≡ None = sym h ∙ linked.clean in cc)
   is_again (Err errors.NoMemory) i h linked = refl
 
-  pub is_fault : (r : Result Image LinkError) (f : LinkFault) → Gives (link_fault objects) (image_of objects) r → r ≡ Err (errors.Fault f) → link_fault objects ≡ Some f
-  is_fault r f h e = subst (Gives (link_fault objects) (image_of objects)) e h
+  pub is_fault : (r : Result Image LinkError) (f : LinkFault) → ValueOrFault (link_fault objects) (image_of objects) r → r ≡ Err (errors.Fault f) → link_fault objects ≡ Some f
+  is_fault r f h e = subst (ValueOrFault (link_fault objects) (image_of objects)) e h
 
-  pub is_first : (r : Result Image LinkError) (f : LinkFault) → Gives (link_fault objects) (image_of objects) r → link_fault objects ≡ Some f → IsErrAnd r (Fails (Some f))
+  pub is_first : (r : Result Image LinkError) (f : LinkFault) → ValueOrFault (link_fault objects) (image_of objects) r → link_fault objects ≡ Some f → IsErrAnd r (Fails (Some f))
   is_first (Ok x) f h e = let impossible : Some f ≡ None = sym e ∙ h.0 in cc
   is_first (Err x) f h e = subst (λ p. Fails p x) e h

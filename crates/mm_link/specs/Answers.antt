@@ -10,6 +10,6 @@ Fails fault (errors.Fault f) = fault ≡ Some f
 Fails fault errors.NoMemory = Unit {0}
 
 -- a function found no fault and this value, or it found this fault, unless memory ran out
-abbrev pub Gives : {X : Type 0} → Option LinkFault → X → Result X LinkError → Type 0
-Gives fault value (Ok x) = (fault ≡ None) × (x ≡ value)
-Gives fault value (Err e) = Fails fault e
+abbrev pub ValueOrFault : {X : Type 0} → Option LinkFault → X → Result X LinkError → Type 0
+ValueOrFault fault value (Ok x) = (fault ≡ None) × (x ≡ value)
+ValueOrFault fault value (Err e) = Fails fault e

@@ -14,7 +14,7 @@ use Rattle.mm_link.specs.declared.fault.LinkFault.{LinkFault}
 use Rattle.mm_link.specs.declared.fault.LinkFault.TheVariants.{Undefined, Offset}
 use Rattle.mm_link.specs.declared.fault.LinkError.{LinkError}
 use Rattle.mm_link.specs.declared.fault.LinkError.TheVariants as errors
-use Rattle.mm_link.specs.declared.sites.Place.{Place}
+use Rattle.mm_link.specs.declared.sites.Placement.{Placement}
 use Rattle.mm_link.specs.Answers.{Fails}
 use Rattle.mm_link.specs.Placing.{Part, Site, site_in}
 use Rattle.mm_link.specs.Faults.{is_outside, names_outside, first, threads_of, with_slot, is_absent}
@@ -58,11 +58,11 @@ unknown_names sites objects = unknown_among sites (flat_map (λ (o : Object). o.
 -- 3. Sites.
 
 -- the entries of a map from names to places
-abbrev pub entries_of : List (Bor (List ℕ) × Place) → List Site
+abbrev pub entries_of : List (Bor (List ℕ) × Placement) → List Site
 entries_of es = map (λ e. record { name = e.0.now; log = e.1.log; base = e.1.base }) es
 
 -- the place of a site
-abbrev pub place_of : Site → Place
+abbrev pub place_of : Site → Placement
 place_of s = record { log = s.log; base = s.base }
 
 -- a site that a segment may have: no longer than 2^20 bytes, and far below the end of memory

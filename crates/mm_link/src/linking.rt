@@ -1,16 +1,16 @@
 //! The linker.
 
-ghost use Rattle.std.specs.Prelude.{◌≡◌, ◌∷◌, [], ◌≤◌, Err, Some, IfOk, length};
+ghost use Rattle.std.specs.Prelude.{◌≡◌, ◌*◌, ◌∷◌, [], ◌≤◌, Err, None, Some, IfOk, length};
 ghost use Rattle.std.specs.Result.{IsErrAnd};
 ghost use Rattle.mm_model.specs.Answers.{IsUnless};
 ghost use Rattle.mm_model.specs.Image.{Image as ImageValue};
 ghost use Rattle.mm_model.specs.Spelling.{IsImage};
 ghost use Rattle.mm_link.specs.declared.fault.LinkFault.{LinkFault as FaultValue};
 ghost use Rattle.mm_link.specs.Placing.{parts_of, by_length, sites_of};
-ghost use Rattle.mm_link.specs.Faults.{undefined, offset, slot_twice, no_thread, handler, page_count, frames_of};
+ghost use Rattle.mm_link.specs.Faults.{twice, undefined, offset, slot_twice, no_thread, handler, page_count, frames_of};
 ghost use Rattle.mm_link.specs.Faults.{first_of, link_fault};
 ghost use Rattle.mm_link.specs.Linked.{Linked, image_of};
-ghost use Rattle.mm_link.specs.Answers.{Fails, Gives};
+ghost use Rattle.mm_link.specs.Answers.{Fails, ValueOrFault};
 ghost use Rattle.mm_link.specs.Steps.{Passes, IsNoMemory};
 
 use crate::fault::LinkError;
@@ -45,18 +45,36 @@ pub fn link(alloc: Global, objects: &[Object]) -> Result<Image, LinkError>
 // The image that objects link to, or the first of their faults.
 fn image_or_fault(alloc: Global, objects: &[Object]) -> Result<Image, LinkError>
     requires { length objects.now ≤ 16 }
-    ensures { Gives (link_fault objects.now) (image_of objects.now) result }
+    ensures { ValueOrFault (link_fault objects.now) (image_of objects.now) result }
 {
-    Object::typed(objects);
     let parts = parts_of(alloc, objects)?;
     check_apart(alloc, &parts)?;
     let placed = by_length(alloc, &parts)?;
-    let sites = sites_of(alloc, &placed)?;
+    image_of_parts(alloc, objects, &parts, &placed)
+}
+
+// The image that objects with segments of different names link to, or the first of their faults, given the segments and
+// their order.
+fn image_of_parts(
+    alloc: Global,
+    objects: &[Object],
+    parts: &[Part<'_>],
+    placed: &[Part<'_>],
+) -> Result<Image, LinkError>
+    requires few { length objects.now ≤ 16 }
+    requires parts { parts.now ≡ parts_of objects.now }
+    requires few_parts { length parts.now ≤ 256 * length objects.now }
+    requires placed { placed.now ≡ by_length (parts_of objects.now) }
+    requires apart { twice objects.now ≡ None }
+    ensures { ValueOrFault (link_fault objects.now) (image_of objects.now) result }
+{
+    Object::typed(objects);
+    let sites = sites_of(alloc, placed)?;
     check_objects(&sites, objects)?;
-    check_frames(&parts, objects)?;
-    let pages = page_count(&parts);
-    let frames = frames_of(&parts, objects);
-    image_of(alloc, objects, &sites, &placed, pages, frames)
+    check_frames(parts, objects)?;
+    let pages = page_count(parts);
+    let frames = frames_of(parts, objects);
+    image_of(alloc, objects, &sites, placed, pages, frames)
 }
 
 // Tests that each name is known, that each target is within its segment, that there is a thread, that each thread has a

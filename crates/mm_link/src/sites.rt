@@ -18,7 +18,7 @@ const ORIGIN: u64 = 0x10_0000;
 
 /// The place of a segment: the logarithm of its length in bytes, and its first address.
 #[derive(Clone, Copy, Debug, PartialEq, Eq)]
-pub(crate) struct Place {
+pub(crate) struct Placement {
     pub log: u8,
     pub base: u64,
 }
@@ -26,7 +26,7 @@ pub(crate) struct Place {
 /// The places of segments, by their names. Contracts see a list of names and places, in the order of addresses.
 #[derive(Drop)]
 pub(crate) struct Sites<'a> {
-    by_name: IndexMap<&'a [u8], Place>,
+    by_name: IndexMap<&'a [u8], Placement>,
 }
 
 impl<'a> Model for Sites<'a> {
@@ -60,7 +60,7 @@ impl<'a> Sites<'a> {
     }
 
     // Adds a name with its place.
-    fn push(&mut self, name: &'a [u8], place: Place) -> Result<(), LinkError>
+    fn push(&mut self, name: &'a [u8], place: Placement) -> Result<(), LinkError>
         requires new { site_in self.old name.now ≡ None }
         requires length_fits { place.log ≤ 20 }
         requires base_fits { place.base < 2 ^ 40 }
@@ -73,7 +73,7 @@ impl<'a> Sites<'a> {
     }
 
     /// The place of the segment of a name, if there is one.
-    pub(crate) fn get(&self, name: &[u8]) -> Option<Place>
+    pub(crate) fn get(&self, name: &[u8]) -> Option<Placement>
         ensures place { result ≡ option_map place_of (site_in self.now name.now) }
         ensures fit { AllByRecursion FitsSite self.now }
     {
@@ -81,11 +81,11 @@ impl<'a> Sites<'a> {
     }
 
     /// The place of the segment of a name that is known.
-    pub(crate) fn named(&self, name: &[u8]) -> Place
+    pub(crate) fn named(&self, name: &[u8]) -> Placement
         ensures place { result ≡ place_of (site_named self.now name.now) }
         ensures fits { FitsSite (site_named self.now name.now) }
     {
-        self.get(name).unwrap_or(Place { log: 0, base: 0 })
+        self.get(name).unwrap_or(Placement { log: 0, base: 0 })
     }
 
     /// The pointer into the segment that a target of an object names.
@@ -113,7 +113,7 @@ pub(crate) fn sites_of<'a>(alloc: Global, parts: &[Part<'a>]) -> Result<Sites<'a
     let mut sites = Sites::with_capacity(alloc, parts.len())?;
     let mut base = ORIGIN;
     for part in parts {
-        let place = Place {
+        let place = Placement {
             log: part.log(),
             base,
         };

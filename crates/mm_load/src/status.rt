@@ -1,15 +1,13 @@
 //! What the program answers, and why a command stops.
 ghost use Rattle.std.specs.Prelude.{◌≡◌};
 ghost use Rattle.mm_load.specs.declared.status.Stop.TheVariants as stop;
-ghost use Rattle.mm_load.specs.Stops.{end_of, stop_of_extract, stop_of_link, stop_of_sweep};
+ghost use Rattle.mm_load.specs.Stops.{end_of, stop_of_link};
 
 use mm_asm::AsmFault;
-use mm_audit::ExtractError;
 use mm_image::ImageFault;
 use mm_io::WriteFault;
 use mm_link::{LinkError, LinkFault};
 use mm_object::ObjectFault;
-use mm_sweep::SweepError;
 use mm_word::NoMemory;
 
 /// Why a command is refused. Files are counted from 1 among the command's file words.
@@ -118,18 +116,6 @@ impl From<WriteFault> for Stop {
     }
 }
 
-impl From<ExtractError> for Stop {
-    ghost from_gives = { λ error e. e ≡ stop_of_extract error };
-
-    fn from(error: ExtractError) -> Self {
-        match error {
-            ExtractError::NoGroup => Stop::Refused(Refusal::NoGroup),
-            ExtractError::Crosses { slot } => Stop::Refused(Refusal::Crosses { slot }),
-            ExtractError::NoMemory => Stop::NoMemory,
-        }
-    }
-}
-
 impl From<LinkError> for Stop {
     ghost from_gives = { λ error e. e ≡ stop_of_link error };
 
@@ -137,18 +123,6 @@ impl From<LinkError> for Stop {
         match error {
             LinkError::Fault(fault) => Stop::Refused(Refusal::Link(fault)),
             LinkError::NoMemory => Stop::NoMemory,
-        }
-    }
-}
-
-impl From<SweepError> for Stop {
-    ghost from_gives = { λ error e. e ≡ stop_of_sweep error };
-
-    fn from(error: SweepError) -> Self {
-        match error {
-            SweepError::Held { slot } => Stop::Refused(Refusal::Held { slot }),
-            SweepError::Privileged { group } => Stop::Refused(Refusal::Privileged { group }),
-            SweepError::NoMemory => Stop::NoMemory,
         }
     }
 }

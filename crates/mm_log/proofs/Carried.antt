@@ -6,28 +6,28 @@ use Rattle.std.specs.List.Sorted.{IsStrictlyIncreasing}
 use Rattle.std.proofs.lemmas.Bool.{cases_eq, ne_eqb}
 use Rattle.mm_model.specs.declared.event.Event.{Event}
 use Rattle.mm_model.specs.Slot.{Slot}
-use Rattle.mm_model.specs.State.{Row, Core, State, row_in, at_number, put_output, output_of}
+use Rattle.mm_model.specs.State.{ThreadRow, Core, State, row_in, at_number, put_output, output_of}
 use Rattle.mm_model.specs.Spelling.{numbers_of}
 use Rattle.mm_model.specs.Fits.{identity_of, slots_of}
 use Rattle.mm_model.proofs.CoreRows.{above_first, rest_rises}
 use Rattle.mm_log.specs.Lines.{Line}
-use Rattle.mm_log.specs.Lines.Line.{Traced, Points, Stands, Holds, Empties, Issues, Queues, Reads, Puts, Maps, Removes, Sets}
+use Rattle.mm_log.specs.Lines.Line.{Traced, Points, Enters, Holds, Empties, Issues, Queues, Reads, Puts, Maps, Removes, Sets}
 use Rattle.mm_log.specs.Replay.{holding, emptied, is_turn, with_turns, without_first, carry_out, replay}
 use Rattle.mm_log.proofs.Runs.{run_on}
 use Rattle.mm_log.proofs.Pages.{memory_line}
 
 -- 1. A line on a row, on outputs, on a slot and on a queue.
 
-abbrev slot_changed : (Slot → Slot) → Row → Row
+abbrev slot_changed : (Slot → Slot) → ThreadRow → ThreadRow
 slot_changed f row = record row { slot = f row.slot }
 
-abbrev queue_changed : (List Event → List Event) → Row → Row
+abbrev queue_changed : (List Event → List Event) → ThreadRow → ThreadRow
 queue_changed f row = record row { queue = f row.queue }
 
-abbrev pub row_line : Line → Row → Row
+abbrev pub row_line : Line → ThreadRow → ThreadRow
 row_line (Traced turns step) row = at_number step.slot (slot_changed (with_turns (is_turn step.tick) turns)) row
 row_line (Points n p b) row = at_number n (slot_changed (λ x. record x { ip = p; past = b })) row
-row_line (Stands n st) row = at_number n (slot_changed (λ x. record x { state = st })) row
+row_line (Enters n st) row = at_number n (slot_changed (λ x. record x { state = st })) row
 row_line (Holds n r w) row = at_number n (slot_changed (holding r w)) row
 row_line (Empties n r) row = at_number n (slot_changed (emptied r)) row
 row_line (Issues n load) row = at_number n (slot_changed (λ x. record x { pending = x.pending ++ load ∷ [] })) row
@@ -42,7 +42,7 @@ out_line _ outs = outs
 abbrev pub slot_line : ℕ → Line → Slot → Slot
 slot_line n (Traced turns step) s = if n == step.slot then with_turns (is_turn step.tick) turns s else s
 slot_line n (Points k p b) s = if n == k then record s { ip = p; past = b } else s
-slot_line n (Stands k st) s = if n == k then record s { state = st } else s
+slot_line n (Enters k st) s = if n == k then record s { state = st } else s
 slot_line n (Holds k r w) s = if n == k then holding r w s else s
 slot_line n (Empties k r) s = if n == k then emptied r s else s
 slot_line n (Issues k load) s = if n == k then record s { pending = s.pending ++ load ∷ [] } else s
@@ -75,7 +75,7 @@ carried : (s : State) (l : Line) → Carried s l
 unfolding carry_out put_output output_of
 carried s (Traced turns step) = record { rows = refl; outputs = refl; memory = refl; version = refl; split = refl; cycles = refl }
 carried s (Points n p b) = record { rows = refl; outputs = refl; memory = refl; version = refl; split = refl; cycles = refl }
-carried s (Stands n st) = record { rows = refl; outputs = refl; memory = refl; version = refl; split = refl; cycles = refl }
+carried s (Enters n st) = record { rows = refl; outputs = refl; memory = refl; version = refl; split = refl; cycles = refl }
 carried s (Holds n r w) = record { rows = refl; outputs = refl; memory = refl; version = refl; split = refl; cycles = refl }
 carried s (Empties n r) = record { rows = refl; outputs = refl; memory = refl; version = refl; split = refl; cycles = refl }
 carried s (Issues n load) = record { rows = refl; outputs = refl; memory = refl; version = refl; split = refl; cycles = refl }
@@ -113,21 +113,21 @@ replayed s (l ∷ ls) =
 
 -- 4. Lines on a row are lines on its slot and on its queue.
 
-slot_if : (b : Bool) (f : Slot → Slot) (row : Row) → (if b then slot_changed f row else row) ≡ record { slot = if b then f row.slot else row.slot; queue = row.queue }
+slot_if : (b : Bool) (f : Slot → Slot) (row : ThreadRow) → (if b then slot_changed f row else row) ≡ record { slot = if b then f row.slot else row.slot; queue = row.queue }
 slot_if true f row = refl
 slot_if false f row = refl
 
-queue_if : (b : Bool) (f : List Event → List Event) (row : Row) → (if b then queue_changed f row else row) ≡ record { slot = row.slot; queue = if b then f row.queue else row.queue }
+queue_if : (b : Bool) (f : List Event → List Event) (row : ThreadRow) → (if b then queue_changed f row else row) ≡ record { slot = row.slot; queue = if b then f row.queue else row.queue }
 queue_if true f row = refl
 queue_if false f row = refl
 
-abbrev row_by : ℕ → Line → Row → Row
+abbrev row_by : ℕ → Line → ThreadRow → ThreadRow
 row_by n l row = record { slot = slot_line n l row.slot; queue = queue_line n l row.queue }
 
-row_one : (l : Line) (row : Row) → row_line l row ≡ row_by row.slot.number l row
+row_one : (l : Line) (row : ThreadRow) → row_line l row ≡ row_by row.slot.number l row
 row_one (Traced turns step) row = slot_if (nat_eq row.slot.number step.slot) (with_turns (is_turn step.tick) turns) row
 row_one (Points n p b) row = slot_if (nat_eq row.slot.number n) (λ x. record x { ip = p; past = b }) row
-row_one (Stands n st) row = slot_if (nat_eq row.slot.number n) (λ x. record x { state = st }) row
+row_one (Enters n st) row = slot_if (nat_eq row.slot.number n) (λ x. record x { state = st }) row
 row_one (Holds n r w) row = slot_if (nat_eq row.slot.number n) (holding r w) row
 row_one (Empties n r) row = slot_if (nat_eq row.slot.number n) (emptied r) row
 row_one (Issues n load) row = slot_if (nat_eq row.slot.number n) (λ x. record x { pending = x.pending ++ load ∷ [] }) row
@@ -149,7 +149,7 @@ turns_number false turns s = refl
 pub number_line : (n : ℕ) (l : Line) (s : Slot) → (slot_line n l s).number ≡ s.number
 number_line n (Traced turns step) s = number_if (nat_eq n step.slot) (with_turns (is_turn step.tick) turns s) s (turns_number (is_turn step.tick) turns s)
 number_line n (Points k p b) s = number_if (nat_eq n k) (record s { ip = p; past = b }) s refl
-number_line n (Stands k st) s = number_if (nat_eq n k) (record s { state = st }) s refl
+number_line n (Enters k st) s = number_if (nat_eq n k) (record s { state = st }) s refl
 number_line n (Holds k r w) s = number_if (nat_eq n k) (holding r w s) s refl
 number_line n (Empties k r) s = number_if (nat_eq n k) (emptied r s) s refl
 number_line n (Issues k load) s = number_if (nat_eq n k) (record s { pending = s.pending ++ load ∷ [] }) s refl
@@ -160,80 +160,80 @@ number_line n (Maps p) s = refl
 number_line n (Removes p) s = refl
 number_line n (Sets w c) s = refl
 
-pub row_all : (ls : List Line) (row : Row) → run_on row_line ls row ≡ record { slot = run_on (slot_line row.slot.number) ls row.slot; queue = run_on (queue_line row.slot.number) ls row.queue }
+pub row_all : (ls : List Line) (row : ThreadRow) → run_on row_line ls row ≡ record { slot = run_on (slot_line row.slot.number) ls row.slot; queue = run_on (queue_line row.slot.number) ls row.queue }
 row_all [] row = refl
 row_all (l ∷ ls) row =
     let n : ℕ = row.slot.number in
-    let next : Row = row_by n l row in
-    let put : ℕ → Row = λ k. record { slot = run_on (slot_line k) ls next.slot; queue = run_on (queue_line k) ls next.queue } in
+    let next : ThreadRow = row_by n l row in
+    let put : ℕ → ThreadRow = λ k. record { slot = run_on (slot_line k) ls next.slot; queue = run_on (queue_line k) ls next.queue } in
     ap (run_on row_line ls) (row_one l row) ∙ row_all ls next ∙ ap put (number_line n l row.slot)
 
-pub row_number : (ls : List Line) (row : Row) → (run_on row_line ls row).slot.number ≡ row.slot.number
+pub row_number : (ls : List Line) (row : ThreadRow) → (run_on row_line ls row).slot.number ≡ row.slot.number
 row_number [] row = refl
-row_number (l ∷ ls) row = row_number ls (row_line l row) ∙ ap (λ (r : Row). r.slot.number) (row_one l row) ∙ number_line row.slot.number l row.slot
+row_number (l ∷ ls) row = row_number ls (row_line l row) ∙ ap (λ (r : ThreadRow). r.slot.number) (row_one l row) ∙ number_line row.slot.number l row.slot
 
 -- 5. Rows whose lines make the later rows.
 
-abbrev numbers : List Row → List ℕ
-numbers rows = map (λ (row : Row). row.slot.number) rows
+abbrev numbers : List ThreadRow → List ℕ
+numbers rows = map (λ (row : ThreadRow). row.slot.number) rows
 
-same_numbers : (a b : List Row) → map identity_of (map (λ (row : Row). row.slot) a) ≡ map identity_of (map (λ (row : Row). row.slot) b) → numbers a ≡ numbers b
+same_numbers : (a b : List ThreadRow) → map identity_of (map (λ (row : ThreadRow). row.slot) a) ≡ map identity_of (map (λ (row : ThreadRow). row.slot) b) → numbers a ≡ numbers b
 same_numbers [] [] e = refl
 same_numbers [] (y ∷ b) e = cc
 same_numbers (x ∷ a) [] e = cc
 same_numbers (x ∷ a) (y ∷ b) e =
     let heads : identity_of x.slot ≡ identity_of y.slot = cc in
-    let rest : map identity_of (map (λ (row : Row). row.slot) a) ≡ map identity_of (map (λ (row : Row). row.slot) b) = cc in
+    let rest : map identity_of (map (λ (row : ThreadRow). row.slot) a) ≡ map identity_of (map (λ (row : ThreadRow). row.slot) b) = cc in
     let first : x.slot.number ≡ y.slot.number = ap (λ (i : ℕ × ℕ × Option ℕ). i.0) heads in
     let others = same_numbers a b rest in
     cc
 
-rows_above : (k : ℕ) (rows : List Row) → AllByRecursion (λ y. k < y) (numbers_of (map (λ (row : Row). row.slot) rows)) → AllByRecursion (λ (row : Row). k < row.slot.number) rows
+rows_above : (k : ℕ) (rows : List ThreadRow) → AllByRecursion (λ y. k < y) (numbers_of (map (λ (row : ThreadRow). row.slot) rows)) → AllByRecursion (λ (row : ThreadRow). k < row.slot.number) rows
 rows_above k [] h = tt
 rows_above k (row ∷ rows) h = (h.0, rows_above k rows h.1)
 
-row_here : (row : Row) (rows : List Row) (n : ℕ) → row.slot.number ≡ n → row_in (row ∷ rows) n ≡ Some row
+row_here : (row : ThreadRow) (rows : List ThreadRow) (n : ℕ) → row.slot.number ≡ n → row_in (row ∷ rows) n ≡ Some row
 row_here row rows n e = ap (λ b. if b then Some row else row_in rows n) (eq-eqb row.slot.number n e)
 
-row_later : (row : Row) (rows : List Row) (n : ℕ) → row.slot.number ≢ n → row_in (row ∷ rows) n ≡ row_in rows n
+row_later : (row : ThreadRow) (rows : List ThreadRow) (n : ℕ) → row.slot.number ≢ n → row_in (row ∷ rows) n ≡ row_in rows n
 row_later row rows n ne = ap (λ b. if b then Some row else row_in rows n) (ne_eqb row.slot.number n ne)
 
 -- a row that is found is at its number, above what all are above
-found_above : (k : ℕ) (rows : List Row) (n : ℕ) (row : Row) → AllByRecursion (λ (r : Row). k < r.slot.number) rows → row_in rows n ≡ Some row → k < n
+found_above : (k : ℕ) (rows : List ThreadRow) (n : ℕ) (row : ThreadRow) → AllByRecursion (λ (r : ThreadRow). k < r.slot.number) rows → row_in rows n ≡ Some row → k < n
 found_above k [] n row h is = cc
 found_above k (x ∷ rows) n row h is = elim (cases_eq x.slot.number n) [
   | inl e ↦ let up = h.0 in omega arith
   | inr ne ↦ found_above k rows n row h.1 (sym (row_later x rows n ne) ∙ is)
 ]
 
-pub found_number : (rows : List Row) (n : ℕ) (row : Row) → row_in rows n ≡ Some row → row.slot.number ≡ n
+pub found_number : (rows : List ThreadRow) (n : ℕ) (row : ThreadRow) → row_in rows n ≡ Some row → row.slot.number ≡ n
 found_number [] n row is = cc
 found_number (x ∷ rows) n row is = elim (cases_eq x.slot.number n) [
   | inl e ↦
-      let two : ◌≡◌ {A = Option Row} (Some x) (Some row) = sym (row_here x rows n e) ∙ is in
+      let two : ◌≡◌ {A = Option ThreadRow} (Some x) (Some row) = sym (row_here x rows n e) ∙ is in
       let one : x ≡ row = cc in
-      sym (ap (λ (r : Row). r.slot.number) one) ∙ e
+      sym (ap (λ (r : ThreadRow). r.slot.number) one) ∙ e
   | inr ne ↦ found_number rows n row (sym (row_later x rows n ne) ∙ is)
 ]
 
-rows_made : (f : Row → Row) (a b : List Row) → IsStrictlyIncreasing (numbers_of (map (λ (row : Row). row.slot) a)) → numbers a ≡ numbers b
-    → ((n : ℕ) (x y : Row) → row_in a n ≡ Some x → row_in b n ≡ Some y → f x ≡ y) → map f a ≡ b
+rows_made : (f : ThreadRow → ThreadRow) (a b : List ThreadRow) → IsStrictlyIncreasing (numbers_of (map (λ (row : ThreadRow). row.slot) a)) → numbers a ≡ numbers b
+    → ((n : ℕ) (x y : ThreadRow) → row_in a n ≡ Some x → row_in b n ≡ Some y → f x ≡ y) → map f a ≡ b
 rows_made f [] [] up e h = refl
 rows_made f [] (y ∷ b) up e h = cc
 rows_made f (x ∷ a) [] up e h = cc
 rows_made f (x ∷ a) (y ∷ b) up e h =
     let first : x.slot.number ≡ y.slot.number = cc in
     let rest : numbers a ≡ numbers b = cc in
-    let above : AllByRecursion (λ (r : Row). x.slot.number < r.slot.number) a = rows_above x.slot.number a (above_first x.slot.number (numbers_of (map (λ (row : Row). row.slot) a)) up) in
+    let above : AllByRecursion (λ (r : ThreadRow). x.slot.number < r.slot.number) a = rows_above x.slot.number a (above_first x.slot.number (numbers_of (map (λ (row : ThreadRow). row.slot) a)) up) in
     let here : f x ≡ y = h x.slot.number x y (row_here x a x.slot.number refl) (row_here y b x.slot.number (sym first)) in
     let others : map f a ≡ b =
-    rows_made f a b (rest_rises x.slot.number (numbers_of (map (λ (row : Row). row.slot) a)) up) rest
+    rows_made f a b (rest_rises x.slot.number (numbers_of (map (λ (row : ThreadRow). row.slot) a)) up) rest
     (λ n u v at there.
     let low : x.slot.number < n = found_above x.slot.number a n u above at in
     let ne : x.slot.number ≢ n = omega arith in
     h n u v (row_later x a n ne ∙ at) (row_later y b n (λ s. ne (first ∙ s)) ∙ there)) in
     cc
 
-pub core_made : (a b : Core) (f : Row → Row) → IsStrictlyIncreasing (numbers_of (slots_of a)) → map identity_of (slots_of b) ≡ map identity_of (slots_of a)
-    → ((n : ℕ) (x y : Row) → row_in a.rows n ≡ Some x → row_in b.rows n ≡ Some y → f x ≡ y) → map f a.rows ≡ b.rows
+pub core_made : (a b : Core) (f : ThreadRow → ThreadRow) → IsStrictlyIncreasing (numbers_of (slots_of a)) → map identity_of (slots_of b) ≡ map identity_of (slots_of a)
+    → ((n : ℕ) (x y : ThreadRow) → row_in a.rows n ≡ Some x → row_in b.rows n ≡ Some y → f x ≡ y) → map f a.rows ≡ b.rows
 core_made a b f up ids h = rows_made f a.rows b.rows up (sym (same_numbers b.rows a.rows ids)) h

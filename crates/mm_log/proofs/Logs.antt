@@ -19,7 +19,7 @@ use Rattle.mm_model.specs.declared.step.Tick.{Tick}
 use Rattle.mm_model.specs.declared.step.Tick.TheVariants.{Idle, Blocked, Did, Faulted, Delivered}
 use Rattle.mm_model.specs.Memory.{Memory, page_at, is_mapped}
 use Rattle.mm_model.specs.Slot.{Slot}
-use Rattle.mm_model.specs.State.{Row, Core, State, row_in, slot_of, queue_of, slot_at, queue_at, output_of}
+use Rattle.mm_model.specs.State.{ThreadRow, Core, State, row_in, slot_of, queue_of, slot_at, queue_at, output_of}
 use Rattle.mm_model.specs.Image.{Image, start}
 use Rattle.mm_model.specs.Spelling.{IsImage}
 use Rattle.mm_model.specs.Report.{changes_from}
@@ -34,7 +34,7 @@ use Rattle.mm_model.proofs.Starts.{start_state, start_fits, start_kept}
 use Rattle.mm_model.proofs.StateKeeps.{after_state, after_fits, after_kept}
 use Rattle.mm_model.proofs.TurnKeeps.{turn_keeps}
 use Rattle.mm_log.specs.Lines.{Line}
-use Rattle.mm_log.specs.Lines.Line.{Traced, Points, Stands, Holds, Empties, Issues, Queues, Reads, Puts, Maps, Removes, Sets}
+use Rattle.mm_log.specs.Lines.Line.{Traced, Points, Enters, Holds, Empties, Issues, Queues, Reads, Puts, Maps, Removes, Sets}
 use Rattle.mm_log.specs.Changes.{slot_changes, changes_between, each_number, slots_changed, queued_at, read_at, put_out_by, pages_mapped, pages_removed, cells_changed, cells_changed_in, changes}
 use Rattle.mm_log.specs.Log.{turns_in, told, cycle_log, log}
 use Rattle.mm_log.specs.Replay.{holding, emptied, is_turn, with_turns, without_first, carry_out, replay}
@@ -49,7 +49,7 @@ use Rattle.mm_log.proofs.Registers.{slot_all, slot_replayed}
 -- 1. Which lines are told.
 
 module _ (P : Line → Type 0) (was now : Core) where
-  slots_all : ((k : ℕ) (p : Pointer) (b : Bool) → P (Points k p b)) → ((k : ℕ) (st : SlotState) → P (Stands k st))
+  slots_all : ((k : ℕ) (p : Pointer) (b : Bool) → P (Points k p b)) → ((k : ℕ) (st : SlotState) → P (Enters k st))
       → ((k r : ℕ) (w : Word) → P (Holds k r w)) → ((k r : ℕ) → P (Empties k r))
       → ((k : ℕ) (load : Pending) → P (Issues k load))
       → AllByRecursion P (slots_changed was now)
@@ -174,7 +174,7 @@ out_length (l ∷ ls) outs = out_length ls (out_line l outs) ∙ one l
     one (Puts g b) = length-set outs g (slice_index_or outs g [] ++ b ∷ [])
     one (Traced a b) = refl
     one (Points a b c) = refl
-    one (Stands a b) = refl
+    one (Enters a b) = refl
     one (Holds a b c) = refl
     one (Empties a b) = refl
     one (Issues a b) = refl
@@ -196,7 +196,7 @@ out_one k (Puts g b) outs lt = elim (cases_eq k g) [
 ]
 out_one k (Traced a b) outs lt = refl
 out_one k (Points a b c) outs lt = refl
-out_one k (Stands a b) outs lt = refl
+out_one k (Enters a b) outs lt = refl
 out_one k (Holds a b c) outs lt = refl
 out_one k (Empties a b) outs lt = refl
 out_one k (Issues a b) outs lt = refl
@@ -381,7 +381,7 @@ module _ (i : Image) (img : IsImage i) (s : State) (n : ℕ) (state : IsState s)
   abbrev all_lines : List Line
   all_lines = Traced (turns_in t) t.step ∷ lines
 
-  row_part : (k : ℕ) (x y : Row) → row_in s.core.rows k ≡ Some x → row_in t.core.rows k ≡ Some y → run_on row_line all_lines x ≡ y
+  row_part : (k : ℕ) (x y : ThreadRow) → row_in s.core.rows k ≡ Some x → row_in t.core.rows k ≡ Some y → run_on row_line all_lines x ≡ y
   unfolding slot_at queue_at
   row_part k x y at there =
       let number = found_number s.core.rows k x at in

@@ -6,7 +6,7 @@ use Rattle.std.proofs.Math.Seq.{drop-length}
 use Rattle.mm_word.specs.declared.word.Word.TheVariants.{Ptr}
 use Rattle.mm_model.specs.Slot.{Slot, register, is_empty}
 use Rattle.mm_log.specs.Lines.{Line}
-use Rattle.mm_log.specs.Lines.Line.{Points, Stands, Issues}
+use Rattle.mm_log.specs.Lines.Line.{Points, Enters, Issues}
 use Rattle.mm_log.specs.Changes.{state_changes, register_changes, register_now, load_changes, slot_changes, changes_between}
 use Rattle.mm_log.proofs.Runs.{flat_none}
 use Rattle.mm_log.proofs.Sames.{pair_self, state_self}
@@ -66,7 +66,7 @@ pub slot_self : (s : Slot) → slot_changes s s ≡ []
 unfolding slot_changes
 slot_self s =
     ap (λ b. (if b then [] else Points s.number s.ip s.past ∷ []) ++ state_changes s s ++ flat_map (register_changes s s) (range_with_len 0 16) ++ load_changes s s) (pair_self (Ptr s.ip) s.past)
-    ∙ ap (λ b. (if b then [] else Stands s.number s.state ∷ []) ++ flat_map (register_changes s s) (range_with_len 0 16) ++ load_changes s s) (state_self s.state)
+    ∙ ap (λ b. (if b then [] else Enters s.number s.state ∷ []) ++ flat_map (register_changes s s) (range_with_len 0 16) ++ load_changes s s) (state_self s.state)
     ∙ ap (λ l. l ++ load_changes s s) (flat_none (register_changes s s) (range_with_len 0 16)
     (each_none (register_changes s s) (λ r. ap (λ b. if b then [] else register_now s r ∷ [])
     (pair_self (register s r) (is_empty s r))) (range_with_len 0 16)))

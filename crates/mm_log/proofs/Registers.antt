@@ -23,7 +23,7 @@ use Rattle.mm_model.specs.Fits.{loads_for, IsSlot, LoadsMatch, SlotHoldsWords}
 use Rattle.mm_model.proofs.CoreRows.{each_get}
 use Rattle.mm_model.proofs.SlotSteps.{empty_within}
 use Rattle.mm_log.specs.Lines.{Line}
-use Rattle.mm_log.specs.Lines.Line.{Points, Stands, Holds, Empties, Issues}
+use Rattle.mm_log.specs.Lines.Line.{Points, Enters, Holds, Empties, Issues}
 use Rattle.mm_log.specs.Changes.{same_state, pointer_changes, state_changes, register_now, register_changes, load_changes, slot_changes}
 use Rattle.mm_log.specs.Replay.{without_load, holding, emptied}
 use Rattle.mm_log.proofs.Runs.{run_on, run_append, all_append, all_flat, all_map, all_unless}
@@ -34,7 +34,7 @@ use Rattle.mm_log.proofs.Carried.{slot_line}
 -- 1. Which lines these are.
 
 pub slot_all : (P : Line → Type 0) (was now : Slot) → ((p : Pointer) (b : Bool) → P (Points now.number p b))
-    → ((st : SlotState) → P (Stands now.number st)) → ((r : ℕ) (w : Word) → P (Holds now.number r w))
+    → ((st : SlotState) → P (Enters now.number st)) → ((r : ℕ) (w : Word) → P (Holds now.number r w))
     → ((r : ℕ) → P (Empties now.number r))
     → ((load : Pending) → P (Issues now.number load)) → AllByRecursion P (slot_changes was now)
 unfolding slot_changes
@@ -43,7 +43,7 @@ slot_all P was now points stands holds empties issues =
     (all_append P (pointer_changes was now ++ state_changes was now) (flat_map (register_changes was now) (range_with_len 0 16))
     (all_append P (pointer_changes was now) (state_changes was now)
     (all_unless P (same_word (Ptr was.ip) (Ptr now.ip) && same_bit was.past now.past) (Points now.number now.ip now.past) (points now.ip now.past))
-    (all_unless P (same_state was.state now.state) (Stands now.number now.state) (stands now.state)))
+    (all_unless P (same_state was.state now.state) (Enters now.number now.state) (stands now.state)))
     (all_flat P (register_changes was now)
     (λ r. all_unless P (same_word (register was r) (register now r) && same_bit (is_empty was r) (is_empty now r))
     (register_now now r) (one r (is_empty now r))) (range_with_len 0 16)))
@@ -280,7 +280,7 @@ module _ (was now : Slot) (old : IsSlot was) (new : IsSlot now) (old_words : Slo
   state_told : (x : Slot) → x.state ≡ was.state → run_on (slot_line n) (state_changes was now) x ≡ record x { state = now.state }
   state_told x state = by (same_state was.state now.state) refl
     where
-      by : (b : Bool) → same_state was.state now.state ≡ b → run_on (slot_line n) (if b then [] else Stands n now.state ∷ []) x ≡ record x { state = now.state }
+      by : (b : Bool) → same_state was.state now.state ≡ b → run_on (slot_line n) (if b then [] else Enters n now.state ∷ []) x ≡ record x { state = now.state }
       by true e = let one = state ∙ states_same was.state now.state e in λ i. record x { state = one i }
       by false e = own_line (record x { state = now.state }) x
 

@@ -298,10 +298,10 @@ module _ (core : Core) (m : Memory) (s : Slot) where
   unmap_row rd page true false = tt
   unmap_row rd page false c = tt
 
-  abbrev Row : Instr → Type 0
-  Row i = EffectMoves core m s (ask i s) (effect core.split i s (reply core m s.number (ask i s)))
+  abbrev ThreadRow : Instr → Type 0
+  ThreadRow i = EffectMoves core m s (ask i s) (effect core.split i s (reply core m s.number (ask i s)))
 
-  pub effect_moves : (i : Instr) → Row i
+  pub effect_moves : (i : Instr) → ThreadRow i
   unfolding effect ask reply
   effect_moves Halt = halt_moves core m s Nothing
   effect_moves Nop = plain_moves core m s Nothing

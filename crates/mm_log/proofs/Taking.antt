@@ -38,7 +38,7 @@ use Rattle.mm_model.proofs.CoreRows.{slot_at-number, slot_at-put_other, slot_has
 use Rattle.mm_model.proofs.CoreSteps.{queued_waits}
 use Rattle.mm_model.proofs.SlotSteps.{delivered_from}
 use Rattle.mm_model.proofs.TurnKeeps.{changed_from}
-use Rattle.mm_log.specs.Lines.Line.{Points, Stands, Issues}
+use Rattle.mm_log.specs.Lines.Line.{Points, Enters, Issues}
 use Rattle.mm_log.specs.Changes.{same_state, state_changes, register_changes, register_now, load_changes, slot_changes, changes_between, slots_changed}
 use Rattle.mm_log.specs.Looks.{own_of, comes_to, found_by, in_cell, address_told, value_told}
 use Rattle.mm_log.specs.Seen.{slot_in, read_by, read_in, with_taken}
@@ -134,18 +134,18 @@ waits_only Taken e = cc
 waits_only (Halted None) e = cc
 waits_only (Halted (Some c)) e = cc
 
-taken_changes : (of : Slot) → is_waiting of.state ≡ true → slot_changes of (record of { state = Taken }) ≡ Stands of.number Taken ∷ []
+taken_changes : (of : Slot) → is_waiting of.state ≡ true → slot_changes of (record of { state = Taken }) ≡ Enters of.number Taken ∷ []
 unfolding slot_changes register is_empty
 taken_changes of waits =
     let now : Slot = record of { state = Taken } in
     ap (λ b. (if b then [] else Points of.number of.ip of.past ∷ []) ++ state_changes of now ++ flat_map
     (register_changes of now) (range_with_len 0 16) ++ load_changes of now) (pair_self (Ptr of.ip) of.past)
-    ∙ ap (λ b. (if b then [] else Stands of.number Taken ∷ []) ++ flat_map (register_changes of now) (range_with_len 0 16) ++ load_changes of now) (waits_only of.state waits)
-    ∙ ap (λ l. (Stands of.number Taken ∷ []) ++ l ++ load_changes of now)
+    ∙ ap (λ b. (if b then [] else Enters of.number Taken ∷ []) ++ flat_map (register_changes of now) (range_with_len 0 16) ++ load_changes of now) (waits_only of.state waits)
+    ∙ ap (λ l. (Enters of.number Taken ∷ []) ++ l ++ load_changes of now)
     (flat_none (register_changes of now) (range_with_len 0 16)
     (each_none (register_changes of now) (λ r. ap (λ b. if b then [] else register_now now r ∷ [])
     (pair_self (register of r) (is_empty of r))) (range_with_len 0 16)))
-    ∙ ap (λ l. (Stands of.number Taken ∷ []) ++ map (Issues of.number) l) (drop-length of.pending)
+    ∙ ap (λ l. (Enters of.number Taken ∷ []) ++ map (Issues of.number) l) (drop-length of.pending)
 
 -- 4. What an `evt` does that is carried out.
 
@@ -249,15 +249,15 @@ module _ (core : Core) (m : Memory) (n : ℕ) (formed : IsFormed core) (match : 
       let whole : later ≡ core_after core s done = ap (λ (x : Turned). x.core) is ∙ made ∙ ap (core_after core s) (sym r.is) in
       let own_number = (changed_from s done).number in
       let own_now : slot_at later s.number ≡ Some (slot_after s done) = ap (λ (x : Core). slot_at x s.number) whole ∙ own_after core s at done in
-      let told : e.slot ≢ s.number → changes_between (slot_at core e.slot) (slot_at later e.slot) ≡ Stands e.slot Taken ∷ [] = λ ne.
+      let told : e.slot ≢ s.number → changes_between (slot_at core e.slot) (slot_at later e.slot) ≡ Enters e.slot Taken ∷ [] = λ ne.
       ap (λ o. changes_between o (slot_at later e.slot)) r.there
       ∙ ap (λ o. changes_between (Some of) o) (ap (λ (x : Core). slot_at x e.slot) whole ∙ other_after core s at done taken of refl e.slot number r.there ne)
-      ∙ taken_changes of waits ∙ ap (λ k. Stands k Taken ∷ []) number in
+      ∙ taken_changes of waits ∙ ap (λ k. Enters k Taken ∷ []) number in
       let reads : read_in (comes_to m s) Did (slot_at later s.number) ≡ Some e.slot =
       ap (λ o. read_by o (slot_at later s.number)) (comes ∙ ap (λ (x : Instr). Some x) evt.is)
       ∙ ap (slot_in evt.rd) own_now
       ∙ ap (λ (k : ℕ). Some k) (names_slot core m s evt.rd e r.rest of small formed_own.registers few) in
-      beside core m n formed s own e.slot few (Stands e.slot Taken ∷ []) told (λ k a b. others k b)
+      beside core m n formed s own e.slot few (Enters e.slot Taken ∷ []) told (λ k a b. others k b)
       ∙ sym (ap (with_taken later s) reads)
     where
       others : (k : ℕ) → k ≢ r.event.slot → NoOther core m n k

@@ -13,7 +13,7 @@ use Rattle.mm_model.specs.Report.{same_bit, changes_from}
 use Rattle.mm_model.specs.Slot.{Slot, register, is_empty}
 use Rattle.mm_model.specs.State.{Core, State, slot_at, queue_at, output_of}
 use Rattle.mm_log.specs.Lines.{Line}
-use Rattle.mm_log.specs.Lines.Line.{Points, Stands, Holds, Empties, Issues, Queues, Reads, Puts, Maps, Removes, Sets}
+use Rattle.mm_log.specs.Lines.Line.{Points, Enters, Holds, Empties, Issues, Queues, Reads, Puts, Maps, Removes, Sets}
 
 -- 1. A slot.
 
@@ -32,7 +32,7 @@ same_state (Halted (Some a)) (Halted (Some b)) = number_of a == number_of b
 same_state _ _ = false
 
 abbrev pub state_changes : Slot → Slot → List Line
-state_changes was now = if same_state was.state now.state then [] else Stands now.number now.state ∷ []
+state_changes was now = if same_state was.state now.state then [] else Enters now.number now.state ∷ []
 
 abbrev pub register_now : Slot → ℕ → Line
 register_now now r = if is_empty now r then Empties now.number r else Holds now.number r (register now r)

@@ -19,7 +19,7 @@ pub data Line : Type 0 where
   -- a slot's instruction pointer, and whether it is past its segment
   Points : (slot : ℕ) (ip : Pointer) (past : Bool) → Line
   -- a slot's state
-  Stands : (slot : ℕ) (state : SlotState) → Line
+  Enters : (slot : ℕ) (state : SlotState) → Line
   -- the word of a slot's register
   Holds : (slot : ℕ) (reg : ℕ) (word : Word) → Line
   -- a slot's register waits for a load
@@ -52,7 +52,7 @@ event_text e =
 unfoldable pub line_text : Line → List ℕ
 line_text (Traced turns step) = step_line turns step step.tick
 line_text (Points slot ip past) = codes "ip " ++ decimal slot ++ codes " " ++ word_text (Ptr ip) ++ past_text past
-line_text (Stands slot state) = codes "state " ++ decimal slot ++ codes " " ++ state_text state ++ newline
+line_text (Enters slot state) = codes "state " ++ decimal slot ++ codes " " ++ state_text state ++ newline
 line_text (Holds slot reg word) = register_text slot reg ++ word_text word ++ newline
 line_text (Empties slot reg) = register_text slot reg ++ codes "empty\n"
 line_text (Issues slot load) =

@@ -26,7 +26,7 @@ use Rattle.mm_log.specs.declared.local.Writes.TheVariants.{Nothing, One, More}
 use Rattle.mm_log.specs.declared.local.Held.{Held}
 use Rattle.mm_log.specs.declared.local.Local.{Local}
 use Rattle.mm_log.specs.Lines.{Line}
-use Rattle.mm_log.specs.Lines.Line.{Points, Stands, Issues, Puts}
+use Rattle.mm_log.specs.Lines.Line.{Points, Enters, Issues, Puts}
 use Rattle.mm_log.specs.Changes.{same_state, register_now}
 use Rattle.mm_log.specs.Looks.{comes_to}
 use Rattle.mm_log.specs.Seen.{queued_by, cell_now}
@@ -106,7 +106,7 @@ pointer_left ip past now =
     if same_word (Ptr ip) (Ptr now.ip) && same_bit past now.past then [] else Points now.number now.ip now.past ∷ []
 
 abbrev pub state_left : SlotState → Slot → List Line
-state_left state now = if same_state state now.state then [] else Stands now.number now.state ∷ []
+state_left state now = if same_state state now.state then [] else Enters now.number now.state ∷ []
 
 abbrev pub register_left : Word → Bool → Slot → ℕ → List Line
 register_left word empty now r =

@@ -10,7 +10,7 @@ use Rattle.mm_model.specs.Memory.{put_cell, map_page, unmap_page}
 use Rattle.mm_model.specs.Slot.{Slot, is_empty}
 use Rattle.mm_model.specs.State.{State, at_number, output_of, put_output}
 use Rattle.mm_log.specs.Lines.{Line}
-use Rattle.mm_log.specs.Lines.Line.{Traced, Points, Stands, Holds, Empties, Issues, Queues, Reads, Puts, Maps, Removes}
+use Rattle.mm_log.specs.Lines.Line.{Traced, Points, Enters, Holds, Empties, Issues, Queues, Reads, Puts, Maps, Removes}
 use Rattle.mm_log.specs.Lines.Line.{Sets}
 
 -- 1. Changes of one slot.
@@ -65,7 +65,7 @@ without_first (e ∷ events) = events
 unfoldable pub carry_out : State → Line → State
 carry_out s (Traced turns step) = on_slot s step.slot (with_turns (is_turn step.tick) turns)
 carry_out s (Points n p b) = on_slot s n (λ x. record x { ip = p; past = b })
-carry_out s (Stands n st) = on_slot s n (λ x. record x { state = st })
+carry_out s (Enters n st) = on_slot s n (λ x. record x { state = st })
 carry_out s (Holds n r w) = on_slot s n (holding r w)
 carry_out s (Empties n r) = on_slot s n (emptied r)
 carry_out s (Issues n load) = on_slot s n (λ x. record x { pending = x.pending ++ load ∷ [] })

@@ -18,7 +18,7 @@ use Rattle.mm_log.specs.declared.before.There.{There}
 use Rattle.mm_log.specs.declared.before.There.TheVariants as there
 use Rattle.mm_log.specs.declared.before.Before.{Before}
 use Rattle.mm_log.specs.Lines.{Line}
-use Rattle.mm_log.specs.Lines.Line.{Stands, Queues, Reads, Puts, Maps, Removes, Sets}
+use Rattle.mm_log.specs.Lines.Line.{Enters, Queues, Reads, Puts, Maps, Removes, Sets}
 use Rattle.mm_log.specs.Changes.{changes_between}
 use Rattle.mm_log.specs.Looks.{address_told, value_told}
 
@@ -46,7 +46,7 @@ read_in instr _ now = None
 
 abbrev pub with_taken : Core → Slot → Option ℕ → List Line
 with_taken later own None = seen_of later own
-with_taken later own (Some k) = in_order own.number k (seen_of later own) (Stands k Taken ∷ [])
+with_taken later own (Some k) = in_order own.number k (seen_of later own) (Enters k Taken ∷ [])
 
 abbrev pub with_there : Core → Before → Tick → There → List Line
 with_there later b tick (there.Slot other) =

@@ -12,7 +12,7 @@ ghost use Rattle.mm_log.specs.Looks.{address_told as address_told_of, value_told
 ghost use Rattle.mm_model.specs.State.{slot_at, output_of};
 ghost use Rattle.mm_machine.specs.Machine.{state_of};
 ghost use Rattle.mm_log.specs.Lines.{line_text};
-ghost use Rattle.mm_log.specs.Lines.Line.{Stands, Puts, Maps, Removes};
+ghost use Rattle.mm_log.specs.Lines.Line.{Enters, Puts, Maps, Removes};
 ghost use Rattle.mm_model.specs.declared.slot.SlotState.TheVariants.{Taken};
 ghost use Rattle.mm_log.specs.Log.{text_of};
 ghost use Rattle.mm_log.specs.Seen.{seen_of, in_order, read_by as read_by_of, read_in, with_taken, slots_seen};
@@ -130,7 +130,7 @@ fn put_two<M: Memory, O: Sink>(
 /// Appends the line of a taken slot, if its number is less than that of `own`.
 fn put_taken_before<O: Sink>(text: &mut Gather, out: &mut O, slot: u8, own: &Slot)
     ensures { Gathers O.taken O.faults out.old out.new text.old text.new
-        (text_of (if nat_lt slot own.now.number then Stands slot Taken ∷ [] else [])) }
+        (text_of (if nat_lt slot own.now.number then Enters slot Taken ∷ [] else [])) }
 {
     if slot < own.number {
         put_standing(text, out, slot, SlotState::Taken);
@@ -140,7 +140,7 @@ fn put_taken_before<O: Sink>(text: &mut Gather, out: &mut O, slot: u8, own: &Slo
 /// Appends the line of a taken slot, if its number is greater than that of `own`.
 fn put_taken_behind<O: Sink>(text: &mut Gather, out: &mut O, slot: u8, own: &Slot)
     ensures { Gathers O.taken O.faults out.old out.new text.old text.new
-        (text_of (if nat_lt own.now.number slot then Stands slot Taken ∷ [] else [])) }
+        (text_of (if nat_lt own.now.number slot then Enters slot Taken ∷ [] else [])) }
 {
     if own.number < slot {
         put_standing(text, out, slot, SlotState::Taken);
@@ -157,7 +157,7 @@ fn put_both<M: Memory, O: Sink>(
 )
     ensures { Gathers O.taken O.faults out.old out.new text.old text.new
         (text_of (in_order own.now.number taken (seen_of (state_of machine.now).core own.now)
-        (Stands taken Taken ∷ []))) }
+        (Enters taken Taken ∷ []))) }
 {
     put_taken_before(text, out, taken, own);
     put_own(text, out, machine, own);

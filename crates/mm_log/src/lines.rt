@@ -6,7 +6,7 @@ ghost use Rattle.mm_text.specs.Gathers.{Gathers};
 ghost use Rattle.mm_word.specs.Cause.{number_of};
 ghost use Rattle.mm_model.specs.Lines.{word_text};
 ghost use Rattle.mm_log.specs.Lines.{line_text, register_text, event_text};
-ghost use Rattle.mm_log.specs.Lines.Line.{Points, Stands, Holds, Empties, Issues, Queues, Reads, Puts, Maps, Removes};
+ghost use Rattle.mm_log.specs.Lines.Line.{Points, Enters, Holds, Empties, Issues, Queues, Reads, Puts, Maps, Removes};
 ghost use Rattle.mm_log.specs.Lines.Line.{Sets};
 
 use mm_io::Sink;
@@ -45,7 +45,7 @@ pub(crate) fn write_pointer(line: &mut Line, slot: u8, ip: GuardedPtr, past: boo
 
 /// Appends `state S STATE`.
 pub(crate) fn put_standing<O: Sink>(text: &mut Gather, out: &mut O, slot: u8, state: SlotState)
-    ensures { Gathers O.taken O.faults out.old out.new text.old text.new (line_text (Stands slot state)) }
+    ensures { Gathers O.taken O.faults out.old out.new text.old text.new (line_text (Enters slot state)) }
 {
     put_front(text, out, "state ", slot);
     put_state(text, out, state);

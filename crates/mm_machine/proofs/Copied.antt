@@ -18,7 +18,7 @@ use Rattle.mm_word.specs.Word.{IsWord}
 use Rattle.mm_model.specs.declared.slot.SlotState.TheVariants.{Taken}
 use Rattle.mm_model.specs.declared.event.Event.{Event}
 use Rattle.mm_model.specs.Slot.{Slot}
-use Rattle.mm_model.specs.State.{Row, Core, State, row_in, queue_of, slot_at, queue_at}
+use Rattle.mm_model.specs.State.{ThreadRow, Core, State, row_in, queue_of, slot_at, queue_at}
 use Rattle.mm_model.specs.Groups.{has_group}
 use Rattle.mm_model.specs.Spelling.{numbers_of}
 use Rattle.mm_model.specs.Flags.{one_if}
@@ -207,7 +207,7 @@ pages_rise pages sorted k lt =
     let up = rises pages k (k + 1) (0, []) sorted (omega arith) (omega arith) in
     omega (arith, before, this, up)
 
-queue_words : (rows : List Row) → AllByRecursion RowHoldsWords rows → (n : ℕ) → AllByRecursion EventHoldsWords (queue_of (row_in rows n))
+queue_words : (rows : List ThreadRow) → AllByRecursion RowHoldsWords rows → (n : ℕ) → AllByRecursion EventHoldsWords (queue_of (row_in rows n))
 queue_words [] h n = tt
 queue_words (row ∷ rows) h n = by (eqb row.slot.number n) (queue_words rows h.1 n)
   where
@@ -219,7 +219,7 @@ queues_words : (core : Core) → AllByRecursion RowHoldsWords core.rows → (n :
 unfolding queue_at
 queues_words core h n = queue_words core.rows h n
 
-slots_words : (rows : List Row) → AllByRecursion RowHoldsWords rows → AllByRecursion SlotHoldsWords (map (λ (row : Row). row.slot) rows)
+slots_words : (rows : List ThreadRow) → AllByRecursion RowHoldsWords rows → AllByRecursion SlotHoldsWords (map (λ (row : ThreadRow). row.slot) rows)
 slots_words [] h = tt
 slots_words (row ∷ rows) h = (h.0.slot, slots_words rows h.1)
 

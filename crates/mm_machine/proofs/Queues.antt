@@ -6,7 +6,7 @@ use Rattle.std.proofs.lemmas.Bool.{cases_eq}
 use Rattle.std.proofs.lemmas.List.Recursion.{is_count_by}
 use Rattle.mm_model.specs.declared.event.Event.{Event}
 use Rattle.mm_model.specs.Slot.{Slot}
-use Rattle.mm_model.specs.State.{Row, Core, row_in, slot_of, slot_at}
+use Rattle.mm_model.specs.State.{ThreadRow, Core, row_in, slot_of, slot_at}
 use Rattle.mm_model.specs.Flags.{one_if}
 use Rattle.mm_model.specs.Turn.{is_handler}
 use Rattle.mm_model.specs.Fits.{is_waiting, waits_for, events_of, slots_of}
@@ -18,12 +18,12 @@ use Rattle.mm_machine.proofs.Steps.{same_test, other_test, add_one}
 
 -- 1. The slot of a number.
 
-numbered_row : (rows : List Row) (n : ℕ) → numbered (map (λ (row : Row). row.slot) rows) n ≡ slot_of (row_in rows n)
+numbered_row : (rows : List ThreadRow) (n : ℕ) → numbered (map (λ (row : ThreadRow). row.slot) rows) n ≡ slot_of (row_in rows n)
 numbered_row [] n = refl
 numbered_row (row ∷ rows) n = by (eqb row.slot.number n) (numbered_row rows n)
   where
-    by : (b : Bool) → numbered (map (λ (row : Row). row.slot) rows) n ≡ slot_of (row_in rows n)
-        → cond b (Some row.slot) (numbered (map (λ (row : Row). row.slot) rows) n) ≡ slot_of (cond b (Some row) (row_in rows n))
+    by : (b : Bool) → numbered (map (λ (row : ThreadRow). row.slot) rows) n ≡ slot_of (row_in rows n)
+        → cond b (Some row.slot) (numbered (map (λ (row : ThreadRow). row.slot) rows) n) ≡ slot_of (cond b (Some row) (row_in rows n))
     by true rest = refl
     by false rest = rest
 

@@ -5,7 +5,7 @@ use Rattle.std.specs.List.Sorted.{IsStrictlyIncreasing}
 use Rattle.mm_word.specs.declared.word.Cell.{Cell}
 use Rattle.mm_model.specs.declared.event.Event.{Event}
 use Rattle.mm_model.specs.Slot.{Slot}
-use Rattle.mm_model.specs.State.{Row, Core, State, row_in, queue_of, queue_at, output_of}
+use Rattle.mm_model.specs.State.{ThreadRow, Core, State, row_in, queue_of, queue_at, output_of}
 use Rattle.mm_model.specs.Groups.{has_group}
 use Rattle.mm_model.specs.Spelling.{numbers_of}
 use Rattle.mm_model.specs.Fits.{slots_of, IsOfVersion}
@@ -20,31 +20,31 @@ use Rattle.mm_machine.proofs.Steps.{same_test, other_test}
 
 -- 1. Rows.
 
-above_rows : (n : ℕ) (rows : List Row) → AllByRecursion (λ y. n < y) (numbers_of (map (λ (row : Row). row.slot) rows)) → AllByRecursion (λ (row : Row). n < row.slot.number) rows
+above_rows : (n : ℕ) (rows : List ThreadRow) → AllByRecursion (λ y. n < y) (numbers_of (map (λ (row : ThreadRow). row.slot) rows)) → AllByRecursion (λ (row : ThreadRow). n < row.slot.number) rows
 above_rows n [] h = tt
 above_rows n (row ∷ rows) h = (h.0, above_rows n rows h.1)
 
-own_queues : (rows : List Row) → IsStrictlyIncreasing (numbers_of (map (λ (row : Row). row.slot) rows)) → AllByRecursion (λ (row : Row). queue_of (row_in rows row.slot.number) ≡ row.queue) rows
+own_queues : (rows : List ThreadRow) → IsStrictlyIncreasing (numbers_of (map (λ (row : ThreadRow). row.slot) rows)) → AllByRecursion (λ (row : ThreadRow). queue_of (row_in rows row.slot.number) ≡ row.queue) rows
 own_queues [] rising = tt
 own_queues (row ∷ rows) rising =
-    let numbers : List ℕ = numbers_of (map (λ (x : Row). x.slot) rows) in (
+    let numbers : List ℕ = numbers_of (map (λ (x : ThreadRow). x.slot) rows) in (
       rw (same_test row.slot.number row.slot.number refl) refl,
-      each_both (λ (x : Row). row.slot.number < x.slot.number) (λ (x : Row). queue_of (row_in rows x.slot.number) ≡ x.queue) (λ (x : Row). queue_of (row_in (row ∷ rows) x.slot.number) ≡ x.queue)
+      each_both (λ (x : ThreadRow). row.slot.number < x.slot.number) (λ (x : ThreadRow). queue_of (row_in rows x.slot.number) ≡ x.queue) (λ (x : ThreadRow). queue_of (row_in (row ∷ rows) x.slot.number) ≡ x.queue)
           (λ x up is. rw (other_test row.slot.number x.slot.number (λ e. omega arith)) is) rows
           (above_rows row.slot.number rows (above_first row.slot.number numbers rising))
           (own_queues rows (rest_rises row.slot.number numbers rising)),
     )
 
-own_rows : (core : Core) → IsStrictlyIncreasing (numbers_of (slots_of core)) → AllByRecursion (λ (row : Row). queue_at core row.slot.number ≡ row.queue) core.rows
+own_rows : (core : Core) → IsStrictlyIncreasing (numbers_of (slots_of core)) → AllByRecursion (λ (row : ThreadRow). queue_at core row.slot.number ≡ row.queue) core.rows
 unfolding queue_at
 own_rows core rising = own_queues core.rows rising
 
-rows_back : (events : List (ℕ × Event)) (rows : List Row) → AllByRecursion (λ (row : Row). events_for row.slot.number
-    events ≡ row.queue) rows → map (row_with events) (map (λ (row : Row). row.slot) rows) ≡ rows
+rows_back : (events : List (ℕ × Event)) (rows : List ThreadRow) → AllByRecursion (λ (row : ThreadRow). events_for row.slot.number
+    events ≡ row.queue) rows → map (row_with events) (map (λ (row : ThreadRow). row.slot) rows) ≡ rows
 rows_back events [] h = refl
 rows_back events (row ∷ rows) h =
-    ap (λ (es : List Event). let first : Row = record { slot = row.slot; queue = es } in first ∷ map (row_with events) (map (λ (x : Row). x.slot) rows)) h.0
-    ∙ ap (λ (rest : List Row). row ∷ rest) (rows_back events rows h.1)
+    ap (λ (es : List Event). let first : ThreadRow = record { slot = row.slot; queue = es } in first ∷ map (row_with events) (map (λ (x : ThreadRow). x.slot) rows)) h.0
+    ∙ ap (λ (rest : List ThreadRow). row ∷ rest) (rows_back events rows h.1)
 
 -- 2. Outputs.
 
@@ -96,13 +96,13 @@ module _ (t : State) (p : Parts) (host : IsHost t.core) (is : IsSnapshotOf t p) 
       ap (λ (events : List (ℕ × Event)). map (row_with events) p.slots) is.events
       ∙ ap (map (row_with (queued t.core))) is.slots
       ∙ rows_back (queued t.core) t.core.rows
-      (each_map (λ (row : Row). queue_at t.core row.slot.number ≡ row.queue) (λ (row : Row). events_for row.slot.number
+      (each_map (λ (row : ThreadRow). queue_at t.core row.slot.number ≡ row.queue) (λ (row : ThreadRow). events_for row.slot.number
       (queued t.core) ≡ row.queue) (λ row own. queued_for t.core host.rising row.slot.number ∙ own) t.core.rows
       (own_rows t.core host.rising))
 
 -- 3. The state.
 
-abbrev made : List Row → List (List ℕ) → ℕ → Bool → List (ℕ × List Cell) → ℕ → ℕ → State
+abbrev made : List ThreadRow → List (List ℕ) → ℕ → Bool → List (ℕ × List Cell) → ℕ → ℕ → State
 made rows outputs version split pages frames cycles = record {
   core = record { rows = rows; outputs = outputs; version = version; split = split };
   memory = record { pages = pages; frames = frames };
@@ -114,7 +114,7 @@ put_back s t p u made_so alike is =
     let host = hosts t.core alike.core in
     let all : List (List ℕ) = outputs_with p.outputs (replicate 64 []) in
     made_so
-    ∙ ap (λ (x : List Row). made x all s.core.version s.core.split p.pages s.memory.frames p.cycles) (all_rows t p host is)
+    ∙ ap (λ (x : List ThreadRow). made x all s.core.version s.core.split p.pages s.memory.frames p.cycles) (all_rows t p host is)
     ∙ ap (λ (x : List (List ℕ)). made t.core.rows x s.core.version s.core.split p.pages s.memory.frames p.cycles) (outputs_back t p host is)
     ∙ ap (λ (x : ℕ). made t.core.rows t.core.outputs x s.core.split p.pages s.memory.frames p.cycles) (sym alike.version)
     ∙ ap (λ (x : Bool). made t.core.rows t.core.outputs t.core.version x p.pages s.memory.frames p.cycles) (sym alike.split)

@@ -3,7 +3,7 @@ use Rattle.std.proofs.Common.{◌≡◌, ℕ, zero, suc, ◌≤◌, ◌<◌, ◌
 use Rattle.std.specs.List.{AllByRecursion}
 use Rattle.mm_model.specs.Memory.{Memory}
 use Rattle.mm_model.specs.Slot.{Slot}
-use Rattle.mm_model.specs.State.{Row, State, Core}
+use Rattle.mm_model.specs.State.{ThreadRow, State, Core}
 use Rattle.mm_model.specs.Image.{Image, slot_limit, start}
 use Rattle.mm_model.specs.Spelling.{IsFresh, IsImage}
 use Rattle.mm_model.specs.Fits.{slots_of, IsOfVersion}
@@ -44,7 +44,7 @@ fresh_slots i h = each (widened (slot_limit i.version) i.slots (at_most_64 i.ver
 -- a core of an image's slots has them
 pub slots_made : (i : Image) (core : Core) → core.rows ≡ map row_alone i.slots → slots_of core ≡ i.slots
 unfolding start
-slots_made i core is = ap (λ (rows : List Row). map (λ (row : Row). row.slot) rows) is ∙ start_slots i
+slots_made i core is = ap (λ (rows : List ThreadRow). map (λ (row : ThreadRow). row.slot) rows) is ∙ start_slots i
 
 pub rows_made : (i : Image) (core : Core) (slots : List Slot) → core.rows ≡ map row_alone slots → slots ≡ i.slots → core.rows ≡ map row_alone i.slots
 rows_made i core slots rows is = rows ∙ ap (λ (xs : List Slot). map row_alone xs) is
@@ -70,7 +70,7 @@ pub no_output : (outputs : List (List ℕ)) → outputs ≡ replicate 64 [] → 
 no_output outputs is = subst (λ (xs : List (List ℕ)). AllByRecursion (λ (bytes : List ℕ). bytes ≡ []) xs) (sym is) (silent 64)
 
 -- a core of its parts
-abbrev core_of : List Row → List (List ℕ) → ℕ → Bool → Core
+abbrev core_of : List ThreadRow → List (List ℕ) → ℕ → Bool → Core
 core_of rows outputs version split = record { rows = rows; outputs = outputs; version = version; split = split }
 
 abbrev begun : Core → Memory → State
@@ -85,7 +85,7 @@ pub start_made : (i : Image) (made versioned core : Core) (version : ℕ) (split
 unfolding start
 start_made i made versioned core version split memory rows outputs v s is_version is_split is_memory =
     ap (λ (c : Core). begun c memory) (s ∙ ap (λ (c : Core). record c { split = split }) v)
-    ∙ ap (λ (x : List Row). begun (core_of x made.outputs version split) memory) rows
+    ∙ ap (λ (x : List ThreadRow). begun (core_of x made.outputs version split) memory) rows
     ∙ ap (λ (x : List (List ℕ)). begun (core_of (map row_alone i.slots) x version split) memory) outputs
     ∙ ap (λ (x : ℕ). begun (core_of (map row_alone i.slots) (replicate 64 []) x split) memory) is_version
     ∙ ap (λ (x : Bool). begun (core_of (map row_alone i.slots) (replicate 64 []) i.version x) memory) is_split

@@ -8,7 +8,7 @@ use Rattle.std.specs.List.Sorted.{IsStrictlyIncreasing}
 use Rattle.std.proofs.lemmas.Bool.{cases_eq, ne_eqb}
 use Rattle.mm_model.specs.declared.event.Event.{Event}
 use Rattle.mm_model.specs.Slot.{Slot}
-use Rattle.mm_model.specs.State.{Row, Core, row_in, slot_of, queue_of, slot_at, queue_at, at_number, put_slot, put_queue}
+use Rattle.mm_model.specs.State.{ThreadRow, Core, row_in, slot_of, queue_of, slot_at, queue_at, at_number, put_slot, put_queue}
 use Rattle.mm_model.specs.Image.{slot_limit}
 use Rattle.mm_model.specs.Groups.{has_group}
 use Rattle.mm_model.specs.Spelling.{numbers_of, IsOther}
@@ -68,21 +68,21 @@ above_first x (y ∷ ys) h =
 
 -- 3. Rows by number.
 
-row_here : (row : Row) (rows : List Row) (n : ℕ) → row.slot.number ≡ n → row_in (row ∷ rows) n ≡ Some row
+row_here : (row : ThreadRow) (rows : List ThreadRow) (n : ℕ) → row.slot.number ≡ n → row_in (row ∷ rows) n ≡ Some row
 row_here row rows n e = ap (λ b. if b then Some row else row_in rows n) (eq-eqb row.slot.number n e)
 
-row_later : (row : Row) (rows : List Row) (n : ℕ) → row.slot.number ≢ n → row_in (row ∷ rows) n ≡ row_in rows n
+row_later : (row : ThreadRow) (rows : List ThreadRow) (n : ℕ) → row.slot.number ≢ n → row_in (row ∷ rows) n ≡ row_in rows n
 row_later row rows n ne = ap (λ b. if b then Some row else row_in rows n) (ne_eqb row.slot.number n ne)
 
-module _ (n : ℕ) (f : Row → Row) where
-  at_here : (row : Row) → row.slot.number ≡ n → at_number n f row ≡ f row
+module _ (n : ℕ) (f : ThreadRow → ThreadRow) where
+  at_here : (row : ThreadRow) → row.slot.number ≡ n → at_number n f row ≡ f row
   at_here row e = ap (λ b. if b then f row else row) (eq-eqb row.slot.number n e)
 
-  at_other : (row : Row) → row.slot.number ≢ n → at_number n f row ≡ row
+  at_other : (row : ThreadRow) → row.slot.number ≢ n → at_number n f row ≡ row
   at_other row ne = ap (λ b. if b then f row else row) (ne_eqb row.slot.number n ne)
 
-  module _ (keeps : (row : Row) → row.slot.number ≡ n → (f row).slot.number ≡ n) where
-    row_changed : (rows : List Row) → row_in (map (at_number n f) rows) n ≡ option_map f (row_in rows n)
+  module _ (keeps : (row : ThreadRow) → row.slot.number ≡ n → (f row).slot.number ≡ n) where
+    row_changed : (rows : List ThreadRow) → row_in (map (at_number n f) rows) n ≡ option_map f (row_in rows n)
     row_changed [] = refl
     row_changed (row ∷ rows) = elim (cases_eq row.slot.number n) [
       | inl e ↦
@@ -96,7 +96,7 @@ module _ (n : ℕ) (f : Row → Row) where
           ∙ sym (ap (option_map f) (row_later row rows n ne))
     ]
 
-    row_kept : (rows : List Row) (m : ℕ) → m ≢ n → row_in (map (at_number n f) rows) m ≡ row_in rows m
+    row_kept : (rows : List ThreadRow) (m : ℕ) → m ≢ n → row_in (map (at_number n f) rows) m ≡ row_in rows m
     row_kept [] m other = refl
     row_kept (row ∷ rows) m other = elim (cases_eq row.slot.number n) [
       | inl e ↦
@@ -113,7 +113,7 @@ module _ (n : ℕ) (f : Row → Row) where
 
 -- 4. Slots and queues after a slot was put.
 
-number_in : (rows : List Row) (n : ℕ) (s : Slot) → slot_of (row_in rows n) ≡ Some s → s.number ≡ n
+number_in : (rows : List ThreadRow) (n : ℕ) (s : Slot) → slot_of (row_in rows n) ≡ Some s → s.number ≡ n
 number_in [] n s is = cc
 number_in (row ∷ rows) n s is = elim (cases_eq row.slot.number n) [
   | inl e ↦
@@ -128,33 +128,33 @@ pub slot_at-number : (core : Core) (n : ℕ) (s : Slot) → slot_at core n ≡ S
 unfolding slot_at
 slot_at-number core n s is = number_in core.rows n s is
 
-slot_changed : (s t : Slot) (o : Option Row) → slot_of o ≡ Some t → slot_of (option_map (λ (row : Row). record row { slot = s }) o) ≡ Some s
+slot_changed : (s t : Slot) (o : Option ThreadRow) → slot_of o ≡ Some t → slot_of (option_map (λ (row : ThreadRow). record row { slot = s }) o) ≡ Some s
 slot_changed s t None is = cc
 slot_changed s t (Some row) is = refl
 
-queue_unchanged : (s : Slot) (o : Option Row) → queue_of (option_map (λ (row : Row). record row { slot = s }) o) ≡ queue_of o
+queue_unchanged : (s : Slot) (o : Option ThreadRow) → queue_of (option_map (λ (row : ThreadRow). record row { slot = s }) o) ≡ queue_of o
 queue_unchanged s None = refl
 queue_unchanged s (Some row) = refl
 
 pub slot_at-put_same : (core : Core) (s t : Slot) → slot_at core s.number ≡ Some t → slot_at (put_slot core s) s.number ≡ Some s
 unfolding slot_at put_slot
 slot_at-put_same core s t is =
-    ap slot_of (row_changed s.number (λ (row : Row). record row { slot = s }) (λ row e. refl) core.rows)
+    ap slot_of (row_changed s.number (λ (row : ThreadRow). record row { slot = s }) (λ row e. refl) core.rows)
     ∙ slot_changed s t (row_in core.rows s.number) is
 
 pub slot_at-put_other : (core : Core) (s : Slot) (n : ℕ) → n ≢ s.number → slot_at (put_slot core s) n ≡ slot_at core n
 unfolding slot_at put_slot
-slot_at-put_other core s n ne = ap slot_of (row_kept s.number (λ (row : Row). record row { slot = s }) (λ row e. refl) core.rows n ne)
+slot_at-put_other core s n ne = ap slot_of (row_kept s.number (λ (row : ThreadRow). record row { slot = s }) (λ row e. refl) core.rows n ne)
 
 pub queue_at-put_slot : (core : Core) (s : Slot) (n : ℕ) → queue_at (put_slot core s) n ≡ queue_at core n
 unfolding queue_at put_slot
 queue_at-put_slot core s n = elim (cases_eq n s.number) [
   | inl e ↦
-      ap (λ k. queue_of (row_in (map (at_number s.number (λ (row : Row). record row { slot = s })) core.rows) k)) e
-      ∙ ap queue_of (row_changed s.number (λ (row : Row). record row { slot = s }) (λ row e. refl) core.rows)
+      ap (λ k. queue_of (row_in (map (at_number s.number (λ (row : ThreadRow). record row { slot = s })) core.rows) k)) e
+      ∙ ap queue_of (row_changed s.number (λ (row : ThreadRow). record row { slot = s }) (λ row e. refl) core.rows)
       ∙ queue_unchanged s (row_in core.rows s.number)
       ∙ ap (λ k. queue_of (row_in core.rows k)) (sym e)
-  | inr ne ↦ ap queue_of (row_kept s.number (λ (row : Row). record row { slot = s }) (λ row e. refl) core.rows n ne)
+  | inr ne ↦ ap queue_of (row_kept s.number (λ (row : ThreadRow). record row { slot = s }) (λ row e. refl) core.rows n ne)
 ]
 
 -- what stands at a number after a slot was put: that slot, or what stood there
@@ -172,11 +172,11 @@ put_slot-cases core s old n t was is = elim (cases_eq n s.number) [
 
 -- 5. And after a queue was put.
 
-slot_unchanged : (q : List Event) (o : Option Row) → slot_of (option_map (λ (row : Row). record row { queue = q }) o) ≡ slot_of o
+slot_unchanged : (q : List Event) (o : Option ThreadRow) → slot_of (option_map (λ (row : ThreadRow). record row { queue = q }) o) ≡ slot_of o
 slot_unchanged q None = refl
 slot_unchanged q (Some row) = refl
 
-queue_changed : (q : List Event) (t : Slot) (o : Option Row) → slot_of o ≡ Some t → queue_of (option_map (λ (row : Row). record row { queue = q }) o) ≡ q
+queue_changed : (q : List Event) (t : Slot) (o : Option ThreadRow) → slot_of o ≡ Some t → queue_of (option_map (λ (row : ThreadRow). record row { queue = q }) o) ≡ q
 queue_changed q t None is = cc
 queue_changed q t (Some row) is = refl
 
@@ -184,31 +184,31 @@ pub slot_at-put_queue : (core : Core) (n : ℕ) (q : List Event) (m : ℕ) → s
 unfolding slot_at put_queue
 slot_at-put_queue core n q m = elim (cases_eq m n) [
   | inl e ↦
-      ap (λ k. slot_of (row_in (map (at_number n (λ (row : Row). record row { queue = q })) core.rows) k)) e
-      ∙ ap slot_of (row_changed n (λ (row : Row). record row { queue = q }) (λ row e. e) core.rows)
+      ap (λ k. slot_of (row_in (map (at_number n (λ (row : ThreadRow). record row { queue = q })) core.rows) k)) e
+      ∙ ap slot_of (row_changed n (λ (row : ThreadRow). record row { queue = q }) (λ row e. e) core.rows)
       ∙ slot_unchanged q (row_in core.rows n)
       ∙ ap (λ k. slot_of (row_in core.rows k)) (sym e)
-  | inr ne ↦ ap slot_of (row_kept n (λ (row : Row). record row { queue = q }) (λ row e. e) core.rows m ne)
+  | inr ne ↦ ap slot_of (row_kept n (λ (row : ThreadRow). record row { queue = q }) (λ row e. e) core.rows m ne)
 ]
 
 pub queue_at-put_same : (core : Core) (n : ℕ) (q : List Event) (t : Slot) → slot_at core n ≡ Some t → queue_at (put_queue core n q) n ≡ q
 unfolding slot_at queue_at put_queue
 queue_at-put_same core n q t is =
-    ap queue_of (row_changed n (λ (row : Row). record row { queue = q }) (λ row e. e) core.rows)
+    ap queue_of (row_changed n (λ (row : ThreadRow). record row { queue = q }) (λ row e. e) core.rows)
     ∙ queue_changed q t (row_in core.rows n) is
 
 pub queue_at-put_other : (core : Core) (n : ℕ) (q : List Event) (m : ℕ) → m ≢ n → queue_at (put_queue core n q) m ≡ queue_at core m
 unfolding queue_at put_queue
-queue_at-put_other core n q m ne = ap queue_of (row_kept n (λ (row : Row). record row { queue = q }) (λ row e. e) core.rows m ne)
+queue_at-put_other core n q m ne = ap queue_of (row_kept n (λ (row : ThreadRow). record row { queue = q }) (λ row e. e) core.rows m ne)
 
-slots_kept : (n : ℕ) (q : List Event) (rows : List Row) → map (λ (row : Row). row.slot) (map (at_number n (λ (row : Row). record row { queue = q })) rows) ≡ map (λ (row : Row). row.slot) rows
+slots_kept : (n : ℕ) (q : List Event) (rows : List ThreadRow) → map (λ (row : ThreadRow). row.slot) (map (at_number n (λ (row : ThreadRow). record row { queue = q })) rows) ≡ map (λ (row : ThreadRow). row.slot) rows
 slots_kept n q [] = refl
 slots_kept n q (row ∷ rows) = elim (cases_eq row.slot.number n) [
   | inl e ↦
-      ap (λ (r : Row). r.slot ∷ map (λ (x : Row). x.slot) (map (at_number n (λ (x : Row). record x { queue = q })) rows)) (at_here n (λ (x : Row). record x { queue = q }) row e)
+      ap (λ (r : ThreadRow). r.slot ∷ map (λ (x : ThreadRow). x.slot) (map (at_number n (λ (x : ThreadRow). record x { queue = q })) rows)) (at_here n (λ (x : ThreadRow). record x { queue = q }) row e)
       ∙ ap (λ (xs : List Slot). row.slot ∷ xs) (slots_kept n q rows)
   | inr ne ↦
-      ap (λ (r : Row). r.slot ∷ map (λ (x : Row). x.slot) (map (at_number n (λ (x : Row). record x { queue = q })) rows)) (at_other n (λ (x : Row). record x { queue = q }) row ne)
+      ap (λ (r : ThreadRow). r.slot ∷ map (λ (x : ThreadRow). x.slot) (map (at_number n (λ (x : ThreadRow). record x { queue = q })) rows)) (at_other n (λ (x : ThreadRow). record x { queue = q }) row ne)
       ∙ ap (λ (xs : List Slot). row.slot ∷ xs) (slots_kept n q rows)
 ]
 
@@ -217,43 +217,43 @@ unfolding put_queue
 slots_of-put_queue core n q = slots_kept n q core.rows
 
 -- a slot and a queue may be put in either order
-both_put : (n : ℕ) (q : List Event) (s : Slot) (row : Row)
-    → at_number n (λ (r : Row). record r { queue = q }) (at_number s.number (λ (r : Row). record r { slot = s }) row)
-    ≡ at_number s.number (λ (r : Row). record r { slot = s }) (at_number n (λ (r : Row). record r { queue = q }) row)
+both_put : (n : ℕ) (q : List Event) (s : Slot) (row : ThreadRow)
+    → at_number n (λ (r : ThreadRow). record r { queue = q }) (at_number s.number (λ (r : ThreadRow). record r { slot = s }) row)
+    ≡ at_number s.number (λ (r : ThreadRow). record r { slot = s }) (at_number n (λ (r : ThreadRow). record r { queue = q }) row)
 both_put n q s row = elim (cases_eq row.slot.number s.number) [
   | inl e ↦
-      ap (λ (r : Row). at_number n (λ (x : Row). record x { queue = q }) r) (at_here s.number (λ (x : Row). record x { slot = s }) row e)
+      ap (λ (r : ThreadRow). at_number n (λ (x : ThreadRow). record x { queue = q }) r) (at_here s.number (λ (x : ThreadRow). record x { slot = s }) row e)
       ∙ elim (cases_eq row.slot.number n) [
         | inl d ↦
-            at_here n (λ (x : Row). record x { queue = q }) (record row { slot = s }) (sym e ∙ d)
-            ∙ sym (ap (λ (r : Row). at_number s.number (λ (x : Row). record x { slot = s }) r)
-            (at_here n (λ (x : Row). record x { queue = q }) row d) ∙ at_here s.number
-            (λ (x : Row). record x { slot = s }) (record row { queue = q }) e)
+            at_here n (λ (x : ThreadRow). record x { queue = q }) (record row { slot = s }) (sym e ∙ d)
+            ∙ sym (ap (λ (r : ThreadRow). at_number s.number (λ (x : ThreadRow). record x { slot = s }) r)
+            (at_here n (λ (x : ThreadRow). record x { queue = q }) row d) ∙ at_here s.number
+            (λ (x : ThreadRow). record x { slot = s }) (record row { queue = q }) e)
         | inr nd ↦
-            at_other n (λ (x : Row). record x { queue = q }) (record row { slot = s }) (λ d. nd (e ∙ d))
-            ∙ sym (ap (λ (r : Row). at_number s.number (λ (x : Row). record x { slot = s }) r)
-            (at_other n (λ (x : Row). record x { queue = q }) row nd) ∙ at_here s.number
-            (λ (x : Row). record x { slot = s }) row e)
+            at_other n (λ (x : ThreadRow). record x { queue = q }) (record row { slot = s }) (λ d. nd (e ∙ d))
+            ∙ sym (ap (λ (r : ThreadRow). at_number s.number (λ (x : ThreadRow). record x { slot = s }) r)
+            (at_other n (λ (x : ThreadRow). record x { queue = q }) row nd) ∙ at_here s.number
+            (λ (x : ThreadRow). record x { slot = s }) row e)
       ]
   | inr ne ↦
-      ap (λ (r : Row). at_number n (λ (x : Row). record x { queue = q }) r) (at_other s.number (λ (x : Row). record x { slot = s }) row ne)
+      ap (λ (r : ThreadRow). at_number n (λ (x : ThreadRow). record x { queue = q }) r) (at_other s.number (λ (x : ThreadRow). record x { slot = s }) row ne)
       ∙ elim (cases_eq row.slot.number n) [
         | inl d ↦
-            at_here n (λ (x : Row). record x { queue = q }) row d
-            ∙ sym (ap (λ (r : Row). at_number s.number (λ (x : Row). record x { slot = s }) r)
-            (at_here n (λ (x : Row). record x { queue = q }) row d) ∙ at_other s.number
-            (λ (x : Row). record x { slot = s }) (record row { queue = q }) ne)
+            at_here n (λ (x : ThreadRow). record x { queue = q }) row d
+            ∙ sym (ap (λ (r : ThreadRow). at_number s.number (λ (x : ThreadRow). record x { slot = s }) r)
+            (at_here n (λ (x : ThreadRow). record x { queue = q }) row d) ∙ at_other s.number
+            (λ (x : ThreadRow). record x { slot = s }) (record row { queue = q }) ne)
         | inr nd ↦
-            at_other n (λ (x : Row). record x { queue = q }) row nd
-            ∙ sym (ap (λ (r : Row). at_number s.number (λ (x : Row). record x { slot = s }) r)
-            (at_other n (λ (x : Row). record x { queue = q }) row nd) ∙ at_other s.number
-            (λ (x : Row). record x { slot = s }) row ne)
+            at_other n (λ (x : ThreadRow). record x { queue = q }) row nd
+            ∙ sym (ap (λ (r : ThreadRow). at_number s.number (λ (x : ThreadRow). record x { slot = s }) r)
+            (at_other n (λ (x : ThreadRow). record x { queue = q }) row nd) ∙ at_other s.number
+            (λ (x : ThreadRow). record x { slot = s }) row ne)
       ]
 ]
 
-both_put_all : (n : ℕ) (q : List Event) (s : Slot) (rows : List Row)
-    → map (at_number n (λ (r : Row). record r { queue = q })) (map (at_number s.number (λ (r : Row). record r { slot = s })) rows)
-    ≡ map (at_number s.number (λ (r : Row). record r { slot = s })) (map (at_number n (λ (r : Row). record r { queue = q })) rows)
+both_put_all : (n : ℕ) (q : List Event) (s : Slot) (rows : List ThreadRow)
+    → map (at_number n (λ (r : ThreadRow). record r { queue = q })) (map (at_number s.number (λ (r : ThreadRow). record r { slot = s })) rows)
+    ≡ map (at_number s.number (λ (r : ThreadRow). record r { slot = s })) (map (at_number n (λ (r : ThreadRow). record r { queue = q })) rows)
 both_put_all n q s [] = refl
 both_put_all n q s (row ∷ rows) =
     let first = both_put n q s row in
@@ -262,25 +262,25 @@ both_put_all n q s (row ∷ rows) =
 
 pub put_queue-put_slot : (core : Core) (s : Slot) (n : ℕ) (q : List Event) → put_queue (put_slot core s) n q ≡ put_slot (put_queue core n q) s
 unfolding put_queue put_slot
-put_queue-put_slot core s n q = ap (λ (rows : List Row). record core { rows = rows }) (both_put_all n q s core.rows)
+put_queue-put_slot core s n q = ap (λ (rows : List ThreadRow). record core { rows = rows }) (both_put_all n q s core.rows)
 
 -- 6. Slots in the list, and by their numbers.
 
 abbrev pub Rises : Core → Type 0
 Rises core = IsStrictlyIncreasing (numbers_of (slots_of core))
 
-in_later : (row : Row) (rows : List Row) (s : Slot) → row.slot.number < s.number → slot_of (row_in rows s.number) ≡ Some s → slot_of (row_in (row ∷ rows) s.number) ≡ Some s
+in_later : (row : ThreadRow) (rows : List ThreadRow) (s : Slot) → row.slot.number < s.number → slot_of (row_in rows s.number) ≡ Some s → slot_of (row_in (row ∷ rows) s.number) ≡ Some s
 in_later row rows s lt is = let ne : row.slot.number ≢ s.number = omega arith in ap slot_of (row_later row rows s.number ne) ∙ is
 
 below_all : (x : ℕ) (slots : List Slot) → AllByRecursion (λ y. x < y) (numbers_of slots) → AllByRecursion (λ (s : Slot). x < s.number) slots
 below_all x [] h = tt
 below_all x (s ∷ slots) h = (h.0, below_all x slots h.1)
 
-found_all : (rows : List Row) → IsStrictlyIncreasing (numbers_of (map (λ (row : Row). row.slot) rows))
-    → AllByRecursion (λ (s : Slot). slot_of (row_in rows s.number) ≡ Some s) (map (λ (row : Row). row.slot) rows)
+found_all : (rows : List ThreadRow) → IsStrictlyIncreasing (numbers_of (map (λ (row : ThreadRow). row.slot) rows))
+    → AllByRecursion (λ (s : Slot). slot_of (row_in rows s.number) ≡ Some s) (map (λ (row : ThreadRow). row.slot) rows)
 found_all [] h = tt
 found_all (row ∷ rows) h =
-    let slots : List Slot = map (λ (r : Row). r.slot) rows in
+    let slots : List Slot = map (λ (r : ThreadRow). r.slot) rows in
     let rest = found_all rows (rest_rises row.slot.number (numbers_of slots) h) in
     let above = below_all row.slot.number slots (above_first row.slot.number (numbers_of slots) h) in (
       ap slot_of (row_here row rows row.slot.number refl),
@@ -298,7 +298,7 @@ slots_found core h = found_all core.rows h
 pub each_slot : (P : Slot → Type 0) (core : Core) → Rises core → ((n : ℕ) (s : Slot) → slot_at core n ≡ Some s → P s) → AllByRecursion P (slots_of core)
 each_slot P core h f = each_map (λ (s : Slot). slot_at core s.number ≡ Some s) P (λ s is. f s.number s is) (slots_of core) (slots_found core h)
 
-each_in : (P : Slot → Type 0) (rows : List Row) (n : ℕ) (s : Slot) → AllByRecursion P (map (λ (row : Row). row.slot) rows) → slot_of (row_in rows n) ≡ Some s → P s
+each_in : (P : Slot → Type 0) (rows : List ThreadRow) (n : ℕ) (s : Slot) → AllByRecursion P (map (λ (row : ThreadRow). row.slot) rows) → slot_of (row_in rows n) ≡ Some s → P s
 each_in P [] n s h is = cc
 each_in P (row ∷ rows) n s h is = elim (cases_eq row.slot.number n) [
   | inl e ↦
@@ -313,7 +313,7 @@ pub slot_has : (P : Slot → Type 0) (core : Core) (n : ℕ) (s : Slot) → AllB
 unfolding slot_at
 slot_has P core n s h is = each_in P core.rows n s h is
 
-contained_in : (rows : List Row) (n : ℕ) (s : Slot) → slot_of (row_in rows n) ≡ Some s → Contains (map (λ (row : Row). row.slot) rows) s
+contained_in : (rows : List ThreadRow) (n : ℕ) (s : Slot) → slot_of (row_in rows n) ≡ Some s → Contains (map (λ (row : ThreadRow). row.slot) rows) s
 contained_in [] n s is = cc
 contained_in (row ∷ rows) n s is = elim (cases_eq row.slot.number n) [
   | inl e ↦
@@ -384,13 +384,13 @@ has_group_by core after g e = sym (of_identities (slots_of after)) ∙ ap (list_
 tails : (x y : ℕ × ℕ × Option ℕ) (xs ys : List (ℕ × ℕ × Option ℕ)) → x ∷ xs ≡ y ∷ ys → (x ≡ y) × (xs ≡ ys)
 tails x y xs ys e = (cc, cc)
 
-same_in : (rows later : List Row) (n : ℕ) → map identity_of (map (λ (row : Row). row.slot) later) ≡ map identity_of (map (λ (row : Row). row.slot) rows)
+same_in : (rows later : List ThreadRow) (n : ℕ) → map identity_of (map (λ (row : ThreadRow). row.slot) later) ≡ map identity_of (map (λ (row : ThreadRow). row.slot) rows)
     → option_map identity_of (slot_of (row_in later n)) ≡ option_map identity_of (slot_of (row_in rows n))
 same_in [] [] n e = refl
 same_in [] (l ∷ later) n e = cc
 same_in (r ∷ rows) [] n e = cc
 same_in (r ∷ rows) (l ∷ later) n e =
-    let both = tails (identity_of l.slot) (identity_of r.slot) (map identity_of (map (λ (row : Row). row.slot) later)) (map identity_of (map (λ (row : Row). row.slot) rows)) e in
+    let both = tails (identity_of l.slot) (identity_of r.slot) (map identity_of (map (λ (row : ThreadRow). row.slot) later)) (map identity_of (map (λ (row : ThreadRow). row.slot) rows)) e in
     let same : l.slot.number ≡ r.slot.number = ap (λ (i : ℕ × ℕ × Option ℕ). i.0) both.0 in
     elim (cases_eq r.slot.number n) [
       | inl found ↦
@@ -421,16 +421,16 @@ stays_by core after n s e is = found (slot_at after n) refl (identity_at core af
     found (Some t) at same = record { now = t; is = at; same = cc }
 
 -- a slot that takes the place of one with its number, group and handler changes none of these
-identities_in : (s : Slot) (rows : List Row) → AllByRecursion (λ (t : Slot). t.number ≡ s.number → identity_of t ≡ identity_of s) (map (λ (row : Row). row.slot) rows)
-    → map identity_of (map (λ (row : Row). row.slot) (map (at_number s.number (λ (row : Row). record row { slot = s })) rows)) ≡ map identity_of (map (λ (row : Row). row.slot) rows)
+identities_in : (s : Slot) (rows : List ThreadRow) → AllByRecursion (λ (t : Slot). t.number ≡ s.number → identity_of t ≡ identity_of s) (map (λ (row : ThreadRow). row.slot) rows)
+    → map identity_of (map (λ (row : ThreadRow). row.slot) (map (at_number s.number (λ (row : ThreadRow). record row { slot = s })) rows)) ≡ map identity_of (map (λ (row : ThreadRow). row.slot) rows)
 identities_in s [] h = refl
 identities_in s (row ∷ rows) h = elim (cases_eq row.slot.number s.number) [
   | inl e ↦
-      let first = ap (λ (r : Row). identity_of r.slot) (at_here s.number (λ (x : Row). record x { slot = s }) row e) ∙ sym (h.0 e) in
+      let first = ap (λ (r : ThreadRow). identity_of r.slot) (at_here s.number (λ (x : ThreadRow). record x { slot = s }) row e) ∙ sym (h.0 e) in
       let rest = identities_in s rows h.1 in
       cc
   | inr ne ↦
-      let first = ap (λ (r : Row). identity_of r.slot) (at_other s.number (λ (x : Row). record x { slot = s }) row ne) in
+      let first = ap (λ (r : ThreadRow). identity_of r.slot) (at_other s.number (λ (x : ThreadRow). record x { slot = s }) row ne) in
       let rest = identities_in s rows h.1 in
       cc
 ]

@@ -45,7 +45,7 @@ use Rattle.mm_model.specs.declared.slot.Pending.{Pending}
 use Rattle.mm_model.specs.declared.event.Event.{Event}
 use Rattle.mm_model.specs.Memory.{Memory, page_of, place_of, page_at, cell_in, cell_at, is_mapped, can_map, passes}
 use Rattle.mm_model.specs.Slot.{Slot, register, is_empty}
-use Rattle.mm_model.specs.State.{Row, Core, row_in, slot_of, queue_of, slot_at, queue_at, output_of}
+use Rattle.mm_model.specs.State.{ThreadRow, Core, row_in, slot_of, queue_of, slot_at, queue_at, output_of}
 use Rattle.mm_model.specs.Image.{output_limit}
 use Rattle.mm_model.specs.Spelling.{HoldsWords}
 use Rattle.mm_model.specs.Operands.{addr_operand, value_operand, word_a, word_b, first, field_a, field_b, imm_in, field_imm}
@@ -132,7 +132,7 @@ delivered_words s h = by s.pending h.pending
     by [] k = h
     by (p ∷ rest) k = record { registers = each_set IsWord s.regs p.reg p.word h.registers k.0; ip = h.ip; pending = k.1 }
 
-row_words : (rows : List Row) (n : ℕ) (s : Slot) → AllByRecursion RowHoldsWords rows → slot_of (row_in rows n) ≡ Some s → SlotHoldsWords s
+row_words : (rows : List ThreadRow) (n : ℕ) (s : Slot) → AllByRecursion RowHoldsWords rows → slot_of (row_in rows n) ≡ Some s → SlotHoldsWords s
 row_words [] n s h is = cc
 row_words (row ∷ rows) n s h is = by (row.slot.number == n) is h (λ k e. row_words rows n s k e)
   where
@@ -146,7 +146,7 @@ pub slot_words : (core : Core) (n : ℕ) (s : Slot) → AllByRecursion RowHoldsW
 unfolding slot_at
 slot_words core n s h is = row_words core.rows n s h is
 
-events_words : (rows : List Row) (n : ℕ) → AllByRecursion RowHoldsWords rows → AllByRecursion EventHoldsWords (queue_of (row_in rows n))
+events_words : (rows : List ThreadRow) (n : ℕ) → AllByRecursion RowHoldsWords rows → AllByRecursion EventHoldsWords (queue_of (row_in rows n))
 events_words [] n h = tt
 events_words (row ∷ rows) n h = by (row.slot.number == n) (events_words rows n h.1)
   where

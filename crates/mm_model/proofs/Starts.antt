@@ -9,7 +9,7 @@ use Rattle.mm_model.specs.declared.slot.SlotState.TheVariants.{Running, Waiting,
 use Rattle.mm_model.specs.declared.slot.Pending.{Pending}
 use Rattle.mm_model.specs.Flags.{one_if}
 use Rattle.mm_model.specs.Slot.{Slot, is_empty}
-use Rattle.mm_model.specs.State.{Row, row_in, slot_of, queue_of, slot_at, queue_at, output_of}
+use Rattle.mm_model.specs.State.{ThreadRow, row_in, slot_of, queue_of, slot_at, queue_at, output_of}
 use Rattle.mm_model.specs.Image.{Image, slot_in, slot_limit, output_limit, start}
 use Rattle.mm_model.specs.Spelling.{Begins, numbers_of, IsOther, IsFresh, IsImage}
 use Rattle.mm_model.specs.Turn.{is_taken}
@@ -21,10 +21,10 @@ use Rattle.mm_model.proofs.CoreRows.{each_map, slot_limit-few, slot_has}
 use Rattle.mm_model.proofs.CoreSteps.{waits_for-rests}
 
 -- a slot with no event
-abbrev alone : Slot → Row
+abbrev alone : Slot → ThreadRow
 alone s = record { slot = s; queue = [] }
 
-slots_alone : (slots : List Slot) → map (λ (row : Row). row.slot) (map alone slots) ≡ slots
+slots_alone : (slots : List Slot) → map (λ (row : ThreadRow). row.slot) (map alone slots) ≡ slots
 slots_alone [] = refl
 slots_alone (s ∷ slots) = ap (λ (xs : List Slot). s ∷ xs) (slots_alone slots)
 

@@ -22,7 +22,7 @@ use Rattle.mm_model.specs.declared.event.Event.{Event}
 use Rattle.mm_model.specs.Memory.{Memory, page_of, place_of, page_at, put_in, put_cell, map_page, unmap_page, can_map, zero_cell, zero_page, ArePages}
 use Rattle.mm_model.specs.Uses.{Use}
 use Rattle.mm_model.specs.Slot.{Slot}
-use Rattle.mm_model.specs.State.{Row, Core, State, slot_at, queue_at, at_number, put_slot, put_queue, put_output}
+use Rattle.mm_model.specs.State.{ThreadRow, Core, State, slot_at, queue_at, at_number, put_slot, put_queue, put_output}
 use Rattle.mm_model.specs.Image.{Image}
 use Rattle.mm_model.specs.Spelling.{HoldsWords, IsImage}
 use Rattle.mm_model.specs.Operands.{addr_operand, value_operand}
@@ -46,7 +46,7 @@ use Rattle.mm_model.proofs.TurnShapes.{decoded_instr, TurnShape, turn_shape}
 
 -- 1. Words of rows.
 
-each_changed : (P : Row → Type 0) (n : ℕ) (f : Row → Row) → ((row : Row) → P row → P (f row)) → (rows : List Row) → AllByRecursion P rows → AllByRecursion P (map (at_number n f) rows)
+each_changed : (P : ThreadRow → Type 0) (n : ℕ) (f : ThreadRow → ThreadRow) → ((row : ThreadRow) → P row → P (f row)) → (rows : List ThreadRow) → AllByRecursion P rows → AllByRecursion P (map (at_number n f) rows)
 each_changed P n f keeps [] h = tt
 each_changed P n f keeps (row ∷ rows) h = (by (nat_eq row.slot.number n), each_changed P n f keeps rows h.1)
   where
@@ -56,11 +56,11 @@ each_changed P n f keeps (row ∷ rows) h = (by (nat_eq row.slot.number n), each
 
 put_slot-words : (core : Core) (s : Slot) → AllByRecursion RowHoldsWords core.rows → SlotHoldsWords s → AllByRecursion RowHoldsWords (put_slot core s).rows
 unfolding put_slot
-put_slot-words core s h k = each_changed RowHoldsWords s.number (λ (row : Row). record row { slot = s }) (λ row r. record { slot = k; events = r.events }) core.rows h
+put_slot-words core s h k = each_changed RowHoldsWords s.number (λ (row : ThreadRow). record row { slot = s }) (λ row r. record { slot = k; events = r.events }) core.rows h
 
 put_queue-words : (core : Core) (n : ℕ) (q : List Event) → AllByRecursion RowHoldsWords core.rows → AllByRecursion EventHoldsWords q → AllByRecursion RowHoldsWords (put_queue core n q).rows
 unfolding put_queue
-put_queue-words core n q h k = each_changed RowHoldsWords n (λ (row : Row). record row { queue = q }) (λ row r. record { slot = r.slot; events = k }) core.rows h
+put_queue-words core n q h k = each_changed RowHoldsWords n (λ (row : ThreadRow). record row { queue = q }) (λ row r. record { slot = r.slot; events = k }) core.rows h
 
 put_all-words : (regs : List Word) (ws : List (ℕ × Word)) → AllByRecursion IsWord regs → AllByRecursion (λ (w : ℕ × Word). IsWord w.1) ws → AllByRecursion IsWord (put_all regs ws)
 put_all-words regs [] h k = h

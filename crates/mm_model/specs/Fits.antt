@@ -14,7 +14,7 @@ use Rattle.mm_model.specs.declared.event.Event.{Event}
 use Rattle.mm_model.specs.Flags.{one_if}
 use Rattle.mm_model.specs.Memory.{ArePages}
 use Rattle.mm_model.specs.Slot.{Slot, register, is_empty}
-use Rattle.mm_model.specs.State.{Row, Core, State, slot_at, queue_at, output_of}
+use Rattle.mm_model.specs.State.{ThreadRow, Core, State, slot_at, queue_at, output_of}
 use Rattle.mm_model.specs.Image.{Image, slot_limit, output_limit}
 use Rattle.mm_model.specs.Groups.{has_group}
 use Rattle.mm_model.specs.Spelling.{numbers_of, IsOther, HoldsWords}
@@ -50,7 +50,7 @@ pub record EventHoldsWords (e : Event) : Type 0 where
   pub address : IsWord e.addr_op
   pub value : IsWord e.value_op
 
-pub record RowHoldsWords (row : Row) : Type 0 where
+pub record RowHoldsWords (row : ThreadRow) : Type 0 where
   pub slot : SlotHoldsWords row.slot
   pub events : AllByRecursion EventHoldsWords row.queue
 

@@ -9,8 +9,10 @@ use Rattle.mm_model.specs.declared.counts.Counts.{Counts}
 use Rattle.mm_model.specs.Digits.{hex}
 use Rattle.mm_model.specs.Memory.{Memory, page_at, is_mapped, zero_page}
 use Rattle.mm_model.specs.Effect.{same_word}
-use Rattle.mm_model.specs.State.{Row, Core, State, output_of}
-use Rattle.mm_model.specs.Image.{Image}
+use Rattle.mm_model.specs.State.{ThreadRow, Core, State, output_of}
+use Rattle.mm_model.specs.Uses.{Use}
+use Rattle.mm_model.specs.Image.{Image, start}
+use Rattle.mm_model.specs.Run.{run, uses}
 use Rattle.mm_model.specs.Lines.{newline, slot_lines, output_lines, cell_line}
 
 -- 1. The count of cycles.
@@ -19,7 +21,7 @@ cycles_line cycles = codes "cycles " ++ decimal cycles ++ newline
 
 -- 2 and 3. Each group that has a slot, ascending, with its output and its slots.
 
-abbrev pub is_of : ℕ → Row → Bool
+abbrev pub is_of : ℕ → ThreadRow → Bool
 is_of g row = row.slot.group == g
 
 -- the line of a group, with the count of bytes that it has put out
@@ -95,3 +97,13 @@ unfoldable pub report : State → Image → Option Counts → List ℕ
 report s image counts =
     cycles_line s.cycles ++ sections s.core ++ page_lines s.memory image.memory ++ cell_lines s.memory image.memory
     ++ count_line counts
+
+-- 7. The report of a run, over a memory of which it is known what it tells of uses.
+
+-- the report of the state that items lead to from another state, with what the memory tells of their uses alone
+abbrev pub further_report : (List Use → Option Counts) → Image → State → List ℕ → List ℕ
+further_report tells i s items = report (run s items) i (tells (uses s items))
+
+-- the report of an image's run
+abbrev pub report_after : (List Use → Option Counts) → Image → List ℕ → List ℕ
+report_after tells i items = further_report tells i (start i) items

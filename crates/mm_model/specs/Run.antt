@@ -3,7 +3,7 @@ use Rattle.std.specs.Prelude.{ℕ, zero, suc, ◌+◌, Bool, true, nat_lt, if◌
 use Rattle.std.specs.Prelude.{None}
 use Rattle.mm_model.specs.declared.step.Step.{Step}
 use Rattle.mm_model.specs.Uses.{Use}
-use Rattle.mm_model.specs.State.{State, Row}
+use Rattle.mm_model.specs.State.{State, ThreadRow}
 use Rattle.mm_model.specs.Turn.{Turned, turn, is_running}
 
 -- the turn of the cycle that names an item
@@ -34,7 +34,7 @@ uses s [] = []
 uses s (n ∷ ns) = (turn_of s n).uses ++ uses (after s n) ns
 
 -- the least number of a running slot that passes a test
-abbrev pub first_running : (ℕ → Bool) → List Row → Option ℕ
+abbrev pub first_running : (ℕ → Bool) → List ThreadRow → Option ℕ
 first_running passes [] = None
 first_running passes (row ∷ rows) =
     if is_running row.slot.state
@@ -49,7 +49,7 @@ abbrev pub any_number : ℕ → Bool
 any_number n = true
 
 -- the next running slot after the last one, cyclically by number; at the beginning the least
-abbrev pub next_running : List Row → Option ℕ → Option ℕ
+abbrev pub next_running : List ThreadRow → Option ℕ → Option ℕ
 next_running rows None = first_running any_number rows
 next_running rows (Some last) = or_else (first_running (nat_lt last) rows) (first_running any_number rows)
 

@@ -6,13 +6,13 @@ use Rattle.mm_model.specs.Memory.{Memory}
 use Rattle.mm_model.specs.Slot.{Slot}
 
 -- a slot, and the events that it has still to handle, oldest first
-pub record Row : Type 0 where
+pub record ThreadRow : Type 0 where
   pub slot : Slot
   pub queue : List Event
 
 -- the slots with their queues, ascending by number, what each group has put out, and what the image says of the machine
 pub record Core : Type 0 where
-  pub rows : List Row
+  pub rows : List ThreadRow
   pub outputs : List (List ℕ)
   pub version : ℕ
   pub split : Bool
@@ -23,15 +23,15 @@ pub record State : Type 0 where
   pub cycles : ℕ
 
 -- the row of a slot's number
-abbrev pub row_in : List Row → ℕ → Option Row
+abbrev pub row_in : List ThreadRow → ℕ → Option ThreadRow
 row_in [] n = None
 row_in (row ∷ rows) n = if row.slot.number == n then Some row else row_in rows n
 
-abbrev pub slot_of : Option Row → Option Slot
+abbrev pub slot_of : Option ThreadRow → Option Slot
 slot_of None = None
 slot_of (Some row) = Some row.slot
 
-abbrev pub queue_of : Option Row → List Event
+abbrev pub queue_of : Option ThreadRow → List Event
 queue_of None = []
 queue_of (Some row) = row.queue
 
@@ -43,7 +43,7 @@ slot_at core n = slot_of (row_in core.rows n)
 unfoldable pub queue_at : Core → ℕ → List Event
 queue_at core n = queue_of (row_in core.rows n)
 
-abbrev pub at_number : ℕ → (Row → Row) → Row → Row
+abbrev pub at_number : ℕ → (ThreadRow → ThreadRow) → ThreadRow → ThreadRow
 at_number n change row = if row.slot.number == n then change row else row
 
 -- the core with this slot in place of the slot of its number

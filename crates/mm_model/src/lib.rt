@@ -6,12 +6,16 @@
 
 mod counts;
 mod event;
+mod limits;
 mod page;
 mod slot;
 mod step;
+mod word_use;
 
 pub use counts::Counts;
 pub use event::Event;
+pub use limits::CYCLE_LIMIT;
 pub use page::{CELLS, Page};
 pub use slot::{Pending, Slot, SlotState};
 pub use step::{Step, Tick};
+pub use word_use::WordUse;

@@ -6,12 +6,10 @@ ghost use Rattle.mm_net.specs.Events.{Means, FaultsAt};
 use crate::event::event;
 use crate::read::{TextItem, read_items};
 use crate::{NetError, NetItem};
+use mm_sched::ITEM_LIMIT;
 use mm_word::NoMemory;
 use std::alloc::Global;
 use std::marker::Model;
-
-/// The most events of a text.
-pub const EVENT_LIMIT: usize = 1_000_000;
 
 /// At most 1,000,000 items of a net. Numbers of nodes are 0 to 7, of links 0 to 63, and of integers that are carried
 /// below 1,000,000. Contracts see the list.
@@ -67,7 +65,7 @@ impl TextItem for NetItem {
         let Some((item, count)) = event(word) else {
             return Ok(false); // no event
         };
-        if count as usize > EVENT_LIMIT - items.len() {
+        if count as usize > ITEM_LIMIT - items.len() {
             return Ok(false); // too many
         }
         append(items, item, count)?;

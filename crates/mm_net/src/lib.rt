@@ -17,7 +17,7 @@ mod tick;
 mod wire;
 mod words;
 
-pub use events::{EVENT_LIMIT, Events, read_events};
+pub use events::{Events, read_events};
 pub use fault::NetError;
 pub use item::NetItem;
 pub use link::Link;

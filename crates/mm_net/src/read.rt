@@ -10,7 +10,7 @@ use mm_word::NoMemory;
 use std::alloc::Global;
 
 /// An item of a text of words.
-pub trait TextItem: Copy {
+pub(crate) trait TextItem: Copy {
     ghost use Rattle.std.specs.Prelude.{ℕ, List};
     ghost use Rattle.mm_net.specs.Words.{AddsWord};
 
@@ -27,7 +27,7 @@ pub trait TextItem: Copy {
 }
 
 /// The items that a text means: those of its words, between blanks and comments from `#` to the end of the line.
-pub fn read_items<T: TextItem>(alloc: Global, bytes: &[u8]) -> Result<Vec<T>, NetError>
+pub(crate) fn read_items<T: TextItem>(alloc: Global, bytes: &[u8]) -> Result<Vec<T>, NetError>
     requires { T.keeps [] }
     ensures means { IfOk result (λ items. TextMeans T.says T.keeps bytes.now items.items) }
     ensures fault { (offset : ℕ) → result ≡ Err (NetError.Fault offset)

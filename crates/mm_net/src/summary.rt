@@ -1,6 +1,6 @@
 //! The text of a net.
 
-ghost use Rattle.std.specs.Prelude.{◌≡◌, ◌<◌, ℕ, List, length, Some};
+ghost use Rattle.std.specs.Prelude.{◌≡◌, ◌<◌, ◌++◌, ℕ, List, length, Some};
 ghost use Rattle.mm_io.specs.Sinks.{Writes};
 ghost use Rattle.mm_text.specs.Gathers.{Gathers};
 ghost use Rattle.mm_model.specs.Uses.{Use};
@@ -26,7 +26,13 @@ pub fn report<M: Inspect, O: Sink>(
     out: &mut O,
 ) -> Result<(), WriteFault>
     requires { length images.now ≡ length (net_of net.now).nodes }
-    ensures { (items : List NetItem) → StandsFor images.now items net.now
+    // The text of the net as it is, given what the memory of each node was asked.
+    ensures state { (uses : ℕ → List Use) → NodesStandTo net.now uses
+        → Writes O.taken O.faults out.old out.new
+        (nodes_text M.tells images.now (net_of net.now).nodes uses ++ link_lines (net_of net.now).links) result }
+
+    // The text of a net after items of images.
+    ensures run { (items : List NetItem) → StandsFor images.now items net.now
         → Writes O.taken O.faults out.old out.new (net_text M.tells (links_of net.now) images.now items) result }
 {
     write_nodes(net, images, out)?;

@@ -30,33 +30,15 @@ pub(crate) fn read_header(reader: &mut Reader) -> Result<Header, ReadError<Objec
     ensures same { reader.new.bytes.now ≡ reader.old.bytes.now }
     ensures few { IfOk result (λ h. h.externals ≤ 1024) }
 {
-    let at = reader.at;
-    let magic = reader.raw(4)?;
-    refuse_if(magic != b"MMO1".as_slice(), ObjectFault::Magic, at)?;
+    reader.literal(b"MMO1", ObjectFault::Magic)?;
     let at = reader.at;
     let version = reader.u16()?;
     refuse_if(version != VERSION, ObjectFault::Version, at)?;
-    let at = reader.at;
-    let segments = reader.u16()?;
-    refuse_if(
-        usize::from(segments) > SEGMENT_LIMIT,
-        ObjectFault::Count,
-        at,
-    )?;
-    let at = reader.at;
-    let externals = reader.u16()?;
-    refuse_if(
-        usize::from(externals) > EXTERNAL_LIMIT,
-        ObjectFault::Count,
-        at,
-    )?;
+    let segments = reader.u16_up_to(SEGMENT_LIMIT as u16, ObjectFault::Count)?;
+    let externals = reader.u16_up_to(EXTERNAL_LIMIT as u16, ObjectFault::Count)?;
     let relocs = reader.u16()?;
-    let at = reader.at;
-    let threads = reader.u16()?;
-    refuse_if(usize::from(threads) > THREAD_LIMIT, ObjectFault::Count, at)?;
-    let at = reader.at;
-    let spare = reader.u16()?;
-    refuse_if(spare > SPARE_LIMIT, ObjectFault::Count, at)?;
+    let threads = reader.u16_up_to(THREAD_LIMIT as u16, ObjectFault::Count)?;
+    let spare = reader.u16_up_to(SPARE_LIMIT, ObjectFault::Count)?;
     Ok(Header {
         segments,
         externals,

@@ -3,7 +3,7 @@ use Rattle.std.proofs.Common.{◌≡◌, ℕ, zero, suc, ◌+◌, ◌<◌, ◌==
 use Rattle.std.proofs.lemmas.List.Folds.{list_any_more}
 use Rattle.std.proofs.lemmas.Option.{get_or_from_slice_get}
 use Rattle.std.specs.List.{flat_map, filter, list_any}
-use Rattle.mm_model.specs.State.{Row, Core}
+use Rattle.mm_model.specs.State.{ThreadRow, Core}
 use Rattle.mm_model.specs.Fits.{slots_of}
 use Rattle.mm_model.specs.Lines.{slot_lines}
 use Rattle.mm_model.specs.Report.{is_of}
@@ -20,14 +20,14 @@ passed_texts {X = X} p line (x ∷ xs) = by (p x) (passed_texts p line xs)
     by false later = later
 
 -- the texts of rows are those of their slots
-row_texts : (g : ℕ) (rows : List Row) → flat_map (member_text g) (map (λ row. row.slot) rows) ≡ flat_map (λ row. if is_of g row then slot_lines row.slot else []) rows
+row_texts : (g : ℕ) (rows : List ThreadRow) → flat_map (member_text g) (map (λ row. row.slot) rows) ≡ flat_map (λ row. if is_of g row then slot_lines row.slot else []) rows
 row_texts g [] = refl
 row_texts g (row ∷ rows) = ap (λ (text : List ℕ). member_text g row.slot ++ text) (row_texts g rows)
 
 pub member_texts : (g : ℕ) (core : Core) → flat_map (member_text g) (slots_of core) ≡ flat_map (λ row. slot_lines row.slot) (filter (is_of g) core.rows)
 member_texts g core = row_texts g core.rows ∙ passed_texts (is_of g) (λ row. slot_lines row.slot) core.rows
 
-any_row : (g : ℕ) (rows : List Row) → list_any (λ s. s.group == g) (map (λ row. row.slot) rows) ≡ list_any (is_of g) rows
+any_row : (g : ℕ) (rows : List ThreadRow) → list_any (λ s. s.group == g) (map (λ row. row.slot) rows) ≡ list_any (is_of g) rows
 any_row g [] = refl
 any_row g (row ∷ rows) = ap (λ (b : Bool). is_of g row || b) (any_row g rows)
 

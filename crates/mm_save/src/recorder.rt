@@ -12,6 +12,7 @@ use circular_buffer::HeapCircularBuffer;
 use mm_debug::{Go, LineHandler, Point, Session, handle_lines, number, take_token};
 use mm_io::{Sink, WriteFault};
 use mm_mem::{Memory, Reset};
+use mm_model::CYCLE_LIMIT;
 use mm_text::{Gather, Piece};
 use mm_word::NoMemory;
 use std::alloc::Global;
@@ -21,9 +22,6 @@ const RING_SIZE: usize = 8;
 
 /// The least difference between the total and that of the newest state in the ring with which a line is due.
 const FAR: u64 = 1_000;
-
-/// The most cycles that one line goes back.
-const MAX_BACK: u64 = 1_000_000;
 
 /// A session that can go back. It keeps the state at its start, and up to 8 later states in a ring.
 ///
@@ -255,7 +253,7 @@ fn count_of(word: &[u8], number: Option<u64>) -> Option<u64>
     ensures { result ≡ (if bytes_eq word.now (codes "back") then count_of number else None) }
 {
     match (word, number) {
-        (b"back", Some(n)) if 1 <= n && n <= MAX_BACK => Some(n),
+        (b"back", Some(n)) if 1 <= n && n <= CYCLE_LIMIT => Some(n),
         _ => None,
     }
 }

@@ -5,7 +5,7 @@ use Rattle.std.specs.List.Sorted.{IsStrictlyIncreasing}
 use Rattle.std.specs.Int.{bit_at}
 use Rattle.std.proofs.lemmas.Nat.Bits.{bit_at-zero}
 use Rattle.std.proofs.lemmas.Bool.Decides.{nat_tests}
-use Rattle.mm_model.specs.State.{Row, Core, slot_at, row_in, slot_of}
+use Rattle.mm_model.specs.State.{ThreadRow, Core, slot_at, row_in, slot_of}
 use Rattle.mm_model.specs.Spelling.{numbers_of}
 use Rattle.mm_model.specs.Turn.{is_running}
 use Rattle.mm_model.specs.Run.{first_running, any_number, next_running}
@@ -13,22 +13,22 @@ use Rattle.mm_model.proofs.CoreRows.{above_first, rest_rises, Rises}
 use Rattle.mm_sched.specs.Shown.{runs, Shows}
 use Rattle.mm_sched.specs.Following.{IsLeast, IsNext}
 
-abbrev numbers : List Row → List ℕ
-numbers rows = numbers_of (map (λ (row : Row). row.slot) rows)
+abbrev numbers : List ThreadRow → List ℕ
+numbers rows = numbers_of (map (λ (row : ThreadRow). row.slot) rows)
 
-abbrev runs_in : List Row → ℕ → Bool
+abbrev runs_in : List ThreadRow → ℕ → Bool
 runs_in rows n = runs (slot_of (row_in rows n))
 
-at_head : (row : Row) (rows : List Row) (n : ℕ) → row.slot.number ≡ n → runs_in (row ∷ rows) n ≡ is_running row.slot.state
+at_head : (row : ThreadRow) (rows : List ThreadRow) (n : ℕ) → row.slot.number ≡ n → runs_in (row ∷ rows) n ≡ is_running row.slot.state
 at_head row rows n e = let same : (row.slot.number == n) ≡ true = grind (arith, nat_tests) in rw same refl
 
-behind : (row : Row) (rows : List Row) (n : ℕ) → (row.slot.number ≡ n → ⊥) → runs_in (row ∷ rows) n ≡ runs_in rows n
+behind : (row : ThreadRow) (rows : List ThreadRow) (n : ℕ) → (row.slot.number ≡ n → ⊥) → runs_in (row ∷ rows) n ≡ runs_in rows n
 behind row rows n ne = let other : (row.slot.number == n) ≡ false = grind (arith, nat_tests) in rw other refl
 
 same_or_other : (a b : ℕ) → (a ≡ b) ⊎ (a ≡ b → ⊥)
 same_or_other a b = grind arith
 
-found_above : (x : ℕ) (rows : List Row) (n : ℕ) → AllByRecursion (λ y. x < y) (numbers rows) → runs_in rows n ≡ true → x < n
+found_above : (x : ℕ) (rows : List ThreadRow) (n : ℕ) → AllByRecursion (λ y. x < y) (numbers rows) → runs_in rows n ≡ true → x < n
 found_above x [] n h e = cc
 found_above x (row ∷ rows) n h e = elim (same_or_other row.slot.number n) [
   | inl same ↦ let low : x < row.slot.number = h.0 in omega arith
@@ -36,12 +36,12 @@ found_above x (row ∷ rows) n h e = elim (same_or_other row.slot.number n) [
 ]
 
 -- the least number that runs and passes
-pub record LeastIn (p : ℕ → Bool) (rows : List Row) (n : ℕ) : Type 0 where
+pub record LeastIn (p : ℕ → Bool) (rows : List ThreadRow) (n : ℕ) : Type 0 where
   pub runs : runs_in rows n ≡ true
   pub passes : p n ≡ true
   pub least : (m : ℕ) → m < n → runs_in rows m ≡ true → p m ≡ true → ⊥
 
-first_some : (p : ℕ → Bool) (rows : List Row) (n : ℕ) → IsStrictlyIncreasing (numbers rows) → LeastIn p rows n → first_running p rows ≡ Some n
+first_some : (p : ℕ → Bool) (rows : List ThreadRow) (n : ℕ) → IsStrictlyIncreasing (numbers rows) → LeastIn p rows n → first_running p rows ≡ Some n
 first_some p [] n up l = absurd (let none : false ≡ true = l.runs in cc)
 first_some p (row ∷ rows) n up l = elim (same_or_other row.slot.number n) [
   | inl same ↦
@@ -68,7 +68,7 @@ first_some p (row ∷ rows) n up l = elim (same_or_other row.slot.number n) [
     go true false ea eb never rest = rest
     go false b ea eb never rest = rest
 
-first_none : (p : ℕ → Bool) (rows : List Row) → IsStrictlyIncreasing (numbers rows) → ((m : ℕ) → runs_in rows m ≡ true → p m ≡ true → ⊥) → first_running p rows ≡ None
+first_none : (p : ℕ → Bool) (rows : List ThreadRow) → IsStrictlyIncreasing (numbers rows) → ((m : ℕ) → runs_in rows m ≡ true → p m ≡ true → ⊥) → first_running p rows ≡ None
 first_none p [] up none = refl
 first_none p (row ∷ rows) up none = go (is_running row.slot.state) (p row.slot.number) refl refl (first_none p rows (rest_rises row.slot.number (numbers rows) up) (λ m running passes.
     let high : row.slot.number < m = found_above row.slot.number rows m (above_first row.slot.number (numbers rows) up) running in

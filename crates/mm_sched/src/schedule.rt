@@ -3,12 +3,13 @@
 ghost use Rattle.std.specs.Prelude.{◌≡◌, ◌↔◌, ◌≤◌, IsSome, IfSome, IfOk, length, take, ◌==◌};
 ghost use Rattle.std.specs.List.{filter, list_any};
 
+use mm_model::CYCLE_LIMIT;
 use mm_word::NoMemory;
 use std::alloc::Global;
 use std::marker::Model;
 
 /// The most items of a schedule.
-pub const ITEM_LIMIT: usize = 1_000_000;
+pub const ITEM_LIMIT: usize = CYCLE_LIMIT as usize;
 
 /// A list of at most 1,000,000 items. An item is the number of a slot or, in a split machine, 128 more than the number
 /// of the slot whose port it is. Contracts see the list.

@@ -16,7 +16,7 @@ use mm_word::Word;
 
 /// A place that holds a pointer.
 #[derive(Clone, Copy)]
-pub enum Place {
+pub enum Holder {
     /// The instruction pointer of a slot.
     Ip { slot: u8 },
     /// A register of a slot.
@@ -53,7 +53,7 @@ fn put_slots<O: Sink>(text: &mut Gather, out: &mut O, range: &Range, slots: &[Sl
 fn put_slot<O: Sink>(text: &mut Gather, out: &mut O, range: &Range, slot: &Slot)
     ensures { Gathers O.taken O.faults out.old out.new text.old text.new (slot_holders range.now slot.now) }
 {
-    let place = Place::Ip { slot: slot.number };
+    let place = Holder::Ip { slot: slot.number };
     put_holder(text, out, range, place, Word::Ptr(slot.ip));
     put_registers(text, out, range, slot);
 }
@@ -64,7 +64,7 @@ fn put_registers<O: Sink>(text: &mut Gather, out: &mut O, range: &Range, slot: &
         (register_holders range.now slot.now.number 0 slot.now.regs) }
 {
     for (number, word) in slot.regs.iter().enumerate() {
-        let place = Place::Register {
+        let place = Holder::Register {
             slot: slot.number,
             register: number as u8,
         };
@@ -87,7 +87,7 @@ fn put_cells<O: Sink>(text: &mut Gather, out: &mut O, range: &Range, page: &Page
 {
     let start = page.number() * 4096;
     for (index, cell) in page.cells().iter().enumerate() {
-        let place = Place::Cell {
+        let place = Holder::Cell {
             address: start + 8 * index as u64,
         };
         put_holder(text, out, range, place, cell.word);
@@ -95,7 +95,7 @@ fn put_cells<O: Sink>(text: &mut Gather, out: &mut O, range: &Range, page: &Page
 }
 
 /// Appends the line of a place, if it holds a pointer whose segment meets the range.
-fn put_holder<O: Sink>(text: &mut Gather, out: &mut O, range: &Range, place: Place, word: Word)
+fn put_holder<O: Sink>(text: &mut Gather, out: &mut O, range: &Range, place: Holder, word: Word)
     ensures { Gathers O.taken O.faults out.old out.new text.old text.new (holder_line range.now (place_text place) word) }
 {
     if range.meets_word(&word) {
@@ -107,12 +107,12 @@ fn put_holder<O: Sink>(text: &mut Gather, out: &mut O, range: &Range, place: Pla
 }
 
 /// Appends the beginning of the line of a place.
-fn put_place<O: Sink>(text: &mut Gather, out: &mut O, place: Place)
+fn put_place<O: Sink>(text: &mut Gather, out: &mut O, place: Holder)
     ensures { Gathers O.taken O.faults out.old out.new text.old text.new (place_text place) }
 {
     match place {
-        Place::Ip { slot } => text.put(out, &[Piece::Text("ip "), Piece::Decimal(slot as u64)]),
-        Place::Register { slot, register } => text.put(
+        Holder::Ip { slot } => text.put(out, &[Piece::Text("ip "), Piece::Decimal(slot as u64)]),
+        Holder::Register { slot, register } => text.put(
             out,
             &[
                 Piece::Text("reg "),
@@ -121,7 +121,7 @@ fn put_place<O: Sink>(text: &mut Gather, out: &mut O, place: Place)
                 Piece::Decimal(register as u64),
             ],
         ),
-        Place::Cell { address } => {
+        Holder::Cell { address } => {
             text.put(out, &[Piece::Text("cell "), Piece::HexAddress(address)]);
         }
     }

@@ -9,3 +9,5 @@ mod audits;
 mod recorders;
 #[cfg(test)]
 mod segments;
+#[cfg(test)]
+mod system;

@@ -16,7 +16,7 @@ use Rattle.mm_model.specs.declared.slot.SlotState.TheVariants.{Running, Waiting,
 use Rattle.mm_model.specs.declared.event.Event.{Event}
 use Rattle.mm_model.specs.Memory.{Memory}
 use Rattle.mm_model.specs.Slot.{Slot, register, is_empty}
-use Rattle.mm_model.specs.State.{Row, Core, slot_at, put_slot, put_queue, output_of, put_output}
+use Rattle.mm_model.specs.State.{ThreadRow, Core, slot_at, put_slot, put_queue, output_of, put_output}
 use Rattle.mm_model.specs.Image.{output_limit}
 use Rattle.mm_model.specs.Ask.{Ask, ask}
 use Rattle.mm_model.specs.Ask.Ask.{Nothing}
@@ -89,7 +89,7 @@ module _ (core : Core) (apart : AreNumbered core.rows) (p : ℕ) (within : p < l
     stays = λ e. absurd (alone_goes told e);
   }
   leaves_alone m (Fault c) s' told h = record {
-    core_is = ap (with_slot core p) h.slot ∙ ap (λ (rows : List Row). record core { rows = rows }) (set-get_or core.rows p no_row);
+    core_is = ap (with_slot core p) h.slot ∙ ap (λ (rows : List ThreadRow). record core { rows = rows }) (set-get_or core.rows p no_row);
     memory_is = refl;
     outcome_is = ap outcome_alone h.told;
     stays = λ e. absurd (alone_goes told e);

@@ -10,7 +10,7 @@ use Rattle.std.proofs.lemmas.Bool.Decides.{nat_tests}
 use Rattle.std.proofs.lemmas.List.{set_at, drop_more, take_more, length-append, length-map, length-take-le, map_push, append_assoc, replicate_more, length-replicate}
 use Rattle.mm_model.specs.declared.event.Event.{Event}
 use Rattle.mm_model.specs.Slot.{Slot}
-use Rattle.mm_model.specs.State.{Row, Core, row_in, slot_of, queue_of, slot_at, queue_at, output_of, at_number, put_queue}
+use Rattle.mm_model.specs.State.{ThreadRow, Core, row_in, slot_of, queue_of, slot_at, queue_at, output_of, at_number, put_queue}
 use Rattle.mm_model.specs.Fits.{slots_of, IsSlot, IsCore}
 use Rattle.mm_model.proofs.CoreRows.{each_map, slots_found}
 use Rattle.mm_model.proofs.Shortness.{queue_short}
@@ -33,7 +33,7 @@ module _ (core : Core) (apart : AreNumbered core.rows) where
 
   pub room_at : (p n : ℕ) → p < length core.rows → (slot_in core p).number ≡ n → IfSome (row_in core.rows n) (λ row. length row.queue < 64) → length (queue_in core p) < 64
   room_at p n within number room =
-      let P : Option Row → Type 0 = λ o. IfSome o (λ row. length row.queue < 64) in
+      let P : Option ThreadRow → Type 0 = λ o. IfSome o (λ row. length row.queue < 64) in
       subst P (ap (row_in core.rows) (sym number) ∙ row_found core apart p within) room
 
 same_test : (a b : ℕ) → a ≡ b → eqb a b ≡ true
@@ -42,16 +42,16 @@ same_test a b e = grind (arith, nat_tests)
 other_test : (a b : ℕ) → a ≢ b → eqb a b ≡ false
 other_test a b e = grind (arith, nat_tests)
 
-unput : (rows : List Row) (n : ℕ) (change : Row → Row) → slot_of (row_in rows n) ≡ None → map (at_number n change) rows ≡ rows
+unput : (rows : List ThreadRow) (n : ℕ) (change : ThreadRow → ThreadRow) → slot_of (row_in rows n) ≡ None → map (at_number n change) rows ≡ rows
 unput [] n change none = refl
 unput (row ∷ rows) n change none = elim (cases_eq row.slot.number n) as (λ _. map (at_number n change) (row ∷ rows) ≡ row ∷ rows) [
   | inl same ↦ absurd (let found : slot_of (row_in (row ∷ rows) n) ≡ Some row.slot = rw (same_test row.slot.number n same) refl in cc (found, none))
-  | inr other ↦ rw (other_test row.slot.number n other) (ap (λ (rs : List Row). row ∷ rs) (unput rows n change (rw (other_test row.slot.number n other) at none)))
+  | inr other ↦ rw (other_test row.slot.number n other) (ap (λ (rs : List ThreadRow). row ∷ rs) (unput rows n change (rw (other_test row.slot.number n other) at none)))
 ]
 
 pub event_unput : (core : Core) (n : ℕ) (q : List Event) → slot_at core n ≡ None → core ≡ put_queue core n q
 unfolding put_queue slot_at
-event_unput core n q none = ap (λ (rows : List Row). record core { rows = rows }) (sym (unput core.rows n (λ row. record row { queue = q }) none))
+event_unput core n q none = ap (λ (rows : List ThreadRow). record core { rows = rows }) (sym (unput core.rows n (λ row. record row { queue = q }) none))
 
 -- 2. A list of events.
 
@@ -114,7 +114,7 @@ module _ (xs : List (ℕ × Event)) (n : ℕ) (e : Event) where
   unfolding put_queue queue_at
   event_more core slots =
       let q : List Event = queue_of (row_in (map (row_with xs) slots) n) ++ e ∷ [] in
-      ap (λ (rows : List Row). record core { rows = rows }) (elim (queue_is slots) as (λ _. map (at_number n (λ row. record row { queue = q })) (map (row_with xs) slots) ≡ map (row_with more) slots) [
+      ap (λ (rows : List ThreadRow). record core { rows = rows }) (elim (queue_is slots) as (λ _. map (at_number n (λ row. record row { queue = q })) (map (row_with xs) slots) ≡ map (row_with more) slots) [
         | inl found ↦ rows_put q (ap (λ (es : List Event). es ++ e ∷ []) found) slots
         | inr none ↦ rows_unput q slots none
       ])
@@ -153,11 +153,11 @@ queue-with xs n (t ∷ slots) s is = elim (cases_eq t.number n) as (λ _. queue_
       rw (other_test t.number n other) (queue-with xs n slots s later)
 ]
 
-pub slots-with : (xs : List (ℕ × Event)) (slots : List Slot) → map (λ (row : Row). row.slot) (map (row_with xs) slots) ≡ slots
+pub slots-with : (xs : List (ℕ × Event)) (slots : List Slot) → map (λ (row : ThreadRow). row.slot) (map (row_with xs) slots) ≡ slots
 slots-with xs [] = refl
 slots-with xs (s ∷ slots) = ap (λ (ss : List Slot). s ∷ ss) (slots-with xs slots)
 
-pub slots-alone : (slots : List Slot) → map (λ (row : Row). row.slot) (map row_alone slots) ≡ slots
+pub slots-alone : (slots : List Slot) → map (λ (row : ThreadRow). row.slot) (map row_alone slots) ≡ slots
 slots-alone [] = refl
 slots-alone (s ∷ slots) = ap (λ (ss : List Slot). s ∷ ss) (slots-alone slots)
 

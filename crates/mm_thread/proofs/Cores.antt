@@ -9,7 +9,7 @@ use Rattle.mm_model.specs.declared.slot.Pending.{Pending}
 use Rattle.mm_model.specs.declared.event.Event.{Event}
 use Rattle.mm_model.specs.Slot.{Slot, is_empty}
 use Rattle.mm_model.specs.Image.{output_limit}
-use Rattle.mm_model.specs.State.{Row, Core, slot_at, queue_at, output_of, put_queue}
+use Rattle.mm_model.specs.State.{ThreadRow, Core, slot_at, queue_at, output_of, put_queue}
 use Rattle.mm_model.specs.Turn.{stood, core_faulted, is_running, is_sync}
 use Rattle.mm_model.specs.Fits.{waits_for, slots_of, IsSlot, LoadsMatch, IsOfVersion, IsCore}
 use Rattle.mm_model.specs.Spelling.{IsOther}
@@ -25,25 +25,25 @@ use Rattle.mm_thread.proofs.RunningSlots.{numbered_set}
 
 -- 1. A row in the place of one.
 
-pub length-with_row : (core : Core) (p : ℕ) (row : Row) → length (with_row core p row).rows ≡ length core.rows
+pub length-with_row : (core : Core) (p : ℕ) (row : ThreadRow) → length (with_row core p row).rows ≡ length core.rows
 length-with_row core p row = length-set core.rows p row
 
-pub row_at-same : (core : Core) (p : ℕ) (row : Row) → p < length core.rows → row_at (with_row core p row) p ≡ row
+pub row_at-same : (core : Core) (p : ℕ) (row : ThreadRow) → p < length core.rows → row_at (with_row core p row) p ≡ row
 row_at-same core p row within = get_or-set_same core.rows p row no_row within
 
-pub row_at-other : (core : Core) (p q : ℕ) (row : Row) → q ≢ p → row_at (with_row core p row) q ≡ row_at core q
+pub row_at-other : (core : Core) (p q : ℕ) (row : ThreadRow) → q ≢ p → row_at (with_row core p row) q ≡ row_at core q
 row_at-other core p q row other = get_or-set_other core.rows p q row no_row other
 
 pub slot_in-same : (core : Core) (p : ℕ) (s : Slot) → p < length core.rows → slot_in (with_slot core p s) p ≡ s
-slot_in-same core p s within = ap (λ (r : Row). r.slot) (row_at-same core p (record (row_at core p) { slot = s }) within)
+slot_in-same core p s within = ap (λ (r : ThreadRow). r.slot) (row_at-same core p (record (row_at core p) { slot = s }) within)
 
 pub slot_in-other : (core : Core) (p q : ℕ) (s : Slot) → q ≢ p → slot_in (with_slot core p s) q ≡ slot_in core q
-slot_in-other core p q s other = ap (λ (r : Row). r.slot) (row_at-other core p q (record (row_at core p) { slot = s }) other)
+slot_in-other core p q s other = ap (λ (r : ThreadRow). r.slot) (row_at-other core p q (record (row_at core p) { slot = s }) other)
 
 pub queue_in-slot : (core : Core) (p q : ℕ) (s : Slot) → p < length core.rows → queue_in (with_slot core p s) q ≡ queue_in core q
 queue_in-slot core p q s within = elim (cases_eq q p) [
-  | inl e ↦ rw e (ap (λ (r : Row). r.queue) (row_at-same core p (record (row_at core p) { slot = s }) within))
-  | inr ne ↦ ap (λ (r : Row). r.queue) (row_at-other core p q (record (row_at core p) { slot = s }) ne)
+  | inl e ↦ rw e (ap (λ (r : ThreadRow). r.queue) (row_at-same core p (record (row_at core p) { slot = s }) within))
+  | inr ne ↦ ap (λ (r : ThreadRow). r.queue) (row_at-other core p q (record (row_at core p) { slot = s }) ne)
 ]
 
 -- 2. The bounds of a core.
@@ -127,7 +127,7 @@ apart-with_slot core apart p within s same = numbered_set core.rows p within (re
 pub number-with_slot : (core : Core) → AreNumbered core.rows → (p : ℕ) → p < length core.rows → (s : Slot) → s.number ≡ (slot_in core p).number
     → (q : ℕ) → q < length core.rows → (slot_in (with_slot core p s) q).number ≡ (slot_in core q).number
 number-with_slot core apart p within s same q inside =
-    let row : Row = record (row_at core p) { slot = s } in
+    let row : ThreadRow = record (row_at core p) { slot = s } in
     let still : q < length (with_slot core p s).rows = omega (arith, length-with_row core p row) in
     sym (number-get (with_slot core p s) q still)
     ∙ ap (λ (ns : List ℕ). slice_index ns q) (numbers-with_row core apart p within row same)

@@ -10,7 +10,7 @@ use Rattle.mm_model.specs.declared.step.Tick.{Tick}
 use Rattle.mm_model.specs.declared.step.Tick.TheVariants.{Idle, Delivered}
 use Rattle.mm_model.specs.Memory.{Memory}
 use Rattle.mm_model.specs.Slot.{Slot}
-use Rattle.mm_model.specs.State.{Row, Core, slot_at}
+use Rattle.mm_model.specs.State.{ThreadRow, Core, slot_at}
 use Rattle.mm_model.specs.Uses.{Use, accesses, TakesUses, takes_none}
 use Rattle.mm_model.specs.Effect.{delivered, delivers}
 use Rattle.mm_model.specs.Turn.{Turned, idle, arrives, port_of, taken_by, taken_by_port, turn, started, is_running}
@@ -18,7 +18,7 @@ use Rattle.mm_model.specs.Fits.{IsCore, slots_of}
 use Rattle.mm_model.proofs.CoreRows.{slot_has}
 use Rattle.mm_model.proofs.SlotSteps.{delivered_from}
 use Rattle.mm_thread.specs.Places.{no_row, slot_in, with_slot, first_register}
-use Rattle.mm_thread.specs.Execution.{CanTurn, Gives, AsksNothing}
+use Rattle.mm_thread.specs.Execution.{CanTurn, TakesTurn, AsksNothing}
 use Rattle.mm_thread.specs.Tables.{AreNumbered}
 use Rattle.mm_thread.proofs.Placing.{apart_in}
 use Rattle.mm_thread.proofs.Index.{slot_found, put_slot-place}
@@ -54,7 +54,7 @@ module _ (core : Core) (apart : AreNumbered core.rows) (p : ℕ) (within : p < l
   unfolding delivered
   port_arrives m core' step core_is [] none step_is =
       idles_at (core_is ∙ ap (λ (ps : List Pending). with_slot core p (delivers s ps)) none
-      ∙ ap (λ (rows : List Row). record core { rows = rows }) (set-get_or core.rows p no_row))
+      ∙ ap (λ (rows : List ThreadRow). record core { rows = rows }) (set-get_or core.rows p no_row))
       (idles core m s.number step step_is)
     where
       idles_at : core' ≡ core → AsksNothing (idle core m s.number) m core step → AsksNothing (idle core m s.number) m core' step
@@ -76,7 +76,7 @@ module _ (core : Core) (apart : AreNumbered core.rows) (p : ℕ) (within : p < l
 -- 2. Items.
 
 module _ {M : Type 0} (meaning : M → Memory) (uses : M → ℕ) (stands : M → List Use → Type 0) where
-  pub nothing_gives : (t : Turned) (old : M) (core' : Core) (step' : Step) → AsksNothing t (meaning old) core' step' → Gives meaning uses stands t old old core' step'
+  pub nothing_gives : (t : Turned) (old : M) (core' : Core) (step' : Step) → AsksNothing t (meaning old) core' step' → TakesTurn meaning uses stands t old old core' step'
   nothing_gives t old core' step' h =
       let Takes : List Use → Type 0 = λ us. TakesUses stands old old us in
       record {

@@ -5,7 +5,7 @@ use Rattle.std.specs.List.Sorted.{IsStrictlyIncreasing}
 use Rattle.std.proofs.lemmas.Bool.{cases_eq}
 use Rattle.std.proofs.lemmas.List.{get_or-set_same, get_or-set_other, get_or-replicate, get_or-map, length-set, length-map, length-replicate}
 use Rattle.mm_model.specs.Slot.{Slot}
-use Rattle.mm_model.specs.State.{Row, Core}
+use Rattle.mm_model.specs.State.{ThreadRow, Core}
 use Rattle.mm_model.specs.Fits.{slots_of, IsSlot, IsCore}
 use Rattle.mm_model.proofs.CoreRows.{each_get, each_map}
 use Rattle.mm_thread.specs.Tables.{slot_of_row, AreNumbered, IsIndex}
@@ -35,19 +35,19 @@ differs_between xs h j k other first second same = elim (Rattle.std.proofs.lemma
 ]
 
 -- the numbers of the first rows lead to their places, and no other number leads to a place
-pub record IsIndexBelow (rows : List Row) (index : List ℕ) (i : ℕ) : Type 0 where
+pub record IsIndexBelow (rows : List ThreadRow) (index : List ℕ) (i : ℕ) : Type 0 where
   pub long : length index ≡ 64
   pub each : (n : ℕ) → n < 64 → (slice_index index n ≡ 64) ⊎ ((slice_index index n < i) × ((slot_of_row rows (slice_index index n)).number ≡ n))
   pub back : (k : ℕ) → k < i → slice_index index (slot_of_row rows k).number ≡ k
 
-pub index_none : (rows : List Row) → IsIndexBelow rows (replicate 64 64) 0
+pub index_none : (rows : List ThreadRow) → IsIndexBelow rows (replicate 64 64) 0
 index_none rows = record {
   long = length-replicate {A = ℕ} 64 64;
   each = λ n small. inl (get_or-replicate {A = ℕ} 64 n 64 0 small);
   back = λ k none. absurd (omega arith);
 }
 
-pub index_more : (rows : List Row) (index : List ℕ) (i : ℕ) → AreNumbered rows → i < length rows → IsIndexBelow rows index i → IsIndexBelow rows (set index (slot_of_row rows i).number i) (i + 1)
+pub index_more : (rows : List ThreadRow) (index : List ℕ) (i : ℕ) → AreNumbered rows → i < length rows → IsIndexBelow rows index i → IsIndexBelow rows (set index (slot_of_row rows i).number i) (i + 1)
 index_more rows index i apart within h =
     let n : ℕ = (slot_of_row rows i).number in
     let inside : n < length index = let long = h.long in let small = apart.small i within in omega arith in
@@ -70,7 +70,7 @@ index_more rows index i apart within h =
       ];
     }
 
-pub index_all : (rows : List Row) (index : List ℕ) (i : ℕ) → length rows ≤ 64 → length rows ≡ i → IsIndexBelow rows index i → IsIndex rows index
+pub index_all : (rows : List ThreadRow) (index : List ℕ) (i : ℕ) → length rows ≤ 64 → length rows ≡ i → IsIndexBelow rows index i → IsIndex rows index
 index_all rows index i few all h = record {
   there = λ n small within. elim (h.each n small) as (λ _. (slot_of_row rows (slice_index index n)).number ≡ n) [
     | inl none ↦ absurd (omega (arith, none))
@@ -81,9 +81,9 @@ index_all rows index i few all h = record {
 
 pub number_at-small : (core : Core) → AllByRecursion (λ (s : Slot). s.number < 64) (slots_of core) → (k : ℕ) → k < length core.rows → (slot_in core k).number < 64
 number_at-small core small k within =
-    let slots : k < length (slots_of core) = omega (arith, length-map core.rows (λ (row : Row). row.slot)) in
+    let slots : k < length (slots_of core) = omega (arith, length-map core.rows (λ (row : ThreadRow). row.slot)) in
     let one = each_get (λ (s : Slot). s.number < 64) (slots_of core) k no_row.slot small slots in
-    omega (arith, one, ap (λ (s : Slot). s.number) (get_or-map (λ (row : Row). row.slot) core.rows k no_row no_row.slot within))
+    omega (arith, one, ap (λ (s : Slot). s.number) (get_or-map (λ (row : ThreadRow). row.slot) core.rows k no_row no_row.slot within))
 
 pub few_rows : (core : Core) → IsStrictlyIncreasing (numbers_in core) → AllByRecursion (λ (s : Slot). s.number < 64) (slots_of core) → length core.rows ≤ 64
 few_rows core rising small = elim (Rattle.std.proofs.lemmas.Bool.cases_lt 64 (length core.rows)) as (λ _. length core.rows ≤ 64) [

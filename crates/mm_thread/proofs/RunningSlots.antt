@@ -15,7 +15,7 @@ use Rattle.mm_isa.specs.declared.instr.How.TheVariants.{Retry, Skip, Kill}
 use Rattle.mm_model.specs.declared.slot.SlotState.{SlotState}
 use Rattle.mm_model.specs.declared.slot.SlotState.TheVariants.{Running, Waiting, Taken, Halted}
 use Rattle.mm_model.specs.Slot.{Slot}
-use Rattle.mm_model.specs.State.{Row, Core, slot_of, slot_at}
+use Rattle.mm_model.specs.State.{ThreadRow, Core, slot_of, slot_at}
 use Rattle.mm_model.specs.Effect.{Change, Effect, resumed_by}
 use Rattle.mm_model.specs.Effect.Effect.{Fault, Block, Deliver, Does}
 use Rattle.mm_model.specs.Turn.{is_running, slot_after}
@@ -44,12 +44,12 @@ clear_noted runners n s same small rests = record {
 
 -- 3. A row changes, but for its number.
 
-module _ (rows : List Row) (p : ℕ) (within : p < length rows) (row : Row) (same : row.slot.number ≡ (slot_of_row rows p).number) where
+module _ (rows : List ThreadRow) (p : ℕ) (within : p < length rows) (row : ThreadRow) (same : row.slot.number ≡ (slot_of_row rows p).number) where
   slot-same : slot_of_row (set rows p row) p ≡ row.slot
-  slot-same = ap (λ (r : Row). r.slot) (get_or-set_same rows p row no_row within)
+  slot-same = ap (λ (r : ThreadRow). r.slot) (get_or-set_same rows p row no_row within)
 
   slot-other : (k : ℕ) → k ≢ p → slot_of_row (set rows p row) k ≡ slot_of_row rows k
-  slot-other k other = ap (λ (r : Row). r.slot) (get_or-set_other rows p k row no_row other)
+  slot-other k other = ap (λ (r : ThreadRow). r.slot) (get_or-set_other rows p k row no_row other)
 
   number-set : (k : ℕ) → (slot_of_row (set rows p row) k).number ≡ (slot_of_row rows k).number
   number-set k = elim (cases_eq k p) [
@@ -103,8 +103,8 @@ module _ (rows : List Row) (p : ℕ) (within : p < length rows) (row : Row) (sam
   known_kept index runners h state = record { places = index_set index h.places; running = runners_kept runners h.running state }
 
 -- the slot that is taken from a place
-pub slot_there : (rows : List Row) (p : ℕ) → p < length rows → (row d : Row) → row ≡ get_or rows p d → row.slot ≡ slot_of_row rows p
-slot_there rows p within row d is = ap (λ (r : Row). r.slot) (is ∙ get_or_default rows p d no_row within)
+pub slot_there : (rows : List ThreadRow) (p : ℕ) → p < length rows → (row d : ThreadRow) → row ≡ get_or rows p d → row.slot ≡ slot_of_row rows p
+slot_there rows p within row d is = ap (λ (r : ThreadRow). r.slot) (is ∙ get_or_default rows p d no_row within)
 
 -- 4. What the bits tell.
 
@@ -120,13 +120,13 @@ bit_set runners n is none = omega (arith, and_pow runners n, pow_pos n, ap (λ (
 bit_clear : (runners n : ℕ) → bit_at runners n ≡ 0 → IsBitSet runners n → ⊥
 bit_clear runners n is set = set (and_pow runners n ∙ ap (λ (b : ℕ). b * 2 ^ n) is ∙ omega arith)
 
-abbrev HasNumber : List Row → ℕ → Type 0
+abbrev HasNumber : List ThreadRow → ℕ → Type 0
 HasNumber rows n = (k : ℕ) × (k < length rows) × ((slot_of_row rows k).number ≡ n)
 
-abbrev HasNoNumber : List Row → ℕ → Type 0
+abbrev HasNoNumber : List ThreadRow → ℕ → Type 0
 HasNoNumber rows n = (k : ℕ) → k < length rows → (slot_of_row rows k).number ≢ n
 
-has_number : (rows : List Row) (n : ℕ) → HasNumber rows n ⊎ HasNoNumber rows n
+has_number : (rows : List ThreadRow) (n : ℕ) → HasNumber rows n ⊎ HasNoNumber rows n
 has_number [] n = inr (λ k none. absurd (omega arith))
 has_number (row ∷ rows) n = elim (cases_eq row.slot.number n) as (λ _. HasNumber (row ∷ rows) n ⊎ HasNoNumber (row ∷ rows) n) [
   | inl same ↦ inl (0, omega arith, same)

@@ -4,7 +4,7 @@ use Rattle.std.specs.List.{AllByRecursion}
 use Rattle.std.proofs.lemmas.List.{get_or_past}
 use Rattle.mm_model.specs.Memory.{Memory}
 use Rattle.mm_model.specs.Slot.{Slot}
-use Rattle.mm_model.specs.State.{Row, Core, row_in, slot_of, queue_of, slot_at, queue_at, output_of}
+use Rattle.mm_model.specs.State.{ThreadRow, Core, row_in, slot_of, queue_of, slot_at, queue_at, output_of}
 use Rattle.mm_model.specs.Image.{output_limit}
 use Rattle.mm_model.specs.Spelling.{numbers_of}
 use Rattle.mm_model.specs.Fits.{identity_of, slots_of, LoadsAreKept, IsCore}
@@ -61,7 +61,7 @@ pub queue-none : (core : Core) (n : ℕ) → slot_at core n ≡ None → queue_a
 unfolding slot_at queue_at
 queue-none core n none = by (row_in core.rows n) none
   where
-    by : (o : Option Row) → slot_of o ≡ None → queue_of o ≡ []
+    by : (o : Option ThreadRow) → slot_of o ≡ None → queue_of o ≡ []
     by None e = refl
     by (Some row) e = cc
 

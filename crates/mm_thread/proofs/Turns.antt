@@ -15,7 +15,7 @@ use Rattle.mm_model.specs.declared.step.Step.{Step}
 use Rattle.mm_model.specs.declared.step.Tick.TheVariants.{Blocked}
 use Rattle.mm_model.specs.Memory.{Memory, cell_at}
 use Rattle.mm_model.specs.Slot.{Slot}
-use Rattle.mm_model.specs.State.{Row, Core, slot_at, at_number, put_slot}
+use Rattle.mm_model.specs.State.{ThreadRow, Core, slot_at, at_number, put_slot}
 use Rattle.mm_model.specs.Uses.{Use, accesses, accesses-append, TakesUses, takes_both}
 use Rattle.mm_model.specs.Operands.{addr_operand, value_operand, lacks}
 use Rattle.mm_model.specs.Ask.{ask}
@@ -28,7 +28,7 @@ use Rattle.mm_thread.specs.declared.outcome.Outcome.{Outcome}
 use Rattle.mm_thread.specs.declared.outcome.Outcome.TheVariants.{Waits, Fails}
 use Rattle.mm_thread.specs.declared.outcome.Retired.{Retired}
 use Rattle.mm_thread.specs.Places.{row_at, slot_in, with_row, with_slot, numbers_in}
-use Rattle.mm_thread.specs.Execution.{CanTurn, CanEnd, Leaves, effect_in, Executes, Gives, core_ended, step_ended}
+use Rattle.mm_thread.specs.Execution.{CanTurn, CanEnd, Leaves, effect_in, Executes, TakesTurn, core_ended, step_ended}
 use Rattle.mm_thread.specs.Tables.{AreNumbered}
 use Rattle.mm_thread.proofs.Placing.{apart_in}
 use Rattle.mm_thread.proofs.Index.{slot_found, put_slot-place, number-get, apart_by}
@@ -36,16 +36,16 @@ use Rattle.mm_thread.proofs.Cores.{queue_in-slot, slot_in-same}
 
 -- 1. A slot that is put in a core.
 
-put_number : (s : Slot) (row : Row) → (at_number s.number (λ r. record r { slot = s }) row).slot.number ≡ row.slot.number
+put_number : (s : Slot) (row : ThreadRow) → (at_number s.number (λ r. record r { slot = s }) row).slot.number ≡ row.slot.number
 put_number s row = by (eqb row.slot.number s.number) refl
   where
     by : (b : Bool) → eqb row.slot.number s.number ≡ b → (cond b (record row { slot = s }) row).slot.number ≡ row.slot.number
     by true e = sym (eqb-true row.slot.number s.number e)
     by false e = refl
 
-put_numbers : (s : Slot) (rows : List Row) → map (λ (t : Slot). t.number)
-    (map (λ (r : Row). r.slot) (map (at_number s.number (λ r. record r { slot = s })) rows)) ≡ map
-    (λ (t : Slot). t.number) (map (λ (r : Row). r.slot) rows)
+put_numbers : (s : Slot) (rows : List ThreadRow) → map (λ (t : Slot). t.number)
+    (map (λ (r : ThreadRow). r.slot) (map (at_number s.number (λ r. record r { slot = s })) rows)) ≡ map
+    (λ (t : Slot). t.number) (map (λ (r : ThreadRow). r.slot) rows)
 put_numbers s [] = refl
 put_numbers s (row ∷ rows) = rw (put_number s row, put_numbers s rows) refl
 
@@ -60,7 +60,7 @@ length-put_slot core s = length-map core.rows (at_number s.number (λ r. record 
 pub with_slot-twice : (core : Core) (p : ℕ) (a b : Slot) → p < length core.rows → with_slot (with_slot core p a) p b ≡ with_slot core p b
 with_slot-twice core p a b within =
     ap (λ q. with_row (with_slot core p a) p (record { slot = b; queue = q })) (queue_in-slot core p p a within)
-    ∙ ap (λ (rows : List Row). record core { rows = rows }) (set-set core.rows p (record (row_at core p) { slot = a }) (record (row_at core p) { slot = b }))
+    ∙ ap (λ (rows : List ThreadRow). record core { rows = rows }) (set-set core.rows p (record (row_at core p) { slot = a }) (record (row_at core p) { slot = b }))
 
 -- the slot of a place whose number is found elsewhere too
 same_slot : (core k : Core) → AreNumbered core.rows → (p : ℕ) → p < length core.rows → numbers_in k ≡ numbers_in core → p < length k.rows
@@ -163,7 +163,7 @@ module _ {M : Type 0} (meaning : M → Memory) (uses : M → ℕ) (stands : M �
   pub faults_give : (core : Core) (m : Memory) (s : Slot) (c : Cause) (f : Option Touch) (us : List Use) (old new : M) (core' : Core) (step : Step)
       → core' ≡ core_faulted core s (event_of s c (Int 0) (Int 0)) s.handler → meaning new ≡ m
       → step ≡ record { tick = tick_faulted c s.handler; slot = s.number; fetched = f; touched = None; entered = None } → TakesUses stands old new us → uses new ≡ uses old + accesses us
-      → Gives meaning uses stands (faulted core m s c (Int 0) (Int 0) f None us) old new core' step
+      → TakesTurn meaning uses stands (faulted core m s c (Int 0) (Int 0) f None us) old new core' step
   unfolding faulted
   faults_give core m s c f us old new core' step core_is memory_is step_is takes count =
       record { core_is = core_is; memory_is = memory_is; step_is = step_is; takes = takes; count = count }
@@ -174,7 +174,7 @@ module _ {M : Type 0} (meaning : M → Memory) (uses : M → ℕ) (stands : M �
     pub issued_gives : (core.split && lacks i (slot_in core p)) ≡ false → (new : M) (core1 core2 : Core)
         (told : Retired) (step : Step) → Executes meaning uses stands core (slot_in core p) i mid new core1 told
         → core2 ≡ core_ended i core1 (slot_in core1 p) p told.outcome → step ≡ step_ended (slot_in core p).number (slot_in core1 p) (Some f) told.touched told.outcome
-        → Gives meaning uses stands (issued core (meaning before) (slot_in core p) f u i) before new core2 step
+        → TakesTurn meaning uses stands (issued core (meaning before) (slot_in core p) f u i) before new core2 step
     unfolding issued executed
     issued_gives free new core1 core2 told step ex core_is step_is =
         let s = slot_in core p in
@@ -202,7 +202,7 @@ module _ {M : Type 0} (meaning : M → Memory) (uses : M → ℕ) (stands : M �
         → core1 ≡ with_slot core p (delivered (slot_in core p)) → core2 ≡ with_slot core1 p
         (stood (slot_in core1 p) Running)
         → n ≡ (slot_in core p).number → step ≡ record { tick = Blocked; slot = n; fetched = Some f; touched = None; entered = None }
-        → Gives meaning uses stands (issued core (meaning before) (slot_in core p) f u i) before mid core2 step
+        → TakesTurn meaning uses stands (issued core (meaning before) (slot_in core p) f u i) before mid core2 step
     unfolding issued blocked
     issued_waits waits core1 core2 step n first_is core_is number_is step_is =
         let s = slot_in core p in

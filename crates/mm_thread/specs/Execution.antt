@@ -79,7 +79,7 @@ module _ {M : Type 0} (meaning : M → Memory) (uses : M → ℕ) (stands : M �
     pub count : uses new ≡ uses old + accesses (asked_use (meaning old) (ask i s))
 
   -- the turn is taken
-  pub record Gives (t : Turned) (old new : M) (core' : Core) (step' : Step) : Type 0 where
+  pub record TakesTurn (t : Turned) (old new : M) (core' : Core) (step' : Step) : Type 0 where
     pub core_is : core' ≡ t.core
     pub memory_is : meaning new ≡ t.memory
     pub step_is : step' ≡ t.step

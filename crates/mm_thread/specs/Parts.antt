@@ -3,7 +3,7 @@ use Rattle.std.specs.Prelude.{◌≡◌, ℕ, Bool, ◌==◌, if◌then◌else�
 use Rattle.std.specs.List.{AllByRecursion}
 use Rattle.mm_model.specs.declared.event.Event.{Event}
 use Rattle.mm_model.specs.Slot.{Slot}
-use Rattle.mm_model.specs.State.{Row, Core, output_of}
+use Rattle.mm_model.specs.State.{ThreadRow, Core, output_of}
 use Rattle.mm_model.specs.Fits.{identity_of, slots_of, IsCore}
 use Rattle.mm_thread.specs.Output.{Output}
 
@@ -12,7 +12,7 @@ abbrev pub events_for : ℕ → List (ℕ × Event) → List Event
 events_for n [] = []
 events_for n (x ∷ xs) = if x.0 == n then x.1 ∷ events_for n xs else events_for n xs
 
-abbrev pub row_with : List (ℕ × Event) → Slot → Row
+abbrev pub row_with : List (ℕ × Event) → Slot → ThreadRow
 row_with events s = record { slot = s; queue = events_for s.number events }
 
 -- the outputs of groups, each replaced by the one in the list, if there is one

@@ -8,7 +8,7 @@ use Rattle.mm_model.specs.declared.slot.SlotState.TheVariants.{Running}
 use Rattle.mm_model.specs.declared.event.Event.{Event}
 use Rattle.mm_model.specs.declared.slot.Pending.{Pending}
 use Rattle.mm_model.specs.Slot.{Slot}
-use Rattle.mm_model.specs.State.{Row, Core}
+use Rattle.mm_model.specs.State.{ThreadRow, Core}
 use Rattle.mm_model.specs.Spelling.{numbers_of}
 use Rattle.mm_model.specs.Fits.{slots_of}
 
@@ -27,15 +27,15 @@ no_slot = record {
   pending = [];
 }
 
-abbrev pub no_row : Row
+abbrev pub no_row : ThreadRow
 no_row = record { slot = no_slot; queue = [] }
 
 -- a slot without events
-abbrev pub row_alone : Slot → Row
+abbrev pub row_alone : Slot → ThreadRow
 row_alone s = record { slot = s; queue = [] }
 
 -- the row at an index
-abbrev pub row_at : Core → ℕ → Row
+abbrev pub row_at : Core → ℕ → ThreadRow
 row_at core place = slice_index_or core.rows place no_row
 
 abbrev pub slot_in : Core → ℕ → Slot
@@ -45,7 +45,7 @@ abbrev pub queue_in : Core → ℕ → List Event
 queue_in core place = (row_at core place).queue
 
 -- the core with this row at an index
-abbrev pub with_row : Core → ℕ → Row → Core
+abbrev pub with_row : Core → ℕ → ThreadRow → Core
 with_row core place row = record core { rows = slice_set core.rows place row }
 
 abbrev pub with_slot : Core → ℕ → Slot → Core

@@ -6,20 +6,20 @@ ghost use Rattle.mm_thread.specs.Tables.{AreNumbered, IsIndex};
 
 use crate::group_output::GroupOutput;
 use crate::queue::Queue;
-use crate::row::Row;
+use crate::row::ThreadRow;
 use mm_model::Slot;
 use mm_word::NoMemory;
 use std::alloc::Global;
 
 /// The rows of slots without events.
-pub(crate) fn rows_of(alloc: Global, slots: &[Slot]) -> Result<Vec<Row>, NoMemory>
+pub(crate) fn rows_of(alloc: Global, slots: &[Slot]) -> Result<Vec<ThreadRow>, NoMemory>
     ensures { IfOk result (λ rows. rows.items ≡ map row_alone slots.now) }
 {
     let Ok(mut rows) = Vec::with_capacity(alloc, slots.len()) else {
         return Err(NoMemory);
     };
     for slot in slots {
-        let row = Row {
+        let row = ThreadRow {
             slot: slot.copy(),
             queue: Queue::new(),
         };
@@ -47,7 +47,7 @@ pub(crate) fn no_outputs(alloc: Global) -> Result<Vec<GroupOutput>, NoMemory>
 }
 
 /// The table that gives for each number the index of its row, and 64 if there is none.
-pub(crate) fn index_of(rows: &[Row]) -> [u8; 64]
+pub(crate) fn index_of(rows: &[ThreadRow]) -> [u8; 64]
     requires apart { AreNumbered rows.now }
     requires few { length rows.now ≤ 64 }
     ensures { IsIndex rows.now result }

@@ -7,7 +7,7 @@ ghost use Rattle.mm_model.specs.Fits.{IsCore, slots_of};
 ghost use Rattle.mm_model.specs.Turn.{turn, taken_by_port, port_of, is_running};
 ghost use Rattle.mm_model.specs.Memory.{Memory as MemoryValue};
 ghost use Rattle.mm_thread.specs.Places.{slot_in};
-ghost use Rattle.mm_thread.specs.Execution.{Gives, AsksNothing};
+ghost use Rattle.mm_thread.specs.Execution.{TakesTurn, AsksNothing};
 
 use crate::slot_turn::{start, tell};
 use crate::tables::Tables;
@@ -19,7 +19,7 @@ pub(crate) fn take_item<M: Memory>(tables: &mut Tables, mem: &mut M, item: u8, s
     requires whole { IsCore tables.old }
     requires turns { AllByRecursion (λ (s : SlotValue). s.turns < 2 ^ 61) (slots_of tables.old) }
     requires room { M.uses mem.old < 2 ^ 61 }
-    ensures { Gives M.meaning M.uses M.stands (turn tables.old (M.meaning mem.old) item) mem.old mem.new tables.new
+    ensures { TakesTurn M.meaning M.uses M.stands (turn tables.old (M.meaning mem.old) item) mem.old mem.new tables.new
         step.new }
 {
     match tables.place_of(u64::from(item)) {

@@ -2,7 +2,9 @@
 #![tactic(auto, unfolding(mm_model::specs::Effect::effect, mm_model::specs::Effect::plain))]
 
 ghost use Rattle.std.specs.Prelude.{◌≡◌, ◌<◌, ◌^◌, Bool, true, IfOk, IfSome};
+ghost use Rattle.std.specs.Int.{cast_signed, w64};
 ghost use Rattle.mm_word.specs.Perm.{can_fetch};
+ghost use Rattle.mm_word.specs.Word.{word_bits};
 ghost use Rattle.mm_word.specs.Pointer.{enter_result, next_result};
 ghost use Rattle.mm_model.specs.Slot.{register};
 ghost use Rattle.mm_model.specs.Ask.{is_privileged};
@@ -161,11 +163,18 @@ fn sets_pointer(slot: &mut Slot, rd: Reg, made: Result<GuardedPtr, Cause>) -> En
     }
 }
 
+// The word of a register as a signed number.
+fn signed_word_of(slot: &Slot, r: Reg) -> i64
+    ensures { result ≡ cast_signed w64 (word_bits (register slot.now r)) }
+{
+    word_of(slot, r).bits().cast_signed()
+}
+
 pub(crate) fn lea_by(slot: &mut Slot, rd: Reg, ra: Reg, rb: Reg) -> Entered
     requires { slot.old.turns < 2 ^ 62 }
     ensures { (split : Bool) → EndsAlone (effect split (Instr.Lea rd ra rb) slot.old Fine) slot.old slot.new result }
 {
-    let by = word_of(slot, rb).bits().cast_signed();
+    let by = signed_word_of(slot, rb);
     match pointer_of(slot, ra) {
         Ok(p) => sets_pointer(slot, rd, lea(p, by)),
         Err(cause) => Err(cause),
@@ -186,7 +195,7 @@ pub(crate) fn leab_by(slot: &mut Slot, rd: Reg, ra: Reg, rb: Reg) -> Entered
     requires { slot.old.turns < 2 ^ 62 }
     ensures { (split : Bool) → EndsAlone (effect split (Instr.Leab rd ra rb) slot.old Fine) slot.old slot.new result }
 {
-    let by = word_of(slot, rb).bits().cast_signed();
+    let by = signed_word_of(slot, rb);
     match pointer_of(slot, ra) {
         Ok(p) => sets_pointer(slot, rd, leab(p, by)),
         Err(cause) => Err(cause),

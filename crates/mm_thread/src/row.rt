@@ -8,20 +8,20 @@ use std::marker::Model;
 
 /// A slot, and the events that it has still to handle.
 #[derive(Drop)]
-pub(crate) struct Row {
+pub(crate) struct ThreadRow {
     pub(crate) slot: Slot,
     pub(crate) queue: Queue,
 }
 
-impl Model for Row {
-    ghost use Rattle.mm_model.specs.State.{Row as RowValue};
+impl Model for ThreadRow {
+    ghost use Rattle.mm_model.specs.State.{ThreadRow as RowValue};
 
     ghost Value = { RowValue };
 
     ghost view = { λ r. record { slot = r.slot; queue = r.queue } };
 }
 
-impl Row {
+impl ThreadRow {
     /// The number of its slot.
     pub(crate) fn number(&self) -> u8
         ensures { result ≡ self.now.slot.number }

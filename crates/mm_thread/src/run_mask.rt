@@ -5,7 +5,7 @@ ghost use Rattle.std.specs.Int.{bit_at};
 ghost use Rattle.mm_thread.specs.Tables.{AreNumbered, HasRunners, IsNoted};
 
 use crate::item::is_running;
-use crate::row::Row;
+use crate::row::ThreadRow;
 use mm_model::Slot;
 
 /// The set after a change of a slot: its bit is set if it runs, and otherwise clear.
@@ -45,7 +45,7 @@ fn without(runners: u64, slot: &Slot) -> u64
 }
 
 /// The set of the running slots of rows.
-pub(crate) fn runners_of(rows: &[Row]) -> u64
+pub(crate) fn runners_of(rows: &[ThreadRow]) -> u64
     requires { AreNumbered rows.now }
     ensures { HasRunners rows.now result }
 {

@@ -6,7 +6,7 @@ ghost use Rattle.mm_model.specs.Uses.{Use, accesses, TakesUses};
 ghost use Rattle.mm_model.specs.Operands.{lacks};
 ghost use Rattle.mm_model.specs.Turn.{issued, fetched, started, instr_in, core_faulted, event_of, tick_faulted};
 ghost use Rattle.mm_thread.specs.Places.{slot_in};
-ghost use Rattle.mm_thread.specs.Execution.{CanTurn, CanEnd, Gives, core_ended, step_ended};
+ghost use Rattle.mm_thread.specs.Execution.{CanTurn, CanEnd, TakesTurn, core_ended, step_ended};
 
 use crate::execute::execute;
 use crate::fault::fault;
@@ -22,7 +22,7 @@ use mm_word::{Access, Cause, Kind, Word, check};
 pub(crate) fn start<M: Memory>(tables: &mut Tables, place: usize, mem: &mut M, step: &mut Step)
     requires can { CanTurn tables.old place }
     requires room { M.uses mem.old < 2 ^ 61 }
-    ensures { Gives M.meaning M.uses M.stands (started tables.old (M.meaning mem.old) (slot_in tables.old place))
+    ensures { TakesTurn M.meaning M.uses M.stands (started tables.old (M.meaning mem.old) (slot_in tables.old place))
         mem.old mem.new tables.new step.new }
 {
     let slot = tables.slot(place);
@@ -68,7 +68,7 @@ fn fetch<M: Memory>(tables: &mut Tables, place: usize, mem: &mut M, access: Acce
     requires can { CanTurn tables.old place }
     requires room { M.uses mem.old < 2 ^ 61 }
     requires kind { access.kind ≡ Kind.Fetch }
-    ensures { Gives M.meaning M.uses M.stands
+    ensures { TakesTurn M.meaning M.uses M.stands
         (fetched tables.old (M.meaning mem.old) (slot_in tables.old place) access
         (cell_at (M.meaning mem.old) access.addr)) mem.old mem.new tables.new step.new }
 {
@@ -105,7 +105,7 @@ fn issue<M: Memory>(
     requires room { M.uses mem.old < 2 ^ 62 }
     ensures { (before : M) (u : Use) → TakesUses M.stands before mem.old (u ∷ []) → M.meaning mem.old ≡ M.meaning before
         → M.uses mem.old ≡ M.uses before + accesses (u ∷ []) →
-        Gives M.meaning M.uses M.stands
+        TakesTurn M.meaning M.uses M.stands
         (issued tables.old (M.meaning before) (slot_in tables.old place) access u instr)
         before mem.new tables.new step.new }
 {

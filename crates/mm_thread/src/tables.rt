@@ -22,7 +22,7 @@ use crate::build::index_of;
 use crate::carry_out::carry_out;
 use crate::group_output::GroupOutput;
 use crate::local_ops::Entered;
-use crate::row::Row;
+use crate::row::ThreadRow;
 use crate::run_mask::{kept, noted, runners_of};
 use crate::slot::{advance, deliver, issue, resume, set_register, sets, stand, take_event};
 use mm_isa::{EvtReg, How, Instr, Reg};
@@ -33,7 +33,7 @@ use std::marker::Model;
 /// The slots by ascending number, each with its queue, the index of each number's slot, and the output of each group.
 #[derive(Drop)]
 pub(crate) struct Tables {
-    rows: Vec<Row>,
+    rows: Vec<ThreadRow>,
     /// For each number the index of its row, and 64 if there is none.
     index: [u8; 64],
     /// The set of running slots: bit n is set exactly if slot n runs.
@@ -57,7 +57,7 @@ impl Model for Tables {
 
 impl Tables {
     /// Tables of these rows, of version 1 and not split.
-    pub(crate) fn new(rows: Vec<Row>, outputs: Vec<GroupOutput>) -> Tables
+    pub(crate) fn new(rows: Vec<ThreadRow>, outputs: Vec<GroupOutput>) -> Tables
         requires apart { AreNumbered rows.items }
         requires few { length rows.items ≤ 64 }
         ensures { result ≡ record { rows = rows.items; outputs = outputs.items; version = 1; split = false } }

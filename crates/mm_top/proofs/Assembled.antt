@@ -3,8 +3,8 @@ use Rattle.std.proofs.Common.{◌≡◌, ℕ, List, [], ◌∷◌, refl, sym, �
 use Rattle.mm_model.specs.Image.{Image}
 use Rattle.mm_object.specs.Objects.{Object}
 use Rattle.mm_link.specs.Linked.{Linked}
-use Rattle.mm_top.specs.Orders.{Issues}
-use Rattle.mm_top.specs.Commands.{report_after}
+use Rattle.mm_top.specs.Orders.{AreIssued}
+use Rattle.mm_model.specs.Report.{report_after}
 use Rattle.mm_top.specs.TextToRun.{AssembleAll, RunsTexts, TextsAreRun}
 use Rattle.mm_load.proofs.KindsOnce.{one_object, one_spelled}
 use Rattle.mm_top.proofs.Once.{same_objects}
@@ -24,7 +24,7 @@ runs_linked objects values i same linked = record {
   linked = linked;
   runs =
       λ tells name cycles schedule lists text (items, issues, is).
-      let P : Image → Type 0 = λ j. Issues j cycles lists items × (text ≡ report_after tells j items) in
+      let P : Image → Type 0 = λ j. AreIssued j cycles lists items × (text ≡ report_after tells j items) in
       let (theirs, report) = subst P linked.image (issues, is) in
       (items, theirs, report);
 }

@@ -13,7 +13,7 @@ use Rattle.mm_load.specs.Kinds.{an_image}
 use Rattle.mm_cli.specs.Table.{Row, Asks}
 use Rattle.mm_log.proofs.Logs.{logs_replay}
 use Rattle.mm_top.specs.Commands.{run, trace, log}
-use Rattle.mm_top.specs.Answers.{Answers, Call, Gives, write}
+use Rattle.mm_top.specs.Answers.{Answers, Call, RowComesTo, write}
 use Rattle.mm_top.specs.Headline.{RunIsProved, TraceIsProved, LogIsProved}
 use Rattle.mm_top.proofs.TracedSections.{traces_isolate}
 use Rattle.mm_top.proofs.LoggedSections.{logs_isolate}
@@ -21,7 +21,7 @@ use Rattle.mm_top.proofs.Verdicts.{done}
 use Rattle.mm_cli.proofs.Rows.{one_row}
 
 run_proved : (tells : List Use → Option Counts) (held : List ℕ → Option (List ℕ)) (left : Option (List ℕ)) (image : List ℕ) (cycles : ℕ) (schedule : Option (List ℕ)) (text : List ℕ)
-    → Gives tells held left (run image cycles schedule) (write text) → RunIsProved tells held image cycles schedule text
+    → RowComesTo tells held left (run image cycles schedule) (write text) → RunIsProved tells held image cycles schedule text
 run_proved tells held left image cycles schedule text (an_image i ∷ lists, accepted, (items, issues, is)) = record {
   i = i;
   lists = lists;
@@ -39,7 +39,7 @@ run_proved tells held left image cycles schedule text ([], accepted, writes) = a
 run_proved tells held left image cycles schedule text (v ∷ lists, accepted, writes) = absurd (assumption (accepted, writes))
 
 trace_proved : (tells : List Use → Option Counts) (held : List ℕ → Option (List ℕ)) (left : Option (List ℕ)) (image : List ℕ) (cycles : ℕ) (schedule : Option (List ℕ)) (text : List ℕ)
-    → Gives tells held left (trace image cycles schedule) (write text) → TraceIsProved tells held image cycles schedule text
+    → RowComesTo tells held left (trace image cycles schedule) (write text) → TraceIsProved tells held image cycles schedule text
 trace_proved tells held left image cycles schedule text (an_image i ∷ lists, accepted, (items, issues, is)) = record {
   i = i;
   lists = lists;
@@ -58,7 +58,7 @@ trace_proved tells held left image cycles schedule text (v ∷ lists, accepted, 
 
 log_proved : (tells : List Use → Option Counts) (held : List ℕ → Option (List ℕ)) (left : Option (List ℕ)) (image : List ℕ)
     (cycles : ℕ) (schedule : Option (List ℕ)) (text : List ℕ)
-    → Gives tells held left (log image cycles schedule) (write text) → LogIsProved tells held image cycles schedule text
+    → RowComesTo tells held left (log image cycles schedule) (write text) → LogIsProved tells held image cycles schedule text
 log_proved tells held left image cycles schedule text (an_image i ∷ lists, accepted, (items, issues, is)) = record {
   i = i;
   lists = lists;
@@ -78,10 +78,10 @@ log_proved tells held left image cycles schedule text (v ∷ lists, accepted, wr
 
 -- the text that is written is what the row of the words comes to
 written : {c : Call} {words : List (List ℕ)} {status : Status} → Answers c words status → status ≡ Done → (row : Row) → Asks words row
-    → (text : List ℕ) × Gives c.tells c.files.held c.input.left row (write text) × (c.out.taken ≡ append_known c.out.taken_before text)
+    → (text : List ℕ) × RowComesTo c.tells c.files.held c.input.left row (write text) × (c.out.taken ≡ append_known c.out.taken_before text)
 written {c = c} {words = words} answers same row asks =
     let (text, comes, took) = done answers same in
-    (text, subst (λ (r : Row). Gives c.tells c.files.held c.input.left r (write text)) (one_row words comes.row row comes.asks asks) comes.gives, took)
+    (text, subst (λ (r : Row). RowComesTo c.tells c.files.held c.input.left r (write text)) (one_row words comes.row row comes.asks asks) comes.gives, took)
 
 pub run_headline : {c : Call} {words : List (List ℕ)} {status : Status} → Answers c words status → status ≡ Done → (image : List ℕ) (cycles : ℕ) (schedule : Option (List ℕ))
     → Asks words (run image cycles schedule)

@@ -7,25 +7,26 @@ use Rattle.mm_machine.specs.declared.machine.Machine.{Machine}
 use Rattle.mm_machine.specs.Machine.{state_of, StandsFor}
 use Rattle.mm_sched.specs.declared.schedule.Order.{Order}
 use Rattle.mm_sched.specs.declared.schedule.Order.TheVariants as order
-use Rattle.mm_sched.specs.Orders.{items_of}
+use Rattle.mm_sched.specs.Orders.{items_of, items_from, last_from}
 use Rattle.mm_model.specs.Spelling.{IsImage}
 use Rattle.mm_machine.specs.Snapshot.{Parts, IsSnapshotOf}
 use Rattle.mm_checkpoint.specs.Checkpoints.{saved_of, spelling}
 use Rattle.mm_checkpoint.proofs.Forms.{have_forms}
 use Rattle.mm_machine.specs.Going.{WentOn}
 use Rattle.mm_load.specs.Kinds.{values_of}
-use Rattle.mm_top.specs.Saving.{items_behind, last_behind, last_issued, saved_after, Further}
+use Rattle.mm_top.specs.Saving.{last_issued, saved_after}
+use Rattle.mm_top.specs.Orders.{AreIssuedFrom}
 use Rattle.mm_top.proofs.Reported.{start_state}
 use Rattle.mm_machine.proofs.Rounds.{robin_length, first_length}
 use Rattle.mm_machine.proofs.Went.{went_from_start}
 
 -- behind no slot an order issues its items from the start on
-pub items_from_start : (o : Order) (s : State) (count : ℕ) → items_behind o s None count ≡ items_of o s count
+pub items_from_start : (o : Order) (s : State) (count : ℕ) → items_from o s None count ≡ items_of o s count
 items_from_start order.Robin s count = refl
 items_from_start (order.List list) s count = refl
 
 -- and its last slot is the one that is saved
-pub last_from_start : (o : Order) (items : List ℕ) → last_behind o None items ≡ last_issued (values_of o) items
+pub last_from_start : (o : Order) (items : List ℕ) → last_from o None items ≡ last_issued (values_of o) items
 last_from_start order.Robin items = refl
 last_from_start (order.List list) items = refl
 
@@ -34,28 +35,28 @@ few_items order.Robin s count = robin_length s None count
 few_items (order.List list) s count = first_length list count
 
 -- the further items of a run are those of its order
-pub further : (o : Order) (s : State) (last : Option ℕ) (count : ℕ) → Further s last count (values_of o) (items_behind o s last count)
+pub further : (o : Order) (s : State) (last : Option ℕ) (count : ℕ) → AreIssuedFrom s last count (values_of o) (items_from o s last count)
 further order.Robin s last count = refl
 further (order.List list) s last count = refl
 
 module _ {M : Type 0} {memory : Ghosts M} where
   -- a machine at an image's start that went on with an order's items stands for the run of these
   pub issued_from_start : (i : Image) (o : Order) (count : ℕ) (old new : Machine M memory) → StandsFor i [] old
-      → WentOn old new (items_behind o (state_of old) None count) → StandsFor i (items_of o (start i) count) new
+      → WentOn old new (items_from o (state_of old) None count) → StandsFor i (items_of o (start i) count) new
   issued_from_start i o count old new begun went =
       went_from_start i old new (items_of o (start i) count) begun
       (subst (λ (xs : List ℕ). WentOn old new xs) (items_from_start o (state_of old) count ∙ ap (λ (s : State). items_of o s count) (start_state i old begun)) went)
 
   -- and the slot that it issued last is the one that is saved
   pub last_issued_from_start : (i : Image) (o : Order) (count : ℕ) (old : Machine M memory) → StandsFor i [] old
-      → last_behind o None (items_behind o (state_of old) None count) ≡ last_issued (values_of o) (items_of o (start i) count)
+      → last_from o None (items_from o (state_of old) None count) ≡ last_issued (values_of o) (items_of o (start i) count)
   last_issued_from_start i o count old begun =
-      ap (last_behind o None) (items_from_start o (state_of old) count ∙ ap (λ (s : State). items_of o s count) (start_state i old begun))
+      ap (last_from o None) (items_from_start o (state_of old) count ∙ ap (λ (s : State). items_of o s count) (start_state i old begun))
       ∙ last_from_start o (items_of o (start i) count)
 
   -- the bytes of its checkpoint are those of the run's
   pub saved_from_start : (i : Image) (o : Order) (count : ℕ) (old new : Machine M memory) (p : Parts) (last : Option ℕ) (bytes : List ℕ) → IsImage i → StandsFor i [] old
-      → WentOn old new (items_behind o (state_of old) None count) → last ≡ last_behind o None (items_behind o (state_of old) None count)
+      → WentOn old new (items_from o (state_of old) None count) → last ≡ last_from o None (items_from o (state_of old) None count)
       → IsSnapshotOf (state_of new) p → bytes ≡ spelling (saved_of p last)
       → bytes ≡ saved_after i (items_of o (start i) count) (last_issued (values_of o) (items_of o (start i) count))
   saved_from_start i o count old new p last bytes image begun went issued is spelled =

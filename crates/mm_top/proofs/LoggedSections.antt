@@ -14,7 +14,7 @@ use Rattle.mm_model.specs.Worlds.{Apart}
 use Rattle.mm_laws.specs.Runs.{EndsALine, AreLinesOf, Isolates}
 use Rattle.mm_laws.proofs.WholeRuns.{runs_isolate}
 use Rattle.mm_log.specs.Lines.{Line, line_text, event_text, register_text}
-use Rattle.mm_log.specs.Lines.Line.{Traced, Points, Stands, Holds, Empties, Issues, Queues, Reads, Puts, Maps, Removes, Sets}
+use Rattle.mm_log.specs.Lines.Line.{Traced, Points, Enters, Holds, Empties, Issues, Queues, Reads, Puts, Maps, Removes, Sets}
 use Rattle.mm_log.specs.Log.{log, log_text, text_of}
 use Rattle.mm_top.proofs.TracedSections.{both, step_ends, later}
 
@@ -27,7 +27,7 @@ line_ends (Traced turns step) = step_ends turns step step.tick
 line_ends (Points slot ip true) =
     literal_ends (codes "ip " ++ decimal slot ++ codes " " ++ word_text (Ptr ip)) (codes " past")
 line_ends (Points slot ip false) = inr (codes "ip " ++ decimal slot ++ codes " " ++ word_text (Ptr ip), refl)
-line_ends (Stands slot state) = inr (codes "state " ++ decimal slot ++ codes " " ++ state_text state, refl)
+line_ends (Enters slot state) = inr (codes "state " ++ decimal slot ++ codes " " ++ state_text state, refl)
 line_ends (Holds slot reg word) = inr (register_text slot reg ++ word_text word, refl)
 line_ends (Empties slot reg) = literal_ends (register_text slot reg) (codes "empty")
 line_ends (Issues slot load) =

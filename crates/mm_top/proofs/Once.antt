@@ -25,7 +25,7 @@ use Rattle.mm_cli.specs.declared.table.Command.TheVariants as commands
 use Rattle.mm_cli.specs.Words.{Word, groups_word, number_word, range_word}
 use Rattle.mm_cli.specs.Table.{Row, files_of, input_of}
 use Rattle.mm_top.specs.Commands.{Declines, DeclinesAt, Yields, YieldsAt, LinkRefused, IsLinked}
-use Rattle.mm_top.specs.Answers.{Answers, Call, Gives, HasToRefuse, ToldToRefuse, NothingFails, RefusedUnless, RowEnds, refuse, write, status_of}
+use Rattle.mm_top.specs.Answers.{Answers, Call, RowComesTo, HasToRefuse, ToldToRefuse, NothingFails, RefusedUnless, RowEnds, refuse, write, status_of}
 use Rattle.mm_cli.proofs.Rows.{one_row}
 use Rattle.mm_load.proofs.Told.{inputs_values, inputs_once, told_inputs_refusal, told_inputs_once}
 
@@ -159,13 +159,13 @@ one_refusal : (row : Row) (values : List Value) (r q : Refusal) → Declines row
 one_refusal row values r q one two = one_refusal_at row.command row.words values r q one two
 
 module _ (tells : List Use → Option Counts) (held : List ℕ → Option (List ℕ)) (left : Option (List ℕ)) (row : Row) where
-  refused_once : (r : Refusal) (text : List ℕ) → ToldToRefuse held left row r → Gives tells held left row (write text) → ⊥
+  refused_once : (r : Refusal) (text : List ℕ) → ToldToRefuse held left row r → RowComesTo tells held left row (write text) → ⊥
   refused_once r text (inl refused) (values, accepted, writes) = told_inputs_once held left (files_of row) (input_of row) r values refused accepted
   refused_once r text (inr (told, (values, accepted, declines))) (others, also, writes) =
       let same : others ≡ values = inputs_values held left (files_of row) (input_of row) others values told also accepted in
       not_both tells row values r text declines (subst (λ (vs : List Value). Yields tells row vs text) same writes)
 
-  told_to_one : (r q : Refusal) → ToldToRefuse held left row r → Gives tells held left row (refuse q) → q ≡ r
+  told_to_one : (r q : Refusal) → ToldToRefuse held left row r → RowComesTo tells held left row (refuse q) → q ≡ r
   told_to_one r q (inl one) (inl two) = sym (told_inputs_refusal held left (files_of row) (input_of row) r q one two)
   told_to_one r q (inl one) (inr (values, accepted, declines)) = absurd (told_inputs_once held left (files_of row) (input_of row) r values one accepted)
   told_to_one r q (inr (told, (values, accepted, one))) (inl two) = absurd (inputs_once held left (files_of row) (input_of row) q values told two accepted)
@@ -175,7 +175,7 @@ module _ (tells : List Use → Option Counts) (held : List ℕ → Option (List 
 
 -- 6. So what it comes to is answered.
 
-unrefused : (c : Call) (words : List (List ℕ)) (nothing : NothingFails c words) (r : Refusal) → Gives c.tells c.files.held c.input.left nothing.row (refuse r) → ⊥
+unrefused : (c : Call) (words : List (List ℕ)) (nothing : NothingFails c words) (r : Refusal) → RowComesTo c.tells c.files.held c.input.left nothing.row (refuse r) → ⊥
 unrefused c words nothing r (inl refused) =
     inputs_once c.files.held c.input.left (files_of nothing.row) (input_of nothing.row) r nothing.values nothing.told refused nothing.accepted
 unrefused c words nothing r (inr (others, also, declines)) =

@@ -10,7 +10,7 @@ use Rattle.mm_model.specs.Uses.{Use}
 use Rattle.mm_model.specs.State.{State}
 use Rattle.mm_model.specs.Image.{Image, start}
 use Rattle.mm_model.specs.Run.{run, uses}
-use Rattle.mm_model.specs.Report.{report}
+use Rattle.mm_model.specs.Report.{report, report_after}
 use Rattle.mm_machine.specs.declared.machine.Machine.{Machine}
 use Rattle.mm_machine.specs.Machine.{state_of, StandsTo, StandsFor}
 use Rattle.mm_sched.specs.declared.schedule.Order.{Order}
@@ -22,8 +22,8 @@ use Rattle.mm_load.specs.declared.status.Refusal.{Refusal}
 use Rattle.mm_load.specs.declared.status.Stop.{Stop}
 use Rattle.mm_load.specs.declared.status.Stop.TheVariants as stop
 use Rattle.mm_load.specs.Kinds.{values_of}
-use Rattle.mm_top.specs.Orders.{Issues}
-use Rattle.mm_top.specs.Commands.{report_after, replies_to}
+use Rattle.mm_top.specs.Orders.{AreIssued}
+use Rattle.mm_top.specs.Commands.{replies_to}
 use Rattle.mm_load.specs.Stops.{end_of}
 use Rattle.mm_top.specs.Answers.{Ends, EndsWith, Writing, writing}
 
@@ -56,13 +56,13 @@ module _ {M : Type 0} {memory : Ghosts M} where
       ∙ ap (λ (t : session.Session). (recorded t (session.begun o (start i)) input).text) (nothing_set ∙ ap bare is))
 
 -- the items of an order are those that are to be issued
-pub issued : (o : Order) (i : Image) (cycles : ℕ) → Issues i cycles (values_of o) (items_of o (start i) cycles)
+pub issued : (o : Order) (i : Image) (cycles : ℕ) → AreIssued i cycles (values_of o) (items_of o (start i) cycles)
 issued order.Robin i cycles = refl
 issued (order.List list) i cycles = refl
 
-pub issued_for : (o : Order) (i : Image) {cycles count : ℕ} → cycles ≡ count → Issues i count (values_of o) (items_of o (start i) cycles)
+pub issued_for : (o : Order) (i : Image) {cycles count : ℕ} → cycles ≡ count → AreIssued i count (values_of o) (items_of o (start i) cycles)
 issued_for o i {cycles = cycles} same =
-    subst (λ (n : ℕ). Issues i n (values_of o) (items_of o (start i) cycles)) same (issued o i cycles)
+    subst (λ (n : ℕ). AreIssued i n (values_of o) (items_of o (start i) cycles)) same (issued o i cycles)
 
 -- a text of one kind is one of another
 pub ends_as : (out : Writing) (IsText Other : List ℕ → Type 0) (result : Result (Unit {0}) Stop)

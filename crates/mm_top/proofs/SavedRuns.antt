@@ -2,7 +2,7 @@
 use Rattle.std.proofs.Common.{◌≡◌, ℕ, zero, suc, ◌+◌, ◌<◌, ◌≤◌, Bool, true, false, List, [], ◌∷◌, ◌++◌, length, map, Option, Some, None, refl, sym, ap, ◌∙◌, subst, arith}
 use Rattle.std.specs.Prelude.{IfSome, if◌then◌else◌}
 use Rattle.std.specs.List.{AllByRecursion}
-use Rattle.mm_model.specs.State.{Row, State}
+use Rattle.mm_model.specs.State.{ThreadRow, State}
 use Rattle.mm_model.specs.Image.{Image, start}
 use Rattle.mm_model.specs.Bytes.{IsBytes}
 use Rattle.mm_model.specs.Uses.{Use}
@@ -27,8 +27,8 @@ use Rattle.mm_checkpoint.proofs.GoesOn as whole
 use Rattle.mm_checkpoint.proofs.RobinOn as robin
 use Rattle.mm_cli.specs.declared.table.Kind.TheVariants.{Checkpoint as checkpoint_file}
 use Rattle.mm_load.specs.Kinds.{Value, an_image, a_list, a_checkpoint, Accepts}
-use Rattle.mm_top.specs.Orders.{Issues}
-use Rattle.mm_top.specs.Saving.{last_issued, HasState, Further, Continues}
+use Rattle.mm_top.specs.Orders.{AreIssued, AreIssuedFrom}
+use Rattle.mm_top.specs.Saving.{last_issued, HasState, Continues}
 use Rattle.mm_top.specs.SaveToRun.{IsOneRun, SavesGoOn}
 use Rattle.mm_machine.proofs.Rounds.{robin_length, first_length}
 
@@ -37,10 +37,10 @@ use Rattle.mm_machine.proofs.Rounds.{robin_length, first_length}
 abbrev IsSmall : Option ℕ → Type 0
 IsSmall last = IfSome last (λ n. n < 64)
 
-abbrev HasNumber : Row → Type 0
+abbrev HasNumber : ThreadRow → Type 0
 HasNumber row = row.slot.number < 64
 
-first_small : (passes : ℕ → Bool) (rows : List Row) → AllByRecursion HasNumber rows → IsSmall (first_running passes rows)
+first_small : (passes : ℕ → Bool) (rows : List ThreadRow) → AllByRecursion HasNumber rows → IsSmall (first_running passes rows)
 first_small passes [] h = tt
 first_small passes (row ∷ rows) h = by (is_running row.slot.state) (passes row.slot.number) (first_small passes rows h.1)
   where
@@ -54,11 +54,11 @@ either_small : (one other : Option ℕ) → IsSmall one → IsSmall other → Is
 either_small None other h small = small
 either_small (Some n) other h small = h
 
-next_small : (rows : List Row) (last : Option ℕ) → AllByRecursion HasNumber rows → IsSmall (next_running rows last)
+next_small : (rows : List ThreadRow) (last : Option ℕ) → AllByRecursion HasNumber rows → IsSmall (next_running rows last)
 next_small rows None h = first_small any_number rows h
 next_small rows (Some last) h = either_small _ _ (first_small _ rows h) (first_small any_number rows h)
 
-numbered : (rows : List Row) → AllByRecursion IsSlot (map (λ (row : Row). row.slot) rows) → AllByRecursion HasNumber rows
+numbered : (rows : List ThreadRow) → AllByRecursion IsSlot (map (λ (row : ThreadRow). row.slot) rows) → AllByRecursion HasNumber rows
 numbered [] h = tt
 numbered (row ∷ rows) h = (h.0.number, numbered rows h.1)
 
@@ -104,12 +104,12 @@ module _ (i : Image) (image : IsImage i) (items : List ℕ) (last : Option ℕ) 
       ∙ ap (λ (xs : List ℕ). xs ++ robin_from (run (start i) xs) (last_item None xs) b) first
       ∙ sym (robin.goes_on (start i) None a b)
 
-  module _ (tells : List Use → Option Counts) (a : ℕ) (lists : List Value) (issues : Issues i a lists items) (known : last ≡ last_issued lists items) where
+  module _ (tells : List Use → Option Counts) (a : ℕ) (lists : List Value) (issues : AreIssued i a lists items) (known : last ≡ last_issued lists items) where
     one_run : (b : ℕ) (more : List Value) (text : List ℕ) → Continues tells i checkpoint b more text → IsOneRun tells i a b lists more text
     one_run b more text (s, has, (further, behind, is)) =
         let same : s ≡ there = one_state s has in
         let unlisted : more ≡ [] → further ≡ robin_from there (last_issued lists items) b = λ nothing.
-        subst (λ (ls : List Value). Further s last b ls further) nothing behind ∙ ap (λ (x : State). robin_from x last b) same ∙ ap (λ (x : Option ℕ). robin_from there x b) known in
+        subst (λ (ls : List Value). AreIssuedFrom s last b ls further) nothing behind ∙ ap (λ (x : State). robin_from x last b) same ∙ ap (λ (x : Option ℕ). robin_from there x b) known in
         record {
           items = items;
           further = further;
@@ -118,19 +118,19 @@ module _ (i : Image) (image : IsImage i) (items : List ℕ) (last : Option ℕ) 
               ∙ ap (λ (x : State). report x i (tells (uses there further))) (further_run further);
           unlisted = unlisted;
           robin = λ none nothing.
-              one_robin a b further (subst (λ (ls : List Value). Issues i a ls items) none issues)
+              one_robin a b further (subst (λ (ls : List Value). AreIssued i a ls items) none issues)
               (unlisted nothing ∙ ap (λ (ls : List Value). robin_from there (last_issued ls items) b) none);
-          listed = λ list one. subst (λ (ls : List Value). Further s last b ls further) one behind;
+          listed = λ list one. subst (λ (ls : List Value). AreIssuedFrom s last b ls further) one behind;
         }
 
 -- 3. The law.
 
-issued_few : (i : Image) (a : ℕ) (lists : List Value) (items : List ℕ) → Issues i a lists items → length items ≤ a
+issued_few : (i : Image) (a : ℕ) (lists : List Value) (items : List ℕ) → AreIssued i a lists items → length items ≤ a
 issued_few i a [] items is = subst (λ (xs : List ℕ). length xs ≤ a) (sym is) (robin_length (start i) None a)
 issued_few i a (a_list list ∷ []) items is = subst (λ (xs : List ℕ). length xs ≤ a) (sym is) (first_length list a)
 issued_few i a lists items is = absurd (assumption is)
 
-issued_small : (i : Image) (a : ℕ) (lists : List Value) (items : List ℕ) → IsImage i → Issues i a lists items → IsSmall (last_issued lists items)
+issued_small : (i : Image) (a : ℕ) (lists : List Value) (items : List ℕ) → IsImage i → AreIssued i a lists items → IsSmall (last_issued lists items)
 issued_small i a [] items image is = subst (λ (xs : List ℕ). IsSmall (last_item None xs)) (sym is) (last_small (start i) None a (kept_start i image) tt)
 issued_small i a (list ∷ lists) items image is = tt
 

@@ -25,12 +25,12 @@ pub data Outcome : Type 0 where
 
 -- what a row comes to, given what the memory tells of uses and, if that is known, what the files hold and standard
 -- input has left
-abbrev pub Gives : (List Use → Option Counts) → (List ℕ → Option (List ℕ)) → (left : Option (List ℕ)) → Row → Outcome
+abbrev pub RowComesTo : (List Use → Option Counts) → (List ℕ → Option (List ℕ)) → (left : Option (List ℕ)) → Row → Outcome
     → Type 0
-Gives tells held left row (refuse r) =
+RowComesTo tells held left row (refuse r) =
     InputsRefused held left (files_of row) (input_of row) r
     ⊎ ((values : List Value) × InputsAccepted held left (files_of row) (input_of row) values × Declines row values r)
-Gives tells held left row (write text) = (values : List Value)
+RowComesTo tells held left row (write text) = (values : List Value)
     × InputsAccepted held left (files_of row) (input_of row) values × Yields tells row values text
 
 -- What words come to: they are in a row that has this outcome.
@@ -38,7 +38,7 @@ pub record ComesTo (tells : List Use → Option Counts) (held : List ℕ → Opt
     (words : List (List ℕ)) (outcome : Outcome) : Type 0 where
   pub row : Row
   pub asks : Asks words row
-  pub gives : Gives tells held left row outcome
+  pub gives : RowComesTo tells held left row outcome
 
 -- 2. What a call starts and ends with.
 
@@ -154,9 +154,9 @@ pub record CommandEnds (files : Reading) (out : Writing) (Text : Row → List Va
 -- how the command of a row ends
 abbrev pub RowEnds : Call → Row → Result (Unit {0}) Stop → Type 0
 RowEnds c row result =
-    Ends c.out (λ r. Gives c.tells c.files.held c.input.left row (refuse r))
+    Ends c.out (λ r. RowComesTo c.tells c.files.held c.input.left row (refuse r))
     (InputsFailed c.files c.input (files_of row) (input_of row))
-    (λ text. Gives c.tells c.files.held c.input.left row (write text)) result
+    (λ text. RowComesTo c.tells c.files.held c.input.left row (write text)) result
 
 -- the status at the end of a command
 abbrev pub status_of : Result (Unit {0}) Stop → Status

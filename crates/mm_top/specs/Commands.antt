@@ -1,6 +1,8 @@
 -- What each command comes to, given its words and the values of its inputs.
 use Rattle.std.specs.Prelude.{◌≡◌, ℕ, Bool, true, false, List, [], ◌∷◌, ◌++◌, map, length, take, Option, None, Some}
 use Rattle.mm_model.specs.declared.counts.Counts.{Counts}
+use Rattle.mm_model.specs.declared.word_use.WordUse.{WordUse}
+use Rattle.mm_model.specs.declared.word_use.WordUse.TheVariants.{Touch, Write}
 use Rattle.mm_model.specs.Uses.{Use}
 use Rattle.mm_model.specs.Image as model
 use Rattle.mm_model.specs.Groups.{among}
@@ -21,11 +23,9 @@ use Rattle.mm_sweep.specs.Swept.{swept}
 use Rattle.mm_sweep.specs.Refusals.{CanSweep}
 use Rattle.mm_sweep.specs.Holders as holding
 use Rattle.mm_model.specs.Audit.{IsAudit}
-use Rattle.mm_model.specs.Report.{report}
+use Rattle.mm_model.specs.Report.{report_after}
 use Rattle.mm_audit.specs.Refusals.{StandAlone}
 use Rattle.mm_explore.specs.Texts.{Explores}
-use Rattle.mm_why.specs.declared.uses.Use.{Use as WordUse}
-use Rattle.mm_why.specs.declared.uses.Use.TheVariants.{Touch, Write}
 use Rattle.mm_why.specs.Text.{SaysWhy}
 use Rattle.mm_sched.specs.declared.schedule.Order.{Order}
 use Rattle.mm_debug.specs.Session as session
@@ -46,17 +46,13 @@ use Rattle.mm_load.specs.declared.status.Refusal.TheVariants as refusal
 use Rattle.mm_net.specs.Texts.{net_text}
 use Rattle.mm_load.specs.Kinds.{Value, an_image, a_list, an_object, a_checkpoint, a_links, an_events, a_text}
 use Rattle.mm_load.specs.Kinds.{values_of}
-use Rattle.mm_top.specs.Orders.{Issues}
+use Rattle.mm_top.specs.Orders.{AreIssued}
 use Rattle.mm_top.specs.Groups.{GroupsRefused}
 use Rattle.mm_top.specs.Ranges.{SweepRefused}
 use Rattle.mm_top.specs.Nodes.{NoneLacking, JoinRefused}
 use Rattle.mm_top.specs.Saving.{last_issued, saved_after, Continues}
 
 -- 1. What is written and refused.
-
--- the report of an image's run under these items, with what the memory tells of the run's uses
-abbrev pub report_after : (List Use → Option Counts) → model.Image → List ℕ → List ℕ
-report_after tells i items = report (machine.run (model.start i) items) i (tells (machine.uses (model.start i) items))
 
 -- the report of the groups' own part of a run under a list: the image without the slots of other groups, and the
 -- groups' items among the first `cycles` of the list
@@ -130,12 +126,12 @@ YieldsAloneAt _ _ _ text = ⊥
 -- a command writes a text, given what the memory tells of uses
 abbrev pub YieldsAt : (List Use → Option Counts) → Command → List Word → List Value → List ℕ → Type 0
 YieldsAt tells Run (image ∷ number_word cycles ∷ words) (an_image i ∷ lists) text =
-    (items : List ℕ) × Issues i cycles lists items × (text ≡ report_after tells i items)
+    (items : List ℕ) × AreIssued i cycles lists items × (text ≡ report_after tells i items)
 YieldsAt tells Trace (image ∷ number_word cycles ∷ words) (an_image i ∷ lists) text =
-    (items : List ℕ) × Issues i cycles lists items
+    (items : List ℕ) × AreIssued i cycles lists items
     × (text ≡ lines.trace (model.start i) items ++ report_after tells i items)
 YieldsAt tells Log (image ∷ number_word cycles ∷ words) (an_image i ∷ lists) text =
-    (items : List ℕ) × Issues i cycles lists items
+    (items : List ℕ) × AreIssued i cycles lists items
     × (text ≡ log_text (model.start i) items ++ report_after tells i items)
 YieldsAt tells Solo (image ∷ groups_word groups ∷ number_word cycles ∷ words) (an_image i ∷ a_list list ∷ []) text =
     StandAlone i (among groups) × (text ≡ own_report tells i list cycles (among groups))
@@ -143,7 +139,7 @@ YieldsAt tells Debug words (an_image i ∷ values) text = IsDialogue i values te
 YieldsAt tells Soak (number_word number ∷ number_word size ∷ number_word cycles ∷ []) [] text =
     text ≡ soaked number size cycles
 YieldsAt tells Save (image ∷ number_word cycles ∷ words) (an_image i ∷ lists) text =
-    (items : List ℕ) × Issues i cycles lists items × (text ≡ saved_after i items (last_issued lists items))
+    (items : List ℕ) × AreIssued i cycles lists items × (text ≡ saved_after i items (last_issued lists items))
 YieldsAt tells Continue (image ∷ checkpoint ∷ number_word cycles ∷ words) (an_image i ∷ a_checkpoint c ∷ lists) text =
     Continues tells i c cycles lists text
 YieldsAt tells Net (first ∷ second ∷ number_word cycles ∷ words) (a_links links ∷ an_events events ∷ values) text =

@@ -11,10 +11,11 @@ use Rattle.mm_laws.specs.Runs.{Reaches, Isolates}
 use Rattle.mm_load.specs.Kinds.{Value, an_image}
 use Rattle.mm_load.specs.Files.{FilesAccepted}
 use Rattle.mm_cli.specs.Table.{files_of}
-use Rattle.mm_top.specs.Orders.{Issues}
+use Rattle.mm_top.specs.Orders.{AreIssued}
 use Rattle.mm_log.specs.Log.{log_text}
 use Rattle.mm_log.specs.Laws.{Replays}
-use Rattle.mm_top.specs.Commands.{run, trace, log, report_after}
+use Rattle.mm_top.specs.Commands.{run, trace, log}
+use Rattle.mm_model.specs.Report.{report_after}
 
 -- What a `run` that is done did.
 pub record RunIsProved (tells : List Use → Option Counts) (held : List ℕ → Option (List ℕ)) (image : List ℕ)
@@ -24,7 +25,7 @@ pub record RunIsProved (tells : List Use → Option Counts) (held : List ℕ →
   pub lists : List Value
   pub items : List ℕ
   pub reads : FilesAccepted held [] (files_of (run image cycles schedule)) (an_image i ∷ lists)
-  pub issues : Issues i cycles lists items
+  pub issues : AreIssued i cycles lists items
   -- The text is the report of the flat machine.
   pub writes : written ≡ report_after tells i items
   -- Every word that a thread touches lies in a segment that is granted to its group. What an enter pointer leads to is
@@ -41,7 +42,7 @@ pub record TraceIsProved (tells : List Use → Option Counts) (held : List ℕ �
   pub lists : List Value
   pub items : List ℕ
   pub reads : FilesAccepted held [] (files_of (trace image cycles schedule)) (an_image i ∷ lists)
-  pub issues : Issues i cycles lists items
+  pub issues : AreIssued i cycles lists items
   -- The text is the line of each turn, with what the turn touched and entered, and then the report.
   pub writes : written ≡ trace_of (start i) items ++ report_after tells i items
   -- Every word that a thread touches lies in a segment that is granted to its group, as for `run`.
@@ -56,7 +57,7 @@ pub record LogIsProved (tells : List Use → Option Counts) (held : List ℕ →
   pub lists : List Value
   pub items : List ℕ
   pub reads : FilesAccepted held [] (files_of (log image cycles schedule)) (an_image i ∷ lists)
-  pub issues : Issues i cycles lists items
+  pub issues : AreIssued i cycles lists items
   -- The text is the line of each turn, each followed by the lines of all that the turn changed, and then the report.
   pub writes : written ≡ log_text (start i) items ++ report_after tells i items
   -- The lines up to any cycle, carried out from the machine's start, make the state that the run has then, except for

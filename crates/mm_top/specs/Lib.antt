@@ -10,3 +10,4 @@ pub mod Headline
 pub mod Memories
 pub mod TextToRun
 pub mod SaveToRun
+pub mod Stops

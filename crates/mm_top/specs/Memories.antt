@@ -5,8 +5,7 @@ use Rattle.mm_model.specs.Uses.{Use}
 use Rattle.mm_model.specs.Counted.{counts_of}
 use Rattle.mm_model.specs.Image.{Image, start}
 use Rattle.mm_model.specs.Run.{uses}
-use Rattle.mm_model.specs.Report.{count_line}
-use Rattle.mm_top.specs.Commands.{report_after}
+use Rattle.mm_model.specs.Report.{count_line, report_after}
 
 -- for every list of items, the report over the one memory is the report over the other, followed by the count line of
 -- the run's uses. The items of every order and number of cycles are such a list

@@ -1,13 +1,18 @@
--- The files that an order comes from, and the items that are issued.
-use Rattle.std.specs.Prelude.{◌≡◌, ℕ, List, [], ◌∷◌, None}
+-- The items that are issued, given the schedule's file, if there is one.
+use Rattle.std.specs.Prelude.{◌≡◌, ℕ, List, [], ◌∷◌, Option, None}
 use Rattle.mm_model.specs.Image.{Image, start}
+use Rattle.mm_model.specs.State.{State}
 use Rattle.mm_model.specs.Run.{robin_from}
 use Rattle.mm_model.specs.Schedule.{first_items}
 use Rattle.mm_load.specs.Kinds.{Value, a_list}
 
--- the items that are issued: up to `cycles` cycles of round robin or, if there is a list, its first `cycles` items, or
--- all if the list has fewer
-abbrev pub Issues : Image → ℕ → (lists : List Value) → List ℕ → Type 0
-Issues i cycles [] items = items ≡ robin_from (start i) None cycles
-Issues i cycles (a_list list ∷ []) items = items ≡ first_items list cycles
-Issues i cycles _ items = ⊥
+-- the items that are issued from a state on: up to `cycles` cycles of round robin, after the slot that it issued last;
+-- or the first `cycles` items of a list, or all if the list has fewer
+abbrev pub AreIssuedFrom : State → (last : Option ℕ) → (cycles : ℕ) → (lists : List Value) → List ℕ → Type 0
+AreIssuedFrom s last cycles [] items = items ≡ robin_from s last cycles
+AreIssuedFrom s last cycles (a_list list ∷ []) items = items ≡ first_items list cycles
+AreIssuedFrom s last cycles _ items = ⊥
+
+-- the items that are issued from an image's start on
+abbrev pub AreIssued : Image → (cycles : ℕ) → (lists : List Value) → List ℕ → Type 0
+AreIssued i cycles lists items = AreIssuedFrom (start i) None cycles lists items

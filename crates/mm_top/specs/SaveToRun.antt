@@ -11,7 +11,7 @@ use Rattle.mm_model.specs.Spelling.{IsImage}
 use Rattle.mm_checkpoint.specs.Checkpoints.{Saved}
 use Rattle.mm_cli.specs.declared.table.Kind.TheVariants.{Checkpoint as checkpoint_file}
 use Rattle.mm_load.specs.Kinds.{Value, an_image, a_list, a_checkpoint, limit_of, Accepts}
-use Rattle.mm_top.specs.Orders.{Issues}
+use Rattle.mm_top.specs.Orders.{AreIssued}
 use Rattle.mm_top.specs.Saving.{last_issued}
 use Rattle.mm_top.specs.Commands.{save, continue, Yields}
 
@@ -21,7 +21,7 @@ pub record IsOneRun (tells : List Use → Option Counts) (i : Image) (a b : ℕ)
   -- the items that were issued before the save, and the items after it
   pub items : List ℕ
   pub further : List ℕ
-  pub issues : Issues i a lists items
+  pub issues : AreIssued i a lists items
   -- The text is the report of the image's run under both, with the counts of the second part's uses alone.
   pub whole : text ≡ report (run (start i) (items ++ further)) i (tells (uses (run (start i) items) further))
   -- If the second part has no schedule, it is round robin from the saved state, after the slot that round robin issued

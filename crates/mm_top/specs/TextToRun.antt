@@ -8,8 +8,9 @@ use Rattle.mm_link.specs.Linked.{Linked, image_of}
 use Rattle.mm_cli.specs.declared.table.Kind.TheVariants.{Source as source_file, Object as object_file}
 use Rattle.mm_cli.specs.declared.table.Kind.TheVariants.{Image as image_file}
 use Rattle.mm_load.specs.Kinds.{Value, an_image, an_object, Accepts}
-use Rattle.mm_top.specs.Commands.{asm, link, run, Yields, YieldsAlone, report_after}
-use Rattle.mm_top.specs.Orders.{Issues}
+use Rattle.mm_top.specs.Commands.{asm, link, run, Yields, YieldsAlone}
+use Rattle.mm_model.specs.Report.{report_after}
+use Rattle.mm_top.specs.Orders.{AreIssued}
 
 -- The text means an object, `asm` wrote a file of it, and a value is read from the file.
 pub record Assembles (text : List ℕ) (o : Object) (file : List ℕ) (v : Object) : Type 0 where
@@ -37,7 +38,7 @@ pub record RunsTexts (objects values : List Object) (i : Image) : Type 0 where
   pub runs : (tells : List Use → Option Counts) (name : List ℕ) (cycles : ℕ) (schedule : Option (List ℕ))
       (lists : List Value) (text : List ℕ)
       → Yields tells (run name cycles schedule) (an_image i ∷ lists) text
-      → (items : List ℕ) × Issues (image_of objects) cycles lists items
+      → (items : List ℕ) × AreIssued (image_of objects) cycles lists items
       × (text ≡ report_after tells (image_of objects) items)
 
 -- if texts mean objects, and `link` writes an image from the files that `asm` wrote of the texts, the image that is

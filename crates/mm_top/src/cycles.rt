@@ -3,7 +3,7 @@
 ghost use Rattle.std.specs.Prelude.{◌≡◌, ◌+◌, ◌<◌, ◌≤◌, ◌^◌, IfSome};
 ghost use Rattle.mm_machine.specs.Machine.{state_of};
 ghost use Rattle.mm_machine.specs.Going.{WentOn};
-ghost use Rattle.mm_top.specs.Saving.{items_behind, last_behind};
+ghost use Rattle.mm_sched.specs.Orders.{items_from, last_from};
 
 use mm_machine::Machine;
 use mm_mem::Memory;
@@ -19,8 +19,8 @@ pub fn issue<M: Memory>(
 ) -> Option<u8>
     requires few { (state_of machine.old).cycles + count ≤ 2 ^ 32 }
     requires slot { IfSome after (λ n. n < 64) }
-    ensures goes { WentOn machine.old machine.new (items_behind order.now (state_of machine.old) after count) }
-    ensures last { result ≡ last_behind order.now after (items_behind order.now (state_of machine.old) after count) }
+    ensures goes { WentOn machine.old machine.new (items_from order.now (state_of machine.old) after count) }
+    ensures last { result ≡ last_from order.now after (items_from order.now (state_of machine.old) after count) }
     ensures slot { IfSome result (λ n. n < 64) }
 {
     match order {

@@ -8,9 +8,11 @@ ghost use Rattle.mm_cli.specs.Said.{row};
 ghost use Rattle.mm_top.specs.Commands.{IsExtract, YieldsAlone};
 ghost use Rattle.mm_top.specs.Answers.{CommandEnds, Ends, writing};
 
+use crate::images::write_image;
+use crate::stops::stop_of_extract;
 use mm_cli::{Command, Word, groups_at, name_at};
 use mm_image::Image;
-use mm_io::{Files, Sink, write_all};
+use mm_io::{Files, Sink};
 use mm_load::{Stop, load_image};
 use std::alloc::Global;
 
@@ -38,8 +40,8 @@ fn write_extract<O: Sink>(
     ensures { Ends (writing O.taken O.faults out.old out.new) (GroupsRefused image.now (among groups.now)) ⊥
         (λ text. StandAlone image.now (among groups.now) × IsExtract image.now (among groups.now) text) result }
 {
-    let own = mm_audit::extract(alloc, image, groups)?;
-    let bytes = mm_image::write(alloc, &own)?;
-    write_all(out, bytes.as_slice())?;
-    Ok(())
+    match mm_audit::extract(alloc, image, groups) {
+        Ok(own) => write_image(alloc, &own, out),
+        Err(error) => Err(stop_of_extract(error)),
+    }
 }

@@ -7,8 +7,9 @@ ghost use Rattle.mm_cli.specs.Said.{AreOf, row};
 ghost use Rattle.mm_top.specs.Commands.{YieldsAlone};
 ghost use Rattle.mm_top.specs.Answers.{EndsWith, writing};
 
+use crate::images::write_image;
 use mm_cli::{Command, Word, number_at};
-use mm_io::{Sink, write_all};
+use mm_io::Sink;
 use mm_load::Stop;
 use std::alloc::Global;
 
@@ -27,7 +28,5 @@ fn write_generated<O: Sink>(alloc: Global, number: u64, size: u8, out: &mut O) -
     ensures { EndsWith (writing O.taken O.faults out.old out.new) (λ text. Spells text (generated number size)) result }
 {
     let image = mm_gen::image(alloc, number, size)?;
-    let bytes = mm_image::write(alloc, &image)?;
-    write_all(out, bytes.as_slice())?;
-    Ok(())
+    write_image(alloc, &image, out)
 }

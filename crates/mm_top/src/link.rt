@@ -6,8 +6,9 @@ ghost use Rattle.mm_cli.specs.Said.{AreOf, row};
 ghost use Rattle.mm_top.specs.Commands.{IsLinked, LinkRefused, YieldsAlone};
 ghost use Rattle.mm_top.specs.Answers.{CommandEnds, Ends, writing};
 
+use crate::images::write_image;
 use mm_cli::{Command, Word, names_at};
-use mm_io::{Files, Sink, write_all};
+use mm_io::{Files, Sink};
 use mm_load::{Stop, load_objects};
 use mm_object::Object;
 use std::alloc::Global;
@@ -35,7 +36,5 @@ fn write_linked<O: Sink>(alloc: Global, objects: &[Object], out: &mut O) -> Resu
         result }
 {
     let image = mm_link::link(alloc, objects)?;
-    let bytes = mm_image::write(alloc, &image)?;
-    write_all(out, bytes.as_slice())?;
-    Ok(())
+    write_image(alloc, &image, out)
 }

@@ -8,9 +8,10 @@ ghost use Rattle.mm_cli.specs.Said.{row};
 ghost use Rattle.mm_top.specs.Commands.{YieldsAlone};
 ghost use Rattle.mm_top.specs.Answers.{CommandEnds, EndsWith, writing};
 
+use crate::images::write_image;
 use mm_cli::{Command, Word, mode_at, name_at};
 use mm_image::Image;
-use mm_io::{Files, Sink, write_all};
+use mm_io::{Files, Sink};
 use mm_load::{Stop, load_image};
 use mm_model::{Page, Slot};
 use mm_word::NoMemory;
@@ -41,9 +42,7 @@ fn write_migrated<O: Sink>(
         result }
 {
     let image = as_version_2(alloc, image, split)?;
-    let bytes = mm_image::write(alloc, &image)?;
-    write_all(out, bytes.as_slice())?;
-    Ok(())
+    write_image(alloc, &image, out)
 }
 
 /// The image as version 2 in a mode.

@@ -5,7 +5,7 @@ ghost use Rattle.mm_cli.specs.Said.{AreOf, number_of, row};
 ghost use Rattle.mm_cli.specs.Table.{files_of};
 ghost use Rattle.mm_load.specs.Files.{FilesRead, reading};
 ghost use Rattle.mm_load.specs.Kinds.{an_image, values_of};
-ghost use Rattle.mm_top.specs.Orders.{Issues};
+ghost use Rattle.mm_top.specs.Orders.{AreIssued};
 ghost use Rattle.mm_top.specs.Plans.{items_planned};
 
 use mm_cli::{Command, Word, name_at, name_perhaps_at, number_at};
@@ -29,7 +29,7 @@ pub fn load_plan<F: Files>(alloc: Global, words: &[Word<'_>], files: &mut F) -> 
     ensures read { FilesRead (reading F.held F.faults F.asked files.old files.new) []
         (files_of (row Command.Run words.now)) (λ p. an_image p.image ∷ values_of p.order) result }
     ensures few { IfOk result (λ p. p.cycles ≤ 1000000) }
-    ensures issues { IfOk result (λ p. Issues p.image (number_of (slice_get words.now 1)) (values_of p.order)
+    ensures issues { IfOk result (λ p. AreIssued p.image (number_of (slice_get words.now 1)) (values_of p.order)
         (items_planned p)) }
 {
     let image = load_image(alloc, files, name_at(words, 0), 1)?;

@@ -4,7 +4,8 @@ ghost use Rattle.std.specs.Prelude.{◌≡◌, ◌≤◌};
 ghost use Rattle.mm_load.specs.Files.{reading};
 ghost use Rattle.mm_cli.specs.Said.{AreOf, row};
 ghost use Rattle.mm_top.specs.Plans.{items_planned};
-ghost use Rattle.mm_top.specs.Commands.{report_after, Yields};
+ghost use Rattle.mm_top.specs.Commands.{Yields};
+ghost use Rattle.mm_model.specs.Report.{report_after};
 ghost use Rattle.mm_top.specs.Answers.{CommandEnds, EndsWith, writing};
 
 use crate::boot::boot;

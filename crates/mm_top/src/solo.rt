@@ -11,6 +11,7 @@ ghost use Rattle.mm_top.specs.Answers.{CommandEnds, Ends, writing};
 
 use crate::boot::boot;
 use crate::members::members;
+use crate::stops::stop_of_extract;
 use mm_audit::alone;
 use mm_cli::{Command, Word, groups_at, name_at, number_at};
 use mm_image::Image;
@@ -57,7 +58,10 @@ fn write_solo<M: Boot, O: Sink>(
         (λ text. StandAlone image (among groups.now)
         × (text ≡ own_report M.tells image list.now cycles (among groups.now))) result }
 {
-    let own = alone(alloc, &image, groups)?;
+    let own = match alone(alloc, &image, groups) {
+        Ok(own) => own,
+        Err(error) => return Err(stop_of_extract(error)),
+    };
     let items = only(alloc, list, cycles, members(&own).as_slice())?;
     let mut machine: Machine<M> = boot(alloc, &own)?;
     machine.follow(items.items());

@@ -10,9 +10,11 @@ ghost use Rattle.mm_cli.specs.Said.{AreOf, row};
 ghost use Rattle.mm_top.specs.Commands.{YieldsAlone};
 ghost use Rattle.mm_top.specs.Answers.{CommandEnds, Ends, writing};
 
+use crate::images::write_image;
+use crate::stops::stop_of_sweep;
 use mm_cli::{Command, Word, name_at, range_at};
 use mm_image::Image;
-use mm_io::{Files, Sink, write_all};
+use mm_io::{Files, Sink};
 use mm_load::{Stop, load_image};
 use std::alloc::Global;
 
@@ -44,8 +46,8 @@ fn write_swept<O: Sink>(
     ensures { Ends (writing O.taken O.faults out.old out.new) (SweepRefused (base, log) image.now) ⊥
         (λ text. CanSweep (base, log) image.now × Spells text (swept (base, log) image.now)) result }
 {
-    let swept = mm_sweep::sweep(alloc, image, base, log)?;
-    let bytes = mm_image::write(alloc, &swept)?;
-    write_all(out, bytes.as_slice())?;
-    Ok(())
+    match mm_sweep::sweep(alloc, image, base, log) {
+        Ok(swept) => write_image(alloc, &swept, out),
+        Err(error) => Err(stop_of_sweep(error)),
+    }
 }

@@ -6,7 +6,7 @@ ghost use Rattle.mm_text.specs.Gathers.{Gathers};
 ghost use Rattle.mm_model.specs.Image.{Image as ImageValue, start};
 ghost use Rattle.mm_machine.specs.Machine.{state_of, StandsFor};
 ghost use Rattle.mm_sched.specs.Orders.{items_of};
-ghost use Rattle.mm_top.specs.Commands.{report_after};
+ghost use Rattle.mm_model.specs.Report.{report_after};
 ghost use Rattle.mm_top.specs.Plans.{items_planned, told_of};
 ghost use Rattle.mm_top.specs.Answers.{EndsWith, writing};
 

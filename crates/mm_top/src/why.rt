@@ -13,7 +13,8 @@ use mm_cli::{Command, Word, name_at, number_at, use_at};
 use mm_image::Image;
 use mm_io::{Files, Sink};
 use mm_load::{Stop, ended, load_image};
-use mm_why::{Use, write_why};
+use mm_model::WordUse;
+use mm_why::write_why;
 use std::alloc::Global;
 
 /// `why IMAGE GROUP ADDRESS KIND`
@@ -34,10 +35,14 @@ pub fn why<F: Files, O: Sink>(
 }
 
 /// The use that a word of the command says.
-fn use_of(write: bool) -> Use
+fn use_of(write: bool) -> WordUse
     ensures { result ≡ use_said write }
 {
-    if write { Use::Write } else { Use::Touch }
+    if write {
+        WordUse::Write
+    } else {
+        WordUse::Touch
+    }
 }
 
 /// Writes by what way a group is granted a use of the word at an address.
@@ -46,7 +51,7 @@ fn write_reason<O: Sink>(
     image: &Image,
     group: u8,
     word: u64,
-    how: Use,
+    how: WordUse,
     out: &mut O,
 ) -> Result<(), Stop>
     requires few { group < 64 }

@@ -38,10 +38,10 @@ use Rattle.mm_graph.proofs.Segments.{below-loads, below-stores}
 use Rattle.mm_graph.proofs.Summaries.{whole_covers}
 use Rattle.mm_why.specs.declared.line.Line.{Line}
 use Rattle.mm_why.specs.declared.rounds.Rounds.{Rounds}
-use Rattle.mm_why.specs.declared.uses.Use.{Use}
-use Rattle.mm_why.specs.declared.uses.Use.TheVariants as uses
+use Rattle.mm_model.specs.declared.word_use.WordUse.{WordUse}
+use Rattle.mm_model.specs.declared.word_use.WordUse.TheVariants as uses
 use Rattle.mm_why.specs.declared.uses.Owner.{Owner}
-use Rattle.mm_why.specs.Derivations.{line_at, Says, EachFollows, NoneTwice, IsDerivation, Gives, IsGranted, Derives}
+use Rattle.mm_why.specs.Derivations.{line_at, Says, EachFollows, NoneTwice, IsDerivation, Allows, IsGranted, Derives}
 use Rattle.mm_why.specs.Traces.{IsTrace}
 use Rattle.mm_why.specs.Rounds.{AreRounds, round_at}
 use Rattle.mm_why.specs.Graphs.{IsGraph, edges_of}
@@ -71,7 +71,7 @@ then_and : (a b : Bool) → a ≡ true → b ≡ true → (a && b) ≡ true
 then_and true b h k = k
 then_and false b h k = absurd (let bad = h in cc)
 
-pub can_then : (how : Use) (p : Pointer) (w : ℕ) → can_use how p w ≡ true → CanUse how p w
+pub can_then : (how : WordUse) (p : Pointer) (w : ℕ) → can_use how p w ≡ true → CanUse how p w
 can_then how p w h = let x = and_then (allows p.perm (asked how)) (holds_word p w) h in (x.0, holds_word-Covers p w x.1)
 
 loads_test : (p : Pointer) (w : ℕ) → LoadsAt p w → can_use uses.Touch p w ≡ true
@@ -80,22 +80,22 @@ loads_test p w l = then_and (allows p.perm (asked uses.Touch)) (holds_word p w) 
 stores_test : (p : Pointer) (w : ℕ) → StoresAt p w → can_use uses.Write p w ≡ true
 stores_test p w s = then_and (allows p.perm (asked uses.Write)) (holds_word p w) s.right (covers_test p w s.covers)
 
-gives_use : (how : Use) (p : Pointer) (w : ℕ) → w % 8 ≡ 0 → CanUse how p w → Gives how p w
+gives_use : (how : WordUse) (p : Pointer) (w : ℕ) → w % 8 ≡ 0 → CanUse how p w → Allows how p w
 gives_use uses.Touch p w word can = record { word = word; right = can.0; covers = can.1 }
 gives_use uses.Write p w word can = record { word = word; right = can.0; covers = can.1 }
 
 -- what a pointer can be used for, a pointer that it is below can be too
-below_use : (how : Use) (p q : Pointer) (w : ℕ) → w % 8 ≡ 0 → IsBelow q p → CanUse how q w → CanUse how p w
+below_use : (how : WordUse) (p q : Pointer) (w : ℕ) → w % 8 ≡ 0 → IsBelow q p → CanUse how q w → CanUse how p w
 below_use uses.Touch p q w word below can = let l = below-loads p q w below (record { word = word; right = can.0; covers = can.1 }) in (l.right, l.covers)
 below_use uses.Write p q w word below can = let l = below-stores p q w below (record { word = word; right = can.0; covers = can.1 }) in (l.right, l.covers)
 
-whole_gives : (how : Use) (w : ℕ) → w % 8 ≡ 0 → w < 2 ^ 54 → Gives how whole_pointer w
+whole_gives : (how : WordUse) (w : ℕ) → w % 8 ≡ 0 → w < 2 ^ 54 → Allows how whole_pointer w
 whole_gives uses.Touch w word small = record { word = word; right = refl; covers = whole_covers w word small }
 whole_gives uses.Write w word small = record { word = word; right = refl; covers = whole_covers w word small }
 
 -- 2. An owner's line.
 
-module _ (i : Image) (g : Graph) (graph : IsGraph i g) (lines : List Line) (owner : ℕ) (places : List (Option ℕ)) (s : IsSearched g lines owner places) (how : Use) (w : ℕ) (word : w % 8 ≡ 0) where
+module _ (i : Image) (g : Graph) (graph : IsGraph i g) (lines : List Line) (owner : ℕ) (places : List (Option ℕ)) (s : IsSearched g lines owner places) (how : WordUse) (w : ℕ) (word : w % 8 ≡ 0) where
   pub usable_gives : (t : ℕ) → IsUsable lines places how w (length places) t → GivesAt lines t owner how w
   usable_gives t u =
       let p = s.placed u.node t u.at in
@@ -117,15 +117,15 @@ module _ (i : Image) (g : Graph) (graph : IsGraph i g) (lines : List Line) (owne
   only_maker none (inl x) = absurd (never_by_pointer none x)
   only_maker none (inr x) = x
 
-pub whole_line : (lines : List Line) (k owner : ℕ) (how : Use) (w : ℕ) → w % 8 ≡ 0 → w < 2 ^ 54 → Says lines (length lines) k owner whole_pointer → GivesAt lines k owner how w
+pub whole_line : (lines : List Line) (k owner : ℕ) (how : WordUse) (w : ℕ) → w % 8 ≡ 0 → w < 2 ^ 54 → Says lines (length lines) k owner whole_pointer → GivesAt lines k owner how w
 whole_line lines k owner how w word small says = record {
   small = says.earlier;
   group_is = says.group;
-  gives = subst (λ v. Gives how v w) (sym says.pointer) (whole_gives how w word small);
+  gives = subst (λ v. Allows how v w) (sym says.pointer) (whole_gives how w word small);
 }
 
 -- the last line of a trace, if only the lines that it needs are kept
-pub derives : (i : Image) (how : Use) (group w : ℕ) (lines out : List Line) (last : ℕ) (p : Pointer) → IsTrace i lines → Says lines (length lines) last group p → Gives how p w
+pub derives : (i : Image) (how : WordUse) (group w : ℕ) (lines out : List Line) (last : ℕ) (p : Pointer) → IsTrace i lines → Says lines (length lines) last group p → Allows how p w
     → (EachFollows i lines → NoneTwice lines → IsDerivation i out) → Says out (length out) (length out - 1) (line_at lines last).group (line_at lines last).pointer → Derives i how group w out
 derives i how group w lines out last p trace says gives pruned end = record {
   derivation = pruned trace.follows trace.none_twice;
@@ -408,7 +408,7 @@ module _ (i : Image) (g : Graph) (h : IsGraph i g) where
 
       -- 8. What owners decide.
 
-      module _ (owners : ℕ) (how : Use) (w t : ℕ)
+      module _ (owners : ℕ) (how : WordUse) (w t : ℕ)
           (are : (o : ℕ) → (bit_at owners o ≡ 1)
           ↔ (HasSome marks (λ k. can_use how (node_pointer g.keys.items k) w) o ⊎ HasSome marks (right_at g.nodes.items Make) o)) where
         owns : (o : ℕ) → HasSome marks (λ k. can_use how (node_pointer g.keys.items k) w) o ⊎ HasSome marks (right_at g.nodes.items Make) o → Owns g o how w
@@ -448,7 +448,7 @@ module _ (i : Image) (g : Graph) (h : IsGraph i g) where
       write_not owners w t are none (inl x) = never_maker owners uses.Write w t are none x
       write_not owners w t are none (inr x) = never_known owners uses.Write w t are none x.by x.knows (stores_test x.by w x.stores)
 
-      pub not_granted : (owners : ℕ) (how : Use) (w t : ℕ)
+      pub not_granted : (owners : ℕ) (how : WordUse) (w t : ℕ)
           → ((o : ℕ) → (bit_at owners o ≡ 1) ↔ (HasSome marks (λ k. can_use how (node_pointer g.keys.items k) w) o ⊎ HasSome marks (right_at g.nodes.items Make) o))
           → NoOwner r.rounds.items owners t (length r.rounds.items) → IsGranted i how t w → ⊥
       not_granted owners uses.Touch w t are none x = touch_not owners w t are none (exact.touches t w x)

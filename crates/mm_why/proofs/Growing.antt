@@ -7,6 +7,7 @@ use Rattle.mm_why.specs.declared.line.Line.{Line}
 use Rattle.mm_why.specs.declared.line.Rule.{Rule}
 use Rattle.mm_why.specs.declared.line.Rule.TheVariants as rules
 use Rattle.mm_why.specs.Derivations.{line_at, no_line, Names, Says, Follows, LineFollows, EachFollows, NoneTwice}
+use Rattle.mm_why.specs.Pruning.{NameEarlier}
 use Rattle.mm_why.specs.Traces.{Extends, IsFresh, Adds}
 use Rattle.mm_why.proofs.Pruning.{same_or_before}
 
@@ -22,6 +23,10 @@ names_earlier i lines top g p (rules.Passed w k s l) j h (inr (inr n)) = subst (
 names_earlier i lines top g p (rules.Entered k) j h n = subst (λ v. v < top) n h.says.earlier
 names_earlier i lines top g p (rules.Served m k) j h n = subst (λ v. v < top) n h.gives.earlier
 names_earlier i lines top g p (rules.Made k) j h n = subst (λ v. v < top) n h.says.earlier
+
+pub each_earlier : (i : Image) (lines : List Line) → EachFollows i lines → NameEarlier lines
+each_earlier i lines each k j lt names =
+    names_earlier i lines k (line_at lines k).group (line_at lines k).pointer (line_at lines k).rule j (each k lt) names
 
 -- what follows, follows from a longer list too
 module _ (i : Image) (old new : List Line) (longer : Extends old new) (top : ℕ) (fits : top ≤ length old) where

@@ -1,5 +1,5 @@
 -- How one group hands a pointer to another.
-use Rattle.std.proofs.Common.{◌≡◌, ℕ, ◌+◌, ◌<◌, ◌⊎◌, inl, inr, List, length, refl, sym, subst, arith}
+use Rattle.std.proofs.Common.{◌≡◌, ℕ, ◌+◌, ◌-◌, ◌<◌, ◌⊎◌, inl, inr, List, length, refl, sym, subst, arith}
 use Rattle.std.specs.List.{Contains}
 use Rattle.std.proofs.lemmas.List.Elements.{Contains-get_or, at_from_Contains}
 use Rattle.mm_word.specs.Pointer.{Pointer}
@@ -17,6 +17,10 @@ use Rattle.mm_why.specs.Rounds.{HandsOn, round_at, AreRounds}
 use Rattle.mm_why.specs.Works.{GoesOn}
 use Rattle.mm_why.specs.Giving.{HasLine, JoinedAt}
 use Rattle.mm_why.proofs.Working.{says_on}
+
+-- the round before stands before the same end
+pub sooner : (round top : ℕ) → round < top → round - 1 < top
+sooner round top lt = omega arith
 
 -- what comes in a round and had not come in the one before is handed on
 pub handed_on : (links meets : List ℕ) (rounds : List (List ℕ)) (before round owner to : ℕ) → AreRounds links meets rounds → round < length rounds → before + 1 ≡ round

@@ -1,5 +1,5 @@
 -- The work goes on.
-use Rattle.std.proofs.Common.{◌≡◌, ◌≢◌, ℕ, ◌<◌, ◌≤◌, ◌⊎◌, inl, inr, List, [], length, slice_set, Option, Some, None, sym, ap, ◌∙◌, subst, arith}
+use Rattle.std.proofs.Common.{◌≡◌, ◌≢◌, ℕ, ◌<◌, ◌≤◌, ◌⊎◌, inl, inr, List, [], length, slice_set, Option, Some, None, refl, sym, ap, ◌∙◌, subst, arith}
 use Rattle.std.proofs.lemmas.Bool.{cases_lt}
 use Rattle.std.proofs.lemmas.List.{get_or-set_same, get_or-set_other, length-set}
 use Rattle.mm_word.specs.Pointer.{Pointer}
@@ -17,6 +17,9 @@ use Rattle.mm_why.proofs.Growing.{extends_trans}
 use Rattle.mm_why.proofs.Pruning.{same_or_before}
 use Rattle.mm_why.proofs.Searching.{Which, which}
 use Rattle.mm_why.proofs.Searching.Which.{same, other}
+
+pub goes_nowhere : (i : Image) (g : Graph) (w : Work) → IsWork i g w → GoesOn i g w w
+goes_nowhere i g w is = record { work = is; lines = record { len = omega arith; same = λ k lt. refl }; known = λ h k. k }
 
 pub goes_trans : (i : Image) (g : Graph) (a b c : Work) → GoesOn i g a b → GoesOn i g b c → GoesOn i g a c
 goes_trans i g a b c x y = record {

@@ -12,8 +12,8 @@ use Rattle.mm_model.specs.Reach.Entries.{All}
 use Rattle.mm_why.specs.declared.line.Line.{Line}
 use Rattle.mm_why.specs.declared.line.Rule.{Rule}
 use Rattle.mm_why.specs.declared.line.Rule.TheVariants as rules
-use Rattle.mm_why.specs.declared.uses.Use.{Use}
-use Rattle.mm_why.specs.declared.uses.Use.TheVariants as uses
+use Rattle.mm_model.specs.declared.word_use.WordUse.{WordUse}
+use Rattle.mm_model.specs.declared.word_use.WordUse.TheVariants as uses
 
 -- the line past the end of a list
 abbrev pub no_line : Line
@@ -143,21 +143,21 @@ pub record IsDerivation (i : Image) (lines : List Line) : Type 0 where
   pub named : (j : ℕ) → j + 1 < length lines → IsNamed lines j
 
 -- the pointer gives this use of the word
-abbrev pub Gives : Use → Pointer → ℕ → Type 0
-Gives uses.Touch p w = LoadsAt p w
-Gives uses.Write p w = StoresAt p w
+abbrev pub Allows : WordUse → Pointer → ℕ → Type 0
+Allows uses.Touch p w = LoadsAt p w
+Allows uses.Write p w = StoresAt p w
 
 -- the group is granted this use of the word
-abbrev pub IsGranted : Image → Use → ℕ → ℕ → Type 0
+abbrev pub IsGranted : Image → WordUse → ℕ → ℕ → Type 0
 IsGranted i uses.Touch g w = CanTouch i All g w
 IsGranted i uses.Write g w = CanWrite i All g w
 
 -- the lines are a right derivation of the group's use of the word: the last one has a pointer that gives it
-pub record Derives (i : Image) (how : Use) (g w : ℕ) (lines : List Line) : Type 0 where
+pub record Derives (i : Image) (how : WordUse) (g w : ℕ) (lines : List Line) : Type 0 where
   pub derivation : IsDerivation i lines
   pub pointer : Pointer
   pub last : Says lines (length lines) (length lines - 1) g pointer
-  pub gives : Gives how pointer w
+  pub gives : Allows how pointer w
 
 -- 3. The law.
 

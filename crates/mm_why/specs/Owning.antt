@@ -7,24 +7,24 @@ use Rattle.mm_word.specs.Perm.{allows}
 use Rattle.mm_word.specs.Pointer.{Pointer, Covers, holds_word}
 use Rattle.mm_flow.specs.Flow.{Has}
 use Rattle.mm_why.specs.declared.line.Line.{Line}
-use Rattle.mm_why.specs.declared.uses.Use.{Use}
-use Rattle.mm_why.specs.declared.uses.Use.TheVariants as uses
+use Rattle.mm_model.specs.declared.word_use.WordUse.{WordUse}
+use Rattle.mm_model.specs.declared.word_use.WordUse.TheVariants as uses
 use Rattle.mm_why.specs.declared.uses.Owner.{Owner}
 use Rattle.mm_why.specs.Derivations.{line_at}
 use Rattle.mm_why.specs.Searches.{place_at}
 use Rattle.mm_why.specs.Rounds.{round_at}
 
 -- what a pointer has to permit
-abbrev pub asked : Use → Kind
+abbrev pub asked : WordUse → Kind
 asked uses.Touch = kinds.Load
 asked uses.Write = kinds.Store
 
 -- whether the pointer permits the use and holds the word
-abbrev pub can_use : Use → Pointer → ℕ → Bool
+abbrev pub can_use : WordUse → Pointer → ℕ → Bool
 can_use how p w = allows p.perm (asked how) && holds_word p w
 
 -- the pointer permits the use and covers the word
-abbrev pub CanUse : Use → Pointer → ℕ → Type 0
+abbrev pub CanUse : WordUse → Pointer → ℕ → Type 0
 CanUse how p w = (allows p.perm (asked how) ≡ true) × Covers p w
 
 -- no group of the mask has its own come to the other in a round before this one
@@ -40,14 +40,14 @@ pub record IsOwner (rounds : List (List ℕ)) (owners to : ℕ) (o : Owner) : Ty
   pub first : NoOwner rounds owners to o.round
 
 -- the line of a node below `top` has a pointer that can be used
-pub record IsUsable (lines : List Line) (places : List (Option ℕ)) (how : Use) (word top t : ℕ) : Type 0 where
+pub record IsUsable (lines : List Line) (places : List (Option ℕ)) (how : WordUse) (word top t : ℕ) : Type 0 where
   pub node : ℕ
   pub small : node < top
   pub at : place_at places node ≡ Some t
   pub can : CanUse how (line_at lines t).pointer word
 
 -- the line of the node, if its pointer can be used
-pub record UsableAt (lines : List Line) (places : List (Option ℕ)) (how : Use) (word k : ℕ)
+pub record UsableAt (lines : List Line) (places : List (Option ℕ)) (how : WordUse) (word k : ℕ)
     (result : Option ℕ) : Type 0 where
   pub some : (t : ℕ) → result ≡ Some t → (place_at places k ≡ Some t) × CanUse how (line_at lines t).pointer word
   pub none : (t : ℕ) → result ≡ None → place_at places k ≡ Some t → CanUse how (line_at lines t).pointer word → ⊥

@@ -8,7 +8,7 @@ use Rattle.mm_model.specs.Lines.{newline, word_text}
 use Rattle.mm_why.specs.declared.line.Line.{Line}
 use Rattle.mm_why.specs.declared.line.Rule.{Rule}
 use Rattle.mm_why.specs.declared.line.Rule.TheVariants as rules
-use Rattle.mm_why.specs.declared.uses.Use.{Use}
+use Rattle.mm_model.specs.declared.word_use.WordUse.{WordUse}
 use Rattle.mm_why.specs.Derivations.{IsGranted, Derives}
 
 -- the number of the line at an index: lines are counted from 1 on
@@ -43,15 +43,15 @@ why_text None = codes "no\n"
 why_text (Some lines) = lines_text 0 lines.now
 
 -- the group is not granted this use of the word, and the text says so
-abbrev pub SaysNo : Image → Use → ℕ → ℕ → List ℕ → Type 0
+abbrev pub SaysNo : Image → WordUse → ℕ → ℕ → List ℕ → Type 0
 SaysNo i how g w text = (¬ IsGranted i how g w) × (text ≡ codes "no\n")
 
 -- the text spells a right derivation of the group's use of the word
-pub record SpellsDerivation (i : Image) (how : Use) (g w : ℕ) (text : List ℕ) : Type 0 where
+pub record SpellsDerivation (i : Image) (how : WordUse) (g w : ℕ) (text : List ℕ) : Type 0 where
   pub lines : List Line
   pub derives : Derives i how g w lines
   pub is : text ≡ lines_text 0 lines
 
 -- the text says why the group is granted this use of the word, or that it is not
-abbrev pub SaysWhy : Image → Use → ℕ → ℕ → List ℕ → Type 0
+abbrev pub SaysWhy : Image → WordUse → ℕ → ℕ → List ℕ → Type 0
 SaysWhy i how g w text = SaysNo i how g w text ⊎ SpellsDerivation i how g w text

@@ -20,11 +20,12 @@ use crate::line::Line;
 use crate::lines::pointer_of;
 use crate::prune::prune;
 use crate::rounds::{Masks, Rounds, all_rounds};
-use crate::uses::{Owner, Use, earliest, first_owner, givers};
+use crate::uses::{Owner, earliest, first_owner, givers};
 use crate::work::{Work, know, no_work};
 use mm_flow::{Right, any, sharing_edges, spread};
 use mm_graph::{Entries, Graph, built};
 use mm_image::Image;
+use mm_model::WordUse;
 use mm_word::NoMemory;
 use std::alloc::Global;
 
@@ -87,7 +88,7 @@ fn sharing(alloc: Global, graph: &Graph, marks: &[u64]) -> Result<Rounds, NoMemo
 }
 
 /// The mask of the groups that have a use of a word of their own.
-fn owners_in(graph: &Graph, marks: &[u64], how: Use, word: u64) -> u64
+fn owners_in(graph: &Graph, marks: &[u64], how: WordUse, word: u64) -> u64
     requires keys { All IsKey graph.now.keys.items }
     requires len { length marks.now ≡ length graph.now.keys.items }
     requires nodes { length graph.now.nodes.items ≡ length marks.now }
@@ -106,7 +107,7 @@ fn own_line(
     work: &mut Work,
     owner: usize,
     word: u64,
-    how: Use,
+    how: WordUse,
 ) -> Result<usize, NoMemory>
     requires graph { IsGraph context.now.image.now context.now.graph.now }
     requires work { IsWork context.now.image.now context.now.graph.now work.old }
@@ -134,7 +135,7 @@ fn derivation(
     owner: Owner,
     group: usize,
     word: u64,
-    how: Use,
+    how: WordUse,
 ) -> Result<Vec<Line>, NoMemory>
     requires context { IsContext context.now.image.now context.now.graph.now context.now.rounds.now }
     requires group { group < 64 }
@@ -159,7 +160,7 @@ pub fn why(
     image: &Image,
     group: u8,
     word: u64,
-    how: Use,
+    how: WordUse,
 ) -> Result<Option<Vec<Line>>, NoMemory>
     requires word { word % 8 ≡ 0 }
     requires small { word < 2 ^ 54 }

@@ -32,4 +32,3 @@ mod work;
 pub use answer::why;
 pub use line::{Line, Rule};
 pub use text::write_why;
-pub use uses::Use;

@@ -16,27 +16,21 @@ use crate::line::Line;
 use crate::lines::pointer_of;
 use crate::rounds::{Masks, Rounds, has};
 use mm_graph::Graph;
+use mm_model::WordUse;
 use mm_word::{GuardedPtr, Kind};
 
-/// How a group uses a word.
-#[derive(Clone, Copy, Debug, PartialEq, Eq)]
-pub enum Use {
-    Touch,
-    Write,
-}
-
 /// What a pointer has to permit.
-fn kind_of(how: Use) -> Kind
+fn kind_of(how: WordUse) -> Kind
     ensures { result ≡ asked how }
 {
     match how {
-        Use::Touch => Kind::Load,
-        Use::Write => Kind::Store,
+        WordUse::Touch => Kind::Load,
+        WordUse::Write => Kind::Store,
     }
 }
 
 /// Whether a pointer gives a use of the word at an address.
-fn gives(how: Use, pointer: GuardedPtr, word: u64) -> bool
+fn gives(how: WordUse, pointer: GuardedPtr, word: u64) -> bool
     ensures value { result ≡ can_use how pointer word }
     ensures can { IsTrue result ↔ CanUse how pointer word }
 {
@@ -55,7 +49,7 @@ fn node_pointer(graph: &Graph, k: usize) -> GuardedPtr
 }
 
 /// The mark of a node whose pointer gives the use, or else 0.
-fn given_mark(graph: &Graph, mark: u64, how: Use, word: u64, k: usize) -> u64
+fn given_mark(graph: &Graph, mark: u64, how: WordUse, word: u64, k: usize) -> u64
     requires keys { All IsKey graph.now.keys.items }
     requires small { k < length graph.now.keys.items }
     ensures { result ≡ kept_mark (can_use how (pointer_of_node graph.now.keys.items k) word) mark }
@@ -65,7 +59,7 @@ fn given_mark(graph: &Graph, mark: u64, how: Use, word: u64, k: usize) -> u64
 }
 
 /// The mask of the groups that mark a node whose pointer gives the use.
-pub fn givers(graph: &Graph, marks: &[u64], how: Use, word: u64) -> u64
+pub fn givers(graph: &Graph, marks: &[u64], how: WordUse, word: u64) -> u64
     requires keys { All IsKey graph.now.keys.items }
     requires len { length marks.now ≡ length graph.now.keys.items }
     ensures { (g : ℕ) → (bit_at result g ≡ 1)
@@ -121,7 +115,7 @@ pub fn first_owner(rounds: &Rounds, owners: u64, to: usize) -> Option<Owner>
 fn usable_at(
     lines: &Vec<Line>,
     places: &Vec<Option<usize>>,
-    how: Use,
+    how: WordUse,
     word: u64,
     k: usize,
 ) -> Option<usize>
@@ -145,7 +139,7 @@ fn usable_at(
 pub fn earliest(
     lines: &Vec<Line>,
     places: &Vec<Option<usize>>,
-    how: Use,
+    how: WordUse,
     word: u64,
 ) -> Option<usize>
     requires { (k t : ℕ) → place_at places.now.items k ≡ Some t → t < length lines.now.items }

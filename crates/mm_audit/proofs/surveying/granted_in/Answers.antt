@@ -1,6 +1,23 @@
+use Rattle.std.proofs.Common.{length, sym, ap, ◌∙◌, subst}
+use Rattle.std.specs.List.{All}
+use Rattle.mm_graph.specs.Key.{IsKey, IsRising}
 use Rattle.mm_graph.specs.Masks.{meaning}
 use Rattle.mm_audit.proofs.MarkedSpans.{are_privileged, are_spans}
 use Rattle.mm_audit.proofs.surveying.granted_in.Goals as goal
+
+pub spans_of-requires-clause-rising : goal.spans_of-requires-clause-rising
+spans_of-requires-clause-rising c = subst IsRising (sym c.deref-3.ensures.value) c.in-Ok.ensures.rising
+
+pub spans_of-requires-clause-keys : goal.spans_of-requires-clause-keys
+spans_of-requires-clause-keys c = subst (All IsKey) (sym c.deref-3.ensures.value) c.in-Ok.ensures.all
+
+pub spans_of-requires-clause-nodes : goal.spans_of-requires-clause-nodes
+spans_of-requires-clause-nodes c =
+    ap length c.deref-4.ensures.value ∙ c.in-Ok.ensures.nodes_len ∙ ap length (sym c.deref-3.ensures.value)
+
+pub spans_of-requires-clause-marks : goal.spans_of-requires-clause-marks
+spans_of-requires-clause-marks c =
+    ap length c.deref-5.ensures.value ∙ c.in-Ok.ensures.marks_len ∙ ap length (sym c.deref-3.ensures.value)
 
 pub returns-clause-privileged : goal.returns-clause-privileged
 returns-clause-privileged c =

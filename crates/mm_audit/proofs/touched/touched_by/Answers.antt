@@ -1,5 +1,5 @@
 use Rattle.std.proofs.Common.{◌∙◌, sym, ap, subst}
-use Rattle.mm_audit.specs.declared.span.Access.TheVariants.{Touch}
+use Rattle.mm_model.specs.declared.word_use.WordUse.TheVariants.{Touch}
 use Rattle.mm_audit.specs.Own.{CoversTouched}
 use Rattle.mm_audit.specs.Walks.{outermost}
 use Rattle.mm_audit.proofs.Touches.{covers_touched}

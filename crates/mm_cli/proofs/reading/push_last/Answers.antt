@@ -24,7 +24,7 @@ returns-else-not-is_empty-3-clause-some c some =
       read ∷ [],
       subst (λ (last : Last). AreOfLast last (read ∷ [])) (sym c.in-Perhaps.is) is_of,
       c.push.ensures.items,
-      subst (λ (last : Last). FitsLast last (spoken (read ∷ []))) (sym c.in-Perhaps.is) (subst (λ (ws : List Spoken). FitsLast (Perhaps c.in-Perhaps.place) ws) (sym speaks) fits),
+      subst (λ (last : Last). FitsLast last (spoken (read ∷ []))) (sym c.in-Perhaps.is) (subst (λ (ws : List Spoken). FitsLast (Perhaps c.in-Perhaps.parameter) ws) (sym speaks) fits),
       one_left c.args.words.now c.in_ok-word-in-Perhaps.after.now word said (sym c.is_empty-then-not-is_empty-2.ensures ∙ c.if-not-is_empty-3.false) ∙ ap spelled (sym speaks),
     )
 

@@ -5,10 +5,10 @@ use Rattle.mm_cli.specs.declared.table.Last.TheVariants.{Nothing}
 use Rattle.mm_cli.proofs.RowWords.{ReadSoFar}
 use Rattle.mm_cli.proofs.reading.read_row.Given as goal
 
--- the words of the first places were read
-abbrev pub invariant-loop-place : goal.invariant-loop-place
-invariant-loop-place l = record {
-  count : array_vec_len l.read ≡ l.place-index;
-  formed : AreOfRow (take l.place-index l.places) Nothing l.read.items;
-  so_far : ReadSoFar l.places l.last (texts l.words) l.place-index (spoken l.read.items) (texts l.rest);
+-- the words of the first parameters were read
+abbrev pub invariant-loop-parameter : goal.invariant-loop-parameter
+invariant-loop-parameter l = record {
+  count : array_vec_len l.read ≡ l.parameter-index;
+  formed : AreOfRow (take l.parameter-index l.parameters) Nothing l.read.items;
+  so_far : ReadSoFar l.parameters l.last (texts l.words) l.parameter-index (spoken l.read.items) (texts l.rest);
 }

@@ -1,16 +1,16 @@
 use Rattle.std.proofs.Common.{◌∷◌, [], ℕ, List, refl, sym, ap, ◌∙◌, subst}
-use Rattle.mm_cli.specs.declared.table.Place.{Place}
+use Rattle.mm_cli.specs.declared.table.Parameter.{Parameter}
 use Rattle.mm_cli.specs.declared.words.Word.TheVariants as read
-use Rattle.mm_cli.specs.Words.{file_word, number_word, groups_word, mode_word, use_word, FitsPlace, IsOfPlace}
+use Rattle.mm_cli.specs.Words.{file_word, number_word, groups_word, mode_word, use_word, FitsParameter, IsOfParameter}
 use Rattle.mm_cli.proofs.words.read_word.Goals as goal
 
 pub returns-in-File : goal.returns-in-File
 returns-in-File c =
     let name = c.as_str.result.now in
-    let fits : FitsPlace c.args.place (file_word c.in-File.kind name) = subst (λ (place : Place). FitsPlace place (file_word c.in-File.kind name)) (sym c.in-File.is) refl in (
+    let fits : FitsParameter c.args.parameter (file_word c.in-File.kind name) = subst (λ (parameter : Parameter). FitsParameter parameter (file_word c.in-File.kind name)) (sym c.in-File.is) refl in (
       file_word c.in-File.kind name,
       subst
-          (λ (place : Place). IsOfPlace place (read.File c.in-File.kind c.as_str.result)) (sym c.in-File.is) refl,
+          (λ (parameter : Parameter). IsOfParameter parameter (read.File c.in-File.kind c.as_str.result)) (sym c.in-File.is) refl,
       refl,
       fits,
       ap (λ (text : List ℕ). text ∷ []) (sym c.as_str.ensures.value),
@@ -20,9 +20,9 @@ pub returns-in_ok-read_number-in-Number : goal.returns-in_ok-read_number-in-Numb
 returns-in_ok-read_number-in-Number c =
     let n = c.in_ok-read_number-in-Number.field-0 in
     let said = c.in_ok-read_number-in-Number.ensures in
-    let fits : FitsPlace c.args.place (number_word n) = subst (λ (place : Place). FitsPlace place (number_word n)) (sym c.in-Number.is) (said.1, said.2) in (
+    let fits : FitsParameter c.args.parameter (number_word n) = subst (λ (parameter : Parameter). FitsParameter parameter (number_word n)) (sym c.in-Number.is) (said.1, said.2) in (
       number_word n,
-      subst (λ (place : Place). IsOfPlace place (read.Number n)) (sym c.in-Number.is) (said.1, said.2),
+      subst (λ (parameter : Parameter). IsOfParameter parameter (read.Number n)) (sym c.in-Number.is) (said.1, said.2),
       refl,
       fits,
       ap (λ (text : List ℕ). text ∷ []) (sym c.as_bytes.ensures.value ∙ said.0),
@@ -32,9 +32,9 @@ pub returns-in_ok-read_groups-in-Groups : goal.returns-in_ok-read_groups-in-Grou
 returns-in_ok-read_groups-in-Groups c =
     let groups = c.in_ok-read_groups-in-Groups.field-0.items in
     let said = c.in_ok-read_groups-in-Groups.ensures in
-    let fits : FitsPlace c.args.place (groups_word groups) = subst (λ (place : Place). FitsPlace place (groups_word groups)) (sym c.in-Groups.is) said.1 in (
+    let fits : FitsParameter c.args.parameter (groups_word groups) = subst (λ (parameter : Parameter). FitsParameter parameter (groups_word groups)) (sym c.in-Groups.is) said.1 in (
       groups_word groups,
-      subst (λ (place : Place). IsOfPlace place (read.Groups c.in_ok-read_groups-in-Groups.field-0))
+      subst (λ (parameter : Parameter). IsOfParameter parameter (read.Groups c.in_ok-read_groups-in-Groups.field-0))
           (sym c.in-Groups.is) said.1,
       refl,
       fits,
@@ -46,16 +46,16 @@ pub returns-in_ok-read_mode-in-Mode : goal.returns-in_ok-read_mode-in-Mode
 returns-in_ok-read_mode-in-Mode c =
     let split = c.in_ok-read_mode-in-Mode.field-0 in
     let said = c.in_ok-read_mode-in-Mode.ensures in
-    let fits : FitsPlace c.args.place (mode_word split) = subst (λ (place : Place). FitsPlace place (mode_word split)) (sym c.in-Mode.is) tt in
-    (mode_word split, subst (λ (place : Place). IsOfPlace place (read.Mode split)) (sym c.in-Mode.is) tt, refl, fits, ap (λ (text : List ℕ). text ∷ []) (sym c.as_str-in-Mode.ensures.value ∙ said))
+    let fits : FitsParameter c.args.parameter (mode_word split) = subst (λ (parameter : Parameter). FitsParameter parameter (mode_word split)) (sym c.in-Mode.is) tt in
+    (mode_word split, subst (λ (parameter : Parameter). IsOfParameter parameter (read.Mode split)) (sym c.in-Mode.is) tt, refl, fits, ap (λ (text : List ℕ). text ∷ []) (sym c.as_str-in-Mode.ensures.value ∙ said))
 
 pub returns-in_ok-read_address-in-Address : goal.returns-in_ok-read_address-in-Address
 returns-in_ok-read_address-in-Address c =
     let n = c.in_ok-read_address-in-Address.field-0 in
     let said = c.in_ok-read_address-in-Address.ensures in
-    let fits : FitsPlace c.args.place (number_word n) = subst (λ (place : Place). FitsPlace place (number_word n)) (sym c.in-Address.is) said.1 in (
+    let fits : FitsParameter c.args.parameter (number_word n) = subst (λ (parameter : Parameter). FitsParameter parameter (number_word n)) (sym c.in-Address.is) said.1 in (
       number_word n,
-      subst (λ (place : Place). IsOfPlace place (read.Number n)) (sym c.in-Address.is) said.1,
+      subst (λ (parameter : Parameter). IsOfParameter parameter (read.Number n)) (sym c.in-Address.is) said.1,
       refl,
       fits,
       ap (λ (text : List ℕ). text ∷ []) (sym c.as_bytes-in-Address.ensures.value ∙ said.0),
@@ -65,5 +65,5 @@ pub returns-in_ok-read_use-in-Use : goal.returns-in_ok-read_use-in-Use
 returns-in_ok-read_use-in-Use c =
     let write = c.in_ok-read_use-in-Use.field-0 in
     let said = c.in_ok-read_use-in-Use.ensures in
-    let fits : FitsPlace c.args.place (use_word write) = subst (λ (place : Place). FitsPlace place (use_word write)) (sym c.in-Use.is) tt in
-    (use_word write, subst (λ (place : Place). IsOfPlace place (read.Use write)) (sym c.in-Use.is) tt, refl, fits, ap (λ (text : List ℕ). text ∷ []) (sym c.as_str-in-Use.ensures.value ∙ said))
+    let fits : FitsParameter c.args.parameter (use_word write) = subst (λ (parameter : Parameter). FitsParameter parameter (use_word write)) (sym c.in-Use.is) tt in
+    (use_word write, subst (λ (parameter : Parameter). IsOfParameter parameter (read.Use write)) (sym c.in-Use.is) tt, refl, fits, ap (λ (text : List ℕ). text ∷ []) (sym c.as_str-in-Use.ensures.value ∙ said))

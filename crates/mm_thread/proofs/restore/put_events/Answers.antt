@@ -4,7 +4,7 @@ use Rattle.std.specs.List.{AllByRecursion}
 use Rattle.std.proofs.lemmas.List.{take_more, take-append-drop}
 use Rattle.mm_model.specs.declared.event.Event.{Event}
 use Rattle.mm_model.specs.Slot.{Slot}
-use Rattle.mm_model.specs.State.{Core, Row, row_in, queue_at, put_queue}
+use Rattle.mm_model.specs.State.{Core, ThreadRow, row_in, queue_at, put_queue}
 use Rattle.mm_model.specs.Spelling.{numbers_of}
 use Rattle.mm_model.specs.Fits.{slots_of}
 use Rattle.mm_thread.specs.Parts.{events_for, row_with}
@@ -28,7 +28,7 @@ put_event-requires-clause-room c =
     let next : take (i + 1) events ≡ xs ++ x ∷ [] = take_more events i x (omega arith) ∙ ap (λ (y : ℕ × Event). xs ++ y ∷ []) (sym c.loop-number-item.is) in
     let all : events ≡ (xs ++ x ∷ []) ++ drop (i + 1) events = sym (take-append-drop (i + 1) events) ∙ ap (λ (front : List (ℕ × Event)). front ++ drop (i + 1) events) next in
     let Few : List (ℕ × Event) → Type 0 = λ ys. AllByRecursion (λ (s : Slot). length (events_for s.number ys) ≤ 64) (slots_of t) in
-    let P : List Row → Type 0 = λ rows. IfSome (row_in rows x.0) (λ row. length row.queue < 64) in
+    let P : List ThreadRow → Type 0 = λ rows. IfSome (row_in rows x.0) (λ row. length row.queue < 64) in
     subst P (ap (λ (k : Core). k.rows) (sym c.loop-number.invariant)) (event_room xs x.0 x.1 (drop (i + 1) events) (slots_of t) (subst Few all c.requires.room))
 
 pub loop-number-preserved : goal.loop-number-preserved

@@ -2,7 +2,7 @@ use Rattle.std.proofs.Common.{List, ◌++◌, map, take, drop, set, sym, ap, ◌
 use Rattle.std.specs.Prelude.{ℕ, slice_index}
 use Rattle.std.proofs.lemmas.List.{get_or-map, length-map, length-take-le}
 use Rattle.mm_model.specs.Slot.{Slot}
-use Rattle.mm_model.specs.State.{Core, Row}
+use Rattle.mm_model.specs.State.{Core, ThreadRow}
 use Rattle.mm_thread.specs.Places.{no_row, row_alone, slot_in, with_row}
 use Rattle.mm_thread.proofs.Index.{number-get}
 use Rattle.mm_thread.proofs.Assigned.{front_more, front_next}
@@ -14,12 +14,12 @@ set_row-requires-clause-number c =
     let slots = c.args.slots.now in
     let i = c.loop-i.i in
     let x = c.index-slots-i.result in
-    let front : List Row = map row_alone (take i slots) in
+    let front : List ThreadRow = map row_alone (take i slots) in
     ap (λ (s : Slot). s.number) c.index-slots-i.is
     ∙ sym (get_or-map (λ (s : Slot). s.number) slots i x 0 (omega arith))
     ∙ ap (λ (ns : List ℕ). slice_index ns i) c.requires.numbers
     ∙ number-get t i (omega arith)
-    ∙ sym (ap (λ (r : Row). r.slot.number) (front_next front t.rows i no_row (length-map (take i slots) row_alone ∙ length-take-le i slots (omega arith)) (omega arith)))
+    ∙ sym (ap (λ (r : ThreadRow). r.slot.number) (front_next front t.rows i no_row (length-map (take i slots) row_alone ∙ length-take-le i slots (omega arith)) (omega arith)))
     ∙ ap (λ (k : Core). (slot_in k i).number) (sym c.loop-i.invariant)
 
 pub loop-i-preserved : goal.loop-i-preserved
@@ -28,7 +28,7 @@ loop-i-preserved c =
     let slots = c.args.slots.now in
     let i = c.loop-i.i in
     let x = c.index-slots-i.result in
-    let rows : List Row = map row_alone (take i slots) ++ drop i t.rows in
+    let rows : List ThreadRow = map row_alone (take i slots) ++ drop i t.rows in
     c.set_row.ensures ∙ ap (λ (k : Core). with_row k i (row_alone x)) c.loop-i.invariant
     ∙ ap (λ (y : Slot). record t { rows = set rows i (row_alone y) }) c.index-slots-i.is
-    ∙ ap (λ (after : List Row). record t { rows = after }) (front_more row_alone slots t.rows i x no_row (omega arith) (omega arith))
+    ∙ ap (λ (after : List ThreadRow). record t { rows = after }) (front_more row_alone slots t.rows i x no_row (omega arith) (omega arith))

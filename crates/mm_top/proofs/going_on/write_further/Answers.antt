@@ -10,7 +10,8 @@ use Rattle.mm_machine.specs.Snapshot.{Parts, CanRestore, restored}
 use Rattle.mm_machine.proofs.Keeping.{kept_core}
 use Rattle.mm_checkpoint.specs.Checkpoints.{saved_of}
 use Rattle.mm_checkpoint.proofs.Forms.{have_form}
-use Rattle.mm_top.specs.Saving.{HasState, items_behind}
+use Rattle.mm_top.specs.Saving.{HasState}
+use Rattle.mm_sched.specs.Orders.{items_from}
 use Rattle.mm_top.proofs.Issued.{further}
 use Rattle.mm_top.proofs.Reported.{start_state, ends_written}
 use Rattle.mm_top.proofs.SavedForms.{can_begin}
@@ -32,7 +33,7 @@ returns g c =
     let p : Parts = c.args.checkpoint.now.snapshot in
     let last = c.args.checkpoint.now.last in
     let s : State = state_of c.restore.new.self in
-    let items = items_behind c.args.order.now s last c.args.cycles in
+    let items = items_from c.args.order.now s last c.args.cycles in
     let is : s ≡ restored (start i) p = c.restore.ensures.state ∙ ap (λ (x : State). restored x p) (start_state i c.in_ok-machine.machine c.in_ok-machine.ensures.stands) in
     let has : HasState i (saved_of p last) s = record {
       alike = record {

@@ -50,5 +50,5 @@ returns g c =
     let links : links_of net ≡ c.args.links = c.issue_items.ensures.links ∙ c.in_ok-net.ensures.links in
     let none : NoneLacking c.args.links (length images) = subst (λ (ls : List Link). NoneLacking ls (length images)) c.items.ensures.items c.in_default.ensures in
     ends_written _ _ _ _ (none, refl) _ _ c.ended.ensures
-    (writes_same (c.report.ensures first stands)
+    (writes_same (c.report.ensures.run first stands)
     (ap (λ (ls : List Link). net_text tells ls images first) links ∙ ap (net_text tells c.args.links images) is))

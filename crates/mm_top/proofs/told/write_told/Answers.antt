@@ -4,7 +4,7 @@ use Rattle.mm_model.specs.Image.{start}
 use Rattle.mm_model.specs.State.{State}
 use Rattle.mm_machine.specs.Machine.{StandsFor}
 use Rattle.mm_sched.specs.Orders.{items_of}
-use Rattle.mm_top.specs.Commands.{report_after}
+use Rattle.mm_model.specs.Report.{report_after}
 use Rattle.mm_top.specs.Plans.{items_planned, told_of}
 use Rattle.mm_top.proofs.Reported.{start_cycles, start_state, reported, ends_written, ends_cut}
 use Rattle.mm_top.proofs.told.write_told.Goals as goal

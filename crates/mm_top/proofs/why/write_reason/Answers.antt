@@ -2,13 +2,13 @@ use Rattle.std.proofs.Common.{◌≡◌, ℕ, List, Option, None, Some, inl, inr
 use Rattle.std.specs.Prelude.{MatchOption}
 use Rattle.mm_model.specs.Image.{Image}
 use Rattle.mm_why.specs.declared.line.Line.{Line}
-use Rattle.mm_why.specs.declared.uses.Use.{Use}
+use Rattle.mm_model.specs.declared.word_use.WordUse.{WordUse}
 use Rattle.mm_why.specs.Derivations.{Derives, IsGranted}
 use Rattle.mm_why.specs.Text.{lines_text, SpellsDerivation}
 use Rattle.mm_top.proofs.Reported.{ends_written}
 use Rattle.mm_top.proofs.why.write_reason.Goals as goal
 
-module _ {A : Type 0} (items : A → List Line) (i : Image) (how : Use) (g w : ℕ) where
+module _ {A : Type 0} (items : A → List Line) (i : Image) (how : WordUse) (g w : ℕ) where
   refused : (o : Option A) → o ≡ None → MatchOption o (IsGranted i how g w → ⊥) (λ a. Derives i how g w (items a)) → IsGranted i how g w → ⊥
   refused None none is = is
   refused (Some a) none is = absurd (cc)

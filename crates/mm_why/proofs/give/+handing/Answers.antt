@@ -1,11 +1,13 @@
-use Rattle.std.proofs.Common.{ℕ, ◌-◌, ◌*◌, ◌<◌, List, length, refl, subst, arith}
+use Rattle.std.proofs.Common.{ℕ, ◌+◌, ◌-◌, ◌*◌, ◌<◌, List, length, refl, subst, arith}
 use Rattle.mm_flow.specs.Flow.{Has}
 use Rattle.mm_model.specs.Slot.{Slot}
+use Rattle.mm_why.specs.declared.line.Line.{Line}
+use Rattle.mm_why.specs.Derivations.{Says}
 use Rattle.mm_why.specs.Rounds.{round_at}
 use Rattle.mm_why.specs.Reasons.{IsHand, IsMeeting}
 use Rattle.mm_why.specs.Giving.{HasLine, JoinedAt}
-use Rattle.mm_why.proofs.Working.{goes_trans, says_on}
-use Rattle.mm_why.proofs.Handing.{handed_on, linked_join, served_by, passes, line_on}
+use Rattle.mm_why.proofs.Working.{goes_nowhere, goes_trans, says_on}
+use Rattle.mm_why.proofs.Handing.{sooner, handed_on, linked_join, served_by, passes, line_on}
 use Rattle.mm_why.proofs.give.+handing.Goals as goal
 
 pub give-give-requires : goal.give-give-requires
@@ -100,3 +102,61 @@ hand-returns-in_ok-by_load-in-Met-clause-follows t c = λ pointer says.
     (says_on i g c.give.new.work c.give-in-Met.new.work c.in_ok-by_store-in-Met.by_store c.args.reason.by
     c.in_ok-store-in-Met.field-0.store c.in_ok-by_load-in-Met.ensures.goes_on c.in_ok-by_store-in-Met.ensures.says)
     c.in_ok-by_load-in-Met.ensures.says word.0 word.1
+
+pub give-returns-in-Some-clause-goes_on : goal.give-returns-in-Some-clause-goes_on
+give-returns-in-Some-clause-goes_on t c = c.in_ok-know.ensures.goes_on
+
+pub give-returns-in-Some-clause-says : goal.give-returns-in-Some-clause-says
+give-returns-in-Some-clause-says t c =
+    subst (λ (lines : List Line). Says lines (length lines) c.in-Some.place c.args.to c.args.pointer) c.deref.ensures.value c.in-Some.ensures
+
+pub give-had_come-requires-clause-round : goal.give-had_come-requires-clause-round
+give-had_come-requires-clause-round t c = sooner c.args.owner.round (length c.args.context.now.rounds.now.rounds.items) c.requires.round
+
+pub give-returns-then-had_come-clause-says : goal.give-returns-then-had_come-clause-says
+give-returns-then-had_come-clause-says t c = c.in_ok-place.ensures.says
+
+pub give-reason_for-requires-clause-round : goal.give-reason_for-requires-clause-round
+give-reason_for-requires-clause-round t c = sooner c.args.owner.round (length c.args.context.now.rounds.now.rounds.items) c.requires.round
+
+pub give-hand-requires : goal.give-hand-requires
+give-hand-requires t c =
+    let lt : 2 * (c.args.owner.round - 1) + 1 < 2 * c.args.owner.round = (let f = c.if-owner-eq0.false in omega (arith, f)) in
+    let round = sooner c.args.owner.round (length c.args.context.now.rounds.now.rounds.items) c.requires.round in
+    let why = c.in-Some-reason_for.ensures in
+    (omega (arith, lt, c.decreases), (c.requires.context, (c.in_ok-from.ensures.goes_on.work, (c.requires.to, (round, (why.small, why.hand))))))
+
+pub give-put-requires : goal.give-put-requires
+give-put-requires t c = c.requires.to
+
+pub hand-carried-requires-clause-giver : goal.hand-carried-requires-clause-giver
+hand-carried-requires-clause-giver t c =
+    let r = c.args.context.now.rounds.now in
+    let m : IsMeeting r.meets (round_at r.rounds.items c.args.round) c.args.reason.by c.args.to c.in-Met.giver c.in-Met.taker =
+    subst (IsHand r.links r.meets (round_at r.rounds.items c.args.round) c.args.reason.by c.args.to) c.in-Met.is c.requires.hand in
+    m.small_giver
+
+pub hand-carried-requires-clause-taker : goal.hand-carried-requires-clause-taker
+hand-carried-requires-clause-taker t c =
+    let r = c.args.context.now.rounds.now in
+    let m : IsMeeting r.meets (round_at r.rounds.items c.args.round) c.args.reason.by c.args.to c.in-Met.giver c.in-Met.taker =
+    subst (IsHand r.links r.meets (round_at r.rounds.items c.args.round) c.args.reason.by c.args.to) c.in-Met.is c.requires.hand in
+    m.small_taker
+
+pub hand-carried-requires-clause-meets : goal.hand-carried-requires-clause-meets
+hand-carried-requires-clause-meets t c =
+    let r = c.args.context.now.rounds.now in
+    let m : IsMeeting r.meets (round_at r.rounds.items c.args.round) c.args.reason.by c.args.to c.in-Met.giver c.in-Met.taker =
+    subst (IsHand r.links r.meets (round_at r.rounds.items c.args.round) c.args.reason.by c.args.to) c.in-Met.is c.requires.hand in
+    c.requires.context.meets c.in-Met.giver c.in-Met.taker m.meet
+
+pub hand-give-requires : goal.hand-give-requires
+hand-give-requires t c =
+    let r = c.args.context.now.rounds.now in
+    let m : IsMeeting r.meets (round_at r.rounds.items c.args.round) c.args.reason.by c.args.to c.in-Met.giver c.in-Met.taker =
+    subst (IsHand r.links r.meets (round_at r.rounds.items c.args.round) c.args.reason.by c.args.to) c.in-Met.is c.requires.hand in
+    let carried = c.in_ok-store-in-Met.ensures in
+    (omega (arith, c.decreases), (c.requires.context, (carried.goes_on.work, (m.small_giver, (c.requires.by, (c.requires.round, (m.come_by, carried.carriers.has_store)))))))
+
+pub hand-returns-in-Some-clause-goes_on : goal.hand-returns-in-Some-clause-goes_on
+hand-returns-in-Some-clause-goes_on t c = goes_nowhere c.args.context.now.image.now c.args.context.now.graph.now c.args.work.now c.requires.work

@@ -1,6 +1,8 @@
+//! Tests of the adapters over real files and streams.
+
 ghost use Rattle.std.specs.Prelude.{◌≤◌, IfOk};
 
-use crate::{
+use mm_io::{
     Failed, Files, MemSink, ReadError, Sink, StdFiles, StdSink, StdSource, WriteFault, read_all,
     read_input, write_all,
 };
@@ -11,7 +13,7 @@ use std::test::Fail;
 // Bytes that differ by their places, so that each part of the file is another one.
 #[test]
 fn real_files(rt: HostRuntime) -> Result<(), Fail> {
-    let name = "mm_io_real_file";
+    let name = "a_real_file";
     let mut text = [0u8; 70_000];
     for at in 0..text.len() {
         text[at] = (at % 251) as u8;

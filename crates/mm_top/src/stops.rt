@@ -1,0 +1,30 @@
+//! Why a command stops, given what the auditor and the sweeper answer.
+
+ghost use Rattle.std.specs.Prelude.{◌≡◌};
+ghost use Rattle.mm_top.specs.Stops.{stop_of_extract, stop_of_sweep};
+
+use mm_audit::ExtractError;
+use mm_load::{Refusal, Stop};
+use mm_sweep::SweepError;
+
+/// Why the command stops if groups cannot be cut out.
+pub fn stop_of_extract(error: ExtractError) -> Stop
+    ensures { result ≡ stop_of_extract error }
+{
+    match error {
+        ExtractError::NoGroup => Stop::Refused(Refusal::NoGroup),
+        ExtractError::Crosses { slot } => Stop::Refused(Refusal::Crosses { slot }),
+        ExtractError::NoMemory => Stop::NoMemory,
+    }
+}
+
+/// Why the command stops if a range cannot be swept.
+pub fn stop_of_sweep(error: SweepError) -> Stop
+    ensures { result ≡ stop_of_sweep error }
+{
+    match error {
+        SweepError::Held { slot } => Stop::Refused(Refusal::Held { slot }),
+        SweepError::Privileged { group } => Stop::Refused(Refusal::Privileged { group }),
+        SweepError::NoMemory => Stop::NoMemory,
+    }
+}
