@@ -74,8 +74,7 @@ said_last (Several kind most) word = map (file_word kind) (texts (names_of word)
 -- what the words of the parameters from `at` on say, and then the last words
 abbrev pub said_from : List Parameter → Last → (at : ℕ) → List Read → List Word
 said_from [] last at words = said_last last (slice_get words at)
-said_from (parameter ∷ parameters) last at words =
-    said_at parameter (slice_get words at) ∷ said_from parameters last (suc at) words
+said_from (parameter ∷ parameters) last at words = said_at parameter (slice_get words at) ∷ said_from parameters last (suc at) words
 
 abbrev pub said_by : Option Listed → List Read → List Word
 said_by None words = []

@@ -9,7 +9,7 @@ use crate::table::{Kind, Parameter};
 use arrayvec::ArrayVec;
 use mm_sched::number;
 
-/// What the word, or the words, of a parameter say.
+/// What the words in a parameter of a row say.
 #[derive(Drop)]
 pub enum Word<'a> {
     /// The name of a file of a kind.
@@ -32,17 +32,16 @@ impl Default for Word<'_> {
     }
 }
 
-/// Reads the first word by a parameter, or the first two words if the parameter is a range. Gives what they say, and
-/// the words after them.
+/// Reads the first word by a parameter, or the first two words if the parameter is a range. Gives what they say, and the words
+/// after them.
 pub fn read_parameter<'a>(
     parameter: Parameter,
     words: &'a [String],
 ) -> Option<(Word<'a>, &'a [String])>
     ensures { MatchOption result
-        ((word : Spoken) (after : List (List ℕ)) → FitsParameter parameter word
-        → texts words.now ≢ text_list word ++ after)
-        (λ read. (word : Spoken) × IsOfParameter parameter read.0 × (words_of read.0 ≡ word ∷ [])
-        × FitsParameter parameter word × (texts words.now ≡ text_list word ++ texts read.1.now)) }
+        ((word : Spoken) (after : List (List ℕ)) → FitsParameter parameter word → texts words.now ≢ text_list word ++ after)
+        (λ read. (word : Spoken) × IsOfParameter parameter read.0 × (words_of read.0 ≡ word ∷ []) × FitsParameter parameter word
+        × (texts words.now ≡ text_list word ++ texts read.1.now)) }
 {
     if let Parameter::Range = parameter {
         return read_range_place(words);
@@ -71,10 +70,9 @@ fn read_range_place(words: &[String]) -> Option<(Word<'_>, &[String])>
 
 /// Reads one word by a parameter. `None` if the parameter is a range, which takes two words.
 fn read_word(parameter: Parameter, word: &String) -> Option<Word<'_>>
-    ensures { MatchOption result
-        ((said : Spoken) → FitsParameter parameter said → string_bytes word.now ∷ [] ≢ text_list said)
-        (λ read. (said : Spoken) × IsOfParameter parameter read × (words_of read ≡ said ∷ [])
-        × FitsParameter parameter said × (string_bytes word.now ∷ [] ≡ text_list said)) }
+    ensures { MatchOption result ((said : Spoken) → FitsParameter parameter said → string_bytes word.now ∷ [] ≢ text_list said)
+        (λ read. (said : Spoken) × IsOfParameter parameter read × (words_of read ≡ said ∷ []) × FitsParameter parameter said
+        × (string_bytes word.now ∷ [] ≡ text_list said)) }
 {
     match parameter {
         Parameter::File(kind) => Some(Word::File {

@@ -1,5 +1,4 @@
 //! Limits that several crates keep.
 
-/// The most cycles of a command, of a session, of one of its lines and of a checkpoint; and the most items of a
-/// schedule or of a net.
+/// The most cycles of a command, of a session and of a checkpoint, and the most items of a schedule or of a net.
 pub const CYCLE_LIMIT: u64 = 1_000_000;

@@ -31,7 +31,7 @@ pub fn report<M: Inspect, O: Sink>(
         → Writes O.taken O.faults out.old out.new
         (nodes_text M.tells images.now (net_of net.now).nodes uses ++ link_lines (net_of net.now).links) result }
 
-    // The text of the net to which items led from the start of these images.
+    // The text of a net after items of images.
     ensures run { (items : List NetItem) → StandsFor images.now items net.now
         → Writes O.taken O.faults out.old out.new (net_text M.tells (links_of net.now) images.now items) result }
 {

@@ -86,7 +86,7 @@ soaked number size cycles =
     let i = generated number size in
     summary (machine.run (model.start i) (machine.robin_from (model.start i) None cycles))
 
--- a use of a word: a write, or else a touch
+-- a use of a word: a write, or else any
 abbrev pub use_said : (write : Bool) → WordUse
 use_said true = Write
 use_said false = Touch

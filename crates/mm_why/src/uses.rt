@@ -1,4 +1,4 @@
-//! The pointers that give uses of words, and the groups that own such pointers.
+//! The uses of words, and the pointers that give them.
 
 ghost use Rattle.std.specs.Prelude.{◌≡◌, ℕ, ◌<◌, ◌↔◌, IsTrue, MatchOption, Some, All, length};
 ghost use Rattle.std.specs.Int.{bit_at};
