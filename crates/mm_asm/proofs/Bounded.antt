@@ -3,6 +3,7 @@ use Rattle.std.proofs.Common.{◌≡◌, ℕ, ◌+◌, ◌<◌, Bool, true, fals
 use Rattle.std.proofs.Common.{replicate, Option, Some, None, is_some, Result, Ok, Err, refl, sym, ap, ◌∙◌, subst, arith}
 use Rattle.std.proofs.lemmas.List.{length-replicate}
 use Rattle.std.proofs.lemmas.Bool.Decides.{nat_tests}
+use Rattle.std.specs.Prelude.{is_none}
 use Rattle.mm_line.specs.declared.fault.Problem.{Problem}
 use Rattle.mm_line.specs.declared.fault.Fault.TheVariants as faults
 use Rattle.mm_line.specs.declared.name.Mark.{Mark}
@@ -21,9 +22,9 @@ use Rattle.mm_draft.specs.declared.segment.Word.{Word}
 use Rattle.mm_draft.specs.declared.thread.Register.{Register}
 use Rattle.mm_draft.specs.declared.fault.Failure.{Failure}
 use Rattle.mm_draft.specs.Drafts.{place_in, Segment, Thread, Draft, nothing, last, zero_word, add_statement, add_reading, add_body, add_maybe_label, add_line}
-use Rattle.mm_draft.specs.Faults.{fault_if, is_named, has_slot, has_register, is_none, claim_faults, maybe_label_faults}
+use Rattle.mm_draft.specs.Faults.{fault_if, is_named, has_slot, has_register, claim_faults, maybe_label_faults}
 use Rattle.mm_draft.specs.Faults.{one_if_pointer, statement_faults, reading_faults, body_faults, line_faults}
-use Rattle.mm_draft.specs.Faults.{segment_limit, is_before, lesser, first_of, source_of, step_by, step, ◌then◌}
+use Rattle.mm_draft.specs.Faults.{is_before, lesser, first_of, source_of, step_by, step, ◌then◌}
 use Rattle.mm_draft.specs.Faults.{lines_from, lines_of, draft_of}
 use Rattle.mm_asm.specs.Bounds.{IsRegister, IsThread, IsDraft}
 use Rattle.mm_asm.specs.Laws.{DraftsAreBounded}
@@ -31,6 +32,7 @@ use Rattle.mm_asm.proofs.Lists.{none_both}
 use Rattle.mm_asm.proofs.ExternalNames.{fault_none}
 use Rattle.mm_asm.proofs.Segments.{mark_name}
 use Rattle.mm_asm.proofs.Kept.{label_kept, begin_kept, words_kept, zeros_are, no_pointers, thread_kept, register_kept}
+use Rattle.mm_model.specs.Limits.{segment_limit}
 
 -- 1. Statements.
 

@@ -1,7 +1,6 @@
 -- Lists that a loop builds.
-use Rattle.std.proofs.Common.{◌≡◌, ℕ, zero, suc, ◌+◌, ◌<◌, ◌≤◌, List, [], ◌∷◌, length, get_or, take, ◌++◌, refl, sym, ap, ◌∙◌, arith, append_assoc, append-nil}
+use Rattle.std.proofs.Common.{◌≡◌, ℕ, zero, suc, ◌+◌, ◌<◌, List, [], ◌∷◌, length, get_or, take, ◌++◌, sym, ap, ◌∙◌, arith, append_assoc, append-nil}
 use Rattle.std.specs.List.{flat_map}
-use Rattle.std.proofs.lemmas.List.{take_all}
 use Rattle.mm_object.proofs.Bools.{flat_map-more}
 
 module _ {A B : Type 0} (f : A → List B) where
@@ -11,24 +10,8 @@ module _ {A B : Type 0} (f : A → List B) where
       now ∙ ap (λ ys. ys ++ f x) before ∙ append_assoc old (flat_map f (take i xs)) (f x) ∙ ap (λ y. old ++ (flat_map f (take i xs) ++ f y)) is
       ∙ ap (λ ys. old ++ ys) (sym (flat_map-more f xs i x lt))
 
-  pub pushed_all : (old mid : List B) (xs : List A) (i : ℕ) → length xs ≤ i → mid ≡ old ++ flat_map f (take i xs) → mid ≡ old ++ flat_map f xs
-  pushed_all old mid xs i le is = is ∙ ap (λ ys. old ++ flat_map f ys) (take_all i xs le)
-
   pub gathered : (mid new : List B) (xs : List A) (i : ℕ) (x : A) → i < length xs → x ≡ get_or xs i x → mid ≡ flat_map f (take i xs) → new ≡ mid ++ f x → new ≡ flat_map f (take (i + 1) xs)
   gathered mid new xs i x lt is before now = now ∙ ap (λ ys. ys ++ f x) before ∙ ap (λ y. flat_map f (take i xs) ++ f y) is ∙ sym (flat_map-more f xs i x lt)
-
--- one item more of a list
-pub taken : {A : Type 0} (old mid new : List A) (xs : List A) (i : ℕ) (x : A) → i < length xs → x ≡ get_or xs i x → mid ≡ old ++ take i xs → new ≡ mid ++ x ∷ [] → new ≡ old ++ take (i + 1) xs
-taken old mid new xs i x lt is before now =
-    now ∙ ap (λ ys. ys ++ x ∷ []) before ∙ append_assoc old (take i xs) (x ∷ []) ∙ ap (λ y. old ++ (take i xs ++ y ∷ [])) is
-    ∙ ap (λ ys. old ++ ys) (sym (at_end xs i x lt))
-  where
-    at_end : {A : Type 0} (xs : List A) (i : ℕ) (d : A) → i < length xs → take (i + 1) xs ≡ take i xs ++ get_or xs i d ∷ []
-    at_end [] i d lt = absurd (omega arith)
-    at_end (x ∷ xs) zero d lt = refl
-    at_end (x ∷ xs) (suc i) d lt =
-        let next : suc i + 1 ≡ suc (i + 1) = omega arith in
-        ap (λ n. take n (x ∷ xs)) next ∙ ap (λ ys. x ∷ ys) (at_end xs i d (omega arith))
 
 -- items of numbered items, from a number on
 module _ {A B : Type 0} (f : ℕ → A → List B) where

@@ -1,5 +1,5 @@
 -- Names in a set, and the place of a name among those that rise.
-use Rattle.std.proofs.Common.{◌≡◌, ℕ, zero, suc, ◌+◌, ◌<◌, Bool, true, false, not, ◌&&◌, ◌||◌, if◌then◌else◌, List}
+use Rattle.std.proofs.Common.{◌≡◌, ℕ, zero, suc, ◌+◌, ◌<◌, Bool, true, false, not, ◌&&◌, ◌||◌, List}
 use Rattle.std.proofs.Common.{[], ◌∷◌, ◌++◌, length, get_or, take, Option, is_some, refl, sym, ap, ◌∙◌}
 use Rattle.std.proofs.Common.{subst, arith, inl, inr}
 use Rattle.std.specs.declared.cmp.Ordering.{Ordering}
@@ -23,10 +23,11 @@ use Rattle.mm_object.proofs.Bools.{is_false}
 use Rattle.mm_asm.specs.Names.{Use, position_of, externals_with, with_use, is_external, name_of}
 use Rattle.mm_asm.specs.Faults.{limit_failures, in_source, is_too_many}
 use Rattle.mm_asm.specs.Steps.{limit_failure}
-use Rattle.mm_asm.specs.Answers.{bytes_of, Meets}
+use Rattle.mm_asm.specs.Answers.{Meets}
 use Rattle.mm_asm.proofs.Lists.{each_weaker}
 use Rattle.mm_asm.proofs.Order.{Rising, not_itself, before_all, position_at, is_same}
 use Rattle.mm_asm.proofs.LateFirsts.{met_both}
+use Rattle.mm_object.specs.Steps.{key_names}
 
 -- 1. The order of bytes.
 
@@ -44,15 +45,15 @@ order_of a b = slice_cmp nat_cmp a.now b.now
 
 -- 2. One name too many.
 
-pub as_many : (keys : List (Bor (List ℕ))) → length (bytes_of keys) ≡ length keys
+pub as_many : (keys : List (Bor (List ℕ))) → length (key_names keys) ≡ length keys
 as_many [] = refl
 as_many (k ∷ keys) = ap suc (as_many keys)
 
 -- one too many at a use of a name that a draft does not have
-pub limit_is : (d : Draft) (u : Use) (old : List (Bor (List ℕ))) (name : List ℕ) (bad : Bool) → name ≡ name_of u → is_external d u ≡ true → bad ≡ is_too_many (bytes_of old) name
-    → in_source u.source (fault_if bad Limit u.target.mark.left) ≡ limit_failure d (bytes_of old) u
+pub limit_is : (d : Draft) (u : Use) (old : List (Bor (List ℕ))) (name : List ℕ) (bad : Bool) → name ≡ name_of u → is_external d u ≡ true → bad ≡ is_too_many (key_names old) name
+    → in_source u.source (fault_if bad Limit u.target.mark.left) ≡ limit_failure d (key_names old) u
 limit_is d u old name bad same absent is =
-    ap (λ b. in_source u.source (fault_if b Limit u.target.mark.left)) (is ∙ ap (is_too_many (bytes_of old)) same ∙ ap (λ b. b && is_too_many (bytes_of old) (name_of u)) (sym absent))
+    ap (λ b. in_source u.source (fault_if b Limit u.target.mark.left)) (is ∙ ap (is_too_many (key_names old)) same ∙ ap (λ b. b && is_too_many (key_names old) (name_of u)) (sym absent))
 
 pub absent_is : (d : Draft) (u : Use) (name : List ℕ) → name ≡ name_of u → is_some (place_of d name) ≡ false → is_external d u ≡ true
 absent_is d u name same none = ap (λ n. not (is_some (place_of d n))) (sym same) ∙ ap not none

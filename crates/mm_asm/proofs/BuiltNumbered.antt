@@ -7,7 +7,7 @@ use Rattle.mm_draft.specs.Drafts.{Segment, Draft}
 use Rattle.mm_object.specs.declared.item.Item.{Item}
 use Rattle.mm_object.specs.declared.target.Reloc.{Reloc}
 use Rattle.mm_asm.specs.Faults.{word_failures, goal_failures}
-use Rattle.mm_asm.specs.Meaning.{bits_of, items_from, content_relocs, words_relocs, segments_relocs}
+use Rattle.mm_asm.specs.Meaning.{bits_of, word_items, content_relocs, words_relocs, segments_relocs}
 use Rattle.mm_asm.proofs.Built.{numbered}
 
 module _ (d : Draft) where
@@ -21,7 +21,7 @@ module _ (d : Draft) where
   abbrev pub item_at : ℕ → Word → List Item
   item_at k w = record { bits = bits_of d k w.content; full = w.full } ∷ []
 
-  pub items_are : (k : ℕ) (words : List Word) → items_from d k words ≡ numbered item_at k words
+  pub items_are : (k : ℕ) (words : List Word) → word_items d k words ≡ numbered item_at k words
   items_are k [] = refl
   items_are k (w ∷ words) = ap (λ items. record { bits = bits_of d k w.content; full = w.full } ∷ items) (items_are (k + 1) words)
 

@@ -22,9 +22,9 @@ use Rattle.mm_model.proofs.ImageBytes.Rising.{and_true}
 use Rattle.mm_asm.specs.Names.{Use, HasEach, insert_name, is_external, name_of, seen_with, with_use}
 use Rattle.mm_asm.specs.Faults.{in_source, is_too_many}
 use Rattle.mm_asm.specs.Steps.{limit_failure}
-use Rattle.mm_asm.specs.Answers.{bytes_of}
 use Rattle.mm_asm.proofs.Order.{Rising, before_all, not_itself, one_first, is_same, is_other, same_itself, insert_among, insert_again, each_among}
 use Rattle.mm_asm.proofs.BuiltNames.{order_of, is_less, ascend_rises, as_many}
+use Rattle.mm_object.specs.Steps.{key_names}
 
 -- 1. Truth.
 
@@ -103,42 +103,42 @@ same_bytes [] (y ∷ b) = refl
 same_bytes (x ∷ a) [] = refl
 same_bytes (x ∷ a) (y ∷ b) = ap (λ (c : Bool). x == y && c) (same_bytes a b)
 
-pub contained : (keys : List (Bor (List ℕ))) (name : List ℕ) → list_any (λ (k : Bor (List ℕ)). bytes_eq name k.now) keys ≡ is_among name (bytes_of keys)
+pub contained : (keys : List (Bor (List ℕ))) (name : List ℕ) → list_any (λ (k : Bor (List ℕ)). bytes_eq name k.now) keys ≡ is_among name (key_names keys)
 contained [] name = refl
 contained (x ∷ keys) name =
     ap (λ b. b || list_any (λ (k : Bor (List ℕ)). bytes_eq name k.now) keys) (same_bytes name x.now)
     ∙ ap (λ b. same_name name x.now || b) (contained keys name)
 
 pub too_many : (keys : List (Bor (List ℕ))) (name : List ℕ) (n : ℕ) (b : Bool) → n ≡ length keys → 1024 ≤ n
-    → b ≡ list_any (λ (k : Bor (List ℕ)). bytes_eq name k.now) keys → not b ≡ is_too_many (bytes_of keys) name
+    → b ≡ list_any (λ (k : Bor (List ℕ)). bytes_eq name k.now) keys → not b ≡ is_too_many (key_names keys) name
 too_many keys name n b many le is =
-    let full : nat_le 1024 (length (bytes_of keys)) ≡ true = fits (length (bytes_of keys)) (omega (arith, as_many keys)) in
-    ap not (is ∙ contained keys name) ∙ ap (λ c. c && not (is_among name (bytes_of keys))) (sym full)
+    let full : nat_le 1024 (length (key_names keys)) ≡ true = fits (length (key_names keys)) (omega (arith, as_many keys)) in
+    ap not (is ∙ contained keys name) ∙ ap (λ c. c && not (is_among name (key_names keys))) (sym full)
   where
     fits : (m : ℕ) → 1024 ≤ m → nat_le 1024 m ≡ true
     fits m h = grind (arith, nat_tests)
 
 -- the name of a use that a draft does not have
 pub added : (d : Draft) (u : Use) (old new : List (Bor (List ℕ))) (k : Bor (List ℕ)) → k.now ≡ name_of u → is_external d u ≡ true
-    → new ≡ insert_key alike old k → bytes_of new ≡ seen_with d u (bytes_of old)
+    → new ≡ insert_key alike old k → key_names new ≡ seen_with d u (key_names old)
 added d u old new k same absent is =
-    ap bytes_of is
+    ap key_names is
     ∙ pushed (list_any (alike k) old)
-    ∙ ap (λ c. if not c then bytes_of old ++ k.now ∷ [] else bytes_of old) (contained old k.now)
-    ∙ ap (λ n. if not (is_among n (bytes_of old)) then bytes_of old ++ n ∷ [] else bytes_of old) same
-    ∙ ap (λ b. if b && not (is_among (name_of u) (bytes_of old)) then bytes_of old ++ name_of u ∷ [] else bytes_of old) (sym absent)
+    ∙ ap (λ c. if not c then key_names old ++ k.now ∷ [] else key_names old) (contained old k.now)
+    ∙ ap (λ n. if not (is_among n (key_names old)) then key_names old ++ n ∷ [] else key_names old) same
+    ∙ ap (λ b. if b && not (is_among (name_of u) (key_names old)) then key_names old ++ name_of u ∷ [] else key_names old) (sym absent)
   where
-    pushed : (c : Bool) → bytes_of (if c then old else old ++ k ∷ []) ≡ (if not c then bytes_of old ++ k.now ∷ [] else bytes_of old)
+    pushed : (c : Bool) → key_names (if c then old else old ++ k ∷ []) ≡ (if not c then key_names old ++ k.now ∷ [] else key_names old)
     pushed true = refl
     pushed false = map-append (λ (b : Bor (List ℕ)). b.now) old (k ∷ [])
 
 -- 4. The keys of a sorted set.
 
-keys_ascend : (keys : List (Bor (List ℕ))) → IsSorted order_of keys → IsDistinct alike keys → ascend (bytes_of keys) ≡ true
+keys_ascend : (keys : List (Bor (List ℕ))) → IsSorted order_of keys → IsDistinct alike keys → ascend (key_names keys) ≡ true
 keys_ascend [] sorted apart = refl
 keys_ascend (x ∷ []) sorted apart = refl
 keys_ascend (x ∷ y ∷ keys) sorted apart =
-    and_true (is_before x.now y.now) (ascend (bytes_of (y ∷ keys))) (one_first y.now x.now no_later other)
+    and_true (is_before x.now y.now) (ascend (key_names (y ∷ keys))) (one_first y.now x.now no_later other)
     (keys_ascend (y ∷ keys) later (IsDistinct-tail alike x (y ∷ keys) apart))
   where
     no_later : is_before y.now x.now ≡ false
@@ -193,8 +193,8 @@ in_order (x ∷ xs) (y ∷ ys) h k same =
     ap (λ v. v ∷ ys) e ∙ ap (λ v. x ∷ v) (in_order xs ys h.1 k.1 (rest_alike x xs ys h k_too same_too))
 
 -- a sorted set of the names that were seen has them in the order of their bytes
-pub sorted_is : (names : List (List ℕ)) (old new : List (Bor (List ℕ))) → Rising names → HasEach names (bytes_of old) → IsSorted order_of new
-    → IsDistinct alike new → ((q : Bor (List ℕ)) → list_any (alike q) new ≡ list_any (alike q) old) → bytes_of new ≡ names
+pub sorted_is : (names : List (List ℕ)) (old new : List (Bor (List ℕ))) → Rising names → HasEach names (key_names old) → IsSorted order_of new
+    → IsDistinct alike new → ((q : Bor (List ℕ)) → list_any (alike q) new ≡ list_any (alike q) old) → key_names new ≡ names
 sorted_is names old new rising each sorted apart same =
-    in_order names (bytes_of new) rising (ascend_rises (bytes_of new) (keys_ascend new sorted apart))
+    in_order names (key_names new) rising (ascend_rises (key_names new) (keys_ascend new sorted apart))
     (λ name. sym (contained new name) ∙ same (record { ref_ptr = (0, 0); now = name }) ∙ contained old name ∙ each.among name)

@@ -6,6 +6,7 @@ use Rattle.std.specs.List.{flat_map, AllByRecursion}
 use Rattle.std.proofs.lemmas.List.{map-append}
 use Rattle.std.proofs.lemmas.Bool.Decides.{nat_tests}
 use Rattle.std.proofs.lemmas.Grind.{flat_map-append}
+use Rattle.std.specs.Prelude.{is_none}
 use Rattle.mm_line.specs.declared.fault.Problem.{Problem}
 use Rattle.mm_line.specs.declared.fault.Fault.TheVariants as faults
 use Rattle.mm_line.specs.declared.name.Mark.{Mark}
@@ -23,7 +24,7 @@ use Rattle.mm_draft.specs.declared.segment.Word.{Word}
 use Rattle.mm_draft.specs.declared.thread.Register.{Register}
 use Rattle.mm_draft.specs.declared.fault.Failure.{Failure}
 use Rattle.mm_draft.specs.Drafts.{Segment, Thread, Draft, nothing, last, change_last, with_words, with_register, zero_word, add_statement, add_reading, add_body, add_maybe_label, add_line}
-use Rattle.mm_draft.specs.Faults.{is_none, claim_faults, maybe_label_faults, one_if_pointer, words_faults}
+use Rattle.mm_draft.specs.Faults.{claim_faults, maybe_label_faults, one_if_pointer, words_faults}
 use Rattle.mm_draft.specs.Faults.{statement_faults, reading_faults, body_faults, line_faults, first_of, source_of}
 use Rattle.mm_draft.specs.Faults.{step_by, step, ◌then◌, lines_from, lines_of, draft_of}
 use Rattle.mm_asm.specs.Names.{Use, constant_uses, content_uses, word_uses, segment_uses, register_uses, thread_uses, merge, uses_of}

@@ -10,10 +10,10 @@ use Rattle.std.proofs.lemmas.Slice.Eq.{bytes_eq-Decides}
 use Rattle.mm_line.specs.declared.fault.Fault.TheVariants.{Full, Limit}
 use Rattle.mm_draft.specs.declared.source.Source.{Source}
 use Rattle.mm_draft.specs.declared.segment.Word.{Word}
-use Rattle.mm_draft.specs.declared.place.Location.{Location}
+use Rattle.mm_draft.specs.declared.location.Location.{Location}
 use Rattle.mm_draft.specs.declared.thread.Register.{Register}
 use Rattle.mm_draft.specs.Drafts.{Segment, Entry, Thread, Draft, place_in, last, words_so_far, words_of, pointers_among, pointers_of, change_last, with_words, with_register, zero_word}
-use Rattle.mm_draft.specs.Faults.{segment_limit, word_limit, pointer_limit, room_of, fault_if, has_register, words_faults}
+use Rattle.mm_draft.specs.Faults.{room_of, fault_if, has_register, words_faults}
 use Rattle.mm_object.specs.Names.{is_name}
 use Rattle.mm_object.specs.Objects.{is_among, are_apart}
 use Rattle.mm_model.proofs.ImageBytes.Clean.{neither}
@@ -24,6 +24,7 @@ use Rattle.mm_asm.proofs.Lists.{each_weaker, each_changed, length_changed, map_c
 use Rattle.mm_object.proofs.Members.{each_more, each_map}
 use Rattle.mm_asm.proofs.Order.{is_other, each_among}
 use Rattle.mm_asm.proofs.ExternalNames.{fault_none}
+use Rattle.mm_model.specs.Limits.{segment_limit, word_limit, reloc_limit}
 
 -- 1. Names.
 
@@ -86,7 +87,8 @@ named_longer entries words k (x ∷ []) h = h
 named_longer entries words k (x ∷ y ∷ segments) h = (h.0, named_longer entries words (k + 1) (y ∷ segments) h.1)
 
 -- each segment's name stands for something
-pub each_stands : (entries : List Entry) (k : ℕ) (segments : List Segment) → AreNamed entries k segments → AllByRecursion (λ (s : Segment). (p : Location) × (place_in entries s.name ≡ Some p)) segments
+pub each_stands : (entries : List Entry) (k : ℕ) (segments : List Segment) → AreNamed entries k segments
+    → AllByRecursion (λ (s : Segment). (p : Location) × (place_in entries s.name ≡ Some p)) segments
 each_stands entries k [] h = tt
 each_stands entries k (s ∷ segments) h = ((record { segment = k; word = 0; is_label = false }, h.0), each_stands entries (k + 1) segments h.1)
 
@@ -209,7 +211,7 @@ module _ (d : Draft) (h : AreSegments d.segments d.names) (words : List Word) (c
   longer = change_last (with_words words) d.segments
 
   with_room : (s : Segment) → last d.segments ≡ Some s → length s.words + count ≤ room_of s → words_of d.segments +
-      count ≤ word_limit → pointers_of d.segments + pointers ≤ pointer_limit → AreSegments longer d.names
+      count ≤ word_limit → pointers_of d.segments + pointers ≤ reloc_limit → AreSegments longer d.names
   with_room s is_last room word_room pointer_room =
       let grown : (x : Segment) → last d.segments ≡ Some x → IsSegment x → IsSegment (with_words words x) = λ x e k.
       let same : x ≡ s = cc (e, is_last) in
@@ -240,11 +242,11 @@ module _ (d : Draft) (h : AreSegments d.segments d.names) (words : List Word) (c
       by None e f = absurd cc
       by (Some s) e f =
           let full : Bool = nat_lt (room_of s) (length s.words + count) in
-          let many : Bool = nat_lt word_limit (words_of d.segments + count) || nat_lt pointer_limit (pointers_of d.segments + pointers) in
+          let many : Bool = nat_lt word_limit (words_of d.segments + count) || nat_lt reloc_limit (pointers_of d.segments + pointers) in
           let both = none_both (fault_if full Full left) (fault_if many Limit left) f in
-          let limits = neither (nat_lt word_limit (words_of d.segments + count)) (nat_lt pointer_limit (pointers_of d.segments + pointers)) (fault_none many Limit left both.1) in
+          let limits = neither (nat_lt word_limit (words_of d.segments + count)) (nat_lt reloc_limit (pointers_of d.segments + pointers)) (fault_none many Limit left both.1) in
           with_room s e (not_less (room_of s) (length s.words + count) (fault_none full Full left both.0))
-          (not_less word_limit (words_of d.segments + count) limits.0) (not_less pointer_limit (pointers_of d.segments + pointers) limits.1)
+          (not_less word_limit (words_of d.segments + count) limits.0) (not_less reloc_limit (pointers_of d.segments + pointers) limits.1)
 
 -- integers that are 0
 pub zeros_are : (source : Source) (n : ℕ) → AllByRecursion IsWord (replicate n (zero_word source))

@@ -1,6 +1,7 @@
 -- What the assembler answers is what a text means, or its first fault.
 use Rattle.std.proofs.Common.{◌≡◌, ℕ, List, [], map, Option, Some, None, Result, Ok, Err, refl, sym, ap, ◌∙◌, subst}
 use Rattle.std.specs.{Prelude.IfOk, Result.IsErrAnd}
+use Rattle.std.specs.Prelude.{IsOkUnless}
 use Rattle.mm_model.specs.Answers.{IsUnless}
 use Rattle.mm_line.specs.declared.fault.Fault.{Fault}
 use Rattle.mm_line.specs.Faults.{number_of}
@@ -19,7 +20,7 @@ use Rattle.mm_asm.specs.Meaning.{object_of}
 use Rattle.mm_asm.specs.Faults.{late_failures, first_fault, Means}
 use Rattle.mm_asm.proofs.Lists.{none_map}
 use Rattle.mm_asm.proofs.Texts.{none_least}
-use Rattle.mm_asm.specs.Answers.{Fails, ValueOrFault, IsNoMemory, pair_of_error}
+use Rattle.mm_asm.specs.Answers.{Fails, ValueOrFault, pair_of_error}
 
 -- failures without a least one are none
 pub none_late : (failures : List Failure) → least (map failure_pair failures) ≡ None → failures ≡ []
@@ -42,7 +43,8 @@ module _ (text : List ℕ) where
       → (kind : Fault) (line column : ℕ) → r ≡ Err (errors.Fault kind line column) → first_fault text ≡ Some (record { line = line; column = column; number = number_of kind })
   fault_is value q r e g kind line column is = e ∙ (rw is at g)
 
-  pub first_is : {X : Type 0} (value : X) (q : Option Pair) (r : Result X AsmError) → first_fault text ≡ q → ValueOrFault q value r → (p : Pair) → first_fault text ≡ Some p → IsErrAnd r (Fails (Some p))
+  pub first_is : {X : Type 0} (value : X) (q : Option Pair) (r : Result X AsmError) → first_fault text ≡ q → ValueOrFault q value r
+      → (p : Pair) → first_fault text ≡ Some p → IsErrAnd r (Fails (Some p))
   first_is value q (Ok x) e g p f = let none = g.0 in cc
   first_is value q (Err x) e g p f = subst (λ (o : Option Pair). Fails o x) (sym e ∙ f) g
 
@@ -70,7 +72,7 @@ module _ (text : List ℕ) where
       by (Err errors.NoMemory) h = refl
 
 -- an object without a fault, unless memory ran out
-pub gives_object : {X : Type 0} (fault : Option Pair) (value : X) (r : Result X AsmError) → fault ≡ None → IfOk r (λ x. x ≡ value) → IsNoMemory r → ValueOrFault fault value r
+pub gives_object : {X : Type 0} (fault : Option Pair) (value : X) (r : Result X AsmError) → fault ≡ None → IfOk r (λ x. x ≡ value) → IsOkUnless r errors.NoMemory → ValueOrFault fault value r
 gives_object fault value (Ok x) none is memory = (none, is)
 gives_object fault value (Err e) none is memory = subst (Fails fault) (sym memory) tt
 

@@ -58,10 +58,6 @@ least_both : (xs ys : List Failure) → least_of (xs ++ ys) ≡ either (least_of
 least_both [] ys = refl
 least_both (x ∷ xs) ys = ap (sooner (failure_pair x)) (least_both xs ys) ∙ joined (failure_pair x) (least_of xs) (least_of ys)
 
-none_after : (o : Option Pair) → o ≡ either o None
-none_after None = refl
-none_after (Some p) = refl
-
 pub met_both : (a b c : Option Failure) (xs ys : List Failure) → Meets a b xs → Meets b c ys → Meets a c (xs ++ ys)
 met_both a b c xs ys h k = record {
   least = k.least ∙ ap (λ p. either p (least_of ys)) h.least ∙ sym (in_turn (pair_of_first a) (least_of xs) (least_of ys)) ∙ ap (either (pair_of_first a)) (sym (least_both xs ys));

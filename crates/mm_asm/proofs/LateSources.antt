@@ -143,7 +143,8 @@ module _ (p : ℕ → Bool) where
 text_small : (text : List ℕ) → length text < 2 ^ 32 - 1 → Small (draft_of text)
 unfolding draft_of
 text_small text few =
-    lines_small (length text) (lines_of text) 0 nothing few (let h = parts_few (λ b. b == code "\n") text in omega arith) (parts_short (λ b. b == code "\n") text) (record { segments = tt; threads = tt })
+    lines_small (length text) (lines_of text) 0 nothing few (let h = parts_few (λ b. b == code "\n") text in omega arith) (parts_short (λ b. b == code "\n") text)
+    (record { segments = tt; threads = tt })
 
 pub draft_small : (text : List ℕ) (d : Draft) → length text < 2 ^ 32 - 1 → draft_of text ≡ Ok d → IsFromSmall d
 draft_small text d few e = subst Small e (text_small text few)

@@ -1,7 +1,6 @@
 -- The words and names of a draft have their places in its object.
-use Rattle.std.proofs.Common.{◌≡◌, ℕ, zero, suc, ◌+◌, ◌<◌, ◌≤◌, true, List, [], ◌∷◌, ◌++◌, length, get_or, sym, ap, ◌∙◌, subst, arith}
+use Rattle.std.proofs.Common.{◌≡◌, ℕ, zero, suc, ◌+◌, ◌<◌, ◌≤◌, true, List, [], ◌∷◌, length, get_or, sym, ap, ◌∙◌, subst, arith}
 use Rattle.std.specs.List.{list_all, AllByRecursion}
-use denote.Ref.{Bor}
 use Rattle.mm_isa.specs.Table.{FitInWord}
 use Rattle.mm_isa.proofs.Operands.{fields_fit}
 use Rattle.mm_line.specs.Ranges.{IsContent}
@@ -11,11 +10,9 @@ use Rattle.mm_draft.specs.declared.segment.Word.{Word}
 use Rattle.mm_draft.specs.Drafts.{Draft}
 use Rattle.mm_object.specs.Names.{is_name}
 use Rattle.mm_object.specs.Objects.{IsObject}
-use Rattle.mm_model.proofs.ImageBytes.Rising.{both}
 use Rattle.mm_asm.specs.Names.{Use, uses_of, externals_with}
 use Rattle.mm_asm.specs.Meaning.{object_of}
 use Rattle.mm_asm.specs.Bounds.{IsDraft, IsWord, IsSegment}
-use Rattle.mm_asm.specs.Answers.{bytes_of}
 use Rattle.mm_asm.specs.Fits.{FitsContent, FitsWords, FitsSegment}
 use Rattle.mm_object.proofs.Members.{each_in, each_from}
 use Rattle.mm_asm.proofs.Segments.{words_in, fields_fit_with}
@@ -51,11 +48,3 @@ fits_at d words i w lt is h =
 pub externals_named : (d : Draft) (uses : List Use) (names : List (List ℕ)) → IsObject (object_of d) → uses ≡ uses_of d → names ≡ externals_with d [] uses → list_all is_name names ≡ true
 unfolding object_of
 externals_named d uses names h e f = ap (list_all is_name) (f ∙ ap (externals_with d []) e) ∙ h.externals
-
--- a name behind others, of which each is a name
-named_behind : (made : List (List ℕ)) (x : List ℕ) (rest : List (List ℕ)) → list_all is_name (made ++ x ∷ rest) ≡ true → is_name x ≡ true
-named_behind [] x rest h = (both (is_name x) (list_all is_name rest) h).0
-named_behind (y ∷ made) x rest h = named_behind made x rest (both (is_name y) (list_all is_name (made ++ x ∷ rest)) h).1
-
-pub is_named : (all made : List (List ℕ)) (keys rest : List (Bor (List ℕ))) (x : Bor (List ℕ)) → list_all is_name all ≡ true → made ++ bytes_of keys ≡ all → keys ≡ x ∷ rest → is_name x.now ≡ true
-is_named all made keys rest x h e f = named_behind made x.now (bytes_of rest) (ap (list_all is_name) (ap (λ ks. made ++ bytes_of ks) (sym f) ∙ e) ∙ h)

@@ -1,8 +1,8 @@
 -- What is in a list, and what holds of each item, also of one whose last item changes.
-use Rattle.std.proofs.Common.{◌≡◌, ℕ, zero, suc, ◌+◌, ◌≤◌, Bool, true, false, ◌&&◌, ◌||◌, if◌then◌else◌, List}
+use Rattle.std.proofs.Common.{◌≡◌, ℕ, zero, suc, ◌+◌, ◌≤◌, Bool, true, false, ◌||◌, List}
 use Rattle.std.proofs.Common.{[], ◌∷◌, ◌++◌, map, length, slice_get, Some, None, option_map, refl, sym, ap, ◌∙◌}
 use Rattle.std.proofs.Common.{inl, inr, arith}
-use Rattle.std.specs.List.{flat_map, filter, list_any, list_all, AllByRecursion}
+use Rattle.std.specs.List.{flat_map, list_any, list_all, AllByRecursion}
 use Rattle.mm_draft.specs.Drafts.{last, change_last}
 use Rattle.mm_model.proofs.ImageBytes.Rising.{and_true}
 use Rattle.mm_object.proofs.Bools.{is_false}
@@ -33,14 +33,6 @@ any_found p x (y ∷ xs) (inr h) k = or_right (p y) (list_any p xs) (any_found p
 
 pub none_found : {A : Type 0} (p : A → Bool) (xs : List A) → ((x : A) → In x xs → p x ≡ true → ⊥) → list_any p xs ≡ false
 none_found p xs h = is_false (list_any p xs) (λ k. let r = found p xs k in h r.0 r.1 r.2)
-
-pub any_filter : {A : Type 0} (p q : A → Bool) (xs : List A) → list_any p (filter q xs) ≡ list_any (λ x. q x && p x) xs
-any_filter p q [] = refl
-any_filter p q (x ∷ xs) = by (q x) (any_filter p q xs)
-  where
-    by : (b : Bool) → list_any p (filter q xs) ≡ list_any (λ y. q y && p y) xs → list_any p (if b then x ∷ filter q xs else filter q xs) ≡ ((b && p x) || list_any (λ y. q y && p y) xs)
-    by true e = ap (λ b. p x || b) e
-    by false e = e
 
 -- 2. Empty lists.
 

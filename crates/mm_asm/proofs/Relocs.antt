@@ -17,7 +17,7 @@ use Rattle.mm_object.specs.declared.target.Reloc.{Reloc}
 use Rattle.mm_object.specs.Objects.{Segment, is_target, item_of, is_zero, is_reloc, place_of}
 use Rattle.mm_model.proofs.ImageBytes.Rising.{and_true}
 use Rattle.mm_asm.specs.Names.{Use, content_uses, word_uses, segment_uses}
-use Rattle.mm_asm.specs.Meaning.{bits_of, items_from, segment_of, target_of, content_relocs, words_relocs, segments_relocs}
+use Rattle.mm_asm.specs.Meaning.{bits_of, word_items, segment_of, target_of, content_relocs, words_relocs, segments_relocs}
 use Rattle.mm_asm.proofs.Lists.{get_map}
 use Rattle.mm_object.proofs.Members.{In, in_left, in_right, each_more}
 
@@ -132,7 +132,7 @@ module _ (d : Draft) where
 
   -- 5. The words that they replace.
 
-  get_items : (k i : ℕ) (words : List Word) → slice_get (items_from d k words) i ≡ option_map (λ (w : Word). record { bits = bits_of d (k + i) w.content; full = w.full }) (slice_get words i)
+  get_items : (k i : ℕ) (words : List Word) → slice_get (word_items d k words) i ≡ option_map (λ (w : Word). record { bits = bits_of d (k + i) w.content; full = w.full }) (slice_get words i)
   get_items k i [] = refl
   get_items k zero (w ∷ words) = let same : k ≡ k + 0 = omega arith in ap (λ (n : ℕ). Some (let item : Item = record { bits = bits_of d n w.content; full = w.full } in item)) same
   get_items k (suc i) (w ∷ words) =

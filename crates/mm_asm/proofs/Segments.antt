@@ -19,14 +19,14 @@ use Rattle.mm_line.specs.declared.statement.Content.TheVariants as content
 use Rattle.mm_line.specs.Forms as forms
 use Rattle.mm_line.specs.Ranges.{IsMark, IsContent}
 use Rattle.mm_draft.specs.declared.segment.Word.{Word}
-use Rattle.mm_draft.specs.declared.place.Location.{Location}
+use Rattle.mm_draft.specs.declared.location.Location.{Location}
 use Rattle.mm_draft.specs.Drafts as draft
 use Rattle.mm_draft.specs.Drafts.{Entry, Draft, place_in, place_of}
 use Rattle.mm_object.specs.declared.item.Item.{Item}
 use Rattle.mm_object.specs.Names.{begins_name, goes_on, has_form, is_name}
 use Rattle.mm_object.specs.Objects as object
 use Rattle.mm_model.proofs.ImageBytes.Rising.{both, and_true}
-use Rattle.mm_asm.specs.Meaning.{distance_to, with_goal, bits_of, items_from, segment_of}
+use Rattle.mm_asm.specs.Meaning.{distance_to, with_goal, bits_of, word_items, segment_of}
 use Rattle.mm_asm.specs.Bounds.{IsWord, IsSegment, HasWord, IsLocation, IsDraft}
 use Rattle.mm_object.proofs.Members.{In}
 
@@ -60,7 +60,7 @@ names_same d (s ∷ segments) = ap (λ (names : List (List ℕ)). s.name ∷ nam
 
 -- 2. Words.
 
-length_items : (d : Draft) (k : ℕ) (words : List Word) → length (items_from d k words) ≡ length words
+length_items : (d : Draft) (k : ℕ) (words : List Word) → length (word_items d k words) ≡ length words
 length_items d k [] = refl
 length_items d k (w ∷ words) = ap suc (length_items d (k + 1) words)
 
@@ -112,12 +112,12 @@ module _ (d : Draft) (is_draft : IsDraft d) where
       let fields = h.fields in
       packed_fits (with_goal d k c.goal c.fields) (fields_fit_with k c.goal c.fields le (subst FitInWord fields.2 (fields_fit fields.0 fields.1)))
 
-  items_fit : (k : ℕ) (words : List Word) → k + length words ≤ 131072 → AllByRecursion IsWord words → AllByRecursion (λ (item : Item). item.bits < 2 ^ 64) (items_from d k words)
+  items_fit : (k : ℕ) (words : List Word) → k + length words ≤ 131072 → AllByRecursion IsWord words → AllByRecursion (λ (item : Item). item.bits < 2 ^ 64) (word_items d k words)
   items_fit k [] le h = tt
   items_fit k (w ∷ words) le h = (bits_fit h.0.0 k w.content (omega arith) h.0.1, items_fit (k + 1) words (omega arith) h.1)
 
   pub segment_is : (s : draft.Segment) → In s d.segments → IsSegment s → object.IsSegment (segment_of d s)
   segment_is s m h =
-      let room : length (items_from d 0 s.words) ≤ 2 ^ (s.log - 3) = omega (arith, length_items d 0 s.words, h.room) in
+      let room : length (word_items d 0 s.words) ≤ 2 ^ (s.log - 3) = omega (arith, length_items d 0 s.words, h.room) in
       let small = words_in s d.segments m in
       record { name = h.name; least = h.least; greatest = h.greatest; room = room; words = items_fit 0 s.words (omega (arith, small, is_draft.segments.words)) h.words }

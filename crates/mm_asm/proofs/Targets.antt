@@ -5,7 +5,7 @@ use Rattle.std.proofs.lemmas.List.{length-map}
 use Rattle.std.proofs.lemmas.Bool.Decides.{nat_tests}
 use Rattle.mm_line.specs.declared.fault.Fault.TheVariants.{Range}
 use Rattle.mm_line.specs.declared.statement.Target as text
-use Rattle.mm_draft.specs.declared.place.Location.{Location}
+use Rattle.mm_draft.specs.declared.location.Location.{Location}
 use Rattle.mm_draft.specs.Drafts as draft
 use Rattle.mm_draft.specs.Drafts.{Draft, place_of}
 use Rattle.mm_object.specs.Objects.{Segment, is_among, is_within, is_target, external_limit, greatest_log}

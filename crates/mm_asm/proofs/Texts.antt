@@ -1,5 +1,6 @@
 -- A text means an object exactly where it has no fault.
 use Rattle.std.proofs.Common.{◌≡◌, ◌↔◌, ℕ, Bool, true, false, if◌then◌else◌, List, [], ◌∷◌, map, Option, Some, None, Result, Ok, Err, refl, sym, ap, ◌∙◌}
+use Rattle.std.specs.Option.{option_or}
 use Rattle.mm_draft.specs.Drafts.{Draft}
 use Rattle.mm_draft.specs.declared.fault.Failure.{Failure}
 use Rattle.mm_draft.specs.Faults.{draft_of}
@@ -7,7 +8,7 @@ use Rattle.mm_draft.specs.Laws.{Pair, failure_pair, precedes, sooner, least, fau
 use Rattle.mm_draft.proofs.Least.{first_is_least}
 use Rattle.mm_object.specs.Objects.{Object}
 use Rattle.mm_asm.specs.Meaning.{object_of}
-use Rattle.mm_asm.specs.Faults.{late_failures, late_of, or_else, first_fault, Means}
+use Rattle.mm_asm.specs.Faults.{late_failures, late_of, first_fault, Means}
 use Rattle.mm_asm.specs.Laws.{MeaningsAreOne, TextsMeanOrFail}
 use Rattle.mm_asm.proofs.Lists.{none_map}
 
@@ -29,7 +30,7 @@ ok_same d e h = cc
 
 module _ (text : List ℕ) where
   abbrev Fits : Result Draft Failure → Type 0
-  Fits r = (or_else (fault_of r) (least (late_of r)) ≡ None) ↔ ((o : Object) × Means text o)
+  Fits r = (option_or (fault_of r) (least (late_of r)) ≡ None) ↔ ((o : Object) × Means text o)
 
   fits : (r : Result Draft Failure) → draft_of text ≡ r → Fits r
   fits (Err failure) e = ((λ h. absurd cc), (λ m. let h = m.1.early in absurd (cc (e, h))))

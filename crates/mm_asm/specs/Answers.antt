@@ -1,7 +1,6 @@
 -- The answers of the assembler, and the first of the faults that it meets.
 use Rattle.std.specs.Prelude.{◌≡◌, ℕ, List, map, Option, Some, None, Result, Ok, Err}
 use Rattle.std.specs.Option.{option_map}
-use denote.Ref.{Bor}
 use Rattle.mm_line.specs.Faults.{number_of}
 use Rattle.mm_draft.specs.declared.fault.Failure.{Failure}
 use Rattle.mm_draft.specs.declared.fault.DraftError.{DraftError}
@@ -23,11 +22,6 @@ abbrev pub ValueOrFault : {X : Type 0} → Option Pair → X → Result X AsmErr
 ValueOrFault fault value (Ok x) = (fault ≡ None) × (x ≡ value)
 ValueOrFault fault value (Err e) = Fails fault e
 
--- the function fails only for want of memory
-abbrev pub IsNoMemory : {X : Type 0} → Result X AsmError → Type 0
-IsNoMemory (Ok x) = Unit {0}
-IsNoMemory (Err e) = e ≡ errors.NoMemory
-
 -- the pair of a fault that stopped the reading, unless memory ran out
 abbrev pub pair_of_error : DraftError → Option Pair
 pair_of_error (early.Fault failure) = Some (failure_pair failure)
@@ -45,8 +39,3 @@ pair_of_first first = option_map failure_pair first
 -- these failures were met between two times: the later first fault is the least of the earlier first one and of them
 pub record Meets (old new : Option Failure) (failures : List Failure) : Type 0 where
   pub least : pair_of_first new ≡ either (pair_of_first old) (least (map failure_pair failures))
-
--- 3. Names.
-
-abbrev pub bytes_of : List (Bor (List ℕ)) → List (List ℕ)
-bytes_of names = map (λ (b : Bor (List ℕ)). b.now) names

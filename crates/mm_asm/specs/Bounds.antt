@@ -7,12 +7,13 @@ use Rattle.mm_line.specs.declared.statement.Target.{Target}
 use Rattle.mm_line.specs.declared.statement.Constant.{Constant}
 use Rattle.mm_line.specs.Ranges.{IsTarget, IsConstant, IsContent, IsHandler}
 use Rattle.mm_draft.specs.declared.segment.Word.{Word}
-use Rattle.mm_draft.specs.declared.place.Location.{Location}
+use Rattle.mm_draft.specs.declared.location.Location.{Location}
 use Rattle.mm_draft.specs.declared.thread.Register.{Register}
 use Rattle.mm_draft.specs.Drafts.{Segment, Entry, Thread, Draft, place_in, words_of, pointers_of}
-use Rattle.mm_draft.specs.Faults.{segment_limit, word_limit, pointer_limit, room_of}
+use Rattle.mm_draft.specs.Faults.{room_of}
 use Rattle.mm_object.specs.Names.{is_name}
 use Rattle.mm_object.specs.Objects.{are_apart}
+use Rattle.mm_model.specs.Limits.{segment_limit, word_limit, reloc_limit}
 
 -- a word that some line can say
 abbrev pub IsWord : Word → Type 0
@@ -69,7 +70,7 @@ pub record AreSegments (segments : List Segment) (entries : List Entry) : Type 0
   pub each : AllByRecursion IsSegment segments
   pub names : are_apart (map (λ (s : Segment). s.name) segments) ≡ true
   pub words : words_of segments ≤ word_limit
-  pub pointers : pointers_of segments ≤ pointer_limit
+  pub pointers : pointers_of segments ≤ reloc_limit
   pub named : AreNamed entries 0 segments
   pub alone : are_apart (map (λ (e : Entry). e.name) entries) ≡ true
   pub places : AllByRecursion (λ (e : Entry). IsLocation segments e.place) entries

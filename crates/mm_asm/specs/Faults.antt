@@ -2,6 +2,7 @@
 use Rattle.std.specs.Prelude.{◌≡◌, ℕ, ◌+◌, ◌^◌, ◌==◌, nat_le, Bool, true, false, not, ◌&&◌, List, [], ◌∷◌, ◌++◌, map}
 use Rattle.std.specs.Prelude.{length, slice_get, Option, Some, None, Result, Ok, Err}
 use Rattle.std.specs.List.{flat_map}
+use Rattle.std.specs.Option.{option_or}
 use Rattle.mm_line.specs.declared.fault.Fault.TheVariants.{Label, Range, Limit}
 use Rattle.mm_line.specs.declared.fault.Problem.{Problem}
 use Rattle.mm_line.specs.declared.name.Mark.{Mark}
@@ -9,7 +10,7 @@ use Rattle.mm_line.specs.declared.statement.Content.{Content}
 use Rattle.mm_line.specs.declared.statement.Content.TheVariants as content
 use Rattle.mm_draft.specs.declared.source.Source.{Source}
 use Rattle.mm_draft.specs.declared.segment.Word.{Word}
-use Rattle.mm_draft.specs.declared.place.Location.{Location}
+use Rattle.mm_draft.specs.declared.location.Location.{Location}
 use Rattle.mm_draft.specs.declared.fault.Failure.{Failure}
 use Rattle.mm_draft.specs.Drafts.{Segment, Draft, place_of}
 use Rattle.mm_draft.specs.Faults.{fault_if, draft_of}
@@ -84,13 +85,9 @@ late_of (Err failure) = []
 abbrev pub late_faults : List ℕ → List Pair
 late_faults text = late_of (draft_of text)
 
-abbrev pub or_else : Option Pair → Option Pair → Option Pair
-or_else (Some p) q = Some p
-or_else None q = q
-
 -- the first fault of a text: the least of the early ones or, if there is none, the least of the late ones
 unfoldable pub first_fault : List ℕ → Option Pair
-first_fault text = or_else (least (early_faults text)) (least (late_faults text))
+first_fault text = option_or (least (early_faults text)) (least (late_faults text))
 
 -- a text means an object: the text has a draft without late faults, and the object is the draft's
 pub record Means (text : List ℕ) (o : Object) : Type 0 where

@@ -12,7 +12,7 @@ use Rattle.mm_line.specs.declared.statement.Content.{Content}
 use Rattle.mm_line.specs.declared.statement.Content.TheVariants as content
 use Rattle.mm_draft.specs.Drafts as draft
 use Rattle.mm_draft.specs.declared.segment.Word.{Word}
-use Rattle.mm_draft.specs.declared.place.Location.{Location}
+use Rattle.mm_draft.specs.declared.location.Location.{Location}
 use Rattle.mm_draft.specs.declared.thread.Register.{Register}
 use Rattle.mm_draft.specs.Drafts.{Draft, place_of}
 use Rattle.mm_object.specs.declared.item.Item.{Item}
@@ -42,12 +42,12 @@ bits_of d k (content.Constant (Pointer perm target)) = 0
 bits_of d k (content.Code code) = packed (with_goal d k code.goal code.fields)
 
 -- the words of a segment from word k on
-abbrev pub items_from : Draft → ℕ → List Word → List Item
-items_from d k [] = []
-items_from d k (w ∷ words) = record { bits = bits_of d k w.content; full = w.full } ∷ items_from d (k + 1) words
+abbrev pub word_items : Draft → ℕ → List Word → List Item
+word_items d k [] = []
+word_items d k (w ∷ words) = record { bits = bits_of d k w.content; full = w.full } ∷ word_items d (k + 1) words
 
 abbrev pub segment_of : Draft → draft.Segment → Segment
-segment_of d s = record { name = s.name; log = s.log; items = items_from d 0 s.words }
+segment_of d s = record { name = s.name; log = s.log; items = word_items d 0 s.words }
 
 -- 2. Targets.
 

@@ -11,7 +11,7 @@ use Rattle.mm_object.specs.Names.{is_before}
 use Rattle.mm_object.specs.Objects.{same_name, is_among}
 use Rattle.mm_draft.specs.declared.source.Source.{Source}
 use Rattle.mm_draft.specs.declared.segment.Word.{Word}
-use Rattle.mm_draft.specs.declared.place.Location.{Location}
+use Rattle.mm_draft.specs.declared.location.Location.{Location}
 use Rattle.mm_draft.specs.declared.thread.Register.{Register}
 use Rattle.mm_draft.specs.Drafts.{Segment, Thread, Draft, place_of}
 

@@ -1,6 +1,6 @@
 //! The assembler.
 
-ghost use Rattle.std.specs.Prelude.{◌≡◌, ◌<◌, ◌≤◌, ◌-◌, ◌^◌, ℕ, Some, Err, IfOk, map, length, MatchResult};
+ghost use Rattle.std.specs.Prelude.{◌≡◌, ◌<◌, ◌≤◌, ◌-◌, ◌^◌, ℕ, Some, Err, IfOk, map, length, MatchResult, IsOkUnless};
 ghost use Rattle.std.specs.Result.{IsErrAnd};
 ghost use Rattle.mm_model.specs.Answers.{IsUnless};
 ghost use Rattle.mm_line.specs.Faults.{number_of};
@@ -14,7 +14,7 @@ ghost use Rattle.mm_asm.specs.Fits.{FitsSegment, FitsPointers, FitsThread};
 ghost use Rattle.mm_draft.specs.Drafts.{Segment as SegmentValue};
 ghost use Rattle.mm_asm.specs.Bounds.{IsDraft};
 ghost use Rattle.mm_asm.specs.Sources.{IsSmallError, IsFromSmall};
-ghost use Rattle.mm_asm.specs.Answers.{Fails, ValueOrFault, IsNoMemory, pair_of_error};
+ghost use Rattle.mm_asm.specs.Answers.{Fails, ValueOrFault, pair_of_error};
 ghost use Rattle.mm_asm.specs.Faults.{Means, first_fault, late_failures};
 ghost use Rattle.mm_asm.specs.Meaning.{object_of};
 ghost use Rattle.mm_asm.specs.Names.{externals_of};
@@ -91,7 +91,7 @@ fn object_of(alloc: Global, draft: &Draft<'_>, externals: Vec<Name>) -> Result<O
     requires pointers { AllByRecursion (λ (s : SegmentValue). FitsPointers draft.now s.words) draft.now.segments }
     requires threads { AllByRecursion (FitsThread draft.now) draft.now.threads }
     ensures object { IfOk result (λ o. o ≡ object_of draft.now) }
-    ensures memory { IsNoMemory result }
+    ensures memory { IsOkUnless result AsmError.NoMemory }
 {
     let segments = segments_of(alloc, draft)?;
     let relocs = relocs_of(alloc, draft, &externals)?;

@@ -1,12 +1,13 @@
 //! The names that a draft uses and does not define.
 
-ghost use Rattle.std.specs.Prelude.{◌≡◌, true, [], IfOk, OnOk};
+ghost use Rattle.std.specs.Prelude.{◌≡◌, true, [], IfOk, OnOk, IsOkUnless};
 ghost use Rattle.std.specs.List.{list_all};
 ghost use Rattle.mm_object.specs.Names.{is_name};
-ghost use Rattle.mm_asm.specs.Answers.{IsNoMemory, Meets, bytes_of};
+ghost use Rattle.mm_asm.specs.Answers.{Meets};
 ghost use Rattle.mm_asm.specs.Faults.{is_too_many, limit_failures};
 ghost use Rattle.mm_asm.specs.Steps.{limit_failure};
 ghost use Rattle.mm_asm.specs.Names.{HasEach, seen_with, externals_with};
+ghost use Rattle.mm_object.specs.Steps.{key_names};
 
 use crate::AsmError;
 use crate::diagnostics::meet_if;
@@ -14,11 +15,8 @@ use crate::text_order::Use;
 use indexmap::IndexSet;
 use mm_draft::{Draft, Failure};
 use mm_line::{Fault, Problem};
-use mm_object::Name;
+use mm_object::{EXTERNAL_LIMIT, Name};
 use std::alloc::Global;
-
-/// The most externals of an object.
-const EXTERNALS: usize = 1024;
 
 /// The names that some targets have and the draft does not define, in the order of their bytes. One name too many is a
 /// fault.
@@ -28,9 +26,9 @@ pub(crate) fn externals<'a>(
     draft: &Draft<'a>,
     uses: &[Use<'_, 'a>],
 ) -> Result<IndexSet<&'a [u8]>, AsmError>
-    ensures names { IfOk result (λ s. bytes_of s.keys ≡ externals_with draft.now [] uses.now) }
+    ensures names { IfOk result (λ s. key_names s.keys ≡ externals_with draft.now [] uses.now) }
     ensures faults { OnOk result (Meets first.old first.new (limit_failures draft.now [] uses.now)) }
-    ensures memory { IsNoMemory result }
+    ensures memory { IsOkUnless result AsmError.NoMemory }
 {
     let mut names = first_seen(alloc, first, draft, uses)?;
     names.sort()?;
@@ -44,9 +42,9 @@ fn first_seen<'a>(
     draft: &Draft<'a>,
     uses: &[Use<'_, 'a>],
 ) -> Result<IndexSet<&'a [u8]>, AsmError>
-    ensures names { IfOk result (λ s. HasEach (externals_with draft.now [] uses.now) (bytes_of s.keys)) }
+    ensures names { IfOk result (λ s. HasEach (externals_with draft.now [] uses.now) (key_names s.keys)) }
     ensures faults { OnOk result (Meets first.old first.new (limit_failures draft.now [] uses.now)) }
-    ensures memory { IsNoMemory result }
+    ensures memory { IsOkUnless result AsmError.NoMemory }
 {
     let mut names = IndexSet::new(alloc);
     for u in uses {
@@ -62,9 +60,10 @@ fn add_use<'a>(
     draft: &Draft<'a>,
     u: &Use<'_, 'a>,
 ) -> Result<(), AsmError>
-    ensures names { OnOk result (bytes_of names.new.keys ≡ seen_with draft.now u.now (bytes_of names.old.keys)) }
-    ensures faults { OnOk result (Meets first.old first.new (limit_failure draft.now (bytes_of names.old.keys) u.now)) }
-    ensures memory { IsNoMemory result }
+    ensures names { OnOk result (key_names names.new.keys ≡ seen_with draft.now u.now (key_names names.old.keys)) }
+    ensures faults { OnOk result
+        (Meets first.old first.new (limit_failure draft.now (key_names names.old.keys) u.now)) }
+    ensures memory { IsOkUnless result AsmError.NoMemory }
 {
     let target = u.target;
     let name = target.mark.name.bytes();
@@ -82,16 +81,16 @@ fn add_use<'a>(
 
 // Whether a name is none of these names, and they are as many as an object may have.
 fn is_too_many(names: &IndexSet<&[u8]>, name: &[u8]) -> bool
-    ensures { result ≡ is_too_many (bytes_of names.now.keys) name.now }
+    ensures { result ≡ is_too_many (key_names names.now.keys) name.now }
 {
-    names.len() >= EXTERNALS && !names.contains(name)
+    names.len() >= EXTERNAL_LIMIT && !names.contains(name)
 }
 
 /// The names that an object has, made of names of a text.
 pub(crate) fn names_of(alloc: Global, names: &IndexSet<&[u8]>) -> Result<Vec<Name>, AsmError>
-    requires { list_all is_name (bytes_of names.now.keys) ≡ true }
-    ensures names { IfOk result (λ v. v.items ≡ bytes_of names.now.keys) }
-    ensures memory { IsNoMemory result }
+    requires { list_all is_name (key_names names.now.keys) ≡ true }
+    ensures names { IfOk result (λ v. v.items ≡ key_names names.now.keys) }
+    ensures memory { IsOkUnless result AsmError.NoMemory }
 {
     let mut made = Vec::new(alloc);
     for name in names {

@@ -1,10 +1,9 @@
 //! The words of an object that become pointers.
 
-ghost use Rattle.std.specs.Prelude.{◌≡◌, ◌++◌, ◌^◌, ◌<◌, ◌≤◌, length, IfOk, OnOk};
+ghost use Rattle.std.specs.Prelude.{◌≡◌, ◌++◌, ◌^◌, ◌<◌, ◌≤◌, length, IfOk, OnOk, IsOkUnless};
 ghost use Rattle.std.specs.List.{AllByRecursion};
 ghost use Rattle.mm_draft.specs.Drafts.{Segment as SegmentValue};
 ghost use Rattle.mm_asm.specs.Fits.{FitsPointer, FitsPointers};
-ghost use Rattle.mm_asm.specs.Answers.{IsNoMemory};
 ghost use Rattle.mm_asm.specs.Names.{externals_of};
 ghost use Rattle.mm_asm.specs.Meaning.{content_relocs, words_relocs, segments_relocs};
 
@@ -25,7 +24,7 @@ pub(crate) fn relocs_of(
     requires few { length draft.now.segments ≤ 256 }
     requires fits { AllByRecursion (λ (s : SegmentValue). FitsPointers draft.now s.words) draft.now.segments }
     ensures relocs { IfOk result (λ v. v.items ≡ segments_relocs draft.now 0 draft.now.segments) }
-    ensures memory { IsNoMemory result }
+    ensures memory { IsOkUnless result AsmError.NoMemory }
 {
     let mut relocs = Vec::new(alloc);
     for (number, segment) in draft.segments().iter().enumerate() {
@@ -45,7 +44,7 @@ fn push_words(
     requires fits { FitsPointers draft.now words.now }
     requires segment { segment < 2 ^ 16 }
     ensures relocs { OnOk result (relocs.new.items ≡ relocs.old.items ++ words_relocs draft.now segment 0 words.now) }
-    ensures memory { IsNoMemory result }
+    ensures memory { IsOkUnless result AsmError.NoMemory }
 {
     for (k, word) in words.iter().enumerate() {
         push_word(relocs, draft, externals, segment, k, &word.content)?;
@@ -67,7 +66,7 @@ fn push_word(
     requires word { word < 2 ^ 32 }
     ensures relocs { OnOk result (relocs.new.items ≡ relocs.old.items
         ++ content_relocs draft.now segment word content.now) }
-    ensures memory { IsNoMemory result }
+    ensures memory { IsOkUnless result AsmError.NoMemory }
 {
     match content {
         Content::Constant(Constant::Pointer { perm, target }) => {

@@ -1,8 +1,7 @@
 //! The targets of a draft, in the order of the text.
 
-ghost use Rattle.std.specs.Prelude.{◌≡◌, ◌++◌, IfOk, OnOk};
+ghost use Rattle.std.specs.Prelude.{◌≡◌, ◌++◌, IfOk, OnOk, IsOkUnless};
 ghost use Rattle.std.specs.List.{flat_map};
-ghost use Rattle.mm_asm.specs.Answers.{IsNoMemory};
 ghost use Rattle.mm_asm.specs.Names.{constant_uses, word_uses, register_uses, segment_uses, thread_uses, merge};
 ghost use Rattle.mm_asm.specs.Names.{uses_of};
 
@@ -48,7 +47,7 @@ pub(crate) fn uses<'d, 'a>(
     draft: &'d Draft<'a>,
 ) -> Result<Vec<Use<'d, 'a>>, AsmError>
     ensures uses { IfOk result (λ v. v.items ≡ uses_of draft.now) }
-    ensures memory { IsNoMemory result }
+    ensures memory { IsOkUnless result AsmError.NoMemory }
 {
     let words = words_uses(alloc, draft.segments())?;
     let threads = threads_uses(alloc, draft.threads())?;
@@ -61,7 +60,7 @@ fn words_uses<'d, 'a>(
     segments: &'d [Segment<'a>],
 ) -> Result<Vec<Use<'d, 'a>>, AsmError>
     ensures uses { IfOk result (λ v. v.items ≡ flat_map segment_uses segments.now) }
-    ensures memory { IsNoMemory result }
+    ensures memory { IsOkUnless result AsmError.NoMemory }
 {
     let mut uses = Vec::new(alloc);
     for segment in segments {
@@ -76,7 +75,7 @@ fn threads_uses<'d, 'a>(
     threads: &'d [Thread<'a>],
 ) -> Result<Vec<Use<'d, 'a>>, AsmError>
     ensures uses { IfOk result (λ v. v.items ≡ flat_map thread_uses threads.now) }
-    ensures memory { IsNoMemory result }
+    ensures memory { IsOkUnless result AsmError.NoMemory }
 {
     let mut uses = Vec::new(alloc);
     for thread in threads {
@@ -88,7 +87,7 @@ fn threads_uses<'d, 'a>(
 // Adds the targets of words.
 fn push_words<'d, 'a>(uses: &mut Vec<Use<'d, 'a>>, words: &'d [Word<'a>]) -> Result<(), AsmError>
     ensures uses { OnOk result (uses.new.items ≡ uses.old.items ++ flat_map word_uses words.now) }
-    ensures memory { IsNoMemory result }
+    ensures memory { IsOkUnless result AsmError.NoMemory }
 {
     for word in words {
         push_word(uses, word)?;
@@ -99,7 +98,7 @@ fn push_words<'d, 'a>(uses: &mut Vec<Use<'d, 'a>>, words: &'d [Word<'a>]) -> Res
 // Adds the target of a word.
 fn push_word<'d, 'a>(uses: &mut Vec<Use<'d, 'a>>, word: &'d Word<'a>) -> Result<(), AsmError>
     ensures uses { OnOk result (uses.new.items ≡ uses.old.items ++ word_uses word.now) }
-    ensures memory { IsNoMemory result }
+    ensures memory { IsOkUnless result AsmError.NoMemory }
 {
     match &word.content {
         Content::Constant(constant) => push_constant(uses, constant, word.source),
@@ -114,7 +113,7 @@ fn push_constant<'d, 'a>(
     source: Source,
 ) -> Result<(), AsmError>
     ensures uses { OnOk result (uses.new.items ≡ uses.old.items ++ constant_uses source constant.now) }
-    ensures memory { IsNoMemory result }
+    ensures memory { IsOkUnless result AsmError.NoMemory }
 {
     match constant {
         Constant::Integer(_) => Ok(()),
@@ -128,7 +127,7 @@ fn push_constant<'d, 'a>(
 // Adds the targets of a thread.
 fn push_thread<'d, 'a>(uses: &mut Vec<Use<'d, 'a>>, thread: &'d Thread<'a>) -> Result<(), AsmError>
     ensures uses { OnOk result (uses.new.items ≡ uses.old.items ++ thread_uses thread.now) }
-    ensures memory { IsNoMemory result }
+    ensures memory { IsOkUnless result AsmError.NoMemory }
 {
     uses.push(Use {
         target: &thread.target,
@@ -143,7 +142,7 @@ fn push_registers<'d, 'a>(
     registers: &'d [Register<'a>],
 ) -> Result<(), AsmError>
     ensures uses { OnOk result (uses.new.items ≡ uses.old.items ++ flat_map register_uses registers.now) }
-    ensures memory { IsNoMemory result }
+    ensures memory { IsOkUnless result AsmError.NoMemory }
 {
     for register in registers {
         push_constant(uses, &register.value, register.source)?;
@@ -158,7 +157,7 @@ fn merge<'d, 'a>(
     ys: &[Use<'d, 'a>],
 ) -> Result<Vec<Use<'d, 'a>>, AsmError>
     ensures uses { IfOk result (λ v. v.items ≡ merge xs.now ys.now) }
-    ensures memory { IsNoMemory result }
+    ensures memory { IsOkUnless result AsmError.NoMemory }
 {
     let mut merged = Vec::new(alloc);
     let mut i = 0;
@@ -182,7 +181,7 @@ fn merge<'d, 'a>(
 // Adds all of these uses.
 fn push_all<'d, 'a>(uses: &mut Vec<Use<'d, 'a>>, more: &[Use<'d, 'a>]) -> Result<(), AsmError>
     ensures uses { OnOk result (uses.new.items ≡ uses.old.items ++ more.now) }
-    ensures memory { IsNoMemory result }
+    ensures memory { IsOkUnless result AsmError.NoMemory }
 {
     for u in more {
         uses.push(u.again())?;

@@ -1,12 +1,11 @@
 //! The segments of an object, and the bits of their words.
 
-ghost use Rattle.std.specs.Prelude.{◌≡◌, map, IfOk, FitsSigned};
+ghost use Rattle.std.specs.Prelude.{◌≡◌, map, IfOk, FitsSigned, IsOkUnless};
 ghost use Rattle.std.specs.Int.{w32};
 ghost use Rattle.std.specs.List.{AllByRecursion};
 ghost use Rattle.mm_isa.specs.Table.{FitInWord};
 ghost use Rattle.mm_asm.specs.Fits.{FitsContent, FitsWords, FitsSegment};
-ghost use Rattle.mm_asm.specs.Answers.{IsNoMemory};
-ghost use Rattle.mm_asm.specs.Meaning.{distance_to, with_goal, bits_of, items_from, segment_of};
+ghost use Rattle.mm_asm.specs.Meaning.{distance_to, with_goal, bits_of, word_items, segment_of};
 ghost use Rattle.mm_draft.specs.Drafts.{place_of};
 
 use crate::AsmError;
@@ -57,8 +56,8 @@ fn bits_of(draft: &Draft<'_>, word: usize, content: &Content<'_>) -> u64
 // The words of a segment.
 fn items_of(alloc: Global, draft: &Draft<'_>, words: &[Word<'_>]) -> Result<Vec<Item>, AsmError>
     requires { FitsWords draft.now 0 words.now }
-    ensures items { IfOk result (λ v. v.items ≡ items_from draft.now 0 words.now) }
-    ensures memory { IsNoMemory result }
+    ensures items { IfOk result (λ v. v.items ≡ word_items draft.now 0 words.now) }
+    ensures memory { IsOkUnless result AsmError.NoMemory }
 {
     let mut items = Vec::new(alloc);
     for (k, word) in words.iter().enumerate() {
@@ -73,7 +72,7 @@ fn items_of(alloc: Global, draft: &Draft<'_>, words: &[Word<'_>]) -> Result<Vec<
 fn segment_of(alloc: Global, draft: &Draft<'_>, said: &Said<'_>) -> Result<Segment, AsmError>
     requires { FitsSegment draft.now said.now }
     ensures segment { IfOk result (λ s. s ≡ segment_of draft.now said.now) }
-    ensures memory { IsNoMemory result }
+    ensures memory { IsOkUnless result AsmError.NoMemory }
 {
     Ok(Segment {
         name: name_of(said.name.bytes()),
@@ -86,7 +85,7 @@ fn segment_of(alloc: Global, draft: &Draft<'_>, said: &Said<'_>) -> Result<Segme
 pub(crate) fn segments_of(alloc: Global, draft: &Draft<'_>) -> Result<Vec<Segment>, AsmError>
     requires { AllByRecursion (FitsSegment draft.now) draft.now.segments }
     ensures segments { IfOk result (λ v. v.items ≡ map (segment_of draft.now) draft.now.segments) }
-    ensures memory { IsNoMemory result }
+    ensures memory { IsOkUnless result AsmError.NoMemory }
 {
     let mut segments = Vec::new(alloc);
     for said in draft.segments() {

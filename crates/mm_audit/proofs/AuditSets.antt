@@ -21,9 +21,9 @@ empty_set : IsSet []
 empty_set = record { segments = λ k lt. absurd (omega arith); rise = λ m n up lt. absurd (omega arith) }
 
 -- a group that no slot can have is granted nothing
-pub none_maximal : (i : Image) (e : Entries) → IsImage i → (access : WordUse) (g : ℕ) → 64 ≤ g
-    → MaximalSegments i e g (can access) []
-none_maximal i e image access g le = record {
+pub none_maximal : (i : Image) (e : Entries) → IsImage i → (how : WordUse) (g : ℕ) → 64 ≤ g
+    → MaximalSegments i e g (can how) []
+none_maximal i e image how g le = record {
   ascending = tt;
   each = λ t. (
     λ m. absurd (omega (arith, m.1)),
@@ -32,26 +32,26 @@ none_maximal i e image access g le = record {
 }
 
 module _ (i : Image) (e : Entries) (s : SurveyValue) (h : Surveys i e s) where
-  module _ (access : WordUse) (sets : List (List (ℕ × ℕ))) (own : AreGroupSets s.spans access 64 sets) where
+  module _ (how : WordUse) (sets : List (List (ℕ × ℕ))) (own : AreGroupSets s.spans how 64 sets) where
     empty : (g : ℕ) → 64 ≤ g → set_of sets g ≡ []
     empty g le = empty_past sets g (let len = own.len in omega arith)
 
-    maximal : (g : ℕ) → MaximalSegments i e g (can access) (set_of sets g)
+    maximal : (g : ℕ) → MaximalSegments i e g (can how) (set_of sets g)
     maximal g = elim (cases_lt g 64) [
-      | inl lt ↦ subst (MaximalSegments i e g (can access)) (sym (own.each g lt)) (are_maximal i e s.spans h.spans access g)
-      | inr le ↦ subst (MaximalSegments i e g (can access)) (sym (empty g le))
-          (none_maximal i e h.image access g le)
+      | inl lt ↦ subst (MaximalSegments i e g (can how)) (sym (own.each g lt)) (are_maximal i e s.spans h.spans how g)
+      | inr le ↦ subst (MaximalSegments i e g (can how)) (sym (empty g le))
+          (none_maximal i e h.image how g le)
     ]
 
     set_is : (g : ℕ) → IsSet (set_of sets g)
     set_is g = elim (cases_lt g 64) [
-      | inl lt ↦ subst IsSet (sym (own.each g lt)) (outermost_set access (2 ^ g) s.spans 0 h.spans.order)
+      | inl lt ↦ subst IsSet (sym (own.each g lt)) (outermost_set how (2 ^ g) s.spans 0 h.spans.order)
       | inr le ↦ subst IsSet (sym (empty g le)) empty_set
     ]
 
-    covers : (g w : ℕ) → w % 8 ≡ 0 → Covered (set_of sets g) w ↔ CanUse i e access g w
+    covers : (g w : ℕ) → w % 8 ≡ 0 → Covered (set_of sets g) w ↔ CanUse i e how g w
     covers g w aligned = elim (cases_lt g 64) [
-      | inl lt ↦ subst (λ v. Covered v w ↔ CanUse i e access g w) (sym (own.each g lt)) (group_covers i e s.spans h.spans access g w aligned)
+      | inl lt ↦ subst (λ v. Covered v w ↔ CanUse i e how g w) (sym (own.each g lt)) (group_covers i e s.spans h.spans how g w aligned)
       | inr le ↦ (λ c. absurd (past sets g w (let len = own.len in omega arith) c), λ u. absurd (let lt = granted-small i e h.image g u.by u.granted in omega arith))
     ]
 

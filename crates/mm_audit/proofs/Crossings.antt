@@ -4,7 +4,7 @@ use Rattle.std.specs.Int.{bit_at, w64}
 use Rattle.std.proofs.lemmas.Bool.{cases_lt}
 use Rattle.std.proofs.lemmas.Nat.Bits.{bit_at_set_same, bit_at_set_other}
 use Rattle.mm_flow.proofs.Masks.{below_cases}
-use Rattle.mm_audit.specs.declared.served.Served.{Served}
+use Rattle.mm_audit.specs.declared.handlers.Served.{Served}
 use Rattle.mm_audit.specs.Crossing.{IsCrossing, LeastCrossing, NoCrossing, served_at}
 
 abbrev IsMask : ℕ → ℕ → (ℕ → Bool) → Type 0

@@ -22,11 +22,11 @@ use Rattle.mm_audit.proofs.Outermost.{is_of, from_spans, outermost_set, outermos
 use Rattle.mm_audit.proofs.PointerSegments.{segment_of, between, in_by, shorter}
 
 -- a granted pointer with the right covers the word
-pub record CanUse (i : Image) (e : Entries) (access : WordUse) (g w : ℕ) : Type 0 where
+pub record CanUse (i : Image) (e : Entries) (how : WordUse) (g w : ℕ) : Type 0 where
   pub by : Pointer
   pub granted : Grants i e g by
   pub word : w % 8 ≡ 0
-  pub right : can access by.perm ≡ true
+  pub right : can how by.perm ≡ true
   pub covers : Covers by w
 
 pub touch_use : (i : Image) (e : Entries) (g w : ℕ) → CanTouch i e g w ↔ CanUse i e Touch g w
@@ -42,10 +42,10 @@ write_use i e g w = (
 )
 
 -- the group uses a span that has the word
-pub record UsedSpan (spans : List Span) (access : WordUse) (g w : ℕ) : Type 0 where
+pub record UsedSpan (spans : List Span) (how : WordUse) (g w : ℕ) : Type 0 where
   pub at : ℕ
   pub small : at < length spans
-  pub uses : Uses spans access at g
+  pub uses : Uses spans how at g
   pub low : base_at spans at ≤ w
   pub high : w < end_at spans at
 
@@ -55,21 +55,21 @@ rises (x ∷ []) h = tt
 rises (x ∷ y ∷ zs) h =
     (h 0 (omega arith), rises (y ∷ zs) (λ k lt. let e : suc k + 1 ≡ suc (k + 1) = omega arith in subst (λ v. (segment_at (y ∷ zs) k).0 < (segment_at (x ∷ y ∷ zs) v).0) e (h (suc k) (omega arith))))
 
-module _ (i : Image) (e : Entries) (spans : List Span) (a : AreSpans i e spans) (access : WordUse) where
+module _ (i : Image) (e : Entries) (spans : List Span) (a : AreSpans i e spans) (how : WordUse) where
   -- 1. Words.
 
   long_of : (p : Pointer) (w : ℕ) → Covers p w → 3 ≤ p.log
   long_of p w c = elim (cases_lt p.log 3) [ inl short ↦ absurd (Covers-short p short w c) | inr le ↦ le ]
 
-  pub use_span : (g w : ℕ) → CanUse i e access g w → UsedSpan spans access g w
+  pub use_span : (g w : ℕ) → CanUse i e how g w → UsedSpan spans how g w
   use_span g w u =
-      let h = a.held access g u.by u.granted u.right (long_of u.by w u.covers) in
+      let h = a.held how g u.by u.granted u.right (long_of u.by w u.covers) in
       let b = covers_in u.by w u.covers in
       record { at = h.at; small = h.small; uses = h.uses; low = (let p = h.within.0 in let q = b.0 in omega arith); high = (let p = h.within.1 in let q = b.1 in omega arith) }
 
-  pub span_use : (g w : ℕ) → w % 8 ≡ 0 → UsedSpan spans access g w → CanUse i e access g w
+  pub span_use : (g w : ℕ) → w % 8 ≡ 0 → UsedSpan spans how g w → CanUse i e how g w
   span_use g w aligned u =
-      let gs = a.granted access g u.at u.small u.uses in
+      let gs = a.granted how g u.at u.small u.uses in
       record {
         by = gs.by;
         granted = gs.granted;
@@ -82,27 +82,27 @@ module _ (i : Image) (e : Entries) (spans : List Span) (a : AreSpans i e spans) 
 
   module _ (g : ℕ) where
     abbrev set : List (ℕ × ℕ)
-    set = outermost access (2 ^ g) 0 spans
+    set = outermost how (2 ^ g) 0 spans
 
     is_set : IsSet set
-    is_set = outermost_set access (2 ^ g) spans 0 a.order
+    is_set = outermost_set how (2 ^ g) spans 0 a.order
 
-    uses_then : (n : ℕ) → is_of access (2 ^ g) (span_at spans n) ≡ true → Uses spans access n g
-    uses_then n t = eqb-true _ _ (sym (one_test (mask access (span_at spans n)) g) ∙ t)
+    uses_then : (n : ℕ) → is_of how (2 ^ g) (span_at spans n) ≡ true → Uses spans how n g
+    uses_then n t = eqb-true _ _ (sym (one_test (mask how (span_at spans n)) g) ∙ t)
 
-    then_uses : (n : ℕ) → Uses spans access n g → is_of access (2 ^ g) (span_at spans n) ≡ true
-    then_uses n u = one_test (mask access (span_at spans n)) g ∙ eq-eqb _ _ u
+    then_uses : (n : ℕ) → Uses spans how n g → is_of how (2 ^ g) (span_at spans n) ≡ true
+    then_uses n u = one_test (mask how (span_at spans n)) g ∙ eq-eqb _ _ u
 
-    granted : (n : ℕ) → n < length set → GrantedSegment i e g (can access) (segment_at set n)
+    granted : (n : ℕ) → n < length set → GrantedSegment i e g (can how) (segment_at set n)
     granted n lt =
-        let f = from_spans access (2 ^ g) spans 0 n lt in
-        subst (GrantedSegment i e g (can access)) (sym f.is) (a.granted access g f.at f.small (uses_then f.at f.uses))
+        let f = from_spans how (2 ^ g) spans 0 n lt in
+        subst (GrantedSegment i e g (can how)) (sym f.is) (a.granted how g f.at f.small (uses_then f.at f.uses))
 
     -- each granted segment lies in one of the set
-    above : (q : Pointer) → Grants i e g q → can access q.perm ≡ true → 3 ≤ q.log → SomeHolds set (segment_of q)
+    above : (q : Pointer) → Grants i e g q → can how q.perm ≡ true → 3 ≤ q.log → SomeHolds set (segment_of q)
     above q h c long =
-        let s = a.held access g q h c long in
-        let t = outermost_holds access (2 ^ g) spans a.order s.at s.small (then_uses s.at s.uses) in
+        let s = a.held how g q h c long in
+        let t = outermost_holds how (2 ^ g) spans a.order s.at s.small (then_uses s.at s.uses) in
         record { at = t.at; small = t.small; within = (let p = s.within.0 in let r = t.within.0 in omega arith, let p = s.within.1 in let r = t.within.1 in omega arith) }
 
     -- two segments of the set that share an address are one
@@ -118,7 +118,7 @@ module _ (i : Image) (e : Entries) (spans : List Span) (a : AreSpans i e spans) 
     base_inside : (s : ℕ × ℕ) → s.0 < end_of s
     base_inside s = let room = pow_pos s.1 in omega arith
 
-    maximal : (n : ℕ) → n < length set → (p : Pointer) → Grants i e g p → can access p.perm ≡ true → InSegment p (segment_at set n).0 → p.log ≤ (segment_at set n).1
+    maximal : (n : ℕ) → n < length set → (p : Pointer) → Grants i e g p → can how p.perm ≡ true → InSegment p (segment_at set n).0 → p.log ≤ (segment_at set n).1
     maximal n lt p h c inside = elim (cases_lt p.log 3) [
       | inl short ↦ let low = (is_set.segments n lt).low in omega arith
       | inr long ↦
@@ -131,15 +131,15 @@ module _ (i : Image) (e : Entries) (spans : List Span) (a : AreSpans i e spans) 
           shorter (segment_of p) (segment_at set n) (subst (λ v. LiesIn (segment_of p) (segment_at set v)) same w)
     ]
 
-    to_maximal : (s : ℕ × ℕ) → Contains set s → MaximalSegment i e g (can access) s
+    to_maximal : (s : ℕ × ℕ) → Contains set s → MaximalSegment i e g (can how) s
     to_maximal s m =
         let is : segment_at set m.0 ≡ s = get_or_default set m.0 (0, 0) s m.1 ∙ m.2 in
-        subst (MaximalSegment i e g (can access)) is (record { granted = granted m.0 m.1; maximal = maximal m.0 m.1 })
+        subst (MaximalSegment i e g (can how)) is (record { granted = granted m.0 m.1; maximal = maximal m.0 m.1 })
 
     same_pair : (s t : ℕ × ℕ) → s.0 ≡ t.0 → s.1 ≡ t.1 → s ≡ t
     same_pair s t p q = λ j. (p j, q j)
 
-    from_maximal : (s : ℕ × ℕ) → MaximalSegment i e g (can access) s → Contains set s
+    from_maximal : (s : ℕ × ℕ) → MaximalSegment i e g (can how) s → Contains set s
     from_maximal s m =
         let gs = m.granted in
         let t = above gs.by gs.granted gs.has_right gs.whole_word in
@@ -157,7 +157,7 @@ module _ (i : Image) (e : Entries) (spans : List Span) (a : AreSpans i e spans) 
         let same_base : (segment_at set t.at).0 ≡ s.0 = (let u = w.0 in let v = w.1 in omega arith) in
         subst (Contains set) (same_pair (segment_at set t.at) s same_base same_log) (Contains-get_or set t.at (0, 0) t.small)
 
-    pub are_maximal : MaximalSegments i e g (can access) set
+    pub are_maximal : MaximalSegments i e g (can how) set
     are_maximal = record {
       ascending = rises set (λ k lt. let up = is_set.rise k (k + 1) (omega arith) lt in let room = base_inside (segment_at set k) in omega arith);
       each = λ s. (to_maximal s, from_maximal s);
@@ -166,18 +166,18 @@ module _ (i : Image) (e : Entries) (spans : List Span) (a : AreSpans i e spans) 
   -- 3. The words of some groups.
 
   -- a segment of the groups covers the word exactly where one of them uses a span that has it
-  pub covered_use : (groups w : ℕ) → Covered (outermost access groups 0 spans) w → (n : ℕ) × (n < length spans)
-      × (is_of access groups (span_at spans n) ≡ true) × (base_at spans n ≤ w) × (w < end_at spans n)
+  pub covered_use : (groups w : ℕ) → Covered (outermost how groups 0 spans) w → (n : ℕ) × (n < length spans)
+      × (is_of how groups (span_at spans n) ≡ true) × (base_at spans n ≤ w) × (w < end_at spans n)
   covered_use groups w c =
-      let f = from_spans access groups spans 0 c.by c.at.0 in
+      let f = from_spans how groups spans 0 c.by c.at.0 in
       (f.at, f.small, f.uses, subst (λ (v : ℕ × ℕ). v.0 ≤ w) f.is c.at.1, subst (λ (v : ℕ × ℕ). w < end_of v) f.is c.at.2)
 
-  pub use_covered : (groups w n : ℕ) → n < length spans → is_of access groups (span_at spans n) ≡ true → base_at spans n ≤ w → w < end_at spans n → Covered (outermost access groups 0 spans) w
+  pub use_covered : (groups w n : ℕ) → n < length spans → is_of how groups (span_at spans n) ≡ true → base_at spans n ≤ w → w < end_at spans n → Covered (outermost how groups 0 spans) w
   use_covered groups w n lt uses low high =
-      let t = outermost_holds access groups spans a.order n lt uses in
+      let t = outermost_holds how groups spans a.order n lt uses in
       record { by = t.at; at = (t.small, let p = t.within.0 in omega arith, let p = t.within.1 in omega arith) }
 
-  pub group_covers : (g w : ℕ) → w % 8 ≡ 0 → Covered (outermost access (2 ^ g) 0 spans) w ↔ CanUse i e access g w
+  pub group_covers : (g w : ℕ) → w % 8 ≡ 0 → Covered (outermost how (2 ^ g) 0 spans) w ↔ CanUse i e how g w
   group_covers g w aligned = (
     λ c. let u = covered_use (2 ^ g) w c in span_use g w aligned (record { at = u.0; small = u.1; uses = uses_then g u.0 u.2; low = u.3; high = u.4 }),
     λ u. let s = use_span g w u in use_covered (2 ^ g) w s.at s.small (then_uses g s.at s.uses) s.low s.high,

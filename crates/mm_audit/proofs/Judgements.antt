@@ -15,8 +15,8 @@ use Rattle.mm_model.specs.Audit.Verdict.{Yes, Handler, Writer}
 use Rattle.mm_model.proofs.CoreSteps.{handler_is}
 use Rattle.mm_graph.proofs.KeyLists.{contains_here, contains_cases}
 use Rattle.mm_graph.proofs.Cells.{in_flat_map, from_flat_map}
-use Rattle.mm_audit.specs.declared.served.Served.{Served}
-use Rattle.mm_audit.specs.declared.meets.Meets.{Meets}
+use Rattle.mm_audit.specs.declared.handlers.Served.{Served}
+use Rattle.mm_audit.specs.declared.shared_words.Meets.{Meets}
 use Rattle.mm_audit.specs.Meeting.{row_at, word_at}
 use Rattle.mm_audit.specs.Surveys.{IsLeastTable}
 use Rattle.mm_audit.specs.Serving.{served_by, served_of}

@@ -7,7 +7,7 @@ use Rattle.mm_seg.proofs.Searches.{compare, same_or_below}
 use Rattle.mm_model.specs.declared.word_use.WordUse.{WordUse}
 use Rattle.mm_model.specs.declared.word_use.WordUse.TheVariants.{Touch, Write}
 use Rattle.mm_audit.specs.declared.span.Span.{Span}
-use Rattle.mm_audit.specs.declared.meets.Meets.{Meets}
+use Rattle.mm_audit.specs.declared.shared_words.Meets.{Meets}
 use Rattle.mm_audit.specs.Spans.{AreSpans, base_at}
 use Rattle.mm_audit.specs.Opening.{IsLive}
 use Rattle.mm_audit.specs.Meeting.{HaveMet, HasWord, MeetAt, word_at}
@@ -21,13 +21,13 @@ module _ (i : Image) (e : Entries) (image : IsImage i) (spans : List Span) (a : 
   rises j k le lt = elim (same_or_below j k (omega arith)) [ inl less ↦ a.order.rise j k less lt | inr same ↦ subst (λ v. base_at spans j ≤ base_at spans v) same (omega arith) ]
 
   -- who is live at the base of a span uses it
-  live_use : (access : WordUse) (g k : ℕ) → k < length spans → IsLive spans access (k + 1) (base_at spans k) g → CanUse i e access g (base_at spans k)
-  live_use access g k lt live =
-      span_use i e spans a access g (base_at spans k) (base_word _ (a.order.segments k lt))
+  live_use : (how : WordUse) (g k : ℕ) → k < length spans → IsLive spans how (k + 1) (base_at spans k) g → CanUse i e how g (base_at spans k)
+  live_use how g k lt live =
+      span_use i e spans a how g (base_at spans k) (base_word _ (a.order.segments k lt))
       (record { at = live.span; small = (let s = live.small in omega arith); uses = live.uses; low = rises live.span k (let s = live.small in omega arith) lt; high = live.live })
 
-  use_live : (access : WordUse) (g w k : ℕ) (u : UsedSpan spans access g w) → u.at ≤ k → base_at spans k ≤ w → IsLive spans access (k + 1) (base_at spans k) g
-  use_live access g w k u le low = record { span = u.at; small = omega arith; uses = u.uses; live = (let h = u.high in omega arith) }
+  use_live : (how : WordUse) (g w k : ℕ) (u : UsedSpan spans how g w) → u.at ≤ k → base_at spans k ≤ w → IsLive spans how (k + 1) (base_at spans k) g
+  use_live how g w k u le low = record { span = u.at; small = omega arith; uses = u.uses; live = (let h = u.high in omega arith) }
 
   -- Two groups that share a word meet at the base of the later of the two spans that have it.
   pub record MeetBefore (h g w : ℕ) : Type 0 where

@@ -24,7 +24,7 @@ use Rattle.mm_graph.specs.GraphOf.{Marked}
 use Rattle.mm_graph.proofs.Segments.{below-can_load, below-can_store}
 use Rattle.mm_seg.specs.Segments.{LiesIn}
 use Rattle.mm_graph.specs.declared.canonical_ptr.CanonicalPtr.{CanonicalPtr}
-use Rattle.mm_graph.specs.Key.{key_at, no_key, pointer_at}
+use Rattle.mm_graph.specs.Key.{key_at, no_key}
 use Rattle.mm_graph.specs.Marked.{IsMarked, node_pointer}
 use Rattle.mm_graph.proofs.Nesting.{log_is}
 use Rattle.mm_graph.proofs.Bounds.{three_then}
@@ -32,7 +32,7 @@ use Rattle.mm_model.specs.declared.word_use.WordUse.{WordUse}
 use Rattle.mm_model.specs.declared.word_use.WordUse.TheVariants.{Touch, Write}
 use Rattle.mm_audit.specs.declared.span.Span.{Span}
 use Rattle.mm_audit.specs.Spans.{AreSpans, IsHeld, Uses, can, mask, span_at, segment_of as span_segment}
-use Rattle.mm_audit.specs.Marks.{kept_mask, span_of, whole_span, IsUsed, IsListed, SpansOf}
+use Rattle.mm_audit.specs.Marks.{kept_mask, span_of, whole_span, IsUsed, IsAmongSpans, SpansOf}
 use Rattle.mm_audit.specs.Surveys.{ArePrivileged}
 use Rattle.mm_audit.proofs.Granted.{granted-well_formed}
 use Rattle.mm_audit.proofs.KeyOrder.{key_segment, in_memory}
@@ -51,18 +51,7 @@ some_bit m g h e = let z = bit_at-zero g in let one : bit_at 0 g ≡ 1 = subst (
 three : (n : ℕ) → nat_le 3 n ≡ true → 3 ≤ n
 three n h = grind (arith, nat_tests)
 
--- a node that is used permits a load or a store of words
-used_words : (loads stores : Bool) (m : ℕ) (p : Pointer) → loads ≡ (can_load p.perm && nat_le 3 p.log) → stores ≡ (can_store p.perm && nat_le 3 p.log)
-    → IsUsed (record { base = 0; touch = kept_mask loads m; write = kept_mask stores m; log = 0 }) → 3 ≤ p.log
-used_words true stores m p l s u = three p.log (and_parts (can_load p.perm) (nat_le 3 p.log) (sym l)).1
-used_words false true m p l s u = three p.log (and_parts (can_store p.perm) (nat_le 3 p.log) (sym s)).1
-used_words false false m p l s (inl u) = absurd (u refl)
-used_words false false m p l s (inr u) = absurd (u refl)
-
 module _ (i : Image) (e : Entries) (image : IsImage i) (keys : List CanonicalPtr) (nodes : List Node) (marks : List ℕ) (m : IsMarked i e keys nodes marks) where
-  pub used_nodes : (k : ℕ) → k < length keys → IsUsed (span_of keys nodes marks k) → 3 ≤ (pointer_at (key_at keys k)).log
-  used_nodes k lt u = used_words _ _ (slice_index marks k) (node_pointer keys k) (m.loads k lt) (m.stores k lt) u
-
   module _ (privileged : ℕ) (rights : (g : ℕ) → (bit_at privileged g ≡ 1) ↔ HasSome marks (right_at nodes Make) g) where
     x : IsExact i e (in_mask privileged) (Marked (node_pointer keys) marks)
     x = m.exact privileged rights
@@ -71,18 +60,18 @@ module _ (i : Image) (e : Entries) (image : IsImage i) (keys : List CanonicalPtr
     are_privileged g = (λ bit. (x.rights g).0 (eq-eqb _ _ bit), λ p. eqb-true _ _ ((x.rights g).1 p))
 
     module _ (spans : List Span) (s : SpansOf keys nodes marks privileged (length keys) spans) where
-      module _ (access : WordUse) (right : Right) (whole : Perm) (can_whole : can access whole ≡ true) (no_key_right : can access KeyPerm ≡ true → ⊥)
-          (below-can : (p q : Pointer) → IsBelow q p → can access q.perm ≡ true → can access p.perm ≡ true)
-          (tests : (k : ℕ) → k < length keys → right_at nodes right k ≡ (can access (node_pointer keys k).perm && nat_le 3 (node_pointer keys k).log))
-          (node_mask : (k : ℕ) → mask access (span_of keys nodes marks k) ≡ kept_mask (right_at nodes right k) (slice_index marks k))
-          (whole_mask : mask access (whole_span privileged) ≡ privileged) (used : (t : Span) → (mask access t ≡ 0 → ⊥) → IsUsed t) (g : ℕ) where
+      module _ (how : WordUse) (right : Right) (whole : Perm) (can_whole : can how whole ≡ true) (no_key_right : can how KeyPerm ≡ true → ⊥)
+          (below-can : (p q : Pointer) → IsBelow q p → can how q.perm ≡ true → can how p.perm ≡ true)
+          (tests : (k : ℕ) → k < length keys → right_at nodes right k ≡ (can how (node_pointer keys k).perm && nat_le 3 (node_pointer keys k).log))
+          (node_mask : (k : ℕ) → mask how (span_of keys nodes marks k) ≡ kept_mask (right_at nodes right k) (slice_index marks k))
+          (whole_mask : mask how (whole_span privileged) ≡ privileged) (used : (t : Span) → (mask how t ≡ 0 → ⊥) → IsUsed t) (g : ℕ) where
         segment_is : (k : ℕ) → k < length keys → key_segment (key_at keys k) ≡ segment_of (node_pointer keys k)
         segment_is k lt = let h = m.all k no_key lt in λ j. (h.base j, log_is (key_at keys k) h j)
 
         whole_by : Pointer
         whole_by = record { perm = whole; log = 54; addr = 0 }
 
-        granted_whole : bit_at privileged g ≡ 1 → GrantedSegment i e g (can access) (0, 54)
+        granted_whole : bit_at privileged g ≡ 1 → GrantedSegment i e g (can how) (0, 54)
         granted_whole bit =
             let p = (are_privileged g).0 bit in
             record {
@@ -94,10 +83,10 @@ module _ (i : Image) (e : Entries) (image : IsImage i) (keys : List CanonicalPtr
               whole_word = omega arith;
             }
 
-        granted_node : (k : ℕ) → k < length keys → bit_at (kept_mask (right_at nodes right k) (slice_index marks k)) g ≡ 1 → GrantedSegment i e g (can access) (key_segment (key_at keys k))
+        granted_node : (k : ℕ) → k < length keys → bit_at (kept_mask (right_at nodes right k) (slice_index marks k)) g ≡ 1 → GrantedSegment i e g (can how) (key_segment (key_at keys k))
         granted_node k lt bit =
             let t = kept_then (right_at nodes right k) (slice_index marks k) g bit in
-            let r = and_parts (can access (node_pointer keys k).perm) (nat_le 3 (node_pointer keys k).log) (sym (tests k lt) ∙ t.1) in
+            let r = and_parts (can how (node_pointer keys k).perm) (nat_le 3 (node_pointer keys k).log) (sym (tests k lt) ∙ t.1) in
             record {
               by = node_pointer keys k;
               granted = x.known_granted g (node_pointer keys k) (record { at = k; small = (let l = m.marks_len in omega arith); marked = t.0; is = refl });
@@ -106,35 +95,35 @@ module _ (i : Image) (e : Entries) (image : IsImage i) (keys : List CanonicalPtr
               whole_word = three (node_pointer keys k).log r.1;
             }
 
-        pub granted : (n : ℕ) → n < length spans → Uses spans access n g → GrantedSegment i e g (can access) (span_segment (span_at spans n))
+        pub granted : (n : ℕ) → n < length spans → Uses spans how n g → GrantedSegment i e g (can how) (span_segment (span_at spans n))
         granted n lt uses = elim (s.from n lt) [
-          | inl e2 ↦ subst (λ v. GrantedSegment i e g (can access) (span_segment v)) (sym e2)
-              (granted_whole (subst (λ v. bit_at v g ≡ 1) whole_mask (subst (λ v. bit_at (mask access v) g ≡ 1) e2
+          | inl e2 ↦ subst (λ v. GrantedSegment i e g (can how) (span_segment v)) (sym e2)
+              (granted_whole (subst (λ v. bit_at v g ≡ 1) whole_mask (subst (λ v. bit_at (mask how v) g ≡ 1) e2
               uses)))
-          | inr o ↦ subst (λ v. GrantedSegment i e g (can access) (span_segment v)) (sym o.is)
-              (granted_node o.node o.small (subst (λ v. bit_at v g ≡ 1) (node_mask o.node) (subst (λ v. bit_at (mask access v) g ≡ 1) o.is uses)))
+          | inr o ↦ subst (λ v. GrantedSegment i e g (can how) (span_segment v)) (sym o.is)
+              (granted_node o.node o.small (subst (λ v. bit_at v g ≡ 1) (node_mask o.node) (subst (λ v. bit_at (mask how v) g ≡ 1) o.is uses)))
         ]
 
-        not_powerless : (q : Pointer) → can access q.perm ≡ true → 3 ≤ q.log → IsPowerless q → ⊥
-        not_powerless q c long (inl e2) = no_key_right (ap (can access) (sym e2) ∙ c)
+        not_powerless : (q : Pointer) → can how q.perm ≡ true → 3 ≤ q.log → IsPowerless q → ⊥
+        not_powerless q c long (inl e2) = no_key_right (ap (can how) (sym e2) ∙ c)
         not_powerless q c long (inr short) = let lt = short.0 in omega arith
 
-        held_by : (t : Span) (q : ℕ × ℕ) → bit_at (mask access t) g ≡ 1 → LiesIn q (span_segment t) → IsListed spans t → IsHeld spans access g q
+        held_by : (t : Span) (q : ℕ × ℕ) → bit_at (mask how t) g ≡ 1 → LiesIn q (span_segment t) → IsAmongSpans spans t → IsHeld spans how g q
         held_by t q bit within st = record {
           at = st.at;
           small = st.small;
           uses = subst
-              (λ v. bit_at (mask access v) g ≡ 1) (sym st.is) bit;
+              (λ v. bit_at (mask how v) g ≡ 1) (sym st.is) bit;
           within = subst (λ v. LiesIn q (span_segment v))
               (sym st.is) within;
         }
 
-        pub held : (q : Pointer) → Grants i e g q → can access q.perm ≡ true → 3 ≤ q.log → IsHeld spans access g (segment_of q)
+        pub held : (q : Pointer) → Grants i e g q → can how q.perm ≡ true → 3 ≤ q.log → IsHeld spans how g (segment_of q)
         held q h c long = from (x.granted_held g q h)
           where
-            from : Holds (in_mask privileged) (Marked (node_pointer keys) marks) g q → IsHeld spans access g (segment_of q)
+            from : Holds (in_mask privileged) (Marked (node_pointer keys) marks) g q → IsHeld spans how g (segment_of q)
             from (inl t) =
-                let bit : bit_at (mask access (whole_span privileged)) g ≡ 1 = subst (λ v. bit_at v g ≡ 1) (sym whole_mask) (eqb-true _ _ t) in
+                let bit : bit_at (mask how (whole_span privileged)) g ≡ 1 = subst (λ v. bit_at v g ≡ 1) (sym whole_mask) (eqb-true _ _ t) in
                 let top = in_memory (segment_of q) (pointer_segment q (granted-well_formed i e image g q h) long) in
                 held_by (whole_span privileged) (segment_of q) bit (omega arith, top) (s.whole (used (whole_span privileged) (some_bit _ g bit)))
             from (inr (inl t)) = absurd (not_powerless q c long t)
@@ -144,10 +133,10 @@ module _ (i : Image) (e : Entries) (image : IsImage i) (keys : List CanonicalPtr
                 let b : IsBelow q (node_pointer keys k.at) = subst (IsBelow q) (sym k.is) t.below in
                 let log = log_below (node_pointer keys k.at) q b in
                 let r : right_at nodes right k.at ≡ true = tests k.at lt
-                ∙ and_from (can access (node_pointer keys k.at).perm) (nat_le 3 (node_pointer keys k.at).log)
+                ∙ and_from (can how (node_pointer keys k.at).perm) (nat_le 3 (node_pointer keys k.at).log)
                 (below-can (node_pointer keys k.at) q b c) (three_then (node_pointer keys k.at).log (omega arith))
                 in
-                let bit : bit_at (mask access (span_of keys nodes marks k.at)) g ≡ 1 = subst (λ v. bit_at v g ≡ 1)
+                let bit : bit_at (mask how (span_of keys nodes marks k.at)) g ≡ 1 = subst (λ v. bit_at v g ≡ 1)
                 (sym (node_mask k.at)) (then_kept (right_at nodes right k.at) (slice_index marks k.at) g k.marked r)
                 in
                 held_by (span_of keys nodes marks k.at) (segment_of q) bit (subst (LiesIn (segment_of q)) (sym (segment_is k.at lt)) (lies_below (node_pointer keys k.at) q b))
@@ -159,11 +148,11 @@ module _ (i : Image) (e : Entries) (image : IsImage i) (keys : List CanonicalPtr
       no_store_key : can_store KeyPerm ≡ true → ⊥
       no_store_key h = cc
 
-      granted_at : (access : WordUse) (g n : ℕ) → n < length spans → Uses spans access n g → GrantedSegment i e g (can access) (span_segment (span_at spans n))
+      granted_at : (how : WordUse) (g n : ℕ) → n < length spans → Uses spans how n g → GrantedSegment i e g (can how) (span_segment (span_at spans n))
       granted_at Touch g = granted Touch Load Ro refl no_load_key below-can_load m.loads (λ k. refl) refl (λ t u. inl u) g
       granted_at Write g = granted Write Store Rw refl no_store_key below-can_store m.stores (λ k. refl) refl (λ t u. inr u) g
 
-      held_at : (access : WordUse) (g : ℕ) (p : Pointer) → Grants i e g p → can access p.perm ≡ true → 3 ≤ p.log → IsHeld spans access g (base_of p, p.log)
+      held_at : (how : WordUse) (g : ℕ) (p : Pointer) → Grants i e g p → can how p.perm ≡ true → 3 ≤ p.log → IsHeld spans how g (base_of p, p.log)
       held_at Touch g = held Touch Load Ro refl no_load_key below-can_load m.loads (λ k. refl) refl (λ t u. inl u) g
       held_at Write g = held Write Store Rw refl no_store_key below-can_store m.stores (λ k. refl) refl (λ t u. inr u) g
 

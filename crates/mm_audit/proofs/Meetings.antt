@@ -6,8 +6,8 @@ use Rattle.std.proofs.lemmas.Nat.Bits.{bit_at-zero}
 use Rattle.mm_seg.proofs.Searches.{compare, same_or_below}
 use Rattle.mm_model.specs.declared.word_use.WordUse.TheVariants.{Touch, Write}
 use Rattle.mm_audit.specs.declared.span.Span.{Span}
-use Rattle.mm_audit.specs.declared.opening.Open.{Open}
-use Rattle.mm_audit.specs.declared.meets.Meets.{Meets}
+use Rattle.mm_audit.specs.declared.open_spans.Open.{Open}
+use Rattle.mm_audit.specs.declared.shared_words.Meets.{Meets}
 use Rattle.mm_audit.specs.Spans.{AreInOrder, base_at}
 use Rattle.mm_audit.specs.Opening.{IsOpenAt}
 use Rattle.mm_audit.specs.Meeting.{NotesWord, NotesAll, AreNoRows, MeetAt, IsMeeting, HaveMet, HasWord, no_row, row_at, word_at}

@@ -2,7 +2,7 @@
 use Rattle.std.proofs.Common.{◌≡◌, ℕ, ◌<◌, inl, inr, List, bit_or, refl, ap, ◌∙◌, arith}
 use Rattle.std.specs.Int.{bit_at}
 use Rattle.std.proofs.lemmas.Nat.Bits.{bit_at-zero}
-use Rattle.mm_audit.specs.declared.meets.Meets.{Meets}
+use Rattle.mm_audit.specs.declared.shared_words.Meets.{Meets}
 use Rattle.mm_audit.specs.Meeting.{FillsWords, IsWithout, NotesWord}
 use Rattle.mm_flow.proofs.Bits.{or_left, or_right, or_cases}
 use Rattle.mm_audit.proofs.Bits.{zero_or_one}

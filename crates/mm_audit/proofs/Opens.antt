@@ -7,7 +7,7 @@ use Rattle.mm_seg.proofs.Searches.{compare, same_or_below}
 use Rattle.mm_model.specs.declared.word_use.WordUse.{WordUse}
 use Rattle.mm_model.specs.declared.word_use.WordUse.TheVariants.{Touch, Write}
 use Rattle.mm_audit.specs.declared.span.Span.{Span}
-use Rattle.mm_audit.specs.declared.opening.Open.{Open}
+use Rattle.mm_audit.specs.declared.open_spans.Open.{Open}
 use Rattle.mm_audit.specs.Spans.{AreInOrder, Uses, mask, span_at, base_at, end_at}
 use Rattle.mm_audit.specs.Opening.{IsLive, Closed, IsLast, IsInnermost, AreOpen, IsOpenAt, no_open, open_at, open_end, users}
 use Rattle.mm_flow.proofs.Bits.{or_left, or_right, or_cases}
@@ -18,19 +18,19 @@ pub none_open : (spans : List Span) (from : ℕ) → AreOpen spans 0 from []
 none_open spans from = record {
   fall = λ m n lt small. absurd (omega arith);
   ends = λ n lt. absurd (omega arith);
-  inside = λ access n a g le inn. absurd (let small = inn.small in omega arith);
-  outside = λ access a g le past live. let small = live.small in omega arith;
+  inside = λ how n a g le inn. absurd (let small = inn.small in omega arith);
+  outside = λ how a g le past live. let small = live.small in omega arith;
 }
 
 pub open_later : (spans : List Span) (top from upto : ℕ) (stack : List Open) → from ≤ upto → AreOpen spans top from stack → AreOpen spans top upto stack
 open_later spans top from upto stack le h = record {
   fall = h.fall;
   ends = h.ends;
-  inside = λ access n a g low inn. h.inside access n a g (omega arith) inn;
-  outside = λ access a g low past. h.outside access a g (omega arith) past;
+  inside = λ how n a g low inn. h.inside how n a g (omega arith) inn;
+  outside = λ how a g low past. h.outside how a g (omega arith) past;
 }
 
-users_none : (access : WordUse) (g : ℕ) → bit_at (users access no_open) g ≡ 1 → ⊥
+users_none : (how : WordUse) (g : ℕ) → bit_at (users how no_open) g ≡ 1 → ⊥
 users_none Touch g h = let z = bit_at-zero g in omega arith
 users_none Write g h = let z = bit_at-zero g in omega arith
 
@@ -55,8 +55,8 @@ module _ (spans : List Span) (o : AreInOrder spans) (k : ℕ) (place : k < lengt
   still = record {
     fall = λ m n lt small. let f = h.fall m n lt (let a = cl.fits in omega arith) in let p = new_end m (omega arith) in let q = new_end n small in omega arith;
     ends = λ n lt. let e = h.ends n (let a = cl.fits in omega arith) in (e.0, e.1, new_end n lt ∙ e.2);
-    inside = λ access n a g low inn. subst (λ v. (bit_at (users access v) g ≡ 1) ↔ IsLive spans access k a g) (sym (new_at n inn.small)) (h.inside access n a g low (old_innermost n a low inn));
-    outside = λ access a g low past. h.outside access a g low (old_past a low past);
+    inside = λ how n a g low inn. subst (λ v. (bit_at (users how v) g ≡ 1) ↔ IsLive spans how k a g) (sym (new_at n inn.small)) (h.inside how n a g low (old_innermost n a low inn));
+    outside = λ how a g low past. h.outside how a g low (old_past a low past);
   }
     where
       old_innermost : (n a : ℕ) → base ≤ a → IsInnermost new n a → IsInnermost old n a
@@ -92,45 +92,45 @@ module _ (spans : List Span) (o : AreInOrder spans) (k : ℕ) (place : k < lengt
 
   -- 3. Who uses the span, or one around it.
 
-  over_users : (access : WordUse) (a g : ℕ) → base ≤ a → (0 < length new → a < open_end new (length new - 1)) → (bit_at (users access over) g ≡ 1) ↔ IsLive spans access k a g
-  over_users access a g low inner = elim (compare 0 (length new)) [
-    | inl some ↦ subst (λ v. (bit_at (users access v) g ≡ 1) ↔ IsLive spans access k a g) (sym (last.some some))
-        (still.inside access (length new - 1) a g low (record { small = omega arith; holds = inner some; last = λ lt. absurd (omega arith) }))
+  over_users : (how : WordUse) (a g : ℕ) → base ≤ a → (0 < length new → a < open_end new (length new - 1)) → (bit_at (users how over) g ≡ 1) ↔ IsLive spans how k a g
+  over_users how a g low inner = elim (compare 0 (length new)) [
+    | inl some ↦ subst (λ v. (bit_at (users how v) g ≡ 1) ↔ IsLive spans how k a g) (sym (last.some some))
+        (still.inside how (length new - 1) a g low (record { small = omega arith; holds = inner some; last = λ lt. absurd (omega arith) }))
     | inr none ↦
         let e = last.none (omega arith) in (
-          λ bit. absurd (users_none access g (subst (λ v. bit_at (users access v) g ≡ 1) e bit)),
-          λ live. absurd (still.outside access a g low (λ some. absurd (omega arith)) live),
+          λ bit. absurd (users_none how g (subst (λ v. bit_at (users how v) g ≡ 1) e bit)),
+          λ live. absurd (still.outside how a g low (λ some. absurd (omega arith)) live),
         )
   ]
 
   abbrev Now : ℕ → Open
   Now last_end = record { end = last_end; touch = bit_or (span_at spans k).touch over.touch; write = bit_or (span_at spans k).write over.write }
 
-  now_users : (access : WordUse) (last_end : ℕ) → users access (Now last_end) ≡ bit_or (mask access (span_at spans k)) (users access over)
+  now_users : (how : WordUse) (last_end : ℕ) → users how (Now last_end) ≡ bit_or (mask how (span_at spans k)) (users how over)
   now_users Touch last_end = refl
   now_users Write last_end = refl
 
-  wider : (access : WordUse) (a g : ℕ) → IsLive spans access k a g → IsLive spans access (k + 1) a g
-  wider access a g live = record { span = live.span; small = (let s = live.small in omega arith); uses = live.uses; live = live.live }
+  wider : (how : WordUse) (a g : ℕ) → IsLive spans how k a g → IsLive spans how (k + 1) a g
+  wider how a g live = record { span = live.span; small = (let s = live.small in omega arith); uses = live.uses; live = live.live }
 
   -- a span that is live is one of the first, or the one at the place
-  live_cases : (access : WordUse) (a g : ℕ) → IsLive spans access (k + 1) a g → IsLive spans access k a g ⊎ (Uses spans access k g × (a < end))
-  live_cases access a g live = elim (same_or_below live.span k live.small) [
+  live_cases : (how : WordUse) (a g : ℕ) → IsLive spans how (k + 1) a g → IsLive spans how k a g ⊎ (Uses spans how k g × (a < end))
+  live_cases how a g live = elim (same_or_below live.span k live.small) [
     | inl less ↦ inl (record { span = live.span; small = less; uses = live.uses; live = live.live })
-    | inr e ↦ inr (subst (λ v. Uses spans access v g × (a < end_at spans v)) e (live.uses, live.live))
+    | inr e ↦ inr (subst (λ v. Uses spans how v g × (a < end_at spans v)) e (live.uses, live.live))
   ]
 
-  users_at : (access : WordUse) (last_end a g : ℕ) → base ≤ a → a < end → (bit_at (users access (Now last_end)) g ≡ 1) ↔ IsLive spans access (k + 1) a g
-  users_at access last_end a g low lt =
-      let o_users = over_users access a g low (λ some. let t = holds_end (length new - 1) (omega arith) in omega arith) in
-      subst (λ v. (bit_at v g ≡ 1) ↔ IsLive spans access (k + 1) a g) (sym (now_users access last_end)) (
-        λ bit. elim (or_cases (mask access (span_at spans k)) (users access over) g bit) [
+  users_at : (how : WordUse) (last_end a g : ℕ) → base ≤ a → a < end → (bit_at (users how (Now last_end)) g ≡ 1) ↔ IsLive spans how (k + 1) a g
+  users_at how last_end a g low lt =
+      let o_users = over_users how a g low (λ some. let t = holds_end (length new - 1) (omega arith) in omega arith) in
+      subst (λ v. (bit_at v g ≡ 1) ↔ IsLive spans how (k + 1) a g) (sym (now_users how last_end)) (
+        λ bit. elim (or_cases (mask how (span_at spans k)) (users how over) g bit) [
           | inl own ↦ record { span = k; small = omega arith; uses = own; live = lt }
-          | inr around ↦ wider access a g (o_users.0 around)
+          | inr around ↦ wider how a g (o_users.0 around)
         ],
-        λ live. elim (live_cases access a g live) [
-          | inl earlier ↦ or_right (mask access (span_at spans k)) (users access over) g (o_users.1 earlier)
-          | inr own ↦ or_left (mask access (span_at spans k)) (users access over) g own.0
+        λ live. elim (live_cases how a g live) [
+          | inl earlier ↦ or_right (mask how (span_at spans k)) (users how over) g (o_users.1 earlier)
+          | inr own ↦ or_left (mask how (span_at spans k)) (users how over) g own.0
         ],
       )
 
@@ -138,7 +138,7 @@ module _ (spans : List Span) (o : AreInOrder spans) (k : ℕ) (place : k < lengt
   some_room = let s = o.segments k place in let room = pow_pos (span_at spans k).log in omega arith
 
   pub open_users : (last_end : ℕ) → IsOpenAt spans k (Now last_end)
-  open_users last_end access g = users_at access last_end base g (omega arith) some_room
+  open_users last_end how g = users_at how last_end base g (omega arith) some_room
 
   -- 4. With the span.
 
@@ -168,8 +168,8 @@ module _ (spans : List Span) (o : AreInOrder spans) (k : ℕ) (place : k < lengt
       | inr e ↦ let f = last_end_is n e in omega arith
     ]
 
-    inside_before : (access : WordUse) (n a g : ℕ) → base ≤ a → n < length new → IsInnermost after n a → (bit_at (users access (open_at after n)) g ≡ 1) ↔ IsLive spans access (k + 1) a g
-    inside_before access n a g low less inn =
+    inside_before : (how : WordUse) (n a g : ℕ) → base ≤ a → n < length new → IsInnermost after n a → (bit_at (users how (open_at after n)) g ≡ 1) ↔ IsLive spans how (k + 1) a g
+    inside_before how n a g low less inn =
         let past = inn.last (let l = after_len in omega arith) in
         let ended = none_shorter (n + 1) (let l = after_len in omega arith) in
         let inner : IsInnermost new n a = record {
@@ -177,17 +177,17 @@ module _ (spans : List Span) (o : AreInOrder spans) (k : ℕ) (place : k < lengt
           holds = (let t = inn.holds in let e = before_end n less in omega arith);
           last = λ lt. let t = inn.last (let l = after_len in omega arith) in let e = before_end (n + 1) lt in omega arith;
         } in
-        let w = still.inside access n a g low inner in
-        subst (λ v. (bit_at (users access v) g ≡ 1) ↔ IsLive spans access (k + 1) a g) (sym (after_before n less)) (
-          λ bit. wider access a g (w.0 bit),
-          λ live. elim (live_cases access a g live) [ inl earlier ↦ w.1 earlier | inr own ↦ absurd (let lt = own.1 in omega arith) ],
+        let w = still.inside how n a g low inner in
+        subst (λ v. (bit_at (users how v) g ≡ 1) ↔ IsLive spans how (k + 1) a g) (sym (after_before n less)) (
+          λ bit. wider how a g (w.0 bit),
+          λ live. elim (live_cases how a g live) [ inl earlier ↦ w.1 earlier | inr own ↦ absurd (let lt = own.1 in omega arith) ],
         )
 
-    inside_last : (access : WordUse) (n a g : ℕ) → base ≤ a → n ≡ length new → IsInnermost after n a → (bit_at (users access (open_at after n)) g ≡ 1) ↔ IsLive spans access (k + 1) a g
-    inside_last access n a g low e inn =
+    inside_last : (how : WordUse) (n a g : ℕ) → base ≤ a → n ≡ length new → IsInnermost after n a → (bit_at (users how (open_at after n)) g ≡ 1) ↔ IsLive spans how (k + 1) a g
+    inside_last how n a g low e inn =
         let t = inn.holds in
         let f = last_end_is n e in
-        subst (λ v. (bit_at (users access v) g ≡ 1) ↔ IsLive spans access (k + 1) a g) (sym (after_last n e)) (users_at access last_end a g low (omega arith))
+        subst (λ v. (bit_at (users how v) g ≡ 1) ↔ IsLive spans how (k + 1) a g) (sym (after_last n e)) (users_at how last_end a g low (omega arith))
 
     pub still_open : AreOpen spans (k + 1) base after
     still_open = record {
@@ -199,16 +199,16 @@ module _ (spans : List Span) (o : AreInOrder spans) (k : ℕ) (place : k < lengt
         | inl less ↦ let e = still.ends n less in let lt2 = e.1 in (e.0, omega arith, before_end n less ∙ e.2)
         | inr e ↦ (k, omega arith, last_end_is n e)
       ];
-      inside = λ access n a g low inn. elim (same_or_below n (length new) (let l = after_len in let s = inn.small in omega arith)) [
-        | inl less ↦ inside_before access n a g low less inn
-        | inr e ↦ inside_last access n a g low e inn
+      inside = λ how n a g low inn. elim (same_or_below n (length new) (let l = after_len in let s = inn.small in omega arith)) [
+        | inl less ↦ inside_before how n a g low less inn
+        | inr e ↦ inside_last how n a g low e inn
       ];
-      outside = λ access a g low past live.
+      outside = λ how a g low past live.
           let l = after_len in
           let first = past (omega arith) in
           let ended = none_shorter 0 (omega arith) in
-          elim (live_cases access a g live) [
-            | inl earlier ↦ still.outside access a g low (λ some. let e = before_end 0 some in omega arith) earlier
+          elim (live_cases how a g live) [
+            | inl earlier ↦ still.outside how a g low (λ some. let e = before_end 0 some in omega arith) earlier
             | inr own ↦ let lt = own.1 in omega arith
           ];
     }

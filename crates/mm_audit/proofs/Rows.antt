@@ -2,7 +2,7 @@
 use Rattle.std.proofs.Common.{◌≡◌, ℕ, ◌+◌, ◌<◌, ◌≤◌, inl, inr, min, bit_and, List, slice_index, Option, Some, None, MatchOption, sym, ◌∙◌, subst, arith}
 use Rattle.std.specs.Int.{bit_at}
 use Rattle.mm_seg.proofs.Searches.{compare, same_or_below}
-use Rattle.mm_audit.specs.declared.meets.Meets.{Meets}
+use Rattle.mm_audit.specs.declared.shared_words.Meets.{Meets}
 use Rattle.mm_audit.specs.Meeting.{row_at}
 use Rattle.mm_audit.specs.Writers.{IsWord, NoneWith, LeastWith, IsOutside}
 use Rattle.mm_flow.proofs.Bits.{and_both, both_bits}

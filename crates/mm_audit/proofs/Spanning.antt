@@ -9,7 +9,7 @@ use Rattle.mm_graph.specs.declared.canonical_ptr.CanonicalPtr.{CanonicalPtr}
 use Rattle.mm_graph.specs.Key.{IsKey, IsRising, key_at, no_key, pointer_at}
 use Rattle.mm_audit.specs.declared.span.Span.{Span}
 use Rattle.mm_audit.specs.Spans.{AreInOrder, segment_of, span_at, no_span, base_at, end_at}
-use Rattle.mm_audit.specs.Marks.{span_of, whole_span, IsUsed, Added, OfNode, IsListed, SpansOf}
+use Rattle.mm_audit.specs.Marks.{span_of, whole_span, IsUsed, Added, OfNode, IsAmongSpans, SpansOf}
 use Rattle.mm_graph.proofs.Nesting.{base_rises}
 use Rattle.mm_audit.proofs.KeyOrder.{key_segment, key_is_segment, end_nests, in_memory}
 
@@ -32,10 +32,10 @@ module _ (spans : List Span) (s : Span) where
   pub one_longer : length (spans ++ s ∷ []) ≡ length spans + 1
   one_longer = let e = length-append spans (s ∷ []) in omega arith
 
-  pub stands_still : (t : Span) → IsListed spans t → IsListed (spans ++ s ∷ []) t
+  pub stands_still : (t : Span) → IsAmongSpans spans t → IsAmongSpans (spans ++ s ∷ []) t
   stands_still t h = record { at = h.at; small = (let a = h.small in let b = one_longer in omega arith); is = span_before h.at h.small ∙ h.is }
 
-  pub stands_last : IsListed (spans ++ s ∷ []) s
+  pub stands_last : IsAmongSpans (spans ++ s ∷ []) s
   stands_last = record { at = length spans; small = (let b = one_longer in omega arith); is = span_last (length spans) refl }
 
   -- a span that begins behind all others, and nests
@@ -116,7 +116,7 @@ module _ (keys : List CanonicalPtr) (nodes : List Node) (marks : List ℕ) (priv
       whole = λ u. stands_still spans (span_of keys nodes marks k) (whole_span privileged) (h.whole u);
       each = λ n small u. elim (same_or_below n k small) [
         | inl less ↦ stands_still spans (span_of keys nodes marks k) (span_of keys nodes marks n) (h.each n less u)
-        | inr e ↦ subst (λ v. IsListed (spans ++ span_of keys nodes marks k ∷ []) (span_of keys nodes marks v)) (sym e) (stands_last spans (span_of keys nodes marks k))
+        | inr e ↦ subst (λ v. IsAmongSpans (spans ++ span_of keys nodes marks k ∷ []) (span_of keys nodes marks v)) (sym e) (stands_last spans (span_of keys nodes marks k))
       ];
     })
     spans_more new (inr a) = subst (SpansOf keys nodes marks privileged (k + 1)) (sym a.1) (record {

@@ -7,8 +7,8 @@ use Rattle.mm_model.specs.Spelling.{IsImage}
 use Rattle.mm_model.specs.Reach.{Entries, CanTouch, CanWrite, Privileged}
 use Rattle.mm_model.specs.Audit.{MaximalSegments}
 use Rattle.mm_seg.specs.Segments.{IsSet, Covered}
-use Rattle.mm_audit.specs.declared.served.Served.{Served}
-use Rattle.mm_audit.specs.declared.meets.Meets.{Meets}
+use Rattle.mm_audit.specs.declared.handlers.Served.{Served}
+use Rattle.mm_audit.specs.declared.shared_words.Meets.{Meets}
 use Rattle.mm_audit.specs.Serving.{served_of}
 use Rattle.mm_audit.specs.Surveys.{IsLeastTable}
 

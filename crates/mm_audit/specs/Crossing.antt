@@ -2,9 +2,9 @@
 use Rattle.std.specs.Prelude.{◌≡◌, ◌≢◌, ℕ, ◌<◌, ◌≤◌, Bool, List, slice_index_or}
 use Rattle.mm_model.specs.Audit.{Verdict}
 use Rattle.mm_model.specs.Audit.Verdict.{Yes, Handler, Writer}
-use Rattle.mm_audit.specs.declared.served.Served.{Served}
-use Rattle.mm_audit.specs.declared.judge.Apart.{Apart}
-use Rattle.mm_audit.specs.declared.judge.Apart.TheVariants as answers
+use Rattle.mm_audit.specs.declared.handlers.Served.{Served}
+use Rattle.mm_audit.specs.declared.apart_groups.Apart.{Apart}
+use Rattle.mm_audit.specs.declared.apart_groups.Apart.TheVariants as answers
 
 abbrev pub served_at : List Served → ℕ → Served
 served_at served k = slice_index_or served k (record { slot = 0; group = 0; by = 0 })

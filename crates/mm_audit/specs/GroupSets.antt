@@ -8,11 +8,11 @@ use Rattle.mm_audit.specs.Spans.{mask, span_at}
 use Rattle.mm_audit.specs.Walks.{outermost}
 
 -- the sets of the first `top` groups
-pub record AreGroupSets (spans : List Span) (access : WordUse) (top : ℕ) (sets : List (List (ℕ × ℕ))) : Type 0 where
+pub record AreGroupSets (spans : List Span) (how : WordUse) (top : ℕ) (sets : List (List (ℕ × ℕ))) : Type 0 where
   pub len : length sets ≡ top
-  pub each : (g : ℕ) → g < top → set_of sets g ≡ outermost access (2 ^ g) 0 spans
+  pub each : (g : ℕ) → g < top → set_of sets g ≡ outermost how (2 ^ g) 0 spans
 
 -- two groups use the same of the first `top` spans
 abbrev pub SameUsers : List Span → WordUse → ℕ → ℕ → ℕ → Type 0
-SameUsers spans access one other top =
-    (n : ℕ) → n < top → bit_at (mask access (span_at spans n)) one ≡ bit_at (mask access (span_at spans n)) other
+SameUsers spans how one other top =
+    (n : ℕ) → n < top → bit_at (mask how (span_at spans n)) one ≡ bit_at (mask how (span_at spans n)) other

@@ -38,7 +38,7 @@ pub record OfNode (keys : List CanonicalPtr) (nodes : List Node) (marks : List �
   pub is : s ≡ span_of keys nodes marks node
 
 -- the span is in the list
-pub record IsListed (spans : List Span) (s : Span) : Type 0 where
+pub record IsAmongSpans (spans : List Span) (s : Span) : Type 0 where
   pub at : ℕ
   pub small : at < length spans
   pub is : span_at spans at ≡ s
@@ -49,5 +49,5 @@ pub record SpansOf (keys : List CanonicalPtr) (nodes : List Node) (marks : List 
   pub order : AreInOrder spans
   pub from : (n : ℕ) → n < length spans
       → (span_at spans n ≡ whole_span privileged) ⊎ OfNode keys nodes marks top (span_at spans n)
-  pub whole : IsUsed (whole_span privileged) → IsListed spans (whole_span privileged)
-  pub each : (k : ℕ) → k < top → IsUsed (span_of keys nodes marks k) → IsListed spans (span_of keys nodes marks k)
+  pub whole : IsUsed (whole_span privileged) → IsAmongSpans spans (whole_span privileged)
+  pub each : (k : ℕ) → k < top → IsUsed (span_of keys nodes marks k) → IsAmongSpans spans (span_of keys nodes marks k)

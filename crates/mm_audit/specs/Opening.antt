@@ -4,7 +4,7 @@ use Rattle.std.specs.Int.{bit_at}
 use Rattle.mm_model.specs.declared.word_use.WordUse.{WordUse}
 use Rattle.mm_model.specs.declared.word_use.WordUse.TheVariants.{Touch, Write}
 use Rattle.mm_audit.specs.declared.span.Span.{Span}
-use Rattle.mm_audit.specs.declared.opening.Open.{Open}
+use Rattle.mm_audit.specs.declared.open_spans.Open.{Open}
 use Rattle.mm_audit.specs.Spans.{Uses, base_at, end_at}
 
 abbrev pub no_open : Open
@@ -21,10 +21,10 @@ users Touch o = o.touch
 users Write o = o.write
 
 -- the group uses one of the first `top` spans that ends after the address
-pub record IsLive (spans : List Span) (access : WordUse) (top a g : ℕ) : Type 0 where
+pub record IsLive (spans : List Span) (how : WordUse) (top a g : ℕ) : Type 0 where
   pub span : ℕ
   pub small : span < top
-  pub uses : Uses spans access span g
+  pub uses : Uses spans how span g
   pub live : a < end_at spans span
 
 -- the spans at the top of the stack that end at or before the address are gone
@@ -48,12 +48,12 @@ pub record IsInnermost (stack : List Open) (n a : ℕ) : Type 0 where
 pub record AreOpen (spans : List Span) (top from : ℕ) (stack : List Open) : Type 0 where
   pub fall : (m n : ℕ) → m < n → n < length stack → open_end stack n ≤ open_end stack m
   pub ends : (n : ℕ) → n < length stack → (j : ℕ) × (j < top) × (open_end stack n ≡ end_at spans j)
-  pub inside : (access : WordUse) (n a g : ℕ) → from ≤ a → IsInnermost stack n a
-      → (bit_at (users access (open_at stack n)) g ≡ 1) ↔ IsLive spans access top a g
-  pub outside : (access : WordUse) (a g : ℕ) → from ≤ a → (0 < length stack → open_end stack 0 ≤ a)
-      → ¬ IsLive spans access top a g
+  pub inside : (how : WordUse) (n a g : ℕ) → from ≤ a → IsInnermost stack n a
+      → (bit_at (users how (open_at stack n)) g ≡ 1) ↔ IsLive spans how top a g
+  pub outside : (how : WordUse) (a g : ℕ) → from ≤ a → (0 < length stack → open_end stack 0 ≤ a)
+      → ¬ IsLive spans how top a g
 
 -- the open span says which groups use the first address of the span at an index
 abbrev pub IsOpenAt : List Span → ℕ → Open → Type 0
 IsOpenAt spans k o =
-    (access : WordUse) (g : ℕ) → (bit_at (users access o) g ≡ 1) ↔ IsLive spans access (k + 1) (base_at spans k) g
+    (how : WordUse) (g : ℕ) → (bit_at (users how o) g ≡ 1) ↔ IsLive spans how (k + 1) (base_at spans k) g

@@ -3,8 +3,8 @@ use Rattle.std.specs.Prelude.{◌≡◌, ℕ, ◌≤◌, Bool, true}
 use Rattle.mm_model.specs.Image.{Image}
 use Rattle.mm_model.specs.Groups.{HasSlot, HasNoGroup, HandlersStayInside}
 use Rattle.mm_model.specs.Audit.{Crosses}
-use Rattle.mm_audit.specs.declared.refusing.Refused.{Refused}
-use Rattle.mm_audit.specs.declared.refusing.Refused.TheVariants as refused
+use Rattle.mm_audit.specs.declared.refusals.Refused.{Refused}
+use Rattle.mm_audit.specs.declared.refusals.Refused.TheVariants as refused
 use Rattle.mm_audit.specs.declared.extracting.ExtractError.{ExtractError}
 use Rattle.mm_audit.specs.declared.extracting.ExtractError.TheVariants as errors
 

@@ -40,7 +40,7 @@ end_at spans n = end_of (segment_of (span_at spans n))
 
 -- the group uses the span at an index
 abbrev pub Uses : List Span → WordUse → ℕ → ℕ → Type 0
-Uses spans access n g = bit_at (mask access (span_at spans n)) g ≡ 1
+Uses spans how n g = bit_at (mask how (span_at spans n)) g ≡ 1
 
 -- the spans are segments, ascending by base; a span that begins within an earlier one ends within it
 pub record AreInOrder (spans : List Span) : Type 0 where
@@ -49,17 +49,17 @@ pub record AreInOrder (spans : List Span) : Type 0 where
   pub nested : (m n : ℕ) → m < n → n < length spans → base_at spans n < end_at spans m → end_at spans n ≤ end_at spans m
 
 -- the segment lies in a span that the group uses
-pub record IsHeld (spans : List Span) (access : WordUse) (g : ℕ) (s : ℕ × ℕ) : Type 0 where
+pub record IsHeld (spans : List Span) (how : WordUse) (g : ℕ) (s : ℕ × ℕ) : Type 0 where
   pub at : ℕ
   pub small : at < length spans
-  pub uses : Uses spans access at g
+  pub uses : Uses spans how at g
   pub within : LiesIn s (segment_of (span_at spans at))
 
 -- the spans of an image: each is the segment of a pointer that its groups are granted, and the segment of each such
 -- pointer lies in one of them
 pub record AreSpans (i : Image) (e : Entries) (spans : List Span) : Type 0 where
   pub order : AreInOrder spans
-  pub granted : (access : WordUse) (g n : ℕ) → n < length spans → Uses spans access n g
-      → GrantedSegment i e g (can access) (segment_of (span_at spans n))
-  pub held : (access : WordUse) (g : ℕ) (p : Pointer) → Grants i e g p → can access p.perm ≡ true → 3 ≤ p.log
-      → IsHeld spans access g (base_of p, p.log)
+  pub granted : (how : WordUse) (g n : ℕ) → n < length spans → Uses spans how n g
+      → GrantedSegment i e g (can how) (segment_of (span_at spans n))
+  pub held : (how : WordUse) (g : ℕ) (p : Pointer) → Grants i e g p → can how p.perm ≡ true → 3 ≤ p.log
+      → IsHeld spans how g (base_of p, p.log)

@@ -4,9 +4,9 @@ use Rattle.std.specs.Int.{bit_at}
 use Rattle.mm_model.specs.Image.{Image}
 use Rattle.mm_model.specs.Spelling.{IsImage}
 use Rattle.mm_model.specs.Reach.{Entries, CanTouch, CanWrite, Privileged}
-use Rattle.mm_audit.specs.declared.served.Served.{Served}
+use Rattle.mm_audit.specs.declared.handlers.Served.{Served}
 use Rattle.mm_audit.specs.declared.span.Span.{Span}
-use Rattle.mm_audit.specs.declared.meets.Meets.{Meets}
+use Rattle.mm_audit.specs.declared.shared_words.Meets.{Meets}
 use Rattle.mm_audit.specs.Serving.{served_of}
 use Rattle.mm_audit.specs.Spans.{AreSpans}
 use Rattle.mm_audit.specs.Meeting.{HasWord, word_at}

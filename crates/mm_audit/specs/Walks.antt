@@ -7,12 +7,12 @@ use Rattle.mm_audit.specs.Spans.{mask, segment_of}
 
 -- one of the groups uses the span, and the span does not begin before the address
 abbrev pub is_next : WordUse → ℕ → ℕ → Span → Bool
-is_next access groups from s = not (bit_and (mask access s) groups == 0) && nat_le from s.base
+is_next how groups from s = not (bit_and (mask how s) groups == 0) && nat_le from s.base
 
 -- the segments of such spans from an address on, each from the end of the segment before
 abbrev pub outermost : WordUse → ℕ → ℕ → List Span → List (ℕ × ℕ)
-outermost access groups from [] = []
-outermost access groups from (s ∷ spans) =
-    if is_next access groups from s
-    then segment_of s ∷ outermost access groups (end_of (segment_of s)) spans
-    else outermost access groups from spans
+outermost how groups from [] = []
+outermost how groups from (s ∷ spans) =
+    if is_next how groups from s
+    then segment_of s ∷ outermost how groups (end_of (segment_of s)) spans
+    else outermost how groups from spans

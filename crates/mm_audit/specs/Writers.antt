@@ -1,7 +1,7 @@
 -- The least word that a group outside writes and a group inside touches.
 use Rattle.std.specs.Prelude.{◌≡◌, ℕ, ◌<◌, ◌≤◌, List, slice_index}
 use Rattle.std.specs.Int.{bit_at}
-use Rattle.mm_audit.specs.declared.meets.Meets.{Meets}
+use Rattle.mm_audit.specs.declared.shared_words.Meets.{Meets}
 use Rattle.mm_audit.specs.Meeting.{row_at}
 
 -- the row has a word with a group of the mask, whose number is below `top`

@@ -5,10 +5,10 @@ ghost use Rattle.mm_model.specs.Groups.{among};
 ghost use Rattle.mm_model.specs.Worlds.{Extracts};
 ghost use Rattle.mm_audit.specs.Refusals.{StandAlone, IsExtractError};
 
-use crate::judge::mask_of;
-use crate::own::{pages_of, slots_of};
-use crate::refusing::{Refused, refusal};
-use crate::touched::touched_by;
+use crate::apart_groups::mask_of;
+use crate::kept_parts::{pages_of, slots_of};
+use crate::refusals::{Refused, refusal};
+use crate::touched_words::touched_by;
 use mm_image::Image;
 use mm_word::NoMemory;
 use std::alloc::Global;

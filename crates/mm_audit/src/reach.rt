@@ -8,10 +8,10 @@ ghost use Rattle.mm_model.specs.Groups.{among};
 ghost use Rattle.mm_model.specs.Reach.{Entries as EntriesValue, CanTouch, CanWrite, Privileged};
 ghost use Rattle.mm_model.specs.Audit.{MaximalSegments, Judged};
 
+use crate::apart_groups::{Apart, judge};
 use crate::group_sets::GroupSets;
-use crate::judge::{Apart, judge};
-use crate::meets::Meets;
-use crate::served::Served;
+use crate::handlers::Served;
+use crate::shared_words::Meets;
 use mm_seg::SegSet;
 use std::marker::Model;
 

@@ -6,8 +6,8 @@ ghost use Rattle.mm_model.specs.Worlds.{alone};
 ghost use Rattle.mm_audit.specs.Refusals.{StandAlone, IsExtractError};
 
 use crate::extracting::ExtractError;
-use crate::own::slots_of;
-use crate::refusing::{Refused, refusal};
+use crate::kept_parts::slots_of;
+use crate::refusals::{Refused, refusal};
 use mm_image::Image;
 use mm_model::Page;
 use mm_word::NoMemory;

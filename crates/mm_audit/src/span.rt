@@ -29,10 +29,10 @@ impl Span {
     }
 
     /// The mask of the groups that use the span in this way.
-    pub fn mask(self, access: WordUse) -> u64
-        ensures { result ≡ mask access self }
+    pub fn mask(self, how: WordUse) -> u64
+        ensures { result ≡ mask how self }
     {
-        match access {
+        match how {
             WordUse::Touch => self.touch,
             WordUse::Write => self.write,
         }

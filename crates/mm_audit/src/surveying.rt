@@ -7,9 +7,9 @@ ghost use Rattle.mm_audit.specs.Audits.{Audits};
 ghost use Rattle.mm_audit.specs.Spans.{AreSpans};
 ghost use Rattle.mm_audit.specs.Surveys.{ArePrivileged, Surveys};
 
-use crate::least::least_words;
+use crate::handlers::served_in;
+use crate::least_shared::least_words;
 use crate::reach::Reach;
-use crate::served::served_in;
 use crate::sets::group_sets;
 use crate::span::Span;
 use crate::spans::spans_of;

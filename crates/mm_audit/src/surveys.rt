@@ -7,12 +7,12 @@ ghost use Rattle.mm_model.specs.Groups.{among};
 ghost use Rattle.mm_model.specs.Reach.{Entries as EntriesValue, Privileged};
 ghost use Rattle.mm_model.specs.Audit.{MaximalSegments, Judged};
 
-use crate::judge::{Apart, judge};
-use crate::meets::Meets;
+use crate::apart_groups::{Apart, judge};
+use crate::handlers::Served;
+use crate::outermost_spans::Segments;
 use crate::reach::is_privileged;
-use crate::served::Served;
+use crate::shared_words::Meets;
 use crate::span::Span;
-use crate::walk::Segments;
 use mm_model::WordUse;
 use std::marker::Model;
 

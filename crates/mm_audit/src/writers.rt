@@ -4,7 +4,7 @@ ghost use Rattle.std.specs.Prelude.{◌≡◌, ◌<◌, min, MatchOption, length
 ghost use Rattle.mm_audit.specs.Meeting.{AreRows};
 ghost use Rattle.mm_audit.specs.Writers.{NoneWith, LeastWith, NoWriter, IsWriter};
 
-use crate::meets::Meets;
+use crate::shared_words::Meets;
 
 fn lesser(a: Option<u64>, b: u64) -> u64
     ensures { MatchOption a (result ≡ b) (λ v. result ≡ min v b) }

@@ -8,7 +8,6 @@ ghost use Rattle.mm_model.specs.Reach.Entries.{All};
 ghost use Rattle.mm_text.specs.Gathers.{Gathers};
 ghost use Rattle.mm_audit.specs.Surveys.{Surveys};
 ghost use Rattle.mm_audit.specs.Crossing.{verdict_of};
-ghost use Rattle.mm_audit_text.specs.Uses.{use_text};
 
 use crate::uses::use_name;
 use mm_audit::{Apart, Segments, Survey};
@@ -38,7 +37,7 @@ pub fn put_kind<O: Sink>(text: &mut Gather, out: &mut O, group: u8, privileged: 
 /// Appends the line of a segment.
 #[tactic(auto, using(mm_text::proofs::LineLengths::line_lengths))]
 fn put_segment<O: Sink>(text: &mut Gather, out: &mut O, how: WordUse, base: u64, log: u8)
-    ensures { Gathers O.taken O.faults out.old out.new text.old text.new (segment_line (use_text how) (base, log)) }
+    ensures { Gathers O.taken O.faults out.old out.new text.old text.new (segment_line how (base, log)) }
 {
     let mut line = Line::new();
     line.put_byte(b'\n');
@@ -58,7 +57,7 @@ pub fn put_segments<O: Sink>(
     segments: &mut Segments<'_>,
 )
     ensures { Gathers O.taken O.faults out.old out.new text.old text.new
-        (flat_map (segment_line (use_text how)) segments.old) }
+        (flat_map (segment_line how) segments.old) }
 {
     while let Some((base, log)) = segments.next() {
         put_segment(text, out, how, base, log);

@@ -1,7 +1,7 @@
 //! The names of the uses of words.
 
 ghost use Rattle.std.specs.Prelude.{◌≡◌};
-ghost use Rattle.mm_audit_text.specs.Uses.{use_text};
+ghost use Rattle.mm_model.specs.Audit.{use_text};
 
 use mm_model::WordUse;
 

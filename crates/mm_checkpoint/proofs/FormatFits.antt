@@ -17,7 +17,7 @@ use Rattle.mm_machine.specs.Snapshot.{IsPending}
 use Rattle.mm_format.specs.{Formats.{each, times, cons}, Images.word}
 use Rattle.mm_format.proofs.ImagesFit.{small_bits, word_fits, fits_word, ip_fits, fits_ip, fits_mask, or_false}
 use Rattle.mm_checkpoint.specs.Checkpoints.{state_byte, cause_byte, event_of, place_byte}
-use Rattle.mm_checkpoint.specs.{Reading.{cause_of, state_of}, Tests.{is_bad_state, is_bad_cause, bits_set, bit_of}}
+use Rattle.mm_checkpoint.specs.{Reading.{cause_of, state_of}, Tests.{is_bad_state, is_bad_cause, bits_set}}
 use Rattle.mm_checkpoint.specs.declared.rows.{Queued.Queued, SlotRow.SlotRow}
 use Rattle.mm_checkpoint.specs.Format.{word_with, tagged, register, operand, load, beside, event_in, place_in_row}
 use Rattle.mm_checkpoint.specs.Format.{address_in, value_in, slot_row, load_count}
@@ -26,6 +26,7 @@ use Rattle.mm_checkpoint.proofs.{Loads.{AreNew, one_load, sixteen_flags, pending
 use Rattle.mm_checkpoint.proofs.States.{state_right, state_small, cause_small, cause_back, byte_waits, state_back}
 use Rattle.mm_checkpoint.proofs.States.{state_good, cause_good, IsZeroUnless, operand_good}
 use Rattle.mm_model.specs.Slot.{Slot, register as register_of, is_empty}
+use Rattle.mm_model.specs.Flags.{bit_of}
 
 -- two facts
 pub also : {A B : Type 0} → A → B → A × B

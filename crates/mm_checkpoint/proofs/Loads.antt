@@ -7,8 +7,9 @@ use Rattle.mm_model.specs.{declared.slot.Pending.Pending, Flags.{flags, one_if, 
 use Rattle.mm_model.{specs.Slot.{Slot, is_empty}, proofs.{CoreRows.each_map, ImageBytes.Bitmaps.bits-flags}}
 use Rattle.mm_machine.specs.Snapshot.{IsPending}
 use Rattle.mm_format.{specs.Images.{mask, flags_of}, proofs.ImagesFit.fits_mask}
-use Rattle.mm_checkpoint.specs.{Tests.{bits_set, has_entry, bit_of}, Steps.bit_count}
+use Rattle.mm_checkpoint.specs.{Tests.{bits_set, has_entry}, Steps.bit_count}
 use Rattle.mm_checkpoint.proofs.Counts.{count_cons, count_yes, count_map, count_push, none_count, none_any, moved}
+use Rattle.mm_model.specs.Flags.{bit_of}
 
 abbrev sum_below : (ℕ → ℕ) → ℕ → ℕ
 sum_below f zero = 0

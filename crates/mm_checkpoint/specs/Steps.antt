@@ -7,7 +7,7 @@ use Rattle.mm_format.specs.declared.reader.ReadError.TheVariants as reading
 use Rattle.mm_image.specs.declared.fault.ImageFault.{ImageFault}
 use Rattle.mm_checkpoint.specs.declared.fault.SaveError.{SaveError}
 use Rattle.mm_checkpoint.specs.declared.fault.SaveError.TheVariants.{Fault, NoMemory}
-use Rattle.mm_checkpoint.specs.Tests.{bit_of}
+use Rattle.mm_model.specs.Flags.{bit_of}
 
 -- the error of a reader of checkpoints for that of a reader of fields, without the kind of the fault
 abbrev pub told : ReadError ImageFault → SaveError

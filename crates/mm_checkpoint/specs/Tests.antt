@@ -1,9 +1,9 @@
 -- The tests of a checkpoint's numbers that take more than a line.
-use Rattle.std.specs.Prelude.{ℕ, ◌/◌, ◌%◌, ◌^◌, Bool, not, ◌&&◌, ◌||◌, ◌==◌, nat_lt, nat_le, if◌then◌else◌, List}
+use Rattle.std.specs.Prelude.{ℕ, Bool, not, ◌&&◌, ◌||◌, ◌==◌, nat_lt, nat_le, if◌then◌else◌, List}
 use Rattle.std.specs.Prelude.{count_by}
 use Rattle.std.specs.List.{list_any}
 use Rattle.mm_model.specs.declared.slot.Pending.{Pending}
-use Rattle.mm_model.specs.Flags.{flags}
+use Rattle.mm_model.specs.Flags.{flags, bit_of}
 use Rattle.mm_checkpoint.specs.declared.waiting.Waiter.{Waiter}
 
 -- 1. Tests of numbers.
@@ -25,10 +25,6 @@ bits_set mask = count_by (λ b. b) (flags 16 mask)
 -- one of the pending loads is for this register
 abbrev pub has_entry : List Pending → (register : ℕ) → Bool
 has_entry entries register = list_any (λ (p : Pending). p.reg == register) entries
-
--- bit r of a mask
-abbrev pub bit_of : (mask r : ℕ) → Bool
-bit_of mask r = mask / 2 ^ r % 2 == 1
 
 -- a pending load after others cannot be for this register, given the mask of empty registers
 abbrev pub is_bad_entry : (empty : ℕ) (earlier : List Pending) (register : ℕ) → Bool

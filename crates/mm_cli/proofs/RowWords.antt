@@ -82,7 +82,8 @@ read_none parameters last texts = record { fits = tt; said = refl; goes_on = λ 
 
 -- the rest begins with a word for the next parameter
 next_word : (parameters : List Parameter) (last : Last) (at : ℕ) (d : Parameter) (more : List Word) (rest : List (List ℕ)) → at < length parameters → FitsRow (drop at parameters) last more
-    → rest ≡ spelled more → (word : Word) × (others : List Word) × FitsParameter (get_or parameters at d) word × FitsRow (drop (at + 1) parameters) last others × (rest ≡ text_list word ++ spelled others)
+    → rest ≡ spelled more
+    → (word : Word) × (others : List Word) × FitsParameter (get_or parameters at d) word × FitsRow (drop (at + 1) parameters) last others × (rest ≡ text_list word ++ spelled others)
 next_word parameters last at d more rest inside fits said = by more (subst (λ (ps : List Parameter). FitsRow ps last more) (drop_more parameters at d inside) fits) said
   where
     by : (ws : List Word) → FitsRow (get_or parameters at d ∷ drop (at + 1) parameters) last ws → rest ≡ spelled ws
@@ -90,13 +91,15 @@ next_word parameters last at d more rest inside fits said = by more (subst (λ (
     by [] fit is = absurd fit
     by (w ∷ ws) fit is = (w, ws, fit.0, fit.1, is)
 
-pub read_more : (parameters : List Parameter) (last : Last) (texts : List (List ℕ)) (at : ℕ) (d : Parameter) (words more : List Word) (word : Word) (rest after : List (List ℕ)) → at < length parameters
+pub read_more : (parameters : List Parameter) (last : Last) (texts : List (List ℕ)) (at : ℕ) (d : Parameter) (words more : List Word) (word : Word) (rest after : List (List ℕ))
+    → at < length parameters
     → ReadSoFar parameters last texts at words rest → FitsParameter (get_or parameters at d) word → rest ≡ text_list word ++ after → more ≡ words ++ word ∷ []
     → ReadSoFar parameters last texts (at + 1) more after
 read_more parameters last texts at d words more word rest after inside so_far one said also = record {
   fits =
       subst (λ (ws : List Word). FitsRow (take (at + 1) parameters) Nothing ws) (sym also)
-      (subst (λ (ps : List Parameter). FitsRow ps Nothing (words ++ word ∷ [])) (sym (take_more parameters at d inside)) (place_more (take at parameters) (get_or parameters at d) words word so_far.fits one));
+      (subst (λ (ps : List Parameter). FitsRow ps Nothing (words ++ word ∷ []))
+      (sym (take_more parameters at d inside)) (place_more (take at parameters) (get_or parameters at d) words word so_far.fits one));
   said =
       so_far.said ∙ ap (λ (xs : List (List ℕ)). spelled words ++ xs) said
       ∙ sym (append_assoc (spelled words) (text_list word) after)
@@ -174,7 +177,8 @@ formed_place [] p (s ∷ rs) r are one = absurd are
 formed_place (q ∷ ps) p [] r are one = absurd are
 formed_place (q ∷ ps) p (s ∷ rs) r are one = (are.0, formed_place ps p rs r are.1 one)
 
-pub formed_more : (parameters : List Parameter) (at : ℕ) (d : Parameter) (read more : List Read) (r : Read) → at < length parameters → AreOfRow (take at parameters) Nothing read → IsOfParameter (get_or parameters at d) r
+pub formed_more : (parameters : List Parameter) (at : ℕ) (d : Parameter) (read more : List Read) (r : Read) → at < length parameters
+    → AreOfRow (take at parameters) Nothing read → IsOfParameter (get_or parameters at d) r
     → more ≡ read ++ r ∷ [] → AreOfRow (take (at + 1) parameters) Nothing more
 formed_more parameters at d read more r inside are one also =
     subst (λ (rs : List Read). AreOfRow (take (at + 1) parameters) Nothing rs) (sym also)
@@ -186,7 +190,8 @@ with_formed [] last (r ∷ rs) more are rest = absurd are
 with_formed (p ∷ ps) last [] more are rest = absurd are
 with_formed (p ∷ ps) last (r ∷ rs) more are rest = (are.0, with_formed ps last rs more are.1 rest)
 
-pub formed_all : (parameters : List Parameter) (last : Last) (at : ℕ) (read more all : List Read) → length parameters ≤ at → AreOfRow (take at parameters) Nothing read → AreOfLast last more → all ≡ read ++ more
+pub formed_all : (parameters : List Parameter) (last : Last) (at : ℕ) (read more all : List Read) → length parameters ≤ at
+    → AreOfRow (take at parameters) Nothing read → AreOfLast last more → all ≡ read ++ more
     → AreOfRow parameters last all
 formed_all parameters last at read more all all_read are rest whole =
     subst (λ (rs : List Read). AreOfRow parameters last rs) (sym whole)

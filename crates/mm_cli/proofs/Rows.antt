@@ -20,7 +20,10 @@ use Rattle.mm_cli.specs.declared.table.Last.{Last}
 use Rattle.mm_cli.specs.declared.table.Last.TheVariants.{Nothing, Perhaps, Several}
 use Rattle.mm_cli.specs.declared.words.Word.{Word as Read}
 use Rattle.mm_cli.specs.Words.{AreOfRow, Word, file_word, number_word, groups_word, mode_word, range_word, use_word}
-use Rattle.mm_cli.specs.Words.{mode_text, use_text, text_list, FitsParameter, FitsLast, FitsRow, room, spelled, spoken}
+use Rattle.mm_model.specs.declared.word_use.WordUse.{WordUse}
+use Rattle.mm_model.specs.declared.word_use.WordUse.TheVariants.{Touch, Write}
+use Rattle.mm_model.specs.Audit.{use_text}
+use Rattle.mm_cli.specs.Words.{mode_text, text_list, FitsParameter, FitsLast, FitsRow, room, spelled, spoken}
 use Rattle.mm_cli.specs.Words.{texts}
 use Rattle.mm_cli.specs.Table.{Listed, Row, IsInTable, Asks, Fits, InNoRow, is_same, row_for, table}
 use Rattle.mm_cli.specs.Said.{said, said_by}
@@ -199,11 +202,11 @@ one_mode true false same = let clash : true ≡ false = ap (bytes_eq (codes "spl
 one_mode false true same = let clash : true ≡ false = ap (bytes_eq (codes "plain")) same in absurd (cc)
 one_mode false false same = refl
 
-one_use : (a b : Bool) → use_text a ≡ use_text b → a ≡ b
-one_use true true same = refl
-one_use true false same = let clash : true ≡ false = ap (bytes_eq (codes "write")) same in absurd (cc)
-one_use false true same = let clash : true ≡ false = ap (bytes_eq (codes "touch")) same in absurd (cc)
-one_use false false same = refl
+one_use : (a b : WordUse) → use_text a ≡ use_text b → a ≡ b
+one_use Write Write same = refl
+one_use Write Touch same = let clash : true ≡ false = ap (bytes_eq (codes "write")) same in absurd (cc)
+one_use Touch Write same = let clash : true ≡ false = ap (bytes_eq (codes "touch")) same in absurd (cc)
+one_use Touch Touch same = refl
 
 first_text : (t u : List ℕ) (a b : List (List ℕ)) → t ∷ a ≡ u ∷ b → t ≡ u
 first_text t u a b same = cc
@@ -230,7 +233,7 @@ one_word Range (range_word n l) w a b few one two same = absurd two
 one_word Address (number_word n) (number_word m) a b few one two same =
     ap (λ (k : ℕ). number_word k) (decimal_injective n m (omega (arith, one.1)) (omega (arith, two.1)) (first_text _ _ a b same))
 one_word Address (number_word n) w a b few one two same = absurd two
-one_word Use (use_word c) (use_word d) a b few one two same = ap (λ (write : Bool). use_word write) (one_use c d (first_text _ _ a b same))
+one_word Use (use_word c) (use_word d) a b few one two same = ap (λ (how : WordUse). use_word how) (one_use c d (first_text _ _ a b same))
 one_word Use (use_word c) w a b few one two same = absurd two
 one_word p v w a b few one two same = absurd one
 
@@ -240,7 +243,7 @@ not_empty (number_word n) ws none = absurd (cc)
 not_empty (groups_word gs) ws none = absurd (cc)
 not_empty (mode_word split) ws none = absurd (cc)
 not_empty (range_word b l) ws none = absurd (cc)
-not_empty (use_word write) ws none = absurd (cc)
+not_empty (use_word how) ws none = absurd (cc)
 
 one_last : (last : Last) (vs ws : List Word) → small_last last ≡ true → FitsLast last vs → FitsLast last ws → spelled vs ≡ spelled ws → vs ≡ ws
 one_last Nothing [] [] few one two same = refl

@@ -1,6 +1,8 @@
 -- What the words of a command say, parameter by parameter.
 use Rattle.std.specs.Prelude.{ℕ, suc, Bool, false, List, [], ◌∷◌, map, slice_get, String, Option, None, Some}
 use Rattle.std.specs.declared.alloc.Global.{Global}
+use Rattle.mm_model.specs.declared.word_use.WordUse.{WordUse}
+use Rattle.mm_model.specs.declared.word_use.WordUse.TheVariants.{Touch}
 use Rattle.mm_cli.specs.declared.table.Command.{Command}
 use Rattle.mm_cli.specs.declared.table.Parameter.{Parameter}
 use Rattle.mm_cli.specs.declared.table.Parameter.TheVariants.{File, Number, Groups, Mode, Range, Address, Use}
@@ -46,9 +48,9 @@ abbrev pub range_of : Option Read → ℕ × ℕ
 range_of (Some (read.Range base log)) = (base, log)
 range_of _ = (0, 0)
 
-abbrev pub use_of : Option Read → Bool
-use_of (Some (read.Use write)) = write
-use_of _ = false
+abbrev pub use_of : Option Read → WordUse
+use_of (Some (read.Use how)) = how
+use_of _ = Touch
 
 -- 2. What all words of a row say.
 
@@ -74,7 +76,8 @@ said_last (Several kind most) word = map (file_word kind) (texts (names_of word)
 -- what the words of the parameters from `at` on say, and then the last words
 abbrev pub said_from : List Parameter → Last → (at : ℕ) → List Read → List Word
 said_from [] last at words = said_last last (slice_get words at)
-said_from (parameter ∷ parameters) last at words = said_at parameter (slice_get words at) ∷ said_from parameters last (suc at) words
+said_from (parameter ∷ parameters) last at words =
+    said_at parameter (slice_get words at) ∷ said_from parameters last (suc at) words
 
 abbrev pub said_by : Option Listed → List Read → List Word
 said_by None words = []

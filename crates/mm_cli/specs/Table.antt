@@ -13,8 +13,8 @@ use Rattle.mm_cli.specs.declared.table.Parameter.{Parameter}
 use Rattle.mm_cli.specs.declared.table.Last.{Last}
 use Rattle.mm_cli.specs.Words.{Word, FitsRow, files_in, spelled}
 
--- A row of the table of src/table.rt: the command's name, the command, the parameters after the name, and what comes after
--- these parameters.
+-- A row of the table of src/table.rt: the command's name, the command, the parameters after the name, and what comes
+-- after these parameters.
 pub record Listed : Type 0 where
   pub name : List ℕ
   pub command : Command

@@ -3,7 +3,8 @@ use Rattle.std.specs.Prelude.{◌≡◌, ℕ, ◌%◌, ◌^◌, ◌-◌, ◌<◌
 use Rattle.std.specs.Prelude.{String}
 use Rattle.std.specs.Prelude.{string_bytes, codes, decimal, Option, None, Some, ⊤}
 use Rattle.std.specs.declared.alloc.Global.{Global}
-use Rattle.mm_model.specs.Audit.{groups_text}
+use Rattle.mm_model.specs.declared.word_use.WordUse.{WordUse}
+use Rattle.mm_model.specs.Audit.{groups_text, use_text}
 use Rattle.mm_cli.specs.GroupList.{AreGroups}
 use Rattle.mm_cli.specs.declared.table.Kind.{Kind}
 use Rattle.mm_cli.specs.declared.table.Parameter.{Parameter}
@@ -25,16 +26,11 @@ pub data Word : Type 0 where
   mode_word : (split : Bool) → Word
   -- the base of a range of addresses and the logarithm of its length
   range_word : (base log : ℕ) → Word
-  -- a use of a word: whether it is a write
-  use_word : (write : Bool) → Word
+  use_word : WordUse → Word
 
 abbrev pub mode_text : Bool → List ℕ
 mode_text false = codes "plain"
 mode_text true = codes "split"
-
-abbrev pub use_text : Bool → List ℕ
-use_text false = codes "touch"
-use_text true = codes "write"
 
 -- the texts of a word: two for a range, else one
 abbrev pub text_list : Word → List (List ℕ)
@@ -43,7 +39,7 @@ text_list (number_word n) = decimal n ∷ []
 text_list (groups_word groups) = groups_text groups ∷ []
 text_list (mode_word split) = mode_text split ∷ []
 text_list (range_word base log) = decimal base ∷ decimal log ∷ []
-text_list (use_word write) = use_text write ∷ []
+text_list (use_word how) = use_text how ∷ []
 
 -- the texts of words, one after the other
 abbrev pub spelled : List Word → List (List ℕ)
@@ -63,7 +59,7 @@ files_in (number_word n ∷ words) = files_in words
 files_in (groups_word groups ∷ words) = files_in words
 files_in (mode_word split ∷ words) = files_in words
 files_in (range_word base log ∷ words) = files_in words
-files_in (use_word write ∷ words) = files_in words
+files_in (use_word how ∷ words) = files_in words
 
 -- 2. Where words fit.
 
@@ -83,7 +79,7 @@ FitsParameter Groups (groups_word groups) = AreGroups groups
 FitsParameter Mode (mode_word split) = ⊤
 FitsParameter Range (range_word base log) = IsRange base log
 FitsParameter Address (number_word n) = IsWordAddress n
-FitsParameter Use (use_word write) = ⊤
+FitsParameter Use (use_word how) = ⊤
 FitsParameter _ _ = ⊥
 
 -- the words fit in what comes after the parameters of a row
@@ -114,7 +110,7 @@ words_of (read.Number n) = number_word n ∷ []
 words_of (read.Groups groups) = groups_word groups.items ∷ []
 words_of (read.Mode split) = mode_word split ∷ []
 words_of (read.Range base log) = range_word base log ∷ []
-words_of (read.Use write) = use_word write ∷ []
+words_of (read.Use how) = use_word how ∷ []
 
 abbrev pub spoken : List Read → List Word
 spoken [] = []
@@ -136,7 +132,7 @@ IsOfParameter Groups (read.Groups groups) = AreGroups groups.items
 IsOfParameter Mode (read.Mode split) = ⊤
 IsOfParameter Range (read.Range base log) = IsRange base log
 IsOfParameter Address (read.Number n) = IsWordAddress n
-IsOfParameter Use (read.Use write) = ⊤
+IsOfParameter Use (read.Use how) = ⊤
 IsOfParameter _ _ = ⊥
 
 -- at most one word was read for what comes after the parameters of a row: several files are one word

@@ -66,7 +66,8 @@ fn read_row<'a>(
     words: &'a [String],
 ) -> Option<ArrayVec<Word<'a>, 4>>
     requires { length parameters.now + room last ≤ 4 }
-    ensures { MatchOption result ((said : List Spoken) → FitsRow parameters.now last said → texts words.now ≢ spelled said)
+    ensures { MatchOption result
+        ((said : List Spoken) → FitsRow parameters.now last said → texts words.now ≢ spelled said)
         (λ read. AreOfRow parameters.now last read.items × FitsRow parameters.now last (spoken read.items)
         × (texts words.now ≡ spelled (spoken read.items))) }
 {

@@ -5,8 +5,9 @@ ghost use Rattle.mm_cli.specs.Said.{name_of, name_perhaps_of, names_of, number_o
 ghost use Rattle.mm_cli.specs.Said.{mode_of, range_of, use_of};
 
 use crate::words::Word;
+use mm_model::WordUse;
 
-/// The name of the file of a parameter; empty if it has none.
+/// The name of the file that the word of a parameter says; empty if it says none.
 pub fn name_at<'a>(words: &[Word<'a>], at: usize) -> &'a str
     ensures { result.now ≡ name_of (slice_get words.now at) }
 {
@@ -16,7 +17,7 @@ pub fn name_at<'a>(words: &[Word<'a>], at: usize) -> &'a str
     }
 }
 
-/// The name of the file of a parameter, if it has one.
+/// The name of the file that the word of a parameter says, if it says one.
 pub fn name_perhaps_at<'a>(words: &[Word<'a>], at: usize) -> Option<&'a str>
     ensures { option_map (λ name. name.now) result ≡ name_perhaps_of (slice_get words.now at) }
 {
@@ -26,7 +27,7 @@ pub fn name_perhaps_at<'a>(words: &[Word<'a>], at: usize) -> Option<&'a str>
     }
 }
 
-/// The names of the files of a parameter; none if it has none.
+/// The names of the files that the words of a parameter say; none if they say none.
 pub fn names_at<'a>(words: &[Word<'a>], at: usize) -> &'a [String]
     ensures { result.now ≡ names_of (slice_get words.now at) }
 {
@@ -36,7 +37,7 @@ pub fn names_at<'a>(words: &[Word<'a>], at: usize) -> &'a [String]
     }
 }
 
-/// The number or address of a parameter; zero if it has none.
+/// The number or address that the word of a parameter says; zero if it says none.
 pub fn number_at(words: &[Word<'_>], at: usize) -> u64
     ensures { result ≡ number_of (slice_get words.now at) }
 {
@@ -46,7 +47,7 @@ pub fn number_at(words: &[Word<'_>], at: usize) -> u64
     }
 }
 
-/// The groups of a parameter; none if it has none.
+/// The groups that the word of a parameter says; none if it says none.
 pub fn groups_at<'a>(words: &'a [Word<'_>], at: usize) -> &'a [u8]
     ensures { result.now ≡ groups_of (slice_get words.now at) }
 {
@@ -56,7 +57,7 @@ pub fn groups_at<'a>(words: &'a [Word<'_>], at: usize) -> &'a [u8]
     }
 }
 
-/// The groups of a parameter, if it has any.
+/// The groups that the word of a parameter says, if it says any.
 pub fn groups_perhaps_at<'a>(words: &'a [Word<'_>], at: usize) -> Option<&'a [u8]>
     ensures { option_map (λ groups. groups.now) result ≡ groups_perhaps_of (slice_get words.now at) }
 {
@@ -66,7 +67,7 @@ pub fn groups_perhaps_at<'a>(words: &'a [Word<'_>], at: usize) -> Option<&'a [u8
     }
 }
 
-/// Whether the mode of a parameter says that loads are split. `false` if it has none.
+/// Whether the word of a parameter says that loads are split. `false` if it says no mode.
 pub fn mode_at(words: &[Word<'_>], at: usize) -> bool
     ensures { result ≡ mode_of (slice_get words.now at) }
 {
@@ -76,7 +77,7 @@ pub fn mode_at(words: &[Word<'_>], at: usize) -> bool
     }
 }
 
-/// The range of a parameter: its base and the logarithm of its length. Zeros if it has none.
+/// The range that the words of a parameter say: its base and the logarithm of its length. Zeros if they say none.
 pub fn range_at(words: &[Word<'_>], at: usize) -> (u64, u8)
     ensures { (result.0, result.1) ≡ range_of (slice_get words.now at) }
 {
@@ -86,12 +87,12 @@ pub fn range_at(words: &[Word<'_>], at: usize) -> (u64, u8)
     }
 }
 
-/// Whether the use of a parameter is a write. `false` if it has none.
-pub fn use_at(words: &[Word<'_>], at: usize) -> bool
+/// The use that the word of a parameter says; a touch if it says none.
+pub fn use_at(words: &[Word<'_>], at: usize) -> WordUse
     ensures { result ≡ use_of (slice_get words.now at) }
 {
     match words.get(at) {
-        Some(Word::Use { write }) => *write,
-        _ => false,
+        Some(Word::Use(how)) => *how,
+        _ => WordUse::Touch,
     }
 }

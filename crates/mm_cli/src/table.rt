@@ -70,7 +70,8 @@ pub enum Last {
     Several { kind: Kind, most: usize },
 }
 
-/// A row of the table: the command's name, the command, the parameters after the name, and what comes after these parameters.
+/// A row of the table: the command's name, the command, the parameters after the name, and what comes after these
+/// parameters.
 pub type Listed<'a> = (&'a str, Command, &'a [Parameter], Last);
 
 const IMAGE: Parameter = Parameter::File(Kind::Image);

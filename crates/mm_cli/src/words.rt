@@ -1,15 +1,17 @@
 //! What the words of the command line say.
 ghost use Rattle.std.specs.Prelude.{◌≡◌, ◌≢◌, ◌≤◌, ◌++◌, ◌∷◌, [], ℕ, Bool, List, MatchOption, decimal, string_bytes};
 ghost use Rattle.mm_cli.specs.Words.{Word as Spoken, FitsParameter, IsOfParameter, IsRange, IsWordAddress, range_word};
-ghost use Rattle.mm_cli.specs.Words.{mode_text};
-ghost use Rattle.mm_cli.specs.Words.{use_text, text_list, texts, words_of};
+ghost use Rattle.mm_cli.specs.Words.{mode_text, text_list, texts, words_of};
+ghost use Rattle.mm_model.specs.Audit.{use_text};
+ghost use Rattle.mm_model.specs.declared.word_use.WordUse.{WordUse};
 
 use crate::groups::read_groups;
 use crate::table::{Kind, Parameter};
 use arrayvec::ArrayVec;
+use mm_model::WordUse;
 use mm_sched::number;
 
-/// What the words in a parameter of a row say.
+/// What is said by the word of a parameter, or by its words.
 #[derive(Drop)]
 pub enum Word<'a> {
     /// The name of a file of a kind.
@@ -21,8 +23,7 @@ pub enum Word<'a> {
     Mode { split: bool },
     /// The base of a range of addresses and the logarithm of its length.
     Range { base: u64, log: u8 },
-    /// A use of a word: whether it is a write.
-    Use { write: bool },
+    Use(WordUse),
 }
 
 /// An `ArrayVec` fills its free places with this word.
@@ -32,19 +33,20 @@ impl Default for Word<'_> {
     }
 }
 
-/// Reads the first word by a parameter, or the first two words if the parameter is a range. Gives what they say, and the words
-/// after them.
+/// Reads the first word by a parameter, or the first two words if the parameter is a range. Gives what they say, and
+/// the words after them.
 pub fn read_parameter<'a>(
     parameter: Parameter,
     words: &'a [String],
 ) -> Option<(Word<'a>, &'a [String])>
     ensures { MatchOption result
-        ((word : Spoken) (after : List (List ℕ)) → FitsParameter parameter word → texts words.now ≢ text_list word ++ after)
-        (λ read. (word : Spoken) × IsOfParameter parameter read.0 × (words_of read.0 ≡ word ∷ []) × FitsParameter parameter word
-        × (texts words.now ≡ text_list word ++ texts read.1.now)) }
+        ((word : Spoken) (after : List (List ℕ)) → FitsParameter parameter word
+        → texts words.now ≢ text_list word ++ after)
+        (λ read. (word : Spoken) × IsOfParameter parameter read.0 × (words_of read.0 ≡ word ∷ [])
+        × FitsParameter parameter word × (texts words.now ≡ text_list word ++ texts read.1.now)) }
 {
     if let Parameter::Range = parameter {
-        return read_range_place(words);
+        return read_range_words(words);
     }
     let [word, after @ ..] = words else {
         return None;
@@ -53,7 +55,7 @@ pub fn read_parameter<'a>(
 }
 
 /// Reads a range of addresses from the first two words. Gives the range, and the words after them.
-fn read_range_place(words: &[String]) -> Option<(Word<'_>, &[String])>
+fn read_range_words(words: &[String]) -> Option<(Word<'_>, &[String])>
     ensures { MatchOption result
         ((first width : ℕ) (after : List (List ℕ)) → IsRange first width → texts words.now ≢ decimal first
         ∷ decimal width ∷ after)
@@ -70,9 +72,10 @@ fn read_range_place(words: &[String]) -> Option<(Word<'_>, &[String])>
 
 /// Reads one word by a parameter. `None` if the parameter is a range, which takes two words.
 fn read_word(parameter: Parameter, word: &String) -> Option<Word<'_>>
-    ensures { MatchOption result ((said : Spoken) → FitsParameter parameter said → string_bytes word.now ∷ [] ≢ text_list said)
-        (λ read. (said : Spoken) × IsOfParameter parameter read × (words_of read ≡ said ∷ []) × FitsParameter parameter said
-        × (string_bytes word.now ∷ [] ≡ text_list said)) }
+    ensures { MatchOption result
+        ((said : Spoken) → FitsParameter parameter said → string_bytes word.now ∷ [] ≢ text_list said)
+        (λ read. (said : Spoken) × IsOfParameter parameter read × (words_of read ≡ said ∷ [])
+        × FitsParameter parameter said × (string_bytes word.now ∷ [] ≡ text_list said)) }
 {
     match parameter {
         Parameter::File(kind) => Some(Word::File {
@@ -90,9 +93,7 @@ fn read_word(parameter: Parameter, word: &String) -> Option<Word<'_>>
         }),
         Parameter::Range => None,
         Parameter::Address => Some(Word::Number(read_address(word.as_bytes())?)),
-        Parameter::Use => Some(Word::Use {
-            write: read_use(word.as_str())?,
-        }),
+        Parameter::Use => Some(Word::Use(read_use(word.as_str())?)),
     }
 }
 
@@ -119,13 +120,13 @@ fn read_mode(word: &str) -> Option<bool>
     }
 }
 
-/// Whether a use's word says that it is a write.
-fn read_use(word: &str) -> Option<bool>
-    ensures { MatchOption result ((write : Bool) → word.now ≢ use_text write) (λ write. word.now ≡ use_text write) }
+/// The use that a word says.
+fn read_use(word: &str) -> Option<WordUse>
+    ensures { MatchOption result ((how : WordUse) → word.now ≢ use_text how) (λ how. word.now ≡ use_text how) }
 {
     match word {
-        "touch" => Some(false),
-        "write" => Some(true),
+        "touch" => Some(WordUse::Touch),
+        "write" => Some(WordUse::Write),
         _ => None,
     }
 }

@@ -1,9 +1,10 @@
 -- A run issues the least number of cycles after which a stop stands.
 use Rattle.std.proofs.Common.{◌≡◌, ℕ, zero, suc, ◌+◌, ◌-◌, ◌<◌, Bool, true, false, ◌&&◌, if◌then◌else◌, Option, None, Some, refl, sym, ap, ◌∙◌, arith}
+use Rattle.std.specs.Option.{option_or}
 use Rattle.mm_debug.specs.declared.stop.Stop.{Stop}
 use Rattle.mm_debug.specs.declared.stop.Stop.TheVariants as stop
 use Rattle.mm_debug.specs.Session.{Session, Ran, total_of, next_item, issued, stepped, stops_before, stops_after, stopped, after_cycle, before_cycle, run_from, ran}
-use Rattle.mm_debug.specs.Laws.{watch_of, watch_stands, end_or_break, first_of, stop_after, StopsFirst, RunsStopFirst}
+use Rattle.mm_debug.specs.Laws.{watch_of, watch_stands, end_or_break, stop_after, StopsFirst, RunsStopFirst}
 use Rattle.mm_debug.proofs.Stepping.{limit_ends, issued_total, stepped_none, stepped_goes}
 
 -- 1. The stop that stands after so many cycles.
@@ -26,20 +27,20 @@ abbrev end_at : Session → Option Stop
 end_at s = end_or_break true s (next_item s)
 
 module _ (s : Session) (item : ℕ) (next : next_item s ≡ Some item) where
-  after_one : stop_after s 1 ≡ first_of (watch_of (stops_after s item)) (end_at (issued s item))
+  after_one : stop_after s 1 ≡ option_or (watch_of (stops_after s item)) (end_at (issued s item))
   after_one =
-      ap (λ (t : Session). first_of (watch_at t) (end_at (stepped s 1))) (stepped_none s 0 refl)
-      ∙ ap (λ (o : Option ℕ). first_of (watch_stands s o) (end_at (stepped s 1))) next
-      ∙ ap (λ (t : Session). first_of (watch_of (stops_after s item)) (end_at t)) (stepped_goes s item 1 0 next refl ∙ stepped_none (issued s item) 0 refl)
+      ap (λ (t : Session). option_or (watch_at t) (end_at (stepped s 1))) (stepped_none s 0 refl)
+      ∙ ap (λ (o : Option ℕ). option_or (watch_stands s o) (end_at (stepped s 1))) next
+      ∙ ap (λ (t : Session). option_or (watch_of (stops_after s item)) (end_at t)) (stepped_goes s item 1 0 next refl ∙ stepped_none (issued s item) 0 refl)
 
   after_more : (count : ℕ) → stop_after s (suc (suc count)) ≡ stop_after (issued s item) (suc count)
   after_more count =
-      ap (λ (t : Session). first_of (watch_at t) (end_at (stepped s (suc (suc count))))) (stepped_goes s item (suc count) count next refl)
-      ∙ ap (λ (t : Session). first_of (watch_at (stepped (issued s item) count)) (end_at t)) (stepped_goes s item (suc (suc count)) (suc count) next refl)
+      ap (λ (t : Session). option_or (watch_at t) (end_at (stepped s (suc (suc count))))) (stepped_goes s item (suc count) count next refl)
+      ∙ ap (λ (t : Session). option_or (watch_at (stepped (issued s item) count)) (end_at t)) (stepped_goes s item (suc (suc count)) (suc count) next refl)
 
   -- after the cycle of the next item, after which no watch stands, it is that of the session from there on
   stop_later : (begun : Bool) (count : ℕ) → stops_after s item ≡ None → stop_from begun s (suc count) ≡ stop_from true (issued s item) count
-  stop_later begun zero quiet = after_one ∙ ap (λ (o : Option ℕ). first_of (watch_of o) (end_at (issued s item))) quiet
+  stop_later begun zero quiet = after_one ∙ ap (λ (o : Option ℕ). option_or (watch_of o) (end_at (issued s item))) quiet
   stop_later begun (suc count) quiet = after_more count
 
 -- 2. Where a run stops.
@@ -66,7 +67,7 @@ module _ (begun : Bool) (s : Session) (item : ℕ) (next : next_item s ≡ Some 
     count = 1;
     session = sym (stepped_goes s item 1 0 next refl ∙ stepped_none (issued s item) 0 refl);
     total = issued_total s item;
-    stands = after_one s item next ∙ ap (λ (o : Option ℕ). first_of (watch_of o) (end_at (issued s item))) watched;
+    stands = after_one s item next ∙ ap (λ (o : Option ℕ). option_or (watch_of o) (end_at (issued s item))) watched;
     least = λ k lt. let first : k ≡ 0 = omega arith in ap (stop_from begun s) first ∙ passes;
   }
 

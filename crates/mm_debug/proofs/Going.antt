@@ -9,7 +9,7 @@ use Rattle.mm_machine.proofs.Keeping.{goes_on}
 use Rattle.mm_machine.proofs.Restorable.{can_after}
 use Rattle.mm_debug.specs.declared.command.Command.{Command}
 use Rattle.mm_debug.specs.declared.session.Session.{Session as Held}
-use Rattle.mm_debug.specs.Commands.{command_of, lines_of}
+use Rattle.mm_debug.specs.Commands.{lines_of}
 use Rattle.mm_debug.specs.Session.{Session, answer, answer_to, dialogue, debugged}
 use Rattle.mm_debug.specs.Dialogues.{IsAnswer, Carried}
 use Rattle.mm_debug.specs.Shown.{session_of}
@@ -60,9 +60,6 @@ dialogue_goes s lines p kept can = can_go s (dialogue s lines).session p (dialog
 -- and of sessions that code holds, whose machine is kept
 
 module _ {M : Type 0} {memory : Ghosts M} where
-  pub line_goes : (old new : Held M memory) (line : List ℕ) → session_of new ≡ (answer_to (session_of old) line).session → (p : Point) → CanGo (session_of old) p → CanGo (session_of new) p
-  line_goes old new line is p can = subst (λ (t : Session). CanGo t p) (sym is) (answer_goes (session_of old) (command_of line) p old.machine.kept can)
-
   pub input_goes : (old new : Held M memory) (input : List ℕ) → session_of new ≡ (debugged (session_of old) input).session → (p : Point) → CanGo (session_of old) p → CanGo (session_of new) p
   input_goes old new input is p can = subst (λ (t : Session). CanGo t p) (sym is) (dialogue_goes (session_of old) (lines_of input) p old.machine.kept can)
 

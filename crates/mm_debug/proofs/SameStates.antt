@@ -52,7 +52,8 @@ own_queues : (rows : List ThreadRow) → IsStrictlyIncreasing (numbers_of (slots
 own_queues [] rising = tt
 own_queues (row ∷ rows) rising = (
   rw (eq-eqb row.slot.number row.slot.number refl) refl,
-  each_both (λ (x : ThreadRow). row.slot.number < x.slot.number) (λ (x : ThreadRow). queue_of (row_in rows x.slot.number) ≡ x.queue) (λ (x : ThreadRow). queue_of (row_in (row ∷ rows) x.slot.number) ≡ x.queue)
+  each_both (λ (x : ThreadRow). row.slot.number < x.slot.number) (λ (x : ThreadRow). queue_of (row_in rows x.slot.number) ≡ x.queue)
+      (λ (x : ThreadRow). queue_of (row_in (row ∷ rows) x.slot.number) ≡ x.queue)
       (λ x up is. rw (ne_eqb row.slot.number x.slot.number (λ e. omega arith)) is) rows (rows_above row rows rising) (own_queues rows (rest_rises row.slot.number (numbers_of (slots_in rows)) rising)),
 )
 
@@ -72,7 +73,8 @@ module _ (core : Core) where
       let n : ℕ = row.slot.number in
       let above = rows_above row rows rising in (
         for_own n (queue_at core n) (all_of rows) ∙ ap (λ (es : List Event). queue_at core n ++ es) (for_none n rows above) ∙ append-nil (queue_at core n) ∙ own.0,
-        each_both (λ (x : ThreadRow). n < x.slot.number) (λ (x : ThreadRow). events_for x.slot.number (all_of rows) ≡ x.queue) (λ (x : ThreadRow). events_for x.slot.number (all_of (row ∷ rows)) ≡ x.queue)
+        each_both (λ (x : ThreadRow). n < x.slot.number) (λ (x : ThreadRow). events_for x.slot.number (all_of rows) ≡ x.queue)
+            (λ (x : ThreadRow). events_for x.slot.number (all_of (row ∷ rows)) ≡ x.queue)
             (λ x up is. for_other x.slot.number n (queue_at core n) (all_of rows) (λ e. omega (arith, e)) ∙ is) rows above (for_each rows (rest_rises n (numbers_of (slots_in rows)) rising) own.1),
       )
 
@@ -83,7 +85,8 @@ module _ (core : Core) where
 abbrev row_with : List (ℕ × Event) → Slot → ThreadRow
 row_with events s = record { slot = s; queue = events_for s.number events }
 
-rows_back : (events : List (ℕ × Event)) (rows : List ThreadRow) → AllByRecursion (λ (row : ThreadRow). events_for row.slot.number events ≡ row.queue) rows → map (row_with events) (slots_in rows) ≡ rows
+rows_back : (events : List (ℕ × Event)) (rows : List ThreadRow) → AllByRecursion (λ (row : ThreadRow). events_for row.slot.number events ≡ row.queue) rows
+    → map (row_with events) (slots_in rows) ≡ rows
 rows_back events [] h = refl
 rows_back events (row ∷ rows) h =
     ap (λ (es : List Event). let first : ThreadRow = record { slot = row.slot; queue = es } in first ∷ map (row_with events) (slots_in rows)) h.0

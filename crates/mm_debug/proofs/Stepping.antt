@@ -4,10 +4,11 @@ use Rattle.std.proofs.Props.{props}
 use Rattle.std.proofs.Math.Logic.{∥∥₁_elim}
 use Rattle.std.proofs.lemmas.Bool.Decides.{nat_tests}
 use Rattle.std.specs.List.{AllByRecursion}
+use Rattle.std.specs.Option.{option_or}
 use Rattle.mm_model.specs.Slot.{Slot}
 use Rattle.mm_model.specs.State.{ThreadRow}
 use Rattle.mm_model.specs.Turn.{is_running}
-use Rattle.mm_model.specs.Run.{after, first_running, or_else, any_number, next_running}
+use Rattle.mm_model.specs.Run.{after, first_running, any_number, next_running}
 use Rattle.mm_model.specs.Fits.{IsSlot, slots_of}
 use Rattle.mm_model.proofs.CoreRows.{each_map}
 use Rattle.mm_machine.specs.Kept.{Kept}
@@ -52,7 +53,7 @@ next_small : (rows : List ThreadRow) (last : Option ℕ) (n : ℕ) → AllByRecu
 next_small rows None n small is = first_small any_number rows n small is
 next_small rows (Some last) n small is = by (first_running (nat_lt last) rows) refl is
   where
-    by : (o : Option ℕ) → first_running (nat_lt last) rows ≡ o → or_else o (first_running any_number rows) ≡ Some n → n < 64
+    by : (o : Option ℕ) → first_running (nat_lt last) rows ≡ o → option_or o (first_running any_number rows) ≡ Some n → n < 64
     by None above is = first_small any_number rows n small is
     by (Some m) above is = first_small (nat_lt last) rows n small (above ∙ is)
 

@@ -33,14 +33,15 @@ use Rattle.mm_model.specs.Turn.{Turned, reply, reached, removal_use, asked_use, 
 use Rattle.mm_model.specs.Turn.{faulted, blocked, ended, executed, issued, decoded, instr_in, fetched, aimed, started}
 use Rattle.mm_model.specs.Turn.{idle, arrives, port_of, taken_by_port, taken_by, is_running, turn}
 use Rattle.mm_debug.specs.Breakpoints.{has_watch}
-use Rattle.mm_debug.specs.Session.{is_done, sets_bit, watched_by, watched}
+use Rattle.mm_debug.specs.Session.{is_done, watched_by, watched}
 use Rattle.mm_debug.specs.Laws.{SetsBitAt, WatchesSeeSignals}
+use Rattle.mm_model.specs.Counted.{writes}
 
 -- 1. Uses that are a Store or a LoadSet which was done.
 
 -- the word of such a use
 abbrev signal_of : Use → Option ℕ
-signal_of (Accessed kind word true true) = if sets_bit kind then Some word else None
+signal_of (Accessed kind word true true) = if writes kind then Some word else None
 signal_of (Accessed kind word true false) = None
 signal_of (Accessed kind word false done) = None
 signal_of (Removed page) = None
@@ -52,22 +53,22 @@ HasSignal word (u ∷ us) = (signal_of u ≡ Some word) ⊎ HasSignal word us
 
 record IsSignal (word : ℕ) (u : Use) : Type 0 where
   kind : Kind
-  sets : sets_bit kind ≡ true
+  sets : writes kind ≡ true
   is : u ≡ Accessed kind word true true
 
-set_signal : (kind : Kind) (w word : ℕ) (b : Bool) → sets_bit kind ≡ b → (if b then Some w else None) ≡ Some word → IsSignal word (Accessed kind w true true)
+set_signal : (kind : Kind) (w word : ℕ) (b : Bool) → writes kind ≡ b → (if b then Some w else None) ≡ Some word → IsSignal word (Accessed kind w true true)
 set_signal kind w word true on e =
     let same : w ≡ word = cc in
     record { kind = kind; sets = on; is = ap (λ (x : ℕ). Accessed kind x true true) same }
 set_signal kind w word false on e = cc
 
 signal_from : (word : ℕ) (u : Use) → signal_of u ≡ Some word → IsSignal word u
-signal_from word (Accessed kind w true true) e = set_signal kind w word (sets_bit kind) refl e
+signal_from word (Accessed kind w true true) e = set_signal kind w word (writes kind) refl e
 signal_from word (Accessed kind w true false) e = cc
 signal_from word (Accessed kind w false done) e = cc
 signal_from word (Removed page) e = cc
 
-signal_to : (word : ℕ) (u : Use) (kind : Kind) → sets_bit kind ≡ true → u ≡ Accessed kind word true true → signal_of u ≡ Some word
+signal_to : (word : ℕ) (u : Use) (kind : Kind) → writes kind ≡ true → u ≡ Accessed kind word true true → signal_of u ≡ Some word
 signal_to word u kind on is = ap signal_of is ∙ ap (λ (b : Bool). if b then Some word else None) on
 
 sets_bit_from : (word : ℕ) (us : List Use) → HasSignal word us → SetsBitAt word us
@@ -78,7 +79,7 @@ sets_bit_from word (u ∷ us) (inr h) =
     let below = later.2.1 in
     (later.0, later.1, (suc later.2.0, omega arith, later.2.2))
 
-signal_at : (word : ℕ) (us : List Use) (kind : Kind) → sets_bit kind ≡ true → (k : ℕ) → k < length us
+signal_at : (word : ℕ) (us : List Use) (kind : Kind) → writes kind ≡ true → (k : ℕ) → k < length us
     → slice_index_or us k (Accessed kind word true true) ≡ Accessed kind word true true → HasSignal word us
 signal_at word [] kind on k lt is = absurd (omega arith)
 signal_at word (u ∷ us) kind on zero lt is = inl (signal_to word u kind on is)
@@ -107,7 +108,7 @@ fetched_kind p f e = by (allows p.perm Fetch) e
 
 no_fetch : (f : Touch) → f.kind ≡ Fetch → (word : ℕ) → ¬ (signal_of (Accessed f.kind f.addr true true) ≡ Some word)
 no_fetch f is word e =
-    let none : None ≡ Some word = sym (ap (λ (kind : Kind). if sets_bit kind then Some f.addr else None) is) ∙ e in
+    let none : None ≡ Some word = sym (ap (λ (kind : Kind). if writes kind then Some f.addr else None) is) ∙ e in
     cc
 
 -- 3. Turns.
@@ -207,12 +208,12 @@ module _ (watches : List ℕ) where
       did_sees a x word = (stops, seen)
         where
           stops : watched_by watches (Some a) ≡ Some word → (has_watch watches word ≡ true) × HasSignal word (u ∷ Accessed a.kind a.addr true true ∷ [])
-          stops e = let two = touch_sees a word (sets_bit a.kind) (has_watch watches a.addr) refl e in (two.0, inr (inl two.1))
+          stops e = let two = touch_sees a word (writes a.kind) (has_watch watches a.addr) refl e in (two.0, inr (inl two.1))
 
           seen : (has_watch watches word ≡ true) × HasSignal word (u ∷ Accessed a.kind a.addr true true ∷ []) → watched_by watches (Some a) ≡ Some word
           seen h = elim h.1 [
             | inl e ↦ absurd (own word e)
-            | inr later ↦ elim later [ inl e ↦ touch_seen a word (sets_bit a.kind) (has_watch watches a.addr) refl h.0 e | inr never ↦ absurd never ]
+            | inr later ↦ elim later [ inl e ↦ touch_seen a word (writes a.kind) (has_watch watches a.addr) refl h.0 e | inr never ↦ absurd never ]
           ]
 
       got_sees : (a : Touch) (c : Cell) → Sees (ended core m s i f (Some a) (u ∷ Accessed a.kind a.addr true true ∷ []) (does (Got a c)))

@@ -28,7 +28,7 @@ is_break slot address b = (b.slot == slot) && (b.address == address)
 abbrev pub has_break : List Break → ℕ → ℕ → Bool
 has_break breaks slot address = list_any (is_break slot address) breaks
 
--- one of 1,024 spots; neighbouring words have different ones
+-- the spot of an address, one of 1,024; neighbouring words have different ones
 abbrev pub spot_of : ℕ → ℕ
 spot_of address = address / 8 % 1024
 
@@ -51,7 +51,7 @@ module _ {A : Type 0} (cmp : A → A → Ordering) where
   placed x [] = x ∷ []
   placed x (y ∷ ys) = before (cmp x y) x y ys (placed x ys)
 
--- there is room for one entry more, or the list has the entry already
+-- a list has room for one entry more, or has the entry already
 abbrev pub fits : {A : Type 0} → (there : Bool) → List A → Bool
 fits true entries = true
 fits false entries = nat_lt (length entries) entry_limit

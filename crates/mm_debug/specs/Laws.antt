@@ -1,6 +1,7 @@
 -- Laws of sessions.
 use Rattle.std.specs.Prelude.{◌≡◌, ◌↔◌, ℕ, zero, suc, ◌+◌, ◌<◌, ◌≤◌, Bool, true, false, ◌&&◌, if◌then◌else◌, List, []}
 use Rattle.std.specs.Prelude.{◌∷◌, Contains, Option, Some, None}
+use Rattle.std.specs.Option.{option_or}
 use Rattle.mm_word.specs.declared.perm.Kind.{Kind}
 use Rattle.mm_model.specs.Image.{Image, start}
 use Rattle.mm_model.specs.Run.{run, turn_of}
@@ -9,9 +10,10 @@ use Rattle.mm_sched.specs.declared.schedule.Order.{Order}
 use Rattle.mm_debug.specs.declared.stop.Stop.{Stop}
 use Rattle.mm_debug.specs.declared.stop.Stop.TheVariants as stop
 use Rattle.mm_debug.specs.Breakpoints.{has_watch}
-use Rattle.mm_debug.specs.Session.{Session, total_of, begun, next_item, stepped, sets_bit, stops_before, stops_after}
+use Rattle.mm_debug.specs.Session.{Session, total_of, begun, next_item, stepped, stops_before, stops_after}
 use Rattle.mm_debug.specs.Session.{ran, answer_to}
 use Rattle.mm_debug.specs.Standing.{StandsFor, run_items}
+use Rattle.mm_model.specs.Counted.{writes}
 
 -- 1. The stops of a run.
 
@@ -29,15 +31,11 @@ abbrev pub end_or_break : (after_cycle : Bool) → Session → Option ℕ → Op
 end_or_break after_cycle s None = Some stop.End
 end_or_break after_cycle s (Some item) = if after_cycle && stops_before s item then Some (stop.Break item) else None
 
-abbrev pub first_of : Option Stop → Option Stop → Option Stop
-first_of None other = other
-first_of (Some stop) other = Some stop
-
 -- the stop after `count` cycles of a run: a watch before the end before a break
 abbrev pub stop_after : Session → ℕ → Option Stop
 stop_after s zero = end_or_break false s (next_item s)
 stop_after s (suc count) =
-    first_of (watch_stands (stepped s count) (next_item (stepped s count)))
+    option_or (watch_stands (stepped s count) (next_item (stepped s count)))
     (end_or_break true (stepped s (suc count)) (next_item (stepped s (suc count))))
 
 -- A run issues the least count of cycles after which it has to stop.
@@ -83,7 +81,7 @@ DebuggingChangesNoRun = (i : Image) (order : Order) (lines : List (List ℕ)) �
 
 -- 4. What an answer depends on: the image, the order, the count of cycles so far, the breaks and watches, and the line.
 
--- both sessions have issued as many cycles of one order, and have the same breaks and watches
+-- two sessions have issued the same count of cycles of one order, and have the same breaks and watches
 pub record AreAlike (s t : Session) : Type 0 where
   pub order : s.order ≡ t.order
   pub total : total_of s ≡ total_of t
@@ -99,7 +97,7 @@ AnswersDependOnThese = (i : Image) (s t : Session) (line : List ℕ) → StandsF
 
 -- the uses of a cycle have a Store or a LoadSet on this word that was done
 abbrev pub SetsBitAt : ℕ → List Use → Type 0
-SetsBitAt word us = (kind : Kind) × (sets_bit kind ≡ true) × Contains us (Accessed kind word true true)
+SetsBitAt word us = (kind : Kind) × (writes kind ≡ true) × Contains us (Accessed kind word true true)
 
 -- A cycle stops a run exactly if it did a Store or a LoadSet on a watched word.
 abbrev pub WatchesSeeSignals : Type 0

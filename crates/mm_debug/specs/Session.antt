@@ -2,8 +2,6 @@
 use Rattle.std.specs.Prelude.{ℕ, zero, suc, ◌+◌, ◌-◌, ◌*◌, Bool, true, false, not, ◌&&◌, nat_lt, if◌then◌else◌, List}
 use Rattle.std.specs.Prelude.{[], ◌∷◌, ◌++◌, codes, decimal, Option, Some, None}
 use Rattle.std.specs.List.{flat_map, range_with_len}
-use Rattle.mm_word.specs.declared.perm.Kind.{Kind}
-use Rattle.mm_word.specs.declared.perm.Kind.TheVariants.{Fetch, Load, LoadSet, Store}
 use Rattle.mm_word.specs.declared.word.Cell.{Cell}
 use Rattle.mm_word.specs.Access.{Touch}
 use Rattle.mm_model.specs.declared.step.Step.{Step as StepTaken}
@@ -27,6 +25,7 @@ use Rattle.mm_debug.specs.declared.session.Go.{Go}
 use Rattle.mm_debug.specs.declared.session.Go.TheVariants as go
 use Rattle.mm_debug.specs.Commands.{command_of, lines_of}
 use Rattle.mm_debug.specs.Breakpoints.{has_break, has_watch, fits, with_break, with_watch}
+use Rattle.mm_model.specs.Counted.{writes}
 
 -- 1. Sessions.
 
@@ -87,16 +86,10 @@ is_done Blocked = false
 is_done (Faulted cause) = false
 is_done (Delivered reg) = false
 
--- accesses of this kind set the bit of a cell
-abbrev pub sets_bit : Kind → Bool
-sets_bit Store = true
-sets_bit LoadSet = true
-sets_bit Load = false
-sets_bit Fetch = false
-
+-- the watched word of an access that may set the cell's bit
 abbrev pub watched_by : List ℕ → Option Touch → Option ℕ
 watched_by watches None = None
-watched_by watches (Some t) = if sets_bit t.kind && has_watch watches t.addr then Some t.addr else None
+watched_by watches (Some t) = if writes t.kind && has_watch watches t.addr then Some t.addr else None
 
 -- the watched word on which a cycle did a Store or a LoadSet
 abbrev pub watched : List ℕ → StepTaken → Option ℕ

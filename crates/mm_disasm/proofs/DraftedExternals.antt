@@ -2,9 +2,9 @@
 use Rattle.std.proofs.Common.{◌≡◌, ℕ, zero, suc, ◌+◌, ◌*◌, ◌<◌, true, not, ◌==◌, List, [], ◌∷◌, length, get_or, Option, is_some, refl, sym, ap, ◌∙◌, subst, inl, inr, arith}
 use Rattle.mm_line.proofs.Choices.{same_number}
 use Rattle.mm_line.specs.declared.statement.Target as text
-use Rattle.mm_draft.specs.declared.place.Location.{Location}
+use Rattle.mm_draft.specs.declared.location.Location.{Location}
 use Rattle.mm_draft.specs.Drafts as draft
-use Rattle.mm_draft.specs.Drafts.{Draft, place_of}
+use Rattle.mm_draft.specs.Drafts.{Draft}
 use Rattle.mm_object.specs.declared.target.Target.{Target}
 use Rattle.mm_object.specs.Lookups.{name_of_target}
 use Rattle.mm_object.specs.Names.{is_before}

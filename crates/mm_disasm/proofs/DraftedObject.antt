@@ -24,7 +24,7 @@ use Rattle.mm_object.specs.declared.thread.Thread.{Thread}
 use Rattle.mm_object.specs.Lookups.{reloc_at}
 use Rattle.mm_object.specs.Objects.{Segment, Object, IsObject, is_target, is_value, is_thread}
 use Rattle.mm_model.proofs.ImageBytes.Rising.{both}
-use Rattle.mm_asm.specs.Meaning.{with_goal, bits_of, items_from, segment_of, content_relocs, words_relocs, segments_relocs, value_of, register_value, thread_of, insert_thread, by_slot, object_of}
+use Rattle.mm_asm.specs.Meaning.{with_goal, bits_of, word_items, segment_of, content_relocs, words_relocs, segments_relocs, value_of, register_value, thread_of, insert_thread, by_slot, object_of}
 use Rattle.mm_disasm.specs.Canonical.{is_zero}
 use Rattle.mm_disasm.proofs.Saying.{IsConstantOf, IsBits, IsContentOf}
 use Rattle.mm_disasm.proofs.DraftedOrder.{Ascends, ascends_by}
@@ -61,7 +61,7 @@ module _ (o : Object) (is : IsObject o) (d : Draft) (drafted : IsDraftOf o d) wh
   content_bits k None bits c h zeros = own_bits k bits c h
 
   items_same : (segment k : ℕ) (s : Segment) (items : List Item) (words : List Word) → slice_get o.segments segment ≡ Some s →
-      ((i : ℕ) → slice_get s.items (k + i) ≡ slice_get items i) → AreWordsOf o segment k items words → items_from d k words ≡ items
+      ((i : ℕ) → slice_get s.items (k + i) ≡ slice_get items i) → AreWordsOf o segment k items words → word_items d k words ≡ items
   items_same segment k s [] [] is_segment is_items h = refl
   items_same segment k s [] (w ∷ words) is_segment is_items h = absurd h
   items_same segment k s (item ∷ items) [] is_segment is_items h = absurd h

@@ -9,7 +9,6 @@ use Rattle.std.proofs.lemmas.Bool.Decides.{nat_tests}
 use Rattle.std.proofs.lemmas.Slice.Eq.{bytes_eq-Decides}
 use Rattle.mm_draft.specs.Drafts as draft
 use Rattle.mm_draft.specs.Drafts.{Entry, Draft, place_in, pointers_of}
-use Rattle.mm_draft.specs.Faults as faults
 use Rattle.mm_draft.specs.Faults.{lines_from}
 use Rattle.mm_object.specs.Objects.{Segment, Object, IsSegment, same_name, is_among, are_apart, names_of, words_of}
 use Rattle.mm_model.proofs.ImageBytes.Rising.{both}
@@ -21,6 +20,7 @@ use Rattle.mm_disasm.proofs.Speaking.{SegmentsSpeak}
 use Rattle.mm_disasm.proofs.DraftedLines.{begin_read}
 use Rattle.mm_disasm.proofs.DraftedRelocs.{found_words, found_segments}
 use Rattle.mm_disasm.proofs.DraftedWords.{AreWordsOf, as_many_words, as_many_pointers, words_pushed, pointers_pushed, HasRoom, read_words}
+use Rattle.mm_model.specs.Limits.{segment_limit, word_limit, reloc_limit}
 
 -- 1. Names.
 
@@ -98,12 +98,12 @@ module _ (o : Object) (spare : Option ℕ) where
   -- segments that have their place behind others
   pub record Fit (number : ℕ) (before : List draft.Segment) (segments : List Segment) : Type 0 where
     pub behind : number ≡ length before
-    pub few : number + length segments ≤ faults.segment_limit
+    pub few : number + length segments ≤ segment_limit
     pub each : AllByRecursion IsSegment segments
     pub apart : are_apart (names_of segments) ≡ true
     pub new : AllByRecursion (IsNew before) segments
-    pub words : draft.words_of before + words_of segments ≤ faults.word_limit
-    pub pointers : pointers_of before + length (found_segments o number segments) ≤ faults.pointer_limit
+    pub words : draft.words_of before + words_of segments ≤ word_limit
+    pub pointers : pointers_of before + length (found_segments o number segments) ≤ reloc_limit
 
   pub read_segments : (line number : ℕ) (before : List draft.Segment) (segments : List Segment) → SegmentsSpeak o number segments → Fit number before segments →
       ReadsSegments line number before segments
@@ -135,7 +135,7 @@ module _ (o : Object) (spare : Option ℕ) where
       } in
       let rest = read_segments words.next (number + 1) (before ++ x ∷ []) segments h.1 fits in
       let names : entered ≡ entries_from 0 (before ++ x ∷ []) = entries_pushed 0 (length before) before x (omega arith) in
-      let full : nat_le faults.segment_limit (length before) ≡ false = not_yet faults.segment_limit (length before) (omega (arith, fit.behind, fit.few)) in
+      let full : nat_le segment_limit (length before) ≡ false = not_yet segment_limit (length before) (omega (arith, fit.behind, fit.few)) in
       record {
         next = rest.next;
         later = x ∷ rest.later;

@@ -3,10 +3,11 @@ use Rattle.std.proofs.Common.{◌≡◌, ℕ, ◌+◌, ◌<◌, Bool, true, fals
 use Rattle.std.specs.List.{list_any, AllByRecursion}
 use Rattle.std.proofs.lemmas.List.{append-nil}
 use Rattle.std.proofs.lemmas.Bool.{ne_eqb}
+use Rattle.std.specs.Prelude.{is_none}
 use Rattle.mm_draft.specs.declared.thread.Register.{Register}
 use Rattle.mm_draft.specs.Drafts as draft
 use Rattle.mm_draft.specs.Drafts.{Entry, Draft, last, with_register}
-use Rattle.mm_draft.specs.Faults.{is_none, has_register, source_of, lines_from}
+use Rattle.mm_draft.specs.Faults.{has_register, source_of, lines_from}
 use Rattle.mm_object.specs.declared.thread.Value.{Value}
 use Rattle.mm_object.specs.declared.thread.Thread.{Thread}
 use Rattle.mm_object.specs.Objects.{Object}

@@ -11,7 +11,7 @@ use Rattle.mm_line.specs.declared.statement.Content.TheVariants as content
 use Rattle.mm_draft.specs.declared.segment.Word.{Word}
 use Rattle.mm_draft.specs.Drafts as draft
 use Rattle.mm_draft.specs.Drafts.{Entry, Draft, last, change_last, with_words, words_of, pointers_among, pointers_of}
-use Rattle.mm_draft.specs.Faults.{word_limit, pointer_limit, room_of, fault_if, words_faults, one_if_pointer, source_of, lines_from}
+use Rattle.mm_draft.specs.Faults.{room_of, fault_if, words_faults, one_if_pointer, source_of, lines_from}
 use Rattle.mm_draft.proofs.Lasts.{pointers_append}
 use Rattle.mm_object.specs.declared.item.Item.{Item}
 use Rattle.mm_object.specs.declared.target.Reloc.{Reloc}
@@ -22,6 +22,7 @@ use Rattle.mm_disasm.proofs.Saying.{IsContentOf, word_of, word_lines}
 use Rattle.mm_disasm.proofs.Speaking.{WordsSpeak}
 use Rattle.mm_disasm.proofs.DraftedLines.{clear, word_read}
 use Rattle.mm_disasm.proofs.DraftedRelocs.{found_words}
+use Rattle.mm_model.specs.Limits.{word_limit, reloc_limit}
 
 -- 1. What is last.
 
@@ -97,7 +98,7 @@ module _ (o : Object) (names : List Entry) (spare : Option ℕ) (before : List d
   pub record HasRoom (s : draft.Segment) (count pointers : ℕ) : Type 0 where
     pub room : length s.words + count ≤ room_of s
     pub words_fit : words_of before + length s.words + count ≤ word_limit
-    pub pointers_fit : pointers_of before + pointers_among s.words + pointers ≤ pointer_limit
+    pub pointers_fit : pointers_of before + pointers_among s.words + pointers ≤ reloc_limit
 
   not_less : (a b : ℕ) → b ≤ a → nat_lt a b ≡ false
   not_less a b le = grind (arith, nat_tests)
@@ -106,8 +107,8 @@ module _ (o : Object) (names : List Entry) (spare : Option ℕ) (before : List d
   no_faults s count pointers left h =
       let full = not_less (room_of s) (length s.words + count) h.room in
       let words = not_less word_limit (words_of (before ++ s ∷ []) + count) (omega (arith, words_pushed before s, h.words_fit)) in
-      let points = not_less pointer_limit (pointers_of (before ++ s ∷ []) + pointers) (omega (arith, pointers_pushed before s, h.pointers_fit)) in
-      let many : Bool = nat_lt word_limit (words_of (before ++ s ∷ []) + count) || nat_lt pointer_limit (pointers_of (before ++ s ∷ []) + pointers) in
+      let points = not_less reloc_limit (pointers_of (before ++ s ∷ []) + pointers) (omega (arith, pointers_pushed before s, h.pointers_fit)) in
+      let many : Bool = nat_lt word_limit (words_of (before ++ s ∷ []) + count) || nat_lt reloc_limit (pointers_of (before ++ s ∷ []) + pointers) in
       ap (words_faults (with_last s) count pointers left) (last_pushed before s)
       ∙ ap (λ (problems : List Problem). problems ++ fault_if many Limit left) (clear (nat_lt (room_of s) (length s.words + count)) Full left full)
       ∙ clear many Limit left (none_of _ _ words points)

@@ -220,9 +220,6 @@ module _ (o : Object) (is : IsObject o) where
   mark_length true = omega arith
   mark_length false = omega arith
 
-  newline_length : length newline ≡ 1
-  newline_length = refl
-
   word_length : (segment k : ℕ) (item : Item) → length (word_line o segment k item) ≤ 56
   unfolding word_line
   word_length segment k item =

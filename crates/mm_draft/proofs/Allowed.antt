@@ -11,9 +11,10 @@ use Rattle.mm_line.specs.declared.line.Claim.TheVariants as claims
 use Rattle.mm_line.specs.declared.line.Body.{Body}
 use Rattle.mm_line.specs.Ranges.{IsBody, NamesItsClaim, Names, Reads, IsStatement}
 use Rattle.mm_draft.specs.Drafts.{Draft, Segment, last, place_of}
-use Rattle.mm_draft.specs.Faults.{first_of, fault_if, claim_faults, words_faults, statement_faults, reading_faults, body_faults, is_named, one_if_pointer, word_limit, pointer_limit}
+use Rattle.mm_draft.specs.Faults.{first_of, fault_if, claim_faults, words_faults, statement_faults, reading_faults, body_faults, is_named, one_if_pointer}
 use Rattle.mm_draft.specs.Counts.{HasRoom, MayAdd, MayAddReading}
 use Rattle.mm_draft.proofs.Firsts.{no_fault}
+use Rattle.mm_model.specs.Limits.{word_limit, reloc_limit}
 
 append_none : (xs ys : List Problem) → xs ++ ys ≡ [] → (xs ≡ []) × (ys ≡ [])
 append_none [] ys e = (refl, e)
@@ -38,7 +39,7 @@ room : (d : Draft) (words pointers left : ℕ) (o : Option Segment) → words_fa
 room d words pointers left None e = cc
 room d words pointers left (Some s) e =
     let n = neither _ _ (good _ _ left (append_none _ _ e).1) in
-    record { words_fit = within word_limit _ n.0; pointers_fit = within pointer_limit _ n.1 }
+    record { words_fit = within word_limit _ n.0; pointers_fit = within reloc_limit _ n.1 }
 
 new_name : (d : Draft) (left : ℕ) (name : List ℕ) (claim : Option Claim) → claim_faults d claim ≡ []
     → (m : Rattle.mm_line.specs.declared.name.Mark.Mark) → claim ≡ Some (claims.Segment m) → place_of d m.name ≡ None

@@ -1,5 +1,5 @@
 -- The first fault of two lists of faults.
-use Rattle.std.proofs.Common.{◌≡◌, ℕ, ◌<◌, Bool, true, false, if◌then◌else◌, ◌&&◌, ◌||◌, List, [], ◌∷◌, ◌++◌, Option, Some, None, refl, ap, ◌∙◌, arith}
+use Rattle.std.proofs.Common.{◌≡◌, ℕ, Bool, true, false, if◌then◌else◌, ◌&&◌, ◌||◌, List, [], ◌∷◌, ◌++◌, Option, Some, None, refl, ap, ◌∙◌, arith}
 use Rattle.std.specs.Prelude.{nat_lt, ◌==◌}
 use Rattle.std.proofs.lemmas.Bool.Decides.{nat_tests}
 use Rattle.mm_line.specs.declared.fault.Problem.{Problem}
@@ -19,9 +19,6 @@ transitive a m b n c o h k = grind (arith, nat_tests)
 behind : (a m b n c o : ℕ) → goes_before b n a m ≡ false → goes_before c o b n ≡ false → goes_before c o a m ≡ false
 unfolding goes_before
 behind a m b n c o h k = grind (arith, nat_tests)
-
-before : Problem → Problem → Bool
-before p q = goes_before p.left (number_of p.fault) q.left (number_of q.fault)
 
 merged : (x p q : Problem) → lesser x (lesser p (Some q)) ≡ first_of_both (lesser x (Some p)) (Some q)
 unfolding goes_before

@@ -46,12 +46,6 @@ module _ {A : Type 0} where
   change_last_none f (y ∷ []) e = cc
   change_last_none f (y ∷ z ∷ rest) e = ap (λ r. y ∷ r) (change_last_none f (z ∷ rest) e)
 
-  pub change_last_twice : (f g : A → A) (xs : List A) → change_last f (change_last g xs) ≡ change_last (λ x. f (g x)) xs
-  change_last_twice f g [] = refl
-  change_last_twice f g (x ∷ []) = refl
-  change_last_twice f g (x ∷ y ∷ []) = refl
-  change_last_twice f g (x ∷ y ∷ z ∷ rest) = ap (λ r. x ∷ r) (change_last_twice f g (y ∷ z ∷ rest))
-
 pub pointers_append : (ws vs : List Word) → pointers_among (ws ++ vs) ≡ pointers_among ws + pointers_among vs
 pointers_append [] vs = omega arith
 pointers_append (w ∷ ws) vs = omega (arith, pointers_append ws vs)

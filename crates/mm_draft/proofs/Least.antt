@@ -2,6 +2,7 @@
 use Rattle.std.proofs.Common.{◌≡◌, ℕ, ◌+◌, ◌-◌, ◌<◌, ◌≤◌, Bool, true, false, ◌&&◌, ◌||◌, if◌then◌else◌, List, [], ◌∷◌, ◌++◌, map, length, Option, Some, None, refl, sym, ap, ◌∙◌, arith}
 use Rattle.std.specs.Prelude.{nat_lt, ◌==◌, option_map}
 use Rattle.std.proofs.lemmas.Bool.Decides.{nat_tests}
+use Rattle.std.specs.Option.{option_or}
 use Rattle.mm_line.specs.declared.fault.Problem.{Problem}
 use Rattle.mm_line.specs.Faults.{number_of}
 use Rattle.mm_line.specs.Statements.{line_of}
@@ -11,10 +12,6 @@ use Rattle.mm_draft.specs.Laws.{Pair, pair_of, all_from, early_faults, precedes,
 use Rattle.mm_draft.proofs.Positions.{EachIs, Within, line_within}
 
 -- 1. The least of two lists of pairs, one of a line and one of later lines.
-
-abbrev or_else : Option Pair → Option Pair → Option Pair
-or_else (Some p) q = Some p
-or_else None q = q
 
 abbrev EachOn : ℕ → List Pair → Type 0
 EachOn n [] = Unit {0}
@@ -47,15 +44,15 @@ here : (n : ℕ) (p : Pair) (o : Option Pair) → p.line ≡ n → From (n + 1) 
 here n p None h f = refl
 here n p (Some q) h f = let b = later p q (omega arith) in rw b refl
 
-joined : (n : ℕ) (p : Pair) (o r : Option Pair) → p.line ≡ n → From (n + 1) r → sooner p (or_else o r) ≡ or_else (sooner p o) r
+joined : (n : ℕ) (p : Pair) (o r : Option Pair) → p.line ≡ n → From (n + 1) r → sooner p (option_or o r) ≡ option_or (sooner p o) r
 joined n p None r h f = here n p r h f
 joined n p (Some q) r h f = by (precedes q p)
   where
-    by : (b : Bool) → (if b then Some q else Some p) ≡ or_else (if b then Some q else Some p) r
+    by : (b : Bool) → (if b then Some q else Some p) ≡ option_or (if b then Some q else Some p) r
     by true = refl
     by false = refl
 
-least_append : (n : ℕ) (ps qs : List Pair) → EachOn n ps → EachFrom (n + 1) qs → least (ps ++ qs) ≡ or_else (least ps) (least qs)
+least_append : (n : ℕ) (ps qs : List Pair) → EachOn n ps → EachFrom (n + 1) qs → least (ps ++ qs) ≡ option_or (least ps) (least qs)
 least_append n [] qs on from = refl
 least_append n (p ∷ ps) qs on from = ap (sooner p) (least_append n ps qs on.1 from) ∙ joined n p (least ps) (least qs) on.0 (least_from (n + 1) qs from)
 
@@ -121,7 +118,7 @@ least_is number size (p ∷ ps) h = ap (sooner (pair_of number size p)) (least_i
 
 stops_or_goes : (number : ℕ) (bytes : List ℕ) (o : Option Problem) (d : Draft) (more : List (List ℕ)) (r : Option Pair)
     → fault_of (lines_from (number + 1) (add_line (source_of number bytes) (line_of bytes) d) more) ≡ r
-    → fault_of (step_by o (source_of number bytes) (line_of bytes) d then λ e. lines_from (number + 1) e more) ≡ or_else (option_map (pair_of number (length bytes)) o) r
+    → fault_of (step_by o (source_of number bytes) (line_of bytes) d then λ e. lines_from (number + 1) e more) ≡ option_or (option_map (pair_of number (length bytes)) o) r
 stops_or_goes number bytes None d more r h = h
 stops_or_goes number bytes (Some p) d more r h = refl
 
@@ -134,7 +131,7 @@ lines_least number d (bytes ∷ more) =
     let rest = all_from (number + 1) next more in
     let size = length bytes in
     stops_or_goes number bytes (first_of ps) d more _ (lines_least (number + 1) next more)
-    ∙ ap (λ o. or_else o (least rest)) (sym (least_is number size ps (line_within d bytes)))
+    ∙ ap (λ o. option_or o (least rest)) (sym (least_is number size ps (line_within d bytes)))
     ∙ sym (least_append (number + 1) (map (pair_of number size) ps) rest (pairs_on number size ps) (all_are_from (number + 1) next more))
 
 pub first_is_least : (text : List ℕ) → fault_of (draft_of text) ≡ least (early_faults text)

@@ -3,6 +3,7 @@ use Rattle.std.proofs.Common.{◌≡◌, ℕ, ◌+◌, ◌<◌, ◌≤◌, List,
 use Rattle.std.specs.List.{enumerate_from}
 use Rattle.std.proofs.lemmas.List.{drop_more, drop_all}
 use Rattle.std.proofs.lemmas.List.FromFn.{length-enumerate_from, get_or-enumerate_from}
+use Rattle.std.specs.Option.{option_or}
 use Rattle.mm_line.specs.declared.fault.Problem.{Problem}
 use Rattle.mm_line.specs.declared.line.Line.{Line}
 use Rattle.mm_line.specs.Statements.{line_of}
@@ -13,7 +14,7 @@ use Rattle.mm_draft.specs.declared.fault.DraftError.TheVariants.{Fault, NoMemory
 use Rattle.mm_draft.specs.Drafts.{Draft, add_line, add_body, add_maybe_label}
 use Rattle.mm_draft.specs.Faults.{first_of, maybe_label_faults, body_faults, source_of, step, step_by, lines_from, ◌then◌}
 use Rattle.mm_draft.specs.Seen.{Leaves, Reads, unless}
-use Rattle.mm_draft.proofs.Positions.{or_else, line_first}
+use Rattle.mm_draft.proofs.Positions.{line_first}
 
 -- 1. A line is its label and then its statement.
 
@@ -22,17 +23,17 @@ step_unless None source line d = refl
 step_unless (Some p) source line d = refl
 
 pub step_is : (number : ℕ) (bytes : List ℕ) (d : Draft) → let line = line_of bytes in
-    step number bytes d ≡ unless (or_else (first_of (maybe_label_faults d line.label))
+    step number bytes d ≡ unless (option_or (first_of (maybe_label_faults d line.label))
     (first_of (body_faults (add_maybe_label line.label d) line.body))) (source_of number bytes)
     (add_body (source_of number bytes) line.body (add_maybe_label line.label d))
 unfolding step add_line
 step_is number bytes d = step_unless _ _ _ d ∙ ap (λ o. unless o (source_of number bytes) (add_line (source_of number bytes) (line_of bytes) d)) (line_first d bytes)
 
-label_stops : (o q : Option Problem) (source : Source) (d e : Draft) (failure : Failure) → unless o source d ≡ Err failure → unless (or_else o q) source e ≡ Err failure
+label_stops : (o q : Option Problem) (source : Source) (d e : Draft) (failure : Failure) → unless o source d ≡ Err failure → unless (option_or o q) source e ≡ Err failure
 label_stops None q source d e failure h = cc
 label_stops (Some p) q source d e failure h = h
 
-label_goes : (o q : Option Problem) (source : Source) (d e : Draft) (next : Draft) → unless o source d ≡ Ok next → unless (or_else o q) source e ≡ unless q source e
+label_goes : (o q : Option Problem) (source : Source) (d e : Draft) (next : Draft) → unless o source d ≡ Ok next → unless (option_or o q) source e ≡ unless q source e
 label_goes None q source d e next h = refl
 label_goes (Some p) q source d e next h = cc
 

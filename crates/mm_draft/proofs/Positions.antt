@@ -1,7 +1,8 @@
 -- Where the faults of a line stand.
 use Rattle.std.proofs.Common.{◌≡◌, ℕ, ◌+◌, ◌<◌, ◌≤◌, Bool, true, false, nat_le, if◌then◌else◌, ◌||◌, List, [], ◌∷◌, ◌++◌, length, Option, Some, None, Result, Ok, Err, refl, ◌∙◌, arith}
-use Rattle.std.specs.Prelude.{nat_lt}
+use Rattle.std.specs.Prelude.{nat_lt, is_none}
 use Rattle.std.proofs.lemmas.Bool.Decides.{nat_tests}
+use Rattle.std.specs.Option.{option_or}
 use Rattle.mm_line.specs.declared.fault.Fault.{Fault}
 use Rattle.mm_line.specs.declared.fault.Fault.TheVariants as faults
 use Rattle.mm_line.specs.declared.fault.Problem.{Problem}
@@ -23,10 +24,11 @@ use Rattle.mm_line.proofs.Standing.{token_stands}
 use Rattle.mm_line.proofs.StatementRanges.{line_is}
 use Rattle.mm_draft.specs.Drafts.{Draft, Segment, last, words_of, pointers_of, add_maybe_label}
 use Rattle.mm_draft.specs.Faults.{is_before, lesser, first_of, fault_if, claim_faults, words_faults, statement_faults}
-use Rattle.mm_draft.specs.Faults.{reading_faults, body_faults, maybe_label_faults, line_faults, is_none, is_named}
-use Rattle.mm_draft.specs.Faults.{room_of, word_limit, pointer_limit}
+use Rattle.mm_draft.specs.Faults.{reading_faults, body_faults, maybe_label_faults, line_faults, is_named}
+use Rattle.mm_draft.specs.Faults.{room_of}
 use Rattle.mm_draft.specs.Seen.{first_of_both}
 use Rattle.mm_draft.proofs.Firsts.{first_of_append}
+use Rattle.mm_model.specs.Limits.{word_limit, reloc_limit}
 
 -- 1. All faults of a list are such, so the first one is.
 
@@ -78,7 +80,7 @@ words_within : (d : Draft) (words pointers left : ℕ) (o : Option Segment) → 
 words_within d words pointers left None = (omega arith, tt)
 words_within d words pointers left (Some s) =
     each_two (Within left) (nat_lt (room_of s) (length s.words + words))
-    (nat_lt word_limit (words_of d.segments + words) || nat_lt pointer_limit (pointers_of d.segments + pointers))
+    (nat_lt word_limit (words_of d.segments + words) || nat_lt reloc_limit (pointers_of d.segments + pointers))
     faults.Full faults.Limit left (omega arith) (omega arith)
 
 statement_within : (d : Draft) (left : ℕ) (s : Statement) → EachIs (Within left) (statement_faults d left s)
@@ -155,10 +157,6 @@ label_first bytes =
 
 -- 4. So the first fault of a line is its label's or, where that has none, its statement's.
 
-abbrev pub or_else : Option Problem → Option Problem → Option Problem
-or_else (Some p) q = Some p
-or_else None q = q
-
 label_at : (d : Draft) (place : ℕ) (label : Result Mark Problem) → Stands place label → EachIs (λ p. p.left ≡ place) (maybe_label_faults d (Some label))
 label_at d place (Ok mark) h = each_two (λ p. p.left ≡ place) (is_none (last d.segments)) (is_named d mark.name) faults.Place faults.Twice mark.left h h
 label_at d place (Err problem) h = (h, tt)
@@ -170,19 +168,19 @@ body_before d most place (Some b) h lt = each_weaker (Within b.left) (λ p. p.le
 not_before : (p q : Problem) → q.left < p.left → is_before q p ≡ false
 not_before p q lt = grind (arith, nat_tests)
 
-both_or_else : (place : ℕ) (p q : Option Problem) → FirstIs (λ x. x.left ≡ place) p → FirstIs (λ x. x.left < place) q → first_of_both p q ≡ or_else p q
+both_or_else : (place : ℕ) (p q : Option Problem) → FirstIs (λ x. x.left ≡ place) p → FirstIs (λ x. x.left < place) q → first_of_both p q ≡ option_or p q
 both_or_else place None q a b = refl
 both_or_else place (Some p) None a b = refl
 both_or_else place (Some p) (Some q) a b = let n = not_before p q (omega arith) in rw n refl
 
 line_first_of : (d e : Draft) (most : ℕ) (label : Option (Result Mark Problem)) (body : Option Body) → LabelFirst label body → IsOptionalBody most body
-    → first_of (maybe_label_faults d label ++ body_faults e body) ≡ or_else (first_of (maybe_label_faults d label)) (first_of (body_faults e body))
+    → first_of (maybe_label_faults d label ++ body_faults e body) ≡ option_or (first_of (maybe_label_faults d label)) (first_of (body_faults e body))
 line_first_of d e most None body h is = refl
 line_first_of d e most (Some label) body h is =
     first_of_append (maybe_label_faults d (Some label)) (body_faults e body)
     ∙ both_or_else h.0 _ _ (first_is (λ x. x.left ≡ h.0) _ (label_at d h.0 label h.1)) (first_is (λ x. x.left < h.0) _ (body_before e most h.0 body is h.2))
 
-pub line_first : (d : Draft) (bytes : List ℕ) → let line = line_of bytes in first_of (line_faults d line) ≡ or_else
+pub line_first : (d : Draft) (bytes : List ℕ) → let line = line_of bytes in first_of (line_faults d line) ≡ option_or
     (first_of (maybe_label_faults d line.label)) (first_of (body_faults (add_maybe_label line.label d) line.body))
 unfolding line_faults
 line_first d bytes = line_first_of d _ (length bytes) _ _ (label_first bytes) (line_is bytes).body

@@ -4,9 +4,10 @@ use denote.Ref.{Bor}
 use Rattle.mm_line.specs.declared.fault.Problem.{Problem}
 use Rattle.mm_line.specs.declared.statement.Statement.{Statement}
 use Rattle.mm_line.specs.declared.statement.Statement.TheVariants as statement
-use Rattle.mm_draft.specs.declared.place.Location.{Location}
+use Rattle.mm_draft.specs.declared.location.Location.{Location}
 use Rattle.mm_draft.specs.Drafts.{Segment, Entry, Draft, place_of, words_of, pointers_of}
-use Rattle.mm_draft.specs.Faults.{word_limit, pointer_limit, one_if_pointer}
+use Rattle.mm_draft.specs.Faults.{one_if_pointer}
+use Rattle.mm_model.specs.Limits.{word_limit, reloc_limit}
 
 -- the entries of a map from names to places
 abbrev pub entries_of : List (Bor (List ℕ) × Location) → List Entry
@@ -17,15 +18,14 @@ pub record Counts (segments : List Segment) (words pointers : ℕ) : Type 0 wher
   pub words_are : words ≡ words_of segments
   pub pointers_are : pointers ≡ pointers_of segments
   pub words_fit : words ≤ word_limit
-  pub pointers_fit : pointers ≤ pointer_limit
+  pub pointers_fit : pointers ≤ reloc_limit
 
--- this count of further words, and of pointers among them, is within the limits
+-- a draft has room within the limits for this count of further words, and for this count of pointers among them
 pub record HasRoom (d : Draft) (words pointers : ℕ) : Type 0 where
   pub words_fit : words_of d.segments + words ≤ word_limit
-  pub pointers_fit : pointers_of d.segments + pointers ≤ pointer_limit
+  pub pointers_fit : pointers_of d.segments + pointers ≤ reloc_limit
 
--- a statement may be added: a segment has a permitted size and a new name, and words are within the
--- limits
+-- a statement may be added: a segment has a permitted size and a new name, and words are within the limits
 abbrev pub MayAdd : Draft → Statement → Type 0
 MayAdd d (statement.Begin mark log) = (log ≤ 20) × (place_of d mark.name ≡ None)
 MayAdd d (statement.Fill words) = HasRoom d words 0

@@ -16,7 +16,7 @@ use Rattle.mm_line.specs.declared.line.Body.{Body}
 use Rattle.mm_line.specs.declared.fault.Problem.{Problem}
 use Rattle.mm_draft.specs.declared.source.Source.{Source}
 use Rattle.mm_draft.specs.declared.segment.Word.{Word}
-use Rattle.mm_draft.specs.declared.place.Location.{Location}
+use Rattle.mm_draft.specs.declared.location.Location.{Location}
 use Rattle.mm_draft.specs.declared.thread.Register.{Register}
 
 pub record Segment : Type 0 where

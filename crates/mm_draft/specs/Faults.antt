@@ -1,6 +1,6 @@
 -- The faults that are seen when lines are read, each against the lines before it, and the draft of a text.
-use Rattle.std.specs.Prelude.{ℕ, ◌+◌, ◌-◌, ◌^◌, ◌==◌, nat_lt, nat_le, Bool, true, false, not, ◌&&◌, ◌||◌, if◌then◌else◌}
-use Rattle.std.specs.Prelude.{List, [], ◌∷◌, ◌++◌, length, Option, Some, None, is_some, Result, Ok, Err}
+use Rattle.std.specs.Prelude.{ℕ, ◌+◌, ◌-◌, ◌^◌, ◌==◌, nat_lt, nat_le, Bool, true, false, ◌&&◌, ◌||◌, if◌then◌else◌}
+use Rattle.std.specs.Prelude.{List, [], ◌∷◌, ◌++◌, length, Option, Some, None, is_some, is_none, Result, Ok, Err}
 use Rattle.std.specs.List.{list_any, slice_split}
 use Prim.Native.Char.{code}
 use Rattle.mm_line.specs.declared.fault.Fault.{Fault}
@@ -20,23 +20,13 @@ use Rattle.mm_draft.specs.declared.source.Source.{Source}
 use Rattle.mm_draft.specs.declared.fault.Failure.{Failure}
 use Rattle.mm_draft.specs.Drafts.{Segment, Thread, Draft, nothing, place_of, last, words_of, pointers_of, is_pointer}
 use Rattle.mm_draft.specs.Drafts.{add_maybe_label, add_line}
-
--- 1. Limits.
-
-abbrev pub segment_limit : ℕ
-segment_limit = 256
-
-abbrev pub word_limit : ℕ
-word_limit = 131072
-
-abbrev pub pointer_limit : ℕ
-pointer_limit = 65535
+use Rattle.mm_model.specs.Limits.{segment_limit, word_limit, reloc_limit}
 
 -- the count of words that a segment of this size has room for
 abbrev pub room_of : Segment → ℕ
 room_of s = 2 ^ (s.log - 3)
 
--- 2. The faults of a line after a draft.
+-- 1. The faults of a line after a draft.
 
 abbrev pub fault_if : Bool → Fault → ℕ → List Problem
 fault_if bad fault left = if bad then record { fault = fault; left = left } ∷ [] else []
@@ -50,9 +40,6 @@ has_slot d slot = list_any (λ t. t.slot == slot) d.threads
 abbrev pub has_register : Option Thread → ℕ → Bool
 has_register None number = false
 has_register (Some t) number = list_any (λ r. r.number == number) t.registers
-
-abbrev pub is_none : {A : Type 0} → Option A → Bool
-is_none o = not (is_some o)
 
 -- the faults of a label: it is before the first segment, or there already
 abbrev pub label_faults : Draft → Mark → List Problem
@@ -74,7 +61,7 @@ words_faults d words pointers left None = fault_if true Place left
 words_faults d words pointers left (Some s) =
     fault_if (nat_lt (room_of s) (length s.words + words)) Full left
     ++ fault_if (nat_lt word_limit (words_of d.segments + words)
-    || nat_lt pointer_limit (pointers_of d.segments + pointers)) Limit left
+    || nat_lt reloc_limit (pointers_of d.segments + pointers)) Limit left
 
 abbrev pub one_if_pointer : Content → ℕ
 one_if_pointer what = if is_pointer what then 1 else 0
@@ -101,11 +88,13 @@ maybe_label_faults d None = []
 maybe_label_faults d (Some (Ok mark)) = label_faults d mark
 maybe_label_faults d (Some (Err problem)) = problem ∷ []
 
--- all faults of a line: those of its label, and those of the statement after the label
+-- the faults of a line that are seen when it is read: those of its label, those of the claim of the statement after
+-- the label, and those of the statement. Of a label or a statement that cannot be read, only the first of its own is
+-- seen
 unfoldable pub line_faults : Draft → Line → List Problem
 line_faults d line = maybe_label_faults d line.label ++ body_faults (add_maybe_label line.label d) line.body
 
--- 3. The first fault.
+-- 2. The first fault.
 
 -- a fault is before another in its line: at an earlier place or, at the same place, with the lesser number. A place is
 -- the count of bytes of the line from there on, so the earlier place is the greater count

@@ -1,4 +1,4 @@
--- The first fault of a text is the least of all its faults.
+-- What stops the reading of a text is the least of its early faults.
 use Rattle.std.specs.Prelude.{◌≡◌, ℕ, ◌+◌, ◌-◌, ◌==◌, nat_lt, Bool, ◌&&◌, ◌||◌, if◌then◌else◌, List, [], ◌∷◌, ◌++◌, map}
 use Rattle.std.specs.Prelude.{length, Option, Some, None, Result, Ok, Err}
 use Rattle.mm_line.specs.declared.fault.Problem.{Problem}
@@ -25,14 +25,15 @@ pair_of line size problem = record {
 abbrev pub failure_pair : Failure → Pair
 failure_pair f = pair_of f.source.line f.source.size f.problem
 
--- all faults of the lines from a number on, each line against what the lines before it say
+-- the early faults of the lines from a number on, each line against what the lines before it say
 abbrev pub all_from : ℕ → Draft → List (List ℕ) → List Pair
 all_from number d [] = []
 all_from number d (bytes ∷ more) =
     map (pair_of number (length bytes)) (line_faults d (line_of bytes))
     ++ all_from (number + 1) (add_line (source_of number bytes) (line_of bytes) d) more
 
--- all faults that are seen when the lines of a text are read
+-- the early faults of a text: those that are seen when its lines are read. Of a label or a statement that cannot be
+-- read, only the first of its own faults is among them
 abbrev pub early_faults : List ℕ → List Pair
 early_faults text = all_from 0 nothing (lines_of text)
 
@@ -53,6 +54,6 @@ abbrev pub fault_of : Result Draft Failure → Option Pair
 fault_of (Ok d) = None
 fault_of (Err failure) = Some (failure_pair failure)
 
--- what stops the reading is the least of all faults of the text; if there is none, nothing stops it
+-- what stops the reading of a text is the least of its early faults; if there are none, nothing stops it
 abbrev pub TheFirstIsTheLeast : Type 0
 TheFirstIsTheLeast = (text : List ℕ) → fault_of (draft_of text) ≡ least (early_faults text)

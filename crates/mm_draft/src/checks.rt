@@ -4,13 +4,13 @@ ghost use Rattle.std.specs.Prelude.{◌≡◌, is_some, Some, ◌≤◌, ◌+◌
 ghost use Rattle.mm_draft.specs.Drafts.{last, words_of, pointers_of};
 ghost use Rattle.mm_draft.specs.Faults.{fault_if, is_before, first_of, is_named, has_slot, has_register, label_faults};
 ghost use Rattle.mm_draft.specs.Faults.{claim_faults, words_faults, statement_faults, body_faults, one_if_pointer};
-ghost use Rattle.mm_draft.specs.Faults.{word_limit, pointer_limit};
 ghost use Rattle.mm_draft.specs.Seen.{first_of_both};
+ghost use Rattle.mm_model.specs.Limits.{word_limit, reloc_limit};
 
 use crate::Draft;
-use crate::draft::{POINTERS, SEGMENTS, WORDS};
 use mm_isa::Reg;
 use mm_line::{Body, Claim, Constant, Content, Fault, Mark, Name, Problem, Statement};
+use mm_model::{RELOC_LIMIT, SEGMENT_LIMIT, WORD_LIMIT};
 
 fn fault_if(bad: bool, fault: Fault, left: usize) -> Option<Problem>
     ensures { result ≡ first_of (fault_if bad fault left) }
@@ -120,9 +120,9 @@ impl<'a> Draft<'a> {
     fn is_past_limit(&self, words: u32, pointers: usize) -> bool
         requires { pointers ≤ 1 }
         ensures { result ≡ (nat_lt word_limit (words_of self.now.segments + words)
-            || nat_lt pointer_limit (pointers_of self.now.segments + pointers)) }
+            || nat_lt reloc_limit (pointers_of self.now.segments + pointers)) }
     {
-        self.words + words as usize > WORDS || self.pointers + pointers > POINTERS
+        self.words + words as usize > WORD_LIMIT || self.pointers + pointers > RELOC_LIMIT
     }
 
     // The first fault of this count of further words, and of pointers among them.
@@ -151,7 +151,7 @@ impl<'a> Draft<'a> {
         match statement {
             Statement::Spare(_) | Statement::Thread { .. } => None,
             Statement::Begin { .. } => {
-                fault_if(self.segments.len() >= SEGMENTS, Fault::Limit, left)
+                fault_if(self.segments.len() >= SEGMENT_LIMIT, Fault::Limit, left)
             }
             Statement::Fill(words) => self.words_fault(*words, 0, left),
             Statement::Word { content, .. } => self.words_fault(1, one_if_pointer(content), left),

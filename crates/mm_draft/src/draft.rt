@@ -8,15 +8,6 @@ use indexmap::IndexMap;
 use std::alloc::Global;
 use std::marker::Model;
 
-/// The most segments that an object holds.
-pub(crate) const SEGMENTS: usize = 256;
-
-/// The most words that an object holds.
-pub(crate) const WORDS: usize = 131_072;
-
-/// The most pointers of an object that are set when its segments are placed.
-pub(crate) const POINTERS: usize = 65_535;
-
 /// What the lines of a text say together, before names are looked up.
 #[derive(Drop)]
 pub struct Draft<'a> {

@@ -9,7 +9,7 @@ mod checks;
 mod draft;
 mod fault;
 pub mod laws;
-mod place;
+mod location;
 mod reading;
 mod segment;
 mod source;
@@ -17,7 +17,7 @@ mod thread;
 
 pub use draft::Draft;
 pub use fault::{DraftError, Failure};
-pub use place::Location;
+pub use location::Location;
 pub use reading::read_draft;
 pub use segment::{Segment, Word};
 pub use source::Source;

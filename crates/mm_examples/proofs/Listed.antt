@@ -91,7 +91,8 @@ no_room text first second third a b place k split full one two = record {
 
 pub lists_too_many : ListsTooMany
 unfolding runs_of digits
-lists_too_many = no_room _ (codes "0*999999") (codes "1") (codes "22") 0 9 11 999999 refl (omega arith) (counted 0 999999 _ (omega arith) (omega arith) (omega arith) refl) (alone 1 _ (omega arith) refl)
+lists_too_many = no_room _ (codes "0*999999") (codes "1") (codes "22") 0 9 11 999999 refl
+    (omega arith) (counted 0 999999 _ (omega arith) (omega arith) (omega arith) refl) (alone 1 _ (omega arith) refl)
 
 pub keeps_one_group : KeepsOneGroup
 unfolding only

@@ -16,7 +16,7 @@ use Rattle.mm_model.specs.Digits.{hex}
 use Rattle.mm_model.specs.Lines.{slot_lines}
 use Rattle.mm_model.specs.Report.{section, report}
 use Rattle.mm_model.specs.Trace.{traced, trace, step_line}
-use Rattle.mm_examples.specs.Worked.{SaysA, FetchesNoPage, RunsPastTheEnd, Enters, GatesStandStill, ReadingIsNoSignal, NoForgery, MapsFrames, MapIsPrivileged}
+use Rattle.mm_examples.specs.Worked.{SaysA, FetchesNoPage, RunsPastTheEnd, JumpsThroughAGate, GatesStandStill, ReadingIsNoSignal, NoForgery, MapsFrames, MapIsPrivileged}
 
 pub says_a : SaysA
 unfolding packed fields_in rows row_of instr_of cell_at put_cell can_map map_page unmap_page register is_empty slot_at
@@ -39,7 +39,7 @@ unfolding packed fields_in rows row_of instr_of cell_at put_cell can_map map_pag
     core_after slot_after reply run after steps robin_from hex slot_lines section report traced trace step_line digits
 runs_past_the_end = refl
 
-pub enters : Enters
+pub enters : JumpsThroughAGate
 unfolding packed fields_in rows row_of instr_of cell_at put_cell can_map map_page unmap_page register is_empty slot_at
     queue_at put_slot put_queue output_of put_output start addr_operand value_operand lacks ask effect plain advanced
     runs_past delivered turn idle started issued executed ended blocked faulted core_faulted event_of memory_after

@@ -28,7 +28,7 @@ page number cells = (number, cells ++ replicate (512 - length cells) zero_cell)
 abbrev pub code_page : List ℕ → ℕ × List Cell
 code_page words = page 0x100 (map full_int words)
 
--- these registers; all others are integer 0
+-- the registers of a slot: those of the list, and integer 0 in all others
 abbrev pub registers : List (ℕ × Word) → List Word
 registers list = fold (λ regs r. slice_set regs r.0 r.1) (replicate 16 (Int 0)) list
 

@@ -1,6 +1,6 @@
 -- Worked examples of runs.
-use Rattle.std.specs.Prelude.{◌≡◌, ℕ, true, false, List, [], ◌∷◌, ◌++◌, length, take, drop, slice_set, map, replicate, codes}
-use Rattle.std.specs.Prelude.{Option, Some, None}
+use Rattle.std.specs.Prelude.{◌≡◌, ℕ, true, false, List, [], ◌∷◌, ◌++◌, length, take, drop, slice_set, map, replicate}
+use Rattle.std.specs.Prelude.{codes, Option, Some, None}
 use Rattle.mm_word.specs.declared.word.Word.{Word}
 use Rattle.mm_word.specs.declared.word.Word.TheVariants.{Int}
 use Rattle.mm_word.specs.declared.cause.Cause.TheVariants.{Perm, Priv, Trap, NoSlot}
@@ -63,8 +63,8 @@ RunsPastTheEnd = reported one_word (0 ∷ 0 ∷ [])
     ≡ codes "cycles 2\ngroup 0 output 0\nslot 0 turns 2 faulted 3 ip p30c0000000100000 past\n"
 
 -- a jump through an enter pointer goes to the pointer's own address
-abbrev pub Enters : Type 0
-Enters = reported jumps (0 ∷ [])
+abbrev pub JumpsThroughAGate : Type 0
+JumpsThroughAGate = reported jumps (0 ∷ [])
     ≡ codes "cycles 1\ngroup 0 output 0\nslot 0 turns 1 running ip p3300000000020010\nr 1 p5300000000020010\n"
 
 -- an enter pointer can be neither moved nor loaded from

@@ -2,7 +2,8 @@
 use Rattle.std.specs.Prelude.{◌≡◌, ℕ, List, [], ◌∷◌, ◌++◌, take, slice_set, replicate, Some, None}
 use Rattle.mm_object.specs.Faults.{object_fault}
 
--- the bytes of an object: a segment `a` of one word, an external `x`, and a relocation that makes the word a pointer to it
+-- the bytes of an object: a segment `a` of one word, an external `x`, and a relocation that makes the word a pointer
+-- to it
 abbrev pub object_bytes : List ℕ
 object_bytes =
     (77 ∷ 77 ∷ 79 ∷ 49 ∷ 0 ∷ 1 ∷ 0 ∷ 1 ∷ 0 ∷ 1 ∷ 0 ∷ 1 ∷ 0 ∷ 0 ∷ 0 ∷ 0 ∷ [])

@@ -36,6 +36,11 @@ data_end = 0x2300000000010fff
 abbrev pub last_word : ℕ
 last_word = 0x2dbffffffffffff8
 
+-- the bits of a pointer that an operation gives
+abbrev pub bits : Result Pointer Cause → Result ℕ Cause
+bits (Ok p) = Ok (bits_of p)
+bits (Err c) = Err c
+
 -- a read-write pointer to four bytes
 abbrev pub half_word : ℕ
 half_word = 0x2080000000010000
@@ -43,17 +48,6 @@ half_word = 0x2080000000010000
 -- an execute-user pointer to the 2^12 bytes from 0x100000 on
 abbrev pub code_start : ℕ
 code_start = 0x3300000000100000
-
--- an enter-user pointer, and a key
-abbrev pub door : ℕ
-door = 0x5300000000020010
-
-abbrev pub a_key : ℕ
-a_key = 0x7300000000020010
-
-abbrev pub bits : Result Pointer Cause → Result ℕ Cause
-bits (Ok p) = Ok (bits_of p)
-bits (Err c) = Err c
 
 -- bits that spell a pointer, and bits that do not: codes 0, 8 and 15, and segments of 2^55 and 2^63 bytes
 abbrev pub MakesPointers : Type 0
@@ -66,6 +60,13 @@ MakesNone =
     map (λ n. bits (setptr_result n)) (0x0300000000010000 ∷ 0x8300000000010000 ∷ 0xf300000000010000 ∷ 0x2dc0000000000000
     ∷ 0x7fffffffffffffff ∷ [])
     ≡ replicate 5 (Err cause.Malformed)
+
+-- an enter-user pointer, and a key
+abbrev pub door : ℕ
+door = 0x5300000000020010
+
+abbrev pub a_key : ℕ
+a_key = 0x7300000000020010
 
 -- pointers moved from their own addresses
 abbrev pub Moves : Type 0

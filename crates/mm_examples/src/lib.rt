@@ -3,7 +3,7 @@
 //! These functions do nothing when they run: the contract of each says what the model makes of an image.
 #![tactic(auto)]
 
-ghost use Rattle.mm_examples.specs.Worked.{SaysA, FetchesNoPage, RunsPastTheEnd, Enters, GatesStandStill};
+ghost use Rattle.mm_examples.specs.Worked.{SaysA, FetchesNoPage, RunsPastTheEnd, JumpsThroughAGate, GatesStandStill};
 ghost use Rattle.mm_examples.specs.Worked.{ReadingIsNoSignal, NoForgery, MapsFrames, MapIsPrivileged, Exchanges};
 ghost use Rattle.mm_examples.specs.Worked.{CountsBehindTheGate, TakesEvents, ResumesTakenAlone, TwoGroups};
 ghost use Rattle.mm_examples.specs.Worked.{AbsentSlotsIdle, TracesTheGate, WaitsInTheTrace, Issues, Delivers};
@@ -51,7 +51,7 @@ pub fn runs_of_one_slot()
     ensures says_a { SaysA }
     ensures fetches_no_page { FetchesNoPage }
     ensures runs_past_the_end { RunsPastTheEnd }
-    ensures enters { Enters }
+    ensures enters { JumpsThroughAGate }
     ensures gates_stand_still { GatesStandStill }
     ensures reading_is_no_signal { ReadingIsNoSignal }
     ensures no_forgery { NoForgery }

@@ -55,12 +55,14 @@ own_later row x rows lt e =
     let ne : row.slot.number ≢ x.slot.number = λ same. omega (arith, lt, same) in
     ap (λ b. queue_of (if b then Some row else row_in rows x.slot.number)) (ne_eqb row.slot.number x.slot.number ne) ∙ e
 
-own_queues : (rows : List ThreadRow) → IsStrictlyIncreasing (numbers_of (map (λ (row : ThreadRow). row.slot) rows)) → AllByRecursion (λ (row : ThreadRow). queue_of (row_in rows row.slot.number) ≡ row.queue) rows
+own_queues : (rows : List ThreadRow) → IsStrictlyIncreasing (numbers_of (map (λ (row : ThreadRow). row.slot) rows))
+    → AllByRecursion (λ (row : ThreadRow). queue_of (row_in rows row.slot.number) ≡ row.queue) rows
 own_queues [] rising = tt
 own_queues (row ∷ rows) rising =
     let numbers : List ℕ = numbers_of (map (λ (x : ThreadRow). x.slot) rows) in (
       own_here row rows,
-      each_both (λ (x : ThreadRow). row.slot.number < x.slot.number) (λ (x : ThreadRow). queue_of (row_in rows x.slot.number) ≡ x.queue) (λ (x : ThreadRow). queue_of (row_in (row ∷ rows) x.slot.number) ≡ x.queue)
+      each_both (λ (x : ThreadRow). row.slot.number < x.slot.number) (λ (x : ThreadRow). queue_of (row_in rows x.slot.number) ≡ x.queue)
+          (λ (x : ThreadRow). queue_of (row_in (row ∷ rows) x.slot.number) ≡ x.queue)
           (λ x up is. own_later row x rows up is) rows (above_rows row.slot.number rows (above_first row.slot.number numbers rising)) (own_queues rows (rest_rises row.slot.number numbers rising)),
     )
 
@@ -169,9 +171,6 @@ module _ (i : Image) (s : State) (h : IsStateOf i s) where
 page_long : (i : Image) → IsPaged i.memory → (q : ℕ) (o : Option (List Cell)) → page_at i.memory q ≡ o → length (cells_or_zero o) ≡ 512
 page_long i paged q None e = refl
 page_long i paged q (Some cells) e = (page_whole i.memory paged q cells e).cells
-
-abbrev numbered : List (ℕ × List Cell) → List ℕ
-numbered pages = page_numbers pages
 
 below_same : (i : Image) (n : ℕ) (es : List (ℕ × List Cell)) → below_all nat_cmp n (map (base_page i) (page_numbers es)) ≡ below_all nat_cmp n es
 below_same i n [] = refl

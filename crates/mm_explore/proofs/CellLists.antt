@@ -1,5 +1,5 @@
 -- Ascending lists of cells by what they have at a word.
-use Rattle.std.proofs.Common.{◌≡◌, ◌≢◌, inl, inr, ℕ, zero, suc, ◌+◌, ◌%◌, ◌^◌, ◌<◌, ◌≤◌, Bool, true}
+use Rattle.std.proofs.Common.{◌≡◌, ◌≢◌, inl, inr, ℕ, zero, suc, ◌+◌, ◌%◌, ◌^◌, ◌<◌, Bool, true}
 use Rattle.std.proofs.Common.{false, not, cond, nat_eq, if◌then◌else◌, List, [], ◌∷◌, ◌++◌, length, Option, Some}
 use Rattle.std.proofs.Common.{None, refl, sym, ap, ◌∙◌, subst, arith, T, eq-eqb, set, Ok, Err}
 use Rattle.std.specs.Prelude.{◌==◌, IsTrue, ◌&&◌}
@@ -21,7 +21,6 @@ use Rattle.mm_model.specs.Effect.{same_word}
 use Rattle.mm_model.specs.Image.{Image}
 use Rattle.mm_model.specs.Memory.{Memory, page_of, place_of, page_at, cell_in, cell_at, put_cell, zero_cell, IsPaged}
 use Rattle.mm_model.specs.Report.{same_cell, same_bit, changes}
-use Rattle.mm_model.proofs.CoreRows.{each_map}
 use Rattle.mm_model.proofs.Memories.{aligned, page_of_cell, page_whole, cell_at-aligned, put_cell-unmapped, put_paged, cell_at-put_same, cell_at-put_other}
 use Rattle.mm_laws.proofs.CellViews.{IsIn, Rising}
 use Rattle.mm_laws.proofs.ChangedCells.{each_of_in, cell_or_zero, DiffersAt, in_changes, changes_in, changes_rising}
@@ -174,20 +173,6 @@ changes_at_words m image h k =
 
 pub listed_at_words : (m image : Memory) (xs : List (ℕ × Cell)) → IsPaged m → IsPaged image → xs ≡ changes m image → AreAtWords xs
 listed_at_words m image xs h k e = subst AreAtWords (sym e) (changes_at_words m image h k)
-
-short : (low high : ℕ) (xs : List (ℕ × Cell)) → low ≤ high → Rising xs → AllByRecursion (λ (x : ℕ × Cell). low ≤ x.0) xs → AllByRecursion (λ (x : ℕ × Cell). x.0 < high) xs → low + length xs ≤ high
-short low high [] le up above below = omega arith
-short low high (x ∷ xs) le up above below =
-    let rest = short (x.0 + 1) high xs (omega (arith, below.0)) up.1 (each_map (λ (y : ℕ × Cell). x.0 < y.0) (λ (y : ℕ × Cell). x.0 + 1 ≤ y.0) (λ y h. omega arith) xs up.0) below.1 in
-    omega (arith, rest, above.0)
-
-pub few_changes : (m image : Memory) → IsPaged m → IsPaged image → length (changes m image) ≤ 2 ^ 54
-few_changes m image h k =
-    let at = changes_at_words m image h k in
-    let few = short 0 (2 ^ 54) (changes m image) (omega arith) (changes_rising m image h)
-    (all_in (λ (x : ℕ × Cell). 0 ≤ x.0) (changes m image) (λ x inside. omega arith))
-    (each_map (λ (x : ℕ × Cell). (x.0 % 8 ≡ 0) × (x.0 < 2 ^ 54)) (λ (x : ℕ × Cell). x.0 < 2 ^ 54) (λ x h. h.1) (changes m image) at) in
-    omega (arith, few)
 
 -- nothing of the image differs from it
 pub same_itself : (c : Cell) → same_cell c c ≡ true

@@ -13,13 +13,13 @@ use Rattle.mm_model.specs.State.{ThreadRow, State, output_of}
 use Rattle.mm_thread.specs.Output.{Output}
 use Rattle.mm_explore.specs.Benches.{ArePartsAt, parts_held}
 use Rattle.mm_explore.specs.Configurations.{uncounted_slot, moves}
-use Rattle.mm_explore.specs.Findings.{Outcome, is_none, outcome_of, outcome_at}
+use Rattle.mm_explore.specs.Findings.{Outcome, are_none, outcome_of, outcome_at}
 use Rattle.mm_model.specs.Flags.{one_if}
 use Rattle.mm_explore.specs.FoundLists.{FoundList, Holds}
 use Rattle.mm_explore.specs.Kept.{Parts, output_part, parts_of, parts_from, kept, first_number}
 use Rattle.mm_explore.proofs.Keepables.{parts_again}
 use Rattle.mm_explore.specs.declared.parts.Parts as code
-use Rattle.mm_explore.specs.Results.{OutcomeFound, output_text, outcome_lines}
+use Rattle.mm_explore.specs.Results.{OutcomeFound, output_text, outcome_found_lines}
 use Rattle.mm_explore.specs.Results as results
 use Rattle.mm_explore.specs.Texts as texts
 use Rattle.mm_explore.specs.Texts.{end_text, by_line}
@@ -72,7 +72,7 @@ bytes_of s (g ∷ groups) = ap (λ l. output_of s.core g ∷ l) (bytes_of s grou
 abbrev pub numbered : Slot → ℕ × SlotState
 numbered s = (s.number, s.state)
 
-pub states_text : (rows : List ThreadRow) → flat_map results.state_line (map numbered (map uncounted_slot (map (λ (row : ThreadRow). row.slot) rows))) ≡ flat_map texts.state_line rows
+pub states_text : (rows : List ThreadRow) → flat_map results.state_found_line (map numbered (map uncounted_slot (map (λ (row : ThreadRow). row.slot) rows))) ≡ flat_map texts.state_line rows
 states_text [] = refl
 states_text (row ∷ rows) = ap (λ l. texts.state_line row ++ l) (states_text rows)
 
@@ -85,7 +85,7 @@ module _ (i : Image) (t : List ℕ) (img : IsImage i) (slots : List Slot) (outpu
   abbrev there : State
   there = run (start i) t
 
-  pub outcome_is : (ended : Bool) → ended ≡ is_none (moves there)
+  pub outcome_is : (ended : Bool) → ended ≡ are_none (moves there)
       → outcome_form (record { ended = ended; states = map (λ (s : Slot). s.state) slots; outputs = map (λ (o : Output). o.bytes) outputs }) ≡ outcome_form (outcome_at i t)
   unfolding outcome_of
   outcome_is ended is =
@@ -96,11 +96,11 @@ module _ (i : Image) (t : List ℕ) (img : IsImage i) (slots : List Slot) (outpu
 
   pub lines_are : (finals : List (List ℕ)) (count : ℕ) (ended : Bool) (states : List (ℕ × SlotState)) (by : List ℕ)
       → count ≡ Rattle.mm_explore.specs.Findings.count_like i finals t → ended ≡ (outcome_at i t).ended → states ≡ map numbered slots → by ≡ t
-      → outcome_lines (record { count = count; ended = ended; states = states; outputs = outputs; by = by }) ≡ texts.outcome_lines i finals t
-  unfolding outcome_lines texts.outcome_lines
+      → outcome_found_lines (record { count = count; ended = ended; states = states; outputs = outputs; by = by }) ≡ texts.outcome_lines i finals t
+  unfolding outcome_found_lines texts.outcome_lines
   lines_are finals count ended states by is_count is_ended are_states is_by =
-      let state_lines : flat_map results.state_line states ≡ flat_map texts.state_line there.core.rows =
-      ap (flat_map results.state_line) (are_states ∙ ap (map numbered) are_slots) ∙ states_text there.core.rows in
+      let state_lines : flat_map results.state_found_line states ≡ flat_map texts.state_line there.core.rows =
+      ap (flat_map results.state_found_line) (are_states ∙ ap (map numbered) are_slots) ∙ states_text there.core.rows in
       let output_lines : flat_map output_text outputs ≡ flat_map (texts.group_lines there) (groups_of there.core) =
       ap (flat_map output_text) are_outputs ∙ outputs_text there (groups_of (start i).core) ∙ ap (flat_map (texts.group_lines there)) (sym (groups_stay i t img)) in
       λ j. codes "outcome " ++ decimal (is_count j) ++ end_text (is_ended j) ++ state_lines j ++ output_lines j ++ by_line (is_by j)
@@ -114,7 +114,7 @@ pub held_outputs : (i : Image) (t : List ℕ) (p : code.Parts) → ArePartsAt i 
 unfolding parts_of
 held_outputs i t p h = ap (λ (x : Parts). x.outputs) h
 
-pub key_is : (i : Image) (t : List ℕ) → IsImage i → (p : code.Parts) → ArePartsAt i t p → (ended : Bool) → ended ≡ is_none (moves (run (start i) t))
+pub key_is : (i : Image) (t : List ℕ) → IsImage i → (p : code.Parts) → ArePartsAt i t p → (ended : Bool) → ended ≡ are_none (moves (run (start i) t))
     → outcome_form (record { ended = ended; states = map (λ (s : Slot). s.state) p.slots.items; outputs = map (λ (o : Output). o.bytes) p.outputs.items }) ≡ outcome_form (outcome_at i t)
 key_is i t img p h ended is = outcome_is i t img p.slots.items p.outputs.items (held_slots i t p h) (held_outputs i t p h) ended is
 

@@ -1,14 +1,14 @@
 -- The lists of what was found: what is kept, and the schedules that origins spell.
 use Rattle.std.proofs.Common.{◌≡◌, ◌⊎◌, inl, inr, ℕ, zero, suc, ◌+◌, ◌-◌, ◌^◌, ◌<◌, ◌≤◌, Bool, true, false, ◌||◌}
 use Rattle.std.proofs.Common.{nat_eq, List, [], ◌∷◌, ◌++◌, map, length, slice_index_or, reverse, refl, sym, ap, ◌∙◌}
-use Rattle.std.proofs.Common.{subst, arith, append_assoc, append-nil, length-append}
+use Rattle.std.proofs.Common.{subst, arith, append_assoc, length-append}
 use Rattle.std.specs.Prelude.{Contains, Some, None, slice_get, if◌then◌else◌, Result, Ok, Err, OnOk}
 use Rattle.std.specs.List.{list_any}
 use Rattle.std.proofs.lemmas.Bool.{cases_Bool, both_ways, eqb-true, eq-eqb}
 use Rattle.std.proofs.lemmas.List.{length-map, reverse-append}
 use lib.Pointwise.{pointwise, pointwise_decides}
 use Rattle.mm_explore.specs.declared.found.Origin.{Origin}
-use Rattle.mm_explore.specs.FoundLists.{FoundList, schedule_with, led_by, spelled, AreEarlier}
+use Rattle.mm_explore.specs.FoundLists.{FoundList, led_by, spelled, AreEarlier}
 use Rattle.mm_explore.proofs.Members.{none_in, in_first, in_rest, in_cases}
 
 -- 1. What is kept.
@@ -186,9 +186,6 @@ before_items list at items = slice_index_or list at [] ++ reverse items
 
 reverse_push : (items : List ℕ) (n : ℕ) → reverse (items ++ n ∷ []) ≡ n ∷ reverse items
 reverse_push items n = reverse-append items (n ∷ [])
-
-pub none_read : (list : List (List ℕ)) (at : ℕ) → before_items list at [] ≡ schedule_with list at None
-none_read list at = append-nil (slice_index_or list at [])
 
 -- the last item is that of the origin
 pub one_read : (list : List (List ℕ)) (os : List Origin) → spelled ([] ∷ []) os ≡ list → AreEarlier 1 os → (at : ℕ) (o : Origin) → 0 < at → at < length list

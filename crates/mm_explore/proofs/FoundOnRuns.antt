@@ -12,7 +12,7 @@ use Rattle.mm_model.specs.Run.{turn_of, run}
 use Rattle.mm_model.specs.Trace.{touches, group_in}
 use Rattle.mm_explore.specs.Configurations.{moves}
 use Rattle.mm_explore.specs.Explored.{leads_to, IsLeast}
-use Rattle.mm_explore.specs.Findings.{Extension, turn_at, extensions, explored_turns, any_kind, writes, Reaches, has_fault, first_fault, IsFinal, AreFinal, outcome_at, firsts}
+use Rattle.mm_explore.specs.Findings.{Extension, turn_at, extensions, explored_turns, any_kind, Reaches, has_fault, first_fault, IsFinal, AreFinal, outcome_at, firsts}
 use Rattle.mm_explore.specs.Laws.{GoesOnAlike, ExploredIsAll}
 use Rattle.mm_explore.proofs.Members.{none_in, in_map, in_flat, all_at, finds_some}
 use Rattle.mm_explore.proofs.Goings.{same_outcomes}
@@ -20,6 +20,7 @@ use Rattle.mm_explore.proofs.Movings.{moves_or_idles}
 use Rattle.mm_explore.proofs.Coverings.{alike, leads_alike}
 use Rattle.mm_explore.proofs.Orders.{more}
 use Rattle.mm_explore.proofs.Finals.{final_in, first_of}
+use Rattle.mm_model.specs.Counted.{writes}
 
 -- a cycle with an access, or with a fault, is that of a move
 pub touching_moves : (s : State) (n : ℕ) (a : Touch) → Contains (touches (turn_of s n).step) a → Contains (moves s) n

@@ -9,7 +9,7 @@ use Rattle.mm_model.specs.Run.{turn_of, after}
 use Rattle.mm_model.specs.Trace.{group_of, group_in}
 use Rattle.mm_model.specs.Report.{is_of, groups_of}
 use Rattle.mm_explore.specs.Configurations.{uncounted_row, uncounted, configuration, runs, has_load, running_slots, loaded_ports, moves}
-use Rattle.mm_explore.specs.Findings.{Outcome, is_none, outcome_of}
+use Rattle.mm_explore.specs.Findings.{Outcome, are_none, outcome_of}
 use Rattle.mm_explore.specs.Laws.{GoesOnAlike, ConfigurationsGoOn}
 use Rattle.mm_explore.proofs.Uncounted.{uncounted_one, slot_at_so, SameTurn, turns_alike}
 
@@ -63,7 +63,7 @@ pub outcome_bare : (s : State) → outcome_of (configuration s) ≡ outcome_of s
 unfolding outcome_of configuration output_of
 outcome_bare s =
     let core = s.core in
-    let make : List ℕ → List SlotState → List (List ℕ) → Outcome = λ ms states outputs. record { ended = is_none ms; states = states; outputs = outputs } in
+    let make : List ℕ → List SlotState → List (List ℕ) → Outcome = λ ms states outputs. record { ended = are_none ms; states = states; outputs = outputs } in
     ap (λ ms. make ms (map (λ (row : ThreadRow). row.slot.state) (map uncounted_row core.rows)) (map (output_of core) (groups_of (uncounted core)))) (moves_bare s)
     ∙ ap (λ states. make (moves s) states (map (output_of core) (groups_of (uncounted core)))) (map_bare (λ (row : ThreadRow). row.slot.state) (λ row. refl) core.rows)
     ∙ ap (λ gs. make (moves s) (map (λ (row : ThreadRow). row.slot.state) core.rows) (map (output_of core) gs)) (groups_bare core)

@@ -1,5 +1,5 @@
 -- Lines of results so far, and of what is left.
-use Rattle.std.proofs.Common.{◌≡◌, ℕ, ◌+◌, ◌-◌, ◌<◌, ◌≤◌, get_or, take, arith, List, [], ◌∷◌, ◌++◌, refl, sym, ap, ◌∙◌, subst, append_assoc, append-nil}
+use Rattle.std.proofs.Common.{◌≡◌, ℕ, ◌+◌, ◌-◌, ◌<◌, ◌≤◌, get_or, take, arith, List, [], ◌∷◌, ◌++◌, sym, ap, ◌∙◌, subst, append_assoc, append-nil}
 use Rattle.std.specs.List.{AllZip, flat_map, range_with_len}
 use Rattle.std.proofs.lemmas.List.{take_more}
 use Rattle.std.proofs.lemmas.List.FromFn.{get_or-range_with_len, length-range_with_len}
@@ -12,9 +12,6 @@ pub record LeftOver {A B O : Type 0} (R : A → B → Type 0) (lines : A → Lis
   pub same : flat_map text out ++ flat_map lines left ≡ begin ++ flat_map lines all
 
 module _ {A B O : Type 0} (R : A → B → Type 0) (lines : A → List ℕ) (text : O → List ℕ) (all : List A) where
-  pub left_begin : (out : List O) (entries : List B) → AllZip R all entries → LeftOver R lines text all (flat_map text out) out entries
-  left_begin out entries h = record { left = all; stand = h; same = refl }
-
   -- what is known of the next
   pub record Next (b : B) : Type 0 where
     pub a : A

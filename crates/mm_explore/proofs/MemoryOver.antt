@@ -1,5 +1,5 @@
 -- A memory with one list of changed cells becomes that with another.
-use Rattle.std.proofs.Common.{◌≡◌, inl, inr, ℕ, zero, suc, ◌-◌, ◌%◌, ◌<◌, ◌≤◌, Bool, true, false, if◌then◌else◌}
+use Rattle.std.proofs.Common.{◌≡◌, inl, inr, ℕ, zero, suc, ◌-◌, ◌%◌, ◌<◌, Bool, true, false, if◌then◌else◌}
 use Rattle.std.proofs.Common.{List, [], ◌∷◌, ◌++◌, map, take, drop, length, length-drop, Option, Some, None, refl, sym}
 use Rattle.std.proofs.Common.{ap, ◌∙◌, subst, arith}
 use Rattle.std.specs.List.{AllByRecursion}
@@ -181,26 +181,6 @@ pub in_three : {A : Type 0} (k : ℕ) (rest front back xs : List A) (j : ℕ) �
     → back ≡ drop (length rest - j) rest → xs ≡ front ++ (take (length rest - j) rest ++ back)
 in_three k rest front back xs j e f g =
     sym (cut k xs) ∙ ap (λ l. l ++ drop k xs) (sym f) ∙ ap (λ l. front ++ l) (sym e ∙ sym (cut (length rest - j) rest) ∙ ap (λ l. take (length rest - j) rest ++ l) (sym g))
-
-pub words_drop : (k : ℕ) (xs : List (ℕ × Cell)) → AreAtWords xs → AreAtWords (drop k xs)
-words_drop zero xs h = h
-words_drop (suc k) [] h = h
-words_drop (suc k) (x ∷ xs) h = words_drop k xs h.1
-
-pub words_take : (k : ℕ) (xs : List (ℕ × Cell)) → AreAtWords xs → AreAtWords (take k xs)
-words_take zero xs h = tt
-words_take (suc k) [] h = h
-words_take (suc k) (x ∷ xs) h = (h.0, words_take k xs h.1)
-
-pub no_longer : {A : Type 0} (k : ℕ) (xs : List A) → length (take k xs) ≤ length xs
-no_longer zero xs = omega arith
-no_longer (suc k) [] = omega arith
-no_longer (suc k) (x ∷ xs) = let rest = no_longer k xs in omega (arith, rest)
-
-pub no_longer_drop : {A : Type 0} (k : ℕ) (xs : List A) → length (drop k xs) ≤ length xs
-no_longer_drop zero xs = omega arith
-no_longer_drop (suc k) [] = omega arith
-no_longer_drop (suc k) (x ∷ xs) = let rest = no_longer_drop k xs in omega (arith, rest)
 
 -- the elements from an index on
 pub behind_is : {A : Type 0} (k : ℕ) (xs : List A) → take (length xs - k) (drop k xs) ≡ drop k xs

@@ -1,5 +1,5 @@
 -- A store puts a cell where one is.
-use Rattle.std.proofs.Common.{◌≡◌, ℕ, zero, suc, ◌+◌, ◌%◌, ◌<◌, Bool, true, false, if◌then◌else◌, List, [], ◌∷◌, ◌++◌}
+use Rattle.std.proofs.Common.{◌≡◌, ℕ, ◌+◌, ◌%◌, ◌<◌, Bool, true, false, if◌then◌else◌, List, [], ◌∷◌, ◌++◌}
 use Rattle.std.proofs.Common.{map, take, length, get_or, slice_get, Option, None, Some, refl, sym, ap, ◌∙◌, subst}
 use Rattle.std.proofs.Common.{arith}
 use Rattle.std.specs.List.{AllByRecursion}
@@ -63,11 +63,6 @@ pub base_next : (i : Image) (m : Memory) (xs : List (ℕ × Cell)) (k : ℕ) (x 
 base_next i m xs k x e =
     sym (put_last m (map (as_base i) (take k xs)) (as_base i x))
     ∙ ap (put_cells m) (sym (base_last i (take k xs) x) ∙ ap (map (as_base i)) (sym (take_got xs k x e)))
-
-pub holds_at : {X : Type 0} (P : X → Type 0) (xs : List X) (i : ℕ) (x : X) → AllByRecursion P xs → slice_get xs i ≡ Some x → P x
-holds_at P [] i x h e = cc
-holds_at P (y ∷ xs) zero x h e = let same : y ≡ x = cc in subst P same h.0
-holds_at P (y ∷ xs) (suc i) x h e = holds_at P xs i x h.1 e
 
 pub got_at : {X : Type 0} (xs : List X) (i : ℕ) (d : X) → i < length xs → slice_get xs i ≡ Some (get_or xs i d)
 got_at xs i d lt = slice_get-get_or xs i d lt

@@ -14,9 +14,6 @@ use Rattle.mm_explore.specs.MoveLists.{running_item, loaded_item, ports_in, move
 
 -- 1. Moves.
 
-bare : List ThreadRow → List Slot
-bare rows = map uncounted_slot (map (λ (row : ThreadRow). row.slot) rows)
-
 running_are : (rows : List ThreadRow) → flat_map running_item (map uncounted_slot (map (λ (row : ThreadRow). row.slot) rows)) ≡ running_slots rows
 running_are [] = refl
 running_are (row ∷ rows) =
@@ -43,7 +40,8 @@ moves_are s split slots e is =
     ∙ ap (λ l. l ++ ports_in s.core.split own) (running_are s.core.rows)
     ∙ ap (λ l. running_slots s.core.rows ++ (if s.core.split then l else [])) (loaded_are s.core.rows)
 
-small_in : (rows : List ThreadRow) → AllByRecursion IsSlot (map (λ (row : ThreadRow). row.slot) rows) → AllByRecursion (λ (s : Slot). s.number < 64) (map uncounted_slot (map (λ (row : ThreadRow). row.slot) rows))
+small_in : (rows : List ThreadRow) → AllByRecursion IsSlot (map (λ (row : ThreadRow). row.slot) rows)
+    → AllByRecursion (λ (s : Slot). s.number < 64) (map uncounted_slot (map (λ (row : ThreadRow). row.slot) rows))
 small_in [] h = tt
 small_in (row ∷ rows) h = (h.0.number, small_in rows h.1)
 

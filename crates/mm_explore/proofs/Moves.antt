@@ -24,12 +24,13 @@ use Rattle.mm_model.proofs.Memories.{cell_at-put_other, can_map-facts}
 use Rattle.mm_machine.specs.Snapshot.{page_numbers}
 use Rattle.mm_explore.specs.Configurations.{configuration}
 use Rattle.mm_explore.specs.Explored.{leads_to}
-use Rattle.mm_explore.specs.Findings.{writes, turn_at}
+use Rattle.mm_explore.specs.Findings.{turn_at}
 use Rattle.mm_explore.specs.Holds.{word_written, IsBeside, IsMoved}
 use Rattle.mm_explore.proofs.Coverings.{leads_more}
 use Rattle.mm_explore.proofs.Goings.{configurations_go_on}
 use Rattle.mm_explore.proofs.Tame.{MemoryMoves, turns_are_tame}
 use Rattle.mm_explore.proofs.Tame.MemoryMoves.{Stays, Writes, Maps, Removes}
+use Rattle.mm_model.specs.Counted.{writes}
 
 abbrev Pages : Type 0
 Pages = List (ℕ × List Cell)

@@ -122,7 +122,8 @@ others_are_idle s n never = elim (moves_or_idles s n) [
 abbrev Lower : ThreadRow → ThreadRow → Type 0
 Lower a b = a.slot.number < b.slot.number
 
-numbers_above : (n : ℕ) (rows : List ThreadRow) → AllByRecursion (λ y. n < y) (map (λ (s : Slot). s.number) (map (λ (row : ThreadRow). row.slot) rows)) → AllByRecursion (λ (x : ThreadRow). n < x.slot.number) rows
+numbers_above : (n : ℕ) (rows : List ThreadRow) → AllByRecursion (λ y. n < y) (map (λ (s : Slot). s.number) (map (λ (row : ThreadRow). row.slot) rows))
+    → AllByRecursion (λ (x : ThreadRow). n < x.slot.number) rows
 numbers_above n [] h = tt
 numbers_above n (row ∷ rows) h = (h.0, numbers_above n rows h.1)
 

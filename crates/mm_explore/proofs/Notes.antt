@@ -15,12 +15,13 @@ use Rattle.mm_model.specs.Image.{Image}
 use Rattle.mm_model.specs.Trace.{group_in}
 use Rattle.mm_explore.specs.declared.findings.Findings.{Findings}
 use Rattle.mm_explore.specs.declared.found.Origin.{Origin}
-use Rattle.mm_explore.specs.Findings.{Extension, turn_at, any_kind, writes, has_fault, IsFinal, outcome_at, firsts}
+use Rattle.mm_explore.specs.Findings.{Extension, turn_at, any_kind, has_fault, IsFinal, outcome_at, firsts}
 use Rattle.mm_explore.specs.FoundLists.{IsOrigin}
 use Rattle.mm_explore.specs.Noting.{IsFrom, first_kept, first_in, outcome_form, IsEnd, tally_after, Noted, Ended}
 use Rattle.mm_explore.specs.Words.{order, AreKept, step_words, turn_words}
 use Rattle.mm_explore.proofs.Notings.{final_more}
 use Rattle.mm_explore.proofs.Tallies.{ends_more, counts_fit}
+use Rattle.mm_model.specs.Counted.{writes}
 
 pub both_ok : {T E P Q R : Type 0} → (r : Result T E) → (P → Q → R) → OnOk r P → OnOk r Q → OnOk r R
 both_ok (Ok t) f h k = f h k

@@ -7,12 +7,13 @@ use Rattle.mm_model.specs.Report.{groups_of}
 use Rattle.mm_explore.specs.Pairs.{EachPair}
 use Rattle.mm_explore.specs.Schedules.{Before}
 use Rattle.mm_explore.specs.Explored.{IsLeast, IsExplored, IsAll}
-use Rattle.mm_explore.specs.Findings.{Span, word_in, IsApart, AreSpans, any_kind, writes, Reaches, Reached, IsReached, AreFinal}
+use Rattle.mm_explore.specs.Findings.{Span, word_in, IsApart, AreSpans, any_kind, Reaches, Reached, IsReached, AreFinal}
 use Rattle.mm_explore.specs.Texts.{Exploration, IsExploration, exploration_text}
 use Rattle.mm_explore.specs.Laws.{ExplorationsAreOne}
 use Rattle.mm_explore.specs.Searching.{UpTo}
 use Rattle.mm_explore.proofs.Orders.{before_self, before_through}
 use Rattle.mm_explore.proofs.Members.{none_in, in_cases, all_at}
+use Rattle.mm_model.specs.Counted.{writes}
 
 -- 1. The first schedules for which something holds.
 

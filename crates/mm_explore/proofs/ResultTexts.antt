@@ -11,14 +11,15 @@ use Rattle.mm_model.specs.Report.{groups_of}
 use Rattle.mm_model.specs.Slot.{Slot}
 use Rattle.mm_model.specs.Trace.{touches, group_in}
 use Rattle.mm_explore.specs.declared.found.Origin.{Origin}
-use Rattle.mm_explore.specs.Findings.{Extension, turn_at, explored_turns, Reaches, IsReached, any_kind, writes, first_fault, firsts}
+use Rattle.mm_explore.specs.Findings.{Extension, turn_at, explored_turns, Reaches, IsReached, any_kind, first_fault, firsts}
 use Rattle.mm_explore.specs.Noting.{IsFrom, fault_found}
-use Rattle.mm_explore.specs.Results.{Results, GroupFound, group_lines, fault_lines, outcome_lines, explored_text}
+use Rattle.mm_explore.specs.Results.{Results, GroupFound, group_found_lines, fault_found_lines, outcome_found_lines, explored_text}
 use Rattle.mm_explore.specs.Texts as texts
 use Rattle.mm_explore.specs.Texts.{Exploration, exploration_text, reached_lines, faults_of, extent_text}
 use Rattle.mm_explore.specs.Words.{AreKept, IsGroupFound, passed_words, turn_words}
 use Rattle.mm_explore.proofs.Members.{none_in, in_first, in_cases, in_flat, flat_in}
 use Rattle.mm_explore.proofs.Spans.{spans_alike}
+use Rattle.mm_model.specs.Counted.{writes}
 
 -- 1. Words.
 
@@ -102,7 +103,7 @@ groups_numbered touched wrote (n ∷ groups) (g ∷ gs) h =
     λ j. number j ∷ rest j
 
 pub groups_text : (touched wrote : List (ℕ × ℕ)) (groups : List ℕ) (gs : List GroupFound) → AllZip (IsGroupFound touched wrote) groups gs
-    → flat_map group_lines gs ≡ flat_map (λ x. reached_lines x.0 x.1) (zip groups (map (λ (g : GroupFound). g.reached) gs))
+    → flat_map group_found_lines gs ≡ flat_map (λ x. reached_lines x.0 x.1) (zip groups (map (λ (g : GroupFound). g.reached) gs))
 groups_text touched wrote [] [] h = refl
 groups_text touched wrote [] (g ∷ gs) h = absurd h
 groups_text touched wrote (n ∷ groups) [] h = absurd h
@@ -119,7 +120,7 @@ at_index (y ∷ xs) zero x d e = cc
 at_index (y ∷ xs) (suc k) x d e = at_index xs k x d e
 
 fault_text : (list : List (List ℕ)) (slot cause : ℕ) (x : Option Extension) (o : Option Origin) → IsFrom list x o → fault_found list slot cause o ≡ texts.fault_lines slot cause x
-unfolding fault_lines
+unfolding fault_found_lines
 fault_text list slot cause None None h = refl
 fault_text list slot cause None (Some o) h = absurd h
 fault_text list slot cause (Some x) None h = absurd h
@@ -151,9 +152,9 @@ origin_inside list (Some x) (Some o) h = slice_get_within list o.from x.schedule
 pub record AreResults (i : Image) (x : Exploration) (e : Results) : Type 0 where
   pub count : e.count ≡ length x.list
   pub all : e.all ≡ x.all
-  pub groups : flat_map group_lines e.groups ≡ flat_map (λ y. reached_lines y.0 y.1) (zip (groups_of (start i).core) x.reached)
-  pub faults : flat_map fault_lines e.faults ≡ flat_map (faults_of i x.list) i.slots
-  pub outcomes : flat_map outcome_lines e.outcomes ≡ flat_map (texts.outcome_lines i x.finals) (firsts i x.finals)
+  pub groups : flat_map group_found_lines e.groups ≡ flat_map (λ y. reached_lines y.0 y.1) (zip (groups_of (start i).core) x.reached)
+  pub faults : flat_map fault_found_lines e.faults ≡ flat_map (faults_of i x.list) i.slots
+  pub outcomes : flat_map outcome_found_lines e.outcomes ≡ flat_map (texts.outcome_lines i x.finals) (firsts i x.finals)
 
 pub results_text : (i : Image) (x : Exploration) (e : Results) → AreResults i x e → explored_text e ≡ exploration_text i x
 unfolding explored_text exploration_text

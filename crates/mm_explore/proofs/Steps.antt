@@ -20,10 +20,10 @@ use Rattle.mm_explore.specs.declared.search.Node.{Node}
 use Rattle.mm_explore.specs.declared.search.Search.{Search}
 use Rattle.mm_explore.specs.declared.bench.Bench.{Bench}
 use Rattle.mm_explore.specs.declared.findings.Findings.{Findings}
-use Rattle.mm_explore.specs.Benches.{IsAt, ArePartsAt, parts_held}
+use Rattle.mm_explore.specs.Benches.{IsAtConfiguration, ArePartsAt, parts_held}
 use Rattle.mm_explore.specs.Configurations.{uncounted_slot, moves}
 use Rattle.mm_explore.specs.Explored.{leads_to, IsExplored, IsAll}
-use Rattle.mm_explore.specs.Findings.{Extension, extended, extensions, explored_turns, IsFinal, is_none}
+use Rattle.mm_explore.specs.Findings.{Extension, extended, extensions, explored_turns, IsFinal, are_none}
 use Rattle.mm_explore.specs.FoundLists.{FoundList, led_by, Holds, Looks}
 use Rattle.mm_explore.specs.Kept.{Parts, parts_of, parts_from, kept}
 use Rattle.mm_explore.specs.MoveLists.{moves_in}
@@ -316,7 +316,7 @@ module _ (i : Image) (img : IsImage i) (s : Search) (node : Node) (k : ℕ) (w :
   move_inside = subst (λ l. Contains l (slice_index_or node.moves.items k 0)) w.is.moves (k, move, at_any node.moves.items k 0 (slice_index_or node.moves.items k 0) move)
 
   module _ (now : Search) (b : Bench) (f : Findings) (o : Origin) (from : o.from ≡ node.at) (item : o.item ≡ slice_index_or node.moves.items k 0)
-      (at : IsAt i (extended (node_turn s node k)) b)
+      (at : IsAtConfiguration i (extended (node_turn s node k)) b)
       (noted : Noted i s.found.list (turns_before i s.found.list node.at k ++ node_turn s node k ∷ []) f)
       (ended : Ended i s.found.list (take node.at s.found.list) f)
       (met : Met (kept i (run (start i) (extended (node_turn s node k)))) o (record s { bench = b; findings = f }) now) where
@@ -370,7 +370,7 @@ module _ (i : Image) (img : IsImage i) (s : Search) (node : Node) (k : ℕ) (w :
         come = record {
           image = w.come.image;
           groups = ap (λ (g : Vec ℕ Global). g.items) met.groups ∙ w.come.groups;
-          bench = (extended (node_turn s node k), subst (IsAt i (extended (node_turn s node k))) (sym met.bench) at);
+          bench = (extended (node_turn s node k), subst (IsAtConfiguration i (extended (node_turn s node k))) (sym met.bench) at);
           held = held_more i met.looked (extended (node_turn s node k)) o s.found now.found led w.come.held met.looks;
           room = subst (λ n. n < 2 ^ 32) (sym more.limit) w.come.room;
           goes = subst (λ all. GoesOn all i now.found.limit now.found.list (turns_before i now.found.list node.at (k + 1)) (turns_from i now.found.list node.at (k + 1))) (sym met.all)
@@ -384,21 +384,21 @@ module _ (i : Image) (img : IsImage i) (s : Search) (node : Node) (k : ℕ) (w :
     }
 
 module _ (i : Image) (s : Search) (node : Node) (k : ℕ) (w : IsWithin i s node k) (move : k < length node.moves.items) (b : Bench) (m : ℕ) (is : m ≡ slice_index_or node.moves.items k 0)
-    (at : IsAt i (node_schedule s node ++ m ∷ []) b) where
-  at_turn : IsAt i (extended (node_turn s node k)) b
-  at_turn = subst (λ n. IsAt i (node_schedule s node ++ n ∷ []) b) is at
+    (at : IsAtConfiguration i (node_schedule s node ++ m ∷ []) b) where
+  at_turn : IsAtConfiguration i (extended (node_turn s node k)) b
+  at_turn = subst (λ n. IsAtConfiguration i (node_schedule s node ++ n ∷ []) b) is at
 
   pub moved_by : (now : Search) (f : Findings)
       → Noted i s.found.list (turns_before i s.found.list node.at k ++ (record { schedule = node_schedule s node; item = m }) ∷ []) f
       → Ended i s.found.list (take node.at s.found.list) f
-      → ((u : List ℕ) → IsAt i u b → Met (kept i (run (start i) u)) (record { from = node.at; item = m }) (record s { bench = b; findings = f }) now) → Made i s now node k
+      → ((u : List ℕ) → IsAtConfiguration i u b → Met (kept i (run (start i) u)) (record { from = node.at; item = m }) (record s { bench = b; findings = f }) now) → Made i s now node k
   moved_by now f noted ended met =
       moved i w.come.image s node k w move now b f (record { from = node.at; item = m }) refl is at_turn
       (subst (λ n. Noted i s.found.list (turns_before i s.found.list node.at k ++
       (record { schedule = node_schedule s node; item = n }) ∷ []) f) is noted) ended
       (met (extended (node_turn s node k)) at_turn)
 
-  pub stays_by : (stays : Bool) → ((u : List ℕ) → IsAt i u b → KeptBy stays s.found.forms node.at
+  pub stays_by : (stays : Bool) → ((u : List ℕ) → IsAtConfiguration i u b → KeptBy stays s.found.forms node.at
       (kept i (run (start i) u))) → StaysBy stays i (node_schedule s node) (slice_index_or node.moves.items k 0)
   stays_by stays h = stays_so i w.come.image s.found w.come.held node.at w.is.inside stays (slice_index_or node.moves.items k 0) (h (extended (node_turn s node k)) at_turn)
 
@@ -428,30 +428,6 @@ stay_more i t ms m false stays move h k = h
 
 pub final_so : (i : Image) (t : List ℕ) (ms : List ℕ) → ms ≡ moves (run (start i) t) → AllStay true i t ms → IsFinal i t
 final_so i t ms e h m inside = all_at (λ n. leads_to i (t ++ n ∷ []) ≡ leads_to i t) ms m h (subst (λ l. Contains l m) (sym e) inside)
-
-module _ (i : Image) (s : Search) (at : ℕ) (before : IsBefore i s at) (inside : at < length s.found.list) (node : Node) (is : node.at ≡ at) (n : IsNode i s node) where
-  -- no move is made yet
-  pub none_made : IsWithin i s node 0
-  none_made = record {
-    is = n;
-    come = subst (λ a. HasCome i s (turns_before i s.found.list a 0) (turns_from i s.found.list a 0) (take a s.found.list)) (sym is) (record {
-      image = before.image;
-      groups = before.groups;
-      bench = before.bench;
-      held = before.held;
-      room = before.room;
-      goes = subst (λ l. GoesOn s.all i s.found.limit s.found.list (turns_before i s.found.list at 0) l) from
-          (subst (λ l. GoesOn s.all i s.found.limit s.found.list l (flat_map (extensions i) (drop at s.found.list))) front before.goes);
-      noted = subst (λ l. Noted i s.found.list l s.findings) front before.noted;
-      ended = before.ended;
-    });
-  }
-    where
-      front : flat_map (extensions i) (take at s.found.list) ≡ turns_before i s.found.list at 0
-      front = sym (append-nil (flat_map (extensions i) (take at s.found.list)))
-
-      from : flat_map (extensions i) (drop at s.found.list) ≡ turns_from i s.found.list at 0
-      from = ap (flat_map (extensions i)) (drop_one s.found.list at [] inside)
 
 module _ (i : Image) (s : Search) (node : Node) (w : IsWithin i s node (length node.moves.items)) where
   abbrev own : List Extension
@@ -492,7 +468,8 @@ module _ (i : Image) (s : Search) (node : Node) (w : IsWithin i s node (length n
 
 pub begins : (i : Image) (img : IsImage i) (limit : ℕ) → 1 ≤ limit → limit ≤ 1000000 → (numbers : List ℕ) → numbers ≡ kept i (run (start i) [])
     → (s : Search) → s.found ≡ record { list = [] ∷ []; forms = numbers ∷ []; limit = limit } → s.all ≡ true
-    → s.groups.items ≡ groups_of (start i).core → IsAt i [] s.bench → ((list : List (List ℕ)) → Noted i list [] s.findings) → ((list : List (List ℕ)) → Ended i list [] s.findings) → IsBefore i s 0
+    → s.groups.items ≡ groups_of (start i).core → IsAtConfiguration i [] s.bench → ((list : List (List ℕ)) → Noted i list [] s.findings)
+    → ((list : List (List ℕ)) → Ended i list [] s.findings) → IsBefore i s 0
 unfolding explored_turns
 begins i img limit room few numbers is s found all groups at noted ended = record {
   image = img;
@@ -542,9 +519,9 @@ both_ok P Q (Ok x) p q = (p, q)
 both_ok P Q (Err e) p q = tt
 
 -- a list is empty
-pub none_so : (b : Bool) (xs ys : List ℕ) → xs ≡ ys → b ≡ (length xs == 0) → b ≡ is_none ys
-none_so b xs ys e h = h ∙ by xs ∙ ap is_none e
+pub none_so : (b : Bool) (xs ys : List ℕ) → xs ≡ ys → b ≡ (length xs == 0) → b ≡ are_none ys
+none_so b xs ys e h = h ∙ by xs ∙ ap are_none e
   where
-    by : (zs : List ℕ) → (length zs == 0) ≡ is_none zs
+    by : (zs : List ℕ) → (length zs == 0) ≡ are_none zs
     by [] = refl
     by (z ∷ zs) = eqb-suc-zero (length zs)

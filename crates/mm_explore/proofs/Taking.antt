@@ -121,8 +121,3 @@ cells_more ns later head bits items more x le h b rest is pushed =
     ap (λ l. l ++ cells_from later) pushed ∙ append_assoc items (x ∷ []) (cells_from later)
     ∙ (λ j. items ++ (is ∙ (λ k. cell_of (h k) (b k))) j ∷ cells_from (rest j))
     ∙ ap (λ l. items ++ l) (sym (two_left ns le))
-
-pub cells_end : (ns : List ℕ) → length ns < 2 → cells_from ns ≡ []
-cells_end [] lt = refl
-cells_end (a ∷ []) lt = refl
-cells_end (a ∷ b ∷ ns) lt = absurd (omega (arith, lt))

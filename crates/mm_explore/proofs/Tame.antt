@@ -48,7 +48,7 @@ use Rattle.mm_model.specs.Turn.{with_pages, core_after, memory_after, stood, is_
 use Rattle.mm_model.specs.Turn.{core_faulted, faulted, touch_of, asked_use, blocked, ended, executed, issued, decoded}
 use Rattle.mm_model.specs.Turn.{instr_in, fetched, aimed, started, idle, arrives, port_of, taken_by_port, taken_by}
 use Rattle.mm_model.specs.Turn.{turn}
-use Rattle.mm_explore.specs.Findings.{writes}
+use Rattle.mm_model.specs.Counted.{writes}
 
 -- 1. Most instructions change neither cells nor pages nor outputs.
 

@@ -19,8 +19,9 @@ use Rattle.std.proofs.lemmas.Grind.{flat_map-append}
 use Rattle.mm_word.specs.declared.perm.Kind.{Kind}
 use Rattle.mm_word.specs.Access.{Touch}
 use Rattle.mm_model.specs.declared.step.Step.{Step}
-use Rattle.mm_explore.specs.Findings.{any_kind, writes}
+use Rattle.mm_explore.specs.Findings.{any_kind}
 use Rattle.mm_explore.proofs.Members.{none_in, in_first, in_rest, in_cases, all_at, all_of}
+use Rattle.mm_model.specs.Counted.{writes}
 
 same_key : (a b : ℕ × ℕ) → order a b ≡ Equal → a ≡ b
 same_key a b e = exact_pairs nat_cmp nat_cmp exact_unsigned exact_unsigned a b e
@@ -81,12 +82,6 @@ kept_more words keys key word h = record {
 }
 
 -- 2. The words of a group.
-
-taken : (group : ℕ) (key : ℕ × ℕ) (keys : List (ℕ × ℕ)) → (key.0 == group) ≡ true → words_in group (key ∷ keys) ≡ key.1 ∷ words_in group keys
-taken group key keys e = ap (λ b. if b then key.1 ∷ words_in group keys else words_in group keys) e
-
-left : (group : ℕ) (key : ℕ × ℕ) (keys : List (ℕ × ℕ)) → (key.0 == group) ≡ false → words_in group (key ∷ keys) ≡ words_in group keys
-left group key keys e = ap (λ b. if b then key.1 ∷ words_in group keys else words_in group keys) e
 
 pub word_of_key : (group : ℕ) (keys : List (ℕ × ℕ)) (word : ℕ) → Contains keys (group, word) → Contains (words_in group keys) word
 word_of_key group [] word h = absurd (none_in (group, word) h)

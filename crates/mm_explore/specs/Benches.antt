@@ -14,17 +14,17 @@ use Rattle.mm_explore.specs.Explored.{leads_to}
 use Rattle.mm_explore.specs.Holds.{IsHolding}
 use Rattle.mm_explore.specs.Kept.{Parts, parts_of, held_parts}
 
--- the machine stands at the configuration to which a schedule leads
-pub record IsAt (i : Image) (t : List ℕ) (b : Bench) : Type 0 where
+-- the machine of a bench is at the configuration to which a schedule leads
+pub record IsAtConfiguration (i : Image) (t : List ℕ) (b : Bench) : Type 0 where
   pub image : IsImage i
   pub machine : configuration (record { core = b.core; memory = b.held.mem.memory; cycles = 0 }) ≡ leads_to i t
   pub held : IsHolding i (run (start i) t).memory b.held
 
--- it stands at the configuration of some schedule
-abbrev pub IsAtSome : Image → Bench → Type 0
-IsAtSome i b = (t : List ℕ) × IsAt i t b
+-- the machine of a bench is at the configuration of some schedule
+abbrev pub IsAtSomeConfiguration : Image → Bench → Type 0
+IsAtSomeConfiguration i b = (t : List ℕ) × IsAtConfiguration i t b
 
--- its counts have room for a turn
+-- the counts of a bench have room for a turn
 pub record IsReady (b : Bench) : Type 0 where
   pub turns : AllByRecursion (λ (s : Slot). s.turns < 2 ^ 61) (slots_of b.core)
   pub spent : b.held.spent < 2 ^ 61

@@ -4,7 +4,6 @@ use Rattle.std.specs.Prelude.{[], ◌∷◌, ◌++◌, map, Contains, Option, So
 use Rattle.std.specs.List.{AllByRecursion, find, flat_map, list_any, count_by}
 use lib.Pointwise.{pointwise}
 use Rattle.mm_word.specs.declared.perm.Kind.{Kind}
-use Rattle.mm_word.specs.declared.perm.Kind.TheVariants.{Store, LoadSet}
 use Rattle.mm_word.specs.Access.{Touch}
 use Rattle.mm_word.specs.Cause.{number_of}
 use Rattle.mm_model.specs.declared.slot.SlotState.{SlotState}
@@ -21,6 +20,7 @@ use Rattle.mm_model.specs.Report.{same_bit, groups_of}
 use Rattle.mm_explore.specs.Pairs.{EachPair}
 use Rattle.mm_explore.specs.Configurations.{moves}
 use Rattle.mm_explore.specs.Explored.{leads_to}
+use Rattle.mm_model.specs.Counted.{writes}
 
 -- 1. The turns explored.
 
@@ -50,12 +50,6 @@ explored_turns i list = flat_map (extensions i) list
 abbrev pub any_kind : Kind → Bool
 any_kind kind = true
 
--- the kinds of access that write
-abbrev pub writes : Kind → Bool
-writes Store = true
-writes LoadSet = true
-writes _ = false
-
 -- in a turn explored, a slot of the group makes an access to the word, of a kind that passes
 pub record Reaches (passes : Kind → Bool) (i : Image) (list : List (List ℕ)) (group word : ℕ) : Type 0 where
   pub turn : Extension
@@ -84,7 +78,7 @@ pub record InSpan (word : ℕ) (span : Span) : Type 0 where
 abbrev pub IsApart : Span → Span → Type 0
 IsApart a b = word_in a a.count < b.first
 
--- these are the longest runs of the words for which something holds, ascending
+-- the spans are the longest runs of words for which something holds, ascending
 pub record AreSpans (holds : ℕ → Type 0) (spans : List Span) : Type 0 where
   pub some : AllByRecursion (λ span. 0 < span.count) spans
   pub apart : EachPair IsApart spans
@@ -133,13 +127,13 @@ pub record Outcome : Type 0 where
   pub states : List SlotState
   pub outputs : List (List ℕ)
 
-abbrev pub is_none : List ℕ → Bool
-is_none [] = true
-is_none (m ∷ ms) = false
+abbrev pub are_none : List ℕ → Bool
+are_none [] = true
+are_none (m ∷ ms) = false
 
 unfoldable pub outcome_of : State → Outcome
 outcome_of s = record {
-  ended = is_none (moves s);
+  ended = are_none (moves s);
   states = map (λ row. row.slot.state) s.core.rows;
   outputs = map (output_of s.core) (groups_of s.core);
 }
@@ -174,6 +168,6 @@ firsts_after i seen (t ∷ ts) =
 unfoldable pub firsts : Image → List (List ℕ) → List (List ℕ)
 firsts i finals = firsts_after i [] finals
 
--- how many schedules have the outcome of this one
+-- the count of schedules that have the outcome of this one
 abbrev pub count_like : Image → List (List ℕ) → List ℕ → ℕ
 count_like i finals t = count_by (λ u. same_outcome (outcome_at i t) (outcome_at i u)) finals

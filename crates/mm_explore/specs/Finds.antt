@@ -8,8 +8,8 @@ use Rattle.mm_explore.specs.Findings.{IsReached}
 use Rattle.mm_explore.specs.Results.{Results, GroupFound, explored_text}
 use Rattle.mm_explore.specs.Texts.{Explores}
 
--- its text is that of an exploration up to a limit, and its number, whether it is all and its groups are those of the
--- least schedules in their order
+-- the results have the text of an exploration up to a limit, and their count, whether they are all, and what their
+-- groups reached are those of the least schedules in their order
 pub record Finds (i : Image) (limit : ℕ) (e : Results) : Type 0 where
   pub text : Explores i limit (explored_text e)
   pub list : List (List ℕ)

@@ -14,7 +14,7 @@ pub record FoundList : Type 0 where
   pub list : List (List ℕ)
   -- the numbers of each configuration
   pub forms : List (List ℕ)
-  -- how many there is room for
+  -- the most configurations that there is room for
   pub limit : ℕ
 
 -- the schedule at an index, with an item at its end if one is given

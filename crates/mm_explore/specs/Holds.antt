@@ -11,8 +11,8 @@ use Rattle.mm_model.specs.Report.{changes}
 use Rattle.mm_model.specs.Spelling.{HoldsWords, IsImage}
 use Rattle.mm_machine.specs.Snapshot.{page_numbers}
 use Rattle.mm_explore.specs.declared.held.Held.{Held}
-use Rattle.mm_explore.specs.Findings.{writes}
 use Rattle.mm_explore.specs.Kept.{listed}
+use Rattle.mm_model.specs.Counted.{writes}
 
 -- a memory of a machine of the image
 pub record IsMemoryOf (i : Image) (m : Memory) : Type 0 where
@@ -25,11 +25,11 @@ pub record IsMemoryOf (i : Image) (m : Memory) : Type 0 where
 abbrev pub DifferIfGiven : Image → Option (List ℕ) → Type 0
 DifferIfGiven i pages = IfSome pages (λ p. pointwise nat_eq p (page_numbers i.memory.pages) ≡ false)
 
--- these are the numbers of the memory's pages; those of the image if none are given
+-- the numbers of the memory's pages are those that are given, or those of the image if none are given
 abbrev pub AreNumbers : Image → Memory → Option (List ℕ) → Type 0
 AreNumbers i m pages = listed (page_numbers i.memory.pages) pages ≡ page_numbers m.pages
 
--- these are the memory's changed cells and its pages
+-- the cells and the pages that are listed are the memory's changed cells and its pages
 pub record AreListed (i : Image) (m : Memory) (cells : List (ℕ × Cell)) (pages : Option (List ℕ)) : Type 0 where
   pub changed : cells ≡ changes m i.memory
   pub numbers : AreNumbers i m pages
@@ -38,7 +38,7 @@ pub record AreListed (i : Image) (m : Memory) (cells : List (ℕ × Cell)) (page
 abbrev pub numbers_in : Held → Option (List ℕ)
 numbers_in h = option_map (λ p. p.items) h.pages
 
--- this memory is held, with its changed cells and its pages
+-- a memory is held, with its changed cells and its pages
 pub record IsHolding (i : Image) (m : Memory) (h : Held) : Type 0 where
   pub memory : h.mem.memory ≡ m
   pub listed : AreListed i m h.cells.items (numbers_in h)
@@ -54,7 +54,7 @@ abbrev pub IsBeside : Option ℕ → ℕ → Type 0
 IsBeside None v = Unit {0}
 IsBeside (Some w) v = v ≢ w
 
--- if as many pages are mapped, they are the same, and only the cell of the word can differ
+-- a memory that has the same count of pages later has the same pages, and only the cell of the word can differ
 pub record IsMoved (m later : Memory) (word : Option ℕ) : Type 0 where
   pub pages : length later.pages ≡ length m.pages → page_numbers later.pages ≡ page_numbers m.pages
   pub cells : length later.pages ≡ length m.pages → (v : ℕ) → IsBeside word v → cell_at later v ≡ cell_at m v

@@ -90,7 +90,7 @@ word_from ns = (word_of (first_number ns == 1) (first_number (behind ns)), behin
 
 -- 4. A slot.
 
--- which words differ
+-- a flag for each word: whether it differs from that of the base
 abbrev pub changed_flags : List Word → List Word → List Bool
 changed_flags (b ∷ base) (w ∷ words) = not (same_word b w) ∷ changed_flags base words
 changed_flags _ _ = []
@@ -185,7 +185,7 @@ is_base base s =
     && (not (list_any (λ b. b) s.empty) && (not (are_some s.pending)
     && not (list_any (λ b. b) (changed_flags base.regs s.regs))))))
 
--- which slots differ from the image's
+-- a flag for each slot: whether it differs from the image's
 abbrev pub slot_flags : List Slot → List Slot → List Bool
 slot_flags (b ∷ base) (s ∷ slots) = not (is_base b s) ∷ slot_flags base slots
 slot_flags _ _ = []
@@ -260,7 +260,7 @@ output_form o = length o.bytes ∷ o.bytes
 abbrev pub outputs_form : List Output → List ℕ
 outputs_form outputs = flat_map output_form outputs
 
--- as many bytes, one a number
+-- a count of bytes, each from a number, and the numbers after them
 abbrev pub bytes_by : ℕ → List ℕ → List ℕ × List ℕ
 bytes_by zero ns = ([], ns)
 bytes_by (suc count) ns =
@@ -279,7 +279,7 @@ outputs_from (g ∷ groups) ns =
 unfoldable pub pages_form : List ℕ → List ℕ → List ℕ
 pages_form base pages = if pointwise nat_eq pages base then 0 ∷ [] else suc (length pages) ∷ pages
 
--- as many numbers
+-- a count of numbers from the front, and the numbers after them
 abbrev pub numbers_by : ℕ → List ℕ → List ℕ × List ℕ
 numbers_by zero ns = ([], ns)
 numbers_by (suc count) ns = let later = numbers_by count (behind ns) in (first_number ns ∷ later.0, later.1)

@@ -9,10 +9,11 @@ use Rattle.mm_model.specs.Trace.{touches, group_in}
 use Rattle.mm_explore.specs.Configurations.{configuration, moves}
 use Rattle.mm_explore.specs.Schedules.{Before}
 use Rattle.mm_explore.specs.Explored.{leads_to, IsLeast, IsExplored, IsAll}
-use Rattle.mm_explore.specs.Findings.{Extension, extended, turn_at, any_kind, writes, Reaches, has_fault, first_fault}
+use Rattle.mm_explore.specs.Findings.{Extension, extended, turn_at, any_kind, Reaches, has_fault, first_fault}
 use Rattle.mm_explore.specs.Findings.{IsFinal, AreFinal, outcome_at, firsts}
 use Rattle.mm_explore.specs.Texts.{Explores}
 use Rattle.mm_explore.specs.Kept.{kept}
+use Rattle.mm_model.specs.Counted.{writes}
 
 -- 1. States of one configuration go on alike.
 
@@ -38,7 +39,7 @@ OthersAreIdle = (s : State) (item : ℕ) → (Contains (moves s) item → ⊥) �
 
 -- what comes of a run under a schedule, and of one more item after it, is in what was found
 pub record IsFound (i : Image) (list : List (List ℕ)) (s : List ℕ) : Type 0 where
-  -- its configuration has its least schedule in the list
+  -- the run's configuration has its least schedule in the list
   pub least : (t : List ℕ) × Contains list t × IsLeast i t × (leads_to i t ≡ leads_to i s)
   -- each access is on a word that its slot's group touched, and wrote if the access writes
   pub touched : (item : ℕ) (a : Touch) → Contains (touches (turn_of (run (start i) s) item).step) a

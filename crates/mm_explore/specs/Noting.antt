@@ -10,11 +10,12 @@ use Rattle.mm_model.specs.Image.{Image}
 use Rattle.mm_explore.specs.declared.findings.Findings.{Findings}
 use Rattle.mm_explore.specs.declared.ends.Tally.{Tally}
 use Rattle.mm_explore.specs.declared.found.Origin.{Origin}
-use Rattle.mm_explore.specs.Findings.{Extension, turn_at, any_kind, writes, has_fault}
+use Rattle.mm_explore.specs.Findings.{Extension, turn_at, any_kind, has_fault}
 use Rattle.mm_explore.specs.Findings.{AreFinal, Outcome, outcome_at, state_number, firsts, count_like}
 use Rattle.mm_explore.specs.FoundLists.{IsOrigin, led_by}
-use Rattle.mm_explore.specs.Results.{fault_lines}
+use Rattle.mm_explore.specs.Results.{fault_found_lines}
 use Rattle.mm_explore.specs.Words.{order, AreKept, turn_words}
+use Rattle.mm_model.specs.Counted.{writes}
 
 -- 1. Faults.
 
@@ -22,7 +23,7 @@ use Rattle.mm_explore.specs.Words.{order, AreKept, turn_words}
 abbrev pub first_in : Image → List Extension → ℕ → ℕ → Option Extension
 first_in i done slot cause = find (λ x. has_fault slot cause (turn_at i x).step) done
 
--- there is no turn and no origin, or the origin is that of the turn
+-- a turn and its origin are both absent, or the origin is that of the turn
 abbrev pub IsFrom : List (List ℕ) → Option Extension → Option Origin → Type 0
 IsFrom list None None = Unit {0}
 IsFrom list (Some x) (Some o) = IsOrigin list o x
@@ -37,7 +38,7 @@ first_kept None false o = None
 -- the lines of what is kept of a fault
 abbrev pub fault_found : List (List ℕ) → ℕ → ℕ → Option Origin → List ℕ
 fault_found list slot cause None = []
-fault_found list slot cause (Some o) = fault_lines (record { slot = slot; cause = cause; by = led_by list o })
+fault_found list slot cause (Some o) = fault_found_lines (record { slot = slot; cause = cause; by = led_by list o })
 
 -- 2. Ends.
 
@@ -48,7 +49,7 @@ bytes_form bytes = length bytes ∷ bytes
 unfoldable pub outcome_form : Outcome → List ℕ
 outcome_form o = one_if o.ended ∷ length o.states ∷ map state_number o.states ++ flat_map bytes_form o.outputs
 
--- how many final schedules have the outcome of one, and the index of this one
+-- the count of final schedules that have the outcome of one, and the index of this one
 pub record IsEnd (i : Image) (list finals : List (List ℕ)) (t key : List ℕ) (tally : Tally) : Type 0 where
   pub form : key ≡ outcome_form (outcome_at i t)
   pub count : tally.count ≡ count_like i finals t
@@ -61,13 +62,13 @@ tally_after at (Some t) = record { count = t.count + 1; first = t.first }
 
 -- 3. What was noted.
 
--- these turns were noted, in this order
+-- the turns that were gone through were noted, in their order
 pub record Noted (i : Image) (list : List (List ℕ)) (done : List Extension) (f : Findings) : Type 0 where
   pub touched : AreKept (flat_map (turn_words any_kind i) done) f.words.touched.keys
   pub wrote : AreKept (flat_map (turn_words writes i) done) f.words.wrote.keys
   pub faults : (slot cause : ℕ) → IsFrom list (first_in i done slot cause) (get order f.faults (slot, cause))
 
--- these schedules were gone through, in this order, and those of them that are final were noted
+-- of the schedules that were gone through, those that are final were noted, in their order
 pub record Ended (i : Image) (list past : List (List ℕ)) (f : Findings) : Type 0 where
   pub finals : List (List ℕ)
   pub are : AreFinal i past finals

@@ -2,6 +2,6 @@
 use Rattle.std.specs.Prelude.{ℕ, ◌==◌, List}
 use Rattle.std.specs.List.{prefix_len}
 
--- how many items at the start are this one
+-- the count of items at the start that are this one
 abbrev pub leading : ℕ → List ℕ → ℕ
 leading n items = prefix_len (λ x. x == n) items

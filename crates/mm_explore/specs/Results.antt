@@ -35,25 +35,26 @@ pub record Results : Type 0 where
   pub faults : List FaultFound
   pub outcomes : List OutcomeFound
 
-abbrev pub group_lines : GroupFound → List ℕ
-group_lines g = reached_lines g.group g.reached
+abbrev pub group_found_lines : GroupFound → List ℕ
+group_found_lines g = reached_lines g.group g.reached
 
-unfoldable pub fault_lines : FaultFound → List ℕ
-fault_lines f = codes "fault " ++ decimal f.slot ++ codes " " ++ decimal f.cause ++ newline ++ by_line f.by
+unfoldable pub fault_found_lines : FaultFound → List ℕ
+fault_found_lines f = codes "fault " ++ decimal f.slot ++ codes " " ++ decimal f.cause ++ newline ++ by_line f.by
 
-abbrev pub state_line : ℕ × SlotState → List ℕ
-state_line x = codes "slot " ++ decimal x.0 ++ codes " " ++ state_text x.1 ++ newline
+abbrev pub state_found_line : ℕ × SlotState → List ℕ
+state_found_line x = codes "slot " ++ decimal x.0 ++ codes " " ++ state_text x.1 ++ newline
 
 abbrev pub output_text : Output → List ℕ
 output_text o = group_line o.group (length o.bytes) ++ output_lines o.bytes
 
-unfoldable pub outcome_lines : OutcomeFound → List ℕ
-outcome_lines o =
+unfoldable pub outcome_found_lines : OutcomeFound → List ℕ
+outcome_found_lines o =
     codes "outcome " ++ decimal o.count ++ end_text o.ended
-    ++ flat_map state_line o.states ++ flat_map output_text o.outputs ++ by_line o.by
+    ++ flat_map state_found_line o.states ++ flat_map output_text o.outputs ++ by_line o.by
 
 -- the text of what was found
 unfoldable pub explored_text : Results → List ℕ
 explored_text e =
     codes "explored " ++ decimal e.count ++ extent_text e.all
-    ++ flat_map group_lines e.groups ++ flat_map fault_lines e.faults ++ flat_map outcome_lines e.outcomes
+    ++ flat_map group_found_lines e.groups ++ flat_map fault_found_lines e.faults
+    ++ flat_map outcome_found_lines e.outcomes

@@ -11,7 +11,7 @@ use Rattle.mm_explore.specs.declared.found.Looked.TheVariants.{Known, New, Full}
 use Rattle.mm_explore.specs.declared.found.Origin.{Origin}
 use Rattle.mm_explore.specs.declared.search.Node.{Node}
 use Rattle.mm_explore.specs.declared.search.Search.{Search}
-use Rattle.mm_explore.specs.Benches.{IsAtSome, ArePartsAt}
+use Rattle.mm_explore.specs.Benches.{IsAtSomeConfiguration, ArePartsAt}
 use Rattle.mm_explore.specs.Configurations.{moves}
 use Rattle.mm_explore.specs.Explored.{leads_to, IsLeast, IsExplored, IsAll}
 use Rattle.mm_explore.specs.Findings.{Extension, extended, extensions, explored_turns, IsFinal}
@@ -65,14 +65,14 @@ GoesOn false i limit list done left = IsFull i limit list done left
 pub record HasCome (i : Image) (s : Search) (done left : List Extension) (past : List (List ℕ)) : Type 0 where
   pub image : IsImage i
   pub groups : s.groups.items ≡ groups_of (start i).core
-  pub bench : IsAtSome i s.bench
+  pub bench : IsAtSomeConfiguration i s.bench
   pub held : Holds i s.found
   pub room : s.found.limit < 2 ^ 32
   pub goes : GoesOn s.all i s.found.limit s.found.list done left
   pub noted : Noted i s.found.list done s.findings
   pub ended : Ended i s.found.list past s.findings
 
--- it has gone through the schedules before an index
+-- a search has gone through the schedules before an index
 abbrev pub IsBefore : Image → Search → ℕ → Type 0
 IsBefore i s at =
     HasCome i s (flat_map (extensions i) (take at s.found.list)) (flat_map (extensions i) (drop at s.found.list))

@@ -6,7 +6,7 @@ ghost use Rattle.mm_model.specs.Run.{run};
 ghost use Rattle.mm_model.specs.Report.{groups_of};
 ghost use Rattle.mm_model.specs.State.{slot_at};
 ghost use Rattle.mm_model.specs.Trace.{group_in, group_of as group_of_slot};
-ghost use Rattle.mm_explore.specs.Benches.{IsAt, IsAtSome, IsReady, ArePartsAt};
+ghost use Rattle.mm_explore.specs.Benches.{IsAtConfiguration, IsAtSomeConfiguration, IsReady, ArePartsAt};
 ghost use Rattle.mm_explore.specs.Findings.{turn_at};
 ghost use Rattle.mm_explore.specs.Holds.{word_written};
 ghost use Rattle.mm_explore.specs.Kept.{kept};
@@ -50,7 +50,7 @@ fn written(access: Option<Access>) -> Option<u64>
 impl Bench {
     /// The machine of an image at its start.
     pub(crate) fn new(alloc: Global, img: &Image) -> Result<Bench, NoMemory>
-        ensures start { IfOk result (λ b. IsAt img.now [] b) }
+        ensures start { IfOk result (λ b. IsAtConfiguration img.now [] b) }
         ensures ready { IfOk result (λ b. IsReady b) }
     {
         let mut core = Core::new(alloc, img.slots())?;
@@ -68,9 +68,9 @@ impl Bench {
         groups: &[u8],
         out: &mut Vec<u64>,
     ) -> Result<(), AllocError>
-        requires some { IsAtSome img.now self.now }
+        requires some { IsAtSomeConfiguration img.now self.now }
         requires groups { groups.now ≡ groups_of (start img.now).core }
-        ensures { OnOk result ((t : List ℕ) → IsAt img.now t self.now
+        ensures { OnOk result ((t : List ℕ) → IsAtConfiguration img.now t self.now
             → out.new.items ≡ out.old.items ++ kept img.now (run (start img.now) t)) }
     {
         put_slots(out, img.slots(), &self.core)?;
@@ -87,9 +87,10 @@ impl Bench {
         img: &Image,
         parts: &Parts,
     ) -> Result<(), AllocError>
-        requires some { IsAtSome img.now self.old }
+        requires some { IsAtSomeConfiguration img.now self.old }
         requires parts { (t : List ℕ) × ArePartsAt img.now t parts.now }
-        ensures at { OnOk result ((t : List ℕ) → ArePartsAt img.now t parts.now → IsAt img.now t self.new) }
+        ensures at { OnOk result ((t : List ℕ) → ArePartsAt img.now t parts.now
+            → IsAtConfiguration img.now t self.new) }
         ensures ready { OnOk result (IsReady self.new) }
     {
         self.core.assign(
@@ -103,12 +104,13 @@ impl Bench {
 
     /// Makes the turn of an item.
     pub(crate) fn turn(&mut self, alloc: Global, img: &Image, item: u8) -> Result<Made, AllocError>
-        requires some { IsAtSome img.now self.old }
+        requires some { IsAtSomeConfiguration img.now self.old }
         requires ready { IsReady self.old }
-        ensures at { OnOk result ((t : List ℕ) → IsAt img.now t self.old → IsAt img.now (t ++ item ∷ []) self.new) }
-        ensures step { IfOk result (λ made. (t : List ℕ) → IsAt img.now t self.old
+        ensures at { OnOk result ((t : List ℕ) → IsAtConfiguration img.now t self.old
+            → IsAtConfiguration img.now (t ++ item ∷ []) self.new) }
+        ensures step { IfOk result (λ made. (t : List ℕ) → IsAtConfiguration img.now t self.old
             → made.step ≡ (turn_at img.now (record { schedule = t; item = item })).step) }
-        ensures group { IfOk result (λ made. (t : List ℕ) → IsAt img.now t self.old
+        ensures group { IfOk result (λ made. (t : List ℕ) → IsAtConfiguration img.now t self.old
             → made.group ≡ group_in (turn_at img.now (record { schedule = t; item = item }))) }
     {
         let count = self.held.mem.pages();

@@ -3,16 +3,15 @@
 ghost use Rattle.std.specs.Prelude.{◌≡◌, ◌%◌, ◌*◌, ◌<◌, ◌≤◌, ◌^◌, ◌++◌, IsTrue, OnOk, true, length};
 ghost use Rattle.std.specs.Ordering.{nat_cmp};
 ghost use Rattle.std.specs.FinMap.{is_sorted};
-ghost use Rattle.mm_model.specs.Effect.{same_word};
 ghost use Rattle.mm_model.specs.Memory.{page_at, is_mapped, IsPaged};
 ghost use Rattle.mm_model.specs.Spelling.{IsImage};
-ghost use Rattle.mm_model.specs.Report.{same_cell, cells_or_zero, changes, changes_from};
+ghost use Rattle.mm_model.specs.Report.{cells_or_zero, changes, changes_from};
 ghost use Rattle.mm_explore.specs.Edits.{base_cell as base_cell_of, changed_at, noted, with_entry, entry};
 
 use mm_image::Image;
 use mm_mem::{Inspect, PlainMem, ZERO};
-use mm_model::CELLS;
-use mm_word::{Cell, Word};
+use mm_model::{CELLS, is_same_cell};
+use mm_word::Cell;
 use std::alloc::AllocError;
 
 /// The image's cell of a word.
@@ -21,20 +20,6 @@ pub(crate) fn base_cell(img: &Image, word: u64) -> Cell
     ensures { result ≡ base_cell_of img.now word }
 {
     img.cell(word).unwrap_or(ZERO)
-}
-
-/// Whether two words are equal, tag and bits.
-fn is_same_word(a: Word, b: Word) -> bool
-    ensures { result ≡ same_word a b }
-{
-    a == b
-}
-
-/// Whether two cells are equal, word and synchronisation bit.
-fn is_same_cell(a: &Cell, b: &Cell) -> bool
-    ensures { result ≡ same_cell a.now b.now }
-{
-    is_same_word(a.word, b.word) && a.full == b.full
 }
 
 /// The cell of a word, if it differs from the image's.

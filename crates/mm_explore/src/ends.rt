@@ -16,7 +16,7 @@ use mm_model::Slot;
 use mm_thread::Output;
 use std::alloc::{AllocError, Global};
 
-/// How many final configurations have an outcome, and the index of the first of them.
+/// The count of final configurations that have an outcome, and the index of the first of them.
 #[derive(Clone, Copy)]
 pub(crate) struct Tally {
     pub(crate) count: u64,

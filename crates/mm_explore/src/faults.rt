@@ -5,7 +5,7 @@ ghost use Rattle.std.specs.List.{flat_map, range_with_len};
 ghost use Rattle.std.specs.BTreeMap.{get};
 ghost use Rattle.mm_explore.specs.Findings.{has_fault};
 ghost use Rattle.mm_explore.specs.Noting.{first_kept, fault_found};
-ghost use Rattle.mm_explore.specs.Results.{fault_lines};
+ghost use Rattle.mm_explore.specs.Results.{fault_found_lines};
 ghost use Rattle.mm_explore.specs.Words.{order};
 
 use crate::explored::FaultFound;
@@ -59,7 +59,7 @@ fn put_fault(
     found: &Found,
 ) -> Result<(), AllocError>
     requires { IfSome (get order faults.now (slot, cause)) (λ o. o.from < length found.now.list) }
-    ensures { OnOk result (flat_map fault_lines out.new.items ≡ flat_map fault_lines out.old.items
+    ensures { OnOk result (flat_map fault_found_lines out.new.items ≡ flat_map fault_found_lines out.old.items
         ++ fault_found found.now.list slot cause (get order faults.now (slot, cause))) }
 {
     if let Some(origin) = faults.get(&(slot, cause)) {
@@ -78,7 +78,7 @@ pub(crate) fn put_faults(
     found: &Found,
 ) -> Result<(), AllocError>
     requires { (cause : ℕ) → IfSome (get order faults.now (slot, cause)) (λ o. o.from < length found.now.list) }
-    ensures { OnOk result (flat_map fault_lines out.new.items ≡ flat_map fault_lines out.old.items
+    ensures { OnOk result (flat_map fault_found_lines out.new.items ≡ flat_map fault_found_lines out.old.items
         ++ flat_map (λ cause. fault_found found.now.list slot cause (get order faults.now (slot, cause)))
         (range_with_len 1 13)) }
 {

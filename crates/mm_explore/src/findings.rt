@@ -12,11 +12,11 @@ ghost use Rattle.mm_model.specs.Trace.{group_in};
 ghost use Rattle.mm_explore.specs.Benches.{ArePartsAt};
 ghost use Rattle.mm_explore.specs.Configurations.{moves};
 ghost use Rattle.mm_explore.specs.Explored.{IsExplored, IsAll};
-ghost use Rattle.mm_explore.specs.Findings.{Extension, turn_at, explored_turns, is_none, IsFinal};
+ghost use Rattle.mm_explore.specs.Findings.{Extension, turn_at, explored_turns, are_none, IsFinal};
 ghost use Rattle.mm_explore.specs.FoundLists.{IsOrigin, Holds};
 ghost use Rattle.mm_explore.specs.Noting.{Noted, Ended, fault_found};
 ghost use Rattle.mm_explore.specs.Finds.{Finds};
-ghost use Rattle.mm_explore.specs.Results.{fault_lines};
+ghost use Rattle.mm_explore.specs.Results.{fault_found_lines};
 ghost use Rattle.mm_explore.specs.Words.{order};
 
 use crate::bench::Made;
@@ -50,7 +50,7 @@ fn list_faults(
     found: &Found,
 ) -> Result<(), AllocError>
     requires { (key : ℕ × ℕ) → IfSome (get order faults.now key) (λ o. o.from < length found.now.list) }
-    ensures { OnOk result (flat_map fault_lines out.new.items ≡ flat_map fault_lines out.old.items
+    ensures { OnOk result (flat_map fault_found_lines out.new.items ≡ flat_map fault_found_lines out.old.items
         ++ flat_map (λ s. flat_map (λ cause. fault_found found.now.list s.number cause
         (get order faults.now (s.number, cause))) (range_with_len 1 13)) slots.now) }
 {
@@ -100,7 +100,7 @@ impl Findings {
             → Noted i list done self.old → Noted i list done self.new) }
         ensures ended { OnOk result ((i : ImageValue) (list past : List (List ℕ)) (t : List ℕ)
             → IsImage i → Ended i list past self.old → slice_get list at ≡ Some t → IsFinal i t
-            → ended ≡ is_none (moves (run (start i) t)) → ArePartsAt i t parts.now
+            → ended ≡ are_none (moves (run (start i) t)) → ArePartsAt i t parts.now
             → Ended i list (past ++ t ∷ []) self.new) }
     {
         let key = outcome_key(alloc, ended, parts)?;

@@ -19,11 +19,11 @@ pub(crate) struct Origin {
 /// What looking a configuration up answers.
 #[derive(Clone, Copy, Debug, PartialEq, Eq)]
 pub(crate) enum Looked {
-    /// It was found before.
+    /// The configuration was found before.
     Known,
-    /// It is new, and was added.
+    /// The configuration is new, and was added.
     New,
-    /// It is new, and there was no room.
+    /// The configuration is new, and there was no room.
     Full,
 }
 
@@ -91,7 +91,7 @@ impl Found {
         })
     }
 
-    /// How many there are.
+    /// The count of the configurations.
     pub(crate) fn len(&self) -> usize
         ensures count { result ≡ length self.now.list }
         ensures forms { result ≡ length self.now.forms }

@@ -20,7 +20,7 @@ use mm_model::{CELLS, Page};
 use mm_word::{Cell, NoMemory};
 use std::alloc::{AllocError, Global};
 
-/// How many accesses are counted before the memory is made anew.
+/// The count of accesses from which on the memory is made anew.
 const MANY: u64 = 1 << 60;
 
 /// A memory, and what of it is not as in the image.
@@ -99,7 +99,7 @@ fn page_numbers(alloc: Global, mem: &PlainMem) -> Result<Vec<u64>, AllocError>
     Ok(numbers)
 }
 
-/// These numbers of pages; `None` if they are those of the image.
+/// The numbers of pages that are given; `None` if they are those of the image.
 fn if_changed(img: &Image, numbers: Vec<u64>) -> Option<Vec<u64>>
     ensures same { listed (numbers_of_pages img.now.memory.pages) (option_map (λ p. p.items) result) ≡ numbers.items }
     ensures differ { DifferIfGiven img.now (option_map (λ p. p.items) result) }

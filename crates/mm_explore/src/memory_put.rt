@@ -81,7 +81,7 @@ fn is_same(a: &(u64, Cell), b: &(u64, Cell)) -> bool
         && a.1.full == b.1.full
 }
 
-/// How many cells are the same at the beginning of both lists.
+/// The count of cells that are the same at the beginning of both lists.
 fn same_first(a: &[(u64, Cell)], b: &[(u64, Cell)]) -> usize
     ensures in_a { result ≤ length a.now }
     ensures in_b { result ≤ length b.now }
@@ -95,7 +95,7 @@ fn same_first(a: &[(u64, Cell)], b: &[(u64, Cell)]) -> usize
     a.len()
 }
 
-/// How many cells are the same at the end of both lists.
+/// The count of cells that are the same at the end of both lists.
 fn same_last(a: &[(u64, Cell)], b: &[(u64, Cell)]) -> usize
     ensures in_a { result ≤ length a.now }
     ensures in_b { result ≤ length b.now }

@@ -8,8 +8,8 @@ ghost use Rattle.mm_model.specs.Spelling.{IsImage};
 ghost use Rattle.mm_explore.specs.FoundLists.{Holds};
 ghost use Rattle.mm_explore.specs.Kept.{first_number};
 ghost use Rattle.mm_explore.specs.Noting.{IsEnd};
-ghost use Rattle.mm_explore.specs.Results.{outcome_lines};
-ghost use Rattle.mm_explore.specs.Texts.{outcome_lines as lines_of_outcome};
+ghost use Rattle.mm_explore.specs.Results.{outcome_found_lines};
+ghost use Rattle.mm_explore.specs.Texts.{outcome_lines};
 
 use crate::ends::Tally;
 use crate::explored::OutcomeFound;
@@ -58,7 +58,8 @@ fn outcome(
     requires held { Holds img.now found.now }
     requires end { (finals : List (List ℕ)) × (t : List ℕ) × IsEnd img.now found.now.list finals t key.now tally }
     ensures { IfOk result (λ o. (finals : List (List ℕ)) (t : List ℕ)
-        → IsEnd img.now found.now.list finals t key.now tally → outcome_lines o ≡ lines_of_outcome img.now finals t) }
+        → IsEnd img.now found.now.list finals t key.now tally
+        → outcome_found_lines o ≡ outcome_lines img.now finals t) }
 {
     let at = tally.first as usize;
     let parts = take_parts(alloc, img, groups, found.numbers(at))?;
@@ -91,8 +92,8 @@ pub(crate) fn put_outcomes(
         × AllZip (λ t end. IsEnd img.now found.now.list finals t end.0.items end.1) ts ends.now.entries }
     ensures { OnOk result ((finals ts : List (List ℕ))
         → AllZip (λ t end. IsEnd img.now found.now.list finals t end.0.items end.1) ts ends.now.entries
-        → flat_map outcome_lines out.new.items ≡ flat_map outcome_lines out.old.items
-        ++ flat_map (lines_of_outcome img.now finals) ts) }
+        → flat_map outcome_found_lines out.new.items ≡ flat_map outcome_found_lines out.old.items
+        ++ flat_map (outcome_lines img.now finals) ts) }
 {
     for (key, tally) in ends.iter() {
         let outcome = outcome(alloc, img, groups, found, key, *tally)?;

@@ -22,7 +22,7 @@ use std::alloc::{AllocError, Global};
 
 // 1. Slots.
 
-/// Which slots from an index on differ from those of the image, the first in the lowest bit.
+/// A bit for each slot from an index on, the lowest for the first: whether it differs from that of the image.
 #[tactic(auto, using(crate::proofs::Putting::drop_got))]
 fn changed_slots(base: &[Slot], core: &Core, at: usize) -> u64
     requires count { at + length base.now ≡ length (slots_of core.now) }

@@ -4,10 +4,11 @@ ghost use Rattle.std.specs.Prelude.{◌≡◌, ℕ, ◌+◌, ◌≤◌, ◌^◌,
 ghost use Rattle.std.specs.Prelude.{IfOk, OnOk, IfSome, Some};
 ghost use Rattle.std.specs.List.{AllByRecursion, AllZip, flat_map};
 ghost use Rattle.std.specs.Option.{option_to_list};
-ghost use Rattle.mm_explore.specs.Findings.{AreSpans, any_kind, writes, word_in};
+ghost use Rattle.mm_explore.specs.Findings.{AreSpans, any_kind, word_in};
 ghost use Rattle.mm_explore.specs.Results.{GroupFound as GroupValue};
 ghost use Rattle.mm_explore.specs.Words.{AreKept, IsGroupFound, IsWordKey};
 ghost use Rattle.mm_explore.specs.Words.{passed_words, step_words, words_in, spans_after};
+ghost use Rattle.mm_model.specs.Counted.{writes};
 
 use mm_model::Step;
 use mm_word::{Access, Kind};
@@ -20,7 +21,7 @@ use std::marker::Model;
 pub struct Span {
     /// The address of the first word.
     pub first: u64,
-    /// How many words there are.
+    /// The count of words.
     pub count: u64,
 }
 

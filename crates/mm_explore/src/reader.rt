@@ -40,7 +40,7 @@ impl<'a> Reader<'a> {
         }
     }
 
-    /// How many numbers are left.
+    /// The count of the numbers that are left.
     pub(crate) fn len(&self) -> usize
         ensures { result ≡ length self.now }
     {

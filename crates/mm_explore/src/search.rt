@@ -8,7 +8,7 @@ ghost use Rattle.mm_model.specs.Image.{start};
 ghost use Rattle.mm_model.specs.Run.{run};
 ghost use Rattle.mm_model.specs.Slot.{Slot as SlotValue};
 ghost use Rattle.mm_model.specs.Report.{groups_of};
-ghost use Rattle.mm_explore.specs.Benches.{IsAt, IsAtSome};
+ghost use Rattle.mm_explore.specs.Benches.{IsAtConfiguration, IsAtSomeConfiguration};
 ghost use Rattle.mm_explore.specs.Findings.{explored_turns};
 ghost use Rattle.mm_explore.specs.Kept.{kept};
 ghost use Rattle.mm_explore.specs.MoveLists.{running_item, loaded_item, ports_in, moves_in};
@@ -156,7 +156,7 @@ fn explore_from(
 ) -> Result<Explored, AllocError>
     requires some { 1 ≤ states }
     requires few { states ≤ 1000000 }
-    requires at { IsAt img.now [] bench }
+    requires at { IsAtConfiguration img.now [] bench }
     ensures { IfOk result (λ e. Finds img.now states e) }
 {
     let mut search = Search::new(alloc, img, states, bench)?;
@@ -171,7 +171,7 @@ impl Search {
     fn new(alloc: Global, img: &Image, states: u32, bench: Bench) -> Result<Search, AllocError>
         requires some { 1 ≤ states }
         requires few { states ≤ 1000000 }
-        requires at { IsAt img.now [] bench }
+        requires at { IsAtConfiguration img.now [] bench }
         ensures before { IfOk result (λ s. IsBefore img.now s 0) }
         ensures limit { IfOk result (λ s. s.found.limit ≡ states) }
     {
@@ -279,11 +279,11 @@ impl Search {
     /// was made.
     fn meet(&mut self, alloc: Global, img: &Image, origin: Origin) -> Result<bool, AllocError>
         requires groups { self.old.groups.items ≡ groups_of (start img.now).core }
-        requires some { IsAtSome img.now self.old.bench }
+        requires some { IsAtSomeConfiguration img.now self.old.bench }
         requires from { origin.from < length self.old.found.list }
-        ensures met { OnOk result ((t : List ℕ) → IsAt img.now t self.old.bench
+        ensures met { OnOk result ((t : List ℕ) → IsAtConfiguration img.now t self.old.bench
             → Met (kept img.now (run (start img.now) t)) origin self.old self.new) }
-        ensures stays { IfOk result (λ stays. (t : List ℕ) → IsAt img.now t self.old.bench
+        ensures stays { IfOk result (λ stays. (t : List ℕ) → IsAtConfiguration img.now t self.old.bench
             → KeptBy stays self.old.found.forms origin.from (kept img.now (run (start img.now) t))) }
     {
         self.numbers.clear();

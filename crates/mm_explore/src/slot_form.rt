@@ -7,7 +7,6 @@ ghost use Rattle.mm_word.specs.Perm.{can_fetch};
 ghost use Rattle.mm_word.specs.Pointer.{IsWellFormed};
 ghost use Rattle.mm_word.specs.Word.{IsWord, is_pointer};
 ghost use Rattle.mm_model.specs.declared.slot.Pending.{Pending as PendingValue};
-ghost use Rattle.mm_model.specs.Effect.{same_word};
 ghost use Rattle.mm_model.specs.Flags.{flags, number_of_flags};
 ghost use Rattle.mm_model.specs.Report.{same_bit};
 ghost use Rattle.mm_explore.specs.Configurations.{are_some};
@@ -21,7 +20,7 @@ ghost use Rattle.mm_explore.specs.Kept.{first_number, behind, load_form, loads_f
 
 use crate::reader::Reader;
 use arrayvec::ArrayVec;
-use mm_model::{Pending, Slot, SlotState};
+use mm_model::{Pending, Slot, SlotState, is_same_word};
 use mm_word::{Cause, GuardedPtr, Kind, Word};
 use std::alloc::AllocError;
 
@@ -76,13 +75,6 @@ fn state_at(number: u64) -> SlotState
 }
 
 // 2. Words.
-
-/// Whether two words are equal, tag and bits.
-fn is_same_word(a: Word, b: Word) -> bool
-    ensures { result ≡ same_word a b }
-{
-    a == b
-}
 
 /// The word of these bits: a pointer if they are tagged and spell one, and else an integer.
 #[tactic(auto, using(crate::proofs::Spells::spells_test, crate::proofs::Spells::spells_not))]

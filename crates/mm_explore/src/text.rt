@@ -6,8 +6,8 @@ ghost use Rattle.mm_io.specs.Sinks.{Writes};
 ghost use Rattle.mm_text.specs.Gathers.{Gathers};
 ghost use Rattle.mm_model.specs.Report.{group_line};
 ghost use Rattle.mm_explore.specs.Repeats.{leading as leading_of};
-ghost use Rattle.mm_explore.specs.Results.{explored_text, group_lines, fault_lines, outcome_lines};
-ghost use Rattle.mm_explore.specs.Results.{state_line, output_text};
+ghost use Rattle.mm_explore.specs.Results.{explored_text, group_found_lines, fault_found_lines, outcome_found_lines};
+ghost use Rattle.mm_explore.specs.Results.{state_found_line, output_text};
 ghost use Rattle.mm_explore.specs.Texts.{by_line, end_text, extent_text, word_line};
 ghost use Rattle.mm_explore.specs.Texts.{repeats_of, repeat_text, count_text};
 
@@ -15,9 +15,8 @@ use crate::explored::{Explored, FaultFound, OutcomeFound};
 use crate::reached::{GroupFound, Span};
 use mm_io::{Sink, WriteFault};
 use mm_model::SlotState;
-use mm_report::put_output;
 use mm_text::Piece::{Decimal, HexAddress, Text};
-use mm_text::{Gather, put_state};
+use mm_text::{Gather, put_output, put_state};
 use mm_thread::Output;
 
 /// Writes the text of an exploration:
@@ -54,7 +53,7 @@ fn put_extent<O: Sink>(text: &mut Gather, out: &mut O, count: u64, all: bool)
 // 1. Words.
 
 fn put_groups<O: Sink>(text: &mut Gather, out: &mut O, groups: &[GroupFound])
-    ensures { Gathers O.taken O.faults out.old out.new text.old text.new (flat_map group_lines groups.now) }
+    ensures { Gathers O.taken O.faults out.old out.new text.old text.new (flat_map group_found_lines groups.now) }
 {
     for group in groups {
         put_group(text, out, group);
@@ -62,7 +61,7 @@ fn put_groups<O: Sink>(text: &mut Gather, out: &mut O, groups: &[GroupFound])
 }
 
 fn put_group<O: Sink>(text: &mut Gather, out: &mut O, group: &GroupFound)
-    ensures { Gathers O.taken O.faults out.old out.new text.old text.new (group_lines group.now) }
+    ensures { Gathers O.taken O.faults out.old out.new text.old text.new (group_found_lines group.now) }
 {
     text.put_number(out, "group ", group.group as u64, "\n");
     put_spans(text, out, "touched ", &group.touched);
@@ -95,7 +94,7 @@ fn put_span<O: Sink>(text: &mut Gather, out: &mut O, verb: &str, span: &Span)
 // 2. Faults.
 
 fn put_faults<O: Sink>(text: &mut Gather, out: &mut O, faults: &[FaultFound])
-    ensures { Gathers O.taken O.faults out.old out.new text.old text.new (flat_map fault_lines faults.now) }
+    ensures { Gathers O.taken O.faults out.old out.new text.old text.new (flat_map fault_found_lines faults.now) }
 {
     for fault in faults {
         put_fault(text, out, fault);
@@ -103,7 +102,7 @@ fn put_faults<O: Sink>(text: &mut Gather, out: &mut O, faults: &[FaultFound])
 }
 
 fn put_fault<O: Sink>(text: &mut Gather, out: &mut O, fault: &FaultFound)
-    ensures { Gathers O.taken O.faults out.old out.new text.old text.new (fault_lines fault.now) }
+    ensures { Gathers O.taken O.faults out.old out.new text.old text.new (fault_found_lines fault.now) }
 {
     text.put(
         out,
@@ -121,7 +120,7 @@ fn put_fault<O: Sink>(text: &mut Gather, out: &mut O, fault: &FaultFound)
 // 3. Outcomes.
 
 fn put_outcomes<O: Sink>(text: &mut Gather, out: &mut O, outcomes: &[OutcomeFound])
-    ensures { Gathers O.taken O.faults out.old out.new text.old text.new (flat_map outcome_lines outcomes.now) }
+    ensures { Gathers O.taken O.faults out.old out.new text.old text.new (flat_map outcome_found_lines outcomes.now) }
 {
     for outcome in outcomes {
         put_outcome(text, out, outcome);
@@ -129,7 +128,7 @@ fn put_outcomes<O: Sink>(text: &mut Gather, out: &mut O, outcomes: &[OutcomeFoun
 }
 
 fn put_outcome<O: Sink>(text: &mut Gather, out: &mut O, outcome: &OutcomeFound)
-    ensures { Gathers O.taken O.faults out.old out.new text.old text.new (outcome_lines outcome.now) }
+    ensures { Gathers O.taken O.faults out.old out.new text.old text.new (outcome_found_lines outcome.now) }
 {
     put_end(text, out, outcome.count, outcome.ended);
     put_states(text, out, &outcome.states);
@@ -146,7 +145,7 @@ fn put_end<O: Sink>(text: &mut Gather, out: &mut O, count: u64, ended: bool)
 }
 
 fn put_states<O: Sink>(text: &mut Gather, out: &mut O, states: &[(u8, SlotState)])
-    ensures { Gathers O.taken O.faults out.old out.new text.old text.new (flat_map state_line states.now) }
+    ensures { Gathers O.taken O.faults out.old out.new text.old text.new (flat_map state_found_line states.now) }
 {
     for (slot, state) in states {
         put_state_line(text, out, *slot, *state);
@@ -154,7 +153,7 @@ fn put_states<O: Sink>(text: &mut Gather, out: &mut O, states: &[(u8, SlotState)
 }
 
 fn put_state_line<O: Sink>(text: &mut Gather, out: &mut O, slot: u8, state: SlotState)
-    ensures { Gathers O.taken O.faults out.old out.new text.old text.new (state_line (slot, state)) }
+    ensures { Gathers O.taken O.faults out.old out.new text.old text.new (state_found_line (slot, state)) }
 {
     text.put_number(out, "slot ", slot as u64, " ");
     put_state(text, out, state);
@@ -198,7 +197,7 @@ fn put_by<O: Sink>(text: &mut Gather, out: &mut O, items: &[u8])
     text.put(out, &[Text("\n")]);
 }
 
-/// How many items at the start are this one.
+/// The count of items at the start that are this one.
 fn leading(item: u8, items: &[u8]) -> usize
     ensures value { result ≡ leading_of item items.now }
     ensures within { result ≤ length items.now }

@@ -8,11 +8,6 @@ use Rattle.mm_flow.proofs.Masks.{below_cases}
 use Rattle.mm_flow.specs.Forest.{IsNested, IsForest, Climbed}
 use Rattle.mm_flow.specs.Forest.Climbed.{found, missed}
 
--- where the node itself does not hold the address, what does is above it
-pub above : (par ends : List ℕ) (j k x : ℕ) → slice_index ends k ≤ x → x < slice_index ends j → Up par j k → (slice_index par k < k) × Up par j (slice_index par k)
-above par ends j k x le lt (here e) = absurd (let no_way : x < slice_index ends k = subst (λ v. x < slice_index ends v) e lt in omega arith)
-above par ends j k x le lt (over small u) = (small, u)
-
 before_push : (par : List ℕ) (v k : ℕ) → k < length par → slice_index (par ++ v ∷ []) k ≡ slice_index par k
 before_push par v k lt = elim (push_cases par v k (omega arith)) [ last e f ↦ absurd (omega arith) | before small f ↦ f ]
 

@@ -1,7 +1,7 @@
 -- The way over the nodes within one.
 use Rattle.std.proofs.lemmas.Bool.{cases_lt, cases_eq}
 use Rattle.std.proofs.lemmas.Nat.Bits.{bit_at-lt, bit_at-zero, bit_at_and}
-use Rattle.std.proofs.Common.{◌≡◌, ℕ, zero, suc, ◌+◌, ◌<◌, ◌≤◌, inl, inr, List, ◌∷◌, length, slice_index, slice_set, replicate, max, min, bit_and, bit_or, refl, sym, ap, ◌∙◌, subst, arith}
+use Rattle.std.proofs.Common.{◌≡◌, ℕ, zero, suc, ◌+◌, ◌<◌, ◌≤◌, inl, inr, List, ◌∷◌, length, slice_index, slice_set, max, min, bit_and, bit_or, refl, sym, ap, ◌∙◌, subst, arith}
 use Rattle.std.specs.Int.{bit_at}
 use Rattle.mm_flow.specs.Edges.{Edges, low_at, high_at, entry_at, enters_at}
 use Rattle.mm_flow.specs.Flow.{Within, Has}
@@ -23,12 +23,6 @@ within_from x y h g = two (bit_at x g) (bit_at y g) (bit_at-lt x g) (h g)
 
 pub zero_within : (m : ℕ) → Within 0 m
 zero_within m g = let z = bit_at-zero g in omega arith
-
-pub zero_and_within : (x m : ℕ) → Within (bit_and 0 x) m
-zero_and_within x m g = least _ _ _ (bit_at_and 0 x g) (bit_at-zero g)
-  where
-    least : (x y z : ℕ) → z ≡ min x y → x ≡ 0 → {w : ℕ} → z ≤ w
-    least x y z is none = omega arith
 
 none_within : (x m : ℕ) → Within (bit_and x 0) m
 none_within x m g = least _ _ _ (bit_at_and x 0 g) (bit_at-zero g)
@@ -102,19 +96,6 @@ module _ (targets old p a q : List ℕ) (mask lo d : ℕ) (h : Propagated (IsAmo
 
 -- the steps of the way
 module _ (e : Edges) (k mask at done : ℕ) (old p propagated : List ℕ) (fit : done ≤ high_at e k) where
-  -- past a node that stays as it is
-  pub walked_past : Walked (pass_of e k mask) (way_of at done (state old p propagated)) (way_of (at + 1) done (state old p propagated))
-  walked_past = record {
-    forth = omega arith;
-    low = omega arith;
-    high = fit;
-    marks = propagated_none e.targets old p mask done done (omega arith);
-    stays = λ i x. x;
-    len = refl;
-    others = λ i ne. refl;
-    own = inl refl;
-  }
-
   -- past a node that has propagated the mask from now on
   pub walked_marked : at < length propagated → IsInner e at k → enters_at e at ≡ 0 → Walked (pass_of e k mask) (way_of at done (state old p propagated))
       (way_of (at + 1) done (state old p (slice_set propagated at (bit_or (slice_index propagated at) mask))))
@@ -337,17 +318,3 @@ passed_still e a b propagated grows h = record {
 
 pub ready_still : (e : Edges) (a b propagated : List ℕ) → length b ≡ length a → ((n : ℕ) → Within (slice_index a n) (slice_index b n)) → IsReady e a propagated → IsReady e b propagated
 ready_still e a b propagated len grows h = record { nodes = h.nodes ∙ sym len; len = h.len ∙ sym len; passed = passed_still e a b propagated grows h.passed }
-
-nothing_passed : (e : Edges) (marks propagated : List ℕ) (n : ℕ) → propagated ≡ replicate n 0 → IsPassed e marks propagated
-nothing_passed e marks propagated n is = record {
-  cells = λ i j lo hi. subst (λ v. Within v (slice_index marks (slice_index e.targets j))) (sym (zero_at i)) (zero_within (slice_index marks (slice_index e.targets j)));
-  entry = λ i. subst (λ v. Within (bit_and v (enters_at e i)) (slice_index marks (entry_at e i))) (sym (zero_at i)) (zero_and_within (enters_at e i) (slice_index marks (entry_at e i)));
-}
-  where
-    zeros : (n i : ℕ) → slice_index (replicate n 0) i ≡ 0
-    zeros zero i = refl
-    zeros (suc n) zero = refl
-    zeros (suc n) (suc i) = zeros n i
-
-    zero_at : (i : ℕ) → slice_index propagated i ≡ 0
-    zero_at i = ap (λ v. slice_index v i) is ∙ zeros n i

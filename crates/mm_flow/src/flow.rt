@@ -103,7 +103,9 @@ fn walk_on(
     mask: u64,
     walk: Walk,
 ) -> Result<Walk, AllocError>
-    requires { IsOnWay (pass_of (edges_of graph.now) k mask) (way_of walk.at walk.done (worklist_of marks.old work.old)) }
+    requires { IsOnWay
+        (pass_of (edges_of graph.now) k mask)
+        (way_of walk.at walk.done (worklist_of marks.old work.old)) }
     ensures { IfOk
         result
         (λ w. Walked

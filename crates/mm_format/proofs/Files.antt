@@ -6,7 +6,7 @@ use Rattle.std.proofs.lemmas.List.{take_all}
 use Rattle.mm_model.specs.Bytes.{IsBytes}
 use Rattle.mm_format.specs.declared.reader.ReadError.{ReadError}
 use Rattle.mm_format.specs.declared.reader.ReadError.TheVariants.{Fault, NoMemory}
-use Rattle.mm_format.specs.Formats.{Outcome, Format, IsFormat, IsAt, file, fault_in, RoundTrips, IsOneToOne}
+use Rattle.mm_format.specs.Formats.{Outcome, Format, IsFormat, IsSpelledAt, file, fault_in, RoundTrips, IsOneToOne}
 use Rattle.mm_format.specs.Formats.Outcome.{Got, Bad}
 use Rattle.mm_format.specs.Reading.{Fails, AnswersFile, fault_named_by}
 use Rattle.mm_format.proofs.Formats.{after_got}
@@ -18,7 +18,7 @@ module _ {A : Type 0} (f : Format A) (is : IsFormat f) where
   ended bytes trailing false end a c next is e = (cc, ltb-false end (length bytes) is)
 
   -- a text at the front of the bytes is all of them if they end with it
-  all_of : (bytes text : List ℕ) → IsAt bytes 0 text → length bytes ≤ length text → bytes ≡ text
+  all_of : (bytes text : List ℕ) → IsSpelledAt bytes 0 text → length bytes ≤ length text → bytes ≡ text
   all_of bytes text stands le = sym (take_all (length text) bytes le) ∙ stands
 
   -- what is read without a fault is spelled by the bytes
@@ -36,7 +36,7 @@ module _ {A : Type 0} (f : Format A) (is : IsFormat f) where
       ≡ Got a (length bytes)
   read_whole trailing bytes a fits same =
       let long : length (f.spell a) ≡ length bytes = ap length (sym same) in
-      let front : IsAt bytes 0 (f.spell a) = take_all (length (f.spell a)) bytes (omega (arith, long)) ∙ same in
+      let front : IsSpelledAt bytes 0 (f.spell a) = take_all (length (f.spell a)) bytes (omega (arith, long)) ∙ same in
       rw (is.complete bytes 0 a fits front (omega arith))
       (rw (le-ltb (0 + length (f.spell a)) (length bytes) (omega (arith, long))) (ap (Got a) (omega (arith, long))))
 
@@ -47,7 +47,7 @@ module _ {A : Type 0} (f : Format A) (is : IsFormat f) where
   pub one_to_one : IsOneToOne f
   one_to_one a b fits others same =
       let text = f.spell a in
-      let front : IsAt text 0 text = take_all (length text) text (omega arith) in
+      let front : IsSpelledAt text 0 text = take_all (length text) text (omega arith) in
       let first = is.complete text 0 a fits front (omega arith) in
       let second = is.complete text 0 b others (ap (λ t. take (length t) text) (sym same) ∙ front ∙ same)
       (omega arith) in

@@ -11,31 +11,31 @@ use Rattle.mm_model.proofs.ImageBytes.Numbers.{number_is_4}
 use Rattle.mm_model.proofs.ImageBytes.Parts.{join_at, length-part, IsBytes-part, one_byte, two_bytes, four_bytes}
 use Rattle.mm_model.proofs.ImageBytes.Parts.{eight_bytes, below_8, below_16, below_64}
 use Rattle.mm_model.proofs.ImageBytes.Apart.{split, number_in_1, number_in_2, number_in_4, number_in_8}
-use Rattle.mm_format.specs.Formats.{Outcome, Format, IsFormat, IsAt, whole, number, byte, u16, u32, u64, text, raw}
+use Rattle.mm_format.specs.Formats.{Outcome, Format, IsFormat, IsSpelledAt, whole, number, byte, u16, u32, u64, text, raw}
 use Rattle.mm_format.specs.Formats.{tried, test, literal, Part, after, ◌>>=◌, done}
 use Rattle.mm_format.specs.Formats.Outcome.{Got, Bad}
 
 -- 1. Texts at a place.
 
 module _ (bytes : List ℕ) (at : ℕ) where
-  pub ends_within : (text : List ℕ) → IsAt bytes at text → at ≤ length bytes → at + length text ≤ length bytes
+  pub ends_within : (text : List ℕ) → IsSpelledAt bytes at text → at ≤ length bytes → at + length text ≤ length bytes
   ends_within text e low = omega (arith, ap length e, length-take (length text) (drop at bytes), length-drop at bytes)
 
   module _ (x y : List ℕ) where
-    pub stand_both : IsAt bytes at x → IsAt bytes (at + length x) y → IsAt bytes at (x ++ y)
+    pub stand_both : IsSpelledAt bytes at x → IsSpelledAt bytes (at + length x) y → IsSpelledAt bytes at (x ++ y)
     stand_both p q =
         sym (join_at bytes at (at + length x) (length x) (length y) (length (x ++ y)) x y (sym p) (sym q) refl
         (sym (length-append x y)))
 
-    in_two : IsAt bytes at (x ++ y) → Rattle.mm_model.proofs.ImageBytes.Apart.InTwo bytes at (length x) (length y) x y
+    in_two : IsSpelledAt bytes at (x ++ y) → Rattle.mm_model.proofs.ImageBytes.Apart.InTwo bytes at (length x) (length y) x y
     in_two e =
         split bytes at (length x) (length y) x y
         (ap (λ n. take n (drop at bytes)) (sym (length-append x y)) ∙ e) refl
 
-    pub stands_first : IsAt bytes at (x ++ y) → IsAt bytes at x
+    pub stands_first : IsSpelledAt bytes at (x ++ y) → IsSpelledAt bytes at x
     stands_first e = (in_two e).front
 
-    pub stands_second : IsAt bytes at (x ++ y) → IsAt bytes (at + length x) y
+    pub stands_second : IsSpelledAt bytes at (x ++ y) → IsSpelledAt bytes (at + length x) y
     stands_second e = (in_two e).back
 
 -- 2. Outcomes.
@@ -81,7 +81,7 @@ module _ (size : ℕ) where
     sound = λ bytes fits at a next e.
         let w = is_whole _ _ _ _ _ _ e in
         let le = ltb-false _ _ w.0 in
-        let here : IsAt bytes at (digits (number_at bytes at size)) =
+        let here : IsSpelledAt bytes at (digits (number_at bytes at size)) =
         ap (λ n. take n (drop at bytes)) (is.long _) ∙ sym (is.back bytes at fits le) in
         rw (← w.1) (is.below bytes at fits le, here, omega (arith, w.2, is.long (number_at bytes at size)));
     complete = λ bytes at a fits stands low.
@@ -198,7 +198,7 @@ then_is p rest first then reads = record {
       let y = (rest s.0).spell b in
       rw (reads s.0 b f.0 g.0) (
         (f.0, g.0),
-        stand_both bytes at x y f.1 (subst (λ n. IsAt bytes n y) f.2 g.1),
+        stand_both bytes at x y f.1 (subst (λ n. IsSpelledAt bytes n y) f.2 g.1),
         omega (arith, f.2, g.2, length-append x y),
       );
   complete = λ bytes at b fits stands low.

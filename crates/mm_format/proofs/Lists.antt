@@ -3,7 +3,7 @@ use Rattle.std.proofs.Common.{◌≡◌, ℕ, zero, suc, ◌+◌, ◌≤◌, Boo
 use Rattle.std.proofs.Common.{Option, Some, None, refl, sym, ap, subst, ◌∙◌, arith}
 use Rattle.std.specs.List.{flat_map}
 use Rattle.std.proofs.lemmas.List.{length-append}
-use Rattle.mm_format.specs.Formats.{Format, IsFormat, IsAt, Late, first_late, after, answer, late}
+use Rattle.mm_format.specs.Formats.{Format, IsFormat, IsSpelledAt, Late, first_late, after, answer, late}
 use Rattle.mm_format.specs.Formats.{cons_fits, cons_spell, cons, times, each}
 use Rattle.mm_format.specs.Formats.Outcome.{Got}
 use Rattle.mm_format.proofs.Formats.{after_got, ends_within, stand_both, stands_first, stands_second, done_is}
@@ -15,7 +15,7 @@ got_both e = (cc, cc)
 
 module _ {A : Type 0} (f : Format A) (rest : A → Format (List A)) (first : IsFormat f)
     (others : (a : A) → f.Fits a → IsFormat (rest a)) where
-  read_again : (bytes : List ℕ) (at : ℕ) (xs : List A) → cons_fits f rest xs → IsAt bytes at (cons_spell f rest xs)
+  read_again : (bytes : List ℕ) (at : ℕ) (xs : List A) → cons_fits f rest xs → IsSpelledAt bytes at (cons_spell f rest xs)
       → at ≤ length bytes
       → after (f.read bytes at) (λ a next. after ((rest a).read bytes next) (λ os end. Got (a ∷ os) end))
       ≡ Got xs (at + length (cons_spell f rest xs))
@@ -42,10 +42,10 @@ module _ {A : Type 0} (f : Format A) (rest : A → Format (List A)) (first : IsF
         let x = f.spell s.0 in
         let y = (rest s.0).spell t.0 in
         let same = got_both t.3 in
-        subst (λ ys. cons_fits f rest ys × IsAt bytes at (cons_spell f rest ys)
+        subst (λ ys. cons_fits f rest ys × IsSpelledAt bytes at (cons_spell f rest ys)
         × (end ≡ at + length (cons_spell f rest ys))) same.0 (
           (p.0, q.0),
-          stand_both bytes at x y p.1 (subst (λ n. IsAt bytes n y) p.2 q.1),
+          stand_both bytes at x y p.1 (subst (λ n. IsSpelledAt bytes n y) p.2 q.1),
           omega (arith, p.2, q.2, same.1, length-append x y),
         );
     complete = λ bytes at xs fits stands low. read_again bytes at xs fits stands low;
@@ -115,7 +115,7 @@ module _ {A : Type 0} (f : Format A) (tests : A → List Late) where
         let s = after_got (f.read bytes at) (λ x n. answer (first_late at (tests x)) x n) a next e in
         let t = answered (first_late at (tests s.0)) s.0 a s.1 next s.3 in
         let p = is.sound bytes fits at s.0 s.1 s.2 in
-        subst (λ x. (late f tests).Fits x × IsAt bytes at (f.spell x) × (next ≡ at + length (f.spell x))) t.1
+        subst (λ x. (late f tests).Fits x × IsSpelledAt bytes at (f.spell x) × (next ≡ at + length (f.spell x))) t.1
         ((p.0, none_anywhere at 0 (tests s.0) t.0), p.1, sym t.2 ∙ p.2);
     complete = λ bytes at a fits stands low.
         rw (is.complete bytes at a fits.0 stands low)

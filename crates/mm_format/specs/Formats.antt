@@ -13,21 +13,21 @@ pub data Outcome (A : Type 0) : Type 0 where
   Got : A → (next : ℕ) → Outcome A
   Bad : (number at : ℕ) → Outcome A
 
--- which values have a spelling, how each is spelled, and what is read from bytes at a place
+-- a format of values: which of them have a spelling, how each is spelled, and what is read from bytes at a place
 pub record Format (A : Type 0) : Type 1 where
   pub Fits : A → Type 0
   pub spell : A → List ℕ
   pub read : (bytes : List ℕ) (at : ℕ) → Outcome A
 
 -- the text is what the bytes have at this place
-abbrev pub IsAt : (bytes : List ℕ) (at : ℕ) (text : List ℕ) → Type 0
-IsAt bytes at text = take (length text) (drop at bytes) ≡ text
+abbrev pub IsSpelledAt : (bytes : List ℕ) (at : ℕ) (text : List ℕ) → Type 0
+IsSpelledAt bytes at text = take (length text) (drop at bytes) ≡ text
 
 -- what a format has to be: what is read fits and is spelled where it was read; what fits is read where it is spelled
 pub record IsFormat {A : Type 0} (f : Format A) : Type 0 where
   pub sound : (bytes : List ℕ) → IsBytes bytes → (at : ℕ) (a : A) (next : ℕ) → f.read bytes at ≡ Outcome.Got a next
-      → f.Fits a × IsAt bytes at (f.spell a) × (next ≡ at + length (f.spell a))
-  pub complete : (bytes : List ℕ) (at : ℕ) (a : A) → f.Fits a → IsAt bytes at (f.spell a)
+      → f.Fits a × IsSpelledAt bytes at (f.spell a) × (next ≡ at + length (f.spell a))
+  pub complete : (bytes : List ℕ) (at : ℕ) (a : A) → f.Fits a → IsSpelledAt bytes at (f.spell a)
       → at ≤ length bytes → f.read bytes at ≡ Outcome.Got a (at + length (f.spell a))
 
 -- 2. Fields.
@@ -54,7 +54,7 @@ u32 = number 4 (to_be_bytes w32)
 abbrev pub u64 : Format ℕ
 u64 = number 8 (to_be_bytes w64)
 
--- this count of bytes, as they are, of whatever numbers a value has
+-- a list of this length, spelled as it is, whatever its numbers are
 abbrev pub text : (size : ℕ) → Format (List ℕ)
 text size = record {
   Fits = λ xs. length xs ≡ size;
@@ -62,7 +62,7 @@ text size = record {
   read = whole (λ bytes at. take size (drop at bytes)) size;
 }
 
--- this count of bytes, as they are
+-- a list of this count of bytes, spelled as it is
 abbrev pub raw : (size : ℕ) → Format (List ℕ)
 raw size = record {
   Fits = λ xs. (length xs ≡ size) × IsBytes xs;
@@ -84,7 +84,7 @@ test f number bad = record {
   read = λ bytes at. tried number at bad (f.read bytes at);
 }
 
--- this text, else the fault of this number
+-- the text of these letters; any other text of their count is the fault of this number
 abbrev pub literal : (letters : List ℕ) (number : ℕ) → Format (List ℕ)
 literal letters number = test (text (length letters)) number (λ xs. not (bytes_eq xs letters))
 
@@ -158,12 +158,12 @@ cons f rest = record {
       (λ a next. after ((rest a).read bytes next) (λ others end. Outcome.Got (a ∷ others) end));
 }
 
--- this count of values, the format of each by what comes before it
+-- a list of this count of values; the format of each depends on what comes before it
 abbrev pub times : {S A : Type 0} → (S → Format A) → (S → A → S) → ℕ → S → Format (List A)
 times f onward zero s = done []
 times f onward (suc n) s = cons (f s) (λ a. times f onward n (onward s a))
 
--- a value for each of a list
+-- a list of one value for each of another list
 abbrev pub each : {B A : Type 0} → (B → Format A) → List B → Format (List A)
 each f [] = done []
 each f (b ∷ bs) = cons (f b) (λ _. each f bs)

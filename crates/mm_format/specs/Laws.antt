@@ -32,5 +32,5 @@ abbrev pub ImagesFit : Type 0
 ImagesFit = (i : Image) → image.Fits i ↔ IsImage i
 
 -- each is spelled as an image is
-abbrev pub ImagesAreSpelled : Type 0
-ImagesAreSpelled = (i : Image) → image.spell i ≡ spelling i
+abbrev pub ImageFormatSpells : Type 0
+ImageFormatSpells = (i : Image) → image.spell i ≡ spelling i

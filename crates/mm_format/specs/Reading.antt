@@ -5,7 +5,7 @@ use Rattle.mm_format.specs.declared.reader.ReadError.{ReadError}
 use Rattle.mm_format.specs.declared.reader.ReadError.TheVariants.{Fault, NoMemory}
 use Rattle.mm_format.specs.Formats.{Outcome}
 
--- an error is the fault that reading gives, or memory ran out, which is told to be so
+-- an error is the fault that reading gives, or says that memory ran out, and then `wants` holds
 abbrev pub FailsOr : {K A : Type 0} → (wants : Type 0) → (K → ℕ) → Outcome A → ReadError K → Type 0
 FailsOr wants number read (Fault kind offset) = read ≡ Outcome.Bad (number kind) offset
 FailsOr wants number read NoMemory = wants
@@ -23,7 +23,7 @@ ReadsOr wants number view read next (Err e) = FailsOr wants number read e
 abbrev pub Reads : {K X A : Type 0} → (K → ℕ) → (X → A) → Outcome A → (next : ℕ) → Result X (ReadError K) → Type 0
 Reads number view read next r = ReadsOr (Unit {0}) number view read next r
 
--- the same of a function that takes no memory: it is never in want of it
+-- what a function that takes no memory returned is what reading gives, and never that memory ran out
 abbrev pub ReadsAlone : {K X A : Type 0} → (K → ℕ) → (X → A) → Outcome A → (next : ℕ) → Result X (ReadError K)
     → Type 0
 ReadsAlone number view read next r = ReadsOr ⊥ number view read next r

@@ -10,7 +10,7 @@ use std::alloc::{AllocError, AllocFailed};
 pub trait FaultKind: Copy {
     ghost use Rattle.std.specs.Prelude.{◌≡◌, ℕ};
 
-    /// Its number.
+    /// The number of a kind of fault.
     ghost number: { Self → ℕ };
 
     /// The kind for a field that is not whole.
@@ -117,7 +117,7 @@ impl<'a> Reader<'a> {
         ]))
     }
 
-    /// The number of one byte, if it is at most `most`.
+    /// The number of one byte. If it is above `most`, the fault is `kind`, at the number's place.
     pub fn u8_up_to<K: FaultKind>(&mut self, most: u8, kind: K) -> Result<u8, ReadError<K>>
         ensures read { ReadsAlone K.number (λ n. n)
             ((test byte (K.number kind) (nat_lt most)).read self.old.bytes.now self.old.at) self.new.at result }
@@ -130,7 +130,7 @@ impl<'a> Reader<'a> {
         Ok(value)
     }
 
-    /// The number of two bytes, if it is at most `most`.
+    /// The number of two bytes. If it is above `most`, the fault is `kind`, at the number's place.
     pub fn u16_up_to<K: FaultKind>(&mut self, most: u16, kind: K) -> Result<u16, ReadError<K>>
         ensures read { ReadsAlone K.number (λ n. n)
             ((test u16 (K.number kind) (nat_lt most)).read self.old.bytes.now self.old.at) self.new.at result }
@@ -143,7 +143,7 @@ impl<'a> Reader<'a> {
         Ok(value)
     }
 
-    /// The number of four bytes, if it is at most `most`.
+    /// The number of four bytes. If it is above `most`, the fault is `kind`, at the number's place.
     pub fn u32_up_to<K: FaultKind>(&mut self, most: u32, kind: K) -> Result<u32, ReadError<K>>
         ensures read { ReadsAlone K.number (λ n. n)
             ((test u32 (K.number kind) (nat_lt most)).read self.old.bytes.now self.old.at) self.new.at result }
@@ -156,7 +156,7 @@ impl<'a> Reader<'a> {
         Ok(value)
     }
 
-    /// The number of eight bytes, if it is at most `most`.
+    /// The number of eight bytes. If it is above `most`, the fault is `kind`, at the number's place.
     pub fn u64_up_to<K: FaultKind>(&mut self, most: u64, kind: K) -> Result<u64, ReadError<K>>
         ensures read { ReadsAlone K.number (λ n. n)
             ((test u64 (K.number kind) (nat_lt most)).read self.old.bytes.now self.old.at) self.new.at result }
@@ -169,7 +169,7 @@ impl<'a> Reader<'a> {
         Ok(value)
     }
 
-    /// Reads bytes that have to be these.
+    /// Reads bytes that have to be these. If they are others, the fault is `kind`, at their place.
     pub fn literal<K: FaultKind>(&mut self, wanted: &[u8], kind: K) -> Result<(), ReadError<K>>
         ensures read { ReadsAlone K.number (λ _. wanted.now)
             ((literal wanted.now (K.number kind)).read self.old.bytes.now self.old.at) self.new.at result }

@@ -22,7 +22,8 @@ pub trait Run<K: FaultKind> {
 
     /// Reads a record.
     fn item(&mut self, alloc: Global, reader: &mut Reader) -> Result<Self::Item, ReadError<K>>
-        ensures read { Reads K.number (λ x. x) (reads self.old reader.old.bytes.now reader.old.at) reader.new.at result }
+        ensures read { Reads K.number (λ x. x) (reads self.old reader.old.bytes.now reader.old.at)
+            reader.new.at result }
         ensures same { reader.new.bytes.now ≡ reader.old.bytes.now }
         ensures next { IfOk result (λ x. self.new ≡ onward self.old x) };
 }

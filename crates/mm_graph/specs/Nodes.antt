@@ -82,7 +82,7 @@ pub record IsTargets (keys : List CanonicalPtr) (found : List Found) (targets : 
   pub small : (j : ℕ) → j < length found → slice_index targets j < length keys
   pub at : (j : ℕ) → j < length found → key_at keys (slice_index targets j) ≡ (slice_index_or found j nothing).key
 
--- of a slot and its handler, the one is of one of these groups and the other of the other
+-- a slot is of one of two groups, and its handler is of the other
 pub record AreLinked (slots : List Slot) (g h : ℕ) : Type 0 where
   pub served : Slot
   pub server : Slot

@@ -1,5 +1,5 @@
 -- What a search by halving finds in ascending pages.
-use Rattle.std.proofs.Common.{◌≡◌, ◌≢◌, ℕ, ◌+◌, ◌<◌, List, [], ◌∷◌, length, get_or, Some, None, sym, ap, ◌∙◌, arith, inl, inr}
+use Rattle.std.proofs.Common.{◌≡◌, ◌≢◌, ℕ, ◌+◌, ◌<◌, List, length, get_or, Some, None, sym, ap, ◌∙◌, arith, inl, inr}
 use Rattle.std.specs.Prelude.{IsTrue}
 use Rattle.std.specs.Ordering.{nat_cmp, ordering_index}
 use Rattle.std.specs.List.{HoldsAt}
@@ -29,11 +29,6 @@ pub found_at : (ps : List Page) (q i : ℕ) (p : Page) → IsTrue (is_sorted nat
 found_at ps q i p h l equal is =
     let n : (get_or ps i p).0 ≡ q = ranked _ q _ (sym (equal p)) in
     sym (find-at ps i q p h l n ∙ ap (λ (e : Page). Some e.1) (sym is))
-
--- an element of the list itself, to stand for one past the end
-element : (ps : List Page) (j : ℕ) → j < length ps → Page
-element [] j l = absurd (omega arith)
-element (p ∷ ps) j l = p
 
 differs : (ps : List Page) (q i : ℕ) → IsPartitionPoint (λ p. number_order q p ≡ Less) (λ p. number_order q p ≡ Greater) ps i → (j : ℕ) (e : Page) → j < length ps → (get_or ps j e).0 ≢ q
 differs ps q i parts j e l same =

@@ -155,7 +155,7 @@ fn put_cells(out: &mut Vec<u8>, cells: &[Cell]) -> Result<(), AllocError>
     Ok(())
 }
 
-/// Which of the words are pointers, the first in the lowest bit.
+/// A bit for each word, the lowest for the first: whether it is a pointer.
 pub fn tags_of(words: &[Word]) -> u16
     requires { length words.now ≤ 16 }
     ensures value { result ≡ number_of_flags (map is_pointer words.now) }
@@ -167,7 +167,7 @@ pub fn tags_of(words: &[Word]) -> u16
     }
 }
 
-// Which of the cells hold pointers, the first in the lowest bit.
+// A bit for each cell, the lowest for the first: whether it holds a pointer.
 fn cell_tags(cells: &[Cell]) -> u16
     requires { length cells.now ≤ 8 }
     ensures value { result ≡ number_of_flags (map (λ (c : Cell). is_pointer c.word) cells.now) }
@@ -179,7 +179,7 @@ fn cell_tags(cells: &[Cell]) -> u16
     }
 }
 
-// Which of the cells are full, the first in the lowest bit.
+// A bit for each cell, the lowest for the first: whether it is full.
 fn full_bits(cells: &[Cell]) -> u16
     requires { length cells.now ≤ 8 }
     ensures value { result ≡ number_of_flags (map (λ (c : Cell). c.full) cells.now) }

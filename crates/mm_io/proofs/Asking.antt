@@ -29,10 +29,6 @@ of_reads_from : (name : List ℕ) (room offset : ℕ) (counts : List ℕ) → Ar
 of_reads_from name room offset [] = tt
 of_reads_from name room offset (n ∷ counts) = (refl, of_reads_from name room (offset + n) counts)
 
--- reads from the front to the end of a file are reads of it
-pub front_to_end_of : (name : List ℕ) {len : ℕ} {reads : List PieceRead} → FrontToEnd name len reads → AreOf name reads
-front_to_end_of name whole = subst (AreOf name) (sym whole.in_order) (of_reads_from name whole.room 0 (whole.counts ++ 0 ∷ []))
-
 -- the first `len` bytes of a file were read through a buffer, piece by piece, and nothing else
 pub record AsksFront {F : Type 0} (asked : F → List PieceRead → Type 0) (old new : F) (name : List ℕ) (room len : ℕ) : Type 0 where
   pub counts : List ℕ
@@ -46,9 +42,6 @@ Gave asked middle new name at room n =
     Adds asked middle new (record { name = name; offset = at; room = room; count = Some n } ∷ [])
 
 module _ {F : Type 0} {asked : F → List PieceRead → Type 0} where
-  pub whole_only : {old new : F} {name : List ℕ} {len : ℕ} → AsksWhole asked old new name len → AsksOnly asked old new name
-  whole_only {name = name} w = record { reads = w.reads; of_name = front_to_end_of name w.whole; asks = w.asks }
-
   pub asks_nothing : (s : F) (name : List ℕ) → AsksOnly asked s s name
   asks_nothing s name = record { reads = []; of_name = tt; asks = adds_none s }
 

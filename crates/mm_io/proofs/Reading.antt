@@ -1,7 +1,7 @@
 -- A file that is read piece by piece.
 use Rattle.std.proofs.Common.{◌≡◌, ℕ, ◌+◌, ◌-◌, ◌<◌, ◌≤◌, List, ◌++◌, length, take, drop, Option, None, Some, refl, sym, ◌∙◌, ap, arith, length-append, length-drop, append_assoc}
 use Rattle.std.specs.Bool.{⊤}
-use Rattle.std.proofs.lemmas.List.{length-take, length-take-le, take_all, append-nil, take-append-le, take-append-drop, drop-drop}
+use Rattle.std.proofs.lemmas.List.{length-take, length-take-le, take_all, take-append-le, take-append-drop, drop-drop}
 use Rattle.std.specs.Io.KnownBytes.{prepend_known, IsAtEnd}
 use Rattle.std.proofs.Math.Seq.{take-add}
 use Rattle.mm_io.specs.Files.{Holds, ReadsAt, IsLonger, DrawnFrom}
@@ -37,11 +37,6 @@ prepend-++ a b (Some xs) = ap Some (sym (append_assoc a b xs))
 pub drawn_more : {left middle : Option (List ℕ)} (bytes piece : List ℕ) (now : Option (List ℕ)) → left ≡ prepend_known bytes middle → middle ≡ prepend_known piece now
     → DrawnFrom left now
 drawn_more bytes piece now before read = (bytes ++ piece, before ∙ ap (prepend_known bytes) read ∙ prepend-++ bytes piece now)
-
--- what was read is what was left, where nothing is left now
-pub all_read : {left : Option (List ℕ)} (bytes : List ℕ) (now : Option (List ℕ)) → left ≡ prepend_known bytes now → IsAtEnd now → Holds left bytes
-all_read bytes None same end = rw same tt
-all_read bytes (Some xs) same end = rw (same, end) (sym (append-nil bytes))
 
 -- more was left than the limit
 pub left_longer : {left : Option (List ℕ)} (bytes : List ℕ) (now : Option (List ℕ)) (limit : ℕ) → left ≡ prepend_known bytes now → limit < length bytes

@@ -39,7 +39,8 @@ impl<R: rt::Files + Drop> StdFiles<R> {
 // Reads bytes of a stream from an offset on.
 fn read_placed<S: Read + Seek>(stream: &mut S, offset: u64, buf: &mut [u8]) -> io::Result<usize>
     ensures bound { IfOk result (λ n. n ≤ length buf.new) }
-    ensures placed { IfOk result (λ n. ReadsPlaced S.stream_position S.remaining stream.old stream.new offset n buf.new) }
+    ensures placed { IfOk result
+        (λ n. ReadsPlaced S.stream_position S.remaining stream.old stream.new offset n buf.new) }
 {
     stream.seek(SeekFrom::Start(offset))?;
     stream.read(buf)

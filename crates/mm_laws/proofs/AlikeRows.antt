@@ -23,7 +23,8 @@ abbrev Ascends : List ThreadRow → Type 0
 Ascends [] = Unit {0}
 Ascends (row ∷ rows) = AllByRecursion (λ (x : ThreadRow). row.slot.number < x.slot.number) rows × Ascends rows
 
-numbers_above : (n : ℕ) (rows : List ThreadRow) → AllByRecursion (λ y. n < y) (map (λ (s : Slot). s.number) (map (λ (row : ThreadRow). row.slot) rows)) → AllByRecursion (λ (x : ThreadRow). n < x.slot.number) rows
+numbers_above : (n : ℕ) (rows : List ThreadRow) → AllByRecursion (λ y. n < y) (map (λ (s : Slot). s.number) (map (λ (row : ThreadRow). row.slot) rows))
+    → AllByRecursion (λ (x : ThreadRow). n < x.slot.number) rows
 numbers_above n [] h = tt
 numbers_above n (row ∷ rows) h = (h.0, numbers_above n rows h.1)
 

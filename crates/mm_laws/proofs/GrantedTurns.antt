@@ -109,7 +109,8 @@ module _ (i : Image) (e : Entries) (first core : Core) (good : Good i e first co
         rises = rises_by core (put_slot core s) ids good.rises;
         rows =
             each_changed (RowGranted i e) s.number (λ (row : ThreadRow). record row { slot = s }) core.rows
-            (each_map (λ (row : ThreadRow). row.slot.number ≡ s.number → row.slot ≡ now.now) (λ (row : ThreadRow). row.slot.number ≡ s.number → RowGranted i e row → RowGranted i e (record row { slot = s }))
+            (each_map (λ (row : ThreadRow). row.slot.number ≡ s.number → row.slot ≡ now.now)
+            (λ (row : ThreadRow). row.slot.number ≡ s.number → RowGranted i e row → RowGranted i e (record row { slot = s }))
             (λ row one number granted. record {
               slot = own;
               events = subst (λ g. AllByRecursion (EventGranted i e g) row.queue) (ap (λ (x : Slot). x.group) (one number) ∙ ap (λ (x : ℕ × ℕ × Option ℕ). x.1) kept) granted.events;

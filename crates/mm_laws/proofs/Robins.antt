@@ -5,11 +5,12 @@ use Rattle.std.specs.Prelude.{Contains}
 use Rattle.std.specs.List.{AllByRecursion}
 use Rattle.std.specs.List.Sorted.{IsStrictlyIncreasing}
 use Rattle.std.proofs.lemmas.Bool.{lt-ltb}
+use Rattle.std.specs.Option.{option_or}
 use Rattle.mm_model.specs.Slot.{Slot}
 use Rattle.mm_model.specs.State.{ThreadRow, Core, State, slot_at}
 use Rattle.mm_model.specs.Spelling.{numbers_of}
 use Rattle.mm_model.specs.Turn.{is_running}
-use Rattle.mm_model.specs.Run.{after, run, first_running, or_else, any_number, next_running, then_issued, robin_from, last_item}
+use Rattle.mm_model.specs.Run.{after, run, first_running, any_number, next_running, then_issued, robin_from, last_item}
 use Rattle.mm_model.specs.Fits.{slots_of, IsState}
 use Rattle.mm_model.proofs.CoreRows.{each_map, each_contained, above_first, rest_rises, slot_at-number, slots_found, slot_has, Rises}
 use Rattle.mm_model.proofs.StateKeeps.{after_state}
@@ -111,7 +112,7 @@ next_is : (core : Core) (last : Option ℕ) (n : ℕ) → Rises core → next_ru
 next_is core None n up e = least_of core any_number AnyNumber n up (λ m k. tt) (λ m k. refl) e
 next_is core (Some last) n up e = by (first_running (nat_lt last) core.rows) refl e
   where
-    by : (o : Option ℕ) → first_running (nat_lt last) core.rows ≡ o → or_else o (first_running any_number core.rows) ≡ Some n → IsNext core (Some last) n
+    by : (o : Option ℕ) → first_running (nat_lt last) core.rows ≡ o → option_or o (first_running any_number core.rows) ≡ Some n → IsNext core (Some last) n
     by (Some m) is e =
         let same : m ≡ n = cc in
         inl (least_of core (nat_lt last) (λ m. last < m) n up (λ k t. ltb-true last k t) (λ k lt. lt-ltb last k lt) (is ∙ ap (λ (k : ℕ). Some k) same))
@@ -121,7 +122,7 @@ none_next : (core : Core) (last : Option ℕ) → next_running core.rows last �
 none_next core None e = none_of core any_number AnyNumber (λ m k. refl) e
 none_next core (Some last) e = by (first_running (nat_lt last) core.rows) e
   where
-    by : (o : Option ℕ) → or_else o (first_running any_number core.rows) ≡ None → NoneRuns core AnyNumber
+    by : (o : Option ℕ) → option_or o (first_running any_number core.rows) ≡ None → NoneRuns core AnyNumber
     by (Some m) e = cc
     by None e = none_of core any_number AnyNumber (λ m k. refl) e
 

@@ -16,14 +16,14 @@ use Rattle.mm_model.proofs.StateKeeps.{after_state, after_fits, after_kept}
 use Rattle.mm_model.proofs.TurnBounds.{turn_takes, after_within}
 use Rattle.mm_model.proofs.Starts.{start_state, start_fits, start_kept, start_within}
 use Rattle.mm_model.proofs.Shortness.{queue_short, pending_short, queued_at}
-use Rattle.mm_laws.specs.States.{TakesTurn, WaitsFor, WaitsAt, IsQueued}
+use Rattle.mm_laws.specs.States.{CountsTurns, WaitsFor, WaitsAt, IsQueued}
 
 -- 1. The start, a turn and a run.
 
 pub starts : (i : Image) → IsImage i → IsState (start i) × Fits i (start i) × TurnsWithin (start i)
 starts i h = (start_state i h, start_fits i h, start_within i h)
 
-pub takes_turn : (i : Image) (s : State) (n k : ℕ) (now : Slot) → IsState s → Fits i s → slot_at (after s n).core k ≡ Some now → TakesTurn s n k now
+pub takes_turn : (i : Image) (s : State) (n k : ℕ) (now : Slot) → IsState s → Fits i s → slot_at (after s n).core k ≡ Some now → CountsTurns s n k now
 unfolding after
 takes_turn i s n k now h fits is =
     let from = turn_takes s.core s.memory n h.core fits.matched k now is in

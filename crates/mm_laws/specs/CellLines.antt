@@ -25,12 +25,12 @@ pub data LinesOf (Passes : ℕ → Type 0) : List (ℕ × Cell) → List ℕ →
 abbrev pub CellLinesOf : Image → (ℕ → Bool) → State → List ℕ → Type 0
 CellLinesOf i c s text = LinesOf (Touchable i All c) (changes s.memory i.memory) text
 
--- there is at most one such text
+-- at most one text has the lines of the changed cells that the groups can touch
 abbrev pub CellLinesAreOne : Type 0
 CellLinesAreOne = (i : Image) (c : ℕ → Bool) (s : State) (one other : List ℕ) → CellLinesOf i c s one
     → CellLinesOf i c s other → one ≡ other
 
--- it is impossible that there is no such text
+-- it is impossible that no text has the lines of the changed cells that the groups can touch
 abbrev pub CellLinesAreSome : Type 0
 CellLinesAreSome = (i : Image) (c : ℕ → Bool) (s : State) → ¬ (¬ ((text : List ℕ) × CellLinesOf i c s text))
 

@@ -38,7 +38,7 @@ abbrev pub TurnsKeepBound : Type 0
 TurnsKeepBound = (i : Image) (s : State) (n : ℕ) → IsState s → Fits i s → TurnsWithin s → TurnsWithin (after s n)
 
 -- the turns of a slot after a cycle: they stay, or they rise by one if it is the running slot that the item names
-pub record TakesTurn (s : State) (n k : ℕ) (now : Slot) : Type 0 where
+pub record CountsTurns (s : State) (n k : ℕ) (now : Slot) : Type 0 where
   pub was : Slot
   pub stands : slot_at s.core k ≡ Some was
   pub turns : (now.turns ≡ was.turns) ⊎ ((k ≡ n) × (is_running was.state ≡ true) × (now.turns ≡ was.turns + 1))
@@ -46,7 +46,7 @@ pub record TakesTurn (s : State) (n k : ℕ) (now : Slot) : Type 0 where
 -- only the running slot that an item names takes a turn
 abbrev pub OneSlotTakesTurns : Type 0
 OneSlotTakesTurns = (i : Image) (s : State) (n k : ℕ) (now : Slot) → IsState s → Fits i s
-    → slot_at (after s n).core k ≡ Some now → TakesTurn s n k now
+    → slot_at (after s n).core k ≡ Some now → CountsTurns s n k now
 
 -- the state after any list of items fits the image
 abbrev pub RunsFit : Type 0

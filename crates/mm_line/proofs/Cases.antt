@@ -31,9 +31,6 @@ module _ (b : ℕ) (bytes : List ℕ) where
   abbrev from_comma : Next
   from_comma = if b == code "," then front Comma 1 (b ∷ bytes) else from_colon
 
-  abbrev from_semicolon : Next
-  from_semicolon = if b == code ";" then end else from_comma
-
   -- what holds of a token in each way holds of the token
   pub token_cases : (P : Next → Type 0)
       → ((b == code ";") ≡ true → P (end))
@@ -44,8 +41,11 @@ module _ (b : ℕ) (bytes : List ℕ) where
       → ((behind (code ".") (starts Letter) (b ∷ bytes)) ≡ true → P (front Directive (1 + run NameByte bytes) (b ∷ bytes)))
       → ((behind (code "-") (starts Decimal) (b ∷ bytes)) ≡ true → P (front (decimal true bytes) (1 + run Decimal bytes) (b ∷ bytes)))
       → ((starts_hexadecimal (b ∷ bytes)) ≡ true → P (front (hexadecimal (drop 2 (b ∷ bytes))) (2 + run Hexadecimal (drop 2 (b ∷ bytes))) (b ∷ bytes)))
-      → ((is_in Letter b) ≡ false → (behind (code ".") (starts Letter) (b ∷ bytes)) ≡ false → (behind (code "-") (starts Decimal) (b ∷ bytes)) ≡ false → (starts_hexadecimal (b ∷ bytes)) ≡ false → (is_in Decimal b) ≡ true → P (front (decimal false (b ∷ bytes)) (run Decimal (b ∷ bytes)) (b ∷ bytes)))
-      → ((b == code ";") ≡ false → (b == code ",") ≡ false → (b == code ":") ≡ false → (b == code "+") ≡ false → (is_in Letter b) ≡ false → (behind (code ".") (starts Letter) (b ∷ bytes)) ≡ false → (behind (code "-") (starts Decimal) (b ∷ bytes)) ≡ false → (starts_hexadecimal (b ∷ bytes)) ≡ false → (is_in Decimal b) ≡ false → P (front Bad 1 (b ∷ bytes)))
+      → ((is_in Letter b) ≡ false → (behind (code ".") (starts Letter) (b ∷ bytes)) ≡ false → (behind (code "-") (starts Decimal) (b ∷ bytes)) ≡ false
+      → (starts_hexadecimal (b ∷ bytes)) ≡ false → (is_in Decimal b) ≡ true → P (front (decimal false (b ∷ bytes)) (run Decimal (b ∷ bytes)) (b ∷ bytes)))
+      → ((b == code ";") ≡ false → (b == code ",") ≡ false → (b == code ":") ≡ false → (b == code "+") ≡ false → (is_in Letter b) ≡ false
+      → (behind (code ".") (starts Letter) (b ∷ bytes)) ≡ false → (behind (code "-") (starts Decimal) (b ∷ bytes)) ≡ false
+      → (starts_hexadecimal (b ∷ bytes)) ≡ false → (is_in Decimal b) ≡ false → P (front Bad 1 (b ∷ bytes)))
       → P (token_at (b ∷ bytes))
   unfolding token_at
   token_cases P h0 h1 h2 h3 h4 h5 h6 h7 h8 other =

@@ -77,10 +77,12 @@ behind_less byte p q (b ∷ bytes) less e (suc k) = of (b == byte) e
     of false f = refl
 
 -- the five forms, each of which fails
-pub no_token : (bytes : List ℕ) → is_name bytes ≡ false → is_directive bytes ≡ false → is_number bytes ≡ false → is_sign (code ",") bytes ≡ false → is_sign (code ":") bytes ≡ false → is_sign (code "+") bytes ≡ false → is_token bytes ≡ false
+pub no_token : (bytes : List ℕ) → is_name bytes ≡ false → is_directive bytes ≡ false → is_number bytes ≡ false → is_sign (code ",") bytes ≡ false
+    → is_sign (code ":") bytes ≡ false → is_sign (code "+") bytes ≡ false → is_token bytes ≡ false
 no_token bytes a b c d e f = rw (a, b, c, d, e, f) refl
 
-no_number : (bytes : List ℕ) → is_digits Decimal bytes ≡ false → behind (code "-") (is_digits Decimal) bytes ≡ false → behind (code "0") (behind (code "x") (is_digits Hexadecimal)) bytes ≡ false → is_number bytes ≡ false
+no_number : (bytes : List ℕ) → is_digits Decimal bytes ≡ false → behind (code "-") (is_digits Decimal) bytes ≡ false
+    → behind (code "0") (behind (code "x") (is_digits Hexadecimal)) bytes ≡ false → is_number bytes ≡ false
 no_number bytes a b c = rw (a, b, c) refl
 
 -- what a token says of the bytes from its first on
@@ -261,7 +263,8 @@ module _ (b : ℕ) (bytes : List ℕ) where
       none zero = refl
       none (suc k) = no_token (b ∷ take k bytes) (rw letter refl)
           (behind_less (code ".") is_name (starts Letter) at (starts_less Letter (list_all (is_in NameByte))) directive (suc k))
-          (no_number (b ∷ take k bytes) (rw digit refl) (behind_less (code "-") (is_digits Decimal) (starts Decimal) at (starts_less Decimal (list_all (is_in Decimal))) negative (suc k)) (hexadecimal_less at hexadecimal (suc k)))
+          (no_number (b ∷ take k bytes) (rw digit refl)
+          (behind_less (code "-") (is_digits Decimal) (starts Decimal) at (starts_less Decimal (list_all (is_in Decimal))) negative (suc k)) (hexadecimal_less at hexadecimal (suc k)))
           (rw comma refl) (rw colon refl) (rw plus refl)
 
   directive_case : behind (code ".") (starts Letter) (b ∷ bytes) ≡ true → IsLongestAt (b ∷ bytes) (front Directive (1 + run NameByte bytes) (b ∷ bytes))

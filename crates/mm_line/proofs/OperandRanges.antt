@@ -66,9 +66,6 @@ module _ (most : ℕ) where
       (λ small. reads_ok most (λ x. x ≤ 12) r (leb-true r 12 small))
       (λ _. reads_err most (λ x. x ≤ 12) _ (range_fault most n f)))
 
-  anything : {A : Type 0} (value : Option A) (n : Next) → Found most n → (x : A) → value ≡ Some x → Unit {0}
-  anything value n f x e = tt
-
   operand_reads : (k : OperandKind) (n : Next) → Found most n → Reads most (IsOperand k) (operand_of k n)
   operand_reads kind.Rd n f = operand_by kind.Rd (λ r. r < 16) operand.Rd (register_of n) (register_reads most n f) (λ r h. record { kind = refl; range = h })
   operand_reads kind.EvtRd n f = operand_by kind.EvtRd (λ r. r ≤ 12) operand.EvtRd (event_register_of n) (event_reads n f) (λ r h. record { kind = refl; range = h })

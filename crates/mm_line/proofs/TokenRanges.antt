@@ -76,10 +76,6 @@ module _ (most : ℕ) where
   pub name_fault : (n : Next) → Found most n → IsProblem most (at faults.Name n)
   name_fault n f = problem faults.Name n (omega arith) f
 
-  -- a test of a token
-  by_token : {A : Type 0} (P : A → Type 0) (n : Next) → Found most n → (f : Token → Result A Problem) → ((t : Token) → n.token ≡ t → Reads most P (f t)) → Reads most P (f n.token)
-  by_token P n found f h = h n.token refl
-
   pub name_reads : (n : Next) → Found most n → Reads most (IsMark most) (name_of n)
   name_reads n f = of n.token refl
     where

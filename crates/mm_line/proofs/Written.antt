@@ -93,7 +93,8 @@ negative_at : (bytes : List ℕ) → starts Decimal bytes ≡ true → token_at 
 unfolding token_at
 negative_at bytes h = rw h refl
 
-pub negative_read : (digits rest : List ℕ) → is_digits Decimal digits ≡ true → starts Decimal rest ≡ false → next_token ((codes "-" ++ digits) ++ rest) ≡ written (number true (digits_value 10 digits)) (codes "-" ++ digits) rest
+pub negative_read : (digits rest : List ℕ) → is_digits Decimal digits ≡ true → starts Decimal rest ≡ false
+    → next_token ((codes "-" ++ digits) ++ rest) ≡ written (number true (digits_value 10 digits)) (codes "-" ++ digits) rest
 negative_read digits rest h stop =
     let two = both (starts Decimal digits) (list_all (is_in Decimal) digits) h in
     no_blank (code "-") (digits ++ rest) refl ∙ negative_at (digits ++ rest) (starts_append Decimal digits rest two.0)
@@ -105,7 +106,8 @@ hexadecimal_at : (bytes : List ℕ) → starts Hexadecimal bytes ≡ true → to
 unfolding token_at
 hexadecimal_at bytes h = rw h refl
 
-pub hexadecimal_read : (digits rest : List ℕ) → is_digits Hexadecimal digits ≡ true → starts Hexadecimal rest ≡ false → next_token ((codes "0x" ++ digits) ++ rest) ≡ written (number false (digits_value 16 digits)) (codes "0x" ++ digits) rest
+pub hexadecimal_read : (digits rest : List ℕ) → is_digits Hexadecimal digits ≡ true → starts Hexadecimal rest ≡ false
+    → next_token ((codes "0x" ++ digits) ++ rest) ≡ written (number false (digits_value 16 digits)) (codes "0x" ++ digits) rest
 hexadecimal_read digits rest h stop =
     let two = both (starts Hexadecimal digits) (list_all (is_in Hexadecimal) digits) h in
     no_blank (code "0") (code "x" ∷ (digits ++ rest)) refl ∙ hexadecimal_at (digits ++ rest) (starts_append Hexadecimal digits rest two.0)
@@ -134,7 +136,8 @@ digit_no_letter d h = of (is_in Letter d) refl
     of true e = absurd (no_digit d e h)
     of false e = refl
 
-decimal_at : (d : ℕ) (bytes : List ℕ) → is_in Decimal d ≡ true → behind (code "x") (starts Hexadecimal) bytes ≡ false → token_at (d ∷ bytes) ≡ front (decimal false (d ∷ bytes)) (run Decimal (d ∷ bytes)) (d ∷ bytes)
+decimal_at : (d : ℕ) (bytes : List ℕ) → is_in Decimal d ≡ true → behind (code "x") (starts Hexadecimal) bytes ≡ false
+    → token_at (d ∷ bytes) ≡ front (decimal false (d ∷ bytes)) (run Decimal (d ∷ bytes)) (d ∷ bytes)
 unfolding token_at
 decimal_at d bytes h none =
     let not_a : (v : ℕ) → is_in Decimal v ≡ false → (d == v) ≡ false = λ v f. other (is_in Decimal) d v h f in

@@ -30,7 +30,7 @@ abbrev pub is_empty : List ℕ → Bool
 is_empty [] = true
 is_empty (b ∷ bytes) = false
 
--- this byte alone
+-- bytes that are this byte alone
 abbrev pub is_sign : ℕ → List ℕ → Bool
 is_sign byte bytes = behind byte is_empty bytes
 

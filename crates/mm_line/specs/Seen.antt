@@ -9,9 +9,9 @@ abbrev pub seen : Next → spec.Next
 seen n = record { token = n.token; text = n.text.now; left = n.left; rest = n.rest.now }
 
 -- what a function returned, in this view, is what is read
-abbrev pub IsRead : {X Y : Type 0} → (X → Y) → Result X Problem → Result Y Problem → Type 0
-IsRead view (Ok x) read = read ≡ Ok (view x)
-IsRead view (Err e) read = read ≡ Err e
+abbrev pub IsReadAs : {X Y : Type 0} → (X → Y) → Result X Problem → Result Y Problem → Type 0
+IsReadAs view (Ok x) read = read ≡ Ok (view x)
+IsReadAs view (Err e) read = read ≡ Err e
 
 -- the number, if 64 bits hold it
 abbrev pub limited : ℕ → Option ℕ

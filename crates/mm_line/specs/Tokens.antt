@@ -27,7 +27,7 @@ abbrev pub starts : Class → List ℕ → Bool
 starts c [] = false
 starts c (b ∷ bytes) = is_in c b
 
--- this byte is first, and what follows it passes a test
+-- the first of the bytes is this one, and what follows it passes a test
 abbrev pub behind : ℕ → (List ℕ → Bool) → List ℕ → Bool
 behind byte test [] = false
 behind byte test (b ∷ bytes) = b == byte && test bytes

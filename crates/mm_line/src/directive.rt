@@ -1,7 +1,7 @@
 //! The statements of directives.
 
 ghost use Rattle.std.specs.Prelude.{◌≡◌};
-ghost use Rattle.mm_line.specs.Seen.{seen, IsRead};
+ghost use Rattle.mm_line.specs.Seen.{seen, IsReadAs};
 ghost use Rattle.mm_line.specs.Tokens.{next_token};
 ghost use Rattle.mm_line.specs.Statements.{content_of, word, spare_at, segment_at, fill_at, thread_at, register_at};
 ghost use Rattle.mm_line.specs.Statements.{front_by, end_of, statement_of};
@@ -14,7 +14,7 @@ use crate::{Fault, Next, Problem, Statement, Token, next_token};
 
 #[tactic(auto, unfolding(crate::specs::Statements::spare_at))]
 fn spare(line: &[u8]) -> Result<(Statement<'_>, &[u8]), Problem>
-    ensures { IsRead (λ x. (x.0, x.1.now)) result (spare_at line.now) }
+    ensures { IsReadAs (λ x. (x.0, x.1.now)) result (spare_at line.now) }
 {
     let next = next_token(line);
     let frames = number_of(0, 256, next)?;
@@ -23,7 +23,7 @@ fn spare(line: &[u8]) -> Result<(Statement<'_>, &[u8]), Problem>
 
 #[tactic(auto, unfolding(crate::specs::Statements::segment_at))]
 fn segment(line: &[u8]) -> Result<(Statement<'_>, &[u8]), Problem>
-    ensures { IsRead (λ x. (x.0, x.1.now)) result (segment_at line.now) }
+    ensures { IsReadAs (λ x. (x.0, x.1.now)) result (segment_at line.now) }
 {
     let name = next_token(line);
     let mark = name_of(name)?;
@@ -40,7 +40,7 @@ fn segment(line: &[u8]) -> Result<(Statement<'_>, &[u8]), Problem>
 
 #[tactic(auto, unfolding(crate::specs::Statements::fill_at))]
 fn fill(line: &[u8]) -> Result<(Statement<'_>, &[u8]), Problem>
-    ensures { IsRead (λ x. (x.0, x.1.now)) result (fill_at line.now) }
+    ensures { IsReadAs (λ x. (x.0, x.1.now)) result (fill_at line.now) }
 {
     let next = next_token(line);
     let words = number_of(0, 131_072, next)?;
@@ -49,7 +49,7 @@ fn fill(line: &[u8]) -> Result<(Statement<'_>, &[u8]), Problem>
 
 #[tactic(auto, unfolding(crate::specs::Statements::thread_at))]
 fn thread(line: &[u8]) -> Result<(Statement<'_>, &[u8]), Problem>
-    ensures { IsRead (λ x. (x.0, x.1.now)) result (thread_at line.now) }
+    ensures { IsReadAs (λ x. (x.0, x.1.now)) result (thread_at line.now) }
 {
     let first = next_token(line);
     let slot = small_of(first)?;
@@ -74,7 +74,7 @@ fn thread(line: &[u8]) -> Result<(Statement<'_>, &[u8]), Problem>
 
 #[tactic(auto, unfolding(crate::specs::Statements::register_at))]
 fn register(line: &[u8]) -> Result<(Statement<'_>, &[u8]), Problem>
-    ensures { IsRead (λ x. (x.0, x.1.now)) result (register_at line.now) }
+    ensures { IsReadAs (λ x. (x.0, x.1.now)) result (register_at line.now) }
 {
     let next = next_token(line);
     let number = register_number_of(next)?;
@@ -84,7 +84,7 @@ fn register(line: &[u8]) -> Result<(Statement<'_>, &[u8]), Problem>
 
 /// The statement of a word in a full or an empty cell.
 fn word<'a>(full: bool, fault: Fault, next: Next<'a>) -> Result<(Statement<'a>, &'a [u8]), Problem>
-    ensures { IsRead (λ x. (x.0, x.1.now)) result (word full (content_of fault (seen next.entry))) }
+    ensures { IsReadAs (λ x. (x.0, x.1.now)) result (word full (content_of fault (seen next.entry))) }
 {
     let (content, rest) = content_of(fault, next)?;
     Ok((Statement::Word { full, content }, rest))
@@ -96,7 +96,7 @@ fn front_by<'a>(
     directive: Option<Directive>,
     next: Next<'a>,
 ) -> Result<(Statement<'a>, &'a [u8]), Problem>
-    ensures { IsRead (λ x. (x.0, x.1.now)) result (front_by directive (seen next.entry)) }
+    ensures { IsReadAs (λ x. (x.0, x.1.now)) result (front_by directive (seen next.entry)) }
 {
     match directive {
         Some(Directive::Spare) => spare(next.rest),

@@ -1,7 +1,7 @@
 //! The operands of an operation.
 
 ghost use Rattle.std.specs.Prelude.{◌≡◌};
-ghost use Rattle.mm_line.specs.Seen.{seen, IsRead};
+ghost use Rattle.mm_line.specs.Seen.{seen, IsReadAs};
 ghost use Rattle.mm_line.specs.Tokens.{next_token};
 ghost use Rattle.mm_line.specs.Reading.{number_of};
 ghost use Rattle.mm_line.specs.Operands.{event_register_of, operand_of, is_goal, with_operand, operand_at, comma_of};
@@ -48,7 +48,7 @@ fn operand_of(kind: OperandKind, next: Next) -> Result<Operand, Problem>
 
 /// Puts an operand of this kind in its place. A name in place of a distance is a label.
 fn put_operand<'a>(kind: OperandKind, code: &mut Code<'a>, next: Next<'a>) -> Result<(), Problem>
-    ensures { IsRead (λ _. code.new) result (with_operand kind code.old (seen next.entry)) }
+    ensures { IsReadAs (λ _. code.new) result (with_operand kind code.old (seen next.entry)) }
 {
     match (kind, next.token) {
         (OperandKind::Distance, Token::Name) => {
@@ -63,7 +63,7 @@ fn put_operand<'a>(kind: OperandKind, code: &mut Code<'a>, next: Next<'a>) -> Re
 /// Puts the operand that is next in a line in its place, and gives the line after it.
 #[tactic(auto, unfolding(crate::specs::Operands::operand_at))]
 fn operand<'a>(kind: OperandKind, code: &mut Code<'a>, line: &'a [u8]) -> Result<&'a [u8], Problem>
-    ensures { IsRead (λ rest. (code.new, rest.now)) result (operand_at kind code.old line.now) }
+    ensures { IsReadAs (λ rest. (code.new, rest.now)) result (operand_at kind code.old line.now) }
 {
     let next = next_token(line);
     put_operand(kind, code, next)?;
@@ -71,7 +71,7 @@ fn operand<'a>(kind: OperandKind, code: &mut Code<'a>, line: &'a [u8]) -> Result
 }
 
 fn comma(line: &[u8]) -> Result<&[u8], Problem>
-    ensures { IsRead (λ rest. rest.now) result (comma_of (next_token line.now)) }
+    ensures { IsReadAs (λ rest. rest.now) result (comma_of (next_token line.now)) }
 {
     let next = next_token(line);
     match next.token {
@@ -83,7 +83,7 @@ fn comma(line: &[u8]) -> Result<&[u8], Problem>
 /// Puts further operands, each after a comma, in their places, and gives the line after them.
 #[tactic(auto, unfolding(crate::specs::Operands::more_at))]
 fn more<'a>(kinds: &[OperandKind], code: &mut Code<'a>, line: &'a [u8]) -> Result<&'a [u8], Problem>
-    ensures { IsRead (λ rest. (code.new, rest.now)) result (more_at kinds.now code.old line.now) }
+    ensures { IsReadAs (λ rest. (code.new, rest.now)) result (more_at kinds.now code.old line.now) }
 {
     match kinds {
         [] => Ok(line),
@@ -103,7 +103,7 @@ fn operands<'a>(
     code: &mut Code<'a>,
     line: &'a [u8],
 ) -> Result<&'a [u8], Problem>
-    ensures { IsRead (λ rest. (code.new, rest.now)) result (operands_at kinds.now code.old line.now) }
+    ensures { IsReadAs (λ rest. (code.new, rest.now)) result (operands_at kinds.now code.old line.now) }
 {
     match kinds {
         [] => Ok(line),
@@ -117,7 +117,7 @@ fn operands<'a>(
 /// The operation of a form with its operands from a line, and the line after them.
 #[tactic(auto, unfolding(crate::specs::Operands::code_at))]
 pub(crate) fn read_code<'a>(form: &Form, line: &'a [u8]) -> Result<(Code<'a>, &'a [u8]), Problem>
-    ensures { IsRead (λ x. (x.0, x.1.now)) result (code_at form.now line.now) }
+    ensures { IsReadAs (λ x. (x.0, x.1.now)) result (code_at form.now line.now) }
 {
     let mut code = Code {
         fields: Fields::unused(form.code),

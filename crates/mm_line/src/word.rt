@@ -1,7 +1,7 @@
 //! The content of words: constants and operations.
 
 ghost use Rattle.std.specs.Prelude.{◌≡◌};
-ghost use Rattle.mm_line.specs.Seen.{seen, IsRead};
+ghost use Rattle.mm_line.specs.Seen.{seen, IsReadAs};
 ghost use Rattle.mm_line.specs.Statements.{addend_at, target_at, integer_at, pointer_at, constant_at};
 ghost use Rattle.mm_line.specs.Statements.{content_by_directive, content_by_operation, content_of};
 
@@ -14,7 +14,7 @@ use mm_isa::{Form, operation_named};
 /// The addend of a target, 0 if there is none, and the line after it.
 #[tactic(auto, unfolding(crate::specs::Statements::addend_at))]
 fn addend(line: &[u8]) -> Result<(u32, &[u8]), Problem>
-    ensures { IsRead (λ x. (x.0, x.1.now)) result (addend_at line.now) }
+    ensures { IsReadAs (λ x. (x.0, x.1.now)) result (addend_at line.now) }
 {
     let plus = next_token(line);
     match plus.token {
@@ -29,7 +29,7 @@ fn addend(line: &[u8]) -> Result<(u32, &[u8]), Problem>
 
 #[tactic(auto, unfolding(crate::specs::Statements::target_at))]
 pub(crate) fn read_target(line: &[u8]) -> Result<(Target<'_>, &[u8]), Problem>
-    ensures { IsRead (λ x. (x.0, x.1.now)) result (target_at line.now) }
+    ensures { IsReadAs (λ x. (x.0, x.1.now)) result (target_at line.now) }
 {
     let next = next_token(line);
     let mark = name_of(next)?;
@@ -39,7 +39,7 @@ pub(crate) fn read_target(line: &[u8]) -> Result<(Target<'_>, &[u8]), Problem>
 
 #[tactic(auto, unfolding(crate::specs::Statements::integer_at))]
 fn integer(line: &[u8]) -> Result<(Constant<'_>, &[u8]), Problem>
-    ensures { IsRead (λ x. (x.0, x.1.now)) result (integer_at line.now) }
+    ensures { IsReadAs (λ x. (x.0, x.1.now)) result (integer_at line.now) }
 {
     let next = next_token(line);
     let n = integer_of(next)?;
@@ -48,7 +48,7 @@ fn integer(line: &[u8]) -> Result<(Constant<'_>, &[u8]), Problem>
 
 #[tactic(auto, unfolding(crate::specs::Statements::pointer_at))]
 fn pointer(line: &[u8]) -> Result<(Constant<'_>, &[u8]), Problem>
-    ensures { IsRead (λ x. (x.0, x.1.now)) result (pointer_at line.now) }
+    ensures { IsReadAs (λ x. (x.0, x.1.now)) result (pointer_at line.now) }
 {
     let next = next_token(line);
     let perm = known(perm_named(next.text), next)?;
@@ -59,7 +59,7 @@ fn pointer(line: &[u8]) -> Result<(Constant<'_>, &[u8]), Problem>
 /// A constant, after the word that says its kind, and the line after it.
 #[tactic(auto, unfolding(crate::specs::Statements::constant_at))]
 pub(crate) fn read_constant(line: &[u8]) -> Result<(Constant<'_>, &[u8]), Problem>
-    ensures { IsRead (λ x. (x.0, x.1.now)) result (constant_at line.now) }
+    ensures { IsReadAs (λ x. (x.0, x.1.now)) result (constant_at line.now) }
 {
     let kind = next_token(line);
     if kind.text == b"int".as_slice() {
@@ -79,7 +79,7 @@ fn content_by_directive<'a>(
     directive: Option<Directive>,
     next: Next<'a>,
 ) -> Result<(Content<'a>, &'a [u8]), Problem>
-    ensures { IsRead (λ x. (x.0, x.1.now)) result (content_by_directive fault directive (seen next.entry)) }
+    ensures { IsReadAs (λ x. (x.0, x.1.now)) result (content_by_directive fault directive (seen next.entry)) }
 {
     let (constant, rest) = match directive {
         Some(Directive::Int) => integer(next.rest)?,
@@ -95,7 +95,7 @@ fn content_by_operation<'a>(
     form: Option<Form>,
     next: Next<'a>,
 ) -> Result<(Content<'a>, &'a [u8]), Problem>
-    ensures { IsRead (λ x. (x.0, x.1.now)) result (content_by_operation form (seen next.entry)) }
+    ensures { IsReadAs (λ x. (x.0, x.1.now)) result (content_by_operation form (seen next.entry)) }
 {
     match form {
         Some(form) => {
@@ -112,7 +112,7 @@ pub(crate) fn content_of<'a>(
     fault: Fault,
     next: Next<'a>,
 ) -> Result<(Content<'a>, &'a [u8]), Problem>
-    ensures { IsRead (λ x. (x.0, x.1.now)) result (content_of fault (seen next.entry)) }
+    ensures { IsReadAs (λ x. (x.0, x.1.now)) result (content_of fault (seen next.entry)) }
 {
     match next.token {
         Token::Name => content_by_operation(operation_named(next.text), next),

@@ -15,8 +15,9 @@ use Rattle.mm_object.specs.Objects.{same_name, is_among}
 use Rattle.mm_object.proofs.Among.{same_name-Decides}
 use Rattle.mm_link.specs.Placing.{Part}
 use Rattle.mm_link.specs.Faults.{first_again}
-use Rattle.mm_link.specs.Steps.{bytes_of, part_names, same_part}
+use Rattle.mm_link.specs.Steps.{part_names, same_part}
 use Rattle.mm_link.proofs.Lists.{at_item}
+use Rattle.mm_object.specs.Steps.{key_names}
 
 -- names that are compared as bytes
 pub same_bytes : (a b : List ℕ) → bytes_eq a b ≡ same_name a b
@@ -28,21 +29,21 @@ same_turned a b = same_from_decides (same_name a b) (same_name b a) (same_name-D
 abbrev pub same_key : Bor (List ℕ) → Bor (List ℕ) → Bool
 same_key x y = bytes_eq x.now y.now
 
-pub among_keys : (keys : List (Bor (List ℕ))) (k : Bor (List ℕ)) → list_any (same_key k) keys ≡ is_among k.now (bytes_of keys)
+pub among_keys : (keys : List (Bor (List ℕ))) (k : Bor (List ℕ)) → list_any (same_key k) keys ≡ is_among k.now (key_names keys)
 among_keys [] k = refl
 among_keys (x ∷ keys) k = ap (λ b. b || list_any (same_key k) keys) (same_bytes k.now x.now) ∙ ap (λ b. same_name k.now x.now || b) (among_keys keys k)
 
 -- the names before, the last one first
 abbrev pub before_of : List (Bor (List ℕ)) → List (List ℕ)
-before_of keys = reverse (bytes_of keys)
+before_of keys = reverse (key_names keys)
 
 pub among_before : (keys : List (Bor (List ℕ))) (k : Bor (List ℕ)) → is_among k.now (before_of keys) ≡ list_any (same_key k) keys
-among_before keys k = sym (list_any-IsPermutation (same_name k.now) (bytes_of keys) (before_of keys) (IsPermutation-reverse (bytes_of keys))) ∙ sym (among_keys keys k)
+among_before keys k = sym (list_any-IsPermutation (same_name k.now) (key_names keys) (before_of keys) (IsPermutation-reverse (key_names keys))) ∙ sym (among_keys keys k)
 
 pub before_more : (keys : List (Bor (List ℕ))) (k : Bor (List ℕ)) → list_any (same_key k) keys ≡ false → before_of (insert_key same_key keys k) ≡ k.now ∷ before_of keys
-before_more keys k new = ap (λ b. before_of (if b then keys else keys ++ k ∷ [])) new ∙ ap reverse (pushed keys) ∙ reverse-append (bytes_of keys) (k.now ∷ [])
+before_more keys k new = ap (λ b. before_of (if b then keys else keys ++ k ∷ [])) new ∙ ap reverse (pushed keys) ∙ reverse-append (key_names keys) (k.now ∷ [])
   where
-    pushed : (keys : List (Bor (List ℕ))) → bytes_of (keys ++ k ∷ []) ≡ bytes_of keys ++ k.now ∷ []
+    pushed : (keys : List (Bor (List ℕ))) → key_names (keys ++ k ∷ []) ≡ key_names keys ++ k.now ∷ []
     pushed [] = refl
     pushed (x ∷ keys) = ap (λ names. x.now ∷ names) (pushed keys)
 

@@ -1,13 +1,12 @@
 -- The first of several faults.
 use Rattle.std.proofs.Common.{◌≡◌, ℕ, ◌+◌, ◌<◌, Bool, true, false, cond, List, [], ◌∷◌, ◌++◌, length, get_or, drop, Option, Some, None, Result, Ok, Err, refl, sym, ap, ◌∙◌, subst}
-use Rattle.std.specs.Prelude.{find, IfOk}
+use Rattle.std.specs.Prelude.{find, IfOk, IsOkUnless}
 use Rattle.std.specs.Option.{option_map}
 use Rattle.mm_link.specs.declared.fault.LinkFault.{LinkFault}
 use Rattle.mm_link.specs.declared.fault.LinkError.{LinkError}
 use Rattle.mm_link.specs.declared.fault.LinkError.TheVariants as errors
 use Rattle.mm_link.specs.Answers.{Fails, ValueOrFault}
 use Rattle.mm_link.specs.Faults.{first, first_of}
-use Rattle.mm_link.specs.Steps.{IsNoMemory}
 use Rattle.mm_link.proofs.Lists.{at_item}
 
 module _ {A : Type 0} where
@@ -54,7 +53,7 @@ pub fails_memory : (p : Option LinkFault) (e : LinkError) → e ≡ errors.NoMem
 fails_memory p e h = subst (Fails p) (sym h) tt
 
 -- what is made where there is no fault
-pub gives_value : {X : Type 0} (p : Option LinkFault) (x : X) (r : Result X LinkError) → p ≡ None → IfOk r (λ y. y ≡ x) → IsNoMemory r → ValueOrFault p x r
+pub gives_value : {X : Type 0} (p : Option LinkFault) (x : X) (r : Result X LinkError) → p ≡ None → IfOk r (λ y. y ≡ x) → IsOkUnless r errors.NoMemory → ValueOrFault p x r
 gives_value p x (Ok y) none value memory = (none, value)
 gives_value p x (Err e) none value memory = fails_memory p e memory
 

@@ -106,7 +106,7 @@ frames_of objects = max 1 (page_count objects + spares_of objects)
 abbrev pub frame_limit : ℕ
 frame_limit = 256
 
--- 7: more frames than an image has
+-- 7: more frames than an image of version 1 has
 abbrev pub too_large : List Object → Option LinkFault
 too_large objects = if nat_lt frame_limit (frames_of objects) then Some TooLarge else None
 

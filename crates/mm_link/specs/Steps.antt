@@ -13,7 +13,6 @@ use Rattle.mm_model.specs.Slot.{Slot}
 use Rattle.mm_link.specs.declared.fault.LinkFault.{LinkFault}
 use Rattle.mm_link.specs.declared.fault.LinkFault.TheVariants.{Undefined, Offset}
 use Rattle.mm_link.specs.declared.fault.LinkError.{LinkError}
-use Rattle.mm_link.specs.declared.fault.LinkError.TheVariants as errors
 use Rattle.mm_link.specs.declared.sites.Placement.{Placement}
 use Rattle.mm_link.specs.Answers.{Fails}
 use Rattle.mm_link.specs.Placing.{Part, Site, site_in}
@@ -26,15 +25,7 @@ abbrev pub Passes : {X : Type 0} → Option LinkFault → Result X LinkError →
 Passes fault (Ok x) = fault ≡ None
 Passes fault (Err e) = Fails fault e
 
--- the function fails only for want of memory
-abbrev pub IsNoMemory : {X : Type 0} → Result X LinkError → Type 0
-IsNoMemory (Ok x) = Unit {0}
-IsNoMemory (Err e) = e ≡ errors.NoMemory
-
 -- 2. Names.
-
-abbrev pub bytes_of : List (Bor (List ℕ)) → List (List ℕ)
-bytes_of names = map (λ (b : Bor (List ℕ)). b.now) names
 
 abbrev pub part_names : List Part → List (List ℕ)
 part_names parts = map (λ (p : Part). p.segment.name) parts

@@ -9,7 +9,7 @@ use crate::fault::{LinkError, LinkFault};
 use crate::placing::Part;
 use mm_object::Object;
 
-/// The most frames that an image has.
+/// The most frames that an image of version 1 has.
 const FRAMES: u32 = 256;
 
 /// The length of a page in bytes.
@@ -60,7 +60,7 @@ pub(crate) fn frames_of(parts: &[Part<'_>], objects: &[Object]) -> u32
     (page_count(parts) + spares_of(objects)).max(1)
 }
 
-/// Refuses objects that need more frames than an image has.
+/// Refuses objects that need more frames than an image of version 1 has.
 pub(crate) fn check_frames(parts: &[Part<'_>], objects: &[Object]) -> Result<(), LinkError>
     requires parts { parts.now ≡ parts_of objects.now }
     requires few_parts { length parts.now ≤ 4096 }

@@ -1,6 +1,6 @@
 //! The linker.
 
-ghost use Rattle.std.specs.Prelude.{◌≡◌, ◌*◌, ◌∷◌, [], ◌≤◌, Err, None, Some, IfOk, length};
+ghost use Rattle.std.specs.Prelude.{◌≡◌, ◌*◌, ◌∷◌, [], ◌≤◌, Err, None, Some, IfOk, length, IsOkUnless};
 ghost use Rattle.std.specs.Result.{IsErrAnd};
 ghost use Rattle.mm_model.specs.Answers.{IsUnless};
 ghost use Rattle.mm_model.specs.Image.{Image as ImageValue};
@@ -11,7 +11,7 @@ ghost use Rattle.mm_link.specs.Faults.{twice, undefined, offset, slot_twice, no_
 ghost use Rattle.mm_link.specs.Faults.{first_of, link_fault};
 ghost use Rattle.mm_link.specs.Linked.{Linked, image_of};
 ghost use Rattle.mm_link.specs.Answers.{Fails, ValueOrFault};
-ghost use Rattle.mm_link.specs.Steps.{Passes, IsNoMemory};
+ghost use Rattle.mm_link.specs.Steps.{Passes};
 
 use crate::fault::LinkError;
 use crate::frames::{check_frames, frames_of, page_count};
@@ -111,7 +111,7 @@ fn image_of(
     requires few { pages ≤ 256 }
     requires frames { frames ≡ frames_of objects.now }
     ensures image { IfOk result (λ i. i ≡ image_of objects.now) }
-    ensures memory { IsNoMemory result }
+    ensures memory { IsOkUnless result LinkError.NoMemory }
 {
     let slots = slots_of(alloc, sites, objects)?;
     let pages = pages_of(alloc, sites, placed, pages)?;

@@ -1,12 +1,11 @@
 //! The pages of an image.
 
-ghost use Rattle.std.specs.Prelude.{◌≡◌, ◌++◌, ◌≤◌, ◌<◌, ◌^◌, take, replicate, length, IfOk, OnOk};
+ghost use Rattle.std.specs.Prelude.{◌≡◌, ◌++◌, ◌≤◌, ◌<◌, ◌^◌, take, replicate, length, IfOk, OnOk, IsOkUnless};
 ghost use Rattle.std.specs.List.{flat_map};
 ghost use Rattle.mm_object.specs.Objects.{IsObject};
 ghost use Rattle.mm_object.specs.Lookups.{reloc_at};
 ghost use Rattle.mm_model.specs.Memory.{zero_cell, zero_page};
 ghost use Rattle.mm_link.specs.Linked.{word_by, cells_from, part_cells, pages_from, first_page};
-ghost use Rattle.mm_link.specs.Steps.{IsNoMemory};
 
 use crate::fault::LinkError;
 use crate::placing::Part;
@@ -35,7 +34,7 @@ pub(crate) fn pages_of(
     requires { count ≤ 256 }
     ensures pages { IfOk result
         (λ v. v.items ≡ pages_from count first_page (flat_map (part_cells sites.now) parts.now)) }
-    ensures memory { IsNoMemory result }
+    ensures memory { IsOkUnless result LinkError.NoMemory }
 {
     let cells = cells_of(alloc, sites, parts, count as usize * CELLS)?;
     pages_from(alloc, &cells, count)
@@ -49,7 +48,7 @@ fn cells_of(
     room: usize,
 ) -> Result<Vec<Cell>, LinkError>
     ensures cells { IfOk result (λ v. v.items ≡ flat_map (part_cells sites.now) parts.now) }
-    ensures memory { IsNoMemory result }
+    ensures memory { IsOkUnless result LinkError.NoMemory }
 {
     let mut cells = Vec::with_capacity(alloc, room)?;
     for part in parts {
@@ -61,7 +60,7 @@ fn cells_of(
 #[tactic(auto, unfolding(crate::specs::Linked::part_cells))]
 fn push_part(cells: &mut Vec<Cell>, sites: &Sites<'_>, part: &Part<'_>) -> Result<(), LinkError>
     ensures cells { OnOk result (cells.new.items ≡ cells.old.items ++ part_cells sites.now part.now) }
-    ensures memory { IsNoMemory result }
+    ensures memory { IsOkUnless result LinkError.NoMemory }
 {
     let items = part.items();
     push_items(cells, sites, part.object(), part.number(), items)?;
@@ -80,7 +79,7 @@ fn push_items(
     requires few { length items.now < 2 ^ 32 }
     ensures cells { OnOk result
         (cells.new.items ≡ cells.old.items ++ cells_from sites.now object.now segment 0 items.now) }
-    ensures memory { IsNoMemory result }
+    ensures memory { IsOkUnless result LinkError.NoMemory }
 {
     let mut near = 0;
     for (word, item) in items.iter().enumerate() {
@@ -116,7 +115,7 @@ fn word_of(
 
 fn push_zeros(cells: &mut Vec<Cell>, count: usize) -> Result<(), LinkError>
     ensures cells { OnOk result (cells.new.items ≡ cells.old.items ++ replicate count zero_cell) }
-    ensures memory { IsNoMemory result }
+    ensures memory { IsOkUnless result LinkError.NoMemory }
 {
     for _ in 0..count {
         cells.push(ZERO)?;
@@ -128,7 +127,7 @@ fn push_zeros(cells: &mut Vec<Cell>, count: usize) -> Result<(), LinkError>
 fn pages_from(alloc: Global, cells: &[Cell], count: u32) -> Result<Vec<Page>, LinkError>
     requires { count ≤ 256 }
     ensures pages { IfOk result (λ v. v.items ≡ pages_from count first_page cells.now) }
-    ensures memory { IsNoMemory result }
+    ensures memory { IsOkUnless result LinkError.NoMemory }
 {
     let mut pages = Vec::with_capacity(alloc, count as usize)?;
     let mut rest = cells;
@@ -143,7 +142,7 @@ fn pages_from(alloc: Global, cells: &[Cell], count: u32) -> Result<Vec<Page>, Li
 fn page_of(alloc: Global, number: u64, cells: &[Cell]) -> Result<Page, LinkError>
     requires { number < 2 ^ 42 }
     ensures page { IfOk result (λ p. p ≡ (number, take 512 (cells.now ++ zero_page))) }
-    ensures memory { IsNoMemory result }
+    ensures memory { IsOkUnless result LinkError.NoMemory }
 {
     let kept = cells.len().min(CELLS);
     let mut page = Vec::with_capacity(alloc, CELLS)?;

@@ -1,9 +1,9 @@
 //! The places of segments once they are linked, by their names.
 
-ghost use Rattle.std.specs.Prelude.{◌≡◌, ◌≤◌, ◌<◌, length, IfOk};
+ghost use Rattle.std.specs.Prelude.{◌≡◌, ◌≤◌, ◌<◌, length, IfOk, IsOkUnless};
 ghost use Rattle.std.specs.List.{IsDistinct};
 ghost use Rattle.mm_link.specs.Placing.{sites_from, origin};
-ghost use Rattle.mm_link.specs.Steps.{IsNoMemory, same_part};
+ghost use Rattle.mm_link.specs.Steps.{same_part};
 
 use crate::fault::LinkError;
 use crate::placing::Part;
@@ -48,11 +48,11 @@ impl<'a> Sites<'a> {
     ghost use Rattle.std.specs.List.{AllByRecursion};
     ghost use Rattle.mm_word.specs.Pointer.{IsWellFormed};
     ghost use Rattle.mm_link.specs.Placing.{site_in, site_named, pointer_to};
-    ghost use Rattle.mm_link.specs.Steps.{IsNoMemory, place_of, FitsSite, IsTargetOf};
+    ghost use Rattle.mm_link.specs.Steps.{place_of, FitsSite, IsTargetOf};
 
     fn with_capacity(alloc: Global, count: usize) -> Result<Sites<'a>, LinkError>
         ensures sites { IfOk result (λ s. s ≡ []) }
-        ensures memory { IsNoMemory result }
+        ensures memory { IsOkUnless result LinkError.NoMemory }
     {
         Ok(Sites {
             by_name: IndexMap::with_capacity(alloc, count)?,
@@ -66,7 +66,7 @@ impl<'a> Sites<'a> {
         requires base_fits { place.base < 2 ^ 40 }
         ensures sites { OnOk result
             (self.new ≡ self.old ++ record { name = name.now; log = place.log; base = place.base } ∷ []) }
-        ensures memory { IsNoMemory result }
+        ensures memory { IsOkUnless result LinkError.NoMemory }
     {
         self.by_name.insert(name, place)?;
         Ok(())
@@ -108,7 +108,7 @@ pub(crate) fn sites_of<'a>(alloc: Global, parts: &[Part<'a>]) -> Result<Sites<'a
     requires few { length parts.now ≤ 4096 }
     requires apart { IsDistinct same_part parts.now }
     ensures sites { IfOk result (λ s. s ≡ sites_from origin parts.now) }
-    ensures memory { IsNoMemory result }
+    ensures memory { IsOkUnless result LinkError.NoMemory }
 {
     let mut sites = Sites::with_capacity(alloc, parts.len())?;
     let mut base = ORIGIN;

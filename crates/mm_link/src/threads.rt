@@ -7,7 +7,7 @@ ghost use Rattle.mm_link.specs.Steps.{Passes, has_slot, is_unhandled, is_unhandl
 use crate::fault::{LinkError, LinkFault};
 use mm_object::{Object, Thread};
 
-/// The count of slots of an image.
+/// The most slots that an image of version 1 has; the numbers of its slots are below it.
 pub(crate) const SLOTS: u8 = 16;
 
 /// Refuses two threads that have the same slot.

@@ -123,7 +123,7 @@ pub record Drawing : Type 0 where
 abbrev pub drawing : {I : Type 0} → (left : I → Option (List ℕ)) → (faults : I → ℕ) → (old new : I) → Drawing
 drawing left faults old new = record { left = left old; before = faults old; now = faults new }
 
--- this holds, unless each of the files is accepted
+-- a statement holds, unless each of the files is accepted
 abbrev pub DrawnBehind : (List ℕ → Option (List ℕ)) → List (List ℕ × Kind) → Type 0 → Type 0
 DrawnBehind held files Undrawn = Undrawn ⊎ ((values : List Value) × FilesAccepted held [] files values)
 

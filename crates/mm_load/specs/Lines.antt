@@ -35,7 +35,8 @@ line_of (Refused (Image file fault offset)) =
     in_file file ++ codes " image fault " ++ decimal (number_of fault) ++ codes " at " ++ decimal offset ++ codes "\n"
 line_of (Refused (Schedule file offset)) = in_file file ++ codes " schedule fault at " ++ decimal offset ++ codes "\n"
 line_of (Refused (Object file fault offset)) =
-    in_file file ++ codes " object fault " ++ decimal (object_number fault) ++ codes " at " ++ decimal offset ++ codes "\n"
+    in_file file ++ codes " object fault " ++ decimal (object_number fault) ++ codes " at " ++ decimal offset
+    ++ codes "\n"
 line_of (Refused (Link fault)) = codes "mmachine: link fault " ++ decimal (link_number fault) ++ codes " "
     ++ named_by fault ++ codes "\n"
 line_of (Refused (Asm fault line column)) =
@@ -45,7 +46,8 @@ line_of (Refused NoGroup) = codes "mmachine: no group\n"
 line_of (Refused (Crosses slot)) = codes "mmachine: crosses slot " ++ decimal slot ++ codes "\n"
 line_of (Refused (Held slot)) = codes "mmachine: held slot " ++ decimal slot ++ codes "\n"
 line_of (Refused (Privileged group)) = codes "mmachine: privileged group " ++ decimal group ++ codes "\n"
-line_of (Refused (Checkpoint file offset)) = in_file file ++ codes " checkpoint fault at " ++ decimal offset ++ codes "\n"
+line_of (Refused (Checkpoint file offset)) =
+    in_file file ++ codes " checkpoint fault at " ++ decimal offset ++ codes "\n"
 line_of (Refused (Links file offset)) = in_file file ++ codes " links fault at " ++ decimal offset ++ codes "\n"
 line_of (Refused (NoNode link)) = codes "mmachine: no node link " ++ decimal link ++ codes "\n"
 line_of ReadFault = codes "mmachine: read fault\n"

@@ -1,4 +1,4 @@
--- Why a command stops, given what the crates below answer.
+-- Why a command stops, given what reading, writing and linking answer.
 use Rattle.std.specs.Prelude.{ℕ, Result, Ok, Err}
 use Rattle.mm_io.specs.declared.read.ReadError.{ReadError}
 use Rattle.mm_io.specs.declared.read.ReadError.TheVariants as error

@@ -168,10 +168,6 @@ row_all (l ∷ ls) row =
     let put : ℕ → ThreadRow = λ k. record { slot = run_on (slot_line k) ls next.slot; queue = run_on (queue_line k) ls next.queue } in
     ap (run_on row_line ls) (row_one l row) ∙ row_all ls next ∙ ap put (number_line n l row.slot)
 
-pub row_number : (ls : List Line) (row : ThreadRow) → (run_on row_line ls row).slot.number ≡ row.slot.number
-row_number [] row = refl
-row_number (l ∷ ls) row = row_number ls (row_line l row) ∙ ap (λ (r : ThreadRow). r.slot.number) (row_one l row) ∙ number_line row.slot.number l row.slot
-
 -- 5. Rows whose lines make the later rows.
 
 abbrev numbers : List ThreadRow → List ℕ

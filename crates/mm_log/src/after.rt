@@ -21,15 +21,15 @@ ghost use Rattle.mm_log.specs.Seen.{seen_by};
 
 use crate::before::{Before, There, cell_of, is_mapped};
 use crate::lines::{
-    put_byte, put_event, put_gone_page, put_new_page, put_set, put_standing, put_taken,
+    put_byte, put_event, put_gone_page, put_new_page, put_set, put_slot_state, put_taken,
 };
 use crate::operands::{address_told, value_told};
-use crate::slots::{is_same_bit, is_same_word, put_slot_changes};
+use crate::slots::{is_same_bit, put_slot_changes};
 use mm_io::Sink;
 use mm_isa::{EvtReg, Instr};
 use mm_machine::Machine;
 use mm_mem::{Inspect, Memory};
-use mm_model::{Event, Slot, SlotState, Tick};
+use mm_model::{Event, Slot, SlotState, Tick, is_same_word};
 use mm_text::Gather;
 use mm_word::{Access, Cause, Cell};
 
@@ -133,7 +133,7 @@ fn put_taken_before<O: Sink>(text: &mut Gather, out: &mut O, slot: u8, own: &Slo
         (text_of (if nat_lt slot own.now.number then Enters slot Taken ∷ [] else [])) }
 {
     if slot < own.number {
-        put_standing(text, out, slot, SlotState::Taken);
+        put_slot_state(text, out, slot, SlotState::Taken);
     }
 }
 
@@ -143,7 +143,7 @@ fn put_taken_behind<O: Sink>(text: &mut Gather, out: &mut O, slot: u8, own: &Slo
         (text_of (if nat_lt own.now.number slot then Enters slot Taken ∷ [] else [])) }
 {
     if own.number < slot {
-        put_standing(text, out, slot, SlotState::Taken);
+        put_slot_state(text, out, slot, SlotState::Taken);
     }
 }
 

@@ -3,7 +3,7 @@
 ghost use Rattle.std.specs.Prelude.{◌≡◌, ◌-◌, nat_le, nat_lt, if◌then◌else◌, None};
 ghost use Rattle.std.specs.Option.{option_copied};
 ghost use Rattle.mm_word.specs.declared.word.Pre.{Pre as PreValue};
-ghost use Rattle.mm_model.specs.Ask.{Ask as AskValue, ask, reaching, load_kind as load_kind_of, page_asked};
+ghost use Rattle.mm_model.specs.Ask.{Ask as AskValue, ask, reaching, page_asked};
 ghost use Rattle.mm_model.specs.Ask.Ask.{MapPage};
 ghost use Rattle.mm_model.specs.Memory.{cell_at, is_mapped as is_mapped_in};
 ghost use Rattle.mm_model.specs.Slot.{register as register_of};
@@ -18,7 +18,8 @@ use mm_isa::{Instr, Reg, read};
 use mm_machine::Machine;
 use mm_mem::{Inspect, Memory};
 use mm_model::Slot;
-use mm_word::{Access, Cause, Cell, Kind, Perm, Post, Word, check};
+use mm_thread::load_kind;
+use mm_word::{Access, Cause, Cell, Kind, Perm, Word, check};
 
 /// What an instruction asks for besides its slot, as it is before the turn.
 #[derive(Drop)]
@@ -126,15 +127,6 @@ fn access_there<M: Inspect>(machine: &Machine<M>, access: Result<Access, Cause>)
     match access {
         Ok(access) => cell_there(machine, access),
         Err(_) => There::Nothing,
-    }
-}
-
-pub(crate) fn load_kind(post: Post) -> Kind
-    ensures { result ≡ load_kind_of post }
-{
-    match post {
-        Post::Keep => Kind::Load,
-        Post::Full | Post::Empty => Kind::LoadSet,
     }
 }
 

@@ -44,7 +44,7 @@ pub(crate) fn write_pointer(line: &mut Line, slot: u8, ip: GuardedPtr, past: boo
 }
 
 /// Appends `state S STATE`.
-pub(crate) fn put_standing<O: Sink>(text: &mut Gather, out: &mut O, slot: u8, state: SlotState)
+pub(crate) fn put_slot_state<O: Sink>(text: &mut Gather, out: &mut O, slot: u8, state: SlotState)
     ensures { Gathers O.taken O.faults out.old out.new text.old text.new (line_text (Enters slot state)) }
 {
     put_front(text, out, "state ", slot);

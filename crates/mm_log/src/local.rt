@@ -20,15 +20,16 @@ ghost use Rattle.mm_log.specs.Local.{cell_asked as cell_asked_of, pointer_left, 
 ghost use Rattle.mm_log.specs.Local.{slot_left, told_of, cell_left, local_seen};
 
 use crate::after::{put_out, put_queued, put_reached};
-use crate::before::{cell_of, instruction_of, load_kind, word_of};
-use crate::lines::{put_standing, write_pointer};
-use crate::slots::{is_same_bit, is_same_pointer, is_same_word, put_loads, write_register_now};
+use crate::before::{cell_of, instruction_of, word_of};
+use crate::lines::{put_slot_state, write_pointer};
+use crate::slots::{is_same_bit, is_same_pointer, put_loads, write_register_now};
 use mm_io::Sink;
 use mm_isa::{Instr, Reg};
 use mm_machine::Machine;
 use mm_mem::{Inspect, Memory};
-use mm_model::{Slot, SlotState, Tick};
+use mm_model::{Slot, SlotState, Tick, is_same_word};
 use mm_text::{Gather, Line};
+use mm_thread::load_kind;
 use mm_word::{Access, Cause, Cell, GuardedPtr, Kind, Word, check};
 
 /// Which registers of its slot an instruction writes.
@@ -269,7 +270,7 @@ fn put_stop<O: Sink>(text: &mut Gather, out: &mut O, now: &Slot)
 {
     match now.state {
         SlotState::Running => {}
-        state => put_standing(text, out, now.number, state),
+        state => put_slot_state(text, out, now.number, state),
     }
 }
 

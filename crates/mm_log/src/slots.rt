@@ -13,18 +13,11 @@ ghost use Rattle.mm_log.specs.Changes.{pointer_changes, same_state as same_state
 ghost use Rattle.mm_log.specs.Changes.{register_changes, slot_changes as slot_changes_of};
 ghost use Rattle.mm_log.specs.Log.{text_of};
 
-use crate::lines::{put_load, put_pointer, put_standing, write_empty, write_register};
+use crate::lines::{put_load, put_pointer, put_slot_state, write_empty, write_register};
 use mm_io::Sink;
-use mm_model::{Pending, Slot, SlotState};
+use mm_model::{Pending, Slot, SlotState, is_same_word};
 use mm_text::{Gather, Line};
 use mm_word::{GuardedPtr, Word};
-
-// Whether two words are equal in tag and bits.
-pub(crate) fn is_same_word(a: Word, b: Word) -> bool
-    ensures { result ≡ same_word_of a b }
-{
-    a == b
-}
 
 // Whether two pointers are equal in bits.
 pub(crate) fn is_same_pointer(a: GuardedPtr, b: GuardedPtr) -> bool
@@ -66,7 +59,7 @@ fn put_state_change<O: Sink>(text: &mut Gather, out: &mut O, was: &Slot, now: &S
     ensures { Gathers O.taken O.faults out.old out.new text.old text.new (text_of (state_changes was.now now.now)) }
 {
     if !is_same_state(was.state, now.state) {
-        put_standing(text, out, now.number, now.state);
+        put_slot_state(text, out, now.number, now.state);
     }
 }
 

@@ -41,9 +41,6 @@ low_groups : (n : ℕ) (os : List Output) → AllByRecursion (λ (o : Output). o
 low_groups n [] h = tt
 low_groups n (o ∷ os) h = (h.0, low_groups n os h.1)
 
-pub no_outputs : (core : Core) (slots : List Slot) → OutputsBelow core slots 0 []
-no_outputs core slots = record { rising = λ k lt. absurd (omega arith); low = tt; used = tt; shown = λ g lt has. absurd (omega arith); said = tt }
-
 module _ (core : Core) (slots : List Slot) (n : ℕ) (os : List Output) (so_far : OutputsBelow core slots n os) where
   higher : AllByRecursion (λ (o : Output). o.group < n + 1) os
   higher = each_map (λ (o : Output). o.group < n) (λ (o : Output). o.group < n + 1) (λ o lt. omega arith) os so_far.low

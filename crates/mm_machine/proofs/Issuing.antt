@@ -2,11 +2,12 @@
 use Rattle.std.proofs.Common.{◌≡◌, ℕ, ◌+◌, ◌-◌, ◌<◌, ◌≤◌, List, [], ◌∷◌, ◌++◌, length, take, get_or, Option, Some, None, inl, inr, refl, sym, ap, ◌∙◌, subst, arith, append-nil}
 use Rattle.std.proofs.lemmas.List.{take_more, take_all}
 use Rattle.std.proofs.lemmas.Bool.{cases_lt}
+use Rattle.std.specs.Option.{option_or}
 use Rattle.mm_mem.specs.declared.memory.Memory.{Ghosts}
 use Rattle.mm_model.specs.State.{State}
 use Rattle.mm_model.specs.Uses.{Use}
 use Rattle.mm_model.specs.declared.step.Step.{Step}
-use Rattle.mm_model.specs.Run.{after, run, uses, turn_of, next_running, or_else, robin_from, last_item}
+use Rattle.mm_model.specs.Run.{after, run, uses, turn_of, next_running, robin_from, last_item}
 use Rattle.mm_machine.specs.declared.machine.Machine.{Machine}
 use Rattle.mm_machine.specs.Machine.{state_of, Takes}
 use Rattle.mm_machine.specs.Going.{WentOn}
@@ -14,7 +15,7 @@ use Rattle.mm_machine.proofs.Rounds.{one_more, robin_step, robin_over, robin_end
 use Rattle.mm_machine.proofs.Went.{went_nowhere, went_further, last_more}
 
 module _ {M : Type 0} {memory : Ghosts M} where
-  -- so many cycles were issued, and round robin stands behind this slot
+  -- the machine after this count of cycles, with the slot that round robin issued last
   pub record IsAt (old now : Machine M memory) (items : List ℕ) (behind : Option ℕ) (count at : ℕ) (robin : Option ℕ) : Type 0 where
     -- in the list
     pub listed : at ≤ length items → WentOn old now (take at items) × (robin ≡ behind)
@@ -83,7 +84,7 @@ module _ {M : Type 0} {memory : Ghosts M} where
   pub cycle_more : (old mid new : Machine M memory) (items : List ℕ) (behind robin next : Option ℕ) (count at n : ℕ) → IsAt old mid items behind count at robin
       → at < length items + count
       → (at < length items → (Some n ≡ Some (get_or items at 0)) × (next ≡ robin))
-      → (length items ≤ at → (Some n ≡ next_running (state_of mid).core.rows robin) × (next ≡ or_else (Some n) robin))
+      → (length items ≤ at → (Some n ≡ next_running (state_of mid).core.rows robin) × (next ≡ option_or (Some n) robin))
       → state_of new ≡ after (state_of mid) n → Takes mid new (turn_of (state_of mid) n).uses → IsAt old new items behind count (at + 1) next
   cycle_more old mid new items behind robin next count at n so_far inside listed past is takes = elim (cases_lt at (length items)) [
     | inl lt ↦
@@ -107,12 +108,12 @@ module _ {M : Type 0} {memory : Ghosts M} where
 
   pub stops : (old now : Machine M memory) (items : List ℕ) (behind robin next : Option ℕ) (count at : ℕ) (o : Option ℕ) → IsAt old now items behind count at robin → o ≡ None
       → (at < length items → (o ≡ Some (get_or items at 0)) × (next ≡ robin))
-      → (length items ≤ at → (o ≡ next_running (state_of now).core.rows robin) × (next ≡ or_else o robin)) → Ends old now items behind count next
+      → (length items ≤ at → (o ≡ next_running (state_of now).core.rows robin) × (next ≡ option_or o robin)) → Ends old now items behind count next
   stops old now items behind robin next count at o so_far none listed past = elim (cases_lt at (length items)) [
     | inl lt ↦ let some = (listed lt).0 in absurd (cc)
     | inr ge ↦
         let (runs, same) = past (omega (arith, ge)) in
-        let stays : robin ≡ next = ap (λ (x : Option ℕ). or_else x robin) (sym none) ∙ sym same in
+        let stays : robin ≡ next = ap (λ (x : Option ℕ). option_or x robin) (sym none) ∙ sym same in
         subst (λ (last : Option ℕ). Ends old now items behind count last) stays
         (over old now items behind robin count at so_far (omega (arith, ge)) (robin_ends (state_of now) robin (length items + count - at) (sym runs ∙ none)))
   ]

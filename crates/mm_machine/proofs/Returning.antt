@@ -24,12 +24,14 @@ above_rows : (n : ℕ) (rows : List ThreadRow) → AllByRecursion (λ y. n < y) 
 above_rows n [] h = tt
 above_rows n (row ∷ rows) h = (h.0, above_rows n rows h.1)
 
-own_queues : (rows : List ThreadRow) → IsStrictlyIncreasing (numbers_of (map (λ (row : ThreadRow). row.slot) rows)) → AllByRecursion (λ (row : ThreadRow). queue_of (row_in rows row.slot.number) ≡ row.queue) rows
+own_queues : (rows : List ThreadRow) → IsStrictlyIncreasing (numbers_of (map (λ (row : ThreadRow). row.slot) rows))
+    → AllByRecursion (λ (row : ThreadRow). queue_of (row_in rows row.slot.number) ≡ row.queue) rows
 own_queues [] rising = tt
 own_queues (row ∷ rows) rising =
     let numbers : List ℕ = numbers_of (map (λ (x : ThreadRow). x.slot) rows) in (
       rw (same_test row.slot.number row.slot.number refl) refl,
-      each_both (λ (x : ThreadRow). row.slot.number < x.slot.number) (λ (x : ThreadRow). queue_of (row_in rows x.slot.number) ≡ x.queue) (λ (x : ThreadRow). queue_of (row_in (row ∷ rows) x.slot.number) ≡ x.queue)
+      each_both (λ (x : ThreadRow). row.slot.number < x.slot.number) (λ (x : ThreadRow). queue_of (row_in rows x.slot.number) ≡ x.queue)
+          (λ (x : ThreadRow). queue_of (row_in (row ∷ rows) x.slot.number) ≡ x.queue)
           (λ x up is. rw (other_test row.slot.number x.slot.number (λ e. omega arith)) is) rows
           (above_rows row.slot.number rows (above_first row.slot.number numbers rising))
           (own_queues rows (rest_rises row.slot.number numbers rising)),

@@ -14,7 +14,7 @@ use Rattle.mm_model.specs.Turn.{is_running}
 use Rattle.mm_model.specs.Run.{next_running}
 use Rattle.mm_machine.specs.Kept.{Kept}
 use Rattle.mm_sched.specs.Shown.{runs, Shows}
-use Rattle.mm_sched.specs.Following.{IsNext}
+use Rattle.mm_sched.specs.Following.{IsNextBit}
 use Rattle.mm_sched.proofs.Rounds.{next_shown, none_shown}
 
 -- 1. A slot runs where its state says so.
@@ -58,7 +58,7 @@ shows s mask masks = record {
 
 -- 4. What comes next in the mask is the next running slot, and where no bit is set none runs.
 
-pub next_is : (s : State) (mask : ℕ) (last : Option ℕ) (n : ℕ) → ∥ Kept s ∥₁ → Masks s mask → IsNext mask last n → next_running s.core.rows last ≡ Some n
+pub next_is : (s : State) (mask : ℕ) (last : Option ℕ) (n : ℕ) → ∥ Kept s ∥₁ → Masks s mask → IsNextBit mask last n → next_running s.core.rows last ≡ Some n
 next_is s mask last n kept masks next =
     ∥∥₁_elim kept (hlevel props) (λ k. next_shown s.core mask last n k.state.core.rising (shows s mask masks) next)
 
@@ -71,6 +71,6 @@ zero_of zero none = refl
 zero_of (suc n) none = let clash : false ≡ true = none (λ is. omega arith) in absurd (cc)
 
 -- what comes next in the mask of the running slots is the next running slot
-pub peeked : (s : State) (mask : ℕ) (last next : Option ℕ) → ∥ Kept s ∥₁ → Masks s mask → (IsSome next ↔ (mask ≢ 0)) → IfSome next (IsNext mask last) → next ≡ next_running s.core.rows last
+pub peeked : (s : State) (mask : ℕ) (last next : Option ℕ) → ∥ Kept s ∥₁ → Masks s mask → (IsSome next ↔ (mask ≢ 0)) → IfSome next (IsNextBit mask last) → next ≡ next_running s.core.rows last
 peeked s mask last None kept masks some is = sym (none_is s mask last kept masks (zero_of mask some.1))
 peeked s mask last (Some n) kept masks some is = sym (next_is s mask last n kept masks is)

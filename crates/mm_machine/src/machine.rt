@@ -1,6 +1,7 @@
 //! Machines, cycle by cycle.
 
 ghost use Rattle.std.specs.Prelude.{◌≡◌, ◌+◌, ◌*◌, ◌≤◌, ◌^◌};
+ghost use Rattle.std.specs.Option.{option_or};
 ghost use Rattle.mm_machine.specs.Kept.{Kept};
 
 use crate::Snapshot;
@@ -38,7 +39,7 @@ impl<M: Memory> Machine<M> {
     ghost use Rattle.mm_model.specs.Uses.{Use};
     ghost use Rattle.mm_model.specs.Image.{Image as ImageValue, start};
     ghost use Rattle.mm_model.specs.State.{slot_at, output_of};
-    ghost use Rattle.mm_model.specs.Run.{turn_of, after, run, next_running, or_else, robin_from, last_item};
+    ghost use Rattle.mm_model.specs.Run.{turn_of, after, run, next_running, robin_from, last_item};
     ghost use Rattle.mm_word.specs.declared.cause.Cause.{Cause};
     ghost use Rattle.mm_model.specs.declared.step.Tick.{Tick};
     ghost use Rattle.mm_model.specs.Slot.{Slot as SlotValue};
@@ -109,35 +110,41 @@ impl<M: Memory> Machine<M> {
         self.issue(items, None, 0, &mut step);
     }
 
-    /// Issues up to `count` cycles of round robin, fewer only if no slot runs. It begins after the slot `behind`, or
-    /// with the least if none is given. Gives the slot that was issued last, or `behind` if none was.
-    pub fn round_robin(&mut self, behind: Option<u8>, count: u64) -> Option<u8>
+    /// Issues up to `count` cycles of round robin, fewer only if no slot runs. It begins after the slot `previous`, or
+    /// with the least if none is given. Gives the slot that was issued last, or `previous` if none was.
+    pub fn round_robin(&mut self, previous: Option<u8>, count: u64) -> Option<u8>
         requires few { (state_of self.old).cycles + count ≤ 2 ^ 32 }
-        requires slot { IfSome behind (λ n. n < 64) }
-        ensures goes { WentOn self.old self.new (robin_from (state_of self.old) behind count) }
-        ensures last { result ≡ last_item behind (robin_from (state_of self.old) behind count) }
+        requires slot { IfSome previous (λ n. n < 64) }
+        ensures goes { WentOn self.old self.new (robin_from (state_of self.old) previous count) }
+        ensures last { result ≡ last_item previous (robin_from (state_of self.old) previous count) }
         ensures slot { IfSome result (λ n. n < 64) }
         ensures ports { ports_used self.new ≡ ports_used self.old }
     {
         let mut step = no_step();
-        self.issue(&[], behind, count, &mut step)
+        self.issue(&[], previous, count, &mut step)
     }
 
     /// Issues the items of a list, and then up to `count` cycles of round robin as [`Machine::round_robin`] does. If a
     /// single item is issued, its step is written.
     ///
     /// Every cycle passes here, so that a turn has one caller, into whose loop the compiler puts it.
-    fn issue(&mut self, items: &[u8], behind: Option<u8>, count: u64, step: &mut Step) -> Option<u8>
+    fn issue(
+        &mut self,
+        items: &[u8],
+        previous: Option<u8>,
+        count: u64,
+        step: &mut Step,
+    ) -> Option<u8>
         requires few { (state_of self.old).cycles + (length items.now + count) ≤ 2 ^ 32 }
-        requires slot { IfSome behind (λ n. n < 64) }
+        requires slot { IfSome previous (λ n. n < 64) }
         ensures goes { WentOn self.old self.new
-            (items.now ++ robin_from (run (state_of self.old) items.now) behind count) }
-        ensures last { result ≡ last_item behind (robin_from (run (state_of self.old) items.now) behind count) }
+            (items.now ++ robin_from (run (state_of self.old) items.now) previous count) }
+        ensures last { result ≡ last_item previous (robin_from (run (state_of self.old) items.now) previous count) }
         ensures slot { IfSome result (λ n. n < 64) }
         ensures step { (n : ℕ) → items.now ≡ n ∷ [] → count ≡ 0 → step.new ≡ (turn_of (state_of self.old) n).step }
         ensures ports { ports_used self.new ≡ ports_used self.old }
     {
-        let mut last = behind;
+        let mut last = previous;
         let total = items.len() as u64 + count;
         for at in 0..total {
             let Some(item) = self.next_item(items, at, &mut last) else {
@@ -157,8 +164,8 @@ impl<M: Memory> Machine<M> {
     fn next_item(&self, items: &[u8], at: u64, last: &mut Option<u8>) -> Option<u8>
         requires slot { IfSome last.old (λ n. n < 64) }
         ensures listed { at < length items.now → (result ≡ Some (slice_index items.now at)) × (last.new ≡ last.old) }
-        ensures behind { length items.now ≤ at → (result ≡ next_running (state_of self.now).core.rows last.old)
-            × (last.new ≡ or_else result last.old) }
+        ensures robin { length items.now ≤ at → (result ≡ next_running (state_of self.now).core.rows last.old)
+            × (last.new ≡ option_or result last.old) }
         ensures slot { IfSome last.new (λ n. n < 64) }
     {
         if at < items.len() as u64 {

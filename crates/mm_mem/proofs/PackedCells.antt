@@ -15,10 +15,10 @@ use Rattle.mm_word.specs.declared.word.Cell.{Cell}
 use Rattle.mm_word.specs.Pointer.{SpellsPointer}
 use Rattle.mm_word.specs.Word.{IsWord, word_bits, is_pointer}
 use Rattle.mm_word.proofs.Packing.{pointer_of-bits_of, SpellsPointer-bits_of}
-use Rattle.mm_model.specs.Flags.{one_if, number_of_flags}
+use Rattle.mm_model.specs.Flags.{one_if, number_of_flags, bit_of}
 use Rattle.mm_model.specs.Memory.{zero_cell}
 use Rattle.mm_model.proofs.ImageBytes.Apart.{number_of_flags-below, flag-get}
-use Rattle.mm_mem.specs.Packed.{bit_of, word_of, cell_from, cell_of_block, block_of, IsPackedBlock}
+use Rattle.mm_mem.specs.Packed.{word_of, cell_from, cell_of_block, block_of, IsPackedBlock}
 use Rattle.mm_mem.specs.Unpacked.{words_of, tags_of, fulls_of}
 
 -- 1. Words.

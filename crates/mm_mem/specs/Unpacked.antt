@@ -8,11 +8,11 @@ use Rattle.mm_word.specs.declared.word.Cell.{Cell}
 use Rattle.mm_word.specs.Pointer.{SpellsPointer}
 use Rattle.mm_word.specs.PointerBits.{bits_of-pointer_of}
 use Rattle.mm_word.specs.Word.{word_bits, is_pointer}
-use Rattle.mm_model.specs.Flags.{number_of_flags}
+use Rattle.mm_model.specs.Flags.{number_of_flags, bit_of}
 use Rattle.mm_model.proofs.ImageBytes.Bitmaps.{number_of_bits}
 use Rattle.mm_model.proofs.ImageBytes.Ranges.{map-map, map-same}
 use Rattle.mm_mem.specs.declared.block.Block.TheInside.{Inside}
-use Rattle.mm_mem.specs.Packed.{bit_of, word_of, cell_of_block, block_of, IsPackedBlock}
+use Rattle.mm_mem.specs.Packed.{word_of, cell_of_block, block_of, IsPackedBlock}
 
 -- the 64 bits of each cell's word
 abbrev pub words_of : List Cell → List ℕ

@@ -5,8 +5,9 @@ ghost use Rattle.std.specs.List.{AllByRecursion};
 ghost use Rattle.mm_word.specs.declared.word.Cell.{Cell as CellValue};
 ghost use Rattle.mm_word.specs.Pointer.{SpellsPointer};
 ghost use Rattle.mm_word.specs.Word.{IsWord};
-ghost use Rattle.mm_mem.specs.Packed.{bit_of, word_of};
+ghost use Rattle.mm_mem.specs.Packed.{word_of};
 ghost use Rattle.mm_mem.specs.Unpacked.{words_of, tags_of, fulls_of};
+ghost use Rattle.mm_model.specs.Flags.{bit_of};
 
 use mm_word::{Cell, GuardedPtr, Word};
 

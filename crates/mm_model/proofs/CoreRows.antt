@@ -201,14 +201,17 @@ pub queue_at-put_other : (core : Core) (n : ℕ) (q : List Event) (m : ℕ) → 
 unfolding queue_at put_queue
 queue_at-put_other core n q m ne = ap queue_of (row_kept n (λ (row : ThreadRow). record row { queue = q }) (λ row e. e) core.rows m ne)
 
-slots_kept : (n : ℕ) (q : List Event) (rows : List ThreadRow) → map (λ (row : ThreadRow). row.slot) (map (at_number n (λ (row : ThreadRow). record row { queue = q })) rows) ≡ map (λ (row : ThreadRow). row.slot) rows
+slots_kept : (n : ℕ) (q : List Event) (rows : List ThreadRow)
+    → map (λ (row : ThreadRow). row.slot) (map (at_number n (λ (row : ThreadRow). record row { queue = q })) rows) ≡ map (λ (row : ThreadRow). row.slot) rows
 slots_kept n q [] = refl
 slots_kept n q (row ∷ rows) = elim (cases_eq row.slot.number n) [
   | inl e ↦
-      ap (λ (r : ThreadRow). r.slot ∷ map (λ (x : ThreadRow). x.slot) (map (at_number n (λ (x : ThreadRow). record x { queue = q })) rows)) (at_here n (λ (x : ThreadRow). record x { queue = q }) row e)
+      ap (λ (r : ThreadRow). r.slot ∷ map (λ (x : ThreadRow). x.slot) (map (at_number n (λ (x : ThreadRow). record x { queue = q })) rows))
+      (at_here n (λ (x : ThreadRow). record x { queue = q }) row e)
       ∙ ap (λ (xs : List Slot). row.slot ∷ xs) (slots_kept n q rows)
   | inr ne ↦
-      ap (λ (r : ThreadRow). r.slot ∷ map (λ (x : ThreadRow). x.slot) (map (at_number n (λ (x : ThreadRow). record x { queue = q })) rows)) (at_other n (λ (x : ThreadRow). record x { queue = q }) row ne)
+      ap (λ (r : ThreadRow). r.slot ∷ map (λ (x : ThreadRow). x.slot) (map (at_number n (λ (x : ThreadRow). record x { queue = q })) rows))
+      (at_other n (λ (x : ThreadRow). record x { queue = q }) row ne)
       ∙ ap (λ (xs : List Slot). row.slot ∷ xs) (slots_kept n q rows)
 ]
 

@@ -312,11 +312,6 @@ found_whole q cells (e ∷ es) h is =
 pub page_whole : (m : Memory) → IsPaged m → (q : ℕ) (cells : List Cell) → page_at m q ≡ Some cells → IsPage (q, cells)
 page_whole m h q cells is = found_whole q cells m.pages h.pages.whole is
 
-get_within : {A : Type 0} (xs : List A) (n : ℕ) → n < length xs → (x : A) × (slice_get xs n ≡ Some x)
-get_within [] n lt = absurd (omega arith)
-get_within (z ∷ zs) zero lt = (z, refl)
-get_within (z ∷ zs) (suc n) lt = get_within zs n (omega arith)
-
 put_rising : (k : ℕ) (v : List Cell) (es : List (ℕ × List Cell)) → IsTrue (is_sorted nat_cmp es) → IsTrue (is_sorted nat_cmp (put nat_cmp k v es))
 put_rising k v es h = truth (is_sorted nat_cmp (put nat_cmp k v es)) (is_sorted-put nat_cmp nat_cmp_total k v es (subst T (sym h) tt))
 

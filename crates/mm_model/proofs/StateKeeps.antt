@@ -46,7 +46,8 @@ use Rattle.mm_model.proofs.TurnShapes.{decoded_instr, TurnShape, turn_shape}
 
 -- 1. Words of rows.
 
-each_changed : (P : ThreadRow → Type 0) (n : ℕ) (f : ThreadRow → ThreadRow) → ((row : ThreadRow) → P row → P (f row)) → (rows : List ThreadRow) → AllByRecursion P rows → AllByRecursion P (map (at_number n f) rows)
+each_changed : (P : ThreadRow → Type 0) (n : ℕ) (f : ThreadRow → ThreadRow) → ((row : ThreadRow) → P row → P (f row))
+    → (rows : List ThreadRow) → AllByRecursion P rows → AllByRecursion P (map (at_number n f) rows)
 each_changed P n f keeps [] h = tt
 each_changed P n f keeps (row ∷ rows) h = (by (nat_eq row.slot.number n), each_changed P n f keeps rows h.1)
   where

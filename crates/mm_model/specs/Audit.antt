@@ -5,6 +5,8 @@ use Rattle.std.specs.List.{flat_map, AllByRecursion}
 use Rattle.mm_word.specs.Perm.{can_load, can_store}
 use Rattle.mm_word.specs.Pointer.{Pointer, InSegment, base_of}
 use Rattle.mm_word.specs.declared.perm.Perm.{Perm}
+use Rattle.mm_model.specs.declared.word_use.WordUse.{WordUse}
+use Rattle.mm_model.specs.declared.word_use.WordUse.TheVariants.{Touch, Write}
 use Rattle.mm_model.specs.Digits.{hex}
 use Rattle.mm_model.specs.Lines.{newline}
 use Rattle.mm_model.specs.Slot.{Slot}
@@ -39,8 +41,15 @@ pub record MaximalSegments (i : Image) (e : Entries) (g : ℕ) (right : Perm →
   pub ascending : AllByRecursion (λ (pair : Segment × Segment). pair.0.0 < pair.1.0) (zip list (drop 1 list))
   pub each : (segment : Segment) → Contains list segment ↔ MaximalSegment i e g right segment
 
-abbrev pub segment_line : List ℕ → Segment → List ℕ
-segment_line name segment = name ++ codes " " ++ hex 14 segment.0 ++ codes " " ++ decimal segment.1 ++ newline
+-- the name of a use
+abbrev pub use_text : WordUse → List ℕ
+use_text Touch = codes "touch"
+use_text Write = codes "write"
+
+-- the line of a segment whose words the group can use in this way
+abbrev pub segment_line : WordUse → Segment → List ℕ
+segment_line how segment =
+    use_text how ++ codes " " ++ hex 14 segment.0 ++ codes " " ++ decimal segment.1 ++ newline
 
 -- 2. Whether groups are apart.
 
@@ -109,8 +118,8 @@ pub record AuditOf (i : Image) (g : ℕ) (text : List ℕ) : Type 0 where
   pub privileged_is : (privileged ≡ true) ↔ Privileged i All g
   pub touch_is : MaximalSegments i All g can_load touch
   pub write_is : MaximalSegments i All g can_store write
-  pub is : text ≡ kind_line g privileged ++ flat_map (segment_line (codes "touch")) touch
-      ++ flat_map (segment_line (codes "write")) write
+  pub is : text ≡ kind_line g privileged ++ flat_map (segment_line Touch) touch
+      ++ flat_map (segment_line Write) write
 
 -- the texts of these groups, each with its own apart line
 pub data AuditEach (i : Image) : List ℕ → List ℕ → Type 0 where

@@ -1,5 +1,5 @@
 -- Flags as numbers, and numbers as lists of flags, the lowest bit first.
-use Rattle.std.specs.Prelude.{ℕ, zero, suc, ◌+◌, ◌*◌, ◌/◌, ◌%◌, ◌==◌, Bool, if◌then◌else◌, List, [], ◌∷◌}
+use Rattle.std.specs.Prelude.{ℕ, zero, suc, ◌+◌, ◌*◌, ◌/◌, ◌%◌, ◌^◌, ◌==◌, Bool, if◌then◌else◌, List, [], ◌∷◌}
 
 abbrev pub one_if : Bool → ℕ
 one_if b = if b then 1 else 0
@@ -13,3 +13,7 @@ flags (suc k) n = (n % 2 == 1) ∷ flags k (n / 2)
 abbrev pub number_of_flags : List Bool → ℕ
 number_of_flags [] = 0
 number_of_flags (b ∷ bs) = one_if b + 2 * number_of_flags bs
+
+-- flag i of a number
+abbrev pub bit_of : (n i : ℕ) → Bool
+bit_of n i = n / 2 ^ i % 2 == 1

@@ -11,6 +11,7 @@ pub mod Effect
 pub mod Turn
 pub mod Run
 pub mod Digits
+pub mod Limits
 pub mod Lines
 pub mod Report
 pub mod Spelling

@@ -98,12 +98,13 @@ report s image counts =
     cycles_line s.cycles ++ sections s.core ++ page_lines s.memory image.memory ++ cell_lines s.memory image.memory
     ++ count_line counts
 
--- 7. The report of a run, over a memory of which it is known what it tells of uses.
+-- 7. The reports of runs, given what the memory tells of uses.
 
--- the report of the state that items lead to from another state, with what the memory tells of their uses alone
+-- the report, against an image, of the state to which items lead from a state, with what the memory tells of these
+-- items' uses alone
 abbrev pub further_report : (List Use → Option Counts) → Image → State → List ℕ → List ℕ
 further_report tells i s items = report (run s items) i (tells (uses s items))
 
--- the report of an image's run
+-- the report of an image's run under these items
 abbrev pub report_after : (List Use → Option Counts) → Image → List ℕ → List ℕ
 report_after tells i items = further_report tells i (start i) items

@@ -1,6 +1,7 @@
 -- Cycles, runs and round robin.
 use Rattle.std.specs.Prelude.{ℕ, zero, suc, ◌+◌, Bool, true, nat_lt, if◌then◌else◌, List, [], ◌∷◌, ◌++◌, Option, Some}
 use Rattle.std.specs.Prelude.{None}
+use Rattle.std.specs.Option.{option_or}
 use Rattle.mm_model.specs.declared.step.Step.{Step}
 use Rattle.mm_model.specs.Uses.{Use}
 use Rattle.mm_model.specs.State.{State, ThreadRow}
@@ -41,17 +42,13 @@ first_running passes (row ∷ rows) =
     then (if passes row.slot.number then Some row.slot.number else first_running passes rows)
     else first_running passes rows
 
-abbrev pub or_else : Option ℕ → Option ℕ → Option ℕ
-or_else None other = other
-or_else (Some n) other = Some n
-
 abbrev pub any_number : ℕ → Bool
 any_number n = true
 
 -- the next running slot after the last one, cyclically by number; at the beginning the least
 abbrev pub next_running : List ThreadRow → Option ℕ → Option ℕ
 next_running rows None = first_running any_number rows
-next_running rows (Some last) = or_else (first_running (nat_lt last) rows) (first_running any_number rows)
+next_running rows (Some last) = option_or (first_running (nat_lt last) rows) (first_running any_number rows)
 
 abbrev pub then_issued : Option ℕ → (ℕ → List ℕ) → List ℕ
 then_issued None rest = []

@@ -15,7 +15,7 @@ pub record Slot : Type 0 where
   pub past : Bool
   pub turns : ℕ
   pub state : SlotState
-  -- which registers wait for a pending load
+  -- a flag for each register: whether it waits for a pending load
   pub empty : List Bool
   -- the pending loads, oldest first
   pub pending : List Pending

@@ -1,5 +1,5 @@
 -- Whether links keep their rules with one more.
-use Rattle.std.proofs.Common.{◌≡◌, ℕ, zero, suc, ◌+◌, ◌<◌, ◌≤◌, ◌⊎◌, inl, inr, Bool, true, false, not, ◌==◌, ◌&&◌, ◌||◌}
+use Rattle.std.proofs.Common.{◌≡◌, ℕ, zero, suc, ◌+◌, ◌<◌, ◌⊎◌, inl, inr, Bool, true, false, not, ◌==◌, ◌&&◌, ◌||◌}
 use Rattle.std.proofs.Common.{List, [], ◌∷◌, ◌++◌, length, get_or, refl, sym, ap, ◌∙◌, subst, arith, append_assoc}
 use Rattle.std.proofs.Math.ListN.{get_or-append}
 use Rattle.std.proofs.Math.Seq.{get_or-append_seam}
@@ -102,9 +102,6 @@ one_more links l are range few differ takes puts = record {
 }
 
 -- why links do not keep their rules with one more
-
-pub full : (links : List Link) (l : Link) → 64 ≤ length links → AreLinks (links ++ l ∷ []) → ⊥
-full links l many are = omega (arith, are.limit, length-append links (l ∷ []))
 
 apart_of : (links : List Link) (l : Link) → AreLinks (links ++ l ∷ []) → Apart (ends links ++ pair l.from l.take ∷ pair l.to l.put ∷ [])
 apart_of links l are = subst Apart (ends_both links (l ∷ [])) are.once

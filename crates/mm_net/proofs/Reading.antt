@@ -3,6 +3,7 @@ use Rattle.std.proofs.Common.{◌≡◌, ℕ, ◌≤◌, false, ◌⊎◌, inl, 
 use Rattle.std.proofs.Math.ListN.{drop_of_length-le}
 use Rattle.mm_model.specs.Schedule.{runs_of}
 use Rattle.mm_sched.specs.Places.{runs_in}
+use Rattle.mm_sched.proofs.Texts.{Behind, two_splits}
 use Rattle.mm_net.specs.declared.fault.NetError.{NetError}
 use Rattle.mm_net.specs.declared.fault.NetError.TheVariants.{Fault, NoMemory}
 use Rattle.mm_net.specs.Words.{Lists, TextMeans, TextFaultsAt}
@@ -95,27 +96,6 @@ pub never_both : {A : Type 0} (Says : List ℕ → List A → Type 0) (Keeps : L
 never_both {A = A} Says Keeps g text items place means fault =
     let lists : Lists Says (fault.before ++ (place, fault.word) ∷ fault.behind) items = subst (λ (runs : Runs). Lists Says runs items) fault.split means.lists in
     no_fault Says Keeps g fault.before fault.behind place fault.word items fault.items lists means.rules fault.lists fault.fault
-
--- two ways to split a list: at one place, or one behind the other
-
-record Behind (before other : Runs) (w : ℕ × List ℕ) : Type 0 where
-  between : Runs
-  split : other ≡ before ++ w ∷ between
-
-two_splits : (a b : Runs) (w v : ℕ × List ℕ) (c d : Runs) → a ++ w ∷ c ≡ b ++ v ∷ d → (w ≡ v) ⊎ Behind a b w ⊎ Behind b a v
-two_splits [] [] w v c d e = inl (cc)
-two_splits [] (x ∷ b) w v c d e = inr (inl (record { between = b; split = let h : x ≡ w = cc in ap (λ (y : ℕ × List ℕ). y ∷ b) h }))
-two_splits (x ∷ a) [] w v c d e = inr (inr (record { between = a; split = let h : x ≡ v = cc in ap (λ (y : ℕ × List ℕ). y ∷ a) h }))
-two_splits (x ∷ a) (y ∷ b) w v c d e =
-    let head : x ≡ y = cc in
-    let tail : a ++ w ∷ c ≡ b ++ v ∷ d = cc in
-    elim (two_splits a b w v c d tail) [
-      | inl same ↦ inl same
-      | inr f ↦ elim f [
-        | inl g ↦ inr (inl (record { between = g.between; split = ap (λ (xs : Runs). y ∷ xs) g.split ∙ ap (λ (z : ℕ × List ℕ). z ∷ (a ++ w ∷ g.between)) (sym head) }))
-        | inr g ↦ inr (inr (record { between = g.between; split = ap (λ (xs : Runs). x ∷ xs) g.split ∙ ap (λ (z : ℕ × List ℕ). z ∷ (b ++ v ∷ g.between)) head }))
-      ]
-    ]
 
 -- no fault stands before another
 fault_behind : {A : Type 0} (Says : List ℕ → List A → Type 0) (Keeps : List A → Type 0) → IsGrammar Says Keeps → (text : List ℕ) (p q : ℕ)

@@ -75,11 +75,6 @@ after_sent links s (Turn n item) = turn_sent s n item (slice_get s.nodes n)
 after_sent links s (Send l) = send_sent s l (slice_get links l)
 after_sent links s (Carry l k) = carry_sent s l k (slice_get links l)
 
-at_most_one : (item : NetItem) → sends item ≤ 1
-at_most_one (Turn n item) = omega arith
-at_most_one (Send l) = omega arith
-at_most_one (Carry l k) = omega arith
-
 -- after a list of items: as many as these send at most
 pub run_sent : (links : List Link) (s : NetState) (items : List NetItem) → sent_count (net_run links s items) ≤ sent_count s + sum_by sends items
 unfolding net_run

@@ -3,8 +3,8 @@
 ghost use Rattle.std.specs.Prelude.{◌≡◌, ◌⊎◌, ℕ, List, ◌++◌, replicate, IfOk, OnOk, Ok, Err};
 ghost use Rattle.mm_net.specs.Events.{Means, FaultsAt};
 
-use crate::event::event;
-use crate::read::{TextItem, read_items};
+use crate::event_words::event;
+use crate::item_texts::{TextItem, read_items};
 use crate::{NetError, NetItem};
 use mm_sched::ITEM_LIMIT;
 use mm_word::NoMemory;

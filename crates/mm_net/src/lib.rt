@@ -2,20 +2,20 @@
 //! the text of the links and the text of the events.
 #![tactic(auto)]
 
-mod end;
-mod event;
+mod event_words;
 mod events;
 mod fault;
 mod item;
+mod item_texts;
 pub mod laws;
 mod link;
+mod link_words;
 mod links;
 mod net;
-mod read;
-mod summary;
+mod net_text;
 mod tick;
 mod wire;
-mod words;
+mod word_parts;
 
 pub use events::{Events, read_events};
 pub use fault::NetError;
@@ -23,5 +23,5 @@ pub use item::NetItem;
 pub use link::Link;
 pub use links::{LINK_LIMIT, Links, read_links};
 pub use net::Net;
-pub use summary::report;
+pub use net_text::report;
 pub use tick::NetTick;

@@ -5,8 +5,8 @@ ghost use Rattle.std.specs.List.{list_any};
 ghost use Rattle.mm_net.specs.Links.{IsLink, AreLinks, Means, FaultsAt};
 ghost use Rattle.mm_net.specs.Marks.{has_end};
 
-use crate::end::link;
-use crate::read::{TextItem, read_items};
+use crate::item_texts::{TextItem, read_items};
+use crate::link_words::link;
 use crate::{Link, NetError};
 use mm_word::NoMemory;
 use std::alloc::Global;

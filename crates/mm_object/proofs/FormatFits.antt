@@ -27,7 +27,7 @@ use Rattle.mm_object.specs.declared.thread.Value.{Value}
 use Rattle.mm_object.specs.declared.thread.Value.TheVariants.{Int, Ptr}
 use Rattle.mm_object.specs.declared.thread.Thread.{Thread}
 use Rattle.mm_object.specs.Names.{is_name, has_form, is_before}
-use Rattle.mm_object.specs.Objects.{Segment, Object, IsSegment, IsNumber, IsObject, word_limit, least_log, greatest_log}
+use Rattle.mm_object.specs.Objects.{Segment, Object, IsSegment, IsNumber, IsObject, least_log, greatest_log}
 use Rattle.mm_object.specs.Objects.{words_of, names_of, is_among, are_apart, ascend, is_target, is_reloc, place_of}
 use Rattle.mm_object.specs.Objects.{is_value, is_handler, is_thread, targets_of}
 use Rattle.mm_object.specs.Spelling.{is_tagged}
@@ -40,6 +40,7 @@ use Rattle.mm_object.proofs.BitmapBytes.{length-bitmap, bit_is, none_unused_is}
 use Rattle.mm_object.proofs.Bools.{none_of}
 use Rattle.mm_object.proofs.Bounds.{pow_up, target_small, reloc_small}
 use Rattle.mm_object.proofs.FormatIs.{no_late}
+use Rattle.mm_model.specs.Limits.{word_limit}
 
 -- 1. Names.
 

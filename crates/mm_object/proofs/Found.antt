@@ -15,10 +15,11 @@ use Rattle.std.proofs.lemmas.List.Sorted.{searchable_from_sorted}
 use Rattle.mm_object.specs.declared.target.Reloc.{Reloc}
 use Rattle.mm_word.specs.declared.perm.Perm.TheVariants.{Key}
 use Rattle.mm_object.specs.declared.item.Item.{Item}
-use Rattle.mm_object.specs.Objects.{Segment, place_of, words_of, word_limit, is_reloc, is_zero, item_of, is_target}
+use Rattle.mm_object.specs.Objects.{Segment, place_of, words_of, is_reloc, is_zero, item_of, is_target}
 use Rattle.mm_object.specs.Lookups.{is_at, HaveSmallWords}
 use Rattle.mm_model.proofs.ImageBytes.Rising.{both}
 use Rattle.mm_object.proofs.Bools.{is_false}
+use Rattle.mm_model.specs.Limits.{word_limit}
 
 -- 1. The first item that passes a test.
 

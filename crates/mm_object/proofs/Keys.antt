@@ -11,7 +11,7 @@ use Rattle.std.proofs.lemmas.Cmp.{same_from_slice_cmp}
 use Rattle.std.proofs.lemmas.List.Folds.{list_any_more}
 use denote.Ref.{Bor}
 use Rattle.mm_object.specs.Objects.{Segment, same_name, is_among, names_of}
-use Rattle.mm_object.specs.Steps.{bytes_of, AreTheSame}
+use Rattle.mm_object.specs.Steps.{key_names, AreTheSame}
 use Rattle.mm_object.proofs.Among.{same_name-Decides, has_name, among-names}
 
 is_equal : (a b : List ℕ) → is_eq (slice_cmp nat_cmp a b) ≡ same_name a b
@@ -20,7 +20,7 @@ is_equal a b = same_from_slice_cmp nat_cmp is_eq same_name refl (λ _ _. refl) (
 abbrev order_of : Bor (List ℕ) → Bor (List ℕ) → Ordering
 order_of a b = slice_cmp nat_cmp a.now b.now
 
-pub contained : (keys : List (Bor (List ℕ))) (name : List ℕ) → list_any (λ (k : Bor (List ℕ)). is_eq (slice_cmp nat_cmp name k.now)) keys ≡ is_among name (bytes_of keys)
+pub contained : (keys : List (Bor (List ℕ))) (name : List ℕ) → list_any (λ (k : Bor (List ℕ)). is_eq (slice_cmp nat_cmp name k.now)) keys ≡ is_among name (key_names keys)
 contained [] name = refl
 contained (x ∷ keys) name = ap (λ b. b || list_any (λ (k : Bor (List ℕ)). is_eq (slice_cmp nat_cmp name k.now)) keys) (is_equal name x.now) ∙ ap (λ b. same_name name x.now || b) (contained keys name)
 
@@ -40,27 +40,27 @@ turned false true = refl
 turned false false = refl
 
 -- a key more
-key_more : (keys : List (Bor (List ℕ))) (k : Bor (List ℕ)) (name : List ℕ) → is_among name (bytes_of (insert_key order_of keys k)) ≡ (same_name name k.now || is_among name (bytes_of keys))
+key_more : (keys : List (Bor (List ℕ))) (k : Bor (List ℕ)) (name : List ℕ) → is_among name (key_names (insert_key order_of keys k)) ≡ (same_name name k.now || is_among name (key_names keys))
 key_more [] k name = refl
 key_more (x ∷ keys) k name = by (order_of k x) (is_equal k.now x.now) (key_more keys k name)
   where
     by : (o : Ordering) → is_eq o ≡ same_name k.now x.now
-        → is_among name (bytes_of (insert_key order_of keys k)) ≡ (same_name name k.now || is_among name (bytes_of keys))
-        → is_among name (bytes_of (match_ordering o (k ∷ x ∷ keys) (x ∷ keys) (x ∷ insert_key order_of keys k))) ≡ (same_name name k.now || (same_name name x.now || is_among name (bytes_of keys)))
+        → is_among name (key_names (insert_key order_of keys k)) ≡ (same_name name k.now || is_among name (key_names keys))
+        → is_among name (key_names (match_ordering o (k ∷ x ∷ keys) (x ∷ keys) (x ∷ insert_key order_of keys k))) ≡ (same_name name k.now || (same_name name x.now || is_among name (key_names keys)))
     by Less e later = refl
     by Equal e later =
         let same : k.now ≡ x.now = (same_name-Decides k.now x.now).0 (sym e) in
-        twice (same_name name x.now) (is_among name (bytes_of keys)) ∙ ap (λ (n : List ℕ). same_name name n || (same_name name x.now || is_among name (bytes_of keys))) (sym same)
-    by Greater e later = ap (λ b. same_name name x.now || b) later ∙ swapped (same_name name x.now) (same_name name k.now) (is_among name (bytes_of keys))
+        twice (same_name name x.now) (is_among name (key_names keys)) ∙ ap (λ (n : List ℕ). same_name name n || (same_name name x.now || is_among name (key_names keys))) (sym same)
+    by Greater e later = ap (λ b. same_name name x.now || b) later ∙ swapped (same_name name x.now) (same_name name k.now) (is_among name (key_names keys))
 
 -- the name of one segment more
 pub segment_known : (old new : List (Bor (List ℕ))) (k : Bor (List ℕ)) (segments : List Segment) (i : ℕ) (s : Segment)
     → s ≡ get_or segments i s → i < length segments → k.now ≡ s.name → new ≡ insert_key order_of old k
-    → AreTheSame (bytes_of old) (names_of (take i segments)) → AreTheSame (bytes_of new) (names_of (take (i + 1) segments))
+    → AreTheSame (key_names old) (names_of (take i segments)) → AreTheSame (key_names new) (names_of (take (i + 1) segments))
 segment_known old new k segments i s is lt same more before = λ name.
-    ap (λ keys. is_among name (bytes_of keys)) more
+    ap (λ keys. is_among name (key_names keys)) more
     ∙ key_more old k name
-    ∙ ap (λ (n : List ℕ). same_name name n || is_among name (bytes_of old)) same
+    ∙ ap (λ (n : List ℕ). same_name name n || is_among name (key_names old)) same
     ∙ ap (λ b. same_name name s.name || b) (before name ∙ sym (among-names name (take i segments)))
     ∙ turned (same_name name s.name) (has_name name (take i segments))
     ∙ ap (λ (x : Segment). has_name name (take i segments) || same_name name x.name) is

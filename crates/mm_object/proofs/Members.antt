@@ -1,6 +1,6 @@
 -- What is in a list, and what holds of each item.
 use Rattle.std.proofs.Common.{◌≡◌, ◌⊎◌, ℕ, zero, suc, ◌+◌, ◌<◌, ◌≤◌, Bool, true, false, cond, List, [], ◌∷◌, ◌++◌, map}
-use Rattle.std.proofs.Common.{length, get_or, take, drop, replicate, slice_get, find, Some, None, refl, sym, ap, ◌∙◌}
+use Rattle.std.proofs.Common.{length, get_or, take, drop, replicate, find, Some, None, refl, sym, ap, ◌∙◌}
 use Rattle.std.proofs.Common.{subst, inl, inr, arith}
 use Rattle.std.specs.Prelude.{Contains, ◌||◌}
 use Rattle.std.specs.List.{flat_map, filter, list_any, list_all, range_with_len, AllByRecursion}
@@ -72,11 +72,6 @@ in_range (suc n) from k low high =
       | inl below ↦ inr (in_range n (from + 1) k (omega arith) (omega arith))
       | inr above ↦ inl (omega arith)
     ]
-
-pub in_at : {A : Type 0} (x : A) (xs : List A) (k : ℕ) → slice_get xs k ≡ Some x → In x xs
-in_at x [] k e = absurd cc
-in_at x (y ∷ xs) zero e = inl cc
-in_at x (y ∷ xs) (suc k) e = inr (in_at x xs k e)
 
 -- as std's word says it
 

@@ -6,9 +6,10 @@ use Rattle.mm_object.specs.declared.target.Target.{Target}
 use Rattle.mm_object.specs.declared.target.Reloc.{Reloc}
 use Rattle.mm_object.specs.declared.thread.Thread.{Thread}
 use Rattle.mm_object.specs.Names.{is_name}
-use Rattle.mm_object.specs.Objects.{Segment, Object, IsSegment, IsNumber, segment_limit, word_limit, external_limit}
-use Rattle.mm_object.specs.Objects.{reloc_limit, thread_limit, words_of, names_of, is_among, are_apart, ascend}
+use Rattle.mm_object.specs.Objects.{Segment, Object, IsSegment, IsNumber, external_limit}
+use Rattle.mm_object.specs.Objects.{thread_limit, words_of, names_of, is_among, are_apart, ascend}
 use Rattle.mm_object.specs.Objects.{is_reloc, place_of, is_thread, targets_of}
+use Rattle.mm_model.specs.Limits.{segment_limit, word_limit, reloc_limit}
 
 -- the object of these parts
 abbrev pub object_from : List Segment → List (List ℕ) → List Reloc → List Thread → ℕ → Object

@@ -29,16 +29,17 @@ use Rattle.mm_object.specs.declared.thread.Value.{Value}
 use Rattle.mm_object.specs.declared.thread.Value.TheVariants.{Int, Ptr}
 use Rattle.mm_object.specs.declared.thread.Thread.{Thread}
 use Rattle.mm_object.specs.Names.{has_form, is_before}
-use Rattle.mm_object.specs.Objects.{Segment, Object, segment_limit, external_limit, thread_limit, spare_limit}
-use Rattle.mm_object.specs.Objects.{word_limit, least_log, greatest_log, words_of, names_of, is_among, is_reloc}
+use Rattle.mm_object.specs.Objects.{Segment, Object, external_limit, thread_limit, spare_limit}
+use Rattle.mm_object.specs.Objects.{least_log, greatest_log, words_of, names_of, is_among, is_reloc}
 use Rattle.mm_object.specs.Objects.{place_of}
 use Rattle.mm_object.specs.Objects.{is_thread, targets_of}
 use Rattle.mm_object.specs.Spelling.{is_tagged}
 use Rattle.mm_object.specs.Fits.{object_from}
+use Rattle.mm_model.specs.Limits.{segment_limit, word_limit}
 
 -- 1. Records.
 
--- of a list and one value more
+-- the list with one value more at its end
 abbrev pub push : {A : Type 0} → List A → A → List A
 push xs x = xs ++ x ∷ []
 

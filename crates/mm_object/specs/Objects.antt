@@ -12,6 +12,7 @@ use Rattle.mm_object.specs.declared.thread.Value.{Value}
 use Rattle.mm_object.specs.declared.thread.Value.TheVariants.{Int, Ptr}
 use Rattle.mm_object.specs.declared.thread.Thread.{Thread}
 use Rattle.mm_object.specs.Names.{is_name, is_before}
+use Rattle.mm_model.specs.Limits.{segment_limit, word_limit, reloc_limit}
 
 pub record Segment : Type 0 where
   pub name : List ℕ
@@ -30,24 +31,14 @@ pub record Object : Type 0 where
 
 -- 1. Limits.
 
-abbrev pub segment_limit : ℕ
-segment_limit = 256
-
 abbrev pub external_limit : ℕ
 external_limit = 1024
-
-abbrev pub reloc_limit : ℕ
-reloc_limit = 65535
 
 abbrev pub thread_limit : ℕ
 thread_limit = 16
 
 abbrev pub spare_limit : ℕ
 spare_limit = 256
-
--- the most words of all segments together
-abbrev pub word_limit : ℕ
-word_limit = 131072
 
 -- the least and the greatest logarithm of a segment's length
 abbrev pub least_log : ℕ

@@ -6,8 +6,9 @@ ghost use Rattle.mm_object.specs.Answers.{number_of};
 ghost use Rattle.mm_object.specs.Format.{header_row};
 
 use crate::fault::ObjectFault;
-use crate::limits::{EXTERNAL_LIMIT, SEGMENT_LIMIT, SPARE_LIMIT, THREAD_LIMIT};
+use crate::limits::{EXTERNAL_LIMIT, SPARE_LIMIT, THREAD_LIMIT};
 use mm_format::{ReadError, Reader, refuse_if};
+use mm_model::SEGMENT_LIMIT;
 
 /// The only version.
 const VERSION: u16 = 1;

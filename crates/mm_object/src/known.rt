@@ -2,7 +2,7 @@
 
 ghost use Rattle.std.specs.Prelude.{◌≡◌, IfOk};
 ghost use Rattle.mm_object.specs.Objects.{is_among, names_of};
-ghost use Rattle.mm_object.specs.Steps.{bytes_of, AreTheSame};
+ghost use Rattle.mm_object.specs.Steps.{key_names, AreTheSame};
 
 use crate::name::Name;
 use crate::segment::Segment;
@@ -14,7 +14,7 @@ pub(crate) fn known_names(
     alloc: Global,
     segments: &[Segment],
 ) -> Result<BTreeSet<&[u8]>, AllocError>
-    ensures { IfOk result (λ known. AreTheSame (bytes_of known.keys) (names_of segments.now)) }
+    ensures { IfOk result (λ known. AreTheSame (key_names known.keys) (names_of segments.now)) }
 {
     let mut known = BTreeSet::new(alloc);
     for segment in segments {
@@ -25,7 +25,7 @@ pub(crate) fn known_names(
 
 /// Whether a name is among known names.
 pub(crate) fn is_known(known: &BTreeSet<&[u8]>, name: &Name) -> bool
-    ensures { result ≡ is_among name.now (bytes_of known.now.keys) }
+    ensures { result ≡ is_among name.now (key_names known.now.keys) }
 {
     known.contains(name.bytes())
 }

@@ -54,6 +54,7 @@ mod writing;
 
 pub use fault::{ObjectError, ObjectFault};
 pub use item::Item;
+pub use limits::EXTERNAL_LIMIT;
 pub use name::Name;
 pub use object::Object;
 pub use reading::read;

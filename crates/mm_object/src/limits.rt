@@ -1,17 +1,11 @@
-//! The limits of an object.
+//! Limits of an object.
 
-pub(crate) const SEGMENT_LIMIT: usize = 256;
-
-pub(crate) const EXTERNAL_LIMIT: usize = 1024;
-
-pub(crate) const RELOC_LIMIT: usize = 65535;
+/// The most externals of an object.
+pub const EXTERNAL_LIMIT: usize = 1024;
 
 pub(crate) const THREAD_LIMIT: usize = 16;
 
 pub(crate) const SPARE_LIMIT: u16 = 256;
-
-/// The most words of all segments together.
-pub(crate) const WORD_LIMIT: usize = 131_072;
 
 /// The least and the greatest logarithm of a segment's length in bytes.
 pub(crate) const LEAST_LOG: u8 = 3;

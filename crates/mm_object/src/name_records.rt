@@ -8,7 +8,7 @@ ghost use Rattle.mm_object.specs.Answers.{number_of};
 ghost use Rattle.mm_object.specs.Format.{name_row, external_row, is_late, push};
 ghost use Rattle.mm_object.specs.Names.{has_form};
 ghost use Rattle.mm_object.specs.Objects.{Segment as SegmentValue, is_among, names_of};
-ghost use Rattle.mm_object.specs.Steps.{bytes_of, AreTheSame};
+ghost use Rattle.mm_object.specs.Steps.{key_names, AreTheSame};
 
 use crate::fault::ObjectFault;
 use crate::known::{is_known, known_names};
@@ -45,7 +45,7 @@ fn is_late(names: &[Name], name: &Name) -> bool
 
 // Whether a name is that of a segment, or is not after the names before it. `known` has the names of the segments.
 fn is_bad_external(known: &BTreeSet<&[u8]>, names: &[Name], name: &Name) -> bool
-    ensures { (segments : List SegmentValue) → AreTheSame (bytes_of known.now.keys) (names_of segments)
+    ensures { (segments : List SegmentValue) → AreTheSame (key_names known.now.keys) (names_of segments)
         → result ≡ (is_among name.now (names_of segments) || is_late names.now name.now) }
 {
     is_known(known, name) || is_late(names, name)
@@ -85,7 +85,7 @@ fn read_external(
     known: &BTreeSet<&[u8]>,
     names: &[Name],
 ) -> Result<Name, ReadError<ObjectFault>>
-    ensures read { (segments : List SegmentValue) → AreTheSame (bytes_of known.now.keys) (names_of segments)
+    ensures read { (segments : List SegmentValue) → AreTheSame (key_names known.now.keys) (names_of segments)
         → ReadsAlone number_of (λ n. n) ((external_row segments names.now).read reader.old.bytes.now reader.old.at)
         reader.new.at result }
     ensures same { reader.new.bytes.now ≡ reader.old.bytes.now }

@@ -6,9 +6,10 @@ ghost use Rattle.std.specs.List.Sorted.{IsStrictlyIncreasing};
 ghost use Rattle.mm_object.specs.Objects.{is_reloc, is_target, is_zero, item_of, place_of};
 ghost use Rattle.mm_object.specs.Fits.{RelocsFit};
 
-use crate::limits::{GREATEST_LOG, RELOC_LIMIT};
+use crate::limits::GREATEST_LOG;
 use crate::segment::Segment;
 use crate::target::{Reloc, Target};
+use mm_model::RELOC_LIMIT;
 
 /// Whether relocations are those of an object of these segments and this count of externals.
 pub(crate) fn relocs_fit(segments: &[Segment], externals: usize, relocs: &[Reloc]) -> bool

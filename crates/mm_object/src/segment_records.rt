@@ -11,11 +11,11 @@ ghost use Rattle.mm_object.specs.Objects.{words_of};
 
 use crate::fault::ObjectFault;
 use crate::item::Item;
-use crate::limits::WORD_LIMIT;
 use crate::name_records::read_name;
 use crate::segment::Segment;
 use crate::segments::{has_name, is_log, room};
 use mm_format::{ReadError, Reader, is_set, refuse_if};
+use mm_model::WORD_LIMIT;
 use std::alloc::Global;
 
 // Whether `words` and `count` words together are more than an object may have.
@@ -29,7 +29,8 @@ fn are_many(words: usize, count: u32) -> bool
 // Reads the logarithm of a segment's length in bytes.
 #[tactic(auto, unfolding(crate::specs::Format::log_row))]
 fn read_log(reader: &mut Reader) -> Result<u8, ReadError<ObjectFault>>
-    ensures read { ReadsAlone number_of (λ n. n) (log_row.read reader.old.bytes.now reader.old.at) reader.new.at result }
+    ensures read { ReadsAlone number_of (λ n. n) (log_row.read reader.old.bytes.now reader.old.at)
+        reader.new.at result }
     ensures same { reader.new.bytes.now ≡ reader.old.bytes.now }
     ensures small { IfOk result (λ n. n ≤ 20) }
 {

@@ -8,9 +8,10 @@ ghost use Rattle.mm_object.specs.declared.item.Item.{Item as ItemValue};
 ghost use Rattle.mm_object.specs.Fits.{ExternalsFit, SegmentsFit};
 
 use crate::item::Item;
-use crate::limits::{EXTERNAL_LIMIT, GREATEST_LOG, LEAST_LOG, SEGMENT_LIMIT, WORD_LIMIT};
+use crate::limits::{EXTERNAL_LIMIT, GREATEST_LOG, LEAST_LOG};
 use crate::name::{Name, is_before, is_same};
 use crate::segment::Segment;
+use mm_model::{SEGMENT_LIMIT, WORD_LIMIT};
 
 /// Whether segments are those of an object.
 pub(crate) fn segments_fit(segments: &[Segment]) -> bool

@@ -1,4 +1,3 @@
-pub mod OutputRows
 pub mod CellPlaces
 pub mod Unions
 pub mod Members

@@ -5,31 +5,16 @@ ghost use Rattle.std.specs.List.{AllByRecursion};
 ghost use Rattle.std.specs.Ordering.{nat_cmp};
 ghost use Rattle.std.specs.FinMap.{is_sorted};
 ghost use Rattle.mm_text.specs.Gathers.{Gathers};
-ghost use Rattle.mm_model.specs.Effect.{same_word};
-ghost use Rattle.mm_model.specs.Report.{same_cell, cell_lines};
+ghost use Rattle.mm_model.specs.Report.{cell_lines};
 ghost use Rattle.mm_model.specs.Memory.{page_at, is_mapped, zero_cell, IsPage, IsPaged};
 ghost use Rattle.mm_mem.specs.Places.{IsAt};
 ghost use Rattle.mm_report.specs.Changes.{change_line, contents, cells_of, changes_of};
 
 use mm_io::Sink;
 use mm_mem::{Inspect, ZERO};
-use mm_model::{CELLS, Page};
+use mm_model::{CELLS, Page, is_same_cell};
 use mm_text::{Gather, put_cell};
-use mm_word::{Cell, Word};
-
-/// Whether two words are equal, tag and bits.
-fn is_same_word(a: Word, b: Word) -> bool
-    ensures { result ≡ same_word a b }
-{
-    a == b
-}
-
-/// Whether two cells are equal, word and synchronisation bit.
-fn is_same_cell(a: &Cell, b: &Cell) -> bool
-    ensures { result ≡ same_cell a.now b.now }
-{
-    is_same_word(a.word, b.word) && a.full == b.full
-}
+use mm_word::Cell;
 
 /// Appends the line of a cell that has changed.
 fn put_change<O: Sink>(text: &mut Gather, out: &mut O, word: u64, cell: &Cell, was: &Cell)

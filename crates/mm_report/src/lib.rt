@@ -3,13 +3,11 @@
 
 mod cells;
 mod counts;
-mod output;
 mod page_changes;
 mod sections;
 mod summary;
 mod trace;
 
 pub use mm_text::slot_lines;
-pub use output::put_output;
 pub use summary::report;
 pub use trace::{put_step, trace_line};

@@ -8,12 +8,11 @@ ghost use Rattle.mm_model.specs.Report.{is_of, group_line, section, sections};
 ghost use Rattle.mm_machine.specs.Machine.{state_of};
 ghost use Rattle.mm_report.specs.Groups.{member_text, group_text};
 
-use crate::output::put_output;
 use mm_io::Sink;
 use mm_machine::Machine;
 use mm_mem::Memory;
 use mm_model::Slot;
-use mm_text::{Gather, Piece, put_slot};
+use mm_text::{Gather, Piece, put_output, put_slot};
 
 /// The count of groups that there can be.
 const GROUPS: u8 = 64;

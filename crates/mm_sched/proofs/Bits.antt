@@ -4,9 +4,10 @@ use Rattle.std.specs.Int.{bit_at, trailing_zeros}
 use Rattle.std.proofs.lemmas.Nat.Bits.{bit_at-trailing_zeros, bit_at_above, bit_at-zero}
 use Rattle.std.proofs.Math.Nat.{div-div-eq-div-mul, div-le_self}
 use Rattle.std.proofs.lemmas.Bool.Decides.{nat_tests}
-use Rattle.mm_sched.specs.Following.{IsLeast, NoneAbove, any_number}
+use Rattle.mm_sched.specs.Following.{IsLeastBit, NoBitAbove}
+use Rattle.mm_model.specs.Run.{any_number}
 
-pub least_set : (mask : ℕ) → mask < 2 ^ 64 → (mask ≡ 0 → ⊥) → IsLeast mask any_number (trailing_zeros w64 mask)
+pub least_set : (mask : ℕ) → mask < 2 ^ 64 → (mask ≡ 0 → ⊥) → IsLeastBit mask any_number (trailing_zeros w64 mask)
 least_set mask h n = let f = bit_at-trailing_zeros w64 mask (omega arith) h in
     record { small = f.0; set = f.1; passed = refl; least = λ m lt set _. let none : bit_at mask m ≡ 0 = f.2 m lt in omega arith }
 
@@ -29,7 +30,7 @@ small_bit mask n h set = elim (below_or 64 n) [
   | inr ge ↦ let none : bit_at mask n ≡ 0 = bit_at_above mask 64 n h ge in absurd (omega arith)
 ]
 
-pub least_above : (mask last : ℕ) → mask < 2 ^ 64 → (mask / 2 ^ last / 2 ≡ 0 → ⊥) → IsLeast mask (nat_lt last) (last + 1 + trailing_zeros w64 (mask / 2 ^ last / 2))
+pub least_above : (mask last : ℕ) → mask < 2 ^ 64 → (mask / 2 ^ last / 2 ≡ 0 → ⊥) → IsLeastBit mask (nat_lt last) (last + 1 + trailing_zeros w64 (mask / 2 ^ last / 2))
 least_above mask last h n =
     let above : ℕ = mask / 2 ^ last / 2 in
     let f = bit_at-trailing_zeros w64 above (omega arith) (shifted_small last mask h) in
@@ -48,7 +49,7 @@ least_above mask last h n =
           omega arith;
     }
 
-pub none_above : (mask last : ℕ) → mask / 2 ^ last / 2 ≡ 0 → NoneAbove mask last
+pub none_above : (mask last : ℕ) → mask / 2 ^ last / 2 ≡ 0 → NoBitAbove mask last
 none_above mask last h m lt set =
     let place : last + 1 + (m - last - 1) ≡ m = omega arith in
     let same : bit_at mask (last + 1 + (m - last - 1)) ≡ 0 = shifted last mask (m - last - 1) ∙ ap (λ (n : ℕ). bit_at n (m - last - 1)) h ∙ bit_at-zero (m - last - 1) in

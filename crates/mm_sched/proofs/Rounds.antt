@@ -11,7 +11,7 @@ use Rattle.mm_model.specs.Turn.{is_running}
 use Rattle.mm_model.specs.Run.{first_running, any_number, next_running}
 use Rattle.mm_model.proofs.CoreRows.{above_first, rest_rises, Rises}
 use Rattle.mm_sched.specs.Shown.{runs, Shows}
-use Rattle.mm_sched.specs.Following.{IsLeast, IsNext}
+use Rattle.mm_sched.specs.Following.{IsLeastBit, IsNextBit}
 
 abbrev numbers : List ThreadRow → List ℕ
 numbers rows = numbers_of (map (λ (row : ThreadRow). row.slot) rows)
@@ -80,7 +80,7 @@ first_none p (row ∷ rows) up none = go (is_running row.slot.state) (p row.slot
     go true false ea eb rest = rest
     go false b ea eb rest = rest
 
-least_in : (core : Core) (mask : ℕ) (p : ℕ → Bool) (n : ℕ) → Shows core mask → IsLeast mask p n → LeastIn p core.rows n
+least_in : (core : Core) (mask : ℕ) (p : ℕ → Bool) (n : ℕ) → Shows core mask → IsLeastBit mask p n → LeastIn p core.rows n
 unfolding slot_at
 least_in core mask p n shows l = record {
   runs = (shows.each n).0 l.set;
@@ -93,7 +93,7 @@ unfolding slot_at
 none_runs core mask p shows none m running passes = none m ((shows.each m).1 running) passes
 
 -- the number that comes next in the mask is the next running slot's
-pub next_shown : (core : Core) (mask : ℕ) (last : Option ℕ) (n : ℕ) → Rises core → Shows core mask → IsNext mask last n → next_running core.rows last ≡ Some n
+pub next_shown : (core : Core) (mask : ℕ) (last : Option ℕ) (n : ℕ) → Rises core → Shows core mask → IsNextBit mask last n → next_running core.rows last ≡ Some n
 next_shown core mask None n up shows l = first_some any_number core.rows n up (least_in core mask any_number n shows l)
 next_shown core mask (Some last) n up shows (inl l) = rw (first_some (nat_lt last) core.rows n up (least_in core mask (nat_lt last) n shows l)) refl
 next_shown core mask (Some last) n up shows (inr f) =

@@ -105,14 +105,14 @@ never_both text items place means fault =
     omega (arith, means.limit, f.3)
 
 -- two ways to split a list: at one place, or one behind the other
-abbrev Runs : Type 0
+abbrev pub Runs : Type 0
 Runs = List (ℕ × List ℕ)
 
 pub record Behind (before other : Runs) (w : ℕ × List ℕ) : Type 0 where
   pub between : Runs
   pub split : other ≡ before ++ w ∷ between
 
-two_splits : (a b : Runs) (w v : ℕ × List ℕ) (c d : Runs) → a ++ w ∷ c ≡ b ++ v ∷ d → (w ≡ v) ⊎ Behind a b w ⊎ Behind b a v
+pub two_splits : (a b : Runs) (w v : ℕ × List ℕ) (c d : Runs) → a ++ w ∷ c ≡ b ++ v ∷ d → (w ≡ v) ⊎ Behind a b w ⊎ Behind b a v
 two_splits [] [] w v c d e = inl (cc)
 two_splits [] (x ∷ b) w v c d e = inr (inl (record { between = b; split = let h : x ≡ w = cc in ap (λ (y : ℕ × List ℕ). y ∷ b) h }))
 two_splits (x ∷ a) [] w v c d e = inr (inr (record { between = a; split = let h : x ≡ v = cc in ap (λ (y : ℕ × List ℕ). y ∷ a) h }))

@@ -13,10 +13,6 @@ pub record WordByte (b : ℕ) : Type 0 where
   pub no_comment : (b == 35) ≡ false
   pub no_blank : is_blank b ≡ false
 
-or_false : (a b : Bool) → (a || b) ≡ false → (a ≡ false) × (b ≡ false)
-or_false true b h = absurd (cc)
-or_false false b h = (refl, h)
-
 word_of : (a b c d e : Bool) → (not (a || b || c || d) && not e) ≡ true → (b ≡ false) × (e ≡ false) × ((a || b || c || d) ≡ false)
 word_of true b c d e h = absurd (cc)
 word_of false true c d e h = absurd (cc)
@@ -165,7 +161,3 @@ is_word b h n = grind (arith, nat_tests)
 
 pub no_word : (b : ℕ) → (is_blank b ≡ true) ⊎ (b ≡ 35) → is_word_byte b ≡ false
 no_word b h = grind (arith, nat_tests)
-
-pub in_comment : (c : Bool) (b : ℕ) → (c ≡ true) ⊎ (b ≡ 35) → (c || b == 35) ≡ true
-in_comment true b h = refl
-in_comment false b h = grind (arith, nat_tests)

@@ -8,19 +8,21 @@ use Rattle.mm_sched.specs.declared.schedule.Order.TheVariants as order
 
 -- 1. One item.
 
--- the item that an order has next, after the slot that its round robin issued last; none if the order has ended
+-- The item that an order has next in a state, after the slot that its round robin issued last; none if the order has
+-- ended. A list began with cycle 0, so that the state's count of cycles says how many of its items were issued.
 abbrev pub item_in : Order → (last : Option ℕ) → State → Option ℕ
 item_in order.Robin last state = next_running state.core.rows last
 item_in (order.List items) last state = slice_get items state.cycles
 
--- the slot that round robin issued last, after one more item of an order
+-- the slot that round robin issued last, after one more item of an order; a list leaves it as it was
 abbrev pub last_after : Order → (last : Option ℕ) → ℕ → Option ℕ
 last_after order.Robin last item = Some item
 last_after (order.List items) last item = last
 
 -- 2. Many items.
 
--- the items that an order issues from a state on, at most `count`, after the slot that its round robin issued last
+-- the items that an order issues from a state on, at most `count`: those of round robin after the slot that it issued
+-- last, or the first of a list, which begins there
 abbrev pub items_from : Order → State → (last : Option ℕ) → (count : ℕ) → List ℕ
 items_from order.Robin s last count = robin_from s last count
 items_from (order.List list) s last count = first_items list count

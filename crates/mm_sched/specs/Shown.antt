@@ -10,9 +10,9 @@ runs None = false
 runs (Some s) = is_running s.state
 
 -- the slot of a number is there and runs
-abbrev pub runs_at : Core → ℕ → Bool
-runs_at core n = runs (slot_at core n)
+abbrev pub slot_runs : Core → ℕ → Bool
+slot_runs core n = runs (slot_at core n)
 
 -- bit n of the mask is set exactly if slot n runs
 pub record Shows (core : Core) (mask : ℕ) : Type 0 where
-  pub each : (n : ℕ) → (bit_at mask n ≡ 1) ↔ (runs_at core n ≡ true)
+  pub each : (n : ℕ) → (bit_at mask n ≡ 1) ↔ (slot_runs core n ≡ true)

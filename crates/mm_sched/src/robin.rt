@@ -1,7 +1,7 @@
 //! Round robin.
 
 ghost use Rattle.std.specs.Prelude.{◌≡◌, ◌≢◌, ◌↔◌, ◌<◌, ◌+◌, ◌^◌, IsSome, IfSome, Some, None};
-ghost use Rattle.mm_sched.specs.Following.{IsNext, IsLeast, NoneAbove};
+ghost use Rattle.mm_sched.specs.Following.{IsNextBit, IsLeastBit, NoBitAbove};
 
 use std::marker::Model;
 
@@ -43,7 +43,7 @@ impl Robin {
     /// The slot that comes next. Bit `s` of the mask is set for each running slot `s`. `None` exactly if no bit is set.
     pub fn peek(&self, running: u64) -> Option<u8>
         ensures some { IsSome result ↔ (running ≢ 0) }
-        ensures next { IfSome result (IsNext running self.now) }
+        ensures next { IfSome result (IsNextBit running self.now) }
     {
         if let Some(last) = self.last {
             let above = running >> last >> 1;
@@ -61,7 +61,7 @@ impl Robin {
     /// Issues the slot that comes next, as [`Robin::peek`] gives it.
     pub fn next(&mut self, running: u64) -> Option<u8>
         ensures some { IsSome result ↔ (running ≢ 0) }
-        ensures next { IfSome result (λ n. IsNext running self.old n × (self.new ≡ Some n)) }
+        ensures next { IfSome result (λ n. IsNextBit running self.old n × (self.new ≡ Some n)) }
         ensures stays { result ≡ None → self.new ≡ self.old }
     {
         let next = self.peek(running)?;

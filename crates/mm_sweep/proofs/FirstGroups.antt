@@ -1,5 +1,5 @@
 -- The first group that is privileged is the least.
-use Rattle.std.proofs.Common.{◌≡◌, ℕ, ◌+◌, ◌<◌, ◌↔◌, inl, inr, Bool, true, false, IsTrue, arith, below_more}
+use Rattle.std.proofs.Common.{◌≡◌, ℕ, ◌+◌, ◌<◌, ◌↔◌, inl, inr, Bool, true, false, IsTrue, below_more}
 use Rattle.std.proofs.lemmas.Bool.{both_ways, cases_lt}
 use Rattle.mm_model.specs.Image.{Image}
 use Rattle.mm_model.specs.Reach.{Privileged}
@@ -17,9 +17,6 @@ abbrev pub Tests : SurveyValue → ℕ → Bool → Type 0
 Tests survey g result = (i : Image) → Surveys i All survey → IsTrue result ↔ Privileged i All g
 
 module _ (survey : SurveyValue) where
-  pub no_group_yet : NoGroupBefore survey 0
-  no_group_yet i surveys k lt = absurd (omega arith)
-
   pub no_group_more : (n : ℕ) (result : Bool) → NoGroupBefore survey n → Tests survey n result → result ≡ false → NoGroupBefore survey (n + 1)
   no_group_more n result before tests f i surveys =
       below_more (λ k. ¬ (Privileged i All k)) n (before i surveys) (λ privileged. both_ways result f ((tests i surveys).1 privileged))

@@ -1,5 +1,5 @@
 pub mod Swept
 pub mod Refusals
 pub mod Holders
-pub mod Places
+pub mod HolderTexts
 pub mod Laws

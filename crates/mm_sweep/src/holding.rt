@@ -5,7 +5,7 @@ ghost use Rattle.mm_io.specs.Sinks.{Writes};
 ghost use Rattle.mm_text.specs.Gathers.{Gathers};
 ghost use Rattle.mm_seg.specs.Segments.{IsSegment};
 ghost use Rattle.mm_sweep.specs.Holders.{holder_line, register_holders, slot_holders, page_holders, holders};
-ghost use Rattle.mm_sweep.specs.Places.{place_text};
+ghost use Rattle.mm_sweep.specs.HolderTexts.{holder_text};
 
 use crate::meeting::Range;
 use mm_image::Image;
@@ -53,8 +53,8 @@ fn put_slots<O: Sink>(text: &mut Gather, out: &mut O, range: &Range, slots: &[Sl
 fn put_slot<O: Sink>(text: &mut Gather, out: &mut O, range: &Range, slot: &Slot)
     ensures { Gathers O.taken O.faults out.old out.new text.old text.new (slot_holders range.now slot.now) }
 {
-    let place = Holder::Ip { slot: slot.number };
-    put_holder(text, out, range, place, Word::Ptr(slot.ip));
+    let holder = Holder::Ip { slot: slot.number };
+    put_holder(text, out, range, holder, Word::Ptr(slot.ip));
     put_registers(text, out, range, slot);
 }
 
@@ -64,11 +64,11 @@ fn put_registers<O: Sink>(text: &mut Gather, out: &mut O, range: &Range, slot: &
         (register_holders range.now slot.now.number 0 slot.now.regs) }
 {
     for (number, word) in slot.regs.iter().enumerate() {
-        let place = Holder::Register {
+        let holder = Holder::Register {
             slot: slot.number,
             register: number as u8,
         };
-        put_holder(text, out, range, place, *word);
+        put_holder(text, out, range, holder, *word);
     }
 }
 
@@ -87,19 +87,20 @@ fn put_cells<O: Sink>(text: &mut Gather, out: &mut O, range: &Range, page: &Page
 {
     let start = page.number() * 4096;
     for (index, cell) in page.cells().iter().enumerate() {
-        let place = Holder::Cell {
+        let holder = Holder::Cell {
             address: start + 8 * index as u64,
         };
-        put_holder(text, out, range, place, cell.word);
+        put_holder(text, out, range, holder, cell.word);
     }
 }
 
 /// Appends the line of a place, if it holds a pointer whose segment meets the range.
-fn put_holder<O: Sink>(text: &mut Gather, out: &mut O, range: &Range, place: Holder, word: Word)
-    ensures { Gathers O.taken O.faults out.old out.new text.old text.new (holder_line range.now (place_text place) word) }
+fn put_holder<O: Sink>(text: &mut Gather, out: &mut O, range: &Range, holder: Holder, word: Word)
+    ensures { Gathers O.taken O.faults out.old out.new text.old text.new
+        (holder_line range.now (holder_text holder) word) }
 {
     if range.meets_word(&word) {
-        put_place(text, out, place);
+        put_holder_text(text, out, holder);
         text.put_piece(out, &Piece::Text(" "));
         put_word(text, out, word);
         text.put_piece(out, &Piece::Text("\n"));
@@ -107,10 +108,10 @@ fn put_holder<O: Sink>(text: &mut Gather, out: &mut O, range: &Range, place: Hol
 }
 
 /// Appends the beginning of the line of a place.
-fn put_place<O: Sink>(text: &mut Gather, out: &mut O, place: Holder)
-    ensures { Gathers O.taken O.faults out.old out.new text.old text.new (place_text place) }
+fn put_holder_text<O: Sink>(text: &mut Gather, out: &mut O, holder: Holder)
+    ensures { Gathers O.taken O.faults out.old out.new text.old text.new (holder_text holder) }
 {
-    match place {
+    match holder {
         Holder::Ip { slot } => text.put(out, &[Piece::Text("ip "), Piece::Decimal(slot as u64)]),
         Holder::Register { slot, register } => text.put(
             out,

@@ -1,5 +1,5 @@
-//! Texts that are written piece by piece, without allocation, and the lines of words, cells and slots, which reports,
-//! sessions and summaries share.
+//! Texts that are written piece by piece, without allocation, and the lines of words, cells, slots and outputs,
+//! which reports, sessions, summaries and explorations share.
 //!
 //! A [`Gather`] hands a sink some kilobytes at a time, so that a stream of the system is not called for every word. It
 //! remembers that a write failed, so that a function that writes many pieces looks for a fault only at its end. A
@@ -10,6 +10,7 @@ mod cells;
 mod cycles;
 mod gather;
 mod line;
+mod output;
 mod piece;
 mod slots;
 mod words;
@@ -18,6 +19,7 @@ pub use cells::put_cell;
 pub use cycles::put_cycles;
 pub use gather::{Gather, write_pieces};
 pub use line::Line;
+pub use output::put_output;
 pub use piece::Piece;
 pub use slots::{put_numbers, put_slot, put_state, slot_lines};
 pub use words::put_word;

@@ -114,7 +114,8 @@ module _ (xs : List (ℕ × Event)) (n : ℕ) (e : Event) where
   unfolding put_queue queue_at
   event_more core slots =
       let q : List Event = queue_of (row_in (map (row_with xs) slots) n) ++ e ∷ [] in
-      ap (λ (rows : List ThreadRow). record core { rows = rows }) (elim (queue_is slots) as (λ _. map (at_number n (λ row. record row { queue = q })) (map (row_with xs) slots) ≡ map (row_with more) slots) [
+      ap (λ (rows : List ThreadRow). record core { rows = rows })
+      (elim (queue_is slots) as (λ _. map (at_number n (λ row. record row { queue = q })) (map (row_with xs) slots) ≡ map (row_with more) slots) [
         | inl found ↦ rows_put q (ap (λ (es : List Event). es ++ e ∷ []) found) slots
         | inr none ↦ rows_unput q slots none
       ])
@@ -195,9 +196,6 @@ module _ (version : ℕ) (split : Bool) (slots : List Slot) (events : List (ℕ 
 
   pub slots_are : slots_of core ≡ slots
   slots_are = slots-with events slots
-
-  pub parts_small : AllByRecursion (λ (s : Slot). s.number < 64) slots
-  parts_small = subst (AllByRecursion (λ (s : Slot). s.number < 64)) slots_are (each_map IsSlot (λ (s : Slot). s.number < 64) (λ s is. is.number) (slots_of core) whole.formed.slots)
 
   pub parts_room : AllByRecursion (λ (s : Slot). length (events_for s.number events) ≤ 64) slots
   unfolding slot_at queue_at

@@ -1,5 +1,5 @@
 -- What a turn relies on of a core.
-use Rattle.std.proofs.Common.{◌≡◌, ◌≢◌, ℕ, ◌<◌, ◌≤◌, true, false, cond, eqb, List, [], ◌∷◌, ◌++◌, length, get_or, Option, Some, None, refl, sym, ap, subst, ◌∙◌, arith, inl, inr}
+use Rattle.std.proofs.Common.{◌≡◌, ◌≢◌, ℕ, ◌<◌, ◌≤◌, true, false, cond, eqb, List, [], ◌∷◌, ◌++◌, length, get_or, Some, None, refl, sym, ap, subst, ◌∙◌, arith, inl, inr}
 use Rattle.std.specs.Prelude.{IfSome, slice_index}
 use Rattle.std.specs.List.{AllByRecursion}
 use Rattle.std.proofs.lemmas.Bool.{cases_eq, cases_lt}
@@ -13,7 +13,7 @@ use Rattle.mm_model.specs.State.{ThreadRow, Core, slot_at, queue_at, output_of, 
 use Rattle.mm_model.specs.Turn.{stood, core_faulted, is_running, is_sync}
 use Rattle.mm_model.specs.Fits.{waits_for, slots_of, IsSlot, LoadsMatch, IsOfVersion, IsCore}
 use Rattle.mm_model.specs.Spelling.{IsOther}
-use Rattle.mm_model.proofs.CoreRows.{each_get, slot_has, slot_at-number, other_at}
+use Rattle.mm_model.proofs.CoreRows.{each_get, slot_has, other_at}
 use Rattle.mm_model.proofs.CoreSteps.{waits_for-rests}
 use Rattle.mm_model.proofs.EffectSteps.{running_waits_not}
 use Rattle.mm_model.proofs.Shortness as short
@@ -54,14 +54,6 @@ byte_limit version = elim (eqb version 1) as (λ b. cond b 4096 65536 ≤ 65536)
 module _ (core : Core) (whole : IsCore core) where
   pub slot_is : (n : ℕ) (s : Slot) → slot_at core n ≡ Some s → IsSlot s
   slot_is n s is = slot_has IsSlot core n s whole.formed.slots is
-
-  -- no slot has a number of 64 or more
-  pub slot_at-past : (n : ℕ) → 64 ≤ n → slot_at core n ≡ None
-  slot_at-past n past = by (slot_at core n) refl
-    where
-      by : (o : Option Slot) → slot_at core n ≡ o → o ≡ None
-      by None is = refl
-      by (Some s) is = absurd (omega (arith, slot_at-number core n s is, (slot_is n s is).number))
 
   -- no output is longer than version 2 allows
   pub output_short : (g : ℕ) → length (output_of core g) ≤ 65536

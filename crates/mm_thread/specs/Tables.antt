@@ -38,7 +38,7 @@ pub record IsIndex (rows : List ThreadRow) (index : List ℕ) : Type 0 where
   pub there : (n : ℕ) → n < 64 → slice_index index n < length rows → (slot_of_row rows (slice_index index n)).number ≡ n
   pub back : (k : ℕ) → k < length rows → slice_index index (slot_of_row rows k).number ≡ k
 
--- both are right
+-- the index leads to the place of each row, and the set has exactly the rows that run
 pub record AreKnown (rows : List ThreadRow) (index : List ℕ) (runners : ℕ) : Type 0 where
   pub places : IsIndex rows index
   pub running : HasRunners rows runners

@@ -22,6 +22,7 @@ mod slot_turn;
 mod state;
 mod tables;
 
+pub use memory_ops::load_kind;
 pub use mm_model::{Event, Pending, Slot, SlotState, Step, Tick};
 pub use operands::{addr_operand, value_operand};
 pub use output::Output;

@@ -8,7 +8,7 @@ ghost use Rattle.mm_word.specs.Word.{word_bits};
 ghost use Rattle.mm_word.specs.Pointer.{enter_result, next_result};
 ghost use Rattle.mm_model.specs.Slot.{register};
 ghost use Rattle.mm_model.specs.Ask.{is_privileged};
-ghost use Rattle.mm_model.specs.Effect.{effect, sets_pointer, branches, at_distance, high_and_low, same_word, test};
+ghost use Rattle.mm_model.specs.Effect.{effect, sets_pointer, branches, at_distance, high_and_low, test};
 ghost use Rattle.mm_model.specs.Effect.{entry_of, jumps, links, plain};
 ghost use Rattle.mm_model.specs.Effect.Effect.{Does};
 ghost use Rattle.mm_model.specs.Effect.Reply.{Fine};
@@ -16,7 +16,7 @@ ghost use Rattle.mm_thread.specs.Ends.{EndsAlone, pointer_in};
 
 use crate::slot::{advance, go_to, link, sets, stand, word_of};
 use mm_isa::{AluOp, Instr, Reg, alu};
-use mm_model::{Slot, SlotState};
+use mm_model::{Slot, SlotState, is_same_word};
 use mm_word::{Cause, GuardedPtr, Perm, Word, enter, lea, leab, next, restrict, setptr, subseg};
 
 /// The enter pointer that was entered, if any, or why the instruction faults.
@@ -86,15 +86,9 @@ pub(crate) fn eqw(slot: &mut Slot, rd: Reg, ra: Reg, rb: Reg) -> Entered
     requires { slot.old.turns < 2 ^ 62 }
     ensures { (split : Bool) → EndsAlone (effect split (Instr.Eqw rd ra rb) slot.old Fine) slot.old slot.new result }
 {
-    let same = same_word(word_of(slot, ra), word_of(slot, rb));
+    let same = is_same_word(word_of(slot, ra), word_of(slot, rb));
     sets(slot, rd, Word::Int(flag(same)));
     Ok(None)
-}
-
-fn same_word(a: Word, b: Word) -> bool
-    ensures { result ≡ same_word a b }
-{
-    a == b
 }
 
 /// 1 for true and 0 for false.

@@ -24,7 +24,7 @@ use mm_word::{Access, Cause, Kind, Post, Pre, Word, check};
 pub(crate) struct MemoryOperand {
     /// The register that holds the pointer.
     pub(crate) base: Reg,
-    /// How many bytes the cell is from the pointer's address.
+    /// The distance of the cell from the pointer's address in bytes.
     pub(crate) offset: i32,
     pub(crate) pre: Pre,
     pub(crate) post: Post,
@@ -142,8 +142,9 @@ fn touching(outcome: Outcome, access: Access) -> Retired
     }
 }
 
-// The kind of a load's access. A load that sets the bit has a kind of its own.
-fn load_kind(post: Post) -> Kind
+/// The kind of a load's access. A load that sets the bit has a kind of its own.
+#[inline(always)]
+pub fn load_kind(post: Post) -> Kind
     ensures { result ≡ load_kind post }
 {
     match post {

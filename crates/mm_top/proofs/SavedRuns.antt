@@ -2,13 +2,14 @@
 use Rattle.std.proofs.Common.{◌≡◌, ℕ, zero, suc, ◌+◌, ◌<◌, ◌≤◌, Bool, true, false, List, [], ◌∷◌, ◌++◌, length, map, Option, Some, None, refl, sym, ap, ◌∙◌, subst, arith}
 use Rattle.std.specs.Prelude.{IfSome, if◌then◌else◌}
 use Rattle.std.specs.List.{AllByRecursion}
+use Rattle.std.specs.Option.{option_or}
 use Rattle.mm_model.specs.State.{ThreadRow, State}
 use Rattle.mm_model.specs.Image.{Image, start}
 use Rattle.mm_model.specs.Bytes.{IsBytes}
 use Rattle.mm_model.specs.Uses.{Use}
 use Rattle.mm_model.specs.declared.counts.Counts.{Counts}
 use Rattle.mm_model.specs.Turn.{is_running}
-use Rattle.mm_model.specs.Run.{after, run, uses, next_running, first_running, then_issued, any_number, or_else, robin_from, last_item}
+use Rattle.mm_model.specs.Run.{after, run, uses, next_running, first_running, then_issued, any_number, robin_from, last_item}
 use Rattle.mm_model.specs.Report.{report}
 use Rattle.mm_model.specs.Spelling.{IsImage}
 use Rattle.mm_model.specs.Fits.{IsSlot}
@@ -50,7 +51,7 @@ first_small passes (row ∷ rows) h = by (is_running row.slot.state) (passes row
     by true false rest = rest
     by false fits rest = rest
 
-either_small : (one other : Option ℕ) → IsSmall one → IsSmall other → IsSmall (or_else one other)
+either_small : (one other : Option ℕ) → IsSmall one → IsSmall other → IsSmall (option_or one other)
 either_small None other h small = small
 either_small (Some n) other h small = h
 

@@ -25,8 +25,8 @@ pub data Outcome : Type 0 where
 
 -- what a row comes to, given what the memory tells of uses and, if that is known, what the files hold and standard
 -- input has left
-abbrev pub RowComesTo : (List Use → Option Counts) → (List ℕ → Option (List ℕ)) → (left : Option (List ℕ)) → Row → Outcome
-    → Type 0
+abbrev pub RowComesTo : (List Use → Option Counts) → (List ℕ → Option (List ℕ)) → (left : Option (List ℕ)) → Row
+    → Outcome → Type 0
 RowComesTo tells held left row (refuse r) =
     InputsRefused held left (files_of row) (input_of row) r
     ⊎ ((values : List Value) × InputsAccepted held left (files_of row) (input_of row) values × Declines row values r)

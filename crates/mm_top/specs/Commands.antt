@@ -1,8 +1,6 @@
 -- What each command comes to, given its words and the values of its inputs.
-use Rattle.std.specs.Prelude.{◌≡◌, ℕ, Bool, true, false, List, [], ◌∷◌, ◌++◌, map, length, take, Option, None, Some}
+use Rattle.std.specs.Prelude.{◌≡◌, ℕ, Bool, List, [], ◌∷◌, ◌++◌, map, length, take, Option, None, Some}
 use Rattle.mm_model.specs.declared.counts.Counts.{Counts}
-use Rattle.mm_model.specs.declared.word_use.WordUse.{WordUse}
-use Rattle.mm_model.specs.declared.word_use.WordUse.TheVariants.{Touch, Write}
 use Rattle.mm_model.specs.Uses.{Use}
 use Rattle.mm_model.specs.Image as model
 use Rattle.mm_model.specs.Groups.{among}
@@ -86,11 +84,6 @@ soaked number size cycles =
     let i = generated number size in
     summary (machine.run (model.start i) (machine.robin_from (model.start i) None cycles))
 
--- a use of a word: a write, or else any
-abbrev pub use_said : (write : Bool) → WordUse
-use_said true = Write
-use_said false = Touch
-
 -- 2. The commands.
 
 -- a command with these words is refused, given these values of its inputs
@@ -119,8 +112,8 @@ YieldsAloneAt Sweep (image ∷ range_word base log ∷ []) (an_image i ∷ []) t
     CanSweep (base, log) i × Spells text (swept (base, log) i)
 YieldsAloneAt Holders (image ∷ range_word base log ∷ []) (an_image i ∷ []) text = text ≡ holding.holders (base, log) i
 YieldsAloneAt Explore (image ∷ number_word states ∷ []) (an_image i ∷ []) text = Explores i states text
-YieldsAloneAt Why (image ∷ number_word group ∷ number_word word ∷ use_word write ∷ []) (an_image i ∷ []) text =
-    SaysWhy i (use_said write) group word text
+YieldsAloneAt Why (image ∷ number_word group ∷ number_word word ∷ use_word how ∷ []) (an_image i ∷ []) text =
+    SaysWhy i how group word text
 YieldsAloneAt _ _ _ text = ⊥
 
 -- a command writes a text, given what the memory tells of uses
@@ -161,29 +154,22 @@ Yields tells row values text = YieldsAt tells row.command row.words values text
 
 -- 3. The rows that clauses and laws name.
 
+-- the words of a run: an image, a count of cycles and, perhaps, a schedule
+abbrev pub run_words : (image : List ℕ) (cycles : ℕ) (schedule : Option (List ℕ)) → List Word
+run_words image cycles schedule =
+    file_word image_file image ∷ number_word cycles ∷ perhaps (file_word schedule_file) schedule
+
 abbrev pub run : (image : List ℕ) (cycles : ℕ) (schedule : Option (List ℕ)) → Row
-run image cycles schedule = record {
-  command = Run;
-  words = file_word image_file image ∷ number_word cycles ∷ perhaps (file_word schedule_file) schedule;
-}
+run image cycles schedule = record { command = Run; words = run_words image cycles schedule }
 
 abbrev pub trace : (image : List ℕ) (cycles : ℕ) (schedule : Option (List ℕ)) → Row
-trace image cycles schedule = record {
-  command = Trace;
-  words = file_word image_file image ∷ number_word cycles ∷ perhaps (file_word schedule_file) schedule;
-}
+trace image cycles schedule = record { command = Trace; words = run_words image cycles schedule }
 
 abbrev pub log : (image : List ℕ) (cycles : ℕ) (schedule : Option (List ℕ)) → Row
-log image cycles schedule = record {
-  command = Log;
-  words = file_word image_file image ∷ number_word cycles ∷ perhaps (file_word schedule_file) schedule;
-}
+log image cycles schedule = record { command = Log; words = run_words image cycles schedule }
 
 abbrev pub save : (image : List ℕ) (cycles : ℕ) (schedule : Option (List ℕ)) → Row
-save image cycles schedule = record {
-  command = Save;
-  words = file_word image_file image ∷ number_word cycles ∷ perhaps (file_word schedule_file) schedule;
-}
+save image cycles schedule = record { command = Save; words = run_words image cycles schedule }
 
 abbrev pub continue : (image checkpoint : List ℕ) (cycles : ℕ) (schedule : Option (List ℕ)) → Row
 continue image checkpoint cycles schedule = record {

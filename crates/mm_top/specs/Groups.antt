@@ -1,8 +1,8 @@
--- Groups that are cut out of an image.
+-- Groups that are extracted from an image.
 use Rattle.std.specs.Prelude.{ℕ, ◌+◌, Bool, if◌then◌else◌, List, [], ◌++◌, map}
 use Rattle.mm_model.specs.Slot.{Slot}
 use Rattle.mm_model.specs.Image.{Image}
-use Rattle.mm_audit.specs.declared.refusing.Refused.TheVariants as refused
+use Rattle.mm_audit.specs.declared.refusals.Refused.TheVariants as refused
 use Rattle.mm_audit.specs.Refusals.{IsRefused}
 use Rattle.mm_load.specs.declared.status.Refusal.{Refusal}
 use Rattle.mm_load.specs.declared.status.Refusal.TheVariants.{NoGroup, Crosses}

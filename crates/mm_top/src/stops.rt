@@ -7,7 +7,7 @@ use mm_audit::ExtractError;
 use mm_load::{Refusal, Stop};
 use mm_sweep::SweepError;
 
-/// Why the command stops if groups cannot be cut out.
+/// Why the command stops if groups cannot be extracted.
 pub fn stop_of_extract(error: ExtractError) -> Stop
     ensures { result ≡ stop_of_extract error }
 {

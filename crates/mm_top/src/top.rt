@@ -21,13 +21,13 @@ use crate::dis::dis;
 use crate::explore::explore;
 use crate::extract::extract;
 use crate::generate::generate;
-use crate::going_on::go_on;
 use crate::grants::grants;
 use crate::holders::holders;
 use crate::link::link;
 use crate::log::log;
 use crate::migrate::migrate;
 use crate::nets::run_net;
+use crate::resume::resume;
 use crate::run::run;
 use crate::save::save;
 use crate::soak::soak;
@@ -117,43 +117,9 @@ pub fn mmachine<M: Boot + Reset, F: Files, I: Source, O: Sink, D: Sink>(
         (drawing I.left I.faults input.old input.new) (writing O.taken O.faults out.old out.new)) (texts words.now)
         → (result ≡ Status.Done) ⊎ (result ≡ Status.NoMemory) }
 {
-    let status = answer::<M, F, I, O>(alloc, words, files, input, out);
+    let status = by_row::<M, F, I, O>(alloc, words, files, input, out);
     let _ = write_line(&status, diag);
     status
-}
-
-/// Does what the words ask.
-fn answer<M: Boot + Reset, F: Files, I: Source, O: Sink>(
-    alloc: Global,
-    words: &[String],
-    files: &mut F,
-    input: &mut I,
-    out: &mut O,
-) -> Status
-    ensures answers { Answers
-        (call M.tells (reading F.held F.faults F.asked files.old files.new)
-        (drawing I.left I.faults input.old input.new) (writing O.taken O.faults out.old out.new)) (texts words.now)
-        result }
-    ensures refused { (r : Refusal) → result ≡ Status.Refused r
-        → ComesTo M.tells (F.held files.old) (I.left input.old) (texts words.now) (refuse r) }
-    ensures asks { (row : Row) → Asks (texts words.now) row
-        → AsksFiles (reading F.held F.faults F.asked files.old files.new) [] (files_of row) }
-    ensures whole { result ≡ Status.Done → (row : Row) → Asks (texts words.now) row
-        → ReadsWhole (reading F.held F.faults F.asked files.old files.new) (files_of row) }
-    ensures refuses { (r : Refusal) → HasToRefuse (F.held files.old) (I.left input.old) (texts words.now) r
-        → RefusedUnless r result }
-    ensures complete { NothingFails
-        (call M.tells (reading F.held F.faults F.asked files.old files.new)
-        (drawing I.left I.faults input.old input.new) (writing O.taken O.faults out.old out.new)) (texts words.now)
-        → (result ≡ Status.Done) ⊎ (result ≡ Status.NoMemory) }
-    ensures unread { result ≡ Status.Usage → files.new ≡ files.old }
-    ensures undrawn { LeaveInput (texts words.now) → input.new ≡ input.old }
-    ensures drawn { (row : Row) → Asks (texts words.now) row
-        → DrawnBehind (F.held files.old) (files_of row) (input.new ≡ input.old) }
-    ensures read { result ≡ Status.Done → (row : Row) → Asks (texts words.now) row → IsSome (input_of row)
-        → IsAtEnd (I.left input.new) }
-{
-    by_row::<M, F, I, O>(alloc, words, files, input, out)
 }
 
 /// Does what the words ask, by the row of the table that they are in. `Usage` if they are in no row.
@@ -224,7 +190,7 @@ fn by_command<M: Boot + Reset, F: Files, I: Source, O: Sink>(
         Command::Sweep => sweep(alloc, words, files, out),
         Command::Holders => holders(alloc, words, files, out),
         Command::Save => save::<M, F, O>(alloc, words, files, out),
-        Command::Continue => go_on::<M, F, O>(alloc, words, files, out),
+        Command::Continue => resume::<M, F, O>(alloc, words, files, out),
         Command::Net => run_net::<M, F, O>(alloc, words, files, out),
         Command::Explore => explore(alloc, words, files, out),
         Command::Why => why(alloc, words, files, out),

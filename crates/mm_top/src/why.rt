@@ -6,7 +6,7 @@ ghost use Rattle.mm_why.specs.Text.{SaysWhy};
 ghost use Rattle.mm_load.specs.Files.{reading};
 ghost use Rattle.mm_cli.specs.Words.{IsWordAddress};
 ghost use Rattle.mm_cli.specs.Said.{AreOf, row};
-ghost use Rattle.mm_top.specs.Commands.{YieldsAlone, use_said};
+ghost use Rattle.mm_top.specs.Commands.{YieldsAlone};
 ghost use Rattle.mm_top.specs.Answers.{CommandEnds, EndsWith, writing};
 
 use mm_cli::{Command, Word, name_at, number_at, use_at};
@@ -30,19 +30,8 @@ pub fn why<F: Files, O: Sink>(
 {
     let image = load_image(alloc, files, name_at(words, 0), 1)?;
     let group = number_at(words, 1) as u8;
-    let how = use_of(use_at(words, 3));
-    write_reason(alloc, &image, group, number_at(words, 2), how, out)
-}
-
-/// The use that a word of the command says.
-fn use_of(write: bool) -> WordUse
-    ensures { result ≡ use_said write }
-{
-    if write {
-        WordUse::Write
-    } else {
-        WordUse::Touch
-    }
+    let word = number_at(words, 2);
+    write_reason(alloc, &image, group, word, use_at(words, 3), out)
 }
 
 /// Writes by what way a group is granted a use of the word at an address.

@@ -35,23 +35,22 @@ use Rattle.mm_graph.specs.GraphOf.{Marked}
 use Rattle.mm_graph.specs.Summary.{IsExact, SomeLoads, SomeStores}
 use Rattle.mm_graph.proofs.Graphs.{exact_marks}
 use Rattle.mm_graph.proofs.Segments.{below-loads, below-stores}
-use Rattle.mm_graph.proofs.Summaries.{whole_covers}
 use Rattle.mm_why.specs.declared.line.Line.{Line}
 use Rattle.mm_why.specs.declared.rounds.Rounds.{Rounds}
 use Rattle.mm_model.specs.declared.word_use.WordUse.{WordUse}
 use Rattle.mm_model.specs.declared.word_use.WordUse.TheVariants as uses
 use Rattle.mm_why.specs.declared.uses.Owner.{Owner}
-use Rattle.mm_why.specs.Derivations.{line_at, Says, EachFollows, NoneTwice, IsDerivation, Allows, IsGranted, Derives}
+use Rattle.mm_why.specs.Derivations.{line_at, Says, EachFollows, NoneTwice, IsDerivation, GivesUse, IsGranted, Derives}
 use Rattle.mm_why.specs.Traces.{IsTrace}
 use Rattle.mm_why.specs.Rounds.{AreRounds, round_at}
 use Rattle.mm_why.specs.Graphs.{IsGraph, edges_of}
-use Rattle.mm_why.specs.Works.{IsSearched, ReachesRight, whole_pointer}
+use Rattle.mm_why.specs.Works.{IsSearched, ReachesRight}
 use Rattle.mm_why.specs.Giving.{Meets, IsContext}
 use Rattle.mm_why.specs.Giving.Meets.{by_words, by_maker}
 use Rattle.mm_why.specs.Owning.{asked, can_use, CanUse, IsOwner, NoOwner, IsUsable}
 use Rattle.mm_why.specs.Answers.{ReachesUse, Owns, IsSharing, IsGiver, GivesAt}
 use Rattle.mm_why.proofs.Pruning.{same_or_before}
-use Rattle.mm_why.proofs.GraphFacts.{nodes_len, order, entry_small}
+use Rattle.mm_why.proofs.GraphFacts.{nodes_len}
 use Rattle.mm_why.proofs.Giving.{is_graph, below_node}
 use Rattle.mm_why.proofs.Coming.{came, owned}
 
@@ -80,7 +79,7 @@ loads_test p w l = then_and (allows p.perm (asked uses.Touch)) (holds_word p w) 
 stores_test : (p : Pointer) (w : ℕ) → StoresAt p w → can_use uses.Write p w ≡ true
 stores_test p w s = then_and (allows p.perm (asked uses.Write)) (holds_word p w) s.right (covers_test p w s.covers)
 
-gives_use : (how : WordUse) (p : Pointer) (w : ℕ) → w % 8 ≡ 0 → CanUse how p w → Allows how p w
+gives_use : (how : WordUse) (p : Pointer) (w : ℕ) → w % 8 ≡ 0 → CanUse how p w → GivesUse how p w
 gives_use uses.Touch p w word can = record { word = word; right = can.0; covers = can.1 }
 gives_use uses.Write p w word can = record { word = word; right = can.0; covers = can.1 }
 
@@ -88,10 +87,6 @@ gives_use uses.Write p w word can = record { word = word; right = can.0; covers 
 below_use : (how : WordUse) (p q : Pointer) (w : ℕ) → w % 8 ≡ 0 → IsBelow q p → CanUse how q w → CanUse how p w
 below_use uses.Touch p q w word below can = let l = below-loads p q w below (record { word = word; right = can.0; covers = can.1 }) in (l.right, l.covers)
 below_use uses.Write p q w word below can = let l = below-stores p q w below (record { word = word; right = can.0; covers = can.1 }) in (l.right, l.covers)
-
-whole_gives : (how : WordUse) (w : ℕ) → w % 8 ≡ 0 → w < 2 ^ 54 → Allows how whole_pointer w
-whole_gives uses.Touch w word small = record { word = word; right = refl; covers = whole_covers w word small }
-whole_gives uses.Write w word small = record { word = word; right = refl; covers = whole_covers w word small }
 
 -- 2. An owner's line.
 
@@ -117,15 +112,8 @@ module _ (i : Image) (g : Graph) (graph : IsGraph i g) (lines : List Line) (owne
   only_maker none (inl x) = absurd (never_by_pointer none x)
   only_maker none (inr x) = x
 
-pub whole_line : (lines : List Line) (k owner : ℕ) (how : WordUse) (w : ℕ) → w % 8 ≡ 0 → w < 2 ^ 54 → Says lines (length lines) k owner whole_pointer → GivesAt lines k owner how w
-whole_line lines k owner how w word small says = record {
-  small = says.earlier;
-  group_is = says.group;
-  gives = subst (λ v. Allows how v w) (sym says.pointer) (whole_gives how w word small);
-}
-
 -- the last line of a trace, if only the lines that it needs are kept
-pub derives : (i : Image) (how : WordUse) (group w : ℕ) (lines out : List Line) (last : ℕ) (p : Pointer) → IsTrace i lines → Says lines (length lines) last group p → Allows how p w
+pub derives : (i : Image) (how : WordUse) (group w : ℕ) (lines out : List Line) (last : ℕ) (p : Pointer) → IsTrace i lines → Says lines (length lines) last group p → GivesUse how p w
     → (EachFollows i lines → NoneTwice lines → IsDerivation i out) → Says out (length out) (length out - 1) (line_at lines last).group (line_at lines last).pointer → Derives i how group w out
 derives i how group w lines out last p trace says gives pruned end = record {
   derivation = pruned trace.follows trace.none_twice;
@@ -220,12 +208,6 @@ rounds_share g marks meets r s l m rounds = record {
 
 -- 5. The graph's own facts.
 
-le_same : (a b c : ℕ) → a ≤ b → c ≡ b → a ≤ c
-le_same a b c le e = omega (arith, le, e)
-
-lt_same : (a b c : ℕ) → a < b → b ≡ c → a < c
-lt_same a b c lt e = omega (arith, lt, e)
-
 before : (n : ℕ) → 0 < n → n - 1 < n
 before n some = omega (arith, some)
 
@@ -235,19 +217,6 @@ module _ (i : Image) (g : Graph) (h : IsGraph i g) where
 
   pub size : length g.keys.items ≡ length g.start.items
   size = sym h.built.is_start.len
-
-  -- the nodes and targets are those of a graph
-  pub edges_fit : Fits (edges_of g) (length g.start.items)
-  edges_fit = record {
-    nodes = nodes_len i g h ∙ size;
-    order = λ k lt. order i g h k (lt_same k _ _ lt (sym size));
-    ends = λ k lt. le_same _ _ _ (h.built.has_nodes.is_nodes.each k (lt_same k _ _ lt (sym size))).range.fits h.built.is_targets.len;
-    targets = λ j lt. lt_same _ _ _ (h.built.is_targets.small j (lt_same j _ _ lt h.built.is_targets.len)) size;
-    entries = λ k lt. lt_same _ _ _ (entry_small i g h k (lt_same k _ _ lt (sym size))) size;
-  }
-
-  pub parents_fit : length g.parents.items ≡ length g.start.items
-  parents_fit = h.built.has_forest.len ∙ size
 
   -- an entry of one group is one of each
   entries_of_all : (a x y : ℕ) → x < 64 → bit_at (enters_at (edges_of g) a) y ≡ 1 → bit_at (enters_at (edges_of g) a) x ≡ 1

@@ -66,12 +66,6 @@ module _ (i : Image) (g : Graph) (h : IsGraph i g) where
     well_formed = whole_fits _;
   }
 
-  pub parents_len : length g.parents.items ≡ length g.nodes.items
-  parents_len = h.built.has_forest.len ∙ sym (nodes_len i g h)
-
-  pub places_len : (lines : List Line) (group : ℕ) (places : List (Option ℕ)) → IsSearched g lines group places → length places ≡ length g.nodes.items
-  places_len lines group places s = s.len ∙ sym (nodes_len i g h)
-
   -- lines of nodes at or above one node
   pub pair_carries : (lines : List Line) (giver taker : ℕ) (from to : List (Option ℕ)) → IsSearched g lines giver from → IsSearched g lines taker to → (s l : ℕ) → IsPair g from to s l
       → AreCarriers lines giver taker s l

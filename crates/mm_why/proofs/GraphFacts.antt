@@ -170,9 +170,6 @@ module _ (i : Image) (g : Graph) (graph : IsGraph i g) where
   pub nodes_len : length g.nodes.items ≡ length keys
   nodes_len = graph.built.has_nodes.is_nodes.len
 
-  pub targets_len : length g.targets.items ≡ length g.found.items
-  targets_len = graph.built.is_targets.len ∙ sym found_len
-
   pub order : (a : ℕ) → a < length keys → (node_at g.nodes.items a).low ≤ (node_at g.nodes.items a).high
   order a lt = (each_node a lt).range.order
 

@@ -49,13 +49,6 @@ module _ (lines : List Line) (earlier : NameEarlier lines) (last at : ℕ) (smal
       close k j (inl h) names (inr le) = adds.keeps j (n.closed k j le h names)
       close k j (inr h) names (inr le) = absurd (let lt = earlier at k small h in omega arith)
 
-  pub skip_needs : (old : List Bool) → Needs lines last (at + 1) old → (IsNeeded old at → ⊥) → Needs lines last at old
-  skip_needs old n none = record { len = n.len; whole = n.whole; named = n.named; closed = λ k j le h names. close k j h names (same_or_later at k le) }
-    where
-      close : (k j : ℕ) → IsNeeded old k → Names (line_at lines k).rule j → (at ≡ k) ⊎ (at + 1 ≤ k) → IsNeeded old j
-      close k j h names (inl e) = absurd (none (subst (IsNeeded old) (sym e) h))
-      close k j h names (inr le) = n.closed k j le h names
-
 -- rules with other indices
 
 pub moved_same : (f g : ℕ → ℕ) (r : Rule) → ((j : ℕ) → Names r j → f j ≡ g j) → moved f r ≡ moved g r

@@ -10,7 +10,7 @@ use Rattle.mm_flow.proofs.Walks.{at_one}
 use Rattle.mm_flow.proofs.Bits.{zero_bit}
 use Rattle.std.proofs.lemmas.Bool.Decides.{nat_tests}
 use Rattle.mm_why.specs.Rounds.{Hands, IsHanding, HandsOn, IsStep, round_at, FirstRounds, AreRounds, HandingSoFar, OwnSoFar}
-use Rattle.mm_why.specs.Rounds.Hands.{linked, met}
+use Rattle.mm_why.specs.Rounds.Hands.{met}
 use Rattle.mm_why.proofs.Pruning.{same_or_before}
 
 not_below : (g : ℕ) → 64 ≤ g → IsTrue (nat_lt g 64) → ⊥
@@ -64,16 +64,6 @@ module _ (links meets now : List ℕ) where
       one a b k g (inl e) lb lk m x y =
           adds.each k g lk (subst (λ v. Has now v k) e x) ((t g).1 (record { by = b; small = lb; has = subst (λ v. Has meets v b) e m; shared_now = y }))
       one a b k g (inr la) lb lk m x y = adds.keeps k g (so.each a b k g la lb lk m x y)
-
-  pub handing_end : (edges : List ℕ) → HandingSoFar links meets now 64 edges → IsHanding links meets now edges
-  handing_end edges so = record { len = so.len; only = so.only; each = λ h g lh lg x. one h g lh x }
-    where
-      one : (h g : ℕ) → h < 64 → Hands links meets now h g → Has edges h g
-      one h g lh (linked x) = so.keeps h g x
-      one h g lh (met a b la lb m x y) = so.each a b h g la lb lh m x y
-
-  pub handing_start : length links ≡ 64 → HandingSoFar links meets now 0 links
-  handing_start e = record { len = e; only = λ h g x. linked x; keeps = λ h g x. x; each = λ a b h g la lb lh m x y. absurd (omega arith) }
 
   -- one round
   module _ (edges after : List ℕ) (changed : Bool) (handing : IsHanding links meets now edges) (d : PropagatesShared edges now after changed) where

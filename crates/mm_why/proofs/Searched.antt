@@ -18,12 +18,9 @@ use Rattle.mm_why.specs.Traces.{IsTrace}
 use Rattle.mm_why.specs.Searches.{Stage, place_at, IsPlaced, Searching, Advances, SlotPlaced, IsClosed}
 use Rattle.mm_why.specs.Graphs.{IsGraph, SlotsPlaced, HasNoLine, edges_of, IsSearch}
 use Rattle.mm_why.proofs.Pruning.{same_or_before}
-use Rattle.mm_why.proofs.Searching.{advances_same, advances_trans, stays_placed}
+use Rattle.mm_why.proofs.Searching.{advances_trans, stays_placed}
 
 -- slots
-
-pub slots_start : (i : Image) (keys : List CanonicalPtr) (g : ℕ) (s : Stage) → Searching i keys g s → SlotsPlaced i keys g 0 s s
-slots_start i keys g s now = record { advances = advances_same i keys g s now; slots = λ k x lt. absurd (omega (arith, lt)) }
 
 stays_slot : (keys : List CanonicalPtr) (s : Slot) (a b : Stage) → ((k : ℕ) → IsPlaced a.places k → IsPlaced b.places k) → SlotPlaced keys s a.places → SlotPlaced keys s b.places
 stays_slot keys s a b more h = record { ip = λ k lt e. more k (h.ip k lt e); regs = λ r small k lt e. more k (h.regs r small k lt e) }

@@ -252,9 +252,6 @@ module _ (i : Image) (keys : List CanonicalPtr) (g : ℕ) (nodes : List Node) (t
       one m (inl is) = subst (IsClosed nodes targets b.places) (sym (ap (slice_index b.queue) is ∙ h.0.further.queue at lt)) h.1
       one m (inr small) = subst (IsClosed nodes targets b.places) (sym (h.0.further.queue m (omega (arith, small, lt)))) (stays_closed a b (slice_index a.queue m) h.0.further (e.closed m small))
 
-  pub expand_start : (s : Stage) → Searching i keys g s → Expanding i keys g nodes targets s 0 s
-  expand_start s now = record { advances = advances_same i keys g s now; fits = omega arith; closed = λ m small. absurd (omega (arith, small)) }
-
   -- at the end of the queue each node with a line leads to nodes with lines
   pub expand_end : (old s : Stage) (at : ℕ) → Expanding i keys g nodes targets old at s → length s.queue ≤ at → (k : ℕ) → IsPlaced s.places k → IsClosed nodes targets s.places k
   expand_end old s at e le k h =

@@ -1,5 +1,5 @@
 -- The work goes on.
-use Rattle.std.proofs.Common.{◌≡◌, ◌≢◌, ℕ, ◌<◌, ◌≤◌, ◌⊎◌, inl, inr, List, [], length, slice_set, Option, Some, None, refl, sym, ap, ◌∙◌, subst, arith}
+use Rattle.std.proofs.Common.{◌≡◌, ◌≢◌, ℕ, ◌<◌, ◌≤◌, ◌⊎◌, inl, inr, List, length, slice_set, Option, Some, None, refl, sym, ap, ◌∙◌, subst, arith}
 use Rattle.std.proofs.lemmas.Bool.{cases_lt}
 use Rattle.std.proofs.lemmas.List.{get_or-set_same, get_or-set_other, length-set}
 use Rattle.mm_word.specs.Pointer.{Pointer}
@@ -45,14 +45,6 @@ searched_more g old new h places x s = record {
       let is = x.same t p.0 in
       (let l = x.len in let lt = p.0 in omega (arith, l, lt), ap (λ v. v.group) is ∙ p.1, subst (λ v. AtNode g.keys.items k v.pointer) (sym is) p.2);
   each = s.each;
-}
-
-pub begun : (i : Image) (g : Graph) (w : Work) → w.lines.items ≡ [] → length w.searches.items ≡ 64 → ((h : ℕ) → search_at w.searches.items h ≡ None) → IsWork i g w
-begun i g w empty len none = record {
-  trace = subst (IsTrace i) (sym empty) (record { follows = λ k lt. absurd (omega (arith, lt)); none_twice = λ j k lt small. absurd (omega (arith, small)) });
-  len = len;
-  known = λ h s e. absurd (let bad = sym (none h) ∙ e in cc);
-  owned = λ t lt. absurd (let l = ap length empty in omega (arith, l, lt));
 }
 
 -- a group that was not searched has no line

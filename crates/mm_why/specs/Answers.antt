@@ -9,7 +9,7 @@ use Rattle.mm_why.specs.declared.line.Line.{Line}
 use Rattle.mm_why.specs.declared.rounds.Rounds.{Rounds}
 use Rattle.mm_model.specs.declared.word_use.WordUse.{WordUse}
 use Rattle.mm_why.specs.declared.uses.Owner.{Owner}
-use Rattle.mm_why.specs.Derivations.{line_at, Allows}
+use Rattle.mm_why.specs.Derivations.{line_at, GivesUse}
 use Rattle.mm_why.specs.Rounds.{AreRounds, round_at}
 use Rattle.mm_why.specs.Graphs.{edges_of}
 use Rattle.mm_why.specs.Works.{ReachesRight}
@@ -44,4 +44,4 @@ pub record IsGiver (g : Graph) (r : Rounds) (how : WordUse) (word to : ℕ) (o :
 pub record GivesAt (lines : List Line) (k group : ℕ) (how : WordUse) (word : ℕ) : Type 0 where
   pub small : k < length lines
   pub group_is : (line_at lines k).group ≡ group
-  pub gives : Allows how (line_at lines k).pointer word
+  pub gives : GivesUse how (line_at lines k).pointer word

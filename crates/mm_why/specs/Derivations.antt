@@ -143,9 +143,9 @@ pub record IsDerivation (i : Image) (lines : List Line) : Type 0 where
   pub named : (j : ℕ) → j + 1 < length lines → IsNamed lines j
 
 -- the pointer gives this use of the word
-abbrev pub Allows : WordUse → Pointer → ℕ → Type 0
-Allows uses.Touch p w = LoadsAt p w
-Allows uses.Write p w = StoresAt p w
+abbrev pub GivesUse : WordUse → Pointer → ℕ → Type 0
+GivesUse uses.Touch p w = LoadsAt p w
+GivesUse uses.Write p w = StoresAt p w
 
 -- the group is granted this use of the word
 abbrev pub IsGranted : Image → WordUse → ℕ → ℕ → Type 0
@@ -157,7 +157,7 @@ pub record Derives (i : Image) (how : WordUse) (g w : ℕ) (lines : List Line) :
   pub derivation : IsDerivation i lines
   pub pointer : Pointer
   pub last : Says lines (length lines) (length lines - 1) g pointer
-  pub gives : Allows how pointer w
+  pub gives : GivesUse how pointer w
 
 -- 3. The law.
 

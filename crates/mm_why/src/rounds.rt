@@ -11,7 +11,7 @@ use std::alloc::Global;
 /// For each group the mask of others.
 pub type Masks = [u64; 64];
 
-/// Which groups share with which.
+/// The groups with which each group shares, by rounds.
 #[derive(Drop)]
 pub struct Rounds {
     /// The groups that serve a group or that it serves.

@@ -1,4 +1,4 @@
-//! The uses of words, and the pointers that give them.
+//! The pointers that give uses of words, and the groups that own such pointers.
 
 ghost use Rattle.std.specs.Prelude.{◌≡◌, ℕ, ◌<◌, ◌↔◌, IsTrue, MatchOption, Some, All, length};
 ghost use Rattle.std.specs.Int.{bit_at};
@@ -94,7 +94,8 @@ fn owner_in(now: &Masks, owners: u64, to: usize) -> Option<usize>
     None
 }
 
-/// A group of a mask whose own pointers come to a group before those of any other, and the round in which they have come.
+/// A group of a mask whose own pointers come to a group before those of any other, and the round in which they have
+/// come.
 pub fn first_owner(rounds: &Rounds, owners: u64, to: usize) -> Option<Owner>
     requires { AreRounds rounds.now.links rounds.now.meets rounds.now.rounds.items }
     ensures { MatchOption

@@ -1,3 +1,5 @@
+//! Tests of commands of which one call fails: what was written, and what the answer is.
+
 use mm_io::{MemFiles, MemSink, MemSource};
 use mm_load::Status;
 use mm_top::mmachine;
@@ -33,7 +35,7 @@ const HALT: &[u8] =
 // The canonical text of that object.
 const HALT_AGAIN: &[u8] = b".spare 0\n.segment a 3\nhalt\n";
 
-// Who holds a pointer into the page of the code of `pair`.
+// The holders of pointers into the page of the code of `pair`.
 const HOLDERS: &[u8] = b"ip 0 p3300000000100000\nip 1 p3300000000100000\n";
 
 // The least generated image after three cycles.
@@ -52,7 +54,7 @@ fn hello(rt: &HostRuntime) -> Result<Vec<u8>, Fail> {
     hello_as(rt, 1, 0)
 }
 
-/// The same of a version and a mode.
+/// The image of `examples/hello.img`, but of this version and this mode.
 fn hello_as(rt: &HostRuntime, version: u8, mode: u8) -> Result<Vec<u8>, Fail> {
     let mut bytes = Vec::from_slice(rt.alloc(), b"MMI1\x00")?;
     bytes.extend_from_slice(&[version, 0, 1, 0, 1, 0, 1, 0, 0, 0, mode])?;
@@ -197,7 +199,7 @@ const LINES: &[u8] = b"step 1\nregs 0\nmem 0x100000 1\njump\nquit\n";
 const REPLIES: &[u8] =
     b"stepped 1 total 1\nslot 0 turns 1 running ip p3300000000100008\nr 1 i0000000000000041\ncell 00000000100000 i0210000000000041 full\nbad command\nbye\n";
 
-/// These lines, of which a read gives at most ten bytes. The read of this number fails.
+/// A source of `LINES` that gives at most ten bytes in a read. The read with the number `fails` fails.
 fn lines(rt: &HostRuntime, fails: u64) -> Result<MemSource, Fail> {
     let fails = vec![in rt.alloc(); fails]?;
     Ok(MemSource::new(Vec::from_slice(rt.alloc(), LINES)?, fails, 10))
@@ -234,7 +236,7 @@ fn stops_at_read(rt: &HostRuntime, words: &[&str], fails: [u64; 4]) -> Result<bo
     )
 }
 
-/// Whether `out` has a front part of the text, of whole pieces, if the write after `before` others fails.
+/// Whether `out` has a prefix of the text, of whole pieces, if the write after `before` others fails.
 fn stops_at_write(
     rt: &HostRuntime,
     words: &[&str],
@@ -256,8 +258,8 @@ fn ends(rt: &HostRuntime, words: &[&str], fails: [u64; 4], text: &[u8]) -> Resul
     Ok(matches!(status, Status::Done) && out.taken() == text && diag.taken().is_empty())
 }
 
-/// Whether it is so for each call that the words make: of the numbers of reads of files, of reads of standard input and
-/// of writes that `calls` has. A failing call that they do not make changes nothing.
+/// Whether the outputs are as they have to be whichever call fails, of the numbers of reads of files, of reads of
+/// standard input and of writes that `calls` has. A failing call that the words do not make changes nothing.
 fn fails_in_turn(
     rt: &HostRuntime,
     words: &[&str],

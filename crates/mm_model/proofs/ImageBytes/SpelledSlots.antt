@@ -14,10 +14,6 @@ all_at P [] all k d lt = absurd (omega arith)
 all_at P (x ∷ xs) all zero d lt = all.0
 all_at P (x ∷ xs) all (suc k) d lt = all_at P xs all.1 k d (omega arith)
 
-pub element : {A : Type 0} (xs : List A) (k : ℕ) → k < length xs → A
-element [] k lt = absurd (omega arith)
-element (x ∷ xs) k lt = x
-
 differ : (a b : ℕ) → a ≢ b → (a == b) ≡ false
 differ a b ne = grind (arith, nat_tests)
 

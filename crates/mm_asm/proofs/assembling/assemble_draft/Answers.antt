@@ -2,7 +2,7 @@ use Rattle.std.proofs.Common.{Option, map, ap, ◌∙◌, sym, subst}
 use Rattle.mm_draft.specs.Laws.{Pair, failure_pair, least}
 use Rattle.mm_asm.specs.Meaning.{object_of}
 use Rattle.mm_asm.specs.Faults.{late_failures}
-use Rattle.mm_asm.specs.Answers.{Fails, pair_of_first, bytes_of}
+use Rattle.mm_asm.specs.Answers.{Fails, pair_of_first}
 use Rattle.mm_asm.proofs.Whole.{object_is}
 use Rattle.mm_asm.proofs.LateFirsts.{met_late}
 use Rattle.mm_asm.proofs.LateSources.{late_place}
@@ -10,6 +10,7 @@ use Rattle.mm_asm.proofs.LateTargets.{pointers_fit, threads_fit}
 use Rattle.mm_asm.proofs.LateWords.{segments_fit, externals_named}
 use Rattle.mm_asm.proofs.LateAnswers.{gives_object, none_late}
 use Rattle.mm_asm.proofs.assembling.assemble_draft.Goals as goal
+use Rattle.mm_object.specs.Steps.{key_names}
 
 pub returns-in-Some : goal.returns-in-Some
 returns-in-Some c =
@@ -46,7 +47,7 @@ names_of-requires c =
     let d = c.args.draft.now in
     let met = met_late d c.deref.result.now c.deref-2.result.now c.meet_goals.new.first c.meet_targets.new.first c.externals.new.first
     (c.deref.ensures.value ∙ c.in_ok-uses.ensures.uses) (c.deref-2.ensures.value ∙ c.in_ok-uses.ensures.uses) c.meet_goals.ensures c.meet_targets.ensures c.in_ok-externals.ensures.faults in
-    externals_named d c.deref-2.result.now (bytes_of c.in_ok-externals.externals.keys) (object_is d c.requires.bounded (none_late (late_failures d) (sym met ∙ ap pair_of_first c.in_default.is)))
+    externals_named d c.deref-2.result.now (key_names c.in_ok-externals.externals.keys) (object_is d c.requires.bounded (none_late (late_failures d) (sym met ∙ ap pair_of_first c.in_default.is)))
     (c.deref-2.ensures.value ∙ c.in_ok-uses.ensures.uses) c.in_ok-externals.ensures.names
 
 pub object_of-requires-clause-pointers : goal.object_of-requires-clause-pointers

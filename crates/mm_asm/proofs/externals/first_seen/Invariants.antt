@@ -1,11 +1,12 @@
 use Rattle.std.proofs.Common.{[], take}
-use Rattle.mm_asm.specs.Answers.{Meets, bytes_of}
+use Rattle.mm_asm.specs.Answers.{Meets}
 use Rattle.mm_asm.specs.Names.{HasEach, externals_with}
 use Rattle.mm_asm.specs.Faults.{limit_failures}
 use Rattle.mm_asm.proofs.externals.first_seen.Given as goal
+use Rattle.mm_object.specs.Steps.{key_names}
 
 abbrev pub invariant-loop-u : goal.invariant-loop-u
 invariant-loop-u l = record {
-  names : HasEach (externals_with l.draft [] (take l.u-index l.uses)) (bytes_of l.names.keys);
+  names : HasEach (externals_with l.draft [] (take l.u-index l.uses)) (key_names l.names.keys);
   faults : Meets l.initial.first l.first (limit_failures l.draft [] (take l.u-index l.uses));
 }

@@ -5,10 +5,10 @@ use Rattle.mm_audit.proofs.sets.set_of.Goals as goal
 
 pub push-requires-clause-segment : goal.push-requires-clause-segment
 push-requires-clause-segment c =
-    next_segment (c.in-Some.base, c.in-Some.log) c.next.new.self c.loop-base.set _ (outermost_set c.args.access c.args.groups c.args.spans.now 0 c.requires)
+    next_segment (c.in-Some.base, c.in-Some.log) c.next.new.self c.loop-base.set _ (outermost_set c.args.how c.args.groups c.args.spans.now 0 c.requires)
     (c.loop-base.invariant ∙ ap (λ v. c.loop-base.set ++ v) c.in-Some.ensures)
 
 pub push-requires-clause-behind : goal.push-requires-clause-behind
 push-requires-clause-behind c =
-    next_behind (c.in-Some.base, c.in-Some.log) c.next.new.self c.loop-base.set _ (outermost_set c.args.access c.args.groups c.args.spans.now 0 c.requires)
+    next_behind (c.in-Some.base, c.in-Some.log) c.next.new.self c.loop-base.set _ (outermost_set c.args.how c.args.groups c.args.spans.now 0 c.requires)
     (c.loop-base.invariant ∙ ap (λ v. c.loop-base.set ++ v) c.in-Some.ensures)

@@ -1,5 +1,6 @@
-use Rattle.std.proofs.Common.{◌++◌, codes, refl}
+use Rattle.std.proofs.Common.{◌++◌, refl}
 use Rattle.std.specs.List.{flat_map}
+use Rattle.mm_model.specs.declared.word_use.WordUse.TheVariants.{Touch, Write}
 use Rattle.mm_model.specs.Reach.Entries.{All}
 use Rattle.mm_model.specs.Audit.{kind_line, segment_line}
 use Rattle.mm_text.proofs.Gathering.{gathers_then}
@@ -9,7 +10,7 @@ pub returns : goal.returns
 returns g c =
     let touch = c.touched.result in
     let write = c.written.result in (
-      kind_line c.args.group c.privileged.result ++ flat_map (segment_line (codes "touch")) touch ++ flat_map (segment_line (codes "write")) write,
+      kind_line c.args.group c.privileged.result ++ flat_map (segment_line Touch) touch ++ flat_map (segment_line Write) write,
       gathers_then (gathers_then c.put_kind.ensures c.put_segments.ensures) c.put_segments-2.ensures,
       λ i surveys. record {
         privileged = c.privileged.result;

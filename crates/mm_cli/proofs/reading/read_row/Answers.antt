@@ -18,7 +18,8 @@ loop-parameter-init c =
 pub returns-in_err-word : goal.returns-in_err-word
 returns-in_err-word c =
     rw c.from_residual.ensures
-    (read_no_more c.args.parameters.now c.args.last (texts c.args.words.now) c.loop-parameter.parameter-index _ (spoken c.loop-parameter.read.items) (texts c.loop-parameter.rest.now) c.loop-parameter-test.true
+    (read_no_more c.args.parameters.now c.args.last (texts c.args.words.now) c.loop-parameter.parameter-index _
+    (spoken c.loop-parameter.read.items) (texts c.loop-parameter.rest.now) c.loop-parameter-test.true
     c.loop-parameter.invariant.so_far c.in_err-word.ensures)
 
 pub push-requires : goal.push-requires
@@ -43,7 +44,8 @@ push_last-requires c = omega (arith, c.requires, c.loop-parameter.invariant.coun
 pub returns-in_err-push_last : goal.returns-in_err-push_last
 returns-in_err-push_last c =
     rw c.from_residual-in_err-push_last.ensures
-    (read_no_last c.args.parameters.now c.args.last (texts c.args.words.now) c.loop-parameter.parameter-index (spoken c.loop-parameter.read.items) (texts c.loop-parameter.rest.now) c.loop-parameter-test.false
+    (read_no_last c.args.parameters.now c.args.last (texts c.args.words.now) c.loop-parameter.parameter-index
+    (spoken c.loop-parameter.read.items) (texts c.loop-parameter.rest.now) c.loop-parameter-test.false
     c.loop-parameter.invariant.so_far (c.in_err-push_last.ensures.none refl))
 
 pub returns : goal.returns
@@ -54,6 +56,7 @@ returns c =
     let at = c.loop-parameter.parameter-index in
     let old = c.loop-parameter.read.items in
     let new = c.push_last.new.read.items in
-    let spelling = read_all parameters last (texts c.args.words.now) at (spoken old) (spoken more) (spoken new) (texts c.loop-parameter.rest.now) c.loop-parameter-test.false c.loop-parameter.invariant.so_far fits are
+    let spelling = read_all parameters last (texts c.args.words.now) at
+    (spoken old) (spoken more) (spoken new) (texts c.loop-parameter.rest.now) c.loop-parameter-test.false c.loop-parameter.invariant.so_far fits are
     (spoken_both old more new whole) in
     (formed_all parameters last at old more new c.loop-parameter-test.false c.loop-parameter.invariant.formed formed whole, spelling.0, spelling.1)

@@ -46,8 +46,13 @@ pub returns-in_ok-read_mode-in-Mode : goal.returns-in_ok-read_mode-in-Mode
 returns-in_ok-read_mode-in-Mode c =
     let split = c.in_ok-read_mode-in-Mode.field-0 in
     let said = c.in_ok-read_mode-in-Mode.ensures in
-    let fits : FitsParameter c.args.parameter (mode_word split) = subst (λ (parameter : Parameter). FitsParameter parameter (mode_word split)) (sym c.in-Mode.is) tt in
-    (mode_word split, subst (λ (parameter : Parameter). IsOfParameter parameter (read.Mode split)) (sym c.in-Mode.is) tt, refl, fits, ap (λ (text : List ℕ). text ∷ []) (sym c.as_str-in-Mode.ensures.value ∙ said))
+    let fits : FitsParameter c.args.parameter (mode_word split) = subst (λ (parameter : Parameter). FitsParameter parameter (mode_word split)) (sym c.in-Mode.is) tt in (
+      mode_word split,
+      subst (λ (parameter : Parameter). IsOfParameter parameter (read.Mode split)) (sym c.in-Mode.is) tt,
+      refl,
+      fits,
+      ap (λ (text : List ℕ). text ∷ []) (sym c.as_str-in-Mode.ensures.value ∙ said),
+    )
 
 pub returns-in_ok-read_address-in-Address : goal.returns-in_ok-read_address-in-Address
 returns-in_ok-read_address-in-Address c =
@@ -63,7 +68,12 @@ returns-in_ok-read_address-in-Address c =
 
 pub returns-in_ok-read_use-in-Use : goal.returns-in_ok-read_use-in-Use
 returns-in_ok-read_use-in-Use c =
-    let write = c.in_ok-read_use-in-Use.field-0 in
+    let how = c.in_ok-read_use-in-Use.field-0 in
     let said = c.in_ok-read_use-in-Use.ensures in
-    let fits : FitsParameter c.args.parameter (use_word write) = subst (λ (parameter : Parameter). FitsParameter parameter (use_word write)) (sym c.in-Use.is) tt in
-    (use_word write, subst (λ (parameter : Parameter). IsOfParameter parameter (read.Use write)) (sym c.in-Use.is) tt, refl, fits, ap (λ (text : List ℕ). text ∷ []) (sym c.as_str-in-Use.ensures.value ∙ said))
+    let fits : FitsParameter c.args.parameter (use_word how) = subst (λ (parameter : Parameter). FitsParameter parameter (use_word how)) (sym c.in-Use.is) tt in (
+      use_word how,
+      subst (λ (parameter : Parameter). IsOfParameter parameter (read.Use how)) (sym c.in-Use.is) tt,
+      refl,
+      fits,
+      ap (λ (text : List ℕ). text ∷ []) (sym c.as_str-in-Use.ensures.value ∙ said),
+    )

@@ -2,11 +2,11 @@ use Rattle.std.proofs.Common.{◌≡◌, ◌-◌, ◌++◌, take}
 use Rattle.std.specs.List.{flat_map, range_with_len}
 use Rattle.std.specs.BTreeMap.{get}
 use Rattle.mm_explore.specs.Noting.{fault_found}
-use Rattle.mm_explore.specs.Results.{fault_lines}
+use Rattle.mm_explore.specs.Results.{fault_found_lines}
 use Rattle.mm_explore.specs.Words.{order}
 use Rattle.mm_explore.proofs.faults.put_faults.Given as goal
 
 abbrev pub invariant-loop-cause : goal.invariant-loop-cause
 invariant-loop-cause l =
-    flat_map fault_lines l.out.items ≡ flat_map fault_lines l.fn.out.items
+    flat_map fault_found_lines l.out.items ≡ flat_map fault_found_lines l.fn.out.items
     ++ flat_map (λ cause. fault_found l.found.list l.slot cause (get order l.faults (l.slot, cause))) (take (l.cause - 1) (range_with_len 1 13))

@@ -1,8 +1,8 @@
 use Rattle.std.proofs.Common.{ℕ, List}
 use Rattle.std.specs.List.{AllZip, flat_map}
 use Rattle.mm_explore.specs.Noting.{IsEnd}
-use Rattle.mm_explore.specs.Results.{outcome_lines}
-use Rattle.mm_explore.specs.Texts.{outcome_lines as lines_of_outcome}
+use Rattle.mm_explore.specs.Results.{outcome_found_lines}
+use Rattle.mm_explore.specs.Texts.{outcome_lines}
 use Rattle.mm_explore.proofs.LeftOver.{LeftOver}
 use Rattle.mm_explore.proofs.outcomes.put_outcomes.Given as goal
 
@@ -10,4 +10,5 @@ use Rattle.mm_explore.proofs.outcomes.put_outcomes.Given as goal
 abbrev pub invariant-loop-key : goal.invariant-loop-key
 invariant-loop-key l =
     (finals ts : List (List ℕ)) → AllZip (λ t end. IsEnd l.img l.found.list finals t end.0.items end.1) ts l.ends.entries
-    → LeftOver (λ t end. IsEnd l.img l.found.list finals t end.0.items end.1) (lines_of_outcome l.img finals) outcome_lines ts (flat_map outcome_lines l.fn.out.items) l.out.items l.key-iterator
+    → LeftOver (λ t end. IsEnd l.img l.found.list finals t end.0.items end.1) (outcome_lines l.img finals)
+    outcome_found_lines ts (flat_map outcome_found_lines l.fn.out.items) l.out.items l.key-iterator

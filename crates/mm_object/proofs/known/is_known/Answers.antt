@@ -1,8 +1,8 @@
 use Rattle.std.proofs.Common.{ap, ◌∙◌}
 use Rattle.mm_object.specs.Objects.{is_among}
-use Rattle.mm_object.specs.Steps.{bytes_of}
+use Rattle.mm_object.specs.Steps.{key_names}
 use Rattle.mm_object.proofs.Keys.{contained}
 use Rattle.mm_object.proofs.known.is_known.Goals as goal
 
 pub returns : goal.returns
-returns c = c.contains.ensures ∙ contained c.args.known.now.keys c.bytes.result.now ∙ ap (λ n. is_among n (bytes_of c.args.known.now.keys)) c.bytes.ensures.bytes
+returns c = c.contains.ensures ∙ contained c.args.known.now.keys c.bytes.result.now ∙ ap (λ n. is_among n (key_names c.args.known.now.keys)) c.bytes.ensures.bytes

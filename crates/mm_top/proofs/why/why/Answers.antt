@@ -1,9 +1,8 @@
-use Rattle.std.proofs.Common.{◌≡◌, ℕ, List, [], slice_get, refl, sym, ◌∙◌, ap, subst, arith}
+use Rattle.std.proofs.Common.{◌≡◌, ℕ, List, [], slice_get, refl, sym, subst, arith}
 use Rattle.mm_model.specs.declared.word_use.WordUse.{WordUse}
 use Rattle.mm_why.specs.Text.{SaysWhy}
 use Rattle.mm_cli.specs.Words.{IsWordAddress}
 use Rattle.mm_cli.specs.Said.{number_of, use_of}
-use Rattle.mm_top.specs.Commands.{use_said}
 use Rattle.mm_top.proofs.Rows.{row_stops, row_ends}
 use Rattle.mm_top.proofs.NamedFiles.{named}
 use Rattle.mm_top.proofs.why.why.Goals as goal
@@ -15,16 +14,16 @@ pub returns : goal.returns
 returns g c =
     let i = c.in_ok-image.image in
     let IsText : List ℕ → ℕ → ℕ → WordUse → Type 0 = λ text group word how. SaysWhy i how group word text in
-    let asked : WordUse = use_said (use_of (slice_get c.args.words.now 3)) in
-    let how : c.use_of-how.result ≡ asked = c.use_of-how.ensures ∙ ap use_said c.use_at.ensures in
+    let asked : WordUse = use_of (slice_get c.args.words.now 3) in
+    let how : c.use_at.result ≡ asked = c.use_at.ensures in
     row_ends _ _ (named c.name_at.ensures (c.in_ok-image.ensures.read [] refl)) refl c.write_reason.ensures (λ r no. no)
     (λ text is.
     subst (λ (group : ℕ). IsText text group (number_of (slice_get c.args.words.now 2)) asked) c.number_at-group.ensures
-    (subst (λ (word : ℕ). IsText text c.number_at-group.result word asked) c.number_at.ensures
-    (subst (λ (u : WordUse). IsText text c.number_at-group.result c.number_at.result u) how is)))
+    (subst (λ (word : ℕ). IsText text c.number_at-group.result word asked) c.number_at-word.ensures
+    (subst (λ (u : WordUse). IsText text c.number_at-group.result c.number_at-word.result u) how is)))
 
 pub write_reason-requires-clause-few : goal.write_reason-requires-clause-few
 write_reason-requires-clause-few g c = omega (arith, c.number_at-group.ensures, c.requires.1.0.1)
 
 pub write_reason-requires-clause-address : goal.write_reason-requires-clause-address
-write_reason-requires-clause-address g c = subst IsWordAddress (sym c.number_at.ensures) c.requires.1.1.0
+write_reason-requires-clause-address g c = subst IsWordAddress (sym c.number_at-word.ensures) c.requires.1.1.0

@@ -1,6 +1,6 @@
 use Rattle.std.proofs.Common.{◌<◌, List, length, sym, subst}
 use Rattle.mm_why.specs.declared.line.Line.{Line}
-use Rattle.mm_why.specs.Derivations.{Allows}
+use Rattle.mm_why.specs.Derivations.{GivesUse}
 use Rattle.mm_why.specs.Pruning.{NameEarlier}
 use Rattle.mm_why.proofs.Deciding.{derives}
 use Rattle.mm_why.proofs.Growing.{each_earlier}
@@ -49,5 +49,5 @@ returns c =
     let pruned = rw c.deref.ensures.value at c.in_ok-lines.ensures.derivation in
     let end = rw c.deref.ensures.value at c.in_ok-lines.ensures.last in
     derives c.args.context.now.image.now c.args.how c.args.group c.args.word c.give.new.work.lines.items c.in_ok-lines.lines.items c.in_ok-last.last c.pointer_of-pointer.result
-    c.in_ok-last.ensures.goes_on.work.trace c.in_ok-last.ensures.says (subst (λ v. Allows c.args.how v c.args.word) (sym c.pointer_of-pointer.ensures) c.in_ok-place.ensures.line.gives)
+    c.in_ok-last.ensures.goes_on.work.trace c.in_ok-last.ensures.says (subst (λ v. GivesUse c.args.how v c.args.word) (sym c.pointer_of-pointer.ensures) c.in_ok-place.ensures.line.gives)
     (pruned c.args.context.now.image.now) end

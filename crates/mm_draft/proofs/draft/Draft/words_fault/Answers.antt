@@ -2,11 +2,12 @@ use Rattle.std.proofs.Common.{◌≡◌, ◌+◌, ◌∙◌, ap, sym, length}
 use Rattle.std.specs.Prelude.{nat_lt, ◌||◌}
 use Rattle.mm_line.specs.declared.fault.Fault.TheVariants.{Full, Limit}
 use Rattle.mm_draft.specs.Drafts.{Segment, Draft, last, words_of, pointers_of}
-use Rattle.mm_draft.specs.Faults.{first_of, fault_if, words_faults, room_of, word_limit, pointer_limit}
+use Rattle.mm_draft.specs.Faults.{first_of, fault_if, words_faults, room_of}
 use Rattle.mm_draft.specs.Seen.{first_of_both}
 use Rattle.mm_draft.proofs.Lasts.{last_is}
 use Rattle.mm_draft.proofs.Firsts.{first_of_append}
 use Rattle.mm_draft.proofs.draft.Draft.words_fault.Goals as goal
+use Rattle.mm_model.specs.Limits.{word_limit, reloc_limit}
 
 pub returns-in-Some : goal.returns-in-Some
 returns-in-Some c =
@@ -15,7 +16,7 @@ returns-in-Some c =
     let at = rw c.deref.ensures.value at c.in-Some.ensures.value in
     let e = last_is c.self.inside.segments.items s (sym at) in
     let e2 = ap (λ (d : Draft). last d.segments) (sym c.self.view_is) ∙ e in
-    let past = nat_lt word_limit (words_of c.args.self.now.segments + c.args.words) || nat_lt pointer_limit (pointers_of c.args.self.now.segments + c.args.pointers) in
+    let past = nat_lt word_limit (words_of c.args.self.now.segments + c.args.words) || nat_lt reloc_limit (pointers_of c.args.self.now.segments + c.args.pointers) in
     let len : c.len.result ≡ length s.words = c.len.ensures ∙ c.segment.inside.words.ok.0 ∙ ap (λ (x : Segment). length x.words) c.segment.view_is in
     let full = c.fault_if-in-Some.ensures ∙ (λ i. first_of (fault_if (nat_lt (c.room.ensures i) (len i + c.args.words)) Full left)) in
     let limit = c.fault_if-in-Some-2.ensures ∙ ap (λ b. first_of (fault_if b Limit left)) c.is_past_limit.ensures in

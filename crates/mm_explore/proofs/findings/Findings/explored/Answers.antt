@@ -4,8 +4,8 @@ use Rattle.std.specs.BTreeMap.{get}
 use Rattle.mm_model.specs.Slot.{Slot}
 use Rattle.mm_explore.specs.Findings.{IsReached, explored_turns, firsts}
 use Rattle.mm_explore.specs.Noting.{first_in, fault_found}
-use Rattle.mm_explore.specs.Results.{GroupFound, group_lines, fault_lines, outcome_lines}
-use Rattle.mm_explore.specs.Texts.{Exploration, reached_lines, outcome_lines as lines_of_outcome}
+use Rattle.mm_explore.specs.Results.{GroupFound, group_found_lines, fault_found_lines, outcome_found_lines}
+use Rattle.mm_explore.specs.Texts.{Exploration, reached_lines, outcome_lines}
 use Rattle.mm_explore.specs.Words.{order}
 use Rattle.mm_explore.proofs.ResultTexts.{groups_reached, groups_numbered, groups_each, groups_text, faults_text, origin_inside, results_text}
 use Rattle.mm_explore.proofs.findings.Findings.explored.Goals as goal
@@ -47,11 +47,11 @@ returns c = λ limit explored is_all is_more.
           count = c.len.ensures.count;
           all = refl;
           groups =
-              ap (flat_map group_lines) found_are ∙ groups_text f.words.touched.keys f.words.wrote.keys c.args.groups.now gs all_zip
+              ap (flat_map group_found_lines) found_are ∙ groups_text f.words.touched.keys f.words.wrote.keys c.args.groups.now gs all_zip
               ∙ ap (λ groups. flat_map (λ y. reached_lines y.0 y.1) (zip groups reached)) c.requires.groups;
           faults =
               c.in_ok-list_faults.ensures
-              ∙ ap (λ l. flat_map fault_lines l ++ flat_map
+              ∙ ap (λ l. flat_map fault_found_lines l ++ flat_map
               (λ (s : Slot). flat_map (λ cause. fault_found list s.number cause
               (get order f.faults (s.number, cause))) (range_with_len 1 13)) c.slots.result.now)
               c.new-faults.ensures.items
@@ -59,7 +59,7 @@ returns c = λ limit explored is_all is_more.
               ∙ faults_text i list (λ slot cause. get order f.faults (slot, cause)) noted.faults i.slots;
           outcomes =
               c.in_ok-put_outcomes.ensures ended.finals (firsts i ended.finals) ended.ends
-              ∙ ap (λ l. flat_map outcome_lines l ++ flat_map (lines_of_outcome i ended.finals) (firsts i ended.finals)) c.new-outcomes.ensures.items;
+              ∙ ap (λ l. flat_map outcome_found_lines l ++ flat_map (outcome_lines i ended.finals) (firsts i ended.finals)) c.new-outcomes.ensures.items;
         });
       };
       list = list;

@@ -1,5 +1,5 @@
 use Rattle.std.proofs.Common.{[], refl, arith}
-use Rattle.mm_explore.specs.Benches.{IsAt}
+use Rattle.mm_explore.specs.Benches.{IsAtConfiguration}
 use Rattle.mm_explore.specs.Findings.{Extension}
 use Rattle.mm_explore.specs.Searching.{node_schedule, turns_before, turns_from}
 use Rattle.mm_explore.proofs.Putting.{more_ok}
@@ -27,7 +27,7 @@ returns-clause-within c =
     let m = c.index.result.now in
     let x : Extension = record { schedule = t; item = m } in
     let is = item_is node.moves.items c.args.k m c.requires.inside c.index.ensures in
-    let at : IsAt i t c.put.new.self = c.in_ok-put.ensures.at t w.is.parts in
+    let at : IsAtConfiguration i t c.put.new.self = c.in_ok-put.ensures.at t w.is.parts in
     let step = c.in_ok-step.ensures.step t at in
     let group = c.in_ok-step.ensures.group t at in
     let noted = c.in_ok-note.ensures.noted i s.found.list (turns_before i s.found.list node.at c.args.k) x w.come.noted
@@ -45,5 +45,5 @@ returns-clause-stays c =
     let t = node_schedule s node in
     let m = c.index.result.now in
     let is = item_is node.moves.items c.args.k m c.requires.inside c.index.ensures in
-    let at : IsAt i t c.put.new.self = c.in_ok-put.ensures.at t w.is.parts in
+    let at : IsAtConfiguration i t c.put.new.self = c.in_ok-put.ensures.at t w.is.parts in
     if_more c.meet.result (λ stays h. stays_by i s node c.args.k w c.requires.inside c.turn.new.self m is (c.in_ok-step.ensures.at t at) stays h) c.meet.ensures.stays

@@ -1,6 +1,6 @@
 use Rattle.std.proofs.Common.{◌≡◌, ℕ, List, Option, length, refl, sym, ap, ◌∙◌, arith}
+use Rattle.std.specs.Option.{option_or}
 use Rattle.mm_model.specs.State.{State}
-use Rattle.mm_model.specs.Run.{or_else}
 use Rattle.mm_machine.specs.Machine.{state_of}
 use Rattle.mm_machine.proofs.Rounds.{after_cycles}
 use Rattle.mm_machine.proofs.Issuing.{begins, cycle_more, cycle_step, ends, stops}
@@ -11,7 +11,7 @@ pub loop-at-init : goal.loop-at-init
 loop-at-init g c = record {
   cycles = omega (arith, c.requires.few);
   slot = c.requires.slot;
-  issued = begins c.args.self.now c.args.items.now c.args.behind c.args.behind c.args.count refl;
+  issued = begins c.args.self.now c.args.items.now c.args.previous c.args.previous c.args.count refl;
   step = λ n one none first. absurd (omega (arith, first));
   ports = refl;
 }
@@ -26,12 +26,12 @@ loop-at-preserved g c =
     record {
       cycles = omega (arith, ap (λ (s : State). s.cycles) c.advance-made.ensures.state ∙ after_cycles (state_of mid) item, c.loop-at.invariant.cycles);
       slot = c.next_item.ensures.slot;
-      issued = cycle_more old mid c.advance-made.new.self items c.args.behind c.loop-at.last c.next_item.new.last c.args.count at item c.loop-at.invariant.issued (omega arith)
+      issued = cycle_more old mid c.advance-made.new.self items c.args.previous c.loop-at.last c.next_item.new.last c.args.count at item c.loop-at.invariant.issued (omega arith)
           (λ inside. let (next, same) = c.next_item.ensures.listed inside in (sym c.in-Some.is ∙ next, same))
-          (λ past. let (next, same) = c.next_item.ensures.behind past in (sym c.in-Some.is ∙ next, same ∙ ap (λ (o : Option ℕ). or_else o c.loop-at.last) c.in-Some.is))
+          (λ past. let (next, same) = c.next_item.ensures.robin past in (sym c.in-Some.is ∙ next, same ∙ ap (λ (o : Option ℕ). option_or o c.loop-at.last) c.in-Some.is))
           c.advance-made.ensures.state c.advance-made.ensures.takes;
       step = elim c.if-at-total.branch [
-        | then-at-total w ↦ cycle_step old mid items c.args.behind c.loop-at.last c.args.count at item c.if-at-total.step c.loop-at.invariant.issued
+        | then-at-total w ↦ cycle_step old mid items c.args.previous c.loop-at.last c.args.count at item c.if-at-total.step c.loop-at.invariant.issued
             (λ inside. sym c.in-Some.is ∙ (c.next_item.ensures.listed inside).0) (w.step-is ∙ c.advance-made.ensures.step)
         | else-at-total w ↦ λ n one none first. let some : length items ≡ 1 = ap (λ (xs : List ℕ). length xs) one in absurd (omega (arith, w.if-at-total.false, some, none, first))
       ];
@@ -39,17 +39,17 @@ loop-at-preserved g c =
     }
 
 pub returns-after-loop-at-clause-goes : goal.returns-after-loop-at-clause-goes
-returns-after-loop-at-clause-goes g c = (ends c.args.self.now c.loop-at.self c.args.items.now c.args.behind c.loop-at.last c.args.count c.loop-at.at c.loop-at.invariant.issued (omega arith)).goes
+returns-after-loop-at-clause-goes g c = (ends c.args.self.now c.loop-at.self c.args.items.now c.args.previous c.loop-at.last c.args.count c.loop-at.at c.loop-at.invariant.issued (omega arith)).goes
 
 pub returns-after-loop-at-clause-last : goal.returns-after-loop-at-clause-last
-returns-after-loop-at-clause-last g c = (ends c.args.self.now c.loop-at.self c.args.items.now c.args.behind c.loop-at.last c.args.count c.loop-at.at c.loop-at.invariant.issued (omega arith)).last
+returns-after-loop-at-clause-last g c = (ends c.args.self.now c.loop-at.self c.args.items.now c.args.previous c.loop-at.last c.args.count c.loop-at.at c.loop-at.invariant.issued (omega arith)).last
 
 pub returns-in_default-clause-goes : goal.returns-in_default-clause-goes
 returns-in_default-clause-goes g c =
-    (stops c.args.self.now c.loop-at.self c.args.items.now c.args.behind c.loop-at.last c.next_item.new.last c.args.count c.loop-at.at c.next_item.result c.loop-at.invariant.issued
-    c.in_default.is c.next_item.ensures.listed c.next_item.ensures.behind).goes
+    (stops c.args.self.now c.loop-at.self c.args.items.now c.args.previous c.loop-at.last c.next_item.new.last c.args.count c.loop-at.at c.next_item.result c.loop-at.invariant.issued
+    c.in_default.is c.next_item.ensures.listed c.next_item.ensures.robin).goes
 
 pub returns-in_default-clause-last : goal.returns-in_default-clause-last
 returns-in_default-clause-last g c =
-    (stops c.args.self.now c.loop-at.self c.args.items.now c.args.behind c.loop-at.last c.next_item.new.last c.args.count c.loop-at.at c.next_item.result c.loop-at.invariant.issued
-    c.in_default.is c.next_item.ensures.listed c.next_item.ensures.behind).last
+    (stops c.args.self.now c.loop-at.self c.args.items.now c.args.previous c.loop-at.last c.next_item.new.last c.args.count c.loop-at.at c.next_item.result c.loop-at.invariant.issued
+    c.in_default.is c.next_item.ensures.listed c.next_item.ensures.robin).last

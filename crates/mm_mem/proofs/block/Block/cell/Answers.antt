@@ -3,9 +3,10 @@ use Rattle.std.proofs.lemmas.Option.{slice_get-get_or}
 use Rattle.mm_word.specs.declared.word.Word.{Word}
 use Rattle.mm_word.specs.declared.word.Cell.{Cell}
 use Rattle.mm_model.specs.Memory.{zero_cell}
-use Rattle.mm_mem.specs.Packed.{bit_of, word_of, block_of}
+use Rattle.mm_mem.specs.Packed.{word_of, block_of}
 use Rattle.mm_mem.proofs.PackedCells.{get_or-block_of, length-block_of}
 use Rattle.mm_mem.proofs.block.Block.cell.Goals as goal
+use Rattle.mm_model.specs.Flags.{bit_of}
 
 pub returns-clause-cell : goal.returns-clause-cell
 returns-clause-cell c =

@@ -1,5 +1,0 @@
-use Rattle.mm_audit.proofs.Bits.{fresh_bit}
-use Rattle.mm_audit.proofs.meets.without.Goals as goal
-
-pub returns : goal.returns
-returns c g lt = fresh_bit c.args.groups c.args.others g c.ranges.others.fits lt

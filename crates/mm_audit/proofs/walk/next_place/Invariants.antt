@@ -1,6 +1,0 @@
-use Rattle.std.proofs.Common.{◌≡◌, drop}
-use Rattle.mm_audit.specs.Walks.{outermost}
-use Rattle.mm_audit.proofs.walk.next_place.Given as goal
-
-abbrev pub invariant-loop-k : goal.invariant-loop-k
-invariant-loop-k l = outermost l.access l.groups l.from (drop l.at l.spans) ≡ outermost l.access l.groups l.from (drop l.k l.spans)
