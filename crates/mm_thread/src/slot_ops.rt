@@ -20,7 +20,6 @@ use mm_model::{Slot, SlotState};
 use mm_word::{Cause, Word};
 
 /// Carries out an instruction that concerns its slot alone.
-#[inline(always)]
 pub(crate) fn go_alone(tables: &mut Tables, place: usize, instr: Instr) -> Outcome
     requires can { CanTurn tables.old place }
     requires alone { is_alone instr ≡ true }
