@@ -95,7 +95,7 @@ impl<M: Memory> Machine<M> {
             → StandsFor i (items ++ item ∷ []) self.new }
         ensures ports { ports_used self.new ≡ ports_used self.old }
     {
-        let mut step = no_step();
+        let mut step = Step::idle(0);
         self.issue(&[item], None, 0, &mut step);
         step
     }
@@ -106,7 +106,7 @@ impl<M: Memory> Machine<M> {
         ensures goes { WentOn self.old self.new items.now }
         ensures ports { ports_used self.new ≡ ports_used self.old }
     {
-        let mut step = no_step();
+        let mut step = Step::idle(0);
         self.issue(items, None, 0, &mut step);
     }
 
@@ -120,12 +120,12 @@ impl<M: Memory> Machine<M> {
         ensures slot { IfSome result (λ n. n < 64) }
         ensures ports { ports_used self.new ≡ ports_used self.old }
     {
-        let mut step = no_step();
+        let mut step = Step::idle(0);
         self.issue(&[], previous, count, &mut step)
     }
 
-    /// Issues the items of a list, and then up to `count` cycles of round robin as [`Machine::round_robin`] does. If a
-    /// single item is issued, its step is written.
+    /// Issues the items of a list, and then up to `count` cycles of round robin as [`Machine::round_robin`] does. If
+    /// a single item is issued, its step is written.
     ///
     /// Every cycle passes here, so that a turn has one caller, into whose loop the compiler puts it.
     fn issue(
@@ -150,11 +150,7 @@ impl<M: Memory> Machine<M> {
             let Some(item) = self.next_item(items, at, &mut last) else {
                 break;
             };
-            let made = self.advance(item);
-            // To copy each step would be some fifteen instructions a cycle.
-            if at + 1 == total {
-                *step = made;
-            }
+            self.advance(item, step);
         }
         last
     }
@@ -176,16 +172,16 @@ impl<M: Memory> Machine<M> {
         Some(next)
     }
 
-    /// Runs one more cycle, the turn of an item.
-    fn advance(&mut self, item: u8) -> Step
+    /// Runs one more cycle, the turn of an item, and writes its step.
+    fn advance(&mut self, item: u8, step: &mut Step)
         requires { (state_of self.old).cycles < 2 ^ 32 }
         ensures state { state_of self.new ≡ after (state_of self.old) item }
-        ensures step { result ≡ (turn_of (state_of self.old) item).step }
+        ensures step { step.new ≡ (turn_of (state_of self.old) item).step }
         ensures takes { Takes self.old self.new (turn_of (state_of self.old) item).uses }
         ensures ports { ports_used self.new ≡ ports_used self.old }
     {
         self.cycles += 1;
-        turn(&mut self.core, &mut self.mem, item)
+        turn(&mut self.core, &mut self.mem, item, step);
     }
 
     /// The count of cycles so far.
@@ -240,17 +236,6 @@ impl<M: Memory> Machine<M> {
         ensures paged { IsPaged (M.meaning result.now) }
     {
         &self.mem
-    }
-}
-
-/// A step that says nothing, for a caller that fills it.
-fn no_step() -> Step {
-    Step {
-        tick: Tick::Idle,
-        slot: 0,
-        fetched: None,
-        touched: None,
-        entered: None,
     }
 }
 

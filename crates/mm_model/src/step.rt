@@ -30,3 +30,21 @@ pub struct Step {
     /// The enter pointer through which a jump was done.
     pub entered: Option<GuardedPtr>,
 }
+
+impl Step {
+    ghost use Rattle.std.specs.Prelude.{◌≡◌, None};
+    ghost use Rattle.mm_model.specs.declared.step.Tick.TheVariants.{Idle};
+
+    /// The step of a cycle of a slot that does nothing, as a caller hands it to a turn, which writes its own.
+    pub fn idle(slot: u8) -> Step
+        ensures { result ≡ record { tick = Idle; slot = slot; fetched = None; touched = None; entered = None } }
+    {
+        Step {
+            tick: Tick::Idle,
+            slot,
+            fetched: None,
+            touched: None,
+            entered: None,
+        }
+    }
+}

@@ -12,12 +12,13 @@ use mm_model::Slot;
 use mm_word::Cause;
 
 /// Carries out an instruction that concerns its slot alone.
-pub(crate) fn carry_out(slot: &mut Slot, instr: Instr) -> Entered
+#[inline(always)]
+pub(crate) fn carry_out(slot: &mut Slot, instr: &Instr) -> Entered
     requires turns { slot.old.turns < 2 ^ 62 }
-    requires alone { is_alone instr ≡ true }
-    ensures { (split : Bool) → EndsAlone (effect split instr slot.old Fine) slot.old slot.new result }
+    requires alone { is_alone instr.now ≡ true }
+    ensures { (split : Bool) → EndsAlone (effect split instr.now slot.old Fine) slot.old slot.new result }
 {
-    match instr {
+    match *instr {
         Instr::Halt => local_ops::halt(slot),
         Instr::Nop => local_ops::nop(slot),
         Instr::Ldi { rd, imm } => local_ops::ldi(slot, rd, imm),

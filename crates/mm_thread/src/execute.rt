@@ -69,6 +69,6 @@ pub(crate) fn execute<M: Memory>(
         Instr::Wreg { ra, rb, reg } => untouched(write_register(tables, place, *ra, *rb, *reg)),
         Instr::Map { rd, ra } => map(tables, place, mem, *rd, *ra),
         Instr::Unmap { rd, ra } => unmap(tables, place, mem, *rd, *ra),
-        _ => untouched(go_alone(tables, place, *instr)),
+        _ => untouched(go_alone(tables, place, instr)),
     }
 }

@@ -20,11 +20,12 @@ use mm_model::{Slot, SlotState};
 use mm_word::{Cause, Word};
 
 /// Carries out an instruction that concerns its slot alone.
-pub(crate) fn go_alone(tables: &mut Tables, place: usize, instr: Instr) -> Outcome
+#[inline(always)]
+pub(crate) fn go_alone(tables: &mut Tables, place: usize, instr: &Instr) -> Outcome
     requires can { CanTurn tables.old place }
-    requires alone { is_alone instr ≡ true }
+    requires alone { is_alone instr.now ≡ true }
     ensures { (m : Memory) → let s = slot_in tables.old place in
-        Leaves tables.old m s (effect_in tables.old m s instr) tables.new m result }
+        Leaves tables.old m s (effect_in tables.old m s instr.now) tables.new m result }
 {
     match tables.carry_out(place, instr) {
         Ok(entered) => Outcome::Goes(entered),

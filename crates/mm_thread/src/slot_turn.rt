@@ -83,6 +83,7 @@ fn fetch<M: Memory>(tables: &mut Tables, place: usize, mem: &mut M, access: Acce
 }
 
 // The instruction that a word spells.
+#[inline(always)]
 fn instr_in(word: Word) -> Option<Instr>
     ensures { result ≡ instr_in word }
 {
@@ -123,6 +124,7 @@ fn issue<M: Memory>(
 }
 
 // Whether a register in the instruction waits for a load, in a split machine.
+#[inline(always)]
 fn must_wait(tables: &Tables, place: usize, instr: &Instr) -> bool
     requires { place < length tables.now.rows }
     ensures { result ≡ (tables.now.split && lacks instr.now (slot_in tables.now place)) }
@@ -132,6 +134,7 @@ fn must_wait(tables: &Tables, place: usize, instr: &Instr) -> bool
 
 // Ends a turn, whose step has the slot and the fetch: a slot that waits stays at its instruction, and a slot that
 // faults goes to its handler.
+#[inline(always)]
 fn end(tables: &mut Tables, place: usize, instr: &Instr, told: Retired, step: &mut Step)
     requires { CanEnd told.outcome tables.old place }
     ensures core { tables.new ≡ core_ended instr.now tables.old (slot_in tables.old place) place told.outcome }

@@ -236,13 +236,14 @@ impl Tables {
     }
 
     /// Carries out an instruction of the slot that concerns it alone.
-    pub(crate) fn carry_out(&mut self, place: usize, instr: Instr) -> Entered
+    #[inline(always)]
+    pub(crate) fn carry_out(&mut self, place: usize, instr: &Instr) -> Entered
         requires place { place < length self.old.rows }
         requires runs { is_running (slot_in self.old place).state ≡ true }
         requires turns { (slot_in self.old place).turns < 2 ^ 62 }
-        requires alone { is_alone instr ≡ true }
+        requires alone { is_alone instr.now ≡ true }
         ensures ends { (split : Bool)
-            → EndsAlone (effect split instr (slot_in self.old place) Fine) (slot_in self.old place)
+            → EndsAlone (effect split instr.now (slot_in self.old place) Fine) (slot_in self.old place)
             (slot_in self.new place) result }
         ensures others { self.new ≡ with_slot self.old place (slot_in self.new place) }
     {

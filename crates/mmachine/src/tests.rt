@@ -13,9 +13,17 @@ const HELLO: &[u8] =
 const UNDER_A_SCHEDULE: &[u8] =
     b"cycles 3\ngroup 0 output 1\no 41\nslot 0 turns 2 running ip p3300000000100010\nr 1 i0000000000000041\ncounts hits 1 misses 1 writebacks 0 tlb_hits 0 tlb_misses 1 reads 1 writes 0\n";
 
+// The third cycle of round robin, from a checkpoint of two; only that one is counted.
+const GONE_ON: &[u8] =
+    b"cycles 3\ngroup 0 output 1\no 41\nslot 0 turns 3 halted ip p3300000000100010\nr 1 i0000000000000041\ncounts hits 0 misses 1 writebacks 0 tlb_hits 0 tlb_misses 1 reads 1 writes 0\n";
+
 // Two cycles of round robin, each with its line.
 const TWO_CYCLES: &[u8] =
     b"t 0 1 did fetch 00000000100000\nt 0 2 did fetch 00000000100008\ncycles 2\ngroup 0 output 1\no 41\nslot 0 turns 2 running ip p3300000000100010\nr 1 i0000000000000041\ncounts hits 1 misses 1 writebacks 0 tlb_hits 0 tlb_misses 1 reads 1 writes 0\n";
+
+// The same two cycles, and what each of them changed.
+const LOG_OF_TWO: &[u8] =
+    b"t 0 1 did fetch 00000000100000\nip 0 p3300000000100008\nr 0 1 i0000000000000041\nt 0 2 did fetch 00000000100008\nip 0 p3300000000100010\nout 0 41\ncycles 2\ngroup 0 output 1\no 41\nslot 0 turns 2 running ip p3300000000100010\nr 1 i0000000000000041\ncounts hits 1 misses 1 writebacks 0 tlb_hits 0 tlb_misses 1 reads 1 writes 0\n";
 
 // The turns of the two slots of `pair`.
 const TURNS: &str = "0*3 1 0 1*2";
@@ -116,6 +124,29 @@ fn hello_object(rt: &HostRuntime) -> Result<Vec<u8>, Fail> {
     Ok(bytes)
 }
 
+/// The checkpoint of `hello` after its first two cycles: slot 0 put out a byte, and its code has not changed.
+fn saved(rt: &HostRuntime) -> Result<Vec<u8>, Fail> {
+    let mut bytes = Vec::from_slice(rt.alloc(), b"MMS1\x00\x01")?;
+    // Two cycles, the last of slot 0, and one page.
+    bytes.extend_from_slice(b"\x00\x00\x00\x00\x00\x00\x00\x00\x00\x02\x00\x01")?;
+    // Slot 0, which runs, after two turns.
+    bytes.extend_from_slice(b"\x00\x00\x00\x00\x00\x00\x00\x00\x00\x00\x00\x02")?;
+    bytes.extend_from_slice(&0x3300_0000_0010_0010_u64.to_be_bytes())?;
+    bytes.extend_from_slice(&[0; 12])?;
+    bytes.extend_from_slice(&0x41_u64.to_be_bytes())?;
+    bytes.extend_from_slice(&[0; 131])?;
+    // The byte that group 0 put out.
+    bytes.extend_from_slice(b"\x00\x00\x00\x01\x41")?;
+    // Page 0x100, as in the image.
+    bytes.extend_from_slice(&0x100_u64.to_be_bytes())?;
+    bytes.extend_from_slice(&[0; 64])?;
+    bytes.extend_from_slice(&[0xff; 64])?;
+    bytes.extend_from_slice(&0x0210_0000_0000_0041_u64.to_be_bytes())?;
+    bytes.extend_from_slice(&0x0701_0000_0000_0000_u64.to_be_bytes())?;
+    bytes.extend_from_slice(&[0; 4080])?;
+    Ok(bytes)
+}
+
 /// The generated image of number 0 with one slot.
 fn generated(rt: &HostRuntime) -> Result<Vec<u8>, Fail> {
     let mut bytes = Vec::from_slice(
@@ -175,6 +206,7 @@ fn shelf(rt: &HostRuntime, fails: u64, piece: usize) -> Result<MemFiles, Fail> {
         String::from_str(rt.alloc(), "HELLO_OBJECT")?,
         hello_object(rt)?,
     ))?;
+    held.push((String::from_str(rt.alloc(), "CHECKPOINT")?, saved(rt)?))?;
     for (name, bytes) in [
         ("SCHEDULE", b"0*2 5".as_slice()),
         ("TURNS", TURNS.as_bytes()),
@@ -193,6 +225,12 @@ fn shelf(rt: &HostRuntime, fails: u64, piece: usize) -> Result<MemFiles, Fail> {
 // What the audit writes of both groups.
 const REACH: &[u8] =
     b"group 0 user\ntouch 00000000100000 12\napart 0 yes\ngroup 1 user\ntouch 00000000100000 12\napart 1 yes\n";
+
+// What the first two configurations of `pair` show, and by what pointer slot 0 reaches its code.
+const TWO_OF_MORE: &[u8] =
+    b"explored 2 more\ngroup 0\ntouched 00000000100000 2\ngroup 1\ntouched 00000000100000 1\n";
+
+const REASON: &[u8] = b"1 group 0 p3300000000100000 ip 0\n";
 
 const LINES: &[u8] = b"step 1\nregs 0\nmem 0x100000 1\njump\nquit\n";
 
@@ -284,7 +322,7 @@ fn fails_in_turn(
 // Each command that writes a text, and `asm`.
 #[test]
 fn each_call_fails(rt: HostRuntime) -> Result<(), Fail> {
-    let rows: [(&[&str], [u16; 3], &[u8]); 12] = [
+    let rows: [(&[&str], [u16; 3], &[u8]); 16] = [
         (&["run", "HELLO", "10"], [6, 0, 11], HELLO),
         (
             &["run", "HELLO", "10", "SCHEDULE"],
@@ -293,7 +331,15 @@ fn each_call_fails(rt: HostRuntime) -> Result<(), Fail> {
         ),
         (&["trace", "HELLO", "2"], [6, 0, 15], TWO_CYCLES),
         (&["trace", "PAIR", "100", "TURNS"], [8, 0, 31], TRACE_OF_TWO),
+        (&["log", "HELLO", "2"], [6, 0, 20], LOG_OF_TWO),
         (&["solo", "PAIR", "0", "100", "TURNS"], [8, 0, 11], ALONE_0),
+        (
+            &["continue", "HELLO", "CHECKPOINT", "1"],
+            [12, 0, 11],
+            GONE_ON,
+        ),
+        (&["explore", "PAIR", "2"], [6, 0, 6], TWO_OF_MORE),
+        (&["why", "PAIR", "0", "1048576", "touch"], [6, 0, 3], REASON),
         (&["grants", "PAIR"], [6, 0, 7], REACH),
         (&["asm", "SOURCE"], [2, 0, 2], HALT),
         (&["dis", "OBJECT"], [2, 0, 2], HALT_AGAIN),
@@ -327,15 +373,16 @@ fn each_call_of_a_net_fails(rt: HostRuntime) -> Result<(), Fail> {
     Ok(())
 }
 
-// Each command that writes an image.
+// Each command that writes an image or a checkpoint.
 #[test]
-fn each_write_of_an_image_fails(rt: HostRuntime) -> Result<(), Fail> {
+fn each_write_of_a_file_fails(rt: HostRuntime) -> Result<(), Fail> {
     let alone = putting(&rt, &[(0, 0xff, 0x41)])?;
     assert!(rt; fails_in_turn(&rt, &["extract", "PAIR", "0"], [6, 0, 275], &alone)?);
     assert!(rt; fails_in_turn(&rt, &["link", "HELLO_OBJECT"], [2, 0, 275], &hello(&rt)?)?);
     assert!(rt; fails_in_turn(&rt, &["gen", "0", "1"], [0, 0, 539], &generated(&rt)?)?);
     let split = hello_as(&rt, 2, 1)?;
     assert!(rt; fails_in_turn(&rt, &["migrate", "HELLO", "split"], [6, 0, 275], &split)?);
+    assert!(rt; fails_in_turn(&rt, &["save", "HELLO", "2"], [6, 0, 277], &saved(&rt)?)?);
     // Nobody holds a pointer into this range.
     assert!(rt;
         fails_in_turn(

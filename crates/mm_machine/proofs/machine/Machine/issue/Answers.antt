@@ -5,7 +5,6 @@ use Rattle.mm_machine.specs.Machine.{state_of}
 use Rattle.mm_machine.proofs.Rounds.{after_cycles}
 use Rattle.mm_machine.proofs.Issuing.{begins, cycle_more, cycle_step, ends, stops}
 use Rattle.mm_machine.proofs.machine.Machine.issue.Goals as goal
-use Rattle.mm_machine.proofs.machine.Machine.issue.Goals.{then-at-total, else-at-total}
 
 pub loop-at-init : goal.loop-at-init
 loop-at-init g c = record {
@@ -24,18 +23,15 @@ loop-at-preserved g c =
     let at = c.loop-at.at in
     let item = c.in-Some.item in
     record {
-      cycles = omega (arith, ap (λ (s : State). s.cycles) c.advance-made.ensures.state ∙ after_cycles (state_of mid) item, c.loop-at.invariant.cycles);
+      cycles = omega (arith, ap (λ (s : State). s.cycles) c.advance.ensures.state ∙ after_cycles (state_of mid) item, c.loop-at.invariant.cycles);
       slot = c.next_item.ensures.slot;
-      issued = cycle_more old mid c.advance-made.new.self items c.args.previous c.loop-at.last c.next_item.new.last c.args.count at item c.loop-at.invariant.issued (omega arith)
+      issued = cycle_more old mid c.advance.new.self items c.args.previous c.loop-at.last c.next_item.new.last c.args.count at item c.loop-at.invariant.issued (omega arith)
           (λ inside. let (next, same) = c.next_item.ensures.listed inside in (sym c.in-Some.is ∙ next, same))
           (λ past. let (next, same) = c.next_item.ensures.robin past in (sym c.in-Some.is ∙ next, same ∙ ap (λ (o : Option ℕ). option_or o c.loop-at.last) c.in-Some.is))
-          c.advance-made.ensures.state c.advance-made.ensures.takes;
-      step = elim c.if-at-total.branch [
-        | then-at-total w ↦ cycle_step old mid items c.args.previous c.loop-at.last c.args.count at item c.if-at-total.step c.loop-at.invariant.issued
-            (λ inside. sym c.in-Some.is ∙ (c.next_item.ensures.listed inside).0) (w.step-is ∙ c.advance-made.ensures.step)
-        | else-at-total w ↦ λ n one none first. let some : length items ≡ 1 = ap (λ (xs : List ℕ). length xs) one in absurd (omega (arith, w.if-at-total.false, some, none, first))
-      ];
-      ports = c.advance-made.ensures.ports ∙ c.loop-at.invariant.ports;
+          c.advance.ensures.state c.advance.ensures.takes;
+      step = cycle_step old mid items c.args.previous c.loop-at.last c.args.count at item c.advance.new.step c.loop-at.invariant.issued
+          (λ inside. sym c.in-Some.is ∙ (c.next_item.ensures.listed inside).0) c.advance.ensures.step;
+      ports = c.advance.ensures.ports ∙ c.loop-at.invariant.ports;
     }
 
 pub returns-after-loop-at-clause-goes : goal.returns-after-loop-at-clause-goes
