@@ -1,8 +1,7 @@
 -- What the assembler answers is what a text means, or its first fault.
 use Rattle.std.proofs.Common.{◌≡◌, ℕ, List, [], map, Option, Some, None, Result, Ok, Err, refl, sym, ap, ◌∙◌, subst}
 use Rattle.std.specs.{Prelude.IfOk, Result.IsErrAnd}
-use Rattle.std.specs.Prelude.{IsOkUnless}
-use Rattle.mm_model.specs.Answers.{IsUnless}
+use Rattle.mm_model.specs.Answers.{IsUnless, ValueOrFault}
 use Rattle.mm_line.specs.declared.fault.Fault.{Fault}
 use Rattle.mm_line.specs.Faults.{number_of}
 use Rattle.mm_draft.specs.Drafts.{Draft}
@@ -20,7 +19,7 @@ use Rattle.mm_asm.specs.Meaning.{object_of}
 use Rattle.mm_asm.specs.Faults.{late_failures, first_fault, Means}
 use Rattle.mm_asm.proofs.Lists.{none_map}
 use Rattle.mm_asm.proofs.Texts.{none_least}
-use Rattle.mm_asm.specs.Answers.{Fails, ValueOrFault, pair_of_error}
+use Rattle.mm_asm.specs.Answers.{Fails, pair_of_error}
 
 -- failures without a least one are none
 pub none_late : (failures : List Failure) → least (map failure_pair failures) ≡ None → failures ≡ []
@@ -39,16 +38,16 @@ module _ (text : List ℕ) where
 
   -- 2. Answers.
 
-  pub fault_is : {X : Type 0} (value : X) (q : Option Pair) (r : Result X AsmError) → first_fault text ≡ q → ValueOrFault q value r
+  pub fault_is : {X : Type 0} (value : X) (q : Option Pair) (r : Result X AsmError) → first_fault text ≡ q → ValueOrFault Fails q value r
       → (kind : Fault) (line column : ℕ) → r ≡ Err (errors.Fault kind line column) → first_fault text ≡ Some (record { line = line; column = column; number = number_of kind })
   fault_is value q r e g kind line column is = e ∙ (rw is at g)
 
-  pub first_is : {X : Type 0} (value : X) (q : Option Pair) (r : Result X AsmError) → first_fault text ≡ q → ValueOrFault q value r
+  pub first_is : {X : Type 0} (value : X) (q : Option Pair) (r : Result X AsmError) → first_fault text ≡ q → ValueOrFault Fails q value r
       → (p : Pair) → first_fault text ≡ Some p → IsErrAnd r (Fails (Some p))
   first_is value q (Ok x) e g p f = let none = g.0 in cc
   first_is value q (Err x) e g p f = subst (λ (o : Option Pair). Fails o x) (sym e ∙ f) g
 
-  pub is_meant : (d : Draft) (r : Result Object AsmError) → draft_of text ≡ Ok d → ValueOrFault (least (map failure_pair (late_failures d))) (object_of d) r → IfOk r (λ o. Means text o)
+  pub is_meant : (d : Draft) (r : Result Object AsmError) → draft_of text ≡ Ok d → ValueOrFault Fails (least (map failure_pair (late_failures d))) (object_of d) r → IfOk r (λ o. Means text o)
   is_meant d (Ok o) e g = record { draft = d; early = e; late = none_late (late_failures d) g.0; object = g.1 }
   is_meant d (Err x) e g = tt
 
@@ -56,7 +55,7 @@ module _ (text : List ℕ) where
   ok_same d e h = cc
 
   pub is_again : (d : Draft) (r : Result Object AsmError) → draft_of text ≡ Ok d
-      → ValueOrFault (least (map failure_pair (late_failures d))) (object_of d) r → (o : Object) → Means text o
+      → ValueOrFault Fails (least (map failure_pair (late_failures d))) (object_of d) r → (o : Object) → Means text o
       → IsUnless errors.NoMemory o r
   is_again d r e g o m = by r g
     where
@@ -66,15 +65,10 @@ module _ (text : List ℕ) where
       none : least (map failure_pair (late_failures d)) ≡ None
       none = ap (λ (failures : List Failure). least (map failure_pair failures)) (ap late_failures (sym same) ∙ m.late)
 
-      by : (s : Result Object AsmError) → ValueOrFault (least (map failure_pair (late_failures d))) (object_of d) s → IsUnless errors.NoMemory o s
+      by : (s : Result Object AsmError) → ValueOrFault Fails (least (map failure_pair (late_failures d))) (object_of d) s → IsUnless errors.NoMemory o s
       by (Ok x) h = h.1 ∙ ap object_of (sym same) ∙ sym m.object
       by (Err (errors.Fault kind line column)) h = absurd (let k = sym none ∙ h in cc)
       by (Err errors.NoMemory) h = refl
-
--- an object without a fault, unless memory ran out
-pub gives_object : {X : Type 0} (fault : Option Pair) (value : X) (r : Result X AsmError) → fault ≡ None → IfOk r (λ x. x ≡ value) → IsOkUnless r errors.NoMemory → ValueOrFault fault value r
-gives_object fault value (Ok x) none is memory = (none, is)
-gives_object fault value (Err e) none is memory = subst (Fails fault) (sym memory) tt
 
 -- where reading stopped
 module _ (text : List ℕ) where

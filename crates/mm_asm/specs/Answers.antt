@@ -1,5 +1,5 @@
 -- The answers of the assembler, and the first of the faults that it meets.
-use Rattle.std.specs.Prelude.{◌≡◌, ℕ, List, map, Option, Some, None, Result, Ok, Err}
+use Rattle.std.specs.Prelude.{◌≡◌, ℕ, List, map, Option, Some, None}
 use Rattle.std.specs.Option.{option_map}
 use Rattle.mm_line.specs.Faults.{number_of}
 use Rattle.mm_draft.specs.declared.fault.Failure.{Failure}
@@ -16,11 +16,6 @@ abbrev pub Fails : Option Pair → AsmError → Type 0
 Fails fault (errors.Fault kind line column) =
     fault ≡ Some (record { line = line; column = column; number = number_of kind })
 Fails fault errors.NoMemory = Unit {0}
-
--- a function found no fault and this value, or it found this fault, unless memory ran out
-abbrev pub ValueOrFault : {X : Type 0} → Option Pair → X → Result X AsmError → Type 0
-ValueOrFault fault value (Ok x) = (fault ≡ None) × (x ≡ value)
-ValueOrFault fault value (Err e) = Fails fault e
 
 -- the pair of a fault that stopped the reading, unless memory ran out
 abbrev pub pair_of_error : DraftError → Option Pair

@@ -2,7 +2,7 @@
 
 ghost use Rattle.std.specs.Prelude.{◌≡◌, ◌<◌, ◌≤◌, ◌-◌, ◌^◌, ℕ, Some, Err, IfOk, map, length, MatchResult, IsOkUnless};
 ghost use Rattle.std.specs.Result.{IsErrAnd};
-ghost use Rattle.mm_model.specs.Answers.{IsUnless};
+ghost use Rattle.mm_model.specs.Answers.{IsUnless, ValueOrFault};
 ghost use Rattle.mm_line.specs.Faults.{number_of};
 ghost use Rattle.mm_line.specs.declared.fault.Fault.{Fault as FaultValue};
 ghost use Rattle.mm_draft.specs.Laws.{Pair, failure_pair, least};
@@ -14,7 +14,7 @@ ghost use Rattle.mm_asm.specs.Fits.{FitsSegment, FitsPointers, FitsThread};
 ghost use Rattle.mm_draft.specs.Drafts.{Segment as SegmentValue};
 ghost use Rattle.mm_asm.specs.Bounds.{IsDraft};
 ghost use Rattle.mm_asm.specs.Sources.{IsSmallError, IsFromSmall};
-ghost use Rattle.mm_asm.specs.Answers.{Fails, ValueOrFault, pair_of_error};
+ghost use Rattle.mm_asm.specs.Answers.{Fails, pair_of_error};
 ghost use Rattle.mm_asm.specs.Faults.{Means, first_fault, late_failures};
 ghost use Rattle.mm_asm.specs.Meaning.{object_of};
 ghost use Rattle.mm_asm.specs.Names.{externals_of};
@@ -67,7 +67,7 @@ fn early(error: DraftError) -> AsmError
 fn assemble_draft(alloc: Global, draft: &Draft<'_>) -> Result<Object, AsmError>
     requires bounded { IsDraft draft.now }
     requires small { IsFromSmall draft.now }
-    ensures { ValueOrFault (least (map failure_pair (late_failures draft.now))) (object_of draft.now) result }
+    ensures { ValueOrFault Fails (least (map failure_pair (late_failures draft.now))) (object_of draft.now) result }
 {
     let mut first = None;
     let uses = uses(alloc, draft)?;

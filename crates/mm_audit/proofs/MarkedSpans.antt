@@ -9,7 +9,7 @@ use Rattle.mm_word.specs.declared.perm.Perm.TheVariants.{Ro, Rw, Key as KeyPerm}
 use Rattle.mm_word.specs.Perm.{can_load, can_store}
 use Rattle.mm_word.specs.Pointer.{Pointer, IsBelow, base_of}
 use Rattle.mm_model.specs.Image.{Image}
-use Rattle.mm_model.specs.Groups.{in_mask}
+use Rattle.mm_model.specs.Flags.{in_mask}
 use Rattle.mm_model.specs.Spelling.{IsImage}
 use Rattle.mm_model.specs.Reach.{Entries, Grants}
 use Rattle.mm_model.specs.Reach.Grants.{made}

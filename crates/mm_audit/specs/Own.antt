@@ -5,7 +5,7 @@ use Rattle.std.specs.List.{list_any, filter}
 use Rattle.mm_word.specs.declared.word.Cell.{Cell}
 use Rattle.mm_model.specs.Memory.{zero_cell}
 use Rattle.mm_model.specs.Image.{Image}
-use Rattle.mm_model.specs.Groups.{in_mask}
+use Rattle.mm_model.specs.Flags.{in_mask}
 use Rattle.mm_model.specs.Reach.Entries.{All}
 use Rattle.mm_model.specs.Worlds.{Touchable}
 use Rattle.mm_seg.specs.Segments.{Covered, end_of}

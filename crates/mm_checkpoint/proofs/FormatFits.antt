@@ -26,7 +26,7 @@ use Rattle.mm_checkpoint.proofs.{Loads.{AreNew, one_load, sixteen_flags, pending
 use Rattle.mm_checkpoint.proofs.States.{state_right, state_small, cause_small, cause_back, byte_waits, state_back}
 use Rattle.mm_checkpoint.proofs.States.{state_good, cause_good, IsZeroUnless, operand_good}
 use Rattle.mm_model.specs.Slot.{Slot, register as register_of, is_empty}
-use Rattle.mm_model.specs.Flags.{bit_of}
+use Rattle.mm_model.specs.Flags.{in_mask}
 
 -- two facts
 pub also : {A B : Type 0} → A → B → A × B
@@ -151,7 +151,7 @@ module _ (fs : List Bool) (long : length fs ≡ 16) where
       let set : get_or fs p.reg false ≡ true = by (get_or fs p.reg false) (omega (arith, all, own, total)) in
       let only : one_if (get_or fs p.reg false) ≡ 1 = ap one_if set in
       let small : p.reg < 16 = within set in
-      let bit : bit_of (number_of_flags fs) p.reg ≡ true = flag-get fs p.reg (omega arith) ∙ set in
+      let bit : in_mask (number_of_flags fs) p.reg ≡ true = flag-get fs p.reg (omega arith) ∙ set in
       also (
         omega arith,
         or_false _ _ (or_false _ _ (not_le p.reg 16 small) (ap not bit)) (any_none (IsFor p.reg) earlier

@@ -9,7 +9,7 @@ use Rattle.mm_machine.specs.Snapshot.{IsPending}
 use Rattle.mm_format.{specs.Images.{mask, flags_of}, proofs.ImagesFit.fits_mask}
 use Rattle.mm_checkpoint.specs.{Tests.{bits_set, has_entry}, Steps.bit_count}
 use Rattle.mm_checkpoint.proofs.Counts.{count_cons, count_yes, count_map, count_push, none_count, none_any, moved}
-use Rattle.mm_model.specs.Flags.{bit_of}
+use Rattle.mm_model.specs.Flags.{in_mask}
 
 abbrev sum_below : (ℕ → ℕ) → ℕ → ℕ
 sum_below f zero = 0
@@ -162,7 +162,7 @@ each_there (p ∷ ps) = (
 pub bits_counted : (mask : ℕ) → bit_count mask ≡ bits_set mask
 unfolding bit_count
 bits_counted mask =
-    sym (count_map (λ (b : Bool). b) (bit_of mask) (range_with_len 0 16))
+    sym (count_map (λ (b : Bool). b) (in_mask mask) (range_with_len 0 16))
     ∙ ap (count_by (λ (b : Bool). b)) (bits-flags 16 mask)
 
 no_flags : (fs : List Bool) → ((r : ℕ) → get_or fs r false ≡ false) → number_of_flags fs ≡ 0

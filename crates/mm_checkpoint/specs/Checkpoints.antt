@@ -18,6 +18,7 @@ use Rattle.mm_model.specs.Flags.{one_if, number_of_flags}
 use Rattle.mm_model.specs.Slot.{Slot}
 use Rattle.mm_model.specs.Image.{Image, output_limit}
 use Rattle.mm_model.specs.Fits.{identity_of}
+use Rattle.mm_model.specs.Limits.{cycle_limit}
 use Rattle.mm_model.specs.Spelling.{words_spelling, page_record}
 use Rattle.mm_thread.specs.Output.{Output}
 use Rattle.mm_machine.specs.Snapshot.{Parts, IsSnapshot, IsTyped}
@@ -52,7 +53,7 @@ pub record IsCheckpoint (i : Image) (p : Parts) (last : Option ℕ) : Type 0 whe
   pub typed : IsTyped p
   -- the slots have the image's numbers, groups and handlers
   pub slots : map identity_of p.slots ≡ map identity_of i.slots
-  pub cycles : p.cycles ≤ 1000000
+  pub cycles : p.cycles ≤ cycle_limit
   pub pages : length p.pages ≤ i.memory.frames
   pub outputs : AllByRecursion (λ (o : Output). length o.bytes ≤ output_limit i.version) p.outputs
   -- no load is pending unless the image is split

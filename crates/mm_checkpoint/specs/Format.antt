@@ -12,6 +12,7 @@ use Rattle.mm_model.specs.declared.event.Event.{Event}
 use Rattle.mm_model.specs.Flags.{flags, number_of_flags, one_if}
 use Rattle.mm_model.specs.Slot.{Slot}
 use Rattle.mm_model.specs.Image.{Image, output_limit}
+use Rattle.mm_model.specs.Limits.{cycle_limit}
 use Rattle.mm_format.specs.Formats.{Format, Late, byte, u16, u32, u64, text, test, literal, part, done, ◌>>=◌, each}
 use Rattle.mm_format.specs.Formats.{times, late}
 use Rattle.mm_format.specs.Images.{mask, ip, word, page}
@@ -31,7 +32,7 @@ header frames = do
   version ← part (λ h. 1) (test u16 3 (λ n. not (n == 1)))
   last ← part (λ h. last_byte h.last) (test byte 4 (λ n. nat_le 64 n && not (n == 255)))
   zero ← part (λ h. 0) (test byte 4 (λ n. not (n == 0)))
-  cycles ← part (λ h. h.cycles) (test u64 4 (λ n. nat_lt 1000000 n))
+  cycles ← part (λ h. h.cycles) (test u64 4 (λ n. nat_lt cycle_limit n))
   pages ← part (λ h. h.pages) (test u16 12 (λ n. nat_lt frames n))
   done (record { last = if last == 255 then None else Some last; cycles = cycles; pages = pages })
 

@@ -2,6 +2,7 @@
 use Rattle.std.specs.Prelude.{◌≡◌, ◌↔◌, ℕ, ◌+◌, ◌<◌, ◌≤◌, List, ◌++◌, length, Option, None, IfSome}
 use Rattle.mm_model.specs.Image.{Image, start}
 use Rattle.mm_model.specs.Bytes.{IsBytes}
+use Rattle.mm_model.specs.Limits.{cycle_limit}
 use Rattle.mm_model.specs.Run.{run, robin_from, last_item}
 use Rattle.mm_model.specs.Spelling.{IsImage}
 use Rattle.mm_model.specs.State.{State}
@@ -56,13 +57,13 @@ pub record IsSavedState (i : Image) (s : State) (last : Option ℕ) : Type 0 whe
 -- 64
 abbrev pub RunsHaveCheckpoints : Type 0
 RunsHaveCheckpoints =
-    (i : Image) (items : List ℕ) (last : Option ℕ) → IsImage i → length items ≤ 1000000 → IfSome last (λ n. n < 64)
+    (i : Image) (items : List ℕ) (last : Option ℕ) → IsImage i → length items ≤ cycle_limit → IfSome last (λ n. n < 64)
     → IsSavedState i (run (start i) items) last
 
 -- a snapshot of a machine of an image, after at most 1,000,000 items, keeps the rules of the image's checkpoints
 abbrev pub SnapshotsAreCheckpoints : Type 0
 SnapshotsAreCheckpoints =
-    (i : Image) (items : List ℕ) (p : Parts) (last : Option ℕ) → IsImage i → length items ≤ 1000000
+    (i : Image) (items : List ℕ) (p : Parts) (last : Option ℕ) → IsImage i → length items ≤ cycle_limit
     → IsSnapshotOf (run (start i) items) p → IsTyped p
     → IfSome last (λ n. n < 64) → IsCheckpoint i p last
 

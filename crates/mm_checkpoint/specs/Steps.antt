@@ -7,7 +7,7 @@ use Rattle.mm_format.specs.declared.reader.ReadError.TheVariants as reading
 use Rattle.mm_image.specs.declared.fault.ImageFault.{ImageFault}
 use Rattle.mm_checkpoint.specs.declared.fault.SaveError.{SaveError}
 use Rattle.mm_checkpoint.specs.declared.fault.SaveError.TheVariants.{Fault, NoMemory}
-use Rattle.mm_model.specs.Flags.{bit_of}
+use Rattle.mm_model.specs.Flags.{in_mask}
 
 -- the error of a reader of checkpoints for that of a reader of fields, without the kind of the fault
 abbrev pub told : ReadError ImageFault → SaveError
@@ -20,4 +20,4 @@ put_out output = (output.group, output.bytes)
 
 -- the count of bits of a mask that are set, of 16
 unfoldable pub bit_count : (mask : ℕ) → ℕ
-bit_count mask = count_by (bit_of mask) (range_with_len 0 16)
+bit_count mask = count_by (in_mask mask) (range_with_len 0 16)

@@ -3,7 +3,7 @@ use Rattle.std.specs.Prelude.{ℕ, Bool, not, ◌&&◌, ◌||◌, ◌==◌, nat_
 use Rattle.std.specs.Prelude.{count_by}
 use Rattle.std.specs.List.{list_any}
 use Rattle.mm_model.specs.declared.slot.Pending.{Pending}
-use Rattle.mm_model.specs.Flags.{flags, bit_of}
+use Rattle.mm_model.specs.Flags.{flags, in_mask}
 use Rattle.mm_checkpoint.specs.declared.waiting.Waiter.{Waiter}
 
 -- 1. Tests of numbers.
@@ -28,7 +28,7 @@ has_entry entries register = list_any (λ (p : Pending). p.reg == register) entr
 
 -- a pending load after others cannot be for this register, given the mask of empty registers
 abbrev pub is_bad_entry : (empty : ℕ) (earlier : List Pending) (register : ℕ) → Bool
-is_bad_entry empty earlier register = nat_le 16 register || not (bit_of empty register) || has_entry earlier register
+is_bad_entry empty earlier register = nat_le 16 register || not (in_mask empty register) || has_entry earlier register
 
 -- 2. Tests of places in queues.
 

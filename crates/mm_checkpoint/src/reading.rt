@@ -1,6 +1,7 @@
 //! The reader of checkpoints.
 
 ghost use Rattle.std.specs.Prelude.{◌≡◌, ◌≤◌, ℕ, IfOk, Err, Some, Option, map, vec_len};
+ghost use Rattle.std.specs.Result.{IsErrAnd};
 ghost use Rattle.mm_model.specs.Answers.{HasViewUnless};
 ghost use Rattle.mm_model.specs.Spelling.{IsImage};
 ghost use Rattle.mm_format.specs.Formats.{file};
@@ -9,7 +10,7 @@ ghost use Rattle.mm_image.specs.Faults.{number_of};
 ghost use Rattle.mm_machine.specs.Snapshot.{Parts, parts_of};
 ghost use Rattle.mm_checkpoint.specs.Checkpoints.{Saves, saved_of};
 ghost use Rattle.mm_checkpoint.specs.Faults.{said_of, save_fault};
-ghost use Rattle.mm_checkpoint.specs.Answers.{FailsUnlessNoMemory};
+ghost use Rattle.mm_checkpoint.specs.Answers.{FailsAt};
 ghost use Rattle.mm_checkpoint.specs.Format.{checkpoint, contents_from, front, front_from, tested, waiters_in};
 ghost use Rattle.mm_checkpoint.specs.Steps.{put_out};
 ghost use Rattle.mm_checkpoint.specs.declared.rows.SlotRow.{SlotRow as RowValue};
@@ -36,7 +37,7 @@ pub fn read(alloc: Global, img: &Image, bytes: &[u8]) -> Result<(Snapshot, Optio
 
     // A fault that is answered is the first one, and if there is one it is answered.
     ensures fault { (offset : ℕ) → result ≡ Err (SaveError.Fault offset) → save_fault img.now bytes.now ≡ Some offset }
-    ensures first { (offset : ℕ) → save_fault img.now bytes.now ≡ Some offset → FailsUnlessNoMemory offset result }
+    ensures first { (offset : ℕ) → save_fault img.now bytes.now ≡ Some offset → IsErrAnd result (FailsAt offset) }
 {
     let parts = read_parts(alloc, img, bytes)?;
     let last = parts.last;

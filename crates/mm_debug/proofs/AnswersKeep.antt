@@ -6,7 +6,8 @@ use Rattle.mm_debug.specs.declared.breakpoints.Break.{Break as Breakpoint}
 use Rattle.mm_debug.specs.declared.stop.Stop.{Stop}
 use Rattle.mm_debug.specs.declared.stop.Stop.TheVariants as stop
 use Rattle.mm_debug.specs.Commands.{command_of}
-use Rattle.mm_debug.specs.Session.{Session, total_of, cycle_limit, next_item, issued, then_stepped, stepped}
+use Rattle.mm_model.specs.Limits.{cycle_limit}
+use Rattle.mm_debug.specs.Session.{Session, total_of, next_item, issued, then_stepped, stepped}
 use Rattle.mm_debug.specs.Session.{stops_before, stops_after, Ran, stopped, after_cycle, before_cycle, run_from, ran}
 use Rattle.mm_debug.specs.Session.{answer, answer_to, dialogue}
 use Rattle.mm_debug.specs.Laws.{after_lines}

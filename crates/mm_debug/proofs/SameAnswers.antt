@@ -13,7 +13,8 @@ use Rattle.mm_debug.specs.declared.stop.Stop.{Stop}
 use Rattle.mm_debug.specs.declared.stop.Stop.TheVariants as stop
 use Rattle.mm_debug.specs.Commands.{command_of}
 use Rattle.mm_debug.specs.Breakpoints.{has_break, has_watch, fits, with_break, with_watch}
-use Rattle.mm_debug.specs.Session.{Session, total_of, cycle_limit, next_item, issued, then_stepped}
+use Rattle.mm_model.specs.Limits.{cycle_limit}
+use Rattle.mm_debug.specs.Session.{Session, total_of, next_item, issued, then_stepped}
 use Rattle.mm_sched.specs.Orders.{item_in, last_after}
 use Rattle.mm_debug.specs.Session.{stepped, breaks_for, stops_before, watched, stops_after, Ran, stopped, after_cycle}
 use Rattle.mm_debug.specs.Session.{before_cycle, run_from, ran, stepped_text, stop_text, break_text, watch_text}

@@ -13,7 +13,8 @@ use Rattle.mm_debug.specs.declared.command.Command.TheVariants.{Nothing, Step, R
 use Rattle.mm_debug.specs.declared.breakpoints.Break.{Break as Breakpoint}
 use Rattle.mm_debug.specs.declared.stop.Stop.TheVariants as stop
 use Rattle.mm_debug.specs.Commands.{command_of}
-use Rattle.mm_debug.specs.Session.{Session, begun, total_of, cycle_limit, next_item, issued}
+use Rattle.mm_model.specs.Limits.{cycle_limit}
+use Rattle.mm_debug.specs.Session.{Session, begun, total_of, next_item, issued}
 use Rattle.mm_sched.specs.Orders.{item_in, last_after}
 use Rattle.mm_debug.specs.Session.{then_stepped, stepped, stops_before, stops_after, Ran, stopped, after_cycle}
 use Rattle.mm_debug.specs.Session.{before_cycle, run_from, ran, answer, answer_to, dialogue}

@@ -3,6 +3,7 @@ use Rattle.std.specs.Prelude.{ℕ, ◌+◌, ◌*◌, ◌%◌, ◌^◌, Bool, tru
 use Rattle.std.specs.Prelude.{if◌then◌else◌, List, [], ◌∷◌, codes, Option, Some, None}
 use Rattle.std.specs.Str.{bytes_eq}
 use Prim.Native.Char.{code}
+use Rattle.mm_model.specs.Limits.{cycle_limit}
 use Rattle.mm_line.specs.declared.token.Token.{Token}
 use Rattle.mm_line.specs.declared.token.Token.TheVariants.{Number}
 use Rattle.mm_line.specs.Tokens.{next_token}
@@ -62,7 +63,7 @@ if_in_range false command = Bad
 
 -- a count of cycles that a `step` may have: 1 to 1,000,000
 abbrev pub is_count : ℕ → Bool
-is_count n = nat_le 1 n && nat_le n 1000000
+is_count n = nat_le 1 n && nat_le n cycle_limit
 
 -- a number that a slot may have: 0 to 63
 abbrev pub is_slot : ℕ → Bool

@@ -8,6 +8,7 @@ use Rattle.mm_model.specs.declared.step.Step.{Step as StepTaken}
 use Rattle.mm_model.specs.declared.step.Tick.{Tick}
 use Rattle.mm_model.specs.declared.step.Tick.TheVariants.{Idle, Blocked, Did, Faulted, Delivered}
 use Rattle.mm_model.specs.Digits.{hex}
+use Rattle.mm_model.specs.Limits.{cycle_limit}
 use Rattle.mm_model.specs.Lines.{newline, slot_lines, cell_line}
 use Rattle.mm_model.specs.Memory.{Memory, cell_at}
 use Rattle.mm_model.specs.Slot.{Slot}
@@ -44,10 +45,6 @@ total_of s = s.state.cycles
 -- a session of a state, in which nothing was issued, without breaks and watches
 abbrev pub begun : Order → State → Session
 begun order state = record { order = order; last = None; state = state; breaks = []; watches = [] }
-
--- the most cycles of a session
-abbrev pub cycle_limit : ℕ
-cycle_limit = 1000000
 
 -- 2. Cycles.
 

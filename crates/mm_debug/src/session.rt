@@ -1,6 +1,7 @@
 //! Sessions that carry out lines.
 
 ghost use Rattle.std.specs.Prelude.{◌≤◌};
+ghost use Rattle.mm_model.specs.Limits.{cycle_limit};
 ghost use Rattle.mm_machine.specs.Machine.{state_of};
 
 use crate::breakpoints::{Breaks, Watches};
@@ -32,7 +33,7 @@ pub struct Session<M: Memory> {
     pub(crate) robin: Robin,
     pub(crate) breaks: Breaks,
     pub(crate) watches: Watches,
-    ghost within: { (state_of machine).cycles ≤ 1000000 },
+    ghost within: { (state_of machine).cycles ≤ cycle_limit },
 }
 
 impl<M: Inspect> Session<M> {
@@ -40,6 +41,7 @@ impl<M: Inspect> Session<M> {
     ghost use Rattle.mm_io.specs.Sinks.{Writes};
     ghost use Rattle.mm_text.specs.Gathers.{Gathers};
     ghost use Rattle.mm_model.specs.Image.{Image, start};
+    ghost use Rattle.mm_model.specs.Limits.{cycle_limit};
     ghost use Rattle.mm_machine.specs.Machine.{state_of};
     ghost use Rattle.mm_debug.specs.Session.{begun, total_of, answer, answer_to, debugged};
     ghost use Rattle.mm_debug.specs.Shown.{session_of};
@@ -65,7 +67,7 @@ impl<M: Inspect> Session<M> {
     /// The count of cycles that the session has issued.
     pub fn total(&self) -> u64
         ensures total { result ≡ total_of (session_of self.now) }
-        ensures most { result ≤ 1000000 }
+        ensures most { result ≤ cycle_limit }
     {
         self.machine.cycles()
     }

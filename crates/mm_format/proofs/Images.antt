@@ -1,10 +1,10 @@
 -- The image file is a format.
-use Rattle.std.proofs.Common.{◌≡◌, ℕ, ◌+◌, ◌*◌, ◌≤◌, Bool, true, false, not, cond}
+use Rattle.std.proofs.Common.{◌≡◌, ℕ, ◌+◌, ◌*◌, ◌<◌, ◌≤◌, Bool, true, false, not, cond}
 use Rattle.std.proofs.Common.{List, [], ◌∷◌}
-use Rattle.std.proofs.Common.{length, map, Some, None, eqb-true, refl, sym, ap, ◌∙◌, arith}
+use Rattle.std.proofs.Common.{length, map, get_or, Some, None, eqb-true, refl, sym, ap, ◌∙◌, arith}
 use Rattle.std.specs.Prelude.{◌==◌, ◌&&◌}
 use Rattle.std.proofs.lemmas.List.{take_all}
-use Rattle.std.proofs.lemmas.List.FromFn.{length-map-range_with_len}
+use Rattle.std.proofs.lemmas.List.FromFn.{length-map-range_with_len, get_or-map-range_with_len}
 use Rattle.mm_word.specs.declared.word.Word.{Word}
 use Rattle.mm_word.specs.declared.word.Word.TheVariants.{Int, Ptr}
 use Rattle.mm_word.specs.declared.word.Cell.{Cell}
@@ -34,7 +34,16 @@ unfolding mask flags_of
 mask_is = then_is _ _ u16_is (λ n _. done_is _)
     (λ n fs small e. ap number_of_flags e ∙ number_of_flags-flags 16 n small)
 
-bits_back : (size : ℕ) (bytes : List ℕ) → length bytes ≡ size → IsBytes bytes → bitmap size (bits_in size bytes) ≡ bytes
+pub bits_count : (count : ℕ) (bytes : List ℕ) → length (bits_in count bytes) ≡ count
+unfolding bits_in
+bits_count count bytes = length-map-range_with_len (bit_at bytes 0) 0 count
+
+pub bits_item : (count : ℕ) (bytes : List ℕ) (k : ℕ) → k < count → bit_at bytes 0 k ≡ get_or (bits_in count bytes) k false
+unfolding bits_in
+bits_item count bytes k lt = sym (get_or-map-range_with_len (bit_at bytes 0) 0 count k k false lt (omega arith))
+
+bits_back : (size : ℕ) (bytes : List ℕ) → length bytes ≡ size → IsBytes bytes
+    → bitmap size (bits_in (8 * size) bytes) ≡ bytes
 unfolding bits_in
 bits_back size bytes long fits = bitmap-part bytes fits 0 0 size (omega arith) ∙ take_all size bytes (omega arith)
 
@@ -45,8 +54,8 @@ bits_is size =
     (λ bytes fs fits e. ap (bitmap size) e ∙ bits_back size bytes fits.0 fits.1)
 
 pub bits_long : (size : ℕ) (fs : List Bool) → (bits size).Fits fs → length fs ≡ 8 * size
-unfolding bits bits_in
-bits_long size fs fits = ap length fits.1 ∙ length-map-range_with_len (bit_at (bitmap size fs) 0) 0 (8 * size)
+unfolding bits
+bits_long size fs fits = ap length fits.1 ∙ bits_count (8 * size) (bitmap size fs)
 
 pub word_again : (tagged : Bool) (n : ℕ) → (tagged && not (spells_pointer n)) ≡ false
     → word_bits (cond tagged (Ptr (pointer_of n)) (Int n)) ≡ n

@@ -43,15 +43,15 @@ mask = do
   bits ← part number_of_flags u16
   done (flags_of bits)
 
--- the flags of this count of bytes
-unfoldable pub bits_in : (size : ℕ) → List ℕ → List Bool
-bits_in size bytes = map (bit_at bytes 0) (range_with_len 0 (8 * size))
+-- the first bits of the bytes of a bitmap
+unfoldable pub bits_in : (count : ℕ) (bytes : List ℕ) → List Bool
+bits_in count bytes = map (bit_at bytes 0) (range_with_len 0 count)
 
 -- a bitmap of this count of bytes
 unfoldable pub bits : (size : ℕ) → Format (List Bool)
 bits size = do
   bytes ← part (bitmap size) (raw size)
-  done (bits_in size bytes)
+  done (bits_in (8 * size) bytes)
 
 unfoldable pub word : (tagged : Bool) → Format Word
 word tagged = do

@@ -9,7 +9,7 @@ use Rattle.mm_word.specs.declared.word.Cell.{Cell}
 use Rattle.mm_word.specs.Pointer.{Pointer, IsBelow, enter_result}
 use Rattle.mm_model.specs.Memory.{cell_at}
 use Rattle.mm_model.specs.Image.{Image}
-use Rattle.mm_model.specs.Groups.{in_mask}
+use Rattle.mm_model.specs.Flags.{in_mask}
 use Rattle.mm_model.specs.Reach.{Entries, Grants, MayEnter, LoadsAt, StoresAt}
 use Rattle.mm_model.specs.Reach.Grants.{in_cell, below, passed, entered, served, made}
 use Rattle.mm_flow.specs.declared.node.Right.TheVariants.{Make}

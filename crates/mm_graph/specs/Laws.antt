@@ -7,7 +7,7 @@ use Rattle.mm_flow.specs.Reached.{HasSome, IsReach}
 use Rattle.mm_graph.specs.GraphOf.{IsGraphOf, Marked}
 use Rattle.mm_word.specs.Pointer.{Pointer}
 use Rattle.mm_model.specs.Image.{Image}
-use Rattle.mm_model.specs.Groups.{in_mask}
+use Rattle.mm_model.specs.Flags.{in_mask}
 use Rattle.mm_model.specs.Reach.{Entries}
 use Rattle.mm_graph.specs.Summary.{IsClosed, IsSound, IsExact}
 

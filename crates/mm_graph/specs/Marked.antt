@@ -3,7 +3,7 @@ use Rattle.std.specs.Prelude.{◌≡◌, ℕ, ◌^◌, ◌<◌, ◌↔◌, List,
 use Rattle.std.specs.Int.{bit_at}
 use Rattle.mm_word.specs.Pointer.{Pointer}
 use Rattle.mm_model.specs.Image.{Image}
-use Rattle.mm_model.specs.Groups.{in_mask}
+use Rattle.mm_model.specs.Flags.{in_mask}
 use Rattle.mm_model.specs.Reach.{Entries}
 use Rattle.mm_flow.specs.declared.node.Node.{Node}
 use Rattle.mm_flow.specs.declared.node.Right.TheVariants.{Load, Store, Make}

@@ -40,8 +40,8 @@ fn read_cells(
     requires tags { length tags.now ≡ 64 }
     requires full { length full.now ≡ 64 }
     ensures read { Reads number_of (λ cells. map (λ (c : CellValue). c.word) cells.items)
-        ((each word (bits_in 64 tags.now)).read reader.old.bytes.now reader.old.at) reader.new.at result }
-    ensures full { IfOk result (λ cells. map (λ (c : CellValue). c.full) cells.items ≡ bits_in 64 full.now) }
+        ((each word (bits_in 512 tags.now)).read reader.old.bytes.now reader.old.at) reader.new.at result }
+    ensures full { IfOk result (λ cells. map (λ (c : CellValue). c.full) cells.items ≡ bits_in 512 full.now) }
     ensures same { reader.new.bytes.now ≡ reader.old.bytes.now }
     ensures count { IfOk result (λ cells. vec_len cells ≡ 512) }
 {

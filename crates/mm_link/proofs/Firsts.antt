@@ -1,11 +1,11 @@
 -- The first of several faults.
-use Rattle.std.proofs.Common.{◌≡◌, ℕ, ◌+◌, ◌<◌, Bool, true, false, cond, List, [], ◌∷◌, ◌++◌, length, get_or, drop, Option, Some, None, Result, Ok, Err, refl, sym, ap, ◌∙◌, subst}
-use Rattle.std.specs.Prelude.{find, IfOk, IsOkUnless}
+use Rattle.std.proofs.Common.{◌≡◌, ℕ, ◌+◌, ◌<◌, Bool, true, false, cond, List, [], ◌∷◌, ◌++◌, length, get_or, drop, Option, Some, None, refl, sym, ap, ◌∙◌, subst}
+use Rattle.std.specs.Prelude.{find}
 use Rattle.std.specs.Option.{option_map}
 use Rattle.mm_link.specs.declared.fault.LinkFault.{LinkFault}
 use Rattle.mm_link.specs.declared.fault.LinkError.{LinkError}
 use Rattle.mm_link.specs.declared.fault.LinkError.TheVariants as errors
-use Rattle.mm_link.specs.Answers.{Fails, ValueOrFault}
+use Rattle.mm_link.specs.Answers.{Fails}
 use Rattle.mm_link.specs.Faults.{first, first_of}
 use Rattle.mm_link.proofs.Lists.{at_item}
 
@@ -47,15 +47,6 @@ fails_sooner p q errors.NoMemory h = tt
 -- what fails behind nothing, too
 pub fails_later : (p q : Option LinkFault) (e : LinkError) → p ≡ None → Fails q e → Fails (sooner p q) e
 fails_later p q e none h = subst (λ o. Fails o e) (sym (sooner_none p q none)) h
-
--- want of memory is free
-pub fails_memory : (p : Option LinkFault) (e : LinkError) → e ≡ errors.NoMemory → Fails p e
-fails_memory p e h = subst (Fails p) (sym h) tt
-
--- what is made where there is no fault
-pub gives_value : {X : Type 0} (p : Option LinkFault) (x : X) (r : Result X LinkError) → p ≡ None → IfOk r (λ y. y ≡ x) → IsOkUnless r errors.NoMemory → ValueOrFault p x r
-gives_value p x (Ok y) none value memory = (none, value)
-gives_value p x (Err e) none value memory = fails_memory p e memory
 
 -- a test of each item of a list
 module _ {A : Type 0} (F : List A → Option LinkFault) (G : A → Option LinkFault) (step : (x : A) (xs : List A) → F (x ∷ xs) ≡ sooner (G x) (F xs)) (xs : List A) (i : ℕ)

@@ -1,7 +1,7 @@
 -- The whole of linking: the first fault, or the image.
 use Rattle.std.proofs.Common.{◌≡◌, ℕ, ◌+◌, ◌*◌, ◌/◌, ◌≤◌, false, List, [], ◌∷◌, length, Option, Some, None, Result, Ok, Err, refl, sym, ap, ◌∙◌, subst, arith}
 use Rattle.std.specs.{Prelude.IfOk, Result.IsErrAnd}
-use Rattle.mm_model.specs.Answers.{IsUnless}
+use Rattle.mm_model.specs.Answers.{IsUnless, ValueOrFault}
 use Rattle.std.specs.Option.{option_map}
 use Rattle.std.specs.List.{flat_map, AllByRecursion, IsDistinct}
 use Rattle.std.proofs.lemmas.List.Sorted.{length_permutation}
@@ -17,7 +17,7 @@ use Rattle.mm_link.specs.declared.fault.LinkError.TheVariants as errors
 use Rattle.mm_link.specs.Placing.{Part, Site, parts_of, by_length, bytes_of, sites_from, sites_of, origin}
 use Rattle.mm_link.specs.Faults.{first_again, twice, undefined, offset, slot_twice, no_thread, handler, too_large, first_of, link_fault, page_count, frames_of}
 use Rattle.mm_link.specs.Linked.{Linked, object_slots, by_number, slots_of, part_cells, cells_of, pages_from, first_page, pages_of, image_of}
-use Rattle.mm_link.specs.Answers.{Fails, ValueOrFault}
+use Rattle.mm_link.specs.Answers.{Fails}
 use Rattle.mm_link.specs.Steps.{part_names, same_part}
 use Rattle.mm_link.proofs.Firsts.{sooner, sooner_none, first_of-append, fails_sooner, fails_later}
 use Rattle.mm_link.proofs.Clean.{few_frames, page_frames}
@@ -139,18 +139,18 @@ module _ (objects : List Object) where
 
   -- 4. Answers.
 
-  pub is_linked : (r : Result Image LinkError) → ValueOrFault (link_fault objects) (image_of objects) r → IfOk r (λ i. Linked objects i)
+  pub is_linked : (r : Result Image LinkError) → ValueOrFault Fails (link_fault objects) (image_of objects) r → IfOk r (λ i. Linked objects i)
   is_linked (Ok i) h = record { clean = h.0; image = h.1 }
   is_linked (Err e) h = tt
 
-  pub is_again : (r : Result Image LinkError) (i : Image) → ValueOrFault (link_fault objects) (image_of objects) r → Linked objects i → IsUnless errors.NoMemory i r
+  pub is_again : (r : Result Image LinkError) (i : Image) → ValueOrFault Fails (link_fault objects) (image_of objects) r → Linked objects i → IsUnless errors.NoMemory i r
   is_again (Ok x) i h linked = h.1 ∙ sym linked.image
   is_again (Err (errors.Fault f)) i h linked = absurd (let impossible : Some f ≡ None = sym h ∙ linked.clean in cc)
   is_again (Err errors.NoMemory) i h linked = refl
 
-  pub is_fault : (r : Result Image LinkError) (f : LinkFault) → ValueOrFault (link_fault objects) (image_of objects) r → r ≡ Err (errors.Fault f) → link_fault objects ≡ Some f
-  is_fault r f h e = subst (ValueOrFault (link_fault objects) (image_of objects)) e h
+  pub is_fault : (r : Result Image LinkError) (f : LinkFault) → ValueOrFault Fails (link_fault objects) (image_of objects) r → r ≡ Err (errors.Fault f) → link_fault objects ≡ Some f
+  is_fault r f h e = subst (ValueOrFault Fails (link_fault objects) (image_of objects)) e h
 
-  pub is_first : (r : Result Image LinkError) (f : LinkFault) → ValueOrFault (link_fault objects) (image_of objects) r → link_fault objects ≡ Some f → IsErrAnd r (Fails (Some f))
+  pub is_first : (r : Result Image LinkError) (f : LinkFault) → ValueOrFault Fails (link_fault objects) (image_of objects) r → link_fault objects ≡ Some f → IsErrAnd r (Fails (Some f))
   is_first (Ok x) f h e = let impossible : Some f ≡ None = sym e ∙ h.0 in cc
   is_first (Err x) f h e = subst (λ p. Fails p x) e h

@@ -2,7 +2,7 @@
 
 ghost use Rattle.std.specs.Prelude.{◌≡◌, ◌*◌, ◌∷◌, [], ◌≤◌, Err, None, Some, IfOk, length, IsOkUnless};
 ghost use Rattle.std.specs.Result.{IsErrAnd};
-ghost use Rattle.mm_model.specs.Answers.{IsUnless};
+ghost use Rattle.mm_model.specs.Answers.{IsUnless, ValueOrFault};
 ghost use Rattle.mm_model.specs.Image.{Image as ImageValue};
 ghost use Rattle.mm_model.specs.Spelling.{IsImage};
 ghost use Rattle.mm_link.specs.declared.fault.LinkFault.{LinkFault as FaultValue};
@@ -10,7 +10,7 @@ ghost use Rattle.mm_link.specs.Placing.{parts_of, by_length, sites_of};
 ghost use Rattle.mm_link.specs.Faults.{twice, undefined, offset, slot_twice, no_thread, handler, page_count, frames_of};
 ghost use Rattle.mm_link.specs.Faults.{first_of, link_fault};
 ghost use Rattle.mm_link.specs.Linked.{Linked, image_of};
-ghost use Rattle.mm_link.specs.Answers.{Fails, ValueOrFault};
+ghost use Rattle.mm_link.specs.Answers.{Fails};
 ghost use Rattle.mm_link.specs.Steps.{Passes};
 
 use crate::fault::LinkError;
@@ -45,7 +45,7 @@ pub fn link(alloc: Global, objects: &[Object]) -> Result<Image, LinkError>
 // The image that objects link to, or the first of their faults.
 fn image_or_fault(alloc: Global, objects: &[Object]) -> Result<Image, LinkError>
     requires { length objects.now ≤ 16 }
-    ensures { ValueOrFault (link_fault objects.now) (image_of objects.now) result }
+    ensures { ValueOrFault Fails (link_fault objects.now) (image_of objects.now) result }
 {
     let parts = parts_of(alloc, objects)?;
     check_apart(alloc, &parts)?;
@@ -66,7 +66,7 @@ fn image_of_parts(
     requires few_parts { length parts.now ≤ 256 * length objects.now }
     requires placed { placed.now ≡ by_length (parts_of objects.now) }
     requires apart { twice objects.now ≡ None }
-    ensures { ValueOrFault (link_fault objects.now) (image_of objects.now) result }
+    ensures { ValueOrFault Fails (link_fault objects.now) (image_of objects.now) result }
 {
     Object::typed(objects);
     let sites = sites_of(alloc, placed)?;

@@ -15,7 +15,7 @@ use Rattle.mm_word.specs.declared.word.Cell.{Cell}
 use Rattle.mm_word.specs.Pointer.{SpellsPointer}
 use Rattle.mm_word.specs.Word.{IsWord, word_bits, is_pointer}
 use Rattle.mm_word.proofs.Packing.{pointer_of-bits_of, SpellsPointer-bits_of}
-use Rattle.mm_model.specs.Flags.{one_if, number_of_flags, bit_of}
+use Rattle.mm_model.specs.Flags.{one_if, number_of_flags, in_mask}
 use Rattle.mm_model.specs.Memory.{zero_cell}
 use Rattle.mm_model.proofs.ImageBytes.Apart.{number_of_flags-below, flag-get}
 use Rattle.mm_mem.specs.Packed.{word_of, cell_from, cell_of_block, block_of, IsPackedBlock}
@@ -49,12 +49,12 @@ cell_again bits tag full c b t f is =
     ∙ ap (λ w. record { word = w; full = c.full }) (word_again c.word is)
 
 -- the same bits, and bits of two bytes that are the same
-same_cell : (bits bits' tags tags' fulls fulls' i j : ℕ) → bits ≡ bits' → bit_of tags i ≡ bit_of tags' j → bit_of fulls i ≡ bit_of fulls' j
+same_cell : (bits bits' tags tags' fulls fulls' i j : ℕ) → bits ≡ bits' → in_mask tags i ≡ in_mask tags' j → in_mask fulls i ≡ in_mask fulls' j
     → cell_from bits tags fulls i ≡ cell_from bits' tags' fulls' j
 same_cell bits bits' tags tags' fulls fulls' i j b t f =
     ap (λ n. cell_from n tags fulls i) b
-    ∙ ap (λ x. record { word = word_of bits' x; full = bit_of fulls i }) t
-    ∙ ap (λ x. record { word = word_of bits' (bit_of tags' j); full = x }) f
+    ∙ ap (λ x. record { word = word_of bits' x; full = in_mask fulls i }) t
+    ∙ ap (λ x. record { word = word_of bits' (in_mask tags' j); full = x }) f
 
 -- 2. Cells by their places.
 
@@ -74,7 +74,7 @@ module _ (bits : List ℕ) (tags fulls : ℕ) where
 -- 3. A block of cells that are packed.
 
 module _ (cells : List Cell) (eight : length cells ≡ 8) (words : HoldWords cells) where
-  flag_is : (f : Cell → Bool) (i : ℕ) → i < 8 → bit_of (number_of_flags (map f cells)) i ≡ f (get_or cells i zero_cell)
+  flag_is : (f : Cell → Bool) (i : ℕ) → i < 8 → in_mask (number_of_flags (map f cells)) i ≡ f (get_or cells i zero_cell)
   flag_is f i lt = flag-get (map f cells) i (omega (arith, eight, length-map cells f)) ∙ get_or-map f cells i zero_cell false (omega (arith, eight))
 
   word_is : (i : ℕ) → i < 8 → get_or (words_of cells) i 0 ≡ word_bits (get_or cells i zero_cell).word
@@ -103,8 +103,8 @@ module _ (cells : List Cell) (eight : length cells ≡ 8) (words : HoldWords cel
 
 module _ (bits : List ℕ) (tags fulls : ℕ) (is : IsPackedBlock bits tags fulls) (place : ℕ) (within : place < 8) (c : Cell) (word : IsWord c.word)
     (tags_after fulls_after : ℕ)
-    (tag_own : bit_of tags_after place ≡ is_pointer c.word) (tag_others : (i : ℕ) → i < 8 → i ≢ place → bit_of tags_after i ≡ bit_of tags i)
-    (full_own : bit_of fulls_after place ≡ c.full) (full_others : (i : ℕ) → i < 8 → i ≢ place → bit_of fulls_after i ≡ bit_of fulls i) where
+    (tag_own : in_mask tags_after place ≡ is_pointer c.word) (tag_others : (i : ℕ) → i < 8 → i ≢ place → in_mask tags_after i ≡ in_mask tags i)
+    (full_own : in_mask fulls_after place ≡ c.full) (full_others : (i : ℕ) → i < 8 → i ≢ place → in_mask fulls_after i ≡ in_mask fulls i) where
   abbrev words_after : List ℕ
   words_after = set bits place (word_bits c.word)
 
@@ -139,7 +139,7 @@ module _ (bits : List ℕ) (tags fulls : ℕ) (is : IsPackedBlock bits tags full
     tag_byte = small_tags;
     full_byte = small_fulls;
     pointers = λ i lt tagged. ⊎_elim
-        (λ (e : i ≡ place). subst SpellsPointer (sym here ∙ ap (λ n. get_or words_after n 0) (sym e)) (tagged_spells c.word word (sym tag_own ∙ ap (bit_of tags_after) (sym e) ∙ tagged)))
+        (λ (e : i ≡ place). subst SpellsPointer (sym here ∙ ap (λ n. get_or words_after n 0) (sym e)) (tagged_spells c.word word (sym tag_own ∙ ap (in_mask tags_after) (sym e) ∙ tagged)))
         (λ (ne : i ≡ place → ⊥). subst SpellsPointer (sym (there i ne)) (is.pointers i lt (sym (tag_others i lt ne) ∙ tagged)))
         (cases_eq i place);
   }

@@ -7,7 +7,7 @@ use Rattle.mm_word.specs.declared.word.Word.{Word}
 use Rattle.mm_word.specs.declared.word.Word.TheVariants.{Int, Ptr}
 use Rattle.mm_word.specs.declared.word.Cell.{Cell}
 use Rattle.mm_word.specs.Pointer.{pointer_of, SpellsPointer}
-use Rattle.mm_model.specs.Flags.{bit_of}
+use Rattle.mm_model.specs.Flags.{in_mask}
 
 -- the word of these bits: a pointer if it is tagged
 abbrev pub word_of : ℕ → Bool → Word
@@ -15,7 +15,7 @@ word_of bits tagged = if tagged then Ptr (pointer_of bits) else Int bits
 
 -- the cell of these bits, for which bit i of two bytes says whether it holds a pointer and whether it is full
 abbrev pub cell_from : (bits tags fulls i : ℕ) → Cell
-cell_from bits tags fulls i = record { word = word_of bits (bit_of tags i); full = bit_of fulls i }
+cell_from bits tags fulls i = record { word = word_of bits (in_mask tags i); full = in_mask fulls i }
 
 -- the cell at a place of a block
 abbrev pub cell_of_block : (bits : List ℕ) (tags fulls place : ℕ) → Cell
@@ -30,4 +30,4 @@ pub record IsPackedBlock (bits : List ℕ) (tags fulls : ℕ) : Type 0 where
   pub words : length bits ≡ 8
   pub tag_byte : tags < 256
   pub full_byte : fulls < 256
-  pub pointers : (place : ℕ) → place < 8 → bit_of tags place ≡ true → SpellsPointer (slice_index bits place)
+  pub pointers : (place : ℕ) → place < 8 → in_mask tags place ≡ true → SpellsPointer (slice_index bits place)

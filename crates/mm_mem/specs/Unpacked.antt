@@ -8,7 +8,7 @@ use Rattle.mm_word.specs.declared.word.Cell.{Cell}
 use Rattle.mm_word.specs.Pointer.{SpellsPointer}
 use Rattle.mm_word.specs.PointerBits.{bits_of-pointer_of}
 use Rattle.mm_word.specs.Word.{word_bits, is_pointer}
-use Rattle.mm_model.specs.Flags.{number_of_flags, bit_of}
+use Rattle.mm_model.specs.Flags.{number_of_flags, in_mask}
 use Rattle.mm_model.proofs.ImageBytes.Bitmaps.{number_of_bits}
 use Rattle.mm_model.proofs.ImageBytes.Ranges.{map-map, map-same}
 use Rattle.mm_mem.specs.declared.block.Block.TheInside.{Inside}
@@ -50,14 +50,14 @@ module _ (bits : List ℕ) (tags fulls : ℕ) (is : IsPackedBlock bits tags full
       get_or-map (λ (c : Cell). word_bits c.word) (map at (range_with_len 0 8)) i (at 0) d
       (omega (arith, low, length-map-range_with_len at 0 8))
       ∙ ap (λ (c : Cell). word_bits c.word) (get_or-map-range_with_len at 0 8 i i (at 0) low (omega arith))
-      ∙ bits_again (get_or bits i 0) (bit_of tags i) (is.pointers i low)
+      ∙ bits_again (get_or bits i 0) (in_mask tags i) (is.pointers i low)
       ∙ get_or_default bits i 0 d (omega (arith, low, is.words)))
 
   tags_again : tags_of (map at (range_with_len 0 8)) ≡ tags
   tags_again =
       ap number_of_flags (map-map (λ (c : Cell). is_pointer c.word) at (range_with_len 0 8)
-      ∙ map-same (λ i. is_pointer (at i).word) (bit_of tags) 0 8
-      (λ i low high. tag_again (get_or bits i 0) (bit_of tags i)))
+      ∙ map-same (λ i. is_pointer (at i).word) (in_mask tags) 0 8
+      (λ i low high. tag_again (get_or bits i 0) (in_mask tags i)))
       ∙ number_of_bits 8 tags is.tag_byte
 
   fulls_again : fulls_of (map at (range_with_len 0 8)) ≡ fulls

@@ -7,14 +7,14 @@ ghost use Rattle.mm_word.specs.Pointer.{SpellsPointer};
 ghost use Rattle.mm_word.specs.Word.{IsWord};
 ghost use Rattle.mm_mem.specs.Packed.{word_of};
 ghost use Rattle.mm_mem.specs.Unpacked.{words_of, tags_of, fulls_of};
-ghost use Rattle.mm_model.specs.Flags.{bit_of};
+ghost use Rattle.mm_model.specs.Flags.{in_mask};
 
 use mm_word::{Cell, GuardedPtr, Word};
 
 // A bit of a byte, the lowest at place 0.
 pub(crate) fn is_set(byte: u8, place: usize) -> bool
     requires { place < 8 }
-    ensures { result ≡ bit_of byte place }
+    ensures { result ≡ in_mask byte place }
 {
     byte >> place & 1 == 1
 }
@@ -22,8 +22,8 @@ pub(crate) fn is_set(byte: u8, place: usize) -> bool
 // The byte with this bit at a place.
 pub(crate) fn with_bit(byte: u8, place: usize, bit: bool) -> u8
     requires { place < 8 }
-    ensures own { bit_of result place ≡ bit }
-    ensures others { (i : ℕ) → i < 8 → i ≢ place → bit_of result i ≡ bit_of byte i }
+    ensures own { in_mask result place ≡ bit }
+    ensures others { (i : ℕ) → i < 8 → i ≢ place → in_mask result i ≡ in_mask byte i }
 {
     if bit {
         byte | 1 << place

@@ -19,3 +19,4 @@ pub mod CauseNumbers
 pub mod ImageBytes
 pub mod Filters
 pub mod OwnSlots
+pub mod Answered

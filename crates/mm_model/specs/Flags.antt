@@ -1,5 +1,6 @@
 -- Flags as numbers, and numbers as lists of flags, the lowest bit first.
-use Rattle.std.specs.Prelude.{ℕ, zero, suc, ◌+◌, ◌*◌, ◌/◌, ◌%◌, ◌^◌, ◌==◌, Bool, if◌then◌else◌, List, [], ◌∷◌}
+use Rattle.std.specs.Prelude.{ℕ, zero, suc, ◌+◌, ◌*◌, ◌/◌, ◌%◌, ◌==◌, Bool, if◌then◌else◌, List, [], ◌∷◌}
+use Rattle.std.specs.Int.{bit_at}
 
 abbrev pub one_if : Bool → ℕ
 one_if b = if b then 1 else 0
@@ -14,6 +15,6 @@ abbrev pub number_of_flags : List Bool → ℕ
 number_of_flags [] = 0
 number_of_flags (b ∷ bs) = one_if b + 2 * number_of_flags bs
 
--- flag i of a number
-abbrev pub bit_of : (n i : ℕ) → Bool
-bit_of n i = n / 2 ^ i % 2 == 1
+-- bit i of the mask is set
+abbrev pub in_mask : (mask i : ℕ) → Bool
+in_mask mask i = bit_at mask i == 1

@@ -1,17 +1,12 @@
 -- Sets of groups.
 use Rattle.std.specs.Prelude.{◌≡◌, ℕ, Bool, true, false, ◌==◌, List, Contains, Some}
 use Rattle.std.specs.List.{list_any, filter}
-use Rattle.std.specs.Int.{bit_at}
 use Rattle.mm_model.specs.Slot.{Slot}
 use Rattle.mm_model.specs.Image.{Image}
 
 -- the group is one of the list
 abbrev pub among : List ℕ → ℕ → Bool
 among groups g = list_any (λ h. g == h) groups
-
--- the group's bit is set in the mask
-abbrev pub in_mask : ℕ → ℕ → Bool
-in_mask mask g = bit_at mask g == 1
 
 -- a slot is of the group
 abbrev pub has_group : List Slot → ℕ → Bool

@@ -1,6 +1,10 @@
 -- Limits that several crates keep.
 use Rattle.std.specs.Prelude.{ℕ}
 
+-- the most cycles of a session, of one of its lines and of a checkpoint
+abbrev pub cycle_limit : ℕ
+cycle_limit = 1000000
+
 -- the most segments of an object
 abbrev pub segment_limit : ℕ
 segment_limit = 256

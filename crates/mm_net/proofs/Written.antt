@@ -1,6 +1,8 @@
 -- Texts of lists that are written item by item.
-use Rattle.std.proofs.Common.{◌≡◌, ℕ, ◌+◌, ◌<◌, ◌≤◌, List, [], ◌++◌, length, take, drop, get_or, slice_get, Option, Some, option_copied, Bor, Result, Ok, Err, IsErr, refl, sym, ap, ◌∙◌, arith}
+use Rattle.std.proofs.Common.{◌≡◌, ℕ, zero, suc, ◌+◌, ◌<◌, ◌≤◌, List, [], ◌∷◌, ◌++◌, length, take, drop, get_or, slice_get, Option, Some, option_copied, Bor, Result, Ok, Err, IsErr, refl, sym, ap, ◌∙◌, arith, cond}
 use Rattle.std.specs.List.{flat_map, enumerate_from, zip}
+use Rattle.std.specs.Prelude.{◌==◌}
+use Rattle.std.proofs.lemmas.Bool.{ne_eqb, eq-eqb}
 use Rattle.std.specs.Result.{IsErrAnd}
 use Rattle.std.proofs.lemmas.List.{take-append-drop, take_all}
 use Rattle.std.proofs.lemmas.List.FromFn.{length-enumerate_from, get_or-enumerate_from}
@@ -17,7 +19,7 @@ use Rattle.mm_model.specs.Image.{Image}
 use Rattle.mm_net.specs.declared.link.Link.{Link}
 use Rattle.mm_net.specs.declared.item.NetItem.{NetItem}
 use Rattle.mm_net.specs.Nets.{NetState, net_start, net_run, net_uses}
-use Rattle.mm_net.specs.Texts.{nodes_text, link_lines, net_text}
+use Rattle.mm_net.specs.Texts.{node_text, nodes_text, link_lines, net_text}
 
 -- nothing was written yet
 pub writes_nothing : {S E : Type 0} (taken : S → Option (List ℕ)) (faults : S → ℕ) (s : S) → Writes {T = Unit {0}} {E = E} taken faults s s [] (Ok tt)
@@ -78,11 +80,38 @@ pub is_an_error : {T E : Type 0} (P : E → Type 0) (r : Result T E) → IsErrAn
 is_an_error P (Ok x) h = absurd h
 is_an_error P (Err e) h = refl
 
+-- these counts, with those of one node more
+abbrev pub with_counts : (ℕ → Option Counts) → ℕ → Option Counts → ℕ → Option Counts
+with_counts counts n more k = cond (n == k) more (counts k)
+
+-- lines of items beside their places
+same_lines : {A : Type 0} (f g : ℕ × A → List ℕ) (at n : ℕ) (xs : List A) → ((k : ℕ) (x : A) → k < at + n → f (k, x) ≡ g (k, x))
+    → flat_map f (take n (enumerate_from at xs)) ≡ flat_map g (take n (enumerate_from at xs))
+same_lines f g at zero xs same = refl
+same_lines f g at (suc n) [] same = refl
+same_lines f g at (suc n) (x ∷ xs) same =
+    ap (λ line. line ++ flat_map f (take n (enumerate_from (at + 1) xs))) (same at x (omega arith))
+    ∙ ap (λ lines. g (at, x) ++ lines) (same_lines f g (at + 1) n xs (λ k y below. same k y (omega arith)))
+
+module _ {S T E : Type 0} {taken : S → Option (List ℕ)} {faults : S → ℕ} {old new : S} {result : Result T E}
+    (counts : ℕ → Option Counts) (n : ℕ) (more : Option Counts) where
+  -- the texts of the nodes before
+  pub counted_before : (items : List (Image × State)) → Writes taken faults old new (flat_map (λ x. node_text x.0 x.1.0 x.1.1 (counts x.0)) (take n (enumerate_from 0 items))) result
+      → Writes taken faults old new (flat_map (λ x. node_text x.0 x.1.0 x.1.1 (with_counts counts n more x.0)) (take n (enumerate_from 0 items))) result
+  counted_before items w =
+      writes_same w (same_lines (λ x. node_text x.0 x.1.0 x.1.1 (counts x.0)) (λ x. node_text x.0 x.1.0 x.1.1 (with_counts counts n more x.0)) 0 n items
+      (λ k x below. ap (λ b. node_text k x.0 x.1 (cond b more (counts k))) (sym (ne_eqb n k (λ e. absurd (omega arith))))))
+
+  -- the text of the node
+  pub counted_now : (i : Image) (s : State) → Writes taken faults old new (node_text n i s more) result
+      → Writes taken faults old new (node_text n i s (with_counts counts n more n)) result
+  counted_now i s w = writes_same w (ap (λ b. node_text n i s (cond b more (counts n))) (sym (eq-eqb n n refl)))
+
 -- the text of a net that stands for its images
 pub text_is : (tells : List Use → Option Counts) (links : List Link) (images : List Image) (items : List NetItem) (s : NetState) → s ≡ net_run links (net_start images links) items
-    → net_text tells links images items ≡ nodes_text tells images s.nodes (net_uses links (net_start images links) items) ++ link_lines s.links
+    → net_text tells links images items ≡ nodes_text images s.nodes (λ n. tells (net_uses links (net_start images links) items n)) ++ link_lines s.links
 unfolding net_text
-text_is tells links images items s is = ap (λ (t : NetState). nodes_text tells images t.nodes (net_uses links (net_start images links) items) ++ link_lines t.links) (sym is)
+text_is tells links images items s is = ap (λ (t : NetState). nodes_text images t.nodes (λ n. tells (net_uses links (net_start images links) items n)) ++ link_lines t.links) (sym is)
 
 -- what a look-up gave
 pub looked_up : {A : Type 0} (found : Option (Bor A)) (there : Option A) (x : Bor A) → option_copied found ≡ there → found ≡ Some x → there ≡ Some x.now

@@ -3,6 +3,7 @@ use Rattle.std.specs.Prelude.{◌≡◌, ℕ, ◌≤◌, List, map}
 use Rattle.mm_word.specs.declared.perm.Kind.{Kind}
 use Rattle.mm_word.specs.declared.perm.Kind.TheVariants.{LoadSet, Store}
 use Rattle.mm_word.specs.Access.{Touch}
+use Rattle.mm_model.specs.Schedule.{item_limit}
 use Rattle.mm_net.specs.declared.link.Link.{Link}
 use Rattle.mm_net.specs.Nets.{Carried}
 
@@ -18,10 +19,6 @@ link_list wires = map (λ (w : Wired). w.link) wires
 abbrev pub carried_list : List Wired → List Carried
 carried_list wires = map (λ (w : Wired). w.carried) wires
 
--- the most integers that a link may take
-abbrev pub send_limit : ℕ
-send_limit = 1000000
-
 -- an access of a kind to the word at an address
 pub record Reaches (access : Touch) (kind : Kind) (address : ℕ) : Type 0 where
   pub of_kind : access.kind ≡ kind
@@ -32,4 +29,4 @@ pub record IsWire (link : Link) (taking putting : Touch) (sent arrived : ℕ) : 
   pub takes : Reaches taking LoadSet link.take
   pub puts : Reaches putting Store link.put
   pub front : arrived ≤ sent
-  pub few : sent ≤ send_limit
+  pub few : sent ≤ item_limit

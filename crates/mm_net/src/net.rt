@@ -1,6 +1,7 @@
 //! Nets of machines.
 ghost use Rattle.std.specs.Prelude.{◌≤◌, length};
 ghost use Rattle.std.proofs.Props.{props};
+ghost use Rattle.mm_model.specs.Schedule.{item_limit};
 ghost use Rattle.mm_net.specs.Kept.{AreWithin, AreWired};
 
 use crate::wire::{Wire, wires_of};
@@ -24,7 +25,7 @@ pub struct Net<M: Memory> {
     ghost some: { 1 ≤ length nodes.items },
     ghost most: { length nodes.items ≤ 8 },
     ghost few: { length wires.items ≤ 64 },
-    ghost small: { room ≤ 1000000 },
+    ghost small: { room ≤ item_limit },
     ghost within: { AreWithin steps nodes.items } by { Prim.hlevel props },
     ghost wired: { AreWired (length nodes.items) room wires.items } by { Prim.hlevel props },
 }
@@ -34,6 +35,7 @@ impl<M: Memory> Net<M> {
     ghost use Rattle.std.specs.Option.{option_copied};
     ghost use Rattle.std.specs.List.{All};
     ghost use Rattle.mm_model.specs.Image.{Image};
+    ghost use Rattle.mm_model.specs.Schedule.{item_limit};
     ghost use Rattle.mm_net.specs.declared.item.NetItem.{NetItem as Item};
     ghost use Rattle.mm_net.specs.Nets.{net_step, net_after};
     ghost use Rattle.mm_net.specs.Net.{net_of, links_of, room_of, steps_of, node_in, carried_in, NodesTake, Steps};
@@ -51,7 +53,7 @@ impl<M: Memory> Net<M> {
         requires most { length nodes.items ≤ 8 }
         requires ends { All (HasNodes (length nodes.items)) links }
         requires unused { All IsUnused nodes.items }
-        requires small { room ≤ 1000000 }
+        requires small { room ≤ item_limit }
         ensures state { IfOk result (λ net. net_of net ≡ begun nodes.items links) }
         ensures links { IfOk result (λ net. links_of net ≡ links) }
         ensures room { IfOk result (λ net. room_of net ≡ room) }

@@ -1,8 +1,9 @@
 //! The text of a net.
 
-ghost use Rattle.std.specs.Prelude.{◌≡◌, ◌<◌, ◌++◌, ℕ, List, length, Some};
+ghost use Rattle.std.specs.Prelude.{◌≡◌, ◌<◌, ◌++◌, ℕ, List, length, Option, Some};
 ghost use Rattle.mm_io.specs.Sinks.{Writes};
 ghost use Rattle.mm_text.specs.Gathers.{Gathers};
+ghost use Rattle.mm_model.specs.declared.counts.Counts.{Counts};
 ghost use Rattle.mm_model.specs.Uses.{Use};
 ghost use Rattle.mm_machine.specs.Machine.{state_of, StandsTo};
 ghost use Rattle.mm_net.specs.declared.item.NetItem.{NetItem};
@@ -26,10 +27,16 @@ pub fn report<M: Inspect, O: Sink>(
     out: &mut O,
 ) -> Result<(), WriteFault>
     requires { length images.now ≡ length (net_of net.now).nodes }
-    // The text of the net as it is, given what the memory of each node was asked.
+    // For every net, all of the text except the lines of counts, and when a `WriteFault` comes.
+    ensures text { (counts : ℕ → Option Counts)
+        × Writes O.taken O.faults out.old out.new
+        (nodes_text images.now (net_of net.now).nodes counts ++ link_lines (net_of net.now).links) result }
+
+    // The lines of counts, given what the memory of each node was asked.
     ensures state { (uses : ℕ → List Use) → NodesStandTo net.now uses
         → Writes O.taken O.faults out.old out.new
-        (nodes_text M.tells images.now (net_of net.now).nodes uses ++ link_lines (net_of net.now).links) result }
+        (nodes_text images.now (net_of net.now).nodes (λ n. M.tells (uses n)) ++ link_lines (net_of net.now).links)
+        result }
 
     // The text of the net to which items led from the start of these images.
     ensures run { (items : List NetItem) → StandsFor images.now items net.now
@@ -46,8 +53,11 @@ fn write_nodes<M: Inspect, O: Sink>(
     out: &mut O,
 ) -> Result<(), WriteFault>
     requires { length images.now ≡ length (net_of net.now).nodes }
-    ensures { (uses : ℕ → List Use) → NodesStandTo net.now uses
-        → Writes O.taken O.faults out.old out.new (nodes_text M.tells images.now (net_of net.now).nodes uses) result }
+    ensures text { (counts : ℕ → Option Counts)
+        × Writes O.taken O.faults out.old out.new (nodes_text images.now (net_of net.now).nodes counts) result }
+    ensures counts { (uses : ℕ → List Use) → NodesStandTo net.now uses
+        → Writes O.taken O.faults out.old out.new
+        (nodes_text images.now (net_of net.now).nodes (λ n. M.tells (uses n))) result }
 {
     for n in 0..net.node_count() {
         let node = net.node(n).unwrap();
@@ -63,8 +73,10 @@ fn write_node<M: Inspect, O: Sink>(
     image: &Image,
     out: &mut O,
 ) -> Result<(), WriteFault>
-    ensures { (us : List Use) → StandsTo node.now us
-        → Writes O.taken O.faults out.old out.new (node_text M.tells n image.now (state_of node.now) us) result }
+    ensures text { (counts : Option Counts)
+        × Writes O.taken O.faults out.old out.new (node_text n image.now (state_of node.now) counts) result }
+    ensures counts { (us : List Use) → StandsTo node.now us
+        → Writes O.taken O.faults out.old out.new (node_text n image.now (state_of node.now) (M.tells us)) result }
 {
     write_pieces(
         out,

@@ -5,6 +5,7 @@ ghost use Rattle.std.specs.List.{All};
 ghost use Rattle.mm_word.specs.declared.perm.Perm.TheVariants.{Rw};
 ghost use Rattle.mm_word.specs.declared.perm.Kind.TheVariants.{LoadSet, Store};
 ghost use Rattle.mm_word.specs.Perm.{allows};
+ghost use Rattle.mm_model.specs.Schedule.{item_limit};
 ghost use Rattle.mm_net.specs.Links.{IsLink};
 ghost use Rattle.mm_net.specs.Nets.{nothing_carried, due, with_sent, with_arrived};
 ghost use Rattle.mm_net.specs.declared.link.Link.{Link as LinkValue};
@@ -114,7 +115,7 @@ impl Wire {
     /// Keeps an integer that the link took.
     pub(crate) fn push(&mut self, bits: u64)
         requires room { length self.old.carried.sent < self.old.room }
-        requires few { length self.old.carried.sent < 1000000 }
+        requires few { length self.old.carried.sent < item_limit }
         ensures carried { self.new.carried ≡ with_sent self.old.carried (Some bits) }
         ensures link { self.new.link ≡ self.old.link }
         ensures room { self.old.room ≤ self.new.room }

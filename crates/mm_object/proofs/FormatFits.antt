@@ -18,7 +18,7 @@ use Rattle.mm_model.proofs.ImageBytes.Ranges.{range-list}
 use Rattle.mm_model.proofs.ImageBytes.Rising.{both, and_true}
 use Rattle.mm_model.proofs.ImageBytes.SpelledRecords.{not_lt}
 use Rattle.mm_format.specs.Formats.{each, times, cons, first_late}
-use Rattle.mm_format.specs.Images.{mask, flags_of}
+use Rattle.mm_format.specs.Images.{mask, flags_of, bits_in}
 use Rattle.mm_format.proofs.ImagesFit.{fits_mask, Rise, rises, rise_all}
 use Rattle.mm_object.specs.declared.item.Item.{Item}
 use Rattle.mm_object.specs.declared.target.Target.{Target}
@@ -81,7 +81,7 @@ bytes_bitmap (suc count) fs zero =
 bytes_bitmap (suc count) fs (suc i) = bytes_bitmap count (drop 8 fs) i
 
 fits_bits : (fs : List Bool) → (bits_row (length fs)).Fits fs
-unfolding bits_row
+unfolding bits_row bits_in
 fits_bits fs =
     let size = (length fs + 7) / 8 in
     let text = bitmap size fs in

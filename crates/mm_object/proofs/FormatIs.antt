@@ -5,20 +5,19 @@ use Rattle.std.specs.Prelude.{◌==◌, codes, is_some, unwrap_or}
 use Rattle.std.specs.Int.{w16, w32, to_be_bytes}
 use Rattle.std.proofs.lemmas.Bool.Decides.{nat_tests}
 use Rattle.std.proofs.lemmas.List.{length-map, take_all}
-use Rattle.std.proofs.lemmas.List.FromFn.{length-map-range_with_len}
 use Rattle.mm_word.specs.declared.perm.Perm.TheVariants.{Key}
 use Rattle.mm_word.specs.Perm.{code_of, perm_of}
 use Rattle.mm_word.specs.PointerBits.{code_of-perm_of}
 use Rattle.mm_model.specs.Flags.{number_of_flags}
-use Rattle.mm_model.specs.Bytes.{IsBytes, bit_at}
+use Rattle.mm_model.specs.Bytes.{IsBytes}
 use Rattle.mm_model.specs.Spelling.{bitmap, handler_byte}
 use Rattle.mm_model.proofs.ImageBytes.Clean.{not_not}
 use Rattle.mm_format.specs.Formats.{Format, IsFormat, byte, u16, u32, raw, each, cons}
-use Rattle.mm_format.specs.Images.{mask, flags_of}
+use Rattle.mm_format.specs.Images.{mask, flags_of, bits_in}
 use Rattle.mm_format.proofs.Formats.{byte_is, u16_is, u32_is, u64_is, text_is, raw_is, test_is, literal_is}
 use Rattle.mm_format.specs.Formats.Outcome.{Got}
 use Rattle.mm_format.proofs.Formats.{literal_read, then_is, done_is, ends_within}
-use Rattle.mm_format.proofs.Images.{mask_is}
+use Rattle.mm_format.proofs.Images.{mask_is, bits_count}
 use Rattle.mm_format.proofs.Lists.{each_is, times_is, times_long, late_is}
 use Rattle.mm_object.specs.declared.header.Header.{Header}
 use Rattle.mm_object.specs.declared.item.Item.{Item}
@@ -85,7 +84,7 @@ no_late true fault others e = absurd cc
 no_late false fault others e = (refl, e)
 
 bits_is : (count : ℕ) → IsFormat (bits_row count)
-unfolding bits_row
+unfolding bits_row bits_in
 bits_is count =
     let size = (count + 7) / 8 in
     then_is _ _ (late_is (raw size) (λ bytes. unused_bit count bytes ∷ []) (raw_is size)) (λ bytes _. done_is _)
@@ -97,8 +96,7 @@ bits_is count =
 
 bits_long : (count : ℕ) (fs : List Bool) → (bits_row count).Fits fs → length fs ≡ count
 unfolding bits_row
-bits_long count fs fits =
-    ap length fits.1 ∙ length-map-range_with_len (bit_at (bitmap ((count + 7) / 8) fs) 0) 0 count
+bits_long count fs fits = ap length fits.1 ∙ bits_count count (bitmap ((count + 7) / 8) fs)
 
 item_is : (full : Bool) → IsFormat (item_row full)
 unfolding item_row

@@ -12,15 +12,15 @@
 -- 9 trailing, at the first byte too many
 use Rattle.std.specs.Prelude.{ℕ, ◌+◌, ◌-◌, ◌/◌, ◌%◌, ◌^◌, Bool, true, false, not, ◌&&◌, ◌||◌, ◌==◌, nat_lt, nat_le}
 use Rattle.std.specs.Prelude.{if◌then◌else◌, List, [], ◌∷◌, ◌++◌, map, length, codes, is_some, unwrap_or, Some, None}
-use Rattle.std.specs.List.{list_any, range_with_len}
+use Rattle.std.specs.List.{list_any}
 use Rattle.mm_word.specs.declared.perm.Perm.{Perm}
 use Rattle.mm_word.specs.declared.perm.Perm.TheVariants.{Key}
 use Rattle.mm_word.specs.Perm.{code_of, perm_of}
-use Rattle.mm_model.specs.Bytes.{number_at, bit_at}
+use Rattle.mm_model.specs.Bytes.{number_at}
 use Rattle.mm_model.specs.Spelling.{bitmap, handler_byte}
 use Rattle.mm_format.specs.Formats.{Outcome, Format, Late, byte, u16, u32, u64, text, raw, test, literal, part, after}
 use Rattle.mm_format.specs.Formats.{done, ◌>>=◌, each, times, late}
-use Rattle.mm_format.specs.Images.{mask}
+use Rattle.mm_format.specs.Images.{mask, bits_in}
 use Rattle.mm_object.specs.declared.header.Header.{Header}
 use Rattle.mm_object.specs.declared.item.Item.{Item}
 use Rattle.mm_object.specs.declared.target.Target.{Target}
@@ -101,10 +101,6 @@ has_unused_bit bytes at count =
 abbrev pub unused_bit : (count : ℕ) (bytes : List ℕ) → Late
 unused_bit count bytes =
     record { number = 6; offset = (count + 7) / 8 - 1; bad = has_unused_bit bytes 0 count }
-
--- the bits of this count of words in the bytes of their bitmap
-abbrev pub bits_in : (count : ℕ) (bytes : List ℕ) → List Bool
-bits_in count bytes = map (bit_at bytes 0) (range_with_len 0 count)
 
 -- the bits of this count of words
 unfoldable pub bits_row : (count : ℕ) → Format (List Bool)

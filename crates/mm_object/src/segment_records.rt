@@ -3,9 +3,10 @@
 ghost use Rattle.std.specs.Prelude.{◌≡◌, ◌+◌, ◌/◌, ◌<◌, ◌≤◌, nat_lt, IfOk, [], length, vec_len};
 ghost use Rattle.mm_model.specs.Bytes.{bit_at, number_at};
 ghost use Rattle.mm_format.specs.Formats.{each, times};
+ghost use Rattle.mm_format.specs.Images.{bits_in};
 ghost use Rattle.mm_format.specs.Reading.{Reads, ReadsAlone};
 ghost use Rattle.mm_object.specs.Answers.{number_of};
-ghost use Rattle.mm_object.specs.Format.{log_row, count_row, bits_row, bits_in, has_unused_bit, item_row, segment_row};
+ghost use Rattle.mm_object.specs.Format.{log_row, count_row, bits_row, has_unused_bit, item_row, segment_row};
 ghost use Rattle.mm_object.specs.Format.{push};
 ghost use Rattle.mm_object.specs.Objects.{words_of};
 

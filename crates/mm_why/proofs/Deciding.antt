@@ -12,7 +12,7 @@ use Rattle.mm_word.specs.Perm.{allows}
 use Rattle.mm_word.specs.Pointer.{Pointer, InSegment, Covers, holds_word, IsBelow}
 use Rattle.mm_word.proofs.Below.{holds_word-Covers}
 use Rattle.mm_model.specs.Image.{Image}
-use Rattle.mm_model.specs.Groups.{in_mask}
+use Rattle.mm_model.specs.Flags.{in_mask}
 use Rattle.mm_model.specs.Reach.{LoadsAt, StoresAt}
 use Rattle.mm_model.specs.Reach.Entries.{All}
 use Rattle.mm_flow.specs.declared.node.Right.{Right}

@@ -1,6 +1,8 @@
 use Rattle.std.proofs.Common.{Option, map, ap, ◌∙◌, sym, subst}
+use Rattle.mm_model.proofs.Answered.{gives_value}
 use Rattle.mm_draft.specs.Laws.{Pair, failure_pair, least}
 use Rattle.mm_asm.specs.Meaning.{object_of}
+use Rattle.mm_asm.specs.declared.fault.AsmError.TheVariants.{NoMemory}
 use Rattle.mm_asm.specs.Faults.{late_failures}
 use Rattle.mm_asm.specs.Answers.{Fails, pair_of_first}
 use Rattle.mm_asm.proofs.Whole.{object_is}
@@ -8,7 +10,7 @@ use Rattle.mm_asm.proofs.LateFirsts.{met_late}
 use Rattle.mm_asm.proofs.LateSources.{late_place}
 use Rattle.mm_asm.proofs.LateTargets.{pointers_fit, threads_fit}
 use Rattle.mm_asm.proofs.LateWords.{segments_fit, externals_named}
-use Rattle.mm_asm.proofs.LateAnswers.{gives_object, none_late}
+use Rattle.mm_asm.proofs.LateAnswers.{none_late}
 use Rattle.mm_asm.proofs.assembling.assemble_draft.Goals as goal
 use Rattle.mm_object.specs.Steps.{key_names}
 
@@ -23,7 +25,7 @@ returns c =
     let d = c.args.draft.now in
     let met = met_late d c.deref.result.now c.deref-2.result.now c.meet_goals.new.first c.meet_targets.new.first c.externals.new.first
     (c.deref.ensures.value ∙ c.in_ok-uses.ensures.uses) (c.deref-2.ensures.value ∙ c.in_ok-uses.ensures.uses) c.meet_goals.ensures c.meet_targets.ensures c.in_ok-externals.ensures.faults in
-    gives_object (least (map failure_pair (late_failures d))) (object_of d) c.object_of.result (sym met ∙ ap pair_of_first c.in_default.is) c.object_of.ensures.object c.object_of.ensures.memory
+    gives_value Fails NoMemory (least (map failure_pair (late_failures d))) (object_of d) c.object_of.result tt (sym met ∙ ap pair_of_first c.in_default.is) c.object_of.ensures.object c.object_of.ensures.memory
 
 pub object_of-requires-clause-object : goal.object_of-requires-clause-object
 object_of-requires-clause-object c =

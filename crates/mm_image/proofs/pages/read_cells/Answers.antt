@@ -2,12 +2,11 @@ use Rattle.std.proofs.Common.{◌≡◌, ℕ, ◌+◌, ◌<◌, Bool, false, Lis
 use Rattle.std.proofs.Common.{sym, ap, subst, ◌∙◌, arith}
 use Rattle.std.proofs.lemmas.Result.{err_from_is_err_and}
 use Rattle.std.proofs.lemmas.List.{take_all}
-use Rattle.std.proofs.lemmas.List.FromFn.{length-map-range_with_len, get_or-map-range_with_len}
 use Rattle.mm_word.specs.declared.word.Cell.{Cell}
-use Rattle.mm_model.specs.Bytes.{bit_at}
 use Rattle.mm_format.specs.Formats.Outcome.{Got}
 use Rattle.mm_format.specs.Images.{word, bits_in}
 use Rattle.mm_format.specs.Reading.{FailsOr}
+use Rattle.mm_format.proofs.Images.{bits_count, bits_item}
 use Rattle.mm_format.proofs.Loops.{each_more, each_stop, each_read, fails_so}
 use Rattle.mm_image.specs.Faults.{number_of}
 use Rattle.mm_image.proofs.pages.read_cells.Goals as goal
@@ -17,14 +16,6 @@ word_in c = c.word
 
 abbrev full_in : Cell → Bool
 full_in c = c.full
-
-long : (bytes : List ℕ) → length (bits_in 64 bytes) ≡ 512
-unfolding bits_in
-long bytes = length-map-range_with_len (bit_at bytes 0) 0 512
-
-is_bit : (bytes : List ℕ) (k : ℕ) → k < 512 → bit_at bytes 0 k ≡ get_or (bits_in 64 bytes) k false
-unfolding bits_in
-is_bit bytes k lt = sym (get_or-map-range_with_len (bit_at bytes 0) 0 512 k k false lt (omega arith))
 
 map_push : {B : Type 0} (f : Cell → B) (xs : List Cell) (x : Cell) → map f (xs ++ x ∷ []) ≡ map f xs ++ f x ∷ []
 map_push f [] x = refl
@@ -38,11 +29,11 @@ returns-in_err-word-clause-read c =
     let p = err_from_is_err_and c.from_residual-in_err-word.result c.from_residual-in_err-word.ensures.1 in
     let l = c.loop-place in
     let bytes = l.reader.bytes.now in
-    let tags = bits_in 64 c.args.tags.now in
+    let tags = bits_in 512 c.args.tags.now in
     let fails = subst (λ b. FailsOr ⊥ number_of ((word b).read bytes l.reader.at) c.in_err-word.field-0.0)
-    (c.bit.ensures ∙ is_bit c.args.tags.now l.place c.loop-place-test.true) c.in_err-word.ensures.read in
+    (c.bit.ensures ∙ bits_item 512 c.args.tags.now l.place c.loop-place-test.true) c.in_err-word.ensures.read in
     rw (p.1, p.2) (each_stop word tags l.place false bytes l.reader.at (map word_in l.cells.items) _ l.invariant.read
-    (omega (arith, long c.args.tags.now, c.loop-place-test.true)) number_of _ c.in_err-word.field-0.0
+    (omega (arith, bits_count 512 c.args.tags.now, c.loop-place-test.true)) number_of _ c.in_err-word.field-0.0
     (fails_so number_of _ _ c.in_err-word.field-0.0 fails))
 
 pub returns-in_err-word-clause-same : goal.returns-in_err-word-clause-same
@@ -53,21 +44,21 @@ loop-place-preserved c =
     let l = c.loop-place in
     let w = c.in_ok-word.word in
     let bytes = l.reader.bytes.now in
-    let tags = bits_in 64 c.args.tags.now in
-    let full = bits_in 64 c.args.full.now in
+    let tags = bits_in 512 c.args.tags.now in
+    let full = bits_in 512 c.args.full.now in
     let next = c.read_word.new.reader.at in
     let cell : Cell = record { word = w; full = c.bit-in-loop-place.result } in
     let read = subst (λ b. (word b).read bytes l.reader.at ≡ Got w next)
-    (c.bit.ensures ∙ is_bit c.args.tags.now l.place c.loop-place-test.true) c.in_ok-word.ensures.read in
+    (c.bit.ensures ∙ bits_item 512 c.args.tags.now l.place c.loop-place-test.true) c.in_ok-word.ensures.read in
     record {
       read = rw (c.in_ok-word.ensures.same, c.in_ok-push.ensures.items, map_push word_in l.cells.items cell)
           (each_more word tags l.place false bytes l.reader.at (map word_in l.cells.items) _ l.invariant.read
-          (omega (arith, long c.args.tags.now, c.loop-place-test.true)) w next read);
+          (omega (arith, bits_count 512 c.args.tags.now, c.loop-place-test.true)) w next read);
       full = rw c.in_ok-push.ensures.items (map_push full_in l.cells.items cell
           ∙ ap (λ fs. fs ++ c.bit-in-loop-place.result ∷ []) l.invariant.full
           ∙ ap (λ b. take l.place full ++ b ∷ [])
-          (c.bit-in-loop-place.ensures ∙ is_bit c.args.full.now l.place c.loop-place-test.true)
-          ∙ sym (take_more full l.place (omega (arith, long c.args.full.now, c.loop-place-test.true))));
+          (c.bit-in-loop-place.ensures ∙ bits_item 512 c.args.full.now l.place c.loop-place-test.true)
+          ∙ sym (take_more full l.place (omega (arith, bits_count 512 c.args.full.now, c.loop-place-test.true))));
       same = c.in_ok-word.ensures.same ∙ l.invariant.same;
       count = c.in_ok-push.ensures.len ∙ ap (λ n. n + 1) l.invariant.count;
     }
@@ -75,11 +66,11 @@ loop-place-preserved c =
 pub returns-clause-read : goal.returns-clause-read
 returns-clause-read c =
     let l = c.loop-place in
-    each_read word (bits_in 64 c.args.tags.now) l.place false l.reader.bytes.now l.reader.at (map word_in l.cells.items) _
-    l.invariant.read (omega (arith, long c.args.tags.now, c.loop-place-test.false))
+    each_read word (bits_in 512 c.args.tags.now) l.place false l.reader.bytes.now l.reader.at (map word_in l.cells.items) _
+    l.invariant.read (omega (arith, bits_count 512 c.args.tags.now, c.loop-place-test.false))
 
 pub returns-clause-full : goal.returns-clause-full
 returns-clause-full c =
     let l = c.loop-place in
-    l.invariant.full ∙ take_all l.place (bits_in 64 c.args.full.now)
-    (omega (arith, long c.args.full.now, c.loop-place-test.false))
+    l.invariant.full ∙ take_all l.place (bits_in 512 c.args.full.now)
+    (omega (arith, bits_count 512 c.args.full.now, c.loop-place-test.false))

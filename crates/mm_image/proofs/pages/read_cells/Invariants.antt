@@ -8,9 +8,9 @@ use Rattle.mm_image.proofs.pages.read_cells.Given as goal
 abbrev pub invariant-loop-place : goal.invariant-loop-place
 invariant-loop-place l = record {
   read : prefixed (map (λ (c : Cell). c.word) l.cells.items)
-      ((each word (drop l.place (bits_in 64 l.tags))).read l.reader.bytes.now l.reader.at)
-      ≡ (each word (bits_in 64 l.tags)).read l.initial.reader.bytes.now l.initial.reader.at;
-  full : map (λ (c : Cell). c.full) l.cells.items ≡ take l.place (bits_in 64 l.full);
+      ((each word (drop l.place (bits_in 512 l.tags))).read l.reader.bytes.now l.reader.at)
+      ≡ (each word (bits_in 512 l.tags)).read l.initial.reader.bytes.now l.initial.reader.at;
+  full : map (λ (c : Cell). c.full) l.cells.items ≡ take l.place (bits_in 512 l.full);
   same : l.reader.bytes.now ≡ l.initial.reader.bytes.now;
   count : vec_len l.cells ≡ l.place;
 }

@@ -1,7 +1,9 @@
 use Rattle.std.proofs.lemmas.Result.{err_from_is_err_and}
+use Rattle.mm_model.proofs.Answered.{gives_value}
+use Rattle.mm_link.specs.Answers.{Fails}
 use Rattle.mm_link.specs.Faults.{link_fault}
+use Rattle.mm_link.specs.declared.fault.LinkError.TheVariants.{NoMemory}
 use Rattle.mm_link.specs.Linked.{image_of}
-use Rattle.mm_link.proofs.Firsts.{gives_value}
 use Rattle.mm_link.proofs.Imaged.{linked_is_image}
 use Rattle.mm_link.proofs.Whole.{fails_five, fails_large, no_fault, order_few, order_apart, sites_are, few_pages}
 use Rattle.mm_link.proofs.linking.image_of_parts.Goals as goal
@@ -43,5 +45,5 @@ image_of-requires-clause-few c =
 pub returns : goal.returns
 returns c =
     let objects = c.args.objects.now in
-    gives_value (link_fault objects) (image_of objects) c.image_of.result
+    gives_value Fails NoMemory (link_fault objects) (image_of objects) c.image_of.result tt
     (no_fault objects c.requires.apart c.in_ok-check_objects.ensures c.in_ok-check_frames.ensures) c.image_of.ensures.image c.image_of.ensures.memory

@@ -1,7 +1,8 @@
-use Rattle.std.proofs.Common.{ℕ, List, take, Ok}
+use Rattle.std.proofs.Common.{ℕ, List, take, Option, Ok}
 use Rattle.std.specs.List.{flat_map, enumerate_from, zip}
 use Rattle.mm_io.specs.declared.write.WriteFault.{WriteFault}
 use Rattle.mm_io.specs.Sinks.{Writes}
+use Rattle.mm_model.specs.declared.counts.Counts.{Counts}
 use Rattle.mm_model.specs.Uses.{Use}
 use Rattle.mm_net.specs.Net.{net_of, NodesStandTo}
 use Rattle.mm_net.specs.Texts.{node_text}
@@ -9,6 +10,10 @@ use Rattle.mm_net.proofs.net_text.write_nodes.Given as goal
 
 -- the reports of the nodes so far are written
 abbrev pub invariant-loop-n : goal.invariant-loop-n
-invariant-loop-n g l = (uses : ℕ → List Use) → NodesStandTo l.net uses
-    → Writes {T = Unit {0}} {E = WriteFault} g.O.Sink.taken g.O.Sink.faults l.initial.out l.out
-    (flat_map (λ x. node_text g.M.Inspect.tells x.0 x.1.0 x.1.1 (uses x.0)) (take l.n (enumerate_from 0 (zip l.images (net_of l.net).nodes)))) (Ok tt)
+invariant-loop-n g l =
+    let written : (counts : ℕ → Option Counts) → Type 0 = λ counts. Writes {T = Unit {0}} {E = WriteFault} g.O.Sink.taken g.O.Sink.faults l.initial.out l.out
+    (flat_map (λ x. node_text x.0 x.1.0 x.1.1 (counts x.0)) (take l.n (enumerate_from 0 (zip l.images (net_of l.net).nodes)))) (Ok tt) in
+    record {
+      text : (counts : ℕ → Option Counts) × written counts;
+      counts : (uses : ℕ → List Use) → NodesStandTo l.net uses → written (λ n. g.M.Inspect.tells (uses n));
+    }

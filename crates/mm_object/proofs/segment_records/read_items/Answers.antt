@@ -1,19 +1,13 @@
-use Rattle.std.proofs.Common.{◌≡◌, ℕ, ◌+◌, ◌<◌, false, List, length, get_or, sym, ap, subst, ◌∙◌, arith}
+use Rattle.std.proofs.Common.{◌≡◌, ◌+◌, false, ap, subst, ◌∙◌, arith}
 use Rattle.std.proofs.lemmas.Result.{err_from_is_err_and}
-use Rattle.std.proofs.lemmas.List.FromFn.{length-map-range_with_len, get_or-map-range_with_len}
-use Rattle.mm_model.specs.Bytes.{bit_at}
 use Rattle.mm_format.specs.Formats.Outcome.{Got}
 use Rattle.mm_format.specs.Reading.{FailsOr}
+use Rattle.mm_format.specs.Images.{bits_in}
+use Rattle.mm_format.proofs.Images.{bits_count, bits_item}
 use Rattle.mm_format.proofs.Loops.{each_more, each_stop, each_read, fails_so}
 use Rattle.mm_object.specs.Answers.{number_of}
-use Rattle.mm_object.specs.Format.{bits_in, item_row}
+use Rattle.mm_object.specs.Format.{item_row}
 use Rattle.mm_object.proofs.segment_records.read_items.Goals as goal
-
-long : (count : ℕ) (bytes : List ℕ) → length (bits_in count bytes) ≡ count
-long count bytes = length-map-range_with_len (bit_at bytes 0) 0 count
-
-is_bit : (count : ℕ) (bytes : List ℕ) (k : ℕ) → k < count → bit_at bytes 0 k ≡ get_or (bits_in count bytes) k false
-is_bit count bytes k lt = sym (get_or-map-range_with_len (bit_at bytes 0) 0 count k k false lt (omega arith))
 
 pub returns-in_err-item-clause-read : goal.returns-in_err-item-clause-read
 returns-in_err-item-clause-read c =
@@ -23,9 +17,9 @@ returns-in_err-item-clause-read c =
     let flags = bits_in c.args.count c.args.bitmap.now in
     let e = c.in_err-item.field-0.0 in
     let fails = subst (λ b. FailsOr ⊥ number_of ((item_row b).read bytes l.reader.at) e)
-    (c.bit.ensures ∙ is_bit c.args.count c.args.bitmap.now l.k c.loop-k-test.true) c.in_err-item.ensures.read in
+    (c.bit.ensures ∙ bits_item c.args.count c.args.bitmap.now l.k c.loop-k-test.true) c.in_err-item.ensures.read in
     rw (p.1, p.2) (each_stop item_row flags l.k false bytes l.reader.at l.items.items _ l.invariant.read
-    (omega (arith, long c.args.count c.args.bitmap.now, c.loop-k-test.true)) number_of _ e
+    (omega (arith, bits_count c.args.count c.args.bitmap.now, c.loop-k-test.true)) number_of _ e
     (fails_so number_of _ _ e fails))
 
 pub returns-in_err-item-clause-same : goal.returns-in_err-item-clause-same
@@ -39,11 +33,11 @@ loop-k-preserved c =
     let a = c.in_ok-item.item in
     let next = c.read_item.new.reader.at in
     let read = subst (λ b. (item_row b).read bytes l.reader.at ≡ Got a next)
-    (c.bit.ensures ∙ is_bit c.args.count c.args.bitmap.now l.k c.loop-k-test.true) c.in_ok-item.ensures.read in
+    (c.bit.ensures ∙ bits_item c.args.count c.args.bitmap.now l.k c.loop-k-test.true) c.in_ok-item.ensures.read in
     record {
       read = rw (c.in_ok-item.ensures.same, c.in_ok-push.ensures.items)
           (each_more item_row flags l.k false bytes l.reader.at l.items.items _ l.invariant.read
-          (omega (arith, long c.args.count c.args.bitmap.now, c.loop-k-test.true)) a next read);
+          (omega (arith, bits_count c.args.count c.args.bitmap.now, c.loop-k-test.true)) a next read);
       same = c.in_ok-item.ensures.same ∙ l.invariant.same;
       count = c.in_ok-push.ensures.len ∙ ap (λ n. n + 1) l.invariant.count;
     }
@@ -52,4 +46,4 @@ pub returns-clause-read : goal.returns-clause-read
 returns-clause-read c =
     let l = c.loop-k in
     each_read item_row (bits_in c.args.count c.args.bitmap.now) l.k false l.reader.bytes.now l.reader.at l.items.items _
-    l.invariant.read (omega (arith, long c.args.count c.args.bitmap.now, c.loop-k-test.false))
+    l.invariant.read (omega (arith, bits_count c.args.count c.args.bitmap.now, c.loop-k-test.false))

@@ -6,7 +6,7 @@ use Rattle.mm_model.specs.Memory.{zero_cell}
 use Rattle.mm_mem.specs.Packed.{word_of, block_of}
 use Rattle.mm_mem.proofs.PackedCells.{get_or-block_of, length-block_of}
 use Rattle.mm_mem.proofs.block.Block.cell.Goals as goal
-use Rattle.mm_model.specs.Flags.{bit_of}
+use Rattle.mm_model.specs.Flags.{in_mask}
 
 pub returns-clause-cell : goal.returns-clause-cell
 returns-clause-cell c =
@@ -18,7 +18,7 @@ returns-clause-cell c =
     sym (ap (λ (cells : List Cell). slice_get cells place) c.self.view_is)
     ∙ slice_get-get_or cells place zero_cell within
     ∙ ap Some (get_or-block_of b.bits b.tags b.fulls place zero_cell c.requires
-    ∙ ap (λ (w : Word). record { word = w; full = bit_of b.fulls place }) (sym word)
+    ∙ ap (λ (w : Word). record { word = w; full = in_mask b.fulls place }) (sym word)
     ∙ ap (λ (full : Bool). record { word = c.word_of.result; full = full }) (sym c.is_set-2.ensures))
 
 pub returns-clause-whole : goal.returns-clause-whole
