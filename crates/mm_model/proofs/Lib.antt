@@ -19,3 +19,5 @@ pub mod CauseNumbers
 pub mod ImageBytes
 pub mod Filters
 pub mod OwnSlots
+pub mod WordTexts
+pub mod ScheduleWords
