@@ -3,19 +3,21 @@ use Rattle.std.proofs.Common.{◌≡◌, ◌≢◌, ℕ, ◌+◌, ◌≤◌, Lis
 use Rattle.std.specs.Prelude.{replicate}
 use Rattle.std.specs.Fmt.{digits}
 use Rattle.std.proofs.lemmas.List.{length-append, length-replicate}
-use Rattle.mm_model.specs.Schedule.{IsItem, no_word, word, FaultsAt, runs_of, only}
+use Rattle.mm_model.specs.Words.{runs_of, no_word, word}
+use Rattle.mm_model.specs.Schedule.{IsItem, SaysItems, FaultsAt, only}
+use Rattle.mm_model.proofs.ScheduleWords.{says_copies}
 use Rattle.mm_examples.specs.WorkedSchedules.{MeansItems, MeansNothing, MeansAbsentSlots, SkipsComments, CountsTooMany}
 use Rattle.mm_examples.specs.WorkedSchedules.{ListsTooMany, CountsNone, LeadsWithZero, KeepsOneGroup, KeepsIdleItems}
 use Rattle.mm_examples.specs.WorkedSchedules.{KeepsPorts}
 use Rattle.mm_examples.proofs.Items.{plain_item, counted_item, value_is}
 
 -- a number alone
-alone : (n : ℕ) (text : List ℕ) → n ≤ 255 → text ≡ decimal n → IsItem text n 1
-alone n text small is = record { number_limit = small; some = omega arith; count_limit = omega arith; spelled = inl (is, refl) }
+alone : (n : ℕ) (text : List ℕ) → n ≤ 255 → text ≡ decimal n → SaysItems text (n ∷ [])
+alone n text small is = says_copies text n 1 (record { number_limit = small; some = omega arith; count_limit = omega arith; spelled = inl (is, refl) })
 
 -- a number and a count
-counted : (n k : ℕ) (text : List ℕ) → n ≤ 255 → 1 ≤ k → k ≤ 1000000 → text ≡ decimal n ++ 42 ∷ decimal k → IsItem text n k
-counted n k text small some few is = record { number_limit = small; some = some; count_limit = few; spelled = inr is }
+counted : (n k : ℕ) (text : List ℕ) → n ≤ 255 → 1 ≤ k → k ≤ 1000000 → text ≡ decimal n ++ 42 ∷ decimal k → SaysItems text (replicate k n)
+counted n k text small some few is = says_copies text n k (record { number_limit = small; some = some; count_limit = few; spelled = inr is })
 
 pub means_items : MeansItems
 unfolding runs_of digits
@@ -24,20 +26,20 @@ means_items = record {
       (word (alone 1 _ (omega arith) refl)
       (word (alone 0 _ (omega arith) refl) (word (counted 1 2 _ (omega arith) (omega arith) (omega arith) refl)
       no_word)));
-  limit = omega arith;
+  rules = omega arith;
 }
 
 pub means_nothing : MeansNothing
 unfolding runs_of
-means_nothing = record { lists = no_word; limit = omega arith }
+means_nothing = record { lists = no_word; rules = omega arith }
 
 pub means_absent_slots : MeansAbsentSlots
 unfolding runs_of digits
-means_absent_slots = record { lists = word (alone 9 _ (omega arith) refl) (word (alone 9 _ (omega arith) refl) no_word); limit = omega arith }
+means_absent_slots = record { lists = word (alone 9 _ (omega arith) refl) (word (alone 9 _ (omega arith) refl) no_word); rules = omega arith }
 
 pub skips_comments : SkipsComments
 unfolding runs_of digits
-skips_comments = record { lists = word (alone 1 _ (omega arith) refl) (word (alone 4 _ (omega arith) refl) no_word); limit = omega arith }
+skips_comments = record { lists = word (alone 1 _ (omega arith) refl) (word (alone 4 _ (omega arith) refl) no_word); rules = omega arith }
 
 -- the first word is no item
 first_word : (text bytes : List ℕ) (place : ℕ) (behind : List (ℕ × List ℕ)) → runs_of text ≡ (place, bytes) ∷ behind
@@ -49,8 +51,8 @@ first_word text bytes place behind split none = record {
   split = split;
   items = [];
   lists = no_word;
-  limit = omega arith;
-  fault = λ n k item. absurd (none n k item);
+  rules = omega arith;
+  fault = λ said says few. none says.number says.count says.item;
 }
 
 pub counts_too_many : CountsTooMany
@@ -77,7 +79,7 @@ many_long k n items = length-append (replicate k n) items ∙ ap (λ m. m + leng
 
 -- a word of so many items and one of one item leave no room
 no_room : (text first second third : List ℕ) (a b place k : ℕ) → runs_of text ≡ (a, first) ∷ (b, second) ∷ (place, third) ∷ [] → k + 1 ≡ 1000000
-    → IsItem first 0 k → IsItem second 1 1 → FaultsAt text place
+    → SaysItems first (replicate k 0) → SaysItems second (1 ∷ []) → FaultsAt text place
 no_room text first second third a b place k split full one two = record {
   before = (a, first) ∷ (b, second) ∷ [];
   word = third;
@@ -85,8 +87,17 @@ no_room text first second third a b place k split full one two = record {
   split = split;
   items = replicate k 0 ++ 1 ∷ [];
   lists = word one (word two no_word);
-  limit = omega (arith, many_long k 0 (1 ∷ []), full);
-  fault = λ n m item. omega (arith, many_long k 0 (1 ∷ []), full, item.some);
+  rules = omega (arith, many_long k 0 (1 ∷ []), full);
+  fault = λ said says few. omega (
+    arith,
+    many_long k 0 (1 ∷ []),
+    full,
+    few,
+    length-append (replicate k 0 ++ 1 ∷ []) said,
+    ap length says.repeated,
+    length-replicate says.count says.number,
+    says.item.some,
+  );
 }
 
 pub lists_too_many : ListsTooMany

@@ -9,7 +9,8 @@ use Rattle.mm_image.specs.declared.fault.ImageFault.{ImageFault}
 use Rattle.mm_image.specs.declared.fault.ImageFault.TheVariants as faults
 use Rattle.mm_image.specs.Faults.{number_of}
 use Rattle.mm_format.proofs.ImagesWhole.{spelled_clean, spelled_one}
-use Rattle.mm_sched.proofs.Texts.{never_both, fault_unique, means_unique}
+use Rattle.mm_model.proofs.WordTexts.{never_both, fault_unique, means_unique}
+use Rattle.mm_model.proofs.ScheduleWords.{schedule_grammar}
 use Rattle.mm_line.specs.declared.fault.Fault.{Fault}
 use Rattle.mm_line.specs.declared.fault.Fault.TheVariants as text_faults
 use Rattle.mm_line.specs.Faults.{number_of as fault_number}
@@ -26,9 +27,6 @@ use Rattle.mm_checkpoint.specs.Faults.{save_fault}
 use Rattle.mm_checkpoint.proofs.SpelledLaws as checkpoints
 use Rattle.mm_net.specs.declared.link.Link.{Link}
 use Rattle.mm_net.specs.declared.item.NetItem.{NetItem}
-use Rattle.mm_net.specs.Links as links
-use Rattle.mm_net.specs.Events as events
-use Rattle.mm_net.proofs.Reading as texts
 use Rattle.mm_net.proofs.LinkWords.{links_grammar}
 use Rattle.mm_net.proofs.EventWords.{events_grammar}
 use Rattle.mm_asm.specs.Faults.{first_fault}
@@ -181,15 +179,15 @@ sound_more (x ∷ before) v sound one = (sound.0, sound_more before v sound.1 on
 
 pub one_value : (kind : Kind) (before : List Value) (bytes : List ℕ) (v w : Value) → AreSound before → Accepts kind before bytes v → Accepts kind before bytes w → v ≡ w
 one_value image_file before bytes (an_image i) (an_image j) sound one two = ap (λ (x : Image). an_image x) (spelled_one bytes i j one two)
-one_value schedule_file before bytes (a_list xs) (a_list ys) sound one two = ap (λ (x : List ℕ). a_list x) (means_unique bytes xs ys one two)
+one_value schedule_file before bytes (a_list xs) (a_list ys) sound one two = ap (λ (x : List ℕ). a_list x) (means_unique schedule_grammar bytes xs ys one two)
 one_value source_file before bytes (an_object a) (an_object b) sound one two = ap (λ (x : Object). an_object x) (meanings_are_one bytes a b one two)
 one_value object_file before bytes (an_object a) (an_object b) sound one two = ap (λ (x : Object). an_object x) (one_object bytes a b one two)
 one_value checkpoint_file (an_image i ∷ []) bytes (a_checkpoint c) (a_checkpoint d) sound (p, last, saves, is) (q, also, saves_too, is_too) =
     ap (λ (x : Saved). a_checkpoint x) (is ∙ checkpoints.are_one i bytes p q last also sound.0 saves saves_too ∙ sym is_too)
 one_value links_file before bytes (a_links ls) (a_links ms) sound one two =
-    ap (λ (x : List Link). a_links x) (texts.means_unique links.Says links.AreLinks links_grammar bytes ls ms one two)
+    ap (λ (x : List Link). a_links x) (means_unique links_grammar bytes ls ms one two)
 one_value events_file before bytes (an_events es) (an_events fs) sound one two =
-    ap (λ (x : List NetItem). an_events x) (texts.means_unique events.Says events.AreEvents events_grammar bytes es fs one two)
+    ap (λ (x : List NetItem). an_events x) (means_unique events_grammar bytes es fs one two)
 one_value text_input before bytes (a_text s) (a_text t) sound one two = ap (λ (x : List ℕ). a_text x) (one ∙ sym two)
 one_value kind before bytes v w sound one two = absurd (assumption (one, two))
 
@@ -197,7 +195,7 @@ pub one_fault : (kind : Kind) (before : List Value) (number : ℕ) (bytes : List
 one_fault image_file before number bytes r q (kind, offset, is, fault) (other, place, also, second) =
     is ∙ one_image_fault bytes number kind other offset place fault second ∙ sym also
 one_fault schedule_file before number bytes r q (offset, is, fault) (place, also, second) =
-    is ∙ ap (λ (n : ℕ). refusal.Schedule number n) (fault_unique bytes offset place fault second) ∙ sym also
+    is ∙ ap (λ (n : ℕ). refusal.Schedule number n) (fault_unique schedule_grammar bytes offset place fault second) ∙ sym also
 one_fault source_file before number bytes r q (kind, line, column, is, fault) (other, row, place, also, second) =
     is ∙ one_text_fault bytes kind other line column row place fault second ∙ sym also
 one_fault object_file before number bytes r q (kind, offset, is, fault) (other, place, also, second) =
@@ -206,21 +204,21 @@ one_fault checkpoint_file (an_image i ∷ []) number bytes r q (offset, is, faul
     let at : offset ≡ place = cc in
     is ∙ ap (λ (n : ℕ). refusal.Checkpoint number n) at ∙ sym also
 one_fault links_file before number bytes r q (offset, is, fault) (place, also, second) =
-    is ∙ ap (λ (n : ℕ). refusal.Links number n) (texts.fault_unique links.Says links.AreLinks links_grammar bytes offset place fault second) ∙ sym also
+    is ∙ ap (λ (n : ℕ). refusal.Links number n) (fault_unique links_grammar bytes offset place fault second) ∙ sym also
 one_fault events_file before number bytes r q (offset, is, fault) (place, also, second) =
-    is ∙ ap (λ (n : ℕ). refusal.Schedule number n) (texts.fault_unique events.Says events.AreEvents events_grammar bytes offset place fault second) ∙ sym also
+    is ∙ ap (λ (n : ℕ). refusal.Schedule number n) (fault_unique events_grammar bytes offset place fault second) ∙ sym also
 one_fault kind before number bytes r q one two = absurd (assumption (one, two))
 
 pub value_or_fault : (kind : Kind) (before : List Value) (number : ℕ) (bytes : List ℕ) (r : Refusal) (v : Value) → AreSound before → Faults kind before number bytes r → Accepts kind before bytes v → ⊥
 value_or_fault image_file before number bytes r (an_image i) sound (kind, offset, is, fault) means = let none : image_fault bytes ≡ None = spelled_clean bytes i means in cc
-value_or_fault schedule_file before number bytes r (a_list xs) sound (offset, is, fault) means = never_both bytes xs offset means fault
+value_or_fault schedule_file before number bytes r (a_list xs) sound (offset, is, fault) means = never_both schedule_grammar bytes xs offset means fault
 value_or_fault source_file before number bytes r (an_object o) sound (kind, line, column, is, fault) means =
     let none : first_fault bytes ≡ None = meaning_has_no_fault bytes o means in cc
 value_or_fault object_file before number bytes r (an_object o) sound (kind, offset, is, fault) means =
     let none : object_fault bytes ≡ None = objects.spelled_clean bytes o means in cc
 value_or_fault checkpoint_file (an_image i ∷ []) number bytes r (a_checkpoint c) sound (offset, is, fault) (p, last, saves, same) =
     let none : save_fault i bytes ≡ None = checkpoints.no_fault i bytes sound.0 (record { parts = p; last = last; saves = saves }) in cc
-value_or_fault links_file before number bytes r (a_links ls) sound (offset, is, fault) means = texts.never_both links.Says links.AreLinks links_grammar bytes ls offset means fault
+value_or_fault links_file before number bytes r (a_links ls) sound (offset, is, fault) means = never_both links_grammar bytes ls offset means fault
 value_or_fault events_file before number bytes r (an_events es) sound (offset, is, fault) means =
-    texts.never_both events.Says events.AreEvents events_grammar bytes es offset means fault
+    never_both events_grammar bytes es offset means fault
 value_or_fault kind before number bytes r v sound fault means = assumption (fault, means)

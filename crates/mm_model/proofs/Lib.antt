@@ -20,3 +20,5 @@ pub mod ImageBytes
 pub mod Filters
 pub mod OwnSlots
 pub mod Answered
+pub mod WordTexts
+pub mod ScheduleWords

@@ -19,6 +19,7 @@ pub mod Fits
 pub mod Typed
 pub mod Tests
 pub mod Outcomes
+pub mod Words
 pub mod Schedule
 pub mod Trace
 pub mod Reach

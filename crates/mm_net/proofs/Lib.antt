@@ -1,4 +1,4 @@
-pub mod Reading
+pub mod Errors
 pub mod Parts
 pub mod EventWords
 pub mod LinkWords

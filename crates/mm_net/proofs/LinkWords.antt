@@ -8,7 +8,7 @@ use Rattle.mm_net.specs.declared.link.Link.{Link}
 use Rattle.mm_net.specs.Marks.{has}
 use Rattle.mm_net.specs.Links.{IsEnd, IsLink, end_text, link_text, ends, Says, AreLinks}
 use Rattle.mm_net.proofs.Parts.{lacks_both, lacks_more, split_unique, digits_lack}
-use Rattle.mm_net.proofs.Reading.{IsGrammar}
+use Rattle.mm_model.specs.Words.{IsGrammar}
 
 -- the node and the address of an end stand around its first `.`
 

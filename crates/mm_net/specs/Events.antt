@@ -2,9 +2,9 @@
 use Rattle.std.specs.Prelude.{◌≡◌, ℕ, ◌≤◌, List, ◌∷◌, ◌++◌, length, replicate, decimal}
 use Rattle.std.specs.List.{All}
 use Rattle.mm_model.specs.Schedule.{item_limit, IsItem}
+use Rattle.mm_model.specs.Words.{TextMeans, TextFaultsAt}
 use Rattle.mm_net.specs.declared.item.NetItem.{NetItem}
 use Rattle.mm_net.specs.declared.item.NetItem.TheVariants.{Turn, Send, Carry}
-use Rattle.mm_net.specs.Words.{TextMeans, TextFaultsAt}
 
 -- the numbers of an item are in range
 abbrev pub IsEvent : NetItem → Type 0

@@ -1,4 +1,4 @@
-pub mod Words
+pub mod Errors
 pub mod Marks
 pub mod Links
 pub mod Events

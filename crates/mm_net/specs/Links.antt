@@ -1,8 +1,8 @@
 -- Links between nodes: the text of a link, and the rules that the links of a net keep.
 use Rattle.std.specs.Prelude.{◌≡◌, ◌≢◌, ℕ, ◌%◌, ◌^◌, ◌<◌, ◌≤◌, List, [], ◌∷◌, ◌++◌, length, decimal}
 use Rattle.std.specs.List.{All, AllPairs}
+use Rattle.mm_model.specs.Words.{TextMeans, TextFaultsAt}
 use Rattle.mm_net.specs.declared.link.Link.{Link}
-use Rattle.mm_net.specs.Words.{TextMeans, TextFaultsAt}
 
 -- the most links of a net
 abbrev pub link_limit : ℕ

@@ -1,12 +1,11 @@
 //! Events of a net, read from text.
 
-ghost use Rattle.std.specs.Prelude.{◌≡◌, ◌⊎◌, ℕ, List, ◌++◌, replicate, IfOk, OnOk, Ok, Err};
+ghost use Rattle.std.specs.Prelude.{◌≡◌, ◌⊎◌, ℕ, List, IfOk, Ok, Err};
 ghost use Rattle.mm_net.specs.Events.{Means, FaultsAt};
 
 use crate::event_words::event;
-use crate::item_texts::{TextItem, read_items};
 use crate::{NetError, NetItem};
-use mm_sched::ITEM_LIMIT;
+use mm_sched::{ITEM_LIMIT, TextItem, append, read_items};
 use mm_word::NoMemory;
 use std::alloc::Global;
 use std::marker::Model;
@@ -42,18 +41,6 @@ impl Events {
     }
 }
 
-/// Appends `count` copies of an item.
-fn append(items: &mut Vec<NetItem>, item: NetItem, count: u32) -> Result<(), NoMemory>
-    ensures { OnOk result (items.new.items ≡ items.old.items ++ replicate count item) }
-{
-    for _ in 0..count {
-        let Ok(()) = items.push(item) else {
-            return Err(NoMemory);
-        };
-    }
-    Ok(())
-}
-
 impl TextItem for NetItem {
     ghost use Rattle.mm_net.specs.Events.{Says, AreEvents};
 
@@ -86,6 +73,6 @@ pub fn read_events(alloc: Global, bytes: &[u8]) -> Result<Events, NetError>
     ensures refuses { (offset : ℕ) → FaultsAt bytes.now offset → (result ≡ Err (NetError.Fault offset))
         ⊎ (result ≡ Err NetError.NoMemory) }
 {
-    let items = read_items(alloc, bytes)?;
+    let items = read_items(alloc, bytes, ITEM_LIMIT)?;
     Ok(Events { items })
 }

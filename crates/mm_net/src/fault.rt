@@ -1,6 +1,9 @@
 //! Why a text has no links or no events.
 
 ghost use Rattle.std.specs.Prelude.{◌≡◌};
+ghost use Rattle.mm_net.specs.Errors.{net_error};
+
+use mm_sched::SchedError;
 
 /// Why a text has no links or no events.
 #[derive(Clone, Copy, Debug, PartialEq, Eq, thiserror::Error)]
@@ -12,9 +15,14 @@ pub enum NetError {
     NoMemory,
 }
 
-/// The error of the word that begins at a place.
-pub fn fault(at: usize) -> NetError
-    ensures { result ≡ NetError.Fault at }
-{
-    NetError::Fault { offset: at as u64 }
+/// The fault of a text of words is one of links or of events.
+impl From<SchedError> for NetError {
+    ghost from_gives = { λ error net. net ≡ net_error error };
+
+    fn from(error: SchedError) -> NetError {
+        match error {
+            SchedError::Fault { offset } => NetError::Fault { offset },
+            SchedError::NoMemory => NetError::NoMemory,
+        }
+    }
 }

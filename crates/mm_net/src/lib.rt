@@ -6,7 +6,6 @@ mod event_words;
 mod events;
 mod fault;
 mod item;
-mod item_texts;
 pub mod laws;
 mod link;
 mod link_words;

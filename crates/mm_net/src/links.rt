@@ -5,9 +5,9 @@ ghost use Rattle.std.specs.List.{list_any};
 ghost use Rattle.mm_net.specs.Links.{IsLink, AreLinks, Means, FaultsAt};
 ghost use Rattle.mm_net.specs.Marks.{has_end};
 
-use crate::item_texts::{TextItem, read_items};
 use crate::link_words::link;
 use crate::{Link, NetError};
+use mm_sched::{TextItem, read_items};
 use mm_word::NoMemory;
 use std::alloc::Global;
 use std::marker::Model;
@@ -106,6 +106,6 @@ pub fn read_links(alloc: Global, bytes: &[u8]) -> Result<Links, NetError>
     ensures refuses { (offset : ℕ) → FaultsAt bytes.now offset → (result ≡ Err (NetError.Fault offset))
         ⊎ (result ≡ Err NetError.NoMemory) }
 {
-    let items = read_items(alloc, bytes)?;
+    let items = read_items(alloc, bytes, LINK_LIMIT)?;
     Ok(Links { items })
 }

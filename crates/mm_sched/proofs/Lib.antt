@@ -1,5 +1,5 @@
 pub mod Words
 pub mod Numbers
-pub mod Texts
+pub mod Reading
 pub mod Bits
 pub mod Rounds

@@ -5,7 +5,7 @@ use Rattle.std.proofs.Common.{subst, arith}
 use Rattle.std.proofs.lemmas.List.{drop_more}
 use Rattle.std.proofs.Math.ListN.{drop_of_length-le}
 use Rattle.std.proofs.lemmas.Bool.Decides.{nat_tests}
-use Rattle.mm_model.specs.Schedule.{is_blank, uncommented, joined, runs_from}
+use Rattle.mm_model.specs.Words.{is_blank, uncommented, joined, runs_from}
 use Rattle.mm_sched.specs.Places.{runs_in, is_word_byte}
 
 pub record WordByte (b : ℕ) : Type 0 where

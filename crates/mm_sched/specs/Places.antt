@@ -1,6 +1,6 @@
 -- The runs of a text from a place on.
 use Rattle.std.specs.Prelude.{ℕ, Bool, false, not, ◌&&◌, ◌==◌, List, drop}
-use Rattle.mm_model.specs.Schedule.{is_blank, uncommented, runs_from}
+use Rattle.mm_model.specs.Words.{is_blank, uncommented, runs_from}
 
 -- a byte of a run
 abbrev pub is_word_byte : ℕ → Bool

@@ -1,9 +1,9 @@
 //! Schedules read from text.
 
-ghost use Rattle.std.specs.Prelude.{◌≡◌, ◌⊎◌, ℕ, ◌++◌, List, IfOk, OnOk, Ok, Err, replicate};
+ghost use Rattle.std.specs.Prelude.{◌≡◌, ◌⊎◌, ℕ, List, IfOk, Ok, Err};
 ghost use Rattle.mm_model.specs.Schedule.{Means, FaultsAt};
 
-use crate::runs::{run_end, run_start};
+use crate::item_texts::{TextItem, append, read_items};
 use crate::schedule::{ITEM_LIMIT, Schedule};
 use crate::word::item;
 use mm_word::NoMemory;
@@ -19,23 +19,23 @@ pub enum SchedError {
     NoMemory,
 }
 
-/// The fault of the run that begins at a place.
-fn fault(at: usize) -> SchedError
-    ensures { result ≡ SchedError.Fault at }
-{
-    SchedError::Fault { offset: at as u64 }
-}
+impl TextItem for u8 {
+    ghost use Rattle.mm_model.specs.Schedule.{SaysItems, FitsLimit};
 
-/// Appends `count` items of a number.
-fn append(items: &mut Vec<u8>, number: u8, count: u32) -> Result<(), NoMemory>
-    ensures { OnOk result (items.new.items ≡ items.old.items ++ replicate count number) }
-{
-    for _ in 0..count {
-        let Ok(()) = items.push(number) else {
-            return Err(NoMemory);
+    ghost says = { λ word said. SaysItems word said };
+
+    ghost keeps = { λ items. FitsLimit items };
+
+    fn add_word(items: &mut Vec<u8>, word: &[u8]) -> Result<bool, NoMemory> {
+        let Some((number, count)) = item(word) else {
+            return Ok(false); // no item
         };
+        if count as usize > ITEM_LIMIT - items.len() {
+            return Ok(false); // too many
+        }
+        append(items, number, count)?;
+        Ok(true)
     }
-    Ok(())
 }
 
 /// The schedule that a text means: items `N` or `N*K` between blanks, and comments from `#` to the end of the line. A
@@ -50,24 +50,6 @@ pub fn parse(alloc: Global, bytes: &[u8]) -> Result<Schedule, SchedError>
     ensures refuses { (offset : ℕ) → FaultsAt bytes.now offset → (result ≡ Err (SchedError.Fault offset))
         ⊎ (result ≡ Err SchedError.NoMemory) }
 {
-    // Room for one item of each word: at least one byte is between two words.
-    let room = bytes.len().div_ceil(2).min(ITEM_LIMIT);
-    let Ok(mut items) = Vec::with_capacity(alloc, room) else {
-        return Err(SchedError::NoMemory);
-    };
-    let mut at = run_start(bytes, 0);
-    while at < bytes.len() {
-        let end = run_end(bytes, at);
-        let Some((number, count)) = item(&bytes[at..end]) else {
-            return Err(fault(at)); // no item
-        };
-        if count as usize > ITEM_LIMIT - items.len() {
-            return Err(fault(at)); // too many
-        }
-        let Ok(()) = append(&mut items, number, count) else {
-            return Err(SchedError::NoMemory);
-        };
-        at = run_start(bytes, end);
-    }
+    let items = read_items(alloc, bytes, ITEM_LIMIT)?;
     Ok(Schedule { items })
 }

@@ -1,38 +1,35 @@
 use Rattle.std.proofs.Common.{◌≡◌, ◌∙◌, inl, inr, Ok, Err, ap}
 use Rattle.std.proofs.lemmas.Result.{err_from_is_err_and}
+use Rattle.mm_sched.specs.declared.text.SchedError.TheVariants as words
 use Rattle.mm_net.specs.declared.fault.NetError.TheVariants.{Fault}
-use Rattle.mm_net.specs.Events.{Says, AreEvents}
-use Rattle.mm_net.proofs.Reading.{IsTold, means_unique, means_no_fault, one_fault, never_both}
+use Rattle.mm_net.specs.Errors.{net_error}
+use Rattle.mm_net.proofs.Errors.{fault_of}
 use Rattle.mm_net.proofs.EventWords.{events_grammar}
 use Rattle.mm_net.proofs.events.read_events.Goals as goal
 
 pub read_items-requires : goal.read_items-requires
-read_items-requires c = events_grammar.none
+read_items-requires c = events_grammar
 
 pub returns-in_err-items-clause-fault : goal.returns-in_err-items-clause-fault
 returns-in_err-items-clause-fault c offset e =
-    let p = err_from_is_err_and c.from_residual.result c.from_residual.ensures.1 in
-    c.in_err-items.ensures.fault offset (let same : c.in_err-items.field-0.0 ≡ Fault offset = cc in ap Err same)
+    let (error, is, same) = err_from_is_err_and c.from_residual.result c.from_residual.ensures.1 in
+    let at : net_error c.in_err-items.field-0.0 ≡ Fault offset = cc in
+    c.in_err-items.ensures.fault offset (ap Err (fault_of c.in_err-items.field-0.0 offset at))
 
 pub returns-in_err-items-clause-reads : goal.returns-in_err-items-clause-reads
 returns-in_err-items-clause-reads c items means =
-    let p = err_from_is_err_and c.from_residual.result c.from_residual.ensures.1 in
-    let told : IsTold Says AreEvents c.args.bytes.now c.in_err-items.field-0.0 = λ place is. c.in_err-items.ensures.fault place (ap Err is) in
-    inr (p.1 ∙ ap Err (p.2 ∙ means_no_fault Says AreEvents events_grammar c.args.bytes.now items means c.in_err-items.field-0.0 told))
+    let (error, is, same) = err_from_is_err_and c.from_residual.result c.from_residual.ensures.1 in inr (is ∙ ap Err (same ∙ ap net_error (c.in_err-items.ensures.reads items means)))
 
 pub returns-in_err-items-clause-refuses : goal.returns-in_err-items-clause-refuses
 returns-in_err-items-clause-refuses c offset fault =
-    let p = err_from_is_err_and c.from_residual.result c.from_residual.ensures.1 in
-    let told : IsTold Says AreEvents c.args.bytes.now c.in_err-items.field-0.0 = λ place is. c.in_err-items.ensures.fault place (ap Err is) in
-    elim (one_fault Says AreEvents events_grammar c.args.bytes.now offset fault c.in_err-items.field-0.0 told) [
-      | inl is ↦ inl (p.1 ∙ ap Err (p.2 ∙ is))
-      | inr is ↦ inr (p.1 ∙ ap Err (p.2 ∙ is))
+    let (error, is, same) = err_from_is_err_and c.from_residual.result c.from_residual.ensures.1 in
+    elim (c.in_err-items.ensures.refuses offset fault) [
+      | inl one ↦ let at : c.in_err-items.field-0.0 ≡ words.Fault offset = cc in inl (is ∙ ap Err (same ∙ ap net_error at))
+      | inr other ↦ let none : c.in_err-items.field-0.0 ≡ words.NoMemory = cc in inr (is ∙ ap Err (same ∙ ap net_error none))
     ]
 
 pub returns-clause-reads : goal.returns-clause-reads
-returns-clause-reads c items means =
-    inl (ap Ok (means_unique Says AreEvents events_grammar c.args.bytes.now c.in_ok-items.items.items items c.in_ok-items.ensures.means means))
+returns-clause-reads c items means = inl (ap Ok (c.in_ok-items.ensures.reads items means))
 
 pub returns-clause-refuses : goal.returns-clause-refuses
-returns-clause-refuses c offset fault =
-    absurd (never_both Says AreEvents events_grammar c.args.bytes.now c.in_ok-items.items.items offset c.in_ok-items.ensures.means fault)
+returns-clause-refuses c offset fault = elim (c.in_ok-items.ensures.refuses offset fault) [ inl one ↦ absurd (cc) | inr other ↦ absurd (cc) ]
