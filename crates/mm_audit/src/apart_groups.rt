@@ -17,7 +17,7 @@ use crate::shared_words::Meets;
 use crate::writers::writer;
 
 /// Whether groups stand apart from all others.
-#[derive(Clone, Copy, Debug, PartialEq, Eq)]
+#[derive(Clone, Copy)]
 pub enum Apart {
     Yes,
     /// `group` is the least group outside that can write a word that one inside can touch, and `word` the least such

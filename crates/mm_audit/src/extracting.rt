@@ -14,7 +14,7 @@ use mm_word::NoMemory;
 use std::alloc::Global;
 
 /// Why there is no image of some groups alone.
-#[derive(Clone, Copy, Debug, PartialEq, Eq)]
+#[derive(Clone, Copy, PartialEq, Eq)]
 pub enum ExtractError {
     /// No slot is of one of the groups.
     NoGroup,

@@ -10,7 +10,7 @@ use mm_word::NoMemory;
 use std::alloc::Global;
 
 /// A slot with the group of its handler.
-#[derive(Clone, Copy, Debug)]
+#[derive(Clone, Copy)]
 pub struct Served {
     /// The slot's number.
     pub slot: u8,

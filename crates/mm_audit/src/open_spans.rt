@@ -8,7 +8,7 @@ use crate::span::Span;
 use mm_word::NoMemory;
 
 /// A span that is open at an address: its end, and the groups that use it or a span around it.
-#[derive(Clone, Copy, Debug)]
+#[derive(Clone, Copy)]
 pub struct Open {
     pub end: u64,
     pub touch: u64,

@@ -13,7 +13,7 @@ use mm_image::Image;
 use mm_model::Slot;
 
 /// Why the slots of some groups cannot stand alone.
-#[derive(Clone, Copy, Debug, PartialEq, Eq)]
+#[derive(Clone, Copy, PartialEq, Eq)]
 pub enum Refused {
     /// No slot is of one of the groups.
     NoGroup,

@@ -5,7 +5,7 @@ ghost use Rattle.mm_audit.specs.Meeting.{FillsWords, IsWithout, NotesWord, no_me
 
 /// The row of one group that writes: a mask of the groups that touch a word that it can write, and the least such word
 /// of each.
-#[derive(Clone, Copy, Debug)]
+#[derive(Clone, Copy)]
 pub struct Meets {
     pub groups: u64,
     pub words: [u64; 64],

@@ -7,7 +7,7 @@ ghost use Rattle.mm_audit.specs.Spans.{mask, segment_of};
 use mm_model::WordUse;
 
 /// A segment of pointers that groups are granted.
-#[derive(Clone, Copy, Debug)]
+#[derive(Clone, Copy)]
 pub struct Span {
     /// The least address of the segment.
     pub base: u64,

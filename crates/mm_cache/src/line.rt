@@ -6,7 +6,7 @@ use mm_mem::{BLOCK, Block};
 use mm_word::Cell;
 
 /// A line with a block.
-#[derive(Clone, Copy, Debug, PartialEq, Eq)]
+#[derive(Clone, Copy, PartialEq, Eq)]
 pub struct CacheLine {
     /// The number of the block, which is its address divided by 64.
     pub block: u64,
@@ -17,7 +17,7 @@ pub struct CacheLine {
 }
 
 /// A block that has to be written back.
-#[derive(Clone, Copy, Debug, PartialEq, Eq)]
+#[derive(Clone, Copy, PartialEq, Eq)]
 pub struct Victim {
     /// The number of the block.
     pub block: u64,

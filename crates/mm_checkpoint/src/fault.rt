@@ -6,7 +6,7 @@ use mm_format::ReadError;
 use mm_image::ImageFault;
 
 /// Why no checkpoint was read.
-#[derive(Clone, Copy, Debug, PartialEq, Eq)]
+#[derive(Clone, Copy, PartialEq, Eq)]
 pub enum SaveError {
     /// The bytes are no checkpoint of the image: the offset of the first fault, in bytes.
     Fault { offset: u64 },

@@ -13,7 +13,7 @@ const ENTRIES: usize = 64;
 const SPOTS: usize = 1024;
 
 /// A break: a byte address in the code of a slot. Breaks are ordered by slot, and then by address.
-#[derive(Clone, Copy, PartialEq, Eq, PartialOrd, Ord, Debug, Default)]
+#[derive(Clone, Copy, PartialEq, Eq, PartialOrd, Ord, Default)]
 pub struct Break {
     pub slot: u8,
     /// A byte address.

@@ -9,7 +9,7 @@ use mm_line::{Token, next_token};
 use mm_model::CYCLE_LIMIT;
 
 /// The command that a line gives.
-#[derive(Clone, Copy, Debug, PartialEq, Eq)]
+#[derive(Clone, Copy, PartialEq, Eq)]
 pub enum Command {
     /// Nothing: the line has no token.
     Nothing,

@@ -15,7 +15,7 @@ use mm_sched::{Order, Robin};
 use mm_text::{Gather, Piece};
 
 /// Whether another line may follow.
-#[derive(Clone, Copy, Debug, PartialEq, Eq)]
+#[derive(Clone, Copy, PartialEq, Eq)]
 pub enum Go {
     /// Another line may follow.
     More,

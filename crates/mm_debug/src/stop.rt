@@ -1,7 +1,7 @@
 //! Why a run stops.
 
 /// Why a run stops.
-#[derive(Clone, Copy, Debug, PartialEq, Eq)]
+#[derive(Clone, Copy, PartialEq, Eq)]
 pub enum Stop {
     /// The order or the limit has ended.
     End,

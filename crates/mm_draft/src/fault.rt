@@ -8,14 +8,14 @@ use mm_line::Problem;
 use std::alloc::{AllocError, AllocFailed};
 
 /// A fault, and the line that has it.
-#[derive(Clone, Copy, Debug, PartialEq, Eq)]
+#[derive(Clone, Copy, PartialEq, Eq)]
 pub struct Failure {
     pub source: Source,
     pub problem: Problem,
 }
 
 /// Why a text has no draft.
-#[derive(Clone, Copy, Debug, PartialEq, Eq)]
+#[derive(Clone, Copy, PartialEq, Eq)]
 pub enum DraftError {
     /// The first fault that is seen when the lines are read.
     Fault(Failure),

@@ -9,7 +9,7 @@ use std::alloc::{AllocError, Global};
 use std::marker::Model;
 
 /// How a configuration was found: by an item after the schedule of another.
-#[derive(Clone, Copy, Debug, PartialEq, Eq)]
+#[derive(Clone, Copy, PartialEq, Eq)]
 pub(crate) struct Origin {
     /// The index of the other configuration.
     pub(crate) from: u32,
@@ -17,7 +17,7 @@ pub(crate) struct Origin {
 }
 
 /// What looking a configuration up answers.
-#[derive(Clone, Copy, Debug, PartialEq, Eq)]
+#[derive(Clone, Copy, PartialEq, Eq)]
 pub(crate) enum Looked {
     /// The configuration was found before.
     Known,

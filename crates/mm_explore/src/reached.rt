@@ -17,7 +17,7 @@ use std::collections::BTreeSet;
 use std::marker::Model;
 
 /// A run of consecutive words.
-#[derive(Clone, Copy, Debug, PartialEq, Eq)]
+#[derive(Clone, Copy, PartialEq, Eq)]
 pub struct Span {
     /// The address of the first word.
     pub first: u64,

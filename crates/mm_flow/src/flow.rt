@@ -84,7 +84,7 @@ fn is_within(inner: Node, outer: Node) -> bool
 }
 
 /// A step on the walk over the nodes that lie within an outer node.
-#[derive(Clone, Copy, Debug)]
+#[derive(Clone, Copy)]
 struct Walk {
     /// The index of the next node.
     at: usize,

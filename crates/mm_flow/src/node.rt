@@ -4,7 +4,7 @@ ghost use Rattle.std.specs.Prelude.{◌≡◌};
 ghost use Rattle.mm_flow.specs.Edges.{has_right};
 
 /// A node of a graph: the nodes to which it leads, and what it permits.
-#[derive(Clone, Copy, Debug)]
+#[derive(Clone, Copy)]
 pub struct Node {
     /// The node leads to the targets at indices from this one on.
     pub low: usize,
@@ -23,7 +23,7 @@ pub struct Node {
 }
 
 /// A right that a node may have: to load, to store, or to make pointers.
-#[derive(Clone, Copy, Debug, PartialEq, Eq)]
+#[derive(Clone, Copy, PartialEq, Eq)]
 pub enum Right {
     Load,
     Store,

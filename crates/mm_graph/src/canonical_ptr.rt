@@ -7,7 +7,7 @@ ghost use Rattle.mm_graph.specs.Key.{entry_key};
 use mm_word::{GuardedPtr, Perm, Word, enter, leab};
 
 /// A pointer in the order of the nodes: by the base of its segment, the longer segment first. It is the key of a node.
-#[derive(Clone, Copy, PartialEq, Eq, PartialOrd, Ord, Debug)]
+#[derive(Clone, Copy, PartialEq, Eq, PartialOrd, Ord)]
 pub struct CanonicalPtr {
     /// The least address of the segment.
     pub base: u64,

@@ -10,7 +10,7 @@ use mm_word::Cell;
 use std::alloc::{AllocError, Global};
 
 /// A pointer that a cell holds.
-#[derive(Clone, Copy, Debug)]
+#[derive(Clone, Copy)]
 pub struct Found {
     /// The address of the cell.
     pub word: u64,

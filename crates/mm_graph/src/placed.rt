@@ -8,7 +8,7 @@ use crate::canonical_ptr::CanonicalPtr;
 use std::alloc::{AllocError, Global};
 
 /// A key and its index in a list.
-#[derive(Clone, Copy, PartialEq, Eq, PartialOrd, Ord, Debug)]
+#[derive(Clone, Copy, PartialEq, Eq, PartialOrd, Ord)]
 pub struct Placed {
     pub key: CanonicalPtr,
     pub place: usize,

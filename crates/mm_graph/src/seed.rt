@@ -12,7 +12,7 @@ use mm_word::Word;
 use std::alloc::{AllocError, Global};
 
 /// A pointer that a group has, where a mark starts.
-#[derive(Clone, Copy, Debug)]
+#[derive(Clone, Copy)]
 pub struct Seed {
     pub group: u8,
     /// The key of the pointer that stands for it.

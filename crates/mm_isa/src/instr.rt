@@ -4,7 +4,7 @@ use crate::reg::{EvtReg, Reg};
 use mm_word::{Post, Pre};
 
 /// An operation on two 64-bit integers, with its number in an instruction word.
-#[derive(Clone, Copy, Debug, PartialEq, Eq)]
+#[derive(Clone, Copy, PartialEq, Eq)]
 pub enum AluOp {
     /// Sum modulo 2^64.
     Add = 0x10,
@@ -34,7 +34,7 @@ pub enum AluOp {
 }
 
 /// How a handler resumes a slot that it took.
-#[derive(Clone, Copy, Debug, PartialEq, Eq)]
+#[derive(Clone, Copy, PartialEq, Eq)]
 pub enum How {
     /// The slot runs its instruction again.
     Retry,
@@ -183,5 +183,5 @@ pub enum Instr {
 }
 
 /// A division by zero.
-#[derive(Clone, Copy, Debug, PartialEq, Eq)]
+#[derive(Clone, Copy, PartialEq, Eq)]
 pub struct DivZero;

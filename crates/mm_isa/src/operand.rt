@@ -33,7 +33,7 @@ pub enum Operand {
 }
 
 /// The kind of an operand: an [`Operand`] without its value.
-#[derive(Clone, Copy, Debug, Default, PartialEq, Eq)]
+#[derive(Clone, Copy, Default, PartialEq, Eq)]
 pub enum OperandKind {
     #[default]
     Rd,

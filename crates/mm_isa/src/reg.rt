@@ -6,7 +6,7 @@ ghost use Rattle.std.specs.Option.{SomeIff};
 use std::marker::Model;
 
 /// The number of a general register, 0 to 15.
-#[derive(Clone, Copy, Debug, PartialEq, Eq)]
+#[derive(Clone, Copy, PartialEq, Eq)]
 pub struct Reg {
     number: u8,
 }
@@ -56,7 +56,7 @@ impl Reg {
 }
 
 /// The first of the four registers that an event fills: the number of a register that three more follow, 0 to 12.
-#[derive(Clone, Copy, Debug, PartialEq, Eq)]
+#[derive(Clone, Copy, PartialEq, Eq)]
 pub struct EvtReg {
     number: u8,
 }

@@ -36,7 +36,7 @@ impl Fault {
 }
 
 /// A fault and its place: the count of bytes of the line from there on, 0 if something is missing.
-#[derive(Clone, Copy, Debug, PartialEq, Eq)]
+#[derive(Clone, Copy, PartialEq, Eq)]
 pub struct Problem {
     pub fault: Fault,
     pub left: usize,

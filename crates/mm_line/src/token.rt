@@ -8,7 +8,7 @@ use crate::class::Class;
 use crate::number::value_of;
 
 /// The kind of a token, and the value of a number.
-#[derive(Clone, Copy, Debug, PartialEq, Eq)]
+#[derive(Clone, Copy, PartialEq, Eq)]
 pub enum Token {
     /// A letter or `_`, then letters, digits or `_`.
     Name,
@@ -29,7 +29,7 @@ pub enum Token {
 }
 
 /// A token of a line.
-#[derive(Clone, Copy, Debug)]
+#[derive(Clone, Copy)]
 pub struct Next<'a> {
     pub token: Token,
     /// The token's bytes.

@@ -17,7 +17,7 @@ use std::marker::Model;
 const ORIGIN: u64 = 0x10_0000;
 
 /// The place of a segment: the logarithm of its length in bytes, and its first address.
-#[derive(Clone, Copy, Debug, PartialEq, Eq)]
+#[derive(Clone, Copy, PartialEq, Eq)]
 pub(crate) struct Placement {
     pub log: u8,
     pub base: u64,

@@ -3,7 +3,7 @@
 use mm_word::Word;
 
 /// The answer of a load.
-#[derive(Clone, Copy, Debug, PartialEq, Eq)]
+#[derive(Clone, Copy, PartialEq, Eq)]
 pub enum Loaded {
     /// The cell's word.
     Value(Word),
@@ -14,7 +14,7 @@ pub enum Loaded {
 }
 
 /// The answer of a store.
-#[derive(Clone, Copy, Debug, PartialEq, Eq)]
+#[derive(Clone, Copy, PartialEq, Eq)]
 pub enum Stored {
     Done,
     /// The word is in no mapped page.

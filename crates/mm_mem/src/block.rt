@@ -17,7 +17,7 @@ pub const ZERO: Cell = Cell {
 
 /// The eight cells of a block, packed: 64 bits for each word, and two bits for each cell in two bytes. Contracts see
 /// the list of cells.
-#[derive(Clone, Copy, Debug, PartialEq, Eq)]
+#[derive(Clone, Copy, PartialEq, Eq)]
 pub struct Block {
     bits: [u64; BLOCK],
     // Which cells hold pointers, and which are full: a bit for each, the lowest for the first.

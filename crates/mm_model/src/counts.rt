@@ -1,7 +1,7 @@
 //! The counts that a memory keeps.
 
 /// The numbers of a count line: a memory's counts of its cache, its translation buffer and its frames.
-#[derive(Clone, Copy, Debug, PartialEq, Eq)]
+#[derive(Clone, Copy, PartialEq, Eq)]
 pub struct Counts {
     /// Accesses whose block was in its line.
     pub hits: u64,

@@ -3,7 +3,7 @@
 use mm_word::{Cause, GuardedPtr, Perm, Word};
 
 /// What a handler learns of a slot that faulted.
-#[derive(Clone, Copy, Debug, PartialEq, Eq)]
+#[derive(Clone, Copy, PartialEq, Eq)]
 pub struct Event {
     /// The slot that faulted.
     pub slot: u8,

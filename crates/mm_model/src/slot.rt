@@ -6,7 +6,7 @@ use std::alloc::{AllocError, Global};
 use std::marker::Model;
 
 /// The state of a slot. Only a running slot takes turns.
-#[derive(Clone, Copy, Debug, PartialEq, Eq)]
+#[derive(Clone, Copy, PartialEq, Eq)]
 pub enum SlotState {
     Running,
     /// The slot's event is in its handler's queue.
@@ -18,7 +18,7 @@ pub enum SlotState {
 }
 
 /// A load that was issued and whose value has not arrived.
-#[derive(Clone, Copy, Debug, PartialEq, Eq)]
+#[derive(Clone, Copy, PartialEq, Eq)]
 pub struct Pending {
     /// The register that waits for the load, 0 to 15.
     pub reg: u8,

@@ -3,7 +3,7 @@
 use mm_word::{Access, Cause, GuardedPtr};
 
 /// How a cycle ended.
-#[derive(Clone, Copy, Debug, PartialEq, Eq)]
+#[derive(Clone, Copy, PartialEq, Eq)]
 pub enum Tick {
     /// The cycle named no running slot, and no port with a pending load: nothing but the number of cycles changed.
     Idle,
@@ -18,7 +18,7 @@ pub enum Tick {
 }
 
 /// What one cycle did.
-#[derive(Clone, Copy, Debug, PartialEq, Eq)]
+#[derive(Clone, Copy, PartialEq, Eq)]
 pub struct Step {
     pub tick: Tick,
     /// The slot that the cycle was about.

@@ -1,7 +1,7 @@
 //! The items of a net.
 
 /// An item of a net: what it does in one step.
-#[derive(Clone, Copy, Debug, PartialEq, Eq)]
+#[derive(Clone, Copy, PartialEq, Eq)]
 pub enum NetItem {
     /// A cycle of a node. The item is the number of a slot or, in a split machine, 128 more than the number of the slot
     /// whose port delivers.

@@ -2,7 +2,7 @@
 
 /// A link takes integers at the address `take` of node `from` and puts them at the address `put` of node `to`.
 /// Addresses are those of words, in bytes.
-#[derive(Clone, Copy, Debug, PartialEq, Eq)]
+#[derive(Clone, Copy, PartialEq, Eq)]
 pub struct Link {
     pub from: u8,
     pub take: u64,

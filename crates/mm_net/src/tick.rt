@@ -3,7 +3,7 @@
 use mm_model::Step;
 
 /// The outcome of an item of a net.
-#[derive(Clone, Copy, Debug, PartialEq, Eq)]
+#[derive(Clone, Copy, PartialEq, Eq)]
 pub enum NetTick {
     /// Nothing: the cycle was idle, the node or the link is not there, or the link took or put nothing.
     Idle,

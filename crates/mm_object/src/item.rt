@@ -1,7 +1,7 @@
 //! The words of segments.
 
 /// A word of a segment, and whether its cell is full.
-#[derive(Clone, Copy, Debug, PartialEq, Eq)]
+#[derive(Clone, Copy, PartialEq, Eq)]
 pub struct Item {
     pub bits: u64,
     pub full: bool,

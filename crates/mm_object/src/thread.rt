@@ -4,7 +4,7 @@ use crate::target::Target;
 use mm_word::Perm;
 
 /// The value that a register begins with.
-#[derive(Clone, Copy, Debug, PartialEq, Eq)]
+#[derive(Clone, Copy, PartialEq, Eq)]
 pub enum Value {
     Int(u64),
     Ptr { perm: Perm, target: Target },
@@ -12,7 +12,7 @@ pub enum Value {
 
 /// A thread: the slot that it begins in, its group, its handler's slot, the permission and the target of its
 /// instruction pointer, and its registers.
-#[derive(Clone, Copy, Debug, PartialEq, Eq)]
+#[derive(Clone, Copy, PartialEq, Eq)]
 pub struct Thread {
     pub slot: u8,
     pub group: u8,

@@ -7,7 +7,7 @@ use std::marker::Model;
 
 /// Round robin: the next running slot after the last one that was issued, cyclically by number; at first the least.
 /// Contracts see the last one.
-#[derive(Clone, Copy, Debug, PartialEq, Eq)]
+#[derive(Clone, Copy, PartialEq, Eq)]
 pub struct Robin {
     last: Option<u8>,
 }

@@ -16,7 +16,7 @@ use mm_word::NoMemory;
 use std::alloc::Global;
 
 /// Why an image cannot be swept.
-#[derive(Clone, Copy, Debug, PartialEq, Eq)]
+#[derive(Clone, Copy, PartialEq, Eq)]
 pub enum SweepError {
     /// The segment of the instruction pointer of `slot`, the least such slot, meets the range.
     Held { slot: u8 },

@@ -1,10 +1,16 @@
 -- Pointers that a slot goes on at, and words made of two halves.
-use Rattle.std.proofs.Common.{◌≡◌, ℕ, ◌+◌, ◌*◌, ◌%◌, ◌^◌, ◌<◌, true, bit_or, refl, arith, ℤ, pos, ◌+ℤ◌}
+use Rattle.std.proofs.Common.{◌≡◌, ℕ, ◌+◌, ◌*◌, ◌%◌, ◌^◌, ◌<◌, true, bit_or, refl, arith, ℤ, pos, ◌+ℤ◌, subst, Option, Result, Ok}
 use Rattle.std.proofs.lemmas.Nat.{or_shifted}
 use Rattle.mm_word.specs.declared.perm.Perm.{Perm}
 use Rattle.mm_word.specs.declared.perm.Perm.TheVariants.{Ro, Rw, Xu, Xp, Eu, Ep, Key}
 use Rattle.mm_word.specs.Perm.{can_fetch, can_move}
 use Rattle.mm_word.specs.Pointer.{Pointer, moved_to, lea_result}
+use Rattle.mm_word.specs.declared.cause.Cause.{Cause}
+use Rattle.mm_word.specs.declared.word.Word.{Word}
+use Rattle.mm_word.specs.declared.word.Word.TheVariants.{Int, Ptr}
+use Rattle.mm_model.specs.Slot.{Slot, register}
+use Rattle.mm_model.specs.Effect.{sets_pointer, if_pointer}
+use Rattle.mm_thread.specs.Ends.{EndsAlone, pointer_in}
 
 -- code's pointers may be moved
 pub can_move-code : (p : Perm) → can_fetch p ≡ true → can_move p ≡ true
@@ -24,3 +30,24 @@ pub or_halves : (high low : ℕ) → low < 2 ^ 32 → bit_or (high * 2 ^ 32 % 2 
 or_halves high low below =
     let moved : high * 2 ^ 32 % 2 ^ 64 ≡ high % 2 ^ 32 * 2 ^ 32 = omega arith in
     rw moved (or_shifted (high % 2 ^ 32) 32 low below)
+
+through_word :
+    (w : Word) (s new : Slot) (rd : ℕ) (p : Pointer) (told : Result (Option Pointer) Cause) (make : Pointer → Result Pointer Cause) →
+    Ok p ≡ pointer_in w →
+    EndsAlone (sets_pointer s rd (make p)) s new told →
+    EndsAlone (if_pointer w (λ q. sets_pointer s rd (make q))) s new told
+through_word (Int bits) s new rd p told make there ends = cc
+through_word (Ptr q) s new rd p told make there ends =
+    let same : p ≡ q = cc in
+    subst (λ (r : Pointer). EndsAlone (sets_pointer s rd (make r)) s new told) same ends
+
+-- an instruction that makes a pointer from the pointer in register ra ends as one that was given the pointer
+pub through_pointer :
+    (s new : Slot) (rd ra : ℕ) (p : Pointer) (told : Result (Option Pointer) Cause) (make : Pointer → Result Pointer Cause) (made : Result Pointer Cause) →
+    Ok p ≡ pointer_in (register s ra) →
+    made ≡ make p →
+    EndsAlone (sets_pointer s rd made) s new told →
+    EndsAlone (if_pointer (register s ra) (λ q. sets_pointer s rd (make q))) s new told
+through_pointer s new rd ra p told make made there is ends =
+    through_word (register s ra) s new rd p told make there
+    (subst (λ (m : Result Pointer Cause). EndsAlone (sets_pointer s rd m) s new told) is ends)

@@ -3,7 +3,7 @@
 use mm_word::{Access, Cause, GuardedPtr};
 
 /// How an instruction ends.
-#[derive(Clone, Copy, Debug, PartialEq, Eq)]
+#[derive(Clone, Copy, PartialEq, Eq)]
 pub(crate) enum Outcome {
     /// The instruction is carried out, perhaps through an enter pointer.
     Goes(Option<GuardedPtr>),
@@ -14,7 +14,7 @@ pub(crate) enum Outcome {
 }
 
 /// The outcome of an instruction, and its access.
-#[derive(Clone, Copy, Debug, PartialEq, Eq)]
+#[derive(Clone, Copy, PartialEq, Eq)]
 pub(crate) struct Retired {
     pub(crate) outcome: Outcome,
     /// The access to a cell, if the instruction made one.

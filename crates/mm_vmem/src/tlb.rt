@@ -12,7 +12,7 @@ use std::marker::Model;
 pub const ENTRIES: usize = 16;
 
 /// An entry of the TLB: a page that was looked up, and its frame.
-#[derive(Clone, Copy, Debug, Default, PartialEq, Eq)]
+#[derive(Clone, Copy, Default, PartialEq, Eq)]
 pub struct Entry {
     pub page: u64,
     pub frame: u32,

@@ -16,7 +16,7 @@ use mm_word::{GuardedPtr, NoMemory};
 use std::alloc::Global;
 
 /// A pointer that stores at a word, and one that loads the word.
-#[derive(Clone, Copy, Debug)]
+#[derive(Clone, Copy)]
 pub struct Carriers {
     pub store: GuardedPtr,
     pub load: GuardedPtr,

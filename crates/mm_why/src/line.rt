@@ -3,7 +3,7 @@
 use mm_word::GuardedPtr;
 
 /// The rule by which a line follows. It names earlier lines by their indices, from 0 on.
-#[derive(Clone, Copy, Debug)]
+#[derive(Clone, Copy)]
 pub enum Rule {
     /// A register of a slot of the group holds the pointer.
     Register {
@@ -47,7 +47,7 @@ pub enum Rule {
 }
 
 /// A line of a derivation: a group is granted a pointer, by a rule.
-#[derive(Clone, Copy, Debug)]
+#[derive(Clone, Copy)]
 pub struct Line {
     pub group: u8,
     pub pointer: GuardedPtr,

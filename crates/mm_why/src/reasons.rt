@@ -9,7 +9,7 @@ ghost use Rattle.mm_why.specs.Reasons.{IsFirstIn, IsMeeting, NoMeeting, IsHand, 
 use crate::rounds::{Masks, Rounds, has};
 
 /// How a group hands all that it has to another.
-#[derive(Clone, Copy, Debug)]
+#[derive(Clone, Copy)]
 pub enum Hand {
     /// A slot of one of them has its handler in the other.
     Linked,
@@ -19,7 +19,7 @@ pub enum Hand {
 }
 
 /// The group that hands on what has come to it, and how.
-#[derive(Clone, Copy, Debug)]
+#[derive(Clone, Copy)]
 pub struct Reason {
     pub by: usize,
     pub hand: Hand,

@@ -73,7 +73,7 @@ pub fn givers(graph: &Graph, marks: &[u64], how: WordUse, word: u64) -> u64
 }
 
 /// A group, and a round in which all that it has of its own has come to another.
-#[derive(Clone, Copy, Debug)]
+#[derive(Clone, Copy)]
 pub struct Owner {
     pub group: usize,
     pub round: usize,

@@ -1,3 +1,5 @@
+use Rattle.std.proofs.Common.{arith}
+use Rattle.std.proofs.lemmas.Grind.{common_steps}
 use Rattle.std.proofs.Common.{◌≤◌, ◌⊎◌, ◌++◌, length, take, drop, ◌-◌, inl, inr, ap, ◌∙◌}
 use Rattle.mm_asm.proofs.BuiltUses.{merged_rest}
 use Rattle.mm_asm.proofs.text_order.merge.Goals as goal
@@ -11,3 +13,6 @@ returns-clause-uses c =
     let end : (length xs ≤ l.i) ⊎ (length ys ≤ l.j) =
     elim c.loop-i-test.branch [ then-loop-i-test+else-j-ys w ↦ inr w.if-j-ys.false | else-loop-i-test w ↦ inl w.loop-i-test.false ] in
     c.in_ok-push_all-2.ensures.uses ∙ ap (λ us. us ++ take (length ys - l.j) (drop l.j ys)) c.in_ok-push_all.ensures.uses ∙ merged_rest l.merged.items xs ys l.i l.j end ∙ l.invariant.uses
+
+pub loop-i-preserved : goal.loop-i-preserved
+loop-i-preserved c = grind (arith, common_steps)

@@ -1,3 +1,5 @@
+use Rattle.std.proofs.Common.{arith}
+use Rattle.std.proofs.lemmas.Grind.{common_steps}
 use Rattle.std.proofs.Common.{List, subst}
 use Rattle.std.specs.List.{flat_map}
 use Rattle.std.proofs.lemmas.Result.{err_from_is_err_and}
@@ -15,3 +17,6 @@ returns-in_err-check_thread c =
     rw (p.1, p.2) (subst (λ (ts : List Thread). Fails (outside c.args.sites.now c.args.object.now (flat_map thread_targets ts)) e) c.threads-thread-items.ensures.threads
     (failing_at c.args.sites.now c.args.object.now thread_targets c.threads-thread-items.result.now l.thread-index l.invariant _ e c.loop-thread-test.true
     c.in_err-check_thread.ensures))
+
+pub loop-thread-preserved : goal.loop-thread-preserved
+loop-thread-preserved c = grind (arith, common_steps)

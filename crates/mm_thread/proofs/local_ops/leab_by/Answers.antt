@@ -1,0 +1,17 @@
+use Rattle.std.proofs.Common.{rules, ap, ◌∙◌}
+use Rattle.std.specs.Prelude.{FitsSigned}
+use Rattle.std.specs.Int.{cast_signed, w64}
+use Rattle.std.proofs.lemmas.Int.{to_z-of_z}
+use Rattle.mm_word.specs.Word.{word_bits}
+use Rattle.mm_word.specs.Pointer.{leab_result}
+use Rattle.mm_model.specs.Slot.{register}
+use Rattle.mm_model.specs.Effect.{effect}
+use Rattle.mm_thread.proofs.Pointers.{through_pointer}
+use Rattle.mm_thread.proofs.local_ops.leab_by.Goals as goal
+
+pub returns-in-Ok : goal.returns-in-Ok
+unfolding effect
+returns-in-Ok c = λ split.
+    let fits : FitsSigned w64 c.signed_word_of-by.result = search rules in
+    let is = c.leab.ensures.value ∙ ap (leab_result c.in-Ok.p) (to_z-of_z w64 c.signed_word_of-by.result fits ∙ c.signed_word_of-by.ensures) in
+    through_pointer _ _ _ _ c.in-Ok.p _ (λ q. leab_result q (cast_signed w64 (word_bits (register c.args.slot.now c.args.rb)))) _ c.in-Ok.ensures is c.sets_pointer.ensures
