@@ -131,7 +131,7 @@ pub fn marked(alloc: Global, img: &Image, entries: &Entries) -> Result<Marks, Al
 {
     let graph = built(alloc, img, entries)?;
     let Graph {
-        found: _found,
+        found,
         keys,
         nodes,
         targets,
@@ -139,6 +139,8 @@ pub fn marked(alloc: Global, img: &Image, entries: &Entries) -> Result<Marks, Al
         links,
         start,
     } = graph;
+    // Nothing of them is needed any more, and there may be millions.
+    drop(found);
     let mut marks = start;
     saturate(alloc, &mut marks, &nodes, &targets, &parents, links)?;
     Ok(Marks { keys, nodes, marks })
