@@ -1,3 +1,5 @@
+use Rattle.std.proofs.Common.{arith}
+use Rattle.std.proofs.lemmas.Grind.{common_steps}
 use Rattle.std.proofs.Common.{◌++◌, ap, ◌∙◌}
 use Rattle.mm_audit.proofs.Collecting.{next_segment, next_behind}
 use Rattle.mm_audit.proofs.Outermost.{outermost_set}
@@ -12,3 +14,6 @@ pub push-requires-clause-behind : goal.push-requires-clause-behind
 push-requires-clause-behind c =
     next_behind (c.in-Some.base, c.in-Some.log) c.next.new.self c.loop-base.set _ (outermost_set c.args.how c.args.groups c.args.spans.now 0 c.requires)
     (c.loop-base.invariant ∙ ap (λ v. c.loop-base.set ++ v) c.in-Some.ensures)
+
+pub loop-base-preserved : goal.loop-base-preserved
+loop-base-preserved c = grind (arith, common_steps)

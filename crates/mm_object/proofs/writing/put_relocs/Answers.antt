@@ -1,0 +1,6 @@
+use Rattle.std.proofs.Common.{arith}
+use Rattle.std.proofs.lemmas.Grind.{common_steps}
+use Rattle.mm_object.proofs.writing.put_relocs.Goals as goal
+
+pub loop-reloc-preserved : goal.loop-reloc-preserved
+loop-reloc-preserved c = grind (arith, common_steps)
