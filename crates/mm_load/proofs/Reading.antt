@@ -1,5 +1,5 @@
 -- Files that are read one after the other.
-use Rattle.std.proofs.Common.{◌≡◌, ℕ, ◌+◌, ◌≤◌, inl, inr, List, [], ◌∷◌, ◌++◌, length, Option, Result, Ok, Err, refl, sym, ap, ◌∙◌, subst, arith, append_assoc, append-nil}
+use Rattle.std.proofs.Common.{◌≡◌, ℕ, ◌+◌, ◌≤◌, inl, inr, List, [], ◌∷◌, ◌++◌, length, Option, Result, Ok, Err, IfOk, IfErr, refl, sym, ap, ◌∙◌, subst, arith, append_assoc, append-nil}
 use Rattle.mm_io.specs.Files.{Rose, NoneFell, Holds, PieceRead, AreOf, FrontToEnd}
 use Rattle.mm_load.specs.declared.status.Refusal.{Refusal}
 use Rattle.mm_load.specs.declared.status.Stop.{Stop}
@@ -231,3 +231,20 @@ refused_file reads bytes holds short fault of asked = record {
   asked = asks_one reads of asked;
   whole = tt;
 }
+
+-- one file was read, and its bytes were parsed
+pub parsed_file : {T : Type 0} {a : Reading} {before : List Value} {name : List ℕ} {kind : Kind} {value : T → Value} {number : ℕ} {bytes text : List ℕ} {result : Result T Stop}
+    (mine whole : List PieceRead)
+    → number ≡ length before + 1 → text ≡ bytes → Holds (a.held name) bytes → length bytes ≤ limit_of kind
+    → IfOk result (λ (t : T). Accepts kind before text (value t)) → IfErr result (Stops (Faults kind before number text) ⊥)
+    → AreOf name mine → a.asks mine → FrontToEnd name (length bytes) whole → a.asks whole
+    → FilesRead a before ((name, kind) ∷ []) (λ (x : T). value x ∷ []) result
+parsed_file {value = value} {result = Ok t} mine whole counted same holds short means faults of asked through also =
+    accepted_file value t mine whole same holds short means of asked through also
+parsed_file {before = before} {kind = kind} {number = number} {bytes = bytes} {result = Err (stop.Refused r)} mine whole counted same holds short means faults of asked through also =
+    refused_file mine bytes holds short
+    (subst (λ (n : ℕ). Faults kind before n bytes r) counted (subst (λ (b : List ℕ). Faults kind before number b r) same faults)) of asked
+parsed_file {result = Err stop.ReadFault} mine whole counted same holds short means faults of asked through also = absurd faults
+parsed_file {result = Err stop.WriteFault} mine whole counted same holds short means faults of asked through also = absurd faults
+parsed_file {result = Err stop.NoMemory} mine whole counted same holds short means faults of asked through also =
+    record { accepted = tt; stopped = tt; asked = asks_one mine of asked; whole = tt }

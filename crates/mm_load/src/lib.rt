@@ -2,14 +2,13 @@
 #![tactic(auto)]
 
 mod each;
+mod from_file;
 mod lines;
 mod load;
 mod status;
 
 pub use each::{load_images, load_objects};
+pub use from_file::FromFile;
 pub use lines::write_line;
-pub use load::{
-    Checkpoint, load_checkpoint, load_events, load_image, load_input, load_links, load_object,
-    load_order, load_schedule, load_source,
-};
+pub use load::{Checkpoint, load_checkpoint, load_file, load_input, load_order, load_source};
 pub use status::{Refusal, Status, Stop, ended};

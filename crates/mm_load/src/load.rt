@@ -4,47 +4,30 @@ ghost use Rattle.std.specs.Option.{option_map};
 ghost use Rattle.std.specs.Io.KnownBytes.{IsAtEnd};
 ghost use Rattle.mm_io.specs.Files.{Rose, NoneFell, Holds, AsksOnly, AsksWhole};
 ghost use Rattle.mm_checkpoint.specs.Checkpoints.{saved_of, IsCheckpoint};
-ghost use Rattle.mm_cli.specs.declared.table.Kind.TheVariants.{Image as image_file, Schedule as schedule_file};
-ghost use Rattle.mm_cli.specs.declared.table.Kind.TheVariants.{Source as source_file, Object as object_file};
-ghost use Rattle.mm_cli.specs.declared.table.Kind.TheVariants.{Checkpoint as checkpoint_file, Links as links_file};
-ghost use Rattle.mm_cli.specs.declared.table.Kind.TheVariants.{Events as events_file, Text as text_input};
-ghost use Rattle.mm_load.specs.Kinds.{Value, an_image, a_list, an_object, a_checkpoint, a_links, an_events, a_text};
+ghost use Rattle.mm_cli.specs.declared.table.Kind.TheVariants.{Schedule as schedule_file, Source as source_file};
+ghost use Rattle.mm_cli.specs.declared.table.Kind.TheVariants.{Checkpoint as checkpoint_file, Text as text_input};
+ghost use Rattle.mm_load.specs.Kinds.{Value, an_image, an_object, a_checkpoint, a_text};
 ghost use Rattle.mm_load.specs.Files.{Stops, IsTooLong, FilesRead, InputRead, reading, drawing};
 ghost use Rattle.mm_cli.specs.Words.{file_word, files_in, perhaps};
 ghost use Rattle.mm_load.specs.Kinds.{values_of};
 ghost use Rattle.mm_load.specs.Stops.{stop_of_error};
 
+use crate::from_file::FromFile;
 use crate::status::{Refusal, Stop};
 use mm_asm::{AsmError, assemble};
 use mm_checkpoint::SaveError;
-use mm_image::{Image, ImageError};
+use mm_image::Image;
 use mm_io::{Files, ReadError, Source, read_all, read_input};
 use mm_machine::Snapshot;
-use mm_net::{Events, Links, NetError, read_events, read_links};
-use mm_object::{Object, ObjectError};
-use mm_sched::{Order, SchedError, Schedule};
+use mm_object::Object;
+use mm_sched::Order;
 use std::alloc::Global;
-
-/// The most bytes of an image file.
-const IMAGE_LIMIT: u64 = 33_554_432;
-
-/// The most bytes of a schedule file.
-const SCHEDULE_LIMIT: u64 = 8_388_608;
 
 /// The most bytes of a source file.
 const SOURCE_LIMIT: u64 = 8_388_608;
 
-/// The most bytes of an object file.
-const OBJECT_LIMIT: u64 = 2_097_152;
-
 /// The most bytes of a checkpoint file.
 const CHECKPOINT_LIMIT: u64 = 33_554_432;
-
-/// The most bytes of a file of links.
-const LINKS_LIMIT: u64 = 65_536;
-
-/// The most bytes of a file of events.
-const EVENTS_LIMIT: u64 = 8_388_608;
 
 /// The most bytes of standard input.
 const INPUT_LIMIT: u64 = 1_048_576;
@@ -84,53 +67,21 @@ fn stop_of(error: ReadError, file: u8) -> Stop
     }
 }
 
-/// Reads and parses an image file, the command's file `number`.
-pub fn load_image<F: Files>(
+/// Reads and parses a file, the command's file `number`.
+pub fn load_file<T: FromFile, F: Files>(
     alloc: Global,
     files: &mut F,
     name: &str,
     number: u8,
-) -> Result<Image, Stop>
+) -> Result<T, Stop>
     ensures read { (before : List Value) → number ≡ length before + 1
-        → FilesRead (reading F.held F.faults F.asked files.old files.new) before ((name.now, image_file) ∷ [])
-        (λ i. an_image i ∷ []) result }
+        → FilesRead (reading F.held F.faults F.asked files.old files.new) before ((name.now, T.of_kind) ∷ [])
+        (λ x. T.meaning x ∷ []) result }
     ensures kept { F.held files.new ≡ F.held files.old }
     ensures later { NoneFell (F.faults files.old) (F.faults files.new) }
 {
-    let bytes = read_file(alloc, files, name, IMAGE_LIMIT, number)?;
-    match mm_image::read(alloc, &bytes) {
-        Ok(image) => Ok(image),
-        Err(ImageError::Fault { fault, offset }) => Err(Stop::Refused(Refusal::Image {
-            file: number,
-            fault,
-            offset,
-        })),
-        Err(ImageError::NoMemory) => Err(Stop::NoMemory),
-    }
-}
-
-/// Reads and parses a schedule file, the command's file `number`.
-pub fn load_schedule<F: Files>(
-    alloc: Global,
-    files: &mut F,
-    name: &str,
-    number: u8,
-) -> Result<Schedule, Stop>
-    ensures read { (before : List Value) → number ≡ length before + 1
-        → FilesRead (reading F.held F.faults F.asked files.old files.new) before ((name.now, schedule_file) ∷ [])
-        (λ list. a_list list ∷ []) result }
-    ensures kept { F.held files.new ≡ F.held files.old }
-    ensures later { NoneFell (F.faults files.old) (F.faults files.new) }
-{
-    let bytes = read_file(alloc, files, name, SCHEDULE_LIMIT, number)?;
-    match mm_sched::parse(alloc, &bytes) {
-        Ok(list) => Ok(list),
-        Err(SchedError::Fault { offset }) => Err(Stop::Refused(Refusal::Schedule {
-            file: number,
-            offset,
-        })),
-        Err(SchedError::NoMemory) => Err(Stop::NoMemory),
-    }
+    let bytes = read_file(alloc, files, name, T::limit(), number)?;
+    T::parse(alloc, &bytes, number)
 }
 
 /// Reads and assembles a source file, the command's file `number`.
@@ -159,31 +110,6 @@ pub fn load_source<F: Files>(
             column,
         })),
         Err(AsmError::NoMemory) => Err(Stop::NoMemory),
-    }
-}
-
-/// Reads and parses an object file, the command's file `number`.
-pub fn load_object<F: Files>(
-    alloc: Global,
-    files: &mut F,
-    name: &str,
-    number: u8,
-) -> Result<Object, Stop>
-    ensures read { (before : List Value) → number ≡ length before + 1
-        → FilesRead (reading F.held F.faults F.asked files.old files.new) before ((name.now, object_file) ∷ [])
-        (λ o. an_object o ∷ []) result }
-    ensures kept { F.held files.new ≡ F.held files.old }
-    ensures later { NoneFell (F.faults files.old) (F.faults files.new) }
-{
-    let bytes = read_file(alloc, files, name, OBJECT_LIMIT, number)?;
-    match mm_object::read(alloc, &bytes) {
-        Ok(object) => Ok(object),
-        Err(ObjectError::Fault { fault, offset }) => Err(Stop::Refused(Refusal::Object {
-            file: number,
-            fault,
-            offset,
-        })),
-        Err(ObjectError::NoMemory) => Err(Stop::NoMemory),
     }
 }
 
@@ -218,54 +144,6 @@ pub fn load_checkpoint<F: Files>(
     }
 }
 
-/// Reads and parses a file of links, the command's file `number`.
-pub fn load_links<F: Files>(
-    alloc: Global,
-    files: &mut F,
-    name: &str,
-    number: u8,
-) -> Result<Links, Stop>
-    ensures read { (before : List Value) → number ≡ length before + 1
-        → FilesRead (reading F.held F.faults F.asked files.old files.new) before ((name.now, links_file) ∷ [])
-        (λ links. a_links links ∷ []) result }
-    ensures kept { F.held files.new ≡ F.held files.old }
-    ensures later { NoneFell (F.faults files.old) (F.faults files.new) }
-{
-    let bytes = read_file(alloc, files, name, LINKS_LIMIT, number)?;
-    match read_links(alloc, &bytes) {
-        Ok(links) => Ok(links),
-        Err(NetError::Fault { offset }) => Err(Stop::Refused(Refusal::Links {
-            file: number,
-            offset,
-        })),
-        Err(NetError::NoMemory) => Err(Stop::NoMemory),
-    }
-}
-
-/// Reads and parses a file of events, the command's file `number`. Its faults are refused as those of a schedule.
-pub fn load_events<F: Files>(
-    alloc: Global,
-    files: &mut F,
-    name: &str,
-    number: u8,
-) -> Result<Events, Stop>
-    ensures read { (before : List Value) → number ≡ length before + 1
-        → FilesRead (reading F.held F.faults F.asked files.old files.new) before ((name.now, events_file) ∷ [])
-        (λ events. an_events events ∷ []) result }
-    ensures kept { F.held files.new ≡ F.held files.old }
-    ensures later { NoneFell (F.faults files.old) (F.faults files.new) }
-{
-    let bytes = read_file(alloc, files, name, EVENTS_LIMIT, number)?;
-    match read_events(alloc, &bytes) {
-        Ok(events) => Ok(events),
-        Err(NetError::Fault { offset }) => Err(Stop::Refused(Refusal::Schedule {
-            file: number,
-            offset,
-        })),
-        Err(NetError::NoMemory) => Err(Stop::NoMemory),
-    }
-}
-
 /// Reads the order of a schedule file, the command's file `number`. Round robin if there is no file.
 pub fn load_order<F: Files>(
     alloc: Global,
@@ -279,7 +157,7 @@ pub fn load_order<F: Files>(
 {
     match name {
         None => Ok(Order::Robin),
-        Some(name) => match load_schedule(alloc, files, name, number) {
+        Some(name) => match load_file(alloc, files, name, number) {
             Ok(list) => Ok(Order::List(list)),
             Err(stop) => Err(stop),
         },

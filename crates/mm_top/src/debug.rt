@@ -13,7 +13,7 @@ use mm_cli::{Command, Word, name_at, name_perhaps_at};
 use mm_debug::Session;
 use mm_image::Image;
 use mm_io::{Files, Sink, Source};
-use mm_load::{Stop, ended, load_image, load_input, load_order};
+use mm_load::{Stop, ended, load_file, load_input, load_order};
 use mm_machine::Machine;
 use mm_mem::{Boot, Reset};
 use mm_save::Recorder;
@@ -39,7 +39,7 @@ pub fn debug<M: Boot + Reset, F: Files, I: Source, O: Sink>(
     ensures drawn { DrawnBehind (F.held files.old) (files_of (row Command.Debug words.now)) (input.new ≡ input.old) }
     ensures read { OnOk result (IsAtEnd (I.left input.new)) }
 {
-    let image = load_image(alloc, files, name_at(words, 0), 1)?;
+    let image = load_file::<Image, F>(alloc, files, name_at(words, 0), 1)?;
     let order = load_order(alloc, files, name_perhaps_at(words, 1), 2)?;
     let lines = load_input(alloc, input)?;
     write_replies::<M, O>(alloc, &image, order, &lines, out)

@@ -8,7 +8,8 @@ ghost use Rattle.mm_top.specs.Answers.{CommandEnds, writing};
 use mm_cli::{Command, Word, name_at};
 use mm_disasm::disassemble;
 use mm_io::{Files, Sink};
-use mm_load::{Stop, ended, load_object};
+use mm_load::{Stop, ended, load_file};
+use mm_object::Object;
 use std::alloc::Global;
 
 /// `dis OBJECT`
@@ -21,6 +22,6 @@ pub fn dis<F: Files, O: Sink>(
     ensures { CommandEnds (reading F.held F.faults F.asked files.old files.new)
         (writing O.taken O.faults out.old out.new) YieldsAlone (row Command.Dis words.now) result }
 {
-    let object = load_object(alloc, files, name_at(words, 0), 1)?;
+    let object = load_file::<Object, F>(alloc, files, name_at(words, 0), 1)?;
     ended(disassemble(&object, out))
 }

@@ -11,7 +11,7 @@ use mm_cli::{Command, Word, name_at, number_at};
 use mm_explore::write_explored;
 use mm_image::Image;
 use mm_io::{Files, Sink};
-use mm_load::{Stop, ended, load_image};
+use mm_load::{Stop, ended, load_file};
 use std::alloc::Global;
 
 /// `explore IMAGE STATES`
@@ -25,7 +25,7 @@ pub fn explore<F: Files, O: Sink>(
     ensures { CommandEnds (reading F.held F.faults F.asked files.old files.new)
         (writing O.taken O.faults out.old out.new) YieldsAlone (row Command.Explore words.now) result }
 {
-    let image = load_image(alloc, files, name_at(words, 0), 1)?;
+    let image = load_file::<Image, F>(alloc, files, name_at(words, 0), 1)?;
     write_exploration(alloc, &image, number_at(words, 1) as u32, out)
 }
 

@@ -13,7 +13,7 @@ use crate::stops::stop_of_extract;
 use mm_cli::{Command, Word, groups_at, name_at};
 use mm_image::Image;
 use mm_io::{Files, Sink};
-use mm_load::{Stop, load_image};
+use mm_load::{Stop, load_file};
 use std::alloc::Global;
 
 /// `extract IMAGE GROUPS`
@@ -26,7 +26,7 @@ pub fn extract<F: Files, O: Sink>(
     ensures { CommandEnds (reading F.held F.faults F.asked files.old files.new)
         (writing O.taken O.faults out.old out.new) YieldsAlone (row Command.Extract words.now) result }
 {
-    let image = load_image(alloc, files, name_at(words, 0), 1)?;
+    let image = load_file::<Image, F>(alloc, files, name_at(words, 0), 1)?;
     write_extract(alloc, &image, groups_at(words, 1), out)
 }
 

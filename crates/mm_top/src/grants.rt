@@ -16,7 +16,7 @@ use mm_audit_text::{write_audit, write_audit_of};
 use mm_cli::{Command, Word, groups_perhaps_at, name_at};
 use mm_image::Image;
 use mm_io::{Files, Sink, WriteFault};
-use mm_load::{Stop, load_image};
+use mm_load::{Stop, load_file};
 use std::alloc::Global;
 
 /// `grants IMAGE [GROUPS]`
@@ -29,7 +29,7 @@ pub fn grants<F: Files, O: Sink>(
     ensures { CommandEnds (reading F.held F.faults F.asked files.old files.new)
         (writing O.taken O.faults out.old out.new) YieldsAlone (row Command.Grants words.now) result }
 {
-    let image = load_image(alloc, files, name_at(words, 0), 1)?;
+    let image = load_file::<Image, F>(alloc, files, name_at(words, 0), 1)?;
     write_grants(alloc, &image, groups_perhaps_at(words, 1), out)
 }
 

@@ -11,7 +11,7 @@ ghost use Rattle.mm_top.specs.Answers.{CommandEnds, EndsWith, writing};
 use mm_cli::{Command, Word, name_at, range_at};
 use mm_image::Image;
 use mm_io::{Files, Sink};
-use mm_load::{Stop, ended, load_image};
+use mm_load::{Stop, ended, load_file};
 use std::alloc::Global;
 
 /// `holders IMAGE BASE LOG`
@@ -25,7 +25,7 @@ pub fn holders<F: Files, O: Sink>(
     ensures { CommandEnds (reading F.held F.faults F.asked files.old files.new)
         (writing O.taken O.faults out.old out.new) YieldsAlone (row Command.Holders words.now) result }
 {
-    let image = load_image(alloc, files, name_at(words, 0), 1)?;
+    let image = load_file::<Image, F>(alloc, files, name_at(words, 0), 1)?;
     let (base, log) = range_at(words, 1);
     write_holders(&image, base, log, out)
 }

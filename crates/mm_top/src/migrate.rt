@@ -12,7 +12,7 @@ use crate::images::write_image;
 use mm_cli::{Command, Word, mode_at, name_at};
 use mm_image::Image;
 use mm_io::{Files, Sink};
-use mm_load::{Stop, load_image};
+use mm_load::{Stop, load_file};
 use mm_model::{Page, Slot};
 use mm_word::NoMemory;
 use std::alloc::Global;
@@ -27,7 +27,7 @@ pub fn migrate<F: Files, O: Sink>(
     ensures { CommandEnds (reading F.held F.faults F.asked files.old files.new)
         (writing O.taken O.faults out.old out.new) YieldsAlone (row Command.Migrate words.now) result }
 {
-    let image = load_image(alloc, files, name_at(words, 0), 1)?;
+    let image = load_file::<Image, F>(alloc, files, name_at(words, 0), 1)?;
     write_migrated(alloc, &image, mode_at(words, 1), out)
 }
 

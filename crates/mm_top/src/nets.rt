@@ -16,7 +16,7 @@ use crate::boot::boot;
 use mm_cli::{Command, Word, name_at, names_at, number_at};
 use mm_image::Image;
 use mm_io::{Files, Sink};
-use mm_load::{Refusal, Stop, ended, load_events, load_images, load_links};
+use mm_load::{Refusal, Stop, ended, load_file, load_images};
 use mm_machine::Machine;
 use mm_mem::{Boot, Memory};
 use mm_net::{Events, Link, Links, Net, NetItem, report};
@@ -34,8 +34,8 @@ pub fn run_net<M: Boot, F: Files, O: Sink>(
     ensures { CommandEnds (reading F.held F.faults F.asked files.old files.new)
         (writing O.taken O.faults out.old out.new) (Yields M.tells) (row Command.Net words.now) result }
 {
-    let links = load_links(alloc, files, name_at(words, 0), 1)?;
-    let events = load_events(alloc, files, name_at(words, 1), 2)?;
+    let links = load_file::<Links, F>(alloc, files, name_at(words, 0), 1)?;
+    let events = load_file::<Events, F>(alloc, files, name_at(words, 1), 2)?;
     let images = load_images(alloc, files, names_at(words, 3), 3)?;
     write_net::<M, O>(alloc, links, &events, &images, number_at(words, 2), out)
 }

@@ -11,7 +11,7 @@ ghost use Rattle.mm_top.specs.Plans.{items_planned};
 use mm_cli::{Command, Word, name_at, name_perhaps_at, number_at};
 use mm_image::Image;
 use mm_io::Files;
-use mm_load::{Stop, load_image, load_order};
+use mm_load::{Stop, load_file, load_order};
 use mm_sched::Order;
 use std::alloc::Global;
 
@@ -32,7 +32,7 @@ pub fn load_plan<F: Files>(alloc: Global, words: &[Word<'_>], files: &mut F) -> 
     ensures issues { IfOk result (λ p. AreIssued p.image (number_of (slice_get words.now 1)) (values_of p.order)
         (items_planned p)) }
 {
-    let image = load_image(alloc, files, name_at(words, 0), 1)?;
+    let image = load_file::<Image, F>(alloc, files, name_at(words, 0), 1)?;
     let order = load_order(alloc, files, name_perhaps_at(words, 2), 2)?;
     let cycles = number_at(words, 1);
     Ok(Plan {

@@ -14,7 +14,7 @@ use crate::cycles::issue;
 use mm_cli::{Command, Word, name_at, name_perhaps_at, number_at};
 use mm_image::Image;
 use mm_io::{Files, Sink};
-use mm_load::{Checkpoint, Stop, ended, load_checkpoint, load_image, load_order};
+use mm_load::{Checkpoint, Stop, ended, load_checkpoint, load_file, load_order};
 use mm_machine::Machine;
 use mm_mem::{Boot, Reset};
 use mm_report::report;
@@ -32,7 +32,7 @@ pub fn resume<M: Boot + Reset, F: Files, O: Sink>(
     ensures { CommandEnds (reading F.held F.faults F.asked files.old files.new)
         (writing O.taken O.faults out.old out.new) (Yields M.tells) (row Command.Continue words.now) result }
 {
-    let image = load_image(alloc, files, name_at(words, 0), 1)?;
+    let image = load_file::<Image, F>(alloc, files, name_at(words, 0), 1)?;
     let checkpoint = load_checkpoint(alloc, files, name_at(words, 1), &image)?;
     let order = load_order(alloc, files, name_perhaps_at(words, 3), 3)?;
     write_resumed::<M, O>(alloc, &image, &checkpoint, &order, number_at(words, 2), out)

@@ -16,7 +16,7 @@ use mm_audit::alone;
 use mm_cli::{Command, Word, groups_at, name_at, number_at};
 use mm_image::Image;
 use mm_io::{Files, Sink};
-use mm_load::{Stop, ended, load_image, load_schedule};
+use mm_load::{Stop, ended, load_file};
 use mm_machine::Machine;
 use mm_mem::Boot;
 use mm_report::report;
@@ -33,8 +33,8 @@ pub fn solo<M: Boot, F: Files, O: Sink>(
     ensures { CommandEnds (reading F.held F.faults F.asked files.old files.new)
         (writing O.taken O.faults out.old out.new) (Yields M.tells) (row Command.Solo words.now) result }
 {
-    let image = load_image(alloc, files, name_at(words, 0), 1)?;
-    let list = load_schedule(alloc, files, name_at(words, 3), 2)?;
+    let image = load_file::<Image, F>(alloc, files, name_at(words, 0), 1)?;
+    let list = load_file::<Schedule, F>(alloc, files, name_at(words, 3), 2)?;
     write_solo::<M, O>(
         alloc,
         image,

@@ -15,7 +15,7 @@ use crate::stops::stop_of_sweep;
 use mm_cli::{Command, Word, name_at, range_at};
 use mm_image::Image;
 use mm_io::{Files, Sink};
-use mm_load::{Stop, load_image};
+use mm_load::{Stop, load_file};
 use std::alloc::Global;
 
 /// `sweep IMAGE BASE LOG`
@@ -29,7 +29,7 @@ pub fn sweep<F: Files, O: Sink>(
     ensures { CommandEnds (reading F.held F.faults F.asked files.old files.new)
         (writing O.taken O.faults out.old out.new) YieldsAlone (row Command.Sweep words.now) result }
 {
-    let image = load_image(alloc, files, name_at(words, 0), 1)?;
+    let image = load_file::<Image, F>(alloc, files, name_at(words, 0), 1)?;
     let (base, log) = range_at(words, 1);
     write_swept(alloc, &image, base, log, out)
 }

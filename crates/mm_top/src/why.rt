@@ -12,7 +12,7 @@ ghost use Rattle.mm_top.specs.Answers.{CommandEnds, EndsWith, writing};
 use mm_cli::{Command, Word, name_at, number_at, use_at};
 use mm_image::Image;
 use mm_io::{Files, Sink};
-use mm_load::{Stop, ended, load_image};
+use mm_load::{Stop, ended, load_file};
 use mm_model::WordUse;
 use mm_why::write_why;
 use std::alloc::Global;
@@ -28,7 +28,7 @@ pub fn why<F: Files, O: Sink>(
     ensures { CommandEnds (reading F.held F.faults F.asked files.old files.new)
         (writing O.taken O.faults out.old out.new) YieldsAlone (row Command.Why words.now) result }
 {
-    let image = load_image(alloc, files, name_at(words, 0), 1)?;
+    let image = load_file::<Image, F>(alloc, files, name_at(words, 0), 1)?;
     let group = number_at(words, 1) as u8;
     let word = number_at(words, 2);
     write_reason(alloc, &image, group, word, use_at(words, 3), out)

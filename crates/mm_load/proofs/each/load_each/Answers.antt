@@ -10,8 +10,8 @@ loop-at-preserved g c =
     let loaded = c.loop-at.loaded.items in
     record {
       count = omega (arith, c.in-Ok.ensures.len, c.loop-at.invariant.count);
-      kept = c.from_file.ensures.kept ∙ c.loop-at.invariant.kept;
-      later = λ n. omega (arith, c.loop-at.invariant.later n, c.from_file.ensures.later n);
+      kept = c.load_file.ensures.kept ∙ c.loop-at.invariant.kept;
+      later = λ n. omega (arith, c.loop-at.invariant.later n, c.load_file.ensures.later n);
       read = λ before counted.
           let number : c.args.first + c.loop-at.at ≡ length (before ++ map g.T.FromFile.meaning loaded) + 1 = omega (
             arith,
@@ -20,7 +20,7 @@ loop-at-preserved g c =
             c.loop-at.invariant.count,
           ) in
           let P : List ℕ → Type 0 = λ text. FilesRead (reading g.F.Files.held g.F.Files.faults g.F.Files.asked
-          c.loop-at.files c.from_file.new.files) (before ++ map g.T.FromFile.meaning loaded)
+          c.loop-at.files c.load_file.new.files) (before ++ map g.T.FromFile.meaning loaded)
           ((text, g.T.FromFile.of_kind) ∷ []) (λ x. g.T.FromFile.meaning x ∷ []) (Ok c.in_ok-one.one) in
           value_more g.T.FromFile.of_kind g.T.FromFile.meaning c.args.names.now c.loop-at.at c.index-names-at.result
           loaded _ c.in_ok-one.one c.loop-at-test.true c.index-names-at.is c.in-Ok.ensures.items
@@ -39,7 +39,7 @@ returns-in_default-clause-read g c before counted =
       c.loop-at.invariant.count,
     ) in
     let P : List ℕ → Type 0 = λ text. FilesRead (reading g.F.Files.held g.F.Files.faults g.F.Files.asked c.loop-at.files
-    c.from_file.new.files) (before ++ map g.T.FromFile.meaning loaded) ((text, g.T.FromFile.of_kind) ∷ [])
+    c.load_file.new.files) (before ++ map g.T.FromFile.meaning loaded) ((text, g.T.FromFile.of_kind) ∷ [])
     (λ x. g.T.FromFile.meaning x ∷ []) (Ok c.in_ok-one.one) in
     record {
       accepted = tt;
@@ -62,7 +62,7 @@ returns-in_err-one-clause-read g c before counted =
       c.loop-at.invariant.count,
     ) in
     let P : List ℕ → Type 0 = λ text. FilesRead (reading g.F.Files.held g.F.Files.faults g.F.Files.asked c.loop-at.files
-    c.from_file.new.files) (before ++ map g.T.FromFile.meaning loaded) ((text, g.T.FromFile.of_kind) ∷ [])
+    c.load_file.new.files) (before ++ map g.T.FromFile.meaning loaded) ((text, g.T.FromFile.of_kind) ∷ [])
     (λ x. g.T.FromFile.meaning x ∷ []) (Err c.in_err-one.field-0.0) in
     value_stops g.T.FromFile.of_kind g.T.FromFile.meaning c.args.names.now c.loop-at.at c.index-names-at.result loaded _
     _ c.from_residual.result c.loop-at-test.true c.index-names-at.is (c.loop-at.invariant.read before counted)

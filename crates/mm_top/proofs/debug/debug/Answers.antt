@@ -31,7 +31,7 @@ returns-in_err-order-clause-ends g c =
     (files_then {asks = Adds g.F.Files.asked c.args.files.now c.load_order.new.files}
     (named c.name_at.ensures (c.in_ok-image.ensures.read [] refl)) (schedule_named c.name_perhaps_at.ensures
     (c.in_err-order.ensures (an_image c.in_ok-image.image ∷ []) refl))
-    (record { kept = c.load_image.ensures.kept; counts = refl; later = c.load_image.ensures.later; asked = λ names more one two. adds_both one two }))
+    (record { kept = c.load_file.ensures.kept; counts = refl; later = c.load_file.ensures.later; asked = λ names more one two. adds_both one two }))
     (sym (append-nil _))) refl c.from_residual-in_err-order.ensures.1
 
 pub returns-in_err-order-clause-asked : goal.returns-in_err-order-clause-asked
@@ -39,7 +39,7 @@ returns-in_err-order-clause-asked g c =
     (files_then {asks = Adds g.F.Files.asked c.args.files.now c.load_order.new.files}
     (named c.name_at.ensures (c.in_ok-image.ensures.read [] refl)) (schedule_named c.name_perhaps_at.ensures
     (c.in_err-order.ensures (an_image c.in_ok-image.image ∷ []) refl))
-    (record { kept = c.load_image.ensures.kept; counts = refl; later = c.load_image.ensures.later; asked = λ names more one two. adds_both one two })).asked
+    (record { kept = c.load_file.ensures.kept; counts = refl; later = c.load_file.ensures.later; asked = λ names more one two. adds_both one two })).asked
 
 -- the lines are not
 pub returns-in_err-lines-clause-ends : goal.returns-in_err-lines-clause-ends
@@ -49,7 +49,7 @@ returns-in_err-lines-clause-ends g c =
     (files_then {asks = Adds g.F.Files.asked c.args.files.now c.load_order.new.files}
     (named c.name_at.ensures (c.in_ok-image.ensures.read [] refl)) (schedule_named c.name_perhaps_at.ensures
     (c.in_ok-order.ensures (an_image c.in_ok-image.image ∷ []) refl))
-    (record { kept = c.load_image.ensures.kept; counts = refl; later = c.load_image.ensures.later; asked = λ names more one two. adds_both one two }))
+    (record { kept = c.load_file.ensures.kept; counts = refl; later = c.load_file.ensures.later; asked = λ names more one two. adds_both one two }))
     (c.in_err-lines.ensures.read _)) refl c.from_residual-in_err-lines.ensures.1
 
 pub returns-in_err-lines-clause-asked : goal.returns-in_err-lines-clause-asked
@@ -57,7 +57,7 @@ returns-in_err-lines-clause-asked g c =
     (files_then {asks = Adds g.F.Files.asked c.args.files.now c.load_order.new.files}
     (named c.name_at.ensures (c.in_ok-image.ensures.read [] refl)) (schedule_named c.name_perhaps_at.ensures
     (c.in_ok-order.ensures (an_image c.in_ok-image.image ∷ []) refl))
-    (record { kept = c.load_image.ensures.kept; counts = refl; later = c.load_image.ensures.later; asked = λ names more one two. adds_both one two })).asked
+    (record { kept = c.load_file.ensures.kept; counts = refl; later = c.load_file.ensures.later; asked = λ names more one two. adds_both one two })).asked
 
 pub returns-in_err-lines-clause-drawn : goal.returns-in_err-lines-clause-drawn
 returns-in_err-lines-clause-drawn g c =
@@ -66,7 +66,7 @@ returns-in_err-lines-clause-drawn g c =
       (files_then {asks = Adds g.F.Files.asked c.args.files.now c.load_order.new.files}
           (named c.name_at.ensures (c.in_ok-image.ensures.read [] refl)) (schedule_named c.name_perhaps_at.ensures
           (c.in_ok-order.ensures (an_image c.in_ok-image.image ∷ []) refl))
-          (record { kept = c.load_image.ensures.kept; counts = refl; later = c.load_image.ensures.later; asked = λ names more one two. adds_both one two })).accepted,
+          (record { kept = c.load_file.ensures.kept; counts = refl; later = c.load_file.ensures.later; asked = λ names more one two. adds_both one two })).accepted,
     )
 
 -- the replies are written
@@ -78,7 +78,7 @@ returns-clause-ends g c =
     (files_then {asks = Adds g.F.Files.asked c.args.files.now c.load_order.new.files}
     (named c.name_at.ensures (c.in_ok-image.ensures.read [] refl)) (schedule_named c.name_perhaps_at.ensures
     (c.in_ok-order.ensures (an_image i ∷ []) refl))
-    (record { kept = c.load_image.ensures.kept; counts = refl; later = c.load_image.ensures.later; asked = λ names more one two. adds_both one two }))
+    (record { kept = c.load_file.ensures.kept; counts = refl; later = c.load_file.ensures.later; asked = λ names more one two. adds_both one two }))
     (c.in_ok-lines.ensures.read _) refl c.write_replies.ensures
     (λ text is. (order, c.in_ok-lines.lines.items, refl, subst (λ (input : List ℕ). text ≡ replies_to i order input) c.deref.ensures.value is))
 
@@ -87,14 +87,14 @@ returns-clause-asked g c =
     (files_then {asks = Adds g.F.Files.asked c.args.files.now c.load_order.new.files}
     (named c.name_at.ensures (c.in_ok-image.ensures.read [] refl)) (schedule_named c.name_perhaps_at.ensures
     (c.in_ok-order.ensures (an_image c.in_ok-image.image ∷ []) refl))
-    (record { kept = c.load_image.ensures.kept; counts = refl; later = c.load_image.ensures.later; asked = λ names more one two. adds_both one two })).asked
+    (record { kept = c.load_file.ensures.kept; counts = refl; later = c.load_file.ensures.later; asked = λ names more one two. adds_both one two })).asked
 
 pub returns-clause-whole : goal.returns-clause-whole
 returns-clause-whole g c =
     whole_read c.write_replies.result ((files_then {asks = Adds g.F.Files.asked c.args.files.now c.load_order.new.files}
     (named c.name_at.ensures (c.in_ok-image.ensures.read [] refl)) (schedule_named c.name_perhaps_at.ensures
     (c.in_ok-order.ensures (an_image c.in_ok-image.image ∷ []) refl))
-    (record { kept = c.load_image.ensures.kept; counts = refl; later = c.load_image.ensures.later; asked = λ names more one two. adds_both one two })).whole)
+    (record { kept = c.load_file.ensures.kept; counts = refl; later = c.load_file.ensures.later; asked = λ names more one two. adds_both one two })).whole)
 
 pub returns-clause-drawn : goal.returns-clause-drawn
 returns-clause-drawn g c =
@@ -103,7 +103,7 @@ returns-clause-drawn g c =
       (files_then {asks = Adds g.F.Files.asked c.args.files.now c.load_order.new.files}
           (named c.name_at.ensures (c.in_ok-image.ensures.read [] refl)) (schedule_named c.name_perhaps_at.ensures
           (c.in_ok-order.ensures (an_image c.in_ok-image.image ∷ []) refl))
-          (record { kept = c.load_image.ensures.kept; counts = refl; later = c.load_image.ensures.later; asked = λ names more one two. adds_both one two })).accepted,
+          (record { kept = c.load_file.ensures.kept; counts = refl; later = c.load_file.ensures.later; asked = λ names more one two. adds_both one two })).accepted,
     )
 
 pub returns-clause-read : goal.returns-clause-read

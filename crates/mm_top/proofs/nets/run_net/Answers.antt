@@ -21,7 +21,7 @@ pub returns-in_err-events : goal.returns-in_err-events
 returns-in_err-events g c =
     row_stops _ c.from_residual-in_err-events.result
     (files_then (named c.name_at.ensures (c.in_ok-links.ensures.read [] refl)) (named c.name_at-2.ensures (c.in_err-events.ensures.read (a_links c.in_ok-links.links ∷ []) refl))
-    (record { kept = c.load_links.ensures.kept; counts = refl; later = c.load_links.ensures.later; asked = λ names more one two. adds_both one two }))
+    (record { kept = c.load_file.ensures.kept; counts = refl; later = c.load_file.ensures.later; asked = λ names more one two. adds_both one two }))
     refl refl c.from_residual-in_err-events.ensures.1
 
 pub returns-in_err-images : goal.returns-in_err-images
@@ -29,18 +29,18 @@ returns-in_err-images g c =
     let ls = c.in_ok-links.links in
     let es = c.in_ok-events.events in
     let both : FilesRead (reading g.F.Files.held g.F.Files.faults g.F.Files.asked c.args.files.now
-    c.load_events.new.files) [] ((name_of (slice_get c.args.words.now 0), links_file) ∷
+    c.load_file-2.new.files) [] ((name_of (slice_get c.args.words.now 0), links_file) ∷
     (name_of (slice_get c.args.words.now 1), events_file) ∷ [])
     (λ es. a_links ls ∷ an_events es ∷ []) (Ok es) =
     files_then (named c.name_at.ensures (c.in_ok-links.ensures.read [] refl)) (named c.name_at-2.ensures (c.in_ok-events.ensures.read (a_links ls ∷ []) refl))
-    (record { kept = c.load_links.ensures.kept; counts = refl; later = c.load_links.ensures.later; asked = λ names more one two. adds_both one two }) in
+    (record { kept = c.load_file.ensures.kept; counts = refl; later = c.load_file.ensures.later; asked = λ names more one two. adds_both one two }) in
     row_stops [] c.from_residual-in_err-images.result
     (files_then both (several_named image_file c.names_at.ensures (c.in_err-images.ensures.read (a_links ls ∷ an_events es ∷ []) refl))
     (record {
-      kept = c.load_events.ensures.kept ∙ c.load_links.ensures.kept;
+      kept = c.load_file-2.ensures.kept ∙ c.load_file.ensures.kept;
       counts = refl;
       later = λ n. omega
-          (arith, c.load_links.ensures.later n, c.load_events.ensures.later n);
+          (arith, c.load_file.ensures.later n, c.load_file-2.ensures.later n);
       asked = λ names more one two. adds_both
           one two;
     }))
@@ -53,18 +53,18 @@ returns g c =
     let es = c.in_ok-events.events in
     let images = c.in_ok-images.images.items in
     let both : FilesRead (reading g.F.Files.held g.F.Files.faults g.F.Files.asked c.args.files.now
-    c.load_events.new.files) [] ((name_of (slice_get c.args.words.now 0), links_file) ∷
+    c.load_file-2.new.files) [] ((name_of (slice_get c.args.words.now 0), links_file) ∷
     (name_of (slice_get c.args.words.now 1), events_file) ∷ [])
     (λ es. a_links ls ∷ an_events es ∷ []) (Ok es) =
     files_then (named c.name_at.ensures (c.in_ok-links.ensures.read [] refl)) (named c.name_at-2.ensures (c.in_ok-events.ensures.read (a_links ls ∷ []) refl))
-    (record { kept = c.load_links.ensures.kept; counts = refl; later = c.load_links.ensures.later; asked = λ names more one two. adds_both one two }) in
+    (record { kept = c.load_file.ensures.kept; counts = refl; later = c.load_file.ensures.later; asked = λ names more one two. adds_both one two }) in
     row_ends _ _
     (files_then both (several_named image_file c.names_at.ensures (c.in_ok-images.ensures.read (a_links ls ∷ an_events es ∷ []) refl))
     (record {
-      kept = c.load_events.ensures.kept ∙ c.load_links.ensures.kept;
+      kept = c.load_file-2.ensures.kept ∙ c.load_file.ensures.kept;
       counts = refl;
       later = λ n. omega
-          (arith, c.load_links.ensures.later n, c.load_events.ensures.later n);
+          (arith, c.load_file.ensures.later n, c.load_file-2.ensures.later n);
       asked = λ names more one two. adds_both
           one two;
     }))

@@ -18,7 +18,7 @@ pub returns-in_err-checkpoint : goal.returns-in_err-checkpoint
 returns-in_err-checkpoint g c =
     row_stops _ c.from_residual-in_err-checkpoint.result
     (files_then (named c.name_at.ensures (c.in_ok-image.ensures.read [] refl)) (named c.name_at-2.ensures c.in_err-checkpoint.ensures.read)
-    (record { kept = c.load_image.ensures.kept; counts = refl; later = c.load_image.ensures.later; asked = λ names more one two. adds_both one two }))
+    (record { kept = c.load_file.ensures.kept; counts = refl; later = c.load_file.ensures.later; asked = λ names more one two. adds_both one two }))
     refl refl c.from_residual-in_err-checkpoint.ensures.1
 
 pub returns-in_err-order : goal.returns-in_err-order
@@ -30,14 +30,14 @@ returns-in_err-order g c =
     (name_of (slice_get c.args.words.now 1), checkpoint_file) ∷ [])
     (λ k. an_image i ∷ a_checkpoint (saved_of k.snapshot k.last) ∷ []) (Ok k) =
     files_then (named c.name_at.ensures (c.in_ok-image.ensures.read [] refl)) (named c.name_at-2.ensures c.in_ok-checkpoint.ensures.read)
-    (record { kept = c.load_image.ensures.kept; counts = refl; later = c.load_image.ensures.later; asked = λ names more one two. adds_both one two }) in
+    (record { kept = c.load_file.ensures.kept; counts = refl; later = c.load_file.ensures.later; asked = λ names more one two. adds_both one two }) in
     row_stops _ c.from_residual-in_err-order.result
     (files_then both (schedule_named c.name_perhaps_at.ensures (c.in_err-order.ensures (an_image i ∷ a_checkpoint (saved_of k.snapshot k.last) ∷ []) refl))
     (record {
-      kept = c.load_checkpoint.ensures.kept ∙ c.load_image.ensures.kept;
+      kept = c.load_checkpoint.ensures.kept ∙ c.load_file.ensures.kept;
       counts = refl;
       later = λ n. omega
-          (arith, c.load_image.ensures.later n, c.load_checkpoint.ensures.later n);
+          (arith, c.load_file.ensures.later n, c.load_checkpoint.ensures.later n);
       asked = λ names more one two.
           adds_both one two;
     }))
@@ -52,14 +52,14 @@ returns g c =
     (name_of (slice_get c.args.words.now 1), checkpoint_file) ∷ [])
     (λ k. an_image i ∷ a_checkpoint (saved_of k.snapshot k.last) ∷ []) (Ok k) =
     files_then (named c.name_at.ensures (c.in_ok-image.ensures.read [] refl)) (named c.name_at-2.ensures c.in_ok-checkpoint.ensures.read)
-    (record { kept = c.load_image.ensures.kept; counts = refl; later = c.load_image.ensures.later; asked = λ names more one two. adds_both one two }) in
+    (record { kept = c.load_file.ensures.kept; counts = refl; later = c.load_file.ensures.later; asked = λ names more one two. adds_both one two }) in
     row_ends _ _
     (files_then both (schedule_named c.name_perhaps_at.ensures (c.in_ok-order.ensures (an_image i ∷ a_checkpoint (saved_of k.snapshot k.last) ∷ []) refl))
     (record {
-      kept = c.load_checkpoint.ensures.kept ∙ c.load_image.ensures.kept;
+      kept = c.load_checkpoint.ensures.kept ∙ c.load_file.ensures.kept;
       counts = refl;
       later = λ n. omega
-          (arith, c.load_image.ensures.later n, c.load_checkpoint.ensures.later n);
+          (arith, c.load_file.ensures.later n, c.load_checkpoint.ensures.later n);
       asked = λ names more one two.
           adds_both one two;
     }))

@@ -18,7 +18,7 @@ pub returns-in_err-list : goal.returns-in_err-list
 returns-in_err-list g c =
     row_stops [] c.from_residual-in_err-list.result
     (files_then (named c.name_at.ensures (c.in_ok-image.ensures.read [] refl)) (named c.name_at-2.ensures (c.in_err-list.ensures.read (an_image c.in_ok-image.image ∷ []) refl))
-    (record { kept = c.load_image.ensures.kept; counts = refl; later = c.load_image.ensures.later; asked = λ names more one two. adds_both one two }))
+    (record { kept = c.load_file.ensures.kept; counts = refl; later = c.load_file.ensures.later; asked = λ names more one two. adds_both one two }))
     refl refl c.from_residual-in_err-list.ensures.1
 
 pub returns : goal.returns
@@ -29,7 +29,7 @@ returns g c =
     StandAlone i (among groups) × (text ≡ own_report g.M.Inspect.tells i list cycles (among groups)) in
     row_ends _ _
     (files_then (named c.name_at.ensures (c.in_ok-image.ensures.read [] refl)) (named c.name_at-2.ensures (c.in_ok-list.ensures.read (an_image i ∷ []) refl))
-    (record { kept = c.load_image.ensures.kept; counts = refl; later = c.load_image.ensures.later; asked = λ names more one two. adds_both one two }))
+    (record { kept = c.load_file.ensures.kept; counts = refl; later = c.load_file.ensures.later; asked = λ names more one two. adds_both one two }))
     refl c.write_solo.ensures (λ r no. subst (λ (groups : List ℕ). GroupsRefused i (among groups) r) c.groups_at.ensures no)
     (λ text is.
     subst (λ (cycles : ℕ). IsText text (groups_of (slice_get c.args.words.now 1)) cycles) c.number_at.ensures
