@@ -114,8 +114,7 @@ impl Bench {
             → made.group ≡ group_in (turn_at img.now (record { schedule = t; item = item }))) }
     {
         let count = self.held.mem.pages();
-        let mut step = Step::idle(item);
-        turn(&mut self.core, &mut self.held.mem, item, &mut step);
+        let step = turn(&mut self.core, &mut self.held.mem, item);
         self.held.spent += 2;
         self.held.note(alloc, img, count, written(step.touched))?;
         let group = self.group_of(step.slot);

@@ -14,7 +14,7 @@ use mm_object::{Object, ObjectError};
 use mm_sched::{SchedError, Schedule};
 use std::alloc::Global;
 
-/// A type that the files of one kind are read as.
+/// A type that the files of one kind are parsed as.
 pub trait FromFile: Drop + Sized {
     ghost use Rattle.mm_cli.specs.declared.table.Kind.{Kind};
     ghost use Rattle.mm_load.specs.Kinds.{Value};
@@ -22,7 +22,7 @@ pub trait FromFile: Drop + Sized {
     /// The kind of the files.
     ghost of_kind: { Kind };
 
-    /// What it means.
+    /// The meaning of what was parsed.
     ghost meaning: { Self → Value };
 
     /// The most bytes of a file.

@@ -9,7 +9,7 @@ use crate::capture::{events_of, outputs_of, pages_of, slots_of};
 use mm_image::Image;
 use mm_mem::{Inspect, Loaded, Memory, Reset, Stored};
 use mm_sched::Robin;
-use mm_thread::{Core, Slot, Step, Tick, turn};
+use mm_thread::{Core, Slot, Step, Tick, turn_into};
 use mm_word::{Access, NoMemory, Post, Pre, Word};
 use std::alloc::{AllocError, Global};
 
@@ -124,8 +124,8 @@ impl<M: Memory> Machine<M> {
         self.issue(&[], previous, count, &mut step)
     }
 
-    /// Issues the items of a list, and then up to `count` cycles of round robin as [`Machine::round_robin`] does. If
-    /// a single item is issued, its step is written.
+    /// Issues the items of a list, and then up to `count` cycles of round robin as [`Machine::round_robin`] does. The
+    /// last step is written, and contracts say so of a single item.
     ///
     /// Every cycle passes here, so that a turn has one caller, into whose loop the compiler puts it.
     fn issue(
@@ -181,7 +181,7 @@ impl<M: Memory> Machine<M> {
         ensures ports { ports_used self.new ≡ ports_used self.old }
     {
         self.cycles += 1;
-        turn(&mut self.core, &mut self.mem, item, step);
+        turn_into(&mut self.core, &mut self.mem, item, step);
     }
 
     /// The count of cycles so far.

@@ -3,7 +3,6 @@ use Rattle.std.proofs.Common.{◌≡◌, ℕ, ◌+◌, ◌<◌, ◌≤◌, ◌�
 use Rattle.std.proofs.Math.ListN.{get_or-append}
 use Rattle.std.proofs.lemmas.Fmt.{decimal_injective}
 use Rattle.std.proofs.lemmas.List.{length-append, length-replicate}
-use Rattle.std.proofs.lemmas.List.Elements.{All-append, All-replicate}
 use Rattle.mm_model.specs.Schedule.{IsItem, item_limit}
 use Rattle.mm_model.proofs.ScheduleWords.{item_unique}
 use Rattle.mm_net.specs.declared.item.NetItem.{NetItem}
@@ -134,13 +133,7 @@ events_grammar = record {
   none = record { limit = omega arith; each = λ k d h. absurd (omega arith) };
 }
 
--- The events with those of one word more.
-
-pub keeps_more : (items : List NetItem) (i : NetItem) (k : ℕ) → AreEvents items → IsEvent i → length items + k ≤ item_limit → AreEvents (items ++ replicate k i)
-keeps_more items i k are range few = record {
-  limit = omega (arith, few, length-append items (replicate k i), length-replicate k i);
-  each = All-append IsEvent items (replicate k i) are.each (All-replicate IsEvent k i range);
-}
+-- A word whose events would be too many.
 
 pub too_many : (w : List ℕ) (items : List NetItem) (i : NetItem) (k : ℕ) → IsEvent i → Spells w i k
     → item_limit < length items + k → (said : List NetItem) → Says w said → AreEvents (items ++ said) → ⊥

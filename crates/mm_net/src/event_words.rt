@@ -6,7 +6,8 @@ ghost use Rattle.mm_net.specs.Events.{IsEvent, Spells};
 
 use crate::NetItem;
 use crate::word_parts::split;
-use mm_sched::{item, number};
+use mm_sched::{ITEM_LIMIT, TextItem, append, item, number};
+use mm_word::NoMemory;
 
 /// The item and the count that a text `N:S` or `N:S*K` says, given its parts before and after the first `:`.
 fn turn(node: &[u8], rest: &[u8]) -> Option<(NetItem, u32)>
@@ -55,5 +56,25 @@ pub fn event(word: &[u8]) -> Option<(NetItem, u32)>
     match split(word, b':') {
         Some((node, rest)) => turn(node, rest),
         None => None,
+    }
+}
+
+impl TextItem for NetItem {
+    ghost use Rattle.mm_net.specs.Events.{Says, AreEvents};
+
+    ghost says = { λ word said. Says word said };
+
+    ghost keeps = { λ items. AreEvents items };
+
+    fn add_word(items: &mut Vec<NetItem>, word: &[u8]) -> Result<bool, NoMemory> {
+        match event(word) {
+            None => Ok(false),
+            // There would be too many.
+            Some((_, count)) if count as usize > ITEM_LIMIT - items.len() => Ok(false),
+            Some((item, count)) => {
+                append(items, item, count)?;
+                Ok(true)
+            }
+        }
     }
 }

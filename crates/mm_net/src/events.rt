@@ -3,10 +3,8 @@
 ghost use Rattle.std.specs.Prelude.{◌≡◌, ◌⊎◌, ℕ, List, IfOk, Ok, Err};
 ghost use Rattle.mm_net.specs.Events.{Means, FaultsAt};
 
-use crate::event_words::event;
 use crate::{NetError, NetItem};
-use mm_sched::{ITEM_LIMIT, TextItem, append, read_items};
-use mm_word::NoMemory;
+use mm_sched::{ITEM_LIMIT, read_items};
 use std::alloc::Global;
 use std::marker::Model;
 
@@ -41,25 +39,6 @@ impl Events {
     }
 }
 
-impl TextItem for NetItem {
-    ghost use Rattle.mm_net.specs.Events.{Says, AreEvents};
-
-    ghost says = { λ word said. Says word said };
-
-    ghost keeps = { λ items. AreEvents items };
-
-    fn add_word(items: &mut Vec<NetItem>, word: &[u8]) -> Result<bool, NoMemory> {
-        let Some((item, count)) = event(word) else {
-            return Ok(false); // no event
-        };
-        if count as usize > ITEM_LIMIT - items.len() {
-            return Ok(false); // too many
-        }
-        append(items, item, count)?;
-        Ok(true)
-    }
-}
-
 /// The events that a text means: items between blanks, and comments from `#` to the end of the line. `N:S` is a turn or
 /// port item S of node N, and `N:S*K` is K of them; `+L` lets link L take, and `L@K` lets it carry its integer K. A
 /// text that means none has a fault. `NoMemory` comes if memory ran out.
@@ -73,6 +52,7 @@ pub fn read_events(alloc: Global, bytes: &[u8]) -> Result<Events, NetError>
     ensures refuses { (offset : ℕ) → FaultsAt bytes.now offset → (result ≡ Err (NetError.Fault offset))
         ⊎ (result ≡ Err NetError.NoMemory) }
 {
-    let items = read_items(alloc, bytes, ITEM_LIMIT)?;
-    Ok(Events { items })
+    Ok(Events {
+        items: read_items(alloc, bytes, ITEM_LIMIT)?,
+    })
 }

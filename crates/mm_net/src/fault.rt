@@ -15,7 +15,7 @@ pub enum NetError {
     NoMemory,
 }
 
-/// The fault of a text of words is one of links or of events.
+/// Makes an error of `read_items` one of links or of events.
 impl From<SchedError> for NetError {
     ghost from_gives = { λ error net. net ≡ net_error error };
 

@@ -45,7 +45,7 @@ fn fault(at: usize) -> SchedError
 }
 
 /// The items that a text means: those of its words, between blanks and comments from `#` to the end of the line. A text
-/// that means none has a fault. Room is made at first for one item of each word, or for the most items.
+/// that means none has a fault. It makes room once: for an item a word, and for `most` items at the most.
 pub fn read_items<T: TextItem>(
     alloc: Global,
     bytes: &[u8],

@@ -26,4 +26,4 @@ pub use memory_ops::load_kind;
 pub use mm_model::{Event, Pending, Slot, SlotState, Step, Tick};
 pub use operands::{addr_operand, value_operand};
 pub use output::Output;
-pub use state::{Core, turn};
+pub use state::{Core, turn, turn_into};

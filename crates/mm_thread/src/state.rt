@@ -10,7 +10,7 @@ ghost use Rattle.std.specs.List.Sorted.{IsStrictlyIncreasing};
 ghost use Rattle.mm_model.specs.Spelling.{numbers_of, IsFresh};
 ghost use Rattle.mm_model.specs.Slot.{Slot as SlotValue};
 ghost use Rattle.mm_model.specs.State.{slot_at, queue_at, output_of};
-ghost use Rattle.mm_model.specs.Fits.{slots_of, IsOfVersion};
+ghost use Rattle.mm_model.specs.Fits.{slots_of, IsCore, IsOfVersion};
 ghost use Rattle.mm_model.specs.Groups.{has_group};
 ghost use Rattle.mm_model.specs.Uses.{accesses, TakesUses};
 ghost use Rattle.mm_model.specs.Turn.{turn as turn_of};
@@ -48,23 +48,22 @@ impl Model for Core {
     ghost invariant = { λ c. IsCore c.tables };
 }
 
-/// Takes the turn of an item: a running slot's turn, the delivery of a port of a split machine, or nothing. Writes its
-/// step.
-pub fn turn<M: Memory>(core: &mut Core, mem: &mut M, item: u8, step: &mut Step)
+/// Takes the turn of an item: a running slot's turn, the delivery of a port of a split machine, or nothing.
+pub fn turn<M: Memory>(core: &mut Core, mem: &mut M, item: u8) -> Step
     requires turns { AllByRecursion (λ (s : SlotValue). s.turns < 2 ^ 61) (slots_of core.old) }
     requires room { M.uses mem.old < 2 ^ 61 }
 
     // The core, the memory and the step are those of the turn of the model.
     ensures core { core.new ≡ (turn_of core.old (M.meaning mem.old) item).core }
     ensures memory { M.meaning mem.new ≡ (turn_of core.old (M.meaning mem.old) item).memory }
-    ensures step { step.new ≡ (turn_of core.old (M.meaning mem.old) item).step }
+    ensures step { result ≡ (turn_of core.old (M.meaning mem.old) item).step }
 
     // The outcome of the item, exactly, by the first test of the turn that fails.
-    ensures idle { (step.new.tick ≡ Tick.Idle) ↔ IsIdle core.old item }
-    ensures delivered { (reg : ℕ) → (step.new.tick ≡ Tick.Delivered reg) ↔ Delivers core.old item reg }
-    ensures blocked { (step.new.tick ≡ Tick.Blocked) ↔ Blocks core.old (M.meaning mem.old) item }
-    ensures faulted { (c : Cause) → (step.new.tick ≡ Tick.Faulted c) ↔ Faults core.old (M.meaning mem.old) item c }
-    ensures did { (step.new.tick ≡ Tick.Did) ↔ Completes core.old (M.meaning mem.old) item }
+    ensures idle { (result.tick ≡ Tick.Idle) ↔ IsIdle core.old item }
+    ensures delivered { (reg : ℕ) → (result.tick ≡ Tick.Delivered reg) ↔ Delivers core.old item reg }
+    ensures blocked { (result.tick ≡ Tick.Blocked) ↔ Blocks core.old (M.meaning mem.old) item }
+    ensures faulted { (c : Cause) → (result.tick ≡ Tick.Faulted c) ↔ Faults core.old (M.meaning mem.old) item c }
+    ensures did { (result.tick ≡ Tick.Did) ↔ Completes core.old (M.meaning mem.old) item }
 
     // The uses of the memory, in order.
     ensures takes { TakesUses M.stands mem.old mem.new (turn_of core.old (M.meaning mem.old) item).uses }
@@ -72,7 +71,25 @@ pub fn turn<M: Memory>(core: &mut Core, mem: &mut M, item: u8, step: &mut Step)
     ensures few { accesses (turn_of core.old (M.meaning mem.old) item).uses ≤ 2 }
 
     // The step tells exactly the accesses that were made.
-    ensures exactly { accesses_in (turn_of core.old (M.meaning mem.old) item).uses ≡ accesses_told step.new }
+    ensures exactly { accesses_in (turn_of core.old (M.meaning mem.old) item).uses ≡ accesses_told result }
+{
+    let mut step = Step::idle(item);
+    turn_into(core, mem, item, &mut step);
+    step
+}
+
+/// The turn that [`turn`] takes, whose step is written into the caller's. A returned step is copied by each function that
+/// it passes through, so a loop of turns uses this call.
+pub fn turn_into<M: Memory>(core: &mut Core, mem: &mut M, item: u8, step: &mut Step)
+    requires turns { AllByRecursion (λ (s : SlotValue). s.turns < 2 ^ 61) (slots_of core.old) }
+    requires room { M.uses mem.old < 2 ^ 61 }
+    ensures core { core.new ≡ (turn_of core.old (M.meaning mem.old) item).core }
+    ensures memory { M.meaning mem.new ≡ (turn_of core.old (M.meaning mem.old) item).memory }
+    ensures step { step.new ≡ (turn_of core.old (M.meaning mem.old) item).step }
+    ensures takes { TakesUses M.stands mem.old mem.new (turn_of core.old (M.meaning mem.old) item).uses }
+    ensures count { M.uses mem.new ≡ M.uses mem.old + accesses (turn_of core.old (M.meaning mem.old) item).uses }
+    ensures few { accesses (turn_of core.old (M.meaning mem.old) item).uses ≤ 2 }
+    ensures whole { IsCore core.old }
 {
     take_item(&mut core.tables, mem, item, step);
 }

@@ -13,8 +13,8 @@ const HELLO: &[u8] =
 const UNDER_A_SCHEDULE: &[u8] =
     b"cycles 3\ngroup 0 output 1\no 41\nslot 0 turns 2 running ip p3300000000100010\nr 1 i0000000000000041\ncounts hits 1 misses 1 writebacks 0 tlb_hits 0 tlb_misses 1 reads 1 writes 0\n";
 
-// The third cycle of round robin, from a checkpoint of two; only that one is counted.
-const GONE_ON: &[u8] =
+// The report of a third cycle, after a checkpoint of two. The line of counts is of that cycle alone.
+const CONTINUED: &[u8] =
     b"cycles 3\ngroup 0 output 1\no 41\nslot 0 turns 3 halted ip p3300000000100010\nr 1 i0000000000000041\ncounts hits 0 misses 1 writebacks 0 tlb_hits 0 tlb_misses 1 reads 1 writes 0\n";
 
 // Two cycles of round robin, each with its line.
@@ -226,10 +226,11 @@ fn shelf(rt: &HostRuntime, fails: u64, piece: usize) -> Result<MemFiles, Fail> {
 const REACH: &[u8] =
     b"group 0 user\ntouch 00000000100000 12\napart 0 yes\ngroup 1 user\ntouch 00000000100000 12\napart 1 yes\n";
 
-// What the first two configurations of `pair` show, and by what pointer slot 0 reaches its code.
-const TWO_OF_MORE: &[u8] =
+// What the first two configurations of `pair` show.
+const FIRST_TWO_EXPLORED: &[u8] =
     b"explored 2 more\ngroup 0\ntouched 00000000100000 2\ngroup 1\ntouched 00000000100000 1\n";
 
+// The pointer by which group 0 reaches its code.
 const REASON: &[u8] = b"1 group 0 p3300000000100000 ip 0\n";
 
 const LINES: &[u8] = b"step 1\nregs 0\nmem 0x100000 1\njump\nquit\n";
@@ -336,9 +337,9 @@ fn each_call_fails(rt: HostRuntime) -> Result<(), Fail> {
         (
             &["continue", "HELLO", "CHECKPOINT", "1"],
             [12, 0, 11],
-            GONE_ON,
+            CONTINUED,
         ),
-        (&["explore", "PAIR", "2"], [6, 0, 6], TWO_OF_MORE),
+        (&["explore", "PAIR", "2"], [6, 0, 6], FIRST_TWO_EXPLORED),
         (&["why", "PAIR", "0", "1048576", "touch"], [6, 0, 3], REASON),
         (&["grants", "PAIR"], [6, 0, 7], REACH),
         (&["asm", "SOURCE"], [2, 0, 2], HALT),

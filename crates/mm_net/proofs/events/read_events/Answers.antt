@@ -10,26 +10,26 @@ use Rattle.mm_net.proofs.events.read_events.Goals as goal
 pub read_items-requires : goal.read_items-requires
 read_items-requires c = events_grammar
 
-pub returns-in_err-items-clause-fault : goal.returns-in_err-items-clause-fault
-returns-in_err-items-clause-fault c offset e =
+pub returns-in_err-read_items-clause-fault : goal.returns-in_err-read_items-clause-fault
+returns-in_err-read_items-clause-fault c offset e =
     let (error, is, same) = err_from_is_err_and c.from_residual.result c.from_residual.ensures.1 in
-    let at : net_error c.in_err-items.field-0.0 ≡ Fault offset = cc in
-    c.in_err-items.ensures.fault offset (ap Err (fault_of c.in_err-items.field-0.0 offset at))
+    let at : net_error c.in_err-read_items.field-0.0 ≡ Fault offset = cc in
+    c.in_err-read_items.ensures.fault offset (ap Err (fault_of c.in_err-read_items.field-0.0 offset at))
 
-pub returns-in_err-items-clause-reads : goal.returns-in_err-items-clause-reads
-returns-in_err-items-clause-reads c items means =
-    let (error, is, same) = err_from_is_err_and c.from_residual.result c.from_residual.ensures.1 in inr (is ∙ ap Err (same ∙ ap net_error (c.in_err-items.ensures.reads items means)))
+pub returns-in_err-read_items-clause-reads : goal.returns-in_err-read_items-clause-reads
+returns-in_err-read_items-clause-reads c items means =
+    let (error, is, same) = err_from_is_err_and c.from_residual.result c.from_residual.ensures.1 in inr (is ∙ ap Err (same ∙ ap net_error (c.in_err-read_items.ensures.reads items means)))
 
-pub returns-in_err-items-clause-refuses : goal.returns-in_err-items-clause-refuses
-returns-in_err-items-clause-refuses c offset fault =
+pub returns-in_err-read_items-clause-refuses : goal.returns-in_err-read_items-clause-refuses
+returns-in_err-read_items-clause-refuses c offset fault =
     let (error, is, same) = err_from_is_err_and c.from_residual.result c.from_residual.ensures.1 in
-    elim (c.in_err-items.ensures.refuses offset fault) [
-      | inl one ↦ let at : c.in_err-items.field-0.0 ≡ words.Fault offset = cc in inl (is ∙ ap Err (same ∙ ap net_error at))
-      | inr other ↦ let none : c.in_err-items.field-0.0 ≡ words.NoMemory = cc in inr (is ∙ ap Err (same ∙ ap net_error none))
+    elim (c.in_err-read_items.ensures.refuses offset fault) [
+      | inl one ↦ let at : c.in_err-read_items.field-0.0 ≡ words.Fault offset = cc in inl (is ∙ ap Err (same ∙ ap net_error at))
+      | inr other ↦ let none : c.in_err-read_items.field-0.0 ≡ words.NoMemory = cc in inr (is ∙ ap Err (same ∙ ap net_error none))
     ]
 
 pub returns-clause-reads : goal.returns-clause-reads
-returns-clause-reads c items means = inl (ap Ok (c.in_ok-items.ensures.reads items means))
+returns-clause-reads c items means = inl (ap Ok (c.in_ok-read_items.ensures.reads items means))
 
 pub returns-clause-refuses : goal.returns-clause-refuses
-returns-clause-refuses c offset fault = elim (c.in_ok-items.ensures.refuses offset fault) [ inl one ↦ absurd (cc) | inr other ↦ absurd (cc) ]
+returns-clause-refuses c offset fault = elim (c.in_ok-read_items.ensures.refuses offset fault) [ inl one ↦ absurd (cc) | inr other ↦ absurd (cc) ]

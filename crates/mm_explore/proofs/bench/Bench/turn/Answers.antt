@@ -20,8 +20,8 @@ note-requires-clause-old c =
     let h : IsMemoryOf i m = subst (IsMemoryOf i) (sym some.1.held.memory) (memory_of i (run (start i) some.0) some.1.image (runs_state_of i some.0 some.1.image)) in (
       m,
       h,
-      moved_by b.core m c.turn.new.mem.memory c.args.item c.turn.new.step c.written.result h.paged
-          c.turn.ensures.memory c.turn.ensures.step c.written.ensures.word c.written.ensures.place,
+      moved_by b.core m c.turn-step.new.mem.memory c.args.item c.turn-step.result c.written.result h.paged
+          c.turn-step.ensures.memory c.turn-step.ensures.step c.written.ensures.word c.written.ensures.place,
       sym c.pages-count.ensures.count,
       subst (λ (k : Memory). AreListed i k b.held.cells.items (numbers_in b.held)) (sym some.1.held.memory) some.1.held.listed,
     )
@@ -33,7 +33,7 @@ note-requires-clause-now c =
     let some = c.requires.some in
     let items : List ℕ = some.0 ++ c.args.item ∷ [] in
     let alike = turns_alike i some.0 b.core b.held.mem.memory c.args.item some.1.machine in
-    subst (IsMemoryOf i) (sym (c.turn.ensures.memory ∙ alike.memory)) (memory_of i (run (start i) items) some.1.image (runs_state_of i items some.1.image))
+    subst (IsMemoryOf i) (sym (c.turn-step.ensures.memory ∙ alike.memory)) (memory_of i (run (start i) items) some.1.image (runs_state_of i items some.1.image))
 
 pub returns-clause-at : goal.returns-clause-at
 returns-clause-at c = λ t at.
@@ -43,19 +43,19 @@ returns-clause-at c = λ t at.
     let items : List ℕ = t ++ c.args.item ∷ [] in
     let alike = turns_alike i t b.core b.held.mem.memory c.args.item at.machine in
     let mem = c.in_ok-note.ensures.memory in
-    let same : now.mem.memory ≡ c.turn.new.mem.memory = ap (λ m. m.memory) mem in
-    let is : now.mem.memory ≡ (run (start i) items).memory = same ∙ c.turn.ensures.memory ∙ alike.memory in
+    let same : now.mem.memory ≡ c.turn-step.new.mem.memory = ap (λ m. m.memory) mem in
+    let is : now.mem.memory ≡ (run (start i) items).memory = same ∙ c.turn-step.ensures.memory ∙ alike.memory in
     let uses = ap (λ m. m.uses) mem in
-    let count = c.turn.ensures.count in
-    let few = c.turn.ensures.few in
+    let count = c.turn-step.ensures.count in
+    let few = c.turn-step.ensures.few in
     let spent = c.in_ok-note.ensures.spent in
     let before = at.held.spent in
     record {
       image = at.image;
-      machine = (λ j. configuration (standing (c.turn.ensures.core j) ((same ∙ c.turn.ensures.memory) j))) ∙ alike.machine;
+      machine = (λ j. configuration (standing (c.turn-step.ensures.core j) ((same ∙ c.turn-step.ensures.memory) j))) ∙ alike.machine;
       held = record {
         memory = is;
-        listed = subst (λ (k : Memory). AreListed i k now.cells.items (numbers_in now)) (c.turn.ensures.memory ∙ alike.memory) c.in_ok-note.ensures.listed;
+        listed = subst (λ (k : Memory). AreListed i k now.cells.items (numbers_in now)) (c.turn-step.ensures.memory ∙ alike.memory) c.in_ok-note.ensures.listed;
         differ = c.in_ok-note.ensures.differ;
         spent = omega (arith, uses, count, few, spent, before);
       };
@@ -64,11 +64,11 @@ returns-clause-at c = λ t at.
 pub returns-clause-step : goal.returns-clause-step
 returns-clause-step c = λ t at.
     let b = c.args.self.now in
-    c.turn.ensures.step ∙ (turns_alike c.args.img.now t b.core b.held.mem.memory c.args.item at.machine).step
+    c.turn-step.ensures.step ∙ (turns_alike c.args.img.now t b.core b.held.mem.memory c.args.item at.machine).step
 
 pub returns-clause-group : goal.returns-clause-group
 returns-clause-group c = λ t at.
     let b = c.args.self.now in
     c.group_of-group.ensures
-    ∙ (λ j. group_of (slot_at (c.turn.ensures.core j) (c.turn.ensures.step j).slot))
+    ∙ (λ j. group_of (slot_at (c.turn-step.ensures.core j) (c.turn-step.ensures.step j).slot))
     ∙ (turns_alike c.args.img.now t b.core b.held.mem.memory c.args.item at.machine).group
