@@ -40,13 +40,6 @@ thread_limit = 16
 abbrev pub spare_limit : ℕ
 spare_limit = 256
 
--- the least and the greatest logarithm of a segment's length
-abbrev pub least_log : ℕ
-least_log = 3
-
-abbrev pub greatest_log : ℕ
-greatest_log = 20
-
 -- 2. Parts.
 
 -- the count of words of segments together
@@ -76,6 +69,13 @@ abbrev pub ascend : List (List ℕ) → Bool
 ascend [] = true
 ascend (a ∷ []) = true
 ascend (a ∷ b ∷ names) = is_before a b && ascend (b ∷ names)
+
+-- the least and the greatest logarithm of a segment's length
+abbrev pub least_log : ℕ
+least_log = 3
+
+abbrev pub greatest_log : ℕ
+greatest_log = 20
 
 abbrev pub is_within : Option Segment → ℕ → ℕ → ℕ → Bool
 is_within (Some s) all index addend = nat_lt addend (2 ^ s.log)
