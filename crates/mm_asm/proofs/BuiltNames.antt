@@ -1,13 +1,13 @@
 -- Names in a set, and the place of a name among those that rise.
-use Rattle.std.proofs.Common.{◌≡◌, ℕ, zero, suc, ◌+◌, ◌<◌, Bool, true, false, not, ◌&&◌, ◌||◌, List}
+use Rattle.std.proofs.Common.{◌≡◌, ℕ, zero, suc, ◌+◌, ◌<◌, Bool, true, false, not, ◌&&◌, ◌||◌, List, bytes_eq}
 use Rattle.std.proofs.Common.{[], ◌∷◌, ◌++◌, length, get_or, take, Option, is_some, refl, sym, ap, ◌∙◌}
 use Rattle.std.proofs.Common.{subst, arith, inl, inr}
 use Rattle.std.specs.declared.cmp.Ordering.{Ordering}
 use Rattle.std.specs.declared.cmp.Ordering.TheVariants.{Less, Equal, Greater}
 use Rattle.std.specs.Ordering.{ordering_index, nat_cmp, is_lt, is_eq}
 use Rattle.std.specs.Cmp.Lexicographic.{slice_cmp}
-use Rattle.std.proofs.lemmas.Bool.Decides.{nat_tests}
-use Rattle.std.proofs.lemmas.Cmp.{same_from_slice_cmp, nat_list_cmp_total, tied_itself}
+use Rattle.std.proofs.lemmas.Cmp.{nat_list_cmp_total, tied_itself}
+use Rattle.std.proofs.lemmas.Map.Text.{is_eq-slice_cmp}
 use Rattle.std.proofs.lemmas.Bool.{cases_lt}
 use Rattle.std.proofs.lemmas.List.Sorted.{searchable_from_sorted}
 use Rattle.std.specs.List.Sorted.{IsSortedBy, IsNonDecreasingBy, IsPartitionPoint}
@@ -17,7 +17,7 @@ use Rattle.mm_draft.specs.Faults.{fault_if}
 use Rattle.mm_draft.specs.Drafts.{Draft, place_of}
 use Rattle.mm_draft.specs.declared.fault.Failure.{Failure}
 use Rattle.mm_object.specs.Names.{is_before}
-use Rattle.mm_object.specs.Objects.{same_name, is_among, ascend}
+use Rattle.mm_object.specs.Objects.{is_among, ascend}
 use Rattle.mm_model.proofs.ImageBytes.Rising.{both}
 use Rattle.mm_object.proofs.Bools.{is_false}
 use Rattle.mm_asm.specs.Names.{Use, position_of, externals_with, with_use, is_external, name_of}
@@ -33,12 +33,6 @@ use Rattle.mm_object.specs.Steps.{key_names}
 
 abbrev pub compared : List ℕ → List ℕ → Ordering
 compared a b = slice_cmp nat_cmp a b
-
-pub is_less : (a b : List ℕ) → is_lt (compared a b) ≡ is_before a b
-is_less a b = same_from_slice_cmp nat_cmp is_lt is_before refl (λ _ _. refl) (λ _ _. refl) (λ x y xs ys o h. grind (arith, nat_tests)) a b (compared a b) refl
-
-is_equal : (a b : List ℕ) → is_eq (compared a b) ≡ same_name a b
-is_equal a b = same_from_slice_cmp nat_cmp is_eq same_name refl (λ _ _. refl) (λ _ _. refl) (λ x y xs ys o h. grind (arith, nat_tests)) a b (compared a b) refl
 
 abbrev pub order_of : Bor (List ℕ) → Bor (List ℕ) → Ordering
 order_of a b = slice_cmp nat_cmp a.now b.now
@@ -98,7 +92,7 @@ ascend_rises (x ∷ y ∷ xs) h =
     ((b.0, each_weaker (λ z. is_before y z ≡ true) (λ z. is_before x z ≡ true) xs (λ z k. before_all x y z b.0 k) r.0), r)
 
 same_from_equal : (a b : List ℕ) → compared a b ≡ Equal → a ≡ b
-same_from_equal a b h = is_same a b (sym (is_equal a b) ∙ ap is_eq h)
+same_from_equal a b h = is_same a b (sym (is_eq-slice_cmp a b) ∙ ap is_eq h)
 
 pub place_is : (names : List (List ℕ)) (name : List ℕ) (i : ℕ) → ascend names ≡ true → i < length names
     → ((d : List ℕ) → slice_cmp nat_cmp (get_or names i d) name ≡ Equal) → i ≡ position_of name names
@@ -116,17 +110,17 @@ rises_at (x ∷ y ∷ names) (suc k) d h lt =
     let next : suc k + 1 ≡ suc (k + 1) = omega arith in
     ap (λ n. is_before (get_or (y ∷ names) k d) (get_or (x ∷ y ∷ names) n d)) next ∙ rises_at (y ∷ names) k d (both (is_before x y) (ascend (y ∷ names)) h).1 (omega arith)
 
-no_return : (a b : List ℕ) → is_before a b ≡ true → is_lt (compared b a) ≡ false
-no_return a b h = is_false (is_lt (compared b a)) (λ e. not_itself a (before_all a b a h (sym (is_less b a) ∙ e)))
+no_return : (a b : List ℕ) → is_before a b ≡ true → is_before b a ≡ false
+no_return a b h = is_false (is_before b a) (λ e. not_itself a (before_all a b a h e))
 
 sorted : (names : List (List ℕ)) → ascend names ≡ true → IsSortedBy (λ a b. is_lt (slice_cmp nat_cmp a b)) names
 sorted names h = λ k d low lt. no_return (get_or names k d) (get_or names (k + 1) d) (rises_at names k d h lt)
 
 among_place : (name : List ℕ) (names : List (List ℕ)) → is_among name names ≡ true → (k : ℕ) × (k < length names) × (get_or names k [] ≡ name)
 among_place name [] h = absurd cc
-among_place name (x ∷ names) h = by (same_name name x) refl h (among_place name names)
+among_place name (x ∷ names) h = by (bytes_eq name x) refl h (among_place name names)
   where
-    by : (b : Bool) → same_name name x ≡ b → (b || is_among name names) ≡ true → (is_among name names ≡ true → (k : ℕ) × (k < length names) × (get_or names k [] ≡ name))
+    by : (b : Bool) → bytes_eq name x ≡ b → (b || is_among name names) ≡ true → (is_among name names ≡ true → (k : ℕ) × (k < length names) × (get_or names k [] ≡ name))
         → (k : ℕ) × (k < length (x ∷ names)) × (get_or (x ∷ names) k [] ≡ name)
     by true e k later = (zero, omega arith, sym (is_same name x e))
     by false e k later = let r = later k in (suc r.0, omega (arith, r.1), r.2)

@@ -1,5 +1,5 @@
 -- The externals of uses: in order, each the name of a use, and few where no use is one too many.
-use Rattle.std.proofs.Common.{◌≡◌, ℕ, ◌≤◌, Bool, true, false, not, ◌&&◌, ◌||◌, nat_le, if◌then◌else◌, List, [], ◌∷◌, length, refl, sym, ap, ◌∙◌, subst, inl, inr, arith}
+use Rattle.std.proofs.Common.{◌≡◌, ℕ, ◌≤◌, Bool, true, false, not, ◌&&◌, ◌||◌, nat_le, if◌then◌else◌, List, [], ◌∷◌, length, refl, sym, ap, ◌∙◌, subst, inl, inr, arith, bytes_eq}
 use Rattle.std.specs.List.{AllByRecursion}
 use Rattle.std.proofs.lemmas.Bool.{cases_lt}
 use Rattle.std.proofs.lemmas.Bool.Decides.{nat_tests}
@@ -7,7 +7,7 @@ use Rattle.mm_line.specs.declared.fault.Fault.{Fault}
 use Rattle.mm_line.specs.declared.fault.Fault.TheVariants.{Limit}
 use Rattle.mm_draft.specs.Drafts.{Draft}
 use Rattle.mm_draft.specs.Faults.{fault_if}
-use Rattle.mm_object.specs.Objects.{is_among, same_name, external_limit}
+use Rattle.mm_object.specs.Objects.{is_among, external_limit}
 use Rattle.mm_asm.specs.Names.{Use, is_external, name_of, insert_name, with_use, externals_with}
 use Rattle.mm_asm.specs.Faults.{in_source, is_too_many, limit_failures}
 use Rattle.mm_asm.proofs.Lists.{none_both, none_map}
@@ -51,7 +51,7 @@ module _ (d : Draft) where
   still_among name (u ∷ uses) names h = still_among name uses (with_use d u names) (by (is_external d u))
     where
       by : (b : Bool) → is_among name (if b then insert_name (name_of u) names else names) ≡ true
-      by true = insert_among name (name_of u) names ∙ or_right (same_name name (name_of u)) (is_among name names) h
+      by true = insert_among name (name_of u) names ∙ or_right (bytes_eq name (name_of u)) (is_among name names) h
       by false = h
 
   pub used_among : (u : Use) (uses : List Use) (names : List (List ℕ)) → In u uses → is_external d u ≡ true → is_among (name_of u) (externals_with d names uses) ≡ true
@@ -61,7 +61,7 @@ module _ (d : Draft) where
       by : (b : Bool) → b ≡ true → is_among (name_of u) (if b then insert_name (name_of v) names else names) ≡ true
       by true f =
           insert_among (name_of u) (name_of v) names
-          ∙ or_left (same_name (name_of u) (name_of v)) (is_among (name_of u) names) (subst (λ (w : Use). same_name (name_of u) (name_of w) ≡ true) same (same_itself (name_of u)))
+          ∙ or_left (bytes_eq (name_of u) (name_of v)) (is_among (name_of u) names) (subst (λ (w : Use). bytes_eq (name_of u) (name_of w) ≡ true) same (same_itself (name_of u)))
       by false f = absurd cc
   used_among u (v ∷ uses) names (inr m) e = used_among u uses (with_use d v names) m e
 

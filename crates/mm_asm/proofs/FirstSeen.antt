@@ -1,5 +1,5 @@
 -- Names as they are first seen, and the same names in the order of their bytes.
-use Rattle.std.proofs.Common.{◌≡◌, ℕ, suc, ◌+◌, ◌≤◌, Bool, true, false, not, ◌&&◌, ◌||◌, ◌==◌, if◌then◌else◌}
+use Rattle.std.proofs.Common.{◌≡◌, ℕ, suc, ◌+◌, ◌≤◌, Bool, true, false, not, ◌&&◌, ◌||◌, if◌then◌else◌}
 use Rattle.std.proofs.Common.{List, [], ◌∷◌, ◌++◌, length, length-append, get_or, refl, sym, ap, ◌∙◌, subst, arith}
 use Rattle.std.specs.Prelude.{nat_le}
 use Rattle.std.specs.Str.{bytes_eq}
@@ -16,14 +16,14 @@ use Rattle.mm_line.specs.declared.fault.Fault.TheVariants.{Limit}
 use Rattle.mm_draft.specs.Drafts.{Draft}
 use Rattle.mm_draft.specs.Faults.{fault_if}
 use Rattle.mm_object.specs.Names.{is_before}
-use Rattle.mm_object.specs.Objects.{same_name, is_among, ascend, external_limit}
+use Rattle.mm_object.specs.Objects.{is_among, ascend, external_limit}
 use Rattle.mm_object.proofs.Bools.{is_false}
 use Rattle.mm_model.proofs.ImageBytes.Rising.{and_true}
 use Rattle.mm_asm.specs.Names.{Use, HasEach, insert_name, is_external, name_of, seen_with, with_use}
 use Rattle.mm_asm.specs.Faults.{in_source, is_too_many}
 use Rattle.mm_asm.specs.Steps.{limit_failure}
 use Rattle.mm_asm.proofs.Order.{Rising, before_all, not_itself, one_first, is_same, is_other, same_itself, insert_among, insert_again, each_among}
-use Rattle.mm_asm.proofs.BuiltNames.{order_of, is_less, ascend_rises, as_many}
+use Rattle.mm_asm.proofs.BuiltNames.{order_of, ascend_rises, as_many}
 use Rattle.mm_object.specs.Steps.{key_names}
 
 -- 1. Truth.
@@ -46,14 +46,14 @@ turned false b c = refl
 
 -- 2. A name more.
 
-among_push : (m name : List ℕ) (xs : List (List ℕ)) → is_among m (xs ++ name ∷ []) ≡ (same_name m name || is_among m xs)
+among_push : (m name : List ℕ) (xs : List (List ℕ)) → is_among m (xs ++ name ∷ []) ≡ (bytes_eq m name || is_among m xs)
 among_push m name [] = refl
 among_push m name (x ∷ xs) =
-    ap (λ (b : Bool). same_name m x || b) (among_push m name xs) ∙ turned (same_name m name) (same_name m x) (is_among m xs)
+    ap (λ (b : Bool). bytes_eq m x || b) (among_push m name xs) ∙ turned (bytes_eq m name) (bytes_eq m x) (is_among m xs)
 
 insert_new : (name : List ℕ) (xs : List (List ℕ)) → is_among name xs ≡ false → length (insert_name name xs) ≡ length xs + 1
 insert_new name [] h = omega arith
-insert_new name (x ∷ xs) h = by (same_name name x) (is_before name x) h (insert_new name xs)
+insert_new name (x ∷ xs) h = by (bytes_eq name x) (is_before name x) h (insert_new name xs)
   where
     by : (b c : Bool) → (b || is_among name xs) ≡ false → (is_among name xs ≡ false → length (insert_name name xs) ≡ length xs + 1)
         → length (if b then x ∷ xs else if c then name ∷ x ∷ xs else x ∷ insert_name name xs) ≡ length (x ∷ xs) + 1
@@ -73,7 +73,7 @@ module _ (d : Draft) (u : Use) (seen names : List (List ℕ)) (each : HasEach na
       by true false e = record {
         among = λ m.
             among_push m (name_of u) seen
-            ∙ ap (λ (b : Bool). same_name m (name_of u) || b) (each.among m)
+            ∙ ap (λ (b : Bool). bytes_eq m (name_of u) || b) (each.among m)
             ∙ sym (insert_among m (name_of u) names);
         len =
             let one = length-append seen (name_of u ∷ []) in
@@ -97,17 +97,9 @@ module _ (d : Draft) (u : Use) (seen names : List (List ℕ)) (each : HasEach na
 abbrev alike : Bor (List ℕ) → Bor (List ℕ) → Bool
 alike a b = bytes_eq a.now b.now
 
-same_bytes : (a b : List ℕ) → bytes_eq a b ≡ same_name a b
-same_bytes [] [] = refl
-same_bytes [] (y ∷ b) = refl
-same_bytes (x ∷ a) [] = refl
-same_bytes (x ∷ a) (y ∷ b) = ap (λ (c : Bool). x == y && c) (same_bytes a b)
-
 pub contained : (keys : List (Bor (List ℕ))) (name : List ℕ) → list_any (λ (k : Bor (List ℕ)). bytes_eq name k.now) keys ≡ is_among name (key_names keys)
 contained [] name = refl
-contained (x ∷ keys) name =
-    ap (λ b. b || list_any (λ (k : Bor (List ℕ)). bytes_eq name k.now) keys) (same_bytes name x.now)
-    ∙ ap (λ b. same_name name x.now || b) (contained keys name)
+contained (x ∷ keys) name = ap (λ b. bytes_eq name x.now || b) (contained keys name)
 
 pub too_many : (keys : List (Bor (List ℕ))) (name : List ℕ) (n : ℕ) (b : Bool) → n ≡ length keys → 1024 ≤ n
     → b ≡ list_any (λ (k : Bor (List ℕ)). bytes_eq name k.now) keys → not b ≡ is_too_many (key_names keys) name
@@ -142,9 +134,9 @@ keys_ascend (x ∷ y ∷ keys) sorted apart =
     (keys_ascend (y ∷ keys) later (IsDistinct-tail alike x (y ∷ keys) apart))
   where
     no_later : is_before y.now x.now ≡ false
-    no_later = sym (is_less y.now x.now) ∙ sorted 0 x (omega arith) (omega arith)
+    no_later = sorted 0 x (omega arith) (omega arith)
 
-    other : same_name y.now x.now ≡ false
+    other : bytes_eq y.now x.now ≡ false
     other = is_other y.now x.now (λ e.
         clash (bytes_eq x.now y.now) ((bytes_eq-Decides x.now y.now).1 (sym e)) (IsDistinct-head alike x (y ∷ keys) apart).0)
 
@@ -158,34 +150,34 @@ keys_ascend (x ∷ y ∷ keys) sorted apart =
 
 first_alike : (x y : List ℕ) (xs ys : List (List ℕ)) → Rising (x ∷ xs) → Rising (y ∷ ys)
     → ((name : List ℕ) → is_among name (y ∷ ys) ≡ is_among name (x ∷ xs)) → y ≡ x
-first_alike x y xs ys h k same = by (same_name y x) refl
+first_alike x y xs ys h k same = by (bytes_eq y x) refl
   where
-    by : (b : Bool) → same_name y x ≡ b → y ≡ x
+    by : (b : Bool) → bytes_eq y x ≡ b → y ≡ x
     by true e = is_same y x e
     by false e =
-        let y_later = the_other (same_name y x) (is_among y xs) e (sym (same y) ∙ or_left (same_name y y) (is_among y ys) (same_itself y)) in
-        let other = is_other x y (λ t. clash (same_name y x) (subst (λ v. same_name y v ≡ true) (sym t) (same_itself y)) e) in
-        let x_later = the_other (same_name x y) (is_among x ys) other (same x ∙ or_left (same_name x x) (is_among x xs) (same_itself x)) in
+        let y_later = the_other (bytes_eq y x) (is_among y xs) e (sym (same y) ∙ or_left (bytes_eq y y) (is_among y ys) (same_itself y)) in
+        let other = is_other x y (λ t. clash (bytes_eq y x) (subst (λ v. bytes_eq y v ≡ true) (sym t) (same_itself y)) e) in
+        let x_later = the_other (bytes_eq x y) (is_among x ys) other (same x ∙ or_left (bytes_eq x x) (is_among x xs) (same_itself x)) in
         let below = each_among (λ z. is_before x z ≡ true) y xs h.0 y_later in
         let above = each_among (λ z. is_before y z ≡ true) x ys k.0 x_later in
         absurd (not_itself x (before_all x y x below above))
 
 rest_alike : (x : List ℕ) (xs ys : List (List ℕ)) → Rising (x ∷ xs) → Rising (x ∷ ys)
     → ((name : List ℕ) → is_among name (x ∷ ys) ≡ is_among name (x ∷ xs)) → (name : List ℕ) → is_among name ys ≡ is_among name xs
-rest_alike x xs ys h k same name = by (same_name name x) refl (same name)
+rest_alike x xs ys h k same name = by (bytes_eq name x) refl (same name)
   where
-    gone : same_name name x ≡ true → (zs : List (List ℕ)) → Rising (x ∷ zs) → is_among name zs ≡ false
+    gone : bytes_eq name x ≡ true → (zs : List (List ℕ)) → Rising (x ∷ zs) → is_among name zs ≡ false
     gone e zs r = is_false (is_among name zs) (λ t.
         not_itself x (each_among (λ z. is_before x z ≡ true) x zs r.0 (subst (λ v. is_among v zs ≡ true) (is_same name x e) t)))
 
-    by : (b : Bool) → same_name name x ≡ b → (b || is_among name ys) ≡ (b || is_among name xs) → is_among name ys ≡ is_among name xs
+    by : (b : Bool) → bytes_eq name x ≡ b → (b || is_among name ys) ≡ (b || is_among name xs) → is_among name ys ≡ is_among name xs
     by true e s = gone e ys k ∙ sym (gone e xs h)
     by false e s = s
 
 in_order : (xs ys : List (List ℕ)) → Rising xs → Rising ys → ((name : List ℕ) → is_among name ys ≡ is_among name xs) → ys ≡ xs
 in_order [] [] h k same = refl
-in_order [] (y ∷ ys) h k same = absurd (clash (is_among y (y ∷ ys)) (or_left (same_name y y) (is_among y ys) (same_itself y)) (same y))
-in_order (x ∷ xs) [] h k same = absurd (clash (is_among x (x ∷ xs)) (or_left (same_name x x) (is_among x xs) (same_itself x)) (sym (same x)))
+in_order [] (y ∷ ys) h k same = absurd (clash (is_among y (y ∷ ys)) (or_left (bytes_eq y y) (is_among y ys) (same_itself y)) (same y))
+in_order (x ∷ xs) [] h k same = absurd (clash (is_among x (x ∷ xs)) (or_left (bytes_eq x x) (is_among x xs) (same_itself x)) (sym (same x)))
 in_order (x ∷ xs) (y ∷ ys) h k same =
     let e = first_alike x y xs ys h k same in
     let k_too = subst (λ v. Rising (v ∷ ys)) e k in

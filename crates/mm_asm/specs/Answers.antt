@@ -1,5 +1,5 @@
 -- The answers of the assembler, and the first of the faults that it meets.
-use Rattle.std.specs.Prelude.{◌≡◌, ℕ, List, map, Option, Some, None}
+use Rattle.std.specs.Prelude.{◌≡◌, List, map, Option, Some, None}
 use Rattle.std.specs.Option.{option_map}
 use Rattle.mm_line.specs.Faults.{number_of}
 use Rattle.mm_draft.specs.declared.fault.Failure.{Failure}

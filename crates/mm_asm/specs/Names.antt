@@ -1,6 +1,7 @@
 -- What names stand for in a draft, and the names that it uses and does not define.
 use Rattle.std.specs.Prelude.{◌≡◌, ℕ, ◌+◌, ◌*◌, nat_lt, Bool, not, ◌&&◌, if◌then◌else◌, List, [], ◌∷◌, ◌++◌, length}
 use Rattle.std.specs.Prelude.{Option, Some, None, is_some}
+use Rattle.std.specs.Str.{bytes_eq}
 use Rattle.std.specs.List.{flat_map}
 use Rattle.mm_line.specs.declared.statement.Target.{Target}
 use Rattle.mm_line.specs.declared.statement.Constant.{Constant}
@@ -8,7 +9,7 @@ use Rattle.mm_line.specs.declared.statement.Constant.TheVariants.{Integer, Point
 use Rattle.mm_line.specs.declared.statement.Content.{Content}
 use Rattle.mm_line.specs.declared.statement.Content.TheVariants as content
 use Rattle.mm_object.specs.Names.{is_before}
-use Rattle.mm_object.specs.Objects.{same_name, is_among}
+use Rattle.mm_object.specs.Objects.{is_among}
 use Rattle.mm_draft.specs.declared.source.Source.{Source}
 use Rattle.mm_draft.specs.declared.segment.Word.{Word}
 use Rattle.mm_draft.specs.declared.location.Location.{Location}
@@ -65,7 +66,7 @@ name_of u = u.target.mark.name
 abbrev pub insert_name : List ℕ → List (List ℕ) → List (List ℕ)
 insert_name name [] = name ∷ []
 insert_name name (x ∷ names) =
-    if same_name name x then x ∷ names else if is_before name x then name ∷ x ∷ names else x ∷ insert_name name names
+    if bytes_eq name x then x ∷ names else if is_before name x then name ∷ x ∷ names else x ∷ insert_name name names
 
 -- externals, with the name of a use if the draft does not define it
 abbrev pub with_use : Draft → Use → List (List ℕ) → List (List ℕ)
@@ -92,7 +93,7 @@ pub record HasEach (names list : List (List ℕ)) : Type 0 where
 -- the index of a name in a list
 abbrev pub position_of : List ℕ → List (List ℕ) → ℕ
 position_of name [] = 0
-position_of name (x ∷ names) = if same_name name x then 0 else 1 + position_of name names
+position_of name (x ∷ names) = if bytes_eq name x then 0 else 1 + position_of name names
 
 -- what a target means: a place in a segment of the draft, or a name that the draft does not define
 pub data Meant : Type 0 where

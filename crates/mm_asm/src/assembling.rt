@@ -1,13 +1,11 @@
 //! The assembler.
 
-ghost use Rattle.std.specs.Prelude.{◌≡◌, ◌<◌, ◌≤◌, ◌-◌, ◌^◌, ℕ, Some, Err, IfOk, map, length, MatchResult, IsOkUnless};
+ghost use Rattle.std.specs.Prelude.{◌≡◌, ◌<◌, ◌≤◌, ◌-◌, ◌^◌, ℕ, Some, Err, IfOk, map, length, IsOkUnless};
 ghost use Rattle.std.specs.Result.{IsErrAnd};
 ghost use Rattle.mm_model.specs.Answers.{IsUnless, ValueOrFault};
 ghost use Rattle.mm_line.specs.Faults.{number_of};
 ghost use Rattle.mm_line.specs.declared.fault.Fault.{Fault as FaultValue};
 ghost use Rattle.mm_draft.specs.Laws.{Pair, failure_pair, least};
-ghost use Rattle.mm_draft.specs.Faults.{draft_of};
-ghost use Rattle.mm_draft.specs.Seen.{Reads};
 ghost use Rattle.mm_object.specs.Objects.{Object as ObjectValue, IsObject};
 ghost use Rattle.std.specs.List.{AllByRecursion};
 ghost use Rattle.mm_asm.specs.Fits.{FitsSegment, FitsPointers, FitsThread};

@@ -1,9 +1,8 @@
 //! The faults that are found once a whole text was read.
 
-ghost use Rattle.std.specs.Prelude.{◌≡◌, Option, List};
+ghost use Rattle.std.specs.Prelude.{◌≡◌, Option};
 ghost use Rattle.std.specs.Option.{option_map};
 ghost use Rattle.std.specs.List.{flat_map};
-ghost use Rattle.mm_draft.specs.Drafts.{Segment as SegmentValue};
 ghost use Rattle.mm_asm.specs.Answers.{Meets};
 ghost use Rattle.mm_asm.specs.Faults.{is_label_in, is_outside, word_failures, goal_failures, use_failures};
 

@@ -1,6 +1,6 @@
 //! Why a text means no object.
 
-ghost use Rattle.std.specs.Prelude.{◌≡◌, Some};
+ghost use Rattle.std.specs.Prelude.{◌≡◌};
 ghost use Rattle.mm_asm.specs.declared.fault.AsmError.TheVariants.{NoMemory};
 
 pub use mm_line::Fault as AsmFault;

@@ -1,6 +1,6 @@
 //! For each two groups the least word that the one writes and the other touches.
 
-ghost use Rattle.std.specs.Prelude.{◌≡◌, ◌+◌, IfOk, length};
+ghost use Rattle.std.specs.Prelude.{IfOk, length};
 ghost use Rattle.mm_audit.specs.Spans.{AreInOrder};
 ghost use Rattle.mm_audit.specs.Meeting.{AreRows, NotesAll, AreNoRows, HaveMet};
 

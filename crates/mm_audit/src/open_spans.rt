@@ -1,6 +1,6 @@
 //! The spans that hold an address, and the groups that use them.
 
-ghost use Rattle.std.specs.Prelude.{◌≡◌, ◌+◌, ◌<◌, IfOk, length};
+ghost use Rattle.std.specs.Prelude.{◌+◌, ◌<◌, IfOk, length};
 ghost use Rattle.mm_audit.specs.Spans.{AreInOrder, base_at};
 ghost use Rattle.mm_audit.specs.Opening.{Closed, IsLast, AreOpen, IsOpenAt};
 

@@ -1,6 +1,6 @@
 //! A finished audit with a set of segments for each group.
 
-ghost use Rattle.std.specs.Prelude.{◌≡◌, ◌<◌, ◌%◌, ◌^◌, ◌↔◌, ℕ, IsTrue};
+ghost use Rattle.std.specs.Prelude.{◌≡◌, ◌<◌, ◌%◌, ◌^◌, ◌↔◌, IsTrue};
 ghost use Rattle.std.specs.Int.{bit_at};
 ghost use Rattle.mm_word.specs.Perm.{can_load, can_store};
 ghost use Rattle.mm_model.specs.Image.{Image as ImageValue};

@@ -1,10 +1,10 @@
 //! Whether the slots of some groups can stand alone.
 
-ghost use Rattle.std.specs.Prelude.{◌≡◌, ◌<◌, ◌↔◌, ℕ, true, false, All, IfSome, MatchOption};
+ghost use Rattle.std.specs.Prelude.{◌≡◌, ◌<◌, ◌↔◌, ℕ, false, All, IfSome, MatchOption};
 ghost use Rattle.std.specs.List.{list_any};
 ghost use Rattle.std.specs.Int.{bit_at};
 ghost use Rattle.mm_model.specs.Slot.{Slot as SlotValue};
-ghost use Rattle.mm_model.specs.Groups.{among, HasSlotAt, HasNoGroup};
+ghost use Rattle.mm_model.specs.Groups.{among, HasSlotAt};
 ghost use Rattle.mm_audit.specs.Inside.{is_out, leaves, first_leaving};
 ghost use Rattle.mm_audit.specs.Refusals.{StandAlone, IsRefused};
 

@@ -1,6 +1,6 @@
 -- The cells of a block: in a page, and in a memory that a block is put into.
 use Rattle.std.proofs.Common.{◌≡◌, ◌≢◌, ℕ, zero, suc, ◌+◌, ◌-◌, ◌*◌, ◌<◌, ◌≤◌, ◌/◌, ◌%◌, is_some, true, List, [], ◌∷◌, ◌++◌, length, take, drop, Option, None, Some, slice_get, refl, sym, ap, arith}
-use Rattle.std.proofs.Common.{◌∙◌, inl, inr, length-drop, length-append, length-take, append_assoc}
+use Rattle.std.proofs.Common.{◌∙◌, inl, inr, length-drop, length-take, append_assoc}
 use Rattle.std.proofs.lemmas.Bool.{cases_lt}
 use Rattle.std.proofs.lemmas.Option.{slice_get_past}
 use Rattle.mm_word.specs.declared.word.Cell.{Cell}

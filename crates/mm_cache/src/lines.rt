@@ -1,6 +1,6 @@
 //! The lines of the cache.
 
-ghost use Rattle.std.specs.Prelude.{◌≡◌, ◌^◌, ◌<◌, None, length, replicate, true, false};
+ghost use Rattle.std.specs.Prelude.{◌≡◌, ◌<◌, None, length, replicate, true, false};
 ghost use Rattle.mm_model.specs.Counted.{block_of, line_of};
 ghost use Rattle.mm_cache.specs.Lines.{place_in_block, is_in, line_with, line_without};
 

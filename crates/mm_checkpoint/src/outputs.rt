@@ -1,7 +1,6 @@
 //! The outputs of groups in a checkpoint's file.
 
-ghost use Rattle.std.specs.Prelude.{◌≡◌, ℕ, List, ◌+◌, ◌*◌, ◌≤◌, ◌^◌, ◌<◌, ◌==◌, map, IfOk, length};
-ghost use Rattle.std.specs.List.{list_any};
+ghost use Rattle.std.specs.Prelude.{◌≡◌, ◌*◌, ◌≤◌, ◌<◌, ◌==◌, map, IfOk, length};
 ghost use Rattle.mm_model.specs.Image.{output_limit};
 ghost use Rattle.mm_format.specs.Formats.{each};
 ghost use Rattle.mm_format.specs.Reading.{Reads};

@@ -1,6 +1,6 @@
 //! The lines of an input, and the command of a line.
 
-ghost use Rattle.std.specs.Prelude.{◌≡◌, [], ◌∷◌, ◌<◌, ◌≤◌, length, not, MatchOption, IfSome};
+ghost use Rattle.std.specs.Prelude.{◌≡◌, [], ◌∷◌, ◌<◌, ◌≤◌, length, not};
 ghost use Rattle.std.specs.List.{prefix_len};
 ghost use Rattle.mm_debug.specs.Commands.{command_of, lines_of, is_blank, tokens, with_token, number_of, alone};
 ghost use Rattle.mm_debug.specs.Commands.{with_one, with_two, is_count, is_slot, is_address, is_word, are_words};

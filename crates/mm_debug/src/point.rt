@@ -2,7 +2,6 @@
 
 ghost use Rattle.std.specs.Prelude.{◌≡◌, IfOk};
 ghost use Rattle.mm_model.specs.Image.{Image};
-ghost use Rattle.mm_debug.specs.Session.{Session as SessionValue};
 ghost use Rattle.mm_debug.specs.Shown.{session_of};
 ghost use Rattle.mm_debug.specs.Standing.{Point as PointValue, StandsFor, PointStandsFor, IsPointOf, CanGo, gone};
 ghost use Rattle.mm_debug.specs.Standing.{total_at};

@@ -1,5 +1,5 @@
 -- The externals of the draft are those of the object, and what its targets come to.
-use Rattle.std.proofs.Common.{◌≡◌, ℕ, zero, suc, ◌+◌, ◌*◌, ◌<◌, true, not, ◌==◌, List, [], ◌∷◌, length, get_or, Option, is_some, refl, sym, ap, ◌∙◌, subst, inl, inr, arith}
+use Rattle.std.proofs.Common.{◌≡◌, ℕ, zero, suc, ◌+◌, ◌*◌, ◌<◌, true, not, ◌==◌, List, [], ◌∷◌, length, get_or, Option, is_some, refl, sym, ap, ◌∙◌, subst, inl, inr, arith, bytes_eq}
 use Rattle.mm_line.proofs.Choices.{same_number}
 use Rattle.mm_line.specs.declared.statement.Target as text
 use Rattle.mm_draft.specs.declared.location.Location.{Location}
@@ -8,7 +8,7 @@ use Rattle.mm_draft.specs.Drafts.{Draft}
 use Rattle.mm_object.specs.declared.target.Target.{Target}
 use Rattle.mm_object.specs.Lookups.{name_of_target}
 use Rattle.mm_object.specs.Names.{is_before}
-use Rattle.mm_object.specs.Objects.{Segment, Object, IsObject, same_name, is_among, is_target, targets_of}
+use Rattle.mm_object.specs.Objects.{Segment, Object, IsObject, is_among, is_target, targets_of}
 use Rattle.mm_asm.specs.Names.{Use, Here, meant_by, meant, uses_of, is_external, name_of, externals_of, position_of}
 use Rattle.mm_asm.specs.Meaning.{target_by, target_of}
 use Rattle.mm_object.proofs.Members.{In, each_in, found}
@@ -33,7 +33,7 @@ at_in (x ∷ names) zero lt = inl refl
 at_in (x ∷ names) (suc i) lt = inr (at_in names i (omega arith))
 
 among_in : (name : List ℕ) (names : List (List ℕ)) → is_among name names ≡ true → In name names
-among_in name names h = let x = found (same_name name) names h in subst (λ (n : List ℕ). In n names) (sym (is_same name x.0 x.2)) x.1
+among_in name names h = let x = found (bytes_eq name) names h in subst (λ (n : List ℕ). In n names) (sym (is_same name x.0 x.2)) x.1
 
 module _ (o : Object) (is : IsObject o) (d : Draft) (drafted : IsDraftOf o d) where
   -- 1. The externals.

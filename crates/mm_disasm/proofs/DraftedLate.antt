@@ -1,5 +1,5 @@
 -- The draft has no late faults.
-use Rattle.std.proofs.Common.{◌≡◌, ℕ, zero, suc, ◌+◌, ◌^◌, ◌<◌, ◌≤◌, Bool, true, false, not, ◌&&◌, ◌||◌, nat_le}
+use Rattle.std.proofs.Common.{◌≡◌, ℕ, zero, suc, ◌+◌, ◌^◌, ◌<◌, ◌≤◌, Bool, true, false, not, ◌&&◌, ◌||◌, nat_le, bytes_eq}
 use Rattle.std.proofs.Common.{if◌then◌else◌, List, [], ◌∷◌, ◌++◌, length, slice_get, Option, Some, None, refl, sym, ap}
 use Rattle.std.proofs.Common.{◌∙◌, subst, inl, inr, arith}
 use Rattle.std.specs.List.{flat_map}
@@ -16,7 +16,7 @@ use Rattle.mm_object.specs.declared.item.Item.{Item}
 use Rattle.mm_object.specs.declared.target.Reloc.{Reloc}
 use Rattle.mm_object.specs.Lookups.{reloc_at}
 use Rattle.mm_object.specs.Names.{is_before}
-use Rattle.mm_object.specs.Objects.{Segment, Object, IsObject, same_name, is_among, external_limit}
+use Rattle.mm_object.specs.Objects.{Segment, Object, IsObject, is_among, external_limit}
 use Rattle.mm_asm.specs.Names.{Use, Meant, meant_by, uses_of, is_external, name_of, insert_name, with_use, externals_with}
 use Rattle.mm_asm.specs.Faults.{goal_faults, content_faults, in_source, word_failures, goal_failures, is_outside, meant_faults, use_failures, is_too_many, limit_failures, late_failures}
 use Rattle.mm_object.proofs.Members.{In}
@@ -41,7 +41,7 @@ none_of_each f (x ∷ xs) h = none_of_both (f x) (flat_map f xs) (h x (inl refl)
 module _ (d : Draft) where
   grows : (name : List ℕ) (names : List (List ℕ)) → length names ≤ length (insert_name name names)
   grows name [] = omega arith
-  grows name (x ∷ names) = by (same_name name x) (is_before name x) (grows name names)
+  grows name (x ∷ names) = by (bytes_eq name x) (is_before name x) (grows name names)
     where
       by : (b c : Bool) → length names ≤ length (insert_name name names) →
           length (x ∷ names) ≤ length (if b then x ∷ names else if c then name ∷ x ∷ names else x ∷ insert_name name names)
@@ -51,7 +51,7 @@ module _ (d : Draft) where
 
   one_more : (name : List ℕ) (names : List (List ℕ)) → is_among name names ≡ false → length (insert_name name names) ≡ length names + 1
   one_more name [] h = refl
-  one_more name (x ∷ names) h = by (same_name name x) (is_before name x) h (one_more name names)
+  one_more name (x ∷ names) h = by (bytes_eq name x) (is_before name x) h (one_more name names)
     where
       by : (b c : Bool) → (b || is_among name names) ≡ false → (is_among name names ≡ false → length (insert_name name names) ≡ length names + 1) →
           length (if b then x ∷ names else if c then name ∷ x ∷ names else x ∷ insert_name name names) ≡ length (x ∷ names) + 1

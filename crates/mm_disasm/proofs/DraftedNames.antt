@@ -12,7 +12,7 @@ use Rattle.mm_draft.specs.Drafts as draft
 use Rattle.mm_draft.specs.Drafts.{Entry, Draft, place_in, place_of}
 use Rattle.mm_object.specs.declared.target.Target.{Target}
 use Rattle.mm_object.specs.Lookups.{name_of_target}
-use Rattle.mm_object.specs.Objects.{Segment, Object, IsObject, greatest_log, same_name, is_among, are_apart, names_of, is_within, is_target}
+use Rattle.mm_object.specs.Objects.{Segment, Object, IsObject, greatest_log, is_among, are_apart, names_of, is_within, is_target}
 use Rattle.mm_model.proofs.ImageBytes.Rising.{both}
 use Rattle.mm_model.proofs.ImageBytes.Clean.{neither}
 use Rattle.mm_object.proofs.Bools.{none_at}
@@ -32,15 +32,15 @@ place_none : (k : ℕ) (names : List (List ℕ)) (name : List ℕ) → is_among 
 unfolding entries_named
 place_none k [] name h = refl
 place_none k (x ∷ names) name h =
-    let parts = neither (same_name name x) (is_among name names) h in
+    let parts = neither (bytes_eq name x) (is_among name names) h in
     by (bytes_eq name x) refl parts.0 (place_none (k + 1) names name parts.1)
   where
-    by : (b : Bool) → bytes_eq name x ≡ b → same_name name x ≡ false → place_in (entries_named (k + 1) names) name ≡ None →
+    by : (b : Bool) → bytes_eq name x ≡ b → bytes_eq name x ≡ false → place_in (entries_named (k + 1) names) name ≡ None →
         (if b then Some (entry_of k x).place else place_in (entries_named (k + 1) names) name) ≡ None
-    by true e f later = absurd (let same : name ≡ x = (bytes_eq-Decides name x).0 e in let g : same_name name x ≡ true = ap (same_name name) (sym same) ∙ same_itself name in cc (f, g))
+    by true e f later = absurd (let same : name ≡ x = (bytes_eq-Decides name x).0 e in let g : bytes_eq name x ≡ true = ap (bytes_eq name) (sym same) ∙ same_itself name in cc (f, g))
     by false e f later = later
 
-none_later : (names : List (List ℕ)) (x : List ℕ) → is_among x names ≡ false → (i : ℕ) → i < length names → same_name x (get_or names i []) ≡ false
+none_later : (names : List (List ℕ)) (x : List ℕ) → is_among x names ≡ false → (i : ℕ) → i < length names → bytes_eq x (get_or names i []) ≡ false
 none_later [] x none i lt = absurd (omega arith)
 none_later (y ∷ names) x none zero lt = (neither _ _ none).0
 none_later (y ∷ names) x none (suc i) lt = none_later names x (neither _ _ none).1 i (omega arith)

@@ -10,7 +10,7 @@ use Rattle.std.proofs.lemmas.Slice.Eq.{bytes_eq-Decides}
 use Rattle.mm_draft.specs.Drafts as draft
 use Rattle.mm_draft.specs.Drafts.{Entry, Draft, place_in, pointers_of}
 use Rattle.mm_draft.specs.Faults.{lines_from}
-use Rattle.mm_object.specs.Objects.{Segment, Object, IsSegment, same_name, is_among, are_apart, names_of, words_of}
+use Rattle.mm_object.specs.Objects.{Segment, Object, IsSegment, is_among, are_apart, names_of, words_of}
 use Rattle.mm_model.proofs.ImageBytes.Rising.{both}
 use Rattle.mm_model.proofs.ImageBytes.Clean.{neither}
 use Rattle.mm_object.proofs.Bools.{is_false}
@@ -53,17 +53,17 @@ still_new k (x ∷ segments) s name h other = by (bytes_eq name x.name) h (λ e.
     by false e later = later e
 
 -- two names differ in their bytes
-pub other_bytes : (a b : List ℕ) → same_name a b ≡ false → bytes_eq b a ≡ false
+pub other_bytes : (a b : List ℕ) → bytes_eq a b ≡ false → bytes_eq b a ≡ false
 other_bytes a b e = is_false (bytes_eq b a) (λ h.
     let same : b ≡ a = (bytes_eq-Decides b a).0 h in
-    let here : same_name a b ≡ true = ap (same_name a) same ∙ same_itself a in
+    let here : bytes_eq a b ≡ true = ap (bytes_eq a) same ∙ same_itself a in
     absurd (cc (here, e)))
 
 all_new : (before : List draft.Segment) (s : draft.Segment) (segments : List Segment) → AllByRecursion (IsNew before) segments → is_among s.name (names_of segments) ≡ false →
     AllByRecursion (IsNew (before ++ s ∷ [])) segments
 all_new before s [] new other = tt
 all_new before s (x ∷ segments) new other =
-    let parts = neither (same_name s.name x.name) (is_among s.name (names_of segments)) other in
+    let parts = neither (bytes_eq s.name x.name) (is_among s.name (names_of segments)) other in
     (still_new 0 before s x.name new.0 (other_bytes s.name x.name parts.0), all_new before s segments new.1 parts.1)
 
 -- 2. Segments of an object.

@@ -4,7 +4,7 @@ use Rattle.std.proofs.Common.{if◌then◌else◌, List, [], ◌∷◌, ◌++◌
 use Rattle.std.proofs.Common.{negsuc, FitsSigned, refl, arith, length-append}
 use Rattle.std.specs.Prelude.{decimal}
 use Rattle.std.specs.Int.{w32}
-use Rattle.std.specs.Fmt.{digit_glyph}
+use Rattle.std.specs.Fmt.{digits, digit_glyph, signed_decimal}
 use Rattle.std.specs.List.{flat_map, list_all, AllByRecursion}
 use Rattle.std.proofs.lemmas.Fmt.{length-decimal-le}
 use Rattle.std.proofs.lemmas.Int.{ints}
@@ -40,12 +40,14 @@ use Rattle.mm_object.specs.declared.thread.Thread.{Thread}
 use Rattle.mm_object.specs.Lookups.{name_of_target, reloc_at}
 use Rattle.mm_object.specs.Names.{has_form, is_name}
 use Rattle.mm_object.specs.Objects.{Segment, Object, IsObject, IsSegment, words_of, names_of, is_handler, is_target, is_value, is_thread}
-use Rattle.mm_disasm.specs.Canonical.{perm_text, pre_text, post_text, how_text, register_text, signed_text, digits_of}
+use Rattle.mm_disasm.specs.Canonical.{perm_text, pre_text, post_text, how_text, register_text}
 use Rattle.mm_disasm.specs.Canonical.{short_hex, long_hex, operand_text, further_text, operands_text, operation_text}
 use Rattle.mm_disasm.specs.Canonical.{pointer_text, bits_text, integer_text, word_by, mark_text, word_line, words_text}
 use Rattle.mm_disasm.specs.Canonical.{segment_line, segment_text, segments_text, handler_text, thread_line, value_text}
 use Rattle.mm_disasm.specs.Canonical.{is_zero, register_line, registers_text, thread_text, spare_line, canonical}
 use Rattle.mm_disasm.specs.Laws.{CanonicalTextsAreSources}
+use Rattle.mm_disasm.proofs.LinesNames.{IsKnown, known, relocated}
+use Rattle.mm_disasm.proofs.ShortHex.{at_most_five}
 
 -- 1. Words of the language.
 
@@ -79,28 +81,21 @@ small_length r lt = length-decimal-le 2 r (omega arith) (omega arith) (omega ari
 register_length : (r : ℕ) → r < 16 → length (register_text r) ≤ 3
 register_length r lt = omega (arith, small_length r (omega arith), length-append (codes "r") (decimal r))
 
-signed_length : (n : ℤ) → FitsSigned w32 n → length (signed_text n) ≤ 11
+signed_length : (n : ℤ) → FitsSigned w32 n → length (signed_decimal n) ≤ 11
 signed_length (pos n) h =
     let small : n < 2 ^ 31 = omega (arith, ints) in
     omega (arith, length-decimal-le 10 n (omega arith) (omega arith) (omega arith))
 signed_length (negsuc n) h =
     let small : n < 2 ^ 31 = omega (arith, ints) in
-    omega (arith, length-decimal-le 10 (n + 1) (omega arith) (omega arith) (omega arith), length-append (codes "-") (decimal (n + 1)))
+    omega (arith, length-decimal-le 10 (suc n) (omega arith) (omega arith) (omega arith))
 
 hex_length : (k n : ℕ) → length (hex k n) ≡ k
 unfolding hex
 hex_length zero n = refl
 hex_length (suc k) n = omega (arith, hex_length k (n / 16), length-append (hex k (n / 16)) (digit_glyph false (n % 16) ∷ []))
 
-short_length : (n : ℕ) → length (short_hex n) ≤ 7
-short_length n = omega (arith, length-append (codes "0x") (hex (digits_of n) n), hex_length (digits_of n) n, few (nat_lt n 0x10) (nat_lt n 0x100) (nat_lt n 0x1000) (nat_lt n 0x10000))
-  where
-    few : (a b c d : Bool) → (if a then 1 else if b then 2 else if c then 3 else if d then 4 else 5) ≤ 5
-    few true b c d = omega arith
-    few false true c d = omega arith
-    few false false true d = omega arith
-    few false false false true = omega arith
-    few false false false false = omega arith
+short_length : (n : ℕ) → n < 2 ^ 20 → length (short_hex n) ≤ 7
+short_length n h = omega (arith, length-append (codes "0x") (digits 16 false n), at_most_five n h)
 
 long_length : (n : ℕ) → length (long_hex n) ≡ 18
 long_length n = omega (arith, length-append (codes "0x") (hex 16 n), hex_length 16 n)
@@ -190,9 +185,9 @@ module _ (o : Object) (is : IsObject o) where
   unfolding name_of_target
   target_length t = named_short o.segments t.index is.segments
 
-  pointer_length : (p : Perm) (t : Target) → length (pointer_text o p t) ≤ 43
+  pointer_length : (p : Perm) (t : Target) → IsKnown o t → length (pointer_text o p t) ≤ 43
   unfolding pointer_text
-  pointer_length p t =
+  pointer_length p t h =
       let a : List ℕ = perm_text p ++ codes " " in
       let b : List ℕ = a ++ name_of_target o t in
       let c : List ℕ = b ++ codes "+" in
@@ -200,7 +195,7 @@ module _ (o : Object) (is : IsObject o) where
         arith,
         perm_length p,
         target_length t,
-        short_length t.addend,
+        short_length t.addend h.addend,
         length-append (perm_text p) (codes " "),
         length-append a (name_of_target o t),
         length-append b (codes "+"),
@@ -211,10 +206,10 @@ module _ (o : Object) (is : IsObject o) where
   bits_length (Some i) bits e = instruction_length i (instr_of-spelled bits i e).0
   bits_length None bits e = omega (arith, length-append (codes ".int ") (long_hex bits), long_length bits)
 
-  content_length : (found : Option Reloc) (bits : ℕ) → length (word_by o found bits) ≤ 48
+  content_length : (found : Option Reloc) (bits : ℕ) → ((r : Reloc) → found ≡ Some r → IsKnown o r.target) → length (word_by o found bits) ≤ 48
   unfolding integer_text
-  content_length (Some r) bits = omega (arith, length-append (codes ".ptr ") (pointer_text o r.perm r.target), pointer_length r.perm r.target)
-  content_length None bits = bits_length (instr_of bits) bits refl
+  content_length (Some r) bits h = omega (arith, length-append (codes ".ptr ") (pointer_text o r.perm r.target), pointer_length r.perm r.target (h r refl))
+  content_length None bits h = bits_length (instr_of bits) bits refl
 
   mark_length : (full : Bool) → length (mark_text full) ≤ 7
   mark_length true = omega arith
@@ -224,7 +219,7 @@ module _ (o : Object) (is : IsObject o) where
   unfolding word_line
   word_length segment k item =
       let by : List ℕ = word_by o (reloc_at o segment k) item.bits in
-      omega (arith, mark_length item.full, content_length (reloc_at o segment k) item.bits, length-append (mark_text item.full) by, length-append (mark_text item.full ++ by) newline)
+      omega (arith, mark_length item.full, content_length (reloc_at o segment k) item.bits (λ r e. relocated o segment k r is e), length-append (mark_text item.full) by, length-append (mark_text item.full ++ by) newline)
 
   words_length : (segment k : ℕ) (items : List Item) → length (words_text o segment k items) ≤ 56 * length items
   words_length segment k [] = omega arith
@@ -270,13 +265,13 @@ module _ (o : Object) (is : IsObject o) where
       let low : n < 16 = let parts = both (nat_lt n 16) _ h in grind (arith, nat_tests, parts.0) in
       omega (arith, small_length n (omega (arith, low)))
 
-  value_length : (v : Value) → length (value_text o v) ≤ 47
-  value_length (value.Int n) = omega (arith, length-append (codes "int ") (long_hex n), long_length n)
-  value_length (value.Ptr perm t) = omega (arith, length-append (codes "ptr ") (pointer_text o perm t), pointer_length perm t)
+  value_length : (v : Value) → is_value o.segments (length o.externals) v ≡ true → length (value_text o v) ≤ 47
+  value_length (value.Int n) h = omega (arith, length-append (codes "int ") (long_hex n), long_length n)
+  value_length (value.Ptr perm t) h = omega (arith, length-append (codes "ptr ") (pointer_text o perm t), pointer_length perm t (known o t is h))
 
-  register_line_length : (k : ℕ) (v : Value) → k < 16 → length (register_line o k v) ≤ 56
+  register_line_length : (k : ℕ) (v : Value) → k < 16 → is_value o.segments (length o.externals) v ≡ true → length (register_line o k v) ≤ 56
   unfolding register_line
-  register_line_length k v lt = by (is_zero v)
+  register_line_length k v lt good = by (is_zero v)
     where
       by : (z : Bool) → length (if z then [] else codes ".reg " ++ decimal k ++ codes " " ++ value_text o v ++ newline) ≤ 56
       by true = omega arith
@@ -287,20 +282,21 @@ module _ (o : Object) (is : IsObject o) where
           omega (
             arith,
             small_length k (omega (arith, lt)),
-            value_length v,
+            value_length v good,
             length-append (codes ".reg ") (decimal k),
             length-append a (codes " "),
             length-append b (value_text o v),
             length-append c newline,
           )
 
-  registers_length : (k : ℕ) (values : List Value) → k + length values ≤ 16 → length (registers_text o k values) ≤ 56 * length values
-  registers_length k [] le = omega arith
-  registers_length k (v ∷ values) le =
-      omega (arith, register_line_length k v (omega arith), registers_length (k + 1) values (omega arith), length-append (register_line o k v) (registers_text o (k + 1) values))
+  registers_length : (k : ℕ) (values : List Value) → k + length values ≤ 16 → list_all (is_value o.segments (length o.externals)) values ≡ true → length (registers_text o k values) ≤ 56 * length values
+  registers_length k [] le good = omega arith
+  registers_length k (v ∷ values) le good =
+      let two = both (is_value o.segments (length o.externals) v) (list_all (is_value o.segments (length o.externals)) values) good in
+      omega (arith, register_line_length k v (omega arith) two.0, registers_length (k + 1) values (omega arith) two.1, length-append (register_line o k v) (registers_text o (k + 1) values))
 
-  thread_line_length : (t : Thread) → t.slot < 16 → t.group < 16 → is_handler t.slot t.handler ≡ true → length (thread_line o t) ≤ 63
-  thread_line_length t slot group handler =
+  thread_line_length : (t : Thread) → t.slot < 16 → t.group < 16 → is_handler t.slot t.handler ≡ true → IsKnown o t.target → length (thread_line o t) ≤ 63
+  thread_line_length t slot group handler aim =
       let a : List ℕ = codes ".thread " ++ decimal t.slot in
       let b : List ℕ = a ++ codes " " in
       let c : List ℕ = b ++ decimal t.group in
@@ -313,7 +309,7 @@ module _ (o : Object) (is : IsObject o) where
         small_length t.slot (omega (arith, slot)),
         small_length t.group (omega (arith, group)),
         handler_length t.slot t.handler handler,
-        pointer_length t.perm t.target,
+        pointer_length t.perm t.target aim,
         length-append (codes ".thread ") (decimal t.slot),
         length-append a (codes " "),
         length-append b (decimal t.group),
@@ -334,7 +330,7 @@ module _ (o : Object) (is : IsObject o) where
       let numbers = both (nat_lt t.slot 16) (nat_lt t.group 16) handlers.0 in
       let slot : t.slot < 16 = grind (arith, nat_tests, numbers.0) in
       let group : t.group < 16 = grind (arith, nat_tests, numbers.1) in
-      omega (arith, whole, thread_line_length t slot group handlers.1, registers_length 0 t.regs (omega (arith, whole)), length-append (thread_line o t) (registers_text o 0 t.regs))
+      omega (arith, whole, thread_line_length t slot group handlers.1 (known o t.target is aims.1), registers_length 0 t.regs (omega (arith, whole)) all.1, length-append (thread_line o t) (registers_text o 0 t.regs))
 
   threads_length : (threads : List Thread) → list_all (is_thread o.segments (length o.externals)) threads ≡ true → AllByRecursion (λ (t : Thread). length t.regs ≡ 16) threads →
       length (flat_map (thread_text o) threads) ≤ 959 * length threads

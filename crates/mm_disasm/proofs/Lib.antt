@@ -1,6 +1,6 @@
 pub mod Saying
 pub mod Numbering
-pub mod Signs
+pub mod ShortHex
 pub mod Operands
 pub mod Targets
 pub mod LinesTokens

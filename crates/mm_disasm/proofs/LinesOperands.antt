@@ -1,6 +1,7 @@
 -- Operands are read as they are written.
 use Rattle.std.proofs.Common.{◌≡◌, ℕ, suc, ◌+◌, ◌-◌, ◌%◌, ◌^◌, ◌<◌, ◌≤◌, true, false, nat_le, List, [], ◌∷◌, ◌++◌, map, fold, codes, Some, Result, Ok, ℤ, pos, negsuc, FitsSigned, refl, ap, ◌∙◌, arith}
 use Rattle.std.specs.List.{flat_map, AllByRecursion}
+use Rattle.std.specs.Fmt.{signed_decimal}
 use Rattle.std.specs.Int.{w32, cast_signed}
 use Rattle.std.proofs.lemmas.Bool.Decides.{nat_tests}
 use Rattle.std.proofs.lemmas.Int.{to_z_pos, to_z-of_z}
@@ -27,14 +28,14 @@ use Rattle.mm_line.specs.Reading.{between, immediate_of, modulo}
 use Rattle.mm_line.specs.Operands.{with_operand, operand_at, comma_of, more_at, operands_at}
 use Rattle.mm_line.proofs.Registers.{register_again}
 use Rattle.mm_line.proofs.Written.{name_read, comma_read}
-use Rattle.mm_disasm.specs.Canonical.{register_text, signed_text, pre_text, post_text, how_text, operand_text, further_text, operands_text}
+use Rattle.mm_disasm.specs.Canonical.{register_text, pre_text, post_text, how_text, operand_text, further_text, operands_text}
 use Rattle.mm_disasm.proofs.LinesTokens.{name_byte, begins, digits_go_on, blank, decimal_token, negative_token}
 
 -- 1. The token of an operand.
 
 abbrev pub signed_token : ℤ → Token
 signed_token (pos n) = Number false n
-signed_token (negsuc n) = Number true (n + 1)
+signed_token (negsuc n) = Number true (suc n)
 
 abbrev pub operand_token : Operand → Token
 operand_token (Imm n) = signed_token n
@@ -51,9 +52,9 @@ is_register_name r h = digits_go_on r (omega arith)
 register_read : (r : ℕ) (rest : List ℕ) → r < 16 → begins name_byte rest ≡ false → next_token (register_text r ++ rest) ≡ written Name (register_text r) rest
 register_read r rest h stop = name_read (register_text r) rest (is_register_name r h) stop
 
-signed_read : (z : ℤ) (rest : List ℕ) → FitsSigned w32 z → begins name_byte rest ≡ false → next_token (signed_text z ++ rest) ≡ written (signed_token z) (signed_text z) rest
+signed_read : (z : ℤ) (rest : List ℕ) → FitsSigned w32 z → begins name_byte rest ≡ false → next_token (signed_decimal z ++ rest) ≡ written (signed_token z) (signed_decimal z) rest
 signed_read (pos n) rest h stop = decimal_token n rest (omega arith) stop
-signed_read (negsuc n) rest h stop = negative_token (n + 1) rest (omega arith) stop
+signed_read (negsuc n) rest h stop = negative_token (suc n) rest (omega arith) stop
 
 pre_read : (p : Pre) (rest : List ℕ) → begins name_byte rest ≡ false → next_token (pre_text p ++ rest) ≡ written Name (pre_text p) rest
 pre_read pre.Any rest stop = name_read (codes "any") rest refl stop
@@ -99,9 +100,9 @@ immediate_again (pos n) text rest h =
     let same : cast_signed w32 (modulo (2 ^ 32) false n) ≡ pos n = ap (cast_signed w32) small ∙ to_z_pos w32 n (omega arith) in
     rw (at_most n (2 ^ 32 - 1) (omega arith)) (ap Ok same)
 immediate_again (negsuc n) text rest h =
-    let small : (2 ^ 32 - (n + 1)) % 2 ^ 32 ≡ 2 ^ 32 - suc n = omega arith in
-    let same : cast_signed w32 (modulo (2 ^ 32) true (n + 1)) ≡ negsuc n = ap (cast_signed w32) small ∙ to_z-of_z w32 (negsuc n) h in
-    rw (at_most (n + 1) (2 ^ 31) (omega arith)) (ap Ok same)
+    let small : (2 ^ 32 - suc n) % 2 ^ 32 ≡ 2 ^ 32 - suc n = omega arith in
+    let same : cast_signed w32 (modulo (2 ^ 32) true (suc n)) ≡ negsuc n = ap (cast_signed w32) small ∙ to_z-of_z w32 (negsuc n) h in
+    rw (at_most (suc n) (2 ^ 31) (omega arith)) (ap Ok same)
 
 signed_value : (z : ℤ) (c : Code) (text rest : List ℕ) → FitsSigned w32 z → with_operand (kind_of (Distance z)) c (written (signed_token z) text rest) ≡ Ok (holding c (Distance z))
 signed_value (pos n) c text rest h = rw (immediate_again (pos n) text rest h) refl
@@ -113,8 +114,8 @@ operand_value (Rd r) c rest h = rw (register_again r h) refl
 operand_value (EvtRd r) c rest h = let small : r < 16 = omega arith in rw (register_again r small, at_most r 12 h) refl
 operand_value (Ra r) c rest h = rw (register_again r h) refl
 operand_value (Rb r) c rest h = rw (register_again r h) refl
-operand_value (Imm n) c rest h = rw (immediate_again n (signed_text n) rest h) refl
-operand_value (Distance n) c rest h = signed_value n c (signed_text n) rest h
+operand_value (Imm n) c rest h = rw (immediate_again n (signed_decimal n) rest h) refl
+operand_value (Distance n) c rest h = signed_value n c (signed_decimal n) rest h
 operand_value (RegisterNumber r) c rest h = rw (between_again 0 15 r (omega arith) (omega arith)) refl
 operand_value (operand.Pre pre.Any) c rest h = refl
 operand_value (operand.Pre pre.Full) c rest h = refl

@@ -1,8 +1,8 @@
 -- No line of a canonical text has a newline in it.
-use Rattle.std.proofs.Common.{◌≡◌, ℕ, ◌+◌, ◌^◌, ◌<◌, ◌≤◌, Bool, true, false, not, ◌==◌, List, [], ◌∷◌, ◌++◌, length, codes, Option, Some, None, ℤ, pos, negsuc, FitsSigned, refl, arith}
+use Rattle.std.proofs.Common.{◌≡◌, ℕ, suc, ◌+◌, ◌^◌, ◌<◌, ◌≤◌, Bool, true, false, not, ◌==◌, List, [], ◌∷◌, ◌++◌, length, codes, Option, Some, None, ℤ, pos, negsuc, FitsSigned, refl, arith}
 use Rattle.std.specs.List.{list_all, flat_map, AllByRecursion}
 use Rattle.std.specs.Char.{is_digit}
-use Rattle.std.specs.Fmt.{decimal}
+use Rattle.std.specs.Fmt.{decimal, digits, signed_decimal}
 use Rattle.std.specs.Int.{w32}
 use Rattle.std.proofs.lemmas.Bool.Decides.{nat_tests}
 use Rattle.mm_word.specs.declared.perm.Perm.{Perm}
@@ -28,11 +28,11 @@ use Rattle.mm_object.specs.declared.thread.Value.TheVariants as value
 use Rattle.mm_object.specs.declared.thread.Thread.{Thread}
 use Rattle.mm_object.specs.Lookups.{name_of_target, reloc_at}
 use Rattle.mm_object.specs.Objects.{Segment, Object, IsSegment, IsObject, IsNumber, is_handler, is_value, is_thread}
-use Rattle.mm_disasm.specs.Canonical.{perm_text, signed_text, digits_of, short_hex, operand_text, further_text}
+use Rattle.mm_disasm.specs.Canonical.{perm_text, short_hex, operand_text, further_text}
 use Rattle.mm_disasm.specs.Canonical.{operands_text, operation_text, pointer_text, bits_text, integer_text, word_by}
 use Rattle.mm_disasm.specs.Canonical.{mark_text, handler_text, value_text, is_zero}
 use Rattle.mm_disasm.proofs.Saying.{spare_of, begin_of, word_of, thread_of, register_of, word_lines, segment_lines, register_lines, thread_lines, object_lines}
-use Rattle.mm_disasm.proofs.LinesTokens.{all_append, name_byte, begins, all_of, are_decimal, are_hexadecimal, enough}
+use Rattle.mm_disasm.proofs.LinesTokens.{all_append, name_byte, begins, all_of, are_decimal, are_hexadecimal, are_short}
 use Rattle.mm_disasm.proofs.LinesNames.{is_word, IsKnown, relocated}
 use Rattle.mm_disasm.proofs.LinesThreads.{perm_named, IsWritten, is_written, thread_values, IsWrittenValue, is_written_value}
 use Rattle.mm_disasm.proofs.LinesWords.{named}
@@ -71,9 +71,9 @@ plain_name : (name : List ℕ) → is_name name ≡ true → is_plain name ≡ t
 plain_name [] h = cc
 plain_name (b ∷ bs) h = of_kind name_byte (b ∷ bs) refl (both _ (list_all name_byte (b ∷ bs)) h).1
 
-plain_signed : (z : ℤ) → FitsSigned w32 z → is_plain (signed_text z) ≡ true
+plain_signed : (z : ℤ) → FitsSigned w32 z → is_plain (signed_decimal z) ≡ true
 plain_signed (pos n) h = plain_decimal n (omega arith)
-plain_signed (negsuc n) h = plain_decimal (n + 1) (omega arith)
+plain_signed (negsuc n) h = plain_decimal (suc n) (omega arith)
 
 -- 2. Operations.
 
@@ -123,7 +123,7 @@ plain_pointer o p t h =
     let one = join (perm_text p) (codes " ") (plain_name (perm_text p) (perm_named p)) refl in
     let two = join (perm_text p ++ codes " ") name one (plain_name name h.name.form) in
     let three = join (perm_text p ++ codes " " ++ name) (codes "+") two refl in
-    join (perm_text p ++ codes " " ++ name ++ codes "+") (short_hex t.addend) three (plain_hex (digits_of t.addend) t.addend (enough t.addend h.addend).0)
+    join (perm_text p ++ codes " " ++ name ++ codes "+") (short_hex t.addend) three (of_digits 16 (digits 16 false t.addend) refl (are_short t.addend h.addend))
 
 plain_word_by : (o : Object) (r : Option Reloc) (bits : ℕ) → ((x : Reloc) → r ≡ Some x → IsKnown o x.target) → is_plain (word_by o r bits) ≡ true
 unfolding integer_text

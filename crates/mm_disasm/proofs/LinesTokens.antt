@@ -2,11 +2,10 @@
 use Rattle.std.proofs.Common.{◌≡◌, ℕ, zero, suc, ◌/◌, ◌%◌, ◌^◌, ◌<◌, ◌≤◌, Bool, true, false, not, ◌&&◌, ◌||◌, ◌==◌, nat_lt, List, [], ◌∷◌, ◌++◌, length, codes, refl, ap, ◌∙◌, arith}
 use Rattle.std.specs.List.{list_all}
 use Rattle.std.specs.Char.{digit_value, is_digit, is_ascii_alphabetic}
-use Rattle.std.specs.Fmt.{decimal, digit_glyph}
-use Rattle.std.specs.Str.Parse.{AllDigits, digits_value}
-use Rattle.std.proofs.lemmas.Bool.{ltb-true}
+use Rattle.std.specs.Fmt.{decimal, digits, digit_glyph}
+use Rattle.std.specs.Str.Parse.{AllDigits, IsNumeral, digits_value}
 use Rattle.std.proofs.lemmas.Bool.Decides.{nat_tests}
-use Rattle.std.proofs.lemmas.Fmt.{decimal_is_IsNumeral}
+use Rattle.std.proofs.lemmas.Fmt.{decimal_is_IsNumeral, digits_is_IsNumeral}
 use Rattle.std.proofs.lemmas.List.Folds.{list_all-append}
 use Rattle.std.proofs.lemmas.Int.Digits.{digits_push, digits_value_push}
 use Rattle.std.proofs.lemmas.Str.{digit_value-digit_char}
@@ -15,9 +14,8 @@ use Rattle.mm_text.proofs.HexDigits.{length-hex}
 use Rattle.mm_line.specs.declared.token.Token.TheVariants.{Number}
 use Rattle.mm_line.specs.Tokens.{number, next_token}
 use Rattle.mm_line.specs.Standing.{written}
-use Rattle.mm_line.proofs.Choices.{either}
 use Rattle.mm_line.proofs.Written.{blank_read, decimal_read, negative_read, hexadecimal_read}
-use Rattle.mm_disasm.specs.Canonical.{digits_of, short_hex, long_hex}
+use Rattle.mm_disasm.specs.Canonical.{short_hex, long_hex}
 
 pub less : (a b : ℕ) → a < b → nat_lt a b ≡ true
 less a b h = grind (arith, nat_tests)
@@ -91,6 +89,13 @@ hex_value (suc k) n h =
 pub are_hexadecimal : (k n : ℕ) → 0 < k → all_of (λ b. is_digit b 16) (hex k n) ≡ true
 are_hexadecimal k n some = form_of 16 (hex k n) (omega (arith, length-hex k n)) (all_hexadecimal k n)
 
+-- as few hexadecimal digits as a number needs
+short_numeral : (n : ℕ) → n < 2 ^ 20 → IsNumeral 16 (digits 16 false n) × (digits_value 16 (digits 16 false n) ≡ n)
+short_numeral n h = digits_is_IsNumeral 16 false (omega arith) (omega arith) n (omega arith)
+
+pub are_short : (n : ℕ) → n < 2 ^ 20 → all_of (λ b. is_digit b 16) (digits 16 false n) ≡ true
+are_short n h = let d = short_numeral n h in form_of 16 (digits 16 false n) d.0.0 d.0.1
+
 -- 2. Tokens.
 
 -- a blank before a token
@@ -128,17 +133,10 @@ hex_token k n rest some fits h stop =
     hexadecimal_read (hex k n) rest (are_hexadecimal k n some) stop
     ∙ ap (λ t. written t (codes "0x" ++ hex k n) rest) (ap (number false) (hex_value k n fits) ∙ positive n h)
 
--- so many digits as it needs
-pub enough : (n : ℕ) → n < 2 ^ 20 → (0 < digits_of n) × (n < 16 ^ digits_of n)
-enough n h =
-    either (λ k. (0 < k) × (n < 16 ^ k)) (nat_lt n 0x10) 1 _ (λ e. let l = ltb-true n 0x10 e in (omega arith, omega arith)) (λ _.
-    either (λ k. (0 < k) × (n < 16 ^ k)) (nat_lt n 0x100) 2 _ (λ e. let l = ltb-true n 0x100 e in (omega arith, omega arith)) (λ _.
-    either (λ k. (0 < k) × (n < 16 ^ k)) (nat_lt n 0x1000) 3 _ (λ e. let l = ltb-true n 0x1000 e in (omega arith, omega arith)) (λ _.
-    either (λ k. (0 < k) × (n < 16 ^ k)) (nat_lt n 0x10000) 4 5 (λ e. let l = ltb-true n 0x10000 e in (omega arith, omega arith)) (λ _.
-    (omega arith, omega arith)))))
-
 pub short_token : (n : ℕ) (rest : List ℕ) → n < 2 ^ 20 → begins (λ b. is_digit b 16) rest ≡ false → next_token (short_hex n ++ rest) ≡ written (Number false n) (short_hex n) rest
-short_token n rest h stop = let e = enough n h in hex_token (digits_of n) n rest e.0 e.1 (omega arith) stop
+short_token n rest h stop =
+    hexadecimal_read (digits 16 false n) rest (are_short n h) stop
+    ∙ ap (λ t. written t (short_hex n) rest) (ap (number false) (short_numeral n h).1 ∙ positive n (omega arith))
 
 pub long_token : (n : ℕ) (rest : List ℕ) → n < 2 ^ 64 → begins (λ b. is_digit b 16) rest ≡ false → next_token (long_hex n ++ rest) ≡ written (Number false n) (long_hex n) rest
 long_token n rest h stop = hex_token 16 n rest (omega arith) (omega arith) h stop

@@ -1,12 +1,11 @@
 -- All lines of a canonical text say what they are to say, so it means its object.
-use Rattle.std.proofs.Common.{◌≡◌, ℕ, ◌+◌, ◌^◌, ◌<◌, ◌≤◌, true, List, [], ◌∷◌, length, sym, subst, arith}
+use Rattle.std.proofs.Common.{◌≡◌, ℕ, ◌+◌, ◌^◌, ◌<◌, ◌≤◌, true, List, [], ◌∷◌, length, arith}
 use Rattle.std.specs.List.{list_all, AllByRecursion}
 use Rattle.mm_line.proofs.Choices.{both}
 use Rattle.mm_object.specs.declared.item.Item.{Item}
 use Rattle.mm_object.specs.declared.thread.Value.{Value}
 use Rattle.mm_object.specs.declared.thread.Thread.{Thread}
 use Rattle.mm_object.specs.Objects.{Segment, Object, IsSegment, IsObject, IsNumber, is_value, is_thread}
-use Rattle.mm_asm.specs.Faults.{Means}
 use Rattle.mm_disasm.specs.Canonical.{canonical}
 use Rattle.mm_disasm.specs.Laws.{CanonicalTextsMeanTheirObjects}
 use Rattle.mm_disasm.proofs.Speaking.{WordsSpeak, SegmentsSpeak, RegistersSpeak, ThreadSpeaks, Speaks}

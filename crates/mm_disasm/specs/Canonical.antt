@@ -1,6 +1,7 @@
 -- The canonical text of an object.
-use Rattle.std.specs.Prelude.{ℕ, ◌+◌, ◌==◌, nat_lt, Bool, true, false, if◌then◌else◌, List, [], ◌∷◌, ◌++◌, codes}
-use Rattle.std.specs.Prelude.{decimal, Option, Some, None, ℤ, pos, negsuc}
+use Rattle.std.specs.Prelude.{ℕ, ◌+◌, ◌==◌, Bool, true, false, if◌then◌else◌, List, [], ◌∷◌, ◌++◌, codes}
+use Rattle.std.specs.Prelude.{decimal, Option, Some, None}
+use Rattle.std.specs.Fmt.{digits, signed_decimal}
 use Rattle.std.specs.List.{flat_map}
 use Rattle.mm_word.specs.declared.perm.Perm.{Perm}
 use Rattle.mm_word.specs.declared.perm.Perm.TheVariants.{Ro, Rw, Xu, Xp, Eu, Ep, Key}
@@ -56,20 +57,9 @@ how_text Kill = codes "kill"
 abbrev pub register_text : ℕ → List ℕ
 register_text r = codes "r" ++ decimal r
 
--- a number in decimal, with a `-` if it is negative
-abbrev pub signed_text : ℤ → List ℕ
-signed_text (pos n) = decimal n
-signed_text (negsuc n) = codes "-" ++ decimal (n + 1)
-
--- the count of hexadecimal digits that a number below 2^20 needs
-abbrev pub digits_of : ℕ → ℕ
-digits_of n =
-    if nat_lt n 0x10 then 1 else if nat_lt n 0x100 then 2 else if nat_lt n 0x1000 then 3 else if nat_lt n 0x10000 then 4
-    else 5
-
--- a number below 2^20 in hexadecimal, in as few digits as it needs
+-- a number in hexadecimal, in as few digits as it needs
 abbrev pub short_hex : ℕ → List ℕ
-short_hex n = codes "0x" ++ hex (digits_of n) n
+short_hex n = codes "0x" ++ digits 16 false n
 
 -- a number in hexadecimal, in 16 digits
 abbrev pub long_hex : ℕ → List ℕ
@@ -82,8 +72,8 @@ operand_text (Rd r) = register_text r
 operand_text (EvtRd r) = register_text r
 operand_text (Ra r) = register_text r
 operand_text (Rb r) = register_text r
-operand_text (Imm n) = signed_text n
-operand_text (Distance n) = signed_text n
+operand_text (Imm n) = signed_decimal n
+operand_text (Distance n) = signed_decimal n
 operand_text (RegisterNumber r) = decimal r
 operand_text (operand.Pre p) = pre_text p
 operand_text (operand.Post p) = post_text p

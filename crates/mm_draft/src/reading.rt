@@ -2,7 +2,7 @@
 
 ghost use Rattle.mm_line.specs.Ranges.{IsOptionalBody, NamesItsClaim};
 ghost use Rattle.mm_draft.specs.Drafts.{add_maybe_label, add_body};
-ghost use Rattle.mm_draft.specs.Faults.{first_of, maybe_label_faults, body_faults, source_of, step, draft_of};
+ghost use Rattle.mm_draft.specs.Faults.{first_of, maybe_label_faults, body_faults, step, draft_of};
 ghost use Rattle.mm_draft.specs.Seen.{Reads, Leaves, unless};
 
 use crate::{Draft, DraftError, Failure, Source};

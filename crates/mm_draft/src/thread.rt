@@ -1,6 +1,6 @@
 //! Threads and their registers.
 
-ghost use Rattle.std.specs.Prelude.{◌≡◌, ◌==◌, ◌++◌, ◌∷◌, [], OnOk};
+ghost use Rattle.std.specs.Prelude.{◌≡◌, ◌==◌, OnOk};
 ghost use Rattle.std.specs.List.{list_any};
 
 use crate::Source;

@@ -82,13 +82,15 @@ ReadingIsNoSignal =
 abbrev pub NoForgery : Type 0
 NoForgery =
     reported forges (0 ∷ 0 ∷ 0 ∷ [])
-    ≡ codes "cycles 3\ngroup 0 output 0\nslot 0 turns 3 faulted 1 ip p3300000000100010\nr 1 p2300000000010000\nr 2 i2300000000010008\n"
+    ≡ codes "cycles 3\ngroup 0 output 0\nslot 0 turns 3 faulted 1 ip p3300000000100010\nr 1 p2300000000010000\n"
+    ++ codes "r 2 i2300000000010008\n"
 
 -- no third page fits into two frames, and a page that was removed is not found
 abbrev pub MapsFrames : Type 0
 MapsFrames =
     reported (maps (pointer Xp 12 0x100000)) (0 ∷ 0 ∷ 0 ∷ [])
-    ≡ codes "cycles 3\ngroup 0 output 0\nslot 0 turns 3 faulted 5 ip p4300000000100010\nr 1 i0000000000000200\nr 3 i0000000000000001\nr 4 i0000000000000101\nr 6 p2300000000101000\npage 00000000101 gone\n"
+    ≡ codes "cycles 3\ngroup 0 output 0\nslot 0 turns 3 faulted 5 ip p4300000000100010\nr 1 i0000000000000200\n"
+    ++ codes "r 3 i0000000000000001\nr 4 i0000000000000101\nr 6 p2300000000101000\npage 00000000101 gone\n"
 
 abbrev pub MapIsPrivileged : Type 0
 MapIsPrivileged = outcomes (maps code) (0 ∷ []) ≡ Faulted Priv ∷ []
@@ -152,7 +154,8 @@ TakesEvents =
     reported handles (1 ∷ 0 ∷ 2 ∷ 2 ∷ 2 ∷ 2 ∷ [])
     ≡ codes "cycles 6\ngroup 0 output 0\nslot 0 turns 1 taken ip p3300000000100000\n"
     ++ codes "group 1 output 0\nslot 1 turns 1 running ip p3300000000100008\n"
-    ++ codes "group 2 output 0\nslot 2 turns 4 halted ip p3300000000101018\nr 0 i000000000000010b\nr 1 p3300000000100000\nr 3 i0000000000000005\n"
+    ++ codes "group 2 output 0\nslot 2 turns 4 halted ip p3300000000101018\nr 0 i000000000000010b\n"
+    ++ codes "r 1 p3300000000100000\nr 3 i0000000000000005\n"
     ++ codes "r 4 i000000000000000b\nr 5 p3300000000100000\nr 7 i0000000000000005\nr 8 i0000000000000001\n"
 
 -- a slot whose event was not taken cannot be resumed
@@ -174,20 +177,25 @@ AbsentSlotsIdle = outcomes two_groups (9 ∷ 9 ∷ []) ≡ Idle ∷ Idle ∷ []
 abbrev pub TracesTheGate : Type 0
 TracesTheGate =
     trace (start gated) (0 ∷ 1 ∷ 1 ∷ 1 ∷ 1 ∷ 1 ∷ [])
-    ≡ codes "t 0 1 did fetch 00000000100080 store 00000000100100\nt 1 1 did fetch 00000000100000 loadset 00000000100100\nt 1 2 did fetch 00000000100008\n"
-    ++ codes "t 1 3 did fetch 00000000100010\nt 1 4 did fetch 00000000100018 enter p51800000001000c8\nt 1 5 did fetch 000000001000c8\n"
+    ≡ codes "t 0 1 did fetch 00000000100080 store 00000000100100\n"
+    ++ codes "t 1 1 did fetch 00000000100000 loadset 00000000100100\nt 1 2 did fetch 00000000100008\n"
+    ++ codes "t 1 3 did fetch 00000000100010\nt 1 4 did fetch 00000000100018 enter p51800000001000c8\n"
+    ++ codes "t 1 5 did fetch 000000001000c8\n"
 
 abbrev pub WaitsInTheTrace : Type 0
 WaitsInTheTrace =
     trace (start gated) (1 ∷ 1 ∷ [])
-    ≡ codes "t 1 1 blocked fetch 00000000100000 loadset 00000000100100\nt 1 2 blocked fetch 00000000100000 loadset 00000000100100\n"
+    ≡ codes "t 1 1 blocked fetch 00000000100000 loadset 00000000100100\n"
+    ++ codes "t 1 2 blocked fetch 00000000100000 loadset 00000000100100\n"
 
 -- the whole run of the gated counter, in round robin
 abbrev pub CountsBehindTheGate : Type 0
 CountsBehindTheGate =
     reported gated (robin_from (start gated) None 10000)
-    ≡ codes "cycles 36\ngroup 0 output 0\nslot 0 turns 9 halted ip p31800000001000a0\nr 1 p20c0000000100100\nr 2 i0000000000000003\n"
-    ++ codes "group 1 output 2\no 4142\nslot 1 turns 27 halted ip p31c0000000100030\nr 1 p20c0000000100100\nr 2 i0000000000000042\n"
+    ≡ codes "cycles 36\ngroup 0 output 0\nslot 0 turns 9 halted ip p31800000001000a0\nr 1 p20c0000000100100\n"
+    ++ codes "r 2 i0000000000000003\n"
+    ++ codes "group 1 output 2\no 4142\nslot 1 turns 27 halted ip p31c0000000100030\nr 1 p20c0000000100100\n"
+    ++ codes "r 2 i0000000000000042\n"
     ++ codes "r 5 p51800000001000c8\nr 6 p31c0000000100020\nr 8 i0000000000000002\n"
     ++ codes "cell 00000000100100 i0000000000000002 empty\ncell 00000000100108 i0000000000000002 full\n"
 
@@ -197,7 +205,8 @@ CountsBehindTheGate =
 abbrev pub Issues : Type 0
 Issues =
     reported (splits 2 true) (0 ∷ [])
-    ≡ codes "cycles 1\ngroup 0 output 0\nslot 0 turns 1 running ip p3300000000100008\nr 1 p10c0000000101000\nr 2 empty\npending 2 i0000000000000007\n"
+    ≡ codes "cycles 1\ngroup 0 output 0\nslot 0 turns 1 running ip p3300000000100008\nr 1 p10c0000000101000\n"
+    ++ codes "r 2 empty\npending 2 i0000000000000007\n"
 
 -- an issued load is delivered by a turn that needs its register, or by the slot's port
 abbrev pub Delivers : Type 0

@@ -19,7 +19,7 @@ use Rattle.mm_explore.specs.FoundLists.{FoundList, Holds}
 use Rattle.mm_explore.specs.Kept.{Parts, output_part, parts_of, parts_from, kept, first_number}
 use Rattle.mm_explore.proofs.Keepables.{parts_again}
 use Rattle.mm_explore.specs.declared.parts.Parts as code
-use Rattle.mm_explore.specs.Results.{OutcomeFound, output_text, outcome_found_lines}
+use Rattle.mm_explore.specs.Results.{output_text, outcome_found_lines}
 use Rattle.mm_explore.specs.Results as results
 use Rattle.mm_explore.specs.Texts as texts
 use Rattle.mm_explore.specs.Texts.{end_text, by_line}

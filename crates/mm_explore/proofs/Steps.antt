@@ -28,7 +28,7 @@ use Rattle.mm_explore.specs.FoundLists.{FoundList, led_by, Holds, Looks}
 use Rattle.mm_explore.specs.Kept.{Parts, parts_of, parts_from, kept}
 use Rattle.mm_explore.specs.MoveLists.{moves_in}
 use Rattle.mm_explore.specs.Noting.{Noted, Ended}
-use Rattle.mm_explore.specs.Searching.{GoesOn, IsFull, HasCome, IsBefore, IsNode, IsWithin, node_schedule, turns_before, turns_from, StaysBy, AllStay, all_after, Met, KeptBy}
+use Rattle.mm_explore.specs.Searching.{GoesOn, IsFull, HasCome, IsBefore, IsWithin, node_schedule, turns_before, turns_from, StaysBy, AllStay, all_after, Met, KeptBy}
 use Rattle.mm_explore.proofs.Keepables.{parts_again}
 use Rattle.mm_explore.proofs.KeptRuns.{kept_alike, kept_apart, runs_state_of}
 use Rattle.mm_explore.proofs.Members.{in_map, map_in, all_at}

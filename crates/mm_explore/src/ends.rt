@@ -1,6 +1,6 @@
 //! The outcomes that were found.
 
-ghost use Rattle.std.specs.Prelude.{◌≡◌, ℕ, ◌+◌, ◌<◌, ◌^◌, ◌++◌, IfOk, OnOk, nat_eq, length, map};
+ghost use Rattle.std.specs.Prelude.{◌≡◌, ◌+◌, ◌<◌, ◌^◌, ◌++◌, IfOk, OnOk, nat_eq, map};
 ghost use Rattle.std.specs.List.{AllByRecursion, flat_map};
 ghost use Rattle.indexmap.specs.IndexMap.{get, insert_entry, IsUnique};
 ghost use lib.Pointwise.{pointwise};

@@ -1,6 +1,6 @@
 //! A memory that is put to configurations, and what of it is not as in the image.
 
-ghost use Rattle.std.specs.Prelude.{◌≡◌, ℕ, ◌%◌, ◌<◌, ◌≤◌, ◌^◌, true, IfOk, OnOk, IfSome, length, map, nat_eq};
+ghost use Rattle.std.specs.Prelude.{◌≡◌, ◌%◌, ◌<◌, ◌≤◌, ◌^◌, true, IfOk, OnOk, IfSome, length, map, nat_eq};
 ghost use Rattle.std.specs.List.{AllByRecursion};
 ghost use Rattle.std.specs.Option.{option_map};
 ghost use lib.Pointwise.{pointwise};

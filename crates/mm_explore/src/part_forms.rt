@@ -3,9 +3,8 @@
 ghost use Rattle.std.specs.Prelude.{◌≡◌, ◌<◌, ◌^◌, ◌++◌, ℕ, List, [], ◌∷◌, OnOk, IfOk, length};
 ghost use Rattle.std.specs.Option.{option_map};
 ghost use Rattle.std.specs.List.{flat_map};
-ghost use Rattle.mm_thread.specs.Output.{Output as OutputValue};
 ghost use Rattle.mm_explore.specs.Kept.{pointer_or_key as pointer_or_key_of, event_form, event_from, events_form};
-ghost use Rattle.mm_explore.specs.Kept.{events_from, bytes_by, output_form, outputs_form, outputs_from};
+ghost use Rattle.mm_explore.specs.Kept.{events_from, bytes_by, outputs_from};
 ghost use Rattle.mm_explore.specs.Kept.{first_number, behind, numbers_by, pages_from, listed};
 ghost use Rattle.mm_explore.specs.Kept.{cell_form, cell_of as cell_of_numbers, cells_from};
 

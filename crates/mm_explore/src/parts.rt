@@ -1,6 +1,6 @@
 //! The parts of a configuration, read from its numbers.
 
-ghost use Rattle.std.specs.Prelude.{◌≡◌, ◌++◌, ◌/◌, OnOk, IfOk, length, Bool, true};
+ghost use Rattle.std.specs.Prelude.{◌≡◌, ◌++◌, ◌/◌, OnOk, IfOk, length};
 ghost use Rattle.mm_model.specs.Flags.{flags};
 ghost use Rattle.std.specs.Option.{option_map};
 ghost use Rattle.mm_model.specs.Image.{start};

@@ -4,7 +4,6 @@ ghost use Rattle.std.specs.Prelude.{◌≡◌, ◌≤◌, ◌++◌, codes, decim
 ghost use Rattle.std.specs.List.{flat_map};
 ghost use Rattle.mm_io.specs.Sinks.{Writes};
 ghost use Rattle.mm_text.specs.Gathers.{Gathers};
-ghost use Rattle.mm_model.specs.Report.{group_line};
 ghost use Rattle.mm_explore.specs.Repeats.{leading as leading_of};
 ghost use Rattle.mm_explore.specs.Results.{explored_text, group_found_lines, fault_found_lines, outcome_found_lines};
 ghost use Rattle.mm_explore.specs.Results.{state_found_line, output_text};

@@ -1,5 +1,5 @@
 //! For each segment the nearest one above it.
-ghost use Rattle.std.specs.Prelude.{◌≡◌, ℕ, ◌<◌, ◌≤◌, IfOk, length, slice_index, max};
+ghost use Rattle.std.specs.Prelude.{◌≡◌, ◌<◌, ◌≤◌, IfOk, length, slice_index, max};
 ghost use Rattle.mm_flow.specs.Work.{IsAhead};
 ghost use Rattle.mm_flow.specs.Forest.{IsNested, IsForest, Climbed};
 

@@ -1,5 +1,5 @@
 //! All that groups reach in a graph.
-ghost use Rattle.std.specs.Prelude.{◌≡◌, ℕ, ◌^◌, ◌<◌, ◌≤◌, ◌↔◌, IfOk, length, slice_index};
+ghost use Rattle.std.specs.Prelude.{◌≡◌, ℕ, ◌^◌, ◌<◌, ◌↔◌, IfOk, length, slice_index};
 ghost use Rattle.std.specs.Int.{bit_at};
 ghost use Rattle.mm_flow.specs.Edges.{right_at};
 ghost use Rattle.mm_flow.specs.Flow.{Fits, IsFlow};

@@ -1,5 +1,5 @@
 //! Sharing edges: groups that share all that they have with other groups.
-ghost use Rattle.std.specs.Prelude.{◌≡◌, ℕ, ◌<◌, ◌≤◌, ◌↔◌, IfOk, length, slice_index};
+ghost use Rattle.std.specs.Prelude.{◌≡◌, ℕ, ◌<◌, ◌↔◌, IfOk, length};
 ghost use Rattle.std.specs.Int.{bit_at};
 ghost use Rattle.mm_flow.specs.Edges.{right_at, has_right};
 ghost use Rattle.mm_flow.specs.Sharing.{kept_mark, AreMarksAbove, AddsEdges, SharedBy, PropagatesShared};

@@ -1,5 +1,5 @@
 -- The header of an image file, row by row.
-use Rattle.std.specs.Prelude.{ℕ, ◌-◌, not, ◌||◌, ◌==◌, nat_lt, codes}
+use Rattle.std.specs.Prelude.{◌-◌, not, ◌||◌, ◌==◌, nat_lt, codes}
 use Rattle.mm_model.specs.Image.{slot_limit, frame_limit}
 use Rattle.mm_model.specs.Spelling.{mode_of}
 use Rattle.mm_format.specs.declared.header.Header.{Header}

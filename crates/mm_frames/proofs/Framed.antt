@@ -1,6 +1,6 @@
 -- What frames and pages are to one another, and the memory of frames after each call.
 use Rattle.std.proofs.Common.{◌≡◌, ℕ, ◌+◌, ◌*◌, slice_get, ◌<◌, ◌≤◌, Bool, true, false, cond, not, ◌==◌, nat_eq, nat_lt, List, [], length, slice_index_or, slice_set, Option, None, Some, is_some, refl}
-use Rattle.std.proofs.Common.{sym, ap, ◌∙◌, arith, eqb-true, eq-eqb, IsTrue}
+use Rattle.std.proofs.Common.{sym, ap, ◌∙◌, arith, eqb-true, IsTrue}
 use Rattle.std.specs.Option.{option_map}
 use Rattle.std.specs.Ordering.{nat_cmp}
 use Rattle.std.specs.FinMap.{put, is_sorted, nat_cmp-IsAntisymmetric}

@@ -1,5 +1,5 @@
 //! The pages of generated images: the code of each slot, and its data after it.
-ghost use Rattle.std.specs.Prelude.{◌≡◌, true, ◌+◌, ◌*◌, ◌≤◌, ◌<◌, ◌^◌, ◌++◌, length, replicate, IfOk, OnOk};
+ghost use Rattle.std.specs.Prelude.{◌≡◌, true, ◌+◌, ◌*◌, ◌<◌, ◌^◌, ◌++◌, length, replicate, IfOk, OnOk};
 ghost use Rattle.std.specs.List.{flat_map, range_with_len};
 ghost use Rattle.mm_model.specs.Memory.{zero_cell};
 ghost use Rattle.mm_gen.specs.Generated.{next_number, nth_number, code_page, data_page, loop as loop_of, code_cells};

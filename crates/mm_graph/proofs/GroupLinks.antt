@@ -1,9 +1,8 @@
 -- Links, one after the other.
 use Rattle.std.proofs.Common.{◌≡◌, ℕ, ◌<◌, inl, inr, List, length, get_or, sym, ◌∙◌, arith}
-use Rattle.std.specs.List.{Contains}
 use Rattle.mm_flow.specs.Flow.{Has}
 use Rattle.mm_model.specs.Slot.{Slot}
-use Rattle.mm_graph.specs.Linking.{IsLink, Handles, LinksTo, ServedBy, LinksOne}
+use Rattle.mm_graph.specs.Linking.{IsLink, ServedBy}
 use Rattle.mm_graph.specs.Nodes.{AreLinked}
 use Rattle.mm_graph.proofs.OneBits.{with_bit, with_bit-only, with_bit-keeps, with_bit-there, with_bit-length}
 

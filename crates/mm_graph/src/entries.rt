@@ -1,6 +1,6 @@
 //! The groups that may enter by each pointer.
 
-ghost use Rattle.std.specs.Prelude.{◌≡◌, All as Each, IfOk};
+ghost use Rattle.std.specs.Prelude.{All as Each, IfOk};
 ghost use Rattle.std.specs.List.{AllZip};
 ghost use Rattle.mm_graph.specs.Key.{IsKey, IsRising};
 ghost use Rattle.mm_graph.specs.Masks.{meaning, IsEntryMasks, IsEntrySeed};

@@ -7,7 +7,6 @@ ghost use Rattle.mm_graph.specs.Masks.{meaning};
 ghost use Rattle.mm_graph.specs.Parts.{HasNodes, IsBuilt};
 ghost use Rattle.mm_graph.specs.Marked.{IsMarked};
 ghost use Rattle.mm_model.specs.Spelling.{IsImage};
-ghost use Rattle.mm_model.specs.Image.{Image as ImageValue};
 
 use crate::above::parents_of;
 use crate::canonical_ptr::CanonicalPtr;
@@ -139,7 +138,7 @@ pub fn marked(alloc: Global, img: &Image, entries: &Entries) -> Result<Marks, Al
         links,
         start,
     } = graph;
-    // Nothing of them is needed any more, and there may be millions.
+    // They are no longer needed, and there may be millions.
     drop(found);
     let mut marks = start;
     saturate(alloc, &mut marks, &nodes, &targets, &parents, links)?;

@@ -1,7 +1,7 @@
 //! The nodes of a graph.
 
-ghost use Rattle.std.specs.Prelude.{◌≡◌, ◌<◌, ◌≤◌, ◌^◌, ◌+◌, ◌⊎◌, ℕ, All, IfOk, IfSome, MatchOption, Contains, None};
-ghost use Rattle.std.specs.Prelude.{Some, true, false, length, slice_index};
+ghost use Rattle.std.specs.Prelude.{◌≡◌, ◌<◌, ◌≤◌, ◌^◌, ◌+◌, ◌⊎◌, ℕ, All, IfOk, IfSome, Contains, None};
+ghost use Rattle.std.specs.Prelude.{Some, true, false, length};
 ghost use Rattle.mm_word.specs.Pointer.{base_of};
 ghost use Rattle.mm_graph.specs.declared.canonical_ptr.CanonicalPtr.{CanonicalPtr as KeyType};
 ghost use Rattle.mm_graph.specs.Key.{IsKey, IsRising, key_at, pointer_at, entry_key, loads_words, stores_words};

@@ -1,6 +1,6 @@
 //! The pointers in slots.
 
-ghost use Rattle.std.specs.Prelude.{◌≡◌, ◌++◌, ◌∷◌, All, OnOk, IfOk};
+ghost use Rattle.std.specs.Prelude.{◌≡◌, ◌++◌, All, OnOk, IfOk};
 ghost use Rattle.mm_word.specs.declared.word.Word.TheVariants.{Ptr};
 ghost use Rattle.mm_graph.specs.Key.{IsKey};
 ghost use Rattle.mm_graph.specs.Found.{seeds_of, slot_seeds, word_seeds, seed_at};

@@ -1,6 +1,6 @@
 //! The records of pages of an image file.
 
-ghost use Rattle.std.specs.Prelude.{◌≡◌, ◌==◌, ◌+◌, ◌/◌, ◌%◌, ◌^◌, ◌<◌, true, IfOk, length, map, vec_len};
+ghost use Rattle.std.specs.Prelude.{◌≡◌, ◌+◌, ◌/◌, ◌%◌, ◌<◌, IfOk, length, map, vec_len};
 ghost use Rattle.mm_word.specs.declared.word.Cell.{Cell as CellValue};
 ghost use Rattle.mm_model.specs.Bytes.{bit_at};
 ghost use Rattle.mm_format.specs.Formats.{each, times};

@@ -1,6 +1,6 @@
 //! The records of slots of an image file.
 
-ghost use Rattle.std.specs.Prelude.{◌≡◌, ◌^◌, ◌<◌, ◌+◌, ℕ, true, false, IfOk, List, length, vec_len, slice_index_or};
+ghost use Rattle.std.specs.Prelude.{◌≡◌, ◌^◌, ◌<◌, ◌+◌, true, false, IfOk, List, length, vec_len};
 ghost use Rattle.mm_model.specs.Image.{slot_limit};
 ghost use Rattle.mm_model.specs.Spelling.{is_bad_handler};
 ghost use Rattle.mm_model.specs.Slot.{Slot};

@@ -4,7 +4,7 @@ use Rattle.std.specs.List.{fold}
 use Rattle.std.proofs.lemmas.List.Sums.{fold-append}
 use Rattle.std.specs.List.{sum, AllByRecursion}
 use Rattle.mm_word.specs.Adding.{Adds, adds_none, adds_both}
-use Rattle.mm_io.specs.Files.{PieceRead, AreOf, reads_from, FrontToEnd, AsksOnly, AsksWhole, AsksBeyond}
+use Rattle.mm_io.specs.Files.{PieceRead, AreOf, reads_from, AsksOnly, AsksWhole, AsksBeyond}
 
 sum_push : (counts : List ℕ) (n : ℕ) → sum (counts ++ n ∷ []) ≡ sum counts + n
 sum_push counts n = fold-append (λ a x. a + x) 0 counts (n ∷ [])

@@ -1,2 +1,1 @@
 -- What a count says of a failed call.
-use Rattle.std.proofs.Common.{◌-◌}

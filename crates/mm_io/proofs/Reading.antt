@@ -2,9 +2,9 @@
 use Rattle.std.proofs.Common.{◌≡◌, ℕ, ◌+◌, ◌-◌, ◌<◌, ◌≤◌, List, ◌++◌, length, take, drop, Option, None, Some, refl, sym, ◌∙◌, ap, arith, length-append, length-drop, append_assoc}
 use Rattle.std.specs.Bool.{⊤}
 use Rattle.std.proofs.lemmas.List.{length-take, length-take-le, take_all, take-append-le, take-append-drop, drop-drop}
-use Rattle.std.specs.Io.KnownBytes.{prepend_known, IsAtEnd}
+use Rattle.std.specs.Io.KnownBytes.{prepend_known}
 use Rattle.std.proofs.Math.Seq.{take-add}
-use Rattle.mm_io.specs.Files.{Holds, ReadsAt, IsLonger, DrawnFrom}
+use Rattle.mm_io.specs.Files.{ReadsAt, IsLonger, DrawnFrom}
 
 -- these are the first bytes of the file, as far as it is told
 abbrev pub Begins : Option (List ℕ) → List ℕ → Type 0

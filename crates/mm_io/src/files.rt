@@ -1,8 +1,7 @@
 //! Files in memory that fail on chosen calls.
 
-ghost use Rattle.std.specs.Prelude.{◌≡◌, ◌↔◌, ℕ, ◌-◌, ◌<◌, ◌≤◌, ◌^◌, min, [], ◌∷◌, length, map, IsErr, IfOk, OnOk};
+ghost use Rattle.std.specs.Prelude.{◌≡◌, ◌↔◌, ◌-◌, ◌<◌, ◌≤◌, ◌^◌, min, length, map, IsErr, IfOk, OnOk};
 ghost use Rattle.std.specs.Prelude.{OnErr};
-ghost use Rattle.mm_word.specs.Adding.{Adds};
 ghost use Rattle.mm_io.specs.Files.{Rose, ReadsAt, raised};
 ghost use Rattle.mm_io.specs.Memory.{MemoryFiles, RefusesRead, file_in, moved, named};
 

@@ -1,6 +1,6 @@
 //! Where bytes come from and go to: files, sources and sinks.
 
-ghost use Rattle.std.specs.Prelude.{◌≡◌, ℕ, ◌+◌, ◌^◌, ◌<◌, ◌≤◌, List, [], ◌∷◌, Option, length, take, IfOk, OnErr};
+ghost use Rattle.std.specs.Prelude.{◌≡◌, ℕ, ◌^◌, ◌<◌, ◌≤◌, List, [], ◌∷◌, Option, length, take, IfOk, OnErr};
 ghost use Rattle.std.specs.Io.KnownBytes.{append_known, prepend_known, IsAtEnd};
 ghost use Rattle.mm_word.specs.Adding.{Adds};
 ghost use Rattle.mm_io.specs.Files.{Rose, NoneFell, ReadsAt, PieceRead, piece_read};

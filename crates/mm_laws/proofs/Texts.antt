@@ -3,7 +3,7 @@ use Rattle.std.proofs.Common.{◌≡◌, ℕ, zero, suc, ◌+◌, ◌<◌, ◌�
 use Rattle.std.proofs.Common.{replicate, refl, sym, ap, ◌∙◌, subst, arith, append_assoc, append-nil}
 use Rattle.std.specs.Prelude.{decimal}
 use Rattle.std.proofs.lemmas.Bool.{cases_eq, cases_lt}
-use Rattle.mm_model.specs.Words.{runs_of, Lists, AddsWord}
+use Rattle.mm_model.specs.Words.{runs_of, Lists}
 use Rattle.mm_model.specs.Words.Lists.{no_word}
 use Rattle.mm_model.specs.Schedule.{item_limit, IsItem, SaysItems, FitsLimit, Means, FaultsAt}
 use Rattle.mm_model.proofs.WordTexts.{Runs, lists_more}

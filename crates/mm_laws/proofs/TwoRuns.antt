@@ -1,6 +1,5 @@
 -- Two worlds, step by step, and by induction over both lists of items.
 use Rattle.std.proofs.Common.{◌≡◌, ℕ, ◌-◌, ◌≤◌, ◌⊎◌, inl, inr, Bool, true, false, ◌||◌, ◌&&◌, nat_le, if◌then◌else◌, map, Option, Some, None, refl, sym, ap, ◌∙◌, subst, arith, leb-true}
-use Rattle.std.specs.List.{filter}
 use Rattle.mm_model.specs.Slot.{Slot}
 use Rattle.mm_model.specs.State.{Core, State, slot_at}
 use Rattle.mm_model.specs.Image.{Image, slot_in, start}

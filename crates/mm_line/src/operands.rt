@@ -4,8 +4,8 @@ ghost use Rattle.std.specs.Prelude.{◌≡◌};
 ghost use Rattle.mm_line.specs.Seen.{seen, IsReadAs};
 ghost use Rattle.mm_line.specs.Tokens.{next_token};
 ghost use Rattle.mm_line.specs.Reading.{number_of};
-ghost use Rattle.mm_line.specs.Operands.{event_register_of, operand_of, is_goal, with_operand, operand_at, comma_of};
-ghost use Rattle.mm_line.specs.Operands.{more_at, operands_at, bare, code_at};
+ghost use Rattle.mm_line.specs.Operands.{event_register_of, operand_of, with_operand, operand_at, comma_of};
+ghost use Rattle.mm_line.specs.Operands.{more_at, operands_at, code_at};
 
 use crate::reading::{immediate_of, known, name_of, register_of, small_of};
 use crate::words::{how_named, post_named, pre_named};

@@ -2,9 +2,8 @@
 
 ghost use Rattle.std.specs.Prelude.{◌≡◌, ◌≤◌, IfOk};
 ghost use Rattle.mm_line.specs.Seen.{seen};
-ghost use Rattle.mm_line.specs.Reading.{at, wrong, name_of, known, word_of, register_of, ranged, between, number_of};
+ghost use Rattle.mm_line.specs.Reading.{at, wrong, name_of, known, register_of, number_of};
 ghost use Rattle.mm_line.specs.Reading.{integer_of, immediate, immediate_of, handler_of};
-ghost use Rattle.mm_line.specs.Words.{perms, ip_perms};
 
 use crate::words::register_named;
 use crate::{Fault, Mark, Name, Next, Problem, Token};

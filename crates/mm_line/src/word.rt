@@ -1,6 +1,5 @@
 //! The content of words: constants and operations.
 
-ghost use Rattle.std.specs.Prelude.{◌≡◌};
 ghost use Rattle.mm_line.specs.Seen.{seen, IsReadAs};
 ghost use Rattle.mm_line.specs.Statements.{addend_at, target_at, integer_at, pointer_at, constant_at};
 ghost use Rattle.mm_line.specs.Statements.{content_by_directive, content_by_operation, content_of};

@@ -11,34 +11,29 @@ use Rattle.std.proofs.lemmas.List.Sorted.{IsPermutation-reverse, list_any-IsPerm
 use Rattle.std.proofs.lemmas.Map.Keys.{IsDistinct-IsPermutation}
 use Rattle.indexmap.specs.IndexSet.{insert_key}
 use denote.Ref.{Bor}
-use Rattle.mm_object.specs.Objects.{same_name, is_among}
-use Rattle.mm_object.proofs.Among.{same_name-Decides}
+use Rattle.mm_object.specs.Objects.{is_among}
 use Rattle.mm_link.specs.Placing.{Part}
 use Rattle.mm_link.specs.Faults.{first_again}
 use Rattle.mm_link.specs.Steps.{part_names, same_part}
 use Rattle.mm_link.proofs.Lists.{at_item}
 use Rattle.mm_object.specs.Steps.{key_names}
 
--- names that are compared as bytes
-pub same_bytes : (a b : List ℕ) → bytes_eq a b ≡ same_name a b
-same_bytes a b = same_from_decides (bytes_eq a b) (same_name a b) (bytes_eq-Decides a b) (same_name-Decides a b)
-
-pub same_turned : (a b : List ℕ) → same_name a b ≡ same_name b a
-same_turned a b = same_from_decides (same_name a b) (same_name b a) (same_name-Decides a b) ((λ h. sym ((same_name-Decides b a).0 h)), (λ e. (same_name-Decides b a).1 (sym e)))
+pub same_turned : (a b : List ℕ) → bytes_eq a b ≡ bytes_eq b a
+same_turned a b = same_from_decides (bytes_eq a b) (bytes_eq b a) (bytes_eq-Decides a b) ((λ h. sym ((bytes_eq-Decides b a).0 h)), (λ e. (bytes_eq-Decides b a).1 (sym e)))
 
 abbrev pub same_key : Bor (List ℕ) → Bor (List ℕ) → Bool
 same_key x y = bytes_eq x.now y.now
 
 pub among_keys : (keys : List (Bor (List ℕ))) (k : Bor (List ℕ)) → list_any (same_key k) keys ≡ is_among k.now (key_names keys)
 among_keys [] k = refl
-among_keys (x ∷ keys) k = ap (λ b. b || list_any (same_key k) keys) (same_bytes k.now x.now) ∙ ap (λ b. same_name k.now x.now || b) (among_keys keys k)
+among_keys (x ∷ keys) k = ap (λ b. bytes_eq k.now x.now || b) (among_keys keys k)
 
 -- the names before, the last one first
 abbrev pub before_of : List (Bor (List ℕ)) → List (List ℕ)
 before_of keys = reverse (key_names keys)
 
 pub among_before : (keys : List (Bor (List ℕ))) (k : Bor (List ℕ)) → is_among k.now (before_of keys) ≡ list_any (same_key k) keys
-among_before keys k = sym (list_any-IsPermutation (same_name k.now) (key_names keys) (before_of keys) (IsPermutation-reverse (key_names keys))) ∙ sym (among_keys keys k)
+among_before keys k = sym (list_any-IsPermutation (bytes_eq k.now) (key_names keys) (before_of keys) (IsPermutation-reverse (key_names keys))) ∙ sym (among_keys keys k)
 
 pub before_more : (keys : List (Bor (List ℕ))) (k : Bor (List ℕ)) → list_any (same_key k) keys ≡ false → before_of (insert_key same_key keys k) ≡ k.now ∷ before_of keys
 before_more keys k new = ap (λ b. before_of (if b then keys else keys ++ k ∷ [])) new ∙ ap reverse (pushed keys) ∙ reverse-append (key_names keys) (k.now ∷ [])
@@ -63,12 +58,12 @@ module _ (p : Part) (before : List (List ℕ)) where
   old : (parts : List Part) → AllByRecursion (λ (q : Part). is_among q.segment.name (p.segment.name ∷ before) ≡ false) parts
       → AllByRecursion (λ (q : Part). is_among q.segment.name before ≡ false) parts
   old [] h = tt
-  old (q ∷ parts) h = ((neither (same_name q.segment.name p.segment.name) (is_among q.segment.name before) h.0).1, old parts h.1)
+  old (q ∷ parts) h = ((neither (bytes_eq q.segment.name p.segment.name) (is_among q.segment.name before) h.0).1, old parts h.1)
 
   other : (parts : List Part) → AllByRecursion (λ (q : Part). is_among q.segment.name (p.segment.name ∷ before) ≡ false) parts
       → AllByRecursion (λ (q : Part). same_part p q ≡ false) parts
   other [] h = tt
-  other (q ∷ parts) h = (same_turned p.segment.name q.segment.name ∙ (neither (same_name q.segment.name p.segment.name) (is_among q.segment.name before) h.0).0, other parts h.1)
+  other (q ∷ parts) h = (same_turned p.segment.name q.segment.name ∙ (neither (bytes_eq q.segment.name p.segment.name) (is_among q.segment.name before) h.0).0, other parts h.1)
 
 -- where no name is there again, segments are told apart by their names
 pub distinct : (before : List (List ℕ)) (parts : List Part) → first_again before (part_names parts) ≡ None

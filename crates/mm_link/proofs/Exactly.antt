@@ -1,5 +1,6 @@
 -- Objects link exactly where nothing about them is wrong.
 use Rattle.std.proofs.Common.{◌≡◌, ℕ, ◌+◌, ◌^◌, ◌<◌, ◌≤◌, true, false, not, List, [], ◌∷◌, ◌++◌, length, Option, Some, None, option_map, refl, sym, ap, ◌∙◌, subst, inl, inr, arith, eq-eqb, eqb-true}
+use Rattle.std.proofs.Common.{bytes_eq}
 use Rattle.std.specs.Prelude.{Contains, ◌==◌, if◌then◌else◌, is_some, nat_lt}
 use Rattle.std.specs.List.{flat_map, filter, list_any, AllByRecursion}
 use Rattle.std.proofs.lemmas.Bool.{leb-true, le-ltb}
@@ -9,7 +10,7 @@ use Rattle.mm_model.proofs.ImageBytes.Rising.{both}
 use Rattle.mm_object.specs.declared.target.Target.{Target}
 use Rattle.mm_object.specs.declared.thread.Thread.{Thread}
 use Rattle.mm_object.specs.Lookups.{name_of_target}
-use Rattle.mm_object.specs.Objects.{Object, IsObject, same_name, is_among, targets_of}
+use Rattle.mm_object.specs.Objects.{Object, IsObject, is_among, targets_of}
 use Rattle.mm_link.specs.declared.fault.LinkFault.TheVariants.{Twice, Undefined, Offset, SlotTwice, Handler, TooLarge}
 use Rattle.mm_link.specs.Placing.{Part, Site, parts_of, by_length, sites_from, sites_of, site_in, site_or_none, site_named, bytes_of, origin}
 use Rattle.mm_link.specs.Faults.{names_of, first_again, twice, undefined, is_outside, names_outside, first, offset}
@@ -29,24 +30,24 @@ use Rattle.mm_link.proofs.Threaded.{small_slot, apart_from_few, few_from_apart}
 -- 1. Names and sites.
 
 -- a part's name has a site
-part_named : (at : ℕ) (p : Part) (parts : List Part) (name : List ℕ) → In p parts → same_name name p.segment.name ≡ true → is_some (site_in (sites_from at parts) name) ≡ true
+part_named : (at : ℕ) (p : Part) (parts : List Part) (name : List ℕ) → In p parts → bytes_eq name p.segment.name ≡ true → is_some (site_in (sites_from at parts) name) ≡ true
 part_named at p [] name h e = absurd h
 part_named at p (x ∷ parts) name (inl is) e =
     let here : Site = record { name = x.segment.name; log = x.segment.log; base = at } in
-    ap (λ b. is_some (if b then Some here else site_in (sites_from (at + 2 ^ x.segment.log) parts) name)) (ap (λ (y : Part). same_name name y.segment.name) (sym is) ∙ e)
+    ap (λ b. is_some (if b then Some here else site_in (sites_from (at + 2 ^ x.segment.log) parts) name)) (ap (λ (y : Part). bytes_eq name y.segment.name) (sym is) ∙ e)
 part_named at p (x ∷ parts) name (inr h) e =
     let here : Site = record { name = x.segment.name; log = x.segment.log; base = at } in
     let later = part_named (at + 2 ^ x.segment.log) p parts name h e in
-    elim (same_name name x.segment.name) as (λ b. is_some (if b then Some here else site_in (sites_from (at + 2 ^ x.segment.log) parts) name) ≡ true) [ true ↦ refl | false ↦ later ]
+    elim (bytes_eq name x.segment.name) as (λ b. is_some (if b then Some here else site_in (sites_from (at + 2 ^ x.segment.log) parts) name) ≡ true) [ true ↦ refl | false ↦ later ]
 
 -- so that what is among the names has one
 site_there : (objects : List Object) → AllByRecursion IsObject objects → (name : List ℕ) → is_among name (names_of objects) ≡ true → (s : Site) × (site_in (sites_of objects) name ≡ Some s)
 unfolding sites_of
 site_there objects are name among =
-    let x = found (same_name name) (names_of objects) among in
+    let x = found (bytes_eq name) (names_of objects) among in
     let p = from_map (λ (y : Part). y.segment.name) x.0 (parts_of objects) x.1 in
     let is = in_by_length p.0 (parts_of objects) (are_parts objects are) p.1 in
-    some_is (site_in (sites_of objects) name) (part_named origin p.0 (by_length (parts_of objects)) name is (ap (same_name name) (sym p.2) ∙ x.2))
+    some_is (site_in (sites_of objects) name) (part_named origin p.0 (by_length (parts_of objects)) name is (ap (bytes_eq name) (sym p.2) ∙ x.2))
 
 -- and what has one is among them
 there_named : (objects : List Object) (name : List ℕ) (s : Site) → site_in (sites_of objects) name ≡ Some s → is_among name (names_of objects) ≡ true
@@ -55,7 +56,7 @@ there_named objects name s e =
     let r = splits origin (by_length (parts_of objects)) name s e in
     let placed : In r.part (by_length (parts_of objects)) = subst (In r.part) (sym r.whole) (in_right r.part r.before (r.part ∷ r.after) (inl refl)) in
     let is = in_map (λ (p : Part). p.segment.name) r.part (parts_of objects) (from_by_length r.part (parts_of objects) placed) in
-    one_any (same_name name) r.part.segment.name (names_of objects) is r.same
+    one_any (bytes_eq name) r.part.segment.name (names_of objects) is r.same
 
 -- the part of a site
 record IsOf (at : ℕ) (parts : List Part) (s : Site) : Type 0 where

@@ -6,7 +6,7 @@ use Rattle.std.specs.List.{flat_map}
 use Rattle.mm_object.specs.Objects.{Object}
 use Rattle.mm_link.specs.declared.fault.LinkFault.TheVariants.{Undefined}
 use Rattle.mm_link.specs.Placing.{Site}
-use Rattle.mm_link.specs.Steps.{unknown, unknown_among, unknown_names}
+use Rattle.mm_link.specs.Faults.{unknown, unknown_among, unknown_names}
 use Rattle.mm_link.proofs.Firsts.{sooner, find-append, map-sooner}
 
 pub unknown-cons : (sites : List Site) (o : Object) (objects : List Object) → unknown_names sites (o ∷ objects) ≡ sooner (unknown_among sites o.externals)

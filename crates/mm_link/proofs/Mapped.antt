@@ -8,7 +8,7 @@ use Rattle.std.proofs.lemmas.Bool.{cases_lt}
 use Rattle.mm_model.specs.Memory.{is_mapped, page_of}
 use Rattle.mm_model.specs.Image.{Image}
 use Rattle.mm_object.specs.Objects.{Object, IsObject}
-use Rattle.mm_object.proofs.Among.{same_name-Decides}
+use Rattle.std.proofs.lemmas.Slice.Eq.{bytes_eq-Decides}
 use Rattle.mm_link.specs.Placing.{Part, Site, parts_of, by_length, sites_from, sites_of, site_in, bytes_of, origin}
 use Rattle.mm_link.specs.Faults.{page_count}
 use Rattle.mm_link.specs.Linked.{cells_of, pages_of, first_page, image_of}
@@ -35,7 +35,7 @@ site_behind objects are clean before after p whole =
     let name = p.segment.name in
     let once = once_named objects are clean name in
     let count : named name (by_length (parts_of objects)) ≡ named name before + named name (p ∷ after) = ap (named name) whole ∙ named_more name before (p ∷ after) in
-    let here = named_in name p (p ∷ after) (inl refl) ((same_name-Decides name name).1 refl) in
+    let here = named_in name p (p ∷ after) (inl refl) ((bytes_eq-Decides name name).1 refl) in
     ap (λ ps. site_in (sites_from origin ps) name) whole ∙ found_site origin before after p (omega arith)
 
 pub part_found : (objects : List Object) → AllByRecursion IsObject objects → IsClean objects → (p : Part) → In p (parts_of objects)

@@ -8,11 +8,10 @@ use Rattle.std.specs.Str.{bytes_eq}
 use Rattle.std.specs.Map.{lookup}
 use Rattle.indexmap.specs.IndexMap.{insert_entry}
 use denote.Ref.{Bor}
-use Rattle.mm_object.specs.Objects.{same_name}
 use Rattle.mm_link.specs.declared.sites.Placement.{Placement}
 use Rattle.mm_link.specs.Placing.{Part, Site, site_in, site_named, site_or_none, sites_from}
 use Rattle.mm_link.specs.Steps.{entries_of, place_of, FitsSite, part_names, same_part}
-use Rattle.mm_link.proofs.Again.{same_bytes, same_turned}
+use Rattle.mm_link.proofs.Again.{same_turned}
 use Rattle.mm_link.proofs.Lists.{rest_at, each_at}
 
 abbrev pub Entries : Type 0
@@ -24,7 +23,7 @@ site_of e = record { name = e.0.now; log = e.1.log; base = e.1.base }
 -- what the map has under a name is where its segment stands
 pub found : (es : Entries) (name : List ℕ) → lookup (λ y. bytes_eq name y.now) es ≡ option_map place_of (site_in (entries_of es) name)
 found [] name = refl
-found (e ∷ es) name = ap (λ b. cond b (Some e.1) (lookup (λ y. bytes_eq name y.now) es)) (same_bytes name e.0.now) ∙ by (same_name name e.0.now) (found es name)
+found (e ∷ es) name = by (bytes_eq name e.0.now) (found es name)
   where
     by : (b : Bool) → lookup (λ y. bytes_eq name y.now) es ≡ option_map place_of (site_in (entries_of es) name)
         → cond b (Some e.1) (lookup (λ y. bytes_eq name y.now) es) ≡ option_map place_of (if b then Some (site_of e) else site_in (entries_of es) name)
@@ -35,9 +34,7 @@ found (e ∷ es) name = ap (λ b. cond b (Some e.1) (lookup (λ y. bytes_eq name
 pub inserted : (es : Entries) (k : Bor (List ℕ)) (v : Placement) → site_in (entries_of es) k.now ≡ None
     → entries_of (insert_entry (λ x y. bytes_eq x.now y.now) es k v) ≡ entries_of es ++ site_of (k, v) ∷ []
 inserted [] k v h = refl
-inserted (e ∷ es) k v h =
-    ap (λ b. entries_of (if b then (e.0, v) ∷ es else e ∷ insert_entry (λ x y. bytes_eq x.now y.now) es k v)) (same_bytes k.now e.0.now)
-    ∙ by (same_name k.now e.0.now) h (inserted es k v)
+inserted (e ∷ es) k v h = by (bytes_eq k.now e.0.now) h (inserted es k v)
   where
     by : (b : Bool) → (if b then Some (site_of e) else site_in (entries_of es) k.now) ≡ None
         → (site_in (entries_of es) k.now ≡ None → entries_of (insert_entry (λ x y. bytes_eq x.now y.now) es k v) ≡ entries_of es ++ site_of (k, v) ∷ [])
@@ -54,7 +51,7 @@ none_fits = record { length_fits = omega arith; base_fits = lit< tt }
 
 pub named_fits : (sites : List Site) (name : List ℕ) → AllByRecursion FitsSite sites → FitsSite (site_named sites name)
 named_fits [] name all = none_fits
-named_fits (s ∷ sites) name all = by (same_name name s.name) (named_fits sites name all.1)
+named_fits (s ∷ sites) name all = by (bytes_eq name s.name) (named_fits sites name all.1)
   where
     by : (b : Bool) → FitsSite (site_or_none (site_in sites name)) → FitsSite (site_or_none (if b then Some s else site_in sites name))
     by true rest = all.0
@@ -66,12 +63,12 @@ abbrev pub site_names : List Site → List (List ℕ)
 site_names sites = map (λ (s : Site). s.name) sites
 
 -- a name that no site has
-absent : (sites : List Site) (name : List ℕ) → AllByRecursion (λ (s : Site). same_name name s.name ≡ false) sites → site_in sites name ≡ None
+absent : (sites : List Site) (name : List ℕ) → AllByRecursion (λ (s : Site). bytes_eq name s.name ≡ false) sites → site_in sites name ≡ None
 absent [] name h = refl
 absent (s ∷ sites) name h = ap (λ b. if b then Some s else site_in sites name) h.0 ∙ absent sites name h.1
 
 earlier : (parts : List Part) (i : ℕ) (p : Part) → IsDistinct same_part parts → i < length parts → p ≡ get_or parts i p
-    → AllByRecursion (λ (q : Part). same_name p.segment.name q.segment.name ≡ false) (take i parts)
+    → AllByRecursion (λ (q : Part). bytes_eq p.segment.name q.segment.name ≡ false) (take i parts)
 unfolding IsDistinct
 earlier [] i p apart lt is = absurd (omega arith)
 earlier (q ∷ parts) zero p apart lt is = tt
@@ -85,13 +82,13 @@ pub not_yet : (parts : List Part) (i : ℕ) (p : Part) (sites : List Site) → I
 not_yet parts i p sites apart lt is names = absent sites p.segment.name (others sites (take i parts) names (earlier parts i p apart lt is))
   where
     others : (sites : List Site) (parts : List Part) → site_names sites ≡ part_names parts
-        → AllByRecursion (λ (q : Part). same_name p.segment.name q.segment.name ≡ false) parts → AllByRecursion (λ (s : Site). same_name p.segment.name s.name ≡ false) sites
+        → AllByRecursion (λ (q : Part). bytes_eq p.segment.name q.segment.name ≡ false) parts → AllByRecursion (λ (s : Site). bytes_eq p.segment.name s.name ≡ false) sites
     others [] parts e h = tt
     others (s ∷ sites) [] e h = absurd cc
     others (s ∷ sites) (q ∷ parts) e h =
         let head : s.name ≡ q.segment.name = cc in
         let tail : site_names sites ≡ part_names parts = cc in
-        (ap (same_name p.segment.name) head ∙ h.0, others sites parts tail h.1)
+        (ap (bytes_eq p.segment.name) head ∙ h.0, others sites parts tail h.1)
 
 pub names_more : (sites new : List Site) (s : Site) (parts : List Part) (i : ℕ) (p : Part) → i < length parts → p ≡ get_or parts i p
     → site_names sites ≡ part_names (take i parts) → new ≡ sites ++ s ∷ [] → s.name ≡ p.segment.name

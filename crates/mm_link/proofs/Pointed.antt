@@ -1,5 +1,5 @@
 -- Pointers are into the segments that their targets go by.
-use Rattle.std.proofs.Common.{◌≡◌, ℕ, zero, suc, ◌+◌, ◌-◌, ◌*◌, ◌/◌, ◌%◌, ◌^◌, ◌<◌, ◌≤◌, Bool, true, false, not, List}
+use Rattle.std.proofs.Common.{◌≡◌, ℕ, zero, suc, ◌+◌, ◌-◌, ◌*◌, ◌/◌, ◌%◌, ◌^◌, ◌<◌, ◌≤◌, Bool, true, false, not, List, bytes_eq}
 use Rattle.std.proofs.Common.{[], ◌∷◌, ◌++◌, map, length, get_or, slice_get, find, Some, None, refl, sym, ap, ◌∙◌}
 use Rattle.std.proofs.Common.{subst, inl, inr, arith}
 use Rattle.std.specs.Prelude.{◌⊎◌, if◌then◌else◌, is_some, nat_le, nat_lt, ◌&&◌}
@@ -21,8 +21,8 @@ use Rattle.mm_object.specs.declared.thread.Value.{Value}
 use Rattle.mm_object.specs.declared.thread.Value.TheVariants as value
 use Rattle.mm_object.specs.declared.thread.Thread.{Thread}
 use Rattle.mm_object.specs.Lookups.{name_of_target}
-use Rattle.mm_object.specs.Objects.{Segment, Object, IsObject, same_name, names_of, is_target, is_within, is_reloc, is_value, value_targets, targets_of}
-use Rattle.mm_object.proofs.Among.{same_name-Decides}
+use Rattle.mm_object.specs.Objects.{Segment, Object, IsObject, names_of, is_target, is_within, is_reloc, is_value, value_targets, targets_of}
+use Rattle.std.proofs.lemmas.Slice.Eq.{bytes_eq-Decides}
 use Rattle.mm_object.proofs.Bools.{is_false}
 use Rattle.mm_link.specs.declared.fault.LinkFault.TheVariants.{Undefined, Offset}
 use Rattle.mm_link.specs.Placing.{Part, Site, parts_from, parts_of, sites_of, site_in, site_or_none, site_named, pointer_to}
@@ -126,11 +126,11 @@ own_or_foreign o t good = elim (slice_get_cases o.segments t.index).1 [
 
 pub site_is : (sites : List Site) (name : List ℕ) (s : Site) → site_in sites name ≡ Some s → In s sites × (s.name ≡ name)
 site_is [] name s e = absurd cc
-site_is (x ∷ sites) name s e = by (same_name name x.name) refl e (site_is sites name s)
+site_is (x ∷ sites) name s e = by (bytes_eq name x.name) refl e (site_is sites name s)
   where
-    by : (b : Bool) → same_name name x.name ≡ b → (if b then Some x else site_in sites name) ≡ Some s → (site_in sites name ≡ Some s → In s sites × (s.name ≡ name))
+    by : (b : Bool) → bytes_eq name x.name ≡ b → (if b then Some x else site_in sites name) ≡ Some s → (site_in sites name ≡ Some s → In s sites × (s.name ≡ name))
         → In s (x ∷ sites) × (s.name ≡ name)
-    by true is e later = let same : x ≡ s = cc in (inl (sym same), sym ((same_name-Decides name x.name).0 is ∙ ap (λ (y : Site). y.name) same))
+    by true is e later = let same : x ≡ s = cc in (inl (sym same), sym ((bytes_eq-Decides name x.name).0 is ∙ ap (λ (y : Site). y.name) same))
     by false is e later = let r = later e in (inr r.0, r.1)
 
 first_none : {A : Type 0} (xs : List A) → first xs ≡ None → (x : A) → In x xs → ⊥

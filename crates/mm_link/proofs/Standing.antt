@@ -1,11 +1,11 @@
 -- Where segments stand, and the pointers to them.
-use Rattle.std.proofs.Common.{◌≡◌, ℕ, ◌+◌, ◌^◌, ◌≤◌, true, false, cond, List, [], ◌∷◌, length, Some, arith}
+use Rattle.std.proofs.Common.{◌≡◌, ℕ, ◌+◌, ◌^◌, ◌≤◌, true, false, cond, List, [], ◌∷◌, length, Some, arith, bytes_eq}
 use Rattle.std.specs.List.{AllByRecursion}
 use Rattle.mm_word.specs.declared.perm.Perm.{Perm}
 use Rattle.mm_word.specs.Pointer.{IsWellFormed}
 use Rattle.mm_object.specs.declared.target.Target.{Target}
 use Rattle.mm_object.specs.Lookups.{name_of_target}
-use Rattle.mm_object.specs.Objects.{Object, IsObject, is_target, same_name}
+use Rattle.mm_object.specs.Objects.{Object, IsObject, is_target}
 use Rattle.mm_object.proofs.Bounds.{target_small}
 use Rattle.mm_link.specs.Placing.{Part, Site, parts_of, by_length, sites_from, sites_of, origin, bytes_of, site_in, site_or_none, site_named, pointer_to}
 use Rattle.mm_link.specs.Faults.{page_count}
@@ -31,7 +31,7 @@ near_sites objects are few =
 near_named : (sites : List Site) (name : List ℕ) → AllByRecursion IsNear sites → IsNear (site_named sites name)
 near_named [] name h = record { log = omega arith; base = omega arith }
 near_named (s ∷ sites) name h =
-    elim (same_name name s.name) as (λ b. IsNear (site_or_none (cond b (Some s) (site_in sites name)))) [ true ↦ h.0 | false ↦ near_named sites name h.1 ]
+    elim (bytes_eq name s.name) as (λ b. IsNear (site_or_none (cond b (Some s) (site_in sites name)))) [ true ↦ h.0 | false ↦ near_named sites name h.1 ]
 
 -- a pointer to a target of an object is well-formed
 pub pointer_fits : (sites : List Site) (o : Object) (perm : Perm) (t : Target) → AllByRecursion IsNear sites → IsObject o → is_target o.segments (length o.externals) t ≡ true

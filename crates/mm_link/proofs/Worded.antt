@@ -1,5 +1,5 @@
 -- Each word of each segment stands in its cell, and each other cell is integer 0, full.
-use Rattle.std.proofs.Common.{◌≡◌, ◌⊎◌, ℕ, zero, suc, ◌+◌, ◌-◌, ◌*◌, ◌^◌, ◌<◌, ◌≤◌, true, List, [], ◌∷◌, ◌++◌, length}
+use Rattle.std.proofs.Common.{◌≡◌, ◌⊎◌, ℕ, zero, suc, ◌+◌, ◌-◌, ◌*◌, ◌^◌, ◌<◌, ◌≤◌, true, List, [], ◌∷◌, ◌++◌, length, bytes_eq}
 use Rattle.std.proofs.Common.{length-append, get_or, replicate, slice_get, Some, refl, sym, ap, ◌∙◌, subst, inl, inr}
 use Rattle.std.proofs.Common.{arith, append_assoc, zero-add}
 use Rattle.std.specs.List.{flat_map, AllByRecursion}
@@ -11,8 +11,8 @@ use Rattle.mm_word.specs.declared.word.Cell.{Cell}
 use Rattle.mm_model.specs.Memory.{cell_at, zero_cell}
 use Rattle.mm_model.specs.Image.{Image}
 use Rattle.mm_object.specs.declared.item.Item.{Item}
-use Rattle.mm_object.specs.Objects.{Object, IsObject, same_name}
-use Rattle.mm_object.proofs.Among.{same_name-Decides}
+use Rattle.mm_object.specs.Objects.{Object, IsObject}
+use Rattle.std.proofs.lemmas.Slice.Eq.{bytes_eq-Decides}
 use Rattle.mm_link.specs.Placing.{Part, Site, parts_of, by_length, sites_from, sites_of, site_in, bytes_of, origin}
 use Rattle.mm_link.specs.Faults.{page_count, frames_of}
 use Rattle.mm_link.specs.Linked.{cell_of, cells_from, unused, part_cells, cells_of, pages_of, image_of}
@@ -180,8 +180,8 @@ module _ (objects : List Object) (are : AllByRecursion IsObject objects) where
   unfolding sites_of
   found_of before after p whole none = ap (λ ps. site_in (sites_from origin ps) p.segment.name) whole ∙ found_site origin before after p none
 
-  itself : (name : List ℕ) → same_name name name ≡ true
-  itself name = (same_name-Decides name name).1 refl
+  itself : (name : List ℕ) → bytes_eq name name ≡ true
+  itself name = (bytes_eq-Decides name name).1 refl
 
   module _ (once : (name : List ℕ) → named name order ≤ 1) where
     word_stands : (p : Part) (k : ℕ) (item : Item) (w : ℕ) → StandsAt objects p k item w → cell_at (image_of objects).memory w ≡ Some (cell_of sites p.object p.number k item)

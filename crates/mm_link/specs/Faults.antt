@@ -5,6 +5,7 @@ use Rattle.std.specs.List.{flat_map, filter, list_any, range_with_len}
 use Rattle.std.specs.Option.{option_map}
 use Rattle.mm_object.specs.declared.target.Target.{Target}
 use Rattle.mm_object.specs.declared.thread.Thread.{Thread}
+use Rattle.mm_model.specs.Image.{frame_limit}
 use Rattle.mm_object.specs.Lookups.{name_of_target}
 use Rattle.mm_object.specs.Objects.{Object, is_among, targets_of, thread_limit}
 use Rattle.mm_link.specs.declared.fault.LinkFault.{LinkFault}
@@ -27,10 +28,21 @@ first_again before (name ∷ names) = if is_among name before then Some name els
 abbrev pub twice : List Object → Option LinkFault
 twice objects = option_map Twice (first_again [] (names_of objects))
 
+-- no segment has the name
+abbrev pub unknown : List Site → List ℕ → Bool
+unknown sites name = not (is_some (site_in sites name))
+
+-- the first of these names that no segment has
+abbrev pub unknown_among : List Site → List (List ℕ) → Option LinkFault
+unknown_among sites names = option_map Undefined (find (unknown sites) names)
+
+-- the first external that no segment has, object by object
+abbrev pub unknown_names : List Site → List Object → Option LinkFault
+unknown_names sites objects = unknown_among sites (flat_map (λ (o : Object). o.externals) objects)
+
 -- 2: an external that is no segment's name, object by object
 abbrev pub undefined : List Object → Option LinkFault
-undefined objects = option_map Undefined
-    (find (λ name. not (is_some (site_in (sites_of objects) name))) (flat_map (λ (o : Object). o.externals) objects))
+undefined objects = unknown_names (sites_of objects) objects
 
 -- 2. Offsets.
 
@@ -48,9 +60,13 @@ abbrev pub first : {A : Type 0} → List A → Option A
 first [] = None
 first (x ∷ xs) = Some x
 
+-- the first of such uses, object by object
+abbrev pub outsides : List Site → List Object → Option LinkFault
+outsides sites objects = option_map Offset (first (flat_map (names_outside sites) objects))
+
 -- 3: the first use of an external whose addend is no offset in its segment, object by object
 abbrev pub offset : List Object → Option LinkFault
-offset objects = option_map Offset (first (flat_map (names_outside (sites_of objects)) objects))
+offset objects = outsides (sites_of objects) objects
 
 -- 3. Threads.
 
@@ -81,12 +97,17 @@ abbrev pub is_absent : List Thread → Option ℕ → Bool
 is_absent threads None = false
 is_absent threads (Some handler) = not (list_any (λ (t : Thread). t.slot == handler) threads)
 
+-- one of these threads has the slot, and a handler that is no thread's slot
+abbrev pub is_unhandled_in : List Object → ℕ → List Thread → Bool
+is_unhandled_in objects slot threads =
+    list_any (λ (t : Thread). is_absent (threads_of objects) t.handler) (with_slot slot threads)
+
+abbrev pub is_unhandled : List Object → ℕ → Bool
+is_unhandled objects slot = is_unhandled_in objects slot (threads_of objects)
+
 -- 6: the least slot of a thread whose handler is no thread's slot
 abbrev pub handler : List Object → Option LinkFault
-handler objects =
-    option_map Handler
-    (find (λ slot. list_any (λ (t : Thread). is_absent (threads_of objects) t.handler)
-    (with_slot slot (threads_of objects))) slot_numbers)
+handler objects = option_map Handler (find (is_unhandled objects) slot_numbers)
 
 -- 4. Frames.
 
@@ -102,13 +123,9 @@ spares_of (o ∷ objects) = o.spare + spares_of objects
 abbrev pub frames_of : List Object → ℕ
 frames_of objects = max 1 (page_count objects + spares_of objects)
 
--- the most frames that an image of version 1 has
-abbrev pub frame_limit : ℕ
-frame_limit = 256
-
 -- 7: more frames than an image of version 1 has
 abbrev pub too_large : List Object → Option LinkFault
-too_large objects = if nat_lt frame_limit (frames_of objects) then Some TooLarge else None
+too_large objects = if nat_lt (frame_limit 1) (frames_of objects) then Some TooLarge else None
 
 -- 5. The first of the faults.
 

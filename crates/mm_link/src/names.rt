@@ -3,8 +3,8 @@
 ghost use Rattle.std.specs.Prelude.{[]};
 ghost use Rattle.std.specs.Option.{option_map};
 ghost use Rattle.mm_link.specs.declared.fault.LinkFault.TheVariants.{Twice};
-ghost use Rattle.mm_link.specs.Faults.{first_again};
-ghost use Rattle.mm_link.specs.Steps.{Passes, part_names, unknown_names, unknown_among};
+ghost use Rattle.mm_link.specs.Faults.{first_again, unknown_names, unknown_among};
+ghost use Rattle.mm_link.specs.Steps.{Passes, part_names};
 
 use crate::fault::{LinkError, LinkFault};
 use crate::placing::Part;

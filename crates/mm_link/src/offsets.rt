@@ -3,8 +3,8 @@
 ghost use Rattle.std.specs.Prelude.{◌≡◌, ◌∷◌, [], true, length};
 ghost use Rattle.std.specs.List.{flat_map, list_all};
 ghost use Rattle.mm_object.specs.Objects.{is_value, is_thread, value_targets, targets_of};
-ghost use Rattle.mm_link.specs.Faults.{is_outside};
-ghost use Rattle.mm_link.specs.Steps.{Passes, IsTargetOf, outside, outsides, thread_targets, reloc_targets};
+ghost use Rattle.mm_link.specs.Faults.{is_outside, outsides};
+ghost use Rattle.mm_link.specs.Steps.{Passes, IsTargetOf, outside, thread_targets, reloc_targets};
 
 use crate::fault::{LinkError, LinkFault};
 use crate::sites::Sites;

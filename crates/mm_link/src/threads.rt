@@ -2,7 +2,8 @@
 
 ghost use Rattle.std.specs.Prelude.{◌≡◌, ◌≤◌, length};
 ghost use Rattle.mm_link.specs.Faults.{threads_of, with_slot, slot_twice, no_thread, handler, is_absent};
-ghost use Rattle.mm_link.specs.Steps.{Passes, has_slot, is_unhandled, is_unhandled_in};
+ghost use Rattle.mm_link.specs.Faults.{is_unhandled, is_unhandled_in};
+ghost use Rattle.mm_link.specs.Steps.{Passes, has_slot};
 
 use crate::fault::{LinkError, LinkFault};
 use mm_object::{Object, Thread};

@@ -1,5 +1,5 @@
 //! Files of one kind, each read and parsed before the next.
-ghost use Rattle.std.specs.Prelude.{◌≡◌, ◌+◌, ◌≤◌, ◌∷◌, [], List, length, map, IfOk};
+ghost use Rattle.std.specs.Prelude.{◌≡◌, ◌+◌, ◌≤◌, List, length, map, IfOk};
 ghost use Rattle.mm_cli.specs.declared.table.Kind.TheVariants.{Image as image_file, Object as object_file};
 ghost use Rattle.mm_load.specs.Kinds.{Value, an_image, an_object};
 ghost use Rattle.mm_load.specs.Files.{FilesRead, files_named, reading};

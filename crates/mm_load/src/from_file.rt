@@ -1,5 +1,5 @@
 //! The types that files are read as: how long a file may be, and how its bytes are parsed.
-ghost use Rattle.std.specs.Prelude.{◌≡◌, ◌<◌, ◌≤◌, ◌^◌, List, IfOk, IfErr};
+ghost use Rattle.std.specs.Prelude.{◌≡◌, ◌<◌, ◌^◌, List, IfOk, IfErr};
 ghost use Rattle.mm_cli.specs.declared.table.Kind.TheVariants.{Image as image_file, Schedule as schedule_file};
 ghost use Rattle.mm_cli.specs.declared.table.Kind.TheVariants.{Object as object_file, Links as links_file};
 ghost use Rattle.mm_cli.specs.declared.table.Kind.TheVariants.{Events as events_file};

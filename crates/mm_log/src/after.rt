@@ -6,7 +6,7 @@ ghost use Rattle.std.specs.List.{flat_map};
 ghost use Rattle.mm_text.specs.Gathers.{Gathers};
 ghost use Rattle.mm_word.specs.Word.{word_bits};
 ghost use Rattle.mm_model.specs.Slot.{register as register_of};
-ghost use Rattle.mm_model.specs.Memory.{cell_at, is_mapped as is_mapped_in};
+ghost use Rattle.mm_model.specs.Memory.{cell_at};
 ghost use Rattle.mm_model.specs.Turn.{event_of as event_of_fault};
 ghost use Rattle.mm_log.specs.Looks.{address_told as address_told_of, value_told as value_told_of};
 ghost use Rattle.mm_model.specs.State.{slot_at, output_of};

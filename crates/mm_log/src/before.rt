@@ -3,7 +3,7 @@
 ghost use Rattle.std.specs.Prelude.{◌≡◌, ◌-◌, nat_le, nat_lt, if◌then◌else◌, None};
 ghost use Rattle.std.specs.Option.{option_copied};
 ghost use Rattle.mm_word.specs.declared.word.Pre.{Pre as PreValue};
-ghost use Rattle.mm_model.specs.Ask.{Ask as AskValue, ask, reaching, page_asked};
+ghost use Rattle.mm_model.specs.Ask.{ask, reaching, page_asked};
 ghost use Rattle.mm_model.specs.Ask.Ask.{MapPage};
 ghost use Rattle.mm_model.specs.Memory.{cell_at, is_mapped as is_mapped_in};
 ghost use Rattle.mm_model.specs.Slot.{register as register_of};

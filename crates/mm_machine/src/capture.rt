@@ -1,10 +1,10 @@
 //! Copying the state of a machine for a snapshot.
 
-ghost use Rattle.std.specs.Prelude.{◌≡◌, ◌<◌, ◌^◌, ◌++◌, ℕ, true, IfOk, map, Some, slice_index_or};
+ghost use Rattle.std.specs.Prelude.{◌≡◌, ◌<◌, ◌^◌, ◌++◌, true, IfOk, map, slice_index_or};
 ghost use Rattle.mm_model.specs.Memory.{IsPaged, is_mapped, zero_cell};
 ghost use Rattle.mm_model.specs.State.{output_of};
 ghost use Rattle.mm_model.specs.Fits.{slots_of};
-ghost use Rattle.mm_machine.specs.Snapshot.{queued, queued_at};
+ghost use Rattle.mm_machine.specs.Snapshot.{queued};
 ghost use Rattle.mm_machine.specs.Capture.{OutputsBelow, cells_of};
 
 use crate::validate::is_group_of;

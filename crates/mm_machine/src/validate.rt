@@ -1,6 +1,6 @@
 //! Whether parts make a snapshot.
 
-ghost use Rattle.std.specs.Prelude.{◌≡◌, ◌≢◌, ◌+◌, ◌≤◌, ◌<◌, ◌↔◌, ℕ, ◌==◌, true, IsTrue, Some, None, length};
+ghost use Rattle.std.specs.Prelude.{◌≡◌, ◌≢◌, ◌≤◌, ◌<◌, ◌↔◌, ℕ, ◌==◌, true, IsTrue, Some, None, length};
 ghost use Rattle.std.specs.List.{AllByRecursion, count_by};
 ghost use Rattle.std.specs.List.Sorted.{IsStrictlyIncreasing};
 ghost use Rattle.std.specs.Option.{option_copied};
@@ -8,7 +8,6 @@ ghost use Rattle.mm_model.specs.declared.slot.SlotState.TheVariants.{Taken};
 ghost use Rattle.mm_model.specs.declared.slot.Pending.{Pending as PendingValue};
 ghost use Rattle.mm_model.specs.Slot.{Slot as SlotValue};
 ghost use Rattle.mm_model.specs.Groups.{has_group};
-ghost use Rattle.mm_model.specs.Flags.{one_if};
 ghost use Rattle.mm_model.specs.Fits.{is_waiting, waits_for, EventHoldsWords};
 ghost use Rattle.mm_thread.specs.Output.{Output as OutputValue};
 ghost use Rattle.mm_machine.specs.Snapshot.{IsSnapshot, IsTypedEvent, IsAwaited, IsEventOf, HasOneEvent, IsPending};

@@ -1,5 +1,5 @@
 -- What a state has that fits an image.
-use Rattle.std.proofs.Common.{◌≡◌, map, sym, ap, ◌∙◌, subst}
+use Rattle.std.proofs.Common.{◌≡◌, map, sym, ap, ◌∙◌}
 use Rattle.std.specs.List.{AllByRecursion}
 use Rattle.mm_model.specs.Memory.{IsPaged}
 use Rattle.mm_model.specs.State.{Core, State}

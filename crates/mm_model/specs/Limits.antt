@@ -1,7 +1,7 @@
 -- Limits that several crates keep.
 use Rattle.std.specs.Prelude.{ℕ}
 
--- the most cycles of a session, of one of its lines and of a checkpoint
+-- the most cycles of a command, of a session, of one of its lines and of a checkpoint
 abbrev pub cycle_limit : ℕ
 cycle_limit = 1000000
 

@@ -6,7 +6,7 @@ use Rattle.mm_model.specs.Slot.{Slot}
 use Rattle.mm_model.specs.Image.{Image, slot_in}
 use Rattle.mm_model.specs.Words.{TextMeans, TextFaultsAt}
 
--- the most items of a schedule
+-- the most items of a schedule or of a net
 abbrev pub item_limit : ℕ
 item_limit = 1000000
 
@@ -19,7 +19,7 @@ pub record IsItem (word : List ℕ) (number count : ℕ) : Type 0 where
   pub count_limit : count ≤ item_limit
   pub spelled : ((word ≡ decimal number) × (count ≡ 1)) ⊎ (word ≡ decimal number ++ 42 ∷ decimal count)
 
--- the word says the items: so many of a number as it counts
+-- the word says the items: `count` copies of `number`
 pub record SaysItems (word items : List ℕ) : Type 0 where
   pub number : ℕ
   pub count : ℕ

@@ -56,7 +56,7 @@ pub record TextFaultsAt {A : Type 0} (Says : List ℕ → List A → Type 0) (Ke
 
 -- 3. Reading them.
 
--- a word says one thing, no items keep the rules, and so does each front of items that keep them
+-- a word says one thing; the empty list keeps the rules, and so does each front of a list that keeps them
 pub record IsGrammar {A : Type 0} (Says : List ℕ → List A → Type 0) (Keeps : List A → Type 0) : Type 0 where
   pub one : (w : List ℕ) (xs ys : List A) → Says w xs → Says w ys → xs ≡ ys
   pub front : (xs ys : List A) → Keeps (xs ++ ys) → Keeps xs

@@ -1,8 +1,8 @@
 //! The machine as data and definitions.
 //!
-//! The plain data that the crates of the machine share is in `src/`, with limits and what it is to be the same. What the
-//! machine means is in `specs/`: memory, slots, one turn, runs, images and texts. The contracts of the crates above cite
-//! these definitions.
+//! The plain data that the crates of the machine share is in `src/`, with limits and what it is to be the same. What
+//! the machine means is in `specs/`: memory, slots, one turn, runs, images and texts. The contracts of the crates above
+//! cite these definitions.
 #![tactic(auto)]
 
 mod counts;

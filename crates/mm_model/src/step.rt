@@ -35,7 +35,7 @@ impl Step {
     ghost use Rattle.std.specs.Prelude.{◌≡◌, None};
     ghost use Rattle.mm_model.specs.declared.step.Tick.TheVariants.{Idle};
 
-    /// The step of a cycle of a slot that does nothing, as a caller hands it to a turn, which writes its own.
+    /// An idle step of the slot. A caller hands it to a turn, which overwrites it.
     pub fn idle(slot: u8) -> Step
         ensures { result ≡ record { tick = Idle; slot = slot; fetched = None; touched = None; entered = None } }
     {

@@ -1,6 +1,6 @@
 //! The words of a text of links.
 
-ghost use Rattle.std.specs.Prelude.{◌≡◌, ◌≢◌, ℕ, IfSome, IsNone, List, ◌∷◌, []};
+ghost use Rattle.std.specs.Prelude.{◌≡◌, ◌≢◌, ℕ, IfSome, IsNone};
 ghost use Rattle.mm_net.specs.Links.{IsEnd, IsLink, end_text, link_text};
 
 use crate::Link;

@@ -1,36 +1,32 @@
 -- Names among others.
-use Rattle.std.proofs.Common.{◌≡◌, ℕ, suc, ◌+◌, ◌-◌, ◌<◌, ◌≤◌, Bool, true, false, not, List, [], ◌∷◌, length, get_or, take, Decides, refl, sym, ap, ◌∙◌, arith}
+use Rattle.std.proofs.Common.{◌≡◌, ℕ, suc, ◌+◌, ◌-◌, ◌<◌, ◌≤◌, Bool, true, false, not, List, [], ◌∷◌, length, get_or, take, refl, sym, ap, ◌∙◌, arith, bytes_eq}
 use Rattle.std.specs.List.{list_any}
-use Rattle.std.proofs.lemmas.Slice.Eq.{compares_Decides}
 use Rattle.std.proofs.lemmas.List.Folds.{list_any_at, list_any_more}
 use Rattle.mm_object.specs.Names.{is_before}
-use Rattle.mm_object.specs.Objects.{Segment, same_name, is_among, names_of}
+use Rattle.mm_object.specs.Objects.{Segment, is_among, names_of}
 use Rattle.mm_object.specs.Format.{is_late}
 use Rattle.mm_object.proofs.Bools.{any-map, whole_any, none_of}
 
-pub same_name-Decides : (a b : List ℕ) → Decides (same_name a b) (a ≡ b)
-same_name-Decides = compares_Decides same_name (record { empty = refl; shorter = λ y ys. refl; longer = λ x xs. refl; heads = λ x y xs ys. refl })
-
 -- a segment has the name
 abbrev pub has_name : List ℕ → List Segment → Bool
-has_name name segments = list_any (λ (s : Segment). same_name name s.name) segments
+has_name name segments = list_any (λ (s : Segment). bytes_eq name s.name) segments
 
 pub among-names : (name : List ℕ) (segments : List Segment) → has_name name segments ≡ is_among name (names_of segments)
-among-names name segments = sym (any-map (same_name name) (λ (s : Segment). s.name) segments)
+among-names name segments = sym (any-map (bytes_eq name) (λ (s : Segment). s.name) segments)
 
-pub is_found : (name : List ℕ) (segments : List Segment) (i : ℕ) (s : Segment) → s ≡ get_or segments i s → i < length segments → same_name name s.name ≡ true → true ≡ is_among name (names_of segments)
+pub is_found : (name : List ℕ) (segments : List Segment) (i : ℕ) (s : Segment) → s ≡ get_or segments i s → i < length segments → bytes_eq name s.name ≡ true → true ≡ is_among name (names_of segments)
 is_found name segments i s is lt same = sym (sym (among-names name segments)
-    ∙ list_any_at (λ (s : Segment). same_name name s.name) segments i s lt (ap (λ (x : Segment). same_name name x.name)
+    ∙ list_any_at (λ (s : Segment). bytes_eq name s.name) segments i s lt (ap (λ (x : Segment). bytes_eq name x.name)
     (sym is) ∙ same))
 
 pub not_yet : (name : List ℕ) (segments : List Segment) (i : ℕ) (s : Segment) → s ≡ get_or segments i s
-    → i < length segments → same_name name s.name ≡ false → has_name name (take i segments) ≡ false
+    → i < length segments → bytes_eq name s.name ≡ false → has_name name (take i segments) ≡ false
     → has_name name (take (i + 1) segments) ≡ false
-not_yet name segments i s is lt other so_far = list_any_more (λ (s : Segment). same_name name s.name) segments i s lt
-    ∙ none_of _ _ so_far (ap (λ (x : Segment). same_name name x.name) (sym is) ∙ other)
+not_yet name segments i s is lt other so_far = list_any_more (λ (s : Segment). bytes_eq name s.name) segments i s lt
+    ∙ none_of _ _ so_far (ap (λ (x : Segment). bytes_eq name x.name) (sym is) ∙ other)
 
 pub not_found : (name : List ℕ) (segments : List Segment) (i : ℕ) → has_name name (take i segments) ≡ false → length segments ≤ i → false ≡ is_among name (names_of segments)
-not_found name segments i so_far le = whole_any (λ (s : Segment). same_name name s.name) segments i so_far le ∙ among-names name segments
+not_found name segments i so_far le = whole_any (λ (s : Segment). bytes_eq name s.name) segments i so_far le ∙ among-names name segments
 
 -- nothing stands before no bytes
 pub none_before : (a b : List ℕ) → length b < 1 → false ≡ is_before a b

@@ -1,16 +1,16 @@
 -- Names of which each is another one.
-use Rattle.std.proofs.Common.{◌≡◌, ℕ, Bool, true, false, not, List, [], ◌∷◌, ◌++◌, refl, sym, ap, ◌∙◌}
+use Rattle.std.proofs.Common.{◌≡◌, ℕ, Bool, true, false, not, List, [], ◌∷◌, ◌++◌, refl, sym, ap, ◌∙◌, bytes_eq}
 use Rattle.std.proofs.lemmas.List.Folds.{list_any-append}
-use Rattle.mm_object.specs.Objects.{Segment, same_name, is_among, are_apart, names_of}
+use Rattle.mm_object.specs.Objects.{Segment, is_among, are_apart, names_of}
 use Rattle.mm_model.proofs.ImageBytes.Rising.{both, and_true}
 use Rattle.mm_model.proofs.ImageBytes.Clean.{neither}
 use Rattle.mm_object.proofs.Bools.{is_false, none_of}
-use Rattle.mm_object.proofs.Among.{same_name-Decides}
+use Rattle.std.proofs.lemmas.Slice.Eq.{bytes_eq-Decides}
 
-turn : (a b : List ℕ) → same_name a b ≡ false → same_name b a ≡ false
-turn a b other = is_false (same_name b a) (λ same.
-    let e = (same_name-Decides b a).0 same in
-    let here : same_name a b ≡ true = (same_name-Decides a b).1 (sym e) in
+turn : (a b : List ℕ) → bytes_eq a b ≡ false → bytes_eq b a ≡ false
+turn a b other = is_false (bytes_eq b a) (λ same.
+    let e = (bytes_eq-Decides b a).0 same in
+    let here : bytes_eq a b ≡ true = (bytes_eq-Decides a b).1 (sym e) in
     absurd (cc (here, other)))
 
 -- one name more
@@ -20,7 +20,7 @@ apart-push (x ∷ names) name apart other =
     let rest = both _ _ apart in
     let first = neither _ _ other in
     let out : is_among x (names ++ name ∷ []) ≡ false =
-    list_any-append (same_name x) names (name ∷ []) ∙ none_of _ _ (not_true (is_among x names) rest.0) (none_of _ false (turn name x first.0) refl) in
+    list_any-append (bytes_eq x) names (name ∷ []) ∙ none_of _ _ (not_true (is_among x names) rest.0) (none_of _ false (turn name x first.0) refl) in
     and_true _ _ (ap not out) (apart-push names name rest.1 first.1)
   where
     not_true : (b : Bool) → not b ≡ true → b ≡ false
@@ -40,7 +40,7 @@ apart-before (x ∷ before) s segments apart =
     out false e = refl
 
     later : (before : List Segment) → is_among x.name (names_of (before ++ s ∷ segments)) ≡ false
-        → same_name x.name s.name ≡ false
+        → bytes_eq x.name s.name ≡ false
     later [] none = (neither _ _ none).0
     later (y ∷ before) none = later before (neither _ _ none).1
 

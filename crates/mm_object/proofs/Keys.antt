@@ -1,28 +1,25 @@
 -- Names in a set of keys.
-use Rattle.std.proofs.Common.{◌≡◌, ℕ, ◌+◌, ◌<◌, Bool, true, false, ◌||◌, List, [], ◌∷◌, length, get_or, take, refl, sym, ap, ◌∙◌, arith}
+use Rattle.std.proofs.Common.{◌≡◌, ℕ, ◌+◌, ◌<◌, Bool, true, false, ◌||◌, List, [], ◌∷◌, length, get_or, take, refl, sym, ap, ◌∙◌, bytes_eq}
 use Rattle.std.specs.declared.cmp.Ordering.{Ordering}
 use Rattle.std.specs.declared.cmp.Ordering.TheVariants.{Less, Equal, Greater}
 use Rattle.std.specs.Ordering.{nat_cmp, match_ordering, is_eq}
 use Rattle.std.specs.Cmp.Lexicographic.{slice_cmp}
 use Rattle.std.specs.BTreeSet.{insert_key}
 use Rattle.std.specs.List.{list_any}
-use Rattle.std.proofs.lemmas.Bool.Decides.{nat_tests}
-use Rattle.std.proofs.lemmas.Cmp.{same_from_slice_cmp}
+use Rattle.std.proofs.lemmas.Map.Text.{is_eq-slice_cmp}
 use Rattle.std.proofs.lemmas.List.Folds.{list_any_more}
 use denote.Ref.{Bor}
-use Rattle.mm_object.specs.Objects.{Segment, same_name, is_among, names_of}
+use Rattle.mm_object.specs.Objects.{Segment, is_among, names_of}
 use Rattle.mm_object.specs.Steps.{key_names, AreTheSame}
-use Rattle.mm_object.proofs.Among.{same_name-Decides, has_name, among-names}
-
-is_equal : (a b : List ℕ) → is_eq (slice_cmp nat_cmp a b) ≡ same_name a b
-is_equal a b = same_from_slice_cmp nat_cmp is_eq same_name refl (λ _ _. refl) (λ _ _. refl) (λ x y xs ys o h. grind (arith, nat_tests)) a b (slice_cmp nat_cmp a b) refl
+use Rattle.std.proofs.lemmas.Slice.Eq.{bytes_eq-Decides}
+use Rattle.mm_object.proofs.Among.{has_name, among-names}
 
 abbrev order_of : Bor (List ℕ) → Bor (List ℕ) → Ordering
 order_of a b = slice_cmp nat_cmp a.now b.now
 
 pub contained : (keys : List (Bor (List ℕ))) (name : List ℕ) → list_any (λ (k : Bor (List ℕ)). is_eq (slice_cmp nat_cmp name k.now)) keys ≡ is_among name (key_names keys)
 contained [] name = refl
-contained (x ∷ keys) name = ap (λ b. b || list_any (λ (k : Bor (List ℕ)). is_eq (slice_cmp nat_cmp name k.now)) keys) (is_equal name x.now) ∙ ap (λ b. same_name name x.now || b) (contained keys name)
+contained (x ∷ keys) name = ap (λ b. b || list_any (λ (k : Bor (List ℕ)). is_eq (slice_cmp nat_cmp name k.now)) keys) (is_eq-slice_cmp name x.now) ∙ ap (λ b. bytes_eq name x.now || b) (contained keys name)
 
 twice : (a b : Bool) → (a || b) ≡ (a || (a || b))
 twice true b = refl
@@ -40,18 +37,18 @@ turned false true = refl
 turned false false = refl
 
 -- a key more
-key_more : (keys : List (Bor (List ℕ))) (k : Bor (List ℕ)) (name : List ℕ) → is_among name (key_names (insert_key order_of keys k)) ≡ (same_name name k.now || is_among name (key_names keys))
+key_more : (keys : List (Bor (List ℕ))) (k : Bor (List ℕ)) (name : List ℕ) → is_among name (key_names (insert_key order_of keys k)) ≡ (bytes_eq name k.now || is_among name (key_names keys))
 key_more [] k name = refl
-key_more (x ∷ keys) k name = by (order_of k x) (is_equal k.now x.now) (key_more keys k name)
+key_more (x ∷ keys) k name = by (order_of k x) (is_eq-slice_cmp k.now x.now) (key_more keys k name)
   where
-    by : (o : Ordering) → is_eq o ≡ same_name k.now x.now
-        → is_among name (key_names (insert_key order_of keys k)) ≡ (same_name name k.now || is_among name (key_names keys))
-        → is_among name (key_names (match_ordering o (k ∷ x ∷ keys) (x ∷ keys) (x ∷ insert_key order_of keys k))) ≡ (same_name name k.now || (same_name name x.now || is_among name (key_names keys)))
+    by : (o : Ordering) → is_eq o ≡ bytes_eq k.now x.now
+        → is_among name (key_names (insert_key order_of keys k)) ≡ (bytes_eq name k.now || is_among name (key_names keys))
+        → is_among name (key_names (match_ordering o (k ∷ x ∷ keys) (x ∷ keys) (x ∷ insert_key order_of keys k))) ≡ (bytes_eq name k.now || (bytes_eq name x.now || is_among name (key_names keys)))
     by Less e later = refl
     by Equal e later =
-        let same : k.now ≡ x.now = (same_name-Decides k.now x.now).0 (sym e) in
-        twice (same_name name x.now) (is_among name (key_names keys)) ∙ ap (λ (n : List ℕ). same_name name n || (same_name name x.now || is_among name (key_names keys))) (sym same)
-    by Greater e later = ap (λ b. same_name name x.now || b) later ∙ swapped (same_name name x.now) (same_name name k.now) (is_among name (key_names keys))
+        let same : k.now ≡ x.now = (bytes_eq-Decides k.now x.now).0 (sym e) in
+        twice (bytes_eq name x.now) (is_among name (key_names keys)) ∙ ap (λ (n : List ℕ). bytes_eq name n || (bytes_eq name x.now || is_among name (key_names keys))) (sym same)
+    by Greater e later = ap (λ b. bytes_eq name x.now || b) later ∙ swapped (bytes_eq name x.now) (bytes_eq name k.now) (is_among name (key_names keys))
 
 -- the name of one segment more
 pub segment_known : (old new : List (Bor (List ℕ))) (k : Bor (List ℕ)) (segments : List Segment) (i : ℕ) (s : Segment)
@@ -60,9 +57,9 @@ pub segment_known : (old new : List (Bor (List ℕ))) (k : Bor (List ℕ)) (segm
 segment_known old new k segments i s is lt same more before = λ name.
     ap (λ keys. is_among name (key_names keys)) more
     ∙ key_more old k name
-    ∙ ap (λ (n : List ℕ). same_name name n || is_among name (key_names old)) same
-    ∙ ap (λ b. same_name name s.name || b) (before name ∙ sym (among-names name (take i segments)))
-    ∙ turned (same_name name s.name) (has_name name (take i segments))
-    ∙ ap (λ (x : Segment). has_name name (take i segments) || same_name name x.name) is
-    ∙ sym (list_any_more (λ (x : Segment). same_name name x.name) segments i s lt)
+    ∙ ap (λ (n : List ℕ). bytes_eq name n || is_among name (key_names old)) same
+    ∙ ap (λ b. bytes_eq name s.name || b) (before name ∙ sym (among-names name (take i segments)))
+    ∙ turned (bytes_eq name s.name) (has_name name (take i segments))
+    ∙ ap (λ (x : Segment). has_name name (take i segments) || bytes_eq name x.name) is
+    ∙ sym (list_any_more (λ (x : Segment). bytes_eq name x.name) segments i s lt)
     ∙ among-names name (take (i + 1) segments)

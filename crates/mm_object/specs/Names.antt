@@ -1,6 +1,8 @@
 -- Names of segments and of externals.
-use Rattle.std.specs.Prelude.{ℕ, Bool, true, false, ◌&&◌, ◌||◌, ◌==◌, nat_lt, nat_le, if◌then◌else◌, List, [], ◌∷◌}
+use Rattle.std.specs.Prelude.{ℕ, Bool, false, ◌&&◌, ◌||◌, ◌==◌, nat_le, List, [], ◌∷◌}
 use Rattle.std.specs.Prelude.{length}
+use Rattle.std.specs.Ordering.{is_lt, nat_cmp}
+use Rattle.std.specs.Cmp.Lexicographic.{slice_cmp}
 use Rattle.std.specs.List.{list_all}
 
 abbrev pub is_between : ℕ → ℕ → ℕ → Bool
@@ -24,7 +26,4 @@ is_name bytes = has_form bytes && nat_le (length bytes) 31
 
 -- one list of bytes is before another in their order
 abbrev pub is_before : List ℕ → List ℕ → Bool
-is_before [] [] = false
-is_before [] (y ∷ ys) = true
-is_before (x ∷ xs) [] = false
-is_before (x ∷ xs) (y ∷ ys) = if x == y then is_before xs ys else nat_lt x y
+is_before a b = is_lt (slice_cmp nat_cmp a b)

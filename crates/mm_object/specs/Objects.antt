@@ -2,6 +2,7 @@
 -- placed, and threads.
 use Rattle.std.specs.Prelude.{◌≡◌, ℕ, ◌+◌, ◌*◌, ◌-◌, ◌^◌, ◌<◌, ◌≤◌, Bool, true, false, not, ◌&&◌, ◌==◌, nat_lt, List}
 use Rattle.std.specs.Prelude.{[], ◌∷◌, ◌++◌, map, length, slice_get, Option, Some, None}
+use Rattle.std.specs.Str.{bytes_eq}
 use Rattle.std.specs.List.{flat_map, list_any, list_all, AllByRecursion}
 use Rattle.std.specs.List.Sorted.{IsStrictlyIncreasing}
 use Rattle.mm_word.specs.Perm.{can_fetch}
@@ -50,14 +51,8 @@ words_of (s ∷ segments) = length s.items + words_of segments
 abbrev pub names_of : List Segment → List (List ℕ)
 names_of segments = map (λ s. s.name) segments
 
-abbrev pub same_name : List ℕ → List ℕ → Bool
-same_name [] [] = true
-same_name [] (y ∷ ys) = false
-same_name (x ∷ xs) [] = false
-same_name (x ∷ xs) (y ∷ ys) = x == y && same_name xs ys
-
 abbrev pub is_among : List ℕ → List (List ℕ) → Bool
-is_among name names = list_any (same_name name) names
+is_among name names = list_any (bytes_eq name) names
 
 -- the names are all different
 abbrev pub are_apart : List (List ℕ) → Bool

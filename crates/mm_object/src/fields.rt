@@ -1,6 +1,6 @@
 //! Fields of the records of an object file.
 
-ghost use Rattle.std.specs.Prelude.{◌≡◌, ◌==◌, ◌/◌, ◌%◌, ◌^◌, ◌<◌};
+ghost use Rattle.std.specs.Prelude.{◌≡◌, ◌<◌};
 ghost use Rattle.mm_format.specs.Reading.{ReadsAlone};
 ghost use Rattle.mm_object.specs.Answers.{number_of};
 ghost use Rattle.mm_object.specs.Format.{perm_row, target_row};

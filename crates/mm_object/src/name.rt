@@ -1,10 +1,10 @@
 //! Names of segments and of externals.
 
 ghost use Rattle.std.specs.Prelude.{◌≡◌, ◌≤◌, true, IsTrue, length};
+ghost use Rattle.std.specs.Str.{bytes_eq};
 ghost use Rattle.std.specs.Option.{SomeIff};
 ghost use Rattle.std.specs.List.{list_all};
 ghost use Rattle.mm_object.specs.Names.{begins_name, goes_on, is_before, is_name};
-ghost use Rattle.mm_object.specs.Objects.{same_name};
 
 use arrayvec::ArrayVec;
 use std::marker::Model;
@@ -90,7 +90,7 @@ fn goes_on(byte: u8) -> bool
 
 /// Whether two names are the same.
 pub(crate) fn is_same(a: &Name, b: &Name) -> bool
-    ensures { result ≡ same_name a.now b.now }
+    ensures { result ≡ bytes_eq a.now b.now }
 {
     a.bytes() == b.bytes()
 }
@@ -99,9 +99,5 @@ pub(crate) fn is_same(a: &Name, b: &Name) -> bool
 pub(crate) fn is_before(a: &[u8], b: &[u8]) -> bool
     ensures { result ≡ is_before a.now b.now }
 {
-    match (a, b) {
-        (_, []) => false,
-        ([], _) => true,
-        ([x, xs @ ..], [y, ys @ ..]) => { if x == y { is_before(xs, ys) } else { x < y } }
-    }
+    a.cmp(b).is_lt()
 }

@@ -2,7 +2,7 @@
 
 ghost use Rattle.std.specs.Prelude.{◌≡◌, ◌==◌, ◌||◌, nat_lt, ◌+◌, ◌≤◌, IfOk, [], List, length, vec_len, true};
 ghost use Rattle.std.specs.Prelude.{false, MatchOption};
-ghost use Rattle.mm_format.specs.Formats.{test, times};
+ghost use Rattle.mm_format.specs.Formats.{times};
 ghost use Rattle.mm_format.specs.Reading.{Reads, ReadsAlone};
 ghost use Rattle.mm_object.specs.Answers.{number_of};
 ghost use Rattle.mm_object.specs.Format.{name_row, external_row, is_late, push};

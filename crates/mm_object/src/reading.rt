@@ -1,6 +1,6 @@
 //! The reader of object files.
 
-ghost use Rattle.std.specs.Prelude.{◌≡◌, ℕ, ◌≤◌, ◌<◌, ◌^◌, IfOk, Some, Err, true, length};
+ghost use Rattle.std.specs.Prelude.{◌≡◌, ◌≤◌, ◌<◌, ◌^◌, IfOk, true, length};
 ghost use Rattle.mm_model.specs.Bytes.{IsBytes};
 ghost use Rattle.mm_format.specs.Formats.{answer, file, first_late};
 ghost use Rattle.mm_format.specs.Reading.{Reads, ReadsAlone, ReadsFile, AnswersFile};
@@ -8,7 +8,7 @@ ghost use Rattle.mm_object.specs.declared.fault.ObjectFault.{ObjectFault};
 ghost use Rattle.mm_object.specs.Answers.{number_of};
 ghost use Rattle.mm_object.specs.Faults.{fault_of, object_fault};
 ghost use Rattle.mm_object.specs.Format.{object, pointers_from, pointers_row, used_pointers, use_tests};
-ghost use Rattle.mm_object.specs.Objects.{Object as ObjectValue, targets_of};
+ghost use Rattle.mm_object.specs.Objects.{targets_of};
 ghost use Rattle.mm_object.specs.Spelling.{Spells};
 
 use crate::fault::{ObjectError, ObjectFault};

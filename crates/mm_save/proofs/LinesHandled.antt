@@ -9,7 +9,7 @@ use Rattle.mm_debug.specs.Dialogues.{IsAnswer, Carried}
 use Rattle.mm_debug.specs.Dialogues.Carried.{all, quit, more}
 use Rattle.mm_debug.proofs.Dialogues.{IsDialogue, is_dialogue}
 use Rattle.mm_save.specs.declared.recorder.Recorder.{Recorder}
-use Rattle.mm_save.specs.Recorder.{Recording, Recalls, recalled, recollection, IsKept, AreKept, totals_after, totals_before, Handled}
+use Rattle.mm_save.specs.Recorder.{Recording, Recalls, recalled, recollection, AreKept, totals_after, totals_before, Handled}
 use Rattle.mm_save.specs.Shown.{recording_of}
 
 -- the same answer, of a session that began as another did

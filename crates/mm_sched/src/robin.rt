@@ -1,7 +1,7 @@
 //! Round robin.
 
-ghost use Rattle.std.specs.Prelude.{◌≡◌, ◌≢◌, ◌↔◌, ◌<◌, ◌+◌, ◌^◌, IsSome, IfSome, Some, None};
-ghost use Rattle.mm_sched.specs.Following.{IsNextBit, IsLeastBit, NoBitAbove};
+ghost use Rattle.std.specs.Prelude.{◌≡◌, ◌≢◌, ◌↔◌, ◌<◌, ◌+◌, IsSome, IfSome, Some, None};
+ghost use Rattle.mm_sched.specs.Following.{IsNextBit};
 
 use std::marker::Model;
 

@@ -1,6 +1,6 @@
 //! The runs of bytes between blanks and comments.
 
-ghost use Rattle.std.specs.Prelude.{◌≡◌, ◌<◌, ◌≤◌, ◌∷◌, length, slice_range, slice_index_or, false, true, IsTrue};
+ghost use Rattle.std.specs.Prelude.{◌≡◌, ◌<◌, ◌≤◌, ◌∷◌, length, slice_range, slice_index_or, true};
 ghost use Rattle.mm_model.specs.Words.{is_blank as blank};
 ghost use Rattle.mm_sched.specs.Places.{runs_at, runs_in, is_word_byte};
 

@@ -1,6 +1,6 @@
 //! Positions in a list of segments, found by binary search.
 
-ghost use Rattle.std.specs.Prelude.{◌≡◌, ◌<◌, ◌≤◌, ◌↔◌, IsTrue};
+ghost use Rattle.std.specs.Prelude.{◌≡◌, ◌<◌, ◌↔◌, IsTrue};
 ghost use Rattle.mm_seg.specs.Segments.{IsSet, IsSegment, EndsBy, BeginsBy, end_of, Covered};
 
 /// The end of a segment: the address after its last.

@@ -1,6 +1,6 @@
 //! Slots and pages without pointers whose segments meet a range.
 
-ghost use Rattle.std.specs.Prelude.{◌≡◌, IfOk, map, length};
+ghost use Rattle.std.specs.Prelude.{◌≡◌, IfOk, map};
 ghost use Rattle.mm_sweep.specs.Swept.{swept_word, swept_cell, swept_slot, swept_page};
 
 use crate::meeting::Range;

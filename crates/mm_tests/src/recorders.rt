@@ -59,7 +59,8 @@ fn recorder(alloc: Global) -> Result<Recorder<PlainMem>, Fail> {
 }
 
 const WENT_BACK: &[u8] =
-    b"stepped 1500 total 1500\nstepped 1500 total 3000\nback 1 total 2999\nbad command\nbad command\nback 2999 total 0\nbye\n";
+    b"stepped 1500 total 1500\nstepped 1500 total 3000\nback 1 total 2999\nbad command\nbad command\n\
+      back 2999 total 0\nbye\n";
 
 #[test]
 fn back_to_kept_states(rt: HostRuntime) -> Result<(), Fail> {

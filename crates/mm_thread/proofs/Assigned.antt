@@ -11,7 +11,7 @@ use Rattle.std.proofs.lemmas.List.{set_at, drop_more, take_more, length-append, 
 use Rattle.mm_model.specs.declared.event.Event.{Event}
 use Rattle.mm_model.specs.Slot.{Slot}
 use Rattle.mm_model.specs.State.{ThreadRow, Core, row_in, slot_of, queue_of, slot_at, queue_at, output_of, at_number, put_queue}
-use Rattle.mm_model.specs.Fits.{slots_of, IsSlot, IsCore}
+use Rattle.mm_model.specs.Fits.{slots_of, IsCore}
 use Rattle.mm_model.proofs.CoreRows.{each_map, slots_found}
 use Rattle.mm_model.proofs.Shortness.{queue_short}
 use Rattle.mm_thread.specs.Output.{Output}

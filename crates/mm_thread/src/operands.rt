@@ -1,7 +1,7 @@
 //! The registers and the number in an instruction's operands.
 #![tactic(auto, unfolding(mm_model::specs::Operands::addr_operand, mm_model::specs::Operands::value_operand, mm_model::specs::Operands::lacks))]
 
-ghost use Rattle.std.specs.Prelude.{◌≡◌, [], ◌∷◌};
+ghost use Rattle.std.specs.Prelude.{◌≡◌};
 ghost use Rattle.std.specs.List.{list_any};
 ghost use Rattle.mm_model.specs.Slot.{is_empty};
 ghost use Rattle.mm_model.specs.Operands.{field_a, field_b, field_imm, fields_d, addr_operand, value_operand};

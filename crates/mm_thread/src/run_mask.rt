@@ -1,6 +1,6 @@
 //! The set of running slots: bit n is set if slot n runs.
 
-ghost use Rattle.std.specs.Prelude.{◌≡◌, ◌<◌, length};
+ghost use Rattle.std.specs.Prelude.{◌≡◌, ◌<◌};
 ghost use Rattle.std.specs.Int.{bit_at};
 ghost use Rattle.mm_thread.specs.Tables.{AreNumbered, HasRunners, IsNoted};
 

@@ -1,6 +1,6 @@
 //! The instructions that need the slots and outputs around their slot.
 
-ghost use Rattle.std.specs.Prelude.{◌≡◌, ◌≢◌, ◌<◌, ◌^◌, true, IfSome, IfNone, length};
+ghost use Rattle.std.specs.Prelude.{◌≡◌, ◌≢◌, ◌<◌, true, IfSome, IfNone, length};
 ghost use Rattle.mm_word.specs.Word.{word_bits};
 ghost use Rattle.mm_word.specs.declared.cause.Cause.TheVariants.{NoSlot};
 ghost use Rattle.mm_model.specs.Memory.{Memory};

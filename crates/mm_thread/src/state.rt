@@ -78,8 +78,8 @@ pub fn turn<M: Memory>(core: &mut Core, mem: &mut M, item: u8) -> Step
     step
 }
 
-/// The turn that [`turn`] takes, whose step is written into the caller's. A returned step is copied by each function that
-/// it passes through, so a loop of turns uses this call.
+/// Does what [`turn`] does, and writes the step into the caller's. A step that is returned is copied by each function
+/// that it passes through, so a loop of turns uses this call.
 pub fn turn_into<M: Memory>(core: &mut Core, mem: &mut M, item: u8, step: &mut Step)
     requires turns { AllByRecursion (λ (s : SlotValue). s.turns < 2 ^ 61) (slots_of core.old) }
     requires room { M.uses mem.old < 2 ^ 61 }

@@ -1,6 +1,7 @@
 -- From a run to its checkpoint and on: what `save` and `continue` do one after the other.
 use Rattle.std.specs.Prelude.{◌≡◌, ℕ, ◌+◌, ◌≤◌, List, [], ◌∷◌, ◌++◌, length, Option, None}
 use Rattle.mm_model.specs.declared.counts.Counts.{Counts}
+use Rattle.mm_model.specs.Limits.{cycle_limit}
 use Rattle.mm_model.specs.Uses.{Use}
 use Rattle.mm_model.specs.Image.{Image, start}
 use Rattle.mm_model.specs.Bytes.{IsBytes}
@@ -50,5 +51,5 @@ pub record IsSaved (tells : List Use → Option Counts) (i : Image) (a : ℕ) (l
 abbrev pub SavesGoOn : Type 0
 SavesGoOn = (tells : List Use → Option Counts) (i : Image) (a : ℕ) (image : List ℕ) (schedule : Option (List ℕ))
     (lists : List Value) (ck : List ℕ)
-    → IsImage i → a ≤ 1000000 → Yields tells (save image a schedule) (an_image i ∷ lists) ck
+    → IsImage i → a ≤ cycle_limit → Yields tells (save image a schedule) (an_image i ∷ lists) ck
     → IsSaved tells i a lists ck

@@ -1,7 +1,8 @@
 //! `net`: images as nodes, joined by links.
 
-ghost use Rattle.std.specs.Prelude.{◌≡◌, ◌+◌, ◌++◌, ◌≤◌, ◌^◌, ℕ, List, MatchOption, IfOk, length, take};
+ghost use Rattle.std.specs.Prelude.{◌≡◌, ◌+◌, ◌++◌, ◌≤◌, ◌^◌, List, MatchOption, IfOk, length, take};
 ghost use Rattle.std.specs.List.{All, count_by};
+ghost use Rattle.mm_model.specs.Schedule.{item_limit};
 ghost use Rattle.mm_model.specs.Image.{Image as model};
 ghost use Rattle.mm_net.specs.declared.item.NetItem.{NetItem as Item};
 ghost use Rattle.mm_net.specs.Net.{net_of, links_of, room_of, steps_of, sent_count, AllStart, IsUnused, StandsFor};
@@ -97,9 +98,9 @@ fn boot_nodes<M: Boot>(alloc: Global, images: &[Image]) -> Result<Vec<Machine<M>
 
 /// The number of items by which a link takes. Each of them sends at most one integer.
 fn count_sends(items: &[NetItem]) -> u32
-    requires { length items.now ≤ 1000000 }
+    requires { length items.now ≤ item_limit }
     ensures count { result ≡ count_by is_send items.now }
-    ensures most { result ≤ 1000000 }
+    ensures most { result ≤ item_limit }
 {
     items.iter().filter(|item| is_send(item)).count() as u32
 }

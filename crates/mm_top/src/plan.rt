@@ -1,6 +1,7 @@
 //! What `run`, `trace`, `log` and `save` are given: an image, an order and a number of cycles.
 
 ghost use Rattle.std.specs.Prelude.{◌≤◌, ◌∷◌, [], IfOk, slice_get};
+ghost use Rattle.mm_model.specs.Limits.{cycle_limit};
 ghost use Rattle.mm_cli.specs.Said.{AreOf, number_of, row};
 ghost use Rattle.mm_cli.specs.Table.{files_of};
 ghost use Rattle.mm_load.specs.Files.{FilesRead, reading};
@@ -28,7 +29,7 @@ pub fn load_plan<F: Files>(alloc: Global, words: &[Word<'_>], files: &mut F) -> 
     requires { AreOf Command.Run words.now }
     ensures read { FilesRead (reading F.held F.faults F.asked files.old files.new) []
         (files_of (row Command.Run words.now)) (λ p. an_image p.image ∷ values_of p.order) result }
-    ensures few { IfOk result (λ p. p.cycles ≤ 1000000) }
+    ensures few { IfOk result (λ p. p.cycles ≤ cycle_limit) }
     ensures issues { IfOk result (λ p. AreIssued p.image (number_of (slice_get words.now 1)) (values_of p.order)
         (items_planned p)) }
 {

@@ -1,6 +1,7 @@
 //! `continue`: the report of an image's run that goes on from a checkpoint.
 
 ghost use Rattle.std.specs.Prelude.{◌≤◌};
+ghost use Rattle.mm_model.specs.Limits.{cycle_limit};
 ghost use Rattle.mm_checkpoint.specs.Checkpoints.{IsCheckpoint, saved_of};
 ghost use Rattle.mm_load.specs.Files.{reading};
 ghost use Rattle.mm_cli.specs.Said.{AreOf, row};
@@ -48,7 +49,7 @@ fn write_resumed<M: Boot + Reset, O: Sink>(
     out: &mut O,
 ) -> Result<(), Stop>
     requires checkpoint { IsCheckpoint image.now checkpoint.now.snapshot checkpoint.now.last }
-    requires few { cycles ≤ 1000000 }
+    requires few { cycles ≤ cycle_limit }
     ensures { EndsWith (writing O.taken O.faults out.old out.new)
         (Continues M.tells image.now (saved_of checkpoint.now.snapshot checkpoint.now.last) cycles
         (values_of order.now)) result }

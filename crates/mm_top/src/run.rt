@@ -1,6 +1,7 @@
 //! `run`: the report of an image's run.
 
 ghost use Rattle.std.specs.Prelude.{◌≡◌, ◌≤◌};
+ghost use Rattle.mm_model.specs.Limits.{cycle_limit};
 ghost use Rattle.mm_load.specs.Files.{reading};
 ghost use Rattle.mm_cli.specs.Said.{AreOf, row};
 ghost use Rattle.mm_top.specs.Plans.{items_planned};
@@ -36,7 +37,7 @@ pub fn run<M: Boot, F: Files, O: Sink>(
 
 /// Writes the report of a plan's run.
 fn write_run<M: Boot, O: Sink>(alloc: Global, plan: &Plan, out: &mut O) -> Result<(), Stop>
-    requires { plan.now.cycles ≤ 1000000 }
+    requires { plan.now.cycles ≤ cycle_limit }
     ensures { EndsWith (writing O.taken O.faults out.old out.new)
         (λ text. text ≡ report_after M.tells plan.now.image (items_planned plan.now)) result }
 {

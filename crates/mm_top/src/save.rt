@@ -1,6 +1,7 @@
 //! `save`: the checkpoint of an image's run.
 
 ghost use Rattle.std.specs.Prelude.{◌≡◌, ◌≤◌};
+ghost use Rattle.mm_model.specs.Limits.{cycle_limit};
 ghost use Rattle.mm_load.specs.Files.{reading};
 ghost use Rattle.mm_cli.specs.Said.{AreOf, row};
 ghost use Rattle.mm_load.specs.Kinds.{values_of};
@@ -36,7 +37,7 @@ pub fn save<M: Boot, F: Files, O: Sink>(
 
 /// Writes the checkpoint of a plan's run.
 fn write_saved<M: Boot, O: Sink>(alloc: Global, plan: &Plan, out: &mut O) -> Result<(), Stop>
-    requires { plan.now.cycles ≤ 1000000 }
+    requires { plan.now.cycles ≤ cycle_limit }
     ensures { let items = items_planned plan.now in
         EndsWith (writing O.taken O.faults out.old out.new)
         (λ text. text ≡ saved_after plan.now.image items (last_issued (values_of plan.now.order) items)) result }

@@ -1,6 +1,7 @@
 //! `soak`: the summary of a generated image's run.
 
 ghost use Rattle.std.specs.Prelude.{◌≡◌, ◌≤◌, []};
+ghost use Rattle.mm_model.specs.Limits.{cycle_limit};
 ghost use Rattle.mm_cli.specs.Said.{AreOf, row};
 ghost use Rattle.mm_top.specs.Commands.{soaked, Yields};
 ghost use Rattle.mm_top.specs.Answers.{EndsWith, writing};
@@ -39,7 +40,7 @@ fn write_soaked<M: Boot, O: Sink>(
 ) -> Result<(), Stop>
     requires some { 1 ≤ size }
     requires few { size ≤ 16 }
-    requires most { cycles ≤ 1000000 }
+    requires most { cycles ≤ cycle_limit }
     ensures { EndsWith (writing O.taken O.faults out.old out.new) (λ text. text ≡ soaked number size cycles) result }
 {
     let image = image(alloc, number, size)?;

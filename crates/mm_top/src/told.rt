@@ -1,6 +1,7 @@
 //! Runs with lines of their own for each cycle, and then the report.
 
 ghost use Rattle.std.specs.Prelude.{◌≡◌, ◌≤◌, ◌++◌, ◌^◌, ◌+◌, List, ℕ};
+ghost use Rattle.mm_model.specs.Limits.{cycle_limit};
 ghost use Rattle.mm_io.specs.Sinks.{Writes};
 ghost use Rattle.mm_text.specs.Gathers.{Gathers};
 ghost use Rattle.mm_model.specs.Image.{Image as ImageValue, start};
@@ -38,7 +39,7 @@ pub fn write_told<M: Boot, O: Sink>(
     told: Told,
     out: &mut O,
 ) -> Result<(), Stop>
-    requires { plan.now.cycles ≤ 1000000 }
+    requires { plan.now.cycles ≤ cycle_limit }
     ensures { let items = items_planned plan.now in
         EndsWith (writing O.taken O.faults out.old out.new)
         (λ text. text ≡ told_of told (start plan.now.image) items ++ report_after M.tells plan.now.image items) result }

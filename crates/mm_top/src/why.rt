@@ -1,7 +1,6 @@
 //! `why`: by what way a group is granted a word.
 
-ghost use Rattle.std.specs.Prelude.{◌≡◌, ◌<◌, ℕ, Option, Result, Ok, Err};
-ghost use Rattle.std.specs.Option.{option_map};
+ghost use Rattle.std.specs.Prelude.{◌<◌, Result};
 ghost use Rattle.mm_why.specs.Text.{SaysWhy};
 ghost use Rattle.mm_load.specs.Files.{reading};
 ghost use Rattle.mm_cli.specs.Words.{IsWordAddress};

@@ -1,12 +1,12 @@
 //! The cached memory.
 
-ghost use Rattle.std.specs.Prelude.{◌≡◌, ℕ, ◌+◌, ◌-◌, ◌*◌, ◌^◌, ◌%◌, ◌<◌, ◌≤◌, ◌&&◌, Bool, true, false, [], ◌∷◌, ◌++◌};
+ghost use Rattle.std.specs.Prelude.{◌≡◌, ◌+◌, ◌-◌, ◌*◌, ◌^◌, ◌%◌, ◌<◌, ◌≤◌, ◌&&◌, Bool, true, false, [], ◌∷◌, ◌++◌};
 ghost use Rattle.std.specs.Prelude.{IsTrue, IfOk, IfSome, IfNone, List, length, is_some, slice_set};
 ghost use Rattle.std.specs.Ordering.{nat_cmp};
 ghost use Rattle.std.specs.FinMap.{is_sorted};
 ghost use Rattle.mm_word.specs.declared.perm.Kind.{Kind};
 ghost use Rattle.mm_model.specs.Memory.{IsPaged, cell_at, put_cell};
-ghost use Rattle.mm_model.specs.Uses.{Use, Accessed, Removed};
+ghost use Rattle.mm_model.specs.Uses.{Use, Accessed};
 ghost use Rattle.mm_model.specs.Counted.{block_of, line_of, page_of_block, page_of_old, writes as writes_of};
 ghost use Rattle.mm_frames.specs.Framed.{frame_of};
 ghost use Rattle.mm_cache.specs.Lines.{hits, emptied};

@@ -18,7 +18,7 @@ use Rattle.mm_model.specs.Reach.Entries.{All}
 use Rattle.mm_flow.specs.declared.node.Right.{Right}
 use Rattle.mm_flow.specs.declared.node.Right.TheVariants.{Load, Make}
 use Rattle.mm_flow.specs.Edges.{Edges, SharingEdges, no_node, entry_at, enters_at, right_at}
-use Rattle.mm_flow.specs.Flow.{Has, Flows, IsFlow, Fits}
+use Rattle.mm_flow.specs.Flow.{Has, Flows, IsFlow}
 use Rattle.mm_flow.specs.Flow.Flows.{from as flows_from, along as flows_along, through as flows_through}
 use Rattle.mm_flow.specs.Sharing.{kept_mark}
 use Rattle.mm_flow.specs.Reached.{HasSome, Shares, AreSharingEdges, Reached, IsReach}

@@ -9,7 +9,7 @@ use Rattle.mm_graph.proofs.OneBits.{with_bit, with_bit-only, with_bit-keeps, wit
 use Rattle.mm_flow.proofs.Walks.{at_one}
 use Rattle.mm_flow.proofs.Bits.{zero_bit}
 use Rattle.std.proofs.lemmas.Bool.Decides.{nat_tests}
-use Rattle.mm_why.specs.Rounds.{Hands, IsHanding, HandsOn, IsStep, round_at, FirstRounds, AreRounds, HandingSoFar, OwnSoFar}
+use Rattle.mm_why.specs.Rounds.{IsHanding, HandsOn, IsStep, round_at, FirstRounds, AreRounds, HandingSoFar, OwnSoFar}
 use Rattle.mm_why.specs.Rounds.Hands.{met}
 use Rattle.mm_why.proofs.Pruning.{same_or_before}
 

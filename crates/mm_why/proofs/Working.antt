@@ -9,7 +9,7 @@ use Rattle.mm_why.specs.declared.line.Line.{Line}
 use Rattle.mm_why.specs.declared.search.Search.{Search}
 use Rattle.mm_why.specs.declared.work.Work.{Work}
 use Rattle.mm_why.specs.Derivations.{line_at, Says, Follows}
-use Rattle.mm_why.specs.Traces.{IsTrace, Extends, Adds}
+use Rattle.mm_why.specs.Traces.{Extends, Adds}
 use Rattle.mm_why.specs.Searches.{AtNode}
 use Rattle.mm_why.specs.Graphs.{HasNoLine, IsSearch}
 use Rattle.mm_why.specs.Works.{search_at, IsKnown, IsSearched, IsWork, GoesOn}

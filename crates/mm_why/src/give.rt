@@ -3,9 +3,8 @@
 ghost use Rattle.std.specs.Prelude.{◌≡◌, ℕ, ◌<◌, ◌↔◌, IsTrue, IfOk, MatchOption, Some, length};
 ghost use Rattle.mm_word.specs.Pointer.{Pointer as PointerValue};
 ghost use Rattle.mm_flow.specs.Flow.{Has};
-ghost use Rattle.mm_graph.specs.GraphOf.{CommonWord};
 ghost use Rattle.mm_why.specs.declared.search.Search.{Search as SearchValue};
-ghost use Rattle.mm_why.specs.Derivations.{line_at, Says, Follows};
+ghost use Rattle.mm_why.specs.Derivations.{Says, Follows};
 ghost use Rattle.mm_why.specs.Rounds.{AreRounds, round_at};
 ghost use Rattle.mm_why.specs.Reasons.{IsHand};
 ghost use Rattle.mm_why.specs.Works.{search_at, IsKnown, IsWork, GoesOn, ReachesRight, HasRightAt, whole_pointer};

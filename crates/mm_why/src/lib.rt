@@ -5,7 +5,7 @@
 //!
 //! | step | made in |
 //! |---|---|
-//! | the pointers that each group has by its own slots, cells and entries: marks along the edges of the image's graph | `mm_graph`, `mm_flow` |
+//! | what each group has by its own slots, cells and entries: marks on the edges of a graph | `mm_graph`, `mm_flow` |
 //! | to which groups all that a group has comes, round by round | `rounds`, `reasons` |
 //! | the lines of one group's own pointers, nearest first | `search` |
 //! | by which pointers of two groups the one can store where the other loads | `carriers` |

@@ -14,7 +14,7 @@ ghost use Rattle.mm_graph.specs.Nodes.{found_word};
 ghost use Rattle.mm_why.specs.Derivations.{Follows};
 ghost use Rattle.mm_why.specs.Graphs.{IsGraph, IsFound, CellsPlaced, SlotsPlaced, HasNoLine, IsSearch};
 ghost use Rattle.mm_why.specs.Traces.{IsTrace};
-ghost use Rattle.mm_why.specs.Searches.{stage_of, place_at, IsPlaced, AtNode, Searching, Further, Advances, HeldBy};
+ghost use Rattle.mm_why.specs.Searches.{stage_of, place_at, IsPlaced, AtNode, Searching, Advances, HeldBy};
 ghost use Rattle.mm_why.specs.Searches.{WordPlaced, SlotPlaced, IsSlotOf, HasWords, RegistersPlaced, IsClosed};
 
 use crate::line::{Line, Rule};

@@ -126,7 +126,7 @@ fn put_answer<O: Sink>(text: &mut Gather, out: &mut O, answer: Option<&[Line]>)
 /// | `K group G P ip S` | P is the instruction pointer of slot S of G |
 /// | `K group G P cell A by J` | line J, of G, loads the word A, where the image's cell holds P |
 /// | `K group G P below J` | P is below the pointer of line J, of G |
-/// | `K group G P passed A from J store M load N` | line J grants P to a group; line M, of that group, stores at A; line N, of G, loads A |
+/// | `K group G P passed A from J store M load N` | J grants P; line M of its group stores at A, line N of G loads A |
 /// | `K group G P entered J` | an entry by line J, of G, leaves P |
 /// | `K group G P served S from J` | line J grants P to a group; slot S and its handler are of that group and of G |
 /// | `K group G P made J` | line J, of G, is a pointer of privileged code |

@@ -1,6 +1,6 @@
 //! The lines so far, and which groups were searched.
 
-ghost use Rattle.std.specs.Prelude.{◌≡◌, ℕ, ◌<◌, OnOk, IfOk, IsTrue, None, Some, false, length, replicate, slice_set};
+ghost use Rattle.std.specs.Prelude.{◌≡◌, ℕ, ◌<◌, OnOk, IfOk, IsTrue, None, Some, false, length, slice_set};
 ghost use Rattle.mm_model.specs.Image.{Image as ImageValue};
 ghost use Rattle.mm_graph.specs.declared.graph.Graph.{Graph as GraphValue};
 ghost use Rattle.mm_why.specs.Derivations.{Follows, Says};

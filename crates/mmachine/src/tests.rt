@@ -7,38 +7,52 @@ use mm_vmem::VMem;
 use std::test::Fail;
 
 const HELLO: &[u8] =
-    b"cycles 3\ngroup 0 output 1\no 41\nslot 0 turns 3 halted ip p3300000000100010\nr 1 i0000000000000041\ncounts hits 2 misses 1 writebacks 0 tlb_hits 0 tlb_misses 1 reads 1 writes 0\n";
+    b"cycles 3\ngroup 0 output 1\no 41\nslot 0 turns 3 halted ip p3300000000100010\nr 1 i0000000000000041\n\
+      counts hits 2 misses 1 writebacks 0 tlb_hits 0 tlb_misses 1 reads 1 writes 0\n";
 
 // Two turns of slot 0, and one of a slot that is not there.
 const UNDER_A_SCHEDULE: &[u8] =
-    b"cycles 3\ngroup 0 output 1\no 41\nslot 0 turns 2 running ip p3300000000100010\nr 1 i0000000000000041\ncounts hits 1 misses 1 writebacks 0 tlb_hits 0 tlb_misses 1 reads 1 writes 0\n";
+    b"cycles 3\ngroup 0 output 1\no 41\nslot 0 turns 2 running ip p3300000000100010\nr 1 i0000000000000041\n\
+      counts hits 1 misses 1 writebacks 0 tlb_hits 0 tlb_misses 1 reads 1 writes 0\n";
 
 // The report of a third cycle, after a checkpoint of two. The line of counts is of that cycle alone.
 const CONTINUED: &[u8] =
-    b"cycles 3\ngroup 0 output 1\no 41\nslot 0 turns 3 halted ip p3300000000100010\nr 1 i0000000000000041\ncounts hits 0 misses 1 writebacks 0 tlb_hits 0 tlb_misses 1 reads 1 writes 0\n";
+    b"cycles 3\ngroup 0 output 1\no 41\nslot 0 turns 3 halted ip p3300000000100010\nr 1 i0000000000000041\n\
+      counts hits 0 misses 1 writebacks 0 tlb_hits 0 tlb_misses 1 reads 1 writes 0\n";
 
 // Two cycles of round robin, each with its line.
 const TWO_CYCLES: &[u8] =
-    b"t 0 1 did fetch 00000000100000\nt 0 2 did fetch 00000000100008\ncycles 2\ngroup 0 output 1\no 41\nslot 0 turns 2 running ip p3300000000100010\nr 1 i0000000000000041\ncounts hits 1 misses 1 writebacks 0 tlb_hits 0 tlb_misses 1 reads 1 writes 0\n";
+    b"t 0 1 did fetch 00000000100000\nt 0 2 did fetch 00000000100008\ncycles 2\ngroup 0 output 1\no 41\n\
+      slot 0 turns 2 running ip p3300000000100010\nr 1 i0000000000000041\n\
+      counts hits 1 misses 1 writebacks 0 tlb_hits 0 tlb_misses 1 reads 1 writes 0\n";
 
 // The same two cycles, and what each of them changed.
 const LOG_OF_TWO: &[u8] =
-    b"t 0 1 did fetch 00000000100000\nip 0 p3300000000100008\nr 0 1 i0000000000000041\nt 0 2 did fetch 00000000100008\nip 0 p3300000000100010\nout 0 41\ncycles 2\ngroup 0 output 1\no 41\nslot 0 turns 2 running ip p3300000000100010\nr 1 i0000000000000041\ncounts hits 1 misses 1 writebacks 0 tlb_hits 0 tlb_misses 1 reads 1 writes 0\n";
+    b"t 0 1 did fetch 00000000100000\nip 0 p3300000000100008\nr 0 1 i0000000000000041\n\
+      t 0 2 did fetch 00000000100008\nip 0 p3300000000100010\nout 0 41\ncycles 2\ngroup 0 output 1\no 41\n\
+      slot 0 turns 2 running ip p3300000000100010\nr 1 i0000000000000041\n\
+      counts hits 1 misses 1 writebacks 0 tlb_hits 0 tlb_misses 1 reads 1 writes 0\n";
 
 // The turns of the two slots of `pair`.
 const TURNS: &str = "0*3 1 0 1*2";
 
 const TRACE_OF_TWO: &[u8] =
-    b"t 0 1 did fetch 00000000100000\nt 0 2 did fetch 00000000100008\nt 0 3 did fetch 00000000100000\nt 1 1 did fetch 00000000100000\nt 0 4 did fetch 00000000100008\nt 1 2 did fetch 00000000100008\nt 1 3 did fetch 00000000100000\ncycles 7\ngroup 0 output 2\no 4141\nslot 0 turns 4 running ip p3300000000100000\nr 1 i0000000000000041\ngroup 1 output 2\no 4242\nslot 1 turns 3 running ip p3300000000100008\nr 1 i0000000000000042\ncounts hits 6 misses 1 writebacks 0 tlb_hits 0 tlb_misses 1 reads 1 writes 0\n";
+    b"t 0 1 did fetch 00000000100000\nt 0 2 did fetch 00000000100008\nt 0 3 did fetch 00000000100000\n\
+      t 1 1 did fetch 00000000100000\nt 0 4 did fetch 00000000100008\nt 1 2 did fetch 00000000100008\n\
+      t 1 3 did fetch 00000000100000\ncycles 7\ngroup 0 output 2\no 4141\n\
+      slot 0 turns 4 running ip p3300000000100000\nr 1 i0000000000000041\ngroup 1 output 2\no 4242\n\
+      slot 1 turns 3 running ip p3300000000100008\nr 1 i0000000000000042\n\
+      counts hits 6 misses 1 writebacks 0 tlb_hits 0 tlb_misses 1 reads 1 writes 0\n";
 
 const ALONE_0: &[u8] =
-    b"cycles 4\ngroup 0 output 2\no 4141\nslot 0 turns 4 running ip p3300000000100000\nr 1 i0000000000000041\ncounts hits 3 misses 1 writebacks 0 tlb_hits 0 tlb_misses 1 reads 1 writes 0\n";
+    b"cycles 4\ngroup 0 output 2\no 4141\nslot 0 turns 4 running ip p3300000000100000\nr 1 i0000000000000041\n\
+      counts hits 3 misses 1 writebacks 0 tlb_hits 0 tlb_misses 1 reads 1 writes 0\n";
 
 // A source of two lines, and its object.
 const SOURCE: &[u8] = b".segment a 3\nhalt\n";
 
-const HALT: &[u8] =
-    b"MMO1\x00\x01\x00\x01\x00\x00\x00\x00\x00\x00\x00\x00\x01a\x03\x00\x00\x00\x01\x01\x00\x00\x00\x00\x00\x00\x00\x00";
+const HALT: &[u8] = b"MMO1\x00\x01\x00\x01\x00\x00\x00\x00\x00\x00\x00\x00\
+      \x01a\x03\x00\x00\x00\x01\x01\x00\x00\x00\x00\x00\x00\x00\x00";
 
 // The canonical text of that object.
 const HALT_AGAIN: &[u8] = b".spare 0\n.segment a 3\nhalt\n";
@@ -55,7 +69,12 @@ const LINK: &[u8] = b"0.1048640>1.1048648";
 const EVENTS: &[u8] = b"0:0*2 +0 0@0 1:0 1:1";
 
 const HELLO_AND_PAIR: &[u8] =
-    b"node 0\ncycles 2\ngroup 0 output 1\no 41\nslot 0 turns 2 running ip p3300000000100010\nr 1 i0000000000000041\ncell 00000000100040 i0000000000000000 empty\ncounts hits 1 misses 2 writebacks 0 tlb_hits 1 tlb_misses 1 reads 2 writes 0\nnode 1\ncycles 2\ngroup 0 output 1\no 41\nslot 0 turns 1 running ip p3300000000100008\nr 1 i0000000000000041\ngroup 1 output 1\no 42\nslot 1 turns 1 running ip p3300000000100008\nr 1 i0000000000000042\ncounts hits 1 misses 2 writebacks 0 tlb_hits 1 tlb_misses 1 reads 2 writes 0\nlink 0 sent 1 arrived 0\n";
+    b"node 0\ncycles 2\ngroup 0 output 1\no 41\nslot 0 turns 2 running ip p3300000000100010\n\
+      r 1 i0000000000000041\ncell 00000000100040 i0000000000000000 empty\n\
+      counts hits 1 misses 2 writebacks 0 tlb_hits 1 tlb_misses 1 reads 2 writes 0\nnode 1\ncycles 2\n\
+      group 0 output 1\no 41\nslot 0 turns 1 running ip p3300000000100008\nr 1 i0000000000000041\n\
+      group 1 output 1\no 42\nslot 1 turns 1 running ip p3300000000100008\nr 1 i0000000000000042\n\
+      counts hits 1 misses 2 writebacks 0 tlb_hits 1 tlb_misses 1 reads 2 writes 0\nlink 0 sent 1 arrived 0\n";
 
 /// The image of `examples/hello.img`.
 fn hello(rt: &HostRuntime) -> Result<Vec<u8>, Fail> {
@@ -236,7 +255,8 @@ const REASON: &[u8] = b"1 group 0 p3300000000100000 ip 0\n";
 const LINES: &[u8] = b"step 1\nregs 0\nmem 0x100000 1\njump\nquit\n";
 
 const REPLIES: &[u8] =
-    b"stepped 1 total 1\nslot 0 turns 1 running ip p3300000000100008\nr 1 i0000000000000041\ncell 00000000100000 i0210000000000041 full\nbad command\nbye\n";
+    b"stepped 1 total 1\nslot 0 turns 1 running ip p3300000000100008\nr 1 i0000000000000041\n\
+      cell 00000000100000 i0210000000000041 full\nbad command\nbye\n";
 
 /// A source of `LINES` that gives at most ten bytes in a read. The read with the number `fails` fails.
 fn lines(rt: &HostRuntime, fails: u64) -> Result<MemSource, Fail> {

@@ -25,7 +25,8 @@ returns c =
     let d = c.args.draft.now in
     let met = met_late d c.deref.result.now c.deref-2.result.now c.meet_goals.new.first c.meet_targets.new.first c.externals.new.first
     (c.deref.ensures.value ∙ c.in_ok-uses.ensures.uses) (c.deref-2.ensures.value ∙ c.in_ok-uses.ensures.uses) c.meet_goals.ensures c.meet_targets.ensures c.in_ok-externals.ensures.faults in
-    gives_value Fails NoMemory (least (map failure_pair (late_failures d))) (object_of d) c.object_of.result tt (sym met ∙ ap pair_of_first c.in_default.is) c.object_of.ensures.object c.object_of.ensures.memory
+    gives_value Fails NoMemory (least (map failure_pair (late_failures d))) (object_of d) c.object_of.result tt
+    (sym met ∙ ap pair_of_first c.in_default.is) c.object_of.ensures.object c.object_of.ensures.memory
 
 pub object_of-requires-clause-object : goal.object_of-requires-clause-object
 object_of-requires-clause-object c =

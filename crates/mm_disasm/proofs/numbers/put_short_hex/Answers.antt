@@ -1,7 +1,6 @@
-use Rattle.std.proofs.Common.{ℕ, ◌++◌, codes, ap}
-use Rattle.mm_model.specs.Digits.{hex}
+use Rattle.std.proofs.Common.{ℕ, List, ◌++◌, codes, ap}
 use Rattle.mm_text.proofs.Gathering.{gathers_then, gathers_same}
 use Rattle.mm_disasm.proofs.numbers.put_short_hex.Goals as goal
 
 pub returns : goal.returns
-returns g c = gathers_same (gathers_then c.put_piece.ensures c.put_hex.ensures) (ap (λ (digits : ℕ). codes "0x" ++ hex digits c.args.number) c.digits_of.ensures.digits)
+returns g c = gathers_same (gathers_then c.put_piece.ensures c.put_hex.ensures) (ap (λ (text : List ℕ). codes "0x" ++ text) c.digit_count.ensures.digits)

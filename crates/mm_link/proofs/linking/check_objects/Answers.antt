@@ -2,7 +2,8 @@ use Rattle.std.proofs.Common.{List, ap, sym, ◌∙◌, subst}
 use Rattle.std.proofs.lemmas.Result.{err_from_is_err_and}
 use Rattle.mm_link.specs.Placing.{Site}
 use Rattle.mm_link.specs.Answers.{Fails}
-use Rattle.mm_link.specs.Steps.{Passes, unknown_names, outsides}
+use Rattle.mm_link.specs.Faults.{unknown_names, outsides}
+use Rattle.mm_link.specs.Steps.{Passes}
 use Rattle.mm_link.proofs.Whole.{fails_known, fails_slots, after_four}
 use Rattle.mm_link.proofs.linking.check_objects.Goals as goal
 

@@ -1,5 +1,5 @@
 use Rattle.std.proofs.Common.{◌≡◌, drop}
-use Rattle.mm_link.specs.Steps.{unknown_names}
+use Rattle.mm_link.specs.Faults.{unknown_names}
 use Rattle.mm_link.proofs.names.check_known.Given as goal
 
 abbrev pub invariant-loop-object : goal.invariant-loop-object

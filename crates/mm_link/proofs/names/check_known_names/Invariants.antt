@@ -1,5 +1,5 @@
 use Rattle.std.proofs.Common.{◌≡◌, drop}
-use Rattle.mm_link.specs.Steps.{unknown_among}
+use Rattle.mm_link.specs.Faults.{unknown_among}
 use Rattle.mm_link.proofs.names.check_known_names.Given as goal
 
 abbrev pub invariant-loop-name : goal.invariant-loop-name

@@ -1,5 +1,5 @@
 use Rattle.std.proofs.Common.{◌≡◌, drop}
-use Rattle.mm_link.specs.Steps.{outsides}
+use Rattle.mm_link.specs.Faults.{outsides}
 use Rattle.mm_link.proofs.offsets.check_offsets.Given as goal
 
 abbrev pub invariant-loop-object : goal.invariant-loop-object

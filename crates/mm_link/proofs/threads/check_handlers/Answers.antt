@@ -1,7 +1,6 @@
 use Rattle.std.proofs.Common.{sym, ◌∙◌}
 use Rattle.std.specs.Prelude.{find}
-use Rattle.mm_link.specs.Faults.{slot_numbers}
-use Rattle.mm_link.specs.Steps.{is_unhandled}
+use Rattle.mm_link.specs.Faults.{slot_numbers, is_unhandled}
 use Rattle.mm_link.proofs.Lists.{find_next}
 use Rattle.mm_link.proofs.threads.check_handlers.Goals as goal
 

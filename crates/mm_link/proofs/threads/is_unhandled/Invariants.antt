@@ -1,6 +1,5 @@
 use Rattle.std.proofs.Common.{◌≡◌, drop}
-use Rattle.mm_link.specs.Faults.{threads_of}
-use Rattle.mm_link.specs.Steps.{is_unhandled, is_unhandled_in}
+use Rattle.mm_link.specs.Faults.{threads_of, is_unhandled, is_unhandled_in}
 use Rattle.mm_link.proofs.threads.is_unhandled.Given as goal
 
 abbrev pub invariant-loop-object : goal.invariant-loop-object

@@ -1,5 +1,5 @@
 use Rattle.std.proofs.Common.{◌≡◌, drop}
-use Rattle.mm_link.specs.Steps.{is_unhandled_in}
+use Rattle.mm_link.specs.Faults.{is_unhandled_in}
 use Rattle.mm_link.proofs.threads.is_unhandled_among.Given as goal
 
 abbrev pub invariant-loop-thread : goal.invariant-loop-thread

@@ -1,4 +1,4 @@
-use Rattle.std.proofs.Common.{◌≡◌, ◌<◌, List, length, sym, ap, ◌∙◌, arith, length-set}
+use Rattle.std.proofs.Common.{List, length, sym, ap, ◌∙◌, arith, length-set}
 use Rattle.mm_word.specs.declared.word.Cell.{Cell}
 use Rattle.mm_mem.specs.Blocks.{with_block}
 use Rattle.mm_frames.proofs.Cells.{block_put, eight_set, length-cells_of}

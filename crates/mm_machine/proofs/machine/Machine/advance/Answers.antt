@@ -11,7 +11,9 @@ pub invariant_of-self : goal.invariant_of-self
 invariant_of-self g c =
     let old : State = state_of c.args.self.now in
     record {
-      kept = goes_on old _ c.args.item (state_made old c.args.item c.turn_into.new.core (g.M.Memory.meaning c.turn_into.new.mem) c.turn_into.ensures.core c.turn_into.ensures.memory) c.args.self.now.kept;
+      kept = goes_on old _ c.args.item
+          (state_made old c.args.item c.turn_into.new.core (g.M.Memory.meaning c.turn_into.new.mem) c.turn_into.ensures.core c.turn_into.ensures.memory)
+          c.args.self.now.kept;
       few_ports = c.args.self.now.few_ports;
       few_uses = omega (arith, c.turn_into.ensures.count, c.turn_into.ensures.few, c.args.self.now.few_uses);
       most_uses = omega (arith, c.turn_into.ensures.count, c.turn_into.ensures.few, c.args.self.now.few_uses);
