@@ -25,9 +25,7 @@ fn replace(items: &mut Vec<(u64, u8)>, i: usize, j: usize, s: (u64, u8)) -> Resu
     ensures err { OnErr result (items.new.items ≡ items.old.items) }
 {
     if i == j {
-        if items.insert(i, s).is_err() {
-            return Err(NoMemory);
-        }
+        items.insert(i, s)?;
     } else {
         items[i] = s;
         remove_range(items, i + 1, j);

@@ -67,9 +67,7 @@ impl SegSet {
         ensures maximal { OnOk result (IsMaximal ((base, log) ∷ self.old) self.new) }
         ensures err { OnErr result (self.new ≡ self.old) }
     {
-        if self.items.push((base, log)).is_err() {
-            return Err(NoMemory);
-        }
+        self.items.push((base, log))?;
         Ok(())
     }
 
