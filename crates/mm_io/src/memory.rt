@@ -60,9 +60,7 @@ impl MemSink {
           faults = 0;
         }) }
     {
-        let Ok(bytes) = Vec::with_capacity(alloc, room) else {
-            return Err(NoMemory);
-        };
+        let bytes = Vec::with_capacity(alloc, room)?;
         Ok(MemSink {
             bytes,
             space: room,
