@@ -30,11 +30,15 @@ impl Reg {
     pub fn new(n: u8) -> Option<Reg>
         ensures { SomeIff result (n < 16) n }
     {
-        if n < 16 {
-            Some(Reg { number: n })
-        } else {
-            None
-        }
+        if n < 16 { Some(Reg::of(n)) } else { None }
+    }
+
+    /// The register with this number, for a caller that knows that there is one.
+    pub fn of(n: u8) -> Reg
+        requires { n < 16 }
+        ensures { result ≡ n }
+    {
+        Reg { number: n }
     }
 
     /// The register's number.

@@ -40,11 +40,19 @@ impl Page {
         ensures value { IfSome result (λ p. p ≡ (number, cells.items)) }
     {
         if number < (1 << 42) && cells.len() == CELLS {
-            hold_words(&cells);
-            Some(Page { number, cells })
+            Some(Page::of(number, cells))
         } else {
             None
         }
+    }
+
+    /// The page of these cells, for a caller that knows that they make one.
+    pub fn of(number: u64, cells: Vec<Cell>) -> Page
+        requires { IsPage (number, cells.items) }
+        ensures { result ≡ (number, cells.items) }
+    {
+        hold_words(&cells);
+        Page { number, cells }
     }
 
     /// The page's number.
