@@ -35,14 +35,10 @@ fn free_frames(alloc: Global, count: u32) -> Result<Vec<Frame>, NoMemory>
     ensures len { IfOk result (λ v. vec_len v ≡ count) }
     ensures room { IfOk result (λ v. count ≤ vec_capacity v) }
 {
-    let Ok(mut free) = Vec::with_capacity(alloc, count as usize) else {
-        return Err(NoMemory);
-    };
+    let mut free = Vec::with_capacity(alloc, count as usize)?;
     for _ in 0..count {
         let frame = Frame::new(alloc)?;
-        let Ok(()) = free.push(frame) else {
-            return Err(NoMemory);
-        };
+        free.push(frame)?;
     }
     Ok(free)
 }
@@ -107,9 +103,7 @@ impl FlatPages {
         ensures { IfOk result (λ m. m ≡ record { pages = pages.now; frames = frames }) }
     {
         let mut free = free_frames(alloc, frames)?;
-        let Ok(mut used) = Vec::with_capacity(alloc, frames as usize) else {
-            return Err(NoMemory);
-        };
+        let mut used = Vec::with_capacity(alloc, frames as usize)?;
         seat(&mut used, &mut free, pages);
         Ok(FlatPages {
             pages: used,

@@ -33,9 +33,7 @@ impl Frame {
     pub(crate) fn new(alloc: Global) -> Result<Frame, NoMemory>
         ensures { IfOk result (λ f. f ≡ (0, zero_page)) }
     {
-        let Ok(cells) = Vec::from_elem(alloc, ZERO, CELLS) else {
-            return Err(NoMemory);
-        };
+        let cells = Vec::from_elem(alloc, ZERO, CELLS)?;
         Ok(Frame { number: 0, cells })
     }
 

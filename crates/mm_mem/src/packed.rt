@@ -37,12 +37,10 @@ pub(crate) fn word_of(bits: u64, tagged: bool) -> Word
     requires { tagged ≡ true → SpellsPointer bits }
     ensures { result ≡ word_of bits tagged }
 {
-    if !tagged {
-        return Word::Int(bits);
-    }
-    match GuardedPtr::from_bits(bits) {
-        Some(pointer) => Word::Ptr(pointer),
-        None => unreachable!(),
+    if tagged {
+        Word::Ptr(GuardedPtr::of_bits(bits))
+    } else {
+        Word::Int(bits)
     }
 }
 
