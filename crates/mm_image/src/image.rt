@@ -54,13 +54,21 @@ impl Image {
         if !is_image(version, split, &slots, &pages, frames) {
             return None;
         }
-        Some(Image {
+        Some(Image::of(version, split, slots, pages, frames))
+    }
+
+    /// The image of these parts, for a caller that knows that they make one.
+    pub fn of(version: u16, split: bool, slots: Vec<Slot>, pages: Vec<Page>, frames: u32) -> Image
+        requires { IsImage (image_from version split slots.items pages.items frames) }
+        ensures { result ≡ image_from version split slots.items pages.items frames }
+    {
+        Image {
             version,
             split,
             slots,
             pages,
             frames,
-        })
+        }
     }
 
     /// The version of the image's file, 1 or 2.

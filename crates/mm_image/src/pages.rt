@@ -77,10 +77,7 @@ pub fn read_page(
     let tags = reader.raw(BITMAP_BYTES)?;
     let full = reader.raw(BITMAP_BYTES)?;
     let cells = read_cells(alloc, reader, tags, full)?;
-    match Page::new(number, cells) {
-        Some(page) => Ok(page),
-        None => unreachable!(),
-    }
+    Ok(Page::of(number, cells))
 }
 
 /// What comes before a page: the least number that it may have.

@@ -21,16 +21,6 @@ pub fn write(alloc: Global, img: &Image) -> Result<Vec<u8>, NoMemory>
     ensures written { IfOk result (λ bytes. bytes.items ≡ spelling img.now) }
     ensures spelled { IfOk result (λ bytes. Spells bytes.items img.now) }
 {
-    match spelled(alloc, img) {
-        Ok(bytes) => Ok(bytes),
-        Err(_) => Err(NoMemory),
-    }
-}
-
-fn spelled(alloc: Global, img: &Image) -> Result<Vec<u8>, AllocError>
-    ensures written { IfOk result (λ bytes. bytes.items ≡ spelling img.now) }
-    ensures spelled { IfOk result (λ bytes. Spells bytes.items img.now) }
-{
     let length = HEADER_BYTES + SLOT_BYTES * img.slots().len() + PAGE_BYTES * img.pages().len();
     let mut out = Vec::with_capacity(alloc, length)?;
     put_header(&mut out, img)?;

@@ -3,7 +3,7 @@ use Rattle.std.specs.List.{flat_map}
 use Rattle.mm_word.specs.declared.word.Cell.{Cell}
 use Rattle.mm_model.specs.Slot.{Slot}
 use Rattle.mm_model.specs.Spelling.{header, slot_record, page_record, spelling}
-use Rattle.mm_image.proofs.writing.spelled.Goals as goal
+use Rattle.mm_image.proofs.writing.write.Goals as goal
 
 pub returns-clause-written : goal.returns-clause-written
 unfolding spelling
