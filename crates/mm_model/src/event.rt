@@ -37,7 +37,7 @@ impl Default for Event {
         Event {
             slot: 0,
             cause: Cause::Trap,
-            ip: GuardedPtr::new(Perm::Key, 0, 0).unwrap(),
+            ip: GuardedPtr::of(Perm::Key, 0, 0),
             addr_op: Word::Int(0),
             value_op: Word::Int(0),
         }
