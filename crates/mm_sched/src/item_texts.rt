@@ -30,9 +30,7 @@ pub fn append<T: Copy>(items: &mut Vec<T>, item: T, count: u32) -> Result<(), No
     ensures { OnOk result (items.new.items ≡ items.old.items ++ replicate count item) }
 {
     for _ in 0..count {
-        let Ok(()) = items.push(item) else {
-            return Err(NoMemory);
-        };
+        items.push(item)?;
     }
     Ok(())
 }
@@ -64,15 +62,11 @@ pub fn read_items<T: TextItem>(
 {
     // At least one byte is between two words.
     let room = bytes.len().div_ceil(2).min(most);
-    let Ok(mut items) = Vec::with_capacity(alloc, room) else {
-        return Err(SchedError::NoMemory);
-    };
+    let mut items = Vec::with_capacity(alloc, room)?;
     let mut at = run_start(bytes, 0);
     while at < bytes.len() {
         let end = run_end(bytes, at);
-        let Ok(added) = T::add_word(&mut items, &bytes[at..end]) else {
-            return Err(SchedError::NoMemory);
-        };
+        let added = T::add_word(&mut items, &bytes[at..end])?;
         if !added {
             return Err(fault(at));
         }

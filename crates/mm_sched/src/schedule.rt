@@ -72,9 +72,7 @@ pub fn only(alloc: Global, s: &Schedule, count: u64, members: &[u8]) -> Result<S
     let mut kept = Vec::new(alloc);
     for item in first {
         if members.contains(item) {
-            let Ok(()) = kept.push(*item) else {
-                return Err(NoMemory);
-            };
+            kept.push(*item)?;
         }
     }
     Ok(Schedule { items: kept })

@@ -7,7 +7,7 @@ use crate::item_texts::{TextItem, append, read_items};
 use crate::schedule::{ITEM_LIMIT, Schedule};
 use crate::word::item;
 use mm_word::NoMemory;
-use std::alloc::Global;
+use std::alloc::{AllocError, Global};
 
 /// Why a text is no schedule.
 #[derive(Clone, Copy, Debug, PartialEq, Eq, thiserror::Error)]
@@ -17,6 +17,26 @@ pub enum SchedError {
     Fault { offset: u64 },
     #[error("out of memory")]
     NoMemory,
+}
+
+impl From<AllocError> for SchedError {
+    ghost use Rattle.mm_sched.specs.declared.text.SchedError.TheVariants.{NoMemory};
+
+    ghost from_gives = { λ _ e. e ≡ NoMemory };
+
+    fn from(_error: AllocError) -> SchedError {
+        SchedError::NoMemory
+    }
+}
+
+impl From<NoMemory> for SchedError {
+    ghost use Rattle.mm_sched.specs.declared.text.SchedError.TheVariants.{NoMemory};
+
+    ghost from_gives = { λ _ e. e ≡ NoMemory };
+
+    fn from(_error: NoMemory) -> SchedError {
+        SchedError::NoMemory
+    }
 }
 
 impl TextItem for u8 {

@@ -9,4 +9,4 @@ pub loop-preserved : goal.loop-preserved
 loop-preserved g c =
     let kept : c.loop.items.items ++ c.args.item ∷ [] ≡ c.args.items.now.items ++ (replicate c.loop.counter c.args.item ++ c.args.item ∷ []) =
     ap (λ xs. xs ++ c.args.item ∷ []) c.loop.invariant ∙ append_assoc c.args.items.now.items (replicate c.loop.counter c.args.item) (c.args.item ∷ []) in
-    c.in-Ok.ensures.items ∙ kept ∙ ap (λ xs. c.args.items.now.items ++ xs) (replicate-append-replicate c.loop.counter 1 c.args.item)
+    c.in_ok-push.ensures.items ∙ kept ∙ ap (λ xs. c.args.items.now.items ++ xs) (replicate-append-replicate c.loop.counter 1 c.args.item)

@@ -9,7 +9,7 @@ use Rattle.mm_sched.proofs.item_texts.read_items.Goals.{After-drop-items-then-no
 
 pub loop-at-init : goal.loop-at-init
 loop-at-init g c = record {
-  read = rw c.in-Ok.ensures.items (read_none c.requires.none c.args.bytes.now c.run_start-at.result c.run_start-at.ensures.same);
+  read = rw c.in_ok-items.ensures.items (read_none c.requires.none c.args.bytes.now c.run_start-at.result c.run_start-at.ensures.same);
   begins = c.run_start-at.ensures.begins;
   inside = c.run_start-at.ensures.end;
 }
@@ -20,7 +20,7 @@ faults g c =
     let l = c.loop-at in
     let word = slice_range c.args.bytes.now l.at c.run_end-end.result in
     let P : Bool → Type 0 = λ added. AddsWord g.T.TextItem.says g.T.TextItem.keeps word l.items.items c.add_word.new.items.items added in
-    read_fault c.args.bytes.now l.at c.run_end-end.result word l.items.items l.invariant.read c.run_end-end.ensures.run (subst P c.if-not-added.true c.in-Ok-add_word.ensures)
+    read_fault c.args.bytes.now l.at c.run_end-end.result word l.items.items l.invariant.read c.run_end-end.ensures.run (subst P c.if-not-added.true c.in_ok-added.ensures)
 
 pub returns-then-not-added-clause-fault : goal.returns-then-not-added-clause-fault
 returns-then-not-added-clause-fault g c offset e =
@@ -40,7 +40,7 @@ loop-at-preserved g c = record {
       let l = c.loop-at in
       let word = slice_range c.args.bytes.now l.at c.run_end-end.result in
       let P : Bool → Type 0 = λ added. AddsWord g.T.TextItem.says g.T.TextItem.keeps word l.items.items c.add_word.new.items.items added in
-      let (said, says, is, keeps) = subst P c.if-not-added.false c.in-Ok-add_word.ensures in
+      let (said, says, is, keeps) = subst P c.if-not-added.false c.in_ok-added.ensures in
       rw is
       (read_more c.args.bytes.now l.at c.run_end-end.result c.run_start-at-in-loop-at.result word l.items.items said l.invariant.read c.run_end-end.ensures.run
       c.run_start-at-in-loop-at.ensures.same says (subst g.T.TextItem.keeps is keeps));
