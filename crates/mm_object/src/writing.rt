@@ -28,16 +28,6 @@ pub fn write(alloc: Global, o: &Object) -> Result<Vec<u8>, NoMemory>
     ensures written { IfOk result (λ bytes. bytes.items ≡ spelling o.now) }
     ensures spelled { IfOk result (λ bytes. Spells bytes.items o.now) }
 {
-    match spelled(alloc, o) {
-        Ok(bytes) => Ok(bytes),
-        Err(_) => Err(NoMemory),
-    }
-}
-
-fn spelled(alloc: Global, o: &Object) -> Result<Vec<u8>, AllocError>
-    ensures written { IfOk result (λ bytes. bytes.items ≡ spelling o.now) }
-    ensures spelled { IfOk result (λ bytes. Spells bytes.items o.now) }
-{
     let mut out = Vec::new(alloc);
     put_header(&mut out, o)?;
     put_segments(&mut out, o.segments())?;

@@ -4,7 +4,7 @@ use Rattle.mm_object.specs.declared.target.Reloc.{Reloc}
 use Rattle.mm_object.specs.declared.thread.Thread.{Thread}
 use Rattle.mm_object.specs.Objects.{Segment}
 use Rattle.mm_object.specs.Spelling.{header, name_record, reloc_record, segment_record, spelling, thread_record}
-use Rattle.mm_object.proofs.writing.spelled.Goals as goal
+use Rattle.mm_object.proofs.writing.write.Goals as goal
 
 pub returns-clause-written : goal.returns-clause-written
 unfolding spelling
