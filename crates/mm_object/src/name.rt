@@ -34,12 +34,21 @@ impl Name {
     pub fn new(bytes: &[u8]) -> Option<Name>
         ensures { SomeIff result (is_name bytes.now ≡ true) bytes.now }
     {
-        if !is_name(bytes) {
-            return None;
+        if is_name(bytes) {
+            Some(Name::of(bytes))
+        } else {
+            None
         }
+    }
+
+    /// The name of these bytes, for a caller that knows that they are one.
+    pub fn of(bytes: &[u8]) -> Name
+        requires { is_name bytes.now ≡ true }
+        ensures { result ≡ bytes.now }
+    {
         let mut name = ArrayVec::new();
-        name.try_extend_from_slice(bytes).ok()?;
-        Some(Name { bytes: name })
+        name.try_extend_from_slice(bytes).unwrap();
+        Name { bytes: name }
     }
 
     /// The bytes of the name.

@@ -103,13 +103,27 @@ impl Object {
         if !is_object(&segments, &externals, &relocs, &threads, spare) {
             return None;
         }
-        Some(Object {
+        Some(Object::of(segments, externals, relocs, threads, spare))
+    }
+
+    /// The object of these parts, for a caller that knows that they make one.
+    pub fn of(
+        segments: Vec<Segment>,
+        externals: Vec<Name>,
+        relocs: Vec<Reloc>,
+        threads: Vec<Thread>,
+        spare: u16,
+    ) -> Object
+        requires { IsObject (object_from segments.items externals.items relocs.items threads.items spare) }
+        ensures { result ≡ object_from segments.items externals.items relocs.items threads.items spare }
+    {
+        Object {
             segments,
             externals,
             relocs,
             threads,
             spare,
-        })
+        }
     }
 
     /// The segments of the object.
