@@ -43,9 +43,7 @@ impl Frame {
     pub(crate) fn new(alloc: Global) -> Result<Frame, NoMemory>
         ensures { IfOk result (λ f. f ≡ zero_page) }
     {
-        let Ok(blocks) = Vec::from_elem(alloc, zeros(), BLOCKS) else {
-            return Err(NoMemory);
-        };
+        let blocks = Vec::from_elem(alloc, zeros(), BLOCKS)?;
         Ok(Frame { blocks })
     }
 

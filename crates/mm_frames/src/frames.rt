@@ -23,14 +23,10 @@ use std::marker::Model;
 fn zeros(alloc: Global, count: u32) -> Result<Vec<Frame>, NoMemory>
     ensures { IfOk result (λ v. vec_len v ≡ count) }
 {
-    let Ok(mut frames) = Vec::with_capacity(alloc, count as usize) else {
-        return Err(NoMemory);
-    };
+    let mut frames = Vec::with_capacity(alloc, count as usize)?;
     for _ in 0..count {
         let frame = Frame::new(alloc)?;
-        let Ok(()) = frames.push(frame) else {
-            return Err(NoMemory);
-        };
+        frames.push(frame)?;
     }
     Ok(frames)
 }

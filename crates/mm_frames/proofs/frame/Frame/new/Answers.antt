@@ -5,9 +5,9 @@ use Rattle.mm_frames.specs.Cells.{cells_of}
 use Rattle.mm_frames.proofs.Cells.{zero_frame}
 use Rattle.mm_frames.proofs.frame.Frame.new.Goals as goal
 
-all_zero : (c : goal.In-Ok) → c.in-Ok.blocks.items ≡ replicate 64 (replicate 8 zero_cell)
+all_zero : (c : goal.In_ok-blocks) → c.in_ok-blocks.blocks.items ≡ replicate 64 (replicate 8 zero_cell)
 all_zero c =
-    c.in-Ok.ensures.items_if_clones_equal (λ y h. search rules)
+    c.in_ok-blocks.ensures.items_if_clones_equal (λ y h. search rules)
     ∙ ap (λ (block : List Cell). replicate 64 block) c.zeros.ensures
 
 pub returns : goal.returns
