@@ -15,17 +15,13 @@ use std::alloc::Global;
 pub(crate) fn rows_of(alloc: Global, slots: &[Slot]) -> Result<Vec<ThreadRow>, NoMemory>
     ensures { IfOk result (λ rows. rows.items ≡ map row_alone slots.now) }
 {
-    let Ok(mut rows) = Vec::with_capacity(alloc, slots.len()) else {
-        return Err(NoMemory);
-    };
+    let mut rows = Vec::with_capacity(alloc, slots.len())?;
     for slot in slots {
         let row = ThreadRow {
             slot: slot.copy(),
             queue: Queue::new(),
         };
-        let Ok(()) = rows.push(row) else {
-            return Err(NoMemory);
-        };
+        rows.push(row)?;
     }
     Ok(rows)
 }
@@ -34,14 +30,10 @@ pub(crate) fn rows_of(alloc: Global, slots: &[Slot]) -> Result<Vec<ThreadRow>, N
 pub(crate) fn no_outputs(alloc: Global) -> Result<Vec<GroupOutput>, NoMemory>
     ensures { IfOk result (λ outputs. outputs.items ≡ replicate 64 []) }
 {
-    let Ok(mut outputs) = Vec::with_capacity(alloc, 64) else {
-        return Err(NoMemory);
-    };
+    let mut outputs = Vec::with_capacity(alloc, 64)?;
     for _group in 0..64u32 {
         let output = GroupOutput::new(alloc)?;
-        let Ok(()) = outputs.push(output) else {
-            return Err(NoMemory);
-        };
+        outputs.push(output)?;
     }
     Ok(outputs)
 }

@@ -30,10 +30,8 @@ impl GroupOutput {
     pub(crate) fn new(alloc: Global) -> Result<GroupOutput, NoMemory>
         ensures { IfOk result (λ output. output ≡ []) }
     {
-        match Vec::with_capacity(alloc, ROOM) {
-            Ok(bytes) => Ok(GroupOutput { bytes }),
-            Err(_) => Err(NoMemory),
-        }
+        let bytes = Vec::with_capacity(alloc, ROOM)?;
+        Ok(GroupOutput { bytes })
     }
 
     /// The bytes, oldest first.
