@@ -274,10 +274,6 @@ typed_taken s outputs k = record {
 
 -- 5. From the parts as they were copied.
 
-word_prop : (w : Word) → IsProp (IsWord w)
-word_prop (Int n) = hlevel props
-word_prop (Ptr p) = hlevel props
-
 module _ (s : State) (slots : List Slot) (events : List (ℕ × Event)) (outputs : List Output) (pages : List (ℕ × List Cell))
     (is_slots : slots ≡ slots_of s.core) (is_events : events ≡ queued s.core) (is_pages : pages ≡ s.memory.pages) (kept : ∥ Kept s ∥₁) where
   same_parts : parts_of (slots_of s.core) (queued s.core) outputs s.memory.pages s.cycles ≡ parts_of slots events outputs pages s.cycles
@@ -290,6 +286,3 @@ module _ (s : State) (slots : List Slot) (events : List (ℕ × Event)) (outputs
   copied_rules out =
       let out_of : OutputsBelow s.core (slots_of s.core) 64 outputs = subst (λ (xs : List Slot). OutputsBelow s.core xs 64 outputs) is_slots out in
       subst IsSnapshot same_parts (∥∥₁_elim kept (hlevel props) (λ k. snapshot_taken s outputs out_of k))
-
-  pub copied_typed : IsTyped (parts_of slots events outputs pages s.cycles)
-  copied_typed = subst IsTyped same_parts (∥∥₁_elim kept (hlevel (word_prop, props)) (λ k. typed_taken s outputs k))

@@ -94,7 +94,7 @@ fn page_copy<M: Inspect>(alloc: Global, mem: &M, number: u64) -> Result<Page, Al
     for place in 0..CELLS {
         cells.push(cell_at(mem, number, place))?;
     }
-    Ok(Page::new(number, cells).unwrap())
+    Ok(Page::of(number, cells))
 }
 
 // A cell of a mapped page.

@@ -11,7 +11,7 @@ use mm_mem::{Inspect, Loaded, Memory, Reset, Stored};
 use mm_sched::Robin;
 use mm_thread::{Core, Slot, Step, Tick, turn_into};
 use mm_word::{Access, NoMemory, Post, Pre, Word};
-use std::alloc::{AllocError, Global};
+use std::alloc::Global;
 
 /// The slots of a machine, the memory that they use, and a count of cycles.
 #[derive(Drop)]
@@ -306,15 +306,6 @@ impl<M: Inspect> Machine<M> {
 
         // The machine can be put back to the snapshot.
         ensures fits { IfOk result (λ s. CanRestore (state_of self.now) s) }
-    {
-        match self.copied(alloc) {
-            Ok(snapshot) => Ok(snapshot),
-            Err(_) => Err(NoMemory),
-        }
-    }
-
-    fn copied(&self, alloc: Global) -> Result<Snapshot, AllocError>
-        ensures { IfOk result (λ s. IsSnapshotOf (state_of self.now) s) }
     {
         let slots = slots_of(alloc, &self.core)?;
         let events = events_of(alloc, &self.core)?;

@@ -2,6 +2,9 @@
 
 ghost use Rattle.std.specs.Prelude.{◌≡◌};
 ghost use Rattle.std.specs.Option.{SomeIff};
+ghost use Rattle.std.specs.List.{AllByRecursion};
+ghost use Rattle.mm_model.specs.Fits.{EventHoldsWords};
+ghost use Rattle.mm_machine.specs.Snapshot.{IsTypedEvent};
 
 use crate::validate::is_snapshot;
 use mm_model::{Event, Page, Slot};
@@ -30,6 +33,20 @@ impl Model for Snapshot {
         × IsTyped (parts_of s.slots.items s.events.items s.outputs.items s.pages.items s.cycles) };
 }
 
+// Says, for proofs, that the words of an event are words, by their types. The call does nothing.
+fn hold_words(event: Event)
+    ensures { EventHoldsWords event }
+{}
+
+// Says the same of each event.
+fn typed(events: &[(u8, Event)])
+    ensures { AllByRecursion IsTypedEvent events.now }
+{
+    for (_, event) in events {
+        hold_words(*event);
+    }
+}
+
 impl Snapshot {
     ghost use Rattle.mm_machine.specs.Snapshot.{IsSnapshot, IsTyped, parts_of};
 
@@ -53,23 +70,23 @@ impl Snapshot {
         if !is_snapshot(&slots, &events, &outputs, &pages, cycles) {
             return None;
         }
-        Slot::typed(&slots);
-        Page::typed(&pages);
         Some(Snapshot::of(slots, events, outputs, pages, cycles))
     }
 
-    /// The snapshot of parts that are known to be those of a state.
-    pub(crate) fn of(
+    /// The snapshot of these parts, for a caller that knows that they are those of a state.
+    pub fn of(
         slots: Vec<Slot>,
         events: Vec<(u8, Event)>,
         outputs: Vec<Output>,
         pages: Vec<Page>,
         cycles: u64,
     ) -> Snapshot
-        requires rules { IsSnapshot (parts_of slots.items events.items outputs.items pages.items cycles) }
-        requires typed { IsTyped (parts_of slots.items events.items outputs.items pages.items cycles) }
+        requires { IsSnapshot (parts_of slots.items events.items outputs.items pages.items cycles) }
         ensures { result ≡ parts_of slots.items events.items outputs.items pages.items cycles }
     {
+        Slot::typed(&slots);
+        typed(&events);
+        Page::typed(&pages);
         Snapshot {
             slots,
             events,

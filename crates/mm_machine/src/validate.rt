@@ -8,9 +8,9 @@ ghost use Rattle.mm_model.specs.declared.slot.SlotState.TheVariants.{Taken};
 ghost use Rattle.mm_model.specs.declared.slot.Pending.{Pending as PendingValue};
 ghost use Rattle.mm_model.specs.Slot.{Slot as SlotValue};
 ghost use Rattle.mm_model.specs.Groups.{has_group};
-ghost use Rattle.mm_model.specs.Fits.{is_waiting, waits_for, EventHoldsWords};
+ghost use Rattle.mm_model.specs.Fits.{is_waiting, waits_for};
 ghost use Rattle.mm_thread.specs.Output.{Output as OutputValue};
-ghost use Rattle.mm_machine.specs.Snapshot.{IsSnapshot, IsTypedEvent, IsAwaited, IsEventOf, HasOneEvent, IsPending};
+ghost use Rattle.mm_machine.specs.Snapshot.{IsSnapshot, IsAwaited, IsEventOf, HasOneEvent, IsPending};
 ghost use Rattle.mm_machine.specs.Snapshot.{RegisterStands, DoesNotFall, parts_of, numbered, queues_of, groups_of};
 ghost use Rattle.mm_machine.specs.Snapshot.{page_numbers, has_output};
 
@@ -30,8 +30,7 @@ pub(crate) fn is_snapshot(
     pages: &[Page],
     cycles: u64,
 ) -> bool
-    ensures rules { IsTrue result ↔ IsSnapshot (parts_of slots.now events.now outputs.now pages.now cycles) }
-    ensures words { IsTrue result → AllByRecursion IsTypedEvent events.now }
+    ensures { IsTrue result ↔ IsSnapshot (parts_of slots.now events.now outputs.now pages.now cycles) }
 {
     slots_ascend(slots)
         && groups_ascend(outputs)
@@ -115,8 +114,7 @@ fn has_output_of(outputs: &[Output], group: u8) -> bool
 
 // Whether each event is that of a slot that waits for the handler in whose queue the event is.
 fn are_awaited(events: &[(u8, Event)], slots: &[Slot]) -> bool
-    ensures awaited { IsTrue result ↔ AllByRecursion (IsAwaited slots.now) events.now }
-    ensures words { IsTrue result → AllByRecursion IsTypedEvent events.now }
+    ensures { IsTrue result ↔ AllByRecursion (IsAwaited slots.now) events.now }
 {
     for (queue, event) in events {
         if !is_awaited(slots, *queue, *event) {
@@ -127,10 +125,7 @@ fn are_awaited(events: &[(u8, Event)], slots: &[Slot]) -> bool
 }
 
 fn is_awaited(slots: &[Slot], queue: u8, event: Event) -> bool
-    ensures awaited { IsTrue result ↔ IsAwaited slots.now (queue, event) }
-
-    // The type of an event says that it holds words.
-    ensures words { EventHoldsWords event }
+    ensures { IsTrue result ↔ IsAwaited slots.now (queue, event) }
 {
     match slot_of(slots, event.slot) {
         Some(slot) => is_event_of(queue, &event, slot),

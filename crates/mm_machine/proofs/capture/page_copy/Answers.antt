@@ -1,5 +1,4 @@
-use Rattle.std.proofs.Common.{◌≡◌, ℕ, ◌<◌, ◌∙◌, List, Option, length, sym, ap, subst, arith}
-use Rattle.std.specs.Prelude.{IfSome}
+use Rattle.std.proofs.Common.{◌≡◌, ℕ, ◌<◌, ◌∙◌, List, length, sym, ap, subst, arith}
 use Rattle.std.proofs.lemmas.List.{take_more, take_all}
 use Rattle.mm_word.specs.declared.word.Cell.{Cell}
 use Rattle.mm_model.specs.Memory.{zero_cell, IsPage}
@@ -18,15 +17,14 @@ loop-place-preserved g c =
     let before = c.loop-place.invariant in
     cc
 
-pub unwrap-requires : goal.unwrap-requires
-unwrap-requires g c =
+pub of-requires : goal.of-requires
+of-requires g c =
     let page = page_is (g.M.Memory.meaning c.args.mem.now) c.args.number c.requires.paged c.requires.mapped in
     let all = c.loop-place.invariant ∙ take_all c.loop-place.place (cells_of (g.M.Memory.meaning c.args.mem.now) c.args.number) (let size = page.cells in omega arith) in
-    c.new.ensures.made.1 (subst (λ (cells : List Cell). IsPage (c.args.number, cells)) (sym all) page)
+    subst (λ (cells : List Cell). IsPage (c.args.number, cells)) (sym all) page
 
 pub returns : goal.returns
 returns g c =
     let page = page_is (g.M.Memory.meaning c.args.mem.now) c.args.number c.requires.paged c.requires.mapped in
     let all = c.loop-place.invariant ∙ take_all c.loop-place.place (cells_of (g.M.Memory.meaning c.args.mem.now) c.args.number) (let size = page.cells in omega arith) in
-    subst (λ (o : Option (ℕ × List Cell)). IfSome o (λ (p : ℕ × List Cell). p ≡ (c.args.number, c.loop-place.cells.items))) c.unwrap.ensures c.new.ensures.value
-    ∙ ap (λ (cells : List Cell). let pair : ℕ × List Cell = (c.args.number, cells) in pair) all
+    c.of.ensures ∙ ap (λ (cells : List Cell). let pair : ℕ × List Cell = (c.args.number, cells) in pair) all
