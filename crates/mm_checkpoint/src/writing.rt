@@ -51,21 +51,6 @@ pub fn write(
     ensures written { IfOk result (λ bytes. bytes.items ≡ spelling (saved_of s.now last)) }
     ensures saves { IfOk result (λ bytes. Saves bytes.items img.now s.now last) }
 {
-    match spelled(alloc, img, s, last) {
-        Ok(bytes) => Ok(bytes),
-        Err(_) => Err(NoMemory),
-    }
-}
-
-fn spelled(
-    alloc: Global,
-    img: &Image,
-    s: &Snapshot,
-    last: Option<u8>,
-) -> Result<Vec<u8>, AllocError>
-    requires { IsCheckpoint img.now s.now last }
-    ensures { IfOk result (λ bytes. bytes.items ≡ spelling (saved_of s.now last)) }
-{
     let slots = MOST_SLOT_BYTES * img.slots().len();
     let pages = PAGE_BYTES * s.pages().len();
     let capacity = HEADER_BYTES + slots + length_of(s.outputs()) + pages;
