@@ -7,7 +7,7 @@ use crate::pages::pages;
 use crate::slots::slots;
 use mm_image::Image;
 use mm_word::NoMemory;
-use std::alloc::{AllocError, Global};
+use std::alloc::Global;
 
 /// The image that is generated of a number, with `size` slots, 1 to 16. `NoMemory` comes if memory ran out.
 pub fn image(alloc: Global, number: u64, size: u8) -> Result<Image, NoMemory>
@@ -15,21 +15,7 @@ pub fn image(alloc: Global, number: u64, size: u8) -> Result<Image, NoMemory>
     requires few { size ≤ 16 }
     ensures { IfOk result (λ i. i ≡ generated number size) }
 {
-    match made(alloc, number, size) {
-        Ok(image) => Ok(image),
-        Err(_) => Err(NoMemory),
-    }
-}
-
-fn made(alloc: Global, number: u64, size: u8) -> Result<Image, AllocError>
-    requires some { 1 ≤ size }
-    requires few { size ≤ 16 }
-    ensures { IfOk result (λ i. i ≡ generated number size) }
-{
     let slots = slots(alloc, size)?;
     let pages = pages(alloc, number, size)?;
-    match Image::new(1, false, slots, pages, 2 * u32::from(size)) {
-        Some(image) => Ok(image),
-        None => unreachable!(),
-    }
+    Ok(Image::of(1, false, slots, pages, 2 * u32::from(size)))
 }

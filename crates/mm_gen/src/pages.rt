@@ -1,5 +1,5 @@
 //! The pages of generated images: the code of each slot, and its data after it.
-ghost use Rattle.std.specs.Prelude.{◌≡◌, true, ◌+◌, ◌*◌, ◌<◌, ◌^◌, ◌++◌, length, replicate, IfOk, OnOk};
+ghost use Rattle.std.specs.Prelude.{◌≡◌, true, ◌+◌, ◌*◌, ◌++◌, replicate, IfOk, OnOk};
 ghost use Rattle.std.specs.List.{flat_map, range_with_len};
 ghost use Rattle.mm_model.specs.Memory.{zero_cell};
 ghost use Rattle.mm_gen.specs.Generated.{next_number, nth_number, code_page, data_page, loop as loop_of, code_cells};
@@ -40,24 +40,14 @@ pub(crate) fn data_page(slot: u8) -> u64
     code_page(slot) + 1
 }
 
-fn register(number: u8) -> Reg
-    requires { number < 16 }
-    ensures { result ≡ number }
-{
-    match Reg::new(number) {
-        Some(register) => register,
-        None => unreachable!(),
-    }
-}
-
 /// The code of a slot, a loop over its data: register 3 becomes the exclusive or of all words so far, and its low byte
 /// is put out.
 fn code() -> [Instr; LENGTH]
     ensures { result ≡ loop_of }
 {
-    let place = register(1);
-    let word = register(2);
-    let sum = register(3);
+    let place = Reg::of(1);
+    let word = Reg::of(2);
+    let sum = Reg::of(3);
     [
         Instr::Ld {
             rd: word,
@@ -123,17 +113,6 @@ fn data_cells(alloc: Global, number: &mut u64) -> Result<Vec<Cell>, AllocError>
     Ok(cells)
 }
 
-fn page(number: u64, cells: Vec<Cell>) -> Page
-    requires number { number < 2 ^ 42 }
-    requires cells { length cells.items ≡ 512 }
-    ensures { result ≡ (number, cells.items) }
-{
-    match Page::new(number, cells) {
-        Some(page) => page,
-        None => unreachable!(),
-    }
-}
-
 /// Appends the pages of a slot. Its data are the 512 numbers after a number, which becomes the last of them.
 fn push_pages(
     alloc: Global,
@@ -144,8 +123,8 @@ fn push_pages(
     ensures last { OnOk result (number.new ≡ nth_number number.old 512) }
     ensures pages { OnOk result (pages.new.items ≡ pages.old.items ++ pages_behind number.old slot) }
 {
-    pages.push(page(code_page(slot), code_cells(alloc)?))?;
-    pages.push(page(data_page(slot), data_cells(alloc, number)?))?;
+    pages.push(Page::of(code_page(slot), code_cells(alloc)?))?;
+    pages.push(Page::of(data_page(slot), data_cells(alloc, number)?))?;
     Ok(())
 }
 

@@ -17,10 +17,7 @@ fn page_pointer(perm: Perm, page: u64) -> GuardedPtr
     requires { page < 2 ^ 42 }
     ensures { result ≡ page_pointer perm page }
 {
-    match GuardedPtr::new(perm, PAGE_LOG, page << PAGE_LOG) {
-        Some(pointer) => pointer,
-        None => unreachable!(),
-    }
+    GuardedPtr::of(perm, PAGE_LOG, page << PAGE_LOG)
 }
 
 /// The slot of a number. It is in a group of its own and begins at its code, and its register 1 points to its data.
