@@ -117,12 +117,8 @@ impl Frames {
         ensures reads { IfOk result (λ f. f.reads ≡ 0) }
         ensures writes { IfOk result (λ f. f.writes ≡ 0) }
     {
-        let (Ok(mut rows), Ok(mut free)) = (
-            Vec::with_capacity(alloc, frames as usize),
-            Vec::with_capacity(alloc, frames as usize),
-        ) else {
-            return Err(NoMemory);
-        };
+        let mut rows = Vec::with_capacity(alloc, frames as usize)?;
+        let mut free = Vec::with_capacity(alloc, frames as usize)?;
         let mut cells = zeros(alloc, frames)?;
         seat(&mut rows, &mut cells, pages);
         let taken = pages.len() as u32;
