@@ -11,10 +11,7 @@ use Rattle.std.proofs.Props.{props}
 use Rattle.std.proofs.Math.Logic.{∥∥₁_elim}
 use Rattle.std.proofs.lemmas.Bool.{cases_eq}
 use Rattle.std.proofs.lemmas.List.{get_or-map, length-map}
-use Rattle.mm_word.specs.declared.word.Word.{Word}
-use Rattle.mm_word.specs.declared.word.Word.TheVariants.{Int, Ptr}
 use Rattle.mm_word.specs.declared.word.Cell.{Cell}
-use Rattle.mm_word.specs.Word.{IsWord}
 use Rattle.mm_model.specs.declared.slot.SlotState.TheVariants.{Taken}
 use Rattle.mm_model.specs.declared.event.Event.{Event}
 use Rattle.mm_model.specs.Slot.{Slot}
