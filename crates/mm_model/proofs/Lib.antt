@@ -15,7 +15,6 @@ pub mod TurnBounds
 pub mod Shortness
 pub mod Stops
 pub mod Causes
-pub mod CauseNumbers
 pub mod ImageBytes
 pub mod Filters
 pub mod OwnSlots
