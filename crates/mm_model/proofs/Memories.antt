@@ -12,6 +12,7 @@ use Rattle.std.specs.FinMap.Entries.{by_order, find-put, find-where_key, is_sort
 use Rattle.std.specs.Cmp.{unsigned_tied}
 use Rattle.std.proofs.lemmas.Cmp.{nat_cmp_total}
 use Rattle.std.proofs.lemmas.Bool.Decides.{nat_tests}
+use Rattle.std.proofs.lemmas.Bool.{ne_eqb}
 use Rattle.mm_word.specs.declared.word.Cell.{Cell}
 use Rattle.mm_model.specs.Memory.{Memory, page_at, is_mapped, cell_at, put_cell, put_in, cell_in, can_map, map_page, unmap_page, page_of, place_of, zero_cell, zero_page, IsPage, ArePages, IsPaged}
 
@@ -40,15 +41,8 @@ find_filter es k q = find-where_key nat_cmp (λ x. not (x == k)) q (λ x e. ap (
 pub find_put_same : (es : List (ℕ × List Cell)) (k : ℕ) (v : List Cell) → find nat_cmp k (put nat_cmp k v es) ≡ Some v
 find_put_same es k v = find_put es k v k ∙ ap (λ b. cond b (Some v) (find nat_cmp k es)) (eq-eqb k k refl)
 
-differ : (q k : ℕ) → (q ≡ k → ⊥) → nat_eq q k ≡ false
-differ q k ne = go (nat_eq q k) refl
-  where
-    go : (b : Bool) → nat_eq q k ≡ b → b ≡ false
-    go true e = absurd (ne (eqb-true q k e))
-    go false e = refl
-
 pub find_put_other : (es : List (ℕ × List Cell)) (k : ℕ) (v : List Cell) (q : ℕ) → (q ≡ k → ⊥) → find nat_cmp q (put nat_cmp k v es) ≡ find nat_cmp q es
-find_put_other es k v q ne = find_put es k v q ∙ ap (λ b. cond b (Some v) (find nat_cmp q es)) (differ q k ne)
+find_put_other es k v q ne = find_put es k v q ∙ ap (λ b. cond b (Some v) (find nat_cmp q es)) (ne_eqb q k ne)
 
 -- pages
 
@@ -101,7 +95,7 @@ page_at-unmap_same m p = find_filter m.pages p p ∙ ap (λ b. cond (not b) (fin
 
 pub page_at-unmap_other : (m : Memory) (p q : ℕ) → (q ≡ p → ⊥) → page_at (unmap_page m p) q ≡ page_at m q
 unfolding unmap_page
-page_at-unmap_other m p q ne = find_filter m.pages p q ∙ ap (λ b. cond (not b) (find nat_cmp q m.pages) None) (differ q p ne)
+page_at-unmap_other m p q ne = find_filter m.pages p q ∙ ap (λ b. cond (not b) (find nat_cmp q m.pages) None) (ne_eqb q p ne)
 
 -- cells
 
@@ -111,7 +105,7 @@ same_word v w av aw p q = omega arith
 
 pub cell_at-unaligned : (m : Memory) (w : ℕ) → (w % 8 ≡ 0 → ⊥) → cell_at m w ≡ None
 unfolding cell_at
-cell_at-unaligned m w ne = ap (λ b. if b then cell_in (page_at m (page_of w)) (place_of w) else None) (differ (w % 8) 0 ne)
+cell_at-unaligned m w ne = ap (λ b. if b then cell_in (page_at m (page_of w)) (place_of w) else None) (ne_eqb (w % 8) 0 ne)
 
 -- at an aligned word the cell is read from its page
 pub cell_at-aligned : (m : Memory) (w : ℕ) → w % 8 ≡ 0 → cell_at m w ≡ cell_in (page_at m (page_of w)) (place_of w)
