@@ -21,3 +21,5 @@ pub mod OwnSlots
 pub mod Answered
 pub mod WordTexts
 pub mod ScheduleWords
+pub mod OneIf
+pub mod Sames

@@ -195,12 +195,12 @@ put_cases m w v c d aw h = go (nat_eq v w) refl
         inl (s, put_here m w c d (page_at m (page_of w)) refl (sym (ap (cell_at (put_cell m w c)) s ∙ cell_at-aligned (put_cell m w c) w aw) ∙ h))
     go false n = inr (sym (cell_at-put_other m w v c aw (λ s. cc (eq-eqb v w s))) ∙ h)
 
-zeros_get : (n k : ℕ) → k < n → slice_get (replicate n zero_cell) k ≡ Some zero_cell
+pub zeros_get : (n k : ℕ) → k < n → slice_get (replicate n zero_cell) k ≡ Some zero_cell
 zeros_get zero k lt = absurd (omega arith)
 zeros_get (suc n) zero lt = refl
 zeros_get (suc n) (suc k) lt = zeros_get n k (omega arith)
 
-place_within : (v : ℕ) → place_of v < 512
+pub place_within : (v : ℕ) → place_of v < 512
 place_within v = omega arith
 
 -- each word of a page that was just mapped has integer 0, full
@@ -261,7 +261,7 @@ unmap_frames m p = refl
 
 -- pages stay whole
 
-truth : (b : Bool) → T b → b ≡ true
+pub truth : (b : Bool) → T b → b ≡ true
 truth true h = refl
 truth false h = absurd h
 
@@ -269,7 +269,7 @@ length_zeros : (n : ℕ) → length (replicate n zero_cell) ≡ n
 length_zeros zero = refl
 length_zeros (suc n) = ap suc (length_zeros n)
 
-put_whole : (k : ℕ) (v : List Cell) (es : List (ℕ × List Cell)) → IsPage (k, v) → AllByRecursion IsPage es → AllByRecursion IsPage (put nat_cmp k v es)
+pub put_whole : (k : ℕ) (v : List Cell) (es : List (ℕ × List Cell)) → IsPage (k, v) → AllByRecursion IsPage es → AllByRecursion IsPage (put nat_cmp k v es)
 put_whole k v [] new old = (new, tt)
 put_whole k v (e ∷ es) new old =
     elim (nat_cmp k e.0) as (λ r. AllByRecursion IsPage (by_order r ((k, v) ∷ e ∷ es) ((e.0, v) ∷ es) (e ∷ put nat_cmp k v es))) [
