@@ -41,6 +41,8 @@ use Rattle.mm_format.specs.Headers.{header}
 use Rattle.mm_format.specs.Images.{mask, flags_of, bits_in, bits, word, ip, slot, cells_of, page, handler_tests}
 use Rattle.mm_format.specs.Images.{slots, image}
 use Rattle.mm_format.proofs.Images.{bits_long}
+-- names by which crates above know them
+pub use Rattle.std.proofs.lemmas.Bool.{or_from as or_false}
 
 -- 1. Words and pointers.
 

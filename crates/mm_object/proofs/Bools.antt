@@ -4,6 +4,8 @@ use Rattle.std.specs.Prelude.{◌||◌}
 use Rattle.std.specs.List.{list_any, list_all, flat_map}
 use Rattle.std.proofs.lemmas.List.{take_all}
 use Rattle.std.proofs.lemmas.Bool.{or_parts, and_parts}
+-- names by which crates above know them
+pub use Rattle.std.proofs.lemmas.Bool.{false_from_ne_true as is_false, or_from as none_of}
 
 module _ {A : Type 0} (p : A → Bool) where
   pub any-map : {B : Type 0} (f : B → A) (xs : List B) → list_any p (map f xs) ≡ list_any (λ x. p (f x)) xs

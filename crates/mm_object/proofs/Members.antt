@@ -5,6 +5,8 @@ use Rattle.std.proofs.Common.{subst, inl, inr, arith}
 use Rattle.std.specs.Prelude.{Contains, ◌||◌}
 use Rattle.std.specs.List.{flat_map, filter, list_any, list_all, range_with_len, AllByRecursion}
 use Rattle.std.proofs.lemmas.Bool.{cases_lt, or_parts, cond-true, and_parts}
+-- names by which crates above know them
+pub use Rattle.mm_model.proofs.CoreRows.{into_map as each_map}
 
 -- 1. Membership.
 

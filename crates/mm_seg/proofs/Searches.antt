@@ -2,6 +2,8 @@
 use Rattle.std.proofs.Common.{◌≡◌, ℕ, ◌+◌, ◌<◌, ◌≤◌, ◌⊎◌, inl, inr, List, length, sym, subst, arith}
 use Rattle.std.proofs.lemmas.Bool.{cases_lt}
 use Rattle.mm_seg.specs.Segments.{IsSet, segment_at, end_of}
+-- names by which crates above know them
+pub use Rattle.std.proofs.lemmas.Bool.{cases_lt as compare}
 
 pub same_or_below : (n k : ℕ) → n < k + 1 → (n < k) ⊎ (n ≡ k)
 same_or_below n k h = elim (cases_lt n k) [ inl lt ↦ inl lt | inr le ↦ inr (omega arith) ]

@@ -7,6 +7,8 @@ use Rattle.std.specs.FinMap.Entries.{below_all}
 use Rattle.std.specs.List.{AllByRecursion}
 use Rattle.std.proofs.lemmas.Bool.Decides.{nat_tests}
 use Rattle.std.proofs.lemmas.Bool.{and_parts, and_from}
+-- names by which crates above know them
+pub use Rattle.std.proofs.lemmas.Bool.{and_parts as both, and_from as and_true}
 
 is_less : (x y : ℕ) → x < y → is_lt (nat_cmp x y) ≡ true
 is_less x y h = grind (arith, nat_tests)

@@ -6,6 +6,8 @@ use Rattle.std.proofs.lemmas.Bool.Decides.{nat_tests}
 use Rattle.mm_word.specs.Perm.{perm_of}
 use Rattle.mm_word.specs.Pointer.{Pointer, IsWellFormed, spells_pointer, bits_of}
 use Rattle.mm_word.proofs.Packing.{SpellsPointer-bits_of}
+-- names by which crates above know them
+pub use Rattle.std.proofs.lemmas.Bool.{le-ltb as not_lt}
 
 pub not_le : (n m : ℕ) → n < m → nat_le m n ≡ false
 not_le n m lt = grind (arith, nat_tests)
