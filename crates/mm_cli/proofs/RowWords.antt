@@ -12,7 +12,7 @@ use Rattle.mm_cli.specs.declared.table.Last.{Last}
 use Rattle.mm_cli.specs.declared.table.Last.TheVariants.{Nothing, Several}
 use Rattle.mm_cli.specs.declared.words.Word.{Word as Read}
 use Rattle.mm_cli.specs.Words.{Word, file_word, number_word, groups_word, mode_word, range_word, use_word, text_list}
-use Rattle.mm_cli.specs.Words.{spelled, spoken, texts, words_of, FitsParameter, FitsLast, FitsRow, IsOfParameter, AreOfLast}
+use Rattle.mm_cli.specs.Words.{spelled, spoken, texts, words_of, AreNone, FitInTurn, FitsParameter, FitsLast, FitsRow, IsOfParameter, AreOfLast}
 use Rattle.mm_cli.specs.Words.{AreOfRow}
 
 -- 1. What is left after the words of one parameter.
@@ -54,19 +54,20 @@ spoken_more xs ys x more = ap spoken more ∙ by xs
     by [] = append-nil (words_of x)
     by (z ∷ zs) = ap (λ (ws : List Word). words_of z ++ ws) (by zs) ∙ sym (append_assoc (words_of z) (spoken zs) (words_of x))
 
--- one parameter more
-place_more : (ps : List Parameter) (p : Parameter) (ws : List Word) (w : Word) → FitsRow ps Nothing ws → FitsParameter p w → FitsRow (ps ++ p ∷ []) Nothing (ws ++ w ∷ [])
-place_more [] p [] w fits one = (one, tt)
-place_more [] p (v ∷ ws) w fits one = absurd fits
-place_more (q ∷ ps) p [] w fits one = absurd fits
-place_more (q ∷ ps) p (v ∷ ws) w fits one = (fits.0, place_more ps p ws w fits.1 one)
+module _ {A : Type 0} (Fits : Parameter → A → Type 0) where
+  -- one parameter more
+  one_more : (ps : List Parameter) (p : Parameter) (ws : List A) (w : A) → FitInTurn Fits AreNone ps ws → Fits p w → FitInTurn Fits AreNone (ps ++ p ∷ []) (ws ++ w ∷ [])
+  one_more [] p [] w fits one = (one, tt)
+  one_more [] p (v ∷ ws) w fits one = absurd fits
+  one_more (q ∷ ps) p [] w fits one = absurd fits
+  one_more (q ∷ ps) p (v ∷ ws) w fits one = (fits.0, one_more ps p ws w fits.1 one)
 
--- what comes last, after the parameters
-pub with_last : (ps : List Parameter) (last : Last) (ws vs : List Word) → FitsRow ps Nothing ws → FitsLast last vs → FitsRow ps last (ws ++ vs)
-with_last [] last [] vs fits rest = rest
-with_last [] last (w ∷ ws) vs fits rest = absurd fits
-with_last (p ∷ ps) last [] vs fits rest = absurd fits
-with_last (p ∷ ps) last (w ∷ ws) vs fits rest = (fits.0, with_last ps last ws vs fits.1 rest)
+  -- what comes last, after the parameters
+  with_others : (OthersFit : List A → Type 0) (ps : List Parameter) (ws vs : List A) → FitInTurn Fits AreNone ps ws → OthersFit vs → FitInTurn Fits OthersFit ps (ws ++ vs)
+  with_others OthersFit [] [] vs fits rest = rest
+  with_others OthersFit [] (w ∷ ws) vs fits rest = absurd fits
+  with_others OthersFit (p ∷ ps) [] vs fits rest = absurd fits
+  with_others OthersFit (p ∷ ps) (w ∷ ws) vs fits rest = (fits.0, with_others OthersFit ps ws vs fits.1 rest)
 
 -- 3. Words so far.
 
@@ -99,7 +100,7 @@ read_more parameters last texts at d words more word rest after inside so_far on
   fits =
       subst (λ (ws : List Word). FitsRow (take (at + 1) parameters) Nothing ws) (sym also)
       (subst (λ (ps : List Parameter). FitsRow ps Nothing (words ++ word ∷ []))
-      (sym (take_more parameters at d inside)) (place_more (take at parameters) (get_or parameters at d) words word so_far.fits one));
+      (sym (take_more parameters at d inside)) (one_more FitsParameter (take at parameters) (get_or parameters at d) words word so_far.fits one));
   said =
       so_far.said ∙ ap (λ (xs : List (List ℕ)). spelled words ++ xs) said
       ∙ sym (append_assoc (spelled words) (text_list word) after)
@@ -131,7 +132,7 @@ pub read_all : (parameters : List Parameter) (last : Last) (texts : List (List �
     → ReadSoFar parameters last texts at words rest → FitsLast last said → rest ≡ spelled said → all ≡ words ++ said → FitsRow parameters last all × (texts ≡ spelled all)
 read_all parameters last texts at words said all rest all_read so_far fit are whole = (
   subst (λ (ws : List Word). FitsRow parameters last ws) (sym whole)
-      (with_last parameters last words said (subst (λ (ps : List Parameter). FitsRow ps Nothing words) (take_all at parameters all_read) so_far.fits) fit),
+      (with_others FitsParameter (FitsLast last) parameters words said (subst (λ (ps : List Parameter). FitsRow ps Nothing words) (take_all at parameters all_read) so_far.fits) fit),
   so_far.said ∙ ap (λ (xs : List (List ℕ)). spelled words ++ xs) are ∙ sym (spelled_both words said) ∙ ap spelled (sym whole),
 )
 
@@ -170,32 +171,19 @@ several_none kind most said words (names, is, some, few) are wrong =
 
 -- 5. Words as they are read.
 
--- one parameter more
-formed_place : (ps : List Parameter) (p : Parameter) (rs : List Read) (r : Read) → AreOfRow ps Nothing rs → IsOfParameter p r → AreOfRow (ps ++ p ∷ []) Nothing (rs ++ r ∷ [])
-formed_place [] p [] r are one = (one, tt)
-formed_place [] p (s ∷ rs) r are one = absurd are
-formed_place (q ∷ ps) p [] r are one = absurd are
-formed_place (q ∷ ps) p (s ∷ rs) r are one = (are.0, formed_place ps p rs r are.1 one)
-
 pub formed_more : (parameters : List Parameter) (at : ℕ) (d : Parameter) (read more : List Read) (r : Read) → at < length parameters
     → AreOfRow (take at parameters) Nothing read → IsOfParameter (get_or parameters at d) r
     → more ≡ read ++ r ∷ [] → AreOfRow (take (at + 1) parameters) Nothing more
 formed_more parameters at d read more r inside are one also =
     subst (λ (rs : List Read). AreOfRow (take (at + 1) parameters) Nothing rs) (sym also)
-    (subst (λ (ps : List Parameter). AreOfRow ps Nothing (read ++ r ∷ [])) (sym (take_more parameters at d inside)) (formed_place (take at parameters) (get_or parameters at d) read r are one))
-
-with_formed : (ps : List Parameter) (last : Last) (rs more : List Read) → AreOfRow ps Nothing rs → AreOfLast last more → AreOfRow ps last (rs ++ more)
-with_formed [] last [] more are rest = rest
-with_formed [] last (r ∷ rs) more are rest = absurd are
-with_formed (p ∷ ps) last [] more are rest = absurd are
-with_formed (p ∷ ps) last (r ∷ rs) more are rest = (are.0, with_formed ps last rs more are.1 rest)
+    (subst (λ (ps : List Parameter). AreOfRow ps Nothing (read ++ r ∷ [])) (sym (take_more parameters at d inside)) (one_more IsOfParameter (take at parameters) (get_or parameters at d) read r are one))
 
 pub formed_all : (parameters : List Parameter) (last : Last) (at : ℕ) (read more all : List Read) → length parameters ≤ at
     → AreOfRow (take at parameters) Nothing read → AreOfLast last more → all ≡ read ++ more
     → AreOfRow parameters last all
 formed_all parameters last at read more all all_read are rest whole =
     subst (λ (rs : List Read). AreOfRow parameters last rs) (sym whole)
-    (with_formed parameters last read more (subst (λ (ps : List Parameter). AreOfRow ps Nothing read) (take_all at parameters all_read) are) rest)
+    (with_others IsOfParameter (AreOfLast last) parameters read more (subst (λ (ps : List Parameter). AreOfRow ps Nothing read) (take_all at parameters all_read) are) rest)
 
 pub spoken_both : (xs ys zs : List Read) → zs ≡ xs ++ ys → spoken zs ≡ spoken xs ++ spoken ys
 spoken_both xs ys zs whole = ap spoken whole ∙ by xs

@@ -1,7 +1,7 @@
 -- What words say, how it is written, and where it fits.
 use Rattle.std.specs.Prelude.{◌≡◌, ℕ, ◌%◌, ◌^◌, ◌-◌, ◌<◌, ◌≤◌, Bool, true, false, List, [], ◌∷◌, ◌++◌, map, length}
 use Rattle.std.specs.Prelude.{String}
-use Rattle.std.specs.Prelude.{string_bytes, codes, decimal, Option, None, Some, ⊤}
+use Rattle.std.specs.Prelude.{string_bytes, codes, decimal, Option, None, Some, IsSomeAnd, ⊤}
 use Rattle.std.specs.declared.alloc.Global.{Global}
 use Rattle.mm_model.specs.declared.word_use.WordUse.{WordUse}
 use Rattle.mm_model.specs.Audit.{groups_text, use_text}
@@ -82,35 +82,55 @@ FitsParameter Address (number_word n) = IsWordAddress n
 FitsParameter Use (use_word how) = ⊤
 FitsParameter _ _ = ⊥
 
+-- no word is left
+abbrev pub AreNone : {A : Type 0} → List A → Type 0
+AreNone [] = ⊤
+AreNone (word ∷ words) = ⊥
+
+-- at most one word is left, and it fits
+abbrev pub AreAtMostOne : {A : Type 0} → (Fits : A → Type 0) → List A → Type 0
+AreAtMostOne Fits [] = ⊤
+AreAtMostOne Fits (word ∷ []) = Fits word
+AreAtMostOne Fits _ = ⊥
+
+-- a word fits in each parameter, one after the other, and then the others fit
+abbrev pub FitInTurn : {A : Type 0} → (Fits : Parameter → A → Type 0) → (OthersFit : List A → Type 0) → List Parameter
+    → List A → Type 0
+FitInTurn Fits OthersFit [] words = OthersFit words
+FitInTurn Fits OthersFit (parameter ∷ parameters) (word ∷ words) =
+    Fits parameter word × FitInTurn Fits OthersFit parameters words
+FitInTurn Fits OthersFit (parameter ∷ parameters) [] = ⊥
+
 -- the words fit in what comes after the parameters of a row
 abbrev pub FitsLast : Last → List Word → Type 0
-FitsLast Nothing [] = ⊤
-FitsLast (Perhaps parameter) [] = ⊤
-FitsLast (Perhaps parameter) (word ∷ []) = FitsParameter parameter word
+FitsLast Nothing words = AreNone words
+FitsLast (Perhaps parameter) words = AreAtMostOne (FitsParameter parameter) words
 FitsLast (Several kind most) words =
     (names : List (List ℕ)) × (words ≡ map (file_word kind) names) × (1 ≤ length names) × (length names ≤ most)
-FitsLast _ _ = ⊥
 
 -- the words fit in the parameters, and then in what comes after them
 abbrev pub FitsRow : List Parameter → Last → List Word → Type 0
-FitsRow [] last words = FitsLast last words
-FitsRow (parameter ∷ parameters) last (word ∷ words) = FitsParameter parameter word × FitsRow parameters last words
-FitsRow (parameter ∷ parameters) last [] = ⊥
+FitsRow parameters last words = FitInTurn FitsParameter (FitsLast last) parameters words
 
 -- 3. The words of a command line.
 
 abbrev pub texts : List (String Global) → List (List ℕ)
 texts words = map string_bytes words
 
+-- what a word that was read says; nothing if it names several files
+abbrev pub word_of : Read → Option Word
+word_of (read.File kind name) = Some (file_word kind name.now)
+word_of (read.Files kind names) = None
+word_of (read.Number n) = Some (number_word n)
+word_of (read.Groups groups) = Some (groups_word groups.items)
+word_of (read.Mode split) = Some (mode_word split)
+word_of (read.Range base log) = Some (range_word base log)
+word_of (read.Use how) = Some (use_word how)
+
 -- what a word that was read says: one word for each file if it names several
 abbrev pub words_of : Read → List Word
-words_of (read.File kind name) = file_word kind name.now ∷ []
 words_of (read.Files kind names) = map (file_word kind) (texts names.now)
-words_of (read.Number n) = number_word n ∷ []
-words_of (read.Groups groups) = groups_word groups.items ∷ []
-words_of (read.Mode split) = mode_word split ∷ []
-words_of (read.Range base log) = range_word base log ∷ []
-words_of (read.Use how) = use_word how ∷ []
+words_of word = perhaps (λ w. w) (word_of word)
 
 abbrev pub spoken : List Read → List Word
 spoken [] = []
@@ -124,28 +144,18 @@ room (Several kind most) = 1
 
 -- 4. Words as they are read, parameter by parameter.
 
--- the word that was read has the variant of the parameter, and is in its range
+-- the word that was read says one word, which fits in the parameter
 abbrev pub IsOfParameter : Parameter → Read → Type 0
-IsOfParameter (File kind) (read.File other name) = other ≡ kind
-IsOfParameter (Number least most) (read.Number n) = (least ≤ n) × (n ≤ most)
-IsOfParameter Groups (read.Groups groups) = AreGroups groups.items
-IsOfParameter Mode (read.Mode split) = ⊤
-IsOfParameter Range (read.Range base log) = IsRange base log
-IsOfParameter Address (read.Number n) = IsWordAddress n
-IsOfParameter Use (read.Use how) = ⊤
-IsOfParameter _ _ = ⊥
+IsOfParameter parameter word = IsSomeAnd (word_of word) (FitsParameter parameter)
 
 -- at most one word was read for what comes after the parameters of a row: several files are one word
 abbrev pub AreOfLast : Last → List Read → Type 0
-AreOfLast Nothing [] = ⊤
-AreOfLast (Perhaps parameter) [] = ⊤
-AreOfLast (Perhaps parameter) (word ∷ []) = IsOfParameter parameter word
+AreOfLast Nothing words = AreNone words
+AreOfLast (Perhaps parameter) words = AreAtMostOne (IsOfParameter parameter) words
 AreOfLast (Several kind most) (read.Files other names ∷ []) = (other ≡ kind) × (1 ≤ length names.now)
     × (length names.now ≤ most)
-AreOfLast _ _ = ⊥
+AreOfLast (Several kind most) _ = ⊥
 
 -- one word was read for each parameter, and then at most one for what comes after them
 abbrev pub AreOfRow : List Parameter → Last → List Read → Type 0
-AreOfRow [] last words = AreOfLast last words
-AreOfRow (parameter ∷ parameters) last (word ∷ words) = IsOfParameter parameter word × AreOfRow parameters last words
-AreOfRow (parameter ∷ parameters) last [] = ⊥
+AreOfRow parameters last words = FitInTurn IsOfParameter (AreOfLast last) parameters words

@@ -1,6 +1,6 @@
 //! The table of commands. The program's contracts refer to this table.
 
-use mm_model::CYCLE_LIMIT;
+use mm_model::{CYCLE_LIMIT, STATE_LIMIT};
 
 #[derive(Clone, Copy)]
 pub enum Command {
@@ -110,7 +110,7 @@ const CYCLES: Parameter = Parameter::Number {
 /// The most configurations that are looked at.
 const STATES: Parameter = Parameter::Number {
     least: 1,
-    most: 1_000_000,
+    most: STATE_LIMIT,
 };
 
 /// The number from which an image is generated.

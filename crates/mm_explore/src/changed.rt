@@ -9,7 +9,7 @@ ghost use Rattle.mm_model.specs.Report.{cells_or_zero, changes, changes_from};
 ghost use Rattle.mm_explore.specs.Edits.{base_cell as base_cell_of, changed_at, noted, with_entry, entry};
 
 use mm_image::Image;
-use mm_mem::{Inspect, PlainMem, ZERO};
+use mm_mem::{Inspect, PlainMem};
 use mm_model::{CELLS, is_same_cell};
 use mm_word::Cell;
 use std::alloc::AllocError;
@@ -19,7 +19,7 @@ pub(crate) fn base_cell(img: &Image, word: u64) -> Cell
     requires { word % 8 ≡ 0 }
     ensures { result ≡ base_cell_of img.now word }
 {
-    img.cell(word).unwrap_or(ZERO)
+    img.cell(word).unwrap_or(Cell::ZERO)
 }
 
 /// The cell of a word, if it differs from the image's.

@@ -1,8 +1,9 @@
 -- Ordered segments nest, and share an address where both are above one.
 use Rattle.std.proofs.Common.{◌≡◌, ℕ, ◌+◌, ◌<◌, ◌≤◌, inl, inr, List, length, slice_index, refl, subst, arith, pow_pos}
+use Rattle.std.proofs.lemmas.Bool.{cases_lt}
 use Rattle.mm_flow.specs.Sharing.{Up}
 use Rattle.mm_flow.specs.Sharing.Up.{here}
-use Rattle.mm_seg.proofs.Searches.{compare, same_or_below}
+use Rattle.mm_seg.proofs.Searches.{same_or_below}
 use Rattle.mm_seg.proofs.Inserts.{nested_aligned}
 use Rattle.mm_flow.specs.Forest.{IsNested, IsForest, IsOrdered, In, SharesOf}
 
@@ -31,7 +32,7 @@ rises bases logs ends o i j le lt = elim (same_or_below i j (omega arith)) [
 module _ (bases logs ends par : List ℕ) (o : IsOrdered bases logs ends) (f : IsForest bases ends par) (len : length par ≡ length bases) where
   -- the later of two segments with a common address is below both
   pub share : (a b w : ℕ) → a < length bases → b < length bases → In bases ends a w → In bases ends b w → SharesOf bases ends par a b
-  share a b w la lb x y = elim (compare a b) [
+  share a b w la lb x y = elim (cases_lt a b) [
     | inl lt ↦ record { at = b; small = lb; left = f.up a b (omega arith) (omega arith) (let p = x.1 in let q = y.0 in omega arith); right = here refl }
     | inr le ↦ record { at = a; small = la; left = here refl; right = f.up b a (omega arith) (omega arith) (let p = y.1 in let q = x.0 in omega arith) }
   ]

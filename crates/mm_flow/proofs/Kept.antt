@@ -1,9 +1,9 @@
 -- Kept marks of the nodes before one.
 use Rattle.std.proofs.Common.{◌≡◌, ℕ, ◌+◌, ◌<◌, ◌↔◌, inl, inr, Bool, true, List, length, slice_index, bit_or, sym, ap, ◌∙◌, arith}
 use Rattle.std.specs.Int.{bit_at}
+use Rattle.mm_seg.proofs.Searches.{same_or_below}
 use Rattle.mm_flow.specs.Flow.{Has}
 use Rattle.mm_flow.proofs.Bits.{or_left, or_right, or_cases, zero_bit}
-use Rattle.mm_flow.proofs.Masks.{below_cases}
 use Rattle.mm_flow.proofs.SharedMarks.{kept_then, then_kept}
 use Rattle.mm_flow.specs.Sharing.{kept_mark}
 use Rattle.mm_flow.specs.Reached.{HasSome}
@@ -25,7 +25,7 @@ one_more k all own g marks keep is h = (
     | inl y ↦ let z = h.0 y in record { node = z.node; small = (let lt = z.small in omega arith); marked = z.marked; kept = z.kept }
     | inr y ↦ let two = kept_then (keep k) (slice_index marks k) g (ap (λ v. bit_at v g) (sym is) ∙ y) in record { node = k; small = omega arith; marked = two.0; kept = two.1 }
   ],
-  λ x. elim (below_cases x.node k x.small) [
+  λ x. elim (same_or_below x.node k x.small) [
     | inl lt ↦ or_left all own g (h.1 (record { node = x.node; small = lt; marked = x.marked; kept = x.kept }))
     | inr e ↦ or_right all own g (ap (λ v. bit_at v g) is
         ∙ then_kept (keep k) (slice_index marks k) g (ap (λ v. bit_at (slice_index marks v) g) (sym e) ∙ x.marked) (ap keep (sym e) ∙ x.kept))

@@ -4,9 +4,10 @@ use Rattle.std.proofs.Common.{◌≡◌, ℕ, zero, suc, ◌+◌, ◌^◌, ◌<�
 use Rattle.std.proofs.Common.{◌∷◌, ◌++◌, length, slice_index, slice_index_or, slice_set, bit_or, refl, sym, ap, ◌∙◌}
 use Rattle.std.proofs.Common.{subst, arith, length-append}
 use Rattle.std.specs.Int.{bit_at}
+use Rattle.mm_seg.proofs.Searches.{same_or_below}
 use Rattle.mm_flow.specs.Flow.{Has, Within, room}
 use Rattle.mm_flow.proofs.Bits.{or_left, or_right, or_cases, zero_bit}
-use Rattle.mm_flow.proofs.Masks.{set_cases, below_cases, length_set, room_set, Within-refl, Within-trans, Within-or_left}
+use Rattle.mm_flow.proofs.Masks.{set_cases, length_set, room_set, Within-refl, Within-trans, Within-or_left}
 use Rattle.mm_flow.proofs.Masks.Set.{here as set_here, there as set_there}
 use Rattle.mm_flow.specs.Sharing.{Up, MarkedAbove, AreMarksAbove, AddsEdges, SharedBy, PropagatingShared, kept_mark}
 use Rattle.mm_flow.specs.Sharing.Up.{here, over}
@@ -24,7 +25,7 @@ module _ (old a : List ℕ) (from to h : ℕ) (k : AddsEdges h old from to a) wh
       ]
     ];
     keeps = λ n g x. kept n g (k.keeps n g x);
-    each = λ n g small f t. elim (below_cases n h small) [
+    each = λ n g small f t. elim (same_or_below n h small) [
       | inl lt2 ↦ kept n g (k.each n g lt2 f t)
       | inr e ↦ elim (set_cases a h (bit_or (slice_index a h) to) n lt) [
         | set_there ne is ↦ absurd (ne e)
@@ -44,7 +45,7 @@ module _ (old a : List ℕ) (from to h : ℕ) (k : AddsEdges h old from to a) wh
     len = k.len;
     only = k.only;
     keeps = k.keeps;
-    each = λ n g small f t. elim (below_cases n h small) [
+    each = λ n g small f t. elim (same_or_below n h small) [
       | inl lt ↦ k.each n g lt f t
       | inr e ↦ absurd (no_bit (ap (bit_at from) (sym e) ∙ f))
     ];
@@ -62,7 +63,7 @@ shared_more mask h all g sharing bit k = (
     | inl y ↦ shared_wider mask h g sharing (k.0 y)
     | inr y ↦ record { by = h; small = omega arith; has = bit; shared_now = y }
   ],
-  λ x. elim (below_cases x.by h x.small) [
+  λ x. elim (same_or_below x.by h x.small) [
     | inl lt ↦ or_left all (slice_index sharing h) g (k.1 (record { by = x.by; small = lt; has = x.has; shared_now = x.shared_now }))
     | inr e ↦ or_right all (slice_index sharing h) g (ap (λ v. bit_at (slice_index sharing v) g) (sym e) ∙ x.shared_now)
   ],
@@ -71,7 +72,7 @@ shared_more mask h all g sharing bit k = (
 pub shared_skip : (mask h all g : ℕ) (sharing : List ℕ) → (bit_at mask h ≡ 1 → ⊥) → ((bit_at all g ≡ 1) ↔ SharedBy h mask sharing g) → (bit_at all g ≡ 1) ↔ SharedBy (h + 1) mask sharing g
 shared_skip mask h all g sharing no_bit k = (
   λ y. shared_wider mask h g sharing (k.0 y),
-  λ x. elim (below_cases x.by h x.small) [
+  λ x. elim (same_or_below x.by h x.small) [
     | inl lt ↦ k.1 (record { by = x.by; small = lt; has = x.has; shared_now = x.shared_now })
     | inr e ↦ absurd (no_bit (ap (bit_at mask) (sym e) ∙ x.has))
   ],
@@ -141,7 +142,7 @@ module _ (sharing old a : List ℕ) (ch : Bool) (k r : ℕ) (s : PropagatingShar
   shared_keep e = record {
     len = s.len;
     only = s.only;
-    still = λ f n g lt x. elim (below_cases n k lt) [
+    still = λ f n g lt x. elim (same_or_below n k lt) [
       | inl lt2 ↦ s.still f n g lt2 x
       | inr same ↦
           let y = subst (λ v. SharedBy 64 (slice_index old v) sharing g) same x in

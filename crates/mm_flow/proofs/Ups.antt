@@ -1,10 +1,10 @@
 -- Climbing, and one segment more.
 use Rattle.std.proofs.Common.{◌≡◌, ℕ, ◌-◌, ◌<◌, ◌≤◌, inl, inr, List, [], ◌∷◌, ◌++◌, length, slice_index, refl, sym, subst, arith}
+use Rattle.mm_seg.proofs.Searches.{same_or_below}
 use Rattle.mm_flow.specs.Sharing.{Up}
 use Rattle.mm_flow.specs.Sharing.Up.{here, over}
 use Rattle.mm_flow.proofs.SharedMarks.{push_cases, push_length}
 use Rattle.mm_flow.proofs.SharedMarks.Pushed.{last, before}
-use Rattle.mm_flow.proofs.Masks.{below_cases}
 use Rattle.mm_flow.specs.Forest.{IsNested, IsForest, Climbed}
 use Rattle.mm_flow.specs.Forest.Climbed.{found, missed}
 
@@ -37,7 +37,7 @@ module _ (bases ends par : List ℕ) (v : ℕ) (n : IsNested bases ends) (f : Is
       down_last j (omega arith) (Up_old par v j v (omega arith) (subst (Up (par ++ v ∷ []) j) e u))
 
   up_at : (j : ℕ) → j ≤ length par → slice_index bases (length par) < slice_index ends j → Up (par ++ v ∷ []) j (length par)
-  up_at j le lt = elim (below_cases j (length par) (omega arith)) [
+  up_at j le lt = elim (same_or_below j (length par) (omega arith)) [
     | inr e ↦ here e
     | inl less ↦
         let two = up_last j less lt in
@@ -47,11 +47,11 @@ module _ (bases ends par : List ℕ) (v : ℕ) (n : IsNested bases ends) (f : Is
 
   pub forest_more : IsForest bases ends (par ++ v ∷ [])
   forest_more = record {
-    down = λ j k lt u. elim (below_cases k (length par) (let q = push_length par v (length par) refl in omega arith)) [
+    down = λ j k lt u. elim (same_or_below k (length par) (let q = push_length par v (length par) refl in omega arith)) [
       | inl less ↦ f.down j k less (Up_old par v j k less u)
       | inr e ↦ subst (λ w. (j ≤ w) × (slice_index bases w < slice_index ends j)) (sym e) (down_at j (subst (Up (par ++ v ∷ []) j) e u))
     ];
-    up = λ j k lt le inside. elim (below_cases k (length par) (let q = push_length par v (length par) refl in omega arith)) [
+    up = λ j k lt le inside. elim (same_or_below k (length par) (let q = push_length par v (length par) refl in omega arith)) [
       | inl less ↦ Up_new par v j k less (f.up j k less le inside)
       | inr e ↦ subst (Up (par ++ v ∷ []) j) (sym e) (up_at j (subst (λ w. j ≤ w) e le) (subst (λ w. slice_index bases w < slice_index ends j) e inside))
     ];
@@ -67,7 +67,7 @@ forest_climbed bases ends par v k n f e pos lt c =
     forest_more bases ends par v n f (omega arith) (λ j less u. downs j (omega arith) u c) (λ j less inside. ups j (omega arith) (subst (λ w. slice_index bases w < slice_index ends j) e inside) c)
   where
     ends_along : (j : ℕ) → j ≤ v → v < length bases → slice_index bases v < slice_index ends j → slice_index ends v ≤ slice_index ends j
-    ends_along j le small inside = elim (below_cases j v (omega arith)) [
+    ends_along j le small inside = elim (same_or_below j v (omega arith)) [
       | inl less ↦ n.nested j v less small inside
       | inr same ↦ subst (λ w. slice_index ends v ≤ slice_index ends w) (sym same) (omega arith)
     ]

@@ -6,7 +6,6 @@ ghost use Rattle.mm_flow.specs.Work.{Propagated, IsAmong, IsTarget, Stepped, IsI
 ghost use Rattle.mm_flow.specs.Work.{IsOnWay, Walked, Walking, pass_of, way_of, worklist_of};
 ghost use Rattle.mm_flow.specs.Graph.{edges_of};
 
-use crate::forest::greater;
 use crate::graph::Graph;
 use crate::node::Node;
 use crate::work::Work;
@@ -122,11 +121,11 @@ fn walk_on(
         work.add(at, mask);
         return Ok(Walk { at: at + 1, ..walk });
     }
-    let start = greater(walk.done, inner.low);
+    let start = walk.done.max(inner.low);
     visit(marks, work, graph.targets, walk.done, start, mask)?;
     Ok(Walk {
         at: graph.after[at],
-        done: greater(start, inner.high),
+        done: start.max(inner.high),
     })
 }
 

@@ -53,13 +53,6 @@ fn next_ones(alloc: Global, n: usize) -> Result<Vec<usize>, AllocError>
     Ok(next)
 }
 
-/// The greater of two numbers.
-pub fn greater(a: usize, b: usize) -> usize
-    ensures { result ≡ max a b }
-{
-    if a < b { b } else { a }
-}
-
 /// Makes each node's number at least that of each node whose parent it is. Proved is only that each number is above its
 /// node's; how large the numbers are matters for speed alone.
 fn join_up(next: &mut [usize], parents: &[usize])
@@ -70,7 +63,7 @@ fn join_up(next: &mut [usize], parents: &[usize])
         let child = parents.len() - 1 - k;
         let up = parents[child];
         if up < child {
-            next[up] = greater(next[up], next[child]);
+            next[up] = next[up].max(next[child]);
         }
     }
 }

@@ -3,7 +3,7 @@ use Rattle.std.proofs.Common.{◌≡◌, ℕ, ◌+◌, ◌^◌, ◌<◌, ◌≤�
 use Rattle.std.proofs.Common.{List, [], ◌∷◌, ◌++◌, length, take, drop, refl, sym, ap, subst, ◌∙◌, arith}
 use Rattle.std.specs.Int.{w16, w32, w64, to_be_bytes}
 use Rattle.std.specs.Str.{bytes_eq}
-use Rattle.std.proofs.lemmas.Bool.{ltb-false, le-ltb}
+use Rattle.std.proofs.lemmas.Bool.{ltb-false, le-ltb, not-false}
 use Rattle.std.proofs.lemmas.List.{length-append, length-take, length-drop}
 use Rattle.std.proofs.lemmas.Slice.Eq.{bytes_eq-Decides}
 use Rattle.mm_model.specs.Bytes.{IsBytes, number_at}
@@ -167,11 +167,7 @@ pub literal_is : (letters : List ℕ) (number : ℕ) → IsFormat (literal lette
 literal_is letters number = test_is _ (text_is (length letters)) number (λ xs. not (bytes_eq xs letters))
 
 pub literal_read : (letters : List ℕ) (number : ℕ) (xs : List ℕ) → (literal letters number).Fits xs → letters ≡ xs
-literal_read letters number xs fits = sym ((bytes_eq-Decides xs letters).0 (same (bytes_eq xs letters) fits.1))
-  where
-    same : (b : Bool) → not b ≡ false → b ≡ true
-    same true e = refl
-    same false e = absurd cc
+literal_read letters number xs fits = sym ((bytes_eq-Decides xs letters).0 (not-false (bytes_eq xs letters) fits.1))
 
 -- 5. One part after the other.
 

@@ -5,6 +5,7 @@ use Rattle.std.proofs.Common.{length, map, get_or, Some, None, eqb-true, refl, s
 use Rattle.std.specs.Prelude.{◌==◌, ◌&&◌}
 use Rattle.std.proofs.lemmas.List.{take_all}
 use Rattle.std.proofs.lemmas.List.FromFn.{length-map-range_with_len, get_or-map-range_with_len}
+use Rattle.std.proofs.lemmas.Bool.{or_parts, not-false, ltb-false, eqb-false}
 use Rattle.mm_word.specs.declared.word.Word.{Word}
 use Rattle.mm_word.specs.declared.word.Word.TheVariants.{Int, Ptr}
 use Rattle.mm_word.specs.declared.word.Cell.{Cell}
@@ -16,7 +17,6 @@ use Rattle.mm_model.specs.Slot.{Slot}
 use Rattle.mm_model.specs.Image.{Image, slot_limit}
 use Rattle.mm_model.specs.Bytes.{IsBytes, bit_at}
 use Rattle.mm_model.specs.Spelling.{handler_byte, state_byte, bitmap}
-use Rattle.mm_model.proofs.ImageBytes.Clean.{neither, not_not, is_above, is_not}
 use Rattle.mm_model.proofs.ImageBytes.CleanWords.{bits_again}
 use Rattle.mm_model.proofs.ImageBytes.Bitmaps.{number_of_flags-flags, bitmap-part}
 use Rattle.mm_model.proofs.ImageBytes.Ranges.{map-map}
@@ -59,7 +59,7 @@ bits_long size fs fits = ap length fits.1 ∙ bits_count (8 * size) (bitmap size
 
 pub word_again : (tagged : Bool) (n : ℕ) → (tagged && not (spells_pointer n)) ≡ false
     → word_bits (cond tagged (Ptr (pointer_of n)) (Int n)) ≡ n
-word_again true n e = bits_again n (not_not _ e)
+word_again true n e = bits_again n (not-false _ e)
 word_again false n e = refl
 
 pub word_is : (tagged : Bool) → IsFormat (word tagged)
@@ -83,18 +83,18 @@ pub ip_is : IsFormat ip
 unfolding ip
 ip_is =
     then_is _ _ (test_is u64 u64_is 10 _) (λ n _. done_is _)
-    (λ n p fits e. ap bits_of e ∙ bits_again n (not_not _ (neither _ _ fits.1).0))
+    (λ n p fits e. ap bits_of e ∙ bits_again n (not-false _ (or_parts _ _ fits.1).0))
 
 -- 2. Slots.
 
-handler_again : (none : Bool) (h : ℕ) → (h == 255) ≡ none → handler_byte (cond none None (Some h)) ≡ h
+pub handler_again : (none : Bool) (h : ℕ) → (h == 255) ≡ none → handler_byte (cond none None (Some h)) ≡ h
 handler_again true h e = sym (eqb-true h 255 e)
 handler_again false h e = refl
 
 state_again : (running : Bool) (n : ℕ) → n ≤ 1 → (n == 0) ≡ running → state_byte (cond running Running (Halted None))
     ≡ n
 state_again true n le e = sym (eqb-true n 0 e)
-state_again false n le e = let ne = is_not n 0 e in omega arith
+state_again false n le e = let ne = eqb-false n 0 e in omega arith
 
 pub slot_is : (limit least : ℕ) → IsFormat (slot limit least)
 unfolding slot
@@ -109,7 +109,7 @@ slot_is limit least =
     (λ a s fits e. ap (λ (s : Slot). s.regs) e))
     (λ a s fits e. words_tags a s.regs e.0))
     (λ a s fits e. ap (λ (s : Slot). s.ip) e.1.1))
-    (λ a s fits e. ap (λ (s : Slot). state_byte s.state) e.1.1.1 ∙ state_again (a == 0) a (is_above 1 a fits.1) refl))
+    (λ a s fits e. ap (λ (s : Slot). state_byte s.state) e.1.1.1 ∙ state_again (a == 0) a (ltb-false 1 a fits.1) refl))
     (λ a s fits e. ap (λ (s : Slot). handler_byte s.handler) e.1.1.1.1 ∙ handler_again (a == 255) a refl))
     (λ a s fits e. ap (λ (s : Slot). s.group) e.1.1.1.1.1))
     (λ a s fits e. ap (λ (s : Slot). s.number) e.1.1.1.1.1.1)

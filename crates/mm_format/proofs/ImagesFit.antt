@@ -10,6 +10,7 @@ use Rattle.std.specs.List.Sorted.{IsStrictlyIncreasing}
 use Rattle.std.proofs.Math.Pow.{pow_mono}
 use Rattle.std.proofs.lemmas.Bool.Decides.{nat_tests}
 use Rattle.std.proofs.lemmas.List.{length-map, length-take, take_all}
+use Rattle.std.proofs.lemmas.Bool.{or_parts, not-false, ltb-false, le-ltb, or_from}
 use Rattle.mm_word.specs.declared.word.Word.{Word}
 use Rattle.mm_word.specs.declared.word.Word.TheVariants.{Int, Ptr}
 use Rattle.mm_word.specs.declared.word.Cell.{Cell}
@@ -28,18 +29,20 @@ use Rattle.mm_model.specs.Bytes.{IsBytes, bit_at}
 use Rattle.mm_model.specs.Spelling.{Begins, IsFresh, IsImage, HoldsWords, mode_of, handler_byte}
 use Rattle.mm_model.specs.Spelling.{state_byte, bitmap, is_bad_handler}
 use Rattle.mm_model.proofs.ImageBytes.Apart.{number_of_flags-below, bit_at-bitmap}
-use Rattle.mm_model.proofs.ImageBytes.Clean.{neither, not_not, is_above, is_below}
+use Rattle.mm_model.proofs.ImageBytes.Clean.{is_below}
 use Rattle.mm_model.proofs.ImageBytes.CleanRecords.{handler_is_other}
 use Rattle.mm_model.proofs.ImageBytes.CleanWords.{well_formed}
 use Rattle.mm_model.proofs.ImageBytes.Ranges.{map-map, range-list}
 use Rattle.mm_model.proofs.ImageBytes.Rising.{AreRisingFrom, sorted_from, rising_from_sorted}
-use Rattle.mm_model.proofs.ImageBytes.SpelledRecords.{is_spelled, not_le, not_lt}
+use Rattle.mm_model.proofs.ImageBytes.SpelledRecords.{is_spelled, not_le}
 use Rattle.mm_model.proofs.ImageBytes.SpelledSlots.{handler_small, handler_good}
 use Rattle.mm_format.specs.Formats.{each, times, cons, first_late}
 use Rattle.mm_format.specs.Headers.{header}
 use Rattle.mm_format.specs.Images.{mask, flags_of, bits_in, bits, word, ip, slot, cells_of, page, handler_tests}
 use Rattle.mm_format.specs.Images.{slots, image}
 use Rattle.mm_format.proofs.Images.{bits_long}
+-- names by which crates above know them
+pub use Rattle.std.proofs.lemmas.Bool.{or_from as or_false}
 
 -- 1. Words and pointers.
 
@@ -48,7 +51,7 @@ small_bits p h = omega (arith, (code_of-in_range p.perm).1, h.log_in_range, h.ad
 
 pub word_fits : (tagged : Bool) (w : Word) → (word tagged).Fits w → IsWord w
 unfolding word
-word_fits true w fits = subst IsWord (sym fits.1) (well_formed (word_bits w) (not_not _ fits.0.1))
+word_fits true w fits = subst IsWord (sym fits.1) (well_formed (word_bits w) (not-false _ fits.0.1))
 word_fits false w fits = subst IsWord (sym fits.1) fits.0.0
 
 pub fits_word : (w : Word) → IsWord w → (word (is_pointer w)).Fits w
@@ -70,9 +73,9 @@ fit_words (w ∷ words) all = (fits_word w all.0, fit_words words all.1)
 pub ip_fits : (p : Pointer) → ip.Fits p → IsWellFormed p × (can_fetch p.perm ≡ true)
 unfolding ip
 ip_fits p fits =
-    let tests = neither _ _ fits.0.1 in
+    let tests = or_parts _ _ fits.0.1 in
     subst (λ (q : Pointer). IsWellFormed q × (can_fetch q.perm ≡ true)) (sym fits.1)
-    (well_formed (bits_of p) (not_not _ tests.0), not_not _ tests.1)
+    (well_formed (bits_of p) (not-false _ tests.0), not-false _ tests.1)
 
 pub fits_ip : (p : Pointer) → IsWellFormed p → can_fetch p.perm ≡ true → ip.Fits p
 unfolding ip
@@ -141,9 +144,6 @@ fits_bits fs long =
 
 -- 3. Slots.
 
-pub or_false : (a b : Bool) → a ≡ false → b ≡ false → (a || b) ≡ false
-or_false a b e h = ap (λ x. x || b) e ∙ h
-
 begins : (b : Bool) → Begins (cond b Running (Halted None))
 begins true = tt
 begins false = tt
@@ -199,7 +199,7 @@ module _ (limit : ℕ) (all : List Slot) where
       let is = fits.1.1.1.1.1.1.1 in
       let p = ip_fits s.ip fits.1.1.1.1.0 in
       record {
-        number = is_below _ _ (neither _ _ fits.0.1).0;
+        number = is_below _ _ (or_parts _ _ fits.0.1).0;
         group = is_below _ _ fits.1.0.1;
         handler = handler_is_other all s.number s.handler right;
         begins = subst Begins (sym (ap (λ (x : Slot). x.state) is)) (begins (state_byte s.state == 0));
@@ -251,13 +251,13 @@ module _ (limit : ℕ) (all : List Slot) where
   fits_slot least s small f handler order =
       let state = state_again s.state f.begins in
       let h = handler_again s.handler handler in (
-        (omega (arith, f.number), or_false _ _ (not_le s.number limit f.number) (not_lt s.number least order)),
+        (omega (arith, f.number), or_from _ _ (not_le s.number limit f.number) (le-ltb s.number least order)),
         (
           (omega (arith, f.group), not_le s.group limit f.group),
           (
             h.0,
             (
-              (omega (arith, state.0), not_lt 1 (state_byte s.state) state.0),
+              (omega (arith, state.0), le-ltb 1 (state_byte s.state) state.0),
               (
                 fits_ip s.ip f.ip f.executable,
                 (
@@ -287,7 +287,7 @@ module _ (limit : ℕ) (all : List Slot) where
       let t = one (is_bad_handler all s) (7, 142 * k + 2) (first_late 0 (handler_tests all (k + 1) xs)) right in
       let others = slots_fit n (s.number + 1) (k + 1) xs fits.1 t.1 in
       record {
-        rise = (is_above _ _ (neither _ _ fits.0.0.1).1, others.rise);
+        rise = (ltb-false _ _ (or_parts _ _ fits.0.0.1).1, others.rise);
         fresh =
             (slot_fits least s fits.0 t.0, others.fresh);
       }
@@ -344,20 +344,20 @@ cells_again (c ∷ cells) = ap (λ cs. c ∷ cs) (cells_again cells)
 page_fits : (least : ℕ) (p : ℕ × List Cell) → (page least).Fits p → IsPage p × HoldsWords p × (least ≤ p.0)
 unfolding page
 page_fits least p fits =
-    let tests = neither _ _ fits.0.1 in (
+    let tests = or_parts _ _ fits.0.1 in (
       record {
         number = is_below _ _ tests.0;
         cells = sym (length-map p.1 (λ (c : Cell). c.full))
             ∙ bits_long 64 _ fits.1.1.0;
       },
       cells_words p.1 (words_fit _ _ fits.1.1.1.0),
-      is_above _ _ tests.1,
+      ltb-false _ _ tests.1,
     )
 
 fits_page : (least : ℕ) (p : ℕ × List Cell) → IsPage p → HoldsWords p → least ≤ p.0 → (page least).Fits p
 unfolding page
 fits_page least p whole words order = (
-  (omega (arith, whole.number), or_false _ _ (not_le p.0 (2 ^ 42) whole.number) (not_lt p.0 least order)),
+  (omega (arith, whole.number), or_from _ _ (not_le p.0 (2 ^ 42) whole.number) (le-ltb p.0 least order)),
   (
     fits_bits _ (length-map p.1 (λ (c : Cell). is_pointer c.word) ∙ whole.cells),
     (
@@ -400,7 +400,7 @@ fit_pages least (p ∷ xs) are = (
 -- 5. The whole.
 
 one_or_two : (v : ℕ) → not (v == 1 || v == 2) ≡ false → (v ≡ 1) ⊎ (v ≡ 2)
-one_or_two v e = go (v == 1) refl (not_not _ e)
+one_or_two v e = go (v == 1) refl (not-false _ e)
   where
     go : (b : Bool) → (v == 1) ≡ b → (v == 1 || v == 2) ≡ true → (v ≡ 1) ⊎ (v ≡ 2)
     go true one e = inl (eqb-true v 1 one)
@@ -420,35 +420,35 @@ mode_fits v false e one = refl
 fits_mode : (v : ℕ) (split : Bool) → (v ≡ 1) ⊎ (v ≡ 2) → (v ≡ 1 → split ≡ false) → (mode_of split < 2 ^ 32)
     × (nat_lt (v - 1) (mode_of split) ≡ false) × (split ≡ (mode_of split == 1))
 fits_mode v true (inl one) plain = absurd (let e = plain one in cc)
-fits_mode v true (inr two) plain = (omega arith, not_lt (v - 1) 1 (omega arith), refl)
-fits_mode v false version plain = (omega arith, not_lt (v - 1) 0 (omega arith), refl)
+fits_mode v true (inr two) plain = (omega arith, le-ltb (v - 1) 1 (omega arith), refl)
+fits_mode v false version plain = (omega arith, le-ltb (v - 1) 0 (omega arith), refl)
 
 some : (n : ℕ) → (n == 0) ≡ false → 1 ≤ n
 some n e = grind (arith, nat_tests)
 
-not_zero : (n : ℕ) → 1 ≤ n → (n == 0) ≡ false
+pub not_zero : (n : ℕ) → 1 ≤ n → (n == 0) ≡ false
 not_zero n le = grind (arith, nat_tests)
 
 pub image_fits : (i : Image) → image.Fits i → IsImage i
 unfolding image header slots
 image_fits i fits =
     let h = fits.0.1 in
-    let slot_count = neither _ _ h.1.0.1 in
-    let frame_count = neither _ _ h.1.1.0.1 in
+    let slot_count = or_parts _ _ h.1.0.1 in
+    let frame_count = or_parts _ _ h.1.1.0.1 in
     let are = slots_fit (slot_limit i.version) i.slots (length i.slots) 0 0 i.slots fits.1.0.0 fits.1.0.1 in
     let pages = pages_fit (length i.memory.pages) 0 i.memory.pages fits.1.1.0 in
     record {
       version = one_or_two i.version h.0.1;
       mode = mode_fits i.version i.split h.1.1.1.1.0.1;
       some_slots = some _ slot_count.0;
-      few_slots = is_above _ _ slot_count.1;
+      few_slots = ltb-false _ _ slot_count.1;
       rising = rises (λ (s : Slot). s.number) 0 i.slots are.rise;
       fresh = are.fresh;
       some_frames = some _ frame_count.0;
-      few_frames = is_above _ _ frame_count.1;
+      few_frames = ltb-false _ _ frame_count.1;
       paged = record {
         pages = record { rising = sorted_from 0 i.memory.pages pages.rise; whole = pages.whole };
-        fitting = is_above _ _ h.1.1.1.0.1;
+        fitting = ltb-false _ _ h.1.1.1.0.1;
       };
       words = pages.words;
     }
@@ -468,14 +468,14 @@ fits_image i is =
         (
           (version, small.2),
           (
-            (omega (arith, is.few_slots, small.0), or_false _ _ (not_zero _ is.some_slots) (not_lt _ _ is.few_slots)),
+            (omega (arith, is.few_slots, small.0), or_from _ _ (not_zero _ is.some_slots) (le-ltb _ _ is.few_slots)),
             (
               (
                 omega (arith, is.few_frames, small.1),
-                or_false _ _ (not_zero _ is.some_frames) (not_lt _ _ is.few_frames),
+                or_from _ _ (not_zero _ is.some_frames) (le-ltb _ _ is.few_frames),
               ),
               (
-                (omega (arith, is.paged.fitting, is.few_frames, small.1), not_lt _ _ is.paged.fitting),
+                (omega (arith, is.paged.fitting, is.few_frames, small.1), le-ltb _ _ is.paged.fitting),
                 (
                   (mode.0, mode.1),
                   same i.version (length i.slots) i.memory.frames (length i.memory.pages) i.split _ mode.2,

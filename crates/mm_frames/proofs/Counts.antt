@@ -1,5 +1,5 @@
 -- How often a frame is among the rows and among the free frames.
-use Rattle.std.proofs.Common.{◌≡◌, ℕ, zero, suc, ◌+◌, ◌<◌, ◌≤◌, Bool, true, false, ◌==◌, nat_lt, List, [], ◌∷◌, ◌++◌, length, get_or, arith}
+use Rattle.std.proofs.Common.{◌≡◌, ℕ, zero, suc, ◌+◌, ◌<◌, ◌≤◌, ◌==◌, nat_lt, List, [], ◌∷◌, ◌++◌, length, get_or, arith}
 use Rattle.std.specs.List.{insert, remove}
 use Rattle.std.proofs.lemmas.Bool.Decides.{nat_tests}
 use Rattle.mm_model.specs.Flags.{one_if}
@@ -36,7 +36,3 @@ below_more n i = grind (arith, nat_tests)
 -- a frame that is there once is one of the frames
 pub in_range : (n k : ℕ) → 1 ≤ one_if (nat_lt n k) → n < k
 in_range n k h = grind (arith, nat_tests, h)
-
-pub one_at_most : (b : Bool) → one_if b ≤ 1
-one_at_most true = omega arith
-one_at_most false = omega arith

@@ -1,6 +1,6 @@
 -- What frames and pages are to one another, and the memory of frames after each call.
-use Rattle.std.proofs.Common.{◌≡◌, ℕ, ◌+◌, ◌*◌, slice_get, ◌<◌, ◌≤◌, Bool, true, false, cond, not, ◌==◌, nat_eq, nat_lt, List, [], length, slice_index_or, slice_set, Option, None, Some, is_some, refl}
-use Rattle.std.proofs.Common.{sym, ap, ◌∙◌, arith, eqb-true, IsTrue}
+use Rattle.std.proofs.Common.{◌≡◌, ℕ, ◌+◌, ◌*◌, slice_get, ◌<◌, ◌≤◌, cond, not, ◌==◌, nat_eq, nat_lt, List, [], length, slice_index_or, slice_set, Option, None, Some, is_some, refl}
+use Rattle.std.proofs.Common.{sym, ap, ◌∙◌, arith, IsTrue}
 use Rattle.std.specs.Option.{option_map}
 use Rattle.std.specs.Ordering.{nat_cmp}
 use Rattle.std.specs.FinMap.{put, is_sorted, nat_cmp-IsAntisymmetric}
@@ -8,6 +8,8 @@ use Rattle.std.specs.FinMap.Entries.{find-put, find-where_key}
 use Rattle.std.specs.Cmp.{unsigned_tied}
 use Rattle.std.proofs.lemmas.Cmp.{nat_cmp_total}
 use Rattle.std.proofs.lemmas.List.{length-set, get_or-set_same, get_or-set_other}
+use Rattle.std.proofs.lemmas.Bool.{ne_eqb}
+use Rattle.mm_model.proofs.OneIf.{at_most_one}
 use Rattle.mm_word.specs.declared.word.Cell.{Cell}
 use Rattle.mm_model.specs.Memory.{page_of, place_of, cell_in, cell_at, page_at, is_mapped, map_page, unmap_page, zero_page}
 use Rattle.mm_model.proofs.Memories.{cell_at-aligned}
@@ -16,7 +18,7 @@ use Rattle.mm_mem.proofs.Places.{held}
 use Rattle.mm_mem.specs.Blocks.{place_of_block, block_in, block_of_page, block_at, with_block, put_block}
 use Rattle.mm_frames.specs.Framed.{Framed, IsFramed, IsOccupied, IsFree, frame_of, cells_in, memory_of, seated, without, written, times, rows_with}
 use Rattle.mm_frames.proofs.Rows.{paired, find_paired, sorted_paired, put_paired, filter_paired, length_paired, paired_apart, paired_but_one, found_is_with}
-use Rattle.mm_frames.proofs.Counts.{in_range, one_at_most}
+use Rattle.mm_frames.proofs.Counts.{in_range}
 use Rattle.mm_mem.proofs.Blocks.{put_block-mapped}
 
 -- 1. Pages and frames.
@@ -72,25 +74,18 @@ has_frame_is_mapped f page = some_mapped (cells_in f) (frame_of f page) ∙ sym 
 
 -- 2. The frame of each page after a call.
 
-differ : (q k : ℕ) → (q ≡ k → ⊥) → nat_eq q k ≡ false
-differ q k ne = go (nat_eq q k) refl
-  where
-    go : (b : Bool) → nat_eq q k ≡ b → b ≡ false
-    go true e = absurd (ne (eqb-true q k e))
-    go false e = refl
-
 frame_of-put : (f : Framed) (page frame q : ℕ) → frame_of (seated f page frame) q ≡ cond (nat_eq q page) (Some frame) (frame_of f q)
 frame_of-put f page frame q = find-put nat_cmp nat_cmp_total q page frame f.rows ∙ ap (λ b. cond b (Some frame) (frame_of f q)) (unsigned_tied q page)
 
 -- each other page stays in its frame
 pub frame_of-seated_other : (f : Framed) (page frame q : ℕ) → (q ≡ page → ⊥) → frame_of (seated f page frame) q ≡ frame_of f q
-frame_of-seated_other f page frame q ne = frame_of-put f page frame q ∙ ap (λ b. cond b (Some frame) (frame_of f q)) (differ q page ne)
+frame_of-seated_other f page frame q ne = frame_of-put f page frame q ∙ ap (λ b. cond b (Some frame) (frame_of f q)) (ne_eqb q page ne)
 
 frame_of-filter : (f : Framed) (page q : ℕ) → frame_of (without f page) q ≡ cond (not (nat_eq q page)) (frame_of f q) None
 frame_of-filter f page q = find-where_key nat_cmp (λ x. not (x == page)) q (λ x e. ap (λ y. not (y == page)) (sym (nat_cmp-IsAntisymmetric q x e))) f.rows
 
 pub frame_of-without_other : (f : Framed) (page q : ℕ) → (q ≡ page → ⊥) → frame_of (without f page) q ≡ frame_of f q
-frame_of-without_other f page q ne = frame_of-filter f page q ∙ ap (λ b. cond (not b) (frame_of f q) None) (differ q page ne)
+frame_of-without_other f page q ne = frame_of-filter f page q ∙ ap (λ b. cond (not b) (frame_of f q) None) (ne_eqb q page ne)
 
 -- a write moves no page
 pub frame_of-written : (f : Framed) (frame place : ℕ) (new : List Cell) (q : ℕ) → frame_of (written f frame place new) q ≡ frame_of f q
@@ -150,7 +145,7 @@ module _ (f : Framed) (free : List ℕ) (framed : IsFramed f free) where
 
   -- a frame has one page at most
   pub one_page : (frame : ℕ) → rows_with frame f.rows ≤ 1
-  one_page frame = omega (arith, framed.once frame, one_at_most (nat_lt frame (length f.cells)))
+  one_page frame = omega (arith, framed.once frame, at_most_one (nat_lt frame (length f.cells)))
 
   -- the frame of a page is one of the frames
   pub frame_in_range : (page frame : ℕ) → frame_of f page ≡ Some frame → frame < length f.cells
@@ -161,7 +156,7 @@ module _ (f : Framed) (free : List ℕ) (framed : IsFramed f free) where
 
   -- a frame on the free list has no page
   pub free_has_no_row : (frame : ℕ) → 1 ≤ times frame free → rows_with frame f.rows ≡ 0
-  free_has_no_row frame h = omega (arith, framed.once frame, one_at_most (nat_lt frame (length f.cells)), h)
+  free_has_no_row frame h = omega (arith, framed.once frame, at_most_one (nat_lt frame (length f.cells)), h)
 
   pub free_in_range : (frame : ℕ) → 1 ≤ times frame free → frame < length f.cells
   free_in_range frame h = in_range frame (length f.cells) (omega (arith, framed.once frame, h))

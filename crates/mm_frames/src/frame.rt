@@ -4,7 +4,7 @@ ghost use Rattle.std.specs.Prelude.{◌≡◌, ◌<◌, IfOk, Some, length, repl
 ghost use Rattle.mm_model.specs.Memory.{zero_cell, zero_page};
 ghost use Rattle.mm_mem.specs.Blocks.{block_in, with_block};
 
-use mm_mem::{BLOCK, Block, ZERO};
+use mm_mem::{BLOCK, Block};
 use mm_model::Page;
 use mm_word::{Cell, NoMemory};
 use std::alloc::Global;
@@ -35,7 +35,7 @@ impl Model for Frame {
 fn zeros() -> Block
     ensures { result ≡ replicate 8 zero_cell }
 {
-    Block::of(&[ZERO; BLOCK])
+    Block::of(&[Cell::ZERO; BLOCK])
 }
 
 impl Frame {

@@ -1,30 +1,16 @@
 -- The numbers of slots, in a table.
-use Rattle.std.proofs.Common.{◌≡◌, ◌≢◌, ℕ, ◌+◌, ◌<◌, Bool, true, false, List, [], length, get_or, take, replicate, refl, sym, ap, ◌∙◌, arith, inl, inr, eqb-true, eq-eqb}
+use Rattle.std.proofs.Common.{◌≡◌, ℕ, ◌+◌, ◌<◌, Bool, true, false, List, [], length, get_or, take, replicate, sym, ap, ◌∙◌, arith, inl, inr, eq-eqb}
 use Rattle.std.specs.Prelude.{◌||◌, ◌==◌, slice_index_or, slice_set}
-use Rattle.std.proofs.lemmas.Bool.{cases_eq}
+use Rattle.std.proofs.lemmas.Bool.{cases_eq, ne_eqb}
 use Rattle.std.proofs.lemmas.List.{get_or-replicate, get_or-set_same, get_or-set_other}
 use Rattle.std.proofs.lemmas.List.Folds.{list_any_more}
+use Rattle.std.proofs.Math.Bool.{or-true, or-false}
 use Rattle.mm_model.specs.Slot.{Slot}
 use Rattle.mm_image.specs.Reading.{HoldsNumbers}
 use Rattle.mm_model.specs.Spelling.{has_number}
 
 pub none_yet : HoldsNumbers (replicate 256 false) []
 none_yet n below = get_or-replicate 256 n false false below
-
-or_true : (b : Bool) → (b || true) ≡ true
-or_true true = refl
-or_true false = refl
-
-or_false : (b : Bool) → (b || false) ≡ b
-or_false true = refl
-or_false false = refl
-
-differ : (a b : ℕ) → a ≢ b → (a == b) ≡ false
-differ a b ne = go (a == b) refl
-  where
-    go : (t : Bool) → (a == b) ≡ t → t ≡ false
-    go true e = absurd (ne (eqb-true a b e))
-    go false e = refl
 
 -- one slot more
 pub one_number_more : (present : List Bool) (slots : List Slot) (i m : ℕ) (s : Slot) → length present ≡ 256 → i < length slots → get_or slots i s ≡ s → s.number ≡ m
@@ -38,9 +24,9 @@ one_number_more present slots i m s long lt is number holds n below =
           let at : slice_index_or (slice_set present m true) n false ≡ true = ap
           (λ k. slice_index_or (slice_set present m true) k false) (sym same) ∙ get_or-set_same present m true false
           (omega (arith, long, same, below)) in
-          at ∙ sym (more ∙ ap (λ t. has_number (take i slots) n || t) (eq-eqb m n same) ∙ or_true (has_number (take i slots) n))
+          at ∙ sym (more ∙ ap (λ t. has_number (take i slots) n || t) (eq-eqb m n same) ∙ or-true (has_number (take i slots) n))
       | inr other ↦
           get_or-set_other present m n true false (λ e. other (sym e)) ∙ holds n below
-          ∙ sym (more ∙ ap (λ t. has_number (take i slots) n || t) (differ m n other)
-          ∙ or_false (has_number (take i slots) n))
+          ∙ sym (more ∙ ap (λ t. has_number (take i slots) n || t) (ne_eqb m n other)
+          ∙ or-false (has_number (take i slots) n))
     ]

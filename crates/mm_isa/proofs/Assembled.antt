@@ -1,7 +1,8 @@
 -- Operands in their range, of the kinds of a row, are those of an instruction.
-use Rattle.std.proofs.Common.{◌≡◌, ℕ, ◌+◌, ◌*◌, ◌/◌, ◌%◌, ◌<◌, ◌==◌, min, Bool, true, false, not, ◌&&◌, if◌then◌else◌, List, [], ◌∷◌, map, fold, Option, Some, None, arith, refl, ap, sym, ◌∙◌, subst}
+use Rattle.std.proofs.Common.{◌≡◌, ℕ, ◌+◌, ◌*◌, ◌/◌, ◌%◌, ◌<◌, ◌==◌, min, Bool, true, not, ◌&&◌, if◌then◌else◌, List, [], ◌∷◌, map, fold, Option, Some, None, arith, refl, ap, sym, ◌∙◌, subst}
 use Rattle.std.specs.List.{AllByRecursion, list_any, list_all}
 use Rattle.std.specs.Option.{option_map}
+use Rattle.std.proofs.lemmas.Bool.{and_parts}
 use Rattle.mm_word.specs.declared.word.Pre.{Pre}
 use Rattle.mm_word.specs.declared.word.Pre.TheVariants as pre
 use Rattle.mm_word.specs.declared.word.Post.{Post}
@@ -131,21 +132,17 @@ left f (operand.How w) kind.Post e = cc
 left f (operand.How w) kind.How e = cc
 left f (operand.How w) _ e = refl
 
-both : (a b : Bool) → (a && b) ≡ true → (a ≡ true) × (b ≡ true)
-both true b e = (refl, e)
-both false b e = cc
-
 all_left : (os : List Operand) (f : Fields) (k : OperandKind) → list_all (λ l. apart l k) (map kind_of os) ≡ true → operand_in (fold put f os) k ≡ operand_in f k
 all_left [] f k e = refl
 all_left (o ∷ os) f k e =
-    let two = both (apart (kind_of o) k) (list_all (λ l. apart l k) (map kind_of os)) e in
+    let two = and_parts (apart (kind_of o) k) (list_all (λ l. apart l k) (map kind_of os)) e in
     all_left os (put f o) k two.1 ∙ left f o k two.0
 
 -- operands at places that are apart are read again
 all_held : (os : List Operand) (f : Fields) → all_apart (map kind_of os) ≡ true → AllByRecursion IsInRange os → map (operand_in (fold put f os)) (map kind_of os) ≡ os
 all_held [] f e h = refl
 all_held (o ∷ os) f e h =
-    let two = both (list_all (λ l. apart l (kind_of o)) (map kind_of os)) (all_apart (map kind_of os)) e in
+    let two = and_parts (list_all (λ l. apart l (kind_of o)) (map kind_of os)) (all_apart (map kind_of os)) e in
     let here : operand_in (fold put (put f o) os) (kind_of o) ≡ o = all_left os (put f o) (kind_of o) two.0 ∙ held f o h.0 in
     let there : map (operand_in (fold put (put f o) os)) (map kind_of os) ≡ os = all_held os (put f o) two.1 h.1 in
     cc

@@ -4,6 +4,7 @@ use Rattle.std.specs.Bool.{then_some}
 use Rattle.std.specs.Option.{option_and_then}
 use Rattle.std.proofs.Math.Facts.{sfits_to_z, Fits-bits}
 use Rattle.std.proofs.lemmas.Bool.Decides.{nat_tests}
+use Rattle.std.proofs.lemmas.Bool.{eqb-true}
 use Rattle.mm_isa.specs.declared.instr.Instr.{Instr}
 use Rattle.mm_isa.specs.Table.{fields_of, packed, spelling, IsInstr}
 use Rattle.mm_isa.specs.Decode.{fields_in, row_of, instr_of}
@@ -45,15 +46,12 @@ taken : (b : Bool) (i j : Instr) → then_some b i ≡ Some j → (b ≡ true) �
 taken true i j e = (refl, cc)
 taken false i j e = cc
 
-same_number : (m n : ℕ) → (m == n) ≡ true → m ≡ n
-same_number m n e = grind (arith, nat_tests)
-
 -- a row that the word does not spell is no answer
 accepted : (w : ℕ) (o : Option Instr) (i : Instr) → option_and_then (λ j. then_some (spelling j == w) j) o ≡ Some i → (o ≡ Some i) × (spelling i ≡ w)
 accepted w None i e = cc
 accepted w (Some j) i e =
     let t = taken (spelling j == w) j i e in
-    let same : spelling j ≡ w = same_number (spelling j) w t.0 in
+    let same : spelling j ≡ w = eqb-true (spelling j) w t.0 in
     (ap Some t.1, ap spelling (sym t.1) ∙ same)
 
 -- the answer is an instruction that is spelled by the word

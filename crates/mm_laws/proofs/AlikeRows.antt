@@ -1,13 +1,13 @@
 -- Rows of some groups: where they are found, and after a slot or a queue was put.
-use Rattle.std.proofs.Common.{◌≡◌, ◌≢◌, ℕ, ◌<◌, inl, inr, Bool, true, false, cond, nat_eq, if◌then◌else◌, List, [], ◌∷◌, map, Option, Some, refl, sym, ap, ◌∙◌, subst, arith, eqb-true, eq-eqb}
+use Rattle.std.proofs.Common.{◌≡◌, ℕ, ◌<◌, inl, inr, Bool, true, false, cond, nat_eq, if◌then◌else◌, List, [], ◌∷◌, map, Option, Some, refl, sym, ap, ◌∙◌, subst, arith, eqb-true}
 use Rattle.std.specs.List.{AllByRecursion, filter}
 use Rattle.std.specs.List.Sorted.{IsStrictlyIncreasing}
-use Rattle.std.proofs.lemmas.Bool.{both_ways, cases_Bool, cases_eq, ne_eqb}
+use Rattle.std.proofs.lemmas.Bool.{both_ways, cases_Bool, cases_eq}
 use Rattle.mm_model.specs.declared.event.Event.{Event}
 use Rattle.mm_model.specs.Slot.{Slot}
 use Rattle.mm_model.specs.State.{ThreadRow, Core, row_in, slot_of, queue_of, slot_at, queue_at, at_number, put_slot, put_queue}
 use Rattle.mm_model.specs.Fits.{identity_of}
-use Rattle.mm_model.proofs.CoreRows.{each_map, above_first, rest_rises, Rises, identities_of, rises_by, stays_by, identities_of-put_slot}
+use Rattle.mm_model.proofs.CoreRows.{each_map, above_first, rest_rises, Rises, identities_of, rises_by, stays_by, identities_of-put_slot, row_here, row_later}
 use Rattle.mm_model.proofs.Filters.{filter_takes, filter_drops}
 use Rattle.mm_laws.specs.Isolated.{is_row_of}
 use Rattle.mm_laws.proofs.GrantedWords.{row_has, row_of}
@@ -23,7 +23,7 @@ abbrev Ascends : List ThreadRow → Type 0
 Ascends [] = Unit {0}
 Ascends (row ∷ rows) = AllByRecursion (λ (x : ThreadRow). row.slot.number < x.slot.number) rows × Ascends rows
 
-numbers_above : (n : ℕ) (rows : List ThreadRow) → AllByRecursion (λ y. n < y) (map (λ (s : Slot). s.number) (map (λ (row : ThreadRow). row.slot) rows))
+pub numbers_above : (n : ℕ) (rows : List ThreadRow) → AllByRecursion (λ y. n < y) (map (λ (s : Slot). s.number) (map (λ (row : ThreadRow). row.slot) rows))
     → AllByRecursion (λ (x : ThreadRow). n < x.slot.number) rows
 numbers_above n [] h = tt
 numbers_above n (row ∷ rows) h = (h.0, numbers_above n rows h.1)
@@ -33,12 +33,6 @@ ascends [] h = tt
 ascends (row ∷ rows) h =
     let numbers : List ℕ = map (λ (s : Slot). s.number) (map (λ (r : ThreadRow). r.slot) rows) in
     (numbers_above row.slot.number rows (above_first row.slot.number numbers h), ascends rows (rest_rises row.slot.number numbers h))
-
-row_here : (row : ThreadRow) (rows : List ThreadRow) (n : ℕ) → row.slot.number ≡ n → row_in (row ∷ rows) n ≡ Some row
-row_here row rows n e = ap (λ b. if b then Some row else row_in rows n) (eq-eqb row.slot.number n e)
-
-row_later : (row : ThreadRow) (rows : List ThreadRow) (n : ℕ) → row.slot.number ≢ n → row_in (row ∷ rows) n ≡ row_in rows n
-row_later row rows n ne = ap (λ b. if b then Some row else row_in rows n) (ne_eqb row.slot.number n ne)
 
 row_number : (rows : List ThreadRow) (n : ℕ) (row : ThreadRow) → row_in rows n ≡ Some row → row.slot.number ≡ n
 row_number [] n row is = cc

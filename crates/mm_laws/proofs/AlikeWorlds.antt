@@ -9,7 +9,7 @@ use Rattle.std.specs.FinMap.{nat_cmp-IsAntisymmetric}
 use Rattle.std.specs.FinMap.Entries.{same_entries}
 use Rattle.std.proofs.Math.Nat.{div-eq_of_lt}
 use Rattle.std.proofs.lemmas.Cmp.{nat_cmp_total}
-use Rattle.std.proofs.lemmas.Bool.{cases_Bool}
+use Rattle.std.proofs.lemmas.Bool.{cases_Bool, and_parts}
 use Rattle.mm_word.specs.declared.perm.Perm.TheVariants.{Ro}
 use Rattle.mm_word.specs.declared.perm.Kind.{Kind}
 use Rattle.mm_word.specs.declared.perm.Kind.TheVariants.{Fetch, Load, LoadSet, Store}
@@ -29,7 +29,6 @@ use Rattle.mm_model.specs.Reach.Grants.{below}
 use Rattle.mm_model.specs.Reach.Entries.{All}
 use Rattle.mm_model.specs.Worlds.{Touchable, IsPrivileged, Apart, Agree}
 use Rattle.mm_model.proofs.CoreRows.{identities_of}
-use Rattle.mm_model.proofs.EffectSteps.{both_true}
 use Rattle.mm_model.proofs.Memories.{cell_at-aligned, page_whole}
 use Rattle.mm_model.proofs.Filters.{contained_filter, filter_contained}
 use Rattle.mm_laws.specs.Granted.{TouchGranted}
@@ -109,7 +108,7 @@ touchable_back i j c agree apart w h = touchable_there j i c (slots_in j i c (sy
 kind_loads : (k : Kind) (p : Perm) → allows p k ≡ true → can_load p ≡ true
 kind_loads Fetch p e = can_fetch-loads p e
 kind_loads Load p e = e
-kind_loads LoadSet p e = (both_true (can_load p) (can_store p) e).0
+kind_loads LoadSet p e = (and_parts (can_load p) (can_store p) e).0
 kind_loads Store p e = can_store-loads p e
 
 -- a granted touch of one of the groups is at a word that they can touch

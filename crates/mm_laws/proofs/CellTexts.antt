@@ -2,6 +2,7 @@
 use Rattle.std.proofs.Common.{◌≡◌, ◌≢◌, ℕ, ◌<◌, inl, inr, Bool, true, false, cond, ◌||◌, ◌↔◌, nat_eq, List, [], ◌∷◌, ◌++◌, refl, sym, ap, ◌∙◌, subst, arith, eq-eqb, eqb-true}
 use Rattle.std.specs.List.{AllByRecursion, filter, flat_map}
 use Rattle.std.proofs.lemmas.Bool.{both_ways, cases_Bool, ne_eqb}
+use Rattle.std.proofs.lemmas.Bool.{or_parts}
 use Rattle.mm_word.specs.declared.word.Cell.{Cell}
 use Rattle.mm_model.specs.Image.{Image, start}
 use Rattle.mm_model.specs.Lines.{cell_line}
@@ -87,7 +88,7 @@ module _ (P : ℕ → Type 0) (w : ℕ) (c : Cell) (xs : List (ℕ × Cell)) (te
     only = λ v. one v (nat_eq v w) refl;
     all = (
       λ e. absurd (both_ways (or_word w r.test w) e found),
-      each_map (λ (y : ℕ × Cell). r.test y.0 ≡ false → ¬ P y.0) (λ (y : ℕ × Cell). or_word w r.test y.0 ≡ false → ¬ P y.0) (λ y out e. out (or_false (nat_eq y.0 w) (r.test y.0) e)) xs r.all,
+      each_map (λ (y : ℕ × Cell). r.test y.0 ≡ false → ¬ P y.0) (λ (y : ℕ × Cell). or_word w r.test y.0 ≡ false → ¬ P y.0) (λ y out e. out (or_parts (nat_eq y.0 w) (r.test y.0) e).1) xs r.all,
     );
     lines =
         ap (λ (t : List ℕ). cell_line w c ++ t) (r.lines ∙ ap (flat_map line) (same_behind xs low))
@@ -97,10 +98,6 @@ module _ (P : ℕ → Type 0) (w : ℕ) (c : Cell) (xs : List (ℕ × Cell)) (te
       one : (v : ℕ) (b : Bool) → nat_eq v w ≡ b → (b || r.test v) ≡ true → P v
       one v true e h = subst P (sym (eqb-true v w e)) passes
       one v false e h = r.only v h
-
-      or_false : (a b : Bool) → (a || b) ≡ false → b ≡ false
-      or_false true b e = cc
-      or_false false b e = e
 
   chosen_without : ¬ P w → Chosen P ((w, c) ∷ xs) text
   chosen_without out = record {

@@ -13,7 +13,7 @@ use Rattle.mm_word.specs.declared.word.Cell.{Cell}
 use Rattle.mm_model.specs.Memory.{Memory, page_of, place_of, page_at, cell_in, cell_at, zero_cell, IsPage, IsPaged}
 use Rattle.mm_model.specs.Report.{same_cell, cells_or_zero, changes_from, changes}
 use Rattle.mm_model.proofs.CoreRows.{each_map}
-use Rattle.mm_model.proofs.Memories.{cell_at-aligned, aligned, page_whole}
+use Rattle.mm_model.proofs.Memories.{cell_at-aligned, aligned, page_whole, zeros_get}
 use Rattle.mm_laws.proofs.CellViews.{IsIn, Rising}
 
 -- 1. Lists.
@@ -231,11 +231,6 @@ cell_or_zero (Some c) = c
 pub record DiffersAt (m image : Memory) (w : ℕ) (c : Cell) : Type 0 where
   pub here : cell_at m w ≡ Some c
   pub differs : same_cell c (cell_or_zero (cell_at image w)) ≡ false
-
-zeros_get : (n k : ℕ) → k < n → slice_get (replicate n zero_cell) k ≡ Some zero_cell
-zeros_get zero k lt = absurd (omega arith)
-zeros_get (suc n) zero lt = refl
-zeros_get (suc n) (suc k) lt = zeros_get n k (omega arith)
 
 pub get_short : {A : Type 0} (xs : List A) (k : ℕ) (x : A) → slice_get xs k ≡ Some x → k < length xs
 get_short [] k x e = cc

@@ -6,6 +6,7 @@ use Rattle.std.specs.Prelude.{option_map}
 use Rattle.std.specs.Int.{w64, cast_unsigned, cast_signed}
 use Rattle.std.specs.List.{AllByRecursion}
 use Rattle.std.proofs.lemmas.Grind.{common_steps}
+use Rattle.std.proofs.lemmas.Bool.{and_parts}
 use Rattle.mm_word.specs.declared.perm.Perm.{Perm}
 use Rattle.mm_word.specs.declared.perm.Perm.TheVariants.{Ro, Rw, Xu, Xp, Eu, Ep, Key}
 use Rattle.mm_word.specs.declared.perm.Kind.{Kind}
@@ -19,7 +20,7 @@ use Rattle.mm_word.specs.declared.word.Word.{Word}
 use Rattle.mm_word.specs.declared.word.Word.TheVariants.{Int, Ptr}
 use Rattle.mm_word.specs.declared.word.Cell.{Cell}
 use Rattle.mm_word.specs.Access.{Touch, IsGranted, touch_at, check_result}
-use Rattle.mm_word.specs.Perm.{can_fetch, can_move, can_load, can_store, allows, execute_form}
+use Rattle.mm_word.specs.Perm.{can_load, can_store, allows, execute_form}
 use Rattle.mm_word.specs.Pointer.{Pointer, IsBelow, moved_to, lea_result, leab_result, restrict_result, subseg_result, setptr_result, next_result, enter_result}
 use Rattle.mm_word.specs.Word.{IsWord, word_bits, is_pointer}
 use Rattle.mm_word.proofs.Results.{lea_result-IsBelow, leab_result-IsBelow, restrict_result-IsBelow, subseg_result-IsBelow, next_result-IsBelow, setptr_result-well_formed, check_result-IsGranted}
@@ -55,8 +56,7 @@ use Rattle.mm_model.specs.Reach.Grants.{below}
 use Rattle.mm_model.proofs.CoreRows.{each_set, slot_at-number, slot_has, identities_of}
 use Rattle.mm_model.proofs.SlotSteps.{delivered_from}
 use Rattle.mm_model.proofs.CoreSteps.{Fitting, handler_is, queued_waits}
-use Rattle.mm_model.proofs.EffectWords.{slot_words, register_fits}
-use Rattle.mm_model.proofs.EffectSteps.{both_true}
+use Rattle.mm_model.proofs.EffectWords.{slot_words, register_fits, executable_moves}
 use Rattle.mm_laws.specs.Granted.{WordGranted, SlotGranted, EventGranted, RowGranted, CellsGranted}
 use Rattle.mm_laws.proofs.GrantedWords.{slot_granted, queue_granted, register_granted, delivered_granted, BothServe, serving, word_served, load_granted}
 
@@ -131,9 +131,6 @@ EffectGranted i e core m s (Does c) = ChangeGranted i e core m s c
 
 -- 2. Pointers that operations make.
 
-fetch_moves : (p : Perm) → can_fetch p ≡ true → can_move p ≡ true
-fetch_moves p e = grind arith
-
 pub is_xp : (p : Perm) → is_privileged p ≡ true → p ≡ Xp
 is_xp Ro e = cc
 is_xp Rw e = cc
@@ -145,8 +142,8 @@ is_xp Key e = cc
 
 kind_loads : (post : Post) (p : Perm) → allows p (load_kind post) ≡ true → can_load p ≡ true
 kind_loads posts.Keep p e = e
-kind_loads posts.Full p e = (both_true (can_load p) (can_store p) e).0
-kind_loads posts.Empty p e = (both_true (can_load p) (can_store p) e).0
+kind_loads posts.Full p e = (and_parts (can_load p) (can_store p) e).0
+kind_loads posts.Empty p e = (and_parts (can_load p) (can_store p) e).0
 
 -- what a jump through a pointer leaves: its execute form, where the jump enters; else itself
 pub data JumpsTo (p to : Pointer) : Type 0 where
@@ -266,7 +263,7 @@ module _ (i : Image) (e : Entries) (core : Core) (m : Memory) (st : Stands i e c
   -- a pointer of the running code, at another address
   distance_granted : (imm : ℤ) (q : Pointer) → at_distance s imm ≡ Ok q → Grants i e s.group q
   distance_granted imm q is =
-      let moves = fetch_moves s.ip.perm own_slot.executable in
+      let moves = executable_moves s.ip.perm own_slot.executable in
       let lea : lea_result s.ip (pos 8 *ℤ imm) ≡ Ok q = ap (λ b. if b then moved_to s.ip (pos s.ip.addr +ℤ (pos 8 *ℤ imm)) else Err cause.Perm) moves ∙ is in
       below s.ip own.ip (lea_result-IsBelow s.ip q (pos 8 *ℤ imm) lea)
 
@@ -313,10 +310,10 @@ module _ (i : Image) (e : Entries) (core : Core) (m : Memory) (st : Stands i e c
   set_granted posts.Keep w t c is g ok fits = tt
   set_granted posts.Full w t c is g ok fits =
       let right : allows t.ptr.perm (load_kind posts.Full) ≡ true = ap (allows t.ptr.perm) (sym ok.kind_is) ∙ ok.granted.right in
-      record { old = c; stands = is; writes = may_write t (through w (load_kind posts.Full) t g ok) ok.granted (both_true (can_load t.ptr.perm) (can_store t.ptr.perm) right).1; word = fits }
+      record { old = c; stands = is; writes = may_write t (through w (load_kind posts.Full) t g ok) ok.granted (and_parts (can_load t.ptr.perm) (can_store t.ptr.perm) right).1; word = fits }
   set_granted posts.Empty w t c is g ok fits =
       let right : allows t.ptr.perm (load_kind posts.Empty) ≡ true = ap (allows t.ptr.perm) (sym ok.kind_is) ∙ ok.granted.right in
-      record { old = c; stands = is; writes = may_write t (through w (load_kind posts.Empty) t g ok) ok.granted (both_true (can_load t.ptr.perm) (can_store t.ptr.perm) right).1; word = fits }
+      record { old = c; stands = is; writes = may_write t (through w (load_kind posts.Empty) t g ok) ok.granted (and_parts (can_load t.ptr.perm) (can_store t.ptr.perm) right).1; word = fits }
 
   got_granted : (split : Bool) (rd : ℕ) (post : Post) (w : Word) (t : Touch) (c : Cell) → cell_at m t.addr ≡ Some c
       → WordGranted i e s.group w → Checked w (load_kind post) t → Is (loaded split s rd post (Got t c))
@@ -419,7 +416,7 @@ module _ (i : Image) (e : Entries) (core : Core) (m : Memory) (st : Stands i e c
   serve_row k f refused good = by (slot_at core k) refl
     where
       passed : (of : Slot) (b : Bool) → slot_at core k ≡ Some of → (is_handler s.number of.handler && is_taken of.state) ≡ b → Is (f (if b then Served of else Refused cause.NoSlot))
-      passed of true is both = good of is (handler_is s.number of.handler (both_true (is_handler s.number of.handler) (is_taken of.state) both).0)
+      passed of true is both = good of is (handler_is s.number of.handler (and_parts (is_handler s.number of.handler) (is_taken of.state) both).0)
       passed of false is both = refused cause.NoSlot
 
       by : (o : Option Slot) → slot_at core k ≡ o → Is (f (served s.number o))

@@ -1,7 +1,8 @@
 -- Words that are granted: of slots and queues by their numbers, along services, and under more entries.
-use Rattle.std.proofs.Common.{◌≡◌, ℕ, zero, suc, inl, inr, Bool, true, false, nat_eq, if◌then◌else◌, List, [], ◌∷◌, ◌++◌, map, Option, Some, None, refl, sym, ap, ◌∙◌, subst, arith, slice_index_or}
+use Rattle.std.proofs.Common.{◌≡◌, ℕ, zero, suc, inl, inr, Bool, true, false, nat_eq, if◌then◌else◌, List, [], ◌∷◌, ◌++◌, map, Option, Some, None, refl, sym, ap, ◌∙◌, subst, arith}
 use Rattle.std.specs.Prelude.{Contains}
 use Rattle.std.specs.List.{AllByRecursion}
+use Rattle.mm_model.proofs.EffectWords.{each_or}
 use Rattle.mm_word.specs.declared.word.Word.{Word}
 use Rattle.mm_word.specs.declared.word.Word.TheVariants.{Int, Ptr}
 use Rattle.mm_word.specs.Pointer.{Pointer}
@@ -22,11 +23,6 @@ use Rattle.mm_laws.specs.Granted.{WordGranted, SlotGranted, EventGranted, RowGra
 use Rattle.mm_laws.proofs.GrantLaws.{grants_grow}
 
 -- 1. Lists.
-
-pub each_or : {A : Type 0} (P : A → Type 0) (xs : List A) (n : ℕ) (d : A) → AllByRecursion P xs → P d → P (slice_index_or xs n d)
-each_or P [] n d h p = p
-each_or P (x ∷ xs) zero d h p = h.0
-each_or P (x ∷ xs) (suc n) d h p = each_or P xs n d h.1 p
 
 pub contained_left : {A : Type 0} (xs ys : List A) (x : A) → Contains xs x → Contains (xs ++ ys) x
 contained_left [] ys x h = absurd (omega (arith, h.1))

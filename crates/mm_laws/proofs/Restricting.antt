@@ -15,12 +15,11 @@ use Rattle.mm_model.specs.Schedule.{in_groups, is_kept, only}
 use Rattle.mm_model.specs.Turn.{turn}
 use Rattle.mm_model.specs.Run.{after, run}
 use Rattle.mm_model.specs.Fits.{slots_of, identity_of, IsSlot, IsState, Fits}
-use Rattle.mm_model.proofs.CoreRows.{each_map, each_both, each_contained, above_first, rest_rises, slot_at-number, each_slot, slot_has, stays_by}
+use Rattle.mm_model.proofs.CoreRows.{each_map, each_both, each_contained, above_first, rest_rises, slot_at-number, each_slot, slot_has, stays_by, numbers_above}
 use Rattle.mm_model.proofs.TurnKeeps.{turn_keeps}
 use Rattle.mm_model.proofs.StateKeeps.{after_state, after_fits}
 use Rattle.mm_model.proofs.TurnBounds.{turn_takes}
 use Rattle.mm_model.proofs.Starts.{start_at, start_slots, start_state, start_fits, start_within}
-use Rattle.mm_model.proofs.OwnSlots.{numbers_above}
 use Rattle.mm_laws.specs.Restrictions.{Belongs}
 
 -- 1. Slots of a list by their numbers.

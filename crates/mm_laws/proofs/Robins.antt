@@ -12,7 +12,7 @@ use Rattle.mm_model.specs.Spelling.{numbers_of}
 use Rattle.mm_model.specs.Turn.{is_running}
 use Rattle.mm_model.specs.Run.{after, run, first_running, any_number, next_running, then_issued, robin_from, last_item}
 use Rattle.mm_model.specs.Fits.{slots_of, IsState}
-use Rattle.mm_model.proofs.CoreRows.{each_map, each_contained, above_first, rest_rises, slot_at-number, slots_found, slot_has, Rises}
+use Rattle.mm_model.proofs.CoreRows.{each_map, each_contained, above_first, rest_rises, slot_at-number, slots_found, slot_has, Rises, numbers_above}
 use Rattle.mm_model.proofs.StateKeeps.{after_state}
 use Rattle.mm_laws.specs.Schedules.{NoneRuns, AnyNumber, IsLeast, IsNext}
 
@@ -42,10 +42,6 @@ record IsFirst (p : ℕ → Bool) (slots : List Slot) (n : ℕ) : Type 0 where
   passes : p n ≡ true
   least : AllByRecursion (λ (s : Slot). is_running s.state ≡ true → p s.number ≡ true → n ≤ s.number) slots
 
-above : (x : ℕ) (slots : List Slot) → AllByRecursion (λ y. x < y) (numbers_of slots) → AllByRecursion (λ (s : Slot). x < s.number) slots
-above x [] h = tt
-above x (s ∷ slots) h = (h.0, above x slots h.1)
-
 some_says : (p : ℕ → Bool) (rows : List ThreadRow) (n : ℕ) → IsStrictlyIncreasing (numbers_of (slots_in rows)) → first_running p rows ≡ Some n → IsFirst p (slots_in rows) n
 some_says p [] n up e = cc
 some_says p (row ∷ rows) n up e =
@@ -74,7 +70,7 @@ some_says p (row ∷ rows) n up e =
           least = (
             (λ running passes. omega arith),
             each_map (λ (s : Slot). row.slot.number < s.number) (λ (s : Slot). is_running s.state ≡ true → p s.number ≡ true → n ≤ s.number) (λ s lt running passes. omega arith) (slots_in rows)
-                (above row.slot.number (slots_in rows) (above_first row.slot.number (numbers_of (slots_in rows)) up)),
+                (numbers_above row.slot.number (slots_in rows) (above_first row.slot.number (numbers_of (slots_in rows)) up)),
           );
         }
     by true false ea eb e later = behind (later e) (λ running passes. cc (passes, eb))
@@ -86,24 +82,26 @@ least_of : (core : Core) (p : ℕ → Bool) (Passes : ℕ → Type 0) (n : ℕ) 
 least_of core p Passes n up from to e =
     let first = some_says p core.rows n up e in
     record {
-      runs = record {
-        slot = first.slot;
-        stands = ap (slot_at core) (sym first.number) ∙ each_contained (λ (s : Slot). slot_at core s.number ≡ Some s) (slots_of core) first.slot (slots_found core up) first.one;
-        running = first.running;
-      };
+      runs = (
+        first.slot,
+        record {
+          at = ap (slot_at core) (sym first.number) ∙ each_contained (λ (s : Slot). slot_at core s.number ≡ Some s) (slots_of core) first.slot (slots_found core up) first.one;
+          running = first.running;
+        },
+      );
       passes = from n first.passes;
       least = λ m both runs.
-          let number = slot_at-number core m runs.slot runs.stands in
-          let low : n ≤ runs.slot.number = slot_has (λ (s : Slot). is_running s.state ≡ true → p s.number ≡ true
-          → n ≤ s.number) core m runs.slot first.least runs.stands runs.running (ap p number ∙ to m both.0) in
+          let number = slot_at-number core m runs.0 runs.1.at in
+          let low : n ≤ runs.0.number = slot_has (λ (s : Slot). is_running s.state ≡ true → p s.number ≡ true
+          → n ≤ s.number) core m runs.0 first.least runs.1.at runs.1.running (ap p number ∙ to m both.0) in
           let under = both.1 in
           omega arith;
     }
 
 none_of : (core : Core) (p : ℕ → Bool) (Passes : ℕ → Type 0) → ((m : ℕ) → Passes m → p m ≡ true) → first_running p core.rows ≡ None → NoneRuns core Passes
 none_of core p Passes to e m passes runs =
-    let number = slot_at-number core m runs.slot runs.stands in
-    let fails = slot_has (λ (s : Slot). is_running s.state ≡ true → p s.number ≡ false) core m runs.slot (none_says p core.rows e) runs.stands runs.running in
+    let number = slot_at-number core m runs.0 runs.1.at in
+    let fails = slot_has (λ (s : Slot). is_running s.state ≡ true → p s.number ≡ false) core m runs.0 (none_says p core.rows e) runs.1.at runs.1.running in
     cc (ap p number, fails, to m passes)
 
 -- 2. The next running slot.

@@ -1,5 +1,6 @@
 -- Two worlds, step by step, and by induction over both lists of items.
-use Rattle.std.proofs.Common.{◌≡◌, ℕ, ◌-◌, ◌≤◌, ◌⊎◌, inl, inr, Bool, true, false, ◌||◌, ◌&&◌, nat_le, if◌then◌else◌, map, Option, Some, None, refl, sym, ap, ◌∙◌, subst, arith, leb-true}
+use Rattle.std.proofs.Common.{◌≡◌, ℕ, ◌-◌, ◌≤◌, inl, inr, Bool, true, false, ◌&&◌, nat_le, if◌then◌else◌, map, Option, Some, None, refl, sym, ap, ◌∙◌, subst, arith, leb-true}
+use Rattle.std.proofs.lemmas.Bool.{or_cases, or_parts, and_parts}
 use Rattle.mm_model.specs.Slot.{Slot}
 use Rattle.mm_model.specs.State.{Core, State, slot_at}
 use Rattle.mm_model.specs.Image.{Image, slot_in, start}
@@ -34,18 +35,6 @@ state_groups i c core same n =
     groups_by c (slot_at core n) (slot_in i.slots n)
     (identity_at (start i).core core n (same ∙ sym (ap (map identity_of) (start_slots i))) ∙ ap (Rattle.std.specs.Prelude.option_map identity_of) (start_at i n))
 
-or_cases : (a b : Bool) → (a || b) ≡ true → (a ≡ true) ⊎ (b ≡ true)
-or_cases true b e = inl refl
-or_cases false b e = inr e
-
-neither : (a b : Bool) → (a || b) ≡ false → (a ≡ false) × (b ≡ false)
-neither true b e = cc
-neither false b e = (refl, e)
-
-both : (a b : Bool) → (a && b) ≡ true → (a ≡ true) × (b ≡ true)
-both true b e = (refl, e)
-both false b e = cc
-
 member : (c : ℕ → Bool) (o : Option Slot) → in_groups c o ≡ true → (x : Slot) × (o ≡ Some x) × (c x.group ≡ true)
 member c None e = cc
 member c (Some x) e = (x, refl, e)
@@ -73,23 +62,23 @@ module _ (i : Image) (c : ℕ → Bool) (s : State) (state : IsState s) (fits : 
         let x = member c (slot_at s.core n) (state_groups i c s.core fits.same_slots n ∙ named) in
         names x.0 x.1 x.2
     | inr ported ↦
-        let two = both (i.split && nat_le 128 n) (in_groups c (slot_in i.slots (n - 128))) ported in
+        let two = and_parts (i.split && nat_le 128 n) (in_groups c (slot_in i.slots (n - 128))) ported in
         let x = member c (slot_at s.core (n - 128)) (state_groups i c s.core fits.same_slots (n - 128) ∙ two.1) in
         let on : (s.core.split && nat_le 128 n) ≡ true = ap (λ b. b && nat_le 128 n) fits.split ∙ two.0 in
-        let high : 128 ≤ n = leb-true 128 n (both i.split (nat_le 128 n) two.0).1 in
+        let high : 128 ≤ n = leb-true 128 n (and_parts i.split (nat_le 128 n) two.0).1 in
         ports x.0 (no_slot_at n high) (ap (λ b. if b then slot_at s.core (n - 128) else None) on ∙ x.1) (ap (slot_at s.core) (slot_at-number s.core (n - 128) x.0 x.1) ∙ x.1) x.2
   ]
 
   outside : (n : ℕ) → is_kept i c n ≡ false → (x : Slot) → slot_at s.core n ≡ Some x → c x.group ≡ false
   outside n kept x is =
-      let none = (neither (in_groups c (slot_in i.slots n)) (i.split && nat_le 128 n && in_groups c (slot_in i.slots (n - 128))) kept).0 in
+      let none = (or_parts (in_groups c (slot_in i.slots n)) (i.split && nat_le 128 n && in_groups c (slot_in i.slots (n - 128))) kept).0 in
       sym (ap (in_groups c) is) ∙ state_groups i c s.core fits.same_slots n ∙ none
 
   port_outside : (n : ℕ) → is_kept i c n ≡ false → (x : Slot) → port_of s.core n ≡ Some x → c x.group ≡ false
   port_outside n kept x is = by (s.core.split && nat_le 128 n) refl is
     where
       none : (i.split && nat_le 128 n && in_groups c (slot_in i.slots (n - 128))) ≡ false
-      none = (neither (in_groups c (slot_in i.slots n)) (i.split && nat_le 128 n && in_groups c (slot_in i.slots (n - 128))) kept).1
+      none = (or_parts (in_groups c (slot_in i.slots n)) (i.split && nat_le 128 n && in_groups c (slot_in i.slots (n - 128))) kept).1
 
       by : (b : Bool) → (s.core.split && nat_le 128 n) ≡ b → (if b then slot_at s.core (n - 128) else None) ≡ Some x → c x.group ≡ false
       by false on e = cc
@@ -165,7 +154,7 @@ module _ (i j : Image) (c : ℕ → Bool) (g : AgreeApart i j c) (s t : State) (
       (same_arrives i j c s.core t.core s.memory t.memory both_worlds x at (over x.number x at cx) cx x.pending))))
     where
       high : (b : Bool) → (s.core.split && nat_le 128 n) ≡ b → (if b then slot_at s.core (n - 128) else None) ≡ Some x → 128 ≤ n
-      high true on e = leb-true 128 n (both s.core.split (nat_le 128 n) on).1
+      high true on e = leb-true 128 n (and_parts s.core.split (nat_le 128 n) on).1
       high false on e = cc
 
   pub same_turns : (n : ℕ) → is_kept i c n ≡ true → SameTurn i c (turn_of s n) (turn_of t n)

@@ -1,9 +1,9 @@
 -- The meaning of schedules, and the items that round robin issues.
-use Rattle.std.specs.Prelude.{◌≡◌, ℕ, ◌<◌, ◌≤◌, ◌⊎◌, true, List, ◌∷◌, ◌++◌, length, Option, Some, None}
+use Rattle.std.specs.Prelude.{◌≡◌, ℕ, ◌<◌, ◌≤◌, ◌⊎◌, List, ◌∷◌, ◌++◌, length, Option, Some, None}
 use Rattle.mm_model.specs.Slot.{Slot}
-use Rattle.mm_model.specs.State.{Core, State, slot_at}
-use Rattle.mm_model.specs.Turn.{is_running}
+use Rattle.mm_model.specs.State.{Core, State}
 use Rattle.mm_model.specs.Run.{run, robin_from, last_item}
+use Rattle.mm_model.specs.Outcomes.{Runs}
 use Rattle.mm_model.specs.Schedule.{Means, FaultsAt}
 use Rattle.mm_model.specs.Fits.{IsState}
 
@@ -28,10 +28,8 @@ AlwaysOne = (text : List ℕ) → ((items : List ℕ) × Means text items) ⊎ (
 -- 2. Round robin.
 
 -- the slot of this number is there and runs
-pub record RunsAt (core : Core) (n : ℕ) : Type 0 where
-  pub slot : Slot
-  pub stands : slot_at core n ≡ Some slot
-  pub running : is_running slot.state ≡ true
+abbrev pub RunsAt : Core → ℕ → Type 0
+RunsAt core n = (s : Slot) × Runs core n s
 
 -- no slot whose number passes runs
 abbrev pub NoneRuns : Core → (ℕ → Type 0) → Type 0

@@ -31,7 +31,7 @@ Has P r = (x : _) → r ≡ Ok x → P x
 err_no_ok : {A B : Type 0} (x : A) (y : B) → let left : Result A B = Err y in let right : Result A B = Ok x in left ≢ right
 err_no_ok x y e = cc
 
-ok_same : {A B : Type 0} (x y : A) → let left : Result A B = Ok x in let right : Result A B = Ok y in left ≡ right → x ≡ y
+pub ok_same : {A B : Type 0} (x y : A) → let left : Result A B = Ok x in let right : Result A B = Ok y in left ≡ right → x ≡ y
 ok_same x y e = cc
 
 has_ok : {A : Type 0} (P : A → Type 0) (x : A) → P x → Has P (Ok x)

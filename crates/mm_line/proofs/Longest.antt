@@ -1,11 +1,12 @@
 -- Each token is the longest one that begins at its place.
-use Rattle.std.proofs.Common.{◌≡◌, ◌≢◌, ℕ, zero, suc, ◌+◌, ◌<◌, ◌≤◌, ◌^◌, Bool, true, false, ◌&&◌, ◌||◌, ◌==◌, nat_lt}
+use Rattle.std.proofs.Common.{◌≡◌, ◌≢◌, ℕ, zero, suc, ◌+◌, ◌<◌, ◌≤◌, ◌^◌, Bool, true, false, ◌&&◌, ◌==◌, nat_lt}
 use Rattle.std.proofs.Common.{nat_le, if◌then◌else◌, List, [], ◌∷◌, length, take, drop, refl, sym, ap, subst, arith}
 use Rattle.std.specs.List.{list_all}
 use Rattle.std.proofs.lemmas.Bool.Decides.{nat_tests}
 use Rattle.std.proofs.lemmas.List.{length-take-le}
 use Rattle.std.proofs.lemmas.List.Sums.{prefix_len-le-length}
 use Rattle.std.specs.Str.Parse.{digits_value}
+use Rattle.std.proofs.lemmas.Bool.{and_parts, eqb-true, and_right, and_from, or_left}
 use Prim.Native.Char.{code}
 use Rattle.mm_line.specs.declared.class.Class.{Class}
 use Rattle.mm_line.specs.declared.class.Class.TheVariants.{Blank, Letter, NameByte, Decimal, Hexadecimal}
@@ -14,19 +15,7 @@ use Rattle.mm_line.specs.declared.token.Token.TheVariants.{Name, Directive, Numb
 use Rattle.mm_line.specs.Tokens.{Next, is_in, run, starts, behind, starts_hexadecimal, number, decimal, hexadecimal, front, end, token_at, next_token}
 use Rattle.mm_line.specs.Forms.{is_name, is_directive, is_digits, is_number, is_sign, is_token, has_form, IsLongest}
 use Rattle.mm_line.proofs.Cases.{token_cases}
-use Rattle.mm_line.proofs.Choices.{both, same_number}
 use Rattle.mm_line.proofs.Standing.{token_begins, run_all, name_form}
-
-pub and_false : (a b : Bool) → b ≡ false → (a && b) ≡ false
-and_false true b e = e
-and_false false b e = refl
-
-and_true : (a b : Bool) → a ≡ true → b ≡ true → (a && b) ≡ true
-and_true a b e f = rw (e, f) refl
-
-or_first : (a b : Bool) → a ≡ true → (a || b) ≡ true
-or_first true b e = refl
-or_first false b e = cc
 
 -- a longer piece than a run is not all of its kind
 run_stops : (c : Class) (bytes : List ℕ) (k : ℕ) → run c bytes < k → k ≤ length bytes → list_all (is_in c) (take k bytes) ≡ false
@@ -45,7 +34,7 @@ pub other : (p : ℕ → Bool) (b v : ℕ) → p b ≡ true → p v ≡ false �
 other p b v e f = of (b == v) refl
   where
     of : (w : Bool) → (b == v) ≡ w → w ≡ false
-    of true h = let g : p b ≡ p v = ap p (same_number b v h) in cc
+    of true h = let g : p b ≡ p v = ap p (eqb-true b v h) in cc
     of false h = refl
 
 pub no_digit : (b : ℕ) → is_in Letter b ≡ true → is_in Decimal b ≡ true → ⊥
@@ -109,7 +98,7 @@ sign_longest : (v : ℕ) → ((y : ℕ) (xs : List ℕ) → is_token (v ∷ y �
 sign_longest v alone b bytes e zero more le = absurd (omega arith)
 sign_longest v alone b bytes e (suc zero) more le = absurd (omega arith)
 sign_longest v alone b [] e (suc (suc k)) more le = absurd (omega arith)
-sign_longest v alone b (y ∷ ys) e (suc (suc k)) more le = subst (λ c. is_token (c ∷ y ∷ take k ys) ≡ false) (sym (same_number b v e)) (alone y (take k ys))
+sign_longest v alone b (y ∷ ys) e (suc (suc k)) more le = subst (λ c. is_token (c ∷ y ∷ take k ys) ≡ false) (sym (eqb-true b v e)) (alone y (take k ys))
 
 sign_form : (v b : ℕ) (bytes : List ℕ) → (b == v) ≡ true → is_sign v (take 1 (b ∷ bytes)) ≡ true
 sign_form v b bytes e = rw e refl
@@ -120,17 +109,17 @@ run_starts c [] e = cc
 run_starts c (b ∷ bytes) e = let s : 1 + run c bytes ≡ suc (run c bytes) = omega arith in rw (e, s) e
 
 digits_form : (c : Class) (bytes : List ℕ) → starts c bytes ≡ true → is_digits c (take (run c bytes) bytes) ≡ true
-digits_form c bytes e = and_true _ _ (run_starts c bytes e) (run_all c bytes)
+digits_form c bytes e = and_from _ _ (run_starts c bytes e) (run_all c bytes)
 
 digits_longest : (c : Class) (bytes : List ℕ) (k : ℕ) → run c bytes < k → k ≤ length bytes → is_digits c (take k bytes) ≡ false
-digits_longest c bytes k more le = and_false (starts c (take k bytes)) _ (run_stops c bytes k more le)
+digits_longest c bytes k more le = and_right (starts c (take k bytes)) _ (run_stops c bytes k more le)
 
 names_form : (bytes : List ℕ) → starts Letter bytes ≡ true → is_name (take (run NameByte bytes) bytes) ≡ true
 names_form [] e = cc
 names_form (b ∷ bytes) e = name_form b bytes e
 
 name_longest : (bytes : List ℕ) (k : ℕ) → run NameByte bytes < k → k ≤ length bytes → is_name (take k bytes) ≡ false
-name_longest bytes k more le = and_false (starts Letter (take k bytes)) _ (run_stops NameByte bytes k more le)
+name_longest bytes k more le = and_right (starts Letter (take k bytes)) _ (run_stops NameByte bytes k more le)
 
 number_or_wide_form : (b negative : Bool) (n : ℕ) (bytes : List ℕ) → is_number bytes ≡ true → has_form (if b then Number negative n else Wide) bytes ≡ true
 number_or_wide_form true negative n bytes h = h
@@ -195,7 +184,7 @@ negative_at bytes e = front_longest (decimal true bytes) (1 + run Decimal bytes)
     s = omega arith
 
     form : is_number (code "-" ∷ take (run Decimal bytes) bytes) ≡ true
-    form = or_first (is_digits Decimal (take (run Decimal bytes) bytes)) false (digits_form Decimal bytes e)
+    form = or_left (is_digits Decimal (take (run Decimal bytes) bytes)) false (digits_form Decimal bytes e)
 
     longest : (k : ℕ) → 1 + run Decimal bytes < k → k ≤ length at → is_token (take k at) ≡ false
     longest zero more le = absurd (omega arith)
@@ -243,7 +232,7 @@ decimal_case b bytes no_letter no_hexadecimal e = front_longest (decimal false a
     text = take (run Decimal at) at
 
     form : is_number text ≡ true
-    form = or_first _ _ (or_first (is_digits Decimal text) _ (digits_form Decimal at e))
+    form = or_left _ _ (or_left (is_digits Decimal text) _ (digits_form Decimal at e))
 
     longest : (k : ℕ) → run Decimal at < k → k ≤ length at → is_token (take k at) ≡ false
     longest zero more le = absurd (omega arith)
@@ -269,22 +258,22 @@ module _ (b : ℕ) (bytes : List ℕ) where
 
   directive_case : behind (code ".") (starts Letter) (b ∷ bytes) ≡ true → IsLongestAt (b ∷ bytes) (front Directive (1 + run NameByte bytes) (b ∷ bytes))
   directive_case e =
-      let two = both (b == code ".") (starts Letter bytes) e in
-      subst (λ c. IsLongestAt (c ∷ bytes) (front Directive (1 + run NameByte bytes) (c ∷ bytes))) (sym (same_number b (code ".") two.0)) (directive_at bytes two.1)
+      let two = and_parts (b == code ".") (starts Letter bytes) e in
+      subst (λ c. IsLongestAt (c ∷ bytes) (front Directive (1 + run NameByte bytes) (c ∷ bytes))) (sym (eqb-true b (code ".") two.0)) (directive_at bytes two.1)
 
   negative_case : behind (code "-") (starts Decimal) (b ∷ bytes) ≡ true → IsLongestAt (b ∷ bytes) (front (decimal true bytes) (1 + run Decimal bytes) (b ∷ bytes))
   negative_case e =
-      let two = both (b == code "-") (starts Decimal bytes) e in
-      subst (λ c. IsLongestAt (c ∷ bytes) (front (decimal true bytes) (1 + run Decimal bytes) (c ∷ bytes))) (sym (same_number b (code "-") two.0)) (negative_at bytes two.1)
+      let two = and_parts (b == code "-") (starts Decimal bytes) e in
+      subst (λ c. IsLongestAt (c ∷ bytes) (front (decimal true bytes) (1 + run Decimal bytes) (c ∷ bytes))) (sym (eqb-true b (code "-") two.0)) (negative_at bytes two.1)
 
 hexadecimal_case : (b : ℕ) (bytes : List ℕ) → starts_hexadecimal (b ∷ bytes) ≡ true → IsLongestAt (b ∷ bytes)
     (front (hexadecimal (drop 2 (b ∷ bytes))) (2 + run Hexadecimal (drop 2 (b ∷ bytes))) (b ∷ bytes))
-hexadecimal_case b [] e = let two = both (b == code "0") false e in cc
+hexadecimal_case b [] e = let two = and_parts (b == code "0") false e in cc
 hexadecimal_case b (x ∷ ys) e =
-    let two = both (b == code "0") (x == code "x" && starts Hexadecimal ys) e in
-    let inner = both (x == code "x") (starts Hexadecimal ys) two.1 in
+    let two = and_parts (b == code "0") (x == code "x" && starts Hexadecimal ys) e in
+    let inner = and_parts (x == code "x") (starts Hexadecimal ys) two.1 in
     let P : ℕ → ℕ → Type 0 = λ c y. IsLongestAt (c ∷ y ∷ ys) (front (hexadecimal ys) (2 + run Hexadecimal ys) (c ∷ y ∷ ys)) in
-    subst (λ c. P c x) (sym (same_number b (code "0") two.0)) (subst (P (code "0")) (sym (same_number x (code "x") inner.0)) (hexadecimal_at ys inner.1))
+    subst (λ c. P c x) (sym (eqb-true b (code "0") two.0)) (subst (P (code "0")) (sym (eqb-true x (code "x") inner.0)) (hexadecimal_at ys inner.1))
 
 token_longest : (at : List ℕ) → IsLongestAt at (token_at at)
 unfolding token_at

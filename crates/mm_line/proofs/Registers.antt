@@ -5,10 +5,10 @@ use Rattle.std.proofs.lemmas.Fmt.{decimal_digit}
 use Rattle.std.proofs.lemmas.Str.{digit_value_digit}
 use Rattle.std.proofs.lemmas.Str.Parse.{digit_from_value}
 use Rattle.std.specs.Char.{is_digit, digit_value}
-use Rattle.std.proofs.lemmas.Bool.{ltb-true}
+use Rattle.std.proofs.lemmas.Bool.{ltb-true, and_parts, eqb-true}
 use Prim.Native.Char.{code}
 use Rattle.mm_line.specs.Words.{register_named}
-use Rattle.mm_line.proofs.Choices.{both, some_same, same_number}
+use Rattle.mm_line.proofs.Choices.{some_same}
 
 abbrev named : ℕ → List ℕ
 named r = codes "r" ++ decimal r
@@ -52,18 +52,18 @@ register_only [] r e = cc
 register_only (a ∷ []) r e = cc
 register_only (a ∷ b ∷ []) r e =
     let s = some_same (a == code "r" && is_digit b 10) (digit_value b) r e in
-    let t = both (a == code "r") (is_digit b 10) s.0 in
+    let t = and_parts (a == code "r") (is_digit b 10) s.0 in
     let small = ltb-true (digit_value b) 10 t.1 in
-    let first : a ≡ code "r" = same_number a (code "r") t.0 in
+    let first : a ≡ code "r" = eqb-true a (code "r") t.0 in
     let second : b ∷ [] ≡ decimal r = ap (λ x. x ∷ []) (digit_is b small) ∙ sym (decimal_digit (digit_value b) small) ∙ ap decimal s.1 in
     (omega (arith, s.1), ap (λ x. x ∷ b ∷ []) first ∙ ap (λ x. code "r" ∷ x) second)
 register_only (a ∷ b ∷ c ∷ []) r e =
     let s = some_same (a == code "r" && b == code "1" && is_digit c 6) (10 + digit_value c) r e in
-    let t = both (a == code "r" && b == code "1") (is_digit c 6) s.0 in
-    let u = both (a == code "r") (b == code "1") t.0 in
+    let t = and_parts (a == code "r" && b == code "1") (is_digit c 6) s.0 in
+    let u = and_parts (a == code "r") (b == code "1") t.0 in
     let small = ltb-true (digit_value c) 6 t.1 in
-    let first : a ≡ code "r" = same_number a (code "r") u.0 in
-    let second : b ≡ code "1" = same_number b (code "1") u.1 in
+    let first : a ≡ code "r" = eqb-true a (code "r") u.0 in
+    let second : b ≡ code "1" = eqb-true b (code "1") u.1 in
     let third : c ≡ 48 + digit_value c = digit_is c (omega arith) in
     let all : 49 ∷ (48 + digit_value c) ∷ [] ≡ decimal r = sym (two_digits (digit_value c) small) ∙ ap decimal s.1 in
     (omega (arith, s.1), ap (λ x. x ∷ b ∷ c ∷ []) first ∙ ap (λ x. code "r" ∷ x ∷ c ∷ []) second ∙ ap (λ x. code "r" ∷ code "1" ∷ x ∷ []) third ∙ ap (λ x. code "r" ∷ x) all)

@@ -4,11 +4,12 @@ use Rattle.std.proofs.Common.{if◌then◌else◌, List, [], ◌∷◌, length, 
 use Rattle.std.proofs.Common.{ℤ, FitsSigned, refl, sym, subst, arith}
 use Rattle.std.specs.Int.{w32, cast_signed}
 use Rattle.std.specs.Str.{bytes_eq}
-use Rattle.std.proofs.lemmas.Bool.{leb-true, ltb-true}
+use Rattle.std.proofs.lemmas.Bool.{leb-true, ltb-true, and_parts, eqb-false}
 use Rattle.std.proofs.lemmas.Nat.{mod_below}
 use Rattle.std.specs.Char.{is_digit, digit_value}
 use Prim.Native.Char.{code}
 use Rattle.std.proofs.Math.Facts.{sfits_to_z, Fits-bits}
+use Rattle.mm_line.proofs.Claims.{ok_same}
 use Rattle.mm_word.specs.declared.perm.Perm.{Perm}
 use Rattle.mm_word.specs.declared.perm.Perm.TheVariants.{Xu, Xp}
 use Rattle.mm_word.specs.Perm.{can_fetch}
@@ -23,11 +24,8 @@ use Rattle.mm_line.specs.Words.{look_up, ip_perms, register_named}
 use Rattle.mm_line.specs.Faults.{number_of as fault_number}
 use Rattle.mm_line.specs.Reading.{◌>>=◌, at, wrong, wrong_token, name_of, known, word_of, register_of, ranged, between, number_of, modulo, integer_of, immediate, immediate_of, handler_of}
 use Rattle.mm_line.specs.Ranges.{IsMark, IsProblem, IsHandler, Reads}
-use Rattle.mm_line.proofs.Choices.{either, both, some_same, different}
+use Rattle.mm_line.proofs.Choices.{either, some_same}
 use Rattle.mm_line.proofs.Standing.{Found}
-
-ok_same : {A B : Type 0} (x y : A) → let left : Result A B = Ok x in let right : Result A B = Ok y in left ≡ right → x ≡ y
-ok_same x y e = cc
 
 err_same : {A B : Type 0} (x y : B) → let left : Result A B = Err x in let right : Result A B = Err y in left ≡ right → x ≡ y
 err_same x y e = cc
@@ -108,8 +106,8 @@ module _ (most : ℕ) where
   between_is : (low high : ℕ) (negative : Bool) (m x : ℕ) → between low high negative m ≡ Some x → (low ≤ x) × (x ≤ high)
   between_is low high negative m x e =
       let s = some_same (nat_le low m && nat_le m high && (not negative || m == 0)) m x e in
-      let t = both (nat_le low m && nat_le m high) (not negative || m == 0) s.0 in
-      let u = both (nat_le low m) (nat_le m high) t.0 in
+      let t = and_parts (nat_le low m && nat_le m high) (not negative || m == 0) s.0 in
+      let u = and_parts (nat_le low m) (nat_le m high) t.0 in
       let l = leb-true low m u.0 in
       let h = leb-true m high u.1 in
       (omega (arith, s.1), omega (arith, s.1))
@@ -143,11 +141,11 @@ module _ (most : ℕ) where
       register_small (a ∷ []) r e = cc
       register_small (a ∷ b ∷ []) r e =
           let s = some_same (a == code "r" && is_digit b 10) (digit_value b) r e in
-          let t = ltb-true (digit_value b) 10 (both (a == code "r") (is_digit b 10) s.0).1 in
+          let t = ltb-true (digit_value b) 10 (and_parts (a == code "r") (is_digit b 10) s.0).1 in
           omega (arith, s.1, t)
       register_small (a ∷ b ∷ c ∷ []) r e =
           let s = some_same (a == code "r" && b == code "1" && is_digit c 6) (10 + digit_value c) r e in
-          let t = ltb-true (digit_value c) 6 (both (a == code "r" && b == code "1") (is_digit c 6) s.0).1 in
+          let t = ltb-true (digit_value c) 6 (and_parts (a == code "r" && b == code "1") (is_digit c 6) s.0).1 in
           omega (arith, s.1, t)
       register_small (a ∷ b ∷ c ∷ d ∷ s) r e = cc
 
@@ -168,4 +166,4 @@ module _ (most : ℕ) where
       (λ _. reads_then most (λ x. (0 ≤ x) × (x ≤ 15)) (IsHandler slot) (number_of 0 15 n) _ (number_reads 0 15 n f) (λ h in_range.
       either (Reads most (IsHandler slot)) (h == slot) (Err (at faults.Range n)) (Ok (Some h))
       (λ _. reads_err most (IsHandler slot) _ (range_fault n f))
-      (λ other. reads_ok most (IsHandler slot) (Some h) (omega (arith, in_range.1), λ same. different h slot other same))))
+      (λ other. reads_ok most (IsHandler slot) (Some h) (omega (arith, in_range.1), λ same. eqb-false h slot other same))))

@@ -3,6 +3,7 @@ use Rattle.std.proofs.Common.{◌≡◌, ℕ, suc, ◌+◌, Bool, true, false, �
 use Rattle.std.specs.List.{list_all}
 use Rattle.std.specs.Str.Parse.{digits_value}
 use Rattle.std.proofs.lemmas.List.{take_at, drop_at}
+use Rattle.std.proofs.lemmas.Bool.{and_parts, eqb-true, and_right}
 use Prim.Native.Char.{code}
 use Rattle.mm_line.specs.declared.class.Class.{Class}
 use Rattle.mm_line.specs.declared.class.Class.TheVariants.{Blank, Letter, NameByte, Decimal, Hexadecimal}
@@ -11,15 +12,14 @@ use Rattle.mm_line.specs.declared.token.Token.TheVariants.{Name, Directive, Comm
 use Rattle.mm_line.specs.Tokens.{is_in, run, starts, behind, starts_hexadecimal, number, decimal, hexadecimal, front, token_at, next_token}
 use Rattle.mm_line.specs.Forms.{is_name, is_digits}
 use Rattle.mm_line.specs.Standing.{written}
-use Rattle.mm_line.proofs.Choices.{both, same_number}
-use Rattle.mm_line.proofs.Longest.{other, no_digit, and_false}
+use Rattle.mm_line.proofs.Longest.{other, no_digit}
 
 -- a run ends where a byte of another kind is behind it
 pub run_ends : (c : Class) (text rest : List ℕ) → list_all (is_in c) text ≡ true → starts c rest ≡ false → run c (text ++ rest) ≡ length text
 run_ends c [] [] all stop = refl
 run_ends c [] (b ∷ rest) all stop = rw stop refl
 run_ends c (b ∷ text) rest all stop =
-    let two = both (is_in c b) (list_all (is_in c) text) all in
+    let two = and_parts (is_in c b) (list_all (is_in c) text) all in
     rw (two.0, run_ends c text rest two.1 stop) (omega arith)
 
 front_written : (token : Token) (text rest : List ℕ) → front token (length text) (text ++ rest) ≡ written token text rest
@@ -66,7 +66,7 @@ letter_at b bytes h =
 pub name_read : (name rest : List ℕ) → is_name name ≡ true → starts NameByte rest ≡ false → next_token (name ++ rest) ≡ written Name name rest
 name_read [] rest h stop = cc
 name_read (b ∷ bs) rest h stop =
-    let two = both (is_in Letter b) (list_all (is_in NameByte) (b ∷ bs)) h in
+    let two = and_parts (is_in Letter b) (list_all (is_in NameByte) (b ∷ bs)) h in
     no_blank b (bs ++ rest) (not_blank (is_in Letter) b two.0 refl refl refl) ∙ letter_at b (bs ++ rest) two.0
     ∙ ap (λ k. front Name k (b ∷ (bs ++ rest))) (run_ends NameByte (b ∷ bs) rest two.1 stop) ∙ front_written Name (b ∷ bs) rest
 
@@ -80,7 +80,7 @@ starts_append c (b ∷ bs) rest h = h
 
 pub directive_read : (name rest : List ℕ) → is_name name ≡ true → starts NameByte rest ≡ false → next_token ((codes "." ++ name) ++ rest) ≡ written Directive (codes "." ++ name) rest
 directive_read name rest h stop =
-    let two = both (starts Letter name) (list_all (is_in NameByte) name) h in
+    let two = and_parts (starts Letter name) (list_all (is_in NameByte) name) h in
     no_blank (code ".") (name ++ rest) refl ∙ directive_at (name ++ rest) (starts_append Letter name rest two.0)
     ∙ ap (λ k. front Directive k (code "." ∷ (name ++ rest))) (ap (λ k. 1 + k) (run_ends NameByte name rest two.1 stop) ∙ one_add (length name)) ∙ front_written Directive (code "." ∷ name) rest
 
@@ -96,7 +96,7 @@ negative_at bytes h = rw h refl
 pub negative_read : (digits rest : List ℕ) → is_digits Decimal digits ≡ true → starts Decimal rest ≡ false
     → next_token ((codes "-" ++ digits) ++ rest) ≡ written (number true (digits_value 10 digits)) (codes "-" ++ digits) rest
 negative_read digits rest h stop =
-    let two = both (starts Decimal digits) (list_all (is_in Decimal) digits) h in
+    let two = and_parts (starts Decimal digits) (list_all (is_in Decimal) digits) h in
     no_blank (code "-") (digits ++ rest) refl ∙ negative_at (digits ++ rest) (starts_append Decimal digits rest two.0)
     ∙ ap (λ t. front t (1 + run Decimal (digits ++ rest)) (code "-" ∷ (digits ++ rest))) (ap (number true) (digits_begin Decimal 10 digits rest two.1 stop))
     ∙ ap (λ k. front (number true (digits_value 10 digits)) k (code "-" ∷ (digits ++ rest))) (ap (λ k. 1 + k) (run_ends Decimal digits rest two.1 stop) ∙ one_add (length digits))
@@ -109,7 +109,7 @@ hexadecimal_at bytes h = rw h refl
 pub hexadecimal_read : (digits rest : List ℕ) → is_digits Hexadecimal digits ≡ true → starts Hexadecimal rest ≡ false
     → next_token ((codes "0x" ++ digits) ++ rest) ≡ written (number false (digits_value 16 digits)) (codes "0x" ++ digits) rest
 hexadecimal_read digits rest h stop =
-    let two = both (starts Hexadecimal digits) (list_all (is_in Hexadecimal) digits) h in
+    let two = and_parts (starts Hexadecimal digits) (list_all (is_in Hexadecimal) digits) h in
     no_blank (code "0") (code "x" ∷ (digits ++ rest)) refl ∙ hexadecimal_at (digits ++ rest) (starts_append Hexadecimal digits rest two.0)
     ∙ ap (λ t. front t (2 + run Hexadecimal (digits ++ rest)) (code "0" ∷ code "x" ∷ (digits ++ rest))) (ap (number false) (digits_begin Hexadecimal 16 digits rest two.1 stop))
     ∙ ap (λ k. front (number false (digits_value 16 digits)) k (code "0" ∷ code "x" ∷ (digits ++ rest))) (ap (λ k. 2 + k) (run_ends Hexadecimal digits rest two.1 stop) ∙ two_add (length digits))
@@ -120,14 +120,14 @@ not_of : (p : ℕ → Bool) (b v : ℕ) → p b ≡ false → p v ≡ true → (
 not_of p b v e f = of (b == v) refl
   where
     of : (w : Bool) → (b == v) ≡ w → w ≡ false
-    of true h = let g : p b ≡ p v = ap p (same_number b v h) in cc
+    of true h = let g : p b ≡ p v = ap p (eqb-true b v h) in cc
     of false h = refl
 
 -- no `x` begins digits with no name behind them
 no_x : (ds rest : List ℕ) → list_all (is_in Decimal) ds ≡ true → starts NameByte rest ≡ false → behind (code "x") (starts Hexadecimal) (ds ++ rest) ≡ false
 no_x [] [] all stop = refl
 no_x [] (y ∷ ys) all stop = rw (not_of (is_in NameByte) y (code "x") stop refl) refl
-no_x (e ∷ es) rest all stop = let two = both (is_in Decimal e) (list_all (is_in Decimal) es) all in rw (other (is_in Decimal) e (code "x") two.0 refl) refl
+no_x (e ∷ es) rest all stop = let two = and_parts (is_in Decimal e) (list_all (is_in Decimal) es) all in rw (other (is_in Decimal) e (code "x") two.0 refl) refl
 
 digit_no_letter : (d : ℕ) → is_in Decimal d ≡ true → is_in Letter d ≡ false
 digit_no_letter d h = of (is_in Letter d) refl
@@ -141,10 +141,10 @@ decimal_at : (d : ℕ) (bytes : List ℕ) → is_in Decimal d ≡ true → behin
 unfolding token_at
 decimal_at d bytes h none =
     let not_a : (v : ℕ) → is_in Decimal v ≡ false → (d == v) ≡ false = λ v f. other (is_in Decimal) d v h f in
-    let no_number : starts_hexadecimal (d ∷ bytes) ≡ false = and_false (d == code "0") (behind (code "x") (starts Hexadecimal) bytes) none in
+    let no_number : starts_hexadecimal (d ∷ bytes) ≡ false = and_right (d == code "0") (behind (code "x") (starts Hexadecimal) bytes) none in
     rw (not_a (code ";") refl, not_a (code ",") refl, not_a (code ":") refl, not_a (code "+") refl, digit_no_letter d h, not_a (code ".") refl, not_a (code "-") refl, no_number, h) refl
 
-or_last : (a b : Bool) → (a || b) ≡ false → b ≡ false
+pub or_last : (a b : Bool) → (a || b) ≡ false → b ≡ false
 or_last true b e = cc
 or_last false b e = e
 
@@ -155,8 +155,8 @@ no_more_digits (y ∷ ys) stop = or_last (is_in Letter y) (is_in Decimal y) stop
 pub decimal_read : (digits rest : List ℕ) → is_digits Decimal digits ≡ true → starts NameByte rest ≡ false → next_token (digits ++ rest) ≡ written (number false (digits_value 10 digits)) digits rest
 decimal_read [] rest h stop = cc
 decimal_read (d ∷ ds) rest h stop =
-    let two = both (is_in Decimal d) (list_all (is_in Decimal) (d ∷ ds)) h in
-    let three = both (is_in Decimal d) (list_all (is_in Decimal) ds) two.1 in
+    let two = and_parts (is_in Decimal d) (list_all (is_in Decimal) (d ∷ ds)) h in
+    let three = and_parts (is_in Decimal d) (list_all (is_in Decimal) ds) two.1 in
     let digits = d ∷ ds in
     let ends = no_more_digits rest stop in
     no_blank d (ds ++ rest) (not_blank (is_in Decimal) d two.0 refl refl refl) ∙ decimal_at d (ds ++ rest) two.0 (no_x ds rest three.1 stop)

@@ -9,7 +9,7 @@ use Rattle.mm_word.specs.Word.{IsWord}
 use Rattle.mm_word.proofs.Packing.{bits_of-injective}
 use Rattle.mm_model.specs.declared.slot.SlotState.{SlotState}
 use Rattle.mm_model.specs.declared.slot.SlotState.TheVariants.{Running, Waiting, Taken, Halted}
-use Rattle.mm_model.proofs.CauseNumbers.{causes_same}
+use Rattle.mm_word.proofs.Causes.{causes_same}
 use Rattle.mm_model.specs.Effect.{same_word}
 use Rattle.mm_model.specs.Report.{same_bit, same_cell}
 use Rattle.mm_log.specs.Changes.{same_state}

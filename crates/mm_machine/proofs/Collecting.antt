@@ -5,9 +5,10 @@ use Rattle.std.proofs.Common.{sym, ap, subst, ◌∙◌, arith}
 use Rattle.std.specs.Prelude.{slice_index}
 use Rattle.std.specs.List.{AllByRecursion, flat_map}
 use Rattle.std.specs.List.Sorted.{IsStrictlyIncreasing}
-use Rattle.std.proofs.lemmas.Bool.{cases_eq}
+use Rattle.std.proofs.lemmas.Bool.{cases_eq, eq-eqb}
 use Rattle.std.proofs.lemmas.List.{map-append, take_more, flat_map_more}
 use Rattle.std.proofs.lemmas.List.Folds.{list_any-append}
+use Rattle.std.proofs.Math.Bool.{or-true}
 use Rattle.mm_word.specs.declared.word.Cell.{Cell}
 use Rattle.mm_model.specs.Memory.{Memory, IsPaged}
 use Rattle.mm_model.specs.declared.event.Event.{Event}
@@ -21,7 +22,6 @@ use Rattle.mm_mem.proofs.PagePlaces.{got, any_default, some_same, page_there, at
 use Rattle.mm_thread.specs.Output.{Output}
 use Rattle.mm_machine.specs.Snapshot.{groups_of, has_output, IsOutputOf, queued_at}
 use Rattle.mm_machine.specs.Capture.{cells_of, OutputsBelow}
-use Rattle.mm_machine.proofs.Steps.{same_test, or_true}
 
 -- 1. Outputs.
 
@@ -57,7 +57,7 @@ module _ (core : Core) (slots : List Slot) (n : ℕ) (os : List Output) (so_far 
     where
       by : (g : ℕ) → g < n + 1 → has_group slots g ≡ true → (has_output os g || (eqb o.group g || false)) ≡ true
       by g lt here = elim (cases_eq g n) as (λ _. (has_output os g || (eqb o.group g || false)) ≡ true) [
-        | inl same ↦ ap (λ b. has_output os g || (b || false)) (same_test o.group g (is ∙ sym same)) ∙ or_true (has_output os g)
+        | inl same ↦ ap (λ b. has_output os g || (b || false)) (eq-eqb o.group g (is ∙ sym same)) ∙ or-true (has_output os g)
         | inr other ↦ ap (λ b. b || (eqb o.group g || false)) (so_far.shown g (omega arith) here)
       ]
 

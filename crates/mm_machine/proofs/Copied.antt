@@ -9,8 +9,9 @@ use Rattle.std.specs.Ordering.{nat_cmp}
 use Rattle.std.specs.FinMap.{is_sorted}
 use Rattle.std.proofs.Props.{props}
 use Rattle.std.proofs.Math.Logic.{∥∥₁_elim}
-use Rattle.std.proofs.lemmas.Bool.{cases_eq}
+use Rattle.std.proofs.lemmas.Bool.{cases_eq, eq-eqb, ne_eqb}
 use Rattle.std.proofs.lemmas.List.{get_or-map, length-map}
+use Rattle.std.proofs.Math.Bool.{or-true}
 use Rattle.mm_word.specs.declared.word.Cell.{Cell}
 use Rattle.mm_model.specs.declared.slot.SlotState.TheVariants.{Taken}
 use Rattle.mm_model.specs.declared.event.Event.{Event}
@@ -24,7 +25,7 @@ use Rattle.mm_model.specs.Fits.{is_waiting, waits_for, events_of, slots_of, IsSl
 use Rattle.mm_model.specs.Fits.{LoadsAreKept, TakenBySome, IsOfVersion, IsCore, SlotHoldsWords, EventHoldsWords}
 use Rattle.mm_model.specs.Fits.{RowHoldsWords}
 use Rattle.mm_model.proofs.CoreRows.{each_map, each_both, rest_rises, above_first, Rises, slot_has, slots_found}
-use Rattle.mm_model.proofs.CoreSteps.{some_true, events_of-here, waits_for-rests, waits_for-at}
+use Rattle.mm_model.proofs.CoreSteps.{some_true, events_of-here, waits_for-rests, waits_for-at, events_more}
 use Rattle.mm_image.proofs.SortedEntries.{rises}
 use Rattle.mm_thread.specs.Output.{Output}
 use Rattle.mm_thread.specs.Parts.{events_for}
@@ -39,20 +40,20 @@ use Rattle.mm_machine.specs.Capture.{OutputsBelow}
 use Rattle.mm_machine.proofs.Keeping.{kept_core}
 use Rattle.mm_machine.proofs.Pendings.{loads_counted}
 use Rattle.mm_machine.proofs.Queues.{slot_numbered, tally, tallied, beside_one, of_none, awaited_by}
-use Rattle.mm_machine.proofs.Steps.{same_test, other_test, or_true, from_zero}
+use Rattle.mm_machine.proofs.Steps.{from_zero}
 
 -- 1. The queues one behind the other.
 
 abbrev tagged : ℕ → List Event → List (ℕ × Event)
 tagged n es = map (λ (e : Event). (n, e)) es
 
-for_own : (n : ℕ) (es : List Event) (rest : List (ℕ × Event)) → events_for n (tagged n es ++ rest) ≡ es ++ events_for n rest
+pub for_own : (n : ℕ) (es : List Event) (rest : List (ℕ × Event)) → events_for n (tagged n es ++ rest) ≡ es ++ events_for n rest
 for_own n [] rest = refl
-for_own n (e ∷ es) rest = rw (same_test n n refl) (ap (λ (xs : List Event). e ∷ xs) (for_own n es rest))
+for_own n (e ∷ es) rest = rw (eq-eqb n n refl) (ap (λ (xs : List Event). e ∷ xs) (for_own n es rest))
 
-for_other : (n k : ℕ) (es : List Event) (rest : List (ℕ × Event)) → k ≢ n → events_for n (tagged k es ++ rest) ≡ events_for n rest
+pub for_other : (n k : ℕ) (es : List Event) (rest : List (ℕ × Event)) → k ≢ n → events_for n (tagged k es ++ rest) ≡ events_for n rest
 for_other n k [] rest ne = refl
-for_other n k (e ∷ es) rest ne = rw (other_test k n ne) (for_other n k es rest ne)
+for_other n k (e ∷ es) rest ne = rw (ne_eqb k n ne) (for_other n k es rest ne)
 
 module _ (core : Core) where
   abbrev all_of : List Slot → List (ℕ × Event)
@@ -69,8 +70,8 @@ module _ (core : Core) where
   absent : (n : ℕ) (slots : List Slot) → numbered slots n ≡ None → AllByRecursion (λ (s : Slot). s.number ≢ n) slots
   absent n [] none = tt
   absent n (s ∷ slots) none = elim (cases_eq s.number n) as (λ _. AllByRecursion (λ (t : Slot). t.number ≢ n) (s ∷ slots)) [
-    | inl is ↦ let found : ◌≡◌ {A = Option Slot} (Some s) None = rw (same_test s.number n is) at none in cc
-    | inr ne ↦ (ne, absent n slots (rw (other_test s.number n ne) at none))
+    | inl is ↦ let found : ◌≡◌ {A = Option Slot} (Some s) None = rw (eq-eqb s.number n is) at none in cc
+    | inr ne ↦ (ne, absent n slots (rw (ne_eqb s.number n ne) at none))
   ]
 
   for_one : (n : ℕ) (slots : List Slot) (s : Slot) → IsStrictlyIncreasing (numbers_of slots) → numbered slots n ≡ Some s → events_for n (all_of slots) ≡ queue_at core n
@@ -84,7 +85,7 @@ module _ (core : Core) where
         ∙ ap (queue_at core) here
     | inr there ↦
         for_other n t.number (queue_at core t.number) (all_of slots) there
-        ∙ for_one n slots s (rest_rises t.number (numbers_of slots) rising) (rw (other_test t.number n there) at is)
+        ∙ for_one n slots s (rest_rises t.number (numbers_of slots) rising) (rw (ne_eqb t.number n there) at is)
   ]
 
 -- the events beside a number are those of its queue
@@ -139,15 +140,12 @@ queues_rise core a (s ∷ slots) rising low =
 own_counts : (es : List Event) → AllByRecursion (λ (e : Event). 1 ≤ events_of e.slot es) es
 own_counts es = each_map (λ (e : Event). (n : ℕ) → e.slot ≡ n → 1 ≤ events_of n es) (λ (e : Event). 1 ≤ events_of e.slot es) (λ e h. h e.slot refl) es (by es)
   where
-    more : (n : ℕ) (e : Event) (rest : List Event) → events_of n rest ≤ events_of n (e ∷ rest)
-    more n e rest = elim (eqb e.slot n) as (λ b. events_of n rest ≤ cond b (events_of n rest + 1) (events_of n rest)) [ true ↦ omega arith | false ↦ omega arith ]
-
     by : (rest : List Event) → AllByRecursion (λ (e : Event). (n : ℕ) → e.slot ≡ n → 1 ≤ events_of n rest) rest
     by [] = tt
     by (e ∷ rest) = (
       λ n is. omega (arith, events_of-here n e rest is),
       each_map (λ (x : Event). (n : ℕ) → x.slot ≡ n → 1 ≤ events_of n rest) (λ (x : Event). (n : ℕ) → x.slot ≡ n → 1 ≤ events_of n (e ∷ rest))
-          (λ x h n is. let some = h n is in omega (arith, more n e rest)) rest (by rest),
+          (λ x h n is. let some = h n is in omega (arith, events_more n e rest)) rest (by rest),
     )
 
 module _ (core : Core) (whole : IsCore core) where
@@ -212,21 +210,21 @@ queue_words (row ∷ rows) h n = by (eqb row.slot.number n) (queue_words rows h.
     by true rest = h.0.events
     by false rest = rest
 
-queues_words : (core : Core) → AllByRecursion RowHoldsWords core.rows → (n : ℕ) → AllByRecursion EventHoldsWords (queue_at core n)
+pub queues_words : (core : Core) → AllByRecursion RowHoldsWords core.rows → (n : ℕ) → AllByRecursion EventHoldsWords (queue_at core n)
 unfolding queue_at
 queues_words core h n = queue_words core.rows h n
 
-slots_words : (rows : List ThreadRow) → AllByRecursion RowHoldsWords rows → AllByRecursion SlotHoldsWords (map (λ (row : ThreadRow). row.slot) rows)
+pub slots_words : (rows : List ThreadRow) → AllByRecursion RowHoldsWords rows → AllByRecursion SlotHoldsWords (map (λ (row : ThreadRow). row.slot) rows)
 slots_words [] h = tt
 slots_words (row ∷ rows) h = (h.0.slot, slots_words rows h.1)
 
 -- the group of each slot has a slot
-own_group : (slots : List Slot) → AllByRecursion (λ (s : Slot). has_group slots s.group ≡ true) slots
+pub own_group : (slots : List Slot) → AllByRecursion (λ (s : Slot). has_group slots s.group ≡ true) slots
 own_group [] = tt
 own_group (s ∷ slots) = (
-  ap (λ b. b || has_group slots s.group) (same_test s.group s.group refl),
+  ap (λ b. b || has_group slots s.group) (eq-eqb s.group s.group refl),
   each_map (λ (x : Slot). has_group slots x.group ≡ true) (λ (x : Slot). has_group (s ∷ slots) x.group ≡ true)
-      (λ x has. ap (λ b. eqb s.group x.group || b) has ∙ or_true (eqb s.group x.group)) slots (own_group slots),
+      (λ x has. ap (λ b. eqb s.group x.group || b) has ∙ or-true (eqb s.group x.group)) slots (own_group slots),
 )
 
 pub snapshot_taken : (s : State) (outputs : List Output) → OutputsBelow s.core (slots_of s.core) 64 outputs → Kept s

@@ -3,14 +3,13 @@ use Rattle.std.proofs.Common.{◌≡◌, ◌≢◌, ℕ, zero, suc, ◌<◌, ◌
 use Rattle.std.specs.Prelude.{slice_set, slice_index_or}
 use Rattle.std.specs.List.{AllByRecursion}
 use Rattle.std.specs.List.Sorted.{IsStrictlyIncreasing}
-use Rattle.std.proofs.lemmas.Bool.{cases_eq}
+use Rattle.std.proofs.lemmas.Bool.{cases_eq, eq-eqb, ne_eqb}
 use Rattle.mm_model.specs.Slot.{Slot}
 use Rattle.mm_model.specs.Groups.{has_group}
 use Rattle.mm_model.proofs.CoreRows.{each_set, rest_rises, above_first}
 use Rattle.mm_thread.specs.Output.{Output}
 use Rattle.mm_thread.specs.Parts.{outputs_with}
 use Rattle.mm_machine.specs.Snapshot.{groups_of, has_output}
-use Rattle.mm_machine.proofs.Steps.{same_test, other_test}
 
 pub outputs_count : (os : List Output) (all : List (List ℕ)) → length (outputs_with os all) ≡ length all
 outputs_count [] all = refl
@@ -50,7 +49,7 @@ pub group_has : (P : ℕ → Type 0) (slots : List Slot) (g : ℕ) → AllByRecu
 group_has P [] g all has = cc
 group_has P (s ∷ slots) g all has = elim (cases_eq s.group g) as (λ _. P g) [
   | inl is ↦ subst P is all.0
-  | inr ne ↦ group_has P slots g all.1 (rw (other_test s.group g ne) at has)
+  | inr ne ↦ group_has P slots g all.1 (rw (ne_eqb s.group g ne) at has)
 ]
 
 -- what holds of each output of a group holds where the group has an output
@@ -58,12 +57,12 @@ pub output_has : (P : ℕ → Type 0) (os : List Output) (g : ℕ) → AllByRecu
 output_has P [] g all has = cc
 output_has P (o ∷ os) g all has = elim (cases_eq o.group g) as (λ _. P g) [
   | inl is ↦ subst P is all.0
-  | inr ne ↦ output_has P os g all.1 (rw (other_test o.group g ne) at has)
+  | inr ne ↦ output_has P os g all.1 (rw (ne_eqb o.group g ne) at has)
 ]
 
 pub no_output_at : (os : List Output) (g : ℕ) → has_output os g ≡ false → AllByRecursion (λ (o : Output). o.group ≢ g) os
 no_output_at [] g has = tt
 no_output_at (o ∷ os) g has = elim (cases_eq o.group g) as (λ _. AllByRecursion (λ (x : Output). x.group ≢ g) (o ∷ os)) [
-  | inl is ↦ let yes : true ≡ false = rw (same_test o.group g is) at has in cc
-  | inr ne ↦ (ne, no_output_at os g (rw (other_test o.group g ne) at has))
+  | inl is ↦ let yes : true ≡ false = rw (eq-eqb o.group g is) at has in cc
+  | inr ne ↦ (ne, no_output_at os g (rw (ne_eqb o.group g ne) at has))
 ]

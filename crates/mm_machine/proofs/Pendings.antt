@@ -1,20 +1,17 @@
 -- The pending loads of a slot, register by register.
-use Rattle.std.proofs.Common.{◌≡◌, ℕ, zero, suc, ◌+◌, ◌/◌, ◌<◌, ◌≤◌, inl, inr, Bool, true, false, cond, eqb, eq-eqb, List, [], ◌∷◌, length, refl, sym, ap, ◌∙◌, arith}
+use Rattle.std.proofs.Common.{◌≡◌, ℕ, ◌+◌, ◌<◌, ◌≤◌, inl, inr, Bool, true, false, cond, eqb, eq-eqb, List, [], ◌∷◌, length, refl, sym, ap, ◌∙◌, arith}
 use Rattle.std.specs.List.{AllByRecursion, count_by}
 use Rattle.std.proofs.lemmas.Bool.{cases_lt}
 use Rattle.std.proofs.lemmas.Bool.Decides.{nat_tests}
 use Rattle.std.proofs.lemmas.List.{get_or_past}
 use Rattle.std.proofs.lemmas.List.Recursion.{is_count_by}
+use Rattle.mm_model.proofs.ImageBytes.Bitmaps.{length-flags}
 use Rattle.mm_model.specs.declared.slot.Pending.{Pending}
 use Rattle.mm_model.specs.Flags.{flags}
 use Rattle.mm_model.specs.Slot.{Slot, is_empty}
 use Rattle.mm_model.specs.Fits.{loads_for}
 use Rattle.mm_machine.specs.Snapshot.{RegisterStands, IsPending}
 use Rattle.mm_machine.proofs.Steps.{add_one}
-
-length-flags : (k n : ℕ) → length (flags k n) ≡ k
-length-flags zero n = refl
-length-flags (suc k) n = let rest = length-flags k (n / 2) in omega (arith, rest)
 
 pub sixteen_flags : (n : ℕ) → length (flags 16 n) ≡ 16
 sixteen_flags n = length-flags 16 n

@@ -2,7 +2,7 @@
 use Rattle.std.proofs.Common.{◌≡◌, ◌≢◌, ℕ, ◌+◌, inl, inr, Bool, true, false, cond, eqb, List, [], ◌∷◌, map, Option, Some, None, refl, sym, ap, subst, ◌∙◌, arith}
 use Rattle.std.specs.Prelude.{IsSomeAnd}
 use Rattle.std.specs.List.{AllByRecursion, count_by}
-use Rattle.std.proofs.lemmas.Bool.{cases_eq}
+use Rattle.std.proofs.lemmas.Bool.{cases_eq, eq-eqb, ne_eqb}
 use Rattle.std.proofs.lemmas.List.Recursion.{is_count_by}
 use Rattle.mm_model.specs.declared.event.Event.{Event}
 use Rattle.mm_model.specs.Slot.{Slot}
@@ -14,7 +14,7 @@ use Rattle.mm_model.proofs.CoreRows.{each_map}
 use Rattle.mm_model.proofs.CoreSteps.{waits_for-says}
 use Rattle.mm_thread.specs.Parts.{events_for}
 use Rattle.mm_machine.specs.Snapshot.{numbered, IsEventOf, IsAwaited, HasOneEvent}
-use Rattle.mm_machine.proofs.Steps.{same_test, other_test, add_one}
+use Rattle.mm_machine.proofs.Steps.{add_one}
 
 -- 1. The slot of a number.
 
@@ -36,10 +36,10 @@ pub numbered_has : (P : Slot → Type 0) (slots : List Slot) (n : ℕ) (s : Slot
 numbered_has P [] n s all is = cc
 numbered_has P (t ∷ slots) n s all is = elim (cases_eq t.number n) as (λ _. P s × (s.number ≡ n)) [
   | inl here ↦
-      let found : ◌≡◌ {A = Option Slot} (Some t) (Some s) = rw (same_test t.number n here) at is in
+      let found : ◌≡◌ {A = Option Slot} (Some t) (Some s) = rw (eq-eqb t.number n here) at is in
       let same : t ≡ s = cc in
       (subst P same all.0, ap (λ (x : Slot). x.number) (sym same) ∙ here)
-  | inr there ↦ numbered_has P slots n s all.1 (rw (other_test t.number n there) at is)
+  | inr there ↦ numbered_has P slots n s all.1 (rw (ne_eqb t.number n there) at is)
 ]
 
 -- 2. How many of the events are of a slot.
@@ -55,23 +55,23 @@ tallied n xs = is_count_by (tally n) (λ (x : ℕ × Event). eqb x.1.slot n) ref
 pub all_for : (n h : ℕ) (xs : List (ℕ × Event)) → AllByRecursion (λ (x : ℕ × Event). x.1.slot ≡ n → x.0 ≡ h) xs → events_of n (events_for h xs) ≡ tally n xs
 all_for n h [] all = refl
 all_for n h (x ∷ xs) all = elim (cases_eq x.1.slot n) as (λ _. events_of n (events_for h (x ∷ xs)) ≡ tally n (x ∷ xs)) [
-  | inl is ↦ rw (same_test x.0 h (all.0 is), same_test x.1.slot n is) (ap (λ (k : ℕ). k + 1) (all_for n h xs all.1))
+  | inl is ↦ rw (eq-eqb x.0 h (all.0 is), eq-eqb x.1.slot n is) (ap (λ (k : ℕ). k + 1) (all_for n h xs all.1))
   | inr ne ↦ elim (cases_eq x.0 h) as (λ _. events_of n (events_for h (x ∷ xs)) ≡ tally n (x ∷ xs)) [
-    | inl here ↦ rw (same_test x.0 h here, other_test x.1.slot n ne) (all_for n h xs all.1)
-    | inr there ↦ rw (other_test x.0 h there, other_test x.1.slot n ne) (all_for n h xs all.1)
+    | inl here ↦ rw (eq-eqb x.0 h here, ne_eqb x.1.slot n ne) (all_for n h xs all.1)
+    | inr there ↦ rw (ne_eqb x.0 h there, ne_eqb x.1.slot n ne) (all_for n h xs all.1)
   ]
 ]
 
 pub none_for : (n h : ℕ) (xs : List (ℕ × Event)) → AllByRecursion (λ (x : ℕ × Event). x.1.slot ≡ n → x.0 ≢ h) xs → events_of n (events_for h xs) ≡ 0
 none_for n h [] all = refl
 none_for n h (x ∷ xs) all = elim (cases_eq x.0 h) as (λ _. events_of n (events_for h (x ∷ xs)) ≡ 0) [
-  | inl here ↦ rw (same_test x.0 h here, other_test x.1.slot n (λ is. all.0 is here)) (none_for n h xs all.1)
-  | inr there ↦ rw (other_test x.0 h there) (none_for n h xs all.1)
+  | inl here ↦ rw (eq-eqb x.0 h here, ne_eqb x.1.slot n (λ is. all.0 is here)) (none_for n h xs all.1)
+  | inr there ↦ rw (ne_eqb x.0 h there) (none_for n h xs all.1)
 ]
 
 pub none_tallied : (n : ℕ) (xs : List (ℕ × Event)) → AllByRecursion (λ (x : ℕ × Event). x.1.slot ≢ n) xs → tally n xs ≡ 0
 none_tallied n [] all = refl
-none_tallied n (x ∷ xs) all = rw (other_test x.1.slot n all.0) (none_tallied n xs all.1)
+none_tallied n (x ∷ xs) all = rw (ne_eqb x.1.slot n all.0) (none_tallied n xs all.1)
 
 -- 3. Events of a slot that waits for the handler beside which they stand.
 

@@ -1,6 +1,6 @@
 -- What a core, and a state, is that is put back to the parts of a snapshot.
-use Rattle.std.proofs.Common.{◌≡◌, ◌≢◌, ℕ, zero, suc, ◌+◌, ◌<◌, ◌≤◌, Bool, true, false, cond, eqb, List, [], ◌∷◌, length, map, replicate, Option, Some, None, refl, sym, ap, subst, ◌∙◌, arith}
-use Rattle.std.specs.Prelude.{IfSome, IsSomeAnd, IsTrue, slice_index_or}
+use Rattle.std.proofs.Common.{◌≡◌, ◌≢◌, ℕ, ◌+◌, ◌<◌, ◌≤◌, Bool, true, false, cond, eqb, List, [], ◌∷◌, length, map, replicate, Option, Some, None, refl, sym, ap, subst, ◌∙◌, arith}
+use Rattle.std.specs.Prelude.{IfSome, IsSomeAnd, IsTrue}
 use Rattle.std.specs.List.{AllByRecursion}
 use Rattle.std.specs.List.Sorted.{IsStrictlyIncreasing}
 use Rattle.std.specs.Ordering.{nat_cmp}
@@ -8,6 +8,7 @@ use Rattle.std.specs.FinMap.{is_sorted}
 use Rattle.std.specs.Option.{is_some}
 use Rattle.std.proofs.Props.{props}
 use Rattle.std.proofs.Math.Logic.{∥∥₁_elim, ∥∥₁_map}
+use Rattle.mm_model.proofs.Starts.{nothing_out}
 use Rattle.mm_word.specs.declared.word.Cell.{Cell}
 use Rattle.mm_model.specs.declared.slot.SlotState.{SlotState}
 use Rattle.mm_model.specs.declared.slot.SlotState.TheVariants.{Running, Waiting, Taken, Halted}
@@ -49,11 +50,6 @@ each_for P n (x ∷ xs) h = by (eqb x.0 n) (each_for P n xs h.1)
     by : (b : Bool) → AllByRecursion P (events_for n xs) → AllByRecursion P (cond b (x.1 ∷ events_for n xs) (events_for n xs))
     by true rest = (h.0, rest)
     by false rest = rest
-
-pub nothing_at : (n g : ℕ) → slice_index_or {A = List ℕ} (replicate n []) g [] ≡ []
-nothing_at zero g = refl
-nothing_at (suc n) zero = refl
-nothing_at (suc n) (suc g) = nothing_at n g
 
 rising_from : (least : ℕ) (pages : List (ℕ × List Cell)) → IsStrictlyIncreasing (page_numbers pages) → AllByRecursion (λ y. least ≤ y) (page_numbers pages) → AreRisingFrom least pages
 rising_from least [] rising low = tt
@@ -183,7 +179,7 @@ module _ (old : Core) (p : Parts) (was : IsHost old) (rules : IsSnapshot p) (typ
       let no : has_group p.slots g ≡ false = sym (ap (λ (slots : List Slot). has_group slots g) slots_are) ∙ none in
       output_untouched p.outputs (replicate 64 []) g
       (each_map (λ (o : Output). has_group p.slots o.group ≡ true) (λ (o : Output). o.group ≢ g) (λ o yes is. let both = ap (has_group p.slots) is in cc) p.outputs rules.used)
-      ∙ nothing_at 64 g
+      ∙ nothing_out 64 g
 
   pub core_given : AllByRecursion (λ (o : Output). output_of core o.group ≡ o.bytes) p.outputs
   unfolding output_of

@@ -2,6 +2,8 @@
 use Rattle.std.proofs.Common.{◌≡◌, ℕ, suc, ◌<◌, Bool, true, false, List, [], ◌∷◌, length, map, replicate, get_or, refl, sym, ap, ◌∙◌, arith}
 use Rattle.std.specs.List.{AllByRecursion}
 use Rattle.std.specs.List.Sorted.{IsStrictlyIncreasing}
+use Rattle.std.proofs.lemmas.Bool.{eq-eqb, ne_eqb}
+use Rattle.mm_model.proofs.Starts.{nothing_out}
 use Rattle.mm_word.specs.declared.word.Cell.{Cell}
 use Rattle.mm_model.specs.declared.event.Event.{Event}
 use Rattle.mm_model.specs.Slot.{Slot}
@@ -14,25 +16,24 @@ use Rattle.mm_thread.specs.Output.{Output}
 use Rattle.mm_thread.specs.Parts.{events_for, row_with, outputs_with}
 use Rattle.mm_machine.specs.Snapshot.{Parts, has_output, IsOutputOf, IsSnapshotOf, IsAlike, queued, restored}
 use Rattle.mm_machine.proofs.Outputs.{outputs_count, output_untouched, outputs_given, group_has, output_has, no_output_at}
-use Rattle.mm_machine.proofs.Restoring.{IsHost, hosts, nothing_at}
+use Rattle.mm_machine.proofs.Restoring.{IsHost, hosts}
 use Rattle.mm_machine.proofs.Copied.{queued_for}
-use Rattle.mm_machine.proofs.Steps.{same_test, other_test}
 
 -- 1. Rows.
 
-above_rows : (n : ℕ) (rows : List ThreadRow) → AllByRecursion (λ y. n < y) (numbers_of (map (λ (row : ThreadRow). row.slot) rows)) → AllByRecursion (λ (row : ThreadRow). n < row.slot.number) rows
+pub above_rows : (n : ℕ) (rows : List ThreadRow) → AllByRecursion (λ y. n < y) (numbers_of (map (λ (row : ThreadRow). row.slot) rows)) → AllByRecursion (λ (row : ThreadRow). n < row.slot.number) rows
 above_rows n [] h = tt
 above_rows n (row ∷ rows) h = (h.0, above_rows n rows h.1)
 
-own_queues : (rows : List ThreadRow) → IsStrictlyIncreasing (numbers_of (map (λ (row : ThreadRow). row.slot) rows))
+pub own_queues : (rows : List ThreadRow) → IsStrictlyIncreasing (numbers_of (map (λ (row : ThreadRow). row.slot) rows))
     → AllByRecursion (λ (row : ThreadRow). queue_of (row_in rows row.slot.number) ≡ row.queue) rows
 own_queues [] rising = tt
 own_queues (row ∷ rows) rising =
     let numbers : List ℕ = numbers_of (map (λ (x : ThreadRow). x.slot) rows) in (
-      rw (same_test row.slot.number row.slot.number refl) refl,
+      rw (eq-eqb row.slot.number row.slot.number refl) refl,
       each_both (λ (x : ThreadRow). row.slot.number < x.slot.number) (λ (x : ThreadRow). queue_of (row_in rows x.slot.number) ≡ x.queue)
           (λ (x : ThreadRow). queue_of (row_in (row ∷ rows) x.slot.number) ≡ x.queue)
-          (λ x up is. rw (other_test row.slot.number x.slot.number (λ e. omega arith)) is) rows
+          (λ x up is. rw (ne_eqb row.slot.number x.slot.number (λ e. omega arith)) is) rows
           (above_rows row.slot.number rows (above_first row.slot.number numbers rising))
           (own_queues rows (rest_rises row.slot.number numbers rising)),
     )
@@ -50,7 +51,7 @@ rows_back events (row ∷ rows) h =
 
 -- 2. Outputs.
 
-same_all : (xs ys : List (List ℕ)) → length xs ≡ length ys → ((g : ℕ) → get_or xs g [] ≡ get_or ys g []) → xs ≡ ys
+pub same_all : (xs ys : List (List ℕ)) → length xs ≡ length ys → ((g : ℕ) → get_or xs g [] ≡ get_or ys g []) → xs ≡ ys
 same_all [] [] long same = refl
 same_all [] (y ∷ ys) long same = absurd (omega arith)
 same_all (x ∷ xs) [] long same = absurd (omega arith)
@@ -78,7 +79,7 @@ module _ (t : State) (p : Parts) (host : IsHost t.core) (is : IsSnapshotOf t p) 
 
   nowhere : (g : ℕ) → has_output p.outputs g ≡ false → get_or all g [] ≡ get_or t.core.outputs g []
   unfolding output_of
-  nowhere g none = output_untouched p.outputs (replicate 64 []) g (no_output_at p.outputs g none) ∙ nothing_at 64 g ∙ sym (host.silent g (by (has_group (slots_of t.core) g) refl))
+  nowhere g none = output_untouched p.outputs (replicate 64 []) g (no_output_at p.outputs g none) ∙ nothing_out 64 g ∙ sym (host.silent g (by (has_group (slots_of t.core) g) refl))
     where
       by : (b : Bool) → has_group (slots_of t.core) g ≡ b → b ≡ false
       by false has = refl

@@ -6,8 +6,9 @@ use Rattle.std.proofs.lemmas.Nat.{pow_pos}
 use Rattle.std.proofs.lemmas.Nat.Bits.{and_pow, bit_at-lt}
 use Rattle.std.specs.Option.{IsSomeAnd}
 use Rattle.std.specs.Int.{bit_at, IsBitSet}
+use Rattle.mm_thread.proofs.RunningSlots.{runs_where}
 use Rattle.mm_model.specs.declared.slot.SlotState.{SlotState}
-use Rattle.mm_model.specs.declared.slot.SlotState.TheVariants.{Running, Waiting, Taken, Halted}
+use Rattle.mm_model.specs.declared.slot.SlotState.TheVariants.{Running}
 use Rattle.mm_model.specs.Slot.{Slot}
 use Rattle.mm_model.specs.State.{State, slot_at}
 use Rattle.mm_model.specs.Turn.{is_running}
@@ -19,18 +20,12 @@ use Rattle.mm_sched.proofs.Rounds.{next_shown, none_shown}
 
 -- 1. A slot runs where its state says so.
 
-running_is : (state : SlotState) → is_running state ≡ true → state ≡ Running
-running_is Running holds = refl
-running_is Waiting holds = cc
-running_is Taken holds = cc
-running_is (Halted cause) holds = cc
-
 is_running_of : (state : SlotState) → state ≡ Running → is_running state ≡ true
 is_running_of state same = ap is_running same
 
 runs_means : (slot : Option Slot) → IsSomeAnd slot (λ (s : Slot). s.state ≡ Running) ↔ (runs slot ≡ true)
 runs_means None = (λ none. absurd none, λ holds. cc)
-runs_means (Some s) = (is_running_of s.state, running_is s.state)
+runs_means (Some s) = (is_running_of s.state, runs_where s.state)
 
 -- 2. Bits.
 

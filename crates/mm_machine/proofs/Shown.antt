@@ -4,14 +4,14 @@ use Rattle.std.specs.Prelude.{slice_index}
 use Rattle.std.specs.Option.{is_some}
 use Rattle.std.specs.List.{AllByRecursion, flat_map}
 use Rattle.std.specs.List.Sorted.{IsStrictlyIncreasing}
-use Rattle.std.proofs.lemmas.Bool.{cases_eq}
+use Rattle.std.proofs.lemmas.Bool.{cases_eq, eq-eqb, ne_eqb}
 use Rattle.mm_model.specs.declared.event.Event.{Event}
 use Rattle.mm_model.specs.Slot.{Slot}
 use Rattle.mm_model.specs.State.{Core, State, slot_at, queue_at}
 use Rattle.mm_model.specs.Spelling.{numbers_of}
 use Rattle.mm_model.specs.Fits.{waits_for, slots_of}
 use Rattle.mm_model.proofs.Causes.{some_of}
-use Rattle.mm_model.proofs.CoreRows.{each_map, rest_rises, above_first, slots_found}
+use Rattle.mm_model.proofs.CoreRows.{each_map, rest_rises, above_first, slots_found, numbers_above}
 use Rattle.mm_thread.specs.Output.{Output}
 use Rattle.mm_thread.specs.Parts.{events_for, core_of}
 use Rattle.mm_thread.proofs.Assigned.{queue-with}
@@ -19,7 +19,6 @@ use Rattle.mm_machine.specs.Kept.{Kept}
 use Rattle.mm_machine.specs.Snapshot.{Parts, numbered, queues_of, IsAwaited, DoesNotFall, IsSnapshot, IsTyped, IsOutputOf, IsSnapshotOf, CanRestore, queued_at, restored}
 use Rattle.mm_machine.proofs.Queues.{numbered_has, awaits}
 use Rattle.mm_machine.proofs.Restoring.{IsHost, kept_hosts, slots_are, at, rising, unwaited, core_given}
-use Rattle.mm_machine.proofs.Steps.{same_test, other_test}
 
 -- 1. Events that do not fall are those of the queues, slot by slot.
 
@@ -36,15 +35,11 @@ no_blocks (s ∷ slots) = no_blocks slots
 -- an event adds nothing to the blocks of other slots
 other_blocks : (x : ℕ × Event) (xs : List (ℕ × Event)) (slots : List Slot) → AllByRecursion (λ (s : Slot). x.0 ≢ s.number) slots → blocks (x ∷ xs) slots ≡ blocks xs slots
 other_blocks x xs [] other = refl
-other_blocks x xs (s ∷ slots) other = rw (other_test x.0 s.number other.0) (ap (λ (rest : List (ℕ × Event)). block xs s ++ rest) (other_blocks x xs slots other.1))
+other_blocks x xs (s ∷ slots) other = rw (ne_eqb x.0 s.number other.0) (ap (λ (rest : List (ℕ × Event)). block xs s ++ rest) (other_blocks x xs slots other.1))
 
 none_at : (n : ℕ) (xs : List (ℕ × Event)) → AllByRecursion (λ y. n < y) (queues_of xs) → events_for n xs ≡ []
 none_at n [] above = refl
-none_at n (x ∷ xs) above = rw (other_test x.0 n (λ is. omega (arith, is, above.0))) (none_at n xs above.1)
-
-apart : (n : ℕ) (slots : List Slot) → AllByRecursion (λ y. n < y) (numbers_of slots) → AllByRecursion (λ (s : Slot). n < s.number) slots
-apart n [] h = tt
-apart n (s ∷ slots) h = (h.0, apart n slots h.1)
+none_at n (x ∷ xs) above = rw (ne_eqb x.0 n (λ is. omega (arith, is, above.0))) (none_at n xs above.1)
 
 -- an event that stands before all others begins the blocks
 first_block : (x : ℕ × Event) (xs : List (ℕ × Event)) (slots : List Slot) (s : Slot) → IsStrictlyIncreasing
@@ -52,20 +47,20 @@ first_block : (x : ℕ × Event) (xs : List (ℕ × Event)) (slots : List Slot) 
     → blocks (x ∷ xs) slots ≡ x ∷ blocks xs slots
 first_block x xs [] s up is low = cc
 first_block x xs (t ∷ slots) s up is low =
-    let above = apart t.number slots (above_first t.number (numbers_of slots) up) in
+    let above = numbers_above t.number slots (above_first t.number (numbers_of slots) up) in
     elim (cases_eq t.number x.0) as (λ _. blocks (x ∷ xs) (t ∷ slots) ≡ x ∷ blocks xs (t ∷ slots)) [
       | inl here ↦
-          rw (same_test x.0 t.number (sym here))
+          rw (eq-eqb x.0 t.number (sym here))
           (ap (λ (n : ℕ). (n, x.1) ∷ (block xs t ++ blocks (x ∷ xs) slots)) here
           ∙ ap (λ (rest : List (ℕ × Event)). x ∷ (block xs t ++ rest))
           (other_blocks x xs slots (each_map (λ (u : Slot). t.number < u.number) (λ (u : Slot). x.0 ≢ u.number)
           (λ u more same. omega (arith, here, same, more)) slots above)))
       | inr there ↦
-          let later : numbered slots x.0 ≡ Some s = rw (other_test t.number x.0 there) at is in
+          let later : numbered slots x.0 ≡ Some s = rw (ne_eqb t.number x.0 there) at is in
           let at_s = numbered_has (λ (u : Slot). t.number < u.number) slots x.0 s above later in
           let less : t.number < x.0 = let more = at_s.0 in let same = at_s.1 in omega arith in
           let none = none_at t.number xs (each_map (λ y. x.0 ≤ y) (λ y. t.number < y) (λ y more. omega arith) (queues_of xs) low) in
-          rw (other_test x.0 t.number (λ same. there (sym same)), none) (first_block x xs slots s (rest_rises t.number (numbers_of slots) up) later low)
+          rw (ne_eqb x.0 t.number (λ same. there (sym same)), none) (first_block x xs slots s (rest_rises t.number (numbers_of slots) up) later low)
     ]
 
 fall_not : (a : ℕ) (ys : List ℕ) → DoesNotFall (a ∷ ys) → DoesNotFall ys

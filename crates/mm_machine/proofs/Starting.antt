@@ -1,6 +1,7 @@
 -- The machine of an image begins where the image's run begins.
-use Rattle.std.proofs.Common.{◌≡◌, ℕ, zero, suc, ◌≤◌, ◌<◌, ◌⊎◌, inl, inr, Bool, List, [], ◌∷◌, map, replicate, refl, sym, ap, ◌∙◌, subst, arith}
+use Rattle.std.proofs.Common.{◌≡◌, ℕ, ◌≤◌, ◌<◌, ◌⊎◌, inl, inr, Bool, List, [], ◌∷◌, map, replicate, sym, ap, ◌∙◌, subst, arith}
 use Rattle.std.specs.List.{AllByRecursion}
+use Rattle.mm_thread.proofs.Fresh.{each_nothing}
 use Rattle.mm_model.specs.Memory.{Memory}
 use Rattle.mm_model.specs.Slot.{Slot}
 use Rattle.mm_model.specs.State.{ThreadRow, State, Core}
@@ -21,7 +22,7 @@ at_most_64 version (inr is) = subst (λ v. slot_limit v ≤ 64) (sym is) (omega 
 below : (n m limit : ℕ) → n < m → m ≤ limit → n < limit
 below n m limit lt le = omega arith
 
-widened : (limit : ℕ) (slots : List Slot) → limit ≤ 64 → (s : Slot) → IsFresh limit slots s → IsFresh 64 slots s
+pub widened : (limit : ℕ) (slots : List Slot) → limit ≤ 64 → (s : Slot) → IsFresh limit slots s → IsFresh 64 slots s
 widened limit slots le s h = record {
   number = below s.number limit 64 h.number le;
   group = below s.group limit 64 h.group le;
@@ -62,12 +63,8 @@ pub none_pending : (i : Image) (core : Core) → IsImage i → core.rows ≡ map
 none_pending i core h rows =
     subst (λ (slots : List Slot). AllByRecursion (λ (s : Slot). s.pending ≡ []) slots) (sym (slots_made i core rows)) (each (λ s f. f.pending) i.slots h.fresh)
 
-silent : (n : ℕ) → AllByRecursion (λ (bytes : List ℕ). bytes ≡ []) (replicate n [])
-silent zero = tt
-silent (suc n) = (refl, silent n)
-
 pub no_output : (outputs : List (List ℕ)) → outputs ≡ replicate 64 [] → AllByRecursion (λ (bytes : List ℕ). bytes ≡ []) outputs
-no_output outputs is = subst (λ (xs : List (List ℕ)). AllByRecursion (λ (bytes : List ℕ). bytes ≡ []) xs) (sym is) (silent 64)
+no_output outputs is = subst (λ (xs : List (List ℕ)). AllByRecursion (λ (bytes : List ℕ). bytes ≡ []) xs) (sym is) (each_nothing 64)
 
 -- a core of its parts
 abbrev core_of : List ThreadRow → List (List ℕ) → ℕ → Bool → Core

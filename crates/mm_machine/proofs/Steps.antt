@@ -1,17 +1,6 @@
 -- Small steps: tests of numbers, and lists of them.
-use Rattle.std.proofs.Common.{◌≡◌, ◌≢◌, ℕ, ◌+◌, ◌≤◌, Bool, true, false, cond, ◌||◌, eqb, List, [], ◌∷◌, refl, arith}
+use Rattle.std.proofs.Common.{◌≡◌, ℕ, ◌+◌, ◌≤◌, Bool, true, false, cond, List, [], ◌∷◌, refl, arith}
 use Rattle.std.specs.List.{AllByRecursion}
-use Rattle.std.proofs.lemmas.Bool.Decides.{nat_tests}
-
-pub same_test : (a b : ℕ) → a ≡ b → eqb a b ≡ true
-same_test a b e = grind (arith, nat_tests)
-
-pub other_test : (a b : ℕ) → a ≢ b → eqb a b ≡ false
-other_test a b e = grind (arith, nat_tests)
-
-pub or_true : (b : Bool) → (b || true) ≡ true
-or_true true = refl
-or_true false = refl
 
 pub add_one : (b : Bool) (n : ℕ) → cond b (n + 1) n ≡ cond b (1 + n) n
 add_one true n = let e : n + 1 ≡ 1 + n = omega arith in e

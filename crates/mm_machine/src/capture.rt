@@ -8,7 +8,7 @@ ghost use Rattle.mm_machine.specs.Snapshot.{queued};
 ghost use Rattle.mm_machine.specs.Capture.{OutputsBelow, cells_of};
 
 use crate::validate::is_group_of;
-use mm_mem::{Inspect, ZERO};
+use mm_mem::Inspect;
 use mm_model::{CELLS, Event, Page, Slot};
 use mm_thread::{Core, Output};
 use mm_word::Cell;
@@ -105,5 +105,6 @@ fn cell_at<M: Inspect>(mem: &M, number: u64, place: usize) -> Cell
     requires place { place < 512 }
     ensures { result ≡ slice_index_or (cells_of (M.meaning mem.now) number) place zero_cell }
 {
-    mem.peek(number * 4096 + 8 * place as u64).unwrap_or(ZERO)
+    mem.peek(number * 4096 + 8 * place as u64)
+        .unwrap_or(Cell::ZERO)
 }

@@ -15,12 +15,9 @@ ghost use Rattle.mm_machine.specs.Snapshot.{RegisterStands, DoesNotFall, parts_o
 ghost use Rattle.mm_machine.specs.Snapshot.{page_numbers, has_output};
 
 use mm_image::slots_ascend;
-use mm_model::{Event, Page, Pending, Slot, SlotState};
+use mm_model::{Event, OUTPUT_LIMIT, Page, Pending, Slot, SlotState};
 use mm_thread::Output;
 use mm_word::{GuardedPtr, Word};
-
-/// The most bytes that a group may put out.
-const OUTPUT_LIMIT: usize = 65536;
 
 /// Whether these parts make a snapshot.
 pub(crate) fn is_snapshot(

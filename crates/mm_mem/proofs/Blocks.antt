@@ -1,18 +1,16 @@
 -- Blocks after a write.
-use Rattle.std.proofs.Common.{◌≡◌, ◌≢◌, ℕ, ◌+◌, ◌*◌, ◌<◌, ◌≤◌, Bool, true, false, cond, nat_eq, T, List, [], ◌∷◌, ◌++◌, length, take, drop, Option, None, Some, is_some, refl, sym, ap, subst, ◌∙◌}
+use Rattle.std.proofs.Common.{◌≡◌, ◌≢◌, ℕ, ◌+◌, ◌*◌, ◌<◌, ◌≤◌, Bool, true, false, cond, nat_eq, T, List, ◌++◌, length, take, drop, Option, None, Some, is_some, refl, sym, ap, subst, ◌∙◌}
 use Rattle.std.proofs.Common.{arith, append_assoc, nat_lt, ◌-◌, eqb-true, eq-eqb}
-use Rattle.std.specs.List.{AllByRecursion}
 use Rattle.std.specs.Ordering.{nat_cmp}
-use Rattle.std.specs.declared.cmp.Ordering.TheVariants.{Less, Equal, Greater}
 use Rattle.std.specs.FinMap.{put, is_sorted}
-use Rattle.std.specs.FinMap.Entries.{by_order, is_sorted-put, length-put}
+use Rattle.std.specs.FinMap.Entries.{is_sorted-put, length-put}
 use Rattle.std.proofs.lemmas.Cmp.{nat_cmp_total}
 use Rattle.std.proofs.lemmas.List.{length-append, length-take-le, length-drop, take_at, drop_at, take-append-le, drop-append-le, drop-drop, take-append-drop}
 use Rattle.std.proofs.lemmas.Bool.Decides.{nat_tests}
 use Rattle.mm_word.specs.declared.word.Cell.{Cell}
-use Rattle.mm_model.specs.Memory.{Memory, IsPage, IsPaged, page_at, is_mapped}
+use Rattle.mm_model.specs.Memory.{Memory, IsPaged, page_at, is_mapped}
 use Rattle.mm_model.specs.Counted.{page_of_block}
-use Rattle.mm_model.proofs.Memories.{find_put_same, find_put_other, page_whole}
+use Rattle.mm_model.proofs.Memories.{find_put_same, find_put_other, page_whole, truth, put_whole}
 use Rattle.mm_mem.specs.Blocks.{place_of_block, with_block, block_of_page, block_at, put_in_page, put_block}
 
 -- 1. In a page.
@@ -136,19 +134,6 @@ other m block b new paged eight ne = go (nat_eq (page_of_block b) (page_of_block
     go : (t : Bool) → nat_eq (page_of_block b) (page_of_block block) ≡ t → block_at (put_block m block new) b ≡ block_at m b
     go true y = other_place m block b new paged eight ne (eqb-true (page_of_block b) (page_of_block block) y) (page_at m (page_of_block block)) refl
     go false n = ap (λ o. block_of_page o b) (page_at-other m block new (page_of_block b) (λ s. cc (eq-eqb (page_of_block b) (page_of_block block) s)))
-
-truth : (b : Bool) → T b → b ≡ true
-truth true h = refl
-truth false h = absurd h
-
-put_whole : (k : ℕ) (v : List Cell) (es : List (ℕ × List Cell)) → IsPage (k, v) → AllByRecursion IsPage es → AllByRecursion IsPage (put nat_cmp k v es)
-put_whole k v [] new old = (new, tt)
-put_whole k v (e ∷ es) new old =
-    elim (nat_cmp k e.0) as (λ r. AllByRecursion IsPage (by_order r ((k, v) ∷ e ∷ es) ((e.0, v) ∷ es) (e ∷ put nat_cmp k v es))) [
-      | Less ↦ (new, old)
-      | Equal ↦ (record { number = old.0.number; cells = new.cells }, old.1)
-      | Greater ↦ (old.0, put_whole k v es new old.1)
-    ]
 
 -- pages in which one is replaced
 replaced : (m : Memory) (k : ℕ) (cells v : List Cell) → IsPaged m → page_at m k ≡ Some cells → length v ≡ 512 → IsPaged (record m { pages = put nat_cmp k v m.pages })

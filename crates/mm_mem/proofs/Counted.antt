@@ -6,11 +6,11 @@ use Rattle.mm_word.specs.Access.{Touch}
 use Rattle.mm_model.specs.Uses.{Use, use_at, accesses, accesses-append}
 use Rattle.mm_model.specs.Turn.{removal_use}
 
-one : (t : Touch) (pre : Pre) (o : Option Cell) → accesses (use_at t.kind t.addr pre o ∷ []) ≡ 1
+pub one : (t : Touch) (pre : Pre) (o : Option Cell) → accesses (use_at t.kind t.addr pre o ∷ []) ≡ 1
 one t pre None = refl
 one t pre (Some c) = refl
 
-none : (page : ℕ) (mapped : Bool) → accesses (removal_use page mapped) ≡ 0
+pub none : (page : ℕ) (mapped : Bool) → accesses (removal_use page mapped) ≡ 0
 none page true = refl
 none page false = refl
 

@@ -160,7 +160,7 @@ one_fewer : (k : ℕ) (es : List (ℕ × List Cell)) → is_some (find nat_cmp k
 one_fewer k [] found = cc
 one_fewer k (e ∷ es) found = grind (arith, nat_tests, no_longer k es, one_fewer k es)
 
-shorter : (m : Memory) (p : ℕ) → is_mapped m p ≡ true → length (unmap_page m p).pages < length m.pages
+pub shorter : (m : Memory) (p : ℕ) → is_mapped m p ≡ true → length (unmap_page m p).pages < length m.pages
 unfolding unmap_page
 shorter m p there = one_fewer p m.pages there
 

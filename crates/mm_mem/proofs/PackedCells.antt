@@ -146,7 +146,7 @@ module _ (bits : List ℕ) (tags fulls : ℕ) (is : IsPackedBlock bits tags full
 
 -- 5. One step of a loop over a block.
 
-byte_of_bool : (b : Bool) → bool_byte b ≡ one_if b
+pub byte_of_bool : (b : Bool) → bool_byte b ≡ one_if b
 byte_of_bool true = refl
 byte_of_bool false = refl
 

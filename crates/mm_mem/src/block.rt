@@ -9,12 +9,6 @@ use std::marker::Model;
 /// The cells in a block, 64 bytes.
 pub const BLOCK: usize = 8;
 
-/// Each cell of a page that was just mapped: integer 0, full.
-pub const ZERO: Cell = Cell {
-    word: Word::Int(0),
-    full: true,
-};
-
 /// The eight cells of a block, packed: 64 bits for each word, and two bits for each cell in two bytes. Contracts see
 /// the list of cells.
 #[derive(Clone, Copy, PartialEq, Eq)]
@@ -62,7 +56,7 @@ impl Block {
     pub fn cells(&self) -> [Cell; BLOCK]
         ensures { result ≡ self.now }
     {
-        let mut cells = [ZERO; BLOCK];
+        let mut cells = [Cell::ZERO; BLOCK];
         for place in 0..BLOCK {
             cells[place] = self.cell(place);
         }

@@ -3,7 +3,6 @@
 ghost use Rattle.std.specs.Prelude.{◌≡◌, ◌^◌, ◌<◌, IfOk, Some, slice_get, slice_set};
 ghost use Rattle.mm_model.specs.Memory.{IsPage, zero_page};
 
-use crate::block::ZERO;
 use mm_model::{CELLS, Page};
 use mm_word::{Cell, NoMemory};
 use std::alloc::Global;
@@ -33,7 +32,7 @@ impl Frame {
     pub(crate) fn new(alloc: Global) -> Result<Frame, NoMemory>
         ensures { IfOk result (λ f. f ≡ (0, zero_page)) }
     {
-        let cells = Vec::from_elem(alloc, ZERO, CELLS)?;
+        let cells = Vec::from_elem(alloc, Cell::ZERO, CELLS)?;
         Ok(Frame { number: 0, cells })
     }
 
@@ -66,7 +65,7 @@ impl Frame {
         ensures { self.new ≡ (number, zero_page) }
     {
         self.number = number;
-        self.cells.fill(ZERO);
+        self.cells.fill(Cell::ZERO);
     }
 
     // Makes the frame a copy of a page.

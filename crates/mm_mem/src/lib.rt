@@ -14,7 +14,7 @@ mod search;
 
 pub use answer::{Loaded, Stored};
 pub use bits::{full_after, passes};
-pub use block::{BLOCK, Block, ZERO};
+pub use block::{BLOCK, Block};
 pub use memory::{Boot, Inspect, Memory, Reset};
 pub use mm_model::{Counts, Page, Pending, Slot, SlotState};
 pub use mm_word::{Post, Pre};

@@ -68,10 +68,10 @@ above_first x (y ∷ ys) h =
 
 -- 3. Rows by number.
 
-row_here : (row : ThreadRow) (rows : List ThreadRow) (n : ℕ) → row.slot.number ≡ n → row_in (row ∷ rows) n ≡ Some row
+pub row_here : (row : ThreadRow) (rows : List ThreadRow) (n : ℕ) → row.slot.number ≡ n → row_in (row ∷ rows) n ≡ Some row
 row_here row rows n e = ap (λ b. if b then Some row else row_in rows n) (eq-eqb row.slot.number n e)
 
-row_later : (row : ThreadRow) (rows : List ThreadRow) (n : ℕ) → row.slot.number ≢ n → row_in (row ∷ rows) n ≡ row_in rows n
+pub row_later : (row : ThreadRow) (rows : List ThreadRow) (n : ℕ) → row.slot.number ≢ n → row_in (row ∷ rows) n ≡ row_in rows n
 row_later row rows n ne = ap (λ b. if b then Some row else row_in rows n) (ne_eqb row.slot.number n ne)
 
 module _ (n : ℕ) (f : ThreadRow → ThreadRow) where
@@ -275,9 +275,9 @@ Rises core = IsStrictlyIncreasing (numbers_of (slots_of core))
 in_later : (row : ThreadRow) (rows : List ThreadRow) (s : Slot) → row.slot.number < s.number → slot_of (row_in rows s.number) ≡ Some s → slot_of (row_in (row ∷ rows) s.number) ≡ Some s
 in_later row rows s lt is = let ne : row.slot.number ≢ s.number = omega arith in ap slot_of (row_later row rows s.number ne) ∙ is
 
-below_all : (x : ℕ) (slots : List Slot) → AllByRecursion (λ y. x < y) (numbers_of slots) → AllByRecursion (λ (s : Slot). x < s.number) slots
-below_all x [] h = tt
-below_all x (s ∷ slots) h = (h.0, below_all x slots h.1)
+pub numbers_above : (x : ℕ) (slots : List Slot) → AllByRecursion (λ y. x < y) (numbers_of slots) → AllByRecursion (λ (s : Slot). x < s.number) slots
+numbers_above x [] h = tt
+numbers_above x (s ∷ slots) h = (h.0, numbers_above x slots h.1)
 
 found_all : (rows : List ThreadRow) → IsStrictlyIncreasing (numbers_of (map (λ (row : ThreadRow). row.slot) rows))
     → AllByRecursion (λ (s : Slot). slot_of (row_in rows s.number) ≡ Some s) (map (λ (row : ThreadRow). row.slot) rows)
@@ -285,7 +285,7 @@ found_all [] h = tt
 found_all (row ∷ rows) h =
     let slots : List Slot = map (λ (r : ThreadRow). r.slot) rows in
     let rest = found_all rows (rest_rises row.slot.number (numbers_of slots) h) in
-    let above = below_all row.slot.number slots (above_first row.slot.number (numbers_of slots) h) in (
+    let above = numbers_above row.slot.number slots (above_first row.slot.number (numbers_of slots) h) in (
       ap slot_of (row_here row rows row.slot.number refl),
       each_both (λ (s : Slot). row.slot.number < s.number) (λ (s : Slot). slot_of (row_in rows s.number) ≡ Some s)
           (λ (s : Slot). slot_of (row_in (row ∷ rows) s.number) ≡ Some s) (λ s lt is. in_later row rows s lt is) slots
@@ -348,18 +348,18 @@ other_in core n h s ne is = (ne, (s, slot_contained core h s is, slot_at-number 
 abbrev pub identities_of : Core → List (ℕ × ℕ × Option ℕ)
 identities_of core = map identity_of (slots_of core)
 
-numbers_by : (xs ys : List Slot) → map identity_of xs ≡ map identity_of ys → numbers_of xs ≡ numbers_of ys
+pub numbers_by : (xs ys : List Slot) → map identity_of xs ≡ map identity_of ys → numbers_of xs ≡ numbers_of ys
 numbers_by xs ys e = sym (of_identities xs) ∙ ap (map (λ (i : ℕ × ℕ × Option ℕ). i.0)) e ∙ of_identities ys
   where
     of_identities : (slots : List Slot) → map (λ (i : ℕ × ℕ × Option ℕ). i.0) (map identity_of slots) ≡ numbers_of slots
     of_identities [] = refl
     of_identities (s ∷ slots) = ap (λ (ns : List ℕ). s.number ∷ ns) (of_identities slots)
 
-into_map : {A B : Type 0} (P : B → Type 0) (f : A → B) (xs : List A) → AllByRecursion (λ x. P (f x)) xs → AllByRecursion P (map f xs)
+pub into_map : {A B : Type 0} (P : B → Type 0) (f : A → B) (xs : List A) → AllByRecursion (λ x. P (f x)) xs → AllByRecursion P (map f xs)
 into_map P f [] h = tt
 into_map P f (x ∷ xs) h = (h.0, into_map P f xs h.1)
 
-out_of_map : {A B : Type 0} (P : B → Type 0) (f : A → B) (xs : List A) → AllByRecursion P (map f xs) → AllByRecursion (λ x. P (f x)) xs
+pub out_of_map : {A B : Type 0} (P : B → Type 0) (f : A → B) (xs : List A) → AllByRecursion P (map f xs) → AllByRecursion (λ x. P (f x)) xs
 out_of_map P f [] h = tt
 out_of_map P f (x ∷ xs) h = (h.0, out_of_map P f xs h.1)
 

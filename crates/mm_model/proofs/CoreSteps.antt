@@ -45,7 +45,7 @@ events_of-push_other n (x ∷ q) e ne =
     let rest = events_of-push_other n q e ne in
     elim (nat_eq x.slot n) as (λ b. (if b then events_of n (q ++ e ∷ []) + 1 else events_of n (q ++ e ∷ [])) ≡ (if b then events_of n q + 1 else events_of n q)) [ true ↦ omega arith | false ↦ rest ]
 
-events_more : (n : ℕ) (e : Event) (es : List Event) → events_of n es ≤ events_of n (e ∷ es)
+pub events_more : (n : ℕ) (e : Event) (es : List Event) → events_of n es ≤ events_of n (e ∷ es)
 events_more n e es = elim (nat_eq e.slot n) as (λ b. events_of n es ≤ (if b then events_of n es + 1 else events_of n es)) [ true ↦ omega arith | false ↦ omega arith ]
 
 -- each event of a slot counts as one

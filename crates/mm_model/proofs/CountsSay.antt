@@ -1,6 +1,6 @@
 -- What a hit is, as a fact about the list.
-use Rattle.std.proofs.Common.{◌≡◌, ◌≢◌, ℕ, ◌==◌, Bool, true, false, ◌&&◌, ◌||◌, if◌then◌else◌, List, [], ◌∷◌, ◌++◌, Option, None, Some, refl, sym, ap, subst, arith, ◌∙◌, ◌⊎◌, inl, inr}
-use Rattle.std.proofs.lemmas.Bool.{cases_eq}
+use Rattle.std.proofs.Common.{◌≡◌, ◌≢◌, ℕ, ◌==◌, Bool, true, false, ◌&&◌, ◌||◌, if◌then◌else◌, List, [], ◌∷◌, ◌++◌, Option, None, Some, refl, sym, ap, subst, arith, ◌∙◌, inl, inr}
+use Rattle.std.proofs.lemmas.Bool.{cases_eq, or_cases, and_parts}
 use Rattle.std.proofs.lemmas.Bool.Decides.{nat_tests}
 use Rattle.mm_word.specs.declared.perm.Kind.{Kind}
 use Rattle.mm_model.specs.Uses.{Use, Accessed, Removed}
@@ -184,14 +184,6 @@ is_of : (o : Option ℕ) (b : ℕ) → is_block o b ≡ true → o ≡ Some b
 is_of None b h = cc
 is_of (Some x) b h = let same : x ≡ b = grind (arith, nat_tests, h) in ap (λ (y : ℕ). Some y) same
 
-either : (a b : Bool) → (a || b) ≡ true → (a ≡ true) ⊎ (b ≡ true)
-either true b h = inl refl
-either false b h = inr h
-
-both_of : (a b : Bool) → (a && b) ≡ true → (a ≡ true) × (b ≡ true)
-both_of true b h = (refl, h)
-both_of false b h = cc
-
 pub written_says : (line block : ℕ) (us : List Use) → latest line us ≡ Some block → written line us ≡ true → WroteSinceMiss block us
 written_says line block [] is w = cc
 written_says line block (Accessed kind addr false done ∷ us) is w = wrote_no_page kind addr done (written_says line block us is w)
@@ -201,11 +193,11 @@ written_says line block (Accessed kind addr true done ∷ us) is w = elim (cases
       let test : (line_of (block_of addr) == line) ≡ true = grind (arith, nat_tests, same) in
       let here : Some (block_of addr) ≡ Some block = sym (ap (λ (t : Bool). if t then Some (block_of addr) else latest line us) test) ∙ is in
       let its : block_of addr ≡ block = cc in
-      elim (either (writes kind && done) (is_hit (block_of addr) us && written line us)
+      elim (or_cases (writes kind && done) (is_hit (block_of addr) us && written line us)
       (sym (ap (λ (t : Bool). if t then (writes kind && done) || (is_hit (block_of addr) us && written line us) else written line us) test) ∙ w)) [
         | inl now ↦ wrote_here block us kind addr done now its
         | inr before ↦
-            let parts = both_of (is_hit (block_of addr) us) (written line us) before in
+            let parts = and_parts (is_hit (block_of addr) us) (written line us) before in
             let hit : is_hit block us ≡ true = ap (λ (b : ℕ). is_hit b us) (sym its) ∙ parts.0 in
             let last : latest line us ≡ Some block = ap (λ (n : ℕ). latest n us) (sym (sym (ap line_of its) ∙ same)) ∙ is_of (latest (line_of block) us) block hit in
             wrote_access kind addr done (λ i. hit) (written_says line block us last parts.1)

@@ -5,6 +5,7 @@ use Rattle.std.proofs.Common.{ℤ, pos, negsuc, ◌*ℤ◌, ◌+ℤ◌, slice_se
 use Rattle.std.specs.Prelude.{option_map}
 use Rattle.std.specs.Int.{w64, cast_unsigned, cast_signed}
 use Rattle.std.specs.List.{AllByRecursion}
+use Rattle.std.proofs.lemmas.Bool.{and_parts}
 use Rattle.mm_word.specs.declared.perm.Perm.{Perm}
 use Rattle.mm_word.specs.declared.perm.Perm.TheVariants.{Ro, Rw, Xu, Xp, Eu, Ep, Key}
 use Rattle.mm_word.specs.declared.perm.Kind.TheVariants.{Store}
@@ -153,10 +154,6 @@ running_waits_not Running h = refl
 running_waits_not Waiting h = cc
 running_waits_not Taken h = cc
 running_waits_not (Halted c) h = cc
-
-pub both_true : (a b : Bool) → (a && b) ≡ true → (a ≡ true) × (b ≡ true)
-both_true true b e = (refl, e)
-both_true false b e = cc
 
 -- a slot that this one serves and whose event it has read
 pub record IsServed (core : Core) (n k : ℕ) (of : Slot) : Type 0 where
@@ -313,7 +310,7 @@ module _ (core : Core) (h : IsFormed core) (s : Slot) (at : slot_at core s.numbe
     where
       passed : (of : Slot) (b : Bool) → slot_at core k ≡ Some of → (is_handler s.number of.handler && is_taken of.state) ≡ b → EffectKeeps core s (f (if b then Served of else Refused cause.NoSlot))
       passed of true is e =
-          let both = both_true (is_handler s.number of.handler) (is_taken of.state) e in
+          let both = and_parts (is_handler s.number of.handler) (is_taken of.state) e in
           served_keeps of (record { stands = is; handled = handler_is s.number of.handler both.0; taken = both.1 })
       passed of false is e = refused cause.NoSlot
 

@@ -106,7 +106,7 @@ EffectWords m (Does c) = ChangeWords m c
 zero_fits : IsWord (Int 0)
 zero_fits = lit< tt
 
-each_or : {A : Type 0} (P : A → Type 0) (xs : List A) (n : ℕ) (d : A) → AllByRecursion P xs → P d → P (slice_index_or xs n d)
+pub each_or : {A : Type 0} (P : A → Type 0) (xs : List A) (n : ℕ) (d : A) → AllByRecursion P xs → P d → P (slice_index_or xs n d)
 each_or P [] n d h p = p
 each_or P (x ∷ xs) zero d h p = h.0
 each_or P (x ∷ xs) (suc n) d h p = each_or P xs n d h.1 p
@@ -146,7 +146,7 @@ pub slot_words : (core : Core) (n : ℕ) (s : Slot) → AllByRecursion RowHoldsW
 unfolding slot_at
 slot_words core n s h is = row_words core.rows n s h is
 
-events_words : (rows : List ThreadRow) (n : ℕ) → AllByRecursion RowHoldsWords rows → AllByRecursion EventHoldsWords (queue_of (row_in rows n))
+pub events_words : (rows : List ThreadRow) (n : ℕ) → AllByRecursion RowHoldsWords rows → AllByRecursion EventHoldsWords (queue_of (row_in rows n))
 events_words [] n h = tt
 events_words (row ∷ rows) n h = by (row.slot.number == n) (events_words rows n h.1)
   where

@@ -15,10 +15,11 @@ pub mod TurnBounds
 pub mod Shortness
 pub mod Stops
 pub mod Causes
-pub mod CauseNumbers
 pub mod ImageBytes
 pub mod Filters
 pub mod OwnSlots
 pub mod Answered
 pub mod WordTexts
 pub mod ScheduleWords
+pub mod OneIf
+pub mod Sames

@@ -12,6 +12,7 @@ use Rattle.std.specs.FinMap.Entries.{by_order, find-put, find-where_key, is_sort
 use Rattle.std.specs.Cmp.{unsigned_tied}
 use Rattle.std.proofs.lemmas.Cmp.{nat_cmp_total}
 use Rattle.std.proofs.lemmas.Bool.Decides.{nat_tests}
+use Rattle.std.proofs.lemmas.Bool.{ne_eqb}
 use Rattle.mm_word.specs.declared.word.Cell.{Cell}
 use Rattle.mm_model.specs.Memory.{Memory, page_at, is_mapped, cell_at, put_cell, put_in, cell_in, can_map, map_page, unmap_page, page_of, place_of, zero_cell, zero_page, IsPage, ArePages, IsPaged}
 
@@ -40,15 +41,8 @@ find_filter es k q = find-where_key nat_cmp (λ x. not (x == k)) q (λ x e. ap (
 pub find_put_same : (es : List (ℕ × List Cell)) (k : ℕ) (v : List Cell) → find nat_cmp k (put nat_cmp k v es) ≡ Some v
 find_put_same es k v = find_put es k v k ∙ ap (λ b. cond b (Some v) (find nat_cmp k es)) (eq-eqb k k refl)
 
-differ : (q k : ℕ) → (q ≡ k → ⊥) → nat_eq q k ≡ false
-differ q k ne = go (nat_eq q k) refl
-  where
-    go : (b : Bool) → nat_eq q k ≡ b → b ≡ false
-    go true e = absurd (ne (eqb-true q k e))
-    go false e = refl
-
 pub find_put_other : (es : List (ℕ × List Cell)) (k : ℕ) (v : List Cell) (q : ℕ) → (q ≡ k → ⊥) → find nat_cmp q (put nat_cmp k v es) ≡ find nat_cmp q es
-find_put_other es k v q ne = find_put es k v q ∙ ap (λ b. cond b (Some v) (find nat_cmp q es)) (differ q k ne)
+find_put_other es k v q ne = find_put es k v q ∙ ap (λ b. cond b (Some v) (find nat_cmp q es)) (ne_eqb q k ne)
 
 -- pages
 
@@ -101,7 +95,7 @@ page_at-unmap_same m p = find_filter m.pages p p ∙ ap (λ b. cond (not b) (fin
 
 pub page_at-unmap_other : (m : Memory) (p q : ℕ) → (q ≡ p → ⊥) → page_at (unmap_page m p) q ≡ page_at m q
 unfolding unmap_page
-page_at-unmap_other m p q ne = find_filter m.pages p q ∙ ap (λ b. cond (not b) (find nat_cmp q m.pages) None) (differ q p ne)
+page_at-unmap_other m p q ne = find_filter m.pages p q ∙ ap (λ b. cond (not b) (find nat_cmp q m.pages) None) (ne_eqb q p ne)
 
 -- cells
 
@@ -111,7 +105,7 @@ same_word v w av aw p q = omega arith
 
 pub cell_at-unaligned : (m : Memory) (w : ℕ) → (w % 8 ≡ 0 → ⊥) → cell_at m w ≡ None
 unfolding cell_at
-cell_at-unaligned m w ne = ap (λ b. if b then cell_in (page_at m (page_of w)) (place_of w) else None) (differ (w % 8) 0 ne)
+cell_at-unaligned m w ne = ap (λ b. if b then cell_in (page_at m (page_of w)) (place_of w) else None) (ne_eqb (w % 8) 0 ne)
 
 -- at an aligned word the cell is read from its page
 pub cell_at-aligned : (m : Memory) (w : ℕ) → w % 8 ≡ 0 → cell_at m w ≡ cell_in (page_at m (page_of w)) (place_of w)
@@ -201,12 +195,12 @@ put_cases m w v c d aw h = go (nat_eq v w) refl
         inl (s, put_here m w c d (page_at m (page_of w)) refl (sym (ap (cell_at (put_cell m w c)) s ∙ cell_at-aligned (put_cell m w c) w aw) ∙ h))
     go false n = inr (sym (cell_at-put_other m w v c aw (λ s. cc (eq-eqb v w s))) ∙ h)
 
-zeros_get : (n k : ℕ) → k < n → slice_get (replicate n zero_cell) k ≡ Some zero_cell
+pub zeros_get : (n k : ℕ) → k < n → slice_get (replicate n zero_cell) k ≡ Some zero_cell
 zeros_get zero k lt = absurd (omega arith)
 zeros_get (suc n) zero lt = refl
 zeros_get (suc n) (suc k) lt = zeros_get n k (omega arith)
 
-place_within : (v : ℕ) → place_of v < 512
+pub place_within : (v : ℕ) → place_of v < 512
 place_within v = omega arith
 
 -- each word of a page that was just mapped has integer 0, full
@@ -267,7 +261,7 @@ unmap_frames m p = refl
 
 -- pages stay whole
 
-truth : (b : Bool) → T b → b ≡ true
+pub truth : (b : Bool) → T b → b ≡ true
 truth true h = refl
 truth false h = absurd h
 
@@ -275,7 +269,7 @@ length_zeros : (n : ℕ) → length (replicate n zero_cell) ≡ n
 length_zeros zero = refl
 length_zeros (suc n) = ap suc (length_zeros n)
 
-put_whole : (k : ℕ) (v : List Cell) (es : List (ℕ × List Cell)) → IsPage (k, v) → AllByRecursion IsPage es → AllByRecursion IsPage (put nat_cmp k v es)
+pub put_whole : (k : ℕ) (v : List Cell) (es : List (ℕ × List Cell)) → IsPage (k, v) → AllByRecursion IsPage es → AllByRecursion IsPage (put nat_cmp k v es)
 put_whole k v [] new old = (new, tt)
 put_whole k v (e ∷ es) new old =
     elim (nat_cmp k e.0) as (λ r. AllByRecursion IsPage (by_order r ((k, v) ∷ e ∷ es) ((e.0, v) ∷ es) (e ∷ put nat_cmp k v es))) [

@@ -10,7 +10,7 @@ use Rattle.mm_model.specs.Slot.{Slot}
 use Rattle.mm_model.specs.Image.{Image, slot_limit}
 use Rattle.mm_model.specs.Groups.{own_slots, HasSlot, HandlersStayInside}
 use Rattle.mm_model.specs.Spelling.{numbers_of, IsOther, IsFresh, HoldsWords, IsImage}
-use Rattle.mm_model.proofs.CoreRows.{each_map, each_both, above_first, rest_rises}
+use Rattle.mm_model.proofs.CoreRows.{each_map, each_both, above_first, rest_rises, numbers_above}
 use Rattle.mm_model.proofs.Filters.{filter_takes, filter_drops, contained_filter, each_filter, filter_short}
 
 -- 1. Numbers of slots that rise.
@@ -18,10 +18,6 @@ use Rattle.mm_model.proofs.Filters.{filter_takes, filter_drops, contained_filter
 abbrev pub Ascends : List Slot → Type 0
 Ascends [] = Unit {0}
 Ascends (s ∷ slots) = AllByRecursion (λ (x : Slot). s.number < x.number) slots × Ascends slots
-
-pub numbers_above : (n : ℕ) (slots : List Slot) → AllByRecursion (λ y. n < y) (numbers_of slots) → AllByRecursion (λ (x : Slot). n < x.number) slots
-numbers_above n [] h = tt
-numbers_above n (s ∷ slots) h = (h.0, numbers_above n slots h.1)
 
 pub ascends : (slots : List Slot) → IsStrictlyIncreasing (numbers_of slots) → Ascends slots
 ascends [] h = tt

@@ -1,5 +1,5 @@
 -- What a slot of a machine goes on to be: with another standing, with words written, with a load issued or delivered.
-use Rattle.std.proofs.Common.{◌≡◌, ◌≢◌, ℕ, zero, suc, ◌+◌, ◌<◌, ◌≤◌, inl, inr, Bool, true, false, nat_eq, if◌then◌else◌}
+use Rattle.std.proofs.Common.{◌≡◌, ◌≢◌, ℕ, zero, suc, ◌+◌, ◌<◌, inl, inr, Bool, true, false, nat_eq, if◌then◌else◌}
 use Rattle.std.proofs.Common.{List, [], ◌∷◌, ◌++◌, length, Some, refl, sym, ap, ◌∙◌, arith, eq-eqb, slice_set}
 use Rattle.std.proofs.Common.{slice_index_or, length-set, get_or-set_same, get_or-set_other}
 use Rattle.std.specs.List.{AllByRecursion}
@@ -47,10 +47,6 @@ loads_for-push_other r (x ∷ ps) p ne =
     let rest = loads_for-push_other r ps p ne in
     elim (nat_eq x.reg r) as (λ b. (if b then loads_for r (ps ++ p ∷ []) + 1 else loads_for r (ps ++ p ∷ [])) ≡
     (if b then loads_for r ps + 1 else loads_for r ps)) [ true ↦ omega arith | false ↦ rest ]
-
-pub at_most_one : (b : Bool) → one_if b ≤ 1
-at_most_one true = omega arith
-at_most_one false = omega arith
 
 is_one : (b : Bool) (n : ℕ) → n + 1 ≡ one_if b → (b ≡ true) × (n ≡ 0)
 is_one true n e = (refl, omega arith)

@@ -62,7 +62,7 @@ none_set zero r = refl
 none_set (suc n) zero = refl
 none_set (suc n) (suc r) = none_set n r
 
-nothing_out : (n g : ℕ) → slice_index_or {A = List ℕ} (replicate n []) g [] ≡ []
+pub nothing_out : (n g : ℕ) → slice_index_or {A = List ℕ} (replicate n []) g [] ≡ []
 nothing_out zero g = refl
 nothing_out (suc n) zero = refl
 nothing_out (suc n) (suc g) = nothing_out n g

@@ -3,6 +3,7 @@ use Rattle.std.proofs.Common.{flat_map, ◌≡◌, ℕ, ◌+◌, ◌-◌, ◌<�
 use Rattle.std.proofs.Common.{if◌then◌else◌, List, [], ◌∷◌, ◌++◌, length, Option, Some, None, refl, sym, ap, ◌∙◌, subst}
 use Rattle.std.proofs.Common.{arith, eq-eqb, slice_set, slice_index_or, get_or-set_same, length-append}
 use Rattle.std.specs.List.{AllByRecursion, list_any}
+use Rattle.std.proofs.lemmas.Bool.{or_right}
 use Rattle.mm_word.specs.declared.cause.Cause.{Cause}
 use Rattle.mm_word.specs.declared.word.Word.{Word}
 use Rattle.mm_word.specs.declared.word.Word.TheVariants.{Int}
@@ -60,7 +61,7 @@ first_false : (a b : Bool) → (a || b) ≡ false → a ≡ false
 first_false true b e = e
 first_false false b e = refl
 
-each_of : {A : Type 0} (P : A → Type 0) → ((x : A) → P x) → (xs : List A) → AllByRecursion P xs
+pub each_of : {A : Type 0} (P : A → Type 0) → ((x : A) → P x) → (xs : List A) → AllByRecursion P xs
 each_of P f [] = tt
 each_of P f (x ∷ xs) = (f x, each_of P f xs)
 
@@ -127,12 +128,8 @@ each_any : {A : Type 0} (p : A → Bool) (xs : List A) → AllByRecursion (λ x.
 each_any p [] = tt
 each_any p (x ∷ xs) = (
   (λ e. ap (λ b. b || list_any p xs) e),
-  each_map (λ y. p y ≡ true → list_any p xs ≡ true) (λ y. p y ≡ true → list_any p (x ∷ xs) ≡ true) (λ y f e. later (p x) (list_any p xs) (f e)) xs (each_any p xs),
+  each_map (λ y. p y ≡ true → list_any p xs ≡ true) (λ y. p y ≡ true → list_any p (x ∷ xs) ≡ true) (λ y f e. or_right (p x) (list_any p xs) (f e)) xs (each_any p xs),
 )
-  where
-    later : (a b : Bool) → b ≡ true → (a || b) ≡ true
-    later true b e = refl
-    later false b e = e
 
 pub has_own_group : (core : Core) (n : ℕ) (s : Slot) → slot_at core n ≡ Some s → has_group (slots_of core) s.group ≡ true
 has_own_group core n s is =

@@ -1,7 +1,7 @@
 -- What an instruction asks of the machine around its slot.
-use Rattle.std.specs.Prelude.{ℕ, ◌^◌, Bool, true, false, nat_lt, if◌then◌else◌, Result, Ok, Err}
+use Rattle.std.specs.Prelude.{ℕ, ◌^◌, nat_lt, if◌then◌else◌, Result, Ok, Err}
 use Rattle.mm_word.specs.declared.perm.Perm.{Perm}
-use Rattle.mm_word.specs.declared.perm.Perm.TheVariants.{Xp}
+pub use Rattle.mm_word.specs.Perm.{is_privileged}
 use Rattle.mm_word.specs.declared.perm.Kind.{Kind}
 use Rattle.mm_word.specs.declared.perm.Kind.TheVariants.{Load, LoadSet, Store}
 use Rattle.mm_word.specs.declared.cause.Cause.{Cause}
@@ -30,11 +30,6 @@ pub data Ask : Type 0 where
   Room : (group : ℕ) → Ask
   -- a slot that this one serves and whose event it has read
   Serve : (slot : ℕ) → Ask
-
--- code is privileged if its instruction pointer has the permission of privileged code
-abbrev pub is_privileged : Perm → Bool
-is_privileged Xp = true
-is_privileged _ = false
 
 -- a load that sets the bit is an access of its own kind
 abbrev pub load_kind : Post → Kind

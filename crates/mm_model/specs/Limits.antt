@@ -16,3 +16,7 @@ word_limit = 131072
 -- the most words of an object that are replaced by pointers when its segments are placed
 abbrev pub reloc_limit : ℕ
 reloc_limit = 65535
+
+-- the most configurations that are looked at
+abbrev pub state_limit : ℕ
+state_limit = 1000000

@@ -16,7 +16,9 @@ mod word_use;
 
 pub use counts::Counts;
 pub use event::Event;
-pub use limits::{CYCLE_LIMIT, RELOC_LIMIT, SEGMENT_LIMIT, WORD_LIMIT};
+pub use limits::{
+    CYCLE_LIMIT, OUTPUT_LIMIT, RELOC_LIMIT, SEGMENT_LIMIT, STATE_LIMIT, WORD_LIMIT, output_limit,
+};
 pub use page::{CELLS, Page};
 pub use same::{is_same_cell, is_same_word};
 pub use slot::{Pending, Slot, SlotState};

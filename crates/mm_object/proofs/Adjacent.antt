@@ -1,12 +1,10 @@
 -- Lists in which each element stands before the next, as loops test it.
 use Rattle.std.proofs.Common.{◌≡◌, ℕ, zero, suc, ◌+◌, ◌-◌, ◌<◌, ◌≤◌, true, false, List, [], ◌∷◌, length, get_or, map, refl, sym, ap, ◌∙◌, arith, inl, inr}
 use Rattle.std.specs.List.Sorted.{IsStrictlyIncreasing}
-use Rattle.std.proofs.lemmas.Bool.{cases_lt}
+use Rattle.std.proofs.lemmas.Bool.{cases_lt, and_parts, and_from, false_from_ne_true}
 use Rattle.std.proofs.lemmas.List.{get_or-map, length-map}
 use Rattle.mm_object.specs.Names.{is_before}
 use Rattle.mm_object.specs.Objects.{ascend}
-use Rattle.mm_model.proofs.ImageBytes.Rising.{both, and_true}
-use Rattle.mm_object.proofs.Bools.{is_false}
 
 -- 1. Numbers.
 
@@ -49,15 +47,15 @@ NamesAscendBelow names k = (j : ℕ) → j + 1 < k → is_before (get_or names j
 pub ascend-at : (names : List (List ℕ)) → ascend names ≡ true → (k : ℕ) → k + 1 < length names → is_before (get_or names k []) (get_or names (k + 1) []) ≡ true
 ascend-at [] h k lt = absurd (omega arith)
 ascend-at (a ∷ []) h k lt = absurd (omega arith)
-ascend-at (a ∷ b ∷ names) h zero lt = (both _ _ h).0
+ascend-at (a ∷ b ∷ names) h zero lt = (and_parts _ _ h).0
 ascend-at (a ∷ b ∷ names) h (suc k) lt =
     let next : suc k + 1 ≡ suc (k + 1) = omega arith in
-    rw next (ascend-at (b ∷ names) (both (is_before a b) (ascend (b ∷ names)) h).1 k (omega arith))
+    rw next (ascend-at (b ∷ names) (and_parts (is_before a b) (ascend (b ∷ names)) h).1 k (omega arith))
 
 pub ascend-from : (names : List (List ℕ)) → ((k : ℕ) → k + 1 < length names → is_before (get_or names k []) (get_or names (k + 1) []) ≡ true) → ascend names ≡ true
 ascend-from [] h = refl
 ascend-from (a ∷ []) h = refl
-ascend-from (a ∷ b ∷ names) h = and_true _ _ (h 0 (omega arith)) (ascend-from (b ∷ names) (λ k lt.
+ascend-from (a ∷ b ∷ names) h = and_from _ _ (h 0 (omega arith)) (ascend-from (b ∷ names) (λ k lt.
     let next : suc k + 1 ≡ suc (k + 1) = omega arith in
     let here : is_before (get_or (a ∷ b ∷ names) (suc k) []) (get_or (a ∷ b ∷ names) (suc k + 1) []) ≡ true = h (suc k) (omega arith) in
     rw next at here))
@@ -73,7 +71,7 @@ names_go_on names k one this so_far j small =
     ]
 
 pub names_fall : (names : List (List ℕ)) (k : ℕ) → 1 ≤ k → k < length names → is_before (get_or names (k - 1) []) (get_or names k []) ≡ false → false ≡ ascend names
-names_fall names k one lt this = sym (is_false (ascend names) (λ h.
+names_fall names k one lt this = sym (false_from_ne_true (ascend names) (λ h.
     let next : k - 1 + 1 ≡ k = omega arith in
     let up = ascend-at names h (k - 1) (omega arith) in
     let here : is_before (get_or names (k - 1) []) (get_or names k []) ≡ true = sym (ap (λ n. is_before (get_or names (k - 1) []) (get_or names n [])) next) ∙ up in

@@ -2,10 +2,11 @@
 use Rattle.std.proofs.Common.{◌≡◌, ℕ, suc, ◌+◌, ◌-◌, ◌<◌, ◌≤◌, Bool, true, false, not, List, [], ◌∷◌, length, get_or, take, refl, sym, ap, ◌∙◌, arith, bytes_eq}
 use Rattle.std.specs.List.{list_any}
 use Rattle.std.proofs.lemmas.List.Folds.{list_any_at, list_any_more}
+use Rattle.std.proofs.lemmas.Bool.{or_from}
 use Rattle.mm_object.specs.Names.{is_before}
 use Rattle.mm_object.specs.Objects.{Segment, is_among, names_of}
 use Rattle.mm_object.specs.Format.{is_late}
-use Rattle.mm_object.proofs.Bools.{any-map, whole_any, none_of}
+use Rattle.mm_object.proofs.Bools.{any-map, whole_any}
 
 -- a segment has the name
 abbrev pub has_name : List ℕ → List Segment → Bool
@@ -23,7 +24,7 @@ pub not_yet : (name : List ℕ) (segments : List Segment) (i : ℕ) (s : Segment
     → i < length segments → bytes_eq name s.name ≡ false → has_name name (take i segments) ≡ false
     → has_name name (take (i + 1) segments) ≡ false
 not_yet name segments i s is lt other so_far = list_any_more (λ (s : Segment). bytes_eq name s.name) segments i s lt
-    ∙ none_of _ _ so_far (ap (λ (x : Segment). bytes_eq name x.name) (sym is) ∙ other)
+    ∙ or_from _ _ so_far (ap (λ (x : Segment). bytes_eq name x.name) (sym is) ∙ other)
 
 pub not_found : (name : List ℕ) (segments : List Segment) (i : ℕ) → has_name name (take i segments) ≡ false → length segments ≤ i → false ≡ is_among name (names_of segments)
 not_found name segments i so_far le = whole_any (λ (s : Segment). bytes_eq name s.name) segments i so_far le ∙ among-names name segments

@@ -34,10 +34,6 @@ bitmap-get (suc count) fs (suc i) lt =
     let past : 8 + 8 * i ≡ 8 * suc i = omega arith in
     bitmap-get count (drop 8 fs) i (omega arith) ∙ ap (λ xs. number_of_flags (take 8 xs)) (drop-drop (8 * i) 8 fs ∙ ap (λ n. drop n fs) past)
 
-pub length-bitmap : (count : ℕ) (fs : List Bool) → length (bitmap count fs) ≡ count
-length-bitmap zero fs = refl
-length-bitmap (suc count) fs = ap suc (length-bitmap count (drop 8 fs))
-
 not_some : (r : ℕ) (b : Bool) → r ≢ 0 → (not (r == 0) && b) ≡ false → b ≡ false
 not_some r b ne e = go (r == 0) refl e
   where

@@ -3,25 +3,9 @@ use Rattle.std.proofs.Common.{◌≡◌, ℕ, zero, suc, ◌+◌, ◌<◌, ◌�
 use Rattle.std.specs.Prelude.{◌||◌}
 use Rattle.std.specs.List.{list_any, list_all, flat_map}
 use Rattle.std.proofs.lemmas.List.{take_all}
-use Rattle.mm_model.proofs.ImageBytes.Clean.{neither}
-use Rattle.mm_model.proofs.ImageBytes.Rising.{both}
-
--- an answer that cannot be true is false
-pub is_false : (b : Bool) → (b ≡ true → ⊥) → b ≡ false
-is_false true h = absurd (h refl)
-is_false false h = refl
-
-pub none_of : (a b : Bool) → a ≡ false → b ≡ false → (a || b) ≡ false
-none_of true b p q = absurd cc
-none_of false b p q = q
-
-pub or_false : (b : Bool) → (b || false) ≡ b
-or_false true = refl
-or_false false = refl
-
-pub or_true : (b : Bool) → (b || true) ≡ true
-or_true true = refl
-or_true false = refl
+use Rattle.std.proofs.lemmas.Bool.{or_parts, and_parts}
+-- names by which crates above know them
+pub use Rattle.std.proofs.lemmas.Bool.{false_from_ne_true as is_false, or_from as none_of}
 
 module _ {A : Type 0} (p : A → Bool) where
   pub any-map : {B : Type 0} (f : B → A) (xs : List B) → list_any p (map f xs) ≡ list_any (λ x. p (f x)) xs
@@ -31,13 +15,13 @@ module _ {A : Type 0} (p : A → Bool) where
   -- each element has passed, or none has
   pub all_at : (xs : List A) → list_all p xs ≡ true → (k : ℕ) (d : A) → k < length xs → p (get_or xs k d) ≡ true
   all_at [] h k d lt = absurd (omega arith)
-  all_at (x ∷ xs) h zero d lt = (both _ _ h).0
-  all_at (x ∷ xs) h (suc k) d lt = all_at xs (both _ _ h).1 k d (omega arith)
+  all_at (x ∷ xs) h zero d lt = (and_parts _ _ h).0
+  all_at (x ∷ xs) h (suc k) d lt = all_at xs (and_parts _ _ h).1 k d (omega arith)
 
   pub none_at : (xs : List A) → list_any p xs ≡ false → (k : ℕ) (d : A) → k < length xs → p (get_or xs k d) ≡ false
   none_at [] h k d lt = absurd (omega arith)
-  none_at (x ∷ xs) h zero d lt = (neither _ _ h).0
-  none_at (x ∷ xs) h (suc k) d lt = none_at xs (neither _ _ h).1 k d (omega arith)
+  none_at (x ∷ xs) h zero d lt = (or_parts _ _ h).0
+  none_at (x ∷ xs) h (suc k) d lt = none_at xs (or_parts _ _ h).1 k d (omega arith)
 
   pub whole_any : (xs : List A) (i : ℕ) → list_any p (take i xs) ≡ false → length xs ≤ i → false ≡ list_any p xs
   whole_any xs i h le = sym (sym (ap (list_any p) (take_all i xs le)) ∙ h)

@@ -3,9 +3,8 @@ use Rattle.std.proofs.Common.{◌≡◌, ℕ, zero, suc, ◌+◌, ◌-◌, ◌^�
 use Rattle.std.proofs.Common.{refl, subst, arith}
 use Rattle.std.specs.Prelude.{slice_get, IfSome}
 use Rattle.std.specs.List.{AllByRecursion}
-use Rattle.std.proofs.lemmas.Bool.{ltb-true}
+use Rattle.std.proofs.lemmas.Bool.{ltb-true, and_parts}
 use Rattle.std.proofs.Math.Nat.{pow-le-pow_right}
-use Rattle.mm_model.proofs.ImageBytes.Rising.{both}
 use Rattle.mm_object.specs.declared.item.Item.{Item}
 use Rattle.mm_object.specs.declared.target.Target.{Target}
 use Rattle.mm_object.specs.declared.target.Reloc.{Reloc}
@@ -31,7 +30,7 @@ module _ (segments : List Segment) (whole : AllByRecursion IsSegment segments) w
   within_small : (o : Option Segment) (all index addend : ℕ)
       → IfSome o (λ s. (index < length segments) × IsSegment s) → length segments ≤ all
       → is_within o all index addend ≡ true → (index < all) × (addend < 2 ^ 20)
-  within_small None all index addend h le e = let p = both _ _ e in (ltb-true _ _ p.0, ltb-true _ _ p.1)
+  within_small None all index addend h le e = let p = and_parts _ _ e in (ltb-true _ _ p.0, ltb-true _ _ p.1)
   within_small (Some s) all index addend h le e =
       let long : 2 ^ s.log ≤ 2 ^ 20 = pow_up s.log 20 h.1.greatest in
       (omega (arith, h.0), omega (arith, ltb-true addend (2 ^ s.log) e, long))
@@ -53,7 +52,7 @@ module _ (segments : List Segment) (whole : AllByRecursion IsSegment segments) w
       → (r.segment < length segments) × (r.word < 2 ^ 20) × (r.target.index < length segments + externals)
       × (r.target.addend < 2 ^ 20)
   reloc_small externals r e =
-      let p = both _ _ e in
+      let p = and_parts _ _ e in
       let a = reloc_of r.word r.segment (slice_get segments r.segment)
       (get_holds IsSegment segments whole r.segment (slice_get segments r.segment) refl) p.0 in
       let b = target_small externals r.target p.1 in

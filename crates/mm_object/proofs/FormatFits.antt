@@ -4,7 +4,7 @@ use Rattle.std.proofs.Common.{List, [], ◌∷◌, ◌++◌, length, take, drop,
 use Rattle.std.proofs.Common.{arith, append_assoc, append-nil}
 use Rattle.std.specs.Prelude.{◌==◌, is_some, unwrap_or}
 use Rattle.std.specs.List.{list_any, list_all, AllByRecursion}
-use Rattle.std.proofs.lemmas.Bool.{leb-true, ltb-true, le-leb}
+use Rattle.std.proofs.lemmas.Bool.{leb-true, ltb-true, le-leb, or_parts, not-false, ltb-false, and_parts, and_from, le-ltb, or_from}
 use Rattle.std.proofs.lemmas.Bool.Decides.{nat_tests}
 use Rattle.std.proofs.lemmas.List.{length-map, length-take, take_all, get_or_default}
 use Rattle.mm_word.specs.declared.perm.Perm.{Perm}
@@ -13,13 +13,10 @@ use Rattle.mm_word.proofs.Packing.{perm_of-code_of, code_of-in_range}
 use Rattle.mm_model.specs.Bytes.{IsBytes, bit_at}
 use Rattle.mm_model.specs.Spelling.{bitmap, handler_byte}
 use Rattle.mm_model.proofs.ImageBytes.Apart.{number_of_flags-below}
-use Rattle.mm_model.proofs.ImageBytes.Clean.{neither, not_not, is_above}
 use Rattle.mm_model.proofs.ImageBytes.Ranges.{range-list}
-use Rattle.mm_model.proofs.ImageBytes.Rising.{both, and_true}
-use Rattle.mm_model.proofs.ImageBytes.SpelledRecords.{not_lt}
 use Rattle.mm_format.specs.Formats.{each, times, cons, first_late}
 use Rattle.mm_format.specs.Images.{mask, flags_of, bits_in}
-use Rattle.mm_format.proofs.ImagesFit.{fits_mask, Rise, rises, rise_all}
+use Rattle.mm_format.proofs.ImagesFit.{fits_mask, Rise, rises, rise_all, long_bitmap, not_zero}
 use Rattle.mm_object.specs.declared.item.Item.{Item}
 use Rattle.mm_object.specs.declared.target.Target.{Target}
 use Rattle.mm_object.specs.declared.target.Reloc.{Reloc}
@@ -36,8 +33,7 @@ use Rattle.mm_object.specs.Format.{log_row, count_row, segment_row, perm_row, ta
 use Rattle.mm_object.specs.Format.{good_reloc, reloc_row, integer_row, pointer_row, value_row, thread_fields}
 use Rattle.mm_object.specs.Format.{good_thread, thread_row, is_unused, use_tests, pointers_row, object}
 use Rattle.mm_object.proofs.Apartness.{apart-push, apart-before, names-push}
-use Rattle.mm_object.proofs.BitmapBytes.{length-bitmap, bit_is, none_unused_is}
-use Rattle.mm_object.proofs.Bools.{none_of}
+use Rattle.mm_object.proofs.BitmapBytes.{bit_is, none_unused_is}
 use Rattle.mm_object.proofs.Bounds.{pow_up, target_small, reloc_small}
 use Rattle.mm_object.proofs.FormatIs.{no_late}
 use Rattle.mm_model.specs.Limits.{word_limit}
@@ -46,18 +42,15 @@ use Rattle.mm_model.specs.Limits.{word_limit}
 
 name_fits : (n : List ℕ) → name_row.Fits n → is_name n ≡ true
 unfolding name_row name_fields
-name_fits n fits = and_true _ _ (not_not _ fits.1) (le-leb _ _ (is_above 31 (length n) (neither _ _ fits.0.0.1).1))
+name_fits n fits = and_from _ _ (not-false _ fits.1) (le-leb _ _ (ltb-false 31 (length n) (or_parts _ _ fits.0.0.1).1))
 
 fits_name : (n : List ℕ) → is_name n ≡ true → name_row.Fits n
 unfolding name_row name_fields
 fits_name n good =
-    let p = both _ _ good in
+    let p = and_parts _ _ good in
     let long = leb-true (length n) 31 p.1 in
-    (((omega (arith, long), none_of _ _ (some n p.0) (not_lt 31 (length n) long)), (refl, refl)), ap not p.0)
+    (((omega (arith, long), or_from _ _ (some n p.0) (le-ltb 31 (length n) long)), (refl, refl)), ap not p.0)
   where
-    not_zero : (n : ℕ) → 1 ≤ n → (n == 0) ≡ false
-    not_zero n le = grind (arith, nat_tests)
-
     some : (n : List ℕ) → has_form n ≡ true → (length n == 0) ≡ false
     some [] e = absurd cc
     some (b ∷ n) e = not_zero (length (b ∷ n)) (omega arith)
@@ -85,7 +78,7 @@ unfolding bits_row bits_in
 fits_bits fs =
     let size = (length fs + 7) / 8 in
     let text = bitmap size fs in
-    let long = length-bitmap size fs in
+    let long = long_bitmap size fs in
     let le : 0 + size ≤ length text = omega (arith, long) in
     let all : take size (drop 0 text) ≡ text = take_all size text (omega (arith, long)) in (
       (
@@ -119,18 +112,18 @@ record IsNext (before : List Segment) (s : Segment) : Type 0 where
 segment_fits : (before : List Segment) (s : Segment) → (segment_row before).Fits s → IsNext before s
 unfolding segment_row log_row count_row
 segment_fits before s fits =
-    let log = neither _ _ fits.1.0.1 in
+    let log = or_parts _ _ fits.1.0.1 in
     let count = fits.1.1.0 in
     record {
       segment = record {
         name = name_fits s.name fits.0.0;
-        least = is_above s.log least_log log.0;
-        greatest = is_above greatest_log s.log log.1;
-        room = is_above (2 ^ (s.log - 3)) (length s.items) count.1;
+        least = ltb-false s.log least_log log.0;
+        greatest = ltb-false greatest_log s.log log.1;
+        room = ltb-false (2 ^ (s.log - 3)) (length s.items) count.1;
         words = items_fit _ s.items fits.1.1.1.1.0;
       };
       other = fits.0.1;
-      few = is_above word_limit (words_of before + length s.items) count.0.1;
+      few = ltb-false word_limit (words_of before + length s.items) count.0.1;
     }
 
 fits_segment : (before : List Segment) (s : Segment) → IsNext before s → (segment_row before).Fits s
@@ -142,12 +135,12 @@ fits_segment before s next =
       (
         (
           omega (arith, is.greatest),
-          none_of _ _ (not_lt s.log least_log is.least) (not_lt greatest_log s.log is.greatest),
+          or_from _ _ (le-ltb s.log least_log is.least) (le-ltb greatest_log s.log is.greatest),
         ),
         (
           (
-            (omega (arith, next.few), not_lt word_limit (words_of before + length s.items) next.few),
-            not_lt (2 ^ (s.log - 3)) (length s.items) is.room,
+            (omega (arith, next.few), le-ltb word_limit (words_of before + length s.items) next.few),
+            le-ltb (2 ^ (s.log - 3)) (length s.items) is.room,
           ),
           (
             subst (λ n. (bits_row n).Fits full) (length-map s.items (λ (i : Item). i.full)) (fits_bits full),
@@ -207,16 +200,16 @@ fit_segments before (s ∷ xs) are =
 ascend-push : (names : List (List ℕ)) (n : List ℕ) → ascend names ≡ true → is_late names n ≡ false
     → ascend (names ++ n ∷ []) ≡ true
 ascend-push [] n up late = refl
-ascend-push (a ∷ []) n up late = and_true _ _ (not_not _ late) refl
+ascend-push (a ∷ []) n up late = and_from _ _ (not-false _ late) refl
 ascend-push (a ∷ b ∷ names) n up late =
-    let p = both (is_before a b) (ascend (b ∷ names)) up in and_true _ _ p.0 (ascend-push (b ∷ names) n p.1 late)
+    let p = and_parts (is_before a b) (ascend (b ∷ names)) up in and_from _ _ p.0 (ascend-push (b ∷ names) n p.1 late)
 
 ascend-late : (names : List (List ℕ)) (n : List ℕ) (others : List (List ℕ)) → ascend (names ++ n ∷ others) ≡ true
     → is_late names n ≡ false
 ascend-late [] n others up = refl
-ascend-late (a ∷ []) n others up = ap not (both (is_before a n) (ascend (n ∷ others)) up).0
+ascend-late (a ∷ []) n others up = ap not (and_parts (is_before a n) (ascend (n ∷ others)) up).0
 ascend-late (a ∷ b ∷ names) n others up =
-    ascend-late (b ∷ names) n others (both (is_before a b) (ascend (b ∷ names ++ n ∷ others)) up).1
+    ascend-late (b ∷ names) n others (and_parts (is_before a b) (ascend (b ∷ names ++ n ∷ others)) up).1
 
 module _ (segments : List Segment) where
   abbrev is_own : List ℕ → Bool
@@ -238,12 +231,12 @@ module _ (segments : List Segment) where
   })
   externals_fit (suc n) before [] fits up = absurd fits
   externals_fit (suc n) before (x ∷ xs) fits up =
-      let p = neither _ _ fits.0.1 in
+      let p = or_parts _ _ fits.0.1 in
       let rest = externals_fit n (push before x) xs fits.1 (ascend-push before x up p.1) in
       record {
-        names = and_true _ _ (name_fits x fits.0.0) rest.names;
+        names = and_from _ _ (name_fits x fits.0.0) rest.names;
         rising = ap ascend (sym (append_assoc before (x ∷ []) xs)) ∙ rest.rising;
-        foreign = none_of _ _ p.0 rest.foreign;
+        foreign = or_from _ _ p.0 rest.foreign;
       }
 
   fit_externals : (before xs : List (List ℕ)) → ExternalsAre before xs
@@ -251,9 +244,9 @@ module _ (segments : List Segment) where
   unfolding cons external_row
   fit_externals before [] are = refl
   fit_externals before (x ∷ xs) are =
-      let names = both _ _ are.names in
-      let foreign = neither _ _ are.foreign in (
-        (fits_name x names.0, none_of _ _ foreign.0 (ascend-late before x xs are.rising)),
+      let names = and_parts _ _ are.names in
+      let foreign = or_parts _ _ are.foreign in (
+        (fits_name x names.0, or_from _ _ foreign.0 (ascend-late before x xs are.rising)),
         fit_externals (push before x) xs (record {
           names = names.1;
           rising = ap ascend (append_assoc before (x ∷ []) xs) ∙ are.rising;
@@ -285,9 +278,9 @@ module _ (segments : List Segment) (externals : ℕ) where
       (sym fits) (refl, tt)
   relocs_fit (suc n) least [] fits = absurd fits
   relocs_fit (suc n) least (r ∷ rs) fits =
-      let p = neither _ _ fits.0.1 in
+      let p = or_parts _ _ fits.0.1 in
       let rest = relocs_fit n (place_of r + 1) rs fits.1 in
-      (and_true _ _ (not_not _ p.0) rest.0, (is_above (place_of r) least p.1, rest.1))
+      (and_from _ _ (not-false _ p.0) rest.0, (ltb-false (place_of r) least p.1, rest.1))
 
   -- the values of registers
   values_fit : (tags : List Bool) (regs : List Value) → (each value_row tags).Fits regs → AllByRecursion IsNumber regs
@@ -310,12 +303,12 @@ module _ (segments : List Segment) (externals : ℕ) where
       subst (ThreadsAre least) (sym fits) (record { threads = refl; rise = tt; whole = tt; integers = tt })
   threads_fit (suc n) least [] fits = absurd fits
   threads_fit (suc n) least (t ∷ ts) fits =
-      let p = neither _ _ fits.0.1 in
+      let p = or_parts _ _ fits.0.1 in
       let rest = threads_fit n (t.slot + 1) ts fits.1 in
       let own = fits.0.0.1.1.1.1.1 in
       record {
-        threads = and_true _ _ (not_not _ p.0) rest.threads;
-        rise = (is_above t.slot least p.1, rest.rise);
+        threads = and_from _ _ (not-false _ p.0) rest.threads;
+        rise = (ltb-false t.slot least p.1, rest.rise);
         whole = (sym (length-map t.regs is_tagged) ∙ ap length own.0.1, rest.whole);
         integers = (values_fit _ t.regs own.1.0, rest.integers);
       }
@@ -331,7 +324,7 @@ module _ (segments : List Segment) (externals : ℕ) where
     unfolding cons good_reloc reloc_fields
     fit_relocs least [] good rise = refl
     fit_relocs least (r ∷ rs) good rise =
-        let p = both _ _ good in
+        let p = and_parts _ _ good in
         let small = reloc_small segments own externals r p.0 in (
           (
             (
@@ -344,7 +337,7 @@ module _ (segments : List Segment) (externals : ℕ) where
                 ),
               ),
             ),
-            none_of _ _ (ap not p.0) (not_lt (place_of r) least rise.0),
+            or_from _ _ (ap not p.0) (le-ltb (place_of r) least rise.0),
           ),
           fit_relocs (place_of r + 1) rs p.1 rise.1,
         )
@@ -354,9 +347,9 @@ module _ (segments : List Segment) (externals : ℕ) where
     unfolding cons integer_row pointer_row
     fit_values [] good numbers = refl
     fit_values (Int n ∷ regs) good numbers =
-        ((numbers.0, refl), fit_values regs (both true (list_all (is_value segments externals) regs) good).1 numbers.1)
+        ((numbers.0, refl), fit_values regs (and_parts true (list_all (is_value segments externals) regs) good).1 numbers.1)
     fit_values (Ptr p t ∷ regs) good numbers =
-        let tests = both (is_target segments externals t) (list_all (is_value segments externals) regs) good in (
+        let tests = and_parts (is_target segments externals t) (list_all (is_value segments externals) regs) good in (
           (fits_perm 8 p, ((omega arith, refl), (fits_near t tests.0, refl))),
           fit_values regs tests.1 numbers.1,
         )
@@ -365,7 +358,7 @@ module _ (segments : List Segment) (externals : ℕ) where
         × (h ≡ cond (handler_byte h == 255) None (Some (handler_byte h)))
     handler_fits slot None e = (omega arith, refl)
     handler_fits slot (Some h) e =
-        let small = ltb-true h 16 (both _ _ e).0 in
+        let small = ltb-true h 16 (and_parts _ _ e).0 in
         let other : (h == 255) ≡ false = grind (arith, nat_tests) in
         (omega (arith, small), ap (λ b. cond b None (Some h)) (sym other))
 
@@ -373,11 +366,11 @@ module _ (segments : List Segment) (externals : ℕ) where
         → AllByRecursion IsNumber t.regs → thread_fields.Fits t
     unfolding thread_fields
     fits_thread t good whole numbers =
-        let p5 = both _ _ good in
-        let p4 = both _ _ p5.0 in
-        let p3 = both _ _ p4.0 in
-        let p2 = both _ _ p3.0 in
-        let p1 = both _ _ p2.0 in
+        let p5 = and_parts _ _ good in
+        let p4 = and_parts _ _ p5.0 in
+        let p3 = and_parts _ _ p4.0 in
+        let p2 = and_parts _ _ p3.0 in
+        let p1 = and_parts _ _ p2.0 in
         let handler = handler_fits t.slot t.handler p2.1 in
         let make : Option ℕ → Thread = λ h. record {
           slot = t.slot;
@@ -411,10 +404,10 @@ module _ (segments : List Segment) (externals : ℕ) where
     unfolding cons good_thread
     fit_threads least [] are = refl
     fit_threads least (t ∷ ts) are =
-        let p = both _ _ are.threads in (
+        let p = and_parts _ _ are.threads in (
           (
             fits_thread t p.0 are.whole.0 are.integers.0,
-            none_of _ _ (ap not p.0) (not_lt t.slot least are.rise.0),
+            or_from _ _ (ap not p.0) (le-ltb t.slot least are.rise.0),
           ),
           fit_threads (t.slot + 1) ts
               (record { threads = p.1; rise = are.rise.1; whole = are.whole.1; integers = are.integers.1 }),
@@ -433,7 +426,7 @@ module _ (targets : List Target) where
       let p = no_late (is_unused targets index) (5, 0 + offset)
       (first_late 0 (use_tests targets (index + 1) (offset + (1 + length n)) names)) right in
       let here : index + 0 ≡ index = omega arith in
-      ap is_use here ∙ not_not _ p.0
+      ap is_use here ∙ not-false _ p.0
   all_used index offset (n ∷ names) right (suc i) lt =
       let p = no_late (is_unused targets index) (5, 0 + offset)
       (first_late 0 (use_tests targets (index + 1) (offset + (1 + length n)) names)) right in
@@ -464,11 +457,11 @@ object_fits o fits =
     let r = relocs_fit o.segments _ _ 0 o.relocs p.0.1.0 in
     let t = threads_fit o.segments _ _ 0 o.threads p.0.1.1.0 in
     record {
-      few_segments = is_above _ _ h.0.1;
+      few_segments = ltb-false _ _ h.0.1;
       segments = s.segments;
       names = s.names;
       few_words = s.words;
-      few_externals = is_above _ _ h.1.0.1;
+      few_externals = ltb-false _ _ h.1.0.1;
       externals = x.names;
       rising = x.rising;
       foreign = x.foreign;
@@ -476,12 +469,12 @@ object_fits o fits =
       few_relocs = omega (arith, h.1.1.0);
       relocs = r.0;
       in_order = rises place_of 0 o.relocs r.1;
-      few_threads = is_above _ _ h.1.1.1.0.1;
+      few_threads = ltb-false _ _ h.1.1.1.0.1;
       threads = t.threads;
       whole = t.whole;
       slots = rises (λ (t : Thread). t.slot) 0 o.threads t.rise;
       integers = t.integers;
-      few_spare = is_above _ _ h.1.1.1.1.0.1;
+      few_spare = ltb-false _ _ h.1.1.1.1.0.1;
     }
 
 pub fits_object : (o : Object) → IsObject o → object.Fits o
@@ -493,14 +486,14 @@ fits_object o is =
         (
           (omega arith, refl),
           (
-            (omega (arith, is.few_segments), not_lt 256 (length o.segments) is.few_segments),
+            (omega (arith, is.few_segments), le-ltb 256 (length o.segments) is.few_segments),
             (
-              (omega (arith, is.few_externals), not_lt 1024 (length o.externals) is.few_externals),
+              (omega (arith, is.few_externals), le-ltb 1024 (length o.externals) is.few_externals),
               (
                 omega (arith, is.few_relocs),
                 (
-                  (omega (arith, is.few_threads), not_lt 16 (length o.threads) is.few_threads),
-                  ((omega (arith, is.few_spare), not_lt 256 o.spare is.few_spare), refl),
+                  (omega (arith, is.few_threads), le-ltb 16 (length o.threads) is.few_threads),
+                  ((omega (arith, is.few_spare), le-ltb 256 o.spare is.few_spare), refl),
                 ),
               ),
             ),

@@ -5,19 +5,19 @@ use Rattle.std.specs.Prelude.{◌==◌, codes, is_some, unwrap_or}
 use Rattle.std.specs.Int.{w16, w32, to_be_bytes}
 use Rattle.std.proofs.lemmas.Bool.Decides.{nat_tests}
 use Rattle.std.proofs.lemmas.List.{length-map, take_all}
+use Rattle.std.proofs.lemmas.Bool.{not-false}
 use Rattle.mm_word.specs.declared.perm.Perm.TheVariants.{Key}
 use Rattle.mm_word.specs.Perm.{code_of, perm_of}
 use Rattle.mm_word.specs.PointerBits.{code_of-perm_of}
 use Rattle.mm_model.specs.Flags.{number_of_flags}
 use Rattle.mm_model.specs.Bytes.{IsBytes}
 use Rattle.mm_model.specs.Spelling.{bitmap, handler_byte}
-use Rattle.mm_model.proofs.ImageBytes.Clean.{not_not}
 use Rattle.mm_format.specs.Formats.{Format, IsFormat, byte, u16, u32, raw, each, cons}
 use Rattle.mm_format.specs.Images.{mask, flags_of, bits_in}
 use Rattle.mm_format.proofs.Formats.{byte_is, u16_is, u32_is, u64_is, text_is, raw_is, test_is, literal_is}
 use Rattle.mm_format.specs.Formats.Outcome.{Got}
 use Rattle.mm_format.proofs.Formats.{literal_read, then_is, done_is, ends_within}
-use Rattle.mm_format.proofs.Images.{mask_is, bits_count}
+use Rattle.mm_format.proofs.Images.{mask_is, bits_count, handler_again}
 use Rattle.mm_format.proofs.Lists.{each_is, times_is, times_long, late_is}
 use Rattle.mm_object.specs.declared.header.Header.{Header}
 use Rattle.mm_object.specs.declared.item.Item.{Item}
@@ -59,7 +59,7 @@ header_is =
     (λ a h fits e. ap (λ h. h.relocs) e.1.1))
     (λ a h fits e. ap (λ h. h.externals) e.1.1.1))
     (λ a h fits e. ap (λ h. h.segments) e.1.1.1.1))
-    (λ a h fits e. sym (eqb-true a 1 (not_not _ fits.1))))
+    (λ a h fits e. sym (eqb-true a 1 (not-false _ fits.1))))
     (λ a h fits e. literal_read (codes "MMO1") 2 a fits)
 
 name_is : IsFormat name_row
@@ -134,7 +134,7 @@ perm_is : (number : ℕ) → IsFormat (perm_row number)
 unfolding perm_row
 perm_is number =
     then_is _ _ (test_is byte byte_is number _) (λ n _. done_is _)
-    (λ n p fits e. ap code_of e ∙ perm_again n (not_not _ fits.1))
+    (λ n p fits e. ap code_of e ∙ perm_again n (not-false _ fits.1))
 
 target_is : IsFormat target_row
 unfolding target_row
@@ -176,7 +176,7 @@ pointer_is =
     then_is _ _ (test_is byte byte_is 8 _) (λ gap _.
     then_is _ _ target_is (λ target _. done_is _)
     (λ a v fits e. ap target_in e))
-    (λ a v fits e. sym (eqb-true a 0 (not_not _ fits.1))))
+    (λ a v fits e. sym (eqb-true a 0 (not-false _ fits.1))))
     (λ a v fits e. ap perm_in e.1.1)
 
 value_is : (tagged : Bool) → IsFormat (value_row tagged)
@@ -211,10 +211,6 @@ values_long (b ∷ tags) (v ∷ regs) fits = omega (
   value_long b v,
   values_long tags regs fits.1,
 )
-
-handler_again : (none : Bool) (h : ℕ) → (h == 255) ≡ none → handler_byte (cond none None (Some h)) ≡ h
-handler_again true h e = sym (eqb-true h 255 e)
-handler_again false h e = refl
 
 thread_fields_is : IsFormat thread_fields
 unfolding thread_fields

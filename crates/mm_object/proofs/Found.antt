@@ -6,7 +6,7 @@ use Rattle.std.specs.List.{HoldsAt, list_all}
 use Rattle.std.specs.List.Sorted.{IsStrictlyIncreasing, IsNonDecreasingBy, IsPartitionPoint}
 use Rattle.std.specs.Ordering.{nat_cmp, ordering_index}
 use Rattle.std.specs.declared.cmp.Ordering.TheVariants.{Less, Equal, Greater}
-use Rattle.std.proofs.lemmas.Bool.{cases_lt}
+use Rattle.std.proofs.lemmas.Bool.{cases_lt, and_parts, false_from_ne_true, eqb-true}
 use Rattle.std.proofs.lemmas.Bool.Decides.{nat_tests}
 use Rattle.std.proofs.lemmas.Cmp.{ranked, nat_cmp_total}
 use Rattle.std.proofs.lemmas.List.{get_or-map, length-map}
@@ -17,8 +17,6 @@ use Rattle.mm_word.specs.declared.perm.Perm.TheVariants.{Key}
 use Rattle.mm_object.specs.declared.item.Item.{Item}
 use Rattle.mm_object.specs.Objects.{Segment, place_of, words_of, is_reloc, is_zero, item_of, is_target}
 use Rattle.mm_object.specs.Lookups.{is_at, HaveSmallWords}
-use Rattle.mm_model.proofs.ImageBytes.Rising.{both}
-use Rattle.mm_object.proofs.Bools.{is_false}
 use Rattle.mm_model.specs.Limits.{word_limit}
 
 -- 1. The first item that passes a test.
@@ -52,8 +50,8 @@ pub small_words : (segments : List Segment) (externals : ℕ) (relocs : List Rel
     → HaveSmallWords relocs
 small_words segments externals [] few h = tt
 small_words segments externals (r ∷ relocs) few h =
-    let b = both (is_reloc segments externals r) (list_all (is_reloc segments externals) relocs) h in
-    let zeroed = (both (is_zero (item_of (slice_get segments r.segment) r.word)) (is_target segments externals r.target) b.0).0 in
+    let b = and_parts (is_reloc segments externals r) (list_all (is_reloc segments externals) relocs) h in
+    let zeroed = (and_parts (is_zero (item_of (slice_get segments r.segment) r.word)) (is_target segments externals r.target) b.0).0 in
     let l = of_segments segments r.segment r.word zeroed in
     (omega (arith, l, few), small_words segments externals relocs few b.1)
 
@@ -65,16 +63,13 @@ small_at (r ∷ relocs) h (suc i) d lt = small_at relocs h.1 i d (omega arith)
 module _ (segment word : ℕ) where
   at_its_place : (r : Reloc) → is_at segment word r ≡ true → place_of r ≡ segment * 2 ^ 32 + word
   at_its_place r h =
-      let b = both (r.segment == segment) (r.word == word) h in
-      let s : r.segment ≡ segment = same r.segment segment b.0 in
-      let w : r.word ≡ word = same r.word word b.1 in
+      let b = and_parts (r.segment == segment) (r.word == word) h in
+      let s : r.segment ≡ segment = eqb-true r.segment segment b.0 in
+      let w : r.word ≡ word = eqb-true r.word word b.1 in
       ap (λ n. n * 2 ^ 32 + r.word) s ∙ ap (λ n. segment * 2 ^ 32 + n) w
-    where
-      same : (a b : ℕ) → (a == b) ≡ true → a ≡ b
-      same a b e = grind (arith, nat_tests)
 
   elsewhere : (r : Reloc) → place_of r ≢ segment * 2 ^ 32 + word → is_at segment word r ≡ false
-  elsewhere r other = is_false (is_at segment word r) (λ h. other (at_its_place r h))
+  elsewhere r other = false_from_ne_true (is_at segment word r) (λ h. other (at_its_place r h))
 
   pub standing : (r : Reloc) → r.segment ≡ segment → r.word ≡ word → is_at segment word r ≡ true
   standing r s w = agree r.segment segment s r.word word w

@@ -4,8 +4,9 @@ use Rattle.std.proofs.Common.{length, get_or, take, drop, replicate, find, Some,
 use Rattle.std.proofs.Common.{subst, inl, inr, arith}
 use Rattle.std.specs.Prelude.{Contains, ◌||◌}
 use Rattle.std.specs.List.{flat_map, filter, list_any, list_all, range_with_len, AllByRecursion}
-use Rattle.std.proofs.lemmas.Bool.{cases_lt, or_parts, cond-true}
-use Rattle.mm_model.proofs.ImageBytes.Rising.{both}
+use Rattle.std.proofs.lemmas.Bool.{cases_lt, or_parts, cond-true, and_parts}
+-- names by which crates above know them
+pub use Rattle.mm_model.proofs.CoreRows.{into_map as each_map}
 
 -- 1. Membership.
 
@@ -103,10 +104,6 @@ pub each_more : {A : Type 0} (P : A → Type 0) (xs ys : List A) → AllByRecurs
 each_more P [] ys h k = k
 each_more P (x ∷ xs) ys h k = (h.0, each_more P xs ys h.1 k)
 
-pub each_map : {A B : Type 0} (P : B → Type 0) (f : A → B) (xs : List A) → AllByRecursion (λ x. P (f x)) xs → AllByRecursion P (map f xs)
-each_map P f [] h = tt
-each_map P f (x ∷ xs) h = (h.0, each_map P f xs h.1)
-
 pub each_replicate : {A : Type 0} (P : A → Type 0) (n : ℕ) (x : A) → P x → AllByRecursion P (replicate n x)
 each_replicate P zero x h = tt
 each_replicate P (suc n) x h = (h, each_replicate P n x h)
@@ -123,7 +120,7 @@ each_drop P (suc n) (x ∷ xs) h = each_drop P n xs h.1
 
 pub each_passes : {A : Type 0} (p : A → Bool) (xs : List A) → list_all p xs ≡ true → AllByRecursion (λ x. p x ≡ true) xs
 each_passes p [] h = tt
-each_passes p (x ∷ xs) h = let parts = both _ _ h in (parts.0, each_passes p xs parts.1)
+each_passes p (x ∷ xs) h = let parts = and_parts _ _ h in (parts.0, each_passes p xs parts.1)
 
 pub each_left : {A : Type 0} (P : A → Type 0) (xs ys : List A) → AllByRecursion P (xs ++ ys) → AllByRecursion P xs
 each_left P [] ys h = tt

@@ -1,5 +1,5 @@
 -- Which externals are targets, in a table.
-use Rattle.std.proofs.Common.{ℕ, ◌+◌, ◌-◌, Bool, false, List, [], ◌++◌, replicate, append-nil}
+use Rattle.std.proofs.Common.{ℕ, Bool, false, List, [], ◌++◌, replicate, append-nil}
 use Rattle.std.proofs.lemmas.List.{get_or-replicate}
 use Rattle.mm_object.specs.declared.target.Target.{Target}
 use Rattle.mm_object.specs.Fits.{HoldsUses}

@@ -11,7 +11,7 @@ ghost use Rattle.mm_mem.specs.Places.{IsAt};
 ghost use Rattle.mm_report.specs.Changes.{change_line, contents, cells_of, changes_of};
 
 use mm_io::Sink;
-use mm_mem::{Inspect, ZERO};
+use mm_mem::Inspect;
 use mm_model::{CELLS, Page, is_same_cell};
 use mm_text::{Gather, put_cell};
 use mm_word::Cell;
@@ -44,7 +44,7 @@ fn cell_of(pages: &[Page], place: Option<usize>, number: u64, index: usize) -> C
 {
     match place {
         Some(at) => pages[at].cells()[index],
-        None => ZERO,
+        None => Cell::ZERO,
     }
 }
 
@@ -56,7 +56,8 @@ fn cell_there<M: Inspect>(mem: &M, number: u64, index: usize) -> Cell
     requires index { index < 512 }
     ensures { result ≡ slice_index_or (cells_of (M.meaning mem.now) number) index zero_cell }
 {
-    mem.peek(number * 4096 + 8 * index as u64).unwrap_or(ZERO)
+    mem.peek(number * 4096 + 8 * index as u64)
+        .unwrap_or(Cell::ZERO)
 }
 
 /// Appends the lines of a mapped page's cells that differ from those of the image's page.

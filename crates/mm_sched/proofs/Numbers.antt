@@ -73,7 +73,7 @@ no_leading_zero text rest (suc n) k h b more le digits e =
 
 -- 2. A text whose first digits are read, with one more and to their end.
 
-below_or : (k n : ℕ) → k < n + 1 → (k < n) ⊎ (n ≡ k)
+pub below_or : (k n : ℕ) → k < n + 1 → (k < n) ⊎ (n ≡ k)
 below_or k n h = grind arith
 
 pub digits_more : (text : List ℕ) (end : ℕ) → DigitsTo text end → IsAsciiDigit (get_or text end 0) → DigitsTo text (end + 1)

@@ -1,10 +1,11 @@
 -- The next slot of a mask is the next running slot.
-use Rattle.std.proofs.Common.{◌≡◌, ℕ, ◌<◌, ◌⊎◌, inl, inr, Bool, true, false, nat_lt, ◌==◌, if◌then◌else◌, List, [], ◌∷◌, map, Option, Some, None, refl, sym, ap, ◌∙◌, arith}
+use Rattle.std.proofs.Common.{◌≡◌, ℕ, ◌<◌, inl, inr, Bool, true, false, nat_lt, ◌==◌, if◌then◌else◌, List, [], ◌∷◌, map, Option, Some, None, refl, sym, ap, ◌∙◌, arith}
 use Rattle.std.specs.List.{AllByRecursion}
 use Rattle.std.specs.List.Sorted.{IsStrictlyIncreasing}
 use Rattle.std.specs.Int.{bit_at}
 use Rattle.std.proofs.lemmas.Nat.Bits.{bit_at-zero}
 use Rattle.std.proofs.lemmas.Bool.Decides.{nat_tests}
+use Rattle.std.proofs.lemmas.Bool.{cases_eq}
 use Rattle.mm_model.specs.State.{ThreadRow, Core, slot_at, row_in, slot_of}
 use Rattle.mm_model.specs.Spelling.{numbers_of}
 use Rattle.mm_model.specs.Turn.{is_running}
@@ -25,12 +26,9 @@ at_head row rows n e = let same : (row.slot.number == n) ≡ true = grind (arith
 behind : (row : ThreadRow) (rows : List ThreadRow) (n : ℕ) → (row.slot.number ≡ n → ⊥) → runs_in (row ∷ rows) n ≡ runs_in rows n
 behind row rows n ne = let other : (row.slot.number == n) ≡ false = grind (arith, nat_tests) in rw other refl
 
-same_or_other : (a b : ℕ) → (a ≡ b) ⊎ (a ≡ b → ⊥)
-same_or_other a b = grind arith
-
 found_above : (x : ℕ) (rows : List ThreadRow) (n : ℕ) → AllByRecursion (λ y. x < y) (numbers rows) → runs_in rows n ≡ true → x < n
 found_above x [] n h e = cc
-found_above x (row ∷ rows) n h e = elim (same_or_other row.slot.number n) [
+found_above x (row ∷ rows) n h e = elim (cases_eq row.slot.number n) [
   | inl same ↦ let low : x < row.slot.number = h.0 in omega arith
   | inr other ↦ found_above x rows n h.1 (sym (behind row rows n other) ∙ e)
 ]
@@ -43,7 +41,7 @@ pub record LeastIn (p : ℕ → Bool) (rows : List ThreadRow) (n : ℕ) : Type 0
 
 first_some : (p : ℕ → Bool) (rows : List ThreadRow) (n : ℕ) → IsStrictlyIncreasing (numbers rows) → LeastIn p rows n → first_running p rows ≡ Some n
 first_some p [] n up l = absurd (let none : false ≡ true = l.runs in cc)
-first_some p (row ∷ rows) n up l = elim (same_or_other row.slot.number n) [
+first_some p (row ∷ rows) n up l = elim (cases_eq row.slot.number n) [
   | inl same ↦
       let running : is_running row.slot.state ≡ true = sym (at_head row rows n same) ∙ l.runs in
       let passes : p row.slot.number ≡ true = ap p same ∙ l.passes in

@@ -5,6 +5,7 @@ use Rattle.std.proofs.Common.{subst, arith}
 use Rattle.std.proofs.lemmas.List.{drop_more}
 use Rattle.std.proofs.Math.ListN.{drop_of_length-le}
 use Rattle.std.proofs.lemmas.Bool.Decides.{nat_tests}
+use Rattle.mm_sched.proofs.Numbers.{below_or}
 use Rattle.mm_model.specs.Words.{is_blank, uncommented, joined, runs_from}
 use Rattle.mm_sched.specs.Places.{runs_in, is_word_byte}
 
@@ -144,9 +145,6 @@ run_between text from end lt le all ends = run_of text (end - from - 1) from end
 
 pub all_none : (text : List ℕ) (from : ℕ) → is_word_byte (slice_index_or text from 0) ≡ true → AllWord text from (from + 1)
 all_none text from h = record { each = λ k low high. let e : from ≡ k = omega arith in let P : ℕ → Type 0 = λ i. is_word_byte (slice_index_or text i 0) ≡ true in subst P e h }
-
-below_or : (k n : ℕ) → k < n + 1 → (k < n) ⊎ (n ≡ k)
-below_or k n h = grind arith
 
 pub all_more : (text : List ℕ) (from end : ℕ) → AllWord text from end → is_word_byte (slice_index_or text end 0) ≡ true → AllWord text from (end + 1)
 all_more text from end all h = record {

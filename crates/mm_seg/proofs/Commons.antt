@@ -1,13 +1,14 @@
 -- The least address of two sets.
 use Rattle.std.proofs.Common.{ℕ, ◌+◌, ◌<◌, ◌≤◌, ◌⊎◌, inl, inr, List, length, sym, subst, arith, pow_pos}
+use Rattle.std.proofs.lemmas.Bool.{cases_lt}
 use Rattle.mm_seg.specs.Segments.{IsSet, EndsBy, segment_at, end_of, At, Covered, IsLeast, AreApart}
-use Rattle.mm_seg.proofs.Searches.{compare, same_or_below}
+use Rattle.mm_seg.proofs.Searches.{same_or_below}
 
 pub covered_by : (xs : List (ℕ × ℕ)) (a i : ℕ) → EndsBy xs a i → i < length xs → (segment_at xs i).0 ≤ a → Covered xs a
 covered_by xs a i e lt h = record { by = i; at = (lt, h, e.after i (omega arith) lt) }
 
 pub covered_from : (xs : List (ℕ × ℕ)) (a i : ℕ) → IsSet xs → EndsBy xs a i → i < length xs → Covered xs a → (segment_at xs i).0 ≤ a
-covered_from xs a i set e lt c = elim (compare c.by i) [
+covered_from xs a i set e lt c = elim (cases_lt c.by i) [
   | inl less ↦ let past = e.before c.by less in let low = c.at.2 in absurd (omega arith)
   | inr ge ↦ elim (same_or_below i c.by (omega arith)) [
     | inl less ↦ let up = set.rise i c.by less c.at.0 in let low = c.at.1 in omega arith

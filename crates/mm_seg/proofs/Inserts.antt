@@ -5,8 +5,8 @@ use Rattle.std.proofs.lemmas.List.{get_or-drop, get_or_default}
 use Rattle.std.proofs.lemmas.List.Elements.{Contains-get_or}
 use Rattle.std.proofs.Common.{◌≡◌, ℕ, zero, suc, ◌+◌, ◌-◌, ◌*◌, ◌/◌, ◌^◌, ◌<◌, ◌≤◌, ◌⊎◌, inl, inr, List, [], ◌∷◌, ◌++◌}
 use Rattle.std.proofs.Common.{length, take, drop, refl, sym, ap, ◌∙◌, subst, arith, pow_pos, pow-add, length-drop}
+use Rattle.std.proofs.lemmas.Bool.{cases_lt}
 use Rattle.mm_seg.specs.Segments.{IsSet, IsSegment, LiesIn, SomeHolds, IsMaximal, EndsBy, BeginsBy, segment_at, end_of}
-use Rattle.mm_seg.proofs.Searches.{compare}
 
 abbrev put : List (ℕ × ℕ) → ℕ → ℕ → ℕ × ℕ → List (ℕ × ℕ)
 put xs i j s = take i xs ++ s ∷ drop j xs
@@ -67,10 +67,10 @@ longer s t a b le h k = scaled (2 ^ t.1) (2 ^ (s.1 - t.1)) (t.0 / 2 ^ t.1) (s.0 
         (omega arith, omega arith)
       where
         less : (a b : ℕ) → a * u < b * u → a < b
-        less a b lt = elim (compare a b) [ inl z ↦ z | inr z ↦ absurd (let more = mul-le-mul_right u z in omega arith) ]
+        less a b lt = elim (cases_lt a b) [ inl z ↦ z | inr z ↦ absurd (let more = mul-le-mul_right u z in omega arith) ]
 
 pub nested_aligned : (s t : ℕ × ℕ) → IsAligned s → IsAligned t → s.0 < end_of t → t.0 < end_of s → LiesIn t s ⊎ LiesIn s t
-nested_aligned s t a b h k = elim (compare s.1 t.1) [
+nested_aligned s t a b h k = elim (cases_lt s.1 t.1) [
   | inl lt ↦ inr (longer t s b a (omega arith) k h)
   | inr le ↦ inl (longer s t a b le h k)
 ]
@@ -110,9 +110,9 @@ data Place (xs : List (ℕ × ℕ)) (i j : ℕ) (s : ℕ × ℕ) (k : ℕ) : Typ
   right : (n : ℕ) → k ≡ i + 1 + n → segment_at (put xs i j s) k ≡ segment_at xs (j + n) → Place xs i j s k
 
 place : (xs : List (ℕ × ℕ)) (i j : ℕ) (s : ℕ × ℕ) (k : ℕ) → i ≤ j → i ≤ length xs → Place xs i j s k
-place xs i j s k a b = elim (compare k i) [
+place xs i j s k a b = elim (cases_lt k i) [
   | inl lt ↦ left lt (at_left xs i j s k a b lt)
-  | inr le ↦ elim (compare i k) [
+  | inr le ↦ elim (cases_lt i k) [
     | inl lt ↦
         let e : k ≡ i + 1 + (k - (i + 1)) = omega arith in
         right (k - (i + 1)) e (ap (segment_at (put xs i j s)) e ∙ at_right xs i j s (k - (i + 1)) a b)
@@ -122,7 +122,7 @@ place xs i j s k a b = elim (compare k i) [
 
 module _ (xs : List (ℕ × ℕ)) (set : IsSet xs) (s : ℕ × ℕ) (seg : IsSegment s) (i j : ℕ) (ends : EndsBy xs s.0 i) (begins : BeginsBy xs (end_of s) j) where
   pub order : i ≤ j
-  order = elim (compare j i) [
+  order = elim (cases_lt j i) [
     | inr le ↦ le
     | inl lt ↦
         let e = ends.before j lt in
@@ -186,14 +186,14 @@ module _ (xs : List (ℕ × ℕ)) (set : IsSet xs) (s : ℕ × ℕ) (seg : IsSeg
       itself t = (omega arith, omega arith)
 
       held : (k : ℕ) → k < length xs → SomeHolds (put xs i j s) (segment_at xs k)
-      held k lt = elim (compare k i) [
+      held k lt = elim (cases_lt k i) [
         | inl less ↦ record {
           at = k;
           small = (let l = len in let f = begins.fits in omega arith);
           within = subst
               (LiesIn (segment_at xs k)) (sym (at_left xs i j s k order first less)) (itself (segment_at xs k));
         }
-        | inr ge ↦ elim (compare k j) [
+        | inr ge ↦ elim (cases_lt k j) [
           | inr far ↦
               let e : j + (k - j) ≡ k = omega arith in
               record {
@@ -215,7 +215,7 @@ module _ (xs : List (ℕ × ℕ)) (set : IsSet xs) (s : ℕ × ℕ) (seg : IsSeg
           inside : (k : ℕ) → k < length xs → i ≤ k → k < j → LiesIn (segment_at xs k) s
           inside k lt ge near = elim (nested s (segment_at xs k) seg (set.segments k lt) (ends.after k ge lt) (begins.before k near)) [
             | inl w ↦ w
-            | inr w ↦ elim (compare i k) [
+            | inr w ↦ elim (cases_lt i k) [
               | inr le ↦ let e : k ≡ i = omega arith in absurd (outside (omega arith) (subst (λ v. LiesIn s (segment_at xs v)) e w))
               | inl less ↦ let up = set.rise i k less lt in let past = ends.after i (omega arith) (omega arith) in let low = w.0 in absurd (omega arith)
             ]

@@ -1,15 +1,12 @@
 -- What a binary search learns at one place.
-use Rattle.std.proofs.Common.{◌≡◌, ℕ, zero, suc, ◌+◌, ◌<◌, ◌≤◌, ◌⊎◌, inl, inr, List, length, sym, subst, arith}
+use Rattle.std.proofs.Common.{◌≡◌, ℕ, ◌+◌, ◌<◌, ◌≤◌, ◌⊎◌, inl, inr, List, length, sym, subst, arith}
+use Rattle.std.proofs.lemmas.Bool.{cases_lt}
 use Rattle.mm_seg.specs.Segments.{IsSet, segment_at, end_of}
-
-pub compare : (m n : ℕ) → (m < n) ⊎ (n ≤ m)
-compare zero zero = inr (omega arith)
-compare zero (suc n) = inl (omega arith)
-compare (suc m) zero = inr (omega arith)
-compare (suc m) (suc n) = elim (compare m n) [ inl h ↦ inl (omega arith) | inr h ↦ inr (omega arith) ]
+-- names by which crates above know them
+pub use Rattle.std.proofs.lemmas.Bool.{cases_lt as compare}
 
 pub same_or_below : (n k : ℕ) → n < k + 1 → (n < k) ⊎ (n ≡ k)
-same_or_below n k h = elim (compare n k) [ inl lt ↦ inl lt | inr le ↦ inr (omega arith) ]
+same_or_below n k h = elim (cases_lt n k) [ inl lt ↦ inl lt | inr le ↦ inr (omega arith) ]
 
 module _ (xs : List (ℕ × ℕ)) (s : IsSet xs) (mid a : ℕ) (small : mid < length xs) where
   pub ends_low : end_of (segment_at xs mid) ≤ a → (k : ℕ) → k < mid + 1 → end_of (segment_at xs k) ≤ a

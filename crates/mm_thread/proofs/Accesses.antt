@@ -16,7 +16,7 @@ use Rattle.mm_model.specs.Memory.{Memory, passes}
 use Rattle.mm_model.specs.Slot.{Slot, register, is_empty}
 use Rattle.mm_model.specs.Operands.{lacks}
 use Rattle.mm_model.specs.State.{Core, slot_at}
-use Rattle.mm_model.specs.Uses.{Use, use_at, accesses, TakesUses, takes_none}
+use Rattle.mm_model.specs.Uses.{Use, accesses, TakesUses, takes_none}
 use Rattle.mm_model.specs.Ask.{Ask, ask, is_privileged, page_asked}
 use Rattle.mm_model.specs.Ask.Ask.{Refuse}
 use Rattle.mm_model.specs.Effect.{Effect, effect, plain, loads, loaded, stored, maps, unmaps, set_by, test}
@@ -176,11 +176,6 @@ leaves_all core m s e k n o k' n' o' h same_core same_memory same_outcome = reco
   outcome_is = same_outcome ∙ h.outcome_is;
   stays = λ e. ap (λ (x : Core). slot_at x s.number) same_core ∙ h.stays (sym same_outcome ∙ e);
 }
-
--- an access is one use
-pub one_access : (a : Touch) (pre : Pre) (o : Option Cell) → accesses (use_at a.kind a.addr pre o ∷ []) ≡ 1
-one_access a pre None = omega arith
-one_access a pre (Some c) = omega arith
 
 -- a removal is no access
 pub no_access : (page : ℕ) (b : Bool) → accesses (removal_use page b) ≡ 0

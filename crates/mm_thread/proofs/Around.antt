@@ -3,12 +3,12 @@ use Rattle.std.proofs.Common.{◌≡◌, ◌≢◌, ℕ, ◌%◌, ◌<◌, Bool,
 use Rattle.std.specs.Prelude.{nat_lt, ◌&&◌, slice_get}
 use Rattle.std.specs.List.{AllByRecursion}
 use Rattle.std.proofs.lemmas.List.{set-get_or}
+use Rattle.mm_thread.proofs.RunningSlots.{resumed_number}
 use Rattle.mm_word.specs.declared.cause.Cause.{Cause}
 use Rattle.mm_word.specs.declared.cause.Cause.TheVariants.{NoSlot, OutFull}
 use Rattle.mm_word.specs.Word.{word_bits}
 use Rattle.mm_word.specs.Pointer.{Pointer}
 use Rattle.mm_isa.specs.declared.instr.How.{How}
-use Rattle.mm_isa.specs.declared.instr.How.TheVariants.{Retry, Skip, Kill}
 use Rattle.mm_isa.specs.declared.instr.Instr.{Instr}
 use Rattle.mm_isa.specs.declared.instr.Instr.TheVariants.{Out, Ld, St, Evt, Resume, Rreg, Wreg, Map, Unmap}
 use Rattle.mm_model.specs.declared.slot.SlotState.{SlotState}
@@ -156,11 +156,6 @@ module _ (core : Core) (apart : AreNumbered core.rows) (p : ℕ) (within : p < l
 
     waits_put : put_slot core o ≡ with_slot core q o
     waits_put = put_slot-place core apart q inside o numbered
-
-resumed_number : (how : How) (of : Slot) → (resumed_by how of).number ≡ of.number
-resumed_number Retry of = refl
-resumed_number Skip of = refl
-resumed_number Kill of = refl
 
 -- 4. A slot that this one serves.
 

@@ -5,8 +5,7 @@ use Rattle.std.proofs.Common.{subst, ◌∙◌, arith}
 use Rattle.std.specs.Prelude.{IfSome}
 use Rattle.std.specs.List.{AllByRecursion}
 use Rattle.std.proofs.Math.Seq.{get_or-append_seam}
-use Rattle.std.proofs.lemmas.Bool.{cases_eq}
-use Rattle.std.proofs.lemmas.Bool.Decides.{nat_tests}
+use Rattle.std.proofs.lemmas.Bool.{cases_eq, eq-eqb, ne_eqb}
 use Rattle.std.proofs.lemmas.List.{set_at, drop_more, take_more, length-append, length-map, length-take-le, map_push, append_assoc, replicate_more, length-replicate}
 use Rattle.mm_model.specs.declared.event.Event.{Event}
 use Rattle.mm_model.specs.Slot.{Slot}
@@ -36,17 +35,11 @@ module _ (core : Core) (apart : AreNumbered core.rows) where
       let P : Option ThreadRow → Type 0 = λ o. IfSome o (λ row. length row.queue < 64) in
       subst P (ap (row_in core.rows) (sym number) ∙ row_found core apart p within) room
 
-same_test : (a b : ℕ) → a ≡ b → eqb a b ≡ true
-same_test a b e = grind (arith, nat_tests)
-
-other_test : (a b : ℕ) → a ≢ b → eqb a b ≡ false
-other_test a b e = grind (arith, nat_tests)
-
 unput : (rows : List ThreadRow) (n : ℕ) (change : ThreadRow → ThreadRow) → slot_of (row_in rows n) ≡ None → map (at_number n change) rows ≡ rows
 unput [] n change none = refl
 unput (row ∷ rows) n change none = elim (cases_eq row.slot.number n) as (λ _. map (at_number n change) (row ∷ rows) ≡ row ∷ rows) [
-  | inl same ↦ absurd (let found : slot_of (row_in (row ∷ rows) n) ≡ Some row.slot = rw (same_test row.slot.number n same) refl in cc (found, none))
-  | inr other ↦ rw (other_test row.slot.number n other) (ap (λ (rs : List ThreadRow). row ∷ rs) (unput rows n change (rw (other_test row.slot.number n other) at none)))
+  | inl same ↦ absurd (let found : slot_of (row_in (row ∷ rows) n) ≡ Some row.slot = rw (eq-eqb row.slot.number n same) refl in cc (found, none))
+  | inr other ↦ rw (ne_eqb row.slot.number n other) (ap (λ (rs : List ThreadRow). row ∷ rs) (unput rows n change (rw (ne_eqb row.slot.number n other) at none)))
 ]
 
 pub event_unput : (core : Core) (n : ℕ) (q : List Event) → slot_at core n ≡ None → core ≡ put_queue core n q
@@ -66,10 +59,10 @@ events_for-append n (x ∷ xs) ys = by (eqb x.0 n) (events_for-append n xs ys)
     by false rest = rest
 
 events_for-same : (n : ℕ) (e : Event) → events_for n ((n, e) ∷ []) ≡ e ∷ []
-events_for-same n e = rw (same_test n n refl) refl
+events_for-same n e = rw (eq-eqb n n refl) refl
 
 events_for-other : (n k : ℕ) (e : Event) → k ≢ n → events_for n ((k, e) ∷ []) ≡ []
-events_for-other n k e other = rw (other_test k n other) refl
+events_for-other n k e other = rw (ne_eqb k n other) refl
 
 module _ (xs : List (ℕ × Event)) (n : ℕ) (e : Event) where
   abbrev more : List (ℕ × Event)
@@ -85,9 +78,9 @@ module _ (xs : List (ℕ × Event)) (n : ℕ) (e : Event) where
   queue_is : (slots : List Slot) → (queue_of (row_in (map (row_with xs) slots) n) ≡ events_for n xs) ⊎ AllByRecursion (λ (s : Slot). s.number ≢ n) slots
   queue_is [] = inr tt
   queue_is (s ∷ slots) = elim (cases_eq s.number n) as (λ _. (queue_of (row_in (map (row_with xs) (s ∷ slots)) n) ≡ events_for n xs) ⊎ AllByRecursion (λ (t : Slot). t.number ≢ n) (s ∷ slots)) [
-    | inl same ↦ inl (rw (same_test s.number n same) (ap (λ (k : ℕ). events_for k xs) same))
+    | inl same ↦ inl (rw (eq-eqb s.number n same) (ap (λ (k : ℕ). events_for k xs) same))
     | inr other ↦ elim (queue_is slots) as (λ _. (queue_of (row_in (map (row_with xs) (s ∷ slots)) n) ≡ events_for n xs) ⊎ AllByRecursion (λ (t : Slot). t.number ≢ n) (s ∷ slots)) [
-      | inl found ↦ inl (rw (other_test s.number n other) found)
+      | inl found ↦ inl (rw (ne_eqb s.number n other) found)
       | inr none ↦ inr (other, none)
     ]
   ]
@@ -95,16 +88,16 @@ module _ (xs : List (ℕ × Event)) (n : ℕ) (e : Event) where
   rows_put : (q : List Event) → q ≡ events_for n xs ++ e ∷ [] → (slots : List Slot) → map (at_number n (λ row. record row { queue = q })) (map (row_with xs) slots) ≡ map (row_with more) slots
   rows_put q is [] = refl
   rows_put q is (s ∷ slots) = elim (cases_eq s.number n) as (λ _. map (at_number n (λ row. record row { queue = q })) (map (row_with xs) (s ∷ slots)) ≡ map (row_with more) (s ∷ slots)) [
-    | inl same ↦ rw (same_test s.number n same, rows_put q is slots)
+    | inl same ↦ rw (eq-eqb s.number n same, rows_put q is slots)
         (ap (λ (es : List Event). record { slot = s; queue = es } ∷ map (row_with more) slots)
         (is ∙ sym more_here ∙ ap (λ (k : ℕ). events_for k more) (sym same)))
-    | inr other ↦ rw (other_test s.number n other, rows_put q is slots) (ap (λ (es : List Event). record { slot = s; queue = es } ∷ map (row_with more) slots) (sym (more_other s.number other)))
+    | inr other ↦ rw (ne_eqb s.number n other, rows_put q is slots) (ap (λ (es : List Event). record { slot = s; queue = es } ∷ map (row_with more) slots) (sym (more_other s.number other)))
   ]
 
   rows_unput : (q : List Event) (slots : List Slot) → AllByRecursion (λ (s : Slot). s.number ≢ n) slots
       → map (at_number n (λ row. record row { queue = q })) (map (row_with xs) slots) ≡ map (row_with more) slots
   rows_unput q [] none = refl
-  rows_unput q (s ∷ slots) none = rw (other_test s.number n none.0, rows_unput q slots none.1)
+  rows_unput q (s ∷ slots) none = rw (ne_eqb s.number n none.0, rows_unput q slots none.1)
       (ap (λ (es : List Event). record { slot = s; queue = es } ∷ map (row_with more) slots)
       (sym (more_other s.number none.0)))
 
@@ -138,8 +131,8 @@ module _ (xs : List (ℕ × Event)) (n : ℕ) (e : Event) where
               (e ∷ []),
           ap (λ (k : ℕ). length (events_for k xs)) same,
         ) in
-        rw (same_test s.number n same) here
-    | inr other ↦ rw (other_test s.number n other) (event_room ys slots few.1)
+        rw (eq-eqb s.number n same) here
+    | inr other ↦ rw (ne_eqb s.number n other) (event_room ys slots few.1)
   ]
 
 -- the queue of a slot that is there
@@ -148,10 +141,10 @@ pub queue-with : (xs : List (ℕ × Event)) (n : ℕ) (slots : List Slot) (s : S
     n xs
 queue-with xs n [] s is = cc
 queue-with xs n (t ∷ slots) s is = elim (cases_eq t.number n) as (λ _. queue_of (row_in (map (row_with xs) (t ∷ slots)) n) ≡ events_for n xs) [
-  | inl same ↦ rw (same_test t.number n same) (ap (λ (k : ℕ). events_for k xs) same)
+  | inl same ↦ rw (eq-eqb t.number n same) (ap (λ (k : ℕ). events_for k xs) same)
   | inr other ↦
-      let later : slot_of (row_in (map (row_with xs) slots) n) ≡ Some s = rw (other_test t.number n other) at is in
-      rw (other_test t.number n other) (queue-with xs n slots s later)
+      let later : slot_of (row_in (map (row_with xs) slots) n) ≡ Some s = rw (ne_eqb t.number n other) at is in
+      rw (ne_eqb t.number n other) (queue-with xs n slots s later)
 ]
 
 pub slots-with : (xs : List (ℕ × Event)) (slots : List Slot) → map (λ (row : ThreadRow). row.slot) (map (row_with xs) slots) ≡ slots

@@ -48,7 +48,7 @@ queue_in-slot core p q s within = elim (cases_eq q p) [
 
 -- 2. The bounds of a core.
 
-byte_limit : (version : ℕ) → output_limit version ≤ 65536
+pub byte_limit : (version : ℕ) → output_limit version ≤ 65536
 byte_limit version = elim (eqb version 1) as (λ b. cond b 4096 65536 ≤ 65536) [ true ↦ omega arith | false ↦ omega arith ]
 
 module _ (core : Core) (whole : IsCore core) where

@@ -11,7 +11,7 @@ use Rattle.mm_model.proofs.Starts.{start_core}
 use Rattle.mm_thread.specs.Places.{row_alone}
 use Rattle.mm_thread.proofs.Sound.{version_whole}
 
-each_nothing : (n : ℕ) → AllByRecursion (λ (bytes : List ℕ). bytes ≡ []) (replicate n [])
+pub each_nothing : (n : ℕ) → AllByRecursion (λ (bytes : List ℕ). bytes ≡ []) (replicate n [])
 each_nothing zero = tt
 each_nothing (suc n) = (refl, each_nothing n)
 

@@ -1,7 +1,7 @@
 -- Slots found by their numbers, where each row has a number of its own.
-use Rattle.std.proofs.Common.{◌≡◌, ◌≢◌, ℕ, zero, suc, ◌<◌, ◌≤◌, true, false, eqb, List, [], ◌∷◌, length, map, get_or, set, slice_index, Some, None, refl, sym, ap, ◌∙◌, arith}
-use Rattle.std.proofs.lemmas.Bool.Decides.{nat_tests}
+use Rattle.std.proofs.Common.{◌≡◌, ◌≢◌, ℕ, zero, suc, ◌<◌, ◌≤◌, List, [], ◌∷◌, length, map, get_or, set, slice_index, Some, None, refl, sym, ap, ◌∙◌, arith}
 use Rattle.std.proofs.lemmas.List.{length-map, get_or-map, map-set, set-get_or}
+use Rattle.std.proofs.lemmas.Bool.{eq-eqb, ne_eqb}
 use Rattle.mm_model.specs.declared.event.Event.{Event}
 use Rattle.mm_model.specs.Slot.{Slot}
 use Rattle.mm_model.specs.State.{ThreadRow, Core, row_in, slot_of, queue_of, slot_at, queue_at, at_number, put_slot, put_queue}
@@ -20,39 +20,33 @@ HasNone rows n = (k : ℕ) → k < length rows → number_at rows k ≢ n
 abbrev pub HasAlone : List ThreadRow → ℕ → ℕ → Type 0
 HasAlone rows p n = (k : ℕ) → k < length rows → number_at rows k ≡ n → k ≡ p
 
-same_number : (m n : ℕ) → m ≡ n → eqb m n ≡ true
-same_number m n e = grind (arith, nat_tests)
-
-other_number : (m n : ℕ) → m ≢ n → eqb m n ≡ false
-other_number m n e = grind (arith, nat_tests)
-
 pub row_in-none : (rows : List ThreadRow) (n : ℕ) → HasNone rows n → row_in rows n ≡ None
 row_in-none [] n none = refl
 row_in-none (row ∷ rows) n none =
     let first : row.slot.number ≢ n = none 0 (omega arith) in
-    rw (other_number row.slot.number n first) (row_in-none rows n (λ k within. none (suc k) (omega arith)))
+    rw (ne_eqb row.slot.number n first) (row_in-none rows n (λ k within. none (suc k) (omega arith)))
 
 pub row_in-alone : (rows : List ThreadRow) (p n : ℕ) → p < length rows → number_at rows p ≡ n → HasAlone rows p n → row_in rows n ≡ Some (get_or rows p no_row)
 row_in-alone [] p n within here alone = absurd (omega arith)
-row_in-alone (row ∷ rows) zero n within here alone = rw (same_number row.slot.number n here) refl
+row_in-alone (row ∷ rows) zero n within here alone = rw (eq-eqb row.slot.number n here) refl
 row_in-alone (row ∷ rows) (suc p) n within here alone =
     let first : row.slot.number ≢ n = λ e. omega (arith, alone 0 (omega arith) e) in
-    rw (other_number row.slot.number n first) (row_in-alone rows p n (omega arith) here (λ k below e. omega (arith, alone (suc k) (omega arith) e)))
+    rw (ne_eqb row.slot.number n first) (row_in-alone rows p n (omega arith) here (λ k below e. omega (arith, alone (suc k) (omega arith) e)))
 
 pub map-none : (rows : List ThreadRow) (n : ℕ) (change : ThreadRow → ThreadRow) → HasNone rows n → map (at_number n change) rows ≡ rows
 map-none [] n change none = refl
 map-none (row ∷ rows) n change none =
     let first : row.slot.number ≢ n = none 0 (omega arith) in
-    rw (other_number row.slot.number n first) (ap (λ (rs : List ThreadRow). row ∷ rs) (map-none rows n change (λ k within. none (suc k) (omega arith))))
+    rw (ne_eqb row.slot.number n first) (ap (λ (rs : List ThreadRow). row ∷ rs) (map-none rows n change (λ k within. none (suc k) (omega arith))))
 
 pub map-alone : (rows : List ThreadRow) (p n : ℕ) (change : ThreadRow → ThreadRow) → p < length rows → number_at rows p ≡ n → HasAlone rows p n
     → map (at_number n change) rows ≡ set rows p (change (get_or rows p no_row))
 map-alone [] p n change within here alone = absurd (omega arith)
 map-alone (row ∷ rows) zero n change within here alone =
-    rw (same_number row.slot.number n here) (ap (λ (rs : List ThreadRow). change row ∷ rs) (map-none rows n change (λ k below e. omega (arith, alone (suc k) (omega arith) e))))
+    rw (eq-eqb row.slot.number n here) (ap (λ (rs : List ThreadRow). change row ∷ rs) (map-none rows n change (λ k below e. omega (arith, alone (suc k) (omega arith) e))))
 map-alone (row ∷ rows) (suc p) n change within here alone =
     let first : row.slot.number ≢ n = λ e. omega (arith, alone 0 (omega arith) e) in
-    rw (other_number row.slot.number n first) (ap (λ (rs : List ThreadRow). row ∷ rs) (map-alone rows p n change (omega arith) here (λ k below e. omega (arith, alone (suc k) (omega arith) e))))
+    rw (ne_eqb row.slot.number n first) (ap (λ (rs : List ThreadRow). row ∷ rs) (map-alone rows p n change (omega arith) here (λ k below e. omega (arith, alone (suc k) (omega arith) e))))
 
 -- 2. Slots of a core, and their places.
 

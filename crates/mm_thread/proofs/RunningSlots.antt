@@ -108,7 +108,7 @@ slot_there rows p within row d is = ap (λ (r : ThreadRow). r.slot) (is ∙ get_
 
 -- 4. What the bits tell.
 
-runs_where : (state : SlotState) → is_running state ≡ true → state ≡ Running
+pub runs_where : (state : SlotState) → is_running state ≡ true → state ≡ Running
 runs_where Running e = refl
 runs_where Waiting e = absurd cc
 runs_where Taken e = absurd cc

@@ -1,5 +1,5 @@
 -- A core stays whole.
-use Rattle.std.proofs.Common.{◌≡◌, ℕ, ◌≤◌, Bool, List, [], ◌∷◌, length, map, Option, Some, None, refl, sym, ap, subst, ◌∙◌, arith}
+use Rattle.std.proofs.Common.{◌≡◌, ℕ, ◌≤◌, Bool, List, [], ◌∷◌, length, map, Option, Some, None, refl, sym, ap, subst, arith}
 use Rattle.std.specs.List.{AllByRecursion}
 use Rattle.std.proofs.lemmas.List.{get_or_past}
 use Rattle.mm_model.specs.Memory.{Memory}
@@ -15,9 +15,6 @@ use Rattle.mm_model.proofs.TurnKeeps.{core_keeps}
 numbers-identities : (slots : List Slot) → map (λ (i : ℕ × ℕ × Option ℕ). i.0) (map identity_of slots) ≡ numbers_of slots
 numbers-identities [] = refl
 numbers-identities (s ∷ slots) = ap (λ (ns : List ℕ). s.number ∷ ns) (numbers-identities slots)
-
-pub numbers-same : (xs ys : List Slot) → map identity_of xs ≡ map identity_of ys → numbers_of xs ≡ numbers_of ys
-numbers-same xs ys same = sym (numbers-identities xs) ∙ ap (map (λ (i : ℕ × ℕ × Option ℕ). i.0)) same ∙ numbers-identities ys
 
 pub turn_whole : (core core' : Core) (m : Memory) (n : ℕ) → IsCore core → core' ≡ (turn core m n).core → IsCore core'
 turn_whole core core' m n whole is = subst IsCore (sym is) (core_keeps core m n whole)

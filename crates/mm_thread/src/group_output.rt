@@ -2,12 +2,10 @@
 
 ghost use Rattle.std.specs.Prelude.{◌≡◌, ◌<◌, ◌≤◌, ◌++◌, [], ◌∷◌, length, IfOk};
 
+use mm_model::OUTPUT_LIMIT;
 use mm_word::NoMemory;
 use std::alloc::Global;
 use std::marker::Model;
-
-/// The most bytes that a group may put out, in any version.
-const ROOM: usize = 65536;
 
 /// The bytes that a group has put out. All room is taken when it is made.
 #[derive(Drop)]
@@ -30,7 +28,7 @@ impl GroupOutput {
     pub(crate) fn new(alloc: Global) -> Result<GroupOutput, NoMemory>
         ensures { IfOk result (λ output. output ≡ []) }
     {
-        let bytes = Vec::with_capacity(alloc, ROOM)?;
+        let bytes = Vec::with_capacity(alloc, OUTPUT_LIMIT)?;
         Ok(GroupOutput { bytes })
     }
 

@@ -223,7 +223,7 @@ pub(crate) fn subseg_to(slot: &mut Slot, rd: Reg, ra: Reg, rb: Reg) -> Entered
 pub(crate) fn is_privileged(slot: &Slot) -> bool
     ensures { result ≡ is_privileged slot.now.ip.perm }
 {
-    slot.ip.perm() == Perm::Xp
+    slot.ip.perm().is_privileged()
 }
 
 pub(crate) fn set_pointer(slot: &mut Slot, rd: Reg, ra: Reg) -> Entered

@@ -26,7 +26,7 @@ use crate::row::ThreadRow;
 use crate::run_mask::{kept, noted, runners_of};
 use crate::slot::{advance, deliver, issue, resume, set_register, sets, stand, take_event};
 use mm_isa::{EvtReg, How, Instr, Reg};
-use mm_model::{Event, Slot, SlotState};
+use mm_model::{Event, Slot, SlotState, output_limit};
 use mm_word::Word;
 use std::marker::Model;
 
@@ -150,8 +150,7 @@ impl Tables {
         requires { group < length self.now.outputs }
         ensures { result ≡ nat_lt (length (output_of self.now group)) (output_limit self.now.version) }
     {
-        let limit = if self.version == 1 { 4096 } else { 65536 };
-        self.outputs[group as usize].len() < limit
+        self.outputs[group as usize].len() < output_limit(self.version)
     }
 
     /// Whether a register of the slot at `place` waits for a load, in a split machine.

@@ -35,7 +35,7 @@ is_at p (pos a) kind t e = grind (arith, common_steps)
 is_at p (negsuc a) kind t e = grind (arith, common_steps)
 
 -- a word whose first and last bytes are in the segment
-Covers-holds_word : (p : Pointer) (a : ℕ) → Covers p a → holds_word p a ≡ true
+pub Covers-holds_word : (p : Pointer) (a : ℕ) → Covers p a → holds_word p a ≡ true
 Covers-holds_word p a covers =
     let first : InSegment p a = rw add-zero at (covers 0 (omega arith)) in
     let last : InSegment p (a + 7) = covers 7 (omega arith) in

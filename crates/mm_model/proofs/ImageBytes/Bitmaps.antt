@@ -15,7 +15,7 @@ use Rattle.mm_model.proofs.ImageBytes.Parts.{IsBytes, part, join_at, one_byte, b
 
 -- 1. A number and its flags.
 
-length-flags : (k n : ℕ) → length (flags k n) ≡ k
+pub length-flags : (k n : ℕ) → length (flags k n) ≡ k
 length-flags zero n = refl
 length-flags (suc k) n = ap suc (length-flags k (n / 2))
 

@@ -1,9 +1,9 @@
 -- A handler without a fault is another slot.
 use Rattle.std.proofs.Common.{[], ◌≡◌, ℕ, suc, Bool, true, false, not, List, ◌∷◌, Option, Some, None, refl, sym, ap, ◌∙◌, arith, eqb-true}
 use Rattle.std.specs.Prelude.{◌==◌, ◌||◌, IfSome, Contains}
+use Rattle.std.proofs.lemmas.Bool.{or_parts, not-false, eqb-false}
 use Rattle.mm_model.specs.Slot.{Slot}
 use Rattle.mm_model.specs.Spelling.{IsOther, has_number}
-use Rattle.mm_model.proofs.ImageBytes.Clean.{neither, not_not, is_not}
 
 abbrev Has : ℕ → List Slot → Type 0
 Has h slots = (s : Slot) × Contains slots s × (s.number ≡ h)
@@ -22,6 +22,6 @@ pub handler_is_other : (slots : List Slot) (n : ℕ) (handler : Option ℕ) → 
     [ None ↦ false | Some h ↦ h == n || not (has_number slots h) ] ≡ false → IfSome handler (IsOther slots n)
 handler_is_other slots n None e = tt
 handler_is_other slots n (Some h) e =
-    let tests = neither _ _ e in
-    let found = has_place h slots (not_not _ tests.1) in
-    (is_not h n tests.0, (found.0, found.1, found.2))
+    let tests = or_parts _ _ e in
+    let found = has_place h slots (not-false _ tests.1) in
+    (eqb-false h n tests.0, (found.0, found.1, found.2))

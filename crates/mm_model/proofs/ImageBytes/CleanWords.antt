@@ -1,19 +1,18 @@
 -- Pointers that bits spell.
 use Rattle.std.proofs.Common.{◌≡◌, ℕ, ◌/◌, ◌^◌, ◌≤◌, true, arith}
 use Rattle.std.specs.Prelude.{is_some}
-use Rattle.std.proofs.lemmas.Bool.{leb-true}
+use Rattle.std.proofs.lemmas.Bool.{leb-true, and_parts}
 use Rattle.std.proofs.lemmas.Bool.Decides.{nat_tests}
 use Rattle.mm_word.specs.Perm.{perm_of}
 use Rattle.mm_word.specs.Pointer.{IsWellFormed, SpellsPointer, spells_pointer, pointer_of, bits_of}
 use Rattle.mm_word.specs.PointerBits.{bits_of-pointer_of}
-use Rattle.mm_model.proofs.ImageBytes.Rising.{both}
 
 codes_known : (code : ℕ) → is_some (perm_of code) ≡ true → (1 ≤ code) × (code ≤ 7)
 codes_known code h = (grind (arith, nat_tests), grind (arith, nat_tests))
 
 pub spells : (bits : ℕ) → spells_pointer bits ≡ true → SpellsPointer bits
 spells bits h =
-    let tests = both _ _ h in
+    let tests = and_parts _ _ h in
     let code = codes_known (bits / 2 ^ 60) tests.0 in
     record { some_code = code.0; known_code = code.1; log_in_range = leb-true _ _ tests.1 }
 

@@ -1,19 +1,14 @@
 -- Pages whose numbers rise from a least one on, as a finite map has them.
-use Rattle.std.proofs.Common.{◌≡◌, ℕ, ◌+◌, ◌<◌, ◌≤◌, Bool, true, false, List, [], ◌∷◌, refl, arith}
-use Rattle.std.specs.Prelude.{IsTrue, ◌&&◌}
+use Rattle.std.proofs.Common.{◌≡◌, ℕ, ◌+◌, ◌<◌, ◌≤◌, true, List, [], ◌∷◌, refl, arith}
+use Rattle.std.specs.Prelude.{IsTrue}
 use Rattle.std.specs.Ordering.{nat_cmp, is_lt}
 use Rattle.std.specs.FinMap.{is_sorted}
 use Rattle.std.specs.FinMap.Entries.{below_all}
 use Rattle.std.specs.List.{AllByRecursion}
 use Rattle.std.proofs.lemmas.Bool.Decides.{nat_tests}
-
-pub both : (a b : Bool) → (a && b) ≡ true → (a ≡ true) × (b ≡ true)
-both true b h = (refl, h)
-both false b h = absurd cc
-
-pub and_true : (a b : Bool) → a ≡ true → b ≡ true → (a && b) ≡ true
-and_true true b h k = k
-and_true false b h k = absurd cc
+use Rattle.std.proofs.lemmas.Bool.{and_parts, and_from}
+-- names by which crates above know them
+pub use Rattle.std.proofs.lemmas.Bool.{and_parts as both, and_from as and_true}
 
 is_less : (x y : ℕ) → x < y → is_lt (nat_cmp x y) ≡ true
 is_less x y h = grind (arith, nat_tests)
@@ -29,22 +24,22 @@ module _ {X : Type 0} where
 
   below_from : (n least : ℕ) (pages : List (ℕ × X)) → n < least → AreRisingFrom least pages → below_all nat_cmp n pages ≡ true
   below_from n least [] lt rising = refl
-  below_from n least (page ∷ pages) lt rising = and_true _ _ (is_less n page.0 (omega (arith, rising.0))) (below_from n (page.0 + 1) pages (omega (arith, rising.0)) rising.1)
+  below_from n least (page ∷ pages) lt rising = and_from _ _ (is_less n page.0 (omega (arith, rising.0))) (below_from n (page.0 + 1) pages (omega (arith, rising.0)) rising.1)
 
   pub sorted_from : (least : ℕ) (pages : List (ℕ × X)) → AreRisingFrom least pages → IsTrue (is_sorted nat_cmp pages)
   sorted_from least [] rising = refl
-  sorted_from least (page ∷ pages) rising = and_true _ _ (below_from page.0 (page.0 + 1) pages (omega arith) rising.1) (sorted_from (page.0 + 1) pages rising.1)
+  sorted_from least (page ∷ pages) rising = and_from _ _ (below_from page.0 (page.0 + 1) pages (omega arith) rising.1) (sorted_from (page.0 + 1) pages rising.1)
 
   above : (n : ℕ) (pages : List (ℕ × X)) → below_all nat_cmp n pages ≡ true → AllByRecursion (λ (page : ℕ × X). n + 1 ≤ page.0) pages
   above n [] h = tt
   above n (page ∷ pages) h =
-      let split = both (is_lt (nat_cmp n page.0)) (below_all nat_cmp n pages) h in
+      let split = and_parts (is_lt (nat_cmp n page.0)) (below_all nat_cmp n pages) h in
       (is_above n page.0 split.0, above n pages split.1)
 
   low_rising : (least : ℕ) (pages : List (ℕ × X)) → AllByRecursion (λ (page : ℕ × X). least ≤ page.0) pages → IsTrue (is_sorted nat_cmp pages) → AreRisingFrom least pages
   low_rising least [] low sorted = tt
   low_rising least (page ∷ pages) low sorted =
-      let split = both (below_all nat_cmp page.0 pages) (is_sorted nat_cmp pages) sorted in
+      let split = and_parts (below_all nat_cmp page.0 pages) (is_sorted nat_cmp pages) sorted in
       (low.0, low_rising (page.0 + 1) pages (above page.0 pages split.0) split.1)
 
   from_zero : (pages : List (ℕ × X)) → AllByRecursion (λ (page : ℕ × X). 0 ≤ page.0) pages

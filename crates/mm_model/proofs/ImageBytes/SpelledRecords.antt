@@ -1,23 +1,21 @@
 -- Tests that hold, and pointers whose bits spell them.
-use Rattle.std.proofs.Common.{◌≡◌, ℕ, ◌/◌, ◌^◌, ◌<◌, ◌≤◌, true, false, nat_lt, arith}
+use Rattle.std.proofs.Common.{◌≡◌, ℕ, ◌/◌, ◌^◌, ◌<◌, ◌≤◌, true, false, arith}
 use Rattle.std.specs.Prelude.{nat_le, is_some}
-use Rattle.std.proofs.lemmas.Bool.{le-leb}
+use Rattle.std.proofs.lemmas.Bool.{le-leb, and_from}
 use Rattle.std.proofs.lemmas.Bool.Decides.{nat_tests}
 use Rattle.mm_word.specs.Perm.{perm_of}
 use Rattle.mm_word.specs.Pointer.{Pointer, IsWellFormed, spells_pointer, bits_of}
 use Rattle.mm_word.proofs.Packing.{SpellsPointer-bits_of}
-use Rattle.mm_model.proofs.ImageBytes.Rising.{and_true}
+-- names by which crates above know them
+pub use Rattle.std.proofs.lemmas.Bool.{le-ltb as not_lt}
 
 pub not_le : (n m : ℕ) → n < m → nat_le m n ≡ false
 not_le n m lt = grind (arith, nat_tests)
 
-pub not_lt : (n m : ℕ) → m ≤ n → nat_lt n m ≡ false
-not_lt n m le = grind (arith, nat_tests)
-
-known_codes : (code : ℕ) → 1 ≤ code → code ≤ 7 → is_some (perm_of code) ≡ true
+pub known_codes : (code : ℕ) → 1 ≤ code → code ≤ 7 → is_some (perm_of code) ≡ true
 known_codes code low high = grind (arith, nat_tests)
 
 pub is_spelled : (p : Pointer) → IsWellFormed p → spells_pointer (bits_of p) ≡ true
 is_spelled p h =
     let s = SpellsPointer-bits_of p h in
-    and_true _ _ (known_codes (bits_of p / 2 ^ 60) s.some_code s.known_code) (le-leb _ _ s.log_in_range)
+    and_from _ _ (known_codes (bits_of p / 2 ^ 60) s.some_code s.known_code) (le-leb _ _ s.log_in_range)

@@ -1,9 +1,9 @@
 -- Slots of an image, and their handlers.
-use Rattle.std.proofs.Common.{◌≡◌, ◌≢◌, ℕ, zero, suc, ◌<◌, ◌≤◌, Bool, true, false, not, List, [], ◌∷◌, length, get_or, Option, Some, None, refl, ap, ◌∙◌, arith, eq-eqb}
+use Rattle.std.proofs.Common.{◌≡◌, ℕ, zero, suc, ◌<◌, ◌≤◌, Bool, true, false, not, List, [], ◌∷◌, length, get_or, Option, Some, None, refl, ap, ◌∙◌, arith, eq-eqb}
 use Rattle.std.specs.Prelude.{◌==◌, ◌||◌, IfSome}
 use Rattle.std.specs.List.{AllByRecursion}
-use Rattle.std.proofs.lemmas.Bool.Decides.{nat_tests}
 use Rattle.std.proofs.lemmas.List.Folds.{list_any_at}
+use Rattle.std.proofs.lemmas.Bool.{ne_eqb}
 use Rattle.mm_model.specs.Slot.{Slot}
 use Rattle.mm_model.specs.Spelling.{IsOther, IsFresh, has_number}
 
@@ -13,9 +13,6 @@ pub all_at : {A : Type 0} (P : A → Type 0) (xs : List A) → AllByRecursion P 
 all_at P [] all k d lt = absurd (omega arith)
 all_at P (x ∷ xs) all zero d lt = all.0
 all_at P (x ∷ xs) all (suc k) d lt = all_at P xs all.1 k d (omega arith)
-
-differ : (a b : ℕ) → a ≢ b → (a == b) ≡ false
-differ a b ne = grind (arith, nat_tests)
 
 -- 2. Handlers.
 
@@ -35,4 +32,4 @@ handler_good slots n (Some h) other =
     let found = other.1 in
     let at : (get_or slots found.1.0 found.0).number == h ≡ true = eq-eqb _ h (ap (λ (s : Slot). s.number) found.1.2 ∙ found.2) in
     let has : has_number slots h ≡ true = list_any_at (λ (s : Slot). s.number == h) slots found.1.0 found.0 found.1.1 at in
-    ap (λ b. b || not (has_number slots h)) (differ h n other.0) ∙ ap not has
+    ap (λ b. b || not (has_number slots h)) (ne_eqb h n other.0) ∙ ap not has

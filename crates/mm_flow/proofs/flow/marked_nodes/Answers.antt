@@ -1,6 +1,7 @@
 use Rattle.std.proofs.Common.{◌≡◌, ℕ, ◌+◌, ◌<◌, ◌⊎◌, List, [], ◌∷◌, ◌++◌, slice_index, arith, inl, inr, sym, ◌∙◌, ap, subst}
+use Rattle.mm_seg.proofs.Searches.{same_or_below}
 use Rattle.mm_flow.specs.Work.{IsIn}
-use Rattle.mm_flow.proofs.Masks.{in_push_left, in_push_last, in_push_cases, below_cases}
+use Rattle.mm_flow.proofs.Masks.{in_push_left, in_push_last, in_push_cases}
 use Rattle.mm_flow.proofs.flow.marked_nodes.Goals as goal
 use Rattle.mm_flow.proofs.flow.marked_nodes.Goals.{then-marks-k-ne0+in_ok-push_back, else-marks-k-ne0}
 
@@ -8,7 +9,7 @@ module _ (marks xs : List ℕ) (k : ℕ) (below : (n : ℕ) → IsIn n xs → n 
   listed : ((n : ℕ) → IsIn n (xs ++ k ∷ []) → n < k + 1) × ((n : ℕ) → n < k + 1 → IsIn n (xs ++ k ∷ []) ⊎ (slice_index marks n ≡ 0))
   listed = (
     λ n m. elim (in_push_cases n xs k m) [ inl a ↦ (let lt = below n a in omega arith) | inr e ↦ omega arith ],
-    λ n lt. elim (below_cases n k lt) [
+    λ n lt. elim (same_or_below n k lt) [
       | inr e ↦ inl (subst (λ v. IsIn v (xs ++ k ∷ [])) (sym e) (in_push_last xs k))
       | inl less ↦ elim (all n less) [ inl a ↦ inl (in_push_left n xs k a) | inr none ↦ inr none ]
     ],
@@ -17,7 +18,7 @@ module _ (marks xs : List ℕ) (k : ℕ) (below : (n : ℕ) → IsIn n xs → n 
   left_out : slice_index marks k ≡ 0 → ((n : ℕ) → IsIn n xs → n < k + 1) × ((n : ℕ) → n < k + 1 → IsIn n xs ⊎ (slice_index marks n ≡ 0))
   left_out none = (
     λ n m. let lt = below n m in omega arith,
-    λ n lt. elim (below_cases n k lt) [ inl less ↦ all n less | inr e ↦ inr (ap (slice_index marks) e ∙ none) ],
+    λ n lt. elim (same_or_below n k lt) [ inl less ↦ all n less | inr e ↦ inr (ap (slice_index marks) e ∙ none) ],
   )
 
 pub loop-k-preserved : goal.loop-k-preserved

@@ -19,7 +19,7 @@ returns c =
     let node : c.args.walk.at < length g.nodes.now = (let e = c.requires.nodes in let lt = c.requires.node in omega arith) in
     rw c.in_ok-visit.ensures.same (
     walked_by (edges_of g) c.args.k c.args.mask c.args.walk.at c.args.walk.done c.args.marks.now
-    c.args.work.now.pending.items c.args.work.now.propagated.items c.requires.end _ c.greater-start.result
-    c.greater.result c.visit.new.marks c.visit.new.work.pending.items
-    (g.ahead.later c.args.walk.at node) c.greater-start.ensures c.greater.ensures (g.fits.order c.args.walk.at node)
+    c.args.work.now.pending.items c.args.work.now.propagated.items c.requires.end _ c.max-start.result
+    c.max.result c.visit.new.marks c.visit.new.work.pending.items
+    (g.ahead.later c.args.walk.at node) c.max-start.ensures c.max.ensures (g.fits.order c.args.walk.at node)
     (within.low yes, within.high yes) (c.has_propagated.ensures.0 c.if-not-has_propagated.false) c.requires.passed c.in_ok-visit.ensures.marks c.in_ok-visit.ensures.stays)

@@ -2,6 +2,7 @@ use Rattle.std.proofs.Common.{◌≡◌, ℕ, ◌+◌, Bool, false, Result, refl
 use Rattle.std.specs.Prelude.{FitsSigned, ◌&&◌}
 use Rattle.std.specs.Int.{w32}
 use Rattle.std.proofs.lemmas.Int.{to_z-of_z}
+use Rattle.mm_mem.proofs.Counted.{one}
 use Rattle.mm_word.specs.declared.cause.Cause.{Cause}
 use Rattle.mm_word.specs.Access.{Touch}
 use Rattle.mm_isa.specs.declared.instr.Instr.TheVariants.{Ld}
@@ -17,7 +18,7 @@ use Rattle.mm_thread.specs.Execution.{core_loaded, outcome_loaded}
 use Rattle.mm_thread.specs.declared.outcome.Retired.{Retired}
 use Rattle.mm_mem.specs.Answers.{loaded}
 use Rattle.mm_thread.proofs.Cores.{pending_room}
-use Rattle.mm_thread.proofs.Accesses.{executes_by, load_leaves, free_destination, leaves_all, one_access}
+use Rattle.mm_thread.proofs.Accesses.{executes_by, load_leaves, free_destination, leaves_all}
 use Rattle.mm_thread.proofs.Placing.{apart_in}
 use Rattle.mm_thread.proofs.memory_ops.load.Goals as goal
 
@@ -66,4 +67,4 @@ returns-in-Ok g c =
     c.load-loaded.ensures.after
     (ap (λ (x : Retired). x.outcome) c.touching.ensures ∙ c.receive-outcome.ensures.outcome ∙ ap outcome_loaded answer))
     (ap (λ (x : Retired). x.touched) c.touching.ensures) c.load-loaded.ensures.takes
-    (c.load-loaded.ensures.count ∙ ap (λ (n : ℕ). g.M.Memory.uses a.mem.now + n) (sym (one_access access a.at.pre (cell_at m access.addr))))
+    (c.load-loaded.ensures.count ∙ ap (λ (n : ℕ). g.M.Memory.uses a.mem.now + n) (sym (one access a.at.pre (cell_at m access.addr))))

@@ -2,6 +2,7 @@ use Rattle.std.proofs.Common.{◌≡◌, ℕ, ◌+◌, Result, refl, sym, ap, �
 use Rattle.std.specs.Prelude.{FitsSigned}
 use Rattle.std.specs.Int.{w32}
 use Rattle.std.proofs.lemmas.Int.{to_z-of_z}
+use Rattle.mm_mem.proofs.Counted.{one}
 use Rattle.mm_word.specs.declared.cause.Cause.{Cause}
 use Rattle.mm_word.specs.declared.word.Word.{Word}
 use Rattle.mm_word.specs.Access.{Touch}
@@ -19,7 +20,7 @@ use Rattle.mm_thread.specs.declared.outcome.Retired.{Retired}
 use Rattle.mm_mem.specs.Answers.{stored, put_where}
 use Rattle.mm_word.specs.declared.word.Cell.{Cell}
 use Rattle.mm_model.specs.Memory.{full_after}
-use Rattle.mm_thread.proofs.Accesses.{executes_by, store_leaves, leaves_all, one_access}
+use Rattle.mm_thread.proofs.Accesses.{executes_by, store_leaves, leaves_all}
 use Rattle.mm_thread.proofs.Placing.{apart_in}
 use Rattle.mm_thread.proofs.memory_ops.store.Goals as goal
 
@@ -60,4 +61,4 @@ returns-in-Ok g c =
     (c.store-stored.ensures.after ∙ ap (λ (w : Word). put_where m access.addr a.at.pre (cell_at m access.addr) (λ (x : Cell). record { word = w; full = full_after a.at.post x.full })) word)
     (ap (λ (x : Retired). x.outcome) c.touching.ensures ∙ c.finish_store-outcome.ensures.outcome ∙ ap outcome_stored answer))
     (ap (λ (x : Retired). x.touched) c.touching.ensures) c.store-stored.ensures.takes
-    (c.store-stored.ensures.count ∙ ap (λ (n : ℕ). g.M.Memory.uses a.mem.now + n) (sym (one_access access a.at.pre (cell_at m access.addr))))
+    (c.store-stored.ensures.count ∙ ap (λ (n : ℕ). g.M.Memory.uses a.mem.now + n) (sym (one access a.at.pre (cell_at m access.addr))))

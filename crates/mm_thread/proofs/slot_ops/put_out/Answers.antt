@@ -1,4 +1,4 @@
-use Rattle.std.proofs.Common.{◌≡◌, ◌%◌, ◌≤◌, ℕ, ltb, cond, eqb, true, false, [], ◌∷◌, ◌++◌, length, sym, ap, ◌∙◌, arith, ltb-true}
+use Rattle.std.proofs.Common.{◌≡◌, ◌%◌, ℕ, ltb, [], ◌∷◌, ◌++◌, length, sym, ap, ◌∙◌, arith, ltb-true}
 use Rattle.mm_word.specs.Word.{word_bits}
 use Rattle.mm_model.specs.Slot.{Slot, register}
 use Rattle.mm_model.specs.State.{Core, output_of, put_output}
@@ -6,13 +6,10 @@ use Rattle.mm_model.specs.Image.{output_limit}
 use Rattle.mm_model.specs.Effect.{plain}
 use Rattle.mm_model.specs.Turn.{slot_after}
 use Rattle.mm_thread.specs.Places.{slot_in, with_slot}
-use Rattle.mm_thread.proofs.Cores.{group_small}
+use Rattle.mm_thread.proofs.Cores.{group_small, byte_limit}
 use Rattle.mm_thread.proofs.Around.{room_left, no_room_left, leaves_at}
 use Rattle.mm_thread.proofs.Placing.{apart_in}
 use Rattle.mm_thread.proofs.slot_ops.put_out.Goals as goal
-
-limit_small : (version : ℕ) → output_limit version ≤ 65536
-limit_small version = elim (eqb version 1) as (λ b. cond b 4096 65536 ≤ 65536) [ true ↦ omega arith | false ↦ omega arith ]
 
 pub has_room-requires : goal.has_room-requires
 has_room-requires c =
@@ -33,7 +30,7 @@ unfolding output_of
 put_byte-requires-clause-room c =
     let t = c.args.tables.now in
     let fits = ltb-true _ _ (sym c.has_room.ensures ∙ c.if-has_room.true) in
-    omega (arith, fits, limit_small t.version, ap (λ (k : Core). length (output_of k c.slot.inside.group)) c.advance.ensures)
+    omega (arith, fits, byte_limit t.version, ap (λ (k : Core). length (output_of k c.slot.inside.group)) c.advance.ensures)
 
 pub returns-then-has_room : goal.returns-then-has_room
 unfolding output_of put_output

@@ -1,12 +1,12 @@
 use Rattle.std.proofs.Common.{◌≤◌, List, [], map, replicate, sym, ap, subst, ◌∙◌}
 use Rattle.std.specs.List.{AllByRecursion}
+use Rattle.mm_model.proofs.CoreRows.{numbers_by}
 use Rattle.mm_model.specs.Slot.{Slot}
 use Rattle.mm_model.specs.State.{Core}
 use Rattle.mm_model.specs.Spelling.{numbers_of}
 use Rattle.mm_model.specs.Fits.{slots_of, IsCore}
 use Rattle.mm_thread.specs.Places.{row_alone, numbers_in}
 use Rattle.mm_thread.specs.Parts.{events_for, row_with, outputs_with, core_of, AreParts}
-use Rattle.mm_thread.proofs.Sound.{numbers-same}
 use Rattle.mm_thread.proofs.Assigned.{slots-alone, parts_room, parts_short}
 use Rattle.mm_thread.proofs.Index.{apart_by}
 use Rattle.mm_thread.proofs.Placing.{apart_in}
@@ -16,14 +16,14 @@ pub put_slots-requires-clause-numbers : goal.put_slots-requires-clause-numbers
 put_slots-requires-clause-numbers c =
     let t = c.self.inside.tables in
     let parts : AreParts t c.args.slots.now c.args.events.now c.args.outputs.now = rw (← c.self.view_is) at c.requires in
-    numbers-same c.args.slots.now (slots_of t) parts.same
+    numbers_by c.args.slots.now (slots_of t) parts.same
 
 pub put_events-requires-clause-apart : goal.put_events-requires-clause-apart
 put_events-requires-clause-apart c =
     let t = c.self.inside.tables in
     let parts : AreParts t c.args.slots.now c.args.events.now c.args.outputs.now = rw (← c.self.view_is) at c.requires in
     apart_by t c.put_slots.new.tables (ap numbers_in c.put_slots.ensures ∙ ap numbers_of (slots-alone c.args.slots.now)
-    ∙ numbers-same c.args.slots.now (slots_of t) parts.same) (apart_in t c.self.invariant)
+    ∙ numbers_by c.args.slots.now (slots_of t) parts.same) (apart_in t c.self.invariant)
 
 pub put_events-requires-clause-empty : goal.put_events-requires-clause-empty
 put_events-requires-clause-empty c =
