@@ -47,13 +47,13 @@ use Rattle.mm_model.proofs.CoreSteps.{handler_is, queued_waits}
 use Rattle.mm_model.proofs.SlotSteps.{delivered_from}
 use Rattle.mm_model.proofs.Memories.{cell_at-put_same, cell_at-put_other}
 use Rattle.mm_model.proofs.TurnKeeps.{changed_from}
-use Rattle.mm_model.proofs.TurnChanges.{changed_identity, same_output, fault_same, moved_same}
+use Rattle.mm_model.proofs.TurnChanges.{same_output, fault_same, moved_same}
 use Rattle.mm_model.proofs.TurnShapes.{fetch_uses, fetch_use, FetchAlike, started_by}
 use Rattle.mm_laws.specs.Granted.{TouchGranted}
 use Rattle.mm_laws.proofs.GrantedWords.{slot_granted}
 use Rattle.mm_laws.proofs.GrantedRows.{Stands, CellWritten, PagesGranted, OtherSlot, ChangeGranted, EffectGranted, effect_granted, is_xp}
 use Rattle.mm_laws.proofs.GrantedTurns.{fetch_granted, touch_granted}
-use Rattle.mm_laws.proofs.AlikeRows.{mine, SameSlotAt, same_at, Sames, sames_self, put_slot-sames, mine-put_slot, mine-put_queue}
+use Rattle.mm_laws.proofs.AlikeRows.{other_sames, own_sames, mine-with_out, output_of-put_slot, mine, SameSlotAt, same_at, Sames, sames_self, put_slot-sames, mine-put_slot, mine-put_queue}
 use Rattle.mm_laws.proofs.AlikeWorlds.{state_side, touch_known, touches_all, whole_memory}
 
 -- what is the same of two turns
@@ -285,10 +285,6 @@ module _ (i j : Image) (c : ℕ → Bool) (a b : Core) (ma mb : Memory) (h : Bot
       step = refl;
     }
 
-    put_outputs : (core : Core) (s : Slot) (g : ℕ) → output_of (put_slot core s) g ≡ output_of core g
-    unfolding put_slot output_of
-    put_outputs core s g = refl
-
     same_blocked : (p q : Core) → Sames a p → Sames b q → mine c p ≡ mine c q
         → ((g : ℕ) → c g ≡ true → output_of p g ≡ output_of q g) → (now : Slot) → now.number ≡ x.number
         → now.group ≡ x.group → (f : Touch) (t : Option Touch) (us vs : List Use)
@@ -296,7 +292,7 @@ module _ (i j : Image) (c : ℕ → Bool) (a b : Core) (ma mb : Memory) (h : Bot
     unfolding blocked
     same_blocked p q kp kq e outs now number group f t us vs = record {
       rows = stood_both p q kp kq e now number group Running;
-      outputs = λ g cg. put_outputs p (stood now Running) g ∙ outs g cg ∙ sym (put_outputs q (stood now Running) g);
+      outputs = λ g cg. output_of-put_slot p (stood now Running) g ∙ outs g cg ∙ sym (output_of-put_slot q (stood now Running) g);
       cells = h.cells;
       step = refl;
     }
@@ -304,22 +300,6 @@ module _ (i j : Image) (c : ℕ → Bool) (a b : Core) (ma mb : Memory) (h : Bot
     -- 3. The same change.
 
     module _ (d : Change) (ga : ChangeGranted i All a ma x d) (gb : ChangeGranted j All b mb x d) where
-      other_sames_a : (o : Option Slot) → OtherSlot i All a x.number o → Sames a (with_other a o)
-      other_sames_a None k = sames_a
-      other_sames_a (Some o) k =
-          let number = slot_at-number a o.number k.old k.stands in
-          let group = k.group in
-          let handler = k.handler in
-          put_slot-sames a a sames_a o k.old k.stands cc
-
-      other_sames_b : (o : Option Slot) → OtherSlot j All b x.number o → Sames b (with_other b o)
-      other_sames_b None k = sames_b
-      other_sames_b (Some o) k =
-          let number = slot_at-number b o.number k.old k.stands in
-          let group = k.group in
-          let handler = k.handler in
-          put_slot-sames b b sames_b o k.old k.stands cc
-
       other_both : (o : Option Slot) → OtherSlot i All a x.number o → OtherSlot j All b x.number o → mine c (with_other a o) ≡ mine c (with_other b o)
       other_both None ka kb = h.rows
       other_both (Some o) ka kb = put_both a b sames_a sames_b h.rows o ka.old kb.old ka.stands ka.group kb.stands kb.group
@@ -327,30 +307,21 @@ module _ (i j : Image) (c : ℕ → Bool) (a b : Core) (ma mb : Memory) (h : Bot
       own_both : mine c (put_slot (with_other a d.other) (slot_after x d)) ≡ mine c (put_slot (with_other b d.other) (slot_after x d))
       own_both =
           let from = changed_from x d in
-          put_both (with_other a d.other) (with_other b d.other) (other_sames_a d.other ga.other) (other_sames_b d.other gb.other) (other_both d.other ga.other gb.other) (slot_after x d) x x
+          put_both (with_other a d.other) (with_other b d.other) (other_sames i a h.one.formed.rising x.number d.other ga.other)
+          (other_sames j b h.other.formed.rising x.number d.other gb.other) (other_both d.other ga.other gb.other) (slot_after x d) x x
           (ap (slot_at a) from.number ∙ at_a) (sym from.group) (ap (slot_at b) from.number ∙ at_b) (sym from.group)
-
-      own_sames_a : Sames a (put_slot (with_other a d.other) (slot_after x d))
-      own_sames_a = put_slot-sames a (with_other a d.other) (other_sames_a d.other ga.other) (slot_after x d) x (ap (slot_at a) (changed_from x d).number ∙ at_a) (changed_identity x d)
-
-      own_sames_b : Sames b (put_slot (with_other b d.other) (slot_after x d))
-      own_sames_b = put_slot-sames b (with_other b d.other) (other_sames_b d.other gb.other) (slot_after x d) x (ap (slot_at b) (changed_from x d).number ∙ at_b) (changed_identity x d)
 
       queue_kept : (p q : Core) → Sames a p → Sames b q → mine c p ≡ mine c q → (o : Option (List Event)) → mine c (with_queue p x.number o) ≡ mine c (with_queue q x.number o)
       queue_kept p q kp kq e None = e
       queue_kept p q kp kq e (Some u) = queue_both p q kp kq e x.number u u refl
 
-      byte_rows : (p : Core) (o : Option ℕ) → mine c (with_out p x.group o) ≡ mine c p
-      unfolding put_output
-      byte_rows p None = refl
-      byte_rows p (Some byte) = refl
-
       rows_both : mine c (core_after a x d) ≡ mine c (core_after b x d)
       unfolding core_after
       rows_both =
-          byte_rows (with_queue (put_slot (with_other a d.other) (slot_after x d)) x.number d.queue) d.out
-          ∙ queue_kept (put_slot (with_other a d.other) (slot_after x d)) (put_slot (with_other b d.other) (slot_after x d)) own_sames_a own_sames_b own_both d.queue
-          ∙ sym (byte_rows (with_queue (put_slot (with_other b d.other) (slot_after x d)) x.number d.queue) d.out)
+          mine-with_out c (with_queue (put_slot (with_other a d.other) (slot_after x d)) x.number d.queue) x.group d.out
+          ∙ queue_kept (put_slot (with_other a d.other) (slot_after x d)) (put_slot (with_other b d.other) (slot_after x d))
+          (own_sames i a h.one.formed.rising x at_a d ga.other) (own_sames j b h.other.formed.rising x at_b d gb.other) own_both d.queue
+          ∙ sym (mine-with_out c (with_queue (put_slot (with_other b d.other) (slot_after x d)) x.number d.queue) x.group d.out)
 
       byte_outputs : (p q : Core) → p.outputs ≡ a.outputs → q.outputs ≡ b.outputs → (o : Option ℕ) (g : ℕ) → c g ≡ true → output_of (with_out p x.group o) g ≡ output_of (with_out q x.group o) g
       unfolding output_of put_output
@@ -399,15 +370,9 @@ module _ (i j : Image) (c : ℕ → Bool) (a b : Core) (ma mb : Memory) (h : Bot
     same_ended instr f t us vs (Fault cause) ga gb = same_fault cause (addr_operand instr x) (value_operand instr x) (Some f) t us vs
     same_ended instr f t us vs Block ga gb = same_blocked a b sames_a sames_b h.rows h.outputs x refl refl f t us vs
     same_ended instr f t us vs (Deliver o) ga gb =
-        let number_a = slot_at-number a o.number ga.old ga.stands in
-        let group_a = ga.group in
-        let handler_a = ga.handler in
-        let number_b = slot_at-number b o.number gb.old gb.stands in
-        let group_b = gb.group in
-        let handler_b = gb.handler in
-        same_blocked (put_slot a o) (put_slot b o) (put_slot-sames a a sames_a o ga.old ga.stands (cc)) (put_slot-sames b b sames_b o gb.old gb.stands (cc))
+        same_blocked (put_slot a o) (put_slot b o) (other_sames i a h.one.formed.rising x.number (Some o) ga) (other_sames j b h.other.formed.rising x.number (Some o) gb)
         (put_both a b sames_a sames_b h.rows o ga.old gb.old ga.stands ga.group gb.stands gb.group)
-        (λ g cg. put_outputs a o g ∙ h.outputs g cg ∙ sym (put_outputs b o g)) x refl refl f t us vs
+        (λ g cg. output_of-put_slot a o g ∙ h.outputs g cg ∙ sym (output_of-put_slot b o g)) x refl refl f t us vs
     same_ended instr f t us vs (Does d) ga gb = record { rows = rows_both d ga gb; outputs = outputs_both d ga gb; cells = memory_both d ga gb; step = refl }
 
     same_executed : (f : Touch) (u v : Use) (instr : Instr) → Same (executed a ma x f u instr) (executed b mb x f v instr)
@@ -444,7 +409,7 @@ module _ (i j : Image) (c : ℕ → Bool) (a b : Core) (ma mb : Memory) (h : Bot
         let from = delivered_from x in
         record {
           rows = put_both a b sames_a sames_b h.rows (delivered x) x x (ap (slot_at a) from.number ∙ at_a) (sym from.group) (ap (slot_at b) from.number ∙ at_b) (sym from.group);
-          outputs = λ g cg. put_outputs a (delivered x) g ∙ h.outputs g cg ∙ sym (put_outputs b (delivered x) g);
+          outputs = λ g cg. output_of-put_slot a (delivered x) g ∙ h.outputs g cg ∙ sym (output_of-put_slot b (delivered x) g);
           cells = h.cells;
           step = refl;
         }

@@ -34,12 +34,12 @@ use Rattle.mm_model.specs.Worlds.{Touchable, Apart, is_turn_of}
 use Rattle.mm_model.proofs.CoreRows.{slot_at-number, slot_has, other_at, identities_of, stays_by}
 use Rattle.mm_model.proofs.SlotSteps.{delivered_from}
 use Rattle.mm_model.proofs.TurnKeeps.{changed_from, turn_keeps}
-use Rattle.mm_model.proofs.TurnChanges.{changed_identity, same_output, fault_same, moved_same}
+use Rattle.mm_model.proofs.TurnChanges.{same_output, fault_same, moved_same}
 use Rattle.mm_model.proofs.TurnShapes.{fetch_uses, fetch_use, started_one, turn_by}
 use Rattle.mm_model.specs.Outcomes.{IsPort}
 use Rattle.mm_laws.proofs.GrantedRows.{Stands, OtherGranted, OtherSlot, ChangeGranted, EffectGranted, effect_granted}
 use Rattle.mm_laws.proofs.GrantedTurns.{turn_granted}
-use Rattle.mm_laws.proofs.AlikeRows.{mine, Sames, sames_self, put_slot-sames, beside-put_slot, beside-put_queue}
+use Rattle.mm_laws.proofs.AlikeRows.{other_sames, own_sames, mine-with_out, output_of-put_slot, mine, Sames, sames_self, put_slot-sames, beside-put_slot, beside-put_queue}
 use Rattle.mm_laws.proofs.AlikeWorlds.{state_side}
 
 -- what a turn of a slot leaves as it was for the groups
@@ -100,10 +100,6 @@ module _ (i : Image) (c : ℕ → Bool) (apart : Apart i All c) (core : Core) (m
         let e : Event = event_of s cause v w in
         record { rows = fault_quiet e s.handler refl; outputs = λ g cg. same_output core (core_faulted core s e s.handler) (fault_same core s e s.handler) g; slot = refl }
 
-    put_outputs : (mid : Core) (o : Slot) (g : ℕ) → output_of (put_slot mid o) g ≡ output_of mid g
-    unfolding put_slot output_of
-    put_outputs mid o g = refl
-
     blocked_quiet : (mid : Core) → Sames core mid → mine c mid ≡ mine c core
         → ((g : ℕ) → output_of mid g ≡ output_of core g) → (now : Slot) → now.number ≡ s.number → now.group ≡ s.group
         → (f : Touch) (t : Option Touch) (us : List Use)
@@ -111,7 +107,7 @@ module _ (i : Image) (c : ℕ → Bool) (apart : Apart i All c) (core : Core) (m
     unfolding blocked
     blocked_quiet mid k same outs now number group f t us = record {
       rows = stood_quiet mid k now number group Running ∙ same;
-      outputs = λ g cg. put_outputs mid (stood now Running) g ∙ outs g;
+      outputs = λ g cg. output_of-put_slot mid (stood now Running) g ∙ outs g;
       slot = number;
     }
 
@@ -120,41 +116,26 @@ module _ (i : Image) (c : ℕ → Bool) (apart : Apart i All c) (core : Core) (m
     other_out o g = sym (ap c g.group) ∙ state_side i c apart core st.same o.number s.number g.old s g.stands at g.served ∙ out
 
     module _ (d : Change) (g : ChangeGranted i All core m s d) where
-      other_sames : (o : Option Slot) → OtherSlot i All core s.number o → Sames core (with_other core o)
-      other_sames None k = sames
-      other_sames (Some o) k =
-          let number = slot_at-number core o.number k.old k.stands in
-          let group = k.group in
-          let handler = k.handler in
-          put_slot-sames core core sames o k.old k.stands cc
-
       other_quiet : (o : Option Slot) → OtherSlot i All core s.number o → mine c (with_other core o) ≡ mine c core
       other_quiet None k = refl
       other_quiet (Some o) k = beside-put_slot core core sames c o k.old k.stands k.group (other_out o k)
 
-      own_sames : Sames core (put_slot (with_other core d.other) (slot_after s d))
-      own_sames = put_slot-sames core (with_other core d.other) (other_sames d.other g.other) (slot_after s d) s (ap (slot_at core) (changed_from s d).number ∙ at) (changed_identity s d)
-
       own_quiet : mine c (put_slot (with_other core d.other) (slot_after s d)) ≡ mine c core
       own_quiet =
           let from = changed_from s d in
-          beside-put_slot core (with_other core d.other) (other_sames d.other g.other) c (slot_after s d) s (ap (slot_at core) from.number ∙ at) (sym from.group) (ap c from.group ∙ out)
+          beside-put_slot core (with_other core d.other) (other_sames i core st.formed.rising s.number d.other g.other)
+          c (slot_after s d) s (ap (slot_at core) from.number ∙ at) (sym from.group) (ap c from.group ∙ out)
           ∙ other_quiet d.other g.other
 
       queue_quiet : (mid : Core) → Sames core mid → (o : Option (List Event)) → mine c (with_queue mid s.number o) ≡ mine c mid
       queue_quiet mid k None = refl
       queue_quiet mid k (Some q) = beside-put_queue core mid k c s.number q s at out
 
-      byte_rows : (mid : Core) (o : Option ℕ) → mine c (with_out mid s.group o) ≡ mine c mid
-      unfolding put_output
-      byte_rows mid None = refl
-      byte_rows mid (Some byte) = refl
-
       change_rows : mine c (core_after core s d) ≡ mine c core
       unfolding core_after
       change_rows =
-          byte_rows (with_queue (put_slot (with_other core d.other) (slot_after s d)) s.number d.queue) d.out
-          ∙ queue_quiet (put_slot (with_other core d.other) (slot_after s d)) own_sames d.queue
+          mine-with_out c (with_queue (put_slot (with_other core d.other) (slot_after s d)) s.number d.queue) s.group d.out
+          ∙ queue_quiet (put_slot (with_other core d.other) (slot_after s d)) (own_sames i core st.formed.rising s at d g.other) d.queue
           ∙ own_quiet
 
       byte_outputs : (mid : Core) → mid.outputs ≡ core.outputs → (o : Option ℕ) (k : ℕ) → c k ≡ true → output_of (with_out mid s.group o) k ≡ output_of core k
@@ -174,12 +155,8 @@ module _ (i : Image) (c : ℕ → Bool) (apart : Apart i All c) (core : Core) (m
     ended_quiet instr f t us (Fault cause) g = faulted_quiet cause (addr_operand instr s) (value_operand instr s) (Some f) t us
     ended_quiet instr f t us Block g = blocked_quiet core sames refl (λ k. refl) s refl refl f t us
     ended_quiet instr f t us (Deliver o) g =
-        let number = slot_at-number core o.number g.old g.stands in
-        let group = g.group in
-        let handler = g.handler in
-        blocked_quiet (put_slot core o) (put_slot-sames core core sames o g.old g.stands (cc))
-        (beside-put_slot core core sames c o g.old g.stands g.group (other_out o g)) (put_outputs core o) s refl
-        refl f t us
+        blocked_quiet (put_slot core o) (other_sames i core st.formed.rising s.number (Some o) g) (beside-put_slot core core sames c o g.old g.stands g.group (other_out o g))
+        (output_of-put_slot core o) s refl refl f t us
     ended_quiet instr f t us (Does d) g = record { rows = change_rows d g; outputs = change_outputs d g; slot = refl }
 
     started_quiet : Quiet (started core m s)
@@ -197,7 +174,7 @@ module _ (i : Image) (c : ℕ → Bool) (apart : Apart i All c) (core : Core) (m
         let from = delivered_from s in
         record {
           rows = beside-put_slot core core sames c (delivered s) s (ap (slot_at core) from.number ∙ at) (sym from.group) (ap c from.group ∙ out);
-          outputs = λ g cg. put_outputs core (delivered s) g;
+          outputs = λ g cg. output_of-put_slot core (delivered s) g;
           slot = refl;
         }
 
