@@ -11,7 +11,6 @@ pub mod Inserted
 pub mod Loads
 pub mod Made
 pub mod Order
-pub mod OutputBytes
 pub mod Owns
 pub mod Reached
 pub mod RobinOn

@@ -11,7 +11,8 @@ use Rattle.mm_checkpoint.specs.{States.{outputs_of, saved_form}, Laws.{RunsHaveS
 use Rattle.mm_checkpoint.proofs.{Reached.{reached, snapshots}, Forms.{groups_made, said_made}}
 use Rattle.mm_checkpoint.proofs.Made.{made_outputs, made_parts, made_saved}
 use Rattle.mm_checkpoint.proofs.{Groups.{groups_rise, groups_used, groups_low, groups_shown}, CheckpointBytes.whole}
-use Rattle.mm_checkpoint.proofs.{Counts.{each_of, all_of}, OutputBytes.{AreBytes, group_bytes, run_bytes}}
+use Rattle.mm_model.proofs.OutputBytes.{AreBytes, group_bytes, run_bytes}
+use Rattle.mm_checkpoint.proofs.Counts.{each_of, all_of}
 
 -- 1. The parts.
 

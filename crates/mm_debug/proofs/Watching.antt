@@ -36,6 +36,9 @@ use Rattle.mm_debug.specs.Breakpoints.{has_watch}
 use Rattle.mm_debug.specs.Session.{is_done, watched_by, watched}
 use Rattle.mm_debug.specs.Laws.{SetsBitAt, WatchesSeeSignals}
 use Rattle.mm_model.specs.Counted.{writes}
+use Rattle.mm_model.proofs.TurnShapes.{Fetches, fetch_uses, fetch_use, started_one, turn_by}
+use Rattle.mm_word.proofs.Checked.{kind_by}
+use Rattle.std.specs.Prelude.{IfSome}
 
 -- 1. Uses that are a Store or a LoadSet which was done.
 
@@ -87,29 +90,19 @@ signal_at word (u ∷ us) kind on (suc k) lt is = inr (signal_at word us kind on
 
 -- 2. A fetch is no signal.
 
-touched_kind : (p : Pointer) (z : ℤ) (kind : Kind) (t : Touch) → touch_at p z kind ≡ Ok t → t.kind ≡ kind
-touched_kind p (pos a) kind t e = whole (holds_word p a) e
-  where
-    align : (b : Bool) → ◌≡◌ {A = Result Touch Cause} (if b then Ok (record { ptr = p; addr = a; kind = kind }) else Err cause.Align) (Ok t) → t.kind ≡ kind
-    align true e = let same : record { ptr = p; addr = a; kind = kind } ≡ t = cc in ap (λ (x : Touch). x.kind) (sym same)
-    align false e = cc
-
-    whole : (b : Bool) → (if b then (if a % 8 == 0 then Ok (record { ptr = p; addr = a; kind = kind }) else Err cause.Align) else Err cause.Bounds) ≡ Ok t → t.kind ≡ kind
-    whole true e = align (a % 8 == 0) e
-    whole false e = cc
-touched_kind p (negsuc a) kind t e = cc
-
 fetched_kind : (p : Pointer) (f : Touch) → check_result (Ptr p) (pos 0) Fetch ≡ Ok f → f.kind ≡ Fetch
-fetched_kind p f e = by (allows p.perm Fetch) e
-  where
-    by : (b : Bool) → (if b then touch_at p (pos p.addr +ℤ pos 0) Fetch else Err cause.Perm) ≡ Ok f → f.kind ≡ Fetch
-    by true e = touched_kind p (pos p.addr +ℤ pos 0) Fetch f e
-    by false e = cc
+fetched_kind p f e = kind_by (Ptr p) (pos 0) Fetch (Ok f) (sym e)
 
 no_fetch : (f : Touch) → f.kind ≡ Fetch → (word : ℕ) → ¬ (signal_of (Accessed f.kind f.addr true true) ≡ Some word)
 no_fetch f is word e =
     let none : None ≡ Some word = sym (ap (λ (kind : Kind). if writes kind then Some f.addr else None) is) ∙ e in
     cc
+
+fetch_quiet : (s : Slot) (f : Option Touch) (done : Bool) → IfSome f (Fetches s) → (word : ℕ) → ¬ (HasSignal word (fetch_uses f done))
+fetch_quiet s None done aim word h = h
+fetch_quiet s (Some f) true aim word (inl e) = no_fetch f (fetched_kind s.ip f aim) word e
+fetch_quiet s (Some f) false aim word (inl e) = cc
+fetch_quiet s (Some f) done aim word (inr never) = never
 
 -- 3. Turns.
 
@@ -252,59 +245,17 @@ module _ (watches : List ℕ) where
         no_cell (Unmap rd ra) (page_untouched (is_privileged s.ip.perm) _ (UnmapPage (word_bits (register s ra))) refl)
     executed_sees i = no_cell i refl
 
-    issued_sees : (i : Instr) → Sees (issued core m s f u i)
-    unfolding issued
-    issued_sees i = by (core.split && lacks i s)
-      where
-        by : (b : Bool) → Sees (if b then blocked core m (delivered s) f None (u ∷ []) else executed core m s f u i)
-        by true = blocked_sees core m (delivered s) f None (u ∷ []) quiet_alone
-        by false = executed_sees i
-
-    decoded_sees : (o : Option Instr) → Sees (decoded core m s f u o)
-    decoded_sees None = faulted_sees core m s cause.Illegal (Int 0) (Int 0) (Some f) None (u ∷ []) quiet_alone
-    decoded_sees (Some i) = issued_sees i
-
-  module _ (core : Core) (m : Memory) where
-    fetched_sees : (s : Slot) (f : Touch) → f.kind ≡ Fetch → (o : Option Cell) → Sees (fetched core m s f o)
-    fetched_sees s f is None =
-        faulted_sees core m s cause.NoPage (Int 0) (Int 0) (Some f) None (Accessed f.kind f.addr false false ∷ []) (λ word h. elim h [ inl e ↦ absurd cc | inr never ↦ never ])
-    fetched_sees s f is (Some c) = decoded_sees core m s f (Accessed f.kind f.addr true true) (no_fetch f is) (instr_in c.word)
-
-    aimed_sees : (s : Slot) (r : Result Touch Cause) → check_result (Ptr s.ip) (pos 0) Fetch ≡ r → Sees (aimed core m s r)
-    aimed_sees s (Err c) is = faulted_sees core m s c (Int 0) (Int 0) None None [] (λ word h. h)
-    aimed_sees s (Ok f) is = fetched_sees s f (fetched_kind s.ip f is) (cell_at m f.addr)
-
-    started_sees : (s : Slot) → Sees (started core m s)
-    unfolding started
-    started_sees s = by s.past
-      where
-        by : (b : Bool) → Sees (if b then faulted core m s cause.Bounds (Int 0) (Int 0) None None [] else aimed core m s (check_result (Ptr s.ip) (pos 0) Fetch))
-        by true = faulted_sees core m s cause.Bounds (Int 0) (Int 0) None None [] (λ word h. h)
-        by false = aimed_sees s (check_result (Ptr s.ip) (pos 0) Fetch) refl
-
-    idle_sees : (n : ℕ) → Sees (idle core m n)
-    unfolding idle
-    idle_sees n = undone (idle core m n) refl (λ word h. h)
-
-    arrives_sees : (s : Slot) (ps : List Pending) → Sees (arrives core m s ps)
-    arrives_sees s [] = idle_sees s.number
-    arrives_sees s (p ∷ rest) = undone (arrives core m s (p ∷ rest)) refl (λ word h. h)
-
-    port_sees : (n : ℕ) (o : Option Slot) → Sees (taken_by_port core m n o)
-    port_sees n None = idle_sees n
-    port_sees n (Some s) = arrives_sees s s.pending
-
-    taken_sees : (n : ℕ) (o : Option Slot) → Sees (taken_by core m n o)
-    taken_sees n None = port_sees n (port_of core n)
-    taken_sees n (Some s) = by (is_running s.state)
-      where
-        by : (b : Bool) → Sees (if b then started core m s else idle core m n)
-        by true = started_sees s
-        by false = idle_sees n
-
-    turn_sees : (n : ℕ) → Sees (turn core m n)
-    unfolding turn
-    turn_sees n = taken_sees n (slot_at core n)
+  turn_sees : (core : Core) (m : Memory) (n : ℕ) → Sees (turn core m n)
+  unfolding idle
+  turn_sees core m n = turn_by core m n Sees (record {
+    idles = λ k none. undone (idle core m k) refl (λ word h. h);
+    arrives_at = λ s p rest free port is. undone (arrives core m s (p ∷ rest)) refl (λ word h. h);
+    starts = λ s r own. started_one core m s Sees (record {
+      faults = λ c f done aim. faulted_sees core m s c (Int 0) (Int 0) f None (fetch_uses f done) (fetch_quiet s f done aim);
+      lacks_register = λ f i aim is lacking. blocked_sees core m (delivered s) f None (fetch_use f ∷ []) (fetch_quiet s (Some f) true aim);
+      carries_out = λ f i aim is has. executed_sees core m s f (fetch_use f) (no_fetch f (fetched_kind s.ip f aim)) i;
+    });
+  })
 
 pub watches_see : WatchesSeeSignals
 watches_see s item word =

@@ -19,8 +19,7 @@ use Rattle.mm_explore.specs.Assembled.{assembled, IsStateOf}
 use Rattle.mm_explore.specs.Laws.{KeptFormsAreConfigurations}
 use Rattle.mm_explore.proofs.Uncounted.{queue_at_so}
 use Rattle.mm_model.specs.Turn.{turn}
-use Rattle.mm_explore.proofs.PartForms.{AreBytes}
-use Rattle.mm_explore.proofs.Tame.{OutputMoves, turns_are_tame}
+use Rattle.mm_model.proofs.OutputBytes.{after_bytes, start_bytes}
 use Rattle.mm_explore.proofs.Keepables.{kept_tells}
 use Rattle.mm_explore.proofs.Assembling.{assembles}
 
@@ -55,42 +54,7 @@ kept_alike i s t e = ap (numbers_of i) (sym (parts_bare i s) ∙ ap (parts_of i)
 pub kept_apart : (i : Image) (s t : State) → IsImage i → IsStateOf i s → IsStateOf i t → kept i s ≡ kept i t → configuration s ≡ configuration t
 kept_apart i s t img h k e = sym (assembles i s img h) ∙ ap (assembled i) (kept_tells i s t img h k e) ∙ assembles i t img k
 
--- 2. Outputs of runs are bytes.
-
-put_bytes : (outputs : List (List ℕ)) (g : ℕ) (bytes : List ℕ) → AllByRecursion AreBytes outputs → AreBytes bytes → AllByRecursion AreBytes (slice_set outputs g bytes)
-put_bytes [] g bytes h k = tt
-put_bytes (o ∷ outputs) zero bytes h k = (k, h.1)
-put_bytes (o ∷ outputs) (suc g) bytes h k = (h.0, put_bytes outputs g bytes h.1 k)
-
-more_bytes : (bytes : List ℕ) (byte : ℕ) → AreBytes bytes → byte < 256 → AreBytes (bytes ++ byte ∷ [])
-more_bytes [] byte h lt = (lt, tt)
-more_bytes (b ∷ bytes) byte h lt = (h.0, more_bytes bytes byte h.1 lt)
-
-bytes_of : (outputs : List (List ℕ)) (g : ℕ) → AllByRecursion AreBytes outputs → AreBytes (slice_index_or outputs g [])
-bytes_of [] g h = tt
-bytes_of (o ∷ outputs) zero h = h.0
-bytes_of (o ∷ outputs) (suc g) h = bytes_of outputs g h.1
-
-moved_bytes : (was now : List (List ℕ)) → OutputMoves was now → AllByRecursion AreBytes was → AllByRecursion AreBytes now
-moved_bytes was now (OutputMoves.Same e) h = subst (AllByRecursion AreBytes) (sym e) h
-moved_bytes was now (OutputMoves.Puts p) h =
-    subst (AllByRecursion AreBytes) (sym p.outputs)
-    (put_bytes was p.group (slice_index_or was p.group [] ++ p.byte ∷ []) h
-    (more_bytes (slice_index_or was p.group []) p.byte (bytes_of was p.group h) p.small))
-
-after_bytes : (s : State) (n : ℕ) → AllByRecursion AreBytes s.core.outputs → AllByRecursion AreBytes (after s n).core.outputs
-unfolding after
-after_bytes s n h = moved_bytes s.core.outputs (turn s.core s.memory n).core.outputs (turns_are_tame s.core s.memory n).outputs h
-
-none_bytes : (n : ℕ) → AllByRecursion AreBytes (replicate n [])
-none_bytes zero = tt
-none_bytes (suc n) = (tt, none_bytes n)
-
-start_bytes : (i : Image) → AllByRecursion AreBytes (start i).core.outputs
-unfolding start
-start_bytes i = none_bytes 64
-
--- 3. States of runs.
+-- 2. States of runs.
 
 pub after_state_of : (i : Image) (s : State) (n : ℕ) → IsImage i → IsStateOf i s → IsStateOf i (after s n)
 after_state_of i s n img h = record { state = after_state s n h.state; fits = after_fits i s n img h.state h.fits; kept = after_kept i s n img h.state h.fits h.kept; bytes = after_bytes s n h.bytes }

@@ -18,7 +18,6 @@ pub mod Assembling
 pub mod KeptRuns
 pub mod Spells
 pub mod Taking
-pub mod Tame
 pub mod Putting
 pub mod Whole
 pub mod MemoryPut

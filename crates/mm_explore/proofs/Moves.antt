@@ -28,8 +28,8 @@ use Rattle.mm_explore.specs.Findings.{turn_at}
 use Rattle.mm_explore.specs.Holds.{word_written, IsBeside, IsMoved}
 use Rattle.mm_explore.proofs.Coverings.{leads_more}
 use Rattle.mm_explore.proofs.Goings.{configurations_go_on}
-use Rattle.mm_explore.proofs.Tame.{MemoryMoves, turns_are_tame}
-use Rattle.mm_explore.proofs.Tame.MemoryMoves.{Stays, Writes, Maps, Removes}
+use Rattle.mm_model.proofs.TurnChanges.{MemoryMoves, turn_changes}
+use Rattle.mm_model.proofs.TurnChanges.MemoryMoves.{Stays, Writes, Maps, Removes}
 use Rattle.mm_model.specs.Counted.{writes}
 
 abbrev Pages : Type 0
@@ -133,7 +133,7 @@ moved_by core m later item step word h em es ew place =
     let is : word ≡ word_written (turn core m item).step.touched = ew ∙ ap (λ (x : Step). word_written x.touched) es in
     let at = aligned_if (word_written (turn core m item).step.touched) (subst (λ o. IfSome o (λ w. (w % 8 ≡ 0) × (w < 2 ^ 54))) is place) in
     subst (λ (k : Memory). IsMoved m k word) (sym em)
-    (subst (λ o. IsMoved m (turn core m item).memory o) (sym is) (moved m (turn core m item).memory (turn core m item).step.touched h at (turns_are_tame core m item).memory))
+    (subst (λ o. IsMoved m (turn core m item).memory o) (sym is) (moved m (turn core m item).memory (turn core m item).step.touched h at (turn_changes core m item).memory))
 
 -- 3. A machine that stands at a configuration.
 

@@ -1,8 +1,7 @@
 -- A turn reads no count of turns, so it is the same in a core without these counts, but for them.
-use Rattle.std.proofs.Common.{◌≡◌, ℕ, ◌+◌, ◌-◌, Bool, true, false, ◌&&◌, ◌||◌, ◌==◌, nat_le, if◌then◌else◌, pos, ℤ}
+use Rattle.std.proofs.Common.{◌≡◌, ℕ, ◌+◌, ◌-◌, Bool, true, false, ◌&&◌, ◌||◌, ◌==◌, nat_le, if◌then◌else◌, ℤ}
 use Rattle.std.proofs.Common.{slice_set, List, [], ◌∷◌, ◌++◌, map, Option, Some, None, Result, Ok, Err, refl, sym, ap}
 use Rattle.std.proofs.Common.{◌∙◌}
-use Rattle.mm_word.specs.declared.perm.Kind.TheVariants.{Fetch}
 use Rattle.mm_word.specs.declared.cause.Cause.{Cause}
 use Rattle.mm_word.specs.declared.cause.Cause.TheVariants as cause
 use Rattle.mm_word.specs.declared.word.Pre.{Pre}
@@ -10,16 +9,16 @@ use Rattle.mm_word.specs.declared.word.Post.{Post}
 use Rattle.mm_word.specs.declared.word.Word.{Word}
 use Rattle.mm_word.specs.declared.word.Word.TheVariants.{Int, Ptr}
 use Rattle.mm_word.specs.declared.word.Cell.{Cell}
-use Rattle.mm_word.specs.Access.{Touch, check_result}
+use Rattle.mm_word.specs.Access.{Touch}
 use Rattle.mm_word.specs.Word.{word_bits}
 use Rattle.mm_word.specs.Pointer.{Pointer, lea_result, leab_result, restrict_result, subseg_result, setptr_result, next_result, enter_result}
 use Rattle.mm_isa.specs.declared.instr.DivZero.{DivZero}
 use Rattle.mm_isa.specs.declared.instr.How.{How}
 use Rattle.mm_isa.specs.declared.instr.How.TheVariants.{Retry, Skip, Kill}
 use Rattle.mm_isa.specs.declared.instr.Instr.{Instr}
-use Rattle.mm_isa.specs.declared.instr.Instr.TheVariants.{Halt, Nop, Ldi, Ldhi, Mov, Isptr, Eqw, Out, SelfSlot, Alu}
-use Rattle.mm_isa.specs.declared.instr.Instr.TheVariants.{Addi, Lea, Leai, Leab, Restrict, Subseg, Setptr, Ld, St, Br}
-use Rattle.mm_isa.specs.declared.instr.Instr.TheVariants.{Bz, Bnz, Jmp, Jal, Lip, Trap, Evt, Resume, Rreg, Wreg, Map}
+use Rattle.mm_isa.specs.declared.instr.Instr.TheVariants.{Out, Alu}
+use Rattle.mm_isa.specs.declared.instr.Instr.TheVariants.{Lea, Leai, Leab, Restrict, Subseg, Setptr, Ld, St, Br}
+use Rattle.mm_isa.specs.declared.instr.Instr.TheVariants.{Bz, Bnz, Jmp, Jal, Lip, Evt, Resume, Rreg, Wreg, Map}
 use Rattle.mm_isa.specs.declared.instr.Instr.TheVariants.{Unmap}
 use Rattle.mm_isa.specs.Alu.{alu_result}
 use Rattle.std.specs.Int.{w64, cast_signed}
@@ -27,7 +26,7 @@ use Rattle.mm_model.specs.declared.slot.SlotState.TheVariants.{Running, Waiting,
 use Rattle.mm_model.specs.declared.slot.Pending.{Pending}
 use Rattle.mm_model.specs.declared.event.Event.{Event}
 use Rattle.mm_model.specs.Memory.{Memory, cell_at, passes}
-use Rattle.mm_model.specs.Uses.{Use, Accessed}
+use Rattle.mm_model.specs.Uses.{Use}
 use Rattle.mm_model.specs.Slot.{Slot, register, is_empty}
 use Rattle.mm_model.specs.State.{ThreadRow, Core, row_in, slot_of, queue_of, slot_at, queue_at, at_number, put_slot, put_queue, output_of, put_output}
 use Rattle.mm_model.specs.Operands.{addr_operand, value_operand, field_a, field_b, field_imm, fields_d, word_a, word_b, field_empty, lacks}
@@ -39,11 +38,13 @@ use Rattle.mm_model.specs.Effect.{if_pointer, puts_out, loaded, stored, at_dista
 use Rattle.mm_model.specs.Effect.{resumed_by, resumes, reads_of, writes_of, maps, unmaps, plain}
 use Rattle.mm_model.specs.Effect.Reply.{Fine, Refused, Got, Paged, NoEvent, Took, Served}
 use Rattle.mm_model.specs.Effect.Effect.{Fault, Block, Deliver, Does}
-use Rattle.mm_model.specs.Turn.{Turned, reached, event_reply, first_event, is_running, is_handler, is_taken, served}
+use Rattle.mm_model.specs.Turn.{Turned, reached, event_reply, first_event, is_handler, is_taken, served}
 use Rattle.mm_model.specs.Turn.{reply, put_all, state_after, slot_after, with_issue, with_other, with_queue, with_out}
 use Rattle.mm_model.specs.Turn.{core_after, memory_after, stood, is_sync, event_of, core_faulted, faulted, touch_of}
-use Rattle.mm_model.specs.Turn.{asked_use, blocked, ended, executed, issued, decoded, instr_in, fetched, aimed, started}
-use Rattle.mm_model.specs.Turn.{idle, arrives, port_of, taken_by_port, taken_by, turn}
+use Rattle.mm_model.specs.Turn.{asked_use, blocked, ended, executed, started}
+use Rattle.mm_model.specs.Turn.{idle, arrives, port_of, turn}
+use Rattle.mm_model.proofs.TurnShapes.{fetch_uses, fetch_use, started_by, turn_both}
+use Rattle.std.specs.Prelude.{option_map}
 use Rattle.mm_explore.specs.Configurations.{uncounted_slot, uncounted_row, uncounted}
 
 -- 1. Cores without counts of turns.
@@ -94,8 +95,7 @@ uncounted_found None = None
 uncounted_found (Some row) = Some (uncounted_row row)
 
 abbrev pub uncounted_one : Option Slot → Option Slot
-uncounted_one None = None
-uncounted_one (Some s) = Some (uncounted_slot s)
+uncounted_one o = option_map uncounted_slot o
 
 row_in_so : (rows : List ThreadRow) (n : ℕ) → row_in (map uncounted_row rows) n ≡ uncounted_found (row_in rows n)
 row_in_so [] n = refl
@@ -243,12 +243,7 @@ module _ (s : Slot) where
   out_so : (byte : ℕ) (r : Reply) → SameEffect (puts_out s byte r) (puts_out u byte (uncounted_reply r))
   unfolding plain
   out_so byte Fine = refl
-  out_so byte (Refused c) = refl
-  out_so byte (Got a c) = refl
-  out_so byte (Paged page done) = refl
-  out_so byte NoEvent = refl
-  out_so byte (Took e rest of) = refl
-  out_so byte (Served of) = refl
+  out_so byte _ = refl
 
   loaded_by : (split : Bool) (rd : ℕ) (post : Post) (a : Touch) (c : Cell) → SameEffect (loaded split s rd post (Got a c)) (loaded split u rd post (Got a c))
   unfolding plain
@@ -257,22 +252,12 @@ module _ (s : Slot) where
 
   loaded_so : (split : Bool) (rd : ℕ) (post : Post) (r : Reply) → SameEffect (loaded split s rd post r) (loaded split u rd post (uncounted_reply r))
   loaded_so split rd post (Got a c) = loaded_by split rd post a c
-  loaded_so split rd post Fine = refl
-  loaded_so split rd post (Refused c) = refl
-  loaded_so split rd post (Paged page done) = refl
-  loaded_so split rd post NoEvent = refl
-  loaded_so split rd post (Took e rest of) = refl
-  loaded_so split rd post (Served of) = refl
+  loaded_so split rd post _ = refl
 
   stored_so : (w : Word) (post : Post) (r : Reply) → SameEffect (stored s w post r) (stored u w post (uncounted_reply r))
   unfolding plain
   stored_so w post (Got a c) = refl
-  stored_so w post Fine = refl
-  stored_so w post (Refused c) = refl
-  stored_so w post (Paged page done) = refl
-  stored_so w post NoEvent = refl
-  stored_so w post (Took e rest of) = refl
-  stored_so w post (Served of) = refl
+  stored_so w post _ = refl
 
   branches_so : (r : Result Pointer Cause) → SameEffect (branches s r) (branches u r)
   unfolding plain
@@ -293,34 +278,19 @@ module _ (s : Slot) where
   takes_so : (rd : ℕ) (r : Reply) → SameEffect (takes s rd r) (takes u rd (uncounted_reply r))
   unfolding plain
   takes_so rd (Took e rest of) = refl
-  takes_so rd Fine = refl
-  takes_so rd (Refused c) = refl
-  takes_so rd (Got a c) = refl
-  takes_so rd (Paged page done) = refl
-  takes_so rd NoEvent = refl
-  takes_so rd (Served of) = refl
+  takes_so rd _ = refl
 
   resumes_so : (how : How) (r : Reply) → SameEffect (resumes s how r) (resumes u how (uncounted_reply r))
   unfolding plain
   resumes_so how (Served of) = ap (λ (o : Slot). Does (record (plain s) { other = Some o })) (resumed_so how of)
-  resumes_so how Fine = refl
-  resumes_so how (Refused c) = refl
-  resumes_so how (Got a c) = refl
-  resumes_so how (Paged page done) = refl
-  resumes_so how NoEvent = refl
-  resumes_so how (Took e rest of) = refl
+  resumes_so how _ = refl
 
   reads_so : (split : Bool) (rd reg : ℕ) (r : Reply) → SameEffect (reads_of split s rd reg r) (reads_of split u rd reg (uncounted_reply r))
   unfolding plain is_empty register
   reads_so split rd reg (Served of) =
       either (split && is_empty of reg) (Deliver (delivered of)) (Deliver (delivered (uncounted_slot of))) (sets s rd (register of reg)) (sets u rd (register of reg))
       (ap Deliver (delivered_so of)) refl
-  reads_so split rd reg Fine = refl
-  reads_so split rd reg (Refused c) = refl
-  reads_so split rd reg (Got a c) = refl
-  reads_so split rd reg (Paged page done) = refl
-  reads_so split rd reg NoEvent = refl
-  reads_so split rd reg (Took e rest of) = refl
+  reads_so split rd reg _ = refl
 
   abbrev writes_other : Slot → Slot → ℕ → Word → Effect
   writes_other s of reg w = Does (record (plain s) { other = Some (record of { regs = slice_set of.regs reg w }) })
@@ -330,48 +300,24 @@ module _ (s : Slot) where
   writes_so split reg w (Served of) =
       either (split && is_empty of reg) (Deliver (delivered of)) (Deliver (delivered (uncounted_slot of))) (writes_other s of reg w) (writes_other u (uncounted_slot of) reg w)
       (ap Deliver (delivered_so of)) refl
-  writes_so split reg w Fine = refl
-  writes_so split reg w (Refused c) = refl
-  writes_so split reg w (Got a c) = refl
-  writes_so split reg w (Paged page done) = refl
-  writes_so split reg w NoEvent = refl
-  writes_so split reg w (Took e rest of) = refl
+  writes_so split reg w _ = refl
 
   maps_so : (rd : ℕ) (r : Reply) → SameEffect (maps s rd r) (maps u rd (uncounted_reply r))
   unfolding plain
   maps_so rd (Paged page true) = refl
   maps_so rd (Paged page false) = refl
-  maps_so rd Fine = refl
-  maps_so rd (Refused c) = refl
-  maps_so rd (Got a c) = refl
-  maps_so rd NoEvent = refl
-  maps_so rd (Took e rest of) = refl
-  maps_so rd (Served of) = refl
+  maps_so rd _ = refl
 
   unmaps_so : (rd : ℕ) (r : Reply) → SameEffect (unmaps s rd r) (unmaps u rd (uncounted_reply r))
   unfolding plain
   unmaps_so rd (Paged page true) = refl
   unmaps_so rd (Paged page false) = refl
-  unmaps_so rd Fine = refl
-  unmaps_so rd (Refused c) = refl
-  unmaps_so rd (Got a c) = refl
-  unmaps_so rd NoEvent = refl
-  unmaps_so rd (Took e rest of) = refl
-  unmaps_so rd (Served of) = refl
+  unmaps_so rd _ = refl
 
   effect_so : (split : Bool) (i : Instr) (r : Reply) → SameEffect (effect split i s r) (effect split i u (uncounted_reply r))
   unfolding effect plain register
-  effect_so split Halt r = refl
-  effect_so split Nop r = refl
-  effect_so split (Ldi rd imm) r = refl
-  effect_so split (Ldhi rd imm) r = refl
-  effect_so split (Mov rd ra) r = refl
-  effect_so split (Isptr rd ra) r = refl
-  effect_so split (Eqw rd ra rb) r = refl
   effect_so split (Out ra) r = out_so _ r
-  effect_so split (SelfSlot rd) r = refl
   effect_so split (Alu op rd ra rb) r = number_so rd (alu_result op (word_bits (register s ra)) (word_bits (register s rb)))
-  effect_so split (Addi rd ra imm) r = refl
   effect_so split (Lea rd ra rb) r = if_pointer_so (register s ra) _ _ (λ p. pointer_so rd (lea_result p (cast_signed w64 (word_bits (register s rb)))))
   effect_so split (Leai rd ra imm) r = if_pointer_so (register s ra) _ _ (λ p. pointer_so rd (lea_result p imm))
   effect_so split (Leab rd ra rb) r = if_pointer_so (register s ra) _ _ (λ p. pointer_so rd (leab_result p (cast_signed w64 (word_bits (register s rb)))))
@@ -391,27 +337,19 @@ module _ (s : Slot) where
   effect_so split (Jmp ra) r = if_pointer_so (register s ra) _ _ (λ p. jumps_so p (enter_result p))
   effect_so split (Jal rd ra) r = if_pointer_so (register s ra) _ _ (λ p. links_so rd p (enter_result p) (next_result s.ip))
   effect_so split (Lip rd imm) r = pointer_so rd (at_distance s imm)
-  effect_so split (Trap imm) r = refl
   effect_so split (Evt rd) r = takes_so rd r
   effect_so split (Resume ra how) r = resumes_so how r
   effect_so split (Rreg rd ra reg) r = reads_so split rd reg r
   effect_so split (Wreg ra rb reg) r = writes_so split reg (register s rb) r
   effect_so split (Map rd ra) r = maps_so rd r
   effect_so split (Unmap rd ra) r = unmaps_so rd r
+  effect_so split _ r = refl
 
   -- 4. What an instruction asks and names.
 
   ask_so : (i : Instr) → ask i u ≡ ask i s
   unfolding ask register
   ask_so (Out ra) = refl
-  ask_so (Ld rd ra pre post imm) = refl
-  ask_so (St ra rb pre post imm) = refl
-  ask_so (Evt rd) = refl
-  ask_so (Resume ra how) = refl
-  ask_so (Rreg rd ra reg) = refl
-  ask_so (Wreg ra rb reg) = refl
-  ask_so (Map rd ra) = refl
-  ask_so (Unmap rd ra) = refl
   ask_so _ = refl
 
   word_a_so : (o : Option ℕ) → word_a u o ≡ word_a s o
@@ -576,38 +514,12 @@ module _ (core : Core) (m : Memory) where
       ∙ ap (λ k. uncounted_turn (blocked k m (uncounted_slot (delivered (uncounted_slot s))) f None us)) (sym (uncounted_again core))
       ∙ sym (block_so c'' m (delivered (uncounted_slot s)) f None us)
 
-  issue_so : (s : Slot) (f : Touch) (w : Use) (i : Instr) → SameTurn (issued core m s f w i) (issued c'' m (uncounted_slot s) f w i)
-  unfolding issued
-  issue_so s f w i =
-      let s' = uncounted_slot s in
-      by (core.split && lacks i s)
-      ∙ ap (λ b. uncounted_turn (if core.split && b then blocked c'' m (delivered s') f None (w ∷ []) else executed c'' m s' f w i)) (sym (lacks_so s i))
-    where
-      by : (b : Bool) → SameTurn (if b then blocked core m (delivered s) f None (w ∷ []) else executed core m s f w i)
-          (if b then blocked c'' m (delivered (uncounted_slot s)) f None (w ∷ []) else executed c'' m (uncounted_slot s) f w i)
-      by true = waits_so s f (w ∷ [])
-      by false = execute_so s f w i
-
-  decode_so : (s : Slot) (f : Touch) (w : Use) (o : Option Instr) → SameTurn (decoded core m s f w o) (decoded c'' m (uncounted_slot s) f w o)
-  decode_so s f w None = fault_so core m s cause.Illegal (Int 0) (Int 0) (Some f) None (w ∷ [])
-  decode_so s f w (Some i) = issue_so s f w i
-
-  fetch_so : (s : Slot) (f : Touch) (o : Option Cell) → SameTurn (fetched core m s f o) (fetched c'' m (uncounted_slot s) f o)
-  fetch_so s f None = fault_so core m s cause.NoPage (Int 0) (Int 0) (Some f) None (Accessed f.kind f.addr false false ∷ [])
-  fetch_so s f (Some c) = decode_so s f (Accessed f.kind f.addr true true) (instr_in c.word)
-
-  aim_so : (s : Slot) (r : Result Touch Cause) → SameTurn (aimed core m s r) (aimed c'' m (uncounted_slot s) r)
-  aim_so s (Err c) = fault_so core m s c (Int 0) (Int 0) None None []
-  aim_so s (Ok f) = fetch_so s f (cell_at m f.addr)
-
   start_so : (s : Slot) → SameTurn (started core m s) (started c'' m (uncounted_slot s))
-  unfolding started
-  start_so s = by s.past
-    where
-      by : (b : Bool) → SameTurn (if b then faulted core m s cause.Bounds (Int 0) (Int 0) None None [] else aimed core m s (check_result (Ptr s.ip) (pos 0) Fetch))
-          (if b then faulted c'' m (uncounted_slot s) cause.Bounds (Int 0) (Int 0) None None [] else aimed c'' m (uncounted_slot s) (check_result (Ptr s.ip) (pos 0) Fetch))
-      by true = fault_so core m s cause.Bounds (Int 0) (Int 0) None None []
-      by false = aim_so s (check_result (Ptr s.ip) (pos 0) Fetch)
+  start_so s = started_by core c'' m m s (uncounted_slot s) (record { past = refl; ip = refl; cells = λ f aim. refl; lacking = λ i. ap (λ b. core.split && b) (sym (lacks_so s i)) }) SameTurn (record {
+    faults = λ c f done aim. fault_so core m s c (Int 0) (Int 0) f None (fetch_uses f done);
+    lacks_register = λ f i aim is lacking. waits_so s f (fetch_use f ∷ []);
+    carries_out = λ f i aim is has. execute_so s f (fetch_use f) i;
+  })
 
   idle_so : (n : ℕ) → SameTurn (idle core m n) (idle c'' m n)
   unfolding idle
@@ -616,14 +528,6 @@ module _ (core : Core) (m : Memory) where
   delivery_so : (s : Slot) → uncounted (put_slot core (delivered s)) ≡ uncounted (put_slot c'' (delivered (uncounted_slot s)))
   delivery_so s = put_same core c'' (delivered s) (delivered (uncounted_slot s)) (sym (uncounted_again core)) (delivered_so s)
 
-  arrive_so : (s : Slot) (loads : List Pending) → SameTurn (arrives core m s loads) (arrives c'' m (uncounted_slot s) loads)
-  arrive_so s [] = idle_so s.number
-  arrive_so s (p ∷ rest) = ap (λ (k : Core). record (arrives core m s (p ∷ rest)) { core = k }) (delivery_so s)
-
-  port_so : (n : ℕ) (o : Option Slot) → SameTurn (taken_by_port core m n o) (taken_by_port c'' m n (uncounted_one o))
-  port_so n None = idle_so n
-  port_so n (Some s) = arrive_so s s.pending
-
   port_of_so : (n : ℕ) → port_of c'' n ≡ uncounted_one (port_of core n)
   port_of_so n = by (core.split && nat_le 128 n)
     where
@@ -631,18 +535,15 @@ module _ (core : Core) (m : Memory) where
       by true = slot_at_so core (n - 128)
       by false = refl
 
-  take_so : (n : ℕ) (o : Option Slot) → SameTurn (taken_by core m n o) (taken_by c'' m n (uncounted_one o))
-  take_so n None = port_so n (port_of core n) ∙ ap (λ o. uncounted_turn (taken_by_port c'' m n o)) (sym (port_of_so n))
-  take_so n (Some s) = by (is_running s.state)
-    where
-      by : (b : Bool) → SameTurn (if b then started core m s else idle core m n) (if b then started c'' m (uncounted_slot s) else idle c'' m n)
-      by true = start_so s
-      by false = idle_so n
-
   -- a turn in the core without counts
   pub turn_so : (n : ℕ) → SameTurn (turn core m n) (turn c'' m n)
-  unfolding turn
-  turn_so n = take_so n (slot_at core n) ∙ ap (λ o. uncounted_turn (taken_by c'' m n o)) (sym (slot_at_so core n))
+  turn_so n = turn_both core c'' m m n uncounted_slot
+      (record { slots = slot_at_so core n; ports = λ free. port_of_so n; number = λ s. refl; state = λ s. refl; pending = λ s. refl }) SameTurn
+      (record {
+        idles = λ k none. idle_so k;
+        arrives_at = λ s p rest free port is. ap (λ (k : Core). record (arrives core m s (p ∷ rest)) { core = k }) (delivery_so s);
+        starts = λ s r own. start_so s;
+      })
 
 -- a turn in two cores that are the same without counts
 pub turns_alike : (a b : Core) (m : Memory) (n : ℕ) → uncounted a ≡ uncounted b → SameTurn (turn a m n) (turn b m n)

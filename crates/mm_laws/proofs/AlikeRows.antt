@@ -1,16 +1,25 @@
 -- Rows of some groups: where they are found, and after a slot or a queue was put.
-use Rattle.std.proofs.Common.{◌≡◌, ℕ, ◌<◌, inl, inr, Bool, true, false, cond, nat_eq, if◌then◌else◌, List, [], ◌∷◌, map, Option, Some, refl, sym, ap, ◌∙◌, subst, arith, eqb-true}
+use Rattle.std.proofs.Common.{◌≡◌, ◌≢◌, ℕ, ◌<◌, inl, inr, Bool, true, false, cond, nat_eq, if◌then◌else◌, List, [], ◌∷◌, map, Option, Some, None, refl, sym, ap, ◌∙◌, subst, arith, eqb-true, eq-eqb}
 use Rattle.std.specs.List.{AllByRecursion, filter}
 use Rattle.std.specs.List.Sorted.{IsStrictlyIncreasing}
-use Rattle.std.proofs.lemmas.Bool.{both_ways, cases_Bool, cases_eq}
+use Rattle.std.proofs.lemmas.Bool.{both_ways, cases_Bool, cases_eq, ne_eqb}
 use Rattle.mm_model.specs.declared.event.Event.{Event}
 use Rattle.mm_model.specs.Slot.{Slot}
 use Rattle.mm_model.specs.State.{ThreadRow, Core, row_in, slot_of, queue_of, slot_at, queue_at, at_number, put_slot, put_queue}
 use Rattle.mm_model.specs.Fits.{identity_of}
 use Rattle.mm_model.proofs.CoreRows.{each_map, above_first, rest_rises, Rises, identities_of, rises_by, stays_by, identities_of-put_slot, row_here, row_later}
 use Rattle.mm_model.proofs.Filters.{filter_takes, filter_drops}
+use Rattle.mm_model.specs.State.{output_of, put_output}
+use Rattle.mm_model.specs.Image.{Image}
+use Rattle.mm_model.specs.Effect.{Change}
+use Rattle.mm_model.specs.Turn.{with_other, with_out, slot_after}
+use Rattle.mm_model.specs.Reach.Entries.{All}
+use Rattle.mm_model.proofs.CoreRows.{slot_at-number}
+use Rattle.mm_model.proofs.TurnKeeps.{changed_from}
+use Rattle.mm_model.proofs.TurnChanges.{changed_identity}
 use Rattle.mm_laws.specs.Isolated.{is_row_of}
 use Rattle.mm_laws.proofs.GrantedWords.{row_has, row_of}
+use Rattle.mm_laws.proofs.GrantedRows.{OtherSlot}
 use Rattle.mm_laws.proofs.GrantedTurns.{same_slot}
 
 -- 1. Rows of the groups, by number.
@@ -183,3 +192,26 @@ module _ (first core : Core) (k : Sames first core) where
         filter_beside c n (λ (row : ThreadRow). record row { queue = q }) core.rows
         (each_map (λ (row : ThreadRow). row.slot.number ≡ n → row.slot.group ≡ was.group) (λ (row : ThreadRow). row.slot.number ≡ n → (c row.slot.group ≡ false) × (c row.slot.group ≡ false))
         (λ row one number. (ap c (one number) ∙ out, ap c (one number) ∙ out)) core.rows (group_at n was at))
+
+-- a change that is granted leaves the slots who they are
+module _ (i : Image) (core : Core) (up : Rises core) where
+  pub other_sames : (n : ℕ) (o : Option Slot) → OtherSlot i All core n o → Sames core (with_other core o)
+  other_sames n None k = sames_self core up
+  other_sames n (Some o) k =
+      let number = slot_at-number core o.number k.old k.stands in
+      let group = k.group in
+      let handler = k.handler in
+      put_slot-sames core core (sames_self core up) o k.old k.stands cc
+
+  pub own_sames : (s : Slot) → slot_at core s.number ≡ Some s → (d : Change) → OtherSlot i All core s.number d.other → Sames core (put_slot (with_other core d.other) (slot_after s d))
+  own_sames s at d other =
+      put_slot-sames core (with_other core d.other) (other_sames s.number d.other other) (slot_after s d) s (ap (slot_at core) (changed_from s d).number ∙ at) (changed_identity s d)
+
+pub mine-with_out : (c : ℕ → Bool) (core : Core) (g : ℕ) (o : Option ℕ) → mine c (with_out core g o) ≡ mine c core
+unfolding put_output
+mine-with_out c core g None = refl
+mine-with_out c core g (Some byte) = refl
+
+pub output_of-put_slot : (core : Core) (s : Slot) (g : ℕ) → output_of (put_slot core s) g ≡ output_of core g
+unfolding put_slot output_of
+output_of-put_slot core s g = refl

@@ -1,16 +1,16 @@
 -- A turn of the groups is the same in two states that are alike to them.
-use Rattle.std.proofs.Common.{◌≡◌, ℕ, zero, suc, ◌^◌, inl, inr, Bool, true, false, ◌&&◌, nat_lt, if◌then◌else◌, pos}
+use Rattle.std.proofs.Common.{◌≡◌, ℕ, zero, suc, ◌^◌, inl, inr, Bool, true, false, ◌&&◌, nat_lt, if◌then◌else◌}
 use Rattle.std.proofs.Common.{List, [], ◌∷◌, ◌++◌, map, length, Option, Some, None, Result, Ok, Err, refl, sym, ap, ◌∙◌}
 use Rattle.std.proofs.Common.{subst, arith, slice_set, slice_index_or}
 use Rattle.std.specs.Prelude.{IfSome}
 use Rattle.std.specs.List.{AllByRecursion}
 use Rattle.std.proofs.lemmas.Bool.{both_ways, cases_Bool, cases_eq}
-use Rattle.mm_word.specs.declared.perm.Kind.TheVariants.{Fetch, Store}
+use Rattle.mm_word.specs.declared.perm.Kind.TheVariants.{Store}
 use Rattle.mm_word.specs.declared.cause.Cause.{Cause}
-use Rattle.mm_word.specs.declared.cause.Cause.TheVariants.{Bounds, NoPage, Illegal, Priv, NoSlot, OutFull}
+use Rattle.mm_word.specs.declared.cause.Cause.TheVariants.{Bounds, Priv, NoSlot, OutFull}
 use Rattle.mm_word.specs.declared.word.Pre.{Pre}
 use Rattle.mm_word.specs.declared.word.Word.{Word}
-use Rattle.mm_word.specs.declared.word.Word.TheVariants.{Int, Ptr}
+use Rattle.mm_word.specs.declared.word.Word.TheVariants.{Int}
 use Rattle.mm_word.specs.declared.word.Cell.{Cell}
 use Rattle.mm_word.specs.Access.{Touch, check_result}
 use Rattle.mm_word.specs.Word.{word_bits}
@@ -21,12 +21,12 @@ use Rattle.mm_model.specs.declared.slot.SlotState.TheVariants.{Running, Waiting,
 use Rattle.mm_model.specs.declared.slot.Pending.{Pending}
 use Rattle.mm_model.specs.declared.event.Event.{Event}
 use Rattle.mm_model.specs.Memory.{Memory, cell_at, put_cell, map_page, unmap_page, can_map, is_mapped, IsPaged}
-use Rattle.mm_model.specs.Uses.{Use, Accessed}
+use Rattle.mm_model.specs.Uses.{Use}
 use Rattle.mm_model.specs.Slot.{Slot, register}
 use Rattle.mm_model.specs.State.{ThreadRow, Core, slot_at, queue_at, put_slot, put_queue, output_of, put_output, at_number}
 use Rattle.mm_model.specs.Image.{Image, output_limit}
 use Rattle.mm_model.specs.Spelling.{IsOther}
-use Rattle.mm_model.specs.Fits.{slots_of, identity_of, is_waiting}
+use Rattle.mm_model.specs.Fits.{slots_of, is_waiting}
 use Rattle.mm_model.specs.Operands.{addr_operand, value_operand, lacks}
 use Rattle.mm_model.specs.Ask.{Ask, ask, is_privileged, load_kind, reaching}
 use Rattle.mm_model.specs.Ask.Ask.{Nothing, Refuse, Reach, MapPage, UnmapPage, NextEvent, Room, Serve}
@@ -37,7 +37,7 @@ use Rattle.mm_model.specs.Effect.Effect.{Fault, Block, Deliver, Does}
 use Rattle.mm_model.specs.Turn.{Turned, reply, reached, event_reply, first_event, is_taken, is_handler, served}
 use Rattle.mm_model.specs.Turn.{slot_after, with_other, with_queue, with_out, with_cell, with_pages, core_after}
 use Rattle.mm_model.specs.Turn.{memory_after, stood, is_sync, event_of, core_faulted, faulted, touch_of, asked_use}
-use Rattle.mm_model.specs.Turn.{blocked, ended, executed, issued, decoded, instr_in, fetched, aimed, started, idle}
+use Rattle.mm_model.specs.Turn.{blocked, ended, executed, started, idle}
 use Rattle.mm_model.specs.Turn.{arrives}
 use Rattle.mm_model.specs.Reach.{Privileged}
 use Rattle.mm_model.specs.Reach.Entries.{All}
@@ -47,11 +47,13 @@ use Rattle.mm_model.proofs.CoreSteps.{handler_is, queued_waits}
 use Rattle.mm_model.proofs.SlotSteps.{delivered_from}
 use Rattle.mm_model.proofs.Memories.{cell_at-put_same, cell_at-put_other}
 use Rattle.mm_model.proofs.TurnKeeps.{changed_from}
+use Rattle.mm_model.proofs.TurnChanges.{same_output, fault_same, moved_same}
+use Rattle.mm_model.proofs.TurnShapes.{fetch_uses, fetch_use, FetchAlike, started_by}
 use Rattle.mm_laws.specs.Granted.{TouchGranted}
 use Rattle.mm_laws.proofs.GrantedWords.{slot_granted}
 use Rattle.mm_laws.proofs.GrantedRows.{Stands, CellWritten, PagesGranted, OtherSlot, ChangeGranted, EffectGranted, effect_granted, is_xp}
 use Rattle.mm_laws.proofs.GrantedTurns.{fetch_granted, touch_granted}
-use Rattle.mm_laws.proofs.AlikeRows.{mine, SameSlotAt, same_at, Sames, sames_self, put_slot-sames, mine-put_slot, mine-put_queue}
+use Rattle.mm_laws.proofs.AlikeRows.{other_sames, own_sames, mine-with_out, output_of-put_slot, mine, SameSlotAt, same_at, Sames, sames_self, put_slot-sames, mine-put_slot, mine-put_queue}
 use Rattle.mm_laws.proofs.AlikeWorlds.{state_side, touch_known, touches_all, whole_memory}
 
 -- what is the same of two turns
@@ -271,27 +273,17 @@ module _ (i j : Image) (c : ℕ → Bool) (a b : Core) (ma mb : Memory) (h : Bot
         queue_both (put_slot a (stood x Waiting)) (put_slot b (stood x Waiting)) (stood_sames_a Waiting) (stood_sames_b Waiting) (stood_both a b sames_a sames_b h.rows x refl refl Waiting) k
         (queue_at (put_slot a (stood x Waiting)) k ++ e ∷ []) (queue_at (put_slot b (stood x Waiting)) k ++ e ∷ []) (ap (λ (l : List Event). l ++ e ∷ []) same)
 
-    faulted_outputs : (core : Core) (e : Event) (o : Option ℕ) (g : ℕ) → output_of (core_faulted core x e o) g ≡ output_of core g
-    unfolding core_faulted put_slot put_queue output_of
-    faulted_outputs core e None g = by (is_sync e.cause)
-      where
-        by : (y : Bool) → output_of (if y then put_slot core (stood x Running) else put_slot core (stood x (Halted (Some e.cause)))) g ≡ output_of core g
-        by true = refl
-        by false = refl
-    faulted_outputs core e (Some k) g = refl
+    faulted_output : (core : Core) (e : Event) (g : ℕ) → output_of (core_faulted core x e x.handler) g ≡ output_of core g
+    faulted_output core e g = same_output core (core_faulted core x e x.handler) (fault_same core x e x.handler) g
 
     same_fault : (cause : Cause) (v w : Word) (f t : Option Touch) (us vs : List Use) → Same (faulted a ma x cause v w f t us) (faulted b mb x cause v w f t vs)
     unfolding faulted
     same_fault cause v w f t us vs = record {
       rows = fault_both (event_of x cause v w) x.handler refl;
-      outputs = λ g cg. faulted_outputs a (event_of x cause v w) x.handler g ∙ h.outputs g cg ∙ sym (faulted_outputs b (event_of x cause v w) x.handler g);
+      outputs = λ g cg. faulted_output a (event_of x cause v w) g ∙ h.outputs g cg ∙ sym (faulted_output b (event_of x cause v w) g);
       cells = h.cells;
       step = refl;
     }
-
-    put_outputs : (core : Core) (s : Slot) (g : ℕ) → output_of (put_slot core s) g ≡ output_of core g
-    unfolding put_slot output_of
-    put_outputs core s g = refl
 
     same_blocked : (p q : Core) → Sames a p → Sames b q → mine c p ≡ mine c q
         → ((g : ℕ) → c g ≡ true → output_of p g ≡ output_of q g) → (now : Slot) → now.number ≡ x.number
@@ -300,7 +292,7 @@ module _ (i j : Image) (c : ℕ → Bool) (a b : Core) (ma mb : Memory) (h : Bot
     unfolding blocked
     same_blocked p q kp kq e outs now number group f t us vs = record {
       rows = stood_both p q kp kq e now number group Running;
-      outputs = λ g cg. put_outputs p (stood now Running) g ∙ outs g cg ∙ sym (put_outputs q (stood now Running) g);
+      outputs = λ g cg. output_of-put_slot p (stood now Running) g ∙ outs g cg ∙ sym (output_of-put_slot q (stood now Running) g);
       cells = h.cells;
       step = refl;
     }
@@ -308,68 +300,28 @@ module _ (i j : Image) (c : ℕ → Bool) (a b : Core) (ma mb : Memory) (h : Bot
     -- 3. The same change.
 
     module _ (d : Change) (ga : ChangeGranted i All a ma x d) (gb : ChangeGranted j All b mb x d) where
-      other_sames_a : (o : Option Slot) → OtherSlot i All a x.number o → Sames a (with_other a o)
-      other_sames_a None k = sames_a
-      other_sames_a (Some o) k =
-          let number = slot_at-number a o.number k.old k.stands in
-          let group = k.group in
-          let handler = k.handler in
-          put_slot-sames a a sames_a o k.old k.stands cc
-
-      other_sames_b : (o : Option Slot) → OtherSlot j All b x.number o → Sames b (with_other b o)
-      other_sames_b None k = sames_b
-      other_sames_b (Some o) k =
-          let number = slot_at-number b o.number k.old k.stands in
-          let group = k.group in
-          let handler = k.handler in
-          put_slot-sames b b sames_b o k.old k.stands cc
-
       other_both : (o : Option Slot) → OtherSlot i All a x.number o → OtherSlot j All b x.number o → mine c (with_other a o) ≡ mine c (with_other b o)
       other_both None ka kb = h.rows
       other_both (Some o) ka kb = put_both a b sames_a sames_b h.rows o ka.old kb.old ka.stands ka.group kb.stands kb.group
 
-      own_identity : identity_of x ≡ identity_of (slot_after x d)
-      own_identity =
-          let from = changed_from x d in
-          let number = from.number in
-          let group = from.group in
-          let handler = from.handler in
-          cc
-
       own_both : mine c (put_slot (with_other a d.other) (slot_after x d)) ≡ mine c (put_slot (with_other b d.other) (slot_after x d))
       own_both =
           let from = changed_from x d in
-          put_both (with_other a d.other) (with_other b d.other) (other_sames_a d.other ga.other) (other_sames_b d.other gb.other) (other_both d.other ga.other gb.other) (slot_after x d) x x
+          put_both (with_other a d.other) (with_other b d.other) (other_sames i a h.one.formed.rising x.number d.other ga.other)
+          (other_sames j b h.other.formed.rising x.number d.other gb.other) (other_both d.other ga.other gb.other) (slot_after x d) x x
           (ap (slot_at a) from.number ∙ at_a) (sym from.group) (ap (slot_at b) from.number ∙ at_b) (sym from.group)
-
-      own_sames_a : Sames a (put_slot (with_other a d.other) (slot_after x d))
-      own_sames_a = put_slot-sames a (with_other a d.other) (other_sames_a d.other ga.other) (slot_after x d) x (ap (slot_at a) (changed_from x d).number ∙ at_a) own_identity
-
-      own_sames_b : Sames b (put_slot (with_other b d.other) (slot_after x d))
-      own_sames_b = put_slot-sames b (with_other b d.other) (other_sames_b d.other gb.other) (slot_after x d) x (ap (slot_at b) (changed_from x d).number ∙ at_b) own_identity
 
       queue_kept : (p q : Core) → Sames a p → Sames b q → mine c p ≡ mine c q → (o : Option (List Event)) → mine c (with_queue p x.number o) ≡ mine c (with_queue q x.number o)
       queue_kept p q kp kq e None = e
       queue_kept p q kp kq e (Some u) = queue_both p q kp kq e x.number u u refl
 
-      byte_rows : (p : Core) (o : Option ℕ) → mine c (with_out p x.group o) ≡ mine c p
-      unfolding put_output
-      byte_rows p None = refl
-      byte_rows p (Some byte) = refl
-
       rows_both : mine c (core_after a x d) ≡ mine c (core_after b x d)
       unfolding core_after
       rows_both =
-          byte_rows (with_queue (put_slot (with_other a d.other) (slot_after x d)) x.number d.queue) d.out
-          ∙ queue_kept (put_slot (with_other a d.other) (slot_after x d)) (put_slot (with_other b d.other) (slot_after x d)) own_sames_a own_sames_b own_both d.queue
-          ∙ sym (byte_rows (with_queue (put_slot (with_other b d.other) (slot_after x d)) x.number d.queue) d.out)
-
-      outputs_kept : (core : Core) (o : Option Slot) (u : Option (List Event)) → (with_queue (put_slot (with_other core o) (slot_after x d)) x.number u).outputs ≡ core.outputs
-      unfolding put_slot put_queue
-      outputs_kept core None None = refl
-      outputs_kept core None (Some u) = refl
-      outputs_kept core (Some o) None = refl
-      outputs_kept core (Some o) (Some u) = refl
+          mine-with_out c (with_queue (put_slot (with_other a d.other) (slot_after x d)) x.number d.queue) x.group d.out
+          ∙ queue_kept (put_slot (with_other a d.other) (slot_after x d)) (put_slot (with_other b d.other) (slot_after x d))
+          (own_sames i a h.one.formed.rising x at_a d ga.other) (own_sames j b h.other.formed.rising x at_b d gb.other) own_both d.queue
+          ∙ sym (mine-with_out c (with_queue (put_slot (with_other b d.other) (slot_after x d)) x.number d.queue) x.group d.out)
 
       byte_outputs : (p q : Core) → p.outputs ≡ a.outputs → q.outputs ≡ b.outputs → (o : Option ℕ) (g : ℕ) → c g ≡ true → output_of (with_out p x.group o) g ≡ output_of (with_out q x.group o) g
       unfolding output_of put_output
@@ -389,7 +341,7 @@ module _ (i j : Image) (c : ℕ → Bool) (a b : Core) (ma mb : Memory) (h : Bot
       unfolding core_after
       outputs_both g cg =
           byte_outputs (with_queue (put_slot (with_other a d.other) (slot_after x d)) x.number d.queue) (with_queue (put_slot (with_other b d.other) (slot_after x d)) x.number d.queue)
-          (outputs_kept a d.other d.queue) (outputs_kept b d.other d.queue) d.out g cg
+          (moved_same a d.other (slot_after x d) x.number d.queue).outputs (moved_same b d.other (slot_after x d) x.number d.queue).outputs d.out g cg
 
       cell_both : (o : Option (ℕ × Cell)) → CellWritten i All ma x.group o → CellWritten j All mb x.group o → (w : ℕ) → Touchable i All c w → cell_at (with_cell ma o) w ≡ cell_at (with_cell mb o) w
       cell_both None ka kb w k = h.cells w k
@@ -418,15 +370,9 @@ module _ (i j : Image) (c : ℕ → Bool) (a b : Core) (ma mb : Memory) (h : Bot
     same_ended instr f t us vs (Fault cause) ga gb = same_fault cause (addr_operand instr x) (value_operand instr x) (Some f) t us vs
     same_ended instr f t us vs Block ga gb = same_blocked a b sames_a sames_b h.rows h.outputs x refl refl f t us vs
     same_ended instr f t us vs (Deliver o) ga gb =
-        let number_a = slot_at-number a o.number ga.old ga.stands in
-        let group_a = ga.group in
-        let handler_a = ga.handler in
-        let number_b = slot_at-number b o.number gb.old gb.stands in
-        let group_b = gb.group in
-        let handler_b = gb.handler in
-        same_blocked (put_slot a o) (put_slot b o) (put_slot-sames a a sames_a o ga.old ga.stands (cc)) (put_slot-sames b b sames_b o gb.old gb.stands (cc))
+        same_blocked (put_slot a o) (put_slot b o) (other_sames i a h.one.formed.rising x.number (Some o) ga) (other_sames j b h.other.formed.rising x.number (Some o) gb)
         (put_both a b sames_a sames_b h.rows o ga.old gb.old ga.stands ga.group gb.stands gb.group)
-        (λ g cg. put_outputs a o g ∙ h.outputs g cg ∙ sym (put_outputs b o g)) x refl refl f t us vs
+        (λ g cg. output_of-put_slot a o g ∙ h.outputs g cg ∙ sym (output_of-put_slot b o g)) x refl refl f t us vs
     same_ended instr f t us vs (Does d) ga gb = record { rows = rows_both d ga gb; outputs = outputs_both d ga gb; cells = memory_both d ga gb; step = refl }
 
     same_executed : (f : Touch) (u v : Use) (instr : Instr) → Same (executed a ma x f u instr) (executed b mb x f v instr)
@@ -441,42 +387,21 @@ module _ (i j : Image) (c : ℕ → Bool) (a b : Core) (ma mb : Memory) (h : Bot
         (effect a.split instr x (reply a ma x.number (ask instr x))) (effect_granted i All a ma h.one x at_a instr)
         (subst (EffectGranted j All b mb x) (sym e) (effect_granted j All b mb h.other x at_b instr)))
 
-    same_issued : (f : Touch) (u v : Use) (instr : Instr) → Same (issued a ma x f u instr) (issued b mb x f v instr)
-    unfolding issued
-    same_issued f u v instr =
-        subst (λ y. Same (if a.split && lacks instr x then blocked a ma (delivered x) f None (u ∷ []) else executed a ma
-        x f u instr) (if y && lacks instr x then blocked b mb (delivered x) f None (v ∷ []) else executed b mb x f v
-        instr)) h.split
-        (by (a.split && lacks instr x))
-      where
-        by : (y : Bool) → Same (if y then blocked a ma (delivered x) f None (u ∷ []) else executed a ma x f u instr)
-            (if y then blocked b mb (delivered x) f None (v ∷ []) else executed b mb x f v instr)
-        by true = same_blocked a b sames_a sames_b h.rows h.outputs (delivered x) (delivered_from x).number (delivered_from x).group f None (u ∷ []) (v ∷ [])
-        by false = same_executed f u v instr
-
-    same_decoded : (f : Touch) (u v : Use) (o : Option Instr) → Same (decoded a ma x f u o) (decoded b mb x f v o)
-    same_decoded f u v None = same_fault Illegal (Int 0) (Int 0) (Some f) None (u ∷ []) (v ∷ [])
-    same_decoded f u v (Some instr) = same_issued f u v instr
-
-    same_fetched : (f : Touch) (o : Option Cell) → Same (fetched a ma x f o) (fetched b mb x f o)
-    same_fetched f None = same_fault NoPage (Int 0) (Int 0) (Some f) None (Accessed f.kind f.addr false false ∷ []) (Accessed f.kind f.addr false false ∷ [])
-    same_fetched f (Some cell) = same_decoded f (Accessed f.kind f.addr true true) (Accessed f.kind f.addr true true) (instr_in cell.word)
-
-    same_aimed : (r : Result Touch Cause) → check_result (Ptr x.ip) (pos 0) Fetch ≡ r → Same (aimed a ma x r) (aimed b mb x r)
-    same_aimed (Err cause) aim = same_fault cause (Int 0) (Int 0) None None [] []
-    same_aimed (Ok f) aim =
-        let known = touch_known i c x.group f cx (fetch_granted i All a ma h.one x at_a f aim) in
-        subst (λ o. Same (fetched a ma x f (cell_at ma f.addr)) (fetched b mb x f o)) (h.cells f.addr known) (same_fetched f (cell_at ma f.addr))
+    fetch_alike : FetchAlike a b ma mb x x
+    fetch_alike = record {
+      past = refl;
+      ip = refl;
+      cells = λ f aim. h.cells f.addr (touch_known i c x.group f cx (fetch_granted i All a ma h.one x at_a f aim));
+      lacking = λ instr. ap (λ y. y && lacks instr x) h.split;
+    }
 
     pub same_started : Same (started a ma x) (started b mb x)
-    unfolding started
-    same_started = by x.past
-      where
-        by : (y : Bool) → Same (if y then faulted a ma x Bounds (Int 0) (Int 0) None None [] else aimed a ma x
-            (check_result (Ptr x.ip) (pos 0) Fetch)) (if y then faulted b mb x Bounds (Int 0) (Int 0) None None [] else
-            aimed b mb x (check_result (Ptr x.ip) (pos 0) Fetch))
-        by true = same_fault Bounds (Int 0) (Int 0) None None [] []
-        by false = same_aimed (check_result (Ptr x.ip) (pos 0) Fetch) refl
+    same_started = started_by a b ma mb x x fetch_alike Same (record {
+      faults = λ cause f done aim. same_fault cause (Int 0) (Int 0) f None (fetch_uses f done) (fetch_uses f done);
+      lacks_register = λ f instr aim is lacking.
+          same_blocked a b sames_a sames_b h.rows h.outputs (delivered x) (delivered_from x).number (delivered_from x).group f None (fetch_use f ∷ []) (fetch_use f ∷ []);
+      carries_out = λ f instr aim is has. same_executed f (fetch_use f) (fetch_use f) instr;
+    })
 
     pub same_arrives : (ps : List Pending) → Same (arrives a ma x ps) (arrives b mb x ps)
     same_arrives [] = same_idle x.number
@@ -484,7 +409,7 @@ module _ (i j : Image) (c : ℕ → Bool) (a b : Core) (ma mb : Memory) (h : Bot
         let from = delivered_from x in
         record {
           rows = put_both a b sames_a sames_b h.rows (delivered x) x x (ap (slot_at a) from.number ∙ at_a) (sym from.group) (ap (slot_at b) from.number ∙ at_b) (sym from.group);
-          outputs = λ g cg. put_outputs a (delivered x) g ∙ h.outputs g cg ∙ sym (put_outputs b (delivered x) g);
+          outputs = λ g cg. output_of-put_slot a (delivered x) g ∙ h.outputs g cg ∙ sym (output_of-put_slot b (delivered x) g);
           cells = h.cells;
           step = refl;
         }

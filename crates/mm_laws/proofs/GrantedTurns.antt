@@ -1,5 +1,5 @@
 -- What a turn leaves is granted, and so is what it touches, enters and changes.
-use Rattle.std.proofs.Common.{◌≡◌, ◌≢◌, ℕ, ◌+◌, ◌-◌, ◌/◌, ◌%◌, ◌^◌, ◌≤◌, ◌⊎◌, inl, inr, Bool, true, false, nat_eq}
+use Rattle.std.proofs.Common.{◌≡◌, ◌≢◌, ℕ, ◌+◌, ◌/◌, ◌%◌, ◌^◌, ◌≤◌, ◌⊎◌, inl, inr, Bool, true, false, nat_eq}
 use Rattle.std.proofs.Common.{nat_lt, if◌then◌else◌, List, [], ◌∷◌, ◌++◌, map, Option, Some, None, Result, Ok, Err}
 use Rattle.std.proofs.Common.{refl, sym, ap, ◌∙◌, subst, arith, pos, slice_set, eqb-true}
 use Rattle.std.specs.Prelude.{IfSome}
@@ -54,7 +54,8 @@ use Rattle.mm_model.proofs.SlotSteps.{delivered_from}
 use Rattle.mm_model.proofs.EffectWords.{slot_words}
 use Rattle.mm_model.proofs.Memories.{put_cases, map_cases, unmap_cases, cell_at-put_other, cell_at-map_other, cell_at-unmap_other, cell_at-unaligned, word_or_none}
 use Rattle.mm_model.proofs.TurnKeeps.{changed_from}
-use Rattle.mm_model.proofs.TurnShapes.{Fetches, TurnShape, turn_shape}
+use Rattle.mm_model.proofs.TurnChanges.{changed_identity, delivered_identity}
+use Rattle.mm_model.proofs.TurnShapes.{Fetches, fetch_uses, fetch_use, started_one, turn_by}
 use Rattle.mm_model.proofs.Fitted.{fitting_of}
 use Rattle.mm_model.proofs.StateKeeps.{after_state, after_fits}
 use Rattle.mm_laws.specs.Granted.{WordGranted, SlotGranted, EventGranted, RowGranted, CellGranted, CellsGranted, WordsGranted, TouchGranted, EntryGranted, StepGranted, with_entries}
@@ -291,11 +292,7 @@ module _ (i : Image) (e : Entries) (core : Core) (m : Memory) (st : Stands i e c
 
     own_good : (mid : Core) → Good i later core mid → Good i later core (put_slot mid (slot_after s c))
     own_good mid good =
-        let from = changed_from s c in
-        let number = from.number in
-        let group = from.group in
-        let handler = from.handler in
-        put_slot-good i later core mid good (slot_after s c) s (ap (slot_at core) number ∙ at) (cc) own_after
+        put_slot-good i later core mid good (slot_after s c) s (ap (slot_at core) (changed_from s c).number ∙ at) (changed_identity s c) own_after
 
     queue_good : (mid : Core) → Good i later core mid → (q : Option (List Event)) → QueueGranted i e s.group q → Good i later core (with_queue mid s.number q)
     queue_good mid good None k = good
@@ -365,6 +362,10 @@ module _ (i : Image) (e : Entries) (core : Core) (m : Memory) (st : Stands i e c
   pub fetch_granted : (f : Touch) → Fetches s f → TouchGranted i e s.group f
   fetch_granted f aim =
       touch_through i e s.group (Ptr s.ip) Fetch f (slot_granted i e core st.rows s.number s at).ip (checked (Ptr s.ip) (pos 0) Fetch f (slot_words core s.number s st.words at).ip aim)
+
+  fetches_granted : (f : Option Touch) → IfSome f (Fetches s) → IfSome f (TouchGranted i e s.group)
+  fetches_granted None aim = tt
+  fetches_granted (Some f) aim = fetch_granted f aim
 
   pub touch_granted : (instr : Instr) → IfSome (touch_of (ask instr s)) (TouchGranted i e s.group)
   unfolding ask
@@ -514,16 +515,8 @@ module _ (i : Image) (e : Entries) (core : Core) (m : Memory) (st : Stands i e c
         blocked_granted (put_slot core o) (put_slot-good i e core core same_self o g.old g.stands (cc) g.granted) s refl own_slot_granted f t us gf gt
     ended_granted instr f t us (Does c) g gf gt = did_granted c g f t us gf gt
 
-    delivered_identity : identity_of s ≡ identity_of (delivered s)
-    delivered_identity =
-        let from = delivered_from s in
-        let number = from.number in
-        let group = from.group in
-        let handler = from.handler in
-        cc
-
     lacking_granted : (f : Touch) (us : List Use) → Fetches s f → TurnGranted i e m (blocked core m (delivered s) f None us)
-    lacking_granted f us aim = blocked_granted core same_self (delivered s) delivered_identity (delivered_granted i e s own_slot_granted) f None us (fetch_granted i e core m st s at f aim) tt
+    lacking_granted f us aim = blocked_granted core same_self (delivered s) (delivered_identity s) (delivered_granted i e s own_slot_granted) f None us (fetch_granted i e core m st s at f aim) tt
 
     executed_granted : (f : Touch) (u : Use) (instr : Instr) → Fetches s f → TurnGranted i e m (executed core m s f u instr)
     unfolding executed
@@ -535,27 +528,23 @@ module _ (i : Image) (e : Entries) (core : Core) (m : Memory) (st : Stands i e c
 
     arrived_granted : (p : Pending) (rest : List Pending) → s.pending ≡ p ∷ rest → TurnGranted i e m (arrives core m s (p ∷ rest))
     arrived_granted p rest is =
-        let good = put_slot-good i e core core same_self (delivered s) s (ap (slot_at core) (delivered_from s).number ∙ at) delivered_identity (delivered_granted i e s own_slot_granted) in
+        let good = put_slot-good i e core core same_self (delivered s) s (ap (slot_at core) (delivered_from s).number ∙ at) (delivered_identity s) (delivered_granted i e s own_slot_granted) in
         still (arrives core m s (p ∷ rest)) s.group good refl refl (group_is (arrives core m s (p ∷ rest)) good.same refl) tt
 
   idle_granted : (n : ℕ) → TurnGranted i e m (idle core m n)
   unfolding idle
   idle_granted n = still (idle core m n) (group_in (idle core m n)) same_self refl refl refl tt
 
-  at_its_number : (n : ℕ) (s : Slot) → slot_at core n ≡ Some s → slot_at core s.number ≡ Some s
-  at_its_number n s is = ap (slot_at core) (slot_at-number core n s is) ∙ is
-
-  shape_granted : (n : ℕ) (t : Turned) → TurnShape core m n t → TurnGranted i e m t
-  shape_granted n t (TurnShape.idles k is) = subst (TurnGranted i e m) (sym is) (idle_granted k)
-  shape_granted n t (TurnShape.arrives_at s p rest on at pending is) = subst (TurnGranted i e m) (sym is) (arrived_granted s (at_its_number (n - 128) s at) p rest pending)
-  shape_granted n t (TurnShape.faults_early s c us r is) = subst (TurnGranted i e m) (sym is) (faulted_granted s (at_its_number n s r.at) c (Int 0) (Int 0) None None us tt tt tt tt)
-  shape_granted n t (TurnShape.faults_fetching s c f us r aim is) =
-      subst (TurnGranted i e m) (sym is) (faulted_granted s (at_its_number n s r.at) c (Int 0) (Int 0) (Some f) None us tt tt (fetch_granted i e core m st s (at_its_number n s r.at) f aim) tt)
-  shape_granted n t (TurnShape.lacks_register s f instr us r aim found on lacking is) = subst (TurnGranted i e m) (sym is) (lacking_granted s (at_its_number n s r.at) f us aim)
-  shape_granted n t (TurnShape.carries_out s f u instr r aim found has is) = subst (TurnGranted i e m) (sym is) (executed_granted s (at_its_number n s r.at) f u instr aim)
-
   pub turn_granted : (n : ℕ) → TurnGranted i e m (turn core m n)
-  turn_granted n = shape_granted n (turn core m n) (turn_shape core m n)
+  turn_granted n = turn_by core m n (TurnGranted i e m) (record {
+    idles = λ k none. idle_granted k;
+    arrives_at = λ s p rest free port is. arrived_granted s port.at p rest is;
+    starts = λ s r own. started_one core m s (TurnGranted i e m) (record {
+      faults = λ c f done aim. faulted_granted s own c (Int 0) (Int 0) f None (fetch_uses f done) tt tt (fetches_granted i e core m st s own f aim) tt;
+      lacks_register = λ f instr aim is lacking. lacking_granted s own f (fetch_use f ∷ []) aim;
+      carries_out = λ f instr aim is has. executed_granted s own f (fetch_use f) instr aim;
+    });
+  })
 
 -- 6. The laws.
 

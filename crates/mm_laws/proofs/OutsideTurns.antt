@@ -1,45 +1,45 @@
 -- A turn outside the groups changes nothing that they see, and tells nothing of them.
-use Rattle.std.proofs.Common.{◌≡◌, ℕ, ◌-◌, inl, inr, Bool, true, false, ◌&&◌, nat_le, if◌then◌else◌, pos, List, [], ◌∷◌}
-use Rattle.std.proofs.Common.{◌++◌, Option, Some, None, Result, Ok, Err, refl, sym, ap, ◌∙◌, subst, slice_index_or}
+use Rattle.std.proofs.Common.{◌≡◌, ℕ, inl, inr, Bool, true, false, if◌then◌else◌, List, [], ◌∷◌}
+use Rattle.std.proofs.Common.{◌++◌, Option, Some, None, refl, sym, ap, ◌∙◌, subst, slice_index_or}
 use Rattle.std.proofs.Common.{get_or-set_other}
 use Rattle.std.specs.Prelude.{IfSome}
 use Rattle.std.proofs.lemmas.Bool.{both_ways}
-use Rattle.mm_word.specs.declared.perm.Kind.TheVariants.{Fetch}
 use Rattle.mm_word.specs.declared.cause.Cause.{Cause}
-use Rattle.mm_word.specs.declared.cause.Cause.TheVariants.{Bounds, NoPage, Illegal}
 use Rattle.mm_word.specs.declared.word.Word.{Word}
-use Rattle.mm_word.specs.declared.word.Word.TheVariants.{Int, Ptr}
-use Rattle.mm_word.specs.declared.word.Cell.{Cell}
-use Rattle.mm_word.specs.Access.{Touch, check_result}
+use Rattle.mm_word.specs.declared.word.Word.TheVariants.{Int}
+use Rattle.mm_word.specs.Access.{Touch}
 use Rattle.mm_isa.specs.declared.instr.Instr.{Instr}
 use Rattle.mm_model.specs.declared.slot.SlotState.{SlotState}
 use Rattle.mm_model.specs.declared.slot.SlotState.TheVariants.{Running, Waiting, Halted}
 use Rattle.mm_model.specs.declared.slot.Pending.{Pending}
 use Rattle.mm_model.specs.declared.event.Event.{Event}
 use Rattle.mm_model.specs.Memory.{Memory, cell_at}
-use Rattle.mm_model.specs.Uses.{Use, Accessed}
+use Rattle.mm_model.specs.Uses.{Use}
 use Rattle.mm_model.specs.Slot.{Slot}
-use Rattle.mm_model.specs.State.{Core, slot_at, queue_at, put_slot, put_queue, output_of, put_output}
+use Rattle.mm_model.specs.State.{Core, slot_at, queue_at, put_slot, output_of, put_output}
 use Rattle.mm_model.specs.Image.{Image}
 use Rattle.mm_model.specs.Spelling.{IsOther}
-use Rattle.mm_model.specs.Fits.{slots_of, identity_of}
-use Rattle.mm_model.specs.Operands.{addr_operand, value_operand, lacks}
+use Rattle.mm_model.specs.Fits.{slots_of}
+use Rattle.mm_model.specs.Operands.{addr_operand, value_operand}
 use Rattle.mm_model.specs.Ask.{ask}
 use Rattle.mm_model.specs.Effect.{Change, Effect, effect, delivered}
 use Rattle.mm_model.specs.Effect.Effect.{Fault, Block, Deliver, Does}
 use Rattle.mm_model.specs.Turn.{Turned, reply, slot_after, with_other, with_queue, with_out, core_after, stood, is_sync}
-use Rattle.mm_model.specs.Turn.{event_of, core_faulted, faulted, touch_of, asked_use, blocked, ended, executed, issued}
-use Rattle.mm_model.specs.Turn.{decoded, instr_in, fetched, aimed, started, idle, arrives, taken_by_port, taken_by}
-use Rattle.mm_model.specs.Turn.{port_of, is_running, turn}
+use Rattle.mm_model.specs.Turn.{event_of, core_faulted, faulted, touch_of, asked_use, blocked, ended, executed}
+use Rattle.mm_model.specs.Turn.{started, idle, arrives}
+use Rattle.mm_model.specs.Turn.{turn}
 use Rattle.mm_model.specs.Trace.{group_of, group_in, trace_line, step_line}
 use Rattle.mm_model.specs.Reach.Entries.{All}
 use Rattle.mm_model.specs.Worlds.{Touchable, Apart, is_turn_of}
 use Rattle.mm_model.proofs.CoreRows.{slot_at-number, slot_has, other_at, identities_of, stays_by}
 use Rattle.mm_model.proofs.SlotSteps.{delivered_from}
 use Rattle.mm_model.proofs.TurnKeeps.{changed_from, turn_keeps}
+use Rattle.mm_model.proofs.TurnChanges.{same_output, fault_same, moved_same}
+use Rattle.mm_model.proofs.TurnShapes.{fetch_uses, fetch_use, started_one, turn_by}
+use Rattle.mm_model.specs.Outcomes.{IsPort}
 use Rattle.mm_laws.proofs.GrantedRows.{Stands, OtherGranted, OtherSlot, ChangeGranted, EffectGranted, effect_granted}
 use Rattle.mm_laws.proofs.GrantedTurns.{turn_granted}
-use Rattle.mm_laws.proofs.AlikeRows.{mine, Sames, sames_self, put_slot-sames, beside-put_slot, beside-put_queue}
+use Rattle.mm_laws.proofs.AlikeRows.{other_sames, own_sames, mine-with_out, output_of-put_slot, mine, Sames, sames_self, put_slot-sames, beside-put_slot, beside-put_queue}
 use Rattle.mm_laws.proofs.AlikeWorlds.{state_side}
 
 -- what a turn of a slot leaves as it was for the groups
@@ -94,22 +94,11 @@ module _ (i : Image) (c : ℕ → Bool) (apart : Apart i All c) (core : Core) (m
         refl) c k (queue_at (put_slot core (stood s Waiting)) k ++ e ∷ []) other.1.0 other.1.1 (sym side ∙ out)
         ∙ stood_quiet core sames s refl refl Waiting
 
-    fault_outputs : (e : Event) (o : Option ℕ) (g : ℕ) → output_of (core_faulted core s e o) g ≡ output_of core g
-    unfolding core_faulted put_slot put_queue output_of
-    fault_outputs e None g = by (is_sync e.cause)
-      where
-        by : (y : Bool) → output_of (if y then put_slot core (stood s Running) else put_slot core (stood s (Halted (Some e.cause)))) g ≡ output_of core g
-        by true = refl
-        by false = refl
-    fault_outputs e (Some k) g = refl
-
     faulted_quiet : (cause : Cause) (v w : Word) (f t : Option Touch) (us : List Use) → Quiet (faulted core m s cause v w f t us)
     unfolding faulted
-    faulted_quiet cause v w f t us = record { rows = fault_quiet (event_of s cause v w) s.handler refl; outputs = λ g cg. fault_outputs (event_of s cause v w) s.handler g; slot = refl }
-
-    put_outputs : (mid : Core) (o : Slot) (g : ℕ) → output_of (put_slot mid o) g ≡ output_of mid g
-    unfolding put_slot output_of
-    put_outputs mid o g = refl
+    faulted_quiet cause v w f t us =
+        let e : Event = event_of s cause v w in
+        record { rows = fault_quiet e s.handler refl; outputs = λ g cg. same_output core (core_faulted core s e s.handler) (fault_same core s e s.handler) g; slot = refl }
 
     blocked_quiet : (mid : Core) → Sames core mid → mine c mid ≡ mine c core
         → ((g : ℕ) → output_of mid g ≡ output_of core g) → (now : Slot) → now.number ≡ s.number → now.group ≡ s.group
@@ -118,7 +107,7 @@ module _ (i : Image) (c : ℕ → Bool) (apart : Apart i All c) (core : Core) (m
     unfolding blocked
     blocked_quiet mid k same outs now number group f t us = record {
       rows = stood_quiet mid k now number group Running ∙ same;
-      outputs = λ g cg. put_outputs mid (stood now Running) g ∙ outs g;
+      outputs = λ g cg. output_of-put_slot mid (stood now Running) g ∙ outs g;
       slot = number;
     }
 
@@ -127,57 +116,27 @@ module _ (i : Image) (c : ℕ → Bool) (apart : Apart i All c) (core : Core) (m
     other_out o g = sym (ap c g.group) ∙ state_side i c apart core st.same o.number s.number g.old s g.stands at g.served ∙ out
 
     module _ (d : Change) (g : ChangeGranted i All core m s d) where
-      other_sames : (o : Option Slot) → OtherSlot i All core s.number o → Sames core (with_other core o)
-      other_sames None k = sames
-      other_sames (Some o) k =
-          let number = slot_at-number core o.number k.old k.stands in
-          let group = k.group in
-          let handler = k.handler in
-          put_slot-sames core core sames o k.old k.stands cc
-
       other_quiet : (o : Option Slot) → OtherSlot i All core s.number o → mine c (with_other core o) ≡ mine c core
       other_quiet None k = refl
       other_quiet (Some o) k = beside-put_slot core core sames c o k.old k.stands k.group (other_out o k)
 
-      own_identity : identity_of s ≡ identity_of (slot_after s d)
-      own_identity =
-          let from = changed_from s d in
-          let number = from.number in
-          let group = from.group in
-          let handler = from.handler in
-          cc
-
-      own_sames : Sames core (put_slot (with_other core d.other) (slot_after s d))
-      own_sames = put_slot-sames core (with_other core d.other) (other_sames d.other g.other) (slot_after s d) s (ap (slot_at core) (changed_from s d).number ∙ at) own_identity
-
       own_quiet : mine c (put_slot (with_other core d.other) (slot_after s d)) ≡ mine c core
       own_quiet =
           let from = changed_from s d in
-          beside-put_slot core (with_other core d.other) (other_sames d.other g.other) c (slot_after s d) s (ap (slot_at core) from.number ∙ at) (sym from.group) (ap c from.group ∙ out)
+          beside-put_slot core (with_other core d.other) (other_sames i core st.formed.rising s.number d.other g.other)
+          c (slot_after s d) s (ap (slot_at core) from.number ∙ at) (sym from.group) (ap c from.group ∙ out)
           ∙ other_quiet d.other g.other
 
       queue_quiet : (mid : Core) → Sames core mid → (o : Option (List Event)) → mine c (with_queue mid s.number o) ≡ mine c mid
       queue_quiet mid k None = refl
       queue_quiet mid k (Some q) = beside-put_queue core mid k c s.number q s at out
 
-      byte_rows : (mid : Core) (o : Option ℕ) → mine c (with_out mid s.group o) ≡ mine c mid
-      unfolding put_output
-      byte_rows mid None = refl
-      byte_rows mid (Some byte) = refl
-
       change_rows : mine c (core_after core s d) ≡ mine c core
       unfolding core_after
       change_rows =
-          byte_rows (with_queue (put_slot (with_other core d.other) (slot_after s d)) s.number d.queue) d.out
-          ∙ queue_quiet (put_slot (with_other core d.other) (slot_after s d)) own_sames d.queue
+          mine-with_out c (with_queue (put_slot (with_other core d.other) (slot_after s d)) s.number d.queue) s.group d.out
+          ∙ queue_quiet (put_slot (with_other core d.other) (slot_after s d)) (own_sames i core st.formed.rising s at d g.other) d.queue
           ∙ own_quiet
-
-      outputs_kept : (o : Option Slot) (u : Option (List Event)) → (with_queue (put_slot (with_other core o) (slot_after s d)) s.number u).outputs ≡ core.outputs
-      unfolding put_slot put_queue
-      outputs_kept None None = refl
-      outputs_kept None (Some u) = refl
-      outputs_kept (Some o) None = refl
-      outputs_kept (Some o) (Some u) = refl
 
       byte_outputs : (mid : Core) → mid.outputs ≡ core.outputs → (o : Option ℕ) (k : ℕ) → c k ≡ true → output_of (with_out mid s.group o) k ≡ output_of core k
       unfolding output_of put_output
@@ -188,57 +147,34 @@ module _ (i : Image) (c : ℕ → Bool) (apart : Apart i All c) (core : Core) (m
 
       change_outputs : (k : ℕ) → c k ≡ true → output_of (core_after core s d) k ≡ output_of core k
       unfolding core_after
-      change_outputs k ck = byte_outputs (with_queue (put_slot (with_other core d.other) (slot_after s d)) s.number d.queue) (outputs_kept d.other d.queue) d.out k ck
+      change_outputs k ck =
+          byte_outputs (with_queue (put_slot (with_other core d.other) (slot_after s d)) s.number d.queue) (moved_same core d.other (slot_after s d) s.number d.queue).outputs d.out k ck
 
     ended_quiet : (instr : Instr) (f : Touch) (t : Option Touch) (us : List Use) (y : Effect) → EffectGranted i All core m s y → Quiet (ended core m s instr f t us y)
     unfolding ended
     ended_quiet instr f t us (Fault cause) g = faulted_quiet cause (addr_operand instr s) (value_operand instr s) (Some f) t us
     ended_quiet instr f t us Block g = blocked_quiet core sames refl (λ k. refl) s refl refl f t us
     ended_quiet instr f t us (Deliver o) g =
-        let number = slot_at-number core o.number g.old g.stands in
-        let group = g.group in
-        let handler = g.handler in
-        blocked_quiet (put_slot core o) (put_slot-sames core core sames o g.old g.stands (cc))
-        (beside-put_slot core core sames c o g.old g.stands g.group (other_out o g)) (put_outputs core o) s refl
-        refl f t us
+        blocked_quiet (put_slot core o) (other_sames i core st.formed.rising s.number (Some o) g) (beside-put_slot core core sames c o g.old g.stands g.group (other_out o g))
+        (output_of-put_slot core o) s refl refl f t us
     ended_quiet instr f t us (Does d) g = record { rows = change_rows d g; outputs = change_outputs d g; slot = refl }
 
-    issued_quiet : (f : Touch) (u : Use) (instr : Instr) → Quiet (issued core m s f u instr)
-    unfolding issued executed
-    issued_quiet f u instr = by (core.split && lacks instr s)
-      where
-        by : (y : Bool) → Quiet (if y then blocked core m (delivered s) f None (u ∷ []) else executed core m s f u instr)
-        by true = blocked_quiet core sames refl (λ k. refl) (delivered s) (delivered_from s).number (delivered_from s).group f None (u ∷ [])
-        by false = ended_quiet instr f (touch_of (ask instr s)) (u ∷ asked_use m (ask instr s))
-            (effect core.split instr s (reply core m s.number (ask instr s)))
-            (effect_granted i All core m st s at instr)
-
-    decoded_quiet : (f : Touch) (u : Use) (o : Option Instr) → Quiet (decoded core m s f u o)
-    decoded_quiet f u None = faulted_quiet Illegal (Int 0) (Int 0) (Some f) None (u ∷ [])
-    decoded_quiet f u (Some instr) = issued_quiet f u instr
-
-    fetched_quiet : (f : Touch) (o : Option Cell) → Quiet (fetched core m s f o)
-    fetched_quiet f None = faulted_quiet NoPage (Int 0) (Int 0) (Some f) None (Accessed f.kind f.addr false false ∷ [])
-    fetched_quiet f (Some cell) = decoded_quiet f (Accessed f.kind f.addr true true) (instr_in cell.word)
-
-    aimed_quiet : (r : Result Touch Cause) → Quiet (aimed core m s r)
-    aimed_quiet (Err cause) = faulted_quiet cause (Int 0) (Int 0) None None []
-    aimed_quiet (Ok f) = fetched_quiet f (cell_at m f.addr)
-
     started_quiet : Quiet (started core m s)
-    unfolding started
-    started_quiet = by s.past
-      where
-        by : (y : Bool) → Quiet (if y then faulted core m s Bounds (Int 0) (Int 0) None None [] else aimed core m s (check_result (Ptr s.ip) (pos 0) Fetch))
-        by true = faulted_quiet Bounds (Int 0) (Int 0) None None []
-        by false = aimed_quiet (check_result (Ptr s.ip) (pos 0) Fetch)
+    unfolding executed
+    started_quiet = started_one core m s Quiet (record {
+      faults = λ cause f done aim. faulted_quiet cause (Int 0) (Int 0) f None (fetch_uses f done);
+      lacks_register = λ f instr aim is lacking. blocked_quiet core sames refl (λ k. refl) (delivered s) (delivered_from s).number (delivered_from s).group f None (fetch_use f ∷ []);
+      carries_out = λ f instr aim is has.
+          ended_quiet instr f (touch_of (ask instr s)) (fetch_use f ∷ asked_use m (ask instr s)) (effect core.split instr s (reply core m s.number (ask instr s)))
+          (effect_granted i All core m st s at instr);
+    })
 
     arrived_quiet : (p : Pending) (rest : List Pending) → Quiet (arrives core m s (p ∷ rest))
     arrived_quiet p rest =
         let from = delivered_from s in
         record {
           rows = beside-put_slot core core sames c (delivered s) s (ap (slot_at core) from.number ∙ at) (sym from.group) (ap c from.group ∙ out);
-          outputs = λ g cg. put_outputs core (delivered s) g;
+          outputs = λ g cg. output_of-put_slot core (delivered s) g;
           slot = refl;
         }
 
@@ -259,32 +195,10 @@ module _ (i : Image) (c : ℕ → Bool) (apart : Apart i All c) (core : Core) (m
           line = line_outside (is_turn_of c t) (trace_line t) outside;
         }
 
-  at_its_number : (n : ℕ) (s : Slot) → slot_at core n ≡ Some s → slot_at core s.number ≡ Some s
-  at_its_number n s is = ap (slot_at core) (slot_at-number core n s is) ∙ is
-
   -- a turn of no slot of the groups, nor of a port of one
-  pub turn_quiet : (n : ℕ) → ((s : Slot) → slot_at core n ≡ Some s → c s.group ≡ false) → ((s : Slot) → port_of core n ≡ Some s → c s.group ≡ false) → QuietTurn i c core m (turn core m n)
-  unfolding turn
-  turn_quiet n out port_out = by (slot_at core n) refl
-    where
-      runs : (s : Slot) → slot_at core n ≡ Some s → (y : Bool)
-          → (turn core m n ≡ (if y then started core m s else idle core m n)) → QuietTurn i c core m
-          (if y then started core m s else idle core m n)
-      runs s is true e = own_turn_quiet s (at_its_number n s is) (out s is) n (started core m s) e (started_quiet s (at_its_number n s is) (out s is))
-      runs s is false e = idle_quiet n
-
-      arrived : (s : Slot) → slot_at core s.number ≡ Some s → c s.group ≡ false → (ps : List Pending) → turn core m n ≡ arrives core m s ps → QuietTurn i c core m (arrives core m s ps)
-      arrived s at outside [] e = idle_quiet s.number
-      arrived s at outside (p ∷ rest) e = own_turn_quiet s at outside n (arrives core m s (p ∷ rest)) e (arrived_quiet s at outside p rest)
-
-      ports : (b : Bool) (s : Slot) → (if b then slot_at core (n - 128) else None) ≡ Some s → slot_at core s.number ≡ Some s
-      ports true s is = at_its_number (n - 128) s is
-      ports false s is = cc
-
-      ported : (o : Option Slot) → port_of core n ≡ o → turn core m n ≡ taken_by_port core m n o → QuietTurn i c core m (taken_by_port core m n o)
-      ported None is e = idle_quiet n
-      ported (Some s) is e = arrived s (ports (core.split && nat_le 128 n) s is) (port_out s is) s.pending e
-
-      by : (o : Option Slot) → slot_at core n ≡ o → QuietTurn i c core m (taken_by core m n o)
-      by None is = ported (port_of core n) refl (ap (taken_by core m n) is)
-      by (Some s) is = runs s is (is_running s.state) (ap (taken_by core m n) is)
+  pub turn_quiet : (n : ℕ) → ((s : Slot) → slot_at core n ≡ Some s → c s.group ≡ false) → ((s : Slot) (p : Pending) → IsPort core n s p → c s.group ≡ false) → QuietTurn i c core m (turn core m n)
+  turn_quiet n out port_out = turn_by core m n (λ t. turn core m n ≡ t → QuietTurn i c core m t) (record {
+    idles = λ k none e. idle_quiet k;
+    arrives_at = λ s p rest free port is e. let outside = port_out s p port in own_turn_quiet s port.at outside n (arrives core m s (p ∷ rest)) e (arrived_quiet s port.at outside p rest);
+    starts = λ s r own e. let outside = out s r.at in own_turn_quiet s own outside n (started core m s) e (started_quiet s own outside);
+  }) refl

@@ -1,28 +1,22 @@
 -- Two runs whose items of the groups are the same, by induction over both lists.
-use Rattle.std.proofs.Common.{◌≡◌, ℕ, Bool, true, false, cond, ◌&&◌, if◌then◌else◌, pos, List, [], ◌∷◌, ◌++◌, map, Option, Some, None, Result, Ok, Err, refl, sym, ap, ◌∙◌, subst, inl, inr}
+use Rattle.std.proofs.Common.{◌≡◌, ℕ, Bool, true, false, cond, if◌then◌else◌, List, [], ◌∷◌, ◌++◌, map, Option, Some, refl, sym, ap, ◌∙◌, subst, inl, inr}
 use Rattle.std.specs.List.{filter}
 use Rattle.std.proofs.lemmas.Bool.{cases_Bool}
-use Rattle.mm_word.specs.declared.perm.Kind.TheVariants.{Fetch}
-use Rattle.mm_word.specs.declared.cause.Cause.{Cause}
-use Rattle.mm_word.specs.declared.cause.Cause.TheVariants.{Bounds}
-use Rattle.mm_word.specs.declared.word.Word.TheVariants.{Int, Ptr}
-use Rattle.mm_word.specs.declared.word.Cell.{Cell}
-use Rattle.mm_word.specs.Access.{Touch, check_result}
+use Rattle.mm_word.specs.Access.{Touch}
 use Rattle.mm_isa.specs.declared.instr.Instr.{Instr}
 use Rattle.mm_model.specs.declared.step.Step.{Step}
 use Rattle.mm_model.specs.declared.slot.Pending.{Pending}
-use Rattle.mm_model.specs.Memory.{Memory, cell_at}
-use Rattle.mm_model.specs.Uses.{Use, Accessed}
+use Rattle.mm_model.specs.Memory.{Memory}
+use Rattle.mm_model.specs.Uses.{Use}
 use Rattle.mm_model.specs.Slot.{Slot}
 use Rattle.mm_model.specs.State.{ThreadRow, Core, State, slot_at, output_of}
 use Rattle.mm_model.specs.Image.{Image, start}
 use Rattle.mm_model.specs.Schedule.{is_kept, only}
-use Rattle.mm_model.specs.Operands.{lacks}
 use Rattle.mm_model.specs.Ask.{ask}
-use Rattle.mm_model.specs.Effect.{Effect, effect, delivered}
+use Rattle.mm_model.specs.Effect.{Effect, effect}
 use Rattle.mm_model.specs.Effect.Effect.{Fault, Block, Deliver, Does}
-use Rattle.mm_model.specs.Turn.{Turned, reply, faulted, touch_of, asked_use, blocked, ended, executed, issued, decoded}
-use Rattle.mm_model.specs.Turn.{instr_in, fetched, aimed, started, idle, arrives, taken_by_port, taken_by, is_running}
+use Rattle.mm_model.specs.Turn.{Turned, reply, faulted, touch_of, asked_use, blocked, ended, executed}
+use Rattle.mm_model.specs.Turn.{started, idle, arrives, taken_by_port, taken_by, is_running}
 use Rattle.mm_model.specs.Turn.{turn}
 use Rattle.mm_model.specs.Run.{turn_of, after, run}
 use Rattle.mm_model.specs.Trace.{group_of, turns_of, step_line, trace_line, traced}
@@ -32,6 +26,7 @@ use Rattle.mm_model.proofs.CoreRows.{slot_at-number, stays_by}
 use Rattle.mm_model.proofs.SlotSteps.{delivered_from}
 use Rattle.mm_model.proofs.Starts.{start_state, start_fits}
 use Rattle.mm_model.proofs.TurnKeeps.{turn_keeps}
+use Rattle.mm_model.proofs.TurnShapes.{fetch_use, started_one}
 use Rattle.mm_model.proofs.Filters.{filter_takes, filter_drops}
 use Rattle.mm_laws.specs.Isolated.{is_row_of, Alike, AgreeApart, Worlds}
 use Rattle.mm_laws.proofs.GrantedRuns.{start_granted}
@@ -49,36 +44,14 @@ module _ (core : Core) (m : Memory) (s : Slot) where
   ended_slot instr f t us (Deliver o) = refl
   ended_slot instr f t us (Does d) = refl
 
-  issued_slot : (f : Touch) (u : Use) (instr : Instr) → (issued core m s f u instr).step.slot ≡ s.number
-  unfolding issued executed blocked
-  issued_slot f u instr = by (core.split && lacks instr s)
-    where
-      by : (b : Bool) → (if b then blocked core m (delivered s) f None (u ∷ []) else executed core m s f u instr).step.slot ≡ s.number
-      by true = (delivered_from s).number
-      by false = ended_slot instr f (touch_of (ask instr s)) (u ∷ asked_use m (ask instr s)) (effect core.split instr s (reply core m s.number (ask instr s)))
-
-  decoded_slot : (f : Touch) (u : Use) (o : Option Instr) → (decoded core m s f u o).step.slot ≡ s.number
-  unfolding faulted
-  decoded_slot f u None = refl
-  decoded_slot f u (Some instr) = issued_slot f u instr
-
-  fetched_slot : (f : Touch) (o : Option Cell) → (fetched core m s f o).step.slot ≡ s.number
-  unfolding faulted
-  fetched_slot f None = refl
-  fetched_slot f (Some cell) = decoded_slot f (Accessed f.kind f.addr true true) (instr_in cell.word)
-
-  aimed_slot : (r : Result Touch Cause) → (aimed core m s r).step.slot ≡ s.number
-  unfolding faulted
-  aimed_slot (Err cause) = refl
-  aimed_slot (Ok f) = fetched_slot f (cell_at m f.addr)
-
   started_slot : (started core m s).step.slot ≡ s.number
-  unfolding started faulted
-  started_slot = by s.past
-    where
-      by : (b : Bool) → (if b then faulted core m s Bounds (Int 0) (Int 0) None None [] else aimed core m s (check_result (Ptr s.ip) (pos 0) Fetch)).step.slot ≡ s.number
-      by true = refl
-      by false = aimed_slot (check_result (Ptr s.ip) (pos 0) Fetch)
+  unfolding executed faulted blocked
+  started_slot = started_one core m s (λ t. t.step.slot ≡ s.number) (record {
+    faults = λ cause f done aim. refl;
+    lacks_register = λ f instr aim is lacking. (delivered_from s).number;
+    carries_out = λ f instr aim is has.
+        ended_slot instr f (touch_of (ask instr s)) (fetch_use f ∷ asked_use m (ask instr s)) (effect core.split instr s (reply core m s.number (ask instr s)));
+  })
 
 -- a turn of an item of the groups is about a slot of them
 record IsAbout (c : ℕ → Bool) (core : Core) (t : Turned) : Type 0 where

@@ -1,7 +1,9 @@
 -- Two worlds, step by step, and by induction over both lists of items.
 use Rattle.std.proofs.Common.{◌≡◌, ℕ, ◌-◌, ◌≤◌, inl, inr, Bool, true, false, ◌&&◌, nat_le, if◌then◌else◌, map, Option, Some, None, refl, sym, ap, ◌∙◌, subst, arith, leb-true}
-use Rattle.std.proofs.lemmas.Bool.{or_cases, or_parts, and_parts}
 use Rattle.mm_model.specs.Slot.{Slot}
+use Rattle.mm_model.specs.declared.slot.Pending.{Pending}
+use Rattle.mm_model.specs.Outcomes.{IsPort}
+use Rattle.std.proofs.lemmas.Bool.{le-leb, or_cases, or_parts, and_parts}
 use Rattle.mm_model.specs.State.{Core, State, slot_at}
 use Rattle.mm_model.specs.Image.{Image, slot_in, start}
 use Rattle.mm_model.specs.Fits.{identity_of, IsSlot, IsState, Fits}
@@ -74,18 +76,14 @@ module _ (i : Image) (c : ℕ → Bool) (s : State) (state : IsState s) (fits : 
       let none = (or_parts (in_groups c (slot_in i.slots n)) (i.split && nat_le 128 n && in_groups c (slot_in i.slots (n - 128))) kept).0 in
       sym (ap (in_groups c) is) ∙ state_groups i c s.core fits.same_slots n ∙ none
 
-  port_outside : (n : ℕ) → is_kept i c n ≡ false → (x : Slot) → port_of s.core n ≡ Some x → c x.group ≡ false
-  port_outside n kept x is = by (s.core.split && nat_le 128 n) refl is
-    where
-      none : (i.split && nat_le 128 n && in_groups c (slot_in i.slots (n - 128))) ≡ false
-      none = (or_parts (in_groups c (slot_in i.slots n)) (i.split && nat_le 128 n && in_groups c (slot_in i.slots (n - 128))) kept).1
-
-      by : (b : Bool) → (s.core.split && nat_le 128 n) ≡ b → (if b then slot_at s.core (n - 128) else None) ≡ Some x → c x.group ≡ false
-      by false on e = cc
-      by true on e =
-          let in_image : (i.split && nat_le 128 n) ≡ true = ap (λ b. b && nat_le 128 n) (sym fits.split) ∙ on in
-          let rest : in_groups c (slot_in i.slots (n - 128)) ≡ false = sym (ap (λ b. b && in_groups c (slot_in i.slots (n - 128))) in_image) ∙ none in
-          sym (ap (in_groups c) e) ∙ state_groups i c s.core fits.same_slots (n - 128) ∙ rest
+  port_outside : (n : ℕ) → is_kept i c n ≡ false → (x : Slot) (p : Pending) → IsPort s.core n x p → c x.group ≡ false
+  port_outside n kept x p port =
+      let number = port.number in
+      let back : n - 128 ≡ x.number = omega arith in
+      let none = (or_parts (in_groups c (slot_in i.slots n)) (i.split && nat_le 128 n && in_groups c (slot_in i.slots (n - 128))) kept).1 in
+      let on : (i.split && nat_le 128 n) ≡ true = ap (λ b. b && nat_le 128 n) (sym fits.split ∙ port.split) ∙ le-leb 128 n (omega arith) in
+      sym (ap (in_groups c) (ap (slot_at s.core) back ∙ port.at)) ∙ state_groups i c s.core fits.same_slots (n - 128)
+      ∙ sym (ap (λ b. b && in_groups c (slot_in i.slots (n - 128))) on) ∙ none
 
 -- 2. One step.
 

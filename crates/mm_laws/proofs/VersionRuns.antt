@@ -19,7 +19,8 @@ use Rattle.mm_model.specs.Reach.{Entries, Grants, Serves, CanTouch, CanWrite}
 use Rattle.mm_model.specs.Reach.Grants.{below}
 use Rattle.mm_model.specs.Worlds.{Touchable, Apart, migrated}
 use Rattle.mm_laws.specs.Migration.{NoOutputIsFull, ShowsTheSame}
-use Rattle.mm_laws.proofs.VersionTurns.{core_as, turned_as, MeetsNoLimit, turn_as, turn_version}
+use Rattle.mm_laws.proofs.VersionTurns.{core_as, turned_as, MeetsNoLimit, turn_as}
+use Rattle.mm_model.proofs.TurnChanges.{turn_changes}
 
 -- 1. Runs.
 
@@ -39,8 +40,8 @@ module _ (v : ℕ) where
 
   rest_meets : (s : State) (n : ℕ) (items : List ℕ) → RunMeetsNoLimit v s (n ∷ items) → RunMeetsNoLimit v (after s n) items
   unfolding steps after
-  rest_meets s n items (inl same) = inl (same ∙ ap output_limit (sym (turn_version s.core s.memory n)))
-  rest_meets s n items (inr k) = inr (subst (λ w. output_limit w ≤ output_limit v) (sym (turn_version s.core s.memory n)) k.0, k.1.1)
+  rest_meets s n items (inl same) = inl (same ∙ ap output_limit (sym (turn_changes s.core s.memory n).version))
+  rest_meets s n items (inr k) = inr (subst (λ w. output_limit w ≤ output_limit v) (sym (turn_changes s.core s.memory n).version) k.0, k.1.1)
 
   turn_of_as : (s : State) (n : ℕ) (items : List ℕ) → RunMeetsNoLimit v s (n ∷ items) → turn_of (state_as v s) n ≡ turned_as v (turn_of s n)
   turn_of_as s n items h = turn_as v s.core s.memory n (first_meets s n items h)

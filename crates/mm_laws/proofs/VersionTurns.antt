@@ -1,38 +1,37 @@
 -- A turn reads the version of a core as the limit of outputs alone, so it is the same in a version whose limit it does not meet.
-use Rattle.std.proofs.Common.{◌≡◌, ℕ, ◌^◌, ◌%◌, ◌≤◌, ◌⊎◌, inl, inr, Bool, true, false, ◌&&◌, nat_lt, if◌then◌else◌, pos}
+use Rattle.std.proofs.Common.{◌≡◌, ℕ, ◌^◌, ◌%◌, ◌≤◌, ◌⊎◌, inl, inr, Bool, true, false, nat_lt, if◌then◌else◌}
 use Rattle.std.proofs.Common.{List, [], ◌∷◌, length, Option, Some, None, Result, Ok, Err, refl, sym, ap, ◌∙◌, arith}
 use Rattle.std.proofs.Common.{ltb-true}
 use Rattle.std.proofs.lemmas.Bool.{lt-ltb}
-use Rattle.mm_word.specs.declared.perm.Kind.TheVariants.{Fetch, Store}
+use Rattle.mm_word.specs.declared.perm.Kind.TheVariants.{Store}
 use Rattle.mm_word.specs.declared.cause.Cause.{Cause}
-use Rattle.mm_word.specs.declared.cause.Cause.TheVariants.{Bounds, NoPage, Illegal, Priv, OutFull}
+use Rattle.mm_word.specs.declared.cause.Cause.TheVariants.{Bounds, Priv, OutFull}
 use Rattle.mm_word.specs.declared.word.Pre.{Pre}
 use Rattle.mm_word.specs.declared.word.Word.{Word}
-use Rattle.mm_word.specs.declared.word.Word.TheVariants.{Int, Ptr}
-use Rattle.mm_word.specs.declared.word.Cell.{Cell}
+use Rattle.mm_word.specs.declared.word.Word.TheVariants.{Int}
 use Rattle.mm_word.specs.Access.{Touch, check_result}
 use Rattle.mm_word.specs.Word.{word_bits}
 use Rattle.mm_isa.specs.declared.instr.Instr.{Instr}
 use Rattle.mm_isa.specs.declared.instr.Instr.TheVariants.{Out, Ld, St, Map, Unmap}
 use Rattle.mm_model.specs.declared.slot.SlotState.TheVariants.{Running, Halted}
-use Rattle.mm_model.specs.declared.slot.Pending.{Pending}
 use Rattle.mm_model.specs.declared.event.Event.{Event}
 use Rattle.mm_model.specs.declared.step.Tick.TheVariants.{Faulted}
-use Rattle.mm_model.specs.Memory.{Memory, cell_at}
-use Rattle.mm_model.specs.Uses.{Use, Accessed}
+use Rattle.mm_model.specs.Memory.{Memory}
+use Rattle.mm_model.specs.Uses.{Use}
 use Rattle.mm_model.specs.Slot.{Slot, register}
 use Rattle.mm_model.specs.State.{Core, slot_at, queue_at, put_slot, put_queue, output_of, put_output}
 use Rattle.mm_model.specs.Image.{output_limit}
-use Rattle.mm_model.specs.Operands.{lacks, addr_operand, value_operand}
+use Rattle.mm_model.specs.Operands.{addr_operand, value_operand}
 use Rattle.mm_model.specs.Ask.{Ask, ask, is_privileged, load_kind, reaching}
 use Rattle.mm_model.specs.Ask.Ask.{Nothing, Refuse, Reach, MapPage, UnmapPage, NextEvent, Room, Serve}
 use Rattle.mm_model.specs.Effect.{Change, Effect, effect, delivered, puts_out}
 use Rattle.mm_model.specs.Effect.Reply.{Fine, Refused}
 use Rattle.mm_model.specs.Effect.Effect.{Fault, Block, Deliver, Does}
+use Rattle.mm_model.proofs.TurnShapes.{fetch_uses, fetch_use, ItemAlike, same_option, started_by, turn_both}
 use Rattle.mm_model.specs.Turn.{Turned, reply, first_event, slot_after, with_other, with_queue, with_out, core_after}
 use Rattle.mm_model.specs.Turn.{stood, is_sync, event_of, core_faulted, tick_faulted, faulted, touch_of, asked_use}
-use Rattle.mm_model.specs.Turn.{blocked, ended, executed, issued, decoded, instr_in, fetched, aimed, started, idle}
-use Rattle.mm_model.specs.Turn.{arrives, taken_by_port, port_of, taken_by, is_running, turn}
+use Rattle.mm_model.specs.Turn.{blocked, ended, executed, started, idle}
+use Rattle.mm_model.specs.Turn.{port_of, turn}
 
 -- the same in another version
 abbrev pub core_as : ℕ → Core → Core
@@ -162,63 +161,22 @@ module _ (v : ℕ) (core : Core) (m : Memory) where
       ap (λ r. ended (core_as v core) m s i f (touch_of (ask i s)) (u ∷ asked_use m (ask i s)) (effect core.split i s r)) (reply_as s.number (ask i s) (room_as s f u i h))
       ∙ end_as s i f (touch_of (ask i s)) (u ∷ asked_use m (ask i s)) (effect core.split i s (reply core m s.number (ask i s)))
 
-  issue_as : (s : Slot) (f : Touch) (u : Use) (i : Instr) → Same v core (issued core m s f u i) (issued (core_as v core) m s f u i)
-  unfolding issued
-  issue_as s f u i = by (core.split && lacks i s)
-    where
-      by : (b : Bool) → Same v core (if b then blocked core m (delivered s) f None (u ∷ []) else executed core m s f u
-          i) (if b then blocked (core_as v core) m (delivered s) f None (u ∷ []) else executed (core_as v core) m s f u
-          i)
-      by true h = block_as (delivered s) f None (u ∷ [])
-      by false h = execute_as s f u i h
-
-  decode_as : (s : Slot) (f : Touch) (u : Use) (o : Option Instr) → Same v core (decoded core m s f u o) (decoded (core_as v core) m s f u o)
-  decode_as s f u None h = fault_as s Illegal (Int 0) (Int 0) (Some f) None (u ∷ [])
-  decode_as s f u (Some i) h = issue_as s f u i h
-
-  fetch_as : (s : Slot) (f : Touch) (o : Option Cell) → Same v core (fetched core m s f o) (fetched (core_as v core) m s f o)
-  fetch_as s f None h = fault_as s NoPage (Int 0) (Int 0) (Some f) None (Accessed f.kind f.addr false false ∷ [])
-  fetch_as s f (Some c) h = decode_as s f (Accessed f.kind f.addr true true) (instr_in c.word) h
-
-  aim_as : (s : Slot) (r : Result Touch Cause) → Same v core (aimed core m s r) (aimed (core_as v core) m s r)
-  aim_as s (Err c) h = fault_as s c (Int 0) (Int 0) None None []
-  aim_as s (Ok f) h = fetch_as s f (cell_at m f.addr) h
-
   start_as : (s : Slot) → Same v core (started core m s) (started (core_as v core) m s)
-  unfolding started
-  start_as s = by s.past
-    where
-      by : (b : Bool) → Same v core (if b then faulted core m s Bounds (Int 0) (Int 0) None None [] else aimed core m s (check_result (Ptr s.ip) (pos 0) Fetch))
-          (if b then faulted (core_as v core) m s Bounds (Int 0) (Int 0) None None [] else aimed (core_as v core) m s (check_result (Ptr s.ip) (pos 0) Fetch))
-      by true h = fault_as s Bounds (Int 0) (Int 0) None None []
-      by false h = aim_as s (check_result (Ptr s.ip) (pos 0) Fetch) h
+  start_as s = started_by core (core_as v core) m m s s (record { past = refl; ip = refl; cells = λ f aim. refl; lacking = λ i. refl }) (Same v core) (record {
+    faults = λ c f done aim h. fault_as s c (Int 0) (Int 0) f None (fetch_uses f done);
+    lacks_register = λ f i aim is lacking h. block_as (delivered s) f None (fetch_use f ∷ []);
+    carries_out = λ f i aim is has h. execute_as s f (fetch_use f) i h;
+  })
 
   idle_as : (n : ℕ) → idle (core_as v core) m n ≡ turned_as v (idle core m n)
   unfolding idle
   idle_as n = refl
 
-  arrive_as : (s : Slot) (ps : List Pending) → arrives (core_as v core) m s ps ≡ turned_as v (arrives core m s ps)
-  unfolding put_slot
-  arrive_as s [] = idle_as s.number
-  arrive_as s (p ∷ rest) = refl
-
-  port_as : (n : ℕ) (o : Option Slot) → taken_by_port (core_as v core) m n o ≡ turned_as v (taken_by_port core m n o)
-  port_as n None = idle_as n
-  port_as n (Some s) = arrive_as s s.pending
-
-  take_as : (n : ℕ) (o : Option Slot) → Same v core (taken_by core m n o) (taken_by (core_as v core) m n o)
+  item_as : (n : ℕ) → ItemAlike core (core_as v core) n (λ s. s)
   unfolding slot_at
-  take_as n None h = port_as n (port_of core n)
-  take_as n (Some s) h = by (is_running s.state) h
-    where
-      by : (b : Bool) → Same v core (if b then started core m s else idle core m n) (if b then started (core_as v core) m s else idle (core_as v core) m n)
-      by true h = start_as s h
-      by false h = idle_as n
+  item_as n = record { slots = same_option (slot_at core n); ports = λ free. same_option (port_of core n); number = λ s. refl; state = λ s. refl; pending = λ s. refl }
 
   pub turn_as : (n : ℕ) → Same v core (turn core m n) (turn (core_as v core) m n)
-  unfolding turn slot_at
-  turn_as n = take_as n (slot_at core n)
-
--- so no turn changes the version
-pub turn_version : (core : Core) (m : Memory) (n : ℕ) → (turn core m n).core.version ≡ core.version
-turn_version core m n = ap (λ (t : Turned). t.core.version) (turn_as core.version core m n (inl refl))
+  unfolding put_slot
+  turn_as n = turn_both core (core_as v core) m m n (λ s. s) (item_as n) (Same v core)
+      (record { idles = λ k none h. idle_as k; arrives_at = λ s p rest free port is h. refl; starts = λ s r own h. start_as s h })

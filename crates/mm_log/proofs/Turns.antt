@@ -1,5 +1,5 @@
 -- What a turn moves of a core and of a memory.
-use Rattle.std.proofs.Common.{◌≡◌, ◌⊎◌, ℕ, zero, suc, ◌+◌, ◌-◌, inl, inr, Bool, true, false, if◌then◌else◌, List, []}
+use Rattle.std.proofs.Common.{◌≡◌, ◌⊎◌, ℕ, zero, suc, ◌+◌, inl, inr, Bool, true, false, if◌then◌else◌, List, []}
 use Rattle.std.proofs.Common.{◌∷◌, ◌++◌, Option, Some, None, refl, sym, ap, ◌∙◌, subst, slice_index_or, slice_set}
 use Rattle.std.specs.Prelude.{IfSome}
 use Rattle.std.proofs.lemmas.Bool.{cases_eq}
@@ -27,9 +27,9 @@ use Rattle.mm_model.specs.Effect.Effect.{Fault, Block, Deliver, Does}
 use Rattle.mm_model.specs.Turn.{Turned, reply, put_all, state_after, with_issue, slot_after, with_other, with_queue}
 use Rattle.mm_model.specs.Turn.{with_out, core_after, stood, is_sync, event_of, core_faulted, tick_faulted, faulted}
 use Rattle.mm_model.specs.Turn.{touch_of, asked_use, blocked, ended, executed, idle, arrives, turn}
-use Rattle.mm_model.proofs.CoreRows.{slot_at-number, slot_at-put_same, slot_at-put_other, queue_at-put_slot, slot_at-put_queue, queue_at-put_same, queue_at-put_other, slot_has, other_at}
+use Rattle.mm_model.proofs.CoreRows.{slot_at-put_same, slot_at-put_other, queue_at-put_slot, slot_at-put_queue, queue_at-put_same, queue_at-put_other, slot_has, other_at}
 use Rattle.mm_model.proofs.CoreSteps.{Fitting}
-use Rattle.mm_model.proofs.TurnShapes.{TurnShape, turn_shape}
+use Rattle.mm_model.proofs.TurnShapes.{fetch_uses, fetch_use, started_one, turn_by}
 use Rattle.mm_log.specs.Replay.{is_turn}
 use Rattle.mm_log.proofs.Rows.{LoadsMove, SlotMove, MemoryMove, OtherMove, OtherMoves, QueueMoves, ChangeMoves, EffectMoves, delivered_move, delivered_turns, effect_moves}
 
@@ -347,20 +347,16 @@ module _ (core : Core) (m : Memory) (h : IsFormed core) (fit : Fitting core) whe
     idle = λ e. (refl, refl);
   }
 
-  at_its_number : (n : ℕ) (s : Slot) → slot_at core n ≡ Some s → slot_at core s.number ≡ Some s
-  at_its_number n s is = ap (slot_at core) (slot_at-number core n s is) ∙ is
-
-  shape_moves : (n : ℕ) (t : Turned) → TurnShape core m n t → TurnMoves core m t
-  unfolding executed
-  shape_moves n t (TurnShape.idles k is) = subst (TurnMoves core m) (sym is) (idle_moves k)
-  shape_moves n t (TurnShape.arrives_at s p rest on at pending is) = subst (TurnMoves core m) (sym is) (arrived_moves s (at_its_number (n - 128) s at) p rest)
-  shape_moves n t (TurnShape.faults_early s c us r is) = subst (TurnMoves core m) (sym is) (fault_moves s (at_its_number n s r.at) c (Int 0) (Int 0) None None us)
-  shape_moves n t (TurnShape.faults_fetching s c f us r aim is) = subst (TurnMoves core m) (sym is) (fault_moves s (at_its_number n s r.at) c (Int 0) (Int 0) (Some f) None us)
-  shape_moves n t (TurnShape.lacks_register s f i us r aim found on lacking is) =
-      subst (TurnMoves core m) (sym is) (blocked_moves s (at_its_number n s r.at) core (delivered s) (λ C. slots_stay C core) (λ k. refl) refl (delivered_move s) f None us)
-  shape_moves n t (TurnShape.carries_out s f u i r aim found has is) =
-      subst (TurnMoves core m) (sym is)
-      (ended_moves s (at_its_number n s r.at) (ask i s) i f (touch_of (ask i s)) (u ∷ asked_use m (ask i s)) (effect core.split i s (reply core m s.number (ask i s))) (effect_moves core m s i))
-
   pub turn_moves : (n : ℕ) → TurnMoves core m (turn core m n)
-  turn_moves n = shape_moves n (turn core m n) (turn_shape core m n)
+  unfolding executed
+  turn_moves n = turn_by core m n (TurnMoves core m) (record {
+    idles = λ k none. idle_moves k;
+    arrives_at = λ s p rest free port is. arrived_moves s port.at p rest;
+    starts = λ s r own. started_one core m s (TurnMoves core m) (record {
+      faults = λ c f done aim. fault_moves s own c (Int 0) (Int 0) f None (fetch_uses f done);
+      lacks_register = λ f i aim is lacking. blocked_moves s own core (delivered s) (λ C. slots_stay C core) (λ k. refl) refl (delivered_move s) f None (fetch_use f ∷ []);
+      carries_out = λ f i aim is has.
+          ended_moves s own (ask i s) i f (touch_of (ask i s)) (fetch_use f ∷ asked_use m (ask i s)) (effect core.split i s (reply core m s.number (ask i s)))
+          (effect_moves core m s i);
+    });
+  })

@@ -1,5 +1,5 @@
 -- The ways that a turn can go, each with what it comes to.
-use Rattle.std.proofs.Common.{◌≡◌, ◌⊎◌, ℕ, ◌-◌, inl, inr, Bool, true, false, ◌&&◌, nat_le, if◌then◌else◌, pos, List, [], ◌∷◌, Option, Some, None, Result, Ok, Err, refl, sym, ap}
+use Rattle.std.proofs.Common.{arith, ◌∙◌, ◌≡◌, ◌⊎◌, ℕ, ◌-◌, inl, inr, Bool, true, false, ◌&&◌, nat_le, if◌then◌else◌, pos, List, [], ◌∷◌, Option, Some, None, Result, Ok, Err, refl, sym, ap}
 use Rattle.mm_word.specs.declared.perm.Kind.TheVariants.{Fetch}
 use Rattle.mm_word.specs.declared.cause.Cause.{Cause}
 use Rattle.mm_word.specs.declared.cause.Cause.TheVariants.{Bounds, NoPage, Illegal}
@@ -17,9 +17,11 @@ use Rattle.mm_model.specs.Ask.{ask}
 use Rattle.mm_model.specs.Effect.{Change, Effect, effect, delivered}
 use Rattle.mm_model.specs.Effect.Effect.{Fault, Block, Deliver, Does}
 use Rattle.mm_model.specs.Turn.{Turned, reply, faulted, touch_of, asked_use, blocked, ended, executed, issued, decoded}
-use Rattle.mm_model.specs.Turn.{instr_in, fetched, aimed, started, idle, arrives, taken_by_port, taken_by, is_running}
+use Rattle.mm_model.specs.Turn.{instr_in, fetched, aimed, started, idle, arrives}
 use Rattle.mm_model.specs.Turn.{turn}
 use Rattle.mm_model.specs.Outcomes.{Runs}
+use Rattle.mm_model.proofs.TurnShapes.{turn_by}
+use Rattle.std.proofs.lemmas.Bool.{le-leb}
 use Rattle.mm_log.specs.Looks.{in_cell, found_by, comes_to, address_told, value_told}
 use Rattle.mm_log.proofs.Rows.{OtherMove, ChangeMoves, EffectMoves, effect_moves}
 
@@ -40,10 +42,6 @@ pub data Way (core : Core) (m : Memory) (n : ℕ) (t : Turned) : Type 0 where
   does : (s : Slot) (i : Instr) (c : Change) (f : Touch) (u : Option Touch) (us : List Use) → Runs core n s
       → comes_to m s ≡ Some i → effect core.split i s (reply core m s.number (ask i s)) ≡ Does c → ChangeMoves core m s
       (ask i s) c → t ≡ ended core m s i f u us (Does c) → Way core m n t
-
-both : (a b : Bool) → (a && b) ≡ true → (a ≡ true) × (b ≡ true)
-both true b e = (refl, e)
-both false b e = cc
 
 module _ (core : Core) (m : Memory) (n : ℕ) where
   abbrev Goes : Turned → Type 0
@@ -90,27 +88,13 @@ module _ (core : Core) (m : Memory) (n : ℕ) where
         by true e = fault_way None (ap (λ b. if b then None else found_by m (check_result (Ptr s.ip) (pos 0) Fetch)) e) Bounds None None []
         by false e = aimed_way (check_result (Ptr s.ip) (pos 0) Fetch) (ap (λ b. if b then None else found_by m (check_result (Ptr s.ip) (pos 0) Fetch)) e)
 
-  arrived_way : (s : Slot) (ps : List Pending) → slot_at core n ≡ None → nat_le 128 n ≡ true → slot_at core (n - 128) ≡ Some s → s.pending ≡ ps → Goes (arrives core m s ps)
-  arrived_way s [] none high at is = Way.idles s.number refl
-  arrived_way s (p ∷ rest) none high at is = Way.arrives_at s p rest none high at is refl
-
-  port_way : slot_at core n ≡ None → (b : Bool) → (core.split && nat_le 128 n) ≡ b → Goes (taken_by_port core m n (if b then slot_at core (n - 128) else None))
-  port_way none false e = Way.idles n refl
-  port_way none true e = by (slot_at core (n - 128)) refl
-    where
-      by : (o : Option Slot) → slot_at core (n - 128) ≡ o → Goes (taken_by_port core m n o)
-      by None is = Way.idles n refl
-      by (Some s) is = arrived_way s s.pending none (both core.split (nat_le 128 n) e).1 is refl
-
   -- each turn goes one of these ways
   pub turn_way : Goes (turn core m n)
-  unfolding turn
-  turn_way = by (slot_at core n) refl
-    where
-      runs : (s : Slot) → slot_at core n ≡ Some s → (b : Bool) → is_running s.state ≡ b → Goes (if b then started core m s else idle core m n)
-      runs s is true running = started_way s (record { at = is; running = running })
-      runs s is false running = Way.idles n refl
-
-      by : (o : Option Slot) → slot_at core n ≡ o → Goes (taken_by core m n o)
-      by None is = port_way is (core.split && nat_le 128 n) refl
-      by (Some s) is = runs s is (is_running s.state) refl
+  turn_way = turn_by core m n Goes (record {
+    idles = λ k none. Way.idles k refl;
+    arrives_at = λ s p rest free port is.
+        let number = port.number in
+        let back : n - 128 ≡ s.number = omega arith in
+        Way.arrives_at s p rest free (le-leb 128 n (omega arith)) (ap (slot_at core) back ∙ port.at) is refl;
+    starts = λ s r own. started_way s r;
+  })

@@ -1,10 +1,10 @@
 -- What each cycle comes to, exactly, and what a fault changes.
-use Rattle.std.proofs.Common.{◌≡◌, ◌≢◌, ℕ, ◌-◌, ◌<◌, ◌≤◌, ◌↔◌, inl, inr, Bool, true, false, ◌&&◌, nat_le, eq-eqb}
+use Rattle.std.proofs.Common.{◌≡◌, ◌≢◌, ℕ, ◌<◌, ◌↔◌, inl, inr, Bool, true, false, eq-eqb}
 use Rattle.std.proofs.Common.{if◌then◌else◌, List, [], ◌∷◌, ◌++◌, Option, Some, None, refl, sym, ap, ◌∙◌, subst, arith}
 use Rattle.std.proofs.Common.{append-nil}
 use Rattle.std.specs.Prelude.{is_some, slice_get, IfSome}
 use Rattle.std.specs.List.{AllByRecursion}
-use Rattle.std.proofs.lemmas.Bool.{cases_eq, ne_eqb, leb-true, leb-false}
+use Rattle.std.proofs.lemmas.Bool.{cases_eq, ne_eqb}
 use Rattle.mm_word.specs.declared.cause.Cause.{Cause}
 use Rattle.mm_word.specs.declared.cause.Cause.TheVariants as cause
 use Rattle.mm_model.specs.declared.slot.SlotState.{SlotState}
@@ -19,7 +19,7 @@ use Rattle.mm_model.specs.State.{Core, State, slot_at, queue_at, put_slot, put_q
 use Rattle.mm_model.specs.Image.{Image}
 use Rattle.mm_model.specs.Spelling.{IsOther, IsImage}
 use Rattle.mm_model.specs.Fits.{slots_of, waits_for, IsSlot, IsFormed, IsState, Fits, IsCore}
-use Rattle.mm_model.specs.Turn.{Turned, is_running, is_sync, is_handler, stood, event_of, core_faulted, tick_faulted, faulted, started, idle, arrives, taken_by_port, taken_by, turn}
+use Rattle.mm_model.specs.Turn.{Turned, is_sync, is_handler, stood, event_of, core_faulted, tick_faulted, faulted, started, idle, turn}
 use Rattle.mm_model.specs.Run.{turn_of, state_of, after}
 use Rattle.mm_model.specs.Tests.{Stop, first_stop}
 use Rattle.mm_model.specs.Tests.Stop.{Fails, Lacks, Awaits}
@@ -28,6 +28,7 @@ use Rattle.mm_model.proofs.CoreRows.{each_map, slot_at-number, slot_at-put_same,
 use Rattle.mm_model.proofs.CoreSteps.{Fitting}
 use Rattle.mm_model.proofs.Fitted.{fitting_of}
 use Rattle.mm_model.proofs.Shortness.{queued_at}
+use Rattle.mm_model.proofs.TurnShapes.{NamesNone, same_slot, turn_runs, turn_by}
 use Rattle.mm_model.proofs.Stops.{Orphan, FaultedTurn, Stands, turn_stops}
 
 -- 1. What is needed of a core: slots have other numbers than ports, and the slot of a queued event and a slot's handler are there.
@@ -77,75 +78,22 @@ no_orphan core h n o =
     let there = (subst (AllByRecursion (λ (e : Event). is_some (slot_at core e.slot) ≡ true)) o.queue (h.queued n)).0 in
     cc (ap is_some o.absent, there)
 
--- 2. What a cycle is.
-
-same_slot : (core : Core) (n k : ℕ) (s t : Slot) → slot_at core n ≡ Some s → slot_at core k ≡ Some t → n ≡ k → s ≡ t
-same_slot core n k s t a b e =
-    let two : ◌≡◌ {A = Option Slot} (Some s) (Some t) = sym a ∙ ap (slot_at core) e ∙ b in
-    cc
-
 same_runner : (core : Core) (n : ℕ) (s t : Slot) → Runs core n s → Runs core n t → s ≡ t
 same_runner core n s t a b = same_slot core n n s t a.at b.at refl
 
-pub data CycleShape (core : Core) (m : Memory) (n : ℕ) (t : Turned) : Type 0 where
-  runs : (s : Slot) → Runs core n s → Stands core m s (first_stop core m s) t → CycleShape core m n t
-  delivers : (s : Slot) (p : Pending) → slot_at core n ≡ None → IsPort core n s p → t.step.tick ≡ Delivered p.reg → CycleShape core m n t
-  idles : ((s : Slot) → ¬ (Runs core n s)) → (IsOrderly core → (s : Slot) (p : Pending) → ¬ (IsPort core n s p)) → t.step.tick ≡ Idle → CycleShape core m n t
+-- no slot has the number of a port
+port_free : (core : Core) (n : ℕ) → IsOrderly core → (s t : Slot) (p : Pending) → slot_at core n ≡ Some t → ¬ (IsPort core n s p)
+port_free core n h s t p is port = let lt = h.low n (ap is_some is) in let number = port.number in omega arith
 
-module _ (core : Core) (m : Memory) (n : ℕ) where
-  absent_runs_not : slot_at core n ≡ None → (s : Slot) → ¬ (Runs core n s)
-  absent_runs_not is s r = cc (is, r.at)
+-- an item that names nothing is idle
+none_idle : (core : Core) (n : ℕ) → IsOrderly core → NamesNone core n → IsIdle core n
+none_idle core n h none = record { no_slot = none.no_slot; no_port = by (slot_at core n) refl }
+  where
+    by : (o : Option Slot) → slot_at core n ≡ o → (s : Slot) (p : Pending) → ¬ (IsPort core n s p)
+    by None is s p = none.no_port is s p
+    by (Some t) is s p = port_free core n h s t p is
 
-  -- no slot has the number of a port
-  port_free : IsOrderly core → (s t : Slot) (p : Pending) → slot_at core n ≡ Some t → ¬ (IsPort core n s p)
-  port_free h s t p is port = let lt = h.low n (ap is_some is) in let number = port.number in omega arith
-
-  arrived_shape : (s : Slot) (ps : List Pending) → slot_at core n ≡ None → core.split ≡ true → slot_at core (n - 128) ≡ Some s → 128 ≤ n → s.pending ≡ ps → CycleShape core m n (arrives core m s ps)
-  unfolding idle
-  arrived_shape s [] free split at le is =
-      CycleShape.idles (absent_runs_not free)
-      (λ h t p port.
-      let number = port.number in
-      let same = same_slot core t.number (n - 128) t s port.at at (omega arith) in
-      let none : slice_get t.pending 0 ≡ None = ap (λ (x : Slot). slice_get x.pending 0) same ∙ ap (λ ps. slice_get ps 0) is in
-      cc (none, port.oldest))
-      refl
-  arrived_shape s (p ∷ rest) free split at le is =
-      let number = slot_at-number core (n - 128) s at in
-      CycleShape.delivers s p free
-      (record { split = split; number = omega arith; at = ap (slot_at core) number ∙ at; oldest = ap (λ ps. slice_get ps 0) is })
-      refl
-
-  idle_shape : slot_at core n ≡ None → ((s : Slot) (p : Pending) → ¬ (IsPort core n s p)) → CycleShape core m n (idle core m n)
-  unfolding idle
-  idle_shape free none = CycleShape.idles (absent_runs_not free) (λ h. none) refl
-
-  port_shape : slot_at core n ≡ None → (a b : Bool) → core.split ≡ a → nat_le 128 n ≡ b → CycleShape core m n (taken_by_port core m n (if a && b then slot_at core (n - 128) else None))
-  port_shape free false b split le = idle_shape free (λ s p port. cc (split, port.split))
-  port_shape free true false split le = idle_shape free (λ s p port. let lt = leb-false 128 n le in let number = port.number in omega arith)
-  port_shape free true true split le = by (slot_at core (n - 128)) refl
-    where
-      by : (o : Option Slot) → slot_at core (n - 128) ≡ o → CycleShape core m n (taken_by_port core m n o)
-      by None is = idle_shape free (λ s p port. let number = port.number in cc (ap (slot_at core) (let e : s.number ≡ n - 128 = omega arith in e), is, port.at))
-      by (Some s) is = arrived_shape s s.pending free split is (leb-true 128 n le) refl
-
-  pub cycle_shape : CycleShape core m n (turn core m n)
-  unfolding turn idle
-  cycle_shape = by (slot_at core n) refl
-    where
-      runs : (s : Slot) → slot_at core n ≡ Some s → (b : Bool) → is_running s.state ≡ b → CycleShape core m n (if b then started core m s else idle core m n)
-      runs s is true running = CycleShape.runs s (record { at = is; running = running }) (turn_stops core m s)
-      runs s is false running =
-          CycleShape.idles
-          (λ t r. let same = same_slot core n n s t is r.at refl in cc (ap (λ (x : Slot). is_running x.state) same, running, r.running))
-          (λ h t p. port_free h t s p is)
-          refl
-
-      by : (o : Option Slot) → slot_at core n ≡ o → CycleShape core m n (taken_by core m n o)
-      by None is = port_shape is core.split (nat_le 128 n) refl refl
-      by (Some s) is = runs s is (is_running s.state) refl
-
--- 3. Each outcome comes exactly there.
+-- 2. Each outcome comes exactly there.
 
 -- how a running slot's turn ends
 data RunTick (core : Core) (m : Memory) (s : Slot) (tick : Tick) : Type 0 where
@@ -189,23 +137,23 @@ waits_faults_not core m s c (Waits.for_load of is) stop handled = cc
 waits_faults_not core m s c (Waits.for_bit is none) stop handled = handled (cc) none
 waits_faults_not core m s c (Waits.for_event is) stop handled = cc
 
+-- what a cycle is, with how a running slot's turn ends
+data Ending (core : Core) (m : Memory) (n : ℕ) (tick : Tick) : Type 0 where
+  runs : (s : Slot) → Runs core n s → RunTick core m s tick → Ending core m n tick
+  delivers : (s : Slot) (p : Pending) → slot_at core n ≡ None → IsPort core n s p → tick ≡ Delivered p.reg → Ending core m n tick
+  idles : NamesNone core n → tick ≡ Idle → Ending core m n tick
+
 module _ (core : Core) (m : Memory) (n : ℕ) where
   abbrev outcome : Tick
   outcome = (turn core m n).step.tick
 
-  -- the shapes of a cycle once more, with how a running slot's turn ends
-  data Ending : Type 0 where
-    runs : (s : Slot) → Runs core n s → RunTick core m s outcome → Ending
-    delivers : (s : Slot) (p : Pending) → slot_at core n ≡ None → IsPort core n s p → outcome ≡ Delivered p.reg → Ending
-    idles : ((s : Slot) → ¬ (Runs core n s)) → (IsOrderly core → (s : Slot) (p : Pending) → ¬ (IsPort core n s p)) → outcome ≡ Idle → Ending
-
-  ending : Ending
-  ending = by (cycle_shape core m n)
-    where
-      by : CycleShape core m n (turn core m n) → Ending
-      by (CycleShape.runs s r k) = Ending.runs s r (run_tick core m s (turn core m n) (first_stop core m s) refl k)
-      by (CycleShape.delivers s p free port is) = Ending.delivers s p free port is
-      by (CycleShape.idles none no_ports is) = Ending.idles none no_ports is
+  ending : Ending core m n outcome
+  unfolding idle
+  ending = turn_by core m n (λ t. Ending core m n t.step.tick) (record {
+    idles = λ k none. Ending.idles none refl;
+    arrives_at = λ s p rest free port is. Ending.delivers s p free port refl;
+    starts = λ s r own. Ending.runs s r (run_tick core m s (started core m s) (first_stop core m s) refl (turn_stops core m s));
+  })
 
   pub faulted_exactly : (c : Cause) → (outcome ≡ Faulted c) ↔ Faults core m n c
   faulted_exactly c = (λ is. to is ending, λ f. from f ending)
@@ -216,10 +164,10 @@ module _ (core : Core) (m : Memory) (n : ℕ) where
       ran s r is (RunTick.faults d stop handled tick) = let same : d ≡ c = cc in subst (Faults core m n) same (s, record { runs = r; stop = stop }, handled)
       ran s r is (RunTick.waits w tick) = cc
 
-      to : outcome ≡ Faulted c → Ending → Faults core m n c
+      to : outcome ≡ Faulted c → Ending core m n outcome → Faults core m n c
       to is (Ending.runs s r k) = ran s r is k
       to is (Ending.delivers s p free port tick) = cc
-      to is (Ending.idles none no_ports tick) = cc
+      to is (Ending.idles none tick) = cc
 
       back : (s : Slot) → first_stop core m s ≡ Some (Fails c) → (c ≡ cause.Sync → s.handler ≢ None) → RunTick core m s outcome → outcome ≡ Faulted c
       back s is handled (RunTick.completes stop tick) = cc
@@ -227,12 +175,12 @@ module _ (core : Core) (m : Memory) (n : ℕ) where
       back s is handled (RunTick.faults d stop also tick) = cc
       back s is handled (RunTick.waits w tick) = absurd (waits_faults_not core m s c w is handled)
 
-      from : Faults core m n c → Ending → outcome ≡ Faulted c
+      from : Faults core m n c → Ending core m n outcome → outcome ≡ Faulted c
       from f (Ending.runs s r k) =
           let same = same_runner core n f.0 s f.1.runs r in
           back s (ap (first_stop core m) (sym same) ∙ f.1.stop) (λ sync none. f.2 sync (ap (λ (x : Slot). x.handler) same ∙ none)) k
-      from f (Ending.delivers s p free port tick) = absurd (absent_runs_not core m n free f.0 f.1.runs)
-      from f (Ending.idles none no_ports tick) = absurd (none f.0 f.1.runs)
+      from f (Ending.delivers s p free port tick) = cc (free, f.1.runs.at)
+      from f (Ending.idles none tick) = absurd (none.no_slot f.0 f.1.runs)
 
   module _ (h : IsOrderly core) where
     idle_exactly : (outcome ≡ Idle) ↔ IsIdle core n
@@ -244,15 +192,15 @@ module _ (core : Core) (m : Memory) (n : ℕ) where
         ran s is (RunTick.faults d stop handled tick) = cc
         ran s is (RunTick.waits w tick) = cc
 
-        to : outcome ≡ Idle → Ending → IsIdle core n
+        to : outcome ≡ Idle → Ending core m n outcome → IsIdle core n
         to is (Ending.runs s r k) = ran s is k
         to is (Ending.delivers s p free port tick) = cc
-        to is (Ending.idles none no_ports tick) = record { no_slot = none; no_port = no_ports h }
+        to is (Ending.idles none tick) = none_idle core n h none
 
-        from : IsIdle core n → Ending → outcome ≡ Idle
+        from : IsIdle core n → Ending core m n outcome → outcome ≡ Idle
         from i (Ending.runs s r k) = absurd (i.no_slot s r)
         from i (Ending.delivers s p free port tick) = absurd (i.no_port s p port)
-        from i (Ending.idles none no_ports tick) = tick
+        from i (Ending.idles none tick) = tick
 
     delivered_exactly : (reg : ℕ) → (outcome ≡ Delivered reg) ↔ Delivers core n reg
     delivered_exactly reg = (λ is. to is ending, λ d. from d ending)
@@ -263,13 +211,13 @@ module _ (core : Core) (m : Memory) (n : ℕ) where
         ran s is (RunTick.faults d stop handled tick) = cc
         ran s is (RunTick.waits w tick) = cc
 
-        to : outcome ≡ Delivered reg → Ending → Delivers core n reg
+        to : outcome ≡ Delivered reg → Ending core m n outcome → Delivers core n reg
         to is (Ending.runs s r k) = ran s is k
         to is (Ending.delivers s p free port tick) = (s, p, port, cc)
-        to is (Ending.idles none no_ports tick) = cc
+        to is (Ending.idles none tick) = cc
 
-        from : Delivers core n reg → Ending → outcome ≡ Delivered reg
-        from d (Ending.runs s r k) = absurd (port_free core m n h d.0 s d.1 r.at d.2)
+        from : Delivers core n reg → Ending core m n outcome → outcome ≡ Delivered reg
+        from d (Ending.runs s r k) = absurd (port_free core n h d.0 s d.1 r.at d.2)
         from d (Ending.delivers s p free port tick) =
             let one = port.number in
             let two = d.2.number in
@@ -277,7 +225,7 @@ module _ (core : Core) (m : Memory) (n : ℕ) where
             let also : ◌≡◌ {A = Option Pending} (Some p) (Some d.1) = sym port.oldest ∙ ap (λ (x : Slot). slice_get x.pending 0) same ∙ d.2.oldest in
             let is = d.3 in
             cc
-        from d (Ending.idles none no_ports tick) = absurd (no_ports h d.0 d.1 d.2)
+        from d (Ending.idles none tick) = absurd ((none_idle core n h none).no_port d.0 d.1 d.2)
 
     blocked_exactly : (outcome ≡ Blocked) ↔ Blocks core m n
     blocked_exactly = (λ is. to is ending, λ b. from b ending)
@@ -288,10 +236,10 @@ module _ (core : Core) (m : Memory) (n : ℕ) where
         ran s r is (RunTick.faults d stop handled tick) = cc
         ran s r is (RunTick.waits w tick) = (s, r, w)
 
-        to : outcome ≡ Blocked → Ending → Blocks core m n
+        to : outcome ≡ Blocked → Ending core m n outcome → Blocks core m n
         to is (Ending.runs s r k) = ran s r is k
         to is (Ending.delivers s p free port tick) = cc
-        to is (Ending.idles none no_ports tick) = cc
+        to is (Ending.idles none tick) = cc
 
         back : (s : Slot) → Waits core m s → RunTick core m s outcome → outcome ≡ Blocked
         back s w (RunTick.completes stop tick) = let x = waits_stop core m s w in cc (x.1)
@@ -299,10 +247,10 @@ module _ (core : Core) (m : Memory) (n : ℕ) where
         back s w (RunTick.faults d stop handled tick) = absurd (waits_faults_not core m s d w stop handled)
         back s w (RunTick.waits v tick) = tick
 
-        from : Blocks core m n → Ending → outcome ≡ Blocked
+        from : Blocks core m n → Ending core m n outcome → outcome ≡ Blocked
         from b (Ending.runs s r k) = back s (subst (Waits core m) (same_runner core n b.0 s b.1 r) b.2) k
-        from b (Ending.delivers s p free port tick) = absurd (absent_runs_not core m n free b.0 b.1)
-        from b (Ending.idles none no_ports tick) = absurd (none b.0 b.1)
+        from b (Ending.delivers s p free port tick) = cc (free, b.1.at)
+        from b (Ending.idles none tick) = absurd (none.no_slot b.0 b.1)
 
     did_exactly : (outcome ≡ Did) ↔ Completes core m n
     did_exactly = (λ is. to is ending, λ d. from d ending)
@@ -313,10 +261,10 @@ module _ (core : Core) (m : Memory) (n : ℕ) where
         ran s r is (RunTick.faults d stop handled tick) = cc
         ran s r is (RunTick.waits w tick) = cc
 
-        to : outcome ≡ Did → Ending → Completes core m n
+        to : outcome ≡ Did → Ending core m n outcome → Completes core m n
         to is (Ending.runs s r k) = ran s r is k
         to is (Ending.delivers s p free port tick) = cc
-        to is (Ending.idles none no_ports tick) = cc
+        to is (Ending.idles none tick) = cc
 
         back : (s : Slot) → first_stop core m s ≡ None → RunTick core m s outcome → outcome ≡ Did
         back s none (RunTick.completes stop tick) = tick
@@ -324,10 +272,10 @@ module _ (core : Core) (m : Memory) (n : ℕ) where
         back s none (RunTick.faults d stop handled tick) = cc
         back s none (RunTick.waits w tick) = let x = waits_stop core m s w in cc (x.1)
 
-        from : Completes core m n → Ending → outcome ≡ Did
+        from : Completes core m n → Ending core m n outcome → outcome ≡ Did
         from d (Ending.runs s r k) = back s (ap (first_stop core m) (sym (same_runner core n d.0 s d.1 r)) ∙ d.2) k
-        from d (Ending.delivers s p free port tick) = absurd (absent_runs_not core m n free d.0 d.1)
-        from d (Ending.idles none no_ports tick) = absurd (none d.0 d.1)
+        from d (Ending.delivers s p free port tick) = cc (free, d.1.at)
+        from d (Ending.idles none tick) = absurd (none.no_slot d.0 d.1)
 
 -- all five at once, of a tick
 pub record EndsExactly (core : Core) (m : Memory) (n : ℕ) (tick : Tick) : Type 0 where
@@ -347,7 +295,7 @@ ends_exactly core m n h =
       did = did_exactly core m n h;
     }
 
--- 4. What a fault changes.
+-- 3. What a fault changes.
 
 module _ (core : Core) (h : IsOrderly core) (s : Slot) (at : slot_at core s.number ≡ Some s) (e : Event) where
   -- what holds of a core after the fault
@@ -413,7 +361,9 @@ module _ (core : Core) (h : IsOrderly core) (s : Slot) (at : slot_at core s.numb
 -- the fault of the running slot that an item names changes nothing else
 pub fault_changes : (old : State) (n : ℕ) (s : Slot) (c : Cause) → IsOrderly old.core → StopsAt old.core old.memory n s c → FaultChanges s c old (after old n)
 unfolding after faulted event_of
-fault_changes old n s c h stops = by (cycle_shape old.core old.memory n)
+fault_changes old n s c h stops =
+    made (subst (FaultedTurn old.core old.memory s c) (sym (turn_runs old.core old.memory n s stops.runs))
+    (subst (λ o. Stands old.core old.memory s o (started old.core old.memory s)) stops.stop (turn_stops old.core old.memory s)))
   where
     made : FaultedTurn old.core old.memory s c (turn_of old n) → FaultChanges s c old (state_of old (turn_of old n))
     made f =
@@ -430,12 +380,3 @@ fault_changes old n s c h stops = by (cycle_shape old.core old.memory n)
           names = (refl, refl, refl);
           queues = λ j. ap (λ x. queue_at x j) new ∙ k.queues j;
         }
-
-    by : CycleShape old.core old.memory n (turn_of old n) → FaultChanges s c old (state_of old (turn_of old n))
-    by (CycleShape.runs t also k) =
-        let same = same_runner old.core n t s also stops.runs in
-        let stands : Stands old.core old.memory s (first_stop old.core old.memory s) (turn_of old n) = subst
-        (λ x. Stands old.core old.memory x (first_stop old.core old.memory x) (turn_of old n)) same k in
-        made (subst (λ o. Stands old.core old.memory s o (turn_of old n)) stops.stop stands)
-    by (CycleShape.delivers t p free port tick) = absurd (absent_runs_not old.core old.memory n free s stops.runs)
-    by (CycleShape.idles none no_ports tick) = absurd (none s stops.runs)

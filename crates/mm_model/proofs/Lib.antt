@@ -12,6 +12,8 @@ pub mod Starts
 pub mod Fitted
 pub mod StateKeeps
 pub mod TurnBounds
+pub mod TurnChanges
+pub mod OutputBytes
 pub mod Shortness
 pub mod Stops
 pub mod Causes

@@ -1,6 +1,6 @@
 -- A turn keeps a state one, keeps it fitting its image, and keeps what the types keep of it.
-use Rattle.std.proofs.Common.{◌≡◌, ℕ, zero, suc, ◌+◌, ◌-◌, ◌≤◌, Bool, true, false, nat_eq, if◌then◌else◌, List, [], ◌∷◌}
-use Rattle.std.proofs.Common.{◌++◌, length, map, Option, Some, None, refl, sym, ap, ◌∙◌, subst, arith, slice_set, cond}
+use Rattle.std.proofs.Common.{◌≡◌, ℕ, zero, suc, ◌+◌, ◌≤◌, Bool, true, false, nat_eq, if◌then◌else◌, List, [], ◌∷◌}
+use Rattle.std.proofs.Common.{◌++◌, length, map, Option, Some, None, refl, ap, ◌∙◌, arith, slice_set, cond}
 use Rattle.std.proofs.Common.{replicate, not, lit<}
 use Rattle.std.specs.List.{AllByRecursion, filter}
 use Rattle.std.specs.Ordering.{nat_cmp}
@@ -22,7 +22,7 @@ use Rattle.mm_model.specs.declared.event.Event.{Event}
 use Rattle.mm_model.specs.Memory.{Memory, page_of, place_of, page_at, put_in, put_cell, map_page, unmap_page, can_map, zero_cell, zero_page, ArePages}
 use Rattle.mm_model.specs.Uses.{Use}
 use Rattle.mm_model.specs.Slot.{Slot}
-use Rattle.mm_model.specs.State.{ThreadRow, Core, State, slot_at, queue_at, at_number, put_slot, put_queue, put_output}
+use Rattle.mm_model.specs.State.{ThreadRow, Core, State, queue_at, at_number, put_slot, put_queue, put_output}
 use Rattle.mm_model.specs.Image.{Image}
 use Rattle.mm_model.specs.Spelling.{HoldsWords, IsImage}
 use Rattle.mm_model.specs.Operands.{addr_operand, value_operand}
@@ -36,13 +36,13 @@ use Rattle.mm_model.specs.Turn.{core_faulted, faulted, touch_of, asked_use, bloc
 use Rattle.mm_model.specs.Run.{after}
 use Rattle.mm_model.specs.Fits.{SlotHoldsWords, EventHoldsWords, RowHoldsWords, IsFormed, IsState, Fits, IsKept}
 use Rattle.mm_model.proofs.Memories.{put_frames, map_frames, unmap_frames, put_pages, put_count, map_pages, map_fitting, unmap_pages, unmap_count}
-use Rattle.mm_model.proofs.CoreRows.{each_set, slot_at-number, each_push}
+use Rattle.mm_model.proofs.CoreRows.{each_set, each_push}
 use Rattle.mm_model.proofs.EffectWords.{page_words, IssueWords, CellWords, PagesFit, QueueWords, OtherWords}
 use Rattle.mm_model.proofs.EffectWords.{ChangeWords, EffectWords, slot_words, queue_words, delivered_words}
 use Rattle.mm_model.proofs.EffectWords.{addr_operand-fits, value_operand-fits, effect_words}
 use Rattle.mm_model.proofs.Fitted.{fitting_of}
 use Rattle.mm_model.proofs.TurnKeeps.{turn_keeps}
-use Rattle.mm_model.proofs.TurnShapes.{decoded_instr, TurnShape, turn_shape}
+use Rattle.mm_model.proofs.TurnShapes.{fetch_uses, fetch_use, started_one, turn_by}
 
 -- 1. Words of rows.
 
@@ -207,32 +207,26 @@ module _ (core : Core) (m : Memory) (h : IsFormed core) (rows : AllByRecursion R
   ended_words s i f t us (Deliver o) own instr k = record { memory = same_memory; rows = put_slot-words (put_slot core o) (stood s Running) (put_slot-words core o rows k) (stood-words s Running own) }
   ended_words s i f t us (Does c) own instr k = record { memory = change_memory m c pages cells k; rows = change_rows core m s c rows own k }
 
-  own_at : (n : ℕ) (s : Slot) → slot_at core n ≡ Some s → slot_at core s.number ≡ Some s
-  own_at n s is = ap (slot_at core) (slot_at-number core n s is) ∙ is
-
-  shape_words : (n : ℕ) (t : Turned) → TurnShape core m n t → TurnWords m t
+  turn_words : (n : ℕ) → TurnWords m (turn core m n)
   unfolding idle blocked executed
-  shape_words n t (TurnShape.idles k is) = subst (TurnWords m) (sym is) (record { memory = same_memory; rows = rows })
-  shape_words n t (TurnShape.arrives_at s p rest on at pending is) =
-      subst (TurnWords m) (sym is) (record { memory = same_memory; rows = put_slot-words core (delivered s) rows (delivered_words s (slot_words core (n - 128) s rows at)) })
-  shape_words n t (TurnShape.faults_early s c us r is) = subst (TurnWords m) (sym is) (fault_words s c (Int 0) (Int 0) None None us (slot_words core n s rows r.at) (lit< tt) (lit< tt))
-  shape_words n t (TurnShape.faults_fetching s c f us r aim is) = subst (TurnWords m) (sym is) (fault_words s c (Int 0) (Int 0) (Some f) None us (slot_words core n s rows r.at) (lit< tt) (lit< tt))
-  shape_words n t (TurnShape.lacks_register s f i us r aim found on lacking is) =
-      subst (TurnWords m) (sym is) (record {
+  turn_words n = turn_by core m n (TurnWords m) (record {
+    idles = λ k none. record { memory = same_memory; rows = rows };
+    arrives_at = λ s p rest free port is. record { memory = same_memory; rows = put_slot-words core (delivered s) rows (delivered_words s (slot_words core s.number s rows port.at)) };
+    starts = λ s r own. let words = slot_words core n s rows r.at in started_one core m s (TurnWords m) (record {
+      faults = λ c f done aim. fault_words s c (Int 0) (Int 0) f None (fetch_uses f done) words (lit< tt) (lit< tt);
+      lacks_register = λ f i aim is lacking. record {
         memory = same_memory;
-        rows = put_slot-words core
-            (stood (delivered s) Running) rows
-            (stood-words (delivered s) Running (delivered_words s (slot_words core n s rows r.at)));
-      })
-  shape_words n t (TurnShape.carries_out s f u i r aim found has is) =
-      let instr = decoded_instr m f i found in
-      subst (TurnWords m) (sym is)
-      (ended_words s i f (touch_of (ask i s)) (u ∷ asked_use m (ask i s)) (effect core.split i s (reply core m s.number (ask i s))) (slot_words core n s rows r.at) instr
-      (effect_words core h rows m cells s (own_at n s r.at) i instr))
+        rows = put_slot-words core (stood (delivered s) Running) rows (stood-words (delivered s) Running (delivered_words s words));
+      };
+      carries_out = λ f i aim is has.
+          ended_words s i f (touch_of (ask i s)) (fetch_use f ∷ asked_use m (ask i s)) (effect core.split i s (reply core m s.number (ask i s))) words is.whole
+          (effect_words core h rows m cells s own i is.whole);
+    });
+  })
 
 -- what a turn leaves of a state's words and pages
 after_words : (s : State) (n : ℕ) → IsState s → TurnWords s.memory (turn s.core s.memory n)
-after_words s n h = shape_words s.core s.memory h.core h.rows h.pages h.cells n (turn s.core s.memory n) (turn_shape s.core s.memory n)
+after_words s n h = turn_words s.core s.memory h.core h.rows h.pages h.cells n
 
 -- 4. The state after a turn.
 

@@ -1,5 +1,5 @@
 -- Only the running slot that an item names takes a turn, so no slot takes more turns than there are cycles.
-use Rattle.std.proofs.Common.{◌≡◌, ℕ, ◌+◌, ◌-◌, ◌≤◌, ◌⊎◌, inl, inr, Bool, true, false, if◌then◌else◌, List, [], ◌∷◌, ◌++◌, Option, Some, None, refl, sym, ap, ◌∙◌, subst, arith}
+use Rattle.std.proofs.Common.{◌≡◌, ℕ, ◌+◌, ◌≤◌, ◌⊎◌, inl, inr, Bool, true, false, if◌then◌else◌, List, [], ◌∷◌, ◌++◌, Option, Some, None, refl, sym, ap, ◌∙◌, subst, arith}
 use Rattle.mm_word.specs.declared.word.Word.TheVariants.{Int}
 use Rattle.mm_word.specs.Access.{Touch}
 use Rattle.mm_isa.specs.declared.instr.Instr.{Instr}
@@ -24,7 +24,7 @@ use Rattle.mm_model.proofs.SlotSteps.{delivered_from}
 use Rattle.mm_model.proofs.CoreSteps.{Replaces}
 use Rattle.mm_model.proofs.EffectSteps.{Moves, ChangeKeeps, EffectKeeps}
 use Rattle.mm_model.proofs.TurnKeeps.{turn_keeps, row_keeps, still_there, event_waited, changed_from}
-use Rattle.mm_model.proofs.TurnShapes.{decoded_instr, TurnShape, turn_shape}
+use Rattle.mm_model.proofs.TurnShapes.{fetch_use, started_one, turn_by}
 
 -- the turns of a slot stay, or rise by one where it is the running slot of this number
 pub record TurnsFrom (core : Core) (n k : ℕ) (now : Slot) : Type 0 where
@@ -119,29 +119,26 @@ module _ (core : Core) (n : ℕ) (h : IsFormed core) (match : Matches core) (s :
   ended_takes m i f t us (Deliver o) keeps = other_takes o keeps.replaces keeps.turns keeps.runs_not (stood s Running) refl refl
   ended_takes m i f t us (Does c) keeps = change_takes c keeps
 
-shape_takes : (core : Core) (m : Memory) (n : ℕ) → IsFormed core → Matches core → (t : Turned) → TurnShape core m n t → TakesTurns core n t.core
-unfolding idle blocked executed faulted
-shape_takes core m n h match t (TurnShape.idles k is) = subst (λ (x : Turned). TakesTurns core n x.core) (sym is) (none_takes core n)
-shape_takes core m n h match t (TurnShape.arrives_at s p rest on at pending is) =
-    let from = delivered_from s in
-    let own : slot_at core (delivered s).number ≡ Some s = ap (slot_at core) (from.number ∙ slot_at-number core (n - 128) s at) ∙ at in
-    subst (λ (x : Turned). TakesTurns core n x.core) (sym is) (same_takes core n core (delivered s) s s (none_takes core n) own own from.turns)
-shape_takes core m n h match t (TurnShape.faults_early s c us r is) = subst (λ (x : Turned). TakesTurns core n x.core)
-    (sym is) (faulted_takes core n h match s r (event_of s c (Int 0) (Int 0)) s.handler)
-shape_takes core m n h match t (TurnShape.faults_fetching s c f us r aim is) = subst
-    (λ (x : Turned). TakesTurns core n x.core) (sym is) (faulted_takes core n h match s r (event_of s c (Int 0) (Int 0))
-    s.handler)
-shape_takes core m n h match t (TurnShape.lacks_register s f i us r aim found on lacking is) =
-    let from = delivered_from s in
-    subst (λ (x : Turned). TakesTurns core n x.core) (sym is) (stood_takes core n h match s r (stood (delivered s) Running) from.number (ap (λ k. k + 1) from.turns))
-shape_takes core m n h match t (TurnShape.carries_out s f u i r aim found has is) =
-    subst (λ (x : Turned). TakesTurns core n x.core) (sym is)
-    (ended_takes core n h match s r m i f (touch_of (ask i s)) (u ∷ asked_use m (ask i s)) (effect core.split i s (reply core m s.number (ask i s)))
-    (row_keeps core h s (own_at core n h match s r) m i (decoded_instr m f i found) has))
-
 -- only the running slot that an item names takes a turn
 pub turn_takes : (core : Core) (m : Memory) (n : ℕ) → IsFormed core → Matches core → TakesTurns core n (turn core m n).core
-turn_takes core m n h match = shape_takes core m n h match (turn core m n) (turn_shape core m n)
+unfolding idle blocked executed faulted
+turn_takes core m n h match = turn_by core m n P (record {
+  idles = λ k none. none_takes core n;
+  arrives_at = λ s p rest free port is.
+      let from = delivered_from s in
+      let own : slot_at core (delivered s).number ≡ Some s = ap (slot_at core) from.number ∙ port.at in
+      same_takes core n core (delivered s) s s (none_takes core n) own own from.turns;
+  starts = λ s r own. started_one core m s P (record {
+    faults = λ c f done aim. faulted_takes core n h match s r (event_of s c (Int 0) (Int 0)) s.handler;
+    lacks_register = λ f i aim is lacking. let from = delivered_from s in stood_takes core n h match s r (stood (delivered s) Running) from.number (ap (λ k. k + 1) from.turns);
+    carries_out = λ f i aim is has.
+        ended_takes core n h match s r m i f (touch_of (ask i s)) (fetch_use f ∷ asked_use m (ask i s)) (effect core.split i s (reply core m s.number (ask i s)))
+        (row_keeps core h s own m i is.whole has);
+  });
+})
+  where
+    P : Turned → Type 0
+    P t = TakesTurns core n t.core
 
 -- no slot has taken more turns than there were cycles, after a turn as before
 pub after_within : (s : State) (n : ℕ) → IsFormed s.core → Matches s.core → TurnsWithin s → TurnsWithin (after s n)

@@ -1,5 +1,5 @@
 -- A turn keeps what a core is, what matches in it, and what the types keep of it.
-use Rattle.std.proofs.Common.{flat_map, ◌≡◌, ℕ, ◌+◌, ◌-◌, ◌<◌, ◌≤◌, Bool, true, false, ◌&&◌, ◌||◌, nat_eq}
+use Rattle.std.proofs.Common.{flat_map, ◌≡◌, ℕ, ◌+◌, ◌<◌, ◌≤◌, Bool, true, false, ◌&&◌, ◌||◌, nat_eq}
 use Rattle.std.proofs.Common.{if◌then◌else◌, List, [], ◌∷◌, ◌++◌, length, Option, Some, None, refl, sym, ap, ◌∙◌, subst}
 use Rattle.std.proofs.Common.{arith, eq-eqb, slice_set, slice_index_or, get_or-set_same, length-append}
 use Rattle.std.specs.List.{AllByRecursion, list_any}
@@ -31,12 +31,12 @@ use Rattle.mm_model.specs.Turn.{Turned, reply, put_all, state_after, with_issue,
 use Rattle.mm_model.specs.Turn.{with_out, core_after, stood, is_sync, event_of, core_faulted, faulted, touch_of}
 use Rattle.mm_model.specs.Turn.{asked_use, blocked, ended, executed, idle, arrives, is_running, is_taken, turn}
 use Rattle.mm_model.specs.Fits.{is_waiting, identity_of, slots_of, IsSlot, IsFormed, Matches, IsCore}
-use Rattle.mm_model.proofs.CoreRows.{slot_at-number, slot_at-put_other, slot_at-put_queue, put_queue-put_slot, slot_has}
+use Rattle.mm_model.proofs.CoreRows.{slot_at-put_other, slot_at-put_queue, put_queue-put_slot, slot_has}
 use Rattle.mm_model.proofs.CoreRows.{slot_contained, each_contained, each_map, of_version_by, has_group_by, stays_by}
 use Rattle.mm_model.proofs.SlotSteps.{GoesOn, goes_then, slot_stands, slot_stood, slot_put_all, slot_issued, slot_delivered, delivered_from}
 use Rattle.mm_model.proofs.CoreSteps.{Fitting, Keeps, keeps_self, keeps_then, Replaces, put_keeps, puts_keep, wait_keeps, waited, take_keeps, out_keeps}
 use Rattle.mm_model.proofs.EffectSteps.{OtherKeeps, EventTaken, Moves, IssueKeeps, OutKeeps, ChangeKeeps, EffectKeeps, running_waits_not, waiting_runs_not, effect_keeps}
-use Rattle.mm_model.proofs.TurnShapes.{decoded_instr, TurnShape, turn_shape}
+use Rattle.mm_model.proofs.TurnShapes.{fetch_uses, fetch_use, started_one, turn_by}
 
 -- 1. The registers that an instruction names for its results.
 
@@ -307,30 +307,23 @@ module _ (core : Core) (h : IsFormed core) (s : Slot) (at : slot_at core s.numbe
       (blocked_keeps (put_slot core o) to.formed s (still_there core h s at running o k.replaces k.runs_not) running m f t us)
   ended_keeps m i f t us (Does c) k = change_keeps core h s at running c k
 
-module _ (core : Core) (m : Memory) (h : IsFormed core) where
-  at_its_number : (n : ℕ) (s : Slot) → slot_at core n ≡ Some s → slot_at core s.number ≡ Some s
-  at_its_number n s is = ap (slot_at core) (slot_at-number core n s is) ∙ is
-
-  abbrev Kept : Turned → Type 0
-  Kept t = Keeps core t.core
-
-  shape_keeps : (n : ℕ) (t : Turned) → TurnShape core m n t → Kept t
-  unfolding idle executed
-  shape_keeps n t (TurnShape.idles k is) = subst Kept (sym is) (keeps_self core h)
-  shape_keeps n t (TurnShape.arrives_at s p rest on at pending is) = subst Kept (sym is) (arrives_keeps core h s (at_its_number (n - 128) s at) m p rest)
-  shape_keeps n t (TurnShape.faults_early s c us r is) = subst Kept (sym is) (fault_keeps core h s (at_its_number n s r.at) r.running m c (Int 0) (Int 0) None None us)
-  shape_keeps n t (TurnShape.faults_fetching s c f us r aim is) = subst Kept (sym is) (fault_keeps core h s (at_its_number n s r.at) r.running m c (Int 0) (Int 0) (Some f) None us)
-  shape_keeps n t (TurnShape.lacks_register s f i us r aim found on lacking is) = subst Kept (sym is) (lacking_keeps core h s (at_its_number n s r.at) r.running m f us)
-  shape_keeps n t (TurnShape.carries_out s f u i r aim found has is) =
-      let own = at_its_number n s r.at in
-      subst Kept (sym is)
-      (ended_keeps core h s own r.running m i f (touch_of (ask i s)) (u ∷ asked_use m (ask i s))
-      (effect core.split i s (reply core m s.number (ask i s)))
-      (row_keeps core h s own m i (decoded_instr m f i found) has))
-
-  -- what a turn leaves
-  pub turn_keeps : (n : ℕ) → Keeps core (turn core m n).core
-  turn_keeps n = shape_keeps n (turn core m n) (turn_shape core m n)
+-- what a turn leaves
+pub turn_keeps : (core : Core) (m : Memory) → IsFormed core → (n : ℕ) → Keeps core (turn core m n).core
+unfolding idle executed
+turn_keeps core m h n = turn_by core m n P (record {
+  idles = λ k none. keeps_self core h;
+  arrives_at = λ s p rest free port is. arrives_keeps core h s port.at m p rest;
+  starts = λ s r own. started_one core m s P (record {
+    faults = λ c f done aim. fault_keeps core h s own r.running m c (Int 0) (Int 0) f None (fetch_uses f done);
+    lacks_register = λ f i aim is lacking. lacking_keeps core h s own r.running m f (fetch_use f ∷ []);
+    carries_out = λ f i aim is has.
+        ended_keeps core h s own r.running m i f (touch_of (ask i s)) (fetch_use f ∷ asked_use m (ask i s)) (effect core.split i s (reply core m s.number (ask i s)))
+        (row_keeps core h s own m i is.whole has);
+  });
+})
+  where
+    P : Turned → Type 0
+    P t = Keeps core t.core
 
 -- so the core of a machine stays one
 pub core_keeps : (core : Core) (m : Memory) (n : ℕ) → IsCore core → IsCore (turn core m n).core

@@ -1,31 +1,27 @@
 -- A step tells exactly the accesses that its turn made.
-use Rattle.std.proofs.Common.{◌≡◌, ℕ, ◌≤◌, Bool, true, false, cond, List, [], ◌∷◌, ◌++◌, Option, Some, None, Result, Ok, Err, refl, sym, ap, subst, arith, pos}
-use Rattle.std.specs.Prelude.{◌&&◌}
+use Rattle.std.proofs.Common.{◌≡◌, ℕ, ◌≤◌, Bool, true, false, List, [], ◌∷◌, ◌++◌, Option, Some, None, refl, sym, ap, subst, arith}
 use Rattle.mm_word.specs.declared.perm.Kind.{Kind}
-use Rattle.mm_word.specs.declared.perm.Kind.TheVariants.{Fetch}
 use Rattle.mm_word.specs.declared.cause.Cause.{Cause}
-use Rattle.mm_word.specs.declared.cause.Cause.TheVariants.{Bounds}
 use Rattle.mm_word.specs.declared.word.Pre.{Pre}
 use Rattle.mm_word.specs.declared.word.Word.{Word}
-use Rattle.mm_word.specs.declared.word.Word.TheVariants.{Int, Ptr}
+use Rattle.mm_word.specs.declared.word.Word.TheVariants.{Int}
 use Rattle.mm_word.specs.declared.word.Cell.{Cell}
-use Rattle.mm_word.specs.Access.{Touch, check_result}
+use Rattle.mm_word.specs.Access.{Touch}
 use Rattle.mm_isa.specs.declared.instr.Instr.{Instr}
-use Rattle.mm_model.specs.declared.slot.Pending.{Pending}
 use Rattle.mm_model.specs.Memory.{Memory, cell_at, is_mapped}
 use Rattle.mm_model.specs.Slot.{Slot}
-use Rattle.mm_model.specs.State.{Core, slot_at}
-use Rattle.mm_model.specs.Uses.{Use, Accessed, use_at, accesses}
-use Rattle.mm_model.specs.Operands.{lacks}
+use Rattle.mm_model.specs.State.{Core}
+use Rattle.mm_model.specs.Uses.{Use, use_at, accesses}
 use Rattle.mm_model.specs.Ask.{Ask, ask}
 use Rattle.mm_model.specs.Ask.Ask.{Reach, UnmapPage}
 use Rattle.mm_model.specs.Effect.{Effect, delivered}
 use Rattle.mm_model.specs.Effect.Effect.{Fault, Block, Deliver, Does}
 use Rattle.mm_model.specs.Fits.{IsCore}
-use Rattle.mm_model.specs.Turn.{Turned, removal_use, asked_use, touch_of, faulted, blocked, ended, executed, issued}
-use Rattle.mm_model.specs.Turn.{decoded, instr_in, fetched, aimed, started, idle, arrives, port_of, taken_by}
-use Rattle.mm_model.specs.Turn.{taken_by_port, is_running, turn}
+use Rattle.mm_model.specs.Turn.{Turned, removal_use, asked_use, touch_of, faulted, blocked, ended, executed}
+use Rattle.mm_model.specs.Turn.{idle}
+use Rattle.mm_model.specs.Turn.{turn}
 use Rattle.mm_model.specs.declared.step.Step.{Step}
+use Rattle.mm_model.proofs.TurnShapes.{fetch_uses, fetch_use, started_one, turn_by}
 use Rattle.mm_model.proofs.Causes.{EndsExactly, core_orderly, ends_exactly}
 use Rattle.mm_thread.specs.Told.{accesses_in, access_told, accesses_told}
 
@@ -77,68 +73,27 @@ asked_few m (UnmapPage page) = by (is_mapped m page)
     by false = omega arith
 asked_few m _ = omega arith
 
--- the fetch is one access
-module _ (core : Core) (m : Memory) (s : Slot) (f : Touch) (done found : Bool) where
-  abbrev u : Use
-  u = Accessed f.kind f.addr found done
+fetch_is : (f : Option Touch) (done : Bool) → accesses_in (fetch_uses f done) ≡ access_told f ++ access_told None
+fetch_is None done = refl
+fetch_is (Some f) done = refl
 
-  told_executed : (i : Instr) → IsTold (executed core m s f u i)
-  unfolding executed
-  told_executed i = told_ended core m s i f (touch_of (ask i s)) (u ∷ asked_use m (ask i s))
-      (ap (λ (xs : List (Kind × ℕ)). (f.kind, f.addr) ∷ xs) (asked_is m (ask i s)))
-      (omega (arith, asked_few m (ask i s))) _
-
-  told_issued : (i : Instr) → IsTold (issued core m s f u i)
-  unfolding issued
-  told_issued i = by (core.split && lacks i s)
-    where
-      by : (b : Bool) → IsTold (cond b (blocked core m (delivered s) f None (u ∷ [])) (executed core m s f u i))
-      by true = told_blocked core m (delivered s) f None (u ∷ []) refl (omega arith)
-      by false = told_executed i
-
-  told_decoded : (o : Option Instr) → IsTold (decoded core m s f u o)
-  told_decoded None = told_faulted core m s _ _ _ (Some f) None (u ∷ []) refl (omega arith)
-  told_decoded (Some i) = told_issued i
-
-told_fetched : (core : Core) (m : Memory) (s : Slot) (f : Touch) (o : Option Cell) → IsTold (fetched core m s f o)
-told_fetched core m s f None = told_faulted core m s _ _ _ (Some f) None _ refl (omega arith)
-told_fetched core m s f (Some c) = told_decoded core m s f true true (instr_in c.word)
-
-told_aimed : (core : Core) (m : Memory) (s : Slot) (r : Result Touch Cause) → IsTold (aimed core m s r)
-told_aimed core m s (Err c) = told_faulted core m s c _ _ None None [] refl (omega arith)
-told_aimed core m s (Ok f) = told_fetched core m s f (cell_at m f.addr)
-
-told_started : (core : Core) (m : Memory) (s : Slot) → IsTold (started core m s)
-unfolding started
-told_started core m s = by s.past
-  where
-    by : (b : Bool) → IsTold (cond b (faulted core m s Bounds (Int 0) (Int 0) None None []) (aimed core m s (check_result (Ptr s.ip) (pos 0) Fetch)))
-    by true = told_faulted core m s Bounds (Int 0) (Int 0) None None [] refl (omega arith)
-    by false = told_aimed core m s (check_result (Ptr s.ip) (pos 0) Fetch)
-
-told_idle : (core : Core) (m : Memory) (n : ℕ) → IsTold (idle core m n)
-unfolding idle
-told_idle core m n = record { told = refl; few = omega arith }
-
-told_arrives : (core : Core) (m : Memory) (s : Slot) (ps : List Pending) → IsTold (arrives core m s ps)
-told_arrives core m s [] = told_idle core m s.number
-told_arrives core m s (p ∷ ps) = record { told = refl; few = omega arith }
-
-told_port : (core : Core) (m : Memory) (n : ℕ) (o : Option Slot) → IsTold (taken_by_port core m n o)
-told_port core m n None = told_idle core m n
-told_port core m n (Some s) = told_arrives core m s s.pending
-
-told_taken : (core : Core) (m : Memory) (n : ℕ) (o : Option Slot) → IsTold (taken_by core m n o)
-told_taken core m n None = told_port core m n (port_of core n)
-told_taken core m n (Some s) = by (is_running s.state)
-  where
-    by : (b : Bool) → IsTold (cond b (started core m s) (idle core m n))
-    by true = told_started core m s
-    by false = told_idle core m n
+fetch_few : (f : Option Touch) (done : Bool) → accesses (fetch_uses f done) ≤ 2
+fetch_few None done = omega arith
+fetch_few (Some f) done = omega arith
 
 pub turn_told : (core : Core) (m : Memory) (n : ℕ) → IsTold (turn core m n)
-unfolding turn
-turn_told core m n = told_taken core m n (slot_at core n)
+unfolding idle executed
+turn_told core m n = turn_by core m n IsTold (record {
+  idles = λ k none. record { told = refl; few = omega arith };
+  arrives_at = λ s p rest free port is. record { told = refl; few = omega arith };
+  starts = λ s r own. started_one core m s IsTold (record {
+    faults = λ c f done aim. told_faulted core m s c (Int 0) (Int 0) f None (fetch_uses f done) (fetch_is f done) (fetch_few f done);
+    lacks_register = λ f i aim is lacking. told_blocked core m (delivered s) f None (fetch_use f ∷ []) refl (omega arith);
+    carries_out = λ f i aim is has. told_ended core m s i f (touch_of (ask i s)) (fetch_use f ∷ asked_use m (ask i s))
+        (ap (λ (xs : List (Kind × ℕ)). (f.kind, f.addr) ∷ xs) (asked_is m (ask i s)))
+        (omega (arith, asked_few m (ask i s))) _;
+  });
+})
 
 -- What comes of an item is exactly what the model says, of the core that contracts see.
 pub turn_ends : (core seen : Core) (m : Memory) (n : ℕ) (step : Step) → IsCore core → core ≡ seen → step ≡ (turn core m n).step → EndsExactly seen m n step.tick
