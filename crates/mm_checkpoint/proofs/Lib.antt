@@ -16,5 +16,6 @@ pub mod Owns
 pub mod Reached
 pub mod RobinOn
 pub mod RunCheckpoints
+pub mod Spelled
 pub mod SpelledLaws
 pub mod States

@@ -1,8 +1,8 @@
 use Rattle.std.{proofs.Common.{refl, List, length, subst, sym, ap, arith}, specs.List.AllByRecursion}
 use Rattle.mm_model.{specs.{Slot.Slot, Fits.WaitsForSome}, proofs.CoreRows.slot_limit-few}
-use Rattle.mm_checkpoint.specs.Checkpoints.{spelling}
 use Rattle.mm_checkpoint.proofs.{Groups.few_outputs, CheckpointBytes.{queued, frames_few}, Owns.all_handled}
-use Rattle.mm_checkpoint.proofs.writing.spelled.Goals as goal
+use Rattle.mm_checkpoint.proofs.Spelled.{checkpoint_spelled}
+use Rattle.mm_checkpoint.proofs.writing.write.Goals as goal
 
 pub length_of-requires-clause-few : goal.length_of-requires-clause-few
 length_of-requires-clause-few c =
@@ -43,10 +43,10 @@ put_slots-requires-clause-few c =
 pub put_slots-requires-clause-handled : goal.put_slots-requires-clause-handled
 put_slots-requires-clause-handled c = subst (λ (xs : List Slot). AllByRecursion WaitsForSome xs) (sym c.slots-2.ensures.slots) (all_handled c.args.s.now c.requires.rules c.requires.typed)
 
-pub returns : goal.returns
-unfolding spelling
-returns c =
+pub returns-clause-written : goal.returns-clause-written
+returns-clause-written c =
     rw (
+      checkpoint_spelled c.args.img.now c.args.s.now c.args.last c.slots.ensures.image c.requires,
       c.in_ok-put_pages.ensures,
       c.pages-2.ensures.pages,
       c.in_ok-put_outputs.ensures,
@@ -57,3 +57,6 @@ returns c =
       c.in_ok-put_header.ensures,
       c.in_ok-out.ensures.items,
     ) refl
+
+pub returns-clause-saves : goal.returns-clause-saves
+returns-clause-saves c = record { checkpoint = c.requires; spelled = returns-clause-written c }
