@@ -20,7 +20,8 @@ use Rattle.mm_checkpoint.specs.Checkpoints.{state_byte, cause_byte, event_of, pl
 use Rattle.mm_checkpoint.specs.{Reading.{cause_of, state_of}, Tests.{is_bad_state, is_bad_cause, bits_set}}
 use Rattle.mm_checkpoint.specs.declared.rows.{Queued.Queued, SlotRow.SlotRow}
 use Rattle.mm_checkpoint.specs.Format.{word_with, tagged, register, operand, load, beside, event_in, place_in_row}
-use Rattle.mm_checkpoint.specs.Format.{address_in, value_in, slot_row, load_count}
+use Rattle.mm_checkpoint.specs.Format.{address_in, value_in, slot_row, load_count, row_of}
+use Rattle.mm_checkpoint.proofs.Spelled.{event_back}
 use Rattle.mm_checkpoint.proofs.Counts.{one_at_most, count_append, count_none, count_yes, any_none, moved}
 use Rattle.mm_checkpoint.proofs.{Loads.{AreNew, one_load, sixteen_flags, pending_set, none_empty}, Owns.Owns}
 use Rattle.mm_checkpoint.proofs.States.{state_right, state_small, cause_small, cause_back, byte_waits, state_back}
@@ -300,12 +301,6 @@ pub record IsSavedSlot (split : Bool) (cycles : ℕ) (events : List (ℕ × Even
   pub turns : s.turns ≤ cycles
   pub mode : split ≡ false → s.pending ≡ []
 
-abbrev pub row_of : List (ℕ × Event) → Slot → SlotRow
-row_of events s = record {
-  slot = s;
-  queued = option_map (λ e. record { place = place_byte events s; event = e }) (event_of events s.number);
-}
-
 module _ (split : Bool) (cycles : ℕ) (small : cycles ≤ 1000000) (events : List (ℕ × Event)) (i s : Slot)
     (same : identity_of s ≡ identity_of i) (saved : IsSavedSlot split cycles events s)
     (few : place_byte events s < 256) where
@@ -314,13 +309,6 @@ module _ (split : Bool) (cycles : ℕ) (small : cycles ≤ 1000000) (events : Li
 
   abbrev r : SlotRow
   r = row_of events s
-
-  event_back : event_in r ≡ event_of events s.number
-  event_back = by (event_of events s.number)
-    where
-      by : (o : Option Event) → option_map (λ (q : Queued). q.event) (option_map made o) ≡ o
-      by None = refl
-      by (Some e) = refl
 
   place_few : place_in_row r.queued < 256
   place_few = by (event_of events s.number)
@@ -345,7 +333,7 @@ module _ (split : Bool) (cycles : ℕ) (small : cycles ≤ 1000000) (events : Li
   fits_get : (get : Option Event → Word) → IsZeroUnless (is_waiting s.state) (get (event_of events s.number))
       → (operand (state_byte s.state == 1)).Fits (get (event_in r))
   fits_get get h =
-      subst (λ (o : Option Event). (operand (state_byte s.state == 1)).Fits (get o)) (sym event_back)
+      subst (λ (o : Option Event). (operand (state_byte s.state == 1)).Fits (get o)) (sym (event_back events s))
       (subst (λ b. (operand b).Fits (get (event_of events s.number))) (sym (byte_waits s.state)) (fits_operand _ _ h))
 
   plain : (b : Bool) → split ≡ b → (not b && not (number_of_flags s.empty == 0)) ≡ false
@@ -371,7 +359,7 @@ module _ (split : Bool) (cycles : ℕ) (small : cycles ≤ 1000000) (events : Li
   queued_back : Owns events s → r.queued ≡ cond (state_byte s.state == 1) (Some told) None
   queued_back (inl a) =
       let found : event_of events s.number ≡ Some a.event = ap (option_map (λ (x : ℕ × Event). x.1)) a.found in
-      let event : event_in r ≡ Some a.event = event_back ∙ found in
+      let event : event_in r ≡ Some a.event = event_back events s ∙ found in
       let queued : r.queued ≡ Some (made a.event) = ap (option_map made) found in
       let cause : a.event.cause ≡ told.event.cause =
       sym (ap (λ (o : Option Event). unwrap_or (cause_of (cause_byte s.state o)) NotPointer) event
@@ -425,7 +413,7 @@ module _ (split : Bool) (cycles : ℕ) (small : cycles ≤ 1000000) (events : Li
       (also (
         cause_small s.state (event_in r),
         ap (λ (o : Option Event). is_bad_cause (state_byte s.state)
-            (cause_byte s.state o)) event_back ∙ cause_good events s saved.owns,
+            (cause_byte s.state o)) (event_back events s) ∙ cause_good events s saved.owns,
       )
       (also (place_few, place_right) (also (flag_small s.past, one_if_small s.past)
       (also (omega (arith, turns, small), not_lt cycles s.turns turns) (also (fits_ip s.ip t.well_formed t.executable)

@@ -7,7 +7,7 @@ use Rattle.std.specs.{Int.{w16, w32, w64, to_be_bytes}, List.{flat_map, AllByRec
 use Rattle.mm_word.specs.{declared.word.{Word.Word, Cell.Cell}, Pointer.bits_of, Word.{word_bits, is_pointer}}
 use Rattle.mm_model.specs.declared.{event.Event.Event, slot.{Pending.Pending, SlotState.TheVariants.Taken}}
 use Rattle.mm_model.specs.{Flags.{flags, number_of_flags, one_if}, Fits.identity_of, Image.{Image, output_limit}}
-use Rattle.mm_model.specs.{Bytes.IsBytes, Slot.Slot, Spelling.{IsImage, numbers_of, words_spelling, page_record}}
+use Rattle.mm_model.specs.{Bytes.IsBytes, Slot.Slot, Spelling.{IsImage, numbers_of}}
 use Rattle.mm_model.{specs.Typed.IsTypedSlot, proofs.{CoreRows.{each_map, by_identities}, OwnSlots.{Ascends, ascends}}}
 use Rattle.mm_model.proofs.ImageBytes.{Clean.is_above, Ranges.map-map, Rising.AreRisingFrom}
 use Rattle.mm_model.proofs.ImageBytes.SpelledRecords.{not_le, not_lt}
@@ -16,17 +16,16 @@ use Rattle.mm_machine.specs.Snapshot.{Parts, IsSnapshot, IsPending}
 use Rattle.mm_format.specs.Formats.{each, times, cons, first_late, after, file, Outcome.Got}
 use Rattle.mm_format.specs.Images.{mask, ip, page}
 use Rattle.mm_format.proofs.{Formats.after_got, ImagesFit.{Rise, rises, rise_all, PagesAre, pages_fit, fit_pages}}
-use Rattle.mm_format.proofs.{ImagesWhole.page_spelled, Lists.{each_long, each_spell, times_long, times_spell}}
+use Rattle.mm_format.proofs.{Lists.{times_long}}
 use Rattle.mm_checkpoint.specs.declared.{waiting.Waiter.Waiter, rows.{Queued.Queued, SlotRow.SlotRow}}
-use Rattle.mm_checkpoint.specs.Checkpoints.{Saved, saved_of, Saves, IsCheckpoint, last_byte, state_byte, cause_byte}
-use Rattle.mm_checkpoint.specs.Checkpoints.{place_byte, tagged_word, operands, pending_record, slot_record}
-use Rattle.mm_checkpoint.specs.Checkpoints.{output_record, spelling, place_in}
+use Rattle.mm_checkpoint.specs.declared.header.Header.{Header}
+use Rattle.mm_checkpoint.specs.Checkpoints.{Saved, saved_of, IsCheckpoint, last_byte, state_byte, place_byte, place_in}
 use Rattle.mm_checkpoint.specs.{Reading.{in_order, events_of, slots_start, groups_of}, Faults.said_of}
-use Rattle.mm_checkpoint.specs.Format.{header, word_with, tagged, register, load, beside, event_in, place_in_row}
-use Rattle.mm_checkpoint.specs.Format.{address_in, value_in, slot_row, load_count, waiter_in, waiters_in, queue_tests}
-use Rattle.mm_checkpoint.specs.Format.{front, waiting_in, output, Contents, checkpoint, saved_in}
+use Rattle.mm_checkpoint.specs.Format.{header, event_in, place_in_row, slot_row, waiter_in, waiters_in, queue_tests}
+use Rattle.mm_checkpoint.specs.Format.{front, waiting_in, output, Contents, checkpoint, saved_in, contents_from, row_of}
+use Rattle.mm_checkpoint.specs.Format.{contents_of, spelling, Saves}
 use Rattle.mm_checkpoint.proofs.CheckpointBytes.{queued, place_small, last_small, frames_few}
-use Rattle.mm_checkpoint.proofs.{Counts.{each_of, listed}, FormatFits.{also, IsRow, IsSavedSlot, row_of, fits_row}}
+use Rattle.mm_checkpoint.proofs.{Counts.{each_of, listed}, FormatFits.{also, IsRow, IsSavedSlot, fits_row}}
 use Rattle.mm_checkpoint.proofs.FormatIs.{checkpoint_is}
 use Rattle.mm_checkpoint.proofs.FormatRows.{slots_of, rows_fit, IsSettled, Agrees, each_agrees, one_event, awaited}
 use Rattle.mm_checkpoint.proofs.FormatRows.{typed_events, fall_not}
@@ -35,68 +34,30 @@ use Rattle.mm_checkpoint.proofs.Made.{made_output, made_outputs, made_parts, par
 use Rattle.mm_checkpoint.proofs.Owns.{Owns, owns_each, first_own, ranked, by_slot, erased, same_events, are_right}
 use Rattle.mm_format.proofs.Files as files
 
--- 1. The text.
+-- 1. The parts of what fits, and what they are the contents of.
 
-operands_are : (o : Option Event) → operands o ≡ tagged_word (address_in o) ++ tagged_word (value_in o)
-operands_are None = refl
-operands_are (Some event) = refl
+queued_again : (q : Option Queued) → option_map (λ e. record { place = place_in_row q; event = e })
+    (option_map (λ (x : Queued). x.event) q) ≡ q
+queued_again None = refl
+queued_again (Some q) = refl
 
-pending_spelled : (empty : ℕ) (earlier : List Pending) (p : Pending) → (load empty earlier).spell p ≡ pending_record p
-unfolding load tagged Rattle.mm_format.specs.Images.word
-pending_spelled empty earlier p = refl
+row_again : (events : List (ℕ × Event)) (r : SlotRow) → Agrees events r → row_of events r.slot ≡ r
+row_again events r agrees =
+    let make : ℕ → Option Event → SlotRow = λ place o. record {
+      slot = r.slot;
+      queued = option_map (λ e. record { place = place; event = e }) o;
+    } in
+    ap (make (place_byte events r.slot)) agrees.event ∙ ap (λ place. make place (event_in r)) agrees.place
+    ∙ ap (λ q. record { slot = r.slot; queued = q }) (queued_again r.queued)
 
-register_spelled : (k : Bool × Bool) (w : Word) → (register k).spell w ≡ to_be_bytes w64 (word_bits w)
-unfolding word_with
-register_spelled k w = refl
-
-row_spelled : (split : Bool) (cycles : ℕ) (s : Slot) (events : List (ℕ × Event)) (r : SlotRow)
-    → (slot_row split cycles s).Fits r → Agrees events r
-    → (slot_row split cycles s).spell r ≡ slot_record events r.slot
-unfolding slot_row load_count mask ip tagged word_with slot_record
-row_spelled split cycles s events r fits agrees =
-    let t = r.slot in
-    let o = event_in r in
-    let n = number_of_flags t.empty in
-    let front : ℕ → ℕ → List ℕ = λ cause place. (state_byte t.state ∷ cause ∷ place ∷ one_if t.past ∷ [])
-    ++ to_be_bytes w64 t.turns ++ to_be_bytes w64 (bits_of t.ip)
-    ++ to_be_bytes w16 (number_of_flags (map is_pointer t.regs)) ++ to_be_bytes w16 n in
-    let f = front (cause_byte t.state o) (place_in_row r.queued) in
-    let a = tagged_word (address_in o) in
-    let v = tagged_word (value_in o) in
-    let c : List ℕ = length t.pending ∷ [] in
-    let w = words_spelling t.regs in
-    let p = flat_map pending_record t.pending in
-    let ks = beside (map is_pointer t.regs) (flags 16 n) in
-    let loads = times (load n) (λ earlier p. earlier ++ p ∷ []) (length t.pending) [] in
-    ap (λ x. f ++ (x ++ (a ++ (v ++ (c ++ (loads.spell t.pending ++ []))))))
-    (each_spell register (λ w. to_be_bytes w64 (word_bits w)) register_spelled ks t.regs
-    (each_long register ks t.regs fits.1.1.1.1.1.1.1.1.0))
-    ∙ ap (λ x. f ++ (w ++ (a ++ (v ++ (c ++ x))))) (append-nil (loads.spell t.pending)
-    ∙ times_spell (load n) _ pending_record (pending_spelled n) (length t.pending) [] t.pending refl)
-    ∙ sym (
-    ap (λ x. front (cause_byte t.state x) (place_byte events t) ++ w ++ operands x ++ c ++ p) agrees.event
-    ∙ ap (λ x. front (cause_byte t.state o) x ++ w ++ operands o ++ c ++ p) agrees.place
-    ∙ ap (λ x. f ++ w ++ x ++ c ++ p) (operands_are o) ∙ simp append_assoc
-    )
-
-rows_spelled : (split : Bool) (cycles : ℕ) (events : List (ℕ × Event)) (slots : List Slot) (rows : List SlotRow)
-    → (each (slot_row split cycles) slots).Fits rows → AllByRecursion (Agrees events) rows
-    → (each (slot_row split cycles) slots).spell rows ≡ flat_map (slot_record events) (slots_of rows)
-unfolding cons
-rows_spelled split cycles events [] rows fits all = ap (λ rows. flat_map (slot_record events) (slots_of rows)) (sym fits)
-rows_spelled split cycles events (s ∷ slots) [] fits all = absurd fits
-rows_spelled split cycles events (s ∷ slots) (r ∷ rows) fits all =
-    ap (λ t. t ++ (each (slot_row split cycles) slots).spell rows) (row_spelled split cycles s events r fits.0 all.0)
-    ∙ ap (λ t. slot_record events r.slot ++ t) (rows_spelled split cycles events slots rows fits.1 all.1)
-
-output_spelled : (limit group : ℕ) (o : ℕ × List ℕ) → (output limit group).spell o ≡ output_record o
-unfolding output
-output_spelled limit group o = ap (λ t. to_be_bytes w32 (length o.1) ++ t) (append-nil o.1)
+rows_again : (events : List (ℕ × Event)) (rows : List SlotRow) → AllByRecursion (Agrees events) rows
+    → map (row_of events) (slots_of rows) ≡ rows
+rows_again events [] all = refl
+rows_again events (r ∷ rows) all =
+    ap (λ x. x ∷ map (row_of events) (slots_of rows)) (row_again events r all.0)
+    ∙ ap (λ xs. r ∷ xs) (rows_again events rows all.1)
 
 module _ (i : Image) (c : Contents) (fits : (checkpoint i).Fits c) where
-  abbrev head : Rattle.mm_checkpoint.specs.declared.header.Header.Header
-  head = c.front.head
-
   record Parted : Type 0 where
     pub head : (header i.memory.frames).Fits c.front.head
     pub rows : (each (slot_row i.split c.front.head.cycles) i.slots).Fits c.front.rows
@@ -116,27 +77,12 @@ module _ (i : Image) (c : Contents) (fits : (checkpoint i).Fits c) where
     long = times_long page (λ _ p. p.0 + 1) c.front.head.pages 0 c.pages fits.1.1.0;
   }
 
-  pub contents_spelled : AllByRecursion (Agrees (saved_in c).events) c.front.rows
-      → (checkpoint i).spell c ≡ spelling (saved_in c)
-  unfolding checkpoint front header spelling
-  contents_spelled agrees =
-      let s = saved_in c in
-      let p = parted in
-      let h : ℕ → List ℕ = λ n. codes "MMS1" ++ to_be_bytes w16 1 ++ (last_byte head.last ∷ 0 ∷ [])
-      ++ to_be_bytes w64 head.cycles ++ to_be_bytes w16 n in
-      let os = (each (output (output_limit i.version)) (groups_of i.slots)).spell c.outputs in
-      let ps = (times page (λ _ p. p.0 + 1) head.pages 0).spell c.pages in
-      let x = flat_map (slot_record s.events) s.slots in
-      let y = flat_map output_record c.outputs in
-      let z = flat_map page_record c.pages in
-      ap (λ t. (h head.pages ++ t) ++ (os ++ (ps ++ [])))
-      (append-nil _ ∙ rows_spelled i.split head.cycles s.events i.slots c.front.rows p.rows agrees)
-      ∙ ap (λ t. (h head.pages ++ x) ++ (t ++ (ps ++ [])))
-      (each_spell (output (output_limit i.version)) output_record (output_spelled (output_limit i.version))
-      (groups_of i.slots) c.outputs (each_long _ (groups_of i.slots) c.outputs p.outputs))
-      ∙ ap (λ t. (h head.pages ++ x) ++ (y ++ t)) (append-nil ps
-      ∙ times_spell page (λ _ p. p.0 + 1) page_record page_spelled head.pages 0 c.pages p.long)
-      ∙ ap (λ n. (h n ++ x) ++ (y ++ z)) (sym p.long) ∙ sym (append_assoc (h (length c.pages) ++ x) y z)
+  pub contents_again : AllByRecursion (Agrees (saved_in c).events) c.front.rows → contents_of (saved_in c) ≡ c
+  contents_again agrees =
+      let events = (saved_in c).events in
+      let head : ℕ → Header = λ n. record { last = c.front.head.last; cycles = c.front.head.cycles; pages = n } in
+      ap (λ n. contents_from (head n) (map (row_of events) (slots_of c.front.rows)) c.outputs c.pages) parted.long
+      ∙ ap (λ rows. contents_from c.front.head rows c.outputs c.pages) (rows_again events c.front.rows agrees)
 
 -- 2. What fits is a checkpoint.
 
@@ -281,14 +227,7 @@ module _ (i : Image) (image : IsImage i) (p : Parts) (last : Option ℕ) (ck : I
   rows_of slots = map (row_of p.events) slots
 
   abbrev pub contents : Contents
-  contents = record {
-    front = record {
-      head = record { last = last; cycles = p.cycles; pages = length p.pages };
-      rows = rows_of p.slots;
-    };
-    outputs = c.outputs;
-    pages = p.pages;
-  }
+  contents = contents_of c
 
   owns : AllByRecursion (Owns p.events) p.slots
   owns = owns_each p ck.rules ck.typed
@@ -443,7 +382,8 @@ module _ (i : Image) (bytes : List ℕ) (image : IsImage i) where
         checkpoint = subst (λ q. IsCheckpoint i q last) parts
             (subst (IsCheckpoint i (made_parts (saved_in c))) (ap (λ (x : Saved). x.last) same)
             (is_checkpoint i image c s.0));
-        spelled = s.1 ∙ contents_spelled i c s.0 (rows_agree i image c s.0) ∙ ap spelling same;
+        spelled = s.1 ∙ ap (checkpoint i).spell (sym (contents_again i c s.0 (rows_agree i image c s.0)))
+            ∙ ap (spelling i) same;
       }
 
   -- a checkpoint that the bytes spell is what they say
@@ -455,5 +395,5 @@ module _ (i : Image) (bytes : List ℕ) (image : IsImage i) where
       let fit = contents_fit i image p last saves.checkpoint in
       let back = saved_back i image p last saves.checkpoint in
       ap (λ o. after o (λ c n. Got (saved_in c) n)) (files.read_whole (checkpoint i) (checkpoint_is i) 13 bytes a fit
-      (saves.spelled ∙ sym (contents_spelled i a fit (rows_agree i image a fit) ∙ ap spelling back)))
+      saves.spelled)
       ∙ ap (λ s. Got s (length bytes)) back

@@ -15,5 +15,6 @@ pub mod Owns
 pub mod Reached
 pub mod RobinOn
 pub mod RunCheckpoints
+pub mod Spelled
 pub mod SpelledLaws
 pub mod States

@@ -6,7 +6,7 @@ use Rattle.mm_model.proofs.CoreRows.{each_map}
 use Rattle.mm_thread.specs.Output.{Output}
 use Rattle.mm_machine.specs.{Kept.Kept, Snapshot.{Parts, IsSnapshotOf, IsTyped}, Capture.OutputsBelow}
 use Rattle.mm_machine.proofs.{Keeping.kept_core, Copied.{snapshot_taken, typed_taken}}
-use Rattle.mm_checkpoint.specs.{Checkpoints.{saved_of, Saved, spelling, IsCheckpoint}, Reading.groups_of}
+use Rattle.mm_checkpoint.specs.{Checkpoints.{saved_of, Saved, IsCheckpoint}, Format.spelling, Reading.groups_of}
 use Rattle.mm_checkpoint.specs.{States.{outputs_of, saved_form}, Laws.{RunsHaveSnapshots, RunsHaveCheckpoints}}
 use Rattle.mm_checkpoint.proofs.{Reached.{reached, snapshots}, Forms.{groups_made, said_made}}
 use Rattle.mm_checkpoint.proofs.Made.{made_outputs, made_parts, made_saved}
@@ -80,7 +80,7 @@ runs_have_checkpoints i items last image few small =
     record {
       parts = p;
       of = are_snapshot s kept;
-      saves = record { checkpoint = checkpoint; spelled = ap spelling (sym form) };
-      bytes = is_bytes _ (subst (λ (c : Saved). AreBytes (spelling c)) form
+      saves = record { checkpoint = checkpoint; spelled = ap (spelling i) (sym form) };
+      bytes = is_bytes _ (subst (λ (c : Saved). AreBytes (spelling i c)) form
           (whole i p last image checkpoint (λ b. b < 256) (λ b small. small) outputs).each);
     }

@@ -1,25 +1,17 @@
--- Checkpoints: a state of an image's machine with the slot that round robin issued last, and the bytes that spell it.
-use Rattle.std.specs.Prelude.{◌≡◌, ℕ, suc, ◌<◌, ◌≤◌, false, ◌==◌, if◌then◌else◌, List, [], ◌∷◌, ◌++◌, map, length}
-use Rattle.std.specs.Prelude.{codes, Option, Some, None, IfSome}
-use Rattle.std.specs.List.{flat_map, find, AllByRecursion}
-use Rattle.std.specs.Int.{w16, w32, w64, to_be_bytes}
+-- Checkpoints: a state of an image's machine with the slot that round robin issued last.
+use Rattle.std.specs.Prelude.{◌≡◌, ℕ, suc, ◌<◌, ◌≤◌, false, ◌==◌, if◌then◌else◌, List, [], ◌∷◌, map, length}
+use Rattle.std.specs.Prelude.{Option, Some, None, IfSome}
+use Rattle.std.specs.List.{find, AllByRecursion}
 use Rattle.std.specs.Option.{option_map}
-use Rattle.mm_word.specs.declared.word.Word.{Word}
-use Rattle.mm_word.specs.declared.word.Word.TheVariants.{Int}
 use Rattle.mm_word.specs.declared.word.Cell.{Cell}
 use Rattle.mm_word.specs.Cause.{number_of}
-use Rattle.mm_word.specs.Pointer.{bits_of}
-use Rattle.mm_word.specs.Word.{word_bits, is_pointer}
 use Rattle.mm_model.specs.declared.slot.SlotState.{SlotState}
 use Rattle.mm_model.specs.declared.slot.SlotState.TheVariants.{Running, Waiting, Taken, Halted}
-use Rattle.mm_model.specs.declared.slot.Pending.{Pending}
 use Rattle.mm_model.specs.declared.event.Event.{Event}
-use Rattle.mm_model.specs.Flags.{one_if, number_of_flags}
 use Rattle.mm_model.specs.Slot.{Slot}
 use Rattle.mm_model.specs.Image.{Image, output_limit}
 use Rattle.mm_model.specs.Fits.{identity_of}
 use Rattle.mm_model.specs.Limits.{cycle_limit}
-use Rattle.mm_model.specs.Spelling.{words_spelling, page_record}
 use Rattle.mm_thread.specs.Output.{Output}
 use Rattle.mm_machine.specs.Snapshot.{Parts, IsSnapshot, IsTyped}
 
@@ -61,7 +53,7 @@ pub record IsCheckpoint (i : Image) (p : Parts) (last : Option ℕ) : Type 0 whe
   -- the last slot need not be one of the image
   pub issued : IfSome last (λ n. n < 64)
 
--- 2. The spelling of a checkpoint.
+-- 2. The numbers that a checkpoint's file has for them.
 
 abbrev pub last_byte : Option ℕ → ℕ
 last_byte None = 255
@@ -94,44 +86,3 @@ place_in (x ∷ events) queue slot =
 abbrev pub place_byte : List (ℕ × Event) → Slot → ℕ
 place_byte events s = if state_byte s.state == 1 then place_in events
     (elim s.handler [ None ↦ 0 | Some handler ↦ handler ]) s.number else 0
-
--- a tag, and then the word
-abbrev pub tagged_word : Word → List ℕ
-tagged_word word = one_if (is_pointer word) ∷ to_be_bytes w64 (word_bits word)
-
--- the operands of a waiting slot's event; untagged zeros if there is no event
-abbrev pub operands : Option Event → List ℕ
-operands None = tagged_word (Int 0) ++ tagged_word (Int 0)
-operands (Some event) = tagged_word event.addr_op ++ tagged_word event.value_op
-
-abbrev pub pending_record : Pending → List ℕ
-pending_record p = p.reg ∷ tagged_word p.word
-
--- the bytes of a slot: state, cause, place and past; turns, instruction pointer; which registers hold pointers, which
--- are empty, and the 16 registers; the operands; the count of pending loads, and these, oldest first
-unfoldable pub slot_record : List (ℕ × Event) → Slot → List ℕ
-slot_record events s =
-    (state_byte s.state ∷ cause_byte s.state (event_of events s.number) ∷ place_byte events s ∷ one_if s.past ∷ [])
-    ++ to_be_bytes w64 s.turns ++ to_be_bytes w64 (bits_of s.ip)
-    ++ to_be_bytes w16 (number_of_flags (map is_pointer s.regs)) ++ to_be_bytes w16 (number_of_flags s.empty)
-    ++ words_spelling s.regs
-    ++ operands (event_of events s.number) ++ (length s.pending ∷ []) ++ flat_map pending_record s.pending
-
--- the bytes of an output: the count of bytes that a group has put out, and these bytes
-abbrev pub output_record : ℕ × List ℕ → List ℕ
-output_record output = to_be_bytes w32 (length output.1) ++ output.1
-
--- the header: magic, version, the slot that was issued last, zero, the count of cycles, and the count of pages
-abbrev pub header : Saved → List ℕ
-header c = codes "MMS1" ++ to_be_bytes w16 1 ++ (last_byte c.last ∷ 0 ∷ []) ++ to_be_bytes w64 c.cycles
-    ++ to_be_bytes w16 (length c.pages)
-
--- the bytes of a checkpoint's file
-unfoldable pub spelling : Saved → List ℕ
-spelling c = header c ++ flat_map (slot_record c.events) c.slots ++ flat_map output_record c.outputs
-    ++ flat_map page_record c.pages
-
--- the bytes are a checkpoint of the image: they spell these parts of a state and this last slot
-pub record Saves (bytes : List ℕ) (i : Image) (p : Parts) (last : Option ℕ) : Type 0 where
-  pub checkpoint : IsCheckpoint i p last
-  pub spelled : bytes ≡ spelling (saved_of p last)

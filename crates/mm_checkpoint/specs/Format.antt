@@ -1,5 +1,5 @@
 -- The checkpoint of an image as a format: a row of its table is a line.
-use Rattle.std.specs.Prelude.{ℕ, ◌+◌, ◌*◌, Bool, not, ◌&&◌, ◌||◌, ◌==◌, nat_lt, nat_le, if◌then◌else◌, List, [], ◌∷◌}
+use Rattle.std.specs.Prelude.{◌≡◌, ℕ, ◌+◌, ◌*◌, Bool, false, not, ◌&&◌, ◌||◌, ◌==◌, nat_lt, nat_le, if◌then◌else◌, List, [], ◌∷◌}
 use Rattle.std.specs.Prelude.{◌++◌, map, length, codes, option_map, unwrap_or, is_some, Option, Some, None}
 use Rattle.mm_word.specs.declared.cause.Cause.TheVariants.{NotPointer}
 use Rattle.mm_word.specs.declared.word.Word.{Word}
@@ -16,11 +16,13 @@ use Rattle.mm_model.specs.Limits.{cycle_limit}
 use Rattle.mm_format.specs.Formats.{Format, Late, byte, u16, u32, u64, text, test, literal, part, done, ◌>>=◌, each}
 use Rattle.mm_format.specs.Formats.{times, late}
 use Rattle.mm_format.specs.Images.{mask, ip, word, page}
+use Rattle.mm_machine.specs.Snapshot.{Parts}
 use Rattle.mm_checkpoint.specs.declared.header.Header.{Header}
 use Rattle.mm_checkpoint.specs.declared.rows.Queued.{Queued}
 use Rattle.mm_checkpoint.specs.declared.rows.SlotRow.{SlotRow}
 use Rattle.mm_checkpoint.specs.declared.waiting.Waiter.{Waiter}
-use Rattle.mm_checkpoint.specs.Checkpoints.{Saved, last_byte, state_byte, cause_byte}
+use Rattle.mm_checkpoint.specs.Checkpoints.{Saved, IsCheckpoint, saved_of, last_byte, state_byte, cause_byte, place_byte}
+use Rattle.mm_checkpoint.specs.Checkpoints.{event_of}
 use Rattle.mm_checkpoint.specs.Reading.{cause_of, state_of, handler_of, in_order, events_of, slots_start, groups_of}
 use Rattle.mm_checkpoint.specs.Tests.{is_bad_state, is_bad_cause, bits_set, is_bad_entry, is_bad_place}
 
@@ -207,3 +209,41 @@ saved_in c = record {
   cycles = c.front.head.cycles;
   last = c.front.head.last;
 }
+
+-- 5. The bytes.
+
+-- the row of a slot: with its event, and the place of this in its queue, if the slot waits
+abbrev pub row_of : (events : List (ℕ × Event)) → Slot → SlotRow
+row_of events s = record {
+  slot = s;
+  queued = option_map (λ event. record { place = place_byte events s; event = event }) (event_of events s.number);
+}
+
+abbrev pub header_of : Saved → Header
+header_of c = record { last = c.last; cycles = c.cycles; pages = length c.pages }
+
+-- what a file says that has these parts of a checkpoint
+abbrev pub contents_of : Saved → Contents
+contents_of c = contents_from (header_of c) (map (row_of c.events) c.slots) c.outputs c.pages
+
+-- the bytes of the file of an image's checkpoint
+abbrev pub spelling : Image → Saved → List ℕ
+spelling i c = (checkpoint i).spell (contents_of c)
+
+-- the bytes are a checkpoint of the image: they spell these parts of a state and this last slot
+pub record Saves (bytes : List ℕ) (i : Image) (p : Parts) (last : Option ℕ) : Type 0 where
+  pub checkpoint : IsCheckpoint i p last
+  pub spelled : bytes ≡ spelling i (saved_of p last)
+
+-- the bytes of each record, and those of a word after its tag, whatever they are tested against
+abbrev pub slot_record : (events : List (ℕ × Event)) → Slot → List ℕ
+slot_record events s = (slot_row false 0 s).spell (row_of events s)
+
+abbrev pub output_record : ℕ × List ℕ → List ℕ
+output_record o = (output 0 0).spell o
+
+abbrev pub load_record : Pending → List ℕ
+load_record p = (load 0 []).spell p
+
+abbrev pub tagged_word : Word → List ℕ
+tagged_word w = (tagged 1 word).spell w

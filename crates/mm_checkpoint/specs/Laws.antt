@@ -7,7 +7,7 @@ use Rattle.mm_model.specs.Run.{run, robin_from, last_item}
 use Rattle.mm_model.specs.Spelling.{IsImage}
 use Rattle.mm_model.specs.State.{State}
 use Rattle.mm_machine.specs.Snapshot.{Parts, IsSnapshot, IsTyped, IsSnapshotOf, restored}
-use Rattle.mm_checkpoint.specs.Checkpoints.{saved_of, IsCheckpoint, Saves, spelling}
+use Rattle.mm_checkpoint.specs.{Checkpoints.{saved_of, IsCheckpoint}, Format.{Saves, spelling}}
 use Rattle.mm_checkpoint.specs.Faults.{save_fault}
 use Rattle.mm_checkpoint.specs.States.{saved_form}
 
@@ -50,8 +50,8 @@ RunsHaveSnapshots = (i : Image) (items : List ℕ) → IsImage i → SomeSnapsho
 pub record IsSavedState (i : Image) (s : State) (last : Option ℕ) : Type 0 where
   pub parts : Parts
   pub of : IsSnapshotOf s parts
-  pub saves : Saves (spelling (saved_form s last)) i parts last
-  pub bytes : IsBytes (spelling (saved_form s last))
+  pub saves : Saves (spelling i (saved_form s last)) i parts last
+  pub bytes : IsBytes (spelling i (saved_form s last))
 
 -- the state of each run of an image under at most 1,000,000 items has such a checkpoint, with no last slot or any below
 -- 64

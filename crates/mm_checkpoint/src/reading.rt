@@ -8,10 +8,10 @@ ghost use Rattle.mm_format.specs.Formats.{file};
 ghost use Rattle.mm_format.specs.Reading.{Reads, ReadsFile};
 ghost use Rattle.mm_image.specs.Faults.{number_of};
 ghost use Rattle.mm_machine.specs.Snapshot.{Parts, parts_of};
-ghost use Rattle.mm_checkpoint.specs.Checkpoints.{Saves, saved_of};
+ghost use Rattle.mm_checkpoint.specs.Checkpoints.{saved_of};
 ghost use Rattle.mm_checkpoint.specs.Faults.{said_of, save_fault};
 ghost use Rattle.mm_checkpoint.specs.Answers.{FailsAt};
-ghost use Rattle.mm_checkpoint.specs.Format.{checkpoint, contents_from, front, front_from, tested, waiters_in};
+ghost use Rattle.mm_checkpoint.specs.Format.{checkpoint, contents_from, front, front_from, tested, waiters_in, Saves};
 ghost use Rattle.mm_checkpoint.specs.Steps.{put_out};
 ghost use Rattle.mm_checkpoint.specs.declared.rows.SlotRow.{SlotRow as RowValue};
 

@@ -1,18 +1,19 @@
 //! The writer of checkpoints.
 
 ghost use Rattle.std.specs.Prelude.{◌≡◌, ℕ, ◌+◌, ◌*◌, ◌^◌, ◌<◌, ◌≤◌, [], ◌∷◌, ◌++◌, length, map, unwrap_or, option_map};
-ghost use Rattle.std.specs.Prelude.{IfOk, IfSome, OnOk};
+ghost use Rattle.std.specs.Prelude.{IfOk, IfSome, OnOk, sum_by};
 ghost use Rattle.std.specs.Int.{w16, to_be_bytes};
 ghost use Rattle.std.specs.List.{AllByRecursion, flat_map};
 ghost use Rattle.mm_word.specs.Word.{is_pointer};
 ghost use Rattle.mm_model.specs.Flags.{one_if, number_of_flags};
 ghost use Rattle.mm_model.specs.Fits.{WaitsForSome};
-ghost use Rattle.mm_model.specs.Spelling.{words_spelling, page_record};
+ghost use Rattle.mm_format.specs.Formats.{each};
+ghost use Rattle.mm_format.specs.Images.{word, page_record};
 ghost use Rattle.mm_thread.specs.Output.{Output as OutputValue};
 ghost use Rattle.mm_machine.specs.Snapshot.{HasOneEvent};
-ghost use Rattle.mm_checkpoint.specs.Checkpoints.{IsCheckpoint, Saves, saved_of, spelling, header, slot_record};
-ghost use Rattle.mm_checkpoint.specs.Checkpoints.{state_byte, cause_byte, place_in, event_of, operands, tagged_word};
-ghost use Rattle.mm_checkpoint.specs.Checkpoints.{pending_record, output_record};
+ghost use Rattle.mm_checkpoint.specs.Checkpoints.{IsCheckpoint, saved_of, state_byte, cause_byte, place_in, event_of};
+ghost use Rattle.mm_checkpoint.specs.Format.{header, header_of, address_in, value_in, tagged_word, slot_record};
+ghost use Rattle.mm_checkpoint.specs.Format.{load_record, output_record, spelling, Saves};
 
 use crate::header::NO_SLOT;
 use crate::layout::{ENTRY_BYTES, HEADER_BYTES, PAGE_BYTES, SLOT_BYTES};
@@ -48,7 +49,7 @@ pub fn write(
     last: Option<u8>,
 ) -> Result<Vec<u8>, NoMemory>
     requires { IsCheckpoint img.now s.now last }
-    ensures written { IfOk result (λ bytes. bytes.items ≡ spelling (saved_of s.now last)) }
+    ensures written { IfOk result (λ bytes. bytes.items ≡ spelling img.now (saved_of s.now last)) }
     ensures saves { IfOk result (λ bytes. Saves bytes.items img.now s.now last) }
 {
     let slots = MOST_SLOT_BYTES * img.slots().len();
@@ -66,8 +67,7 @@ pub fn write(
 fn length_of(outputs: &[Output]) -> usize
     requires few { length outputs.now ≤ 64 }
     requires short { AllByRecursion (λ (o : OutputValue). length o.bytes ≤ 65536) outputs.now }
-    ensures length { result
-        ≡ length (flat_map output_record (map (λ (o : OutputValue). (o.group, o.bytes)) outputs.now)) }
+    ensures length { result ≡ sum_by (λ (o : OutputValue). 4 + length o.bytes) outputs.now }
     ensures bound { result ≤ 65540 * length outputs.now }
 {
     let mut total = 0;
@@ -79,7 +79,7 @@ fn length_of(outputs: &[Output]) -> usize
 
 fn put_header(out: &mut Vec<u8>, s: &Snapshot, last: Option<u8>) -> Result<(), AllocError>
     requires { length s.now.pages < 2 ^ 16 }
-    ensures { OnOk result (out.new.items ≡ out.old.items ++ header (saved_of s.now last)) }
+    ensures { OnOk result (out.new.items ≡ out.old.items ++ (header 0).spell (header_of (saved_of s.now last))) }
 {
     out.extend_from_slice(b"MMS1")?;
     out.extend_from_slice(&VERSION.to_be_bytes())?;
@@ -185,7 +185,8 @@ fn put_registers(out: &mut Vec<u8>, slot: &Slot) -> Result<(), AllocError>
     ensures { OnOk result
         (out.new.items ≡ out.old.items
         ++ (to_be_bytes w16 (number_of_flags (map is_pointer slot.now.regs))
-        ++ to_be_bytes w16 (number_of_flags slot.now.empty) ++ words_spelling slot.now.regs)) }
+        ++ to_be_bytes w16 (number_of_flags slot.now.empty)
+        ++ (each word (map is_pointer slot.now.regs)).spell slot.now.regs)) }
 {
     out.extend_from_slice(&tags_of(&slot.regs).to_be_bytes())?;
     out.extend_from_slice(&slot.empty.to_be_bytes())?;
@@ -194,7 +195,10 @@ fn put_registers(out: &mut Vec<u8>, slot: &Slot) -> Result<(), AllocError>
 }
 
 fn put_operands(out: &mut Vec<u8>, queued: Option<&QueuedEvent>) -> Result<(), AllocError>
-    ensures { OnOk result (out.new.items ≡ out.old.items ++ operands (option_map (λ q. q.now.event) queued.entry)) }
+    ensures { OnOk result
+        (out.new.items ≡ out.old.items
+        ++ (tagged_word (address_in (option_map (λ q. q.now.event) queued.entry))
+        ++ tagged_word (value_in (option_map (λ q. q.now.event) queued.entry)))) }
 {
     match queued {
         Some(queued) => {
@@ -210,6 +214,7 @@ fn put_operands(out: &mut Vec<u8>, queued: Option<&QueuedEvent>) -> Result<(), A
 }
 
 // Appends a word after its tag.
+#[tactic(auto, unfolding(crate::specs::Format::tagged, mm_format::specs::Images::word))]
 fn put_tagged(out: &mut Vec<u8>, word: &Word) -> Result<(), AllocError>
     ensures { OnOk result (out.new.items ≡ out.old.items ++ tagged_word word.now) }
 {
@@ -221,7 +226,7 @@ fn put_tagged(out: &mut Vec<u8>, word: &Word) -> Result<(), AllocError>
 fn put_pending(out: &mut Vec<u8>, pending: &[Pending]) -> Result<(), AllocError>
     requires { length pending.now ≤ 16 }
     ensures { OnOk result
-        (out.new.items ≡ out.old.items ++ ((length pending.now ∷ []) ++ flat_map pending_record pending.now)) }
+        (out.new.items ≡ out.old.items ++ ((length pending.now ∷ []) ++ flat_map load_record pending.now)) }
 {
     out.push(pending.len() as u8)?;
     for load in pending {
@@ -230,8 +235,9 @@ fn put_pending(out: &mut Vec<u8>, pending: &[Pending]) -> Result<(), AllocError>
     Ok(())
 }
 
+#[tactic(auto, unfolding(crate::specs::Format::load))]
 fn put_load(out: &mut Vec<u8>, load: &Pending) -> Result<(), AllocError>
-    ensures { OnOk result (out.new.items ≡ out.old.items ++ pending_record load.now) }
+    ensures { OnOk result (out.new.items ≡ out.old.items ++ load_record load.now) }
 {
     out.push(load.reg)?;
     put_tagged(out, &load.word)?;
@@ -250,6 +256,7 @@ fn put_outputs(out: &mut Vec<u8>, outputs: &[Output]) -> Result<(), AllocError>
     Ok(())
 }
 
+#[tactic(auto, unfolding(crate::specs::Format::output))]
 fn put_output(out: &mut Vec<u8>, output: &Output) -> Result<(), AllocError>
     requires { length output.now.bytes ≤ 65536 }
     ensures { OnOk result (out.new.items ≡ out.old.items ++ output_record (output.now.group, output.now.bytes)) }

@@ -1,6 +1,5 @@
 -- Bytes of images, computed.
 use Rattle.std.proofs.Common.{refl}
-use Rattle.mm_model.specs.Spelling.{slot_record, page_record, spelling}
 use Rattle.mm_model.specs.Bytes.{number_at}
 use Rattle.mm_format.specs.Formats.{cons}
 use Rattle.mm_format.specs.Headers.{header}
@@ -8,7 +7,7 @@ use Rattle.mm_format.specs.Images.{flags_of, mask, bits_in, bits, word, ip, slot
 use Rattle.mm_examples.specs.Worked.{SpelledInBytes, FirstFaults, HandlersAreLate}
 
 pub spelled_in_bytes : SpelledInBytes
-unfolding slot_record page_record spelling
+unfolding cons header mask bits word ip slot page slots image
 spelled_in_bytes = (refl, refl)
 
 pub first_faults : FirstFaults

@@ -14,7 +14,7 @@ use Rattle.mm_model.specs.Memory.{cell_at}
 use Rattle.mm_model.specs.Slot.{Slot, register}
 use Rattle.mm_model.specs.State.{State, slot_at}
 use Rattle.mm_model.specs.Image.{Image, start}
-use Rattle.mm_model.specs.Spelling.{spelling}
+use Rattle.mm_format.specs.Images.{spelling}
 use Rattle.mm_format.specs.Images.{image_fault}
 use Rattle.mm_model.specs.Report.{report}
 use Rattle.mm_model.specs.Run.{run, steps, uses, robin_from}

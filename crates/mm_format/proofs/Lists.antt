@@ -1,5 +1,5 @@
 -- Lists, and tests that are made late.
-use Rattle.std.proofs.Common.{◌≡◌, ℕ, zero, suc, ◌+◌, ◌≤◌, Bool, true, false, cond, List, [], ◌∷◌, ◌++◌, length}
+use Rattle.std.proofs.Common.{◌≡◌, ℕ, zero, suc, ◌+◌, ◌≤◌, Bool, true, false, cond, List, [], ◌∷◌, ◌++◌, length, map}
 use Rattle.std.proofs.Common.{Option, Some, None, refl, sym, ap, subst, ◌∙◌, arith}
 use Rattle.std.specs.List.{flat_map}
 use Rattle.std.proofs.lemmas.List.{length-append}
@@ -91,6 +91,13 @@ module _ {B A : Type 0} (f : B → Format A) where
   each_spell g same (b ∷ bs) [] long = absurd (omega arith)
   each_spell g same (b ∷ bs) (x ∷ xs) long =
       ap (λ t. t ++ (each f bs).spell xs) (same b x) ∙ ap (λ t. g x ++ t) (each_spell g same bs xs (omega arith))
+
+-- the values of a list, of which each tells its format
+pub each_own : {B A : Type 0} (f : B → Format A) (tag : A → B) (xs : List A)
+    → (each f (map tag xs)).spell xs ≡ flat_map (λ x. (f (tag x)).spell x) xs
+unfolding cons
+each_own f tag [] = refl
+each_own f tag (x ∷ xs) = ap (λ t. (f (tag x)).spell x ++ t) (each_own f tag xs)
 
 -- 2. Late tests.
 

@@ -13,7 +13,7 @@
 -- 11 order of pages
 -- 12 frames: of frames, or of pages
 -- 13 trailing, at the first byte too many
-use Rattle.std.specs.Prelude.{ℕ, ◌+◌, ◌*◌, ◌^◌, Bool, not, ◌&&◌, ◌||◌, ◌==◌, nat_lt, nat_le, if◌then◌else◌, List}
+use Rattle.std.specs.Prelude.{◌≡◌, ℕ, ◌+◌, ◌*◌, ◌^◌, Bool, not, ◌&&◌, ◌||◌, ◌==◌, nat_lt, nat_le, if◌then◌else◌, List}
 use Rattle.std.specs.Prelude.{[], ◌∷◌, map, length, Option, Some, None, false}
 use Rattle.std.specs.List.{range_with_len}
 use Rattle.mm_word.specs.declared.word.Word.{Word}
@@ -27,7 +27,7 @@ use Rattle.mm_model.specs.Flags.{flags, number_of_flags}
 use Rattle.mm_model.specs.Slot.{Slot}
 use Rattle.mm_model.specs.Image.{Image, slot_limit, none_empty}
 use Rattle.mm_model.specs.Bytes.{bit_at}
-use Rattle.mm_model.specs.Spelling.{handler_byte, state_byte, bitmap, is_bad_handler}
+use Rattle.mm_model.specs.Spelling.{IsImage, handler_byte, state_byte, bitmap, is_bad_handler}
 use Rattle.mm_format.specs.declared.header.Header.{Header}
 use Rattle.mm_format.specs.Formats.{Format, Late, byte, u16, u64, raw, test, late, part, done, ◌>>=◌, times, each}
 use Rattle.mm_format.specs.Formats.{file, fault_in}
@@ -134,6 +134,22 @@ image = do
     slots = slots;
     memory = record { pages = pages; frames = head.frames };
   })
+
+-- the bytes of an image's file
+abbrev pub spelling : Image → List ℕ
+spelling i = image.spell i
+
+-- the bytes of a slot's record and of a page's, which the limits of their numbers do not change
+abbrev pub slot_record : Slot → List ℕ
+slot_record s = (slot 0 0).spell s
+
+abbrev pub page_record : ℕ × List Cell → List ℕ
+page_record p = (page 0).spell p
+
+-- the bytes spell the image
+pub record Spells (bytes : List ℕ) (i : Image) : Type 0 where
+  pub image : IsImage i
+  pub spelled : bytes ≡ spelling i
 
 -- the number and the place of the first fault of an image file, if there is one. Handlers are tested after the last
 -- slot, since they may name later slots

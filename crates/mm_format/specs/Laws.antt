@@ -2,7 +2,7 @@
 use Rattle.std.specs.Prelude.{◌≡◌, ◌↔◌, ℕ, ◌+◌, nat_lt, if◌then◌else◌, List, length, Some, None}
 use Rattle.mm_word.specs.declared.word.Cell.{Cell}
 use Rattle.mm_model.specs.Image.{Image, slot_limit}
-use Rattle.mm_model.specs.Spelling.{IsImage, spelling}
+use Rattle.mm_model.specs.Spelling.{IsImage}
 use Rattle.mm_model.specs.Slot.{Slot}
 use Rattle.mm_format.specs.declared.header.Header.{Header}
 use Rattle.mm_format.specs.Formats.{fault_in, times}
@@ -30,7 +30,3 @@ pub record FaultsComeInOrder (bytes : List ℕ) : Type 0 where
 -- the values that have a spelling are the images
 abbrev pub ImagesFit : Type 0
 ImagesFit = (i : Image) → image.Fits i ↔ IsImage i
-
--- each is spelled as an image is
-abbrev pub ImageFormatSpells : Type 0
-ImageFormatSpells = (i : Image) → image.spell i ≡ spelling i

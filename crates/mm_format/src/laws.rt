@@ -5,7 +5,7 @@ ghost use Rattle.std.specs.Prelude.{ℕ, List};
 ghost use Rattle.mm_format.specs.Formats.{IsFormat, RoundTrips, IsOneToOne};
 ghost use Rattle.mm_format.specs.Headers.{header};
 ghost use Rattle.mm_format.specs.Images.{image};
-ghost use Rattle.mm_format.specs.Laws.{FaultsComeInOrder, ImagesFit, ImageFormatSpells};
+ghost use Rattle.mm_format.specs.Laws.{FaultsComeInOrder, ImagesFit};
 
 /// The first fault of an image file is that of the first of its parts that has one: header, records of slots, their
 /// handlers, pages; and else it is a byte too many.
@@ -20,11 +20,10 @@ pub fn header_is_a_format()
     ensures one_to_one { IsOneToOne header }
 {}
 
-/// The image file has a format. What has a spelling is an image, and it is spelled as an image is.
+/// The image file has a format. What has a spelling is an image.
 pub fn image_is_a_format()
     ensures format { IsFormat image }
     ensures round_trip { RoundTrips image }
     ensures one_to_one { IsOneToOne image }
     ensures fits { ImagesFit }
-    ensures spelled { ImageFormatSpells }
 {}

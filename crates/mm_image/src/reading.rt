@@ -1,10 +1,9 @@
 //! The reader of image files.
 
 ghost use Rattle.std.specs.Prelude.{◌≡◌};
-ghost use Rattle.mm_model.specs.Spelling.{Spells};
 ghost use Rattle.mm_model.specs.Bytes.{IsBytes};
 ghost use Rattle.mm_format.specs.Formats.{file};
-ghost use Rattle.mm_format.specs.Images.{image, image_fault};
+ghost use Rattle.mm_format.specs.Images.{image, Spells, image_fault};
 ghost use Rattle.mm_format.specs.Reading.{Reads, ReadsFile, AnswersFile};
 ghost use Rattle.mm_image.specs.Faults.{fault_of, number_of};
 

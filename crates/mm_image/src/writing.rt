@@ -6,8 +6,11 @@ ghost use Rattle.std.specs.List.{flat_map};
 ghost use Rattle.mm_word.specs.declared.word.Cell.{Cell};
 ghost use Rattle.mm_word.specs.Word.{is_pointer, word_bits};
 ghost use Rattle.mm_model.specs.Flags.{number_of_flags};
-ghost use Rattle.mm_model.specs.Spelling.{header, handler_byte, state_byte, words_spelling, bitmap, slot_record};
-ghost use Rattle.mm_model.specs.Spelling.{page_record, spelling, Spells};
+ghost use Rattle.mm_model.specs.Spelling.{handler_byte, state_byte, bitmap};
+ghost use Rattle.mm_format.specs.Formats.{each};
+ghost use Rattle.mm_format.specs.Headers.{header};
+ghost use Rattle.mm_format.specs.Images.{word, header_in, slot_record, page_record};
+ghost use Rattle.mm_format.specs.Images.{spelling, Spells};
 
 use crate::image::Image;
 use crate::layout::{HEADER_BYTES, PAGE_BYTES, SLOT_BYTES};
@@ -30,7 +33,7 @@ pub fn write(alloc: Global, img: &Image) -> Result<Vec<u8>, NoMemory>
 }
 
 fn put_header(out: &mut Vec<u8>, img: &Image) -> Result<(), AllocError>
-    ensures { OnOk result (out.new.items ≡ out.old.items ++ header img.now) }
+    ensures { OnOk result (out.new.items ≡ out.old.items ++ header.spell (header_in img.now)) }
 {
     out.extend_from_slice(b"MMI1")?;
     out.extend_from_slice(&img.version().to_be_bytes())?;
@@ -59,7 +62,7 @@ fn put_pages(out: &mut Vec<u8>, pages: &[Page]) -> Result<(), AllocError>
     Ok(())
 }
 
-#[tactic(auto, unfolding(mm_model::specs::Spelling::slot_record))]
+#[tactic(auto, unfolding(mm_format::specs::Images::slot))]
 fn put_slot(out: &mut Vec<u8>, slot: &Slot) -> Result<(), AllocError>
     ensures { OnOk result (out.new.items ≡ out.old.items ++ slot_record slot.now) }
 {
@@ -88,7 +91,7 @@ fn slot_head(slot: &Slot) -> [u8; 4]
 
 /// Appends the 64 bits of each word.
 pub fn put_words(out: &mut Vec<u8>, words: &[Word]) -> Result<(), AllocError>
-    ensures { OnOk result (out.new.items ≡ out.old.items ++ words_spelling words.now) }
+    ensures { OnOk result (out.new.items ≡ out.old.items ++ (each word (map is_pointer words.now)).spell words.now) }
 {
     for word in words {
         put_word(out, *word)?;
@@ -104,7 +107,7 @@ fn put_word(out: &mut Vec<u8>, word: Word) -> Result<(), AllocError>
 }
 
 /// Appends the record of a page.
-#[tactic(auto, unfolding(mm_model::specs::Spelling::page_record))]
+#[tactic(auto, unfolding(mm_format::specs::Images::page))]
 pub fn put_page(out: &mut Vec<u8>, page: &Page) -> Result<(), AllocError>
     ensures { OnOk result (out.new.items ≡ out.old.items ++ page_record page.now) }
 {
@@ -137,7 +140,8 @@ fn put_full_bits(out: &mut Vec<u8>, cells: &[Cell]) -> Result<(), AllocError>
 }
 
 fn put_cells(out: &mut Vec<u8>, cells: &[Cell]) -> Result<(), AllocError>
-    ensures { OnOk result (out.new.items ≡ out.old.items ++ words_spelling (map (λ (c : Cell). c.word) cells.now)) }
+    ensures { OnOk result (out.new.items ≡ out.old.items
+        ++ (each word (map (λ (c : Cell). is_pointer c.word) cells.now)).spell (map (λ (c : Cell). c.word) cells.now)) }
 {
     for cell in cells {
         put_word(out, cell.word)?;

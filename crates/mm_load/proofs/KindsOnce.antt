@@ -3,7 +3,8 @@ use Rattle.std.proofs.Common.{◌≡◌, ℕ, List, [], ◌∷◌, ◌++◌, Opt
 use Rattle.std.specs.Prelude.{⊤}
 use Rattle.std.specs.List.{AllByRecursion}
 use Rattle.mm_model.specs.Image.{Image}
-use Rattle.mm_model.specs.Spelling.{IsImage, Spells}
+use Rattle.mm_model.specs.Spelling.{IsImage}
+use Rattle.mm_format.specs.Images.{Spells}
 use Rattle.mm_format.specs.Images.{image_fault}
 use Rattle.mm_image.specs.declared.fault.ImageFault.{ImageFault}
 use Rattle.mm_image.specs.declared.fault.ImageFault.TheVariants as faults
@@ -20,7 +21,7 @@ use Rattle.mm_object.specs.declared.fault.ObjectFault.TheVariants as object_faul
 use Rattle.mm_object.specs.Answers.{number_of as object_number}
 use Rattle.mm_object.specs.Faults.{object_fault}
 use Rattle.mm_object.specs.Objects.{Object}
-use Rattle.mm_object.specs.Spelling.{Spells as SpellsObject}
+use Rattle.mm_object.specs.Format.{Spells as SpellsObject}
 use Rattle.mm_object.proofs.FormatWhole as objects
 use Rattle.mm_checkpoint.specs.Checkpoints.{Saved}
 use Rattle.mm_checkpoint.specs.Faults.{save_fault}

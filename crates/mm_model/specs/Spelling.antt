@@ -1,14 +1,12 @@
--- The bytes that spell an image.
-use Rattle.std.specs.Prelude.{◌≡◌, ◌≢◌, ℕ, zero, suc, ◌+◌, ◌<◌, ◌≤◌, Bool, true, false, not, ◌||◌, ◌==◌}
+-- What an image is, and the numbers that its file has for parts of it.
+use Rattle.std.specs.Prelude.{◌≡◌, ◌≢◌, ℕ, zero, suc, ◌<◌, ◌≤◌, Bool, true, false, not, ◌||◌, ◌==◌}
 use Rattle.std.specs.Prelude.{if◌then◌else◌, List}
-use Rattle.std.specs.Prelude.{[], ◌∷◌, ◌++◌, map, length, take, drop, codes, Option, Some, None, IfSome, ◌⊎◌}
-use Rattle.std.specs.List.{flat_map, list_any, AllByRecursion}
+use Rattle.std.specs.Prelude.{[], ◌∷◌, map, length, take, drop, Option, Some, None, IfSome, ◌⊎◌}
+use Rattle.std.specs.List.{list_any, AllByRecursion}
 use Rattle.std.specs.List.Sorted.{IsStrictlyIncreasing}
-use Rattle.std.specs.Int.{w16, w32, w64, to_be_bytes}
 use Rattle.mm_word.specs.Perm.{can_fetch}
-use Rattle.mm_word.specs.Pointer.{IsWellFormed, bits_of}
-use Rattle.mm_word.specs.Word.{word_bits, is_pointer, IsWord}
-use Rattle.mm_word.specs.declared.word.Word.{Word}
+use Rattle.mm_word.specs.Pointer.{IsWellFormed}
+use Rattle.mm_word.specs.Word.{IsWord}
 use Rattle.mm_word.specs.declared.word.Cell.{Cell}
 use Rattle.mm_model.specs.declared.slot.SlotState.{SlotState}
 use Rattle.mm_model.specs.declared.slot.SlotState.TheVariants.{Running, Halted}
@@ -72,7 +70,7 @@ pub record IsImage (i : Image) : Type 0 where
   pub paged : IsPaged i.memory
   pub words : AllByRecursion HoldsWords i.memory.pages
 
--- 2. How an image is spelled.
+-- 2. The numbers in the file of an image.
 
 abbrev pub mode_of : Bool → ℕ
 mode_of split = if split then 1 else 0
@@ -85,39 +83,7 @@ abbrev pub state_byte : SlotState → ℕ
 state_byte Running = 0
 state_byte _ = 1
 
-abbrev pub words_spelling : List Word → List ℕ
-words_spelling words = flat_map (λ w. to_be_bytes w64 (word_bits w)) words
-
--- the record of a slot: its number, group, handler, state and instruction pointer, which registers hold pointers, and
--- the 16 registers
-unfoldable pub slot_record : Slot → List ℕ
-slot_record s =
-    (s.number ∷ s.group ∷ handler_byte s.handler ∷ state_byte s.state ∷ []) ++ to_be_bytes w64 (bits_of s.ip)
-    ++ to_be_bytes w16 (number_of_flags (map is_pointer s.regs)) ++ words_spelling s.regs
-
 -- `count` bytes of eight flags each, the first flag lowest
 abbrev pub bitmap : ℕ → List Bool → List ℕ
 bitmap zero flags = []
 bitmap (suc count) flags = number_of_flags (take 8 flags) ∷ bitmap count (drop 8 flags)
-
--- the record of a page: its number, which cells hold pointers, which are full, and the 512 words
-unfoldable pub page_record : ℕ × List Cell → List ℕ
-page_record page =
-    to_be_bytes w64 page.0 ++ bitmap 64 (map (λ (c : Cell). is_pointer c.word) page.1)
-    ++ bitmap 64 (map (λ (c : Cell). c.full) page.1)
-    ++ words_spelling (map (λ (c : Cell). c.word) page.1)
-
--- the header: magic, version, the counts of slots, frames and pages, and the mode
-abbrev pub header : Image → List ℕ
-header i =
-    codes "MMI1" ++ to_be_bytes w16 i.version ++ to_be_bytes w16 (length i.slots) ++ to_be_bytes w16 i.memory.frames
-    ++ to_be_bytes w16 (length i.memory.pages) ++ to_be_bytes w32 (mode_of i.split)
-
--- the bytes of an image's file
-unfoldable pub spelling : Image → List ℕ
-spelling i = header i ++ flat_map slot_record i.slots ++ flat_map page_record i.memory.pages
-
--- the bytes spell the image
-pub record Spells (bytes : List ℕ) (i : Image) : Type 0 where
-  pub image : IsImage i
-  pub spelled : bytes ≡ spelling i

@@ -27,7 +27,7 @@ use Rattle.mm_object.specs.Names.{is_name, has_form, is_before}
 use Rattle.mm_object.specs.Objects.{Segment, Object, IsSegment, IsNumber, IsObject, least_log, greatest_log}
 use Rattle.mm_object.specs.Objects.{words_of, names_of, is_among, are_apart, ascend, is_target, is_reloc, place_of}
 use Rattle.mm_object.specs.Objects.{is_value, is_handler, is_thread, targets_of}
-use Rattle.mm_object.specs.Spelling.{is_tagged}
+use Rattle.mm_object.specs.Format.{is_tagged}
 use Rattle.mm_object.specs.Format.{push, header_row, name_fields, name_row, is_late, external_row, bits_row, item_row}
 use Rattle.mm_object.specs.Format.{log_row, count_row, segment_row, perm_row, target_row, reloc_fields}
 use Rattle.mm_object.specs.Format.{good_reloc, reloc_row, integer_row, pointer_row, value_row, thread_fields}

@@ -26,7 +26,7 @@ use Rattle.mm_object.specs.declared.target.Reloc.{Reloc}
 use Rattle.mm_object.specs.declared.thread.Value.{Value}
 use Rattle.mm_object.specs.declared.thread.Thread.{Thread}
 use Rattle.mm_object.specs.Objects.{Segment, Object, place_of}
-use Rattle.mm_object.specs.Spelling.{is_tagged}
+use Rattle.mm_object.specs.Format.{is_tagged}
 use Rattle.mm_object.specs.Format.{push, header_row, name_fields, name_row, external_row, has_unused_bit, unused_bit}
 use Rattle.mm_object.specs.Format.{bits_row, item_row, log_row, count_row, segment_row, perm_row}
 use Rattle.mm_object.specs.Format.{target_row, reloc_fields, good_reloc, reloc_row, number_in, perm_in, target_in}

@@ -22,82 +22,32 @@ use Rattle.mm_object.specs.declared.thread.Thread.{Thread}
 use Rattle.mm_object.specs.declared.fault.ObjectFault.{ObjectFault}
 use Rattle.mm_object.specs.Answers.{number_of, told}
 use Rattle.mm_object.specs.Faults.{fault_of, object_fault}
-use Rattle.mm_object.specs.Format.{push, header_row, name_fields, name_row, external_row, bits_row, item_row, log_row}
-use Rattle.mm_object.specs.Format.{count_row, segment_row, perm_row, target_row, reloc_fields, good_reloc, reloc_row}
-use Rattle.mm_object.specs.Format.{integer_row, pointer_row, value_row, thread_fields, good_thread, thread_row}
-use Rattle.mm_object.specs.Format.{pointers_row, object}
-use Rattle.mm_object.specs.Objects.{Segment, Object, place_of}
-use Rattle.mm_object.specs.Spelling.{name_record, segment_record, target_record, reloc_record, is_tagged, value_record, thread_record}
-use Rattle.mm_object.specs.Spelling.{header, spelling, Spells}
+use Rattle.mm_object.specs.Format.{push, header_row, external_row, segment_row, count_row, good_reloc, reloc_row, good_thread}
+use Rattle.mm_object.specs.Format.{thread_row, pointers_row, header_in, object, segment_record, name_record, reloc_record}
+use Rattle.mm_object.specs.Format.{thread_record, spelling, Spells}
+use Rattle.mm_object.specs.Objects.{Object, place_of}
 use Rattle.mm_object.proofs.FormatFits.{object_fits, fits_object}
 use Rattle.mm_object.proofs.FormatIs.{object_is}
 
 -- 1. The spelling.
 
-name_spelled : (n : List ℕ) → name_row.spell n ≡ name_record n
-unfolding name_row name_fields
-name_spelled n = ap (λ t. length n ∷ t) (append-nil n)
-
-external_spelled : (segments : List Segment) (before : List (List ℕ)) (n : List ℕ)
-    → (external_row segments before).spell n ≡ name_record n
-unfolding external_row
-external_spelled segments before n = name_spelled n
-
-items_spelled : (items : List Item) → (each item_row (map (λ (i : Item). i.full) items)).spell items
-    ≡ flat_map (λ (i : Item). to_be_bytes w64 i.bits) items
-unfolding cons item_row
-items_spelled [] = refl
-items_spelled (i ∷ items) = ap (λ t. to_be_bytes w64 i.bits ++ t) (items_spelled items)
-
-glued : (n l c b i : List ℕ) → (n ++ []) ++ (l ++ (c ++ ((b ++ []) ++ (i ++ [])))) ≡ n ++ l ++ c ++ b ++ i
-glued n l c b i = simp (append_assoc, append-nil)
-
-segment_spelled : (before : List Segment) (s : Segment) → (segment_row before).spell s ≡ segment_record s
-unfolding segment_row log_row count_row bits_row segment_record name_row name_fields
-segment_spelled before s =
-    let n = s.name in
-    let l = s.log ∷ [] in
-    let c = to_be_bytes w32 (length s.items) in
-    let b = bitmap ((length s.items + 7) / 8) (map (λ (i : Item). i.full) s.items) in
-    ap (λ i. length n ∷ (n ++ []) ++ (l ++ (c ++ ((b ++ []) ++ (i ++ []))))) (items_spelled s.items)
-    ∙ ap (λ t. length n ∷ t) (glued n l c b (flat_map (λ (i : Item). to_be_bytes w64 i.bits) s.items))
-
-values_spelled : (regs : List Value) → (each value_row (map is_tagged regs)).spell regs ≡ flat_map value_record regs
-unfolding cons integer_row pointer_row perm_row target_row
-values_spelled [] = refl
-values_spelled (Int n ∷ regs) = ap (λ t. value_record (Int n) ++ t) (values_spelled regs)
-values_spelled (Ptr p t ∷ regs) = ap (λ xs. value_record (Ptr p t) ++ xs) (values_spelled regs)
-
-reloc_spelled : (segments : List Segment) (externals least : ℕ) (r : Reloc)
-    → (reloc_row segments externals least).spell r ≡ reloc_record r
-unfolding good_reloc reloc_fields perm_row target_row reloc_record
-reloc_spelled segments externals least r = refl
-
-thread_spelled : (segments : List Segment) (externals least : ℕ) (t : Thread)
-    → (thread_row segments externals least).spell t ≡ thread_record t
-unfolding good_thread thread_fields perm_row target_row mask thread_record
-thread_spelled segments externals least t =
-    let front = (t.slot ∷ t.group ∷ handler_byte t.handler ∷ code_of t.perm ∷ []) ++ target_record t.target
-    ++ to_be_bytes w16 (number_of_flags (map is_tagged t.regs)) in
-    ap (λ xs. front ++ xs) (append-nil _ ∙ values_spelled t.regs)
-
 all_glued : (h s x r t : List ℕ) → h ++ (s ++ ((x ++ (r ++ (t ++ []))) ++ [])) ≡ h ++ s ++ x ++ r ++ t
 all_glued h s x r t = simp (append_assoc, append-nil)
 
-object_spelled : (o : Object) → object.spell o ≡ spelling o
-unfolding object header_row pointers_row spelling
+-- the header, and the records one after the other
+pub object_spelled : (o : Object) → spelling o ≡ header_row.spell (header_in o) ++ flat_map segment_record o.segments
+    ++ flat_map name_record o.externals ++ flat_map reloc_record o.relocs ++ flat_map thread_record o.threads
+unfolding object pointers_row segment_row count_row external_row good_reloc good_thread
 object_spelled o =
-    let h = header o in
     let externals = length o.externals in
-    let s = times_spell segment_row push segment_record segment_spelled (length o.segments) [] o.segments refl in
-    let x = times_spell (external_row o.segments) push name_record (external_spelled o.segments) externals []
-    o.externals refl in
-    let r = times_spell (reloc_row o.segments externals) (λ _ r. place_of r + 1) reloc_record
-    (reloc_spelled o.segments externals) (length o.relocs) 0 o.relocs refl in
-    let t = times_spell (thread_row o.segments externals) (λ _ t. t.slot + 1) thread_record
-    (thread_spelled o.segments externals) (length o.threads) 0 o.threads refl in
-    rw (s, x, r, t) (all_glued h (flat_map segment_record o.segments) (flat_map name_record o.externals)
-    (flat_map reloc_record o.relocs) (flat_map thread_record o.threads))
+    let s = times_spell segment_row push segment_record (λ before s. refl) (length o.segments) [] o.segments refl in
+    let x = times_spell (external_row o.segments) push name_record (λ before n. refl) externals [] o.externals refl in
+    let r = times_spell (reloc_row o.segments externals) (λ _ r. place_of r + 1) reloc_record (λ least r. refl)
+    (length o.relocs) 0 o.relocs refl in
+    let t = times_spell (thread_row o.segments externals) (λ _ t. t.slot + 1) thread_record (λ least t. refl)
+    (length o.threads) 0 o.threads refl in
+    rw (s, x, r, t) (all_glued (header_row.spell (header_in o)) (flat_map segment_record o.segments)
+    (flat_map name_record o.externals) (flat_map reloc_record o.relocs) (flat_map thread_record o.threads))
 
 -- 2. The file.
 
@@ -106,12 +56,11 @@ module _ (bytes : List ℕ) where
   pub read_spells : IsBytes bytes → (o : Object) (next : ℕ) → file object 9 bytes ≡ Got o next → Spells bytes o
   read_spells fits o next e =
       let p = spelled_by object object_is 9 bytes fits o next e in
-      record { object = object_fits o p.0; spelled = p.1 ∙ object_spelled o }
+      record { object = object_fits o p.0; spelled = p.1 }
 
   -- what the bytes spell is read
   pub spelled_read : (o : Object) → Spells bytes o → file object 9 bytes ≡ Got o (length bytes)
-  spelled_read o s =
-      read_whole object object_is 9 bytes o (fits_object o s.object) (s.spelled ∙ sym (object_spelled o))
+  spelled_read o s = read_whole object object_is 9 bytes o (fits_object o s.object) s.spelled
 
   pub clean_spells : IsBytes bytes → object_fault bytes ≡ None → (o : Object) × Spells bytes o
   unfolding object_fault

@@ -10,7 +10,7 @@
 -- 7 relocation
 -- 8 thread
 -- 9 trailing, at the first byte too many
-use Rattle.std.specs.Prelude.{ℕ, ◌+◌, ◌-◌, ◌/◌, ◌%◌, ◌^◌, Bool, true, false, not, ◌&&◌, ◌||◌, ◌==◌, nat_lt, nat_le}
+use Rattle.std.specs.Prelude.{◌≡◌, ℕ, ◌+◌, ◌-◌, ◌/◌, ◌%◌, ◌^◌, Bool, true, false, not, ◌&&◌, ◌||◌, ◌==◌, nat_lt, nat_le}
 use Rattle.std.specs.Prelude.{if◌then◌else◌, List, [], ◌∷◌, ◌++◌, map, length, codes, is_some, unwrap_or, Some, None}
 use Rattle.std.specs.List.{list_any}
 use Rattle.mm_word.specs.declared.perm.Perm.{Perm}
@@ -29,11 +29,10 @@ use Rattle.mm_object.specs.declared.thread.Value.{Value}
 use Rattle.mm_object.specs.declared.thread.Value.TheVariants.{Int, Ptr}
 use Rattle.mm_object.specs.declared.thread.Thread.{Thread}
 use Rattle.mm_object.specs.Names.{has_form, is_before}
-use Rattle.mm_object.specs.Objects.{Segment, Object, external_limit, thread_limit, spare_limit}
+use Rattle.mm_object.specs.Objects.{Segment, Object, IsObject, external_limit, thread_limit, spare_limit}
 use Rattle.mm_object.specs.Objects.{least_log, greatest_log, words_of, names_of, is_among, is_reloc}
 use Rattle.mm_object.specs.Objects.{place_of}
 use Rattle.mm_object.specs.Objects.{is_thread, targets_of}
-use Rattle.mm_object.specs.Spelling.{is_tagged}
 use Rattle.mm_object.specs.Fits.{object_from}
 use Rattle.mm_model.specs.Limits.{segment_limit, word_limit}
 
@@ -160,6 +159,10 @@ good_reloc segments externals least =
 abbrev pub reloc_row : (segments : List Segment) (externals least : ℕ) → Format Reloc
 reloc_row segments externals least = framed 13 (good_reloc segments externals least) 7
 
+abbrev pub is_tagged : Value → Bool
+is_tagged (Int n) = false
+is_tagged (Ptr perm target) = true
+
 abbrev pub number_in : Value → ℕ
 number_in (Int n) = n
 number_in (Ptr perm target) = 0
@@ -270,3 +273,27 @@ object = do
   segments ← part (λ o. o.segments) (times segment_row push head.segments [])
   pointers ← part pointers_in (used_pointers segments head)
   done (object_from segments pointers.externals pointers.relocs pointers.threads head.spare)
+
+-- 7. The bytes.
+
+-- the bytes of each record, which do not depend on the records before it
+abbrev pub segment_record : Segment → List ℕ
+segment_record s = (segment_row []).spell s
+
+abbrev pub name_record : List ℕ → List ℕ
+name_record n = name_row.spell n
+
+abbrev pub reloc_record : Reloc → List ℕ
+reloc_record r = (reloc_row [] 0 0).spell r
+
+abbrev pub thread_record : Thread → List ℕ
+thread_record t = (thread_row [] 0 0).spell t
+
+-- the bytes of an object's file
+abbrev pub spelling : Object → List ℕ
+spelling o = object.spell o
+
+-- the bytes spell the object
+pub record Spells (bytes : List ℕ) (o : Object) : Type 0 where
+  pub object : IsObject o
+  pub spelled : bytes ≡ spelling o

@@ -1,6 +1,5 @@
 pub mod Names
 pub mod Objects
-pub mod Spelling
 pub mod Format
 pub mod Faults
 pub mod Laws

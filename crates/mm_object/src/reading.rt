@@ -7,9 +7,8 @@ ghost use Rattle.mm_format.specs.Reading.{Reads, ReadsAlone, ReadsFile, AnswersF
 ghost use Rattle.mm_object.specs.declared.fault.ObjectFault.{ObjectFault};
 ghost use Rattle.mm_object.specs.Answers.{number_of};
 ghost use Rattle.mm_object.specs.Faults.{fault_of, object_fault};
-ghost use Rattle.mm_object.specs.Format.{object, pointers_from, pointers_row, used_pointers, use_tests};
+ghost use Rattle.mm_object.specs.Format.{object, pointers_from, pointers_row, used_pointers, use_tests, Spells};
 ghost use Rattle.mm_object.specs.Objects.{targets_of};
-ghost use Rattle.mm_object.specs.Spelling.{Spells};
 
 use crate::fault::{ObjectError, ObjectFault};
 use crate::header::{Header, read_header};

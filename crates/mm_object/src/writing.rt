@@ -1,15 +1,16 @@
 //! The writer of object files.
 
 ghost use Rattle.std.specs.Prelude.{◌≡◌, ◌+◌, ◌/◌, ◌^◌, ◌<◌, ◌≤◌, [], ◌∷◌, ◌++◌, length, map, OnOk, IfOk};
-ghost use Rattle.std.specs.Int.{w32, w64, to_be_bytes};
+ghost use Rattle.std.specs.Int.{w32, to_be_bytes};
 ghost use Rattle.std.specs.List.{flat_map, AllByRecursion};
 ghost use Rattle.mm_word.specs.Perm.{code_of};
 ghost use Rattle.mm_model.specs.Flags.{number_of_flags};
 ghost use Rattle.mm_model.specs.Spelling.{bitmap, handler_byte};
 ghost use Rattle.mm_object.specs.declared.item.Item.{Item as ItemValue};
 ghost use Rattle.mm_object.specs.Objects.{IsSegment};
-ghost use Rattle.mm_object.specs.Spelling.{header, is_tagged, name_record, reloc_record, segment_record, spelling};
-ghost use Rattle.mm_object.specs.Spelling.{target_record, thread_record, value_record, Spells};
+ghost use Rattle.mm_format.specs.Formats.{each};
+ghost use Rattle.mm_object.specs.Format.{header_row, header_in, is_tagged, item_row, target_row, value_row};
+ghost use Rattle.mm_object.specs.Format.{name_record, reloc_record, segment_record, thread_record, spelling, Spells};
 
 use crate::item::Item;
 use crate::name::Name;
@@ -38,7 +39,7 @@ pub fn write(alloc: Global, o: &Object) -> Result<Vec<u8>, NoMemory>
 }
 
 fn put_header(out: &mut Vec<u8>, o: &Object) -> Result<(), AllocError>
-    ensures { OnOk result (out.new.items ≡ out.old.items ++ header o.now) }
+    ensures { OnOk result (out.new.items ≡ out.old.items ++ header_row.spell (header_in o.now)) }
 {
     out.extend_from_slice(b"MMO1")?;
     out.extend_from_slice(&1_u16.to_be_bytes())?;
@@ -96,7 +97,7 @@ fn put_name(out: &mut Vec<u8>, name: &Name) -> Result<(), AllocError>
     Ok(())
 }
 
-#[tactic(auto, unfolding(crate::specs::Spelling::segment_record))]
+#[tactic(auto, unfolding(crate::specs::Format::segment_row))]
 fn put_segment(out: &mut Vec<u8>, segment: &Segment) -> Result<(), AllocError>
     requires { IsSegment segment.now }
     ensures { OnOk result (out.new.items ≡ out.old.items ++ segment_record segment.now) }
@@ -132,7 +133,7 @@ fn put_full_bits(out: &mut Vec<u8>, items: &[Item]) -> Result<(), AllocError>
 
 fn put_words(out: &mut Vec<u8>, items: &[Item]) -> Result<(), AllocError>
     ensures { OnOk result
-        (out.new.items ≡ out.old.items ++ flat_map (λ (i : ItemValue). to_be_bytes w64 i.bits) items.now) }
+        (out.new.items ≡ out.old.items ++ (each item_row (map (λ (i : ItemValue). i.full) items.now)).spell items.now) }
 {
     for item in items {
         out.extend_from_slice(&item.bits.to_be_bytes())?;
@@ -140,7 +141,7 @@ fn put_words(out: &mut Vec<u8>, items: &[Item]) -> Result<(), AllocError>
     Ok(())
 }
 
-#[tactic(auto, unfolding(crate::specs::Spelling::reloc_record))]
+#[tactic(auto, unfolding(crate::specs::Format::good_reloc))]
 fn put_reloc(out: &mut Vec<u8>, reloc: Reloc) -> Result<(), AllocError>
     ensures { OnOk result (out.new.items ≡ out.old.items ++ reloc_record reloc) }
 {
@@ -152,14 +153,14 @@ fn put_reloc(out: &mut Vec<u8>, reloc: Reloc) -> Result<(), AllocError>
 }
 
 fn put_target(out: &mut Vec<u8>, target: Target) -> Result<(), AllocError>
-    ensures { OnOk result (out.new.items ≡ out.old.items ++ target_record target) }
+    ensures { OnOk result (out.new.items ≡ out.old.items ++ target_row.spell target) }
 {
     out.extend_from_slice(&target.index.to_be_bytes())?;
     out.extend_from_slice(&target.addend.to_be_bytes())?;
     Ok(())
 }
 
-#[tactic(auto, unfolding(crate::specs::Spelling::thread_record))]
+#[tactic(auto, unfolding(crate::specs::Format::good_thread))]
 fn put_thread(out: &mut Vec<u8>, thread: &Thread) -> Result<(), AllocError>
     ensures { OnOk result (out.new.items ≡ out.old.items ++ thread_record thread.now) }
 {
@@ -183,7 +184,7 @@ fn thread_head(thread: &Thread) -> [u8; 4]
 }
 
 fn put_values(out: &mut Vec<u8>, values: &[Value]) -> Result<(), AllocError>
-    ensures { OnOk result (out.new.items ≡ out.old.items ++ flat_map value_record values.now) }
+    ensures { OnOk result (out.new.items ≡ out.old.items ++ (each value_row (map is_tagged values.now)).spell values.now) }
 {
     for value in values {
         put_value(out, *value)?;
@@ -192,7 +193,7 @@ fn put_values(out: &mut Vec<u8>, values: &[Value]) -> Result<(), AllocError>
 }
 
 fn put_value(out: &mut Vec<u8>, value: Value) -> Result<(), AllocError>
-    ensures { OnOk result (out.new.items ≡ out.old.items ++ value_record value) }
+    ensures { OnOk result (out.new.items ≡ out.old.items ++ (value_row (is_tagged value)).spell value) }
 {
     match value {
         Value::Int(n) => out.extend_from_slice(&n.to_be_bytes())?,

@@ -10,7 +10,7 @@ use Rattle.mm_sched.specs.declared.schedule.Order.TheVariants as order
 use Rattle.mm_sched.specs.Orders.{items_of, items_from, last_from}
 use Rattle.mm_model.specs.Spelling.{IsImage}
 use Rattle.mm_machine.specs.Snapshot.{Parts, IsSnapshotOf}
-use Rattle.mm_checkpoint.specs.Checkpoints.{saved_of, spelling}
+use Rattle.mm_checkpoint.specs.{Checkpoints.saved_of, Format.spelling}
 use Rattle.mm_checkpoint.proofs.Forms.{have_forms}
 use Rattle.mm_machine.specs.Going.{WentOn}
 use Rattle.mm_load.specs.Kinds.{values_of}
@@ -57,11 +57,11 @@ module _ {M : Type 0} {memory : Ghosts M} where
   -- the bytes of its checkpoint are those of the run's
   pub saved_from_start : (i : Image) (o : Order) (count : ℕ) (old new : Machine M memory) (p : Parts) (last : Option ℕ) (bytes : List ℕ) → IsImage i → StandsFor i [] old
       → WentOn old new (items_from o (state_of old) None count) → last ≡ last_from o None (items_from o (state_of old) None count)
-      → IsSnapshotOf (state_of new) p → bytes ≡ spelling (saved_of p last)
+      → IsSnapshotOf (state_of new) p → bytes ≡ spelling i (saved_of p last)
       → bytes ≡ saved_after i (items_of o (start i) count) (last_issued (values_of o) (items_of o (start i) count))
   saved_from_start i o count old new p last bytes image begun went issued is spelled =
       let items = items_of o (start i) count in
       let stands = issued_from_start i o count old new begun went in
       spelled
-      ∙ ap spelling (have_forms i items p last image (subst (λ (s : State). IsSnapshotOf s p) stands.state is))
+      ∙ ap (spelling i) (have_forms i items p last image (subst (λ (s : State). IsSnapshotOf s p) stands.state is))
       ∙ ap (λ (x : Option ℕ). saved_after i items x) (issued ∙ last_issued_from_start i o count old begun)

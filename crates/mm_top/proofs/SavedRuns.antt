@@ -17,7 +17,7 @@ use Rattle.mm_machine.specs.Kept.{Kept}
 use Rattle.mm_machine.specs.Snapshot.{Parts, restored}
 use Rattle.mm_machine.proofs.Keeping.{kept_start, kept_after}
 use Rattle.mm_machine.proofs.Returning.{put_back}
-use Rattle.mm_checkpoint.specs.Checkpoints.{Saved, saved_of, Saves}
+use Rattle.mm_checkpoint.specs.{Checkpoints.{Saved, saved_of}, Format.Saves}
 use Rattle.mm_checkpoint.specs.States.{saved_form}
 use Rattle.mm_checkpoint.specs.Laws.{IsSavedState}
 use Rattle.mm_checkpoint.proofs.CheckpointBytes.{checkpoints_are_short}

@@ -8,9 +8,9 @@ use Rattle.mm_model.specs.Run as machine
 use Rattle.mm_model.specs.Trace as lines
 use Rattle.mm_model.specs.Schedule.{first_items, only}
 use Rattle.mm_model.specs.Worlds.{Extracts, alone, migrated}
-use Rattle.mm_model.specs.Spelling.{Spells}
+use Rattle.mm_format.specs.Images.{Spells}
 use Rattle.mm_object.specs.Objects.{Object}
-use Rattle.mm_object.specs.Spelling.{Spells as SpellsObject}
+use Rattle.mm_object.specs.Format.{Spells as SpellsObject}
 use Rattle.mm_link.specs.declared.fault.LinkFault.{LinkFault}
 use Rattle.mm_link.specs.Faults.{link_fault}
 use Rattle.mm_link.specs.Linked.{Linked}

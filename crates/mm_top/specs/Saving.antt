@@ -7,7 +7,7 @@ use Rattle.mm_model.specs.State.{State}
 use Rattle.mm_model.specs.Run.{run, last_item}
 use Rattle.mm_model.specs.Report.{further_report}
 use Rattle.mm_machine.specs.Snapshot.{IsAlike}
-use Rattle.mm_checkpoint.specs.Checkpoints.{Saved, spelling}
+use Rattle.mm_checkpoint.specs.{Checkpoints.Saved, Format.spelling}
 use Rattle.mm_checkpoint.specs.States.{saved_form}
 use Rattle.mm_load.specs.Kinds.{Value}
 use Rattle.mm_top.specs.Orders.{AreIssuedFrom}
@@ -21,7 +21,7 @@ last_issued (list ∷ lists) items = None
 
 -- the bytes of the checkpoint of an image's run under these items, with the slot that round robin issued last
 abbrev pub saved_after : Image → List ℕ → (last : Option ℕ) → List ℕ
-saved_after i items last = spelling (saved_form (run (start i) items) last)
+saved_after i items last = spelling i (saved_form (run (start i) items) last)
 
 -- 2. What goes on.
 

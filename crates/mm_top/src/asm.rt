@@ -1,6 +1,6 @@
 //! `asm`: the object that a source means.
 
-ghost use Rattle.mm_object.specs.Spelling.{Spells};
+ghost use Rattle.mm_object.specs.Format.{Spells};
 ghost use Rattle.mm_load.specs.Files.{reading};
 ghost use Rattle.mm_cli.specs.Said.{row};
 ghost use Rattle.mm_top.specs.Commands.{YieldsAlone};

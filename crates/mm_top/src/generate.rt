@@ -1,7 +1,7 @@
 //! `gen`: the image that is generated from a number.
 
 ghost use Rattle.std.specs.Prelude.{◌≤◌, []};
-ghost use Rattle.mm_model.specs.Spelling.{Spells};
+ghost use Rattle.mm_format.specs.Images.{Spells};
 ghost use Rattle.mm_gen.specs.Generated.{generated};
 ghost use Rattle.mm_cli.specs.Said.{AreOf, row};
 ghost use Rattle.mm_top.specs.Commands.{YieldsAlone};

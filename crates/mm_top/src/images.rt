@@ -1,6 +1,6 @@
 //! Images that a command writes.
 
-ghost use Rattle.mm_model.specs.Spelling.{Spells};
+ghost use Rattle.mm_format.specs.Images.{Spells};
 ghost use Rattle.mm_top.specs.Answers.{EndsWith, writing};
 
 use mm_image::Image;

@@ -1,7 +1,7 @@
 //! `migrate`: an image as version 2.
 
 ghost use Rattle.std.specs.Prelude.{◌≡◌, IfOk};
-ghost use Rattle.mm_model.specs.Spelling.{Spells};
+ghost use Rattle.mm_format.specs.Images.{Spells};
 ghost use Rattle.mm_model.specs.Worlds.{migrated};
 ghost use Rattle.mm_load.specs.Files.{reading};
 ghost use Rattle.mm_cli.specs.Said.{row};

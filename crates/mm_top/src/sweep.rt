@@ -1,6 +1,6 @@
 //! `sweep`: the image in which nobody reaches a range.
 
-ghost use Rattle.mm_model.specs.Spelling.{Spells};
+ghost use Rattle.mm_format.specs.Images.{Spells};
 ghost use Rattle.mm_sweep.specs.Swept.{swept};
 ghost use Rattle.mm_sweep.specs.Refusals.{CanSweep};
 ghost use Rattle.mm_load.specs.Files.{reading};

@@ -1,7 +1,7 @@
 use Rattle.std.proofs.{Common.{length, sym, ap, subst, ◌∙◌, arith}, lemmas.Result.err_from_is_err_and}
 use Rattle.mm_model.specs.Bytes.{IsBytes}
 use Rattle.mm_machine.specs.Snapshot.{Parts, parts_of}
-use Rattle.mm_checkpoint.specs.Checkpoints.{Saves, saved_of}
+use Rattle.mm_checkpoint.specs.{Checkpoints.saved_of, Format.Saves}
 use Rattle.mm_checkpoint.proofs.SpelledLaws.{told_fault, told_first, told_memory}
 use Rattle.mm_format.proofs.Files.{same_value}
 use Rattle.mm_checkpoint.proofs.FormatWhole.{are_saved, spelled_said}

@@ -1,5 +1,5 @@
 use Rattle.std.{proofs.Common.{◌≡◌, ℕ, Option, Some, None, refl, append_assoc}, specs.Option.unwrap_or}
-use Rattle.mm_checkpoint.specs.Checkpoints.{last_byte}
+use Rattle.mm_checkpoint.specs.{Checkpoints.last_byte, Format.header}
 use Rattle.mm_checkpoint.proofs.writing.put_header.Goals as goal
 
 or_none : (last : Option ℕ) → unwrap_or last 255 ≡ last_byte last
@@ -7,6 +7,7 @@ or_none None = refl
 or_none (Some n) = refl
 
 pub returns : goal.returns
+unfolding header
 returns c =
     rw (
       c.in_ok-extend_from_slice-5.ensures.items,

@@ -1,5 +1,5 @@
 use Rattle.mm_image.proofs.Written.{both_written}
-use Rattle.mm_checkpoint.specs.Checkpoints.{tagged_word}
+use Rattle.mm_checkpoint.specs.Format.{tagged_word}
 use Rattle.mm_checkpoint.proofs.writing.put_operands.Goals as goal
 
 pub returns-in_ok-put_tagged-in-Some-2 : goal.returns-in_ok-put_tagged-in-Some-2

@@ -1,6 +1,6 @@
 use Rattle.std.{proofs.Common.{◌≡◌, ◌++◌, map, take}, specs.List.flat_map}
 use Rattle.mm_thread.specs.Output.{Output}
-use Rattle.mm_checkpoint.specs.Checkpoints.{output_record}
+use Rattle.mm_checkpoint.specs.Format.{output_record}
 use Rattle.mm_checkpoint.proofs.writing.put_outputs.Given as goal
 
 abbrev pub invariant-loop-output : goal.invariant-loop-output

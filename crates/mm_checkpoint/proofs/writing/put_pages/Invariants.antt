@@ -1,5 +1,5 @@
 use Rattle.std.{proofs.Common.{◌≡◌, ◌++◌, take}, specs.List.flat_map}
-use Rattle.mm_model.specs.Spelling.{page_record}
+use Rattle.mm_format.specs.Images.{page_record}
 use Rattle.mm_checkpoint.proofs.writing.put_pages.Given as goal
 
 abbrev pub invariant-loop-page : goal.invariant-loop-page

@@ -1,5 +1,5 @@
 use Rattle.std.{proofs.Common.{◌≡◌, ◌++◌, take}, specs.List.flat_map}
-use Rattle.mm_checkpoint.specs.Checkpoints.{slot_record}
+use Rattle.mm_checkpoint.specs.Format.{slot_record}
 use Rattle.mm_checkpoint.proofs.writing.put_slots.Given as goal
 
 abbrev pub invariant-loop-slot : goal.invariant-loop-slot

@@ -1,7 +1,7 @@
 use Rattle.std.{proofs.Common.{refl, List, length, subst, sym, ap, arith}, specs.List.AllByRecursion}
 use Rattle.mm_model.{specs.{Slot.Slot, Fits.WaitsForSome}, proofs.CoreRows.slot_limit-few}
-use Rattle.mm_checkpoint.specs.Checkpoints.{spelling}
 use Rattle.mm_checkpoint.proofs.{Groups.few_outputs, CheckpointBytes.{queued, frames_few}, Owns.all_handled}
+use Rattle.mm_checkpoint.proofs.Spelled.{checkpoint_spelled}
 use Rattle.mm_checkpoint.proofs.writing.write.Goals as goal
 
 pub length_of-requires-clause-few : goal.length_of-requires-clause-few
@@ -44,9 +44,9 @@ pub put_slots-requires-clause-handled : goal.put_slots-requires-clause-handled
 put_slots-requires-clause-handled c = subst (λ (xs : List Slot). AllByRecursion WaitsForSome xs) (sym c.slots-2.ensures.slots) (all_handled c.args.s.now c.requires.rules c.requires.typed)
 
 pub returns-clause-written : goal.returns-clause-written
-unfolding spelling
 returns-clause-written c =
     rw (
+      checkpoint_spelled c.args.img.now c.args.s.now c.args.last c.slots.ensures.image c.requires,
       c.in_ok-put_pages.ensures,
       c.pages-2.ensures.pages,
       c.in_ok-put_outputs.ensures,

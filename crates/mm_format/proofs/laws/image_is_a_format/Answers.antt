@@ -2,7 +2,6 @@ use Rattle.mm_format.specs.Images.{image}
 use Rattle.mm_format.proofs.Files.{round_trips, one_to_one}
 use Rattle.mm_format.proofs.Images.{image_is}
 use Rattle.mm_format.proofs.ImagesFit.{image_fits, fits_image}
-use Rattle.mm_format.proofs.ImagesWhole.{image_spelled}
 use Rattle.mm_format.proofs.laws.image_is_a_format.Goals as goal
 
 pub returns-clause-format : goal.returns-clause-format
@@ -16,6 +15,3 @@ returns-clause-one_to_one c = one_to_one image image_is
 
 pub returns-clause-fits : goal.returns-clause-fits
 returns-clause-fits c = λ i. (image_fits i, fits_image i)
-
-pub returns-clause-spelled : goal.returns-clause-spelled
-returns-clause-spelled c = image_spelled

@@ -1,6 +1,7 @@
 use Rattle.std.proofs.Common.{◌≡◌, Bool, true, false, refl, append_assoc}
 use Rattle.std.specs.Int.{from_bool}
 use Rattle.mm_model.specs.Spelling.{mode_of}
+use Rattle.mm_format.specs.Headers.{header}
 use Rattle.mm_image.proofs.writing.put_header.Goals as goal
 
 mode_byte : (b : Bool) → from_bool b ≡ mode_of b
@@ -8,6 +9,7 @@ mode_byte true = refl
 mode_byte false = refl
 
 pub returns : goal.returns
+unfolding header
 returns c =
     rw (
       c.in_ok-extend_from_slice-6.ensures.items,

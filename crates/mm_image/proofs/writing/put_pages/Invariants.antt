@@ -1,6 +1,6 @@
 use Rattle.std.proofs.Common.{◌≡◌, ◌++◌, take}
 use Rattle.std.specs.List.{flat_map}
-use Rattle.mm_model.specs.Spelling.{page_record}
+use Rattle.mm_format.specs.Images.{page_record}
 use Rattle.mm_image.proofs.writing.put_pages.Given as goal
 
 abbrev pub invariant-loop-page : goal.invariant-loop-page

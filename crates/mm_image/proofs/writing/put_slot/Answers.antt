@@ -1,10 +1,10 @@
-use Rattle.std.proofs.Common.{ap, append_assoc}
+use Rattle.std.proofs.Common.{ap, append_assoc, append-nil}
 use Rattle.mm_model.specs.Slot.{Slot}
-use Rattle.mm_model.specs.Spelling.{slot_record}
+use Rattle.mm_format.specs.Images.{slot, ip, mask}
 use Rattle.mm_image.proofs.writing.put_slot.Goals as goal
 
 pub returns : goal.returns
-unfolding slot_record
+unfolding slot ip mask
 returns c =
     let ip = ap (λ (x : Slot). x.ip) c.slot.view_is in
     let regs = ap (λ (x : Slot). x.regs) c.slot.view_is in
@@ -20,4 +20,4 @@ returns c =
       c.tags_of.ensures.value,
       ip,
       regs,
-    ) (simp append_assoc)
+    ) (simp (append_assoc, append-nil))

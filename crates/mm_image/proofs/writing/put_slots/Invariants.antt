@@ -1,6 +1,6 @@
 use Rattle.std.proofs.Common.{◌≡◌, ◌++◌, take}
 use Rattle.std.specs.List.{flat_map}
-use Rattle.mm_model.specs.Spelling.{slot_record}
+use Rattle.mm_format.specs.Images.{slot_record}
 use Rattle.mm_image.proofs.writing.put_slots.Given as goal
 
 abbrev pub invariant-loop-slot : goal.invariant-loop-slot

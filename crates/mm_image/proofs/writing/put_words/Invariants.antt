@@ -1,6 +1,7 @@
 use Rattle.std.proofs.Common.{◌≡◌, ◌++◌, take}
-use Rattle.mm_model.specs.Spelling.{words_spelling}
+use Rattle.std.specs.{List.{flat_map}, Int.{w64, to_be_bytes}}
+use Rattle.mm_word.specs.Word.{word_bits}
 use Rattle.mm_image.proofs.writing.put_words.Given as goal
 
 abbrev pub invariant-loop-word : goal.invariant-loop-word
-invariant-loop-word l = l.out.items ≡ l.initial.out.items ++ words_spelling (take l.word-index l.words)
+invariant-loop-word l = l.out.items ≡ l.initial.out.items ++ flat_map (λ w. to_be_bytes w64 (word_bits w)) (take l.word-index l.words)

@@ -1,6 +1,6 @@
 use Rattle.std.proofs.Common.{◌≡◌, ◌++◌, take}
 use Rattle.std.specs.List.{flat_map}
-use Rattle.mm_object.specs.Spelling.{name_record}
+use Rattle.mm_object.specs.Format.{name_record}
 use Rattle.mm_object.proofs.writing.put_names.Given as goal
 
 abbrev pub invariant-loop-name : goal.invariant-loop-name

@@ -1,6 +1,6 @@
 use Rattle.std.proofs.Common.{◌≡◌, ◌++◌, take}
 use Rattle.std.specs.List.{flat_map}
-use Rattle.mm_object.specs.Spelling.{reloc_record}
+use Rattle.mm_object.specs.Format.{reloc_record}
 use Rattle.mm_object.proofs.writing.put_relocs.Given as goal
 
 abbrev pub invariant-loop-reloc : goal.invariant-loop-reloc

@@ -1,6 +1,6 @@
 use Rattle.std.proofs.Common.{◌≡◌, ◌++◌, take}
 use Rattle.std.specs.List.{flat_map}
-use Rattle.mm_object.specs.Spelling.{segment_record}
+use Rattle.mm_object.specs.Format.{segment_record}
 use Rattle.mm_object.proofs.writing.put_segments.Given as goal
 
 abbrev pub invariant-loop-segment : goal.invariant-loop-segment

@@ -1,6 +1,6 @@
 use Rattle.std.proofs.Common.{◌≡◌, ◌++◌, take}
 use Rattle.std.specs.List.{flat_map}
-use Rattle.mm_object.specs.Spelling.{thread_record}
+use Rattle.mm_object.specs.Format.{thread_record}
 use Rattle.mm_object.proofs.writing.put_threads.Given as goal
 
 abbrev pub invariant-loop-thread : goal.invariant-loop-thread

@@ -1,5 +1,5 @@
 use Rattle.std.proofs.Common.{Bool, [], refl, subst}
-use Rattle.mm_model.specs.Spelling.{Spells}
+use Rattle.mm_format.specs.Images.{Spells}
 use Rattle.mm_model.specs.Worlds.{migrated}
 use Rattle.mm_top.proofs.Rows.{row_stops, row_ends}
 use Rattle.mm_top.proofs.NamedFiles.{named}

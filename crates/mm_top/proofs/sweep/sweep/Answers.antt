@@ -1,5 +1,5 @@
 use Rattle.std.proofs.Common.{ℕ, List, [], refl, sym, subst}
-use Rattle.mm_model.specs.Spelling.{Spells}
+use Rattle.mm_format.specs.Images.{Spells}
 use Rattle.mm_model.specs.Image.{Image}
 use Rattle.mm_sweep.specs.Swept.{swept}
 use Rattle.mm_sweep.specs.Refusals.{CanSweep}
