@@ -80,6 +80,9 @@ BODIES = [
     ("a trailing byte of an object is told at the end of the file", ANSWERS, 'ran "$@"; line "s/object fault 9 at 218/object fault 9 at 219/"; told'),
     ("a byte too many of an image is told where the file ends", HOSTILE, 'ran "$@"; line "s/image fault 13 at 158/image fault 13 at 159/"; told'),
     ("a short object is told at its front", HOSTILE, 'ran "$@"; line "s/object fault 1 at .*/object fault 1 at 0/"; told'),
+    ("a cause of a checkpoint is told at the state before it", HOSTILE, 'ran "$@"; line "s/checkpoint fault at 19$/checkpoint fault at 18/"; told'),
+    ("a checkpoint may have a byte more", HOSTILE, 'ran "$@"; if [ "$1" = continue ] && [ "$status" = 2 ]; then head -c -1 "$3" >"$room/less"; ' +
+     '"$program" continue "$2" "$room/less" "$4" >"$room/new" 2>"$room/diag"; status=$?; mv "$room/new" "$room/out"; fi; told'),
     # Texts.
     ("the largest generated image has another number", ANSWERS, '[ "$1-$3" != gen-16 ] || { ran "$@"; bytes 60000 x; told; }'),
     ("a step back is one too far", ANSWERS, '[ "$1" != debug ] || { ran "$@"; text "s/^back 1 total 2999/back 1 total 2998/"; told; }'),
