@@ -83,6 +83,11 @@ BODIES = [
     ("a cause of a checkpoint is told at the state before it", HOSTILE, 'ran "$@"; line "s/checkpoint fault at 19$/checkpoint fault at 18/"; told'),
     ("a checkpoint may have a byte more", HOSTILE, 'ran "$@"; if [ "$1" = continue ] && [ "$status" = 2 ]; then head -c -1 "$3" >"$room/less"; ' +
      '"$program" continue "$2" "$room/less" "$4" >"$room/new" 2>"$room/diag"; status=$?; mv "$room/new" "$room/out"; fi; told'),
+    ("a file of more than 4 GiB is one of its length modulo that", STATUSES, 'for it do [ "$(size "$it")" -lt 4294967296 ] || end 2 "file 1 image fault 2 at 0"; done'),
+    ("a link that leads nowhere is an empty file", STATUSES, 'for it do shift; { [ -L "$it" ] && [ ! -e "$it" ]; } && it=/dev/null; set -- "$@" "$it"; done'),
+    ("a file is left in the folder", HOSTILE, ': >./left-behind'),
+    ("a file that was read has a byte more", HOSTILE, 'for it do if [ -f "$it" ] && [ -w "$it" ]; then case $it in */names/*) "$program" "$@"; s=$?; printf x >>"$it"; exit $s ;; esac; fi; done'),
+    ("a path of more than 1,000 bytes is not there", HOSTILE, 'for it do [ ${#it} -le 1000 ] || end 3 "read fault"; done'),
     # Texts.
     ("the largest generated image has another number", ANSWERS, '[ "$1-$3" != gen-16 ] || { ran "$@"; bytes 60000 x; told; }'),
     ("a step back is one too far", ANSWERS, '[ "$1" != debug ] || { ran "$@"; text "s/^back 1 total 2999/back 1 total 2998/"; told; }'),
@@ -93,6 +98,10 @@ BODIES = [
      '[ "$1-$#" != continue-4 ] || { ran "$@"; "$program" run "$2" 40 >"$room/whole"; { sed \'$d\' "$room/out"; tail -n 1 "$room/whole"; } >"$room/new"; mv "$room/new" "$room/out"; told; }'),
     ("a log has no lines of queued events", LOG, '[ "$1" != log ] || { ran "$@"; text "/^event /d"; told; }'),
     ("a log has each cell as full", LOG, '[ "$1" != log ] || { ran "$@"; text "s/^\\(cell .*\\) empty$/\\1 full/"; told; }'),
+    ("a trace has a fault of bounds as one of permission", LOG, '[ "$1" != trace ] || { ran "$@"; text "s/faulted 2/faulted 3/"; told; }'),
+    ("debug has a register that is another one", LOG, '[ "$1" != debug ] || { ran "$@"; text "s/^r 1 i.*/r 1 i0000000000000000/"; told; }'),
+    ("save forgets the turn of the last slot", LOG, '[ "$1" != save ] || { ran "$@"; bytes 6 "\\000"; told; }'),
+    ("continue goes a cycle less", LOG, '[ "$1" != continue ] || set -- "$1" "$2" "$3" "$(($4 - 1))"'),
     ("a log forgets that a slot was taken", LOG, '[ "$1" != log ] || { ran "$@"; text "/^taken /d"; told; }'),
     ("a derivation names the register after", WHY, '[ "$1" != why ] || { ran "$@"; text "s/register \\(.*\\) 5$/register \\1 6/"; told; }'),
     ("group 0 writes no word", WHY, '[ "$1-$3-$5" != why-0-write ] || { echo no; exit 0; }'),
