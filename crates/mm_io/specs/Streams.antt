@@ -20,3 +20,10 @@ pub record ReadsPlaced {S : Type 0} (position : S → Option ℕ) (remaining : S
   pub place : IfSome (position old) (λ _. position placed ≡ Some offset)
   pub gave : Consumes (remaining placed) (remaining new) (take n buf)
   pub end : n ≡ 0 → 0 < length buf → IsAtEnd (remaining new)
+
+-- A stream that was opened gave these n bytes from the offset on.
+pub record GaveFrom {S : Type 0} (position : S → Option ℕ) (remaining : S → Option (List ℕ)) (offset n : ℕ)
+    (buf : List ℕ) : Type 0 where
+  pub opened : S
+  pub after : S
+  pub read : ReadsPlaced position remaining opened after offset n buf

@@ -6,7 +6,7 @@
 ghost use Rattle.std.specs.Prelude.{◌≡◌, ℕ, ◌<◌, ◌≤◌, None, length, take, IfOk, OnOk, OnErr, ⊤};
 ghost use Rattle.std.specs.Io.KnownBytes.{Keeps, Appends, Consumes, IsAtEnd};
 ghost use Rattle.mm_io.specs.Files.{Rose, raised};
-ghost use Rattle.mm_io.specs.Streams.{WrittenStream, ReadStream, ReadsPlaced};
+ghost use Rattle.mm_io.specs.Streams.{WrittenStream, ReadStream, ReadsPlaced, GaveFrom};
 
 use crate::{Failed, Files, Sink, Source};
 use std::io::{Read, Seek, SeekFrom, Write};
@@ -48,7 +48,9 @@ fn read_placed<S: Read + Seek>(stream: &mut S, offset: u64, buf: &mut [u8]) -> i
 
 // Reads bytes of the named file, which is opened anew.
 fn read_from<R: rt::Files>(rt: &R, name: &str, offset: u64, buf: &mut [u8]) -> io::Result<usize>
-    ensures { IfOk result (λ n. n ≤ length buf.new) }
+    ensures bound { IfOk result (λ n. n ≤ length buf.new) }
+    ensures gave { IfOk result
+        (λ n. GaveFrom R.File.stream_position R.File.remaining offset n buf.new) }
 {
     let mut file = fs::open(rt, name)?;
     read_placed(&mut file, offset, buf)
@@ -66,6 +68,10 @@ impl<R: rt::Files + Drop> Files for StdFiles<R> {
         ensures bound { IfOk result (λ n. n ≤ length buf.new) }
         ensures cause { OnErr result (Rose self.old self.new) }
         ensures later { self.old ≤ self.new }
+
+        // what is answered is what an open file gave from the offset on, so a read that fails, at any offset, is an error
+        ensures gave { IfOk result
+            (λ n. GaveFrom R.File.stream_position R.File.remaining offset n buf.new) }
 
         // each error raises the count, and nothing else does
         ensures ok { OnOk result (self.new ≡ self.old) }

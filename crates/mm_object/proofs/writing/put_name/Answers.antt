@@ -1,4 +1,4 @@
-use Rattle.std.proofs.Common.{append_assoc, append-nil, ◌∙◌, ap, length, List, ℕ, sym}
+use Rattle.std.proofs.Common.{append_assoc, append-nil}
 use Rattle.mm_object.specs.Format.{name_row, name_fields}
 use Rattle.mm_object.proofs.writing.put_name.Goals as goal
 

@@ -1,0 +1,194 @@
+"""Programs that are wrong in one way throughout, for tools/spoiled: each as a shell script that stands in the program's
+place, and the script of the merge check that has to notice.
+
+A body changes its words, or says how a run ends, and what it leaves is done by the program. It has these functions:
+`end STATUS LINE` ends so; `ran WORDS` runs the program, and `text SED`, `line SED` and `bytes AT BYTE` change what it
+wrote on standard output or standard error; `told` ends as it did. To add a body, add a row to `BODIES`."""
+
+HELP = r"""#!/bin/sh
+program='%(program)s'
+LC_ALL=C
+export LC_ALL
+end() { printf '%%s\n' "mmachine: $2" >&2; exit "$1"; }
+no_memory() { end 5 'out of memory'; }
+usage() { end 1 usage; }
+size() { stat -Lc %%s -- "$1" 2>/dev/null || echo 0; }
+ran() {
+    [ ! -c /dev/fd/1 ] || exec "$program" "$@"
+    room=$(mktemp -d) && trap 'rm -rf "$room"' EXIT
+    "$program" "$@" >"$room/out" 2>"$room/diag"
+    status=$?
+}
+text() { sed "$1" "$room/out" >"$room/new" && mv "$room/new" "$room/out"; }
+line() { sed "$1" "$room/diag" >"$room/new" && mv "$room/new" "$room/diag"; }
+bytes() {
+    [ "$(size "$room/out")" -le "$1" ] || printf "$2" | dd of="$room/out" bs=1 seek="$1" conv=notrunc 2>/dev/null
+}
+told() { cat "$room/out"; cat "$room/diag" >&2; exit "$status"; }
+%(code)s
+exec "$program" "$@"
+"""
+
+STATUSES, FAULTS, ANSWERS, PIECES, LOG = ".ci/statuses", ".ci/faults", ".ci/answers", ".ci/pieces", ".ci/log"
+WHY, EXPLORE, LIMITS, HOSTILE, CONFORMANCE = ".ci/why", ".ci/explore", ".ci/limits", "tools/hostile", ".ci/conformance"
+MM, PICTURES, VIEW, PAGES = ".ci/mm", "docs/pictures/build", "docs/view/build", "examples/check"
+
+# Each body: what it does wrong, the script that has to notice, what it does; and words for that script, with
+# which it is enough.
+BODIES = [
+    # Words.
+    ("words that are no text are done", STATUSES, 'ran "$@"; [ "$status" != 6 ] || status=0; told'),
+    ("a status is taken modulo 4", STATUSES, 'ran "$@"; status=$((status % 4)); told'),
+    ("words after the seventeenth are dropped", STATUSES,
+     'if [ $# -gt 17 ]; '
+     'then set -- "$1" "$2" "$3" "$4" "$5" "$6" "$7" "$8" "$9" "${10}" "${11}" "${12}" "${13}" "${14}" "${15}" '
+     '"${16}" "${17}"; fi'),
+    ("empty words are dropped", STATUSES, 'for it do shift; [ -z "$it" ] || set -- "$@" "$it"; done'),
+    ("words that begin with - are dropped", HOSTILE,
+     'for it do shift; case $it in -*) ;; *) set -- "$@" "$it" ;; esac; done', "--only", "names"),
+    ("blanks at the ends of words are dropped", HOSTILE,
+     'for it do shift; while [ "${it# }" != "$it" ] || [ "${it% }" != "$it" ]; do it=${it# }; '
+     'it=${it% }; done; set -- "$@" "$it"; done', "--only", "names"),
+    ("a newline at the end of a word is dropped", HOSTILE,
+     'for it do shift; set -- "$@" "$(printf "%s" "$it")"; done', "--only", "names"),
+    ("a word with a byte above 127 cannot be had", HOSTILE,
+     'for it do case $it in *[!\x01-\x7f]*) exit 6 ;; esac; done', "--only", "names"),
+    ("a name of more than 200 bytes is not read", HOSTILE,
+     'for it do [ ${#it} -le 200 ] || [ ! -f "$it" ] || end 3 "read fault"; done', "--only", "names"),
+    ("a name with a star is that of the first file that fits", HOSTILE,
+     'for it do shift; case $it in *"*"*|*"?"*) for first in $it; do break; done; '
+     'set -- "$@" "$first" ;; *) set -- "$@" "$it" ;; esac; done', "--only", "names"),
+    ("the name - is standard input", HOSTILE,
+     'for it do shift; [ "$it" != - ] || it=/dev/stdin; set -- "$@" "$it"; done', "--only", "names"),
+    ("a word of no text is one with question marks", HOSTILE,
+     'for it do shift; printf "%s" "$it" | iconv -f UTF-8 -t UTF-8 >/dev/null 2>&1 || it="?"; '
+     'set -- "$@" "$it"; done', "--only", "names"),
+    ("a command in capitals is known", STATUSES,
+     '[ $# = 0 ] || { it=$(printf %s "$1" | tr A-Z a-z); shift; set -- "$it" "$@"; }'),
+    ("a blank after a command is dropped", STATUSES, '[ $# = 0 ] || { it=${1% }; shift; set -- "$it" "$@"; }'),
+    ("an empty schedule is none", STATUSES, '[ $# != 4 ] || [ -n "$4" ] || set -- "$1" "$2" "$3"'),
+    ("--help is done", STATUSES, '[ "$1" != --help ] || exit 0'),
+    ("trace has cycles up to 999,999", STATUSES, '[ "$1" != trace ] || [ "$3" != 1000000 ] || usage'),
+    ("a number of save may have a leading zero", STATUSES,
+     '[ "$1" != save ] || [ $# != 3 ] || set -- "$1" "$2" "$(printf %s "$3" | sed "s/^0*\\(.\\)/\\1/")"'),
+    ("a number of gen may have a plus", STATUSES, '[ "$1" != gen ] || [ $# != 3 ] || set -- "$1" "${2#+}" "${3#+}"'),
+    ("a kind of why may begin with a capital", STATUSES, '[ "$5" != Touch ] || set -- "$1" "$2" "$3" "$4" touch'),
+    ("link takes up to 15 objects", STATUSES, '[ "$1" != link ] || [ $# -lt 17 ] || usage'),
+    ("a usage is told twice", STATUSES, 'ran "$@"; [ "$status" != 1 ] || line p; told'),
+    # Files and streams.
+    ("a file that cannot be read is empty", STATUSES,
+     'for it do shift; case $it in */*) [ -f "$it" ] || it=/dev/null ;; esac; set -- "$@" "$it"; done'),
+    ("a folder is an empty file", HOSTILE,
+     'for it do shift; [ ! -d "$it" ] || it=/dev/null; set -- "$@" "$it"; done', "--only", "places"),
+    ("a write fault of net is done", STATUSES,
+     'if [ "$1" = net ] && [ -c /dev/fd/1 ]; then "$program" "$@" 2>/dev/null; exit 0; fi'),
+    ("a closed pipe is done", HOSTILE,
+     'ran "$@"; if [ -s "$room/out" ]; then cat "$room/out" 2>/dev/null; exit "$status"; fi; told', "--only", "places"),
+    ("debug takes the first MiB of a longer input", STATUSES,
+     'if [ "$1" = debug ]; then cat >/tmp/in.$$; head -c 1048576 </tmp/in.$$ | "$program" "$@"; status=$?; '
+     'rm -f /tmp/in.$$; exit $status; fi'),
+    ("a refusal of continue names the file before", STATUSES,
+     'ran "$@"; [ "$1" != continue ] || line "s/file 3/file 2/"; told'),
+    ("a privileged group is told before a held slot", STATUSES,
+     'ran "$@"; line "s/held slot 0/privileged group 0/"; told'),
+    ("want of memory is a read fault", STATUSES, 'ran "$@"; if [ "$status" = 5 ]; then end 3 "read fault"; fi; told'),
+    # Places of faults.
+    ("columns begin at 0 after the third line", FAULTS, 'ran "$@"; line "s/ at \\([4-9]\\):1$/ at \\1:0/"; told'),
+    ("a word too many is told as too many words of all", FAULTS,
+     'ran "$@"; line "s/source fault 8/source fault 9/"; told'),
+    ("a fault of events is told one byte later", FAULTS,
+     'ran "$@"; line "s/schedule fault at 15/schedule fault at 16/"; told'),
+    ("a malformed pointer is told at the word after it", ANSWERS,
+     'ran "$@"; line "s/image fault 9 at 94/image fault 9 at 102/"; told'),
+    ("a short checkpoint is told one byte earlier", ANSWERS,
+     'ran "$@"; line "s/checkpoint fault at 100$/checkpoint fault at 99/"; told'),
+    ("a trailing byte of an object is told at the end of the file", ANSWERS,
+     'ran "$@"; line "s/object fault 9 at 218/object fault 9 at 219/"; told'),
+    ("a byte too many of an image is told where the file ends", HOSTILE,
+     'ran "$@"; line "s/image fault 13 at 158/image fault 13 at 159/"; told', "--only", "images"),
+    ("a short object is told at its front", HOSTILE,
+     'ran "$@"; line "s/object fault 1 at .*/object fault 1 at 0/"; told', "--only", "objects"),
+    ("a cause of a checkpoint is told at the state before it", HOSTILE,
+     'ran "$@"; line "s/checkpoint fault at 19$/checkpoint fault at 18/"; told', "--only", "checkpoints"),
+    ("a checkpoint may have a byte more", HOSTILE,
+     'ran "$@"; if [ "$1" = continue ] && [ "$status" = 2 ]; '
+     'then head -c -1 "$3" >"$room/less"; '
+     '"$program" continue "$2" "$room/less" "$4" >"$room/new" 2>"$room/diag"; status=$?; '
+     'mv "$room/new" "$room/out"; fi; told', "--only", "checkpoints"),
+    ("a file of more than 4 GiB is one of its length modulo that", STATUSES,
+     'for it do [ "$(size "$it")" -lt 4294967296 ] || end 2 "file 1 image fault 2 at 0"; done'),
+    ("a link that leads nowhere is an empty file", STATUSES,
+     'for it do shift; { [ -L "$it" ] && [ ! -e "$it" ]; } && it=/dev/null; set -- "$@" "$it"; done'),
+    ("a file is left in the folder", HOSTILE, ': >./left-behind', "--only", "names"),
+    ("a file that was read has a byte more", HOSTILE,
+     'for it do if [ -f "$it" ] && [ -w "$it" ]; then case $it in */names/*) "$program" "$@"; '
+     's=$?; printf x >>"$it"; exit $s ;; esac; fi; done', "--only", "names"),
+    ("a path of more than 1,000 bytes is not there", HOSTILE,
+     'for it do [ ${#it} -le 1000 ] || end 3 "read fault"; done', "--only", "names"),
+    # Texts.
+    ("the largest generated image has another number", ANSWERS,
+     '[ "$1-$3" != gen-16 ] || { ran "$@"; bytes 60000 x; told; }'),
+    ("a step back is one too far", ANSWERS,
+     '[ "$1" != debug ] || { ran "$@"; text "s/^back 1 total 2999/back 1 total 2998/"; told; }'),
+    ("an extracted image keeps the slots of others", ANSWERS, '[ "$1" != extract ] || { cat "$2"; exit 0; }'),
+    ("continue counts a cycle more", PIECES,
+     '[ "$1" != continue ] || { ran "$@"; text "s/^cycles 3\\(.\\)$/cycles 4\\1/"; told; }'),
+    ("a checkpoint forgets the last slot of round robin", PIECES,
+     '[ "$1-$#" != save-3 ] || { ran "$@"; bytes 6 "\\377"; told; }'),
+    ("the count line of continue is that of the whole run", PIECES,
+     '[ "$1-$#" != continue-4 ] || { ran "$@"; "$program" run "$2" 40 >"$room/whole"; { sed \'$d\' "$room/out"; '
+     'tail -n 1 "$room/whole"; } >"$room/new"; mv "$room/new" "$room/out"; told; }'),
+    ("a log has no lines of queued events", LOG, '[ "$1" != log ] || { ran "$@"; text "/^event /d"; told; }'),
+    ("a log has each cell as full", LOG,
+     '[ "$1" != log ] || { ran "$@"; text "s/^\\(cell .*\\) empty$/\\1 full/"; told; }'),
+    ("a trace has a fault of bounds as one of permission", LOG,
+     '[ "$1" != trace ] || { ran "$@"; text "s/faulted 2/faulted 3/"; told; }'),
+    ("debug has a register that is another one", LOG,
+     '[ "$1" != debug ] || { ran "$@"; text "s/^r 1 i.*/r 1 i0000000000000000/"; told; }'),
+    ("save forgets the turn of the last slot", LOG, '[ "$1" != save ] || { ran "$@"; bytes 6 "\\000"; told; }'),
+    ("continue goes a cycle less", LOG, '[ "$1" != continue ] || set -- "$1" "$2" "$3" "$(($4 - 1))"'),
+    ("a log forgets that a slot was taken", LOG, '[ "$1" != log ] || { ran "$@"; text "/^taken /d"; told; }'),
+    ("a derivation names the register after", WHY,
+     '[ "$1" != why ] || { ran "$@"; text "s/register \\(.*\\) 5$/register \\1 6/"; told; }'),
+    ("group 0 writes no word", WHY, '[ "$1-$3-$5" != why-0-write ] || { echo no; exit 0; }'),
+    ("a derivation stands on the line after", WHY, '[ "$1" != why ] || { ran "$@"; text "s/ by 3$/ by 2/"; told; }'),
+    ("what is not looked at is all", EXPLORE, '[ "$1" != explore ] || { ran "$@"; text "1s/ more$/ all/"; told; }'),
+    ("an outcome has a turn more", EXPLORE, '[ "$1" != explore ] || { ran "$@"; text "\\$s/^by .*/& 0/"; told; }'),
+    ("a written word is told as touched alone", EXPLORE,
+     '[ "$1" != explore ] || { ran "$@"; text "/^wrote /d"; told; }'),
+    ("a write is counted twice", CONFORMANCE, '[ "$1" != log ] || { ran "$@"; text "s/ writes 1$/ writes 2/"; told; }'),
+    ("a fault of bounds is one of permission", CONFORMANCE,
+     '[ "$1" != log ] || { ran "$@"; text "s/faulted 3/faulted 4/"; told; }'),
+    ("a group that stands apart is not told", MM, '[ "$1" != grants ] || { ran "$@"; text "/^apart .* yes/d"; told; }'),
+    ("bytes that are put out have capital digits", MM, 'ran "$@"; text "s/^o 4f/o 4F/"; told'),
+    ("a picture's run has a turn fewer", PICTURES, '[ "$1" != trace ] || { ran "$@"; text "1d"; told; }'),
+    ("a page's log has a turn fewer", VIEW, '[ "$1" != log ] || { ran "$@"; text "1d"; told; }'),
+    ("a page's report has another word", PAGES,
+     '[ "$1" != run ] || { ran "$@"; text "s/i0000000000000041/i0000000000000042/"; told; }'),
+    ("a trace has no entries", PAGES, '[ "$1" != trace ] || { ran "$@"; text "s/ enter .*//"; told; }'),
+    # Memory.
+    *((f"{command} has no memory for an image of more than 1 MB", LIMITS,
+       f'[ "$1" != {command} ] || [ "$(size "$2")" -le 1000000 ] || no_memory', "go_through")
+      for command in "run trace log solo grants extract debug migrate sweep holders save explore why continue".split()),
+    *((f"{command} has no memory for an object of more than 2,000 relocations", LIMITS,
+       f'[ "$1" != {command} ] || [ "$(size "$2")" -le 50000 ] || no_memory', "link_most")
+      for command in ("link", "dis")),
+    ("asm has no memory for a source of more than 1 MB", LIMITS,
+     '[ "$1" != asm ] || [ "$(size "$2")" -le 1000000 ] || no_memory', "link_most"),
+    ("net has memory for up to 2 nodes, and for 8", LIMITS,
+     '[ "$1" != net ] || [ $# -lt 7 ] || [ $# -gt 11 ] || no_memory', "join_few"),
+    ("net has no memory for 8 nodes of many pages", LIMITS,
+     '[ "$1" != net ] || [ $# != 12 ] || [ "$(size "$5")" -le 1000000 ] || no_memory', "go_through"),
+    ("explore has memory for 100,000 configurations of several slots", LIMITS,
+     '[ "$1-$3" != explore-200000 ] || no_memory', "explore_three"),
+    ("holders writes a million lines", LIMITS,
+     'if [ "$1" = holders ]; then "$program" "$@" | head -n 1000000; exit 0; fi', "go_through"),
+    ("log writes two million lines", LIMITS,
+     'if [ "$1" = log ]; then "$program" "$@" | head -n 2000000; exit 0; fi', "write_most"),
+    ("want of memory of why is a read fault", LIMITS,
+     '[ "$1" != why ] || { ran "$@"; [ "$status" != 5 ] || end 3 "read fault"; told; }', "go_through"),
+    ("want of memory of gen has no line", LIMITS,
+     '[ "$1" != gen ] || { ran "$@"; [ "$status" != 5 ] || exit 5; told; }', "want_little"),
+    ("want of memory of dis is done", LIMITS,
+     '[ "$1" != dis ] || { ran "$@"; [ "$status" != 5 ] || exit 0; told; }', "link_most"),
+]
