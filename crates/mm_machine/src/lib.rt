@@ -1,10 +1,4 @@
 //! Machines: slots over a memory that run cycle by cycle, and snapshots of their states.
-//!
-//! | what | modules |
-//! |---|---|
-//! | a machine: a core over a memory, and its cycles | `machine` |
-//! | a snapshot: the parts of a state, kept apart; which parts make one | `snapshot`, `validate` |
-//! | copies of a machine's parts for it | `capture` |
 #![tactic(auto)]
 
 mod capture;

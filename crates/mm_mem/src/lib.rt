@@ -1,15 +1,4 @@
 //! Memories: what every memory of a machine is, whichever way it is kept.
-//!
-//! A [`Memory`] is a map from words to cells, to which lists of uses belong: what was asked of it. Its contract says
-//! nothing of how it is kept, so what is proved of a turn over any memory holds over each.
-//!
-//! | what | modules |
-//! |---|---|
-//! | the traits of a memory, and what a load and a store answer | `memory`, `answer` |
-//! | synchronisation bits before and after an access | `bits` |
-//! | the plain memory: pages in ascending order, in frames | `plain`, `flat`, `frame`, `search` |
-//! | blocks of eight cells, as caches and frames hand them on | `block`, `packed` |
-//! | what holds of every memory | `laws` |
 #![tactic(auto)]
 
 mod answer;

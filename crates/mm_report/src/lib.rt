@@ -1,13 +1,4 @@
 //! The texts of a machine: its report, the lines of its slots, and the lines of its trace.
-//!
-//! | what | modules |
-//! |---|---|
-//! | the report of a machine against its image, whose parts come in this order: | `summary` |
-//! | the section of each group | `sections` |
-//! | pages that were mapped or removed | `page_changes` |
-//! | cells that changed | `cells` |
-//! | what the memory counted | `counts` |
-//! | the line of a turn in a trace | `trace` |
 #![tactic(auto)]
 
 mod cells;

@@ -1,11 +1,4 @@
 //! The cached memory: a translation buffer (TLB) and a write-back cache over pages in frames, and what they count.
-//!
-//! | what | modules |
-//! |---|---|
-//! | the memory: each access by its line or, at a miss, by the frame of its page; and the counts | `vmem` |
-//! | the translation buffer: which frame a page is in | `tlb` |
-//!
-//! The lines are in `mm_cache`, and the frames in `mm_frames`.
 #![tactic(auto)]
 
 mod tlb;
