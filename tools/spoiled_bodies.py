@@ -153,6 +153,8 @@ BODIES = [
     ("group 0 writes no word", WHY, '[ "$1-$3-$5" != why-0-write ] || { echo no; exit 0; }'),
     ("a derivation stands on the line after", WHY, '[ "$1" != why ] || { ran "$@"; text "s/ by 3$/ by 2/"; told; }'),
     ("what is not looked at is all", EXPLORE, '[ "$1" != explore ] || { ran "$@"; text "1s/ more$/ all/"; told; }'),
+    ("the last of several outcomes is left out", EXPLORE,
+     '[ "$1" != explore ] || { ran "$@"; text "/^outcome [2-9]/,\\$d"; told; }'),
     ("an outcome has a turn more", EXPLORE, '[ "$1" != explore ] || { ran "$@"; text "\\$s/^by .*/& 0/"; told; }'),
     ("a written word is told as touched alone", EXPLORE,
      '[ "$1" != explore ] || { ran "$@"; text "/^wrote /d"; told; }'),
