@@ -164,8 +164,8 @@ def read_core(reader, cycles, split, handler):
 
 
 def read_checkpoint(contents, image):
-    """Raises the first fault of a checkpoint of an image, if it has one; else says how many slots wait, how many loads are
-    pending, and how many bytes were put out."""
+    """Raises the first fault of a checkpoint of an image, if it has one; else says how many slots wait, how many loads
+    are pending, and how many bytes were put out."""
     reader, slots, version = Reader(contents), slots_of(image), image[5]
     at, magic = reader.field(4)
     refuse_if(magic != b"MMS1", 2, at)

@@ -24,9 +24,11 @@ MADE = {
 
 # Texts of which something stands past the first piece that is read.
 GAP = b" " * PIECE
-LINES = b"break 0 0x100008\nwatch 0x100200\nrun\nregs 0\nmem 0x100000 4\nrun\nstep 3\nback 4\nstep 2\nregs 20\njump\nquit\n"
+LINES = b"break 0 0x100008\nwatch 0x100200\nrun\nregs 0\nmem 0x100000 4\nrun\nstep 3\nback 4\nstep 2\n"
+LINES += b"regs 20\njump\nquit\n"
 LINK = b"0.1052672>1.1052672"
-SOURCE = b".segment long 17\n.fill 9000\n" + b";" + GAP + b"\n.segment code 4\n  nop\n  halt\n.thread 7 0 none xu code\n"
+SOURCE = b".segment long 17\n.fill 9000\n;" + GAP
+SOURCE += b"\n.segment code 4\n  nop\n  halt\n.thread 7 0 none xu code\n"
 TEXTS = {
     "away.links": b"0.8>2.8\n",
     "long.schedule": b"0 1*3 15" + GAP + b"2*4 0*2 128\n",
