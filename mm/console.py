@@ -36,8 +36,12 @@ class Order:
         """The items, once `mmachine` has accepted them."""
         return read_schedule(self.file.data) if self.file else None
 
+    @property
+    def name(self) -> str:
+        return self.file.name if self.file else "round robin"
+
     def __str__(self) -> str:
-        return f"in the order of {self.file.name}" if self.file else "round robin"
+        return f"in the order of {self.name}" if self.file else self.name
 
 
 class Console:

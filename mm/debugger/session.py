@@ -14,7 +14,9 @@ from mm.names.symbols import Symbols
 from mm.outputs.report import Report, SlotState
 from mm.outputs.trace import Turn
 from mm.views.cvalues import CValues
+from mm.views.faults import said_at, stopped
 from mm.views.spell import Memory, Speller
+from mm.views.why import FaultSaid
 
 if TYPE_CHECKING:
     from mm.debugger.conditions import Condition
@@ -29,6 +31,8 @@ class Halt:
     point: Optional[Point] = None
     turn: Optional[Turn] = None
     ended: bool = False
+    # The cycle of the turn.
+    cycle: int = 0
 
 
 class Session:
@@ -50,7 +54,22 @@ class Session:
 
     @property
     def memory(self) -> Memory:
-        return Memory(self.built.image, self.report.cells)
+        return self.memory_at(self.total)
+
+    def memory_at(self, total: int) -> Memory:
+        """The memory after so many cycles."""
+        return Memory.after(self.built.image, self.history.report(max(0, total)))
+
+    @property
+    def faults(self) -> dict[int, FaultSaid]:
+        """What is said of the fault of each slot that one has halted, from the moment at which it came."""
+        found = {}
+        for slot in stopped(self.report):
+            met = self.history.fault_of(self.total, slot)
+            said = said_at(self.history.report(met[0]), slot, met[1], self.built.image, self.speller) if met else None
+            if said:
+                found[slot] = said
+        return found
 
     @property
     def current(self) -> Optional[SlotState]:
@@ -93,7 +112,7 @@ class Session:
         turn = self.last_turn
         if turn:
             self.slot = turn.slot
-        return Halt(turn=turn, ended=self.total < total)
+        return Halt(turn=turn, ended=self.total < total, cycle=self.total)
 
     def step(self, count: int) -> Halt:
         return self.go(self.total + count)
@@ -108,7 +127,7 @@ class Session:
         point.hits += 1
         if point.once:
             self.points.remove(point)
-        return Halt(point, None if point.kind.before else turn)
+        return Halt(point, None if point.kind.before else turn, cycle=cycle)
 
     def _met(self, cycle: int, turn: Turn) -> Optional[Point]:
         """The point that a turn meets. A break is met once by a slot that waits at it."""
@@ -130,7 +149,7 @@ class Session:
 
     def _was_there(self, cycle: int, turn: Turn, point: Point) -> bool:
         """Whether a slot waits at a break since an earlier turn, or is in a range since then."""
-        previous = self.history.previous(cycle, turn.slot)
+        _, previous = self.history.previous(cycle, turn.slot) or (0, None)
         if previous is None or previous.fetch is None:
             return False
         return (
@@ -169,7 +188,8 @@ class Session:
         for cycle, turn in self.history.after(self.total, mine):
             if turn.slot == slot and not first and until(turn):
                 self.total, self.slot = cycle - 1, slot
-                return Halt(turn=self.history.previous(cycle, slot))
+                done, previous = self.history.previous(cycle, slot) or (0, None)
+                return Halt(turn=previous, cycle=done)
             point = None if first and turn.slot == slot else self._met(cycle, turn)
             if point is None:
                 after = [each for each in self.points if not each.kind.before]

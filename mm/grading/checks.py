@@ -19,7 +19,7 @@ from mm.outputs.audit import read_audit
 from mm.outputs.exploration import Exploration, read_exploration
 from mm.outputs.report import Report, SlotState, read_report
 from mm.status import Status, Stop
-from mm.views.spell import bytes_as_text
+from mm.views.spell import Memory, bytes_as_text
 from mm.words import cycles_of, groups_of
 
 CYCLES, STATES = 100_000, 100_000
@@ -143,7 +143,7 @@ def word(program: Program, name: str, value: str) -> Optional[str]:
         address = address_of(name, program.built.symbols)
     except NoAddress as no:
         return str(no)
-    cell = program.report.cells.get(address) or program.built.image.cell(address)
+    cell = Memory.after(program.built.image, program.report).cell(address)
     if cell is None:
         return f"there is no memory at {name}"
     return None if cell.word == Word(number_in(value) % 2**64) else f"{name} is {cell.word}"

@@ -12,7 +12,7 @@ from mm.outputs.report import Report, SlotState
 from mm.outputs.trace import Turn
 from mm.views.spell import Memory, Speller
 from mm.views.waiting import Waiting, what_for
-from mm.views.why import why
+from mm.views.why import FaultSaid
 
 FORM = 1
 Json = dict[str, Any]
@@ -46,8 +46,15 @@ def cell_form(cell: Optional[Cell], symbols: Symbols) -> Optional[Json]:
 class ReportForm:
     """The form of a report."""
 
-    def __init__(self, report: Report, memory: Memory, symbols: Symbols, waits: Mapping[int, Waiting]) -> None:
-        self.report, self.memory, self.symbols, self.waits = report, memory, symbols, waits
+    def __init__(
+        self,
+        report: Report,
+        memory: Memory,
+        symbols: Symbols,
+        waits: Mapping[int, Waiting],
+        faults: Mapping[int, FaultSaid],
+    ) -> None:
+        self.report, self.memory, self.symbols, self.waits, self.faults = report, memory, symbols, waits, faults
         self.speller = Speller(symbols)
 
     def slot(self, slot: SlotState) -> Json:
@@ -80,11 +87,10 @@ class ReportForm:
 
     def fault(self, slot: SlotState) -> Optional[Json]:
         cause = Cause.of_number(slot.fault) if slot.fault else None
-        return (
-            {"number": cause.number, "name": cause.title, "why": why(cause, slot, self.memory, self.speller)}
-            if cause
-            else None
-        )
+        if cause is None:
+            return None
+        said = self.faults.get(slot.number)
+        return {"number": cause.number, "name": cause.title, "why": said.why if said else [cause.meaning]}
 
     def wait(self, slot: SlotState) -> Optional[Json]:
         wait = self.waits.get(slot.number)
