@@ -13,7 +13,7 @@ from mm.formats.kinds import FileKind, looks_binary
 from mm.formats.object import MOST_WORDS, Object, object_of_words, read_object
 from mm.machine.program import Answer, Program
 from mm.messages.diagnostic import Diagnostic
-from mm.messages.files import NamedFile, explain_files
+from mm.messages.files import IMAGE_LIMIT, NamedFile, explain_files
 from mm.messages.links import explain_link
 from mm.messages.sources import explain
 from mm.names.expressions import nearest
@@ -22,9 +22,10 @@ from mm.names.symbols import Symbols, fits, symbols_of
 from mm.outputs.refusal import Refusal, RefusalKind, read_refusal
 from mm.source.mend import Mender
 from mm.source.text import SourceText, read_source
-from mm.status import Status, Stop
+from mm.status import SIGNALLED, Status, Stop
 
 MOST_ERRORS = 20
+LONGEST_FILE = IMAGE_LIMIT
 C_SUFFIX = ".c"
 UTF_16 = (b"\xff\xfe", b"\xfe\xff")
 NET_SUFFIXES = (".links", ".events")
@@ -74,11 +75,15 @@ def read_file(name: str) -> bytes:
     """The bytes of a file, or a message that names it."""
     try:
         with open(name, "rb") as file:
-            return file.read()
+            data = file.read(LONGEST_FILE + 1)
     except OSError as error:
         raise Refused(
             Status.READ_FAULT, [Diagnostic(name, f"cannot be read: {error.strerror}", hints=_beside(name, error))]
         ) from None
+    if len(data) > LONGEST_FILE:
+        said = f"is too long: no file of the machine has more than {LONGEST_FILE} bytes"
+        raise Refused(Status.REFUSED, [Diagnostic(name, said)])
+    return data
 
 
 def _beside(name: str, error: OSError) -> list[str]:
@@ -342,6 +347,9 @@ def give_names(built: Built, units: Sequence[Unit]) -> None:
 def refused(answer: Answer, files: Sequence[NamedFile]) -> Refused:
     """A refusal of `mmachine` in words."""
     refusal = read_refusal(answer.line)
+    if answer.status < 0:
+        said = f"it was ended by signal {-answer.status}"
+        return Refused(SIGNALLED - answer.status, [Diagnostic("mmachine", said)])
     if refusal is None:
         return Refused(answer.status, [Diagnostic("mmachine", answer.line or f"ended with status {answer.status}")])
     return Refused(answer.status, [explain_files(refusal, files)])

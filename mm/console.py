@@ -2,7 +2,9 @@
 
 from __future__ import annotations
 
+import contextlib
 import json
+import os
 import sys
 from typing import Any, Iterable, Optional
 
@@ -11,6 +13,8 @@ from mm.build import Built, Refused, Workshop, read_file, refused
 from mm.formats.schedule import PORT, Schedule, read_schedule
 from mm.machine.program import Answer, Program, find_program
 from mm.messages.files import NamedFile
+from mm.outfile import is_same, write_whole
+from mm.shown import shown
 from mm.status import Status, Stop, usage
 from mm.table import CYCLES, NAMES, OUTPUT, PROGRAM, SCHEDULE, TURNS
 from mm.views.style import Style
@@ -81,17 +85,26 @@ class Console:
 
     def write(self, lines: Iterable[str]) -> None:
         for line in lines:
-            self.out.write(line + "\n")
+            self.out.write(shown(line, self.style.colours) + "\n")
 
-    def write_json(self, form: Any) -> None:
-        json.dump(form, self.out, indent=1, ensure_ascii=True)
-        self.out.write("\n")
+    def write_json(self, form: dict[str, Any]) -> None:
+        """Writes a form: a line for each key, and for each item of a list."""
+        self.out.write("{")
+        for place, (key, value) in enumerate(form.items()):
+            self.out.write(f"{',' if place else ''}\n {json.dumps(key)}: ")
+            if isinstance(value, list) and value:
+                rows = ",\n  ".join(map(json.dumps, value))
+                self.out.write(f"[\n  {rows}\n ]")
+            else:
+                self.out.write(json.dumps(value))
+        self.out.write("\n}\n")
 
     def tell(self, *lines: str) -> None:
-        """Lines for the standard error."""
-        self.out.flush()
+        """Lines for the standard error, after what was written. That this cannot be written is told at the end."""
+        with contextlib.suppress(OSError):
+            self.out.flush()
         for line in lines:
-            self.err.write(line + "\n")
+            self.err.write(shown(line, self.err_style.colours) + "\n")
 
     def build(self, names: list[str]) -> Built:
         """The image of files, with notes on its names told."""
@@ -106,7 +119,8 @@ class Console:
             raise usage("mm: --schedule and --turns exclude each other")
         if name is None and turns is None:
             return Order()
-        file = NamedFile("--turns", (turns or "").encode()) if name is None else NamedFile(name, read_file(name))
+        said = (turns or "").encode("utf-8", "surrogateescape")
+        file = NamedFile("--turns", said) if name is None else NamedFile(name, read_file(name))
         return Order(file, self.workshop.keep(file.data, ".schedule"))
 
     def note_order(self, built: Built, order: Order) -> None:
@@ -132,6 +146,13 @@ class Console:
             raise refused(answer, files)
         return answer
 
+    def refuse_input(self, name: str) -> None:
+        """Refuses an output that is one of the files that were read."""
+        given = [*self.words, *self.said.all(NAMES), *self.said.all(SCHEDULE)]
+        same = next((word for word in given if os.path.isfile(word) and is_same(word, name)), None)
+        if same is not None:
+            raise usage(f"mm: {name} is a file that is read here: give --output another name")
+
     def put(self, data: bytes) -> int:
         """Bytes for the file of --output, or for the standard output where that is no terminal."""
         name = self.said.value(OUTPUT)
@@ -144,9 +165,9 @@ class Console:
             self.out.buffer.write(data)
             self.out.buffer.flush()
             return Status.DONE
+        self.refuse_input(name)
         try:
-            with open(name, "wb") as file:
-                file.write(data)
+            write_whole(name, data)
         except OSError as error:
             raise Stop(Status.WRITE_FAULT, f"mm: {name} cannot be written: {error.strerror}") from None
         self.tell(f"{name}: {len(data)} bytes")

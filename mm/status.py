@@ -15,7 +15,13 @@ class Status(IntEnum):
     WRITE_FAULT = 4
     NO_MEMORY = 5
     NO_WORDS = 6
+    # A fault of `mm` itself.
+    OWN_FAULT = 70
     NO_PROGRAM = 127
+
+
+# A process that a signal ends has the signal's number above this.
+SIGNALLED = 128
 
 
 class Stop(Exception):

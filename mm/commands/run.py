@@ -62,7 +62,9 @@ def _alone(console: Console, built: Built, groups: str, order: Order, cycles: in
     image = replace(built.image, slots=slots)
     numbers = {slot.number for slot in slots}
     schedule = (order.schedule or Schedule(())).first(cycles)
-    text = Schedule(tuple(run for run in schedule.runs if run[0] % PORT in numbers)).text
+    # Items of ports count in a split machine alone.
+    ours = tuple(run for run in schedule.runs if run[0] % PORT in numbers and (run[0] < PORT or image.split))
+    text = Schedule(ours).text
     data = image_bytes(image)
     alone = replace(built, path=console.workshop.keep(data, ".img"), data=data, image=image)
     file = NamedFile("their turns", text)

@@ -12,6 +12,7 @@ from mm.names.expressions import NoAddress
 from mm.status import Status, Stop
 
 PROMPT = "(mm) "
+MOST_SAID = 400
 
 
 class Completer:
@@ -82,9 +83,12 @@ class Shell:
         try:
             self.console.write(carry_out(self.debugger, line))
         except (Wrong, NoAddress) as error:
-            self.console.write([self.console.style.warn(str(error))])
+            said = str(error)
+            self.console.write([self.console.style.warn(said if len(said) <= MOST_SAID else said[:MOST_SAID] + " ..")])
         except Stop as stop:
             show_stop(self.console, stop)
+        except RecursionError:
+            self.console.write([self.console.style.warn("this is nested too deep")])
 
     def loop(self) -> int:
         """Lines up to the end or `quit`."""

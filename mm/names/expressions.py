@@ -2,7 +2,6 @@
 
 from __future__ import annotations
 
-import difflib
 import re
 from typing import Optional
 
@@ -12,6 +11,8 @@ from mm.names.symbols import Symbol, Symbols
 
 NAMED = re.compile(r"([A-Za-z_][A-Za-z0-9_.]*)(?:\s*([+-])\s*(\w+))?")
 LINE = re.compile(r"(.*):(\d+)")
+# A longer name is none that was meant to be another.
+LONGEST_NEAR = 64
 
 
 class NoAddress(Exception):
@@ -20,7 +21,11 @@ class NoAddress(Exception):
 
 def nearest(name: str, names: list[str]) -> Optional[str]:
     """A name that may have been meant."""
-    found = difflib.get_close_matches(name, names, 1, 0.6)
+    import difflib
+
+    if len(name) > LONGEST_NEAR:
+        return None
+    found = difflib.get_close_matches(name, [near for near in names if len(near) <= LONGEST_NEAR], 1, 0.6)
     return found[0] if found else None
 
 

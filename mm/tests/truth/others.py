@@ -108,16 +108,19 @@ def explore_text(case: Case, out: str, text: str) -> None:
     for words in map(str.split, text.splitlines()[1:]):
         if words[0] in ("touched", "wrote"):
             wanted.append((words[0], int(words[1], 16), int(words[2])))
-        elif words[0] in ("fault", "outcome"):
+        elif words[0] == "fault":
             wanted.append(tuple(words))
+        elif words[0] == "outcome":  # Its number is how many configurations have it.
+            wanted.append((words[0], words[2]))
         elif words[0] == "by":
             wanted.append(("by", " ".join(words[1:])))
         elif words[0] == "slot":
             wanted.append((*words[:2], " ".join(words[2:])))
-        elif words[0] == "o" and wanted[-1][0] == "o":
-            wanted[-1] = ("o", wanted[-1][1] + words[1])
+        elif words[0] == "group" and ["output"] == words[2:3]:
+            wanted.append(("o", words[1], ""))
         elif words[0] == "o":
-            wanted.append(("o", words[1]))
+            wanted[-1] = (*wanted[-1][:2], wanted[-1][2] + words[1])
+    wanted = [each for each in wanted if each[0] != "o" or each[2]]
     for line in lines[1:]:
         said += explored(case, line)
     same = len(said) == len(wanted) and all(map(is_outcome, said, wanted))
@@ -134,12 +137,12 @@ def explored(case: Case, line: str) -> list[tuple[Any, ...]]:
     if fault:
         return [("fault", fault[1], fault[2])]
     if outcome:
-        return [("outcome", outcome[1], "ended" if outcome[2] == "ends" else "stuck")]
+        return [("outcome", "ended" if outcome[2] == "ends" else "stuck")]
     if line.startswith("  under the schedule "):
         return [("by", line[21:].replace("without turns", ""))]
-    slot, output = re.match(r"  slot (\d+) (.*)$", line), re.match(r'  group \d+ says "(.*)"$', line)
+    slot, output = re.match(r"  slot (\d+) (.*)$", line), re.match(r'  group (\d+) says "(.*)"$', line)
     if output:
-        return [("o", output[1].encode().decode("unicode_escape").encode("latin-1").hex())]
+        return [("o", output[1], output[2].encode().decode("unicode_escape").encode("latin-1").hex())]
     return [("slot", slot[1], slot[2])] if slot else []
 
 
