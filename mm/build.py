@@ -3,26 +3,27 @@
 from __future__ import annotations
 
 import os
-import tempfile
 from dataclasses import dataclass, field
-from typing import Optional, Sequence
+from typing import TYPE_CHECKING, Optional, Sequence
 
-from mm.cc.options import Options
 from mm.formats.image import Image, read_image
 from mm.formats.kinds import FileKind, looks_binary
 from mm.formats.object import MOST_WORDS, Object, object_of_words, read_object
+from mm.limits import IMAGE_LIMIT
 from mm.machine.program import Answer, Program
 from mm.messages.diagnostic import Diagnostic
-from mm.messages.files import IMAGE_LIMIT, NamedFile, explain_files
-from mm.messages.links import explain_link
-from mm.messages.sources import explain
-from mm.names.expressions import nearest
+from mm.named import NamedFile
 from mm.names.layout import Placed, differences, place
 from mm.names.symbols import Symbols, fits, symbols_of
-from mm.outputs.refusal import Refusal, RefusalKind, read_refusal
-from mm.source.mend import Mender
+from mm.room import Room
 from mm.source.text import SourceText, read_source
-from mm.status import SIGNALLED, Status, Stop
+from mm.status import SIGNALLED, Refused, Status, Stop
+
+# Messages are imported where there is something to tell.
+if TYPE_CHECKING:
+    from mm.cc.options import Options
+    from mm.outputs.refusal import Refusal
+    from mm.source.mend import Mender
 
 MOST_ERRORS = 20
 LONGEST_FILE = IMAGE_LIMIT
@@ -31,14 +32,6 @@ UTF_16 = (b"\xff\xfe", b"\xfe\xff")
 NET_SUFFIXES = (".links", ".events")
 BINARY_SUFFIXES = (".img", ".obj", ".mms")
 OUR_SUFFIXES = (".asm", ".obj", ".img", ".mms", ".schedule", *NET_SUFFIXES)
-
-
-class Refused(Stop):
-    """Files that are not what they must be, with a message for each place."""
-
-    def __init__(self, status: int, diagnostics: Sequence[Diagnostic], more: bool = False) -> None:
-        super().__init__(status)
-        self.diagnostics, self.more = list(diagnostics), more
 
 
 @dataclass
@@ -99,6 +92,8 @@ def _beside(name: str, error: OSError) -> list[str]:
         there = sorted(os.listdir(folder or "."))
     except OSError:
         return [f"there is no folder {folder}"]
+    from mm.names.expressions import nearest
+
     stem, suffix = os.path.splitext(last)
     near = nearest(stem, [os.path.splitext(one)[0] for one in there if one.endswith((*OUR_SUFFIXES, C_SUFFIX))])
     meant = [begin + end for begin in (stem, near) for end in (suffix, *OUR_SUFFIXES, C_SUFFIX) if begin]
@@ -121,21 +116,15 @@ class Workshop:
     """A folder for the files in between, and the program that makes them."""
 
     def __init__(self, program: Program, options: Optional[Options] = None) -> None:
-        self.program = program
-        self.options = options or Options()
-        self.room = tempfile.TemporaryDirectory(prefix="mm-")
-        self.made = 0
+        self.program, self.options = program, options
+        self.room = Room()
 
     def close(self) -> None:
-        self.room.cleanup()
+        self.room.remove()
 
     def keep(self, data: bytes, suffix: str) -> str:
         """A file with these bytes."""
-        self.made += 1
-        path = os.path.join(self.room.name, f"{self.made}{suffix}")
-        with open(path, "wb") as file:
-            file.write(data)
-        return path
+        return self.room.keep(data, suffix)
 
     def assemble(self, name: str, data: bytes) -> Unit:
         """The object of a source, or a message for each of its faults."""
@@ -162,6 +151,8 @@ class Workshop:
         return Unit(name, answer.out, made, source if read_alike else None, not read_alike)
 
     def _source_refused(self, name: str, data: bytes, answer: Answer) -> Refused:
+        from mm.outputs.refusal import RefusalKind, read_refusal
+
         refusal = read_refusal(answer.line)
         if refusal is None or refusal.kind is not RefusalKind.SOURCE:
             return refused(answer, [NamedFile(name, data)])
@@ -169,6 +160,9 @@ class Workshop:
 
     def _all_faults(self, name: str, data: bytes, refusal: Refusal, status: int) -> Refused:
         """The first fault, and those that show once it is taken out, up to a limit."""
+        from mm.messages.sources import explain
+        from mm.source.mend import Mender
+
         source = read_source(name, data)
         mender = Mender(source.lines)
         found: list[Diagnostic] = []
@@ -187,6 +181,8 @@ class Workshop:
         )
 
     def _next_fault(self, mender: Mender, fault: int, line: int, column: int) -> Optional[tuple[int, int, int]]:
+        from mm.outputs.refusal import RefusalKind, read_refusal
+
         if not mender.mend(fault, line, column):
             return None
         refusal = read_refusal(self.program.run(["asm", self.keep(mender.data(), ".asm")]).line)
@@ -230,6 +226,9 @@ class Workshop:
         """The image of objects, with names that were compared with it."""
         answer = self.program.run(["link", *[self.keep(unit.data, ".obj") for unit in units]])
         if answer.status:
+            from mm.messages.links import explain_link
+            from mm.outputs.refusal import RefusalKind, read_refusal
+
             refusal = read_refusal(answer.line)
             if refusal and refusal.kind is RefusalKind.LINK:
                 raise Refused(
@@ -278,8 +277,9 @@ class Workshop:
         if not files:
             return datas
         from mm.cc.driver import sources_of
+        from mm.cc.options import Options
 
-        made = iter(sources_of(files, self.options))
+        made = iter(sources_of(files, self.options or Options()))
         return [next(made) if name.endswith(C_SUFFIX) else data for name, data in zip(names, datas)]
 
     def _image(self, name: str, data: bytes, others: Sequence[str]) -> Built:
@@ -346,6 +346,9 @@ def give_names(built: Built, units: Sequence[Unit]) -> None:
 
 def refused(answer: Answer, files: Sequence[NamedFile]) -> Refused:
     """A refusal of `mmachine` in words."""
+    from mm.messages.files import explain_files
+    from mm.outputs.refusal import read_refusal
+
     refusal = read_refusal(answer.line)
     if answer.status < 0:
         said = f"it was ended by signal {-answer.status}"

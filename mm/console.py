@@ -3,22 +3,22 @@
 from __future__ import annotations
 
 import contextlib
-import json
 import os
 import sys
-from typing import Any, Iterable, Optional
+from typing import TYPE_CHECKING, Any, Iterable, Optional
 
-from mm.cc.options import options_of
-from mm.build import Built, Refused, Workshop, read_file, refused
-from mm.formats.schedule import PORT, Schedule, read_schedule
-from mm.machine.program import Answer, Program, find_program
-from mm.messages.files import NamedFile
-from mm.outfile import is_same, write_whole
+from mm.named import NamedFile
 from mm.shown import shown
-from mm.status import Status, Stop, usage
+from mm.status import Refused, Status, Stop, usage
 from mm.table import CYCLES, NAMES, OUTPUT, PROGRAM, SCHEDULE, TURNS
 from mm.views.style import Style
 from mm.words import Words, cycles_of
+
+# What not each command needs is imported where it is needed: a start costs little then.
+if TYPE_CHECKING:
+    from mm.build import Built, Workshop
+    from mm.formats.schedule import Schedule
+    from mm.machine.program import Answer, Program
 
 
 class Order:
@@ -38,6 +38,8 @@ class Order:
     @property
     def schedule(self) -> Optional[Schedule]:
         """The items, once `mmachine` has accepted them."""
+        from mm.formats.schedule import read_schedule
+
         return read_schedule(self.file.data) if self.file else None
 
     @property
@@ -70,12 +72,17 @@ class Console:
     @property
     def program(self) -> Program:
         if self._program is None:
+            from mm.machine.program import find_program
+
             self._program = find_program(self.said.value(PROGRAM))
         return self._program
 
     @property
     def workshop(self) -> Workshop:
         if self._workshop is None:
+            from mm.build import Workshop
+            from mm.cc.options import options_of
+
             self._workshop = Workshop(self.program, options_of(self.said))
         return self._workshop
 
@@ -89,11 +96,15 @@ class Console:
 
     def write_json(self, form: dict[str, Any]) -> None:
         """Writes a form: a line for each key, and for each item of a list."""
+        import json
+
         self.out.write("{")
         for place, (key, value) in enumerate(form.items()):
             self.out.write(f"{',' if place else ''}\n {json.dumps(key)}: ")
             if isinstance(value, list) and value:
-                rows = ",\n  ".join(map(json.dumps, value))
+                # The whole list at once, which is much quicker than item by item; no list inside has items with this first key.
+                first = json.dumps(next(iter(value[0])))
+                rows = json.dumps(value)[1:-1].replace(f"}}, {{{first}: ", f"}},\n  {{{first}: ")
                 self.out.write(f"[\n  {rows}\n ]")
             else:
                 self.out.write(json.dumps(value))
@@ -119,12 +130,16 @@ class Console:
             raise usage("mm: --schedule and --turns exclude each other")
         if name is None and turns is None:
             return Order()
+        from mm.build import read_file
+
         said = (turns or "").encode("utf-8", "surrogateescape")
         file = NamedFile("--turns", said) if name is None else NamedFile(name, read_file(name))
         return Order(file, self.workshop.keep(file.data, ".schedule"))
 
     def note_order(self, built: Built, order: Order) -> None:
         """Tells of turns that no slot can take. `mmachine` has accepted the order."""
+        from mm.formats.schedule import PORT
+
         schedule, slots = order.schedule, {slot.number for slot in built.image.slots}
         if schedule is None:
             return
@@ -143,11 +158,15 @@ class Console:
         """An answer of `mmachine`; a refusal is told in words."""
         answer = self.program.run(words, lines)
         if answer.status:
+            from mm.build import refused
+
             raise refused(answer, files)
         return answer
 
     def refuse_input(self, name: str) -> None:
         """Refuses an output that is one of the files that were read."""
+        from mm.outfile import is_same
+
         given = [*self.words, *self.said.all(NAMES), *self.said.all(SCHEDULE)]
         same = next((word for word in given if os.path.isfile(word) and is_same(word, name)), None)
         if same is not None:
@@ -165,6 +184,8 @@ class Console:
             self.out.buffer.write(data)
             self.out.buffer.flush()
             return Status.DONE
+        from mm.outfile import write_whole
+
         self.refuse_input(name)
         try:
             write_whole(name, data)

@@ -9,7 +9,7 @@ from mm.build import Built
 from mm.commands.running import Runner
 from mm.console import Console, Order
 from mm.machine.causes import Cause
-from mm.messages.files import NamedFile
+from mm.named import NamedFile
 from mm.names.numbers import number_of
 from mm.outputs.exploration import Exploration, read_exploration
 from mm.outputs.report import Report, read_report

@@ -10,7 +10,7 @@ from mm.commands.running import Run
 from mm.commands.run import show
 from mm.console import Console
 from mm.formats.schedule import words_of
-from mm.messages.files import NamedFile
+from mm.named import NamedFile
 from mm.names.expressions import NoAddress, address_of
 from mm.outputs.report import Report, read_report
 from mm.status import Status, usage

@@ -12,13 +12,11 @@ from mm.console import Console, Order
 from mm.formats.image import Image, image_bytes
 from mm.formats.kinds import FileKind
 from mm.formats.schedule import PORT, Schedule
-from mm.messages.files import NamedFile
+from mm.named import NamedFile
 from mm.outputs.report import Report, read_report
 from mm.outputs.trace import item_of
 from mm.status import Status, usage
 from mm.table import CYCLES, JSON
-from mm.views.data import ReportForm
-from mm.views.faults import said_by_reports
 from mm.views.report import ReportView
 from mm.views.spell import Memory, Speller
 from mm.views.waiting import ENOUGH, ENOUGH_SPLIT, turns_by_reports, waiting
@@ -31,6 +29,8 @@ def show(console: Console, built: Built, run: Run, order: str) -> int:
     """Writes a report, for people or as JSON."""
     memory = Memory.after(built.image, run.report)
     if console.said.has(JSON):
+        from mm.views.data import ReportForm
+
         console.write_json(ReportForm(run.report, memory, built.symbols, run.waits, run.faults).form())
     else:
         view = ReportView(run.report, memory, Speller(built.symbols), console.style, run.waits, run.faults)
@@ -101,6 +101,8 @@ def _continue(console: Console) -> int:
     def report_at(cycles: int) -> Report:
         words = ["continue", built.path, path, str(cycles), *order.words]
         return read_report(console.ask(words, files).text.splitlines())
+
+    from mm.views.faults import said_by_reports
 
     report = report_at(console.cycles(MOST_CYCLES))
     begun = report_at(0).cycles

@@ -7,13 +7,12 @@ from typing import Optional
 
 from mm.build import Built
 from mm.console import Console, Order
-from mm.messages.files import NamedFile
+from mm.named import NamedFile
 from mm.outputs.report import Report, read_report
 from mm.outputs.trace import Turn, cycles_of, item_of, read_turn
-from mm.views.faults import said_at, stopped
 from mm.views.spell import Speller
 from mm.views.waiting import Waiting, waiting
-from mm.views.why import FaultSaid
+from mm.views.said import FaultSaid
 from mm.words import MOST_CYCLES
 
 # A run whose length was not said is looked at after so many cycles: where nothing can change any more it ends there.
@@ -87,7 +86,12 @@ class Runner:
 
     def faults(self, report: Report) -> dict[int, FaultSaid]:
         """What is said of each fault that has halted a slot, from the state right after its turn."""
-        found, speller = {}, Speller(self.built.symbols)
+        found: dict[int, FaultSaid] = {}
+        if not any(slot.fault for slot in report.slots):
+            return found
+        from mm.views.faults import said_at
+
+        speller = Speller(self.built.symbols)
         for cycle, turn in self.last_faults(report):
             said = said_at(self.report(cycle), turn.slot, turn, self.built.image, speller)
             if said:
@@ -96,7 +100,7 @@ class Runner:
 
     def last_faults(self, report: Report) -> list[tuple[int, Turn]]:
         """The turns whose faults have halted slots, each the last of its slot, with their cycles."""
-        slots = stopped(report)
+        slots = [slot.number for slot in report.slots if slot.fault]
         if not slots:
             return []
         items: list[int] = []

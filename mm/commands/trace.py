@@ -14,14 +14,13 @@ from mm.outputs.report import Report
 from mm.outputs.trace import Turn
 from mm.status import Status
 from mm.table import CYCLES, JSON
-from mm.views.data import FORM, ReportForm, turn_form
+from mm.views.data import FORM, ReportForm, TurnForms
 from mm.views.faults import said_of
 from mm.views.report import ReportView
 from mm.views.spell import Memory, Speller
-from mm.views.style import Style
 from mm.views.trace import TraceView
 from mm.views.waiting import waiting
-from mm.views.why import FaultSaid
+from mm.views.said import FaultSaid
 from mm.words import cycles_of
 
 
@@ -38,15 +37,12 @@ class Told:
 def tell(console: Console, built: Built, order: Order, cycles: int) -> Told:
     """Carries out the log of a run, and tells each turn with the memory as it was before it."""
     told, machine, speller = Told(), Machine(built.image), Speller(built.symbols)
-    view = TraceView(machine.memory, speller, Style() if console.said.has(JSON) else console.style)
+    view, forms = TraceView(machine.memory, speller, console.style), TurnForms(machine.memory, speller)
+    row = forms.form if console.said.has(JSON) else view.line
     with opened(console, built, order, cycles) as (log, steps):
         for cycle, step in steps:
             turn = step.turn
-            if console.said.has(JSON):
-                text = speller.at(machine.memory, turn.fetch) if turn.fetch is not None else None
-                told.rows.append(turn_form(cycle, turn, built.symbols, text))
-            else:
-                told.rows.append(view.line(cycle, turn))
+            told.rows.append(row(cycle, turn))
             told.turns.append(turn)
             machine.carry_out(step)
             slot, cause = machine.slots[turn.slot], Cause.of_number(turn.fault) if turn.fault else None

@@ -16,7 +16,7 @@ from mm.outputs.trace import Turn
 from mm.views.cvalues import CValues
 from mm.views.faults import said_at, stopped
 from mm.views.spell import Memory, Speller
-from mm.views.why import FaultSaid
+from mm.views.said import FaultSaid
 
 if TYPE_CHECKING:
     from mm.debugger.conditions import Condition

@@ -12,7 +12,7 @@ from mm.console import Console, Order
 from mm.grading.sheet import Expectation, Sheet, wrong
 from mm.machine.causes import Cause
 from mm.machine.words import Word
-from mm.messages.files import NamedFile
+from mm.named import NamedFile
 from mm.names.expressions import NoAddress, address_of
 from mm.names.numbers import counted, number_of
 from mm.outputs.audit import read_audit

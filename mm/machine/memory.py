@@ -29,6 +29,8 @@ class Memory:
         self.image = image
         self.cells: dict[int, Cell] = dict(cells or {})
         self.pages = set(image.pages)
+        # Cells of the image that were asked for.
+        self.known: dict[int, Cell] = {}
         # The pages that were mapped by the run and hold integer 0, full, where `cells` has nothing.
         self.blank: set[int] = set()
         for page, new in pages:
@@ -48,8 +50,18 @@ class Memory:
         page = address // PAGE_BYTES
         if page not in self.pages:
             return None
-        found = self.cells.get(address & ~7)
-        return found or (BLANK if page in self.blank else self.image.cell(address))
+        address &= ~7
+        found = self.cells.get(address)
+        return found or (BLANK if page in self.blank else self.of_image(address))
+
+    def of_image(self, address: int) -> Optional[Cell]:
+        """The image's cell at an address."""
+        found = self.known.get(address)
+        if found is None:
+            found = self.image.cell(address)
+            if found is not None:
+                self.known[address] = found
+        return found
 
     def instruction(self, address: int) -> Optional[Instruction]:
         """The instruction at an address, or none if the word is none."""
@@ -58,7 +70,7 @@ class Memory:
 
     def is_images(self, address: int) -> bool:
         """Whether the cell at an address is the image's."""
-        return self.cell(address) == self.image.cell(address)
+        return self.cell(address) == self.of_image(address & ~7)
 
     def set_cell(self, address: int, cell: Cell) -> None:
         self.cells[address] = cell

@@ -262,9 +262,9 @@ class Json(unittest.TestCase):
     def test_lines(self):
         console = Console(Words())
         console.out = mock.Mock()
-        console.write_json({"form": 1, "turns": [{"a": 1}, {"b": 2}], "none": []})
+        console.write_json({"form": 1, "turns": [{"a": 1}, {"a": [{"b": 2}]}], "none": []})
         said = "".join(call.args[0] for call in console.out.write.call_args_list)
-        self.assertEqual(said, '{\n "form": 1,\n "turns": [\n  {"a": 1},\n  {"b": 2}\n ],\n "none": []\n}\n')
+        self.assertEqual(said, '{\n "form": 1,\n "turns": [\n  {"a": 1},\n  {"a": [{"b": 2}]}\n ],\n "none": []\n}\n')
 
 
 if __name__ == "__main__":

@@ -2,15 +2,17 @@
 
 from __future__ import annotations
 
-from typing import Iterator, Optional
+from typing import TYPE_CHECKING, Iterator, Optional
 
 from mm.machine.causes import Cause
 from mm.machine.words import Pointer
-from mm.names.clines import CFrame, CLine, frames
 from mm.outputs.report import SlotState
 from mm.outputs.trace import Turn
 from mm.views.spell import Memory, Speller
 from mm.views.why import Refusal, turn_of
+
+if TYPE_CHECKING:
+    from mm.names.clines import CFrame, CLine
 
 STACK_REGISTER = 15
 
@@ -25,8 +27,10 @@ class CView:
     def frames(self) -> Iterator[CFrame]:
         """The functions that are being carried out, the innermost first."""
         ip, stack = self.slot.ip.pointer, self.slot.register(STACK_REGISTER)
-        if ip is None or stack is None or stack.pointer is None:
+        if ip is None or stack is None or stack.pointer is None or self.symbols.c_notes(ip.address) is None:
             return iter(())
+        from mm.names.clines import frames
+
         return frames(ip.address, stack.pointer.address, self.symbols.c_notes, self.address_in)
 
     def address_in(self, address: int) -> Optional[int]:

@@ -9,8 +9,9 @@ from mm.machine.causes import Cause
 from mm.outputs.report import Report, SlotState
 from mm.outputs.trace import Turn
 from mm.views.cview import CView
+from mm.views.said import FaultSaid
 from mm.views.spell import Memory, Speller
-from mm.views.why import FaultSaid, turn_of, why
+from mm.views.why import turn_of, why
 
 ReportAt = Callable[[int], Report]
 BEFORE = "this came before the checkpoint: its run is not looked at here"

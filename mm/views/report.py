@@ -2,18 +2,20 @@
 
 from __future__ import annotations
 
-from typing import Mapping, Optional
+from typing import TYPE_CHECKING, Mapping, Optional
 
 from mm.machine.causes import Cause
 from mm.machine.words import Cell
 from mm.names.numbers import counted
 from mm.outputs.report import Report, SlotState
-from mm.views.cview import CView
 from mm.views.spell import Memory, Speller, bytes_as_text
 from mm.views.style import Style
 from mm.views.waiting import Waiting, what_for
-from mm.views.why import FaultSaid
+from mm.views.said import FaultSaid
 from mm.words import MOST_CYCLES
+
+if TYPE_CHECKING:
+    from mm.names.clines import CLine
 
 BYTES_SHOWN = 64
 CELLS_SHOWN = 64
@@ -105,11 +107,18 @@ class ReportView:
         if ip is None or slot.past:
             return []
         origin = self.speller.symbols.origin(ip.address)
-        line = CView(slot, self.memory, self.speller).line()
+        line = self.line_of_c(slot, ip.address)
         of_c = [f"{self.style.soft(str(line) + ':')} {line.text}"] if line else []
         if origin and self.memory.is_images(ip.address):
             return [*of_c, f"{self.style.soft(str(origin) + ':')} {origin.code}"]
         return [self.style.soft(f"0x{ip.address:x}: ") + self.speller.at(self.memory, ip.address)]
+
+    def line_of_c(self, slot: SlotState, address: int) -> Optional[CLine]:
+        """The line of C where a slot stands, if its source was made from C."""
+        if self.speller.symbols.c_notes(address) is None:
+            return None
+        
+        return CView(slot, self.memory, self.speller).line()
 
     def pages(self) -> list[str]:
         if not self.report.pages:

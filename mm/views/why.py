@@ -3,7 +3,6 @@ were then. A fault leaves registers and memory as they were."""
 
 from __future__ import annotations
 
-from dataclasses import dataclass, field
 from typing import Callable, Optional
 
 from mm.formats.image import PAGE_BYTES
@@ -15,14 +14,6 @@ from mm.outputs.trace import Turn
 from mm.views.spell import Memory, Speller, integer
 
 ACCESSES = ("ld", "st")
-
-
-@dataclass(frozen=True)
-class FaultSaid:
-    """A fault in words: in those of C if there is a line of C, and why."""
-
-    of_c: Optional[str] = None
-    why: list[str] = field(default_factory=list)
 
 
 class Refusal:

@@ -12,11 +12,11 @@ from typing import Iterator
 from mm.formats.image import read_image
 from mm.formats.object import MOST_WORDS, object_of_words
 from mm.formats.schedule import MOST as MOST_ITEMS
+from mm.limits import IMAGE_LIMIT, INPUT_LIMIT, LINKS_LIMIT, OBJECT_LIMIT, TEXT_LIMIT
 from mm.lockstep.dice import Dice
 from mm.machine.causes import Cause
 from mm.machine.isa import OPERATIONS, decode
 from mm.machine.words import LONGEST, Permission, Pointer
-from mm.messages.files import IMAGE_LIMIT, INPUT_LIMIT, LINKS_LIMIT, OBJECT_LIMIT, TEXT_LIMIT
 from mm.tests.truth.facts import Asking
 from mm.tests.truth.told import Report
 from mm.view.data import tables
@@ -122,11 +122,11 @@ def limits(asking: Asking) -> None:
     image = image_of(asking, ".segment code 5\n halt\n.thread 0 0 none xu code\n")
     none = asking.file("none", b"")
     files = (
-        ("run {} 0", IMAGE_LIMIT, 0), ("dis {}", OBJECT_LIMIT, 0), ("asm {}", TEXT_LIMIT, 0), (f"run {image} 0 {{}}", TEXT_LIMIT, 0),
-        (f"net {{}} {none} 1 {image}", LINKS_LIMIT, 0), (f"net {none} {{}} 1 {image}", TEXT_LIMIT, 0),
-        (f"continue {image} {{}} 1", IMAGE_LIMIT, 0), (f"debug {image}", INPUT_LIMIT, 0),
+        ("run {} 0", IMAGE_LIMIT), ("dis {}", OBJECT_LIMIT), ("asm {}", TEXT_LIMIT), (f"run {image} 0 {{}}", TEXT_LIMIT),
+        (f"net {{}} {none} 1 {image}", LINKS_LIMIT), (f"net {none} {{}} 1 {image}", TEXT_LIMIT),
+        (f"continue {image} {{}} 1", IMAGE_LIMIT), (f"debug {image}", INPUT_LIMIT),
     )
-    for command, limit, _ in files:
+    for command, limit in files:
         for more in (0, 1):
             refused = "too long" in line_of(asking, command, b"#" * (limit + more))
             asking.facts.check("lengths of files", refused == bool(more), (command, limit + more))
