@@ -79,9 +79,11 @@ def run(console: Console) -> int:
     reports, told = net_at(cycles)
     for number, (node, report) in enumerate(zip(nodes, reports)):
         console.write([f"{console.style.strong(f'node {number}')}  {node.name}"])
-        faults = said_by_reports(
-            report, lambda at, number=number: net_at(at)[0][number], cycles, node.image, Speller(node.symbols)
-        )
+
+        def report_at(at: int, number: int = number) -> Report:
+            return net_at(at)[0][number]
+
+        faults = said_by_reports(report, report_at, cycles, node.image, Speller(node.symbols))
         show(console, node, Run(report, {}, faults), f"by its events of {events}")
         console.write([""])
     console.write(told)

@@ -10,7 +10,6 @@ from mm.formats.image import Image, Slot
 from mm.log.changes import (
     ByteOut,
     CellSet,
-    Change,
     EventQueued,
     EventTaken,
     IpSet,
@@ -133,7 +132,7 @@ class Machine:
         self.memory.set_cell(change.address, change.cell)
 
 
-CARRIERS: dict[type, Callable[[Machine, Change], None]] = {
+CARRIERS: dict[type, Callable[..., None]] = {
     IpSet: Machine._ip,
     StateSet: Machine._state,
     RegisterSet: Machine._register,

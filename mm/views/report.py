@@ -117,7 +117,8 @@ class ReportView:
         """The line of C where a slot stands, if its source was made from C."""
         if self.speller.symbols.c_notes(address) is None:
             return None
-        
+        from mm.views.cview import CView
+
         return CView(slot, self.memory, self.speller).line()
 
     def pages(self) -> list[str]:

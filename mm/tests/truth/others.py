@@ -3,7 +3,7 @@
 from __future__ import annotations
 
 import re
-from typing import Any, Optional
+from typing import Any
 
 from mm.tests.support import mm
 from mm.tests.truth.names import PLACE
@@ -101,7 +101,9 @@ def why_text(case: Case, out: str, text: str, group: int, address: int, kind: st
 
 def explore_text(case: Case, out: str, text: str) -> None:
     """What `explore` found, in words."""
-    lines, said, wanted = out.splitlines(), [], []
+    lines = out.splitlines()
+    said: list[tuple[Any, ...]] = []
+    wanted: list[tuple[Any, ...]] = []
     first = text.split("\n", 1)[0].split()
     head = re.match(r"(\d+) configurations?, (these are all|there are more)", lines[0])
     case.check("explore count", head and (head[1], head[2] == "these are all") == (first[1], first[2] == "all"), (lines[0], first))
@@ -193,7 +195,7 @@ def debug_slots(case: Case, said: dict[str, str], slot: int, report: Report) -> 
     words = {int(number): text for number, text in re.findall(r"^  r(\d+) +(.*)$", shown, re.M)}
     case.check("debug registers", set(words) == set(there["words"]), (shown, there))
     for number, word in there["words"].items():
-        text: Optional[str] = words.get(number, "")
+        text = words.get(number, "")
         right = text.startswith("empty") if word is None else case.names.is_word(text, word)
         case.check("debug register", right, (text, word))
     ip = re.search(rf"^  ip +((?:xu|xp) 2\^\d+ {PLACE})(, past)?$", shown, re.M)
