@@ -12,10 +12,12 @@ from mm.console import Console, Order
 from mm.formats.image import Image, image_bytes
 from mm.formats.kinds import FileKind
 from mm.formats.schedule import PORT, Schedule
+from mm.messages.diagnostic import Diagnostic
 from mm.named import NamedFile
+from mm.outputs.audit import read_audit
 from mm.outputs.report import Report, read_report
 from mm.outputs.trace import item_of
-from mm.status import Status, usage
+from mm.status import Refused, Status, usage
 from mm.table import CYCLES, JSON
 from mm.views.report import ReportView
 from mm.views.spell import Memory, Speller
@@ -104,6 +106,7 @@ def _continue(console: Console) -> int:
 
     from mm.views.faults import said_by_reports
 
+    _refuse_another(console, built, checkpoint, report_at(0))
     report = report_at(console.cycles(MOST_CYCLES))
     begun = report_at(0).cycles
     run = Run(report, {}, said_by_reports(report, report_at, report.cycles - begun, built.image, Speller(built.symbols)))
@@ -111,6 +114,20 @@ def _continue(console: Console) -> int:
         turns = turns_by_reports(report_at, report.cycles - begun, built.image, _looked_back(report, built.image))
         run.waits = waiting(turns, report, built.image.split)
     return show(console, built, run, f"the last of them from {checkpoint} on, {order}")
+
+
+def _refuse_another(console: Console, built: Built, checkpoint: str, begun: Report) -> None:
+    """Refuses a checkpoint that no run of the image comes to: its memory differs where no group can write. Privileged groups can write
+    everything, and map pages, so that it cannot be told of them."""
+    reaches = read_audit(console.ask(["grants", built.path], [built.file]).text).reaches
+    if any(reach.privileged for reach in reaches):
+        return
+    spans = [(base, base + (1 << log)) for reach in reaches for base, log in reach.write]
+    others = [address for address in begun.cells if not any(base <= address < end for base, end in spans)]
+    if others or begun.pages:
+        place = built.symbols.show(min(others)) if others else f"page 0x{begun.pages[0][0]:x}"
+        said = f"this is no checkpoint of {built.name}: it differs at {place}, which no run of it can change"
+        raise Refused(Status.REFUSED, [Diagnostic(checkpoint, said)])
 
 
 def _looked_back(report: Report, image: Image) -> int:

@@ -13,7 +13,7 @@ from mm.names.numbers import number_of, printed_address
 from mm.words import MOST_CYCLES
 
 REGISTER = re.compile(r"\$?r(\d+)")
-OFFSET = re.compile(r"(\$?r\d+|\$?ip)\s*([+-]\s*\w+)?")
+OFFSET = re.compile(r"(\$?r\d+|\$?ip|\$pc)\s*([+-]\s*\w+)?")
 SLOT = re.compile(r"(.*?)\s*\b(?:if\s+)?(?:slot|thread)\s+(\d+)")
 SOME_LINES = 100_000
 

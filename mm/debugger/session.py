@@ -90,6 +90,11 @@ class Session:
         """The turn of the next cycle that is not idle."""
         return next((turn for _, turn in self.history.after(self.total, ANY_TURN)), None)
 
+    @property
+    def active(self) -> list[Point]:
+        """The points at which the run stops."""
+        return [point for point in self.points if point.enabled]
+
     def add(
         self,
         kind: PointKind,
@@ -131,7 +136,7 @@ class Session:
 
     def _met(self, cycle: int, turn: Turn) -> Optional[Point]:
         """The point that a turn meets. A break is met once by a slot that waits at it."""
-        for point in sorted(self.points, key=lambda point: not point.kind.before):
+        for point in sorted(self.active, key=lambda point: not point.kind.before):
             if self._meets(cycle, turn, point) and not (point.kind.before and self._was_there(cycle, turn, point)):
                 return point
         return None
@@ -158,16 +163,30 @@ class Session:
 
     def resume(self) -> Halt:
         """Goes on to the next point, or to the end. A break right here does not count."""
-        for cycle, turn in self.history.after(self.total, pattern_of(self.points)):
-            here = [point for point in self.points if point.kind.before] if cycle == self.total + 1 else []
-            point = (
-                next((each for each in self.points if each not in here and self._meets(cycle, turn, each)), None)
-                if here
-                else self._met(cycle, turn)
-            )
-            if point:
-                return self._stop(cycle, turn, point)
+        seen = self.total
+        try:
+            for cycle, turn in self.history.after(self.total, pattern_of(self.active)):
+                seen = cycle - 1
+                here = [point for point in self.active if point.kind.before] if cycle == self.total + 1 else []
+                point = (
+                    next((each for each in self.active if each not in here and self._meets(cycle, turn, each)), None)
+                    if here
+                    else self._met(cycle, turn)
+                )
+                if point and not self._goes_on(point):
+                    return self._stop(cycle, turn, point)
+        except KeyboardInterrupt:
+            self.go(max(seen, self.total))
+            raise
         return self._to_end()
+
+    @staticmethod
+    def _goes_on(point: Point) -> bool:
+        """Whether the run goes on at a point once more, since it was told to."""
+        if not point.ignored:
+            return False
+        point.ignored, point.hits = point.ignored - 1, point.hits + 1
+        return True
 
     def _to_end(self) -> Halt:
         self.go(self.history.last)
@@ -175,7 +194,7 @@ class Session:
 
     def reverse(self) -> Halt:
         """Goes back to the last point before here, or to the start."""
-        for cycle, turn in self.history.before(self.total, pattern_of(self.points)):
+        for cycle, turn in self.history.before(self.total, pattern_of(self.active)):
             point = self._met(cycle, turn)
             if point and (cycle - 1 if point.kind.before else cycle) < self.total:
                 return self._stop(cycle, turn, point)
@@ -183,7 +202,7 @@ class Session:
 
     def follow(self, until: Callable[[Turn], bool]) -> Halt:
         """Goes on to before the turn of the current slot at which a condition holds, or to a point before it."""
-        mine = re.compile("|".join(filter(None, [rf"^t {self.slot} ", pattern_of(self.points).pattern])))
+        mine = re.compile("|".join(filter(None, [rf"^t {self.slot} ", pattern_of(self.active).pattern])))
         slot, first = self.slot, True
         for cycle, turn in self.history.after(self.total, mine):
             if turn.slot == slot and not first and until(turn):
@@ -192,9 +211,9 @@ class Session:
                 return Halt(turn=previous, cycle=done)
             point = None if first and turn.slot == slot else self._met(cycle, turn)
             if point is None:
-                after = [each for each in self.points if not each.kind.before]
+                after = [each for each in self.active if not each.kind.before]
                 point = next((each for each in after if self._meets(cycle, turn, each)), None)
-            if point:
+            if point and not self._goes_on(point):
                 return self._stop(cycle, turn, point)
             first = first and turn.slot != slot
         return self._to_end()

@@ -7,6 +7,7 @@ from typing import Optional
 
 from mm.console import Console, show_stop
 from mm.debugger.commands import BY_NAME, ENTRIES, INFO, Debugger, Wrong, carry_out, find
+from mm.debugger.session import Halt
 from mm.machine.isa import OPERATIONS
 from mm.names.expressions import NoAddress
 from mm.status import Status, Stop
@@ -105,7 +106,7 @@ class Shell:
                     self.answer(line)
                 self.console.out.flush()
             except KeyboardInterrupt:
-                self.console.write(["", "`quit` ends the session"])
+                self.console.write(["", *self.debugger.stop(Halt())])
         if self.terminal and not self.debugger.over:
             self.console.write([""])
         return Status.DONE
@@ -117,4 +118,5 @@ class Shell:
             name = find(line.split()[0].partition("/")[0]).names[0]
         except Wrong:
             return ""
-        return "" if name in ("break", "tbreak", "watch", "rwatch", "awatch", "delete", "display", "run") else line
+        return "" if name in ("break", "tbreak", "watch", "rwatch", "awatch", "delete", "display", "undisplay", "condition", "ignore", "enable", "disable",
+            "run") else line

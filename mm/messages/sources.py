@@ -176,6 +176,9 @@ def _segment_of_line(source: SourceText, number: int) -> Optional[SourceSegment]
 def _hint_for_label(at: Explained) -> Optional[str]:
     name = at.text
     segment, label = at.source.segment(name), at.source.labels.get(name)
+    own = _segment_of_line(at.source, at.number)
+    if segment is not None and segment is own:
+        return f"it is this segment itself: put a label before its first word, as `begin:`, and write `{at.head} .. begin`"
     if segment or label:
         if at.head == "lip":
             return f"`lip` only makes pointers into its own segment: a pointer to `{name}` comes from `.reg 5 ptr rw {name}` after the `.thread`, or from a `.ptr` in memory"

@@ -249,6 +249,30 @@ class Told(unittest.TestCase):
         self.assertIn("no way back was kept in r6: a call is `jal r6, r5`", self.ask(source, "run"))
         self.assertIn("do you mean `jal r6, r5`?", self.ask(source.replace(" jmp r5", " jal r5, r6"), "run"))
 
+    def test_a_halt_that_was_forgotten(self):
+        out = self.ask(".segment main 6\n nop\n.thread 0 0 none xu main\n", "run")
+        self.assertIn("0x100008: halt  (after the last line of main: a word that holds 0 is `halt`)", out)
+        self.assertNotIn("after the last line", self.ask(LOOP.replace(" br again", " halt"), "run"))
+
+    def test_a_branch_to_a_segment(self):
+        with folder() as room:
+            err = mm("run", write(room, "p.asm", ".segment main 6\n nop\n br main\n.thread 0 0 none xu main\n")).err
+        self.assertIn("it is this segment itself: put a label before its first word", err)
+
+    def test_read_is_touch(self):
+        self.assertIn("group 0 can read d", self.ask(WAIT, "why", "0", "d", "read"))
+
+    def test_a_checkpoint_of_another_program(self):
+        with folder() as room:
+            one, other, path = write(room, "p.asm", WAIT), write(room, "q.asm", LOOP), os.path.join(room, "p.mms")
+            mm("save", write(room, "r.asm", WAIT.replace("full, empty", "any, keep")), "-n", "2", "-o", path)
+            ended = mm("continue", one, path)
+            self.assertEqual(ended.status, 2)
+            self.assertIn("which no run of it can change", ended.err)
+            mm("save", one, "-n", "2", "-o", path)
+            self.assertEqual(mm("continue", one, path, "-n", "9").status, 0)
+            self.assertEqual(mm("continue", other, path).status, 2)
+
     def test_json_has_a_line_for_each_turn(self):
         rows = [row for row in self.ask(CHANGES, "trace", "--json").splitlines() if re.match(r'  \{"cycle"', row)]
         self.assertEqual(len(rows), 6)

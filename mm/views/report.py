@@ -5,6 +5,7 @@ from __future__ import annotations
 from typing import TYPE_CHECKING, Mapping, Optional
 
 from mm.machine.causes import Cause
+from mm.machine.memory import BLANK
 from mm.machine.words import Cell
 from mm.names.numbers import counted
 from mm.outputs.report import Report, SlotState
@@ -111,7 +112,16 @@ class ReportView:
         of_c = [f"{self.style.soft(str(line) + ':')} {line.text}"] if line else []
         if origin and self.memory.is_images(ip.address):
             return [*of_c, f"{self.style.soft(str(origin) + ':')} {origin.code}"]
-        return [self.style.soft(f"0x{ip.address:x}: ") + self.speller.at(self.memory, ip.address)]
+        there = self.style.soft(f"0x{ip.address:x}: ") + self.speller.at(self.memory, ip.address)
+        return [there + (self.after_the_end(ip.address) if slot.state == "halted" else "")]
+
+    def after_the_end(self, address: int) -> str:
+        """What is told of a halt at a word that no line of the source made."""
+        region = self.speller.symbols.region(address)
+        blank = self.memory.is_images(address) and self.memory.cell(address) == BLANK
+        if region is None or region.source is None or not blank or address < region.base + 8 * region.words:
+            return ""
+        return f"  (after the last line of {region.name}: a word that holds 0 is `halt`)"
 
     def line_of_c(self, slot: SlotState, address: int) -> Optional[CLine]:
         """The line of C where a slot stands, if its source was made from C."""
