@@ -5,12 +5,13 @@ from __future__ import annotations
 from dataclasses import dataclass
 from typing import Callable, Iterable, Iterator
 
-from mm.debugger.conditions import condition_in, condition_of
+from mm.debugger.conditions import condition_in
 from mm.debugger.evaluate import count_of, place_of, slot_of, span
 from mm.debugger.of_c import by_lines, c_text, local_lines, value_text
-from mm.debugger.points import Point, PointKind
+from mm.debugger.points import PointKind
 from mm.debugger.session import Halt, Session
 from mm.debugger.show import Show
+from mm.debugger.stops import Wrong, condition, delete, displays, ignore, switch, undisplay
 from mm.machine.isa import OPERATIONS
 from mm.machine.words import Pointer
 from mm.names.expressions import NoAddress, nearest
@@ -19,10 +20,6 @@ from mm.views.listing import map_lines
 
 Lines = Iterable[str]
 MOST_WORDS = 512
-
-
-class Wrong(Exception):
-    """A line that cannot be carried out, with the reason."""
 
 
 class Debugger:
@@ -182,71 +179,6 @@ def _set_watch(kind: PointKind) -> Callable[[Debugger, str], Lines]:
     return run
 
 
-def _delete(debugger: Debugger, rest: str) -> Lines:
-    points = debugger.session.points
-    if not rest:
-        points.clear()
-        yield "no breaks and no watches are left"
-        return
-    for word in rest.split():
-        found = next((point for point in points if str(point.number) == word), None)
-        if found is None:
-            raise Wrong(f"there is no break or watch {word}: `info breakpoints` lists them")
-        points.remove(found)
-        yield f"{found.number} is gone"
-
-
-def _points_of(debugger: Debugger, rest: str) -> list[Point]:
-    """The breaks and watches that numbers name; all if none is written."""
-    points = debugger.session.points
-    found = [point for word in rest.split() for point in points if str(point.number) == word]
-    if len(found) < len(rest.split()):
-        raise Wrong(f"there is no break or watch of each of `{rest}`: `info breakpoints` lists them")
-    return found or list(points)
-
-
-def _switch(enabled: bool) -> Callable[[Debugger, str], Lines]:
-    def run(debugger: Debugger, rest: str) -> Lines:
-        for point in _points_of(debugger, rest):
-            point.enabled = enabled
-            yield f"{point.number}: {point}"
-
-    return run
-
-
-def _condition(debugger: Debugger, rest: str) -> Lines:
-    number, _, text = rest.partition(" ")
-    if not number:
-        raise Wrong("say of which break, and what must be so: `condition 1 r3 == 32`; `condition 1` takes it away")
-    point = _points_of(debugger, number)[0]
-    point.condition = condition_of(text, debugger.session) if text.strip() else None
-    yield f"{point.number}: {point}"
-
-
-def _ignore(debugger: Debugger, rest: str) -> Lines:
-    number, _, count = rest.partition(" ")
-    if not number or not count.strip():
-        raise Wrong("say which break, and how often the run goes on there: `ignore 1 5`")
-    point = _points_of(debugger, number)[0]
-    point.ignored = count_of(count.strip(), 0)
-    yield f"{point.number}: {point}"
-
-
-def _undisplay(debugger: Debugger, rest: str) -> Lines:
-    displays = debugger.displays
-    places = [count_of(word) for word in rest.split()] or list(range(1, len(displays) + 1))
-    for place in sorted(set(places), reverse=True):
-        if place > len(displays):
-            raise Wrong(f"there is no display {place}: `info display` lists them")
-        yield f"{displays.pop(place - 1)} is shown no more"
-
-
-def _displays(debugger: Debugger, rest: str) -> Lines:
-    yield from (f"{place:>3}  {text}" for place, text in enumerate(debugger.displays, 1))
-    if not debugger.displays:
-        yield "no values are shown at stops"
-
-
 def _registers(debugger: Debugger, rest: str) -> Lines:
     number = count_of(rest, 0) if rest else debugger.session.slot
     slot = debugger.session.report.slot(number)
@@ -316,7 +248,7 @@ INFO: dict[str, tuple[str, Callable[[Debugger, str], Lines]]] = {
         lambda debugger, rest: map_lines(debugger.session.symbols, debugger.show.style),
     ),
     "locals": ("variables of C; else registers", lambda debugger, rest: local_lines(debugger) or _registers(debugger, rest)),
-    "display": ("values that are shown at stops", _displays),
+    "display": ("values that are shown at stops", displays),
     "output": ("what each group has put out", _output),
     "line": ("where this slot is", _where),
 }
@@ -378,16 +310,16 @@ ENTRIES = (
     Entry(("watch", "w"), "NAME", "stop after each write of a word, or of its bit; `.. slot N`, `.. if count > 5`", "place", _set_watch(PointKind.WATCH)),
     Entry(("rwatch", "rw"), "NAME", "stop after each load", "place", _set_watch(PointKind.READ)),
     Entry(("awatch", "aw"), "NAME", "stop after each load or write", "place", _set_watch(PointKind.ACCESS)),
-    Entry(("delete", "d"), "[N]", "remove a break or a watch, or all; 0 is the stop at faults", "", _delete),
-    Entry(("condition",), "N [IF]", "stop at a break or a watch only if something is so: `condition 1 r3 == 32`", "", _condition),
-    Entry(("ignore",), "N COUNT", "go on so often at a break or a watch", "", _ignore),
-    Entry(("enable",), "[N]", "stop again at a break or a watch, or at all", "", _switch(True)),
-    Entry(("disable",), "[N]", "do not stop at a break or a watch, or at any, until it is enabled", "", _switch(False)),
+    Entry(("delete", "d"), "[N]", "remove a break or a watch, or all; 0 is the stop at faults", "", delete),
+    Entry(("condition",), "N [IF]", "stop at a break or a watch only if something is so: `condition 1 r3 == 32`", "", condition),
+    Entry(("ignore",), "N COUNT", "go on so often at a break or a watch", "", ignore),
+    Entry(("enable",), "[N]", "stop again at a break or a watch, or at all", "", switch(True)),
+    Entry(("disable",), "[N]", "do not stop at a break or a watch, or at any, until it is enabled", "", switch(False)),
     Entry(("regs", "registers"), "[S]", "the registers of a slot", "", _registers),
     Entry(("slot", "thread", "t"), "[S]", "look at another slot", "", _slot),
     Entry(("print", "p", "inspect"), "WHAT", "a register (r5, ip), the word at a name, with & its address; a variable of C: i, a[2], p->x", "value", _print),
     Entry(("display",), "[WHAT]", "the same at each stop; nothing ends it", "value", _display),
-    Entry(("undisplay",), "[N]", "show a value no more at stops, or none", "", _undisplay),
+    Entry(("undisplay",), "[N]", "show a value no more at stops, or none", "", undisplay),
     Entry(("x",), "/N[i] PLACE", "N words of memory, with i as instructions; a register means where it points", "value", _examine),
     Entry(("list", "l"), "[PLACE]", "the source around this slot's place, or around another place", "place", _list),
     Entry(("where", "bt", "backtrace", "frame"), "", "where the run is; in C also the functions that wait", "", _where),
