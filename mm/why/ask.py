@@ -44,11 +44,12 @@ def _address(word: str, symbols: Optional[Symbols]) -> int:
 
 
 def asked(group: str, word: str, kind: str, symbols: Optional[Symbols] = None) -> Asked:
-    """What words ask. With symbols the word may be told by a name."""
+    """What words ask. With symbols the word may be told by a name, and the kind as people say it."""
     number = number_of(group)
     if number is None or not 0 <= number <= MOST_GROUP:
         raise usage(f"mm: `{group}` is no group: 0 to {MOST_GROUP}")
-    address, kind = _address(word, symbols), OTHER_NAMES.get(kind, kind)
+    address = _address(word, symbols)
+    kind = kind if symbols is None else OTHER_NAMES.get(kind, kind)
     if kind not in KINDS:
         raise usage(f"mm: `{kind}` is neither touch (or read) nor write")
     return Asked(number, address, kind)
