@@ -11,7 +11,6 @@ from mm.formats.kinds import FileKind, looks_binary
 from mm.formats.object import MOST_WORDS, Object, object_of_words, read_object
 from mm.limits import IMAGE_LIMIT
 from mm.machine.program import Answer, Program
-from mm.messages.diagnostic import Diagnostic
 from mm.named import NamedFile
 from mm.names.layout import Placed, differences, place
 from mm.names.symbols import Symbols, fits, symbols_of
@@ -22,6 +21,7 @@ from mm.status import SIGNALLED, Refused, Status, Stop
 # Messages are imported where there is something to tell.
 if TYPE_CHECKING:
     from mm.cc.options import Options
+    from mm.messages.diagnostic import Diagnostic
     from mm.outputs.refusal import Refusal
     from mm.source.mend import Mender
 
@@ -32,6 +32,13 @@ UTF_16 = (b"\xff\xfe", b"\xfe\xff")
 NET_SUFFIXES = (".links", ".events")
 BINARY_SUFFIXES = (".img", ".obj", ".mms")
 OUR_SUFFIXES = (".asm", ".obj", ".img", ".mms", ".schedule", *NET_SUFFIXES)
+
+
+def _diagnostic(path: str, message: str, hints: Sequence[str] = ()) -> Diagnostic:
+    """A message about a file."""
+    from mm.messages.diagnostic import Diagnostic
+
+    return Diagnostic(path, message, hints=list(hints))
 
 
 @dataclass
@@ -71,11 +78,11 @@ def read_file(name: str) -> bytes:
             data = file.read(LONGEST_FILE + 1)
     except OSError as error:
         raise Refused(
-            Status.READ_FAULT, [Diagnostic(name, f"cannot be read: {error.strerror}", hints=_beside(name, error))]
+            Status.READ_FAULT, [_diagnostic(name, f"cannot be read: {error.strerror}", hints=_beside(name, error))]
         ) from None
     if len(data) > LONGEST_FILE:
         said = f"is too long: no file of the machine has more than {LONGEST_FILE} bytes"
-        raise Refused(Status.REFUSED, [Diagnostic(name, said)])
+        raise Refused(Status.REFUSED, [_diagnostic(name, said)])
     return data
 
 
@@ -132,7 +139,7 @@ class Workshop:
             raise Refused(
                 Status.REFUSED,
                 [
-                    Diagnostic(
+                    _diagnostic(
                         name,
                         "this is no text, no image and no object",
                         hints=[
@@ -220,7 +227,7 @@ class Workshop:
             pass
         said = "the file is empty" if not data else "this is no image, no object and no source"
         hints = ["an image is what `mm link FILE.. -o IMAGE` writes, an object what `mm asm SOURCE -o OBJECT` writes"]
-        raise Refused(Status.REFUSED, [Diagnostic(name, said, hints=hints)])
+        raise Refused(Status.REFUSED, [_diagnostic(name, said, hints=hints)])
 
     def link(self, units: Sequence[Unit]) -> Built:
         """The image of objects, with names that were compared with it."""
@@ -255,14 +262,14 @@ class Workshop:
                 image = names[kinds.index(FileKind.IMAGE)]
                 raise Refused(
                     Status.USAGE,
-                    [Diagnostic(image, "an image is already linked: name it alone, or name all sources and objects")],
+                    [_diagnostic(image, "an image is already linked: name it alone, or name all sources and objects")],
                 )
             return self._image(names[0], datas[0], others)
         if FileKind.CHECKPOINT in kinds:
             raise Refused(
                 Status.USAGE,
                 [
-                    Diagnostic(
+                    _diagnostic(
                         names[kinds.index(FileKind.CHECKPOINT)],
                         "this is a checkpoint: `mm continue FILE.. CHECKPOINT` goes on from it",
                     )
@@ -316,7 +323,7 @@ def refuse_nets(names: Sequence[str], datas: Sequence[bytes]) -> None:
                 "`mm net LINKS EVENTS FILE..` runs a net, and tells what comes of each node",
                 "pages, traces, waves and the debugger show one machine: give them the file of one node, which then runs without the others",
             ]
-            raise Refused(Status.USAGE, [Diagnostic(name, message, hints=hints)])
+            raise Refused(Status.USAGE, [_diagnostic(name, message, hints=hints)])
 
 
 def refuse_schedules(names: Sequence[str], datas: Sequence[bytes]) -> None:
@@ -324,7 +331,7 @@ def refuse_schedules(names: Sequence[str], datas: Sequence[bytes]) -> None:
     for name, data in zip(names, datas):
         if name.endswith(".schedule") and FileKind.of(data) is FileKind.TEXT:
             hint = f"the order of turns is said by an option: `--schedule {name}`"
-            raise Refused(Status.USAGE, [Diagnostic(name, "this is a schedule, and no program", hints=[hint])])
+            raise Refused(Status.USAGE, [_diagnostic(name, "this is a schedule, and no program", hints=[hint])])
 
 
 def give_names(built: Built, units: Sequence[Unit]) -> None:
@@ -352,7 +359,7 @@ def refused(answer: Answer, files: Sequence[NamedFile]) -> Refused:
     refusal = read_refusal(answer.line)
     if answer.status < 0:
         said = f"it was ended by signal {-answer.status}"
-        return Refused(SIGNALLED - answer.status, [Diagnostic("mmachine", said)])
+        return Refused(SIGNALLED - answer.status, [_diagnostic("mmachine", said)])
     if refusal is None:
-        return Refused(answer.status, [Diagnostic("mmachine", answer.line or f"ended with status {answer.status}")])
+        return Refused(answer.status, [_diagnostic("mmachine", answer.line or f"ended with status {answer.status}")])
     return Refused(answer.status, [explain_files(refusal, files)])

@@ -138,11 +138,11 @@ class Console:
 
     def note_order(self, built: Built, order: Order) -> None:
         """Tells of turns that no slot can take. `mmachine` has accepted the order."""
-        from mm.formats.schedule import PORT
-
         schedule, slots = order.schedule, {slot.number for slot in built.image.slots}
         if schedule is None:
             return
+        from mm.formats.schedule import PORT
+
         missing = sorted({item for item, _ in schedule.runs if item % PORT not in slots})
         if missing:
             shown = ", ".join(map(str, missing[:8])) + (" .." if len(missing) > 8 else "")

@@ -11,17 +11,12 @@ from mm.commands.running import Run, Runner
 from mm.console import Console, Order
 from mm.formats.image import Image, image_bytes
 from mm.formats.kinds import FileKind
-from mm.formats.schedule import PORT, Schedule
-from mm.messages.diagnostic import Diagnostic
 from mm.named import NamedFile
-from mm.outputs.audit import read_audit
 from mm.outputs.report import Report, read_report
-from mm.outputs.trace import item_of
 from mm.status import Refused, Status, usage
 from mm.table import CYCLES, JSON
 from mm.views.report import ReportView
 from mm.views.spell import Memory, Speller
-from mm.views.waiting import ENOUGH, ENOUGH_SPLIT, turns_by_reports, waiting
 from mm.words import MOST_CYCLES, cycles_of, groups_of
 
 REPORTS_KEPT = 64
@@ -49,6 +44,9 @@ def _run(console: Console) -> int:
 
 def _in_turn(console: Console, built: Built, cycles: int) -> Order:
     """The order that round robin takes, as a schedule."""
+    from mm.formats.schedule import Schedule
+    from mm.outputs.trace import item_of
+
     with console.program.lines(["trace", built.path, str(cycles)]) as (answer, lines):
         if answer.status:
             raise refused(answer, [built.file])
@@ -59,6 +57,8 @@ def _in_turn(console: Console, built: Built, cycles: int) -> Order:
 
 def _alone(console: Console, built: Built, groups: str, order: Order, cycles: int) -> Runner:
     """Runs of some groups without the others: the image has their slots alone, and the schedule their items."""
+    from mm.formats.schedule import PORT, Schedule
+
     named = set(map(int, groups.split(",")))
     slots = tuple(slot for slot in built.image.slots if slot.group in named)
     image = replace(built.image, slots=slots)
@@ -111,6 +111,8 @@ def _continue(console: Console) -> int:
     begun = report_at(0).cycles
     run = Run(report, {}, said_by_reports(report, report_at, report.cycles - begun, built.image, Speller(built.symbols)))
     if any(slot.running for slot in report.slots):
+        from mm.views.waiting import turns_by_reports, waiting
+
         turns = turns_by_reports(report_at, report.cycles - begun, built.image, _looked_back(report, built.image))
         run.waits = waiting(turns, report, built.image.split)
     return show(console, built, run, f"the last of them from {checkpoint} on, {order}")
@@ -119,6 +121,9 @@ def _continue(console: Console) -> int:
 def _refuse_another(console: Console, built: Built, checkpoint: str, begun: Report) -> None:
     """Refuses a checkpoint that no run of the image comes to: its memory differs where no group can write. Privileged groups can write
     everything, and map pages, so that it cannot be told of them."""
+    from mm.messages.diagnostic import Diagnostic
+    from mm.outputs.audit import read_audit
+
     reaches = read_audit(console.ask(["grants", built.path], [built.file]).text).reaches
     if any(reach.privileged for reach in reaches):
         return
@@ -132,6 +137,8 @@ def _refuse_another(console: Console, built: Built, checkpoint: str, begun: Repo
 
 def _looked_back(report: Report, image: Image) -> int:
     """So many of the last turns tell which slots wait: enough of each."""
+    from mm.views.waiting import ENOUGH, ENOUGH_SPLIT
+
     running = sum(slot.running for slot in report.slots)
     return (ENOUGH_SPLIT + 2 if image.split else ENOUGH + 1) * running + ENOUGH
 

@@ -3,17 +3,18 @@
 from __future__ import annotations
 
 from dataclasses import dataclass, field
-from typing import Optional
+from typing import TYPE_CHECKING, Optional
 
 from mm.build import Built
 from mm.console import Console, Order
 from mm.named import NamedFile
 from mm.outputs.report import Report, read_report
-from mm.outputs.trace import Turn, cycles_of, item_of, read_turn
-from mm.views.spell import Speller
-from mm.views.waiting import Waiting, waiting
 from mm.views.said import FaultSaid
 from mm.words import MOST_CYCLES
+
+if TYPE_CHECKING:
+    from mm.outputs.trace import Turn
+    from mm.views.waiting import Waiting
 
 # A run whose length was not said is looked at after so many cycles: where nothing can change any more it ends there.
 FIRST_LOOK = 10_000
@@ -62,6 +63,9 @@ class Runner:
         report = read_report(answer.text.splitlines())
         if not any(slot.running for slot in report.slots):
             return Run(report)
+        from mm.outputs.trace import read_turn
+        from mm.views.waiting import waiting
+
         turns = map(read_turn, reversed(self.last_turns(report.cycles, len(answer.out))))
         return Run(report, waiting(filter(None, turns), report, self.built.image.split))
 
@@ -90,6 +94,7 @@ class Runner:
         if not any(slot.fault for slot in report.slots):
             return found
         from mm.views.faults import said_at
+        from mm.views.spell import Speller
 
         speller = Speller(self.built.symbols)
         for cycle, turn in self.last_faults(report):
@@ -103,6 +108,8 @@ class Runner:
         slots = [slot.number for slot in report.slots if slot.fault]
         if not slots:
             return []
+        from mm.outputs.trace import cycles_of, item_of, read_turn
+
         items: list[int] = []
         found: dict[str, int] = {}
         turns: dict[str, str] = {}

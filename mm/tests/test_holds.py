@@ -258,6 +258,27 @@ class Outputs(unittest.TestCase):
         self.fail("the program was not started")
 
 
+class Starts(unittest.TestCase):
+    """A start costs what it imports."""
+
+    def imported(self, *words):
+        said = "import sys; from mm.main import main; main(sys.argv[1:]); print(*sys.modules, sep='\\n', file=sys.stderr)"
+        ended = subprocess.run([sys.executable, "-c", said, *words], cwd=path_of(), capture_output=True, text=True, check=False)
+        return set(ended.stderr.split())
+
+    def test_of_help(self):
+        here = self.imported("help")
+        self.assertIn("mm.help.overview", here)
+        self.assertEqual({name for name in here if name.startswith(("mm.build", "mm.names.sym", "mm.messages", "mm.debugger", "mm.cc."))}, set())
+
+    @needs_program
+    def test_of_a_run(self):
+        here = self.imported("run", "examples/hello.asm")
+        self.assertIn("mm.views.report", here)
+        late = ("mm.messages", "mm.names.clines", "mm.names.expressions", "mm.debugger", "mm.views.why", "mm.outputs.trace", "difflib")
+        self.assertEqual({name for name in here if name.startswith(late)}, set())
+
+
 class Json(unittest.TestCase):
     def test_lines(self):
         console = Console(Words())

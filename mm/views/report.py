@@ -4,19 +4,18 @@ from __future__ import annotations
 
 from typing import TYPE_CHECKING, Mapping, Optional
 
-from mm.machine.causes import Cause
 from mm.machine.memory import BLANK
 from mm.machine.words import Cell
 from mm.names.numbers import counted
 from mm.outputs.report import Report, SlotState
 from mm.views.spell import Memory, Speller, bytes_as_text
 from mm.views.style import Style
-from mm.views.waiting import Waiting, what_for
 from mm.views.said import FaultSaid
 from mm.words import MOST_CYCLES
 
 if TYPE_CHECKING:
     from mm.names.clines import CLine
+    from mm.views.waiting import Waiting
 
 BYTES_SHOWN = 64
 CELLS_SHOWN = 64
@@ -85,6 +84,8 @@ class ReportView:
         ip = slot.ip.pointer
         where = f"at {self.style.name(self.speller.symbols.show(ip.address))}" if ip else ""
         if slot.fault:
+            from mm.machine.causes import Cause
+
             cause = Cause.of_number(slot.fault)
             said = self.faults.get(slot.number)
             if said and said.of_c:
@@ -92,6 +93,8 @@ class ReportView:
             title = f"fault {slot.fault} {cause.title}: {cause.meaning}" if cause else f"fault {slot.fault}"
             return f"{self.style.bad('stopped')} {where} by {title}"
         if slot.number in self.waits:
+            from mm.views.waiting import what_for
+
             wait = self.waits[slot.number]
             lasts = "for ever" if wait.stuck else f"its last {counted(wait.turns, 'turn')}"
             return f"{self.style.warn(what_for(slot, self.memory, self.speller))}, {lasts}"
