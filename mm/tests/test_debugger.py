@@ -227,6 +227,12 @@ class MorePoints(unittest.TestCase):
         self.assertIn("r1 = 2 ", out)
         self.assertIn("there is no break or watch", self.session("disable 9"))
 
+    def test_a_call_is_one_step(self):
+        source = ".segment a 6\n jal r6, r5\n nop\n halt\n.segment b 6\n nop\n jmp r6\n.thread 0 0 none xu a\n.reg 5 ptr xu b\n"
+        with folder() as room:
+            out = mm("debug", write(room, "p.asm", source), lines="next\nquit\n").out
+        self.assertIn("slot 0 is at a+8", out.split("(mm) next")[1])
+
     def test_displays(self):
         out = self.session("display r1", "display $pc", "undisplay 1", "info display", "step", "undisplay 4")
         self.assertIn("r1 is shown no more", out)

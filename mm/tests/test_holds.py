@@ -161,6 +161,11 @@ class Streams(unittest.TestCase):
             self.assertIn(b"is no item of a schedule", ended.stderr)
             self.assertTrue(os.path.getsize(os.path.join(room, "v.html")) > 10_000)
 
+    def test_a_folder_that_is_not_there(self):
+        ended = mm("run", "no/such/p.asm")
+        self.assertEqual(ended.status, 3)
+        self.assertIn("hint: there is no folder no/such", ended.err)
+
     def test_a_file_without_an_end(self):
         ended = mm("run", "/dev/zero")
         self.assertEqual(ended.status, 2)

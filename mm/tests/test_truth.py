@@ -113,6 +113,11 @@ class Pages(unittest.TestCase):
     def image(self):
         return Image(1, 4, False, (), {1: page_of(1, {0: Cell(Word(77))}), 2: page_of(2, {})})
 
+    def test_cells_of_a_page(self):
+        cells = {0: Cell(Word(5), False), 3: Cell(Word(1 << 63, True)), 511: Cell(Word(7), False)}
+        page = page_of(1, cells)
+        self.assertEqual([page.cell(place) for place in (0, 1, 3, 511)], [cells[0], Cell(), cells[3], cells[511]])
+
     def test_pages_that_come_and_go(self):
         memory = Memory(self.image(), {3 * PAGE_BYTES: Cell(Word(5), False)}, [(1, False), (3, True)])
         self.assertIsNone(memory.cell(PAGE_BYTES))
@@ -272,6 +277,10 @@ class Told(unittest.TestCase):
             mm("save", one, "-n", "2", "-o", path)
             self.assertEqual(mm("continue", one, path, "-n", "9").status, 0)
             self.assertEqual(mm("continue", other, path).status, 2)
+
+    def test_slots_of_a_group(self):
+        source = LOOP.replace(".thread 0 0", ".thread 5 0").replace(".thread 1 1", ".thread 7 0")
+        self.assertIn("group 0 (slots 5, 7) can", self.ask(source, "audit"))
 
     def test_json_has_a_line_for_each_turn(self):
         rows = [row for row in self.ask(CHANGES, "trace", "--json").splitlines() if re.match(r'  \{"cycle"', row)]
