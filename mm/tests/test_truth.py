@@ -7,8 +7,10 @@ import re
 import unittest
 
 from mm.formats.image import PAGE_BYTES, Image, page_of
+from mm.formats.schedule import read_schedule
 from mm.machine.memory import Memory
-from mm.machine.words import Cell, Word
+from mm.machine.words import Cell, Permission, Pointer, Word
+from mm.outputs.trace import cycles_of, item_of
 from mm.tests.support import folder, mm, needs_program, write
 from mm.why.ask import asked
 
@@ -112,6 +114,16 @@ ARRIVING = """\
 class Pages(unittest.TestCase):
     def image(self):
         return Image(1, 4, False, (), {1: page_of(1, {0: Cell(Word(77))}), 2: page_of(2, {})})
+
+    def test_what_a_pointer_covers(self):
+        pointer = Pointer(Permission.RW, 4, 0x1008)
+        covered = [pointer.covers(*place) for place in ((0x1000,), (0x1008, 8), (0x1009, 8), (0xFFF,), (0x1010,))]
+        self.assertEqual(covered, [True, True, False, False, False])
+
+    def test_items_of_turns(self):
+        self.assertEqual([item_of("t 3 1 did"), item_of("m 3 7")], [3, 131])
+        schedule = read_schedule(b"3 131 3 131")
+        self.assertEqual(list(cycles_of([131, 131], schedule)), [2, 4])
 
     def test_cells_of_a_page(self):
         cells = {0: Cell(Word(5), False), 3: Cell(Word(1 << 63, True)), 511: Cell(Word(7), False)}
@@ -281,6 +293,12 @@ class Told(unittest.TestCase):
     def test_slots_of_a_group(self):
         source = LOOP.replace(".thread 0 0", ".thread 5 0").replace(".thread 1 1", ".thread 7 0")
         self.assertIn("group 0 (slots 5, 7) can", self.ask(source, "audit"))
+
+    def test_hints_at_files(self):
+        with folder() as room:
+            source = write(room, "p.asm", LOOP)
+            self.assertIn("numbers have no leading zero: 1", mm("run", source, "--turns", "0 01").err)
+            self.assertIn("give each file once", mm("run", source, source).err)
 
     def test_json_has_a_line_for_each_turn(self):
         rows = [row for row in self.ask(CHANGES, "trace", "--json").splitlines() if re.match(r'  \{"cycle"', row)]
