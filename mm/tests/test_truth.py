@@ -1,17 +1,24 @@
 """That `mm` tells what the program did: of pages that come and go, of code that changes itself, of fetches that fault, and of runs whose
 turns no trace has. `.ci/truth` looks at the same in random programs."""
 
+import io
 import json
 import os
 import re
 import unittest
+import zipfile
 
 from mm.formats.image import PAGE_BYTES, Image, page_of
 from mm.formats.schedule import read_schedule
 from mm.machine.memory import Memory
 from mm.machine.words import Cell, Permission, Pointer, Word
-from mm.outputs.trace import cycles_of, item_of
+from mm.machine.program import CHECKOUT
+from mm.log.read import Step
+from mm.outputs.trace import Turn, cycles_of, item_of
+from mm.packing.tree import of_folder
+from mm.packing.vsix import vsix
 from mm.tests.support import folder, mm, needs_program, write
+from mm.view.data import step_form
 from mm.why.ask import asked
 
 UNMAP = """\
@@ -124,6 +131,15 @@ class Pages(unittest.TestCase):
         self.assertEqual([item_of("t 3 1 did"), item_of("m 3 7")], [3, 131])
         schedule = read_schedule(b"3 131 3 131")
         self.assertEqual(list(cycles_of([131, 131], schedule)), [2, 4])
+
+    def test_a_step_of_a_page_for_a_browser(self):
+        turn = Turn(2, 7, "did", None, 0x1000, "store", 0x2000)
+        self.assertEqual(step_form(9, Step(turn)), [9, 2, 7, 0, 0, 0x1000, 3, 0x2000, None, []])
+
+    def test_modes_in_the_extension(self):
+        _, data = vsix(of_folder(CHECKOUT))
+        with zipfile.ZipFile(io.BytesIO(data)) as archive:
+            self.assertEqual({about.external_attr >> 16 for about in archive.infolist()}, {0o100644})
 
     def test_cells_of_a_page(self):
         cells = {0: Cell(Word(5), False), 3: Cell(Word(1 << 63, True)), 511: Cell(Word(7), False)}
