@@ -140,6 +140,8 @@ def main(given: Sequence[str]) -> int:
     except Exception as error:
         return own_fault(console, error)
     finally:
+        for number in before:
+            signal.signal(number, signal.SIG_IGN)  # What is left to do is short.
         console.close()
         for number, handler in before.items():
             signal.signal(number, handler)
