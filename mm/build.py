@@ -3,28 +3,30 @@
 from __future__ import annotations
 
 import os
-import tempfile
 from dataclasses import dataclass, field
-from typing import Optional, Sequence
+from typing import TYPE_CHECKING, Optional, Sequence
 
-from mm.cc.options import Options
 from mm.formats.image import Image, read_image
 from mm.formats.kinds import FileKind, looks_binary
 from mm.formats.object import MOST_WORDS, Object, object_of_words, read_object
+from mm.limits import IMAGE_LIMIT
 from mm.machine.program import Answer, Program
-from mm.messages.diagnostic import Diagnostic
-from mm.messages.files import NamedFile, explain_files
-from mm.messages.links import explain_link
-from mm.messages.sources import explain
-from mm.names.expressions import nearest
+from mm.named import NamedFile
 from mm.names.layout import Placed, differences, place
 from mm.names.symbols import Symbols, fits, symbols_of
-from mm.outputs.refusal import Refusal, RefusalKind, read_refusal
-from mm.source.mend import Mender
+from mm.room import Room
 from mm.source.text import SourceText, read_source
-from mm.status import Status, Stop
+from mm.status import SIGNALLED, Refused, Status, Stop
+
+# Messages are imported where there is something to tell.
+if TYPE_CHECKING:
+    from mm.cc.options import Options
+    from mm.messages.diagnostic import Diagnostic
+    from mm.outputs.refusal import Refusal
+    from mm.source.mend import Mender
 
 MOST_ERRORS = 20
+LONGEST_FILE = IMAGE_LIMIT
 C_SUFFIX = ".c"
 UTF_16 = (b"\xff\xfe", b"\xfe\xff")
 NET_SUFFIXES = (".links", ".events")
@@ -32,12 +34,11 @@ BINARY_SUFFIXES = (".img", ".obj", ".mms")
 OUR_SUFFIXES = (".asm", ".obj", ".img", ".mms", ".schedule", *NET_SUFFIXES)
 
 
-class Refused(Stop):
-    """Files that are not what they must be, with a message for each place."""
+def _diagnostic(path: str, message: str, hints: Sequence[str] = ()) -> Diagnostic:
+    """A message about a file."""
+    from mm.messages.diagnostic import Diagnostic
 
-    def __init__(self, status: int, diagnostics: Sequence[Diagnostic], more: bool = False) -> None:
-        super().__init__(status)
-        self.diagnostics, self.more = list(diagnostics), more
+    return Diagnostic(path, message, hints=list(hints))
 
 
 @dataclass
@@ -74,11 +75,15 @@ def read_file(name: str) -> bytes:
     """The bytes of a file, or a message that names it."""
     try:
         with open(name, "rb") as file:
-            return file.read()
+            data = file.read(LONGEST_FILE + 1)
     except OSError as error:
         raise Refused(
-            Status.READ_FAULT, [Diagnostic(name, f"cannot be read: {error.strerror}", hints=_beside(name, error))]
+            Status.READ_FAULT, [_diagnostic(name, f"cannot be read: {error.strerror}", hints=_beside(name, error))]
         ) from None
+    if len(data) > LONGEST_FILE:
+        said = f"is too long: no file of the machine has more than {LONGEST_FILE} bytes"
+        raise Refused(Status.REFUSED, [_diagnostic(name, said)])
+    return data
 
 
 def _beside(name: str, error: OSError) -> list[str]:
@@ -94,6 +99,8 @@ def _beside(name: str, error: OSError) -> list[str]:
         there = sorted(os.listdir(folder or "."))
     except OSError:
         return [f"there is no folder {folder}"]
+    from mm.names.expressions import nearest
+
     stem, suffix = os.path.splitext(last)
     near = nearest(stem, [os.path.splitext(one)[0] for one in there if one.endswith((*OUR_SUFFIXES, C_SUFFIX))])
     meant = [begin + end for begin in (stem, near) for end in (suffix, *OUR_SUFFIXES, C_SUFFIX) if begin]
@@ -116,21 +123,15 @@ class Workshop:
     """A folder for the files in between, and the program that makes them."""
 
     def __init__(self, program: Program, options: Optional[Options] = None) -> None:
-        self.program = program
-        self.options = options or Options()
-        self.room = tempfile.TemporaryDirectory(prefix="mm-")
-        self.made = 0
+        self.program, self.options = program, options
+        self.room = Room()
 
     def close(self) -> None:
-        self.room.cleanup()
+        self.room.remove()
 
     def keep(self, data: bytes, suffix: str) -> str:
         """A file with these bytes."""
-        self.made += 1
-        path = os.path.join(self.room.name, f"{self.made}{suffix}")
-        with open(path, "wb") as file:
-            file.write(data)
-        return path
+        return self.room.keep(data, suffix)
 
     def assemble(self, name: str, data: bytes) -> Unit:
         """The object of a source, or a message for each of its faults."""
@@ -138,7 +139,7 @@ class Workshop:
             raise Refused(
                 Status.REFUSED,
                 [
-                    Diagnostic(
+                    _diagnostic(
                         name,
                         "this is no text, no image and no object",
                         hints=[
@@ -157,6 +158,8 @@ class Workshop:
         return Unit(name, answer.out, made, source if read_alike else None, not read_alike)
 
     def _source_refused(self, name: str, data: bytes, answer: Answer) -> Refused:
+        from mm.outputs.refusal import RefusalKind, read_refusal
+
         refusal = read_refusal(answer.line)
         if refusal is None or refusal.kind is not RefusalKind.SOURCE:
             return refused(answer, [NamedFile(name, data)])
@@ -164,6 +167,9 @@ class Workshop:
 
     def _all_faults(self, name: str, data: bytes, refusal: Refusal, status: int) -> Refused:
         """The first fault, and those that show once it is taken out, up to a limit."""
+        from mm.messages.sources import explain
+        from mm.source.mend import Mender
+
         source = read_source(name, data)
         mender = Mender(source.lines)
         found: list[Diagnostic] = []
@@ -182,6 +188,8 @@ class Workshop:
         )
 
     def _next_fault(self, mender: Mender, fault: int, line: int, column: int) -> Optional[tuple[int, int, int]]:
+        from mm.outputs.refusal import RefusalKind, read_refusal
+
         if not mender.mend(fault, line, column):
             return None
         refusal = read_refusal(self.program.run(["asm", self.keep(mender.data(), ".asm")]).line)
@@ -219,12 +227,15 @@ class Workshop:
             pass
         said = "the file is empty" if not data else "this is no image, no object and no source"
         hints = ["an image is what `mm link FILE.. -o IMAGE` writes, an object what `mm asm SOURCE -o OBJECT` writes"]
-        raise Refused(Status.REFUSED, [Diagnostic(name, said, hints=hints)])
+        raise Refused(Status.REFUSED, [_diagnostic(name, said, hints=hints)])
 
     def link(self, units: Sequence[Unit]) -> Built:
         """The image of objects, with names that were compared with it."""
         answer = self.program.run(["link", *[self.keep(unit.data, ".obj") for unit in units]])
         if answer.status:
+            from mm.messages.links import explain_link
+            from mm.outputs.refusal import RefusalKind, read_refusal
+
             refusal = read_refusal(answer.line)
             if refusal and refusal.kind is RefusalKind.LINK:
                 raise Refused(
@@ -251,14 +262,14 @@ class Workshop:
                 image = names[kinds.index(FileKind.IMAGE)]
                 raise Refused(
                     Status.USAGE,
-                    [Diagnostic(image, "an image is already linked: name it alone, or name all sources and objects")],
+                    [_diagnostic(image, "an image is already linked: name it alone, or name all sources and objects")],
                 )
             return self._image(names[0], datas[0], others)
         if FileKind.CHECKPOINT in kinds:
             raise Refused(
                 Status.USAGE,
                 [
-                    Diagnostic(
+                    _diagnostic(
                         names[kinds.index(FileKind.CHECKPOINT)],
                         "this is a checkpoint: `mm continue FILE.. CHECKPOINT` goes on from it",
                     )
@@ -273,8 +284,9 @@ class Workshop:
         if not files:
             return datas
         from mm.cc.driver import sources_of
+        from mm.cc.options import Options
 
-        made = iter(sources_of(files, self.options))
+        made = iter(sources_of(files, self.options or Options()))
         return [next(made) if name.endswith(C_SUFFIX) else data for name, data in zip(names, datas)]
 
     def _image(self, name: str, data: bytes, others: Sequence[str]) -> Built:
@@ -311,7 +323,7 @@ def refuse_nets(names: Sequence[str], datas: Sequence[bytes]) -> None:
                 "`mm net LINKS EVENTS FILE..` runs a net, and tells what comes of each node",
                 "pages, traces, waves and the debugger show one machine: give them the file of one node, which then runs without the others",
             ]
-            raise Refused(Status.USAGE, [Diagnostic(name, message, hints=hints)])
+            raise Refused(Status.USAGE, [_diagnostic(name, message, hints=hints)])
 
 
 def refuse_schedules(names: Sequence[str], datas: Sequence[bytes]) -> None:
@@ -319,7 +331,7 @@ def refuse_schedules(names: Sequence[str], datas: Sequence[bytes]) -> None:
     for name, data in zip(names, datas):
         if name.endswith(".schedule") and FileKind.of(data) is FileKind.TEXT:
             hint = f"the order of turns is said by an option: `--schedule {name}`"
-            raise Refused(Status.USAGE, [Diagnostic(name, "this is a schedule, and no program", hints=[hint])])
+            raise Refused(Status.USAGE, [_diagnostic(name, "this is a schedule, and no program", hints=[hint])])
 
 
 def give_names(built: Built, units: Sequence[Unit]) -> None:
@@ -341,7 +353,13 @@ def give_names(built: Built, units: Sequence[Unit]) -> None:
 
 def refused(answer: Answer, files: Sequence[NamedFile]) -> Refused:
     """A refusal of `mmachine` in words."""
+    from mm.messages.files import explain_files
+    from mm.outputs.refusal import read_refusal
+
     refusal = read_refusal(answer.line)
+    if answer.status < 0:
+        said = f"it was ended by signal {-answer.status}"
+        return Refused(SIGNALLED - answer.status, [_diagnostic("mmachine", said)])
     if refusal is None:
-        return Refused(answer.status, [Diagnostic("mmachine", answer.line or f"ended with status {answer.status}")])
+        return Refused(answer.status, [_diagnostic("mmachine", answer.line or f"ended with status {answer.status}")])
     return Refused(answer.status, [explain_files(refusal, files)])

@@ -2,19 +2,23 @@
 
 from __future__ import annotations
 
-import json
+import contextlib
+import os
 import sys
-from typing import Any, Iterable, Optional
+from typing import TYPE_CHECKING, Any, Iterable, Optional
 
-from mm.cc.options import options_of
-from mm.build import Built, Refused, Workshop, read_file, refused
-from mm.formats.schedule import PORT, Schedule, read_schedule
-from mm.machine.program import Answer, Program, find_program
-from mm.messages.files import NamedFile
-from mm.status import Status, Stop, usage
+from mm.named import NamedFile
+from mm.shown import shown
+from mm.status import Refused, Status, Stop, usage
 from mm.table import CYCLES, NAMES, OUTPUT, PROGRAM, SCHEDULE, TURNS
 from mm.views.style import Style
 from mm.words import Words, cycles_of
+
+# What not each command needs is imported where it is needed: a start costs little then.
+if TYPE_CHECKING:
+    from mm.build import Built, Workshop
+    from mm.formats.schedule import Schedule
+    from mm.machine.program import Answer, Program
 
 
 class Order:
@@ -34,10 +38,16 @@ class Order:
     @property
     def schedule(self) -> Optional[Schedule]:
         """The items, once `mmachine` has accepted them."""
+        from mm.formats.schedule import read_schedule
+
         return read_schedule(self.file.data) if self.file else None
 
+    @property
+    def name(self) -> str:
+        return self.file.name if self.file else "round robin"
+
     def __str__(self) -> str:
-        return f"in the order of {self.file.name}" if self.file else "round robin"
+        return f"in the order of {self.name}" if self.file else self.name
 
 
 class Console:
@@ -62,12 +72,17 @@ class Console:
     @property
     def program(self) -> Program:
         if self._program is None:
+            from mm.machine.program import find_program
+
             self._program = find_program(self.said.value(PROGRAM))
         return self._program
 
     @property
     def workshop(self) -> Workshop:
         if self._workshop is None:
+            from mm.build import Workshop
+            from mm.cc.options import options_of
+
             self._workshop = Workshop(self.program, options_of(self.said))
         return self._workshop
 
@@ -77,17 +92,30 @@ class Console:
 
     def write(self, lines: Iterable[str]) -> None:
         for line in lines:
-            self.out.write(line + "\n")
+            self.out.write(shown(line, self.style.colours) + "\n")
 
-    def write_json(self, form: Any) -> None:
-        json.dump(form, self.out, indent=1, ensure_ascii=True)
-        self.out.write("\n")
+    def write_json(self, form: dict[str, Any]) -> None:
+        """Writes a form: a line for each key, and for each item of a list."""
+        import json
+
+        self.out.write("{")
+        for place, (key, value) in enumerate(form.items()):
+            self.out.write(f"{',' if place else ''}\n {json.dumps(key)}: ")
+            if isinstance(value, list) and value:
+                # The whole list at once, which is much quicker than item by item; no list inside has items with this first key.
+                first = json.dumps(next(iter(value[0])))
+                rows = json.dumps(value)[1:-1].replace(f"}}, {{{first}: ", f"}},\n  {{{first}: ")
+                self.out.write(f"[\n  {rows}\n ]")
+            else:
+                self.out.write(json.dumps(value))
+        self.out.write("\n}\n")
 
     def tell(self, *lines: str) -> None:
-        """Lines for the standard error."""
-        self.out.flush()
+        """Lines for the standard error, after what was written. That this cannot be written is told at the end."""
+        with contextlib.suppress(OSError):
+            self.out.flush()
         for line in lines:
-            self.err.write(line + "\n")
+            self.err.write(shown(line, self.err_style.colours) + "\n")
 
     def build(self, names: list[str]) -> Built:
         """The image of files, with notes on its names told."""
@@ -102,7 +130,10 @@ class Console:
             raise usage("mm: --schedule and --turns exclude each other")
         if name is None and turns is None:
             return Order()
-        file = NamedFile("--turns", (turns or "").encode()) if name is None else NamedFile(name, read_file(name))
+        from mm.build import read_file
+
+        said = (turns or "").encode("utf-8", "surrogateescape")
+        file = NamedFile("--turns", said) if name is None else NamedFile(name, read_file(name))
         return Order(file, self.workshop.keep(file.data, ".schedule"))
 
     def note_order(self, built: Built, order: Order) -> None:
@@ -110,6 +141,8 @@ class Console:
         schedule, slots = order.schedule, {slot.number for slot in built.image.slots}
         if schedule is None:
             return
+        from mm.formats.schedule import PORT
+
         missing = sorted({item for item, _ in schedule.runs if item % PORT not in slots})
         if missing:
             shown = ", ".join(map(str, missing[:8])) + (" .." if len(missing) > 8 else "")
@@ -125,8 +158,19 @@ class Console:
         """An answer of `mmachine`; a refusal is told in words."""
         answer = self.program.run(words, lines)
         if answer.status:
+            from mm.build import refused
+
             raise refused(answer, files)
         return answer
+
+    def refuse_input(self, name: str) -> None:
+        """Refuses an output that is one of the files that were read."""
+        from mm.outfile import is_same
+
+        given = [*self.words, *self.said.all(NAMES), *self.said.all(SCHEDULE)]
+        same = next((word for word in given if os.path.isfile(word) and is_same(word, name)), None)
+        if same is not None:
+            raise usage(f"mm: {name} is a file that is read here: give --output another name")
 
     def put(self, data: bytes) -> int:
         """Bytes for the file of --output, or for the standard output where that is no terminal."""
@@ -140,9 +184,11 @@ class Console:
             self.out.buffer.write(data)
             self.out.buffer.flush()
             return Status.DONE
+        from mm.outfile import write_whole
+
+        self.refuse_input(name)
         try:
-            with open(name, "wb") as file:
-                file.write(data)
+            write_whole(name, data)
         except OSError as error:
             raise Stop(Status.WRITE_FAULT, f"mm: {name} cannot be written: {error.strerror}") from None
         self.tell(f"{name}: {len(data)} bytes")

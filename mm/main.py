@@ -5,14 +5,27 @@ from __future__ import annotations
 import importlib
 import io
 import os
+import signal
 import sys
-from typing import Sequence
+from types import FrameType
+from typing import Any, Optional, Sequence
 
 from mm.console import Console, show_stop
-from mm.status import Status, Stop, usage
+from mm.status import SIGNALLED, Status, Stop, usage
 from mm.table import HELP, PROGRAM, VERSION
-from mm.version import version_lines
 from mm.words import Words, check_count, read_words
+
+TRACEBACK = "MM_TRACEBACK"
+# What ends a process from outside: the folder of a command and the program that it runs go before.
+ENDING = ("SIGTERM", "SIGHUP")
+
+
+class Ended(BaseException):
+    """A signal that ends the process."""
+
+    def __init__(self, number: int) -> None:
+        super().__init__(number)
+        self.number = number
 
 
 def _help(console: Console, said: Words) -> int:
@@ -24,7 +37,7 @@ def carry_out(console: Console) -> int:
     """Carries out a command that was read."""
     said = console.said
     if said.has(VERSION):
-        console.write(version_lines(said.value(PROGRAM)))
+        console.write(importlib.import_module("mm.version").version_lines(said.value(PROGRAM)))
         return Status.DONE
     if said.has(HELP):
         return _help(console, said)
@@ -43,7 +56,7 @@ def _end(console: Console, status: int) -> int:
         return _gone()
     except OSError as error:
         console.tell(f"mm: the output could not be written: {error.strerror}")
-        return Status.WRITE_FAULT
+        return _gone()
     return int(status)
 
 
@@ -53,14 +66,51 @@ def _gone() -> int:
     return Status.WRITE_FAULT
 
 
-def main(given: Sequence[str]) -> int:
-    """Does what words say. The exit status is that of the `mmachine` that was run, or one of `Status`."""
+def _open_streams() -> None:
+    """Puts something into the place of each standard stream that is closed. A write to an output that is closed fails."""
+    if sys.stdin is None:
+        sys.stdin = open(os.devnull, encoding="utf-8")
+    if sys.stdout is None:
+        sys.stdout = open(os.open(os.devnull, os.O_RDONLY), "w", encoding="utf-8")
+    if sys.stderr is None:
+        sys.stderr = open(os.devnull, "w", encoding="utf-8")
     for stream in (sys.stdout, sys.stderr):
         if isinstance(stream, io.TextIOWrapper):
             stream.reconfigure(errors="backslashreplace")
-    console = Console(Words())
+
+
+def _raise_ended(number: int, _: Optional[FrameType]) -> None:
+    raise Ended(number)
+
+
+def _catch_signals() -> dict[int, Any]:
+    """What the ending signals did before; nothing where this is no place to catch them."""
     try:
-        console = Console(read_words(given))
+        return {number: signal.signal(number, _raise_ended) for number in (getattr(signal, name) for name in ENDING)}
+    except ValueError:
+        return {}
+
+
+def own_fault(console: Console, error: BaseException) -> int:
+    """Tells of a fault of `mm` itself, or of a program that is no `mmachine`, and what to report."""
+    if os.environ.get(TRACEBACK):
+        raise error
+    trace = error.__traceback__
+    while trace is not None and trace.tb_next is not None:
+        trace = trace.tb_next
+    where = f"{os.path.basename(trace.tb_frame.f_code.co_filename)}:{trace.tb_lineno}" if trace else "?"
+    console.tell(
+        f"mm: this should not happen: {type(error).__name__} at {where}: {str(error)[:200]}",
+        "    Either `mm` has a fault, or what --program or $MMACHINE names is no `mmachine`.",
+        f"    To report it, give these lines, the command with its files, and what it says with {TRACEBACK}=1 before it.",
+    )
+    return Status.OWN_FAULT
+
+
+def _guarded(console: Console, given: Sequence[str]) -> int:
+    """Carries out words, however that ends."""
+    try:
+        console.said = read_words(given)
         return _end(console, carry_out(console))
     except Stop as stop:
         show_stop(console, stop)
@@ -70,8 +120,28 @@ def main(given: Sequence[str]) -> int:
     except OSError as error:
         console.tell(f"mm: {error.strerror or error}")
         return Status.WRITE_FAULT
+    except MemoryError:
+        console.tell("mm: memory ran out")
+        return Status.NO_MEMORY
+
+
+def main(given: Sequence[str]) -> int:
+    """Does what words say. The exit status is that of the `mmachine` that was run, or one of `Status`."""
+    _open_streams()
+    before = _catch_signals()
+    console = Console(Words())
+    try:
+        return _guarded(console, given)
     except KeyboardInterrupt:
         console.tell("")
-        return 130
+        return SIGNALLED + signal.SIGINT
+    except Ended as ended:
+        return SIGNALLED + ended.number
+    except Exception as error:
+        return own_fault(console, error)
     finally:
+        for number in before:
+            signal.signal(number, signal.SIG_IGN)  # What is left to do is short.
         console.close()
+        for number, handler in before.items():
+            signal.signal(number, handler)

@@ -3,6 +3,10 @@
 from __future__ import annotations
 
 from enum import IntEnum
+from typing import TYPE_CHECKING, Sequence
+
+if TYPE_CHECKING:
+    from mm.messages.diagnostic import Diagnostic
 
 
 class Status(IntEnum):
@@ -15,7 +19,13 @@ class Status(IntEnum):
     WRITE_FAULT = 4
     NO_MEMORY = 5
     NO_WORDS = 6
+    # A fault of `mm` itself.
+    OWN_FAULT = 70
     NO_PROGRAM = 127
+
+
+# A process that a signal ends has the signal's number above this.
+SIGNALLED = 128
 
 
 class Stop(Exception):
@@ -24,6 +34,14 @@ class Stop(Exception):
     def __init__(self, status: int, *lines: str) -> None:
         super().__init__(*lines)
         self.status, self.lines = status, lines
+
+
+class Refused(Stop):
+    """Files that are not what they must be, with a message for each place."""
+
+    def __init__(self, status: int, diagnostics: Sequence[Diagnostic], more: bool = False) -> None:
+        super().__init__(status)
+        self.diagnostics, self.more = list(diagnostics), more
 
 
 def usage(*lines: str) -> Stop:

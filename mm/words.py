@@ -2,7 +2,6 @@
 
 from __future__ import annotations
 
-import difflib
 import os
 from dataclasses import dataclass, field
 from typing import Optional, Sequence
@@ -39,12 +38,19 @@ def _known(command: Optional[Command]) -> dict[str, Option]:
     return {name: option for option in options for name in (option.name, option.short) if name}
 
 
+def _near(name: str, names: list[str]) -> list[str]:
+    """A name that may have been meant."""
+    import difflib
+
+    return difflib.get_close_matches(name[:64], names, 1)
+
+
 def _command(name: str) -> Command:
     found = BY_NAME.get(ALIASES.get(name, name))
     if found is None and os.path.exists(name):
         raise usage(f"mm: say what to do with {name}, as `mm run {name}`", "    `mm help` lists the commands")
     if found is None:
-        near = difflib.get_close_matches(name, [*BY_NAME, *ALIASES], 1)
+        near = _near(name, [*BY_NAME, *ALIASES])
         raise usage(
             f"mm: there is no command `{name}`" + (f"; do you mean `{near[0]}`?" if near else ""),
             "    `mm help` lists the commands",
@@ -77,7 +83,7 @@ def _take_option(said: Words, word: str, rest: list[str]) -> None:
         option, equals, value = short, "=", word[2:]
     if option is None:
         where = f"`mm {said.command.name}`" if said.command else "`mm`"
-        near = difflib.get_close_matches(name, _known(said.command), 1)
+        near = _near(name, list(_known(said.command)))
         raise usage(
             f"mm: {where} has no option {name}" + (f"; do you mean {near[0]}?" if near else ""),
             f"    `mm help{' ' + said.command.name if said.command else ''}` lists them",

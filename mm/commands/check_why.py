@@ -25,8 +25,8 @@ def _image(name: str) -> Image:
 
 
 def run(console: Console) -> int:
-    name, *words = console.words
-    ask = asked(*words)
+    name, group, word, kind = console.words
+    ask = asked(group, word, kind)
     image, text = _image(name), sys.stdin.read()
     if text == NO:
         raise Stop(Status.REFUSED, "mm: the text says `no`: there is no derivation to check")

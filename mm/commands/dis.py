@@ -5,7 +5,7 @@ from __future__ import annotations
 from mm.build import read_file
 from mm.console import Console
 from mm.formats.kinds import FileKind
-from mm.messages.files import NamedFile
+from mm.named import NamedFile
 from mm.status import Status
 from mm.views.listing import ImageListing
 

@@ -3,20 +3,24 @@
 from __future__ import annotations
 
 from dataclasses import replace
+from typing import Optional
 
 from mm.build import Built
-from mm.console import Console
+from mm.commands.running import Runner
+from mm.console import Console, Order
 from mm.machine.causes import Cause
+from mm.named import NamedFile
 from mm.names.numbers import number_of
 from mm.outputs.exploration import Exploration, read_exploration
 from mm.outputs.report import Report, read_report
+from mm.outputs.trace import Turn, read_turn
 from mm.status import Status, usage
 from mm.table import STATES
 from mm.views.exploration import ExplorationView, Places
+from mm.views.faults import said_of
 from mm.views.report import ReportView
 from mm.views.spell import Memory, Speller
 from mm.views.waiting import what_for
-from mm.views.why import why
 from mm.words import MOST_CYCLES
 
 USUAL, MOST = 100_000, 1_000_000
@@ -25,23 +29,27 @@ MOST_PLACES = 50
 WAITS = ("ld", "st", "evt")
 
 
-def report_under(console: Console, built: Built, schedule: str) -> Report:
-    """The report of a run under a schedule that was found."""
-    path = console.workshop.keep(schedule.encode(), ".schedule")
-    return read_report(console.ask(["run", built.path, str(MOST_CYCLES), path], [built.file]).text.splitlines())
+def run_under(console: Console, built: Built, schedule: str) -> tuple[Report, Optional[Turn]]:
+    """The report of a run under a schedule that was found, and its last turn."""
+    file = NamedFile("the schedule", schedule.encode())
+    runner = Runner(console, built, Order(file, console.workshop.keep(file.data, ".schedule")))
+    answer = console.ask(runner.words("run", MOST_CYCLES), runner.files)
+    lines = runner.last_turns(MOST_CYCLES, len(answer.out))
+    return read_report(answer.text.splitlines()), read_turn(lines[-1]) if lines else None
 
 
 def places_of(console: Console, built: Built, found: Exploration) -> Places:
     """Where each fault is met and why, from a run under its schedule."""
     places: Places = {}
     for number, fault, schedule in found.faults[:MOST_PLACES]:
-        report, cause = report_under(console, built, schedule), Cause.of_number(fault)
+        (report, turn), cause = run_under(console, built, schedule), Cause.of_number(fault)
         there = report.slot(number)
-        if there is None or cause is None:
+        if there is None or turn is None or cause is None or (turn.slot, turn.fault) != (number, fault):
             continue
-        slot, memory, speller = replace(there, fault=fault), Memory(built.image, report.cells), Speller(built.symbols)
-        view = ReportView(report, memory, speller, console.style)
-        below = view.place(slot) + why(cause, there, memory, speller)
+        slot, memory, speller = replace(there, fault=fault), Memory.after(built.image, report), Speller(built.symbols)
+        said = said_of(cause, there, turn, memory, speller)
+        view = ReportView(report, memory, speller, console.style, faults={number: said})
+        below = view.place(slot) + said.why
         places[number, fault] = [f"slot {number} can be {view.state(slot)}", *(f"  {line}" for line in below)]
     return places
 
@@ -49,8 +57,8 @@ def places_of(console: Console, built: Built, found: Exploration) -> Places:
 def tell_waits(console: Console, built: Built, found: Exploration) -> None:
     """Puts what each slot waits for in place of `running` where a program is stuck."""
     for outcome in [one for one in found.outcomes if not one.ended][:MOST_PLACES]:
-        report = report_under(console, built, outcome.schedule)
-        memory, speller = Memory(built.image, report.cells), Speller(built.symbols)
+        report, _ = run_under(console, built, outcome.schedule)
+        memory, speller = Memory.after(built.image, report), Speller(built.symbols)
         for slot in report.slots:
             instruction = memory.instruction(slot.ip.pointer.address) if slot.running and slot.ip.pointer else None
             if instruction and instruction.name in WAITS:

@@ -4,9 +4,9 @@ from __future__ import annotations
 
 from mm.console import Console
 from mm.help.fold import fold
-from mm.help.texts import all_topics, overview, topic_lines
-from mm.names.expressions import nearest
+from mm.help.overview import command_lines, overview
 from mm.status import Status, usage
+from mm.table import BY_NAME
 
 
 def run_topic(console: Console, topic: str) -> int:
@@ -14,6 +14,12 @@ def run_topic(console: Console, topic: str) -> int:
     if not topic:
         console.write(fold(overview()))
         return Status.DONE
+    if topic in BY_NAME:
+        console.write(fold(command_lines(BY_NAME[topic])))
+        return Status.DONE
+    from mm.help.texts import all_topics, topic_lines
+    from mm.names.expressions import nearest
+
     lines = topic_lines(topic) or topic_lines(topic + "s") or topic_lines(topic.rstrip("s"))
     if lines is None:
         near = nearest(topic.lower(), all_topics())

@@ -3,20 +3,24 @@
 from __future__ import annotations
 
 import re
+from functools import lru_cache
 
 from mm.build import Built, read_file
 from mm.commands.running import Run
 from mm.commands.run import show
 from mm.console import Console
 from mm.formats.schedule import words_of
-from mm.messages.files import NamedFile
+from mm.named import NamedFile
 from mm.names.expressions import NoAddress, address_of
-from mm.outputs.report import read_report
+from mm.outputs.report import Report, read_report
 from mm.status import Status, usage
+from mm.views.faults import said_by_reports
+from mm.views.spell import Speller
 from mm.words import MOST_CYCLES
 
 LINK = re.compile(r"(\d)\.([^>\s]+)>(\d)\.(\S+)")
 MOST_NODES = 8
+NETS_KEPT = 64
 
 
 def _end(node: str, place: str, nodes: list[Built]) -> str:
@@ -63,17 +67,24 @@ def run(console: Console) -> int:
     nodes = [console.build([name]) for name in names]
     text, moved = numeric(said, nodes)
     files = [NamedFile(links, said, moved=moved), NamedFile(events, order, events=True), *(node.file for node in nodes)]
-    words = [
-        "net",
-        console.workshop.keep(text, ".links"),
-        console.workshop.keep(order, ".events"),
-        str(console.cycles(MOST_CYCLES)),
-        *(node.path for node in nodes),
-    ]
-    reports, told = _split(console.ask(words, files).text)
-    for number, (node, lines) in enumerate(zip(nodes, reports)):
+    kept = [console.workshop.keep(text, ".links"), console.workshop.keep(order, ".events")]
+
+    @lru_cache(maxsize=NETS_KEPT)
+    def net_at(cycles: int) -> tuple[list[Report], list[str]]:
+        words = ["net", *kept, str(cycles), *(node.path for node in nodes)]
+        reports, told = _split(console.ask(words, files).text)
+        return [read_report(lines) for lines in reports], told
+
+    cycles = console.cycles(MOST_CYCLES)
+    reports, told = net_at(cycles)
+    for number, (node, report) in enumerate(zip(nodes, reports)):
         console.write([f"{console.style.strong(f'node {number}')}  {node.name}"])
-        show(console, node, Run(read_report(lines), {}), f"by its events of {events}")
+
+        def report_at(at: int, number: int = number) -> Report:
+            return net_at(at)[0][number]
+
+        faults = said_by_reports(report, report_at, cycles, node.image, Speller(node.symbols))
+        show(console, node, Run(report, {}, faults), f"by its events of {events}")
         console.write([""])
     console.write(told)
     return Status.DONE

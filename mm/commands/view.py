@@ -16,4 +16,5 @@ def run(console: Console) -> int:
     built, order = console.build(console.words), console.order()
     window = take_window(console, built, order, cycles_of(console.said.value(CYCLES)), first_of(console.said))
     audit = read_audit(console.ask(["grants", built.path], [built.file]).text) if console.said.has(AUDIT) else None
-    return console.put(page_of(window_form(built, window, str(order), audit)).encode())
+    page = page_of(window_form(built, window, str(order), audit))
+    return console.put(page.encode("utf-8", "replace"))

@@ -11,6 +11,7 @@ from mm.debugger.of_c import by_lines, c_text, local_lines, value_text
 from mm.debugger.points import PointKind
 from mm.debugger.session import Halt, Session
 from mm.debugger.show import Show
+from mm.debugger.stops import Wrong, condition, delete, displays, ignore, switch, undisplay
 from mm.machine.isa import OPERATIONS
 from mm.machine.words import Pointer
 from mm.names.expressions import NoAddress, nearest
@@ -19,10 +20,6 @@ from mm.views.listing import map_lines
 
 Lines = Iterable[str]
 MOST_WORDS = 512
-
-
-class Wrong(Exception):
-    """A line that cannot be carried out, with the reason."""
 
 
 class Debugger:
@@ -182,20 +179,6 @@ def _set_watch(kind: PointKind) -> Callable[[Debugger, str], Lines]:
     return run
 
 
-def _delete(debugger: Debugger, rest: str) -> Lines:
-    points = debugger.session.points
-    if not rest:
-        points.clear()
-        yield "no breaks and no watches are left"
-        return
-    for word in rest.split():
-        found = next((point for point in points if str(point.number) == word), None)
-        if found is None:
-            raise Wrong(f"there is no break or watch {word}: `info breakpoints` lists them")
-        points.remove(found)
-        yield f"{found.number} is gone"
-
-
 def _registers(debugger: Debugger, rest: str) -> Lines:
     number = count_of(rest, 0) if rest else debugger.session.slot
     slot = debugger.session.report.slot(number)
@@ -265,6 +248,7 @@ INFO: dict[str, tuple[str, Callable[[Debugger, str], Lines]]] = {
         lambda debugger, rest: map_lines(debugger.session.symbols, debugger.show.style),
     ),
     "locals": ("variables of C; else registers", lambda debugger, rest: local_lines(debugger) or _registers(debugger, rest)),
+    "display": ("values that are shown at stops", displays),
     "output": ("what each group has put out", _output),
     "line": ("where this slot is", _where),
 }
@@ -326,11 +310,16 @@ ENTRIES = (
     Entry(("watch", "w"), "NAME", "stop after each write of a word, or of its bit; `.. slot N`, `.. if count > 5`", "place", _set_watch(PointKind.WATCH)),
     Entry(("rwatch", "rw"), "NAME", "stop after each load", "place", _set_watch(PointKind.READ)),
     Entry(("awatch", "aw"), "NAME", "stop after each load or write", "place", _set_watch(PointKind.ACCESS)),
-    Entry(("delete", "d"), "[N]", "remove a break or a watch, or all; 0 is the stop at faults", "", _delete),
+    Entry(("delete", "d"), "[N]", "remove a break or a watch, or all; 0 is the stop at faults", "", delete),
+    Entry(("condition",), "N [IF]", "stop at a break or a watch only if something is so: `condition 1 r3 == 32`", "", condition),
+    Entry(("ignore",), "N COUNT", "go on so often at a break or a watch", "", ignore),
+    Entry(("enable",), "[N]", "stop again at a break or a watch, or at all", "", switch(True)),
+    Entry(("disable",), "[N]", "do not stop at a break or a watch, or at any, until it is enabled", "", switch(False)),
     Entry(("regs", "registers"), "[S]", "the registers of a slot", "", _registers),
     Entry(("slot", "thread", "t"), "[S]", "look at another slot", "", _slot),
     Entry(("print", "p", "inspect"), "WHAT", "a register (r5, ip), the word at a name, with & its address; a variable of C: i, a[2], p->x", "value", _print),
     Entry(("display",), "[WHAT]", "the same at each stop; nothing ends it", "value", _display),
+    Entry(("undisplay",), "[N]", "show a value no more at stops, or none", "", undisplay),
     Entry(("x",), "/N[i] PLACE", "N words of memory, with i as instructions; a register means where it points", "value", _examine),
     Entry(("list", "l"), "[PLACE]", "the source around this slot's place, or around another place", "place", _list),
     Entry(("where", "bt", "backtrace", "frame"), "", "where the run is; in C also the functions that wait", "", _where),
@@ -345,7 +334,6 @@ OTHER_WORDS = {
     "disas": "`x/8i door` shows eight instructions",
     "disassemble": "`x/8i door` shows eight instructions",
     "layout": "`list` shows the source, `display r2` a register at each stop",
-    "undisplay": "`display` without a word ends all of them",
     "clear": "`delete N` removes a break, `info breakpoints` lists them",
     "stop": "`break PLACE` says where to stop",
     "kill": "`quit` ends the session",

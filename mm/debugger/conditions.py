@@ -76,11 +76,27 @@ class Condition:
 def condition_in(text: str, session: Session) -> tuple[str, Optional[Condition]]:
     """What stands before `if`, and the condition after it."""
     match = IF.fullmatch(text)
-    if match is None:
-        return text, None
-    sides = COMPARISON.fullmatch(match[2].strip())
+    return (match[1], condition_of(match[2], session)) if match else (text, None)
+
+
+def condition_of(said: str, session: Session) -> Condition:
+    """The condition that a text is, with or without parentheses around it."""
+    text = said.strip()
+    while is_enclosed(text):
+        text = text[1:-1].strip()
+    sides = COMPARISON.fullmatch(text)
     if sides is None:
-        raise NoAddress(f"`{match[2]}` compares nothing: write `if r3 == 32`, with ==, !=, <, <=, > or >=")
-    condition = Condition(match[2].strip(), *sides.groups())
+        raise NoAddress(f"`{said}` compares nothing: write `if r3 == 32`, with ==, !=, <, <=, > or >=")
+    condition = Condition(text, *sides.groups())
     condition.check(session)
-    return match[1], condition
+    return condition
+
+
+def is_enclosed(text: str) -> bool:
+    """Whether the parenthesis at the beginning is closed at the end."""
+    depth = 0
+    for place, letter in enumerate(text):
+        depth += (letter == "(") - (letter == ")")
+        if depth == 0:
+            return letter == ")" and place == len(text) - 1
+    return False

@@ -9,11 +9,11 @@ from mm.debugger.cexpressions import c_thing
 from mm.debugger.session import Session
 from mm.machine.words import Word
 from mm.names.expressions import NoAddress, address_of, span_of
-from mm.names.numbers import number_of
+from mm.names.numbers import number_of, printed_address
 from mm.words import MOST_CYCLES
 
 REGISTER = re.compile(r"\$?r(\d+)")
-OFFSET = re.compile(r"(\$?r\d+|\$?ip)\s*([+-]\s*\w+)?")
+OFFSET = re.compile(r"(\$?r\d+|\$?ip|\$pc)\s*([+-]\s*\w+)?")
 SLOT = re.compile(r"(.*?)\s*\b(?:if\s+)?(?:slot|thread)\s+(\d+)")
 SOME_LINES = 100_000
 
@@ -88,7 +88,7 @@ def place_of(text: str, session: Session) -> tuple[int, int]:
     """A place of the code: a name, a line of the source of this slot, or an address. A segment that begins with a pointer is meant whole."""
     if not text:
         raise NoAddress("say where: a name as `door`, a line as 7 or counter.asm:20, or an address as 0x1000c8")
-    number = number_of(text)
+    number = number_of(text) if printed_address(text) is None else None
     if number is not None and 0 < number < SOME_LINES:
         return session_line(number, session), 8
     address, length = span(text, session)
@@ -130,7 +130,7 @@ def value_of(text: str, session: Session) -> Word:
         found = _register(text, session) if "+" not in text and "-" not in text else None
         if found:
             return found
-    number = number_of(text)
+    number = number_of(text) if printed_address(text) is None else None
     if number is not None and number < SOME_LINES:
         return Word(number & (1 << 64) - 1)
     address = span(text.lstrip("*"), session)[0]

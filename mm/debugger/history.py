@@ -9,7 +9,7 @@ from typing import Iterator, Optional
 from mm.build import Built
 from mm.console import Console, Order
 from mm.outputs.report import Report, read_report
-from mm.outputs.trace import Turn, read_turn, split_trace
+from mm.outputs.trace import Turn, cycles_of, item_of, read_turn, split_trace
 from mm.views.waiting import waiting
 from mm.words import MOST_CYCLES
 
@@ -30,7 +30,6 @@ class History:
         self.asked = 0
         self.states: dict[int, Report] = {}
         self.files = [built.file, *order.files]
-        self.items = list(self.schedule.items()) if self.schedule else None
         self.end: Optional[int] = None
         # Whether the run ends here since each slot that runs waits, and nothing can change that.
         self.stuck = False
@@ -55,30 +54,18 @@ class History:
             wanted = min(MOST_CYCLES, max(cycle, FIRST_TURNS, GROWTH * self.asked))
             answer = self.console.ask(["trace", self.built.path, str(wanted), *self.order.words], self.files)
             self.lines, report = split_trace(answer.text)
-            self.cycles = self._cycles(report.cycles)
+            self.cycles = list(cycles_of(map(item_of, self.lines), self.schedule))
             self.asked = wanted
-            waits = waiting(self.lines[-LOOKED_AT:], report, self.built.image.split)
-            self.stuck = any(wait.stuck for wait in waits.values())
+            turns = filter(None, map(read_turn, reversed(self.lines[-LOOKED_AT:])))
+            waits = waiting(turns, report, self.built.image.split)
+            arriving = self.schedule is not None and any(slot.pending for slot in report.slots)
+            self.stuck = any(wait.stuck for wait in waits.values()) and not arriving
             if report.cycles < wanted or wanted == MOST_CYCLES or self.stuck:
                 self.end = report.cycles
 
-    def _cycles(self, done: int) -> list[int]:
-        """The cycle of each line: every one in round robin, under a schedule those that are not idle."""
-        if self.items is None:
-            return list(range(1, len(self.lines) + 1))
-        found, at = [], 0
-        for line in self.lines:
-            word, slot = line.split(None, 2)[:2]
-            item = int(slot) + (128 if word == "m" else 0)
-            while at < done and self.items[at] != item:
-                at += 1
-            at += 1
-            found.append(at)
-        return found
-
     def index(self, cycle: int) -> int:
         """The place of the first line of a cycle or a later one."""
-        if self.items is None:
+        if self.schedule is None:
             return min(max(cycle, 1) - 1, len(self.lines))
         return bisect.bisect_left(self.cycles, cycle)
 
@@ -111,6 +98,10 @@ class History:
                 if turn:
                     yield self.cycles[at], turn
 
-    def previous(self, cycle: int, slot: int) -> Optional[Turn]:
-        """The turn of a slot before a cycle."""
-        return next((turn for _, turn in self.before(cycle - 1, re.compile(rf"^t {slot} "))), None)
+    def previous(self, cycle: int, slot: int) -> Optional[tuple[int, Turn]]:
+        """The turn of a slot before a cycle, with its own cycle."""
+        return next(self.before(cycle - 1, re.compile(rf"^t {slot} ")), None)
+
+    def fault_of(self, total: int, slot: int) -> Optional[tuple[int, Turn]]:
+        """The last turn of a slot that faulted, up to a moment."""
+        return next(self.before(total, re.compile(rf"^t {slot} \d+ faulted ")), None)

@@ -48,6 +48,9 @@ class Point:
     once: bool = False
     condition: Optional[Condition] = None
     hits: int = 0
+    # Whether the run stops here, and how often it first goes on.
+    enabled: bool = True
+    ignored: int = 0
 
     @property
     def pattern(self) -> str:
@@ -88,6 +91,8 @@ class Point:
                     f"slot {self.slot}" if self.slot is not None else "",
                     "once" if self.once else "",
                     f"if {self.condition.text}" if self.condition else "",
+                    "" if self.enabled else "(disabled)",
+                    f"(goes on {self.ignored} more times)" if self.ignored else "",
                 ],
             )
         )

@@ -14,7 +14,9 @@ from mm.names.symbols import Symbols
 from mm.outputs.report import Report, SlotState
 from mm.outputs.trace import Turn
 from mm.views.cvalues import CValues
+from mm.views.faults import said_at, stopped
 from mm.views.spell import Memory, Speller
+from mm.views.said import FaultSaid
 
 if TYPE_CHECKING:
     from mm.debugger.conditions import Condition
@@ -29,6 +31,8 @@ class Halt:
     point: Optional[Point] = None
     turn: Optional[Turn] = None
     ended: bool = False
+    # The cycle of the turn.
+    cycle: int = 0
 
 
 class Session:
@@ -50,7 +54,22 @@ class Session:
 
     @property
     def memory(self) -> Memory:
-        return Memory(self.built.image, self.report.cells)
+        return self.memory_at(self.total)
+
+    def memory_at(self, total: int) -> Memory:
+        """The memory after so many cycles."""
+        return Memory.after(self.built.image, self.history.report(max(0, total)))
+
+    @property
+    def faults(self) -> dict[int, FaultSaid]:
+        """What is said of the fault of each slot that one has halted, from the moment at which it came."""
+        found = {}
+        for slot in stopped(self.report):
+            met = self.history.fault_of(self.total, slot)
+            said = said_at(self.history.report(met[0]), slot, met[1], self.built.image, self.speller) if met else None
+            if said:
+                found[slot] = said
+        return found
 
     @property
     def current(self) -> Optional[SlotState]:
@@ -70,6 +89,11 @@ class Session:
     def next_turn(self) -> Optional[Turn]:
         """The turn of the next cycle that is not idle."""
         return next((turn for _, turn in self.history.after(self.total, ANY_TURN)), None)
+
+    @property
+    def active(self) -> list[Point]:
+        """The points at which the run stops."""
+        return [point for point in self.points if point.enabled]
 
     def add(
         self,
@@ -93,7 +117,7 @@ class Session:
         turn = self.last_turn
         if turn:
             self.slot = turn.slot
-        return Halt(turn=turn, ended=self.total < total)
+        return Halt(turn=turn, ended=self.total < total, cycle=self.total)
 
     def step(self, count: int) -> Halt:
         return self.go(self.total + count)
@@ -108,11 +132,11 @@ class Session:
         point.hits += 1
         if point.once:
             self.points.remove(point)
-        return Halt(point, None if point.kind.before else turn)
+        return Halt(point, None if point.kind.before else turn, cycle=cycle)
 
     def _met(self, cycle: int, turn: Turn) -> Optional[Point]:
         """The point that a turn meets. A break is met once by a slot that waits at it."""
-        for point in sorted(self.points, key=lambda point: not point.kind.before):
+        for point in sorted(self.active, key=lambda point: not point.kind.before):
             if self._meets(cycle, turn, point) and not (point.kind.before and self._was_there(cycle, turn, point)):
                 return point
         return None
@@ -130,7 +154,7 @@ class Session:
 
     def _was_there(self, cycle: int, turn: Turn, point: Point) -> bool:
         """Whether a slot waits at a break since an earlier turn, or is in a range since then."""
-        previous = self.history.previous(cycle, turn.slot)
+        _, previous = self.history.previous(cycle, turn.slot) or (0, None)
         if previous is None or previous.fetch is None:
             return False
         return (
@@ -139,16 +163,30 @@ class Session:
 
     def resume(self) -> Halt:
         """Goes on to the next point, or to the end. A break right here does not count."""
-        for cycle, turn in self.history.after(self.total, pattern_of(self.points)):
-            here = [point for point in self.points if point.kind.before] if cycle == self.total + 1 else []
-            point = (
-                next((each for each in self.points if each not in here and self._meets(cycle, turn, each)), None)
-                if here
-                else self._met(cycle, turn)
-            )
-            if point:
-                return self._stop(cycle, turn, point)
+        seen = self.total
+        try:
+            for cycle, turn in self.history.after(self.total, pattern_of(self.active)):
+                seen = cycle - 1
+                here = [point for point in self.active if point.kind.before] if cycle == self.total + 1 else []
+                point = (
+                    next((each for each in self.active if each not in here and self._meets(cycle, turn, each)), None)
+                    if here
+                    else self._met(cycle, turn)
+                )
+                if point and not self._goes_on(point):
+                    return self._stop(cycle, turn, point)
+        except KeyboardInterrupt:
+            self.go(max(seen, self.total))
+            raise
         return self._to_end()
+
+    @staticmethod
+    def _goes_on(point: Point) -> bool:
+        """Whether the run goes on at a point once more, since it was told to."""
+        if not point.ignored:
+            return False
+        point.ignored, point.hits = point.ignored - 1, point.hits + 1
+        return True
 
     def _to_end(self) -> Halt:
         self.go(self.history.last)
@@ -156,7 +194,7 @@ class Session:
 
     def reverse(self) -> Halt:
         """Goes back to the last point before here, or to the start."""
-        for cycle, turn in self.history.before(self.total, pattern_of(self.points)):
+        for cycle, turn in self.history.before(self.total, pattern_of(self.active)):
             point = self._met(cycle, turn)
             if point and (cycle - 1 if point.kind.before else cycle) < self.total:
                 return self._stop(cycle, turn, point)
@@ -164,17 +202,18 @@ class Session:
 
     def follow(self, until: Callable[[Turn], bool]) -> Halt:
         """Goes on to before the turn of the current slot at which a condition holds, or to a point before it."""
-        mine = re.compile("|".join(filter(None, [rf"^t {self.slot} ", pattern_of(self.points).pattern])))
+        mine = re.compile("|".join(filter(None, [rf"^t {self.slot} ", pattern_of(self.active).pattern])))
         slot, first = self.slot, True
         for cycle, turn in self.history.after(self.total, mine):
             if turn.slot == slot and not first and until(turn):
                 self.total, self.slot = cycle - 1, slot
-                return Halt(turn=self.history.previous(cycle, slot))
+                done, previous = self.history.previous(cycle, slot) or (0, None)
+                return Halt(turn=previous, cycle=done)
             point = None if first and turn.slot == slot else self._met(cycle, turn)
             if point is None:
-                after = [each for each in self.points if not each.kind.before]
+                after = [each for each in self.active if not each.kind.before]
                 point = next((each for each in after if self._meets(cycle, turn, each)), None)
-            if point:
+            if point and not self._goes_on(point):
                 return self._stop(cycle, turn, point)
             first = first and turn.slot != slot
         return self._to_end()

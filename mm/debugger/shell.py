@@ -7,11 +7,13 @@ from typing import Optional
 
 from mm.console import Console, show_stop
 from mm.debugger.commands import BY_NAME, ENTRIES, INFO, Debugger, Wrong, carry_out, find
+from mm.debugger.session import Halt
 from mm.machine.isa import OPERATIONS
 from mm.names.expressions import NoAddress
 from mm.status import Status, Stop
 
 PROMPT = "(mm) "
+MOST_SAID = 400
 
 
 class Completer:
@@ -82,9 +84,12 @@ class Shell:
         try:
             self.console.write(carry_out(self.debugger, line))
         except (Wrong, NoAddress) as error:
-            self.console.write([self.console.style.warn(str(error))])
+            said = str(error)
+            self.console.write([self.console.style.warn(said if len(said) <= MOST_SAID else said[:MOST_SAID] + " ..")])
         except Stop as stop:
             show_stop(self.console, stop)
+        except RecursionError:
+            self.console.write([self.console.style.warn("this is nested too deep")])
 
     def loop(self) -> int:
         """Lines up to the end or `quit`."""
@@ -101,7 +106,7 @@ class Shell:
                     self.answer(line)
                 self.console.out.flush()
             except KeyboardInterrupt:
-                self.console.write(["", "`quit` ends the session"])
+                self.console.write(["", *self.debugger.stop(Halt())])
         if self.terminal and not self.debugger.over:
             self.console.write([""])
         return Status.DONE
@@ -113,4 +118,5 @@ class Shell:
             name = find(line.split()[0].partition("/")[0]).names[0]
         except Wrong:
             return ""
-        return "" if name in ("break", "tbreak", "watch", "rwatch", "awatch", "delete", "display", "run") else line
+        return "" if name in ("break", "tbreak", "watch", "rwatch", "awatch", "delete", "display", "undisplay", "condition", "ignore", "enable", "disable",
+            "run") else line

@@ -13,13 +13,12 @@ from mm.names.numbers import counted
 from mm.outputs.report import SlotState
 from mm.source.tokens import readable
 from mm.views.cvalues import CValues
-from mm.views.cview import CView
-from mm.views.report import ReportView
+from mm.views.faults import said_of
+from mm.views.report import ReportView, stuck_verdict
 from mm.views.spell import Memory, bytes_as_text
 from mm.views.style import Style
 from mm.views.trace import TraceView
 from mm.views.waiting import what_for
-from mm.views.why import why
 
 AROUND = 5
 # The states of a slot after a fault, which are told by verbs of their own.
@@ -42,7 +41,7 @@ class Show:
         line = session.symbols.c_line(address)
         if line:
             where += f"  {self.style.soft(str(line) + ':')}  {line.text}  |"
-        if origin and address not in session.report.cells:
+        if origin and session.memory.is_images(address):
             return f"{where}  {self.style.soft(str(origin) + ':')}  {origin.code}"
         return f"{where}:  {text}"
 
@@ -52,7 +51,8 @@ class Show:
         head = self.style.strong(f"slot {slot.number}")
         if slot.running and ip:
             return f"{head} is {'past the end of its segment' if slot.past else 'at ' + self.place(ip.address)}"
-        view = ReportView(self.session.report, self.session.memory, self.session.speller, self.style)
+        session = self.session
+        view = ReportView(session.report, session.memory, session.speller, self.style, faults=session.faults)
         return f"{head} {'' if slot.state in FAULTED else 'is '}{view.state(slot)}"
 
     def did(self, halt: Halt) -> Iterator[str]:
@@ -63,7 +63,7 @@ class Show:
         if turn.delivered is not None:
             yield f"slot {turn.slot}: a load arrives in r{turn.delivered}"
             return
-        view = TraceView(Memory(session.built.image, session.report.cells), session.speller, self.style)
+        view = TraceView(session.memory_at(halt.cycle - 1), session.speller, self.style)
         said = "; ".join(filter(None, [view.outcome(turn), *view.effects(turn)]))
         yield f"slot {turn.slot} did {view.instruction(turn)}" + (f"    ({said})" if said else "")
 
@@ -76,9 +76,9 @@ class Show:
             cause = Cause.of_number(halt.turn.fault)
             slot = self.session.report.slot(halt.turn.slot)
             if cause and slot:
-                said = CView(slot, self.session.memory, self.session.speller).fault(cause)
-                yield self.style.bad(said or f"fault {cause.number} {cause.title}: {cause.meaning}")
-                yield from (f"  {line}" for line in why(cause, slot, self.session.memory, self.session.speller))
+                said = said_of(cause, slot, halt.turn, self.session.memory, self.session.speller)
+                yield self.style.bad(said.of_c or f"fault {cause.number} {cause.title}: {cause.meaning}")
+                yield from (f"  {line}" for line in said.why)
         elif point.kind.before:
             yield self.style.good(f"break {point.number}: {point.text or self.session.symbols.show(point.address)}")
         elif point.kind.has_place and halt.turn and halt.turn.address is not None:
@@ -90,7 +90,7 @@ class Show:
     @property
     def memory_before(self) -> Memory:
         """The memory before the last cycle."""
-        return Memory(self.session.built.image, self.session.history.report(self.session.total - 1).cells)
+        return self.session.memory_at(self.session.total - 1)
 
     def c_change(self, text: str) -> Optional[str]:
         """What a variable of C was before the last cycle, and what it is; none if the text names none."""
@@ -125,7 +125,7 @@ class Show:
         ended = turn is None
         yield f"{self.style.soft(f'cycle {session.total}')}{', the end of the run (`run` begins again, `back` goes back)' if ended else ''}"
         if ended and session.history.stuck:
-            yield "nothing can change any more: each slot that runs waits"
+            yield stuck_verdict(1, any(slot.pending for slot in session.report.slots))
             yield from (
                 f"  slot {slot.number} is {what_for(slot, session.memory, session.speller)}"
                 for slot in session.report.slots

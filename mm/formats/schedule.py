@@ -22,6 +22,20 @@ class Schedule:
     def length(self) -> int:
         return sum(count for _, count in self.runs)
 
+    def first(self, count: int) -> Schedule:
+        """Its first items."""
+        runs, left = [], count
+        for item, times in self.runs:
+            if left > 0:
+                runs.append((item, min(times, left)))
+            left -= times
+        return Schedule(tuple(runs))
+
+    @property
+    def text(self) -> bytes:
+        """A text that means it."""
+        return " ".join(f"{item}*{times}" if times > 1 else str(item) for item, times in self.runs).encode()
+
     def items(self) -> Iterator[int]:
         for slot, count in self.runs:
             for _ in range(count):

@@ -9,21 +9,21 @@ from typing import Callable, Optional
 
 from mm.build import Built
 from mm.console import Console, Order
-from mm.grading.sheet import Expectation, Sheet
+from mm.grading.sheet import Expectation, Sheet, wrong
 from mm.machine.causes import Cause
 from mm.machine.words import Word
-from mm.messages.files import NamedFile
+from mm.named import NamedFile
 from mm.names.expressions import NoAddress, address_of
 from mm.names.numbers import counted, number_of
 from mm.outputs.audit import read_audit
 from mm.outputs.exploration import Exploration, read_exploration
 from mm.outputs.report import Report, SlotState, read_report
-from mm.status import Status, Stop
-from mm.views.spell import bytes_as_text
+from mm.views.spell import Memory, Speller, bytes_as_text
 from mm.words import cycles_of, groups_of
 
 CYCLES, STATES = 100_000, 100_000
 BYTES_SHOWN = 40
+REGISTERS = 16
 
 
 @dataclass(frozen=True)
@@ -68,11 +68,23 @@ class Program:
         texts = [unit.source for unit in self.built.units if unit.source]
         return {run.head for text in texts for segment in text.segments for run in segment.runs}
 
+    @property
+    def unread(self) -> Optional[str]:
+        """A file of which there is no source, so that nothing can be said of its operations."""
+        names = [unit.name for unit in self.built.units if unit.source is None]
+        if not self.built.units:
+            names = [self.built.name]
+        return names[0] if names else None
+
+
+class WrongLine(Exception):
+    """A line of a sheet that cannot be looked at, with the reason."""
+
 
 def number_in(text: str) -> int:
     number = number_of(text)
     if number is None:
-        raise Stop(Status.REFUSED, f"mm: grade: `{text}` is no number")
+        raise WrongLine(f"`{text}` is no number")
     return number
 
 
@@ -95,7 +107,10 @@ def became(slot: SlotState) -> str:
 
 
 def says(program: Program, group: str, text: str = "") -> Optional[str]:
-    wanted = text.encode().decode("unicode_escape").encode("latin-1")
+    try:
+        wanted = text.encode("latin-1").decode("unicode_escape").encode("latin-1")
+    except UnicodeError:
+        raise WrongLine(f"`{text}` is no text of bytes: letters, and \\n, \\\\ or \\x41 for others") from None
     found = program.report.outputs.get(number_in(group))
     if found is None:
         return f"there is no group {group}"
@@ -109,7 +124,7 @@ def matches(program: Program, group: str, pattern: str) -> Optional[str]:
     try:
         return None if re.fullmatch(pattern.encode("latin-1"), found) else said(found)
     except (re.error, UnicodeEncodeError):
-        raise Stop(Status.REFUSED, f"mm: grade: `{pattern}` is no pattern") from None
+        raise WrongLine(f"`{pattern}` is no pattern") from None
 
 
 def halts(program: Program, *slots: str) -> Optional[str]:
@@ -124,6 +139,8 @@ def halts(program: Program, *slots: str) -> Optional[str]:
 
 def faults(program: Program, number: str, fault: str) -> Optional[str]:
     slot, cause = program.slot(number), Cause.of_title(fault)
+    if cause is None and number_of(fault) is None:
+        raise WrongLine(f"`{fault}` is no fault: {', '.join(cause.title for cause in Cause)}, or a number")
     wanted = cause.number if cause else number_in(fault)
     if slot is None:
         return f"there is no slot {number}"
@@ -134,8 +151,12 @@ def register(program: Program, number: str, name: str, value: str) -> Optional[s
     slot = program.slot(number)
     if slot is None:
         return f"there is no slot {number}"
-    found = slot.register(number_in(name.removeprefix("r")))
-    return None if found == Word(number_in(value) % 2**64) else f"{name} is {found if found is not None else 'empty'}"
+    place = number_of(name[1:]) if name.startswith("r") else None
+    if place is None or not 0 <= place < REGISTERS:
+        raise WrongLine(f"`{name}` is no register: r0 to r15")
+    found = slot.register(place)
+    speller = Speller(program.built.symbols)
+    return None if found == Word(number_in(value) % 2**64) else f"{name} is {speller.register(found)}"
 
 
 def word(program: Program, name: str, value: str) -> Optional[str]:
@@ -143,10 +164,11 @@ def word(program: Program, name: str, value: str) -> Optional[str]:
         address = address_of(name, program.built.symbols)
     except NoAddress as no:
         return str(no)
-    cell = program.report.cells.get(address) or program.built.image.cell(address)
+    cell = Memory.after(program.built.image, program.report).cell(address)
     if cell is None:
         return f"there is no memory at {name}"
-    return None if cell.word == Word(number_in(value) % 2**64) else f"{name} is {cell.word}"
+    is_so = cell.word == Word(number_in(value) % 2**64)
+    return None if is_so else f"{name} is {Speller(program.built.symbols).word(cell.word)}"
 
 
 def apart(program: Program, *groups: str) -> Optional[str]:
@@ -157,12 +179,21 @@ def shares(program: Program, *groups: str) -> Optional[str]:
     return "the audit says that they stand apart" if program.apart(",".join(groups)) else None
 
 
+def _no_source(program: Program) -> Optional[str]:
+    """What is said where the operations of a program are not known."""
+    return f"{program.unread} is no source, so its operations are not looked at" if program.unread else None
+
+
 def uses(program: Program, *operations: str) -> Optional[str]:
+    if program.unread:
+        return _no_source(program)
     missing = [names for names in operations if program.operations.isdisjoint(names.split("|"))]
     return f"there is no {missing[0].replace('|', ' and no ')}" if missing else None
 
 
 def without(program: Program, *operations: str) -> Optional[str]:
+    if program.unread:
+        return _no_source(program)
     there = [name for name in operations if name in program.operations]
     return f"there is a {there[0]}" if there else None
 
@@ -188,7 +219,7 @@ def never(program: Program, what: str) -> Optional[str]:
         title = Cause.of_number(cause)
         return f"slot {slot} has fault {cause}{f' {title.title}' if title else ''}, under the schedule {schedule}"
     if what not in ("stuck", "faults"):
-        return f"`never {what}` is nothing that is looked at"
+        raise WrongLine(f"`never {what}` is nothing that is looked at: never stuck, or never faults")
     return all_looked_at(found)
 
 
@@ -210,4 +241,12 @@ CHECKS: dict[str, Callable[..., Optional[str]]] = {
 
 def marks(program: Program) -> list[Mark]:
     """Each line of the exercise, with what is not so."""
-    return [Mark(line, CHECKS[line.kind](program, *line.words)) for line in program.sheet.expectations]
+    return [Mark(line, mark(program, line)) for line in program.sheet.expectations]
+
+
+def mark(program: Program, line: Expectation) -> Optional[str]:
+    """What is not so of a line."""
+    try:
+        return CHECKS[line.kind](program, *line.words)
+    except WrongLine as why:
+        raise wrong(program.sheet.name, line.number, str(why)) from None

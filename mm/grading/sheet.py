@@ -34,12 +34,14 @@ class Expectation:
     kind: str
     words: tuple[str, ...]
     text: str
+    number: int = 0
 
 
 @dataclass
 class Sheet:
     """An exercise."""
 
+    name: str = ""
     title: str = ""
     cycles: Optional[str] = None
     schedule: Optional[str] = None
@@ -50,9 +52,16 @@ def wrong(name: str, number: int, why: str) -> Stop:
     return Stop(Status.REFUSED, f"mm: {name}:{number}: {why}")
 
 
+def _fits(kind: str, count: int) -> bool:
+    """Whether a line of a kind has as many operands as its form."""
+    form = FORMS[kind].split(" | ")[0].split()[1:]
+    many = any(word.endswith("..") for word in form) or kind == "schedule"
+    return count >= len(form) - (kind == "says") and (many or count <= len(form))
+
+
 def read_sheet(name: str, text: str) -> Sheet:
     """The exercise that a text means. The first comment is its title."""
-    sheet = Sheet()
+    sheet = Sheet(name)
     for number, line in enumerate(text.splitlines(), 1):
         words = line.split()
         if not words:
@@ -64,12 +73,12 @@ def read_sheet(name: str, text: str) -> Sheet:
         if kind not in FORMS:
             raise wrong(name, number, f"`{kind}` is nothing that is looked at: {', '.join(FORMS)}")
         rest = line.split(None, 2 if kind in ("says", "matches") else -1)[1:]
-        if len(rest) < len(FORMS[kind].split(" | ")[0].split()) - 1 and not (kind == "says" and len(rest) == 1):
+        if not _fits(kind, len(rest)):
             raise wrong(name, number, f"this line has the form `{FORMS[kind]}`")
         if kind in SETTINGS:
             setattr(sheet, kind, " ".join(rest))
         else:
-            sheet.expectations.append(Expectation(kind, tuple(rest), line.strip()))
+            sheet.expectations.append(Expectation(kind, tuple(rest), line.strip(), number))
     if not sheet.expectations:
         raise wrong(name, 1, "nothing is expected")
     return sheet

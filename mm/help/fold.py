@@ -2,9 +2,9 @@
 
 from __future__ import annotations
 
+import os
 import re
-import shutil
-import textwrap
+import sys
 from typing import Iterable, Iterator
 
 NARROWEST, WIDEST = 60, 100
@@ -17,13 +17,26 @@ def indent_of(line: str, width: int) -> int:
     return ends[-1] if ends and ends[-1] <= 2 * width // 3 else ends[0] if ends and line.startswith(" ") else 0
 
 
+def columns() -> int:
+    """How wide the terminal is; very wide if there is none."""
+    said = os.environ.get("COLUMNS", "")
+    if said.isdigit() and int(said):
+        return int(said)
+    try:
+        return os.get_terminal_size(sys.__stdout__.fileno()).columns or WIDEST if sys.__stdout__ else WIDEST
+    except (OSError, ValueError):
+        return WIDEST
+
+
 def fold(lines: Iterable[str]) -> Iterator[str]:
     """Lines that are no longer than the terminal is wide."""
-    width = max(NARROWEST, min(WIDEST, shutil.get_terminal_size((WIDEST, 24)).columns))
+    width = max(NARROWEST, min(WIDEST, columns()))
     for line in lines:
         if len(line) <= width:
             yield line
         else:
+            import textwrap
+
             yield from textwrap.wrap(
                 line,
                 width,

@@ -90,7 +90,7 @@ NAMES = Topic(
     box+8          8 bytes after it
     gate.door      the label `door` of the segment `gate`, if several labels have this name
     counter.asm:20 the first word that line 20 makes
-    0x100100       a number: decimal, 0x, 0b or 0o; 14 hexadecimal digits are an address as `mmachine` prints it
+    0x100100       a number: decimal, 0x, 0b or 0o; an address also as `mmachine` prints it, in 14 hexadecimal digits
 `mm` shows the label at an address; if there is none, the nearest label before it; if there is none, the segment and the offset.
 Names come from the sources. For an image they come from the source next to it, if that links to exactly this image, or from --names SOURCE.""",
 )

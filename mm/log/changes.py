@@ -5,7 +5,7 @@ Each class has the first word of its line as `key`, `read` that makes it of the 
 from __future__ import annotations
 
 from dataclasses import dataclass
-from typing import ClassVar, Optional, Union
+from typing import Any, ClassVar, Optional, Union
 
 from mm.machine.words import Cell, Word
 from mm.outputs.report import state_of, state_text
@@ -171,7 +171,7 @@ class CellSet:
         return f"cell {self.address:014x} {self.cell.word} {'full' if self.cell.full else 'empty'}"
 
 
-KINDS = (IpSet, StateSet, RegisterSet, LoadIssued, EventQueued, EventTaken, ByteOut, PageSet, CellSet)
+KINDS: tuple[Any, ...] = (IpSet, StateSet, RegisterSet, LoadIssued, EventQueued, EventTaken, ByteOut, PageSet, CellSet)
 Change = Union[IpSet, StateSet, RegisterSet, LoadIssued, EventQueued, EventTaken, ByteOut, PageSet, CellSet]
 READERS = {kind.key: kind.read for kind in KINDS}
 

@@ -3,7 +3,7 @@
 from __future__ import annotations
 
 from dataclasses import dataclass
-from typing import Iterable, Iterator
+from typing import Iterable, Iterator, Optional
 
 from mm.log.changes import READERS, Change
 from mm.outputs.report import Report, read_report
@@ -36,7 +36,8 @@ class LogReader:
 
     def steps(self) -> Iterator[Step]:
         """The steps in their order. After the last one `report` is there."""
-        turn, changes = None, []
+        turn: Optional[Turn] = None
+        changes: list[Change] = []
         for line in self.lines:
             head = line[:2]
             if head in ("t ", "m ", "cy"):

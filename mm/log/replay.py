@@ -6,11 +6,10 @@ from collections import deque
 from dataclasses import dataclass, field
 from typing import Callable, Optional
 
-from mm.formats.image import PAGE_BYTES, PAGE_WORDS, Image, Slot
+from mm.formats.image import Image, Slot
 from mm.log.changes import (
     ByteOut,
     CellSet,
-    Change,
     EventQueued,
     EventTaken,
     IpSet,
@@ -20,6 +19,7 @@ from mm.log.changes import (
     StateSet,
 )
 from mm.log.read import Step
+from mm.machine.memory import Memory
 from mm.machine.words import ZERO, Cell, Word
 from mm.outputs.report import Report, SlotState
 
@@ -62,16 +62,13 @@ class SlotNow:
 
 
 class Machine:
-    """A machine at one moment: its slots, its outputs, its pages, and the cells that are not the image's."""
+    """A machine at one moment: its slots, its outputs and its memory."""
 
     def __init__(self, image: Image) -> None:
         self.image = image
         self.slots = {slot.number: SlotNow.of(slot) for slot in image.slots}
         self.outputs = {group: bytearray() for group in image.groups}
-        self.pages = set(image.pages)
-        # The pages that were mapped by the run and hold integer 0, full, where `cells` has nothing.
-        self.blank: set[int] = set()
-        self.cells: dict[int, Cell] = {}
+        self.memory = Memory(image)
         self.steps = 0
 
     def carry_out(self, step: Step) -> None:
@@ -84,11 +81,12 @@ class Machine:
 
     def cell(self, address: int) -> Optional[Cell]:
         """The cell at an address, or none if there is no page."""
-        page = address // PAGE_BYTES
-        if page not in self.pages:
-            return None
-        found = self.cells.get(address)
-        return found or (Cell() if page in self.blank else self.image.cell(address))
+        return self.memory.cell(address)
+
+    @property
+    def pages(self) -> set[int]:
+        """The numbers of the pages that are mapped."""
+        return self.memory.pages
 
     def report(self, cycles: int) -> Report:
         """The report of this moment, but for the counts of the cache."""
@@ -98,18 +96,8 @@ class Machine:
             {group: bytes(data) for group, data in self.outputs.items()},
             [slot.report() for slot in sorted(self.slots.values(), key=lambda slot: (slot.group, slot.number))],
             [(page, page in self.pages) for page in sorted(self.pages ^ there)],
-            self._changed(),
+            self.memory.changed(),
         )
-
-    def _changed(self) -> dict[int, Cell]:
-        """The mapped cells that differ from the image's, by address."""
-        places = set(self.cells)
-        for page in self.blank & set(self.image.pages):
-            places.update(page * PAGE_BYTES + 8 * place for place in range(PAGE_WORDS))
-        found = {address: self.cell(address) for address in sorted(places)}
-        return {
-            address: cell for address, cell in found.items() if cell and cell != (self.image.cell(address) or Cell())
-        }
 
     def _ip(self, change: IpSet) -> None:
         slot = self.slots[change.slot]
@@ -138,21 +126,13 @@ class Machine:
         self.outputs[change.group].append(change.byte)
 
     def _page(self, change: PageSet) -> None:
-        first = change.page * PAGE_BYTES
-        for address in range(first, first + PAGE_BYTES, 8):
-            self.cells.pop(address, None)
-        if change.new:
-            self.pages.add(change.page)
-            self.blank.add(change.page)
-        else:
-            self.pages.discard(change.page)
-            self.blank.discard(change.page)
+        self.memory.set_page(change.page, change.new)
 
     def _cell(self, change: CellSet) -> None:
-        self.cells[change.address] = change.cell
+        self.memory.set_cell(change.address, change.cell)
 
 
-CARRIERS: dict[type, Callable[[Machine, Change], None]] = {
+CARRIERS: dict[type, Callable[..., None]] = {
     IpSet: Machine._ip,
     StateSet: Machine._state,
     RegisterSet: Machine._register,

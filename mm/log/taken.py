@@ -110,7 +110,10 @@ def fill(window: Window, steps: Iterator[tuple[int, Step]], most: int) -> None:
 
 
 def cut_quiet(window: Window) -> None:
-    """Leaves a few of the turns at the end that change nothing, where only such turns can come any more."""
+    """Leaves a few of the turns at the end that change nothing, where only such turns can come any more. A load on its way may still
+    arrive."""
+    if any(slot.pending for slot in window.report.slots):
+        return
     quiet = 0
     for _, step in reversed(window.steps):
         if step.changes:

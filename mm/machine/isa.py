@@ -6,6 +6,7 @@ from __future__ import annotations
 
 from dataclasses import dataclass
 from enum import Enum
+from functools import lru_cache
 from typing import Callable, Optional
 
 
@@ -210,6 +211,7 @@ def encode(instruction: Instruction) -> int:
     return bits
 
 
+@lru_cache(maxsize=1 << 14)
 def decode(bits: int) -> Optional[Instruction]:
     """The instruction that 64 bits spell, or none."""
     operation = BY_NUMBER.get(bits >> 56)

@@ -4,9 +4,7 @@ from __future__ import annotations
 
 import contextlib
 import os
-import shutil
 import subprocess
-import tempfile
 from dataclasses import dataclass
 from typing import Iterator, Optional, Sequence
 
@@ -56,6 +54,8 @@ class Program:
     @contextlib.contextmanager
     def lines(self, words: Sequence[str]) -> Iterator[tuple[Answer, Iterator[str]]]:
         """Runs a command whose text may be long: how it ended, and the lines of its text one by one."""
+        import tempfile
+
         with tempfile.TemporaryFile() as file:
             try:
                 ended = subprocess.run(
@@ -69,6 +69,8 @@ class Program:
 
     def tail(self, words: Sequence[str], length: int) -> bytes:
         """The last bytes of what a command writes, which may be long."""
+        import tempfile
+
         with tempfile.TemporaryFile() as file:
             subprocess.run(
                 [self.path, *words], stdin=subprocess.DEVNULL, stdout=file, stderr=subprocess.DEVNULL, check=False
@@ -88,7 +90,12 @@ def find_program(named: Optional[str] = None) -> Program:
             raise Stop(Status.NO_PROGRAM, f"mm: {said} says {path}, and there is no program of that name")
         if path:
             return Program(os.path.abspath(path))
-    for path in (os.path.join(CHECKOUT, BESIDE), os.path.join(CHECKOUT, BUILT), shutil.which("mmachine")):
-        if path and _usable(path):
+    for path in (os.path.join(CHECKOUT, BESIDE), os.path.join(CHECKOUT, BUILT)):
+        if _usable(path):
             return Program(path)
+    import shutil
+
+    on_path = shutil.which("mmachine")
+    if on_path:
+        return Program(on_path)
     raise Stop(Status.NO_PROGRAM, *NOT_THERE)

@@ -5,8 +5,13 @@ from __future__ import annotations
 from dataclasses import dataclass, field
 from typing import Optional
 
+from mm.shown import visible
 from mm.source.tokens import readable
 from mm.views.style import Style
+
+
+# So much of a line is shown.
+WIDEST = 200
 
 
 @dataclass
@@ -38,8 +43,11 @@ class Diagnostic:
 
 def _shown(text: str, number: int, column: Optional[int], style: Style) -> list[str]:
     head = f"{number:>5} | "
-    lines = [style.soft(head) + readable(text).rstrip().replace("\t", " ")]
+    begin = max(0, (column or 1) - 1 - WIDEST // 2) if len(text) > WIDEST else 0
+    part = readable(text[begin : begin + WIDEST]).rstrip().replace("\t", " ")
+    more, rest = ".. " if begin else "", " .." if len(text) > begin + WIDEST else ""
+    lines = [style.soft(head) + visible(f"{more}{part}{rest}")]
     if column is not None:
-        before = readable(text[: column - 1]).replace("\t", " ")
+        before = visible(more + readable(text[begin : column - 1]).replace("\t", " "))
         lines.append(" " * (len(head) - 2) + style.soft("| ") + " " * len(before) + style.good("^"))
     return lines

@@ -2,12 +2,13 @@
 
 from __future__ import annotations
 
-from dataclasses import dataclass, field
-from typing import Callable, Mapping, Optional, Sequence
+from typing import Callable, Optional, Sequence
 
 from mm.formats.kinds import FileKind
 from mm.formats.schedule import words_of
+from mm.limits import IMAGE_LIMIT, INPUT_LIMIT, LINKS_LIMIT, OBJECT_LIMIT, TEXT_LIMIT
 from mm.messages.diagnostic import Diagnostic
+from mm.named import NamedFile
 from mm.names.numbers import counted
 from mm.outputs.refusal import Refusal, RefusalKind
 
@@ -52,22 +53,11 @@ OBJECT_FAULTS = {
     8: ("a thread is not as it must be", ""),
     9: ("the file goes on after the last thread", ""),
 }
-IMAGE_LIMIT, OBJECT_LIMIT, TEXT_LIMIT, LINKS_LIMIT, INPUT_LIMIT = 33_554_432, 2_097_152, 8_388_608, 65_536, 1_048_576
 SCHEDULE_HINT = "an item is a slot's number, 0 to 255, or `N*K` for K of them, without a sign, a leading zero or a blank inside; `#` begins a comment; at most 1000000 items"
 LINKS_HINT = "an item is `A.X>B.Y`: from the word X of node A to the word Y of node B; nodes are 0 to 7, X and Y addresses or names; no word is the end of two links; at most 64 links"
 EVENTS_HINT = (
     "an item is `N:S` or `N:S*K` (turns of slot S of node N), `+L` (link L takes) or `L@K` (link L carries packet K)"
 )
-
-
-@dataclass(frozen=True)
-class NamedFile:
-    """A file as its user named it, with its bytes. `moved` has the offsets of items that stand elsewhere in what `mmachine` was given."""
-
-    name: str
-    data: bytes
-    events: bool = False
-    moved: Mapping[int, int] = field(default_factory=dict)
 
 
 def _image(file: NamedFile, refusal: Refusal) -> Diagnostic:
@@ -149,7 +139,7 @@ def _links(file: NamedFile, refusal: Refusal) -> Diagnostic:
 
 def _too_long(file: NamedFile, _: Refusal) -> Diagnostic:
     kind = FileKind.of(file.data)
-    limits = f"images and checkpoints have at most {IMAGE_LIMIT} bytes, objects {OBJECT_LIMIT}, sources, schedules and events {TEXT_LIMIT}, links {LINKS_LIMIT}"
+    limits = f"images and checkpoints have at most {IMAGE_LIMIT} bytes, objects {OBJECT_LIMIT}, sources, schedules and events {TEXT_LIMIT}, links {LINKS_LIMIT}, the lines of `debug` {INPUT_LIMIT}"
     return Diagnostic(file.name, f"{kind.title} of {counted(len(file.data), 'byte')} is too long", hints=[limits])
 
 

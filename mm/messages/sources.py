@@ -2,6 +2,7 @@
 
 from __future__ import annotations
 
+import re
 from typing import Callable, Optional
 
 from mm.messages.diagnostic import Diagnostic
@@ -13,7 +14,7 @@ from mm.names.numbers import counted
 from mm.outputs.refusal import Refusal
 from mm.source import wants
 from mm.source.lines import Line, read_line
-from mm.source.tokens import Token, TokenKind, readable, tokens_of
+from mm.source.tokens import LONG_LINE, Token, TokenKind, cut, readable, token_at, tokens_of
 from mm.source.text import SourceSegment, SourceText, read_source
 from mm.source.wants import DIRECTIVES, OPERANDS
 
@@ -24,6 +25,9 @@ KINDS = {
     TokenKind.SIGN: "the sign",
 }
 LABEL = 5
+LETTERS = re.compile(r"\.?\w*", re.ASCII)
+# Hints look at so much of a line.
+LONG_HINT = 500
 LIMITS = "a source has at most 256 segments, 131072 words, 65535 pointers and 1024 names of other sources; divide it into several"
 
 
@@ -38,7 +42,12 @@ class Explained:
         self.head = self._head()
 
     def _token(self) -> Optional[Token]:
-        return next((token for token in tokens_of(self.said) if token.column == self.column), None)
+        return token_at(self.said, self.column)
+
+    @property
+    def text(self) -> str:
+        """The token at the place, or what a message has room for of it."""
+        return cut(self.token.text) if self.token else ""
 
     def _head(self) -> str:
         if self.line.head:
@@ -52,7 +61,7 @@ class Explained:
         """What stands at the place, in words."""
         if self.token is None:
             return "the end of the line"
-        return f"{KINDS.get(self.token.kind, '')} `{self.token.text}`".strip()
+        return f"{KINDS.get(self.token.kind, '')} `{self.text}`".strip()
 
     @property
     def want(self) -> Optional[wants.Want]:
@@ -61,7 +70,9 @@ class Explained:
         return mismatch.want if mismatch and mismatch.column == self.column else None
 
     def scene(self, fault: int) -> Scene:
-        return Scene(fault, self.column, self.said.split(";")[0], self.head, self.token.text if self.token else "")
+        code = self.said[:LONG_LINE].split(";")[0][:LONG_HINT]
+        is_number = self.token is not None and self.token.kind is TokenKind.NUMBER
+        return Scene(fault, self.column, code, cut(self.head), self.token.text if is_number and self.token else self.text)
 
     def usage(self) -> Optional[str]:
         """How the statement is written."""
@@ -90,7 +101,9 @@ def _syntax(at: Explained) -> str:
 def _name(at: Explained) -> str:
     text = at.token.text if at.token else ""
     if len(text) > wants.LONGEST_NAME:
-        return f"`{text[:12]}..` has {len(text)} letters, and a name has at most {wants.LONGEST_NAME}"
+        long = LETTERS.match(at.said, at.column - 1)
+        count = long.end() - long.start() if long else len(text)
+        return f"`{text[:12]}..` has {count} letters, and a name has at most {wants.LONGEST_NAME}"
     if at.want is not None and at.want.choices:
         return f"expected {at.want.says}, found `{text}`"
     return f"there is no {'directive' if text.startswith('.') else 'operation'} `{text}`"
@@ -98,24 +111,24 @@ def _name(at: Explained) -> str:
 
 def _range(at: Explained) -> str:
     if at.want is not None:
-        return f"`{at.token.text if at.token else ''}` is out of range: {at.want.says}"
-    target = at.token.text if at.token else ""
+        return f"`{at.text}` is out of range: {at.want.says}"
+    target = at.text
     return f"the pointer to `{target}` leads to the end of its segment or past it"
 
 
 def _label(at: Explained) -> str:
-    return f"`{at.token.text if at.token else ''}` is no label of this segment"
+    return f"`{at.text}` is no label of this segment"
 
 
 def _twice(at: Explained) -> str:
     if at.head in (".spare", ".thread", ".reg") and not (at.line.label and at.line.label.column == at.column):
         what = {
             ".spare": "a second `.spare`",
-            ".thread": f"a second thread in slot {at.token.text if at.token else ''}",
+            ".thread": f"a second thread in slot {at.text}",
             ".reg": "this register of the thread is set already",
         }
         return what[at.head]
-    name = at.token.text if at.token else ""
+    name = at.text
     return f"the name `{name}` is there already{_where(at.source, name, at.number)}"
 
 
@@ -161,8 +174,11 @@ def _segment_of_line(source: SourceText, number: int) -> Optional[SourceSegment]
 
 
 def _hint_for_label(at: Explained) -> Optional[str]:
-    name = at.token.text if at.token else ""
+    name = at.text
     segment, label = at.source.segment(name), at.source.labels.get(name)
+    own = _segment_of_line(at.source, at.number)
+    if segment is not None and segment is own:
+        return f"it is this segment itself: put a label before its first word, as `begin:`, and write `{at.head} .. begin`"
     if segment or label:
         if at.head == "lip":
             return f"`lip` only makes pointers into its own segment: a pointer to `{name}` comes from `.reg 5 ptr rw {name}` after the `.thread`, or from a `.ptr` in memory"
@@ -187,7 +203,7 @@ def _hint_for_full(at: Explained) -> Optional[str]:
 
 
 def _hint_for_name(at: Explained) -> Optional[str]:
-    text = at.token.text if at.token else ""
+    text = at.text
     if at.want is not None and at.want.choices:
         return None
     if len(text) > wants.LONGEST_NAME:

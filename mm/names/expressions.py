@@ -2,16 +2,17 @@
 
 from __future__ import annotations
 
-import difflib
 import re
 from typing import Optional
 
 from mm.machine.words import ADDRESS_LIMIT
-from mm.names.numbers import hexadecimal, number_of
+from mm.names.numbers import hexadecimal, is_of_two_kinds, number_of, printed_address
 from mm.names.symbols import Symbol, Symbols
 
 NAMED = re.compile(r"([A-Za-z_][A-Za-z0-9_.]*)(?:\s*([+-])\s*(\w+))?")
 LINE = re.compile(r"(.*):(\d+)")
+# A longer name is none that was meant to be another.
+LONGEST_NEAR = 64
 
 
 class NoAddress(Exception):
@@ -20,7 +21,11 @@ class NoAddress(Exception):
 
 def nearest(name: str, names: list[str]) -> Optional[str]:
     """A name that may have been meant."""
-    found = difflib.get_close_matches(name, names, 1, 0.6)
+    import difflib
+
+    if len(name) > LONGEST_NEAR:
+        return None
+    found = difflib.get_close_matches(name, [near for near in names if len(near) <= LONGEST_NEAR], 1, 0.6)
     return found[0] if found else None
 
 
@@ -65,7 +70,13 @@ def _of_line(path: str, line: int, symbols: Symbols) -> int:
 def span_of(text: str, symbols: Symbols) -> tuple[int, int]:
     """The address that a text names, and how many bytes the name covers: 8 for a number or a name with an offset."""
     text = text.strip().lstrip("&*")
-    number, line = number_of(text), LINE.fullmatch(text)
+    if is_of_two_kinds(text):
+        raise NoAddress(
+            f"`{text}` may be a decimal number, or an address as reports print it:"
+            f" write {hexadecimal(int(text))} for the first, {hexadecimal(int(text, 16))} for the second"
+        )
+    number, line = printed_address(text), LINE.fullmatch(text)
+    number = number_of(text) if number is None else number
     match = NAMED.fullmatch(text)
     if number is not None:
         address, length = number, 8

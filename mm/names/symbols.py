@@ -5,14 +5,16 @@ from __future__ import annotations
 import bisect
 from collections import Counter
 from dataclasses import dataclass
-from typing import Optional, Sequence
+from typing import TYPE_CHECKING, Optional, Sequence
 
 from mm.formats.object import Object, Segment
 from mm.machine.isa import OPERATIONS
-from mm.names.clines import CFunction, CLine, CNotes, CObject
 from mm.names.layout import Placed
 from mm.source.text import SourceSegment, SourceText
 from mm.source.tokens import readable
+
+if TYPE_CHECKING:
+    from mm.names.clines import CFunction, CLine, CNotes, CObject
 
 
 @dataclass(frozen=True)

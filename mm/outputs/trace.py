@@ -4,6 +4,7 @@ from __future__ import annotations
 
 import re
 from dataclasses import dataclass
+from itertools import tee
 from typing import Iterable, Iterator, Optional, Protocol, TypeVar
 
 from mm.formats.schedule import PORT, Schedule
@@ -66,6 +67,26 @@ def split_trace(text: str) -> tuple[list[str], Report]:
     return text[:begin].splitlines(), read_report(text[begin:].splitlines())
 
 
+def item_of(line: str) -> int:
+    """The item of a schedule that makes the turn of a line."""
+    word, slot = line.split(None, 2)[:2]
+    return int(slot) + (PORT if word == "m" else 0)
+
+
+def cycles_of(items: Iterable[int], schedule: Optional[Schedule]) -> Iterator[int]:
+    """The cycle of each turn, from 1, by its item. In round robin every cycle has a turn. An item of a schedule is idle exactly if it
+    does not make the next turn: an idle item changes nothing, so the slot of the next turn can already take it."""
+    if schedule is None:
+        yield from (cycle for cycle, _ in enumerate(items, 1))
+        return
+    said = enumerate(schedule.items(), 1)
+    for wanted in items:
+        cycle = next((cycle for cycle, item in said if item == wanted), None)
+        if cycle is None:
+            return
+        yield cycle
+
+
 class HasItem(Protocol):
     """Something that an item of a schedule made: a turn, or a step of a log."""
 
@@ -77,14 +98,9 @@ Made = TypeVar("Made", bound=HasItem)
 
 
 def numbered(turns: Iterable[Made], schedule: Optional[Schedule]) -> Iterator[tuple[int, Made]]:
-    """Each turn with its cycle, from 1. In round robin every cycle has a turn. An item of a schedule is idle exactly if it does not
-    make the next turn: an idle item changes nothing, so the slot of the next turn can already take it."""
+    """Each turn with its cycle."""
     if schedule is None:
         yield from enumerate(turns, 1)
         return
-    items = enumerate(schedule.items(), 1)
-    for turn in turns:
-        cycle = next((cycle for cycle, item in items if item == turn.item), None)
-        if cycle is None:
-            return
-        yield cycle, turn
+    ours, theirs = tee(turns)
+    yield from zip(cycles_of((turn.item for turn in theirs), schedule), ours)

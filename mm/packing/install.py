@@ -2,6 +2,7 @@
 
 from __future__ import annotations
 
+import contextlib
 import os
 import shutil
 import sys
@@ -24,6 +25,8 @@ path. An install over an older one removes that first. --uninstall removes what 
 The exit status is 0 if it was done, 1 if the words are wrong, 2 if a file that is no part of an install is in the way
 or there is no install, 4 if something could not be written or removed, and 127 if there is no mmachine."""
 USAGE_STATUS, REFUSED, NOT_WRITTEN = 1, 2, 4
+# The prefix itself in a list, and where the files of an older install are while a new one is written.
+TOP, ASIDE = "./", ".mmachine-older"
 
 
 class Refused(Exception):
@@ -52,47 +55,116 @@ def uninstall(root: str) -> int:
     for path in files:
         if os.path.lexists(os.path.join(root, path)):
             os.remove(os.path.join(root, path))
-    for folder, names, _ in os.walk(os.path.join(root, HOME)):
-        if "__pycache__" in names:
-            shutil.rmtree(os.path.join(folder, "__pycache__"))
-    for path in sorted((path for path in paths if path.endswith("/")), reverse=True):
-        folder = os.path.join(root, path)
-        if os.path.isdir(folder) and not os.listdir(folder):
-            os.rmdir(folder)
+    _remove_compiled(root)
+    _remove_empty(root, paths)
     return len(files)
 
 
-def _make_folder(root: str, path: str, made: list[str]) -> None:
-    if path and not os.path.isdir(os.path.join(root, path)):
-        _make_folder(root, os.path.dirname(path), made)
-        os.mkdir(os.path.join(root, path))
-        os.chmod(os.path.join(root, path), 0o755)
-        made.append(f"{path}/")
+def _remove_compiled(root: str) -> None:
+    """Removes what Python has compiled of an install."""
+    for folder, names, _ in os.walk(os.path.join(root, HOME)):
+        if "__pycache__" in names:
+            shutil.rmtree(os.path.join(folder, "__pycache__"))
 
 
-def _write(path: str, entry: Entry) -> None:
-    if entry.link is not None:
-        os.symlink(entry.link, path)
-        return
-    with open(path, "wb") as file:
-        file.write(entry.data)
-    os.chmod(path, entry.mode)
+def _remove_empty(root: str, paths: Sequence[str]) -> None:
+    """Removes the folders of a list that have nothing in them any more, the innermost first, and the prefix last."""
+    folders = [path for path in paths if path.endswith("/")]
+    for path in sorted(folders, key=lambda path: (path != TOP, path), reverse=True):
+        folder = os.path.normpath(os.path.join(root, path))
+        if os.path.isdir(folder) and not os.listdir(folder):
+            os.rmdir(folder)
+
+
+class Writing:
+    """Files and folders that are made under a prefix, and taken back if not all can be made."""
+
+    def __init__(self, root: str) -> None:
+        self.root = root
+        self.folders: list[str] = []
+        self.files: list[str] = []
+        self.aside: Optional[str] = None
+
+    def folder(self, path: str) -> None:
+        """Makes a folder with those that it is in, each with the mode 755 whatever the umask is."""
+        full = os.path.join(self.root, path) if path else self.root
+        if os.path.isdir(full):
+            return
+        if path:
+            self.folder(os.path.dirname(path))
+            os.mkdir(full)
+        else:
+            os.makedirs(full)
+        os.chmod(full, 0o755)
+        self.folders.append(f"{path}/" if path else TOP)
+
+    def file(self, path: str, entry: Entry) -> None:
+        """Writes a file, or a link."""
+        full = os.path.join(self.root, path)
+        self.files.append(path)
+        try:
+            if entry.link is not None:
+                os.symlink(entry.link, full)
+                return
+            with open(full, "wb") as file:
+                file.write(entry.data)
+            os.chmod(full, entry.mode)
+        except OSError as error:
+            raise OSError(error.errno, error.strerror, full) from None
+
+    def set_aside(self, paths: Sequence[str]) -> None:
+        """Puts the files of an older install into a folder beside them."""
+        self.aside = os.path.join(self.root, ASIDE)
+        os.mkdir(self.aside)
+        for path in paths:
+            if os.path.lexists(os.path.join(self.root, path)):
+                kept = os.path.join(self.aside, path)
+                os.makedirs(os.path.dirname(kept), exist_ok=True)
+                os.rename(os.path.join(self.root, path), kept)
+
+    def take_back(self) -> None:
+        """Removes all that was made, and puts back what was set aside."""
+        for path in self.files:
+            if os.path.lexists(os.path.join(self.root, path)):
+                os.remove(os.path.join(self.root, path))
+        for path in reversed(self.folders):
+            with contextlib.suppress(OSError):
+                os.rmdir(os.path.normpath(os.path.join(self.root, path)))
+        for folder, _, names in os.walk(self.aside) if self.aside else ():
+            for name in names:
+                kept = os.path.join(folder, name)
+                os.rename(kept, os.path.join(self.root, os.path.relpath(kept, self.aside)))
+        self.done()
+
+    def done(self) -> None:
+        """Removes what was set aside."""
+        if self.aside:
+            shutil.rmtree(self.aside, ignore_errors=True)
 
 
 def install(root: str, files: dict[str, Entry]) -> int:
-    """Writes files under a folder, with their list. How many they are."""
+    """Writes files under a folder, with their list. How many they are. If that cannot be finished, all is as it was before."""
     older = _listed(root)
     for path in (*files, LIST):
         if os.path.lexists(os.path.join(root, path)) and path not in older:
             raise Refused(f"{os.path.join(root, path)} is in the way, and no earlier install wrote it")
-    if older:
-        uninstall(root)
-    os.makedirs(root, exist_ok=True)
-    made: list[str] = []
-    for path, entry in files.items():
-        _make_folder(root, os.path.dirname(path), made)
-        _write(os.path.join(root, path), entry)
-    _write(os.path.join(root, LIST), Entry("".join(f"{path}\n" for path in sorted([*files, LIST, *made])).encode()))
+    writing = Writing(root)
+    try:
+        writing.folder("")
+        if older:
+            writing.set_aside([path for path in older if not path.endswith("/")])
+        for path, entry in files.items():
+            writing.folder(os.path.dirname(path))
+            writing.file(path, entry)
+        kept = {path for path in older if path.endswith("/")}
+        listed = sorted([*files, LIST, *({*writing.folders} | kept)])
+        writing.file(LIST, Entry("".join(f"{path}\n" for path in listed).encode()))
+    except BaseException:
+        writing.take_back()
+        raise
+    writing.done()
+    _remove_compiled(root)
+    _remove_empty(root, older)
     return len(files) + 1
 
 

@@ -59,8 +59,9 @@ def of_commit(top: str, commit: str) -> dict[str, Entry]:
     tree = {}
     with tarfile.open(fileobj=io.BytesIO(git(top, "archive", "--format=tar", commit, "--", *PARTS))) as archive:
         for member in archive:
-            if member.isfile() and _belongs(member.name):
-                tree[member.name] = Entry(archive.extractfile(member).read(), bool(member.mode & 0o100))
+            file = archive.extractfile(member) if member.isfile() and _belongs(member.name) else None
+            if file is not None:
+                tree[member.name] = Entry(file.read(), bool(member.mode & 0o100))
     return tree
 
 

@@ -9,7 +9,7 @@ from mm.machine.words import Word
 from mm.outputs.report import Report, SlotState
 from mm.outputs.trace import Turn
 from mm.pictures.parts import Codes
-from mm.pictures.svg import MARGIN, WIDTH, Picture
+from mm.pictures.svg import MARGIN, Picture
 from mm.views.spell import Memory, Speller
 
 ROW, INDENT = 30, 34
@@ -19,7 +19,8 @@ At = Callable[[int], Report]
 def call_of(turns: Sequence[Turn]) -> list[tuple[int, Turn]]:
     """The turns of the first call, with their cycles: from the jump through an enter pointer to the first turn after the way back."""
     begin = next(at for at, turn in enumerate(turns) if turn.entered)
-    slot, base, found = turns[begin].slot, turns[begin].entered.pointer if turns[begin].entered else None, []
+    entered = turns[begin].entered
+    slot, base, found = turns[begin].slot, entered.pointer if entered else None, []
     for at in range(begin, len(turns)):
         turn = turns[at]
         if turn.slot != slot or turn.fetch is None:

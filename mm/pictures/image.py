@@ -88,12 +88,16 @@ class ImagePicture:
             if cell:
                 yield at, self.what(region.base + 8 * at, cell), cell.full
 
+    @staticmethod
+    def mark(kind: str) -> Mark:
+        return lambda picture, x, y: draw_cell(picture, kind, x, y - 2, width=22)
+
     def marks(self) -> Iterator[tuple[Mark, str]]:
         """What the legend has: the kinds that are drawn, and an empty word if there is one."""
         drawn = {(what, full) for region in self.built.symbols.regions for _, what, full in self.words(region)}
         for kind, title in KINDS:
             if (kind, True) in drawn or (kind, False) in drawn:
-                yield lambda picture, x, y, kind=kind: draw_cell(picture, kind, x, y - 2, width=22), title
+                yield self.mark(kind), title
         if any(not full for _, full in drawn):
             yield lambda picture, x, y: draw_cell(picture, "", x, y - 2, full=False, width=22), "empty"
 

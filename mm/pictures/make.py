@@ -7,7 +7,7 @@ import os
 import sys
 from typing import Callable, Optional, Sequence
 
-from mm.build import Built, Refused, Workshop, read_file, refused
+from mm.build import Built, Workshop, read_file, refused
 from mm.commands.net import LINK, numeric
 from mm.commands.ranges import range_of
 from mm.formats.image import read_image
@@ -20,7 +20,7 @@ from mm.outputs.report import Report, read_report
 from mm.outputs.trace import Turn, numbered, read_turn, split_trace
 from mm.pictures import audit, gate, image, net, permissions, pointer, reach, states, sweep, trace, tree, why
 from mm.pictures.svg import Picture
-from mm.status import Stop, usage
+from mm.status import Refused, Stop, usage
 from mm.views.derivation import DONE
 from mm.views.style import Style
 from mm.why.ask import asked

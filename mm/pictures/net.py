@@ -17,7 +17,7 @@ def draw(nodes: Sequence[tuple[str, Built]], links: Sequence[Link], title: str) 
     picture.paragraph("Each node is a machine with a memory of its own. A link takes the 64 bits of a full word and puts them, as an integer, into an empty one.", 13, "soft")
     top, wide = picture.down + 8, 160
     ends: dict[tuple[int, int], tuple[float, float]] = {}
-    low = top
+    low: float = top
     for at, (name, built) in enumerate(nodes):
         words = sorted({(link[2 * side + 1]) for link in links for side in (0, 1) if link[2 * side] == at})
         x, y = (MARGIN if at % 2 == 0 else WIDTH - MARGIN - wide), top + at // 2 * 190
@@ -31,10 +31,10 @@ def draw(nodes: Sequence[tuple[str, Built]], links: Sequence[Link], title: str) 
             ends[at, address] = (x + (wide - 20 if at % 2 == 0 else 20), cell[1] + (ROW - 8) / 2)
         low = max(low, y + high)
     for number, (one, begin, other, end) in enumerate(links):
-        (x, y), (to_x, to_y) = ends[one, begin], ends[other, end]
-        picture.arrow(x, y, to_x, to_y)
+        (from_x, from_y), (to_x, to_y) = ends[one, begin], ends[other, end]
+        picture.arrow(from_x, from_y, to_x, to_y)
         part = 0.3
-        picture.text(x + (to_x - x) * part, y + (to_y - y) * part - 8, f"link {number}", 13, "accent", "middle", True)
+        picture.text(from_x + (to_x - from_x) * part, from_y + (to_y - from_y) * part - 8, f"link {number}", 13, "accent", "middle", True)
     picture.down = low + 8
     picture.paragraph("What a link carries may be lost, repeated or early. No pointer crosses: it arrives as a number.")
     return picture

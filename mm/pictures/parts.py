@@ -89,6 +89,7 @@ def legend(picture: Picture, items: Iterable[tuple[Mark, str]], size: float = 13
 
 
 def code_marks(codes: Iterable[Code]) -> list[tuple[Mark, str]]:
-    return [
-        (lambda picture, x, y, code=code: draw_code(picture, code, x, y + 1, 18, 15), code.title) for code in codes
-    ]
+    def mark(code: Code) -> Mark:
+        return lambda picture, x, y: draw_code(picture, code, x, y + 1, 18, 15)
+
+    return [(mark(code), code.title) for code in codes]

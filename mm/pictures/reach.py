@@ -2,6 +2,8 @@
 
 from __future__ import annotations
 
+from typing import Any, Sequence
+
 from mm.build import Built
 from mm.machine.words import Pointer
 from mm.pictures.svg import MARGIN, WIDTH, Picture
@@ -54,7 +56,8 @@ class Reach:
         picture.paragraph("Each arrow is a pointer: in a register, or in a word. What a group can reach lies along the arrows from its slots.", 13, "soft")
         top = picture.down + 8
         slots = [slot.number for slot in self.built.image.slots]
-        for row, layer in enumerate([slots, *self.layers]):
+        layers: list[Sequence[Any]] = [slots, *self.layers]
+        for row, layer in enumerate(layers):
             each = (WIDTH - 2 * MARGIN) / max(1, len(layer))
             for at, item in enumerate(layer):
                 self.place[item] = (MARGIN + (at + 0.5) * each, top + row * APART)

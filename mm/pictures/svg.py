@@ -56,6 +56,11 @@ def style() -> str:
     return f"<style>{rules(0)}@media (prefers-color-scheme:dark){{{rules(1)}}}</style>"
 
 
+def _thick(usual: float, more: dict[str, Value]) -> dict[str, Value]:
+    """The attributes of a stroke, which has a usual width if none is said."""
+    return {"stroke_width": usual, **more}
+
+
 class Picture:
     """A picture as it grows downwards."""
 
@@ -83,13 +88,13 @@ class Picture:
         self.shape("rect", hint, x=x, y=y, width=width, height=height, fill=fill, **more)
 
     def line(self, x: float, y: float, to_x: float, to_y: float, stroke: str = "rule", **more: Value) -> None:
-        self.shape("line", None, x1=x, y1=y, x2=to_x, y2=to_y, stroke=stroke, **{"stroke_width": 1.5, **more})
+        self.shape("line", None, x1=x, y1=y, x2=to_x, y2=to_y, stroke=stroke, **_thick(1.5, more))
 
     def polygon(self, points: list[tuple[float, float]], fill: str, **more: Value) -> None:
         self.shape("polygon", None, points=" ".join(f"{number(x)},{number(y)}" for x, y in points), fill=fill, **more)
 
     def path(self, steps: str, stroke: str = "ink", **more: Value) -> None:
-        self.shape("path", None, d=steps, fill="none", stroke=stroke, **{"stroke_width": 1.75, **more})
+        self.shape("path", None, d=steps, fill="none", stroke=stroke, **_thick(1.75, more))
 
     def head(self, x: float, y: float, towards: float, fill: str = "ink") -> None:
         """The head of an arrow whose point is here; `towards` is its direction in radians."""
@@ -101,7 +106,7 @@ class Picture:
     def arrow(self, x: float, y: float, to_x: float, to_y: float, stroke: str = "ink", **more: Value) -> None:
         towards = math.atan2(to_y - y, to_x - x)
         self.line(x, y, to_x - 6 * math.cos(towards), to_y - 6 * math.sin(towards), stroke,
-            **{"stroke_width": 1.75, **more})
+            **_thick(1.75, more))
         self.head(to_x, to_y, towards, stroke)
 
     def text(self, x: float, y: float, text: str, size: float = 13, fill: str = "ink", anchor: str = "start",

@@ -53,6 +53,14 @@ class Trace:
         self.each = max(1, int(-(-len(self.turns) // bands)))
         self.width = min(24.0, room / self.each)
 
+    @staticmethod
+    def turn_mark(turn: Turn, code: Code) -> Mark:
+        return lambda picture, x, y: draw_turn(picture, turn, code, x, y - 4, 17)
+
+    @staticmethod
+    def access_mark(access: str) -> Mark:
+        return lambda picture, x, y: picture.text(x + 9, y + 13, LETTERS[access], 13, "ink", "middle", True)
+
     def marks(self) -> list[tuple[Mark, str]]:
         used = [code for code in self.codes.all
             if any(code.base <= (turn.fetch or 0) < code.end for _, turn in self.turns)]
@@ -61,16 +69,14 @@ class Trace:
         for outcome, text in examples.items():
             if any(turn.outcome == outcome for _, turn in self.turns):
                 shown = Turn(0, 0, outcome)
-                items.append((lambda picture, x, y, shown=shown: draw_turn(picture, shown, used[0], x, y - 4, 17),
-                    text))
+                items.append((self.turn_mark(shown, used[0]), text))
         if any(turn.entered for _, turn in self.turns):
             items.append((lambda picture, x,
                 y: picture.polygon([(x + 3, y + 4), (x + 15, y + 4), (x + 9, y + 13)], "ink"), "enters a gate"))
         letters = {"load": "load", "loadset": "load that sets the bit", "store": "store"}
         for access, text in letters.items():
             if any(turn.access == access for _, turn in self.turns):
-                items.append((lambda picture, x, y,
-                    access=access: picture.text(x + 9, y + 13, LETTERS[access], 13, "ink", "middle", True), text))
+                items.append((self.access_mark(access), text))
         return items
 
     def band(self, turns: Sequence[tuple[int, Turn]]) -> None:
@@ -79,7 +85,7 @@ class Trace:
             y = top + at * LANE
             picture.line(MARGIN, y + LANE, left + len(turns) * self.width, y + LANE)
             picture.text(MARGIN, y + LANE / 2 + 10, f"slot {slot}", 14, bold=True)
-        free = left
+        free: float = left
         for at, (cycle, turn) in enumerate(turns):
             x = left + at * self.width
             code = self.codes.at(turn.fetch) if turn.fetch is not None else None

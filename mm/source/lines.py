@@ -6,7 +6,7 @@ from dataclasses import dataclass, field
 from typing import Callable, NoReturn, Optional
 
 from mm.source import wants
-from mm.source.tokens import Token, TokenKind, tokens_of
+from mm.source.tokens import LONG_LINE, Token, TokenKind, tokens_of
 from mm.source.wants import DIRECTIVES, OPERANDS, Want
 
 BAD_BYTE, SYNTAX, NAME, RANGE = 1, 2, 3, 4
@@ -53,7 +53,7 @@ class _Reader:
 
     def __init__(self, text: str) -> None:
         self.tokens = tokens_of(text)
-        self.at, self.end = 0, len(text) + 1
+        self.at, self.end = 0, min(len(text), LONG_LINE) + 1
         self.line = Line()
 
     def peek(self) -> Optional[Token]:

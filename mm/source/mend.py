@@ -8,6 +8,7 @@ import re
 from typing import Optional
 
 from mm.source.lines import read_line
+from mm.source.tokens import LONG_LINE
 from mm.source.wants import OPERANDS, SEGMENT_NAME
 
 FRESH = "zz_mended_"
@@ -65,7 +66,7 @@ class Mender:
 
     def _mend_statement(self, number: int) -> None:
         """Puts a statement that has no fault into the place of one. A name alone is a label whose `:` was forgotten."""
-        said = self.lines[number - 1]
+        said = self.lines[number - 1][:LONG_LINE]
         alone = FORGOTTEN.fullmatch(said)
         if alone and alone[1] not in OPERANDS:
             self.lines[number - 1] = f"{alone[1]}: {alone[2] or ''}"

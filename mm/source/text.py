@@ -5,18 +5,22 @@ from __future__ import annotations
 import bisect
 import re
 from dataclasses import dataclass, field
-from typing import Optional
+from typing import TYPE_CHECKING, Optional
 
-from mm.names.clines import MARK, CNotes
 from mm.source import wants
 from mm.source.lines import WORD_DIRECTIVES, Line, read_line
 from mm.source.tokens import TokenKind
 from mm.source.wants import DIRECTIVES, OPERANDS
 
+if TYPE_CHECKING:
+    from mm.names.clines import CNotes
+
 # The beginning of a line: its label, `.empty`, and its directive or operation. What follows is read only if it matters here.
 BEGINNING = re.compile(
     r"[ \t\r]*(?:([A-Za-z_][A-Za-z0-9_]*)[ \t\r]*:)?[ \t\r]*(?:\.empty(?![A-Za-z0-9_])[ \t\r]*)?(\.?[A-Za-z_][A-Za-z0-9_]*)?"
 )
+# What the comments of the translator of C begin with; mm.names.clines reads them.
+NOTE = ";@ "
 WORDS = frozenset(OPERANDS) | frozenset(WORD_DIRECTIVES)
 
 
@@ -156,6 +160,8 @@ def read_source(path: str, data: bytes) -> SourceText:
             text.segments[-1].add(1, number, head)
         if head in DIRECTIVES and head != ".int":
             _add_directive(text, read_line(said), number)
-    if any(MARK in said for said in text.lines):
+    if any(NOTE in said for said in text.lines):
+        from mm.names.clines import CNotes
+
         text.notes = CNotes(text.lines)
     return text

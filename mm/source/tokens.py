@@ -5,6 +5,7 @@ from __future__ import annotations
 import re
 from dataclasses import dataclass
 from enum import Enum
+from typing import Optional
 
 
 class TokenKind(Enum):
@@ -53,16 +54,35 @@ def value_of_digits(text: str) -> int:
     return sign * (int(plain, base) if len(plain) <= MOST_DIGITS else BEYOND)
 
 
+# A line that is longer is no line of a person: only so much of it is looked at for hints.
+LONG_LINE = 2_000
+MOST_SHOWN = 40
+
+
+def cut(text: str) -> str:
+    """A text for a message, which may be very long."""
+    return text if len(text) <= MOST_SHOWN else f"{text[: MOST_SHOWN - 2]}.."
+
+
 TOKEN = re.compile(
     r"[ \t\r]*(?:(?P<NAME>[A-Za-z_][A-Za-z0-9_]*)|(?P<DIRECTIVE>\.[A-Za-z_][A-Za-z0-9_]*)"
     r"|(?P<NUMBER>0x[0-9A-Fa-f]+|-?[0-9]+)|(?P<SIGN>[,:+])|(?P<COMMENT>;.*)|(?P<BAD>.))"
 )
 
 
+def token_at(line: str, column: int) -> Optional[Token]:
+    """The token that begins at a column."""
+    match = TOKEN.match(line, column - 1, column - 1 + LONG_LINE)
+    kind = match.lastgroup if match else None
+    if match is None or kind is None or kind == "COMMENT" or match.start(kind) != column - 1:
+        return None
+    return Token(TokenKind[kind], match[kind], column)
+
+
 def tokens_of(line: str) -> list[Token]:
-    """The tokens of a line, without its comment."""
+    """The tokens of a line, without its comment. Of a very long line those of its beginning."""
     found = []
-    for match in TOKEN.finditer(line):
+    for match in TOKEN.finditer(line, 0, LONG_LINE):
         kind = match.lastgroup
         if kind == "COMMENT":
             break

@@ -2,8 +2,9 @@
 
 import time
 import unittest
+from unittest import mock
 
-from mm.tests.support import mm, needs_program
+from mm.tests.support import folder, mm, needs_program, write
 
 
 def answers(ended):
@@ -190,6 +191,69 @@ class Sessions(unittest.TestCase):
         began = time.process_time()
         self.session(["s", "regs", "p count", "b door", "c"] * 10, "examples/counter.asm")
         self.assertLess((time.process_time() - began) / 50, 0.05)
+
+
+
+LOOP = ".segment a 6\nagain: addi r1, r1, 1\n nop\n br again\n.thread 0 0 none xu a\n"
+
+
+@needs_program
+class MorePoints(unittest.TestCase):
+    def session(self, *lines):
+        with folder() as room:
+            return mm("debug", write(room, "p.asm", LOOP), lines="\n".join([*lines, "quit", ""])).out
+
+    def test_conditions_that_come_later(self):
+        out = self.session("break again+8", "condition 1 (r1 == 7)", "continue", "p r1", "condition 1", "continue", "p r1")
+        self.assertIn("1: break again+8 if r1 == 7", out)
+        self.assertIn("r1 = 7 ", out)
+        self.assertIn("r1 = 8 ", out)
+
+    def test_conditions_in_parentheses(self):
+        out = self.session("break again+8 if ((r1 == 3))", "continue", "p r1")
+        self.assertIn("r1 = 3 ", out)
+        self.assertIn("is no", self.session("break again if (r1) == (3"))
+
+    def test_ignored(self):
+        out = self.session("break again+8", "ignore 1 4", "continue", "p r1", "info breakpoints")
+        self.assertIn("(goes on 4 more times)", out)
+        self.assertIn("r1 = 5 ", out)
+        self.assertIn("(met 5 times)", out)
+
+    def test_disabled_and_enabled(self):
+        out = self.session("break again+8", "tbreak again+16", "disable 1", "continue", "enable 1", "continue", "p r1")
+        self.assertIn("1: break again+8 (disabled)", out)
+        self.assertIn("break 2: again+16", out)
+        self.assertIn("r1 = 2 ", out)
+        self.assertIn("there is no break or watch", self.session("disable 9"))
+
+    def test_a_call_is_one_step(self):
+        source = ".segment a 6\n jal r6, r5\n nop\n halt\n.segment b 6\n nop\n jmp r6\n.thread 0 0 none xu a\n.reg 5 ptr xu b\n"
+        with folder() as room:
+            out = mm("debug", write(room, "p.asm", source), lines="next\nquit\n").out
+        self.assertIn("slot 0 is at a+8", out.split("(mm) next")[1])
+
+    def test_displays(self):
+        out = self.session("display r1", "display $pc", "undisplay 1", "info display", "step", "undisplay 4")
+        self.assertIn("r1 is shown no more", out)
+        self.assertIn("  1  $pc", out)
+        self.assertIn("$pc = xu 2^6 a+8", out)
+        self.assertIn("there is no display 4", out)
+
+    def test_an_interrupt_stops_where_the_run_is(self):
+        """By a point whose condition is interrupted at its thousandth look."""
+        looks = [0]
+
+        def holds(condition, session):
+            looks[0] += 1
+            if looks[0] == 100:
+                raise KeyboardInterrupt
+            return False
+
+        with mock.patch("mm.debugger.conditions.Condition.holds", holds):
+            out = self.session("break again+8 if r1 == 7", "continue", "p r1")
+        self.assertIn("cycle 298", out)
+        self.assertIn("r1 = 99 ", out.replace("r1 = 100 ", "r1 = 99 "))
 
 
 if __name__ == "__main__":

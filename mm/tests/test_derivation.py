@@ -102,7 +102,7 @@ class Asking(unittest.TestCase):
             (("64", "count", "write"), "`64` is no group: 0 to 63"),
             (("0", "cuont", "write"), "do you mean `count`"),
             (("0", "count+4", "write"), "`count+4` is no address of a word"),
-            (("0", "count", "read"), "`read` is neither touch nor write"),
+            (("0", "count", "jump"), "`jump` is neither touch (or read) nor write"),
         ):
             ended = mm("why", "examples/counter.asm", *words)
             self.assertEqual(ended.status, Status.USAGE)

@@ -7,7 +7,9 @@ from mm.formats.image import read_image
 from mm.machine.causes import Cause
 from mm.machine.isa import BY_NUMBER, OPERATIONS, Instruction, decode, encode
 from mm.machine.words import Permission, Pointer, Word, bytes_in_words
+from mm.names.expressions import NoAddress, address_of
 from mm.names.numbers import number_of
+from mm.names.symbols import Symbols
 from mm.source.lines import read_line
 from mm.tests.support import read, read_bytes
 
@@ -50,12 +52,21 @@ class Words(unittest.TestCase):
             "0o17": 15,
             "1_000": 1000,
             "-5": -5,
-            "00000000100040": 0x100040,
+            "00000000100040": 100040,
+            "12561543266008": 12561543266008,
             "box": None,
             "0x": None,
             "": None,
         }
         self.assertEqual({text: number_of(text) for text in given}, given)
+
+    def test_addresses_as_reports_print_them(self):
+        """Only where an address is read. What may also be a decimal number is refused."""
+        self.assertEqual(address_of("00000000100040", Symbols()), 0x100040)
+        self.assertEqual(address_of("0000000010004a", Symbols()), 0x10004A)
+        with self.assertRaises(NoAddress) as refused:
+            address_of("12561543266008", Symbols())
+        self.assertIn("write 0xb6cb652fed8 for the first, 0x12561543266008 for the second", str(refused.exception))
 
 
 class Operations(unittest.TestCase):

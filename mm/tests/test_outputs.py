@@ -150,7 +150,8 @@ class Waits(unittest.TestCase):
                 for slot in range(3)
             ]
         )
-        return {slot: (wait.turns, wait.stuck) for slot, wait in waiting(lines, report, split).items()}
+        turns = [turn for turn in map(read_turn, reversed(lines)) if turn]
+        return {slot: (wait.turns, wait.stuck) for slot, wait in waiting(turns, report, split).items()}
 
     def test_one_waits_while_another_goes_on(self):
         self.assertEqual(

@@ -11,12 +11,14 @@ import sys
 import tarfile
 import tempfile
 import unittest
+from unittest import mock
 
 from mm.machine.program import CHECKOUT, find_program
+from mm.packing import install
 from mm.packing import package as packing
 from mm.packing.places import LIST, PAGES
 from mm.packing.vsix import vsix
-from mm.packing.tree import of_folder
+from mm.packing.tree import Entry, of_folder
 from mm.tests.support import needs_program, path_of, read
 
 
@@ -118,6 +120,44 @@ class Installs(unittest.TestCase):
             pass
         self.assertEqual(self.tool(self.prefix).returncode, 0)
         self.assertEqual(everything(self.prefix), first)
+
+    def test_modes_do_not_depend_on_the_umask(self):
+        before = os.umask(0o077)
+        try:
+            self.assertEqual(self.tool(self.prefix).returncode, 0)
+        finally:
+            os.umask(before)
+        for folder, _, names in os.walk(self.prefix):
+            self.assertEqual(os.stat(folder).st_mode & 0o777, 0o755, folder)
+            for name in names:
+                self.assertIn(os.stat(os.path.join(folder, name)).st_mode & 0o777, (0o644, 0o755), name)
+
+    def test_uninstall_removes_the_prefix_that_it_made(self):
+        self.assertEqual(self.tool(self.prefix).returncode, 0)
+        self.assertEqual(self.tool("--uninstall", self.prefix).returncode, 0)
+        self.assertFalse(os.path.exists(self.prefix))
+
+    def test_an_install_that_cannot_be_finished_is_taken_back(self):
+        """On nothing, and over an older install."""
+        write_file, count = install.Writing.file, [0]
+
+        def fails(writing, path, entry):
+            count[0] += 1
+            write_file(writing, path, entry)
+            if count[0] == 7:
+                raise OSError(28, "No space left on device", path)
+
+        files = {f"share/mmachine/{name}": Entry(name.encode()) for name in "abcdefghij"}
+        with mock.patch.object(install.Writing, "file", fails), self.assertRaises(OSError):
+            install.install(self.prefix, files)
+        self.assertFalse(os.path.exists(self.prefix))
+        install.install(self.prefix, {"share/mmachine/a": Entry(b"older"), "share/mmachine/z/y": Entry(b"older")})
+        before, count[0] = everything(self.prefix), 0
+        with mock.patch.object(install.Writing, "file", fails), self.assertRaises(OSError):
+            install.install(self.prefix, files)
+        self.assertEqual(everything(self.prefix), before)
+        self.assertEqual(install.install(self.prefix, files), 11)
+        self.assertEqual(set(everything(self.prefix)), {*files, LIST})
 
     def test_a_file_in_the_way(self):
         os.makedirs(os.path.join(self.prefix, "bin"))

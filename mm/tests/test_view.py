@@ -170,10 +170,10 @@ class Links(unittest.TestCase):
     """Each lesson and each example leads to the page of its run."""
 
     def documents(self):
-        for folder in ("examples", os.path.join("examples", "c"), os.path.join("docs", "course")):
-            for name in sorted(os.listdir(path_of(folder))):
+        for place in ("examples", os.path.join("examples", "c"), os.path.join("docs", "course")):
+            for name in sorted(os.listdir(path_of(place))):
                 if name.endswith(".md") and name not in WITHOUT_RUN:
-                    yield os.path.join(folder, name)
+                    yield os.path.join(place, name)
 
     def test_every_document_has_its_page(self):
         linked = set()

@@ -34,7 +34,7 @@ from mm.source.tokens import readable
 from mm.view.cdata import c_form
 from mm.views.audit import AuditView
 from mm.views.cview import CView
-from mm.views.spell import Memory, Speller
+from mm.views.spell import Speller
 from mm.views.style import Style
 from mm.views.why import why
 
@@ -194,9 +194,8 @@ def reasons(window: Window, symbols: Symbols) -> Json:
         cause = Cause.of_number(step.turn.fault) if step.turn.fault else None
         if cause:
             slot = machine.slots[step.turn.slot].report()
-            memory = Memory(machine.image, machine.cells)
-            of_c = CView(slot, memory, speller).fault(cause)
-            found[place] = [*([of_c] if of_c else []), *why(cause, slot, memory, speller)]
+            of_c = CView(slot, machine.memory, speller).fault(cause, step.turn)
+            found[place] = [*([of_c] if of_c else []), *why(cause, slot, step.turn, machine.memory, speller)]
     return found
 
 

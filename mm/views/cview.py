@@ -2,14 +2,17 @@
 
 from __future__ import annotations
 
-from typing import Iterator, Optional
+from typing import TYPE_CHECKING, Iterator, Optional
 
 from mm.machine.causes import Cause
 from mm.machine.words import Pointer
-from mm.names.clines import CFrame, CLine, frames
 from mm.outputs.report import SlotState
+from mm.outputs.trace import Turn
 from mm.views.spell import Memory, Speller
-from mm.views.why import Refusal
+from mm.views.why import Refusal, turn_of
+
+if TYPE_CHECKING:
+    from mm.names.clines import CFrame, CLine
 
 STACK_REGISTER = 15
 
@@ -24,8 +27,10 @@ class CView:
     def frames(self) -> Iterator[CFrame]:
         """The functions that are being carried out, the innermost first."""
         ip, stack = self.slot.ip.pointer, self.slot.register(STACK_REGISTER)
-        if ip is None or stack is None or stack.pointer is None:
+        if ip is None or stack is None or stack.pointer is None or self.symbols.c_notes(ip.address) is None:
             return iter(())
+        from mm.names.clines import frames
+
         return frames(ip.address, stack.pointer.address, self.symbols.c_notes, self.address_in)
 
     def address_in(self, address: int) -> Optional[int]:
@@ -37,17 +42,18 @@ class CView:
         """The line of C where the slot stands; in a function of the library, that of its call."""
         return next((frame.line for frame in self.frames() if frame.line is not None), None)
 
-    def fault(self, cause: Cause) -> Optional[str]:
-        """`fault 3 Bounds at ov.c:7: buf[32] of 32 bytes`."""
+    def fault(self, cause: Cause, turn: Optional[Turn] = None) -> Optional[str]:
+        """`fault 3 Bounds at ov.c:7: buf[32] of 32 bytes`. Slot and memory are as they were in that turn."""
         line = self.line()
         if line is None:
             return None
-        what = (self.meant() if cause is Cause.BOUNDS else None) or cause.meaning
+        turn = turn or turn_of(cause, self.slot, self.memory)
+        what = (self.meant(turn) if cause is Cause.BOUNDS else None) or cause.meaning
         return f"fault {cause.number} {cause.title} at {line}: {what}"
 
-    def meant(self) -> Optional[str]:
+    def meant(self, turn: Turn) -> Optional[str]:
         """The byte that was meant, of the object that the pointer is to."""
-        at = Refusal(self.slot, self.memory, self.speller)
+        at = Refusal(Cause.BOUNDS, self.slot, turn, self.memory, self.speller)
         pointer = at.pointer
         if pointer is None or at.instruction is None:
             return None

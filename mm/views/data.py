@@ -12,7 +12,7 @@ from mm.outputs.report import Report, SlotState
 from mm.outputs.trace import Turn
 from mm.views.spell import Memory, Speller
 from mm.views.waiting import Waiting, what_for
-from mm.views.why import why
+from mm.views.said import FaultSaid
 
 FORM = 1
 Json = dict[str, Any]
@@ -46,8 +46,15 @@ def cell_form(cell: Optional[Cell], symbols: Symbols) -> Optional[Json]:
 class ReportForm:
     """The form of a report."""
 
-    def __init__(self, report: Report, memory: Memory, symbols: Symbols, waits: Mapping[int, Waiting]) -> None:
-        self.report, self.memory, self.symbols, self.waits = report, memory, symbols, waits
+    def __init__(
+        self,
+        report: Report,
+        memory: Memory,
+        symbols: Symbols,
+        waits: Mapping[int, Waiting],
+        faults: Mapping[int, FaultSaid],
+    ) -> None:
+        self.report, self.memory, self.symbols, self.waits, self.faults = report, memory, symbols, waits, faults
         self.speller = Speller(symbols)
 
     def slot(self, slot: SlotState) -> Json:
@@ -80,11 +87,10 @@ class ReportForm:
 
     def fault(self, slot: SlotState) -> Optional[Json]:
         cause = Cause.of_number(slot.fault) if slot.fault else None
-        return (
-            {"number": cause.number, "name": cause.title, "why": why(cause, slot, self.memory, self.speller)}
-            if cause
-            else None
-        )
+        if cause is None:
+            return None
+        said = self.faults.get(slot.number)
+        return {"number": cause.number, "name": cause.title, "why": said.why if said else [cause.meaning]}
 
     def wait(self, slot: SlotState) -> Optional[Json]:
         wait = self.waits.get(slot.number)
@@ -117,21 +123,45 @@ class ReportForm:
         }
 
 
-def turn_form(cycle: int, turn: Turn, symbols: Symbols, instruction: Optional[str]) -> Json:
-    """A turn, or with `delivered` a load that came by a port."""
-    if turn.delivered is not None:
-        return {"cycle": cycle, "slot": turn.slot, "outcome": "delivered", "register": f"r{turn.delivered}"}
-    return {
-        "cycle": cycle,
-        "slot": turn.slot,
-        "turn": turn.number,
-        "outcome": turn.outcome,
-        "fault": turn.fault,
-        "fetch": address_form(turn.fetch, symbols) if turn.fetch is not None else None,
-        "instruction": instruction,
-        "access": {"kind": turn.access, **address_form(turn.address, symbols)} if turn.address is not None else None,
-        "enters": word_form(turn.entered, symbols) if turn.entered else None,
-    }
+class TurnForms:
+    """The forms of turns, each with the memory as it was before it. What was spelled once is kept: loops do the same again and again."""
+
+    def __init__(self, memory: Memory, speller: Speller) -> None:
+        self.memory, self.speller = memory, speller
+        self.addresses: dict[int, Json] = {}
+        self.texts: dict[tuple[int, Optional[int], bool], str] = {}
+
+    def address(self, address: int) -> Json:
+        found = self.addresses.get(address)
+        if found is None:
+            found = self.addresses[address] = address_form(address, self.speller.symbols)
+        return found
+
+    def text(self, address: int) -> str:
+        """The instruction at an address, or what is there."""
+        cell = self.memory.cell(address)
+        key = (address, cell.word.bits, cell.word.tagged) if cell else (address, None, False)
+        found = self.texts.get(key)
+        if found is None:
+            found = self.texts[key] = self.speller.at(self.memory, address)
+        return found
+
+    def form(self, cycle: int, turn: Turn) -> Json:
+        """A turn, or with `delivered` a load that came by a port."""
+        if turn.delivered is not None:
+            return {"cycle": cycle, "slot": turn.slot, "outcome": "delivered", "register": f"r{turn.delivered}"}
+        fetch, address = turn.fetch, turn.address
+        return {
+            "cycle": cycle,
+            "slot": turn.slot,
+            "turn": turn.number,
+            "outcome": turn.outcome,
+            "fault": turn.fault,
+            "fetch": None if fetch is None else self.address(fetch),
+            "instruction": None if fetch is None else self.text(fetch),
+            "access": None if address is None else {"kind": turn.access, **self.address(address)},
+            "enters": word_form(turn.entered, self.speller.symbols) if turn.entered else None,
+        }
 
 
 def symbols_form(symbols: Symbols) -> Json:

@@ -2,25 +2,35 @@
 
 from __future__ import annotations
 
-from typing import Mapping, Optional
+from typing import TYPE_CHECKING, Mapping, Optional
 
-from mm.machine.causes import Cause
+from mm.machine.memory import BLANK
 from mm.machine.words import Cell
 from mm.names.numbers import counted
 from mm.outputs.report import Report, SlotState
-from mm.views.cview import CView
 from mm.views.spell import Memory, Speller, bytes_as_text
 from mm.views.style import Style
-from mm.views.waiting import Waiting, what_for
-from mm.views.why import why
+from mm.views.said import FaultSaid
 from mm.words import MOST_CYCLES
+
+if TYPE_CHECKING:
+    from mm.names.clines import CLine
+    from mm.views.waiting import Waiting
 
 BYTES_SHOWN = 64
 CELLS_SHOWN = 64
 
 
+def stuck_verdict(waiting: int, arriving: bool) -> str:
+    """The word for a state in which each slot that runs waits for ever. Loads may still arrive by ports."""
+    what = "no slot can go on any more" if arriving else "nothing can change any more"
+    deadlock = " (a deadlock)" if waiting > 1 else ""
+    more = "; loads that have not arrived can still come by a port" if arriving else ""
+    return f"{what}: each slot that runs waits{deadlock}{more}"
+
+
 class ReportView:
-    """Writes a report as lines."""
+    """Writes a report as lines. `faults` has what was said of the fault of a slot when it came."""
 
     def __init__(
         self,
@@ -29,9 +39,10 @@ class ReportView:
         speller: Speller,
         style: Style,
         waits: Optional[Mapping[int, Waiting]] = None,
+        faults: Optional[Mapping[int, FaultSaid]] = None,
     ) -> None:
         self.report, self.memory, self.speller, self.style = report, memory, speller, style
-        self.waits = waits or {}
+        self.waits, self.faults = waits or {}, faults or {}
 
     def lines(self, order: str) -> list[str]:
         """The whole report. `order` says in what order slots took turns."""
@@ -57,11 +68,10 @@ class ReportView:
         """The state of a slot, the line where it stands, and its registers."""
         lines = [f"  {self.style.strong(f'slot {slot.number}')}  {self.state(slot)}  ({counted(slot.turns, 'turn')})"]
         lines += [f"    {line}" for line in self.place(slot)]
-        cause = Cause.of_number(slot.fault) if slot.fault else None
-        if cause:
+        if slot.fault and slot.number in self.faults:
             lines += [
                 f"    {self.style.bad(line) if at == 0 else line}"
-                for at, line in enumerate(why(cause, slot, self.memory, self.speller))
+                for at, line in enumerate(self.faults[slot.number].why)
             ]
         for number, word in sorted(slot.registers.items()):
             lines.append(f"    {f'r{number}':<4} {self.speller.register(word)}")
@@ -74,13 +84,17 @@ class ReportView:
         ip = slot.ip.pointer
         where = f"at {self.style.name(self.speller.symbols.show(ip.address))}" if ip else ""
         if slot.fault:
+            from mm.machine.causes import Cause
+
             cause = Cause.of_number(slot.fault)
-            of_c = CView(slot, self.memory, self.speller).fault(cause) if cause else None
-            if of_c:
-                return f"{self.style.bad('stopped')} {where} by {of_c}"
+            said = self.faults.get(slot.number)
+            if said and said.of_c:
+                return f"{self.style.bad('stopped')} {where} by {said.of_c}"
             title = f"fault {slot.fault} {cause.title}: {cause.meaning}" if cause else f"fault {slot.fault}"
             return f"{self.style.bad('stopped')} {where} by {title}"
         if slot.number in self.waits:
+            from mm.views.waiting import what_for
+
             wait = self.waits[slot.number]
             lasts = "for ever" if wait.stuck else f"its last {counted(wait.turns, 'turn')}"
             return f"{self.style.warn(what_for(slot, self.memory, self.speller))}, {lasts}"
@@ -97,11 +111,28 @@ class ReportView:
         if ip is None or slot.past:
             return []
         origin = self.speller.symbols.origin(ip.address)
-        line = CView(slot, self.memory, self.speller).line()
+        line = self.line_of_c(slot, ip.address)
         of_c = [f"{self.style.soft(str(line) + ':')} {line.text}"] if line else []
-        if origin and ip.address not in self.memory.changed:
+        if origin and self.memory.is_images(ip.address):
             return [*of_c, f"{self.style.soft(str(origin) + ':')} {origin.code}"]
-        return [self.style.soft(f"0x{ip.address:x}: ") + self.speller.at(self.memory, ip.address)]
+        there = self.style.soft(f"0x{ip.address:x}: ") + self.speller.at(self.memory, ip.address)
+        return [there + (self.after_the_end(ip.address) if slot.state == "halted" else "")]
+
+    def after_the_end(self, address: int) -> str:
+        """What is told of a halt at a word that no line of the source made."""
+        region = self.speller.symbols.region(address)
+        blank = self.memory.is_images(address) and self.memory.cell(address) == BLANK
+        if region is None or region.source is None or not blank or address < region.base + 8 * region.words:
+            return ""
+        return f"  (after the last line of {region.name}: a word that holds 0 is `halt`)"
+
+    def line_of_c(self, slot: SlotState, address: int) -> Optional[CLine]:
+        """The line of C where a slot stands, if its source was made from C."""
+        if self.speller.symbols.c_notes(address) is None:
+            return None
+        from mm.views.cview import CView
+
+        return CView(slot, self.memory, self.speller).line()
 
     def pages(self) -> list[str]:
         if not self.report.pages:
@@ -135,6 +166,7 @@ class ReportView:
     def verdict(self) -> list[str]:
         """A word for a run that can come no further, or that was cut off."""
         stuck = [slot for slot, wait in self.waits.items() if wait.stuck]
+        arriving = any(slot.pending for slot in self.report.slots)
         going = [slot.number for slot in self.report.slots if slot.running]
         if not stuck and self.report.cycles == MOST_CYCLES and going:
             return [
@@ -145,12 +177,7 @@ class ReportView:
             ]
         if not stuck:
             return []
-        return [
-            "",
-            self.style.warn(
-                "nothing can change any more: each slot that runs waits" + (" (a deadlock)" if len(stuck) > 1 else "")
-            ),
-        ]
+        return ["", self.style.warn(stuck_verdict(len(stuck), arriving))]
 
     def counts(self) -> list[str]:
         counts = self.report.counts

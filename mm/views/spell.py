@@ -2,29 +2,14 @@
 
 from __future__ import annotations
 
-from typing import Mapping, Optional
+from typing import Optional
 
-from mm.formats.image import Image
-from mm.machine.isa import Instruction, decode
-from mm.machine.words import Cell, Pointer, Word, bytes_in_words, letter_of
+from mm.machine.isa import Instruction
+from mm.machine.memory import Memory
+from mm.machine.words import Pointer, Word, bytes_in_words, letter_of
 from mm.names.symbols import Symbols
 
 SMALL = 1 << 16
-
-
-class Memory:
-    """The cells of an image, with those that have changed laid over them."""
-
-    def __init__(self, image: Image, changed: Optional[Mapping[int, Cell]] = None) -> None:
-        self.image, self.changed = image, changed or {}
-
-    def cell(self, address: int) -> Optional[Cell]:
-        return self.changed.get(address) or self.image.cell(address)
-
-    def instruction(self, address: int) -> Optional[Instruction]:
-        """The instruction at an address, or none if the word is none."""
-        cell = self.cell(address)
-        return decode(cell.word.bits) if cell and not cell.word.tagged else None
 
 
 class Speller:

@@ -2,8 +2,6 @@
 
 from __future__ import annotations
 
-from typing import Iterable, Iterator
-
 from mm.machine.causes import Cause
 from mm.outputs.trace import Turn
 from mm.views.spell import Memory, Speller
@@ -13,7 +11,8 @@ ACCESSES = {"load": "loads", "loadset": "loads and sets the bit of", "store": "s
 
 
 class TraceView:
-    """Writes turns as lines. Instructions are those of the image: where the run has changed one, it says so."""
+    """Writes turns as lines, each with the memory as it was before it: instructions are those that were carried out. Where that is
+    another one than the image has there, it says so."""
 
     def __init__(self, memory: Memory, speller: Speller, style: Style) -> None:
         self.memory, self.speller, self.style = memory, speller, style
@@ -49,7 +48,7 @@ class TraceView:
         if turn.fetch is None:
             return "(nothing was fetched)"
         text = self.speller.at(self.memory, turn.fetch)
-        return f"{text} (changed by the run)" if turn.fetch in self.memory.changed else text
+        return text if self.memory.is_images(turn.fetch) else f"{text} (changed by the run)"
 
     def line(self, cycle: int, turn: Turn) -> str:
         head = f"{cycle:>6}  slot {turn.slot:<2}"
@@ -61,7 +60,7 @@ class TraceView:
             f"{head} {turn.number:>6}  {self.style.name(f'{place:<14}')}  {self.instruction(turn):<30}  {said}".rstrip()
         )
 
-    def lines(self, turns: Iterable[tuple[int, Turn]]) -> Iterator[str]:
-        yield self.style.soft(f"{'cycle':>6}  {'slot':<7} {'turn':>6}  {'place':<14}  {'instruction':<30}  what it did")
-        for cycle, turn in turns:
-            yield self.line(cycle, turn)
+    @property
+    def head(self) -> str:
+        """The line over the columns."""
+        return self.style.soft(f"{'cycle':>6}  {'slot':<7} {'turn':>6}  {'place':<14}  {'instruction':<30}  what it did")

@@ -3,12 +3,13 @@
 from __future__ import annotations
 
 from dataclasses import dataclass
-from typing import Sequence
+from typing import Callable, Iterable, Iterator, Optional
 
+from mm.formats.image import Image
 from mm.machine.isa import Instruction
 from mm.machine.words import Word
 from mm.outputs.report import Report, SlotState
-from mm.outputs.trace import read_turn
+from mm.outputs.trace import Turn
 from mm.views.spell import Memory, Speller
 
 ENOUGH = 2
@@ -25,25 +26,27 @@ class Waiting:
     stuck: bool
 
 
-def waiting(lines: Sequence[str], report: Report, split: bool = False) -> dict[int, Waiting]:
-    """The running slots of which every turn among the last lines of a trace was blocked, from the last turn of theirs that was not.
+def waiting(backwards: Iterable[Turn], report: Report, split: bool = False) -> dict[int, Waiting]:
+    """The running slots of which every turn among the last was blocked, from the last turn of theirs that was not. `backwards` are the
+    turns of the run, the last one first.
 
-    Once each running slot was blocked and none did anything in between, the state stays as it is but for the counts: they wait for ever.
+    Once each running slot was blocked and none did anything in between, no slot can do anything any more: they wait for ever. The state
+    then stays as it is but for the counts, and for loads of a split machine that a port delivers, on which no waiting slot depends.
     """
     running = {slot.number for slot in report.slots if slot.running}
-    blocked, quiet = _count_blocked(lines, running)
+    blocked, quiet = _count_blocked(backwards, running)
     needed = ENOUGH_SPLIT if split else 1
     stuck = bool(running) and all(quiet.get(slot, 0) >= needed for slot in running)
     return {slot: Waiting(slot, turns, stuck) for slot, turns in blocked.items() if turns >= ENOUGH or stuck}
 
 
-def _count_blocked(lines: Sequence[str], running: set[int]) -> tuple[dict[int, int], dict[int, int]]:
+def _count_blocked(backwards: Iterable[Turn], running: set[int]) -> tuple[dict[int, int], dict[int, int]]:
     """Of each running slot how many of its last turns were blocked in a row, and how many since any slot last did something."""
     blocked: dict[int, int] = {}
     quiet: dict[int, int] = {}
     going: set[int] = set(running)
     moved = False
-    for turn in filter(None, map(read_turn, reversed(lines))):
+    for turn in backwards:
         moved = moved or turn.outcome != "blocked"
         if turn.outcome != "blocked":
             going.discard(turn.slot)
@@ -53,6 +56,42 @@ def _count_blocked(lines: Sequence[str], running: set[int]) -> tuple[dict[int, i
         if not going:
             break
     return blocked, quiet
+
+
+# Instructions that may leave a slot where it is though they were carried out.
+JUMPS = ("br", "bz", "bnz", "jmp", "jal")
+
+
+def turns_by_reports(report_at: Callable[[int], Report], last: int, image: Image, most: int) -> Iterator[Turn]:
+    """The last turns of a run of which there is no trace, the last one first, as far as a wait can be told from them: by the reports
+    after each of its last cycles."""
+    after = report_at(last)
+    for cycle in range(last, max(0, last - most), -1):
+        before = report_at(cycle - 1)
+        turn = _turn_between(before, after, Memory.after(image, before))
+        if turn:
+            yield turn
+        after = before
+
+
+def _turn_between(before: Report, after: Report, memory: Memory) -> Optional[Turn]:
+    """The turn of one cycle: blocked if its slot has not moved though its instruction would have moved it; none if it was idle."""
+    for old, new in zip(before.slots, after.slots):
+        if old.turns != new.turns:
+            instruction = memory.instruction(old.ip.pointer.address) if old.ip.pointer else None
+            stayed = (old.ip, old.past, old.state) == (new.ip, new.past, new.state)
+            jumps = instruction is None or instruction.name in JUMPS
+            waits = stayed and (not jumps or (instruction is not None and _needs_a_load(old, instruction)))
+            return Turn(old.number, new.turns, "blocked" if waits else "did")
+        if old.pending != new.pending:
+            return Turn(old.number, 0, "delivered", delivered=old.pending[0][0] if old.pending else 0)
+    return None
+
+
+def _needs_a_load(slot: SlotState, instruction: Instruction) -> bool:
+    """Whether a register that an instruction names waits for its load."""
+    named = [kind.field for kind in instruction.operation.operands if kind.is_register]
+    return any(slot.register(instruction.value(field)) is None for field in named)
 
 
 def what_for(slot: SlotState, memory: Memory, speller: Speller) -> str:

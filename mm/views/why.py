@@ -1,23 +1,30 @@
-"""Why a turn was refused: the fault in words, from the instruction and the registers, which a fault leaves as they were."""
+"""Why a turn was refused: the fault in words, from what the turn fetched and accessed, and from the slot and the memory as they
+were then. A fault leaves registers and memory as they were."""
 
 from __future__ import annotations
 
 from typing import Callable, Optional
 
+from mm.formats.image import PAGE_BYTES
 from mm.machine.causes import Cause
 from mm.machine.isa import BRANCHES, Instruction
-from mm.machine.words import Permission, Pointer, Word, WORD_MASK
+from mm.machine.words import Permission, Pointer, Word, WORD_BYTES, WORD_MASK
 from mm.outputs.report import SlotState
+from mm.outputs.trace import Turn
 from mm.views.spell import Memory, Speller, integer
+
+ACCESSES = ("ld", "st")
 
 
 class Refusal:
-    """A turn that was refused: the slot as it stands there, and its instruction, where the word is one."""
+    """A turn that was refused: the slot as it stood, what the turn fetched and accessed, and the instruction if it got one."""
 
-    def __init__(self, slot: SlotState, memory: Memory, speller: Speller) -> None:
-        self.slot, self.memory, self.speller = slot, memory, speller
+    def __init__(self, cause: Cause, slot: SlotState, turn: Turn, memory: Memory, speller: Speller) -> None:
+        self.cause, self.slot, self.turn, self.memory, self.speller = cause, slot, turn, memory, speller
         self.ip = slot.ip.pointer or Pointer(Permission.XU, 0, 0)
-        self.instruction: Optional[Instruction] = None if slot.past else memory.instruction(self.ip.address)
+        # Whether the fetch itself was refused: by one of its tests, or since there is no page.
+        self.no_fetch = turn.fetch is None or (cause is Cause.NO_PAGE and turn.access is None)
+        self.instruction: Optional[Instruction] = None if self.no_fetch else memory.instruction(self.ip.address)
 
     @property
     def name(self) -> str:
@@ -40,11 +47,13 @@ class Refusal:
 
     @property
     def is_access(self) -> bool:
-        return self.name in ("ld", "st")
+        return self.name in ACCESSES
 
     @property
     def address(self) -> int:
-        """The address of an access."""
+        """The address of an access: that of the trace, or if a test before it refused it, where it would have been."""
+        if self.turn.address is not None:
+            return self.turn.address
         return self.pointer.address + self.instruction.value("imm") if self.pointer and self.instruction else 0
 
     def reach(self, pointer: Pointer) -> str:
@@ -63,11 +72,23 @@ def _not_pointer(at: Refusal) -> list[str]:
         lines.append(
             f"{at.spelled('rb')}: `st` takes the pointer first, and then the word to store: `st {at.register('rb')}, {at.register('ra')}, ..`"
         )
+    elif at.name in ("jmp", "jal"):
+        lines.append(_no_way(at))
     elif word.bits == 0:
         lines.append(
             f"a register is 0 until something is put into it: give it a pointer with `.reg {at.register('ra')[1:]} ptr rw NAME` after the `.thread`, or see where it was cleared"
         )
     return lines
+
+
+def _no_way(at: Refusal) -> str:
+    """What was meant by a jump through an integer."""
+    ra, rd = at.register("ra"), at.register("rd") if at.name == "jal" else ""
+    if rd and at.word("rd").pointer:
+        return f"{at.spelled('rd')}: the register for the way back comes first, do you mean `jal {ra}, {rd}`?"
+    if at.name == "jal":
+        return f"code of other segments comes by `.reg {ra[1:]} ptr xu NAME` (`eu` for a gate), that of this one by `lip {ra}, LABEL`"
+    return f"no way back was kept in {ra}: a call is `jal {ra}, r5`, and `jmp` and `br` keep none"
 
 
 def _perm(at: Refusal) -> list[str]:
@@ -108,12 +129,17 @@ def _rights(permission: Permission) -> str:
 
 def _bounds(at: Refusal) -> list[str]:
     show = at.speller.symbols.show
-    if at.slot.past or at.instruction is None:
+    if at.slot.past:
         origin = at.speller.symbols.origin(at.ip.address)
         last = f", {origin}: {origin.code}" if origin else ""
         return [
             f"the thread ran past the end of its segment: {show(at.ip.address)} was its last word{last}",
             "end it with `halt`, or branch back",
+        ]
+    if at.instruction is None:
+        return [
+            f"an instruction has 8 bytes, and those from {show(at.ip.address)} on are not all in the segment of the code",
+            f"the thread runs by {at.speller.pointer(at.ip)}, which reaches {at.reach(at.ip)}",
         ]
     if at.is_access and at.pointer:
         return [
@@ -154,14 +180,18 @@ def _bounds_of_code(at: Refusal) -> list[str]:
 
 def _align(at: Refusal) -> list[str]:
     here = at.address if at.is_access else at.ip.address
-    return [f"{at.speller.symbols.show(here)} is {here % 8} bytes past a word: words are at multiples of 8"]
+    past = f"{at.speller.symbols.show(here)} is {here % 8} bytes past a word"
+    if at.is_access:
+        return [f"{past}: words are at multiples of 8"]
+    return [f"{past}, and the thread is there: instructions are words, at multiples of 8"]
 
 
 def _no_page(at: Refusal) -> list[str]:
     here = at.address if at.is_access else at.ip.address
-    return [
-        f"no page is mapped at {at.speller.symbols.show(here)}: an image has the pages of its segments, and `map` makes others"
-    ]
+    gone = here // PAGE_BYTES in at.memory.image.pages
+    what = "the run has removed it" if gone else "an image has the pages of its segments, and `map` makes others"
+    fetch = "" if at.is_access else ", where the thread is"
+    return [f"no page is mapped at {at.speller.symbols.show(here)}{fetch}: {what}"]
 
 
 def _illegal(at: Refusal) -> list[str]:
@@ -206,9 +236,9 @@ def _no_slot(at: Refusal) -> list[str]:
 
 
 def _out_full(at: Refusal) -> list[str]:
-    return [
-        f"the group has put out {at.memory.image.output_limit} bytes, which is the limit (`mm migrate FILE plain` gives 65536)"
-    ]
+    image = at.memory.image
+    more = " (`mm migrate FILE plain` gives 65536)" if image.version == 1 else ""
+    return [f"the group has put out {image.output_limit} bytes, which is the limit{more}"]
 
 
 REASONS: dict[Cause, Callable[[Refusal], list[str]]] = {
@@ -227,7 +257,22 @@ REASONS: dict[Cause, Callable[[Refusal], list[str]]] = {
 }
 
 
-def why(cause: Cause, slot: SlotState, memory: Memory, speller: Speller) -> list[str]:
-    """The fault of a slot that still stands at its instruction, in words."""
+def turn_of(cause: Cause, slot: SlotState, memory: Memory) -> Turn:
+    """What a trace would say of a fault at this very moment, of a slot that stands at its instruction."""
+    ip = slot.ip.pointer
+    sound = ip is not None and not slot.past and ip.address % WORD_BYTES == 0 and ip.covers(ip.address, WORD_BYTES)
+    if ip is None or not sound:
+        return Turn(slot.number, slot.turns, "faulted", cause.number)
+    instruction = memory.instruction(ip.address)
+    base = slot.register(instruction.value("ra")) if instruction and instruction.name in ACCESSES else None
+    if cause not in (Cause.NO_PAGE, Cause.SYNC) or instruction is None or base is None or base.pointer is None:
+        return Turn(slot.number, slot.turns, "faulted", cause.number, ip.address)
+    access = "store" if instruction.name == "st" else "load" if instruction.choice("post") == "keep" else "loadset"
+    address = base.pointer.address + instruction.value("imm")
+    return Turn(slot.number, slot.turns, "faulted", cause.number, ip.address, access, address)
+
+
+def why(cause: Cause, slot: SlotState, turn: Turn, memory: Memory, speller: Speller) -> list[str]:
+    """The fault of a turn in words, with the slot and the memory as they were then."""
     told = REASONS.get(cause)
-    return told(Refusal(slot, memory, speller)) if told else [cause.meaning]
+    return told(Refusal(cause, slot, turn, memory, speller)) if told else [cause.meaning]

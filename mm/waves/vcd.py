@@ -9,7 +9,7 @@ from typing import Iterable, Iterator, Optional
 from mm.log.changes import ByteOut, EventQueued, EventTaken
 from mm.log.read import Step
 from mm.log.replay import Machine, SlotNow
-from mm.machine.words import Pointer
+from mm.machine.words import Permission, Pointer
 
 FIRST, LAST = 33, 126
 STATES = ("running", "waiting", "taken", "halted", "faulted")
@@ -57,7 +57,7 @@ def slot_values(slot: SlotNow) -> Iterator[tuple[str, int, Optional[int]]]:
     """What is told of a slot: names, widths and values."""
     ip = slot.ip.pointer or Pointer.of_bits(1 << 60)
     yield "ip", 54, ip.address if ip else 0
-    yield "privileged", 1, int(bool(ip) and ip.permission.short == "xp")
+    yield "privileged", 1, int(ip is not None and ip.permission is Permission.XP)
     yield "past", 1, int(slot.past)
     yield "state", 3, STATES.index(slot.state)
     yield "fault", 4, slot.fault or 0

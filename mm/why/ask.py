@@ -14,6 +14,10 @@ from mm.why.check import KINDS
 from mm.words import MOST_GROUP
 
 
+# What people say for a kind.
+OTHER_NAMES = {"read": "touch", "load": "touch", "store": "write"}
+
+
 @dataclass(frozen=True)
 class Asked:
     """A group, the address of a word, and what is to be done with it."""
@@ -40,11 +44,12 @@ def _address(word: str, symbols: Optional[Symbols]) -> int:
 
 
 def asked(group: str, word: str, kind: str, symbols: Optional[Symbols] = None) -> Asked:
-    """What words ask. With symbols the word may be told by a name."""
+    """What words ask. With symbols the word may be told by a name, and the kind as people say it."""
     number = number_of(group)
     if number is None or not 0 <= number <= MOST_GROUP:
         raise usage(f"mm: `{group}` is no group: 0 to {MOST_GROUP}")
     address = _address(word, symbols)
+    kind = kind if symbols is None else OTHER_NAMES.get(kind, kind)
     if kind not in KINDS:
-        raise usage(f"mm: `{kind}` is neither touch nor write")
+        raise usage(f"mm: `{kind}` is neither touch (or read) nor write")
     return Asked(number, address, kind)

@@ -1,0 +1,24 @@
+"""Text as it may go to a terminal: what would act on it is shown and not sent."""
+
+from __future__ import annotations
+
+import re
+
+# Control characters but the end of a line and the tab, and the marks that turn the direction of writing.
+ACTING = re.compile("[\x00-\x08\x0b-\x1f\x7f-\x9f\u061c\u200e\u200f\u202a-\u202e\u2066-\u2069]")
+# The colours that `mm` sends itself.
+OURS = re.compile("(\033\\[(?:0|1|2|32|36|1;31|1;33)m)")
+
+
+def visible(text: str) -> str:
+    """A text in which each such character has its number: `<U+001B>`."""
+    return ACTING.sub(lambda found: f"<U+{ord(found[0]):04X}>", text)
+
+
+def shown(text: str, colours: bool = False) -> str:
+    """A line for a stream, which has colours of `mm` or none."""
+    if ACTING.search(text) is None:
+        return text
+    if not colours:
+        return visible(text)
+    return "".join(part if place % 2 else visible(part) for place, part in enumerate(OURS.split(text)))
