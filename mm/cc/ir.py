@@ -224,6 +224,11 @@ class Argument:
     def type(self) -> Type:
         return self.value.type
 
+    @property
+    def align(self) -> int:
+        """What is said of its alignment: that of a pointer, or of what is handed over by value."""
+        return max((int(word[5:]) for word in self.words if word[:5] == "align" and word[5:].isdigit()), default=1)
+
 
 @dataclass
 class Instruction:

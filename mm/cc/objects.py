@@ -11,6 +11,8 @@ from mm.cc.pointers import Known, Pointer
 from mm.cc.untranslated import Untranslated
 from mm.cc.wide import Vectors
 
+WORD = 8
+
 
 class Objects(Vectors):
     """What is made of several words."""
@@ -146,6 +148,9 @@ class Objects(Vectors):
         self.code.dynamic = True
         count = self.number(made.operands[0], ZEROED)
         total = self.scaled(count, size) if size else self.constant(0)
+        if made.align > WORD:
+            # It ends at the end of its segment, so it begins at a multiple of what its size is a multiple of.
+            total = self.op("and", self.plus(total, made.align - 1), self.constant(-made.align))
         log = self.runtime("__mm_log_of", [total], True)
         d = self.code.new()
         self.emit("dynamic", d, log, total, late=(log, total), temporary=(self.code.new(), self.code.new()))
