@@ -49,7 +49,7 @@ class Calls(Arithmetic):
         named = made.signature.parameters if made.signature and made.signature.variadic else None
         variadic = bool(named)
         target = self.names.function(callee.name) if isinstance(callee, Global) else None
-        if target is not None and not target.variadic and target.blocks:
+        if target is not None and not target.variadic and target.defined:
             variadic = False
         fixed = len(named) if variadic and named is not None else len(made.arguments)
         words: list[int] = []

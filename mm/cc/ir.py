@@ -3,7 +3,7 @@
 from __future__ import annotations
 
 from dataclasses import dataclass, field
-from typing import Any, Optional, Sequence
+from typing import Any, Callable, Optional, Sequence
 
 from mm.cc.untranslated import Untranslated
 
@@ -259,7 +259,8 @@ class Block:
 
 @dataclass
 class Function:
-    """A function; one without blocks is declared alone."""
+    """A function; one without blocks is declared alone. Its blocks are read when they are asked for: of the library few
+    are."""
 
     name: str
     result: Type
@@ -268,9 +269,19 @@ class Function:
     internal: bool = False
     weak: bool = False
     words: frozenset[str] = frozenset()
-    blocks: list[Block] = field(default_factory=list)
     debug: Optional[str] = None
-    alias: Optional[Value] = None
+    read: Optional[Callable[[], list[Block]]] = None
+    known: Optional[list[Block]] = None
+
+    @property
+    def blocks(self) -> list[Block]:
+        if self.known is None:
+            self.known = self.read() if self.read else []
+        return self.known
+
+    @property
+    def defined(self) -> bool:
+        return self.read is not None or bool(self.known)
 
 
 @dataclass
@@ -299,8 +310,10 @@ class Module:
     debug: dict[str, str] = field(default_factory=dict)
     # Functions and blocks whose address is taken.
     addressed: set[tuple[str, str]] = field(default_factory=set)
-    # What is wrong with functions that could not be read, by name.
+    # What is wrong with functions and globals that could not be read, by name.
     unread: dict[str, str] = field(default_factory=dict)
+    # Whether there is assembler text outside of functions.
+    assembler: bool = False
 
     def layouts(self) -> Layouts:
         return Layouts(self.types)

@@ -155,7 +155,7 @@ class Program:
 
     def _publish(self, module: Module) -> None:
         for name, function in module.functions.items():
-            if function.blocks and not function.internal and "available_externally" not in function.words:
+            if function.defined and not function.internal and "available_externally" not in function.words:
                 self._offer(name, module, function.weak)
         for name, made in module.globals.items():
             if made.value is not None and not made.internal:
@@ -175,7 +175,7 @@ class Program:
     def home(self, module: Module, name: str) -> Optional[Module]:
         """The module that defines what a module calls by a name."""
         function, made = module.functions.get(name), module.globals.get(name)
-        if function is not None and function.blocks and function.internal or made is not None and made.internal:
+        if function is not None and function.defined and function.internal or made is not None and made.internal:
             return module
         return self.public.get(name)
 
