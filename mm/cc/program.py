@@ -6,6 +6,7 @@ import re
 from dataclasses import dataclass
 from typing import Optional
 
+from mm.cc.checked import Checked
 from mm.cc.code import Variable, log_of, place_in
 from mm.cc.control import Translator
 from mm.cc.ctypes import Types
@@ -135,6 +136,7 @@ class Program:
 
     def __init__(self, modules: list[Module], options: Options) -> None:
         self.modules, self.at_end, self.heap = modules, options.at_end, options.heap
+        self.checked = options.checked
         self.prefix = options.prefix + "_" if options.prefix else ""
         self.names = {id(module): ModuleNames(self, module) for module in modules}
         self.public: dict[str, Module] = {}
@@ -295,7 +297,8 @@ class Program:
         names = self.names[id(module)]
         function = module.functions[name]
         try:
-            translator = Translator(function, names.layouts, names, self.at_end)
+            made = Checked if self.checked else Translator
+            translator = made(function, names.layouts, names, self.at_end)
             code = translator.translate()
         except Untranslated as reason:
             raise Failure(where, str(reason)) from None
