@@ -4,12 +4,13 @@ from __future__ import annotations
 
 import os
 import re
+import sys
 from dataclasses import replace
 from typing import Sequence
 
 from mm.cc.clang import library, module_of
 from mm.cc.options import Options
-from mm.cc.program import Failure, Program
+from mm.cc.program import Failure, Failures, Program
 from mm.cc.source import write_source
 from mm.status import Status, Stop
 
@@ -19,9 +20,13 @@ def source_of(paths: Sequence[str], options: Options) -> str:
     modules = [module_of(path, options.level, options.flags, options.lines) for path in paths]
     program = Program([*modules, library()], options)
     try:
-        return write_source(program, options)
-    except Failure as failure:
-        raise Stop(Status.REFUSED, f"mm: {failure}") from None
+        source = write_source(program, options)
+    except (Failure, Failures) as failure:
+        raise Stop(Status.REFUSED, *str(failure).splitlines()) from None
+    if options.lines:
+        for note in program.notes():
+            print(note, file=sys.stderr)
+    return source
 
 
 def sources_of(paths: Sequence[str], options: Options) -> list[bytes]:

@@ -19,20 +19,30 @@ class Type:
 class IntType(Type):
     bits: int
 
+    def __str__(self) -> str:
+        return f"integer of {self.bits} bits"
+
 
 @dataclass(frozen=True)
 class PointerType(Type):
-    pass
+    def __str__(self) -> str:
+        return "pointer"
 
 
 @dataclass(frozen=True)
 class VoidType(Type):
     """No value, also that of labels, tokens and metadata."""
 
+    def __str__(self) -> str:
+        return "void"
+
 
 @dataclass(frozen=True)
 class FloatType(Type):
     name: str
+
+    def __str__(self) -> str:
+        return "floating point"
 
 
 @dataclass(frozen=True)
@@ -40,17 +50,26 @@ class ArrayType(Type):
     count: int
     element: Type
 
+    def __str__(self) -> str:
+        return f"array of {self.count}, each {self.element}"
+
 
 @dataclass(frozen=True)
 class VectorType(Type):
     count: int
     element: Type
 
+    def __str__(self) -> str:
+        return f"vector of {self.count}, each {self.element}"
+
 
 @dataclass(frozen=True)
 class StructType(Type):
     fields: tuple[Type, ...]
     packed: bool = False
+
+    def __str__(self) -> str:
+        return f"structure of {len(self.fields)} fields"
 
 
 @dataclass(frozen=True)
@@ -59,12 +78,18 @@ class NamedType(Type):
 
     name: str
 
+    def __str__(self) -> str:
+        return self.name.replace(".", " ", 1)
+
 
 @dataclass(frozen=True)
 class FunctionType(Type):
     result: Type
     parameters: tuple[Type, ...]
     variadic: bool
+
+    def __str__(self) -> str:
+        return "function"
 
 
 POINTER, VOID = PointerType(), VoidType()
@@ -142,7 +167,7 @@ class Layouts:
             return self.fields(type_)[index], type_.fields[index]
         if isinstance(type_, (ArrayType, VectorType)):
             return index * self.size(type_.element), type_.element
-        raise Untranslated(f"a part of {type_}")
+        raise Untranslated(f"a part of a value of the type `{type_}`")
 
 
 @dataclass(frozen=True)

@@ -34,7 +34,7 @@ class Objects(Vectors):
             return [Number(kind, 0) if isinstance(kind, IntType) else Zero(kind) for kind in kinds]
         if isinstance(value, Undefined):
             return [Undefined(kind) for kind in kinds]
-        raise Untranslated(f"the constant {value}")
+        raise Untranslated(f"a constant of the type `{value.type}`")
 
     def extract(self, made: Instruction) -> None:
         value: Value = made.operands[0]

@@ -42,7 +42,7 @@ class ModuleReader:
             elif line[0] == "!":
                 number, _, rest = line.partition(" = ")
                 self.module.debug[number] = rest
-            elif line.startswith("module asm"):
+            elif line.startswith("module asm") and line != 'module asm ""':
                 self.module.assembler = True
         return self.module
 

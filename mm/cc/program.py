@@ -4,14 +4,15 @@ from __future__ import annotations
 
 import re
 from dataclasses import dataclass
-from typing import Optional
+from typing import Iterator, Optional
 
+from mm.cc.calls import strip_casts
 from mm.cc.checked import Checked
-from mm.cc.code import Variable, log_of, place_in
+from mm.cc.code import Code, Variable, log_of, place_in
 from mm.cc.control import Translator
 from mm.cc.ctypes import Types
 from mm.cc.data import Constants, Place, Words
-from mm.cc.ir import ArrayType, BlockAddress, Function, Global, GlobalObject, IntType, Module, Value
+from mm.cc.ir import ArrayType, BlockAddress, Function, Global, GlobalObject, IntType, Module, Number, Parts, Value
 from mm.cc.lines import FunctionNotes, Lines
 from mm.cc.lowering import Names
 from mm.cc.options import Options
@@ -38,6 +39,27 @@ ASSEMBLER = {
                 "ld r10, r0, 24, any, keep", "ld r11, r0, 32, any, keep", "ld r14, r0, 40, any, keep",
                 "ld r15, r0, 48, any, keep", "mov r0, r1", "bnz r0, 2", "ldi r0, 1", "jmp r14"],
 }
+# What can be done in the place of what is not there: of functions of C's library, and of what is left out.
+NO_INPUT = "the machine has no input: put what the program reads into an array or a string"
+NO_FILES = "the machine has no files: print with `printf`, which puts out, and keep data in arrays"
+NO_CLOCK = "the machine has no clock: its time is its cycles, which the report shows"
+NO_FLOATS = "count in integers: in hundredths, or as a numerator and a denominator"
+INSTEAD = {
+    **dict.fromkeys(("getchar", "getc", "fgetc", "gets", "fgets", "scanf", "fscanf", "vscanf", "getline", "read", "ungetc",
+                     "fread"), NO_INPUT),
+    **dict.fromkeys(("fopen", "fclose", "freopen", "fseek", "ftell", "rewind", "remove", "rename", "tmpfile", "tmpnam",
+                     "feof", "ferror", "setbuf", "setvbuf", "open", "close", "write", "lseek"), NO_FILES),
+    **dict.fromkeys(("time", "clock", "difftime", "mktime", "localtime", "gmtime", "strftime", "sleep", "usleep",
+                     "gettimeofday", "clock_gettime"), NO_CLOCK),
+    **dict.fromkeys(("atof", "strtod", "strtof", "sqrt", "pow", "sin", "cos", "tan", "exp", "log", "floor", "ceil", "fabs",
+                     "fmod"), NO_FLOATS),
+    **dict.fromkeys(("sscanf", "vsscanf"), "take the text apart with `strtol`, whose second argument tells where it ended"),
+    **dict.fromkeys(("pthread_create", "thrd_create", "fork"),
+                    "another program is another thread: give it a file of its own, and name both to `mm run`"),
+    **dict.fromkeys(("system", "execve", "signal", "raise"), "the machine runs nothing but the programs of its image"),
+}
+INSTEAD_OF = {"floating point": NO_FLOATS,
+              "assembler text": "`mm.h` names the machine's own operations, as `__mm_op_out`"}
 # An event of a slot that this one handles goes to four words.
 ASSEMBLER["__mm_event"] = ["mov r12, r0", "evt r0", "st r12, r0, 0, any, keep", "st r12, r1, 8, any, keep",
                            "st r12, r2, 16, any, keep", "st r12, r3, 24, any, keep", "jmp r14"]
@@ -47,17 +69,30 @@ ASSEMBLER["_longjmp"] = ASSEMBLER["longjmp"]
 
 @dataclass
 class Failure(Exception):
-    """What could not be translated, and where."""
+    """What could not be translated, and where: a file or a function, its place in C if that is known, and what can be
+    done instead."""
 
     where: str
     why: str
+    place: Optional[str] = None
+    instead: str = ""
 
     def __str__(self) -> str:
-        return f"{self.where}: {self.why} is left out"
+        name = self.where.rpartition(": ")[2]
+        inside = f" in `{name}`" if ": " in self.where else ""
+        said = f"{self.place}: error: {self.why} is left out{inside}" if self.place else f"mm: {self.where}: {self.why} is left out"
+        return f"{said}\n    {self.instead}" if self.instead else said
 
 
-class Undefined_(Exception):
-    """A name that no file and no part of the library defines."""
+class Failures(Exception):
+    """All that nothing defines."""
+
+    def __init__(self, failures: list[Failure]) -> None:
+        super().__init__(failures)
+        self.failures = failures
+
+    def __str__(self) -> str:
+        return "\n".join(map(str, self.failures))
 
 
 @dataclass
@@ -148,7 +183,9 @@ class Program:
         self.blocks: dict[tuple[int, str, str], str] = {}
         self.pool: dict[str, str] = {}
         self.counter = 0
-        self.undefined: list[str] = []
+        self.undefined: dict[str, Failure] = {}
+        # What is being translated, for what is found wrong there.
+        self.current: Optional[tuple[ModuleNames, Translator]] = None
         self.types = Types()
         # Doors and shared words of other programs, by their names here.
         self.foreign: set[str] = set()
@@ -203,8 +240,7 @@ class Program:
         home = self.home(module, name)
         if home is None or name not in home.functions:
             if name not in ASSEMBLER:
-                if name not in self.undefined:
-                    self.undefined.append(name)
+                self._undefined(name)
             home = None
         key = (id(home), name)
         found = self.labels.get(key)
@@ -225,11 +261,10 @@ class Program:
         if name == HEAP:
             return self._heap(module)
         if home is None or name not in home.globals:
-            if name not in self.undefined:
-                self.undefined.append(name)
+            self._undefined(name)
             home = module
             if name not in home.globals:
-                raise Failure(module.name, f"`{name}`, which nothing defines,")
+                raise self.undefined[name]
         key = (id(home), name)
         found = self.segments.get(key)
         if found is None:
@@ -279,6 +314,9 @@ class Program:
 
     def translate(self) -> None:
         """Translates everything that is wanted, until nothing new is."""
+        for module in self.modules:
+            if module.assembler:
+                raise Failure(module.name, "assembler text outside of functions", None, INSTEAD_OF["assembler text"])
         done_data: set[tuple[int, str]] = set()
         while self.work or len(done_data) < len(self.segments):
             while self.work:
@@ -288,20 +326,63 @@ class Program:
                     done_data.add(key)
                     self._data(segment)
         if self.undefined:
-            raise Failure("the program", f"`{self.undefined[0]}`, which nothing defines,")
+            raise Failures(list(self.undefined.values()))
+
+    def _undefined(self, name: str) -> None:
+        """Notes a name that nothing defines, and where it is used first."""
+        if name in self.undefined:
+            return
+        where, place = "the program", None
+        if self.current is not None:
+            names, translator = self.current
+            where, place = self._where(names, translator.function, translator.line)
+        self.undefined[name] = Failure(where, f"`{name}`, which nothing defines,", place, INSTEAD.get(name, ""))
+
+    def _where(self, names: ModuleNames, function: Function, location: Optional[str]) -> tuple[str, Optional[str]]:
+        """The file and the function of a place in C, and the place; without a location, where the function begins."""
+        lines = names.lines
+        inner = lines.function_at(location) or lines.name_of(function.debug or "")
+        place = lines.position(location) or lines.of_function(function.debug)
+        name = inner if inner != "?" else "main" if function.name in MAINS else function.name
+        return f"{names.module.name}: {name}", place
+
+    def _translated(self, module: Module, name: str) -> tuple[Translator, Code]:
+        """The code of a function; a failure if something in it has no translation."""
+        names = self.names[id(module)]
+        if name in module.unread:
+            raise Failure(f"{module.name}: {name}", module.unread[name])
+        function, translator = module.functions[name], None
+        try:
+            translator = (Checked if self.checked else Translator)(function, names.layouts, names, self.at_end)
+            self.current = names, translator
+            return translator, translator.translate()
+        except Untranslated as reason:
+            location = reason.debug or (translator.line if translator else None)
+            raise Failure(*self._failed(names, function, location, str(reason))) from None
+        finally:
+            self.current = None
+
+    def _failed(self, names: ModuleNames, function: Function, location: Optional[str],
+                why: str) -> tuple[str, str, Optional[str], str]:
+        where, place = self._where(names, function, location)
+        return where, why, place, next((said for part, said in INSTEAD_OF.items() if part in why), "")
+
+    def notes(self) -> Iterator[str]:
+        """What could not be translated of functions that nothing calls: these are left out, and said so. It is asked
+        for at the end, since it finds more names."""
+        for module in self.modules[:-1]:
+            for name, function in list(module.functions.items()):
+                if not function.defined or (id(module), name) in self.labels or "available_externally" in function.words:
+                    continue
+                try:
+                    self._translated(module, name)
+                except Failure as failure:
+                    said = str(failure).splitlines()[0].replace(": error: ", ": note: ", 1)
+                    yield f"{said}, which nothing calls"
 
     def _function(self, module: Module, name: str) -> None:
-        where = f"{module.name}: {name}"
-        if name in module.unread:
-            raise Failure(where, module.unread[name])
-        names = self.names[id(module)]
-        function = module.functions[name]
-        try:
-            made = Checked if self.checked else Translator
-            translator = made(function, names.layouts, names, self.at_end)
-            code = translator.translate()
-        except Untranslated as reason:
-            raise Failure(where, str(reason)) from None
+        names, function = self.names[id(module)], module.functions[name]
+        translator, code = self._translated(module, name)
         addressed = []
         for block_name, label in translator.labels.items():
             if (name, block_name) in module.addressed:
@@ -347,6 +428,19 @@ class Program:
                 names.label(target.name)
             else:
                 names.segment(target.name)
+
+    def around_main(self, table: str) -> list[str]:
+        """The labels of the functions that are to be carried out before `main`, or after it, in the order of their
+        priorities."""
+        found: list[tuple[int, Module, str]] = []
+        for module in self.modules:
+            made = module.globals.get(table)
+            for entry in made.value.parts if made is not None and isinstance(made.value, Parts) else ():
+                assert isinstance(entry, Parts)
+                priority, function = entry.parts[0], strip_casts(entry.parts[1])
+                if isinstance(priority, Number) and isinstance(function, Global):
+                    found.append((priority.number, module, function.name))
+        return [self.want_function(module, name) for _, module, name in sorted(found, key=lambda entry: entry[0])]
 
     def pointer_text(self, module: Module, place: Place) -> tuple[str, Optional[int]]:
         """How a constant pointer is written; and where it is not in its segment, how far beside its beginning it

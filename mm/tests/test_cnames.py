@@ -33,7 +33,7 @@ MODULE = """define i32 @main(i32 %n) !dbg !4 {
   %c = add i32 %b, %a, !dbg !10
   ret i32 %c, !dbg !11
 }
-!1 = !DIFile(filename: "a.c", directory: "/")
+!1 = !DIFile(filename: "a.c")
 !3 = !DIBasicType(name: "unsigned int", size: 32, encoding: DW_ATE_unsigned)
 !4 = distinct !DISubprogram(name: "main", scope: !1, file: !1, line: 3, unit: !2)
 !7 = distinct !DILexicalBlock(scope: !4, file: !1, line: 3, column: 1)
