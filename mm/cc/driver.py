@@ -10,7 +10,7 @@ from typing import Sequence
 
 from mm.cc.clang import library, module_of
 from mm.cc.options import Options
-from mm.cc.program import Failure, Failures, Program
+from mm.cc.program import Failure, Program
 from mm.cc.source import write_source
 from mm.status import Status, Stop
 
@@ -21,7 +21,7 @@ def source_of(paths: Sequence[str], options: Options) -> str:
     program = Program([*modules, library()], options)
     try:
         source = write_source(program, options)
-    except (Failure, Failures) as failure:
+    except Failure as failure:
         raise Stop(Status.REFUSED, *str(failure).splitlines()) from None
     if options.lines:
         for note in program.notes():

@@ -84,11 +84,11 @@ class Failure(Exception):
         return f"{said}\n    {self.instead}" if self.instead else said
 
 
-class Failures(Exception):
-    """All that nothing defines."""
+class Failures(Failure):
+    """Several of them: all that nothing defines."""
 
     def __init__(self, failures: list[Failure]) -> None:
-        super().__init__(failures)
+        super().__init__(failures[0].where, failures[0].why, failures[0].place, failures[0].instead)
         self.failures = failures
 
     def __str__(self) -> str:
