@@ -8,7 +8,7 @@ import subprocess
 from typing import Optional, Sequence
 
 from mm.cc import cache
-from mm.cc.alignment import lowered
+from mm.cc.alignment import lowered, without_debug
 from mm.cc.ir import Module
 from mm.cc.parse import read_module
 from mm.status import Status, Stop
@@ -84,7 +84,11 @@ def text_of(path: str, level: str = "1", more: Sequence[str] = (), lines: bool =
     full = os.path.abspath(path)
     front = [*FRONT, *_told_as(path, full), "-g", *names, f"-O{level}", *more, *([] if level == "0" else AS_WRITTEN)]
     text = lowered(_run([*front, full]), lines)
-    return text if level == "0" else _run([*names, f"-O{level}", *more, *OPTIMISED], text)
+    if level == "0":
+        return text
+    optimised = _run([*names, f"-O{level}", *more, *OPTIMISED], text)
+    # What is made of loops takes its lines from what is said of these.
+    return optimised if lines else "\n".join(without_debug(optimised.splitlines())) + "\n"
 
 
 def _told_as(path: str, full: str) -> list[str]:

@@ -398,13 +398,14 @@ class Program:
 
     @staticmethod
     def _note(blocks: list[TextBlock], function: Function, notes: FunctionNotes) -> None:
-        """Says where a function begins; nothing of a function whose lines are not known."""
+        """Says where a function begins; of one whose lines are not known, only how its frame is."""
         begins = notes.lines.of_function(function.debug)
         if begins:
             head = f"function {notes.lines.name_of(function.debug or '')} at {begins}"
             blocks[0].notes = [head, *notes.inlined, *blocks[0].notes]
         else:
-            blocks[0].notes.clear()
+            # A function of the library has no lines, but the way back from it leads to one.
+            blocks[0].notes = [note for note in blocks[0].notes if note.startswith("frame ")]
 
     # Data
 

@@ -6,12 +6,13 @@ from typing import Iterator, Optional
 
 from mm.machine.causes import Cause
 from mm.machine.words import Pointer
-from mm.names.clines import CFrame, CLine, frames
+from mm.names.clines import CFrame, CLine, frames, place_in
+from mm.names.numbers import counted
 from mm.outputs.report import SlotState
 from mm.views.spell import Memory, Speller
 from mm.views.why import Refusal
 
-STACK_REGISTER = 15
+LINK_REGISTER, STACK_REGISTER = 14, 15
 
 
 class CView:
@@ -24,9 +25,11 @@ class CView:
     def frames(self) -> Iterator[CFrame]:
         """The functions that are being carried out, the innermost first."""
         ip, stack = self.slot.ip.pointer, self.slot.register(STACK_REGISTER)
+        link = self.slot.register(LINK_REGISTER)
         if ip is None or stack is None or stack.pointer is None:
             return iter(())
-        return frames(ip.address, stack.pointer.address, self.symbols.c_notes, self.address_in)
+        back = link.pointer.address if link is not None and link.pointer is not None else None
+        return frames(ip.address, stack.pointer.address, self.symbols.c_notes, self.address_in, back)
 
     def address_in(self, address: int) -> Optional[int]:
         """The address of the pointer in a word of memory."""
@@ -42,8 +45,41 @@ class CView:
         line = self.line()
         if line is None:
             return None
-        what = (self.meant() if cause is Cause.BOUNDS else None) or cause.meaning
-        return f"fault {cause.number} {cause.title} at {line}: {what}"
+        full = self.full_stack() if cause is Cause.BOUNDS else None
+        what = full or self.meant() if cause is Cause.BOUNDS else None
+        if cause is Cause.NOT_POINTER:
+            what = self.left_object()
+        inner = next(self.frames(), None)
+        of_library = inner is not None and inner.line is None and not inner.function.begins and not full
+        within = f", in {inner.name}" if inner is not None and of_library else ""
+        return f"fault {cause.number} {cause.title} at {line}{within}: {what or cause.meaning}"
+
+    def full_stack(self) -> Optional[str]:
+        """A function, or an array whose length is known at the run alone, for which the stack has no room."""
+        at = Refusal(self.slot, self.memory, self.speller)
+        pointer, instruction = at.pointer, at.instruction
+        region = self.symbols.region(pointer.base) if pointer else None
+        if pointer is None or instruction is None or region is None or not region.name.endswith("stack"):
+            return None
+        if at.name not in ("lea", "leai") or instruction.value("ra") != STACK_REGISTER:
+            return None
+        inner = next(self.frames(), None)
+        name = inner.name if inner else "a function"
+        return (f"the stack is full: {name} has no room for its variables in the {pointer.address - pointer.base} bytes "
+                f"that are left of {1 << pointer.log}; `--stack {pointer.log + 1}` makes it larger")
+
+    def left_object(self) -> Optional[str]:
+        """A pointer that became a number as it left its object, by its bits."""
+        at = Refusal(self.slot, self.memory, self.speller)
+        word = at.word("ra")
+        spelled = Pointer.of_bits(word.bits) if not word.tagged and word.bits else None
+        if spelled is None or at.instruction is None:
+            return None
+        before = self.symbols.region(spelled.address - 1)
+        told = self.symbols.c_global(before) if before is not None and before.log == spelled.log else None
+        whose = f"{told.name} " if told and before and before.end == spelled.base else ""
+        return (f"this was a pointer, and left its object {whose}(one past its end, perhaps) before it was stored, handed "
+                "over or computed with: keep a pointer to the beginning, and an index")
 
     def meant(self) -> Optional[str]:
         """The byte that was meant, of the object that the pointer is to."""
@@ -74,7 +110,8 @@ class CView:
         if region is None or (region.base, region.log) != (pointer.base, pointer.log):
             return None
         made = self.symbols.c_global(region)
-        return f"{made.name}[{target - region.base - made.at}] of {made.size} bytes" if made else None
+        notes = region.source.notes if region.source else None
+        return place_in(made, target - region.base - made.at, notes.types if notes else None) if made else None
 
     def of_local(self, pointer: Pointer, target: int) -> Optional[str]:
         for frame in self.frames():
@@ -82,11 +119,12 @@ class CView:
                 start = frame.stack + made.at
                 if made.log == pointer.log and start >> made.log == pointer.base >> made.log:
                     name = frame.function.inner_name(made.inner)
-                    return f"{made.name}[{target - start}] of {made.size} bytes, in {name}"
+                    return f"{place_in(made, target - start, frame.notes.types)}, in {name}"
         return None
 
     def of_heap(self, pointer: Pointer, target: int) -> Optional[str]:
         region = self.symbols.region(pointer.base)
         if region is None or not region.name.endswith("heap") or region.log <= pointer.log:
             return None
-        return f"byte {target - pointer.base} of a block of {1 << pointer.log} bytes of malloc"
+        by, size = target - pointer.address, pointer.end - pointer.address
+        return f"byte {by} of a block of malloc, which has {counted(size, 'byte')} from there on"
