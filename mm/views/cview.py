@@ -13,6 +13,10 @@ from mm.views.spell import Memory, Speller
 from mm.views.why import Refusal
 
 LINK_REGISTER, STACK_REGISTER = 14, 15
+# The traps of programs in C, by their numbers.
+TRAPS = {1: "`__builtin_trap`", 2: "a place that C says is never reached", 6: "`abort`",
+         7: "the translator's second reckoning differs: the translator is wrong",
+         8: "`free` of what is no block of malloc, or was freed before"}
 
 
 class CView:
@@ -49,6 +53,8 @@ class CView:
         what = full or self.meant() if cause is Cause.BOUNDS else None
         if cause is Cause.NOT_POINTER:
             what = self.left_object()
+        if cause is Cause.TRAP:
+            what = self.gave_up()
         inner = next(self.frames(), None)
         of_library = inner is not None and inner.line is None and not inner.function.begins and not full
         within = f", in {inner.name}" if inner is not None and of_library else ""
@@ -67,6 +73,11 @@ class CView:
         name = inner.name if inner else "a function"
         return (f"the stack is full: {name} has no room for its variables in the {pointer.address - pointer.base} bytes "
                 f"that are left of {1 << pointer.log}; `--stack {pointer.log + 1}` makes it larger")
+
+    def gave_up(self) -> Optional[str]:
+        """What a trap of the translator or of the library says."""
+        instruction = Refusal(self.slot, self.memory, self.speller).instruction
+        return TRAPS.get(instruction.value("imm")) if instruction is not None and instruction.name == "trap" else None
 
     def left_object(self) -> Optional[str]:
         """A pointer that became a number as it left its object, by its bits."""
