@@ -205,8 +205,7 @@ class Arithmetic(Accesses):
             form = self.forms.carried(made.name)
             first, second = self.number(yes, form), self.number(no, form)
             register = self.chosen(condition, first, second)
-            known = ZEROED if bits_of(made.type) == 1 else form if form != RAW else ""
-            self.define(made.name, made.type, register, known)
+            self.define(made.name, made.type, register, form if form != RAW else "")
         else:
             self.select_group(made)
 

@@ -6,7 +6,20 @@ from typing import Optional
 
 from mm.cc.code import Fixed, LocalObject, log_of, place_in
 from mm.cc.forms import RAW, SIGNED, ZEROED, bits_of
-from mm.cc.ir import FloatType, Instruction, IntType, Local, Number, Parts, PointerType, Text, Undefined, Value, Zero
+from mm.cc.ir import (
+    Expression,
+    FloatType,
+    Instruction,
+    IntType,
+    Local,
+    Number,
+    Parts,
+    PointerType,
+    Text,
+    Undefined,
+    Value,
+    Zero,
+)
 from mm.cc.pointers import Known, Pointer
 from mm.cc.untranslated import Untranslated
 from mm.cc.wide import Vectors
@@ -27,6 +40,11 @@ class Objects(Vectors):
             return list(value.parts)
         if isinstance(value, Number):
             return [Number(IntType(64), value.number), Number(IntType(bits_of(value.type) - 64), value.number >> 64)]
+        if isinstance(value, Expression):
+            name = f"?{len(self.groups)}g"
+            self.instruction(Instruction(value.op, value.type, name, list(value.parts), source=value.source,
+                                         condition=value.condition))
+            return self.groups[name]
         kinds = [part for _, part in self.parts(value.type)]
         if isinstance(value, Text):
             return [Number(kind, byte) for kind, byte in zip(kinds, value.data)]

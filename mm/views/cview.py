@@ -13,6 +13,7 @@ from mm.views.spell import Memory, Speller
 from mm.views.why import Refusal
 
 LINK_REGISTER, STACK_REGISTER = 14, 15
+NULL_PAGE = 4096
 # The traps of programs in C, by their numbers.
 TRAPS = {1: "`__builtin_trap`", 2: "a place that C says is never reached", 6: "`abort`",
          7: "the translator's second reckoning differs: the translator is wrong",
@@ -83,14 +84,16 @@ class CView:
         """A pointer that became a number as it left its object, by its bits."""
         at = Refusal(self.slot, self.memory, self.speller)
         word = at.word("ra")
+        if not word.tagged and word.bits < NULL_PAGE:
+            return "a null pointer" if not word.bits else f"a null pointer, and {counted(word.bits, 'byte')} on"
         spelled = Pointer.of_bits(word.bits) if not word.tagged and word.bits else None
         if spelled is None or at.instruction is None:
             return None
         before = self.symbols.region(spelled.address - 1)
         told = self.symbols.c_global(before) if before is not None and before.log == spelled.log else None
-        whose = f"{told.name} " if told and before and before.end == spelled.base else ""
-        return (f"this was a pointer, and left its object {whose}(one past its end, perhaps) before it was stored, handed "
-                "over or computed with: keep a pointer to the beginning, and an index")
+        whose = f" {told.name}" if told and before and before.end == spelled.base else ""
+        return (f"these are the bits of a pointer, which is now a number: it left its object{whose} (one past the end is "
+                "outside), was computed with, or was copied in pieces")
 
     def meant(self) -> Optional[str]:
         """The byte that was meant, of the object that the pointer is to."""
