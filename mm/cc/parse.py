@@ -162,8 +162,9 @@ class ModuleReader:
                     else:
                         block.name = name
                 continue
-            if line.startswith("  switch ") and "]" not in line:
-                while "]" not in line:
+            if line.startswith("  switch ") and line.rstrip().endswith("["):
+                # Its cases stand in lines of their own, up to the bracket.
+                while not line.rpartition(" ")[2].startswith("]") and " ], " not in line:
                     line += " " + body[at].strip()
                     at += 1
             if line.startswith("    #dbg_") or "@llvm.dbg." in line:
