@@ -297,42 +297,167 @@ L19:
   ldi r10, 0
   br L4
 free:
-  mov r1, r0
-  ldi r3, 4194303
-  ldhi r3, 4294967295
-  lip r4, P_9
-  ld r4, r4, 0, any, keep
-  lip r5, P_10
+  ;@ frame back - caller by 48
+  leai r15, r15, -48
+  st r15, r7, 8, any, keep
+  st r15, r8, 16, any, keep
+  st r15, r9, 24, any, keep
+  st r15, r10, 32, any, keep
+  st r15, r11, 40, any, keep
+  mov r2, r0
+  ldi r0, 4194303
+  ldhi r0, 4294967295
+  lip r5, P_9
   ld r5, r5, 0, any, keep
-  bz r1, L27
+  ldi r8, 3
+  ldi r7, 54
+  ldi r11, 63
+  ldi r4, 1
+  bz r2, L34
 L26:
-  ldi r13, 54
-  shr r0, r1, r13
-  ldi r13, 63
-  and r2, r0, r13
-  and r1, r1, r3
-  and r0, r4, r3
+  and r1, r2, r0
+  and r0, r5, r0
   sub r1, r1, r0
-  ldi r12, -1
-  shl r0, r12, r2
-  and r0, r0, r1
-  leab r0, r4, r0
-  subseg r3, r0, r2
-  ldi r13, 3
-  shl r1, r2, r13
-  lea r0, r5, r1
-  ld r0, r0, 0, any, keep
-  st r3, r0, 0, any, keep
-  lea r0, r5, r1
-  st r0, r3, 0, any, keep
+  shr r6, r1, r8
+  shr r0, r2, r7
+  and r0, r0, r11
+  addi r12, r0, -3
+  st r15, r12, 0, any, keep
+  ld r13, r15, 0, any, keep
+  shl r10, r4, r13
+  and r0, r6, r11
+  shl r9, r4, r0
+  ldi r13, 9
+  shr r3, r1, r13
+  shr r0, r5, r7
+  and r0, r0, r11
+  addi r0, r0, -3
+  shl r0, r4, r0
+  ldi r13, 6
+  shr r2, r0, r13
+  shr r0, r5, r7
+  and r0, r0, r11
+  addi r0, r0, -3
+  shl r0, r4, r0
+  ldi r13, 64
+  ltu r1, r0, r13
+  mov r0, r4
+  bnz r1, L42
+  mov r0, r2
+L42:
+  add r0, r3, r0
+  shl r2, r0, r8
+  shr r0, r5, r7
+  and r0, r0, r11
+  addi r0, r0, -3
+  shl r0, r4, r0
+  ltu r0, r6, r0
+  bz r0, L28
 L27:
+  lea r0, r5, r2
+  ld r1, r0, 0, any, keep
+  and r0, r1, r9
+  bnz r0, L29
+L28:
+  trap 8
+  lea r0, r5, r2
+  ld r1, r0, 0, any, keep
+L29:
+  xor r1, r1, r9
+  lea r0, r5, r2
+  st r0, r1, 0, any, keep
+  ldi r12, 0
+  sub r0, r12, r10
+  and r2, r6, r0
+  ldi r12, -1
+  shl r0, r12, r10
+  ldi r13, -1
+  xor r1, r0, r13
+  ld r12, r15, 0, any, keep
+  ldi r13, 6
+  ltu r0, r12, r13
+  bnz r0, L43
+  ldi r1, -1
+L43:
+  and r0, r2, r11
+  shl r6, r1, r0
+  ldi r13, 6
+  shr r4, r2, r13
+  addi r0, r10, -1
+  add r0, r0, r2
+  ldi r13, 6
+  shr r9, r0, r13
+  ltu r0, r9, r4
+  bnz r0, L34
+L30:
+  addi r0, r9, 1
+  sub r0, r0, r4
+  sub r10, r9, r4
+  and r7, r0, r8
+  bz r7, L32
+L37:
+  ldi r3, 0
+L31:
+  shl r2, r4, r8
+  lea r0, r5, r2
+  ld r0, r0, 0, any, keep
+  xor r1, r0, r6
+  lea r0, r5, r2
+  st r0, r1, 0, any, keep
+  addi r4, r4, 1
+  addi r3, r3, 1
+  eq r0, r3, r7
+  bz r0, L31
+L32:
+  ltu r0, r10, r8
+  bnz r0, L34
+L33:
+  shl r2, r4, r8
+  lea r0, r5, r2
+  ld r0, r0, 0, any, keep
+  xor r1, r0, r6
+  lea r0, r5, r2
+  st r0, r1, 0, any, keep
+  addi r0, r4, 1
+  shl r2, r0, r8
+  lea r0, r5, r2
+  ld r0, r0, 0, any, keep
+  xor r1, r0, r6
+  lea r0, r5, r2
+  st r0, r1, 0, any, keep
+  addi r0, r4, 2
+  shl r2, r0, r8
+  lea r0, r5, r2
+  ld r0, r0, 0, any, keep
+  xor r1, r0, r6
+  lea r0, r5, r2
+  st r0, r1, 0, any, keep
+  addi r3, r4, 3
+  shl r2, r3, r8
+  lea r0, r5, r2
+  ld r0, r0, 0, any, keep
+  xor r1, r0, r6
+  lea r0, r5, r2
+  st r0, r1, 0, any, keep
+  addi r4, r4, 4
+  eq r0, r3, r9
+  bz r0, L33
+L34:
+  ld r7, r15, 8, any, keep
+  ld r8, r15, 16, any, keep
+  ld r9, r15, 24, any, keep
+  ld r10, r15, 32, any, keep
+  ld r11, r15, 40, any, keep
+  leai r15, r15, 48
   jmp r14
 putchar:
+  ;@ frame back - caller by 0
   out r0
   ldi r13, 255
   and r0, r0, r13
   jmp r14
 fputs:
+  ;@ frame back - caller by 16
   leai r15, r15, -16
   st r15, r7, 0, any, keep
   st r15, r8, 8, any, keep
@@ -351,17 +476,17 @@ fputs:
   shl r0, r0, r3
   sar r1, r0, r3
   and r0, r1, r8
-  bz r0, L30
-L32:
+  bz r0, L46
+L48:
   mov r2, r4
-  br L31
-L30:
+  br L47
+L46:
   mov r0, r4
   ld r7, r15, 0, any, keep
   ld r8, r15, 8, any, keep
   leai r15, r15, 16
   jmp r14
-L31:
+L47:
   out r1
   addi r2, r2, 1
   lea r1, r5, r2
@@ -374,8 +499,8 @@ L31:
   shl r0, r0, r3
   sar r1, r0, r3
   and r0, r1, r8
-  bz r0, L30
-  br L31
+  bz r0, L46
+  br L47
 find:
   ;@ function find at examples/c/words.c:24
   ;@ inlined 1 hash at examples/c/words.c:26
@@ -406,15 +531,15 @@ find:
   ld r0, r0, 0, any, keep
   shr r0, r0, r1
   and r0, r0, r5
-  bz r0, L43
-L44:
+  bz r0, L59
+L60:
   ldi r3, -2128831035
   mov r2, r11
-  br L35
-L43:
+  br L51
+L59:
   ldi r0, 5
-  br L37
-L35:
+  br L53
+L51:
   ;@ line examples/c/words.c:20 in 1
   ;@ var h 12 r3 in 1
   ;@ var word 6 r9+r2 in 1
@@ -433,18 +558,18 @@ L35:
   ld r0, r0, 0, any, keep
   shr r0, r0, r1
   and r0, r0, r5
-  bz r0, L36
-L45:
+  bz r0, L52
+L61:
   addi r2, r2, 1
   ;@ var h 12 - in 1
-  br L35
-L36:
+  br L51
+L52:
   ;@ line examples/c/words.c:21 in 1
   ;@ var word 6 - in 1
   ;@ var h 12 r3 in 1
   ldi r13, 15
   and r0, r3, r13
-L37:
+L53:
   ;@ line examples/c/words.c:26
   ;@ var h 12 - in 1
   shl r10, r0, r6
@@ -452,32 +577,32 @@ L37:
   ;@ var place 13 @chains+r10
   lea r0, r8, r10
   ld r7, r0, 0, any, keep
-  bnz r7, L38
-L46:
+  bnz r7, L54
+L62:
   ;@ var place 13 -
   st r15, r8, 0, any, keep
-  br L41
-L38:
+  br L57
+L54:
   ;@ line examples/c/words.c:28
   ld r0, r7, 8, any, keep
   mov r1, r9
   lip r14, 2
   br strcmp
-  bz r0, L42
-L39:
+  bz r0, L58
+L55:
   ;@ line examples/c/words.c:27
   ;@ var place 13 r7
   ld r0, r7, 0, any, keep
-  bz r0, L40
-L49:
+  bz r0, L56
+L65:
   ;@ var place 13 -
   mov r7, r0
   ;@ var place 13 r7
-  br L38
-L40:
+  br L54
+L56:
   mov r10, r11
   st r15, r7, 0, any, keep
-L41:
+L57:
   ;@ line examples/c/words.c:30
   ;@ var place 13 -
   ldi r0, 24
@@ -513,7 +638,7 @@ L41:
   ld r12, r15, 0, any, keep
   lea r0, r12, r10
   st r0, r7, 0, any, keep
-L42:
+L58:
   ;@ line examples/c/words.c:35
   ;@ var made 4 -
   mov r0, r7
@@ -526,6 +651,7 @@ L42:
   leai r15, r15, 56
   jmp r14
 strcpy:
+  ;@ frame back - caller by 40
   leai r15, r15, -40
   st r15, r7, 0, any, keep
   st r15, r8, 8, any, keep
@@ -539,7 +665,7 @@ strcpy:
   ldi r8, 7
   ldi r10, 255
   mov r5, r6
-L51:
+L67:
   lea r1, r9, r5
   and r0, r1, r8
   sub r0, r6, r0
@@ -568,11 +694,11 @@ L51:
   ld r0, r0, 0, any, keep
   shr r0, r0, r1
   and r0, r0, r10
-  bz r0, L52
-L53:
+  bz r0, L68
+L69:
   mov r5, r2
-  br L51
-L52:
+  br L67
+L68:
   mov r0, r11
   ld r7, r15, 0, any, keep
   ld r8, r15, 8, any, keep
@@ -582,6 +708,7 @@ L52:
   leai r15, r15, 40
   jmp r14
 strlen:
+  ;@ frame back - caller by 8
   leai r15, r15, -8
   st r15, r7, 0, any, keep
   mov r3, r0
@@ -590,7 +717,7 @@ strlen:
   ldi r6, 7
   ldi r7, 255
   mov r2, r4
-L55:
+L71:
   lea r1, r3, r2
   and r0, r1, r6
   sub r0, r4, r0
@@ -600,167 +727,1102 @@ L55:
   shr r0, r0, r1
   and r0, r0, r7
   addi r1, r2, 1
-  bz r0, L56
-L57:
+  bz r0, L72
+L73:
   mov r2, r1
-  br L55
-L56:
+  br L71
+L72:
   mov r0, r2
   ld r7, r15, 0, any, keep
   leai r15, r15, 8
   jmp r14
 malloc:
-  leai r15, r15, -56
-  st r15, r7, 16, any, keep
-  st r15, r8, 24, any, keep
-  st r15, r9, 32, any, keep
-  st r15, r10, 40, any, keep
-  st r15, r11, 48, any, keep
-  mov r1, r0
-  ldi r9, 1
-  lip r5, P_10
-  ld r5, r5, 0, any, keep
-  ldi r10, 3
+  ;@ frame back - caller by 112
+  leai r15, r15, -112
+  st r15, r7, 72, any, keep
+  st r15, r8, 80, any, keep
+  st r15, r9, 88, any, keep
+  st r15, r10, 96, any, keep
+  st r15, r11, 104, any, keep
+  st r15, r0, 0, any, keep
   lip r7, P_9
   ld r7, r7, 0, any, keep
-  ldi r3, 63
-  lip r6, P_11
-  ld r6, r6, 0, any, keep
-  addi r0, r1, 7
+  ldi r9, 3
+  ldi r10, -1
+  ldi r11, 0
+  lip r12, P_10
+  ld r12, r12, 0, any, keep
+  ld r2, r12, 0, any, keep
+  bnz r2, L81
+L75:
+  ldi r13, 54
+  shr r0, r7, r13
+  ldi r13, 63
+  and r0, r0, r13
+  addi r0, r0, -3
+  ldi r12, 1
+  shl r0, r12, r0
+  ldi r13, 6
+  shr r2, r0, r13
+  ldi r13, 54
+  shr r0, r7, r13
+  ldi r13, 63
+  and r0, r0, r13
+  addi r0, r0, -3
+  ldi r12, 1
+  shl r0, r12, r0
+  ldi r13, 64
+  ltu r1, r0, r13
+  ldi r0, 1
+  bnz r1, L141
+  mov r0, r2
+L141:
+  ldi r13, 1
+  shl r0, r0, r13
+  lip r12, P_10
+  ld r12, r12, 0, any, keep
+  st r12, r0, 0, any, keep
+  ldi r13, 54
+  shr r0, r7, r13
+  ldi r13, 63
+  and r0, r0, r13
+  addi r0, r0, -3
+  ldi r12, 1
+  shl r0, r12, r0
+  ldi r13, 6
+  shr r2, r0, r13
+  ldi r13, 54
+  shr r0, r7, r13
+  ldi r13, 63
+  and r0, r0, r13
+  addi r0, r0, -3
+  ldi r12, 1
+  shl r0, r12, r0
+  ldi r13, 64
+  ltu r1, r0, r13
+  ldi r0, 1
+  bnz r1, L142
+  mov r0, r2
+L142:
+  ldi r13, 1
+  shl r1, r0, r13
+  ldi r13, 54
+  shr r0, r7, r13
+  ldi r13, 63
+  and r0, r0, r13
+  addi r0, r0, -3
+  ldi r12, 1
+  shl r0, r12, r0
+  ltu r0, r1, r0
+  bz r0, L77
+L76:
+  ldi r13, 54
+  shr r0, r7, r13
+  ldi r13, 63
+  and r0, r0, r13
+  addi r0, r0, -3
+  ldi r12, 1
+  shl r0, r12, r0
+  ldi r13, 6
+  shr r2, r0, r13
+  ldi r13, 54
+  shr r0, r7, r13
+  ldi r13, 63
+  and r0, r0, r13
+  addi r0, r0, -3
+  ldi r12, 1
+  shl r0, r12, r0
+  ldi r13, 64
+  ltu r1, r0, r13
+  ldi r0, 1
+  bnz r1, L143
+  mov r0, r2
+L143:
+  ldi r13, 2
+  mul r0, r0, r13
+  addi r0, r0, -1
+  ldi r13, 6
+  shr r0, r0, r13
+  ltu r0, r0, r9
+  bnz r0, L110
+L111:
+  mov r8, r11
+  mov r6, r11
+  br L78
+L110:
+  mov r8, r11
+  br L79
+L77:
+  lip r12, P_10
+  ld r12, r12, 0, any, keep
+  st r12, r11, 0, any, keep
+  mov r5, r11
+  mov r8, r11
+  br L108
+L78:
+  shl r4, r8, r9
+  lea r0, r7, r4
+  ld r5, r0, 0, any, keep
+  ldi r13, 54
+  shr r0, r7, r13
+  ldi r13, 63
+  and r0, r0, r13
+  addi r0, r0, -3
+  ldi r12, 1
+  shl r0, r12, r0
+  ldi r13, 6
+  shr r2, r0, r13
+  ldi r13, 54
+  shr r0, r7, r13
+  ldi r13, 63
+  and r0, r0, r13
+  addi r0, r0, -3
+  ldi r12, 1
+  shl r0, r12, r0
+  ldi r13, 64
+  ltu r1, r0, r13
+  ldi r0, 1
+  bnz r1, L144
+  mov r0, r2
+L144:
+  ldi r13, 1
+  shl r0, r0, r13
+  shl r0, r10, r0
+  xor r3, r0, r10
+  ldi r13, 54
+  shr r0, r7, r13
+  ldi r13, 63
+  and r0, r0, r13
+  addi r0, r0, -3
+  ldi r12, 1
+  shl r0, r12, r0
+  ldi r13, 6
+  shr r2, r0, r13
+  ldi r13, 54
+  shr r0, r7, r13
+  ldi r13, 63
+  and r0, r0, r13
+  addi r0, r0, -3
+  ldi r12, 1
+  shl r0, r12, r0
+  ldi r13, 64
+  ltu r1, r0, r13
+  ldi r0, 1
+  bnz r1, L145
+  mov r0, r2
+L145:
+  ldi r13, 1
+  shl r0, r0, r13
+  ldi r13, 64
+  ltu r1, r0, r13
+  mov r0, r3
+  bnz r1, L146
+  mov r0, r10
+L146:
+  xor r1, r5, r0
+  lea r0, r7, r4
+  st r0, r1, 0, any, keep
+  ldi r13, 1
+  or r0, r8, r13
+  shl r4, r0, r9
+  lea r0, r7, r4
+  ld r5, r0, 0, any, keep
+  ldi r13, 54
+  shr r0, r7, r13
+  ldi r13, 63
+  and r0, r0, r13
+  addi r0, r0, -3
+  ldi r12, 1
+  shl r0, r12, r0
+  ldi r13, 6
+  shr r2, r0, r13
+  ldi r13, 54
+  shr r0, r7, r13
+  ldi r13, 63
+  and r0, r0, r13
+  addi r0, r0, -3
+  ldi r12, 1
+  shl r0, r12, r0
+  ldi r13, 64
+  ltu r1, r0, r13
+  ldi r0, 1
+  bnz r1, L147
+  mov r0, r2
+L147:
+  ldi r13, 1
+  shl r0, r0, r13
+  shl r0, r10, r0
+  xor r3, r0, r10
+  ldi r13, 54
+  shr r0, r7, r13
+  ldi r13, 63
+  and r0, r0, r13
+  addi r0, r0, -3
+  ldi r12, 1
+  shl r0, r12, r0
+  ldi r13, 6
+  shr r2, r0, r13
+  ldi r13, 54
+  shr r0, r7, r13
+  ldi r13, 63
+  and r0, r0, r13
+  addi r0, r0, -3
+  ldi r12, 1
+  shl r0, r12, r0
+  ldi r13, 64
+  ltu r1, r0, r13
+  ldi r0, 1
+  bnz r1, L148
+  mov r0, r2
+L148:
+  ldi r13, 1
+  shl r0, r0, r13
+  ldi r13, 64
+  ltu r1, r0, r13
+  mov r0, r3
+  bnz r1, L149
+  mov r0, r10
+L149:
+  xor r1, r5, r0
+  lea r0, r7, r4
+  st r0, r1, 0, any, keep
+  ldi r13, 2
+  or r0, r8, r13
+  shl r4, r0, r9
+  lea r0, r7, r4
+  ld r5, r0, 0, any, keep
+  ldi r13, 54
+  shr r0, r7, r13
+  ldi r13, 63
+  and r0, r0, r13
+  addi r0, r0, -3
+  ldi r12, 1
+  shl r0, r12, r0
+  ldi r13, 6
+  shr r2, r0, r13
+  ldi r13, 54
+  shr r0, r7, r13
+  ldi r13, 63
+  and r0, r0, r13
+  addi r0, r0, -3
+  ldi r12, 1
+  shl r0, r12, r0
+  ldi r13, 64
+  ltu r1, r0, r13
+  ldi r0, 1
+  bnz r1, L150
+  mov r0, r2
+L150:
+  ldi r13, 1
+  shl r0, r0, r13
+  shl r0, r10, r0
+  xor r3, r0, r10
+  ldi r13, 54
+  shr r0, r7, r13
+  ldi r13, 63
+  and r0, r0, r13
+  addi r0, r0, -3
+  ldi r12, 1
+  shl r0, r12, r0
+  ldi r13, 6
+  shr r2, r0, r13
+  ldi r13, 54
+  shr r0, r7, r13
+  ldi r13, 63
+  and r0, r0, r13
+  addi r0, r0, -3
+  ldi r12, 1
+  shl r0, r12, r0
+  ldi r13, 64
+  ltu r1, r0, r13
+  ldi r0, 1
+  bnz r1, L151
+  mov r0, r2
+L151:
+  ldi r13, 1
+  shl r0, r0, r13
+  ldi r13, 64
+  ltu r1, r0, r13
+  mov r0, r3
+  bnz r1, L152
+  mov r0, r10
+L152:
+  xor r1, r5, r0
+  lea r0, r7, r4
+  st r0, r1, 0, any, keep
+  or r0, r8, r9
+  shl r4, r0, r9
+  lea r0, r7, r4
+  ld r5, r0, 0, any, keep
+  ldi r13, 54
+  shr r0, r7, r13
+  ldi r13, 63
+  and r0, r0, r13
+  addi r0, r0, -3
+  ldi r12, 1
+  shl r0, r12, r0
+  ldi r13, 6
+  shr r2, r0, r13
+  ldi r13, 54
+  shr r0, r7, r13
+  ldi r13, 63
+  and r0, r0, r13
+  addi r0, r0, -3
+  ldi r12, 1
+  shl r0, r12, r0
+  ldi r13, 64
+  ltu r1, r0, r13
+  ldi r0, 1
+  bnz r1, L153
+  mov r0, r2
+L153:
+  ldi r13, 1
+  shl r0, r0, r13
+  shl r0, r10, r0
+  xor r3, r0, r10
+  ldi r13, 54
+  shr r0, r7, r13
+  ldi r13, 63
+  and r0, r0, r13
+  addi r0, r0, -3
+  ldi r12, 1
+  shl r0, r12, r0
+  ldi r13, 6
+  shr r2, r0, r13
+  ldi r13, 54
+  shr r0, r7, r13
+  ldi r13, 63
+  and r0, r0, r13
+  addi r0, r0, -3
+  ldi r12, 1
+  shl r0, r12, r0
+  ldi r13, 64
+  ltu r1, r0, r13
+  ldi r0, 1
+  bnz r1, L154
+  mov r0, r2
+L154:
+  ldi r13, 1
+  shl r0, r0, r13
+  ldi r13, 64
+  ltu r1, r0, r13
+  mov r0, r3
+  bnz r1, L155
+  mov r0, r10
+L155:
+  xor r1, r5, r0
+  lea r0, r7, r4
+  st r0, r1, 0, any, keep
+  addi r8, r8, 4
+  addi r6, r6, 4
+  ldi r13, 54
+  shr r0, r7, r13
+  ldi r13, 63
+  and r0, r0, r13
+  addi r0, r0, -3
+  ldi r12, 1
+  shl r0, r12, r0
+  ldi r13, 6
+  shr r2, r0, r13
+  ldi r13, 54
+  shr r0, r7, r13
+  ldi r13, 63
+  and r0, r0, r13
+  addi r0, r0, -3
+  ldi r12, 1
+  shl r0, r12, r0
+  ldi r13, 64
+  ltu r1, r0, r13
+  ldi r0, 1
+  bnz r1, L156
+  mov r0, r2
+L156:
+  ldi r13, 2
+  mul r0, r0, r13
+  addi r0, r0, -1
+  ldi r13, 6
+  shr r0, r0, r13
+  addi r3, r0, 1
+  ldi r13, 54
+  shr r0, r7, r13
+  ldi r13, 63
+  and r0, r0, r13
+  addi r0, r0, -3
+  ldi r12, 1
+  shl r0, r12, r0
+  ldi r13, 6
+  shr r2, r0, r13
+  ldi r13, 54
+  shr r0, r7, r13
+  ldi r13, 63
+  and r0, r0, r13
+  addi r0, r0, -3
+  ldi r12, 1
+  shl r0, r12, r0
+  ldi r13, 64
+  ltu r1, r0, r13
+  ldi r0, 1
+  bnz r1, L157
+  mov r0, r2
+L157:
+  ldi r13, 2
+  mul r0, r0, r13
+  addi r0, r0, -1
+  ldi r13, 6
+  shr r0, r0, r13
+  addi r0, r0, 1
+  and r0, r0, r9
+  sub r0, r3, r0
+  eq r0, r6, r0
+  bz r0, L78
+L79:
+  ldi r13, 54
+  shr r0, r7, r13
+  ldi r13, 63
+  and r0, r0, r13
+  addi r0, r0, -3
+  ldi r12, 1
+  shl r0, r12, r0
+  ldi r13, 6
+  shr r2, r0, r13
+  ldi r13, 54
+  shr r0, r7, r13
+  ldi r13, 63
+  and r0, r0, r13
+  addi r0, r0, -3
+  ldi r12, 1
+  shl r0, r12, r0
+  ldi r13, 64
+  ltu r1, r0, r13
+  ldi r0, 1
+  bnz r1, L158
+  mov r0, r2
+L158:
+  ldi r13, 2
+  mul r0, r0, r13
+  addi r0, r0, -1
+  ldi r13, 6
+  shr r0, r0, r13
+  addi r0, r0, 1
+  and r0, r0, r9
+  eq r0, r0, r11
+  eq r0, r0, r11
+  bnz r0, L114
+L115:
+  ldi r13, 54
+  shr r0, r7, r13
+  ldi r13, 63
+  and r0, r0, r13
+  addi r0, r0, -3
+  ldi r12, 1
+  shl r0, r12, r0
+  ldi r13, 6
+  shr r2, r0, r13
+  ldi r13, 54
+  shr r0, r7, r13
+  ldi r13, 63
+  and r0, r0, r13
+  addi r0, r0, -3
+  ldi r12, 1
+  shl r0, r12, r0
+  ldi r13, 64
+  ltu r1, r0, r13
+  ldi r0, 1
+  bnz r1, L159
+  mov r0, r2
+L159:
+  ldi r13, 1
+  shl r2, r0, r13
+  br L81
+L114:
+  mov r5, r11
+L80:
+  shl r4, r8, r9
+  lea r0, r7, r4
+  ld r6, r0, 0, any, keep
+  ldi r13, 54
+  shr r0, r7, r13
+  ldi r13, 63
+  and r0, r0, r13
+  addi r0, r0, -3
+  ldi r12, 1
+  shl r0, r12, r0
+  ldi r13, 6
+  shr r2, r0, r13
+  ldi r13, 54
+  shr r0, r7, r13
+  ldi r13, 63
+  and r0, r0, r13
+  addi r0, r0, -3
+  ldi r12, 1
+  shl r0, r12, r0
+  ldi r13, 64
+  ltu r1, r0, r13
+  ldi r0, 1
+  bnz r1, L160
+  mov r0, r2
+L160:
+  ldi r13, 1
+  shl r0, r0, r13
+  shl r0, r10, r0
+  xor r3, r0, r10
+  ldi r13, 54
+  shr r0, r7, r13
+  ldi r13, 63
+  and r0, r0, r13
+  addi r0, r0, -3
+  ldi r12, 1
+  shl r0, r12, r0
+  ldi r13, 6
+  shr r2, r0, r13
+  ldi r13, 54
+  shr r0, r7, r13
+  ldi r13, 63
+  and r0, r0, r13
+  addi r0, r0, -3
+  ldi r12, 1
+  shl r0, r12, r0
+  ldi r13, 64
+  ltu r1, r0, r13
+  ldi r0, 1
+  bnz r1, L161
+  mov r0, r2
+L161:
+  ldi r13, 1
+  shl r0, r0, r13
+  ldi r13, 64
+  ltu r1, r0, r13
+  mov r0, r3
+  bnz r1, L162
+  mov r0, r10
+L162:
+  xor r1, r6, r0
+  lea r0, r7, r4
+  st r0, r1, 0, any, keep
+  addi r8, r8, 1
+  addi r5, r5, 1
+  ldi r13, 54
+  shr r0, r7, r13
+  ldi r13, 63
+  and r0, r0, r13
+  addi r0, r0, -3
+  ldi r12, 1
+  shl r0, r12, r0
+  ldi r13, 6
+  shr r2, r0, r13
+  ldi r13, 54
+  shr r0, r7, r13
+  ldi r13, 63
+  and r0, r0, r13
+  addi r0, r0, -3
+  ldi r12, 1
+  shl r0, r12, r0
+  ldi r13, 64
+  ltu r1, r0, r13
+  ldi r0, 1
+  bnz r1, L163
+  mov r0, r2
+L163:
+  ldi r13, 2
+  mul r0, r0, r13
+  addi r0, r0, -1
+  ldi r13, 6
+  shr r0, r0, r13
+  addi r0, r0, 1
+  and r0, r0, r9
+  eq r0, r5, r0
+  bz r0, L80
+L116:
+  ldi r13, 54
+  shr r0, r7, r13
+  ldi r13, 63
+  and r0, r0, r13
+  addi r0, r0, -3
+  ldi r12, 1
+  shl r0, r12, r0
+  ldi r13, 6
+  shr r2, r0, r13
+  ldi r13, 54
+  shr r0, r7, r13
+  ldi r13, 63
+  and r0, r0, r13
+  addi r0, r0, -3
+  ldi r12, 1
+  shl r0, r12, r0
+  ldi r13, 64
+  ltu r1, r0, r13
+  ldi r0, 1
+  bnz r1, L164
+  mov r0, r2
+L164:
+  ldi r13, 1
+  shl r2, r0, r13
+L81:
+  ld r12, r15, 0, any, keep
+  addi r0, r12, 7
   ldi r13, -8
   and r0, r0, r13
+  ld r12, r15, 0, any, keep
   mov r13, r0
-  bnz r1, L81
+  bnz r12, L165
   ldi r13, 8
-L81:
-  st r15, r13, 8, any, keep
-  ldi r12, 2097151
-  ld r13, r15, 8, any, keep
-  ltu r0, r12, r13
-  bnz r0, L71
-L72:
-  mov r11, r10
-  br L59
-L71:
-  ldi r4, 0
-  ldi r3, 0
-  br L70
-L59:
-  shl r12, r9, r11
-  st r15, r12, 0, any, keep
-  addi r1, r11, 1
-  ld r12, r15, 0, any, keep
-  ld r13, r15, 8, any, keep
-  ltu r0, r12, r13
-  bz r0, L60
-L73:
-  mov r11, r1
-  br L59
-L60:
-  shl r1, r11, r10
-  lea r0, r5, r1
-  ld r0, r0, 0, any, keep
-  bz r0, L62
-L61:
-  ld r2, r0, 0, any, keep
-  lea r1, r5, r1
-  st r1, r2, 0, any, keep
-  br L69
-L62:
-  ldi r13, 54
-  shr r0, r7, r13
-  and r0, r0, r3
-  ltu r0, r11, r0
-  bnz r0, L63
-L74:
-  ldi r0, 0
-  br L69
-L63:
-  ld r1, r6, 0, any, keep
-  ld r12, r15, 0, any, keep
-  addi r8, r12, -1
-  add r2, r1, r8
-  ldi r12, 0
-  ld r13, r15, 0, any, keep
-  sub r0, r12, r13
-  and r0, r2, r0
-  ld r13, r15, 0, any, keep
-  add r2, r0, r13
-  ldi r13, 54
-  shr r0, r7, r13
-  and r0, r0, r3
-  shl r0, r9, r0
-  ltu r0, r0, r2
-  bz r0, L64
-L75:
-  ldi r0, 0
-  br L69
-L64:
-  and r0, r1, r8
-  bz r0, L65
-L77:
-  mov r3, r10
-  br L66
-L65:
-  ld r13, r15, 0, any, keep
-  add r0, r1, r13
-  st r6, r0, 0, any, keep
-  leab r0, r7, r1
-  subseg r0, r0, r11
-  br L69
-L66:
-  shl r4, r9, r3
-  and r0, r4, r1
-  bz r0, L68
-L67:
-  leab r0, r7, r1
-  subseg r2, r0, r3
-  shl r1, r3, r10
-  lea r0, r5, r1
-  ld r0, r0, 0, any, keep
-  st r2, r0, 0, any, keep
-  lea r0, r5, r1
-  st r0, r2, 0, any, keep
-  ld r0, r6, 0, any, keep
-  add r1, r0, r4
-  st r6, r1, 0, any, keep
-L68:
-  addi r3, r3, 1
-  and r0, r1, r8
-  bz r0, L65
-  br L66
-L69:
-  ld r12, r15, 0, any, keep
-  ld r13, r15, 8, any, keep
-  sub r1, r12, r13
-  mov r4, r1
-  bnz r0, L82
-  ldi r4, 0
+L165:
+  st r15, r13, 64, any, keep
+  st r15, r9, 16, any, keep
 L82:
-  mov r3, r0
-  bnz r0, L70
-  ldi r3, 0
+  ldi r12, 1
+  ld r13, r15, 16, any, keep
+  shl r12, r12, r13
+  st r15, r12, 56, any, keep
+  ld r12, r15, 16, any, keep
+  addi r1, r12, 1
+  ld r12, r15, 56, any, keep
+  ld r13, r15, 64, any, keep
+  ltu r0, r12, r13
+  bz r0, L83
+L118:
+  st r15, r1, 16, any, keep
+  br L82
 L83:
-L70:
-  add r2, r3, r4
-  isptr r0, r3
-  bz r0, L84
-  ldi r0, 54
-  shr r0, r3, r0
-  xor r1, r2, r3
-  shr r1, r1, r0
-  bnz r1, L84
-  lea r2, r3, r4
+  ldi r13, 54
+  shr r0, r7, r13
+  ldi r13, 63
+  and r0, r0, r13
+  ld r12, r15, 16, any, keep
+  ltu r3, r12, r0
+  ldi r13, 54
+  shr r0, r7, r13
+  ldi r13, 63
+  and r0, r0, r13
+  addi r0, r0, -3
+  ldi r12, 1
+  shl r0, r12, r0
+  shl r0, r0, r9
+  ld r13, r15, 64, any, keep
+  ltu r1, r0, r13
+  mov r0, r11
+  bnz r1, L166
+  mov r0, r3
+L166:
+  bnz r0, L84
+L119:
+  mov r5, r11
+  mov r8, r11
+  br L108
 L84:
+  ld r12, r15, 16, any, keep
+  addi r12, r12, -3
+  st r15, r12, 24, any, keep
+  ldi r12, 1
+  ld r13, r15, 24, any, keep
+  shl r12, r12, r13
+  st r15, r12, 0, any, keep
+  ld r12, r15, 0, any, keep
+  addi r12, r12, -1
+  st r15, r12, 48, any, keep
+  ld r13, r15, 48, any, keep
+  add r1, r2, r13
+  ld r13, r15, 0, any, keep
+  sub r0, r11, r13
+  and r12, r1, r0
+  st r15, r12, 8, any, keep
+  ld r13, r15, 0, any, keep
+  shl r0, r10, r13
+  xor r1, r0, r10
+  ld r12, r15, 24, any, keep
+  ldi r13, 6
+  ltu r0, r12, r13
+  mov r13, r1
+  bnz r0, L167
+  mov r13, r10
+L167:
+  st r15, r13, 32, any, keep
+  ldi r13, 54
+  shr r0, r7, r13
+  ldi r13, 63
+  and r0, r0, r13
+  addi r0, r0, -3
+  ldi r12, 1
+  shl r0, r12, r0
+  ld r12, r15, 0, any, keep
+  add r12, r12, r0
+  st r15, r12, 40, any, keep
+  mov r3, r11
+L85:
+  ld r12, r15, 8, any, keep
+  ld r13, r15, 0, any, keep
+  add r1, r12, r13
+  ldi r13, 54
+  shr r0, r7, r13
+  ldi r13, 63
+  and r0, r0, r13
+  addi r0, r0, -3
+  ldi r12, 1
+  shl r0, r12, r0
+  ltu r0, r0, r1
+  mov r5, r11
+  bnz r0, L168
+  ld r5, r15, 8, any, keep
+L168:
+  ldi r13, 63
+  and r1, r5, r13
+  eq r2, r1, r11
+  ld r12, r15, 24, any, keep
+  ldi r13, 6
+  ltu r0, r12, r13
+  bnz r0, L169
+  mov r2, r11
+L169:
+  ldi r13, 54
+  shr r0, r7, r13
+  ldi r13, 63
+  and r0, r0, r13
+  addi r0, r0, -3
+  ldi r12, 1
+  shl r0, r12, r0
+  ltu r0, r5, r0
+  bnz r2, L170
+  mov r0, r11
+L170:
+  bz r0, L88
+L86:
+  ldi r13, 6
+  shr r0, r5, r13
+  shl r0, r0, r9
+  lea r0, r7, r0
+  ld r0, r0, 0, any, keep
+  eq r0, r0, r10
+  bnz r0, L87
+L122:
+  mov r1, r11
+  br L88
+L87:
+  addi r5, r5, 64
+  addi r3, r3, 64
+  ldi r13, 54
+  shr r0, r7, r13
+  ldi r13, 63
+  and r0, r0, r13
+  addi r0, r0, -3
+  ldi r12, 1
+  shl r0, r12, r0
+  ltu r0, r5, r0
+  bnz r0, L86
+L124:
+  mov r1, r11
+L88:
+  ld r13, r15, 0, any, keep
+  add r12, r5, r13
+  st r15, r12, 8, any, keep
+  ldi r13, 54
+  shr r0, r7, r13
+  ldi r13, 63
+  and r0, r0, r13
+  addi r0, r0, -3
+  ldi r12, 1
+  shl r0, r12, r0
+  ld r13, r15, 8, any, keep
+  ltu r0, r0, r13
+  bnz r0, L94
+L89:
+  ld r12, r15, 32, any, keep
+  shl r8, r12, r1
+  ldi r13, 6
+  shr r4, r5, r13
+  ld r13, r15, 48, any, keep
+  add r0, r5, r13
+  ldi r13, 6
+  shr r6, r0, r13
+  ltu r0, r6, r4
+  bnz r0, L95
+L90:
+  shl r0, r4, r9
+  lea r0, r7, r0
+  ld r0, r0, 0, any, keep
+  and r0, r0, r8
+  bnz r0, L94
+L125:
+  mov r2, r4
+L91:
+  addi r1, r2, 1
+  eq r0, r2, r6
+  bnz r0, L95
+L92:
+  shl r0, r1, r9
+  lea r0, r7, r0
+  ld r0, r0, 0, any, keep
+  and r0, r0, r8
+  bnz r0, L93
+L126:
+  mov r2, r1
+  br L91
+L93:
+  ltu r0, r2, r6
+  bz r0, L95
+L94:
+  ld r13, r15, 0, any, keep
+  add r3, r3, r13
+  ld r12, r15, 40, any, keep
+  ltu r0, r12, r3
+  bz r0, L85
+L139:
+  mov r5, r11
+  mov r8, r11
+  br L108
+L95:
+  ldi r13, 54
+  shr r0, r7, r13
+  ldi r13, 63
+  and r0, r0, r13
+  addi r0, r0, -3
+  ldi r12, 1
+  shl r0, r12, r0
+  eq r0, r5, r0
+  bz r0, L96
+L127:
+  mov r5, r11
+  mov r8, r11
+  br L108
+L96:
+  shl r0, r5, r9
+  leab r0, r7, r0
+  ld r13, r15, 16, any, keep
+  subseg r8, r0, r13
+  lip r12, P_11
+  ld r12, r12, 0, any, keep
+  ld r12, r12, 0, any, keep
+  st r15, r12, 16, any, keep
+  ld r13, r15, 16, any, keep
+  ltu r0, r5, r13
+  bz r0, L101
+L97:
+  ld r12, r15, 0, any, keep
+  ldi r13, 1
+  ltu r0, r12, r13
+  ldi r1, 1
+  bnz r0, L171
+  ld r1, r15, 0, any, keep
+L171:
+  addi r0, r1, -1
+  ldi r13, 7
+  and r6, r1, r13
+  ldi r13, 7
+  ltu r0, r0, r13
+  bz r0, L98
+L128:
+  mov r2, r11
+  br L99
+L98:
+  ldi r13, -8
+  and r3, r1, r13
+  mov r2, r11
+  mov r1, r11
+  br L107
+L99:
+  bz r6, L101
+L131:
+  mov r1, r11
+L100:
+  shl r0, r2, r9
+  lea r0, r8, r0
+  st r0, r11, 0, any, keep
+  addi r2, r2, 1
+  addi r1, r1, 1
+  eq r0, r1, r6
+  bz r0, L100
+L101:
+  ldi r13, 63
+  and r0, r5, r13
+  ld r12, r15, 32, any, keep
+  shl r5, r12, r0
+  ld r12, r15, 8, any, keep
+  addi r0, r12, -1
+  ldi r13, 6
+  shr r10, r0, r13
+  ltu r0, r10, r4
+  bnz r0, L106
+L102:
+  addi r0, r10, 1
+  sub r0, r0, r4
+  sub r12, r10, r4
+  st r15, r12, 0, any, keep
+  and r6, r0, r9
+  bz r6, L104
+L134:
+  mov r3, r11
+L103:
+  shl r2, r4, r9
+  lea r0, r7, r2
+  ld r0, r0, 0, any, keep
+  xor r1, r0, r5
+  lea r0, r7, r2
+  st r0, r1, 0, any, keep
+  addi r4, r4, 1
+  addi r3, r3, 1
+  eq r0, r3, r6
+  bz r0, L103
+L104:
+  ld r12, r15, 0, any, keep
+  ltu r0, r12, r9
+  bnz r0, L106
+L105:
+  shl r2, r4, r9
+  lea r0, r7, r2
+  ld r0, r0, 0, any, keep
+  xor r1, r0, r5
+  lea r0, r7, r2
+  st r0, r1, 0, any, keep
+  addi r0, r4, 1
+  shl r2, r0, r9
+  lea r0, r7, r2
+  ld r0, r0, 0, any, keep
+  xor r1, r0, r5
+  lea r0, r7, r2
+  st r0, r1, 0, any, keep
+  addi r0, r4, 2
+  shl r2, r0, r9
+  lea r0, r7, r2
+  ld r0, r0, 0, any, keep
+  xor r1, r0, r5
+  lea r0, r7, r2
+  st r0, r1, 0, any, keep
+  addi r3, r4, 3
+  shl r2, r3, r9
+  lea r0, r7, r2
+  ld r0, r0, 0, any, keep
+  xor r1, r0, r5
+  lea r0, r7, r2
+  st r0, r1, 0, any, keep
+  addi r4, r4, 4
+  eq r0, r3, r10
+  bz r0, L105
+L106:
+  lip r12, P_10
+  ld r12, r12, 0, any, keep
+  ld r13, r15, 8, any, keep
+  st r12, r13, 0, any, keep
+  ld r12, r15, 16, any, keep
+  ld r13, r15, 8, any, keep
+  ltu r1, r12, r13
+  ld r0, r15, 8, any, keep
+  bnz r1, L172
+  ld r0, r15, 16, any, keep
+L172:
+  lip r12, P_11
+  ld r12, r12, 0, any, keep
+  st r12, r0, 0, any, keep
+  ld r12, r15, 56, any, keep
+  ld r13, r15, 64, any, keep
+  sub r5, r12, r13
+  add r0, r8, r5
+  ldi r13, 4194303
+  ldhi r13, 4294967295
+  and r1, r0, r13
+  ldi r13, 4194303
+  ldhi r13, 4294967295
+  and r0, r7, r13
+  sub r1, r1, r0
+  shr r0, r1, r9
+  ldi r13, 63
+  and r0, r0, r13
+  ldi r12, 1
+  shl r4, r12, r0
+  ldi r13, 9
+  shr r3, r1, r13
+  ldi r13, 54
+  shr r0, r7, r13
+  ldi r13, 63
+  and r0, r0, r13
+  addi r0, r0, -3
+  ldi r12, 1
+  shl r0, r12, r0
+  ldi r13, 6
+  shr r2, r0, r13
+  ldi r13, 54
+  shr r0, r7, r13
+  ldi r13, 63
+  and r0, r0, r13
+  addi r0, r0, -3
+  ldi r12, 1
+  shl r0, r12, r0
+  ldi r13, 64
+  ltu r1, r0, r13
+  ldi r0, 1
+  bnz r1, L173
   mov r0, r2
-  ld r7, r15, 16, any, keep
-  ld r8, r15, 24, any, keep
-  ld r9, r15, 32, any, keep
-  ld r10, r15, 40, any, keep
-  ld r11, r15, 48, any, keep
-  leai r15, r15, 56
+L173:
+  add r0, r3, r0
+  shl r2, r0, r9
+  lea r0, r7, r2
+  ld r0, r0, 0, any, keep
+  or r1, r0, r4
+  lea r0, r7, r2
+  st r0, r1, 0, any, keep
+  br L108
+L107:
+  shl r0, r2, r9
+  lea r0, r8, r0
+  st r0, r11, 0, any, keep
+  ldi r13, 1
+  or r0, r2, r13
+  shl r0, r0, r9
+  lea r0, r8, r0
+  st r0, r11, 0, any, keep
+  ldi r13, 2
+  or r0, r2, r13
+  shl r0, r0, r9
+  lea r0, r8, r0
+  st r0, r11, 0, any, keep
+  or r0, r2, r9
+  shl r0, r0, r9
+  lea r0, r8, r0
+  st r0, r11, 0, any, keep
+  ldi r13, 4
+  or r0, r2, r13
+  shl r0, r0, r9
+  lea r0, r8, r0
+  st r0, r11, 0, any, keep
+  ldi r13, 5
+  or r0, r2, r13
+  shl r0, r0, r9
+  lea r0, r8, r0
+  st r0, r11, 0, any, keep
+  ldi r13, 6
+  or r0, r2, r13
+  shl r0, r0, r9
+  lea r0, r8, r0
+  st r0, r11, 0, any, keep
+  ldi r13, 7
+  or r0, r2, r13
+  shl r0, r0, r9
+  lea r0, r8, r0
+  st r0, r11, 0, any, keep
+  addi r2, r2, 8
+  addi r1, r1, 8
+  eq r0, r1, r3
+  bnz r0, L99
+  br L107
+L108:
+  add r2, r8, r5
+  isptr r0, r8
+  bz r0, L174
+  ldi r0, 54
+  shr r0, r8, r0
+  xor r1, r2, r8
+  shr r1, r1, r0
+  bnz r1, L174
+  lea r2, r8, r5
+L174:
+  mov r0, r2
+  ld r7, r15, 72, any, keep
+  ld r8, r15, 80, any, keep
+  ld r9, r15, 88, any, keep
+  ld r10, r15, 96, any, keep
+  ld r11, r15, 104, any, keep
+  leai r15, r15, 112
   jmp r14
 strcmp:
+  ;@ frame back - caller by 40
   leai r15, r15, -40
   st r15, r7, 0, any, keep
   st r15, r8, 8, any, keep
@@ -776,7 +1838,7 @@ strcmp:
   ldi r8, -1
   ldi r9, 1
   mov r3, r4
-L86:
+L176:
   lea r1, r10, r3
   and r0, r1, r6
   sub r0, r4, r0
@@ -794,24 +1856,24 @@ L86:
   shr r0, r0, r1
   and r1, r0, r7
   eq r0, r2, r1
-  bnz r0, L88
-L87:
+  bnz r0, L178
+L177:
   ltu r0, r2, r1
   mov r1, r8
-  bnz r0, L89
+  bnz r0, L179
   mov r1, r9
-L92:
-  br L89
-L88:
+L182:
+  br L179
+L178:
   addi r3, r3, 1
   eq r0, r3, r8
-  bnz r2, L93
+  bnz r2, L183
   mov r0, r9
-L93:
-  bz r0, L86
-L90:
+L183:
+  bz r0, L176
+L180:
   mov r1, r4
-L89:
+L179:
   mov r0, r1
   ld r7, r15, 0, any, keep
   ld r8, r15, 8, any, keep
@@ -821,6 +1883,7 @@ L89:
   leai r15, r15, 40
   jmp r14
 strtok:
+  ;@ frame back - caller by 48
   leai r15, r15, -48
   st r15, r7, 8, any, keep
   st r15, r8, 16, any, keep
@@ -834,19 +1897,19 @@ strtok:
   ldi r8, 7
   ldi r4, 56
   ld r12, r15, 0, any, keep
-  bnz r12, L96
-L95:
+  bnz r12, L186
+L185:
   lip r12, P_12
   ld r12, r12, 0, any, keep
   ld r12, r12, 0, any, keep
   st r15, r12, 0, any, keep
   ld r12, r15, 0, any, keep
-  bnz r12, L96
-L113:
+  bnz r12, L186
+L203:
   mov r10, r7
   st r15, r7, 0, any, keep
-  br L111
-L96:
+  br L201
+L186:
   ld r12, r15, 0, any, keep
   and r0, r12, r8
   sub r0, r7, r0
@@ -860,14 +1923,14 @@ L96:
   sar r5, r0, r4
   ldi r13, 255
   and r0, r5, r13
-  bnz r0, L97
-L115:
+  bnz r0, L187
+L205:
   mov r3, r7
   mov r4, r7
   mov r10, r7
   st r15, r7, 0, any, keep
-  br L110
-L97:
+  br L200
+L187:
   and r0, r6, r8
   sub r0, r7, r0
   lea r0, r6, r0
@@ -877,14 +1940,14 @@ L97:
   shl r0, r0, r4
   sar r3, r0, r4
   mov r10, r7
-L98:
+L188:
   eq r0, r5, r3
-  bnz r0, L101
-L116:
+  bnz r0, L191
+L206:
   mov r1, r3
   mov r2, r7
-  br L100
-L99:
+  br L190
+L189:
   lea r1, r6, r2
   and r0, r1, r8
   sub r0, r7, r0
@@ -895,12 +1958,12 @@ L99:
   shl r0, r0, r4
   sar r1, r0, r4
   eq r0, r5, r1
-  bnz r0, L101
-L100:
+  bnz r0, L191
+L190:
   addi r2, r2, 1
-  bz r1, L102
-  br L99
-L101:
+  bz r1, L192
+  br L189
+L191:
   addi r10, r10, 1
   ld r12, r15, 0, any, keep
   lea r1, r12, r10
@@ -914,22 +1977,22 @@ L101:
   sar r5, r0, r4
   ldi r13, 255
   and r0, r5, r13
-  bnz r0, L98
-L126:
+  bnz r0, L188
+L216:
   mov r3, r7
   mov r4, r7
   mov r10, r7
   st r15, r7, 0, any, keep
-  br L110
-L102:
-  bnz r5, L103
-L117:
+  br L200
+L192:
+  bnz r5, L193
+L207:
   mov r3, r7
   mov r4, r7
   mov r10, r7
   st r15, r7, 0, any, keep
-  br L110
-L103:
+  br L200
+L193:
   and r0, r6, r8
   sub r0, r7, r0
   lea r0, r6, r0
@@ -939,14 +2002,14 @@ L103:
   shl r0, r0, r4
   sar r11, r0, r4
   mov r3, r7
-L104:
+L194:
   eq r0, r5, r11
-  bnz r0, L108
-L119:
+  bnz r0, L198
+L209:
   mov r1, r11
   mov r2, r7
-  br L106
-L105:
+  br L196
+L195:
   lea r1, r6, r2
   and r0, r1, r8
   sub r0, r7, r0
@@ -957,11 +2020,11 @@ L105:
   shl r0, r0, r4
   sar r1, r0, r4
   eq r0, r5, r1
-  bnz r0, L108
-L106:
+  bnz r0, L198
+L196:
   addi r2, r2, 1
-  bnz r1, L105
-L107:
+  bnz r1, L195
+L197:
   addi r3, r3, 1
   add r0, r10, r3
   ld r12, r15, 0, any, keep
@@ -976,8 +2039,8 @@ L107:
   sar r5, r0, r4
   ldi r13, 255
   and r0, r5, r13
-  bnz r0, L104
-L108:
+  bnz r0, L194
+L198:
   add r4, r10, r3
   ld r12, r15, 0, any, keep
   lea r1, r12, r4
@@ -989,12 +2052,12 @@ L108:
   shr r0, r0, r1
   ldi r13, 255
   and r0, r0, r13
-  bnz r0, L109
-L124:
+  bnz r0, L199
+L214:
   mov r3, r7
   mov r4, r7
-  br L110
-L109:
+  br L200
+L199:
   ld r12, r15, 0, any, keep
   lea r1, r12, r4
   and r0, r1, r8
@@ -1011,32 +2074,32 @@ L109:
   st r3, r0, 0, any, keep
   addi r3, r4, 1
   ld r4, r15, 0, any, keep
-L110:
+L200:
   add r2, r4, r3
   isptr r0, r4
-  bz r0, L128
+  bz r0, L218
   ldi r0, 54
   shr r0, r4, r0
   xor r1, r2, r4
   shr r1, r1, r0
-  bnz r1, L128
+  bnz r1, L218
   lea r2, r4, r3
-L128:
+L218:
   lip r12, P_12
   ld r12, r12, 0, any, keep
   st r12, r2, 0, any, keep
-L111:
+L201:
   ld r12, r15, 0, any, keep
   add r2, r12, r10
   isptr r0, r12
-  bz r0, L129
+  bz r0, L219
   ldi r0, 54
   shr r0, r12, r0
   xor r1, r2, r12
   shr r1, r1, r0
-  bnz r1, L129
+  bnz r1, L219
   lea r2, r12, r10
-L129:
+L219:
   mov r0, r2
   ld r7, r15, 8, any, keep
   ld r8, r15, 16, any, keep
@@ -1046,6 +2109,7 @@ L129:
   leai r15, r15, 48
   jmp r14
 memcpy:
+  ;@ frame back - caller by 64
   leai r15, r15, -64
   st r15, r7, 24, any, keep
   st r15, r8, 32, any, keep
@@ -1066,15 +2130,15 @@ memcpy:
   ld r12, r15, 8, any, keep
   ltu r0, r12, r2
   or r0, r1, r0
-  bnz r0, L138
-L139:
+  bnz r0, L228
+L229:
   mov r6, r2
   mov r2, r7
-  br L131
-L138:
+  br L221
+L228:
   mov r6, r7
-  br L132
-L131:
+  br L222
+L221:
   lea r0, r11, r2
   ld r1, r0, 0, any, keep
   lea r0, r10, r2
@@ -1082,16 +2146,16 @@ L131:
   addi r1, r6, 8
   ld r12, r15, 8, any, keep
   ltu r0, r12, r1
-  bnz r0, L132
-L141:
+  bnz r0, L222
+L231:
   mov r2, r6
   mov r6, r1
-  br L131
-L132:
+  br L221
+L222:
   ld r13, r15, 8, any, keep
   ltu r0, r6, r13
-  bz r0, L137
-L133:
+  bz r0, L227
+L223:
   ldi r13, -1
   xor r0, r6, r13
   ld r13, r15, 8, any, keep
@@ -1101,10 +2165,10 @@ L133:
   and r12, r12, r8
   st r15, r12, 0, any, keep
   ld r12, r15, 0, any, keep
-  bz r12, L135
-L143:
+  bz r12, L225
+L233:
   mov r5, r7
-L134:
+L224:
   lea r1, r11, r6
   and r0, r1, r9
   sub r0, r7, r0
@@ -1129,12 +2193,12 @@ L134:
   addi r5, r5, 1
   ld r13, r15, 0, any, keep
   eq r0, r5, r13
-  bz r0, L134
-L135:
+  bz r0, L224
+L225:
   ld r12, r15, 16, any, keep
   ltu r0, r12, r8
-  bnz r0, L137
-L136:
+  bnz r0, L227
+L226:
   lea r1, r11, r6
   and r0, r1, r9
   sub r0, r7, r0
@@ -1221,8 +2285,8 @@ L136:
   addi r6, r6, 4
   ld r13, r15, 8, any, keep
   eq r0, r6, r13
-  bz r0, L136
-L137:
+  bz r0, L226
+L227:
   mov r0, r10
   ld r7, r15, 24, any, keep
   ld r8, r15, 32, any, keep
@@ -1241,8 +2305,8 @@ P_6: .ptr ro _str_4+4
 P_7: .ptr ro _str_5+4
 P_8: .ptr rw stdout+0
 P_9: .ptr rw heap+0
-P_10: .ptr rw unused+88
-P_11: .ptr rw top+0
+P_10: .ptr rw next+0
+P_11: .ptr rw used+0
 P_12: .ptr rw strtok_rest+0
 .segment __const_main_text 7
   ;@ global text 79 at 48
@@ -1276,10 +2340,10 @@ P_12: .ptr rw strtok_rest+0
   ;@ global chains 128 at 0 type 14
 .segment heap 16
   ;@ global __mm_heap 65536 at 0
-.segment unused 8
-  ;@ global unused 168 at 88
-.segment top 3
-  ;@ global top 8 at 0
+.segment next 3
+  ;@ global next 8 at 0
+.segment used 3
+  ;@ global used 8 at 0
 .segment strtok_rest 3
   ;@ global rest 8 at 0
 .segment files 4

@@ -5,6 +5,7 @@ from __future__ import annotations
 import os
 import shutil
 import subprocess
+import sys
 from typing import Optional, Sequence
 
 from mm.cc import cache
@@ -58,8 +59,8 @@ def _bound() -> None:
         resource.setrlimit(what, (bound, hard))
 
 
-def _run(words: Sequence[str], text: Optional[str] = None) -> str:
-    """What Clang writes, given words and, it may be, a text."""
+def _run(words: Sequence[str], text: Optional[str] = None, warns: bool = False) -> str:
+    """What Clang writes, given words and, it may be, a text. Its warnings are shown where that is wanted."""
     given = text.encode("utf-8", "surrogateescape") if text is not None else b""
     try:
         ended = subprocess.run(
@@ -74,6 +75,8 @@ def _run(words: Sequence[str], text: Optional[str] = None) -> str:
                   f"mm: Clang was stopped: it may take {SECONDS} seconds and {MEMORY >> 30} GiB of memory")
     if ended.returncode:
         raise NoC(Status.REFUSED, *said.splitlines())
+    if said and warns:
+        print(said, file=sys.stderr)
     return ended.stdout.decode("utf-8", "surrogateescape")
 
 
@@ -83,7 +86,7 @@ def text_of(path: str, level: str = "1", more: Sequence[str] = (), lines: bool =
     # Clang sees an absolute path: a name that begins with a dash or an at sign would be an option of its own.
     full = os.path.abspath(path)
     front = [*FRONT, *_told_as(path, full), "-g", *names, f"-O{level}", *more, *([] if level == "0" else AS_WRITTEN)]
-    text = lowered(_run([*front, full]), lines)
+    text = lowered(_run([*front, full], warns=lines), lines)
     if level == "0":
         return text
     optimised = _run([*names, f"-O{level}", *more, *OPTIMISED], text)

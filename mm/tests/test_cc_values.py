@@ -1,0 +1,491 @@
+"""What translated code computes: programs in LLVM's text whose result stands in r0. No compiler is needed. Each is run as
+it is, and once more with a second reckoning of each value."""
+
+import os
+import unittest
+from unittest import mock
+
+from mm.cc.alignment import lowered
+from mm.cc.arithmetic import CONDITIONS
+from mm.machine.program import find_program
+from mm.outputs.report import read_report
+from mm.tests.support import folder, needs_program, write
+from mm.tests.test_cc import source
+
+TRAP = 11
+SUM = """@a = global [9 x i32] [i32 1, i32 2, i32 4, i32 8, i32 16, i32 32, i32 64, i32 128, i32 256]
+define i32 @sum(ptr %m, i64 %n) noinline {
+  %back = sub i64 0, %n
+  %first = getelementptr i32, ptr %m, i64 %back
+  %last = getelementptr i32, ptr %m, i64 %n
+  %some = icmp {op} ptr %first, %last
+  br i1 %some, label %loop, label %out
+loop:
+  %q = phi ptr [ %first, %0 ], [ %next, %loop ]
+  %s = phi i32 [ 0, %0 ], [ %more, %loop ]
+  %v = load i32, ptr %q, align 4
+  %more = add i32 %s, %v
+  %next = getelementptr i32, ptr %q, i64 1
+  %again = icmp {op} ptr %next, %last
+  br i1 %again, label %loop, label %out
+out:
+  %r = phi i32 [ 0, %0 ], [ %more, %loop ]
+  ret i32 %r
+}
+define i32 @main() {
+  %m = getelementptr i32, ptr @a, i64 4
+  %r = call i32 @sum(ptr %m, i64 3)
+  ret i32 %r
+}"""
+# The wanted bits of r0, and the program.
+PROGRAMS = {
+    "a pointer goes from before its base to after it": (2 + 4 + 8 + 16 + 32 + 64, SUM.replace("{op}", "ult")),
+    "and as far as a last one": (2 + 4 + 8 + 16 + 32 + 64 + 128, SUM.replace("{op}", "ule")),
+    "a constant with its top bit set, in an unsigned sum": (0x90000006, """define i64 @at(i32 %x) noinline {
+  %a = and i32 %x, 65535
+  %b = add nuw i32 %a, -1879048191
+  %c = zext i32 %b to i64
+  ret i64 %c
+}
+define i64 @main() {
+  %r = call i64 @at(i32 65541)
+  ret i64 %r
+}"""),
+    "a bit that is chosen, as 1 and as -1": (9, """define i64 @pick(i1 %c, i1 %d) noinline {
+  %b = select i1 %c, i1 true, i1 %d
+  %z = zext i1 %b to i64
+  %s = sext i1 %b to i64
+  %m = mul i64 %z, 10
+  %r = add i64 %m, %s
+  ret i64 %r
+}
+define i64 @main() {
+  %r = call i64 @pick(i1 true, i1 false)
+  ret i64 %r
+}"""),
+    "objects stand as LLVM's text aligns them": (0, """@g = global [20 x i8] zeroinitializer, align 16
+@n = global i64 3
+define i64 @main() {
+  %a = alloca [20 x i8], align 16
+  %b = alloca [5 x i8], align 64
+  %n = load i64, ptr @n
+  %v = alloca [7 x i8], i64 %n, align 32
+  %ai = ptrtoint ptr %a to i64
+  %bi = ptrtoint ptr %b to i64
+  %vi = ptrtoint ptr %v to i64
+  %gi = ptrtoint ptr @g to i64
+  %am = and i64 %ai, 15
+  %bm = and i64 %bi, 63
+  %vm = and i64 %vi, 31
+  %gm = and i64 %gi, 15
+  %x = or i64 %am, %bm
+  %y = or i64 %vm, %gm
+  %r = or i64 %x, %y
+  ret i64 %r
+}"""),
+    "stores of 1, 2 and 4 bytes leave their neighbours": (0x88776655AA33BB11, """@w = global [2 x i64] [i64 -8613303245920329199, i64 0]
+@z = global i64 0
+define i64 @main() {
+  %z = load i64, ptr @z
+  %p = getelementptr i8, ptr @w, i64 %z
+  %p1 = getelementptr i8, ptr %p, i64 1
+  store i8 -69, ptr %p1, align 1
+  %k = call ptr @hidden(ptr @w)
+  %p2 = getelementptr i8, ptr %k, i64 3
+  store i8 -86, ptr %p2, align 1
+  %p4 = getelementptr i8, ptr %k, i64 4
+  %old = load i32, ptr %p4, align 4
+  %same = add i32 %old, 0
+  store i32 %same, ptr %p4, align 4
+  %p5 = getelementptr i8, ptr %k, i64 2
+  store i8 51, ptr %p5, align 1
+  %r = load i64, ptr @w, align 8
+  ret i64 %r
+}
+define ptr @hidden(ptr %p) noinline {
+  ret ptr %p
+}"""),
+    "fours in the lower and in the upper half of a word": (0x1111222233334444, """@w = global [2 x i64] zeroinitializer
+define void @put(ptr %p, i64 %at, i32 %v) noinline {
+  %q = getelementptr i32, ptr %p, i64 %at
+  store i32 %v, ptr %q, align 4
+  ret void
+}
+define i32 @get(ptr %p, i64 %at) noinline {
+  %q = getelementptr i32, ptr %p, i64 %at
+  %v = load i32, ptr %q, align 4
+  ret i32 %v
+}
+define i64 @main() {
+  call void @put(ptr @w, i64 0, i32 858993459)
+  call void @put(ptr @w, i64 1, i32 286331153)
+  call void @put(ptr @w, i64 0, i32 858997828)
+  call void @put(ptr @w, i64 1, i32 286335522)
+  %a = call i32 @get(ptr @w, i64 0)
+  %b = call i32 @get(ptr @w, i64 1)
+  %x = zext i32 %a to i64
+  %y = zext i32 %b to i64
+  %h = shl i64 %y, 32
+  %r = or i64 %h, %x
+  ret i64 %r
+}"""),
+    "halves and bytes with their signs": (0xFFFFFFFFFFFF81FE, """@w = global [8 x i8] c"\\\\01\\\\FE\\\\FF\\\\03\\\\80\\\\81\\\\06\\\\FF"
+define i64 @main() {
+  %k = call ptr @hidden(ptr @w)
+  %p = getelementptr i8, ptr %k, i64 4
+  %h = load i16, ptr %p, align 2
+  %s = sext i16 %h to i64
+  %q = getelementptr i8, ptr %k, i64 1
+  %b = load i8, ptr %q, align 1
+  %c = sext i8 %b to i64
+  %u = zext i8 %b to i64
+  %d = sub i64 %u, %c
+  %e = sub i64 %d, 256
+  %t = and i64 %s, -256
+  %x = or i64 %t, %u
+  %r = add i64 %x, %e
+  ret i64 %r
+}
+define ptr @hidden(ptr %p) noinline {
+  ret ptr %p
+}""".replace("\\\\", "\\")),
+    "quotients and rests of negative numbers": (0xFFFFFFFFFFFFFEFB, """define i64 @main() {
+  %a = call i32 @id(i32 -17)
+  %b = call i32 @id(i32 5)
+  %q = sdiv i32 %a, %b
+  %r = srem i32 %a, %b
+  %m = sdiv i32 %a, -4
+  %s = sext i32 %q to i64
+  %t = sext i32 %r to i64
+  %u = sext i32 %m to i64
+  %x = mul i64 %s, 100
+  %y = mul i64 %t, -20
+  %z = add i64 %x, %y
+  %w = add i64 %z, %u
+  %e = sub i64 %w, 5
+  ret i64 %e
+}
+define i32 @id(i32 %x) noinline {
+  ret i32 %x
+}"""),
+    "rotations, by a constant and by a number": (0x5678123456781234, """declare i32 @llvm.fshl.i32(i32, i32, i32)
+declare i32 @llvm.fshr.i32(i32, i32, i32)
+define i64 @main() {
+  %a = call i32 @id(i32 305419896)
+  %n = call i32 @id(i32 16)
+  %l = call i32 @llvm.fshl.i32(i32 %a, i32 %a, i32 16)
+  %r = call i32 @llvm.fshr.i32(i32 %a, i32 %a, i32 %n)
+  %x = zext i32 %l to i64
+  %y = zext i32 %r to i64
+  %h = shl i64 %y, 32
+  %z = or i64 %h, %x
+  ret i64 %z
+}
+define i32 @id(i32 %x) noinline {
+  ret i32 %x
+}"""),
+    "sums of 128 bits carry and compare": (7, """define i64 @main() {
+  %a = call i128 @make(i64 -1, i64 5)
+  %b = add i128 %a, 1
+  %h = lshr i128 %b, 64
+  %t = trunc i128 %h to i64
+  %c = icmp ult i128 %a, %b
+  %d = icmp slt i128 %b, -1
+  %z = zext i1 %c to i64
+  %y = zext i1 %d to i64
+  %r = add i64 %t, %z
+  %s = add i64 %r, %y
+  ret i64 %s
+}
+define i128 @make(i64 %low, i64 %high) noinline {
+  %l = zext i64 %low to i128
+  %h = zext i64 %high to i128
+  %u = shl i128 %h, 64
+  %r = or i128 %u, %l
+  ret i128 %r
+}"""),
+    "overflows of 64, 40 and 128 bits": (0b1011, """declare { i64, i1 } @llvm.sadd.with.overflow.i64(i64, i64)
+declare { i40, i1 } @llvm.smul.with.overflow.i40(i40, i40)
+declare { i128, i1 } @llvm.usub.with.overflow.i128(i128, i128)
+declare { i128, i1 } @llvm.sadd.with.overflow.i128(i128, i128)
+define i64 @main() {
+  %n = call i64 @id(i64 9223372036854775807)
+  %a = call { i64, i1 } @llvm.sadd.with.overflow.i64(i64 %n, i64 1)
+  %ao = extractvalue { i64, i1 } %a, 1
+  %w = trunc i64 %n to i40
+  %k = sub i40 %w, 1
+  %l = lshr i40 %k, 1
+  %b = call { i40, i1 } @llvm.smul.with.overflow.i40(i40 %l, i40 4)
+  %bo = extractvalue { i40, i1 } %b, 1
+  %u = zext i64 %n to i128
+  %c = call { i128, i1 } @llvm.sadd.with.overflow.i128(i128 %u, i128 %u)
+  %co = extractvalue { i128, i1 } %c, 1
+  %d = call { i128, i1 } @llvm.usub.with.overflow.i128(i128 1, i128 %u)
+  %do = extractvalue { i128, i1 } %d, 1
+  %x0 = zext i1 %ao to i64
+  %x1 = zext i1 %bo to i64
+  %x2 = zext i1 %co to i64
+  %x3 = zext i1 %do to i64
+  %y1 = shl i64 %x1, 1
+  %y2 = shl i64 %x2, 2
+  %y3 = shl i64 %x3, 3
+  %z1 = or i64 %x0, %y1
+  %z2 = or i64 %y2, %y3
+  %r = or i64 %z1, %z2
+  ret i64 %r
+}
+define i64 @id(i64 %x) noinline {
+  ret i64 %x
+}"""),
+    "two values change places in each turn of a loop": (0x0102, """define i64 @main() {
+entry:
+  br label %loop
+loop:
+  %a = phi i64 [ 1, %entry ], [ %b, %loop ]
+  %b = phi i64 [ 2, %entry ], [ %a, %loop ]
+  %i = phi i64 [ 0, %entry ], [ %n, %loop ]
+  %n = add i64 %i, 1
+  %more = icmp ult i64 %n, 5
+  br i1 %more, label %loop, label %out
+out:
+  %h = shl i64 %a, 8
+  %r = or i64 %h, %b
+  ret i64 %r
+}"""),
+    "a switch by a table, to its ends and beside it": (0x52, """define i64 @pick(i32 %n) noinline {
+  switch i32 %n, label %d [
+    i32 3, label %a
+    i32 4, label %b
+    i32 5, label %a
+    i32 6, label %b
+    i32 7, label %c
+  ]
+a:
+  ret i64 1
+b:
+  ret i64 10
+c:
+  ret i64 40
+d:
+  ret i64 16
+}
+define i64 @main() {
+  %x = call i64 @pick(i32 3)
+  %y = call i64 @pick(i32 7)
+  %z = call i64 @pick(i32 8)
+  %w = call i64 @pick(i32 2)
+  %v = call i64 @pick(i32 6)
+  %s = add i64 %x, %y
+  %t = add i64 %s, %z
+  %u = add i64 %t, %w
+  %r = sub i64 %u, %v
+  %q = add i64 %r, 19
+  ret i64 %q
+}"""),
+    "a switch over a constant that has a bracket in it": (6, """@g = global [4 x i64] zeroinitializer, align 32
+define i64 @main() {
+  switch i32 trunc (i64 and (i64 ptrtoint (ptr getelementptr ([4 x i64], ptr @g, i64 0, i64 1) to i64), i64 31) to i32), label %d [
+    i32 8, label %a
+    i32 9, label %d
+  ]
+a:
+  ret i64 6
+d:
+  ret i64 7
+}"""),
+    "nine arguments, of which three are on the stack": (987654321, """define i64 @nine(i64 %a, i64 %b, i64 %c, i64 %d, i64 %e, i64 %f, i64 %g, i64 %h, i64 %i) noinline {
+  %r1 = mul i64 %i, 10
+  %r2 = add i64 %r1, %h
+  %r3 = mul i64 %r2, 10
+  %r4 = add i64 %r3, %g
+  %r5 = mul i64 %r4, 1000000
+  %r6 = mul i64 %f, 100000
+  %r7 = add i64 %r5, %r6
+  %r8 = mul i64 %e, 10000
+  %r9 = add i64 %r7, %r8
+  %ra = mul i64 %d, 1000
+  %rb = add i64 %r9, %ra
+  %rc = mul i64 %c, 100
+  %rd = add i64 %rb, %rc
+  %re = mul i64 %b, 10
+  %rf = add i64 %rd, %re
+  %rg = add i64 %rf, %a
+  ret i64 %rg
+}
+define i64 @main() {
+  %r = call i64 @nine(i64 1, i64 2, i64 3, i64 4, i64 5, i64 6, i64 7, i64 8, i64 9)
+  ret i64 %r
+}"""),
+    "a number of 64 bits in two halves": (-9142143036653769233 % (1 << 64), """define i64 @main() {
+  %a = call i64 @id(i64 -9142143036653769233)
+  %b = xor i64 %a, 0
+  ret i64 %b
+}
+define i64 @id(i64 %x) noinline {
+  %y = add i64 %x, 1311768467463790320
+  %z = sub i64 %y, 1311768467463790320
+  ret i64 %z
+}"""),
+    "a pointer that leaves its object is a number, and compares": (5, """@a = global [4 x i64] zeroinitializer
+@end = global ptr null
+define i64 @main() {
+  %n = call i64 @id(i64 4)
+  %e = getelementptr i64, ptr @a, i64 %n
+  store ptr %e, ptr @end, align 8
+  br label %loop
+loop:
+  %p = phi ptr [ @a, %0 ], [ %q, %loop ]
+  %i = phi i64 [ 1, %0 ], [ %j, %loop ]
+  %q = getelementptr i64, ptr %p, i64 1
+  %j = add i64 %i, 1
+  %l = load ptr, ptr @end, align 8
+  %d = icmp eq ptr %q, %l
+  br i1 %d, label %out, label %loop
+out:
+  ret i64 %j
+}
+define i64 @id(i64 %x) noinline {
+  ret i64 %x
+}"""),
+    "unsigned numbers of 32 bits are compared as such": (3, """define i64 @main() {
+  %a = call i32 @id(i32 -2147483648)
+  %b = call i32 @id(i32 5)
+  %c = icmp ult i32 %b, %a
+  %d = icmp slt i32 %a, %b
+  %e = lshr i32 %a, 4
+  %f = icmp ugt i32 %e, %a
+  %x = zext i1 %c to i64
+  %y = zext i1 %d to i64
+  %z = zext i1 %f to i64
+  %s = shl i64 %y, 1
+  %t = shl i64 %z, 2
+  %u = or i64 %x, %s
+  %r = or i64 %u, %t
+  ret i64 %r
+}
+define i32 @id(i32 %x) noinline {
+  ret i32 %x
+}"""),
+    "constructors run before `main`, by their priorities": (0x21, """@k = global i64 0
+@llvm.global_ctors = appending global [2 x { i32, ptr, ptr }] [{ i32, ptr, ptr } { i32 65535, ptr @late, ptr null }, { i32, ptr, ptr } { i32 200, ptr @early, ptr null }]
+define void @early() {
+  store i64 2, ptr @k, align 8
+  ret void
+}
+define void @late() {
+  %v = load i64, ptr @k, align 8
+  %w = shl i64 %v, 4
+  %x = add i64 %w, 1
+  store i64 %x, ptr @k, align 8
+  ret void
+}
+define i64 @main() {
+  %v = load i64, ptr @k, align 8
+  ret i64 %v
+}"""),
+    "extremes and numbers turned round": (0x0100000000000080, """declare i64 @llvm.umax.i64(i64, i64)
+declare i8 @llvm.smin.i8(i8, i8)
+declare i64 @llvm.bswap.i64(i64)
+define i64 @main() {
+  %a = call i64 @id(i64 1)
+  %b = call i64 @llvm.bswap.i64(i64 %a)
+  %c = trunc i64 %a to i8
+  %d = call i8 @llvm.smin.i8(i8 %c, i8 -128)
+  %e = zext i8 %d to i64
+  %f = call i64 @llvm.umax.i64(i64 %e, i64 %a)
+  %r = or i64 %b, %f
+  ret i64 %r
+}
+define i64 @id(i64 %x) noinline {
+  ret i64 %x
+}"""),
+}
+# Numbers that the library would count: these programs need it.
+OF_LIBRARY = ("extremes and numbers turned round", "overflows of 64, 40 and 128 bits",
+              "objects stand as LLVM's text aligns them")
+LIBRARY = """define i64 @__mm_bytes_swapped(i64 %x, i64 %n) {
+  %r = shl i64 %x, 56
+  ret i64 %r
+}
+define i64 @__mm_log_of(i64 %x) {
+  ret i64 6
+}
+define i64 @__mm_signed_product_overflows(i64 %x, i64 %y) {
+  ret i64 0
+}
+"""
+
+
+@needs_program
+class Values(unittest.TestCase):
+    def result(self, text: str):
+        program = find_program()
+        with folder() as room:
+            answer = program.run(["asm", write(room, "a.asm", text)])
+            self.assertEqual(answer.status, 0, answer.line)
+            for name, words in (("a.obj", ["link"]), ("a.img", ["run"])):
+                path = os.path.join(room, name)
+                with open(path, "wb") as file:
+                    file.write(answer.out)
+                answer = program.run([*words, path, *(["100000"] if words == ["run"] else [])])
+                self.assertEqual(answer.status, 0, answer.line)
+        return read_report(answer.text.splitlines()).slots[0]
+
+    def test_values(self):
+        for title, (wanted, text) in PROGRAMS.items():
+            for checked in (False, True):
+                made = source(text + "\n" + (LIBRARY if title in OF_LIBRARY else ""), checked=checked)
+                slot = self.result(made)
+                found = (slot.state, slot.register(0).bits if slot.register(0) else 0)
+                self.assertEqual(found, ("halted", wanted), f"{title}: {found[1]:x}, {checked}")
+
+
+    def test_the_second_reckoning_stops_what_differs(self):
+        """With another comparison in the translator alone."""
+        text = SUM.replace("{op}", "ult")
+        with mock.patch.dict(CONDITIONS, {"ult": ("ltu", True, False)}):
+            slot = self.result(source(text, checked=True))
+        self.assertEqual((slot.state, slot.fault), ("faulted", TRAP))
+
+
+ALIGNED = """@plain = internal global [20 x i8] zeroinitializer, align 16, !dbg !0
+@asked = internal global [20 x i8] zeroinitializer, align 16, !dbg !2
+@other = external global [20 x i8], align 16
+define void @f() !dbg !9 {
+  %a = alloca [20 x i8], align 16
+  %b = alloca [20 x i8], align 16
+  %c = alloca [2 x i128], align 16
+  %d = alloca %struct.s, align 16
+    #dbg_declare(ptr %a, !5, !DIExpression(), !8)
+    #dbg_declare(ptr %b, !6, !DIExpression(), !8)
+  store i32 1, ptr %a, align 16, !dbg !8
+  ret void
+}
+!0 = !DIGlobalVariableExpression(var: !1, expr: !DIExpression())
+!1 = distinct !DIGlobalVariable(name: "plain", type: !4)
+!2 = !DIGlobalVariableExpression(var: !3, expr: !DIExpression())
+!3 = distinct !DIGlobalVariable(name: "asked", type: !4, align: 128)
+!4 = !DICompositeType(tag: DW_TAG_array_type, baseType: !7, size: 160)
+!5 = !DILocalVariable(name: "a", type: !4)
+!6 = !DILocalVariable(name: "b", type: !4, align: 128)
+!7 = !DIBasicType(name: "char", size: 8)
+"""
+
+
+class Alignments(unittest.TestCase):
+    def test_arrays_are_promised_what_they_have(self):
+        found = {line.split(" = ")[0].strip(): line.rpartition("align ")[2].split(",")[0]
+                 for line in lowered(ALIGNED, True).splitlines() if " = " in line and "align " in line and line[0] != "!"}
+        self.assertEqual(found, {"@plain": "8", "@asked": "16", "@other": "8", "%a": "8", "%b": "16", "%c": "16",
+                                 "%d": "16"})
+        self.assertIn("store i32 1, ptr %a, align 8", lowered(ALIGNED, True))
+
+    def test_without_what_is_said_for_debuggers(self):
+        text = lowered(ALIGNED, False)
+        self.assertNotIn("dbg_declare", text)
+        self.assertNotIn("!dbg", text)
+        self.assertIn("%b = alloca [20 x i8], align 16", text)
+
+
+if __name__ == "__main__":
+    unittest.main()
