@@ -168,23 +168,36 @@ define ptr @hidden(ptr %p) noinline {
 define i32 @id(i32 %x) noinline {
   ret i32 %x
 }"""),
-    "rotations, by a constant and by a number": (0x5678123456781234, """declare i32 @llvm.fshl.i32(i32, i32, i32)
+    "rotations, by a constant and by a number": (0x78123456B5753D75, """declare i32 @llvm.fshl.i32(i32, i32, i32)
 declare i32 @llvm.fshr.i32(i32, i32, i32)
 define i64 @main() {
   %a = call i32 @id(i32 305419896)
-  %n = call i32 @id(i32 16)
-  %l = call i32 @llvm.fshl.i32(i32 %a, i32 %a, i32 16)
-  %r = call i32 @llvm.fshr.i32(i32 %a, i32 %a, i32 %n)
+  %n = call i32 @id(i32 4)
+  %l = call i32 @llvm.fshl.i32(i32 %a, i32 %a, i32 8)
+  %r = call i32 @llvm.fshr.i32(i32 %a, i32 %a, i32 8)
+  %t = call i32 @llvm.fshr.i32(i32 %a, i32 %a, i32 %n)
   %x = zext i32 %l to i64
   %y = zext i32 %r to i64
+  %z = zext i32 %t to i64
   %h = shl i64 %y, 32
-  %z = or i64 %h, %x
-  ret i64 %z
+  %v = or i64 %h, %x
+  %w = xor i64 %v, %z
+  ret i64 %w
 }
 define i32 @id(i32 %x) noinline {
   ret i32 %x
 }"""),
-    "sums of 128 bits carry and compare": (7, """define i64 @main() {
+    "a sum that wraps keeps its width": (44, """define i64 @main() {
+  %a = call i8 @id(i8 100)
+  %b = add i8 %a, %a
+  %s = sext i8 %b to i64
+  %r = add i64 %s, 100
+  ret i64 %r
+}
+define i8 @id(i8 %x) noinline {
+  ret i8 %x
+}"""),
+    "sums of 128 bits carry and compare": (8, """define i64 @main() {
   %a = call i128 @make(i64 -1, i64 5)
   %b = add i128 %a, 1
   %h = lshr i128 %b, 64
@@ -195,7 +208,11 @@ define i32 @id(i32 %x) noinline {
   %y = zext i1 %d to i64
   %r = add i64 %t, %z
   %s = add i64 %r, %y
-  ret i64 %s
+  %f = add i128 %b, 1
+  %g = icmp ult i128 %b, %f
+  %x = zext i1 %g to i64
+  %q = add i64 %s, %x
+  ret i64 %q
 }
 define i128 @make(i64 %low, i64 %high) noinline {
   %l = zext i64 %low to i128
