@@ -297,159 +297,133 @@ L19:
   ldi r10, 0
   br L4
 free:
-  ;@ frame back - caller by 48
-  leai r15, r15, -48
-  st r15, r7, 8, any, keep
-  st r15, r8, 16, any, keep
-  st r15, r9, 24, any, keep
-  st r15, r10, 32, any, keep
-  st r15, r11, 40, any, keep
+  ;@ frame back 32 caller by 40
+  leai r15, r15, -40
+  st r15, r7, 0, any, keep
+  st r15, r8, 8, any, keep
+  st r15, r9, 16, any, keep
+  st r15, r10, 24, any, keep
+  st r15, r14, 32, any, keep
   mov r2, r0
   ldi r0, 4194303
   ldhi r0, 4294967295
-  lip r5, P_9
-  ld r5, r5, 0, any, keep
-  ldi r8, 3
-  ldi r7, 54
-  ldi r11, 63
-  ldi r4, 1
-  bz r2, L34
+  lip r3, P_9
+  ld r3, r3, 0, any, keep
+  ldi r8, 54
+  ldi r6, 63
+  ldi r5, 1
+  bz r2, L30
 L26:
   and r1, r2, r0
-  and r0, r5, r0
+  and r0, r3, r0
   sub r1, r1, r0
-  shr r6, r1, r8
-  shr r0, r2, r7
-  and r0, r0, r11
-  addi r12, r0, -3
-  st r15, r12, 0, any, keep
-  ld r13, r15, 0, any, keep
-  shl r10, r4, r13
-  and r0, r6, r11
-  shl r9, r4, r0
-  ldi r13, 9
-  shr r3, r1, r13
-  shr r0, r5, r7
-  and r0, r0, r11
+  ldi r13, 3
+  shr r7, r1, r13
+  shr r0, r2, r8
+  and r0, r0, r6
   addi r0, r0, -3
-  shl r0, r4, r0
+  shl r10, r5, r0
+  and r0, r7, r6
+  shl r9, r5, r0
+  ldi r13, 9
+  shr r4, r1, r13
+  shr r0, r3, r8
+  and r0, r0, r6
+  addi r0, r0, -3
+  shl r0, r5, r0
   ldi r13, 6
   shr r2, r0, r13
-  shr r0, r5, r7
-  and r0, r0, r11
+  shr r0, r3, r8
+  and r0, r0, r6
   addi r0, r0, -3
-  shl r0, r4, r0
+  shl r0, r5, r0
   ldi r13, 64
   ltu r1, r0, r13
-  mov r0, r4
-  bnz r1, L42
+  mov r0, r5
+  bnz r1, L32
   mov r0, r2
-L42:
-  add r0, r3, r0
-  shl r2, r0, r8
-  shr r0, r5, r7
-  and r0, r0, r11
+L32:
+  add r0, r4, r0
+  ldi r13, 3
+  shl r2, r0, r13
+  shr r0, r3, r8
+  and r0, r0, r6
   addi r0, r0, -3
-  shl r0, r4, r0
-  ltu r0, r6, r0
+  shl r0, r5, r0
+  ltu r0, r7, r0
   bz r0, L28
 L27:
-  lea r0, r5, r2
+  lea r0, r3, r2
   ld r1, r0, 0, any, keep
   and r0, r1, r9
   bnz r0, L29
 L28:
   trap 8
-  lea r0, r5, r2
+  lea r0, r3, r2
   ld r1, r0, 0, any, keep
 L29:
   xor r1, r1, r9
-  lea r0, r5, r2
+  lea r0, r3, r2
   st r0, r1, 0, any, keep
   ldi r12, 0
   sub r0, r12, r10
-  and r2, r6, r0
-  ldi r12, -1
-  shl r0, r12, r10
-  ldi r13, -1
-  xor r1, r0, r13
-  ld r12, r15, 0, any, keep
-  ldi r13, 6
-  ltu r0, r12, r13
-  bnz r0, L43
-  ldi r1, -1
-L43:
-  and r0, r2, r11
+  and r0, r7, r0
+  mov r1, r10
+  lip r14, 2
+  br change
+L30:
+  ld r7, r15, 0, any, keep
+  ld r8, r15, 8, any, keep
+  ld r9, r15, 16, any, keep
+  ld r10, r15, 24, any, keep
+  ld r14, r15, 32, any, keep
+  leai r15, r15, 40
+  jmp r14
+change:
+  ;@ frame back - caller by 8
+  leai r15, r15, -8
+  st r15, r7, 0, any, keep
+  mov r2, r0
+  mov r5, r1
+  ldi r3, -1
+  lip r4, P_9
+  ld r4, r4, 0, any, keep
+  ldi r7, 3
+  shl r0, r3, r5
+  xor r1, r0, r3
+  ldi r13, 64
+  ltu r0, r5, r13
+  bnz r0, L38
+  mov r1, r3
+L38:
+  ldi r13, 63
+  and r0, r2, r13
   shl r6, r1, r0
   ldi r13, 6
-  shr r4, r2, r13
-  addi r0, r10, -1
-  add r0, r0, r2
+  shr r3, r2, r13
+  addi r0, r2, -1
+  add r0, r0, r5
   ldi r13, 6
-  shr r9, r0, r13
-  ltu r0, r9, r4
-  bnz r0, L34
-L30:
-  addi r0, r9, 1
-  sub r0, r0, r4
-  sub r10, r9, r4
-  and r7, r0, r8
-  bz r7, L32
-L37:
-  ldi r3, 0
-L31:
-  shl r2, r4, r8
-  lea r0, r5, r2
-  ld r0, r0, 0, any, keep
-  xor r1, r0, r6
-  lea r0, r5, r2
-  st r0, r1, 0, any, keep
-  addi r4, r4, 1
-  addi r3, r3, 1
-  eq r0, r3, r7
-  bz r0, L31
-L32:
-  ltu r0, r10, r8
-  bnz r0, L34
-L33:
-  shl r2, r4, r8
-  lea r0, r5, r2
-  ld r0, r0, 0, any, keep
-  xor r1, r0, r6
-  lea r0, r5, r2
-  st r0, r1, 0, any, keep
-  addi r0, r4, 1
-  shl r2, r0, r8
-  lea r0, r5, r2
-  ld r0, r0, 0, any, keep
-  xor r1, r0, r6
-  lea r0, r5, r2
-  st r0, r1, 0, any, keep
-  addi r0, r4, 2
-  shl r2, r0, r8
-  lea r0, r5, r2
-  ld r0, r0, 0, any, keep
-  xor r1, r0, r6
-  lea r0, r5, r2
-  st r0, r1, 0, any, keep
-  addi r3, r4, 3
-  shl r2, r3, r8
-  lea r0, r5, r2
-  ld r0, r0, 0, any, keep
-  xor r1, r0, r6
-  lea r0, r5, r2
-  st r0, r1, 0, any, keep
-  addi r4, r4, 4
-  eq r0, r3, r9
-  bz r0, L33
+  shr r5, r0, r13
+  ltu r0, r5, r3
+  bz r0, L35
 L34:
-  ld r7, r15, 8, any, keep
-  ld r8, r15, 16, any, keep
-  ld r9, r15, 24, any, keep
-  ld r10, r15, 32, any, keep
-  ld r11, r15, 40, any, keep
-  leai r15, r15, 48
+  ld r7, r15, 0, any, keep
+  leai r15, r15, 8
   jmp r14
+L35:
+  shl r2, r3, r7
+  lea r0, r4, r2
+  ld r0, r0, 0, any, keep
+  xor r1, r0, r6
+  lea r0, r4, r2
+  st r0, r1, 0, any, keep
+  addi r1, r3, 1
+  eq r0, r3, r5
+  bnz r0, L34
+L37:
+  mov r3, r1
+  br L35
 putchar:
   ;@ frame back - caller by 0
   out r0
@@ -476,17 +450,17 @@ fputs:
   shl r0, r0, r3
   sar r1, r0, r3
   and r0, r1, r8
-  bz r0, L46
-L48:
+  bz r0, L41
+L43:
   mov r2, r4
-  br L47
-L46:
+  br L42
+L41:
   mov r0, r4
   ld r7, r15, 0, any, keep
   ld r8, r15, 8, any, keep
   leai r15, r15, 16
   jmp r14
-L47:
+L42:
   out r1
   addi r2, r2, 1
   lea r1, r5, r2
@@ -499,8 +473,8 @@ L47:
   shl r0, r0, r3
   sar r1, r0, r3
   and r0, r1, r8
-  bz r0, L46
-  br L47
+  bz r0, L41
+  br L42
 find:
   ;@ function find at examples/c/words.c:24
   ;@ inlined 1 hash at examples/c/words.c:26
@@ -531,15 +505,15 @@ find:
   ld r0, r0, 0, any, keep
   shr r0, r0, r1
   and r0, r0, r5
-  bz r0, L59
-L60:
+  bz r0, L54
+L55:
   ldi r3, -2128831035
   mov r2, r11
-  br L51
-L59:
+  br L46
+L54:
   ldi r0, 5
-  br L53
-L51:
+  br L48
+L46:
   ;@ line examples/c/words.c:20 in 1
   ;@ var h 12 r3 in 1
   ;@ var word 6 r9+r2 in 1
@@ -558,18 +532,18 @@ L51:
   ld r0, r0, 0, any, keep
   shr r0, r0, r1
   and r0, r0, r5
-  bz r0, L52
-L61:
+  bz r0, L47
+L56:
   addi r2, r2, 1
   ;@ var h 12 - in 1
-  br L51
-L52:
+  br L46
+L47:
   ;@ line examples/c/words.c:21 in 1
   ;@ var word 6 - in 1
   ;@ var h 12 r3 in 1
   ldi r13, 15
   and r0, r3, r13
-L53:
+L48:
   ;@ line examples/c/words.c:26
   ;@ var h 12 - in 1
   shl r10, r0, r6
@@ -577,32 +551,32 @@ L53:
   ;@ var place 13 @chains+r10
   lea r0, r8, r10
   ld r7, r0, 0, any, keep
-  bnz r7, L54
-L62:
+  bnz r7, L49
+L57:
   ;@ var place 13 -
   st r15, r8, 0, any, keep
-  br L57
-L54:
+  br L52
+L49:
   ;@ line examples/c/words.c:28
   ld r0, r7, 8, any, keep
   mov r1, r9
   lip r14, 2
   br strcmp
-  bz r0, L58
-L55:
+  bz r0, L53
+L50:
   ;@ line examples/c/words.c:27
   ;@ var place 13 r7
   ld r0, r7, 0, any, keep
-  bz r0, L56
-L65:
+  bz r0, L51
+L60:
   ;@ var place 13 -
   mov r7, r0
   ;@ var place 13 r7
-  br L54
-L56:
+  br L49
+L51:
   mov r10, r11
   st r15, r7, 0, any, keep
-L57:
+L52:
   ;@ line examples/c/words.c:30
   ;@ var place 13 -
   ldi r0, 24
@@ -638,7 +612,7 @@ L57:
   ld r12, r15, 0, any, keep
   lea r0, r12, r10
   st r0, r7, 0, any, keep
-L58:
+L53:
   ;@ line examples/c/words.c:35
   ;@ var made 4 -
   mov r0, r7
@@ -665,7 +639,7 @@ strcpy:
   ldi r8, 7
   ldi r10, 255
   mov r5, r6
-L67:
+L62:
   lea r1, r9, r5
   and r0, r1, r8
   sub r0, r6, r0
@@ -694,11 +668,11 @@ L67:
   ld r0, r0, 0, any, keep
   shr r0, r0, r1
   and r0, r0, r10
-  bz r0, L68
-L69:
+  bz r0, L63
+L64:
   mov r5, r2
-  br L67
-L68:
+  br L62
+L63:
   mov r0, r11
   ld r7, r15, 0, any, keep
   ld r8, r15, 8, any, keep
@@ -717,7 +691,7 @@ strlen:
   ldi r6, 7
   ldi r7, 255
   mov r2, r4
-L71:
+L66:
   lea r1, r3, r2
   and r0, r1, r6
   sub r0, r4, r0
@@ -727,36 +701,36 @@ L71:
   shr r0, r0, r1
   and r0, r0, r7
   addi r1, r2, 1
-  bz r0, L72
-L73:
+  bz r0, L67
+L68:
   mov r2, r1
-  br L71
-L72:
+  br L66
+L67:
   mov r0, r2
   ld r7, r15, 0, any, keep
   leai r15, r15, 8
   jmp r14
 malloc:
-  ;@ frame back - caller by 112
-  leai r15, r15, -112
-  st r15, r7, 72, any, keep
-  st r15, r8, 80, any, keep
-  st r15, r9, 88, any, keep
-  st r15, r10, 96, any, keep
-  st r15, r11, 104, any, keep
-  st r15, r0, 0, any, keep
-  lip r7, P_9
-  ld r7, r7, 0, any, keep
-  ldi r9, 3
-  ldi r10, -1
-  ldi r11, 0
+  ;@ frame back 64 caller by 72
+  leai r15, r15, -72
+  st r15, r7, 24, any, keep
+  st r15, r8, 32, any, keep
+  st r15, r9, 40, any, keep
+  st r15, r10, 48, any, keep
+  st r15, r11, 56, any, keep
+  st r15, r14, 64, any, keep
+  mov r7, r0
+  lip r11, P_9
+  ld r11, r11, 0, any, keep
+  ldi r9, 0
+  ldi r10, 3
   lip r12, P_10
   ld r12, r12, 0, any, keep
-  ld r2, r12, 0, any, keep
-  bnz r2, L81
-L75:
+  ld r0, r12, 0, any, keep
+  bnz r0, L73
+L70:
   ldi r13, 54
-  shr r0, r7, r13
+  shr r0, r11, r13
   ldi r13, 63
   and r0, r0, r13
   addi r0, r0, -3
@@ -765,7 +739,7 @@ L75:
   ldi r13, 6
   shr r2, r0, r13
   ldi r13, 54
-  shr r0, r7, r13
+  shr r0, r11, r13
   ldi r13, 63
   and r0, r0, r13
   addi r0, r0, -3
@@ -774,16 +748,16 @@ L75:
   ldi r13, 64
   ltu r1, r0, r13
   ldi r0, 1
-  bnz r1, L141
+  bnz r1, L86
   mov r0, r2
-L141:
+L86:
   ldi r13, 1
   shl r0, r0, r13
   lip r12, P_10
   ld r12, r12, 0, any, keep
   st r12, r0, 0, any, keep
   ldi r13, 54
-  shr r0, r7, r13
+  shr r0, r11, r13
   ldi r13, 63
   and r0, r0, r13
   addi r0, r0, -3
@@ -792,7 +766,7 @@ L141:
   ldi r13, 6
   shr r2, r0, r13
   ldi r13, 54
-  shr r0, r7, r13
+  shr r0, r11, r13
   ldi r13, 63
   and r0, r0, r13
   addi r0, r0, -3
@@ -801,70 +775,30 @@ L141:
   ldi r13, 64
   ltu r1, r0, r13
   ldi r0, 1
-  bnz r1, L142
+  bnz r1, L87
   mov r0, r2
-L142:
+L87:
   ldi r13, 1
   shl r1, r0, r13
   ldi r13, 54
-  shr r0, r7, r13
+  shr r0, r11, r13
   ldi r13, 63
   and r0, r0, r13
   addi r0, r0, -3
   ldi r12, 1
   shl r0, r12, r0
   ltu r0, r1, r0
-  bz r0, L77
-L76:
-  ldi r13, 54
-  shr r0, r7, r13
-  ldi r13, 63
-  and r0, r0, r13
-  addi r0, r0, -3
-  ldi r12, 1
-  shl r0, r12, r0
-  ldi r13, 6
-  shr r2, r0, r13
-  ldi r13, 54
-  shr r0, r7, r13
-  ldi r13, 63
-  and r0, r0, r13
-  addi r0, r0, -3
-  ldi r12, 1
-  shl r0, r12, r0
-  ldi r13, 64
-  ltu r1, r0, r13
-  ldi r0, 1
-  bnz r1, L143
-  mov r0, r2
-L143:
-  ldi r13, 2
-  mul r0, r0, r13
-  addi r0, r0, -1
-  ldi r13, 6
-  shr r0, r0, r13
-  ltu r0, r0, r9
-  bnz r0, L110
-L111:
-  mov r8, r11
-  mov r6, r11
-  br L78
-L110:
-  mov r8, r11
-  br L79
-L77:
+  bnz r0, L72
+L71:
   lip r12, P_10
   ld r12, r12, 0, any, keep
-  st r12, r11, 0, any, keep
-  mov r5, r11
-  mov r8, r11
-  br L108
-L78:
-  shl r4, r8, r9
-  lea r0, r7, r4
-  ld r5, r0, 0, any, keep
+  st r12, r9, 0, any, keep
+  mov r4, r9
+  mov r8, r9
+  br L80
+L72:
   ldi r13, 54
-  shr r0, r7, r13
+  shr r0, r11, r13
   ldi r13, 63
   and r0, r0, r13
   addi r0, r0, -3
@@ -873,7 +807,7 @@ L78:
   ldi r13, 6
   shr r2, r0, r13
   ldi r13, 54
-  shr r0, r7, r13
+  shr r0, r11, r13
   ldi r13, 63
   and r0, r0, r13
   addi r0, r0, -3
@@ -882,855 +816,137 @@ L78:
   ldi r13, 64
   ltu r1, r0, r13
   ldi r0, 1
-  bnz r1, L144
+  bnz r1, L88
   mov r0, r2
-L144:
+L88:
   ldi r13, 1
-  shl r0, r0, r13
-  shl r0, r10, r0
-  xor r3, r0, r10
-  ldi r13, 54
-  shr r0, r7, r13
-  ldi r13, 63
-  and r0, r0, r13
-  addi r0, r0, -3
-  ldi r12, 1
-  shl r0, r12, r0
-  ldi r13, 6
-  shr r2, r0, r13
-  ldi r13, 54
-  shr r0, r7, r13
-  ldi r13, 63
-  and r0, r0, r13
-  addi r0, r0, -3
-  ldi r12, 1
-  shl r0, r12, r0
-  ldi r13, 64
-  ltu r1, r0, r13
-  ldi r0, 1
-  bnz r1, L145
-  mov r0, r2
-L145:
-  ldi r13, 1
-  shl r0, r0, r13
-  ldi r13, 64
-  ltu r1, r0, r13
-  mov r0, r3
-  bnz r1, L146
-  mov r0, r10
-L146:
-  xor r1, r5, r0
-  lea r0, r7, r4
-  st r0, r1, 0, any, keep
-  ldi r13, 1
-  or r0, r8, r13
-  shl r4, r0, r9
-  lea r0, r7, r4
-  ld r5, r0, 0, any, keep
-  ldi r13, 54
-  shr r0, r7, r13
-  ldi r13, 63
-  and r0, r0, r13
-  addi r0, r0, -3
-  ldi r12, 1
-  shl r0, r12, r0
-  ldi r13, 6
-  shr r2, r0, r13
-  ldi r13, 54
-  shr r0, r7, r13
-  ldi r13, 63
-  and r0, r0, r13
-  addi r0, r0, -3
-  ldi r12, 1
-  shl r0, r12, r0
-  ldi r13, 64
-  ltu r1, r0, r13
-  ldi r0, 1
-  bnz r1, L147
-  mov r0, r2
-L147:
-  ldi r13, 1
-  shl r0, r0, r13
-  shl r0, r10, r0
-  xor r3, r0, r10
-  ldi r13, 54
-  shr r0, r7, r13
-  ldi r13, 63
-  and r0, r0, r13
-  addi r0, r0, -3
-  ldi r12, 1
-  shl r0, r12, r0
-  ldi r13, 6
-  shr r2, r0, r13
-  ldi r13, 54
-  shr r0, r7, r13
-  ldi r13, 63
-  and r0, r0, r13
-  addi r0, r0, -3
-  ldi r12, 1
-  shl r0, r12, r0
-  ldi r13, 64
-  ltu r1, r0, r13
-  ldi r0, 1
-  bnz r1, L148
-  mov r0, r2
-L148:
-  ldi r13, 1
-  shl r0, r0, r13
-  ldi r13, 64
-  ltu r1, r0, r13
-  mov r0, r3
-  bnz r1, L149
-  mov r0, r10
-L149:
-  xor r1, r5, r0
-  lea r0, r7, r4
-  st r0, r1, 0, any, keep
-  ldi r13, 2
-  or r0, r8, r13
-  shl r4, r0, r9
-  lea r0, r7, r4
-  ld r5, r0, 0, any, keep
-  ldi r13, 54
-  shr r0, r7, r13
-  ldi r13, 63
-  and r0, r0, r13
-  addi r0, r0, -3
-  ldi r12, 1
-  shl r0, r12, r0
-  ldi r13, 6
-  shr r2, r0, r13
-  ldi r13, 54
-  shr r0, r7, r13
-  ldi r13, 63
-  and r0, r0, r13
-  addi r0, r0, -3
-  ldi r12, 1
-  shl r0, r12, r0
-  ldi r13, 64
-  ltu r1, r0, r13
-  ldi r0, 1
-  bnz r1, L150
-  mov r0, r2
-L150:
-  ldi r13, 1
-  shl r0, r0, r13
-  shl r0, r10, r0
-  xor r3, r0, r10
-  ldi r13, 54
-  shr r0, r7, r13
-  ldi r13, 63
-  and r0, r0, r13
-  addi r0, r0, -3
-  ldi r12, 1
-  shl r0, r12, r0
-  ldi r13, 6
-  shr r2, r0, r13
-  ldi r13, 54
-  shr r0, r7, r13
-  ldi r13, 63
-  and r0, r0, r13
-  addi r0, r0, -3
-  ldi r12, 1
-  shl r0, r12, r0
-  ldi r13, 64
-  ltu r1, r0, r13
-  ldi r0, 1
-  bnz r1, L151
-  mov r0, r2
-L151:
-  ldi r13, 1
-  shl r0, r0, r13
-  ldi r13, 64
-  ltu r1, r0, r13
-  mov r0, r3
-  bnz r1, L152
-  mov r0, r10
-L152:
-  xor r1, r5, r0
-  lea r0, r7, r4
-  st r0, r1, 0, any, keep
-  or r0, r8, r9
-  shl r4, r0, r9
-  lea r0, r7, r4
-  ld r5, r0, 0, any, keep
-  ldi r13, 54
-  shr r0, r7, r13
-  ldi r13, 63
-  and r0, r0, r13
-  addi r0, r0, -3
-  ldi r12, 1
-  shl r0, r12, r0
-  ldi r13, 6
-  shr r2, r0, r13
-  ldi r13, 54
-  shr r0, r7, r13
-  ldi r13, 63
-  and r0, r0, r13
-  addi r0, r0, -3
-  ldi r12, 1
-  shl r0, r12, r0
-  ldi r13, 64
-  ltu r1, r0, r13
-  ldi r0, 1
-  bnz r1, L153
-  mov r0, r2
-L153:
-  ldi r13, 1
-  shl r0, r0, r13
-  shl r0, r10, r0
-  xor r3, r0, r10
-  ldi r13, 54
-  shr r0, r7, r13
-  ldi r13, 63
-  and r0, r0, r13
-  addi r0, r0, -3
-  ldi r12, 1
-  shl r0, r12, r0
-  ldi r13, 6
-  shr r2, r0, r13
-  ldi r13, 54
-  shr r0, r7, r13
-  ldi r13, 63
-  and r0, r0, r13
-  addi r0, r0, -3
-  ldi r12, 1
-  shl r0, r12, r0
-  ldi r13, 64
-  ltu r1, r0, r13
-  ldi r0, 1
-  bnz r1, L154
-  mov r0, r2
-L154:
-  ldi r13, 1
-  shl r0, r0, r13
-  ldi r13, 64
-  ltu r1, r0, r13
-  mov r0, r3
-  bnz r1, L155
-  mov r0, r10
-L155:
-  xor r1, r5, r0
-  lea r0, r7, r4
-  st r0, r1, 0, any, keep
-  addi r8, r8, 4
-  addi r6, r6, 4
-  ldi r13, 54
-  shr r0, r7, r13
-  ldi r13, 63
-  and r0, r0, r13
-  addi r0, r0, -3
-  ldi r12, 1
-  shl r0, r12, r0
-  ldi r13, 6
-  shr r2, r0, r13
-  ldi r13, 54
-  shr r0, r7, r13
-  ldi r13, 63
-  and r0, r0, r13
-  addi r0, r0, -3
-  ldi r12, 1
-  shl r0, r12, r0
-  ldi r13, 64
-  ltu r1, r0, r13
-  ldi r0, 1
-  bnz r1, L156
-  mov r0, r2
-L156:
-  ldi r13, 2
-  mul r0, r0, r13
-  addi r0, r0, -1
-  ldi r13, 6
-  shr r0, r0, r13
-  addi r3, r0, 1
-  ldi r13, 54
-  shr r0, r7, r13
-  ldi r13, 63
-  and r0, r0, r13
-  addi r0, r0, -3
-  ldi r12, 1
-  shl r0, r12, r0
-  ldi r13, 6
-  shr r2, r0, r13
-  ldi r13, 54
-  shr r0, r7, r13
-  ldi r13, 63
-  and r0, r0, r13
-  addi r0, r0, -3
-  ldi r12, 1
-  shl r0, r12, r0
-  ldi r13, 64
-  ltu r1, r0, r13
-  ldi r0, 1
-  bnz r1, L157
-  mov r0, r2
-L157:
-  ldi r13, 2
-  mul r0, r0, r13
-  addi r0, r0, -1
-  ldi r13, 6
-  shr r0, r0, r13
-  addi r0, r0, 1
-  and r0, r0, r9
-  sub r0, r3, r0
-  eq r0, r6, r0
-  bz r0, L78
-L79:
-  ldi r13, 54
-  shr r0, r7, r13
-  ldi r13, 63
-  and r0, r0, r13
-  addi r0, r0, -3
-  ldi r12, 1
-  shl r0, r12, r0
-  ldi r13, 6
-  shr r2, r0, r13
-  ldi r13, 54
-  shr r0, r7, r13
-  ldi r13, 63
-  and r0, r0, r13
-  addi r0, r0, -3
-  ldi r12, 1
-  shl r0, r12, r0
-  ldi r13, 64
-  ltu r1, r0, r13
-  ldi r0, 1
-  bnz r1, L158
-  mov r0, r2
-L158:
-  ldi r13, 2
-  mul r0, r0, r13
-  addi r0, r0, -1
-  ldi r13, 6
-  shr r0, r0, r13
-  addi r0, r0, 1
-  and r0, r0, r9
-  eq r0, r0, r11
-  eq r0, r0, r11
-  bnz r0, L114
-L115:
-  ldi r13, 54
-  shr r0, r7, r13
-  ldi r13, 63
-  and r0, r0, r13
-  addi r0, r0, -3
-  ldi r12, 1
-  shl r0, r12, r0
-  ldi r13, 6
-  shr r2, r0, r13
-  ldi r13, 54
-  shr r0, r7, r13
-  ldi r13, 63
-  and r0, r0, r13
-  addi r0, r0, -3
-  ldi r12, 1
-  shl r0, r12, r0
-  ldi r13, 64
-  ltu r1, r0, r13
-  ldi r0, 1
-  bnz r1, L159
-  mov r0, r2
-L159:
-  ldi r13, 1
-  shl r2, r0, r13
-  br L81
-L114:
-  mov r5, r11
-L80:
-  shl r4, r8, r9
-  lea r0, r7, r4
-  ld r6, r0, 0, any, keep
-  ldi r13, 54
-  shr r0, r7, r13
-  ldi r13, 63
-  and r0, r0, r13
-  addi r0, r0, -3
-  ldi r12, 1
-  shl r0, r12, r0
-  ldi r13, 6
-  shr r2, r0, r13
-  ldi r13, 54
-  shr r0, r7, r13
-  ldi r13, 63
-  and r0, r0, r13
-  addi r0, r0, -3
-  ldi r12, 1
-  shl r0, r12, r0
-  ldi r13, 64
-  ltu r1, r0, r13
-  ldi r0, 1
-  bnz r1, L160
-  mov r0, r2
-L160:
-  ldi r13, 1
-  shl r0, r0, r13
-  shl r0, r10, r0
-  xor r3, r0, r10
-  ldi r13, 54
-  shr r0, r7, r13
-  ldi r13, 63
-  and r0, r0, r13
-  addi r0, r0, -3
-  ldi r12, 1
-  shl r0, r12, r0
-  ldi r13, 6
-  shr r2, r0, r13
-  ldi r13, 54
-  shr r0, r7, r13
-  ldi r13, 63
-  and r0, r0, r13
-  addi r0, r0, -3
-  ldi r12, 1
-  shl r0, r12, r0
-  ldi r13, 64
-  ltu r1, r0, r13
-  ldi r0, 1
-  bnz r1, L161
-  mov r0, r2
-L161:
-  ldi r13, 1
-  shl r0, r0, r13
-  ldi r13, 64
-  ltu r1, r0, r13
-  mov r0, r3
-  bnz r1, L162
-  mov r0, r10
-L162:
-  xor r1, r6, r0
-  lea r0, r7, r4
-  st r0, r1, 0, any, keep
-  addi r8, r8, 1
-  addi r5, r5, 1
-  ldi r13, 54
-  shr r0, r7, r13
-  ldi r13, 63
-  and r0, r0, r13
-  addi r0, r0, -3
-  ldi r12, 1
-  shl r0, r12, r0
-  ldi r13, 6
-  shr r2, r0, r13
-  ldi r13, 54
-  shr r0, r7, r13
-  ldi r13, 63
-  and r0, r0, r13
-  addi r0, r0, -3
-  ldi r12, 1
-  shl r0, r12, r0
-  ldi r13, 64
-  ltu r1, r0, r13
-  ldi r0, 1
-  bnz r1, L163
-  mov r0, r2
-L163:
-  ldi r13, 2
-  mul r0, r0, r13
-  addi r0, r0, -1
-  ldi r13, 6
-  shr r0, r0, r13
-  addi r0, r0, 1
-  and r0, r0, r9
-  eq r0, r5, r0
-  bz r0, L80
-L116:
-  ldi r13, 54
-  shr r0, r7, r13
-  ldi r13, 63
-  and r0, r0, r13
-  addi r0, r0, -3
-  ldi r12, 1
-  shl r0, r12, r0
-  ldi r13, 6
-  shr r2, r0, r13
-  ldi r13, 54
-  shr r0, r7, r13
-  ldi r13, 63
-  and r0, r0, r13
-  addi r0, r0, -3
-  ldi r12, 1
-  shl r0, r12, r0
-  ldi r13, 64
-  ltu r1, r0, r13
-  ldi r0, 1
-  bnz r1, L164
-  mov r0, r2
-L164:
-  ldi r13, 1
-  shl r2, r0, r13
-L81:
-  ld r12, r15, 0, any, keep
-  addi r0, r12, 7
+  shl r1, r0, r13
+  mov r0, r9
+  lip r14, 2
+  br change
+L73:
+  addi r0, r7, 7
   ldi r13, -8
   and r0, r0, r13
-  ld r12, r15, 0, any, keep
   mov r13, r0
-  bnz r12, L165
+  bnz r7, L89
   ldi r13, 8
-L165:
-  st r15, r13, 64, any, keep
-  st r15, r9, 16, any, keep
-L82:
-  ldi r12, 1
-  ld r13, r15, 16, any, keep
-  shl r12, r12, r13
-  st r15, r12, 56, any, keep
-  ld r12, r15, 16, any, keep
-  addi r1, r12, 1
-  ld r12, r15, 56, any, keep
-  ld r13, r15, 64, any, keep
-  ltu r0, r12, r13
-  bz r0, L83
-L118:
-  st r15, r1, 16, any, keep
-  br L82
-L83:
-  ldi r13, 54
-  shr r0, r7, r13
-  ldi r13, 63
-  and r0, r0, r13
-  ld r12, r15, 16, any, keep
-  ltu r3, r12, r0
-  ldi r13, 54
-  shr r0, r7, r13
-  ldi r13, 63
-  and r0, r0, r13
-  addi r0, r0, -3
-  ldi r12, 1
-  shl r0, r12, r0
-  shl r0, r0, r9
-  ld r13, r15, 64, any, keep
-  ltu r1, r0, r13
-  mov r0, r11
-  bnz r1, L166
-  mov r0, r3
-L166:
-  bnz r0, L84
-L119:
-  mov r5, r11
-  mov r8, r11
-  br L108
-L84:
-  ld r12, r15, 16, any, keep
-  addi r12, r12, -3
-  st r15, r12, 24, any, keep
-  ldi r12, 1
-  ld r13, r15, 24, any, keep
-  shl r12, r12, r13
-  st r15, r12, 0, any, keep
-  ld r12, r15, 0, any, keep
-  addi r12, r12, -1
-  st r15, r12, 48, any, keep
-  ld r13, r15, 48, any, keep
-  add r1, r2, r13
-  ld r13, r15, 0, any, keep
-  sub r0, r11, r13
-  and r12, r1, r0
-  st r15, r12, 8, any, keep
-  ld r13, r15, 0, any, keep
-  shl r0, r10, r13
-  xor r1, r0, r10
-  ld r12, r15, 24, any, keep
-  ldi r13, 6
-  ltu r0, r12, r13
-  mov r13, r1
-  bnz r0, L167
-  mov r13, r10
-L167:
-  st r15, r13, 32, any, keep
-  ldi r13, 54
-  shr r0, r7, r13
-  ldi r13, 63
-  and r0, r0, r13
-  addi r0, r0, -3
-  ldi r12, 1
-  shl r0, r12, r0
-  ld r12, r15, 0, any, keep
-  add r12, r12, r0
-  st r15, r12, 40, any, keep
-  mov r3, r11
-L85:
-  ld r12, r15, 8, any, keep
-  ld r13, r15, 0, any, keep
-  add r1, r12, r13
-  ldi r13, 54
-  shr r0, r7, r13
-  ldi r13, 63
-  and r0, r0, r13
-  addi r0, r0, -3
-  ldi r12, 1
-  shl r0, r12, r0
-  ltu r0, r0, r1
-  mov r5, r11
-  bnz r0, L168
-  ld r5, r15, 8, any, keep
-L168:
-  ldi r13, 63
-  and r1, r5, r13
-  eq r2, r1, r11
-  ld r12, r15, 24, any, keep
-  ldi r13, 6
-  ltu r0, r12, r13
-  bnz r0, L169
-  mov r2, r11
-L169:
-  ldi r13, 54
-  shr r0, r7, r13
-  ldi r13, 63
-  and r0, r0, r13
-  addi r0, r0, -3
-  ldi r12, 1
-  shl r0, r12, r0
-  ltu r0, r5, r0
-  bnz r2, L170
-  mov r0, r11
-L170:
-  bz r0, L88
-L86:
-  ldi r13, 6
-  shr r0, r5, r13
-  shl r0, r0, r9
-  lea r0, r7, r0
-  ld r0, r0, 0, any, keep
-  eq r0, r0, r10
-  bnz r0, L87
-L122:
-  mov r1, r11
-  br L88
-L87:
-  addi r5, r5, 64
-  addi r3, r3, 64
-  ldi r13, 54
-  shr r0, r7, r13
-  ldi r13, 63
-  and r0, r0, r13
-  addi r0, r0, -3
-  ldi r12, 1
-  shl r0, r12, r0
-  ltu r0, r5, r0
-  bnz r0, L86
-L124:
-  mov r1, r11
-L88:
-  ld r13, r15, 0, any, keep
-  add r12, r5, r13
-  st r15, r12, 8, any, keep
-  ldi r13, 54
-  shr r0, r7, r13
-  ldi r13, 63
-  and r0, r0, r13
-  addi r0, r0, -3
-  ldi r12, 1
-  shl r0, r12, r0
-  ld r13, r15, 8, any, keep
-  ltu r0, r0, r13
-  bnz r0, L94
 L89:
-  ld r12, r15, 32, any, keep
-  shl r8, r12, r1
-  ldi r13, 6
-  shr r4, r5, r13
-  ld r13, r15, 48, any, keep
-  add r0, r5, r13
-  ldi r13, 6
-  shr r6, r0, r13
-  ltu r0, r6, r4
-  bnz r0, L95
-L90:
-  shl r0, r4, r9
-  lea r0, r7, r0
-  ld r0, r0, 0, any, keep
-  and r0, r0, r8
-  bnz r0, L94
-L125:
-  mov r2, r4
-L91:
-  addi r1, r2, 1
-  eq r0, r2, r6
-  bnz r0, L95
-L92:
-  shl r0, r1, r9
-  lea r0, r7, r0
-  ld r0, r0, 0, any, keep
-  and r0, r0, r8
-  bnz r0, L93
-L126:
-  mov r2, r1
-  br L91
-L93:
-  ltu r0, r2, r6
-  bz r0, L95
-L94:
-  ld r13, r15, 0, any, keep
-  add r3, r3, r13
-  ld r12, r15, 40, any, keep
-  ltu r0, r12, r3
-  bz r0, L85
-L139:
-  mov r5, r11
-  mov r8, r11
-  br L108
-L95:
+  st r15, r13, 16, any, keep
+  mov r8, r10
+L74:
+  ldi r12, 1
+  shl r12, r12, r8
+  st r15, r12, 8, any, keep
+  addi r1, r8, 1
+  ld r12, r15, 8, any, keep
+  ld r13, r15, 16, any, keep
+  ltu r0, r12, r13
+  bz r0, L75
+L81:
+  mov r8, r1
+  br L74
+L75:
   ldi r13, 54
-  shr r0, r7, r13
+  shr r0, r11, r13
+  ldi r13, 63
+  and r0, r0, r13
+  ltu r2, r8, r0
+  ldi r13, 54
+  shr r0, r11, r13
   ldi r13, 63
   and r0, r0, r13
   addi r0, r0, -3
   ldi r12, 1
   shl r0, r12, r0
-  eq r0, r5, r0
-  bz r0, L96
-L127:
-  mov r5, r11
-  mov r8, r11
-  br L108
-L96:
-  shl r0, r5, r9
-  leab r0, r7, r0
+  shl r0, r0, r10
   ld r13, r15, 16, any, keep
-  subseg r8, r0, r13
+  ltu r1, r0, r13
+  mov r0, r9
+  bnz r1, L90
+  mov r0, r2
+L90:
+  bnz r0, L76
+L82:
+  mov r4, r9
+  mov r8, r9
+  br L80
+L76:
+  addi r0, r8, -3
+  ldi r12, 1
+  shl r7, r12, r0
+  mov r0, r7
+  lip r14, 2
+  br find_2
+  st r15, r0, 0, any, keep
+  ldi r13, 54
+  shr r0, r11, r13
+  ldi r13, 63
+  and r0, r0, r13
+  addi r0, r0, -3
+  ldi r12, 1
+  shl r0, r12, r0
+  ld r12, r15, 0, any, keep
+  eq r0, r12, r0
+  bz r0, L77
+L83:
+  mov r4, r9
+  mov r8, r9
+  br L80
+L77:
+  ld r12, r15, 0, any, keep
+  shl r0, r12, r10
+  leab r0, r11, r0
+  subseg r8, r0, r8
   lip r12, P_11
   ld r12, r12, 0, any, keep
-  ld r12, r12, 0, any, keep
-  st r15, r12, 16, any, keep
-  ld r13, r15, 16, any, keep
-  ltu r0, r5, r13
-  bz r0, L101
-L97:
+  ld r0, r12, 0, any, keep
   ld r12, r15, 0, any, keep
-  ldi r13, 1
-  ltu r0, r12, r13
-  ldi r1, 1
-  bnz r0, L171
-  ld r1, r15, 0, any, keep
-L171:
-  addi r0, r1, -1
-  ldi r13, 7
-  and r6, r1, r13
-  ldi r13, 7
-  ltu r0, r0, r13
-  bz r0, L98
-L128:
-  mov r2, r11
-  br L99
-L98:
-  ldi r13, -8
-  and r3, r1, r13
-  mov r2, r11
-  mov r1, r11
-  br L107
-L99:
-  bz r6, L101
-L131:
-  mov r1, r11
-L100:
-  shl r0, r2, r9
-  lea r0, r8, r0
-  st r0, r11, 0, any, keep
-  addi r2, r2, 1
-  addi r1, r1, 1
-  eq r0, r1, r6
-  bz r0, L100
-L101:
-  ldi r13, 63
-  and r0, r5, r13
-  ld r12, r15, 32, any, keep
-  shl r5, r12, r0
-  ld r12, r15, 8, any, keep
-  addi r0, r12, -1
-  ldi r13, 6
-  shr r10, r0, r13
-  ltu r0, r10, r4
-  bnz r0, L106
-L102:
-  addi r0, r10, 1
-  sub r0, r0, r4
-  sub r12, r10, r4
-  st r15, r12, 0, any, keep
-  and r6, r0, r9
-  bz r6, L104
-L134:
-  mov r3, r11
-L103:
-  shl r2, r4, r9
-  lea r0, r7, r2
-  ld r0, r0, 0, any, keep
-  xor r1, r0, r5
-  lea r0, r7, r2
-  st r0, r1, 0, any, keep
-  addi r4, r4, 1
-  addi r3, r3, 1
-  eq r0, r3, r6
-  bz r0, L103
-L104:
+  ltu r0, r12, r0
+  bz r0, L78
+L84:
+  mov r1, r9
+  br L79
+L78:
+  mov r1, r7
+  ld r0, r15, 0, any, keep
+  lip r14, 2
+  br change
   ld r12, r15, 0, any, keep
-  ltu r0, r12, r9
-  bnz r0, L106
-L105:
-  shl r2, r4, r9
-  lea r0, r7, r2
-  ld r0, r0, 0, any, keep
-  xor r1, r0, r5
-  lea r0, r7, r2
-  st r0, r1, 0, any, keep
-  addi r0, r4, 1
-  shl r2, r0, r9
-  lea r0, r7, r2
-  ld r0, r0, 0, any, keep
-  xor r1, r0, r5
-  lea r0, r7, r2
-  st r0, r1, 0, any, keep
-  addi r0, r4, 2
-  shl r2, r0, r9
-  lea r0, r7, r2
-  ld r0, r0, 0, any, keep
-  xor r1, r0, r5
-  lea r0, r7, r2
-  st r0, r1, 0, any, keep
-  addi r3, r4, 3
-  shl r2, r3, r9
-  lea r0, r7, r2
-  ld r0, r0, 0, any, keep
-  xor r1, r0, r5
-  lea r0, r7, r2
-  st r0, r1, 0, any, keep
-  addi r4, r4, 4
-  eq r0, r3, r10
-  bz r0, L105
-L106:
+  add r0, r12, r7
   lip r12, P_10
   ld r12, r12, 0, any, keep
-  ld r13, r15, 8, any, keep
-  st r12, r13, 0, any, keep
-  ld r12, r15, 16, any, keep
-  ld r13, r15, 8, any, keep
-  ltu r1, r12, r13
-  ld r0, r15, 8, any, keep
-  bnz r1, L172
-  ld r0, r15, 16, any, keep
-L172:
+  st r12, r0, 0, any, keep
+  lip r12, P_11
+  ld r12, r12, 0, any, keep
+  ld r1, r12, 0, any, keep
+  ltu r2, r1, r0
+  bnz r2, L91
+  mov r0, r1
+L91:
   lip r12, P_11
   ld r12, r12, 0, any, keep
   st r12, r0, 0, any, keep
-  ld r12, r15, 56, any, keep
-  ld r13, r15, 64, any, keep
-  sub r5, r12, r13
-  add r0, r8, r5
+  ld r12, r15, 8, any, keep
+  ld r13, r15, 16, any, keep
+  sub r4, r12, r13
+  add r0, r8, r4
   ldi r13, 4194303
   ldhi r13, 4294967295
   and r1, r0, r13
   ldi r13, 4194303
   ldhi r13, 4294967295
-  and r0, r7, r13
+  and r0, r11, r13
   sub r1, r1, r0
-  shr r0, r1, r9
+  shr r0, r1, r10
   ldi r13, 63
   and r0, r0, r13
   ldi r12, 1
-  shl r4, r12, r0
+  shl r5, r12, r0
   ldi r13, 9
   shr r3, r1, r13
   ldi r13, 54
-  shr r0, r7, r13
+  shr r0, r11, r13
   ldi r13, 63
   and r0, r0, r13
   addi r0, r0, -3
@@ -1739,7 +955,7 @@ L172:
   ldi r13, 6
   shr r2, r0, r13
   ldi r13, 54
-  shr r0, r7, r13
+  shr r0, r11, r13
   ldi r13, 63
   and r0, r0, r13
   addi r0, r0, -3
@@ -1748,78 +964,233 @@ L172:
   ldi r13, 64
   ltu r1, r0, r13
   ldi r0, 1
-  bnz r1, L173
+  bnz r1, L92
   mov r0, r2
-L173:
+L92:
   add r0, r3, r0
-  shl r2, r0, r9
-  lea r0, r7, r2
+  shl r2, r0, r10
+  lea r0, r11, r2
   ld r0, r0, 0, any, keep
-  or r1, r0, r4
-  lea r0, r7, r2
+  or r1, r0, r5
+  lea r0, r11, r2
   st r0, r1, 0, any, keep
-  br L108
-L107:
-  shl r0, r2, r9
+  br L80
+L79:
+  shl r0, r1, r10
   lea r0, r8, r0
-  st r0, r11, 0, any, keep
-  ldi r13, 1
-  or r0, r2, r13
-  shl r0, r0, r9
-  lea r0, r8, r0
-  st r0, r11, 0, any, keep
-  ldi r13, 2
-  or r0, r2, r13
-  shl r0, r0, r9
-  lea r0, r8, r0
-  st r0, r11, 0, any, keep
-  or r0, r2, r9
-  shl r0, r0, r9
-  lea r0, r8, r0
-  st r0, r11, 0, any, keep
-  ldi r13, 4
-  or r0, r2, r13
-  shl r0, r0, r9
-  lea r0, r8, r0
-  st r0, r11, 0, any, keep
-  ldi r13, 5
-  or r0, r2, r13
-  shl r0, r0, r9
-  lea r0, r8, r0
-  st r0, r11, 0, any, keep
-  ldi r13, 6
-  or r0, r2, r13
-  shl r0, r0, r9
-  lea r0, r8, r0
-  st r0, r11, 0, any, keep
-  ldi r13, 7
-  or r0, r2, r13
-  shl r0, r0, r9
-  lea r0, r8, r0
-  st r0, r11, 0, any, keep
-  addi r2, r2, 8
-  addi r1, r1, 8
-  eq r0, r1, r3
-  bnz r0, L99
-  br L107
-L108:
-  add r2, r8, r5
+  st r0, r9, 0, any, keep
+  addi r1, r1, 1
+  ltu r0, r1, r7
+  bnz r0, L79
+  br L78
+L80:
+  add r2, r8, r4
   isptr r0, r8
-  bz r0, L174
+  bz r0, L93
   ldi r0, 54
   shr r0, r8, r0
   xor r1, r2, r8
   shr r1, r1, r0
-  bnz r1, L174
-  lea r2, r8, r5
-L174:
+  bnz r1, L93
+  lea r2, r8, r4
+L93:
   mov r0, r2
-  ld r7, r15, 72, any, keep
-  ld r8, r15, 80, any, keep
-  ld r9, r15, 88, any, keep
-  ld r10, r15, 96, any, keep
-  ld r11, r15, 104, any, keep
-  leai r15, r15, 112
+  ld r7, r15, 24, any, keep
+  ld r8, r15, 32, any, keep
+  ld r9, r15, 40, any, keep
+  ld r10, r15, 48, any, keep
+  ld r11, r15, 56, any, keep
+  ld r14, r15, 64, any, keep
+  leai r15, r15, 72
+  jmp r14
+find_2:
+  ;@ frame back 56 caller by 64
+  leai r15, r15, -64
+  st r15, r7, 16, any, keep
+  st r15, r8, 24, any, keep
+  st r15, r9, 32, any, keep
+  st r15, r10, 40, any, keep
+  st r15, r11, 48, any, keep
+  st r15, r14, 56, any, keep
+  st r15, r0, 0, any, keep
+  lip r9, P_9
+  ld r9, r9, 0, any, keep
+  ldi r11, 63
+  lip r12, P_10
+  ld r12, r12, 0, any, keep
+  ld r1, r12, 0, any, keep
+  ld r12, r15, 0, any, keep
+  addi r0, r12, -1
+  add r1, r0, r1
+  ldi r12, 0
+  ld r13, r15, 0, any, keep
+  sub r0, r12, r13
+  and r10, r1, r0
+  ldi r13, 54
+  shr r0, r9, r13
+  and r0, r0, r11
+  addi r0, r0, -3
+  ldi r12, 1
+  shl r0, r12, r0
+  ld r12, r15, 0, any, keep
+  add r12, r12, r0
+  st r15, r12, 8, any, keep
+  ldi r8, 0
+L95:
+  ld r13, r15, 0, any, keep
+  add r1, r10, r13
+  ldi r13, 54
+  shr r0, r9, r13
+  and r0, r0, r11
+  addi r0, r0, -3
+  ldi r12, 1
+  shl r0, r12, r0
+  ltu r0, r0, r1
+  ldi r7, 0
+  bnz r0, L110
+  mov r7, r10
+L110:
+  and r0, r7, r11
+  ldi r13, 0
+  eq r1, r0, r13
+  ld r12, r15, 0, any, keep
+  ldi r13, 64
+  ltu r0, r12, r13
+  bnz r0, L111
+  ldi r1, 0
+L111:
+  ldi r13, 54
+  shr r0, r9, r13
+  and r0, r0, r11
+  addi r0, r0, -3
+  ldi r12, 1
+  shl r0, r12, r0
+  ltu r0, r7, r0
+  bnz r1, L112
+  ldi r0, 0
+L112:
+  bz r0, L98
+L96:
+  ldi r13, 6
+  shr r0, r7, r13
+  ldi r13, 3
+  shl r0, r0, r13
+  lea r0, r9, r0
+  ld r0, r0, 0, any, keep
+  ldi r13, -1
+  eq r0, r0, r13
+  bz r0, L98
+L97:
+  addi r7, r7, 64
+  addi r8, r8, 64
+  ldi r13, 54
+  shr r0, r9, r13
+  and r0, r0, r11
+  addi r0, r0, -3
+  ldi r12, 1
+  shl r0, r12, r0
+  ltu r0, r7, r0
+  bnz r0, L96
+L98:
+  ld r13, r15, 0, any, keep
+  add r10, r7, r13
+  ldi r13, 54
+  shr r0, r9, r13
+  and r0, r0, r11
+  addi r0, r0, -3
+  ldi r12, 1
+  shl r0, r12, r0
+  ltu r0, r0, r10
+  bnz r0, L100
+L99:
+  mov r0, r7
+  ld r1, r15, 0, any, keep
+  lip r14, 2
+  br is_free
+  bnz r0, L101
+L100:
+  ld r13, r15, 0, any, keep
+  add r8, r8, r13
+  ld r12, r15, 8, any, keep
+  ltu r0, r12, r8
+  bz r0, L95
+L108:
+  ldi r13, 54
+  shr r0, r9, r13
+  and r0, r0, r11
+  addi r0, r0, -3
+  ldi r12, 1
+  shl r7, r12, r0
+L101:
+  mov r0, r7
+  ld r7, r15, 16, any, keep
+  ld r8, r15, 24, any, keep
+  ld r9, r15, 32, any, keep
+  ld r10, r15, 40, any, keep
+  ld r11, r15, 48, any, keep
+  ld r14, r15, 56, any, keep
+  leai r15, r15, 64
+  jmp r14
+is_free:
+  ;@ frame back - caller by 8
+  leai r15, r15, -8
+  st r15, r7, 0, any, keep
+  mov r4, r0
+  mov r6, r1
+  ldi r2, -1
+  lip r3, P_9
+  ld r3, r3, 0, any, keep
+  ldi r7, 3
+  shl r0, r2, r6
+  xor r1, r0, r2
+  ldi r13, 64
+  ltu r0, r6, r13
+  bnz r0, L123
+  mov r1, r2
+L123:
+  ldi r13, 63
+  and r0, r4, r13
+  shl r5, r1, r0
+  ldi r13, 6
+  shr r2, r4, r13
+  addi r0, r4, -1
+  add r0, r0, r6
+  ldi r13, 6
+  shr r4, r0, r13
+  ltu r0, r4, r2
+  bz r0, L114
+L119:
+  ldi r0, 1
+  br L118
+L114:
+  shl r0, r2, r7
+  lea r0, r3, r0
+  ld r0, r0, 0, any, keep
+  and r0, r0, r5
+  bz r0, L115
+L121:
+  ldi r0, 0
+  br L118
+L115:
+  addi r1, r2, 1
+  eq r0, r2, r4
+  bnz r0, L117
+L116:
+  shl r0, r1, r7
+  lea r0, r3, r0
+  ld r0, r0, 0, any, keep
+  and r0, r0, r5
+  bnz r0, L117
+L122:
+  mov r2, r1
+  br L115
+L117:
+  ltu r0, r2, r4
+  ldi r13, 0
+  eq r0, r0, r13
+L118:
+  ld r7, r15, 0, any, keep
+  leai r15, r15, 8
   jmp r14
 strcmp:
   ;@ frame back - caller by 40
@@ -1838,7 +1209,7 @@ strcmp:
   ldi r8, -1
   ldi r9, 1
   mov r3, r4
-L176:
+L125:
   lea r1, r10, r3
   and r0, r1, r6
   sub r0, r4, r0
@@ -1856,24 +1227,24 @@ L176:
   shr r0, r0, r1
   and r1, r0, r7
   eq r0, r2, r1
-  bnz r0, L178
-L177:
+  bnz r0, L127
+L126:
   ltu r0, r2, r1
   mov r1, r8
-  bnz r0, L179
+  bnz r0, L128
   mov r1, r9
-L182:
-  br L179
-L178:
+L131:
+  br L128
+L127:
   addi r3, r3, 1
   eq r0, r3, r8
-  bnz r2, L183
+  bnz r2, L132
   mov r0, r9
-L183:
-  bz r0, L176
-L180:
+L132:
+  bz r0, L125
+L129:
   mov r1, r4
-L179:
+L128:
   mov r0, r1
   ld r7, r15, 0, any, keep
   ld r8, r15, 8, any, keep
@@ -1897,19 +1268,19 @@ strtok:
   ldi r8, 7
   ldi r4, 56
   ld r12, r15, 0, any, keep
-  bnz r12, L186
-L185:
+  bnz r12, L135
+L134:
   lip r12, P_12
   ld r12, r12, 0, any, keep
   ld r12, r12, 0, any, keep
   st r15, r12, 0, any, keep
   ld r12, r15, 0, any, keep
-  bnz r12, L186
-L203:
+  bnz r12, L135
+L152:
   mov r10, r7
   st r15, r7, 0, any, keep
-  br L201
-L186:
+  br L150
+L135:
   ld r12, r15, 0, any, keep
   and r0, r12, r8
   sub r0, r7, r0
@@ -1923,14 +1294,14 @@ L186:
   sar r5, r0, r4
   ldi r13, 255
   and r0, r5, r13
-  bnz r0, L187
-L205:
+  bnz r0, L136
+L154:
   mov r3, r7
   mov r4, r7
   mov r10, r7
   st r15, r7, 0, any, keep
-  br L200
-L187:
+  br L149
+L136:
   and r0, r6, r8
   sub r0, r7, r0
   lea r0, r6, r0
@@ -1940,14 +1311,14 @@ L187:
   shl r0, r0, r4
   sar r3, r0, r4
   mov r10, r7
-L188:
+L137:
   eq r0, r5, r3
-  bnz r0, L191
-L206:
+  bnz r0, L140
+L155:
   mov r1, r3
   mov r2, r7
-  br L190
-L189:
+  br L139
+L138:
   lea r1, r6, r2
   and r0, r1, r8
   sub r0, r7, r0
@@ -1958,12 +1329,12 @@ L189:
   shl r0, r0, r4
   sar r1, r0, r4
   eq r0, r5, r1
-  bnz r0, L191
-L190:
+  bnz r0, L140
+L139:
   addi r2, r2, 1
-  bz r1, L192
-  br L189
-L191:
+  bz r1, L141
+  br L138
+L140:
   addi r10, r10, 1
   ld r12, r15, 0, any, keep
   lea r1, r12, r10
@@ -1977,22 +1348,22 @@ L191:
   sar r5, r0, r4
   ldi r13, 255
   and r0, r5, r13
-  bnz r0, L188
-L216:
+  bnz r0, L137
+L165:
   mov r3, r7
   mov r4, r7
   mov r10, r7
   st r15, r7, 0, any, keep
-  br L200
-L192:
-  bnz r5, L193
-L207:
+  br L149
+L141:
+  bnz r5, L142
+L156:
   mov r3, r7
   mov r4, r7
   mov r10, r7
   st r15, r7, 0, any, keep
-  br L200
-L193:
+  br L149
+L142:
   and r0, r6, r8
   sub r0, r7, r0
   lea r0, r6, r0
@@ -2002,14 +1373,14 @@ L193:
   shl r0, r0, r4
   sar r11, r0, r4
   mov r3, r7
-L194:
+L143:
   eq r0, r5, r11
-  bnz r0, L198
-L209:
+  bnz r0, L147
+L158:
   mov r1, r11
   mov r2, r7
-  br L196
-L195:
+  br L145
+L144:
   lea r1, r6, r2
   and r0, r1, r8
   sub r0, r7, r0
@@ -2020,11 +1391,11 @@ L195:
   shl r0, r0, r4
   sar r1, r0, r4
   eq r0, r5, r1
-  bnz r0, L198
-L196:
+  bnz r0, L147
+L145:
   addi r2, r2, 1
-  bnz r1, L195
-L197:
+  bnz r1, L144
+L146:
   addi r3, r3, 1
   add r0, r10, r3
   ld r12, r15, 0, any, keep
@@ -2039,8 +1410,8 @@ L197:
   sar r5, r0, r4
   ldi r13, 255
   and r0, r5, r13
-  bnz r0, L194
-L198:
+  bnz r0, L143
+L147:
   add r4, r10, r3
   ld r12, r15, 0, any, keep
   lea r1, r12, r4
@@ -2052,12 +1423,12 @@ L198:
   shr r0, r0, r1
   ldi r13, 255
   and r0, r0, r13
-  bnz r0, L199
-L214:
+  bnz r0, L148
+L163:
   mov r3, r7
   mov r4, r7
-  br L200
-L199:
+  br L149
+L148:
   ld r12, r15, 0, any, keep
   lea r1, r12, r4
   and r0, r1, r8
@@ -2074,32 +1445,32 @@ L199:
   st r3, r0, 0, any, keep
   addi r3, r4, 1
   ld r4, r15, 0, any, keep
-L200:
+L149:
   add r2, r4, r3
   isptr r0, r4
-  bz r0, L218
+  bz r0, L167
   ldi r0, 54
   shr r0, r4, r0
   xor r1, r2, r4
   shr r1, r1, r0
-  bnz r1, L218
+  bnz r1, L167
   lea r2, r4, r3
-L218:
+L167:
   lip r12, P_12
   ld r12, r12, 0, any, keep
   st r12, r2, 0, any, keep
-L201:
+L150:
   ld r12, r15, 0, any, keep
   add r2, r12, r10
   isptr r0, r12
-  bz r0, L219
+  bz r0, L168
   ldi r0, 54
   shr r0, r12, r0
   xor r1, r2, r12
   shr r1, r1, r0
-  bnz r1, L219
+  bnz r1, L168
   lea r2, r12, r10
-L219:
+L168:
   mov r0, r2
   ld r7, r15, 8, any, keep
   ld r8, r15, 16, any, keep
@@ -2130,15 +1501,15 @@ memcpy:
   ld r12, r15, 8, any, keep
   ltu r0, r12, r2
   or r0, r1, r0
-  bnz r0, L228
-L229:
+  bnz r0, L177
+L178:
   mov r6, r2
   mov r2, r7
-  br L221
-L228:
+  br L170
+L177:
   mov r6, r7
-  br L222
-L221:
+  br L171
+L170:
   lea r0, r11, r2
   ld r1, r0, 0, any, keep
   lea r0, r10, r2
@@ -2146,16 +1517,16 @@ L221:
   addi r1, r6, 8
   ld r12, r15, 8, any, keep
   ltu r0, r12, r1
-  bnz r0, L222
-L231:
+  bnz r0, L171
+L180:
   mov r2, r6
   mov r6, r1
-  br L221
-L222:
+  br L170
+L171:
   ld r13, r15, 8, any, keep
   ltu r0, r6, r13
-  bz r0, L227
-L223:
+  bz r0, L176
+L172:
   ldi r13, -1
   xor r0, r6, r13
   ld r13, r15, 8, any, keep
@@ -2165,10 +1536,10 @@ L223:
   and r12, r12, r8
   st r15, r12, 0, any, keep
   ld r12, r15, 0, any, keep
-  bz r12, L225
-L233:
+  bz r12, L174
+L182:
   mov r5, r7
-L224:
+L173:
   lea r1, r11, r6
   and r0, r1, r9
   sub r0, r7, r0
@@ -2193,12 +1564,12 @@ L224:
   addi r5, r5, 1
   ld r13, r15, 0, any, keep
   eq r0, r5, r13
-  bz r0, L224
-L225:
+  bz r0, L173
+L174:
   ld r12, r15, 16, any, keep
   ltu r0, r12, r8
-  bnz r0, L227
-L226:
+  bnz r0, L176
+L175:
   lea r1, r11, r6
   and r0, r1, r9
   sub r0, r7, r0
@@ -2285,8 +1656,8 @@ L226:
   addi r6, r6, 4
   ld r13, r15, 8, any, keep
   eq r0, r6, r13
-  bz r0, L226
-L227:
+  bz r0, L175
+L176:
   mov r0, r10
   ld r7, r15, 24, any, keep
   ld r8, r15, 32, any, keep

@@ -38,7 +38,7 @@ BROKEN = (
      VALUES),
     ("mm/cc/emission.py", 'self.put("ldhi", f"r{register}", fixed.number & 0xFFFFFFFF)', 'self.put("ldhi", f"r{register}", 0)', VALUES),
     ("mm/cc/source.py", "calls = [(label, None) for label in before] + [(at_exit, label) for label in after]", "calls = []", VALUES),
-    ("mm/cc/liveness.py", "last = open_.pop(register, place + 2)", "last = open_.pop(register, place + 1)", CC),
+    ("mm/cc/allocation.py", "if at < len(calls) and calls[at] + 1 < end:", "if False:", VALUES),
     # The second reckoning.
     ("mm/cc/checked.py", 'self.emit("check", None, register, second)', "pass", VALUES),
     ("mm/cc/cache.py", "if hashlib.sha256(said).hexdigest().encode() != last:", "if False:", CLANG),

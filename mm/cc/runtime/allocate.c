@@ -5,6 +5,8 @@
 
 extern number __mm_heap[];
 #define WORDS_A_BIT 64
+/* Functions of their own, and loops that are not unrolled: the text is short rather than fast. */
+#define FAR __attribute__((noinline))
 static size_t next, used;
 
 static long log_in(const void *pointer)
@@ -34,26 +36,29 @@ static number mask_of(size_t at, size_t count)
     return (count < WORDS_A_BIT ? (1ul << count) - 1 : ~0ul) << at % WORDS_A_BIT;
 }
 
-static int is_free(size_t at, size_t count)
+static FAR int is_free(size_t at, size_t count)
 {
     number mask = mask_of(at, count);
+#pragma nounroll
     for (size_t word = at / WORDS_A_BIT; word <= (at + count - 1) / WORDS_A_BIT; word++)
         if (__mm_heap[word] & mask)
             return 0;
     return 1;
 }
 
-static void change(size_t at, size_t count)
+static FAR void change(size_t at, size_t count)
 {
     number mask = mask_of(at, count);
+#pragma nounroll
     for (size_t word = at / WORDS_A_BIT; word <= (at + count - 1) / WORDS_A_BIT; word++)
         __mm_heap[word] ^= mask;
 }
 
 /* The first free words after those that were handed out last, a power of two of them, and at a multiple of it. */
-static size_t find(size_t count)
+static FAR size_t find(size_t count)
 {
     size_t words = heap_words(), at = next + count - 1 & -count;
+#pragma nounroll
     for (size_t seen = 0; seen <= words + count; seen += count, at += count) {
         if (at + count > words)
             at = 0;
@@ -81,6 +86,7 @@ void *malloc(size_t size)
     if (at == heap_words())
         return 0;
     number *block = __mm_op_subseg(__mm_op_leab(__mm_heap, at * 8), log);
+#pragma nounroll
     for (size_t word = 0; at < used && word < count; word++)
         block[word] = 0;
     change(at, count);
