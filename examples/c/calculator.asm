@@ -1317,49 +1317,49 @@ number_in:
   st r15, r10, 40, any, keep
   st r15, r11, 48, any, keep
   st r15, r14, 56, any, keep
-  st r15, r0, 0, any, keep
   st r15, r2, 8, any, keep
-  mov r11, r1
-  mov r6, r3
-  ldi r9, 0
+  st r15, r3, 0, any, keep
+  mov r11, r0
+  mov r10, r1
+  ldi r8, 0
   lip r2, P_12
   ld r2, r2, 0, any, keep
-  ldi r10, 32
+  ldi r9, 32
   ldi r5, 56
-  ldi r8, -5
-  ld r12, r15, 0, any, keep
-  st r12, r9, 0, any, keep
-  ld r12, r15, 0, any, keep
-  st r12, r9, 8, any, keep
+  ldi r6, -5
+  st r11, r8, 0, any, keep
+  st r11, r8, 8, any, keep
   ld r12, r15, 8, any, keep
   bz r12, L92
 L91:
   ld r12, r15, 8, any, keep
-  st r12, r11, 0, any, keep
+  st r12, r10, 0, any, keep
 L92:
+  ld r12, r15, 0, any, keep
   ldi r13, 1
-  eq r1, r6, r13
+  eq r1, r12, r13
   ldi r12, 36
-  ltu r0, r12, r6
+  ld r13, r15, 0, any, keep
+  ltu r0, r12, r13
   or r0, r0, r1
   bnz r0, L93
-L114:
-  mov r4, r9
+L111:
+  mov r4, r8
   br L94
 L93:
   ld r0, r2, -4, any, keep
-  shl r0, r0, r10
-  shr r1, r0, r10
+  shl r0, r0, r9
+  shr r1, r0, r9
   ldi r12, 22
-  shl r0, r12, r10
+  shl r0, r12, r9
   or r0, r1, r0
   st r2, r0, -4, any, keep
-  br L113
+  br L110
 L94:
-  lea r1, r11, r4
+  lea r1, r10, r4
   ldi r13, 7
   and r0, r1, r13
-  sub r0, r9, r0
+  sub r0, r8, r0
   lea r0, r1, r0
   ldi r13, 3
   shl r1, r1, r13
@@ -1369,14 +1369,14 @@ L94:
   sar r3, r0, r5
   ldi r13, 255
   and r2, r3, r13
-  eq r0, r2, r10
-  eq r1, r0, r9
+  eq r0, r2, r9
+  eq r1, r0, r8
   addi r0, r2, -14
-  ltu r0, r0, r8
+  ltu r0, r0, r6
   and r0, r1, r0
   addi r7, r4, 1
   bnz r0, L95
-L115:
+L112:
   mov r4, r7
   br L94
 L95:
@@ -1386,47 +1386,43 @@ L95:
   ldi r13, 45
   eq r0, r3, r13
   bnz r0, L96
-L116:
+L113:
   mov r7, r4
   br L97
 L96:
   ldi r13, 45
   eq r0, r2, r13
-  ld r12, r15, 0, any, keep
-  ld r1, r12, 8, any, keep
+  ld r1, r11, 8, any, keep
   xor r0, r1, r0
   ldi r13, 0
   ldhi r13, 4294967295
   and r0, r0, r13
   xor r0, r1, r0
-  ld r12, r15, 0, any, keep
-  st r12, r0, 8, any, keep
-L97:
-  eq r4, r6, r9
-  ldi r13, -17
-  and r0, r6, r13
-  bnz r0, L101
-L98:
-  lea r1, r11, r7
+  st r11, r0, 8, any, keep
+  lea r1, r10, r7
   ldi r13, 7
   and r0, r1, r13
-  sub r0, r9, r0
+  sub r0, r8, r0
   lea r0, r1, r0
   ldi r13, 3
   shl r1, r1, r13
   ld r0, r0, 0, any, keep
   shr r0, r0, r1
-  ldi r13, 255
-  and r0, r0, r13
+  shl r0, r0, r5
+  sar r3, r0, r5
+L97:
   ldi r13, 48
-  eq r0, r0, r13
-  bz r0, L101
-L99:
+  eq r0, r3, r13
+  bnz r0, L98
+L114:
+  ldi r0, 10
+  br L100
+L98:
   addi r0, r7, 1
-  lea r1, r11, r0
+  lea r1, r10, r0
   ldi r13, 7
   and r0, r1, r13
-  sub r0, r9, r0
+  sub r0, r8, r0
   lea r0, r1, r0
   ldi r13, 3
   shl r1, r1, r13
@@ -1438,13 +1434,16 @@ L99:
   and r0, r0, r13
   ldi r13, 88
   eq r0, r0, r13
-  bz r0, L101
-L100:
+  bnz r0, L99
+L115:
+  ldi r0, 8
+  br L100
+L99:
   addi r3, r7, 2
-  lea r1, r11, r3
+  lea r1, r10, r3
   ldi r13, 7
   and r0, r1, r13
-  sub r0, r9, r0
+  sub r0, r8, r0
   lea r0, r1, r0
   ldi r13, 3
   shl r1, r1, r13
@@ -1461,53 +1460,33 @@ L100:
   ldi r13, 6
   ltu r0, r0, r13
   or r1, r2, r0
-  ldi r13, 1
-  xor r0, r4, r13
-  or r0, r1, r0
-  mov r2, r3
-  bnz r1, L129
-  mov r2, r7
-L129:
-  ldi r3, 16
-  bnz r1, L130
-  mov r3, r6
-L130:
-  bnz r0, L117
-L118:
-  ldi r6, 8
-  br L104
+  ld r12, r15, 0, any, keep
+  ldi r13, -17
+  and r0, r12, r13
+  eq r0, r0, r8
+  and r0, r0, r1
+  bnz r0, L116
 L117:
-  mov r7, r2
-  mov r6, r3
-  br L104
+  ldi r0, 8
+  br L100
+L116:
+  mov r7, r3
+  ldi r6, 16
+  br L101
+L100:
+  ld r12, r15, 0, any, keep
+  ld r6, r15, 0, any, keep
+  bnz r12, L101
+  mov r6, r0
+L125:
 L101:
-  bnz r6, L104
-L102:
-  lea r1, r11, r7
-  ldi r13, 7
-  and r0, r1, r13
-  sub r0, r9, r0
-  lea r0, r1, r0
-  ldi r13, 3
-  shl r1, r1, r13
-  ld r0, r0, 0, any, keep
-  shr r0, r0, r1
-  ldi r13, 255
-  and r0, r0, r13
-  ldi r13, 48
-  eq r0, r0, r13
-  ldi r6, 8
-  bnz r0, L104
-  ldi r6, 10
-L131:
-L104:
-  mov r4, r9
+  mov r4, r8
   mov r5, r7
-L105:
-  lea r1, r11, r5
+L102:
+  lea r1, r10, r5
   ldi r13, 7
   and r0, r1, r13
-  sub r0, r9, r0
+  sub r0, r8, r0
   lea r0, r1, r0
   ldi r13, 3
   shl r1, r1, r13
@@ -1518,78 +1497,76 @@ L105:
   addi r3, r1, -48
   ldi r12, 9
   ltu r0, r12, r3
-  bz r0, L107
-L106:
+  bz r0, L104
+L103:
   ldi r13, 223
   and r0, r1, r13
   addi r2, r0, -91
-  or r0, r1, r10
+  or r0, r1, r9
   addi r1, r0, -87
   ldi r13, -26
   ltu r0, r2, r13
   ldi r3, 99
-  bnz r0, L107
+  bnz r0, L104
   mov r3, r1
-L132:
-L107:
+L126:
+L104:
   lts r0, r3, r6
-  bz r0, L111
-L108:
+  bz r0, L108
+L105:
   ldi r13, -1
   xor r0, r3, r13
   divu r0, r0, r6
   ltu r0, r0, r4
-  bz r0, L110
-L109:
-  ld r12, r15, 0, any, keep
-  leai r2, r12, 12
+  bz r0, L107
+L106:
+  leai r2, r11, 12
   ldi r13, 1
   ldi r14, 4
   and r0, r2, r14
-  bnz r0, L133
+  bnz r0, L127
   ld r0, r2, 0, any, keep
   xor r1, r0, r13
-  shl r1, r1, r10
-  shr r1, r1, r10
+  shl r1, r1, r9
+  shr r1, r1, r9
   xor r0, r0, r1
   st r2, r0, 0, any, keep
-  br L110
-L133:
+  br L107
+L127:
   ld r0, r2, -4, any, keep
-  shl r0, r0, r10
-  shr r0, r0, r10
-  shl r1, r13, r10
+  shl r0, r0, r9
+  shr r0, r0, r9
+  shl r1, r13, r9
   or r0, r0, r1
   st r2, r0, -4, any, keep
-L134:
-L110:
+L128:
+L107:
   mul r0, r4, r6
   add r4, r0, r3
-  ld r12, r15, 0, any, keep
-  st r12, r4, 0, any, keep
+  st r11, r4, 0, any, keep
   addi r5, r5, 1
-  br L105
-L111:
+  br L102
+L108:
   eq r0, r5, r7
   ld r12, r15, 8, any, keep
-  bnz r12, L135
+  bnz r12, L129
   ldi r0, 1
-L135:
-  bnz r0, L113
-L112:
-  add r2, r11, r5
-  isptr r0, r11
-  bz r0, L136
+L129:
+  bnz r0, L110
+L109:
+  add r2, r10, r5
+  isptr r0, r10
+  bz r0, L130
   ldi r0, 54
-  shr r0, r11, r0
-  xor r1, r2, r11
+  shr r0, r10, r0
+  xor r1, r2, r10
   shr r1, r1, r0
-  bnz r1, L136
-  lea r2, r11, r5
-L136:
+  bnz r1, L130
+  lea r2, r10, r5
+L130:
   ld r12, r15, 8, any, keep
   st r12, r2, 0, any, keep
-L113:
+L110:
   ld r7, r15, 16, any, keep
   ld r8, r15, 24, any, keep
   ld r9, r15, 32, any, keep
@@ -1606,13 +1583,13 @@ div_:
   ;@ line examples/c/calculator.c:70
   ;@ var a 5 r0
   ;@ var b 5 r3
-  bnz r3, L138
-L140:
+  bnz r3, L132
+L134:
   ;@ var a 5 -
   ;@ var b 5 -
   ldi r0, 0
-  br L139
-L138:
+  br L133
+L132:
   ;@ var a 5 r0
   ;@ var b 5 r3
   sar r2, r0, r1
@@ -1627,7 +1604,7 @@ L138:
   xor r1, r2, r1
   xor r0, r0, r1
   sub r0, r0, r1
-L139:
+L133:
   jmp r14
 mul:
   ;@ function mul at examples/c/calculator.c:69

@@ -141,8 +141,8 @@ class Checked(Translator):
             result, turned = self.op("remu", size, by), below
         else:
             result, turned = self.op("divu", size, by), self.op("xor", below, by_below)
-        self.keep_second(made.name, self.cut_to(self.chosen_of(turned, self.op("sub", self.constant(0), result), result),
-                                                bits))
+        found = self.chosen_of(turned, self.op("sub", self.constant(0), result), result)
+        self.keep_second(made.name, self.cut_to(found, bits))
 
     after_srem = after_sdiv
 
@@ -315,7 +315,8 @@ class Checked(Translator):
         bits = bits_of(made.type)
         sides = (self.with_sign(first, bits), self.with_sign(other, bits)) if op == "lts" else (first, other)
         less = self.op(op, *sides)
-        self.keep_second(made.name, self.chosen_of(less, other, first) if greater else self.chosen_of(less, first, other))
+        yes, no = (other, first) if greater else (first, other)
+        self.keep_second(made.name, self.chosen_of(less, yes, no))
 
     def before_ret(self, made: Instruction) -> None:
         if made.operands:

@@ -2,8 +2,6 @@
 
 from __future__ import annotations
 
-import re
-
 from mm.cc.forms import SIGNED, ZEROED, bits_of
 from mm.cc.intrinsics import Intrinsics
 from mm.cc.ir import Instruction, IntType, Local, Number
@@ -99,7 +97,8 @@ class Counting(Intrinsics):
         total = self.op(op, a, b)
         beyond = None
         if op == "mul" and bits > 32:
-            beyond = self.runtime("__mm_signed_product_overflows" if is_signed else "__mm_product_overflows", [a, b], True)
+            name = "__mm_signed_product_overflows" if is_signed else "__mm_product_overflows"
+            beyond = self.runtime(name, [a, b], True)
         if bits < 64:
             other = self.differs(self.converted(total, bits, form), total)
             return total, other if beyond is None else self.op("or", other, beyond)

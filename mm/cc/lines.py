@@ -56,7 +56,8 @@ class Lines:
             said = self.debug.get(scope, "")
             file, outer = FILE.search(said), SCOPE.search(said)
             name = FILE_NAME.search(self.debug.get(file[1], "")) if file else None
-            self.files[scope] = self.shown(name[1], name[2] or "") if name else self.file_of(outer[1]) if outer else None
+            further = self.file_of(outer[1]) if outer and not name else None
+            self.files[scope] = self.shown(name[1], name[2] or "") if name else further
         return self.files[scope]
 
     def shown(self, name: str, folder: str) -> str:

@@ -3,18 +3,18 @@
 from __future__ import annotations
 
 import re
-from dataclasses import dataclass
 from typing import Iterator, Optional
 
 from mm.cc.calls import strip_casts
 from mm.cc.checked import Checked
-from mm.cc.code import Code, Variable, log_of, place_in
+from mm.cc.code import Code, log_of, place_in
 from mm.cc.control import Translator
 from mm.cc.ctypes import Types
-from mm.cc.data import Constants, Place, Words
-from mm.cc.ir import ArrayType, BlockAddress, Function, Global, GlobalObject, IntType, Module, Number, Parts, Value
-from mm.cc.lines import FunctionNotes, Lines
-from mm.cc.lowering import Names
+from mm.cc.data import Place, Words
+from mm.cc.failures import INSTEAD, INSTEAD_OF, Failure, Failures
+from mm.cc.ir import ArrayType, BlockAddress, Function, Global, GlobalObject, IntType, Module, Number, Parts
+from mm.cc.lines import FunctionNotes
+from mm.cc.modulenames import ASSEMBLER, DOOR, EMPTY, SHARED, ModuleNames, Segment
 from mm.cc.options import Options
 from mm.cc.pointers import Known
 from mm.cc.sequences import emit
@@ -22,148 +22,12 @@ from mm.cc.text import Line, TextBlock
 from mm.cc.untranslated import Untranslated
 
 MOST_NAME = 31
-# What the header mm.h makes of the names of doors, and of words that several programs share.
-DOOR, SHARED, EMPTY = "mm_door_", "mm_shared_", "mm_empty_"
 HEAP = "__mm_heap"
 MOST_LOG = 20
 RESERVED = re.compile(r"r\d+|L\d+|P_.*|none|int|ptr|start|stack|text|heap")
 # A door's segment: where it is entered, and its length.
 DOOR_ENTRY, DOOR_LOG = 16, 9
 MAINS = ("main", "__main_argc_argv", "__main_void", "__original_main")
-# Functions that are written in the machine's own operations.
-ASSEMBLER = {
-    "setjmp": ["st r0, r7, 0, any, keep", "st r0, r8, 8, any, keep", "st r0, r9, 16, any, keep",
-               "st r0, r10, 24, any, keep", "st r0, r11, 32, any, keep", "st r0, r14, 40, any, keep",
-               "st r0, r15, 48, any, keep", "ldi r0, 0", "jmp r14"],
-    "longjmp": ["ld r7, r0, 0, any, keep", "ld r8, r0, 8, any, keep", "ld r9, r0, 16, any, keep",
-                "ld r10, r0, 24, any, keep", "ld r11, r0, 32, any, keep", "ld r14, r0, 40, any, keep",
-                "ld r15, r0, 48, any, keep", "mov r0, r1", "bnz r0, 2", "ldi r0, 1", "jmp r14"],
-}
-# What can be done in the place of what is not there: of functions of C's library, and of what is left out.
-NO_INPUT = "the machine has no input: put what the program reads into an array or a string"
-NO_FILES = "the machine has no files: print with `printf`, which puts out, and keep data in arrays"
-NO_CLOCK = "the machine has no clock: its time is its cycles, which the report shows"
-NO_FLOATS = "count in integers: in hundredths, or as a numerator and a denominator"
-INSTEAD = {
-    **dict.fromkeys(("getchar", "getc", "fgetc", "gets", "fgets", "scanf", "fscanf", "vscanf", "getline", "read", "ungetc",
-                     "fread"), NO_INPUT),
-    **dict.fromkeys(("fopen", "fclose", "freopen", "fseek", "ftell", "rewind", "remove", "rename", "tmpfile", "tmpnam",
-                     "feof", "ferror", "setbuf", "setvbuf", "open", "close", "write", "lseek"), NO_FILES),
-    **dict.fromkeys(("time", "clock", "difftime", "mktime", "localtime", "gmtime", "strftime", "sleep", "usleep",
-                     "gettimeofday", "clock_gettime"), NO_CLOCK),
-    **dict.fromkeys(("atof", "strtod", "strtof", "sqrt", "pow", "sin", "cos", "tan", "exp", "log", "floor", "ceil", "fabs",
-                     "fmod"), NO_FLOATS),
-    **dict.fromkeys(("sscanf", "vsscanf"), "take the text apart with `strtol`, whose second argument tells where it ended"),
-    **dict.fromkeys(("pthread_create", "thrd_create", "fork"),
-                    "another program is another thread: give it a file of its own, and name both to `mm run`"),
-    **dict.fromkeys(("system", "execve", "signal", "raise"), "the machine runs nothing but the programs of its image"),
-}
-INSTEAD_OF = {"floating point": NO_FLOATS,
-              "assembler text": "`mm.h` names the machine's own operations, as `__mm_op_out`"}
-# An event of a slot that this one handles goes to four words.
-ASSEMBLER["__mm_event"] = ["mov r12, r0", "evt r0", "st r12, r0, 0, any, keep", "st r12, r1, 8, any, keep",
-                           "st r12, r2, 16, any, keep", "st r12, r3, 24, any, keep", "jmp r14"]
-ASSEMBLER["_setjmp"] = ASSEMBLER["setjmp"]
-ASSEMBLER["_longjmp"] = ASSEMBLER["longjmp"]
-
-
-@dataclass
-class Failure(Exception):
-    """What could not be translated, and where: a file or a function, its place in C if that is known, and what can be
-    done instead."""
-
-    where: str
-    why: str
-    place: Optional[str] = None
-    instead: str = ""
-
-    def __str__(self) -> str:
-        name = self.where.rpartition(": ")[2]
-        inside = f" in `{name}`" if ": " in self.where else ""
-        said = f"{self.place}: error: {self.why} is left out{inside}" if self.place else f"mm: {self.where}: {self.why} is left out"
-        return f"{said}\n    {self.instead}" if self.instead else said
-
-
-class Failures(Failure):
-    """Several of them: all that nothing defines."""
-
-    def __init__(self, failures: list[Failure]) -> None:
-        super().__init__(failures[0].where, failures[0].why, failures[0].place, failures[0].instead)
-        self.failures = failures
-
-    def __str__(self) -> str:
-        return "\n".join(map(str, self.failures))
-
-
-@dataclass
-class Segment:
-    """A global: its segment's name and length, its place there, and whether it may be written."""
-
-    name: str
-    module: Module
-    made: GlobalObject
-    size: int
-    known: Known
-    writable: bool
-    words: Optional[Words] = None
-
-
-class ModuleNames(Names):
-    """The names of a program as one of its modules knows them."""
-
-    def __init__(self, program: Program, module: Module) -> None:
-        self.program, self.module = program, module
-        self.layouts = module.layouts()
-        self.constants = Constants(self.layouts, self.resolve)
-        self.lines = Lines(module)
-        self.declared: dict[str, Variable] = {}
-
-    def fresh(self) -> str:
-        return self.program.fresh()
-
-    def label(self, name: str) -> str:
-        return self.program.want_function(self.module, name)
-
-    def is_function(self, name: str) -> bool:
-        module = self.program.home(self.module, name)
-        if module is None and name.startswith(DOOR):
-            return False
-        if module is not None:
-            return name in module.functions
-        return name in ASSEMBLER or name in self.module.functions
-
-    def function(self, name: str) -> Optional[Function]:
-        module = self.program.home(self.module, name) or self.module
-        return module.functions.get(name)
-
-    def segment(self, name: str) -> tuple[str, Known]:
-        found = self.program.want_global(self.module, name)
-        return found.name, found.known
-
-    def known_segment(self, name: str) -> Optional[str]:
-        """The segment of a global that is part of the program already."""
-        found = self.program.segments.get((id(self.program.home(self.module, name)), name))
-        return found.name if found else None
-
-    def resolve(self, value: Value) -> Value:
-        while isinstance(value, Global):
-            module = self.program.home(self.module, value.name) or self.module
-            if value.name not in module.aliases:
-                break
-            value = module.aliases[value.name]
-        return value
-
-    def declare(self, name: str, variable: Variable) -> None:
-        self.declared.setdefault(name, variable)
-
-    def told(self, made: GlobalObject) -> tuple[str, int]:
-        """The name of a global in C, and the number of its type."""
-        debug, types = self.module.debug, self.program.types
-        if made.name in self.declared:
-            node = self.declared[made.name].node
-            return self.lines.name_of(node), types.of_variable(node, debug)
-        name, type_ = types.of_global(made.debug, debug)
-        return name or made.name.rpartition(".")[2], type_
 
 
 class Program:
@@ -372,7 +236,8 @@ class Program:
         for at the end, since it finds more names."""
         for module in self.modules[:-1]:
             for name, function in list(module.functions.items()):
-                if not function.defined or (id(module), name) in self.labels or "available_externally" in function.words:
+                known = (id(module), name) in self.labels or "available_externally" in function.words
+                if known or not function.defined:
                     continue
                 try:
                     self._translated(module, name)

@@ -106,7 +106,7 @@ class SourceWriter:
         total = sum(1 << log for log in logs)
         if total > MOST_BYTES:
             raise Failure("the program", f"{total:,} bytes of segments, more than {MOST_BYTES:,},", None,
-                          "the options `--stack` and `--heap` set the two that are the program's own, `-Os` makes less code")
+                          "`--stack` and `--heap` set the two that are the program's own, `-Os` makes less code")
 
     def start(self, main: Optional[str], calls: list[tuple[Optional[str], Optional[str]]],
               leave: Optional[str]) -> list[str]:

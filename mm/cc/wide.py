@@ -97,8 +97,8 @@ class Wide(Counting):
         self.give_pair(made.name, made.type, self.load_word(result), self.load_word(self.further(result, 8)))
 
     def wide_overflow(self, made: Instruction, op: str, is_signed: bool) -> int:
-        """A sum, a difference or a product of 65 to 128 bits, and 1 where it leaves its range: its bits above do not say
-        the same as its sign, or it does not even fit 128 bits."""
+        """A sum, a difference or a product of 65 to 128 bits, and 1 where it leaves its range: its bits above do not
+        say the same as its sign, or it does not even fit 128 bits."""
         type_ = self.value_of(made, 0).type
         bits = bits_of(type_)
         if not is_wide(type_):

@@ -229,8 +229,8 @@ def _object(made: re.Match[str]) -> CObject:
 
 
 def place_in(made: CObject, offset: int, types: Optional[CTypes]) -> str:
-    """The place of a byte in an object, or beside it: `name[8] of 8 bytes` for bytes, `table[4] of int[4], 16 bytes` for
-    other elements, and `byte 20 of record, 16 bytes`."""
+    """The place of a byte in an object, or beside it: `name[8] of 8 bytes` for bytes, `table[4] of int[4], 16 bytes`
+    for other elements, and `byte 20 of record, 16 bytes`."""
     found = types.get(made.type) if types else None
     if found is None or found.kind == "array" and types and types.size(found.inner) == 1:
         return f"{made.name}[{offset}] of {made.size} bytes"

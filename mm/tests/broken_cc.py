@@ -1,5 +1,5 @@
-"""Broken lines of `mm/cc`, each of which the tests must notice: a path, the text of a line, and what is put into its place;
-and the test that notices it."""
+"""Broken lines of `mm/cc`, each of which the tests must notice: a path, the text of a line, what is put into its place,
+and the module of tests that notices it."""
 
 VALUES, CLANG, CC = "mm.tests.test_cc_values", "mm.tests.test_cc_clang", "mm.tests.test_cc"
 BROKEN = (

@@ -72,8 +72,9 @@ class CView:
             return None
         inner = next(self.frames(), None)
         name = inner.name if inner else "a function"
-        return (f"the stack is full: {name} has no room for its variables in the {pointer.address - pointer.base} bytes "
-                f"that are left of {1 << pointer.log}; `--stack {pointer.log + 1}` makes it larger")
+        left = pointer.address - pointer.base
+        return (f"the stack is full: {name} has no room for its variables in the {left} bytes that are left of "
+                f"{1 << pointer.log}; `--stack {pointer.log + 1}` makes it larger")
 
     def gave_up(self) -> Optional[str]:
         """What a trap of the translator or of the library says."""
@@ -92,8 +93,8 @@ class CView:
         before = self.symbols.region(spelled.address - 1)
         told = self.symbols.c_global(before) if before is not None and before.log == spelled.log else None
         whose = f" {told.name}" if told and before and before.end == spelled.base else ""
-        return (f"these are the bits of a pointer, which is now a number: it left its object{whose} (one past the end is "
-                "outside), was computed with, or was copied in pieces")
+        return (f"these are the bits of a pointer, which is now a number: it left its object{whose} (one past the end "
+                "is outside), was computed with, or was copied in pieces")
 
     def meant(self) -> Optional[str]:
         """The byte that was meant, of the object that the pointer is to."""
