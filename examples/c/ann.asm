@@ -142,6 +142,7 @@ L7:
   ld r15, r15, 48, any, keep
   jmp r14
 ann_putchar:
+  ;@ frame back - caller by 0
   out r0
   ldi r13, 255
   and r0, r0, r13

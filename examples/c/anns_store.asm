@@ -105,6 +105,7 @@ L6:
   leai r15, r15, 56
   jmp r14
 anns_store_mm_key:
+  ;@ frame back - caller by 0
   ldi r13, 7
   restrict r0, r0, r13
   jmp r14

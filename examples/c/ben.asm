@@ -273,11 +273,13 @@ L20:
   ;@ var by 2 -
   br L9
 ben_fputc:
+  ;@ frame back - caller by 0
   out r0
   ldi r13, 255
   and r0, r0, r13
   jmp r14
 ben_putchar:
+  ;@ frame back - caller by 0
   out r0
   ldi r13, 255
   and r0, r0, r13

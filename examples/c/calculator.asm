@@ -445,6 +445,7 @@ L15:
   ld r15, r15, 72, any, keep
   jmp r14
 fwrite:
+  ;@ frame back - caller by 24
   leai r15, r15, -24
   st r15, r7, 0, any, keep
   st r15, r8, 8, any, keep
@@ -484,6 +485,7 @@ L22:
   bnz r0, L21
   br L22
 putchar:
+  ;@ frame back - caller by 0
   out r0
   ldi r13, 255
   and r0, r0, r13
@@ -1237,235 +1239,341 @@ L72:
   leai r15, r15, 48
   jmp r14
 strtol:
-  leai r15, r15, -8
-  st r15, r14, 0, any, keep
+  ;@ frame back 16 caller at 24
+  ldi r13, 15
+  and r13, r15, r13
+  ldi r12, -48
+  sub r13, r12, r13
+  lea r12, r15, r13
+  st r12, r15, 24, any, keep
+  mov r15, r12
+  st r15, r7, 8, any, keep
+  st r15, r14, 16, any, keep
+  leai r12, r15, 32
+  ldi r14, 4
+  subseg r12, r12, r14
+  st r15, r12, 0, any, keep
+  ldi r7, 32
+  mov r3, r2
+  mov r2, r1
+  mov r1, r0
+  ld r0, r15, 0, any, keep
   lip r14, 2
-  br strtoul
-  ld r14, r15, 0, any, keep
-  leai r15, r15, 8
+  br number_in
+  ld r0, r15, 40, any, keep
+  sar r0, r0, r7
+  bz r0, L83
+L82:
+  ld r0, r15, 40, any, keep
+  shl r0, r0, r7
+  sar r2, r0, r7
+  br L84
+L83:
+  ld r1, r15, 32, any, keep
+  ld r0, r15, 40, any, keep
+  shl r0, r0, r7
+  sar r2, r0, r7
+  ldi r13, 2147483647
+  ldhi r13, 4294967295
+  add r0, r2, r13
+  ltu r0, r0, r1
+  bz r0, L85
+L84:
+  lip r12, P_12
+  ld r12, r12, 0, any, keep
+  ld r0, r12, -4, any, keep
+  shl r0, r0, r7
+  shr r1, r0, r7
+  ldi r12, 34
+  shl r0, r12, r7
+  or r0, r1, r0
+  lip r12, P_12
+  ld r12, r12, 0, any, keep
+  st r12, r0, -4, any, keep
+  ldi r0, -2147483648
+  ldhi r0, 0
+  bnz r2, L86
+  ldi r0, 2147483647
+  ldhi r0, 4294967295
+L88:
+  br L86
+L85:
+  ldi r12, 0
+  sub r0, r12, r1
+  bnz r2, L86
+  mov r0, r1
+L89:
+L86:
+  ld r7, r15, 8, any, keep
+  ld r14, r15, 16, any, keep
+  ld r15, r15, 24, any, keep
   jmp r14
-strtoul:
-  leai r15, r15, -56
+number_in:
+  ;@ frame back 56 caller by 64
+  leai r15, r15, -64
   st r15, r7, 16, any, keep
   st r15, r8, 24, any, keep
   st r15, r9, 32, any, keep
   st r15, r10, 40, any, keep
   st r15, r11, 48, any, keep
-  st r15, r1, 8, any, keep
-  mov r10, r0
-  mov r8, r2
-  ldi r11, 3
-  ldi r9, 0
-  ldi r6, 56
-  ldi r5, -5
-  mov r4, r9
-L83:
+  st r15, r14, 56, any, keep
+  st r15, r2, 8, any, keep
+  st r15, r3, 0, any, keep
+  mov r11, r0
+  mov r10, r1
+  ldi r8, 0
+  lip r2, P_12
+  ld r2, r2, 0, any, keep
+  ldi r9, 32
+  ldi r5, 56
+  ldi r6, -5
+  st r11, r8, 0, any, keep
+  st r11, r8, 8, any, keep
+  ld r12, r15, 8, any, keep
+  bz r12, L92
+L91:
+  ld r12, r15, 8, any, keep
+  st r12, r10, 0, any, keep
+L92:
+  ld r12, r15, 0, any, keep
+  ldi r13, 1
+  eq r1, r12, r13
+  ldi r12, 36
+  ld r13, r15, 0, any, keep
+  ltu r0, r12, r13
+  or r0, r0, r1
+  bnz r0, L93
+L111:
+  mov r4, r8
+  br L94
+L93:
+  ld r0, r2, -4, any, keep
+  shl r0, r0, r9
+  shr r1, r0, r9
+  ldi r12, 22
+  shl r0, r12, r9
+  or r0, r1, r0
+  st r2, r0, -4, any, keep
+  br L110
+L94:
   lea r1, r10, r4
   ldi r13, 7
   and r0, r1, r13
-  sub r0, r9, r0
+  sub r0, r8, r0
   lea r0, r1, r0
-  shl r1, r1, r11
+  ldi r13, 3
+  shl r1, r1, r13
   ld r0, r0, 0, any, keep
   shr r0, r0, r1
-  shl r0, r0, r6
-  sar r3, r0, r6
+  shl r0, r0, r5
+  sar r3, r0, r5
   ldi r13, 255
   and r2, r3, r13
-  ldi r13, 32
-  eq r0, r2, r13
-  eq r1, r0, r9
+  eq r0, r2, r9
+  eq r1, r0, r8
   addi r0, r2, -14
-  ltu r0, r0, r5
+  ltu r0, r0, r6
   and r0, r1, r0
   addi r7, r4, 1
-  bnz r0, L84
-L100:
+  bnz r0, L95
+L112:
   mov r4, r7
-  br L83
-L84:
+  br L94
+L95:
   ldi r13, 43
   eq r0, r3, r13
-  bnz r0, L85
+  bnz r0, L96
   ldi r13, 45
   eq r0, r3, r13
-  bnz r0, L85
-L101:
-  st r15, r9, 0, any, keep
+  bnz r0, L96
+L113:
   mov r7, r4
-  br L86
-L85:
+  br L97
+L96:
   ldi r13, 45
-  eq r12, r2, r13
-  st r15, r12, 0, any, keep
-L86:
-  eq r4, r8, r9
-  ldi r13, -17
-  and r0, r8, r13
-  bnz r0, L90
-L87:
+  eq r0, r2, r13
+  ld r1, r11, 8, any, keep
+  xor r0, r1, r0
+  ldi r13, 0
+  ldhi r13, 4294967295
+  and r0, r0, r13
+  xor r0, r1, r0
+  st r11, r0, 8, any, keep
   lea r1, r10, r7
   ldi r13, 7
   and r0, r1, r13
-  sub r0, r9, r0
+  sub r0, r8, r0
   lea r0, r1, r0
-  shl r1, r1, r11
+  ldi r13, 3
+  shl r1, r1, r13
   ld r0, r0, 0, any, keep
   shr r0, r0, r1
-  ldi r13, 255
-  and r0, r0, r13
+  shl r0, r0, r5
+  sar r3, r0, r5
+L97:
   ldi r13, 48
-  eq r0, r0, r13
-  bz r0, L90
-L88:
+  eq r0, r3, r13
+  bnz r0, L98
+L114:
+  ldi r0, 10
+  br L100
+L98:
   addi r0, r7, 1
   lea r1, r10, r0
   ldi r13, 7
   and r0, r1, r13
-  sub r0, r9, r0
+  sub r0, r8, r0
   lea r0, r1, r0
-  shl r1, r1, r11
+  ldi r13, 3
+  shl r1, r1, r13
   ld r0, r0, 0, any, keep
   shr r0, r0, r1
-  shl r0, r0, r6
-  sar r0, r0, r6
+  shl r0, r0, r5
+  sar r0, r0, r5
   ldi r13, -33
   and r0, r0, r13
   ldi r13, 88
   eq r0, r0, r13
-  bz r0, L90
-L89:
+  bnz r0, L99
+L115:
+  ldi r0, 8
+  br L100
+L99:
   addi r3, r7, 2
   lea r1, r10, r3
   ldi r13, 7
   and r0, r1, r13
-  sub r0, r9, r0
+  sub r0, r8, r0
   lea r0, r1, r0
-  shl r1, r1, r11
+  ldi r13, 3
+  shl r1, r1, r13
   ld r0, r0, 0, any, keep
   shr r0, r0, r1
-  shl r0, r0, r6
-  sar r1, r0, r6
+  ldi r13, 255
+  and r1, r0, r13
   addi r0, r1, -48
   ldi r13, 10
   ltu r2, r0, r13
-  ldi r13, -33
+  ldi r13, 223
   and r0, r1, r13
   addi r0, r0, -65
   ldi r13, 6
   ltu r0, r0, r13
   or r1, r2, r0
-  ldi r13, 1
-  xor r0, r4, r13
-  or r0, r1, r0
-  bnz r1, L107
-  mov r3, r7
-L107:
-  ldi r2, 16
-  bnz r1, L108
-  mov r2, r8
-L108:
-  bnz r0, L102
-L103:
-  ldi r8, 8
-  br L93
-L102:
+  ld r12, r15, 0, any, keep
+  ldi r13, -17
+  and r0, r12, r13
+  eq r0, r0, r8
+  and r0, r0, r1
+  bnz r0, L116
+L117:
+  ldi r0, 8
+  br L100
+L116:
   mov r7, r3
-  mov r8, r2
-  br L93
-L90:
-  bnz r8, L93
-L91:
-  lea r1, r10, r7
+  ldi r6, 16
+  br L101
+L100:
+  ld r12, r15, 0, any, keep
+  ld r6, r15, 0, any, keep
+  bnz r12, L101
+  mov r6, r0
+L125:
+L101:
+  mov r4, r8
+  mov r5, r7
+L102:
+  lea r1, r10, r5
   ldi r13, 7
   and r0, r1, r13
-  sub r0, r9, r0
+  sub r0, r8, r0
   lea r0, r1, r0
-  shl r1, r1, r11
+  ldi r13, 3
+  shl r1, r1, r13
   ld r0, r0, 0, any, keep
   shr r0, r0, r1
   ldi r13, 255
-  and r0, r0, r13
-  ldi r13, 48
-  eq r0, r0, r13
-  ldi r8, 8
-  bnz r0, L93
-  ldi r8, 10
-L109:
-L93:
-  mov r5, r9
-  mov r4, r7
-L94:
-  lea r1, r10, r4
-  ldi r13, 7
-  and r0, r1, r13
-  sub r0, r9, r0
-  lea r0, r1, r0
-  shl r1, r1, r11
-  ld r0, r0, 0, any, keep
-  shr r0, r0, r1
-  ldi r13, 255
-  and r2, r0, r13
-  addi r1, r2, -48
+  and r1, r0, r13
+  addi r3, r1, -48
   ldi r12, 9
-  ltu r0, r12, r1
-  bz r0, L96
-L95:
+  ltu r0, r12, r3
+  bz r0, L104
+L103:
   ldi r13, 223
-  and r0, r2, r13
-  addi r1, r0, -91
-  ldi r13, 32
-  or r0, r2, r13
-  addi r2, r0, -87
+  and r0, r1, r13
+  addi r2, r0, -91
+  or r0, r1, r9
+  addi r1, r0, -87
   ldi r13, -26
-  ltu r0, r1, r13
-  ldi r1, 99
-  bnz r0, L96
-  mov r1, r2
-L110:
-L96:
-  mul r0, r5, r8
-  add r3, r0, r1
-  addi r2, r4, 1
-  lts r0, r1, r8
-  bz r0, L97
+  ltu r0, r2, r13
+  ldi r3, 99
+  bnz r0, L104
+  mov r3, r1
+L126:
+L104:
+  lts r0, r3, r6
+  bz r0, L108
+L105:
+  ldi r13, -1
+  xor r0, r3, r13
+  divu r0, r0, r6
+  ltu r0, r0, r4
+  bz r0, L107
 L106:
-  mov r5, r3
-  mov r4, r2
-  br L94
-L97:
+  leai r2, r11, 12
+  ldi r13, 1
+  ldi r14, 4
+  and r0, r2, r14
+  bnz r0, L127
+  ld r0, r2, 0, any, keep
+  xor r1, r0, r13
+  shl r1, r1, r9
+  shr r1, r1, r9
+  xor r0, r0, r1
+  st r2, r0, 0, any, keep
+  br L107
+L127:
+  ld r0, r2, -4, any, keep
+  shl r0, r0, r9
+  shr r0, r0, r9
+  shl r1, r13, r9
+  or r0, r0, r1
+  st r2, r0, -4, any, keep
+L128:
+L107:
+  mul r0, r4, r6
+  add r4, r0, r3
+  st r11, r4, 0, any, keep
+  addi r5, r5, 1
+  br L102
+L108:
+  eq r0, r5, r7
   ld r12, r15, 8, any, keep
-  bz r12, L99
-L98:
-  eq r0, r4, r7
-  mov r3, r9
-  bnz r0, L111
-  mov r3, r4
-L111:
-  add r2, r10, r3
+  bnz r12, L129
+  ldi r0, 1
+L129:
+  bnz r0, L110
+L109:
+  add r2, r10, r5
   isptr r0, r10
-  bz r0, L112
+  bz r0, L130
   ldi r0, 54
   shr r0, r10, r0
   xor r1, r2, r10
   shr r1, r1, r0
-  bnz r1, L112
-  lea r2, r10, r3
-L112:
+  bnz r1, L130
+  lea r2, r10, r5
+L130:
   ld r12, r15, 8, any, keep
   st r12, r2, 0, any, keep
-L99:
-  sub r0, r9, r5
-  ld r12, r15, 0, any, keep
-  bnz r12, L113
-  mov r0, r5
-L113:
+L110:
   ld r7, r15, 16, any, keep
   ld r8, r15, 24, any, keep
   ld r9, r15, 32, any, keep
   ld r10, r15, 40, any, keep
   ld r11, r15, 48, any, keep
-  leai r15, r15, 56
+  ld r14, r15, 56, any, keep
+  leai r15, r15, 64
   jmp r14
 div_:
   ;@ function div_ at examples/c/calculator.c:70
@@ -1475,13 +1583,13 @@ div_:
   ;@ line examples/c/calculator.c:70
   ;@ var a 5 r0
   ;@ var b 5 r3
-  bnz r3, L115
-L117:
+  bnz r3, L132
+L134:
   ;@ var a 5 -
   ;@ var b 5 -
   ldi r0, 0
-  br L116
-L115:
+  br L133
+L132:
   ;@ var a 5 r0
   ;@ var b 5 r3
   sar r2, r0, r1
@@ -1496,7 +1604,7 @@ L115:
   xor r1, r2, r1
   xor r0, r0, r1
   sub r0, r0, r1
-L116:
+L133:
   jmp r14
 mul:
   ;@ function mul at examples/c/calculator.c:69
@@ -1540,6 +1648,7 @@ P_8: .ptr rw variables+48
 P_9: .ptr ro operations+0
 P_10: .ptr rw stdout+0
 P_11: .ptr ro _str_3+4
+P_12: .ptr rw errno+4
 .segment _str 4
   .int 0x202a2036203a7800
   .int 0x2934202b203328
@@ -1574,6 +1683,8 @@ P_11: .ptr ro _str_3+4
   .ptr rw files+8
 .segment _str_3 3
   .int 0x203d2000000000
+.segment errno 3
+  ;@ global errno 4 at 4
 .segment files 4
   ;@ global files 12 at 4
   .fill 1

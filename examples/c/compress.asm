@@ -681,6 +681,7 @@ L61:
   ld r15, r15, 88, any, keep
   jmp r14
 fputs:
+  ;@ frame back - caller by 16
   leai r15, r15, -16
   st r15, r7, 0, any, keep
   st r15, r8, 8, any, keep
@@ -725,6 +726,7 @@ L64:
   bz r0, L63
   br L64
 memcmp:
+  ;@ frame back - caller by 32
   leai r15, r15, -32
   st r15, r7, 0, any, keep
   st r15, r8, 8, any, keep
@@ -784,6 +786,7 @@ L71:
   leai r15, r15, 32
   jmp r14
 fwrite:
+  ;@ frame back - caller by 24
   leai r15, r15, -24
   st r15, r7, 0, any, keep
   st r15, r8, 8, any, keep
@@ -823,6 +826,7 @@ L79:
   bnz r0, L78
   br L79
 putchar:
+  ;@ frame back - caller by 0
   out r0
   ldi r13, 255
   and r0, r0, r13

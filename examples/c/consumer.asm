@@ -72,11 +72,13 @@ L3:
   leai r15, r15, 48
   jmp r14
 consumer_putchar:
+  ;@ frame back - caller by 0
   out r0
   ldi r13, 255
   and r0, r0, r13
   jmp r14
 consumer_mm_take:
+  ;@ frame back - caller by 0
   ld r0, r0, 0, full, empty
   jmp r14
 P_0: .ptr rw ring+0

@@ -153,11 +153,13 @@ L9:
   bnz r0, L2
   br L3
 guest_fputc:
+  ;@ frame back - caller by 0
   out r0
   ldi r13, 255
   and r0, r0, r13
   jmp r14
 guest_putchar:
+  ;@ frame back - caller by 0
   out r0
   ldi r13, 255
   and r0, r0, r13

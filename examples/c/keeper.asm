@@ -333,6 +333,7 @@ L16:
   ld r15, r15, 72, any, keep
   jmp r14
 keeper_mm_set_register:
+  ;@ frame back - caller by 0
   mov r3, r1
   ldi r13, 16
   ltu r1, r3, r13
@@ -409,6 +410,7 @@ L38:
 L39:
   jmp r14
 keeper_mm_resume:
+  ;@ frame back - caller by 0
   mov r2, r0
   bz r1, L42
   ldi r13, 1
@@ -426,11 +428,13 @@ L44:
 L45:
   jmp r14
 keeper_putchar:
+  ;@ frame back - caller by 0
   out r0
   ldi r13, 255
   and r0, r0, r13
   jmp r14
 keeper_fwrite:
+  ;@ frame back - caller by 24
   leai r15, r15, -24
   st r15, r7, 0, any, keep
   st r15, r8, 8, any, keep
@@ -478,6 +482,7 @@ keeper___mm_event:
   st r12, r3, 24, any, keep
   jmp r14
 keeper_mm_event:
+  ;@ frame back 0 caller by 8
   leai r15, r15, -8
   st r15, r14, 0, any, keep
   lip r14, 2

@@ -159,6 +159,7 @@ L11:
   leai r15, r15, 48
   jmp r14
 fputs:
+  ;@ frame back - caller by 16
   leai r15, r15, -16
   st r15, r7, 0, any, keep
   st r15, r8, 8, any, keep

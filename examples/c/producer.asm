@@ -74,6 +74,7 @@ L3:
   leai r15, r15, 48
   jmp r14
 producer_mm_put:
+  ;@ frame back - caller by 0
   st r0, r1, 0, empty, full
   jmp r14
 P_0: .ptr rw ring+0

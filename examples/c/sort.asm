@@ -570,6 +570,7 @@ L51:
   bnz r0, L19
   br L20
 fputs:
+  ;@ frame back - caller by 16
   leai r15, r15, -16
   st r15, r7, 0, any, keep
   st r15, r8, 8, any, keep
@@ -631,6 +632,7 @@ compare_names:
   leai r15, r15, 8
   jmp r14
 strcmp:
+  ;@ frame back - caller by 40
   leai r15, r15, -40
   st r15, r7, 0, any, keep
   st r15, r8, 8, any, keep
@@ -691,6 +693,7 @@ L62:
   leai r15, r15, 40
   jmp r14
 fwrite:
+  ;@ frame back - caller by 24
   leai r15, r15, -24
   st r15, r7, 0, any, keep
   st r15, r8, 8, any, keep
@@ -730,6 +733,7 @@ L69:
   bnz r0, L68
   br L69
 memcmp:
+  ;@ frame back - caller by 32
   leai r15, r15, -32
   st r15, r7, 0, any, keep
   st r15, r8, 8, any, keep
@@ -789,11 +793,13 @@ L76:
   leai r15, r15, 32
   jmp r14
 putchar:
+  ;@ frame back - caller by 0
   out r0
   ldi r13, 255
   and r0, r0, r13
   jmp r14
 qsort:
+  ;@ frame back 120 caller by 128
   leai r15, r15, -128
   st r15, r7, 80, any, keep
   st r15, r8, 88, any, keep
@@ -2263,6 +2269,7 @@ L184:
   leai r15, r15, 88
   jmp r14
 memcpy:
+  ;@ frame back - caller by 64
   leai r15, r15, -64
   st r15, r7, 24, any, keep
   st r15, r8, 32, any, keep

@@ -570,6 +570,7 @@ L36:
   ld r15, r15, 56, any, keep
   jmp r14
 tolower:
+  ;@ frame back - caller by 0
   mov r3, r0
   ldi r1, 32
   addi r0, r3, -91
@@ -584,6 +585,7 @@ tolower:
 L38:
   jmp r14
 isalpha:
+  ;@ frame back - caller by 0
   ldi r1, 32
   ldi r13, -33
   and r0, r0, r13
@@ -594,6 +596,7 @@ isalpha:
   ltu r0, r0, r13
   jmp r14
 strchr:
+  ;@ frame back - caller by 16
   leai r15, r15, -16
   st r15, r7, 0, any, keep
   st r15, r8, 8, any, keep
@@ -659,16 +662,19 @@ L49:
   leai r15, r15, 16
   jmp r14
 putchar:
+  ;@ frame back - caller by 0
   out r0
   ldi r13, 255
   and r0, r0, r13
   jmp r14
 fputc:
+  ;@ frame back - caller by 0
   out r0
   ldi r13, 255
   and r0, r0, r13
   jmp r14
 strstr:
+  ;@ frame back - caller by 48
   leai r15, r15, -48
   st r15, r7, 8, any, keep
   st r15, r8, 16, any, keep
@@ -773,6 +779,7 @@ L68:
   leai r15, r15, 48
   jmp r14
 fputs:
+  ;@ frame back - caller by 16
   leai r15, r15, -16
   st r15, r7, 0, any, keep
   st r15, r8, 8, any, keep
@@ -817,6 +824,7 @@ L71:
   bz r0, L70
   br L71
 memcpy:
+  ;@ frame back - caller by 64
   leai r15, r15, -64
   st r15, r7, 24, any, keep
   st r15, r8, 32, any, keep
@@ -1003,6 +1011,7 @@ L81:
   leai r15, r15, 64
   jmp r14
 strlen:
+  ;@ frame back - caller by 8
   leai r15, r15, -8
   st r15, r7, 0, any, keep
   mov r3, r0

@@ -142,11 +142,13 @@ L7:
   ld r15, r15, 48, any, keep
   jmp r14
 thief_fputc:
+  ;@ frame back - caller by 0
   out r0
   ldi r13, 255
   and r0, r0, r13
   jmp r14
 thief_putchar:
+  ;@ frame back - caller by 0
   out r0
   ldi r13, 255
   and r0, r0, r13

@@ -297,42 +297,141 @@ L19:
   ldi r10, 0
   br L4
 free:
-  mov r1, r0
-  ldi r3, 4194303
-  ldhi r3, 4294967295
+  ;@ frame back 32 caller by 40
+  leai r15, r15, -40
+  st r15, r7, 0, any, keep
+  st r15, r8, 8, any, keep
+  st r15, r9, 16, any, keep
+  st r15, r10, 24, any, keep
+  st r15, r14, 32, any, keep
+  mov r2, r0
+  ldi r0, 4194303
+  ldhi r0, 4294967295
+  lip r3, P_9
+  ld r3, r3, 0, any, keep
+  ldi r8, 54
+  ldi r6, 63
+  ldi r5, 1
+  bz r2, L30
+L26:
+  and r1, r2, r0
+  and r0, r3, r0
+  sub r1, r1, r0
+  ldi r13, 3
+  shr r7, r1, r13
+  shr r0, r2, r8
+  and r0, r0, r6
+  addi r0, r0, -3
+  shl r10, r5, r0
+  and r0, r7, r6
+  shl r9, r5, r0
+  ldi r13, 9
+  shr r4, r1, r13
+  shr r0, r3, r8
+  and r0, r0, r6
+  addi r0, r0, -3
+  shl r0, r5, r0
+  ldi r13, 6
+  shr r2, r0, r13
+  shr r0, r3, r8
+  and r0, r0, r6
+  addi r0, r0, -3
+  shl r0, r5, r0
+  ldi r13, 64
+  ltu r1, r0, r13
+  mov r0, r5
+  bnz r1, L32
+  mov r0, r2
+L32:
+  add r0, r4, r0
+  ldi r13, 3
+  shl r2, r0, r13
+  shr r0, r3, r8
+  and r0, r0, r6
+  addi r0, r0, -3
+  shl r0, r5, r0
+  ltu r0, r7, r0
+  bz r0, L28
+L27:
+  lea r0, r3, r2
+  ld r1, r0, 0, any, keep
+  and r0, r1, r9
+  bnz r0, L29
+L28:
+  trap 8
+  lea r0, r3, r2
+  ld r1, r0, 0, any, keep
+L29:
+  xor r1, r1, r9
+  lea r0, r3, r2
+  st r0, r1, 0, any, keep
+  ldi r12, 0
+  sub r0, r12, r10
+  and r0, r7, r0
+  mov r1, r10
+  lip r14, 2
+  br change
+L30:
+  ld r7, r15, 0, any, keep
+  ld r8, r15, 8, any, keep
+  ld r9, r15, 16, any, keep
+  ld r10, r15, 24, any, keep
+  ld r14, r15, 32, any, keep
+  leai r15, r15, 40
+  jmp r14
+change:
+  ;@ frame back - caller by 8
+  leai r15, r15, -8
+  st r15, r7, 0, any, keep
+  mov r2, r0
+  mov r5, r1
+  ldi r3, -1
   lip r4, P_9
   ld r4, r4, 0, any, keep
-  lip r5, P_10
-  ld r5, r5, 0, any, keep
-  bz r1, L27
-L26:
-  ldi r13, 54
-  shr r0, r1, r13
+  ldi r7, 3
+  shl r0, r3, r5
+  xor r1, r0, r3
+  ldi r13, 64
+  ltu r0, r5, r13
+  bnz r0, L38
+  mov r1, r3
+L38:
   ldi r13, 63
-  and r2, r0, r13
-  and r1, r1, r3
-  and r0, r4, r3
-  sub r1, r1, r0
-  ldi r12, -1
-  shl r0, r12, r2
-  and r0, r0, r1
-  leab r0, r4, r0
-  subseg r3, r0, r2
-  ldi r13, 3
-  shl r1, r2, r13
-  lea r0, r5, r1
-  ld r0, r0, 0, any, keep
-  st r3, r0, 0, any, keep
-  lea r0, r5, r1
-  st r0, r3, 0, any, keep
-L27:
+  and r0, r2, r13
+  shl r6, r1, r0
+  ldi r13, 6
+  shr r3, r2, r13
+  addi r0, r2, -1
+  add r0, r0, r5
+  ldi r13, 6
+  shr r5, r0, r13
+  ltu r0, r5, r3
+  bz r0, L35
+L34:
+  ld r7, r15, 0, any, keep
+  leai r15, r15, 8
   jmp r14
+L35:
+  shl r2, r3, r7
+  lea r0, r4, r2
+  ld r0, r0, 0, any, keep
+  xor r1, r0, r6
+  lea r0, r4, r2
+  st r0, r1, 0, any, keep
+  addi r1, r3, 1
+  eq r0, r3, r5
+  bnz r0, L34
+L37:
+  mov r3, r1
+  br L35
 putchar:
+  ;@ frame back - caller by 0
   out r0
   ldi r13, 255
   and r0, r0, r13
   jmp r14
 fputs:
+  ;@ frame back - caller by 16
   leai r15, r15, -16
   st r15, r7, 0, any, keep
   st r15, r8, 8, any, keep
@@ -351,17 +450,17 @@ fputs:
   shl r0, r0, r3
   sar r1, r0, r3
   and r0, r1, r8
-  bz r0, L30
-L32:
+  bz r0, L41
+L43:
   mov r2, r4
-  br L31
-L30:
+  br L42
+L41:
   mov r0, r4
   ld r7, r15, 0, any, keep
   ld r8, r15, 8, any, keep
   leai r15, r15, 16
   jmp r14
-L31:
+L42:
   out r1
   addi r2, r2, 1
   lea r1, r5, r2
@@ -374,8 +473,8 @@ L31:
   shl r0, r0, r3
   sar r1, r0, r3
   and r0, r1, r8
-  bz r0, L30
-  br L31
+  bz r0, L41
+  br L42
 find:
   ;@ function find at examples/c/words.c:24
   ;@ inlined 1 hash at examples/c/words.c:26
@@ -406,15 +505,15 @@ find:
   ld r0, r0, 0, any, keep
   shr r0, r0, r1
   and r0, r0, r5
-  bz r0, L43
-L44:
+  bz r0, L54
+L55:
   ldi r3, -2128831035
   mov r2, r11
-  br L35
-L43:
+  br L46
+L54:
   ldi r0, 5
-  br L37
-L35:
+  br L48
+L46:
   ;@ line examples/c/words.c:20 in 1
   ;@ var h 12 r3 in 1
   ;@ var word 6 r9+r2 in 1
@@ -433,18 +532,18 @@ L35:
   ld r0, r0, 0, any, keep
   shr r0, r0, r1
   and r0, r0, r5
-  bz r0, L36
-L45:
+  bz r0, L47
+L56:
   addi r2, r2, 1
   ;@ var h 12 - in 1
-  br L35
-L36:
+  br L46
+L47:
   ;@ line examples/c/words.c:21 in 1
   ;@ var word 6 - in 1
   ;@ var h 12 r3 in 1
   ldi r13, 15
   and r0, r3, r13
-L37:
+L48:
   ;@ line examples/c/words.c:26
   ;@ var h 12 - in 1
   shl r10, r0, r6
@@ -452,32 +551,32 @@ L37:
   ;@ var place 13 @chains+r10
   lea r0, r8, r10
   ld r7, r0, 0, any, keep
-  bnz r7, L38
-L46:
+  bnz r7, L49
+L57:
   ;@ var place 13 -
   st r15, r8, 0, any, keep
-  br L41
-L38:
+  br L52
+L49:
   ;@ line examples/c/words.c:28
   ld r0, r7, 8, any, keep
   mov r1, r9
   lip r14, 2
   br strcmp
-  bz r0, L42
-L39:
+  bz r0, L53
+L50:
   ;@ line examples/c/words.c:27
   ;@ var place 13 r7
   ld r0, r7, 0, any, keep
-  bz r0, L40
-L49:
+  bz r0, L51
+L60:
   ;@ var place 13 -
   mov r7, r0
   ;@ var place 13 r7
-  br L38
-L40:
+  br L49
+L51:
   mov r10, r11
   st r15, r7, 0, any, keep
-L41:
+L52:
   ;@ line examples/c/words.c:30
   ;@ var place 13 -
   ldi r0, 24
@@ -513,7 +612,7 @@ L41:
   ld r12, r15, 0, any, keep
   lea r0, r12, r10
   st r0, r7, 0, any, keep
-L42:
+L53:
   ;@ line examples/c/words.c:35
   ;@ var made 4 -
   mov r0, r7
@@ -526,6 +625,7 @@ L42:
   leai r15, r15, 56
   jmp r14
 strcpy:
+  ;@ frame back - caller by 40
   leai r15, r15, -40
   st r15, r7, 0, any, keep
   st r15, r8, 8, any, keep
@@ -539,7 +639,7 @@ strcpy:
   ldi r8, 7
   ldi r10, 255
   mov r5, r6
-L51:
+L62:
   lea r1, r9, r5
   and r0, r1, r8
   sub r0, r6, r0
@@ -568,11 +668,11 @@ L51:
   ld r0, r0, 0, any, keep
   shr r0, r0, r1
   and r0, r0, r10
-  bz r0, L52
-L53:
+  bz r0, L63
+L64:
   mov r5, r2
-  br L51
-L52:
+  br L62
+L63:
   mov r0, r11
   ld r7, r15, 0, any, keep
   ld r8, r15, 8, any, keep
@@ -582,6 +682,7 @@ L52:
   leai r15, r15, 40
   jmp r14
 strlen:
+  ;@ frame back - caller by 8
   leai r15, r15, -8
   st r15, r7, 0, any, keep
   mov r3, r0
@@ -590,7 +691,7 @@ strlen:
   ldi r6, 7
   ldi r7, 255
   mov r2, r4
-L55:
+L66:
   lea r1, r3, r2
   and r0, r1, r6
   sub r0, r4, r0
@@ -600,167 +701,499 @@ L55:
   shr r0, r0, r1
   and r0, r0, r7
   addi r1, r2, 1
-  bz r0, L56
-L57:
+  bz r0, L67
+L68:
   mov r2, r1
-  br L55
-L56:
+  br L66
+L67:
   mov r0, r2
   ld r7, r15, 0, any, keep
   leai r15, r15, 8
   jmp r14
 malloc:
-  leai r15, r15, -56
+  ;@ frame back 64 caller by 72
+  leai r15, r15, -72
+  st r15, r7, 24, any, keep
+  st r15, r8, 32, any, keep
+  st r15, r9, 40, any, keep
+  st r15, r10, 48, any, keep
+  st r15, r11, 56, any, keep
+  st r15, r14, 64, any, keep
+  mov r7, r0
+  lip r11, P_9
+  ld r11, r11, 0, any, keep
+  ldi r9, 0
+  ldi r10, 3
+  lip r12, P_10
+  ld r12, r12, 0, any, keep
+  ld r0, r12, 0, any, keep
+  bnz r0, L73
+L70:
+  ldi r13, 54
+  shr r0, r11, r13
+  ldi r13, 63
+  and r0, r0, r13
+  addi r0, r0, -3
+  ldi r12, 1
+  shl r0, r12, r0
+  ldi r13, 6
+  shr r2, r0, r13
+  ldi r13, 54
+  shr r0, r11, r13
+  ldi r13, 63
+  and r0, r0, r13
+  addi r0, r0, -3
+  ldi r12, 1
+  shl r0, r12, r0
+  ldi r13, 64
+  ltu r1, r0, r13
+  ldi r0, 1
+  bnz r1, L86
+  mov r0, r2
+L86:
+  ldi r13, 1
+  shl r0, r0, r13
+  lip r12, P_10
+  ld r12, r12, 0, any, keep
+  st r12, r0, 0, any, keep
+  ldi r13, 54
+  shr r0, r11, r13
+  ldi r13, 63
+  and r0, r0, r13
+  addi r0, r0, -3
+  ldi r12, 1
+  shl r0, r12, r0
+  ldi r13, 6
+  shr r2, r0, r13
+  ldi r13, 54
+  shr r0, r11, r13
+  ldi r13, 63
+  and r0, r0, r13
+  addi r0, r0, -3
+  ldi r12, 1
+  shl r0, r12, r0
+  ldi r13, 64
+  ltu r1, r0, r13
+  ldi r0, 1
+  bnz r1, L87
+  mov r0, r2
+L87:
+  ldi r13, 1
+  shl r1, r0, r13
+  ldi r13, 54
+  shr r0, r11, r13
+  ldi r13, 63
+  and r0, r0, r13
+  addi r0, r0, -3
+  ldi r12, 1
+  shl r0, r12, r0
+  ltu r0, r1, r0
+  bnz r0, L72
+L71:
+  lip r12, P_10
+  ld r12, r12, 0, any, keep
+  st r12, r9, 0, any, keep
+  mov r4, r9
+  mov r8, r9
+  br L80
+L72:
+  ldi r13, 54
+  shr r0, r11, r13
+  ldi r13, 63
+  and r0, r0, r13
+  addi r0, r0, -3
+  ldi r12, 1
+  shl r0, r12, r0
+  ldi r13, 6
+  shr r2, r0, r13
+  ldi r13, 54
+  shr r0, r11, r13
+  ldi r13, 63
+  and r0, r0, r13
+  addi r0, r0, -3
+  ldi r12, 1
+  shl r0, r12, r0
+  ldi r13, 64
+  ltu r1, r0, r13
+  ldi r0, 1
+  bnz r1, L88
+  mov r0, r2
+L88:
+  ldi r13, 1
+  shl r1, r0, r13
+  mov r0, r9
+  lip r14, 2
+  br change
+L73:
+  addi r0, r7, 7
+  ldi r13, -8
+  and r0, r0, r13
+  mov r13, r0
+  bnz r7, L89
+  ldi r13, 8
+L89:
+  st r15, r13, 16, any, keep
+  mov r8, r10
+L74:
+  ldi r12, 1
+  shl r12, r12, r8
+  st r15, r12, 8, any, keep
+  addi r1, r8, 1
+  ld r12, r15, 8, any, keep
+  ld r13, r15, 16, any, keep
+  ltu r0, r12, r13
+  bz r0, L75
+L81:
+  mov r8, r1
+  br L74
+L75:
+  ldi r13, 54
+  shr r0, r11, r13
+  ldi r13, 63
+  and r0, r0, r13
+  ltu r2, r8, r0
+  ldi r13, 54
+  shr r0, r11, r13
+  ldi r13, 63
+  and r0, r0, r13
+  addi r0, r0, -3
+  ldi r12, 1
+  shl r0, r12, r0
+  shl r0, r0, r10
+  ld r13, r15, 16, any, keep
+  ltu r1, r0, r13
+  mov r0, r9
+  bnz r1, L90
+  mov r0, r2
+L90:
+  bnz r0, L76
+L82:
+  mov r4, r9
+  mov r8, r9
+  br L80
+L76:
+  addi r0, r8, -3
+  ldi r12, 1
+  shl r7, r12, r0
+  mov r0, r7
+  lip r14, 2
+  br find_2
+  st r15, r0, 0, any, keep
+  ldi r13, 54
+  shr r0, r11, r13
+  ldi r13, 63
+  and r0, r0, r13
+  addi r0, r0, -3
+  ldi r12, 1
+  shl r0, r12, r0
+  ld r12, r15, 0, any, keep
+  eq r0, r12, r0
+  bz r0, L77
+L83:
+  mov r4, r9
+  mov r8, r9
+  br L80
+L77:
+  ld r12, r15, 0, any, keep
+  shl r0, r12, r10
+  leab r0, r11, r0
+  subseg r8, r0, r8
+  lip r12, P_11
+  ld r12, r12, 0, any, keep
+  ld r0, r12, 0, any, keep
+  ld r12, r15, 0, any, keep
+  ltu r0, r12, r0
+  bz r0, L78
+L84:
+  mov r1, r9
+  br L79
+L78:
+  mov r1, r7
+  ld r0, r15, 0, any, keep
+  lip r14, 2
+  br change
+  ld r12, r15, 0, any, keep
+  add r0, r12, r7
+  lip r12, P_10
+  ld r12, r12, 0, any, keep
+  st r12, r0, 0, any, keep
+  lip r12, P_11
+  ld r12, r12, 0, any, keep
+  ld r1, r12, 0, any, keep
+  ltu r2, r1, r0
+  bnz r2, L91
+  mov r0, r1
+L91:
+  lip r12, P_11
+  ld r12, r12, 0, any, keep
+  st r12, r0, 0, any, keep
+  ld r12, r15, 8, any, keep
+  ld r13, r15, 16, any, keep
+  sub r4, r12, r13
+  add r0, r8, r4
+  ldi r13, 4194303
+  ldhi r13, 4294967295
+  and r1, r0, r13
+  ldi r13, 4194303
+  ldhi r13, 4294967295
+  and r0, r11, r13
+  sub r1, r1, r0
+  shr r0, r1, r10
+  ldi r13, 63
+  and r0, r0, r13
+  ldi r12, 1
+  shl r5, r12, r0
+  ldi r13, 9
+  shr r3, r1, r13
+  ldi r13, 54
+  shr r0, r11, r13
+  ldi r13, 63
+  and r0, r0, r13
+  addi r0, r0, -3
+  ldi r12, 1
+  shl r0, r12, r0
+  ldi r13, 6
+  shr r2, r0, r13
+  ldi r13, 54
+  shr r0, r11, r13
+  ldi r13, 63
+  and r0, r0, r13
+  addi r0, r0, -3
+  ldi r12, 1
+  shl r0, r12, r0
+  ldi r13, 64
+  ltu r1, r0, r13
+  ldi r0, 1
+  bnz r1, L92
+  mov r0, r2
+L92:
+  add r0, r3, r0
+  shl r2, r0, r10
+  lea r0, r11, r2
+  ld r0, r0, 0, any, keep
+  or r1, r0, r5
+  lea r0, r11, r2
+  st r0, r1, 0, any, keep
+  br L80
+L79:
+  shl r0, r1, r10
+  lea r0, r8, r0
+  st r0, r9, 0, any, keep
+  addi r1, r1, 1
+  ltu r0, r1, r7
+  bnz r0, L79
+  br L78
+L80:
+  add r2, r8, r4
+  isptr r0, r8
+  bz r0, L93
+  ldi r0, 54
+  shr r0, r8, r0
+  xor r1, r2, r8
+  shr r1, r1, r0
+  bnz r1, L93
+  lea r2, r8, r4
+L93:
+  mov r0, r2
+  ld r7, r15, 24, any, keep
+  ld r8, r15, 32, any, keep
+  ld r9, r15, 40, any, keep
+  ld r10, r15, 48, any, keep
+  ld r11, r15, 56, any, keep
+  ld r14, r15, 64, any, keep
+  leai r15, r15, 72
+  jmp r14
+find_2:
+  ;@ frame back 56 caller by 64
+  leai r15, r15, -64
   st r15, r7, 16, any, keep
   st r15, r8, 24, any, keep
   st r15, r9, 32, any, keep
   st r15, r10, 40, any, keep
   st r15, r11, 48, any, keep
-  mov r1, r0
-  ldi r9, 1
-  lip r5, P_10
-  ld r5, r5, 0, any, keep
-  ldi r10, 3
-  lip r7, P_9
-  ld r7, r7, 0, any, keep
-  ldi r3, 63
-  lip r6, P_11
-  ld r6, r6, 0, any, keep
-  addi r0, r1, 7
-  ldi r13, -8
-  and r0, r0, r13
-  mov r13, r0
-  bnz r1, L81
-  ldi r13, 8
-L81:
-  st r15, r13, 8, any, keep
-  ldi r12, 2097151
-  ld r13, r15, 8, any, keep
-  ltu r0, r12, r13
-  bnz r0, L71
-L72:
-  mov r11, r10
-  br L59
-L71:
-  ldi r4, 0
-  ldi r3, 0
-  br L70
-L59:
-  shl r12, r9, r11
-  st r15, r12, 0, any, keep
-  addi r1, r11, 1
+  st r15, r14, 56, any, keep
+  st r15, r0, 0, any, keep
+  lip r9, P_9
+  ld r9, r9, 0, any, keep
+  ldi r11, 63
+  lip r12, P_10
+  ld r12, r12, 0, any, keep
+  ld r1, r12, 0, any, keep
   ld r12, r15, 0, any, keep
-  ld r13, r15, 8, any, keep
-  ltu r0, r12, r13
-  bz r0, L60
-L73:
-  mov r11, r1
-  br L59
-L60:
-  shl r1, r11, r10
-  lea r0, r5, r1
-  ld r0, r0, 0, any, keep
-  bz r0, L62
-L61:
-  ld r2, r0, 0, any, keep
-  lea r1, r5, r1
-  st r1, r2, 0, any, keep
-  br L69
-L62:
-  ldi r13, 54
-  shr r0, r7, r13
-  and r0, r0, r3
-  ltu r0, r11, r0
-  bnz r0, L63
-L74:
-  ldi r0, 0
-  br L69
-L63:
-  ld r1, r6, 0, any, keep
-  ld r12, r15, 0, any, keep
-  addi r8, r12, -1
-  add r2, r1, r8
+  addi r0, r12, -1
+  add r1, r0, r1
   ldi r12, 0
   ld r13, r15, 0, any, keep
   sub r0, r12, r13
-  and r0, r2, r0
-  ld r13, r15, 0, any, keep
-  add r2, r0, r13
+  and r10, r1, r0
   ldi r13, 54
-  shr r0, r7, r13
-  and r0, r0, r3
-  shl r0, r9, r0
-  ltu r0, r0, r2
-  bz r0, L64
-L75:
-  ldi r0, 0
-  br L69
-L64:
-  and r0, r1, r8
-  bz r0, L65
-L77:
-  mov r3, r10
-  br L66
-L65:
-  ld r13, r15, 0, any, keep
-  add r0, r1, r13
-  st r6, r0, 0, any, keep
-  leab r0, r7, r1
-  subseg r0, r0, r11
-  br L69
-L66:
-  shl r4, r9, r3
-  and r0, r4, r1
-  bz r0, L68
-L67:
-  leab r0, r7, r1
-  subseg r2, r0, r3
-  shl r1, r3, r10
-  lea r0, r5, r1
-  ld r0, r0, 0, any, keep
-  st r2, r0, 0, any, keep
-  lea r0, r5, r1
-  st r0, r2, 0, any, keep
-  ld r0, r6, 0, any, keep
-  add r1, r0, r4
-  st r6, r1, 0, any, keep
-L68:
-  addi r3, r3, 1
-  and r0, r1, r8
-  bz r0, L65
-  br L66
-L69:
+  shr r0, r9, r13
+  and r0, r0, r11
+  addi r0, r0, -3
+  ldi r12, 1
+  shl r0, r12, r0
   ld r12, r15, 0, any, keep
-  ld r13, r15, 8, any, keep
-  sub r1, r12, r13
-  mov r4, r1
-  bnz r0, L82
-  ldi r4, 0
-L82:
-  mov r3, r0
-  bnz r0, L70
-  ldi r3, 0
-L83:
-L70:
-  add r2, r3, r4
-  isptr r0, r3
-  bz r0, L84
-  ldi r0, 54
-  shr r0, r3, r0
-  xor r1, r2, r3
-  shr r1, r1, r0
-  bnz r1, L84
-  lea r2, r3, r4
-L84:
-  mov r0, r2
+  add r12, r12, r0
+  st r15, r12, 8, any, keep
+  ldi r8, 0
+L95:
+  ld r13, r15, 0, any, keep
+  add r1, r10, r13
+  ldi r13, 54
+  shr r0, r9, r13
+  and r0, r0, r11
+  addi r0, r0, -3
+  ldi r12, 1
+  shl r0, r12, r0
+  ltu r0, r0, r1
+  ldi r7, 0
+  bnz r0, L110
+  mov r7, r10
+L110:
+  and r0, r7, r11
+  ldi r13, 0
+  eq r1, r0, r13
+  ld r12, r15, 0, any, keep
+  ldi r13, 64
+  ltu r0, r12, r13
+  bnz r0, L111
+  ldi r1, 0
+L111:
+  ldi r13, 54
+  shr r0, r9, r13
+  and r0, r0, r11
+  addi r0, r0, -3
+  ldi r12, 1
+  shl r0, r12, r0
+  ltu r0, r7, r0
+  bnz r1, L112
+  ldi r0, 0
+L112:
+  bz r0, L98
+L96:
+  ldi r13, 6
+  shr r0, r7, r13
+  ldi r13, 3
+  shl r0, r0, r13
+  lea r0, r9, r0
+  ld r0, r0, 0, any, keep
+  ldi r13, -1
+  eq r0, r0, r13
+  bz r0, L98
+L97:
+  addi r7, r7, 64
+  addi r8, r8, 64
+  ldi r13, 54
+  shr r0, r9, r13
+  and r0, r0, r11
+  addi r0, r0, -3
+  ldi r12, 1
+  shl r0, r12, r0
+  ltu r0, r7, r0
+  bnz r0, L96
+L98:
+  ld r13, r15, 0, any, keep
+  add r10, r7, r13
+  ldi r13, 54
+  shr r0, r9, r13
+  and r0, r0, r11
+  addi r0, r0, -3
+  ldi r12, 1
+  shl r0, r12, r0
+  ltu r0, r0, r10
+  bnz r0, L100
+L99:
+  mov r0, r7
+  ld r1, r15, 0, any, keep
+  lip r14, 2
+  br is_free
+  bnz r0, L101
+L100:
+  ld r13, r15, 0, any, keep
+  add r8, r8, r13
+  ld r12, r15, 8, any, keep
+  ltu r0, r12, r8
+  bz r0, L95
+L108:
+  ldi r13, 54
+  shr r0, r9, r13
+  and r0, r0, r11
+  addi r0, r0, -3
+  ldi r12, 1
+  shl r7, r12, r0
+L101:
+  mov r0, r7
   ld r7, r15, 16, any, keep
   ld r8, r15, 24, any, keep
   ld r9, r15, 32, any, keep
   ld r10, r15, 40, any, keep
   ld r11, r15, 48, any, keep
-  leai r15, r15, 56
+  ld r14, r15, 56, any, keep
+  leai r15, r15, 64
+  jmp r14
+is_free:
+  ;@ frame back - caller by 8
+  leai r15, r15, -8
+  st r15, r7, 0, any, keep
+  mov r4, r0
+  mov r6, r1
+  ldi r2, -1
+  lip r3, P_9
+  ld r3, r3, 0, any, keep
+  ldi r7, 3
+  shl r0, r2, r6
+  xor r1, r0, r2
+  ldi r13, 64
+  ltu r0, r6, r13
+  bnz r0, L123
+  mov r1, r2
+L123:
+  ldi r13, 63
+  and r0, r4, r13
+  shl r5, r1, r0
+  ldi r13, 6
+  shr r2, r4, r13
+  addi r0, r4, -1
+  add r0, r0, r6
+  ldi r13, 6
+  shr r4, r0, r13
+  ltu r0, r4, r2
+  bz r0, L114
+L119:
+  ldi r0, 1
+  br L118
+L114:
+  shl r0, r2, r7
+  lea r0, r3, r0
+  ld r0, r0, 0, any, keep
+  and r0, r0, r5
+  bz r0, L115
+L121:
+  ldi r0, 0
+  br L118
+L115:
+  addi r1, r2, 1
+  eq r0, r2, r4
+  bnz r0, L117
+L116:
+  shl r0, r1, r7
+  lea r0, r3, r0
+  ld r0, r0, 0, any, keep
+  and r0, r0, r5
+  bnz r0, L117
+L122:
+  mov r2, r1
+  br L115
+L117:
+  ltu r0, r2, r4
+  ldi r13, 0
+  eq r0, r0, r13
+L118:
+  ld r7, r15, 0, any, keep
+  leai r15, r15, 8
   jmp r14
 strcmp:
+  ;@ frame back - caller by 40
   leai r15, r15, -40
   st r15, r7, 0, any, keep
   st r15, r8, 8, any, keep
@@ -776,7 +1209,7 @@ strcmp:
   ldi r8, -1
   ldi r9, 1
   mov r3, r4
-L86:
+L125:
   lea r1, r10, r3
   and r0, r1, r6
   sub r0, r4, r0
@@ -794,24 +1227,24 @@ L86:
   shr r0, r0, r1
   and r1, r0, r7
   eq r0, r2, r1
-  bnz r0, L88
-L87:
+  bnz r0, L127
+L126:
   ltu r0, r2, r1
   mov r1, r8
-  bnz r0, L89
+  bnz r0, L128
   mov r1, r9
-L92:
-  br L89
-L88:
+L131:
+  br L128
+L127:
   addi r3, r3, 1
   eq r0, r3, r8
-  bnz r2, L93
+  bnz r2, L132
   mov r0, r9
-L93:
-  bz r0, L86
-L90:
+L132:
+  bz r0, L125
+L129:
   mov r1, r4
-L89:
+L128:
   mov r0, r1
   ld r7, r15, 0, any, keep
   ld r8, r15, 8, any, keep
@@ -821,6 +1254,7 @@ L89:
   leai r15, r15, 40
   jmp r14
 strtok:
+  ;@ frame back - caller by 48
   leai r15, r15, -48
   st r15, r7, 8, any, keep
   st r15, r8, 16, any, keep
@@ -834,19 +1268,19 @@ strtok:
   ldi r8, 7
   ldi r4, 56
   ld r12, r15, 0, any, keep
-  bnz r12, L96
-L95:
+  bnz r12, L135
+L134:
   lip r12, P_12
   ld r12, r12, 0, any, keep
   ld r12, r12, 0, any, keep
   st r15, r12, 0, any, keep
   ld r12, r15, 0, any, keep
-  bnz r12, L96
-L113:
+  bnz r12, L135
+L152:
   mov r10, r7
   st r15, r7, 0, any, keep
-  br L111
-L96:
+  br L150
+L135:
   ld r12, r15, 0, any, keep
   and r0, r12, r8
   sub r0, r7, r0
@@ -860,14 +1294,14 @@ L96:
   sar r5, r0, r4
   ldi r13, 255
   and r0, r5, r13
-  bnz r0, L97
-L115:
+  bnz r0, L136
+L154:
   mov r3, r7
   mov r4, r7
   mov r10, r7
   st r15, r7, 0, any, keep
-  br L110
-L97:
+  br L149
+L136:
   and r0, r6, r8
   sub r0, r7, r0
   lea r0, r6, r0
@@ -877,14 +1311,14 @@ L97:
   shl r0, r0, r4
   sar r3, r0, r4
   mov r10, r7
-L98:
+L137:
   eq r0, r5, r3
-  bnz r0, L101
-L116:
+  bnz r0, L140
+L155:
   mov r1, r3
   mov r2, r7
-  br L100
-L99:
+  br L139
+L138:
   lea r1, r6, r2
   and r0, r1, r8
   sub r0, r7, r0
@@ -895,12 +1329,12 @@ L99:
   shl r0, r0, r4
   sar r1, r0, r4
   eq r0, r5, r1
-  bnz r0, L101
-L100:
+  bnz r0, L140
+L139:
   addi r2, r2, 1
-  bz r1, L102
-  br L99
-L101:
+  bz r1, L141
+  br L138
+L140:
   addi r10, r10, 1
   ld r12, r15, 0, any, keep
   lea r1, r12, r10
@@ -914,22 +1348,22 @@ L101:
   sar r5, r0, r4
   ldi r13, 255
   and r0, r5, r13
-  bnz r0, L98
-L126:
+  bnz r0, L137
+L165:
   mov r3, r7
   mov r4, r7
   mov r10, r7
   st r15, r7, 0, any, keep
-  br L110
-L102:
-  bnz r5, L103
-L117:
+  br L149
+L141:
+  bnz r5, L142
+L156:
   mov r3, r7
   mov r4, r7
   mov r10, r7
   st r15, r7, 0, any, keep
-  br L110
-L103:
+  br L149
+L142:
   and r0, r6, r8
   sub r0, r7, r0
   lea r0, r6, r0
@@ -939,14 +1373,14 @@ L103:
   shl r0, r0, r4
   sar r11, r0, r4
   mov r3, r7
-L104:
+L143:
   eq r0, r5, r11
-  bnz r0, L108
-L119:
+  bnz r0, L147
+L158:
   mov r1, r11
   mov r2, r7
-  br L106
-L105:
+  br L145
+L144:
   lea r1, r6, r2
   and r0, r1, r8
   sub r0, r7, r0
@@ -957,11 +1391,11 @@ L105:
   shl r0, r0, r4
   sar r1, r0, r4
   eq r0, r5, r1
-  bnz r0, L108
-L106:
+  bnz r0, L147
+L145:
   addi r2, r2, 1
-  bnz r1, L105
-L107:
+  bnz r1, L144
+L146:
   addi r3, r3, 1
   add r0, r10, r3
   ld r12, r15, 0, any, keep
@@ -976,8 +1410,8 @@ L107:
   sar r5, r0, r4
   ldi r13, 255
   and r0, r5, r13
-  bnz r0, L104
-L108:
+  bnz r0, L143
+L147:
   add r4, r10, r3
   ld r12, r15, 0, any, keep
   lea r1, r12, r4
@@ -989,12 +1423,12 @@ L108:
   shr r0, r0, r1
   ldi r13, 255
   and r0, r0, r13
-  bnz r0, L109
-L124:
+  bnz r0, L148
+L163:
   mov r3, r7
   mov r4, r7
-  br L110
-L109:
+  br L149
+L148:
   ld r12, r15, 0, any, keep
   lea r1, r12, r4
   and r0, r1, r8
@@ -1011,32 +1445,32 @@ L109:
   st r3, r0, 0, any, keep
   addi r3, r4, 1
   ld r4, r15, 0, any, keep
-L110:
+L149:
   add r2, r4, r3
   isptr r0, r4
-  bz r0, L128
+  bz r0, L167
   ldi r0, 54
   shr r0, r4, r0
   xor r1, r2, r4
   shr r1, r1, r0
-  bnz r1, L128
+  bnz r1, L167
   lea r2, r4, r3
-L128:
+L167:
   lip r12, P_12
   ld r12, r12, 0, any, keep
   st r12, r2, 0, any, keep
-L111:
+L150:
   ld r12, r15, 0, any, keep
   add r2, r12, r10
   isptr r0, r12
-  bz r0, L129
+  bz r0, L168
   ldi r0, 54
   shr r0, r12, r0
   xor r1, r2, r12
   shr r1, r1, r0
-  bnz r1, L129
+  bnz r1, L168
   lea r2, r12, r10
-L129:
+L168:
   mov r0, r2
   ld r7, r15, 8, any, keep
   ld r8, r15, 16, any, keep
@@ -1046,6 +1480,7 @@ L129:
   leai r15, r15, 48
   jmp r14
 memcpy:
+  ;@ frame back - caller by 64
   leai r15, r15, -64
   st r15, r7, 24, any, keep
   st r15, r8, 32, any, keep
@@ -1066,15 +1501,15 @@ memcpy:
   ld r12, r15, 8, any, keep
   ltu r0, r12, r2
   or r0, r1, r0
-  bnz r0, L138
-L139:
+  bnz r0, L177
+L178:
   mov r6, r2
   mov r2, r7
-  br L131
-L138:
+  br L170
+L177:
   mov r6, r7
-  br L132
-L131:
+  br L171
+L170:
   lea r0, r11, r2
   ld r1, r0, 0, any, keep
   lea r0, r10, r2
@@ -1082,16 +1517,16 @@ L131:
   addi r1, r6, 8
   ld r12, r15, 8, any, keep
   ltu r0, r12, r1
-  bnz r0, L132
-L141:
+  bnz r0, L171
+L180:
   mov r2, r6
   mov r6, r1
-  br L131
-L132:
+  br L170
+L171:
   ld r13, r15, 8, any, keep
   ltu r0, r6, r13
-  bz r0, L137
-L133:
+  bz r0, L176
+L172:
   ldi r13, -1
   xor r0, r6, r13
   ld r13, r15, 8, any, keep
@@ -1101,10 +1536,10 @@ L133:
   and r12, r12, r8
   st r15, r12, 0, any, keep
   ld r12, r15, 0, any, keep
-  bz r12, L135
-L143:
+  bz r12, L174
+L182:
   mov r5, r7
-L134:
+L173:
   lea r1, r11, r6
   and r0, r1, r9
   sub r0, r7, r0
@@ -1129,12 +1564,12 @@ L134:
   addi r5, r5, 1
   ld r13, r15, 0, any, keep
   eq r0, r5, r13
-  bz r0, L134
-L135:
+  bz r0, L173
+L174:
   ld r12, r15, 16, any, keep
   ltu r0, r12, r8
-  bnz r0, L137
-L136:
+  bnz r0, L176
+L175:
   lea r1, r11, r6
   and r0, r1, r9
   sub r0, r7, r0
@@ -1221,8 +1656,8 @@ L136:
   addi r6, r6, 4
   ld r13, r15, 8, any, keep
   eq r0, r6, r13
-  bz r0, L136
-L137:
+  bz r0, L175
+L176:
   mov r0, r10
   ld r7, r15, 24, any, keep
   ld r8, r15, 32, any, keep
@@ -1241,8 +1676,8 @@ P_6: .ptr ro _str_4+4
 P_7: .ptr ro _str_5+4
 P_8: .ptr rw stdout+0
 P_9: .ptr rw heap+0
-P_10: .ptr rw unused+88
-P_11: .ptr rw top+0
+P_10: .ptr rw next+0
+P_11: .ptr rw used+0
 P_12: .ptr rw strtok_rest+0
 .segment __const_main_text 7
   ;@ global text 79 at 48
@@ -1276,10 +1711,10 @@ P_12: .ptr rw strtok_rest+0
   ;@ global chains 128 at 0 type 14
 .segment heap 16
   ;@ global __mm_heap 65536 at 0
-.segment unused 8
-  ;@ global unused 168 at 88
-.segment top 3
-  ;@ global top 8 at 0
+.segment next 3
+  ;@ global next 8 at 0
+.segment used 3
+  ;@ global used 8 at 0
 .segment strtok_rest 3
   ;@ global rest 8 at 0
 .segment files 4

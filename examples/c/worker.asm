@@ -150,6 +150,7 @@ L5:
   ld r15, r15, 48, any, keep
   jmp r14
 worker_fwrite:
+  ;@ frame back - caller by 24
   leai r15, r15, -24
   st r15, r7, 0, any, keep
   st r15, r8, 8, any, keep
@@ -189,11 +190,13 @@ L10:
   bnz r0, L9
   br L10
 worker_fputc:
+  ;@ frame back - caller by 0
   out r0
   ldi r13, 255
   and r0, r0, r13
   jmp r14
 worker_putchar:
+  ;@ frame back - caller by 0
   out r0
   ldi r13, 255
   and r0, r0, r13

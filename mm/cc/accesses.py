@@ -237,7 +237,7 @@ class Accesses(Lowering):
             return "floating point"
         if isinstance(type_, IntType):
             return f"an integer of {type_.bits} bits"
-        return f"a value of the type {type_}"
+        return f"a value of the type `{type_}`"
 
     def load_integer(self, pointer: Pointer, bits: int, align: int, form: str) -> tuple[int, str]:
         """An integer of any width up to a word, and the forms that it has."""

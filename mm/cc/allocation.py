@@ -10,6 +10,8 @@ from mm.cc.liveness import Interval, Liveness, Range
 
 # After every place of a function.
 NEVER = 1 << 60
+# How many times longer a list must be than another one, to be searched rather than gone through.
+MANY = 8
 
 
 class Allocation:
@@ -36,9 +38,13 @@ class Allocation:
         self._allocate()
 
     def root(self, register: int) -> int:
-        while register in self.same:
-            register = self.same[register]
-        return register
+        """The register that one was joined to; the way there is made short."""
+        found = register
+        while found in self.same:
+            found = self.same[found]
+        while register != found:
+            self.same[register], register = found, self.same[register]
+        return found
 
     def of(self, register: int) -> Optional[int]:
         """The machine's register, if there is one."""
@@ -185,6 +191,8 @@ class Allocation:
 
 def overlap(first: list[Range], second: list[Range]) -> bool:
     """Whether two ascending lists of ranges have a common place."""
+    if len(first) > MANY * len(second) or len(second) > MANY * len(first):
+        return meets(first, second) if len(first) > len(second) else meets(second, first)
     at = other = 0
     while at < len(first) and other < len(second):
         if first[at][1] <= second[other][0]:
@@ -197,6 +205,12 @@ def overlap(first: list[Range], second: list[Range]) -> bool:
 
 
 def union(first: list[Range], second: list[Range]) -> list[Range]:
+    """The ranges of both. A short list is put into a long one, which is changed."""
+    if len(first) > MANY * len(second) or len(second) > MANY * len(first):
+        long, short = (first, second) if len(first) > len(second) else (second, first)
+        for each in short:
+            _put(long, *each)
+        return long
     found: list[Range] = []
     for start, end in sorted(first + second):
         if found and found[-1][1] >= start:
@@ -204,6 +218,19 @@ def union(first: list[Range], second: list[Range]) -> list[Range]:
         else:
             found.append((start, end))
     return found
+
+
+def _put(ranges: list[Range], start: int, end: int) -> None:
+    """Puts a range into ascending ones, joined with those that it touches."""
+    at = bisect_left(ranges, (start,))
+    if at and ranges[at - 1][1] >= start:
+        at -= 1
+        start, end = ranges[at][0], max(end, ranges[at][1])
+    after = at
+    while after < len(ranges) and ranges[after][0] <= end:
+        end = max(end, ranges[after][1])
+        after += 1
+    ranges[at:after] = [(start, end)]
 
 
 def meets(taken: list[Range], ranges: list[Range]) -> bool:

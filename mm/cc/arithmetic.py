@@ -2,9 +2,12 @@
 
 from __future__ import annotations
 
+from typing import Optional
+
 from mm.cc.accesses import Accesses
 from mm.cc.forms import RAW, SIGNED, ZEROED, Forms, bits_of
 from mm.cc.ir import FloatType, Instruction, IntType, Local, Number, PointerType, Type, Value, VectorType, Zero
+from mm.cc.lowering import signed
 from mm.cc.pointers import Pointer
 from mm.cc.untranslated import Untranslated
 
@@ -30,7 +33,9 @@ class Arithmetic(Accesses):
                 form, known = RAW, "SZ"
             a = self.number(left, form)
             if op in ("add", "sub") and isinstance(right, Number):
-                number = -right.number if op == "sub" else right.number
+                # LLVM's text has each constant with its sign; with zeros above it is another number.
+                number = right.number & (1 << bits) - 1 if form == ZEROED else signed(right.number, bits)
+                number = -number if op == "sub" else number
                 if -(1 << 31) <= number < 1 << 31:
                     self.define(made.name, made.type, self.op("addi", a, number=number), known)
                     return
@@ -142,16 +147,27 @@ class Arithmetic(Accesses):
     def condition_of(self, made: Instruction) -> tuple[int, bool]:
         """A register that is 0 or 1, and whether it is to be turned round."""
         op, swapped, turned = CONDITIONS[made.condition]
-        a, b = self.sides(made)
+        distances = self.distances(made)
+        if distances is not None:
+            # A base may stand in the middle of its object, so a distance may be below 0.
+            op, (a, b) = "lts" if op == "ltu" else op, distances
+        else:
+            a, b = self.sides(made)
         return self.op(op, *((b, a) if swapped else (a, b))), turned
+
+    def distances(self, made: Instruction) -> Optional[tuple[int, int]]:
+        """The distances of two pointers that a comparison takes, if they have one base."""
+        if not isinstance(made.operands[0].type, PointerType):
+            return None
+        first, second = (self.pointer(operand) for operand in made.operands)
+        if first.base != second.base or first.base in self.code.fixed:
+            return None
+        return self.distance(first), self.distance(second)
 
     def sides(self, made: Instruction) -> tuple[int, int]:
         left, right = made.operands
         if isinstance(left.type, PointerType):
-            first, second = self.pointer(left), self.pointer(right)
-            if first.base == second.base and first.base not in self.code.fixed:
-                return self.distance(first), self.distance(second)
-            return self.bits(first), self.bits(second)
+            return self.bits(self.pointer(left)), self.bits(self.pointer(right))
         if isinstance(left.type, FloatType):
             raise Untranslated("floating point")
         if bits_of(left.type) == 1:
@@ -189,8 +205,7 @@ class Arithmetic(Accesses):
             form = self.forms.carried(made.name)
             first, second = self.number(yes, form), self.number(no, form)
             register = self.chosen(condition, first, second)
-            known = ZEROED if bits_of(made.type) == 1 else form if form != RAW else ""
-            self.define(made.name, made.type, register, known)
+            self.define(made.name, made.type, register, form if form != RAW else "")
         else:
             self.select_group(made)
 

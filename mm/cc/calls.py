@@ -49,7 +49,7 @@ class Calls(Arithmetic):
         named = made.signature.parameters if made.signature and made.signature.variadic else None
         variadic = bool(named)
         target = self.names.function(callee.name) if isinstance(callee, Global) else None
-        if target is not None and not target.variadic and target.blocks:
+        if target is not None and not target.variadic and target.defined:
             variadic = False
         fixed = len(named) if variadic and named is not None else len(made.arguments)
         words: list[int] = []
@@ -71,9 +71,9 @@ class Calls(Arithmetic):
         """The registers of an argument; one that is handed over by value is copied into an object of this frame."""
         value, type_ = argument.value, self.layouts.plain(argument.value.type)
         if argument.by_value is not None:
-            size = self.layouts.size(argument.by_value)
-            copy = self.room_for_copy(size, max(WORD, self.layouts.align(argument.by_value)))
-            self.copy_object(copy, self.pointer(value), size, self.layouts.align(argument.by_value))
+            size, align = self.layouts.size(argument.by_value), self.layouts.align(argument.by_value)
+            copy = self.room_for_copy(size, max(WORD, align, argument.align))
+            self.copy_object(copy, self.pointer(value), size, align)
             return [self.whole(copy)]
         if isinstance(type_, PointerType):
             return [self.whole(self.pointer(value))]

@@ -138,7 +138,5 @@ def log_of(size: int) -> int:
 
 
 def place_in(size: int, align: int, log: int, at_end: bool) -> int:
-    """Where an object stands in its segment: at the end, as far as its alignment allows, or at the beginning. Clang
-    aligns every array of 16 bytes or more to 16; a word's alignment is enough for the machine."""
-    align = 8 if align == 16 else align
+    """Where an object stands in its segment: at the end, as far as its alignment allows, or at the beginning."""
     return ((1 << log) - max(size, 1)) // align * align if at_end else 0

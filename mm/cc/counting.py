@@ -2,12 +2,9 @@
 
 from __future__ import annotations
 
-import re
-
 from mm.cc.forms import SIGNED, ZEROED, bits_of
 from mm.cc.intrinsics import Intrinsics
 from mm.cc.ir import Instruction, IntType, Local, Number
-from mm.cc.untranslated import Untranslated
 
 
 class Counting(Intrinsics):
@@ -98,27 +95,39 @@ class Counting(Intrinsics):
         form = SIGNED if is_signed else ZEROED
         a, b = (self.number(self.value_of(made, at), form) for at in (0, 1))
         total = self.op(op, a, b)
-        if bits < 64 and not (op == "mul" and bits > 32):
-            fits = self.converted(total, bits, form)
-            return total, self.op("eq", self.op("eq", fits, total), self.constant(0))
+        beyond = None
+        if op == "mul" and bits > 32:
+            name = "__mm_signed_product_overflows" if is_signed else "__mm_product_overflows"
+            beyond = self.runtime(name, [a, b], True)
         if bits < 64:
-            raise Untranslated(f"a product of {bits} bits that tells its overflow")
-        if op == "mul":
-            return total, self.runtime("__mm_signed_product_overflows" if is_signed else "__mm_product_overflows",
-                                       [a, b], True)
+            other = self.differs(self.converted(total, bits, form), total)
+            return total, other if beyond is None else self.op("or", other, beyond)
+        if beyond is not None:
+            return total, beyond
         if not is_signed:
             return total, self.op("ltu", total, a) if op == "add" else self.op("ltu", a, b)
         other = self.op("xor", total, b) if op == "add" else self.op("xor", a, b)
         change = self.op("and", self.op("xor", total, a), other)
         return total, self.op("shr", change, self.constant(63))
 
+    def differs(self, a: int, b: int) -> int:
+        """1 where two registers are not the same, else 0."""
+        return self.op("eq", self.op("eq", a, b), self.constant(0))
+
     def _overflow_pair(self, made: Instruction, op: str, is_signed: bool) -> None:
-        total, over = self._overflowing(made, op, is_signed)
         assert made.name is not None
         type_ = self.value_of(made, 0).type
-        self.define(f"{made.name}?0", type_, total)
+        if bits_of(type_) > 64:
+            over = self.wide_overflow(made, op, is_signed)
+        else:
+            total, over = self._overflowing(made, op, is_signed)
+            self.define(f"{made.name}?0", type_, total)
         self.define(f"{made.name}?1", IntType(1), over, ZEROED)
         self.groups[made.name] = [Local(type_, f"{made.name}?0"), Local(IntType(1), f"{made.name}?1")]
+
+    def wide_overflow(self, made: Instruction, op: str, is_signed: bool) -> int:
+        """The same of more than 64 bits."""
+        raise NotImplementedError
 
     def _sadd(self, made: Instruction) -> None:
         self._sum(made, "add", True)

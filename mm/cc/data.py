@@ -56,7 +56,7 @@ class Constants:
             return Place(value, 0)
         if isinstance(value, Expression):
             return self._expression(value)
-        raise Untranslated(f"the constant {value}")
+        raise Untranslated(f"a constant of the type `{value.type}`")
 
     def _expression(self, value: Expression) -> Constant:
         op, parts = value.op, value.parts
@@ -147,4 +147,4 @@ class Words:
         elif isinstance(value, FloatNumber) or isinstance(type_, FloatType):
             raise Untranslated("floating point")
         else:
-            raise Untranslated(f"the constant {value}")
+            raise Untranslated(f"a constant of the type `{value.type}`")

@@ -4,6 +4,7 @@ from __future__ import annotations
 
 import os
 import re
+import sys
 from dataclasses import replace
 from typing import Sequence
 
@@ -19,9 +20,13 @@ def source_of(paths: Sequence[str], options: Options) -> str:
     modules = [module_of(path, options.level, options.flags, options.lines) for path in paths]
     program = Program([*modules, library()], options)
     try:
-        return write_source(program, options)
+        source = write_source(program, options)
     except Failure as failure:
-        raise Stop(Status.REFUSED, f"mm: {failure}") from None
+        raise Stop(Status.REFUSED, *str(failure).splitlines()) from None
+    if options.lines:
+        for note in program.notes():
+            print(note, file=sys.stderr)
+    return source
 
 
 def sources_of(paths: Sequence[str], options: Options) -> list[bytes]:

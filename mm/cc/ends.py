@@ -92,6 +92,7 @@ class Ends(Objects):
 
     def edges(self) -> None:
         """Moves what comes from several blocks, at the end of each of them."""
+        self.splits: dict[str, list[CodeBlock]] = {}
         for block in self.order:
             home = self.block_of[block.name]
             last = block.body[-1]
@@ -106,6 +107,8 @@ class Ends(Objects):
                     home.body.append(end)
                 else:
                     self.split(home, self.labels[target], moves, target in self.computed)
+        self.code.blocks = [made for block in self.code.blocks
+                            for made in (block, *reversed(self.splits.get(block.label, [])))]
         for name in self.computed:
             self.arrivals(name)
 
@@ -130,7 +133,7 @@ class Ends(Objects):
         self.copy_together(moves, computed)
         self.emit("br", extra=target)
         edge.next = [target]
-        self.code.blocks.insert(self.code.blocks.index(home) + 1, edge)
+        self.splits.setdefault(home.label, []).append(edge)
 
     def moves_of(self, source: str, target: str) -> list[tuple[Value, Value]]:
         found: list[tuple[Value, Value]] = []

@@ -70,7 +70,7 @@ class Intrinsics(Operations):
         known = self.known.get(pointer.base)
         if known is not None and (pointer.offset is None or pointer.step % WORD == 0):
             return (known.place + pointer.constant) % WORD == 0
-        return any(word.startswith("align8") for word in argument.words)
+        return argument.align % WORD == 0
 
     def _memcpy(self, made: Instruction) -> None:
         self._mem(made, "memcpy")

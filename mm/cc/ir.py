@@ -3,7 +3,7 @@
 from __future__ import annotations
 
 from dataclasses import dataclass, field
-from typing import Any, Optional, Sequence
+from typing import Any, Callable, Optional, Sequence
 
 from mm.cc.untranslated import Untranslated
 
@@ -19,20 +19,30 @@ class Type:
 class IntType(Type):
     bits: int
 
+    def __str__(self) -> str:
+        return f"integer of {self.bits} bits"
+
 
 @dataclass(frozen=True)
 class PointerType(Type):
-    pass
+    def __str__(self) -> str:
+        return "pointer"
 
 
 @dataclass(frozen=True)
 class VoidType(Type):
     """No value, also that of labels, tokens and metadata."""
 
+    def __str__(self) -> str:
+        return "void"
+
 
 @dataclass(frozen=True)
 class FloatType(Type):
     name: str
+
+    def __str__(self) -> str:
+        return "floating point"
 
 
 @dataclass(frozen=True)
@@ -40,17 +50,26 @@ class ArrayType(Type):
     count: int
     element: Type
 
+    def __str__(self) -> str:
+        return f"array of {self.count}, each {self.element}"
+
 
 @dataclass(frozen=True)
 class VectorType(Type):
     count: int
     element: Type
 
+    def __str__(self) -> str:
+        return f"vector of {self.count}, each {self.element}"
+
 
 @dataclass(frozen=True)
 class StructType(Type):
     fields: tuple[Type, ...]
     packed: bool = False
+
+    def __str__(self) -> str:
+        return f"structure of {len(self.fields)} fields"
 
 
 @dataclass(frozen=True)
@@ -59,12 +78,18 @@ class NamedType(Type):
 
     name: str
 
+    def __str__(self) -> str:
+        return self.name.replace(".", " ", 1)
+
 
 @dataclass(frozen=True)
 class FunctionType(Type):
     result: Type
     parameters: tuple[Type, ...]
     variadic: bool
+
+    def __str__(self) -> str:
+        return "function"
 
 
 POINTER, VOID = PointerType(), VoidType()
@@ -142,7 +167,7 @@ class Layouts:
             return self.fields(type_)[index], type_.fields[index]
         if isinstance(type_, (ArrayType, VectorType)):
             return index * self.size(type_.element), type_.element
-        raise Untranslated(f"a part of {type_}")
+        raise Untranslated(f"a part of a value of the type `{type_}`")
 
 
 @dataclass(frozen=True)
@@ -224,6 +249,11 @@ class Argument:
     def type(self) -> Type:
         return self.value.type
 
+    @property
+    def align(self) -> int:
+        """What is said of its alignment: that of a pointer, or of what is handed over by value."""
+        return max((int(word[5:]) for word in self.words if word[:5] == "align" and word[5:].isdigit()), default=1)
+
 
 @dataclass
 class Instruction:
@@ -254,7 +284,8 @@ class Block:
 
 @dataclass
 class Function:
-    """A function; one without blocks is declared alone."""
+    """A function; one without blocks is declared alone. Its blocks are read when they are asked for: of the library few
+    are."""
 
     name: str
     result: Type
@@ -263,9 +294,19 @@ class Function:
     internal: bool = False
     weak: bool = False
     words: frozenset[str] = frozenset()
-    blocks: list[Block] = field(default_factory=list)
     debug: Optional[str] = None
-    alias: Optional[Value] = None
+    read: Optional[Callable[[], list[Block]]] = None
+    known: Optional[list[Block]] = None
+
+    @property
+    def blocks(self) -> list[Block]:
+        if self.known is None:
+            self.known = self.read() if self.read else []
+        return self.known
+
+    @property
+    def defined(self) -> bool:
+        return self.read is not None or bool(self.known)
 
 
 @dataclass
@@ -294,8 +335,10 @@ class Module:
     debug: dict[str, str] = field(default_factory=dict)
     # Functions and blocks whose address is taken.
     addressed: set[tuple[str, str]] = field(default_factory=set)
-    # What is wrong with functions that could not be read, by name.
+    # What is wrong with functions and globals that could not be read, by name.
     unread: dict[str, str] = field(default_factory=dict)
+    # Whether there is assembler text outside of functions.
+    assembler: bool = False
 
     def layouts(self) -> Layouts:
         return Layouts(self.types)

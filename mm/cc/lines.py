@@ -2,6 +2,7 @@
 
 from __future__ import annotations
 
+import os
 import re
 from typing import Callable, Optional
 
@@ -9,11 +10,11 @@ from mm.cc.code import Variable
 from mm.cc.ctypes import Types
 from mm.cc.ir import Module
 
-LOCATION = re.compile(r"!DILocation\(line: (\d+)(?:, column: \d+)?, scope: (!\d+)(?:, inlinedAt: (!\d+))?")
+LOCATION = re.compile(r"!DILocation\(line: (\d+)(?:, column: (\d+))?, scope: (!\d+)(?:, inlinedAt: (!\d+))?")
 SCOPE = re.compile(r"\bscope: (!\d+)")
 FILE = re.compile(r"\bfile: (!\d+)")
 NAME = re.compile(r'\bname: "([^"]*)"')
-FILE_NAME = re.compile(r'filename: "([^"]*)"')
+FILE_NAME = re.compile(r'filename: "([^"]*)"(?:, directory: "([^"]*)")?')
 LINE = re.compile(r"\bline: (\d+)")
 
 
@@ -21,7 +22,7 @@ class Lines:
     """The places in C of a module's debug locations."""
 
     def __init__(self, module: Module) -> None:
-        self.debug = module.debug
+        self.debug, self.name = module.debug, module.name
         self.files: dict[str, Optional[str]] = {}
         self.known: dict[str, Optional[str]] = {}
 
@@ -37,16 +38,38 @@ class Lines:
         match = LOCATION.search(self.debug.get(location, ""))
         if not match or match[1] == "0":
             return None
-        file = self.file_of(match[2])
+        file = self.file_of(match[3])
         return f"{file}:{match[1]}" if file else None
+
+    def position(self, location: Optional[str]) -> Optional[str]:
+        """`ov.c:7:12`, with the column, for messages."""
+        found, match = self.of(location), LOCATION.search(self.debug.get(location or "", ""))
+        return f"{found}:{match[2]}" if found and match and match[2] else found
+
+    def function_at(self, location: Optional[str]) -> Optional[str]:
+        """The name in C of the function that a location is in."""
+        match = LOCATION.search(self.debug.get(location or "", ""))
+        return self.name_of(self.function_of(match[3])) if match else None
 
     def file_of(self, scope: str) -> Optional[str]:
         if scope not in self.files:
             said = self.debug.get(scope, "")
             file, outer = FILE.search(said), SCOPE.search(said)
             name = FILE_NAME.search(self.debug.get(file[1], "")) if file else None
-            self.files[scope] = name[1] if name else self.file_of(outer[1]) if outer else None
+            further = self.file_of(outer[1]) if outer and not name else None
+            self.files[scope] = self.shown(name[1], name[2] or "") if name else further
         return self.files[scope]
+
+    def shown(self, name: str, folder: str) -> str:
+        """A file as it is named here: from where the module's own file was named, or from the current folder."""
+        full, own = os.path.normpath(os.path.join(folder, name)), os.path.dirname(self.name)
+        if not os.path.isabs(full):
+            return name
+        near = os.path.relpath(full, os.path.dirname(os.path.abspath(self.name)))
+        if not near.startswith(".."):
+            return os.path.join(own, near)
+        here = os.path.relpath(full)
+        return full if here.startswith("..") or os.path.isabs(self.name) else here
 
     def of_function(self, subprogram: Optional[str]) -> Optional[str]:
         """The line where a function begins."""
@@ -61,7 +84,7 @@ class Lines:
     def call_of(self, location: str) -> Optional[tuple[str, str]]:
         """The function that a location is in and the location of its call, if it was put into another one there."""
         match = LOCATION.search(self.debug.get(location, ""))
-        return (self.function_of(match[2]), match[3]) if match and match[3] else None
+        return (self.function_of(match[3]), match[4]) if match and match[4] else None
 
     def function_of(self, scope: str) -> str:
         """The function that a scope is in, by its number."""

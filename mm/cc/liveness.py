@@ -4,10 +4,19 @@ loops."""
 from __future__ import annotations
 
 from dataclasses import dataclass, field
+from typing import Iterator
 
 from mm.cc.code import Code, CodeBlock, Op
 
 Range = tuple[int, int]
+
+
+def _bits(number: int) -> Iterator[int]:
+    """The places of the bits that are set."""
+    while number:
+        low = number & -number
+        yield low.bit_length() - 1
+        number ^= low
 
 
 @dataclass
@@ -52,11 +61,10 @@ class Liveness:
         self.calls: list[int] = []
         self.intervals: dict[int, Interval] = {}
         self.moves: list[tuple[int, Op]] = []
-        after = self._after()
-        self._ranges(after)
+        self._ranges(*self._before_and_after())
 
-    def _after(self) -> list[int]:
-        """The registers that are live at the end of each block, as bits."""
+    def _before_and_after(self) -> tuple[list[int], list[int]]:
+        """The registers that are live at the beginning and at the end of each block, as bits."""
         blocks = self.code.blocks
         at = {block.label: number for number, block in enumerate(blocks)}
         used, made = self._used_and_made()
@@ -83,7 +91,7 @@ class Liveness:
                     if not waiting[lead]:
                         waiting[lead] = True
                         work.append(lead)
-        return after
+        return before, after
 
     def _used_and_made(self) -> tuple[list[int], list[int]]:
         """The registers that each block reads before it defines them, and those that it defines, as bits."""
@@ -103,21 +111,23 @@ class Liveness:
             made.append(defines)
         return used, made
 
-    def _ranges(self, after: list[int]) -> None:
-        """Goes through the code backwards."""
+    def _ranges(self, before: list[int], after: list[int]) -> None:
+        """Goes through the code backwards. What is live from one block into the next stays open between them, so each
+        block costs what it has and changes."""
         place = 2 * sum(len(block.body) for block in self.code.blocks)
         open_: dict[int, int] = {}
+        known = 0
         ranges: dict[int, list[Range]] = {}
         weights: dict[int, float] = {}
         uses: dict[int, int] = {}
         urgent: set[int] = set()
-        for block, live in zip(reversed(self.code.blocks), reversed(after)):
+        for block, begins, live in zip(reversed(self.code.blocks), reversed(before), reversed(after)):
             end = place
             worth = 10.0**block.depth
-            while live:
-                low = live & -live
-                open_[low.bit_length() - 1] = end
-                live ^= low
+            for register in _bits(known & ~live):
+                self._add(ranges.setdefault(register, []), end, open_.pop(register))
+            for register in _bits(live & ~known):
+                open_[register] = end
             for op in reversed(block.body):
                 place -= 2
                 self._operation(op, place, open_, ranges)
@@ -131,9 +141,9 @@ class Liveness:
                     urgent.add(register)
                 if op.name == "mov":
                     self.moves.append((block.depth, op))
-            for register, last in open_.items():
-                self._add(ranges.setdefault(register, []), place, last)
-            open_.clear()
+            known = begins
+        for register, last in open_.items():
+            self._add(ranges.setdefault(register, []), 0, last)
         for register, found in ranges.items():
             found.reverse()
             self.intervals[register] = Interval(register, found, weights.get(register, 0), uses.get(register, 0),

@@ -142,7 +142,7 @@ class Lowering:
                 raise Untranslated("floating point")
             have = self.numbers.get(value.name)
             if have is None:
-                raise Untranslated(f"a value of the type {value.type}")
+                raise Untranslated(f"a value of the type `{value.type}`")
             if form in have:
                 return have[form]
             return self.converted(have[RAW], bits, form)
@@ -152,7 +152,7 @@ class Lowering:
             return self.whole(self.pointer(value))
         if isinstance(value, FloatNumber):
             raise Untranslated("floating point")
-        raise Untranslated(f"the constant {value}")
+        raise Untranslated(f"a constant of the type `{value.type}`")
 
     def _number_of_expression(self, value: Expression, form: str) -> int:
         if isinstance(value.type, PointerType):
@@ -220,7 +220,7 @@ class Lowering:
             made = Instruction(value.op, value.type, name, list(value.parts), condition=value.condition)
             self.instruction(made)
             return self.pointer(Local(value.type, name))
-        raise Untranslated(f"the constant {value}")
+        raise Untranslated(f"a constant of the type `{value.type}`")
 
     def foreign_block(self, value: BlockAddress) -> str:
         raise Untranslated("a label of another function")
@@ -249,7 +249,7 @@ class Lowering:
                     constant += place
                     continue
                 if not isinstance(plain, (ArrayType, VectorType)):
-                    raise Untranslated(f"a part of {plain}")
+                    raise Untranslated(f"a part of a value of the type `{plain}`")
                 type_ = plain.element
             size = self.layouts.size(type_)
             if isinstance(index, (Number, Zero)):

@@ -6,10 +6,25 @@ from typing import Optional
 
 from mm.cc.code import Fixed, LocalObject, log_of, place_in
 from mm.cc.forms import RAW, SIGNED, ZEROED, bits_of
-from mm.cc.ir import FloatType, Instruction, IntType, Local, Number, Parts, PointerType, Text, Undefined, Value, Zero
+from mm.cc.ir import (
+    Expression,
+    FloatType,
+    Instruction,
+    IntType,
+    Local,
+    Number,
+    Parts,
+    PointerType,
+    Text,
+    Undefined,
+    Value,
+    Zero,
+)
 from mm.cc.pointers import Known, Pointer
 from mm.cc.untranslated import Untranslated
 from mm.cc.wide import Vectors
+
+WORD = 8
 
 
 class Objects(Vectors):
@@ -25,6 +40,11 @@ class Objects(Vectors):
             return list(value.parts)
         if isinstance(value, Number):
             return [Number(IntType(64), value.number), Number(IntType(bits_of(value.type) - 64), value.number >> 64)]
+        if isinstance(value, Expression):
+            name = f"?{len(self.groups)}g"
+            self.instruction(Instruction(value.op, value.type, name, list(value.parts), source=value.source,
+                                         condition=value.condition))
+            return self.groups[name]
         kinds = [part for _, part in self.parts(value.type)]
         if isinstance(value, Text):
             return [Number(kind, byte) for kind, byte in zip(kinds, value.data)]
@@ -32,7 +52,7 @@ class Objects(Vectors):
             return [Number(kind, 0) if isinstance(kind, IntType) else Zero(kind) for kind in kinds]
         if isinstance(value, Undefined):
             return [Undefined(kind) for kind in kinds]
-        raise Untranslated(f"the constant {value}")
+        raise Untranslated(f"a constant of the type `{value.type}`")
 
     def extract(self, made: Instruction) -> None:
         value: Value = made.operands[0]
@@ -146,6 +166,9 @@ class Objects(Vectors):
         self.code.dynamic = True
         count = self.number(made.operands[0], ZEROED)
         total = self.scaled(count, size) if size else self.constant(0)
+        if made.align > WORD:
+            # It ends at the end of its segment, so it begins at a multiple of what its size is a multiple of.
+            total = self.op("and", self.plus(total, made.align - 1), self.constant(-made.align))
         log = self.runtime("__mm_log_of", [total], True)
         d = self.code.new()
         self.emit("dynamic", d, log, total, late=(log, total), temporary=(self.code.new(), self.code.new()))

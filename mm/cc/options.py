@@ -26,6 +26,8 @@ class Options:
     # Whether an object stands at the end of its segment, so that the first byte after it is outside.
     at_end: bool = True
     lines: bool = True
+    # Whether the code compares itself with a second reckoning of each value, and stops where they differ.
+    checked: bool = False
 
 
 def _number(said: Words, option: Option, low: int, high: int, default: int) -> int:

@@ -3,6 +3,7 @@
 from __future__ import annotations
 
 import re
+from functools import partial
 
 from mm.cc.instructions import InstructionReader
 from mm.cc.ir import Argument, Block, Function, GlobalObject, Instruction, Local, Module, Zero
@@ -11,6 +12,7 @@ from mm.cc.untranslated import Untranslated
 
 DEFINE = re.compile(r"(define|declare)\b")
 GLOBAL = re.compile(r'(@(?:[-\w.$]+|"[^"]*")) = (.*)')
+DEBUG = re.compile(r"!dbg (!\d+)")
 LABEL = re.compile(r'^([-\w.$]+|"[^"]*"):')
 
 
@@ -40,8 +42,8 @@ class ModuleReader:
             elif line[0] == "!":
                 number, _, rest = line.partition(" = ")
                 self.module.debug[number] = rest
-            elif line.startswith("module asm"):
-                self.module.unread[""] = "assembler text outside of functions"
+            elif line.startswith("module asm") and line != 'module asm ""':
+                self.module.assembler = True
         return self.module
 
     def _named_type(self, line: str) -> None:
@@ -121,14 +123,16 @@ class ModuleReader:
             self.module.unread[name[1] if name else "?"] = str(reason)
             function = None
         body = self._body_lines()
-        if function is None:
-            return
-        self.module.functions[function.name] = function
-        try:
-            self._blocks(function, body)
-        except Untranslated as reason:
-            self.module.unread[function.name] = str(reason)
-            function.blocks = [Block("entry", [Instruction("unreachable")])]
+        if function is not None:
+            function.read = partial(self._read, function, body)
+            self.module.functions[function.name] = function
+
+    def _read(self, function: Function, body: list[str]) -> list[Block]:
+        """The blocks of a function, and in the module the blocks whose address is taken in it."""
+        ADDRESSED.clear()
+        blocks = self._blocks(function, body)
+        self.module.addressed |= ADDRESSED
+        return blocks
 
     def _body_lines(self) -> list[str]:
         first = self.at
@@ -137,11 +141,11 @@ class ModuleReader:
         self.at += 1
         return self.lines[first : self.at - 1]
 
-    def _blocks(self, function: Function, body: list[str]) -> None:
+    def _blocks(self, function: Function, body: list[str]) -> list[Block]:
         unnamed = sum(1 for parameter in function.parameters if isinstance(parameter.value, Local)
                       and parameter.value.name.isdigit())
         block = Block(str(unnamed))
-        function.blocks.append(block)
+        blocks = [block]
         at = 0
         while at < len(body):
             line = body[at]
@@ -152,14 +156,15 @@ class ModuleReader:
                 label = LABEL.match(line)
                 if label:
                     name = label[1].strip('"')
-                    if block.body or len(function.blocks) > 1:
+                    if block.body or len(blocks) > 1:
                         block = Block(name)
-                        function.blocks.append(block)
+                        blocks.append(block)
                     else:
                         block.name = name
                 continue
-            if line.startswith("  switch ") and "]" not in line:
-                while "]" not in line:
+            if line.startswith("  switch ") and line.rstrip().endswith("["):
+                # Its cases stand in lines of their own, up to the bracket.
+                while not line.rpartition(" ")[2].startswith("]") and " ], " not in line:
                     line += " " + body[at].strip()
                     at += 1
             if line.startswith("    #dbg_") or "@llvm.dbg." in line:
@@ -167,7 +172,17 @@ class ModuleReader:
                 continue
             if ";" in line and '"' not in line:
                 line = line[: line.index(";")]
-            block.body.append(InstructionReader(line).instruction())
+            block.body.append(_instruction(line))
+        return blocks
+
+
+def _instruction(line: str) -> Instruction:
+    try:
+        return InstructionReader(line).instruction()
+    except Untranslated as reason:
+        debug = DEBUG.search(line)
+        reason.debug = debug[1] if debug else None
+        raise
 
 
 def read_module(text: str, name: str) -> Module:

@@ -3,16 +3,18 @@
 from __future__ import annotations
 
 import re
-from dataclasses import dataclass
-from typing import Optional
+from typing import Iterator, Optional
 
-from mm.cc.code import Variable, log_of, place_in
+from mm.cc.calls import strip_casts
+from mm.cc.checked import Checked
+from mm.cc.code import Code, log_of, place_in
 from mm.cc.control import Translator
 from mm.cc.ctypes import Types
-from mm.cc.data import Constants, Place, Words
-from mm.cc.ir import ArrayType, BlockAddress, Function, Global, GlobalObject, IntType, Module, Value
-from mm.cc.lines import FunctionNotes, Lines
-from mm.cc.lowering import Names
+from mm.cc.data import Place, Words
+from mm.cc.failures import INSTEAD, INSTEAD_OF, Failure, Failures
+from mm.cc.ir import ArrayType, BlockAddress, Function, Global, GlobalObject, IntType, Module, Number, Parts
+from mm.cc.lines import FunctionNotes
+from mm.cc.modulenames import ASSEMBLER, DOOR, EMPTY, SHARED, ModuleNames, Segment
 from mm.cc.options import Options
 from mm.cc.pointers import Known
 from mm.cc.sequences import emit
@@ -20,114 +22,12 @@ from mm.cc.text import Line, TextBlock
 from mm.cc.untranslated import Untranslated
 
 MOST_NAME = 31
-# What the header mm.h makes of the names of doors, and of words that several programs share.
-DOOR, SHARED, EMPTY = "mm_door_", "mm_shared_", "mm_empty_"
 HEAP = "__mm_heap"
 MOST_LOG = 20
 RESERVED = re.compile(r"r\d+|L\d+|P_.*|none|int|ptr|start|stack|text|heap")
 # A door's segment: where it is entered, and its length.
 DOOR_ENTRY, DOOR_LOG = 16, 9
 MAINS = ("main", "__main_argc_argv", "__main_void", "__original_main")
-# Functions that are written in the machine's own operations.
-ASSEMBLER = {
-    "setjmp": ["st r0, r7, 0, any, keep", "st r0, r8, 8, any, keep", "st r0, r9, 16, any, keep",
-               "st r0, r10, 24, any, keep", "st r0, r11, 32, any, keep", "st r0, r14, 40, any, keep",
-               "st r0, r15, 48, any, keep", "ldi r0, 0", "jmp r14"],
-    "longjmp": ["ld r7, r0, 0, any, keep", "ld r8, r0, 8, any, keep", "ld r9, r0, 16, any, keep",
-                "ld r10, r0, 24, any, keep", "ld r11, r0, 32, any, keep", "ld r14, r0, 40, any, keep",
-                "ld r15, r0, 48, any, keep", "mov r0, r1", "bnz r0, 2", "ldi r0, 1", "jmp r14"],
-}
-# An event of a slot that this one handles goes to four words.
-ASSEMBLER["__mm_event"] = ["mov r12, r0", "evt r0", "st r12, r0, 0, any, keep", "st r12, r1, 8, any, keep",
-                           "st r12, r2, 16, any, keep", "st r12, r3, 24, any, keep", "jmp r14"]
-ASSEMBLER["_setjmp"] = ASSEMBLER["setjmp"]
-ASSEMBLER["_longjmp"] = ASSEMBLER["longjmp"]
-
-
-@dataclass
-class Failure(Exception):
-    """What could not be translated, and where."""
-
-    where: str
-    why: str
-
-    def __str__(self) -> str:
-        return f"{self.where}: {self.why} is left out"
-
-
-class Undefined_(Exception):
-    """A name that no file and no part of the library defines."""
-
-
-@dataclass
-class Segment:
-    """A global: its segment's name and length, its place there, and whether it may be written."""
-
-    name: str
-    module: Module
-    made: GlobalObject
-    size: int
-    known: Known
-    writable: bool
-    words: Optional[Words] = None
-
-
-class ModuleNames(Names):
-    """The names of a program as one of its modules knows them."""
-
-    def __init__(self, program: Program, module: Module) -> None:
-        self.program, self.module = program, module
-        self.layouts = module.layouts()
-        self.constants = Constants(self.layouts, self.resolve)
-        self.lines = Lines(module)
-        self.declared: dict[str, Variable] = {}
-
-    def fresh(self) -> str:
-        return self.program.fresh()
-
-    def label(self, name: str) -> str:
-        return self.program.want_function(self.module, name)
-
-    def is_function(self, name: str) -> bool:
-        module = self.program.home(self.module, name)
-        if module is None and name.startswith(DOOR):
-            return False
-        if module is not None:
-            return name in module.functions
-        return name in ASSEMBLER or name in self.module.functions
-
-    def function(self, name: str) -> Optional[Function]:
-        module = self.program.home(self.module, name) or self.module
-        return module.functions.get(name)
-
-    def segment(self, name: str) -> tuple[str, Known]:
-        found = self.program.want_global(self.module, name)
-        return found.name, found.known
-
-    def known_segment(self, name: str) -> Optional[str]:
-        """The segment of a global that is part of the program already."""
-        found = self.program.segments.get((id(self.program.home(self.module, name)), name))
-        return found.name if found else None
-
-    def resolve(self, value: Value) -> Value:
-        while isinstance(value, Global):
-            module = self.program.home(self.module, value.name) or self.module
-            if value.name not in module.aliases:
-                break
-            value = module.aliases[value.name]
-        return value
-
-    def declare(self, name: str, variable: Variable) -> None:
-        self.declared.setdefault(name, variable)
-
-    def told(self, made: GlobalObject) -> tuple[str, int]:
-        """The name of a global in C, and the number of its type."""
-        debug, types = self.module.debug, self.program.types
-        if made.name in self.declared:
-            node = self.declared[made.name].node
-            return self.lines.name_of(node), types.of_variable(node, debug)
-        name, type_ = types.of_global(made.debug, debug)
-        return name or made.name.rpartition(".")[2], type_
 
 
 class Program:
@@ -135,6 +35,7 @@ class Program:
 
     def __init__(self, modules: list[Module], options: Options) -> None:
         self.modules, self.at_end, self.heap = modules, options.at_end, options.heap
+        self.checked = options.checked
         self.prefix = options.prefix + "_" if options.prefix else ""
         self.names = {id(module): ModuleNames(self, module) for module in modules}
         self.public: dict[str, Module] = {}
@@ -146,7 +47,9 @@ class Program:
         self.blocks: dict[tuple[int, str, str], str] = {}
         self.pool: dict[str, str] = {}
         self.counter = 0
-        self.undefined: list[str] = []
+        self.undefined: dict[str, Failure] = {}
+        # What is being translated, for what is found wrong there.
+        self.current: Optional[tuple[ModuleNames, Translator]] = None
         self.types = Types()
         # Doors and shared words of other programs, by their names here.
         self.foreign: set[str] = set()
@@ -155,7 +58,7 @@ class Program:
 
     def _publish(self, module: Module) -> None:
         for name, function in module.functions.items():
-            if function.blocks and not function.internal and "available_externally" not in function.words:
+            if function.defined and not function.internal and "available_externally" not in function.words:
                 self._offer(name, module, function.weak)
         for name, made in module.globals.items():
             if made.value is not None and not made.internal:
@@ -175,7 +78,7 @@ class Program:
     def home(self, module: Module, name: str) -> Optional[Module]:
         """The module that defines what a module calls by a name."""
         function, made = module.functions.get(name), module.globals.get(name)
-        if function is not None and function.blocks and function.internal or made is not None and made.internal:
+        if function is not None and function.defined and function.internal or made is not None and made.internal:
             return module
         return self.public.get(name)
 
@@ -201,8 +104,7 @@ class Program:
         home = self.home(module, name)
         if home is None or name not in home.functions:
             if name not in ASSEMBLER:
-                if name not in self.undefined:
-                    self.undefined.append(name)
+                self._undefined(name)
             home = None
         key = (id(home), name)
         found = self.labels.get(key)
@@ -223,11 +125,10 @@ class Program:
         if name == HEAP:
             return self._heap(module)
         if home is None or name not in home.globals:
-            if name not in self.undefined:
-                self.undefined.append(name)
+            self._undefined(name)
             home = module
             if name not in home.globals:
-                raise Failure(module.name, f"`{name}`, which nothing defines,")
+                raise self.undefined[name]
         key = (id(home), name)
         found = self.segments.get(key)
         if found is None:
@@ -277,6 +178,9 @@ class Program:
 
     def translate(self) -> None:
         """Translates everything that is wanted, until nothing new is."""
+        for module in self.modules:
+            if module.assembler:
+                raise Failure(module.name, "assembler text outside of functions", None, INSTEAD_OF["assembler text"])
         done_data: set[tuple[int, str]] = set()
         while self.work or len(done_data) < len(self.segments):
             while self.work:
@@ -286,19 +190,64 @@ class Program:
                     done_data.add(key)
                     self._data(segment)
         if self.undefined:
-            raise Failure("the program", f"`{self.undefined[0]}`, which nothing defines,")
+            raise Failures(list(self.undefined.values()))
+
+    def _undefined(self, name: str) -> None:
+        """Notes a name that nothing defines, and where it is used first."""
+        if name in self.undefined:
+            return
+        where, place = "the program", None
+        if self.current is not None:
+            names, translator = self.current
+            where, place = self._where(names, translator.function, translator.line)
+        self.undefined[name] = Failure(where, f"`{name}`, which nothing defines,", place, INSTEAD.get(name, ""))
+
+    def _where(self, names: ModuleNames, function: Function, location: Optional[str]) -> tuple[str, Optional[str]]:
+        """The file and the function of a place in C, and the place; without a location, where the function begins."""
+        lines = names.lines
+        inner = lines.function_at(location) or lines.name_of(function.debug or "")
+        place = lines.position(location) or lines.of_function(function.debug)
+        name = inner if inner != "?" else "main" if function.name in MAINS else function.name
+        return f"{names.module.name}: {name}", place
+
+    def _translated(self, module: Module, name: str) -> tuple[Translator, Code]:
+        """The code of a function; a failure if something in it has no translation."""
+        names = self.names[id(module)]
+        if name in module.unread:
+            raise Failure(f"{module.name}: {name}", module.unread[name])
+        function, translator = module.functions[name], None
+        try:
+            translator = (Checked if self.checked else Translator)(function, names.layouts, names, self.at_end)
+            self.current = names, translator
+            return translator, translator.translate()
+        except Untranslated as reason:
+            location = reason.debug or (translator.line if translator else None)
+            raise Failure(*self._failed(names, function, location, str(reason))) from None
+        finally:
+            self.current = None
+
+    def _failed(self, names: ModuleNames, function: Function, location: Optional[str],
+                why: str) -> tuple[str, str, Optional[str], str]:
+        where, place = self._where(names, function, location)
+        return where, why, place, next((said for part, said in INSTEAD_OF.items() if part in why), "")
+
+    def notes(self) -> Iterator[str]:
+        """What could not be translated of functions that nothing calls: these are left out, and said so. It is asked
+        for at the end, since it finds more names."""
+        for module in self.modules[:-1]:
+            for name, function in list(module.functions.items()):
+                known = (id(module), name) in self.labels or "available_externally" in function.words
+                if known or not function.defined:
+                    continue
+                try:
+                    self._translated(module, name)
+                except Failure as failure:
+                    said = str(failure).splitlines()[0].replace(": error: ", ": note: ", 1)
+                    yield f"{said}, which nothing calls"
 
     def _function(self, module: Module, name: str) -> None:
-        where = f"{module.name}: {name}"
-        if name in module.unread:
-            raise Failure(where, module.unread[name])
-        names = self.names[id(module)]
-        function = module.functions[name]
-        try:
-            translator = Translator(function, names.layouts, names, self.at_end)
-            code = translator.translate()
-        except Untranslated as reason:
-            raise Failure(where, str(reason)) from None
+        names, function = self.names[id(module)], module.functions[name]
+        translator, code = self._translated(module, name)
         addressed = []
         for block_name, label in translator.labels.items():
             if (name, block_name) in module.addressed:
@@ -314,13 +263,14 @@ class Program:
 
     @staticmethod
     def _note(blocks: list[TextBlock], function: Function, notes: FunctionNotes) -> None:
-        """Says where a function begins; nothing of a function whose lines are not known."""
+        """Says where a function begins; of one whose lines are not known, only how its frame is."""
         begins = notes.lines.of_function(function.debug)
         if begins:
             head = f"function {notes.lines.name_of(function.debug or '')} at {begins}"
             blocks[0].notes = [head, *notes.inlined, *blocks[0].notes]
         else:
-            blocks[0].notes.clear()
+            # A function of the library has no lines, but the way back from it leads to one.
+            blocks[0].notes = [note for note in blocks[0].notes if note.startswith("frame ")]
 
     # Data
 
@@ -344,6 +294,19 @@ class Program:
                 names.label(target.name)
             else:
                 names.segment(target.name)
+
+    def around_main(self, table: str) -> list[str]:
+        """The labels of the functions that are to be carried out before `main`, or after it, in the order of their
+        priorities."""
+        found: list[tuple[int, Module, str]] = []
+        for module in self.modules:
+            made = module.globals.get(table)
+            for entry in made.value.parts if made is not None and isinstance(made.value, Parts) else ():
+                assert isinstance(entry, Parts)
+                priority, function = entry.parts[0], strip_casts(entry.parts[1])
+                if isinstance(priority, Number) and isinstance(function, Global):
+                    found.append((priority.number, module, function.name))
+        return [self.want_function(module, name) for _, module, name in sorted(found, key=lambda entry: entry[0])]
 
     def pointer_text(self, module: Module, place: Place) -> tuple[str, Optional[int]]:
         """How a constant pointer is written; and where it is not in its segment, how far beside its beginning it

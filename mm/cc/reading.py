@@ -181,10 +181,11 @@ class Reader:
         by_value = None
         while self.token[:1].isalpha() and self.token not in CONSTANTS and not self.token.startswith('c"'):
             word = self.next()
-            found.add(word)
             if word == "align" and self.token.isdigit():
-                self.next()
-            elif self.token == "(":
+                found.add(word + self.next())
+                continue
+            found.add(word)
+            if self.token == "(":
                 if word in ("byval", "sret", "byref", "inalloca", "preallocated", "elementtype"):
                     self.next()
                     inner = self.type()

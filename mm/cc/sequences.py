@@ -11,6 +11,10 @@ from mm.cc.text import TextBlock, tidy
 from mm.cc.variables import Naming
 
 
+# The number of the trap of code that is checked.
+CHECKED = 7
+
+
 class Sequences(Calling):
     """Writes branches, and what the machine has no single operation for."""
 
@@ -38,6 +42,16 @@ class Sequences(Calling):
         self.mark(label)
         for target in op.extra:  # type: ignore[attr-defined]
             self.put("br:row", target=target)
+
+    def _check(self, op: Op) -> None:
+        """Stops where two registers differ."""
+        assert op.a is not None and op.b is not None
+        a, b = self.get(op.a, SCRATCH), self.get(op.b, SECOND)
+        label = self.here()
+        self.reg("eq", SCRATCH, a, b)
+        self.put("bnz", f"r{SCRATCH}", target=label)
+        self.put("trap", CHECKED)
+        self.mark(label)
 
     def _select(self, op: Op) -> None:
         assert op.a is not None and op.b is not None

@@ -11,6 +11,8 @@ from mm.cc.program import EMPTY, MAINS, Failure, Program, Segment
 from mm.cc.text import TextBlock
 
 STACK_ROOM = 64
+MOST_SEGMENTS, MOST_BYTES = 256, 1 << 20
+CONSTRUCTORS, DESTRUCTORS, AT_EXIT = "llvm.global_ctors", "llvm.global_dtors", "atexit"
 # What begins a comment that `mm` reads again.
 MARK = ";@"
 
@@ -31,16 +33,22 @@ class SourceWriter:
         if main is None and not doors:
             raise Failure("the program", "a program without `main` and without a door")
         label = program.want_function(program.public[main], main) if main else None
+        before, after = program.around_main(CONSTRUCTORS), program.around_main(DESTRUCTORS)
+        if main is None and (before or after):
+            raise Failure("the program", "a constructor or a destructor in a program without `main`")
+        at_exit = program.want_function(program.modules[-1], AT_EXIT) if after else None
         entered = []
         for module, function in doors:
             check(module, function)
             entered.append((function, program.want_function(module, function.name)))
         program.translate()
+        leave = self.leaving()
         data = [self.segment(segment) for segment in program.segments.values() if segment.name not in program.foreign]
         body: list[str] = []
         for text in program.texts:
             body += self.text(text)
-        first = self.start(label)
+        calls = [(label, None) for label in before] + [(at_exit, label) for label in after]
+        first = self.start(label, calls, leave)
         pool = [f"{name}: .ptr {target}" for target, name in self.pool.items()]
         lines = [f".segment {program.prefix}text {self.log_of_text(first + body, pool)}", *first, *body, *pool]
         lines += [line for part in data for line in part]
@@ -48,6 +56,7 @@ class SourceWriter:
         if label is not None:
             lines += self.thread()
         lines += [f"{MARK} {note}" for note in program.types.notes()]
+        self.refuse_too_many(lines)
         return "\n".join(lines) + "\n"
 
     @staticmethod
@@ -78,8 +87,31 @@ class SourceWriter:
             f".reg 15 ptr rw {prefix}stack+{(1 << log) - STACK_ROOM}",
         ]
 
-    def start(self, main: Optional[str]) -> list[str]:
-        """What is done before `main`: pointers that stand beside their segments, which no source can name."""
+    def leaving(self) -> Optional[str]:
+        """The label of `exit`, where something is to be done after `main`."""
+        program = self.program
+        library = program.modules[-1]
+        if (id(program.home(library, AT_EXIT)), AT_EXIT) not in program.labels:
+            return None
+        found = program.want_function(library, "exit")
+        program.translate()
+        return found
+
+    def refuse_too_many(self, lines: list[str]) -> None:
+        """Tells in the words of C what the assembler refuses."""
+        logs = [int(line.split()[2]) for line in lines if line.startswith(".segment ")]
+        if len(logs) > MOST_SEGMENTS:
+            raise Failure("the program", f"more than {MOST_SEGMENTS} segments: it has {len(logs)}, one for each global "
+                          "and each string constant,", None, "put several globals into one structure")
+        total = sum(1 << log for log in logs)
+        if total > MOST_BYTES:
+            raise Failure("the program", f"{total:,} bytes of segments, more than {MOST_BYTES:,},", None,
+                          "`--stack` and `--heap` set the two that are the program's own, `-Os` makes less code")
+
+    def start(self, main: Optional[str], calls: list[tuple[Optional[str], Optional[str]]],
+              leave: Optional[str]) -> list[str]:
+        """What is done before `main`: pointers that stand beside their segments, which no source can name; and calls of
+        constructors, and of `atexit` with each destructor. After `main` the thread halts, or leaves by `exit`."""
         if main is None:
             if self.late:
                 raise Failure("the program", "a pointer past an object in a constant, in a program without `main`,")
@@ -89,7 +121,11 @@ class SourceWriter:
             lines += [f"  lip r0, {self.pooled(target)}", "  ld r0, r0, 0, any, keep"]
             lines += [f"  addi r0, r0, {by}"]
             lines += [f"  lip r1, {self.pooled(place)}", "  ld r1, r1, 0, any, keep", "  st r1, r0, 0, any, keep"]
-        return lines + ["  ldi r0, 1", "  ldi r1, 0", "  lip r14, 2", f"  br {main}", "  halt"]
+        for function, argument in calls:
+            lines += [f"  lip r0, {argument}"] if argument else []
+            lines += ["  lip r14, 2", f"  br {function}"]
+        end = f"  br {leave}" if leave else "  halt"
+        return lines + ["  ldi r0, 1", "  ldi r1, 0", "  lip r14, 2", f"  br {main}", end]
 
     def pooled(self, target: str) -> str:
         found = self.pool.get(target)

@@ -3,5 +3,10 @@
 from __future__ import annotations
 
 
+from typing import Optional
+
+
 class Untranslated(Exception):
-    """Something of C, or of LLVM's text, that is left out. The text says what it is."""
+    """Something of C, or of LLVM's text, that is left out. The text says what it is; the debug location where."""
+
+    debug: Optional[str] = None

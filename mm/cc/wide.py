@@ -96,6 +96,38 @@ class Wide(Counting):
         self.runtime("__mm_wide_" + made.op, [self.whole(result), *words])
         self.give_pair(made.name, made.type, self.load_word(result), self.load_word(self.further(result, 8)))
 
+    def wide_overflow(self, made: Instruction, op: str, is_signed: bool) -> int:
+        """A sum, a difference or a product of 65 to 128 bits, and 1 where it leaves its range: its bits above do not
+        say the same as its sign, or it does not even fit 128 bits."""
+        type_ = self.value_of(made, 0).type
+        bits = bits_of(type_)
+        if not is_wide(type_):
+            raise Untranslated(self.left_out(type_))
+        form = SIGNED if is_signed else ZEROED
+        (a, b), (c, d) = self.pair(self.value_of(made, 0), form), self.pair(self.value_of(made, 1), form)
+        if op == "mul":
+            name = "__mm_signed_wide_product_overflows" if is_signed else "__mm_wide_product_overflows"
+            over = self.runtime(name, [a, b, c, d], True)
+            low = self.op("mul", a, c)
+            cross = self.op("add", self.op("mul", a, d), self.op("mul", b, c))
+            high = self.op("add", self.runtime("__mm_product_high", [a, c], True), cross)
+        else:
+            low = self.op(op, a, c)
+            carry = self.op("ltu", low, a) if op == "add" else self.op("ltu", a, c)
+            part = self.op(op, b, d)
+            high = self.op(op, part, carry)
+            if is_signed:
+                other = self.op("xor", high, d) if op == "add" else self.op("xor", b, d)
+                over = self.op("shr", self.op("and", self.op("xor", high, b), other), self.constant(63))
+            else:
+                first = self.op("ltu", part, b) if op == "add" else self.op("ltu", b, d)
+                second = self.op("ltu", high, part) if op == "add" else self.op("ltu", part, carry)
+                over = self.op("or", first, second)
+        self.give_pair(f"{made.name}?0", type_, low, high)
+        if bits < 128:
+            over = self.op("or", over, self.differs(self.converted(high, bits - 64, form), high))
+        return over
+
     def wide_width(self, made: Instruction) -> None:
         operand = made.operands[0]
         form = {"zext": ZEROED, "sext": SIGNED}.get(made.op, RAW)

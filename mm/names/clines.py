@@ -20,6 +20,9 @@ FUNCTION = re.compile(r"function (\S+) at (.*):(\d+)")
 INLINED = re.compile(r"inlined (\d+) (\S+) at (.*):(\d+)(?: in (\d+))?")
 VARIABLE = re.compile(r"var (\S+) (\d+) (\S+)(?: in (\d+))?")
 NOWHERE = "-"
+# What gives a function a stack pointer of its own, and what leaves it.
+MOVES = re.compile(r"leai r15, r15, -\d+|mov r15, r12")
+RETURN = "jmp r14"
 # What is carried out before `main`.
 START = "start"
 MOST_FRAMES = 100
@@ -96,6 +99,24 @@ class CFunction:
     objects: list[CObject] = field(default_factory=list)
     inlined: dict[int, CInlined] = field(default_factory=dict)
     variables: list[tuple[int, CVariable]] = field(default_factory=list)
+    # Lines of the source: that after which the stack pointer is the function's own, and that after which its frame
+    # keeps the way back.
+    moved: Optional[int] = None
+    kept: Optional[int] = None
+
+    def enters(self, number: int, said: str) -> None:
+        """Looks for what makes the frame, in a line of the source."""
+        if self.moved is None and MOVES.fullmatch(said):
+            self.moved = number
+        if self.kept is None and self.back is not None and said == f"st r15, r14, {self.back}, any, keep":
+            self.kept = number
+
+    def has_moved(self, number: int) -> bool:
+        """Whether the stack pointer is the function's own at a line of the source."""
+        return self.moved is not None and number > self.moved
+
+    def has_kept(self, number: int) -> bool:
+        return self.kept is not None and number > self.kept
 
     def inner_name(self, inner: int) -> str:
         found = self.inlined.get(inner)
@@ -123,6 +144,8 @@ class CNotes:
         self.functions: list[CFunction] = []
         self.globals: dict[str, CObject] = {}
         self.types = CTypes()
+        # The lines that leave a function: its frame is gone there.
+        self.returns: set[int] = set()
         segment = ""
         for number, said in enumerate(lines, 1):
             label = LABEL.match(said)
@@ -135,6 +158,10 @@ class CNotes:
                 self.functions.append(CFunction(label[1], label[1]))
             elif MARK in said:
                 self._note(said.partition(MARK)[2].strip(), number, segment)
+            elif self.functions:
+                self.functions[-1].enters(number, said.strip())
+                if said.strip() == RETURN:
+                    self.returns.add(number)
 
     def __bool__(self) -> bool:
         return bool(self.globals) or any(line is not None for line in self.lines)
@@ -201,6 +228,23 @@ def _object(made: re.Match[str]) -> CObject:
     return CObject(made[1], int(made[2]), int(made[3]), int(made[4] or 0), int(made[5] or 0), int(made[6] or 0))
 
 
+def place_in(made: CObject, offset: int, types: Optional[CTypes]) -> str:
+    """The place of a byte in an object, or beside it: `name[8] of 8 bytes` for bytes, `table[4] of int[4], 16 bytes`
+    for other elements, and `byte 20 of record, 16 bytes`."""
+    found = types.get(made.type) if types else None
+    if found is None or found.kind == "array" and types and types.size(found.inner) == 1:
+        return f"{made.name}[{offset}] of {made.size} bytes"
+    assert types is not None
+    path, type_, left = "", made.type, offset
+    while found is not None and found.kind == "array" and types.size(found.inner):
+        index, left = divmod(left, types.size(found.inner))
+        path, type_ = f"{path}[{index}]", found.inner
+        found = types.get(type_)
+    if not path or left:
+        return f"byte {offset} of {made.name}, {made.size} bytes"
+    return f"{made.name}{path} of {types.title(made.type)}, {made.size} bytes"
+
+
 @dataclass(frozen=True)
 class CFrame:
     """A function that is being carried out: where it stands, its stack pointer, and what is known of it."""
@@ -237,19 +281,29 @@ Place = Callable[[int], Optional[tuple[CNotes, int]]]
 Word = Callable[[int], Optional[int]]
 
 
-def frames(address: int, stack: int, place: Place, word: Word) -> Iterator[CFrame]:
+def frames(address: int, stack: int, place: Place, word: Word, link: Optional[int] = None) -> Iterator[CFrame]:
     """The functions that are being carried out, the innermost first. `place` gives the line of the source, `word` the
-    address in a word of memory."""
-    for _ in range(MOST_FRAMES):
+    address in a word of memory. `link` is the address in the register of the way back, which the innermost function may
+    not have kept: one that calls none keeps it there, and another one while it makes its frame."""
+    for depth in range(MOST_FRAMES):
         found = place(address)
         known = found[0].function_at(found[1]) if found else None
         if known is None or found is None:
             return
-        yield CFrame(address, stack, known, found[0].line_at(found[1]), *found)
-        kind, by = known.caller
-        back = word(stack + known.back) if known.back is not None else None
-        caller = stack + by if kind == "by" else word(stack + by)
-        if back is None or caller is None:
+        notes, number = found
+        yield CFrame(address, stack, known, notes.line_at(number), *found)
+        back, caller = _caller(known, stack, word, number, None if depth else link, number in notes.returns)
+        if back is None or caller is None or known.label == START:
             return
         # The way back stands after the call.
         address, stack = back - 8, caller
+
+
+def _caller(known: CFunction, stack: int, word: Word, number: int, link: Optional[int],
+            leaves: bool) -> tuple[Optional[int], Optional[int]]:
+    """The way back from a function, and its caller's stack pointer."""
+    kind, by = known.caller
+    moved = link is None or not leaves and (known.has_moved(number) or kind == "by" and not by)
+    caller = stack if not moved else stack + by if kind == "by" else word(stack + by)
+    kept = link is None or known.back is not None and known.has_kept(number) and not leaves
+    return (word(stack + known.back) if known.back is not None else None) if kept else link, caller

@@ -132,6 +132,25 @@ end:
 )
 
 
+# LLVM's text with its lines.
+MODULE = """define i32 @main(i32 %n) !dbg !4 {
+  %a = mul i32 %n, %n, !dbg !9
+  @SAID@
+  %b = mul i32 %a, %n, !dbg !10
+  %c = add i32 %b, %a, !dbg !10
+  ret i32 %c, !dbg !11
+}
+!1 = !DIFile(filename: "a.c")
+!3 = !DIBasicType(name: "unsigned int", size: 32, encoding: DW_ATE_unsigned)
+!4 = distinct !DISubprogram(name: "main", scope: !1, file: !1, line: 3, unit: !2)
+!7 = distinct !DILexicalBlock(scope: !4, file: !1, line: 3, column: 1)
+!8 = !DILocalVariable(name: "square", scope: !7, file: !1, line: 4, type: !3)
+!9 = !DILocation(line: 4, column: 2, scope: !7)
+!10 = !DILocation(line: 5, column: 2, scope: !7)
+!11 = !DILocation(line: 6, column: 2, scope: !7)
+"""
+
+
 def source(text: str, **options: object) -> str:
     return write_source(Program([read_module(text, "test")], Options(**options)), Options(**options))
 
@@ -200,6 +219,29 @@ class Told(unittest.TestCase):
             source("define i32 @main() {\n  %x = fadd double 1.0, 2.0\n  %y = fptosi double %x to i32\n  ret i32 %y\n}")
         with self.assertRaisesRegex(Failure, "`missing`, which nothing defines"):
             source("declare i32 @missing()\ndefine i32 @main() {\n  %x = call i32 @missing()\n  ret i32 %x\n}")
+
+    def test_assembler_text_outside_of_functions(self):
+        with self.assertRaisesRegex(Failure, "assembler text outside of functions is left out"):
+            source('module asm ".globl x"\ndefine i32 @main() {\n  ret i32 0\n}')
+        source('module asm ""\ndefine i32 @main() {\n  ret i32 0\n}')
+
+    def test_places_of_what_is_left_out(self):
+        text = MODULE.replace("%b = mul i32 %a, %n", "%b = call i32 @missing(i32 %a)").replace("  @SAID@\n", "")
+        with self.assertRaisesRegex(Failure, r"a.c:5:2: error: `missing`, which nothing defines, is left out in `main`"):
+            source(text + "declare i32 @missing(i32)\n")
+        said = "a.c:5:2: error: floating point is left out in `main`\n    count in integers"
+        with self.assertRaisesRegex(Failure, said):
+            source(text.replace("call i32 @missing(i32 %a)", "fptosi double 1.0 to i32"))
+
+    def test_no_words_of_python(self):
+        with self.assertRaisesRegex(Failure, "`array of 2, each integer of 64 bits`"):
+            source("define i32 @main() {\n  %a = add [2 x i64] zeroinitializer, zeroinitializer\n  ret i32 0\n}")
+
+    def test_lists_of_ranges(self):
+        many = [(at, at + 2) for at in range(0, 400, 4)]
+        self.assertTrue(overlap(many, [(101, 103)]))
+        self.assertFalse(overlap([(102, 104)], many))
+        self.assertEqual(union(list(many), [(98, 105)])[24:27], [(96, 106), (108, 110), (112, 114)])
 
     def test_ranges(self):
         self.assertTrue(overlap([(1, 5), (9, 12)], [(4, 6)]))

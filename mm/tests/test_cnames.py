@@ -9,7 +9,7 @@ from mm.names.clines import CNotes
 from mm.names.ctypes import CTypes
 from mm.machine.program import CHECKOUT
 from mm.tests.support import mm, needs_log, needs_program, read
-from mm.tests.test_cc import source
+from mm.tests.test_cc import MODULE, source
 from mm.tests.test_debugger import answers
 from mm.tests.test_view import data_of
 from mm.view.cdata import leaves
@@ -25,23 +25,7 @@ type 7 array 2 2
 type 8 pointer 4""".splitlines()
 
 
-# LLVM's text with what it says for debuggers; @SAID@ is written in two ways.
-MODULE = """define i32 @main(i32 %n) !dbg !4 {
-  %a = mul i32 %n, %n, !dbg !9
-  @SAID@
-  %b = mul i32 %a, %n, !dbg !10
-  %c = add i32 %b, %a, !dbg !10
-  ret i32 %c, !dbg !11
-}
-!1 = !DIFile(filename: "a.c", directory: "/")
-!3 = !DIBasicType(name: "unsigned int", size: 32, encoding: DW_ATE_unsigned)
-!4 = distinct !DISubprogram(name: "main", scope: !1, file: !1, line: 3, unit: !2)
-!7 = distinct !DILexicalBlock(scope: !4, file: !1, line: 3, column: 1)
-!8 = !DILocalVariable(name: "square", scope: !7, file: !1, line: 4, type: !3)
-!9 = !DILocation(line: 4, column: 2, scope: !7)
-!10 = !DILocation(line: 5, column: 2, scope: !7)
-!11 = !DILocation(line: 6, column: 2, scope: !7)
-"""
+# What LLVM's text says of a variable, in two ways.
 SAID = ("call void @llvm.dbg.value(metadata i32 %a, metadata !8, metadata !DIExpression()), !dbg !9",
         "  #dbg_value(i32 %a, !8, !DIExpression(), !9)")
 

@@ -6,6 +6,7 @@ from typing import TYPE_CHECKING, Iterator, Optional
 
 from mm.machine.causes import Cause
 from mm.machine.words import Pointer
+from mm.names.numbers import counted
 from mm.outputs.report import SlotState
 from mm.outputs.trace import Turn
 from mm.views.spell import Memory, Speller
@@ -14,7 +15,12 @@ from mm.views.why import Refusal, turn_of
 if TYPE_CHECKING:
     from mm.names.clines import CFrame, CLine
 
-STACK_REGISTER = 15
+LINK_REGISTER, STACK_REGISTER = 14, 15
+NULL_PAGE = 4096
+# The traps of programs in C, by their numbers.
+TRAPS = {1: "`__builtin_trap`", 2: "a place that C says is never reached", 6: "`abort`",
+         7: "the translator's second reckoning differs: the translator is wrong",
+         8: "`free` of what is no block of malloc, or was freed before"}
 
 
 class CView:
@@ -27,11 +33,13 @@ class CView:
     def frames(self) -> Iterator[CFrame]:
         """The functions that are being carried out, the innermost first."""
         ip, stack = self.slot.ip.pointer, self.slot.register(STACK_REGISTER)
+        link = self.slot.register(LINK_REGISTER)
         if ip is None or stack is None or stack.pointer is None or self.symbols.c_notes(ip.address) is None:
             return iter(())
         from mm.names.clines import frames
 
-        return frames(ip.address, stack.pointer.address, self.symbols.c_notes, self.address_in)
+        back = link.pointer.address if link is not None and link.pointer is not None else None
+        return frames(ip.address, stack.pointer.address, self.symbols.c_notes, self.address_in, back)
 
     def address_in(self, address: int) -> Optional[int]:
         """The address of the pointer in a word of memory."""
@@ -47,13 +55,53 @@ class CView:
         line = self.line()
         if line is None:
             return None
-        turn = turn or turn_of(cause, self.slot, self.memory)
-        what = (self.meant(turn) if cause is Cause.BOUNDS else None) or cause.meaning
-        return f"fault {cause.number} {cause.title} at {line}: {what}"
+        at = Refusal(cause, self.slot, turn or turn_of(cause, self.slot, self.memory), self.memory, self.speller)
+        full = self.full_stack(at) if cause is Cause.BOUNDS else None
+        what = full or self.meant(at) if cause is Cause.BOUNDS else None
+        if cause is Cause.NOT_POINTER:
+            what = self.left_object(at)
+        if cause is Cause.TRAP:
+            what = self.gave_up(at)
+        inner = next(self.frames(), None)
+        of_library = inner is not None and inner.line is None and not inner.function.begins and not full
+        within = f", in {inner.name}" if inner is not None and of_library else ""
+        return f"fault {cause.number} {cause.title} at {line}{within}: {what or cause.meaning}"
 
-    def meant(self, turn: Turn) -> Optional[str]:
+    def full_stack(self, at: Refusal) -> Optional[str]:
+        """A function, or an array whose length is known at the run alone, for which the stack has no room."""
+        pointer, instruction = at.pointer, at.instruction
+        region = self.symbols.region(pointer.base) if pointer else None
+        if pointer is None or instruction is None or region is None or not region.name.endswith("stack"):
+            return None
+        if at.name not in ("lea", "leai") or instruction.value("ra") != STACK_REGISTER:
+            return None
+        inner = next(self.frames(), None)
+        name = inner.name if inner else "a function"
+        left = pointer.address - pointer.base
+        return (f"the stack is full: {name} has no room for its variables in the {left} bytes that are left of "
+                f"{1 << pointer.log}; `--stack {pointer.log + 1}` makes it larger")
+
+    def gave_up(self, at: Refusal) -> Optional[str]:
+        """What a trap of the translator or of the library says."""
+        instruction = at.instruction
+        return TRAPS.get(instruction.value("imm")) if instruction is not None and instruction.name == "trap" else None
+
+    def left_object(self, at: Refusal) -> Optional[str]:
+        """A pointer that became a number as it left its object, by its bits."""
+        word = at.word("ra")
+        if not word.tagged and word.bits < NULL_PAGE:
+            return "a null pointer" if not word.bits else f"a null pointer, and {counted(word.bits, 'byte')} on"
+        spelled = Pointer.of_bits(word.bits) if not word.tagged and word.bits else None
+        if spelled is None or at.instruction is None:
+            return None
+        before = self.symbols.region(spelled.address - 1)
+        told = self.symbols.c_global(before) if before is not None and before.log == spelled.log else None
+        whose = f" {told.name}" if told and before and before.end == spelled.base else ""
+        return (f"these are the bits of a pointer, which is now a number: it left its object{whose} (one past the end "
+                "is outside), was computed with, or was copied in pieces")
+
+    def meant(self, at: Refusal) -> Optional[str]:
         """The byte that was meant, of the object that the pointer is to."""
-        at = Refusal(Cause.BOUNDS, self.slot, turn, self.memory, self.speller)
         pointer = at.pointer
         if pointer is None or at.instruction is None:
             return None
@@ -80,19 +128,25 @@ class CView:
         if region is None or (region.base, region.log) != (pointer.base, pointer.log):
             return None
         made = self.symbols.c_global(region)
-        return f"{made.name}[{target - region.base - made.at}] of {made.size} bytes" if made else None
+        notes = region.source.notes if region.source else None
+        from mm.names.clines import place_in
+
+        return place_in(made, target - region.base - made.at, notes.types if notes else None) if made else None
 
     def of_local(self, pointer: Pointer, target: int) -> Optional[str]:
+        from mm.names.clines import place_in
+
         for frame in self.frames():
             for made in frame.function.objects:
                 start = frame.stack + made.at
                 if made.log == pointer.log and start >> made.log == pointer.base >> made.log:
                     name = frame.function.inner_name(made.inner)
-                    return f"{made.name}[{target - start}] of {made.size} bytes, in {name}"
+                    return f"{place_in(made, target - start, frame.notes.types)}, in {name}"
         return None
 
     def of_heap(self, pointer: Pointer, target: int) -> Optional[str]:
         region = self.symbols.region(pointer.base)
         if region is None or not region.name.endswith("heap") or region.log <= pointer.log:
             return None
-        return f"byte {target - pointer.base} of a block of {1 << pointer.log} bytes of malloc"
+        by, size = target - pointer.address, pointer.end - pointer.address
+        return f"byte {by} of a block of malloc, which has {counted(size, 'byte')} from there on"

@@ -23,4 +23,19 @@ int vsnprintf(char *, size_t, const char *, va_list);
 size_t fwrite(const void *, size_t, size_t, FILE *);
 int fflush(FILE *);
 void perror(const char *);
+
+/* There is no input and there are no files: who uses one of these is told so before the program runs. */
+int getchar(void);
+int getc(FILE *);
+int fgetc(FILE *);
+int ungetc(int, FILE *);
+char *fgets(char *, int, FILE *);
+int scanf(const char *, ...);
+int fscanf(FILE *, const char *, ...);
+int sscanf(const char *, const char *, ...);
+size_t fread(void *, size_t, size_t, FILE *);
+FILE *fopen(const char *, const char *);
+int fclose(FILE *);
+int feof(FILE *);
+int ferror(FILE *);
 #endif

@@ -1,74 +1,119 @@
-/* Memory by `subseg`: each block is a segment of its own, cut out of the heap, and the object stands at its end. */
+/* Memory by `subseg`: each block is a segment of its own, cut out of the heap, and the object stands at its end. The heap
+   begins with two maps, a bit for each of its words: which words are in a block, and at which an object begins. So no
+   block has a link to another one in it, and `free` knows what it may free. A block that was freed is handed out again
+   only after the rest of the heap was, and cleared. */
 
-extern char __mm_heap[];
-#define LOGS 21
-static void *unused[LOGS];
-static size_t top;
+extern number __mm_heap[];
+#define WORDS_A_BIT 64
+/* Functions of their own, and loops that are not unrolled: the text is short rather than fast. */
+#define FAR __attribute__((noinline))
+static size_t next, used;
 
 static long log_in(const void *pointer)
 {
     return bits_of(pointer) >> 54 & 63;
 }
 
+static size_t heap_words(void)
+{
+    return 1ul << log_in(__mm_heap) - 3;
+}
+
+/* The place of an object in the heap, in words; a great number if it is not there. */
 static size_t place_in(const void *pointer)
 {
-    return (bits_of(pointer) & (1ul << 54) - 1) - (bits_of(__mm_heap) & (1ul << 54) - 1);
+    return (bits_of(pointer) & (1ul << 54) - 1) - (bits_of(__mm_heap) & (1ul << 54) - 1) >> 3;
 }
 
-/* A block of the heap by its place and length, as a segment. */
-static void *block(size_t place, long log)
+static size_t map_words(void)
 {
-    return __mm_op_subseg(__mm_op_leab(__mm_heap, place), log);
+    size_t words = heap_words() / WORDS_A_BIT;
+    return words ? words : 1;
 }
 
-static void give_back(size_t place, long log)
+static number mask_of(size_t at, size_t count)
 {
-    void **made = block(place, log);
-    *made = unused[log];
-    unused[log] = made;
+    return (count < WORDS_A_BIT ? (1ul << count) - 1 : ~0ul) << at % WORDS_A_BIT;
 }
 
-static void *take(long log)
+static FAR int is_free(size_t at, size_t count)
 {
-    void **found = unused[log];
-    if (found) {
-        unused[log] = *found;
-        return found;
+    number mask = mask_of(at, count);
+#pragma nounroll
+    for (size_t word = at / WORDS_A_BIT; word <= (at + count - 1) / WORDS_A_BIT; word++)
+        if (__mm_heap[word] & mask)
+            return 0;
+    return 1;
+}
+
+static FAR void change(size_t at, size_t count)
+{
+    number mask = mask_of(at, count);
+#pragma nounroll
+    for (size_t word = at / WORDS_A_BIT; word <= (at + count - 1) / WORDS_A_BIT; word++)
+        __mm_heap[word] ^= mask;
+}
+
+/* The first free words after those that were handed out last, a power of two of them, and at a multiple of it. */
+static FAR size_t find(size_t count)
+{
+    size_t words = heap_words(), at = next + count - 1 & -count;
+#pragma nounroll
+    for (size_t seen = 0; seen <= words + count; seen += count, at += count) {
+        if (at + count > words)
+            at = 0;
+        while (count < WORDS_A_BIT && at % WORDS_A_BIT == 0 && at < words && !~__mm_heap[at / WORDS_A_BIT])
+            at += WORDS_A_BIT, seen += WORDS_A_BIT;
+        if (at + count <= words && is_free(at, count))
+            return at;
     }
-    size_t size = 1ul << log, heap = 1ul << log_in(__mm_heap);
-    if (log >= log_in(__mm_heap) || (top + size - 1 & -size) + size > heap)
-        return 0;
-    for (long part = 3; top & size - 1; part++)
-        if (top & 1ul << part) {
-            give_back(top, part);
-            top += 1ul << part;
-        }
-    top += size;
-    return block(top - size, log);
+    return words;
 }
 
 void *malloc(size_t size)
 {
+    if (!next) {
+        next = 2 * map_words();
+        if (next >= heap_words())
+            return next = 0, (void *)0;
+        change(0, next);
+    }
     size = size ? size + 7 & -8ul : 8;
-    if (size >= 1ul << LOGS)
-        return 0;
     long log = __mm_log_of(size);
-    char *found = take(log);
-    return found ? found + ((1ul << log) - size) : 0;
+    if (size > heap_words() * 8 || log >= log_in(__mm_heap))
+        return 0;
+    size_t count = 1ul << log - 3, at = find(count);
+    if (at == heap_words())
+        return 0;
+    number *block = __mm_op_subseg(__mm_op_leab(__mm_heap, at * 8), log);
+#pragma nounroll
+    for (size_t word = 0; at < used && word < count; word++)
+        block[word] = 0;
+    change(at, count);
+    next = at + count;
+    used = used < next ? next : used;
+    char *found = (char *)block + ((1ul << log) - size);
+    at = place_in(found);
+    __mm_heap[map_words() + at / WORDS_A_BIT] |= 1ul << at % WORDS_A_BIT;
+    return found;
 }
 
+/* What is no object of malloc, or was freed before, stops the program. */
 void free(void *pointer)
 {
     if (!pointer)
         return;
-    long log = log_in(pointer);
-    give_back(place_in(pointer) & -(1ul << log), log);
+    size_t at = place_in(pointer), count = 1ul << log_in(pointer) - 3;
+    number bit = 1ul << at % WORDS_A_BIT, *starts = &__mm_heap[map_words() + at / WORDS_A_BIT];
+    if (at >= heap_words() || !(*starts & bit))
+        __mm_op_trap(8);
+    *starts ^= bit;
+    change(at & -count, count);
 }
 
 void *calloc(size_t count, size_t size)
 {
-    void *found = size && count > ~0ul / size ? 0 : malloc(count * size);
-    return found ? memset(found, 0, count * size ? count * size : 0) : 0;
+    return size && count > ~0ul / size ? 0 : malloc(count * size);
 }
 
 void *realloc(void *pointer, size_t size)

@@ -69,6 +69,28 @@ number __mm_signed_product_overflows(long a, long b)
     return (long)high != low >> 63;
 }
 
+/* Whether a product of numbers of 128 bits has more. */
+number __mm_wide_product_overflows(number al, number ah, number bl, number bh)
+{
+    if (ah && bh || __mm_product_high(ah, bl) || __mm_product_high(bh, al))
+        return 1;
+    number cross = ah * bl + bh * al;
+    return __mm_product_high(al, bl) + cross < cross;
+}
+
+number __mm_signed_wide_product_overflows(number al, number ah, number bl, number bh)
+{
+    int negative = (long)(ah ^ bh) < 0;
+    if ((long)ah < 0)
+        ah = ~ah + !al, al = -al;
+    if ((long)bh < 0)
+        bh = ~bh + !bl, bl = -bl;
+    if (__mm_wide_product_overflows(al, ah, bl, bh))
+        return 1;
+    number high = __mm_product_high(al, bl) + ah * bl + bh * al;
+    return high >> 63 && !(negative && high == 1ul << 63 && !(al * bl));
+}
+
 /* The length of a segment that holds so many bytes. */
 long __mm_log_of(number size)
 {

@@ -1,0 +1,58 @@
+"""What could not be translated, and what can be done instead."""
+
+from __future__ import annotations
+
+from dataclasses import dataclass
+from typing import Optional
+
+# What can be done in the place of what is not there: of functions of C's library, and of what is left out.
+NO_INPUT = "the machine has no input: put what the program reads into an array or a string"
+NO_FILES = "the machine has no files: print with `printf`, which puts out, and keep data in arrays"
+NO_CLOCK = "the machine has no clock: its time is its cycles, which the report shows"
+NO_FLOATS = "count in integers: in hundredths, or as a numerator and a denominator"
+INSTEAD = {
+    **dict.fromkeys(("getchar", "getc", "fgetc", "gets", "fgets", "scanf", "fscanf", "vscanf", "getline", "read",
+                     "ungetc", "fread"), NO_INPUT),
+    **dict.fromkeys(("fopen", "fclose", "freopen", "fseek", "ftell", "rewind", "remove", "rename", "tmpfile", "tmpnam",
+                     "feof", "ferror", "setbuf", "setvbuf", "open", "close", "write", "lseek"), NO_FILES),
+    **dict.fromkeys(("time", "clock", "difftime", "mktime", "localtime", "gmtime", "strftime", "sleep", "usleep",
+                     "gettimeofday", "clock_gettime"), NO_CLOCK),
+    **dict.fromkeys(("atof", "strtod", "strtof", "sqrt", "pow", "sin", "cos", "tan", "exp", "log", "floor", "ceil",
+                     "fabs", "fmod"), NO_FLOATS),
+    **dict.fromkeys(("sscanf", "vsscanf"), "take the text apart with `strtol`, which tells where it ended"),
+    **dict.fromkeys(("pthread_create", "thrd_create", "fork"),
+                    "another program is another thread: give it a file of its own, and name both to `mm run`"),
+    **dict.fromkeys(("system", "execve", "signal", "raise"), "the machine runs nothing but the programs of its image"),
+}
+INSTEAD_OF = {"floating point": NO_FLOATS,
+              "assembler text": "`mm.h` names the machine's own operations, as `__mm_op_out`"}
+
+
+@dataclass
+class Failure(Exception):
+    """What could not be translated, and where: a file or a function, its place in C if that is known, and what can be
+    done instead."""
+
+    where: str
+    why: str
+    place: Optional[str] = None
+    instead: str = ""
+
+    def __str__(self) -> str:
+        name = self.where.rpartition(": ")[2]
+        inside = f" in `{name}`" if ": " in self.where else ""
+        said = f"{self.place}: error: {self.why} is left out{inside}"
+        if not self.place:
+            said = f"mm: {self.where}: {self.why} is left out"
+        return f"{said}\n    {self.instead}" if self.instead else said
+
+
+class Failures(Failure):
+    """Several of them: all that nothing defines."""
+
+    def __init__(self, failures: list[Failure]) -> None:
+        super().__init__(failures[0].where, failures[0].why, failures[0].place, failures[0].instead)
+        self.failures = failures
+
+    def __str__(self) -> str:
+        return "\n".join(map(str, self.failures))

@@ -1,0 +1,104 @@
+"""The names of a program as one of its modules knows them."""
+
+from __future__ import annotations
+
+from dataclasses import dataclass
+from typing import TYPE_CHECKING, Optional
+
+from mm.cc.code import Variable
+from mm.cc.data import Constants, Words
+from mm.cc.ir import Function, Global, GlobalObject, Module, Value
+from mm.cc.lines import Lines
+from mm.cc.lowering import Names
+from mm.cc.pointers import Known
+
+if TYPE_CHECKING:
+    from mm.cc.program import Program
+
+# What the header mm.h makes of the names of doors, and of words that several programs share.
+DOOR, SHARED, EMPTY = "mm_door_", "mm_shared_", "mm_empty_"
+# Functions that are written in the machine's own operations.
+ASSEMBLER = {
+    "setjmp": ["st r0, r7, 0, any, keep", "st r0, r8, 8, any, keep", "st r0, r9, 16, any, keep",
+               "st r0, r10, 24, any, keep", "st r0, r11, 32, any, keep", "st r0, r14, 40, any, keep",
+               "st r0, r15, 48, any, keep", "ldi r0, 0", "jmp r14"],
+    "longjmp": ["ld r7, r0, 0, any, keep", "ld r8, r0, 8, any, keep", "ld r9, r0, 16, any, keep",
+                "ld r10, r0, 24, any, keep", "ld r11, r0, 32, any, keep", "ld r14, r0, 40, any, keep",
+                "ld r15, r0, 48, any, keep", "mov r0, r1", "bnz r0, 2", "ldi r0, 1", "jmp r14"],
+}
+# An event of a slot that this one handles goes to four words.
+ASSEMBLER["__mm_event"] = ["mov r12, r0", "evt r0", "st r12, r0, 0, any, keep", "st r12, r1, 8, any, keep",
+                           "st r12, r2, 16, any, keep", "st r12, r3, 24, any, keep", "jmp r14"]
+ASSEMBLER["_setjmp"] = ASSEMBLER["setjmp"]
+ASSEMBLER["_longjmp"] = ASSEMBLER["longjmp"]
+
+
+@dataclass
+class Segment:
+    """A global: its segment's name and length, its place there, and whether it may be written."""
+
+    name: str
+    module: Module
+    made: GlobalObject
+    size: int
+    known: Known
+    writable: bool
+    words: Optional[Words] = None
+
+
+class ModuleNames(Names):
+    """The names of a program as one of its modules knows them."""
+
+    def __init__(self, program: Program, module: Module) -> None:
+        self.program, self.module = program, module
+        self.layouts = module.layouts()
+        self.constants = Constants(self.layouts, self.resolve)
+        self.lines = Lines(module)
+        self.declared: dict[str, Variable] = {}
+
+    def fresh(self) -> str:
+        return self.program.fresh()
+
+    def label(self, name: str) -> str:
+        return self.program.want_function(self.module, name)
+
+    def is_function(self, name: str) -> bool:
+        module = self.program.home(self.module, name)
+        if module is None and name.startswith(DOOR):
+            return False
+        if module is not None:
+            return name in module.functions
+        return name in ASSEMBLER or name in self.module.functions
+
+    def function(self, name: str) -> Optional[Function]:
+        module = self.program.home(self.module, name) or self.module
+        return module.functions.get(name)
+
+    def segment(self, name: str) -> tuple[str, Known]:
+        found = self.program.want_global(self.module, name)
+        return found.name, found.known
+
+    def known_segment(self, name: str) -> Optional[str]:
+        """The segment of a global that is part of the program already."""
+        found = self.program.segments.get((id(self.program.home(self.module, name)), name))
+        return found.name if found else None
+
+    def resolve(self, value: Value) -> Value:
+        while isinstance(value, Global):
+            module = self.program.home(self.module, value.name) or self.module
+            if value.name not in module.aliases:
+                break
+            value = module.aliases[value.name]
+        return value
+
+    def declare(self, name: str, variable: Variable) -> None:
+        self.declared.setdefault(name, variable)
+
+    def told(self, made: GlobalObject) -> tuple[str, int]:
+        """The name of a global in C, and the number of its type."""
+        debug, types = self.module.debug, self.program.types
+        if made.name in self.declared:
+            node = self.declared[made.name].node
+            return self.lines.name_of(node), types.of_variable(node, debug)
+        name, type_ = types.of_global(made.debug, debug)
+        return name or made.name.rpartition(".")[2], type_

@@ -1,0 +1,263 @@
+"""C as Clang reads it: programs and what `mm` says of them, with each version of Clang that is there. Left out where there
+is none."""
+
+import os
+import shutil
+import subprocess
+import sys
+import unittest
+from unittest import mock
+
+from mm.cc import cache, clang
+from mm.machine.program import CHECKOUT
+from mm.tests.cprograms import Generator
+from mm.tests.cruns import Machine, on_host
+from mm.cc.driver import source_of
+from mm.cc.options import Options
+from mm.machine.program import find_program
+from mm.status import Stop
+from mm.tests.support import folder, mm, needs_program, write
+
+VERSIONS = [name for name in ("clang", *(f"clang-{number}" for number in clang.VERSIONS)) if shutil.which(name)]
+needs_clang = unittest.skipUnless(VERSIONS, "there is no Clang")
+HIDE = 'static void *hide(void *p) { __asm__ volatile("" : "+r"(p) : : "memory"); return p; }\nvolatile long zero;\n'
+# Programs and what they put out, at each level.
+OUTPUTS = {
+    "pointers from the middle of an array": ("27 203 139 8 1\n", """#include <stdio.h>
+#define FAR __attribute__((noinline))
+FAR int sum(int *mid, long n) { int s = 0; for (int *q = mid - n; q < mid + n; q++) s += *q; return s; }
+FAR int blur(const int *c, int r) { int s = 0; for (const int *p = c - r; p <= c + r; ++p) s += *p; return s; }
+FAR int fixed(const int *c) { int s = 0; for (const int *p = c - 3; p < c + 3; ++p) s += *p; return s; }
+FAR long span(const char *mid) { const char *p = mid, *q = mid; while (*p != '(') p--; while (*q != ')') q++; return p < q ? q - p : -1; }
+FAR int scan(const char *mid, const char c) { const char *p = mid; while (*p != '(') p--; for (; p < mid; p++) if (*p == c) return 1; return 0; }
+int main(void) { int a[10], v[11]; for (int i = 0; i < 10; i++) a[i] = i; for (int i = 0; i < 11; i++) v[i] = i * i;
+const char *t = "foo (bar baz) qux"; printf("%d %d %d %ld %d\\n", sum(a + 5, 3), blur(v + 5, 3), fixed(v + 5), span(t + 8), scan(t + 10, 'b')); return 0; }
+"""),
+    "unsigned sums with a great constant": ("90000001 90010000 cb\n", """#include <stdio.h>
+__attribute__((noinline)) static unsigned long at(unsigned x) { return (x & 0xffff) + 0x90000001u; }
+__attribute__((noinline)) static unsigned long code(unsigned char c) { return (unsigned char)(c % 10 + 203); }
+int main(int argc, char **argv) { printf("%lx %lx %lx\\n", at(argc - 1), at(argc + 0xfffe), code(argc - 1)); return 0; }
+"""),
+    "alignments": ("13 0 0 0 0\n", """#include <stdio.h>
+__attribute__((noinline)) static int pick(int k)
+{ unsigned char r[19]; for (int i = 0; i < 19; i++) r[i] = i * k; unsigned char *p = r + 13, *q = r;
+  for (int i = 0; i < 4; i++) q = p, p = r + 1; return p[13 - (p - r)]; }
+static _Alignas(32) char g[40]; struct s { _Alignas(64) char c[70]; int k; };
+__attribute__((noinline)) static unsigned long at(struct s x) { struct s *volatile p = &x; return (unsigned long)p & 63; }
+__attribute__((noinline)) static unsigned long vla(int n) { _Alignas(32) char v[n]; char *volatile p = v; return (unsigned long)p & 31; }
+int main(int argc, char **argv) { _Alignas(16) char b[20]; char *volatile p = b, *volatile q = g; static struct s x;
+  printf("%d %lu %lu %lu %lu\\n", pick(1), (unsigned long)p & 15, (unsigned long)q & 31, at(x), vla(argc + 6)); return 0; }
+"""),
+    "constructors and destructors": ("early in main 7 last out ", """#include <stdio.h>
+#include <stdlib.h>
+static int k;
+static void last(void) { printf("last "); }
+__attribute__((constructor)) static void in(void) { printf("in "); k = 7; }
+__attribute__((constructor(200))) static void early(void) { printf("early "); }
+__attribute__((destructor)) static void out(void) { printf("out "); }
+int main(void) { atexit(last); printf("main %d ", k); return 0; }
+"""),
+    "numbers in texts": ("9223372036854775807 34, -9223372036854775808 34, 18446744073709551615 34, 63 0, 22\n", """#include <errno.h>
+#include <inttypes.h>
+#include <stdio.h>
+#include <stdlib.h>
+static void of(const char *text) { errno = 0; long v = strtol(text, 0, 0); printf("%ld %d, ", v, errno); }
+int main(void) { of("99999999999999999999"); of("-9223372036854775809"); errno = 0; uint64_t u = strtoul("18446744073709551616", 0, 10);
+  printf("%" PRIu64 " %d, ", u, errno); of(" +077"); errno = 0; strtol("1", 0, 1); printf("%d\\n", errno); return 0; }
+"""),
+    "overflows of all widths": ("1 1 0 1 1 0 1\n", """#include <stdio.h>
+volatile long most = 0x7fffffffffffffff; volatile unsigned long all = ~0ul;
+int main(void) { long r; int i; __int128 w; unsigned __int128 u; signed char c;
+  printf("%d %d %d %d %d %d %d\\n", __builtin_add_overflow(most, 1l, &r), __builtin_mul_overflow(most, all, &r),
+         __builtin_mul_overflow(most, all, &w), __builtin_mul_overflow((__int128)most << 64, most, &w),
+         __builtin_sub_overflow((unsigned __int128)most, (unsigned __int128)all, &u), __builtin_add_overflow(most, -1l, &r),
+         __builtin_add_overflow((int)most, (short)-200, &c) | __builtin_add_overflow(most, 0l, &i)); return 0; }
+"""),
+    "blocks of malloc are cleared": ("0 0 1\n", """#include <stdio.h>
+#include <stdlib.h>
+#include <string.h>
+""" + HIDE + """int main(void) { long dirty = 0, before = 0; for (int round = 0; round < 3; round++) { void *kept[40];
+  for (int i = 0; i < 40; i++) { long *p = kept[i] = hide(malloc(24 + 1000 * (i & 1))); if (!p) return 1; for (int k = 0; k < 3; k++) dirty += p[k] != 0; before += !(i & 1) && p[zero - 1] != 0; memset(p, 7, 24); }
+  for (int i = 0; i < 40; i++) free(kept[i]); } printf("%ld %ld %d\\n", dirty, before, hide(malloc(70000)) == 0); return 0; }
+"""),
+}
+# Programs that are stopped, and what is said of it.
+STOPPED = {
+    "a function of the library": ("fault 3 Bounds at {room}/a.c:6, in strcpy: b[8] of 8 bytes", "0", """#include <string.h>
+char b[8];
+
+int main(void)
+{
+    strcpy(b, "eight and more");
+    return 0;
+}
+"""),
+    "an element": ("fault 3 Bounds at {room}/a.c:3: a[9] of int[4], 16 bytes", "1", """int a[4];
+volatile int zero;
+static __attribute__((noinline)) int leaf(int *p, int i) { return p[i]; }
+int main(void) { return leaf(a, zero + 9); }
+"""),
+    "a stack": ("the stack is full: deep has no room for its variables", "1", """
+static __attribute__((noinline)) long deep(long n) { volatile char text[64]; text[n & 63] = n; return n <= 0 ? 0 : deep(n - 1) + text[n & 7]; }
+int main(void) { return deep(100000); }
+"""),
+    "one past the end": ("it left its object room (one past the end is outside)", "1", """static int room[64];
+static int *sp = room + 64;
+static __attribute__((noinline)) void push(int x) { *--sp = x; }
+int main(void) { push(1); return 0; }
+"""),
+    "a second free": ("fault 11 Trap at {room}/a.c:7, in free: `free` of what is no block of malloc, or was freed before", "0",
+                      """#include <stdlib.h>
+int main(void)
+{
+    char *p = malloc(20);
+    free(p);
+
+    free(p);
+}
+"""),
+    "a null pointer": ("fault 1 NotPointer at {room}/a.c:2: a null pointer", "0", """volatile long *volatile p;
+int main(void) { return *p; }
+"""),
+    "before a block": ("byte -57 of a block of malloc, which has 72 bytes from there on", "1", """#include <stdlib.h>
+""" + HIDE + """int main(void) { char *p = hide(malloc(72)); p[zero - 57] = 1; hide(p); return 0; }
+"""),
+}
+# Programs that are refused, and what is said of them.
+REFUSED = {
+    "no input": (["{room}/a.c:2:25: error: `getchar`, which nothing defines, is left out in `main`",
+                  "    the machine has no input: put what the program reads into an array or a string"],
+                 "#include <stdio.h>\nint main(void) { return getchar(); }\n"),
+    "floating point": (["{room}/a.c:1:58: error: floating point is left out in `area`"],
+                       "static int area(int r) { volatile int d; d = (int)(3.1 * r); return d; }\n"
+                       "int main(int n, char **v) { return area(n) > 3; }\n"),
+    "assembler": (["mm: {room}/a.c: assembler text outside of functions is left out"],
+                  '__asm__(".globl x");\nint main(void) { return 0; }\n'),
+    "many segments": (["mm: the program: more than 256 segments: it has "],
+                      "#include <stdio.h>\n" + "".join(f"volatile int g{at};\n" for at in range(260)) + "int main(void) { return "
+                      + " + ".join(f"g{at}" for at in range(260)) + "; }\n"),
+}
+
+
+@needs_clang
+@needs_program
+class Programs(unittest.TestCase):
+    def ran(self, text: str, level: str, *words: str):
+        with folder() as room:
+            ended = mm("run", f"-O{level}", *words, write(room, "a.c", text))
+            return ended, room
+
+    def test_outputs(self):
+        for title, (wanted, text) in OUTPUTS.items():
+            for level in "012":
+                ended, _ = self.ran(text, level)
+                self.assertIn(f'output "{repr(wanted)[1:-1]}"', ended.out, f"{title} at -O{level}: {ended.err}")
+
+    def test_stopped(self):
+        for title, (wanted, level, text) in STOPPED.items():
+            ended, room = self.ran(text, level)
+            self.assertIn(wanted.format(room=room), ended.out, f"{title}: {ended.err}")
+
+    def test_refused(self):
+        for title, (wanted, text) in REFUSED.items():
+            ended, room = self.ran(text, "0")
+            self.assertEqual(ended.status, 2, title)
+            for line in wanted:
+                self.assertIn(line.format(room=room), ended.err, title)
+
+    def test_what_nothing_calls_is_noted(self):
+        ended, room = self.ran("double f(double x) { return x; }\nint main(void) { return 0; }\n", "0")
+        self.assertEqual(ended.status, 0, ended.err)
+        self.assertIn("note: floating point is left out in `f`, which nothing calls", ended.err)
+
+    def test_leaf_functions_have_callers(self):
+        with folder() as room:
+            path = write(room, "a.c", STOPPED["an element"][2])
+            ended = mm("debug", path, lines="continue\nwhere\n")
+        self.assertIn(f"#0  leaf  {room}/a.c:3:", ended.out)
+        self.assertIn(f"#1  main  {room}/a.c:4:", ended.out)
+
+    def test_random_programs(self):
+        for seed in (11, 12):
+            with folder() as room:
+                path = write(room, "a.c", Generator(seed, 12).program())
+                flags = ["-fwrapv", "-w"]
+                host = on_host(path, ["-O0", *flags], os.path.join(room, "host"))
+                self.assertIsNotNone(host)
+                for level, checked in (("0", False), ("1", True), ("2", False)):
+                    made = source_of([path], Options(level, flags, stack=17, heap=12, lines=False, checked=checked))
+                    self.assertEqual(Machine(find_program(), room).run(made), (host, ""), (seed, level))
+
+    def test_each_version(self):
+        for version in VERSIONS:
+            with mock.patch.dict(os.environ, {clang.VARIABLE: version}):
+                for title in ("pointers from the middle of an array", "alignments", "constructors and destructors"):
+                    wanted, text = OUTPUTS[title]
+                    ended, _ = self.ran(text, "1")
+                    self.assertIn(f'output "{repr(wanted)[1:-1]}"', ended.out, f"{version} {title}: {ended.err}")
+
+
+@needs_clang
+class Read(unittest.TestCase):
+    def test_names_that_look_like_options(self):
+        for name in ("@args.c", "-o.c", "-DX.c"):
+            with folder() as room:
+                write(room, name, "int main(void) { return 0; }\n")
+                before = os.getcwd()
+                os.chdir(room)
+                try:
+                    self.assertIn("main:", source_of([name], Options()))
+                    self.assertEqual(os.listdir(room), [name])
+                finally:
+                    os.chdir(before)
+
+    def test_paths(self):
+        with folder() as room:
+            path = write(room, "a.c", "#include <assert.h>\nint main(int n, char **v) { assert(n); return 0; }\n")
+            self.assertIn(f";@ line {path}:2", source_of([path], Options("0")))
+            before = os.getcwd()
+            os.chdir(os.path.dirname(room))
+            try:
+                near = os.path.join(os.path.basename(room), "a.c")
+                self.assertIn(f";@ line {near}:2", source_of([near], Options("0")))
+                self.assertIn(f';@ line {path}:2', source_of([path], Options("0")))
+            finally:
+                os.chdir(before)
+
+    def test_a_file_that_asks_for_too_much(self):
+        with folder() as room, mock.patch.object(clang, "MEMORY", 1 << 20):
+            with self.assertRaises(Stop) as stop:
+                source_of([write(room, "a.c", "int main(void) { return 0; }\n")], Options())
+        self.assertEqual(stop.exception.status, 2)
+
+
+class Kept(unittest.TestCase):
+    def test_texts_are_kept_by_what_they_are_made_of(self):
+        with folder() as room, mock.patch.dict(os.environ, {cache.VARIABLE: room}):
+            made = []
+            for key in ([b"a", b"bc"], [b"a", b"bc"], [b"ab", b"c"]):
+                cache.text(key, lambda: made.append(1) or "text")
+            self.assertEqual(len(made), 2)
+            self.assertEqual(len(os.listdir(room)), 2)
+            for name in os.listdir(room):
+                with open(os.path.join(room, name), "r+b") as file:
+                    file.write(b"other")
+            self.assertEqual(cache.text([b"a", b"bc"], lambda: "anew"), "anew")
+            self.assertEqual(cache.text([b"a", b"bc"], lambda: "again"), "anew")
+
+    def test_nothing_is_kept_where_it_cannot_be(self):
+        for place in ("", "/proc/none"):
+            with mock.patch.dict(os.environ, {cache.VARIABLE: place}):
+                self.assertEqual(cache.text([b"a"], lambda: "made"), "made")
+
+    def test_two_at_once(self):
+        words = "from mm.cc import cache; print(len(cache.text([b'k'], lambda: 'x' * 3000000)))"
+        with folder() as room:
+            two = [subprocess.Popen([sys.executable, "-c", words], cwd=CHECKOUT, stdout=subprocess.PIPE,
+                                    env={**os.environ, cache.VARIABLE: room}) for _ in range(4)]
+            self.assertEqual([each.communicate()[0] for each in two], [b"3000000\n"] * 4)
+            self.assertEqual(len(os.listdir(room)), 1)
+
+
+if __name__ == "__main__":
+    unittest.main()
