@@ -13,7 +13,7 @@ _mm() {
     done
     case $before in
         --program | --schedule | --names | --output | -s | -o) compopt -o default; return ;;
-        --part) COMPREPLY=($(compgen -W 'memory frames pages slots' -- "$word")); return ;;
+        --part) COMPREPLY=($(compgen -W 'memory frames pages slots all' -- "$word")); return ;;
         --cycles | --states | --turns | --groups | --from | -n | -t | -g) return ;;
         --optimise | -O) COMPREPLY=($(compgen -W '0 1 2 3 s' -- "$word")); return ;;
         --heap | --stack | --clang | --slot | --prefix) return ;;
