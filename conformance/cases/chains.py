@@ -10,6 +10,7 @@ from images import CODE, Empty, Image, Slot, pointer
 
 WORKER, OTHER_WORKER, HANDLER, SERVED = 5, 6, 1, 2
 CODE_LOG, SPLIT = 12, {"version": 2, "split": True}
+MAPPED = (DATA // 4096,)
 STALE_POINTER, PAGE = pointer("rw", 12, DATA + 8), 0x300
 # The registers that stay: the one that is written and read is r1, and results go to r5.
 HELD = {
@@ -28,11 +29,10 @@ INTEGERS = {
 }
 POINTERS = {
     "mov": "mov r1, r3", "lea": "lea r1, r3, r4", "leai": "leai r1, r3, 16", "leab": "leab r1, r3, r4",
-    "restrict": "restrict r1, r3, r14", "subseg": "subseg r1, r3, r14", "setptr": "setptr r1, r10",
+    "restrict": "restrict r1, r3, r15", "subseg": "subseg r1, r3, r4", "setptr": "setptr r1, r10",
     "ld": "ld r1, r6, 16, any, keep", "lip": "lip r1, {after}", "jal": "lip r13, 3; jal r1, r13; br 2",
     "rreg": "rreg r1, r8, 6",
 }
-GIVEN_14 = {"restrict": 1, "subseg": 6}
 # What reads r1, by which of its registers. After `~` stands what is never reached.
 THREE = ("eqw", "add", "sub", "mul", "divu", "remu", "and", "or", "xor", "shl", "shr", "sar", "eq", "ltu", "lts")
 BESIDE = {"eqw": "r0", "eq": "r0", "ltu": "r7", "lts": "r7", "and": "r11", "divu": "r7", "remu": "r7"}
@@ -98,7 +98,7 @@ def chain_of(writer, is_pointer, between):
 
 def held(name, is_pointer):
     stale = 3 if is_pointer else STALE_POINTER
-    return {**HELD, 0: stale, 14: GIVEN_14.get(name, 0), 15: 1}
+    return {**HELD, 0: stale, 15: 1}
 
 
 def writers():
@@ -155,7 +155,7 @@ def in_two_slots():
         order = [f"{WORKER} {OTHER_WORKER} " * turns + f"{HANDLER}*8" for turns in chain.turns]
         yield runs(
             f"chain-{title(name, is_pointer)}-in-two-slots", slots, " ".join(order),
-            [f"t {OTHER_WORKER} {sum(chain.turns)} did"], cells=cells, spare=3,
+            [f"t {OTHER_WORKER} {sum(chain.turns)} "], cells=cells, spare=3,
         )
 
 
@@ -223,13 +223,14 @@ def of_cells():
         slots = [Slot(0, tuple(code), base, log=CODE_LOG, handler=1, at=CODE + 0x10000), SKIPS]
         each = 3 + between
         order = "".join(f"0*{each - 2} 1*4 0 1*4 0 " for _ in range(len(pairs) // 2))
-        yield runs(f"chain-of-cells-{'next' if not between else 'next-but-one'}", slots, order, [f"t 0 {3 * len(pairs) // 2} "])
+        yield runs(f"chain-of-cells-{'next' if not between else 'next-but-one'}", slots, order,
+                   [f"t 0 {3 * len(pairs) // 2} "], pages=MAPPED)
     two = [
         Slot(0, ("addi r9, r9, 1", "st r8, r9, 0, any, keep", "ld r1, r8, 8, any, keep", "br -3"), base),
         Slot(1, ("addi r9, r9, 3", "st r8, r9, 8, any, keep", "ld r1, r8, 0, any, keep", "br -3"), base),
     ]
-    yield runs("chain-of-cells-in-two-slots", two, "0 1 " * 24, ["t 1 24 did"])
-    yield runs("chain-of-cells-in-two-slots-a-turn-apart", two, "0 " + "0 1 " * 24, ["t 1 24 did"])
+    yield runs("chain-of-cells-in-two-slots", two, "0 1 " * 24, ["t 1 24 did"], pages=MAPPED)
+    yield runs("chain-of-cells-in-two-slots-a-turn-apart", two, "0 " + "0 1 " * 24, ["t 1 24 did"], pages=MAPPED)
     handed = [
         Slot(0, ("st r8, r9, 0, empty, full", "addi r9, r9, 1", "br -2"), {8: ALL_DATA, 9: 5}),
         Slot(1, ("ld r1, r8, 0, full, empty", "br -1"), {8: ALL_DATA}),
