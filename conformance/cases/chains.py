@@ -6,7 +6,7 @@ and in two slots that take turns and use the same register. Then the same for ce
 events and loads that arrive."""
 
 from case import ALL_DATA, DATA, Case, runs
-from images import CODE, Empty, Image, Slot, pointer
+from images import CODE, Empty, Image, Slot, instruction, pointer
 
 WORKER, OTHER_WORKER, HANDLER, SERVED = 5, 6, 1, 2
 CODE_LOG, SPLIT = 12, {"version": 2, "split": True}
@@ -246,12 +246,12 @@ def of_code():
         code = ["st r8, r9, 0, any, keep", *["nop"] * (distance - 1), "addi r1, r1, 1", "halt"]
         yield runs(
             f"chain-store-into-code-{distance}-turns-on",
-            [Slot(0, tuple(code), {8: pointer("rw", 8, CODE + 8 * distance), 9: word_of(new)})],
+            [Slot(0, tuple(code), {8: pointer("rw", 8, CODE + 8 * distance), 9: instruction(new)})],
             f"0*{distance + 2}", ["r 0 1 i0000000000000040"],
         )
         other = [
             Slot(0, ("st r8, r9, 0, any, keep", "nop", "nop", "nop", "nop"),
-                 {8: pointer("rw", 8, CODE + 0x100), 9: word_of(new)}),
+                 {8: pointer("rw", 8, CODE + 0x100), 9: instruction(new)}),
             Slot(1, ("addi r1, r1, 1", "halt")),
         ]
         yield runs(
@@ -261,7 +261,7 @@ def of_code():
     again = ("st r8, r9, 0, any, keep", "addi r1, r1, 1", "st r8, r10, 0, any, keep", "br -3")
     yield runs(
         "chain-code-that-is-stored-again-and-again",
-        [Slot(0, again, {8: pointer("rw", 8, CODE + 8), 9: word_of(new), 10: word_of("addi r2, r2, 1")})], "0*24",
+        [Slot(0, again, {8: pointer("rw", 8, CODE + 8), 9: instruction(new), 10: instruction("addi r2, r2, 1")})], "0*24",
         ["t 0 24 did"],
     )
     emptied = ("ld r1, r8, 0, any, empty", "nop", "nop", "ld r1, r8, 0, any, full", "br -4")
@@ -271,16 +271,10 @@ def of_code():
     )
 
 
-def word_of(text):
-    from images import instruction
-
-    return instruction(text)
-
-
 def of_pages():
     """A page that is mapped or removed, and what comes next: a store, a load, a fetch, by one slot and by two."""
     there = pointer("rw", 12, PAGE << 12)
-    base = {8: there, 9: PAGE, 10: 5, 11: pointer("xu", 12, PAGE << 12), 12: word_of("nop")}
+    base = {8: there, 9: PAGE, 10: 5, 11: pointer("xu", 12, PAGE << 12), 12: instruction("nop")}
     for distance in range(1, 5):
         wait = ["nop"] * (distance - 1)
         for what, access in {"load": "ld r1, r8, 8, any, keep", "store": "st r8, r10, 8, any, keep"}.items():
