@@ -11,6 +11,7 @@
     shrink    a difference made small: from the state before it, with as little in the image as can be
     results   what came of each case, as JSON and for servers that read JUnit
     tell      the report of a difference
+    vectors   operands and results of one operation
     tally     how often each operation had each outcome
     options   the words of the command
     main      the command"""
