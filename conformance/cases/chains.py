@@ -190,7 +190,8 @@ def of_events():
 
 def of_issued_loads():
     """A split machine: each reader waits for a load, which comes by need, or by a port just before or after."""
-    for what, ports in {"by-need": "", "by-a-port-before": f"{128 + WORKER} ", "by-a-port-of-another": "133 134 "}.items():
+    ways = {"by-need": "", "by-a-port-before": f"{128 + WORKER} ", "by-a-port-of-another": "133 134 "}
+    for what, ports in ways.items():
         for kind, offset in {"an-integer": 8, "a-pointer": 16}.items():
             chain = Chain()
             for reader in READERS:
@@ -213,7 +214,8 @@ def of_cells():
     base = {8: ALL_DATA, 9: 77, 10: pointer("rw", 12, DATA + 8), 11: ALL_DATA}
     accesses = [
         "st r8, r9, 0, any, keep", "ld r1, r8, 0, any, keep", "st r8, r10, 0, any, empty", "ld r2, r8, 0, empty, full",
-        "st r8, r11, 0, full, empty", "ld r3, r8, 0, any, full", "ld r4, r8, 0, full, empty", "st r8, r9, 0, empty, full",
+        "st r8, r11, 0, full, empty", "ld r3, r8, 0, any, full", "ld r4, r8, 0, full, empty",
+        "st r8, r9, 0, empty, full",
     ]
     pairs = tuple(line for first in accesses for second in accesses for line in (first, second))
     for between in (0, 1):
@@ -235,7 +237,8 @@ def of_cells():
         Slot(0, ("st r8, r9, 0, empty, full", "addi r9, r9, 1", "br -2"), {8: ALL_DATA, 9: 5}),
         Slot(1, ("ld r1, r8, 0, full, empty", "br -1"), {8: ALL_DATA}),
     ]
-    for name, order in {"in-turn": "0 1 " * 30, "two-and-two": "0 0 1 1 " * 15, "one-and-three": "0 1 1 1 " * 10}.items():
+    orders = {"in-turn": "0 1 " * 30, "two-and-two": "0 0 1 1 " * 15, "one-and-three": "0 1 1 1 " * 10}
+    for name, order in orders.items():
         yield runs(f"chain-of-a-word-handed-on-{name}", handed, order, ["t 0 10 "], cells={DATA: Empty()})
 
 

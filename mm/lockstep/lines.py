@@ -7,7 +7,7 @@ from typing import Iterable, Iterator, Optional, Sequence
 
 from mm.machine.causes import Cause
 
-# What no line of a log begins with: a comment or a time of a testbench, and what Icarus and Verilator say of themselves.
+# What no line of a log begins with: a comment or a time of a testbench, and what simulators say of themselves.
 SKIPPED = ("#", "-", "%")
 # Where a line has the number of a fault.
 FAULTS = (
