@@ -1,6 +1,7 @@
 """Where a log differs from the one that is stored, and what to tell of it."""
 
 from mm.formats.image import read_image
+from mm.lockstep.lines import for_people, log_lines
 from mm.log.changes import read_change
 from mm.log.read import Step
 from mm.log.replay import Machine
@@ -10,10 +11,10 @@ from mm.outputs.trace import read_turn
 TURNS = ("t ", "m ")
 
 
-def first_difference(log, text, counts):
+def first_difference(log, text, counts, skipped=()):
     """The place of the first line that differs and the line that came, or none if nothing does. The report is
-    compared if there is one, and its counts only if they are asked for."""
-    wanted, came = log.splitlines(), text.splitlines()
+    compared if there is one, and its counts only if they are asked for. Lines of a simulator are skipped."""
+    wanted, came = log.splitlines(), list(log_lines(text.splitlines(), skipped))
     if not any(line.startswith("cycles ") for line in came):
         wanted = wanted[: report_at(wanted)]
     if not counts:
@@ -39,8 +40,8 @@ def told(case, log, at, came, in_full):
         return [head]
     return [
         head,
-        f"  wanted  {wanted_at(lines, at, came)}",
-        f"  came    {'no more lines' if came is None else came}",
+        f"  wanted  {for_people(wanted_at(lines, at, came))}",
+        f"  came    {'no more lines' if came is None else for_people(came)}",
         *around(case, lines, at, came),
     ]
 
@@ -65,9 +66,9 @@ def around(case, lines, at, came):
     machine = Machine(read_image(case.image.data))
     for start, stop in zip(starts, starts[1:]):
         machine.carry_out(Step(read_turn(lines[start]), tuple(map(read_change, lines[start + 1 : stop]))))
-    told = [f"  in      {lines[starts[-1]]}", *instruction_of(machine, read_turn(lines[starts[-1]]))]
+    told = [f"  in      {for_people(lines[starts[-1]])}", *instruction_of(machine, read_turn(lines[starts[-1]]))]
     if len(starts) > 1:
-        told.append(f"  after   {lines[starts[-2]]}")
+        told.append(f"  after   {for_people(lines[starts[-2]])}")
         told += [f"          {line}" for line in lines[starts[-2] + 1 : starts[-1]]]
     return told
 

@@ -12,7 +12,7 @@ from collections import Counter
 from fnmatch import fnmatch
 
 HERE = os.path.dirname(os.path.abspath(__file__))
-THEMES = ("integers", "pointers", "memory", "jumps", "handlers", "pages", "outputs", "split", "machines")
+THEMES = ("integers", "pointers", "memory", "jumps", "handlers", "pages", "outputs", "split", "machines", "chains")
 HEAD = "== "
 STEP = 89
 

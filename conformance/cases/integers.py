@@ -18,6 +18,9 @@ GIVEN = {
         "of-zero": (0, 5),
         "minus-one-by-minus-one": (MOST, MOST),
         "least-by-minus-one": (HIGH, MOST),
+        "by-a-high-half": (MOST, 1 << 32),
+        "by-more-than-32-bits": (MOST, (3 << 33) + 5),
+        "of-less-by-a-high-half": ((1 << 32) - 1, 1 << 32),
     },
     "remu": {
         "small": (7, 2),
@@ -26,12 +29,16 @@ GIVEN = {
         "by-one": (MOST, 1),
         "of-zero": (0, 5),
         "least-by-minus-one": (HIGH, MOST),
+        "by-a-high-half": (MOST, 1 << 32),
+        "by-more-than-32-bits": (MOST, (3 << 33) + 5),
+        "of-less-by-a-high-half": ((1 << 32) - 1, 1 << 32),
     },
     "and": {"some": (0b1100, 0b1010), "none": (MOST, 0), "all": (MOST, MOST), "high": (HIGH + 1, HIGH)},
     "or": {"some": (0b1100, 0b1010), "none": (0, 0), "all": (MOST, 0), "high": (HIGH, 1)},
     "xor": {"some": (0b1100, 0b1010), "itself": (MOST, MOST), "all": (MOST, 0), "high": (HIGH, HIGH + 1)},
     "eq": {"same": (5, 5), "other": (5, 6), "other-high": (5, HIGH + 5), "other-half": (5, (1 << 32) + 5)},
-    "ltu": {"less": (1, 2), "same": (2, 2), "greater": (2, 1), "is-unsigned": (1, MOST), "most-is-not-less": (MOST, 0)},
+    "ltu": {"less": (1, 2), "same": (2, 2), "greater": (2, 1), "is-unsigned": (1, MOST), "most-is-not-less": (MOST, 0),
+            "the-top-bit-alone-is-not-less": (HIGH, 0), "than-the-top-bit-alone": (0, HIGH)},
     "lts": {
         "less": (1, 2),
         "same": (2, 2),
@@ -39,8 +46,12 @@ GIVEN = {
         "is-signed": (1, MOST),
         "least": (HIGH, HIGH - 1),
         "minus-one-is-less": (MOST, 0),
+        "the-top-bit-alone-is-less": (HIGH, 0),
+        "than-the-top-bit-alone": (0, HIGH),
     },
 }
+# What each operation leaves of a pointer whole: its result has the pointer's bits, and is an integer.
+WHOLE = {"add": 0, "sub": 0, "mul": 1, "divu": 1, "and": MOST, "or": 0, "xor": 0, "shl": 0, "shr": 0, "sar": 0}
 SHIFTS = {
     "by-none": (HIGH + 5, 0),
     "by-one": (HIGH + 5, 1),
@@ -74,6 +85,16 @@ def of_two_registers():
         yield does(f"{name}-into-its-first", f"{name} r1, r1, r2", {1: HIGH + 6, 2: 3})
         yield does(f"{name}-into-its-second", f"{name} r2, r1, r2", {1: HIGH + 6, 2: 3})
         yield does(f"{name}-of-the-last-registers", f"{name} r15, r14, r13", {15: ALL_DATA, 14: 9, 13: 4})
+    for name, other in WHOLE.items():
+        yield does(f"{name}-that-leaves-a-pointer's-bits-is-an-integer", f"{name} r3, r1, r2", {1: ALL_DATA, 2: other})
+        if name in ("add", "mul", "and", "or", "xor"):
+            yield does(
+                f"{name}-that-leaves-its-second's-bits-is-an-integer", f"{name} r3, r2, r1", {1: ALL_DATA, 2: other}
+            )
+    yield does("remu-that-leaves-a-pointer's-bits-is-an-integer", "remu r3, r1, r2", {1: ALL_DATA, 2: MOST})
+    for name in ("eq", "ltu", "lts", "sub", "xor"):
+        yield does(f"{name}-of-equal-bits-with-other-tags", f"{name} r3, r1, r2", {1: ALL_DATA, 2: ALL_DATA.bits})
+        yield does(f"{name}-of-equal-bits-with-tags-the-other-way", f"{name} r3, r2, r1", {1: ALL_DATA, 2: ALL_DATA.bits})
     for name in ("divu", "remu"):
         yield fails(f"{name}-by-zero", "DivZero", f"{name} r3, r1, r2", {1: 7, 2: 0, 3: 1})
         yield fails(f"{name}-zero-by-zero", "DivZero", f"{name} r3, r1, r2", {})
@@ -82,6 +103,7 @@ def of_two_registers():
 def of_a_number():
     for what, (a, number) in IMMEDIATES.items():
         yield does(f"addi-{what}", f"addi r3, r1, {number}", {1: a})
+    yield does("addi-that-leaves-a-pointer's-bits-is-an-integer", "addi r3, r1, 0", {1: ALL_DATA})
     yield does("addi-of-a-pointer-is-an-integer", "addi r3, r1, 8", {1: ALL_DATA})
     yield does("addi-into-its-register", "addi r1, r1, 8", {1: 5})
     for what, number in {"none": 0, "most": 2**31 - 1, "least": -(2**31), "minus-one": -1}.items():

@@ -81,6 +81,23 @@ def branches():
     yield does("lip-in-privileged-code-is-privileged", "lip r3, 1; restrict r4, r3, r1", {1: 6}, permission="xp")
 
 
+def through_enter_pointers(name, way, code):
+    """Where an enter pointer leads is tested by the fetch, as where an execute pointer leads."""
+    for permission in ("eu", "ep"):
+        for what, to, ends in (
+            ("a-misaligned-address", pointer(permission, PAGE_LOG, DATA + 17), "faulted 4"),
+            ("the-last-byte", pointer(permission, PAGE_LOG, DATA + 0xFFF), "faulted 3"),
+            ("a-segment-of-one-word", pointer(permission, 3, DATA + 16), "did"),
+            ("a-misaligned-address-of-one-word", pointer(permission, 3, DATA + 18), "faulted 3"),
+            ("a-segment-of-four-bytes", pointer(permission, 2, DATA + 16), "faulted 3"),
+            ("a-segment-of-one-byte", pointer(permission, 0, DATA + 16), "faulted 3"),
+            ("an-unmapped-page", pointer(permission, PAGE_LOG, DATA + PAGE_BYTES), "faulted 5"),
+            ("a-word-that-is-no-instruction", pointer(permission, PAGE_LOG, DATA + 32), "faulted 7"),
+        ):
+            yield does(f"{name}-through-{permission}-to-{what}", [way], {1: to}, cells={**code, DATA + 32: -1}, turns=2,
+                       shows=f"t 0 2 {ends}")
+
+
 def jumps():
     there = pointer("xu", PAGE_LOG, DATA + 16)
     code = {DATA + 16: "ldi r7, 1", DATA + 24: "halt"}
@@ -149,6 +166,7 @@ def jumps():
         yield does(
             f"{name}-of-the-last-registers", [way.replace("r1", "r14").replace("r3", "r15")], {14: there}, cells=code
         )
+        yield from through_enter_pointers(name, way, code)
     end = {"start": 31}
     yield does("jmp-in-the-last-word", ["nop"] * 31 + ["jmp r1"], {1: there}, cells=code, turns=2, **end)
     yield fails("jal-in-the-last-word", "Bounds", ["nop"] * 31 + ["jal r3, r1"], {1: there, 3: 7}, code, turns=1, **end)

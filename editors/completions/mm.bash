@@ -2,7 +2,7 @@
 
 _mm() {
     local word=${COMP_WORDS[COMP_CWORD]} before=${COMP_WORDS[COMP_CWORD-1]} command='' at
-    local commands='run debug trace view vcd symbols dis audit why check-why explore holders sweep extract solo net save continue cc asm link migrate hex grade gen soak help'
+    local commands='run debug trace view vcd symbols dis audit why check-why explore holders sweep extract solo net save continue cc asm link migrate hex vectors grade gen soak help'
     COMPREPLY=()
     for ((at = 1; at < COMP_CWORD; at++)); do
         case ${COMP_WORDS[at]} in
@@ -13,7 +13,7 @@ _mm() {
     done
     case $before in
         --program | --schedule | --names | --output | -s | -o) compopt -o default; return ;;
-        --part) COMPREPLY=($(compgen -W 'memory frames pages slots' -- "$word")); return ;;
+        --part) COMPREPLY=($(compgen -W 'memory frames pages slots all' -- "$word")); return ;;
         --cycles | --states | --turns | --groups | --from | -n | -t | -g) return ;;
         --optimise | -O) COMPREPLY=($(compgen -W '0 1 2 3 s' -- "$word")); return ;;
         --heap | --stack | --clang | --slot | --prefix) return ;;
@@ -32,6 +32,7 @@ _mm() {
             symbols) options="$options --names --json --optimise --heap --stack --clang" ;;
             cc) options="$options --optimise --heap --stack --clang --slot --prefix --output" ;;
             hex) options="$options --part --output --optimise --heap --stack --clang" ;;
+            vectors) options="$options --count --output" ;;
             explore) options="$options --states --names --optimise --heap --stack --clang" ;;
             grade) options="$options --optimise --heap --stack --clang" ;;
             dis) options="$options --names" ;;

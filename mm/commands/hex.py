@@ -3,17 +3,35 @@
 from __future__ import annotations
 
 from mm.console import Console
-from mm.formats.hex import PARTS
-from mm.status import Status, usage
+from mm.formats.hex import PARTS, TESTBENCH_PARTS, text_of, write_parts
+from mm.status import Status, Stop, usage
 from mm.table import OUTPUT, PART
+
+# The parts of a testbench, each in a file of its own.
+ALL = "all"
 
 
 def run(console: Console) -> int:
     part = console.said.value(PART) or "memory"
+    if part == ALL:
+        return _all(console)
     if part not in PARTS:
-        raise usage(f"mm: hex: `{part}` is no part of an image: {', '.join(PARTS)}")
+        raise usage(f"mm: hex: `{part}` is no part of an image: {', '.join([*PARTS, ALL])}")
     lines = PARTS[part](console.build(console.words).image)
     if console.said.value(OUTPUT) is not None:
-        return console.put("".join(line + "\n" for line in lines).encode("ascii"))
+        return console.put(text_of(lines).encode("ascii"))
     console.write(lines)
+    return Status.DONE
+
+
+def _all(console: Console) -> int:
+    """Writes NAME.frames, NAME.pages and NAME.slots, where --output is NAME."""
+    front = console.said.value(OUTPUT)
+    if front is None:
+        raise usage(f"mm: hex: --part {ALL} wants --output NAME, for NAME.{', NAME.'.join(TESTBENCH_PARTS)}")
+    image = console.build(console.words).image
+    try:
+        write_parts(image, front)
+    except OSError as error:
+        raise Stop(Status.WRITE_FAULT, f"mm: {error.filename} cannot be written: {error.strerror}") from None
     return Status.DONE

@@ -4,8 +4,9 @@ from __future__ import annotations
 
 from typing import Callable, Iterator
 
+from mm.formats.bytesreader import bit_of
 from mm.formats.image import NO_HANDLER, PAGE_WORDS, Image, Page, Slot
-from mm.machine.words import Cell, Word
+from mm.machine.words import Word
 
 # The slots of any image, the words that each has here, and which of them are its registers.
 SLOTS, SLOT_WORDS, FIRST_REGISTER = 64, 32, 16
@@ -19,24 +20,32 @@ def word_text(word: Word) -> str:
     return f"{word.tagged:x}{word.bits:016x}"
 
 
-def cell_text(cell: Cell) -> str:
-    """A cell, 66 bits: full, the tag and the word."""
-    return f"{cell.full << 1 | cell.word.tagged:x}{cell.word.bits:016x}"
+# The place 0, where no other line says a place. Without any place Icarus takes a file for a whole array, and says on
+# the standard output if it is shorter.
+FRONT = "@0"
 
 
 def _page(page: Page, at: int) -> Iterator[str]:
+    """The cells of a page from a place on, 66 bits each: full, the tag and the word."""
     yield f"@{at:x} // page {page.number:011x}"
-    yield from (cell_text(page.cell(place)) for place in range(PAGE_WORDS))
+    words = page.words.hex()
+    for place in range(PAGE_WORDS):
+        digit = bit_of(page.full, place) << 1 | bit_of(page.tags, place)
+        yield f"{digit}{words[16 * place : 16 * place + 16]}"
 
 
 def _memory(image: Image) -> Iterator[str]:
     """Each page at its own address, counted in words."""
+    if not image.pages:
+        yield FRONT
     for number, page in sorted(image.pages.items()):
         yield from _page(page, number * PAGE_WORDS)
 
 
 def _frames(image: Image) -> Iterator[str]:
     """The pages one after another from 0 on: the k-th of them in frame k."""
+    if not image.pages:
+        yield FRONT
     for frame, (_, page) in enumerate(sorted(image.pages.items())):
         yield from _page(page, frame * PAGE_WORDS)
 
@@ -44,6 +53,7 @@ def _frames(image: Image) -> Iterator[str]:
 def _pages(image: Image) -> Iterator[str]:
     """The page of each frame, 45 bits: whether there is one, and its number."""
     numbers = sorted(image.pages)
+    yield FRONT
     yield from (f"{PAGE_THERE | number:012x}" for number in numbers)
     yield from (f"{0:012x}" for _ in range(image.frames - len(numbers)))
 
@@ -68,9 +78,22 @@ def _slots(image: Image) -> Iterator[str]:
             yield from map(word_text, slot.registers)
 
 
+def text_of(lines: Iterator[str]) -> str:
+    """A part as a file has it."""
+    return "".join(f"{line}\n" for line in lines)
+
+
+def write_parts(image: Image, front: str) -> None:
+    """Writes what a testbench of any image reads: FRONT.frames, FRONT.pages and FRONT.slots."""
+    for part in TESTBENCH_PARTS:
+        with open(f"{front}.{part}", "w", encoding="ascii") as file:
+            file.write(text_of(PARTS[part](image)))
+
+
 PARTS: dict[str, Callable[[Image], Iterator[str]]] = {
     "memory": _memory,
     "frames": _frames,
     "pages": _pages,
     "slots": _slots,
 }
+TESTBENCH_PARTS = ("frames", "pages", "slots")

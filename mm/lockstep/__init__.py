@@ -6,8 +6,12 @@
     case      the image and the schedule of a number
     programs  a program as a command, and the lines that it writes as it runs
     compare   two logs turn by turn, up to the first difference
+    lines     lines of logs as they come from simulators, and as people are told of them
     shorten   a schedule cut down while the two still differ
+    shrink    a difference made small: from the state before it, with as little in the image as can be
+    results   what came of each case, as JSON and for servers that read JUnit
     tell      the report of a difference
+    vectors   operands and results of one operation
     tally     how often each operation had each outcome
     options   the words of the command
     main      the command"""

@@ -10,15 +10,17 @@ import sys
 from dataclasses import dataclass, field
 from typing import Callable, Iterator, Optional, Sequence, TypeVar
 
+from mm.formats.hex import write_parts
 from mm.formats.image import read_image
 from mm.formats.schedule import read_schedule
 from mm.lockstep.case import Case, case_of, items_of, schedule_text
 from mm.lockstep.compare import Difference, Pair, item_of, turns_of
 from mm.lockstep.options import read_options
 from mm.lockstep.programs import CYCLES, IMAGE, SCHEDULE, CannotRun, Command, Room, room
-from mm.lockstep.shorten import Shortener
+from mm.lockstep.results import Result, Results
+from mm.lockstep.shrink import Shrinker
 from mm.lockstep.tally import Tally
-from mm.lockstep.tell import kept, machine_of, report
+from mm.lockstep.tell import kept, machine_and_items, machine_of, report
 from mm.log.read import LogReader, NoLog
 from mm.log.replay import Machine
 from mm.machine.program import find_program
@@ -50,6 +52,13 @@ class Work:
     def model(self) -> Command:
         return Command("model", [self.path, "log", IMAGE, CYCLES, SCHEDULE], self.options.seconds)
 
+    def other(self, case: Case) -> Command:
+        """The other program, or what stands of the case in a folder of logs."""
+        if self.options.logs is None:
+            return Command("other", self.options.command, self.options.seconds, self.options.skip_lines)
+        log = os.path.join(self.options.logs, f"{case.name}.log")
+        return Command("other", ["cat", log], self.options.seconds, self.options.skip_lines)
+
     def case(self, number: int) -> Case:
         if self.options.image is None:
             return case_of(self.options.seed, number)
@@ -71,7 +80,7 @@ class Work:
     def compare(self, number: int) -> Came:
         """Runs both programs on a case, and where they differ looks for a shorter schedule."""
         case = self.case(number)
-        pair = Pair(self.model, Command("other", self.options.command, self.options.seconds), self.options.follow)
+        pair = Pair(self.model, self.other(case), self.options.follow)
         with room() as files:
             try:
                 found = pair.run(case, case.items, files)
@@ -83,16 +92,31 @@ class Work:
         return came
 
     def difference(self, pair: Pair, case: Case, found: Difference, files: Room) -> list[str]:
-        """The report of a difference, after its schedule was cut down."""
-        shortened = Shortener(lambda items: pair.run(case, items, files), case.items, found)
-        note = counted(len(case.items), "item")
+        """The report of a difference, after it was made small."""
+        items, note = case.items, counted(len(case.items), "item")
         if not (self.options.follow or self.options.whole):
-            ended = shortened.run()
-            more = "no item can be left out" if ended else "it may get shorter yet"
-            note = f"{counted(len(shortened.items), 'item')} of {len(case.items)}, {more}"
-        items, found = shortened.items, shortened.found
+            case, items, found, note = self.small(pair, case, found, files)
         machine = None if self.options.follow else machine_of(self.model, case, items, found, files)
         return report(case, items, found, note, kept(self.options.keep, case, items), machine)
+
+    def small(
+        self, pair: Pair, case: Case, found: Difference, files: Room
+    ) -> tuple[Case, tuple[int, ...], Difference, str]:
+        """A smaller case that differs in the same way: from the model's state just before the turn, if that does, and
+        else the same image with fewer items; and then with less in it."""
+
+        def attempt(image: bytes, items: tuple[int, ...]) -> Optional[Difference]:
+            return pair.run(Case(case.name, image, items), items, files)
+
+        shrinker = Shrinker(attempt, case.image, case.items, found, self.options.tries)
+        late = shrinker.from_state(lambda turns: machine_and_items(self.model, case, turns, files))
+        shrinker.cut_items()
+        more = "no item can be left out" if shrinker.tries > 0 else "it may get shorter yet"
+        shrinker.blank()
+        where = f", from the model's state before turn {found.same + 2 - late}" if late else ""
+        items = shrinker.items
+        note = f"{counted(len(items), 'item')} of {len(case.items)}{where}, {more}"
+        return Case(case.name, shrinker.image, items), items, shrinker.found, f"{note}; {shrinker.said()}"
 
     def tally(self, number: int) -> Tally:
         """Counts the outcomes of the model on a case."""
@@ -126,14 +150,20 @@ def each(options: argparse.Namespace, work: Callable[[int], Made]) -> Iterator[M
 
 
 def write_cases(options: argparse.Namespace) -> int:
-    """The images and schedules of the cases as files."""
+    """The images and schedules of the cases as files, and a list of them."""
     os.makedirs(options.write, exist_ok=True)
+    lines = []
     for number in numbers_of(options):
         case = case_of(options.seed, number)
+        lines.append(f"{case.name} {len(case.items)} {case.name}.schedule\n")
+        if options.hex:
+            write_parts(read_image(case.image), os.path.join(options.write, case.name))
         with open(os.path.join(options.write, f"{case.name}.img"), "wb") as file:
             file.write(case.image)
         with open(os.path.join(options.write, f"{case.name}.schedule"), "w", encoding="ascii") as file:
             file.write(schedule_text(case.items))
+    with open(os.path.join(options.write, "cases"), "w", encoding="ascii") as file:
+        file.writelines(lines)
     return SAME
 
 
@@ -147,18 +177,20 @@ def tally_cases(options: argparse.Namespace) -> int:
 
 def compare_cases(options: argparse.Namespace) -> int:
     """Compares case by case, up to the first that differs or all of them."""
-    differ: list[str] = []
-    cases = turns = 0
+    turns = 0
+    results = Results("lockstep", len(numbers_of(options)), progress=options.progress)
     for came in each(options, Work(options).compare):
         if came.cannot:
             print(f"lockstep: {came.cannot}", file=sys.stderr)
             return NOT_RUN
-        cases, turns = cases + 1, turns + came.turns
+        turns += came.turns
+        results.add(Result("random" if options.image is None else "image", came.name, came.lines))
         if came.lines:
-            differ.append(came.name)
             print("\n".join(came.lines), flush=True)
             if not options.all:
                 break
+    results.write(options.json, options.junit)
+    cases, differ = len(results.rows), [row.case for row in results.rows if row.differs]
     what = f"different: {' '.join(differ)}" if differ else "no difference"
     print(f"lockstep: {counted(cases, 'case')}, {counted(turns, 'turn')}, {what}")
     return DIFFERS if differ else SAME

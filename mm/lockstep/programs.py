@@ -11,6 +11,8 @@ import threading
 from dataclasses import dataclass, field
 from typing import IO, Iterator, Sequence
 
+from mm.lockstep.lines import log_lines
+
 IMAGE, CYCLES, SCHEDULE = "{image}", "{cycles}", "{schedule}"
 SAID_BYTES = 2000
 
@@ -35,10 +37,11 @@ class Running:
 
 
 class Command:
-    """The words of a command, in which `{image}`, `{cycles}` and `{schedule}` stand for a case."""
+    """The words of a command, in which `{image}`, `{cycles}` and `{schedule}` stand for a case. Lines of a simulator, and
+    those that begin as `skipped` says, are not of its log."""
 
-    def __init__(self, name: str, words: Sequence[str], seconds: int) -> None:
-        self.name, self.words, self.seconds = name, list(words), seconds
+    def __init__(self, name: str, words: Sequence[str], seconds: int, skipped: Sequence[str] = ()) -> None:
+        self.name, self.words, self.seconds, self.skipped = name, list(words), seconds, tuple(skipped)
 
     def words_for(self, image: str, cycles: int, schedule: str) -> list[str]:
         found = {IMAGE: image, CYCLES: str(cycles), SCHEDULE: schedule}
@@ -76,8 +79,7 @@ class Command:
     def _lines(
         self, started: subprocess.Popen[bytes], said: IO[bytes], late: threading.Event, running: Running
     ) -> Iterator[str]:
-        for line in started.stdout:
-            yield line.decode("latin-1").rstrip("\n")
+        yield from log_lines((line.decode("latin-1").rstrip("\n") for line in started.stdout), self.skipped)
         status = started.wait()
         if late.is_set():
             running.wrong.append(f"it was stopped after {self.seconds} seconds")

@@ -10,6 +10,7 @@ from mm.formats.image import read_image
 from mm.formats.schedule import PORT
 from mm.lockstep.case import Case, schedule_text
 from mm.lockstep.compare import Difference, is_report, item_of
+from mm.lockstep.lines import for_people
 from mm.lockstep.programs import Command, Room
 from mm.log.read import LogReader, NoLog
 from mm.log.replay import Machine, SlotNow
@@ -31,15 +32,18 @@ def spelled(word: Optional[Word]) -> str:
     return SPELLER.register(word) if word is None else f"{word}  {SPELLER.word(word)}"
 
 
-def machine_before(model: Command, case: Case, items: tuple[int, ...], turns: int, files: Room) -> Machine:
-    """The model's machine after so many turns, rebuilt from its log."""
+def machine_and_items(
+    model: Command, case: Case, turns: int, files: Room
+) -> tuple[Machine, tuple[int, ...]]:
+    """The model's machine after so many turns, rebuilt from its log, and the items that made these turns."""
     image = files.file("told.img", case.image)
-    schedule = files.file("told.schedule", schedule_text(items).encode("ascii"))
-    machine = Machine(read_image(case.image))
-    with model.run(image, len(items), schedule) as running:
+    schedule = files.file("told.schedule", schedule_text(case.items).encode("ascii"))
+    machine, items = Machine(read_image(case.image)), []
+    with model.run(image, len(case.items), schedule) as running:
         for step in islice(LogReader(running.lines).steps(), turns):
             machine.carry_out(step)
-    return machine
+            items.append(step.item)
+    return machine, tuple(items)
 
 
 def handler_of(slot: SlotNow) -> str:
@@ -111,7 +115,7 @@ def turn_lines(machine: Machine, found: Difference) -> Iterator[str]:
 
 def said(title: str, turn: Optional[list[str]], others: Optional[list[str]], wrong: list[str]) -> Iterator[str]:
     """What one program says. A line that the other one does not have is marked."""
-    lines = [f"{' ' if others and line in others else '>'} {line}" for line in turn or []]
+    lines = [f"{' ' if others and line in others else '>'} {for_people(line)}" for line in turn or []]
     if is_report(turn):
         lines = [line for line in lines if line.startswith(">")] if is_report(others) else ["> its report"]
     lines = lines or (["> nothing more"] if others else [])
@@ -140,7 +144,7 @@ def report(
     lines.append(row("image", image))
     lines.append(row("schedule", f"{schedule}: {shown}  ({note})"))
     if found.before:
-        lines += [row("before" if at == 0 else "", line) for at, line in enumerate(found.before)]
+        lines += [row("before" if at == 0 else "", for_people(line)) for at, line in enumerate(found.before)]
     if machine:
         lines += turn_lines(machine, found)
     lines += said("model", found.model, found.other, found.model_wrong)
@@ -162,6 +166,6 @@ def kept(folder: str, case: Case, items: tuple[int, ...]) -> tuple[str, str]:
 def machine_of(model: Command, case: Case, items: tuple[int, ...], found: Difference, files: Room) -> Optional[Machine]:
     """The machine before the difference; none if the model wrote no log."""
     try:
-        return machine_before(model, case, items, found.same, files)
+        return machine_and_items(model, Case(case.name, case.image, items), found.same, files)[0]
     except (NoLog, KeyError, ValueError):
         return None

@@ -3,10 +3,12 @@
 import contextlib
 import hashlib
 import io
+import json
 import os
 import shutil
 import stat
 import unittest
+from xml.etree import ElementTree
 
 from mm.formats.image import image_bytes, read_image
 from mm.formats.schedule import read_schedule
@@ -15,13 +17,18 @@ from mm.lockstep.code import Coder
 from mm.lockstep.compare import Difference, first_difference, item_of, turns_of
 from mm.lockstep.dice import Dice
 from mm.lockstep.main import main
+from mm.lockstep.lines import for_people, log_lines
+from mm.lockstep.results import Result, Results
 from mm.lockstep.shorten import Shortener
+from mm.lockstep.shrink import Shrinker, image_of, kind_of
 from mm.lockstep.tally import Tally
+from mm.lockstep.vectors import units, vectors
 from mm.lockstep.world import World
 from mm.log.read import read_log
 from mm.log.replay import Machine
 from mm.machine.isa import OPERATIONS, decode
 from mm.machine.program import find_program
+from mm.machine.words import ZERO, Cell
 from mm.tests.support import folder, needs_log, path_of, read, read_bytes, write
 from mm.tests.test_log import LOG, small_image
 
@@ -122,6 +129,73 @@ class Shortened(unittest.TestCase):
         found = Difference(0, [], None, None)
         shortener = Shortener(lambda items: found if len(set(items)) == 3000 else None, tuple(range(3000)), found)
         self.assertFalse(shortener.run())
+
+
+class Told(unittest.TestCase):
+    def test_lines_of_a_simulator(self):
+        lines = ["# 17 ns", "- bench.sv:9: Verilog $finish", "%Warning: x", "VCD info: y", "t 0 1 did"]
+        self.assertEqual(list(log_lines(lines)), ["VCD info: y", "t 0 1 did"])
+        self.assertEqual(list(log_lines(lines, ["VCD"])), ["t 0 1 did"])
+
+    def test_names_and_blanks(self):
+        for line, shown in (
+            ("t 0 3 faulted 3", "t 0 3 faulted 3    (Bounds)"),
+            ("state 1 faulted 13", "state 1 faulted 13    (OutFull)"),
+            ("event 2 1 9 p0 i0 i0", "event 2 1 9 p0 i0 i0    (DivZero)"),
+            ("ip 0 p1 ", "ip 0 p1    (trailing blank)"),
+            ("t 0 3 faulted 3 \t", "t 0 3 faulted 3    (Bounds, trailing blanks)"),
+            ("r 0 3 i3", "r 0 3 i3"),
+        ):
+            self.assertEqual(for_people(line), shown)
+
+    def test_results(self):
+        results = Results("suite", 3)
+        for theme, case, told in (("a", "one", []), ("a", "two", ["two: line 1 <differs>"]), ("b", "three", [])):
+            results.add(Result(theme, case, told))
+        self.assertEqual(results.by_theme(), [("a", 2, 1), ("b", 1, 0)])
+        self.assertEqual(json.loads(results.json())["themes"], {"a": {"cases": 2, "differ": 1}, "b": {"cases": 1, "differ": 0}})
+        suites = ElementTree.fromstring(results.junit()).findall("testsuite")
+        self.assertEqual([suite.get("failures") for suite in suites], ["1", "0"])
+        self.assertEqual(suites[0].find("testcase/failure").get("message"), "two: line 1 <differs>")
+
+
+class Shrunk(unittest.TestCase):
+    """A difference that wants one register and one cell, whatever else the image has."""
+
+    def test_what_can_go_goes(self):
+        image = read_image(read_bytes("examples", "counter.img"))
+        wanted = next(number for number, word in enumerate(image.slots[0].registers) if word != ZERO)
+        address = next(address for address, cell in image.cells() if cell != Cell())
+        found = Difference(0, [], ["t 0 1 did", "r 0 1 i1"], ["t 0 1 did", "r 0 1 i2"])
+
+        def attempt(data, items):
+            tried = read_image(data)
+            slot = tried.slot(image.slots[0].number)
+            there = slot and slot.registers[wanted] == image.slots[0].registers[wanted]
+            return found if there and tried.cell(address) == image.cell(address) and 0 in items else None
+
+        shrinker = Shrinker(attempt, image_bytes(image), (1, 0, 1, 0, 1), found, 600)
+        shrinker.cut_items()
+        shrinker.blank()
+        self.assertEqual((shrinker.items, shrinker.said()), ((0,), "1 slot, 1 page, 1 register, 1 cell; no one can go"))
+
+    def test_another_difference_is_not_taken(self):
+        other = Difference(0, [], ["t 0 1 did"], ["t 0 1 blocked"])
+        found = Difference(0, [], ["t 0 1 did", "r 0 1 i1"], ["t 0 1 did"])
+        shrinker = Shrinker(lambda *_: other, image_bytes(small_image()), (0, 1), found, 10)
+        shrinker.cut_items()
+        self.assertEqual((shrinker.items, kind_of(found) == kind_of(other), shrinker.tries < 10), ((0, 1), False, True))
+
+    def test_the_state_before_a_turn(self):
+        machine = Machine(small_image())
+        for step in read_log(LOG.splitlines())[0][:5]:
+            machine.carry_out(step)
+        image = image_of(machine)
+        self.assertEqual(read_image(image_bytes(image)), image)
+        for slot in image.slots:
+            now = machine.slots[slot.number]
+            self.assertEqual((slot.ip.bits, slot.halted), (now.ip.bits, now.state != "running"))
+            self.assertEqual(slot.registers, tuple(word or ZERO for word in now.registers))
 
 
 class Counted(unittest.TestCase):
@@ -246,8 +320,53 @@ class Command(unittest.TestCase):
     def test_write(self):
         with folder() as room:
             self.assertEqual(lockstep("--write", room, "--first", "3", "--count", "2")[0], 0)
-            self.assertEqual(sorted(os.listdir(room)), ["1-3.img", "1-3.schedule", "1-4.img", "1-4.schedule"])
+            self.assertEqual(sorted(os.listdir(room)), ["1-3.img", "1-3.schedule", "1-4.img", "1-4.schedule", "cases"])
             self.assertEqual(case_of(1, 4).image, read_bytes(room, "1-4.img"))
+
+
+@needs_log
+class Vectors(unittest.TestCase):
+    def test_lea(self):
+        found = list(vectors(find_program(), "lea", 200))
+        self.assertEqual(len(found), 200)
+        for vector in found:
+            pointer = vector.a.pointer
+            distance = vector.b.bits - (1 << 64 if vector.b.bits >> 63 else 0)
+            if not vector.fault:
+                self.assertEqual(vector.result.pointer.address, pointer.address + distance)
+                self.assertEqual(vector.result.pointer.base, pointer.base)
+            elif vector.fault == 1:
+                self.assertIsNone(pointer if vector.a.tagged else None)
+        self.assertEqual({vector.fault for vector in found}, {0, 1, 2, 3})
+
+    def test_each_unit(self):
+        for name in units():
+            found = list(vectors(find_program(), name, 70))
+            self.assertEqual(len(found), 70)
+            self.assertTrue(any(not vector.fault for vector in found), name)
+            self.assertRegex(found[0].line, "^[01][0-9a-f]{16} [01][0-9a-f]{16} [0-9a-f] [01][0-9a-f]{16}$")
+
+
+class Folder(unittest.TestCase):
+    """Cases written as files, with their texts for Verilog, and logs that came of them."""
+
+    @needs_log
+    def test_logs_of_a_folder(self):
+        with folder() as room:
+            self.assertEqual(lockstep("--write", room, "--hex", "--count", "3")[0], 0)
+            names = sorted(os.listdir(room))
+            self.assertEqual(len(names), 3 * 5 + 1)
+            for line in read(room, "cases").splitlines():
+                name, cycles, order = line.split()
+                words = ["log", os.path.join(room, f"{name}.img"), cycles, os.path.join(room, order)]
+                write(room, f"{name}.log", "# a comment\n" + find_program().run(words).text)
+            status, out, _ = lockstep("--logs", room, "--count", "3")
+            self.assertEqual((status, out[-15:]), (0, " no difference\n"), out)
+            write(room, "1-1.log", read(room, "1-1.log").replace("did", "DID", 1))
+            json_file = os.path.join(room, "out.json")
+            status, out, _ = lockstep("--logs", room, "--count", "3", "--all", "--json", json_file, "--keep", room)
+            with open(json_file, encoding="utf-8") as file:
+                self.assertEqual((status, json.load(file)["differ"]), (1, 1), out)
 
 
 @needs_log
