@@ -80,14 +80,18 @@ def _run(words: Sequence[str], text: Optional[str] = None, warns: bool = False) 
     return ended.stdout.decode("utf-8", "surrogateescape")
 
 
+def as_file(path: str) -> str:
+    """A path that Clang takes for a file: an absolute one, since a name that begins with a dash would be an option. Clang reads
+    the last part of a path as a word too, and a word that begins with an at sign names a file of options."""
+    if os.path.basename(path).startswith("@"):
+        raise NoC(Status.REFUSED, f"mm: {path}: Clang would take this name for options: give the file another one, without `@`")
+    return os.path.abspath(path)
+
+
 def text_of(path: str, level: str = "1", more: Sequence[str] = (), lines: bool = False) -> str:
     """LLVM's text of a file, with its lines and the names of its locals where these are wanted."""
     names = ["-fno-discard-value-names"] if lines else []
-    if os.path.basename(path).startswith("@"):
-        # Clang reads the last part of a path as a word too, and such a word names a file of options.
-        raise NoC(Status.REFUSED, f"mm: {path}: Clang would take this name for options: give the file another one, without `@`")
-    # Clang sees an absolute path: a name that begins with a dash or an at sign would be an option of its own.
-    full = os.path.abspath(path)
+    full = as_file(path)
     front = [*FRONT, *_told_as(path, full), "-g", *names, f"-O{level}", *more, *([] if level == "0" else AS_WRITTEN)]
     text = lowered(_run([*front, full], warns=lines), lines)
     if level == "0":

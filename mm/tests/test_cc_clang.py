@@ -200,7 +200,7 @@ class Programs(unittest.TestCase):
 @needs_clang
 class Read(unittest.TestCase):
     def test_names_that_look_like_options(self):
-        for name in ("@args.c", "-o.c", "-DX.c"):
+        for name in ("-o.c", "-DX.c"):
             with folder() as room:
                 write(room, name, "int main(void) { return 0; }\n")
                 before = os.getcwd()

@@ -87,9 +87,8 @@ class LongLines(unittest.TestCase):
 
 class Clang(unittest.TestCase):
     def test_names_that_are_options(self):
-        self.assertEqual(as_file("-o.c"), "./-o.c")
-        self.assertEqual(as_file("@d/x.c"), "./@d/x.c")
-        self.assertEqual(as_file("x.c"), "x.c")
+        for name in ("-o.c", "@d/x.c", "x.c"):
+            self.assertEqual(as_file(name), os.path.join(os.getcwd(), name))
         for name in ("@args.c", "d/@args.c", "/d/@args.c"):
             with self.assertRaises(Stop):
                 as_file(name)
@@ -115,10 +114,10 @@ class Clang(unittest.TestCase):
     def test_its_time_has_a_limit(self):
         lines = ["#define A0 x x x x x x x x x x"]
         lines += [f"#define A{at + 1} " + f"A{at} " * 10 for at in range(8)]
-        with folder() as room, mock.patch("mm.cc.clang.CPU_SECONDS", 1):
+        with folder() as room, mock.patch("mm.cc.clang.SECONDS", 1):
             with self.assertRaises(Stop) as stopped:
                 text_of(write(room, "b.c", "\n".join([*lines, "A8", ""])))
-        self.assertIn("Clang was stopped", stopped.exception.lines[0])
+        self.assertIn("Clang was stopped", "\n".join(stopped.exception.lines))
 
 
 @needs_program
