@@ -4,6 +4,7 @@ pub mod Split
 pub mod CountsOf
 pub mod Spelled
 pub mod SpelledObjects
+pub mod SpelledRecords
 pub mod Items
 pub mod Listed
 pub mod Reach

@@ -5,3 +5,4 @@ pub mod WorkedReach
 pub mod WorkedWords
 pub mod WorkedCommands
 pub mod WorkedObjects
+pub mod WorkedRecords

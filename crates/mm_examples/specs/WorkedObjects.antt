@@ -1,5 +1,9 @@
--- Worked examples of the first faults of object files.
-use Rattle.std.specs.Prelude.{◌≡◌, ℕ, List, [], ◌∷◌, ◌++◌, take, slice_set, replicate, Some, None}
+-- Worked examples of object files: of the bytes of records, and of first faults.
+use Rattle.std.specs.Prelude.{◌≡◌, ℕ, List, [], ◌∷◌, ◌++◌, take, slice_set, replicate, codes, Some, None}
+use Rattle.std.specs.Prelude.{true, false}
+use Rattle.mm_word.specs.declared.perm.Perm.TheVariants.{Ro, Rw, Xu}
+use Rattle.mm_object.specs.declared.thread.Value.TheVariants.{Int, Ptr}
+use Rattle.mm_object.specs.Format.{segment_record, reloc_record, thread_record}
 use Rattle.mm_object.specs.Faults.{object_fault}
 
 -- the bytes of an object: a segment `a` of one word, an external `x`, and a relocation that makes the word a pointer
@@ -37,3 +41,42 @@ UsesAreLate =
     (object_fault (slice_set object_bytes 42 0) ≡ Some (5, 32))
     × (object_fault (slice_set (slice_set object_bytes 42 0) 40 0) ≡ Some (7, 34))
     × (object_fault (slice_set object_bytes 42 0 ++ 0 ∷ []) ≡ Some (5, 32))
+
+-- The bytes of records: each field of a record has a value of its own, so a table that had two of them in the other
+-- order would spell other bytes.
+
+-- name, logarithm of the length, count of words, full bits, words
+abbrev pub SpellsSegments : Type 0
+SpellsSegments =
+    segment_record (record {
+      name = codes "ab";
+      log = 7;
+      items = record { bits = 8; full = false } ∷ record { bits = 9; full = true } ∷ [];
+    })
+    ≡ (2 ∷ 97 ∷ 98 ∷ 7 ∷ 0 ∷ 0 ∷ 0 ∷ 2 ∷ 2 ∷ [])
+    ++ (0 ∷ 0 ∷ 0 ∷ 0 ∷ 0 ∷ 0 ∷ 0 ∷ 8 ∷ 0 ∷ 0 ∷ 0 ∷ 0 ∷ 0 ∷ 0 ∷ 0 ∷ 9 ∷ [])
+
+-- segment, word, permission, index of the target, addend
+abbrev pub SpellsRelocations : Type 0
+SpellsRelocations =
+    reloc_record (record { segment = 4; word = 5; perm = Rw; target = record { index = 6; addend = 7 } })
+    ≡ 0 ∷ 4 ∷ 0 ∷ 0 ∷ 0 ∷ 5 ∷ 2 ∷ 0 ∷ 6 ∷ 0 ∷ 0 ∷ 0 ∷ 7 ∷ []
+
+-- slot, group, handler, permission, index of the target, addend, tags, registers
+abbrev pub SpellsThreads : Type 0
+SpellsThreads =
+    thread_record (record {
+      slot = 1;
+      group = 2;
+      handler = Some 5;
+      perm = Xu;
+      target = record { index = 6; addend = 8 };
+      regs =
+          Int 9
+          ∷ Ptr Ro (record { index = 10; addend = 16 })
+          ∷ replicate 14 (Int 0);
+    })
+    ≡ (1 ∷ 2 ∷ 5 ∷ 3 ∷ 0 ∷ 6 ∷ 0 ∷ 0 ∷ 0 ∷ 8 ∷ 0 ∷ 2 ∷ [])
+    ++ (0 ∷ 0 ∷ 0 ∷ 0 ∷ 0 ∷ 0 ∷ 0 ∷ 9 ∷ [])
+    ++ (1 ∷ 0 ∷ 0 ∷ 10 ∷ 0 ∷ 0 ∷ 0 ∷ 16 ∷ [])
+    ++ replicate 112 0

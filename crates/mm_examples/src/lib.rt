@@ -14,7 +14,9 @@ ghost use Rattle.mm_examples.specs.WorkedSchedules.{MeansItems, MeansNothing, Me
 ghost use Rattle.mm_examples.specs.WorkedSchedules.{CountsTooMany, ListsTooMany, CountsNone, LeadsWithZero};
 ghost use Rattle.mm_examples.specs.WorkedSchedules.{KeepsOneGroup, KeepsIdleItems, KeepsPorts, RobinBeginsLate};
 ghost use Rattle.mm_examples.specs.WorkedCommands.{TableIsWrittenOut};
-ghost use Rattle.mm_examples.specs.WorkedObjects.{FirstObjectFaults, UsesAreLate};
+ghost use Rattle.mm_examples.specs.WorkedObjects.{FirstObjectFaults, UsesAreLate, SpellsSegments};
+ghost use Rattle.mm_examples.specs.WorkedObjects.{SpellsRelocations, SpellsThreads};
+ghost use Rattle.mm_examples.specs.WorkedRecords.{SpellsSlots, SpellsPages};
 ghost use Rattle.mm_examples.specs.WorkedReach.{TouchesItsCode, NoGroupWrites, WritesNoCode, TwoGroupsStandApart};
 ghost use Rattle.mm_examples.specs.WorkedReach.{BothCanWrite, NeitherStandsApart};
 ghost use Rattle.mm_examples.specs.WorkedWords.{MakesPointers, MakesNone, Moves, MovesFromTheBase, Restricts, Shortens};
@@ -96,6 +98,16 @@ pub fn bytes_of_images()
     ensures spelled_in_bytes { SpelledInBytes }
     ensures first_faults { FirstFaults }
     ensures handlers_are_late { HandlersAreLate }
+{}
+
+/// Examples of the bytes of records of images and objects.
+#[tactic(auto, using(crate::proofs::SpelledRecords::spells_slots, crate::proofs::SpelledRecords::spells_pages, crate::proofs::SpelledRecords::spells_segments, crate::proofs::SpelledRecords::spells_relocations, crate::proofs::SpelledRecords::spells_threads))]
+pub fn bytes_of_records()
+    ensures slots { SpellsSlots }
+    ensures pages { SpellsPages }
+    ensures segments { SpellsSegments }
+    ensures relocations { SpellsRelocations }
+    ensures threads { SpellsThreads }
 {}
 
 /// Examples of the first faults of object files.
