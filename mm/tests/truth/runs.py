@@ -177,7 +177,10 @@ class Case:
             check(f"{kind} line", int(there[2]) == self.names.lines.get(address & ~7), (rows[1], hex(address)))
             check(f"{kind} line unchanged", state.cell(address) == self.image.cells.get(address & ~7), (rows[1], state.cell(address)))
         elif there:
-            check(f"{kind} there", self.names.is_there(there[3], state.cell(address), self.said, address), (rows[1], state.cell(address)))
+            word, after, _ = there[3].partition("  (after the last line of ")
+            check(f"{kind} there", self.names.is_there(word, state.cell(address), self.said, address), (rows[1], state.cell(address)))
+            ends = slot["state"] == "halted" and address not in self.names.lines and state.cell(address) == ("i" + 16 * "0", True)
+            check(f"{kind} after the last line", not after or ends, (rows[1], state.cell(address), slot["state"]))
 
     # A trace
 
