@@ -177,9 +177,11 @@ class Case:
             check(f"{kind} line", int(there[2]) == self.names.lines.get(address & ~7), (rows[1], hex(address)))
             check(f"{kind} line unchanged", state.cell(address) == self.image.cells.get(address & ~7), (rows[1], state.cell(address)))
         elif there:
-            word, after, _ = there[3].partition("  (after the last line of ")
+            word, _, after = there[3].partition("  (after the last line of ")
             check(f"{kind} there", self.names.is_there(word, state.cell(address), self.said, address), (rows[1], state.cell(address)))
-            ends = slot["state"] == "halted" and address not in self.names.lines and state.cell(address) == ("i" + 16 * "0", True)
+            base, log, _ = self.names.segments.get(after.removesuffix(": a word that holds 0 is `halt`)"), (0, 0, 0))
+            stops = slot["state"] == "halted" and state.cell(address) == ("i" + 16 * "0", True)
+            ends = stops and base <= address < base + (1 << log) and address not in self.names.lines
             check(f"{kind} after the last line", not after or ends, (rows[1], state.cell(address), slot["state"]))
 
     # A trace
