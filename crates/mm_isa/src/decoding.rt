@@ -34,7 +34,7 @@ pub fn read(w: u64) -> Option<Instr>
     if summed(&i) == w { Some(i) } else { None }
 }
 
-// The instruction of the fields' operation, with the fields that it uses. The other fields are ignored.
+/// The instruction of the fields' operation, with the fields that it uses. The other fields are ignored.
 #[inline(always)]
 #[tactic(auto, unfolding(crate::specs::Decode::row_of, crate::specs::Decode::rows))]
 pub(crate) fn row(f: Fields) -> Option<Instr>
@@ -110,7 +110,7 @@ pub(crate) fn row(f: Fields) -> Option<Instr>
     }
 }
 
-// The integer operation with this number.
+/// The integer operation with this number.
 fn op_of(number: u8) -> AluOp
     requires low { 0x10 ≤ number }
     requires high { number ≤ 0x1d }
@@ -134,6 +134,7 @@ fn op_of(number: u8) -> AluOp
     }
 }
 
+/// The precondition that the upper two bits of a 4-bit `c` name: 0 any, 1 full, else empty.
 fn pre_of(c: u8) -> Pre
     ensures { result ≡ pre_in c }
 {
@@ -144,6 +145,7 @@ fn pre_of(c: u8) -> Pre
     }
 }
 
+/// The postcondition that the lower two bits of `c` name: 0 keep, 1 full, else empty.
 fn post_of(c: u8) -> Post
     ensures { result ≡ post_in c }
 {
@@ -154,6 +156,7 @@ fn post_of(c: u8) -> Post
     }
 }
 
+/// How a handler resumes a slot, by its number: 0 retry, 1 skip, else kill.
 fn how_of(c: u8) -> How
     ensures { result ≡ how_in c }
 {
@@ -164,6 +167,7 @@ fn how_of(c: u8) -> How
     }
 }
 
+/// The register that the lowest four bits of `imm` name.
 fn register_of(imm: i32) -> Reg
     ensures { result ≡ register_in imm }
 {

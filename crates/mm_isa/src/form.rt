@@ -92,14 +92,14 @@ impl Visitor for Name {
 }
 
 impl Instr {
-    // Whether this is the name of the instruction's operation.
+    /// Whether this is the name of the instruction's operation.
     fn is_named(&self, name: &[u8]) -> bool
         ensures { result ≡ bytes_eq (operation_of self.now).name name.now }
     {
         self.visit(Name { text: "" }).text.as_bytes() == name
     }
 
-    // The form of the instruction's row.
+    /// The form of the instruction's row.
     fn form(self) -> Form
         ensures { result ≡ form_of self }
     {

@@ -49,7 +49,7 @@ impl Reg {
         self.number
     }
 
-    // The register that the lowest four bits name.
+    /// The register that the lowest four bits name.
     pub(crate) fn of_low_bits(bits: u64) -> Reg
         ensures { result ≡ bits % 16 }
     {
@@ -97,7 +97,7 @@ impl EvtReg {
         self.number
     }
 
-    // The register with this number, or register 12 if the number is above 12.
+    /// The register with this number, or register 12 if the number is above 12.
     pub(crate) fn clamped(rd: Reg) -> EvtReg
         ensures { result ≡ min rd 12 }
     {
@@ -106,7 +106,7 @@ impl EvtReg {
         }
     }
 
-    // The register as a general one.
+    /// The register as a general one.
     pub(crate) fn reg(self) -> Reg
         ensures value { result ≡ self }
         ensures small { result ≤ 12 }

@@ -39,7 +39,7 @@ impl Visitor for Sum {
     }
 }
 
-// The operand at its place in a word.
+/// The bits of an operand, shifted to the operand's place in a word.
 #[inline(always)]
 fn placed(operand: Operand) -> u64
     ensures { result ≡ placed operand }

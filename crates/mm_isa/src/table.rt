@@ -20,14 +20,16 @@ pub trait Visitor {
     /// The visitor after one operand more.
     ghost given: { Self → Operand → Self };
 
+    /// Takes the name and the number of the operation; it comes before the operands.
     fn operation(self, name: &'static str, code: u8) -> Self
         ensures { result ≡ told self name.now code };
 
+    /// Takes the next operand.
     fn operand(self, operand: Operand) -> Self
         ensures { result ≡ given self operand };
 }
 
-// The visitor after a row.
+/// The visitor after a row: the operation, and then each operand in order.
 #[inline(always)]
 fn row<V: Visitor, const N: usize>(
     visitor: V,
@@ -45,6 +47,7 @@ fn row<V: Visitor, const N: usize>(
 }
 
 impl AluOp {
+    /// The name of the integer operation in the text of a program.
     fn name(self) -> &'static str
         ensures { result.now ≡ (integer self).0 }
     {
