@@ -69,7 +69,7 @@ pub fn read_all<F: Files>(
     read_pieces(alloc, files, name, limit, &mut buffer)
 }
 
-// [`read_all`] through a given buffer.
+/// [`read_all`] through a given buffer.
 #[tactic(auto, using(crate::proofs::Asking::front_nothing))]
 fn read_pieces<F: Files>(
     alloc: Global,
@@ -122,7 +122,7 @@ pub fn read_input<I: Source>(alloc: Global, input: &mut I, limit: u64) -> Result
     read_input_pieces(alloc, input, limit, &mut buffer)
 }
 
-// [`read_input`] through a given buffer.
+/// [`read_input`] through a given buffer.
 fn read_input_pieces<I: Source>(
     alloc: Global,
     input: &mut I,

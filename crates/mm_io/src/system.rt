@@ -36,7 +36,7 @@ impl<R: rt::Files + Drop> StdFiles<R> {
     }
 }
 
-// Reads bytes of a stream from an offset on.
+/// Reads bytes of a stream from an offset on.
 fn read_placed<S: Read + Seek>(stream: &mut S, offset: u64, buf: &mut [u8]) -> io::Result<usize>
     ensures bound { IfOk result (λ n. n ≤ length buf.new) }
     ensures placed { IfOk result
@@ -46,7 +46,7 @@ fn read_placed<S: Read + Seek>(stream: &mut S, offset: u64, buf: &mut [u8]) -> i
     stream.read(buf)
 }
 
-// Reads bytes of the named file, which is opened anew.
+/// Reads bytes of the named file, which is opened anew.
 fn read_from<R: rt::Files>(rt: &R, name: &str, offset: u64, buf: &mut [u8]) -> io::Result<usize>
     ensures bound { IfOk result (λ n. n ≤ length buf.new) }
     ensures gave { IfOk result
@@ -69,7 +69,8 @@ impl<R: rt::Files + Drop> Files for StdFiles<R> {
         ensures cause { OnErr result (Rose self.old self.new) }
         ensures later { self.old ≤ self.new }
 
-        // what is answered is what an open file gave from the offset on, so a read that fails, at any offset, is an error
+        // what is answered is what some open file gave from the offset on, and none only at that file's end; that it is
+        // the file of this name, opened in this call, is not said
         ensures gave { IfOk result
             (λ n. GaveFrom R.File.stream_position R.File.remaining offset n buf.new) }
 
