@@ -108,7 +108,7 @@ ghost use Rattle.std.specs.List.{AllByRecursion};
 ghost use Rattle.mm_word.specs.declared.word.Cell.{Cell as CellValue};
 ghost use Rattle.mm_word.specs.Word.{IsWord};
 
-// Says, for proofs, what the type of each word keeps. The call does nothing.
+/// Says, for proofs, what the type of each word keeps. The call does nothing.
 fn hold_words(cells: &[Cell])
     ensures { AllByRecursion (λ (c : CellValue). IsWord c.word) cells.now }
 {
