@@ -15,14 +15,14 @@ use mm_word::{Cell, NoMemory};
 use std::alloc::Global;
 use std::marker::Model;
 
-// The number of the page that a word lies in.
+/// The number of the page that a word lies in.
 fn page_of(word: u64) -> u64
     ensures { result ≡ page_of word }
 {
     word / 4096
 }
 
-// The index of a word's cell in its page.
+/// The index of a word's cell in its page.
 fn place_of(word: u64) -> usize
     ensures place { result ≡ place_of word }
     ensures within { result < 512 }
@@ -30,7 +30,7 @@ fn place_of(word: u64) -> usize
     (word % 4096 / 8) as usize
 }
 
-// `count` frames without a page.
+/// `count` frames without a page.
 fn free_frames(alloc: Global, count: u32) -> Result<Vec<Frame>, NoMemory>
     ensures len { IfOk result (λ v. vec_len v ≡ count) }
     ensures room { IfOk result (λ v. count ≤ vec_capacity v) }
@@ -43,7 +43,7 @@ fn free_frames(alloc: Global, count: u32) -> Result<Vec<Frame>, NoMemory>
     Ok(free)
 }
 
-// Copies each page into a free frame, in the order of the pages.
+/// Copies each page into a free frame, in the order of the pages.
 fn seat(used: &mut Vec<Frame>, free: &mut Vec<Frame>, pages: &[Page])
     requires none { vec_len used.old ≡ 0 }
     requires room { length pages.now ≤ vec_capacity used.old }
@@ -96,7 +96,7 @@ impl FlatPages {
     ghost use Rattle.mm_mem.specs.Answers.{after_map, after_unmap};
     ghost use Rattle.mm_model.specs.Memory.{IsPaged, is_mapped, cell_at, put_cell, can_map};
 
-    // The memory of these pages. All its frames are allocated here.
+    /// The memory of these pages. All its frames are allocated here.
     pub(crate) fn new(alloc: Global, pages: &[Page], frames: u32) -> Result<FlatPages, NoMemory>
         requires ascend { IsTrue (is_sorted nat_cmp pages.now) }
         requires fit { length pages.now ≤ frames }
@@ -112,7 +112,7 @@ impl FlatPages {
         })
     }
 
-    // The index of a word's page among the mapped pages; `None` if it is not mapped.
+    /// The index of a word's page among the mapped pages; `None` if it is not mapped.
     pub(crate) fn find(&self, word: u64) -> Option<usize>
         ensures found { IfSome result (IsAt (page_of word) self.now.pages) }
         ensures absent { IfNone result (cell_at self.now word ≡ None) }
@@ -120,7 +120,7 @@ impl FlatPages {
         search(&self.pages, page_of(word)).ok()
     }
 
-    // The cell of a word whose page has this index.
+    /// The cell of a word whose page has this index.
     pub(crate) fn cell(&self, i: usize, word: u64) -> Cell
         requires here { IsAt (page_of word) self.now.pages i }
         requires aligned { word % 8 ≡ 0 }
@@ -129,7 +129,7 @@ impl FlatPages {
         self.pages[i].cell(place_of(word))
     }
 
-    // Writes the cell of a word whose page has this index.
+    /// Writes the cell of a word whose page has this index.
     pub(crate) fn put(&mut self, i: usize, word: u64, cell: Cell)
         requires { IsAt (page_of word) self.old.pages i }
         ensures { self.new ≡ put_cell self.old word cell }
@@ -138,8 +138,8 @@ impl FlatPages {
         frame.put(place_of(word), cell);
     }
 
-    // Maps a page of integer zeros, full, if it is not mapped and a frame is free; says whether it
-    // did.
+    /// Maps a page of integer zeros, full, if it is not mapped and a frame is free; says whether it
+    /// did.
     pub(crate) fn map(&mut self, page: u64) -> bool
         requires { page < 2 ^ 42 }
         ensures answer { result ≡ can_map self.old page }
@@ -160,7 +160,7 @@ impl FlatPages {
         }
     }
 
-    // Removes a page, if it is mapped; says whether it was.
+    /// Removes a page, if it is mapped; says whether it was.
     pub(crate) fn unmap(&mut self, page: u64) -> bool
         ensures answer { result ≡ is_mapped self.old page }
         ensures after { self.new ≡ after_unmap self.old page }
@@ -177,7 +177,7 @@ impl FlatPages {
         }
     }
 
-    // The number of mapped pages.
+    /// The number of mapped pages.
     pub(crate) fn len(&self) -> u32
         ensures count { result ≡ length self.now.pages }
         ensures paged { IsPaged self.now }
@@ -185,7 +185,7 @@ impl FlatPages {
         self.pages.len() as u32
     }
 
-    // The number of the i-th page.
+    /// The number of the i-th page.
     pub(crate) fn number(&self, i: u32) -> u64
         requires { i < length self.now.pages }
         ensures { slice_get (map (λ e. e.0) self.now.pages) i ≡ Some result }
@@ -193,7 +193,7 @@ impl FlatPages {
         self.pages[i as usize].number()
     }
 
-    // Makes these pages the whole contents, in the frames that `new` took.
+    /// Makes these pages the whole contents, in the frames that `new` took.
     pub(crate) fn reset(&mut self, pages: &[Page])
         requires ascend { IsTrue (is_sorted nat_cmp pages.now) }
         requires fit { length pages.now ≤ self.old.frames }

@@ -28,7 +28,7 @@ impl Model for Frame {
 }
 
 impl Frame {
-    // A frame of zeros.
+    /// A frame of zeros.
     pub(crate) fn new(alloc: Global) -> Result<Frame, NoMemory>
         ensures { IfOk result (λ f. f ≡ (0, zero_page)) }
     {
@@ -36,14 +36,14 @@ impl Frame {
         Ok(Frame { number: 0, cells })
     }
 
-    // The number of the frame's page.
+    /// The number of the frame's page.
     pub(crate) fn number(&self) -> u64
         ensures { result ≡ self.now.0 }
     {
         self.number
     }
 
-    // The cell at a place of the page.
+    /// The cell at a place of the page.
     pub(crate) fn cell(&self, place: usize) -> Cell
         requires { place < 512 }
         ensures { slice_get self.now.1 place ≡ Some result }
@@ -51,7 +51,7 @@ impl Frame {
         self.cells[place]
     }
 
-    // Writes the cell at a place of the page.
+    /// Writes the cell at a place of the page.
     pub(crate) fn put(&mut self, place: usize, cell: Cell)
         requires { place < 512 }
         ensures { self.new ≡ (self.old.0, slice_set self.old.1 place cell) }
@@ -59,7 +59,7 @@ impl Frame {
         self.cells[place] = cell;
     }
 
-    // Makes the frame a page of zeros.
+    /// Makes the frame a page of zeros.
     pub(crate) fn clear(&mut self, number: u64)
         requires { number < 2 ^ 42 }
         ensures { self.new ≡ (number, zero_page) }
@@ -68,7 +68,7 @@ impl Frame {
         self.cells.fill(Cell::ZERO);
     }
 
-    // Makes the frame a copy of a page.
+    /// Makes the frame a copy of a page.
     pub(crate) fn copy(&mut self, page: &Page)
         ensures copied { self.new ≡ page.now }
         ensures whole { IsPage page.now }

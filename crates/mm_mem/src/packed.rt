@@ -11,7 +11,7 @@ ghost use Rattle.mm_model.specs.Flags.{in_mask};
 
 use mm_word::{Cell, GuardedPtr, Word};
 
-// A bit of a byte, the lowest at place 0.
+/// Whether the bit at a place of a byte is set; the lowest is at place 0.
 pub(crate) fn is_set(byte: u8, place: usize) -> bool
     requires { place < 8 }
     ensures { result ≡ in_mask byte place }
@@ -19,7 +19,7 @@ pub(crate) fn is_set(byte: u8, place: usize) -> bool
     byte >> place & 1 == 1
 }
 
-// The byte with this bit at a place.
+/// The byte with this bit at a place, the lowest at place 0. The other bits stay.
 pub(crate) fn with_bit(byte: u8, place: usize, bit: bool) -> u8
     requires { place < 8 }
     ensures own { in_mask result place ≡ bit }
@@ -32,7 +32,7 @@ pub(crate) fn with_bit(byte: u8, place: usize, bit: bool) -> u8
     }
 }
 
-// The word of these bits: a pointer if it is tagged.
+/// The word of these bits: a pointer if it is tagged.
 pub(crate) fn word_of(bits: u64, tagged: bool) -> Word
     requires { tagged ≡ true → SpellsPointer bits }
     ensures { result ≡ word_of bits tagged }
@@ -44,7 +44,7 @@ pub(crate) fn word_of(bits: u64, tagged: bool) -> Word
     }
 }
 
-// Writes the 64 bits of each cell's word.
+/// Writes the 64 bits of each cell's word.
 pub(crate) fn put_words(bits: &mut [u64], cells: &[Cell])
     requires { length bits.old ≡ length cells.now }
     ensures bits { bits.new ≡ words_of cells.now }
@@ -55,7 +55,7 @@ pub(crate) fn put_words(bits: &mut [u64], cells: &[Cell])
     }
 }
 
-// The byte that says which of eight cells hold pointers.
+/// The byte that says which of eight cells hold pointers.
 pub(crate) fn tags_of(cells: &[Cell]) -> u8
     requires { length cells.now ≡ 8 }
     ensures { result ≡ tags_of cells.now }
@@ -67,7 +67,7 @@ pub(crate) fn tags_of(cells: &[Cell]) -> u8
     byte
 }
 
-// The byte that says which of eight cells are full.
+/// The byte that says which of eight cells are full.
 pub(crate) fn fulls_of(cells: &[Cell]) -> u8
     requires { length cells.now ≡ 8 }
     ensures { result ≡ fulls_of cells.now }

@@ -7,7 +7,7 @@ ghost use Rattle.mm_mem.specs.Places.{IsAt, IsGap};
 
 use crate::frame::Frame;
 
-// The index of the page with this number, or as an error the index at which it would go.
+/// The index of the page with this number, or as an error the index at which it would go.
 pub(crate) fn search(pages: &[Frame], number: u64) -> Result<usize, usize>
     requires { IsTrue (is_sorted nat_cmp pages.now) }
     ensures found { IfOk result (IsAt number pages.now) }
