@@ -31,7 +31,7 @@ impl Model for Frame {
     ghost invariant = { λ f. AreBlocks f.blocks.items };
 }
 
-// A block of zeros.
+/// A block of zeros.
 fn zeros() -> Block
     ensures { result ≡ replicate 8 zero_cell }
 {
@@ -39,7 +39,7 @@ fn zeros() -> Block
 }
 
 impl Frame {
-    // A frame of zeros.
+    /// A frame of zeros.
     pub(crate) fn new(alloc: Global) -> Result<Frame, NoMemory>
         ensures { IfOk result (λ f. f ≡ zero_page) }
     {
@@ -47,7 +47,7 @@ impl Frame {
         Ok(Frame { blocks })
     }
 
-    // The cell at a place of the frame.
+    /// The cell at a place of the frame.
     pub(crate) fn cell(&self, place: usize) -> Cell
         requires { place < 512 }
         ensures { slice_get self.now place ≡ Some result }
@@ -55,7 +55,7 @@ impl Frame {
         self.blocks[place / BLOCK].cell(place % BLOCK)
     }
 
-    // The block at a place of the frame.
+    /// The block at a place of the frame.
     pub(crate) fn block(&self, place: usize) -> Block
         requires { place < 64 }
         ensures block { result ≡ block_in self.now place }
@@ -64,7 +64,7 @@ impl Frame {
         self.blocks[place]
     }
 
-    // Writes the block at a place of the frame.
+    /// Writes the block at a place of the frame.
     pub(crate) fn put(&mut self, place: usize, block: &Block)
         requires place { place < 64 }
         requires whole { length block.now ≡ 8 }
@@ -74,14 +74,14 @@ impl Frame {
         self.blocks[place] = *block;
     }
 
-    // Makes each cell integer 0, full.
+    /// Makes each cell integer 0, full.
     pub(crate) fn clear(&mut self)
         ensures { self.new ≡ zero_page }
     {
         self.blocks.fill(zeros());
     }
 
-    // Copies the cells of a page.
+    /// Copies the cells of a page.
     pub(crate) fn copy(&mut self, page: &Page)
         ensures { self.new ≡ page.now.1 }
     {

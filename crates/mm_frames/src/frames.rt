@@ -19,7 +19,7 @@ use mm_word::{Cell, NoMemory};
 use std::alloc::Global;
 use std::marker::Model;
 
-// `count` frames of zeros.
+/// `count` frames of zeros.
 fn zeros(alloc: Global, count: u32) -> Result<Vec<Frame>, NoMemory>
     ensures { IfOk result (λ v. vec_len v ≡ count) }
 {
@@ -31,7 +31,7 @@ fn zeros(alloc: Global, count: u32) -> Result<Vec<Frame>, NoMemory>
     Ok(frames)
 }
 
-// Copies each page into the frame with its index, and makes a row for it.
+/// Copies each page into the frame with its index, and makes a row for it.
 fn seat(rows: &mut Vec<PageRow>, frames: &mut Vec<Frame>, pages: &[Page])
     requires none { vec_len rows.old ≡ 0 }
     requires room { length pages.now ≤ vec_capacity rows.old }
@@ -56,7 +56,7 @@ fn seat(rows: &mut Vec<PageRow>, frames: &mut Vec<Frame>, pages: &[Page])
     }
 }
 
-// Makes the frames from `from` up to `count` free. The lowest is the first to be taken.
+/// Makes the frames from `from` up to `count` free. The lowest is the first to be taken.
 fn release(free: &mut Vec<u32>, from: u32, count: u32)
     requires none { vec_len free.old ≡ 0 }
     requires order { from ≤ count }

@@ -7,7 +7,7 @@ ghost use Rattle.mm_mem.specs.Places.{IsAt, IsGap};
 
 use crate::row::PageRow;
 
-// The index of the row of a page, or as an error the index at which it would go.
+/// The index of the row of a page, or as an error the index at which it would go.
 pub(crate) fn search(rows: &[PageRow], page: u64) -> Result<usize, usize>
     requires { IsTrue (is_sorted nat_cmp rows.now) }
     ensures found { IfOk result (IsAt page rows.now) }
