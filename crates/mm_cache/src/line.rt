@@ -26,7 +26,7 @@ pub struct Victim {
 }
 
 impl CacheLine {
-    // The block of the line.
+    /// The block and the cells of the line, as they are written back.
     pub(crate) fn victim(&self) -> Victim
         ensures { result ≡ record { block = self.now.block; cells = self.now.cells } }
     {

@@ -12,14 +12,14 @@ use std::marker::Model;
 /// The count of lines.
 pub const LINES: usize = 64;
 
-// The block of a word.
+/// The block of a word.
 fn block_of(word: u64) -> u64
     ensures { result ≡ block_of word }
 {
     word / 64
 }
 
-// The index of a block's line.
+/// The index of a block's line.
 fn line_of(block: u64) -> usize
     ensures index { result ≡ line_of block }
     ensures within { result < 64 }
@@ -27,7 +27,7 @@ fn line_of(block: u64) -> usize
     (block % 64) as usize
 }
 
-// The index of a word's cell in its block.
+/// The index of a word's cell in its block.
 fn place_of(word: u64) -> usize
     ensures place { result ≡ place_in_block word }
     ensures within { result < 8 }
@@ -35,8 +35,8 @@ fn place_of(word: u64) -> usize
     (word % 64 / 8) as usize
 }
 
-// Writes the cell of a word in a line and marks the line as dirty. `false` exactly if the line does not have the word's
-// block.
+/// Writes the cell of a word in a line and marks the line as dirty. `false` exactly if the line does not have the word's
+/// block.
 fn write(line: &mut Option<CacheLine>, word: u64, cell: Cell) -> bool
     ensures answer { result ≡ is_in line.old (block_of word) }
     ensures after { line.new ≡ line_with line.old word cell }
@@ -51,7 +51,7 @@ fn write(line: &mut Option<CacheLine>, word: u64, cell: Cell) -> bool
     }
 }
 
-// Whether a line has a block of a page.
+/// Whether a line has a block of a page.
 fn has_page(line: &Option<CacheLine>, page: u64) -> bool
     ensures gone { result ≡ true → line_without page line.now ≡ None }
     ensures kept { result ≡ false → line_without page line.now ≡ line.now }
