@@ -36,15 +36,15 @@ impl Model for Tlb {
     ghost invariant = { λ b. AreEntries b.entries.items };
 }
 
-// The index of the entry of a page.
+/// The index of the entry of a page.
 fn place(entries: &[Entry], page: u64) -> Option<usize>
     ensures { result ≡ position (λ entry. entry.page == page) entries.now }
 {
     entries.iter().position(|entry| entry.page == page)
 }
 
-// Puts an entry first, and moves the entries before the old one of its page one place down. If its page has no entry
-// yet, moves all of them, and gives the last, for which there is no place.
+/// Puts an entry first, and moves the entries before the old one of its page one place down. If its page has no entry
+/// yet, moves all of them, and gives the last, for which there is no place.
 fn move_down(entries: &mut [Entry], first: Entry) -> Option<Entry>
     requires { IsDistinct (pages_in entries.old) }
     ensures found { IsNone result ↔ (has first.page (pages_in entries.old) ≡ true) }

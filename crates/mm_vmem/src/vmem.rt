@@ -97,8 +97,8 @@ impl Model for VMem {
 }
 
 impl VMem {
-    // The cell of a word, by an access that is counted; the word's block is then in its line. `None` if its page is not
-    // mapped.
+    /// The cell of a word, by an access that is counted; the word's block is then in its line. `None` if its page is not
+    /// mapped.
     #[inline(always)]
     fn touch(&mut self, word: u64) -> Option<Cell>
         requires aligned { word % 8 ≡ 0 }
@@ -127,7 +127,8 @@ impl VMem {
         }
     }
 
-    // Brings the block of a word into its line, which does not have it, if its page is mapped.
+    /// Brings the block of a word into its line, which does not have it, and gives the word's cell; `None`, and nothing
+    /// is brought, if its page is not mapped.
     #[inline(never)]
     fn miss(&mut self, word: u64) -> Option<Cell>
         requires aligned { word % 8 ≡ 0 }
@@ -156,7 +157,7 @@ impl VMem {
         self.lines.cell(word)
     }
 
-    // Brings a block into its line, which does not have it, from the frame of its page.
+    /// Brings a block into its line, which does not have it, from the frame of its page.
     fn bring(&mut self, block: u64, frame: u32)
         requires small { block < 2 ^ 48 }
         requires absent { hits self.old.lines block ≡ false }
@@ -181,7 +182,7 @@ impl VMem {
         self.lines.fill_packed(block, cells);
     }
 
-    // Empties the line of a block, which does not have it, and writes the line's old block back if that is dirty.
+    /// Empties the line of a block, which does not have it, and writes the line's old block back if that is dirty.
     fn make_room(&mut self, block: u64)
         requires absent { hits self.old.lines block ≡ false }
         requires room { self.old.uses ≤ 2 ^ 62 }
@@ -209,7 +210,7 @@ impl VMem {
         }
     }
 
-    // The frame of a page: that of the TLB's entry, or else the one found among the mapped pages.
+    /// The frame of a page: that of the TLB's entry, or else the one found among the mapped pages.
     fn frame_of(&self, page: u64) -> Option<u32>
         ensures { result ≡ frame_of self.now.frames page }
     {
@@ -219,7 +220,7 @@ impl VMem {
         }
     }
 
-    // Looks up a page in the TLB, and counts whether it was there.
+    /// Looks up a page in the TLB, and counts whether it was there.
     fn look_up(&mut self, page: u64, frame: u32)
         requires frame { frame_of self.old.frames page ≡ Some frame }
         requires room { self.old.uses ≤ 2 ^ 62 }
@@ -237,7 +238,7 @@ impl VMem {
         }
     }
 
-    // Writes the cell of a word whose block is in its line.
+    /// Writes the cell of a word whose block is in its line.
     fn write(&mut self, word: u64, cell: Cell)
         requires { hits self.old.lines (block_of word) ≡ true }
         ensures after { meaning self.new ≡ put_cell (meaning self.old) word cell }
