@@ -30,6 +30,7 @@ pub(crate) fn is_object(
     spare <= SPARE_LIMIT && pointers_fit(segments, externals.len(), relocs, threads)
 }
 
+/// Whether segments and externals are those of an object, whatever points to them.
 fn names_fit(segments: &[Segment], externals: &[Name]) -> bool
     ensures fit { IsTrue result ↔ NamesFit segments.now externals.now }
     ensures few { IsTrue result → length externals.now ≤ 1024 }
@@ -37,6 +38,8 @@ fn names_fit(segments: &[Segment], externals: &[Name]) -> bool
     segments_fit(segments) && externals_fit(segments, externals)
 }
 
+/// Whether relocations and threads are those of an object of these segments and this count of externals, and each
+/// external is a target.
 fn pointers_fit(
     segments: &[Segment],
     externals: usize,
@@ -54,7 +57,7 @@ fn pointers_fit(
         && are_used(segments.len(), externals, relocs, threads)
 }
 
-// Whether each external is a target. The externals are counted after the segments.
+/// Whether each external is a target. The externals are counted after the segments.
 fn are_used(segments: usize, externals: usize, relocs: &[Reloc], threads: &[Thread]) -> bool
     requires { externals ≤ 1024 }
     ensures { IsTrue result ↔ AreUsed segments externals (targets_of relocs.now threads.now) }

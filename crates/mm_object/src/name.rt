@@ -69,6 +69,7 @@ impl Name {
     }
 }
 
+/// Whether bytes make a name: 1 to 31 of them, letters of ASCII, digits and `_`, of which no digit is first.
 fn is_name(bytes: &[u8]) -> bool
     ensures name { result ≡ is_name bytes.now }
     ensures short { IsTrue result → length bytes.now ≤ 31 }
@@ -79,18 +80,21 @@ fn is_name(bytes: &[u8]) -> bool
     }
 }
 
+/// Whether each byte may stand in a name after the first.
 fn go_on(bytes: &[u8]) -> bool
     ensures { result ≡ list_all goes_on bytes.now }
 {
     bytes.iter().all(|byte| goes_on(*byte))
 }
 
+/// Whether a byte may stand first in a name: a letter of ASCII, or `_`.
 fn begins_name(byte: u8) -> bool
     ensures { result ≡ begins_name byte }
 {
     byte.is_ascii_alphabetic() || byte == b'_'
 }
 
+/// Whether a byte may stand in a name after the first: a letter of ASCII, a digit, or `_`.
 fn goes_on(byte: u8) -> bool
     ensures { result ≡ goes_on byte }
 {

@@ -26,14 +26,14 @@ pub(crate) fn name_size(name: &Name) -> usize
     1 + name.bytes().len()
 }
 
-// Whether no name has `size` bytes.
+/// Whether no name has `size` bytes.
 fn is_bad_size(size: usize) -> bool
     ensures { result ≡ (size == 0 || nat_lt 31 size) }
 {
     size == 0 || size > NAME_BYTES
 }
 
-// Whether a name is not after the last of other names.
+/// Whether a name is not after the last of other names.
 fn is_late(names: &[Name], name: &Name) -> bool
     ensures { result ≡ is_late names.now name.now }
 {
@@ -43,7 +43,7 @@ fn is_late(names: &[Name], name: &Name) -> bool
     }
 }
 
-// Whether a name is that of a segment, or is not after the names before it. `known` has the names of the segments.
+/// Whether a name is that of a segment, or is not after the names before it. `known` has the names of the segments.
 fn is_bad_external(known: &BTreeSet<&[u8]>, names: &[Name], name: &Name) -> bool
     ensures { (segments : List SegmentValue) → AreTheSame (key_names known.now.keys) (names_of segments)
         → result ≡ (is_among name.now (names_of segments) || is_late names.now name.now) }
@@ -51,7 +51,7 @@ fn is_bad_external(known: &BTreeSet<&[u8]>, names: &[Name], name: &Name) -> bool
     is_known(known, name) || is_late(names, name)
 }
 
-// The name of these bytes, if they have its form.
+/// The name of these bytes, if they have its form.
 fn name_of(bytes: &[u8]) -> Option<Name>
     requires { length bytes.now ≤ 31 }
     ensures { MatchOption result (has_form bytes.now ≡ false)
@@ -78,7 +78,7 @@ pub(crate) fn read_name(reader: &mut Reader) -> Result<Name, ReadError<ObjectFau
     }
 }
 
-// Reads an external, after the externals before it. `known` has the names of the segments.
+/// Reads an external, after the externals before it. `known` has the names of the segments.
 #[tactic(auto, unfolding(crate::specs::Format::external_row))]
 fn read_external(
     reader: &mut Reader,

@@ -36,14 +36,14 @@ impl Model for Object {
         (object_from o.segments.items o.externals.items o.relocs.items o.threads.items o.spare) };
 }
 
-// The place of a relocation: its segment, and then its word.
+/// The place of a relocation: its segment, and then its word.
 fn place(segment: u16, word: u32) -> u64
     ensures { result ≡ segment * 2 ^ 32 + word }
 {
     (u64::from(segment) << 32) + u64::from(word)
 }
 
-// The relocation of a word among relocations that rise by place, and its index there, found by binary search.
+/// The relocation of a word among relocations that rise by place, and its index there, found by binary search.
 fn reloc_in(relocs: &[Reloc], segment: u16, word: u32) -> Option<(usize, Reloc)>
     requires rising { IsStrictlyIncreasing (map place_of relocs.now) }
     requires small { HaveSmallWords relocs.now }
@@ -58,7 +58,7 @@ fn reloc_in(relocs: &[Reloc], segment: u16, word: u32) -> Option<(usize, Reloc)>
     }
 }
 
-// The relocation at an index among relocations that rise by place, if it is that of the word.
+/// The relocation at an index among relocations that rise by place, if it is that of the word.
 fn reloc_standing(relocs: &[Reloc], at: usize, segment: u16, word: u32) -> Option<Reloc>
     requires { IsStrictlyIncreasing (map place_of relocs.now) }
     ensures reloc { IfSome result (λ reloc. find (is_at segment word) relocs.now ≡ Some reloc) }

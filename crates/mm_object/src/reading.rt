@@ -34,7 +34,7 @@ pub fn read(alloc: Global, bytes: &[u8]) -> Result<Object, ObjectError>
     Ok(object)
 }
 
-// Reads an object from the front of a file.
+/// Reads an object from the front of a file.
 #[tactic(auto, unfolding(crate::specs::Format::object))]
 fn read_object(alloc: Global, reader: &mut Reader) -> Result<Object, ReadError<ObjectFault>>
     requires front { reader.old.at ≤ length reader.old.bytes.now }
@@ -54,7 +54,7 @@ fn read_object(alloc: Global, reader: &mut Reader) -> Result<Object, ReadError<O
     })
 }
 
-// The object of a whole file.
+/// The object of a whole file.
 fn read_file(alloc: Global, bytes: &[u8]) -> Result<Object, ReadError<ObjectFault>>
     ensures { ReadsFile number_of (λ o. o) (file object 9 bytes.now) result }
 {
@@ -72,8 +72,8 @@ struct Pointers {
     threads: Vec<Thread>,
 }
 
-// Reads the externals, the relocations and the threads of an object of these segments, and tests that each external is
-// a target.
+/// Reads the externals, the relocations and the threads of an object of these segments, and tests that each external is
+/// a target.
 fn read_used(
     alloc: Global,
     reader: &mut Reader,
@@ -98,7 +98,7 @@ fn read_used(
     Ok(pointers)
 }
 
-// Reads the externals, the relocations and the threads of an object of these segments.
+/// Reads the externals, the relocations and the threads of an object of these segments.
 #[tactic(auto, unfolding(crate::specs::Format::pointers_row))]
 fn read_pointers(
     alloc: Global,
@@ -121,7 +121,7 @@ fn read_pointers(
     })
 }
 
-// Tests that each external is a target. The record of the first external begins at an offset.
+/// Tests that each external is a target. The record of the first external begins at an offset.
 fn test_uses(
     start: usize,
     segments: usize,

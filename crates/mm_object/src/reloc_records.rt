@@ -18,14 +18,14 @@ use std::alloc::Global;
 /// The length in bytes of the record of a relocation.
 const RELOC_BYTES: usize = 13;
 
-// Whether a relocation does not replace a word that is 0 by a pointer to a target, or has a place below `least`.
+/// Whether a relocation does not replace a word that is 0 by a pointer to a target, or has a place below `least`.
 fn is_bad_reloc(segments: &[Segment], externals: u16, least: u64, reloc: Reloc) -> bool
     ensures { result ≡ (not (is_reloc segments.now externals reloc) || nat_lt (place_of reloc) least) }
 {
     !is_reloc(segments, usize::from(externals), reloc) || place_of(reloc) < least
 }
 
-// Reads the fields of a relocation.
+/// Reads the fields of a relocation.
 #[tactic(auto, unfolding(crate::specs::Format::reloc_fields))]
 fn read_fields(reader: &mut Reader) -> Result<Reloc, ReadError<ObjectFault>>
     ensures read { ReadsAlone number_of (λ r. r) (reloc_fields.read reader.old.bytes.now reader.old.at) reader.new.at
@@ -44,7 +44,7 @@ fn read_fields(reader: &mut Reader) -> Result<Reloc, ReadError<ObjectFault>>
     })
 }
 
-// Reads a relocation, whose place has to be at least `least`.
+/// Reads a relocation, whose place has to be at least `least`.
 #[tactic(auto, unfolding(crate::specs::Format::good_reloc))]
 fn read_good_reloc(
     reader: &mut Reader,
@@ -63,7 +63,7 @@ fn read_good_reloc(
     Ok(reloc)
 }
 
-// Reads a relocation, whose place has to be at least `least`. Its record has to be whole before it is tested.
+/// Reads a relocation, whose place has to be at least `least`. Its record has to be whole before it is tested.
 fn read_reloc(
     reader: &mut Reader,
     segments: &[Segment],

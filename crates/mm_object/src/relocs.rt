@@ -19,6 +19,8 @@ pub(crate) fn relocs_fit(segments: &[Segment], externals: usize, relocs: &[Reloc
     relocs.len() <= RELOC_LIMIT && are_relocs(segments, externals, relocs) && in_order(relocs)
 }
 
+/// Whether each relocation is one of an object of these segments and this count of externals. Their order is not looked
+/// at.
 fn are_relocs(segments: &[Segment], externals: usize, relocs: &[Reloc]) -> bool
     requires { externals < 2 ^ 32 }
     ensures { result ≡ list_all (is_reloc segments.now externals) relocs.now }
@@ -39,7 +41,7 @@ pub(crate) fn is_reloc(segments: &[Segment], externals: usize, reloc: Reloc) -> 
     has_zero(segments, reloc.segment, reloc.word) && is_target(segments, externals, reloc.target)
 }
 
-// Whether a segment has a word that is 0.
+/// Whether a segment has a word that is 0.
 fn has_zero(segments: &[Segment], segment: u16, word: u32) -> bool
     ensures { result ≡ is_zero (item_of (slice_get segments.now segment) word) }
 {
@@ -65,7 +67,7 @@ pub(crate) fn is_target(segments: &[Segment], externals: usize, target: Target) 
     index - segments.len() < externals && has_room(GREATEST_LOG, target.addend)
 }
 
-// Whether an offset is within 2^log bytes.
+/// Whether an offset is within 2^log bytes.
 fn has_room(log: u8, offset: u32) -> bool
     ensures { result ≡ nat_lt offset (2 ^ log) }
 {
@@ -80,7 +82,7 @@ pub(crate) fn place_of(reloc: Reloc) -> u64
     (u64::from(reloc.segment) << 32) + u64::from(reloc.word)
 }
 
-// Whether each relocation is after the one before it.
+/// Whether each relocation is after the one before it.
 fn in_order(relocs: &[Reloc]) -> bool
     ensures { IsTrue result ↔ IsStrictlyIncreasing (map place_of relocs.now) }
 {

@@ -19,7 +19,7 @@ use mm_format::{ReadError, Reader, is_set, refuse_if};
 use mm_model::WORD_LIMIT;
 use std::alloc::Global;
 
-// Whether `words` and `count` words together are more than an object may have.
+/// Whether `words` and `count` words together are more than an object may have.
 fn are_many(words: usize, count: u32) -> bool
     requires { words ≤ 131072 }
     ensures { result ≡ nat_lt 131072 (words + count) }
@@ -27,7 +27,7 @@ fn are_many(words: usize, count: u32) -> bool
     words + count as usize > WORD_LIMIT
 }
 
-// Reads the logarithm of a segment's length in bytes.
+/// Reads the logarithm of a segment's length in bytes.
 #[tactic(auto, unfolding(crate::specs::Format::log_row))]
 fn read_log(reader: &mut Reader) -> Result<u8, ReadError<ObjectFault>>
     ensures read { ReadsAlone number_of (λ n. n) (log_row.read reader.old.bytes.now reader.old.at)
@@ -41,7 +41,7 @@ fn read_log(reader: &mut Reader) -> Result<u8, ReadError<ObjectFault>>
     Ok(log)
 }
 
-// Reads the count of words of a segment of this length, after segments of `words` words.
+/// Reads the count of words of a segment of this length, after segments of `words` words.
 #[tactic(auto, unfolding(crate::specs::Format::count_row))]
 fn read_count(reader: &mut Reader, log: u8, words: usize) -> Result<u32, ReadError<ObjectFault>>
     requires log { log ≤ 20 }
@@ -58,7 +58,7 @@ fn read_count(reader: &mut Reader, log: u8, words: usize) -> Result<u32, ReadErr
     Ok(count)
 }
 
-// The number of a byte of a bitmap, which begins at place 0.
+/// The number of a byte of a bitmap, which begins at place 0.
 #[tactic(auto, using(crate::proofs::Numbers::byte_at))]
 fn byte(bitmap: &[u8], place: usize) -> u8
     requires { place < length bitmap.now }
@@ -67,7 +67,7 @@ fn byte(bitmap: &[u8], place: usize) -> u8
     bitmap[place]
 }
 
-// Whether the last byte of a bitmap has a bit set that belongs to none of `count` words.
+/// Whether the last byte of a bitmap has a bit set that belongs to none of `count` words.
 fn has_unused_bit(bitmap: &[u8], count: u32) -> bool
     requires { length bitmap.now ≡ (count + 7) / 8 }
     ensures { result ≡ has_unused_bit bitmap.now 0 count }
@@ -75,7 +75,7 @@ fn has_unused_bit(bitmap: &[u8], count: u32) -> bool
     count % 8 != 0 && byte(bitmap, count as usize / 8) >= 1 << (count % 8)
 }
 
-// Reads the bitmap of `count` words.
+/// Reads the bitmap of `count` words.
 #[tactic(auto, unfolding(crate::specs::Format::bits_row))]
 fn read_bits<'a>(reader: &mut Reader<'a>, count: u32) -> Result<&'a [u8], ReadError<ObjectFault>>
     ensures read { ReadsAlone number_of (λ xs. bits_in count xs.now)
@@ -94,7 +94,7 @@ fn read_bits<'a>(reader: &mut Reader<'a>, count: u32) -> Result<&'a [u8], ReadEr
     Ok(bitmap)
 }
 
-// Whether a bit of a bitmap is set, the lowest bit of each byte first.
+/// Whether a bit of a bitmap is set, the lowest bit of each byte first.
 fn bit(bitmap: &[u8], place: usize) -> bool
     requires { place / 8 < length bitmap.now }
     ensures { result ≡ bit_at bitmap.now 0 place }
@@ -102,7 +102,7 @@ fn bit(bitmap: &[u8], place: usize) -> bool
     is_set(u16::from(byte(bitmap, place / 8)), place % 8)
 }
 
-// Reads a word, which is full or empty.
+/// Reads a word, which is full or empty.
 #[tactic(auto, unfolding(crate::specs::Format::item_row))]
 fn read_item(reader: &mut Reader, full: bool) -> Result<Item, ReadError<ObjectFault>>
     ensures read { ReadsAlone number_of (λ i. i) ((item_row full).read reader.old.bytes.now reader.old.at)
@@ -113,7 +113,7 @@ fn read_item(reader: &mut Reader, full: bool) -> Result<Item, ReadError<ObjectFa
     Ok(Item { bits, full })
 }
 
-// Reads `count` words, with the bitmap that says which of them are full.
+/// Reads `count` words, with the bitmap that says which of them are full.
 fn read_items(
     alloc: Global,
     reader: &mut Reader,
@@ -135,7 +135,7 @@ fn read_items(
     Ok(items)
 }
 
-// Reads a segment, after segments of `words` words.
+/// Reads a segment, after segments of `words` words.
 #[tactic(auto, unfolding(crate::specs::Format::segment_row))]
 fn read_segment(
     alloc: Global,

@@ -31,7 +31,7 @@ pub(crate) fn externals_fit(segments: &[Segment], externals: &[Name]) -> bool
     externals.len() <= EXTERNAL_LIMIT && ascend(externals) && !has_any(segments, externals)
 }
 
-// Gives the invariant of each name's type to a proof. Nothing is done.
+/// Gives the invariant of each name's type to a proof. Nothing is done.
 fn hold_names(names: &[Name])
     ensures { list_all is_name names.now ≡ true }
 {
@@ -40,6 +40,7 @@ fn hold_names(names: &[Name])
     }
 }
 
+/// Whether each segment alone is one of an object.
 fn are_segments(segments: &[Segment]) -> bool
     ensures { IsTrue result ↔ AllByRecursion IsSegment segments.now }
 {
@@ -51,6 +52,7 @@ fn are_segments(segments: &[Segment]) -> bool
     true
 }
 
+/// Whether the logarithm of a segment's length is in range, and its words fit into that length.
 fn is_segment(segment: &Segment) -> bool
     ensures { IsTrue result ↔ IsSegment segment.now }
 {
@@ -66,7 +68,7 @@ pub(crate) fn is_log(log: u8) -> bool
     LEAST_LOG <= log && log <= GREATEST_LOG
 }
 
-// Gives the range of each word to a proof. Nothing is done.
+/// Gives the range of each word to a proof. Nothing is done.
 fn hold_words(items: &[Item])
     ensures { AllByRecursion (λ (item : ItemValue). item.bits < 2 ^ 64) items.now }
 {
@@ -75,6 +77,7 @@ fn hold_words(items: &[Item])
     }
 }
 
+/// The 64 bits of a word. Their type gives a proof that they are below 2^64.
 fn bits(item: Item) -> u64
     ensures { item.bits < 2 ^ 64 }
 {
@@ -89,7 +92,7 @@ pub(crate) fn room(log: u8) -> usize
     1 << log.saturating_sub(LEAST_LOG)
 }
 
-// Whether the names of the segments are all different.
+/// Whether the names of the segments are all different.
 fn are_apart(segments: &[Segment]) -> bool
     ensures { result ≡ are_apart (names_of segments.now) }
 {
@@ -111,7 +114,7 @@ pub(crate) fn has_name(segments: &[Segment], name: &Name) -> bool
     false
 }
 
-// Whether all segments together have no more words than an object may have.
+/// Whether all segments together have no more words than an object may have.
 fn has_few_words(segments: &[Segment]) -> bool
     ensures { IsTrue result ↔ (words_of segments.now ≤ 131072) }
 {
@@ -125,7 +128,7 @@ fn has_few_words(segments: &[Segment]) -> bool
     true
 }
 
-// Whether each name is before the next.
+/// Whether each name is before the next.
 fn ascend(names: &[Name]) -> bool
     ensures { result ≡ ascend names.now }
 {
@@ -137,7 +140,7 @@ fn ascend(names: &[Name]) -> bool
     true
 }
 
-// Whether a segment has any of the names.
+/// Whether a segment has any of the names.
 fn has_any(segments: &[Segment], names: &[Name]) -> bool
     ensures { result ≡ list_any (λ name. is_among name (names_of segments.now)) names.now }
 {

@@ -23,14 +23,14 @@ use std::alloc::Global;
 /// The length in bytes of the record of a thread.
 const THREAD_BYTES: usize = 140;
 
-// Whether a thread is no thread of the object, or its slot is below `least`.
+/// Whether a thread is no thread of the object, or its slot is below `least`.
 fn is_bad_thread(segments: &[Segment], externals: u16, least: u8, thread: &Thread) -> bool
     ensures { result ≡ (not (is_thread segments.now externals thread.now) || nat_lt thread.now.slot least) }
 {
     !is_thread(segments, usize::from(externals), thread) || thread.slot < least
 }
 
-// Reads a register that is an integer.
+/// Reads a register that is an integer.
 #[tactic(auto, unfolding(crate::specs::Format::integer_row))]
 fn read_integer(reader: &mut Reader) -> Result<Value, ReadError<ObjectFault>>
     ensures read { ReadsAlone number_of (λ v. v) (integer_row.read reader.old.bytes.now reader.old.at) reader.new.at
@@ -41,7 +41,7 @@ fn read_integer(reader: &mut Reader) -> Result<Value, ReadError<ObjectFault>>
     Ok(Value::Int(number))
 }
 
-// Reads a register that becomes a pointer.
+/// Reads a register that becomes a pointer.
 #[tactic(auto, unfolding(crate::specs::Format::pointer_row))]
 fn read_pointer(reader: &mut Reader) -> Result<Value, ReadError<ObjectFault>>
     ensures read { ReadsAlone number_of (λ v. v) (pointer_row.read reader.old.bytes.now reader.old.at) reader.new.at
@@ -56,7 +56,7 @@ fn read_pointer(reader: &mut Reader) -> Result<Value, ReadError<ObjectFault>>
     Ok(Value::Ptr { perm, target })
 }
 
-// Reads a register, which becomes a pointer if it is tagged.
+/// Reads a register, which becomes a pointer if it is tagged.
 fn read_value(reader: &mut Reader, tagged: bool) -> Result<Value, ReadError<ObjectFault>>
     ensures read { ReadsAlone number_of (λ v. v) ((value_row tagged).read reader.old.bytes.now reader.old.at)
         reader.new.at result }
@@ -88,7 +88,7 @@ impl Sixteen<ObjectFault> for Tags {
     }
 }
 
-// Reads sixteen registers, of which these become pointers.
+/// Reads sixteen registers, of which these become pointers.
 #[tactic(auto, using(mm_format::proofs::Loops::flags_sixteen))]
 fn read_registers(reader: &mut Reader, tags: u16) -> Result<[Value; 16], ReadError<ObjectFault>>
     ensures read { ReadsAlone number_of (λ regs. regs)
@@ -98,7 +98,7 @@ fn read_registers(reader: &mut Reader, tags: u16) -> Result<[Value; 16], ReadErr
     read_sixteen(reader, &Tags { tags }, Value::Int(0))
 }
 
-// Reads the fields of a thread.
+/// Reads the fields of a thread.
 #[tactic(auto, unfolding(crate::specs::Format::thread_fields, mm_format::specs::Images::mask))]
 fn read_fields(reader: &mut Reader) -> Result<Thread, ReadError<ObjectFault>>
     ensures read { ReadsAlone number_of (λ t. t) (thread_fields.read reader.old.bytes.now reader.old.at) reader.new.at
@@ -126,7 +126,7 @@ fn read_fields(reader: &mut Reader) -> Result<Thread, ReadError<ObjectFault>>
     })
 }
 
-// Reads a thread, whose slot has to be at least `least`.
+/// Reads a thread, whose slot has to be at least `least`.
 #[tactic(auto, unfolding(crate::specs::Format::good_thread))]
 fn read_good_thread(
     reader: &mut Reader,
@@ -146,7 +146,7 @@ fn read_good_thread(
     Ok(thread)
 }
 
-// Reads a thread, whose slot has to be at least `least`. Its record has to be whole before it is tested.
+/// Reads a thread, whose slot has to be at least `least`. Its record has to be whole before it is tested.
 fn read_thread(
     reader: &mut Reader,
     segments: &[Segment],

@@ -23,6 +23,7 @@ pub(crate) fn threads_fit(segments: &[Segment], externals: usize, threads: &[Thr
         && slots_ascend(threads)
 }
 
+/// Whether each thread alone is one of an object of these segments and this count of externals.
 fn are_threads(segments: &[Segment], externals: usize, threads: &[Thread]) -> bool
     requires { externals < 2 ^ 32 }
     ensures { result ≡ list_all (is_thread segments.now externals) threads.now }
@@ -48,6 +49,7 @@ pub(crate) fn is_thread(segments: &[Segment], externals: usize, thread: &Thread)
         && are_values(segments, externals, &thread.regs)
 }
 
+/// Whether a slot may have the handler: none, or another slot whose number is in range.
 fn is_handler(slot: u8, handler: Option<u8>) -> bool
     ensures { result ≡ is_handler slot handler }
 {
@@ -57,6 +59,7 @@ fn is_handler(slot: u8, handler: Option<u8>) -> bool
     }
 }
 
+/// Whether each register that becomes a pointer has a target in the object.
 fn are_values(segments: &[Segment], externals: usize, values: &[Value]) -> bool
     requires { externals < 2 ^ 32 }
     ensures { result ≡ list_all (is_value segments.now externals) values.now }
@@ -69,6 +72,7 @@ fn are_values(segments: &[Segment], externals: usize, values: &[Value]) -> bool
     true
 }
 
+/// Whether a register is an integer, or becomes a pointer to a target in the object.
 fn is_value(segments: &[Segment], externals: usize, value: Value) -> bool
     requires { externals < 2 ^ 32 }
     ensures { result ≡ is_value segments.now externals value }
@@ -79,7 +83,7 @@ fn is_value(segments: &[Segment], externals: usize, value: Value) -> bool
     }
 }
 
-// Whether each thread's slot is above that of the one before.
+/// Whether each thread's slot is above that of the one before.
 fn slots_ascend(threads: &[Thread]) -> bool
     ensures { IsTrue result ↔ IsStrictlyIncreasing (map (λ (t : Thread). t.slot) threads.now) }
 {
@@ -100,6 +104,7 @@ pub(crate) fn hold_values(threads: &[Thread])
     }
 }
 
+/// Gives the range of each integer among the values to a proof. Nothing is done.
 fn hold_numbers(values: &[Value])
     ensures { AllByRecursion IsNumber values.now }
 {
@@ -108,7 +113,7 @@ fn hold_numbers(values: &[Value])
     }
 }
 
-// The number of an integer, and 0 for a pointer.
+/// The number of an integer, and 0 for a pointer.
 fn number(value: Value) -> u64
     ensures { IsNumber value }
 {

@@ -24,6 +24,7 @@ pub(crate) fn uses(segments: usize, relocs: &[Reloc], threads: &[Thread]) -> [bo
     used
 }
 
+/// Marks the externals that the relocations have as targets.
 fn mark_relocs(used: &mut [bool; 1024], segments: usize, relocs: &[Reloc])
     ensures { (before : List Target) → HoldsUses used.old segments before
         → HoldsUses used.new segments (before ++ map (λ (r : Reloc). r.target) relocs.now) }
@@ -33,6 +34,7 @@ fn mark_relocs(used: &mut [bool; 1024], segments: usize, relocs: &[Reloc])
     }
 }
 
+/// Marks the externals among the targets of a thread and of its registers.
 fn mark_thread(used: &mut [bool; 1024], segments: usize, thread: &Thread)
     ensures { (before : List Target) → HoldsUses used.old segments before
         → HoldsUses used.new segments (before ++ thread.now.target ∷ flat_map value_targets thread.now.regs) }
@@ -41,6 +43,7 @@ fn mark_thread(used: &mut [bool; 1024], segments: usize, thread: &Thread)
     mark_values(used, segments, &thread.regs);
 }
 
+/// Marks the externals among the targets of registers.
 fn mark_values(used: &mut [bool; 1024], segments: usize, values: &[Value])
     ensures { (before : List Target) → HoldsUses used.old segments before
         → HoldsUses used.new segments (before ++ flat_map value_targets values.now) }
@@ -50,6 +53,7 @@ fn mark_values(used: &mut [bool; 1024], segments: usize, values: &[Value])
     }
 }
 
+/// Marks the external that a register becomes a pointer to, if it does.
 fn mark_value(used: &mut [bool; 1024], segments: usize, value: Value)
     ensures { (before : List Target) → HoldsUses used.old segments before
         → HoldsUses used.new segments (before ++ value_targets value) }
@@ -59,7 +63,7 @@ fn mark_value(used: &mut [bool; 1024], segments: usize, value: Value)
     }
 }
 
-// Marks the external of a target, if the target is one.
+/// Marks the external of a target, if the target is one.
 fn mark(used: &mut [bool; 1024], segments: usize, target: Target)
     ensures { (before : List Target) → HoldsUses used.old segments before
         → HoldsUses used.new segments (before ++ target ∷ []) }

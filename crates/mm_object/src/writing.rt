@@ -38,6 +38,7 @@ pub fn write(alloc: Global, o: &Object) -> Result<Vec<u8>, NoMemory>
     Ok(out)
 }
 
+/// Appends the header: the file's mark, its version, the counts of its records, and the spare frames.
 fn put_header(out: &mut Vec<u8>, o: &Object) -> Result<(), AllocError>
     ensures { OnOk result (out.new.items ≡ out.old.items ++ header_row.spell (header_in o.now)) }
 {
@@ -51,6 +52,7 @@ fn put_header(out: &mut Vec<u8>, o: &Object) -> Result<(), AllocError>
     Ok(())
 }
 
+/// Appends the records of segments.
 fn put_segments(out: &mut Vec<u8>, segments: &[Segment]) -> Result<(), AllocError>
     requires { AllByRecursion IsSegment segments.now }
     ensures { OnOk result (out.new.items ≡ out.old.items ++ flat_map segment_record segments.now) }
@@ -61,6 +63,7 @@ fn put_segments(out: &mut Vec<u8>, segments: &[Segment]) -> Result<(), AllocErro
     Ok(())
 }
 
+/// Appends the records of externals.
 fn put_names(out: &mut Vec<u8>, names: &[Name]) -> Result<(), AllocError>
     ensures { OnOk result (out.new.items ≡ out.old.items ++ flat_map name_record names.now) }
 {
@@ -70,6 +73,7 @@ fn put_names(out: &mut Vec<u8>, names: &[Name]) -> Result<(), AllocError>
     Ok(())
 }
 
+/// Appends the records of relocations.
 fn put_relocs(out: &mut Vec<u8>, relocs: &[Reloc]) -> Result<(), AllocError>
     ensures { OnOk result (out.new.items ≡ out.old.items ++ flat_map reloc_record relocs.now) }
 {
@@ -79,6 +83,7 @@ fn put_relocs(out: &mut Vec<u8>, relocs: &[Reloc]) -> Result<(), AllocError>
     Ok(())
 }
 
+/// Appends the records of threads.
 fn put_threads(out: &mut Vec<u8>, threads: &[Thread]) -> Result<(), AllocError>
     ensures { OnOk result (out.new.items ≡ out.old.items ++ flat_map thread_record threads.now) }
 {
@@ -88,6 +93,7 @@ fn put_threads(out: &mut Vec<u8>, threads: &[Thread]) -> Result<(), AllocError>
     Ok(())
 }
 
+/// Appends a name after one byte with its length.
 fn put_name(out: &mut Vec<u8>, name: &Name) -> Result<(), AllocError>
     ensures { OnOk result (out.new.items ≡ out.old.items ++ name_record name.now) }
 {
@@ -97,6 +103,7 @@ fn put_name(out: &mut Vec<u8>, name: &Name) -> Result<(), AllocError>
     Ok(())
 }
 
+/// Appends a segment: its name, the logarithm of its length, the count of its words, their full bits, and the words.
 #[tactic(auto, unfolding(crate::specs::Format::segment_row))]
 fn put_segment(out: &mut Vec<u8>, segment: &Segment) -> Result<(), AllocError>
     requires { IsSegment segment.now }
@@ -110,6 +117,7 @@ fn put_segment(out: &mut Vec<u8>, segment: &Segment) -> Result<(), AllocError>
     Ok(())
 }
 
+/// Appends the count of words in four bytes.
 fn put_count(out: &mut Vec<u8>, items: &[Item]) -> Result<(), AllocError>
     requires { length items.now < 2 ^ 32 }
     ensures { OnOk result (out.new.items ≡ out.old.items ++ to_be_bytes w32 (length items.now)) }
@@ -118,6 +126,7 @@ fn put_count(out: &mut Vec<u8>, items: &[Item]) -> Result<(), AllocError>
     Ok(())
 }
 
+/// Appends the bitmap that says which words are full, a byte for every eight words.
 fn put_full_bits(out: &mut Vec<u8>, items: &[Item]) -> Result<(), AllocError>
     requires { length items.now < 2 ^ 32 }
     ensures { OnOk result
@@ -131,6 +140,7 @@ fn put_full_bits(out: &mut Vec<u8>, items: &[Item]) -> Result<(), AllocError>
     Ok(())
 }
 
+/// Appends the bits of each word in eight bytes.
 fn put_words(out: &mut Vec<u8>, items: &[Item]) -> Result<(), AllocError>
     ensures { OnOk result
         (out.new.items ≡ out.old.items ++ (each item_row (map (λ (i : ItemValue). i.full) items.now)).spell items.now) }
@@ -141,6 +151,7 @@ fn put_words(out: &mut Vec<u8>, items: &[Item]) -> Result<(), AllocError>
     Ok(())
 }
 
+/// Appends a relocation: the segment and the word that it replaces, the permission, and the target.
 #[tactic(auto, unfolding(crate::specs::Format::good_reloc))]
 fn put_reloc(out: &mut Vec<u8>, reloc: Reloc) -> Result<(), AllocError>
     ensures { OnOk result (out.new.items ≡ out.old.items ++ reloc_record reloc) }
@@ -152,6 +163,7 @@ fn put_reloc(out: &mut Vec<u8>, reloc: Reloc) -> Result<(), AllocError>
     Ok(())
 }
 
+/// Appends a target: its index, and its offset in bytes.
 fn put_target(out: &mut Vec<u8>, target: Target) -> Result<(), AllocError>
     ensures { OnOk result (out.new.items ≡ out.old.items ++ target_row.spell target) }
 {
@@ -160,6 +172,7 @@ fn put_target(out: &mut Vec<u8>, target: Target) -> Result<(), AllocError>
     Ok(())
 }
 
+/// Appends a thread: what comes before its target, the target, the tags of its registers, and the registers.
 #[tactic(auto, unfolding(crate::specs::Format::good_thread))]
 fn put_thread(out: &mut Vec<u8>, thread: &Thread) -> Result<(), AllocError>
     ensures { OnOk result (out.new.items ≡ out.old.items ++ thread_record thread.now) }
@@ -171,7 +184,7 @@ fn put_thread(out: &mut Vec<u8>, thread: &Thread) -> Result<(), AllocError>
     Ok(())
 }
 
-// The bytes of a thread before its target.
+/// The bytes of a thread before its target.
 fn thread_head(thread: &Thread) -> [u8; 4]
     ensures { result ≡ thread.now.slot ∷ thread.now.group ∷ handler_byte thread.now.handler
         ∷ code_of thread.now.perm ∷ [] }
@@ -183,6 +196,7 @@ fn thread_head(thread: &Thread) -> [u8; 4]
     [thread.slot, thread.group, handler, thread.perm.code()]
 }
 
+/// Appends the registers in eight bytes each.
 fn put_values(out: &mut Vec<u8>, values: &[Value]) -> Result<(), AllocError>
     ensures { OnOk result (out.new.items ≡ out.old.items ++ (each value_row (map is_tagged values.now)).spell values.now) }
 {
@@ -192,6 +206,7 @@ fn put_values(out: &mut Vec<u8>, values: &[Value]) -> Result<(), AllocError>
     Ok(())
 }
 
+/// Appends a register in eight bytes: an integer, or permission and target of a pointer.
 fn put_value(out: &mut Vec<u8>, value: Value) -> Result<(), AllocError>
     ensures { OnOk result (out.new.items ≡ out.old.items ++ (value_row (is_tagged value)).spell value) }
 {
@@ -205,7 +220,7 @@ fn put_value(out: &mut Vec<u8>, value: Value) -> Result<(), AllocError>
     Ok(())
 }
 
-// The bits of the values that become pointers, the first value lowest.
+/// The bits of the values that become pointers, the first value lowest.
 fn tags_of(values: &[Value]) -> u16
     requires { length values.now ≤ 16 }
     ensures value { result ≡ number_of_flags (map is_tagged values.now) }
@@ -217,13 +232,14 @@ fn tags_of(values: &[Value]) -> u16
     }
 }
 
+/// Whether a register becomes a pointer.
 fn is_tagged(value: Value) -> bool
     ensures { result ≡ is_tagged value }
 {
     matches!(value, Value::Ptr { .. })
 }
 
-// The bits of the words that are full, the first word lowest.
+/// The bits of the words that are full, the first word lowest.
 fn full_bits(items: &[Item]) -> u16
     requires { length items.now ≤ 8 }
     ensures value { result ≡ number_of_flags (map (λ (i : ItemValue). i.full) items.now) }
