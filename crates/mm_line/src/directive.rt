@@ -12,6 +12,7 @@ use crate::word::{content_of, read_constant, read_target};
 use crate::words::{Directive, directive_named, ip_perm_named};
 use crate::{Fault, Next, Problem, Statement, Token, next_token};
 
+/// The statement of `.spare` from what follows the word, and the line after it.
 #[tactic(auto, unfolding(crate::specs::Statements::spare_at))]
 fn spare(line: &[u8]) -> Result<(Statement<'_>, &[u8]), Problem>
     ensures { IsReadAs (λ x. (x.0, x.1.now)) result (spare_at line.now) }
@@ -21,6 +22,7 @@ fn spare(line: &[u8]) -> Result<(Statement<'_>, &[u8]), Problem>
     Ok((Statement::Spare(frames as u16), next.rest))
 }
 
+/// The statement of `.segment` from what follows the word, and the line after it.
 #[tactic(auto, unfolding(crate::specs::Statements::segment_at))]
 fn segment(line: &[u8]) -> Result<(Statement<'_>, &[u8]), Problem>
     ensures { IsReadAs (λ x. (x.0, x.1.now)) result (segment_at line.now) }
@@ -38,6 +40,7 @@ fn segment(line: &[u8]) -> Result<(Statement<'_>, &[u8]), Problem>
     ))
 }
 
+/// The statement of `.fill` from what follows the word, and the line after it.
 #[tactic(auto, unfolding(crate::specs::Statements::fill_at))]
 fn fill(line: &[u8]) -> Result<(Statement<'_>, &[u8]), Problem>
     ensures { IsReadAs (λ x. (x.0, x.1.now)) result (fill_at line.now) }
@@ -47,6 +50,7 @@ fn fill(line: &[u8]) -> Result<(Statement<'_>, &[u8]), Problem>
     Ok((Statement::Fill(words), next.rest))
 }
 
+/// The statement of `.thread` from what follows the word, and the line after it.
 #[tactic(auto, unfolding(crate::specs::Statements::thread_at))]
 fn thread(line: &[u8]) -> Result<(Statement<'_>, &[u8]), Problem>
     ensures { IsReadAs (λ x. (x.0, x.1.now)) result (thread_at line.now) }
@@ -72,6 +76,7 @@ fn thread(line: &[u8]) -> Result<(Statement<'_>, &[u8]), Problem>
     ))
 }
 
+/// The statement of `.reg` from what follows the word, and the line after it.
 #[tactic(auto, unfolding(crate::specs::Statements::register_at))]
 fn register(line: &[u8]) -> Result<(Statement<'_>, &[u8]), Problem>
     ensures { IsReadAs (λ x. (x.0, x.1.now)) result (register_at line.now) }

@@ -19,7 +19,7 @@ impl<'a> Model for Name<'a> {
 impl<'a> Name<'a> {
     ghost use Rattle.std.specs.Prelude.{◌≡◌};
 
-    // The name of these bytes.
+    /// The name of these bytes.
     pub(crate) fn new(bytes: &'a [u8]) -> Name<'a>
         ensures { result ≡ bytes.now }
     {

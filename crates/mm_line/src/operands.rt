@@ -70,6 +70,7 @@ fn operand<'a>(kind: OperandKind, code: &mut Code<'a>, line: &'a [u8]) -> Result
     Ok(next.rest)
 }
 
+/// The line after the comma that is next in it; another token, or none, is a fault.
 fn comma(line: &[u8]) -> Result<&[u8], Problem>
     ensures { IsReadAs (λ rest. rest.now) result (comma_of (next_token line.now)) }
 {

@@ -55,6 +55,7 @@ pub(crate) fn known<T: Drop>(value: Option<T>, next: Next) -> Result<T, Problem>
     }
 }
 
+/// The register that a token names.
 pub(crate) fn register_of(next: Next) -> Result<Reg, Problem>
     ensures { result ≡ register_of (seen next.entry) }
 {
@@ -119,6 +120,7 @@ pub(crate) fn immediate_of(next: Next) -> Result<i32, Problem>
     }
 }
 
+/// The number with this sign and magnitude modulo 2^32; `None` if it is below -2^31 or above 2^32 - 1.
 fn immediate(negative: bool, magnitude: u64) -> Option<i32>
     ensures { result ≡ immediate negative magnitude }
 {

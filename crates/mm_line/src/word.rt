@@ -26,6 +26,7 @@ fn addend(line: &[u8]) -> Result<(u32, &[u8]), Problem>
     }
 }
 
+/// A target, which is a name and perhaps an addend, and the line after it.
 #[tactic(auto, unfolding(crate::specs::Statements::target_at))]
 pub(crate) fn read_target(line: &[u8]) -> Result<(Target<'_>, &[u8]), Problem>
     ensures { IsReadAs (λ x. (x.0, x.1.now)) result (target_at line.now) }
@@ -36,6 +37,7 @@ pub(crate) fn read_target(line: &[u8]) -> Result<(Target<'_>, &[u8]), Problem>
     Ok((Target { mark, addend }, rest))
 }
 
+/// The constant that is an integer, from what follows the word that says so, and the line after it.
 #[tactic(auto, unfolding(crate::specs::Statements::integer_at))]
 fn integer(line: &[u8]) -> Result<(Constant<'_>, &[u8]), Problem>
     ensures { IsReadAs (λ x. (x.0, x.1.now)) result (integer_at line.now) }
@@ -45,6 +47,7 @@ fn integer(line: &[u8]) -> Result<(Constant<'_>, &[u8]), Problem>
     Ok((Constant::Integer(n), next.rest))
 }
 
+/// The constant that is a pointer, from what follows the word that says so, and the line after it.
 #[tactic(auto, unfolding(crate::specs::Statements::pointer_at))]
 fn pointer(line: &[u8]) -> Result<(Constant<'_>, &[u8]), Problem>
     ensures { IsReadAs (λ x. (x.0, x.1.now)) result (pointer_at line.now) }

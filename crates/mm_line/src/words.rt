@@ -19,6 +19,7 @@ pub(crate) enum Directive {
     Reg,
 }
 
+/// The directive that the word begins, if it begins one.
 pub(crate) fn directive_named(word: &[u8]) -> Option<Directive>
     ensures { result ≡ look_up directives word.now }
 {
@@ -43,6 +44,7 @@ pub(crate) fn directive_named(word: &[u8]) -> Option<Directive>
     }
 }
 
+/// The permission with this name.
 pub(crate) fn perm_named(word: &[u8]) -> Option<Perm>
     ensures { result ≡ look_up perms word.now }
 {
@@ -69,6 +71,7 @@ pub(crate) fn ip_perm_named(word: &[u8]) -> Option<Perm>
     }
 }
 
+/// The precondition with this name.
 pub(crate) fn pre_named(word: &[u8]) -> Option<Pre>
     ensures { result ≡ look_up pres word.now }
 {
@@ -80,6 +83,7 @@ pub(crate) fn pre_named(word: &[u8]) -> Option<Pre>
     }
 }
 
+/// The postcondition with this name.
 pub(crate) fn post_named(word: &[u8]) -> Option<Post>
     ensures { result ≡ look_up posts word.now }
 {
@@ -91,6 +95,7 @@ pub(crate) fn post_named(word: &[u8]) -> Option<Post>
     }
 }
 
+/// The way to resume a slot that has this name.
 pub(crate) fn how_named(word: &[u8]) -> Option<How>
     ensures { result ≡ look_up hows word.now }
 {
