@@ -12,7 +12,7 @@ use mm_line::{Mark, Problem, Statement};
 use std::alloc::AllocError;
 
 impl<'a> Draft<'a> {
-    // The count of words that the last segment has so far.
+    /// The count of words that the last segment has so far.
     fn words_so_far(&self) -> usize
         ensures { result ≡ words_so_far (last self.now.segments) }
     {
@@ -22,7 +22,7 @@ impl<'a> Draft<'a> {
         }
     }
 
-    // Adds a label, which names the next word of the last segment.
+    /// Adds a label, which names the next word of the last segment.
     pub(crate) fn add_label(&mut self, mark: Mark<'a>) -> Result<(), AllocError>
         requires { place_of self.old mark.name ≡ None }
         ensures { OnOk result (self.new ≡ add_label mark.entry self.old) }
@@ -36,7 +36,7 @@ impl<'a> Draft<'a> {
         Ok(())
     }
 
-    // Adds a segment without words.
+    /// Adds a segment without words.
     fn add_segment(&mut self, mark: Mark<'a>, log: u8) -> Result<(), AllocError>
         requires new { place_of self.old mark.name ≡ None }
         requires size { log ≤ 20 }
@@ -57,7 +57,7 @@ impl<'a> Draft<'a> {
         Ok(())
     }
 
-    // Adds a word to the last segment.
+    /// Adds a word to the last segment.
     fn add_word(&mut self, word: Word<'a>) -> Result<(), AllocError>
         requires { HasRoom self.old 1 (one_if_pointer word.content) }
         ensures { OnOk result (self.new ≡ add_words (word.entry ∷ []) self.old) }
@@ -72,7 +72,7 @@ impl<'a> Draft<'a> {
         Ok(())
     }
 
-    // Adds `count` integer zeros to the last segment.
+    /// Adds `count` integer zeros to the last segment.
     fn add_zeros(&mut self, count: u32, source: Source) -> Result<(), AllocError>
         requires { HasRoom self.old count 0 }
         ensures { OnOk result (self.new ≡ add_words (replicate count (zero_word source)) self.old) }
@@ -83,7 +83,7 @@ impl<'a> Draft<'a> {
         Ok(())
     }
 
-    // Adds a register to the last thread.
+    /// Adds a register to the last thread.
     fn add_register(&mut self, register: Register<'a>) -> Result<(), AllocError>
         ensures { OnOk result (self.new ≡ add_register register.entry self.old) }
     {
@@ -94,7 +94,7 @@ impl<'a> Draft<'a> {
         Ok(())
     }
 
-    // Adds what a statement of a line says.
+    /// Adds what a statement of a line says.
     #[tactic(auto, unfolding(crate::specs::Drafts::add_statement))]
     fn add_statement(&mut self, source: Source, statement: Statement<'a>) -> Result<(), AllocError>
         requires { MayAdd self.old statement }
@@ -139,7 +139,7 @@ impl<'a> Draft<'a> {
         }
     }
 
-    // Adds what the statement of a line says, if it could be read.
+    /// Adds what the statement of a line says, if it could be read.
     pub(crate) fn add_reading(
         &mut self,
         source: Source,

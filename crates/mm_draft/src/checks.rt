@@ -12,6 +12,7 @@ use mm_isa::Reg;
 use mm_line::{Body, Claim, Constant, Content, Fault, Mark, Name, Problem, Statement};
 use mm_model::{RELOC_LIMIT, SEGMENT_LIMIT, WORD_LIMIT};
 
+/// The fault with `left` bytes of its line from its place on, if something is bad.
 fn fault_if(bad: bool, fault: Fault, left: usize) -> Option<Problem>
     ensures { result ≡ first_of (fault_if bad fault left) }
 {
@@ -22,14 +23,14 @@ fn fault_if(bad: bool, fault: Fault, left: usize) -> Option<Problem>
     }
 }
 
-// Whether a fault is before another in their line. A place is the count of bytes of the line from there on.
+/// Whether a fault is before another in their line. A place is the count of bytes of the line from there on.
 fn is_before(p: Problem, q: Problem) -> bool
     ensures { result ≡ is_before p q }
 {
     p.left > q.left || p.left == q.left && p.fault.number() < q.fault.number()
 }
 
-// The first of two faults.
+/// The first of two faults.
 fn first(p: Option<Problem>, q: Option<Problem>) -> Option<Problem>
     ensures { result ≡ first_of_both p q }
 {
@@ -40,7 +41,7 @@ fn first(p: Option<Problem>, q: Option<Problem>) -> Option<Problem>
     }
 }
 
-// 1 if the content becomes a pointer when the segments are placed, else 0.
+/// 1 if the content becomes a pointer when the segments are placed, else 0.
 pub(crate) fn one_if_pointer(content: &Content<'_>) -> usize
     ensures { result ≡ one_if_pointer content.now }
 {
@@ -51,33 +52,35 @@ pub(crate) fn one_if_pointer(content: &Content<'_>) -> usize
 }
 
 impl<'a> Draft<'a> {
+    /// Whether any segment has begun.
     fn has_segment(&self) -> bool
         ensures { result ≡ is_some (last self.now.segments) }
     {
         !self.segments.is_empty()
     }
 
+    /// Whether the text has a thread so far.
     fn has_thread(&self) -> bool
         ensures { result ≡ is_some (last self.now.threads) }
     {
         !self.threads.is_empty()
     }
 
-    // Whether a label or a segment has this name.
+    /// Whether a label or a segment has this name.
     fn is_named(&self, name: &Name<'_>) -> bool
         ensures { result ≡ is_named self.now name.now }
     {
         self.place_of(name.bytes()).is_some()
     }
 
-    // Whether a thread has this slot.
+    /// Whether a thread has this slot.
     fn has_slot(&self, slot: u8) -> bool
         ensures { result ≡ has_slot self.now slot }
     {
         self.threads.iter().any(|t| t.slot == slot)
     }
 
-    // Whether the last thread has this register.
+    /// Whether the last thread has this register.
     fn has_register(&self, number: Reg) -> bool
         ensures { result ≡ has_register (last self.now.threads) number }
     {
@@ -87,7 +90,7 @@ impl<'a> Draft<'a> {
         }
     }
 
-    // The first fault of a label, if it has one.
+    /// The first fault of a label, if it has one.
     pub(crate) fn label_fault(&self, mark: &Mark<'_>) -> Option<Problem>
         ensures { result ≡ first_of (label_faults self.now mark.now) }
     {
@@ -97,7 +100,7 @@ impl<'a> Draft<'a> {
         )
     }
 
-    // The fault of a statement that names what is there already.
+    /// The fault of a statement that names what is there already.
     fn claim_fault(&self, claim: &Option<Claim<'_>>) -> Option<Problem>
         ensures { result ≡ first_of (claim_faults self.now claim.now) }
     {
@@ -116,7 +119,7 @@ impl<'a> Draft<'a> {
         }
     }
 
-    // Whether this count of further words, and of pointers among them, is past a limit.
+    /// Whether this count of further words, and of pointers among them, is past a limit.
     fn is_past_limit(&self, words: u32, pointers: usize) -> bool
         requires { pointers ≤ 1 }
         ensures { result ≡ (nat_lt word_limit (words_of self.now.segments + words)
@@ -125,7 +128,7 @@ impl<'a> Draft<'a> {
         self.words + words as usize > WORD_LIMIT || self.pointers + pointers > RELOC_LIMIT
     }
 
-    // The first fault of this count of further words, and of pointers among them.
+    /// The first fault of this count of further words, and of pointers among them.
     fn words_fault(&self, words: u32, pointers: usize, left: usize) -> Option<Problem>
         requires { pointers ≤ 1 }
         ensures { result ≡ first_of (words_faults self.now words pointers left (last self.now.segments)) }
@@ -143,7 +146,7 @@ impl<'a> Draft<'a> {
         }
     }
 
-    // The first fault of a statement that has none of its own.
+    /// The first fault of a statement that has none of its own.
     #[tactic(auto, unfolding(crate::specs::Faults::statement_faults))]
     fn statement_fault(&self, left: usize, statement: &Statement<'_>) -> Option<Problem>
         ensures { result ≡ first_of (statement_faults self.now left statement.now) }
@@ -159,7 +162,7 @@ impl<'a> Draft<'a> {
         }
     }
 
-    // The first fault of a statement and of what it claims.
+    /// The first fault of a statement and of what it claims.
     pub(crate) fn body_fault(&self, body: &Body<'_>) -> Option<Problem>
         ensures { result ≡ first_of (body_faults self.now (Some body.now)) }
     {

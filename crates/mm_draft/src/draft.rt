@@ -38,7 +38,7 @@ impl<'a> Model for Draft<'a> {
 }
 
 impl<'a> Draft<'a> {
-    // The draft of no line.
+    /// The draft of no line.
     pub(crate) fn new(alloc: Global) -> Draft<'a>
         ensures { result ≡ nothing }
     {

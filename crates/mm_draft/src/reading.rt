@@ -10,7 +10,7 @@ use mm_line::{Body, Mark, Problem, read_line};
 use std::alloc::Global;
 
 impl<'a> Draft<'a> {
-    // Reads the label of a line.
+    /// Reads the label of a line.
     fn read_label(
         &mut self,
         source: Source,
@@ -32,7 +32,7 @@ impl<'a> Draft<'a> {
         }
     }
 
-    // Reads the statement of a line.
+    /// Reads the statement of a line.
     fn read_body(&mut self, source: Source, body: Option<Body<'a>>) -> Result<(), DraftError>
         requires in_range { IsOptionalBody source.size body }
         requires claims { NamesItsClaim body }
@@ -51,7 +51,7 @@ impl<'a> Draft<'a> {
         }
     }
 
-    // Reads a line of the text.
+    /// Reads a line of the text.
     fn read_line(&mut self, number: usize, bytes: &'a [u8]) -> Result<(), DraftError>
         ensures { Leaves result self.new (step number bytes.now self.old) }
     {

@@ -18,7 +18,7 @@ pub struct Word<'a> {
 }
 
 impl<'a> Word<'a> {
-    // Integer 0, in a full cell.
+    /// Integer 0, in a full cell.
     pub(crate) fn zero(source: Source) -> Word<'a>
         ensures { result ≡ zero_word source }
     {
@@ -60,7 +60,7 @@ impl<'a> Segment<'a> {
         1 << self.log.saturating_sub(3)
     }
 
-    // Appends a word.
+    /// Appends a word.
     pub(crate) fn push(&mut self, word: Word<'a>) -> Result<(), AllocError>
         ensures done { OnOk result (self.new ≡ with_words (word.entry ∷ []) self.old) }
         ensures unchanged { OnErr result (self.new ≡ self.old) }

@@ -50,7 +50,7 @@ impl<'a> Model for Thread<'a> {
 impl<'a> Thread<'a> {
     ghost use Rattle.mm_draft.specs.Drafts.{with_register};
 
-    // Whether the text says what this register holds.
+    /// Whether the text says what this register holds.
     pub(crate) fn has_register(&self, number: Reg) -> bool
         ensures { result ≡ list_any (λ r. r.number == number) self.now.registers }
     {
@@ -59,7 +59,7 @@ impl<'a> Thread<'a> {
             .any(|r| r.number.number() == number.number())
     }
 
-    // Appends a register.
+    /// Appends a register.
     pub(crate) fn push(&mut self, register: Register<'a>) -> Result<(), AllocError>
         ensures { OnOk result (self.new ≡ with_register register.entry self.old) }
     {
