@@ -50,7 +50,7 @@ pub fn assemble(alloc: Global, text: &[u8]) -> Result<Object, AsmError>
     }
 }
 
-// The error of a text that has no draft.
+/// The error of a text that has no draft.
 fn early(error: DraftError) -> AsmError
     requires { IsSmallError error }
     ensures { Fails (pair_of_error error) result }
@@ -61,7 +61,7 @@ fn early(error: DraftError) -> AsmError
     }
 }
 
-// The object of a draft, or the first of its faults.
+/// The object of a draft, or the first of its faults.
 fn assemble_draft(alloc: Global, draft: &Draft<'_>) -> Result<Object, AsmError>
     requires bounded { IsDraft draft.now }
     requires small { IsFromSmall draft.now }
@@ -79,7 +79,7 @@ fn assemble_draft(alloc: Global, draft: &Draft<'_>) -> Result<Object, AsmError>
     object_of(alloc, draft, names)
 }
 
-// The object of a draft, with these externals.
+/// The object of a draft, with these externals.
 #[tactic(auto, unfolding(crate::specs::Meaning::object_of))]
 fn object_of(alloc: Global, draft: &Draft<'_>, externals: Vec<Name>) -> Result<Object, AsmError>
     requires names { externals.items ≡ externals_of draft.now }

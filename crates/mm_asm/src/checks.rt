@@ -11,7 +11,7 @@ use crate::text_order::Use;
 use mm_draft::{Draft, Failure, Location, Segment, Word};
 use mm_line::{Code, Content, Fault, Problem};
 
-// Whether a name stands for a label of a segment.
+/// Whether a name stands for a label of a segment.
 fn is_label_in(place: Option<Location>, segment: usize) -> bool
     ensures { result ≡ is_label_in place segment }
 {
@@ -21,7 +21,7 @@ fn is_label_in(place: Option<Location>, segment: usize) -> bool
     }
 }
 
-// Whether an offset is at or past the end of a segment, or there is no segment.
+/// Whether an offset is at or past the end of a segment, or there is no segment.
 fn is_outside(segment: Option<&Segment<'_>>, offset: u128) -> bool
     ensures { result ≡ is_outside (option_map (λ s. s.now) segment.entry) offset }
 {
@@ -31,7 +31,7 @@ fn is_outside(segment: Option<&Segment<'_>>, offset: u128) -> bool
     }
 }
 
-/// Meets the branches to marks that are no labels of their segments.
+/// Keeps the earliest of the fault so far and those of branches to marks that are no labels of their segments.
 pub(crate) fn meet_goals(first: &mut Option<Failure>, draft: &Draft<'_>)
     ensures { Meets first.old first.new (goal_failures draft.now 0 draft.now.segments) }
 {
@@ -40,7 +40,7 @@ pub(crate) fn meet_goals(first: &mut Option<Failure>, draft: &Draft<'_>)
     }
 }
 
-// Meets the branches of a segment to marks that are no labels of it.
+/// Keeps the earliest of the fault so far and those of a segment's branches to marks that are no labels of it.
 fn meet_goals_in(first: &mut Option<Failure>, draft: &Draft<'_>, segment: usize, words: &[Word<'_>])
     ensures { Meets first.old first.new (flat_map (word_failures draft.now segment) words.now) }
 {
@@ -49,7 +49,7 @@ fn meet_goals_in(first: &mut Option<Failure>, draft: &Draft<'_>, segment: usize,
     }
 }
 
-// Meets the branch of a word, if it is to a mark that is no label of its segment.
+/// Keeps the earlier of the fault so far and that of a word's branch, if its mark is no label of the segment.
 fn meet_goal(first: &mut Option<Failure>, draft: &Draft<'_>, segment: usize, word: &Word<'_>)
     ensures { Meets first.old first.new (word_failures draft.now segment word.now) }
 {
@@ -69,7 +69,7 @@ fn meet_goal(first: &mut Option<Failure>, draft: &Draft<'_>, segment: usize, wor
     }
 }
 
-/// Meets the targets outside their segments.
+/// Keeps the earliest of the fault so far and those of targets outside their segments.
 pub(crate) fn meet_targets(first: &mut Option<Failure>, draft: &Draft<'_>, uses: &[Use<'_, '_>])
     ensures { Meets first.old first.new (flat_map (use_failures draft.now) uses.now) }
 {
@@ -78,7 +78,7 @@ pub(crate) fn meet_targets(first: &mut Option<Failure>, draft: &Draft<'_>, uses:
     }
 }
 
-// Meets a target, if it is outside its segment.
+/// Keeps the earlier of the fault so far and that of a target, if it is outside its segment.
 fn meet_target(first: &mut Option<Failure>, draft: &Draft<'_>, u: &Use<'_, '_>)
     ensures { Meets first.old first.new (use_failures draft.now u.now) }
 {

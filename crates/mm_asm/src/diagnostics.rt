@@ -11,7 +11,7 @@ use crate::AsmError;
 use mm_draft::{Failure, Source};
 use mm_line::{Fault, Problem};
 
-// Whether a fault comes before another one in the text or, at the same place, has the smaller number.
+/// Whether a fault comes before another one in the text or, at the same place, has the smaller number.
 fn precedes(a: &Failure, b: &Failure) -> bool
     ensures { result ≡ precedes (failure_pair a.now) (failure_pair b.now) }
 {

@@ -35,7 +35,7 @@ pub(crate) fn externals<'a>(
     Ok(names)
 }
 
-// The names that some targets have and the draft does not define, in the order in which they are first seen.
+/// The names that some targets have and the draft does not define, in the order in which they are first seen.
 fn first_seen<'a>(
     alloc: Global,
     first: &mut Option<Failure>,
@@ -53,7 +53,7 @@ fn first_seen<'a>(
     Ok(names)
 }
 
-// Adds the name of a target, if the draft does not define it.
+/// Adds the name of a target, if the draft does not define it.
 fn add_use<'a>(
     names: &mut IndexSet<&'a [u8]>,
     first: &mut Option<Failure>,
@@ -79,7 +79,7 @@ fn add_use<'a>(
     Ok(())
 }
 
-// Whether a name is none of these names, and they are as many as an object may have.
+/// Whether a name is none of these names, and they are as many as an object may have.
 fn is_too_many(names: &IndexSet<&[u8]>, name: &[u8]) -> bool
     ensures { result ≡ is_too_many (key_names names.now.keys) name.now }
 {

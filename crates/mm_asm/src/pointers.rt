@@ -33,6 +33,7 @@ pub(crate) fn relocs_of(
     Ok(relocs)
 }
 
+/// Appends a relocation for each of a segment's words that becomes a pointer.
 fn push_words(
     relocs: &mut Vec<Reloc>,
     draft: &Draft<'_>,
@@ -52,6 +53,7 @@ fn push_words(
     Ok(())
 }
 
+/// Appends the relocation of a word, if the word becomes a pointer.
 fn push_word(
     relocs: &mut Vec<Reloc>,
     draft: &Draft<'_>,

@@ -13,14 +13,14 @@ use mm_line::{Constant, Target as Named};
 use mm_object::{Name, Target, Value};
 use std::cmp::Ordering;
 
-// The order of a name and other bytes.
+/// The order of a name and other bytes.
 fn compare(name: &Name, bytes: &[u8]) -> Ordering
     ensures { result ≡ slice_cmp nat_cmp name.now bytes.now }
 {
     name.bytes().cmp(&bytes)
 }
 
-// The index of a name among names that ascend.
+/// The index of a name among names that ascend.
 fn position_of(names: &[Name], name: &[u8]) -> usize
     requires up { ascend names.now ≡ true }
     requires among { is_among name.now names.now ≡ true }
@@ -32,7 +32,7 @@ fn position_of(names: &[Name], name: &[u8]) -> usize
     }
 }
 
-// The target that is `addend` bytes after a place of the draft.
+/// The target that is `addend` bytes after a place of the draft.
 fn here(place: Location, addend: u32) -> Target
     requires segment { place.segment < 2 ^ 16 }
     requires offset { 8 * place.word + addend < 2 ^ 32 }
@@ -44,7 +44,7 @@ fn here(place: Location, addend: u32) -> Target
     }
 }
 
-// The target that is `addend` bytes after an external, in an object with `segments` segments.
+/// The target that is `addend` bytes after an external, in an object with `segments` segments.
 fn elsewhere(segments: usize, external: usize, addend: u32) -> Target
     requires { segments + external < 2 ^ 16 }
     ensures { result ≡ record { index = segments + external; addend = addend } }

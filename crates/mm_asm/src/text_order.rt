@@ -29,7 +29,7 @@ impl<'d, 'a> Model for Use<'d, 'a> {
 impl<'d, 'a> Use<'d, 'a> {
     ghost use Rattle.std.specs.Prelude.{◌≡◌};
 
-    // A copy of the use.
+    /// A copy of the use.
     fn again(&self) -> Use<'d, 'a>
         ensures { result ≡ self.now }
     {
@@ -54,7 +54,7 @@ pub(crate) fn uses<'d, 'a>(
     merge(alloc, &words, &threads)
 }
 
-// The targets of the words of segments.
+/// The targets of the words of segments.
 fn words_uses<'d, 'a>(
     alloc: Global,
     segments: &'d [Segment<'a>],
@@ -69,7 +69,7 @@ fn words_uses<'d, 'a>(
     Ok(uses)
 }
 
-// The targets of threads and their registers.
+/// The targets of threads and their registers.
 fn threads_uses<'d, 'a>(
     alloc: Global,
     threads: &'d [Thread<'a>],
@@ -84,7 +84,7 @@ fn threads_uses<'d, 'a>(
     Ok(uses)
 }
 
-// Adds the targets of words.
+/// Adds the targets of words.
 fn push_words<'d, 'a>(uses: &mut Vec<Use<'d, 'a>>, words: &'d [Word<'a>]) -> Result<(), AsmError>
     ensures uses { OnOk result (uses.new.items ≡ uses.old.items ++ flat_map word_uses words.now) }
     ensures memory { IsOkUnless result AsmError.NoMemory }
@@ -95,7 +95,7 @@ fn push_words<'d, 'a>(uses: &mut Vec<Use<'d, 'a>>, words: &'d [Word<'a>]) -> Res
     Ok(())
 }
 
-// Adds the target of a word.
+/// Adds the target of a word.
 fn push_word<'d, 'a>(uses: &mut Vec<Use<'d, 'a>>, word: &'d Word<'a>) -> Result<(), AsmError>
     ensures uses { OnOk result (uses.new.items ≡ uses.old.items ++ word_uses word.now) }
     ensures memory { IsOkUnless result AsmError.NoMemory }
@@ -106,7 +106,7 @@ fn push_word<'d, 'a>(uses: &mut Vec<Use<'d, 'a>>, word: &'d Word<'a>) -> Result<
     }
 }
 
-// Adds the target of a constant.
+/// Adds the target of a constant.
 fn push_constant<'d, 'a>(
     uses: &mut Vec<Use<'d, 'a>>,
     constant: &'d Constant<'a>,
@@ -124,7 +124,7 @@ fn push_constant<'d, 'a>(
     }
 }
 
-// Adds the targets of a thread.
+/// Adds the targets of a thread.
 fn push_thread<'d, 'a>(uses: &mut Vec<Use<'d, 'a>>, thread: &'d Thread<'a>) -> Result<(), AsmError>
     ensures uses { OnOk result (uses.new.items ≡ uses.old.items ++ thread_uses thread.now) }
     ensures memory { IsOkUnless result AsmError.NoMemory }
@@ -136,7 +136,7 @@ fn push_thread<'d, 'a>(uses: &mut Vec<Use<'d, 'a>>, thread: &'d Thread<'a>) -> R
     push_registers(uses, &thread.registers)
 }
 
-// Adds the targets of registers.
+/// Adds the targets of registers.
 fn push_registers<'d, 'a>(
     uses: &mut Vec<Use<'d, 'a>>,
     registers: &'d [Register<'a>],
@@ -150,7 +150,7 @@ fn push_registers<'d, 'a>(
     Ok(())
 }
 
-// Two lists, each in the order of its lines, merged in that order.
+/// Two lists, each in the order of its lines, merged in that order.
 fn merge<'d, 'a>(
     alloc: Global,
     xs: &[Use<'d, 'a>],
@@ -178,7 +178,7 @@ fn merge<'d, 'a>(
     Ok(merged)
 }
 
-// Adds all of these uses.
+/// Adds all of these uses.
 fn push_all<'d, 'a>(uses: &mut Vec<Use<'d, 'a>>, more: &[Use<'d, 'a>]) -> Result<(), AsmError>
     ensures uses { OnOk result (uses.new.items ≡ uses.old.items ++ more.now) }
     ensures memory { IsOkUnless result AsmError.NoMemory }

@@ -16,7 +16,7 @@ use mm_line::{Code, Constant, Content, Mark};
 use mm_object::{Item, Segment};
 use std::alloc::Global;
 
-// The distance in words from a word to a label, which may come before it.
+/// The distance in words from a word to a label, which may come before it.
 fn distance_to(draft: &Draft<'_>, mark: &Mark<'_>, word: usize) -> i32
     requires { FitsSigned w32 (distance_to (place_of draft.now mark.now.name) word) }
     ensures { result ≡ distance_to (place_of draft.now mark.now.name) word }
@@ -27,7 +27,7 @@ fn distance_to(draft: &Draft<'_>, mark: &Mark<'_>, word: usize) -> i32
     }
 }
 
-// The fields of an operation, with the distance of its label.
+/// The fields of an operation, with the distance of its label.
 fn with_goal(draft: &Draft<'_>, word: usize, code: &Code<'_>) -> Fields
     requires { FitInWord (with_goal draft.now word code.now.goal code.now.fields) }
     ensures { result ≡ with_goal draft.now word code.now.goal code.now.fields }
@@ -41,7 +41,7 @@ fn with_goal(draft: &Draft<'_>, word: usize, code: &Code<'_>) -> Fields
     }
 }
 
-// The bits of a word of a segment. The bits of a pointer are 0 until the object is placed.
+/// The bits of a word of a segment. The bits of a pointer are 0 until the object is placed.
 fn bits_of(draft: &Draft<'_>, word: usize, content: &Content<'_>) -> u64
     requires { FitsContent draft.now word content.now }
     ensures { result ≡ bits_of draft.now word content.now }
@@ -53,7 +53,7 @@ fn bits_of(draft: &Draft<'_>, word: usize, content: &Content<'_>) -> u64
     }
 }
 
-// The words of a segment.
+/// The words of a segment.
 fn items_of(alloc: Global, draft: &Draft<'_>, words: &[Word<'_>]) -> Result<Vec<Item>, AsmError>
     requires { FitsWords draft.now 0 words.now }
     ensures items { IfOk result (λ v. v.items ≡ word_items draft.now 0 words.now) }
@@ -69,6 +69,7 @@ fn items_of(alloc: Global, draft: &Draft<'_>, words: &[Word<'_>]) -> Result<Vec<
     Ok(items)
 }
 
+/// The object's segment for one that the text says.
 fn segment_of(alloc: Global, draft: &Draft<'_>, said: &Said<'_>) -> Result<Segment, AsmError>
     requires { FitsSegment draft.now said.now }
     ensures segment { IfOk result (λ s. s ≡ segment_of draft.now said.now) }
