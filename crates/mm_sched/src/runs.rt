@@ -4,6 +4,7 @@ ghost use Rattle.std.specs.Prelude.{◌≡◌, ◌<◌, ◌≤◌, ◌∷◌, le
 ghost use Rattle.mm_model.specs.Words.{is_blank as blank};
 ghost use Rattle.mm_sched.specs.Places.{runs_at, runs_in, is_word_byte};
 
+/// Whether a byte is a blank: a tab, a newline, a carriage return or a space.
 fn is_blank(b: u8) -> bool
     ensures { result ≡ blank b }
 {
