@@ -28,6 +28,8 @@ pub(crate) fn is_image(
     has_mode(version, split) && slots_fit(version, slots) && memory_fits(version, pages, frames)
 }
 
+/// Whether slots are those of an image of this version: some, within the limit, with numbers that ascend, and each as
+/// at a start.
 fn slots_fit(version: u16, slots: &[Slot]) -> bool
     ensures { IsTrue result ↔ SlotsFit version slots.now }
 {
@@ -38,6 +40,7 @@ fn slots_fit(version: u16, slots: &[Slot]) -> bool
         && are_fresh(limit, slots)
 }
 
+/// Whether the count of frames is within the version's limit and not 0, and pages that ascend fit into the frames.
 fn memory_fits(version: u16, pages: &[Page], frames: u32) -> bool
     ensures { IsTrue result ↔ MemoryFits version pages.now frames }
 {
@@ -48,7 +51,7 @@ fn memory_fits(version: u16, pages: &[Page], frames: u32) -> bool
         && pages_ascend(pages)
 }
 
-// Whether a version is known and has the mode.
+/// Whether a version is known and has the mode.
 fn has_mode(version: u16, split: bool) -> bool
     ensures { IsTrue result ↔ (((version ≡ 1) ⊎ (version ≡ 2)) × (version ≡ 1 → split ≡ false)) }
 {
@@ -76,7 +79,7 @@ pub fn has_group(slots: &[Slot], group: u8) -> bool
     slots.iter().any(|slot| slot.group == group)
 }
 
-// Whether each slot is one of an image with these slots and this limit of numbers.
+/// Whether each slot is one of an image with these slots and this limit of numbers.
 fn are_fresh(limit: u8, slots: &[Slot]) -> bool
     ensures { IsTrue result ↔ AllByRecursion (IsFresh limit slots.now) slots.now }
 {
@@ -89,6 +92,7 @@ fn are_fresh(limit: u8, slots: &[Slot]) -> bool
     true
 }
 
+/// Whether a slot is as at a start: numbers below the limit, a handler that is there, and no turn taken.
 fn is_fresh(limit: u8, present: &[bool; 256], slot: &Slot) -> bool
     ensures { (slots : List Slot) → HoldsNumbers present.now slots → IsTrue result ↔ IsFresh limit slots slot.now }
 {
@@ -98,19 +102,21 @@ fn is_fresh(limit: u8, present: &[bool; 256], slot: &Slot) -> bool
     begins(slot.state) && has_not_run(slot)
 }
 
+/// Whether a slot may begin in this state: it runs, or is halted without a cause.
 fn begins(state: SlotState) -> bool
     ensures { IsTrue result ↔ Begins state }
 {
     matches!(state, SlotState::Running | SlotState::Halted(None))
 }
 
+/// Whether a slot has taken no turn, waits for no load, and is not past its segment's end.
 fn has_not_run(slot: &Slot) -> bool
     ensures { IsTrue result ↔ HasNotRun slot.now }
 {
     !slot.past && slot.turns == 0 && slot.empty == 0 && slot.pending.is_empty()
 }
 
-// Whether the numbers of the pages ascend.
+/// Whether the numbers of the pages ascend.
 fn pages_ascend(pages: &[Page]) -> bool
     ensures { IsTrue result ↔ IsTrue (is_sorted nat_cmp pages.now) }
 {

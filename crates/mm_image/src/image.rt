@@ -126,7 +126,7 @@ ghost use Rattle.std.specs.Option.{option_map};
 ghost use Rattle.std.specs.Ordering.{nat_cmp};
 ghost use Rattle.std.specs.FinMap.{find, is_sorted};
 
-// The page of a number, found by binary search.
+/// The page of a number, found by binary search.
 fn page_of(pages: &[Page], number: u64) -> Option<&Page>
     requires { IsTrue (is_sorted nat_cmp pages.now) }
     ensures { option_map (λ page. page.now.1) result ≡ find nat_cmp number pages.now }

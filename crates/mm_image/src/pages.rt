@@ -21,7 +21,7 @@ const PAGE_LIMIT: u64 = 1 << 42;
 /// The length in bytes of a page's tags, and of its full bits.
 const BITMAP_BYTES: usize = CELLS / 8;
 
-// The bit at a place of a bitmap, the lowest of each byte first.
+/// The bit at a place of a bitmap, the lowest of each byte first.
 fn bit(bitmap: &[u8], place: usize) -> bool
     requires place { place < 512 }
     requires whole { length bitmap.now ≡ 64 }
@@ -30,7 +30,7 @@ fn bit(bitmap: &[u8], place: usize) -> bool
     is_set(u16::from(bitmap[place / 8]), place % 8)
 }
 
-// Reads the words of a page's cells, with these tags and full bits.
+/// Reads the words of a page's cells, with these tags and full bits.
 fn read_cells(
     alloc: Global,
     reader: &mut Reader,

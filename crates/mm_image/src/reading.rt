@@ -24,7 +24,7 @@ pub fn read(alloc: Global, bytes: &[u8]) -> Result<Image, ImageError>
     Ok(image)
 }
 
-// The image of a whole file.
+/// The image of a whole file.
 fn read_file(alloc: Global, bytes: &[u8]) -> Result<Image, ReadError<ImageFault>>
     ensures { ReadsFile number_of (λ i. i) (file image 13 bytes.now) result }
 {
@@ -34,7 +34,7 @@ fn read_file(alloc: Global, bytes: &[u8]) -> Result<Image, ReadError<ImageFault>
     Ok(image)
 }
 
-// Reads an image from the front of a file.
+/// Reads an image from the front of a file.
 #[tactic(auto, unfolding(mm_format::specs::Images::image))]
 fn read_image(alloc: Global, reader: &mut Reader) -> Result<Image, ReadError<ImageFault>>
     requires front { reader.old.at ≡ 0 }

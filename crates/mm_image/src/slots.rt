@@ -118,7 +118,7 @@ impl Run<ImageFault> for SlotRun {
     }
 }
 
-// Reads this count of slots, whose numbers have to ascend.
+/// Reads this count of slots, whose numbers have to ascend.
 fn slot_records(
     alloc: Global,
     reader: &mut Reader,
@@ -138,7 +138,7 @@ fn slot_records(
     read_run(alloc, reader, &mut run, usize::from(count))
 }
 
-// Fails with `Handler` at the first slot whose handler is bad.
+/// Fails with `Handler` at the first slot whose handler is bad.
 fn test_handlers(slots: &[Slot]) -> Result<(), ReadError<ImageFault>>
     requires { length slots.now < 2 ^ 16 }
     ensures { ReadsAlone number_of (λ _. true) (answer (first_late 16 (handler_tests slots.now 0 slots.now)) true 0) 0

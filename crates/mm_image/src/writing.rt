@@ -32,6 +32,7 @@ pub fn write(alloc: Global, img: &Image) -> Result<Vec<u8>, NoMemory>
     Ok(out)
 }
 
+/// Appends the header: the file's mark, its version, the counts of slots, frames and pages, and the mode.
 fn put_header(out: &mut Vec<u8>, img: &Image) -> Result<(), AllocError>
     ensures { OnOk result (out.new.items ≡ out.old.items ++ header.spell (header_in img.now)) }
 {
@@ -44,6 +45,7 @@ fn put_header(out: &mut Vec<u8>, img: &Image) -> Result<(), AllocError>
     Ok(())
 }
 
+/// Appends the records of slots.
 fn put_slots(out: &mut Vec<u8>, slots: &[Slot]) -> Result<(), AllocError>
     ensures { OnOk result (out.new.items ≡ out.old.items ++ flat_map slot_record slots.now) }
 {
@@ -53,6 +55,7 @@ fn put_slots(out: &mut Vec<u8>, slots: &[Slot]) -> Result<(), AllocError>
     Ok(())
 }
 
+/// Appends the records of pages.
 fn put_pages(out: &mut Vec<u8>, pages: &[Page]) -> Result<(), AllocError>
     ensures { OnOk result (out.new.items ≡ out.old.items ++ flat_map page_record pages.now) }
 {
@@ -62,6 +65,7 @@ fn put_pages(out: &mut Vec<u8>, pages: &[Page]) -> Result<(), AllocError>
     Ok(())
 }
 
+/// Appends a slot: what comes before its instruction pointer, the pointer, the tags of its registers, and their words.
 #[tactic(auto, unfolding(mm_format::specs::Images::slot))]
 fn put_slot(out: &mut Vec<u8>, slot: &Slot) -> Result<(), AllocError>
     ensures { OnOk result (out.new.items ≡ out.old.items ++ slot_record slot.now) }
@@ -73,7 +77,7 @@ fn put_slot(out: &mut Vec<u8>, slot: &Slot) -> Result<(), AllocError>
     Ok(())
 }
 
-// The bytes of a slot before its instruction pointer.
+/// The bytes of a slot before its instruction pointer.
 fn slot_head(slot: &Slot) -> [u8; 4]
     ensures { result ≡ slot.now.number ∷ slot.now.group ∷ handler_byte slot.now.handler
         ∷ state_byte slot.now.state ∷ [] }
@@ -99,6 +103,7 @@ pub fn put_words(out: &mut Vec<u8>, words: &[Word]) -> Result<(), AllocError>
     Ok(())
 }
 
+/// Appends the 64 bits of a word. Whether it is a pointer stands elsewhere.
 fn put_word(out: &mut Vec<u8>, word: Word) -> Result<(), AllocError>
     ensures { OnOk result (out.new.items ≡ out.old.items ++ to_be_bytes w64 (word_bits word)) }
 {
@@ -118,6 +123,7 @@ pub fn put_page(out: &mut Vec<u8>, page: &Page) -> Result<(), AllocError>
     Ok(())
 }
 
+/// Appends the bitmap that says which of a page's cells hold pointers.
 fn put_tags(out: &mut Vec<u8>, cells: &[Cell]) -> Result<(), AllocError>
     requires { length cells.now ≡ 512 }
     ensures { OnOk result
@@ -129,6 +135,7 @@ fn put_tags(out: &mut Vec<u8>, cells: &[Cell]) -> Result<(), AllocError>
     Ok(())
 }
 
+/// Appends the bitmap that says which of a page's cells are full.
 fn put_full_bits(out: &mut Vec<u8>, cells: &[Cell]) -> Result<(), AllocError>
     requires { length cells.now ≡ 512 }
     ensures { OnOk result (out.new.items ≡ out.old.items ++ bitmap 64 (map (λ (c : Cell). c.full) cells.now)) }
@@ -139,6 +146,7 @@ fn put_full_bits(out: &mut Vec<u8>, cells: &[Cell]) -> Result<(), AllocError>
     Ok(())
 }
 
+/// Appends the words of cells in eight bytes each.
 fn put_cells(out: &mut Vec<u8>, cells: &[Cell]) -> Result<(), AllocError>
     ensures { OnOk result (out.new.items ≡ out.old.items
         ++ (each word (map (λ (c : Cell). is_pointer c.word) cells.now)).spell (map (λ (c : Cell). c.word) cells.now)) }
@@ -161,7 +169,7 @@ pub fn tags_of(words: &[Word]) -> u16
     }
 }
 
-// A bit for each cell, the lowest for the first: whether it holds a pointer.
+/// A bit for each cell, the lowest for the first: whether it holds a pointer.
 fn cell_tags(cells: &[Cell]) -> u16
     requires { length cells.now ≤ 8 }
     ensures value { result ≡ number_of_flags (map (λ (c : Cell). is_pointer c.word) cells.now) }
@@ -173,7 +181,7 @@ fn cell_tags(cells: &[Cell]) -> u16
     }
 }
 
-// A bit for each cell, the lowest for the first: whether it is full.
+/// A bit for each cell, the lowest for the first: whether it is full.
 fn full_bits(cells: &[Cell]) -> u16
     requires { length cells.now ≤ 8 }
     ensures value { result ≡ number_of_flags (map (λ (c : Cell). c.full) cells.now) }
