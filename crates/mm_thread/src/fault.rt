@@ -41,8 +41,8 @@ pub(crate) fn fault(
     }
 }
 
-// A slot without a handler faults: it stays running, blocked, if it lacks a synchronisation bit, and is halted by any
-// other cause.
+/// A slot without a handler faults: it stays running, blocked, if it lacks a synchronisation bit, and is halted by any
+/// other cause.
 fn end_alone(tables: &mut Tables, place: usize, cause: Cause) -> Tick
     requires can { CanTurn tables.old place }
     ensures core { let s = slot_in tables.old place in
@@ -58,13 +58,14 @@ fn end_alone(tables: &mut Tables, place: usize, cause: Cause) -> Tick
     }
 }
 
+/// Whether a cause is that a synchronisation bit is not as the instruction asks for.
 fn is_sync(cause: Cause) -> bool
     ensures { result ≡ is_sync cause }
 {
     matches!(cause, Cause::Sync)
 }
 
-// Lets the slot wait, and appends its event to its handler's queue.
+/// Lets the slot wait, and appends its event to its handler's queue.
 fn wait_for(tables: &mut Tables, place: usize, handler: u8, event: Event)
     requires can { CanTurn tables.old place }
     requires handler { (slot_in tables.old place).handler ≡ Some handler }

@@ -41,7 +41,7 @@ pub(crate) fn is_running(slot: &Slot) -> bool
     matches!(slot.state, SlotState::Running)
 }
 
-// Takes the turn of an item that is the number of no running slot: a port's delivery, or an idle cycle.
+/// Takes the turn of an item that is the number of no running slot: a port's delivery, or an idle cycle.
 fn take_port(tables: &mut Tables, item: u8, step: &mut Step)
     requires whole { IsCore tables.old }
     ensures { (m : MemoryValue)
@@ -59,7 +59,7 @@ fn take_port(tables: &mut Tables, item: u8, step: &mut Step)
     tell(step, tick, number, None, None);
 }
 
-// The index of the slot whose port the item is. In a split machine the items from 128 on are ports.
+/// The index of the slot whose port the item is. In a split machine the items from 128 on are ports.
 fn port_of(tables: &Tables, item: u8) -> Option<usize>
     requires whole { IsCore tables.now }
     ensures within { IfSome result (λ p. p < length tables.now.rows) }

@@ -1,4 +1,19 @@
 //! One turn of a machine over any memory.
+//!
+//! A [`Core`] has the slots, the queues of their events and the outputs of groups. [`turn_into`] takes the turn of an
+//! item: it changes the core and the memory, and writes the step where its caller keeps it.
+//!
+//! | what | modules |
+//! |---|---|
+//! | a core: its calls, making it, putting it back to given parts | `state`, `build`, `restore` |
+//! | how it keeps slots with their queues, and which of them run | `tables`, `row`, `queue`, `run_mask` |
+//! | how it keeps what groups put out | `group_output`, `output` |
+//! | a turn: whose it is, from its fetch to its end, a fault | `item`, `slot_turn`, `fault` |
+//! | the table of instructions that concern their slot alone, and a function for each | `carry_out`, `local_ops` |
+//! | the changes of a turn to its slot | `slot` |
+//! | the table of the other instructions | `execute` |
+//! | a function for each that needs memory, or other slots, queues or outputs | `memory_ops`, `slot_ops` |
+//! | the values of an instruction's operands, and how an instruction ends | `operands`, `outcome` |
 #![tactic(auto)]
 
 mod build;

@@ -22,6 +22,7 @@ use mm_word::{Cause, GuardedPtr, Perm, Word, enter, lea, leab, next, restrict, s
 /// The enter pointer that was entered, if any, or why the instruction faults.
 pub(crate) type Entered = Result<Option<GuardedPtr>, Cause>;
 
+/// `halt`: halts the slot, without a cause.
 #[tactic(auto, unfolding(mm_model::specs::Effect::effect, mm_model::specs::Effect::plain, mm_model::specs::Turn::slot_after))]
 pub(crate) fn halt(slot: &mut Slot) -> Entered
     requires { slot.old.turns < 2 ^ 62 }
@@ -31,6 +32,7 @@ pub(crate) fn halt(slot: &mut Slot) -> Entered
     Ok(None)
 }
 
+/// `nop`: changes nothing, and goes on to the next instruction.
 pub(crate) fn nop(slot: &mut Slot) -> Entered
     requires { slot.old.turns < 2 ^ 62 }
     ensures ends { (split : Bool) → EndsAlone (effect split Instr.Nop slot.old Fine) slot.old slot.new result }
@@ -40,6 +42,7 @@ pub(crate) fn nop(slot: &mut Slot) -> Entered
     Ok(None)
 }
 
+/// `ldi`: writes the constant to a register, with its sign extended to 64 bits.
 pub(crate) fn ldi(slot: &mut Slot, rd: Reg, imm: i32) -> Entered
     requires { slot.old.turns < 2 ^ 62 }
     ensures { (split : Bool) → EndsAlone (effect split (Instr.Ldi rd imm) slot.old Fine) slot.old slot.new result }
@@ -48,6 +51,7 @@ pub(crate) fn ldi(slot: &mut Slot, rd: Reg, imm: i32) -> Entered
     Ok(None)
 }
 
+/// `ldhi`: moves the low half of a register's word to the high half, and makes the constant the low half.
 pub(crate) fn ldhi(slot: &mut Slot, rd: Reg, imm: i32) -> Entered
     requires { slot.old.turns < 2 ^ 62 }
     ensures { (split : Bool) → EndsAlone (effect split (Instr.Ldhi rd imm) slot.old Fine) slot.old slot.new result }
@@ -57,13 +61,14 @@ pub(crate) fn ldhi(slot: &mut Slot, rd: Reg, imm: i32) -> Entered
     Ok(None)
 }
 
-// A word whose high half is the low half of `bits`, and whose low half is `imm`.
+/// A word whose high half is the low half of `bits`, and whose low half is `imm`.
 fn high_and_low(bits: u64, imm: i32) -> u64
     ensures { result ≡ high_and_low bits imm }
 {
     bits << 32 | u64::from(imm.cast_unsigned())
 }
 
+/// `mov`: copies a word, be it an integer or a pointer, to a register.
 pub(crate) fn mov(slot: &mut Slot, rd: Reg, ra: Reg) -> Entered
     requires { slot.old.turns < 2 ^ 62 }
     ensures { (split : Bool) → EndsAlone (effect split (Instr.Mov rd ra) slot.old Fine) slot.old slot.new result }
@@ -73,6 +78,7 @@ pub(crate) fn mov(slot: &mut Slot, rd: Reg, ra: Reg) -> Entered
     Ok(None)
 }
 
+/// `isptr`: writes to a register 1 if a word is a pointer, and else 0.
 pub(crate) fn isptr(slot: &mut Slot, rd: Reg, ra: Reg) -> Entered
     requires { slot.old.turns < 2 ^ 62 }
     ensures { (split : Bool) → EndsAlone (effect split (Instr.Isptr rd ra) slot.old Fine) slot.old slot.new result }
@@ -82,6 +88,7 @@ pub(crate) fn isptr(slot: &mut Slot, rd: Reg, ra: Reg) -> Entered
     Ok(None)
 }
 
+/// `eqw`: writes to a register 1 if two words are the same, and else 0. No pointer is the same as an integer.
 pub(crate) fn eqw(slot: &mut Slot, rd: Reg, ra: Reg, rb: Reg) -> Entered
     requires { slot.old.turns < 2 ^ 62 }
     ensures { (split : Bool) → EndsAlone (effect split (Instr.Eqw rd ra rb) slot.old Fine) slot.old slot.new result }
@@ -98,6 +105,7 @@ pub(crate) fn flag(b: bool) -> u64
     b as u64
 }
 
+/// `self`: writes the number of the slot to a register.
 pub(crate) fn self_slot(slot: &mut Slot, rd: Reg) -> Entered
     requires { slot.old.turns < 2 ^ 62 }
     ensures { (split : Bool) → EndsAlone (effect split (Instr.SelfSlot rd) slot.old Fine) slot.old slot.new result }
@@ -107,6 +115,7 @@ pub(crate) fn self_slot(slot: &mut Slot, rd: Reg) -> Entered
     Ok(None)
 }
 
+/// `add` to `lts`: writes to a register an integer made of the bits of two words. A division by 0 faults.
 pub(crate) fn operate(slot: &mut Slot, op: AluOp, rd: Reg, ra: Reg, rb: Reg) -> Entered
     requires { slot.old.turns < 2 ^ 62 }
     ensures { (split : Bool) → EndsAlone (effect split (Instr.Alu op rd ra rb) slot.old Fine) slot.old slot.new result }
@@ -121,6 +130,7 @@ pub(crate) fn operate(slot: &mut Slot, op: AluOp, rd: Reg, ra: Reg, rb: Reg) -> 
     }
 }
 
+/// `addi`: writes to a register the sum of a word's bits and the constant, modulo 2^64.
 pub(crate) fn addi(slot: &mut Slot, rd: Reg, ra: Reg, imm: i32) -> Entered
     requires { slot.old.turns < 2 ^ 62 }
     ensures { (split : Bool) → EndsAlone (effect split (Instr.Addi rd ra imm) slot.old Fine) slot.old slot.new result }
@@ -132,7 +142,7 @@ pub(crate) fn addi(slot: &mut Slot, rd: Reg, ra: Reg, imm: i32) -> Entered
     Ok(None)
 }
 
-// The pointer in a register, or the fault that there is none.
+/// The pointer in a register, or the fault that there is none.
 fn pointer_of(slot: &Slot, ra: Reg) -> Result<GuardedPtr, Cause>
     ensures { result ≡ pointer_in (register slot.now ra) }
 {
@@ -143,7 +153,7 @@ fn pointer_of(slot: &Slot, ra: Reg) -> Result<GuardedPtr, Cause>
     }
 }
 
-// Writes a pointer to a register, if there is one, and goes on.
+/// Writes a pointer to a register, if there is one, and goes on.
 fn sets_pointer(slot: &mut Slot, rd: Reg, made: Result<GuardedPtr, Cause>) -> Entered
     requires { slot.old.turns < 2 ^ 62 }
     ensures { EndsAlone (sets_pointer slot.old rd made) slot.old slot.new result }
@@ -157,13 +167,14 @@ fn sets_pointer(slot: &mut Slot, rd: Reg, made: Result<GuardedPtr, Cause>) -> En
     }
 }
 
-// The word of a register as a signed number.
+/// The word of a register as a signed number.
 fn signed_word_of(slot: &Slot, r: Reg) -> i64
     ensures { result ≡ cast_signed w64 (word_bits (register slot.now r)) }
 {
     word_of(slot, r).bits().cast_signed()
 }
 
+/// `lea`: writes to a register a pointer that is moved by as many bytes as another word says.
 pub(crate) fn lea_by(slot: &mut Slot, rd: Reg, ra: Reg, rb: Reg) -> Entered
     requires { slot.old.turns < 2 ^ 62 }
     ensures { (split : Bool) → EndsAlone (effect split (Instr.Lea rd ra rb) slot.old Fine) slot.old slot.new result }
@@ -175,6 +186,7 @@ pub(crate) fn lea_by(slot: &mut Slot, rd: Reg, ra: Reg, rb: Reg) -> Entered
     }
 }
 
+/// `leai`: writes to a register a pointer that is moved by `imm` bytes.
 pub(crate) fn leai(slot: &mut Slot, rd: Reg, ra: Reg, imm: i32) -> Entered
     requires { slot.old.turns < 2 ^ 62 }
     ensures { (split : Bool) → EndsAlone (effect split (Instr.Leai rd ra imm) slot.old Fine) slot.old slot.new result }
@@ -185,6 +197,7 @@ pub(crate) fn leai(slot: &mut Slot, rd: Reg, ra: Reg, imm: i32) -> Entered
     }
 }
 
+/// `leab`: writes to a register a pointer that is moved to as many bytes after its segment's base as another word says.
 pub(crate) fn leab_by(slot: &mut Slot, rd: Reg, ra: Reg, rb: Reg) -> Entered
     requires { slot.old.turns < 2 ^ 62 }
     ensures { (split : Bool) → EndsAlone (effect split (Instr.Leab rd ra rb) slot.old Fine) slot.old slot.new result }
@@ -196,6 +209,7 @@ pub(crate) fn leab_by(slot: &mut Slot, rd: Reg, ra: Reg, rb: Reg) -> Entered
     }
 }
 
+/// `restrict`: writes to a register a pointer with the permission whose number another word is.
 pub(crate) fn restrict_to(slot: &mut Slot, rd: Reg, ra: Reg, rb: Reg) -> Entered
     requires { slot.old.turns < 2 ^ 62 }
     ensures { (split : Bool)
@@ -208,6 +222,7 @@ pub(crate) fn restrict_to(slot: &mut Slot, rd: Reg, ra: Reg, rb: Reg) -> Entered
     }
 }
 
+/// `subseg`: writes to a register a pointer whose segment is shortened to the length whose logarithm another word is.
 pub(crate) fn subseg_to(slot: &mut Slot, rd: Reg, ra: Reg, rb: Reg) -> Entered
     requires { slot.old.turns < 2 ^ 62 }
     ensures { (split : Bool) → EndsAlone (effect split (Instr.Subseg rd ra rb) slot.old Fine) slot.old slot.new result }
@@ -226,6 +241,7 @@ pub(crate) fn is_privileged(slot: &Slot) -> bool
     slot.ip.perm().is_privileged()
 }
 
+/// `setptr`: writes to a register the pointer that a word's bits spell. Code that is not privileged faults.
 pub(crate) fn set_pointer(slot: &mut Slot, rd: Reg, ra: Reg) -> Entered
     requires { slot.old.turns < 2 ^ 62 }
     ensures { (split : Bool) → EndsAlone (effect split (Instr.Setptr rd ra) slot.old Fine) slot.old slot.new result }
@@ -237,7 +253,7 @@ pub(crate) fn set_pointer(slot: &mut Slot, rd: Reg, ra: Reg) -> Entered
     sets_pointer(slot, rd, setptr(bits))
 }
 
-// The instruction pointer moved by `imm` words.
+/// The instruction pointer moved by `imm` words.
 fn at_distance(slot: &Slot, imm: i32) -> Result<GuardedPtr, Cause>
     ensures place { result ≡ at_distance slot.now imm }
     ensures executable { IfOk result (λ p. can_fetch p.perm ≡ true) }
@@ -245,6 +261,7 @@ fn at_distance(slot: &Slot, imm: i32) -> Result<GuardedPtr, Cause>
     lea(slot.ip, 8 * i64::from(imm))
 }
 
+/// `br`: goes on `imm` words from the instruction.
 pub(crate) fn br(slot: &mut Slot, imm: i32) -> Entered
     requires { slot.old.turns < 2 ^ 62 }
     ensures ends { (split : Bool) → EndsAlone (effect split (Instr.Br imm) slot.old Fine) slot.old slot.new result }
@@ -259,6 +276,7 @@ pub(crate) fn br(slot: &mut Slot, imm: i32) -> Entered
     }
 }
 
+/// `bz`: goes on `imm` words from the instruction if a word's bits are 0, and else at the next instruction.
 pub(crate) fn bz(slot: &mut Slot, ra: Reg, imm: i32) -> Entered
     requires { slot.old.turns < 2 ^ 62 }
     ensures { (split : Bool) → EndsAlone (effect split (Instr.Bz ra imm) slot.old Fine) slot.old slot.new result }
@@ -270,6 +288,7 @@ pub(crate) fn bz(slot: &mut Slot, ra: Reg, imm: i32) -> Entered
     }
 }
 
+/// `bnz`: goes on `imm` words from the instruction if a word's bits are not 0, and else at the next instruction.
 pub(crate) fn bnz(slot: &mut Slot, ra: Reg, imm: i32) -> Entered
     requires { slot.old.turns < 2 ^ 62 }
     ensures { (split : Bool) → EndsAlone (effect split (Instr.Bnz ra imm) slot.old Fine) slot.old slot.new result }
@@ -281,7 +300,7 @@ pub(crate) fn bnz(slot: &mut Slot, ra: Reg, imm: i32) -> Entered
     }
 }
 
-// The pointer by which a jump through `p` enters, if `p` is an enter pointer.
+/// The pointer by which a jump through `p` enters, if `p` is an enter pointer.
 fn entry_of(p: GuardedPtr) -> Option<GuardedPtr>
     ensures { result ≡ entry_of p }
 {
@@ -291,7 +310,7 @@ fn entry_of(p: GuardedPtr) -> Option<GuardedPtr>
     }
 }
 
-// The instruction pointer after a jump through a pointer.
+/// The instruction pointer after a jump through a pointer.
 fn entered(p: GuardedPtr) -> Option<GuardedPtr>
     ensures place { result ≡ enter_result p }
     ensures executable { IfSome result (λ q. can_fetch q.perm ≡ true) }
@@ -299,6 +318,7 @@ fn entered(p: GuardedPtr) -> Option<GuardedPtr>
     enter(p)
 }
 
+/// `jmp`: goes on where a register's pointer leads.
 pub(crate) fn jmp(slot: &mut Slot, ra: Reg) -> Entered
     requires { slot.old.turns < 2 ^ 62 }
     ensures { (split : Bool) → EndsAlone (effect split (Instr.Jmp ra) slot.old Fine) slot.old slot.new result }
@@ -309,6 +329,7 @@ pub(crate) fn jmp(slot: &mut Slot, ra: Reg) -> Entered
     }
 }
 
+/// Goes on where a pointer leads; a fault if its permission is not for a jump.
 fn jump(slot: &mut Slot, p: GuardedPtr) -> Entered
     requires { slot.old.turns < 2 ^ 62 }
     ensures { EndsAlone (jumps slot.old p (enter_result p)) slot.old slot.new result }
@@ -322,6 +343,7 @@ fn jump(slot: &mut Slot, p: GuardedPtr) -> Entered
     }
 }
 
+/// `jal`: goes on where a pointer leads, and writes the pointer to the next instruction to a register.
 pub(crate) fn jal(slot: &mut Slot, rd: Reg, ra: Reg) -> Entered
     requires { slot.old.turns < 2 ^ 62 }
     ensures { (split : Bool) → EndsAlone (effect split (Instr.Jal rd ra) slot.old Fine) slot.old slot.new result }
@@ -332,7 +354,7 @@ pub(crate) fn jal(slot: &mut Slot, rd: Reg, ra: Reg) -> Entered
     }
 }
 
-// Jumps, and writes the pointer to the next instruction to a register.
+/// Jumps, and writes the pointer to the next instruction to a register.
 fn jump_and_link(slot: &mut Slot, rd: Reg, p: GuardedPtr) -> Entered
     requires { slot.old.turns < 2 ^ 62 }
     ensures { EndsAlone (links slot.old rd p (enter_result p) (next_result slot.old.ip)) slot.old slot.new result }
@@ -349,6 +371,7 @@ fn jump_and_link(slot: &mut Slot, rd: Reg, p: GuardedPtr) -> Entered
     }
 }
 
+/// `lip`: writes to a register the instruction pointer, moved by `imm` words.
 pub(crate) fn lip(slot: &mut Slot, rd: Reg, imm: i32) -> Entered
     requires { slot.old.turns < 2 ^ 62 }
     ensures { (split : Bool) → EndsAlone (effect split (Instr.Lip rd imm) slot.old Fine) slot.old slot.new result }
@@ -357,6 +380,7 @@ pub(crate) fn lip(slot: &mut Slot, rd: Reg, imm: i32) -> Entered
     sets_pointer(slot, rd, made)
 }
 
+/// `trap`: faults.
 pub(crate) fn trap(slot: &mut Slot, imm: i32) -> Entered
     ensures { (split : Bool) → EndsAlone (effect split (Instr.Trap imm) slot.old Fine) slot.old slot.new result }
 {

@@ -133,6 +133,7 @@ pub(crate) fn untouched(outcome: Outcome) -> Retired
     }
 }
 
+/// The outcome of an instruction with its access to a cell.
 fn touching(outcome: Outcome, access: Access) -> Retired
     ensures { result ≡ record { outcome = outcome; touched = Some access } }
 {
@@ -153,7 +154,7 @@ pub fn load_kind(post: Post) -> Kind
     }
 }
 
-// The access through a register's word, or the fault of the access.
+/// The access through a register's word, or the fault of the access.
 fn reach(slot: &Slot, ra: Reg, imm: i32, kind: Kind) -> Result<Access, Cause>
     ensures value { result ≡ check_result (register slot.now ra) imm kind }
     ensures kind { IfOk result (λ a. a.kind ≡ kind) }
@@ -161,7 +162,7 @@ fn reach(slot: &Slot, ra: Reg, imm: i32, kind: Kind) -> Result<Access, Cause>
     check(word_of(slot, ra), i64::from(imm), kind)
 }
 
-// Writes the word of a load to a register, if the load was done.
+/// Writes the word of a load to a register, if the load was done.
 fn receive(tables: &mut Tables, place: usize, rd: Reg, loaded: Loaded) -> Outcome
     requires place { place < length tables.old.rows }
     requires runs { is_running (slot_in tables.old place).state ≡ true }
@@ -184,6 +185,7 @@ fn receive(tables: &mut Tables, place: usize, rd: Reg, loaded: Loaded) -> Outcom
     }
 }
 
+/// Goes on to the next instruction if the store was done, and else fails as the store did.
 fn finish_store(tables: &mut Tables, place: usize, stored: Stored) -> Outcome
     requires place { place < length tables.old.rows }
     requires runs { is_running (slot_in tables.old place).state ≡ true }
@@ -201,7 +203,7 @@ fn finish_store(tables: &mut Tables, place: usize, stored: Stored) -> Outcome
     }
 }
 
-// The page that a register names, if the code is privileged and the page's number is in range.
+/// The page that a register names, if the code is privileged and the page's number is in range.
 fn page_named(slot: &Slot, ra: Reg) -> Result<u64, Cause>
     ensures value { result ≡ page_named slot.now ra }
     ensures small { IfOk result (λ page. page < 2 ^ 42) }

@@ -71,6 +71,7 @@ impl Visitor for Named {
     }
 }
 
+/// The registers and the number among an instruction's operands.
 fn names(instr: &Instr) -> Named
     ensures d { results result.rd result.evt ≡ fields_d instr.now }
     ensures a { result.ra ≡ field_a instr.now }
@@ -107,7 +108,7 @@ pub fn value_operand(instr: &Instr, slot: &Slot) -> Word
     }
 }
 
-// Whether the register of a field waits for a pending load.
+/// Whether the register of a field waits for a pending load.
 fn field_waits(slot: &Slot, field: Option<Reg>) -> bool
     ensures { result ≡ field_empty slot.now field }
 {
@@ -117,7 +118,7 @@ fn field_waits(slot: &Slot, field: Option<Reg>) -> bool
     }
 }
 
-// Whether one of the registers for results waits for a pending load.
+/// Whether one of the registers for results waits for a pending load.
 fn results_wait(slot: &Slot, rd: Option<Reg>, evt: Option<EvtReg>) -> bool
     ensures { result ≡ list_any (is_empty slot.now) (results rd evt) }
 {

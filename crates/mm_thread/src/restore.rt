@@ -39,7 +39,7 @@ pub(crate) fn put_events(tables: &mut Tables, events: &[(u8, Event)])
     }
 }
 
-// Appends an event to the queue of the slot of a number, if there is one.
+/// Appends an event to the queue of the slot of a number, if there is one.
 fn put_event(tables: &mut Tables, number: u8, event: Event)
     requires apart { AreNumbered tables.old.rows }
     requires room { IfSome (row_in tables.old.rows number) (λ row. length row.queue < 64) }
@@ -64,6 +64,7 @@ pub(crate) fn put_outputs(tables: &mut Tables, outputs: &[Output])
     }
 }
 
+/// Empties the outputs of all groups.
 fn clear_outputs(tables: &mut Tables)
     requires { length tables.old.outputs ≡ 64 }
     ensures { tables.new ≡ record tables.old { outputs = replicate 64 [] } }

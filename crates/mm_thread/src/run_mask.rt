@@ -34,7 +34,7 @@ pub(crate) fn kept(runners: u64, slot: &Slot) -> u64
     }
 }
 
-// The set without a slot that does not run.
+/// The set without a slot that does not run.
 #[cold]
 #[inline(never)]
 fn without(runners: u64, slot: &Slot) -> u64

@@ -69,7 +69,7 @@ pub(crate) fn next_event(tables: &mut Tables, place: usize, rd: EvtReg) -> Outco
     Outcome::Goes(None)
 }
 
-// The index of the slot that a register names, if the slot at `place` is its handler and has read its event.
+/// The index of the slot that a register names, if the slot at `place` is its handler and has read its event.
 fn served(tables: &Tables, place: usize, ra: Reg) -> Option<usize>
     requires { CanTurn tables.now place }
     ensures within { IfSome result (λ p. p < length tables.now.rows) }
@@ -90,7 +90,7 @@ fn served(tables: &Tables, place: usize, ra: Reg) -> Option<usize>
     }
 }
 
-// Whether the slot of a number is the handler of a slot.
+/// Whether the slot of a number is the handler of a slot.
 fn is_handled_by(slot: &Slot, number: u8) -> bool
     ensures { result ≡ is_handler number slot.now.handler }
 {
@@ -100,7 +100,7 @@ fn is_handled_by(slot: &Slot, number: u8) -> bool
     }
 }
 
-// Whether the slot's handler has read its event.
+/// Whether the slot's handler has read its event.
 fn is_taken(slot: &Slot) -> bool
     ensures { result ≡ is_taken slot.now.state }
 {

@@ -38,7 +38,7 @@ pub(crate) fn start<M: Memory>(tables: &mut Tables, place: usize, mem: &mut M, s
     }
 }
 
-// Ends a turn by a fault before an instruction is known: it has no operands.
+/// Ends a turn by a fault before an instruction is known: it has no operands.
 fn fail_fetch(
     tables: &mut Tables,
     place: usize,
@@ -63,7 +63,7 @@ fn fail_fetch(
     tell(step, tick, number, fetched, None);
 }
 
-// From the fetch on.
+/// Goes on with the turn from the fetch.
 fn fetch<M: Memory>(tables: &mut Tables, place: usize, mem: &mut M, access: Access, step: &mut Step)
     requires can { CanTurn tables.old place }
     requires room { M.uses mem.old < 2 ^ 61 }
@@ -82,7 +82,7 @@ fn fetch<M: Memory>(tables: &mut Tables, place: usize, mem: &mut M, access: Acce
     }
 }
 
-// The instruction that a word spells.
+/// The instruction that a word spells.
 #[inline(always)]
 fn instr_in(word: Word) -> Option<Instr>
     ensures { result ≡ instr_in word }
@@ -93,7 +93,7 @@ fn instr_in(word: Word) -> Option<Instr>
     }
 }
 
-// Goes on with the turn from the instruction.
+/// Goes on with the turn from the instruction.
 fn issue<M: Memory>(
     tables: &mut Tables,
     place: usize,
@@ -123,7 +123,7 @@ fn issue<M: Memory>(
     end(tables, place, &instr, told, step);
 }
 
-// Whether a register in the instruction waits for a load, in a split machine.
+/// Whether a register in the instruction waits for a load, in a split machine.
 #[inline(always)]
 fn must_wait(tables: &Tables, place: usize, instr: &Instr) -> bool
     requires { place < length tables.now.rows }
@@ -132,8 +132,8 @@ fn must_wait(tables: &Tables, place: usize, instr: &Instr) -> bool
     tables.split() && lacks(instr, tables.slot(place))
 }
 
-// Ends a turn, whose step has the slot and the fetch: a slot that waits stays at its instruction, and a slot that
-// faults goes to its handler.
+/// Ends a turn, whose step has the slot and the fetch: a slot that waits stays at its instruction, and a slot that
+/// faults goes to its handler.
 #[inline(always)]
 fn end(tables: &mut Tables, place: usize, instr: &Instr, told: Retired, step: &mut Step)
     requires { CanEnd told.outcome tables.old place }

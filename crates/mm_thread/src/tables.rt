@@ -74,12 +74,15 @@ impl Tables {
         }
     }
 
+    /// Makes the tables those of a split machine, whose loads are delivered in later turns, or of one that is not
+    /// split.
     pub(crate) fn set_split(&mut self, on: bool)
         ensures { self.new ≡ record self.old { split = on } }
     {
         self.split = on;
     }
 
+    /// Sets the version, which says how many bytes a group may put out.
     pub(crate) fn set_version(&mut self, version: u16)
         ensures { self.new ≡ record self.old { version = version } }
     {
@@ -161,12 +164,14 @@ impl Tables {
         self.split && self.slot(place).is_empty(reg.number())
     }
 
+    /// The version, which says how many bytes a group may put out.
     pub(crate) fn version(&self) -> u16
         ensures { result ≡ self.now.version }
     {
         self.version
     }
 
+    /// Whether the machine is split: its loads are delivered in turns of their own.
     pub(crate) fn split(&self) -> bool
         ensures { result ≡ self.now.split }
     {
