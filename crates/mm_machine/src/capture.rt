@@ -37,6 +37,7 @@ pub fn events_of(alloc: Global, core: &Core) -> Result<Vec<(u8, Event)>, AllocEr
     Ok(events)
 }
 
+/// Appends the events of a slot's queue, each with the slot's number.
 fn put_queue(events: &mut Vec<(u8, Event)>, number: u8, queue: &[Event]) -> Result<(), AllocError>
     ensures { IfOk result (λ _. events.new.items ≡ events.old.items ++ map (λ e. (number, e)) queue.now) }
 {
@@ -63,6 +64,7 @@ pub(crate) fn outputs_of(
     Ok(outputs)
 }
 
+/// A copy of a group's output.
 fn output_copy(alloc: Global, core: &Core, group: u8) -> Result<Output, AllocError>
     ensures group { IfOk result (λ o. o.group ≡ group) }
     ensures bytes { IfOk result (λ o. o.bytes ≡ output_of core.now group) }
@@ -84,6 +86,7 @@ pub(crate) fn pages_of<M: Inspect>(alloc: Global, mem: &M) -> Result<Vec<Page>, 
     Ok(pages)
 }
 
+/// A copy of a mapped page.
 fn page_copy<M: Inspect>(alloc: Global, mem: &M, number: u64) -> Result<Page, AllocError>
     requires paged { IsPaged (M.meaning mem.now) }
     requires number { number < 2 ^ 42 }
@@ -97,7 +100,7 @@ fn page_copy<M: Inspect>(alloc: Global, mem: &M, number: u64) -> Result<Page, Al
     Ok(Page::of(number, cells))
 }
 
-// A cell of a mapped page.
+/// A cell of a mapped page.
 fn cell_at<M: Inspect>(mem: &M, number: u64, place: usize) -> Cell
     requires paged { IsPaged (M.meaning mem.now) }
     requires number { number < 2 ^ 42 }

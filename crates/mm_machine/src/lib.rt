@@ -1,4 +1,10 @@
 //! Machines: slots over a memory that run cycle by cycle, and snapshots of their states.
+//!
+//! | what | modules |
+//! |---|---|
+//! | a machine: a core over a memory, and its cycles | `machine` |
+//! | a snapshot: the parts of a state, kept apart from the machine; which parts make one | `snapshot`, `validate` |
+//! | copies of a machine's parts, for a snapshot | `capture` |
 #![tactic(auto)]
 
 mod capture;

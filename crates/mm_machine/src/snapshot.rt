@@ -33,12 +33,12 @@ impl Model for Snapshot {
         × IsTyped (parts_of s.slots.items s.events.items s.outputs.items s.pages.items s.cycles) };
 }
 
-// Says, for proofs, that the words of an event are words, by their types. The call does nothing.
+/// Says, for proofs, that the words of an event are words, by their types. The call does nothing.
 fn hold_words(event: Event)
     ensures { EventHoldsWords event }
 {}
 
-// Says the same of each event.
+/// Says, for proofs, that the words of each event are words, by their types. The call does nothing.
 fn typed(events: &[(u8, Event)])
     ensures { AllByRecursion IsTypedEvent events.now }
 {
