@@ -46,7 +46,7 @@ impl Gather {
         }
     }
 
-    // Hands over what is kept.
+    /// Hands what is kept to the sink, and keeps nothing. A write that fails is noted.
     fn hand_over<O: Sink>(&mut self, out: &mut O)
         requires { self.old.failed ≡ false }
         ensures kept { self.new.kept ≡ [] }
@@ -67,7 +67,7 @@ impl Gather {
         self.put_rest(out, text);
     }
 
-    // Appends a text when nothing is kept.
+    /// Appends a text when nothing is kept. The sink gets it at once if it has no room.
     fn put_rest<O: Sink>(&mut self, out: &mut O, text: &[u8])
         requires { self.old.kept ≡ [] }
         ensures { Gathers O.taken O.faults out.old out.new self.old self.new text.now }

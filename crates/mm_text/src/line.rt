@@ -101,6 +101,7 @@ impl Line {
 /// The hexadecimal digits, in lower case.
 const GLYPHS: [u8; 16] = *b"0123456789abcdef";
 
+/// The lower-case letter or figure of a hexadecimal digit, in ASCII.
 fn glyph(digit: u8) -> u8
     requires { digit < 16 }
     ensures { result ≡ digit_glyph false digit }

@@ -23,7 +23,7 @@ pub fn put_output<O: Sink>(text: &mut Gather, out: &mut O, bytes: &[u8])
     }
 }
 
-// Appends a line of bytes.
+/// Appends a line of output: `o `, and the bytes in hexadecimal digits.
 fn put_row<O: Sink>(text: &mut Gather, out: &mut O, bytes: &[u8])
     ensures { Gathers O.taken O.faults out.old out.new text.old text.new (output_row bytes.now) }
 {
@@ -32,6 +32,7 @@ fn put_row<O: Sink>(text: &mut Gather, out: &mut O, bytes: &[u8])
     text.put(out, &[Piece::Text("\n")]);
 }
 
+/// Appends bytes in two hexadecimal digits each.
 fn put_row_bytes<O: Sink>(text: &mut Gather, out: &mut O, bytes: &[u8])
     ensures { Gathers O.taken O.faults out.old out.new text.old text.new (bytes_text bytes.now) }
 {

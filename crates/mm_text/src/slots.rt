@@ -39,6 +39,8 @@ pub fn put_slot<O: Sink>(text: &mut Gather, out: &mut O, slot: &Slot)
     put_pending(text, out, &slot.pending);
 }
 
+/// Appends the first line of a slot: its number, its turns, its state, its instruction pointer, and `past` if it is
+/// past.
 fn put_slot_line<O: Sink>(text: &mut Gather, out: &mut O, slot: &Slot)
     ensures { Gathers O.taken O.faults out.old out.new text.old text.new (slot_line slot.now) }
 {
@@ -65,6 +67,7 @@ pub fn put_numbers<O: Sink>(text: &mut Gather, out: &mut O, number: u8, turns: u
     );
 }
 
+/// Ends the line of a slot, with ` past` if the slot is past its segment's last instruction.
 fn put_end<O: Sink>(text: &mut Gather, out: &mut O, past: bool)
     ensures { Gathers O.taken O.faults out.old out.new text.old text.new (past_text past) }
 {
@@ -90,6 +93,7 @@ pub fn put_state<O: Sink>(text: &mut Gather, out: &mut O, state: SlotState)
     }
 }
 
+/// Appends the lines of the registers, ascending; those of integer 0 have none.
 fn put_registers<O: Sink>(text: &mut Gather, out: &mut O, slot: &Slot)
     ensures { Gathers O.taken O.faults out.old out.new text.old text.new (register_lines slot.now) }
 {
@@ -98,6 +102,7 @@ fn put_registers<O: Sink>(text: &mut Gather, out: &mut O, slot: &Slot)
     }
 }
 
+/// Appends the line of a register, if it has one: `r K WORD`, or `r K empty` if it waits for a load.
 fn put_register<O: Sink>(text: &mut Gather, out: &mut O, slot: &Slot, number: u8)
     requires { number < 16 }
     ensures { Gathers O.taken O.faults out.old out.new text.old text.new (register_line slot.now number) }
@@ -109,7 +114,7 @@ fn put_register<O: Sink>(text: &mut Gather, out: &mut O, slot: &Slot, number: u8
     }
 }
 
-// Appends the line of a register that holds a word; none for integer 0.
+/// Appends the line of a register that holds a word; none for integer 0.
 fn put_register_word<O: Sink>(text: &mut Gather, out: &mut O, number: u8, word: Word)
     ensures { Gathers O.taken O.faults out.old out.new text.old text.new (word_line number word) }
 {
@@ -120,6 +125,7 @@ fn put_register_word<O: Sink>(text: &mut Gather, out: &mut O, number: u8, word: 
     }
 }
 
+/// Whether a word is integer 0.
 fn is_zero(word: &Word) -> bool
     ensures { result ≡ is_zero_word word.now }
 {
@@ -129,6 +135,7 @@ fn is_zero(word: &Word) -> bool
     }
 }
 
+/// Appends the lines of pending loads, in their order.
 fn put_pending<O: Sink>(text: &mut Gather, out: &mut O, pending: &[Pending])
     ensures { Gathers O.taken O.faults out.old out.new text.old text.new (flat_map pending_line pending.now) }
 {
@@ -137,6 +144,7 @@ fn put_pending<O: Sink>(text: &mut Gather, out: &mut O, pending: &[Pending])
     }
 }
 
+/// Appends the line of a pending load: `pending K WORD`.
 fn put_load<O: Sink>(text: &mut Gather, out: &mut O, load: &Pending)
     ensures { Gathers O.taken O.faults out.old out.new text.old text.new (pending_line load.now) }
 {
