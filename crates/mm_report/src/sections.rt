@@ -29,6 +29,7 @@ fn has_slot<M: Memory>(m: &Machine<M>, group: u8) -> bool
     false
 }
 
+/// Appends the first line of a group's section: `group G output N`, with the count of its output's bytes.
 fn put_group<O: Sink>(text: &mut Gather, out: &mut O, group: u8, count: u64)
     ensures { Gathers O.taken O.faults out.old out.new text.old text.new (group_line group count) }
 {

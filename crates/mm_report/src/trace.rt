@@ -41,6 +41,7 @@ pub fn put_step<O: Sink>(text: &mut Gather, out: &mut O, step: &Step, turn: u64)
     }
 }
 
+/// Appends the line of a delivery: `m S R`, with its slot and its register.
 fn put_delivery<O: Sink>(text: &mut Gather, out: &mut O, slot: u8, register: u8)
     ensures { Gathers O.taken O.faults out.old out.new text.old text.new
         (codes "m " ++ decimal slot ++ codes " " ++ decimal register ++ codes "\n") }
@@ -79,6 +80,7 @@ fn put_turn<O: Sink>(text: &mut Gather, out: &mut O, step: &Step, turn: u64)
     text.put_piece(out, &Piece::Text("\n"));
 }
 
+/// Appends how a turn ended: `did`, `blocked`, or `faulted` with the number of the cause.
 fn put_outcome<O: Sink>(text: &mut Gather, out: &mut O, tick: Tick)
     ensures { Gathers O.taken O.faults out.old out.new text.old text.new (outcome_text tick) }
 {
@@ -106,6 +108,7 @@ fn put_touch<O: Sink>(text: &mut Gather, out: &mut O, access: Option<Access>)
     }
 }
 
+/// Appends the name of a kind of access, with a blank on either side.
 fn put_kind<O: Sink>(text: &mut Gather, out: &mut O, kind: Kind)
     ensures { Gathers O.taken O.faults out.old out.new text.old text.new (kind_text kind) }
 {
