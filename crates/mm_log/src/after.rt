@@ -164,6 +164,7 @@ fn put_both<M: Memory, O: Sink>(
     put_taken_behind(text, out, taken, own);
 }
 
+/// Appends the lines of a slot's changes and, if a slot was taken, the line of that, ascending by number.
 fn put_with_taken<M: Memory, O: Sink>(
     text: &mut Gather,
     out: &mut O,
@@ -260,6 +261,7 @@ fn put_read<O: Sink>(text: &mut Gather, out: &mut O, before: &Before, tick: Tick
     put_read_by(text, out, &before.instr, before.own.number);
 }
 
+/// Appends the lines of bytes that a group put out.
 fn put_bytes<O: Sink>(text: &mut Gather, out: &mut O, group: u8, bytes: &[u8])
     ensures { Gathers O.taken O.faults out.old out.new text.old text.new
         (flat_map (λ b. line_text (Puts group b)) bytes.now) }

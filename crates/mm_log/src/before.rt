@@ -120,6 +120,7 @@ fn cell_there<M: Inspect>(machine: &Machine<M>, access: Access) -> There
     }
 }
 
+/// The cell of an access as what an instruction asks for; nothing if the access faults or its page is not mapped.
 fn access_there<M: Inspect>(machine: &Machine<M>, access: Result<Access, Cause>) -> There
     ensures { (pre : PreValue)
         → result ≡ there_at (state_of machine.now).core (state_of machine.now).memory (reaching access pre) }
@@ -194,6 +195,7 @@ fn asked_there<M: Inspect>(machine: &Machine<M>, slot: &Slot, instr: &Instr) -> 
     }
 }
 
+/// What a turn's instruction asks for besides its slot, as it is before the turn; nothing if the turn comes to none.
 fn there_before<M: Inspect>(machine: &Machine<M>, slot: &Slot, instr: &Option<Instr>) -> There
     ensures { result ≡ there_for (state_of machine.now).core (state_of machine.now).memory instr.now slot.now }
 {

@@ -175,7 +175,7 @@ pub(crate) fn put_set<O: Sink>(text: &mut Gather, out: &mut O, word: u64, cell: 
     text.put_bytes(out, line.as_bytes());
 }
 
-// Puts the text of a word before the text so far.
+/// Puts the text of a word before the text so far.
 #[inline(always)]
 #[tactic(auto, using(mm_text::proofs::LineLengths::line_lengths))]
 fn write_word(line: &mut Line, word: Word)
@@ -186,7 +186,7 @@ fn write_word(line: &mut Line, word: Word)
     line.put_byte(if word.is_pointer() { b'p' } else { b'i' });
 }
 
-// Appends a line's name, which ends in a blank, then a number and a blank.
+/// Appends a line's name, which ends in a blank, then a number and a blank.
 fn put_front<O: Sink>(text: &mut Gather, out: &mut O, name: &str, number: u8)
     ensures { Gathers O.taken O.faults out.old out.new text.old text.new (name.now ++ decimal number ++ codes " ") }
 {
@@ -200,7 +200,7 @@ fn put_front<O: Sink>(text: &mut Gather, out: &mut O, name: &str, number: u8)
     );
 }
 
-// Appends the slot, cause, instruction pointer, address operand and data operand of an event.
+/// Appends the slot, cause, instruction pointer, address operand and data operand of an event.
 fn put_told<O: Sink>(text: &mut Gather, out: &mut O, event: &Event)
     ensures { Gathers O.taken O.faults out.old out.new text.old text.new (event_text event.now) }
 {
@@ -212,7 +212,7 @@ fn put_told<O: Sink>(text: &mut Gather, out: &mut O, event: &Event)
     put_word(text, out, event.value_op);
 }
 
-// Appends the number of a slot and the number of its fault, each followed by a blank.
+/// Appends the number of a slot and the number of its fault, each followed by a blank.
 fn put_fault<O: Sink>(text: &mut Gather, out: &mut O, slot: u8, cause: Cause)
     ensures { Gathers O.taken O.faults out.old out.new text.old text.new
         (decimal slot ++ codes " " ++ decimal (number_of cause) ++ codes " ") }
@@ -228,7 +228,7 @@ fn put_fault<O: Sink>(text: &mut Gather, out: &mut O, slot: u8, cause: Cause)
     );
 }
 
-// Puts the prefix of a register's line before the text so far.
+/// Puts the prefix of a register's line before the text so far.
 #[inline(always)]
 #[tactic(auto, using(mm_text::proofs::LineLengths::line_lengths))]
 fn write_register_front(line: &mut Line, slot: u8, register: u8)

@@ -124,6 +124,7 @@ fn cell_there<M: Inspect>(machine: &Machine<M>, access: Access) -> Option<(Acces
     }
 }
 
+/// The cell of an access, if the access does not fault and its page is mapped.
 fn cell_through<M: Inspect>(
     machine: &Machine<M>,
     access: Result<Access, Cause>,

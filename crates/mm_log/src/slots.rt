@@ -19,19 +19,21 @@ use mm_model::{Pending, Slot, SlotState, is_same_word};
 use mm_text::{Gather, Line};
 use mm_word::{GuardedPtr, Word};
 
-// Whether two pointers are equal in bits.
+/// Whether two pointers are equal in bits.
 pub(crate) fn is_same_pointer(a: GuardedPtr, b: GuardedPtr) -> bool
     ensures { result ≡ same_word_of (Ptr a) (Ptr b) }
 {
     a.bits() == b.bits()
 }
 
+/// Whether two bits are equal.
 pub(crate) fn is_same_bit(a: bool, b: bool) -> bool
     ensures { result ≡ same_bit_of a b }
 {
     a == b
 }
 
+/// Whether two states are equal, with the same cause if they are faults.
 fn is_same_state(a: SlotState, b: SlotState) -> bool
     ensures { result ≡ same_state_of a b }
 {
@@ -107,6 +109,7 @@ fn put_register_change<O: Sink>(
     }
 }
 
+/// Appends the lines of the registers whose word or empty bit changed, ascending.
 fn put_register_changes<O: Sink>(text: &mut Gather, out: &mut O, was: &Slot, now: &Slot)
     ensures { Gathers O.taken O.faults out.old out.new text.old text.new
         (flat_map (λ r. text_of (register_changes was.now now.now r)) (range_with_len 0 16)) }
@@ -116,6 +119,7 @@ fn put_register_changes<O: Sink>(text: &mut Gather, out: &mut O, was: &Slot, now
     }
 }
 
+/// Appends the lines of loads that a slot issued.
 pub(crate) fn put_loads<O: Sink>(text: &mut Gather, out: &mut O, slot: u8, loads: &[Pending])
     ensures { Gathers O.taken O.faults out.old out.new text.old text.new
         (flat_map (λ load. line_text (Issues slot load)) loads.now) }
