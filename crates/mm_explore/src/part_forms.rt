@@ -26,6 +26,7 @@ pub(crate) fn put_events(out: &mut Vec<u64>, events: &[(u8, Event)]) -> Result<(
     put_each_event(out, events)
 }
 
+/// Appends the numbers of events, without their count.
 fn put_each_event(out: &mut Vec<u64>, events: &[(u8, Event)]) -> Result<(), AllocError>
     ensures { OnOk result (out.new.items ≡ out.old.items ++ flat_map event_form events.now) }
 {
@@ -38,6 +39,7 @@ fn put_each_event(out: &mut Vec<u64>, events: &[(u8, Event)]) -> Result<(), Allo
     }
 }
 
+/// Appends the numbers of an event: its queue, its slot, its cause, its pointer, and two for each operand.
 fn put_event(out: &mut Vec<u64>, queue: u8, event: &Event) -> Result<(), AllocError>
     ensures { OnOk result (out.new.items ≡ out.old.items ++ event_form (queue, event.now)) }
 {
@@ -60,6 +62,7 @@ fn pointer_or_key(bits: u64) -> GuardedPtr
     }
 }
 
+/// Reads an event with its queue.
 #[tactic(auto, unfolding(crate::specs::Kept::event_from))]
 fn take_event(reader: &mut Reader<'_>) -> (u8, Event)
     ensures event { result ≡ (event_from reader.old).0 }
@@ -131,6 +134,7 @@ pub(crate) fn put_output(out: &mut Vec<u64>, bytes: &[u8]) -> Result<(), AllocEr
     Ok(())
 }
 
+/// Reads the output of a group: the count of its bytes, and the bytes.
 fn take_bytes(alloc: Global, reader: &mut Reader<'_>) -> Result<Vec<u8>, AllocError>
     ensures bytes { IfOk result
         (λ bytes. bytes.items ≡ (bytes_by (first_number reader.old) (behind reader.old)).0) }

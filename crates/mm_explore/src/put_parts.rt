@@ -128,6 +128,7 @@ pub(crate) fn put_pages(out: &mut Vec<u64>, pages: &Option<Vec<u64>>) -> Result<
     }
 }
 
+/// Appends the numbers of pages, without their count.
 fn put_page_numbers(out: &mut Vec<u64>, numbers: &[u64]) -> Result<(), AllocError>
     ensures { OnOk result (out.new.items ≡ out.old.items ++ numbers.now) }
 {

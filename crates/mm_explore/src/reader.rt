@@ -20,6 +20,7 @@ impl<'a> Model for Reader<'a> {
 }
 
 impl<'a> Reader<'a> {
+    /// A reader of these numbers, from the first on.
     pub(crate) fn new(numbers: &'a [u64]) -> Reader<'a>
         ensures { result ≡ numbers.now }
     {

@@ -296,6 +296,7 @@ impl Search {
     }
 }
 
+/// Whether two lists of numbers are equal.
 fn is_same(a: &[u64], b: &[u64]) -> bool
     ensures yes { result ≡ true → a.now ≡ b.now }
     ensures no { result ≡ false → a.now ≡ b.now → ⊥ }

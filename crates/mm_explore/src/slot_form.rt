@@ -205,6 +205,7 @@ fn put_loads(out: &mut Vec<u64>, loads: &[Pending]) -> Result<(), AllocError>
     }
 }
 
+/// Appends the numbers of a pending load: its register, and those of its word.
 fn put_load(out: &mut Vec<u64>, load: &Pending) -> Result<(), AllocError>
     ensures { OnOk result (out.new.items ≡ out.old.items ++ load_form load.now) }
 {
@@ -212,6 +213,7 @@ fn put_load(out: &mut Vec<u64>, load: &Pending) -> Result<(), AllocError>
     put_word(out, &load.word)
 }
 
+/// Reads a pending load.
 fn take_load(reader: &mut Reader<'_>) -> Pending
     ensures register { result.reg ≡ first_number reader.old % 256 }
     ensures word { result.word ≡ (word_from (behind reader.old)).0 }
@@ -237,6 +239,7 @@ fn take_loads(reader: &mut Reader<'_>, count: u64) -> ArrayVec<Pending, 16>
     loads
 }
 
+/// A count of pending loads that was read, or 16 if it is more than a slot can have.
 fn few_loads(count: u64) -> u64
     ensures value { result ≡ few_loads_of count }
     ensures few { result ≤ 16 }
@@ -254,6 +257,7 @@ fn empty_mask(slot: &Slot) -> u64
     u64::from(slot.empty)
 }
 
+/// One number for a slot's state, whether it is past, the count of its pending loads, and its empty registers.
 fn head_of(slot: &Slot) -> u64
     ensures { result ≡ slot_head slot.now }
 {
@@ -262,24 +266,28 @@ fn head_of(slot: &Slot) -> u64
     state_number(slot.state) + 32 * (slot.past as u64 + 2 * (loads + 32 * empty))
 }
 
+/// One number for two masks: the registers that differ from the base's, and those that hold pointers.
 fn masks_of(base: &Slot, slot: &Slot) -> u64
     ensures { result ≡ slot_masks base.now slot.now }
 {
     changed_mask(&base.regs, &slot.regs) + 65536 * tagged_mask(&slot.regs)
 }
 
+/// Whether two states are equal, with the same cause if they are faults.
 fn is_same_state(a: SlotState, b: SlotState) -> bool
     ensures { result ≡ same_state a b }
 {
     state_number(a) == state_number(b)
 }
 
+/// Whether two bits are equal.
 fn is_same_bit(a: bool, b: bool) -> bool
     ensures { result ≡ same_bit a b }
 {
     if a { b } else { !b }
 }
 
+/// Whether a slot has a register that waits for a load.
 #[tactic(auto, using(crate::proofs::Putting::any_set))]
 fn has_empty(slot: &Slot) -> bool
     ensures { result ≡ list_any (λ b. b) slot.now.empty }
@@ -294,6 +302,7 @@ pub(crate) fn has_loads(slot: &Slot) -> bool
     !slot.pending.is_empty()
 }
 
+/// Whether a slot has a register whose word is not that of the base.
 #[tactic(auto, using(crate::proofs::Putting::any_set))]
 fn has_changed(base: &Slot, slot: &Slot) -> bool
     ensures { result ≡ list_any (λ b. b) (changed_flags base.now.regs slot.now.regs) }
@@ -361,7 +370,7 @@ fn take_registers(reader: &mut Reader<'_>, masks: u64, base: &Slot) -> [Word; 16
     regs
 }
 
-// Says, for proofs, what the type of each word keeps. The call does nothing.
+/// Says, for proofs, what the type of each word keeps. The call does nothing.
 fn hold_words(words: &[Word])
     ensures { AllByRecursion IsWord words.now }
 {
@@ -370,7 +379,7 @@ fn hold_words(words: &[Word])
     }
 }
 
-// Says, for proofs, what the type of each load keeps. The call does nothing.
+/// Says, for proofs, what the type of each load keeps. The call does nothing.
 fn hold_loads(loads: &[Pending])
     ensures { AllByRecursion (λ (p : PendingValue). IsWord p.word) loads.now }
 {

@@ -41,6 +41,7 @@ pub fn write_explored<O: Sink>(e: &Explored, out: &mut O) -> Result<(), WriteFau
     text.finish(out)
 }
 
+/// Appends the first line: `explored N all`, or `explored N more` if not all configurations were met.
 fn put_extent<O: Sink>(text: &mut Gather, out: &mut O, count: u64, all: bool)
     ensures { Gathers O.taken O.faults out.old out.new text.old text.new
         (codes "explored " ++ decimal count ++ extent_text all) }
@@ -51,6 +52,7 @@ fn put_extent<O: Sink>(text: &mut Gather, out: &mut O, count: u64, all: bool)
 
 // 1. Words.
 
+/// Appends the lines of groups.
 fn put_groups<O: Sink>(text: &mut Gather, out: &mut O, groups: &[GroupFound])
     ensures { Gathers O.taken O.faults out.old out.new text.old text.new (flat_map group_found_lines groups.now) }
 {
@@ -59,6 +61,7 @@ fn put_groups<O: Sink>(text: &mut Gather, out: &mut O, groups: &[GroupFound])
     }
 }
 
+/// Appends the lines of a group: its number, and the words that it touched and wrote.
 fn put_group<O: Sink>(text: &mut Gather, out: &mut O, group: &GroupFound)
     ensures { Gathers O.taken O.faults out.old out.new text.old text.new (group_found_lines group.now) }
 {
@@ -67,6 +70,7 @@ fn put_group<O: Sink>(text: &mut Gather, out: &mut O, group: &GroupFound)
     put_spans(text, out, "wrote ", &group.wrote);
 }
 
+/// Appends a line for each run of words, after `touched ` or `wrote `.
 fn put_spans<O: Sink>(text: &mut Gather, out: &mut O, verb: &str, spans: &[Span])
     ensures { Gathers O.taken O.faults out.old out.new text.old text.new (flat_map (word_line verb.now) spans.now) }
 {
@@ -75,6 +79,7 @@ fn put_spans<O: Sink>(text: &mut Gather, out: &mut O, verb: &str, spans: &[Span]
     }
 }
 
+/// Appends the line of a run of words: a verb, the address of the first, and their count.
 fn put_span<O: Sink>(text: &mut Gather, out: &mut O, verb: &str, span: &Span)
     ensures { Gathers O.taken O.faults out.old out.new text.old text.new (word_line verb.now span.now) }
 {
@@ -92,6 +97,7 @@ fn put_span<O: Sink>(text: &mut Gather, out: &mut O, verb: &str, span: &Span)
 
 // 2. Faults.
 
+/// Appends the lines of faults.
 fn put_faults<O: Sink>(text: &mut Gather, out: &mut O, faults: &[FaultFound])
     ensures { Gathers O.taken O.faults out.old out.new text.old text.new (flat_map fault_found_lines faults.now) }
 {
@@ -100,6 +106,7 @@ fn put_faults<O: Sink>(text: &mut Gather, out: &mut O, faults: &[FaultFound])
     }
 }
 
+/// Appends the lines of a fault: `fault SLOT NUMBER`, and the first schedule that meets it.
 fn put_fault<O: Sink>(text: &mut Gather, out: &mut O, fault: &FaultFound)
     ensures { Gathers O.taken O.faults out.old out.new text.old text.new (fault_found_lines fault.now) }
 {
@@ -118,6 +125,7 @@ fn put_fault<O: Sink>(text: &mut Gather, out: &mut O, fault: &FaultFound)
 
 // 3. Outcomes.
 
+/// Appends the lines of outcomes.
 fn put_outcomes<O: Sink>(text: &mut Gather, out: &mut O, outcomes: &[OutcomeFound])
     ensures { Gathers O.taken O.faults out.old out.new text.old text.new (flat_map outcome_found_lines outcomes.now) }
 {
@@ -126,6 +134,7 @@ fn put_outcomes<O: Sink>(text: &mut Gather, out: &mut O, outcomes: &[OutcomeFoun
     }
 }
 
+/// Appends the lines of an outcome: how many schedules end so, the states, the outputs, and the first schedule.
 fn put_outcome<O: Sink>(text: &mut Gather, out: &mut O, outcome: &OutcomeFound)
     ensures { Gathers O.taken O.faults out.old out.new text.old text.new (outcome_found_lines outcome.now) }
 {
@@ -135,6 +144,7 @@ fn put_outcome<O: Sink>(text: &mut Gather, out: &mut O, outcome: &OutcomeFound)
     put_by(text, out, &outcome.by);
 }
 
+/// Appends the first line of an outcome: `outcome N ended`, or `outcome N stuck` if there are moves left.
 fn put_end<O: Sink>(text: &mut Gather, out: &mut O, count: u64, ended: bool)
     ensures { Gathers O.taken O.faults out.old out.new text.old text.new
         (codes "outcome " ++ decimal count ++ end_text ended) }
@@ -143,6 +153,7 @@ fn put_end<O: Sink>(text: &mut Gather, out: &mut O, count: u64, ended: bool)
     text.put_number(out, "outcome ", count, end);
 }
 
+/// Appends the lines of slots with their states.
 fn put_states<O: Sink>(text: &mut Gather, out: &mut O, states: &[(u8, SlotState)])
     ensures { Gathers O.taken O.faults out.old out.new text.old text.new (flat_map state_found_line states.now) }
 {
@@ -151,6 +162,7 @@ fn put_states<O: Sink>(text: &mut Gather, out: &mut O, states: &[(u8, SlotState)
     }
 }
 
+/// Appends the line of a slot with its state: `slot S STATE`.
 fn put_state_line<O: Sink>(text: &mut Gather, out: &mut O, slot: u8, state: SlotState)
     ensures { Gathers O.taken O.faults out.old out.new text.old text.new (state_found_line (slot, state)) }
 {
@@ -159,6 +171,7 @@ fn put_state_line<O: Sink>(text: &mut Gather, out: &mut O, slot: u8, state: Slot
     text.put(out, &[Text("\n")]);
 }
 
+/// Appends the lines of the groups' outputs.
 fn put_outputs<O: Sink>(text: &mut Gather, out: &mut O, outputs: &[Output])
     ensures { Gathers O.taken O.faults out.old out.new text.old text.new (flat_map output_text outputs.now) }
 {
@@ -167,6 +180,7 @@ fn put_outputs<O: Sink>(text: &mut Gather, out: &mut O, outputs: &[Output])
     }
 }
 
+/// Appends the lines of a group's output: `group G output N`, and the bytes.
 fn put_output_text<O: Sink>(text: &mut Gather, out: &mut O, output: &Output)
     ensures { Gathers O.taken O.faults out.old out.new text.old text.new (output_text output.now) }
 {
@@ -232,6 +246,7 @@ fn put_repeat<O: Sink>(text: &mut Gather, out: &mut O, item: u8, count: u64)
     put_count(text, out, count);
 }
 
+/// Appends `*` and the count; nothing for 1.
 fn put_count<O: Sink>(text: &mut Gather, out: &mut O, count: u64)
     ensures { Gathers O.taken O.faults out.old out.new text.old text.new (count_text count) }
 {
