@@ -67,6 +67,7 @@ impl Wire {
         })
     }
 
+    /// The link itself, without what it carried.
     pub(crate) fn link(&self) -> Link
         ensures { result ≡ self.now.link }
     {
