@@ -15,7 +15,7 @@ const FRAMES: u32 = 256;
 /// The length of a page in bytes.
 const PAGE_BYTES: u64 = 4096;
 
-// The length in bytes of all segments together.
+/// The length in bytes of all segments together.
 fn bytes_of(parts: &[Part<'_>]) -> u64
     requires { length parts.now ≤ 4096 }
     ensures bytes { result ≡ bytes_of parts.now }
@@ -37,7 +37,7 @@ pub(crate) fn page_count(parts: &[Part<'_>]) -> u32
     bytes_of(parts).div_ceil(PAGE_BYTES) as u32
 }
 
-// The count of spare frames that objects ask for.
+/// The count of spare frames that objects ask for.
 fn spares_of(objects: &[Object]) -> u32
     requires { length objects.now ≤ 16 }
     ensures spares { result ≡ spares_of objects.now }

@@ -42,7 +42,7 @@ pub fn link(alloc: Global, objects: &[Object]) -> Result<Image, LinkError>
     image_or_fault(alloc, objects)
 }
 
-// The image that objects link to, or the first of their faults.
+/// The image that objects link to, or the first of their faults.
 fn image_or_fault(alloc: Global, objects: &[Object]) -> Result<Image, LinkError>
     requires { length objects.now ≤ 16 }
     ensures { ValueOrFault Fails (link_fault objects.now) (image_of objects.now) result }
@@ -53,8 +53,8 @@ fn image_or_fault(alloc: Global, objects: &[Object]) -> Result<Image, LinkError>
     image_of_parts(alloc, objects, &parts, &placed)
 }
 
-// The image that objects with segments of different names link to, or the first of their faults, given the segments and
-// their order.
+/// The image that objects with segments of different names link to, or the first of their faults, given the segments and
+/// their order.
 fn image_of_parts(
     alloc: Global,
     objects: &[Object],
@@ -77,8 +77,8 @@ fn image_of_parts(
     image_of(alloc, objects, &sites, placed, pages, frames)
 }
 
-// Tests that each name is known, that each target is within its segment, that there is a thread, that each thread has a
-// slot of its own, and that each handler is a thread's slot.
+/// Tests that each name is known, that each target is within its segment, that there is a thread, that each thread has a
+/// slot of its own, and that each handler is a thread's slot.
 fn check_objects(sites: &Sites<'_>, objects: &[Object]) -> Result<(), LinkError>
     requires sites { sites.now ≡ sites_of objects.now }
     requires few { length objects.now ≤ 16 }
@@ -93,8 +93,8 @@ fn check_objects(sites: &Sites<'_>, objects: &[Object]) -> Result<(), LinkError>
     check_handlers(objects)
 }
 
-// The image of objects without a fault, given the segments in their order, their places, and the counts of pages and
-// frames.
+/// The image of objects without a fault, given the segments in their order, their places, and the counts of pages and
+/// frames.
 #[tactic(auto, unfolding(crate::specs::Linked::image_of))]
 fn image_of(
     alloc: Global,

@@ -40,7 +40,7 @@ pub(crate) fn pages_of(
     pages_from(alloc, &cells, count)
 }
 
-// The cells of segments. There is room for `room` cells at first.
+/// The cells of segments. There is room for `room` cells at first.
 fn cells_of(
     alloc: Global,
     sites: &Sites<'_>,
@@ -57,6 +57,7 @@ fn cells_of(
     Ok(cells)
 }
 
+/// Appends the cells of a segment: its words, and full cells of integer 0 up to its length.
 #[tactic(auto, unfolding(crate::specs::Linked::part_cells))]
 fn push_part(cells: &mut Vec<Cell>, sites: &Sites<'_>, part: &Part<'_>) -> Result<(), LinkError>
     ensures cells { OnOk result (cells.new.items ≡ cells.old.items ++ part_cells sites.now part.now) }
@@ -67,7 +68,7 @@ fn push_part(cells: &mut Vec<Cell>, sites: &Sites<'_>, part: &Part<'_>) -> Resul
     push_zeros(cells, (1 << (part.log() - 3)) - items.len())
 }
 
-// Appends the words that a segment begins with.
+/// Appends the words that a segment begins with.
 fn push_items(
     cells: &mut Vec<Cell>,
     sites: &Sites<'_>,
@@ -91,8 +92,8 @@ fn push_items(
     Ok(())
 }
 
-// A word of a segment: the pointer of its relocation, or the integer that it is. The relocation at the index `near` is
-// tried first; `near` becomes the index after the one that was found.
+/// A word of a segment: the pointer of its relocation, or the integer that it is. The relocation at the index `near` is
+/// tried first; `near` becomes the index after the one that was found.
 fn word_of(
     sites: &Sites<'_>,
     object: &Object,
@@ -113,6 +114,7 @@ fn word_of(
     }
 }
 
+/// Appends `count` full cells of integer 0.
 fn push_zeros(cells: &mut Vec<Cell>, count: usize) -> Result<(), LinkError>
     ensures cells { OnOk result (cells.new.items ≡ cells.old.items ++ replicate count zero_cell) }
     ensures memory { IsOkUnless result LinkError.NoMemory }
@@ -123,7 +125,7 @@ fn push_zeros(cells: &mut Vec<Cell>, count: usize) -> Result<(), LinkError>
     Ok(())
 }
 
-// The first `count` pages of cells. Full cells of integer 0 follow the last cell.
+/// The first `count` pages of cells. Full cells of integer 0 follow the last cell.
 fn pages_from(alloc: Global, cells: &[Cell], count: u32) -> Result<Vec<Page>, LinkError>
     requires { count ≤ 256 }
     ensures pages { IfOk result (λ v. v.items ≡ pages_from count first_page cells.now) }
@@ -138,7 +140,7 @@ fn pages_from(alloc: Global, cells: &[Cell], count: u32) -> Result<Vec<Page>, Li
     Ok(pages)
 }
 
-// The page of the first of these cells.
+/// The page of the first of these cells.
 fn page_of(alloc: Global, number: u64, cells: &[Cell]) -> Result<Page, LinkError>
     requires { number < 2 ^ 42 }
     ensures page { IfOk result (λ p. p ≡ (number, take 512 (cells.now ++ zero_page))) }

@@ -36,6 +36,7 @@ pub(crate) fn check_known(sites: &Sites<'_>, objects: &[Object]) -> Result<(), L
     Ok(())
 }
 
+/// Refuses the first of the names that no segment has.
 fn check_known_names(sites: &Sites<'_>, names: &[Name]) -> Result<(), LinkError>
     ensures { Passes (unknown_among sites.now names.now) result }
 {

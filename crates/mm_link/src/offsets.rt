@@ -20,6 +20,7 @@ pub(crate) fn check_offsets(sites: &Sites<'_>, objects: &[Object]) -> Result<(),
     Ok(())
 }
 
+/// Tests that the targets of an object's relocations and threads are within their segments.
 fn check_object(sites: &Sites<'_>, object: &Object) -> Result<(), LinkError>
     ensures { Passes (outside sites.now object.now (targets_of object.now.relocs object.now.threads)) result }
 {
@@ -27,6 +28,7 @@ fn check_object(sites: &Sites<'_>, object: &Object) -> Result<(), LinkError>
     check_threads(sites, object)
 }
 
+/// Tests that the targets of an object's relocations are within their segments.
 fn check_relocs(sites: &Sites<'_>, object: &Object) -> Result<(), LinkError>
     ensures { Passes (outside sites.now object.now (reloc_targets object.now.relocs)) result }
 {
@@ -36,6 +38,7 @@ fn check_relocs(sites: &Sites<'_>, object: &Object) -> Result<(), LinkError>
     Ok(())
 }
 
+/// Tests that the targets of an object's threads and of their registers are within their segments.
 fn check_threads(sites: &Sites<'_>, object: &Object) -> Result<(), LinkError>
     ensures { Passes (outside sites.now object.now (flat_map thread_targets object.now.threads)) result }
 {
@@ -45,7 +48,7 @@ fn check_threads(sites: &Sites<'_>, object: &Object) -> Result<(), LinkError>
     Ok(())
 }
 
-// Tests where a thread begins, and what its registers point to.
+/// Tests where a thread begins, and what its registers point to.
 fn check_thread(sites: &Sites<'_>, object: &Object, thread: &Thread) -> Result<(), LinkError>
     requires { is_thread object.now.segments (length object.now.externals) thread.now ≡ true }
     ensures { Passes (outside sites.now object.now (thread_targets thread.now)) result }
@@ -54,6 +57,7 @@ fn check_thread(sites: &Sites<'_>, object: &Object, thread: &Thread) -> Result<(
     check_values(sites, object, &thread.regs)
 }
 
+/// Tests that the targets of registers are within their segments.
 fn check_values(sites: &Sites<'_>, object: &Object, values: &[Value]) -> Result<(), LinkError>
     requires { list_all (is_value object.now.segments (length object.now.externals)) values.now ≡ true }
     ensures { Passes (outside sites.now object.now (flat_map value_targets values.now)) result }
@@ -64,6 +68,7 @@ fn check_values(sites: &Sites<'_>, object: &Object, values: &[Value]) -> Result<
     Ok(())
 }
 
+/// Tests that the target of a register is within its segment. An integer passes.
 fn check_value(sites: &Sites<'_>, object: &Object, value: Value) -> Result<(), LinkError>
     requires { is_value object.now.segments (length object.now.externals) value ≡ true }
     ensures { Passes (outside sites.now object.now (value_targets value)) result }
@@ -74,7 +79,7 @@ fn check_value(sites: &Sites<'_>, object: &Object, value: Value) -> Result<(), L
     }
 }
 
-// Tests that a target is within its segment. Targets in segments of the object itself always are.
+/// Tests that a target is within its segment. Targets in segments of the object itself always are.
 fn check_target(sites: &Sites<'_>, object: &Object, target: Target) -> Result<(), LinkError>
     requires { IsTargetOf object.now target }
     ensures { Passes (outside sites.now object.now (target ∷ [])) result }
@@ -86,6 +91,7 @@ fn check_target(sites: &Sites<'_>, object: &Object, target: Target) -> Result<()
     Ok(())
 }
 
+/// Whether a target is in a segment of another object, at or past the segment's end.
 fn is_outside(sites: &Sites<'_>, object: &Object, target: Target) -> bool
     requires { IsTargetOf object.now target }
     ensures { result ≡ is_outside sites.now object.now target }

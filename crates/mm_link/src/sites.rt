@@ -50,6 +50,7 @@ impl<'a> Sites<'a> {
     ghost use Rattle.mm_link.specs.Placing.{site_in, site_named, pointer_to};
     ghost use Rattle.mm_link.specs.Steps.{place_of, FitsSite, IsTargetOf};
 
+    /// The places of no segment, with room for `count` segments.
     fn with_capacity(alloc: Global, count: usize) -> Result<Sites<'a>, LinkError>
         ensures sites { IfOk result (λ s. s ≡ []) }
         ensures memory { IsOkUnless result LinkError.NoMemory }
@@ -59,7 +60,7 @@ impl<'a> Sites<'a> {
         })
     }
 
-    // Adds a name with its place.
+    /// Adds a name with its place.
     fn push(&mut self, name: &'a [u8], place: Placement) -> Result<(), LinkError>
         requires new { site_in self.old name.now ≡ None }
         requires length_fits { place.log ≤ 20 }

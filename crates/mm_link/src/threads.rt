@@ -24,7 +24,7 @@ pub(crate) fn check_slots(objects: &[Object]) -> Result<(), LinkError>
     Ok(())
 }
 
-// The count of threads that have a slot.
+/// The count of threads that have a slot.
 fn count_in_slot(objects: &[Object], slot: u8) -> usize
     requires { length objects.now ≤ 16 }
     ensures { result ≡ length (with_slot slot (threads_of objects.now)) }
@@ -36,6 +36,7 @@ fn count_in_slot(objects: &[Object], slot: u8) -> usize
     count
 }
 
+/// The count of an object's threads that have a slot.
 fn count_of_object(object: &Object, slot: u8) -> usize
     ensures count { result ≡ length (with_slot slot object.now.threads) }
     ensures few { result ≤ 16 }
@@ -71,7 +72,7 @@ pub(crate) fn check_handlers(objects: &[Object]) -> Result<(), LinkError>
     Ok(())
 }
 
-// Whether a thread of a slot has a handler that is no thread's slot.
+/// Whether a thread of a slot has a handler that is no thread's slot.
 fn is_unhandled(objects: &[Object], slot: u8) -> bool
     ensures { result ≡ is_unhandled objects.now slot }
 {
@@ -83,6 +84,7 @@ fn is_unhandled(objects: &[Object], slot: u8) -> bool
     false
 }
 
+/// Whether one of these threads has the slot and a handler that is no thread's slot.
 fn is_unhandled_among(objects: &[Object], threads: &[Thread], slot: u8) -> bool
     ensures { result ≡ is_unhandled_in objects.now slot threads.now }
 {
@@ -94,6 +96,7 @@ fn is_unhandled_among(objects: &[Object], threads: &[Thread], slot: u8) -> bool
     false
 }
 
+/// Whether there is a handler, and it is no thread's slot.
 fn is_absent(objects: &[Object], handler: Option<u8>) -> bool
     ensures { result ≡ is_absent (threads_of objects.now) handler }
 {
@@ -103,6 +106,7 @@ fn is_absent(objects: &[Object], handler: Option<u8>) -> bool
     }
 }
 
+/// Whether a thread of any object has the slot.
 fn has_thread(objects: &[Object], slot: u8) -> bool
     ensures { result ≡ has_slot slot (threads_of objects.now) }
 {
@@ -114,6 +118,7 @@ fn has_thread(objects: &[Object], slot: u8) -> bool
     false
 }
 
+/// Whether one of these threads has the slot.
 fn has_slot(threads: &[Thread], slot: u8) -> bool
     ensures { result ≡ has_slot slot threads.now }
 {
