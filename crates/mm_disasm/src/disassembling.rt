@@ -21,7 +21,7 @@ pub fn disassemble<O: Sink>(o: &Object, out: &mut O) -> Result<(), WriteFault>
     text.finish(out)
 }
 
-// Appends the line of spare frames.
+/// Appends the line of spare frames.
 fn put_spare<O: Sink>(text: &mut Gather, out: &mut O, frames: u16)
     ensures { Gathers O.taken O.faults out.old out.new text.old text.new (spare_line frames) }
 {

@@ -21,6 +21,7 @@ pub(crate) fn put_integer<O: Sink>(text: &mut Gather, out: &mut O, bits: u64)
     }
 }
 
+/// Appends an operation: its name, and its operands.
 #[tactic(auto, unfolding(crate::specs::Canonical::operation_text))]
 fn put_operation<O: Sink>(text: &mut Gather, out: &mut O, operation: &Operation)
     ensures { Gathers O.taken O.faults out.old out.new text.old text.new (operation_text operation.now) }
@@ -29,7 +30,7 @@ fn put_operation<O: Sink>(text: &mut Gather, out: &mut O, operation: &Operation)
     put_operands(text, out, &operation.operands);
 }
 
-// Appends operands: a blank before the first, and a comma and a blank before each further one.
+/// Appends operands: a blank before the first, and a comma and a blank before each further one.
 fn put_operands<O: Sink>(text: &mut Gather, out: &mut O, operands: &[Operand])
     ensures { Gathers O.taken O.faults out.old out.new text.old text.new (operands_text operands.now) }
 {
@@ -43,7 +44,7 @@ fn put_operands<O: Sink>(text: &mut Gather, out: &mut O, operands: &[Operand])
     }
 }
 
-// Appends an operand after another one.
+/// Appends an operand after another one.
 fn put_further<O: Sink>(text: &mut Gather, out: &mut O, operand: Operand)
     ensures { Gathers O.taken O.faults out.old out.new text.old text.new (further_text operand) }
 {
@@ -51,6 +52,7 @@ fn put_further<O: Sink>(text: &mut Gather, out: &mut O, operand: Operand)
     put_operand(text, out, operand);
 }
 
+/// Appends an operand as sources spell it. A distance is a number of words, and not a label.
 fn put_operand<O: Sink>(text: &mut Gather, out: &mut O, operand: Operand)
     ensures { Gathers O.taken O.faults out.old out.new text.old text.new (operand_text operand) }
 {
@@ -70,6 +72,7 @@ fn put_operand<O: Sink>(text: &mut Gather, out: &mut O, operand: Operand)
     }
 }
 
+/// Appends the name of a register: `r0` to `r15`.
 fn put_register<O: Sink>(text: &mut Gather, out: &mut O, number: u8)
     ensures { Gathers O.taken O.faults out.old out.new text.old text.new (register_text number) }
 {

@@ -26,7 +26,7 @@ pub(crate) fn put_short_hex<O: Sink>(text: &mut Gather, out: &mut O, number: u32
     text.put_hex(out, number as u64, digit_count(number));
 }
 
-// The count of hexadecimal digits that a number needs.
+/// The count of hexadecimal digits that a number needs.
 fn digit_count(number: u32) -> usize
     ensures digits { hex result number ≡ digits 16 false number }
     ensures few { result ≤ 8 }

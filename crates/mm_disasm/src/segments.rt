@@ -28,6 +28,7 @@ pub(crate) fn put_segments<O: Sink>(
     }
 }
 
+/// Appends the lines of a segment: its own, and those of its words.
 #[tactic(auto, unfolding(crate::specs::Canonical::segment_text))]
 fn put_segment<O: Sink>(text: &mut Gather, out: &mut O, o: &Object, number: u16, segment: &Segment)
     requires object { IsObject o.now }
@@ -38,6 +39,7 @@ fn put_segment<O: Sink>(text: &mut Gather, out: &mut O, o: &Object, number: u16,
     put_words(text, out, o, number, &segment.items);
 }
 
+/// Appends the line that begins a segment: `.segment`, its name, and the logarithm of its length in bytes.
 fn put_segment_line<O: Sink>(text: &mut Gather, out: &mut O, segment: &Segment)
     ensures { Gathers O.taken O.faults out.old out.new text.old text.new (segment_line segment.now) }
 {

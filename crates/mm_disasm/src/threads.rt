@@ -22,6 +22,7 @@ pub(crate) fn put_threads<O: Sink>(text: &mut Gather, out: &mut O, o: &Object, t
     }
 }
 
+/// Appends the lines of a thread: its own, and those of its registers.
 #[tactic(auto, unfolding(crate::specs::Canonical::thread_text))]
 fn put_thread<O: Sink>(text: &mut Gather, out: &mut O, o: &Object, thread: &Thread)
     requires { is_thread o.now.segments (length o.now.externals) thread.now ≡ true }
@@ -31,6 +32,7 @@ fn put_thread<O: Sink>(text: &mut Gather, out: &mut O, o: &Object, thread: &Thre
     put_registers(text, out, o, &thread.regs);
 }
 
+/// Appends the line of a thread: `.thread`, its slot, its group, its handler, and its instruction pointer.
 fn put_thread_line<O: Sink>(text: &mut Gather, out: &mut O, o: &Object, thread: &Thread)
     requires { is_target o.now.segments (length o.now.externals) thread.now.target ≡ true }
     ensures { Gathers O.taken O.faults out.old out.new text.old text.new (thread_line o.now thread.now) }
@@ -51,6 +53,7 @@ fn put_thread_line<O: Sink>(text: &mut Gather, out: &mut O, o: &Object, thread: 
     text.put_piece(out, &Piece::Text("\n"));
 }
 
+/// Appends the number of a handler, or `none`.
 fn put_handler<O: Sink>(text: &mut Gather, out: &mut O, handler: Option<u8>)
     ensures { Gathers O.taken O.faults out.old out.new text.old text.new (handler_text handler) }
 {
@@ -60,7 +63,7 @@ fn put_handler<O: Sink>(text: &mut Gather, out: &mut O, handler: Option<u8>)
     }
 }
 
-// Appends the lines of registers; integer 0 has no line.
+/// Appends the lines of registers; integer 0 has no line.
 fn put_registers<O: Sink>(text: &mut Gather, out: &mut O, o: &Object, values: &[Value])
     requires { list_all (is_value o.now.segments (length o.now.externals)) values.now ≡ true }
     ensures { Gathers O.taken O.faults out.old out.new text.old text.new (registers_text o.now 0 values.now) }
@@ -70,6 +73,7 @@ fn put_registers<O: Sink>(text: &mut Gather, out: &mut O, o: &Object, values: &[
     }
 }
 
+/// Appends the line of a register: `.reg`, its number, and its value. Integer 0 has no line.
 #[tactic(auto, unfolding(crate::specs::Canonical::register_line))]
 fn put_register<O: Sink>(text: &mut Gather, out: &mut O, o: &Object, number: u64, value: Value)
     requires { is_value o.now.segments (length o.now.externals) value ≡ true }
@@ -89,6 +93,7 @@ fn put_register<O: Sink>(text: &mut Gather, out: &mut O, o: &Object, number: u64
     }
 }
 
+/// Whether a value is integer 0.
 fn is_zero(value: Value) -> bool
     ensures { result ≡ is_zero value }
 {
@@ -98,6 +103,7 @@ fn is_zero(value: Value) -> bool
     }
 }
 
+/// Appends a value: `int` and its 16 hexadecimal digits, or `ptr`, its permission and its target.
 fn put_value<O: Sink>(text: &mut Gather, out: &mut O, o: &Object, value: Value)
     requires { is_value o.now.segments (length o.now.externals) value ≡ true }
     ensures { Gathers O.taken O.faults out.old out.new text.old text.new (value_text o.now value) }

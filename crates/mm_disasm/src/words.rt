@@ -49,7 +49,7 @@ pub(crate) fn put_words<O: Sink>(
     }
 }
 
-// Appends the line of a word.
+/// Appends the line of a word.
 #[tactic(auto, unfolding(crate::specs::Canonical::word_line))]
 fn put_word<O: Sink>(
     text: &mut Gather,
@@ -67,7 +67,7 @@ fn put_word<O: Sink>(
     text.put_piece(out, &Piece::Text("\n"));
 }
 
-// Appends the mark of a word whose cell is empty.
+/// Appends the mark of a word whose cell is empty.
 fn put_mark<O: Sink>(text: &mut Gather, out: &mut O, full: bool)
     ensures { Gathers O.taken O.faults out.old out.new text.old text.new (mark_text full) }
 {
@@ -76,7 +76,7 @@ fn put_mark<O: Sink>(text: &mut Gather, out: &mut O, full: bool)
     }
 }
 
-// Appends a word: the pointer that it becomes, or else the text of its bits.
+/// Appends a word: the pointer that it becomes, or else the text of its bits.
 fn put_content<O: Sink>(
     text: &mut Gather,
     out: &mut O,
