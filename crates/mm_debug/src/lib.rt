@@ -26,6 +26,14 @@
 //! A crate that adds lines to those of a session uses the same parts: [`handle_lines`] cuts an input into lines that a
 //! [`LineHandler`] carries out, [`take_token`] cuts a line into tokens, [`number`] reads one, [`Session::put_line`]
 //! carries out a line, and [`Session::step`] issues cycles.
+//!
+//! | what | modules |
+//! |---|---|
+//! | a session, and a state of it that is kept apart | `session`, `point` |
+//! | the lines of an input one after the other, and the command of a line | `lines`, `command` |
+//! | the cycles of a session, its breaks and watches, and why a run stops | `cycles`, `breakpoints`, `stop` |
+//! | the texts of replies | `replies` |
+//! | what holds of all sessions | `laws` |
 #![tactic(auto)]
 
 mod breakpoints;
