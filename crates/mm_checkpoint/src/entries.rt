@@ -17,7 +17,7 @@ use mm_format::{ReadError, Reader, is_set, refuse_if};
 use mm_image::ImageFault;
 use mm_model::Pending;
 
-// The count of registers in a mask.
+/// The count of registers in a mask.
 #[tactic(auto, unfolding(crate::specs::Steps::bit_count))]
 fn registers_in(mask: u16) -> usize
     ensures count { result ≡ bit_count mask }
@@ -34,14 +34,14 @@ pub(crate) fn bit_count(mask: u16) -> usize
     registers_in(mask)
 }
 
-// Whether one of the pending loads is for a register.
+/// Whether one of the pending loads is for a register.
 fn has_entry(entries: &[Pending], register: u8) -> bool
     ensures { result ≡ has_entry entries.now register }
 {
     entries.iter().any(|entry| entry.reg == register)
 }
 
-// Whether a pending load cannot be for a register, given the mask of empty registers and the loads before it.
+/// Whether a pending load cannot be for a register, given the mask of empty registers and the loads before it.
 fn is_bad_entry(empty: u16, earlier: &[Pending], register: u8) -> bool
     ensures { result ≡ is_bad_entry empty earlier.now register }
 {
@@ -51,7 +51,7 @@ fn is_bad_entry(empty: u16, earlier: &[Pending], register: u8) -> bool
     !is_set(empty, usize::from(register)) || has_entry(earlier, register)
 }
 
-// Reads a pending load, given the mask of empty registers and the loads before it.
+/// Reads a pending load, given the mask of empty registers and the loads before it.
 #[tactic(auto, unfolding(crate::specs::Format::load))]
 fn read_load(
     reader: &mut Reader,

@@ -56,7 +56,7 @@ pub(crate) fn read_outputs(
     Ok(outputs)
 }
 
-// Reads the output of a group.
+/// Reads the output of a group.
 #[tactic(auto, unfolding(crate::specs::Format::output))]
 fn read_output(
     alloc: Global,

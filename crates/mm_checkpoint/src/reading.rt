@@ -64,7 +64,7 @@ struct Checkpoint {
     last: Option<u8>,
 }
 
-// The checkpoint of a whole file.
+/// The checkpoint of a whole file.
 fn read_parts(alloc: Global, img: &Image, bytes: &[u8]) -> Result<Checkpoint, ReadError<ImageFault>>
     ensures parts { ReadsFile number_of
         (λ c. saved_of (parts_of c.slots.items c.events.items c.outputs.items c.pages.items c.cycles) c.last)
@@ -84,7 +84,7 @@ fn read_parts(alloc: Global, img: &Image, bytes: &[u8]) -> Result<Checkpoint, Re
     })
 }
 
-// The slots of rows.
+/// The slots of rows.
 fn slots_of(alloc: Global, rows: Vec<SlotRow>) -> Result<Vec<Slot>, AllocError>
     ensures { IfOk result (λ slots. slots.items ≡ map (λ (r : RowValue). r.slot) rows.items) }
 {
@@ -101,7 +101,7 @@ struct File {
     pages: Vec<Page>,
 }
 
-// What a whole file says of an image.
+/// What a whole file says of an image.
 fn read_file(alloc: Global, img: &Image, bytes: &[u8]) -> Result<File, ReadError<ImageFault>>
     ensures read { ReadsFile number_of
         (λ f. contents_from f.head f.rows.items (map put_out f.outputs.items) f.pages.items)
@@ -115,7 +115,7 @@ fn read_file(alloc: Global, img: &Image, bytes: &[u8]) -> Result<File, ReadError
     Ok(file)
 }
 
-// Reads what a file says of an image.
+/// Reads what a file says of an image.
 #[tactic(auto, unfolding(crate::specs::Format::checkpoint))]
 fn read_contents(
     alloc: Global,
@@ -144,7 +144,7 @@ fn read_contents(
     })
 }
 
-// Reads the header and the records of slots, and tests the places in queues.
+/// Reads the header and the records of slots, and tests the places in queues.
 fn read_tested(
     alloc: Global,
     reader: &mut Reader,
@@ -163,7 +163,7 @@ fn read_tested(
     Ok((head, rows, waiting))
 }
 
-// Reads the header and the records of slots.
+/// Reads the header and the records of slots.
 #[tactic(auto, unfolding(crate::specs::Format::front))]
 fn read_front(
     alloc: Global,

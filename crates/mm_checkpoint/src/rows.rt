@@ -29,7 +29,7 @@ pub(crate) struct SlotRow {
     pub queued: Option<Queued>,
 }
 
-// Reads the count of the pending loads of a slot, given the mask of empty registers.
+/// Reads the count of the pending loads of a slot, given the mask of empty registers.
 #[tactic(auto, unfolding(crate::specs::Format::load_count))]
 fn read_count(reader: &mut Reader, empty: u16) -> Result<u8, ReadError<ImageFault>>
     ensures read { ReadsAlone number_of (λ n. n) ((load_count empty).read reader.old.bytes.now reader.old.at)
@@ -45,7 +45,7 @@ fn read_count(reader: &mut Reader, empty: u16) -> Result<u8, ReadError<ImageFaul
     Ok(count)
 }
 
-// Reads the record of a slot of an image of this mode after this count of cycles.
+/// Reads the record of a slot of an image of this mode after this count of cycles.
 #[tactic(auto, unfolding(crate::specs::Format::slot_row, mm_format::specs::Images::mask))]
 fn read_row(
     reader: &mut Reader,

@@ -52,7 +52,7 @@ pub(crate) fn read_registers(
     read_sixteen(reader, &Masks { tags, empty }, Word::Int(0))
 }
 
-// Reads a register, which holds integer 0 if it is empty.
+/// Reads a register, which holds integer 0 if it is empty.
 #[tactic(auto, unfolding(crate::specs::Format::word_with))]
 fn read_register(
     reader: &mut Reader,
@@ -88,7 +88,7 @@ pub(crate) fn read_tagged(reader: &mut Reader) -> Result<Word, ReadError<ImageFa
     Ok(word)
 }
 
-// The greatest tag of an operand.
+/// The greatest tag of an operand.
 fn tag_limit(waits: bool) -> u8
     ensures { result ≡ one_if waits }
 {

@@ -63,7 +63,7 @@ pub fn write(
     Ok(out)
 }
 
-// The length in bytes of the records of outputs.
+/// The length in bytes of the records of outputs.
 fn length_of(outputs: &[Output]) -> usize
     requires few { length outputs.now ≤ 64 }
     requires short { AllByRecursion (λ (o : OutputValue). length o.bytes ≤ 65536) outputs.now }
@@ -77,6 +77,7 @@ fn length_of(outputs: &[Output]) -> usize
     total
 }
 
+/// Appends the header: the file's mark, its version, the slot that was issued last, the cycles, and the count of pages.
 fn put_header(out: &mut Vec<u8>, s: &Snapshot, last: Option<u8>) -> Result<(), AllocError>
     requires { length s.now.pages < 2 ^ 16 }
     ensures { OnOk result (out.new.items ≡ out.old.items ++ (header 0).spell (header_of (saved_of s.now last))) }
@@ -89,6 +90,7 @@ fn put_header(out: &mut Vec<u8>, s: &Snapshot, last: Option<u8>) -> Result<(), A
     Ok(())
 }
 
+/// Appends the records of slots, with the events of those that wait.
 fn put_slots(out: &mut Vec<u8>, slots: &[Slot], events: &[(u8, Event)]) -> Result<(), AllocError>
     requires few { length events.now ≤ 64 }
     requires one_event { AllByRecursion (HasOneEvent events.now) slots.now }
@@ -101,6 +103,7 @@ fn put_slots(out: &mut Vec<u8>, slots: &[Slot], events: &[(u8, Event)]) -> Resul
     Ok(())
 }
 
+/// Appends the record of a slot, with its event if it waits.
 fn put_slot(out: &mut Vec<u8>, slot: &Slot, events: &[(u8, Event)]) -> Result<(), AllocError>
     requires few { length events.now ≤ 64 }
     requires one_event { HasOneEvent events.now slot.now }
@@ -117,7 +120,7 @@ fn put_slot(out: &mut Vec<u8>, slot: &Slot, events: &[(u8, Event)]) -> Result<()
     Ok(())
 }
 
-// The event of a slot, if it waits, with its place in the queue of the slot's handler.
+/// The event of a slot, if it waits, with its place in the queue of the slot's handler.
 fn event_of(events: &[(u8, Event)], number: u8, handler: Option<u8>) -> Option<QueuedEvent>
     requires { length events.now ≤ 64 }
     ensures event { option_map (λ q. q.event) result ≡ event_of events.now number }
@@ -138,7 +141,7 @@ fn event_of(events: &[(u8, Event)], number: u8, handler: Option<u8>) -> Option<Q
     None
 }
 
-// Appends the state of a slot, its cause, the place of its event, and whether it is past its segment.
+/// Appends the state of a slot, its cause, the place of its event, and whether it is past its segment.
 fn put_state(out: &mut Vec<u8>, slot: &Slot, queued: Option<&QueuedEvent>) -> Result<(), AllocError>
     ensures { OnOk result
         (out.new.items ≡ out.old.items
@@ -155,6 +158,7 @@ fn put_state(out: &mut Vec<u8>, slot: &Slot, queued: Option<&QueuedEvent>) -> Re
     Ok(())
 }
 
+/// The number of a state: 0 running, 1 waiting, 2 taken, 3 halted, with or without a cause.
 fn state_byte(state: SlotState) -> u8
     ensures { result ≡ state_byte state }
 {
@@ -166,7 +170,7 @@ fn state_byte(state: SlotState) -> u8
     }
 }
 
-// The number of the cause for which a slot waits or was halted, else 0.
+/// The number of the cause for which a slot waits or was halted, else 0.
 fn cause_byte(state: SlotState, queued: Option<&QueuedEvent>) -> u8
     ensures { result ≡ cause_byte state (option_map (λ q. q.now.event) queued.entry) }
 {
@@ -180,7 +184,7 @@ fn cause_byte(state: SlotState, queued: Option<&QueuedEvent>) -> u8
     }
 }
 
-// Appends the masks of the registers that hold pointers and of those that wait for a load, and the registers' words.
+/// Appends the masks of the registers that hold pointers and of those that wait for a load, and the registers' words.
 fn put_registers(out: &mut Vec<u8>, slot: &Slot) -> Result<(), AllocError>
     ensures { OnOk result
         (out.new.items ≡ out.old.items
@@ -194,6 +198,7 @@ fn put_registers(out: &mut Vec<u8>, slot: &Slot) -> Result<(), AllocError>
     Ok(())
 }
 
+/// Appends the two operands of a slot's event, or integer 0 twice if the slot does not wait.
 fn put_operands(out: &mut Vec<u8>, queued: Option<&QueuedEvent>) -> Result<(), AllocError>
     ensures { OnOk result
         (out.new.items ≡ out.old.items
@@ -213,7 +218,7 @@ fn put_operands(out: &mut Vec<u8>, queued: Option<&QueuedEvent>) -> Result<(), A
     Ok(())
 }
 
-// Appends a word after its tag.
+/// Appends a word after its tag.
 #[tactic(auto, unfolding(crate::specs::Format::tagged, mm_format::specs::Images::word))]
 fn put_tagged(out: &mut Vec<u8>, word: &Word) -> Result<(), AllocError>
     ensures { OnOk result (out.new.items ≡ out.old.items ++ tagged_word word.now) }
@@ -223,6 +228,7 @@ fn put_tagged(out: &mut Vec<u8>, word: &Word) -> Result<(), AllocError>
     Ok(())
 }
 
+/// Appends the count of pending loads in one byte, and their records.
 fn put_pending(out: &mut Vec<u8>, pending: &[Pending]) -> Result<(), AllocError>
     requires { length pending.now ≤ 16 }
     ensures { OnOk result
@@ -235,6 +241,7 @@ fn put_pending(out: &mut Vec<u8>, pending: &[Pending]) -> Result<(), AllocError>
     Ok(())
 }
 
+/// Appends the record of a pending load: its register, and the word to come with its tag.
 #[tactic(auto, unfolding(crate::specs::Format::load))]
 fn put_load(out: &mut Vec<u8>, load: &Pending) -> Result<(), AllocError>
     ensures { OnOk result (out.new.items ≡ out.old.items ++ load_record load.now) }
@@ -244,6 +251,7 @@ fn put_load(out: &mut Vec<u8>, load: &Pending) -> Result<(), AllocError>
     Ok(())
 }
 
+/// Appends the records of outputs.
 fn put_outputs(out: &mut Vec<u8>, outputs: &[Output]) -> Result<(), AllocError>
     requires { AllByRecursion (λ (o : OutputValue). length o.bytes ≤ 65536) outputs.now }
     ensures { OnOk result
@@ -256,6 +264,7 @@ fn put_outputs(out: &mut Vec<u8>, outputs: &[Output]) -> Result<(), AllocError>
     Ok(())
 }
 
+/// Appends an output after the count of its bytes. Its group is not written: the image says it.
 #[tactic(auto, unfolding(crate::specs::Format::output))]
 fn put_output(out: &mut Vec<u8>, output: &Output) -> Result<(), AllocError>
     requires { length output.now.bytes ≤ 65536 }
@@ -266,6 +275,7 @@ fn put_output(out: &mut Vec<u8>, output: &Output) -> Result<(), AllocError>
     Ok(())
 }
 
+/// Appends the records of pages.
 fn put_pages(out: &mut Vec<u8>, pages: &[Page]) -> Result<(), AllocError>
     ensures { OnOk result (out.new.items ≡ out.old.items ++ flat_map page_record pages.now) }
 {
