@@ -72,6 +72,7 @@ fn code() -> [Instr; LENGTH]
     ]
 }
 
+/// A cell that holds the word, and is full.
 fn full_cell(word: Word) -> Cell
     ensures { result ≡ record { word = word; full = true } }
 {
