@@ -72,6 +72,7 @@ fn before(found: &[Found], hint: usize, a: u64) -> usize
     between(found, low, high, a)
 }
 
+/// Whether a pointer loads at least one word: its permission is for loads, and its segment has room for one.
 fn loads_words(p: GuardedPtr) -> bool
     ensures { result ≡ loads_words p }
 {
@@ -81,6 +82,7 @@ fn loads_words(p: GuardedPtr) -> bool
     }
 }
 
+/// Whether a pointer stores at least one word: its permission is for stores, and its segment has room for one.
 fn stores_words(p: GuardedPtr) -> bool
     ensures { result ≡ stores_words p }
 {
@@ -90,12 +92,14 @@ fn stores_words(p: GuardedPtr) -> bool
     }
 }
 
+/// Whether code that runs by this pointer is privileged, and so can make pointers.
 fn makes_pointers(p: GuardedPtr) -> bool
     ensures { result ≡ makes_pointers p.perm }
 {
     matches!(p.perm(), Perm::Xp)
 }
 
+/// Whether a pointer is an enter pointer.
 fn is_entry(p: GuardedPtr) -> bool
     ensures { result ≡ is_entry p.perm }
 {
