@@ -6,6 +6,7 @@ ghost use Rattle.mm_audit.specs.Writers.{NoneWith, LeastWith, NoWriter, IsWriter
 
 use crate::shared_words::Meets;
 
+/// The lesser of two numbers, of which the first may be missing.
 fn lesser(a: Option<u64>, b: u64) -> u64
     ensures { MatchOption a (result ≡ b) (λ v. result ≡ min v b) }
 {
