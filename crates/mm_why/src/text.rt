@@ -100,6 +100,7 @@ fn put_line<O: Sink>(text: &mut Gather, out: &mut O, k: usize, line: Line)
     text.put_piece(out, &Piece::Text("\n"));
 }
 
+/// Appends the lines of a derivation, numbered from 1 on.
 fn put_lines<O: Sink>(text: &mut Gather, out: &mut O, lines: &[Line])
     ensures { Gathers O.taken O.faults out.old out.new text.old text.new (lines_text 0 lines.now) }
 {
@@ -108,6 +109,7 @@ fn put_lines<O: Sink>(text: &mut Gather, out: &mut O, lines: &[Line])
     }
 }
 
+/// Appends the lines of a derivation, or the line `no`.
 fn put_answer<O: Sink>(text: &mut Gather, out: &mut O, answer: Option<&[Line]>)
     ensures { Gathers O.taken O.faults out.old out.new text.old text.new (why_text answer.entry) }
 {
