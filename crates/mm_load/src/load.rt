@@ -57,6 +57,7 @@ fn read_file<F: Files>(
     }
 }
 
+/// Why a command stops if the file of this number cannot be read.
 fn stop_of(error: ReadError, file: u8) -> Stop
     ensures { result ≡ stop_of_error error file }
 {
