@@ -197,6 +197,7 @@ fn by_command<M: Boot + Reset, F: Files, I: Source, O: Sink>(
     }
 }
 
+/// The status of the answer after a command.
 fn status(outcome: Result<(), Stop>) -> Status
     ensures { result ≡ status_of outcome }
 {
