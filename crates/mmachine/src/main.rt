@@ -39,6 +39,7 @@ fn words_of(rt: &HostRuntime) -> Option<Vec<String>> {
     env::args(rt).ok()?.skip(1).collect(rt.alloc()).ok()
 }
 
+/// Carries out the words of the command line over real files and streams, and ends with the status of the answer.
 fn main(rt: HostRuntime) -> ExitCode {
     let Some(words) = words_of(&rt) else {
         return ExitCode::from(NO_WORDS);
