@@ -54,6 +54,7 @@ struct Breaks {
 }
 
 impl Breaks {
+    /// One byte at most, the first time; a failure from then on.
     fn moves(&mut self, room: usize) -> io::Result<usize>
         ensures { IfOk result (λ n. n ≤ room) }
     {
