@@ -58,9 +58,7 @@ fn read_load(
     empty: u16,
     earlier: &[Pending],
 ) -> Result<Pending, ReadError<ImageFault>>
-    ensures read { ReadsAlone number_of (λ p. p) ((load empty earlier.now).read reader.old.bytes.now reader.old.at)
-        reader.new.at result }
-    ensures same { reader.new.bytes.now ≡ reader.old.bytes.now }
+    ensures read { ReadsAlone number_of (λ p. p) (load empty earlier.now).read reader.old reader.new result }
     ensures holds { IfOk result (λ p. IsWord p.word) }
 {
     let at = reader.at;
@@ -82,9 +80,7 @@ pub(crate) fn read_loads(
 ) -> Result<ArrayVec<Pending, 16>, ReadError<ImageFault>>
     requires { count ≤ 16 }
     ensures read { ReadsAlone number_of (λ p. p.items)
-        ((times (load empty) (λ earlier p. earlier ++ p ∷ []) count []).read
-        reader.old.bytes.now reader.old.at) reader.new.at result }
-    ensures same { reader.new.bytes.now ≡ reader.old.bytes.now }
+        (times (load empty) (λ earlier p. earlier ++ p ∷ []) count []).read reader.old reader.new result }
     ensures words { IfOk result (λ entries. AllByRecursion (λ (p : PendingValue). IsWord p.word) entries.items) }
 {
     let mut entries = ArrayVec::new();

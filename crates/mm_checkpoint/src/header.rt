@@ -29,9 +29,7 @@ pub(crate) struct Header {
 /// Reads the header of a checkpoint of an image with this count of frames.
 #[tactic(auto, unfolding(crate::specs::Format::header))]
 pub(crate) fn read_header(reader: &mut Reader, frames: u32) -> Result<Header, ReadError<ImageFault>>
-    ensures read { ReadsAlone number_of (λ h. h) ((header frames).read reader.old.bytes.now reader.old.at) reader.new.at
-        result }
-    ensures same { reader.new.bytes.now ≡ reader.old.bytes.now }
+    ensures read { ReadsAlone number_of (λ h. h) (header frames).read reader.old reader.new result }
 {
     reader.literal(b"MMS1", ImageFault::Magic)?;
     let at = reader.at;

@@ -45,8 +45,7 @@ pub(crate) fn read_outputs(
     groups: &[u8],
 ) -> Result<Vec<Output>, ReadError<ImageFault>>
     ensures read { Reads number_of (λ outputs. map put_out outputs.items)
-        ((each (output limit) groups.now).read reader.old.bytes.now reader.old.at) reader.new.at result }
-    ensures same { reader.new.bytes.now ≡ reader.old.bytes.now }
+        (each (output limit) groups.now).read reader.old reader.new result }
 {
     let mut outputs = Vec::with_capacity(alloc, groups.len())?;
     for group in groups {
@@ -64,9 +63,7 @@ fn read_output(
     limit: u32,
     group: u8,
 ) -> Result<Output, ReadError<ImageFault>>
-    ensures read { Reads number_of put_out ((output limit group).read reader.old.bytes.now reader.old.at) reader.new.at
-        result }
-    ensures same { reader.new.bytes.now ≡ reader.old.bytes.now }
+    ensures read { Reads number_of put_out (output limit group).read reader.old reader.new result }
 {
     let at = reader.at;
     let size = reader.u32()?;

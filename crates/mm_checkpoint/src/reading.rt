@@ -125,8 +125,7 @@ fn read_contents(
     requires { reader.old.at ≡ 0 }
     ensures read { Reads number_of
         (λ f. contents_from f.head f.rows.items (map put_out f.outputs.items) f.pages.items)
-        ((checkpoint img.now).read reader.old.bytes.now reader.old.at) reader.new.at result }
-    ensures same { reader.new.bytes.now ≡ reader.old.bytes.now }
+        (checkpoint img.now).read reader.old reader.new result }
     ensures waiting { IfOk result (λ f. f.waiting.items ≡ waiters_in 18 f.rows.items) }
     ensures image { IsImage img.now }
 {
@@ -152,8 +151,7 @@ fn read_tested(
 ) -> Result<(Header, Vec<SlotRow>, Vec<Waiter>), ReadError<ImageFault>>
     requires { reader.old.at ≡ 0 }
     ensures read { Reads number_of (λ f. front_from f.0 f.1.items)
-        ((tested img.now).read reader.old.bytes.now reader.old.at) reader.new.at result }
-    ensures same { reader.new.bytes.now ≡ reader.old.bytes.now }
+        (tested img.now).read reader.old reader.new result }
     ensures waiting { IfOk result (λ f. f.2.items ≡ waiters_in 18 f.1.items) }
     ensures image { IsImage img.now }
 {
@@ -171,8 +169,7 @@ fn read_front(
     img: &Image,
 ) -> Result<(Header, Vec<SlotRow>), ReadError<ImageFault>>
     ensures read { Reads number_of (λ f. front_from f.0 f.1.items)
-        ((front img.now).read reader.old.bytes.now reader.old.at) reader.new.at result }
-    ensures same { reader.new.bytes.now ≡ reader.old.bytes.now }
+        (front img.now).read reader.old reader.new result }
     ensures few { IfOk result (λ f. vec_len f.1 ≤ 64) }
     ensures image { IsImage img.now }
 {

@@ -32,10 +32,7 @@ pub(crate) struct SlotRow {
 /// Reads the count of the pending loads of a slot, given the mask of empty registers.
 #[tactic(auto, unfolding(crate::specs::Format::load_count))]
 fn read_count(reader: &mut Reader, empty: u16) -> Result<u8, ReadError<ImageFault>>
-    ensures read { ReadsAlone number_of (λ n. n) ((load_count empty).read reader.old.bytes.now reader.old.at)
-        reader.new.at
-        result }
-    ensures same { reader.new.bytes.now ≡ reader.old.bytes.now }
+    ensures read { ReadsAlone number_of (λ n. n) (load_count empty).read reader.old reader.new result }
     ensures few { IfOk result (λ n. n ≤ 16) }
 {
     let at = reader.at;
@@ -54,8 +51,7 @@ fn read_row(
     known: &Slot,
 ) -> Result<SlotRow, ReadError<ImageFault>>
     ensures read { ReadsAlone number_of (λ r. r)
-        ((slot_row split cycles known.now).read reader.old.bytes.now reader.old.at) reader.new.at result }
-    ensures same { reader.new.bytes.now ≡ reader.old.bytes.now }
+        (slot_row split cycles known.now).read reader.old reader.new result }
 {
     let at = reader.at;
     let state = reader.u8()?;
@@ -120,8 +116,7 @@ pub(crate) fn read_rows(
     known: &[Slot],
 ) -> Result<Vec<SlotRow>, ReadError<ImageFault>>
     ensures read { Reads number_of (λ rows. rows.items)
-        ((each (slot_row split cycles) known.now).read reader.old.bytes.now reader.old.at) reader.new.at result }
-    ensures same { reader.new.bytes.now ≡ reader.old.bytes.now }
+        (each (slot_row split cycles) known.now).read reader.old reader.new result }
     ensures count { IfOk result (λ rows. vec_len rows ≡ length known.now) }
 {
     let mut rows = Vec::with_capacity(alloc, known.len())?;

@@ -43,9 +43,7 @@ pub(crate) fn read_registers(
     tags: u16,
     empty: u16,
 ) -> Result<[Word; 16], ReadError<ImageFault>>
-    ensures read { ReadsAlone number_of (λ regs. regs) ((each register (beside (flags_of tags) (flags 16 empty))).read
-        reader.old.bytes.now reader.old.at) reader.new.at result }
-    ensures same { reader.new.bytes.now ≡ reader.old.bytes.now }
+    ensures read { ReadsAlone number_of (λ regs. regs) (each register (beside (flags_of tags) (flags 16 empty))).read reader.old reader.new result }
     ensures count { IfOk result (λ regs. length regs ≡ 16) }
     ensures words { IfOk result (λ regs. AllByRecursion IsWord regs) }
 {
@@ -59,9 +57,7 @@ fn read_register(
     tagged: bool,
     empty: bool,
 ) -> Result<Word, ReadError<ImageFault>>
-    ensures read { ReadsAlone number_of (λ w. w) ((register (tagged, empty)).read reader.old.bytes.now reader.old.at)
-        reader.new.at result }
-    ensures same { reader.new.bytes.now ≡ reader.old.bytes.now }
+    ensures read { ReadsAlone number_of (λ w. w) (register (tagged, empty)).read reader.old reader.new result }
     ensures holds { IfOk result IsWord }
 {
     let at = reader.at;
@@ -76,9 +72,7 @@ fn read_register(
 /// Reads a word after its tag, which is 0 or 1.
 #[tactic(auto, unfolding(crate::specs::Format::tagged))]
 pub(crate) fn read_tagged(reader: &mut Reader) -> Result<Word, ReadError<ImageFault>>
-    ensures read { ReadsAlone number_of (λ w. w) ((tagged 1 word).read reader.old.bytes.now reader.old.at) reader.new.at
-        result }
-    ensures same { reader.new.bytes.now ≡ reader.old.bytes.now }
+    ensures read { ReadsAlone number_of (λ w. w) (tagged 1 word).read reader.old reader.new result }
     ensures holds { IfOk result IsWord }
 {
     let at = reader.at;
@@ -98,9 +92,7 @@ fn tag_limit(waits: bool) -> u8
 /// Reads an operand of the event of a slot that waits; integer 0 if the slot does not wait.
 #[tactic(auto, unfolding(crate::specs::Format::tagged, crate::specs::Format::word_with))]
 pub(crate) fn read_operand(reader: &mut Reader, waits: bool) -> Result<Word, ReadError<ImageFault>>
-    ensures read { ReadsAlone number_of (λ w. w) ((operand waits).read reader.old.bytes.now reader.old.at) reader.new.at
-        result }
-    ensures same { reader.new.bytes.now ≡ reader.old.bytes.now }
+    ensures read { ReadsAlone number_of (λ w. w) (operand waits).read reader.old reader.new result }
     ensures holds { IfOk result IsWord }
 {
     let at = reader.at;

@@ -1,6 +1,6 @@
 -- The laws of image files, by their format.
-use Rattle.std.proofs.Common.{◌≡◌, ℕ, ◌+◌, Bool, List, [], ◌∷◌, ◌++◌, length, map, None, refl, sym, ap, ◌∙◌, append_assoc}
-use Rattle.std.specs.{List.flat_map, Int.{w16, w64, to_be_bytes}}
+use Rattle.std.proofs.Common.{◌≡◌, ℕ, ◌+◌, Bool, List, [], ◌++◌, length, map, None, refl, sym, ap, ◌∙◌, append_assoc}
+use Rattle.std.specs.{List.flat_map, Int.{w64, to_be_bytes}}
 use Rattle.std.proofs.lemmas.List.{append-nil}
 use Rattle.mm_word.specs.{declared.{word.{Word.Word, Cell.Cell}}, Word.{word_bits, is_pointer}}
 use Rattle.mm_model.specs.{Slot.Slot, Image.{Image, slot_limit}, Bytes.IsBytes, Spelling.bitmap}

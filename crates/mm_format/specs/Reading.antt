@@ -1,8 +1,9 @@
 -- What code that reads a format answers.
-use Rattle.std.specs.Prelude.{◌≡◌, ◌⊎◌, ℕ, Option, Some, None, Result, Ok, Err, IfOk, IfErr}
+use Rattle.std.specs.Prelude.{◌≡◌, ◌⊎◌, ℕ, List, Option, Some, None, Result, Ok, Err, IfOk, IfErr}
 use Rattle.std.specs.Result.{IsErrAnd}
 use Rattle.mm_format.specs.declared.reader.ReadError.{ReadError}
 use Rattle.mm_format.specs.declared.reader.ReadError.TheVariants.{Fault, NoMemory}
+use Rattle.mm_format.specs.declared.reader.Reader.{Reader}
 use Rattle.mm_format.specs.Formats.{Outcome}
 
 -- an error is the fault that reading gives, or says that memory ran out, and then `wants` holds
@@ -14,19 +15,31 @@ FailsOr wants number read NoMemory = wants
 abbrev pub Fails : {K A : Type 0} → (K → ℕ) → Outcome A → ReadError K → Type 0
 Fails number read e = FailsOr (Unit {0}) number read e
 
-abbrev pub ReadsOr : {K X A : Type 0} → (wants : Type 0) → (K → ℕ) → (X → A) → Outcome A → (next : ℕ)
+abbrev pub GivesOr : {K X A : Type 0} → (wants : Type 0) → (K → ℕ) → (X → A) → Outcome A → (next : ℕ)
     → Result X (ReadError K) → Type 0
-ReadsOr wants number view read next (Ok x) = read ≡ Outcome.Got (view x) next
-ReadsOr wants number view read next (Err e) = FailsOr wants number read e
+GivesOr wants number view read next (Ok x) = read ≡ Outcome.Got (view x) next
+GivesOr wants number view read next (Err e) = FailsOr wants number read e
 
--- what a function returned is what reading gives, with the place where the next field begins
-abbrev pub Reads : {K X A : Type 0} → (K → ℕ) → (X → A) → Outcome A → (next : ℕ) → Result X (ReadError K) → Type 0
-Reads number view read next r = ReadsOr (Unit {0}) number view read next r
-
--- what a function that takes no memory returned is what reading gives, and never that memory ran out
-abbrev pub ReadsAlone : {K X A : Type 0} → (K → ℕ) → (X → A) → Outcome A → (next : ℕ) → Result X (ReadError K)
+-- what a function that takes no memory returned is an outcome, and never that memory ran out
+abbrev pub GivesAlone : {K X A : Type 0} → (K → ℕ) → (X → A) → Outcome A → (next : ℕ) → Result X (ReadError K)
     → Type 0
-ReadsAlone number view read next r = ReadsOr ⊥ number view read next r
+GivesAlone number view read next r = GivesOr ⊥ number view read next r
+
+-- From a reader of some bytes comes one of the same bytes, and what a function returned is what reading gives from where
+-- the old one stood to where the new one stands.
+abbrev pub ReadsOr : {K X A : Type 0} → (wants : Type 0) → (K → ℕ) → (X → A) → (List ℕ → ℕ → Outcome A)
+    → (old new : Reader) → Result X (ReadError K) → Type 0
+ReadsOr wants number view read old new r =
+    GivesOr wants number view (read old.bytes.now old.at) new.at r × (new.bytes.now ≡ old.bytes.now)
+
+abbrev pub Reads : {K X A : Type 0} → (K → ℕ) → (X → A) → (List ℕ → ℕ → Outcome A) → (old new : Reader)
+    → Result X (ReadError K) → Type 0
+Reads number view read old new r = ReadsOr (Unit {0}) number view read old new r
+
+-- the same of a function that takes no memory: it never returns that memory ran out
+abbrev pub ReadsAlone : {K X A : Type 0} → (K → ℕ) → (X → A) → (List ℕ → ℕ → Outcome A) → (old new : Reader)
+    → Result X (ReadError K) → Type 0
+ReadsAlone number view read old new r = ReadsOr ⊥ number view read old new r
 
 -- what a function returned is what a whole file says
 abbrev pub ReadsFile : {K X A : Type 0} → (K → ℕ) → (X → A) → Outcome A → Result X (ReadError K) → Type 0

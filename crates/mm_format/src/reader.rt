@@ -2,7 +2,7 @@
 
 ghost use Rattle.std.specs.Prelude.{◌≡◌, ◌≤◌, if◌then◌else◌, false, nat_lt, IfOk, OnOk, OnErr, length};
 ghost use Rattle.mm_format.specs.Formats.{text, byte, u16, u32, u64, test, literal, Outcome};
-ghost use Rattle.mm_format.specs.Reading.{ReadsAlone};
+ghost use Rattle.mm_format.specs.Reading.{GivesAlone, ReadsAlone};
 
 use std::alloc::{AllocError, AllocFailed};
 
@@ -55,9 +55,7 @@ pub struct Reader<'a> {
 impl<'a> Reader<'a> {
     /// The bytes of a field of this size.
     pub fn raw<K: FaultKind>(&mut self, size: usize) -> Result<&'a [u8], ReadError<K>>
-        ensures read { ReadsAlone K.number (λ xs. xs.now) ((text size).read self.old.bytes.now self.old.at) self.new.at
-            result }
-        ensures same { self.new.bytes.now ≡ self.old.bytes.now }
+        ensures read { ReadsAlone K.number (λ xs. xs.now) (text size).read self.old self.new result }
         ensures stays { OnErr result (self.new.at ≡ self.old.at) }
         ensures long { IfOk result (λ xs. length xs.now ≡ size) }
     {
@@ -74,8 +72,7 @@ impl<'a> Reader<'a> {
     /// The number of one byte.
     #[tactic(auto, using(crate::proofs::Raw::byte_got, crate::proofs::Raw::byte_bad))]
     pub fn u8<K: FaultKind>(&mut self) -> Result<u8, ReadError<K>>
-        ensures read { ReadsAlone K.number (λ n. n) (byte.read self.old.bytes.now self.old.at) self.new.at result }
-        ensures same { self.new.bytes.now ≡ self.old.bytes.now }
+        ensures read { ReadsAlone K.number (λ n. n) byte.read self.old self.new result }
         ensures stays { OnErr result (self.new.at ≡ self.old.at) }
     {
         let field = self.raw(1)?;
@@ -85,8 +82,7 @@ impl<'a> Reader<'a> {
     /// The number of two bytes.
     #[tactic(auto, using(crate::proofs::Raw::u16_got, crate::proofs::Raw::u16_bad))]
     pub fn u16<K: FaultKind>(&mut self) -> Result<u16, ReadError<K>>
-        ensures read { ReadsAlone K.number (λ n. n) (u16.read self.old.bytes.now self.old.at) self.new.at result }
-        ensures same { self.new.bytes.now ≡ self.old.bytes.now }
+        ensures read { ReadsAlone K.number (λ n. n) u16.read self.old self.new result }
         ensures stays { OnErr result (self.new.at ≡ self.old.at) }
     {
         let field = self.raw(2)?;
@@ -96,8 +92,7 @@ impl<'a> Reader<'a> {
     /// The number of four bytes.
     #[tactic(auto, using(crate::proofs::Raw::u32_got, crate::proofs::Raw::u32_bad))]
     pub fn u32<K: FaultKind>(&mut self) -> Result<u32, ReadError<K>>
-        ensures read { ReadsAlone K.number (λ n. n) (u32.read self.old.bytes.now self.old.at) self.new.at result }
-        ensures same { self.new.bytes.now ≡ self.old.bytes.now }
+        ensures read { ReadsAlone K.number (λ n. n) u32.read self.old self.new result }
         ensures stays { OnErr result (self.new.at ≡ self.old.at) }
     {
         let field = self.raw(4)?;
@@ -107,8 +102,7 @@ impl<'a> Reader<'a> {
     /// The number of eight bytes.
     #[tactic(auto, using(crate::proofs::Raw::u64_got, crate::proofs::Raw::u64_bad))]
     pub fn u64<K: FaultKind>(&mut self) -> Result<u64, ReadError<K>>
-        ensures read { ReadsAlone K.number (λ n. n) (u64.read self.old.bytes.now self.old.at) self.new.at result }
-        ensures same { self.new.bytes.now ≡ self.old.bytes.now }
+        ensures read { ReadsAlone K.number (λ n. n) u64.read self.old self.new result }
         ensures stays { OnErr result (self.new.at ≡ self.old.at) }
     {
         let field = self.raw(8)?;
@@ -120,8 +114,7 @@ impl<'a> Reader<'a> {
     /// The number of one byte. If it is above `most`, the fault is `kind`, at the number's place.
     pub fn u8_up_to<K: FaultKind>(&mut self, most: u8, kind: K) -> Result<u8, ReadError<K>>
         ensures read { ReadsAlone K.number (λ n. n)
-            ((test byte (K.number kind) (nat_lt most)).read self.old.bytes.now self.old.at) self.new.at result }
-        ensures same { self.new.bytes.now ≡ self.old.bytes.now }
+            (test byte (K.number kind) (nat_lt most)).read self.old self.new result }
         ensures few { IfOk result (λ n. n ≤ most) }
     {
         let at = self.at;
@@ -133,8 +126,7 @@ impl<'a> Reader<'a> {
     /// The number of two bytes. If it is above `most`, the fault is `kind`, at the number's place.
     pub fn u16_up_to<K: FaultKind>(&mut self, most: u16, kind: K) -> Result<u16, ReadError<K>>
         ensures read { ReadsAlone K.number (λ n. n)
-            ((test u16 (K.number kind) (nat_lt most)).read self.old.bytes.now self.old.at) self.new.at result }
-        ensures same { self.new.bytes.now ≡ self.old.bytes.now }
+            (test u16 (K.number kind) (nat_lt most)).read self.old self.new result }
         ensures few { IfOk result (λ n. n ≤ most) }
     {
         let at = self.at;
@@ -146,8 +138,7 @@ impl<'a> Reader<'a> {
     /// The number of four bytes. If it is above `most`, the fault is `kind`, at the number's place.
     pub fn u32_up_to<K: FaultKind>(&mut self, most: u32, kind: K) -> Result<u32, ReadError<K>>
         ensures read { ReadsAlone K.number (λ n. n)
-            ((test u32 (K.number kind) (nat_lt most)).read self.old.bytes.now self.old.at) self.new.at result }
-        ensures same { self.new.bytes.now ≡ self.old.bytes.now }
+            (test u32 (K.number kind) (nat_lt most)).read self.old self.new result }
         ensures few { IfOk result (λ n. n ≤ most) }
     {
         let at = self.at;
@@ -159,8 +150,7 @@ impl<'a> Reader<'a> {
     /// The number of eight bytes. If it is above `most`, the fault is `kind`, at the number's place.
     pub fn u64_up_to<K: FaultKind>(&mut self, most: u64, kind: K) -> Result<u64, ReadError<K>>
         ensures read { ReadsAlone K.number (λ n. n)
-            ((test u64 (K.number kind) (nat_lt most)).read self.old.bytes.now self.old.at) self.new.at result }
-        ensures same { self.new.bytes.now ≡ self.old.bytes.now }
+            (test u64 (K.number kind) (nat_lt most)).read self.old self.new result }
         ensures few { IfOk result (λ n. n ≤ most) }
     {
         let at = self.at;
@@ -172,8 +162,7 @@ impl<'a> Reader<'a> {
     /// Reads bytes that have to be these. If they are others, the fault is `kind`, at their place.
     pub fn literal<K: FaultKind>(&mut self, wanted: &[u8], kind: K) -> Result<(), ReadError<K>>
         ensures read { ReadsAlone K.number (λ _. wanted.now)
-            ((literal wanted.now (K.number kind)).read self.old.bytes.now self.old.at) self.new.at result }
-        ensures same { self.new.bytes.now ≡ self.old.bytes.now }
+            (literal wanted.now (K.number kind)).read self.old self.new result }
     {
         let at = self.at;
         let found = self.raw(wanted.len())?;
@@ -193,7 +182,7 @@ pub fn failed<K>(fault: K, at: usize) -> ReadError<K>
 
 /// Fails with this fault if `wrong`.
 pub fn refuse_if<K: FaultKind>(wrong: bool, kind: K, at: usize) -> Result<(), ReadError<K>>
-    ensures fault { ReadsAlone K.number (λ _. false)
+    ensures fault { GivesAlone K.number (λ _. false)
         (if wrong then Outcome.Bad (K.number kind) at else Outcome.Got false 0) 0 result }
     ensures right { OnOk result (wrong ≡ false) }
 {

@@ -22,9 +22,7 @@ pub trait Run<K: FaultKind> {
 
     /// Reads a record.
     fn item(&mut self, alloc: Global, reader: &mut Reader) -> Result<Self::Item, ReadError<K>>
-        ensures read { Reads K.number (λ x. x) (reads self.old reader.old.bytes.now reader.old.at)
-            reader.new.at result }
-        ensures same { reader.new.bytes.now ≡ reader.old.bytes.now }
+        ensures read { Reads K.number (λ x. x) (reads self.old) reader.old reader.new result }
         ensures next { IfOk result (λ x. self.new ≡ onward self.old x) };
 }
 
@@ -36,8 +34,7 @@ pub fn read_run<K: FaultKind, R: Run<K>>(
     count: usize,
 ) -> Result<Vec<R::Item>, ReadError<K>>
     ensures read { Reads K.number (λ v. v.items)
-        (runs R.reads R.onward count run.old reader.old.bytes.now reader.old.at) reader.new.at result }
-    ensures same { reader.new.bytes.now ≡ reader.old.bytes.now }
+        (runs R.reads R.onward count run.old) reader.old reader.new result }
     ensures count { IfOk result (λ v. vec_len v ≡ count) }
 {
     let mut items = Vec::new(alloc);

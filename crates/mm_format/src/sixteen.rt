@@ -31,9 +31,7 @@ pub trait Sixteen<K: FaultKind> {
     /// Reads the value of a place.
     fn item(&self, reader: &mut Reader, place: usize) -> Result<Self::Item, ReadError<K>>
         requires { place < 16 }
-        ensures read { ReadsAlone K.number (λ x. x) (reads self.now place reader.old.bytes.now reader.old.at)
-            reader.new.at result }
-        ensures same { reader.new.bytes.now ≡ reader.old.bytes.now }
+        ensures read { ReadsAlone K.number (λ x. x) (reads self.now place) reader.old reader.new result }
         ensures each { IfOk result holds };
 }
 
@@ -44,8 +42,7 @@ pub fn read_sixteen<K: FaultKind, S: Sixteen<K>>(
     filler: S::Item,
 ) -> Result<[S::Item; 16], ReadError<K>>
     ensures read { ReadsAlone K.number (λ xs. xs)
-        (sixteen (S.reads places.now) reader.old.bytes.now reader.old.at) reader.new.at result }
-    ensures same { reader.new.bytes.now ≡ reader.old.bytes.now }
+        (sixteen (S.reads places.now)) reader.old reader.new result }
     ensures count { IfOk result (λ xs. length xs ≡ 16) }
     ensures each { IfOk result (λ xs. AllByRecursion S.holds xs) }
 {

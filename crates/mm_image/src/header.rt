@@ -26,8 +26,7 @@ pub(crate) fn frame_limit(version: u16) -> u16
 /// Reads the header.
 #[tactic(auto, unfolding(mm_format::specs::Headers::header))]
 pub(crate) fn read_header(reader: &mut Reader) -> Result<Header, ReadError<ImageFault>>
-    ensures read { ReadsAlone number_of (λ h. h) (header.read reader.old.bytes.now reader.old.at) reader.new.at result }
-    ensures same { reader.new.bytes.now ≡ reader.old.bytes.now }
+    ensures read { ReadsAlone number_of (λ h. h) header.read reader.old reader.new result }
 {
     reader.literal(b"MMI1", ImageFault::Magic)?;
     let at = reader.at;

@@ -40,9 +40,8 @@ fn read_cells(
     requires tags { length tags.now ≡ 64 }
     requires full { length full.now ≡ 64 }
     ensures read { Reads number_of (λ cells. map (λ (c : CellValue). c.word) cells.items)
-        ((each word (bits_in 512 tags.now)).read reader.old.bytes.now reader.old.at) reader.new.at result }
+        (each word (bits_in 512 tags.now)).read reader.old reader.new result }
     ensures full { IfOk result (λ cells. map (λ (c : CellValue). c.full) cells.items ≡ bits_in 512 full.now) }
-    ensures same { reader.new.bytes.now ≡ reader.old.bytes.now }
     ensures count { IfOk result (λ cells. vec_len cells ≡ 512) }
 {
     let mut cells = Vec::with_capacity(alloc, CELLS)?;
@@ -63,9 +62,7 @@ pub fn read_page(
     reader: &mut Reader,
     least: u64,
 ) -> Result<Page, ReadError<ImageFault>>
-    ensures read { Reads number_of (λ p. p) ((page least).read reader.old.bytes.now reader.old.at) reader.new.at
-        result }
-    ensures same { reader.new.bytes.now ≡ reader.old.bytes.now }
+    ensures read { Reads number_of (λ p. p) (page least).read reader.old reader.new result }
 {
     let at = reader.at;
     let number = reader.u64()?;
@@ -110,8 +107,7 @@ pub fn read_pages(
     count: u16,
 ) -> Result<Vec<Page>, ReadError<ImageFault>>
     ensures read { Reads number_of (λ pages. pages.items)
-        ((times page (λ _ p. p.0 + 1) count 0).read reader.old.bytes.now reader.old.at) reader.new.at result }
-    ensures same { reader.new.bytes.now ≡ reader.old.bytes.now }
+        (times page (λ _ p. p.0 + 1) count 0).read reader.old reader.new result }
 {
     let mut run = PageRun { least: 0 };
     read_run(alloc, reader, &mut run, usize::from(count))

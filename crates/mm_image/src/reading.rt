@@ -39,8 +39,7 @@ fn read_file(alloc: Global, bytes: &[u8]) -> Result<Image, ReadError<ImageFault>
 fn read_image(alloc: Global, reader: &mut Reader) -> Result<Image, ReadError<ImageFault>>
     requires front { reader.old.at ≡ 0 }
     requires bytes { IsBytes reader.old.bytes.now }
-    ensures read { Reads number_of (λ i. i) (image.read reader.old.bytes.now reader.old.at) reader.new.at result }
-    ensures same { reader.new.bytes.now ≡ reader.old.bytes.now }
+    ensures read { Reads number_of (λ i. i) image.read reader.old reader.new result }
 {
     let header = read_header(reader)?;
     let slots = read_slots(alloc, reader, header.version, header.slots)?;

@@ -6,7 +6,7 @@ ghost use Rattle.mm_model.specs.Spelling.{is_bad_handler};
 ghost use Rattle.mm_model.specs.Slot.{Slot};
 ghost use Rattle.mm_format.specs.Formats.{answer, first_late, times};
 ghost use Rattle.mm_format.specs.Images.{slot, slots, handler_tests};
-ghost use Rattle.mm_format.specs.Reading.{Reads, ReadsAlone};
+ghost use Rattle.mm_format.specs.Reading.{GivesAlone, Reads, ReadsAlone};
 ghost use Rattle.mm_image.specs.Faults.{number_of};
 ghost use Rattle.mm_image.specs.Reading.{HoldsNumbers};
 
@@ -53,10 +53,7 @@ pub(crate) fn read_slot(
     limit: u8,
     least: u8,
 ) -> Result<Slot, ReadError<ImageFault>>
-    ensures read { ReadsAlone number_of (λ s. s) ((slot limit least).read reader.old.bytes.now reader.old.at)
-        reader.new.at
-        result }
-    ensures same { reader.new.bytes.now ≡ reader.old.bytes.now }
+    ensures read { ReadsAlone number_of (λ s. s) (slot limit least).read reader.old reader.new result }
     ensures number { IfOk result (λ s. s.number < limit) }
 {
     let at = reader.at;
@@ -126,9 +123,7 @@ fn slot_records(
     count: u16,
 ) -> Result<Vec<Slot>, ReadError<ImageFault>>
     ensures read { Reads number_of (λ slots. slots.items)
-        ((times (slot (slot_limit version)) (λ _ s. s.number + 1) count 0).read reader.old.bytes.now reader.old.at)
-        reader.new.at result }
-    ensures same { reader.new.bytes.now ≡ reader.old.bytes.now }
+        (times (slot (slot_limit version)) (λ _ s. s.number + 1) count 0).read reader.old reader.new result }
     ensures count { IfOk result (λ slots. vec_len slots ≡ count) }
 {
     let mut run = SlotRun {
@@ -141,7 +136,7 @@ fn slot_records(
 /// Fails with `Handler` at the first slot whose handler is bad.
 fn test_handlers(slots: &[Slot]) -> Result<(), ReadError<ImageFault>>
     requires { length slots.now < 2 ^ 16 }
-    ensures { ReadsAlone number_of (λ _. true) (answer (first_late 16 (handler_tests slots.now 0 slots.now)) true 0) 0
+    ensures { GivesAlone number_of (λ _. true) (answer (first_late 16 (handler_tests slots.now 0 slots.now)) true 0) 0
         result }
 {
     let present = numbers(slots);
@@ -167,8 +162,7 @@ pub(crate) fn read_slots(
 ) -> Result<Vec<Slot>, ReadError<ImageFault>>
     requires { reader.old.at ≡ 16 }
     ensures read { Reads number_of (λ slots. slots.items)
-        ((slots version count).read reader.old.bytes.now reader.old.at) reader.new.at result }
-    ensures same { reader.new.bytes.now ≡ reader.old.bytes.now }
+        (slots version count).read reader.old reader.new result }
 {
     let slots = slot_records(alloc, reader, version, count)?;
     test_handlers(&slots)?;

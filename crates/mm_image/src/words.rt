@@ -34,9 +34,7 @@ pub fn word_of(tagged: bool, bits: u64) -> Option<Word>
 /// Reads a word: a pointer if it is tagged.
 #[tactic(auto, unfolding(mm_format::specs::Images::word))]
 pub fn read_word(reader: &mut Reader, tagged: bool) -> Result<Word, ReadError<ImageFault>>
-    ensures read { ReadsAlone number_of (λ w. w) ((word tagged).read reader.old.bytes.now reader.old.at) reader.new.at
-        result }
-    ensures same { reader.new.bytes.now ≡ reader.old.bytes.now }
+    ensures read { ReadsAlone number_of (λ w. w) (word tagged).read reader.old reader.new result }
     ensures holds { IfOk result IsWord }
 {
     let at = reader.at;
@@ -50,8 +48,7 @@ pub fn read_word(reader: &mut Reader, tagged: bool) -> Result<Word, ReadError<Im
 /// Reads an instruction pointer.
 #[tactic(auto, unfolding(mm_format::specs::Images::ip))]
 pub fn read_ip(reader: &mut Reader) -> Result<GuardedPtr, ReadError<ImageFault>>
-    ensures read { ReadsAlone number_of (λ p. p) (ip.read reader.old.bytes.now reader.old.at) reader.new.at result }
-    ensures same { reader.new.bytes.now ≡ reader.old.bytes.now }
+    ensures read { ReadsAlone number_of (λ p. p) ip.read reader.old reader.new result }
     ensures executable { IfOk result (λ p. can_fetch p.perm ≡ true) }
     ensures well_formed { IfOk result IsWellFormed }
 {
@@ -92,8 +89,7 @@ pub(crate) fn read_registers(
     tags: u16,
 ) -> Result<[Word; 16], ReadError<ImageFault>>
     ensures read { ReadsAlone number_of (λ regs. regs)
-        ((each word (flags_of tags)).read reader.old.bytes.now reader.old.at) reader.new.at result }
-    ensures same { reader.new.bytes.now ≡ reader.old.bytes.now }
+        (each word (flags_of tags)).read reader.old reader.new result }
     ensures words { IfOk result (λ regs. AllByRecursion IsWord regs) }
     ensures count { IfOk result (λ regs. length regs ≡ 16) }
 {

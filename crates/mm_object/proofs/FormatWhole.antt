@@ -1,24 +1,14 @@
 -- The laws of objects' files, by their format.
-use Rattle.std.proofs.Common.{◌≡◌, ℕ, ◌+◌, ◌/◌, List, [], ◌∷◌, ◌++◌, length, map, None, refl, sym, ap, ◌∙◌}
+use Rattle.std.proofs.Common.{◌≡◌, ℕ, ◌+◌, List, [], ◌++◌, length, None, refl, sym, ap, ◌∙◌}
 use Rattle.std.proofs.Common.{append_assoc, append-nil}
 use Rattle.std.specs.List.{flat_map}
-use Rattle.std.specs.Int.{w16, w32, w64, to_be_bytes}
 use Rattle.mm_model.specs.Bytes.{IsBytes}
-use Rattle.mm_word.specs.Perm.{code_of}
-use Rattle.mm_model.specs.Flags.{number_of_flags}
-use Rattle.mm_model.specs.Spelling.{bitmap, handler_byte}
-use Rattle.mm_format.specs.Formats.{each, cons, file, fault_in}
+use Rattle.mm_format.specs.Formats.{file, fault_in}
 use Rattle.mm_format.specs.Formats.Outcome.{Got}
 use Rattle.mm_format.specs.declared.reader.ReadError.{ReadError, TheVariants.{Fault, NoMemory}}
 use Rattle.mm_format.specs.Reading.{fault_named_by}
-use Rattle.mm_format.specs.Images.{mask}
 use Rattle.mm_format.proofs.Files.{spelled_by, read_whole, same_value, clean_got}
 use Rattle.mm_format.proofs.Lists.{times_spell}
-use Rattle.mm_object.specs.declared.item.Item.{Item}
-use Rattle.mm_object.specs.declared.target.Reloc.{Reloc}
-use Rattle.mm_object.specs.declared.thread.Value.{Value}
-use Rattle.mm_object.specs.declared.thread.Value.TheVariants.{Int, Ptr}
-use Rattle.mm_object.specs.declared.thread.Thread.{Thread}
 use Rattle.mm_object.specs.declared.fault.ObjectFault.{ObjectFault}
 use Rattle.mm_object.specs.Answers.{number_of, told}
 use Rattle.mm_object.specs.Faults.{fault_of, object_fault}

@@ -16,9 +16,7 @@ pub(crate) fn read_perm(
     reader: &mut Reader,
     kind: ObjectFault,
 ) -> Result<Perm, ReadError<ObjectFault>>
-    ensures read { ReadsAlone number_of (λ p. p) ((perm_row (number_of kind)).read reader.old.bytes.now reader.old.at)
-        reader.new.at result }
-    ensures same { reader.new.bytes.now ≡ reader.old.bytes.now }
+    ensures read { ReadsAlone number_of (λ p. p) (perm_row (number_of kind)).read reader.old reader.new result }
 {
     let at = reader.at;
     let code = reader.u8()?;
@@ -31,9 +29,7 @@ pub(crate) fn read_perm(
 /// Reads a target.
 #[tactic(auto, unfolding(crate::specs::Format::target_row))]
 pub(crate) fn read_target(reader: &mut Reader) -> Result<Target, ReadError<ObjectFault>>
-    ensures read { ReadsAlone number_of (λ t. t) (target_row.read reader.old.bytes.now reader.old.at) reader.new.at
-        result }
-    ensures same { reader.new.bytes.now ≡ reader.old.bytes.now }
+    ensures read { ReadsAlone number_of (λ t. t) target_row.read reader.old reader.new result }
 {
     let index = reader.u16()?;
     let addend = reader.u32()?;

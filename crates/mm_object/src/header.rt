@@ -26,9 +26,7 @@ pub(crate) struct Header {
 /// Reads the header.
 #[tactic(auto, unfolding(crate::specs::Format::header_row))]
 pub(crate) fn read_header(reader: &mut Reader) -> Result<Header, ReadError<ObjectFault>>
-    ensures read { ReadsAlone number_of (λ h. h) (header_row.read reader.old.bytes.now reader.old.at) reader.new.at
-        result }
-    ensures same { reader.new.bytes.now ≡ reader.old.bytes.now }
+    ensures read { ReadsAlone number_of (λ h. h) header_row.read reader.old reader.new result }
     ensures few { IfOk result (λ h. h.externals ≤ 1024) }
 {
     reader.literal(b"MMO1", ObjectFault::Magic)?;

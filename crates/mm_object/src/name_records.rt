@@ -63,9 +63,7 @@ fn name_of(bytes: &[u8]) -> Option<Name>
 /// Reads a name.
 #[tactic(auto, unfolding(crate::specs::Format::name_row, crate::specs::Format::name_fields))]
 pub(crate) fn read_name(reader: &mut Reader) -> Result<Name, ReadError<ObjectFault>>
-    ensures read { ReadsAlone number_of (λ n. n) (name_row.read reader.old.bytes.now reader.old.at) reader.new.at
-        result }
-    ensures same { reader.new.bytes.now ≡ reader.old.bytes.now }
+    ensures read { ReadsAlone number_of (λ n. n) name_row.read reader.old reader.new result }
 {
     let at = reader.at;
     let size = reader.u8()?;
@@ -86,9 +84,7 @@ fn read_external(
     names: &[Name],
 ) -> Result<Name, ReadError<ObjectFault>>
     ensures read { (segments : List SegmentValue) → AreTheSame (key_names known.now.keys) (names_of segments)
-        → ReadsAlone number_of (λ n. n) ((external_row segments names.now).read reader.old.bytes.now reader.old.at)
-        reader.new.at result }
-    ensures same { reader.new.bytes.now ≡ reader.old.bytes.now }
+        → ReadsAlone number_of (λ n. n) (external_row segments names.now).read reader.old reader.new result }
 {
     let at = reader.at;
     let name = read_name(reader)?;
@@ -104,9 +100,7 @@ pub(crate) fn read_externals(
     count: u16,
 ) -> Result<Vec<Name>, ReadError<ObjectFault>>
     ensures read { Reads number_of (λ names. names.items)
-        ((times (external_row segments.now) push count []).read reader.old.bytes.now reader.old.at) reader.new.at
-        result }
-    ensures same { reader.new.bytes.now ≡ reader.old.bytes.now }
+        (times (external_row segments.now) push count []).read reader.old reader.new result }
     ensures count { IfOk result (λ names. vec_len names ≡ count) }
 {
     let known = known_names(alloc, segments)?;

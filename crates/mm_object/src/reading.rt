@@ -3,7 +3,7 @@
 ghost use Rattle.std.specs.Prelude.{◌≡◌, ◌≤◌, ◌<◌, ◌^◌, IfOk, true, length};
 ghost use Rattle.mm_model.specs.Bytes.{IsBytes};
 ghost use Rattle.mm_format.specs.Formats.{answer, file, first_late};
-ghost use Rattle.mm_format.specs.Reading.{Reads, ReadsAlone, ReadsFile, AnswersFile};
+ghost use Rattle.mm_format.specs.Reading.{AnswersFile, GivesAlone, Reads, ReadsFile};
 ghost use Rattle.mm_object.specs.declared.fault.ObjectFault.{ObjectFault};
 ghost use Rattle.mm_object.specs.Answers.{number_of};
 ghost use Rattle.mm_object.specs.Faults.{fault_of, object_fault};
@@ -39,8 +39,7 @@ pub fn read(alloc: Global, bytes: &[u8]) -> Result<Object, ObjectError>
 fn read_object(alloc: Global, reader: &mut Reader) -> Result<Object, ReadError<ObjectFault>>
     requires front { reader.old.at ≤ length reader.old.bytes.now }
     requires bytes { IsBytes reader.old.bytes.now }
-    ensures read { Reads number_of (λ o. o) (object.read reader.old.bytes.now reader.old.at) reader.new.at result }
-    ensures same { reader.new.bytes.now ≡ reader.old.bytes.now }
+    ensures read { Reads number_of (λ o. o) object.read reader.old reader.new result }
 {
     let header = read_header(reader)?;
     let segments = read_segments(alloc, reader, header.segments)?;
@@ -83,8 +82,7 @@ fn read_used(
     requires start { reader.old.at ≤ length reader.old.bytes.now }
     requires few { header.externals ≤ 1024 }
     ensures read { Reads number_of (λ p. pointers_from p.externals.items p.relocs.items p.threads.items)
-        ((used_pointers segments.now header).read reader.old.bytes.now reader.old.at) reader.new.at result }
-    ensures same { reader.new.bytes.now ≡ reader.old.bytes.now }
+        (used_pointers segments.now header).read reader.old reader.new result }
 {
     let start = reader.at;
     let pointers = read_pointers(alloc, reader, segments, header)?;
@@ -107,8 +105,7 @@ fn read_pointers(
     header: Header,
 ) -> Result<Pointers, ReadError<ObjectFault>>
     ensures read { Reads number_of (λ p. pointers_from p.externals.items p.relocs.items p.threads.items)
-        ((pointers_row segments.now header).read reader.old.bytes.now reader.old.at) reader.new.at result }
-    ensures same { reader.new.bytes.now ≡ reader.old.bytes.now }
+        (pointers_row segments.now header).read reader.old reader.new result }
     ensures count { IfOk result (λ p. length p.externals.items ≡ header.externals) }
 {
     let externals = read_externals(alloc, reader, segments, header.externals)?;
@@ -131,7 +128,7 @@ fn test_uses(
 ) -> Result<(), ReadError<ObjectFault>>
     requires few { length externals.now ≤ 1024 }
     requires start { start < 2 ^ 63 }
-    ensures { ReadsAlone number_of (λ _. true)
+    ensures { GivesAlone number_of (λ _. true)
         (answer (first_late start (use_tests (targets_of relocs.now threads.now) segments 0 externals.now)) true 0) 0
         result }
 {

@@ -28,9 +28,7 @@ fn is_bad_reloc(segments: &[Segment], externals: u16, least: u64, reloc: Reloc) 
 /// Reads the fields of a relocation.
 #[tactic(auto, unfolding(crate::specs::Format::reloc_fields))]
 fn read_fields(reader: &mut Reader) -> Result<Reloc, ReadError<ObjectFault>>
-    ensures read { ReadsAlone number_of (λ r. r) (reloc_fields.read reader.old.bytes.now reader.old.at) reader.new.at
-        result }
-    ensures same { reader.new.bytes.now ≡ reader.old.bytes.now }
+    ensures read { ReadsAlone number_of (λ r. r) reloc_fields.read reader.old reader.new result }
 {
     let segment = reader.u16()?;
     let word = reader.u32()?;
@@ -53,8 +51,7 @@ fn read_good_reloc(
     least: u64,
 ) -> Result<Reloc, ReadError<ObjectFault>>
     ensures read { ReadsAlone number_of (λ r. r)
-        ((good_reloc segments.now externals least).read reader.old.bytes.now reader.old.at) reader.new.at result }
-    ensures same { reader.new.bytes.now ≡ reader.old.bytes.now }
+        (good_reloc segments.now externals least).read reader.old reader.new result }
 {
     let at = reader.at;
     let reloc = read_fields(reader)?;
@@ -71,8 +68,7 @@ fn read_reloc(
     least: u64,
 ) -> Result<Reloc, ReadError<ObjectFault>>
     ensures read { ReadsAlone number_of (λ r. r)
-        ((reloc_row segments.now externals least).read reader.old.bytes.now reader.old.at) reader.new.at result }
-    ensures same { reader.new.bytes.now ≡ reader.old.bytes.now }
+        (reloc_row segments.now externals least).read reader.old reader.new result }
 {
     let at = reader.at;
     let mut ahead = Reader {
@@ -126,9 +122,7 @@ pub(crate) fn read_relocs(
     count: u16,
 ) -> Result<Vec<Reloc>, ReadError<ObjectFault>>
     ensures read { Reads number_of (λ relocs. relocs.items)
-        ((times (reloc_row segments.now externals) (λ _ r. place_of r + 1) count 0).read reader.old.bytes.now
-        reader.old.at) reader.new.at result }
-    ensures same { reader.new.bytes.now ≡ reader.old.bytes.now }
+        (times (reloc_row segments.now externals) (λ _ r. place_of r + 1) count 0).read reader.old reader.new result }
 {
     let mut run = RelocRun {
         segments,

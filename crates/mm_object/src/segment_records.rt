@@ -30,9 +30,7 @@ fn are_many(words: usize, count: u32) -> bool
 /// Reads the logarithm of a segment's length in bytes.
 #[tactic(auto, unfolding(crate::specs::Format::log_row))]
 fn read_log(reader: &mut Reader) -> Result<u8, ReadError<ObjectFault>>
-    ensures read { ReadsAlone number_of (λ n. n) (log_row.read reader.old.bytes.now reader.old.at)
-        reader.new.at result }
-    ensures same { reader.new.bytes.now ≡ reader.old.bytes.now }
+    ensures read { ReadsAlone number_of (λ n. n) log_row.read reader.old reader.new result }
     ensures small { IfOk result (λ n. n ≤ 20) }
 {
     let at = reader.at;
@@ -46,9 +44,7 @@ fn read_log(reader: &mut Reader) -> Result<u8, ReadError<ObjectFault>>
 fn read_count(reader: &mut Reader, log: u8, words: usize) -> Result<u32, ReadError<ObjectFault>>
     requires log { log ≤ 20 }
     requires words { words ≤ 131072 }
-    ensures read { ReadsAlone number_of (λ n. n) ((count_row log words).read reader.old.bytes.now reader.old.at)
-        reader.new.at result }
-    ensures same { reader.new.bytes.now ≡ reader.old.bytes.now }
+    ensures read { ReadsAlone number_of (λ n. n) (count_row log words).read reader.old reader.new result }
     ensures small { IfOk result (λ n. words + n ≤ 131072) }
 {
     let at = reader.at;
@@ -79,8 +75,7 @@ fn has_unused_bit(bitmap: &[u8], count: u32) -> bool
 #[tactic(auto, unfolding(crate::specs::Format::bits_row))]
 fn read_bits<'a>(reader: &mut Reader<'a>, count: u32) -> Result<&'a [u8], ReadError<ObjectFault>>
     ensures read { ReadsAlone number_of (λ xs. bits_in count xs.now)
-        ((bits_row count).read reader.old.bytes.now reader.old.at) reader.new.at result }
-    ensures same { reader.new.bytes.now ≡ reader.old.bytes.now }
+        (bits_row count).read reader.old reader.new result }
     ensures long { IfOk result (λ xs. length xs.now ≡ (count + 7) / 8) }
 {
     let at = reader.at;
@@ -105,9 +100,7 @@ fn bit(bitmap: &[u8], place: usize) -> bool
 /// Reads a word, which is full or empty.
 #[tactic(auto, unfolding(crate::specs::Format::item_row))]
 fn read_item(reader: &mut Reader, full: bool) -> Result<Item, ReadError<ObjectFault>>
-    ensures read { ReadsAlone number_of (λ i. i) ((item_row full).read reader.old.bytes.now reader.old.at)
-        reader.new.at result }
-    ensures same { reader.new.bytes.now ≡ reader.old.bytes.now }
+    ensures read { ReadsAlone number_of (λ i. i) (item_row full).read reader.old reader.new result }
 {
     let bits = reader.u64()?;
     Ok(Item { bits, full })
@@ -122,8 +115,7 @@ fn read_items(
 ) -> Result<Vec<Item>, ReadError<ObjectFault>>
     requires { length bitmap.now ≡ (count + 7) / 8 }
     ensures read { Reads number_of (λ items. items.items)
-        ((each item_row (bits_in count bitmap.now)).read reader.old.bytes.now reader.old.at) reader.new.at result }
-    ensures same { reader.new.bytes.now ≡ reader.old.bytes.now }
+        (each item_row (bits_in count bitmap.now)).read reader.old reader.new result }
     ensures count { IfOk result (λ items. vec_len items ≡ count) }
 {
     let count = count as usize;
@@ -145,9 +137,7 @@ fn read_segment(
 ) -> Result<Segment, ReadError<ObjectFault>>
     requires words { words ≡ words_of before.now }
     requires few { words ≤ 131072 }
-    ensures read { Reads number_of (λ s. s) ((segment_row before.now).read reader.old.bytes.now reader.old.at)
-        reader.new.at result }
-    ensures same { reader.new.bytes.now ≡ reader.old.bytes.now }
+    ensures read { Reads number_of (λ s. s) (segment_row before.now).read reader.old reader.new result }
     ensures few { IfOk result (λ s. words + length s.items ≤ 131072) }
 {
     let at = reader.at;
@@ -167,8 +157,7 @@ pub(crate) fn read_segments(
     count: u16,
 ) -> Result<Vec<Segment>, ReadError<ObjectFault>>
     ensures read { Reads number_of (λ segments. segments.items)
-        ((times segment_row push count []).read reader.old.bytes.now reader.old.at) reader.new.at result }
-    ensures same { reader.new.bytes.now ≡ reader.old.bytes.now }
+        (times segment_row push count []).read reader.old reader.new result }
     ensures count { IfOk result (λ segments. vec_len segments ≡ count) }
 {
     let mut segments = Vec::with_capacity(alloc, usize::from(count))?;

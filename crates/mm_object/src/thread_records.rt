@@ -33,9 +33,7 @@ fn is_bad_thread(segments: &[Segment], externals: u16, least: u8, thread: &Threa
 /// Reads a register that is an integer.
 #[tactic(auto, unfolding(crate::specs::Format::integer_row))]
 fn read_integer(reader: &mut Reader) -> Result<Value, ReadError<ObjectFault>>
-    ensures read { ReadsAlone number_of (λ v. v) (integer_row.read reader.old.bytes.now reader.old.at) reader.new.at
-        result }
-    ensures same { reader.new.bytes.now ≡ reader.old.bytes.now }
+    ensures read { ReadsAlone number_of (λ v. v) integer_row.read reader.old reader.new result }
 {
     let number = reader.u64()?;
     Ok(Value::Int(number))
@@ -44,9 +42,7 @@ fn read_integer(reader: &mut Reader) -> Result<Value, ReadError<ObjectFault>>
 /// Reads a register that becomes a pointer.
 #[tactic(auto, unfolding(crate::specs::Format::pointer_row))]
 fn read_pointer(reader: &mut Reader) -> Result<Value, ReadError<ObjectFault>>
-    ensures read { ReadsAlone number_of (λ v. v) (pointer_row.read reader.old.bytes.now reader.old.at) reader.new.at
-        result }
-    ensures same { reader.new.bytes.now ≡ reader.old.bytes.now }
+    ensures read { ReadsAlone number_of (λ v. v) pointer_row.read reader.old reader.new result }
 {
     let perm = read_perm(reader, ObjectFault::Thread)?;
     let at = reader.at;
@@ -58,9 +54,7 @@ fn read_pointer(reader: &mut Reader) -> Result<Value, ReadError<ObjectFault>>
 
 /// Reads a register, which becomes a pointer if it is tagged.
 fn read_value(reader: &mut Reader, tagged: bool) -> Result<Value, ReadError<ObjectFault>>
-    ensures read { ReadsAlone number_of (λ v. v) ((value_row tagged).read reader.old.bytes.now reader.old.at)
-        reader.new.at result }
-    ensures same { reader.new.bytes.now ≡ reader.old.bytes.now }
+    ensures read { ReadsAlone number_of (λ v. v) (value_row tagged).read reader.old reader.new result }
 {
     if tagged {
         read_pointer(reader)
@@ -92,8 +86,7 @@ impl Sixteen<ObjectFault> for Tags {
 #[tactic(auto, using(mm_format::proofs::Loops::flags_sixteen))]
 fn read_registers(reader: &mut Reader, tags: u16) -> Result<[Value; 16], ReadError<ObjectFault>>
     ensures read { ReadsAlone number_of (λ regs. regs)
-        ((each value_row (flags_of tags)).read reader.old.bytes.now reader.old.at) reader.new.at result }
-    ensures same { reader.new.bytes.now ≡ reader.old.bytes.now }
+        (each value_row (flags_of tags)).read reader.old reader.new result }
 {
     read_sixteen(reader, &Tags { tags }, Value::Int(0))
 }
@@ -101,9 +94,7 @@ fn read_registers(reader: &mut Reader, tags: u16) -> Result<[Value; 16], ReadErr
 /// Reads the fields of a thread.
 #[tactic(auto, unfolding(crate::specs::Format::thread_fields, mm_format::specs::Images::mask))]
 fn read_fields(reader: &mut Reader) -> Result<Thread, ReadError<ObjectFault>>
-    ensures read { ReadsAlone number_of (λ t. t) (thread_fields.read reader.old.bytes.now reader.old.at) reader.new.at
-        result }
-    ensures same { reader.new.bytes.now ≡ reader.old.bytes.now }
+    ensures read { ReadsAlone number_of (λ t. t) thread_fields.read reader.old reader.new result }
 {
     let slot = reader.u8()?;
     let group = reader.u8()?;
@@ -135,8 +126,7 @@ fn read_good_thread(
     least: u8,
 ) -> Result<Thread, ReadError<ObjectFault>>
     ensures read { ReadsAlone number_of (λ t. t)
-        ((good_thread segments.now externals least).read reader.old.bytes.now reader.old.at) reader.new.at result }
-    ensures same { reader.new.bytes.now ≡ reader.old.bytes.now }
+        (good_thread segments.now externals least).read reader.old reader.new result }
     ensures slot { IfOk result (λ (t : ThreadValue). t.slot < 16) }
 {
     let at = reader.at;
@@ -154,8 +144,7 @@ fn read_thread(
     least: u8,
 ) -> Result<Thread, ReadError<ObjectFault>>
     ensures read { ReadsAlone number_of (λ t. t)
-        ((thread_row segments.now externals least).read reader.old.bytes.now reader.old.at) reader.new.at result }
-    ensures same { reader.new.bytes.now ≡ reader.old.bytes.now }
+        (thread_row segments.now externals least).read reader.old reader.new result }
     ensures slot { IfOk result (λ (t : ThreadValue). t.slot < 16) }
 {
     let at = reader.at;
@@ -209,9 +198,7 @@ pub(crate) fn read_threads(
     count: u16,
 ) -> Result<Vec<Thread>, ReadError<ObjectFault>>
     ensures read { Reads number_of (λ threads. threads.items)
-        ((times (thread_row segments.now externals) (λ _ t. t.slot + 1) count 0).read reader.old.bytes.now
-        reader.old.at) reader.new.at result }
-    ensures same { reader.new.bytes.now ≡ reader.old.bytes.now }
+        (times (thread_row segments.now externals) (λ _ t. t.slot + 1) count 0).read reader.old reader.new result }
 {
     let mut run = ThreadRun {
         segments,

@@ -34,12 +34,11 @@ returns-in_err-entry-clause-read c =
     let bytes = l.reader.bytes.now in
     let e = c.in_err-entry.field-0.0 in
     let fails = subst (λ xs. FailsOr ⊥ number_of ((load empty xs).read bytes l.reader.at) e) c.as_slice.ensures.value
-    c.in_err-entry.ensures.read in
-    rw (p.1, p.2) (times_stop (load empty) push c.args.count l.counter l.entries.items bytes l.reader.at l.entries.items
-    _ l.invariant.read (omega (arith, c.loop-test.true, c.from-end.ensures)) number_of _ e fails)
-
-pub returns-in_err-entry-clause-same : goal.returns-in_err-entry-clause-same
-returns-in_err-entry-clause-same c = c.in_err-entry.ensures.same ∙ c.loop.invariant.same
+    c.in_err-entry.ensures.read.0 in (
+      rw (p.1, p.2) (times_stop (load empty) push c.args.count l.counter l.entries.items bytes l.reader.at l.entries.items
+          _ l.invariant.read (omega (arith, c.loop-test.true, c.from-end.ensures)) number_of _ e fails),
+      c.in_err-entry.ensures.read.1 ∙ c.loop.invariant.same,
+    )
 
 pub loop-preserved : goal.loop-preserved
 loop-preserved c =
@@ -49,12 +48,12 @@ loop-preserved c =
     let a = c.in_ok-entry.entry in
     let next = c.read_load.new.reader.at in
     let read = subst (λ xs. (load empty xs).read bytes l.reader.at ≡ Got a next) c.as_slice.ensures.value
-    c.in_ok-entry.ensures.read in
+    c.in_ok-entry.ensures.read.0 in
     record {
-      read = rw (c.in_ok-entry.ensures.same, c.push.ensures.items)
+      read = rw (c.in_ok-entry.ensures.read.1, c.push.ensures.items)
           (times_more (load empty) push c.args.count l.counter l.entries.items bytes l.reader.at l.entries.items _
           l.invariant.read (omega (arith, c.loop-test.true, c.from-end.ensures)) a next read);
-      same = c.in_ok-entry.ensures.same ∙ l.invariant.same;
+      same = c.in_ok-entry.ensures.read.1 ∙ l.invariant.same;
       words = rw c.push.ensures.items (each_push (λ (p : Pending). IsWord p.word) l.entries.items a l.invariant.words
           c.in_ok-entry.ensures.holds);
       few = rw c.push.ensures.items (omega (arith, length-append l.entries.items (a ∷ []), l.invariant.few));
@@ -62,6 +61,8 @@ loop-preserved c =
 
 pub returns-clause-read : goal.returns-clause-read
 returns-clause-read c =
-    let l = c.loop in
-    times_read (load c.args.empty) push c.args.count l.counter l.entries.items l.reader.bytes.now l.reader.at
-    l.entries.items _ l.invariant.read (omega (arith, c.loop-test.false, c.from-end.ensures))
+    let l = c.loop in (
+      times_read (load c.args.empty) push c.args.count l.counter l.entries.items l.reader.bytes.now l.reader.at
+          l.entries.items _ l.invariant.read (omega (arith, c.loop-test.false, c.from-end.ensures)),
+      l.invariant.same,
+    )

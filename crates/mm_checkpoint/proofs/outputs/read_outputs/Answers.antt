@@ -12,28 +12,29 @@ put_more (x ∷ os) o = ap (λ rest. put_out x ∷ rest) (put_more os o)
 pub returns-in_err-output-clause-read : goal.returns-in_err-output-clause-read
 returns-in_err-output-clause-read c =
     let p = err_from_is_err_and c.from_residual-in_err-output.result c.from_residual-in_err-output.ensures.1 in
-    let l = c.loop-group in
-    rw (p.1, p.2) (each_stop (output c.args.limit) c.args.groups.now l.group-index 0 l.reader.bytes.now l.reader.at
-    (map put_out l.outputs.items) _ l.invariant.read c.loop-group-test.true number_of _ c.in_err-output.field-0.0
-    c.in_err-output.ensures.read)
-
-pub returns-in_err-output-clause-same : goal.returns-in_err-output-clause-same
-returns-in_err-output-clause-same c = c.in_err-output.ensures.same ∙ c.loop-group.invariant.same
+    let l = c.loop-group in (
+      rw (p.1, p.2) (each_stop (output c.args.limit) c.args.groups.now l.group-index 0 l.reader.bytes.now l.reader.at
+          (map put_out l.outputs.items) _ l.invariant.read c.loop-group-test.true number_of _ c.in_err-output.field-0.0
+          c.in_err-output.ensures.read.0),
+      c.in_err-output.ensures.read.1 ∙ c.loop-group.invariant.same,
+    )
 
 pub loop-group-preserved : goal.loop-group-preserved
 loop-group-preserved c =
     let l = c.loop-group in
     let a = c.in_ok-output.output in
     record {
-      read = rw (c.in_ok-output.ensures.same, c.in_ok-push.ensures.items, put_more l.outputs.items a)
+      read = rw (c.in_ok-output.ensures.read.1, c.in_ok-push.ensures.items, put_more l.outputs.items a)
           (each_more (output c.args.limit) c.args.groups.now l.group-index 0 l.reader.bytes.now l.reader.at
           (map put_out l.outputs.items) _ l.invariant.read c.loop-group-test.true (put_out a)
-          c.read_output.new.reader.at c.in_ok-output.ensures.read);
-      same = c.in_ok-output.ensures.same ∙ l.invariant.same;
+          c.read_output.new.reader.at c.in_ok-output.ensures.read.0);
+      same = c.in_ok-output.ensures.read.1 ∙ l.invariant.same;
     }
 
 pub returns-clause-read : goal.returns-clause-read
 returns-clause-read c =
-    let l = c.loop-group in
-    each_read (output c.args.limit) c.args.groups.now l.group-index 0 l.reader.bytes.now l.reader.at
-    (map put_out l.outputs.items) _ l.invariant.read c.loop-group-test.false
+    let l = c.loop-group in (
+      each_read (output c.args.limit) c.args.groups.now l.group-index 0 l.reader.bytes.now l.reader.at
+          (map put_out l.outputs.items) _ l.invariant.read c.loop-group-test.false,
+      l.invariant.same,
+    )

@@ -10,6 +10,6 @@ returns-clause-read c =
     let said = contents_from f.head f.rows.items (map put_out f.outputs.items) f.pages.items in
     let at = c.read_contents.new.reader.at in (
       at,
-      ap (λ o. after o (λ a n. cond (ltb n (length bytes)) (Bad 13 n) (Got a n))) c.in_ok-file.ensures.read
+      ap (λ o. after o (λ a n. cond (ltb n (length bytes)) (Bad 13 n) (Got a n))) c.in_ok-file.ensures.read.0
           ∙ ap (λ b. cond b (Bad 13 at) (Got said at)) c.in_ok-refuse_if.ensures.right,
     )

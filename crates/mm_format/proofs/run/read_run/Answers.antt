@@ -15,28 +15,29 @@ loop-init g c = record {
 pub returns-in_err-item-clause-read : goal.returns-in_err-item-clause-read
 returns-in_err-item-clause-read g c =
     let p = err_from_is_err_and c.from_residual.result c.from_residual.ensures.1 in
-    let l = c.loop in
-    rw (p.1, p.2) (runs_stop g.R.Run.reads g.R.Run.onward c.args.count l.counter l.run l.reader.bytes.now l.reader.at
-    l.items.items _ l.invariant.read c.loop-test.true g.K.FaultKind.number _ c.in_err-item.field-0.0
-    c.in_err-item.ensures.read)
-
-pub returns-in_err-item-clause-same : goal.returns-in_err-item-clause-same
-returns-in_err-item-clause-same g c = c.in_err-item.ensures.same ∙ c.loop.invariant.same
+    let l = c.loop in (
+      rw (p.1, p.2) (runs_stop g.R.Run.reads g.R.Run.onward c.args.count l.counter l.run l.reader.bytes.now l.reader.at
+          l.items.items _ l.invariant.read c.loop-test.true g.K.FaultKind.number _ c.in_err-item.field-0.0
+          c.in_err-item.ensures.read.0),
+      c.in_err-item.ensures.read.1 ∙ l.invariant.same,
+    )
 
 pub loop-preserved : goal.loop-preserved
 loop-preserved g c =
     let l = c.loop in
     record {
-      read = rw (c.in_ok-push.ensures.items, c.in_ok-item.ensures.same, c.in_ok-item.ensures.next)
+      read = rw (c.in_ok-push.ensures.items, c.in_ok-item.ensures.read.1, c.in_ok-item.ensures.next)
           (runs_more g.R.Run.reads g.R.Run.onward c.args.count l.counter l.run l.reader.bytes.now l.reader.at
           l.items.items _ l.invariant.read c.loop-test.true c.in_ok-item.item c.item.new.reader.at
-          c.in_ok-item.ensures.read);
-      same = c.in_ok-item.ensures.same ∙ l.invariant.same;
+          c.in_ok-item.ensures.read.0);
+      same = c.in_ok-item.ensures.read.1 ∙ l.invariant.same;
       count = c.in_ok-push.ensures.len ∙ ap (λ n. n + 1) l.invariant.count;
     }
 
 pub returns-clause-read : goal.returns-clause-read
 returns-clause-read g c =
-    let l = c.loop in
-    runs_read g.R.Run.reads g.R.Run.onward c.args.count l.counter l.run l.reader.bytes.now l.reader.at l.items.items _
-    l.invariant.read c.loop-test.false
+    let l = c.loop in (
+      runs_read g.R.Run.reads g.R.Run.onward c.args.count l.counter l.run l.reader.bytes.now l.reader.at l.items.items _
+          l.invariant.read c.loop-test.false,
+      l.invariant.same,
+    )

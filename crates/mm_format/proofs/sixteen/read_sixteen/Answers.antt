@@ -21,10 +21,12 @@ loop-place-init g c = record {
 pub returns-in_err-item-clause-read : goal.returns-in_err-item-clause-read
 returns-in_err-item-clause-read g c =
     let p = err_from_is_err_and c.from_residual.result c.from_residual.ensures.1 in
-    let l = c.loop-place in
-    rw (p.1, p.2) (runs_stop (g.S.Sixteen.reads c.args.places.now) (λ k _. k + 1) 16 l.place l.place l.reader.bytes.now
-    l.reader.at (take l.place l.items) _ l.invariant.read c.loop-place-test.true g.K.FaultKind.number _
-    c.in_err-item.field-0.0 c.in_err-item.ensures.read)
+    let l = c.loop-place in (
+      rw (p.1, p.2) (runs_stop (g.S.Sixteen.reads c.args.places.now) (λ k _. k + 1) 16 l.place l.place
+          l.reader.bytes.now l.reader.at (take l.place l.items) _ l.invariant.read c.loop-place-test.true
+          g.K.FaultKind.number _ c.in_err-item.field-0.0 c.in_err-item.ensures.read.0),
+      c.in_err-item.ensures.read.1 ∙ l.invariant.same,
+    )
 
 pub loop-place-preserved : goal.loop-place-preserved
 loop-place-preserved g c =
@@ -32,11 +34,11 @@ loop-place-preserved g c =
     let x = c.in_ok-item.item in
     let more = take_more_set l.items l.place x (omega (arith, l.invariant.count, c.loop-place-test.true)) in
     record {
-      read = rw (c.in_ok-item.ensures.same, more)
+      read = rw (c.in_ok-item.ensures.read.1, more)
           (runs_more (g.S.Sixteen.reads c.args.places.now) (λ k _. k + 1) 16 l.place l.place l.reader.bytes.now
           l.reader.at (take l.place l.items) _ l.invariant.read c.loop-place-test.true x c.item.new.reader.at
-          c.in_ok-item.ensures.read);
-      same = c.in_ok-item.ensures.same ∙ l.invariant.same;
+          c.in_ok-item.ensures.read.0);
+      same = c.in_ok-item.ensures.read.1 ∙ l.invariant.same;
       count = length-set l.items l.place x ∙ l.invariant.count;
       each = rw more
           (each_push g.S.Sixteen.holds (take l.place l.items) x l.invariant.each c.in_ok-item.ensures.each);
@@ -44,11 +46,13 @@ loop-place-preserved g c =
 
 pub returns-clause-read : goal.returns-clause-read
 returns-clause-read g c =
-    let l = c.loop-place in
-    runs_read (g.S.Sixteen.reads c.args.places.now) (λ k _. k + 1) 16 l.place l.place l.reader.bytes.now l.reader.at
-    (take l.place l.items) _ l.invariant.read c.loop-place-test.false
-    ∙ ap (λ xs. Got xs l.reader.at)
-    (take_all l.place l.items (omega (arith, l.invariant.count, c.loop-place-test.false)))
+    let l = c.loop-place in (
+      runs_read (g.S.Sixteen.reads c.args.places.now) (λ k _. k + 1) 16 l.place l.place l.reader.bytes.now l.reader.at
+          (take l.place l.items) _ l.invariant.read c.loop-place-test.false
+          ∙ ap (λ xs. Got xs l.reader.at)
+          (take_all l.place l.items (omega (arith, l.invariant.count, c.loop-place-test.false))),
+      l.invariant.same,
+    )
 
 pub returns-clause-each : goal.returns-clause-each
 returns-clause-each g c =

@@ -31,13 +31,12 @@ returns-in_err-word-clause-read c =
     let bytes = l.reader.bytes.now in
     let tags = bits_in 512 c.args.tags.now in
     let fails = subst (λ b. FailsOr ⊥ number_of ((word b).read bytes l.reader.at) c.in_err-word.field-0.0)
-    (c.bit.ensures ∙ bits_item 512 c.args.tags.now l.place c.loop-place-test.true) c.in_err-word.ensures.read in
-    rw (p.1, p.2) (each_stop word tags l.place false bytes l.reader.at (map word_in l.cells.items) _ l.invariant.read
-    (omega (arith, bits_count 512 c.args.tags.now, c.loop-place-test.true)) number_of _ c.in_err-word.field-0.0
-    (fails_so number_of _ _ c.in_err-word.field-0.0 fails))
-
-pub returns-in_err-word-clause-same : goal.returns-in_err-word-clause-same
-returns-in_err-word-clause-same c = c.in_err-word.ensures.same ∙ c.loop-place.invariant.same
+    (c.bit.ensures ∙ bits_item 512 c.args.tags.now l.place c.loop-place-test.true) c.in_err-word.ensures.read.0 in (
+      rw (p.1, p.2) (each_stop word tags l.place false bytes l.reader.at (map word_in l.cells.items) _ l.invariant.read
+          (omega (arith, bits_count 512 c.args.tags.now, c.loop-place-test.true)) number_of _ c.in_err-word.field-0.0
+          (fails_so number_of _ _ c.in_err-word.field-0.0 fails)),
+      c.in_err-word.ensures.read.1 ∙ c.loop-place.invariant.same,
+    )
 
 pub loop-place-preserved : goal.loop-place-preserved
 loop-place-preserved c =
@@ -49,9 +48,9 @@ loop-place-preserved c =
     let next = c.read_word.new.reader.at in
     let cell : Cell = record { word = w; full = c.bit-in-loop-place.result } in
     let read = subst (λ b. (word b).read bytes l.reader.at ≡ Got w next)
-    (c.bit.ensures ∙ bits_item 512 c.args.tags.now l.place c.loop-place-test.true) c.in_ok-word.ensures.read in
+    (c.bit.ensures ∙ bits_item 512 c.args.tags.now l.place c.loop-place-test.true) c.in_ok-word.ensures.read.0 in
     record {
-      read = rw (c.in_ok-word.ensures.same, c.in_ok-push.ensures.items, map_push word_in l.cells.items cell)
+      read = rw (c.in_ok-word.ensures.read.1, c.in_ok-push.ensures.items, map_push word_in l.cells.items cell)
           (each_more word tags l.place false bytes l.reader.at (map word_in l.cells.items) _ l.invariant.read
           (omega (arith, bits_count 512 c.args.tags.now, c.loop-place-test.true)) w next read);
       full = rw c.in_ok-push.ensures.items (map_push full_in l.cells.items cell
@@ -59,15 +58,17 @@ loop-place-preserved c =
           ∙ ap (λ b. take l.place full ++ b ∷ [])
           (c.bit-in-loop-place.ensures ∙ bits_item 512 c.args.full.now l.place c.loop-place-test.true)
           ∙ sym (take_more full l.place (omega (arith, bits_count 512 c.args.full.now, c.loop-place-test.true))));
-      same = c.in_ok-word.ensures.same ∙ l.invariant.same;
+      same = c.in_ok-word.ensures.read.1 ∙ l.invariant.same;
       count = c.in_ok-push.ensures.len ∙ ap (λ n. n + 1) l.invariant.count;
     }
 
 pub returns-clause-read : goal.returns-clause-read
 returns-clause-read c =
-    let l = c.loop-place in
-    each_read word (bits_in 512 c.args.tags.now) l.place false l.reader.bytes.now l.reader.at (map word_in l.cells.items) _
-    l.invariant.read (omega (arith, bits_count 512 c.args.tags.now, c.loop-place-test.false))
+    let l = c.loop-place in (
+      each_read word (bits_in 512 c.args.tags.now) l.place false l.reader.bytes.now l.reader.at (map word_in l.cells.items) _
+          l.invariant.read (omega (arith, bits_count 512 c.args.tags.now, c.loop-place-test.false)),
+      l.invariant.same,
+    )
 
 pub returns-clause-full : goal.returns-clause-full
 returns-clause-full c =

@@ -11,6 +11,6 @@ returns c =
     let bytes = c.args.bytes.now in
     let at = c.read_image.new.reader.at in (
       at,
-      ap (λ o. after o (λ a n. cond (ltb n (length bytes)) (Bad 13 n) (Got a n))) c.in_ok-image.ensures.read
+      ap (λ o. after o (λ a n. cond (ltb n (length bytes)) (Bad 13 n) (Got a n))) c.in_ok-image.ensures.read.0
           ∙ ap (λ b. cond b (Bad 13 at) (Got c.in_ok-image.image at)) c.in_ok-refuse_if.ensures.right,
     )

@@ -25,12 +25,11 @@ returns-in_err-name-clause-read c =
     let bytes = l.reader.bytes.now in
     let e = c.in_err-name.field-0.0 in
     let fails = subst (λ (xs : List (List ℕ)). FailsOr ⊥ number_of ((row xs).read bytes l.reader.at) e)
-    c.deref.ensures.value (c.in_err-name.ensures.read c.args.segments.now c.in_ok-known.ensures) in
-    rw (p.1, p.2) (times_stop row push c.args.count l.counter l.names.items bytes l.reader.at l.names.items _
-    l.invariant.read (omega (arith, c.loop-test.true, c.from-end.ensures)) number_of _ e (fails_so number_of _ _ e fails))
-
-pub returns-in_err-name-clause-same : goal.returns-in_err-name-clause-same
-returns-in_err-name-clause-same c = c.in_err-name.ensures.same ∙ c.loop.invariant.same
+    c.deref.ensures.value (c.in_err-name.ensures.read c.args.segments.now c.in_ok-known.ensures).0 in (
+      rw (p.1, p.2) (times_stop row push c.args.count l.counter l.names.items bytes l.reader.at l.names.items _
+          l.invariant.read (omega (arith, c.loop-test.true, c.from-end.ensures)) number_of _ e (fails_so number_of _ _ e fails)),
+      (c.in_err-name.ensures.read c.args.segments.now c.in_ok-known.ensures).1 ∙ c.loop.invariant.same,
+    )
 
 pub loop-preserved : goal.loop-preserved
 loop-preserved c =
@@ -39,21 +38,24 @@ loop-preserved c =
     let bytes = l.reader.bytes.now in
     let a = c.in_ok-name.name in
     let next = c.read_external.new.reader.at in
+    let given = c.in_ok-name.ensures.read c.args.segments.now c.in_ok-known.ensures in
     let read = subst (λ (xs : List (List ℕ)). (row xs).read bytes l.reader.at ≡ Got a next) c.deref.ensures.value
-    (c.in_ok-name.ensures.read c.args.segments.now c.in_ok-known.ensures) in
+    given.0 in
     record {
-      read = rw (c.in_ok-name.ensures.same, c.in_ok-push.ensures.items)
+      read = rw (given.1, c.in_ok-push.ensures.items)
           (times_more row push c.args.count l.counter l.names.items bytes l.reader.at l.names.items _ l.invariant.read
           (omega (arith, c.loop-test.true, c.from-end.ensures)) a next read);
-      same = c.in_ok-name.ensures.same ∙ l.invariant.same;
+      same = given.1 ∙ l.invariant.same;
       count = c.in_ok-push.ensures.len ∙ ap (λ n. n + 1) l.invariant.count;
     }
 
 pub returns-clause-read : goal.returns-clause-read
 returns-clause-read c =
-    let l = c.loop in
-    times_read (external_row c.args.segments.now) push c.args.count l.counter l.names.items l.reader.bytes.now
-    l.reader.at l.names.items _ l.invariant.read (omega (arith, c.loop-test.false, c.from-end.ensures))
+    let l = c.loop in (
+      times_read (external_row c.args.segments.now) push c.args.count l.counter l.names.items l.reader.bytes.now
+          l.reader.at l.names.items _ l.invariant.read (omega (arith, c.loop-test.false, c.from-end.ensures)),
+      l.invariant.same,
+    )
 
 pub returns-clause-count : goal.returns-clause-count
 returns-clause-count c =

@@ -11,6 +11,6 @@ returns c =
     let bytes = c.args.bytes.now in
     let at = c.read_object.new.reader.at in (
       at,
-      ap (λ o. after o (λ a n. cond (ltb n (length bytes)) (Bad 9 n) (Got a n))) c.in_ok-object.ensures.read
+      ap (λ o. after o (λ a n. cond (ltb n (length bytes)) (Bad 9 n) (Got a n))) c.in_ok-object.ensures.read.0
           ∙ ap (λ b. cond b (Bad 9 at) (Got c.in_ok-object.object at)) c.in_ok-refuse_if.ensures.right,
     )

@@ -10,18 +10,18 @@ read_used-requires-clause-start c =
     let r = c.args.reader.now in
     let h = c.in_ok-header.header in
     let middle = c.read_header.new.reader.at in
-    let same = c.in_ok-header.ensures.same in
-    let low = read_within header_is r.bytes.now c.requires.bytes r.at h middle c.requires.front c.in_ok-header.ensures.read in
-    let segments = rw same at c.in_ok-segments.ensures.read in
+    let same = c.in_ok-header.ensures.read.1 in
+    let low = read_within header_is r.bytes.now c.requires.bytes r.at h middle c.requires.front c.in_ok-header.ensures.read.0 in
+    let segments = rw same at c.in_ok-segments.ensures.read.0 in
     let end = read_within (times_is segment_row push segment_is h.segments []) r.bytes.now c.requires.bytes middle _ _ low
     segments in
-    rw (c.in_ok-segments.ensures.same, same) end
+    rw (c.in_ok-segments.ensures.read.1, same) end
 
-pub returns-clause-read : goal.returns-clause-read
+pub returns : goal.returns
 unfolding object
-returns-clause-read c = search rules
+returns c = search rules
 
 pub invariant_of-result : goal.invariant_of-result
 invariant_of-result c =
     let r = c.args.reader.now in
-    object_fits _ (object_is.sound r.bytes.now c.requires.bytes r.at _ _ (returns-clause-read c)).0
+    object_fits _ (object_is.sound r.bytes.now c.requires.bytes r.at _ _ (returns c).read.0).0

@@ -5,8 +5,8 @@ use Rattle.mm_object.specs.Format.{reloc_row}
 use Rattle.mm_object.specs.Objects.{place_of}
 use Rattle.mm_object.proofs.reloc_records.read_relocs.Goals as goal
 
-pub returns-clause-read : goal.returns-clause-read
-returns-clause-read c =
+pub returns : goal.returns
+returns c =
     let segments = c.args.segments in
     let externals = c.args.externals in
     let to : ℕ → RelocRun = λ least. record { segments = segments; externals = externals; least = least } in
@@ -16,4 +16,4 @@ returns-clause-read c =
     ∙ runs_told to (λ s. (reloc_row s.segments.now s.externals s.least).read) (λ _ r. place_of r + 1)
     (λ s r. record { segments = s.segments; externals = s.externals; least = place_of r + 1 }) (λ s a. refl) c.args.count 0
     bytes at in
-    rw same (rw c.from.ensures at c.read_run.ensures.read)
+    record { read = rw same (rw c.from.ensures at c.read_run.ensures.read) }

@@ -17,13 +17,12 @@ returns-in_err-item-clause-read c =
     let flags = bits_in c.args.count c.args.bitmap.now in
     let e = c.in_err-item.field-0.0 in
     let fails = subst (λ b. FailsOr ⊥ number_of ((item_row b).read bytes l.reader.at) e)
-    (c.bit.ensures ∙ bits_item c.args.count c.args.bitmap.now l.k c.loop-k-test.true) c.in_err-item.ensures.read in
-    rw (p.1, p.2) (each_stop item_row flags l.k false bytes l.reader.at l.items.items _ l.invariant.read
-    (omega (arith, bits_count c.args.count c.args.bitmap.now, c.loop-k-test.true)) number_of _ e
-    (fails_so number_of _ _ e fails))
-
-pub returns-in_err-item-clause-same : goal.returns-in_err-item-clause-same
-returns-in_err-item-clause-same c = c.in_err-item.ensures.same ∙ c.loop-k.invariant.same
+    (c.bit.ensures ∙ bits_item c.args.count c.args.bitmap.now l.k c.loop-k-test.true) c.in_err-item.ensures.read.0 in (
+      rw (p.1, p.2) (each_stop item_row flags l.k false bytes l.reader.at l.items.items _ l.invariant.read
+          (omega (arith, bits_count c.args.count c.args.bitmap.now, c.loop-k-test.true)) number_of _ e
+          (fails_so number_of _ _ e fails)),
+      c.in_err-item.ensures.read.1 ∙ c.loop-k.invariant.same,
+    )
 
 pub loop-k-preserved : goal.loop-k-preserved
 loop-k-preserved c =
@@ -33,17 +32,19 @@ loop-k-preserved c =
     let a = c.in_ok-item.item in
     let next = c.read_item.new.reader.at in
     let read = subst (λ b. (item_row b).read bytes l.reader.at ≡ Got a next)
-    (c.bit.ensures ∙ bits_item c.args.count c.args.bitmap.now l.k c.loop-k-test.true) c.in_ok-item.ensures.read in
+    (c.bit.ensures ∙ bits_item c.args.count c.args.bitmap.now l.k c.loop-k-test.true) c.in_ok-item.ensures.read.0 in
     record {
-      read = rw (c.in_ok-item.ensures.same, c.in_ok-push.ensures.items)
+      read = rw (c.in_ok-item.ensures.read.1, c.in_ok-push.ensures.items)
           (each_more item_row flags l.k false bytes l.reader.at l.items.items _ l.invariant.read
           (omega (arith, bits_count c.args.count c.args.bitmap.now, c.loop-k-test.true)) a next read);
-      same = c.in_ok-item.ensures.same ∙ l.invariant.same;
+      same = c.in_ok-item.ensures.read.1 ∙ l.invariant.same;
       count = c.in_ok-push.ensures.len ∙ ap (λ n. n + 1) l.invariant.count;
     }
 
 pub returns-clause-read : goal.returns-clause-read
 returns-clause-read c =
-    let l = c.loop-k in
-    each_read item_row (bits_in c.args.count c.args.bitmap.now) l.k false l.reader.bytes.now l.reader.at l.items.items _
-    l.invariant.read (omega (arith, bits_count c.args.count c.args.bitmap.now, c.loop-k-test.false))
+    let l = c.loop-k in (
+      each_read item_row (bits_in c.args.count c.args.bitmap.now) l.k false l.reader.bytes.now l.reader.at l.items.items _
+          l.invariant.read (omega (arith, bits_count c.args.count c.args.bitmap.now, c.loop-k-test.false)),
+      l.invariant.same,
+    )

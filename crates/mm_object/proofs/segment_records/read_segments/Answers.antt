@@ -32,12 +32,11 @@ returns-in_err-segment-clause-read c =
     let bytes = l.reader.bytes.now in
     let e = c.in_err-segment.field-0.0 in
     let fails = subst (λ (xs : List Segment). FailsOr (Unit {0}) number_of ((segment_row xs).read bytes l.reader.at) e)
-    c.deref.ensures.value c.in_err-segment.ensures.read in
-    rw (p.1, p.2) (times_stop segment_row push c.args.count l.counter l.segments.items bytes l.reader.at l.segments.items
-    _ l.invariant.read (omega (arith, c.loop-test.true, c.from-end.ensures)) number_of _ e fails)
-
-pub returns-in_err-segment-clause-same : goal.returns-in_err-segment-clause-same
-returns-in_err-segment-clause-same c = c.in_err-segment.ensures.same ∙ c.loop.invariant.same
+    c.deref.ensures.value c.in_err-segment.ensures.read.0 in (
+      rw (p.1, p.2) (times_stop segment_row push c.args.count l.counter l.segments.items bytes l.reader.at l.segments.items
+          _ l.invariant.read (omega (arith, c.loop-test.true, c.from-end.ensures)) number_of _ e fails),
+      c.in_err-segment.ensures.read.1 ∙ c.loop.invariant.same,
+    )
 
 pub loop-preserved : goal.loop-preserved
 loop-preserved c =
@@ -47,14 +46,14 @@ loop-preserved c =
     let next = c.read_segment.new.reader.at in
     let given = c.in_ok-segment.ensures in
     let read = subst (λ (xs : List Segment). (segment_row xs).read bytes l.reader.at ≡ Got s next) c.deref.ensures.value
-    given.read in
+    given.read.0 in
     let items : c.len-words.result ≡ length s.items =
     omega (arith, c.len-words.ensures, c.segment.inside.items.ok.0, ap (λ (x : Segment). length x.items) c.segment.view_is) in
     record {
-      read = rw (given.same, c.in_ok-push.ensures.items)
+      read = rw (given.read.1, c.in_ok-push.ensures.items)
           (times_more segment_row push c.args.count l.counter l.segments.items bytes l.reader.at l.segments.items _
           l.invariant.read (omega (arith, c.loop-test.true, c.from-end.ensures)) s next read);
-      same = given.same ∙ l.invariant.same;
+      same = given.read.1 ∙ l.invariant.same;
       words = ap (λ n. l.words + n) items ∙ ap (λ n. n + length s.items) l.invariant.words
           ∙ sym (words_of-push l.segments.items s)
           ∙ ap words_of (sym c.in_ok-push.ensures.items);
@@ -64,6 +63,8 @@ loop-preserved c =
 
 pub returns-clause-read : goal.returns-clause-read
 returns-clause-read c =
-    let l = c.loop in
-    times_read segment_row push c.args.count l.counter l.segments.items l.reader.bytes.now l.reader.at l.segments.items _
-    l.invariant.read (omega (arith, c.loop-test.false, c.from-end.ensures))
+    let l = c.loop in (
+      times_read segment_row push c.args.count l.counter l.segments.items l.reader.bytes.now l.reader.at l.segments.items _
+          l.invariant.read (omega (arith, c.loop-test.false, c.from-end.ensures)),
+      l.invariant.same,
+    )

@@ -4,8 +4,8 @@ use Rattle.mm_object.specs.declared.thread_records.ThreadRun.{ThreadRun}
 use Rattle.mm_object.specs.Format.{thread_row}
 use Rattle.mm_object.proofs.thread_records.read_threads.Goals as goal
 
-pub returns-clause-read : goal.returns-clause-read
-returns-clause-read c =
+pub returns : goal.returns
+returns c =
     let segments = c.args.segments in
     let externals = c.args.externals in
     let to : ℕ → ThreadRun = λ least. record { segments = segments; externals = externals; least = least } in
@@ -15,4 +15,4 @@ returns-clause-read c =
     ∙ runs_told to (λ s. (thread_row s.segments.now s.externals s.least).read) (λ _ r. r.slot + 1)
     (λ s r. record { segments = s.segments; externals = s.externals; least = r.slot + 1 }) (λ s a. refl) c.args.count 0
     bytes at in
-    rw same (rw c.from.ensures at c.read_run.ensures.read)
+    record { read = rw same (rw c.from.ensures at c.read_run.ensures.read) }

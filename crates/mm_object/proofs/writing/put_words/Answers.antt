@@ -1,4 +1,4 @@
-use Rattle.std.proofs.{Common.{◌++◌, List, ℕ, sym, ap, ◌∙◌, arith}, lemmas.{Grind.common_steps, List.take_all}}
+use Rattle.std.proofs.{Common.{◌++◌, List, ℕ, sym, ap, ◌∙◌}, lemmas.{List.take_all}}
 use Rattle.std.specs.{List.flat_map, Int.{w64, to_be_bytes}}
 use Rattle.mm_format.proofs.Lists.{each_own}
 use Rattle.mm_object.specs.declared.item.Item.{Item}
