@@ -43,7 +43,8 @@ pub(crate) fn read_registers(
     tags: u16,
     empty: u16,
 ) -> Result<[Word; 16], ReadError<ImageFault>>
-    ensures read { ReadsAlone number_of (λ regs. regs) (each register (beside (flags_of tags) (flags 16 empty))).read reader.old reader.new result }
+    ensures read { ReadsAlone number_of (λ regs. regs)
+        (each register (beside (flags_of tags) (flags 16 empty))).read reader.old reader.new result }
     ensures count { IfOk result (λ regs. length regs ≡ 16) }
     ensures words { IfOk result (λ regs. AllByRecursion IsWord regs) }
 {

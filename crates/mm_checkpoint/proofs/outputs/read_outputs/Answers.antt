@@ -9,15 +9,14 @@ put_more : (os : List Output) (o : Output) → map put_out (os ++ o ∷ []) ≡ 
 put_more [] o = refl
 put_more (x ∷ os) o = ap (λ rest. put_out x ∷ rest) (put_more os o)
 
-pub returns-in_err-output-clause-read : goal.returns-in_err-output-clause-read
-returns-in_err-output-clause-read c =
+pub returns-in_err-output : goal.returns-in_err-output
+returns-in_err-output c =
     let p = err_from_is_err_and c.from_residual-in_err-output.result c.from_residual-in_err-output.ensures.1 in
-    let l = c.loop-group in (
-      rw (p.1, p.2) (each_stop (output c.args.limit) c.args.groups.now l.group-index 0 l.reader.bytes.now l.reader.at
-          (map put_out l.outputs.items) _ l.invariant.read c.loop-group-test.true number_of _ c.in_err-output.field-0.0
-          c.in_err-output.ensures.read.0),
-      c.in_err-output.ensures.read.1 ∙ c.loop-group.invariant.same,
-    )
+    let l = c.loop-group in
+    let stopped = each_stop (output c.args.limit) c.args.groups.now l.group-index 0 l.reader.bytes.now l.reader.at
+    (map put_out l.outputs.items) _ l.invariant.read c.loop-group-test.true number_of _ c.in_err-output.field-0.0
+    c.in_err-output.ensures.read.0 in
+    record { read = (rw (p.1, p.2) stopped, c.in_err-output.ensures.read.1 ∙ l.invariant.same) }
 
 pub loop-group-preserved : goal.loop-group-preserved
 loop-group-preserved c =
@@ -31,10 +30,9 @@ loop-group-preserved c =
       same = c.in_ok-output.ensures.read.1 ∙ l.invariant.same;
     }
 
-pub returns-clause-read : goal.returns-clause-read
-returns-clause-read c =
-    let l = c.loop-group in (
-      each_read (output c.args.limit) c.args.groups.now l.group-index 0 l.reader.bytes.now l.reader.at
-          (map put_out l.outputs.items) _ l.invariant.read c.loop-group-test.false,
-      l.invariant.same,
-    )
+pub returns : goal.returns
+returns c =
+    let l = c.loop-group in
+    let read = each_read (output c.args.limit) c.args.groups.now l.group-index 0 l.reader.bytes.now l.reader.at
+    (map put_out l.outputs.items) _ l.invariant.read c.loop-group-test.false in
+    record { read = (read, l.invariant.same) }
