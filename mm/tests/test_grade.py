@@ -95,6 +95,18 @@ class Grade(unittest.TestCase):
         self.assertEqual(said(b"a" * 41), f'it says "{"a" * 40}" and 1 more byte')
         self.assertEqual(said(b'"\n'), 'it says "\\"\\n"')
 
+    @unittest.skipUnless(hasattr(os, "mkfifo"), "there are no pipes with names")
+    def test_a_pipe_is_no_answer(self):
+        """To read it might never end."""
+        with tempfile.TemporaryDirectory() as room:
+            pipe = os.path.join(room, "answer.asm")
+            os.mkfifo(pipe)
+            for name in (pipe, "/dev/zero"):
+                ended = mm("grade", "1.1", name)
+                self.assertEqual((ended.status, ended.out), (2, ""))
+                self.assertIn(f"{name}: error: is a pipe or a device, and no file", ended.err)
+        self.assertEqual(mm("grade", "1.1", "examples").status, 3)
+
     def test_words_are_asked_for(self):
         self.assertIn("lab-5", mm("help", "grade").out)
 
