@@ -84,6 +84,8 @@ class Shell:
                 return input(prompt)
             line = sys.stdin.readline()
         except EOFError:
+            if prompt != PROMPT:
+                self.console.write([""])
             return None
         if not line:
             return None

@@ -1,6 +1,7 @@
 """That `mm` holds: names that are options for others, lines of megabytes, streams that are closed, files that are outputs and inputs,
 signals, and a program that is no `mmachine`."""
 
+import json
 import os
 import shutil
 import signal
@@ -159,6 +160,20 @@ class Streams(unittest.TestCase):
             self.assertNotIn(b"Traceback", ended.stderr)
             self.assertIn(b"is no item of a schedule", ended.stderr)
             self.assertTrue(os.path.getsize(os.path.join(room, "v.html")) > 10_000)
+
+    def test_names_that_are_no_text_in_json(self):
+        """Each text in JSON can be written as UTF-8."""
+        with folder() as room:
+            write(room, "p.asm", GOOD)
+            for command in ("run", "trace", "symbols"):
+                ended = shell(f"cp p.asm \"$(printf '\\377\"x').asm\"; mm {command} --json \"$(printf '\\377\"x').asm\"", room)
+                self.assertEqual(ended.returncode, 0)
+                form = json.dumps(json.loads(ended.stdout), ensure_ascii=False)
+                self.assertIn('\\\\xff\\"x.asm', form)
+                form.encode("utf-8")
+
+    def test_a_name_of_no_letters(self):
+        self.assertIn('"": error: cannot be read', mm("run", "").err)
 
     def test_a_folder_that_is_not_there(self):
         ended = mm("run", "no/such/p.asm")
