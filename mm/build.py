@@ -114,7 +114,10 @@ def _beside(name: str, error: OSError) -> list[str]:
     found = [one for one in meant if one in there]
     if found:
         return [f"there is {os.path.join(folder, found[0])}"]
-    return [f"names of files are looked up from the folder {os.getcwd()} on"]
+    try:
+        return [f"names of files are looked up from the folder {os.getcwd()} on"]
+    except OSError:
+        return ["the folder from which names of files are looked up is not there any more"]
 
 
 def _inside(folder: str) -> list[str]:

@@ -15,6 +15,8 @@ from mm.status import Status, Stop
 PROMPT, INNER = "(mm) ", ">"
 WRITES = ("echo ", "printf ")
 MOST_SAID = 400
+# No line of a person is longer, and one without an end is read by nobody.
+LONGEST_LINE = 1_000_000
 # What an empty line does not do again.
 ONCE = ("break", "tbreak", "watch", "rwatch", "awatch", "delete", "display", "undisplay", "condition", "ignore", "enable", "disable",
     "commands", "run")
@@ -82,7 +84,9 @@ class Shell:
         try:
             if self.terminal:
                 return input(prompt)
-            line = sys.stdin.readline()
+            line = sys.stdin.readline(LONGEST_LINE + 1)
+            if len(line) > LONGEST_LINE:
+                raise Stop(Status.REFUSED, f"mm: a line of the input has more than {LONGEST_LINE} letters")
         except EOFError:
             if prompt != PROMPT:
                 self.console.write([""])

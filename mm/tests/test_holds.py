@@ -185,6 +185,21 @@ class Streams(unittest.TestCase):
         self.assertEqual(ended.status, 2)
         self.assertIn("is too long", ended.err)
 
+    def test_an_input_without_an_end(self):
+        with folder() as room:
+            write(room, "p.asm", GOOD)
+            for line, why in (("mm debug p.asm </dev/zero", "a line of the input has more than"),
+                    ("mm link p.asm -o p.img; mm check-why p.img 0 0x100000 touch </dev/zero", "the derivation has more than")):
+                ended = shell(line, room)
+                self.assertEqual(ended.returncode, 2)
+                self.assertIn(why, ended.stderr.decode())
+
+    def test_a_folder_that_is_gone(self):
+        with folder() as room:
+            ended = shell("mkdir d; cd d; rmdir ../d; mm run x.asm", room)
+        self.assertEqual(ended.returncode, 3)
+        self.assertIn(b"x.asm: error: cannot be read", ended.stderr)
+
     def test_an_expression_without_an_end(self):
         with folder() as room:
             source = write(room, "p.asm", GOOD)
