@@ -2,6 +2,8 @@
 
 import glob
 import os
+import subprocess
+import sys
 import tempfile
 import unittest
 
@@ -9,7 +11,7 @@ from mm.grading.checks import CHECKS, said
 from mm.grading.sheet import FORMS, SETTINGS, read_sheet
 from mm.machine.program import CHECKOUT
 from mm.status import Stop
-from mm.tests.support import mm, read
+from mm.tests.support import mm, path_of, read
 
 GRADE = os.path.join(CHECKOUT, "docs", "course", "grade")
 ANSWERS = {
@@ -102,9 +104,10 @@ class Grade(unittest.TestCase):
             pipe = os.path.join(room, "answer.asm")
             os.mkfifo(pipe)
             for name in (pipe, "/dev/zero"):
-                ended = mm("grade", "1.1", name)
-                self.assertEqual((ended.status, ended.out), (2, ""))
-                self.assertIn(f"{name}: error: is a pipe or a device, and no file", ended.err)
+                words = [sys.executable, path_of("bin", "mm"), "grade", "1.1", name]
+                ended = subprocess.run(words, capture_output=True, text=True, check=False, timeout=60)
+                self.assertEqual((ended.returncode, ended.stdout), (2, ""))
+                self.assertIn(f"{name}: error: is a pipe or a device, and no file", ended.stderr)
         self.assertEqual(mm("grade", "1.1", "examples").status, 3)
 
     def test_words_are_asked_for(self):

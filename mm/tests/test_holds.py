@@ -293,7 +293,21 @@ class Outputs(unittest.TestCase):
 
 
 class Starts(unittest.TestCase):
-    """A start costs what it imports."""
+    """A start costs what it imports, and can be interrupted from the beginning."""
+
+    def test_an_interrupt_while_it_imports(self):
+        said = (
+            "import runpy, sys\n"
+            "class Finder:\n"
+            "    def find_spec(self, name, path=None, target=None):\n"
+            "        if name == at: raise KeyboardInterrupt\n"
+            "at, sys.argv = sys.argv[1], ['mm', 'help']\n"
+            "sys.meta_path.insert(0, Finder())\n"
+            f"runpy.run_path({path_of('bin', 'mm')!r}, run_name='__main__')\n"
+        )
+        for name in ("mm.main", "mm.console", "mm.commands.help"):
+            ended = subprocess.run([sys.executable, "-c", said, name], capture_output=True, check=False)
+            self.assertEqual((ended.returncode, ended.stdout, ended.stderr.strip()), (130, b"", b""))
 
     def imported(self, *words):
         said = "import sys; from mm.main import main; main(sys.argv[1:]); print(*sys.modules, sep='\\n', file=sys.stderr)"
