@@ -25,7 +25,8 @@ if TYPE_CHECKING:
     from mm.outputs.refusal import Refusal
     from mm.source.mend import Mender
 
-MOST_ERRORS = 20
+# So many errors of a source are shown: the first ones, of as many as are looked for. In a long source fewer are looked for.
+MOST_ERRORS, MOST_FOUND, LONG_SOURCE = 20, 100, 100_000
 LONGEST_FILE = IMAGE_LIMIT
 C_SUFFIX = ".c"
 UTF_16 = (b"\xff\xfe", b"\xfe\xff")
@@ -39,6 +40,12 @@ def _diagnostic(path: str, message: str, hints: Sequence[str] = ()) -> Diagnosti
     from mm.messages.diagnostic import Diagnostic
 
     return Diagnostic(path, message, hints=list(hints))
+
+
+def _first_of(status: int, found: list[Diagnostic], more: bool) -> Refused:
+    """The first faults by their lines, and how many there are; none if there are more that were not looked for."""
+    ordered = sorted(found, key=lambda one: (one.line or 0, one.column or 0))
+    return Refused(status, ordered[:MOST_ERRORS], None if more else len(ordered))
 
 
 @dataclass
@@ -107,7 +114,10 @@ def _beside(name: str, error: OSError) -> list[str]:
     found = [one for one in meant if one in there]
     if found:
         return [f"there is {os.path.join(folder, found[0])}"]
-    return [f"names of files are looked up from the folder {os.getcwd()} on"]
+    try:
+        return [f"names of files are looked up from the folder {os.getcwd()} on"]
+    except OSError:
+        return ["the folder from which names of files are looked up is not there any more"]
 
 
 def _inside(folder: str) -> list[str]:
@@ -166,7 +176,8 @@ class Workshop:
         return self._all_faults(name, data, refusal, answer.status)
 
     def _all_faults(self, name: str, data: bytes, refusal: Refusal, status: int) -> Refused:
-        """The first fault, and those that show once it is taken out, up to a limit."""
+        """The first fault, and those that show once it is taken out, up to a limit. A label that is missing shows last, however
+        early it is wanted: so more are looked for than are shown."""
         from mm.messages.sources import explain
         from mm.source.mend import Mender
 
@@ -175,17 +186,16 @@ class Workshop:
         found: list[Diagnostic] = []
         seen: set[tuple[int, int, int]] = set()
         fault, line, column = refusal["fault"], refusal["line"], refusal["column"]
-        while len(found) < MOST_ERRORS and (fault, line, column) not in seen:
+        most = MOST_FOUND if len(data) <= LONG_SOURCE else MOST_ERRORS
+        while len(found) < most and (fault, line, column) not in seen:
             seen.add((fault, line, column))
             told = explain(source, fault, line, column)
             found += [told] if told.name not in mender.dropped else []
             next_one = self._next_fault(mender, fault, line, column)
             if next_one is None:
-                return Refused(status, sorted(found, key=lambda one: (one.line, one.column)))
+                return _first_of(status, found, False)
             fault, line, column = next_one
-        return Refused(
-            status, sorted(found, key=lambda one: (one.line, one.column)), more=(fault, line, column) not in seen
-        )
+        return _first_of(status, found, (fault, line, column) not in seen)
 
     def _next_fault(self, mender: Mender, fault: int, line: int, column: int) -> Optional[tuple[int, int, int]]:
         from mm.outputs.refusal import RefusalKind, read_refusal

@@ -200,6 +200,8 @@ def show_stop(console: Console, stop: Stop) -> None:
     if isinstance(stop, Refused):
         for diagnostic in stop.diagnostics:
             console.tell(*diagnostic.render(console.err_style))
-        if stop.more:
+        if stop.total is None:
             console.tell(f"mm: {len(stop.diagnostics)} errors are shown, and there are more")
+        elif stop.total > len(stop.diagnostics):
+            console.tell(f"mm: {len(stop.diagnostics)} of {stop.total} errors are shown")
     console.tell(*stop.lines)

@@ -3,7 +3,7 @@
 from __future__ import annotations
 
 from enum import IntEnum
-from typing import TYPE_CHECKING, Sequence
+from typing import TYPE_CHECKING, Optional, Sequence
 
 if TYPE_CHECKING:
     from mm.messages.diagnostic import Diagnostic
@@ -37,11 +37,12 @@ class Stop(Exception):
 
 
 class Refused(Stop):
-    """Files that are not what they must be, with a message for each place."""
+    """Files that are not what they must be, with a message for each place, and how many there are in all: as many if nothing is
+    said, and none if there are more and they were not counted."""
 
-    def __init__(self, status: int, diagnostics: Sequence[Diagnostic], more: bool = False) -> None:
+    def __init__(self, status: int, diagnostics: Sequence[Diagnostic], total: Optional[int] = 0) -> None:
         super().__init__(status)
-        self.diagnostics, self.more = list(diagnostics), more
+        self.diagnostics, self.total = list(diagnostics), total
 
 
 def usage(*lines: str) -> Stop:

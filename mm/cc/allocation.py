@@ -5,7 +5,7 @@ from __future__ import annotations
 from bisect import bisect_left, bisect_right, insort
 from typing import Optional
 
-from mm.cc.code import ARGUMENTS, FIRST_KEPT, FRAME, LAST_KEPT, VARIADIC, Call, Code
+from mm.cc.code import ARGUMENTS, FIRST_KEPT, LAST_KEPT, VARIADIC, Call, Code
 from mm.cc.liveness import Interval, Liveness, Range
 
 # After every place of a function.

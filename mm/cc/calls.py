@@ -2,7 +2,6 @@
 
 from __future__ import annotations
 
-import re
 
 from mm.cc.arithmetic import Arithmetic
 from mm.cc.code import ARGUMENTS, Call
@@ -100,7 +99,7 @@ class Calls(Arithmetic):
 
     def variadic_arguments(self, arguments: list[Argument]) -> list[int]:
         """The words that a variadic function reads: each argument at its alignment, at least four bytes."""
-        at, narrow = 0, {}
+        at = 0
         placed: list[tuple[int, int, Argument]] = []
         for argument in arguments:
             type_ = self.layouts.plain(argument.value.type)

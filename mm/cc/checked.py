@@ -114,7 +114,7 @@ class Checked(Translator):
         if after is not None:
             after(made)
         elif made.op in PLAIN:
-            self.plain(made)
+            self.same_operation(made)
 
     # Numbers
 
@@ -122,7 +122,7 @@ class Checked(Translator):
         first, second = (self.second(operand) for operand in made.operands[:2])
         return (first, second) if first is not None and second is not None else None
 
-    def plain(self, made: Instruction) -> None:
+    def same_operation(self, made: Instruction) -> None:
         sides = self.both(made)
         if sides is not None:
             self.keep_second(made.name, self.cut_to(self.op(PLAIN[made.op], *sides), bits_of(made.type)))

@@ -158,9 +158,9 @@ class Emission:
             assert isinstance(free[1], int)
             self.reg("mov", free[0], free[1])
             between.remove(free)
-        for to, source in pairs:
-            if not isinstance(source, int):
-                self.bring(to, source)
+        for to, fixed in pairs:
+            if not isinstance(fixed, int):
+                self.bring(to, fixed)
 
     # Operations
 

@@ -2,7 +2,6 @@
 
 from __future__ import annotations
 
-import re
 from typing import Optional
 
 from mm.cc.ir import (
@@ -19,6 +18,8 @@ from mm.cc.ir import (
 )
 from mm.cc.reading import BASIC, BINARY, CASTS, FLAGS, FLOAT_CASTS, INT, Reader, bare
 from mm.cc.untranslated import Untranslated
+
+BITS = {"true": 1, "false": 0}
 
 
 class InstructionReader(Reader):
@@ -223,8 +224,7 @@ class InstructionReader(Reader):
             number = self.next()
             self.want(",")
             self.want("label")
-            found.cases.append(({"true": 1, "false": 0}.get(number) if number in ("true", "false") else int(number),
-                                bare(self.next())))
+            found.cases.append((BITS[number] if number in BITS else int(number), bare(self.next())))
         return found
 
     def _indirectbr(self) -> Instruction:

@@ -3,7 +3,6 @@ else left out."""
 
 from __future__ import annotations
 
-import re
 from typing import Optional
 
 from mm.cc.calls import Calls

@@ -69,7 +69,7 @@ class ModuleReader:
             self.module.aliases[name] = reader.typed()
             return
         type_ = reader.type()
-        value, why = None, ""
+        value = None
         if not said & {"external", "extern_weak"}:
             try:
                 value = reader.value(type_)
@@ -95,7 +95,8 @@ class ModuleReader:
         result = reader.type()
         name = bare(reader.next())
         reader.want("(")
-        parameters, variadic = [], False
+        parameters: list[Argument] = []
+        variadic = False
         while not reader.take(")"):
             if reader.take("..."):
                 variadic = True

@@ -46,7 +46,7 @@ CONSTANTS = {"null", "undef", "poison", "true", "false", "zeroinitializer", "non
              *CASTS, *BINARY, *FLOATING, *FLOAT_CASTS}
 LINKAGES_INTERNAL = {"private", "internal"}
 LINKAGES_WEAK = {"weak", "weak_odr", "linkonce", "linkonce_odr", "common", "extern_weak", "available_externally"}
-BASIC = {name: FloatType(name) for name in FLOAT_SIZES}
+BASIC: dict[str, Type] = {name: FloatType(name) for name in FLOAT_SIZES}
 BASIC.update({"void": VOID, "label": VOID, "metadata": VOID, "token": VOID, "opaque": VOID, "ptr": POINTER,
               "x86_mmx": VectorType(2, IntType(32))})
 

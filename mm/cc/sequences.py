@@ -89,9 +89,16 @@ class Sequences(Calling):
         assert home is not None, "a temporary register is always there"
         return home
 
+    @staticmethod
+    def pair_of(op: Op) -> tuple[int, int]:
+        """The registers that hold 4 and 32."""
+        assert isinstance(op.extra, tuple)
+        four, half = op.extra
+        return four, half
+
     def _load_four(self, op: Op, form: str) -> None:
         assert op.a is not None
-        four, half = op.extra  # type: ignore[misc]
+        four, half = self.pair_of(op)
         base = self.get(op.a, SCRATCH)
         d = self.target(op.d, SECOND)
         odd, end = self.here(), self.here()
@@ -121,7 +128,7 @@ class Sequences(Calling):
 
     def _store_four(self, op: Op) -> None:
         assert op.a is not None and op.b is not None
-        four, half = op.extra  # type: ignore[misc]
+        four, half = self.pair_of(op)
         word, change = (self.temporary(register) for register in op.temporary)
         base, value = self.get(op.a, SCRATCH), self.get(op.b, SECOND)
         odd, end = self.here(), self.here()

@@ -2,7 +2,7 @@
 
 from __future__ import annotations
 
-from typing import Iterator, Optional
+from typing import Iterator, Optional, Sequence
 
 from mm.cc.doors import check, doors_of, stub, thread_of
 from mm.cc.ir import Function
@@ -47,7 +47,8 @@ class SourceWriter:
         body: list[str] = []
         for text in program.texts:
             body += self.text(text)
-        calls = [(label, None) for label in before] + [(at_exit, label) for label in after]
+        calls: list[tuple[Optional[str], Optional[str]]] = [(made, None) for made in before]
+        calls += [(at_exit, made) for made in after]
         first = self.start(label, calls, leave)
         pool = [f"{name}: .ptr {target}" for target, name in self.pool.items()]
         lines = [f".segment {program.prefix}text {self.log_of_text(first + body, pool)}", *first, *body, *pool]
@@ -108,7 +109,7 @@ class SourceWriter:
             raise Failure("the program", f"{total:,} bytes of segments, more than {MOST_BYTES:,},", None,
                           "`--stack` and `--heap` set the two that are the program's own, `-Os` makes less code")
 
-    def start(self, main: Optional[str], calls: list[tuple[Optional[str], Optional[str]]],
+    def start(self, main: Optional[str], calls: Sequence[tuple[Optional[str], Optional[str]]],
               leave: Optional[str]) -> list[str]:
         """What is done before `main`: pointers that stand beside their segments, which no source can name; and calls of
         constructors, and of `atexit` with each destructor. After `main` the thread halts, or leaves by `exit`."""

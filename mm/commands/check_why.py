@@ -4,7 +4,7 @@ from __future__ import annotations
 
 import sys
 
-from mm.build import read_file
+from mm.build import LONGEST_FILE, read_file
 from mm.console import Console
 from mm.formats.bytesreader import CutShort
 from mm.formats.image import Image, read_image
@@ -27,7 +27,9 @@ def _image(name: str) -> Image:
 def run(console: Console) -> int:
     name, group, word, kind = console.words
     ask = asked(group, word, kind)
-    image, text = _image(name), sys.stdin.read()
+    image, text = _image(name), sys.stdin.read(LONGEST_FILE + 1)
+    if len(text) > LONGEST_FILE:
+        raise Stop(Status.REFUSED, f"mm: the derivation has more than {LONGEST_FILE} letters")
     if text == NO:
         raise Stop(Status.REFUSED, "mm: the text says `no`: there is no derivation to check")
     try:

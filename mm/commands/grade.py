@@ -4,13 +4,14 @@ from __future__ import annotations
 
 import glob
 import os
+import stat
 
 from mm.build import read_file
 from mm.console import Console
 from mm.grading.checks import Program, marks
 from mm.grading.sheet import Sheet, read_sheet
 from mm.machine.program import CHECKOUT
-from mm.status import Status, usage
+from mm.status import Refused, Status, usage
 
 FOLDER = os.path.join(CHECKOUT, "docs", "course", "grade")
 
@@ -28,9 +29,24 @@ def sheet_of(name: str) -> Sheet:
     return read_sheet(os.path.relpath(path), read_file(path).decode("utf-8", "replace"))
 
 
+def refuse_unusual(names: list[str]) -> None:
+    """Refuses an answer that is a pipe or a device: to read it might never end."""
+    for name in names:
+        try:
+            mode = os.stat(name).st_mode
+        except OSError:
+            continue  # That is told when it is read.
+        if not stat.S_ISREG(mode) and not stat.S_ISDIR(mode):
+            from mm.messages.diagnostic import Diagnostic
+
+            hint = "an answer is a file that can be read again: copy it into one, and grade that"
+            raise Refused(Status.REFUSED, [Diagnostic(name, "is a pipe or a device, and no file", hints=[hint])])
+
+
 def run(console: Console) -> int:
     name, *files = console.words
     sheet = sheet_of(name)
+    refuse_unusual(files)
     found = marks(Program(console, console.build(files), sheet))
     right = [mark for mark in found if mark.why_not is None]
     console.write([f"{name}: {sheet.title}" if sheet.title else name])

@@ -5,12 +5,34 @@ from __future__ import annotations
 import re
 from typing import Optional
 
+from mm.debugger.arithmetic import tree_of, value_in
 from mm.machine.words import Word
 from mm.names.expressions import NoAddress
-from mm.names.numbers import number_of
 from mm.views.cvalues import CThing, CValues
 
-TOKEN = re.compile(r"\s*([A-Za-z_]\w*|0[xX][0-9a-fA-F]+|\d+|->|[][.*&()])")
+TOKEN = re.compile(r"\s*([A-Za-z_]\w*|0[xX][0-9a-fA-F]+|\d+|->|<<|>>|[][.*&()]|[-+/%|^~])")
+
+
+class _Index:
+    """What an index is made of: variables of C and numbers."""
+
+    def __init__(self, text: str, values: CValues) -> None:
+        self.text, self.values = text, values
+
+    def word(self, text: str) -> Word:
+        thing = c_thing(text, self.values)
+        if thing is None:
+            raise NoAddress(f"`{self.text}`: the index is no number and no variable")
+        return word_of(thing, self.values)
+
+    def at(self, address: int) -> Word:
+        raise NoAddress(f"`{self.text}`: the index is no number and no variable")
+
+    def place(self, text: str) -> Optional[Word]:
+        return None
+
+    def refuse_scaled(self, text: str) -> None:
+        return None
 
 
 class CExpression:
@@ -74,15 +96,11 @@ class CExpression:
         return found
 
     def index(self) -> int:
-        number = number_of(self.token)
-        if number is not None:
-            self.next()
-            return number
-        found = self.unary()
-        word = self.values.word(found) if found is not None else None
-        if word is None:
-            raise NoAddress(f"`{self.text}`: the index is no number and no variable")
-        return word.signed
+        said, depth = "", 0
+        while self.token and (depth or self.token != "]"):
+            depth += (self.token == "[") - (self.token == "]")
+            said += f"{self.next()} "
+        return value_in(tree_of(said), _Index(self.text, self.values)).signed
 
     def element(self, thing: CThing, index: int) -> CThing:
         kind = thing.kind

@@ -3,40 +3,46 @@
 from __future__ import annotations
 
 from dataclasses import dataclass
-from typing import Callable, Iterable, Iterator
+from typing import Callable, Iterable, Iterator, Optional
 
 from mm.debugger.conditions import condition_in
 from mm.debugger.evaluate import count_of, place_of, slot_of, span
-from mm.debugger.of_c import by_lines, c_text, local_lines, value_text
+from mm.debugger.of_c import by_lines, c_text, local_lines
 from mm.debugger.points import PointKind
+from mm.debugger.printing import display, echo, print_value, printf, shown_at_stop
 from mm.debugger.session import Halt, Session
 from mm.debugger.show import Show
-from mm.debugger.stops import Wrong, condition, delete, displays, ignore, switch, undisplay
+from mm.debugger.stops import Wrong, alone, commands, condition, delete, displays, ignore, switch, undisplay
 from mm.machine.isa import OPERATIONS
 from mm.machine.words import Pointer
-from mm.names.expressions import NoAddress, nearest
+from mm.names.expressions import nearest
 from mm.outputs.trace import Turn
 from mm.views.listing import map_lines
 
 Lines = Iterable[str]
 MOST_WORDS = 512
+SILENT = "silent"
 
 
 class Debugger:
-    """A session with what shows it, and expressions that are shown at each stop."""
+    """A session with what shows it, expressions that are shown at each stop, and lines that are to be carried out after one."""
 
     def __init__(self, session: Session, show: Show) -> None:
         self.session, self.show = session, show
         self.displays: list[str] = []
+        self.todo: list[str] = []
+        # What reads the lines that follow `commands`.
+        self.read_line: Callable[[], Optional[str]] = lambda: None
         self.over = False
 
     def stop(self, halt: Halt) -> Iterator[str]:
+        self.todo = list(halt.point.commands) if halt.point else []
+        if self.todo and self.todo[0] == SILENT:
+            del self.todo[0]
+            return
         yield from self.show.stop(halt)
         for text in self.displays:
-            try:
-                yield f"{text} = {value_text(text, self)}"
-            except NoAddress as error:
-                yield str(error)
+            yield shown_at_stop(text, self)
 
 
 @dataclass(frozen=True)
@@ -196,21 +202,6 @@ def _slot(debugger: Debugger, rest: str) -> Lines:
     return debugger.show.slots()
 
 
-def _print(debugger: Debugger, rest: str) -> Lines:
-    if not rest:
-        raise Wrong("say what: `p r5`, `p count`, `p &box`, `p 0x100100`; in C `p i`, `p name[3]`, `p list->next`")
-    yield f"{rest} = {value_text(rest, debugger)}"
-
-
-def _display(debugger: Debugger, rest: str) -> Lines:
-    if not rest:
-        debugger.displays.clear()
-        yield "no values are shown at stops any more"
-        return
-    yield from _print(debugger, rest)
-    debugger.displays.append(rest)
-
-
 def _examine(debugger: Debugger, rest: str) -> Lines:
     """`x/8 box`, `x/4i door`."""
     form, text = (rest[1:].partition(" ")[0], rest[1:].partition(" ")[2]) if rest.startswith("/") else ("", rest)
@@ -315,10 +306,15 @@ ENTRIES = (
     Entry(("ignore",), "N COUNT", "go on so often at a break or a watch", "", ignore),
     Entry(("enable",), "[N]", "stop again at a break or a watch, or at all", "", switch(True)),
     Entry(("disable",), "[N]", "do not stop at a break or a watch, or at any, until it is enabled", "", switch(False)),
+    Entry(("commands",), "[N]", "the lines that follow, up to `end`, are carried out after each stop at a break; `silent` first shows no stop", "", commands),
+    Entry(("silent",), "", "the first line of `commands`, if a stop is not to be shown", "", alone("silent")),
+    Entry(("end",), "", "the last line of `commands`", "", alone("end")),
+    Entry(("echo",), "TEXT", "writes a text", "", echo),
+    Entry(("printf",), "TEXT, ..", "writes a text with values: `printf \"%d %x\\n\", r1, count`", "", printf),
     Entry(("regs", "registers"), "[S]", "the registers of a slot", "", _registers),
     Entry(("slot", "thread", "t"), "[S]", "look at another slot", "", _slot),
-    Entry(("print", "p", "inspect"), "WHAT", "a register (r5, ip), the word at a name, with & its address; a variable of C: i, a[2], p->x", "value", _print),
-    Entry(("display",), "[WHAT]", "the same at each stop; nothing ends it", "value", _display),
+    Entry(("print", "p", "inspect"), "WHAT", "a register (r5, ip), the word at a name, with & its address; a variable of C: i, a[2], p->x; (r1+2)*3; p/x r1", "value", print_value),
+    Entry(("display",), "[WHAT]", "the same at each stop; nothing ends it", "value", display),
     Entry(("undisplay",), "[N]", "show a value no more at stops, or none", "", undisplay),
     Entry(("x",), "/N[i] PLACE", "N words of memory, with i as instructions; a register means where it points", "value", _examine),
     Entry(("list", "l"), "[PLACE]", "the source around this slot's place, or around another place", "place", _list),
@@ -359,7 +355,7 @@ def find(word: str) -> Entry:
 def carry_out(debugger: Debugger, line: str) -> Lines:
     """What a line answers."""
     word, _, rest = line.strip().partition(" ")
-    if "/" in word and word.split("/")[0] in ("x", "p", "print"):
-        word, slash, form = word.partition("/")
-        rest = f"/{form} {rest}" if word == "x" else rest
+    name, slash, form = word.partition("/")
+    if slash and name and find(name).names[0] in ("x", "print", "display"):
+        return find(name).run(debugger, f"/{form} {rest.strip()}".strip())
     return find(word).run(debugger, rest.strip())

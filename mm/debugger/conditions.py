@@ -1,74 +1,41 @@
-"""Conditions of breaks and watches: `r3 == 32`, `count >= 2`, `i < n`."""
+"""Conditions of breaks and watches: `r3 == 32`, `count >= 2 && r1 != 0`, `i * 2 < n`."""
 
 from __future__ import annotations
 
-import operator
 import re
 from dataclasses import dataclass
-from typing import Callable, Optional
+from typing import Optional
 
-from mm.debugger.cexpressions import c_thing, word_of
-from mm.debugger.evaluate import Empty, value_of
+from mm.debugger.arithmetic import COMPARISONS, LOGICAL, Sign, Tree, leaves, number_in, tree_of, value_in
+from mm.debugger.evaluate import Empty, Values
 from mm.debugger.session import Session
-from mm.machine.words import WORD_MASK, Word
 from mm.names.expressions import NoAddress
-from mm.names.numbers import number_of
 
-# What compares two numbers with their signs.
-SIGNS: dict[str, Callable[[int, int], bool]] = {
-    "==": operator.eq,
-    "!=": operator.ne,
-    "<=": operator.le,
-    ">=": operator.ge,
-    "<": operator.lt,
-    ">": operator.gt,
-}
-# `if slot 1` is a slot, and the `>` of `->` compares nothing.
+# `if slot 1` is a slot.
 IF = re.compile(r"(.*?)\s*\bif\s+(?!(?:slot|thread)\s+\d+$)(.+)")
-COMPARISON = re.compile(r"(.+?)\s*(==|!=|<=|(?<!-)>=|<|(?<!-)>)\s*(.+)")
-
-
-def word_in(text: str, session: Session) -> Word:
-    """A number, a register, the word at a name, or a variable of C."""
-    number = number_of(text.strip())
-    if number is not None:
-        return Word(number & WORD_MASK)
-    values = session.values
-    thing = c_thing(text, values) if values and not text.startswith("&") else None
-    return word_of(thing, values) if thing is not None and values is not None else value_of(text, session)
-
-
-def number_in(word: Word) -> int:
-    """The number of an integer, with its sign; the address of a pointer."""
-    return word.pointer.address if word.pointer else word.signed
 
 
 @dataclass(frozen=True)
 class Condition:
-    """A comparison of two values, as it was typed."""
+    """What must be so, as it was typed, and what it means."""
 
     text: str
-    left: str
-    sign: str
-    right: str
+    tree: Tree
 
     def holds(self, session: Session) -> bool:
         """Whether it is so at the moment of a session. What has no value there is not so."""
         try:
-            left, right = word_in(self.left, session), word_in(self.right, session)
+            return number_in(value_in(self.tree, Values(session))) != 0
         except NoAddress:
             return False
-        if left.tagged and right.tagged and self.sign in ("==", "!="):
-            return SIGNS[self.sign](left.bits, right.bits)
-        return SIGNS[self.sign](number_in(left), number_in(right))
 
     def check(self, session: Session) -> None:
         """Raises a name that nothing has. A register may have no value yet, and a variable of C no place."""
         if session.values and session.values.frames:
             return
-        for side in (self.left, self.right):
+        for part in leaves(self.tree):
             try:
-                word_in(side, session)
+                value_in(part, Values(session))
             except Empty:
                 pass
 
@@ -84,10 +51,10 @@ def condition_of(said: str, session: Session) -> Condition:
     text = said.strip()
     while is_enclosed(text):
         text = text[1:-1].strip()
-    sides = COMPARISON.fullmatch(text)
-    if sides is None:
-        raise NoAddress(f"`{said}` compares nothing: write `if r3 == 32`, with ==, !=, <, <=, > or >=")
-    condition = Condition(text, *sides.groups())
+    tree = tree_of(text)
+    if not isinstance(tree, Sign) or tree.sign not in (*COMPARISONS, *LOGICAL):
+        raise NoAddress(f"`{said}` compares nothing: write `if r3 == 32`, with ==, !=, <, <=, > or >=, and && or || between")
+    condition = Condition(text, tree)
     condition.check(session)
     return condition
 

@@ -5,11 +5,13 @@ from __future__ import annotations
 import re
 from typing import Optional
 
-from mm.debugger.cexpressions import c_thing
+from mm.debugger.arithmetic import Leaf, number_in, tree_of, value_in
+from mm.debugger.cexpressions import c_thing, word_of
 from mm.debugger.session import Session
-from mm.machine.words import Word
+from mm.machine.words import ADDRESS_LIMIT, Word
 from mm.names.expressions import NoAddress, address_of, span_of
 from mm.names.numbers import number_of, printed_address
+from mm.views.cvalues import CThing
 from mm.words import MOST_CYCLES
 
 REGISTER = re.compile(r"\$?r(\d+)")
@@ -119,9 +121,62 @@ def c_path(session: Session) -> Optional[str]:
     return begins[0] if begins else None
 
 
+class Values:
+    """What an expression is made of, at the moment of a session."""
+
+    def __init__(self, session: Session) -> None:
+        self.session = session
+
+    def _thing(self, text: str) -> Optional[CThing]:
+        values = self.session.values
+        return c_thing(text, values) if values and not text.startswith("&") else None
+
+    def word(self, text: str) -> Word:
+        """A register, the word at a name, or a variable of C."""
+        thing, values = self._thing(text), self.session.values
+        if thing is None or values is None:
+            return word_named(text, self.session)
+        if thing.kind.kind in ("array", "struct", "union"):
+            raise NoAddress(f"`{text}` is no number, but {thing.types.title(thing.type)}")
+        return word_of(thing, values)
+
+    def at(self, address: int) -> Word:
+        cell = self.session.memory.cell(address & ~7) if 0 <= address < ADDRESS_LIMIT else None
+        if cell is None:
+            raise NoAddress(f"no page is at {self.session.symbols.show(address) if address >= 0 else address}")
+        return cell.word
+
+    def place(self, text: str) -> Optional[Word]:
+        """The word at a name and an offset. A register, or a variable of C, is a value, to which a number is added."""
+        name, offset = re.split(r"\s*[+-]\s*", text, maxsplit=1)
+        if OFFSET.fullmatch(name) and not self.session.symbols.named(name) or self._thing(name):
+            return None
+        found = word_named(text, self.session)
+        if (number_of(offset) or 0) % 8:
+            raise NoAddress(f"`{text}` is a place, in bytes, and no word is there: write `({name})` to reckon with the word at {name}")
+        return found
+
+    def refuse_scaled(self, text: str) -> None:
+        thing = self._thing(text)
+        if thing is not None and thing.kind.kind in ("array", "pointer"):
+            raise NoAddress(f"`{text}` is {thing.types.title(thing.type)}: write `{text}[1]` for an element, `&{text}[1]` for its address")
+
+
 def value_of(text: str, session: Session) -> Word:
-    """The word that a person means: a register, the word at a name, a name's address with `&`, or a number."""
+    """The word that a person means: an expression, or a value of `word_named`."""
+    if ":" in text or printed_address(text.strip()) is not None:
+        return word_named(text, session)  # A line of a file, or an address as reports print it.
+    tree = tree_of(text)
+    if isinstance(tree, Leaf) and not tree.text.startswith("'"):
+        return word_named(tree.text, session)
+    return value_in(tree, Values(session))
+
+
+def word_named(text: str, session: Session) -> Word:
+    """A register, the word at a name, a name's address with `&`, or a number; a great number means the word at that address."""
     text = text.strip()
+    if text.startswith("**"):
+        return Values(session).at(number_in(word_named(text[1:], session)))
     if text.startswith("&"):
         thing = c_thing(text[1:], session.values) if session.values else None
         at = thing.address if thing is not None else None

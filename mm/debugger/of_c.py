@@ -4,6 +4,7 @@ from __future__ import annotations
 
 from typing import TYPE_CHECKING, Callable, Iterable, Optional
 
+from mm.debugger.arithmetic import reckons
 from mm.debugger.cexpressions import c_thing
 from mm.debugger.evaluate import count_of, value_of
 from mm.debugger.session import Halt
@@ -23,8 +24,9 @@ def c_text(text: str, debugger: Debugger) -> Optional[str]:
 
 
 def value_text(text: str, debugger: Debugger) -> str:
-    """A variable of C, or else a word."""
-    return c_text(text, debugger) or debugger.show.word(value_of(text, debugger.session))
+    """An expression: a variable of C, or else a word."""
+    said = None if reckons(text) else c_text(text, debugger)
+    return said or debugger.show.word(value_of(text, debugger.session))
 
 
 def local_lines(debugger: Debugger) -> list[str]:

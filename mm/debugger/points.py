@@ -51,6 +51,8 @@ class Point:
     # Whether the run stops here, and how often it first goes on.
     enabled: bool = True
     ignored: int = 0
+    # The lines that are carried out after a stop here.
+    commands: tuple[str, ...] = ()
 
     @property
     def pattern(self) -> str:

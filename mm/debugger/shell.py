@@ -12,8 +12,19 @@ from mm.machine.isa import OPERATIONS
 from mm.names.expressions import NoAddress
 from mm.status import Status, Stop
 
-PROMPT = "(mm) "
+PROMPT, INNER = "(mm) ", ">"
+WRITES = ("echo ", "printf ")
 MOST_SAID = 400
+# No line of a person is longer, and one without an end is read by nobody.
+LONGEST_LINE = 1_000_000
+# What an empty line does not do again.
+ONCE = ("break", "tbreak", "watch", "rwatch", "awatch", "delete", "display", "undisplay", "condition", "ignore", "enable", "disable",
+    "commands", "run")
+
+
+def without_comment(line: str) -> str:
+    """A line up to its `#`. One that writes a text has no comment but the whole line."""
+    return line if line.startswith(WRITES) else line.partition("#")[0]
 
 
 class Completer:
@@ -66,23 +77,41 @@ class Shell:
         self.console, self.debugger = console, debugger
         self.terminal = sys.stdin.isatty()
         self.last = ""
+        debugger.read_line = self.read_inner
 
-    def read(self) -> Optional[str]:
+    def read(self, prompt: str = PROMPT) -> Optional[str]:
         """The next line; none at the end. Lines of a file are shown, so that the answers can be told apart."""
         try:
             if self.terminal:
-                return input(PROMPT)
-            line = sys.stdin.readline()
+                return input(prompt)
+            line = sys.stdin.readline(LONGEST_LINE + 1)
+            if len(line) > LONGEST_LINE:
+                raise Stop(Status.REFUSED, f"mm: a line of the input has more than {LONGEST_LINE} letters")
         except EOFError:
+            if prompt != PROMPT:
+                self.console.write([""])
             return None
         if not line:
             return None
-        self.console.write([PROMPT + line.rstrip("\n")])
+        self.console.write([prompt + line.rstrip("\n")])
         return line.rstrip("\n")
 
+    def read_inner(self) -> Optional[str]:
+        """The next of the lines that follow `commands`."""
+        line = self.read(INNER)
+        return None if line is None else without_comment(line.strip())
+
+    def answer_all(self, line: str) -> None:
+        """Answers a line, and then the lines of the break or watch at which it stops. Those of the next stop take their place."""
+        self.answer(line)
+        while self.debugger.todo and not self.debugger.over:
+            self.answer(self.debugger.todo.pop(0))
+
     def answer(self, line: str) -> None:
+        """Answers a line. After one that is wrong no others are carried out."""
         try:
             self.console.write(carry_out(self.debugger, line))
+            return
         except (Wrong, NoAddress) as error:
             said = str(error)
             self.console.write([self.console.style.warn(said if len(said) <= MOST_SAID else said[:MOST_SAID] + " ..")])
@@ -90,6 +119,7 @@ class Shell:
             show_stop(self.console, stop)
         except RecursionError:
             self.console.write([self.console.style.warn("this is nested too deep")])
+        self.debugger.todo.clear()
 
     def loop(self) -> int:
         """Lines up to the end or `quit`."""
@@ -100,12 +130,13 @@ class Shell:
                 line = self.read()
                 if line is None:
                     break
-                line = line.split("#")[0].strip() or ("" if line.strip() else self.last)
+                line = without_comment(line.strip()).strip() or ("" if line.strip() else self.last)
                 if line:
                     self.last = self.repeated(line)
-                    self.answer(line)
+                    self.answer_all(line)
                 self.console.out.flush()
             except KeyboardInterrupt:
+                self.debugger.todo.clear()
                 self.console.write(["", *self.debugger.stop(Halt())])
         if self.terminal and not self.debugger.over:
             self.console.write([""])
@@ -118,5 +149,4 @@ class Shell:
             name = find(line.split()[0].partition("/")[0]).names[0]
         except Wrong:
             return ""
-        return "" if name in ("break", "tbreak", "watch", "rwatch", "awatch", "delete", "display", "undisplay", "condition", "ignore", "enable", "disable",
-            "run") else line
+        return "" if name in ONCE else line

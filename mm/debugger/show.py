@@ -158,6 +158,7 @@ class Show:
             yield f"{point.number:>3}  {point}{where}" + (
                 f"  (met {counted(point.hits, 'time')})" if point.hits else ""
             )
+            yield from (f"       {line}" for line in point.commands)
         if not self.session.points:
             yield "no breaks and no watches"
 

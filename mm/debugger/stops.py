@@ -2,16 +2,19 @@
 
 from __future__ import annotations
 
+import re
 from typing import TYPE_CHECKING, Callable, Iterable
 
 from mm.debugger.conditions import condition_of
 from mm.debugger.evaluate import count_of
 from mm.debugger.points import Point
+from mm.names.numbers import counted
 
 if TYPE_CHECKING:
     from mm.debugger.commands import Debugger
 
 Lines = Iterable[str]
+RANGE = re.compile(r"(\d{1,6})(?:-(\d{1,6}))?")
 
 
 class Wrong(Exception):
@@ -24,20 +27,53 @@ def delete(debugger: Debugger, rest: str) -> Lines:
         points.clear()
         yield "no breaks and no watches are left"
         return
-    for word in rest.split():
-        found = next((point for point in points if str(point.number) == word), None)
-        if found is None:
-            raise Wrong(f"there is no break or watch {word}: `info breakpoints` lists them")
-        points.remove(found)
-        yield f"{found.number} is gone"
+    for point in _points_of(debugger, rest):
+        points.remove(point)
+        yield f"{point.number} is gone"
+
+
+def commands(debugger: Debugger, rest: str) -> Lines:
+    """Takes the lines up to `end`, which are carried out after each stop at some breaks and watches; at the last that was set if
+    none is named."""
+    points = _points_of(debugger, rest)
+    if not rest:
+        points = [max(points, key=lambda point: point.number)] if points else []
+    if not points:
+        raise Wrong("there is no break or watch that lines could be carried out at")
+    lines: list[str] = []
+    while True:
+        line = debugger.read_line()
+        word = line.split()[0] if line and line.split() else ""
+        if line is None or word == "end":
+            break
+        if word == "commands":
+            raise Wrong("lines of `commands` have no `commands` among them: nothing is changed")
+        if word:
+            lines.append(line.strip())
+    for point in points:
+        point.commands = tuple(lines)
+        yield f"{point.number}: {point}" + (f", then {counted(len(lines), 'line')}" if lines else ", and no lines")
+
+
+def alone(name: str) -> Callable[[Debugger, str], Lines]:
+    """A word that has its place among the lines of `commands`."""
+
+    def run(debugger: Debugger, rest: str) -> Lines:
+        raise Wrong(f"`{name}` stands only in the lines that follow `commands`")
+
+    return run
 
 
 def _points_of(debugger: Debugger, rest: str) -> list[Point]:
-    """The breaks and watches that numbers name; all if none is written."""
-    points = debugger.session.points
-    found = [point for word in rest.split() for point in points if str(point.number) == word]
-    if len(found) < len(rest.split()):
-        raise Wrong(f"there is no break or watch of each of `{rest}`: `info breakpoints` lists them")
+    """The breaks and watches that numbers name, or ranges of them as 1-3; all if none is written."""
+    points, found = debugger.session.points, []
+    for word in rest.split():
+        match = RANGE.fullmatch(word)
+        first, last = (int(match[1]), int(match[2] or match[1])) if match else (1, 0)
+        named = [point for point in points if first <= point.number <= last]
+        if not named:
+            raise Wrong(f"there is no break or watch {word}: `info breakpoints` lists them")
+        found += [point for point in named if point not in found]
     return found or list(points)
 
 

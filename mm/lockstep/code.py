@@ -16,7 +16,7 @@ INTEGERS, POINTERS, JUMPS = (0, 1, 2, 3, 4, 7), (8, 9, 10, 11, 14, 15), (5, 6, 1
 SLOT, PAGE, ANY = (12,), (13,), tuple(range(16))
 TABLE_REGISTER = 14
 # What the operands ra and rb of an operation are; integers where nothing is said.
-USES = {
+USES: dict[str, tuple[tuple[int, ...], tuple[int, ...]]] = {
     **dict.fromkeys(("lea", "leai", "leab", "restrict", "subseg", "ld"), (POINTERS, INTEGERS)),
     **dict.fromkeys(("st",), (POINTERS, ANY)),
     **dict.fromkeys(("mov", "isptr", "eqw", "out", "setptr"), (ANY, ANY)),

@@ -64,7 +64,12 @@ class Command:
             except OSError as error:
                 raise CannotRun(f"{words[0]} cannot be run: {error.strerror}") from None
             late = threading.Event()
-            timer = threading.Timer(self.seconds, lambda: (late.set(), stop(started)))
+
+            def too_late() -> None:
+                late.set()
+                stop(started)
+
+            timer = threading.Timer(self.seconds, too_late)
             timer.start()
             try:
                 running = Running(iter(()))
@@ -73,13 +78,14 @@ class Command:
             finally:
                 timer.cancel()
                 stop(started)
-                started.stdout.close()
+                if started.stdout:
+                    started.stdout.close()
                 started.wait()
 
     def _lines(
         self, started: subprocess.Popen[bytes], said: IO[bytes], late: threading.Event, running: Running
     ) -> Iterator[str]:
-        yield from log_lines((line.decode("latin-1").rstrip("\n") for line in started.stdout), self.skipped)
+        yield from log_lines((line.decode("latin-1").rstrip("\n") for line in started.stdout or ()), self.skipped)
         status = started.wait()
         if late.is_set():
             running.wrong.append(f"it was stopped after {self.seconds} seconds")

@@ -36,7 +36,7 @@ def slot_of(now: SlotNow) -> Optional[Slot]:
     """A slot as an image has it; one that does not run is halted."""
     pointer = now.ip.pointer
     registers = tuple(word or ZERO for word in now.registers)
-    return pointer and Slot(now.number, now.group, now.handler, now.state != "running", pointer, registers)
+    return Slot(now.number, now.group, now.handler, now.state != "running", pointer, registers) if pointer else None
 
 
 def image_of(machine: Machine) -> Image:

@@ -87,7 +87,7 @@ def instruction_lines(machine: Machine, slot: SlotNow) -> Iterator[str]:
     past = ", past its segment" if slot.past else ""
     yield row("at", f"{spelled(slot.ip)}{past}")
     instruction = decode(cell.word.bits) if cell and not cell.word.tagged else None
-    if instruction is None:
+    if instruction is None or cell is None:
         yield row("word", f"no instruction: {spelled(cell.word)}" if cell else "no page is here")
         return
     yield row("word", f"{cell.word}  {SPELLER.instruction(instruction, address)}")
@@ -102,7 +102,7 @@ def turn_lines(machine: Machine, found: Difference) -> Iterator[str]:
     items = [item_of(turn) for turn in (found.model, found.other) if turn]
     item = next((item for item in items if item is not None), None)
     slot = None if item is None else machine.slots.get(item % PORT)
-    if slot is None:
+    if slot is None or item is None:
         return
     mode = "split" if machine.image.split else "plain"
     whose = f"the port of slot {slot.number}" if item >= PORT else f"slot {slot.number}, its turn {slot.turns + 1}"

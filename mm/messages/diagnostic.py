@@ -30,7 +30,7 @@ class Diagnostic:
 
     @property
     def place(self) -> str:
-        return ":".join(str(part) for part in (self.path, self.line, self.column) if part is not None)
+        return ":".join(str(part) for part in (self.path or '""', self.line, self.column) if part is not None)
 
     def render(self, style: Style) -> list[str]:
         """The lines of the message."""

@@ -194,12 +194,12 @@ def _hint_for_full(at: Explained) -> Optional[str]:
     segment = _segment_of_line(at.source, at.number)
     if segment is None:
         return None
-    log = max(3, (segment.words - 1).bit_length() + 3)
-    return (
-        f"it has {counted(segment.words, 'word')} in all: write `.segment {segment.name} {log}`"
-        if log <= 20
-        else "a segment has at most 2^20 bytes: divide it"
-    )
+    log = max(3, (segment.words + segment.unknown - 1).bit_length() + 3)
+    if max(log, segment.log + 1) > 20:
+        return "a segment has at most 2^20 bytes: divide it"
+    if segment.unknown or log <= segment.log:
+        return f"write a greater number: `.segment {segment.name} {max(log, segment.log + 1)}`"
+    return f"it has {counted(segment.words, 'word')} in all: write `.segment {segment.name} {log}`"
 
 
 def _hint_for_name(at: Explained) -> Optional[str]:

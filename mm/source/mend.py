@@ -15,6 +15,7 @@ FRESH = "zz_mended_"
 WIDEST = 20
 RANGE, LABEL, TWICE, PLACE, FULL, LIMIT = 4, 5, 6, 7, 8, 9
 BEGINS_SEGMENT = re.compile(r"[^;]*\.segment\b")
+BEFORE = re.compile(r"[ \t\r]*(?:[A-Za-z_][A-Za-z0-9_]*[ \t\r]*:)?[ \t\r]*")
 BEGINS_THREAD = re.compile(r"[^;]*\.thread\b")
 SETS_REGISTER = re.compile(r"[^;]*\.reg\b")
 FORGOTTEN = re.compile(
@@ -76,7 +77,10 @@ class Mender:
         rest = said.split(":", 1)[1] if line.label else said
         words = rest.split(";")[0].split()
         head = line.head.text if line.head else words[0] if words else ""
-        self.lines[number - 1] = label + self._statement(number, head, line.operand(SEGMENT_NAME))
+        # What comes before a statement stays, so that another fault there has its column.
+        before = said[: len(said) - len(rest)] + rest.partition(head)[0]
+        kept = before if BEFORE.fullmatch(before) else label
+        self.lines[number - 1] = kept + self._statement(number, head, line.operand(SEGMENT_NAME))
 
     def _statement(self, number: int, head: str, name: Optional[object]) -> str:
         if head == ".segment":

@@ -44,6 +44,8 @@ class SourceSegment:
     column: int
     runs: list[Run] = field(default_factory=list)
     words: int = 0
+    # Lines that begin with no word that is known: each may be meant as a word.
+    unknown: int = 0
     starts: list[int] = field(default_factory=list)
 
     @property
@@ -158,6 +160,8 @@ def read_source(path: str, data: bytes) -> SourceText:
             text.labels[label] = Label(label, len(text.segments) - 1, place, number, said.index(label) + 1)
         if head in WORDS and text.segments:
             text.segments[-1].add(1, number, head)
+        elif head and text.segments and head not in DIRECTIVES:
+            text.segments[-1].unknown += 1
         if head in DIRECTIVES and head != ".int":
             _add_directive(text, read_line(said), number)
     if any(NOTE in said for said in text.lines):

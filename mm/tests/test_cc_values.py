@@ -30,6 +30,12 @@ define i64 @__mm_signed_product_overflows(i64 %x, i64 %y) {
   ret i64 0
 }
 """
+TRAPS = """declare void @__mm_op_trap(i64)
+define i64 @main() {
+  call void @__mm_op_trap(i64 3)
+  ret i64 0
+}
+"""
 
 
 @needs_program
@@ -55,6 +61,13 @@ class Values(unittest.TestCase):
                 found = (slot.state, slot.register(0).bits if slot.register(0) else 0)
                 self.assertEqual(found, ("halted", wanted), f"{title}: {found[1]:x}, {checked}")
 
+    def test_the_second_reckoning_takes_operations_of_the_machine(self):
+        """Those with a number that is part of them."""
+        for checked in (False, True):
+            made = source(TRAPS, checked=checked)
+            self.assertIn("trap 3\n", made)
+            slot = self.result(made)
+            self.assertEqual((slot.state, slot.fault), ("faulted", TRAP))
 
     def test_the_second_reckoning_stops_what_differs(self):
         """With another comparison in the translator alone."""

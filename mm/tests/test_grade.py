@@ -2,6 +2,8 @@
 
 import glob
 import os
+import subprocess
+import sys
 import tempfile
 import unittest
 
@@ -9,7 +11,7 @@ from mm.grading.checks import CHECKS, said
 from mm.grading.sheet import FORMS, SETTINGS, read_sheet
 from mm.machine.program import CHECKOUT
 from mm.status import Stop
-from mm.tests.support import mm, read
+from mm.tests.support import mm, path_of, read
 
 GRADE = os.path.join(CHECKOUT, "docs", "course", "grade")
 ANSWERS = {
@@ -94,6 +96,19 @@ class Grade(unittest.TestCase):
         self.assertEqual(said(b"a" * 50), f'it says "{"a" * 40}" and 10 more bytes')
         self.assertEqual(said(b"a" * 41), f'it says "{"a" * 40}" and 1 more byte')
         self.assertEqual(said(b'"\n'), 'it says "\\"\\n"')
+
+    @unittest.skipUnless(hasattr(os, "mkfifo"), "there are no pipes with names")
+    def test_a_pipe_is_no_answer(self):
+        """To read it might never end."""
+        with tempfile.TemporaryDirectory() as room:
+            pipe = os.path.join(room, "answer.asm")
+            os.mkfifo(pipe)
+            for name in (pipe, "/dev/zero"):
+                words = [sys.executable, path_of("bin", "mm"), "grade", "1.1", name]
+                ended = subprocess.run(words, capture_output=True, text=True, check=False, timeout=60)
+                self.assertEqual((ended.returncode, ended.stdout), (2, ""))
+                self.assertIn(f"{name}: error: is a pipe or a device, and no file", ended.stderr)
+        self.assertEqual(mm("grade", "1.1", "examples").status, 3)
 
     def test_words_are_asked_for(self):
         self.assertIn("lab-5", mm("help", "grade").out)

@@ -1,6 +1,7 @@
 """That `mm` holds: names that are options for others, lines of megabytes, streams that are closed, files that are outputs and inputs,
 signals, and a program that is no `mmachine`."""
 
+import json
 import os
 import shutil
 import signal
@@ -160,6 +161,20 @@ class Streams(unittest.TestCase):
             self.assertIn(b"is no item of a schedule", ended.stderr)
             self.assertTrue(os.path.getsize(os.path.join(room, "v.html")) > 10_000)
 
+    def test_names_that_are_no_text_in_json(self):
+        """Each text in JSON can be written as UTF-8."""
+        with folder() as room:
+            write(room, "p.asm", GOOD)
+            for command in ("run", "trace", "symbols"):
+                ended = shell(f"cp p.asm \"$(printf '\\377\"x').asm\"; mm {command} --json \"$(printf '\\377\"x').asm\"", room)
+                self.assertEqual(ended.returncode, 0)
+                form = json.dumps(json.loads(ended.stdout), ensure_ascii=False)
+                self.assertIn('\\\\xff\\"x.asm', form)
+                form.encode("utf-8")
+
+    def test_a_name_of_no_letters(self):
+        self.assertIn('"": error: cannot be read', mm("run", "").err)
+
     def test_a_folder_that_is_not_there(self):
         ended = mm("run", "no/such/p.asm")
         self.assertEqual(ended.status, 3)
@@ -169,6 +184,21 @@ class Streams(unittest.TestCase):
         ended = mm("run", "/dev/zero")
         self.assertEqual(ended.status, 2)
         self.assertIn("is too long", ended.err)
+
+    def test_an_input_without_an_end(self):
+        with folder() as room:
+            write(room, "p.asm", GOOD)
+            for line, why in (("mm debug p.asm </dev/zero", "a line of the input has more than"),
+                    ("mm link p.asm -o p.img; mm check-why p.img 0 0x100000 touch </dev/zero", "the derivation has more than")):
+                ended = shell(line, room)
+                self.assertEqual(ended.returncode, 2)
+                self.assertIn(why, ended.stderr.decode())
+
+    def test_a_folder_that_is_gone(self):
+        with folder() as room:
+            ended = shell("mkdir d; cd d; rmdir ../d; mm run x.asm", room)
+        self.assertEqual(ended.returncode, 3)
+        self.assertIn(b"x.asm: error: cannot be read", ended.stderr)
 
     def test_an_expression_without_an_end(self):
         with folder() as room:
@@ -263,7 +293,21 @@ class Outputs(unittest.TestCase):
 
 
 class Starts(unittest.TestCase):
-    """A start costs what it imports."""
+    """A start costs what it imports, and can be interrupted from the beginning."""
+
+    def test_an_interrupt_while_it_imports(self):
+        said = (
+            "import runpy, sys\n"
+            "class Finder:\n"
+            "    def find_spec(self, name, path=None, target=None):\n"
+            "        if name == at: raise KeyboardInterrupt\n"
+            "at, sys.argv = sys.argv[1], ['mm', 'help']\n"
+            "sys.meta_path.insert(0, Finder())\n"
+            f"runpy.run_path({path_of('bin', 'mm')!r}, run_name='__main__')\n"
+        )
+        for name in ("mm.main", "mm.console", "mm.commands.help"):
+            ended = subprocess.run([sys.executable, "-c", said, name], capture_output=True, check=False)
+            self.assertEqual((ended.returncode, ended.stdout, ended.stderr.strip()), (130, b"", b""))
 
     def imported(self, *words):
         said = "import sys; from mm.main import main; main(sys.argv[1:]); print(*sys.modules, sep='\\n', file=sys.stderr)"

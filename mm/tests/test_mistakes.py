@@ -58,10 +58,31 @@ class Mistakes(unittest.TestCase):
 
     def test_errors_are_not_endless(self):
         with folder() as room:
-            path = write(room, "mine.asm", ".segment main 20\n" + "  li r1, 5\n" * 100)
+            path = write(room, "mine.asm", ".segment main 20\n" + "  li r1, 5\n" * 110)
             ended = mm("asm", path)
         self.assertEqual(ended.err.count(": error: "), 20)
-        self.assertIn("there are more", ended.err)
+        self.assertIn("20 errors are shown, and there are more", ended.err)
+
+    def test_a_label_that_is_missing_is_told_among_many_mistakes(self):
+        """The program tells of it last, and the first errors by their lines are shown."""
+        with folder() as room:
+            path = write(room, "mine.asm", ".segment main 8\n  br nowhere\n" + "  li r1, 5\n" * 24)
+            err = mm("asm", path).err
+        self.assertTrue(err.startswith(f"{path}:2:6: error: `nowhere` is no label of this segment\n"), err)
+        self.assertEqual(err.count(": error: "), 20)
+        self.assertIn(f"{path}:21:3: error: ", err)
+        self.assertIn("mm: 20 of 25 errors are shown", err)
+
+    def test_a_full_segment_is_told_at_its_word(self):
+        with folder() as room:
+            source = ".segment main 3\n  nop\nhere: \t foo r1\n  nop r1\n bar\n.thread 0 0 none xu main\n"
+            err = mm("asm", write(room, "mine.asm", source)).err
+        full = [line.split(": error")[0].split("mine.asm:")[1] for line in err.splitlines() if "is full" in line]
+        self.assertEqual(full, ["3:9"])
+        self.assertIn("hint: write a greater number: `.segment main 5`", err)
+        with folder() as room:
+            err = mm("asm", write(room, "mine.asm", ".segment main 3\n nop\n nop\n nop\n")).err
+        self.assertIn("hint: it has 3 words in all: write `.segment main 5`", err)
 
 
 class Hints(unittest.TestCase):

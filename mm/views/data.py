@@ -6,7 +6,7 @@ from typing import Any, Mapping, Optional
 
 from mm.machine.causes import Cause
 from mm.machine.words import Cell, Word
-from mm.names.symbols import Symbols
+from mm.names.symbols import Origin, Symbols
 from mm.outputs.audit import Apart, Audit
 from mm.outputs.report import Report, SlotState
 from mm.outputs.trace import Turn
@@ -21,6 +21,12 @@ Json = dict[str, Any]
 def address_form(address: int, symbols: Symbols) -> Json:
     """`{"address": "0x100100", "name": "box"}`, with the name `null` if there is none."""
     return {"address": f"0x{address:x}", "name": symbols.name(address)}
+
+
+def origin_form(origin: Origin) -> Json:
+    """A line of a file. A byte of its name that is no UTF-8 is written as `\\xff`: JSON has texts alone."""
+    name = origin.path.encode("utf-8", "surrogateescape").decode("utf-8", "backslashreplace")
+    return {"file": name, "line": origin.line}
 
 
 def word_form(word: Optional[Word], symbols: Symbols) -> Optional[Json]:
@@ -79,7 +85,7 @@ class ReportForm:
         }
         origin = self.symbols.origin(ip.address) if ip else None
         if origin:
-            form["source"] = {"file": origin.path, "line": origin.line}
+            form["source"] = origin_form(origin)
         instruction = self.memory.instruction(ip.address) if ip else None
         if instruction and ip:
             form["instruction"] = self.speller.instruction(instruction, ip.address)
@@ -168,7 +174,7 @@ def symbols_form(symbols: Symbols) -> Json:
     """The map of a link."""
     rows = []
     for symbol in symbols.symbols:
-        origin = {"file": symbol.origin.path, "line": symbol.origin.line} if symbol.origin else None
+        origin = origin_form(symbol.origin) if symbol.origin else None
         rows.append(
             {
                 "name": symbol.name,
