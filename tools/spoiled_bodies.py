@@ -32,6 +32,7 @@ exec "$program" "$@"
 STATUSES, FAULTS, ANSWERS, PIECES, LOG = ".ci/statuses", ".ci/faults", ".ci/answers", ".ci/pieces", ".ci/log"
 WHY, EXPLORE, LIMITS, HOSTILE, CONFORMANCE = ".ci/why", ".ci/explore", ".ci/limits", "tools/hostile", ".ci/conformance"
 MM, PICTURES, VIEW, PAGES = ".ci/mm", "docs/pictures/build", "docs/view/build", "examples/check"
+TRUTH, C, HARDWARE, EDITORS, BROWSER = ".ci/truth", ".ci/c", ".ci/hardware", "editors/check", ".ci/view"
 
 # Each body: what it does wrong, the script that has to notice, what it does; and words for that script, with
 # which it is enough.
@@ -165,6 +166,26 @@ BODIES = [
     ("a page's log has a turn fewer", VIEW, '[ "$1" != log ] || { ran "$@"; text "1d"; told; }'),
     ("a page's report has another word", PAGES,
      '[ "$1" != run ] || { ran "$@"; text "s/i0000000000000041/i0000000000000042/"; told; }'),
+    ("a trace tells a turn twice", TRUTH, '[ "$1" != trace ] || { ran "$@"; text "1p"; told; }'),
+    ("debug has a register that is another one", TRUTH,
+     '[ "$1" != debug ] || { ran "$@"; text "s/^r 1 i.*/r 1 i0000000000000000/"; told; }', "--count", "6"),
+    ("dis has another name for an operation", TRUTH,
+     '[ "$1" != dis ] || { ran "$@"; text "s/ sub r/ xor r/"; told; }', "--words", "20000"),
+    ("restrict gives the permission that it was given", TRUTH,
+     '[ "$1" != run ] || { ran "$@"; text "s/^r 3 p[1-9]/r 3 p0/"; told; }'),
+    ("a byte that was put out is another one", C, '[ "$1" != run ] || { ran "$@"; text "s/^o 3/o 4/"; told; }'),
+    ("a run has half the cycles", C,
+     '[ "$1" != run ] || [ $# != 3 ] || set -- "$1" "$2" "$(($3 / 2000))"'),
+    ("a register of a log is another one", HARDWARE,
+     '[ "$1" != log ] || { ran "$@"; text "s/^\\(r .*\\)[0-8]$/\\19/"; told; }'),
+    ("a log has each cell as full", HARDWARE,
+     '[ "$1" != log ] || { ran "$@"; text "s/^\\(cell .*\\) empty$/\\1 full/"; told; }'),
+    ("asm makes an object of no bytes", EDITORS, '[ "$1" != asm ] || { ran "$@"; : >"$room/out"; told; }'),
+    ("a faulted slot is told as halted", EDITORS,
+     '[ "$1" != run ] || { ran "$@"; text "s/ faulted [0-9]*/ halted/"; told; }'),
+    ("a page's trace has a turn fewer", BROWSER, '[ "$1" != trace ] || { ran "$@"; text "1d"; told; }'),
+    ("a page's report has another register", BROWSER,
+     '[ "$1" != run ] || { ran "$@"; text "s/^r 2 i.*/r 2 i0000000000000000/"; told; }'),
     ("a trace has no entries", PAGES, '[ "$1" != trace ] || { ran "$@"; text "s/ enter .*//"; told; }'),
     # Memory.
     *((f"{command} has no memory for an image of more than 1 MB", LIMITS,

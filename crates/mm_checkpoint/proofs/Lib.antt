@@ -1,4 +1,5 @@
 pub mod CheckpointBytes
+pub mod FileOrder
 pub mod Groups
 pub mod Counts
 pub mod FormatFits

@@ -1,6 +1,7 @@
 pub mod Answers
 pub mod Checkpoints
 pub mod Faults
+pub mod FileOrder
 pub mod Format
 pub mod Laws
 pub mod Reading

@@ -1,6 +1,9 @@
 //! What holds of all checkpoints.
 //!
 //! These functions do nothing when they run: the contract of each is the law.
+ghost use Rattle.std.specs.Prelude.{List, ℕ};
+ghost use Rattle.mm_model.specs.Image.{Image};
+ghost use Rattle.mm_checkpoint.specs.FileOrder.{PartsComeInOrder, FaultsComeInOrder};
 ghost use Rattle.mm_checkpoint.specs.Laws.{CheckpointsHaveNoFault, CheckpointsAreOne, CheckpointsAreShort};
 ghost use Rattle.mm_checkpoint.specs.Laws.{RestoredRunsGoOn, RoundRobinGoesOn, RunsHaveCheckpoints};
 ghost use Rattle.mm_checkpoint.specs.Laws.{RunsHaveSnapshots, SavedFormsAreStates, SnapshotsAreCheckpoints};
@@ -9,6 +12,18 @@ ghost use Rattle.mm_checkpoint.specs.Laws.{SnapshotsHaveSavedForms};
 /// A file that is read against an image has no fault exactly if its bytes are a checkpoint of the image.
 pub fn checkpoints_have_no_fault()
     ensures { CheckpointsHaveNoFault }
+{}
+
+/// The bytes of a checkpoint of an image are those of its header, of the records of its slots, of its outputs and of
+/// its pages, one after the other.
+pub fn parts_come_in_order()
+    ensures { PartsComeInOrder }
+{}
+
+/// The first fault of a file that is read against an image is that of the first of its parts that has one: header,
+/// records of slots, their places in queues, outputs, pages; and else it is a byte too many.
+pub fn faults_come_in_order()
+    ensures { (i : Image) (bytes : List ℕ) → FaultsComeInOrder i bytes }
 {}
 
 /// Bytes are at most one checkpoint of an image.

@@ -5,6 +5,7 @@ pub mod CountsOf
 pub mod Spelled
 pub mod SpelledObjects
 pub mod SpelledRecords
+pub mod SpelledCheckpoints
 pub mod Items
 pub mod Listed
 pub mod Reach

@@ -6,3 +6,4 @@ pub mod WorkedWords
 pub mod WorkedCommands
 pub mod WorkedObjects
 pub mod WorkedRecords
+pub mod WorkedCheckpoints

@@ -1,7 +1,7 @@
 -- Worked examples of object files: of the bytes of records, and of first faults.
 use Rattle.std.specs.Prelude.{◌≡◌, ℕ, List, [], ◌∷◌, ◌++◌, take, slice_set, replicate, codes, Some, None}
 use Rattle.std.specs.Prelude.{true, false}
-use Rattle.mm_word.specs.declared.perm.Perm.TheVariants.{Ro, Rw, Xu}
+use Rattle.mm_word.specs.declared.perm.Perm.TheVariants.{Ro, Rw, Xu, Xp}
 use Rattle.mm_object.specs.declared.thread.Value.TheVariants.{Int, Ptr}
 use Rattle.mm_object.specs.Format.{segment_record, reloc_record, thread_record}
 use Rattle.mm_object.specs.Faults.{object_fault}
@@ -74,9 +74,14 @@ SpellsThreads =
       regs =
           Int 9
           ∷ Ptr Ro (record { index = 10; addend = 16 })
-          ∷ replicate 14 (Int 0);
+          ∷ Ptr Rw (record { index = 11; addend = 24 })
+          ∷ replicate 12 (Int 0)
+          ++ Ptr Xp (record { index = 12; addend = 32 })
+          ∷ [];
     })
-    ≡ (1 ∷ 2 ∷ 5 ∷ 3 ∷ 0 ∷ 6 ∷ 0 ∷ 0 ∷ 0 ∷ 8 ∷ 0 ∷ 2 ∷ [])
+    ≡ (1 ∷ 2 ∷ 5 ∷ 3 ∷ 0 ∷ 6 ∷ 0 ∷ 0 ∷ 0 ∷ 8 ∷ 0x80 ∷ 6 ∷ [])
     ++ (0 ∷ 0 ∷ 0 ∷ 0 ∷ 0 ∷ 0 ∷ 0 ∷ 9 ∷ [])
     ++ (1 ∷ 0 ∷ 0 ∷ 10 ∷ 0 ∷ 0 ∷ 0 ∷ 16 ∷ [])
-    ++ replicate 112 0
+    ++ (2 ∷ 0 ∷ 0 ∷ 11 ∷ 0 ∷ 0 ∷ 0 ∷ 24 ∷ [])
+    ++ replicate 96 0
+    ++ (4 ∷ 0 ∷ 0 ∷ 12 ∷ 0 ∷ 0 ∷ 0 ∷ 32 ∷ [])

@@ -17,6 +17,11 @@ ghost use Rattle.mm_examples.specs.WorkedCommands.{TableIsWrittenOut};
 ghost use Rattle.mm_examples.specs.WorkedObjects.{FirstObjectFaults, UsesAreLate, SpellsSegments};
 ghost use Rattle.mm_examples.specs.WorkedObjects.{SpellsRelocations, SpellsThreads};
 ghost use Rattle.mm_examples.specs.WorkedRecords.{SpellsSlots, SpellsPages};
+ghost use Rattle.mm_examples.specs.WorkedCheckpoints.{SpellsHeaders, SpellsWaitingSlots, SpellsHaltedSlots};
+ghost use Rattle.mm_examples.specs.WorkedCheckpoints.{SpellsOutputsAndLoads, SavesAFault, SavesOutputsAndPages};
+ghost use Rattle.mm_examples.specs.WorkedCheckpoints.{FirstFaultsOfHeaders, FirstFaultsOfSlots};
+ghost use Rattle.mm_examples.specs.WorkedCheckpoints.{FirstFaultsOfOutputsAndPages, FirstFaultsOfWaitingSlots};
+ghost use Rattle.mm_examples.specs.WorkedCheckpoints.{PlacesAreLate, FirstFaultsOfLoads};
 ghost use Rattle.mm_examples.specs.WorkedReach.{TouchesItsCode, NoGroupWrites, WritesNoCode, TwoGroupsStandApart};
 ghost use Rattle.mm_examples.specs.WorkedReach.{BothCanWrite, NeitherStandsApart};
 ghost use Rattle.mm_examples.specs.WorkedWords.{MakesPointers, MakesNone, Moves, MovesFromTheBase, Restricts, Shortens};
@@ -115,6 +120,33 @@ pub fn bytes_of_records()
 pub fn faults_of_objects()
     ensures first_object_faults { FirstObjectFaults }
     ensures uses_are_late { UsesAreLate }
+{}
+
+/// Examples of the bytes of a checkpoint's records.
+#[tactic(auto, using(crate::proofs::SpelledCheckpoints::spells_headers, crate::proofs::SpelledCheckpoints::spells_waiting_slots, crate::proofs::SpelledCheckpoints::spells_halted_slots, crate::proofs::SpelledCheckpoints::spells_outputs_and_loads))]
+pub fn bytes_of_saved_records()
+    ensures headers { SpellsHeaders }
+    ensures waiting_slots { SpellsWaitingSlots }
+    ensures halted_slots { SpellsHaltedSlots }
+    ensures outputs_and_loads { SpellsOutputsAndLoads }
+{}
+
+/// Examples of the bytes of checkpoints of runs.
+#[tactic(auto, using(crate::proofs::SpelledCheckpoints::saves_a_fault, crate::proofs::SpelledCheckpoints::saves_outputs_and_pages))]
+pub fn bytes_of_checkpoints()
+    ensures fault { SavesAFault }
+    ensures outputs_and_pages { SavesOutputsAndPages }
+{}
+
+/// Examples of the first faults of a checkpoint's file, read against an image.
+#[tactic(auto, using(crate::proofs::SpelledCheckpoints::first_faults_of_headers, crate::proofs::SpelledCheckpoints::first_faults_of_slots, crate::proofs::SpelledCheckpoints::first_faults_of_outputs_and_pages, crate::proofs::SpelledCheckpoints::first_faults_of_waiting_slots, crate::proofs::SpelledCheckpoints::places_are_late, crate::proofs::SpelledCheckpoints::first_faults_of_loads))]
+pub fn faults_of_checkpoints()
+    ensures headers { FirstFaultsOfHeaders }
+    ensures slots { FirstFaultsOfSlots }
+    ensures outputs_and_pages { FirstFaultsOfOutputsAndPages }
+    ensures waiting_slots { FirstFaultsOfWaitingSlots }
+    ensures places_are_late { PlacesAreLate }
+    ensures loads { FirstFaultsOfLoads }
 {}
 
 /// Examples of schedules: their meanings and faults, and what is kept of them for a group.
