@@ -4,6 +4,9 @@ use Rattle.std.proofs.Common.{replicate, Option, Some, None, is_some, Result, Ok
 use Rattle.std.proofs.lemmas.List.{length-replicate}
 use Rattle.std.proofs.lemmas.Bool.Decides.{nat_tests}
 use Rattle.std.specs.Prelude.{is_none}
+use Rattle.mm_draft.proofs.Steps.{zeros_point_nowhere}
+use Rattle.mm_draft.proofs.Allowed.{good}
+use Rattle.mm_draft.proofs.Firsts.{no_fault}
 use Rattle.mm_line.specs.declared.fault.Problem.{Problem}
 use Rattle.mm_line.specs.declared.fault.Fault.TheVariants as faults
 use Rattle.mm_line.specs.declared.name.Mark.{Mark}
@@ -29,9 +32,8 @@ use Rattle.mm_draft.specs.Faults.{lines_from, lines_of, draft_of}
 use Rattle.mm_asm.specs.Bounds.{IsRegister, IsThread, IsDraft}
 use Rattle.mm_asm.specs.Laws.{DraftsAreBounded}
 use Rattle.mm_asm.proofs.Lists.{none_both}
-use Rattle.mm_asm.proofs.ExternalNames.{fault_none}
 use Rattle.mm_asm.proofs.Segments.{mark_name}
-use Rattle.mm_asm.proofs.Kept.{label_kept, begin_kept, words_kept, zeros_are, no_pointers, thread_kept, register_kept}
+use Rattle.mm_asm.proofs.Kept.{label_kept, begin_kept, words_kept, zeros_are, thread_kept, register_kept}
 use Rattle.mm_model.specs.Limits.{segment_limit}
 
 -- 1. Statements.
@@ -49,14 +51,14 @@ statement_kept : (source : Source) (most left : ℕ) (d : Draft) (claim : Option
 unfolding statement_faults add_statement
 statement_kept source most left d claim (statement.Spare frames) h none new names is = record { segments = h.segments; threads = h.threads; spare = is }
 statement_kept source most left d claim (statement.Begin mark log) h none new names is =
-    let full = fault_none (nat_le segment_limit (length d.segments)) faults.Limit left none in
+    let full = good (nat_le segment_limit (length d.segments)) faults.Limit left none in
     let few : length d.segments < segment_limit = grind (arith, nat_tests, full) in
-    let other = fault_none (is_named d mark.name) faults.Twice mark.left (claimed d claim (Some (claims.Segment mark)) names new) in
+    let other = good (is_named d mark.name) faults.Twice mark.left (claimed d claim (Some (claims.Segment mark)) names new) in
     record { segments = begin_kept d.segments d.names mark.name log h.segments few other (mark_name most mark is.0) is.1 is.2; threads = h.threads; spare = h.spare }
 statement_kept source most left d claim (statement.Fill words) h none new names is =
     record {
       segments = words_kept d h.segments (replicate words (zero_word source)) words 0 left
-          (length-replicate words (zero_word source)) (no_pointers source words) (zeros_are source words) none;
+          (length-replicate words (zero_word source)) (zeros_point_nowhere source words) (zeros_are source words) none;
       threads = h.threads;
       spare = h.spare;
     }
@@ -66,12 +68,12 @@ statement_kept source most left d claim (statement.Word full what) h none new na
 statement_kept source most left d claim (statement.Thread slot group handler perm target) h none new names is =
     let t : Thread = record { slot = slot; group = group; handler = handler; perm = perm; target = target; source = source; registers = [] } in
     let is_thread : IsThread t = record { slot = is.0; group = is.1; handler = is.2; perm = is.3; target = (most, is.4); registers = tt; apart = tt } in
-    let other = fault_none (has_slot d slot) faults.Twice names.0 (claimed d claim (Some (claims.Slot slot names.0)) names.1 new) in
+    let other = good (has_slot d slot) faults.Twice names.0 (claimed d claim (Some (claims.Slot slot names.0)) names.1 new) in
     record { segments = h.segments; threads = thread_kept d.threads t h.threads is_thread other; spare = h.spare }
 statement_kept source most left d claim (statement.Register number value) h none new names is =
     let r : Register = record { number = number; value = value; source = source } in
     let is_register : IsRegister r = (is.0, (most, is.1)) in
-    let other = fault_none (has_register (last d.threads) number) faults.Twice names.0 (claimed d claim (Some (claims.Register number names.0)) names.1 new) in
+    let other = good (has_register (last d.threads) number) faults.Twice names.0 (claimed d claim (Some (claims.Register number names.0)) names.1 new) in
     record { segments = h.segments; threads = register_kept d.threads r h.threads is_register other; spare = h.spare }
 
 -- 2. Lines.
@@ -96,10 +98,10 @@ label_is_kept d (Some (Ok mark)) h none = by (last d.segments) refl first
     both = none_both (fault_if (is_none (last d.segments)) faults.Place mark.left) (fault_if (is_named d mark.name) faults.Twice mark.left) none
 
     first : is_none (last d.segments) ≡ false
-    first = fault_none (is_none (last d.segments)) faults.Place mark.left both.0
+    first = good (is_none (last d.segments)) faults.Place mark.left both.0
 
     new : is_some (place_in d.names mark.name) ≡ false
-    new = fault_none (is_named d mark.name) faults.Twice mark.left both.1
+    new = good (is_named d mark.name) faults.Twice mark.left both.1
 
     by : (o : Option Segment) → last d.segments ≡ o → is_none o ≡ false → IsDraft (add_maybe_label (Some (Ok mark)) d)
     by None e f = absurd cc
@@ -123,10 +125,6 @@ lesser_is p (Some q) e = by (is_before q p) e
     by true f = cc
     by false f = cc
 
-pub none_first : (problems : List Problem) → first_of problems ≡ None → problems ≡ []
-none_first [] e = refl
-none_first (p ∷ problems) e = absurd (lesser_is p (first_of problems) e)
-
 step_kept : (number : ℕ) (bytes : List ℕ) (d e : Draft) → IsDraft d → step number bytes d ≡ Ok e → IsDraft e
 unfolding step
 step_kept number bytes d e h is = by (first_of (line_faults d (line_of bytes))) refl is
@@ -134,7 +132,7 @@ step_kept number bytes d e h is = by (first_of (line_faults d (line_of bytes))) 
     by : (o : Option Problem) → first_of (line_faults d (line_of bytes)) ≡ o → step_by o (source_of number bytes) (line_of bytes) d ≡ Ok e → IsDraft e
     by None f g =
         let same : add_line (source_of number bytes) (line_of bytes) d ≡ e = cc g in
-        subst IsDraft same (line_kept (source_of number bytes) bytes d h (none_first (line_faults d (line_of bytes)) f))
+        subst IsDraft same (line_kept (source_of number bytes) bytes d h (no_fault (line_faults d (line_of bytes)) f))
     by (Some problem) f g = absurd cc
 
 lines_kept : (lines : List (List ℕ)) (number : ℕ) (d e : Draft) → IsDraft d → lines_from number d lines ≡ Ok e → IsDraft e

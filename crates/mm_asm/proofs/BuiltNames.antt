@@ -8,7 +8,7 @@ use Rattle.std.specs.Ordering.{ordering_index, nat_cmp, is_lt, is_eq}
 use Rattle.std.specs.Cmp.Lexicographic.{slice_cmp}
 use Rattle.std.proofs.lemmas.Cmp.{nat_list_cmp_total, tied_itself}
 use Rattle.std.proofs.lemmas.Map.Text.{is_eq-slice_cmp}
-use Rattle.std.proofs.lemmas.Bool.{cases_lt}
+use Rattle.std.proofs.lemmas.Bool.{cases_lt, and_parts, false_from_ne_true}
 use Rattle.std.proofs.lemmas.List.Sorted.{searchable_from_sorted}
 use Rattle.std.specs.List.Sorted.{IsSortedBy, IsNonDecreasingBy, IsPartitionPoint}
 use denote.Ref.{Bor}
@@ -18,8 +18,6 @@ use Rattle.mm_draft.specs.Drafts.{Draft, place_of}
 use Rattle.mm_draft.specs.declared.fault.Failure.{Failure}
 use Rattle.mm_object.specs.Names.{is_before}
 use Rattle.mm_object.specs.Objects.{is_among, ascend}
-use Rattle.mm_model.proofs.ImageBytes.Rising.{both}
-use Rattle.mm_object.proofs.Bools.{is_false}
 use Rattle.mm_asm.specs.Names.{Use, position_of, externals_with, with_use, is_external, name_of}
 use Rattle.mm_asm.specs.Faults.{limit_failures, in_source, is_too_many}
 use Rattle.mm_asm.specs.Steps.{limit_failure}
@@ -87,7 +85,7 @@ pub ascend_rises : (xs : List (List ℕ)) → ascend xs ≡ true → Rising xs
 ascend_rises [] h = tt
 ascend_rises (x ∷ []) h = (tt, tt)
 ascend_rises (x ∷ y ∷ xs) h =
-    let b = both (is_before x y) (ascend (y ∷ xs)) h in
+    let b = and_parts (is_before x y) (ascend (y ∷ xs)) h in
     let r = ascend_rises (y ∷ xs) b.1 in
     ((b.0, each_weaker (λ z. is_before y z ≡ true) (λ z. is_before x z ≡ true) xs (λ z k. before_all x y z b.0 k) r.0), r)
 
@@ -105,13 +103,13 @@ place_is names name i up lt found =
 rises_at : (names : List (List ℕ)) (k : ℕ) (d : List ℕ) → ascend names ≡ true → k + 1 < length names → is_before (get_or names k d) (get_or names (k + 1) d) ≡ true
 rises_at [] k d h lt = absurd (omega arith)
 rises_at (x ∷ []) k d h lt = absurd (omega arith)
-rises_at (x ∷ y ∷ names) zero d h lt = (both (is_before x y) (ascend (y ∷ names)) h).0
+rises_at (x ∷ y ∷ names) zero d h lt = (and_parts (is_before x y) (ascend (y ∷ names)) h).0
 rises_at (x ∷ y ∷ names) (suc k) d h lt =
     let next : suc k + 1 ≡ suc (k + 1) = omega arith in
-    ap (λ n. is_before (get_or (y ∷ names) k d) (get_or (x ∷ y ∷ names) n d)) next ∙ rises_at (y ∷ names) k d (both (is_before x y) (ascend (y ∷ names)) h).1 (omega arith)
+    ap (λ n. is_before (get_or (y ∷ names) k d) (get_or (x ∷ y ∷ names) n d)) next ∙ rises_at (y ∷ names) k d (and_parts (is_before x y) (ascend (y ∷ names)) h).1 (omega arith)
 
 no_return : (a b : List ℕ) → is_before a b ≡ true → is_before b a ≡ false
-no_return a b h = is_false (is_before b a) (λ e. not_itself a (before_all a b a h e))
+no_return a b h = false_from_ne_true (is_before b a) (λ e. not_itself a (before_all a b a h e))
 
 sorted : (names : List (List ℕ)) → ascend names ≡ true → IsSortedBy (λ a b. is_lt (slice_cmp nat_cmp a b)) names
 sorted names h = λ k d low lt. no_return (get_or names k d) (get_or names (k + 1) d) (rises_at names k d h lt)

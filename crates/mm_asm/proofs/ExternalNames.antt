@@ -1,8 +1,9 @@
 -- The externals of uses: in order, each the name of a use, and few where no use is one too many.
 use Rattle.std.proofs.Common.{◌≡◌, ℕ, ◌≤◌, Bool, true, false, not, ◌&&◌, ◌||◌, nat_le, if◌then◌else◌, List, [], ◌∷◌, length, refl, sym, ap, ◌∙◌, subst, inl, inr, arith, bytes_eq}
 use Rattle.std.specs.List.{AllByRecursion}
-use Rattle.std.proofs.lemmas.Bool.{cases_lt}
+use Rattle.std.proofs.lemmas.Bool.{cases_lt, or_right, or_left}
 use Rattle.std.proofs.lemmas.Bool.Decides.{nat_tests}
+use Rattle.mm_draft.proofs.Allowed.{good}
 use Rattle.mm_line.specs.declared.fault.Fault.{Fault}
 use Rattle.mm_line.specs.declared.fault.Fault.TheVariants.{Limit}
 use Rattle.mm_draft.specs.Drafts.{Draft}
@@ -13,18 +14,6 @@ use Rattle.mm_asm.specs.Faults.{in_source, is_too_many, limit_failures}
 use Rattle.mm_asm.proofs.Lists.{none_both, none_map}
 use Rattle.mm_object.proofs.Members.{In}
 use Rattle.mm_asm.proofs.Order.{Rising, insert_rising, insert_each, insert_among, insert_length, insert_again, same_itself}
-
-pub fault_none : (bad : Bool) (fault : Fault) (left : ℕ) → fault_if bad fault left ≡ [] → bad ≡ false
-fault_none true fault left e = absurd cc
-fault_none false fault left e = refl
-
-or_right : (a b : Bool) → b ≡ true → (a || b) ≡ true
-or_right true b h = refl
-or_right false b h = h
-
-or_left : (a b : Bool) → a ≡ true → (a || b) ≡ true
-or_left true b h = refl
-or_left false b h = absurd cc
 
 module _ (d : Draft) where
   pub externals_rise : (uses : List Use) (names : List (List ℕ)) → Rising names → Rising (externals_with d names uses)
@@ -80,7 +69,7 @@ module _ (d : Draft) where
       rest = (none_both (in_source u.source (fault_if bad Limit u.target.mark.left)) (limit_failures d (with_use d u names) uses) none).1
 
       test : (is_external d u && is_too_many names (name_of u)) ≡ false
-      test = fault_none bad Limit u.target.mark.left (none_map _ (fault_if bad Limit u.target.mark.left) first)
+      test = good bad Limit u.target.mark.left (none_map _ (fault_if bad Limit u.target.mark.left) first)
 
       grown : (b : Bool) → Rising (if b then insert_name (name_of u) names else names)
       grown true = insert_rising (name_of u) names rising

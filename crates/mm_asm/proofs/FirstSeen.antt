@@ -10,6 +10,7 @@ use Rattle.std.proofs.lemmas.Bool.Decides.{nat_tests}
 use Rattle.std.proofs.lemmas.List.{map-append}
 use Rattle.std.proofs.lemmas.Map.Keys.{IsDistinct-head, IsDistinct-tail}
 use Rattle.std.proofs.lemmas.Slice.Eq.{bytes_eq-Decides}
+use Rattle.std.proofs.lemmas.Bool.{and_from, false_from_ne_true, or_left}
 use Rattle.indexmap.specs.IndexSet.{insert_key}
 use denote.Ref.{Bor}
 use Rattle.mm_line.specs.declared.fault.Fault.TheVariants.{Limit}
@@ -17,12 +18,10 @@ use Rattle.mm_draft.specs.Drafts.{Draft}
 use Rattle.mm_draft.specs.Faults.{fault_if}
 use Rattle.mm_object.specs.Names.{is_before}
 use Rattle.mm_object.specs.Objects.{is_among, ascend, external_limit}
-use Rattle.mm_object.proofs.Bools.{is_false}
-use Rattle.mm_model.proofs.ImageBytes.Rising.{and_true}
 use Rattle.mm_asm.specs.Names.{Use, HasEach, insert_name, is_external, name_of, seen_with, with_use}
 use Rattle.mm_asm.specs.Faults.{in_source, is_too_many}
 use Rattle.mm_asm.specs.Steps.{limit_failure}
-use Rattle.mm_asm.proofs.Order.{Rising, before_all, not_itself, one_first, is_same, is_other, same_itself, insert_among, insert_again, each_among}
+use Rattle.mm_asm.proofs.Order.{Rising, before_all, not_itself, one_first, is_same, is_other, same_itself, insert_among, insert_again, each_among, turned}
 use Rattle.mm_asm.proofs.BuiltNames.{order_of, ascend_rises, as_many}
 use Rattle.mm_object.specs.Steps.{key_names}
 
@@ -31,18 +30,9 @@ use Rattle.mm_object.specs.Steps.{key_names}
 clash : (b : Bool) → b ≡ true → b ≡ false → ⊥
 clash b e f = cc
 
-or_left : (a b : Bool) → a ≡ true → (a || b) ≡ true
-or_left true b e = refl
-or_left false b e = absurd cc
-
 the_other : (a b : Bool) → a ≡ false → (a || b) ≡ true → b ≡ true
 the_other true b e h = absurd cc
 the_other false b e h = h
-
-turned : (a b c : Bool) → (b || (a || c)) ≡ (a || (b || c))
-turned true true c = refl
-turned true false c = refl
-turned false b c = refl
 
 -- 2. A name more.
 
@@ -51,7 +41,7 @@ among_push m name [] = refl
 among_push m name (x ∷ xs) =
     ap (λ (b : Bool). bytes_eq m x || b) (among_push m name xs) ∙ turned (bytes_eq m name) (bytes_eq m x) (is_among m xs)
 
-insert_new : (name : List ℕ) (xs : List (List ℕ)) → is_among name xs ≡ false → length (insert_name name xs) ≡ length xs + 1
+pub insert_new : (name : List ℕ) (xs : List (List ℕ)) → is_among name xs ≡ false → length (insert_name name xs) ≡ length xs + 1
 insert_new name [] h = omega arith
 insert_new name (x ∷ xs) h = by (bytes_eq name x) (is_before name x) h (insert_new name xs)
   where
@@ -130,7 +120,7 @@ keys_ascend : (keys : List (Bor (List ℕ))) → IsSorted order_of keys → IsDi
 keys_ascend [] sorted apart = refl
 keys_ascend (x ∷ []) sorted apart = refl
 keys_ascend (x ∷ y ∷ keys) sorted apart =
-    and_true (is_before x.now y.now) (ascend (key_names (y ∷ keys))) (one_first y.now x.now no_later other)
+    and_from (is_before x.now y.now) (ascend (key_names (y ∷ keys))) (one_first y.now x.now no_later other)
     (keys_ascend (y ∷ keys) later (IsDistinct-tail alike x (y ∷ keys) apart))
   where
     no_later : is_before y.now x.now ≡ false
@@ -167,7 +157,7 @@ rest_alike : (x : List ℕ) (xs ys : List (List ℕ)) → Rising (x ∷ xs) → 
 rest_alike x xs ys h k same name = by (bytes_eq name x) refl (same name)
   where
     gone : bytes_eq name x ≡ true → (zs : List (List ℕ)) → Rising (x ∷ zs) → is_among name zs ≡ false
-    gone e zs r = is_false (is_among name zs) (λ t.
+    gone e zs r = false_from_ne_true (is_among name zs) (λ t.
         not_itself x (each_among (λ z. is_before x z ≡ true) x zs r.0 (subst (λ v. is_among v zs ≡ true) (is_same name x e) t)))
 
     by : (b : Bool) → bytes_eq name x ≡ b → (b || is_among name ys) ≡ (b || is_among name xs) → is_among name ys ≡ is_among name xs

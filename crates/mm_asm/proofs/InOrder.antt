@@ -7,6 +7,9 @@ use Rattle.std.proofs.lemmas.List.{map-append}
 use Rattle.std.proofs.lemmas.Bool.Decides.{nat_tests}
 use Rattle.std.proofs.lemmas.Grind.{flat_map-append}
 use Rattle.std.specs.Prelude.{is_none}
+use Rattle.std.proofs.lemmas.Bool.{lt-ltb}
+use Rattle.mm_draft.proofs.Allowed.{good}
+use Rattle.mm_draft.proofs.Firsts.{no_fault}
 use Rattle.mm_line.specs.declared.fault.Problem.{Problem}
 use Rattle.mm_line.specs.declared.fault.Fault.TheVariants as faults
 use Rattle.mm_line.specs.declared.name.Mark.{Mark}
@@ -33,8 +36,6 @@ use Rattle.mm_asm.proofs.Lists.{each_weaker, none_both}
 use Rattle.mm_object.proofs.Members.{each_in, each_from}
 use Rattle.mm_asm.proofs.Uses.{in_merge}
 use Rattle.mm_asm.proofs.Relocs.{RisesWithin, higher, rises, in_turn}
-use Rattle.mm_asm.proofs.ExternalNames.{fault_none}
-use Rattle.mm_asm.proofs.Bounded.{none_first}
 
 abbrev line_of_use : Use → ℕ
 line_of_use u = u.source.line
@@ -45,15 +46,12 @@ module _ (u : Use) where
   abbrev Earlier : List Use → Type 0
   Earlier uses = AllByRecursion (λ (v : Use). v.source.line < u.source.line) uses
 
-  is_less : (a b : ℕ) → a < b → nat_lt a b ≡ true
-  is_less a b lt = grind (arith, nat_tests)
-
   is_not_less : (a b : ℕ) → a < b → nat_lt b a ≡ false
   is_not_less a b lt = grind (arith, nat_tests)
 
   behind_all : (ys : List Use) → Earlier ys → merge (u ∷ []) ys ≡ ys ++ u ∷ []
   behind_all [] h = refl
-  behind_all (y ∷ ys) h = by (nat_lt y.source.line u.source.line) (is_less y.source.line u.source.line h.0) (behind_all ys h.1)
+  behind_all (y ∷ ys) h = by (nat_lt y.source.line u.source.line) (lt-ltb y.source.line u.source.line h.0) (behind_all ys h.1)
     where
       by : (b : Bool) → b ≡ true → merge (u ∷ []) ys ≡ ys ++ u ∷ [] → (if b then y ∷ merge (u ∷ []) ys else u ∷ merge [] (y ∷ ys)) ≡ y ∷ (ys ++ u ∷ [])
       by true e later = ap (λ (zs : List Use). y ∷ zs) later
@@ -215,7 +213,7 @@ module _ (source : Source) (d : Draft) (h : InOrder source.line d) where
       ap (λ (vs : List Use). u ∷ vs) (flat_push (λ (x : Register). x) register_uses (register_uses r) t.registers r refl) in
       subst (λ (vs : List Use). Stand (source.line + 1) (merge ofWords vs))
       (sym (flat_changed (with_register r) thread_uses (register_uses r) d.threads
-      (fault_none (is_none (last d.threads)) faults.Place left none) grown))
+      (good (is_none (last d.threads)) faults.Place left none) grown))
       (right_stands source.line ofWords ofThreads h (register_uses r) (constant_on_line source value))
 
   body_in_order : (body : Option Body) → body_faults d body ≡ [] → InOrder (source.line + 1) (add_body source body d)
@@ -246,7 +244,7 @@ step_in_order number bytes d e h is = by (first_of (line_faults d (line_of bytes
     by : (o : Option Problem) → first_of (line_faults d (line_of bytes)) ≡ o → step_by o (source_of number bytes) (line_of bytes) d ≡ Ok e → InOrder (number + 1) e
     by None f g =
         let same : add_line (source_of number bytes) (line_of bytes) d ≡ e = cc g in
-        subst (InOrder (number + 1)) same (line_in_order (source_of number bytes) (line_of bytes) d h (none_first (line_faults d (line_of bytes)) f))
+        subst (InOrder (number + 1)) same (line_in_order (source_of number bytes) (line_of bytes) d h (no_fault (line_faults d (line_of bytes)) f))
     by (Some problem) f g = absurd cc
 
 lines_in_order : (lines : List (List ℕ)) (number : ℕ) (d e : Draft) → InOrder number d → lines_from number d lines ≡ Ok e → (high : ℕ) × InOrder high e

@@ -7,6 +7,10 @@ use Rattle.std.proofs.lemmas.List.{map-append}
 use Rattle.std.proofs.lemmas.List.Folds.{list_any-append}
 use Rattle.std.proofs.lemmas.Bool.Decides.{nat_tests}
 use Rattle.std.proofs.lemmas.Slice.Eq.{bytes_eq-Decides}
+use Rattle.std.proofs.lemmas.Bool.{or_parts, false_from_ne_true, or_from, ltb-false}
+use Rattle.mm_draft.proofs.Lasts.{pointers_append}
+use Rattle.mm_draft.proofs.Allowed.{good}
+use Rattle.mm_model.proofs.CoreRows.{into_map}
 use Rattle.mm_line.specs.declared.fault.Fault.TheVariants.{Full, Limit}
 use Rattle.mm_draft.specs.declared.source.Source.{Source}
 use Rattle.mm_draft.specs.declared.segment.Word.{Word}
@@ -16,14 +20,12 @@ use Rattle.mm_draft.specs.Drafts.{Segment, Entry, Thread, Draft, place_in, last,
 use Rattle.mm_draft.specs.Faults.{room_of, fault_if, has_register, words_faults}
 use Rattle.mm_object.specs.Names.{is_name}
 use Rattle.mm_object.specs.Objects.{is_among, are_apart}
-use Rattle.mm_model.proofs.ImageBytes.Clean.{neither}
-use Rattle.mm_object.proofs.Bools.{any-map, is_false, none_of}
+use Rattle.mm_object.proofs.Bools.{any-map}
 use Rattle.mm_object.proofs.Apartness.{apart-push}
 use Rattle.mm_asm.specs.Bounds.{IsWord, IsRegister, AreApart, IsSegment, IsThread, HasWord, IsLocation, AreNamed, AreSegments, AreThreads}
 use Rattle.mm_asm.proofs.Lists.{each_weaker, each_changed, length_changed, map_changed, total, total_more, total_changed, none_both}
-use Rattle.mm_object.proofs.Members.{each_more, each_map}
+use Rattle.mm_object.proofs.Members.{each_more}
 use Rattle.mm_asm.proofs.Order.{is_other, each_among}
-use Rattle.mm_asm.proofs.ExternalNames.{fault_none}
 use Rattle.mm_model.specs.Limits.{segment_limit, word_limit, reloc_limit}
 
 -- 1. Names.
@@ -60,7 +62,7 @@ entry_is_new (x ∷ entries) name new = by (bytes_eq name x.name) refl new (entr
         → (is_some (place_in entries name) ≡ false → is_among name (map (λ (e : Entry). e.name) entries) ≡ false) →
         is_among name (map (λ (e : Entry). e.name) (x ∷ entries)) ≡ false
     by true e f later = absurd cc
-    by false e f later = none_of _ _ (is_other name x.name (λ same. let t = (bytes_eq-Decides name x.name).1 same in cc (t, e))) (later f)
+    by false e f later = or_from _ _ (is_other name x.name (λ same. let t = (bytes_eq-Decides name x.name).1 same in cc (t, e))) (later f)
 
 entries_apart : (entries : List Entry) (e : Entry) → are_apart (map (λ (x : Entry). x.name) entries) ≡ true
     → is_some (place_in entries e.name) ≡ false → are_apart (map (λ (x : Entry). x.name) (entries ++ e ∷ [])) ≡ true
@@ -95,10 +97,10 @@ each_stands entries k (s ∷ segments) h = ((record { segment = k; word = 0; is_
 -- a name that stands for nothing is that of no segment
 name_is_new : (entries : List Entry) (name : List ℕ) (segments : List Segment) → AreNamed entries 0 segments
     → is_some (place_in entries name) ≡ false → is_among name (map (λ (s : Segment). s.name) segments) ≡ false
-name_is_new entries name segments h new = is_false (is_among name (map (λ (s : Segment). s.name) segments)) (λ among.
+name_is_new entries name segments h new = false_from_ne_true (is_among name (map (λ (s : Segment). s.name) segments)) (λ among.
     let Stands : List ℕ → Type 0 = λ n. (p : Location) × (place_in entries n ≡ Some p) in
     let stands : (p : Location) × (place_in entries name ≡ Some p) = each_among Stands name
-    (map (λ (s : Segment). s.name) segments) (each_map Stands (λ (s : Segment). s.name) segments
+    (map (λ (s : Segment). s.name) segments) (into_map Stands (λ (s : Segment). s.name) segments
     (each_stands entries 0 segments h)) among in
     let some : is_some (place_in entries name) ≡ true = ap is_some stands.1 in
     cc (some, new))
@@ -140,10 +142,6 @@ words_total (s ∷ segments) = omega (arith, words_total segments)
 pointers_total : (segments : List Segment) → pointers_of segments ≡ total (λ (s : Segment). pointers_among s.words) segments
 pointers_total [] = refl
 pointers_total (s ∷ segments) = omega (arith, pointers_total segments)
-
-pointers_more : (words more : List Word) → pointers_among (words ++ more) ≡ pointers_among words + pointers_among more
-pointers_more [] more = omega arith
-pointers_more (w ∷ words) more = omega (arith, pointers_more words more)
 
 -- 4. Segments.
 
@@ -218,7 +216,7 @@ module _ (d : Draft) (h : AreSegments d.segments d.names) (words : List Word) (c
       let fits : length x.words + count ≤ room_of x = subst (λ (y : Segment). length y.words + count ≤ room_of y) (sym same) room in
       record { name = k.name; least = k.least; greatest = k.greatest; room = omega (arith, length-append x.words words, fits, is_count); words = each_more IsWord x.words words k.words are } in
       let words_grow = total_changed (λ (x : Segment). length x.words) (with_words words) (length words) d.segments (λ x. omega (arith, length-append x.words words)) in
-      let pointers_grow = total_changed (λ (x : Segment). pointers_among x.words) (with_words words) (pointers_among words) d.segments (λ x. omega (arith, pointers_more x.words words)) in
+      let pointers_grow = total_changed (λ (x : Segment). pointers_among x.words) (with_words words) (pointers_among words) d.segments (λ x. omega (arith, pointers_append x.words words)) in
       let names_same : map (λ (x : Segment). x.name) longer ≡ map (λ (x : Segment). x.name) d.segments = map_changed (with_words words) (λ (x : Segment). x.name) d.segments (λ x. refl) in
       record {
         few = omega (arith, length_changed (with_words words) d.segments, h.few);
@@ -232,9 +230,6 @@ module _ (d : Draft) (h : AreSegments d.segments d.names) (words : List Word) (c
             (λ x k. place_in_longer words d.segments x.place.segment x.place.word k) h.places;
       }
 
-  not_less : (a b : ℕ) → nat_lt a b ≡ false → b ≤ a
-  not_less a b e = grind (arith, nat_tests)
-
   pub words_kept : words_faults d count pointers left (last d.segments) ≡ [] → AreSegments longer d.names
   words_kept none = by (last d.segments) refl none
     where
@@ -244,27 +239,23 @@ module _ (d : Draft) (h : AreSegments d.segments d.names) (words : List Word) (c
           let full : Bool = nat_lt (room_of s) (length s.words + count) in
           let many : Bool = nat_lt word_limit (words_of d.segments + count) || nat_lt reloc_limit (pointers_of d.segments + pointers) in
           let both = none_both (fault_if full Full left) (fault_if many Limit left) f in
-          let limits = neither (nat_lt word_limit (words_of d.segments + count)) (nat_lt reloc_limit (pointers_of d.segments + pointers)) (fault_none many Limit left both.1) in
-          with_room s e (not_less (room_of s) (length s.words + count) (fault_none full Full left both.0))
-          (not_less word_limit (words_of d.segments + count) limits.0) (not_less reloc_limit (pointers_of d.segments + pointers) limits.1)
+          let limits = or_parts (nat_lt word_limit (words_of d.segments + count)) (nat_lt reloc_limit (pointers_of d.segments + pointers)) (good many Limit left both.1) in
+          with_room s e (ltb-false (room_of s) (length s.words + count) (good full Full left both.0))
+          (ltb-false word_limit (words_of d.segments + count) limits.0) (ltb-false reloc_limit (pointers_of d.segments + pointers) limits.1)
 
 -- integers that are 0
 pub zeros_are : (source : Source) (n : ℕ) → AllByRecursion IsWord (replicate n (zero_word source))
 zeros_are source zero = tt
 zeros_are source (suc n) = ((0, omega arith), zeros_are source n)
 
-pub no_pointers : (source : Source) (n : ℕ) → pointers_among (replicate n (zero_word source)) ≡ 0
-no_pointers source zero = refl
-no_pointers source (suc n) = omega (arith, no_pointers source n)
-
 -- 5. Threads.
 
 apart_push : (numbers : List ℕ) (n : ℕ) → AreApart numbers → list_any (λ m. m == n) numbers ≡ false → AreApart (numbers ++ n ∷ [])
 apart_push [] n h new = (refl, tt)
 apart_push (m ∷ numbers) n h new =
-    let both = neither (m == n) (list_any (λ k. k == n) numbers) new in
+    let both = or_parts (m == n) (list_any (λ k. k == n) numbers) new in
     let first : list_any (λ k. k == m) (numbers ++ n ∷ []) ≡ false =
-    list_any-append (λ k. k == m) numbers (n ∷ []) ∙ none_of _ _ h.0 (none_of (n == m) false (turn m n both.0) refl) in
+    list_any-append (λ k. k == m) numbers (n ∷ []) ∙ or_from _ _ h.0 (or_from (n == m) false (turn m n both.0) refl) in
     (first, apart_push numbers n h.1 both.1)
   where
     turn : (a b : ℕ) → (a == b) ≡ false → (b == a) ≡ false

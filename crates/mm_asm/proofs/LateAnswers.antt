@@ -18,7 +18,7 @@ use Rattle.mm_asm.specs.declared.fault.AsmError.TheVariants as errors
 use Rattle.mm_asm.specs.Meaning.{object_of}
 use Rattle.mm_asm.specs.Faults.{late_failures, first_fault, Means}
 use Rattle.mm_asm.proofs.Lists.{none_map}
-use Rattle.mm_asm.proofs.Texts.{none_least}
+use Rattle.mm_asm.proofs.Texts.{none_least, ok_same}
 use Rattle.mm_asm.specs.Answers.{Fails, pair_of_error}
 
 -- failures without a least one are none
@@ -50,9 +50,6 @@ module _ (text : List ℕ) where
   pub is_meant : (d : Draft) (r : Result Object AsmError) → draft_of text ≡ Ok d → ValueOrFault Fails (least (map failure_pair (late_failures d))) (object_of d) r → IfOk r (λ o. Means text o)
   is_meant d (Ok o) e g = record { draft = d; early = e; late = none_late (late_failures d) g.0; object = g.1 }
   is_meant d (Err x) e g = tt
-
-  ok_same : (d e : Draft) → (let r : Result Draft Failure = Ok d in r) ≡ Ok e → d ≡ e
-  ok_same d e h = cc
 
   pub is_again : (d : Draft) (r : Result Object AsmError) → draft_of text ≡ Ok d
       → ValueOrFault Fails (least (map failure_pair (late_failures d))) (object_of d) r → (o : Object) → Means text o

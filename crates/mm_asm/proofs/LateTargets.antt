@@ -4,6 +4,8 @@ use Rattle.std.specs.List.{AllByRecursion}
 use Rattle.std.proofs.Math.Nat.{pow-le-pow_right}
 use Rattle.std.proofs.lemmas.Bool.Decides.{nat_tests}
 use Rattle.std.proofs.lemmas.List.{length-map}
+use Rattle.std.proofs.lemmas.Bool.{and_parts, ltb-true}
+use Rattle.mm_model.proofs.CoreRows.{into_map}
 use Rattle.mm_line.specs.declared.statement.Target as text
 use Rattle.mm_line.specs.declared.statement.Constant.{Constant}
 use Rattle.mm_line.specs.declared.statement.Constant.TheVariants.{Integer, Pointer}
@@ -16,14 +18,13 @@ use Rattle.mm_draft.specs.declared.thread.Register.{Register}
 use Rattle.mm_draft.specs.Drafts as draft
 use Rattle.mm_draft.specs.Drafts.{Draft, place_of}
 use Rattle.mm_object.specs.Objects.{Segment, is_within}
-use Rattle.mm_model.proofs.ImageBytes.Rising.{both}
 use Rattle.mm_asm.specs.Names.{Use, uses_of, externals_of, segment_uses, word_uses, content_uses, constant_uses, thread_uses, register_uses, meant_by, position_of}
 use Rattle.mm_asm.specs.Meaning.{segment_of, target_of, target_by}
 use Rattle.mm_asm.specs.Faults.{late_failures}
 use Rattle.mm_asm.specs.Bounds as bounds
 use Rattle.mm_asm.specs.Bounds.{IsDraft}
 use Rattle.mm_asm.specs.Fits.{FitsTarget, FitsConstant, FitsPointer, FitsPointers, FitsThread}
-use Rattle.mm_object.proofs.Members.{In, in_flat, each_in, each_from, each_map}
+use Rattle.mm_object.proofs.Members.{In, in_flat, each_in, each_from}
 use Rattle.mm_asm.proofs.Uses.{uses_placed}
 use Rattle.mm_asm.proofs.Targets.{segments_of, external_count, targets_are, few_externals}
 use Rattle.mm_asm.proofs.ExternalNames.{used_among}
@@ -31,9 +32,6 @@ use Rattle.mm_asm.proofs.Segments.{words_in}
 use Rattle.mm_asm.proofs.Whole.{in_words, in_threads}
 
 -- 1. A target.
-
-is_less : (a b : ℕ) → nat_lt a b ≡ true → a < b
-is_less a b h = grind (arith, nat_tests, h)
 
 found_below : (segments : List Segment) (i : ℕ) (s : Segment) → AllByRecursion (λ (s : Segment). s.log ≤ 20) segments → slice_get segments i ≡ Some s → (i < length segments) × (s.log ≤ 20)
 found_below [] i s h e = absurd cc
@@ -45,18 +43,18 @@ within_fits : (segments : List Segment) (all index addend : ℕ) (o : Option Seg
     → is_within o all index addend ≡ true → (index < 2 ^ 16) × (addend < 2 ^ 32)
 within_fits segments all index addend (Some s) e logs few most h =
     let r = found_below segments index s logs e in
-    let small : addend < 2 ^ s.log = is_less addend (2 ^ s.log) h in
+    let small : addend < 2 ^ s.log = ltb-true addend (2 ^ s.log) h in
     let size : 2 ^ s.log ≤ 2 ^ 20 = pow-le-pow_right {n = 2} (omega arith) r.1 in
     (omega (arith, r.0), omega (arith, small, size))
 within_fits segments all index addend None e logs few most h =
-    let r = both (nat_lt index all) (nat_lt addend (2 ^ 20)) h in
-    (let a = is_less index all r.0 in omega arith, let b = is_less addend (2 ^ 20) r.1 in omega arith)
+    let r = and_parts (nat_lt index all) (nat_lt addend (2 ^ 20)) h in
+    (let a = ltb-true index all r.0 in omega arith, let b = ltb-true addend (2 ^ 20) r.1 in omega arith)
 
 -- 2. All of a draft.
 
 module _ (d : Draft) (is_draft : IsDraft d) (late : late_failures d ≡ []) where
   logs : AllByRecursion (λ (s : Segment). s.log ≤ 20) (segments_of d)
-  logs = each_map (λ (s : Segment). s.log ≤ 20) (segment_of d) d.segments (each_from (λ (s : draft.Segment). s.log ≤ 20)
+  logs = into_map (λ (s : Segment). s.log ≤ 20) (segment_of d) d.segments (each_from (λ (s : draft.Segment). s.log ≤ 20)
       d.segments (λ s m. let h : bounds.IsSegment s = each_in bounds.IsSegment s d.segments is_draft.segments.each m in
       h.greatest))
 

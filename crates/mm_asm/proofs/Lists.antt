@@ -3,9 +3,8 @@ use Rattle.std.proofs.Common.{◌≡◌, ℕ, zero, suc, ◌+◌, ◌≤◌, Boo
 use Rattle.std.proofs.Common.{[], ◌∷◌, ◌++◌, map, length, slice_get, Some, None, option_map, refl, sym, ap, ◌∙◌}
 use Rattle.std.proofs.Common.{inl, inr, arith}
 use Rattle.std.specs.List.{flat_map, list_any, list_all, AllByRecursion}
+use Rattle.std.proofs.lemmas.Bool.{and_from, false_from_ne_true, or_left, or_right}
 use Rattle.mm_draft.specs.Drafts.{last, change_last}
-use Rattle.mm_model.proofs.ImageBytes.Rising.{and_true}
-use Rattle.mm_object.proofs.Bools.{is_false}
 use Rattle.mm_object.proofs.Members.{In, found}
 
 -- 1. Each.
@@ -16,23 +15,15 @@ each_weaker P Q (x ∷ xs) w h = (w x h.0, each_weaker P Q xs w h.1)
 
 pub passes : {A : Type 0} (p : A → Bool) (xs : List A) → AllByRecursion (λ x. p x ≡ true) xs → list_all p xs ≡ true
 passes p [] h = refl
-passes p (x ∷ xs) h = and_true _ _ h.0 (passes p xs h.1)
+passes p (x ∷ xs) h = and_from _ _ h.0 (passes p xs h.1)
 
 pub any_found : {A : Type 0} (p : A → Bool) (x : A) (xs : List A) → In x xs → p x ≡ true → list_any p xs ≡ true
 any_found p x [] h k = absurd h
 any_found p x (y ∷ xs) (inl e) k = or_left (p y) (list_any p xs) (ap p (sym e) ∙ k)
-  where
-    or_left : (a b : Bool) → a ≡ true → (a || b) ≡ true
-    or_left true b e = refl
-    or_left false b e = absurd cc
 any_found p x (y ∷ xs) (inr h) k = or_right (p y) (list_any p xs) (any_found p x xs h k)
-  where
-    or_right : (a b : Bool) → b ≡ true → (a || b) ≡ true
-    or_right true b e = refl
-    or_right false b e = e
 
 pub none_found : {A : Type 0} (p : A → Bool) (xs : List A) → ((x : A) → In x xs → p x ≡ true → ⊥) → list_any p xs ≡ false
-none_found p xs h = is_false (list_any p xs) (λ k. let r = found p xs k in h r.0 r.1 r.2)
+none_found p xs h = false_from_ne_true (list_any p xs) (λ k. let r = found p xs k in h r.0 r.1 r.2)
 
 -- 2. Empty lists.
 
@@ -55,11 +46,6 @@ pub get_map : {A B : Type 0} (f : A → B) (xs : List A) (i : ℕ) → slice_get
 get_map f [] i = refl
 get_map f (x ∷ xs) zero = refl
 get_map f (x ∷ xs) (suc i) = get_map f xs i
-
-pub get_past : {A : Type 0} (xs : List A) (i : ℕ) → length xs ≤ i → slice_get xs i ≡ None
-get_past [] i le = refl
-get_past (x ∷ xs) zero le = absurd (omega arith)
-get_past (x ∷ xs) (suc i) le = get_past xs i (omega arith)
 
 -- 5. The last item changes.
 

@@ -5,6 +5,7 @@ use Rattle.std.proofs.Common.{length-append}
 use Rattle.std.specs.List.{flat_map, AllByRecursion}
 use Rattle.std.specs.List.Sorted.{IsStrictlyIncreasing}
 use Rattle.std.proofs.lemmas.List.{map-append}
+use Rattle.std.proofs.lemmas.Bool.{and_from}
 use Rattle.mm_line.specs.declared.statement.Constant.TheVariants.{Integer, Pointer}
 use Rattle.mm_line.specs.declared.statement.Content.{Content}
 use Rattle.mm_line.specs.declared.statement.Content.TheVariants as content
@@ -15,7 +16,6 @@ use Rattle.mm_object.specs.declared.item.Item.{Item}
 use Rattle.mm_object.specs.declared.target.Target.{Target}
 use Rattle.mm_object.specs.declared.target.Reloc.{Reloc}
 use Rattle.mm_object.specs.Objects.{Segment, is_target, item_of, is_zero, is_reloc, place_of}
-use Rattle.mm_model.proofs.ImageBytes.Rising.{and_true}
 use Rattle.mm_asm.specs.Names.{Use, content_uses, word_uses, segment_uses}
 use Rattle.mm_asm.specs.Meaning.{bits_of, word_items, segment_of, target_of, content_relocs, words_relocs, segments_relocs}
 use Rattle.mm_asm.proofs.Lists.{get_map}
@@ -158,7 +158,7 @@ module _ (d : Draft) where
             let zero_bits : is_zero (item_of (slice_get all segment) k) ≡ true = ap is_zero item ∙ ap (λ (c : Content). bits_of d (0 + k) c == 0) e in
             let u : Use = record { target = target; source = w.source } in
             let m : In u (word_uses w) = subst (λ (c : Content). In u (content_uses w.source c)) (sym e) (inl refl) in
-            (and_true _ _ zero_bits (targets u m), tt)
+            (and_from _ _ zero_bits (targets u m), tt)
         by (content.Constant (Integer n)) e = tt
         by (content.Code code) e = tt
 

@@ -8,6 +8,7 @@ use Rattle.std.specs.Char.{is_digit, is_ascii_alphabetic}
 use Rattle.std.specs.Int.{w32}
 use Rattle.std.proofs.lemmas.Int.{ints}
 use Rattle.std.proofs.lemmas.Bool.Decides.{nat_tests}
+use Rattle.std.proofs.lemmas.Bool.{and_parts, and_from}
 use Rattle.mm_isa.specs.declared.fields.Fields.{Fields}
 use Rattle.mm_isa.specs.Table.{packed, FitInWord}
 use Rattle.mm_isa.proofs.Operands.{fields_fit}
@@ -25,7 +26,6 @@ use Rattle.mm_draft.specs.Drafts.{Entry, Draft, place_in, place_of}
 use Rattle.mm_object.specs.declared.item.Item.{Item}
 use Rattle.mm_object.specs.Names.{begins_name, goes_on, has_form, is_name}
 use Rattle.mm_object.specs.Objects as object
-use Rattle.mm_model.proofs.ImageBytes.Rising.{both, and_true}
 use Rattle.mm_asm.specs.Meaning.{distance_to, with_goal, bits_of, word_items, segment_of}
 use Rattle.mm_asm.specs.Bounds.{IsWord, IsSegment, HasWord, IsLocation, IsDraft}
 use Rattle.mm_object.proofs.Members.{In}
@@ -41,18 +41,18 @@ byte_goes_on b h = grind (arith, nat_tests, h)
 
 all_go_on : (bytes : List ℕ) → list_all is_name_byte bytes ≡ true → list_all goes_on bytes ≡ true
 all_go_on [] h = refl
-all_go_on (b ∷ bytes) h = let r = both (is_name_byte b) (list_all is_name_byte bytes) h in and_true _ _ (byte_goes_on b r.0) (all_go_on bytes r.1)
+all_go_on (b ∷ bytes) h = let r = and_parts (is_name_byte b) (list_all is_name_byte bytes) h in and_from _ _ (byte_goes_on b r.0) (all_go_on bytes r.1)
 
 has_the_form : (name : List ℕ) → forms.is_name name ≡ true → has_form name ≡ true
 has_the_form [] h = absurd cc
 has_the_form (b ∷ bytes) h =
-    let r = both (begins_name b) (list_all is_name_byte (b ∷ bytes)) h in
-    let s = both (is_name_byte b) (list_all is_name_byte bytes) r.1 in
-    and_true (begins_name b) (list_all goes_on bytes) r.0 (all_go_on bytes s.1)
+    let r = and_parts (begins_name b) (list_all is_name_byte (b ∷ bytes)) h in
+    let s = and_parts (is_name_byte b) (list_all is_name_byte bytes) r.1 in
+    and_from (begins_name b) (list_all goes_on bytes) r.0 (all_go_on bytes s.1)
 
 -- the name of a mark is one that an object may have
 pub mark_name : (most : ℕ) (m : Mark) → IsMark most m → is_name m.name ≡ true
-mark_name most m h = and_true (has_form m.name) (nat_le (length m.name) 31) (has_the_form m.name h.name) (grind (arith, nat_tests, h.length))
+mark_name most m h = and_from (has_form m.name) (nat_le (length m.name) 31) (has_the_form m.name h.name) (grind (arith, nat_tests, h.length))
 
 pub names_same : (d : Draft) (segments : List draft.Segment) → object.names_of (map (segment_of d) segments) ≡ map (λ (s : draft.Segment). s.name) segments
 names_same d [] = refl

@@ -3,21 +3,23 @@ use Rattle.std.proofs.Common.{◌≡◌, ℕ, ◌+◌, ◌*◌, ◌^◌, ◌<◌
 use Rattle.std.specs.List.{flat_map}
 use Rattle.std.proofs.lemmas.List.{length-map}
 use Rattle.std.proofs.lemmas.Bool.Decides.{nat_tests}
+use Rattle.std.proofs.lemmas.Bool.{and_from}
+use Rattle.std.proofs.lemmas.Option.{slice_get_past}
+use Rattle.mm_draft.proofs.Allowed.{good}
 use Rattle.mm_line.specs.declared.fault.Fault.TheVariants.{Range}
 use Rattle.mm_line.specs.declared.statement.Target as text
 use Rattle.mm_draft.specs.declared.location.Location.{Location}
 use Rattle.mm_draft.specs.Drafts as draft
 use Rattle.mm_draft.specs.Drafts.{Draft, place_of}
 use Rattle.mm_object.specs.Objects.{Segment, is_among, is_within, is_target, external_limit, greatest_log}
-use Rattle.mm_model.proofs.ImageBytes.Rising.{and_true}
 use Rattle.mm_asm.specs.Names.{Use, Here, meant_by, meant, uses_of, externals_of, position_of}
 use Rattle.mm_asm.specs.Meaning.{segment_of, target_by, target_of}
 use Rattle.mm_asm.specs.Faults.{is_outside, meant_faults, use_failures, goal_failures, limit_failures, late_failures}
 use Rattle.mm_asm.specs.Bounds.{IsPlaced}
-use Rattle.mm_asm.proofs.Lists.{none_both, none_flat, none_map, get_map, get_past}
+use Rattle.mm_asm.proofs.Lists.{none_both, none_flat, none_map, get_map}
 use Rattle.mm_object.proofs.Members.{In}
 use Rattle.mm_asm.proofs.Order.{Rising, position_below}
-use Rattle.mm_asm.proofs.ExternalNames.{fault_none, externals_rise, externals_few, used_among}
+use Rattle.mm_asm.proofs.ExternalNames.{externals_rise, externals_few, used_among}
 
 module _ (d : Draft) where
   pub externals_rising : Rising (externals_of d)
@@ -51,7 +53,7 @@ module _ (d : Draft) where
         → is_target segments_of external_count (target_by d (meant_by (Some p) t)) ≡ true
     here p t left e =
         let offset : ℕ = 8 * p.word + t.addend in
-        let inside = fault_none (is_outside (slice_get d.segments p.segment) offset) Range left e in
+        let inside = good (is_outside (slice_get d.segments p.segment) offset) Range left e in
         ap (λ (o : Option Segment). is_within o (length segments_of + external_count) p.segment offset) (get_map (segment_of d) d.segments p.segment)
         ∙ within (slice_get d.segments p.segment) (length segments_of + external_count) p.segment offset inside
 
@@ -60,9 +62,9 @@ module _ (d : Draft) where
         let place : ℕ = position_of t.mark.name (externals_of d) in
         let low : place < external_count = position_below t.mark.name (externals_of d) among in
         let same : length segments_of ≡ length d.segments = length-map d.segments (segment_of d) in
-        let none : slice_get segments_of (length d.segments + place) ≡ None = get_past segments_of (length d.segments + place) (omega (arith, same)) in
+        let none : slice_get segments_of (length d.segments + place) ≡ None = slice_get_past segments_of (length d.segments + place) (omega (arith, same)) in
         ap (λ (o : Option Segment). is_within o (length segments_of + external_count) (length d.segments + place) t.addend) none
-        ∙ and_true (nat_lt (length d.segments + place) (length segments_of + external_count))
+        ∙ and_from (nat_lt (length d.segments + place) (length segments_of + external_count))
         (nat_lt t.addend (2 ^ greatest_log)) (grind (arith, nat_tests, low, same)) (grind (arith, nat_tests, small))
 
     -- a target of the draft is one of its object

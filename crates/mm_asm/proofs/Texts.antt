@@ -25,7 +25,7 @@ pub none_least : (pairs : List Pair) → least pairs ≡ None → pairs ≡ []
 none_least [] e = refl
 none_least (p ∷ pairs) e = absurd (sooner_is p (least pairs) e)
 
-ok_same : (d e : Draft) → (let r : Result Draft Failure = Ok d in r) ≡ Ok e → d ≡ e
+pub ok_same : (d e : Draft) → (let r : Result Draft Failure = Ok d in r) ≡ Ok e → d ≡ e
 ok_same d e h = cc
 
 module _ (text : List ℕ) where

@@ -6,6 +6,8 @@ use Rattle.std.specs.List.{flat_map, list_any, list_all, AllByRecursion}
 use Rattle.std.specs.List.Sorted.{IsStrictlyIncreasing}
 use Rattle.std.proofs.lemmas.List.{length-map}
 use Rattle.std.proofs.lemmas.Bool.Decides.{nat_tests}
+use Rattle.std.proofs.lemmas.Bool.{eq-eqb}
+use Rattle.mm_model.proofs.CoreRows.{into_map}
 use Rattle.mm_draft.specs.declared.location.Location.{Location}
 use Rattle.mm_draft.specs.Drafts as draft
 use Rattle.mm_draft.specs.Drafts.{Draft, place_of}
@@ -20,7 +22,7 @@ use Rattle.mm_asm.specs.Faults.{late_failures}
 use Rattle.mm_asm.specs.Bounds as bounds
 use Rattle.mm_asm.specs.Bounds.{IsDraft}
 use Rattle.mm_asm.proofs.Lists.{passes, any_found, none_found}
-use Rattle.mm_object.proofs.Members.{In, in_left, in_right, in_map, in_flat, from_flat, each_in, each_from, each_map}
+use Rattle.mm_object.proofs.Members.{In, in_left, in_right, in_map, in_flat, from_flat, each_in, each_from}
 use Rattle.mm_asm.proofs.Order.{rising_ascends, each_among, position_at}
 use Rattle.mm_asm.proofs.ExternalNames.{externals_each}
 use Rattle.mm_asm.proofs.Uses.{in_merge, from_merge, uses_placed}
@@ -90,7 +92,7 @@ module _ (d : Draft) (is_draft : IsDraft d) (late : late_failures d ≡ []) wher
   Stands name = (p : Location) × (place_of d name ≡ Some p)
 
   segments_stand : AllByRecursion Stands (names_of (segments_of d))
-  segments_stand = subst (AllByRecursion Stands) (sym (names_same d d.segments)) (each_map Stands (λ (s : draft.Segment). s.name) d.segments (each_stands d.names 0 d.segments is_draft.segments.named))
+  segments_stand = subst (AllByRecursion Stands) (sym (names_same d d.segments)) (into_map Stands (λ (s : draft.Segment). s.name) d.segments (each_stands d.names 0 d.segments is_draft.segments.named))
 
   externals_foreign : list_any (λ name. is_among name (names_of (segments_of d))) (externals_of d) ≡ false
   externals_foreign = none_found (λ name. is_among name (names_of (segments_of d))) (externals_of d) (λ name m among.
@@ -115,30 +117,27 @@ module _ (d : Draft) (is_draft : IsDraft d) (late : late_failures d ≡ []) wher
       let same : (target_of d u.0.target).index ≡ length (segments_of d) + i = omega (arith, index, place, length-map d.segments (segment_of d)) in
       any_found (λ (t : Target). t.index == length (segments_of d) + i) (target_of d u.0.target)
       (targets_of relocs threads) (target_in u.0 u.1)
-      (equal (target_of d u.0.target).index (length (segments_of d) + i) same)
-    where
-      equal : (a b : ℕ) → a ≡ b → (a == b) ≡ true
-      equal a b e = grind (arith, nat_tests)
+      (eq-eqb (target_of d u.0.target).index (length (segments_of d) + i) same)
 
   -- 3. Threads.
 
   threads_rise : RisesWithin 0 16 (map (λ (t : Thread). t.slot) threads)
   threads_rise =
       by_slot_rises (map (thread_of d) d.threads) (subst bounds.AreApart (sym (slots_same d d.threads)) is_draft.threads.apart)
-      (each_map (λ (t : Thread). t.slot < 16) (thread_of d) d.threads (each_from (λ (t : draft.Thread). t.slot < 16)
+      (into_map (λ (t : Thread). t.slot < 16) (thread_of d) d.threads (each_from (λ (t : draft.Thread). t.slot < 16)
       d.threads (λ t m. let h : bounds.IsThread t = each_in bounds.IsThread t d.threads is_draft.threads.each m in
       h.slot)))
 
   -- what is true of each thread of the draft is true of each of the object
   each_thread : (P : Thread → Type 0) → ((t : draft.Thread) → In t d.threads → bounds.IsThread t → P (thread_of d t)) → AllByRecursion P threads
   each_thread P h = each_by_slot P (map (thread_of d) d.threads)
-      (each_map P (thread_of d) d.threads (each_from (λ (t : draft.Thread). P (thread_of d t)) d.threads
+      (into_map P (thread_of d) d.threads (each_from (λ (t : draft.Thread). P (thread_of d t)) d.threads
       (λ t m. h t m (each_in bounds.IsThread t d.threads is_draft.threads.each m))))
 
   -- 4. The whole.
 
   segments_are : AllByRecursion IsSegment (segments_of d)
-  segments_are = each_map IsSegment (segment_of d) d.segments
+  segments_are = into_map IsSegment (segment_of d) d.segments
       (each_from (λ (s : draft.Segment). IsSegment (segment_of d s)) d.segments
       (λ s m. segment_is d is_draft s m (each_in bounds.IsSegment s d.segments is_draft.segments.each m)))
 

@@ -95,9 +95,6 @@ fn object_of(alloc: Global, draft: &Draft<'_>, externals: Vec<Name>) -> Result<O
     let relocs = relocs_of(alloc, draft, &externals)?;
     let threads = threads_of(alloc, draft, &externals)?;
     let spare = draft.spare().unwrap_or(0);
-    match Object::new(segments, externals, relocs, threads, spare) {
-        Some(object) => Ok(object),
-        // What a text means is an object.
-        None => unreachable!(),
-    }
+    // What a text means is an object.
+    Ok(Object::of(segments, externals, relocs, threads, spare))
 }

@@ -94,18 +94,7 @@ pub(crate) fn names_of(alloc: Global, names: &IndexSet<&[u8]>) -> Result<Vec<Nam
 {
     let mut made = Vec::new(alloc);
     for name in names {
-        made.push(name_of(name))?;
+        made.push(Name::of(name))?;
     }
     Ok(made)
-}
-
-/// The name of bytes that are known to be one.
-pub(crate) fn name_of(bytes: &[u8]) -> Name
-    requires { is_name bytes.now ≡ true }
-    ensures { result ≡ bytes.now }
-{
-    match Name::new(bytes) {
-        Some(name) => name,
-        None => unreachable!(),
-    }
 }

@@ -9,11 +9,10 @@ ghost use Rattle.mm_asm.specs.Meaning.{distance_to, with_goal, bits_of, word_ite
 ghost use Rattle.mm_draft.specs.Drafts.{place_of};
 
 use crate::AsmError;
-use crate::externals::name_of;
 use mm_draft::{Draft, Segment as Said, Word};
 use mm_isa::Fields;
 use mm_line::{Code, Constant, Content, Mark};
-use mm_object::{Item, Segment};
+use mm_object::{Item, Name, Segment};
 use std::alloc::Global;
 
 /// The distance in words from a word to a label, which may come before it.
@@ -76,7 +75,7 @@ fn segment_of(alloc: Global, draft: &Draft<'_>, said: &Said<'_>) -> Result<Segme
     ensures memory { IsOkUnless result AsmError.NoMemory }
 {
     Ok(Segment {
-        name: name_of(said.name.bytes()),
+        name: Name::of(said.name.bytes()),
         log: said.log,
         items: items_of(alloc, draft, &said.words)?,
     })

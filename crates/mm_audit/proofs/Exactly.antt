@@ -4,13 +4,13 @@ use Rattle.std.specs.List.{Contains, AllByRecursion}
 use Rattle.std.proofs.lemmas.Bool.{cases_lt}
 use Rattle.std.proofs.lemmas.List.{get_or_default}
 use Rattle.std.proofs.lemmas.List.Elements.{Contains-get_or}
+use Rattle.mm_seg.proofs.Commons.{some_in}
 use Rattle.mm_word.specs.Pointer.{Pointer, InSegment, Covers, base_of}
 use Rattle.mm_word.proofs.Below.{Covers-short}
 use Rattle.mm_model.specs.Image.{Image}
 use Rattle.mm_model.specs.Reach.{Entries, Grants, CanTouch, CanWrite}
 use Rattle.mm_model.specs.Audit.{GrantedSegment, MaximalSegment, MaximalSegments}
 use Rattle.mm_seg.specs.Segments.{IsSet, SomeHolds, Covered, At, LiesIn, segment_at, end_of}
-use Rattle.mm_seg.proofs.Searches.{compare}
 use Rattle.mm_graph.proofs.Bounds.{covers_in, in_covers}
 use Rattle.mm_model.specs.declared.word_use.WordUse.{WordUse}
 use Rattle.mm_model.specs.declared.word_use.WordUse.TheVariants.{Touch, Write}
@@ -107,16 +107,13 @@ module _ (i : Image) (e : Entries) (spans : List Span) (a : AreSpans i e spans) 
 
     -- two segments of the set that share an address are one
     same_index : (m n b : ℕ) → At set m b → At set n b → m ≡ n
-    same_index m n b s t = elim (compare m n) [
+    same_index m n b s t = elim (cases_lt m n) [
       | inl lt ↦ absurd (let up = is_set.rise m n lt t.0 in let p = s.2 in let r = t.1 in omega arith)
-      | inr le ↦ elim (compare n m) [
+      | inr le ↦ elim (cases_lt n m) [
         | inl lt ↦ absurd (let up = is_set.rise n m lt s.0 in let p = t.2 in let r = s.1 in omega arith)
         | inr ge ↦ omega arith
       ]
     ]
-
-    base_inside : (s : ℕ × ℕ) → s.0 < end_of s
-    base_inside s = let room = pow_pos s.1 in omega arith
 
     maximal : (n : ℕ) → n < length set → (p : Pointer) → Grants i e g p → can how p.perm ≡ true → InSegment p (segment_at set n).0 → p.log ≤ (segment_at set n).1
     maximal n lt p h c inside = elim (cases_lt p.log 3) [
@@ -126,7 +123,7 @@ module _ (i : Image) (e : Entries) (spans : List Span) (a : AreSpans i e spans) 
           let b = between p (segment_at set n).0 inside in
           let w = t.within in
           let here : At set t.at (segment_at set n).0 = (t.small, let u = b.0 in let v = w.0 in omega arith, let u = b.1 in let v = w.1 in omega arith) in
-          let there : At set n (segment_at set n).0 = (lt, omega arith, base_inside (segment_at set n)) in
+          let there : At set n (segment_at set n).0 = (lt, omega arith, some_in (segment_at set n)) in
           let same = same_index t.at n (segment_at set n).0 here there in
           shorter (segment_of p) (segment_at set n) (subst (λ v. LiesIn (segment_of p) (segment_at set v)) same w)
     ]
@@ -159,7 +156,7 @@ module _ (i : Image) (e : Entries) (spans : List Span) (a : AreSpans i e spans) 
 
     pub are_maximal : MaximalSegments i e g (can how) set
     are_maximal = record {
-      ascending = rises set (λ k lt. let up = is_set.rise k (k + 1) (omega arith) lt in let room = base_inside (segment_at set k) in omega arith);
+      ascending = rises set (λ k lt. let up = is_set.rise k (k + 1) (omega arith) lt in let room = some_in (segment_at set k) in omega arith);
       each = λ s. (to_maximal s, from_maximal s);
     }
 

@@ -2,6 +2,7 @@
 use Rattle.std.proofs.Common.{ℕ, ◌<◌, ◌≤◌, inl, inr, sym, subst, arith}
 use Rattle.std.specs.List.{Contains}
 use Rattle.std.proofs.lemmas.List.Elements.{All-from_recursion, All-contains}
+use Rattle.mm_word.proofs.Results.{enter_result-well_formed}
 use Rattle.mm_word.specs.declared.word.Word.TheVariants.{Ptr}
 use Rattle.mm_word.specs.Word.{IsWord}
 use Rattle.mm_word.specs.Pointer.{Pointer, IsWellFormed}
@@ -12,7 +13,6 @@ use Rattle.mm_model.specs.Spelling.{IsImage, IsFresh}
 use Rattle.mm_model.specs.Reach.{Entries, Grants, Serves}
 use Rattle.mm_model.specs.Reach.Grants.{in_register, runs_by, in_cell, below, passed, entered, served, made}
 use Rattle.mm_graph.proofs.CellWords.{well_formed}
-use Rattle.mm_graph.proofs.Standing.{enters-well_formed}
 
 pub limit_small : (i : Image) → IsImage i → slot_limit i.version ≤ 64
 limit_small i image = elim image.version [ inl e ↦ subst (λ v. slot_limit v ≤ 64) (sym e) (omega arith) | inr e ↦ subst (λ v. slot_limit v ≤ 64) (sym e) (omega arith) ]
@@ -27,7 +27,7 @@ module _ (i : Image) (e : Entries) (image : IsImage i) where
   granted-well_formed g q (in_cell p w c by ld at is) = well_formed i.memory image.words w c q at is
   granted-well_formed g q (below p by b) = IsBelow-well_formed p q (granted-well_formed g p by) b
   granted-well_formed g q (passed h w p r what to st by ld) = granted-well_formed h q what
-  granted-well_formed g q (entered p by perm may is) = enters-well_formed p q (granted-well_formed g p by) is
+  granted-well_formed g q (entered p by perm may is) = enter_result-well_formed p q (granted-well_formed g p by) is
   granted-well_formed g q (served h by s) = granted-well_formed h q by
   granted-well_formed g q (made p by x well) = well
 

@@ -1,9 +1,10 @@
 -- The words at which groups meet are the least that they share.
 use Rattle.std.proofs.Common.{ℕ, ◌+◌, ◌<◌, ◌≤◌, inl, inr, List, length, sym, subst, arith}
+use Rattle.std.proofs.lemmas.Bool.{cases_lt}
 use Rattle.mm_model.specs.Image.{Image}
 use Rattle.mm_model.specs.Spelling.{IsImage}
 use Rattle.mm_model.specs.Reach.{Entries, CanTouch, CanWrite}
-use Rattle.mm_seg.proofs.Searches.{compare, same_or_below}
+use Rattle.mm_seg.proofs.Searches.{same_or_below}
 use Rattle.mm_model.specs.declared.word_use.WordUse.{WordUse}
 use Rattle.mm_model.specs.declared.word_use.WordUse.TheVariants.{Touch, Write}
 use Rattle.mm_audit.specs.declared.span.Span.{Span}
@@ -37,7 +38,7 @@ module _ (i : Image) (e : Entries) (image : IsImage i) (spans : List Span) (a : 
     pub meet : MeetAt spans at h g
 
   meet_before : (h g w : ℕ) → UsedSpan spans Write h w → UsedSpan spans Touch g w → MeetBefore h g w
-  meet_before h g w x y = elim (compare x.at y.at) [
+  meet_before h g w x y = elim (cases_lt x.at y.at) [
     | inl lt ↦ record { at = y.at; small = y.small; low = y.low; meet = record { writes = use_live Write h w y.at x (omega arith) y.low; touches = use_live Touch g w y.at y (omega arith) y.low } }
     | inr le ↦ record { at = x.at; small = x.small; low = x.low; meet = record { writes = use_live Write h w x.at x (omega arith) x.low; touches = use_live Touch g w x.at y le x.low } }
   ]

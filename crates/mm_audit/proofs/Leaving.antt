@@ -5,7 +5,7 @@ use Rattle.std.proofs.Common.{drop-cons, Option, Some, None, refl, sym, ap, ◌�
 use Rattle.std.specs.Prelude.{Contains, IfSome}
 use Rattle.std.specs.List.{list_any}
 use Rattle.std.specs.Int.{bit_at, w64}
-use Rattle.std.proofs.lemmas.Bool.{both_ways, false_from_ne_true, true_from_ne_false, and_parts, and_from, cases_lt}
+use Rattle.std.proofs.lemmas.Bool.{both_ways, false_from_ne_true, true_from_ne_false, and_parts, and_from, cases_lt, cases_eq}
 use Rattle.std.proofs.lemmas.Nat.Bits.{bit_at-lt, bit_at-zero, shr_and_one, bit_at_set_same, bit_at_set_other}
 use Rattle.std.proofs.lemmas.List.Folds.{Any-from_list_any, list_any_at}
 use Rattle.std.proofs.lemmas.List.Elements.{All-from_recursion, All-contains, Contains-append_left, Contains-push, Contains-push_cases}
@@ -46,15 +46,9 @@ IsNumbers inside slots c = (n : ℕ) → (bit_at inside n ≡ 1) ↔ HasSlotAt s
 pub no_numbers : (c : ℕ → Bool) → IsNumbers 0 [] c
 no_numbers c n = (λ bit. absurd (let z = bit_at-zero n in omega arith), λ x. absurd (let lt = x.stands.1 in omega arith))
 
-same_or_not : (n g : ℕ) → (n ≡ g) ⊎ (n ≢ g)
-same_or_not n g = elim (cases_lt n g) [
-  | inl lt ↦ inr (λ e. absurd (omega arith))
-  | inr le ↦ elim (cases_lt g n) [ inl lt ↦ inr (λ e. absurd (omega arith)) | inr ge ↦ inl (omega arith) ]
-]
-
 module _ (inside : ℕ) (slots : List Slot) (c : ℕ → Bool) (s : Slot) (h : IsNumbers inside slots c) where
   pub numbers_more : s.number < 64 → c s.group ≡ true → IsNumbers (bit_or inside (1 * 2 ^ s.number % 2 ^ 64)) (slots ++ s ∷ []) c
-  numbers_more lt member n = elim (same_or_not n s.number) [
+  numbers_more lt member n = elim (cases_eq n s.number) [
     | inl e ↦ (
       λ bit. record { slot = s; stands = Contains-push slots s; number = sym e; member = member },
       λ x. ap (bit_at (bit_or inside (1 * 2 ^ s.number % 2 ^ 64))) e ∙ bit_at_set_same w64 inside s.number lt,

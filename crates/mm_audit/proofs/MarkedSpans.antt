@@ -27,7 +27,7 @@ use Rattle.mm_graph.specs.declared.canonical_ptr.CanonicalPtr.{CanonicalPtr}
 use Rattle.mm_graph.specs.Key.{key_at, no_key}
 use Rattle.mm_graph.specs.Marked.{IsMarked, node_pointer}
 use Rattle.mm_graph.proofs.Nesting.{log_is}
-use Rattle.mm_graph.proofs.Bounds.{three_then}
+use Rattle.mm_graph.proofs.Bounds.{three_then, three}
 use Rattle.mm_model.specs.declared.word_use.WordUse.{WordUse}
 use Rattle.mm_model.specs.declared.word_use.WordUse.TheVariants.{Touch, Write}
 use Rattle.mm_audit.specs.declared.span.Span.{Span}
@@ -47,9 +47,6 @@ then_kept b m g h e = subst (λ v. bit_at (kept_mask v m) g ≡ 1) (sym e) h
 
 some_bit : (m g : ℕ) → bit_at m g ≡ 1 → m ≡ 0 → ⊥
 some_bit m g h e = let z = bit_at-zero g in let one : bit_at 0 g ≡ 1 = subst (λ v. bit_at v g ≡ 1) e h in omega arith
-
-three : (n : ℕ) → nat_le 3 n ≡ true → 3 ≤ n
-three n h = grind (arith, nat_tests)
 
 module _ (i : Image) (e : Entries) (image : IsImage i) (keys : List CanonicalPtr) (nodes : List Node) (marks : List ℕ) (m : IsMarked i e keys nodes marks) where
   module _ (privileged : ℕ) (rights : (g : ℕ) → (bit_at privileged g ≡ 1) ↔ HasSome marks (right_at nodes Make) g) where

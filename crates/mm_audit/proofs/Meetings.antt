@@ -3,7 +3,8 @@ use Rattle.std.proofs.Common.{◌≡◌, ℕ, ◌+◌, ◌<◌, ◌≤◌, ◌�
 use Rattle.std.specs.Int.{bit_at}
 use Rattle.std.proofs.lemmas.List.{get_or-set_same, get_or-set_other, length-set}
 use Rattle.std.proofs.lemmas.Nat.Bits.{bit_at-zero}
-use Rattle.mm_seg.proofs.Searches.{compare, same_or_below}
+use Rattle.std.proofs.lemmas.Bool.{cases_eq}
+use Rattle.mm_seg.proofs.Searches.{same_or_below}
 use Rattle.mm_model.specs.declared.word_use.WordUse.TheVariants.{Touch, Write}
 use Rattle.mm_audit.specs.declared.span.Span.{Span}
 use Rattle.mm_audit.specs.declared.open_spans.Open.{Open}
@@ -12,12 +13,6 @@ use Rattle.mm_audit.specs.Spans.{AreInOrder, base_at}
 use Rattle.mm_audit.specs.Opening.{IsOpenAt}
 use Rattle.mm_audit.specs.Meeting.{NotesWord, NotesAll, AreNoRows, MeetAt, IsMeeting, HaveMet, HasWord, no_row, row_at, word_at}
 use Rattle.mm_audit.proofs.Bits.{zero_or_one}
-
-nat_cases : (k h : ℕ) → (k ≡ h) ⊎ (k ≡ h → ⊥)
-nat_cases k h = elim (compare k h) [
-  | inl lt ↦ inr (λ e. let e2 : k ≡ h = e in omega arith)
-  | inr le ↦ elim (compare h k) [ inl lt ↦ inr (λ e. let e2 : k ≡ h = e in omega arith) | inr ge ↦ inl (omega arith) ]
-]
 
 -- 1. One row more.
 
@@ -56,7 +51,7 @@ module _ (writers touchers word h : ℕ) (old now : List Meets) (n : NotesAll wr
       there k other = get_or-set_other now h k row no_row other
 
       cases : (k : ℕ) → (k ≡ h) ⊎ (k ≡ h → ⊥)
-      cases k = nat_cases k h
+      cases k = cases_eq k h
 
       other : (k : ℕ) → (bit_at writers k ≡ 1 → ⊥) ⊎ (h + 1 ≤ k) → k ≡ h → ⊥
       other k (inl no_bit) e = no_bit (subst (λ v. bit_at writers v ≡ 1) (sym e) bit)

@@ -3,7 +3,8 @@ use Rattle.std.proofs.Common.{◌≡◌, ℕ, ◌+◌, ◌-◌, ◌<◌, ◌≤�
 use Rattle.std.specs.Int.{bit_at}
 use Rattle.std.proofs.lemmas.List.{get_or-take, get_or_append_left, get_or_push}
 use Rattle.std.proofs.lemmas.Nat.Bits.{bit_at-zero}
-use Rattle.mm_seg.proofs.Searches.{compare, same_or_below}
+use Rattle.std.proofs.lemmas.Bool.{cases_lt}
+use Rattle.mm_seg.proofs.Searches.{same_or_below}
 use Rattle.mm_model.specs.declared.word_use.WordUse.{WordUse}
 use Rattle.mm_model.specs.declared.word_use.WordUse.TheVariants.{Touch, Write}
 use Rattle.mm_audit.specs.declared.span.Span.{Span}
@@ -63,21 +64,21 @@ module _ (spans : List Span) (o : AreInOrder spans) (k : ℕ) (place : k < lengt
       old_innermost n a low inn = record {
         small = (let s = inn.small in let f = cl.fits in omega arith);
         holds = (let t = inn.holds in let e = new_end n inn.small in omega arith);
-        last = λ lt. elim (compare (n + 1) (length new)) [
+        last = λ lt. elim (cases_lt (n + 1) (length new)) [
           | inl less ↦ let t = inn.last less in let e = new_end (n + 1) less in omega arith
           | inr le ↦ let t = cl.ended (n + 1) le lt in omega arith
         ];
       }
 
       old_past : (a : ℕ) → base ≤ a → (0 < length new → open_end new 0 ≤ a) → 0 < length old → open_end old 0 ≤ a
-      old_past a low past some = elim (compare 0 (length new)) [
+      old_past a low past some = elim (cases_lt 0 (length new)) [
         | inl less ↦ let t = past less in let e = new_end 0 less in omega arith
         | inr le ↦ let t = cl.ended 0 le some in omega arith
       ]
 
   -- each of the others ends behind the base, and so at the span's end or behind it
   ends_late : (n : ℕ) → n < length new → base < open_end new n
-  ends_late n lt = elim (compare n (length new - 1)) [
+  ends_late n lt = elim (cases_lt n (length new - 1)) [
     | inl less ↦ let f = still.fall n (length new - 1) less (omega arith) in let t = cl.last (omega arith) in omega arith
     | inr le ↦ let e : n ≡ length new - 1 = omega arith in subst (λ v. base < open_end new v) (sym e) (cl.last (omega arith))
   ]
@@ -93,7 +94,7 @@ module _ (spans : List Span) (o : AreInOrder spans) (k : ℕ) (place : k < lengt
   -- 3. Who uses the span, or one around it.
 
   over_users : (how : WordUse) (a g : ℕ) → base ≤ a → (0 < length new → a < open_end new (length new - 1)) → (bit_at (users how over) g ≡ 1) ↔ IsLive spans how k a g
-  over_users how a g low inner = elim (compare 0 (length new)) [
+  over_users how a g low inner = elim (cases_lt 0 (length new)) [
     | inl some ↦ subst (λ v. (bit_at (users how v) g ≡ 1) ↔ IsLive spans how k a g) (sym (last.some some))
         (still.inside how (length new - 1) a g low (record { small = omega arith; holds = inner some; last = λ lt. absurd (omega arith) }))
     | inr none ↦

@@ -1,7 +1,7 @@
 -- The outermost spans of groups are disjoint, and hold all spans of these groups.
 use Rattle.std.proofs.Common.{◌≡◌, ℕ, zero, suc, ◌<◌, ◌≤◌, ◌⊎◌, inl, inr, Bool, true, false, not, ◌==◌, ◌&&◌, nat_le}
 use Rattle.std.proofs.Common.{bit_and, if◌then◌else◌, List, [], ◌∷◌, length, refl, sym, ap, subst, arith, pow_pos}
-use Rattle.std.proofs.lemmas.Bool.{and_parts}
+use Rattle.std.proofs.lemmas.Bool.{and_parts, leb-true, leb-false}
 use Rattle.std.proofs.lemmas.Bool.Decides.{nat_tests}
 use Rattle.mm_model.specs.declared.word_use.WordUse.{WordUse}
 use Rattle.mm_audit.specs.declared.span.Span.{Span}
@@ -36,14 +36,8 @@ module _ (how : WordUse) (groups : ℕ) where
   later : (from upto : ℕ) (s : Span) (spans : List Span) (t : ℕ × ℕ) → from ≤ upto → FromSpan upto spans t → FromSpan from (s ∷ spans) t
   later from upto s spans t le f = record { at = suc f.at; small = (let a = f.small in omega arith); uses = f.uses; is = f.is; low = (let a = f.low in omega arith) }
 
-  not_before : (from a : ℕ) → nat_le from a ≡ true → from ≤ a
-  not_before from a h = grind (arith, nat_tests)
-
-  before : (from a : ℕ) → nat_le from a ≡ false → a < from
-  before from a h = grind (arith, nat_tests)
-
   next_low : (from : ℕ) (s : Span) → is_next how groups from s ≡ true → (is_of s ≡ true) × (from ≤ s.base)
-  next_low from s e = let p = and_parts (is_of s) (nat_le from s.base) e in (p.0, not_before from s.base p.1)
+  next_low from s e = let p = and_parts (is_of s) (nat_le from s.base) e in (p.0, leb-true from s.base p.1)
 
   abbrev Out : Bool → ℕ → Span → List Span → List (ℕ × ℕ)
   Out b from s spans = if b then segment_of s ∷ outermost how groups (end_of (segment_of s)) spans else outermost how groups from spans
@@ -97,7 +91,7 @@ module _ (how : WordUse) (groups : ℕ) where
         | inl inside ↦ inr (record { at = 0; small = omega arith; within = (o.rise 0 (suc k) (omega arith) lt, inside) })
         | inr h ↦ inr (record { at = suc h.at; small = (let a = h.small in omega arith); within = h.within })
       ]
-  held_more from s spans o ends all false e zero lt u = inl (ends 0 (omega arith) (before from s.base (behind (is_of s) (nat_le from s.base) u e)))
+  held_more from s spans o ends all false e zero lt u = inl (ends 0 (omega arith) (leb-false from s.base (behind (is_of s) (nat_le from s.base) u e)))
   held_more from s spans o ends all false e (suc k) lt u = all from (λ n small. ends (suc n) (omega arith)) k (omega arith) u
 
   held_from : (spans : List Span) (from : ℕ) → AreInOrder spans → EndsBy from spans → AllHeld from spans (outermost how groups from spans)

@@ -21,7 +21,7 @@ use Rattle.mm_model.specs.Spelling.{HoldsWords, IsImage}
 use Rattle.mm_model.specs.Reach.Entries.{All}
 use Rattle.mm_model.specs.Worlds.{Touchable, Extracts}
 use Rattle.mm_model.proofs.Filters.{filter_last_in, filter_last_out}
-use Rattle.mm_model.proofs.Memories.{cell_at-aligned, cell_at-unaligned, word_or_none, page_whole}
+use Rattle.mm_model.proofs.Memories.{cell_at-aligned, cell_at-unaligned, word_or_none, page_whole, truth, place_within}
 use Rattle.mm_image.specs.Images.{image_from}
 use Rattle.mm_audit.specs.Own.{kept_cell, kept_cells, some_word, has_word, kept_pages}
 
@@ -125,10 +125,6 @@ module _ (passes : ℕ → Bool) where
       both_sides : (a b p q : Bool) → a ≡ b → p ≡ q → (a && p) ≡ (b && q)
       both_sides a b p q e f = ap (λ v. v && p) e ∙ ap (λ v. b && v) f
 
-  truth : (b : Bool) → T b → b ≡ true
-  truth true h = refl
-  truth false h = absurd h
-
   kept_rises : (pages : List (ℕ × List Cell)) → IsTrue (is_sorted nat_cmp pages) → IsTrue (is_sorted nat_cmp (kept_pages passes pages))
   kept_rises pages h = cut_sorted (held pages) ∙ truth (is_sorted nat_cmp (held pages)) (is_sorted-where_key nat_cmp (has_word passes) pages (subst T (sym h) tt))
 
@@ -190,9 +186,6 @@ module _ (passes : ℕ → Bool) where
 word_is : (w : ℕ) → w % 8 ≡ 0 → page_of w * 4096 + 8 * place_of w ≡ w
 word_is w a = omega arith
 
-place_small : (w : ℕ) → place_of w < 512
-place_small w = omega arith
-
 of_page : (q k : ℕ) → k < 512 → (page_of (q * 4096 + 8 * k) ≡ q) × ((q * 4096 + 8 * k) % 8 ≡ 0)
 of_page q k lt = (omega arith, omega arith)
 
@@ -208,7 +201,7 @@ module _ (i : Image) (img : IsImage i) (c : ℕ → Bool) (passes : ℕ → Bool
   touch_passes w t = (says w t.touches.loads.word (small w t)).1 t
 
   touch_held : (w : ℕ) → Touchable i All c w → has_word passes (page_of w) ≡ true
-  touch_held w t = has_then passes (page_of w) (place_of w) (place_small w) (ap passes (word_is w t.touches.loads.word) ∙ touch_passes w t)
+  touch_held w t = has_then passes (page_of w) (place_of w) (place_within w) (ap passes (word_is w t.touches.loads.word) ∙ touch_passes w t)
 
   number_small : (q : ℕ) → is_mapped i.memory q ≡ true → q < 2 ^ 42
   number_small q h = by (page_at i.memory q) refl h

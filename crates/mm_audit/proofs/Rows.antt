@@ -1,7 +1,8 @@
 -- The best so far, with one group more.
 use Rattle.std.proofs.Common.{◌≡◌, ℕ, ◌+◌, ◌<◌, ◌≤◌, inl, inr, min, bit_and, List, slice_index, Option, Some, None, MatchOption, sym, ◌∙◌, subst, arith}
 use Rattle.std.specs.Int.{bit_at}
-use Rattle.mm_seg.proofs.Searches.{compare, same_or_below}
+use Rattle.std.proofs.lemmas.Bool.{cases_lt}
+use Rattle.mm_seg.proofs.Searches.{same_or_below}
 use Rattle.mm_audit.specs.declared.shared_words.Meets.{Meets}
 use Rattle.mm_audit.specs.Meeting.{row_at}
 use Rattle.mm_audit.specs.Writers.{IsWord, NoneWith, LeastWith, IsOutside}
@@ -40,7 +41,7 @@ module _ (row : Meets) (inside h : ℕ) where
           (λ v. r ≤ slice_index row.words v) (sym same) (omega arith)
     ];
   }
-  best_more r bit (Some v) b e = elim (compare v (slice_index row.words h)) [
+  best_more r bit (Some v) b e = elim (cases_lt v (slice_index row.words h)) [
     | inl lt ↦ let is : r ≡ v = omega arith in record {
       group = b.group;
       has = wider b.group b.has;

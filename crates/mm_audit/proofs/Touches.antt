@@ -1,7 +1,7 @@
 -- The set of some groups covers what they can touch.
 use Rattle.std.proofs.Common.{◌≡◌, ℕ, zero, suc, ◌%◌, ◌^◌, ◌<◌, ◌≤◌, ◌↔◌, Bool, true, false, ◌&&◌, ◌||◌, nat_le, nat_lt, IsTrue, List, [], ◌∷◌, refl, sym, arith, eqb-true, eq-eqb}
 use Rattle.std.specs.Int.{bit_at}
-use Rattle.std.proofs.lemmas.Bool.{and_parts, and_from}
+use Rattle.std.proofs.lemmas.Bool.{and_parts, and_from, leb-true, ltb-true, le-leb, lt-ltb}
 use Rattle.std.proofs.lemmas.Bool.Decides.{nat_tests}
 use Rattle.mm_word.proofs.Segments.{segment_below}
 use Rattle.mm_model.specs.Image.{Image}
@@ -47,22 +47,10 @@ module _ (i : Image) (spans : List Span) (s : AreSpans i All spans) (groups : �
 -- the test of a set
 
 within : (s : ℕ × ℕ) (w : ℕ) → (nat_le s.0 w && nat_lt w (end_of s)) ≡ true → (s.0 ≤ w) × (w < end_of s)
-within s w h = let t = and_parts (nat_le s.0 w) (nat_lt w (end_of s)) h in (le_of s.0 w t.0, lt_of w (end_of s) t.1)
-  where
-    le_of : (a b : ℕ) → nat_le a b ≡ true → a ≤ b
-    le_of a b t = grind (arith, nat_tests)
-
-    lt_of : (a b : ℕ) → nat_lt a b ≡ true → a < b
-    lt_of a b t = grind (arith, nat_tests)
+within s w h = let t = and_parts (nat_le s.0 w) (nat_lt w (end_of s)) h in (leb-true s.0 w t.0, ltb-true w (end_of s) t.1)
 
 inside : (s : ℕ × ℕ) (w : ℕ) → s.0 ≤ w → w < end_of s → (nat_le s.0 w && nat_lt w (end_of s)) ≡ true
-inside s w lo hi = and_from (nat_le s.0 w) (nat_lt w (end_of s)) (of_le s.0 w lo) (of_lt w (end_of s) hi)
-  where
-    of_le : (a b : ℕ) → a ≤ b → nat_le a b ≡ true
-    of_le a b t = grind (arith, nat_tests)
-
-    of_lt : (a b : ℕ) → a < b → nat_lt a b ≡ true
-    of_lt a b t = grind (arith, nat_tests)
+inside s w lo hi = and_from (nat_le s.0 w) (nat_lt w (end_of s)) (le-leb s.0 w lo) (lt-ltb w (end_of s) hi)
 
 pub test_covers : (set : List (ℕ × ℕ)) (w : ℕ) → is_covered set w ≡ true → Covered set w
 test_covers [] w h = cc

@@ -1,12 +1,10 @@
 -- Words in segments.
 use Rattle.std.proofs.Common.{◌≡◌, ℕ, ◌+◌, ◌-◌, ◌*◌, ◌/◌, ◌%◌, ◌^◌, ◌<◌, ◌≤◌, sym, ap, ◌∙◌, subst, arith, pow-add, pow_pos, add-zero}
 use Rattle.std.proofs.Math.Nat.{div-eq_of_lt-le}
+use Rattle.mm_graph.proofs.Bounds.{assoc}
 use Rattle.mm_word.proofs.Segments.{segment_below}
 use Rattle.mm_word.specs.Pointer.{Pointer, Covers}
 use Rattle.mm_seg.specs.Segments.{IsSegment, end_of}
-
-assoc : (x y z : ℕ) → x * y * z ≡ x * (y * z)
-assoc x y z = grind arith
 
 -- the word of an address of a segment begins in it, and lies in memory
 pub word_start : (s : ℕ × ℕ) (w : ℕ) → IsSegment s → s.0 ≤ w → w < end_of s → (s.0 ≤ w / 8 * 8) × (w / 8 * 8 < end_of s) × (w < 2 ^ 54)

@@ -52,7 +52,7 @@ fn lesser(best: Option<u8>, n: u8) -> u8
     ensures { MatchOption best (result ≡ n) (λ v. result ≡ min v n) }
 {
     match best {
-        Some(v) => if v < n { v } else { n },
+        Some(v) => v.min(n),
         None => n,
     }
 }

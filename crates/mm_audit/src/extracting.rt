@@ -23,22 +23,26 @@ pub enum ExtractError {
     NoMemory,
 }
 
+impl From<NoMemory> for ExtractError {
+    ghost use Rattle.std.specs.Prelude.{◌≡◌};
+    ghost use Rattle.mm_audit.specs.declared.extracting.ExtractError.TheVariants.{NoMemory};
+
+    ghost from_gives = { λ _ e. e ≡ NoMemory };
+
+    fn from(_error: NoMemory) -> ExtractError {
+        ExtractError::NoMemory
+    }
+}
+
 /// The image of groups that can stand alone.
 fn own_image(alloc: Global, img: &Image, groups: &[u8]) -> Result<Image, NoMemory>
     requires { StandAlone img.now (among groups.now) }
     ensures { IfOk result (λ own. Extracts img.now (among groups.now) own) }
 {
     let touched = touched_by(alloc, img, mask_of(groups))?;
-    let Ok(slots) = slots_of(alloc, img.slots(), groups) else {
-        return Err(NoMemory);
-    };
-    let Ok(pages) = pages_of(alloc, &touched, img.pages()) else {
-        return Err(NoMemory);
-    };
-    match Image::new(img.version(), img.split(), slots, pages, img.frames()) {
-        Some(own) => Ok(own),
-        None => unreachable!(),
-    }
+    let slots = slots_of(alloc, img.slots(), groups)?;
+    let pages = pages_of(alloc, &touched, img.pages())?;
+    Ok(Image::of(img.version(), img.split(), slots, pages, img.frames()))
 }
 
 /// The image of these groups alone: their slots, the version, the mode and the frames, and each page with a word that
@@ -51,9 +55,6 @@ pub fn extract(alloc: Global, img: &Image, groups: &[u8]) -> Result<Image, Extra
     match refusal(img, groups) {
         Some(Refused::NoGroup) => Err(ExtractError::NoGroup),
         Some(Refused::Crosses { slot }) => Err(ExtractError::Crosses { slot }),
-        None => match own_image(alloc, img, groups) {
-            Ok(own) => Ok(own),
-            Err(_) => Err(ExtractError::NoMemory),
-        },
+        None => Ok(own_image(alloc, img, groups)?),
     }
 }

@@ -64,9 +64,8 @@ impl GroupSets {
         ensures { OnOk result (self.new ≡ self.old ++ set ∷ []) }
     {
         let place = self.sets.len();
-        if self.sets.push(set).is_err() || self.places.push(place).is_err() {
-            return Err(NoMemory);
-        }
+        self.sets.push(set)?;
+        self.places.push(place)?;
         Ok(())
     }
 
@@ -76,9 +75,7 @@ impl GroupSets {
         ensures { OnOk result (self.new ≡ self.old ++ set_of self.old group ∷ []) }
     {
         let place = self.places[group];
-        if self.places.push(place).is_err() {
-            return Err(NoMemory);
-        }
+        self.places.push(place)?;
         Ok(())
     }
 }

@@ -40,9 +40,7 @@ fn add_server(served: &mut Vec<Served>, s: &Slot, t: &Slot) -> Result<(), NoMemo
             group: s.group,
             by: t.group,
         };
-        if served.push(one).is_err() {
-            return Err(NoMemory);
-        }
+        served.push(one)?;
     }
     Ok(())
 }

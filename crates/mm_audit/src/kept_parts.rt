@@ -76,10 +76,7 @@ fn page_of(alloc: Global, set: &SegSet, page: &Page) -> Result<Page, AllocError>
         ≡ (page.now.0, kept_cells (is_covered set.now) (page.now.0 * 4096) page.now.1)) }
 {
     let cells = cells_of(alloc, set, page)?;
-    match Page::new(page.number(), cells) {
-        Some(kept) => Ok(kept),
-        None => unreachable!(),
-    }
+    Ok(Page::of(page.number(), cells))
 }
 
 /// The pages with a word that the set covers, each with integer 0, full, at its other words.

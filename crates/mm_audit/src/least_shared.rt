@@ -16,9 +16,7 @@ fn no_rows(alloc: Global) -> Result<Vec<Meets>, NoMemory>
 {
     let mut table = Vec::new(alloc);
     for _ in 0..64usize {
-        if table.push(Meets::none()).is_err() {
-            return Err(NoMemory);
-        }
+        table.push(Meets::none())?;
     }
     Ok(table)
 }

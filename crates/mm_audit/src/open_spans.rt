@@ -54,8 +54,6 @@ pub fn enter(stack: &mut Vec<Open>, spans: &[Span], k: usize) -> Result<Open, No
         touch: span.touch | over.touch,
         write: span.write | over.write,
     };
-    if stack.push(now).is_err() {
-        return Err(NoMemory);
-    }
+    stack.push(now)?;
     Ok(now)
 }

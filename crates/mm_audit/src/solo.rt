@@ -18,16 +18,9 @@ fn with_slots(alloc: Global, img: &Image, groups: &[u8]) -> Result<Image, NoMemo
     requires { StandAlone img.now (among groups.now) }
     ensures { IfOk result (λ own. own ≡ alone img.now (among groups.now)) }
 {
-    let Ok(slots) = slots_of(alloc, img.slots(), groups) else {
-        return Err(NoMemory);
-    };
-    let Ok(pages) = Page::copies(alloc, img.pages()) else {
-        return Err(NoMemory);
-    };
-    match Image::new(img.version(), img.split(), slots, pages, img.frames()) {
-        Some(own) => Ok(own),
-        None => unreachable!(),
-    }
+    let slots = slots_of(alloc, img.slots(), groups)?;
+    let pages = Page::copies(alloc, img.pages())?;
+    Ok(Image::of(img.version(), img.split(), slots, pages, img.frames()))
 }
 
 /// The image with the slots of these groups only. Version, mode, frames and all pages stay as they were.
@@ -39,9 +32,6 @@ pub fn alone(alloc: Global, img: &Image, groups: &[u8]) -> Result<Image, Extract
     match refusal(img, groups) {
         Some(Refused::NoGroup) => Err(ExtractError::NoGroup),
         Some(Refused::Crosses { slot }) => Err(ExtractError::Crosses { slot }),
-        None => match with_slots(alloc, img, groups) {
-            Ok(own) => Ok(own),
-            Err(_) => Err(ExtractError::NoMemory),
-        },
+        None => Ok(with_slots(alloc, img, groups)?),
     }
 }

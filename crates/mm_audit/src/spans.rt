@@ -41,8 +41,8 @@ fn is_used(span: Span) -> bool
 fn add(spans: &mut Vec<Span>, span: Span) -> Result<(), NoMemory>
     ensures { OnOk result (Added span spans.old.items spans.new.items) }
 {
-    if is_used(span) && spans.push(span).is_err() {
-        return Err(NoMemory);
+    if is_used(span) {
+        spans.push(span)?;
     }
     Ok(())
 }
@@ -77,9 +77,7 @@ pub fn spans_of(
         → 3 ≤ (pointer_at (key_at keys.now k)).log }
     ensures { IfOk result (λ spans. SpansOf keys.now nodes.now marks.now privileged (length keys.now) spans.items) }
 {
-    let Ok(mut spans) = Vec::with_capacity(alloc, keys.len()) else {
-        return Err(NoMemory);
-    };
+    let mut spans = Vec::with_capacity(alloc, keys.len())?;
     add(&mut spans, whole_span(privileged))?;
     for k in 0..keys.len() {
         add(&mut spans, node_span(keys[k], nodes[k], marks[k]))?;

@@ -35,9 +35,7 @@ pub fn granted_in(alloc: Global, img: &Image, entries: &Entries) -> Result<Grant
     ensures privileged { IfOk result (λ g. ArePrivileged img.now (meaning entries.now) g.privileged) }
     ensures spans { IfOk result (λ g. AreSpans img.now (meaning entries.now) g.spans.items) }
 {
-    let Ok(m) = marked(alloc, img, entries) else {
-        return Err(NoMemory);
-    };
+    let m = marked(alloc, img, entries)?;
     let privileged = any(&m.nodes, &m.marks, Right::Make);
     let spans = spans_of(alloc, &m.keys, &m.nodes, &m.marks, privileged)?;
     Ok(Granted { privileged, spans })

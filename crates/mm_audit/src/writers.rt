@@ -11,7 +11,7 @@ fn lesser(a: Option<u64>, b: u64) -> u64
     ensures { MatchOption a (result ≡ b) (λ v. result ≡ min v b) }
 {
     match a {
-        Some(v) => if v < b { v } else { b },
+        Some(v) => v.min(b),
         None => b,
     }
 }

@@ -9,6 +9,8 @@ use Rattle.std.specs.FinMap.Entries.{below_all, same_entries, is_sorted-put}
 use Rattle.std.proofs.lemmas.Cmp.{nat_cmp_total}
 use Rattle.std.proofs.lemmas.Bool.{cases_eq}
 use Rattle.std.proofs.lemmas.Bool.Decides.{nat_tests}
+use Rattle.std.proofs.lemmas.Option.{same_Some}
+use Rattle.mm_model.proofs.Memories.{truth}
 use Rattle.mm_word.specs.declared.word.Cell.{Cell}
 use Rattle.mm_model.specs.Memory.{Memory, page_at, is_mapped, cell_in, IsPage, IsPaged}
 use Rattle.mm_model.specs.Counted.{page_of_block}
@@ -20,10 +22,6 @@ use Rattle.mm_cache.specs.Over.{over_cell, lay, over}
 
 pub held : (b : Bool) → IsTrue b → T b
 held b h = subst T (sym h) tt
-
-pub truth : (b : Bool) → T b → b ≡ true
-truth true h = refl
-truth false h = absurd h
 
 pub put_rises : (k : ℕ) (v : List Cell) (es : List (ℕ × List Cell)) → IsTrue (is_sorted nat_cmp es) → IsTrue (is_sorted nat_cmp (put nat_cmp k v es))
 put_rises k v es rises = truth (is_sorted nat_cmp (put nat_cmp k v es)) (is_sorted-put nat_cmp nat_cmp_total k v es (held (is_sorted nat_cmp es) rises))
@@ -38,16 +36,13 @@ same_memory m n m_rises n_rises frames pages =
     (held (is_sorted nat_cmp n.pages) n_rises) pages in
     λ i. record { pages = same i; frames = frames i }
 
-same_head : {A : Type 0} (x y : A) → Some x ≡ Some y → x ≡ y
-same_head x y is = cc
-
 -- lists with the same elements
 pub same_list : {A : Type 0} (xs ys : List A) → ((j : ℕ) → slice_get xs j ≡ slice_get ys j) → xs ≡ ys
 same_list [] [] same = refl
 same_list [] (y ∷ ys) same = let h = same 0 in cc
 same_list (x ∷ xs) [] same = let h = same 0 in cc
 same_list (x ∷ xs) (y ∷ ys) same =
-    let head = same_head x y (same 0) in
+    let head = same_Some x y (same 0) in
     let rest = same_list xs ys (λ j. same (suc j)) in
     λ i. head i ∷ rest i
 

@@ -5,6 +5,9 @@ use Rattle.std.proofs.{Common.arith, lemmas.List.{length-append, length-map, len
 use Rattle.std.proofs.Math.Pow.{pow_mono}
 use Rattle.std.specs.{Prelude.{◌==◌, codes, IfSome, option_map}, Int.{w64, to_be_bytes, byte_at, bytes_high_first}}
 use Rattle.std.specs.List.{flat_map, AllByRecursion}
+use Rattle.mm_model.proofs.OneIf.{at_most_one}
+use Rattle.mm_model.proofs.TurnKeeps.{each_of}
+use Rattle.mm_model.proofs.CoreRows.{into_map}
 use Rattle.mm_word.specs.{Pointer.bits_of, declared.word.{Word.{Word, TheVariants.Int}, Cell.Cell}}
 use Rattle.mm_word.specs.Word.{word_bits, is_pointer}
 use Rattle.mm_model.specs.{declared.event.Event.Event, Flags.{flags, one_if, number_of_flags}, Memory.IsPage}
@@ -20,7 +23,7 @@ use Rattle.mm_checkpoint.specs.{Checkpoints.{place_in, place_byte, event_of}, La
 use Rattle.mm_checkpoint.specs.Format.{header, tagged, load, output, event_in, place_in_row, address_in, value_in, row_of}
 use Rattle.mm_checkpoint.specs.Format.{header_of, spelling, slot_record, output_record, load_record, tagged_word}
 use Rattle.mm_checkpoint.proofs.Spelled.{record_spelled, checkpoint_spelled}
-use Rattle.mm_checkpoint.proofs.{Counts.{each_append, each_of, all_of, one_at_most}, Groups.few_outputs}
+use Rattle.mm_checkpoint.proofs.{Counts.each_append, Groups.few_outputs}
 use Rattle.mm_checkpoint.proofs.{Loads.{registers_small, pending_set}, Owns.few_events}
 use Rattle.mm_checkpoint.proofs.States.{state_small, cause_small}
 
@@ -102,10 +105,10 @@ module _ (P : ℕ → Type 0) (is : (b : ℕ) → b < 256 → P b) where
 
   words : (tags : List Bool) (ws : List Word) → length ws ≡ length tags → Text (8 * length ws) ((each word tags).spell ws)
   words tags ws even = subst (Text (8 * length ws)) (sym (words_spelled tags ws even))
-      (parts (λ w. to_be_bytes w64 (word_bits w)) 8 ws (all_of _ (λ w. number 8 (word_bits w)) ws))
+      (parts (λ w. to_be_bytes w64 (word_bits w)) 8 ws (each_of _ (λ w. number 8 (word_bits w)) ws))
 
   one_bit : (b : Bool) → Text 1 (one_if b ∷ [])
-  one_bit b = one (one_if b) (let le = one_at_most b in omega (arith, le))
+  one_bit b = one (one_if b) (let le = at_most_one b in omega (arith, le))
 
   word_text : (w : Word) → Text 9 (tagged_word w)
   unfolding tagged word
@@ -198,7 +201,7 @@ module _ (i : Image) (p : Parts) (last : Option ℕ) (image : IsImage i) (checkp
       (outputs : AllByRecursion (λ (o : ℕ × List ℕ). AllByRecursion P o.1) c.outputs) where
     pub whole : Text P is 33554432 (spelling i c)
     whole =
-        let short = each_of _ _ _ checkpoint.rules.outputs in
+        let short = into_map _ _ _ checkpoint.rules.outputs in
         let put = few_outputs i p image checkpoint.slots checkpoint.rules in
         let many = length-map p.outputs pair in
         let pages = checkpoint.pages in
@@ -218,4 +221,4 @@ checkpoints_are_short i bytes p last image saves =
     let outputs = (saved_of p last).outputs in
     subst (λ (xs : List ℕ). length xs ≤ 33554432) (sym saves.spelled)
     (whole i p last image saves.checkpoint (λ _. Unit {0}) (λ b small. tt)
-    (all_of _ (λ o. all_of _ (λ _. tt) o.1) outputs)).long
+    (each_of _ (λ o. each_of _ (λ _. tt) o.1) outputs)).long

@@ -4,6 +4,9 @@ use Rattle.std.proofs.Common.{List, [], ◌∷◌, ◌++◌, length, get_or, map
 use Rattle.std.proofs.Common.{◌∙◌, arith, eqb-true}
 use Rattle.std.proofs.lemmas.{Bool.{cases_lt, eq-eqb}, List.{length-map, get_or_past, Sums.count_by-le-length}}
 use Rattle.std.specs.{Prelude.{◌==◌, ◌&&◌, ◌||◌, ◌⊎◌, count_by, is_some, option_map, unwrap_or}, List.AllByRecursion}
+use Rattle.std.proofs.lemmas.Bool.{or_from, or_parts, not-false, ltb-false, le-ltb}
+use Rattle.mm_model.proofs.CoreSteps.{some_true}
+use Rattle.mm_model.proofs.OneIf.{at_most_one, one_back}
 use Rattle.mm_word.specs.declared.cause.Cause.{Cause, TheVariants.NotPointer}
 use Rattle.mm_word.specs.{declared.word.Word.{Word, TheVariants.{Int, Ptr}}, Pointer.{Pointer, IsWellFormed}}
 use Rattle.mm_word.{specs.Word.{IsWord, word_bits, is_pointer}, proofs.Packing.pointer_of-bits_of}
@@ -11,20 +14,21 @@ use Rattle.mm_model.specs.declared.event.Event.{Event}
 use Rattle.mm_model.specs.declared.slot.{Pending.Pending, SlotState.{SlotState, TheVariants.Taken}}
 use Rattle.mm_model.specs.{Flags.{flags, number_of_flags, one_if}, Fits.{is_waiting, identity_of, EventHoldsWords}}
 use Rattle.mm_model.{specs.Typed.IsTypedSlot, proofs.ImageBytes.Apart.{number_of_flags-below, flag-get}}
-use Rattle.mm_model.proofs.ImageBytes.{Clean.{neither, not_not, is_above, is_below}, CleanWords.well_formed}
-use Rattle.mm_model.proofs.{ImageBytes.SpelledRecords.{is_spelled, not_le, not_lt}, FlagLists.flags-get}
+use Rattle.mm_model.proofs.ImageBytes.{Clean.is_below, CleanWords.well_formed}
+use Rattle.mm_model.proofs.{ImageBytes.SpelledRecords.{is_spelled, not_le}, FlagLists.flags-get}
 use Rattle.mm_machine.specs.Snapshot.{IsPending}
 use Rattle.mm_format.specs.{Formats.{each, times, cons}, Images.word}
-use Rattle.mm_format.proofs.ImagesFit.{small_bits, word_fits, fits_word, ip_fits, fits_ip, fits_mask, or_false}
+use Rattle.mm_format.proofs.ImagesFit.{small_bits, word_fits, fits_word, ip_fits, fits_ip, fits_mask}
 use Rattle.mm_checkpoint.specs.Checkpoints.{state_byte, cause_byte, event_of, place_byte}
-use Rattle.mm_checkpoint.specs.{Reading.{cause_of, state_of}, Tests.{is_bad_state, is_bad_cause, bits_set}}
+use Rattle.mm_word.{specs.Cause.cause_of, proofs.Causes.cause_back}
+use Rattle.mm_checkpoint.specs.{Reading.state_of, Tests.{is_bad_state, is_bad_cause, bits_set}}
 use Rattle.mm_checkpoint.specs.declared.rows.{Queued.Queued, SlotRow.SlotRow}
 use Rattle.mm_checkpoint.specs.Format.{word_with, tagged, register, operand, load, beside, event_in, place_in_row}
 use Rattle.mm_checkpoint.specs.Format.{address_in, value_in, slot_row, load_count, row_of}
 use Rattle.mm_checkpoint.proofs.Spelled.{event_back}
-use Rattle.mm_checkpoint.proofs.Counts.{one_at_most, count_append, count_none, count_yes, any_none, moved}
+use Rattle.mm_checkpoint.proofs.Counts.{count_append, count_none, count_yes, any_none, moved}
 use Rattle.mm_checkpoint.proofs.{Loads.{AreNew, one_load, sixteen_flags, pending_set, none_empty}, Owns.Owns}
-use Rattle.mm_checkpoint.proofs.States.{state_right, state_small, cause_small, cause_back, byte_waits, state_back}
+use Rattle.mm_checkpoint.proofs.States.{state_right, state_small, cause_small, byte_waits, state_back}
 use Rattle.mm_checkpoint.proofs.States.{state_good, cause_good, IsZeroUnless, operand_good}
 use Rattle.mm_model.specs.Slot.{Slot, register as register_of, is_empty}
 use Rattle.mm_model.specs.Flags.{in_mask}
@@ -38,7 +42,7 @@ also a b = (a, b)
 with_fits : (tag : Bool) (bad : ℕ → Bool) (w : Word) → (word_with tag bad).Fits w
     → IsWord w × (bad (word_bits w) ≡ false)
 unfolding word_with
-with_fits true bad w fits = (subst IsWord (sym fits.1) (well_formed (word_bits w) (not_not _ fits.0.0.1)), fits.0.1)
+with_fits true bad w fits = (subst IsWord (sym fits.1) (well_formed (word_bits w) (not-false _ fits.0.0.1)), fits.0.1)
 with_fits false bad w fits = (subst IsWord (sym fits.1) fits.0.0.0, fits.0.1)
 
 fits_with : (bad : ℕ → Bool) (w : Word) → IsWord w → bad (word_bits w) ≡ false → (word_with (is_pointer w) bad).Fits w
@@ -51,7 +55,7 @@ zero_word : (tag empty : Bool) (w : Word) → (register (tag, empty)).Fits w →
 unfolding word_with
 zero_word tag false w fits e = absurd cc
 zero_word true true w fits e = absurd (let no = fits.0.1 in cc)
-zero_word false true w fits e = fits.1 ∙ ap Int (eqb-true (word_bits w) 0 (not_not _ fits.0.1))
+zero_word false true w fits e = fits.1 ∙ ap Int (eqb-true (word_bits w) 0 (not-false _ fits.0.1))
 
 -- a register that is empty holds integer 0
 abbrev pub AreZero : List Bool → List Word → Type 0
@@ -112,23 +116,19 @@ loads_fit empty zero earlier ps fits =
     (tt, tt)
 loads_fit empty (suc count) earlier [] fits = absurd fits
 loads_fit empty (suc count) earlier (p ∷ ps) fits =
-    let tests = neither _ _ fits.0.0.1 in
-    let more = neither _ _ tests.0 in
+    let tests = or_parts _ _ fits.0.0.1 in
+    let more = or_parts _ _ tests.0 in
     let small = is_below p.reg 16 more.0 in
     let others = loads_fit empty count (earlier ++ p ∷ []) ps fits.1 in (
       (
-        record { register = small; empty = flags-get 16 empty p.reg small ∙ not_not _ more.1; alone = tests.1 },
+        record { register = small; empty = flags-get 16 empty p.reg small ∙ not-false _ more.1; alone = tests.1 },
         others.0,
       ),
       (word_fits _ p.word fits.0.1.0.1.0, others.1),
     )
 
 flag_small : (b : Bool) → one_if b < 256
-flag_small b = let le = one_at_most b in omega (arith, le)
-
-flag_back : (b : Bool) → (one_if b == 1) ≡ b
-flag_back true = refl
-flag_back false = refl
+flag_small b = let le = at_most_one b in omega (arith, le)
 
 one_if_small : (b : Bool) → nat_lt 1 (one_if b) ≡ false
 one_if_small true = refl
@@ -149,22 +149,18 @@ module _ (fs : List Bool) (long : length fs ≡ 16) where
       let all = count_append (IsFor p.reg) earlier (p ∷ ps) in
       let own = count_yes (IsFor p.reg) p ps (eq-eqb p.reg p.reg refl) in
       let total = one p.reg in
-      let set : get_or fs p.reg false ≡ true = by (get_or fs p.reg false) (omega (arith, all, own, total)) in
+      let set : get_or fs p.reg false ≡ true = some_true (get_or fs p.reg false) (omega (arith, all, own, total)) in
       let only : one_if (get_or fs p.reg false) ≡ 1 = ap one_if set in
       let small : p.reg < 16 = within set in
       let bit : in_mask (number_of_flags fs) p.reg ≡ true = flag-get fs p.reg (omega arith) ∙ set in
       also (
         omega arith,
-        or_false _ _ (or_false _ _ (not_le p.reg 16 small) (ap not bit)) (any_none (IsFor p.reg) earlier
+        or_from _ _ (or_from _ _ (not_le p.reg 16 small) (ap not bit)) (any_none (IsFor p.reg) earlier
             (count_none (IsFor p.reg) earlier (omega (arith, all, own, total, only)))),
       )
       (also (also (flag_small (is_pointer p.word), one_if_small (is_pointer p.word))
-      (also (subst (λ b. (word b).Fits p.word) (sym (flag_back (is_pointer p.word))) (fits_word p.word holds)) refl)) refl)
+      (also (subst (λ b. (word b).Fits p.word) (sym (one_back (is_pointer p.word))) (fits_word p.word holds)) refl)) refl)
     where
-      by : (b : Bool) → 1 ≤ one_if b → b ≡ true
-      by true le = refl
-      by false le = absurd (omega arith)
-
       within : get_or fs p.reg false ≡ true → p.reg < 16
       within set = elim (cases_lt p.reg 16) as (λ _. p.reg < 16) [
         | inl small ↦ small
@@ -227,7 +223,7 @@ module _ (split : Bool) (cycles : ℕ) (s : Slot) (r : SlotRow) where
       let regs = registers_fit _ _ r.slot.regs rest.1.1.1.0 in
       let address = operand_fits _ _ rest.1.1.1.1.0 in
       let value = operand_fits _ _ rest.1.1.1.1.1.0 in
-      let count = eqb-true _ _ (not_not _ rest.1.1.1.1.1.1.0.1) in
+      let count = eqb-true _ _ (not-false _ rest.1.1.1.1.1.1.0.1) in
       let loads = loads_fit (number_of_flags r.slot.empty) (length r.slot.pending) [] r.slot.pending
       rest.1.1.1.1.1.1.1.0 in
       let is = rest.1.1.1.1.1.1.1.1 in
@@ -248,7 +244,7 @@ module _ (split : Bool) (cycles : ℕ) (s : Slot) (r : SlotRow) where
                 ∙ ap (λ fs. one_if (get_or fs k false)) (sym mask);
             zero = λ e. regs.1 k (ap (λ fs. get_or fs k false) (sym mask) ∙ e);
           };
-          turns = is_above _ _ fits.1.1.1.1.0.1;
+          turns = ltb-false _ _ fits.1.1.1.1.0.1;
           taken = λ e. some_handler r.slot.handler
               (ap is_some handler ∙ state.handled.1 (ap state_byte e));
           plain = λ e. no_loads r.slot.pending (count ∙ ap bits_set (none split e empty.1));
@@ -260,7 +256,7 @@ module _ (split : Bool) (cycles : ℕ) (s : Slot) (r : SlotRow) where
     where
       none : (b : Bool) {n : ℕ} → b ≡ false → (not b && not (n == 0)) ≡ false → n ≡ 0
       none true e right = absurd cc
-      none false {n = n} e right = eqb-true n 0 (not_not _ right)
+      none false {n = n} e right = eqb-true n 0 (not-false _ right)
 
       queued : Queued
       queued = record {
@@ -389,7 +385,7 @@ module _ (split : Bool) (cycles : ℕ) (small : cycles ≤ 1000000) (events : Li
       let past = one_if s.past == 1 in
       let state = state_of (state_byte s.state) (cause_byte s.state (event_in r)) in
       ap (λ x. said_row x s.past s.state s.empty r.queued) same
-      ∙ ap (λ b. said_row x b s.state s.empty r.queued) (sym (flag_back s.past))
+      ∙ ap (λ b. said_row x b s.state s.empty r.queued) (sym (one_back s.past))
       ∙ ap (λ st. said_row x past st s.empty r.queued) (sym (state_back s.state (event_in r)))
       ∙ ap (λ fs. said_row x past state fs r.queued) (sym (sixteen_flags s.empty saved.typed.flags))
       ∙ ap (said_row x past state (flags 16 (number_of_flags s.empty))) (queued_back saved.owns)
@@ -416,7 +412,7 @@ module _ (split : Bool) (cycles : ℕ) (small : cycles ≤ 1000000) (events : Li
             (cause_byte s.state o)) (event_back events s) ∙ cause_good events s saved.owns,
       )
       (also (place_few, place_right) (also (flag_small s.past, one_if_small s.past)
-      (also (omega (arith, turns, small), not_lt cycles s.turns turns) (also (fits_ip s.ip t.well_formed t.executable)
+      (also (omega (arith, turns, small), le-ltb cycles s.turns turns) (also (fits_ip s.ip t.well_formed t.executable)
       (also (fits_mask (map is_pointer s.regs) (length-map s.regs is_pointer ∙ t.registers))
       (also (mask, plain split refl)
       (also (subst (λ fs. (each register (beside (map is_pointer s.regs) fs)).Fits s.regs)

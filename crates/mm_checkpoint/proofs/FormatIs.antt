@@ -2,18 +2,21 @@
 use Rattle.std.proofs.Common.{◌≡◌, ℕ, ◌+◌, ◌≤◌, Bool, true, false, not, cond, List, [], ◌∷◌, length, map, Option}
 use Rattle.std.proofs.Common.{Some, None, refl, sym, ap, ◌∙◌, arith, eqb-true, eq-eqb, codes}
 use Rattle.std.specs.Prelude.{◌==◌, ◌&&◌, option_map, unwrap_or}
+use Rattle.std.proofs.lemmas.Bool.{not-false, ltb-false, eqb-false}
+use Rattle.mm_model.proofs.OneIf.{at_most_one}
 use Rattle.mm_word.specs.declared.{cause.Cause.TheVariants.NotPointer, word.Word.{Word, TheVariants.{Int, Ptr}}}
 use Rattle.mm_word.specs.Word.{word_bits, is_pointer}
 use Rattle.mm_model.specs.{declared.event.Event.Event, Flags.{flags, number_of_flags, one_if}, Slot.Slot}
 use Rattle.mm_model.specs.Image.{Image, output_limit}
-use Rattle.mm_model.proofs.ImageBytes.{Clean.{not_not, is_above}, Bitmaps.number_of_flags-flags}
+use Rattle.mm_model.proofs.ImageBytes.Bitmaps.{number_of_flags-flags}
 use Rattle.mm_format.specs.Formats.{Format, IsFormat, u16, u32, u64, byte, each, cons}
 use Rattle.mm_format.specs.Images.{mask, flags_of, word, page}
 use Rattle.mm_format.proofs.Formats.{byte_is, u16_is, u32_is, u64_is, text_is, test_is, literal_is, literal_read}
 use Rattle.mm_format.proofs.{Formats.{then_is, done_is}, Lists.{each_is, times_is, times_long, late_is}}
 use Rattle.mm_format.proofs.Images.{mask_is, word_is, word_tag, word_again, ip_is, page_is}
 use Rattle.mm_checkpoint.specs.Checkpoints.{last_byte, state_byte, cause_byte}
-use Rattle.mm_checkpoint.specs.{Reading.{cause_of, state_of, groups_of}, Tests.is_bad_cause}
+use Rattle.mm_word.specs.Cause.{cause_of}
+use Rattle.mm_checkpoint.specs.{Reading.{state_of, groups_of}, Tests.is_bad_cause}
 use Rattle.mm_checkpoint.specs.declared.rows.{Queued.Queued, SlotRow.SlotRow}
 use Rattle.mm_checkpoint.specs.Format.{header, word_with, tagged, register, operand, load, beside, event_in}
 use Rattle.mm_checkpoint.specs.Format.{place_in_row, address_in, value_in, slot_row, load_count, queue_tests, Front}
@@ -40,9 +43,9 @@ header_is frames =
     then_is _ _ (test_is u16 u16_is 12 _) (λ pages _. done_is _)
     (λ a h fits e. ap (λ h. h.pages) e))
     (λ a h fits e. ap (λ h. h.cycles) e.1))
-    (λ a h fits e. sym (eqb-true a 0 (not_not _ fits.1))))
+    (λ a h fits e. sym (eqb-true a 0 (not-false _ fits.1))))
     (λ a h fits e. ap (λ h. last_byte h.last) e.1.1.1 ∙ last_again a))
-    (λ a h fits e. sym (eqb-true a 1 (not_not _ fits.1))))
+    (λ a h fits e. sym (eqb-true a 1 (not-false _ fits.1))))
     (λ a h fits e. literal_read (codes "MMS1") 2 a fits)
 
 -- 2. Words.
@@ -63,7 +66,7 @@ flag_again n le = by (n == 1) refl
   where
     by : (b : Bool) → (n == 1) ≡ b → one_if b ≡ n
     by true e = sym (eqb-true n 1 e)
-    by false e = let ne = Rattle.mm_model.proofs.ImageBytes.Clean.is_not n 1 e in omega arith
+    by false e = let ne = eqb-false n 1 e in omega arith
 
 tagged_is : (most : ℕ) (f : Bool → Format Word) → most ≤ 1 → ((b : Bool) → IsFormat (f b))
     → ((b : Bool) (w : Word) → (f b).Fits w → is_pointer w ≡ b) → IsFormat (tagged most f)
@@ -72,19 +75,15 @@ tagged_is most f le is tags =
     then_is _ _ (test_is byte byte_is 4 _) (λ tag _.
     then_is _ _ (is (tag == 1)) (λ w _. done_is w)
     (λ a w fits e. e))
-    (λ a w fits e. let few = is_above most a fits.1 in ap one_if (tags (a == 1) w e.0) ∙ flag_again a (omega arith))
-
-one_small : (b : Bool) → one_if b ≤ 1
-one_small true = omega arith
-one_small false = omega arith
+    (λ a w fits e. let few = ltb-false most a fits.1 in ap one_if (tags (a == 1) w e.0) ∙ flag_again a (omega arith))
 
 operand_is : (waits : Bool) → IsFormat (operand waits)
-operand_is waits = tagged_is (one_if waits) _ (one_small waits) (λ b. with_is b _) (λ b w. with_tag b _ w)
+operand_is waits = tagged_is (one_if waits) _ (at_most_one waits) (λ b. with_is b _) (λ b w. with_tag b _ w)
 
 pub operand_zero : (waits : Bool) (w : Word) → (operand waits).Fits w → waits ≡ false → w ≡ Int 0
 unfolding tagged word_with
 operand_zero true w fits e = absurd cc
-operand_zero false (Int n) fits e = ap Int (eqb-true n 0 (not_not _ fits.1.0.0.1))
+operand_zero false (Int n) fits e = ap Int (eqb-true n 0 (not-false _ fits.1.0.0.1))
 operand_zero false (Ptr p) fits e = absurd (let no = fits.0.1 in cc)
 
 load_is : (empty : ℕ) (earlier : List Rattle.mm_model.specs.declared.slot.Pending.Pending) → IsFormat (load empty earlier)
@@ -128,7 +127,7 @@ module _ (waits : Bool) (q : Queued) where
     where
       by : (b : Bool) → (not b && not (n == 0)) ≡ false → place_in_row (cond b (Some q) None) ≡ n
       by true e = is
-      by false e = sym (eqb-true n 0 (not_not _ e))
+      by false e = sym (eqb-true n 0 (not-false _ e))
 
 cause_here : (st ca : ℕ) (q : Queued) → st ≤ 3 → is_bad_cause st ca ≡ false
     → q.event.cause ≡ unwrap_or (cause_of ca) NotPointer
@@ -166,7 +165,7 @@ row_is split cycles s =
     (λ a r fits e. ap (λ (r : SlotRow). r.slot.ip) e.1.1.1.1.1.1.1))
     (λ a r fits e. ap (λ (r : SlotRow). r.slot.turns) e.1.1.1.1.1.1.1.1))
     (λ a r fits e. ap (λ (r : SlotRow). one_if r.slot.past) e.1.1.1.1.1.1.1.1.1
-    ∙ flag_again a (is_above 1 a fits.1)))
+    ∙ flag_again a (ltb-false 1 a fits.1)))
     (λ a r fits e. ap (λ (r : SlotRow). place_in_row r.queued) e.1.1.1.1.1.1.1.1.1.1
     ∙ place_again (state == 1) _ a refl fits.1))
     (λ a r fits e. ap (λ (r : SlotRow). cause_byte r.slot.state (event_in r)) e.1.1.1.1.1.1.1.1.1.1.1

@@ -3,6 +3,8 @@ use Rattle.std.proofs.Common.{◌≡◌, ℕ, ◌+◌, ◌*◌, ◌<◌, suc, Bo
 use Rattle.std.proofs.Common.{length, map, Option, Some, None, refl, sym, ap, subst, ◌∙◌, arith, eq-eqb, eqb-true}
 use Rattle.std.proofs.lemmas.Bool.{ne_eqb}
 use Rattle.std.specs.{Prelude.{◌⊎◌, ◌==◌, count_by, is_some, option_map, unwrap_or, IsSomeAnd}, List.AllByRecursion}
+use Rattle.mm_model.proofs.TurnKeeps.{each_of}
+use Rattle.mm_model.proofs.CoreRows.{out_of_map}
 use Rattle.mm_model.specs.{declared.event.Event.Event, Flags.one_if, Fits.{is_waiting, identity_of, EventHoldsWords}}
 use Rattle.mm_model.{specs.{Turn.is_handler, Slot.Slot}, proofs.{CoreRows.{each_map, each_both}, OwnSlots.Ascends}}
 use Rattle.mm_machine.specs.Snapshot.{DoesNotFall, queues_of, numbered, IsEventOf, IsAwaited, HasOneEvent}
@@ -11,7 +13,7 @@ use Rattle.mm_format.specs.Formats.{each, cons}
 use Rattle.mm_checkpoint.specs.declared.{waiting.Waiter.Waiter, rows.{Queued.Queued, SlotRow.SlotRow}}
 use Rattle.mm_checkpoint.specs.{Checkpoints.{event_of, place_in, place_byte}, Reading.{handler_of, in_order, events_of}}
 use Rattle.mm_checkpoint.specs.{Tests.waits_with, Format.{event_in, place_in_row, slot_row, waiter_in, waiters_in}}
-use Rattle.mm_checkpoint.proofs.Counts.{each_append, each_unmap, all_of, none_count, count_none, count_yes, count_no}
+use Rattle.mm_checkpoint.proofs.Counts.{each_append, none_count, count_none, count_yes, count_no}
 use Rattle.mm_checkpoint.proofs.Counts.{count_map, find_some, find_none}
 use Rattle.mm_checkpoint.proofs.FormatFits.{IsWaitingRow, IsIdleRow, IsRow, row_fits}
 use Rattle.mm_checkpoint.proofs.Order.{is_of, AreRight, Rises, each_in_order, each_event, count_in_order, order_rises}
@@ -88,7 +90,7 @@ each_told (r ∷ rows) at all up = by all.0 (each_told rows (next at r) all.1 up
     ws = waiters_in (next at r) rows
 
     above : AllByRecursion (IsAbove r.slot.number) rows
-    above = each_unmap _ (λ (r : SlotRow). r.slot) rows up.0
+    above = out_of_map _ (λ (r : SlotRow). r.slot) rows up.0
 
     later : AllByRecursion (λ (w : Waiter). r.slot.number < w.event.slot) (waiters_in (next at r) rows)
     later =
@@ -202,7 +204,7 @@ module _ (rows : List SlotRow) (at : ℕ) (all : AllByRecursion IsSettled rows) 
         (each_map _ _ (λ x f e. (f e).event) sorted only))
         (omega (arith, many)) in
         let place = place_found h (count_by (waits_with h) sorted) n (place_in_row r.queued) 0 sorted rising
-        (all_of _ (λ x e. omega arith) sorted) (below h) (omega arith)
+        (each_of _ (λ x e. omega arith) sorted) (below h) (omega arith)
         (each_map _ _
         (λ x f e. ((f e).handler, (f e).place)) sorted only) (omega (arith, one)) in
         record {
@@ -243,7 +245,7 @@ module _ (rows : List SlotRow) (at : ℕ) (all : AllByRecursion IsSettled rows) 
       (each_waiter (λ (w : Waiter). IsAwaited (slots_of rows) (w.handler, w.event))
       (λ (r : SlotRow). numbered (slots_of rows) r.slot.number ≡ Some r.slot) (λ r found at w. is_awaited r found w) rows
       at all
-      (each_unmap _ (λ (r : SlotRow). r.slot) rows
+      (out_of_map _ (λ (r : SlotRow). r.slot) rows
       (each_numbered (slots_of rows) up)))
 
   pub typed_events : AllByRecursion IsTypedEvent events

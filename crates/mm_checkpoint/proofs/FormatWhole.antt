@@ -4,13 +4,16 @@ use Rattle.std.proofs.Common.{◌∷◌, ◌++◌, length, map, Option, Some, No
 use Rattle.std.proofs.{Common.append_assoc, lemmas.{Bool.Decides.nat_tests, List.{append-nil, map-append}}}
 use Rattle.std.specs.Prelude.{◌==◌, ◌&&◌, nat_le, IfSome, option_map, unwrap_or, codes}
 use Rattle.std.specs.{Int.{w16, w32, w64, to_be_bytes}, List.{flat_map, AllByRecursion, Sorted.IsStrictlyIncreasing}}
+use Rattle.std.proofs.lemmas.Bool.{le-ltb, ltb-false}
+use Rattle.mm_model.proofs.CoreRows.{numbers_by, into_map}
+use Rattle.mm_thread.proofs.Cores.{byte_limit}
 use Rattle.mm_word.specs.{declared.word.{Word.Word, Cell.Cell}, Pointer.bits_of, Word.{word_bits, is_pointer}}
 use Rattle.mm_model.specs.declared.{event.Event.Event, slot.{Pending.Pending, SlotState.TheVariants.Taken}}
 use Rattle.mm_model.specs.{Flags.{flags, number_of_flags, one_if}, Fits.identity_of, Image.{Image, output_limit}}
 use Rattle.mm_model.specs.{Bytes.IsBytes, Slot.Slot, Spelling.{IsImage, numbers_of}}
 use Rattle.mm_model.{specs.Typed.IsTypedSlot, proofs.{CoreRows.{each_map, by_identities}, OwnSlots.{Ascends, ascends}}}
-use Rattle.mm_model.proofs.ImageBytes.{Clean.is_above, Ranges.map-map, Rising.AreRisingFrom}
-use Rattle.mm_model.proofs.ImageBytes.SpelledRecords.{not_le, not_lt}
+use Rattle.mm_model.proofs.ImageBytes.{Ranges.map-map, Rising.AreRisingFrom}
+use Rattle.mm_model.proofs.ImageBytes.SpelledRecords.{not_le}
 use Rattle.mm_thread.specs.Output.{Output}
 use Rattle.mm_machine.specs.Snapshot.{Parts, IsSnapshot, IsPending}
 use Rattle.mm_format.specs.Formats.{each, times, cons, first_late, after, file, Outcome.Got}
@@ -25,7 +28,7 @@ use Rattle.mm_checkpoint.specs.Format.{header, event_in, place_in_row, slot_row,
 use Rattle.mm_checkpoint.specs.Format.{front, waiting_in, output, Contents, checkpoint, saved_in, contents_from, row_of}
 use Rattle.mm_checkpoint.specs.Format.{contents_of, spelling, Saves}
 use Rattle.mm_checkpoint.proofs.CheckpointBytes.{queued, place_small, last_small, frames_few}
-use Rattle.mm_checkpoint.proofs.{Counts.{each_of, listed}, FormatFits.{also, IsRow, IsSavedSlot, fits_row}}
+use Rattle.mm_checkpoint.proofs.{Counts.listed, FormatFits.{also, IsRow, IsSavedSlot, fits_row}}
 use Rattle.mm_checkpoint.proofs.FormatIs.{checkpoint_is}
 use Rattle.mm_checkpoint.proofs.FormatRows.{slots_of, rows_fit, IsSettled, Agrees, each_agrees, one_event, awaited}
 use Rattle.mm_checkpoint.proofs.FormatRows.{typed_events, fall_not}
@@ -86,13 +89,6 @@ module _ (i : Image) (c : Contents) (fits : (checkpoint i).Fits c) where
 
 -- 2. What fits is a checkpoint.
 
-limit_small : (version : ℕ) → output_limit version ≤ 65536
-limit_small version = by (version == 1)
-  where
-    by : (b : Bool) → cond b 4096 65536 ≤ 65536
-    by true = omega arith
-    by false = omega arith
-
 last_fits : (last : Option ℕ) → last ≡ cond (last_byte last == 255) None (Some (last_byte last))
     → (nat_le 64 (last_byte last) && not (last_byte last == 255)) ≡ false → IfSome last (λ n. n < 64)
 last_fits None is right = tt
@@ -101,11 +97,6 @@ last_fits (Some n) is right = by (n == 255) refl is
     by : (b : Bool) → (n == 255) ≡ b → Some n ≡ cond b None (Some n) → n < 64
     by true e is = absurd cc
     by false e is = grind (arith, nat_tests)
-
-same_numbers : (xs ys : List Slot) → map identity_of xs ≡ map identity_of ys → numbers_of xs ≡ numbers_of ys
-same_numbers xs ys e =
-    let number : ℕ × ℕ × Option ℕ → ℕ = λ x. x.0 in
-    sym (map-map number identity_of xs) ∙ ap (map number) e ∙ map-map number identity_of ys
 
 risen : (least : ℕ) (pages : List (ℕ × List Cell)) → AreRisingFrom least pages
     → Rise (λ (x : ℕ × List Cell). x.0) least pages
@@ -130,7 +121,7 @@ outputs_fit limit (g ∷ groups) (o ∷ outputs) fits =
     let others = outputs_fit limit groups outputs fits.1 in record {
       groups = ap (λ x. x ∷ map (λ (o : ℕ × List ℕ). o.0) outputs) (ap (λ (o : ℕ × List ℕ). o.0) fits.0.1.1)
           ∙ ap (λ xs. g ∷ xs) others.groups;
-      short = (is_above limit (length o.1) fits.0.0.1, others.short);
+      short = (ltb-false limit (length o.1) fits.0.0.1, others.short);
     }
 
 module _ (i : Image) (img : IsImage i) (c : Contents) (fits : (checkpoint i).Fits c) where
@@ -148,7 +139,7 @@ module _ (i : Image) (img : IsImage i) (c : Contents) (fits : (checkpoint i).Fit
   settled = each_map _ _ (λ r is. is.event) rows are.0
 
   slots_rise : IsStrictlyIncreasing (numbers_of (slots_of rows))
-  slots_rise = subst IsStrictlyIncreasing (sym (same_numbers (slots_of rows) i.slots are.1)) img.rising
+  slots_rise = subst IsStrictlyIncreasing (sym (numbers_by (slots_of rows) i.slots are.1)) img.rising
 
   up : Ascends (slots_of rows)
   up = ascends (slots_of rows) slots_rise
@@ -161,7 +152,7 @@ module _ (i : Image) (img : IsImage i) (c : Contents) (fits : (checkpoint i).Fit
 
   of_slots : (P : Slot → Type 0) → ((r : SlotRow) → IsRow i.split c.front.head.cycles r → P r.slot)
       → AllByRecursion P (slots_of rows)
-  of_slots P f = each_of _ _ _ (each_map _ _ f rows are.0)
+  of_slots P f = into_map _ _ _ (each_map _ _ f rows are.0)
 
   outs : OutputsFit (output_limit i.version) (groups_of i.slots) c.outputs
   outs = outputs_fit (output_limit i.version) (groups_of i.slots) c.outputs p.outputs
@@ -186,12 +177,12 @@ module _ (i : Image) (img : IsImage i) (c : Contents) (fits : (checkpoint i).Fit
     shown = slots_shown (slots_of rows) small outputs output_groups;
     events = fall_not rows slots_start settled up p.tests;
     awaited = awaited rows slots_start settled up;
-    one_event = each_of _ _ _
+    one_event = into_map _ _ _
         (one_event rows slots_start settled up);
     taken = of_slots (λ (s : Slot). s.state ≡ Taken → s.handler ≢ None) (λ r is. is.taken);
-    outputs = each_of _ _ _
+    outputs = into_map _ _ _
         (each_map _ _
-        (λ o le. let most = limit_small i.version in omega (arith, le, most)) c.outputs outs.short);
+        (λ o le. let most = byte_limit i.version in omega (arith, le, most)) c.outputs outs.short);
     pending = of_slots IsPending (λ r is. is.pending);
     turns = of_slots (λ (s : Slot). s.turns ≤ c.front.head.cycles) (λ r is. is.turns);
   }
@@ -210,9 +201,9 @@ module _ (i : Image) (img : IsImage i) (c : Contents) (fits : (checkpoint i).Fit
           words = pages.words;
         };
         slots = are.1;
-        cycles = is_above _ _ h.1.1.0.1;
-        pages = let long = p.long in let few = is_above _ _ h.1.1.1.0.1 in omega (arith, long, few);
-        outputs = each_of _ _ _ outs.short;
+        cycles = ltb-false _ _ h.1.1.0.1;
+        pages = let long = p.long in let few = ltb-false _ _ h.1.1.1.0.1 in omega (arith, long, few);
+        outputs = into_map _ _ _ outs.short;
         mode = λ e. of_slots (λ (s : Slot). s.pending ≡ []) (λ r is. is.plain e);
         issued = last_fits c.front.head.last (ap (λ h. h.last) is) h.0.1;
       }
@@ -331,8 +322,8 @@ module _ (i : Image) (image : IsImage i) (p : Parts) (last : Option ℕ) (ck : I
       let cycles = ck.cycles in
       let back = last_right last ck.issued in
       also (refl, refl) (also (omega arith, refl) (also (last_small last ck.issued, back.0) (also (omega arith, refl)
-      (also (omega (arith, cycles), not_lt 1000000 p.cycles cycles)
-      (also (omega (arith, pages, few, most), not_lt i.memory.frames (length p.pages) pages)
+      (also (omega (arith, cycles), le-ltb 1000000 p.cycles cycles)
+      (also (omega (arith, pages, few, most), le-ltb i.memory.frames (length p.pages) pages)
       (ap (λ x. record { last = x; cycles = p.cycles; pages = length p.pages }) back.1))))))
 
   outputs_right : (limit : ℕ) → limit ≤ 65536 → (outputs : List (ℕ × List ℕ))
@@ -342,7 +333,7 @@ module _ (i : Image) (image : IsImage i) (p : Parts) (last : Option ℕ) (ck : I
   outputs_right limit few [] short = refl
   outputs_right limit few (o ∷ outputs) short =
       let le = short.0 in
-      (((omega (arith, le, few), not_lt limit (length o.1) le), (refl, refl)), outputs_right limit few outputs short.1)
+      (((omega (arith, le, few), le-ltb limit (length o.1) le), (refl, refl)), outputs_right limit few outputs short.1)
 
   groups_are : map (λ (o : ℕ × List ℕ). o.0) c.outputs ≡ groups_of i.slots
   groups_are =
@@ -357,8 +348,8 @@ module _ (i : Image) (image : IsImage i) (p : Parts) (last : Option ℕ) (ck : I
       let rows = rows_right p.slots i.slots ck.slots t.slots owns r.taken r.pending r.turns ck.mode in
       also (also (also header_right (also rows refl)) (are_right p ck.rules ws are_waiters))
       (also (subst (λ gs. (each (output (output_limit i.version)) gs).Fits c.outputs) groups_are
-      (outputs_right (output_limit i.version) (limit_small i.version) c.outputs
-      (each_of _ _ _ ck.outputs)))
+      (outputs_right (output_limit i.version) (byte_limit i.version) c.outputs
+      (into_map _ _ _ ck.outputs)))
       (also (fit_pages 0 p.pages (record {
         rise = rising 0 p.pages (rise_all (λ (x : ℕ × List Cell). x.0) p.pages r.pages);
         whole = t.whole;

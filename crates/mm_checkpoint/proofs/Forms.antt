@@ -1,13 +1,15 @@
 -- The saved form of a run's snapshot is that of the run's state, and parts that have it are such a snapshot.
 use Rattle.std.proofs.Common.{◌≡◌, ℕ, List, [], ◌∷◌, map, Option, refl, ap, sym, subst, ◌∙◌}
 use Rattle.std.specs.List.{AllByRecursion}
+use Rattle.mm_model.proofs.TurnKeeps.{each_of}
+use Rattle.mm_model.proofs.CoreRows.{into_map}
 use Rattle.mm_model.specs.{State.{Core, State, output_of}, Image.{Image, start}, Run.run, Spelling.IsImage}
 use Rattle.mm_model.specs.Fits.{identity_of, slots_of}
 use Rattle.mm_thread.specs.Output.{Output}
 use Rattle.mm_machine.specs.Snapshot.{Parts, IsSnapshot, IsSnapshotOf, IsOutputOf}
 use Rattle.mm_checkpoint.specs.{Checkpoints.{Saved, saved_of}, Reading.groups_of, States.saved_form}
 use Rattle.mm_checkpoint.specs.{Laws.SnapshotsHaveSavedForms, Steps.put_out}
-use Rattle.mm_checkpoint.proofs.{Reached.reached, Counts.{each_of, all_of}, Groups.{groups_same, groups_by}}
+use Rattle.mm_checkpoint.proofs.{Reached.reached, Groups.{groups_same, groups_by}}
 use Rattle.mm_checkpoint.proofs.Made.{made_outputs, parts_back}
 
 -- a group beside what a core says of it
@@ -46,9 +48,9 @@ groups_made core (g ∷ groups) = ap (λ gs. g ∷ gs) (groups_made core groups)
 pub said_made : (core : Core) (groups : List ℕ)
     → AllByRecursion (IsOutputOf core) (made_outputs (map (told core) groups))
 said_made core groups =
-    each_of _ _ _
-    (each_of _ _ _
-    (all_of _ (λ g. refl) groups))
+    into_map _ _ _
+    (into_map _ _ _
+    (each_of _ (λ g. refl) groups))
 
 -- parts that have the saved form of a state are a snapshot of it
 pub of_form : (s : State) (p : Parts) (last also : Option ℕ) → IsSnapshot p → saved_of p last ≡ saved_form s also

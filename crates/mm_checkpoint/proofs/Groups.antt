@@ -5,13 +5,15 @@ use Rattle.std.proofs.lemmas.Bool.{cases_Bool, cases_eq, ne_eqb, or_right}
 use Rattle.std.proofs.lemmas.List.{length-map, Kept.IsStrictlyIncreasing-filter}
 use Rattle.std.{proofs.lemmas.List.FromFn.{length-range_with_len, get_or-range_with_len}, specs.Prelude.◌==◌}
 use Rattle.std.specs.List.{AllByRecursion, filter, list_any, range_with_len, Sorted.IsStrictlyIncreasing}
+use Rattle.mm_machine.proofs.Copied.{own_group}
+use Rattle.mm_model.proofs.TurnKeeps.{each_of}
 use Rattle.mm_model.specs.{Slot.Slot, Image.Image, Groups.has_group, Fits.identity_of, Spelling.IsImage}
-use Rattle.mm_model.proofs.CoreRows.{each_map, each_both, rest_rises, above_first, slot_limit-few}
+use Rattle.mm_model.proofs.CoreRows.{each_map, each_both, rest_rises, above_first, slot_limit-few, out_of_map}
 use Rattle.mm_model.proofs.Filters.{filter_takes, filter_drops, each_filter, filter_short}
 use Rattle.mm_thread.specs.Output.{Output}
 use Rattle.mm_machine.{specs.Snapshot.{Parts, has_output, IsSnapshot}, proofs.Outputs.group_has}
 use Rattle.mm_checkpoint.specs.Reading.{groups_of}
-use Rattle.mm_checkpoint.proofs.Counts.{all_of, any_map, each_unmap}
+use Rattle.mm_checkpoint.proofs.Counts.{any_map}
 
 -- 1. Outputs of the groups of slots.
 
@@ -42,13 +44,6 @@ among_groups : (slots : List Slot) (g : ℕ) → g < 64 → has_group slots g �
 unfolding groups_of
 among_groups slots g lt has = among_filter (has_group slots) g has (range_with_len 0 64) ∙ among_range g 0 64 (omega arith) (omega arith)
 
-each_has_group : (slots : List Slot) → AllByRecursion (λ (s : Slot). has_group slots s.group ≡ true) slots
-each_has_group [] = tt
-each_has_group (s ∷ slots) = (
-  ap (λ b. b || has_group slots s.group) (eq-eqb s.group s.group refl),
-  each_map _ _ (λ x h. or_right (s.group == x.group) (has_group slots x.group) h) slots (each_has_group slots),
-)
-
 module _ (slots : List Slot) (small : AllByRecursion (λ (s : Slot). s.group < 64) slots) (outputs : List Output)
     (are : map (λ (o : Output). o.group) outputs ≡ groups_of slots) where
   pub groups_rise : IsStrictlyIncreasing (map (λ (o : Output). o.group) outputs)
@@ -60,11 +55,11 @@ module _ (slots : List Slot) (small : AllByRecursion (λ (s : Slot). s.group < 6
   unfolding groups_of
   groups_used =
       let all = range_with_len 0 64 in
-      each_unmap _ (λ (o : Output). o.group) outputs
+      out_of_map _ (λ (o : Output). o.group) outputs
       (subst (AllByRecursion (λ g. has_group slots g ≡ true)) (sym are)
       (each_map _ _ (λ g h. h.1)
       (filter (has_group slots) all)
-      (each_filter (has_group slots) (λ _. Unit {0}) all (all_of _ (λ _. tt) all))))
+      (each_filter (has_group slots) (λ _. Unit {0}) all (each_of _ (λ _. tt) all))))
 
   pub groups_low : AllByRecursion (λ (o : Output). o.group < 64) outputs
   groups_low = each_map _ _
@@ -78,7 +73,7 @@ module _ (slots : List Slot) (small : AllByRecursion (λ (s : Slot). s.group < 6
   pub slots_shown : AllByRecursion (λ (s : Slot). has_output outputs s.group ≡ true) slots
   slots_shown =
       each_both _ _ _ (λ s lt has. groups_shown s.group lt has) slots small
-      (each_has_group slots)
+      (own_group slots)
 
 -- 2. A list that rises is what a test passes of a range.
 
@@ -184,7 +179,7 @@ groups_same i p image rules same =
     let test = has_group i.slots in
     let passed : ArePassed test 64 groups = used p.outputs rules.used in
     let known : HasPassed test 0 groups = λ g low passes. is_output p.outputs g ∙ shown_group p.outputs p.slots g rules.shown (same_groups p.slots i.slots g same ∙ passes) in
-    filter_range test 64 groups 0 64 (omega arith) (rise groups 0 rules.groups (all_of _ (λ x. omega arith) groups)) passed known
+    filter_range test 64 groups 0 64 (omega arith) (rise groups 0 rules.groups (each_of _ (λ x. omega arith) groups)) passed known
   where
     used : (outputs : List Output) → AllByRecursion (λ (o : Output). has_group p.slots o.group ≡ true) outputs → ArePassed (has_group i.slots) 64 (map (λ (o : Output). o.group) outputs)
     used [] h = tt

@@ -1,8 +1,9 @@
 -- The parts of a run's state are a snapshot of it, and spelled by bytes they are a checkpoint of its image.
 use Rattle.std.proofs.Common.{◌≡◌, ℕ, ◌<◌, List, map, Option, None, refl, ap, zero, suc, [], ◌∷◌, sym, subst, arith}
 use Rattle.std.specs.List.{AllByRecursion}
+use Rattle.mm_model.proofs.TurnKeeps.{each_of}
 use Rattle.mm_model.specs.{Slot.Slot, State.State, Image.start, Run.run, Fits.{slots_of, IsOfVersion}, Bytes.IsBytes}
-use Rattle.mm_model.proofs.CoreRows.{each_map}
+use Rattle.mm_model.proofs.CoreRows.{each_map, into_map}
 use Rattle.mm_thread.specs.Output.{Output}
 use Rattle.mm_machine.specs.{Kept.Kept, Snapshot.{Parts, IsSnapshotOf, IsTyped}, Capture.OutputsBelow}
 use Rattle.mm_machine.proofs.{Keeping.kept_core, Copied.{snapshot_taken, typed_taken}}
@@ -12,7 +13,6 @@ use Rattle.mm_checkpoint.proofs.{Reached.{reached, snapshots}, Forms.{groups_mad
 use Rattle.mm_checkpoint.proofs.Made.{made_outputs, made_parts, made_saved}
 use Rattle.mm_checkpoint.proofs.{Groups.{groups_rise, groups_used, groups_low, groups_shown}, CheckpointBytes.whole}
 use Rattle.mm_model.proofs.OutputBytes.{AreBytes, group_bytes, run_bytes}
-use Rattle.mm_checkpoint.proofs.Counts.{each_of, all_of}
 
 -- 1. The parts.
 
@@ -75,8 +75,8 @@ runs_have_checkpoints i items last image few small =
     let groups = groups_of (slots_of s.core) in
     let outputs : AllByRecursion (λ (o : ℕ × List ℕ). AreBytes o.1) (saved_of p last).outputs =
     subst (λ (c : Saved). AllByRecursion (λ (o : ℕ × List ℕ). AreBytes o.1) c.outputs) (sym form)
-    (each_of _ _ _
-    (all_of _ (group_bytes s.core (run_bytes i items)) groups)) in
+    (into_map _ _ _
+    (each_of _ (group_bytes s.core (run_bytes i items)) groups)) in
     record {
       parts = p;
       of = are_snapshot s kept;

@@ -1,69 +1,41 @@
 -- The bytes of a slot's state and of its cause, and of the event that it waits with.
 use Rattle.std.proofs.Common.{◌≡◌, ◌≢◌, ℕ, zero, suc, ◌+◌, ◌<◌, ◌≤◌, Bool, true, false, not, nat_lt, inl, inr, List}
 use Rattle.std.proofs.Common.{[], ◌∷◌, length, Option, Some, None, refl, sym, ap, subst, ◌∙◌, arith, eqb-true}
-use Rattle.std.specs.Prelude.{◌==◌, ◌&&◌, ◌||◌, is_some, unwrap_or, slice_get, option_map}
+use Rattle.std.specs.Prelude.{◌==◌, ◌&&◌, ◌||◌, is_some, unwrap_or, option_map}
+use Rattle.std.proofs.lemmas.Bool.{or_from, ne_eqb, le-ltb, or_parts, not-false, ltb-false, eqb-false}
 use Rattle.mm_word.specs.declared.cause.Cause.{Cause}
-use Rattle.mm_word.specs.declared.cause.Cause.TheVariants.{NotPointer, Perm, Bounds, Align, NoPage, Sync, Illegal}
-use Rattle.mm_word.specs.declared.cause.Cause.TheVariants.{Priv, DivZero, Malformed, Trap, NoSlot, OutFull}
-use Rattle.mm_word.specs.{Cause.number_of, declared.word.Word.Word, declared.word.Word.TheVariants.Int, Word.IsWord}
+use Rattle.mm_word.specs.declared.cause.Cause.TheVariants.{NotPointer}
+use Rattle.mm_word.proofs.Causes.{cause_back, number_within, number_back}
+use Rattle.mm_word.specs.{Cause.{number_of, cause_of}, declared.word.Word.Word, declared.word.Word.TheVariants.Int, Word.IsWord}
 use Rattle.mm_model.specs.{declared.event.Event.Event, declared.slot.SlotState.SlotState}
 use Rattle.mm_model.specs.{declared.slot.SlotState.TheVariants.{Running, Waiting, Taken, Halted}, Slot.Slot}
 use Rattle.mm_model.specs.Fits.{is_waiting, EventHoldsWords}
-use Rattle.mm_model.proofs.ImageBytes.Clean.{neither, not_not, is_above, is_not}
-use Rattle.mm_checkpoint.specs.{Checkpoints.{state_byte, event_of, cause_byte}, Reading.{causes, cause_of, state_of}}
+use Rattle.mm_checkpoint.specs.{Checkpoints.{state_byte, event_of, cause_byte}, Reading.state_of}
 use Rattle.mm_checkpoint.specs.Tests.{is_bad_state, is_bad_cause}
 use Rattle.mm_checkpoint.proofs.Owns.{Owns}
 
 -- 1. Causes and their numbers.
 
-abbrev AreNumbered : ℕ → List Cause → Type 0
-AreNumbered k [] = Unit {0}
-AreNumbered k (c ∷ cs) = (number_of c ≡ suc k) × AreNumbered (suc k) cs
-
-named : (k : ℕ) (cs : List Cause) → AreNumbered k cs → (n : ℕ) → n < length cs
-    → (c : Cause) × (slice_get cs n ≡ Some c) × (number_of c ≡ suc (k + n))
-named k [] are n lt = absurd (omega arith)
-named k (c ∷ cs) are zero lt = (c, refl, omega (arith, are.0))
-named k (c ∷ cs) are (suc n) lt =
-    let rest = named (suc k) cs are.1 n (omega arith) in (rest.0, rest.1, omega (arith, rest.2))
-
-numbered : (n : ℕ) → n < 13 → (c : Cause) × (slice_get causes n ≡ Some c) × (number_of c ≡ suc n)
-numbered n lt =
-    let it = named 0 causes
-    (refl, (refl, (refl, (refl, (refl, (refl, (refl, (refl, (refl, (refl, (refl, (refl, (refl, tt))))))))))))) n lt in
-    (it.0, it.1, omega (arith, it.2))
-
 -- of a fault
 waiting_cause : (ca : ℕ) → (ca == 0) ≡ false → ca ≤ 13 → number_of (unwrap_or (cause_of ca) NotPointer) ≡ ca
-waiting_cause zero some le = absurd (is_not 0 0 some refl)
+waiting_cause zero some le = absurd (eqb-false 0 0 some refl)
 waiting_cause (suc n) some le =
-    let it = numbered n (omega arith) in ap (λ o. number_of (unwrap_or o NotPointer)) it.1 ∙ it.2
+    let it = number_back (suc n) (omega arith) le in ap (λ o. number_of (unwrap_or o NotPointer)) it.1 ∙ it.2
 
 -- of a slot that was halted
 halted_cause : (ca : ℕ) (event : Option Event) → ca ≤ 13 → cause_byte (Halted (cause_of ca)) event ≡ ca
 halted_cause zero event le = refl
-halted_cause (suc n) event le = let it = numbered n (omega arith) in ap (λ o. cause_byte (Halted o) event) it.1 ∙ it.2
-
-known : (c : Cause) → (cause_of (number_of c) ≡ Some c) × ((number_of c == 0 || nat_lt 13 (number_of c)) ≡ false)
-known NotPointer = (refl, refl)
-known Perm = (refl, refl)
-known Bounds = (refl, refl)
-known Align = (refl, refl)
-known NoPage = (refl, refl)
-known Sync = (refl, refl)
-known Illegal = (refl, refl)
-known Priv = (refl, refl)
-known DivZero = (refl, refl)
-known Malformed = (refl, refl)
-known Trap = (refl, refl)
-known NoSlot = (refl, refl)
-known OutFull = (refl, refl)
-
-pub cause_back : (c : Cause) → cause_of (number_of c) ≡ Some c
-cause_back c = (known c).0
+halted_cause (suc n) event le =
+    let it = number_back (suc n) (omega arith) le in ap (λ o. cause_byte (Halted o) event) it.1 ∙ it.2
 
 few_causes : (c : Cause) → nat_lt 13 (number_of c) ≡ false
-few_causes c = (neither _ _ (known c).1).1
+few_causes c = le-ltb 13 (number_of c) (number_within c).1
+
+known : (c : Cause) → (number_of c == 0 || nat_lt 13 (number_of c)) ≡ false
+known c =
+    let some = (number_within c).0 in
+    or_from (number_of c == 0) (nat_lt 13 (number_of c)) (ne_eqb (number_of c) 0 (λ e. omega (arith, some, e)))
+    (few_causes c)
 
 -- 2. Bytes that are read.
 
@@ -73,12 +45,12 @@ pub record IsState (has : Bool) (st : ℕ) : Type 0 where
 
 pub state_right : (has : Bool) (st : ℕ) → is_bad_state has st ≡ false → IsState has st
 state_right has st e =
-    let tests = neither _ _ e in record { known = is_above 3 st tests.0; handled = handled has tests.1 }
+    let tests = or_parts _ _ e in record { known = ltb-false 3 st tests.0; handled = handled has tests.1 }
   where
     handled : (has : Bool) → (not has && (st == 1 || st == 2)) ≡ false → (st ≡ 1 → has ≡ true) × (st ≡ 2 → has ≡ true)
     handled true e = (λ s. refl, λ s. refl)
     handled false e =
-        let tests = neither _ _ e in (λ s. absurd (is_not st 1 tests.0 s), λ s. absurd (is_not st 2 tests.1 s))
+        let tests = or_parts _ _ e in (λ s. absurd (eqb-false st 1 tests.0 s), λ s. absurd (eqb-false st 2 tests.1 s))
 
 pub state_again : (st ca : ℕ) → st ≤ 3 → state_byte (state_of st ca) ≡ st
 state_again zero ca le = refl
@@ -91,13 +63,13 @@ state_again (suc (suc (suc (suc n)))) ca le = absurd (omega arith)
 pub cause_again : (st ca : ℕ) (event : Option Event) → st ≤ 3 → is_bad_cause st ca ≡ false
     → (st ≡ 1 → (e : Event) × (event ≡ Some e) × (e.cause ≡ unwrap_or (cause_of ca) NotPointer))
     → cause_byte (state_of st ca) event ≡ ca
-cause_again zero ca event le right has = sym (eqb-true ca 0 (not_not _ right))
+cause_again zero ca event le right has = sym (eqb-true ca 0 (not-false _ right))
 cause_again (suc zero) ca event le right has =
-    let tests = neither _ _ right in
+    let tests = or_parts _ _ right in
     let it = has refl in
-    ap (cause_byte Waiting) it.1 ∙ ap number_of it.2 ∙ waiting_cause ca tests.0 (is_above 13 ca tests.1)
-cause_again (suc (suc zero)) ca event le right has = sym (eqb-true ca 0 (not_not _ right))
-cause_again (suc (suc (suc zero))) ca event le right has = halted_cause ca event (is_above 13 ca right)
+    ap (cause_byte Waiting) it.1 ∙ ap number_of it.2 ∙ waiting_cause ca tests.0 (ltb-false 13 ca tests.1)
+cause_again (suc (suc zero)) ca event le right has = sym (eqb-true ca 0 (not-false _ right))
+cause_again (suc (suc (suc zero))) ca event le right has = halted_cause ca event (ltb-false 13 ca right)
 cause_again (suc (suc (suc (suc n)))) ca event le right has = absurd (omega arith)
 
 -- 3. Bytes that are spelled.
@@ -111,10 +83,10 @@ state_small (Halted c) = omega arith
 pub cause_small : (state : SlotState) (event : Option Event) → cause_byte state event < 256
 cause_small Running event = omega arith
 cause_small Waiting None = omega arith
-cause_small Waiting (Some event) = let le = is_above 13 _ (few_causes event.cause) in omega arith
+cause_small Waiting (Some event) = let le = ltb-false 13 _ (few_causes event.cause) in omega arith
 cause_small Taken event = omega arith
 cause_small (Halted None) event = omega arith
-cause_small (Halted (Some c)) event = let le = is_above 13 _ (few_causes c) in omega arith
+cause_small (Halted (Some c)) event = let le = ltb-false 13 _ (few_causes c) in omega arith
 
 pub byte_waits : (state : SlotState) → (state_byte state == 1) ≡ is_waiting state
 byte_waits Running = refl
@@ -156,7 +128,7 @@ module _ (events : List (ℕ × Event)) (s : Slot) where
   cause_good (inl a) =
       ap (λ (st : SlotState). is_bad_cause (state_byte st) (cause_byte st (event_of events s.number))) a.waits
       ∙ ap (λ (o : Option Event). is_bad_cause 1 (cause_byte Waiting o)) (ap (option_map (λ (x : ℕ × Event). x.1)) a.found)
-      ∙ (known a.event.cause).1
+      ∙ known a.event.cause
   cause_good (inr idle) = by s.state idle.rests
     where
       by : (state : SlotState) → is_waiting state ≡ false

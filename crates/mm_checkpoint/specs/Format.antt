@@ -7,6 +7,7 @@ use Rattle.mm_word.specs.declared.word.Word.TheVariants.{Int, Ptr}
 use Rattle.mm_word.specs.declared.word.Cell.{Cell}
 use Rattle.mm_word.specs.Pointer.{pointer_of, spells_pointer}
 use Rattle.mm_word.specs.Word.{word_bits, is_pointer}
+use Rattle.mm_word.specs.Cause.{cause_of}
 use Rattle.mm_model.specs.declared.slot.Pending.{Pending}
 use Rattle.mm_model.specs.declared.event.Event.{Event}
 use Rattle.mm_model.specs.Flags.{flags, number_of_flags, one_if}
@@ -23,7 +24,7 @@ use Rattle.mm_checkpoint.specs.declared.rows.SlotRow.{SlotRow}
 use Rattle.mm_checkpoint.specs.declared.waiting.Waiter.{Waiter}
 use Rattle.mm_checkpoint.specs.Checkpoints.{Saved, IsCheckpoint, saved_of, last_byte, state_byte, cause_byte, place_byte}
 use Rattle.mm_checkpoint.specs.Checkpoints.{event_of}
-use Rattle.mm_checkpoint.specs.Reading.{cause_of, state_of, handler_of, in_order, events_of, slots_start, groups_of}
+use Rattle.mm_checkpoint.specs.Reading.{state_of, handler_of, in_order, events_of, slots_start, groups_of}
 use Rattle.mm_checkpoint.specs.Tests.{is_bad_state, is_bad_cause, bits_set, is_bad_entry, is_bad_place}
 
 -- 1. The header.

@@ -1,7 +1,6 @@
 //! The outputs of groups in a checkpoint's file.
 
 ghost use Rattle.std.specs.Prelude.{◌≡◌, ◌*◌, ◌≤◌, ◌<◌, ◌==◌, map, IfOk, length};
-ghost use Rattle.mm_model.specs.Image.{output_limit};
 ghost use Rattle.mm_format.specs.Formats.{each};
 ghost use Rattle.mm_format.specs.Reading.{Reads};
 ghost use Rattle.mm_image.specs.Faults.{number_of};
@@ -17,14 +16,6 @@ use std::alloc::{AllocError, Global};
 
 /// The count of groups that there can be.
 const GROUPS: u8 = 64;
-
-/// The most bytes that a group may put out, by the version of the image.
-pub(crate) fn output_limit(version: u16) -> u32
-    ensures limit { result ≡ output_limit version }
-    ensures small { result ≤ 65536 }
-{
-    if version == 1 { 4096 } else { 65536 }
-}
 
 /// The groups of slots, ascending.
 #[tactic(auto, unfolding(crate::specs::Reading::groups_of))]

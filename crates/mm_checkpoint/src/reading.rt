@@ -17,13 +17,13 @@ ghost use Rattle.mm_checkpoint.specs.declared.rows.SlotRow.{SlotRow as RowValue}
 
 use crate::fault::SaveError;
 use crate::header::{Header, read_header};
-use crate::outputs::{groups_of, output_limit, read_outputs};
+use crate::outputs::{groups_of, read_outputs};
 use crate::rows::{SlotRow, read_rows};
 use crate::waiting::{Waiter, events_of, in_order, test_places, waiting_in};
 use mm_format::{ReadError, Reader, refuse_if};
 use mm_image::{Image, ImageFault, read_pages};
 use mm_machine::Snapshot;
-use mm_model::{Event, Page, Slot};
+use mm_model::{Event, Page, Slot, output_limit};
 use mm_thread::Output;
 use std::alloc::{AllocError, Global};
 
@@ -41,16 +41,14 @@ pub fn read(alloc: Global, img: &Image, bytes: &[u8]) -> Result<(Snapshot, Optio
 {
     let parts = read_parts(alloc, img, bytes)?;
     let last = parts.last;
-    match Snapshot::new(
+    let snapshot = Snapshot::of(
         parts.slots,
         parts.events,
         parts.outputs,
         parts.pages,
         parts.cycles,
-    ) {
-        Some(snapshot) => Ok((snapshot, last)),
-        None => unreachable!(),
-    }
+    );
+    Ok((snapshot, last))
 }
 
 /// The parts of a checkpoint.
@@ -131,7 +129,7 @@ fn read_contents(
 {
     let (head, rows, waiting) = read_tested(alloc, reader, img)?;
     let groups = groups_of(alloc, img.slots())?;
-    let limit = output_limit(img.version());
+    let limit = output_limit(img.version()) as u32;
     let outputs = read_outputs(alloc, reader, limit, &groups)?;
     let pages = read_pages(alloc, reader, head.pages)?;
     Ok(File {

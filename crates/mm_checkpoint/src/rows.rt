@@ -6,7 +6,7 @@ ghost use Rattle.mm_format.specs.Reading.{Reads, ReadsAlone};
 ghost use Rattle.mm_image.specs.Faults.{number_of};
 ghost use Rattle.mm_checkpoint.specs.Format.{load_count, slot_row};
 
-use crate::causes::{WAITING, cause_of, is_bad_cause, is_bad_state, state_of};
+use crate::causes::{WAITING, is_bad_cause, is_bad_state, state_of};
 use crate::entries::{bit_count, read_loads};
 use crate::words::{read_operand, read_registers};
 use mm_format::{ReadError, Reader, refuse_if};
@@ -81,7 +81,7 @@ fn read_row(
             place,
             event: Event {
                 slot: known.number,
-                cause: cause_of(cause).unwrap_or(Cause::NotPointer),
+                cause: Cause::from_number(u64::from(cause)).unwrap_or(Cause::NotPointer),
                 ip,
                 addr_op: address,
                 value_op: value,

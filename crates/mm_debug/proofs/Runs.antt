@@ -49,10 +49,6 @@ module _ (begun : Bool) (s : Session) (item left less : ℕ) (next : Some item �
   pub run_goes : (begun && stops_before s item) ≡ false → stops_after s item ≡ None → run_from begun s left ≡ run_from true (issued s item) less
   run_goes passes unseen = after_the_item passes ∙ ap (λ o. after_cycle (issued s item) o (run_from true (issued s item) less)) unseen
 
--- no break stops a run before its first cycle
-pub passes_first : (begun stops : Bool) → begun ≡ false → (begun && stops) ≡ false
-passes_first begun stops first = ap (λ b. b && stops) first
-
 -- or where there is none
 pub passes_later : (begun stops : Bool) → begun ≡ true → false ≡ stops → (begun && stops) ≡ false
 passes_later begun stops has_begun none = ap (λ b. b && stops) has_begun ∙ sym none

@@ -1,10 +1,12 @@
 -- States with one snapshot are the same, where version, mode and frames are and no group without a slot has put out anything.
-use Rattle.std.proofs.Common.{◌≡◌, ◌≢◌, ℕ, suc, ◌<◌, inl, inr, Bool, true, false, ◌==◌, if◌then◌else◌, List, [], ◌∷◌, ◌++◌, length, map, get_or, refl, sym, ap, subst, ◌∙◌, arith, append-nil, eq-eqb}
+use Rattle.std.proofs.Common.{◌≡◌, ℕ, ◌<◌, inl, inr, Bool, true, false, ◌==◌, if◌then◌else◌, List, [], ◌∷◌, ◌++◌, length, map, refl, sym, ap, subst, ◌∙◌, arith, append-nil, eq-eqb}
 use Rattle.std.specs.List.{AllByRecursion, flat_map, list_any}
 use Rattle.std.specs.List.Sorted.{IsStrictlyIncreasing}
 use Rattle.std.proofs.Props.{props}
 use Rattle.std.proofs.Math.Logic.{∥∥₁_elim}
 use Rattle.std.proofs.lemmas.Bool.{cases_eq, ne_eqb}
+use Rattle.mm_machine.proofs.Returning.{same_all}
+use Rattle.mm_machine.proofs.Copied.{for_own, for_other}
 use Rattle.mm_word.specs.declared.word.Cell.{Cell}
 use Rattle.mm_model.specs.declared.event.Event.{Event}
 use Rattle.mm_model.specs.Slot.{Slot}
@@ -25,14 +27,6 @@ events_for n (x ∷ xs) = if x.0 == n then x.1 ∷ events_for n xs else events_f
 
 abbrev tagged : ℕ → List Event → List (ℕ × Event)
 tagged n es = map (λ (e : Event). (n, e)) es
-
-for_own : (n : ℕ) (es : List Event) (rest : List (ℕ × Event)) → events_for n (tagged n es ++ rest) ≡ es ++ events_for n rest
-for_own n [] rest = refl
-for_own n (e ∷ es) rest = rw (eq-eqb n n refl) (ap (λ (xs : List Event). e ∷ xs) (for_own n es rest))
-
-for_other : (n k : ℕ) (es : List Event) (rest : List (ℕ × Event)) → k ≢ n → events_for n (tagged k es ++ rest) ≡ events_for n rest
-for_other n k [] rest ne = refl
-for_other n k (e ∷ es) rest ne = rw (ne_eqb k n ne) (for_other n k es rest ne)
 
 abbrev slots_in : List ThreadRow → List Slot
 slots_in rows = map (λ (row : ThreadRow). row.slot) rows
@@ -116,12 +110,6 @@ number_has (x ∷ xs) number P n all has = elim (cases_eq (number x) n) as (λ _
   | inl is ↦ subst P is all.0
   | inr ne ↦ number_has xs number P n all.1 (rw (ne_eqb (number x) n ne) at has)
 ]
-
-same_all : (xs ys : List (List ℕ)) → length xs ≡ length ys → ((g : ℕ) → get_or xs g [] ≡ get_or ys g []) → xs ≡ ys
-same_all [] [] long same = refl
-same_all [] (y ∷ ys) long same = absurd (omega arith)
-same_all (x ∷ xs) [] long same = absurd (omega arith)
-same_all (x ∷ xs) (y ∷ ys) long same = ap (λ (z : List ℕ). z ∷ xs) (same 0) ∙ ap (λ (zs : List (List ℕ)). y ∷ zs) (same_all xs ys (omega arith) (λ g. same (suc g)))
 
 module _ (u t : State) (p : Parts) (one : IsSnapshotOf u p) (other : IsSnapshotOf t p) (first : IsQuiet u.core) (second : IsQuiet t.core) where
   spoken : (g : ℕ) → has_group p.slots g ≡ true → output_of u.core g ≡ output_of t.core g

@@ -1,19 +1,17 @@
 -- Spots of addresses at which there may be a break.
-use Rattle.std.proofs.Common.{◌≡◌, ◌⊎◌, inl, inr, ℕ, zero, suc, ◌<◌, Bool, true, false, ◌&&◌, ◌||◌, ◌==◌, List, [], ◌∷◌}
+use Rattle.std.proofs.Common.{◌≡◌, inl, inr, ℕ, zero, suc, ◌<◌, Bool, true, false, ◌&&◌, ◌||◌, ◌==◌, List, [], ◌∷◌}
 use Rattle.std.proofs.Common.{length, set, get_or, get_or-set_other, Result, Ok, Err, OnOk, OnErr, refl, sym, ap, ◌∙◌}
 use Rattle.std.proofs.Common.{subst, arith}
 use Rattle.std.specs.List.{list_any, insert, AllByRecursion}
 use Rattle.std.proofs.lemmas.Bool.Decides.{nat_tests}
 use Rattle.std.proofs.lemmas.Grind.{get_or-set_at}
+use Rattle.std.proofs.Math.Bool.{and-false}
+use Rattle.std.proofs.lemmas.Bool.{cases_eq}
 use Rattle.arrayvec.specs.ArrayVec.{ArrayVec}
 use Rattle.mm_debug.specs.declared.breakpoints.Break.{Break}
 use Rattle.mm_debug.specs.Breakpoints.{is_break, has_break, spot_of, AreSpotted}
 
 -- 1. An address whose spot is not set has no break.
-
-and_false : (t : Bool) → (t && false) ≡ false
-and_false true = refl
-and_false false = refl
 
 is_other : (spots : List Bool) (slot address : ℕ) (b : Break) → get_or spots (spot_of b.address) false ≡ true → get_or spots (spot_of address) false ≡ false → is_break slot address b ≡ false
 is_other spots slot address b set_there unset = by (b.address == address) refl
@@ -23,7 +21,7 @@ is_other spots slot address b set_there unset = by (b.address == address) refl
         let same : b.address ≡ address = grind (arith, nat_tests) in
         let clash : true ≡ false = sym set_there ∙ ap (λ (a : ℕ). get_or spots (spot_of a) false) same ∙ unset in
         absurd (cc)
-    by false e = ap (λ t. (b.slot == slot) && t) e ∙ and_false (b.slot == slot)
+    by false e = ap (λ t. (b.slot == slot) && t) e ∙ and-false (b.slot == slot)
 
 pub none_at : (spots : List Bool) (slot address : ℕ) (breaks : List Break) → AreSpotted spots breaks → get_or spots (spot_of address) false ≡ false → has_break breaks slot address ≡ false
 none_at spots slot address [] all unset = refl
@@ -32,13 +30,10 @@ none_at spots slot address (b ∷ breaks) all unset =
 
 -- 2. One spot more.
 
-same_or_other : (a b : ℕ) → (a ≡ b) ⊎ (a ≡ b → ⊥)
-same_or_other a b = grind arith
-
 still : (spots : List Bool) (spot : ℕ) (breaks : List Break) → spot < length spots → AreSpotted spots breaks → AreSpotted (set spots spot true) breaks
 still spots spot [] inside all = tt
 still spots spot (b ∷ breaks) inside all = (
-  elim (same_or_other (spot_of b.address) spot) [
+  elim (cases_eq (spot_of b.address) spot) [
     | inl same ↦ get_or-set_at spots spot (spot_of b.address) true false same inside
     | inr other ↦ get_or-set_other spots spot (spot_of b.address) true false other ∙ all.0
   ],

@@ -2,6 +2,7 @@
 use Rattle.std.proofs.Common.{◌≡◌, ℕ, zero, suc, ◌+◌, ◌-◌, Bool, true, false, ◌&&◌, nat_lt, if◌then◌else◌, List, [], ◌∷◌, ◌++◌, take, slice_get, Option, Some, None, refl, sym, ap, ◌∙◌, subst, arith}
 use Rattle.std.proofs.lemmas.List.{take_more}
 use Rattle.std.proofs.lemmas.Option.{slice_get_within, get_or_from_slice_get}
+use Rattle.mm_machine.proofs.Went.{last_more}
 use Rattle.mm_model.specs.State.{State}
 use Rattle.mm_model.specs.Image.{Image, start}
 use Rattle.mm_model.specs.Run.{after, run, next_running, then_issued, robin_from, last_item}
@@ -22,10 +23,6 @@ use Rattle.mm_debug.specs.Standing.{run_items, GoesOnAfter, StandsFor}
 use Rattle.mm_debug.proofs.Dialogues.{keeps}
 
 -- 1. An order issues one item more.
-
-pub last_more : (before : Option ℕ) (items : List ℕ) (n : ℕ) → last_item before (items ++ n ∷ []) ≡ Some n
-last_more before [] n = refl
-last_more before (m ∷ items) n = last_more (Some m) items n
 
 -- round robin with one cycle more issues the slot that is next after the others
 pub robin_more : (s : State) (last : Option ℕ) (count n : ℕ) → next_running (run s (robin_from s last count)).core.rows (last_item last (robin_from s last count)) ≡ Some n

@@ -1,10 +1,11 @@
 -- The next item of a session, and the session after cycles.
-use Rattle.std.proofs.Common.{◌≡◌, ◌⊎◌, inl, inr, ℕ, zero, suc, ◌+◌, ◌<◌, ◌≤◌, Bool, true, false, nat_lt, if◌then◌else◌, List, [], ◌∷◌, map, Option, None, Some, refl, sym, ap, ◌∙◌, arith}
+use Rattle.std.proofs.Common.{◌≡◌, inl, inr, ℕ, zero, suc, ◌+◌, ◌<◌, ◌≤◌, Bool, true, false, nat_lt, if◌then◌else◌, List, [], ◌∷◌, map, Option, None, Some, refl, sym, ap, ◌∙◌, arith}
 use Rattle.std.proofs.Props.{props}
 use Rattle.std.proofs.Math.Logic.{∥∥₁_elim}
 use Rattle.std.proofs.lemmas.Bool.Decides.{nat_tests}
 use Rattle.std.specs.List.{AllByRecursion}
 use Rattle.std.specs.Option.{option_or}
+use Rattle.std.proofs.lemmas.Bool.{cases_lt}
 use Rattle.mm_model.specs.Slot.{Slot}
 use Rattle.mm_model.specs.State.{ThreadRow}
 use Rattle.mm_model.specs.Turn.{is_running}
@@ -28,11 +29,8 @@ pub item_of_order : (s : Session) → total_of s < 1000000 → next_item s ≡ i
 unfolding next_item
 item_of_order s lt = let below : nat_lt (total_of s) 1000000 ≡ true = grind (arith, nat_tests) in rw below refl
 
-below_or_not : (a b : ℕ) → (a < b) ⊎ (b ≤ a)
-below_or_not a b = grind arith
-
 pub item_below_limit : (s : Session) (item : ℕ) → next_item s ≡ Some item → total_of s < 1000000
-item_below_limit s item next = elim (below_or_not (total_of s) 1000000) [
+item_below_limit s item next = elim (cases_lt (total_of s) 1000000) [
   | inl lt ↦ lt
   | inr over ↦ let none = limit_ends s over in absurd (cc)
 ]

@@ -1,6 +1,6 @@
 -- The externals of the draft are those of the object, and what its targets come to.
 use Rattle.std.proofs.Common.{◌≡◌, ℕ, zero, suc, ◌+◌, ◌*◌, ◌<◌, true, not, ◌==◌, List, [], ◌∷◌, length, get_or, Option, is_some, refl, sym, ap, ◌∙◌, subst, inl, inr, arith, bytes_eq}
-use Rattle.mm_line.proofs.Choices.{same_number}
+use Rattle.std.proofs.lemmas.Bool.{eqb-true}
 use Rattle.mm_line.specs.declared.statement.Target as text
 use Rattle.mm_draft.specs.declared.location.Location.{Location}
 use Rattle.mm_draft.specs.Drafts as draft
@@ -56,7 +56,7 @@ module _ (o : Object) (is : IsObject o) (d : Draft) (drafted : IsDraftOf o d) wh
       let at = in_at o.externals name m in
       let t = found (λ (t : Target). t.index == length o.segments + at.0) (targets_of o.relocs o.threads) (is.used at.0 at.1) in
       let u = target_use o is d drafted t.0 t.1 in
-      let foreign : IsForeign o t.0 = record { place = at.0; is = same_number t.0.index (length o.segments + at.0) t.2; low = at.1 } in
+      let foreign : IsForeign o t.0 = record { place = at.0; is = eqb-true t.0.index (length o.segments + at.0) t.2; low = at.1 } in
       let same : name_of u.0 ≡ name = u.2.0 ∙ foreign_name o is d drafted t.0 foreign ∙ sym at.2 in
       let external : is_external d u.0 ≡ true = ap (λ (found : Option Location). not (is_some found)) (foreign_place o is d drafted t.0 u.0.target foreign u.2) in
       subst (λ (n : List ℕ). In n (externals_of d)) same (among_in (name_of u.0) (externals_of d) (used_among d u.0 (uses_of d) [] u.1 external))

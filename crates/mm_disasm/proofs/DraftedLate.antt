@@ -1,9 +1,12 @@
 -- The draft has no late faults.
-use Rattle.std.proofs.Common.{◌≡◌, ℕ, zero, suc, ◌+◌, ◌^◌, ◌<◌, ◌≤◌, Bool, true, false, not, ◌&&◌, ◌||◌, nat_le, bytes_eq}
+use Rattle.std.proofs.Common.{◌≡◌, ℕ, zero, suc, ◌+◌, ◌^◌, ◌<◌, ◌≤◌, Bool, true, false, not, ◌&&◌, nat_le, bytes_eq}
 use Rattle.std.proofs.Common.{if◌then◌else◌, List, [], ◌∷◌, ◌++◌, length, slice_get, Option, Some, None, refl, sym, ap}
 use Rattle.std.proofs.Common.{◌∙◌, subst, inl, inr, arith}
 use Rattle.std.specs.List.{flat_map}
 use Rattle.std.proofs.lemmas.Bool.Decides.{nat_tests}
+use Rattle.std.proofs.Math.Bool.{and-false}
+use Rattle.std.proofs.lemmas.Bool.{lt-leb}
+use Rattle.mm_asm.proofs.FirstSeen.{insert_new}
 use Rattle.mm_line.specs.declared.fault.Fault.TheVariants.{Range, Limit}
 use Rattle.mm_line.specs.declared.statement.Content.{Content}
 use Rattle.mm_line.specs.declared.statement.Content.TheVariants as content
@@ -49,16 +52,6 @@ module _ (d : Draft) where
       by false true later = omega arith
       by false false later = omega (arith, later)
 
-  one_more : (name : List ℕ) (names : List (List ℕ)) → is_among name names ≡ false → length (insert_name name names) ≡ length names + 1
-  one_more name [] h = refl
-  one_more name (x ∷ names) h = by (bytes_eq name x) (is_before name x) h (one_more name names)
-    where
-      by : (b c : Bool) → (b || is_among name names) ≡ false → (is_among name names ≡ false → length (insert_name name names) ≡ length names + 1) →
-          length (if b then x ∷ names else if c then name ∷ x ∷ names else x ∷ insert_name name names) ≡ length (x ∷ names) + 1
-      by true c e later = absurd cc
-      by false true e later = omega arith
-      by false false e later = omega (arith, later e)
-
   more_uses : (uses : List Use) (names : List (List ℕ)) → length names ≤ length (externals_with d names uses)
   more_uses [] names = omega arith
   more_uses (u ∷ uses) names = by (is_external d u) (more_uses uses (with_use d u names))
@@ -82,12 +75,8 @@ module _ (d : Draft) where
       by : (b c : Bool) → is_among (name_of u) names ≡ c → length (if b then insert_name (name_of u) names else names) ≤ length (externals_with d names (u ∷ uses)) →
           (b && (nat_le external_limit (length names) && not c)) ≡ false
       by false c e le = refl
-      by true true e le = never (nat_le external_limit (length names))
-        where
-          never : (x : Bool) → (x && false) ≡ false
-          never true = refl
-          never false = refl
-      by true false e le = below (length names) (omega (arith, le, few, one_more (name_of u) names e))
+      by true true e le = and-false (nat_le external_limit (length names))
+      by true false e le = below (length names) (omega (arith, le, few, insert_new (name_of u) names e))
 
 module _ (o : Object) (is : IsObject o) (d : Draft) (drafted : IsDraftOf o d) where
   -- 2. No word has a label.
@@ -127,10 +116,7 @@ module _ (o : Object) (is : IsObject o) (d : Draft) (drafted : IsDraftOf o d) wh
   segment_there number (suc i) (y ∷ segments) (x ∷ xs) s h e = segment_there (number + 1) i segments xs s h.1 e
 
   inside : (log offset : ℕ) → offset < 2 ^ log → nat_le (2 ^ log) offset ≡ false
-  inside log offset lt = below (2 ^ log) offset lt
-    where
-      below : (n m : ℕ) → m < n → nat_le n m ≡ false
-      below n m less = grind (arith, nat_tests)
+  inside log offset lt = lt-leb (2 ^ log) offset lt
 
   use_none : (u : Use) → In u (uses_of d) → use_failures d u ≡ []
   use_none u m =

@@ -4,21 +4,20 @@ use Rattle.std.proofs.Common.{List, [], ◌∷◌, ◌++◌, length, get_or, sli
 use Rattle.std.proofs.Common.{ap, ◌∙◌, inl, inr, arith}
 use Rattle.std.proofs.lemmas.List.{get_or_append_left, get_or-append-add, length-map}
 use Rattle.std.proofs.lemmas.Option.{slice_get_cases}
-use Rattle.std.proofs.lemmas.Bool.{not-true}
+use Rattle.std.proofs.lemmas.Bool.{not-true, or_parts, and_parts}
 use Rattle.std.proofs.lemmas.Bool.Decides.{nat_tests}
 use Rattle.std.proofs.lemmas.Slice.Eq.{bytes_eq-Decides}
+use Rattle.mm_object.proofs.Apartness.{turn}
 use Rattle.mm_line.specs.declared.statement.Target as text
 use Rattle.mm_draft.specs.Drafts as draft
 use Rattle.mm_draft.specs.Drafts.{Entry, Draft, place_in, place_of}
 use Rattle.mm_object.specs.declared.target.Target.{Target}
 use Rattle.mm_object.specs.Lookups.{name_of_target}
 use Rattle.mm_object.specs.Objects.{Segment, Object, IsObject, greatest_log, is_among, are_apart, names_of, is_within, is_target}
-use Rattle.mm_model.proofs.ImageBytes.Rising.{both}
-use Rattle.mm_model.proofs.ImageBytes.Clean.{neither}
 use Rattle.mm_object.proofs.Bools.{none_at}
 use Rattle.mm_asm.proofs.Order.{same_itself}
 use Rattle.mm_disasm.proofs.Saying.{IsTargetOf}
-use Rattle.mm_disasm.proofs.DraftedSegments.{entry_of, entries_from, other_bytes, AreSegmentsOf}
+use Rattle.mm_disasm.proofs.DraftedSegments.{entry_of, entries_from, AreSegmentsOf}
 use Rattle.mm_disasm.proofs.Drafted.{IsDraftOf}
 
 -- 1. Names that stand for the first words of segments.
@@ -32,7 +31,7 @@ place_none : (k : ℕ) (names : List (List ℕ)) (name : List ℕ) → is_among 
 unfolding entries_named
 place_none k [] name h = refl
 place_none k (x ∷ names) name h =
-    let parts = neither (bytes_eq name x) (is_among name names) h in
+    let parts = or_parts (bytes_eq name x) (is_among name names) h in
     by (bytes_eq name x) refl parts.0 (place_none (k + 1) names name parts.1)
   where
     by : (b : Bool) → bytes_eq name x ≡ b → bytes_eq name x ≡ false → place_in (entries_named (k + 1) names) name ≡ None →
@@ -42,8 +41,8 @@ place_none k (x ∷ names) name h =
 
 none_later : (names : List (List ℕ)) (x : List ℕ) → is_among x names ≡ false → (i : ℕ) → i < length names → bytes_eq x (get_or names i []) ≡ false
 none_later [] x none i lt = absurd (omega arith)
-none_later (y ∷ names) x none zero lt = (neither _ _ none).0
-none_later (y ∷ names) x none (suc i) lt = none_later names x (neither _ _ none).1 i (omega arith)
+none_later (y ∷ names) x none zero lt = (or_parts _ _ none).0
+none_later (y ∷ names) x none (suc i) lt = none_later names x (or_parts _ _ none).1 i (omega arith)
 
 -- and one at a place, for the segment there
 place_some : (k i : ℕ) (names : List (List ℕ)) → are_apart names ≡ true → i < length names →
@@ -59,11 +58,11 @@ place_some k zero (x ∷ names) apart lt = by (bytes_eq x x) ((bytes_eq-Decides 
     by true e = ap (λ (n : ℕ). Some (entry_of n x).place) same
     by false e = absurd cc
 place_some k (suc i) (x ∷ names) apart lt =
-    by (bytes_eq (get_or names i []) x) (other_bytes x (get_or names i []) (none_later names x (not-true _ parts.0) i (omega arith)))
+    by (bytes_eq (get_or names i []) x) (turn x (get_or names i []) (none_later names x (not-true _ parts.0) i (omega arith)))
     (place_some (k + 1) i names parts.1 (omega arith))
   where
     parts : (not (is_among x names) ≡ true) × (are_apart names ≡ true)
-    parts = both (not (is_among x names)) (are_apart names) apart
+    parts = and_parts (not (is_among x names)) (are_apart names) apart
 
     same : k + 1 + i ≡ k + suc i
     same = omega arith
@@ -117,7 +116,7 @@ module _ (o : Object) where
       own s e = grind (arith, nat_tests)
 
       foreign : is_within None all t.index t.addend ≡ true → t.index < all
-      foreign e = let parts = both (nat_lt t.index all) (nat_lt t.addend (2 ^ greatest_log)) e in grind (arith, nat_tests, parts.0)
+      foreign e = let parts = and_parts (nat_lt t.index all) (nat_lt t.addend (2 ^ greatest_log)) e in grind (arith, nat_tests, parts.0)
 
   module _ (is : IsObject o) (d : Draft) (drafted : IsDraftOf o d) where
     names_are : d.names ≡ entries_named 0 (names_of o.segments)

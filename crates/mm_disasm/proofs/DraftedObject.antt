@@ -4,8 +4,7 @@ use Rattle.std.proofs.Common.{◌∷◌, ◌++◌, map, length, slice_get, Optio
 use Rattle.std.proofs.Common.{arith}
 use Rattle.std.specs.Option.{option_to_list}
 use Rattle.std.specs.List.{range_with_len, list_all, AllByRecursion}
-use Rattle.std.proofs.lemmas.Bool.{eqb-true, eq-eqb, ne_eqb}
-use Rattle.std.proofs.lemmas.Bool.Decides.{nat_tests}
+use Rattle.std.proofs.lemmas.Bool.{eqb-true, eq-eqb, ne_eqb, and_parts, lt-ltb}
 use Rattle.mm_isa.specs.declared.fields.Fields.{Fields}
 use Rattle.mm_isa.specs.Table.{packed}
 use Rattle.mm_line.specs.declared.name.Mark.{Mark}
@@ -23,7 +22,6 @@ use Rattle.mm_object.specs.declared.thread.Value.TheVariants as value
 use Rattle.mm_object.specs.declared.thread.Thread.{Thread}
 use Rattle.mm_object.specs.Lookups.{reloc_at}
 use Rattle.mm_object.specs.Objects.{Segment, Object, IsObject, is_target, is_value, is_thread}
-use Rattle.mm_model.proofs.ImageBytes.Rising.{both}
 use Rattle.mm_asm.specs.Meaning.{with_goal, bits_of, word_items, segment_of, content_relocs, words_relocs, segments_relocs, value_of, register_value, thread_of, insert_thread, by_slot, object_of}
 use Rattle.mm_disasm.specs.Canonical.{is_zero}
 use Rattle.mm_disasm.proofs.Saying.{IsConstantOf, IsBits, IsContentOf}
@@ -166,7 +164,7 @@ module _ (o : Object) (is : IsObject o) (d : Draft) (drafted : IsDraftOf o d) wh
       map (register_value d registers) (range_with_len k (length values)) ≡ values
   registers_same k [] registers inside h = refl
   registers_same k (v ∷ values) registers inside h =
-      let parts = both (is_value o.segments (length o.externals) v) (list_all (is_value o.segments (length o.externals)) values) inside in
+      let parts = and_parts (is_value o.segments (length o.externals) v) (list_all (is_value o.segments (length o.externals)) values) inside in
       by (is_zero v) refl parts.0 (λ rs g. registers_same (k + 1) values rs parts.1 g) h
     where
       taken : (r : Register) (rs : List Register) → value_of d r.value ≡ v → (b : Bool) → b ≡ true → (if b then value_of d r.value else register_value d rs k) ≡ v
@@ -192,8 +190,8 @@ module _ (o : Object) (is : IsObject o) (d : Draft) (drafted : IsDraftOf o d) wh
 
   thread_same : (t : Thread) (x : draft.Thread) → is_thread o.segments (length o.externals) t ≡ true → length t.regs ≡ 16 → IsThreadOf o t x → thread_of d x ≡ t
   thread_same t x inside whole h =
-      let parts = both _ (list_all (is_value o.segments (length o.externals)) t.regs) inside in
-      let aims = both _ (is_target o.segments (length o.externals) t.target) parts.0 in
+      let parts = and_parts _ (list_all (is_value o.segments (length o.externals)) t.regs) inside in
+      let aims = and_parts _ (is_target o.segments (length o.externals) t.target) parts.0 in
       let slot = h.slot in
       let group = h.group in
       let handler = h.handler in
@@ -208,7 +206,7 @@ module _ (o : Object) (is : IsObject o) (d : Draft) (drafted : IsDraftOf o d) wh
   threads_same [] (x ∷ xs) inside whole h = absurd h
   threads_same (t ∷ threads) [] inside whole h = absurd h
   threads_same (t ∷ threads) (x ∷ xs) inside whole h =
-      let parts = both (is_thread o.segments (length o.externals) t) (list_all (is_thread o.segments (length o.externals)) threads) inside in
+      let parts = and_parts (is_thread o.segments (length o.externals) t) (list_all (is_thread o.segments (length o.externals)) threads) inside in
       let first = thread_same t x parts.0 whole.0 h.0 in
       let later = threads_same threads xs parts.1 whole.1 h.1 in
       λ i. first i ∷ later i
@@ -216,11 +214,8 @@ module _ (o : Object) (is : IsObject o) (d : Draft) (drafted : IsDraftOf o d) wh
   -- threads by rising slot stay as they are
   first_slot : (t : Thread) (threads : List Thread) → AllByRecursion (λ (x : Thread). t.slot < x.slot) threads → insert_thread t threads ≡ t ∷ threads
   first_slot t [] h = refl
-  first_slot t (x ∷ threads) h = by (nat_lt t.slot x.slot) (less t.slot x.slot h.0)
+  first_slot t (x ∷ threads) h = by (nat_lt t.slot x.slot) (lt-ltb t.slot x.slot h.0)
     where
-      less : (a b : ℕ) → a < b → nat_lt a b ≡ true
-      less a b lt = grind (arith, nat_tests)
-
       by : (b : Bool) → b ≡ true → (if b then t ∷ x ∷ threads else x ∷ insert_thread t threads) ≡ t ∷ x ∷ threads
       by true e = refl
       by false e = absurd cc

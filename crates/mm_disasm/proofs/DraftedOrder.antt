@@ -2,9 +2,9 @@
 use Rattle.std.proofs.Common.{◌≡◌, ℕ, suc, ◌+◌, ◌<◌, Bool, true, List, [], ◌∷◌, map, get_or, refl, sym, ap, ◌∙◌, subst, inl, inr, arith}
 use Rattle.std.specs.List.{list_all, AllByRecursion}
 use Rattle.std.specs.List.Sorted.{IsStrictlyIncreasing}
+use Rattle.std.proofs.lemmas.Bool.{and_parts}
 use Rattle.mm_object.specs.Names.{is_before}
 use Rattle.mm_object.specs.Objects.{ascend}
-use Rattle.mm_model.proofs.ImageBytes.Rising.{both}
 use Rattle.mm_asm.proofs.Lists.{each_weaker}
 use Rattle.mm_object.proofs.Members.{In, each_in}
 use Rattle.mm_asm.proofs.Order.{before_all}
@@ -12,8 +12,8 @@ use Rattle.mm_asm.proofs.Order.{before_all}
 -- one item of a list passes what all do
 pub one_passes : {A : Type 0} (p : A → Bool) (xs : List A) (x : A) → list_all p xs ≡ true → In x xs → p x ≡ true
 one_passes p [] x h m = absurd m
-one_passes p (y ∷ xs) x h (inl e) = ap p e ∙ (both (p y) (list_all p xs) h).0
-one_passes p (y ∷ xs) x h (inr m) = one_passes p xs x (both (p y) (list_all p xs) h).1 m
+one_passes p (y ∷ xs) x h (inl e) = ap p e ∙ (and_parts (p y) (list_all p xs) h).0
+one_passes p (y ∷ xs) x h (inr m) = one_passes p xs x (and_parts (p y) (list_all p xs) h).1 m
 
 -- each item stands before all behind it
 abbrev pub Ascends : {A : Type 0} → (A → A → Type 0) → List A → Type 0
@@ -68,6 +68,6 @@ pub ascend_all : (names : List (List ℕ)) → ascend names ≡ true → Ascends
 ascend_all [] h = tt
 ascend_all (a ∷ []) h = (tt, tt)
 ascend_all (a ∷ b ∷ names) h =
-    let parts = both (is_before a b) (ascend (b ∷ names)) h in
+    let parts = and_parts (is_before a b) (ascend (b ∷ names)) h in
     let rest = ascend_all (b ∷ names) parts.1 in
     ((parts.0, each_weaker (λ c. is_before b c ≡ true) (λ c. is_before a c ≡ true) names (λ c k. before_all a b c parts.0 k) rest.0), rest)

@@ -6,12 +6,11 @@ use Rattle.std.specs.Prelude.{find}
 use Rattle.std.specs.Option.{option_to_list}
 use Rattle.std.proofs.lemmas.List.{map-append}
 use Rattle.std.proofs.lemmas.Bool.Decides.{nat_tests}
-use Rattle.mm_line.proofs.Choices.{same_number}
+use Rattle.std.proofs.lemmas.Bool.{and_parts, eqb-true}
 use Rattle.mm_object.specs.declared.item.Item.{Item}
 use Rattle.mm_object.specs.declared.target.Reloc.{Reloc}
 use Rattle.mm_object.specs.Lookups.{is_at, reloc_at}
 use Rattle.mm_object.specs.Objects.{Segment, Object, IsObject, words_of, place_of, item_of, is_zero, is_target, is_reloc}
-use Rattle.mm_model.proofs.ImageBytes.Rising.{both}
 use Rattle.mm_object.proofs.Members.{In, in_left, in_right, in_either}
 use Rattle.mm_asm.proofs.Relocs.{RisesWithin, lower, higher, in_turn, rises}
 use Rattle.mm_disasm.proofs.DraftedOrder.{one_passes, Ascends, ascends_by, same_items, one_item}
@@ -46,7 +45,7 @@ find_only p x (y ∷ xs) m e only = by (p y) refl m (λ n. find_only p x xs n e 
     by false f (inr n) later = later n
 
 stands_at : (segment k : ℕ) (r : Reloc) → is_at segment k r ≡ true → (r.segment ≡ segment) × (r.word ≡ k)
-stands_at segment k r e = let parts = both (r.segment == segment) (r.word == k) e in (same_number r.segment segment parts.0, same_number r.word k parts.1)
+stands_at segment k r e = let parts = and_parts (r.segment == segment) (r.word == k) e in (eqb-true r.segment segment parts.0, eqb-true r.word k parts.1)
 
 module _ (o : Object) where
   pub found_at : (segment k : ℕ) (r : Reloc) → reloc_at o segment k ≡ Some r → In r o.relocs × (r.segment ≡ segment) × (r.word ≡ k)
@@ -121,19 +120,19 @@ module _ (o : Object) where
     where
       by : (found : Option Item) → slice_get s.items word ≡ found → is_zero found ≡ true → StandsAt segment word
       by None f k = absurd cc
-      by (Some item) f k = record { s = s; item = item; is_segment = e; is_item = f; is_zero = same_number item.bits 0 k }
+      by (Some item) f k = record { s = s; item = item; is_segment = e; is_item = f; is_zero = eqb-true item.bits 0 k }
 
   module _ (is : IsObject o) where
     each_reloc : (r : Reloc) → In r o.relocs → is_reloc o.segments (length o.externals) r ≡ true
     each_reloc r m = one_passes (is_reloc o.segments (length o.externals)) o.relocs r is.relocs m
 
     pub reloc_target : (r : Reloc) → In r o.relocs → is_target o.segments (length o.externals) r.target ≡ true
-    reloc_target r m = (both (is_zero (item_of (slice_get o.segments r.segment) r.word)) (is_target o.segments (length o.externals) r.target) (each_reloc r m)).1
+    reloc_target r m = (and_parts (is_zero (item_of (slice_get o.segments r.segment) r.word)) (is_target o.segments (length o.externals) r.target) (each_reloc r m)).1
 
     pub reloc_stands : (r : Reloc) → In r o.relocs → StandsAt r.segment r.word
     reloc_stands r m =
         stands (slice_get o.segments r.segment) r.segment r.word refl
-        (both (is_zero (item_of (slice_get o.segments r.segment) r.word)) (is_target o.segments (length o.externals) r.target) (each_reloc r m)).0
+        (and_parts (is_zero (item_of (slice_get o.segments r.segment) r.word)) (is_target o.segments (length o.externals) r.target) (each_reloc r m)).0
 
     relocs_ascend : Ascends (λ (x y : Reloc). place_of x < place_of y) o.relocs
     relocs_ascend = ascends_by place_of o.relocs is.in_order

@@ -1,20 +1,15 @@
 -- The segments of an object, as their lines are read.
-use Rattle.std.proofs.Common.{◌≡◌, ℕ, ◌+◌, ◌<◌, ◌≤◌, Bool, true, false, not, nat_le, if◌then◌else◌, List, [], ◌∷◌, ◌++◌}
+use Rattle.std.proofs.Common.{◌≡◌, ℕ, ◌+◌, ◌≤◌, Bool, true, false, not, nat_le, if◌then◌else◌, List, [], ◌∷◌, ◌++◌}
 use Rattle.std.proofs.Common.{length, Option, Some, None, is_some, bytes_eq, refl, sym, ap, ◌∙◌, arith, append_assoc}
 use Rattle.std.proofs.Common.{length-append}
 use Rattle.std.specs.List.{AllByRecursion}
 use Rattle.std.proofs.lemmas.List.{append-nil}
-use Rattle.std.proofs.lemmas.Bool.{not-true}
-use Rattle.std.proofs.lemmas.Bool.Decides.{nat_tests}
-use Rattle.std.proofs.lemmas.Slice.Eq.{bytes_eq-Decides}
+use Rattle.std.proofs.lemmas.Bool.{not-true, or_parts, and_parts, lt-leb}
+use Rattle.mm_object.proofs.Apartness.{turn}
 use Rattle.mm_draft.specs.Drafts as draft
 use Rattle.mm_draft.specs.Drafts.{Entry, Draft, place_in, pointers_of}
 use Rattle.mm_draft.specs.Faults.{lines_from}
 use Rattle.mm_object.specs.Objects.{Segment, Object, IsSegment, is_among, are_apart, names_of, words_of}
-use Rattle.mm_model.proofs.ImageBytes.Rising.{both}
-use Rattle.mm_model.proofs.ImageBytes.Clean.{neither}
-use Rattle.mm_object.proofs.Bools.{is_false}
-use Rattle.mm_asm.proofs.Order.{same_itself}
 use Rattle.mm_disasm.proofs.Saying.{segment_lines, word_lines}
 use Rattle.mm_disasm.proofs.Speaking.{SegmentsSpeak}
 use Rattle.mm_disasm.proofs.DraftedLines.{begin_read}
@@ -52,19 +47,12 @@ still_new k (x ∷ segments) s name h other = by (bytes_eq name x.name) h (λ e.
     by true e later = absurd cc
     by false e later = later e
 
--- two names differ in their bytes
-pub other_bytes : (a b : List ℕ) → bytes_eq a b ≡ false → bytes_eq b a ≡ false
-other_bytes a b e = is_false (bytes_eq b a) (λ h.
-    let same : b ≡ a = (bytes_eq-Decides b a).0 h in
-    let here : bytes_eq a b ≡ true = ap (bytes_eq a) same ∙ same_itself a in
-    absurd (cc (here, e)))
-
 all_new : (before : List draft.Segment) (s : draft.Segment) (segments : List Segment) → AllByRecursion (IsNew before) segments → is_among s.name (names_of segments) ≡ false →
     AllByRecursion (IsNew (before ++ s ∷ [])) segments
 all_new before s [] new other = tt
 all_new before s (x ∷ segments) new other =
-    let parts = neither (bytes_eq s.name x.name) (is_among s.name (names_of segments)) other in
-    (still_new 0 before s x.name new.0 (other_bytes s.name x.name parts.0), all_new before s segments new.1 parts.1)
+    let parts = or_parts (bytes_eq s.name x.name) (is_among s.name (names_of segments)) other in
+    (still_new 0 before s x.name new.0 (turn s.name x.name parts.0), all_new before s segments new.1 parts.1)
 
 -- 2. Segments of an object.
 
@@ -80,9 +68,6 @@ AreSegmentsOf o number (s ∷ segments) [] = ⊥
 AreSegmentsOf o number (s ∷ segments) (x ∷ xs) = IsSegmentOf o number s x × AreSegmentsOf o (number + 1) segments xs
 
 -- 3. Their lines.
-
-not_yet : (a b : ℕ) → b < a → nat_le a b ≡ false
-not_yet a b lt = grind (arith, nat_tests)
 
 module _ (o : Object) (spare : Option ℕ) where
   -- the draft of these segments
@@ -123,7 +108,7 @@ module _ (o : Object) (spare : Option ℕ) where
       let is : IsSegmentOf o number s x = record { name = refl; log = refl; words = words.are } in
       let many = as_many_words o number 0 s.items words.words words.are in
       let points = as_many_pointers o number 0 s.items words.words words.are in
-      let parts = both (not (is_among s.name (names_of segments))) (are_apart (names_of segments)) fit.apart in
+      let parts = and_parts (not (is_among s.name (names_of segments))) (are_apart (names_of segments)) fit.apart in
       let fits : Fit (number + 1) (before ++ x ∷ []) segments = record {
         behind = omega (arith, fit.behind, length-append before (x ∷ []));
         few = omega (arith, fit.few);
@@ -135,7 +120,7 @@ module _ (o : Object) (spare : Option ℕ) where
       } in
       let rest = read_segments words.next (number + 1) (before ++ x ∷ []) segments h.1 fits in
       let names : entered ≡ entries_from 0 (before ++ x ∷ []) = entries_pushed 0 (length before) before x (omega arith) in
-      let full : nat_le segment_limit (length before) ≡ false = not_yet segment_limit (length before) (omega (arith, fit.behind, fit.few)) in
+      let full : nat_le segment_limit (length before) ≡ false = lt-leb segment_limit (length before) (omega (arith, fit.behind, fit.few)) in
       record {
         next = rest.next;
         later = x ∷ rest.later;

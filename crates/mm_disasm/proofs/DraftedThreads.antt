@@ -2,7 +2,7 @@
 use Rattle.std.proofs.Common.{◌≡◌, ℕ, ◌+◌, ◌<◌, Bool, true, false, ◌==◌, if◌then◌else◌, List, [], ◌∷◌, ◌++◌, Option, refl, sym, ap, ◌∙◌, subst, arith, append_assoc}
 use Rattle.std.specs.List.{list_any, AllByRecursion}
 use Rattle.std.proofs.lemmas.List.{append-nil}
-use Rattle.std.proofs.lemmas.Bool.{ne_eqb}
+use Rattle.std.proofs.lemmas.Bool.{ne_eqb, or_from}
 use Rattle.std.specs.Prelude.{is_none}
 use Rattle.mm_draft.specs.declared.thread.Register.{Register}
 use Rattle.mm_draft.specs.Drafts as draft
@@ -11,7 +11,6 @@ use Rattle.mm_draft.specs.Faults.{has_register, source_of, lines_from}
 use Rattle.mm_object.specs.declared.thread.Value.{Value}
 use Rattle.mm_object.specs.declared.thread.Thread.{Thread}
 use Rattle.mm_object.specs.Objects.{Object}
-use Rattle.mm_object.proofs.Bools.{none_of}
 use Rattle.mm_asm.proofs.Lists.{each_weaker}
 use Rattle.mm_object.proofs.Members.{each_more}
 use Rattle.mm_disasm.specs.Canonical.{is_zero}
@@ -60,7 +59,7 @@ other_number a b lt = ne_eqb a b (λ e. omega (arith, lt, e))
 -- of numbers below this one none is it
 none_equal : {A : Type 0} (key : A → ℕ) (n : ℕ) (xs : List A) → AllByRecursion (λ x. key x < n) xs → list_any (λ x. key x == n) xs ≡ false
 none_equal key n [] low = refl
-none_equal key n (x ∷ xs) low = none_of (key x == n) (list_any (λ y. key y == n) xs) (other_number (key x) n low.0) (none_equal key n xs low.1)
+none_equal key n (x ∷ xs) low = or_from (key x == n) (list_any (λ y. key y == n) xs) (other_number (key x) n low.0) (none_equal key n xs low.1)
 
 -- all threads so far have lesser slots
 abbrev pub IsBehind : List draft.Thread → Thread → Type 0

@@ -2,6 +2,7 @@
 use Rattle.std.proofs.Common.{◌≡◌, ℕ, ◌+◌, Bool, true, false, List, [], ◌∷◌, ◌++◌, map, length, Option, Some, None, refl, sym, ap, ◌∙◌, subst, inl, inr}
 use Rattle.std.specs.Option.{option_to_list}
 use Rattle.std.specs.List.{flat_map, list_all}
+use Rattle.std.proofs.lemmas.Bool.{and_parts}
 use Rattle.mm_line.specs.declared.statement.Target as text
 use Rattle.mm_line.specs.declared.statement.Constant.{Constant}
 use Rattle.mm_line.specs.declared.statement.Content.{Content}
@@ -19,7 +20,6 @@ use Rattle.mm_object.specs.declared.thread.Value.TheVariants as value
 use Rattle.mm_object.specs.declared.thread.Thread.{Thread}
 use Rattle.mm_object.specs.Lookups.{reloc_at}
 use Rattle.mm_object.specs.Objects.{Segment, Object, IsObject, is_target, is_value, is_thread, value_targets, targets_of}
-use Rattle.mm_model.proofs.ImageBytes.Rising.{both}
 use Rattle.mm_asm.specs.Names.{Use, constant_uses, content_uses, word_uses, segment_uses, register_uses, thread_uses, uses_of}
 use Rattle.mm_object.proofs.Members.{In, in_left, in_right, in_either, in_map, from_flat}
 use Rattle.mm_asm.proofs.Uses.{in_merge, from_merge}
@@ -254,11 +254,11 @@ module _ (o : Object) where
     thread_target : (t : Thread) (target : Target) → is_thread o.segments (length o.externals) t ≡ true → In target (thread_targets t) →
         is_target o.segments (length o.externals) target ≡ true
     thread_target t target h (inl e) =
-        let aims = both _ (is_target o.segments (length o.externals) t.target) (both _ (list_all (is_value o.segments (length o.externals)) t.regs) h).0 in
+        let aims = and_parts _ (is_target o.segments (length o.externals) t.target) (and_parts _ (list_all (is_value o.segments (length o.externals)) t.regs) h).0 in
         ap (is_target o.segments (length o.externals)) e ∙ aims.1
     thread_target t target h (inr m) =
         let v = from_flat value_targets target t.regs m in
-        value_target v.0 (one_passes (is_value o.segments (length o.externals)) t.regs v.0 (both _ (list_all (is_value o.segments (length o.externals)) t.regs) h).1 v.1) v.2
+        value_target v.0 (one_passes (is_value o.segments (length o.externals)) t.regs v.0 (and_parts _ (list_all (is_value o.segments (length o.externals)) t.regs) h).1 v.1) v.2
       where
         value_target : (v : Value) → is_value o.segments (length o.externals) v ≡ true → In target (value_targets v) → is_target o.segments (length o.externals) target ≡ true
         value_target (value.Int i) k n = absurd n

@@ -1,8 +1,8 @@
 -- The words of a segment, as its lines are read.
-use Rattle.std.proofs.Common.{◌≡◌, ℕ, ◌+◌, ◌≤◌, Bool, false, nat_lt, ◌||◌, List, [], ◌∷◌, ◌++◌, length, Option, Some, None, refl, sym, ap, ◌∙◌, arith, append_assoc, length-append}
+use Rattle.std.proofs.Common.{◌≡◌, ℕ, ◌+◌, ◌≤◌, Bool, nat_lt, ◌||◌, List, [], ◌∷◌, ◌++◌, length, Option, Some, None, refl, sym, ap, ◌∙◌, arith, append_assoc, length-append}
 use Rattle.std.specs.Option.{option_to_list}
 use Rattle.std.proofs.lemmas.List.{append-nil}
-use Rattle.std.proofs.lemmas.Bool.Decides.{nat_tests}
+use Rattle.std.proofs.lemmas.Bool.{or_from, le-ltb}
 use Rattle.mm_line.specs.declared.fault.Fault.TheVariants.{Full, Limit}
 use Rattle.mm_line.specs.declared.fault.Problem.{Problem}
 use Rattle.mm_line.specs.declared.statement.Constant.{Constant}
@@ -17,7 +17,6 @@ use Rattle.mm_object.specs.declared.item.Item.{Item}
 use Rattle.mm_object.specs.declared.target.Reloc.{Reloc}
 use Rattle.mm_object.specs.Lookups.{reloc_at}
 use Rattle.mm_object.specs.Objects.{Object}
-use Rattle.mm_object.proofs.Bools.{none_of}
 use Rattle.mm_disasm.proofs.Saying.{IsContentOf, word_of, word_lines}
 use Rattle.mm_disasm.proofs.Speaking.{WordsSpeak}
 use Rattle.mm_disasm.proofs.DraftedLines.{clear, word_read}
@@ -100,18 +99,15 @@ module _ (o : Object) (names : List Entry) (spare : Option ℕ) (before : List d
     pub words_fit : words_of before + length s.words + count ≤ word_limit
     pub pointers_fit : pointers_of before + pointers_among s.words + pointers ≤ reloc_limit
 
-  not_less : (a b : ℕ) → b ≤ a → nat_lt a b ≡ false
-  not_less a b le = grind (arith, nat_tests)
-
   no_faults : (s : draft.Segment) (count pointers left : ℕ) → HasRoom s count pointers → words_faults (with_last s) count pointers left (last (before ++ s ∷ [])) ≡ []
   no_faults s count pointers left h =
-      let full = not_less (room_of s) (length s.words + count) h.room in
-      let words = not_less word_limit (words_of (before ++ s ∷ []) + count) (omega (arith, words_pushed before s, h.words_fit)) in
-      let points = not_less reloc_limit (pointers_of (before ++ s ∷ []) + pointers) (omega (arith, pointers_pushed before s, h.pointers_fit)) in
+      let full = le-ltb (room_of s) (length s.words + count) h.room in
+      let words = le-ltb word_limit (words_of (before ++ s ∷ []) + count) (omega (arith, words_pushed before s, h.words_fit)) in
+      let points = le-ltb reloc_limit (pointers_of (before ++ s ∷ []) + pointers) (omega (arith, pointers_pushed before s, h.pointers_fit)) in
       let many : Bool = nat_lt word_limit (words_of (before ++ s ∷ []) + count) || nat_lt reloc_limit (pointers_of (before ++ s ∷ []) + pointers) in
       ap (words_faults (with_last s) count pointers left) (last_pushed before s)
       ∙ ap (λ (problems : List Problem). problems ++ fault_if many Limit left) (clear (nat_lt (room_of s) (length s.words + count)) Full left full)
-      ∙ clear many Limit left (none_of _ _ words points)
+      ∙ clear many Limit left (or_from _ _ words points)
 
   pub read_words : (line segment k : ℕ) (items : List Item) (s : draft.Segment) → WordsSpeak o segment k items →
       HasRoom s (length items) (length (found_words o segment k items)) → ReadsWords line segment k items s

@@ -1,14 +1,16 @@
 -- How long a canonical text is.
-use Rattle.std.proofs.Common.{◌≡◌, ℕ, zero, suc, ◌+◌, ◌*◌, ◌/◌, ◌%◌, ◌^◌, ◌<◌, ◌≤◌, Bool, true, false, nat_lt}
+use Rattle.std.proofs.Common.{◌≡◌, ℕ, zero, suc, ◌+◌, ◌*◌, ◌^◌, ◌<◌, ◌≤◌, Bool, true, false, nat_lt}
 use Rattle.std.proofs.Common.{if◌then◌else◌, List, [], ◌∷◌, ◌++◌, length, get_or, codes, Option, Some, None, ℤ, pos}
 use Rattle.std.proofs.Common.{negsuc, FitsSigned, refl, arith, length-append}
 use Rattle.std.specs.Prelude.{decimal}
 use Rattle.std.specs.Int.{w32}
-use Rattle.std.specs.Fmt.{digits, digit_glyph, signed_decimal}
+use Rattle.std.specs.Fmt.{digits, signed_decimal}
 use Rattle.std.specs.List.{flat_map, list_all, AllByRecursion}
 use Rattle.std.proofs.lemmas.Fmt.{length-decimal-le}
 use Rattle.std.proofs.lemmas.Int.{ints}
 use Rattle.std.proofs.lemmas.Bool.Decides.{nat_tests}
+use Rattle.std.proofs.lemmas.Bool.{and_parts}
+use Rattle.mm_text.proofs.HexDigits.{length-hex}
 use Rattle.mm_word.specs.Perm.{can_fetch}
 use Rattle.mm_word.specs.declared.perm.Perm.{Perm}
 use Rattle.mm_word.specs.declared.perm.Perm.TheVariants.{Ro, Rw, Xu, Xp, Eu, Ep, Key}
@@ -30,7 +32,6 @@ use Rattle.mm_isa.specs.Decode.{instr_of}
 use Rattle.mm_isa.proofs.Spelling.{instr_of-spelled}
 use Rattle.mm_model.specs.Digits.{hex}
 use Rattle.mm_model.specs.Lines.{newline}
-use Rattle.mm_model.proofs.ImageBytes.Rising.{both}
 use Rattle.mm_object.specs.declared.item.Item.{Item}
 use Rattle.mm_object.specs.declared.target.Target.{Target}
 use Rattle.mm_object.specs.declared.target.Reloc.{Reloc}
@@ -89,16 +90,11 @@ signed_length (negsuc n) h =
     let small : n < 2 ^ 31 = omega (arith, ints) in
     omega (arith, length-decimal-le 10 (suc n) (omega arith) (omega arith) (omega arith))
 
-hex_length : (k n : ℕ) → length (hex k n) ≡ k
-unfolding hex
-hex_length zero n = refl
-hex_length (suc k) n = omega (arith, hex_length k (n / 16), length-append (hex k (n / 16)) (digit_glyph false (n % 16) ∷ []))
-
 short_length : (n : ℕ) → n < 2 ^ 20 → length (short_hex n) ≤ 7
 short_length n h = omega (arith, length-append (codes "0x") (digits 16 false n), at_most_five n h)
 
 long_length : (n : ℕ) → length (long_hex n) ≡ 18
-long_length n = omega (arith, length-append (codes "0x") (hex 16 n), hex_length 16 n)
+long_length n = omega (arith, length-append (codes "0x") (hex 16 n), length-hex 16 n)
 
 -- 2. Instructions.
 
@@ -168,7 +164,7 @@ instruction_length i h = omega (arith, length-append (operation_of i).name (oper
 -- 3. Words of a segment.
 
 name_length : (name : List ℕ) → is_name name ≡ true → length name ≤ 31
-name_length name h = let parts = both (has_form name) _ h in grind (arith, nat_tests, parts.1)
+name_length name h = let parts = and_parts (has_form name) _ h in grind (arith, nat_tests, parts.1)
 
 module _ (o : Object) (is : IsObject o) where
   named_short : (segments : List Segment) (i : ℕ) → AllByRecursion IsSegment segments → length (get_or (names_of segments ++ o.externals) i []) ≤ 31
@@ -176,8 +172,8 @@ module _ (o : Object) (is : IsObject o) where
     where
       external : (names : List (List ℕ)) (i : ℕ) → list_all is_name names ≡ true → length (get_or names i []) ≤ 31
       external [] i h = omega arith
-      external (x ∷ names) zero h = name_length x (both (is_name x) (list_all is_name names) h).0
-      external (x ∷ names) (suc i) h = external names i (both (is_name x) (list_all is_name names) h).1
+      external (x ∷ names) zero h = name_length x (and_parts (is_name x) (list_all is_name names) h).0
+      external (x ∷ names) (suc i) h = external names i (and_parts (is_name x) (list_all is_name names) h).1
   named_short (s ∷ segments) zero h = name_length s.name h.0.name
   named_short (s ∷ segments) (suc i) h = named_short segments i h.1
 
@@ -262,7 +258,7 @@ module _ (o : Object) (is : IsObject o) where
   handler_length : (slot : ℕ) (handler : Option ℕ) → is_handler slot handler ≡ true → length (handler_text handler) ≤ 4
   handler_length slot None h = omega arith
   handler_length slot (Some n) h =
-      let low : n < 16 = let parts = both (nat_lt n 16) _ h in grind (arith, nat_tests, parts.0) in
+      let low : n < 16 = let parts = and_parts (nat_lt n 16) _ h in grind (arith, nat_tests, parts.0) in
       omega (arith, small_length n (omega (arith, low)))
 
   value_length : (v : Value) → is_value o.segments (length o.externals) v ≡ true → length (value_text o v) ≤ 47
@@ -292,7 +288,7 @@ module _ (o : Object) (is : IsObject o) where
   registers_length : (k : ℕ) (values : List Value) → k + length values ≤ 16 → list_all (is_value o.segments (length o.externals)) values ≡ true → length (registers_text o k values) ≤ 56 * length values
   registers_length k [] le good = omega arith
   registers_length k (v ∷ values) le good =
-      let two = both (is_value o.segments (length o.externals) v) (list_all (is_value o.segments (length o.externals)) values) good in
+      let two = and_parts (is_value o.segments (length o.externals) v) (list_all (is_value o.segments (length o.externals)) values) good in
       omega (arith, register_line_length k v (omega arith) two.0, registers_length (k + 1) values (omega arith) two.1, length-append (register_line o k v) (registers_text o (k + 1) values))
 
   thread_line_length : (t : Thread) → t.slot < 16 → t.group < 16 → is_handler t.slot t.handler ≡ true → IsKnown o t.target → length (thread_line o t) ≤ 63
@@ -323,11 +319,11 @@ module _ (o : Object) (is : IsObject o) where
   thread_length : (t : Thread) → is_thread o.segments (length o.externals) t ≡ true → length t.regs ≡ 16 → length (thread_text o t) ≤ 959
   unfolding thread_text
   thread_length t inside whole =
-      let all = both _ (list_all (is_value o.segments (length o.externals)) t.regs) inside in
-      let aims = both _ (is_target o.segments (length o.externals) t.target) all.0 in
-      let perms = both _ (can_fetch t.perm) aims.0 in
-      let handlers = both _ (is_handler t.slot t.handler) perms.0 in
-      let numbers = both (nat_lt t.slot 16) (nat_lt t.group 16) handlers.0 in
+      let all = and_parts _ (list_all (is_value o.segments (length o.externals)) t.regs) inside in
+      let aims = and_parts _ (is_target o.segments (length o.externals) t.target) all.0 in
+      let perms = and_parts _ (can_fetch t.perm) aims.0 in
+      let handlers = and_parts _ (is_handler t.slot t.handler) perms.0 in
+      let numbers = and_parts (nat_lt t.slot 16) (nat_lt t.group 16) handlers.0 in
       let slot : t.slot < 16 = grind (arith, nat_tests, numbers.0) in
       let group : t.group < 16 = grind (arith, nat_tests, numbers.1) in
       omega (arith, whole, thread_line_length t slot group handlers.1 (known o t.target is aims.1), registers_length 0 t.regs (omega (arith, whole)) all.1, length-append (thread_line o t) (registers_text o 0 t.regs))
@@ -336,7 +332,7 @@ module _ (o : Object) (is : IsObject o) where
       length (flat_map (thread_text o) threads) ≤ 959 * length threads
   threads_length [] inside whole = omega arith
   threads_length (t ∷ threads) inside whole =
-      let parts = both (is_thread o.segments (length o.externals) t) (list_all (is_thread o.segments (length o.externals)) threads) inside in
+      let parts = and_parts (is_thread o.segments (length o.externals) t) (list_all (is_thread o.segments (length o.externals)) threads) inside in
       omega (arith, thread_length t parts.0 whole.0, threads_length threads parts.1 whole.1, length-append (thread_text o t) (flat_map (thread_text o) threads))
 
   -- 6. The whole.

@@ -4,11 +4,10 @@ use Rattle.std.proofs.Common.{nat_le, List, [], ◌∷◌, ◌++◌, length, sli
 use Rattle.std.specs.List.{list_all, find, slice_index_or, AllByRecursion}
 use Rattle.std.specs.Char.{is_ascii_alphabetic}
 use Rattle.std.proofs.Math.Pow.{pow_mono}
-use Rattle.std.proofs.lemmas.Bool.{ltb-true, leb-true}
+use Rattle.std.proofs.lemmas.Bool.{ltb-true, leb-true, and_parts}
 use Rattle.std.proofs.lemmas.Bool.Decides.{nat_tests}
 use Rattle.std.proofs.lemmas.List.{length-append, length-map}
 use Rattle.mm_line.specs.Forms.{is_name}
-use Rattle.mm_line.proofs.Choices.{both}
 use Rattle.mm_object.specs.declared.target.Target.{Target}
 use Rattle.mm_object.specs.declared.target.Reloc.{Reloc}
 use Rattle.mm_object.specs.Names as names
@@ -26,11 +25,11 @@ byte b h = grind (arith, nat_tests, h)
 
 bytes : (bs : List ℕ) → list_all names.goes_on bs ≡ true → list_all name_byte bs ≡ true
 bytes [] h = refl
-bytes (b ∷ bs) h = let two = both (names.goes_on b) (list_all names.goes_on bs) h in rw (byte b two.0, bytes bs two.1) refl
+bytes (b ∷ bs) h = let two = and_parts (names.goes_on b) (list_all names.goes_on bs) h in rw (byte b two.0, bytes bs two.1) refl
 
 form : (name : List ℕ) → names.has_form name ≡ true → is_name name ≡ true
 form [] h = cc
-form (b ∷ bs) h = let two = both (names.begins_name b) (list_all names.goes_on bs) h in rw (letter b two.0) (bytes bs two.1)
+form (b ∷ bs) h = let two = and_parts (names.begins_name b) (list_all names.goes_on bs) h in rw (letter b two.0) (bytes bs two.1)
 
 -- a name of at most 31 bytes
 pub record IsWord (name : List ℕ) : Type 0 where
@@ -39,15 +38,15 @@ pub record IsWord (name : List ℕ) : Type 0 where
 
 pub is_word : (name : List ℕ) → names.is_name name ≡ true → IsWord name
 is_word name h =
-    let two = both (names.has_form name) (nat_le (length name) 31) h in
+    let two = and_parts (names.has_form name) (nat_le (length name) 31) h in
     record { form = form name two.0; short = leb-true (length name) 31 two.1 }
 
 -- 2. Targets.
 
 at : (all : List (List ℕ)) (i : ℕ) → list_all names.is_name all ≡ true → i < length all → names.is_name (slice_index_or all i []) ≡ true
 at [] i h lt = absurd (omega arith)
-at (name ∷ all) zero h lt = (both (names.is_name name) (list_all names.is_name all) h).0
-at (name ∷ all) (suc i) h lt = at all i (both (names.is_name name) (list_all names.is_name all) h).1 (omega arith)
+at (name ∷ all) zero h lt = (and_parts (names.is_name name) (list_all names.is_name all) h).0
+at (name ∷ all) (suc i) h lt = at all i (and_parts (names.is_name name) (list_all names.is_name all) h).1 (omega arith)
 
 segments_named : (segments : List Segment) → AllByRecursion IsSegment segments → list_all names.is_name (names_of segments) ≡ true
 segments_named [] h = refl
@@ -60,7 +59,7 @@ all_named o h = all_append names.is_name (names_of o.segments) o.externals (segm
 within : (segments : List Segment) (i all n addend : ℕ) → AllByRecursion IsSegment segments → is_within (slice_get segments i) all n addend ≡ true
     → ((i < length segments) ⊎ (n < all)) × (addend < 2 ^ 20)
 within [] i all n addend h e =
-    let two = both (nat_lt n all) (nat_lt addend (2 ^ 20)) e in
+    let two = and_parts (nat_lt n all) (nat_lt addend (2 ^ 20)) e in
     (inr (ltb-true n all two.0), ltb-true addend (2 ^ 20) two.1)
 within (s ∷ segments) zero all n addend h e =
     let small = ltb-true addend (2 ^ s.log) e in
@@ -89,7 +88,7 @@ known o t h e =
 found : (test good : Reloc → Bool) (relocs : List Reloc) (r : Reloc) → list_all good relocs ≡ true → find test relocs ≡ Some r → good r ≡ true
 found test good [] r h e = cc
 found test good (x ∷ relocs) r h e =
-    let two = both (good x) (list_all good relocs) h in
+    let two = and_parts (good x) (list_all good relocs) h in
     of (test x) two.0 (found test good relocs r two.1) e
   where
     of : (b : Bool) → good x ≡ true → (find test relocs ≡ Some r → good r ≡ true) → cond b (Some x) (find test relocs) ≡ Some r → good r ≡ true
@@ -101,4 +100,4 @@ pub relocated : (o : Object) (segment k : ℕ) (r : Reloc) → IsObject o → re
 unfolding reloc_at
 relocated o segment k r h e =
     let good = found _ (is_reloc o.segments (length o.externals)) o.relocs r h.relocs e in
-    known o r.target h (both _ (is_target o.segments (length o.externals) r.target) good).1
+    known o r.target h (and_parts _ (is_target o.segments (length o.externals) r.target) good).1

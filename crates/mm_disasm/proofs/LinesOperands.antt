@@ -1,11 +1,11 @@
 -- Operands are read as they are written.
-use Rattle.std.proofs.Common.{◌≡◌, ℕ, suc, ◌+◌, ◌-◌, ◌%◌, ◌^◌, ◌<◌, ◌≤◌, true, false, nat_le, List, [], ◌∷◌, ◌++◌, map, fold, codes, Some, Result, Ok, ℤ, pos, negsuc, FitsSigned, refl, ap, ◌∙◌, arith}
+use Rattle.std.proofs.Common.{◌≡◌, ℕ, suc, ◌+◌, ◌-◌, ◌%◌, ◌^◌, ◌<◌, ◌≤◌, true, false, List, [], ◌∷◌, ◌++◌, map, fold, codes, Some, Result, Ok, ℤ, pos, negsuc, FitsSigned, refl, ap, ◌∙◌, arith}
 use Rattle.std.specs.List.{flat_map, AllByRecursion}
 use Rattle.std.specs.Fmt.{signed_decimal}
 use Rattle.std.specs.Int.{w32, cast_signed}
-use Rattle.std.proofs.lemmas.Bool.Decides.{nat_tests}
 use Rattle.std.proofs.lemmas.Int.{to_z_pos, to_z-of_z}
 use Rattle.std.proofs.lemmas.List.{append_assoc}
+use Rattle.std.proofs.lemmas.Bool.{le-leb}
 use Rattle.mm_word.specs.declared.word.Pre.{Pre}
 use Rattle.mm_word.specs.declared.word.Pre.TheVariants as pre
 use Rattle.mm_word.specs.declared.word.Post.{Post}
@@ -42,9 +42,6 @@ operand_token (Imm n) = signed_token n
 operand_token (Distance n) = signed_token n
 operand_token (RegisterNumber r) = Number false r
 operand_token _ = Name
-
-pub at_most : (a b : ℕ) → a ≤ b → nat_le a b ≡ true
-at_most a b h = grind (arith, nat_tests)
 
 pub is_register_name : (r : ℕ) → r < 16 → is_name (register_text r) ≡ true
 is_register_name r h = digits_go_on r (omega arith)
@@ -92,17 +89,17 @@ holding c x = record c { fields = put c.fields x }
 
 -- a number in its range
 pub between_again : (low high n : ℕ) → low ≤ n → n ≤ high → between low high false n ≡ Some n
-between_again low high n l h = rw (at_most low n l, at_most n high h) refl
+between_again low high n l h = rw (le-leb low n l, le-leb n high h) refl
 
 immediate_again : (z : ℤ) (text rest : List ℕ) → FitsSigned w32 z → immediate_of (written (signed_token z) text rest) ≡ Ok z
 immediate_again (pos n) text rest h =
     let small : n % 2 ^ 32 ≡ n = omega arith in
     let same : cast_signed w32 (modulo (2 ^ 32) false n) ≡ pos n = ap (cast_signed w32) small ∙ to_z_pos w32 n (omega arith) in
-    rw (at_most n (2 ^ 32 - 1) (omega arith)) (ap Ok same)
+    rw (le-leb n (2 ^ 32 - 1) (omega arith)) (ap Ok same)
 immediate_again (negsuc n) text rest h =
     let small : (2 ^ 32 - suc n) % 2 ^ 32 ≡ 2 ^ 32 - suc n = omega arith in
     let same : cast_signed w32 (modulo (2 ^ 32) true (suc n)) ≡ negsuc n = ap (cast_signed w32) small ∙ to_z-of_z w32 (negsuc n) h in
-    rw (at_most (suc n) (2 ^ 31) (omega arith)) (ap Ok same)
+    rw (le-leb (suc n) (2 ^ 31) (omega arith)) (ap Ok same)
 
 signed_value : (z : ℤ) (c : Code) (text rest : List ℕ) → FitsSigned w32 z → with_operand (kind_of (Distance z)) c (written (signed_token z) text rest) ≡ Ok (holding c (Distance z))
 signed_value (pos n) c text rest h = rw (immediate_again (pos n) text rest h) refl
@@ -111,7 +108,7 @@ signed_value (negsuc n) c text rest h = rw (immediate_again (negsuc n) text rest
 -- and the token is read as the operand
 pub operand_value : (x : Operand) (c : Code) (rest : List ℕ) → IsInRange x → with_operand (kind_of x) c (written (operand_token x) (operand_text x) rest) ≡ Ok (holding c x)
 operand_value (Rd r) c rest h = rw (register_again r h) refl
-operand_value (EvtRd r) c rest h = let small : r < 16 = omega arith in rw (register_again r small, at_most r 12 h) refl
+operand_value (EvtRd r) c rest h = let small : r < 16 = omega arith in rw (register_again r small, le-leb r 12 h) refl
 operand_value (Ra r) c rest h = rw (register_again r h) refl
 operand_value (Rb r) c rest h = rw (register_again r h) refl
 operand_value (Imm n) c rest h = rw (immediate_again n (signed_decimal n) rest h) refl

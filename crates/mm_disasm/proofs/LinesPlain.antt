@@ -5,6 +5,7 @@ use Rattle.std.specs.Char.{is_digit}
 use Rattle.std.specs.Fmt.{decimal, digits, signed_decimal}
 use Rattle.std.specs.Int.{w32}
 use Rattle.std.proofs.lemmas.Bool.Decides.{nat_tests}
+use Rattle.std.proofs.lemmas.Bool.{and_parts}
 use Rattle.mm_word.specs.declared.perm.Perm.{Perm}
 use Rattle.mm_word.specs.declared.word.Pre.TheVariants as pre
 use Rattle.mm_word.specs.declared.word.Post.TheVariants as post
@@ -18,7 +19,7 @@ use Rattle.mm_isa.specs.Decode.{instr_of}
 use Rattle.mm_isa.proofs.Spelling.{instr_of-spelled}
 use Rattle.mm_model.specs.Digits.{hex}
 use Rattle.mm_line.specs.Forms.{is_name}
-use Rattle.mm_line.proofs.Choices.{both, either}
+use Rattle.mm_line.proofs.Choices.{either}
 use Rattle.mm_line.proofs.Longest.{other}
 use Rattle.mm_object.specs.declared.item.Item.{Item}
 use Rattle.mm_object.specs.declared.target.Target.{Target}
@@ -53,13 +54,13 @@ join a b h k = all_append is_plain_byte a b h k
 of_kind : (p : ℕ → Bool) (bytes : List ℕ) → p 10 ≡ false → list_all p bytes ≡ true → is_plain bytes ≡ true
 of_kind p [] none h = refl
 of_kind p (b ∷ bytes) none h =
-    let two = both (p b) (list_all p bytes) h in
+    let two = and_parts (p b) (list_all p bytes) h in
     rw (other p b 10 two.0 none) (of_kind p bytes none two.1)
 
 of_digits : (radix : ℕ) (ds : List ℕ) → is_digit 10 radix ≡ false → all_of (λ b. is_digit b radix) ds ≡ true → is_plain ds ≡ true
 of_digits radix ds none h =
     let digit : ℕ → Bool = λ b. is_digit b radix in
-    of_kind digit ds none (both (begins digit ds) (list_all digit ds) h).1
+    of_kind digit ds none (and_parts (begins digit ds) (list_all digit ds) h).1
 
 plain_decimal : (n : ℕ) → n < 2 ^ 64 → is_plain (decimal n) ≡ true
 plain_decimal n h = of_digits 10 (decimal n) refl (are_decimal n h)
@@ -69,7 +70,7 @@ plain_hex k n some = of_digits 16 (hex k n) refl (are_hexadecimal k n some)
 
 plain_name : (name : List ℕ) → is_name name ≡ true → is_plain name ≡ true
 plain_name [] h = cc
-plain_name (b ∷ bs) h = of_kind name_byte (b ∷ bs) refl (both _ (list_all name_byte (b ∷ bs)) h).1
+plain_name (b ∷ bs) h = of_kind name_byte (b ∷ bs) refl (and_parts _ (list_all name_byte (b ∷ bs)) h).1
 
 plain_signed : (z : ℤ) → FitsSigned w32 z → is_plain (signed_decimal z) ≡ true
 plain_signed (pos n) h = plain_decimal n (omega arith)
@@ -190,7 +191,7 @@ plain_registers : (o : Object) (k : ℕ) (values : List Value) → IsObject o �
     → AllByRecursion IsNumber values → are_plain (register_lines o k values) ≡ true
 plain_registers o k [] h few e numbers = refl
 plain_registers o k (v ∷ values) h few e numbers =
-    let two = both (is_value o.segments (length o.externals) v) (list_all (is_value o.segments (length o.externals)) values) e in
+    let two = and_parts (is_value o.segments (length o.externals) v) (list_all (is_value o.segments (length o.externals)) values) e in
     let rest : List (List ℕ) = register_lines o (k + 1) values in
     let behind : are_plain rest ≡ true = plain_registers o (k + 1) values h (omega arith) two.1 numbers.1 in
     either (λ lines. are_plain lines ≡ true) (is_zero v) rest (register_of o k v ∷ rest) (λ _. behind)
@@ -201,7 +202,7 @@ plain_threads : (o : Object) (threads : List Thread) → IsObject o → list_all
     → are_plain (thread_lines o threads) ≡ true
 plain_threads o [] h e whole numbers = refl
 plain_threads o (t ∷ threads) h e whole numbers =
-    let two = both (is_thread o.segments (length o.externals) t) (list_all (is_thread o.segments (length o.externals)) threads) e in
+    let two = and_parts (is_thread o.segments (length o.externals) t) (list_all (is_thread o.segments (length o.externals)) threads) e in
     rw (plain_thread o t (is_written o t h two.0))
     (all_append is_plain (register_lines o 0 t.regs) (thread_lines o threads) (plain_registers o 0 t.regs h (omega (arith, whole.0)) (thread_values o t two.0) numbers.0)
     (plain_threads o threads h two.1 whole.1 numbers.1))

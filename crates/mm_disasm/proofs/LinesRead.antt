@@ -2,6 +2,7 @@
 use Rattle.std.proofs.Common.{◌≡◌, ℕ, ◌-◌, ◌^◌, ◌<◌, Bool, true, false, List, [], ◌∷◌, ◌++◌, length, codes, Option, Some, None, Result, Ok, refl, sym, ap, ◌∙◌, arith}
 use Rattle.std.specs.Fmt.{decimal}
 use Rattle.std.proofs.lemmas.List.{append-nil, append_assoc}
+use Rattle.std.proofs.lemmas.Bool.{le-leb}
 use Rattle.mm_word.specs.declared.perm.Perm.{Perm}
 use Rattle.mm_line.specs.declared.fault.Problem.{Problem}
 use Rattle.mm_line.specs.declared.statement.Target as text
@@ -22,7 +23,7 @@ use Rattle.mm_object.specs.Objects.{Object}
 use Rattle.mm_disasm.specs.Canonical.{perm_text, short_hex, long_hex, pointer_text}
 use Rattle.mm_disasm.proofs.Saying.{Says, IsTargetOf}
 use Rattle.mm_disasm.proofs.LinesTokens.{blank, decimal_token, short_token, long_token}
-use Rattle.mm_disasm.proofs.LinesOperands.{at_most, between_again}
+use Rattle.mm_disasm.proofs.LinesOperands.{between_again}
 use Rattle.mm_disasm.proofs.LinesNames.{IsWord, IsKnown}
 
 -- 1. The line.
@@ -127,7 +128,7 @@ unfolding target_at
 target_by name addend h k =
     let first : next_token (32 ∷ target_text name addend) ≡ written Name name (43 ∷ short_hex addend) =
     blank (target_text name addend) ∙ name_read name (43 ∷ short_hex addend) h.form refl in
-    rw (first, at_most (length name) 31 h.short, addend_read addend k) refl
+    rw (first, le-leb (length name) 31 h.short, addend_read addend k) refl
 
 abbrev pub target_line : Object → Target → List ℕ
 target_line o t = target_text (name_of_target o t) t.addend

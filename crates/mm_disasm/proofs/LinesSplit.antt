@@ -2,7 +2,7 @@
 use Rattle.std.proofs.Common.{◌≡◌, ℕ, ◌+◌, Bool, true, false, ◌==◌, if◌then◌else◌, List, [], ◌∷◌, ◌++◌, refl, sym, ap, ◌∙◌}
 use Rattle.std.specs.List.{flat_map, slice_split, onto_first}
 use Rattle.std.proofs.lemmas.Grind.{flat_map-append}
-use Rattle.mm_line.proofs.Choices.{both}
+use Rattle.std.proofs.lemmas.Bool.{and_parts, not-true}
 use Rattle.mm_draft.specs.Faults.{lines_of}
 use Rattle.mm_model.specs.Lines.{newline}
 use Rattle.mm_object.specs.declared.item.Item.{Item}
@@ -11,7 +11,6 @@ use Rattle.mm_object.specs.declared.thread.Thread.{Thread}
 use Rattle.mm_object.specs.Objects.{Segment, Object, IsObject}
 use Rattle.mm_disasm.specs.Canonical.{word_line, words_text, segment_text, segments_text, register_line, registers_text, thread_text, canonical, is_zero}
 use Rattle.mm_disasm.proofs.Saying.{spare_of, begin_of, word_of, thread_of, register_of, word_lines, segment_lines, register_lines, thread_lines, object_lines}
-use Rattle.mm_disasm.proofs.LinesTokens.{not_true}
 use Rattle.mm_disasm.proofs.LinesPlain.{is_plain_byte, is_plain, are_plain, lines_plain}
 
 -- 1. The text of lines.
@@ -69,18 +68,18 @@ abbrev cut : List ℕ → List (List ℕ)
 cut text = slice_split (λ b. b == 10) text
 
 no_newline : (b : ℕ) → is_plain_byte b ≡ true → (b == 10) ≡ false
-no_newline b h = not_true (b == 10) h
+no_newline b h = not-true (b == 10) h
 
 cut_line : (line rest : List ℕ) → is_plain line ≡ true → cut (ended line ++ rest) ≡ line ∷ cut rest
 cut_line [] rest h = refl
 cut_line (b ∷ line) rest h =
-    let two = both (is_plain_byte b) (is_plain line) h in
+    let two = and_parts (is_plain_byte b) (is_plain line) h in
     rw (no_newline b two.0) (ap (onto_first b) (cut_line line rest two.1))
 
 cut_lines : (lines : List (List ℕ)) → are_plain lines ≡ true → cut (text_of lines) ≡ lines ++ [] ∷ []
 cut_lines [] h = refl
 cut_lines (line ∷ lines) h =
-    let two = both (is_plain line) (are_plain lines) h in
+    let two = and_parts (is_plain line) (are_plain lines) h in
     cut_line line (text_of lines) two.0 ∙ ap (λ t. line ∷ t) (cut_lines lines two.1)
 
 pub lines_are : (o : Object) → IsObject o → lines_of (canonical o) ≡ object_lines o ++ [] ∷ []

@@ -3,7 +3,7 @@ use Rattle.std.proofs.Common.{◌≡◌, ℕ, ◌%◌, ◌^◌, ◌<◌, ◌≤�
 use Rattle.std.specs.List.{list_all}
 use Rattle.std.specs.Char.{is_digit}
 use Rattle.std.specs.Fmt.{decimal}
-use Rattle.std.proofs.lemmas.Bool.{ltb-true}
+use Rattle.std.proofs.lemmas.Bool.{ltb-true, and_parts, le-leb, not-true}
 use Rattle.std.proofs.lemmas.List.{append_assoc}
 use Rattle.mm_word.specs.declared.perm.Perm.{Perm}
 use Rattle.mm_word.specs.declared.perm.Perm.TheVariants.{Ro, Rw, Xu, Xp, Eu, Ep, Key}
@@ -20,7 +20,6 @@ use Rattle.mm_line.specs.Standing.{written}
 use Rattle.mm_line.specs.Words.{perms, ip_perms}
 use Rattle.mm_line.specs.Reading.{word_of, handler_of}
 use Rattle.mm_line.specs.Statements.{spare_at, segment_at, thread_at, register_at, constant_at, integer_at, pointer_at, front_by}
-use Rattle.mm_line.proofs.Choices.{both}
 use Rattle.mm_line.proofs.Longest.{other}
 use Rattle.mm_object.specs.declared.target.Target.{Target}
 use Rattle.mm_object.specs.declared.thread.Value.{Value}
@@ -29,8 +28,8 @@ use Rattle.mm_object.specs.declared.thread.Thread.{Thread}
 use Rattle.mm_object.specs.Objects.{Segment, Object, IsSegment, IsObject, IsNumber, is_handler, is_target, is_value, is_thread}
 use Rattle.mm_disasm.specs.Canonical.{perm_text, long_hex, handler_text, pointer_text, value_text}
 use Rattle.mm_disasm.proofs.Saying.{Says, SaysSpare, SaysBegin, SaysThread, SaysRegister, IsConstantOf, spare_of, begin_of, thread_of, register_of}
-use Rattle.mm_disasm.proofs.LinesTokens.{not_true, all_of, are_decimal}
-use Rattle.mm_disasm.proofs.LinesOperands.{at_most, between_again}
+use Rattle.mm_disasm.proofs.LinesTokens.{all_of, are_decimal}
+use Rattle.mm_disasm.proofs.LinesOperands.{between_again}
 use Rattle.mm_disasm.proofs.LinesNames.{IsWord, is_word, IsKnown, known}
 use Rattle.mm_disasm.proofs.LinesRead.{directive_says, name_behind, decimal_behind, decimal_last, long_last, target_line, target_in, target_read, same_target, pointer_shape}
 
@@ -50,7 +49,7 @@ begin_read : (name : List ℕ) (log : ℕ) → IsWord name → 3 ≤ log → log
     → segment_at (32 ∷ (name ++ 32 ∷ decimal log)) ≡ Ok (statement.Begin (record { name = name; left = length (name ++ 32 ∷ decimal log) }) log, [])
 unfolding segment_at
 begin_read name log h low high =
-    rw (name_behind name (decimal log) h.form, at_most (length name) 31 h.short, decimal_last log (omega arith), between_again 3 20 log low high) refl
+    rw (name_behind name (decimal log) h.form, le-leb (length name) 31 h.short, decimal_last log (omega arith), between_again 3 20 log low high) refl
 
 pub begin_says : (s : Segment) → IsSegment s → Says (begin_of s) (SaysBegin s)
 unfolding front_by
@@ -96,7 +95,7 @@ integer_read n h = let small : n % 2 ^ 64 ≡ n = omega arith in rw (long_last n
 
 no_word : (ds : List ℕ) → all_of (λ b. is_digit b 10) ds ≡ true → bytes_eq ds (codes "none") ≡ false
 no_word [] h = cc
-no_word (d ∷ ds) h = let two = both (is_digit d 10) (list_all (λ b. is_digit b 10) (d ∷ ds)) h in rw (other (λ b. is_digit b 10) d 110 two.0 refl) refl
+no_word (d ∷ ds) h = let two = and_parts (is_digit d 10) (list_all (λ b. is_digit b 10) (d ∷ ds)) h in rw (other (λ b. is_digit b 10) d 110 two.0 refl) refl
 
 abbrev handler_token : Option ℕ → Token
 handler_token None = Name
@@ -106,15 +105,15 @@ handler_behind : (slot : ℕ) (h : Option ℕ) (rest : List ℕ) → is_handler 
     → next_token (32 ∷ (handler_text h ++ 32 ∷ rest)) ≡ written (handler_token h) (handler_text h) (32 ∷ rest)
 handler_behind slot None rest e = name_behind (codes "none") rest refl
 handler_behind slot (Some h) rest e =
-    let small = ltb-true h 16 (both (nat_lt h 16) (not (h == slot)) e).0 in
+    let small = ltb-true h 16 (and_parts (nat_lt h 16) (not (h == slot)) e).0 in
     decimal_behind h rest (omega arith)
 
 handler_again : (slot : ℕ) (h : Option ℕ) (rest : List ℕ) → is_handler slot h ≡ true → handler_of slot (written (handler_token h) (handler_text h) rest) ≡ Ok h
 handler_again slot None rest e = refl
 handler_again slot (Some h) rest e =
-    let two = both (nat_lt h 16) (not (h == slot)) e in
+    let two = and_parts (nat_lt h 16) (not (h == slot)) e in
     let small = ltb-true h 16 two.0 in
-    rw (no_word (decimal h) (are_decimal h (omega arith)), between_again 0 15 h (omega arith) (omega arith), not_true (h == slot) two.1) refl
+    rw (no_word (decimal h) (are_decimal h (omega arith)), between_again 0 15 h (omega arith) (omega arith), not-true (h == slot) two.1) refl
 
 ip_again : (p : Perm) (rest : List ℕ) → can_fetch p ≡ true → word_of ip_perms (written Name (perm_text p) rest) ≡ Ok p
 ip_again Xu rest e = refl
@@ -131,12 +130,12 @@ pub record IsWritten (o : Object) (t : Thread) : Type 0 where
 
 pub is_written : (o : Object) (t : Thread) → IsObject o → is_thread o.segments (length o.externals) t ≡ true → IsWritten o t
 is_written o t h e =
-    let a = both (nat_lt t.slot 16 && nat_lt t.group 16 && is_handler t.slot t.handler && can_fetch t.perm && is_target o.segments (length o.externals) t.target)
+    let a = and_parts (nat_lt t.slot 16 && nat_lt t.group 16 && is_handler t.slot t.handler && can_fetch t.perm && is_target o.segments (length o.externals) t.target)
     (list_all (is_value o.segments (length o.externals)) t.regs) e in
-    let b = both (nat_lt t.slot 16 && nat_lt t.group 16 && is_handler t.slot t.handler && can_fetch t.perm) (is_target o.segments (length o.externals) t.target) a.0 in
-    let c = both (nat_lt t.slot 16 && nat_lt t.group 16 && is_handler t.slot t.handler) (can_fetch t.perm) b.0 in
-    let d = both (nat_lt t.slot 16 && nat_lt t.group 16) (is_handler t.slot t.handler) c.0 in
-    let f = both (nat_lt t.slot 16) (nat_lt t.group 16) d.0 in
+    let b = and_parts (nat_lt t.slot 16 && nat_lt t.group 16 && is_handler t.slot t.handler && can_fetch t.perm) (is_target o.segments (length o.externals) t.target) a.0 in
+    let c = and_parts (nat_lt t.slot 16 && nat_lt t.group 16 && is_handler t.slot t.handler) (can_fetch t.perm) b.0 in
+    let d = and_parts (nat_lt t.slot 16 && nat_lt t.group 16) (is_handler t.slot t.handler) c.0 in
+    let f = and_parts (nat_lt t.slot 16) (nat_lt t.group 16) d.0 in
     record { slot = ltb-true t.slot 16 f.0; group = ltb-true t.group 16 f.1; handler = d.1; perm = c.1; target = known o t.target h b.1 }
 
 four_behind : (a b c d e s : List ℕ) → a ++ b ++ s ++ c ++ s ++ d ++ s ++ e ≡ a ++ (b ++ (s ++ (c ++ (s ++ (d ++ (s ++ e))))))
@@ -199,7 +198,7 @@ IsWrittenValue o (value.Ptr p t) = IsKnown o t
 
 -- the values of a thread's registers are those of an object
 pub thread_values : (o : Object) (t : Thread) → is_thread o.segments (length o.externals) t ≡ true → list_all (is_value o.segments (length o.externals)) t.regs ≡ true
-thread_values o t e = (both _ (list_all (is_value o.segments (length o.externals)) t.regs) e).1
+thread_values o t e = (and_parts _ (list_all (is_value o.segments (length o.externals)) t.regs) e).1
 
 pub is_written_value : (o : Object) (v : Value) → IsObject o → is_value o.segments (length o.externals) v ≡ true → IsNumber v → IsWrittenValue o v
 is_written_value o (value.Int n) h e k = k

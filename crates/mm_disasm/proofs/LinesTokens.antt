@@ -1,5 +1,5 @@
 -- Numbers are read as they are written.
-use Rattle.std.proofs.Common.{◌≡◌, ℕ, zero, suc, ◌/◌, ◌%◌, ◌^◌, ◌<◌, ◌≤◌, Bool, true, false, not, ◌&&◌, ◌||◌, ◌==◌, nat_lt, List, [], ◌∷◌, ◌++◌, length, codes, refl, ap, ◌∙◌, arith}
+use Rattle.std.proofs.Common.{◌≡◌, ℕ, zero, suc, ◌/◌, ◌%◌, ◌^◌, ◌<◌, ◌≤◌, Bool, true, false, ◌&&◌, ◌||◌, ◌==◌, List, [], ◌∷◌, ◌++◌, length, codes, refl, ap, ◌∙◌, arith}
 use Rattle.std.specs.List.{list_all}
 use Rattle.std.specs.Char.{digit_value, is_digit, is_ascii_alphabetic}
 use Rattle.std.specs.Fmt.{decimal, digits, digit_glyph}
@@ -9,23 +9,18 @@ use Rattle.std.proofs.lemmas.Fmt.{decimal_is_IsNumeral, digits_is_IsNumeral}
 use Rattle.std.proofs.lemmas.List.Folds.{list_all-append}
 use Rattle.std.proofs.lemmas.Int.Digits.{digits_push, digits_value_push}
 use Rattle.std.proofs.lemmas.Str.{digit_value-digit_char}
+use Rattle.std.proofs.lemmas.Bool.{lt-ltb}
+use Rattle.std.proofs.Math.Bool.{or-true}
 use Rattle.mm_model.specs.Digits.{hex}
 use Rattle.mm_text.proofs.HexDigits.{length-hex}
 use Rattle.mm_line.specs.declared.token.Token.TheVariants.{Number}
 use Rattle.mm_line.specs.Tokens.{number, next_token}
 use Rattle.mm_line.specs.Standing.{written}
-use Rattle.mm_line.proofs.Written.{blank_read, decimal_read, negative_read, hexadecimal_read}
+use Rattle.mm_line.proofs.Written.{blank_read, decimal_read, negative_read, hexadecimal_read, or_last}
 use Rattle.mm_disasm.specs.Canonical.{short_hex, long_hex}
-
-pub less : (a b : ℕ) → a < b → nat_lt a b ≡ true
-less a b h = grind (arith, nat_tests)
 
 pub all_append : {X : Type 0} (p : X → Bool) (a b : List X) → list_all p a ≡ true → list_all p b ≡ true → list_all p (a ++ b) ≡ true
 all_append p a b h k = rw (list_all-append p a b, h, k) refl
-
-pub not_true : (b : Bool) → not b ≡ true → b ≡ false
-not_true true e = cc
-not_true false e = refl
 
 -- a byte that a name goes on with
 abbrev pub name_byte : ℕ → Bool
@@ -48,14 +43,10 @@ digits_pass radix p f (d ∷ ds) h = rw (f d h.0, digits_pass radix p f ds h.1) 
 
 form_of : (radix : ℕ) (ds : List ℕ) → 0 < length ds → AllDigits radix ds → all_of (λ b. is_digit b radix) ds ≡ true
 form_of radix [] some h = absurd (omega arith)
-form_of radix (d ∷ ds) some h = rw (less (digit_value d) radix h.0) (digits_pass radix (λ b. is_digit b radix) (λ b q. less (digit_value b) radix q) ds h.1)
-
-or_last : (a : Bool) → (a || true) ≡ true
-or_last true = refl
-or_last false = refl
+form_of radix (d ∷ ds) some h = rw (lt-ltb (digit_value d) radix h.0) (digits_pass radix (λ b. is_digit b radix) (λ b q. lt-ltb (digit_value b) radix q) ds h.1)
 
 digit_goes_on : (b : ℕ) → digit_value b < 10 → name_byte b ≡ true
-digit_goes_on b h = rw (less (digit_value b) 10 h) (or_last (is_ascii_alphabetic b || b == 95))
+digit_goes_on b h = rw (lt-ltb (digit_value b) 10 h) (or-true (is_ascii_alphabetic b || b == 95))
 
 -- decimal digits may stand in a name
 pub digits_go_on : (n : ℕ) → n < 2 ^ 64 → list_all name_byte (decimal n) ≡ true
@@ -103,7 +94,7 @@ pub blank : (line : List ℕ) → next_token (32 ∷ line) ≡ next_token line
 blank line = blank_read 32 line refl
 
 positive : (n : ℕ) → n < 2 ^ 64 → number false n ≡ Number false n
-positive n h = rw (less n (2 ^ 64) h) refl
+positive n h = rw (lt-ltb n (2 ^ 64) h) refl
 
 pub decimal_token : (n : ℕ) (rest : List ℕ) → n < 2 ^ 64 → begins name_byte rest ≡ false → next_token (decimal n ++ rest) ≡ written (Number false n) (decimal n) rest
 decimal_token n rest h stop =
@@ -112,13 +103,9 @@ decimal_token n rest h stop =
 negative : (n : ℕ) → n ≤ 2 ^ 63 → number true n ≡ Number true n
 negative n h = grind (arith, nat_tests)
 
-or_none : (a b : Bool) → (a || b) ≡ false → b ≡ false
-or_none true b e = cc
-or_none false b e = e
-
 no_digits : (rest : List ℕ) → begins name_byte rest ≡ false → begins (λ b. is_digit b 10) rest ≡ false
 no_digits [] stop = refl
-no_digits (b ∷ rest) stop = or_none (is_ascii_alphabetic b || b == 95) (is_digit b 10) stop
+no_digits (b ∷ rest) stop = or_last (is_ascii_alphabetic b || b == 95) (is_digit b 10) stop
 
 pub negative_token : (n : ℕ) (rest : List ℕ) → n ≤ 2 ^ 63 → begins name_byte rest ≡ false
     → next_token ((codes "-" ++ decimal n) ++ rest) ≡ written (Number true n) (codes "-" ++ decimal n) rest

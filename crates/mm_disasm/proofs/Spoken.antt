@@ -1,7 +1,7 @@
 -- All lines of a canonical text say what they are to say, so it means its object.
 use Rattle.std.proofs.Common.{◌≡◌, ℕ, ◌+◌, ◌^◌, ◌<◌, ◌≤◌, true, List, [], ◌∷◌, length, arith}
 use Rattle.std.specs.List.{list_all, AllByRecursion}
-use Rattle.mm_line.proofs.Choices.{both}
+use Rattle.std.proofs.lemmas.Bool.{and_parts}
 use Rattle.mm_object.specs.declared.item.Item.{Item}
 use Rattle.mm_object.specs.declared.thread.Value.{Value}
 use Rattle.mm_object.specs.declared.thread.Thread.{Thread}
@@ -27,14 +27,14 @@ module _ (o : Object) (is : IsObject o) where
       → RegistersSpeak o k values
   registers_speak k [] few good numbers = tt
   registers_speak k (v ∷ values) few good numbers =
-      let b = both (is_value o.segments (length o.externals) v) (list_all (is_value o.segments (length o.externals)) values) good in
+      let b = and_parts (is_value o.segments (length o.externals) v) (list_all (is_value o.segments (length o.externals)) values) good in
       (λ (z : _). register_says o k v is (omega arith) b.0 numbers.0, registers_speak (k + 1) values (omega arith) b.1 numbers.1)
 
   threads_speak : (threads : List Thread) → list_all (is_thread o.segments (length o.externals)) threads ≡ true → AllByRecursion (λ (t : Thread). length t.regs ≡ 16) threads
       → AllByRecursion (λ (t : Thread). AllByRecursion IsNumber t.regs) threads → AllByRecursion (ThreadSpeaks o) threads
   threads_speak [] good whole numbers = tt
   threads_speak (t ∷ threads) good whole numbers =
-      let b = both (is_thread o.segments (length o.externals) t) (list_all (is_thread o.segments (length o.externals)) threads) good in
+      let b = and_parts (is_thread o.segments (length o.externals) t) (list_all (is_thread o.segments (length o.externals)) threads) good in
       let full : length t.regs ≡ 16 = whole.0 in (
         record { begins = thread_says o t is b.0; registers = registers_speak 0 t.regs (omega (arith, full)) (thread_values o t b.0) numbers.0 },
         threads_speak threads b.1 whole.1 numbers.1,

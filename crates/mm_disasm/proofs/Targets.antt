@@ -3,9 +3,8 @@ use Rattle.std.proofs.Common.{◌≡◌, ℕ, ◌+◌, ◌-◌, ◌<◌, ◌≤�
 use Rattle.std.specs.Prelude.{find, nat_lt, ◌^◌, slice_get}
 use Rattle.std.specs.List.{list_all}
 use Rattle.std.proofs.Math.Pow.{pow_mono}
-use Rattle.std.proofs.lemmas.Bool.{ltb-true}
+use Rattle.std.proofs.lemmas.Bool.{ltb-true, and_parts}
 use Rattle.std.proofs.lemmas.Option.{slice_get_cases}
-use Rattle.mm_model.proofs.ImageBytes.Rising.{both}
 use Rattle.mm_object.specs.declared.target.Target.{Target}
 use Rattle.mm_object.specs.declared.target.Reloc.{Reloc}
 use Rattle.mm_object.specs.declared.thread.Thread.{Thread}
@@ -20,7 +19,7 @@ index_inside segments externals t h =
       | inl here ↦ let lt : t.index < length segments = here.1 in omega (arith, lt)
       | inr past ↦
           let none : is_within None all t.index t.addend ≡ true = ap (λ (s : Option Segment). is_within s all t.index t.addend) (sym past.1) ∙ h in
-          ltb-true t.index all (both (nat_lt t.index all) (nat_lt t.addend (2 ^ greatest_log)) none).0
+          ltb-true t.index all (and_parts (nat_lt t.index all) (nat_lt t.addend (2 ^ greatest_log)) none).0
     ]
 
 -- what all elements pass, one that is found passes
@@ -32,7 +31,7 @@ passes p q false x y ys here there e = there e
 found_passes : {A : Type 0} (p q : A → Bool) (xs : List A) (x : A) → list_all q xs ≡ true → Some x ≡ find p xs → q x ≡ true
 found_passes p q [] x all e = absurd cc
 found_passes p q (y ∷ ys) x all e =
-    let parts = both (q y) (list_all q ys) all in
+    let parts = and_parts (q y) (list_all q ys) all in
     passes p q (p y) x y ys parts.0 (found_passes p q ys x parts.1) e
 
 -- that of a relocation
@@ -40,13 +39,13 @@ pub reloc_target : (o : Object) (segment word : ℕ) (r : Reloc) → IsObject o 
 unfolding reloc_at
 reloc_target o segment word r object e =
     let externals = length o.externals in
-    (both (is_zero (item_of (slice_get o.segments r.segment) r.word)) (is_target o.segments externals r.target)
+    (and_parts (is_zero (item_of (slice_get o.segments r.segment) r.word)) (is_target o.segments externals r.target)
     (found_passes (is_at segment word) (is_reloc o.segments externals) o.relocs r object.relocs e)).1
 
 -- that of a thread, and its registers
 pub thread_parts : (segments : List Segment) (externals : ℕ) (t : Thread) → is_thread segments externals t ≡ true
     → (is_target segments externals t.target ≡ true) × (list_all (is_value segments externals) t.regs ≡ true)
-thread_parts segments externals t h = let b = both _ _ h in ((both _ _ b.0).1, b.1)
+thread_parts segments externals t h = let b = and_parts _ _ h in ((and_parts _ _ b.0).1, b.1)
 
 -- a segment of an object has few words
 pub few_items : (s : Segment) → IsSegment s → length s.items ≤ 131072

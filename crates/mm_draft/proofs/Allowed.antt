@@ -2,6 +2,7 @@
 use Rattle.std.proofs.Common.{◌≡◌, ℕ, ◌≤◌, Bool, true, false, ◌||◌, List, [], ◌∷◌, ◌++◌, Option, Some, None, Result, Ok, Err, is_some, refl, sym, ap, ◌∙◌, arith}
 use Rattle.std.specs.Prelude.{nat_lt}
 use Rattle.std.proofs.lemmas.Bool.Decides.{nat_tests}
+use Rattle.std.proofs.lemmas.Bool.{or_parts, ltb-false}
 use Rattle.mm_line.specs.declared.fault.Fault.{Fault}
 use Rattle.mm_line.specs.declared.fault.Problem.{Problem}
 use Rattle.mm_line.specs.declared.statement.Statement.{Statement}
@@ -20,26 +21,19 @@ append_none : (xs ys : List Problem) → xs ++ ys ≡ [] → (xs ≡ []) × (ys 
 append_none [] ys e = (refl, e)
 append_none (x ∷ xs) ys e = cc
 
-good : (bad : Bool) (fault : Fault) (left : ℕ) → fault_if bad fault left ≡ [] → bad ≡ false
+pub good : (bad : Bool) (fault : Fault) (left : ℕ) → fault_if bad fault left ≡ [] → bad ≡ false
 good true fault left e = cc
 good false fault left e = refl
-
-neither : (a b : Bool) → (a || b) ≡ false → (a ≡ false) × (b ≡ false)
-neither true b e = cc
-neither false b e = (refl, e)
 
 is_new : {A : Type 0} (o : Option A) → is_some o ≡ false → o ≡ None
 is_new None e = refl
 is_new (Some x) e = cc
 
-within : (a b : ℕ) → nat_lt a b ≡ false → b ≤ a
-within a b e = grind (arith, nat_tests)
-
 room : (d : Draft) (words pointers left : ℕ) (o : Option Segment) → words_faults d words pointers left o ≡ [] → HasRoom d words pointers
 room d words pointers left None e = cc
 room d words pointers left (Some s) e =
-    let n = neither _ _ (good _ _ left (append_none _ _ e).1) in
-    record { words_fit = within word_limit _ n.0; pointers_fit = within reloc_limit _ n.1 }
+    let n = or_parts _ _ (good _ _ left (append_none _ _ e).1) in
+    record { words_fit = ltb-false word_limit _ n.0; pointers_fit = ltb-false reloc_limit _ n.1 }
 
 new_name : (d : Draft) (left : ℕ) (name : List ℕ) (claim : Option Claim) → claim_faults d claim ≡ []
     → (m : Rattle.mm_line.specs.declared.name.Mark.Mark) → claim ≡ Some (claims.Segment m) → place_of d m.name ≡ None

@@ -58,7 +58,7 @@ counts_begin xs ys s words pointers k none e = record {
   pointers_fit = k.pointers_fit;
 }
 
-zeros_point_nowhere : (source : Source) (k : ℕ) → pointers_among (replicate k (zero_word source)) ≡ 0
+pub zeros_point_nowhere : (source : Source) (k : ℕ) → pointers_among (replicate k (zero_word source)) ≡ 0
 zeros_point_nowhere source zero = refl
 zeros_point_nowhere source (suc k) = omega (arith, zeros_point_nowhere source k)
 

@@ -1,36 +1,37 @@
 -- The parts of a state of a machine of the image make its configuration.
 use Rattle.std.proofs.Common.{◌≡◌, ◌≢◌, ◌⊎◌, inl, inr, ℕ, zero, suc, ◌+◌, ◌%◌, ◌<◌, ◌≤◌, Bool, true, false, ◌&&◌, ◌||◌}
-use Rattle.std.proofs.Common.{cond, nat_eq, if◌then◌else◌, List, [], ◌∷◌, map, length, replicate, Option, Some, None}
-use Rattle.std.proofs.Common.{refl, sym, ap, ◌∙◌, subst, arith, eqb-true, eq-eqb}
+use Rattle.std.proofs.Common.{cond, nat_eq, List, [], ◌∷◌, map, length, replicate, Option, Some, None}
+use Rattle.std.proofs.Common.{refl, sym, ap, ◌∙◌, subst, arith, eqb-true}
 use Rattle.std.specs.Prelude.{◌==◌, Contains, slice_set, slice_get, slice_index_or}
 use Rattle.std.specs.List.{AllByRecursion, list_any, range_with_len}
 use Rattle.std.specs.List.Sorted.{IsStrictlyIncreasing}
 use Rattle.std.specs.Ordering.{nat_cmp}
-use Rattle.std.specs.Ordering.{is_lt, eq_by_cmp}
+use Rattle.std.specs.Ordering.{is_lt}
 use Rattle.std.specs.FinMap.{find, is_sorted}
 use Rattle.std.specs.FinMap.Entries.{below_all}
 use Rattle.std.specs.Cmp.{unsigned_tied}
 use Rattle.mm_model.specs.Memory.{place_of}
-use Rattle.mm_model.specs.Effect.{same_word}
-use Rattle.mm_model.specs.Report.{same_bit}
-use Rattle.mm_model.proofs.Memories.{put_frames, put_paged, cell_at-aligned, aligned, page_of_cell, page_whole, cell_at-put_same, cell_at-put_other}
-use Rattle.mm_model.proofs.Starts.{start_slots}
+use Rattle.mm_model.proofs.Memories.{put_frames, put_paged, cell_at-aligned, aligned, page_whole, cell_at-put_same, cell_at-put_other, zeros_get, place_within}
+use Rattle.mm_model.proofs.Starts.{start_slots, nothing_out}
 use Rattle.mm_laws.proofs.CellViews.{IsIn, Rising}
 use Rattle.mm_laws.proofs.ChangedCells.{each_of_in, cell_or_zero, DiffersAt, in_changes, changes_in, changes_rising}
 use Rattle.mm_laws.proofs.AlikeWorlds.{whole_memory}
-use Rattle.mm_explore.proofs.WordForms.{words_same}
-use Rattle.std.proofs.lemmas.Bool.{cases_Bool, cases_eq, both_ways, ne_eqb}
+use Rattle.std.proofs.lemmas.Bool.{cases_Bool, cases_eq, both_ways}
+use Rattle.mm_model.proofs.EffectWords.{cell_words}
+use Rattle.mm_model.proofs.Sames.{cells_same}
+use Rattle.mm_laws.proofs.OwnImages.{each_among}
+use Rattle.mm_machine.proofs.Returning.{own_queues}
 use Rattle.mm_word.specs.declared.word.Cell.{Cell}
 use Rattle.mm_word.specs.Word.{IsWord}
 use Rattle.mm_model.specs.declared.event.Event.{Event}
-use Rattle.mm_model.specs.Memory.{Memory, page_at, cell_in, cell_at, put_cell, page_of, zero_cell, IsPage, IsPaged}
+use Rattle.mm_model.specs.Memory.{Memory, page_at, cell_in, cell_at, put_cell, page_of, IsPage, IsPaged}
 use Rattle.mm_model.specs.State.{ThreadRow, Core, State, row_in, queue_of, queue_at, output_of}
 use Rattle.mm_model.specs.Groups.{has_group}
 use Rattle.mm_model.specs.Image.{Image, start}
 use Rattle.mm_model.specs.Spelling.{IsImage, HoldsWords, numbers_of}
 use Rattle.mm_model.specs.Report.{is_of, groups_of, same_cell, cells_or_zero, changes}
 use Rattle.mm_model.specs.Fits.{slots_of, identity_of}
-use Rattle.mm_model.proofs.CoreRows.{each_map, each_both, above_first, rest_rises, has_group_by}
+use Rattle.mm_model.proofs.CoreRows.{each_map, has_group_by}
 use Rattle.mm_model.proofs.Fitted.{paged_of}
 use Rattle.mm_thread.specs.Parts.{events_for, row_with, outputs_with}
 use Rattle.mm_machine.specs.Snapshot.{queued, page_numbers}
@@ -42,29 +43,6 @@ use Rattle.mm_explore.specs.Assembled.{base_page, base_memory, put_cells, assemb
 use Rattle.mm_explore.proofs.Members.{none_in, in_first, in_rest, in_cases, in_filter}
 
 -- 1. Rows.
-
-above_rows : (n : ℕ) (rows : List ThreadRow) → AllByRecursion (λ y. n < y) (numbers_of (map (λ (row : ThreadRow). row.slot) rows)) → AllByRecursion (λ (row : ThreadRow). n < row.slot.number) rows
-above_rows n [] h = tt
-above_rows n (row ∷ rows) h = (h.0, above_rows n rows h.1)
-
-own_here : (row : ThreadRow) (rows : List ThreadRow) → queue_of (row_in (row ∷ rows) row.slot.number) ≡ row.queue
-own_here row rows = ap (λ b. queue_of (if b then Some row else row_in rows row.slot.number)) (eq-eqb row.slot.number row.slot.number refl)
-
-own_later : (row x : ThreadRow) (rows : List ThreadRow) → row.slot.number < x.slot.number → queue_of (row_in rows x.slot.number) ≡ x.queue → queue_of (row_in (row ∷ rows) x.slot.number) ≡ x.queue
-own_later row x rows lt e =
-    let ne : row.slot.number ≢ x.slot.number = λ same. omega (arith, lt, same) in
-    ap (λ b. queue_of (if b then Some row else row_in rows x.slot.number)) (ne_eqb row.slot.number x.slot.number ne) ∙ e
-
-own_queues : (rows : List ThreadRow) → IsStrictlyIncreasing (numbers_of (map (λ (row : ThreadRow). row.slot) rows))
-    → AllByRecursion (λ (row : ThreadRow). queue_of (row_in rows row.slot.number) ≡ row.queue) rows
-own_queues [] rising = tt
-own_queues (row ∷ rows) rising =
-    let numbers : List ℕ = numbers_of (map (λ (x : ThreadRow). x.slot) rows) in (
-      own_here row rows,
-      each_both (λ (x : ThreadRow). row.slot.number < x.slot.number) (λ (x : ThreadRow). queue_of (row_in rows x.slot.number) ≡ x.queue)
-          (λ (x : ThreadRow). queue_of (row_in (row ∷ rows) x.slot.number) ≡ x.queue)
-          (λ x up is. own_later row x rows up is) rows (above_rows row.slot.number rows (above_first row.slot.number numbers rising)) (own_queues rows (rest_rises row.slot.number numbers rising)),
-    )
 
 rows_made : (events : List (ℕ × Event)) (rows : List ThreadRow) → AllByRecursion (λ (row : ThreadRow). events_for row.slot.number events ≡ row.queue) rows
     → map (row_with events) (map uncounted_slot (map (λ (row : ThreadRow). row.slot) rows)) ≡ map uncounted_row rows
@@ -129,11 +107,6 @@ module _ (s : State) where
         ]
       ])
 
-nothing_there : (n g : ℕ) → slice_index_or {A = List ℕ} (replicate n []) g [] ≡ []
-nothing_there zero g = refl
-nothing_there (suc n) zero = refl
-nothing_there (suc n) (suc g) = nothing_there n g
-
 in_range : (low n g : ℕ) → low ≤ g → g < low + n → Contains (range_with_len low n) g
 in_range low zero g le lt = absurd (omega (arith, le, lt))
 in_range low (suc n) g le lt = elim (cases_eq low g) [
@@ -157,7 +130,7 @@ module _ (i : Image) (s : State) (h : IsStateOf i s) where
   out_at g lt =
       stands_at s (groups_of (start i).core) (replicate 64 []) g lt (elim (cases_Bool (list_any (is_of g) (start i).core.rows)) [
         | inl t ↦ inr (in_filter (λ n. list_any (is_of n) (start i).core.rows) (range_with_len 0 64) g (in_range 0 64 g (omega arith) (omega (arith, lt))) t)
-        | inr f ↦ inl (nothing_there 64 g ∙ sym (silent g f))
+        | inr f ↦ inl (nothing_out 64 g ∙ sym (silent g f))
       ])
 
   outputs_made : outputs_with (map (output_part s) (groups_of (start i).core)) (replicate 64 []) ≡ s.core.outputs
@@ -216,12 +189,7 @@ base_page_at : (i : Image) (m : Memory) (q : ℕ) → page_at (base_memory i (pa
 unfolding base_memory
 base_page_at i m q = find_base i q m.pages
 
-zeros_get : (n k : ℕ) → k < n → slice_get (replicate n zero_cell) k ≡ Some zero_cell
-zeros_get zero k lt = absurd (omega (arith, lt))
-zeros_get (suc n) zero lt = refl
-zeros_get (suc n) (suc k) lt = zeros_get n k (omega (arith, lt))
-
-there_get : (xs : List Cell) (k : ℕ) → k < length xs → slice_get xs k ≡ Some (cell_or_zero (slice_get xs k))
+pub there_get : (xs : List Cell) (k : ℕ) → k < length xs → slice_get xs k ≡ Some (cell_or_zero (slice_get xs k))
 there_get [] k lt = absurd (omega (arith, lt))
 there_get (x ∷ xs) zero lt = refl
 there_get (x ∷ xs) (suc k) lt = there_get xs k (omega (arith, lt))
@@ -240,9 +208,6 @@ some_get [] k lt = absurd (omega (arith, lt))
 some_get (x ∷ xs) zero lt = (x, refl)
 some_get (x ∷ xs) (suc k) lt = some_get xs k (omega (arith, lt))
 
-place_small : (w : ℕ) → place_of w < 512
-place_small w = omega arith
-
 pub base_cell_at : (i : Image) (m : Memory) → IsPaged i.memory → IsPaged m → (w : ℕ) → w % 8 ≡ 0 → cell_at (base_memory i (page_numbers m.pages)) w ≡ as_in_image i w (cell_at m w)
 base_cell_at i m img h w aligned =
     cell_at-aligned (base_memory i (page_numbers m.pages)) w aligned
@@ -254,7 +219,7 @@ base_cell_at i m img h w aligned =
     by None e = refl
     by (Some cells) e =
         let long = (page_whole m h (page_of w) cells e).cells in
-        let small = place_small w in
+        let small = place_within w in
         let here = some_get cells (place_of w) (omega (arith, long, small)) in
         base_get i img (page_of w) (place_of w) small (page_at i.memory (page_of w)) refl
         ∙ ap (λ o. Some (cell_or_zero o)) (sym (cell_at-aligned i.memory w aligned))
@@ -292,48 +257,9 @@ put_there m (x ∷ cells) w c old h up (inr later) e =
 
 -- 5. The memory of a state.
 
-all_in : {A : Type 0} (P : A → Type 0) (xs : List A) → ((x : A) → IsIn x xs → P x) → AllByRecursion P xs
-all_in P [] f = tt
-all_in P (x ∷ xs) f = (f x (inl refl), all_in P xs (λ y inside. f y (inr inside)))
-
-pub cells_same : (c d : Cell) → IsWord c.word → IsWord d.word → same_cell c d ≡ true → c ≡ d
-cells_same c d h k e =
-    let two = both (same_word c.word d.word) (same_bit c.full d.full) e in
-    let word = words_same c.word d.word h k two.0 in
-    let full = bits_same c.full d.full two.1 in
-    λ j. record { word = word j; full = full j }
-  where
-    both : (a b : Bool) → (a && b) ≡ true → (a ≡ true) × (b ≡ true)
-    both true b e = (refl, e)
-    both false b e = cc
-
-    bits_same : (a b : Bool) → same_bit a b ≡ true → a ≡ b
-    bits_same true b e = sym e
-    bits_same false true e = cc
-    bits_same false false e = refl
-
-find_word : (es : List (ℕ × List Cell)) (q k : ℕ) (cells : List Cell) (c : Cell) → AllByRecursion HoldsWords es → find nat_cmp q es ≡ Some cells → slice_get cells k ≡ Some c → IsWord c.word
-find_word [] q k cells c h e here = cc
-find_word (x ∷ es) q k cells c h e here = by (eq_by_cmp nat_cmp q x.0) e (λ later. find_word es q k cells c h.1 later here)
-  where
-    get_word : (xs : List Cell) (n : ℕ) → AllByRecursion (λ (d : Cell). IsWord d.word) xs → slice_get xs n ≡ Some c → IsWord c.word
-    get_word [] n k e = cc
-    get_word (y ∷ xs) zero k e = let same : y ≡ c = cc in subst (λ (d : Cell). IsWord d.word) same k.0
-    get_word (y ∷ xs) (suc n) k e = get_word xs n k.1 e
-
-    by : (b : Bool) → cond b (Some x.1) (find nat_cmp q es) ≡ Some cells → (find nat_cmp q es ≡ Some cells → IsWord c.word) → IsWord c.word
-    by true is later = let same : x.1 ≡ cells = cc in get_word cells k (subst (λ (l : List Cell). AllByRecursion (λ (d : Cell). IsWord d.word) l) same h.0) here
-    by false is later = later is
-
-pub cell_word : (m : Memory) (w : ℕ) (c : Cell) → AllByRecursion HoldsWords m.pages → cell_at m w ≡ Some c → IsWord c.word
-cell_word m w c h e =
-    let at = aligned m w c e in
-    let page = page_of_cell m w c e in
-    find_word m.pages (page_of w) (place_of w) page.0 c h page.1 (sym (cell_at-aligned m w at ∙ ap (λ o. cell_in o (place_of w)) page.1) ∙ e)
-
 pub image_word : (m : Memory) (w : ℕ) (o : Option Cell) → AllByRecursion HoldsWords m.pages → cell_at m w ≡ o → IsWord (cell_or_zero o).word
 image_word m w None h e = omega arith
-image_word m w (Some c) h e = cell_word m w c h e
+image_word m w (Some c) h e = cell_words m w c h e
 
 module _ (i : Image) (img : IsImage i) (m : Memory) (paged : IsPaged m) (words : AllByRecursion HoldsWords m.pages) (frames : m.frames ≡ i.memory.frames) where
   abbrev base : Memory
@@ -343,10 +269,10 @@ module _ (i : Image) (img : IsImage i) (m : Memory) (paged : IsPaged m) (words :
   list = changes m i.memory
 
   list_aligned : Aligned list
-  list_aligned = all_in (λ (x : ℕ × Cell). x.0 % 8 ≡ 0) list (λ x inside. aligned m x.0 x.1 (in_changes m i.memory paged img.paged x.0 x.1 inside).here)
+  list_aligned = each_among (λ (x : ℕ × Cell). x.0 % 8 ≡ 0) list (λ x inside. aligned m x.0 x.1 (in_changes m i.memory paged img.paged x.0 x.1 inside).here)
 
   absent : (w : ℕ) → ((c : Cell) → DiffersAt m i.memory w c → ⊥) → AllByRecursion (λ (x : ℕ × Cell). w ≢ x.0) list
-  absent w never = all_in (λ (x : ℕ × Cell). w ≢ x.0) list (λ x inside e. never x.1 (subst (λ n. DiffersAt m i.memory n x.1) (sym e) (in_changes m i.memory paged img.paged x.0 x.1 inside)))
+  absent w never = each_among (λ (x : ℕ × Cell). w ≢ x.0) list (λ x inside e. never x.1 (subst (λ n. DiffersAt m i.memory n x.1) (sym e) (in_changes m i.memory paged img.paged x.0 x.1 inside)))
 
   cell_made : (w : ℕ) → w % 8 ≡ 0 → (o : Option Cell) → cell_at m w ≡ o → cell_at (put_cells base list) w ≡ o
   cell_made w at None e =
@@ -357,7 +283,7 @@ module _ (i : Image) (img : IsImage i) (m : Memory) (paged : IsPaged m) (words :
       by : (b : Bool) → same_cell c (cell_or_zero (cell_at i.memory w)) ≡ b → cell_at (put_cells base list) w ≡ Some c
       by true same =
           let is : c ≡ cell_or_zero (cell_at i.memory w) = cells_same c (cell_or_zero (cell_at i.memory w))
-          (cell_word m w c words e) (image_word i.memory w (cell_at i.memory w) img.words refl) same in
+          (cell_words m w c words e) (image_word i.memory w (cell_at i.memory w) img.words refl) same in
           put_beside base list w list_aligned (absent w (λ d differs.
           let here : ◌≡◌ {A = Option Cell} (Some c) (Some d) = sym e ∙ differs.here in
           let equal : c ≡ d = cc in

@@ -2,7 +2,7 @@
 use Rattle.std.proofs.Common.{◌≡◌, ◌≢◌, inl, inr, ℕ, zero, suc, ◌+◌, ◌%◌, ◌^◌, ◌<◌, Bool, true}
 use Rattle.std.proofs.Common.{false, not, cond, nat_eq, if◌then◌else◌, List, [], ◌∷◌, ◌++◌, length, Option, Some}
 use Rattle.std.proofs.Common.{None, refl, sym, ap, ◌∙◌, subst, arith, T, eq-eqb, set, Ok, Err}
-use Rattle.std.specs.Prelude.{◌==◌, IsTrue, ◌&&◌}
+use Rattle.std.specs.Prelude.{◌==◌, IsTrue}
 use Rattle.std.specs.List.{AllByRecursion, insert, remove}
 use Rattle.std.specs.List.Sorted.{IsSearchInRange, IsBinarySearchResult}
 use Rattle.std.specs.Option.{unwrap_or}
@@ -13,14 +13,12 @@ use Rattle.std.specs.Cmp.{unsigned_tied}
 use Rattle.std.proofs.lemmas.Cmp.{nat_cmp_total}
 use Rattle.std.proofs.lemmas.Bool.{cases_eq, both_ways, ne_eqb}
 use Rattle.std.proofs.lemmas.Bool.Decides.{nat_tests}
+use Rattle.mm_model.proofs.Sames.{cell_self}
+use Rattle.mm_laws.proofs.OwnImages.{each_among}
 use Rattle.mm_word.specs.declared.word.Cell.{Cell}
-use Rattle.mm_word.specs.declared.word.Word.{Word}
-use Rattle.mm_word.specs.declared.word.Word.TheVariants.{Int, Ptr}
-use Rattle.mm_word.specs.Pointer.{bits_of}
-use Rattle.mm_model.specs.Effect.{same_word}
 use Rattle.mm_model.specs.Image.{Image}
 use Rattle.mm_model.specs.Memory.{Memory, page_of, place_of, page_at, cell_in, cell_at, put_cell, zero_cell, IsPaged}
-use Rattle.mm_model.specs.Report.{same_cell, same_bit, changes}
+use Rattle.mm_model.specs.Report.{same_cell, changes}
 use Rattle.mm_model.proofs.Memories.{aligned, page_of_cell, page_whole, cell_at-aligned, put_cell-unmapped, put_paged, cell_at-put_same, cell_at-put_other}
 use Rattle.mm_laws.proofs.CellViews.{IsIn, Rising}
 use Rattle.mm_laws.proofs.ChangedCells.{each_of_in, cell_or_zero, DiffersAt, in_changes, changes_in, changes_rising}
@@ -156,10 +154,6 @@ truth false h = absurd h
 pub listed_order : (m image : Memory) (xs : List (ℕ × Cell)) → IsPaged m → xs ≡ changes m image → IsTrue (is_sorted nat_cmp xs)
 listed_order m image xs h e = ap (is_sorted nat_cmp) e ∙ truth (is_sorted nat_cmp (changes m image)) (changes_order m image h)
 
-all_in : {A : Type 0} (P : A → Type 0) (xs : List A) → ((x : A) → IsIn x xs → P x) → AllByRecursion P xs
-all_in P [] f = tt
-all_in P (x ∷ xs) f = (f x (inl refl), all_in P xs (λ y inside. f y (inr inside)))
-
 pub cell_below : (m : Memory) → IsPaged m → (w : ℕ) (c : Cell) → cell_at m w ≡ Some c → w < 2 ^ 54
 cell_below m h w c e =
     let page = page_of_cell m w c e in
@@ -168,27 +162,11 @@ cell_below m h w c e =
 
 pub changes_at_words : (m image : Memory) → IsPaged m → IsPaged image → AreAtWords (changes m image)
 changes_at_words m image h k =
-    all_in (λ (x : ℕ × Cell). (x.0 % 8 ≡ 0) × (x.0 < 2 ^ 54)) (changes m image)
+    each_among (λ (x : ℕ × Cell). (x.0 % 8 ≡ 0) × (x.0 < 2 ^ 54)) (changes m image)
     (λ x inside. let here = (in_changes m image h k x.0 x.1 inside).here in (aligned m x.0 x.1 here, cell_below m h x.0 x.1 here))
 
 pub listed_at_words : (m image : Memory) (xs : List (ℕ × Cell)) → IsPaged m → IsPaged image → xs ≡ changes m image → AreAtWords xs
 listed_at_words m image xs h k e = subst AreAtWords (sym e) (changes_at_words m image h k)
-
--- nothing of the image differs from it
-pub same_itself : (c : Cell) → same_cell c c ≡ true
-same_itself c = both (same_word c.word c.word) (same_bit c.full c.full) (word c.word) (bit c.full)
-  where
-    word : (w : Word) → same_word w w ≡ true
-    word (Int b) = eq-eqb b b refl
-    word (Ptr p) = eq-eqb (bits_of p) (bits_of p) refl
-
-    bit : (b : Bool) → same_bit b b ≡ true
-    bit true = refl
-    bit false = refl
-
-    both : (a b : Bool) → a ≡ true → b ≡ true → (a && b) ≡ true
-    both true b e f = f
-    both false b e f = e
 
 pub no_changes : (i : Image) → IsPaged i.memory → changes i.memory i.memory ≡ []
 no_changes i k =
@@ -196,7 +174,7 @@ no_changes i k =
   where
     by : (o : Option Cell) → if_changed (unwrap_or o zero_cell) o ≡ None
     by None = refl
-    by (Some c) = ap (λ b. if b then None else Some c) (same_itself c)
+    by (Some c) = ap (λ b. if b then None else Some c) (cell_self c)
 
 -- 4. One word of a list.
 

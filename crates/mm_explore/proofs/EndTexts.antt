@@ -1,7 +1,9 @@
 -- What is kept and what is written of the end of a run.
-use Rattle.std.proofs.Common.{◌≡◌, ℕ, zero, suc, ◌==◌, Bool, true, false, ◌||◌, List, [], ◌∷◌, ◌++◌, map, codes, decimal, Some, slice_get, refl, sym, ap, ◌∙◌}
+use Rattle.std.proofs.Common.{◌≡◌, ℕ, zero, suc, ◌==◌, Bool, ◌||◌, List, [], ◌∷◌, ◌++◌, map, codes, decimal, Some, slice_get, refl, sym, ap, ◌∙◌}
 use Rattle.std.specs.List.{list_any, flat_map, range_with_len}
 use Rattle.std.proofs.lemmas.List.Elements.{filter_agree}
+use Rattle.mm_model.proofs.OneIf.{one_back}
+use Rattle.mm_model.proofs.Starts.{start_slots}
 use Rattle.mm_model.specs.declared.slot.SlotState.{SlotState}
 use Rattle.mm_model.specs.Fits.{slots_of, identity_of}
 use Rattle.mm_model.specs.Image.{Image, start}
@@ -14,7 +16,6 @@ use Rattle.mm_thread.specs.Output.{Output}
 use Rattle.mm_explore.specs.Benches.{ArePartsAt, parts_held}
 use Rattle.mm_explore.specs.Configurations.{uncounted_slot, moves}
 use Rattle.mm_explore.specs.Findings.{Outcome, are_none, outcome_of, outcome_at}
-use Rattle.mm_model.specs.Flags.{one_if}
 use Rattle.mm_explore.specs.FoundLists.{FoundList, Holds}
 use Rattle.mm_explore.specs.Kept.{Parts, output_part, parts_of, parts_from, kept, first_number}
 use Rattle.mm_explore.proofs.Keepables.{parts_again}
@@ -41,14 +42,6 @@ groups_from (s ∷ slots) (o ∷ other) e =
     let tail : map identity_of slots ≡ map identity_of other = cc in
     let rest = groups_from slots other tail in
     λ j. (head j).1 ∷ rest j
-
-started : (slots : List Slot) → map (λ (row : ThreadRow). row.slot) (map (λ (s : Slot). let row : ThreadRow = record { slot = s; queue = [] } in row) slots) ≡ slots
-started [] = refl
-started (s ∷ slots) = ap (λ l. s ∷ l) (started slots)
-
-start_slots : (i : Image) → slots_of (start i).core ≡ i.slots
-unfolding start
-start_slots i = started i.slots
 
 pub groups_stay : (i : Image) (t : List ℕ) → IsImage i → groups_of (run (start i) t).core ≡ groups_of (start i).core
 groups_stay i t img =
@@ -138,8 +131,4 @@ parts_read_at i t img found held k numbers here there p read =
 
 pub ended_of : (o : Outcome) → (first_number (outcome_form o) == 1) ≡ o.ended
 unfolding outcome_form
-ended_of o = by o.ended
-  where
-    by : (b : Bool) → (one_if b == 1) ≡ b
-    by true = refl
-    by false = refl
+ended_of o = one_back o.ended

@@ -3,7 +3,8 @@ use Rattle.std.proofs.Common.{◌≡◌, ◌⊎◌, inl, inr, ℕ, Bool, true, f
 use Rattle.std.specs.Prelude.{Contains}
 use Rattle.std.specs.List.{list_any}
 use lib.Pointwise.{pointwise, pointwise_decides}
-use Rattle.std.proofs.lemmas.Bool.{cases_Bool, both_ways}
+use Rattle.std.proofs.lemmas.Bool.{cases_Bool, both_ways, and_parts, or_cases, or_right}
+use Rattle.mm_model.proofs.Sames.{bits_same, bit_self}
 use Rattle.mm_model.specs.declared.slot.SlotState.{SlotState}
 use Rattle.mm_model.specs.Image.{Image}
 use Rattle.mm_model.specs.Report.{same_bit}
@@ -15,10 +16,6 @@ use Rattle.mm_explore.proofs.SlotForms.{state_back}
 use Rattle.mm_explore.proofs.Orders.{before_self, before_through}
 use Rattle.mm_explore.proofs.Members.{none_in, in_first, in_rest, in_cases, all_at, all_of}
 
-both : (a b : Bool) → (a && b) ≡ true → (a ≡ true) × (b ≡ true)
-both true b e = (refl, e)
-both false b e = cc
-
 -- 1. Outcomes that are tested to be the same are the same.
 
 states_decide : (a b : SlotState) → (same_state a b ≡ true → a ≡ b) × (a ≡ b → same_state a b ≡ true)
@@ -27,24 +24,15 @@ states_decide a b = (
   λ e. eq-eqb (state_number a) (state_number b) (ap state_number e),
 )
 
-numbers_decide : (a b : ℕ) → (nat_eq a b ≡ true → a ≡ b) × (a ≡ b → nat_eq a b ≡ true)
+pub numbers_decide : (a b : ℕ) → (nat_eq a b ≡ true → a ≡ b) × (a ≡ b → nat_eq a b ≡ true)
 numbers_decide a b = (eqb-true a b, eq-eqb a b)
-
-bits_same : (a b : Bool) → same_bit a b ≡ true → a ≡ b
-bits_same true b e = sym e
-bits_same false true e = cc
-bits_same false false e = refl
-
-bit_self : (a : Bool) → same_bit a a ≡ true
-bit_self true = refl
-bit_self false = refl
 
 outcomes_same : (a b : Outcome) → same_outcome a b ≡ true → a ≡ b
 outcomes_same a b e =
     let states : Bool = pointwise same_state a.states b.states in
     let outputs : Bool = pointwise (pointwise nat_eq) a.outputs b.outputs in
-    let one = both (same_bit a.ended b.ended) (states && outputs) e in
-    let two = both states outputs one.1 in
+    let one = and_parts (same_bit a.ended b.ended) (states && outputs) e in
+    let two = and_parts states outputs one.1 in
     let ended = bits_same a.ended b.ended one.0 in
     let same_states = (pointwise_decides states_decide a.states b.states).0 two.0 in
     let same_outputs = (pointwise_decides (pointwise_decides numbers_decide) a.outputs b.outputs).0 two.1 in
@@ -116,10 +104,6 @@ module _ (i : Image) where
     inside : Contains ts one
     same : outcome_at i t ≡ outcome_at i one
 
-  either_so : (a b : Bool) → (a || b) ≡ true → (a ≡ true) ⊎ (b ≡ true)
-  either_so true b e = inl refl
-  either_so false b e = inr e
-
   has_first : (seen : List Outcome) (ts : List (List ℕ)) (t : List ℕ) → Contains ts t → (seen_in seen t ≡ true) ⊎ HasFirst (firsts_after i seen ts) t
   has_first seen [] t inside = absurd (none_in t inside)
   has_first seen (x ∷ ts) t inside = elim (cases_Bool (seen_in seen x)) [
@@ -133,7 +117,7 @@ module _ (i : Image) where
     | inr new ↦ elim (in_cases x ts t inside) [
       | inl e ↦ inr (record { one = x; inside = subst (λ l. Contains l x) (sym (first_new seen x ts new)) (in_first x (firsts_after i (outcome_at i x ∷ seen) ts)); same = ap (outcome_at i) (sym e) })
       | inr later ↦ elim (has_first (outcome_at i x ∷ seen) ts t later) [
-        | inl was ↦ elim (either_so (same_outcome (outcome_at i t) (outcome_at i x)) (seen_in seen t) was) [
+        | inl was ↦ elim (or_cases (same_outcome (outcome_at i t) (outcome_at i x)) (seen_in seen t) was) [
           | inl same ↦ inr (record {
             one = x;
             inside = subst (λ l. Contains l x) (sym (first_new seen x ts new))
@@ -181,13 +165,9 @@ module _ (i : Image) where
     | inl old ↦ first_unseen seen ts t (subst (λ l. Contains l t) (first_old seen x ts old) inside) was
     | inr new ↦ elim (in_cases x (firsts_after i (outcome_at i x ∷ seen) ts) t (subst (λ l. Contains l t) (first_new seen x ts new) inside)) [
       | inl e ↦ absurd (both_ways (seen_in seen t) (ap (seen_in seen) (sym e) ∙ new) was)
-      | inr later ↦ first_unseen (outcome_at i x ∷ seen) ts t later (or_else (same_outcome (outcome_at i t) (outcome_at i x)) (seen_in seen t) was)
+      | inr later ↦ first_unseen (outcome_at i x ∷ seen) ts t later (or_right (same_outcome (outcome_at i t) (outcome_at i x)) (seen_in seen t) was)
     ]
   ]
-    where
-      or_else : (a b : Bool) → b ≡ true → (a || b) ≡ true
-      or_else true b e = refl
-      or_else false b e = e
 
   -- nothing before it has the outcome of a schedule that is the first of it
   none_earlier : (seen : List Outcome) (ts : List (List ℕ)) → EachPair Before ts → (t u : List ℕ)

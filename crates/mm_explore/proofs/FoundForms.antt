@@ -1,28 +1,18 @@
 -- The lists of what was found: what is kept, and the schedules that origins spell.
-use Rattle.std.proofs.Common.{◌≡◌, ◌⊎◌, inl, inr, ℕ, zero, suc, ◌+◌, ◌-◌, ◌^◌, ◌<◌, ◌≤◌, Bool, true, false, ◌||◌}
+use Rattle.std.proofs.Common.{◌≡◌, inl, inr, ℕ, zero, suc, ◌+◌, ◌-◌, ◌^◌, ◌<◌, ◌≤◌, Bool, true, false}
 use Rattle.std.proofs.Common.{nat_eq, List, [], ◌∷◌, ◌++◌, map, length, slice_index_or, reverse, refl, sym, ap, ◌∙◌}
 use Rattle.std.proofs.Common.{subst, arith, append_assoc, length-append}
 use Rattle.std.specs.Prelude.{Contains, Some, slice_get, if◌then◌else◌, Result, Ok, Err, OnOk}
 use Rattle.std.specs.List.{list_any}
-use Rattle.std.proofs.lemmas.Bool.{cases_Bool, both_ways, eqb-true, eq-eqb}
+use Rattle.std.proofs.lemmas.Bool.{cases_Bool, both_ways, or_cases, or_parts}
 use Rattle.std.proofs.lemmas.List.{length-map, reverse-append}
 use lib.Pointwise.{pointwise, pointwise_decides}
+use Rattle.mm_explore.proofs.Finals.{numbers_decide}
 use Rattle.mm_explore.specs.declared.found.Origin.{Origin}
 use Rattle.mm_explore.specs.FoundLists.{FoundList, led_by, spelled, AreEarlier}
 use Rattle.mm_explore.proofs.Members.{none_in, in_first, in_rest, in_cases}
 
 -- 1. What is kept.
-
-alike : (a b : ℕ) → (nat_eq a b ≡ true → a ≡ b) × (a ≡ b → nat_eq a b ≡ true)
-alike a b = (eqb-true a b, eq-eqb a b)
-
-either : (a b : Bool) → (a || b) ≡ true → (a ≡ true) ⊎ (b ≡ true)
-either true b e = inl refl
-either false b e = inr e
-
-neither : (a b : Bool) → (a || b) ≡ false → (a ≡ false) × (b ≡ false)
-neither true b e = cc
-neither false b e = (refl, e)
 
 module _ {K : Type 0} (of : K → List ℕ) (numbers : List ℕ) where
   abbrev is_kept : K → Bool
@@ -30,17 +20,17 @@ module _ {K : Type 0} (of : K → List ℕ) (numbers : List ℕ) where
 
   pub has_yes : (keys : List K) → list_any (λ k. pointwise nat_eq numbers (of k)) keys ≡ true → Contains (map of keys) numbers
   has_yes [] e = cc
-  has_yes (k ∷ keys) e = elim (either (is_kept k) (list_any is_kept keys) e) [
-    | inl here ↦ subst (Contains (of k ∷ map of keys)) (sym ((pointwise_decides alike numbers (of k)).0 here)) (in_first (of k) (map of keys))
+  has_yes (k ∷ keys) e = elim (or_cases (is_kept k) (list_any is_kept keys) e) [
+    | inl here ↦ subst (Contains (of k ∷ map of keys)) (sym ((pointwise_decides numbers_decide numbers (of k)).0 here)) (in_first (of k) (map of keys))
     | inr later ↦ in_rest (of k) (map of keys) numbers (has_yes keys later)
   ]
 
   pub has_no : (keys : List K) → list_any (λ k. pointwise nat_eq numbers (of k)) keys ≡ false → Contains (map of keys) numbers → ⊥
   has_no [] e inside = none_in numbers inside
   has_no (k ∷ keys) e inside =
-      let both = neither (is_kept k) (list_any is_kept keys) e in
+      let both = or_parts (is_kept k) (list_any is_kept keys) e in
       elim (in_cases (of k) (map of keys) numbers inside) [
-        | inl here ↦ both_ways (is_kept k) both.0 ((pointwise_decides alike numbers (of k)).1 (sym here))
+        | inl here ↦ both_ways (is_kept k) both.0 ((pointwise_decides numbers_decide numbers (of k)).1 (sym here))
         | inr later ↦ has_no keys both.1 later
       ]
 
@@ -50,7 +40,7 @@ module _ {K : Type 0} (of : K → List ℕ) (numbers : List ℕ) where
     | inr absent ↦ absent
   ]
 
-map_push : {X Y : Type 0} (f : X → Y) (xs : List X) (x : X) → map f (xs ++ x ∷ []) ≡ map f xs ++ f x ∷ []
+pub map_push : {X Y : Type 0} (f : X → Y) (xs : List X) (x : X) → map f (xs ++ x ∷ []) ≡ map f xs ++ f x ∷ []
 map_push f [] x = refl
 map_push f (y ∷ xs) x = ap (λ l. f y ∷ l) (map_push f xs x)
 

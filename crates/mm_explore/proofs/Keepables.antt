@@ -1,14 +1,14 @@
 -- The parts of a state of a machine of the image can be kept as their difference from the image.
 use Rattle.std.proofs.Common.{◌≡◌, ℕ, ◌+◌, ◌*◌, ◌<◌, Bool, true, false, if◌then◌else◌, List, [], ◌∷◌, ◌++◌, map, Option, Some, None, refl, sym, ap, ◌∙◌, zero, suc, slice_index_or, arith}
-use Rattle.std.specs.Prelude.{◌==◌}
 use Rattle.std.specs.List.{AllByRecursion, flat_map}
+use Rattle.mm_machine.proofs.Copied.{slots_words, queues_words}
 use Rattle.mm_word.specs.declared.word.Cell.{Cell}
 use Rattle.mm_word.specs.Word.{IsWord}
 use Rattle.mm_model.specs.declared.event.Event.{Event}
 use Rattle.mm_model.specs.declared.slot.Pending.{Pending}
 use Rattle.mm_model.specs.Memory.{Memory, page_at}
 use Rattle.mm_model.specs.Slot.{Slot}
-use Rattle.mm_model.specs.State.{ThreadRow, Core, State, row_in, queue_of, slot_at, queue_at, output_of}
+use Rattle.mm_model.specs.State.{Core, State, slot_at, queue_at, output_of}
 use Rattle.mm_model.specs.Image.{Image, slot_limit}
 use Rattle.mm_model.specs.Spelling.{IsFresh, HoldsWords, IsImage}
 use Rattle.mm_model.specs.Report.{same_cell, changes_from, cells_or_zero}
@@ -62,14 +62,10 @@ keepables limit all (b ∷ base) (s ∷ slots) same f h =
     let rest : map identity_of slots ≡ map identity_of base = cc in
     ((keepable limit all b s head f.0 h.0, unused limit all b f.0), keepables limit all base slots rest f.1 h.1)
 
-slots_hold : (rows : List ThreadRow) → AllByRecursion RowHoldsWords rows → AllByRecursion SlotHoldsWords (map (λ (row : ThreadRow). row.slot) rows)
-slots_hold [] h = tt
-slots_hold (row ∷ rows) h = (h.0.slot, slots_hold rows h.1)
-
 held : (i : Image) (s : State) → IsStateOf i s → AllByRecursion IsHeld (slots_of s.core)
 held i s h =
     each_both (λ (x : Slot). IsSlot x × SlotHoldsWords x) LoadsMatch IsHeld (λ x k m. record { slot = k.0; words = k.1; loads = m }) (slots_of s.core)
-    (each_both IsSlot SlotHoldsWords (λ (x : Slot). IsSlot x × SlotHoldsWords x) (λ x a b. (a, b)) (slots_of s.core) h.state.core.slots (slots_hold s.core.rows h.state.rows))
+    (each_both IsSlot SlotHoldsWords (λ (x : Slot). IsSlot x × SlotHoldsWords x) (λ x a b. (a, b)) (slots_of s.core) h.state.core.slots (slots_words s.core.rows h.state.rows))
     h.fits.matched.loads
 
 uncounted_twice : (slots : List Slot) → map uncounted_slot (map uncounted_slot slots) ≡ map uncounted_slot slots
@@ -77,14 +73,6 @@ uncounted_twice [] = refl
 uncounted_twice (s ∷ slots) = ap (λ l. uncounted_slot s ∷ l) (uncounted_twice slots)
 
 -- 2. Events.
-
-queue_holds : (rows : List ThreadRow) (n : ℕ) → AllByRecursion RowHoldsWords rows → AllByRecursion EventHoldsWords (queue_of (row_in rows n))
-queue_holds [] n h = tt
-queue_holds (row ∷ rows) n h = by (row.slot.number == n) (queue_holds rows n h.1)
-  where
-    by : (b : Bool) → AllByRecursion EventHoldsWords (queue_of (row_in rows n)) → AllByRecursion EventHoldsWords (queue_of (if b then Some row else row_in rows n))
-    by true rest = h.0.events
-    by false rest = rest
 
 -- the slot of a queued event has one of 64 numbers
 waiting_small : (core : Core) (h n : ℕ) → IsFormed core → (o : Option Slot) → slot_at core n ≡ o → waits_for h o ≡ true → n < 64
@@ -99,10 +87,6 @@ queue_small core formed match g =
     each_map (λ (e : Event). waits_for g (slot_at core e.slot) ≡ true) (λ (e : Event). e.slot < 64)
     (λ e w. waiting_small core g e.slot formed (slot_at core e.slot) refl w) (queue_at core g) (queued_at core match g)
 
-queue_words : (core : Core) → AllByRecursion RowHoldsWords core.rows → (g : ℕ) → AllByRecursion EventHoldsWords (queue_at core g)
-unfolding queue_at
-queue_words core h g = queue_holds core.rows g h
-
 tagged_kept : (n : ℕ) → n < 64 → (es : List Event) (rest : List (ℕ × Event)) → AllByRecursion (λ (e : Event). e.slot < 64) es → AllByRecursion EventHoldsWords es → AllByRecursion IsKeptEvent rest
     → AllByRecursion IsKeptEvent (map (λ (e : Event). (n, e)) es ++ rest)
 tagged_kept n lt [] rest low h k = k
@@ -112,7 +96,7 @@ queued_kept : (core : Core) → IsFormed core → Matches core → AllByRecursio
     → (slots : List Slot) → AllByRecursion IsSlot slots → AllByRecursion IsKeptEvent (flat_map (events_at core) slots)
 queued_kept core formed match h [] small = tt
 queued_kept core formed match h (s ∷ slots) small =
-    tagged_kept s.number small.0.number (queue_at core s.number) (flat_map (events_at core) slots) (queue_small core formed match s.number) (queue_words core h s.number)
+    tagged_kept s.number small.0.number (queue_at core s.number) (flat_map (events_at core) slots) (queue_small core formed match s.number) (queues_words core h s.number)
     (queued_kept core formed match h slots small.1)
 
 -- outputs are bytes

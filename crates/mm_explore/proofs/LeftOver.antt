@@ -1,9 +1,10 @@
 -- Lines of results so far, and of what is left.
-use Rattle.std.proofs.Common.{◌≡◌, ℕ, ◌+◌, ◌-◌, ◌<◌, ◌≤◌, get_or, take, arith, List, [], ◌∷◌, ◌++◌, sym, ap, ◌∙◌, subst, append_assoc, append-nil}
+use Rattle.std.proofs.Common.{◌≡◌, ℕ, ◌+◌, ◌-◌, ◌<◌, ◌≤◌, get_or, take, length, arith, List, [], ◌∷◌, ◌++◌, sym, ap, ◌∙◌, subst, append_assoc, append-nil}
 use Rattle.std.specs.List.{AllZip, flat_map, range_with_len}
 use Rattle.std.proofs.lemmas.List.{take_more}
 use Rattle.std.proofs.lemmas.List.FromFn.{get_or-range_with_len, length-range_with_len}
 use Rattle.std.proofs.lemmas.Grind.{flat_map-append}
+use Rattle.mm_word.specs.Cause.{cause_numbers}
 
 -- each of a list stands in a relation to one of another list, results have the lines of the first of them, and the rest is left
 pub record LeftOver {A B O : Type 0} (R : A → B → Type 0) (lines : A → List ℕ) (text : O → List ℕ) (all : List A) (begin : List ℕ) (out : List O) (rest : List B) : Type 0 where
@@ -50,13 +51,13 @@ module _ {A B O : Type 0} (R : A → B → Type 0) (lines : A → List ℕ) (tex
   left_none begin out now none h = end_of begin out h.left (subst (AllZip R h.left) none h.stand) h.same
 
 -- the lines of one number more
-pub range_more : (f : ℕ → List ℕ) (k : ℕ) → 1 ≤ k → k < 14 → flat_map f (take ((k + 1) - 1) (range_with_len 1 13)) ≡ flat_map f (take (k - 1) (range_with_len 1 13)) ++ f k
+pub range_more : (f : ℕ → List ℕ) (k : ℕ) → 1 ≤ k → k < 14 → flat_map f (take ((k + 1) - 1) cause_numbers) ≡ flat_map f (take (k - 1) cause_numbers) ++ f k
 range_more f k low high =
     let items : List ℕ = range_with_len 1 13 in
     let next : (k + 1) - 1 ≡ (k - 1) + 1 = omega arith in
     let inside : k - 1 < 13 = omega arith in
     let back : 1 + (k - 1) ≡ k = omega arith in
     ap (λ n. flat_map f (take n items)) next
-    ∙ ap (flat_map f) (take_more items (k - 1) 0 (let long = length-range_with_len 1 13 in omega (arith, long, inside)))
+    ∙ ap (flat_map f) (take_more items (k - 1) 0 (let long : length items ≡ 13 = length-range_with_len 1 13 in omega (arith, long, inside)))
     ∙ flat_map-append f (take (k - 1) items) (get_or items (k - 1) 0 ∷ [])
     ∙ ap (λ l. flat_map f (take (k - 1) items) ++ l) (append-nil (f (get_or items (k - 1) 0)) ∙ ap f (get_or-range_with_len 1 13 (k - 1) 0 inside ∙ back))

@@ -1,14 +1,15 @@
 -- The changed cells of a memory, page by page and cell by cell.
 use Rattle.std.proofs.Common.{◌≡◌, inl, inr, ℕ, zero, suc, ◌+◌, ◌*◌, ◌^◌, ◌<◌, Bool, true, false, if◌then◌else◌, List}
-use Rattle.std.proofs.Common.{[], ◌∷◌, ◌++◌, map, take, replicate, length, slice_get, Option, Some, None, is_some, refl}
+use Rattle.std.proofs.Common.{[], ◌∷◌, ◌++◌, map, take, length, slice_get, Option, Some, None, is_some, refl}
 use Rattle.std.proofs.Common.{sym, ap, ◌∙◌, subst, arith, T, append_assoc}
 use Rattle.std.specs.List.{flat_map}
 use Rattle.std.proofs.lemmas.List.{take_all, flat_map_more}
+use Rattle.mm_explore.proofs.Assembling.{there_get}
 use Rattle.mm_word.specs.declared.word.Cell.{Cell}
 use Rattle.mm_model.specs.Image.{Image}
-use Rattle.mm_model.specs.Memory.{Memory, page_at, cell_in, cell_at, is_mapped, zero_cell, IsPaged}
+use Rattle.mm_model.specs.Memory.{Memory, page_at, cell_in, cell_at, is_mapped, IsPaged}
 use Rattle.mm_model.specs.Report.{same_cell, cells_or_zero, changes_from}
-use Rattle.mm_model.proofs.Memories.{page_whole}
+use Rattle.mm_model.proofs.Memories.{page_whole, zeros_get}
 use Rattle.mm_laws.proofs.CellViews.{IsIn}
 use Rattle.mm_laws.proofs.ChangedCells.{cell_or_zero, cell_of, found_page}
 use Rattle.mm_explore.specs.Edits.{base_cell, if_changed, changed_at, entry}
@@ -44,16 +45,6 @@ entry_is w c d = by (same_cell c d)
     by : (b : Bool) → entry w (if b then None else Some c) ≡ (if b then [] else (w, c) ∷ [])
     by true = refl
     by false = refl
-
-zeros_get : (n k : ℕ) → k < n → slice_get (replicate n zero_cell) k ≡ Some zero_cell
-zeros_get zero k lt = absurd (omega (arith, lt))
-zeros_get (suc n) zero lt = refl
-zeros_get (suc n) (suc k) lt = zeros_get n k (omega (arith, lt))
-
-there_get : (xs : List Cell) (k : ℕ) → k < length xs → slice_get xs k ≡ Some (cell_or_zero (slice_get xs k))
-there_get [] k lt = absurd (omega (arith, lt))
-there_get (x ∷ xs) zero lt = refl
-there_get (x ∷ xs) (suc k) lt = there_get xs k (omega (arith, lt))
 
 -- a cell of a page; a zero if the page is not mapped
 pub page_get : (m : Memory) → IsPaged m → (q k : ℕ) → k < 512 → (o : Option (List Cell)) → page_at m q ≡ o → slice_get (cells_or_zero o) k ≡ Some (cell_or_zero (cell_in o k))

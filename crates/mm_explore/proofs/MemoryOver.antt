@@ -7,6 +7,8 @@ use Rattle.std.specs.Ordering.{nat_cmp}
 use Rattle.std.specs.FinMap.{find}
 use Rattle.std.proofs.lemmas.Bool.{cases_eq}
 use Rattle.std.proofs.lemmas.List.{take_all}
+use Rattle.mm_model.proofs.EffectWords.{cell_words}
+use Rattle.mm_model.proofs.Sames.{cells_same}
 use Rattle.mm_word.specs.declared.word.Cell.{Cell}
 use Rattle.mm_word.specs.Word.{IsWord}
 use Rattle.mm_model.specs.Image.{Image}
@@ -20,7 +22,7 @@ use Rattle.mm_laws.proofs.AlikeWorlds.{whole_memory}
 use Rattle.mm_explore.specs.Assembled.{base_memory, put_cells}
 use Rattle.mm_explore.specs.Edits.{base_cell, if_changed, changed_at, as_base, AreAtWords}
 use Rattle.mm_explore.specs.Holds.{IsMemoryOf}
-use Rattle.mm_explore.proofs.Assembling.{as_in_image, base_cell_at, put_frames_all, put_paged_all, cells_same, cell_word, image_word}
+use Rattle.mm_explore.proofs.Assembling.{as_in_image, base_cell_at, put_frames_all, put_paged_all, image_word}
 use Rattle.mm_explore.proofs.CellLists.{find_here, find_later, same_base, find_both, either, rises_left, rises_right, in_one, change_found, changes_at_words, over, put_found, Aligned}
 
 -- 1. The image's cells at the words of a list.
@@ -103,7 +105,7 @@ module _ (i : Image) (img : IsImage i) (m n : Memory) (hm : IsMemoryOf i m) (hn 
   unchanged k w c h e none = by (same_cell c (base_cell i w)) refl
     where
       by : (b : Bool) → same_cell c (base_cell i w) ≡ b → c ≡ base_cell i w
-      by true same = cells_same c (base_cell i w) (cell_word k w c h.words e) (base_is_word w) same
+      by true same = cells_same c (base_cell i w) (cell_words k w c h.words e) (base_is_word w) same
       by false differs =
           let is : changed_at i k w ≡ Some c = ap (if_changed (base_cell i w)) e ∙ ap (λ b. if b then None else Some c) differs in
           let two : ◌≡◌ {A = Option Cell} None (Some c) = sym none ∙ is in

@@ -8,7 +8,7 @@ use Rattle.mm_word.specs.declared.word.Pre.TheVariants.{Any}
 use Rattle.mm_word.specs.declared.word.Post.{Post}
 use Rattle.mm_word.specs.declared.word.Post.TheVariants.{Full, Empty}
 use Rattle.mm_model.specs.Memory.{Memory, IsPaged, page_of, place_of, page_at, cell_in, cell_at, put_cell, full_after, zero_cell}
-use Rattle.mm_model.proofs.Memories.{put_cell-unmapped, put_paged, cell_at-aligned, page_whole}
+use Rattle.mm_model.proofs.Memories.{put_cell-unmapped, put_paged, cell_at-aligned, page_whole, place_within}
 use Rattle.mm_model.specs.Image.{Image}
 use Rattle.mm_mem.specs.Answers.{put_where, after_store}
 use Rattle.mm_explore.specs.Assembled.{put_cells}
@@ -22,9 +22,6 @@ bit_is : (full old : Bool) → full_after (post_of full) old ≡ full
 bit_is true old = refl
 bit_is false old = refl
 
-place_small : (w : ℕ) → place_of w < 512
-place_small w = omega arith
-
 pub stores : (m : Memory) (w : ℕ) (c : Cell) → IsPaged m → w % 8 ≡ 0 → after_store m w c.word Any (post_of c.full) ≡ put_cell m w c
 stores m w c h a = by (page_at m (page_of w)) refl
   where
@@ -35,7 +32,7 @@ stores m w c h a = by (page_at m (page_of w)) refl
     by (Some cells) e =
         let whole = page_whole m h (page_of w) cells e in
         let long = whole.cells in
-        let small = place_small w in
+        let small = place_within w in
         let some : cell_at m w ≡ Some (get_or cells (place_of w) zero_cell) =
         cell_at-aligned m w a ∙ ap (λ o. cell_in o (place_of w)) e ∙ slice_get-get_or cells (place_of w) zero_cell (omega (arith, long, small)) in
         ap (λ o. put_where m w Any o (λ old. record { word = c.word; full = full_after (post_of c.full) old.full })) some
@@ -63,14 +60,11 @@ base_next i m xs k x e =
     sym (put_last m (map (as_base i) (take k xs)) (as_base i x))
     ∙ ap (put_cells m) (sym (base_last i (take k xs) x) ∙ ap (map (as_base i)) (sym (take_got xs k x e)))
 
-pub got_at : {X : Type 0} (xs : List X) (i : ℕ) (d : X) → i < length xs → slice_get xs i ≡ Some (get_or xs i d)
-got_at xs i d lt = slice_get-get_or xs i d lt
-
 pub listed_step : (m before now : Memory) (xs : List (ℕ × Cell)) (i : ℕ) (d e : ℕ × Cell) → i < length xs
     → before ≡ put_cells m (take i xs) → now ≡ put_cell before (get_or xs i d).0 (get_or xs i e).1 → now ≡ put_cells m (take (i + 1) xs)
 listed_step m before now xs i d e lt eb en =
-    let gd = got_at xs i d lt in
-    let ge = got_at xs i e lt in
+    let gd = slice_get-get_or xs i d lt in
+    let ge = slice_get-get_or xs i e lt in
     let same : get_or xs i d ≡ get_or xs i e = cc in
     en
     ∙ ap (λ (k : Memory). put_cell k (get_or xs i d).0 (get_or xs i e).1) eb
@@ -83,4 +77,4 @@ base_step img m before now xs i d c lt ec eb en =
     en
     ∙ ap (λ (k : Memory). put_cell k (get_or xs i d).0 c) eb
     ∙ ap (put_cell (put_cells m (map (as_base img) (take i xs))) (get_or xs i d).0) ec
-    ∙ base_next img m xs i (get_or xs i d) (got_at xs i d lt)
+    ∙ base_next img m xs i (get_or xs i d) (slice_get-get_or xs i d lt)

@@ -3,7 +3,7 @@ use Rattle.std.proofs.Common.{◌≡◌, ◌⊎◌, inl, inr, ℕ, ◌+◌, ◌-
 use Rattle.std.proofs.Common.{if◌then◌else◌, List, [], ◌∷◌, map, Option, Some, None, refl, sym, ap, ◌∙◌, subst, arith}
 use Rattle.std.proofs.Common.{eqb-true, leb-true}
 use Rattle.std.specs.Prelude.{Contains}
-use Rattle.std.specs.List.{AllByRecursion, filter}
+use Rattle.std.specs.List.{filter}
 use Rattle.std.proofs.lemmas.Bool.{both_ways}
 use Rattle.std.proofs.lemmas.List.Elements.{Contains-append_left, Contains-append_right}
 use Rattle.mm_model.specs.declared.slot.Pending.{Pending}
@@ -13,6 +13,7 @@ use Rattle.mm_model.specs.State.{ThreadRow, Core, State, row_in, slot_of, slot_a
 use Rattle.mm_model.specs.Turn.{Turned, is_running, started, idle, arrives, taken_by_port, taken_by, turn}
 use Rattle.mm_model.specs.Run.{turn_of, after, run}
 use Rattle.std.specs.List.Sorted.{IsStrictlyIncreasing}
+use Rattle.mm_laws.proofs.AlikeRows.{numbers_above}
 use Rattle.mm_model.specs.Image.{Image, start}
 use Rattle.mm_model.specs.Spelling.{IsImage}
 use Rattle.mm_model.specs.Fits.{IsSlot, slots_of, IsFormed, IsState, Fits}
@@ -121,11 +122,6 @@ others_are_idle s n never = elim (moves_or_idles s n) [
 
 abbrev Lower : ThreadRow → ThreadRow → Type 0
 Lower a b = a.slot.number < b.slot.number
-
-numbers_above : (n : ℕ) (rows : List ThreadRow) → AllByRecursion (λ y. n < y) (map (λ (s : Slot). s.number) (map (λ (row : ThreadRow). row.slot) rows))
-    → AllByRecursion (λ (x : ThreadRow). n < x.slot.number) rows
-numbers_above n [] h = tt
-numbers_above n (row ∷ rows) h = (h.0, numbers_above n rows h.1)
 
 rows_rise : (rows : List ThreadRow) → IsStrictlyIncreasing (map (λ (s : Slot). s.number) (map (λ (row : ThreadRow). row.slot) rows)) → EachPair Lower rows
 rows_rise [] h = tt

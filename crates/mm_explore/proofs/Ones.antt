@@ -11,7 +11,7 @@ use Rattle.mm_explore.specs.Findings.{Span, word_in, IsApart, AreSpans, any_kind
 use Rattle.mm_explore.specs.Texts.{Exploration, IsExploration, exploration_text}
 use Rattle.mm_explore.specs.Laws.{ExplorationsAreOne}
 use Rattle.mm_explore.specs.Searching.{UpTo}
-use Rattle.mm_explore.proofs.Orders.{before_self, before_through}
+use Rattle.mm_explore.proofs.Orders.{before_self, before_through, numbers}
 use Rattle.mm_explore.proofs.Members.{none_in, in_cases, all_at}
 use Rattle.mm_model.specs.Counted.{writes}
 
@@ -112,25 +112,13 @@ no_longer P s r ss rs k m e lt =
     not_behind P s ss k (subst P here (m.only.0 s.count lt))
 
 same_count : (P : ℕ → Type 0) (s r : Span) (ss rs : List Span) → AreSpans P (s ∷ ss) → AreSpans P (r ∷ rs) → s.first ≡ r.first → s.count ≡ r.count
-same_count P s r ss rs k m e = elim (order_of s.count r.count) [
+same_count P s r ss rs k m e = elim (numbers s.count r.count) [
   | inl lt ↦ absurd (no_longer P s r ss rs k m e lt)
   | inr other ↦ elim other [
     | inl same ↦ same
     | inr gt ↦ absurd (no_longer P r s rs ss m k (sym e) gt)
   ]
 ]
-  where
-    order_of : (a b : ℕ) → (a < b) ⊎ ((a ≡ b) ⊎ (b < a))
-    order_of zero zero = inr (inl refl)
-    order_of zero (suc b) = inl (omega arith)
-    order_of (suc a) zero = inr (inr (omega arith))
-    order_of (suc a) (suc b) = elim (order_of a b) [
-      | inl lt ↦ inl (omega (arith, lt))
-      | inr other ↦ elim other [
-        | inl e ↦ inr (inl (ap suc e))
-        | inr gt ↦ inr (inr (omega (arith, gt)))
-      ]
-    ]
 
 abbrev Behind : (ℕ → Type 0) → Span → ℕ → Type 0
 Behind P s w = P w × (word_in s s.count < w)

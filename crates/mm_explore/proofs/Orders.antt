@@ -6,7 +6,7 @@ use Rattle.mm_explore.specs.Searching.{UpTo}
 -- 1. Numbers.
 
 -- the order of two numbers
-numbers : (a b : ℕ) → (a < b) ⊎ ((a ≡ b) ⊎ (b < a))
+pub numbers : (a b : ℕ) → (a < b) ⊎ ((a ≡ b) ⊎ (b < a))
 numbers zero zero = inr (inl refl)
 numbers zero (suc b) = inl (omega arith)
 numbers (suc a) zero = inr (inr (omega arith))

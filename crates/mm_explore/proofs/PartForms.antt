@@ -1,15 +1,20 @@
 -- The parts of a configuration, read again from their numbers.
 use Rattle.std.proofs.Common.{◌≡◌, ℕ, suc, ◌+◌, ◌*◌, ◌/◌, ◌%◌, ◌<◌, Bool, true, false, if◌then◌else◌, nat_eq, List, []}
-use Rattle.std.proofs.Common.{◌∷◌, ◌++◌, map, length, refl, sym, ap, ◌∙◌, arith, eqb-true, eq-eqb, append_assoc}
-use Rattle.std.specs.Prelude.{◌==◌}
+use Rattle.std.proofs.Common.{◌∷◌, ◌++◌, map, length, refl, sym, ap, ◌∙◌, arith, append_assoc}
+use Rattle.std.specs.Prelude.{◌==◌, unwrap_or, Option}
 use Rattle.std.specs.List.{AllByRecursion, flat_map}
 use lib.Pointwise.{pointwise, pointwise_decides}
+use Rattle.mm_model.proofs.ImageBytes.SpelledRecords.{is_spelled}
+use Rattle.mm_model.proofs.OneIf.{below_two, one_back}
+use Rattle.mm_explore.proofs.Finals.{numbers_decide}
 use Rattle.mm_word.specs.declared.cause.Cause.{Cause}
+use Rattle.mm_word.specs.declared.cause.Cause.TheVariants.{NotPointer}
 use Rattle.mm_word.specs.declared.perm.Perm.TheVariants.{Key}
 use Rattle.mm_word.specs.declared.word.Word.{Word}
 use Rattle.mm_word.specs.declared.word.Cell.{Cell}
 use Rattle.mm_word.specs.Pointer.{Pointer, IsWellFormed, pointer_of, bits_of}
-use Rattle.mm_word.specs.Cause.{number_of}
+use Rattle.mm_word.specs.Cause.{number_of, cause_of}
+use Rattle.mm_word.proofs.Causes.{cause_back}
 use Rattle.mm_word.specs.Word.{IsWord, word_bits, is_pointer}
 use Rattle.mm_word.proofs.Packing.{pointer_of-bits_of}
 use Rattle.mm_model.specs.declared.event.Event.{Event}
@@ -21,13 +26,13 @@ use Rattle.mm_model.specs.Slot.{Slot}
 use Rattle.mm_thread.specs.Output.{Output}
 use Rattle.mm_machine.specs.Snapshot.{page_numbers}
 use Rattle.mm_explore.specs.Configurations.{uncounted_slot}
-use Rattle.mm_explore.specs.Kept.{Parts, first_number, behind, word_of, word_form, word_from, cause_at, pointer_or_key}
+use Rattle.mm_explore.specs.Kept.{Parts, first_number, behind, word_of, word_form, word_from, pointer_or_key}
 use Rattle.mm_explore.specs.Kept.{event_form, event_from, events_by, events_form, events_from, bytes_by, output_form}
 use Rattle.mm_explore.specs.Kept.{outputs_form, outputs_from, pages_form, pages_by, pages_from, cells_form, cells_from}
 use Rattle.mm_explore.specs.Kept.{slots_form, slots_from, numbers_of, parts_with_pages, parts_with_outputs}
 use Rattle.mm_explore.specs.Kept.{parts_with_events, parts_with_slots, parts_from, numbers_by}
-use Rattle.mm_explore.proofs.WordForms.{spells_own, word_again, word_read}
-use Rattle.mm_explore.proofs.SlotForms.{cause_back, AreKeepable, slots_read}
+use Rattle.mm_explore.proofs.WordForms.{word_again, word_read}
+use Rattle.mm_explore.proofs.SlotForms.{AreKeepable, slots_read}
 
 -- 1. Events.
 
@@ -39,7 +44,7 @@ pub record IsKeptEvent (x : ℕ × Event) : Type 0 where
 
 key_again : (p : Pointer) → IsWellFormed p → pointer_or_key (bits_of p) ≡ p
 key_again p h =
-    ap (λ b. if b then pointer_of (bits_of p) else record { perm = Key; log = 0; addr = 0 }) (spells_own p h) ∙ pointer_of-bits_of p h
+    ap (λ b. if b then pointer_of (bits_of p) else record { perm = Key; log = 0; addr = 0 }) (is_spelled p h) ∙ pointer_of-bits_of p h
 
 low : (n : ℕ) → n < 64 → n % 256 ≡ n
 low n lt = omega (arith, lt)
@@ -55,11 +60,11 @@ event_read x ns h =
     let tail = word_form e.value_op ++ ns in
     let queue = low x.0 h.queue in
     let slot = low e.slot h.slot in
-    let cause = cause_back e.cause in
+    let cause = ap (λ (o : Option Cause). unwrap_or o NotPointer) (cause_back e.cause) in
     let ip = key_again e.ip h.words.ip in
     let addr = word_read e.addr_op tail h.words.address in
     let value = word_read e.value_op ns h.words.value in
-    let made : Word × List ℕ → (ℕ × Event) × List ℕ = λ a. event_made (x.0 % 256) (e.slot % 256) (cause_at (number_of e.cause)) (pointer_or_key (bits_of e.ip)) a.0 (word_from a.1) in
+    let made : Word × List ℕ → (ℕ × Event) × List ℕ = λ a. event_made (x.0 % 256) (e.slot % 256) (unwrap_or (cause_of (number_of e.cause)) NotPointer) (pointer_or_key (bits_of e.ip)) a.0 (word_from a.1) in
     ap (λ l. made (word_from l)) (append_assoc (word_form e.addr_op) (word_form e.value_op) ns)
     ∙ ap made addr
     ∙ (λ j. event_made (queue j) (slot j) (cause j) (ip j) e.addr_op (value j))
@@ -109,9 +114,6 @@ numbers_read : (numbers ns : List ℕ) → numbers_by (length numbers) (numbers 
 numbers_read [] ns = refl
 numbers_read (n ∷ numbers) ns = ap (λ (r : List ℕ × List ℕ). let made : List ℕ × List ℕ = (n ∷ r.0, r.1) in made) (numbers_read numbers ns)
 
-numbers_decide : (a b : ℕ) → (nat_eq a b ≡ true → a ≡ b) × (a ≡ b → nat_eq a b ≡ true)
-numbers_decide a b = (eqb-true a b, eq-eqb a b)
-
 pub pages_read : (base pages ns : List ℕ) → pages_from base (pages_form base pages ++ ns) ≡ (pages, ns)
 unfolding pages_from pages_form
 pages_read base pages ns = by (pointwise nat_eq pages base) refl
@@ -130,21 +132,13 @@ head_tag a b w low high = omega (arith, low, high)
 head_full : (a b w : ℕ) → a < 2 → (a + 2 * (b + 2 * w)) % 2 ≡ a
 head_full a b w low = omega (arith, low)
 
-one_small : (b : Bool) → one_if b < 2
-one_small true = omega arith
-one_small false = omega arith
-
-one_back : (b : Bool) → (one_if b == 1) ≡ b
-one_back true = refl
-one_back false = refl
-
 pub cells_read : (cells : List (ℕ × Cell)) → AllByRecursion (λ (x : ℕ × Cell). IsWord x.1.word) cells → cells_from (cells_form cells) ≡ cells
 cells_read [] h = refl
 cells_read (x ∷ cells) h =
     let full = one_if x.1.full in
     let tag = one_if (is_pointer x.1.word) in
-    let small_full = one_small x.1.full in
-    let small_tag = one_small (is_pointer x.1.word) in
+    let small_full = below_two x.1.full in
+    let small_tag = below_two (is_pointer x.1.word) in
     let make : ℕ → Bool → Bool → List (ℕ × Cell) = λ w t f. (w, record { word = word_of t (word_bits x.1.word); full = f }) ∷ cells_from (cells_form cells) in
     let word = head_word full tag x.0 small_full small_tag in
     let tagged = ap (λ n. n == 1) (head_tag full tag x.0 small_full small_tag) ∙ one_back (is_pointer x.1.word) in

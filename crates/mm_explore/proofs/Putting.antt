@@ -8,6 +8,7 @@ use Rattle.std.specs.Prelude.{not}
 use Rattle.std.specs.List.{list_any}
 use Rattle.std.proofs.lemmas.Option.{slice_get_within, get_or_from_slice_get}
 use Rattle.std.proofs.lemmas.List.{take_more}
+use Rattle.mm_mem.proofs.PackedCells.{byte_of_bool}
 use Rattle.mm_model.specs.declared.event.Event.{Event}
 use Rattle.mm_machine.specs.Snapshot.{page_numbers}
 use Rattle.mm_word.specs.declared.word.Cell.{Cell}
@@ -79,10 +80,6 @@ slots_uncounted base slots =
 
 -- 4. A slot and those behind it.
 
-byte_of : (b : Bool) → bool_byte b ≡ one_if b
-byte_of true = refl
-byte_of false = refl
-
 pub more_ok : {T E P Q : Type 0} → (r : Result T E) → (P → Q) → OnOk r P → OnOk r Q
 more_ok (Ok t) f h = f h
 more_ok (Err e) f h = h
@@ -100,7 +97,7 @@ module _ (slots : List Slot) (at : ℕ) (s : Slot) (got : slice_get slots at ≡
   flags_got [] b same later some first is rest = absurd (omega (arith, some))
   flags_got (a ∷ base) b same later some first is rest =
       let tail = rest ∙ ap (λ l. number_of_flags (slot_flags l (drop (at + 1) slots))) (rest_is a base) in
-      let head = byte_of (not same) ∙ ap (λ t. one_if (not t)) (is ∙ ap (λ x. is_base x s) first) in
+      let head = byte_of_bool (not same) ∙ ap (λ t. one_if (not t)) (is ∙ ap (λ x. is_base x s) first) in
       (λ j. head j + 2 * tail j) ∙ ap (λ l. number_of_flags (slot_flags (a ∷ base) l)) (sym (drop_got slots at s got))
 
   pub forms_got : (base : List Slot) (b : Slot) (old mid new : List ℕ) → 1 ≤ length base → b ≡ get_or base 0 b

@@ -3,7 +3,8 @@ use Rattle.std.proofs.Common.{◌≡◌, inl, inr, ℕ, ◌<◌, Bool, true, fal
 use Rattle.std.proofs.Common.{zip, zero, suc, codes, decimal, Option, Some, None, slice_get, refl, sym, subst}
 use Rattle.std.specs.Prelude.{Contains, IfSome, slice_index_or}
 use Rattle.std.proofs.lemmas.Option.{slice_get_within}
-use Rattle.std.specs.List.{AllByRecursion, AllZip, flat_map, range_with_len}
+use Rattle.std.specs.List.{AllByRecursion, AllZip, flat_map}
+use Rattle.mm_word.specs.Cause.{cause_numbers}
 use Rattle.mm_word.specs.declared.perm.Kind.{Kind}
 use Rattle.mm_word.specs.Access.{Touch}
 use Rattle.mm_model.specs.Image.{Image, start}
@@ -134,11 +135,11 @@ flat_alike f g same [] = refl
 flat_alike f g same (x ∷ xs) = let rest = flat_alike f g same xs in let one = same x in λ j. one j ++ rest j
 
 pub faults_text : (i : Image) (list : List (List ℕ)) (kept : ℕ → ℕ → Option Origin) → ((slot cause : ℕ) → IsFrom list (first_fault i list slot cause) (kept slot cause)) → (slots : List Slot)
-    → flat_map (λ (s : Slot). flat_map (λ cause. fault_found list s.number cause (kept s.number cause)) (range_with_len 1 13)) slots ≡ flat_map (faults_of i list) slots
+    → flat_map (λ (s : Slot). flat_map (λ cause. fault_found list s.number cause (kept s.number cause)) cause_numbers) slots ≡ flat_map (faults_of i list) slots
 faults_text i list kept are slots =
-    flat_alike (λ (s : Slot). flat_map (λ cause. fault_found list s.number cause (kept s.number cause)) (range_with_len 1 13)) (faults_of i list)
+    flat_alike (λ (s : Slot). flat_map (λ cause. fault_found list s.number cause (kept s.number cause)) cause_numbers) (faults_of i list)
     (λ s. flat_alike (λ cause. fault_found list s.number cause (kept s.number cause)) (λ cause. texts.fault_lines s.number cause (first_fault i list s.number cause))
-    (λ cause. fault_text list s.number cause (first_fault i list s.number cause) (kept s.number cause) (are s.number cause)) (range_with_len 1 13)) slots
+    (λ cause. fault_text list s.number cause (first_fault i list s.number cause) (kept s.number cause) (are s.number cause)) cause_numbers) slots
 
 pub origin_inside : (list : List (List ℕ)) (x : Option Extension) (o : Option Origin) → IsFrom list x o → IfSome o (λ (o : Origin). o.from < length list)
 origin_inside list None None h = tt

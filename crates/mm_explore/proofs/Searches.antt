@@ -3,6 +3,7 @@ use Rattle.std.proofs.Common.{◌≡◌, ◌⊎◌, inl, inr, ℕ, ◌<◌, ◌�
 use Rattle.std.specs.Prelude.{Contains}
 use Rattle.std.specs.List.{AllByRecursion, flat_map}
 use Rattle.std.proofs.lemmas.List.Elements.{Contains-append_left, Contains-append_cases, Contains-push, Contains-push_cases}
+use Rattle.mm_model.proofs.CoreRows.{each_push}
 use Rattle.mm_model.specs.Image.{Image, start}
 use Rattle.mm_model.specs.Spelling.{IsImage}
 use Rattle.mm_model.specs.Run.{run}
@@ -89,10 +90,6 @@ wider i list p t c = record { by = c.by; inside = Contains-append_left list (p �
 turns_more : (i : Image) (list : List (List ℕ)) (p : List ℕ) → flat_map (extensions i) (list ++ p ∷ []) ≡ flat_map (extensions i) list ++ extensions i p
 turns_more i [] p = append-nil (extensions i p)
 turns_more i (t ∷ list) p = ap (λ l. extensions i t ++ l) (turns_more i list p) ∙ sym (append_assoc (extensions i t) (flat_map (extensions i) list) (extensions i p))
-
-all_push : {X : Type 0} (P : X → Type 0) (xs : List X) (x : X) → AllByRecursion P xs → P x → AllByRecursion P (xs ++ x ∷ [])
-all_push P [] x h k = (k, tt)
-all_push P (y ∷ xs) x h k = (h.0, all_push P xs x h.1 k)
 
 module _ (i : Image) (img : IsImage i) (limit : ℕ) where
   pub search_begins : 1 ≤ limit → Open i limit ([] ∷ []) [] (explored_turns i ([] ∷ []))
@@ -198,7 +195,7 @@ module _ (i : Image) (img : IsImage i) (limit : ℕ) where
             | inl e ↦ subst (Before v) e (before_next v inside)
             | inr never ↦ absurd (none_in w never)
           ]);
-          least = all_push (IsLeast i) list next o.least next_least;
+          least = each_push (IsLeast i) list next o.least next_least;
           few = let long = length-append list (next ∷ []) in omega (arith, long, room);
           covered = λ y there. elim (Contains-push_cases done x y there) [
             | inl was ↦ wider i list next (extended y) (o.covered y was)

@@ -1,15 +1,17 @@
 -- Slots, read again from their differences from the image's.
-use Rattle.std.proofs.Common.{◌≡◌, ℕ, suc, ◌+◌, ◌*◌, ◌/◌, ◌%◌, ◌^◌, ◌<◌, ◌≤◌, Bool, true, false, not, ◌&&◌, ◌||◌}
+use Rattle.std.proofs.Common.{◌≡◌, ℕ, suc, ◌+◌, ◌*◌, ◌/◌, ◌%◌, ◌^◌, ◌<◌, ◌≤◌, Bool, true, false, not, ◌||◌}
 use Rattle.std.proofs.Common.{if◌then◌else◌, List, [], ◌∷◌, ◌++◌, map, length, Option, Some, None, refl, sym, ap, ◌∙◌}
 use Rattle.std.proofs.Common.{subst, arith, eqb-true, append_assoc}
 use Rattle.std.specs.Prelude.{◌==◌, replicate}
 use Rattle.std.specs.List.{AllByRecursion, flat_map, list_any}
-use Rattle.std.proofs.lemmas.Bool.{le-ltb}
-use Rattle.mm_word.specs.declared.cause.Cause.{Cause}
-use Rattle.mm_word.specs.declared.cause.Cause.TheVariants.{NotPointer, Perm, Bounds, Align, NoPage, Sync, Illegal, Priv, DivZero, Malformed, Trap, NoSlot, OutFull}
+use Rattle.std.proofs.lemmas.Bool.{le-ltb, cond-false, ne_eqb, and_parts, not-true}
+use Rattle.mm_model.proofs.ImageBytes.Apart.{number_of_flags-below}
+use Rattle.mm_model.proofs.Sames.{bits_same, words_same}
+use Rattle.mm_model.proofs.OneIf.{below_two, one_back}
 use Rattle.mm_word.specs.declared.word.Word.{Word}
 use Rattle.mm_word.specs.declared.word.Word.TheVariants.{Ptr}
-use Rattle.mm_word.specs.Cause.{number_of}
+use Rattle.mm_word.specs.Cause.{number_of, cause_of}
+use Rattle.mm_word.proofs.Causes.{cause_back, number_within}
 use Rattle.mm_word.specs.Perm.{can_fetch}
 use Rattle.mm_word.specs.Pointer.{Pointer, IsWellFormed, bits_of}
 use Rattle.mm_word.specs.Word.{is_pointer}
@@ -23,44 +25,32 @@ use Rattle.mm_model.specs.Slot.{Slot}
 use Rattle.mm_explore.specs.Configurations.{uncounted_slot, are_some}
 use Rattle.mm_explore.specs.Findings.{state_number, same_state}
 use Rattle.mm_explore.specs.Kept.{changed_flags, changed_bits, words_from, load_form, loads_from, few_loads}
-use Rattle.mm_explore.specs.Kept.{register_flags, cause_at, state_at, ip_of, slot_head, slot_masks, slot_form}
+use Rattle.mm_explore.specs.Kept.{register_flags, state_at, ip_of, slot_head, slot_masks, slot_form}
 use Rattle.mm_explore.specs.Kept.{slot_from, is_base, slot_flags, slot_forms, slots_by, slots_form, slots_from}
-use Rattle.mm_explore.proofs.WordForms.{flags_of, flags_below, ip_again, words_same, AreWords, words_read, length-changed, IsLoad, loads_read}
+use Rattle.mm_explore.proofs.WordForms.{flags_of, ip_again, AreWords, words_read, length-changed, IsLoad, loads_read}
 
 -- 1. States.
 
--- a fault and its number
-fault_form : (c : Cause) → (cause_at (number_of c) ≡ c) × (state_at (3 + number_of c) ≡ Halted (Some c)) × (number_of c ≤ 13)
-fault_form NotPointer = (refl, refl, omega arith)
-fault_form Perm = (refl, refl, omega arith)
-fault_form Bounds = (refl, refl, omega arith)
-fault_form Align = (refl, refl, omega arith)
-fault_form NoPage = (refl, refl, omega arith)
-fault_form Sync = (refl, refl, omega arith)
-fault_form Illegal = (refl, refl, omega arith)
-fault_form Priv = (refl, refl, omega arith)
-fault_form DivZero = (refl, refl, omega arith)
-fault_form Malformed = (refl, refl, omega arith)
-fault_form Trap = (refl, refl, omega arith)
-fault_form NoSlot = (refl, refl, omega arith)
-fault_form OutFull = (refl, refl, omega arith)
-
-pub cause_back : (c : Cause) → cause_at (number_of c) ≡ c
-cause_back c = (fault_form c).0
+halted_at : (n : ℕ) → state_at (3 + n) ≡ Halted (cause_of n)
+halted_at n =
+    cond-false (3 + n == 0) _ _ (ne_eqb (3 + n) 0 (λ e. omega (arith, e)))
+    ∙ cond-false (3 + n == 1) _ _ (ne_eqb (3 + n) 1 (λ e. omega (arith, e)))
+    ∙ cond-false (3 + n == 2) _ _ (ne_eqb (3 + n) 2 (λ e. omega (arith, e)))
+    ∙ ap (λ k. Halted (cause_of k)) (omega arith)
 
 pub state_back : (s : SlotState) → state_at (state_number s) ≡ s
 state_back Running = refl
 state_back Waiting = refl
 state_back Taken = refl
 state_back (Halted None) = refl
-state_back (Halted (Some c)) = (fault_form c).1
+state_back (Halted (Some c)) = halted_at (number_of c) ∙ ap Halted (cause_back c)
 
 state_small : (s : SlotState) → state_number s < 32
 state_small Running = omega arith
 state_small Waiting = omega arith
 state_small Taken = omega arith
 state_small (Halted None) = omega arith
-state_small (Halted (Some c)) = let small = (fault_form c).2 in omega (arith, small)
+state_small (Halted (Some c)) = let small = (number_within c).1 in omega (arith, small)
 
 -- 2. The numbers of a head and of masks.
 
@@ -82,20 +72,12 @@ masks_low a b lt = omega (arith, lt)
 masks_high : (a b : ℕ) → a < 65536 → (a + 65536 * b) / 65536 ≡ b
 masks_high a b lt = omega (arith, lt)
 
-one_small : (b : Bool) → one_if b < 2
-one_small true = omega arith
-one_small false = omega arith
-
-one_back : (b : Bool) → (one_if b == 1) ≡ b
-one_back true = refl
-one_back false = refl
-
 length-pointers : (words : List Word) → length (map is_pointer words) ≡ length words
 length-pointers [] = refl
 length-pointers (w ∷ words) = ap suc (length-pointers words)
 
 flags_16 : (bs : List Bool) → length bs ≡ 16 → number_of_flags bs < 65536
-flags_16 bs e = let P : ℕ → Type 0 = λ n. number_of_flags bs < 2 ^ n in subst P e (flags_below bs)
+flags_16 bs e = let P : ℕ → Type 0 = λ n. number_of_flags bs < 2 ^ n in subst P e (number_of_flags-below bs)
 
 registers_of : (bs : List Bool) → length bs ≡ 16 → register_flags (number_of_flags bs) ≡ bs
 unfolding register_flags
@@ -171,7 +153,7 @@ module _ (base : Slot) where
     small_a = state_small s.state
 
     small_b : b < 2
-    small_b = one_small s.past
+    small_b = below_two s.past
 
     state_is : state_at (slot_head s % 32) ≡ s.state
     state_is = ap state_at (head_state a b c d small_a) ∙ state_back s.state
@@ -220,19 +202,6 @@ module _ (base : Slot) where
 
 -- 4. A slot that is as in the image.
 
-both_are : (x y : Bool) → (x && y) ≡ true → (x ≡ true) × (y ≡ true)
-both_are true y e = (refl, e)
-both_are false y e = cc
-
-not_so : (x : Bool) → not x ≡ true → x ≡ false
-not_so true e = cc
-not_so false e = refl
-
-bits_same : (x y : Bool) → same_bit x y ≡ true → x ≡ y
-bits_same true y e = sym e
-bits_same false true e = cc
-bits_same false false e = refl
-
 none_set : (bs : List Bool) → list_any (λ b. b) bs ≡ false → bs ≡ replicate (length bs) false
 none_set [] e = refl
 none_set (true ∷ bs) e = cc
@@ -263,18 +232,18 @@ pub record IsUnused (base : Slot) : Type 0 where
 
 pub base_same : (base s : Slot) → IsKeepable base s → IsUnused base → is_base base s ≡ true → uncounted_slot base ≡ uncounted_slot s
 base_same base s k u e =
-    let one = both_are (same_state base.state s.state) _ e in
-    let two = both_are (same_word (Ptr base.ip) (Ptr s.ip)) _ one.1 in
-    let three = both_are (same_bit base.past s.past) _ two.1 in
-    let four = both_are (not (list_any (λ b. b) s.empty)) _ three.1 in
-    let five = both_are (not (are_some s.pending)) _ four.1 in
+    let one = and_parts (same_state base.state s.state) _ e in
+    let two = and_parts (same_word (Ptr base.ip) (Ptr s.ip)) _ one.1 in
+    let three = and_parts (same_bit base.past s.past) _ two.1 in
+    let four = and_parts (not (list_any (λ b. b) s.empty)) _ three.1 in
+    let five = and_parts (not (are_some s.pending)) _ four.1 in
     let state = states_same base.state s.state one.0 in
     let pointers = words_same (Ptr base.ip) (Ptr s.ip) k.base_ip k.ip two.0 in
     let ip : base.ip ≡ s.ip = cc in
     let past = bits_same base.past s.past three.0 in
-    let empty : base.empty ≡ s.empty = u.flags ∙ sym (none_set s.empty (not_so _ four.0) ∙ ap (λ n. replicate n false) k.flags) in
-    let pending : base.pending ≡ s.pending = u.loads ∙ sym (no_loads s.pending (not_so _ five.0)) in
-    let regs = none_changed base.regs s.regs (k.base_count ∙ sym k.count) k.base_words k.words (not_so _ five.1) in
+    let empty : base.empty ≡ s.empty = u.flags ∙ sym (none_set s.empty (not-true _ four.0) ∙ ap (λ n. replicate n false) k.flags) in
+    let pending : base.pending ≡ s.pending = u.loads ∙ sym (no_loads s.pending (not-true _ five.0)) in
+    let regs = none_changed base.regs s.regs (k.base_count ∙ sym k.count) k.base_words k.words (not-true _ five.1) in
     λ j. record {
       number = k.number j;
       group = k.group j;

@@ -3,6 +3,7 @@ use Rattle.std.proofs.Common.{◌≡◌, ◌⊎◌, inl, inr, ℕ, ◌+◌, ◌*
 use Rattle.std.specs.Prelude.{Contains}
 use Rattle.std.specs.List.{AllByRecursion}
 use Rattle.std.proofs.lemmas.Bool.Decides.{nat_tests}
+use Rattle.std.proofs.lemmas.Bool.{eqb-false}
 use Rattle.mm_explore.specs.Pairs.{EachPair}
 use Rattle.mm_explore.specs.Findings.{Span, word_in, InSpan, IsApart, AreSpans}
 use Rattle.mm_explore.specs.Words.{spans_after}
@@ -173,9 +174,6 @@ module _ (s : Span) (w : ℕ) (ws : List ℕ) where
     );
   }
 
-not_same : (a b : ℕ) → (a == b) ≡ false → a ≡ b → ⊥
-not_same a b e = grind (arith, nat_tests)
-
 runs_are : (ws : List ℕ) (s : Span) → GoesOn s ws → IsRuns s ws (spans_after (Some s) ws)
 runs_are [] s h = ends s h
 runs_are (w ∷ ws) s h = by (runs_are ws) (word_in s s.count == w) refl
@@ -185,7 +183,7 @@ runs_are (w ∷ ws) s h = by (runs_are ws) (word_in s s.count == w) refl
     by rest true e =
         let same = eqb-true (word_in s s.count) w e in
         runs_longer s w ws (spans_after (Some (longer s)) ws) same (rest (longer s) (goes_on_longer s w ws h same))
-    by rest false e = runs_new s w ws (spans_after (Some (one_word w)) ws) h (not_same (word_in s s.count) w e) (rest (one_word w) (goes_on_new s w ws h))
+    by rest false e = runs_new s w ws (spans_after (Some (one_word w)) ws) h (eqb-false (word_in s s.count) w e) (rest (one_word w) (goes_on_new s w ws h))
 
 pub spans_are : (ws : List ℕ) → EachPair ◌<◌ ws → AllByRecursion Aligned ws → AreSpans (Contains ws) (spans_after None ws)
 spans_are [] up words = record { some = tt; apart = tt; only = tt; each = λ w h. absurd (none_in w h) }

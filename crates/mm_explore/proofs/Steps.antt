@@ -6,6 +6,8 @@ use Rattle.std.specs.Prelude.{◌==◌, Contains, Some, slice_get, Result, Ok, E
 use Rattle.std.specs.List.{AllByRecursion, flat_map}
 use Rattle.std.proofs.Math.Dec.{eqb-suc-zero}
 use Rattle.std.proofs.lemmas.List.{length-map}
+use Rattle.mm_model.proofs.CoreRows.{each_push}
+use Rattle.mm_explore.proofs.FoundForms.{map_push}
 use Rattle.mm_model.specs.Fits.{slots_of}
 use Rattle.mm_model.specs.Image.{Image, start}
 use Rattle.mm_model.specs.Slot.{Slot}
@@ -240,10 +242,6 @@ grown Known numbers o f now h = record { more = []; list = ap (λ (g : FoundList
 grown New numbers o f now h = record { more = led_by f.list o ∷ []; list = ap (λ (g : FoundList). g.list) h.2; limit = ap (λ (g : FoundList). g.limit) h.2 }
 grown Full numbers o f now h = record { more = []; list = ap (λ (g : FoundList). g.list) h.2 ∙ sym (append-nil f.list); limit = ap (λ (g : FoundList). g.limit) h.2 }
 
-map_push : {X Y : Type 0} (g : X → Y) (xs : List X) (x : X) → map g (xs ++ x ∷ []) ≡ map g xs ++ g x ∷ []
-map_push g [] x = refl
-map_push g (y ∷ xs) x = ap (λ l. g y ∷ l) (map_push g xs x)
-
 held_more : (i : Image) (looked : Looked) (t : List ℕ) (o : Origin) (f now : FoundList) → led_by f.list o ≡ t → Holds i f → Looks looked (kept i (run (start i) t)) o f now → Holds i now
 held_more i Known t o f now led held h = subst (Holds i) (sym h.1) held
 held_more i Full t o f now led held h = subst (Holds i) (sym h.2) held
@@ -416,13 +414,9 @@ if_more (Err e) f h = tt
 
 -- 7. All moves of a node.
 
-all_push : {X : Type 0} (P : X → Type 0) (xs : List X) (x : X) → AllByRecursion P xs → P x → AllByRecursion P (xs ++ x ∷ [])
-all_push P [] x h k = (k, tt)
-all_push P (y ∷ xs) x h k = (h.0, all_push P xs x h.1 k)
-
 pub stay_more : (i : Image) (t : List ℕ) (ms : List ℕ) (m : ℕ) (stay stays : Bool) → Contains (moves (run (start i) t))
     m → AllStay stay i t ms → StaysBy stays i t m → AllStay (stay && stays) i t (ms ++ m ∷ [])
-stay_more i t ms m true true move h k = all_push (λ n. leads_to i (t ++ n ∷ []) ≡ leads_to i t) ms m h k
+stay_more i t ms m true true move h k = each_push (λ n. leads_to i (t ++ n ∷ []) ≡ leads_to i t) ms m h k
 stay_more i t ms m true false move h k = λ final. k (final m move)
 stay_more i t ms m false stays move h k = h
 

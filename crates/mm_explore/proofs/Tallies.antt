@@ -1,11 +1,11 @@
 -- One final schedule more is counted with those of its outcome.
 use Rattle.std.proofs.Common.{◌≡◌, inl, inr, ℕ, suc, ◌+◌, ◌^◌, ◌<◌, ◌≤◌, Bool, true, false, cond, if◌then◌else◌, ◌||◌}
 use Rattle.std.proofs.Common.{nat_eq, List, [], ◌∷◌, ◌++◌, map, length, Some, None, refl, sym, ap, ◌∙◌, subst, arith}
-use Rattle.std.proofs.Common.{eqb-true, eq-eqb, append-nil}
+use Rattle.std.proofs.Common.{append-nil}
 use Rattle.std.specs.Prelude.{slice_get}
 use Rattle.std.specs.List.{AllByRecursion, AllZip, list_any, count_by, sum_by, flat_map, IsDistinct}
 use Rattle.std.specs.Map.{lookup, keys_of}
-use Rattle.std.proofs.lemmas.Bool.{cases_Bool, both_ways}
+use Rattle.std.proofs.lemmas.Bool.{cases_Bool, both_ways, or_parts}
 use Rattle.std.proofs.lemmas.List.Sums.{count_by-le-length, sum_by-append}
 use Rattle.std.proofs.lemmas.Map.Keys.{IsDistinct-head, IsDistinct-tail}
 use Rattle.indexmap.specs.IndexMap.{insert_entry}
@@ -17,7 +17,7 @@ use Rattle.mm_explore.specs.declared.ends.Tally.{Tally}
 use Rattle.mm_explore.specs.Findings.{AreFinal, Outcome, outcome_at, state_number, same_outcome, firsts_after, firsts}
 use Rattle.mm_explore.specs.Kept.{state_at}
 use Rattle.mm_explore.specs.Noting.{bytes_form, outcome_form, IsEnd, tally_after}
-use Rattle.mm_explore.proofs.Finals.{outcomes_decide}
+use Rattle.mm_explore.proofs.Finals.{outcomes_decide, numbers_decide}
 use Rattle.mm_explore.proofs.SlotForms.{state_back}
 
 -- 1. Outcomes are told apart by their numbers.
@@ -74,9 +74,6 @@ forms_tell a b e =
     let outputs = bytes_tell a.outputs b.outputs two.rests in
     λ j. record { ended = bit j; states = states j; outputs = outputs j }
 
-alike : (a b : ℕ) → (nat_eq a b ≡ true → a ≡ b) × (a ≡ b → nat_eq a b ≡ true)
-alike a b = (eqb-true a b, eq-eqb a b)
-
 -- 2. The first schedules of outcomes, with one more.
 
 module _ (i : Image) where
@@ -126,10 +123,6 @@ module _ (i : Image) where
   unfolding firsts
   firsts_with ts t = firsts_more [] ts t
 
-  neither : (a b : Bool) → (a || b) ≡ false → (a ≡ false) × (b ≡ false)
-  neither true b e = cc
-  neither false b e = (refl, e)
-
   -- a schedule is not the same as another of an outcome that was not seen
   seen_differs : (t u : List ℕ) (seen : List Outcome) → seen_as u seen ≡ true → seen_as t seen ≡ false → same t u ≡ false
   seen_differs t u seen there none = elim (cases_Bool (same t u)) [
@@ -155,7 +148,7 @@ module _ (i : Image) where
       by skip go true there gone =
           count_cons (same t) u ts ∙ ap (λ (b : Bool). (if b then 1 else 0) + count_by (same t) ts) (seen_differs t u seen there none) ∙ ap (λ n. 0 + n) (skip none gone)
       by skip go false there gone =
-          let two = neither (same t u) (list_any (same t) (firsts_after i (outcome_at i u ∷ seen) ts)) gone in
+          let two = or_parts (same t u) (list_any (same t) (firsts_after i (outcome_at i u ∷ seen) ts)) gone in
           count_cons (same t) u ts ∙ ap (λ (b : Bool). (if b then 1 else 0) + count_by (same t) ts) two.0
           ∙ ap (λ n. 0 + n) (go (ap (λ b. b || seen_as t seen) two.0 ∙ none) two.1)
 
@@ -172,10 +165,10 @@ module _ {K : Type 0} (of : K → List ℕ) (i : Image) (list : List (List ℕ))
   same_key a b = pointwise nat_eq (of a) (of b)
 
   key_is : (a b : K) → same_key a b ≡ true → of a ≡ of b
-  key_is a b e = (pointwise_decides alike (of a) (of b)).0 e
+  key_is a b e = (pointwise_decides numbers_decide (of a) (of b)).0 e
 
   is_key : (a b : K) → of a ≡ of b → same_key a b ≡ true
-  is_key a b e = (pointwise_decides alike (of a) (of b)).1 e
+  is_key a b e = (pointwise_decides numbers_decide (of a) (of b)).1 e
 
   abbrev pub Counts : List (List ℕ) → List ℕ → K × Tally → Type 0
   Counts finals u end = IsEnd i list finals u (of end.0) end.1

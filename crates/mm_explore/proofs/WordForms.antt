@@ -1,16 +1,18 @@
 -- Words, flags and registers, read again from their numbers.
-use Rattle.std.proofs.Common.{◌≡◌, ℕ, suc, ◌+◌, ◌*◌, ◌/◌, ◌%◌, ◌^◌, ◌<◌, ◌≤◌, Bool, true, false, not, ◌&&◌}
-use Rattle.std.proofs.Common.{if◌then◌else◌, List, [], ◌∷◌, ◌++◌, map, length, refl, sym, ap, ◌∙◌, arith, eqb-true}
+use Rattle.std.proofs.Common.{◌≡◌, ℕ, suc, ◌+◌, ◌*◌, ◌/◌, ◌%◌, ◌<◌, Bool, true, false, not, ◌&&◌}
+use Rattle.std.proofs.Common.{if◌then◌else◌, List, [], ◌∷◌, ◌++◌, map, length, refl, sym, ap, ◌∙◌, arith}
 use Rattle.std.proofs.Common.{append_assoc}
 use Rattle.std.specs.Prelude.{◌==◌}
 use Rattle.std.specs.List.{AllByRecursion, flat_map}
-use Rattle.std.proofs.lemmas.Bool.{le-leb}
+use Rattle.mm_model.proofs.Sames.{words_same}
+use Rattle.mm_model.proofs.ImageBytes.SpelledRecords.{is_spelled}
+use Rattle.mm_model.proofs.OneIf.{one_back}
 use Rattle.mm_word.specs.declared.word.Word.{Word}
 use Rattle.mm_word.specs.declared.word.Word.TheVariants.{Int, Ptr}
-use Rattle.mm_word.specs.Perm.{can_fetch, code_of}
-use Rattle.mm_word.specs.Pointer.{Pointer, IsWellFormed, pointer_of, bits_of, spells_pointer}
+use Rattle.mm_word.specs.Perm.{can_fetch}
+use Rattle.mm_word.specs.Pointer.{Pointer, IsWellFormed, pointer_of, bits_of}
 use Rattle.mm_word.specs.Word.{IsWord, word_bits, is_pointer}
-use Rattle.mm_word.proofs.Packing.{perm_of-code_of, code_of-in_range, fields_of_bits, pointer_of-bits_of, bits_of-injective}
+use Rattle.mm_word.proofs.Packing.{pointer_of-bits_of}
 use Rattle.mm_model.specs.declared.slot.Pending.{Pending}
 use Rattle.mm_model.specs.Effect.{same_word}
 use Rattle.mm_model.specs.Flags.{one_if, flags, number_of_flags}
@@ -37,50 +39,22 @@ flags_again (b ∷ bs) =
 pub flags_of : (k : ℕ) (bs : List Bool) → length bs ≡ k → flags k (number_of_flags bs) ≡ bs
 flags_of k bs e = ap (λ n. flags n (number_of_flags bs)) (sym e) ∙ flags_again bs
 
-one_below : (b : Bool) → one_if b ≤ 1
-one_below true = omega arith
-one_below false = omega arith
-
-pub flags_below : (bs : List Bool) → number_of_flags bs < 2 ^ length bs
-flags_below [] = omega arith
-flags_below (b ∷ bs) =
-    let rest = flags_below bs in
-    let low = one_below b in
-    let twice : 2 ^ suc (length bs) ≡ 2 * 2 ^ length bs = omega arith in
-    omega (arith, rest, low, twice)
-
 -- 2. Words.
-
-pub spells_own : (p : Pointer) → IsWellFormed p → spells_pointer (bits_of p) ≡ true
-spells_own p h =
-    let r = code_of-in_range p.perm in
-    let f = fields_of_bits (code_of p.perm) p.log p.addr r.1 h.log_in_range h.addr_in_range in
-    rw (f.0, f.1, perm_of-code_of p.perm) (le-leb p.log 54 h.log_in_range)
 
 pub word_again : (w : Word) → IsWord w → word_of (is_pointer w) (word_bits w) ≡ w
 word_again (Int bits) h = refl
 word_again (Ptr p) h =
-    ap (λ b. if b then Ptr (pointer_of (bits_of p)) else Int (bits_of p)) (spells_own p h) ∙ ap Ptr (pointer_of-bits_of p h)
-
-tag_again : (b : Bool) → (one_if b == 1) ≡ b
-tag_again true = refl
-tag_again false = refl
+    ap (λ b. if b then Ptr (pointer_of (bits_of p)) else Int (bits_of p)) (is_spelled p h) ∙ ap Ptr (pointer_of-bits_of p h)
 
 pub word_read : (w : Word) (ns : List ℕ) → IsWord w → word_from (word_form w ++ ns) ≡ (w, ns)
 word_read w ns h =
-    ap (λ b. (word_of b (word_bits w), ns)) (tag_again (is_pointer w)) ∙ ap (λ x. (x, ns)) (word_again w h)
+    ap (λ b. (word_of b (word_bits w), ns)) (one_back (is_pointer w)) ∙ ap (λ x. (x, ns)) (word_again w h)
 
 pub ip_again : (other p : Pointer) → IsWellFormed p → can_fetch p.perm ≡ true → ip_of other (bits_of p) ≡ p
 ip_again other p h fetches =
-    ap (λ b. if b && can_fetch (pointer_of (bits_of p)).perm then pointer_of (bits_of p) else other) (spells_own p h)
+    ap (λ b. if b && can_fetch (pointer_of (bits_of p)).perm then pointer_of (bits_of p) else other) (is_spelled p h)
     ∙ ap (λ (q : Pointer). if can_fetch q.perm then q else other) (pointer_of-bits_of p h)
     ∙ ap (λ b. if b then p else other) fetches
-
-pub words_same : (a b : Word) → IsWord a → IsWord b → same_word a b ≡ true → a ≡ b
-words_same (Int a) (Int b) h k e = ap Int (eqb-true a b e)
-words_same (Int a) (Ptr q) h k e = cc
-words_same (Ptr p) (Int b) h k e = cc
-words_same (Ptr p) (Ptr q) h k e = ap Ptr (bits_of-injective p q h k (eqb-true (bits_of p) (bits_of q) e))
 
 -- 3. The registers of a slot.
 

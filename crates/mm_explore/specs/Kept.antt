@@ -1,16 +1,14 @@
 -- The parts of a configuration, and the numbers by which it is kept: its difference from the image.
 use Rattle.std.specs.Prelude.{ℕ, zero, suc, ◌+◌, ◌*◌, ◌-◌, ◌/◌, ◌%◌, Bool, true, false, not, ◌&&◌, ◌==◌, nat_eq, nat_lt}
-use Rattle.std.specs.Prelude.{if◌then◌else◌, List, [], ◌∷◌, ◌++◌, map, length, Some, None, Option}
+use Rattle.std.specs.Prelude.{if◌then◌else◌, List, [], ◌∷◌, ◌++◌, map, length, unwrap_or, Option, Some, None}
 use Rattle.std.specs.List.{flat_map, list_any}
 use lib.Pointwise.{pointwise}
-use Rattle.mm_word.specs.declared.cause.Cause.{Cause}
-use Rattle.mm_word.specs.declared.cause.Cause.TheVariants.{NotPointer, Perm, Bounds, Align, NoPage, Sync, Illegal, Priv}
-use Rattle.mm_word.specs.declared.cause.Cause.TheVariants.{DivZero, Malformed, Trap, NoSlot, OutFull}
+use Rattle.mm_word.specs.declared.cause.Cause.TheVariants.{NotPointer}
 use Rattle.mm_word.specs.declared.perm.Perm.TheVariants.{Key}
 use Rattle.mm_word.specs.declared.word.Word.{Word}
 use Rattle.mm_word.specs.declared.word.Word.TheVariants.{Int, Ptr}
 use Rattle.mm_word.specs.declared.word.Cell.{Cell}
-use Rattle.mm_word.specs.Cause.{number_of}
+use Rattle.mm_word.specs.Cause.{number_of, cause_of}
 use Rattle.mm_word.specs.Perm.{can_fetch}
 use Rattle.mm_word.specs.Pointer.{Pointer, pointer_of, bits_of, spells_pointer}
 use Rattle.mm_word.specs.Word.{word_bits, is_pointer}
@@ -121,19 +119,10 @@ loads_from (suc count) ns =
 abbrev pub few_loads : ℕ → ℕ
 few_loads count = if nat_lt 16 count then 16 else count
 
--- the cause of a number
-abbrev pub cause_at : ℕ → Cause
-cause_at n =
-    if n == 1 then NotPointer else if n == 2 then Perm else if n == 3 then Bounds else if n == 4 then Align
-    else if n == 5 then NoPage else if n == 6 then Sync else if n == 7 then Illegal else if n == 8 then Priv
-    else if n == 9 then DivZero else if n == 10 then Malformed else if n == 11 then Trap else if n == 12 then NoSlot
-    else OutFull
-
 -- the state of a number
 abbrev pub state_at : ℕ → SlotState
 state_at n =
-    if n == 0 then Running else if n == 1 then Waiting else if n == 2 then Taken else if n == 3 then Halted None
-    else Halted (Some (cause_at (n - 3)))
+    if n == 0 then Running else if n == 1 then Waiting else if n == 2 then Taken else Halted (cause_of (n - 3))
 
 -- the instruction pointer of these bits, or another if they spell none
 abbrev pub ip_of : Pointer → ℕ → Pointer
@@ -228,7 +217,7 @@ event_with ns addr value = (
     first_number ns % 256,
     record {
       slot = first_number (behind ns) % 256;
-      cause = cause_at (first_number (behind (behind ns)));
+      cause = unwrap_or (cause_of (first_number (behind (behind ns)))) NotPointer;
       ip = pointer_or_key (first_number (behind (behind (behind ns))));
       addr_op = addr.0;
       value_op = value.0;

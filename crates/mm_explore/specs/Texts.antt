@@ -1,7 +1,8 @@
 -- The text of an exploration.
 use Rattle.std.specs.Prelude.{◌≡◌, ℕ, ◌+◌, Bool, true, false, ◌==◌, if◌then◌else◌, List, [], ◌∷◌, ◌++◌, length, codes}
 use Rattle.std.specs.Prelude.{decimal, zip, Option, Some, None}
-use Rattle.std.specs.List.{AllZip, flat_map, range_with_len}
+use Rattle.std.specs.List.{AllZip, flat_map}
+use Rattle.mm_word.specs.Cause.{cause_numbers}
 use Rattle.mm_model.specs.Digits.{hex}
 use Rattle.mm_model.specs.Lines.{newline, state_text, output_lines}
 use Rattle.mm_model.specs.State.{ThreadRow, State, output_of}
@@ -60,8 +61,7 @@ fault_lines slot cause (Some x) =
 
 -- the lines of a slot's faults, ascending by their numbers, which are 1 to 13
 abbrev pub faults_of : Image → List (List ℕ) → Slot → List ℕ
-faults_of i list s = flat_map (λ cause. fault_lines s.number cause (first_fault i list s.number cause))
-    (range_with_len 1 13)
+faults_of i list s = flat_map (λ cause. fault_lines s.number cause (first_fault i list s.number cause)) cause_numbers
 
 -- 4. The lines of outcomes.
 

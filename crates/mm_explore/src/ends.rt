@@ -95,8 +95,6 @@ pub(crate) fn count_end(
             first: at,
         },
     };
-    match ends.insert(key, tally) {
-        Ok(_) => Ok(()),
-        Err(_) => Err(AllocError),
-    }
+    ends.insert(key, tally)?;
+    Ok(())
 }

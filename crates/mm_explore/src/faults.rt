@@ -1,8 +1,9 @@
 //! The faults that were found.
 
 ghost use Rattle.std.specs.Prelude.{◌≡◌, ℕ, ◌<◌, ◌++◌, ◌==◌, ◌&&◌, OnOk, IfSome, length};
-ghost use Rattle.std.specs.List.{flat_map, range_with_len};
+ghost use Rattle.std.specs.List.{flat_map};
 ghost use Rattle.std.specs.BTreeMap.{get};
+ghost use Rattle.mm_word.specs.Cause.{cause_numbers};
 ghost use Rattle.mm_explore.specs.Findings.{has_fault};
 ghost use Rattle.mm_explore.specs.Noting.{first_kept, fault_found};
 ghost use Rattle.mm_explore.specs.Results.{fault_found_lines};
@@ -11,11 +12,9 @@ ghost use Rattle.mm_explore.specs.Words.{order};
 use crate::explored::FaultFound;
 use crate::found::{Found, Origin};
 use mm_model::{Step, Tick};
+use mm_word::Cause;
 use std::alloc::{AllocError, Global};
 use std::collections::BTreeMap;
-
-/// The first number above those of faults.
-const FAULTS_END: u8 = 14;
 
 /// Keeps an origin for a slot and the number of its fault, if none is kept for them.
 fn keep_first(
@@ -80,9 +79,9 @@ pub(crate) fn put_faults(
     requires { (cause : ℕ) → IfSome (get order faults.now (slot, cause)) (λ o. o.from < length found.now.list) }
     ensures { OnOk result (flat_map fault_found_lines out.new.items ≡ flat_map fault_found_lines out.old.items
         ++ flat_map (λ cause. fault_found found.now.list slot cause (get order faults.now (slot, cause)))
-        (range_with_len 1 13)) }
+        cause_numbers) }
 {
-    for cause in 1..FAULTS_END {
+    for cause in 1..Cause::LAST_NUMBER + 1 {
         put_fault(alloc, out, faults, slot, cause, found)?;
     }
     Ok(())

@@ -3,7 +3,8 @@
 ghost use Rattle.std.specs.Prelude.{◌≡◌, ℕ, ◌<◌, ◌^◌, ◌∷◌, [], ◌++◌, List, true, false};
 ghost use Rattle.std.specs.Prelude.{IfOk, IfSome, OnOk, length, slice_get, Some};
 ghost use Rattle.std.specs.BTreeMap.{get};
-ghost use Rattle.std.specs.List.{flat_map, range_with_len};
+ghost use Rattle.std.specs.List.{flat_map};
+ghost use Rattle.mm_word.specs.Cause.{cause_numbers};
 ghost use Rattle.mm_model.specs.Image.{Image as ImageValue, start};
 ghost use Rattle.mm_model.specs.Run.{run};
 ghost use Rattle.mm_model.specs.Report.{groups_of};
@@ -52,7 +53,7 @@ fn list_faults(
     requires { (key : ℕ × ℕ) → IfSome (get order faults.now key) (λ o. o.from < length found.now.list) }
     ensures { OnOk result (flat_map fault_found_lines out.new.items ≡ flat_map fault_found_lines out.old.items
         ++ flat_map (λ s. flat_map (λ cause. fault_found found.now.list s.number cause
-        (get order faults.now (s.number, cause))) (range_with_len 1 13)) slots.now) }
+        (get order faults.now (s.number, cause))) cause_numbers) slots.now) }
 {
     for slot in slots {
         put_faults(alloc, out, faults, slot.number, found)?;

@@ -69,10 +69,8 @@ fn add(alloc: Global, kept: &mut IndexSet<Vec<u64>>, numbers: &[u64]) -> Result<
     ensures err { OnErr result (kept.new.keys ≡ kept.old.keys) }
 {
     let numbers = Vec::from_slice(alloc, numbers)?;
-    match kept.insert(numbers) {
-        Ok(_) => Ok(()),
-        Err(_) => Err(AllocError),
-    }
+    kept.insert(numbers)?;
+    Ok(())
 }
 
 impl Found {

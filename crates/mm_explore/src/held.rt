@@ -59,7 +59,7 @@ fn base_page(alloc: Global, img: &Image, number: u64) -> Result<Page, AllocError
         let Cell { word, full } = base_cell(img, number * 4096 + 8 * index as u64);
         cells.push(Cell { word, full })?;
     }
-    Ok(Page::new(number, cells).unwrap())
+    Ok(Page::of(number, cells))
 }
 
 /// Pages of these numbers with the image's cells.

@@ -24,7 +24,7 @@ fn store_to(word: u64) -> Access
     ensures kind { result.kind ≡ Store }
     ensures address { result.addr ≡ word }
 {
-    let all = GuardedPtr::new(Perm::Rw, ALL_ADDRESSES, word).unwrap();
+    let all = GuardedPtr::of(Perm::Rw, ALL_ADDRESSES, word);
     check(Word::Ptr(all), 0, Kind::Store).unwrap()
 }
 

@@ -9,10 +9,10 @@ ghost use Rattle.mm_explore.specs.Kept.{first_number, behind, numbers_by, pages_
 ghost use Rattle.mm_explore.specs.Kept.{cell_form, cell_of as cell_of_numbers, cells_from};
 
 use crate::reader::Reader;
-use crate::slot_form::{cause_at, put_word, take_word, word_of};
+use crate::slot_form::{put_word, take_word, word_of};
 use mm_model::Event;
 use mm_thread::Output;
-use mm_word::{Cell, GuardedPtr, Perm};
+use mm_word::{Cause, Cell, GuardedPtr, Perm};
 use std::alloc::{AllocError, Global};
 
 // 1. Events.
@@ -58,7 +58,7 @@ fn pointer_or_key(bits: u64) -> GuardedPtr
 {
     match GuardedPtr::from_bits(bits) {
         Some(pointer) => pointer,
-        None => GuardedPtr::new(Perm::Key, 0, 0).unwrap(),
+        None => GuardedPtr::of(Perm::Key, 0, 0),
     }
 }
 
@@ -70,7 +70,7 @@ fn take_event(reader: &mut Reader<'_>) -> (u8, Event)
 {
     let queue = (reader.next() % 256) as u8;
     let slot = (reader.next() % 256) as u8;
-    let cause = cause_at(reader.next());
+    let cause = Cause::from_number(reader.next()).unwrap_or(Cause::NotPointer);
     let ip = pointer_or_key(reader.next());
     let addr_op = take_word(reader);
     let value_op = take_word(reader);

@@ -5,6 +5,7 @@ ghost use Rattle.std.specs.Prelude.{filter, slice_index_or, List, true, false};
 ghost use Rattle.std.specs.List.{AllByRecursion, flat_map, range_with_len};
 ghost use Rattle.mm_model.specs.Groups.{has_group as has_group_of};
 ghost use Rattle.mm_model.specs.Image.{start};
+ghost use Rattle.mm_model.specs.Limits.{state_limit};
 ghost use Rattle.mm_model.specs.Run.{run};
 ghost use Rattle.mm_model.specs.Slot.{Slot as SlotValue};
 ghost use Rattle.mm_model.specs.Report.{groups_of};
@@ -137,40 +138,24 @@ struct Search {
 /// Looks at every schedule of an image's machine, up to `states` configurations.
 pub fn explore(alloc: Global, img: &Image, states: u32) -> Result<Explored, NoMemory>
     requires some { 1 ≤ states }
-    requires few { states ≤ 1000000 }
+    requires few { states ≤ state_limit }
     ensures { IfOk result (λ e. Finds img.now states e) }
 {
     let bench = Bench::new(alloc, img)?;
-    match explore_from(alloc, img, states, bench) {
-        Ok(explored) => Ok(explored),
-        Err(_) => Err(NoMemory),
-    }
-}
-
-/// Searches from a machine at its start.
-fn explore_from(
-    alloc: Global,
-    img: &Image,
-    states: u32,
-    bench: Bench,
-) -> Result<Explored, AllocError>
-    requires some { 1 ≤ states }
-    requires few { states ≤ 1000000 }
-    requires at { IsAtConfiguration img.now [] bench }
-    ensures { IfOk result (λ e. Finds img.now states e) }
-{
     let mut search = Search::new(alloc, img, states, bench)?;
     search.run(alloc, img)?;
-    search
-        .findings
-        .explored(alloc, img, &search.groups, &search.found, search.all)
+    Ok(
+        search
+            .findings
+            .explored(alloc, img, &search.groups, &search.found, search.all)?,
+    )
 }
 
 impl Search {
     /// The search that has found the configuration of the image's start.
     fn new(alloc: Global, img: &Image, states: u32, bench: Bench) -> Result<Search, AllocError>
         requires some { 1 ≤ states }
-        requires few { states ≤ 1000000 }
+        requires few { states ≤ state_limit }
         requires at { IsAtConfiguration img.now [] bench }
         ensures before { IfOk result (λ s. IsBefore img.now s 0) }
         ensures limit { IfOk result (λ s. s.found.limit ≡ states) }

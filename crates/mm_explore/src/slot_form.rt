@@ -12,7 +12,7 @@ ghost use Rattle.mm_model.specs.Report.{same_bit};
 ghost use Rattle.mm_explore.specs.Configurations.{are_some};
 ghost use Rattle.mm_explore.specs.Findings.{state_number as state_number_of, same_state};
 ghost use Rattle.mm_explore.specs.Kept.{is_base as is_base_of};
-ghost use Rattle.mm_explore.specs.Kept.{cause_at as cause_at_of, state_at as state_at_of, word_of as word_of_bits};
+ghost use Rattle.mm_explore.specs.Kept.{state_at as state_at_of, word_of as word_of_bits};
 ghost use Rattle.mm_explore.specs.Kept.{ip_of as ip_of_bits, word_form, word_from, changed_flags, changed_bits};
 ghost use Rattle.mm_explore.specs.Kept.{words_from};
 ghost use Rattle.mm_explore.specs.Kept.{few_loads as few_loads_of, register_flags, slot_head, slot_masks};
@@ -40,27 +40,6 @@ pub(crate) fn state_number(state: SlotState) -> u64
     }
 }
 
-/// The cause of a number.
-pub(crate) fn cause_at(number: u64) -> Cause
-    ensures { result ≡ cause_at_of number }
-{
-    match number {
-        1 => Cause::NotPointer,
-        2 => Cause::Perm,
-        3 => Cause::Bounds,
-        4 => Cause::Align,
-        5 => Cause::NoPage,
-        6 => Cause::Sync,
-        7 => Cause::Illegal,
-        8 => Cause::Priv,
-        9 => Cause::DivZero,
-        10 => Cause::Malformed,
-        11 => Cause::Trap,
-        12 => Cause::NoSlot,
-        _ => Cause::OutFull,
-    }
-}
-
 /// The state of a number.
 fn state_at(number: u64) -> SlotState
     ensures { result ≡ state_at_of number }
@@ -69,8 +48,7 @@ fn state_at(number: u64) -> SlotState
         0 => SlotState::Running,
         1 => SlotState::Waiting,
         2 => SlotState::Taken,
-        3 => SlotState::Halted(None),
-        _ => SlotState::Halted(Some(cause_at(number - 3))),
+        _ => SlotState::Halted(Cause::from_number(number - 3)),
     }
 }
 

@@ -6,6 +6,7 @@ use Rattle.std.specs.Int.{bit_at}
 use Rattle.std.specs.List.{Contains}
 use Rattle.std.proofs.lemmas.List.{get_or_default}
 use Rattle.std.proofs.lemmas.List.Elements.{Contains-get_or, All-from_recursion, All-contains}
+use Rattle.mm_word.proofs.Results.{enter_result-well_formed}
 use Rattle.mm_word.specs.declared.perm.Perm.TheVariants.{Eu, Ep}
 use Rattle.mm_word.specs.declared.word.Word.{Word}
 use Rattle.mm_word.specs.declared.word.Word.TheVariants.{Int, Ptr}
@@ -36,7 +37,7 @@ use Rattle.mm_graph.specs.Nodes.{IsKeysOf, IsNodes, IsNode, IsTargets, IsMarks, 
 use Rattle.mm_graph.specs.Masks.{IsEntryMasks}
 use Rattle.mm_graph.specs.Forest.{HasForest}
 use Rattle.mm_graph.specs.Marked.{node_pointer}
-use Rattle.mm_graph.proofs.Standing.{stands_from, stands_above, stands_below, standing_none, entry_from, enters-well_formed, base_below}
+use Rattle.mm_graph.proofs.Standing.{stands_from, stands_above, stands_below, standing_none, entry_from, base_below}
 use Rattle.mm_graph.proofs.Nesting.{log_is}
 use Rattle.mm_graph.proofs.Cells.{there, held}
 use Rattle.mm_graph.proofs.CellWords.{well_formed}
@@ -208,7 +209,7 @@ module _ (i : Image) (e : Entries) (image : IsImage i) (keys : List CanonicalPtr
       go (Some y) e2 =
           let enter = (each_node a lt).enters y (entry_test (node a).perm perm) (entry_key_at a q (Some y) h e2) in
           let st = stands_from q y e2 in
-          let w = enters-well_formed (node a) q (key a lt).well_formed h in
+          let w = enter_result-well_formed (node a) q (key a lt).well_formed h in
           inr (record {
             kept = ap (λ v. bit_at v g) enter.0 ∙ m.each a g (fit a lt) small may;
             small = unfit _ (each_node a lt).small;
@@ -225,7 +226,7 @@ module _ (i : Image) (e : Entries) (image : IsImage i) (keys : List CanonicalPtr
           let enter = (each_node a lt).enters x yes_entry e2 in
           let from = entry_from (node a) x e2 in
           let st = stands_from from.to x from.stands in
-          let w = enters-well_formed (node a) from.to (key a lt).well_formed from.enters in
+          let w = enter_result-well_formed (node a) from.to (key a lt).well_formed from.enters in
           record {
             may = m.only a g (fit a lt) (ap (λ v. bit_at v g) (sym enter.0) ∙ h);
             perm = entry_then (node a).perm yes_entry;

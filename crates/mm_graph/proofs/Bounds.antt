@@ -1,15 +1,15 @@
 -- A pointer covers the words between the base and the end of its segment.
 use Rattle.std.proofs.Math.Nat.{div-mul-le_self, lt-div-mul-add, div-eq_of_lt-le}
 use Rattle.std.proofs.Common.{◌≡◌, ℕ, ◌+◌, ◌-◌, ◌*◌, ◌/◌, ◌%◌, ◌^◌, ◌<◌, ◌≤◌, ◌⊎◌, inl, inr, Bool, true, false, ◌&&◌, nat_le, refl, sym, ap, ◌∙◌, subst, arith, pow_pos, pow-add}
-use Rattle.std.proofs.lemmas.Bool.{cases_lt}
+use Rattle.std.proofs.lemmas.Bool.{cases_lt, and_parts}
 use Rattle.std.proofs.lemmas.Bool.Decides.{nat_tests}
 use Rattle.mm_word.specs.declared.perm.Perm.{Perm}
 use Rattle.mm_word.specs.declared.perm.Perm.TheVariants.{Ro, Rw, Xu, Xp, Eu, Ep, Key as KeyPerm}
-use Rattle.mm_word.specs.Perm.{can_load, can_store}
+use Rattle.mm_word.specs.Perm.{can_load, can_store, is_privileged}
 use Rattle.mm_word.specs.Pointer.{Pointer, Covers, base_of}
 use Rattle.mm_word.proofs.Below.{Covers-short}
 use Rattle.mm_model.specs.Reach.{LoadsAt, StoresAt}
-use Rattle.mm_graph.specs.Key.{loads_words, stores_words, makes_pointers, is_entry}
+use Rattle.mm_graph.specs.Key.{loads_words, stores_words, is_entry}
 
 pub covers_in : (p : Pointer) (w : ℕ) → Covers p w → (base_of p ≤ w) × (w < base_of p + 2 ^ p.log)
 covers_in p w c =
@@ -27,7 +27,7 @@ pub record OfWords (p : Pointer) : Type 0 where
   pub size : units * 8 ≡ 2 ^ p.log
   pub base : start * 8 ≡ base_of p
 
-assoc : (x y z : ℕ) → x * y * z ≡ x * (y * z)
+pub assoc : (x y z : ℕ) → x * y * z ≡ x * (y * z)
 assoc x y z = grind arith
 
 pub of_words : (p : Pointer) → 3 ≤ p.log → OfWords p
@@ -51,12 +51,7 @@ in_covers p w long aligned lo hi k small =
     step : (b u : ℕ) → b * u + u ≡ (b + 1) * u
     step b u = grind arith
 
-both : (a b : Bool) → a && b ≡ true → (a ≡ true) × (b ≡ true)
-both true true h = (refl, refl)
-both true false h = cc
-both false b h = cc
-
-three : (n : ℕ) → nat_le 3 n ≡ true → 3 ≤ n
+pub three : (n : ℕ) → nat_le 3 n ≡ true → 3 ≤ n
 three n h = grind (arith, nat_tests)
 
 pub three_then : (n : ℕ) → 3 ≤ n → nat_le 3 n ≡ true
@@ -68,12 +63,12 @@ join true false x y = cc
 join false b x y = cc
 
 pub loads_then : (p : Pointer) → loads_words p ≡ true → (can_load p.perm ≡ true) × (3 ≤ p.log)
-loads_then p h = let x = both (can_load p.perm) (nat_le 3 p.log) h in (x.0, three p.log x.1)
+loads_then p h = let x = and_parts (can_load p.perm) (nat_le 3 p.log) h in (x.0, three p.log x.1)
 
 pub stores_then : (p : Pointer) → stores_words p ≡ true → (can_store p.perm ≡ true) × (3 ≤ p.log)
-stores_then p h = let x = both (can_store p.perm) (nat_le 3 p.log) h in (x.0, three p.log x.1)
+stores_then p h = let x = and_parts (can_store p.perm) (nat_le 3 p.log) h in (x.0, three p.log x.1)
 
-long : (p : Pointer) (w : ℕ) → Covers p w → 3 ≤ p.log
+pub long : (p : Pointer) (w : ℕ) → Covers p w → 3 ≤ p.log
 long p w c = elim (cases_lt p.log 3) [ inl short ↦ absurd (Covers-short p short w c) | inr le ↦ le ]
 
 pub loads_test : (p : Pointer) (w : ℕ) → LoadsAt p w → loads_words p ≡ true
@@ -82,10 +77,10 @@ loads_test p w h = join (can_load p.perm) (nat_le 3 p.log) h.right (three_then p
 pub stores_test : (p : Pointer) (w : ℕ) → StoresAt p w → stores_words p ≡ true
 stores_test p w h = join (can_store p.perm) (nat_le 3 p.log) h.right (three_then p.log (long p w h.covers))
 
-pub makes_test : (p : Perm) → p ≡ Xp → makes_pointers p ≡ true
-makes_test p e = ap makes_pointers e
+pub makes_test : (p : Perm) → p ≡ Xp → is_privileged p ≡ true
+makes_test p e = ap is_privileged e
 
-pub makes_then : (p : Perm) → makes_pointers p ≡ true → p ≡ Xp
+pub makes_then : (p : Perm) → is_privileged p ≡ true → p ≡ Xp
 makes_then Xp h = refl
 makes_then Ro h = cc
 makes_then Rw h = cc

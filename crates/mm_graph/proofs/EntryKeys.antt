@@ -1,10 +1,11 @@
 -- The key that an entry gives is one.
 use Rattle.std.proofs.Common.{◌≡◌, ◌+◌, ◌-◌, Some, sym, ap, subst, arith}
+use Rattle.mm_word.proofs.Results.{enter_result-well_formed}
 use Rattle.mm_word.specs.Pointer.{Pointer, IsWellFormed, base_of}
 use Rattle.mm_word.proofs.Packing.{SpellsPointer-bits_of}
 use Rattle.mm_graph.specs.declared.canonical_ptr.CanonicalPtr.{CanonicalPtr}
 use Rattle.mm_graph.specs.Key.{IsKey, key_of, pointer_at, standing_for, entry_key}
-use Rattle.mm_graph.proofs.Standing.{pointer_at-key_of, standing-well_formed, stands_from, entry_from, enters-well_formed}
+use Rattle.mm_graph.proofs.Standing.{pointer_at-key_of, standing-well_formed, stands_from, entry_from}
 
 pub key_of-is_key : (p : Pointer) → IsWellFormed p → IsKey (key_of p)
 key_of-is_key p w =
@@ -19,6 +20,6 @@ key_of-is_key p w =
 pub entry_is_key : (k x : CanonicalPtr) → IsKey k → entry_key k ≡ Some x → IsKey x
 entry_is_key k x h e =
     let f = entry_from (pointer_at k) x e in
-    let w = enters-well_formed (pointer_at k) f.to h.well_formed f.enters in
+    let w = enter_result-well_formed (pointer_at k) f.to h.well_formed f.enters in
     let s = stands_from f.to x f.stands in
     subst IsKey (sym s.is) (key_of-is_key (standing_for f.to) (standing-well_formed f.to w))

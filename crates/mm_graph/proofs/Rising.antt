@@ -6,7 +6,7 @@ use Rattle.std.specs.Cmp.{IsTotalOrder, IsEquivalence, unsigned_ties, both_tied}
 use Rattle.std.specs.Ordering.{nat_cmp, ordering_then, ordering_index, eq_by_cmp, is_lt, is_eq, ordering_reverse}
 use Rattle.std.specs.declared.cmp.Ordering.{Ordering}
 use Rattle.std.specs.declared.cmp.Ordering.TheVariants.{Less, Equal, Greater}
-use Rattle.std.proofs.lemmas.Bool.{cases_lt}
+use Rattle.std.proofs.lemmas.Bool.{cases_lt, and_parts}
 use Rattle.std.proofs.lemmas.Cmp.{nat_cmp_total, on_total, then_total, nat_eq_equiv, and_equiv, tied_itself}
 use Rattle.std.proofs.lemmas.List.Sorted.{searchable_from_sorted}
 use Rattle.std.proofs.lemmas.List.{get_or_default}
@@ -24,18 +24,13 @@ key_ties x y =
     (ordering_then (nat_cmp x.narrow y.narrow) (nat_cmp x.bits y.bits)) (unsigned_ties x.base y.base)
     (both_tied (x.narrow == y.narrow) (x.bits == y.bits) (nat_cmp x.narrow y.narrow) (nat_cmp x.bits y.bits) (unsigned_ties x.narrow y.narrow) (unsigned_ties x.bits y.bits))
 
-both_true : (a b : Bool) → a && b ≡ true → (a ≡ true) × (b ≡ true)
-both_true true true h = (refl, refl)
-both_true true false h = cc
-both_true false b h = cc
-
 pub same_fields : (x y : CanonicalPtr) → x.base ≡ y.base → x.narrow ≡ y.narrow → x.bits ≡ y.bits → x ≡ y
 same_fields x y p q r = λ i. record { base = p i; narrow = q i; bits = r i }
 
 pub same_key : (x y : CanonicalPtr) → key_eq x y ≡ true → x ≡ y
 same_key x y h =
-    let one = both_true (x.base == y.base) ((x.narrow == y.narrow) && (x.bits == y.bits)) h in
-    let two = both_true (x.narrow == y.narrow) (x.bits == y.bits) one.1 in
+    let one = and_parts (x.base == y.base) ((x.narrow == y.narrow) && (x.bits == y.bits)) h in
+    let two = and_parts (x.narrow == y.narrow) (x.bits == y.bits) one.1 in
     same_fields x y (eqb-true x.base y.base one.0) (eqb-true x.narrow y.narrow two.0) (eqb-true x.bits y.bits two.1)
 
 pub key_equiv : IsEquivalence key_eq

@@ -1,5 +1,6 @@
 -- What a pointer below another permits.
 use Rattle.std.proofs.Common.{◌≡◌, ℕ, ◌+◌, ◌≤◌, ◌⊎◌, inl, inr, true, refl, sym, ap, ◌∙◌, subst, arith}
+use Rattle.mm_word.proofs.Rights.{can_store-loads}
 use Rattle.mm_word.specs.declared.perm.Perm.{Perm}
 use Rattle.mm_word.specs.declared.perm.Perm.TheVariants.{Ro, Rw, Xu, Xp, Eu, Ep, Key}
 use Rattle.mm_word.specs.Perm.{can_load, can_store, can_move, can_become}
@@ -30,17 +31,8 @@ pub below-loads : (p q : Pointer) (w : ℕ) → IsBelow q p → LoadsAt q w → 
 below-loads p q w (inl e) h = subst (λ v. LoadsAt v w) e h
 below-loads p q w (inr b) h = record { word = h.word; right = sym (move-load p.perm) ∙ b.movable; covers = λ k lt. b.inside (w + k) (h.covers k lt) }
 
-stores_loads : (p : Perm) → can_store p ≡ true → can_load p ≡ true
-stores_loads Ro h = refl
-stores_loads Rw h = refl
-stores_loads Xu h = refl
-stores_loads Xp h = refl
-stores_loads Eu h = h
-stores_loads Ep h = h
-stores_loads Key h = h
-
 pub stores-loads : (p : Pointer) (w : ℕ) → StoresAt p w → LoadsAt p w
-stores-loads p w h = record { word = h.word; right = stores_loads p.perm h.right; covers = h.covers }
+stores-loads p w h = record { word = h.word; right = can_store-loads p.perm h.right; covers = h.covers }
 
 becomes_stores : (p q : Perm) → can_become p q ≡ true → can_store q ≡ true → ⊥
 becomes_stores p Ro h k = cc

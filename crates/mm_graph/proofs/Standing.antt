@@ -2,6 +2,7 @@
 use Rattle.std.proofs.Common.{◌≡◌, ◌≢◌, ℕ, ◌*◌, ◌/◌, ◌^◌, ◌<◌, ◌≤◌, ◌⊎◌, inl, inr, Bool, true, false, Option, Some, None, option_map, option_and_then, if◌then◌else◌, refl, sym, ap, ◌∙◌, subst, arith}
 use Rattle.std.proofs.lemmas.Nat.{shl-shr, shr_split}
 use Rattle.std.proofs.lemmas.Bool.Decides.{nat_tests}
+use Rattle.mm_word.proofs.Results.{enter_result-well_formed}
 use Rattle.mm_word.specs.declared.perm.Perm.{Perm}
 use Rattle.mm_word.specs.declared.perm.Perm.TheVariants.{Ro, Rw, Xu, Xp, Eu, Ep, Key as KeyPerm}
 use Rattle.mm_word.specs.Perm.{can_move, execute_form}
@@ -62,7 +63,7 @@ pub record Stands (p : Pointer) (k : CanonicalPtr) : Type 0 where
   pub powerless : is_powerless p ≡ false
   pub is : k ≡ key_of (standing_for p)
 
-same_some : {x y : CanonicalPtr} → ◌≡◌ {A = Option CanonicalPtr} (Some x) (Some y) → x ≡ y
+pub same_some : {x y : CanonicalPtr} → ◌≡◌ {A = Option CanonicalPtr} (Some x) (Some y) → x ≡ y
 same_some h = cc
 
 pub stands_from : (p : Pointer) (k : CanonicalPtr) → standing_key p ≡ Some k → Stands p k
@@ -141,13 +142,10 @@ entry_from p x = at (enter_result p) refl
     at None e h = cc
     at (Some q) e h = record { to = q; enters = e; stands = h }
 
-pub enters-well_formed : (p q : Pointer) → IsWellFormed p → enter_result p ≡ Some q → IsWellFormed q
-enters-well_formed p q w h = let e = enters_from p q h in subst IsWellFormed (sym e.is) (record { log_in_range = w.log_in_range; addr_in_range = w.addr_in_range })
-
 pub entry_again : (k x : CanonicalPtr) → IsWellFormed (pointer_at k) → entry_key k ≡ Some x → entry_key x ≡ Some x
 entry_again k x w h =
     let f = entry_from (pointer_at k) x h in
-    let wq = enters-well_formed (pointer_at k) f.to w f.enters in
+    let wq = enter_result-well_formed (pointer_at k) f.to w f.enters in
     let e = enters_from (pointer_at k) f.to f.enters in
     let s = stands_from f.to x f.stands in
     let is = stands-pointer f.to x wq s in

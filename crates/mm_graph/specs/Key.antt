@@ -74,10 +74,6 @@ loads_words p = can_load p.perm && nat_le 3 p.log
 abbrev pub stores_words : Pointer → Bool
 stores_words p = can_store p.perm && nat_le 3 p.log
 
-abbrev pub makes_pointers : Perm → Bool
-makes_pointers Xp = true
-makes_pointers _ = false
-
 abbrev pub is_entry : Perm → Bool
 is_entry Eu = true
 is_entry Ep = true

@@ -1,6 +1,7 @@
 -- The parts of a graph, for keys and pointers in cells.
 use Rattle.std.specs.Prelude.{◌≡◌, ℕ, ◌+◌, ◌^◌, ◌<◌, ◌≤◌, true, false, ◌⊎◌, List, length, slice_index, slice_index_or}
 use Rattle.std.specs.Prelude.{Contains, All, Some, None}
+use Rattle.mm_word.specs.Perm.{is_privileged}
 use Rattle.mm_word.specs.Pointer.{Pointer, base_of}
 use Rattle.mm_model.specs.Slot.{Slot}
 use Rattle.mm_flow.specs.declared.node.Node.{Node}
@@ -10,7 +11,7 @@ use Rattle.mm_graph.specs.declared.canonical_ptr.CanonicalPtr.{CanonicalPtr}
 use Rattle.mm_graph.specs.declared.found.Found.{Found}
 use Rattle.mm_graph.specs.declared.seed.Seed.{Seed}
 use Rattle.mm_graph.specs.Key.{IsKey, IsRising, key_at, no_key, pointer_at, entry_key, loads_words, stores_words}
-use Rattle.mm_graph.specs.Key.{makes_pointers, is_entry}
+use Rattle.mm_graph.specs.Key.{is_entry}
 
 -- the keys of pointers in cells and of seeds, with those of entries
 pub record IsKeysOf (found : List Found) (seeds : List Seed) (keys : List CanonicalPtr) : Type 0 where
@@ -66,7 +67,7 @@ pub record IsNode (keys : List CanonicalPtr) (found : List Found) (mask k : ℕ)
   pub small : n.entry < length keys
   pub loads : n.loads ≡ loads_words (pointer_at (key_at keys k))
   pub stores : n.stores ≡ stores_words (pointer_at (key_at keys k))
-  pub makes : n.makes ≡ makes_pointers (pointer_at (key_at keys k)).perm
+  pub makes : n.makes ≡ is_privileged (pointer_at (key_at keys k)).perm
   pub enters : (x : CanonicalPtr) → is_entry (pointer_at (key_at keys k)).perm ≡ true
       → entry_key (key_at keys k) ≡ Some x → (n.enters ≡ mask) × (key_at keys n.entry ≡ x)
   pub no_entry : (is_entry (pointer_at (key_at keys k)).perm ≡ false) ⊎ (entry_key (key_at keys k) ≡ None)

@@ -36,10 +36,7 @@ impl CanonicalPtr {
         requires { IsKey self }
         ensures { result ≡ pointer_at self }
     {
-        match GuardedPtr::from_bits(self.bits) {
-            Some(p) => p,
-            None => unreachable!(),
-        }
+        GuardedPtr::of_bits(self.bits)
     }
 
     /// The key of the pointer that an entry by this one gives; `None` if there is none or it is powerless.

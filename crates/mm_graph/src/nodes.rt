@@ -5,7 +5,7 @@ ghost use Rattle.std.specs.Prelude.{Some, true, false, length};
 ghost use Rattle.mm_word.specs.Pointer.{base_of};
 ghost use Rattle.mm_graph.specs.declared.canonical_ptr.CanonicalPtr.{CanonicalPtr as KeyType};
 ghost use Rattle.mm_graph.specs.Key.{IsKey, IsRising, key_at, pointer_at, entry_key, loads_words, stores_words};
-ghost use Rattle.mm_graph.specs.Key.{makes_pointers, is_entry};
+ghost use Rattle.mm_graph.specs.Key.{is_entry};
 ghost use Rattle.mm_graph.specs.Nodes.{found_word, IsAscending, IsBefore, IsBounds, IsRange, IsNode, IsNodes};
 
 use crate::canonical_ptr::CanonicalPtr;
@@ -92,13 +92,6 @@ fn stores_words(p: GuardedPtr) -> bool
     }
 }
 
-/// Whether code that runs by this pointer is privileged, and so can make pointers.
-fn makes_pointers(p: GuardedPtr) -> bool
-    ensures { result ≡ makes_pointers p.perm }
-{
-    matches!(p.perm(), Perm::Xp)
-}
-
 /// Whether a pointer is an enter pointer.
 fn is_entry(p: GuardedPtr) -> bool
     ensures { result ≡ is_entry p.perm }
@@ -168,7 +161,7 @@ fn node_for(keys: &[CanonicalPtr], found: &[Found], hint: usize, mask: u64, k: u
         enters,
         loads: loads_words(p),
         stores: stores_words(p),
-        makes: makes_pointers(p),
+        makes: p.perm().is_privileged(),
     }
 }
 

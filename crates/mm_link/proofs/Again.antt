@@ -9,6 +9,7 @@ use Rattle.std.proofs.lemmas.Slice.Eq.{bytes_eq-Decides}
 use Rattle.std.proofs.lemmas.List.{reverse-append}
 use Rattle.std.proofs.lemmas.List.Sorted.{IsPermutation-reverse, list_any-IsPermutation}
 use Rattle.std.proofs.lemmas.Map.Keys.{IsDistinct-IsPermutation}
+use Rattle.std.proofs.lemmas.Bool.{or_parts, not-false, not-true}
 use Rattle.indexmap.specs.IndexSet.{insert_key}
 use denote.Ref.{Bor}
 use Rattle.mm_object.specs.Objects.{is_among}
@@ -50,20 +51,16 @@ again_next before names name new = ap (λ b. if b then Some name else first_agai
 pub again_here : (before names : List (List ℕ)) (name : List ℕ) → is_among name before ≡ true → first_again before (name ∷ names) ≡ Some name
 again_here before names name old = ap (λ b. if b then Some name else first_again (name ∷ before) names) old
 
-neither : (a b : Bool) → (a || b) ≡ false → (a ≡ false) × (b ≡ false)
-neither true b h = absurd (true≢false h)
-neither false b h = (refl, h)
-
 module _ (p : Part) (before : List (List ℕ)) where
   old : (parts : List Part) → AllByRecursion (λ (q : Part). is_among q.segment.name (p.segment.name ∷ before) ≡ false) parts
       → AllByRecursion (λ (q : Part). is_among q.segment.name before ≡ false) parts
   old [] h = tt
-  old (q ∷ parts) h = ((neither (bytes_eq q.segment.name p.segment.name) (is_among q.segment.name before) h.0).1, old parts h.1)
+  old (q ∷ parts) h = ((or_parts (bytes_eq q.segment.name p.segment.name) (is_among q.segment.name before) h.0).1, old parts h.1)
 
   other : (parts : List Part) → AllByRecursion (λ (q : Part). is_among q.segment.name (p.segment.name ∷ before) ≡ false) parts
       → AllByRecursion (λ (q : Part). same_part p q ≡ false) parts
   other [] h = tt
-  other (q ∷ parts) h = (same_turned p.segment.name q.segment.name ∙ (neither (bytes_eq q.segment.name p.segment.name) (is_among q.segment.name before) h.0).0, other parts h.1)
+  other (q ∷ parts) h = (same_turned p.segment.name q.segment.name ∙ (or_parts (bytes_eq q.segment.name p.segment.name) (is_among q.segment.name before) h.0).0, other parts h.1)
 
 -- where no name is there again, segments are told apart by their names
 pub distinct : (before : List (List ℕ)) (parts : List Part) → first_again before (part_names parts) ≡ None
@@ -93,20 +90,12 @@ module _ (keys : List (Bor (List ℕ))) (parts : List Part) (i : ℕ) (p : Part)
 
   pub name_here : (r : Bool) → r ≡ not (list_any (same_key k) keys) → r ≡ false → first_again [] (part_names parts) ≡ Some p.segment.name
   name_here r added old =
-      let there : list_any (same_key k) keys ≡ true = turned (list_any (same_key k) keys) (sym added ∙ old) in
+      let there : list_any (same_key k) keys ≡ true = not-false (list_any (same_key k) keys) (sym added ∙ old) in
       sym front ∙ again_here (before_of keys) (part_names (drop (i + 1) parts)) k.now (among_before keys k ∙ there) ∙ ap Some name
-    where
-      turned : (b : Bool) → not b ≡ false → b ≡ true
-      turned true h = refl
-      turned false h = absurd (true≢false h)
 
   pub name_next : (r : Bool) (new : List (Bor (List ℕ))) → r ≡ not (list_any (same_key k) keys) → r ≡ true → new ≡ insert_key same_key keys k
       → first_again (before_of new) (part_names (drop (i + 1) parts)) ≡ first_again [] (part_names parts)
   name_next r new added fresh now =
-      let absent : list_any (same_key k) keys ≡ false = turned (list_any (same_key k) keys) (sym added ∙ fresh) in
+      let absent : list_any (same_key k) keys ≡ false = not-true (list_any (same_key k) keys) (sym added ∙ fresh) in
       ap (λ ks. first_again (before_of ks) (part_names (drop (i + 1) parts))) now ∙ ap (λ names. first_again names (part_names (drop (i + 1) parts))) (before_more keys k absent)
       ∙ sym (again_next (before_of keys) (part_names (drop (i + 1) parts)) k.now (among_before keys k ∙ absent)) ∙ front
-    where
-      turned : (b : Bool) → not b ≡ true → b ≡ false
-      turned true h = absurd (true≢false (sym h))
-      turned false h = refl

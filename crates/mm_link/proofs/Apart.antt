@@ -2,11 +2,10 @@
 use Rattle.std.proofs.Common.{◌≡◌, ℕ, Bool, true, false, not, List, [], ◌∷◌, find, Some, None, refl, sym, ap, ◌∙◌, inl, inr, bytes_eq}
 use Rattle.std.specs.Prelude.{if◌then◌else◌, ◌&&◌, ◌||◌}
 use Rattle.std.specs.List.{list_any}
-use Rattle.std.proofs.lemmas.Bool.{or_parts, or_from, not-true}
-use Rattle.mm_model.proofs.ImageBytes.Rising.{both}
+use Rattle.std.proofs.lemmas.Bool.{or_parts, or_from, not-true, and_parts}
 use Rattle.mm_object.specs.Objects.{is_among, are_apart}
 use Rattle.std.proofs.lemmas.Slice.Eq.{bytes_eq-Decides}
-use Rattle.mm_object.proofs.Bools.{is_false}
+use Rattle.mm_object.proofs.Apartness.{turn}
 use Rattle.mm_link.specs.Faults.{first_again}
 use Rattle.mm_object.proofs.Members.{In, none_passes}
 
@@ -27,9 +26,6 @@ none_found p (x ∷ xs) h = ap (λ b. if b then Some x else find p xs) (h x (inl
 
 -- 2. Names.
 
-other_way : (a b : List ℕ) → bytes_eq a b ≡ false → bytes_eq b a ≡ false
-other_way a b e = is_false (bytes_eq b a) (λ f. let same = (bytes_eq-Decides a b).1 (sym ((bytes_eq-Decides b a).0 f)) in cc)
-
 -- no name is among those before it: then none is among those behind it, nor among others before
 pub apart_from_none : (before names : List (List ℕ)) → first_again before names ≡ None → (are_apart names ≡ true) × ((x : List ℕ) → In x names → is_among x before ≡ false)
 apart_from_none before [] none = (refl, λ x h. absurd h)
@@ -41,7 +37,7 @@ apart_from_none before (name ∷ names) none = by (is_among name before) refl no
     by true e none later = absurd cc
     by false e none later =
         let rest = later none in
-        let alone : is_among name names ≡ false = none_any (bytes_eq name) names (λ x is. other_way x name (or_parts (bytes_eq x name) (is_among x before) (rest.1 x is)).0) in (
+        let alone : is_among name names ≡ false = none_any (bytes_eq name) names (λ x is. turn x name (or_parts (bytes_eq x name) (is_among x before) (rest.1 x is)).0) in (
           ap (λ b. not b && are_apart names) alone ∙ rest.0,
           λ x h. elim h [ inl same ↦ ap (λ y. is_among y before) same ∙ e | inr is ↦ (or_parts (bytes_eq x name) (is_among x before) (rest.1 x is)).1 ],
         )
@@ -50,7 +46,7 @@ apart_from_none before (name ∷ names) none = by (is_among name before) refl no
 pub none_from_apart : (before names : List (List ℕ)) → are_apart names ≡ true → ((x : List ℕ) → In x names → is_among x before ≡ false) → first_again before names ≡ None
 none_from_apart before [] apart others = refl
 none_from_apart before (name ∷ names) apart others =
-    let parts = both _ _ apart in
+    let parts = and_parts _ _ apart in
     let alone = none_passes (bytes_eq name) names (not-true (is_among name names) parts.0) in
     ap (λ b. if b then Some name else first_again (name ∷ before) names) (others name (inl refl))
-    ∙ none_from_apart (name ∷ before) names parts.1 (λ x is. or_from (bytes_eq x name) (is_among x before) (other_way name x (alone x is)) (others x (inr is)))
+    ∙ none_from_apart (name ∷ before) names parts.1 (λ x is. or_from (bytes_eq x name) (is_among x before) (turn name x (alone x is)) (others x (inr is)))

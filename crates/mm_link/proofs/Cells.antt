@@ -5,7 +5,7 @@ use Rattle.std.proofs.Common.{inl, inr, eqb-true, eq-eqb}
 use Rattle.std.specs.Prelude.{◌==◌}
 use Rattle.std.specs.List.{flat_map, range_with_len}
 use Rattle.std.proofs.Math.Seq.{take-append-add}
-use Rattle.std.proofs.lemmas.Bool.{cases_lt}
+use Rattle.std.proofs.lemmas.Bool.{cases_lt, false_from_ne_true}
 use Rattle.std.proofs.lemmas.List.{take_all, drop_all, take-append-le, take-replicate}
 use Rattle.mm_word.specs.declared.word.Cell.{Cell}
 use Rattle.mm_object.specs.declared.thread.Thread.{Thread}
@@ -14,7 +14,6 @@ use Rattle.mm_model.specs.Slot.{Slot}
 use Rattle.mm_model.specs.Memory.{zero_page}
 use Rattle.mm_link.specs.Placing.{Site}
 use Rattle.mm_link.specs.Linked.{pages_from, slot_of}
-use Rattle.mm_object.proofs.Bools.{is_false}
 use Rattle.mm_link.specs.Steps.{numbered}
 use Rattle.mm_link.proofs.Lists.{pushing, itself}
 
@@ -83,7 +82,7 @@ module _ (sites : List Site) (o : Object) (n : ℕ) (threads : List Thread) (i :
   slot_passed other now =
       let t = get_or threads i d in
       pushing (λ k ts. numbered n (map (slot_of sites o) ts)) all old threads i so_far new [] t lt (itself threads i d lt) (now ∙ sym (append-nil old))
-      (numbered_other sites o n t (drop (i + 1) threads) (is_false (t.slot == n) (λ e. other (eqb-true t.slot n e))))
+      (numbered_other sites o n t (drop (i + 1) threads) (false_from_ne_true (t.slot == n) (λ e. other (eqb-true t.slot n e))))
 
 -- 3. Slots by rising number.
 

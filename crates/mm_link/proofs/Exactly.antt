@@ -3,10 +3,9 @@ use Rattle.std.proofs.Common.{◌≡◌, ℕ, ◌+◌, ◌^◌, ◌<◌, ◌≤�
 use Rattle.std.proofs.Common.{bytes_eq}
 use Rattle.std.specs.Prelude.{Contains, ◌==◌, if◌then◌else◌, is_some, nat_lt}
 use Rattle.std.specs.List.{flat_map, filter, list_any, AllByRecursion}
-use Rattle.std.proofs.lemmas.Bool.{leb-true, le-ltb}
+use Rattle.std.proofs.lemmas.Bool.{leb-true, le-ltb, not-false, and_parts}
 use Rattle.std.proofs.lemmas.Option.{slice_get_within}
-use Rattle.mm_model.proofs.ImageBytes.Clean.{not_not}
-use Rattle.mm_model.proofs.ImageBytes.Rising.{both}
+use Rattle.mm_model.proofs.Causes.{some_of}
 use Rattle.mm_object.specs.declared.target.Target.{Target}
 use Rattle.mm_object.specs.declared.thread.Thread.{Thread}
 use Rattle.mm_object.specs.Lookups.{name_of_target}
@@ -22,7 +21,7 @@ use Rattle.mm_object.proofs.Members.{In, in_right, in_map, from_map, in_flat, fr
 use Rattle.mm_link.proofs.Parts.{are_parts, from_by_length, in_by_length}
 use Rattle.mm_link.proofs.Clean.{IsClean, clean, unmapped, one_thread, some_thread, handler_there, few_frames}
 use Rattle.mm_link.proofs.Named.{splits}
-use Rattle.mm_link.proofs.Mapped.{site_behind, some_is}
+use Rattle.mm_link.proofs.Mapped.{site_behind}
 use Rattle.mm_link.proofs.Pointed.{own_or_foreign, target_good, site_is, external_found, target_goes}
 use Rattle.mm_link.proofs.Apart.{none_any, one_any, none_found, apart_from_none, none_from_apart}
 use Rattle.mm_link.proofs.Threaded.{small_slot, apart_from_few, few_from_apart}
@@ -47,7 +46,7 @@ site_there objects are name among =
     let x = found (bytes_eq name) (names_of objects) among in
     let p = from_map (λ (y : Part). y.segment.name) x.0 (parts_of objects) x.1 in
     let is = in_by_length p.0 (parts_of objects) (are_parts objects are) p.1 in
-    some_is (site_in (sites_of objects) name) (part_named origin p.0 (by_length (parts_of objects)) name is (ap (bytes_eq name) (sym p.2) ∙ x.2))
+    some_of (site_in (sites_of objects) name) (part_named origin p.0 (by_length (parts_of objects)) name is (ap (bytes_eq name) (sym p.2) ∙ x.2))
 
 -- and what has one is among them
 there_named : (objects : List Object) (name : List ℕ) (s : Site) → site_in (sites_of objects) name ≡ Some s → is_among name (names_of objects) ≡ true
@@ -111,7 +110,7 @@ well_from_clean objects are well = record {
     handled : (t : Thread) → In t (threads_of objects) → (h : ℕ) → t.handler ≡ Some h → (s : Thread) × Contains (threads_of objects) s × (s.slot ≡ h)
     handled t at h is =
         let there : is_absent (threads_of objects) (Some h) ≡ false = ap (is_absent (threads_of objects)) (sym is) ∙ handler_there objects well.handlers t at (small_slot objects are t at) in
-        let u = found (λ (x : Thread). x.slot == h) (threads_of objects) (not_not _ there) in
+        let u = found (λ (x : Thread). x.slot == h) (threads_of objects) (not-false _ there) in
         (u.0, contained u.0 (threads_of objects) u.1, eqb-true u.0.slot h u.2)
 
 -- 3. That objects have no fault where it holds.
@@ -133,7 +132,7 @@ module _ (objects : List Object) (are : AllByRecursion IsObject objects) (well :
 
   none_outside : (o : Object) → In o objects → (t : Target) → In t (targets_of o.relocs o.threads) → is_outside (sites_of objects) o t ≡ true → ⊥
   none_outside o at t used outside =
-      let tests = both _ _ outside in
+      let tests = and_parts _ _ outside in
       let past = leb-true (length o.segments) t.index tests.0 in
       let beyond = leb-true (2 ^ (site_named (sites_of objects) (name_of_target o t)).log) t.addend tests.1 in
       elim (own_or_foreign o t (target_good o (each_in IsObject o objects are at) t used)) [

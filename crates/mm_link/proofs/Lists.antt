@@ -7,12 +7,6 @@ use Rattle.std.specs.Prelude.{find, if◌then◌else◌}
 use Rattle.std.specs.List.{range_with_len, AllByRecursion}
 use Rattle.std.proofs.lemmas.List.{take_all, drop_all}
 
--- what holds of each item holds of that at a place
-pub each_at : {A : Type 0} (P : A → Type 0) (xs : List A) → AllByRecursion P xs → (i : ℕ) (d : A) → i < length xs → P (get_or xs i d)
-each_at P [] h i d lt = absurd (omega arith)
-each_at P (x ∷ xs) h zero d lt = h.0
-each_at P (x ∷ xs) h (suc i) d lt = each_at P xs h.1 i d (omega arith)
-
 pub all_from : {A : Type 0} (P : A → Type 0) (xs : List A) (d : A) → ((i : ℕ) → i < length xs → P (get_or xs i d)) → AllByRecursion P xs
 all_from P [] d h = tt
 all_from P (x ∷ xs) d h = (h zero (omega arith), all_from P xs d (λ i lt. h (suc i) (omega arith)))

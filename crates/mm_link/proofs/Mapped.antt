@@ -9,6 +9,7 @@ use Rattle.mm_model.specs.Memory.{is_mapped, page_of}
 use Rattle.mm_model.specs.Image.{Image}
 use Rattle.mm_object.specs.Objects.{Object, IsObject}
 use Rattle.std.proofs.lemmas.Slice.Eq.{bytes_eq-Decides}
+use Rattle.mm_model.proofs.Causes.{some_of}
 use Rattle.mm_link.specs.Placing.{Part, Site, parts_of, by_length, sites_from, sites_of, site_in, bytes_of, origin}
 use Rattle.mm_link.specs.Faults.{page_count}
 use Rattle.mm_link.specs.Linked.{cells_of, pages_of, first_page, image_of}
@@ -49,10 +50,6 @@ segments_are_found objects i are linked p is = part_found objects are (clean obj
 
 -- 2. Pages.
 
-pub some_is : {A : Type 0} (o : Option A) → is_some o ≡ true → (x : A) × (o ≡ Some x)
-some_is None h = absurd cc
-some_is (Some x) h = (x, refl)
-
 page_mapped : (objects : List Object) (page : ℕ) → first_page ≤ page → page < first_page + page_count objects → is_mapped (image_of objects).memory page ≡ true
 unfolding image_of pages_of
 page_mapped objects page low high =
@@ -61,7 +58,7 @@ page_mapped objects page low high =
 
 mapped_page : (objects : List Object) (page : ℕ) → is_mapped (image_of objects).memory page ≡ true → (first_page ≤ page) × (page < first_page + page_count objects)
 unfolding image_of pages_of
-mapped_page objects page is = let r = some_is (find nat_cmp page (pages_of objects)) is in page_within (page_count objects) first_page page (cells_of objects) r.0 r.1
+mapped_page objects page is = let r = some_of (find nat_cmp page (pages_of objects)) is in page_within (page_count objects) first_page page (cells_of objects) r.0 r.1
 
 pub pages_are_those_of_segments : PagesAreThoseOfSegments
 pages_are_those_of_segments objects i are linked page =

@@ -4,11 +4,12 @@ use Rattle.std.proofs.Common.{length, length-append, length-take, take, drop, re
 use Rattle.std.proofs.Common.{ap, ◌∙◌, subst, arith}
 use Rattle.std.specs.List.{flat_map, AllByRecursion}
 use Rattle.std.proofs.lemmas.List.{length-replicate}
+use Rattle.std.proofs.lemmas.Bool.{and_parts}
 use Rattle.mm_word.specs.declared.word.Cell.{Cell}
 use Rattle.mm_word.specs.Word.{IsWord}
 use Rattle.mm_model.specs.Memory.{zero_cell, zero_page, IsPage, ArePages}
 use Rattle.mm_model.specs.Spelling.{HoldsWords}
-use Rattle.mm_model.proofs.ImageBytes.Rising.{AreRisingFrom, sorted_from, both}
+use Rattle.mm_model.proofs.ImageBytes.Rising.{AreRisingFrom, sorted_from}
 use Rattle.mm_object.specs.declared.item.Item.{Item}
 use Rattle.mm_object.specs.declared.target.Reloc.{Reloc}
 use Rattle.mm_object.specs.Lookups.{is_at, reloc_at}
@@ -36,7 +37,7 @@ module _ (o : Object) (r : Reloc) (segment k : ℕ) where
   first_is (x ∷ relocs) h e = by (is_at segment k x) e (first_is relocs h.1)
     where
       by : (b : Bool) → cond b (Some x) (find (is_at segment k) relocs) ≡ Some r → (find (is_at segment k) relocs ≡ Some r → PointsWell r) → PointsWell r
-      by true e later = let same : x ≡ r = cc in subst PointsWell same (both _ _ h.0).1
+      by true e later = let same : x ≡ r = cc in subst PointsWell same (and_parts _ _ h.0).1
       by false e later = later e
 
   relocated : IsObject o → reloc_at o segment k ≡ Some r → PointsWell r

@@ -6,13 +6,14 @@ use Rattle.std.specs.Option.{option_map}
 use Rattle.std.specs.List.{AllByRecursion, IsDistinct}
 use Rattle.std.specs.Str.{bytes_eq}
 use Rattle.std.specs.Map.{lookup}
+use Rattle.mm_model.proofs.ImageBytes.SpelledSlots.{all_at}
 use Rattle.indexmap.specs.IndexMap.{insert_entry}
 use denote.Ref.{Bor}
 use Rattle.mm_link.specs.declared.sites.Placement.{Placement}
 use Rattle.mm_link.specs.Placing.{Part, Site, site_in, site_named, site_or_none, sites_from}
 use Rattle.mm_link.specs.Steps.{entries_of, place_of, FitsSite, part_names, same_part}
 use Rattle.mm_link.proofs.Again.{same_turned}
-use Rattle.mm_link.proofs.Lists.{rest_at, each_at}
+use Rattle.mm_link.proofs.Lists.{rest_at}
 
 abbrev pub Entries : Type 0
 Entries = List (Bor (List ℕ) × Placement)
@@ -73,7 +74,7 @@ unfolding IsDistinct
 earlier [] i p apart lt is = absurd (omega arith)
 earlier (q ∷ parts) zero p apart lt is = tt
 earlier (q ∷ parts) (suc i) p apart lt is =
-    let at : same_part q (get_or parts i p) ≡ false = each_at (λ (r : Part). same_part q r ≡ false) parts apart.0 i p (omega arith) in
+    let at : same_part q (get_or parts i p) ≡ false = all_at (λ (r : Part). same_part q r ≡ false) parts apart.0 i p (omega arith) in
     (same_turned p.segment.name q.segment.name ∙ ap (λ (r : Part). same_part q r) is ∙ at, earlier parts i p apart.1 (omega arith) is)
 
 -- the name of a segment is none of those before it

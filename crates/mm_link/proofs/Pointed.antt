@@ -4,7 +4,7 @@ use Rattle.std.proofs.Common.{[], ◌∷◌, ◌++◌, map, length, get_or, slic
 use Rattle.std.proofs.Common.{subst, inl, inr, arith}
 use Rattle.std.specs.Prelude.{◌⊎◌, if◌then◌else◌, is_some, nat_le, nat_lt, ◌&&◌}
 use Rattle.std.specs.List.{flat_map, filter, AllByRecursion}
-use Rattle.std.proofs.lemmas.Bool.{ltb-true}
+use Rattle.std.proofs.lemmas.Bool.{ltb-true, not-false, and_parts, false_from_ne_true}
 use Rattle.std.proofs.lemmas.Bool.Decides.{nat_tests}
 use Rattle.std.proofs.lemmas.List.{length-map, get_or-map, get_or_append_left, get_or-append-add}
 use Rattle.std.proofs.lemmas.List.Elements.{Contains-get_or}
@@ -13,8 +13,6 @@ use Rattle.std.proofs.lemmas.Option.{slice_get_cases}
 use Rattle.std.proofs.Math.Nat.{div-add-mod}
 use Rattle.mm_word.specs.declared.perm.Perm.{Perm}
 use Rattle.mm_word.specs.Pointer.{Pointer}
-use Rattle.mm_model.proofs.ImageBytes.Clean.{not_not}
-use Rattle.mm_model.proofs.ImageBytes.Rising.{both}
 use Rattle.mm_object.specs.declared.target.Target.{Target}
 use Rattle.mm_object.specs.declared.target.Reloc.{Reloc}
 use Rattle.mm_object.specs.declared.thread.Value.{Value}
@@ -23,7 +21,7 @@ use Rattle.mm_object.specs.declared.thread.Thread.{Thread}
 use Rattle.mm_object.specs.Lookups.{name_of_target}
 use Rattle.mm_object.specs.Objects.{Segment, Object, IsObject, names_of, is_target, is_within, is_reloc, is_value, value_targets, targets_of}
 use Rattle.std.proofs.lemmas.Slice.Eq.{bytes_eq-Decides}
-use Rattle.mm_object.proofs.Bools.{is_false}
+use Rattle.mm_model.proofs.Causes.{some_of}
 use Rattle.mm_link.specs.declared.fault.LinkFault.TheVariants.{Undefined, Offset}
 use Rattle.mm_link.specs.Placing.{Part, Site, parts_from, parts_of, sites_of, site_in, site_or_none, site_named, pointer_to}
 use Rattle.mm_link.specs.Faults.{is_outside, names_outside, first}
@@ -32,7 +30,7 @@ use Rattle.mm_object.proofs.Members.{In, in_either, in_map, from_map, in_flat, f
 use Rattle.mm_link.proofs.Clean.{IsClean, clean, unmapped}
 use Rattle.mm_link.proofs.Numbered.{is_start}
 use Rattle.mm_link.proofs.Falling.{segments_are_aligned}
-use Rattle.mm_link.proofs.Mapped.{part_found, some_is}
+use Rattle.mm_link.proofs.Mapped.{part_found}
 
 -- 1. What targets are.
 
@@ -55,7 +53,7 @@ module _ (o : Object) (is : IsObject o) where
   reloc_good t h =
       let r = from_map (λ (x : Reloc). x.target) t o.relocs h in
       let good = each_in (λ x. is_reloc o.segments (length o.externals) x ≡ true) r.0 o.relocs (each_passes (is_reloc o.segments (length o.externals)) o.relocs is.relocs) r.1 in
-      subst IsGood (sym r.2) (both _ _ good).1
+      subst IsGood (sym r.2) (and_parts _ _ good).1
 
   pub target_good : (t : Target) → In t (targets_of o.relocs o.threads) → IsGood t
   target_good t h = elim (in_either t (map (λ (r : Reloc). r.target) o.relocs) (flat_map (λ (u : Thread). u.target ∷ flat_map value_targets u.regs) o.threads) h) [
@@ -113,7 +111,7 @@ own_or_foreign o t good = elim (slice_get_cases o.segments t.index).1 [
     name = segment_name o t own.0 own.1 own.3;
     within = ltb-true t.addend (2 ^ own.0.log) (sym (ap (λ found. is_within found (length o.segments + length o.externals) t.index t.addend) own.2) ∙ good);
   })
-  | inr none ↦ inr (foreign none.0 (both _ _ (sym (ap (λ found. is_within found (length o.segments + length o.externals) t.index t.addend) none.1) ∙ good)).0)
+  | inr none ↦ inr (foreign none.0 (and_parts _ _ (sym (ap (λ found. is_within found (length o.segments + length o.externals) t.index t.addend) none.1) ∙ good)).0)
 ]
   where
     foreign : length o.segments ≤ t.index → nat_lt t.index (length o.segments + length o.externals) ≡ true → IsForeign o t
@@ -160,12 +158,12 @@ module _ (objects : List Object) (are : AllByRecursion IsObject objects) (well :
   external_found name is =
       let missing : List ℕ → Bool = λ x. not (is_some (site_in (sites_of objects) x)) in
       let all = flat_map (λ (o : Object). o.externals) objects in
-      some_is (site_in (sites_of objects) name) (not_not _ (not_found missing all (unmapped Undefined (find missing all) well.externals) name is))
+      some_of (site_in (sites_of objects) name) (not-false _ (not_found missing all (unmapped Undefined (find missing all) well.externals) name is))
 
   -- no use of an external is outside its segment
   pub none_outside : (o : Object) → In o objects → (t : Target) → In t (targets_of o.relocs o.threads) → is_outside (sites_of objects) o t ≡ false
   none_outside o is t at =
-      is_false (is_outside (sites_of objects) o t) (λ e.
+      false_from_ne_true (is_outside (sites_of objects) o t) (λ e.
       let outside = in_map (name_of_target o) t (filter (is_outside (sites_of objects) o)
       (targets_of o.relocs o.threads)) (in_filter (is_outside (sites_of objects) o) t
       (targets_of o.relocs o.threads) at e) in

@@ -5,8 +5,8 @@ use Rattle.std.specs.Option.{option_map}
 use Rattle.std.specs.List.{filter, flat_map, list_all}
 use Rattle.std.proofs.lemmas.Bool.Decides.{nat_tests}
 use Rattle.std.proofs.lemmas.List.Elements.{filter-append}
+use Rattle.std.proofs.lemmas.Bool.{and_parts}
 use Rattle.mm_word.specs.Perm.{can_fetch}
-use Rattle.mm_model.proofs.ImageBytes.Rising.{both}
 use Rattle.mm_object.specs.declared.target.Target.{Target}
 use Rattle.mm_object.specs.declared.target.Reloc.{Reloc}
 use Rattle.mm_object.specs.declared.thread.Thread.{Thread}
@@ -31,21 +31,21 @@ within (y ∷ xs) (suc n) x h = let l = within xs n x h in omega (arith, l)
 
 find_passes : {A : Type 0} (p q : A → Bool) (xs : List A) (x : A) → list_all q xs ≡ true → find p xs ≡ Some x → q x ≡ true
 find_passes p q [] x all h = absurd (let impossible : None ≡ Some x = h in cc)
-find_passes p q (y ∷ xs) x all h = by (p y) h (find_passes p q xs x (both (q y) (list_all q xs) all).1)
+find_passes p q (y ∷ xs) x all h = by (p y) h (find_passes p q xs x (and_parts (q y) (list_all q xs) all).1)
   where
     by : (b : Bool) → cond b (Some y) (find p xs) ≡ Some x → (find p xs ≡ Some x → q x ≡ true) → q x ≡ true
-    by true h rest = let same : y ≡ x = cc in ap q (sym same) ∙ (both (q y) (list_all q xs) all).0
+    by true h rest = let same : y ≡ x = cc in ap q (sym same) ∙ (and_parts (q y) (list_all q xs) all).0
     by false h rest = rest h
 
 pub in_range : (segments : List Segment) (externals : ℕ) (t : Target) → is_target segments externals t ≡ true → t.index < length segments + externals
 in_range segments externals t h = by (slice_get segments t.index) refl h
   where
     by : (o : Option Segment) → slice_get segments t.index ≡ o → is_within o (length segments + externals) t.index t.addend ≡ true → t.index < length segments + externals
-    by None e h = let b = (both (nat_lt t.index (length segments + externals)) (nat_lt t.addend (2 ^ 20)) h).0 in grind (arith, nat_tests)
+    by None e h = let b = (and_parts (nat_lt t.index (length segments + externals)) (nat_lt t.addend (2 ^ 20)) h).0 in grind (arith, nat_tests)
     by (Some s) e h = let l = within segments t.index s e in omega (arith, l)
 
 of_reloc : (o : Object) (r : Reloc) → is_reloc o.segments (length o.externals) r ≡ true → IsTargetOf o r.target
-of_reloc o r h = in_range o.segments (length o.externals) r.target (both (is_zero (item_of (slice_get o.segments r.segment) r.word))
+of_reloc o r h = in_range o.segments (length o.externals) r.target (and_parts (is_zero (item_of (slice_get o.segments r.segment) r.word))
     (is_target o.segments (length o.externals) r.target) h).1
 
 -- that of a relocation
@@ -69,11 +69,11 @@ pub record ThreadIs (segments : List Segment) (externals : ℕ) (t : Thread) : T
 
 pub thread_is : (segments : List Segment) (externals : ℕ) (t : Thread) → is_thread segments externals t ≡ true → ThreadIs segments externals t
 thread_is segments externals t h =
-    let f = both _ (list_all (is_value segments externals) t.regs) h in
-    let e = both _ (is_target segments externals t.target) f.0 in
-    let d = both _ (can_fetch t.perm) e.0 in
-    let c = both _ (is_handler t.slot t.handler) d.0 in
-    let b = both (nat_lt t.slot 16) (nat_lt t.group 16) c.0 in
+    let f = and_parts _ (list_all (is_value segments externals) t.regs) h in
+    let e = and_parts _ (is_target segments externals t.target) f.0 in
+    let d = and_parts _ (can_fetch t.perm) e.0 in
+    let c = and_parts _ (is_handler t.slot t.handler) d.0 in
+    let b = and_parts (nat_lt t.slot 16) (nat_lt t.group 16) c.0 in
     record { slot = less t.slot b.0; fetches = d.1; target = e.1; values = f.1 }
   where
     less : (n : ℕ) → nat_lt n 16 ≡ true → n < 16

@@ -115,9 +115,6 @@ fn image_of(
 {
     let slots = slots_of(alloc, sites, objects)?;
     let pages = pages_of(alloc, sites, placed, pages)?;
-    match Image::new(1, false, slots, pages, frames) {
-        Some(image) => Ok(image),
-        // What objects link to is an image.
-        None => unreachable!(),
-    }
+    // What objects link to is an image.
+    Ok(Image::of(1, false, slots, pages, frames))
 }

@@ -18,12 +18,6 @@ use std::alloc::Global;
 /// The page of the first segment.
 const FIRST_PAGE: u64 = 0x100;
 
-/// A cell that holds no word of a segment: integer 0, full.
-const ZERO: Cell = Cell {
-    word: Word::Int(0),
-    full: true,
-};
-
 /// The `count` pages of segments that are placed one after another.
 pub(crate) fn pages_of(
     alloc: Global,
@@ -120,7 +114,7 @@ fn push_zeros(cells: &mut Vec<Cell>, count: usize) -> Result<(), LinkError>
     ensures memory { IsOkUnless result LinkError.NoMemory }
 {
     for _ in 0..count {
-        cells.push(ZERO)?;
+        cells.push(Cell::ZERO)?;
     }
     Ok(())
 }
@@ -150,8 +144,5 @@ fn page_of(alloc: Global, number: u64, cells: &[Cell]) -> Result<Page, LinkError
     let mut page = Vec::with_capacity(alloc, CELLS)?;
     page.extend_from_slice(&cells[..kept])?;
     push_zeros(&mut page, CELLS - kept)?;
-    match Page::new(number, page) {
-        Some(page) => Ok(page),
-        None => unreachable!(),
-    }
+    Ok(Page::of(number, page))
 }

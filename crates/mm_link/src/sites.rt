@@ -97,10 +97,7 @@ impl<'a> Sites<'a> {
         ensures well_formed { IsWellFormed result }
     {
         let place = self.named(object.target_name(target).bytes());
-        match GuardedPtr::new(perm, place.log, place.base + u64::from(target.addend)) {
-            Some(pointer) => pointer,
-            None => unreachable!(),
-        }
+        GuardedPtr::of(perm, place.log, place.base + u64::from(target.addend))
     }
 }
 

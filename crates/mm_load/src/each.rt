@@ -29,9 +29,7 @@ fn load_each<T: FromFile, F: Files>(
     let mut loaded = Vec::new(alloc);
     for at in 0..names.len() {
         let one = load_file::<T, F>(alloc, files, names[at].as_str(), first + at as u8)?;
-        let Ok(()) = loaded.push(one) else {
-            return Err(Stop::NoMemory);
-        };
+        loaded.push(one)?;
     }
     Ok(loaded)
 }

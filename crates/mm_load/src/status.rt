@@ -9,6 +9,7 @@ use mm_io::WriteFault;
 use mm_link::{LinkError, LinkFault};
 use mm_object::ObjectFault;
 use mm_word::NoMemory;
+use std::alloc::AllocFailed;
 
 /// Why a command is refused. Files are counted from 1 among the command's file words.
 #[derive(Drop)]
@@ -124,6 +125,14 @@ impl From<LinkError> for Stop {
             LinkError::Fault(fault) => Stop::Refused(Refusal::Link(fault)),
             LinkError::NoMemory => Stop::NoMemory,
         }
+    }
+}
+
+impl<T: Drop> From<AllocFailed<T>> for Stop {
+    ghost from_gives = { λ _ e. e ≡ stop.NoMemory };
+
+    fn from(_: AllocFailed<T>) -> Self {
+        Stop::NoMemory
     }
 }
 

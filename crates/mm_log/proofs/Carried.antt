@@ -1,15 +1,17 @@
 -- What lines make of each row, of the outputs and of the memory of a state.
 use Rattle.std.proofs.Common.{◌≡◌, ◌≢◌, ℕ, ◌<◌, inl, inr, Bool, true, false, ◌==◌, nat_eq, if◌then◌else◌, List, [], ◌∷◌}
-use Rattle.std.proofs.Common.{◌++◌, map, slice_set, slice_index_or, Option, Some, refl, sym, ap, ◌∙◌, arith, eq-eqb}
+use Rattle.std.proofs.Common.{◌++◌, map, slice_set, slice_index_or, Option, Some, refl, sym, ap, ◌∙◌, arith}
 use Rattle.std.specs.List.{AllByRecursion}
 use Rattle.std.specs.List.Sorted.{IsStrictlyIncreasing}
-use Rattle.std.proofs.lemmas.Bool.{cases_eq, ne_eqb}
+use Rattle.std.proofs.lemmas.Bool.{cases_eq}
+use Rattle.mm_machine.proofs.Returning.{above_rows}
+use Rattle.mm_model.proofs.ImageBytes.Ranges.{map-map}
 use Rattle.mm_model.specs.declared.event.Event.{Event}
 use Rattle.mm_model.specs.Slot.{Slot}
 use Rattle.mm_model.specs.State.{ThreadRow, Core, State, row_in, at_number, put_output, output_of}
 use Rattle.mm_model.specs.Spelling.{numbers_of}
 use Rattle.mm_model.specs.Fits.{identity_of, slots_of}
-use Rattle.mm_model.proofs.CoreRows.{above_first, rest_rises}
+use Rattle.mm_model.proofs.CoreRows.{above_first, rest_rises, row_here, row_later}
 use Rattle.mm_log.specs.Lines.{Line}
 use Rattle.mm_log.specs.Lines.Line.{Traced, Points, Enters, Holds, Empties, Issues, Queues, Reads, Puts, Maps, Removes, Sets}
 use Rattle.mm_log.specs.Replay.{holding, emptied, is_turn, with_turns, without_first, carry_out, replay}
@@ -59,10 +61,6 @@ map_same : {A : Type 0} (xs : List A) → map (λ (x : A). x) xs ≡ xs
 map_same [] = refl
 map_same (x ∷ xs) = ap (λ l. x ∷ l) (map_same xs)
 
-map_twice : {A B C : Type 0} (f : B → C) (g : A → B) (xs : List A) → map f (map g xs) ≡ map (λ x. f (g x)) xs
-map_twice f g [] = refl
-map_twice f g (x ∷ xs) = ap (λ l. f (g x) ∷ l) (map_twice f g xs)
-
 record Carried (s : State) (l : Line) : Type 0 where
   rows : (carry_out s l).core.rows ≡ map (row_line l) s.core.rows
   outputs : (carry_out s l).core.outputs ≡ out_line l s.core.outputs
@@ -103,7 +101,7 @@ replayed s (l ∷ ls) =
     let one = carried s l in
     let rest = replayed (carry_out s l) ls in
     record {
-      rows = rest.rows ∙ ap (map (run_on row_line ls)) one.rows ∙ map_twice (run_on row_line ls) (row_line l) s.core.rows;
+      rows = rest.rows ∙ ap (map (run_on row_line ls)) one.rows ∙ map-map (run_on row_line ls) (row_line l) s.core.rows;
       outputs = rest.outputs ∙ ap (run_on out_line ls) one.outputs;
       memory = rest.memory ∙ ap (run_on memory_line ls) one.memory;
       version = rest.version ∙ one.version;
@@ -184,16 +182,6 @@ same_numbers (x ∷ a) (y ∷ b) e =
     let others = same_numbers a b rest in
     cc
 
-rows_above : (k : ℕ) (rows : List ThreadRow) → AllByRecursion (λ y. k < y) (numbers_of (map (λ (row : ThreadRow). row.slot) rows)) → AllByRecursion (λ (row : ThreadRow). k < row.slot.number) rows
-rows_above k [] h = tt
-rows_above k (row ∷ rows) h = (h.0, rows_above k rows h.1)
-
-row_here : (row : ThreadRow) (rows : List ThreadRow) (n : ℕ) → row.slot.number ≡ n → row_in (row ∷ rows) n ≡ Some row
-row_here row rows n e = ap (λ b. if b then Some row else row_in rows n) (eq-eqb row.slot.number n e)
-
-row_later : (row : ThreadRow) (rows : List ThreadRow) (n : ℕ) → row.slot.number ≢ n → row_in (row ∷ rows) n ≡ row_in rows n
-row_later row rows n ne = ap (λ b. if b then Some row else row_in rows n) (ne_eqb row.slot.number n ne)
-
 -- a row that is found is at its number, above what all are above
 found_above : (k : ℕ) (rows : List ThreadRow) (n : ℕ) (row : ThreadRow) → AllByRecursion (λ (r : ThreadRow). k < r.slot.number) rows → row_in rows n ≡ Some row → k < n
 found_above k [] n row h is = cc
@@ -220,7 +208,7 @@ rows_made f (x ∷ a) [] up e h = cc
 rows_made f (x ∷ a) (y ∷ b) up e h =
     let first : x.slot.number ≡ y.slot.number = cc in
     let rest : numbers a ≡ numbers b = cc in
-    let above : AllByRecursion (λ (r : ThreadRow). x.slot.number < r.slot.number) a = rows_above x.slot.number a (above_first x.slot.number (numbers_of (map (λ (row : ThreadRow). row.slot) a)) up) in
+    let above : AllByRecursion (λ (r : ThreadRow). x.slot.number < r.slot.number) a = above_rows x.slot.number a (above_first x.slot.number (numbers_of (map (λ (row : ThreadRow). row.slot) a)) up) in
     let here : f x ≡ y = h x.slot.number x y (row_here x a x.slot.number refl) (row_here y b x.slot.number (sym first)) in
     let others : map f a ≡ b =
     rows_made f a b (rest_rises x.slot.number (numbers_of (map (λ (row : ThreadRow). row.slot) a)) up) rest

@@ -1,14 +1,15 @@
 -- What a turn leaves as it was, by the way that it goes.
-use Rattle.std.proofs.Common.{◌≡◌, ◌≢◌, ℕ, Bool, true, false, if◌then◌else◌, List, [], ◌∷◌, ◌++◌, Option, Some, None, refl, sym, ◌∙◌, subst}
+use Rattle.std.proofs.Common.{◌≡◌, ◌≢◌, ℕ, Bool, true, false, if◌then◌else◌, [], ◌∷◌, ◌++◌, Option, Some, None, refl, sym, ◌∙◌, subst}
+use Rattle.mm_log.proofs.Placed.{out_same, queue_same}
 use Rattle.mm_isa.specs.declared.instr.Instr.{Instr}
 use Rattle.mm_model.specs.declared.slot.SlotState.TheVariants.{Running, Waiting, Halted}
 use Rattle.mm_model.specs.declared.event.Event.{Event}
 use Rattle.mm_model.specs.Memory.{Memory}
 use Rattle.mm_model.specs.Slot.{Slot}
-use Rattle.mm_model.specs.State.{Core, slot_at, queue_at, put_slot, put_output}
+use Rattle.mm_model.specs.State.{Core, slot_at, queue_at, put_slot}
 use Rattle.mm_model.specs.Ask.{ask}
 use Rattle.mm_model.specs.Effect.{Change, delivered}
-use Rattle.mm_model.specs.Turn.{Turned, slot_after, with_other, with_queue, with_out, core_after, stood, is_sync, event_of, core_faulted, faulted, blocked, ended, idle, turn}
+use Rattle.mm_model.specs.Turn.{Turned, slot_after, with_other, with_queue, core_after, stood, is_sync, event_of, core_faulted, faulted, blocked, ended, idle, turn}
 use Rattle.mm_model.specs.Outcomes.{Runs}
 use Rattle.mm_model.proofs.CoreRows.{slot_at-put_other, slot_at-put_queue}
 use Rattle.mm_model.proofs.SlotSteps.{delivered_from}
@@ -36,15 +37,6 @@ module _ (core : Core) (m : Memory) (n : ℕ) where
       by true = slot_at-put_other core (stood s Running) k ne
       by false = slot_at-put_other core (stood s (Halted (Some e.cause))) k ne
 
-  out_still : (mid : Core) (g : ℕ) (o : Option ℕ) (k : ℕ) → slot_at (with_out mid g o) k ≡ slot_at mid k
-  unfolding slot_at put_output
-  out_still mid g None k = refl
-  out_still mid g (Some b) k = refl
-
-  queue_still : (mid : Core) (j : ℕ) (o : Option (List Event)) (k : ℕ) → slot_at (with_queue mid j o) k ≡ slot_at mid k
-  queue_still mid j None k = refl
-  queue_still mid j (Some q) k = slot_at-put_queue mid j q k
-
   other_still : (s : Slot) (i : Instr) (k : ℕ) (o : Option Slot) → OtherMoves core s.number (ask i s) o
       → ((x : Slot) → OtherMove core s.number (ask i s) x → k ≢ x.number) → slot_at (with_other core o) k ≡ slot_at core
       k
@@ -56,8 +48,8 @@ module _ (core : Core) (m : Memory) (n : ℕ) where
       core k
   unfolding core_after
   change_still s i c k ne other apart =
-      out_still (with_queue (put_slot (with_other core c.other) (slot_after s c)) s.number c.queue) s.group c.out k
-      ∙ queue_still (put_slot (with_other core c.other) (slot_after s c)) s.number c.queue k
+      out_same (with_queue (put_slot (with_other core c.other) (slot_after s c)) s.number c.queue) s.group c.out k
+      ∙ queue_same (put_slot (with_other core c.other) (slot_after s c)) s.number c.queue k
       ∙ slot_at-put_other (with_other core c.other) (slot_after s c) k (λ e. ne (e ∙ (changed_from s c).number))
       ∙ other_still s i k c.other other apart
 

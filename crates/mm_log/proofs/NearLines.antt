@@ -1,13 +1,13 @@
 -- What was looked at before the turn of an instruction that writes one register at most tells all that the turn changes.
-use Rattle.std.proofs.Common.{◌≡◌, ℕ, ◌<◌, true, false, ◌&&◌, if◌then◌else◌, List, [], ◌∷◌, ◌++◌, length, drop, map, Option, Some, None, refl, sym, ap, ◌∙◌, subst, arith, append-nil}
+use Rattle.std.proofs.Common.{◌≡◌, ℕ, ◌<◌, false, ◌&&◌, if◌then◌else◌, List, [], ◌∷◌, ◌++◌, length, drop, map, Option, Some, None, refl, sym, ap, ◌∙◌, subst, arith, append-nil}
 use Rattle.std.specs.Prelude.{IfSome}
 use Rattle.std.specs.List.{flat_map, range_with_len}
 use Rattle.std.proofs.lemmas.List.Folds.{flat_map-map}
+use Rattle.mm_thread.proofs.RunningSlots.{runs_where}
 use Rattle.mm_word.specs.declared.word.Cell.{Cell}
 use Rattle.mm_isa.specs.declared.instr.Instr.{Instr}
 use Rattle.mm_isa.specs.declared.instr.Instr.TheVariants.{Evt}
-use Rattle.mm_model.specs.declared.slot.SlotState.{SlotState}
-use Rattle.mm_model.specs.declared.slot.SlotState.TheVariants.{Running, Waiting, Taken, Halted}
+use Rattle.mm_model.specs.declared.slot.SlotState.TheVariants.{Running}
 use Rattle.mm_model.specs.declared.step.Step.{Step}
 use Rattle.mm_model.specs.declared.step.Tick.{Tick}
 use Rattle.mm_model.specs.declared.step.Tick.TheVariants.{Idle, Blocked, Did, Faulted, Delivered}
@@ -18,7 +18,7 @@ use Rattle.mm_model.specs.Ask.{Ask, ask}
 use Rattle.mm_model.specs.Ask.Ask.{Nothing as AskNothing, Refuse, Reach, MapPage, UnmapPage, NextEvent, Room, Serve}
 use Rattle.mm_model.specs.Effect.{same_word}
 use Rattle.mm_model.specs.Report.{same_bit}
-use Rattle.mm_model.specs.Turn.{is_running, turn}
+use Rattle.mm_model.specs.Turn.{turn}
 use Rattle.mm_model.specs.Trace.{turns_of, step_line}
 use Rattle.mm_model.specs.Run.{turn_of, after}
 use Rattle.mm_machine.specs.Kept.{Kept}
@@ -35,7 +35,7 @@ use Rattle.mm_log.specs.Seen.{read_in, with_taken, with_there, slots_seen, queue
 use Rattle.mm_log.specs.Local.{written_by, IsNear, held_of, with_touch, cell_asked, local_of, IsLocal, pointer_left, state_left, held_left, slot_left, told_of, cell_left, local_seen}
 use Rattle.mm_log.proofs.Told.{text_append}
 use Rattle.mm_log.proofs.Numbers.{none_from, one_from}
-use Rattle.mm_log.proofs.Sames.{pair_self}
+use Rattle.mm_model.proofs.Sames.{pair_self}
 use Rattle.mm_log.proofs.Seeing.{runs_own}
 use Rattle.mm_log.proofs.Taking.{no_read_row}
 use Rattle.mm_log.proofs.Whole.{read_none, line_is}
@@ -56,12 +56,6 @@ module _ (s now : Slot) where
   registers_left Nothing near small none = none_from (register_changes s now) 0 16 (λ k low. none k tt)
   registers_left (One r) near small none = one_from (register_changes s now) r 0 16 (λ k ne. none k ne) (omega arith) (omega (arith, small))
   registers_left More near small none = absurd near
-
-runs_only : (state : SlotState) → is_running state ≡ true → state ≡ Running
-runs_only Running e = refl
-runs_only Waiting e = cc
-runs_only Taken e = cc
-runs_only (Halted c) e = cc
 
 -- 2. What is there besides the slot.
 
@@ -136,7 +130,7 @@ module _ (st : State) (n : ℕ) (q : Local) (l : IsLocal st.core st.memory n q) 
       let none : (k : ℕ) → Spares (written_by i) k → register_changes s now k ≡ [] = λ k h. let same = left.leaves k h in unchanged s now k same.0 same.1 in
       ap (λ t. pointer_left s.ip t now ++ state_changes s now ++ flat_map (register_changes s now) (range_with_len 0 16)
       ++ load_changes s now) (not_past st.core st.memory n s i l.runs l.comes l.near l.loads)
-      ∙ ap (λ t. pointer_left s.ip false now ++ state_left t now ++ flat_map (register_changes s now) (range_with_len 0 16) ++ load_changes s now) (runs_only s.state l.runs.running)
+      ∙ ap (λ t. pointer_left s.ip false now ++ state_left t now ++ flat_map (register_changes s now) (range_with_len 0 16) ++ load_changes s now) (runs_where s.state l.runs.running)
       ∙ ap (λ x. pointer_left s.ip false now ++ state_left Running now ++ x ++ load_changes s now) (registers_left s now (written_by i) l.near small none)
       ∙ ap (λ x. pointer_left s.ip false now ++ state_left Running now ++ held_left (held_of s (written_by i)) now ++ map (Issues now.number) (drop (length x) now.pending)) l.loads
 

@@ -9,7 +9,8 @@ use Rattle.mm_log.specs.Lines.{Line}
 use Rattle.mm_log.specs.Lines.Line.{Points, Enters, Issues}
 use Rattle.mm_log.specs.Changes.{state_changes, register_changes, register_now, load_changes, slot_changes, changes_between}
 use Rattle.mm_log.proofs.Runs.{flat_none}
-use Rattle.mm_log.proofs.Sames.{pair_self, state_self}
+use Rattle.mm_model.proofs.Sames.{pair_self}
+use Rattle.mm_log.proofs.Sames.{state_self}
 
 module _ (f : ℕ → List Line) where
   pub none_from : (first count : ℕ) → ((k : ℕ) → first ≤ k → f k ≡ []) → flat_map f (range_with_len first count) ≡ []

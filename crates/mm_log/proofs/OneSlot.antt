@@ -1,6 +1,6 @@
 -- What was looked at before a cycle tells the slots that the cycle changes, but for `evt`.
 use Rattle.std.proofs.Common.{◌≡◌, ◌≢◌, ◌⊎◌, ℕ, ◌-◌, ◌<◌, ◌≤◌, inl, inr, Bool, true, false, nat_le, nat_lt, if◌then◌else◌, List, [], ◌++◌, Option, Some, None, refl, sym, ap, ◌∙◌, arith, append-nil}
-use Rattle.std.proofs.lemmas.Bool.{cases_eq}
+use Rattle.std.proofs.lemmas.Bool.{cases_eq, lt-ltb, le-ltb}
 use Rattle.std.proofs.lemmas.Bool.Decides.{nat_tests}
 use Rattle.mm_isa.specs.declared.instr.Instr.{Instr}
 use Rattle.mm_model.specs.Memory.{Memory}
@@ -22,26 +22,20 @@ use Rattle.mm_log.proofs.Ways.{Way, turn_way}
 use Rattle.mm_log.proofs.Frames.{NoOther, slots_still}
 use Rattle.mm_log.proofs.Seeing.{runs_own, port_own, same_own}
 
-lt_true : (a b : ℕ) → a < b → nat_lt a b ≡ true
-lt_true a b lt = grind (arith, nat_tests)
-
-lt_false : (a b : ℕ) → b ≤ a → nat_lt a b ≡ false
-lt_false a b le = grind (arith, nat_tests)
-
 order_same : (a b : ℕ) (first second : List Line) → a ≡ b → in_order a b first second ≡ first
 order_same a b first second e =
-    ap (λ t. (if t then second else []) ++ first ++ (if nat_lt a b then second else [])) (lt_false b a (omega arith))
-    ∙ ap (λ t. first ++ (if t then second else [])) (lt_false a b (omega arith)) ∙ append-nil first
+    ap (λ t. (if t then second else []) ++ first ++ (if nat_lt a b then second else [])) (le-ltb b a (omega arith))
+    ∙ ap (λ t. first ++ (if t then second else [])) (le-ltb a b (omega arith)) ∙ append-nil first
 
 order_less : (a b : ℕ) (first second : List Line) → a < b → in_order a b first second ≡ first ++ second
 order_less a b first second lt =
-    ap (λ t. (if t then second else []) ++ first ++ (if nat_lt a b then second else [])) (lt_false b a (omega arith))
-    ∙ ap (λ t. first ++ (if t then second else [])) (lt_true a b lt)
+    ap (λ t. (if t then second else []) ++ first ++ (if nat_lt a b then second else [])) (le-ltb b a (omega arith))
+    ∙ ap (λ t. first ++ (if t then second else [])) (lt-ltb a b lt)
 
 order_more : (a b : ℕ) (first second : List Line) → b < a → in_order a b first second ≡ second ++ first
 order_more a b first second lt =
-    ap (λ t. (if t then second else []) ++ first ++ (if nat_lt a b then second else [])) (lt_true b a lt)
-    ∙ ap (λ t. second ++ first ++ (if t then second else [])) (lt_false a b (omega arith)) ∙ append-nil (second ++ first)
+    ap (λ t. (if t then second else []) ++ first ++ (if nat_lt a b then second else [])) (lt-ltb b a lt)
+    ∙ ap (λ t. second ++ first ++ (if t then second else [])) (le-ltb a b (omega arith)) ∙ append-nil (second ++ first)
 
 apart_ways : (a b : ℕ) → a ≢ b → (a < b) ⊎ (b < a)
 apart_ways a b ne = by (nat_lt a b) refl

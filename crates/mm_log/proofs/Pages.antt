@@ -31,7 +31,7 @@ use Rattle.mm_log.specs.Lines.Line.{Maps, Removes, Sets}
 use Rattle.mm_log.specs.Changes.{pages_mapped, pages_removed, cells_changed, cells_changed_in}
 use Rattle.mm_log.proofs.Runs.{flat_none, run_on}
 use Rattle.mm_log.proofs.Rows.{MemoryMove}
-use Rattle.mm_log.proofs.Sames.{cell_self, cells_same}
+use Rattle.mm_model.proofs.Sames.{cell_self, cells_same}
 
 -- 1. Pages that rise.
 

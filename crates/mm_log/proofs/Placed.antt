@@ -9,12 +9,12 @@ use Rattle.mm_model.specs.Turn.{slot_after, with_other, with_queue, with_out, co
 use Rattle.mm_model.proofs.CoreRows.{slot_at-put_same, slot_at-put_other, slot_at-put_queue}
 use Rattle.mm_model.proofs.TurnKeeps.{changed_from}
 
-out_same : (mid : Core) (g : ℕ) (o : Option ℕ) (k : ℕ) → slot_at (with_out mid g o) k ≡ slot_at mid k
+pub out_same : (mid : Core) (g : ℕ) (o : Option ℕ) (k : ℕ) → slot_at (with_out mid g o) k ≡ slot_at mid k
 unfolding slot_at put_output
 out_same mid g None k = refl
 out_same mid g (Some b) k = refl
 
-queue_same : (mid : Core) (j : ℕ) (o : Option (List Event)) (k : ℕ) → slot_at (with_queue mid j o) k ≡ slot_at mid k
+pub queue_same : (mid : Core) (j : ℕ) (o : Option (List Event)) (k : ℕ) → slot_at (with_queue mid j o) k ≡ slot_at mid k
 queue_same mid j None k = refl
 queue_same mid j (Some q) k = slot_at-put_queue mid j q k
 

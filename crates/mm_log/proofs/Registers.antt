@@ -4,7 +4,7 @@ use Rattle.std.proofs.Common.{if◌then◌else◌, List, [], ◌∷◌, ◌++◌
 use Rattle.std.proofs.Common.{sym, ap, ◌∙◌, subst, arith, eq-eqb, append-nil, append_assoc, length-set, get_or-set_same}
 use Rattle.std.proofs.Common.{get_or-set_other}
 use Rattle.std.specs.List.{AllByRecursion, flat_map, range_with_len}
-use Rattle.std.proofs.lemmas.Bool.{cases_eq}
+use Rattle.std.proofs.lemmas.Bool.{cases_eq, lt-ltb, and_parts}
 use Rattle.std.proofs.lemmas.Bool.Decides.{nat_tests}
 use Rattle.std.proofs.lemmas.List.{ext_get_or}
 use Rattle.std.proofs.Math.Seq.{drop-length, drop-append_seam}
@@ -28,7 +28,8 @@ use Rattle.mm_log.specs.Changes.{same_state, pointer_changes, state_changes, reg
 use Rattle.mm_log.specs.Replay.{without_load, holding, emptied}
 use Rattle.mm_log.proofs.Runs.{run_on, run_append, all_append, all_flat, all_map, all_unless}
 use Rattle.mm_log.proofs.Rows.{LoadsMove, SlotMove}
-use Rattle.mm_log.proofs.Sames.{both, words_same, pointers_same, bits_same, states_same}
+use Rattle.mm_model.proofs.Sames.{words_same, pointers_same, bits_same}
+use Rattle.mm_log.proofs.Sames.{states_same}
 use Rattle.mm_log.proofs.Carried.{slot_line}
 
 -- 1. Which lines these are.
@@ -122,9 +123,6 @@ pends was now match long (LoadsMove.deliver p rest is later flags) = record {
     within : p.reg < length was.empty
     within = empty_within was p.reg waits
 
-    lt_true : (a b : ℕ) → a < b → nat_lt a b ≡ true
-    lt_true a b lt = grind (arith, nat_tests)
-
     none_below : (a : ℕ) → nat_lt a 0 ≡ false
     none_below a = grind (arith, nat_tests)
 
@@ -135,7 +133,7 @@ pends was now match long (LoadsMove.deliver p rest is later flags) = record {
     before = ap (λ c. if c then rest else p ∷ rest) lt_self
 
     behind : (r : ℕ) → p.reg < r → at r ≡ rest
-    behind r lt = ap (λ c. if c then rest else p ∷ rest) (lt_true p.reg r lt)
+    behind r lt = ap (λ c. if c then rest else p ∷ rest) (lt-ltb p.reg r lt)
 
     next : (r : ℕ) → r ≢ p.reg → nat_lt p.reg (r + 1) ≡ nat_lt p.reg r
     next r ne = grind (arith, nat_tests)
@@ -247,7 +245,7 @@ module _ (was now : Slot) (old : IsSlot was) (new : IsSlot now) (old_words : Slo
       by : (b : Bool) → (same_word (register was r) (register now r) && same_bit (is_empty was r) (is_empty now r)) ≡ b
           → Half base (r + 1) (run_on (slot_line n) (if b then [] else register_now now r ∷ []) x)
       by true e =
-          let two = both (same_word (register was r) (register now r)) (same_bit (is_empty was r) (is_empty now r)) e in
+          let two = and_parts (same_word (register was r) (register now r)) (same_bit (is_empty was r) (is_empty now r)) e in
           half_same base r x h (words_same (register was r) (register now r) (word was old old_words) (word now new new_words) two.0) (bits_same (is_empty was r) (is_empty now r) two.1)
       by false e = told_by (is_empty now r) refl
 
@@ -271,7 +269,7 @@ module _ (was now : Slot) (old : IsSlot was) (new : IsSlot now) (old_words : Slo
       by : (b : Bool) → (same_word (Ptr was.ip) (Ptr now.ip) && same_bit was.past now.past) ≡ b → run_on (slot_line n)
           (if b then [] else Points n now.ip now.past ∷ []) x ≡ record x { ip = now.ip; past = now.past }
       by true e =
-          let two = both (same_word (Ptr was.ip) (Ptr now.ip)) (same_bit was.past now.past) e in
+          let two = and_parts (same_word (Ptr was.ip) (Ptr now.ip)) (same_bit was.past now.past) e in
           let one = ip ∙ pointers_same was.ip now.ip old_words.ip new_words.ip two.0 in
           let bit = past ∙ bits_same was.past now.past two.1 in
           λ i. record x { ip = one i; past = bit i }

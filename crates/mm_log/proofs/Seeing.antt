@@ -23,7 +23,7 @@ use Rattle.mm_log.specs.Changes.{each_number, put_out_by, pages_mapped, pages_re
 use Rattle.mm_log.specs.Looks.{own_of, or_port, comes_to, address_told, value_told, there_at, there_for, cell_there, slot_there}
 use Rattle.mm_log.specs.Seen.{page_told, page_seen, cell_now, cell_seen}
 use Rattle.mm_log.proofs.Rows.{MemoryMove}
-use Rattle.mm_log.proofs.Sames.{cell_self}
+use Rattle.mm_model.proofs.Sames.{cell_self}
 use Rattle.mm_log.proofs.Pages.{MemoryTold, memory_told}
 use Rattle.mm_log.proofs.Numbers.{one_number}
 use Rattle.mm_log.proofs.Ways.{Way, turn_way}

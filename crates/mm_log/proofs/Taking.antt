@@ -43,7 +43,7 @@ use Rattle.mm_log.specs.Changes.{same_state, state_changes, register_changes, re
 use Rattle.mm_log.specs.Looks.{own_of, comes_to, found_by, in_cell, address_told, value_told}
 use Rattle.mm_log.specs.Seen.{slot_in, read_by, read_in, with_taken}
 use Rattle.mm_log.proofs.Runs.{flat_none}
-use Rattle.mm_log.proofs.Sames.{pair_self}
+use Rattle.mm_model.proofs.Sames.{pair_self}
 use Rattle.mm_log.proofs.Rows.{OtherMove}
 use Rattle.mm_log.proofs.Numbers.{each_none}
 use Rattle.mm_log.proofs.Ways.{Way, turn_way}

@@ -1,5 +1,6 @@
 -- The text of a run, one cycle at a time.
 use Rattle.std.proofs.Common.{◌≡◌, ℕ, Bool, true, false, List, [], ◌∷◌, ◌++◌, Option, refl, sym, ap, ◌∙◌, arith, append_assoc, append-nil}
+use Rattle.mm_machine.proofs.Keeping.{run_more}
 use Rattle.mm_io.proofs.Known.{append_known-[]}
 use Rattle.mm_text.specs.Gathers.{Gathered, Gathers, Became}
 use Rattle.mm_model.specs.declared.step.Step.{Step}
@@ -12,13 +13,8 @@ use Rattle.mm_log.proofs.Told.{text_append}
 
 -- 1. One cycle more, where the state is that of the run so far.
 
-run_one_more : (s : State) (items : List ℕ) (n : ℕ) → run s (items ++ n ∷ []) ≡ after (run s items) n
-unfolding run
-run_one_more s [] n = refl
-run_one_more s (m ∷ items) n = run_one_more (after s m) items n
-
 pub state_more : (s t u : State) (items : List ℕ) (n : ℕ) → t ≡ run s items → u ≡ after t n → u ≡ run s (items ++ n ∷ [])
-state_more s t u items n so_far is = is ∙ ap (λ (x : State). after x n) so_far ∙ sym (run_one_more s items n)
+state_more s t u items n so_far is = is ∙ ap (λ (x : State). after x n) so_far ∙ sym (run_more s items n)
 
 module _ (of_cycle : State → ℕ → List ℕ) where
   text_one_more : (s : State) (items : List ℕ) (n : ℕ) → text_of_run of_cycle s (items ++ n ∷ []) ≡ text_of_run of_cycle s items ++ of_cycle (run s items) n

@@ -152,7 +152,7 @@ fn page_there<M: Inspect>(machine: &Machine<M>, slot: &Slot, page: u64) -> There
     ensures { result ≡ there_at (state_of machine.now).core (state_of machine.now).memory
         (page_asked slot.now.ip.perm page (MapPage page)) }
 {
-    if slot.ip.perm() != Perm::Xp || page >= 1 << 42 {
+    if !slot.ip.perm().is_privileged() || page >= 1 << 42 {
         return There::Nothing;
     }
     There::Page(page, is_mapped(machine, page))

@@ -1,6 +1,7 @@
 -- What a link does at an item, exactly: it takes, puts, or changes nothing.
 use Rattle.std.proofs.Common.{◌≡◌, ℕ, Bool, true, false, ◌==◌, if◌then◌else◌, List, [], ◌∷◌, ◌++◌, length, slice_get}
-use Rattle.std.proofs.Common.{slice_set, zero, suc, Option, Some, None, refl, sym, ap, ◌∙◌, subst, eqb-true, eq-eqb}
+use Rattle.std.proofs.Common.{slice_set, Option, Some, None, refl, sym, ap, ◌∙◌, subst, eqb-true, eq-eqb}
+use Rattle.mm_net.proofs.ListPlaces.{set_found}
 use Rattle.mm_word.specs.declared.word.Pre.TheVariants.{Full, Empty}
 use Rattle.mm_word.specs.declared.word.Post.TheVariants as leaves
 use Rattle.mm_word.specs.declared.word.Word.{Word}
@@ -78,15 +79,9 @@ is_due carried k bits next integer = ap (λ (b : Bool). if b then slice_get carr
 
 -- 3. What changes.
 
--- an element that is put where it stands changes nothing
-pub put_back : {A : Type 0} (xs : List A) (n : ℕ) (x : A) → slice_get xs n ≡ Some x → slice_set xs n x ≡ xs
-put_back [] n x is = cc
-put_back (y ∷ xs) zero x is = let same : x ≡ y = cc in ap (λ z. z ∷ xs) same
-put_back (y ∷ xs) (suc n) x is = ap (λ zs. y ∷ zs) (put_back xs n x is)
-
 both_back : (s : NetState) (n l : ℕ) (node : State) (carried : Carried) → slice_get s.nodes n ≡ Some node → slice_get s.links l ≡ Some carried → with_both s n node l carried ≡ s
 both_back s n l node carried is has =
-    ap (λ nodes. record { nodes = nodes; links = slice_set s.links l carried }) (put_back s.nodes n node is) ∙ ap (λ links. record { nodes = s.nodes; links = links }) (put_back s.links l carried has)
+    ap (λ nodes. record { nodes = nodes; links = slice_set s.links l carried }) (set_found s.nodes n node is) ∙ ap (λ links. record { nodes = s.nodes; links = links }) (set_found s.links l carried has)
 
 replaced_one : (node : State) (w : ℕ) (c old : Cell) → cell_at node.memory w ≡ Some old → ChangesOneCell node (replaced node w c) w
 replaced_one node w c old is = record {

@@ -4,6 +4,7 @@ use Rattle.std.proofs.Common.{[], ◌∷◌, ◌++◌, length, take, slice_get, 
 use Rattle.std.proofs.Common.{arith}
 use Rattle.std.proofs.lemmas.List.{take_more, length-take-le}
 use Rattle.std.proofs.lemmas.Option.{slice_get_within, get_or_from_slice_get}
+use Rattle.std.proofs.lemmas.Bool.{eqb-true}
 use Rattle.mm_word.specs.declared.word.Word.{Word}
 use Rattle.mm_word.specs.declared.word.Cell.{Cell}
 use Rattle.mm_word.specs.declared.word.Pre.TheVariants.{Full, Empty}
@@ -14,7 +15,6 @@ use Rattle.mm_mem.specs.declared.answer.Stored.{Stored}
 use Rattle.mm_mem.specs.declared.answer.Stored.TheVariants as stores
 use Rattle.mm_mem.specs.Answers.{loaded, stored}
 use Rattle.mm_net.specs.Nets.{Carried, due, with_arrived, bits_in, is_free}
-use Rattle.mm_net.proofs.ListPlaces.{equal}
 
 -- 1. An integer that is due.
 
@@ -26,7 +26,7 @@ pub due_is : (carried : Carried) (k bits : ℕ) → due carried k ≡ Some bits 
 due_is carried k bits = by (eqb k (length carried.arrived)) refl
   where
     by : (test : Bool) → eqb k (length carried.arrived) ≡ test → (if test then slice_get carried.sent k else None) ≡ Some bits → IsDue carried k bits
-    by true same is = record { next = equal k (length carried.arrived) same; taken = is }
+    by true same is = record { next = eqb-true k (length carried.arrived) same; taken = is }
     by false other is = cc
 
 pub some_left : (carried : Carried) (k bits : ℕ) → due carried k ≡ Some bits → length carried.arrived < length carried.sent

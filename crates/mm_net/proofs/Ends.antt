@@ -1,5 +1,5 @@
 -- Whether links keep their rules with one more.
-use Rattle.std.proofs.Common.{◌≡◌, ℕ, zero, suc, ◌+◌, ◌<◌, ◌⊎◌, inl, inr, Bool, true, false, not, ◌==◌, ◌&&◌, ◌||◌}
+use Rattle.std.proofs.Common.{◌≡◌, ℕ, zero, suc, ◌+◌, ◌<◌, inl, inr, Bool, true, false, not, ◌==◌, ◌&&◌}
 use Rattle.std.proofs.Common.{List, [], ◌∷◌, ◌++◌, length, get_or, refl, sym, ap, ◌∙◌, subst, arith, append_assoc}
 use Rattle.std.proofs.Math.ListN.{get_or-append}
 use Rattle.std.proofs.Math.Seq.{get_or-append_seam}
@@ -8,10 +8,12 @@ use Rattle.std.proofs.lemmas.Bool.Decides.{nat_tests}
 use Rattle.std.proofs.lemmas.List.Elements.{All-push}
 use Rattle.std.proofs.lemmas.List.Quantifiers.{all_pairs_push}
 use Rattle.std.specs.List.{AllPairs, list_any}
+use Rattle.std.proofs.lemmas.Bool.{or_cases, or_parts}
+use Rattle.mm_sched.proofs.Numbers.{below_or}
 use Rattle.mm_net.specs.declared.link.Link.{Link}
 use Rattle.mm_net.specs.Marks.{has_end}
 use Rattle.mm_net.specs.Links.{IsLink, ends, AreLinks}
-use Rattle.mm_net.proofs.Parts.{or_false, true_false, same_byte}
+use Rattle.mm_net.proofs.Parts.{true_false, same_byte}
 use Rattle.mm_net.proofs.LinkWords.{ends_both}
 
 abbrev Apart : List (ℕ × ℕ) → Type 0
@@ -40,17 +42,13 @@ says_not false P holds fails = (λ h. holds refl, λ p. refl)
 pub never : (P : Type 0) → (P → ⊥) → (false ≡ true → P) × (P → false ≡ true)
 never P fails = (λ h. absurd (cc), λ p. absurd (fails p))
 
-or_cases : (a b : Bool) → (a || b) ≡ true → (a ≡ true) ⊎ (b ≡ true)
-or_cases true b h = inl refl
-or_cases false b h = inr h
-
 -- an end that no link has is none of the ends
 
 lacks_link : (l : Link) (links : List Link) (n a : ℕ) → list_any (has_end n a) (l ∷ links) ≡ false
     → ((pair l.from l.take ≡ pair n a) → ⊥) × ((pair l.to l.put ≡ pair n a) → ⊥) × (list_any (has_end n a) links ≡ false)
 lacks_link l links n a h =
-    let f = or_false (has_end n a l) (list_any (has_end n a) links) h in
-    let g = or_false (l.from == n && l.take == a) (l.to == n && l.put == a) f.0 in
+    let f = or_parts (has_end n a l) (list_any (has_end n a) links) h in
+    let g = or_parts (l.from == n && l.take == a) (l.to == n && l.put == a) f.0 in
     (test_false l.from l.take n a g.0, test_false l.to l.put n a g.1, f.1)
 
 none_at : (links : List Link) (n a : ℕ) → list_any (has_end n a) links ≡ false → (k : ℕ) (d : ℕ × ℕ) → k < length (ends links) → get_or (ends links) k d ≡ pair n a → ⊥
@@ -80,9 +78,6 @@ some_at (l ∷ links) n a h = elim (or_cases (has_end n a l) (list_any (has_end 
 
 ends_more : (links : List Link) (l : Link) → ends (links ++ l ∷ []) ≡ (ends links ++ pair l.from l.take ∷ []) ++ pair l.to l.put ∷ []
 ends_more links l = ends_both links (l ∷ []) ∙ sym (append_assoc (ends links) (pair l.from l.take ∷ []) (pair l.to l.put ∷ []))
-
-below_or : (k n : ℕ) → k < n + 1 → (k < n) ⊎ (n ≡ k)
-below_or k n h = grind arith
 
 apart_more : (es : List (ℕ × ℕ)) (x y : ℕ × ℕ) → Apart es → ((k : ℕ) (d : ℕ × ℕ) → k < length es → get_or es k d ≡ x → ⊥) → ((k : ℕ) (d : ℕ × ℕ) → k < length es → get_or es k d ≡ y → ⊥)
     → (x ≡ y → ⊥) → Apart ((es ++ x ∷ []) ++ y ∷ [])

@@ -6,34 +6,25 @@ use Rattle.std.specs.Option.{option_map}
 use Rattle.std.proofs.lemmas.Option.{slice_get-map, same_Some, slice_get_read, slice_get_past}
 use Rattle.std.proofs.lemmas.Bool.{cases_lt}
 use Rattle.std.proofs.lemmas.Bool.Decides.{nat_tests}
+use Rattle.mm_model.proofs.Memories.{get_set_other}
 
 pub set_here : {A : Type 0} (xs : List A) (i : ℕ) (x y : A) → slice_get xs i ≡ Some x → slice_get (slice_set xs i y) i ≡ Some y
 set_here [] i x y is = cc
 set_here (z ∷ xs) zero x y is = refl
 set_here (z ∷ xs) (suc i) x y is = set_here xs i x y is
 
-pub set_there : {A : Type 0} (xs : List A) (i k : ℕ) (y : A) → k ≢ i → slice_get (slice_set xs i y) k ≡ slice_get xs k
-set_there [] i k y ne = refl
-set_there (z ∷ xs) zero zero y ne = absurd (ne refl)
-set_there (z ∷ xs) zero (suc k) y ne = refl
-set_there (z ∷ xs) (suc i) zero y ne = refl
-set_there (z ∷ xs) (suc i) (suc k) y ne = set_there xs i k y (λ e. ne (ap suc e))
-
 -- what is there in the end was there before, or is what was set
 pub set_same : {A : Type 0} (xs : List A) (i : ℕ) (x y z : A) → slice_get xs i ≡ Some x → slice_get (slice_set xs i y) i ≡ Some z → z ≡ y
 set_same xs i x y z here is = same_Some z y (sym is ∙ set_here xs i x y here)
 
 pub set_other : {A : Type 0} (xs : List A) (i k : ℕ) (y x z : A) → k ≢ i → slice_get xs k ≡ Some x → slice_get (slice_set xs i y) k ≡ Some z → z ≡ x
-set_other xs i k y x z ne was is = same_Some z x (sym is ∙ set_there xs i k y ne ∙ was)
+set_other xs i k y x z ne was is = same_Some z x (sym is ∙ get_set_other xs i k y ne ∙ was)
 
 pub map_at : {A B : Type 0} (f : A → B) (xs : List A) (i : ℕ) (o : Option A) → slice_get xs i ≡ o → slice_get (map f xs) i ≡ option_map f o
 map_at f xs i o is = slice_get-map f xs i ∙ ap (option_map f) is
 
 pub unequal : (a b : ℕ) → eqb a b ≡ false → a ≢ b
 unequal a b is = grind (arith, nat_tests)
-
-pub equal : (a b : ℕ) → eqb a b ≡ true → a ≡ b
-equal a b is = grind (arith, nat_tests)
 
 -- what a look-up found, and where it found nothing
 pub found : {A R : Type 0} (xs : List A) (n i : ℕ) (o : Option R) (r : R) (x : A) → n ≡ length xs → (IsSome o → i < n) → o ≡ Some r → x ≡ get_or xs i x → slice_get xs i ≡ Some x

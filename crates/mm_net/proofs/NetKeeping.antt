@@ -2,6 +2,8 @@
 use Rattle.std.proofs.Common.{◌≡◌, ℕ, ◌+◌, ◌<◌, ◌≤◌, Bool, true, false, eqb, List, length, slice_get, slice_set, Some, sum_by, refl, sym, ap, ◌∙◌, subst, arith, length-set}
 use Rattle.std.proofs.lemmas.Option.{slice_get_within, get_or_from_slice_get}
 use Rattle.std.proofs.lemmas.List.Sums.{get_or-le-sum_by}
+use Rattle.std.proofs.lemmas.Bool.{eqb-true}
+use Rattle.mm_model.proofs.Memories.{get_set_other}
 use Rattle.mm_mem.specs.declared.memory.Memory.{Ghosts}
 use Rattle.mm_model.specs.State.{State}
 use Rattle.mm_model.specs.Run.{after}
@@ -11,11 +13,7 @@ use Rattle.mm_net.specs.declared.net.Net.{Net}
 use Rattle.mm_net.specs.Nets.{Carried, taken_from, put_into}
 use Rattle.mm_net.specs.Wires.{Wired}
 use Rattle.mm_net.specs.Kept.{AreWithin, AreWired}
-use Rattle.mm_net.proofs.ListPlaces.{set_same, set_there, unequal, equal}
-
-pub after_cycles : (s : State) (item : ℕ) → (after s item).cycles ≡ s.cycles + 1
-unfolding after
-after_cycles s item = refl
+use Rattle.mm_net.proofs.ListPlaces.{set_same, unequal}
 
 -- what is true of each element is true of each once one is set of which it is true
 set_each : {A : Type 0} (P : A → Type 0) (xs : List A) (i : ℕ) (x y : A) → slice_get xs i ≡ Some x → P y → ((k : ℕ) (z : A) → slice_get xs k ≡ Some z → P z)
@@ -23,8 +21,8 @@ set_each : {A : Type 0} (P : A → Type 0) (xs : List A) (i : ℕ) (x y : A) →
 set_each {A} P xs i x y here py each k z is = by (eqb k i) refl
   where
     by : (test : Bool) → eqb k i ≡ test → P z
-    by true same = subst P (sym (set_same xs i x y z here (subst (λ (n : ℕ). slice_get (slice_set xs i y) n ≡ Some z) (equal k i same) is))) py
-    by false other = each k z (sym (set_there xs i k y (unequal k i other)) ∙ is)
+    by true same = subst P (sym (set_same xs i x y z here (subst (λ (n : ℕ). slice_get (slice_set xs i y) n ≡ Some z) (eqb-true k i same) is))) py
+    by false other = each k z (sym (get_set_other xs i k y (unequal k i other)) ∙ is)
 
 wired_set : (nodes least : ℕ) (wires : List Wired) (l : ℕ) (w v : Wired) → slice_get wires l ≡ Some w → v.link ≡ w.link → w.room ≤ v.room
     → AreWired nodes least wires → AreWired nodes least (slice_set wires l v)

@@ -1,16 +1,10 @@
 -- The parts of a word at a byte that stands nowhere before.
-use Rattle.std.proofs.Common.{◌≡◌, ℕ, ◌+◌, ◌%◌, ◌<◌, ◌≤◌, ◌^◌, Bool, true, false, ◌==◌, ◌||◌, List, [], ◌∷◌, ◌++◌, decimal, refl, ap, ◌∙◌, subst, arith}
+use Rattle.std.proofs.Common.{◌≡◌, ℕ, ◌+◌, ◌%◌, ◌<◌, ◌≤◌, ◌^◌, Bool, true, false, ◌==◌, List, [], ◌∷◌, ◌++◌, decimal, refl, ap, ◌∙◌, subst, arith}
 use Rattle.std.proofs.lemmas.Fmt.{decimal_by_steps}
 use Rattle.std.proofs.lemmas.Bool.Decides.{nat_tests}
+use Rattle.std.proofs.Math.Bool.{or-true}
+use Rattle.std.proofs.lemmas.Bool.{or_parts}
 use Rattle.mm_net.specs.Marks.{has}
-
-or_true : (a : Bool) → (a || true) ≡ true
-or_true true = refl
-or_true false = refl
-
-pub or_false : (a b : Bool) → (a || b) ≡ false → (a ≡ false) × (b ≡ false)
-or_false true b h = absurd (cc)
-or_false false b h = (refl, h)
 
 pub true_false : {b : Bool} → b ≡ true → b ≡ false → ⊥
 true_false h k = cc
@@ -20,11 +14,11 @@ same_byte m = grind (arith, nat_tests)
 
 pub has_there : (m : ℕ) (a x : List ℕ) → has m (a ++ m ∷ x) ≡ true
 has_there m [] x = rw (same_byte m) refl
-has_there m (b ∷ a) x = rw (has_there m a x) (or_true (b == m))
+has_there m (b ∷ a) x = rw (has_there m a x) (or-true (b == m))
 
 pub lacks_both : (m : ℕ) (a x : List ℕ) → has m a ≡ false → has m x ≡ false → has m (a ++ x) ≡ false
 lacks_both m [] x h k = k
-lacks_both m (b ∷ a) x h k = let f = or_false (b == m) (has m a) h in rw (f.0, lacks_both m a x f.1 k) refl
+lacks_both m (b ∷ a) x h k = let f = or_parts (b == m) (has m a) h in rw (f.0, lacks_both m a x f.1 k) refl
 
 pub lacks_one : (m b : ℕ) → (b ≡ m → ⊥) → has m (b ∷ []) ≡ false
 lacks_one m b h = let e : (b == m) ≡ false = grind (arith, nat_tests) in rw e refl
@@ -42,22 +36,22 @@ lacking_first c m rest [] x h n e = let same : c ≡ m = cc in n same
 lacking_first c m rest (b ∷ a) x h n e =
     let same : c ≡ b = cc in
     let there : (b == c) ≡ true = subst (λ (k : ℕ). (k == c) ≡ true) same (same_byte c) in
-    true_false there (or_false (b == c) (has c a) h).0
+    true_false there (or_parts (b == c) (has c a) h).0
 
 pub split_unique : (m : ℕ) (a b x y : List ℕ) → has m a ≡ false → has m b ≡ false → a ++ m ∷ x ≡ b ++ m ∷ y → (a ≡ b) × (x ≡ y)
 split_unique m [] [] x y h k e = (refl, let t : x ≡ y = cc in t)
 split_unique m [] (c ∷ b) x y h k e =
     let same : m ≡ c = cc in
     let there : (c == m) ≡ true = subst (λ (n : ℕ). (n == m) ≡ true) same (same_byte m) in
-    absurd (true_false there (or_false (c == m) (has m b) k).0)
+    absurd (true_false there (or_parts (c == m) (has m b) k).0)
 split_unique m (c ∷ a) [] x y h k e =
     let same : m ≡ c = cc in
     let there : (c == m) ≡ true = subst (λ (n : ℕ). (n == m) ≡ true) same (same_byte m) in
-    absurd (true_false there (or_false (c == m) (has m a) h).0)
+    absurd (true_false there (or_parts (c == m) (has m a) h).0)
 split_unique m (c ∷ a) (d ∷ b) x y h k e =
     let head : c ≡ d = cc in
     let tail : a ++ m ∷ x ≡ b ++ m ∷ y = cc in
-    let f = split_unique m a b x y (or_false (c == m) (has m a) h).1 (or_false (d == m) (has m b) k).1 tail in
+    let f = split_unique m a b x y (or_parts (c == m) (has m a) h).1 (or_parts (d == m) (has m b) k).1 tail in
     (ap (λ (n : ℕ). n ∷ a) head ∙ ap (λ (xs : List ℕ). d ∷ xs) f.0, f.1)
 
 -- the digits of a number have no byte but digits

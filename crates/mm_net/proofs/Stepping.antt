@@ -2,6 +2,7 @@
 use Rattle.std.proofs.Common.{◌≡◌, ℕ, zero, suc, ◌+◌, Bool, true, false, eqb, if◌then◌else◌, List, [], ◌∷◌, map, slice_get, slice_set, Option, Some, None, refl, sym, ap, ◌∙◌, subst}
 use Rattle.std.proofs.lemmas.List.{map-set}
 use Rattle.std.proofs.lemmas.Option.{same_Some}
+use Rattle.std.proofs.lemmas.Bool.{eqb-true}
 use Rattle.mm_word.specs.declared.perm.Kind.{Kind}
 use Rattle.mm_word.specs.declared.perm.Kind.TheVariants.{LoadSet, Store}
 use Rattle.mm_word.specs.Access.{Touch}
@@ -29,7 +30,7 @@ use Rattle.mm_net.specs.Nets.{sent_tick, taken_from, puts, puts_of, puts_at, due
 use Rattle.mm_net.specs.Nets.{put_into, net_step, net_after, asked_of}
 use Rattle.mm_net.specs.Wires.{Wired, Reaches}
 use Rattle.mm_net.specs.Net.{net_of, links_of, room_of, steps_of, NodesTake, Steps}
-use Rattle.mm_net.proofs.ListPlaces.{set_same, set_other, map_at, unequal, equal}
+use Rattle.mm_net.proofs.ListPlaces.{set_same, set_other, map_at, unequal}
 
 abbrev pub carried_by : Wired → Carried
 carried_by w = w.carried
@@ -82,7 +83,7 @@ module _ {M : Type 0} {memory : Ghosts M} where
       → slice_get nodes n ≡ Some m → Takes m m' us → slice_get nodes k ≡ Some b → slice_get (slice_set nodes n m') k ≡ Some a
       → Takes b a (if test then us else [])
   takes_at_place nodes n k m m' b a us true is here t was now =
-      let same : k ≡ n = equal k n is in
+      let same : k ≡ n = eqb-true k n is in
       let was' : slice_get nodes n ≡ Some b = subst (λ (x : ℕ). slice_get nodes x ≡ Some b) same was in
       let now' : slice_get (slice_set nodes n m') n ≡ Some a = subst (λ (x : ℕ). slice_get (slice_set nodes n m') x ≡ Some a) same now in
       same_takes m m' b a us (same_Some b m (sym was' ∙ here)) (set_same nodes n m m' a here now') t

@@ -86,9 +86,7 @@ impl TextItem for Link {
         if !fits(links, more) {
             return Ok(false); // one too many, or an end that occurs twice
         }
-        let Ok(()) = links.push(more) else {
-            return Err(NoMemory);
-        };
+        links.push(more)?;
         Ok(true)
     }
 }

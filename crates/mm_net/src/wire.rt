@@ -55,9 +55,7 @@ impl Wire {
         ensures carried { IfOk result (λ w. w.carried ≡ nothing_carried) }
         ensures room { IfOk result (λ w. room ≤ w.room) }
     {
-        let Ok(sent) = Vec::with_capacity(alloc, room as usize) else {
-            return Err(NoMemory);
-        };
+        let sent = Vec::with_capacity(alloc, room as usize)?;
         Ok(Wire {
             link,
             taking: access(link.take, Kind::LoadSet),
@@ -144,13 +142,9 @@ pub(crate) fn wires_of(alloc: Global, links: &[Link], room: u32) -> Result<Vec<W
         (λ wires. carried_list wires.items ≡ map (λ (_ : LinkValue). nothing_carried) links.now) }
     ensures room { IfOk result (λ wires. All (λ w. room ≤ w.room) wires.items) }
 {
-    let Ok(mut wires) = Vec::with_capacity(alloc, links.len()) else {
-        return Err(NoMemory);
-    };
+    let mut wires = Vec::with_capacity(alloc, links.len())?;
     for link in links {
-        let Ok(()) = wires.push(Wire::new(alloc, *link, room)?) else {
-            return Err(NoMemory);
-        };
+        wires.push(Wire::new(alloc, *link, room)?)?;
     }
     Ok(wires)
 }
@@ -162,6 +156,6 @@ fn access(address: u64, kind: Kind) -> Access
     requires granted { allows Rw kind ≡ true }
     ensures { Reaches result kind address }
 {
-    let all = GuardedPtr::new(Perm::Rw, ALL_ADDRESSES, address).unwrap();
+    let all = GuardedPtr::of(Perm::Rw, ALL_ADDRESSES, address);
     check(Word::Ptr(all), 0, kind).unwrap()
 }

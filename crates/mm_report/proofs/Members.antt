@@ -35,19 +35,6 @@ any_row g (row ∷ rows) = ap (λ (b : Bool). is_of g row || b) (any_row g rows)
 pub any_slot : (g : ℕ) (core : Core) → list_any (λ s. s.group == g) (slots_of core) ≡ list_any (is_of g) core.rows
 any_slot g core = any_row g core.rows
 
-or_true : (b : Bool) → (b || true) ≡ true
-or_true true = refl
-or_true false = refl
-
-some_same : {X : Type 0} (x y : X) → Some y ≡ Some x → y ≡ x
-some_same x y e = cc
-
--- an item that passes
-pub any_here : {X : Type 0} (p : X → Bool) (xs : List X) (i : ℕ) (x : X) → slice_get xs i ≡ Some x → p x ≡ true → list_any p xs ≡ true
-any_here p [] i x here passes = cc
-any_here p (y ∷ xs) zero x here passes = ap (λ (b : Bool). b || list_any p xs) (ap p (some_same x y here) ∙ passes)
-any_here p (y ∷ xs) (suc i) x here passes = ap (λ (b : Bool). p y || b) (any_here p xs i x here passes) ∙ or_true (p y)
-
 -- one item more that does not pass
 pub none_more : {X : Type 0} (p : X → Bool) (xs : List X) (i : ℕ) (x : X) → i < length xs → slice_get xs i ≡ Some x → list_any p (take i xs) ≡ false → p x ≡ false
     → list_any p (take (i + 1) xs) ≡ false

@@ -64,9 +64,7 @@ impl<M: Reset> Recorder<M> {
             → IfOk result (λ r. Recalls i (recording_of r)) }
     {
         let start = session.point(alloc)?;
-        let Ok(ring) = HeapCircularBuffer::with_capacity(alloc, RING_SIZE) else {
-            return Err(NoMemory);
-        };
+        let ring = HeapCircularBuffer::with_capacity(alloc, RING_SIZE)?;
         Ok(Recorder {
             alloc,
             session,

@@ -1,18 +1,12 @@
 -- A pointer's segment meets a range exactly where they share an address.
 use Rattle.std.proofs.Common.{◌≡◌, ℕ, ◌+◌, ◌-◌, ◌*◌, ◌/◌, ◌%◌, ◌^◌, ◌<◌, ◌≤◌, ◌↔◌, inl, inr, true, false, nat_lt, sym, ap, ◌∙◌, subst, arith}
-use Rattle.std.proofs.lemmas.Bool.{and_parts, and_from, cases_lt, both_ways, false_from_ne_true}
+use Rattle.std.proofs.lemmas.Bool.{and_parts, and_from, cases_lt, both_ways, false_from_ne_true, ltb-true, lt-ltb}
 use Rattle.std.proofs.lemmas.Bool.Decides.{nat_tests}
 use Rattle.std.proofs.lemmas.Nat.{pow_pos, shr_split, shr_high, mod_below}
 use Rattle.mm_word.specs.Pointer.{Pointer, InSegment, Covers, base_of}
 use Rattle.mm_seg.specs.Segments.{end_of}
 use Rattle.mm_sweep.specs.Swept.{InRange, meets}
 use Rattle.mm_sweep.specs.Laws.{SharesAddress}
-
-lt_of : (a b : ℕ) → nat_lt a b ≡ true → a < b
-lt_of a b t = grind (arith, nat_tests)
-
-of_lt : (a b : ℕ) → a < b → nat_lt a b ≡ true
-of_lt a b t = grind (arith, nat_tests)
 
 -- the addresses of a segment are those from its base on, as many as it has bytes
 
@@ -43,7 +37,7 @@ module _ (range : ℕ × ℕ) where
   pub shares : (p : Pointer) → meets range p ≡ true → SharesAddress range p
   shares p t =
       let both = and_parts (nat_lt (base_of p) (end_of range)) (nat_lt range.0 (end_of (base_of p, p.log))) t in
-      shared p (lt_of (base_of p) (end_of range) both.0) (lt_of range.0 (end_of (base_of p, p.log)) both.1)
+      shared p (ltb-true (base_of p) (end_of range) both.0) (ltb-true range.0 (end_of (base_of p, p.log)) both.1)
 
   pub meets_at : (p : Pointer) (a : ℕ) → InSegment p a → InRange range a → meets range p ≡ true
   meets_at p a inside within =
@@ -51,7 +45,7 @@ module _ (range : ℕ × ℕ) where
       let high = high_of p.log a p.addr inside in
       let first : base_of p < end_of range = omega (arith, within.1) in
       let second : range.0 < end_of (base_of p, p.log) = omega (arith, within.0) in
-      and_from (nat_lt (base_of p) (end_of range)) (nat_lt range.0 (end_of (base_of p, p.log))) (of_lt (base_of p) (end_of range) first) (of_lt range.0 (end_of (base_of p, p.log)) second)
+      and_from (nat_lt (base_of p) (end_of range)) (nat_lt range.0 (end_of (base_of p, p.log))) (lt-ltb (base_of p) (end_of range) first) (lt-ltb range.0 (end_of (base_of p, p.log)) second)
 
   -- a pointer whose segment does not meet the range covers no word there
   pub covers_none : (p : Pointer) (w : ℕ) → meets range p ≡ false → Covers p w → ¬ (InRange range w)

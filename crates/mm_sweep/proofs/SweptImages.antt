@@ -108,10 +108,3 @@ module _ (range : ℕ × ℕ) where
 
 pub swept_is_image : (range : ℕ × ℕ) (i : Image) → IsImage i → IsImage (swept range i)
 swept_is_image range i h = swept_image range i h
-
--- the image of equal parts
-pub same_image : {version version' frames frames' : ℕ} {split split' : Bool} {slots slots' : List Slot}
-    {pages pages' : List (ℕ × List Cell)} → version ≡ version' → split ≡ split' → slots ≡ slots' → pages ≡ pages'
-    → frames ≡ frames'
-    → image_from version split slots pages frames ≡ image_from version' split' slots' pages' frames'
-same_image a b c d e j = image_from (a j) (b j) (c j) (d j) (e j)

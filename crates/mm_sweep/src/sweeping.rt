@@ -26,6 +26,16 @@ pub enum SweepError {
     NoMemory,
 }
 
+impl From<NoMemory> for SweepError {
+    ghost use Rattle.mm_sweep.specs.declared.sweeping.SweepError.TheVariants.{NoMemory};
+
+    ghost from_gives = { λ _ e. e ≡ NoMemory };
+
+    fn from(_error: NoMemory) -> SweepError {
+        SweepError::NoMemory
+    }
+}
+
 /// The image in which each register and each cell that holds a pointer whose segment meets a range holds integer 0
 /// instead. Synchronisation bits stay, and so do instruction pointers, none of which meets the range. The range begins
 /// at `base` and has `2^log` bytes, at least a word; `base` is a multiple of that.
@@ -51,15 +61,10 @@ fn sweep_unheld(alloc: Global, range: &Range, img: &Image) -> Result<Image, Swee
     ensures swept { IfOk result (λ j. j ≡ swept range.now img.now) }
     ensures refused { IfErr result (λ e. IsSweepError range.now img.now e) }
 {
-    let Ok(survey) = survey(alloc, img, &Entries::All) else {
-        return Err(SweepError::NoMemory);
-    };
+    let survey = survey(alloc, img, &Entries::All)?;
     match privileged(&survey) {
         Some(group) => Err(SweepError::Privileged { group }),
-        None => match swept_image(alloc, range, img) {
-            Ok(swept) => Ok(swept),
-            Err(_) => Err(SweepError::NoMemory),
-        },
+        None => Ok(swept_image(alloc, range, img)?),
     }
 }
 
@@ -67,14 +72,7 @@ fn sweep_unheld(alloc: Global, range: &Range, img: &Image) -> Result<Image, Swee
 fn swept_image(alloc: Global, range: &Range, img: &Image) -> Result<Image, NoMemory>
     ensures { IfOk result (λ j. j ≡ swept range.now img.now) }
 {
-    let Ok(slots) = swept_slots(alloc, range, img.slots()) else {
-        return Err(NoMemory);
-    };
-    let Ok(pages) = swept_pages(alloc, range, img.pages()) else {
-        return Err(NoMemory);
-    };
-    match Image::new(img.version(), img.split(), slots, pages, img.frames()) {
-        Some(swept) => Ok(swept),
-        None => unreachable!(),
-    }
+    let slots = swept_slots(alloc, range, img.slots())?;
+    let pages = swept_pages(alloc, range, img.pages())?;
+    Ok(Image::of(img.version(), img.split(), slots, pages, img.frames()))
 }

@@ -66,10 +66,7 @@ fn swept_page(alloc: Global, range: &Range, page: &Page) -> Result<Page, AllocEr
     ensures { IfOk result (λ swept. swept ≡ swept_page range.now page.now) }
 {
     let cells = swept_cells(alloc, range, page.cells())?;
-    match Page::new(page.number(), cells) {
-        Some(swept) => Ok(swept),
-        None => unreachable!(),
-    }
+    Ok(Page::of(page.number(), cells))
 }
 
 /// The pages, each with its cells swept.

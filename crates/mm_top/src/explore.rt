@@ -1,6 +1,7 @@
 //! `explore`: what a machine can come to under any schedule.
 
 ghost use Rattle.std.specs.Prelude.{◌≤◌};
+ghost use Rattle.mm_model.specs.Limits.{state_limit};
 ghost use Rattle.mm_explore.specs.Texts.{Explores};
 ghost use Rattle.mm_load.specs.Files.{reading};
 ghost use Rattle.mm_cli.specs.Said.{AreOf, row};
@@ -37,7 +38,7 @@ fn write_exploration<O: Sink>(
     out: &mut O,
 ) -> Result<(), Stop>
     requires some { 1 ≤ states }
-    requires few { states ≤ 1000000 }
+    requires few { states ≤ state_limit }
     ensures { EndsWith (writing O.taken O.faults out.old out.new) (Explores image.now states) result }
 {
     let explored = mm_explore::explore(alloc, image, states)?;

@@ -49,14 +49,7 @@ fn write_migrated<O: Sink>(
 fn as_version_2(alloc: Global, image: &Image, split: bool) -> Result<Image, NoMemory>
     ensures { IfOk result (λ new. new ≡ migrated image.now split) }
 {
-    let Ok(slots) = Slot::copies(alloc, image.slots()) else {
-        return Err(NoMemory);
-    };
-    let Ok(pages) = Page::copies(alloc, image.pages()) else {
-        return Err(NoMemory);
-    };
-    match Image::new(2, split, slots, pages, image.frames()) {
-        Some(image) => Ok(image),
-        None => unreachable!(),
-    }
+    let slots = Slot::copies(alloc, image.slots())?;
+    let pages = Page::copies(alloc, image.pages())?;
+    Ok(Image::of(2, split, slots, pages, image.frames()))
 }

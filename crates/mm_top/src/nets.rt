@@ -89,9 +89,7 @@ fn boot_nodes<M: Boot>(alloc: Global, images: &[Image]) -> Result<Vec<Machine<M>
     let mut nodes = Vec::new(alloc);
     for image in images {
         let node = boot(alloc, image)?;
-        let Ok(()) = nodes.push(node) else {
-            return Err(NoMemory);
-        };
+        nodes.push(node)?;
     }
     Ok(nodes)
 }

@@ -13,7 +13,8 @@ ghost use Rattle.mm_top.specs.Commands.{run, trace, log};
 ghost use Rattle.mm_load.specs.Lines.{line_of};
 ghost use Rattle.mm_top.specs.Answers.{ComesTo, ReadFailed, WritesNothing, TookLine, NothingFails, HasToRefuse};
 ghost use Rattle.mm_top.specs.Answers.{RefusedUnless, RowEnds, Answers, call, writing, status_of, refuse, write};
-ghost use Rattle.mm_top.specs.Headline.{RunIsProved, TraceIsProved, LogIsProved};
+ghost use Rattle.mm_model.specs.Trace.{trace as trace_of};
+ghost use Rattle.mm_top.specs.Headline.{RunIsProved, LogIsProved, no_turns};
 
 use crate::asm::asm;
 use crate::debug::debug;
@@ -89,20 +90,21 @@ pub fn mmachine<M: Boot + Reset, F: Files, I: Source, O: Sink, D: Sink>(
         (line_of result) }
     ensures silent { result ≡ Status.Done → D.taken diag.new ≡ D.taken diag.old }
 
-    // The headline holds of each run that is done.
+    // The headline holds of each run that is done: it writes the report of its items and nothing before it.
     ensures headline { result ≡ Status.Done → (image : List ℕ) (cycles : ℕ) (schedule : Option (List ℕ))
         → Asks (texts words.now) (run image cycles schedule)
-        → (written : List ℕ) × RunIsProved M.tells (F.held files.old) image cycles schedule written
+        → (written : List ℕ) × RunIsProved run no_turns M.tells (F.held files.old) image cycles schedule written
         × (O.taken out.new ≡ append_known (O.taken out.old) written) }
 
-    // The second and the third part of the headline hold of each trace that is done.
+    // The headline holds of each trace that is done, with the lines of its turns before the report.
     ensures reach { result ≡ Status.Done → (image : List ℕ) (cycles : ℕ) (schedule : Option (List ℕ))
         → Asks (texts words.now) (trace image cycles schedule)
-        → (written : List ℕ) × TraceIsProved M.tells (F.held files.old) image cycles schedule written
+        → (written : List ℕ) × RunIsProved trace trace_of M.tells (F.held files.old) image cycles schedule written
         × (O.taken out.new ≡ append_known (O.taken out.old) written) }
 
-    // The second and the third part of the headline hold of each log that is done. Carried out, the log's
-    // lines up to any cycle make the state of the run then, except for the number of cycles.
+    // The headline holds of each log that is done, with the lines of its turns and of what they changed before the
+    // report. Carried out, the log's lines up to any cycle make the state of the run then, except for the number of
+    // cycles.
     ensures replay { result ≡ Status.Done → (image : List ℕ) (cycles : ℕ) (schedule : Option (List ℕ))
         → Asks (texts words.now) (log image cycles schedule)
         → (written : List ℕ) × LogIsProved M.tells (F.held files.old) image cycles schedule written

@@ -134,7 +134,7 @@ frame_first page (suc i) (e ∷ es) d first =
 pub has_first : (page i : ℕ) (es : List Entry) → IsFirst page i es → has page (pages_in es) ≡ true
 has_first page i es first = sym (frame_found page es) ∙ ap is_some (frame_first page i es no_entry first)
 
-none_of : (o : Option ℕ) → is_some o ≡ false → o ≡ None
+pub none_of : (o : Option ℕ) → is_some o ≡ false → o ≡ None
 none_of None h = refl
 none_of (Some x) h = cc
 

@@ -1,6 +1,7 @@
 -- A cached memory whose pages change, or whose contents are set.
 use Rattle.std.proofs.Common.{◌≡◌, ℕ, ◌^◌, ◌<◌, Bool, true, false, List, [], ◌∷◌, map, replicate, Option, None, Some, is_some, refl, sym, ap, subst, arith, ◌∙◌}
 use Rattle.std.specs.Prelude.{IfSome, IfNone}
+use Rattle.mm_vmem.proofs.Entries.{none_of}
 use Rattle.mm_word.specs.declared.word.Cell.{Cell}
 use Rattle.mm_model.specs.Memory.{Memory, IsPaged, is_mapped, can_map, map_page, unmap_page}
 use Rattle.mm_model.proofs.Memories.{can_map-facts}
@@ -43,11 +44,7 @@ right_without f page (e ∷ es) none right =
     (frame_of-without_other f page e.page (not_there f page e.page e.frame none right.0) ∙ right.0, right_without f page es none right.1)
 
 no_frame : (f : Framed) (page : ℕ) → is_mapped (memory_of f) page ≡ false → frame_of f page ≡ None
-no_frame f page free = by (frame_of f page) (has_frame_is_mapped f page ∙ free)
-  where
-    by : (o : Option ℕ) → is_some o ≡ false → o ≡ None
-    by None h = refl
-    by (Some x) h = cc
+no_frame f page free = none_of (frame_of f page) (has_frame_is_mapped f page ∙ free)
 
 pub map_held : (m : Cached) (f g : Framed) (page : ℕ) (r : Option ℕ) → IsCached (with_frames m f) → page < 2 ^ 42 → is_some r ≡ can_map (memory_of f) page
     → IfSome r (λ frame. g ≡ seated f page frame) → IfNone r (g ≡ f) → memory_of g ≡ after_map (memory_of f) page → IsCached (with_frames m g)

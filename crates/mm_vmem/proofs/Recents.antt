@@ -1,15 +1,8 @@
 -- The buffer is the first entries of the distinct pages.
-use Rattle.std.proofs.Common.{◌≡◌, ◌≢◌, ℕ, zero, suc, ◌==◌, Bool, true, false, if◌then◌else◌, List, [], ◌∷◌, take, refl, sym, ap, subst, arith, ◌∙◌, inl, inr}
-use Rattle.std.proofs.lemmas.Bool.{cases_eq}
-use Rattle.std.proofs.lemmas.Bool.Decides.{nat_tests}
+use Rattle.std.proofs.Common.{◌≡◌, ℕ, zero, suc, ◌==◌, Bool, true, false, if◌then◌else◌, List, [], ◌∷◌, take, refl, sym, ap, subst, ◌∙◌, inl, inr}
+use Rattle.std.proofs.lemmas.Bool.{cases_eq, eq-eqb, ne_eqb}
 use Rattle.mm_model.specs.Counted.{has, without, distinct}
 use Rattle.mm_vmem.specs.Stands.{IsDistinct}
-
-pub same_test : (p q : ℕ) → p ≡ q → (p == q) ≡ true
-same_test p q h = grind (arith, nat_tests, h)
-
-pub other_test : (p q : ℕ) → p ≢ q → (p == q) ≡ false
-other_test p q h = grind (arith, nat_tests, h)
 
 -- what is not there is not there without another
 not_in_rest : (x y : ℕ) (xs : List ℕ) → has x (y ∷ xs) ≡ false → has x xs ≡ false
@@ -47,9 +40,9 @@ distinct_without p (x ∷ xs) d = either_distinct x (without p xs) (p == x) (has
 pub gone : (p : ℕ) (xs : List ℕ) → has p (without p xs) ≡ false
 gone p [] = refl
 gone p (x ∷ xs) = elim (cases_eq p x) [
-  | inl same ↦ subst (λ (b : Bool). has p (if b then without p xs else x ∷ without p xs) ≡ false) (sym (same_test p x same)) (gone p xs)
-  | inr other ↦ subst (λ (b : Bool). has p (if b then without p xs else x ∷ without p xs) ≡ false) (sym (other_test p x other))
-      (subst (λ (b : Bool). (if b then true else has p (without p xs)) ≡ false) (sym (other_test p x other)) (gone p xs))
+  | inl same ↦ subst (λ (b : Bool). has p (if b then without p xs else x ∷ without p xs) ≡ false) (sym (eq-eqb p x same)) (gone p xs)
+  | inr other ↦ subst (λ (b : Bool). has p (if b then without p xs else x ∷ without p xs) ≡ false) (sym (ne_eqb p x other))
+      (subst (λ (b : Bool). (if b then true else has p (without p xs)) ≡ false) (sym (ne_eqb p x other)) (gone p xs))
 ]
 
 pub distinct_is : (xs : List ℕ) → IsDistinct (distinct xs)
@@ -82,12 +75,12 @@ without_take p (suc n) (x ∷ xs) d = elim (cases_eq p x) [
   | inl same ↦
       let fresh : has p xs ≡ false = subst (λ (y : ℕ). has y xs ≡ false) (sym same) d.0 in
       subst (λ (b : Bool). take (suc n) (if b then without p (take (suc n) xs) else x ∷ without p (take (suc n) xs)) ≡ take (suc n) (if b then without p xs else x ∷ without p xs))
-      (sym (same_test p x same))
+      (sym (eq-eqb p x same))
       (ap (λ (ys : List ℕ). take (suc n) ys) (nothing_without p (take (suc n) xs) (has_take p (suc n) xs fresh)) ∙ take_take (suc n) xs
       ∙ ap (λ (ys : List ℕ). take (suc n) ys) (sym (nothing_without p xs fresh)))
   | inr other ↦
       subst (λ (b : Bool). take (suc n) (if b then without p (take (suc n) xs) else x ∷ without p (take (suc n) xs)) ≡ take (suc n) (if b then without p xs else x ∷ without p xs))
-      (sym (other_test p x other))
+      (sym (ne_eqb p x other))
       (ap (λ (ys : List ℕ). x ∷ ys) (without_take p n xs d.1))
 ]
 

@@ -1,7 +1,7 @@
 -- One more use.
 use Rattle.std.proofs.Common.{◌≡◌, ◌≢◌, ℕ, zero, suc, ◌+◌, ◌<◌, ◌==◌, Bool, true, false, not, ◌&&◌, ◌||◌, if◌then◌else◌, List, [], ◌∷◌, ◌++◌, reverse, take, set, Option, None, Some, slice_get}
 use Rattle.std.proofs.Common.{is_some, refl, sym, ap, subst, arith, ◌∙◌, ◌⊎◌, inl, inr}
-use Rattle.std.proofs.lemmas.Bool.{cases_eq}
+use Rattle.std.proofs.lemmas.Bool.{cases_eq, ne_eqb}
 use Rattle.std.proofs.lemmas.Bool.Decides.{nat_tests}
 use Rattle.std.proofs.lemmas.List.{reverse-append}
 use Rattle.std.specs.Prelude.{slice_set}
@@ -20,9 +20,6 @@ snoc us u = sym (reverse-append us (u ∷ []))
 
 self_test : (p : ℕ) → (p == p) ≡ true
 self_test p = grind (arith, nat_tests)
-
-other_test : (p q : ℕ) → p ≢ q → (p == q) ≡ false
-other_test p q h = grind (arith, nat_tests, h)
 
 is_tag_of : (o : Option ℕ) (w : Bool) (b : ℕ) → is_block o b ≡ state_has (state_with o w) b
 is_tag_of None w b = refl
@@ -48,7 +45,7 @@ line_here us kind addr done =
 line_there : (i : ℕ) (us : List Use) (kind : Kind) (addr : ℕ) (done : Bool) → line_of (block_of addr) ≢ i → line_after i (Accessed kind addr true done ∷ us) ≡ line_after i us
 line_there i us kind addr done other =
     ap (λ (t : Bool). state_with (if t then Some (block_of addr) else latest i us) (if t then (writes kind && done) || (is_hit (block_of addr) us && written i us) else written i us))
-    (other_test (line_of (block_of addr)) i other)
+    (ne_eqb (line_of (block_of addr)) i other)
 
 get_here : {A : Type 0} (xs : List A) (i : ℕ) (c d : A) → slice_get xs i ≡ Some d → slice_get (set xs i c) i ≡ Some c
 get_here [] i c d is = cc

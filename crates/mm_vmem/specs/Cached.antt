@@ -11,6 +11,7 @@ use Rattle.mm_cache.specs.declared.line.CacheLine.{CacheLine}
 use Rattle.mm_cache.specs.Over.{over}
 use Rattle.mm_cache.specs.Laws.{Cover}
 use Rattle.mm_vmem.specs.declared.tlb.Entry.{Entry}
+use Rattle.mm_vmem.specs.declared.vmem.Tally.{Tally}
 use Rattle.mm_vmem.specs.Stands.{LineState, Stands, state_at, back_of}
 use Rattle.mm_vmem.specs.Entries.{pages_in}
 
@@ -25,6 +26,24 @@ pub record Cached : Type 0 where
   -- the count of accesses that were made
   pub uses : ℕ
   pub numbers : Counts
+
+-- the cached memory of these parts; `others` are the accesses that did not hit
+abbrev pub cached_of : Framed → List (Option CacheLine) → List Entry → Tally → (others : ℕ) → Cached
+cached_of frames lines entries tally others = record {
+  frames = frames;
+  lines = lines;
+  entries = entries;
+  uses = others + tally.hits;
+  numbers = record {
+    hits = tally.hits;
+    misses = tally.misses;
+    writebacks = tally.writebacks;
+    tlb_hits = tally.tlb_hits;
+    tlb_misses = tally.tlb_misses;
+    reads = frames.reads;
+    writes = frames.writes;
+  };
+}
 
 -- the flat memory that a cached memory means: its lines, clean and dirty, laid over the frames
 unfoldable pub meaning : Cached → Memory

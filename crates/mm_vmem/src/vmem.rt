@@ -58,42 +58,13 @@ pub struct VMem {
 }
 
 impl Model for VMem {
-    ghost use Rattle.std.specs.Prelude.{◌+◌};
-    ghost use Rattle.mm_vmem.specs.Cached.{Cached, IsCached};
+    ghost use Rattle.mm_vmem.specs.Cached.{Cached, IsCached, cached_of};
 
     ghost Value = { Cached };
 
-    ghost view = { λ m. record {
-      frames = m.frames;
-      lines = m.lines;
-      entries = m.tlb;
-      uses = m.others + m.tally.hits;
-      numbers = record {
-        hits = m.tally.hits;
-        misses = m.tally.misses;
-        writebacks = m.tally.writebacks;
-        tlb_hits = m.tally.tlb_hits;
-        tlb_misses = m.tally.tlb_misses;
-        reads = m.frames.reads;
-        writes = m.frames.writes;
-      };
-    } };
+    ghost view = { λ m. cached_of m.frames m.lines m.tlb m.tally m.others };
 
-    ghost invariant = { λ m. IsCached (record {
-      frames = m.frames;
-      lines = m.lines;
-      entries = m.tlb;
-      uses = m.others + m.tally.hits;
-      numbers = record {
-        hits = m.tally.hits;
-        misses = m.tally.misses;
-        writebacks = m.tally.writebacks;
-        tlb_hits = m.tally.tlb_hits;
-        tlb_misses = m.tally.tlb_misses;
-        reads = m.frames.reads;
-        writes = m.frames.writes;
-      };
-    }) };
+    ghost invariant = { λ m. IsCached (cached_of m.frames m.lines m.tlb m.tally m.others) };
 }
 
 impl VMem {

@@ -3,11 +3,12 @@ use Rattle.std.proofs.Common.{◌≡◌, ℕ, zero, suc, ◌+◌, ◌-◌, ◌%�
 use Rattle.std.proofs.Common.{◌==◌, ◌&&◌, IsTrue, List, length, slice_index, replicate, map, bit_and, bit_or, Option}
 use Rattle.std.proofs.Common.{Some, None, refl, sym, ap, ◌∙◌, subst, arith, eqb-true, eq-eqb, add-zero}
 use Rattle.std.specs.Int.{bit_at}
-use Rattle.std.proofs.lemmas.Bool.{cases_lt}
+use Rattle.std.proofs.lemmas.Bool.{cases_lt, and_parts, and_from}
 use Rattle.std.proofs.lemmas.Grind.{common_steps}
 use Rattle.std.proofs.lemmas.Nat.{and_le_r}
 use Rattle.std.proofs.lemmas.Nat.Bits.{bit_at-lt, bit_at_ones}
 use Rattle.std.proofs.lemmas.List.{get_or-replicate, get_or_past, get_or-map, length-map}
+use Rattle.mm_word.proofs.Checked.{Covers-holds_word}
 use Rattle.mm_word.specs.Perm.{allows}
 use Rattle.mm_word.specs.Pointer.{Pointer, InSegment, Covers, holds_word, IsBelow}
 use Rattle.mm_word.proofs.Below.{holds_word-Covers}
@@ -56,28 +57,14 @@ use Rattle.mm_why.proofs.Coming.{came, owned}
 
 -- 1. Uses and the pointers that give them.
 
-covers_test : (p : Pointer) (a : ℕ) → Covers p a → holds_word p a ≡ true
-covers_test p a covers =
-    let first : InSegment p a = rw add-zero at (covers 0 (omega arith)) in
-    let last : InSegment p (a + 7) = covers 7 (omega arith) in
-    grind (arith, common_steps)
-
-and_then : (a b : Bool) → (a && b) ≡ true → (a ≡ true) × (b ≡ true)
-and_then true b h = (refl, h)
-and_then false b h = absurd (let bad = h in cc)
-
-then_and : (a b : Bool) → a ≡ true → b ≡ true → (a && b) ≡ true
-then_and true b h k = k
-then_and false b h k = absurd (let bad = h in cc)
-
 pub can_then : (how : WordUse) (p : Pointer) (w : ℕ) → can_use how p w ≡ true → CanUse how p w
-can_then how p w h = let x = and_then (allows p.perm (asked how)) (holds_word p w) h in (x.0, holds_word-Covers p w x.1)
+can_then how p w h = let x = and_parts (allows p.perm (asked how)) (holds_word p w) h in (x.0, holds_word-Covers p w x.1)
 
 loads_test : (p : Pointer) (w : ℕ) → LoadsAt p w → can_use uses.Touch p w ≡ true
-loads_test p w l = then_and (allows p.perm (asked uses.Touch)) (holds_word p w) l.right (covers_test p w l.covers)
+loads_test p w l = and_from (allows p.perm (asked uses.Touch)) (holds_word p w) l.right (Covers-holds_word p w l.covers)
 
 stores_test : (p : Pointer) (w : ℕ) → StoresAt p w → can_use uses.Write p w ≡ true
-stores_test p w s = then_and (allows p.perm (asked uses.Write)) (holds_word p w) s.right (covers_test p w s.covers)
+stores_test p w s = and_from (allows p.perm (asked uses.Write)) (holds_word p w) s.right (Covers-holds_word p w s.covers)
 
 gives_use : (how : WordUse) (p : Pointer) (w : ℕ) → w % 8 ≡ 0 → CanUse how p w → GivesUse how p w
 gives_use uses.Touch p w word can = record { word = word; right = can.0; covers = can.1 }

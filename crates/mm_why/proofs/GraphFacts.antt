@@ -6,6 +6,7 @@ use Rattle.std.proofs.lemmas.Bool.{cases_lt}
 use Rattle.std.proofs.lemmas.List.{get_or_past}
 use Rattle.std.specs.List.{Contains, AllByRecursion}
 use Rattle.std.proofs.lemmas.List.Elements.{Contains-get_or, All-from_recursion, All-contains}
+use Rattle.mm_word.proofs.Results.{enter_result-well_formed}
 use Rattle.mm_word.specs.declared.perm.Perm.{Perm}
 use Rattle.mm_word.specs.declared.perm.Perm.TheVariants.{Ro, Rw, Xu, Xp, Eu, Ep, Key as KeyPerm}
 use Rattle.mm_word.specs.declared.word.Word.{Word}
@@ -27,7 +28,7 @@ use Rattle.mm_graph.specs.Found.{page_keys}
 use Rattle.mm_graph.specs.Nodes.{IsNode, nothing, found_word}
 use Rattle.mm_graph.proofs.Cells.{held}
 use Rattle.mm_graph.proofs.CellWords.{well_formed}
-use Rattle.mm_graph.proofs.Standing.{stands_from, stands-pointer, stands_below, entry_from, enters-well_formed}
+use Rattle.mm_graph.proofs.Standing.{stands_from, stands-pointer, stands_below, entry_from}
 use Rattle.mm_graph.proofs.Bounds.{in_covers, loads_then, entry_then}
 use Rattle.mm_graph.proofs.Segments.{below-loads}
 use Rattle.mm_why.specs.declared.line.Rule.TheVariants as rules
@@ -161,7 +162,7 @@ module _ (i : Image) (g : Graph) (graph : IsGraph i g) where
             from.to,
             ap enter_result (sym same) ∙ from.enters,
             subst (λ v. (v.perm ≡ Eu) ⊎ (v.perm ≡ Ep)) same (entry_then node.perm yes_entry),
-            record { small = (each_node a at.small).small; stands = from.stands ∙ ap Some (sym to.1); fits = enters-well_formed node from.to (key a at.small).well_formed from.enters },
+            record { small = (each_node a at.small).small; stands = from.stands ∙ ap Some (sym to.1); fits = enter_result-well_formed node from.to (key a at.small).well_formed from.enters },
           )
 
   pub rising : IsRising keys

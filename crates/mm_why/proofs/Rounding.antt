@@ -19,10 +19,6 @@ not_below g le h = grind (arith, nat_tests)
 pub no_group : (g : ℕ) (P : Type 0) → 64 ≤ g → (P → ⊥) → IsTrue (nat_lt g 64) ↔ P
 no_group g P le none = (λ t. absurd (not_below g le t), λ p. absurd (none p))
 
--- a mark that was there is still there
-still : (a b g : ℕ) → Within a b → bit_at a g ≡ 1 → bit_at b g ≡ 1
-still a b g w h = at_one a b g w h
-
 pub own_more : (g : ℕ) (masks : List ℕ) → g < 64 → OwnSoFar g masks → OwnSoFar (g + 1) (with_bit masks g g)
 own_more g masks lt o = record {
   len = with_bit-length masks g g inside lt ∙ o.len;
@@ -111,7 +107,7 @@ module _ (links meets now : List ℕ) where
         own : (p h : ℕ) → (p ≡ length all) ⊎ (p < length all) → h < 64 → Has (round_at (all ++ after ∷ []) p) h h
         own p h (inl e) lh =
             subst (λ v. Has v h h) (sym (ap (round_at (all ++ after ∷ [])) e ∙ last))
-            (still (slice_index now h) (slice_index after h) h (d.grows h) (subst (λ v. Has v h h) (newest before is_before) (f.own before h (let e2 = is_before in omega (arith, e2)) lh)))
+            (at_one (slice_index now h) (slice_index after h) h (d.grows h) (subst (λ v. Has v h h) (newest before is_before) (f.own before h (let e2 = is_before in omega (arith, e2)) lh)))
         own p h (inr lt) lh = subst (λ v. Has v h h) (sym (front p lt)) (f.own p h lt lh)
 
         one : (p : ℕ) → (p + 1 ≡ length all) ⊎ (p + 1 < length all) → IsStep links meets (round_at (all ++ after ∷ []) p) (round_at (all ++ after ∷ []) (p + 1))

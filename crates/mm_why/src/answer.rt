@@ -34,10 +34,7 @@ fn graph_in(alloc: Global, image: &Image) -> Result<Graph, NoMemory>
     ensures { IfOk result (λ g. IsGraph image.now g) }
 {
     let _slots = image.slots();
-    match built(alloc, image, &Entries::All) {
-        Ok(graph) => Ok(graph),
-        Err(_) => Err(NoMemory),
-    }
+    Ok(built(alloc, image, &Entries::All)?)
 }
 
 /// For each node the groups that have its pointer by their own slots, by cells that they load and by entries.
@@ -46,19 +43,15 @@ fn own_marks(alloc: Global, graph: &Graph) -> Result<Vec<u64>, NoMemory>
     requires parents { length graph.now.parents.items ≡ length graph.now.start.items }
     ensures { IfOk result (λ m. IsFlow (edges_of graph.now) graph.now.start.items m.items) }
 {
-    let Ok(mut marks) = Vec::from_slice(alloc, &graph.start) else {
-        return Err(NoMemory);
-    };
-    match spread(
+    let mut marks = Vec::from_slice(alloc, &graph.start)?;
+    spread(
         alloc,
         &mut marks,
         &graph.nodes,
         &graph.targets,
         &graph.parents,
-    ) {
-        Ok(()) => Ok(marks),
-        Err(_) => Err(NoMemory),
-    }
+    )?;
+    Ok(marks)
 }
 
 /// The groups that can load where a group can store, given what each has of its own.
@@ -70,10 +63,8 @@ fn meetings(alloc: Global, graph: &Graph, marks: &[u64]) -> Result<Masks, NoMemo
         m) }
 {
     let mut meets = [0u64; 64];
-    match sharing_edges(alloc, marks, &graph.nodes, &graph.parents, &mut meets) {
-        Ok(()) => Ok(meets),
-        Err(_) => Err(NoMemory),
-    }
+    sharing_edges(alloc, marks, &graph.nodes, &graph.parents, &mut meets)?;
+    Ok(meets)
 }
 
 /// Which groups share with which, given what each has of its own.

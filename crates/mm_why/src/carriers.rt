@@ -80,9 +80,7 @@ fn over(above: &Vec<Option<usize>>, up: usize, k: usize) -> Option<usize>
 fn append(above: &mut Vec<Option<usize>>, place: Option<usize>) -> Result<(), NoMemory>
     ensures { OnOk result (above.new.items ≡ above.old.items ++ place ∷ []) }
 {
-    if above.push(place).is_err() {
-        return Err(NoMemory);
-    }
+    above.push(place)?;
     Ok(())
 }
 

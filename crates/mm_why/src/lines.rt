@@ -45,9 +45,7 @@ pub fn push(lines: &mut Vec<Line>, line: Line) -> Result<usize, NoMemory>
     ensures place { IfOk result (λ place. place ≡ length lines.old.items) }
 {
     let place = lines.len();
-    if lines.push(line).is_err() {
-        return Err(NoMemory);
-    }
+    lines.push(line)?;
     Ok(place)
 }
 

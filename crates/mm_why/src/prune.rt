@@ -108,9 +108,7 @@ fn needed_by(alloc: Global, lines: &[Line], last: usize) -> Result<Vec<bool>, No
     requires earlier { NameEarlier lines.now }
     ensures { IfOk result (λ needed. Needs lines.now last 0 needed.items) }
 {
-    let Ok(mut needed) = (vec![in alloc; false; last + 1]) else {
-        return Err(NoMemory);
-    };
+    let mut needed = vec![in alloc; false; last + 1]?;
     needed[last] = true;
     for k in 0..last + 1 {
         need_at(&mut needed, lines, last - k);
@@ -148,9 +146,7 @@ fn kept(alloc: Global, lines: &[Line], needed: &[bool]) -> Result<Vec<Line>, NoM
     requires earlier { NameEarlier lines.now }
     ensures { IfOk result (λ out. HaveKept lines.now needed.now out.items) }
 {
-    let Ok(mut places) = (vec![in alloc; 0usize; needed.len()]) else {
-        return Err(NoMemory);
-    };
+    let mut places = vec![in alloc; 0usize; needed.len()]?;
     let mut out = Vec::new(alloc);
     for k in 0..needed.len() {
         keep(&mut places, &mut out, lines, needed, k)?;

@@ -56,9 +56,7 @@ fn handing(links: &Masks, meets: &Masks, now: &Masks) -> Masks
 fn keep(rounds: &mut Vec<Masks>, now: Masks) -> Result<(), NoMemory>
     ensures { OnOk result (rounds.new.items ≡ rounds.old.items ++ now ∷ []) }
 {
-    if rounds.push(now).is_err() {
-        return Err(NoMemory);
-    }
+    rounds.push(now)?;
     Ok(())
 }
 

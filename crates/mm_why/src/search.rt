@@ -54,9 +54,7 @@ fn set(places: &mut Vec<Option<usize>>, node: usize, place: usize)
 fn enqueue(queue: &mut Vec<usize>, node: usize) -> Result<(), NoMemory>
     ensures { OnOk result (queue.new.items ≡ queue.old.items ++ node ∷ []) }
 {
-    if queue.push(node).is_err() {
-        return Err(NoMemory);
-    }
+    queue.push(node)?;
     Ok(())
 }
 
@@ -476,9 +474,7 @@ fn none_found(alloc: Global, nodes: usize) -> Result<Search, NoMemory>
     ensures places { IfOk result (λ s. s.places.items ≡ replicate nodes None) }
     ensures queue { IfOk result (λ s. s.queue.items ≡ []) }
 {
-    let Ok(places) = (vec![in alloc; None; nodes]) else {
-        return Err(NoMemory);
-    };
+    let places = vec![in alloc; None; nodes]?;
     Ok(Search {
         places,
         queue: Vec::new(alloc),

@@ -28,9 +28,7 @@ fn no_searches(alloc: Global) -> Result<Vec<Option<Search>>, NoMemory>
 {
     let mut searches = Vec::new(alloc);
     for group in 0..64usize {
-        if searches.push(None).is_err() {
-            return Err(NoMemory);
-        }
+        searches.push(None)?;
     }
     Ok(searches)
 }
@@ -121,8 +119,5 @@ pub fn put(
 pub fn whole() -> GuardedPtr
     ensures { result ≡ whole_pointer }
 {
-    match GuardedPtr::new(Perm::Rw, 54, 0) {
-        Some(p) => p,
-        None => unreachable!(),
-    }
+    GuardedPtr::of(Perm::Rw, 54, 0)
 }

@@ -1,4 +1,4 @@
-use Rattle.std.proofs.Common.{not, ap, ◌∙◌, subst}
+use Rattle.std.proofs.Common.{subst}
 use Rattle.std.proofs.Math.Nat.{le_antisymm}
 use Rattle.mm_audit.specs.Meeting.{AreNoRows}
 use Rattle.mm_audit.proofs.EmptyRows.{empty_more}
@@ -6,8 +6,7 @@ use Rattle.mm_audit.proofs.least_shared.no_rows.Goals as goal
 
 pub loop-preserved : goal.loop-preserved
 loop-preserved c =
-    let went = c.is_err.ensures.negation ∙ ap not c.if-is_err.false in
-    empty_more c.loop.counter c.loop.table.items c.push.new.self.items c.none.result c.loop.invariant c.none.ensures (rw went at c.push.ensures.items)
+    empty_more c.loop.counter c.loop.table.items c.push.new.self.items c.none.result c.loop.invariant c.none.ensures c.in_ok-push.ensures.items
 
 pub returns : goal.returns
 returns c = subst (λ top. AreNoRows top c.loop.table.items) (le_antisymm c.loop.auto.counter-end c.loop-test.false) c.loop.invariant

@@ -6,15 +6,15 @@ use Rattle.mm_model.proofs.OwnSlots.{own_image}
 use Rattle.mm_audit.proofs.OwnPages.{same_image}
 use Rattle.mm_audit.proofs.solo.with_slots.Goals as goal
 
-pub unreachable-requires : goal.unreachable-requires
-unreachable-requires c =
+pub of-requires : goal.of-requires
+of-requires c =
     let i = c.args.img.now in
     let test = among c.args.groups.now in
     let image = c.slots.ensures.image in
     let same = same_image c.version.ensures.version c.split.ensures.split
-    (c.in-Ok.ensures ∙ ap (own_slots test) c.slots.ensures.slots) (c.in-Ok-copies.ensures ∙ c.pages.ensures.pages)
+    (c.in_ok-slots.ensures ∙ ap (own_slots test) c.slots.ensures.slots) (c.in_ok-pages.ensures ∙ c.pages.ensures.pages)
     c.frames.ensures.frames in
-    c.in-None.ensures (subst IsImage (sym same) (own_image i test image c.requires.some c.requires.closed i.memory refl image.paged image.words))
+    subst IsImage (sym same) (own_image i test image c.requires.some c.requires.closed i.memory refl image.paged image.words)
 
 pub returns : goal.returns
 unfolding alone
@@ -22,6 +22,6 @@ returns c =
     let i = c.args.img.now in
     let test = among c.args.groups.now in
     let same = same_image c.version.ensures.version c.split.ensures.split
-    (c.in-Ok.ensures ∙ ap (own_slots test) c.slots.ensures.slots) (c.in-Ok-copies.ensures ∙ c.pages.ensures.pages)
+    (c.in_ok-slots.ensures ∙ ap (own_slots test) c.slots.ensures.slots) (c.in_ok-pages.ensures ∙ c.pages.ensures.pages)
     c.frames.ensures.frames in
-    c.in-Some.ensures.1 ∙ same
+    c.of.ensures ∙ same

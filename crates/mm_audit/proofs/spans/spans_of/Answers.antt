@@ -8,7 +8,7 @@ use Rattle.mm_audit.proofs.spans.spans_of.Goals as goal
 pub loop-k-init : goal.loop-k-init
 loop-k-init c =
     spans_first c.args.keys.now c.args.nodes.now c.args.marks.now c.args.privileged c.add.new.spans.items
-    (subst (λ v. Added v _ c.add.new.spans.items) c.whole_span.ensures (subst (λ v. Added c.whole_span.result v c.add.new.spans.items) c.in-Ok.ensures.items c.in_ok-add.ensures))
+    (subst (λ v. Added v _ c.add.new.spans.items) c.whole_span.ensures (subst (λ v. Added c.whole_span.result v c.add.new.spans.items) c.in_ok-spans.ensures.items c.in_ok-add.ensures))
 
 pub loop-k-preserved : goal.loop-k-preserved
 loop-k-preserved c =

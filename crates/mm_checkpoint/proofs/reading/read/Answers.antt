@@ -27,27 +27,27 @@ returns-in_err-parts-clause-first c =
     rw (p.1, p.2) (λ offset some. told_first c.args.img.now c.args.bytes.now c.in_err-parts.field-0.0 offset
     c.in_err-parts.ensures.parts some)
 
-pub unreachable-requires : goal.unreachable-requires
-unreachable-requires c =
+pub of-snapshot-requires : goal.of-snapshot-requires
+of-snapshot-requires c =
     let parts = c.in_ok-parts.parts in
     let fits : IsBytes c.args.bytes.now = λ k. omega (arith, c.type_inv.bytes k) in
     let p : Parts = parts_of parts.slots.items parts.events.items parts.outputs.items parts.pages.items parts.cycles in
     let saves = are_saved c.args.img.now c.args.bytes.now c.in_ok-parts.ensures.image fits p parts.last
     c.in_ok-parts.ensures.parts.0 c.in_ok-parts.ensures.parts.1 in
-    c.in-None.ensures saves.checkpoint.rules
+    saves.checkpoint.rules
 
 pub returns-clause-saves : goal.returns-clause-saves
 returns-clause-saves c =
     let parts = c.in_ok-parts.parts in
     let fits : IsBytes c.args.bytes.now = λ k. omega (arith, c.type_inv.bytes k) in
     let p : Parts = parts_of parts.slots.items parts.events.items parts.outputs.items parts.pages.items parts.cycles in
-    subst (λ (x : Parts). Saves c.args.bytes.now c.args.img.now x parts.last) (sym c.in-Some.ensures.1)
+    subst (λ (x : Parts). Saves c.args.bytes.now c.args.img.now x parts.last) (sym c.of-snapshot.ensures)
     (are_saved c.args.img.now c.args.bytes.now c.in_ok-parts.ensures.image fits p parts.last
     c.in_ok-parts.ensures.parts.0 c.in_ok-parts.ensures.parts.1)
 
 pub returns-clause-again : goal.returns-clause-again
 returns-clause-again c =
     let parts = c.in_ok-parts.parts in
-    λ q also saves. ap (λ (x : Parts). saved_of x parts.last) c.in-Some.ensures.1
+    λ q also saves. ap (λ (x : Parts). saved_of x parts.last) c.of-snapshot.ensures
     ∙ same_value (sym c.in_ok-parts.ensures.parts.1
     ∙ spelled_said c.args.img.now c.args.bytes.now c.in_ok-parts.ensures.image q also saves)

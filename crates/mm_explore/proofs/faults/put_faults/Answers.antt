@@ -1,8 +1,9 @@
-use Rattle.std.proofs.Common.{ℕ, ◌-◌, List, ◌++◌, ◌∙◌, take, ap, sym, append_assoc, arith}
-use Rattle.std.specs.List.{flat_map, range_with_len}
+use Rattle.std.proofs.Common.{◌≡◌, ℕ, ◌-◌, List, ◌++◌, length, ◌∙◌, take, ap, sym, append_assoc, arith}
+use Rattle.std.specs.List.{flat_map}
 use Rattle.std.specs.BTreeMap.{get}
 use Rattle.std.proofs.lemmas.List.{take_all}
 use Rattle.std.proofs.lemmas.List.FromFn.{length-range_with_len}
+use Rattle.mm_word.specs.Cause.{cause_numbers}
 use Rattle.mm_explore.specs.Noting.{fault_found}
 use Rattle.mm_explore.specs.Results.{fault_found_lines}
 use Rattle.mm_explore.specs.Words.{order}
@@ -15,12 +16,12 @@ loop-cause-preserved c =
     let cause = c.loop-cause.cause in
     let begin = flat_map fault_found_lines c.args.out.now.items in
     c.in_ok-put_fault.ensures ∙ ap (λ l. l ++ f cause) c.loop-cause.invariant
-    ∙ append_assoc begin (flat_map f (take (cause - 1) (range_with_len 1 13))) (f cause)
+    ∙ append_assoc begin (flat_map f (take (cause - 1) cause_numbers)) (f cause)
     ∙ ap (λ l. begin ++ l) (sym (range_more f cause (omega arith) (omega arith)))
 
 pub returns : goal.returns
 returns c =
     let f : ℕ → List ℕ = λ cause. fault_found c.args.found.now.list c.args.slot cause (get order c.args.faults.now (c.args.slot, cause)) in
-    let long = length-range_with_len 1 13 in
+    let long : length cause_numbers ≡ 13 = length-range_with_len 1 13 in
     c.loop-cause.invariant
-    ∙ ap (λ l. flat_map fault_found_lines c.args.out.now.items ++ flat_map f l) (take_all (c.loop-cause.cause - 1) (range_with_len 1 13) (omega (arith, long)))
+    ∙ ap (λ l. flat_map fault_found_lines c.args.out.now.items ++ flat_map f l) (take_all (c.loop-cause.cause - 1) cause_numbers (omega (arith, long)))

@@ -1,6 +1,7 @@
 use Rattle.std.proofs.Common.{◌≡◌, ◌-◌, ◌++◌, take}
-use Rattle.std.specs.List.{flat_map, range_with_len}
+use Rattle.std.specs.List.{flat_map}
 use Rattle.std.specs.BTreeMap.{get}
+use Rattle.mm_word.specs.Cause.{cause_numbers}
 use Rattle.mm_explore.specs.Noting.{fault_found}
 use Rattle.mm_explore.specs.Results.{fault_found_lines}
 use Rattle.mm_explore.specs.Words.{order}
@@ -9,4 +10,4 @@ use Rattle.mm_explore.proofs.faults.put_faults.Given as goal
 abbrev pub invariant-loop-cause : goal.invariant-loop-cause
 invariant-loop-cause l =
     flat_map fault_found_lines l.out.items ≡ flat_map fault_found_lines l.fn.out.items
-    ++ flat_map (λ cause. fault_found l.found.list l.slot cause (get order l.faults (l.slot, cause))) (take (l.cause - 1) (range_with_len 1 13))
+    ++ flat_map (λ cause. fault_found l.found.list l.slot cause (get order l.faults (l.slot, cause))) (take (l.cause - 1) cause_numbers)

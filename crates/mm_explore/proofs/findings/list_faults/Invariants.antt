@@ -1,6 +1,7 @@
 use Rattle.std.proofs.Common.{◌≡◌, ◌++◌, take}
-use Rattle.std.specs.List.{flat_map, range_with_len}
+use Rattle.std.specs.List.{flat_map}
 use Rattle.std.specs.BTreeMap.{get}
+use Rattle.mm_word.specs.Cause.{cause_numbers}
 use Rattle.mm_explore.specs.Noting.{fault_found}
 use Rattle.mm_explore.specs.Results.{fault_found_lines}
 use Rattle.mm_explore.specs.Words.{order}
@@ -9,4 +10,4 @@ use Rattle.mm_explore.proofs.findings.list_faults.Given as goal
 abbrev pub invariant-loop-slot : goal.invariant-loop-slot
 invariant-loop-slot l =
     flat_map fault_found_lines l.out.items ≡ flat_map fault_found_lines l.fn.out.items
-    ++ flat_map (λ s. flat_map (λ cause. fault_found l.found.list s.number cause (get order l.faults (s.number, cause))) (range_with_len 1 13)) (take l.slot-index l.slots)
+    ++ flat_map (λ s. flat_map (λ cause. fault_found l.found.list s.number cause (get order l.faults (s.number, cause))) cause_numbers) (take l.slot-index l.slots)

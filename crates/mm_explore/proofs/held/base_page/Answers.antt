@@ -1,5 +1,4 @@
-use Rattle.std.proofs.Common.{ℕ, ◌≡◌, ◌++◌, ◌∙◌, [], ◌∷◌, List, Option, ap, subst, take, length, arith}
-use Rattle.std.specs.Prelude.{IfSome}
+use Rattle.std.proofs.Common.{◌++◌, ◌∙◌, [], ◌∷◌, List, ap, take, length, arith}
 use Rattle.mm_word.specs.declared.word.Cell.{Cell}
 use Rattle.mm_model.specs.Memory.{page_at}
 use Rattle.mm_model.specs.Report.{cells_or_zero}
@@ -17,17 +16,17 @@ loop-index-preserved c =
     ∙ ap (λ (x : Cell). so_far ++ x ∷ []) c.base_cell-word.ensures
     ∙ one_more i c.requires.image.paged q n c.loop-index-test.true
 
-pub unwrap-requires : goal.unwrap-requires
-unwrap-requires c =
+pub of-requires : goal.of-requires
+of-requires c =
     let i = c.args.img.now in
     let q = c.args.number in
     let n = c.loop-index.index in
     let end = c.loop-index-test.false in
     let most = c.loop-index.auto.index-end in
-    c.new.ensures.made.1 (record {
+    record {
       number = c.requires.number;
       cells = ap length (c.loop-index.invariant ∙ whole i c.requires.image.paged q n (omega (arith, end, most))) ∙ long i c.requires.image.paged q;
-    })
+    }
 
 pub returns : goal.returns
 returns c =
@@ -36,5 +35,4 @@ returns c =
     let n = c.loop-index.index in
     let end = c.loop-index-test.false in
     let most = c.loop-index.auto.index-end in
-    let made : c.unwrap.result ≡ (q, c.loop-index.cells.items) = subst (λ (o : Option (ℕ × List Cell)). IfSome o (λ p. p ≡ (q, c.loop-index.cells.items))) c.unwrap.ensures c.new.ensures.value in
-    made ∙ ap (λ (l : List Cell). (q, l)) (c.loop-index.invariant ∙ whole i c.requires.image.paged q n (omega (arith, end, most)))
+    c.of.ensures ∙ ap (λ (l : List Cell). (q, l)) (c.loop-index.invariant ∙ whole i c.requires.image.paged q n (omega (arith, end, most)))

@@ -3,14 +3,14 @@ use Rattle.mm_model.specs.Spelling.{IsImage}
 use Rattle.mm_link.proofs.Whole.{image_is}
 use Rattle.mm_link.proofs.linking.image_of.Goals as goal
 
-pub unreachable-requires : goal.unreachable-requires
-unreachable-requires c =
+pub of-requires : goal.of-requires
+of-requires c =
     let r = c.requires in
-    c.in-None.ensures (subst IsImage (sym (image_is c.args.objects.now c.args.sites.now c.args.placed.now c.args.pages c.in_ok-slots.slots.items c.in_ok-pages.pages.items
-    c.args.frames r.sites r.placed r.pages r.frames c.in_ok-slots.ensures.slots c.in_ok-pages.ensures.pages)) r.image)
+    subst IsImage (sym (image_is c.args.objects.now c.args.sites.now c.args.placed.now c.args.pages c.in_ok-slots.slots.items c.in_ok-pages.pages.items
+    c.args.frames r.sites r.placed r.pages r.frames c.in_ok-slots.ensures.slots c.in_ok-pages.ensures.pages)) r.image
 
 pub returns-clause-image : goal.returns-clause-image
 returns-clause-image c =
     let r = c.requires in
-    c.in-Some.ensures.1 ∙ image_is c.args.objects.now c.args.sites.now c.args.placed.now c.args.pages c.in_ok-slots.slots.items c.in_ok-pages.pages.items c.args.frames r.sites
+    c.of.ensures ∙ image_is c.args.objects.now c.args.sites.now c.args.placed.now c.args.pages c.in_ok-slots.slots.items c.in_ok-pages.pages.items c.args.frames r.sites
     r.placed r.pages r.frames c.in_ok-slots.ensures.slots c.in_ok-pages.ensures.pages

@@ -10,5 +10,5 @@ returns-clause-page c =
     let at = λ (cells : List Cell). let p : ℕ × List Cell = (c.args.number, cells) in p in
     let kept = c.min-kept.result in
     let first : c.extend_from_slice.new.self.items ≡ take kept c.args.cells.now = grind (arith, common_steps, c.in_ok-extend_from_slice.ensures.items, c.in_ok-page.ensures.items) in
-    c.in-Some.ensures.value ∙ ap at (c.in_ok-push_zeros.ensures.cells ∙ ap (λ (cells : List Cell). cells ++ replicate (512 - kept) zero_cell) first
+    c.of.ensures ∙ ap at (c.in_ok-push_zeros.ensures.cells ∙ ap (λ (cells : List Cell). cells ++ replicate (512 - kept) zero_cell) first
     ∙ filled 512 zero_cell c.args.cells.now kept c.min-kept.ensures)

@@ -9,7 +9,7 @@ pub loop-at-preserved : goal.loop-at-preserved
 loop-at-preserved g c =
     let loaded = c.loop-at.loaded.items in
     record {
-      count = omega (arith, c.in-Ok.ensures.len, c.loop-at.invariant.count);
+      count = omega (arith, c.in_ok-push.ensures.len, c.loop-at.invariant.count);
       kept = c.load_file.ensures.kept ∙ c.loop-at.invariant.kept;
       later = λ n. omega (arith, c.loop-at.invariant.later n, c.load_file.ensures.later n);
       read = λ before counted.
@@ -23,14 +23,14 @@ loop-at-preserved g c =
           c.loop-at.files c.load_file.new.files) (before ++ map g.T.FromFile.meaning loaded)
           ((text, g.T.FromFile.of_kind) ∷ []) (λ x. g.T.FromFile.meaning x ∷ []) (Ok c.in_ok-one.one) in
           value_more g.T.FromFile.of_kind g.T.FromFile.meaning c.args.names.now c.loop-at.at c.index-names-at.result
-          loaded _ c.in_ok-one.one c.loop-at-test.true c.index-names-at.is c.in-Ok.ensures.items
+          loaded _ c.in_ok-one.one c.loop-at-test.true c.index-names-at.is c.in_ok-push.ensures.items
           (c.loop-at.invariant.read before counted)
           (subst P c.as_str.ensures.value (c.in_ok-one.ensures.read (before ++ map g.T.FromFile.meaning loaded) number))
           (record { kept = c.loop-at.invariant.kept; counts = refl; later = c.loop-at.invariant.later; asked = λ names more one two. adds_both one two });
     }
 
-pub returns-in_default-clause-read : goal.returns-in_default-clause-read
-returns-in_default-clause-read g c before counted =
+pub returns-in_err-push-clause-read : goal.returns-in_err-push-clause-read
+returns-in_err-push-clause-read g c before counted =
     let loaded = c.loop-at.loaded.items in
     let number : c.args.first + c.loop-at.at ≡ length (before ++ map g.T.FromFile.meaning loaded) + 1 = omega (
       arith,

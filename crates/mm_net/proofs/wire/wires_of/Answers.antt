@@ -10,9 +10,9 @@ loop-link-preserved c =
     let links = c.args.links.now in
     let w = c.in_ok-new.field-0 in
     record {
-      links = rw c.in-Ok-push.ensures.items (links_more wires links c.loop-link.link-index w _ c.loop-link-test.true c.in_ok-new.ensures.link c.loop-link.invariant.links);
-      carried = rw c.in-Ok-push.ensures.items (carried_more wires links c.loop-link.link-index w
+      links = rw c.in_ok-push.ensures.items (links_more wires links c.loop-link.link-index w _ c.loop-link-test.true c.in_ok-new.ensures.link c.loop-link.invariant.links);
+      carried = rw c.in_ok-push.ensures.items (carried_more wires links c.loop-link.link-index w
           (record { from = 0; take = 0; to = 0; put = 0 }) c.loop-link-test.true c.in_ok-new.ensures.carried
           c.loop-link.invariant.carried);
-      room = rw c.in-Ok-push.ensures.items (All-push (λ (x : Wired). c.args.room ≤ x.room) wires w c.loop-link.invariant.room c.in_ok-new.ensures.room);
+      room = rw c.in_ok-push.ensures.items (All-push (λ (x : Wired). c.args.room ≤ x.room) wires w c.loop-link.invariant.room c.in_ok-new.ensures.room);
     }

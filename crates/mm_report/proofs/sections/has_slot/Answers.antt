@@ -2,9 +2,10 @@ use Rattle.std.proofs.Common.{◌≡◌, ℕ, ◌<◌, ◌==◌, ◌∙◌, fals
 use Rattle.std.specs.List.{list_any}
 use Rattle.std.proofs.lemmas.List.{take_all}
 use Rattle.std.proofs.lemmas.Bool.Decides.{nat_tests}
+use Rattle.std.proofs.lemmas.Map.Keys.{any_passes_from_place}
 use Rattle.mm_model.specs.Slot.{Slot}
 use Rattle.mm_model.specs.Fits.{slots_of}
-use Rattle.mm_report.proofs.Members.{any_here, none_more, any_slot}
+use Rattle.mm_report.proofs.Members.{none_more, any_slot}
 use Rattle.mm_report.proofs.sections.has_slot.Goals as goal
 
 same_test : (x y n : ℕ) → x ≡ y → x ≡ n → (y == n) ≡ true
@@ -17,7 +18,7 @@ pub returns-then-nth_slot-group : goal.returns-then-nth_slot-group
 returns-then-nth_slot-group g c =
     let slot = c.nth_slot.result.now in
     let same : c.behind-m.inside.group ≡ slot.group = ap (λ (s : Slot). s.group) c.behind-m.view_is in
-    sym (any_here (λ (s : Slot). s.group == c.args.group) (slots_of c.args.m.now.core) c.loop-i.i slot c.nth_slot.ensures
+    sym (any_passes_from_place (λ (s : Slot). s.group == c.args.group) (slots_of c.args.m.now.core) c.loop-i.i slot c.nth_slot.ensures
     (same_test c.behind-m.inside.group slot.group c.args.group same c.if-nth_slot-group.true))
     ∙ any_slot c.args.group c.args.m.now.core
 

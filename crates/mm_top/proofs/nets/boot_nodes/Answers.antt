@@ -12,6 +12,6 @@ loop-image-preserved g c =
     let P : Image → Type 0 = λ i. StandsFor i [] node in
     record {
       start = zip_next (λ i m. StandsFor i [] m) c.args.images.now c.loop-image.image-index c.image-item.result c.loop-image.nodes.items c.push.new.self.items node c.loop-image-test.true
-          c.in-Ok.ensures.items c.loop-image.invariant.start (subst P c.image-item.is c.in_ok-node.ensures.stands);
-      unused = rw c.in-Ok.ensures.items (All-push IsUnused c.loop-image.nodes.items node c.loop-image.invariant.unused c.in_ok-node.ensures.unused);
+          c.in_ok-push.ensures.items c.loop-image.invariant.start (subst P c.image-item.is c.in_ok-node.ensures.stands);
+      unused = rw c.in_ok-push.ensures.items (All-push IsUnused c.loop-image.nodes.items node c.loop-image.invariant.unused c.in_ok-node.ensures.unused);
     }

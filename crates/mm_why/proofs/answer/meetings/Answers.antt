@@ -1,4 +1,4 @@
 use Rattle.mm_why.proofs.answer.meetings.Goals as goal
 
-pub returns-in-Ok : goal.returns-in-Ok
-returns-in-Ok c = rw (c.deref.ensures.value, c.deref-2.ensures.value) at c.in-Ok.ensures
+pub returns : goal.returns
+returns c = rw (c.deref.ensures.value, c.deref-2.ensures.value) at c.in_ok-sharing_edges.ensures

@@ -7,8 +7,8 @@ use Rattle.mm_why.proofs.prune.kept.Goals as goal
 
 pub loop-k-init : goal.loop-k-init
 loop-k-init c =
-    subst (AreKept c.args.lines.now c.args.needed.now 0 c.in-Ok.places.items) (sym c.new-out.ensures.items)
-    (none_kept c.args.lines.now c.args.needed.now c.in-Ok.places.items (sym c.in-Ok.places.ok.0 ∙ c.in-Ok.ensures.len))
+    subst (AreKept c.args.lines.now c.args.needed.now 0 c.in_ok-places.places.items) (sym c.new-out.ensures.items)
+    (none_kept c.args.lines.now c.args.needed.now c.in_ok-places.places.items (sym c.in_ok-places.places.ok.0 ∙ c.in_ok-places.ensures.len))
 
 pub keep-requires-clause-kept : goal.keep-requires-clause-kept
 keep-requires-clause-kept c =

@@ -1,8 +1,9 @@
 use Rattle.std.proofs.Common.{◌≡◌, ◌+◌, ◌-◌, true, false, ◌&&◌, None, Some, sym, ap, ◌∙◌, arith}
+use Rattle.std.proofs.lemmas.Bool.{and_left}
 use Rattle.mm_debug.specs.declared.stop.Stop.TheVariants as stop
 use Rattle.mm_debug.specs.Session.{Session, stops_before, stopped, run_from}
 use Rattle.mm_debug.specs.Shown.{session_of}
-use Rattle.mm_debug.proofs.Runs.{run_begins, run_over, run_ends, run_breaks, run_watches, run_goes, passes_first, passes_later, seen_after}
+use Rattle.mm_debug.proofs.Runs.{run_begins, run_over, run_ends, run_breaks, run_watches, run_goes, passes_later, seen_after}
 use Rattle.mm_debug.proofs.session.Session.run.Goals as goal
 use Rattle.mm_debug.proofs.session.Session.run.Goals.{else-begun-via-then-begun+else-stops_before, else-begun-via-else-begun}
 
@@ -26,7 +27,7 @@ returns-in-Some-watched g c =
     let stops = stops_before s item in
     let passes : (c.loop.begun && stops) ≡ false = elim c.else-begun.branch [
       | else-begun-via-then-begun+else-stops_before w ↦ passes_later c.loop.begun stops w.if-begun.true w.if-stops_before.ensures
-      | else-begun-via-else-begun w ↦ passes_first c.loop.begun stops w.if-begun.false
+      | else-begun-via-else-begun w ↦ and_left c.loop.begun stops w.if-begun.false
     ] in
     c.loop.invariant
     ∙ run_watches c.loop.begun s item (1000000 - c.loop.counter) (1000000 - (c.loop.counter + 1)) c.in-Some.ensures (omega arith)
@@ -43,7 +44,7 @@ loop-preserved g c =
     let less = 1000000 - (c.loop.counter + 1) in
     let passes : (c.loop.begun && stops) ≡ false = elim c.else-begun.branch [
       | else-begun-via-then-begun+else-stops_before w ↦ passes_later c.loop.begun stops w.if-begun.true w.if-stops_before.ensures
-      | else-begun-via-else-begun w ↦ passes_first c.loop.begun stops w.if-begun.false
+      | else-begun-via-else-begun w ↦ and_left c.loop.begun stops w.if-begun.false
     ] in
     c.loop.invariant
     ∙ run_goes c.loop.begun s item (1000000 - c.loop.counter) less c.in-Some.ensures (omega arith) passes

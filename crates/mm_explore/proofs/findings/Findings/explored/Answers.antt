@@ -1,6 +1,7 @@
 use Rattle.std.proofs.Common.{◌++◌, ◌∙◌, map, zip, refl, sym, ap, subst}
-use Rattle.std.specs.List.{AllByRecursion, AllZip, flat_map, range_with_len}
+use Rattle.std.specs.List.{AllByRecursion, AllZip, flat_map}
 use Rattle.std.specs.BTreeMap.{get}
+use Rattle.mm_word.specs.Cause.{cause_numbers}
 use Rattle.mm_model.specs.Slot.{Slot}
 use Rattle.mm_explore.specs.Findings.{IsReached, explored_turns, firsts}
 use Rattle.mm_explore.specs.Noting.{first_in, fault_found}
@@ -53,9 +54,9 @@ returns c = λ limit explored is_all is_more.
               c.in_ok-list_faults.ensures
               ∙ ap (λ l. flat_map fault_found_lines l ++ flat_map
               (λ (s : Slot). flat_map (λ cause. fault_found list s.number cause
-              (get order f.faults (s.number, cause))) (range_with_len 1 13)) c.slots.result.now)
+              (get order f.faults (s.number, cause))) cause_numbers) c.slots.result.now)
               c.new-faults.ensures.items
-              ∙ ap (flat_map (λ (s : Slot). flat_map (λ cause. fault_found list s.number cause (get order f.faults (s.number, cause))) (range_with_len 1 13))) c.slots.ensures.slots
+              ∙ ap (flat_map (λ (s : Slot). flat_map (λ cause. fault_found list s.number cause (get order f.faults (s.number, cause))) cause_numbers)) c.slots.ensures.slots
               ∙ faults_text i list (λ slot cause. get order f.faults (slot, cause)) noted.faults i.slots;
           outcomes =
               c.in_ok-put_outcomes.ensures ended.finals (firsts i ended.finals) ended.ends

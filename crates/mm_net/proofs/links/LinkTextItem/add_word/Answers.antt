@@ -17,6 +17,6 @@ pub returns : goal.returns
 returns c = (
   c.in-Some.more ∷ [],
   says_link c.args.word.now c.in-Some.more c.in-Some.ensures.some.0 c.in-Some.ensures.some.1,
-  c.in-Ok.ensures.items,
-  subst AreLinks (sym c.in-Ok.ensures.items) (subst (λ (links : List Link). AreLinks (links ++ c.in-Some.more ∷ [])) c.deref.ensures.value (c.fits.ensures.0 c.if-not-fits.false)),
+  c.in_ok-push.ensures.items,
+  subst AreLinks (sym c.in_ok-push.ensures.items) (subst (λ (links : List Link). AreLinks (links ++ c.in-Some.more ∷ [])) c.deref.ensures.value (c.fits.ensures.0 c.if-not-fits.false)),
 )
