@@ -188,6 +188,15 @@ class Programs(unittest.TestCase):
                     made = source_of([path], Options(level, flags, stack=17, heap=12, lines=False, checked=checked))
                     self.assertEqual(Machine(find_program(), room).run(made), (host, ""), (seed, level))
 
+    def test_the_same_text_at_each_run(self):
+        words = ("import sys; from mm.cc.driver import source_of; from mm.cc.options import Options; "
+                 "[print(source_of([sys.argv[1]], Options(level, ['-w'], lines=False))) for level in '012']")
+        with folder() as room:
+            path = write(room, "a.c", Generator(31, 12).program())
+            made = [subprocess.run([sys.executable, "-c", words, path], cwd=CHECKOUT, stdout=subprocess.PIPE, check=True,
+                                   env={**os.environ, "PYTHONHASHSEED": seed}).stdout for seed in "123"]
+        self.assertEqual(len(set(made)), 1)
+
     def test_each_version(self):
         for version in VERSIONS:
             with mock.patch.dict(os.environ, {clang.VARIABLE: version}):
