@@ -39,10 +39,16 @@ BROKEN = (
     ("mm/cc/emission.py", 'self.put("ldhi", f"r{register}", fixed.number & 0xFFFFFFFF)', 'self.put("ldhi", f"r{register}", 0)', VALUES),
     ("mm/cc/source.py", "calls = [(label, None) for label in before] + [(at_exit, label) for label in after]", "calls = []", VALUES),
     ("mm/cc/allocation.py", "if at < len(calls) and calls[at] + 1 < end:", "if False:", VALUES),
+    # Pointers to freed blocks.
+    ("mm/cc/source.py", 'f"  .ptr rw {each.name}" for each', 'f"  .ptr rw {each.name}" for each in () for each', CLANG),
+    ("mm/cc/runtime/allocate.c", "*(number *)at = bits_of(*at) + none;", "", CLANG),
+    ("mm/cc/runtime/allocate.c", "let_go(), at = find(count);", "", CLANG),
+    ("mm/cc/runtime/allocate.c", "__mm_heap[word] ^= maps[word];", "", CLANG),
+    ("mm/cc/forms.py", "return [form for form in (SIGNED, ZEROED) if form in wanted]", "return list(wanted)", CLANG),
     # The second reckoning.
     ("mm/cc/checked.py", 'self.emit("check", None, register, second)', "pass", VALUES),
     ("mm/cc/cache.py", "if hashlib.sha256(said).hexdigest().encode() != last:", "if False:", CLANG),
-    ("mm/cc/clang.py", "full = os.path.abspath(path)", "full = path", CLANG),
+    ("mm/cc/clang.py", "return os.path.abspath(path)", "return path", CLANG),
     ("mm/cc/lines.py", "return os.path.join(own, near)", "return near", CLANG),
     ("mm/cc/program.py", 'if module.assembler:', 'if False:', CC),
 )

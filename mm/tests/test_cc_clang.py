@@ -123,6 +123,41 @@ int main(void) { return *p; }
 """ + HIDE + """int main(void) { char *p = hide(malloc(72)); p[zero - 57] = 1; hide(p); return 0; }
 """),
 }
+# With `--quarantine 0`: what each of these does with a pointer to a block that is gone, after USED.
+GONE = """#include <setjmp.h>
+#include <stdio.h>
+#include <stdlib.h>
+#include <string.h>
+""" + HIDE + """struct node { struct node *next; long v[5]; };
+static struct node *kept; static struct { char c; struct node *inner[2]; } keeper; static jmp_buf place;
+static __attribute__((noinline)) struct node *made(void) { struct node *p = hide(malloc(sizeof *p)); p->v[2] = 77; return p; }
+static __attribute__((noinline)) void deeper(struct node *p, long n) { long a[9]; hide(a); if (n) deeper(p, n - 1); else free(p); }
+static __attribute__((noinline)) void other(void) { for (int i = 0; i < 50; i++) { long *p = hide(malloc(100)); p[3] = i; free(p); } }
+int main(void) { struct node *a = made(), *b = made(); b->next = a; kept = a; keeper.inner[1] = a; long *middle = &a->v[2]; struct node *all[3] = {b, a, b}; hide(all);
+  volatile long seen = 0;
+"""
+USED = {
+    "a local": "free(a); other(); seen = a->v[2];",
+    "a global": "free(a); other(); seen = kept->v[2];",
+    "a field of a global": "free(a); seen = keeper.inner[1]->v[2];",
+    "another block": "free(a); other(); seen = b->next->v[2];",
+    "a pointer into the middle": "free(a); seen = *middle;",
+    "an array of a caller": "deeper(a, 7); seen = all[1]->v[2];",
+    "an array of variable length": "struct node *v[zero + 3]; v[2] = a; hide(v); free(a); seen = v[2]->v[2];",
+    "a jump": "{ struct node *volatile c = a; if (!setjmp(place)) { free(a); longjmp(place, 1); } seen = c->v[2]; }",
+    "the old block of realloc": "{ struct node *c = hide(realloc(a, 4000)); c->v[1] = 5; seen = a->v[2]; }",
+    "a store": "free(a); a->v[2] = 5; hide(a);",
+    "memcpy": "free(a); memcpy(b, a, 40);",
+}
+# More is handed out and freed than the heap of 4096 bytes has, while some blocks stay; these are right and reached.
+HELD = "30 1 30", """#include <stdio.h>
+#include <stdlib.h>
+""" + HIDE + """struct node { struct node *next; long v; };
+int main(void) { struct node *list = 0; long n = 0, sum = 0;
+  for (int i = 0; i < 60; i++) { char *p = hide(malloc(300 + zero)); if (!p) return 1; p[299] = i; struct node *b = hide(malloc(sizeof *b)); if (!b) return 2;
+    if (i & 1) b->next = list, b->v = 1, list = b; else { struct node *c = hide(malloc(16)); free(b); free(c); } free(p); }
+  for (; list; list = list->next) n++, sum += list->v; printf("%ld %d %ld", n, hide(malloc(3000)) == 0, sum); return 0; }
+"""
 # Programs that are refused, and what is said of them.
 REFUSED = {
     "no input": (["{room}/a.c:2:25: error: `getchar`, which nothing defines, is left out in `main`",
@@ -157,6 +192,24 @@ class Programs(unittest.TestCase):
         for title, (wanted, level, text) in STOPPED.items():
             ended, room = self.ran(text, level)
             self.assertIn(wanted.format(room=room), ended.out, f"{title}: {ended.err}")
+
+    def test_pointers_to_freed_blocks_are_taken_away(self):
+        for title, use in USED.items():
+            text = GONE + use + '\n  printf("%ld\\n", seen); return 0; }\n'
+            for level in "02":
+                ended, _ = self.ran(text, level, "--quarantine", "0")
+                self.assertRegex(ended.out, r"by fault 1 NotPointer at .*its block of malloc was freed", f"{title} at -O{level}: {ended.err}")
+        ended, room = self.ran(STOPPED["a second free"][2], "0", "--quarantine", "0")
+        self.assertIn(STOPPED["a second free"][0].format(room=room), ended.out)
+
+    def test_blocks_that_are_held_back(self):
+        cleared = OUTPUTS["blocks of malloc are cleared"]
+        for amount, level, heap, (wanted, text) in (("0", "0", "12", HELD), ("500", "2", "12", HELD), ("1048576", "1", "12", HELD),
+                                                    ("20000", "1", "16", cleared), ("1048576", "0", "16", cleared)):
+            ended, _ = self.ran(text, level, "--quarantine", amount, "--heap", heap)
+            self.assertIn(f'output "{repr(wanted)[1:-1]}"', ended.out, f"{amount} at -O{level}: {ended.err}")
+        ended, _ = self.ran("#include <mm.h>\nlong f(void) MM_DOOR(f);\nlong f(void) { return 1; }\n", "1", "--quarantine", "0")
+        self.assertIn("`--quarantine` in a program with doors", ended.err)
 
     def test_refused(self):
         for title, (wanted, text) in REFUSED.items():
