@@ -21,6 +21,55 @@ from mm.tests.support import folder, mm, needs_program, write
 VERSIONS = [name for name in ("clang", *(f"clang-{number}" for number in clang.VERSIONS)) if shutil.which(name)]
 needs_clang = unittest.skipUnless(VERSIONS, "there is no Clang")
 HIDE = 'static void *hide(void *p) { __asm__ volatile("" : "+r"(p) : : "memory"); return p; }\nvolatile long zero;\n'
+# Structures that are copied, and a field of which is looked at or changed: pointers in the rest stay pointers.
+CUT = """#include <stdio.h>
+struct rec { int id; const char *name; int age, score; };
+struct odd { char tag; const char *name; short a; char z; };
+struct two { long k; const char *s, *t; int last; int end; };
+static __attribute__((noinline)) void sort(struct rec *a, int n)
+{
+    for (int i = 1; i < n; i++) {
+        struct rec k = a[i];
+        int j = i;
+        for (; j > 0 && (a[j - 1].id > k.id || (a[j - 1].id == k.id && a[j - 1].score > k.score)); j--)
+            a[j] = a[j - 1];
+        a[j] = k;
+    }
+}
+static __attribute__((noinline)) void sort2(struct odd *a, int n)
+{
+    for (int i = 1; i < n; i++) {
+        struct odd k = a[i];
+        int j = i;
+        for (; j > 0 && (a[j - 1].tag > k.tag || (a[j - 1].tag == k.tag && a[j - 1].z > k.z)); j--)
+            a[j] = a[j - 1];
+        a[j] = k;
+    }
+}
+static __attribute__((noinline)) void swap3(struct two *a, struct two *b, int up)
+{
+    struct two x = *a, y = *b;
+    x.k += up; y.k -= up; x.end = y.end; y.end = up;
+    *a = y; *b = x;
+}
+static __attribute__((noinline)) void third(struct rec *a, struct odd *o)
+{
+    struct rec x = *a; x.id++; x.score--; a[1] = x; x.age = 7; a[2] = x;
+    struct odd p = *o; p.tag++; p.z = 'q'; o[1] = p; p.a++; o[2] = p;
+}
+int main(void)
+{
+    struct rec a[] = {{3, "three", 1, 2}, {1, "one", 5, 9}, {2, "two", 0, 0}, {1, "uno", 6, 3}};
+    struct odd o[] = {{'c', "cc", 1, 'x'}, {'a', "aa", 2, 'y'}, {'a', "ab", 3, 'b'}, {'b', "bb", 4, 'c'}};
+    struct two t[] = {{1, "s", "t", 2, 3}, {10, "u", "v", 20, 30}};
+    sort(a, 4); sort2(o, 4); swap3(t, t + 1, 5);
+    for (int i = 0; i < 4; i++) printf("%d %s %d %d, %c %s %d %c; ", a[i].id, a[i].name, a[i].age, a[i].score, o[i].tag, o[i].name, o[i].a, o[i].z);
+    for (int i = 0; i < 2; i++) printf("%ld %s %s %d %d; ", t[i].k, t[i].s, t[i].t, t[i].last, t[i].end);
+    third(a, o);
+    for (int i = 0; i < 3; i++) printf("%d %s %d %d, %c %s %d %c; ", a[i].id, a[i].name, a[i].age, a[i].score, o[i].tag, o[i].name, o[i].a, o[i].z);
+    return 0;
+}
+"""
 # Programs and what they put out, at each level.
 OUTPUTS = {
     "pointers from the middle of an array": ("27 203 139 8 1\n", """#include <stdio.h>
@@ -72,6 +121,15 @@ int main(void) { long r; int i; __int128 w; unsigned __int128 u; signed char c;
          __builtin_mul_overflow(most, all, &w), __builtin_mul_overflow((__int128)most << 64, most, &w),
          __builtin_sub_overflow((unsigned __int128)most, (unsigned __int128)all, &u), __builtin_add_overflow(most, -1l, &r),
          __builtin_add_overflow((int)most, (short)-200, &c) | __builtin_add_overflow(most, 0l, &i)); return 0; }
+"""),
+    "structures that the optimiser cuts into parts": (
+        "1 uno 6 3, a ab 3 b; 1 one 5 9, a aa 2 y; 2 two 0 0, b bb 4 c; 3 three 1 2, c cc 1 x; 5 u v 20 5; 6 s t 2 30; "
+        "1 uno 6 3, a ab 3 b; 2 uno 6 2, b ab 3 q; 2 uno 7 2, b ab 4 q; ", CUT),
+    "pointers with a number in their lower bits": ("775 780 1\n", """#include <stdint.h>
+#include <stdio.h>
+""" + HIDE + """static long load(long *p, int tag) { uintptr_t t = (uintptr_t)p | tag; return *(long *)(t & ~7ul) * 10 + (t & 7); }
+static int late(long *p) { uintptr_t t; int seen = 0; for (int i = 0; i < 3; i++) { if (i) seen += (char *)(t & ~7ul) == (char *)p; t = (uintptr_t)p | 1; } return seen == 2; }
+int main(void) { long x = 77, y = 78; printf("%ld %ld %d\\n", load(&x, 5), load(hide(&y), 0), late(&x)); return 0; }
 """),
     "blocks of malloc are cleared": ("0 0 1\n", """#include <stdio.h>
 #include <stdlib.h>
