@@ -16,7 +16,7 @@ _mm() {
         --part) COMPREPLY=($(compgen -W 'memory frames pages slots all' -- "$word")); return ;;
         --cycles | --states | --turns | --groups | --from | -n | -t | -g) return ;;
         --optimise | -O) COMPREPLY=($(compgen -W '0 1 2 3 s' -- "$word")); return ;;
-        --heap | --stack | --clang | --slot | --prefix) return ;;
+        --heap | --stack | --quarantine | --clang | --slot | --prefix) return ;;
     esac
     if [ -z "$command" ]; then
         COMPREPLY=($(compgen -W "$commands --program --help --version" -- "$word"))
@@ -25,22 +25,22 @@ _mm() {
     if [[ $word == -* ]]; then
         local options='--help'
         case $command in
-            run | trace | solo | continue) options="$options --cycles --schedule --turns --names --json --optimise --heap --stack --clang" ;;
-            view) options="$options --cycles --schedule --turns --names --from --audit --output --optimise --heap --stack --clang" ;;
-            vcd) options="$options --cycles --schedule --turns --names --from --output --optimise --heap --stack --clang" ;;
-            debug) options="$options --schedule --turns --names --optimise --heap --stack --clang" ;;
-            symbols) options="$options --names --json --optimise --heap --stack --clang" ;;
-            cc) options="$options --optimise --heap --stack --clang --slot --prefix --output" ;;
-            hex) options="$options --part --output --optimise --heap --stack --clang" ;;
+            run | trace | solo | continue) options="$options --cycles --schedule --turns --names --json --optimise --heap --stack --quarantine --clang" ;;
+            view) options="$options --cycles --schedule --turns --names --from --audit --output --optimise --heap --stack --quarantine --clang" ;;
+            vcd) options="$options --cycles --schedule --turns --names --from --output --optimise --heap --stack --quarantine --clang" ;;
+            debug) options="$options --schedule --turns --names --optimise --heap --stack --quarantine --clang" ;;
+            symbols) options="$options --names --json --optimise --heap --stack --quarantine --clang" ;;
+            cc) options="$options --optimise --heap --stack --quarantine --clang --slot --prefix --output" ;;
+            hex) options="$options --part --output --optimise --heap --stack --quarantine --clang" ;;
             vectors) options="$options --count --output" ;;
-            explore) options="$options --states --names --optimise --heap --stack --clang" ;;
-            grade) options="$options --optimise --heap --stack --clang" ;;
+            explore) options="$options --states --names --optimise --heap --stack --quarantine --clang" ;;
+            grade) options="$options --optimise --heap --stack --quarantine --clang" ;;
             dis) options="$options --names" ;;
-            holders | why) options="$options --names --optimise --heap --stack --clang" ;;
-            audit) options="$options --groups --names --json --optimise --heap --stack --clang" ;;
-            sweep) options="$options --output --names --optimise --heap --stack --clang" ;;
-            save) options="$options --cycles --schedule --turns --output --optimise --heap --stack --clang" ;;
-            extract | link | migrate) options="$options --output --optimise --heap --stack --clang" ;;
+            holders | why) options="$options --names --optimise --heap --stack --quarantine --clang" ;;
+            audit) options="$options --groups --names --json --optimise --heap --stack --quarantine --clang" ;;
+            sweep) options="$options --output --names --optimise --heap --stack --quarantine --clang" ;;
+            save) options="$options --cycles --schedule --turns --output --optimise --heap --stack --quarantine --clang" ;;
+            extract | link | migrate) options="$options --output --optimise --heap --stack --quarantine --clang" ;;
             asm | gen) options="$options --output" ;;
             net | soak) options="$options --cycles" ;;
         esac

@@ -2276,71 +2276,329 @@ memcpy:
   st r15, r9, 40, any, keep
   st r15, r10, 48, any, keep
   st r15, r11, 56, any, keep
+  st r15, r1, 0, any, keep
   st r15, r2, 8, any, keep
-  mov r10, r0
-  mov r11, r1
-  ldi r9, 7
-  ldi r7, 0
-  ldi r2, 8
-  ldi r8, 3
-  or r0, r11, r10
-  and r0, r0, r9
-  eq r0, r0, r7
-  eq r1, r0, r7
-  ld r12, r15, 8, any, keep
-  ltu r0, r12, r2
-  or r0, r1, r0
-  bnz r0, L204
-L205:
-  mov r6, r2
-  mov r2, r7
-  br L197
-L204:
-  mov r6, r7
-  br L198
+  mov r11, r0
+  ldi r8, 7
+  ldi r9, 0
+  ldi r10, 3
+  ldi r6, 1
+  ldi r7, 2
+  ld r12, r15, 0, any, keep
+  xor r0, r12, r11
+  and r0, r0, r8
+  bz r0, L197
+L222:
+  mov r6, r9
+  br L216
 L197:
-  lea r0, r11, r2
+  ld r12, r15, 8, any, keep
+  bnz r12, L198
+L223:
+  mov r4, r9
+  br L214
+L198:
+  sub r0, r9, r11
+  and r4, r0, r8
+  bz r4, L214
+L199:
+  ld r12, r15, 0, any, keep
+  and r0, r12, r8
+  sub r0, r9, r0
+  ld r12, r15, 0, any, keep
+  lea r0, r12, r0
+  ld r12, r15, 0, any, keep
+  shl r1, r12, r10
+  ld r0, r0, 0, any, keep
+  shr r5, r0, r1
+  and r0, r11, r8
+  sub r0, r9, r0
+  lea r3, r11, r0
+  shl r2, r11, r10
+  ld r1, r3, 0, any, keep
+  shr r0, r1, r2
+  xor r0, r0, r5
+  ldi r13, 255
+  and r0, r0, r13
+  shl r0, r0, r2
+  xor r0, r1, r0
+  st r3, r0, 0, any, keep
+  ld r12, r15, 8, any, keep
+  eq r0, r12, r6
+  bz r0, L200
+L225:
+  ld r4, r15, 8, any, keep
+  br L214
+L200:
+  eq r0, r4, r6
+  bnz r0, L214
+L201:
+  ld r12, r15, 0, any, keep
+  leai r1, r12, 1
+  and r0, r1, r8
+  sub r0, r9, r0
+  lea r0, r1, r0
+  shl r1, r1, r10
+  ld r0, r0, 0, any, keep
+  shr r5, r0, r1
+  leai r1, r11, 1
+  and r0, r1, r8
+  sub r0, r9, r0
+  lea r3, r1, r0
+  shl r2, r1, r10
+  ld r1, r3, 0, any, keep
+  shr r0, r1, r2
+  xor r0, r0, r5
+  ldi r13, 255
+  and r0, r0, r13
+  shl r0, r0, r2
+  xor r0, r1, r0
+  st r3, r0, 0, any, keep
+  ld r12, r15, 8, any, keep
+  eq r0, r12, r7
+  bz r0, L202
+L227:
+  ld r4, r15, 8, any, keep
+  br L214
+L202:
+  eq r0, r4, r7
+  bnz r0, L214
+L203:
+  ld r12, r15, 0, any, keep
+  leai r1, r12, 2
+  and r0, r1, r8
+  sub r0, r9, r0
+  lea r0, r1, r0
+  shl r1, r1, r10
+  ld r0, r0, 0, any, keep
+  shr r5, r0, r1
+  leai r1, r11, 2
+  and r0, r1, r8
+  sub r0, r9, r0
+  lea r3, r1, r0
+  shl r2, r1, r10
+  ld r1, r3, 0, any, keep
+  shr r0, r1, r2
+  xor r0, r0, r5
+  ldi r13, 255
+  and r0, r0, r13
+  shl r0, r0, r2
+  xor r0, r1, r0
+  st r3, r0, 0, any, keep
+  ld r12, r15, 8, any, keep
+  eq r0, r12, r10
+  bz r0, L204
+L229:
+  ld r4, r15, 8, any, keep
+  br L214
+L204:
+  eq r0, r4, r10
+  bnz r0, L214
+L205:
+  ld r12, r15, 0, any, keep
+  leai r1, r12, 3
+  and r0, r1, r8
+  sub r0, r9, r0
+  lea r0, r1, r0
+  shl r1, r1, r10
+  ld r0, r0, 0, any, keep
+  shr r5, r0, r1
+  leai r1, r11, 3
+  and r0, r1, r8
+  sub r0, r9, r0
+  lea r3, r1, r0
+  shl r2, r1, r10
+  ld r1, r3, 0, any, keep
+  shr r0, r1, r2
+  xor r0, r0, r5
+  ldi r13, 255
+  and r0, r0, r13
+  shl r0, r0, r2
+  xor r0, r1, r0
+  st r3, r0, 0, any, keep
+  ld r12, r15, 8, any, keep
+  ldi r13, 4
+  eq r0, r12, r13
+  bz r0, L206
+L231:
+  ld r4, r15, 8, any, keep
+  br L214
+L206:
+  ldi r13, 4
+  eq r0, r4, r13
+  bnz r0, L214
+L207:
+  ld r12, r15, 0, any, keep
+  leai r1, r12, 4
+  and r0, r1, r8
+  sub r0, r9, r0
+  lea r0, r1, r0
+  shl r1, r1, r10
+  ld r0, r0, 0, any, keep
+  shr r5, r0, r1
+  leai r1, r11, 4
+  and r0, r1, r8
+  sub r0, r9, r0
+  lea r3, r1, r0
+  shl r2, r1, r10
+  ld r1, r3, 0, any, keep
+  shr r0, r1, r2
+  xor r0, r0, r5
+  ldi r13, 255
+  and r0, r0, r13
+  shl r0, r0, r2
+  xor r0, r1, r0
+  st r3, r0, 0, any, keep
+  ld r12, r15, 8, any, keep
+  ldi r13, 5
+  eq r0, r12, r13
+  bz r0, L208
+L233:
+  ld r4, r15, 8, any, keep
+  br L214
+L208:
+  ldi r13, 5
+  eq r0, r4, r13
+  bnz r0, L214
+L209:
+  ld r12, r15, 0, any, keep
+  leai r1, r12, 5
+  and r0, r1, r8
+  sub r0, r9, r0
+  lea r0, r1, r0
+  shl r1, r1, r10
+  ld r0, r0, 0, any, keep
+  shr r5, r0, r1
+  leai r1, r11, 5
+  and r0, r1, r8
+  sub r0, r9, r0
+  lea r3, r1, r0
+  shl r2, r1, r10
+  ld r1, r3, 0, any, keep
+  shr r0, r1, r2
+  xor r0, r0, r5
+  ldi r13, 255
+  and r0, r0, r13
+  shl r0, r0, r2
+  xor r0, r1, r0
+  st r3, r0, 0, any, keep
+  ld r12, r15, 8, any, keep
+  ldi r13, 6
+  eq r0, r12, r13
+  bz r0, L210
+L235:
+  ld r4, r15, 8, any, keep
+  br L214
+L210:
+  ldi r13, 6
+  eq r0, r4, r13
+  bnz r0, L214
+L211:
+  ld r12, r15, 0, any, keep
+  leai r1, r12, 6
+  and r0, r1, r8
+  sub r0, r9, r0
+  lea r0, r1, r0
+  shl r1, r1, r10
+  ld r0, r0, 0, any, keep
+  shr r5, r0, r1
+  leai r1, r11, 6
+  and r0, r1, r8
+  sub r0, r9, r0
+  lea r3, r1, r0
+  shl r2, r1, r10
+  ld r1, r3, 0, any, keep
+  shr r0, r1, r2
+  xor r0, r0, r5
+  ldi r13, 255
+  and r0, r0, r13
+  shl r0, r0, r2
+  xor r0, r1, r0
+  st r3, r0, 0, any, keep
+  ld r12, r15, 8, any, keep
+  eq r0, r12, r8
+  bz r0, L212
+L237:
+  ld r4, r15, 8, any, keep
+  br L214
+L212:
+  eq r0, r4, r8
+  bnz r0, L214
+L213:
+  ld r12, r15, 0, any, keep
+  leai r1, r12, 7
+  and r0, r1, r8
+  sub r0, r9, r0
+  lea r0, r1, r0
+  shl r1, r1, r10
+  ld r0, r0, 0, any, keep
+  shr r4, r0, r1
+  leai r1, r11, 7
+  and r0, r1, r8
+  sub r0, r9, r0
+  lea r3, r1, r0
+  shl r2, r1, r10
+  ld r1, r3, 0, any, keep
+  shr r0, r1, r2
+  xor r0, r0, r4
+  ldi r13, 255
+  and r0, r0, r13
+  shl r0, r0, r2
+  xor r0, r1, r0
+  st r3, r0, 0, any, keep
+  ld r4, r15, 8, any, keep
+L214:
+  addi r6, r4, 8
+  ld r12, r15, 8, any, keep
+  ltu r0, r12, r6
+  bz r0, L215
+L239:
+  mov r6, r4
+  br L216
+L215:
+  ld r12, r15, 0, any, keep
+  lea r0, r12, r4
   ld r1, r0, 0, any, keep
-  lea r0, r10, r2
+  lea r0, r11, r4
   st r0, r1, 0, any, keep
   addi r1, r6, 8
   ld r12, r15, 8, any, keep
   ltu r0, r12, r1
-  bnz r0, L198
-L207:
-  mov r2, r6
+  bnz r0, L216
+L242:
+  mov r4, r6
   mov r6, r1
-  br L197
-L198:
+  br L215
+L216:
   ld r13, r15, 8, any, keep
   ltu r0, r6, r13
-  bz r0, L203
-L199:
+  bz r0, L221
+L217:
+  ld r12, r15, 8, any, keep
+  sub r1, r12, r6
   ldi r13, -1
   xor r0, r6, r13
   ld r13, r15, 8, any, keep
   add r12, r0, r13
   st r15, r12, 16, any, keep
-  ld r12, r15, 8, any, keep
-  and r12, r12, r8
-  st r15, r12, 0, any, keep
+  and r7, r1, r10
+  bz r7, L219
+L244:
+  mov r5, r9
+L218:
   ld r12, r15, 0, any, keep
-  bz r12, L201
-L209:
-  mov r5, r7
-L200:
-  lea r1, r11, r6
-  and r0, r1, r9
-  sub r0, r7, r0
+  lea r1, r12, r6
+  and r0, r1, r8
+  sub r0, r9, r0
   lea r0, r1, r0
-  shl r1, r1, r8
+  shl r1, r1, r10
   ld r0, r0, 0, any, keep
   shr r4, r0, r1
-  lea r1, r10, r6
-  and r0, r1, r9
-  sub r0, r7, r0
+  lea r1, r11, r6
+  and r0, r1, r8
+  sub r0, r9, r0
   lea r3, r1, r0
-  shl r2, r1, r8
+  shl r2, r1, r10
   ld r1, r3, 0, any, keep
   shr r0, r1, r2
   xor r0, r0, r4
@@ -2351,26 +2609,26 @@ L200:
   st r3, r0, 0, any, keep
   addi r6, r6, 1
   addi r5, r5, 1
-  ld r13, r15, 0, any, keep
-  eq r0, r5, r13
-  bz r0, L200
-L201:
+  eq r0, r5, r7
+  bz r0, L218
+L219:
   ld r12, r15, 16, any, keep
-  ltu r0, r12, r8
-  bnz r0, L203
-L202:
-  lea r1, r11, r6
-  and r0, r1, r9
-  sub r0, r7, r0
+  ltu r0, r12, r10
+  bnz r0, L221
+L220:
+  ld r12, r15, 0, any, keep
+  lea r1, r12, r6
+  and r0, r1, r8
+  sub r0, r9, r0
   lea r0, r1, r0
-  shl r1, r1, r8
+  shl r1, r1, r10
   ld r0, r0, 0, any, keep
   shr r4, r0, r1
-  lea r1, r10, r6
-  and r0, r1, r9
-  sub r0, r7, r0
+  lea r1, r11, r6
+  and r0, r1, r8
+  sub r0, r9, r0
   lea r3, r1, r0
-  shl r2, r1, r8
+  shl r2, r1, r10
   ld r1, r3, 0, any, keep
   shr r0, r1, r2
   xor r0, r0, r4
@@ -2380,18 +2638,19 @@ L202:
   xor r0, r1, r0
   st r3, r0, 0, any, keep
   addi r2, r6, 1
-  lea r1, r11, r2
-  and r0, r1, r9
-  sub r0, r7, r0
+  ld r12, r15, 0, any, keep
+  lea r1, r12, r2
+  and r0, r1, r8
+  sub r0, r9, r0
   lea r0, r1, r0
-  shl r1, r1, r8
+  shl r1, r1, r10
   ld r0, r0, 0, any, keep
   shr r4, r0, r1
-  lea r1, r10, r2
-  and r0, r1, r9
-  sub r0, r7, r0
+  lea r1, r11, r2
+  and r0, r1, r8
+  sub r0, r9, r0
   lea r3, r1, r0
-  shl r2, r1, r8
+  shl r2, r1, r10
   ld r1, r3, 0, any, keep
   shr r0, r1, r2
   xor r0, r0, r4
@@ -2401,18 +2660,19 @@ L202:
   xor r0, r1, r0
   st r3, r0, 0, any, keep
   addi r2, r6, 2
-  lea r1, r11, r2
-  and r0, r1, r9
-  sub r0, r7, r0
+  ld r12, r15, 0, any, keep
+  lea r1, r12, r2
+  and r0, r1, r8
+  sub r0, r9, r0
   lea r0, r1, r0
-  shl r1, r1, r8
+  shl r1, r1, r10
   ld r0, r0, 0, any, keep
   shr r4, r0, r1
-  lea r1, r10, r2
-  and r0, r1, r9
-  sub r0, r7, r0
+  lea r1, r11, r2
+  and r0, r1, r8
+  sub r0, r9, r0
   lea r3, r1, r0
-  shl r2, r1, r8
+  shl r2, r1, r10
   ld r1, r3, 0, any, keep
   shr r0, r1, r2
   xor r0, r0, r4
@@ -2422,18 +2682,19 @@ L202:
   xor r0, r1, r0
   st r3, r0, 0, any, keep
   addi r2, r6, 3
-  lea r1, r11, r2
-  and r0, r1, r9
-  sub r0, r7, r0
+  ld r12, r15, 0, any, keep
+  lea r1, r12, r2
+  and r0, r1, r8
+  sub r0, r9, r0
   lea r0, r1, r0
-  shl r1, r1, r8
+  shl r1, r1, r10
   ld r0, r0, 0, any, keep
   shr r4, r0, r1
-  lea r1, r10, r2
-  and r0, r1, r9
-  sub r0, r7, r0
+  lea r1, r11, r2
+  and r0, r1, r8
+  sub r0, r9, r0
   lea r3, r1, r0
-  shl r2, r1, r8
+  shl r2, r1, r10
   ld r1, r3, 0, any, keep
   shr r0, r1, r2
   xor r0, r0, r4
@@ -2445,9 +2706,9 @@ L202:
   addi r6, r6, 4
   ld r13, r15, 8, any, keep
   eq r0, r6, r13
-  bz r0, L202
-L203:
-  mov r0, r10
+  bz r0, L220
+L221:
+  mov r0, r11
   ld r7, r15, 24, any, keep
   ld r8, r15, 32, any, keep
   ld r9, r15, 40, any, keep

@@ -1,4 +1,4 @@
-.segment text 13
+.segment text 14
 start:
   ldi r0, 1
   ldi r1, 0
@@ -831,71 +831,329 @@ memcpy:
   st r15, r9, 40, any, keep
   st r15, r10, 48, any, keep
   st r15, r11, 56, any, keep
+  st r15, r1, 0, any, keep
   st r15, r2, 8, any, keep
-  mov r10, r0
-  mov r11, r1
-  ldi r9, 7
-  ldi r7, 0
-  ldi r2, 8
-  ldi r8, 3
-  or r0, r11, r10
-  and r0, r0, r9
-  eq r0, r0, r7
-  eq r1, r0, r7
-  ld r12, r15, 8, any, keep
-  ltu r0, r12, r2
-  or r0, r1, r0
-  bnz r0, L82
-L83:
-  mov r6, r2
-  mov r2, r7
-  br L75
-L82:
-  mov r6, r7
-  br L76
+  mov r11, r0
+  ldi r8, 7
+  ldi r9, 0
+  ldi r10, 3
+  ldi r6, 1
+  ldi r7, 2
+  ld r12, r15, 0, any, keep
+  xor r0, r12, r11
+  and r0, r0, r8
+  bz r0, L75
+L100:
+  mov r6, r9
+  br L94
 L75:
-  lea r0, r11, r2
+  ld r12, r15, 8, any, keep
+  bnz r12, L76
+L101:
+  mov r4, r9
+  br L92
+L76:
+  sub r0, r9, r11
+  and r4, r0, r8
+  bz r4, L92
+L77:
+  ld r12, r15, 0, any, keep
+  and r0, r12, r8
+  sub r0, r9, r0
+  ld r12, r15, 0, any, keep
+  lea r0, r12, r0
+  ld r12, r15, 0, any, keep
+  shl r1, r12, r10
+  ld r0, r0, 0, any, keep
+  shr r5, r0, r1
+  and r0, r11, r8
+  sub r0, r9, r0
+  lea r3, r11, r0
+  shl r2, r11, r10
+  ld r1, r3, 0, any, keep
+  shr r0, r1, r2
+  xor r0, r0, r5
+  ldi r13, 255
+  and r0, r0, r13
+  shl r0, r0, r2
+  xor r0, r1, r0
+  st r3, r0, 0, any, keep
+  ld r12, r15, 8, any, keep
+  eq r0, r12, r6
+  bz r0, L78
+L103:
+  ld r4, r15, 8, any, keep
+  br L92
+L78:
+  eq r0, r4, r6
+  bnz r0, L92
+L79:
+  ld r12, r15, 0, any, keep
+  leai r1, r12, 1
+  and r0, r1, r8
+  sub r0, r9, r0
+  lea r0, r1, r0
+  shl r1, r1, r10
+  ld r0, r0, 0, any, keep
+  shr r5, r0, r1
+  leai r1, r11, 1
+  and r0, r1, r8
+  sub r0, r9, r0
+  lea r3, r1, r0
+  shl r2, r1, r10
+  ld r1, r3, 0, any, keep
+  shr r0, r1, r2
+  xor r0, r0, r5
+  ldi r13, 255
+  and r0, r0, r13
+  shl r0, r0, r2
+  xor r0, r1, r0
+  st r3, r0, 0, any, keep
+  ld r12, r15, 8, any, keep
+  eq r0, r12, r7
+  bz r0, L80
+L105:
+  ld r4, r15, 8, any, keep
+  br L92
+L80:
+  eq r0, r4, r7
+  bnz r0, L92
+L81:
+  ld r12, r15, 0, any, keep
+  leai r1, r12, 2
+  and r0, r1, r8
+  sub r0, r9, r0
+  lea r0, r1, r0
+  shl r1, r1, r10
+  ld r0, r0, 0, any, keep
+  shr r5, r0, r1
+  leai r1, r11, 2
+  and r0, r1, r8
+  sub r0, r9, r0
+  lea r3, r1, r0
+  shl r2, r1, r10
+  ld r1, r3, 0, any, keep
+  shr r0, r1, r2
+  xor r0, r0, r5
+  ldi r13, 255
+  and r0, r0, r13
+  shl r0, r0, r2
+  xor r0, r1, r0
+  st r3, r0, 0, any, keep
+  ld r12, r15, 8, any, keep
+  eq r0, r12, r10
+  bz r0, L82
+L107:
+  ld r4, r15, 8, any, keep
+  br L92
+L82:
+  eq r0, r4, r10
+  bnz r0, L92
+L83:
+  ld r12, r15, 0, any, keep
+  leai r1, r12, 3
+  and r0, r1, r8
+  sub r0, r9, r0
+  lea r0, r1, r0
+  shl r1, r1, r10
+  ld r0, r0, 0, any, keep
+  shr r5, r0, r1
+  leai r1, r11, 3
+  and r0, r1, r8
+  sub r0, r9, r0
+  lea r3, r1, r0
+  shl r2, r1, r10
+  ld r1, r3, 0, any, keep
+  shr r0, r1, r2
+  xor r0, r0, r5
+  ldi r13, 255
+  and r0, r0, r13
+  shl r0, r0, r2
+  xor r0, r1, r0
+  st r3, r0, 0, any, keep
+  ld r12, r15, 8, any, keep
+  ldi r13, 4
+  eq r0, r12, r13
+  bz r0, L84
+L109:
+  ld r4, r15, 8, any, keep
+  br L92
+L84:
+  ldi r13, 4
+  eq r0, r4, r13
+  bnz r0, L92
+L85:
+  ld r12, r15, 0, any, keep
+  leai r1, r12, 4
+  and r0, r1, r8
+  sub r0, r9, r0
+  lea r0, r1, r0
+  shl r1, r1, r10
+  ld r0, r0, 0, any, keep
+  shr r5, r0, r1
+  leai r1, r11, 4
+  and r0, r1, r8
+  sub r0, r9, r0
+  lea r3, r1, r0
+  shl r2, r1, r10
+  ld r1, r3, 0, any, keep
+  shr r0, r1, r2
+  xor r0, r0, r5
+  ldi r13, 255
+  and r0, r0, r13
+  shl r0, r0, r2
+  xor r0, r1, r0
+  st r3, r0, 0, any, keep
+  ld r12, r15, 8, any, keep
+  ldi r13, 5
+  eq r0, r12, r13
+  bz r0, L86
+L111:
+  ld r4, r15, 8, any, keep
+  br L92
+L86:
+  ldi r13, 5
+  eq r0, r4, r13
+  bnz r0, L92
+L87:
+  ld r12, r15, 0, any, keep
+  leai r1, r12, 5
+  and r0, r1, r8
+  sub r0, r9, r0
+  lea r0, r1, r0
+  shl r1, r1, r10
+  ld r0, r0, 0, any, keep
+  shr r5, r0, r1
+  leai r1, r11, 5
+  and r0, r1, r8
+  sub r0, r9, r0
+  lea r3, r1, r0
+  shl r2, r1, r10
+  ld r1, r3, 0, any, keep
+  shr r0, r1, r2
+  xor r0, r0, r5
+  ldi r13, 255
+  and r0, r0, r13
+  shl r0, r0, r2
+  xor r0, r1, r0
+  st r3, r0, 0, any, keep
+  ld r12, r15, 8, any, keep
+  ldi r13, 6
+  eq r0, r12, r13
+  bz r0, L88
+L113:
+  ld r4, r15, 8, any, keep
+  br L92
+L88:
+  ldi r13, 6
+  eq r0, r4, r13
+  bnz r0, L92
+L89:
+  ld r12, r15, 0, any, keep
+  leai r1, r12, 6
+  and r0, r1, r8
+  sub r0, r9, r0
+  lea r0, r1, r0
+  shl r1, r1, r10
+  ld r0, r0, 0, any, keep
+  shr r5, r0, r1
+  leai r1, r11, 6
+  and r0, r1, r8
+  sub r0, r9, r0
+  lea r3, r1, r0
+  shl r2, r1, r10
+  ld r1, r3, 0, any, keep
+  shr r0, r1, r2
+  xor r0, r0, r5
+  ldi r13, 255
+  and r0, r0, r13
+  shl r0, r0, r2
+  xor r0, r1, r0
+  st r3, r0, 0, any, keep
+  ld r12, r15, 8, any, keep
+  eq r0, r12, r8
+  bz r0, L90
+L115:
+  ld r4, r15, 8, any, keep
+  br L92
+L90:
+  eq r0, r4, r8
+  bnz r0, L92
+L91:
+  ld r12, r15, 0, any, keep
+  leai r1, r12, 7
+  and r0, r1, r8
+  sub r0, r9, r0
+  lea r0, r1, r0
+  shl r1, r1, r10
+  ld r0, r0, 0, any, keep
+  shr r4, r0, r1
+  leai r1, r11, 7
+  and r0, r1, r8
+  sub r0, r9, r0
+  lea r3, r1, r0
+  shl r2, r1, r10
+  ld r1, r3, 0, any, keep
+  shr r0, r1, r2
+  xor r0, r0, r4
+  ldi r13, 255
+  and r0, r0, r13
+  shl r0, r0, r2
+  xor r0, r1, r0
+  st r3, r0, 0, any, keep
+  ld r4, r15, 8, any, keep
+L92:
+  addi r6, r4, 8
+  ld r12, r15, 8, any, keep
+  ltu r0, r12, r6
+  bz r0, L93
+L117:
+  mov r6, r4
+  br L94
+L93:
+  ld r12, r15, 0, any, keep
+  lea r0, r12, r4
   ld r1, r0, 0, any, keep
-  lea r0, r10, r2
+  lea r0, r11, r4
   st r0, r1, 0, any, keep
   addi r1, r6, 8
   ld r12, r15, 8, any, keep
   ltu r0, r12, r1
-  bnz r0, L76
-L85:
-  mov r2, r6
+  bnz r0, L94
+L120:
+  mov r4, r6
   mov r6, r1
-  br L75
-L76:
+  br L93
+L94:
   ld r13, r15, 8, any, keep
   ltu r0, r6, r13
-  bz r0, L81
-L77:
+  bz r0, L99
+L95:
+  ld r12, r15, 8, any, keep
+  sub r1, r12, r6
   ldi r13, -1
   xor r0, r6, r13
   ld r13, r15, 8, any, keep
   add r12, r0, r13
   st r15, r12, 16, any, keep
-  ld r12, r15, 8, any, keep
-  and r12, r12, r8
-  st r15, r12, 0, any, keep
+  and r7, r1, r10
+  bz r7, L97
+L122:
+  mov r5, r9
+L96:
   ld r12, r15, 0, any, keep
-  bz r12, L79
-L87:
-  mov r5, r7
-L78:
-  lea r1, r11, r6
-  and r0, r1, r9
-  sub r0, r7, r0
+  lea r1, r12, r6
+  and r0, r1, r8
+  sub r0, r9, r0
   lea r0, r1, r0
-  shl r1, r1, r8
+  shl r1, r1, r10
   ld r0, r0, 0, any, keep
   shr r4, r0, r1
-  lea r1, r10, r6
-  and r0, r1, r9
-  sub r0, r7, r0
+  lea r1, r11, r6
+  and r0, r1, r8
+  sub r0, r9, r0
   lea r3, r1, r0
-  shl r2, r1, r8
+  shl r2, r1, r10
   ld r1, r3, 0, any, keep
   shr r0, r1, r2
   xor r0, r0, r4
@@ -906,26 +1164,26 @@ L78:
   st r3, r0, 0, any, keep
   addi r6, r6, 1
   addi r5, r5, 1
-  ld r13, r15, 0, any, keep
-  eq r0, r5, r13
-  bz r0, L78
-L79:
+  eq r0, r5, r7
+  bz r0, L96
+L97:
   ld r12, r15, 16, any, keep
-  ltu r0, r12, r8
-  bnz r0, L81
-L80:
-  lea r1, r11, r6
-  and r0, r1, r9
-  sub r0, r7, r0
+  ltu r0, r12, r10
+  bnz r0, L99
+L98:
+  ld r12, r15, 0, any, keep
+  lea r1, r12, r6
+  and r0, r1, r8
+  sub r0, r9, r0
   lea r0, r1, r0
-  shl r1, r1, r8
+  shl r1, r1, r10
   ld r0, r0, 0, any, keep
   shr r4, r0, r1
-  lea r1, r10, r6
-  and r0, r1, r9
-  sub r0, r7, r0
+  lea r1, r11, r6
+  and r0, r1, r8
+  sub r0, r9, r0
   lea r3, r1, r0
-  shl r2, r1, r8
+  shl r2, r1, r10
   ld r1, r3, 0, any, keep
   shr r0, r1, r2
   xor r0, r0, r4
@@ -935,18 +1193,19 @@ L80:
   xor r0, r1, r0
   st r3, r0, 0, any, keep
   addi r2, r6, 1
-  lea r1, r11, r2
-  and r0, r1, r9
-  sub r0, r7, r0
+  ld r12, r15, 0, any, keep
+  lea r1, r12, r2
+  and r0, r1, r8
+  sub r0, r9, r0
   lea r0, r1, r0
-  shl r1, r1, r8
+  shl r1, r1, r10
   ld r0, r0, 0, any, keep
   shr r4, r0, r1
-  lea r1, r10, r2
-  and r0, r1, r9
-  sub r0, r7, r0
+  lea r1, r11, r2
+  and r0, r1, r8
+  sub r0, r9, r0
   lea r3, r1, r0
-  shl r2, r1, r8
+  shl r2, r1, r10
   ld r1, r3, 0, any, keep
   shr r0, r1, r2
   xor r0, r0, r4
@@ -956,18 +1215,19 @@ L80:
   xor r0, r1, r0
   st r3, r0, 0, any, keep
   addi r2, r6, 2
-  lea r1, r11, r2
-  and r0, r1, r9
-  sub r0, r7, r0
+  ld r12, r15, 0, any, keep
+  lea r1, r12, r2
+  and r0, r1, r8
+  sub r0, r9, r0
   lea r0, r1, r0
-  shl r1, r1, r8
+  shl r1, r1, r10
   ld r0, r0, 0, any, keep
   shr r4, r0, r1
-  lea r1, r10, r2
-  and r0, r1, r9
-  sub r0, r7, r0
+  lea r1, r11, r2
+  and r0, r1, r8
+  sub r0, r9, r0
   lea r3, r1, r0
-  shl r2, r1, r8
+  shl r2, r1, r10
   ld r1, r3, 0, any, keep
   shr r0, r1, r2
   xor r0, r0, r4
@@ -977,18 +1237,19 @@ L80:
   xor r0, r1, r0
   st r3, r0, 0, any, keep
   addi r2, r6, 3
-  lea r1, r11, r2
-  and r0, r1, r9
-  sub r0, r7, r0
+  ld r12, r15, 0, any, keep
+  lea r1, r12, r2
+  and r0, r1, r8
+  sub r0, r9, r0
   lea r0, r1, r0
-  shl r1, r1, r8
+  shl r1, r1, r10
   ld r0, r0, 0, any, keep
   shr r4, r0, r1
-  lea r1, r10, r2
-  and r0, r1, r9
-  sub r0, r7, r0
+  lea r1, r11, r2
+  and r0, r1, r8
+  sub r0, r9, r0
   lea r3, r1, r0
-  shl r2, r1, r8
+  shl r2, r1, r10
   ld r1, r3, 0, any, keep
   shr r0, r1, r2
   xor r0, r0, r4
@@ -1000,9 +1261,9 @@ L80:
   addi r6, r6, 4
   ld r13, r15, 8, any, keep
   eq r0, r6, r13
-  bz r0, L80
-L81:
-  mov r0, r10
+  bz r0, L98
+L99:
+  mov r0, r11
   ld r7, r15, 24, any, keep
   ld r8, r15, 32, any, keep
   ld r9, r15, 40, any, keep
@@ -1020,7 +1281,7 @@ strlen:
   ldi r6, 7
   ldi r7, 255
   mov r2, r4
-L93:
+L128:
   lea r1, r3, r2
   and r0, r1, r6
   sub r0, r4, r0
@@ -1030,11 +1291,11 @@ L93:
   shr r0, r0, r1
   and r0, r0, r7
   addi r1, r2, 1
-  bz r0, L94
-L95:
+  bz r0, L129
+L130:
   mov r2, r1
-  br L93
-L94:
+  br L128
+L129:
   mov r0, r2
   ld r7, r15, 0, any, keep
   leai r15, r15, 8

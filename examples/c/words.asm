@@ -1487,71 +1487,329 @@ memcpy:
   st r15, r9, 40, any, keep
   st r15, r10, 48, any, keep
   st r15, r11, 56, any, keep
+  st r15, r1, 0, any, keep
   st r15, r2, 8, any, keep
-  mov r10, r0
-  mov r11, r1
-  ldi r9, 7
-  ldi r7, 0
-  ldi r2, 8
-  ldi r8, 3
-  or r0, r11, r10
-  and r0, r0, r9
-  eq r0, r0, r7
-  eq r1, r0, r7
-  ld r12, r15, 8, any, keep
-  ltu r0, r12, r2
-  or r0, r1, r0
-  bnz r0, L177
-L178:
-  mov r6, r2
-  mov r2, r7
-  br L170
-L177:
-  mov r6, r7
-  br L171
+  mov r11, r0
+  ldi r8, 7
+  ldi r9, 0
+  ldi r10, 3
+  ldi r6, 1
+  ldi r7, 2
+  ld r12, r15, 0, any, keep
+  xor r0, r12, r11
+  and r0, r0, r8
+  bz r0, L170
+L195:
+  mov r6, r9
+  br L189
 L170:
-  lea r0, r11, r2
+  ld r12, r15, 8, any, keep
+  bnz r12, L171
+L196:
+  mov r4, r9
+  br L187
+L171:
+  sub r0, r9, r11
+  and r4, r0, r8
+  bz r4, L187
+L172:
+  ld r12, r15, 0, any, keep
+  and r0, r12, r8
+  sub r0, r9, r0
+  ld r12, r15, 0, any, keep
+  lea r0, r12, r0
+  ld r12, r15, 0, any, keep
+  shl r1, r12, r10
+  ld r0, r0, 0, any, keep
+  shr r5, r0, r1
+  and r0, r11, r8
+  sub r0, r9, r0
+  lea r3, r11, r0
+  shl r2, r11, r10
+  ld r1, r3, 0, any, keep
+  shr r0, r1, r2
+  xor r0, r0, r5
+  ldi r13, 255
+  and r0, r0, r13
+  shl r0, r0, r2
+  xor r0, r1, r0
+  st r3, r0, 0, any, keep
+  ld r12, r15, 8, any, keep
+  eq r0, r12, r6
+  bz r0, L173
+L198:
+  ld r4, r15, 8, any, keep
+  br L187
+L173:
+  eq r0, r4, r6
+  bnz r0, L187
+L174:
+  ld r12, r15, 0, any, keep
+  leai r1, r12, 1
+  and r0, r1, r8
+  sub r0, r9, r0
+  lea r0, r1, r0
+  shl r1, r1, r10
+  ld r0, r0, 0, any, keep
+  shr r5, r0, r1
+  leai r1, r11, 1
+  and r0, r1, r8
+  sub r0, r9, r0
+  lea r3, r1, r0
+  shl r2, r1, r10
+  ld r1, r3, 0, any, keep
+  shr r0, r1, r2
+  xor r0, r0, r5
+  ldi r13, 255
+  and r0, r0, r13
+  shl r0, r0, r2
+  xor r0, r1, r0
+  st r3, r0, 0, any, keep
+  ld r12, r15, 8, any, keep
+  eq r0, r12, r7
+  bz r0, L175
+L200:
+  ld r4, r15, 8, any, keep
+  br L187
+L175:
+  eq r0, r4, r7
+  bnz r0, L187
+L176:
+  ld r12, r15, 0, any, keep
+  leai r1, r12, 2
+  and r0, r1, r8
+  sub r0, r9, r0
+  lea r0, r1, r0
+  shl r1, r1, r10
+  ld r0, r0, 0, any, keep
+  shr r5, r0, r1
+  leai r1, r11, 2
+  and r0, r1, r8
+  sub r0, r9, r0
+  lea r3, r1, r0
+  shl r2, r1, r10
+  ld r1, r3, 0, any, keep
+  shr r0, r1, r2
+  xor r0, r0, r5
+  ldi r13, 255
+  and r0, r0, r13
+  shl r0, r0, r2
+  xor r0, r1, r0
+  st r3, r0, 0, any, keep
+  ld r12, r15, 8, any, keep
+  eq r0, r12, r10
+  bz r0, L177
+L202:
+  ld r4, r15, 8, any, keep
+  br L187
+L177:
+  eq r0, r4, r10
+  bnz r0, L187
+L178:
+  ld r12, r15, 0, any, keep
+  leai r1, r12, 3
+  and r0, r1, r8
+  sub r0, r9, r0
+  lea r0, r1, r0
+  shl r1, r1, r10
+  ld r0, r0, 0, any, keep
+  shr r5, r0, r1
+  leai r1, r11, 3
+  and r0, r1, r8
+  sub r0, r9, r0
+  lea r3, r1, r0
+  shl r2, r1, r10
+  ld r1, r3, 0, any, keep
+  shr r0, r1, r2
+  xor r0, r0, r5
+  ldi r13, 255
+  and r0, r0, r13
+  shl r0, r0, r2
+  xor r0, r1, r0
+  st r3, r0, 0, any, keep
+  ld r12, r15, 8, any, keep
+  ldi r13, 4
+  eq r0, r12, r13
+  bz r0, L179
+L204:
+  ld r4, r15, 8, any, keep
+  br L187
+L179:
+  ldi r13, 4
+  eq r0, r4, r13
+  bnz r0, L187
+L180:
+  ld r12, r15, 0, any, keep
+  leai r1, r12, 4
+  and r0, r1, r8
+  sub r0, r9, r0
+  lea r0, r1, r0
+  shl r1, r1, r10
+  ld r0, r0, 0, any, keep
+  shr r5, r0, r1
+  leai r1, r11, 4
+  and r0, r1, r8
+  sub r0, r9, r0
+  lea r3, r1, r0
+  shl r2, r1, r10
+  ld r1, r3, 0, any, keep
+  shr r0, r1, r2
+  xor r0, r0, r5
+  ldi r13, 255
+  and r0, r0, r13
+  shl r0, r0, r2
+  xor r0, r1, r0
+  st r3, r0, 0, any, keep
+  ld r12, r15, 8, any, keep
+  ldi r13, 5
+  eq r0, r12, r13
+  bz r0, L181
+L206:
+  ld r4, r15, 8, any, keep
+  br L187
+L181:
+  ldi r13, 5
+  eq r0, r4, r13
+  bnz r0, L187
+L182:
+  ld r12, r15, 0, any, keep
+  leai r1, r12, 5
+  and r0, r1, r8
+  sub r0, r9, r0
+  lea r0, r1, r0
+  shl r1, r1, r10
+  ld r0, r0, 0, any, keep
+  shr r5, r0, r1
+  leai r1, r11, 5
+  and r0, r1, r8
+  sub r0, r9, r0
+  lea r3, r1, r0
+  shl r2, r1, r10
+  ld r1, r3, 0, any, keep
+  shr r0, r1, r2
+  xor r0, r0, r5
+  ldi r13, 255
+  and r0, r0, r13
+  shl r0, r0, r2
+  xor r0, r1, r0
+  st r3, r0, 0, any, keep
+  ld r12, r15, 8, any, keep
+  ldi r13, 6
+  eq r0, r12, r13
+  bz r0, L183
+L208:
+  ld r4, r15, 8, any, keep
+  br L187
+L183:
+  ldi r13, 6
+  eq r0, r4, r13
+  bnz r0, L187
+L184:
+  ld r12, r15, 0, any, keep
+  leai r1, r12, 6
+  and r0, r1, r8
+  sub r0, r9, r0
+  lea r0, r1, r0
+  shl r1, r1, r10
+  ld r0, r0, 0, any, keep
+  shr r5, r0, r1
+  leai r1, r11, 6
+  and r0, r1, r8
+  sub r0, r9, r0
+  lea r3, r1, r0
+  shl r2, r1, r10
+  ld r1, r3, 0, any, keep
+  shr r0, r1, r2
+  xor r0, r0, r5
+  ldi r13, 255
+  and r0, r0, r13
+  shl r0, r0, r2
+  xor r0, r1, r0
+  st r3, r0, 0, any, keep
+  ld r12, r15, 8, any, keep
+  eq r0, r12, r8
+  bz r0, L185
+L210:
+  ld r4, r15, 8, any, keep
+  br L187
+L185:
+  eq r0, r4, r8
+  bnz r0, L187
+L186:
+  ld r12, r15, 0, any, keep
+  leai r1, r12, 7
+  and r0, r1, r8
+  sub r0, r9, r0
+  lea r0, r1, r0
+  shl r1, r1, r10
+  ld r0, r0, 0, any, keep
+  shr r4, r0, r1
+  leai r1, r11, 7
+  and r0, r1, r8
+  sub r0, r9, r0
+  lea r3, r1, r0
+  shl r2, r1, r10
+  ld r1, r3, 0, any, keep
+  shr r0, r1, r2
+  xor r0, r0, r4
+  ldi r13, 255
+  and r0, r0, r13
+  shl r0, r0, r2
+  xor r0, r1, r0
+  st r3, r0, 0, any, keep
+  ld r4, r15, 8, any, keep
+L187:
+  addi r6, r4, 8
+  ld r12, r15, 8, any, keep
+  ltu r0, r12, r6
+  bz r0, L188
+L212:
+  mov r6, r4
+  br L189
+L188:
+  ld r12, r15, 0, any, keep
+  lea r0, r12, r4
   ld r1, r0, 0, any, keep
-  lea r0, r10, r2
+  lea r0, r11, r4
   st r0, r1, 0, any, keep
   addi r1, r6, 8
   ld r12, r15, 8, any, keep
   ltu r0, r12, r1
-  bnz r0, L171
-L180:
-  mov r2, r6
+  bnz r0, L189
+L215:
+  mov r4, r6
   mov r6, r1
-  br L170
-L171:
+  br L188
+L189:
   ld r13, r15, 8, any, keep
   ltu r0, r6, r13
-  bz r0, L176
-L172:
+  bz r0, L194
+L190:
+  ld r12, r15, 8, any, keep
+  sub r1, r12, r6
   ldi r13, -1
   xor r0, r6, r13
   ld r13, r15, 8, any, keep
   add r12, r0, r13
   st r15, r12, 16, any, keep
-  ld r12, r15, 8, any, keep
-  and r12, r12, r8
-  st r15, r12, 0, any, keep
+  and r7, r1, r10
+  bz r7, L192
+L217:
+  mov r5, r9
+L191:
   ld r12, r15, 0, any, keep
-  bz r12, L174
-L182:
-  mov r5, r7
-L173:
-  lea r1, r11, r6
-  and r0, r1, r9
-  sub r0, r7, r0
+  lea r1, r12, r6
+  and r0, r1, r8
+  sub r0, r9, r0
   lea r0, r1, r0
-  shl r1, r1, r8
+  shl r1, r1, r10
   ld r0, r0, 0, any, keep
   shr r4, r0, r1
-  lea r1, r10, r6
-  and r0, r1, r9
-  sub r0, r7, r0
+  lea r1, r11, r6
+  and r0, r1, r8
+  sub r0, r9, r0
   lea r3, r1, r0
-  shl r2, r1, r8
+  shl r2, r1, r10
   ld r1, r3, 0, any, keep
   shr r0, r1, r2
   xor r0, r0, r4
@@ -1562,26 +1820,26 @@ L173:
   st r3, r0, 0, any, keep
   addi r6, r6, 1
   addi r5, r5, 1
-  ld r13, r15, 0, any, keep
-  eq r0, r5, r13
-  bz r0, L173
-L174:
+  eq r0, r5, r7
+  bz r0, L191
+L192:
   ld r12, r15, 16, any, keep
-  ltu r0, r12, r8
-  bnz r0, L176
-L175:
-  lea r1, r11, r6
-  and r0, r1, r9
-  sub r0, r7, r0
+  ltu r0, r12, r10
+  bnz r0, L194
+L193:
+  ld r12, r15, 0, any, keep
+  lea r1, r12, r6
+  and r0, r1, r8
+  sub r0, r9, r0
   lea r0, r1, r0
-  shl r1, r1, r8
+  shl r1, r1, r10
   ld r0, r0, 0, any, keep
   shr r4, r0, r1
-  lea r1, r10, r6
-  and r0, r1, r9
-  sub r0, r7, r0
+  lea r1, r11, r6
+  and r0, r1, r8
+  sub r0, r9, r0
   lea r3, r1, r0
-  shl r2, r1, r8
+  shl r2, r1, r10
   ld r1, r3, 0, any, keep
   shr r0, r1, r2
   xor r0, r0, r4
@@ -1591,18 +1849,19 @@ L175:
   xor r0, r1, r0
   st r3, r0, 0, any, keep
   addi r2, r6, 1
-  lea r1, r11, r2
-  and r0, r1, r9
-  sub r0, r7, r0
+  ld r12, r15, 0, any, keep
+  lea r1, r12, r2
+  and r0, r1, r8
+  sub r0, r9, r0
   lea r0, r1, r0
-  shl r1, r1, r8
+  shl r1, r1, r10
   ld r0, r0, 0, any, keep
   shr r4, r0, r1
-  lea r1, r10, r2
-  and r0, r1, r9
-  sub r0, r7, r0
+  lea r1, r11, r2
+  and r0, r1, r8
+  sub r0, r9, r0
   lea r3, r1, r0
-  shl r2, r1, r8
+  shl r2, r1, r10
   ld r1, r3, 0, any, keep
   shr r0, r1, r2
   xor r0, r0, r4
@@ -1612,18 +1871,19 @@ L175:
   xor r0, r1, r0
   st r3, r0, 0, any, keep
   addi r2, r6, 2
-  lea r1, r11, r2
-  and r0, r1, r9
-  sub r0, r7, r0
+  ld r12, r15, 0, any, keep
+  lea r1, r12, r2
+  and r0, r1, r8
+  sub r0, r9, r0
   lea r0, r1, r0
-  shl r1, r1, r8
+  shl r1, r1, r10
   ld r0, r0, 0, any, keep
   shr r4, r0, r1
-  lea r1, r10, r2
-  and r0, r1, r9
-  sub r0, r7, r0
+  lea r1, r11, r2
+  and r0, r1, r8
+  sub r0, r9, r0
   lea r3, r1, r0
-  shl r2, r1, r8
+  shl r2, r1, r10
   ld r1, r3, 0, any, keep
   shr r0, r1, r2
   xor r0, r0, r4
@@ -1633,18 +1893,19 @@ L175:
   xor r0, r1, r0
   st r3, r0, 0, any, keep
   addi r2, r6, 3
-  lea r1, r11, r2
-  and r0, r1, r9
-  sub r0, r7, r0
+  ld r12, r15, 0, any, keep
+  lea r1, r12, r2
+  and r0, r1, r8
+  sub r0, r9, r0
   lea r0, r1, r0
-  shl r1, r1, r8
+  shl r1, r1, r10
   ld r0, r0, 0, any, keep
   shr r4, r0, r1
-  lea r1, r10, r2
-  and r0, r1, r9
-  sub r0, r7, r0
+  lea r1, r11, r2
+  and r0, r1, r8
+  sub r0, r9, r0
   lea r3, r1, r0
-  shl r2, r1, r8
+  shl r2, r1, r10
   ld r1, r3, 0, any, keep
   shr r0, r1, r2
   xor r0, r0, r4
@@ -1656,9 +1917,9 @@ L175:
   addi r6, r6, 4
   ld r13, r15, 8, any, keep
   eq r0, r6, r13
-  bz r0, L175
-L176:
-  mov r0, r10
+  bz r0, L193
+L194:
+  mov r0, r11
   ld r7, r15, 24, any, keep
   ld r8, r15, 32, any, keep
   ld r9, r15, 40, any, keep

@@ -340,9 +340,9 @@ class Accesses(Lowering):
             return
         if made.operands:
             size *= made.operands[0].number  # type: ignore[attr-defined]
-        self.pointers[made.name] = self.local_object(made.name, size, max(made.align, 1))
+        self.pointers[made.name] = self.local_object(made.name, size, max(made.align, 1), self.begins.get(made.name))
 
-    def local_object(self, name: str, size: int, align: int) -> Pointer:
+    def local_object(self, name: str, size: int, align: int, begin: Optional[int] = None) -> Pointer:
         raise NotImplementedError
 
     def dynamic_alloca(self, made: Instruction, size: int) -> None:

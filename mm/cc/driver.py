@@ -18,7 +18,8 @@ from mm.status import Status, Stop
 def source_of(paths: Sequence[str], options: Options) -> str:
     """The source of one program in C. What is left out ends with a message."""
     modules = [module_of(path, options.level, options.flags, options.lines) for path in paths]
-    program = Program([*modules, library()], options)
+    flags = [] if options.quarantine is None else [f"-DQUARANTINE={options.quarantine}"]
+    program = Program([*modules, library(flags)], options)
     try:
         source = write_source(program, options)
     except Failure as failure:

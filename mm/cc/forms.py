@@ -38,8 +38,10 @@ class Forms:
         while self.work:
             self._spread(*self.work.pop())
 
-    def of(self, name: str) -> set[str]:
-        return self.wanted.get(name, set())
+    def of(self, name: str) -> list[str]:
+        """The forms, always in one order, so that the same text is made at each run."""
+        wanted = self.wanted.get(name, set())
+        return [form for form in (SIGNED, ZEROED) if form in wanted]
 
     def carried(self, name: str) -> str:
         """The form in which a value that comes from several places is carried."""

@@ -26,6 +26,7 @@ from mm.cc.ir import (
     VectorType,
     Zero,
 )
+from mm.cc.parts import Parts
 from mm.cc.pointers import Bases, Known, Pointer, promotable
 from mm.cc.untranslated import Untranslated
 
@@ -77,6 +78,8 @@ class Lowering:
         self.promoted = promotable(function)
         self.forms = Forms(function, self.promoted)
         self.bases = Bases(function, layouts, self.promoted)
+        # Where parts of structures begin in a word.
+        self.begins = Parts(function, layouts).begins
         self.code = Code(function.name, names.label(function.name))
         self.numbers: dict[str, dict[str, int]] = {}
         self.pointers: dict[str, Pointer] = {}
@@ -329,6 +332,11 @@ class Lowering:
             return None
         if made.op == "ptrtoint" and bits_of(made.type) == 64:
             return made
+        if made.op == "load" and isinstance(made.operands[0], Local):
+            stored = self.forms.stored.get(made.operands[0].name, [])
+            leaf = self._leaf(stored[0], depth - 1) if len(stored) == 1 else None
+            start = leaf.operands[0] if leaf else None
+            return None if isinstance(start, Local) and start.name not in self.pointers else leaf
         if made.op in ("add", "sub", "and", "or", "xor"):
             found = [self._leaf(operand, depth - 1) for operand in made.operands]
             found = [leaf for leaf in found if leaf is not None]

@@ -29,6 +29,8 @@ ASSEMBLER = {
 # An event of a slot that this one handles goes to four words.
 ASSEMBLER["__mm_event"] = ["mov r12, r0", "evt r0", "st r12, r0, 0, any, keep", "st r12, r1, 8, any, keep",
                            "st r12, r2, 16, any, keep", "st r12, r3, 24, any, keep", "jmp r14"]
+# The stack from here on, where pointers to blocks of `malloc` are looked for.
+ASSEMBLER["__mm_stack"] = ["mov r0, r15", "jmp r14"]
 ASSEMBLER["_setjmp"] = ASSEMBLER["setjmp"]
 ASSEMBLER["_longjmp"] = ASSEMBLER["longjmp"]
 

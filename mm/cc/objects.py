@@ -153,9 +153,14 @@ class Objects(Vectors):
 
     # Objects of the frame
 
-    def local_object(self, name: str, size: int, align: int) -> Pointer:
+    def local_object(self, name: str, size: int, align: int, begin: Optional[int] = None) -> Pointer:
+        """An object of the frame; one that is a part of another one begins at a certain place in a word."""
         log = max(log_of(size), (align - 1).bit_length() if align > 1 else 0)
-        made = LocalObject(name, size, align, log, place_in(size, align, log, self.at_end))
+        place = place_in(size, align, log, self.at_end)
+        if begin is not None and place % WORD != begin:
+            log += (1 << log) < size + begin
+            place = (1 << log) - size - ((1 << log) - size - begin) % WORD
+        made = LocalObject(name, size, align, log, place)
         self.code.objects.append(made)
         base = self.fix(Fixed("local", len(self.code.objects) - 1))
         self.known[base] = Known(made.place, log, len(self.code.objects) - 1)

@@ -7,7 +7,7 @@ from typing import Optional
 
 from mm.names.numbers import number_of
 from mm.status import usage
-from mm.table import CLANG, HEAP, LEVEL, PREFIX, SLOT, STACK, Option
+from mm.table import CLANG, HEAP, LEVEL, PREFIX, QUARANTINE, SLOT, STACK, Option
 from mm.words import Words
 
 LEVELS = ("0", "1", "2", "3", "s")
@@ -28,6 +28,8 @@ class Options:
     lines: bool = True
     # Whether the code compares itself with a second reckoning of each value, and stops where they differ.
     checked: bool = False
+    # How many bytes of freed blocks are held back before pointers to them are taken away; without it they never are.
+    quarantine: Optional[int] = None
 
 
 def _number(said: Words, option: Option, low: int, high: int, default: int) -> int:
@@ -51,4 +53,5 @@ def options_of(said: Words) -> Options:
         said.value(PREFIX) or "",
         _number(said, STACK, 8, 20, 16),
         _number(said, HEAP, 4, 20, 16),
+        quarantine=_number(said, QUARANTINE, 0, 1 << 20, 0) if said.value(QUARANTINE) is not None else None,
     )

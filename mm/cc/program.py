@@ -12,7 +12,7 @@ from mm.cc.control import Translator
 from mm.cc.ctypes import Types
 from mm.cc.data import Place, Words
 from mm.cc.failures import INSTEAD, INSTEAD_OF, Failure, Failures
-from mm.cc.ir import ArrayType, BlockAddress, Function, Global, GlobalObject, IntType, Module, Number, Parts
+from mm.cc.ir import POINTER, ArrayType, BlockAddress, Function, Global, GlobalObject, IntType, Module, Number, Parts
 from mm.cc.lines import FunctionNotes
 from mm.cc.modulenames import ASSEMBLER, DOOR, EMPTY, SHARED, ModuleNames, Segment
 from mm.cc.options import Options
@@ -23,6 +23,8 @@ from mm.cc.untranslated import Untranslated
 
 MOST_NAME = 31
 HEAP = "__mm_heap"
+# A pointer to each segment in which a program can have pointers, where the library is to find these.
+ROOTS, ROOTS_LOG = "__mm_roots", 11
 MOST_LOG = 20
 RESERVED = re.compile(r"r\d+|L\d+|P_.*|none|int|ptr|start|stack|text|heap")
 # A door's segment: where it is entered, and its length.
@@ -124,6 +126,8 @@ class Program:
             return self._foreign(module, name)
         if name == HEAP:
             return self._heap(module)
+        if name == ROOTS:
+            return self._roots(module)
         if home is None or name not in home.globals:
             self._undefined(name)
             home = module
@@ -155,6 +159,15 @@ class Program:
             made = GlobalObject(HEAP, ArrayType(1 << self.heap, IntType(8)), False, None)
             found = Segment(self.prefix + "heap", module, made, 1 << self.heap, Known(0, self.heap), True)
             self.segments[0, HEAP] = found
+        return found
+
+    def _roots(self, module: Module) -> Segment:
+        """The list of what the program can write, which is written when all of that is known."""
+        found = self.segments.get((0, ROOTS))
+        if found is None:
+            made = GlobalObject(ROOTS, ArrayType(1 << ROOTS_LOG - 3, POINTER), True, None)
+            found = Segment(self.mangled("heap_roots"), module, made, 1 << ROOTS_LOG, Known(0, ROOTS_LOG), False)
+            self.segments[0, ROOTS] = found
         return found
 
     def _segment(self, module: Module, name: str) -> Segment:

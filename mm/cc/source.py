@@ -7,7 +7,7 @@ from typing import Iterator, Optional, Sequence
 from mm.cc.doors import check, doors_of, stub, thread_of
 from mm.cc.ir import Function
 from mm.cc.options import Options
-from mm.cc.program import EMPTY, MAINS, Failure, Program, Segment
+from mm.cc.program import EMPTY, HEAP, MAINS, ROOTS, Failure, Program, Segment
 from mm.cc.text import TextBlock
 
 STACK_ROOM = 64
@@ -41,6 +41,8 @@ class SourceWriter:
         for module, function in doors:
             check(module, function)
             entered.append((function, program.want_function(module, function.name)))
+        if doors and self.options.quarantine is not None:
+            raise Failure("the program", "`--quarantine` in a program with doors, whose callers it does not stop,")
         program.translate()
         leave = self.leaving()
         data = [self.segment(segment) for segment in program.segments.values() if segment.name not in program.foreign]
@@ -178,7 +180,15 @@ class SourceWriter:
             self._by_name = {segment.name: segment for segment in self.program.segments.values()}
         return self._by_name
 
+    def roots(self, segment: Segment) -> list[str]:
+        """Pointers to all that the program can write, but for the heap and the stack."""
+        return [f".segment {segment.name} {segment.known.log}", *(
+            f"  .ptr rw {each.name}" for each in self.program.segments.values()
+            if each.writable and each.made.name != HEAP and each.name not in self.program.foreign)]
+
     def segment(self, segment: Segment) -> list[str]:
+        if segment.made.name == ROOTS:
+            return self.roots(segment)
         words = segment.words
         assert words is not None
         lines = [f".segment {segment.name} {segment.known.log}"]

@@ -20,6 +20,9 @@ BROKEN = (
     # Memory.
     ("mm/cc/code.py", "return ((1 << log) - max(size, 1)) // align * align if at_end else 0",
      "return ((1 << log) - max(size, 1)) // min(align, 8) * min(align, 8) if at_end else 0", VALUES),
+    ("mm/cc/objects.py", "if begin is not None and place % WORD != begin:", "if False:", CLANG),
+    ("mm/cc/parts.py", "at += by", "pass", CLANG),
+    ("mm/cc/runtime/memory.c", "for (; at < size && (bits_of(a) + at & 7); at++)\n            a[at] = b[at];", "", CLANG),
     ("mm/cc/objects.py", "if made.align > WORD:", "if made.align > 64:", VALUES),
     ("mm/cc/accesses.py", 'change = self.op("and", self.op("xor", self.op("shr", old, shift), value), self.constant((1 << 8 * size) - 1))',
      'change = self.op("xor", self.op("shr", old, shift), value)', VALUES),
@@ -39,6 +42,12 @@ BROKEN = (
     ("mm/cc/emission.py", 'self.put("ldhi", f"r{register}", fixed.number & 0xFFFFFFFF)', 'self.put("ldhi", f"r{register}", 0)', VALUES),
     ("mm/cc/source.py", "first = self.start(label, calls, leave)", "first = self.start(label, [], leave)", VALUES),
     ("mm/cc/allocation.py", "if at < len(calls) and calls[at] + 1 < end:", "if False:", VALUES),
+    # Pointers to freed blocks.
+    ("mm/cc/source.py", 'f"  .ptr rw {each.name}" for each', 'f"  .ptr rw {each.name}" for each in () for each', CLANG),
+    ("mm/cc/runtime/allocate.c", "*(number *)at = bits_of(*at) + none;", ";", CLANG),
+    ("mm/cc/runtime/allocate.c", "let_go(), at = find(count);", ";", CLANG),
+    ("mm/cc/runtime/allocate.c", "__mm_heap[word] ^= maps[word];", "", CLANG),
+    ("mm/cc/forms.py", "return [form for form in (SIGNED, ZEROED) if form in wanted]", "return list(wanted)", CLANG),
     # The second reckoning.
     ("mm/cc/checked.py", 'self.emit("check", None, register, second)', "pass", VALUES),
     ("mm/cc/cache.py", "if hashlib.sha256(said).hexdigest().encode() != last:", "if False:", CLANG),

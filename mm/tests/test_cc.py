@@ -11,6 +11,7 @@ from mm.cc.source import write_source
 from mm.machine.program import find_program
 from mm.names.clines import CNotes
 from mm.outputs.report import read_report
+from mm.tests.broken_cc import BROKEN
 from mm.tests.support import folder, mm, needs_program, read, write
 
 # What the programs of examples/c put out; those that run together are in one row, with the output of each group.
@@ -249,6 +250,11 @@ class Told(unittest.TestCase):
         self.assertEqual(union([(1, 5)], [(5, 7), (9, 10)]), [(1, 7), (9, 10)])
         self.assertTrue(meets([(1, 5), (9, 12)], [(6, 10)]))
         self.assertFalse(meets([(1, 5), (9, 12)], [(5, 9), (12, 13)]))
+
+    def test_broken_lines_apply(self):
+        for path, old, new, _ in BROKEN:
+            self.assertEqual(read(*path.split("/")).count(old), 1, f"{path}: {old}")
+            self.assertNotEqual(old, new)
 
     def test_notes(self):
         notes = CNotes(read("examples", "c", "overflow.asm").splitlines())

@@ -21,6 +21,55 @@ from mm.tests.support import folder, mm, needs_program, write
 VERSIONS = [name for name in ("clang", *(f"clang-{number}" for number in clang.VERSIONS)) if shutil.which(name)]
 needs_clang = unittest.skipUnless(VERSIONS, "there is no Clang")
 HIDE = 'static void *hide(void *p) { __asm__ volatile("" : "+r"(p) : : "memory"); return p; }\nvolatile long zero;\n'
+# Structures that are copied, and a field of which is looked at or changed: pointers in the rest stay pointers.
+CUT = """#include <stdio.h>
+struct rec { int id; const char *name; int age, score; };
+struct odd { char tag; const char *name; short a; char z; };
+struct two { long k; const char *s, *t; int last; int end; };
+static __attribute__((noinline)) void sort(struct rec *a, int n)
+{
+    for (int i = 1; i < n; i++) {
+        struct rec k = a[i];
+        int j = i;
+        for (; j > 0 && (a[j - 1].id > k.id || (a[j - 1].id == k.id && a[j - 1].score > k.score)); j--)
+            a[j] = a[j - 1];
+        a[j] = k;
+    }
+}
+static __attribute__((noinline)) void sort2(struct odd *a, int n)
+{
+    for (int i = 1; i < n; i++) {
+        struct odd k = a[i];
+        int j = i;
+        for (; j > 0 && (a[j - 1].tag > k.tag || (a[j - 1].tag == k.tag && a[j - 1].z > k.z)); j--)
+            a[j] = a[j - 1];
+        a[j] = k;
+    }
+}
+static __attribute__((noinline)) void swap3(struct two *a, struct two *b, int up)
+{
+    struct two x = *a, y = *b;
+    x.k += up; y.k -= up; x.end = y.end; y.end = up;
+    *a = y; *b = x;
+}
+static __attribute__((noinline)) void third(struct rec *a, struct odd *o)
+{
+    struct rec x = *a; x.id++; x.score--; a[1] = x; x.age = 7; a[2] = x;
+    struct odd p = *o; p.tag++; p.z = 'q'; o[1] = p; p.a++; o[2] = p;
+}
+int main(void)
+{
+    struct rec a[] = {{3, "three", 1, 2}, {1, "one", 5, 9}, {2, "two", 0, 0}, {1, "uno", 6, 3}};
+    struct odd o[] = {{'c', "cc", 1, 'x'}, {'a', "aa", 2, 'y'}, {'a', "ab", 3, 'b'}, {'b', "bb", 4, 'c'}};
+    struct two t[] = {{1, "s", "t", 2, 3}, {10, "u", "v", 20, 30}};
+    sort(a, 4); sort2(o, 4); swap3(t, t + 1, 5);
+    for (int i = 0; i < 4; i++) printf("%d %s %d %d, %c %s %d %c; ", a[i].id, a[i].name, a[i].age, a[i].score, o[i].tag, o[i].name, o[i].a, o[i].z);
+    for (int i = 0; i < 2; i++) printf("%ld %s %s %d %d; ", t[i].k, t[i].s, t[i].t, t[i].last, t[i].end);
+    third(a, o);
+    for (int i = 0; i < 3; i++) printf("%d %s %d %d, %c %s %d %c; ", a[i].id, a[i].name, a[i].age, a[i].score, o[i].tag, o[i].name, o[i].a, o[i].z);
+    return 0;
+}
+"""
 # Programs and what they put out, at each level.
 OUTPUTS = {
     "pointers from the middle of an array": ("27 203 139 8 1\n", """#include <stdio.h>
@@ -73,6 +122,15 @@ int main(void) { long r; int i; __int128 w; unsigned __int128 u; signed char c;
          __builtin_sub_overflow((unsigned __int128)most, (unsigned __int128)all, &u), __builtin_add_overflow(most, -1l, &r),
          __builtin_add_overflow((int)most, (short)-200, &c) | __builtin_add_overflow(most, 0l, &i)); return 0; }
 """),
+    "structures that the optimiser cuts into parts": (
+        "1 uno 6 3, a ab 3 b; 1 one 5 9, a aa 2 y; 2 two 0 0, b bb 4 c; 3 three 1 2, c cc 1 x; 5 u v 20 5; 6 s t 2 30; "
+        "1 uno 6 3, a ab 3 b; 2 uno 6 2, b ab 3 q; 2 uno 7 2, b ab 4 q; ", CUT),
+    "pointers with a number in their lower bits": ("775 780 1\n", """#include <stdint.h>
+#include <stdio.h>
+""" + HIDE + """static long load(long *p, int tag) { uintptr_t t = (uintptr_t)p | tag; return *(long *)(t & ~7ul) * 10 + (t & 7); }
+static int late(long *p) { uintptr_t t; int seen = 0; for (int i = 0; i < 3; i++) { if (i) seen += (char *)(t & ~7ul) == (char *)p; t = (uintptr_t)p | 1; } return seen == 2; }
+int main(void) { long x = 77, y = 78; printf("%ld %ld %d\\n", load(&x, 5), load(hide(&y), 0), late(&x)); return 0; }
+"""),
     "blocks of malloc are cleared": ("0 0 1\n", """#include <stdio.h>
 #include <stdlib.h>
 #include <string.h>
@@ -123,6 +181,41 @@ int main(void) { return *p; }
 """ + HIDE + """int main(void) { char *p = hide(malloc(72)); p[zero - 57] = 1; hide(p); return 0; }
 """),
 }
+# With `--quarantine 0`: what each of these does with a pointer to a block that is gone, after USED.
+GONE = """#include <setjmp.h>
+#include <stdio.h>
+#include <stdlib.h>
+#include <string.h>
+""" + HIDE + """struct node { struct node *next; long v[5]; };
+static struct node *kept; static struct { char c; struct node *inner[2]; } keeper; static jmp_buf place;
+static __attribute__((noinline)) struct node *made(void) { struct node *p = hide(malloc(sizeof *p)); p->v[2] = 77; return p; }
+static __attribute__((noinline)) void deeper(struct node *p, long n) { long a[9]; hide(a); if (n) deeper(p, n - 1); else free(p); }
+static __attribute__((noinline)) void other(void) { for (int i = 0; i < 50; i++) { long *p = hide(malloc(100)); p[3] = i; free(p); } }
+int main(void) { struct node *a = made(), *b = made(); b->next = a; kept = a; keeper.inner[1] = a; long *middle = &a->v[2]; struct node *all[3] = {b, a, b}; hide(all);
+  volatile long seen = 0;
+"""
+USED = {
+    "a local": "free(a); other(); seen = a->v[2];",
+    "a global": "free(a); other(); seen = kept->v[2];",
+    "a field of a global": "free(a); seen = keeper.inner[1]->v[2];",
+    "another block": "free(a); other(); seen = b->next->v[2];",
+    "a pointer into the middle": "free(a); seen = *middle;",
+    "an array of a caller": "deeper(a, 7); seen = all[1]->v[2];",
+    "an array of variable length": "struct node *v[zero + 3]; v[2] = a; hide(v); free(a); seen = v[2]->v[2];",
+    "a jump": "{ struct node *volatile c = a; if (!setjmp(place)) { free(a); longjmp(place, 1); } seen = c->v[2]; }",
+    "the old block of realloc": "{ struct node *c = hide(realloc(a, 4000)); c->v[1] = 5; seen = a->v[2]; }",
+    "a store": "free(a); a->v[2] = 5; hide(a);",
+    "memcpy": "free(a); memcpy(b, a, 40);",
+}
+# More is handed out and freed than the heap of 4096 bytes has, while some blocks stay; these are right and reached.
+HELD = "30 1 30", """#include <stdio.h>
+#include <stdlib.h>
+""" + HIDE + """struct node { struct node *next; long v; };
+int main(void) { struct node *list = 0; long n = 0, sum = 0;
+  for (int i = 0; i < 60; i++) { char *p = hide(malloc(300 + zero)); if (!p) return 1; p[299] = i; struct node *b = hide(malloc(sizeof *b)); if (!b) return 2;
+    if (i & 1) b->next = list, b->v = 1, list = b; else { struct node *c = hide(malloc(16)); free(b); free(c); } free(p); }
+  for (; list; list = list->next) n++, sum += list->v; printf("%ld %d %ld", n, hide(malloc(3000)) == 0, sum); return 0; }
+"""
 # Programs that are refused, and what is said of them.
 REFUSED = {
     "no input": (["{room}/a.c:2:25: error: `getchar`, which nothing defines, is left out in `main`",
@@ -158,6 +251,24 @@ class Programs(unittest.TestCase):
             ended, room = self.ran(text, level)
             self.assertIn(wanted.format(room=room), ended.out, f"{title}: {ended.err}")
 
+    def test_pointers_to_freed_blocks_are_taken_away(self):
+        for title, use in USED.items():
+            text = GONE + use + '\n  printf("%ld\\n", seen); return 0; }\n'
+            for level in "02":
+                ended, _ = self.ran(text, level, "--quarantine", "0")
+                self.assertRegex(ended.out, r"by fault 1 NotPointer at .*its block of malloc was freed", f"{title} at -O{level}: {ended.err}")
+        ended, room = self.ran(STOPPED["a second free"][2], "0", "--quarantine", "0")
+        self.assertIn(STOPPED["a second free"][0].format(room=room), ended.out)
+
+    def test_blocks_that_are_held_back(self):
+        cleared = OUTPUTS["blocks of malloc are cleared"]
+        for amount, level, heap, (wanted, text) in (("0", "0", "12", HELD), ("500", "2", "12", HELD), ("1048576", "1", "12", HELD),
+                                                    ("20000", "1", "16", cleared), ("1048576", "0", "16", cleared)):
+            ended, _ = self.ran(text, level, "--quarantine", amount, "--heap", heap)
+            self.assertIn(f'output "{repr(wanted)[1:-1]}"', ended.out, f"{amount} at -O{level}: {ended.err}")
+        ended, _ = self.ran("#include <mm.h>\nlong f(void) MM_DOOR(f);\nlong f(void) { return 1; }\n", "1", "--quarantine", "0")
+        self.assertIn("`--quarantine` in a program with doors", ended.err)
+
     def test_refused(self):
         for title, (wanted, text) in REFUSED.items():
             ended, room = self.ran(text, "0")
@@ -187,6 +298,15 @@ class Programs(unittest.TestCase):
                 for level, checked in (("0", False), ("1", True), ("2", False)):
                     made = source_of([path], Options(level, flags, stack=17, heap=12, lines=False, checked=checked))
                     self.assertEqual(Machine(find_program(), room).run(made), (host, ""), (seed, level))
+
+    def test_the_same_text_at_each_run(self):
+        words = ("import sys; from mm.cc.driver import source_of; from mm.cc.options import Options; "
+                 "[print(source_of([sys.argv[1]], Options(level, ['-w'], lines=False))) for level in '012']")
+        with folder() as room:
+            path = write(room, "a.c", Generator(31, 12).program())
+            made = [subprocess.run([sys.executable, "-c", words, path], cwd=CHECKOUT, stdout=subprocess.PIPE, check=True,
+                                   env={**os.environ, "PYTHONHASHSEED": seed}).stdout for seed in "123"]
+        self.assertEqual(len(set(made)), 1)
 
     def test_each_version(self):
         for version in VERSIONS:

@@ -97,8 +97,15 @@ class CView:
         before = self.symbols.region(spelled.address - 1)
         told = self.symbols.c_global(before) if before is not None and before.log == spelled.log else None
         whose = f" {told.name}" if told and before and before.end == spelled.base else ""
-        return (f"these are the bits of a pointer, which is now a number: it left its object{whose} (one past the end "
+        freed = "its block of malloc was freed, it" if self.is_swept(spelled) else "it"
+        return (f"these are the bits of a pointer, which is now a number: {freed} left its object{whose} (one past the end "
                 "is outside), was computed with, or was copied in pieces")
+
+    def is_swept(self, pointer: Pointer) -> bool:
+        """Whether it is to a block of malloc, and pointers to blocks that were freed are taken away."""
+        heap = self.symbols.region(pointer.base)
+        return (heap is not None and heap.name.endswith("heap") and heap.log > pointer.log
+                and bool(self.symbols.named(f"{heap.name}_roots")))
 
     def meant(self, at: Refusal) -> Optional[str]:
         """The byte that was meant, of the object that the pointer is to."""

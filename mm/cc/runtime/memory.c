@@ -5,14 +5,23 @@ static int words_fit(const void *a, const void *b)
     return ((bits_of(a) | bits_of(b)) & 7) == 0;
 }
 
+/* Whether both begin at the same place in a word. The optimiser copies parts of structures, which may begin anywhere. */
+static int places_fit(const void *a, const void *b)
+{
+    return ((bits_of(a) ^ bits_of(b)) & 7) == 0;
+}
+
 void *memcpy(void *to, const void *from, size_t size)
 {
     char *a = to;
     const char *b = from;
     size_t at = 0;
-    if (words_fit(a, b))
+    if (places_fit(a, b)) {
+        for (; at < size && (bits_of(a) + at & 7); at++)
+            a[at] = b[at];
         for (; at + 8 <= size; at += 8)
             *(word *)(a + at) = *(const word *)(b + at);
+    }
     for (; at < size; at++)
         a[at] = b[at];
     return to;
@@ -30,10 +39,10 @@ void *memmove(void *to, const void *from, size_t size)
     size_t at = size;
     if (bits_of(a) - bits_of(b) >= size)
         return memcpy(to, from, size);
-    if (words_fit(a, b)) {
-        for (; at & 7; at--)
+    if (places_fit(a, b)) {
+        for (; at && (bits_of(a) + at & 7); at--)
             a[at - 1] = b[at - 1];
-        for (; at; at -= 8)
+        for (; at >= 8; at -= 8)
             *(word *)(a + at - 8) = *(const word *)(b + at - 8);
     }
     for (; at; at--)
