@@ -105,20 +105,20 @@ entered p to u e = by p.perm refl e
     by Xu at k = let same : record p { perm = Xu } ≡ to = cc in runs at (sym same ∙ ap (λ (x : Perm). record p { perm = x }) (sym at))
     by Eu at k = let same : record p { perm = Xu } ≡ to = cc in goes_in at (sym same)
 
-clean_entered : (i : Image) (p to : Pointer) → Clean i p → Entered p to → Clean i to
+pub clean_entered : (i : Image) (p to : Pointer) → Clean i p → Entered p to → Clean i to
 clean_entered i p to c (runs at is) = subst (Clean i) (sym is) c
 clean_entered i p to c (goes_in at is) = subst (Clean i) (sym is) (record { user = refl; spares = λ w d here fixed. refl })
 
-entered_perm : (p to : Pointer) → Entered p to → to.perm ≡ Xu
+pub entered_perm : (p to : Pointer) → Entered p to → to.perm ≡ Xu
 entered_perm p to (runs at is) = ap (λ (x : Pointer). x.perm) is ∙ at
 entered_perm p to (goes_in at is) = ap (λ (x : Pointer). x.perm) is
 
-entered_meets : (kept : List Segment) (p to : Pointer) → Entered p to → meets kept to ≡ meets kept p
+pub entered_meets : (kept : List Segment) (p to : Pointer) → Entered p to → meets kept to ≡ meets kept p
 entered_meets kept p to (runs at is) = ap (meets kept) is
 entered_meets kept p to (goes_in at is) = ap (meets kept) is ∙ meets_same kept p (record p { perm = Xu }) refl refl
 
 -- an open pointer that is no door leads outside
-entered_outside : (kept : List Segment) (p to : Pointer) → is_open kept (Ptr p) ≡ true → is_door kept p ≡ false → Entered p to → meets kept to ≡ false
+pub entered_outside : (kept : List Segment) (p to : Pointer) → is_open kept (Ptr p) ≡ true → is_door kept p ≡ false → Entered p to → meets kept to ≡ false
 unfolding is_door
 entered_outside kept p to o d (runs at is) = ap (meets kept) is ∙ open_outside kept p o (ap can_load at)
 entered_outside kept p to o d (goes_in at is) = entered_meets kept p to (goes_in at is) ∙ (ap (λ (x : Perm). is_enter x && meets kept p) (sym at) ∙ d)
@@ -348,9 +348,9 @@ module _ (i : Image) (kept : List Segment) (core : Core) (m : Memory) (k : Machi
           go (Some d) e g = let back = k.cells.back to.addr d e in let is = back.1 in absurd (cc)
 
       synced : (to : Touch) (c : Cell) → cell_at m to.addr ≡ Some c → passes pre c.full ≡ false → Alls (kernel.loaded_by i kept t x rd pre (Ok to)) → Follows i kept t (kernel.fault t x)
-      synced to c at no g =
+      synced to c at bad g =
           let there = k.cells.there to.addr c at in
-          waits_fault x pre c.full no (at_image to (Some there.0) there.1 g).1
+          waits_fault x pre c.full bad (at_image to (Some there.0) there.1 g).1
 
       passed : (to : Touch) (c : Cell) (b : Bool) → check_result v imm kind ≡ Ok to → cell_at m to.addr ≡ Some c → passes pre c.full ≡ b → Eff x (loaded core.split s rd post (if b then Got to c else Refused cause.Sync))
       passed to c true e at p =
@@ -455,9 +455,9 @@ module _ (i : Image) (kept : List Segment) (core : Core) (m : Memory) (k : Machi
           go (Some d) e g = let back = k.cells.back to.addr d e in let is = back.1 in absurd (cc)
 
       synced : (to : Touch) (c : Cell) → cell_at m to.addr ≡ Some c → passes pre c.full ≡ false → Alls (kernel.stored_by i kept t x rb pre (Ok to)) → Follows i kept t (kernel.fault t x)
-      synced to c at no g =
+      synced to c at bad g =
           let there = k.cells.there to.addr c at in
-          waits_fault x pre c.full no (at_image to (Some there.0) there.1 g).1.1
+          waits_fault x pre c.full bad (at_image to (Some there.0) there.1 g).1.1
 
       passed : (to : Touch) (c : Cell) (b : Bool) → check_result u imm Store ≡ Ok to → cell_at m to.addr ≡ Some c → passes pre c.full ≡ b → Eff x (stored s v post (if b then Got to c else Refused cause.Sync))
       passed to c true e at p =
