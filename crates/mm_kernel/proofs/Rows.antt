@@ -186,7 +186,7 @@ module _ (i : Image) (kept : List Segment) (core : Core) (m : Memory) (k : Machi
   unfolding plain slot_after kernel.sets
   sets_ok x rd f w h up fits = record { own = writes_on rd f w h up fits; cell = tt; pages = refl; queue = tt; other = tt }
 
-  halts_ok : (x : Instr) → EffectOk x (Does (record (plain s) { next = s.ip; past = s.past; halts = true }))
+  pub halts_ok : (x : Instr) → EffectOk x (Does (record (plain s) { next = s.ip; past = s.past; halts = true }))
   unfolding plain slot_after
   halts_ok x = record { own = tt; cell = tt; pages = refl; queue = tt; other = tt }
 
@@ -203,7 +203,7 @@ module _ (i : Image) (kept : List Segment) (core : Core) (m : Memory) (k : Machi
         cell = tt; pages = refl; queue = tt; other = tt;
       }
 
-  tests_ok : (rd ra : ℕ) (f : Form) (w : Word) → Ready s rd → Ready s ra → w ≡ register s ra → Fits i kept f w → All (kernel.tests_tag t rd ra f) → EffectOk (instr.Isptr rd ra) (sets s rd (Int (test (is_pointer w))))
+  pub tests_ok : (rd ra : ℕ) (f : Form) (w : Word) → Ready s rd → Ready s ra → w ≡ register s ra → Fits i kept f w → All (kernel.tests_tag t rd ra f) → EffectOk (instr.Isptr rd ra) (sets s rd (Int (test (is_pointer w))))
   unfolding kernel.tests_tag
   tests_ok rd ra (Number b) (Int n) hd ha e h all = sets_ok (instr.Isptr rd ra) rd (Number 0) (Int 0) hd all.0 (fits_number i kept 0)
   tests_ok rd ra (Number b) (Ptr p) hd ha e h all = let no = h.holds in cc
@@ -232,7 +232,7 @@ module _ (i : Image) (kept : List Segment) (core : Core) (m : Memory) (k : Machi
 
   -- arithmetic
 
-  computes_ok : (x : Instr) (op : AluOp) (rd : ℕ) (f g : Form) (v w : Word) → Ready s rd → IsWord v → Holds i kept f v → Holds i kept g w
+  pub computes_ok : (x : Instr) (op : AluOp) (rd : ℕ) (f g : Form) (v w : Word) → Ready s rd → IsWord v → Holds i kept f v → Holds i kept g w
       → All (kernel.computes t x (divides op) rd (alu_form op f g) (exact_bits g)) → EffectOk x (sets_number s rd (alu_result op (word_bits v) (word_bits w)))
   computes_ok x op rd f g v w hd ok hf hg all = by (alu_result op (word_bits v) (word_bits w)) refl
     where
@@ -265,7 +265,7 @@ module _ (i : Image) (kept : List Segment) (core : Core) (m : Memory) (k : Machi
 
   -- pointers
 
-  moves_ok : (x : Instr) (rd : ℕ) (f : Form) (w : Word) (o : Option ℕ) (n : ℕ) (by : Pointer → ℕ → Result Pointer Cause) → Ready s rd → Fits i kept f w → ((b : ℕ) → o ≡ Some b → b ≡ n)
+  pub moves_ok : (x : Instr) (rd : ℕ) (f : Form) (w : Word) (o : Option ℕ) (n : ℕ) (by : Pointer → ℕ → Result Pointer Cause) → Ready s rd → Fits i kept f w → ((b : ℕ) → o ≡ Some b → b ≡ n)
       → ((p q : Pointer) → by p n ≡ Ok q → Moved q p) → All (kernel.moves kept t x rd f o by) → EffectOk x (if_pointer w (λ p. sets_pointer s rd (by p n)))
   unfolding kernel.moves
   moves_ok x rd (Number b) (Int c) o n by hd h ex mv all = all.0

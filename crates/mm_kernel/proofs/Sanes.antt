@@ -1,11 +1,12 @@
 -- Every derived fact is sane: its pointers that meet the kept segments are inside.
-use Rattle.std.proofs.Common.{◌≡◌, ℕ, zero, suc, ◌+◌, ◌<◌, ◌⊎◌, inl, inr, Bool, true, false, ◌&&◌, ◌||◌, not, ◌==◌, nat_lt, ◌%◌, if◌then◌else◌, cond, ℤ, pos, ◌+ℤ◌, ◌*ℤ◌, List, [], ◌∷◌, ◌++◌, map, length, slice_get, is_some, Option, Some, None, Result, Ok, Err, refl, sym, ap, ◌∙◌, subst, arith}
+use Rattle.std.proofs.Common.{◌≡◌, ℕ, zero, suc, ◌+◌, ◌<◌, ◌⊎◌, inl, inr, Bool, true, false, ◌&&◌, ◌||◌, not, ◌==◌, nat_lt, ◌%◌, ◌/◌, ◌^◌, ◌*◌, if◌then◌else◌, cond, ℤ, pos, ◌+ℤ◌, ◌*ℤ◌, List, [], ◌∷◌, ◌++◌, map, length, slice_get, is_some, Option, Some, None, Result, Ok, Err, refl, sym, ap, ◌∙◌, subst, arith}
 use Rattle.std.specs.Prelude.{Contains}
 use Rattle.std.specs.Int.{w64, cast_unsigned, cast_signed}
 use Rattle.std.specs.List.{AllByRecursion, flat_map, list_any}
 use Rattle.std.specs.Ordering.{nat_cmp, eq_by_cmp}
 use Rattle.std.specs.FinMap.{find}
 use Rattle.std.proofs.lemmas.Bool.{and_from, not-true, or_parts, not_from_false}
+use Rattle.std.proofs.lemmas.Nat.{shl-shr}
 use Rattle.mm_word.specs.declared.perm.Perm.{Perm}
 use Rattle.mm_word.specs.declared.perm.Perm.TheVariants.{Ro, Rw, Xu, Xp, Eu, Ep, Key}
 use Rattle.mm_word.specs.declared.perm.Kind.{Kind}
@@ -55,7 +56,7 @@ use Rattle.mm_kernel.specs.Operations.{small, small_result, alu_form, alu_if_exa
 use Rattle.mm_kernel.specs.Turns.{outcomes, outcomes_of, decoded, fetched, aimed, fault, early_fault, operand_a, operand_b, sets, moves, moved, moved_somewhere, restricts, restricted, may_refuse, loads, loaded_by, loaded_at, word_loaded, waits, stores, stored_by, stored_at, word_stored, stores_outside, branches, branched, branches_if, jumps, jumped, links, at_distance, tests_tag, computes, with_event, seen_as}
 use Rattle.mm_kernel.specs.Derived.{Derived, Keeps, first_form, cell_facts, has_segment, reaches_across, outcome_facts, on_after, resumed}
 use Rattle.mm_kernel.specs.Derived.Derived.{begins_in_cell, begins_in_slot, reaches, enters, turns, loads as by_load, stores as by_store, takes, resumes, reads_served, writes_served}
-use Rattle.mm_kernel.proofs.Segs.{Within, inside_within, base_same}
+use Rattle.mm_kernel.proofs.Segs.{Within, inside_within}
 use Rattle.mm_kernel.proofs.Values.{Moved}
 use Rattle.mm_kernel.proofs.Results.{lea_moved, leab_moved, subseg_moved, choice_becomes}
 use Rattle.mm_kernel.proofs.Ups.{each_from, each_split, each_join, each_flat, each_unflat, each_in}
@@ -80,6 +81,9 @@ found_page P (e ∷ es) q cells h is = by (eq_by_cmp nat_cmp q e.0) is (λ at. f
     by : (b : Bool) → cond b (Some e.1) (find nat_cmp q es) ≡ Some cells → (find nat_cmp q es ≡ Some cells → P cells) → P cells
     by true found later = let same : e.1 ≡ cells = cc in subst P same h.0
     by false found later = later found
+
+base_same : (p : Pointer) → base_of p / 2 ^ p.log ≡ p.addr / 2 ^ p.log
+base_same p = shl-shr (p.addr / 2 ^ p.log) p.log
 
 module _ (i : Image) (kept : List Segment) (ks : Keeps i kept) where
   sane_live : (p : Pointer) → Contains (live_pointers i) p → Sane kept p

@@ -71,7 +71,7 @@ pub record Sane (kept : List Segment) (p : Pointer) : Type 0 where
   pub user : runs_privileged p.perm ≡ false
   pub whole : has_segment p.perm ≡ true → meets kept p ≡ true → is_inside kept p ≡ true
 
-become_user : (p q : Perm) → runs_privileged p ≡ false → can_become p q ≡ true → (runs_privileged q ≡ false) × (has_segment p ≡ true)
+pub become_user : (p q : Perm) → runs_privileged p ≡ false → can_become p q ≡ true → (runs_privileged q ≡ false) × (has_segment p ≡ true)
 become_user Xp q u e = cc
 become_user Ep q u e = cc
 become_user Eu q u e = cc
@@ -98,7 +98,7 @@ become_user Xu Xu u e = cc
 become_user Xu Xp u e = cc
 become_user Xu Ep u e = cc
 
-moves_segment : (p : Perm) → runs_privileged p ≡ false → can_move p ≡ true → has_segment p ≡ true
+pub moves_segment : (p : Perm) → runs_privileged p ≡ false → can_move p ≡ true → has_segment p ≡ true
 moves_segment Ro u e = refl
 moves_segment Rw u e = refl
 moves_segment Xu u e = refl
@@ -108,19 +108,19 @@ moves_segment Ep u e = cc
 moves_segment Key u e = cc
 
 module _ (kept : List Segment) where
-  sane_within : (q p : Pointer) → Within q p → q.perm ≡ p.perm → Sane kept p → Sane kept q
+  pub sane_within : (q p : Pointer) → Within q p → q.perm ≡ p.perm → Sane kept p → Sane kept q
   sane_within q p w e h = record {
     user = ap runs_privileged e ∙ h.user;
     whole = λ seg m. inside_within kept q p w (h.whole (ap has_segment (sym e) ∙ seg) (meets_within kept q p w m));
   }
 
-  sane_moved : (q p : Pointer) → Moved q p → Sane kept p → Sane kept q
+  pub sane_moved : (q p : Pointer) → Moved q p → Sane kept p → Sane kept q
   sane_moved q p m h = sane_within q p (moved_within q p m) m.perm h
 
-  self_within : (p : Pointer) (to : Perm) → Within (record p { perm = to }) p
+  pub self_within : (p : Pointer) (to : Perm) → Within (record p { perm = to }) p
   self_within p to = record { shorter = omega arith; here = refl }
 
-  sane_as : (p : Pointer) (to : Perm) → runs_privileged to ≡ false → has_segment p.perm ≡ true → Sane kept p → Sane kept (record p { perm = to })
+  pub sane_as : (p : Pointer) (to : Perm) → runs_privileged to ≡ false → has_segment p.perm ≡ true → Sane kept p → Sane kept (record p { perm = to })
   sane_as p to user seg h = record {
     user = user;
     whole = λ s m. inside_within kept (record p { perm = to }) p (self_within p to) (h.whole seg (meets_within kept (record p { perm = to }) p (self_within p to) m));
@@ -144,10 +144,10 @@ module _ (kept : List Segment) where
           subst (λ (x : Pointer). Within x p × (x.perm ≡ p.perm)) same (record { shorter = omega arith; here = eqb-true ((p.addr + 8) / 2 ^ p.log) (p.addr / 2 ^ p.log) parts.1 }, refl)
       by false at r = cc
 
-  sane_next : (p q : Pointer) → next_result p ≡ Some q → Sane kept p → Sane kept q
+  pub sane_next : (p q : Pointer) → next_result p ≡ Some q → Sane kept p → Sane kept q
   sane_next p q e h = let w = next_within p q e in sane_within q p w.0 w.1 h
 
-  sane_advanced : (p : Pointer) → Sane kept p → Sane kept (advanced p)
+  pub sane_advanced : (p : Pointer) → Sane kept p → Sane kept (advanced p)
   unfolding advanced
   sane_advanced p h = by (next_result p) refl
     where
@@ -155,10 +155,10 @@ module _ (kept : List Segment) where
       by None e = h
       by (Some q) e = sane_next p q e h
 
-  sane_distance : (p q : Pointer) (z : ℤ) → moved_to p z ≡ Ok q → Sane kept p → Sane kept q
+  pub sane_distance : (p q : Pointer) (z : ℤ) → moved_to p z ≡ Ok q → Sane kept p → Sane kept q
   sane_distance p q z e h = sane_within q p (moved_to_within p q z e) (moved_perm p q z e) h
 
-  sane_entered : (p to : Pointer) → enter_result p ≡ Some to → Sane kept p → Sane kept to
+  pub sane_entered : (p to : Pointer) → enter_result p ≡ Some to → Sane kept p → Sane kept to
   sane_entered p to e h = by p.perm refl e
     where
       by : (perm : Perm) → p.perm ≡ perm → option_map (λ (x : Perm). record p { perm = x }) (execute_form perm) ≡ Some to → Sane kept to
@@ -181,7 +181,7 @@ module _ (kept : List Segment) where
     pub ip : Sane kept t.ip
     pub forms : AllByRecursion SaneForm t.forms
 
-  abbrev SaneFact : Fact → Type 0
+  abbrev pub SaneFact : Fact → Type 0
   SaneFact (HasThread t) = SaneThread t
   SaneFact (HasForm w f) = SaneForm f
   SaneFact (HasDoor d) = Sane kept d
@@ -189,7 +189,7 @@ module _ (kept : List Segment) where
   SaneFact (HasFaulted h t) = SaneThread t
   SaneFact (HasLeak leak) = Unit {0}
 
-  abbrev SaneOutcome : Outcome → Type 0
+  abbrev pub SaneOutcome : Outcome → Type 0
   SaneOutcome (outcome.Goes next) = SaneThread next
   SaneOutcome (outcome.Loads part reg next) = SaneThread next
   SaneOutcome (outcome.Stores part f) = SaneForm f
@@ -206,25 +206,25 @@ module _ (kept : List Segment) where
   unfolding form_in
   sane_form t h r = each_or SaneForm t.forms r zero_form h.forms tt
 
-  sane_with : (t : Thread) (r : ℕ) (f : Form) → SaneThread t → SaneForm f → SaneThread (with_form t r f)
+  pub sane_with : (t : Thread) (r : ℕ) (f : Form) → SaneThread t → SaneForm f → SaneThread (with_form t r f)
   unfolding with_form
   sane_with t r f h k = record { ip = h.ip; forms = each_set SaneForm t.forms r f h.forms k }
 
-  sane_stepped : (t : Thread) → SaneThread t → SaneThread (stepped t)
+  pub sane_stepped : (t : Thread) → SaneThread t → SaneThread (stepped t)
   unfolding stepped
   sane_stepped t h = record { ip = sane_advanced t.ip h.ip; forms = h.forms }
 
-  sane_event : (t : Thread) (rd : ℕ) (a b c : Form) → SaneThread t → SaneForm a → SaneForm b → SaneForm c → SaneThread (with_event t rd a b c)
+  pub sane_event : (t : Thread) (rd : ℕ) (a b c : Form) → SaneThread t → SaneForm a → SaneForm b → SaneForm c → SaneThread (with_event t rd a b c)
   sane_event t rd a b c h ha hb hc =
       sane_with (with_form (with_form (with_form t rd Integer) (rd + 1) a) (rd + 2) b) (rd + 3) c
       (sane_with (with_form (with_form t rd Integer) (rd + 1) a) (rd + 2) b
       (sane_with (with_form t rd Integer) (rd + 1) a (sane_with t rd Integer h tt) ha) hb) hc
 
-  sane_exactly : (w : Word) → AllByRecursion (Sane kept) (pointers_in w) → SaneForm (exactly w)
+  pub sane_exactly : (w : Word) → AllByRecursion (Sane kept) (pointers_in w) → SaneForm (exactly w)
   sane_exactly (Int bits) h = tt
   sane_exactly (Ptr p) h = h.0
 
-  sane_stored : (f : Form) → SaneForm f → SaneForm (stored_form f)
+  pub sane_stored : (f : Form) → SaneForm f → SaneForm (stored_form f)
   unfolding stored_form
   sane_stored (Number n) h = tt
   sane_stored (Exactly p) h = h
@@ -256,7 +256,7 @@ module _ (kept : List Segment) where
   lets_out Any h = tt
   lets_out (Inside p) h = tt
 
-  hands_out : (f : Form) (leak : Leak) → SaneForm f → AllByRecursion SaneFact (hand_out kept f leak)
+  pub hands_out : (f : Form) (leak : Leak) → SaneForm f → AllByRecursion SaneFact (hand_out kept f leak)
   unfolding hand_out
   hands_out f leak h = by (is_open_form kept f)
     where
@@ -272,7 +272,7 @@ module _ (kept : List Segment) where
       by true = (tt, tt)
       by false = tt
 
-  takes_up : (i : Image) (t : Thread) → SaneThread t → AllByRecursion SaneFact (take_up i kept t)
+  pub takes_up : (i : Image) (t : Thread) → SaneThread t → AllByRecursion SaneFact (take_up i kept t)
   unfolding take_up
   takes_up i t h = by (is_free kept t)
     where
@@ -300,7 +300,7 @@ module _ (kept : List Segment) where
   faults_sane t (Kernel n) a v h ha hv = ((h.ip, ha, hv), (h, tt))
   faults_sane t Caller a v h ha hv = leaks_only t
 
-  outcome_sane : (i : Image) (t : Thread) (o : Outcome) → SaneThread t → SaneOutcome o → AllByRecursion SaneFact (outcome_facts i kept t o)
+  pub outcome_sane : (i : Image) (t : Thread) (o : Outcome) → SaneThread t → SaneOutcome o → AllByRecursion SaneFact (outcome_facts i kept t o)
   outcome_sane i t (outcome.Goes next) h k = takes_up i next k
   outcome_sane i t (outcome.Leaves linked) h k =
       each_join SaneFact (flat_map (register_left kept linked) (range_with_len 0 16)) (loose i kept linked.origin)

@@ -3,6 +3,7 @@
 
 mod fact;
 mod form;
+pub mod laws;
 mod outcome;
 mod thread;
 
