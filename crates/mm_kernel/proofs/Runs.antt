@@ -121,6 +121,7 @@ module _ (i j : Image) (kept : List Segment) (img : IsImage i) (jmg : IsImage j)
   module _ (s : State) (h : Holding s) where
     -- a slot whose thread is free shares its words
     free_shares : (n : ℕ) (of : Slot) (t : Thread) → slot_at s.core n ≡ Some of → Free i kept t → Match i kept t of → SlotShares i kept of
+    unfolding register
     free_shares n of t at free m = record {
       registers = each_index (IsShared i kept) of.regs (Int 0) (λ r lt. word r (is_empty of r) refl);
       pending = each_map (λ (p : Pending). Fits i kept (form_in t p.reg) p.word) (λ (p : Pending). IsShared i kept p.word) (λ p f. public_shared i kept (form_in t p.reg) p.word (free_form i kept t free p.reg) f.holds) of.pending m.pending;

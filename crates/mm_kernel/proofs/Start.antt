@@ -205,7 +205,7 @@ module _ (i j : Image) (kept : List Segment) (img : IsImage i) (jmg : IsImage j)
           past = sym fresh.past;
           handler = refl;
           origin = refl;
-          long = length-map exactly s.regs ∙ fresh.registers;
+          long = length-map s.regs exactly ∙ fresh.registers;
           clean = record { user = user.0; spares = spares.0 };
           registers = λ r ready.
               subst (λ f. Fits i kept f (slice_index_or s.regs r (Int 0))) (sym (get_or-map exactly s.regs r (Int 0)))
