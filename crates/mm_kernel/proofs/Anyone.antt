@@ -68,7 +68,8 @@ anyone t = record { origin = Door t.ip; handler = t.handler; ip = t.ip; past = t
 
 pub any_register : (t : Thread) (r : ℕ) → r < 16 → form_in (anyone t) r ≡ Any
 unfolding form_in
-any_register t r lt = each_get (λ (f : Form). f ≡ Any) (replicate 16 Any) r zero_form (refl, (refl, (refl, (refl, (refl, (refl, (refl, (refl, (refl, (refl, (refl, (refl, (refl, (refl, (refl, (refl, tt)))))))))))))))) lt
+any_register t r lt = each_get (λ (f : Form). f ≡ Any) (replicate 16 Any) r zero_form
+    (refl, (refl, (refl, (refl, (refl, (refl, (refl, (refl, (refl, (refl, (refl, (refl, (refl, (refl, (refl, (refl, tt)))))))))))))))) lt
 
 module _ (i : Image) (kept : List Segment) (t : Thread) (out : meets kept t.ip ≡ false) (user : runs_privileged t.ip.perm ≡ false) (runs : can_fetch t.ip.perm ≡ true) where
   abbrev ft : Thread
@@ -125,11 +126,19 @@ module _ (i : Image) (kept : List Segment) (t : Thread) (out : meets kept t.ip �
   unfolding tests_tag
   tested rd ra = (
     sees rd ra Integer 0 (public_integer i kept),
-    (sees rd ra (Open Ro) 1 (public_open i kept Ro),
-    (sees rd ra (Open Rw) 1 (public_open i kept Rw),
-    (sees rd ra (Open Xu) 1 (public_open i kept Xu),
-    (sees rd ra (Open Eu) 1 (public_open i kept Eu),
-    (sees rd ra (Open Key) 1 (public_open i kept Key), tt))))),
+    (
+      sees rd ra (Open Ro) 1 (public_open i kept Ro),
+      (
+        sees rd ra (Open Rw) 1 (public_open i kept Rw),
+        (
+          sees rd ra (Open Xu) 1 (public_open i kept Xu),
+          (
+            sees rd ra (Open Eu) 1 (public_open i kept Eu),
+            (sees rd ra (Open Key) 1 (public_open i kept Key), tt),
+          ),
+        ),
+      ),
+    ),
   )
 
   moved_any : (instr : Instr) (rd : ℕ) (bits : Option ℕ) (by : Pointer → ℕ → Result Pointer Cause) → All (moves kept ft instr rd Any bits by)
@@ -178,7 +187,11 @@ module _ (i : Image) (kept : List Segment) (t : Thread) (out : meets kept t.ip �
 
   leaves_linked : (rd : ℕ) (back : Pointer) → Public i kept (Exactly back) → F (outcome.Leaves (with_form ft rd (Exactly back)))
   unfolding with_form form_in
-  leaves_linked rd back p = ((λ r lt. each_or (Public i kept) (slice_set (replicate 16 Any) rd (Exactly back)) r zero_form (each_set (Public i kept) (replicate 16 Any) rd (Exactly back) all_any p) (public_number i kept 0)), tt)
+  leaves_linked rd back p = (
+    (λ r lt. each_or (Public i kept) (slice_set (replicate 16 Any) rd (Exactly back)) r zero_form (each_set (Public i kept) (replicate 16 Any) rd (Exactly back) all_any p)
+        (public_number i kept 0)),
+    tt,
+  )
 
   jumped_any : (linked : Thread) (instr : Instr) (ra : ℕ) → F (outcome.Leaves linked) → All (jumps ft linked instr ra Any)
   unfolding jumps
@@ -226,7 +239,8 @@ module _ (i : Image) (kept : List Segment) (t : Thread) (out : meets kept t.ip �
   anyone_follows (Restrict rd ra rb) h = by_form (λ f. restricts ft (Restrict rd ra rb) rd f (form_in ft rb)) ra h.operands.1.0 (restricted_any (Restrict rd ra rb) rd (form_in ft rb))
   anyone_follows (Subseg rd ra rb) h = any_moves (Subseg rd ra rb) rd ra (exact_bits (form_in ft rb)) (subseg_result) h.operands.1.0
   anyone_follows (Setptr rd ra) h = (faults (Setptr rd ra), tt)
-  anyone_follows (Ld rd ra pre post imm) h = by_form (λ f. loads i kept ft (Ld rd ra pre post imm) rd f imm pre (load_kind post)) ra h.operands.1.0 (loaded_any (Ld rd ra pre post imm) rd imm pre (load_kind post))
+  anyone_follows (Ld rd ra pre post imm) h = by_form (λ f. loads i kept ft (Ld rd ra pre post imm) rd f imm pre (load_kind post)) ra h.operands.1.0
+      (loaded_any (Ld rd ra pre post imm) rd imm pre (load_kind post))
   anyone_follows (St ra rb pre post imm) h = by_form (λ f. stores i kept ft (St ra rb pre post imm) f rb imm pre) ra h.operands.0 (stored_any (St ra rb pre post imm) rb imm pre h.operands.1.0)
   anyone_follows (Br imm) h = (branch (Br imm) imm, tt)
   anyone_follows (Bz ra imm) h = by_form (λ f. branches_if true ft (Bz ra imm) (exact_bits f) imm) ra h.operands.0 (branch (Bz ra imm) imm, (goes_on, tt))

@@ -55,7 +55,8 @@ module _ (i : Image) (kept : List Segment) where
       by true e = record { slot = ok; queue = subst (λ n. AllByRecursion (EventOk n) row.queue) (eqb-true row.slot.number s.number e) h.0.queue }
       by false e = h.0
 
-  rows_queue : (n : ℕ) (q : List Event) → AllByRecursion (EventOk n) q → (rows : List ThreadRow) → AllByRecursion RowOk rows → AllByRecursion RowOk (map (at_number n (λ (row : ThreadRow). record row { queue = q })) rows)
+  rows_queue : (n : ℕ) (q : List Event) → AllByRecursion (EventOk n) q → (rows : List ThreadRow) → AllByRecursion RowOk rows
+      → AllByRecursion RowOk (map (at_number n (λ (row : ThreadRow). record row { queue = q })) rows)
   rows_queue n q ok [] h = tt
   rows_queue n q ok (row ∷ rows) h = (by (nat_eq row.slot.number n) refl, rows_queue n q ok rows h.1)
     where
@@ -72,7 +73,8 @@ module _ (i : Image) (kept : List Segment) where
   put_queue_ok core n q h ok = rows_queue n q ok core.rows h
 
   pub slot_ok : (core : Core) → RowsOk core → (n : ℕ) (s : Slot) → slot_at core n ≡ Some s → SlotOk i kept s
-  slot_ok core h n s at = slot_has (SlotOk i kept) core n s (into_map (SlotOk i kept) (λ (row : ThreadRow). row.slot) core.rows (each_map RowOk (λ (row : ThreadRow). SlotOk i kept row.slot) (λ row k. k.slot) core.rows h)) at
+  slot_ok core h n s at = slot_has (SlotOk i kept) core n s
+      (into_map (SlotOk i kept) (λ (row : ThreadRow). row.slot) core.rows (each_map RowOk (λ (row : ThreadRow). SlotOk i kept row.slot) (λ row k. k.slot) core.rows h)) at
 
   queue_in : (rows : List ThreadRow) (n : ℕ) → AllByRecursion RowOk rows → AllByRecursion (EventOk n) (queue_of (row_in rows n))
   queue_in [] n h = tt

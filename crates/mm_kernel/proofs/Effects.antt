@@ -88,7 +88,8 @@ ready_for s x h e =
     let one = or_parts (list_any (is_empty s) (fields_d x)) (field_empty s (field_a x) || field_empty s (field_b x)) e in
     let two = or_parts (field_empty s (field_a x)) (field_empty s (field_b x)) one.1 in
     record {
-      d = each_both (λ (r : ℕ). r < 16) (λ (r : ℕ). is_empty s r ≡ false) (Ready s) (λ r small free. record { small = small; free = free }) (fields_d x) (registers_small (operation_of x).operands h.operands) (none_passes (is_empty s) (fields_d x) one.0);
+      d = each_both (λ (r : ℕ). r < 16) (λ (r : ℕ). is_empty s r ≡ false) (Ready s) (λ r small free. record { small = small; free = free }) (fields_d x)
+          (registers_small (operation_of x).operands h.operands) (none_passes (is_empty s) (fields_d x) one.0);
       a = field_ready s (field_a x) (first_a (operation_of x).operands h.operands) two.0;
       b = field_ready s (field_b x) (first_b (operation_of x).operands h.operands) two.1;
     }
@@ -170,23 +171,28 @@ module _ (i : Image) (kept : List Segment) (core : Core) (m : Memory) (k : Machi
       (word i kept core m k s t a ra) (reg i kept core m k s t a ra r.a).holds refl refl)
   effect_ok (Lea rd ra rb) h r all =
       moves_ok i kept core m k s t a (Lea rd ra rb) rd (form_in t ra) (register s ra) (exact_bits (form_in t rb)) (word_bits (register s rb)) (λ p bits. lea_result p (cast_signed w64 bits)) r.d.0
-      (reg i kept core m k s t a ra r.a) (exact_bits_is i kept (form_in t rb) (register s rb) (reg i kept core m k s t a rb r.b).holds) (λ p q e. lea_moved i kept p q (cast_signed w64 (word_bits (register s rb))) e) all
+      (reg i kept core m k s t a ra r.a) (exact_bits_is i kept (form_in t rb) (register s rb) (reg i kept core m k s t a rb r.b).holds)
+      (λ p q e. lea_moved i kept p q (cast_signed w64 (word_bits (register s rb))) e) all
   effect_ok (Leai rd ra imm) h r all =
       moves_ok i kept core m k s t a (Leai rd ra imm) rd (form_in t ra) (register s ra) (Some 0) 0 (λ p bits. lea_result p imm) r.d.0
       (reg i kept core m k s t a ra r.a) (λ b e. cc) (λ p q e. lea_moved i kept p q imm e) all
   effect_ok (Leab rd ra rb) h r all =
       moves_ok i kept core m k s t a (Leab rd ra rb) rd (form_in t ra) (register s ra) (exact_bits (form_in t rb)) (word_bits (register s rb)) (λ p bits. leab_result p (cast_signed w64 bits)) r.d.0
-      (reg i kept core m k s t a ra r.a) (exact_bits_is i kept (form_in t rb) (register s rb) (reg i kept core m k s t a rb r.b).holds) (λ p q e. leab_moved i kept p q (cast_signed w64 (word_bits (register s rb))) e) all
+      (reg i kept core m k s t a ra r.a) (exact_bits_is i kept (form_in t rb) (register s rb) (reg i kept core m k s t a rb r.b).holds)
+      (λ p q e. leab_moved i kept p q (cast_signed w64 (word_bits (register s rb))) e) all
   effect_ok (Restrict rd ra rb) h r all =
-      restrict_ok i kept core m k s t a (Restrict rd ra rb) rd (form_in t ra) (form_in t rb) (register s ra) (register s rb) r.d.0 (reg i kept core m k s t a ra r.a) (reg i kept core m k s t a rb r.b).holds all
+      restrict_ok i kept core m k s t a (Restrict rd ra rb) rd (form_in t ra) (form_in t rb) (register s ra) (register s rb) r.d.0 (reg i kept core m k s t a ra r.a)
+      (reg i kept core m k s t a rb r.b).holds all
   effect_ok (Subseg rd ra rb) h r all =
       moves_ok i kept core m k s t a (Subseg rd ra rb) rd (form_in t ra) (register s ra) (exact_bits (form_in t rb)) (word_bits (register s rb)) subseg_result r.d.0
-      (reg i kept core m k s t a ra r.a) (exact_bits_is i kept (form_in t rb) (register s rb) (reg i kept core m k s t a rb r.b).holds) (λ p q e. subseg_moved i kept p q (word_bits (register s rb)) e) all
+      (reg i kept core m k s t a ra r.a) (exact_bits_is i kept (form_in t rb) (register s rb) (reg i kept core m k s t a rb r.b).holds)
+      (λ p q e. subseg_moved i kept p q (word_bits (register s rb)) e) all
   effect_ok (Setptr rd ra) h r all = setptr_ok (Setptr rd ra) rd (word_bits (register s ra)) (is_privileged s.ip.perm) user all.0
   effect_ok (Ld rd ra pre post imm) h r all =
       load_ok i kept core m k s t a (Ld rd ra pre post imm) rd (form_in t ra) (register s ra) imm pre post r.d.0 (a.whole ra) (word i kept core m k s t a ra) (reg i kept core m k s t a ra r.a) all
   effect_ok (St ra rb pre post imm) h r all =
-      store_ok i kept core m k s t a (St ra rb pre post imm) rb (form_in t ra) (register s rb) (register s ra) imm pre post (a.whole ra) (word i kept core m k s t a ra) (reg i kept core m k s t a ra r.a) (reg i kept core m k s t a rb r.b) all
+      store_ok i kept core m k s t a (St ra rb pre post imm) rb (form_in t ra) (register s rb) (register s ra) imm pre post (a.whole ra) (word i kept core m k s t a ra)
+      (reg i kept core m k s t a ra r.a) (reg i kept core m k s t a rb r.b) all
   effect_ok (Br imm) h r all = branch_ok i kept core m k s t a ks (Br imm) imm all.0
   effect_ok (Bz ra imm) h r all = branch_if_zero i kept core m k s t a ks (Bz ra imm) (form_in t ra) (register s ra) imm (reg i kept core m k s t a ra r.a).holds all
   effect_ok (Bnz ra imm) h r all = branch_if_not i kept core m k s t a ks (Bnz ra imm) (form_in t ra) (register s ra) imm (reg i kept core m k s t a ra r.a).holds all

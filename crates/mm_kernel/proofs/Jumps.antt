@@ -92,7 +92,8 @@ module _ (i : Image) (kept : List Segment) (core : Core) (m : Memory) (k : Machi
       on true f = branch_ok x imm f
       on false f = plain_ok i kept core m k s t a x f
 
-      one : (b : Bool) → Alls ((if b then kernel.branches t x imm else outcome.Goes (stepped t)) ∷ []) → Chosen (Follows i kept t (kernel.branches t x imm)) (Follows i kept t (outcome.Goes (stepped t))) b
+      one : (b : Bool) → Alls ((if b then kernel.branches t x imm else outcome.Goes (stepped t)) ∷ [])
+          → Chosen (Follows i kept t (kernel.branches t x imm)) (Follows i kept t (outcome.Goes (stepped t))) b
       one true g = g.0
       one false g = g.0
 
@@ -112,7 +113,8 @@ module _ (i : Image) (kept : List Segment) (core : Core) (m : Memory) (k : Machi
       on false f = branch_ok x imm f
       on true f = plain_ok i kept core m k s t a x f
 
-      one : (b : Bool) → Alls ((if b then outcome.Goes (stepped t) else kernel.branches t x imm) ∷ []) → Chosen (Follows i kept t (outcome.Goes (stepped t))) (Follows i kept t (kernel.branches t x imm)) b
+      one : (b : Bool) → Alls ((if b then outcome.Goes (stepped t) else kernel.branches t x imm) ∷ [])
+          → Chosen (Follows i kept t (outcome.Goes (stepped t))) (Follows i kept t (kernel.branches t x imm)) b
       one true g = g.0
       one false g = g.0
 
@@ -264,7 +266,8 @@ module _ (i : Image) (kept : List Segment) (core : Core) (m : Memory) (k : Machi
       (λ p to e ok. subst (λ o. Eff x (jumps s p o)) (sym e) (record { own = ok; cell = tt; pages = refl; queue = tt; other = tt }))
       (λ fault. fault) all
 
-  pub jal_ok : (x : Instr) (rd ra : ℕ) (f : Form) (v : Word) → Ready s rd → Fits i kept f v → f ≡ form_in t ra → Alls (kernel.links t x rd ra (next_result t.ip)) → Eff x (if_pointer v (λ p. links s rd p (enter_result p) (next_result s.ip)))
+  pub jal_ok : (x : Instr) (rd ra : ℕ) (f : Form) (v : Word) → Ready s rd → Fits i kept f v → f ≡ form_in t ra → Alls (kernel.links t x rd ra (next_result t.ip))
+      → Eff x (if_pointer v (λ p. links s rd p (enter_result p) (next_result s.ip)))
   unfolding plain slot_after
   jal_ok x rd ra f v hd h fe all = by (next_result s.ip) refl (subst (λ (y : Pointer). Alls (kernel.links t x rd ra (next_result y))) a.matches.ip all)
     where
@@ -282,7 +285,7 @@ module _ (i : Image) (kept : List Segment) (core : Core) (m : Memory) (k : Machi
           let clean : Clean i back = clean_below i back s.ip (next_result-IsBelow s.ip back e) a.matches.clean in
           let linked : Thread = with_form t rd (Exactly back) in
           let ml : Match i kept linked (record s { regs = slice_set s.regs rd (Ptr back) }) =
-              match_write i kept t s rd (Exactly back) (Ptr back) a.matches (sound i kept core m k s t a) hd.small hd.free (record { holds = refl; clean = clean }) in
+          match_write i kept t s rd (Exactly back) (Ptr back) a.matches (sound i kept core m k s t a) hd.small hd.free (record { holds = refl; clean = clean }) in
           jumps_ok linked (record s { regs = slice_set s.regs rd (Ptr back) }) refl ml x ra f v (λ p. links s rd p (enter_result p) (Some back)) h
           (λ p e fault. subst (λ o. Eff x (links s rd p o (Some back))) (sym e) fault)
           (λ p to e ok. subst (λ o. Eff x (links s rd p o (Some back))) (sym e) (record { own = ok; cell = tt; pages = refl; queue = tt; other = tt }))

@@ -155,9 +155,11 @@ module _ (i : Image) (kept : List Segment) (core : Core) (m : Memory) (k : Machi
       last = if kernel.may_refuse (exact_bits g) (choices from g) then kernel.fault t x ∷ [] else []
 
       parts : Alls (map (λ perm. kernel.sets t rd (with_permission f perm)) (choices from g)) × Alls (if kernel.may_refuse (exact_bits g) (choices from g) then kernel.fault t x ∷ [] else [])
-      parts = each_split (Follows i kept t) (map (λ perm. kernel.sets t rd (with_permission f perm)) (choices from g)) (if kernel.may_refuse (exact_bits g) (choices from g) then kernel.fault t x ∷ [] else []) all
+      parts = each_split (Follows i kept t) (map (λ perm. kernel.sets t rd (with_permission f perm)) (choices from g))
+          (if kernel.may_refuse (exact_bits g) (choices from g) then kernel.fault t x ∷ [] else []) all
 
-      refuses : (c : Cause) → restrict_result p (word_bits w) ≡ Err c → (o : Option ℕ) (cs : List Perm) → exact_bits g ≡ o → choices from g ≡ cs → Alls (if kernel.may_refuse o cs then kernel.fault t x ∷ [] else []) → Follows i kept t (kernel.fault t x)
+      refuses : (c : Cause) → restrict_result p (word_bits w) ≡ Err c → (o : Option ℕ) (cs : List Perm) → exact_bits g ≡ o → choices from g ≡ cs
+          → Alls (if kernel.may_refuse o cs then kernel.fault t x ∷ [] else []) → Follows i kept t (kernel.fault t x)
       refuses c e None cs ge ce h = h.0
       refuses c e (Some n) [] ge ce h = h.0
       refuses c e (Some n) (to ∷ more) ge ce h =
@@ -173,8 +175,10 @@ module _ (i : Image) (kept : List Segment) (core : Core) (m : Memory) (k : Machi
           let n : Narrowed i kept q p = tells.0 in
           let among : Contains (choices from g) n.to = chosen i kept from n.to g (ap (λ y. can_become y n.to) (sym named) ∙ n.becomes) (λ b is. exact_bits_is i kept g w hg b is ∙ tells.1) in
           let each = out_of_map (Follows i kept t) (λ perm. kernel.sets t rd (with_permission f perm)) (choices from g) parts.0 in
-          let follows : Follows i kept t (kernel.sets t rd (with_permission f n.to)) = each_contained (λ (perm : Perm). Follows i kept t (kernel.sets t rd (with_permission f perm))) (choices from g) n.to each among in
-          sets_ok i kept core m k s t a x rd (with_permission f n.to) (Ptr q) hd follows (subst (λ (y : Pointer). Fits i kept (with_permission f n.to) (Ptr y)) n.is (narrowed_fits i kept f p n.to from pf n.becomes h))
+          let follows : Follows i kept t (kernel.sets t rd (with_permission f n.to)) = each_contained (λ (perm : Perm). Follows i kept t (kernel.sets t rd (with_permission f perm)))
+          (choices from g) n.to each among in
+          sets_ok i kept core m k s t a x rd (with_permission f n.to) (Ptr q) hd follows
+          (subst (λ (y : Pointer). Fits i kept (with_permission f n.to) (Ptr y)) n.is (narrowed_fits i kept f p n.to from pf n.becomes h))
       by (Err c) e = refuses c e (exact_bits g) (choices from g) refl refl parts.1
 
   pub restrict_ok : (x : Instr) (rd : ℕ) (f g : Form) (v w : Word) → Ready s rd → Fits i kept f v → Holds i kept g w → Alls (kernel.restricts t x rd f g)
@@ -224,7 +228,8 @@ module _ (i : Image) (kept : List Segment) (core : Core) (m : Memory) (k : Machi
   unfolding kernel.sets
   any_loaded rd to c at out up = record { form = Any; up = up; fits = as_kept to.addr c.word false out (k.cells.cells to.addr c at) }
 
-  held_loaded : (rd : ℕ) (w : ℕ) (c : Cell) (part : Segment) → cell_at m w ≡ Some c → is_kept kept w ≡ true → lies_in w part ≡ true → Follows i kept t (outcome.Loads part rd (stepped t)) → Loaded rd c.word
+  held_loaded : (rd : ℕ) (w : ℕ) (c : Cell) (part : Segment) → cell_at m w ≡ Some c → is_kept kept w ≡ true → lies_in w part ≡ true → Follows i kept t (outcome.Loads part rd (stepped t))
+      → Loaded rd c.word
   held_loaded rd w c part at is inside f =
       let held : HeldIn i kept w c.word = as_kept w c.word true is (k.cells.cells w c at) in
       record { form = held.form; up = f w held.form held.derived inside; fits = held.fits }
@@ -240,7 +245,8 @@ module _ (i : Image) (kept : List Segment) (core : Core) (m : Memory) (k : Machi
   unfolding kernel.sets
   exact_loaded rd w c d at was f = by (is_kept kept w) (is_fixed i w) refl refl f
     where
-      by : (b e : Bool) → is_kept kept w ≡ b → is_fixed i w ≡ e → Follows i kept t (if b then outcome.Loads (w, 3) rd (stepped t) else if e then kernel.sets t rd (exactly d.word) else kernel.sets t rd Any) → Loaded rd c.word
+      by : (b e : Bool) → is_kept kept w ≡ b → is_fixed i w ≡ e
+          → Follows i kept t (if b then outcome.Loads (w, 3) rd (stepped t) else if e then kernel.sets t rd (exactly d.word) else kernel.sets t rd Any) → Loaded rd c.word
       by true e is fx g = held_loaded rd w c (w, 3) at is (itself w) g
       by false true is fx g =
           let now = k.cells.fixed w d was fx in
@@ -252,15 +258,29 @@ module _ (i : Image) (kept : List Segment) (core : Core) (m : Memory) (k : Machi
   set_ok posts.Keep f v to c at h th = tt
   set_ok posts.Full f v to c at h th =
       let clean : Clean i to.ptr = subst (CleanWord i) th.is h.clean in
-      record { old = c; stands = at; unfixed = unfixed_by i to.ptr to.addr clean (and_parts (can_load to.ptr.perm) (can_store to.ptr.perm) th.right).1 th.granted.inside; word = k.cells.cells to.addr c at }
+      record {
+        old = c;
+        stands = at;
+        unfixed = unfixed_by i to.ptr to.addr clean
+            (and_parts (can_load to.ptr.perm) (can_store to.ptr.perm) th.right).1 th.granted.inside;
+        word = k.cells.cells to.addr c at;
+      }
   set_ok posts.Empty f v to c at h th =
       let clean : Clean i to.ptr = subst (CleanWord i) th.is h.clean in
-      record { old = c; stands = at; unfixed = unfixed_by i to.ptr to.addr clean (and_parts (can_load to.ptr.perm) (can_store to.ptr.perm) th.right).1 th.granted.inside; word = k.cells.cells to.addr c at }
+      record {
+        old = c;
+        stands = at;
+        unfixed = unfixed_by i to.ptr to.addr clean
+            (and_parts (can_load to.ptr.perm) (can_store to.ptr.perm) th.right).1 th.granted.inside;
+        word = k.cells.cells to.addr c at;
+      }
 
-  got_ok : (x : Instr) (rd : ℕ) (post : Post) (f : Form) (v : Word) (to : Touch) (c : Cell) (split : Bool) → Ready s rd → cell_at m to.addr ≡ Some c → Fits i kept f v → Through v (load_kind post) to → Loaded rd c.word
+  got_ok : (x : Instr) (rd : ℕ) (post : Post) (f : Form) (v : Word) (to : Touch) (c : Cell) (split : Bool) → Ready s rd → cell_at m to.addr ≡ Some c → Fits i kept f v
+      → Through v (load_kind post) to → Loaded rd c.word
       → Eff x (loaded split s rd post (Got to c))
   unfolding plain slot_after is_empty
-  got_ok x rd post f v to c false hd at h th l = record { own = writes_on i kept core m k s t a rd l.form c.word hd l.up l.fits; cell = set_ok post f v to c at h th; pages = refl; queue = tt; other = tt }
+  got_ok x rd post f v to c false hd at h th l = record
+      { own = writes_on i kept core m k s t a rd l.form c.word hd l.up l.fits; cell = set_ok post f v to c at h th; pages = refl; queue = tt; other = tt }
   got_ok x rd post f v to c true hd at h th l = record {
     own = runs_on i kept core m k s t a (with_form (stepped t) rd l.form)
         (with_issue (record (next_slot i kept core m k s t a) { regs = slice_set s.regs rd (Int 0) }) (Some (record { reg = rd; word = c.word }))) refl l.up
@@ -281,7 +301,8 @@ module _ (i : Image) (kept : List Segment) (core : Core) (m : Memory) (k : Machi
   loads_second false x o e g = cc
 
   -- a form that is no exact pointer: a fault is among its outcomes
-  load_faults : (x : Instr) (rd : ℕ) (f : Form) (imm : ℤ) (pre : Pre) (kind : Kind) → ((p : Pointer) → f ≡ Exactly p → Alls (kernel.loaded_by i kept t x rd pre (check_result (Ptr p) imm kind)) → Follows i kept t (kernel.fault t x))
+  load_faults : (x : Instr) (rd : ℕ) (f : Form) (imm : ℤ) (pre : Pre) (kind : Kind)
+      → ((p : Pointer) → f ≡ Exactly p → Alls (kernel.loaded_by i kept t x rd pre (check_result (Ptr p) imm kind)) → Follows i kept t (kernel.fault t x))
       → Alls (kernel.loads i kept t x rd f imm pre kind) → Follows i kept t (kernel.fault t x)
   unfolding kernel.loads
   load_faults x rd (Number n) imm pre kind ex g = g.0
@@ -297,7 +318,8 @@ module _ (i : Image) (kept : List Segment) (core : Core) (m : Memory) (k : Machi
   waits_fault x pres.Empty full e g = g.0
 
   -- what is loaded
-  load_value : (x : Instr) (rd : ℕ) (f : Form) (v : Word) (imm : ℤ) (pre : Pre) (kind : Kind) (to : Touch) (c : Cell) → WholeForm kept f → Fits i kept f v → Through v kind to → check_result v imm kind ≡ Ok to
+  load_value : (x : Instr) (rd : ℕ) (f : Form) (v : Word) (imm : ℤ) (pre : Pre) (kind : Kind) (to : Touch) (c : Cell) → WholeForm kept f → Fits i kept f v → Through v kind to
+      → check_result v imm kind ≡ Ok to
       → cell_at m to.addr ≡ Some c → Alls (kernel.loads i kept t x rd f imm pre kind) → Loaded rd c.word
   unfolding kernel.loads
   load_value x rd (Number n) v imm pre kind to c whole h th e at g = let a = h.holds in let b = th.is in absurd (cc)
@@ -335,7 +357,8 @@ module _ (i : Image) (kept : List Segment) (core : Core) (m : Memory) (k : Machi
 
       -- an exact pointer, by the result of its check
       exactly_by : (r : Result Touch Cause) → check_result v imm kind ≡ r → (Alls (kernel.loaded_by i kept t x rd pre r) → Follows i kept t (kernel.fault t x)) → Follows i kept t (kernel.fault t x)
-      exactly_by r e f2 = load_faults x rd f imm pre kind (λ p is g. f2 (subst (λ y. Alls (kernel.loaded_by i kept t x rd pre y)) (ap (λ (y : Word). check_result y imm kind) (sym (held p is)) ∙ e) g)) all
+      exactly_by r e f2 = load_faults x rd f imm pre kind
+          (λ p is g. f2 (subst (λ y. Alls (kernel.loaded_by i kept t x rd pre y)) (ap (λ (y : Word). check_result y imm kind) (sym (held p is)) ∙ e) g)) all
 
       at_image : (to : Touch) (o : Option Cell) → cell_at i.memory to.addr ≡ o → Alls (kernel.loaded_by i kept t x rd pre (Ok to)) → Alls (kernel.loaded_at i kept t x rd pre to.addr o)
       at_image to o e g = subst (λ y. Alls (kernel.loaded_at i kept t x rd pre to.addr y)) e g
@@ -352,7 +375,8 @@ module _ (i : Image) (kept : List Segment) (core : Core) (m : Memory) (k : Machi
           let there = k.cells.there to.addr c at in
           waits_fault x pre c.full bad (at_image to (Some there.0) there.1 g).1
 
-      passed : (to : Touch) (c : Cell) (b : Bool) → check_result v imm kind ≡ Ok to → cell_at m to.addr ≡ Some c → passes pre c.full ≡ b → Eff x (loaded core.split s rd post (if b then Got to c else Refused cause.Sync))
+      passed : (to : Touch) (c : Cell) (b : Bool) → check_result v imm kind ≡ Ok to → cell_at m to.addr ≡ Some c → passes pre c.full ≡ b
+          → Eff x (loaded core.split s rd post (if b then Got to c else Refused cause.Sync))
       passed to c true e at p =
           let th = through v imm kind to ok e in
           got_ok x rd post f v to c core.split hd at h th (load_value x rd f v imm pre kind to c whole h th e at all)
@@ -372,7 +396,8 @@ module _ (i : Image) (kept : List Segment) (core : Core) (m : Memory) (k : Machi
     pub goes : Up i kept (stepped t)
     pub word : WordOk i kept w v
 
-  store_faults : (x : Instr) (rb : ℕ) (f : Form) (imm : ℤ) (pre : Pre) → ((p : Pointer) → f ≡ Exactly p → Alls (kernel.stored_by i kept t x rb pre (check_result (Ptr p) imm Store)) → Follows i kept t (kernel.fault t x))
+  store_faults : (x : Instr) (rb : ℕ) (f : Form) (imm : ℤ) (pre : Pre)
+      → ((p : Pointer) → f ≡ Exactly p → Alls (kernel.stored_by i kept t x rb pre (check_result (Ptr p) imm Store)) → Follows i kept t (kernel.fault t x))
       → Alls (kernel.stores i kept t x f rb imm pre) → Follows i kept t (kernel.fault t x)
   unfolding kernel.stores
   store_faults x rb (Number n) imm pre ex g = g.0
@@ -385,12 +410,14 @@ module _ (i : Image) (kept : List Segment) (core : Core) (m : Memory) (k : Machi
       both false g = g.0
   store_faults x rb (Inside p) imm pre ex g = both (allows p.perm Store) g
     where
-      both : (b : Bool) → Alls (if b then kernel.fault t x ∷ outcome.Stores (p.addr, p.log) (stored_form (form_in t rb)) ∷ outcome.Goes (stepped t) ∷ [] else kernel.fault t x ∷ []) → Follows i kept t (kernel.fault t x)
+      both : (b : Bool) → Alls (if b then kernel.fault t x ∷ outcome.Stores (p.addr, p.log) (stored_form (form_in t rb)) ∷ outcome.Goes (stepped t) ∷ [] else kernel.fault t x ∷ [])
+          → Follows i kept t (kernel.fault t x)
       both true g = g.0
       both false g = g.0
   store_faults x rb (Exactly p) imm pre ex g = ex p refl g
 
-  stores_tail : (b : Bool) (x : Instr) (o : Outcome) → b ≡ true → Alls (if b then kernel.fault t x ∷ o ∷ outcome.Goes (stepped t) ∷ [] else kernel.fault t x ∷ []) → Follows i kept t o × Up i kept (stepped t)
+  stores_tail : (b : Bool) (x : Instr) (o : Outcome) → b ≡ true → Alls (if b then kernel.fault t x ∷ o ∷ outcome.Goes (stepped t) ∷ [] else kernel.fault t x ∷ [])
+      → Follows i kept t o × Up i kept (stepped t)
   stores_tail true x o e g = (g.1.0, g.1.1.0)
   stores_tail false x o e g = cc
 
@@ -408,7 +435,8 @@ module _ (i : Image) (kept : List Segment) (core : Core) (m : Memory) (k : Machi
       by true e g = held_stored rb w v c (w, 3) at h e (itself w) g
       by false e g = outside_stored rb w v h e g
 
-  store_value : (x : Instr) (rb : ℕ) (f : Form) (v u : Word) (imm : ℤ) (pre : Pre) (to : Touch) (c : Cell) → WholeForm kept f → Fits i kept f u → Fits i kept (form_in t rb) v → Through u Store to → check_result u imm Store ≡ Ok to
+  store_value : (x : Instr) (rb : ℕ) (f : Form) (v u : Word) (imm : ℤ) (pre : Pre) (to : Touch) (c : Cell) → WholeForm kept f → Fits i kept f u → Fits i kept (form_in t rb) v
+      → Through u Store to → check_result u imm Store ≡ Ok to
       → cell_at m to.addr ≡ Some c → Alls (kernel.stores i kept t x f rb imm pre) → Stored to.addr v
   unfolding kernel.stores
   store_value x rb (Number n) v u imm pre to c whole h hv th e at g = let a = h.holds in let b = th.is in absurd (cc)
@@ -442,7 +470,8 @@ module _ (i : Image) (kept : List Segment) (core : Core) (m : Memory) (k : Machi
       held p e = (subst (λ (y : Form). Fits i kept y u) e h).holds
 
       exactly_by : (r : Result Touch Cause) → check_result u imm Store ≡ r → (Alls (kernel.stored_by i kept t x rb pre r) → Follows i kept t (kernel.fault t x)) → Follows i kept t (kernel.fault t x)
-      exactly_by r e f2 = store_faults x rb f imm pre (λ p is g. f2 (subst (λ y. Alls (kernel.stored_by i kept t x rb pre y)) (ap (λ (y : Word). check_result y imm Store) (sym (held p is)) ∙ e) g)) all
+      exactly_by r e f2 = store_faults x rb f imm pre
+          (λ p is g. f2 (subst (λ y. Alls (kernel.stored_by i kept t x rb pre y)) (ap (λ (y : Word). check_result y imm Store) (sym (held p is)) ∙ e) g)) all
 
       at_image : (to : Touch) (o : Option Cell) → cell_at i.memory to.addr ≡ o → Alls (kernel.stored_by i kept t x rb pre (Ok to)) → Alls (kernel.stored_at kept t x rb pre to.addr o)
       at_image to o e g = subst (λ y. Alls (kernel.stored_at kept t x rb pre to.addr y)) e g
@@ -459,7 +488,8 @@ module _ (i : Image) (kept : List Segment) (core : Core) (m : Memory) (k : Machi
           let there = k.cells.there to.addr c at in
           waits_fault x pre c.full bad (at_image to (Some there.0) there.1 g).1.1
 
-      passed : (to : Touch) (c : Cell) (b : Bool) → check_result u imm Store ≡ Ok to → cell_at m to.addr ≡ Some c → passes pre c.full ≡ b → Eff x (stored s v post (if b then Got to c else Refused cause.Sync))
+      passed : (to : Touch) (c : Cell) (b : Bool) → check_result u imm Store ≡ Ok to → cell_at m to.addr ≡ Some c → passes pre c.full ≡ b
+          → Eff x (stored s v post (if b then Got to c else Refused cause.Sync))
       passed to c true e at p =
           let th = through u imm Store to ok e in
           let st = store_value x rb f v u imm pre to c whole h hv th e at all in

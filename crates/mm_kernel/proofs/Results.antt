@@ -78,7 +78,8 @@ module _ (i : Image) (kept : List Segment) where
       by None p e d = int_fits (test (same_word v w))
       by (Some x) None e d = int_fits (test (same_word v w))
       by (Some x) (Some y) e d =
-          number_fits (test (same_word x y)) (test (same_word v w)) (ap (λ (z : Word). test (same_word z w)) (sym (exact_is f v h x e)) ∙ ap (λ (z : Word). test (same_word x z)) (sym (exact_is g w k y d)))
+          number_fits (test (same_word x y)) (test (same_word v w))
+          (ap (λ (z : Word). test (same_word z w)) (sym (exact_is f v h x e)) ∙ ap (λ (z : Word). test (same_word x z)) (sym (exact_is g w k y d)))
 
   -- 2. Integers.
 
@@ -222,7 +223,8 @@ module _ (i : Image) (kept : List Segment) where
       ok to true at is r = (record { to = to; becomes = is; is = cc }, code_named code to at)
       ok to false at is r = cc
 
-      by : (o : Option Perm) → perm_of code ≡ o → ◌≡◌ {A = Result Pointer Cause} (elim o [ Some to ↦ restricted_to p to | None ↦ Err cause.Malformed ]) (Ok q) → (n : Narrowed q p) × (code ≡ code_of n.to)
+      by : (o : Option Perm) → perm_of code ≡ o → ◌≡◌ {A = Result Pointer Cause} (elim o [ Some to ↦ restricted_to p to | None ↦ Err cause.Malformed ]) (Ok q)
+          → (n : Narrowed q p) × (code ≡ code_of n.to)
       by None at r = cc
       by (Some to) at r = ok to (can_become p.perm to) at refl r
 

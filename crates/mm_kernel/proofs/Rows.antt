@@ -191,7 +191,8 @@ module _ (i : Image) (kept : List Segment) (core : Core) (m : Memory) (k : Machi
   halts_ok x = record { own = tt; cell = tt; pages = refl; queue = tt; other = tt }
 
   -- a register keeps its word, of which more is known
-  seen_ok : (rd ra : ℕ) (f : Form) (tag : ℕ) → Ready s rd → Ready s ra → Follows i kept t (kernel.seen_as t rd ra f tag) → Fits i kept f (register s ra) → EffectOk (instr.Isptr rd ra) (sets s rd (Int tag))
+  seen_ok : (rd ra : ℕ) (f : Form) (tag : ℕ) → Ready s rd → Ready s ra → Follows i kept t (kernel.seen_as t rd ra f tag) → Fits i kept f (register s ra)
+      → EffectOk (instr.Isptr rd ra) (sets s rd (Int tag))
   unfolding plain slot_after register is_empty
   seen_ok rd ra f tag hd ha up fits =
       let one = match_write i kept (stepped t) next_slot ra f (register s ra) next_match next_sound ha.small (next_free ra ha) fits in
@@ -200,10 +201,14 @@ module _ (i : Image) (kept : List Segment) (core : Core) (m : Memory) (k : Machi
       record {
         own = runs_on (with_form (with_form (stepped t) ra f) rd (Number tag)) (record next_slot { regs = slice_set s.regs rd (Int tag) }) refl up
             (match_write i kept (with_form (stepped t) ra f) next_slot rd (Number tag) (Int tag) two next_sound hd.small hd.free (fits_number i kept tag));
-        cell = tt; pages = refl; queue = tt; other = tt;
+        cell = tt;
+        pages = refl;
+        queue = tt;
+        other = tt;
       }
 
-  pub tests_ok : (rd ra : ℕ) (f : Form) (w : Word) → Ready s rd → Ready s ra → w ≡ register s ra → Fits i kept f w → All (kernel.tests_tag t rd ra f) → EffectOk (instr.Isptr rd ra) (sets s rd (Int (test (is_pointer w))))
+  pub tests_ok : (rd ra : ℕ) (f : Form) (w : Word) → Ready s rd → Ready s ra → w ≡ register s ra → Fits i kept f w → All (kernel.tests_tag t rd ra f)
+      → EffectOk (instr.Isptr rd ra) (sets s rd (Int (test (is_pointer w))))
   unfolding kernel.tests_tag
   tests_ok rd ra (Number b) (Int n) hd ha e h all = sets_ok (instr.Isptr rd ra) rd (Number 0) (Int 0) hd all.0 (fits_number i kept 0)
   tests_ok rd ra (Number b) (Ptr p) hd ha e h all = let no = h.holds in cc
@@ -245,12 +250,14 @@ module _ (i : Image) (kept : List Segment) (core : Core) (m : Memory) (k : Machi
           faulty true e h = h.0
           faulty false e h = cc
 
-      does : (b : Bool) (o : Option ℕ) → (b ≡ true → (n : ℕ) → o ≡ Some n → (n == 0) ≡ false) → All (kernel.computes t x b rd (alu_form op f g) o) → Follows i kept t (kernel.sets t rd (alu_form op f g))
+      does : (b : Bool) (o : Option ℕ) → (b ≡ true → (n : ℕ) → o ≡ Some n → (n == 0) ≡ false) → All (kernel.computes t x b rd (alu_form op f g) o)
+          → Follows i kept t (kernel.sets t rd (alu_form op f g))
       does false o z h = h.0
       does true None z h = h.1.0
       does true (Some n) z h = doing (n == 0) (z refl n refl) h
         where
-          doing : (b : Bool) → b ≡ false → All ((if b then kernel.fault t x ∷ [] else []) ++ (if b then [] else kernel.sets t rd (alu_form op f g) ∷ [])) → Follows i kept t (kernel.sets t rd (alu_form op f g))
+          doing : (b : Bool) → b ≡ false → All ((if b then kernel.fault t x ∷ [] else []) ++ (if b then [] else kernel.sets t rd (alu_form op f g) ∷ []))
+              → Follows i kept t (kernel.sets t rd (alu_form op f g))
           doing true e h = cc
           doing false e h = h.0
 
@@ -303,7 +310,8 @@ module _ (i : Image) (kept : List Segment) (core : Core) (m : Memory) (k : Machi
       go (Ok q) e =
           let v = mv p q e in
           let yes : can_move outer.perm ≡ true = ap can_move (sym h.holds.perm) ∙ v.movable in
-          let al : All (kernel.fault t x ∷ kernel.sets t rd (Inside outer) ∷ []) = subst (λ b. All (if b then kernel.fault t x ∷ kernel.sets t rd (Inside outer) ∷ [] else kernel.fault t x ∷ [])) yes all in
+          let al : All (kernel.fault t x ∷ kernel.sets t rd (Inside outer) ∷ []) = subst
+          (λ b. All (if b then kernel.fault t x ∷ kernel.sets t rd (Inside outer) ∷ [] else kernel.fault t x ∷ [])) yes all in
           sets_ok x rd (Inside outer) (Ptr q) hd al.1.0 (inside_moved i kept outer q p v h)
       go (Err c) e = faulty (can_move outer.perm) all
   moves_ok x rd (Exactly p) (Int c) o n by hd h ex mv all = let no = h.holds in cc
@@ -320,7 +328,8 @@ module _ (i : Image) (kept : List Segment) (core : Core) (m : Memory) (k : Machi
       go : (r : Result Pointer Cause) → by p n ≡ r → EffectOk x (sets_pointer s rd r)
       go (Ok q) e =
           let v = mv p q e in
-          let al : All (kernel.fault t x ∷ kernel.sets t rd (around kept p) ∷ []) = subst (λ b. All (if b then kernel.fault t x ∷ kernel.sets t rd (around kept p) ∷ [] else kernel.fault t x ∷ [])) v.movable all in
+          let al : All (kernel.fault t x ∷ kernel.sets t rd (around kept p) ∷ []) = subst
+          (λ b. All (if b then kernel.fault t x ∷ kernel.sets t rd (around kept p) ∷ [] else kernel.fault t x ∷ [])) v.movable all in
           sets_ok x rd (around kept p) (Ptr q) hd al.1.0 (around_moved i kept q p v (subst (Clean i) same h.clean))
       go (Err c) e = faulty (can_move p.perm) all
   moves_ok x rd (Exactly p) (Ptr p') (Some b) n by hd h ex mv all =

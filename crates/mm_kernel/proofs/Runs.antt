@@ -124,7 +124,8 @@ module _ (i j : Image) (kept : List Segment) (img : IsImage i) (jmg : IsImage j)
     unfolding register
     free_shares n of t at free m = record {
       registers = each_index (IsShared i kept) of.regs (Int 0) (λ r lt. word r (is_empty of r) refl);
-      pending = each_map (λ (p : Pending). Fits i kept (form_in t p.reg) p.word) (λ (p : Pending). IsShared i kept p.word) (λ p f. public_shared i kept (form_in t p.reg) p.word (free_form i kept t free p.reg) f.holds) of.pending m.pending;
+      pending = each_map (λ (p : Pending). Fits i kept (form_in t p.reg) p.word) (λ (p : Pending). IsShared i kept p.word)
+          (λ p f. public_shared i kept (form_in t p.reg) p.word (free_form i kept t free p.reg) f.holds) of.pending m.pending;
     }
       where
         word : (r : ℕ) (b : Bool) → is_empty of r ≡ b → IsShared i kept (register of r)
@@ -181,7 +182,8 @@ module _ (i j : Image) (kept : List Segment) (img : IsImage i) (jmg : IsImage j)
     }
 
 -- a kernel that keeps its segments keeps them in every run of every variant
-pub kernels_keep : (i j : Image) (kept : List Segment) (items : List ℕ) → IsImage i → IsImage j → AllByRecursion IsSegment kept → Keeps i kept → Variant i kept j → StateKept i kept j (run (start j) items)
+pub kernels_keep : (i j : Image) (kept : List Segment) (items : List ℕ) → IsImage i → IsImage j → AllByRecursion IsSegment kept → Keeps i kept → Variant i kept j
+    → StateKept i kept j (run (start j) items)
 kernels_keep i j kept items img jmg segs ks v = state_kept i j kept img jmg ks v (run (start j) items) (run_holds i j kept img jmg ks v items (start j) (start_holds i j kept img jmg ks v))
 
 -- 3. An image that keeps its segments is a variant of itself.
@@ -200,7 +202,8 @@ module _ (i : Image) (kept : List Segment) (img : IsImage i) (ks : Keeps i kept)
   open_forms : (ws : List Word) → list_all (is_open kept) ws ≡ true → list_all (is_open_form kept) (map exactly ws) ≡ true
   unfolding is_open is_open_form
   open_forms [] e = refl
-  open_forms (w ∷ ws) e = let parts = and_parts (is_open kept w) (list_all (is_open kept) ws) e in and_from (is_open_form kept (exactly w)) (list_all (is_open_form kept) (map exactly ws)) (one w parts.0) (open_forms ws parts.1)
+  open_forms (w ∷ ws) e = let parts = and_parts (is_open kept w) (list_all (is_open kept) ws) e in and_from (is_open_form kept (exactly w)) (list_all (is_open_form kept) (map exactly ws))
+      (one w parts.0) (open_forms ws parts.1)
     where
       one : (w : Word) → is_open kept w ≡ true → is_open_form kept (exactly w) ≡ true
       one (Int n) e = refl

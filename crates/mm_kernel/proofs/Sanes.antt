@@ -89,7 +89,8 @@ module _ (i : Image) (kept : List Segment) (ks : Keeps i kept) where
   sane_live : (p : Pointer) → Contains (live_pointers i) p → Sane kept p
   unfolding is_user
   sane_live p c = record {
-    user = each_contained (λ (x : Pointer). runs_privileged x.perm ≡ false) (live_pointers i) p (none_any (λ (x : Pointer). runs_privileged x.perm) (live_pointers i) (not-true (list_any (λ (x : Pointer). runs_privileged x.perm) (live_pointers i)) ks.user)) c;
+    user = each_contained (λ (x : Pointer). runs_privileged x.perm ≡ false) (live_pointers i) p
+        (none_any (λ (x : Pointer). runs_privileged x.perm) (live_pointers i) (not-true (list_any (λ (x : Pointer). runs_privileged x.perm) (live_pointers i)) ks.user)) c;
     whole = λ seg m. by (is_inside kept p) refl seg m;
   }
     where
@@ -103,7 +104,8 @@ module _ (i : Image) (kept : List Segment) (ks : Keeps i kept) where
   unfolding live_pointers
   live = each_split (Sane kept) (flat_map slot_pointers (running_slots i)) (flat_map page_pointers i.memory.pages) (each_from (Sane kept) (live_pointers i) sane_live)
 
-  cells_sane : (cells : List Cell) → AllByRecursion (Sane kept) (flat_map (λ (c : Cell). pointers_in c.word) cells) → (place : ℕ) (c : Cell) → slice_get cells place ≡ Some c → AllByRecursion (Sane kept) (pointers_in c.word)
+  cells_sane : (cells : List Cell) → AllByRecursion (Sane kept) (flat_map (λ (c : Cell). pointers_in c.word) cells) → (place : ℕ) (c : Cell) → slice_get cells place ≡ Some c
+      → AllByRecursion (Sane kept) (pointers_in c.word)
   cells_sane cells h place c e = each_got (λ (x : Cell). AllByRecursion (Sane kept) (pointers_in x.word)) cells place c (each_unflat (Sane kept) (λ (x : Cell). pointers_in x.word) cells h) e
 
   cell_sane : (w : ℕ) (c : Cell) → cell_at i.memory w ≡ Some c → AllByRecursion (Sane kept) (pointers_in c.word)
@@ -113,7 +115,9 @@ module _ (i : Image) (kept : List Segment) (ks : Keeps i kept) where
       inside : (o : Option (List Cell)) → page_at i.memory (page_of w) ≡ o → cell_in o (place_of w) ≡ Some c → AllByRecursion (Sane kept) (pointers_in c.word)
       inside None at e = cc
       inside (Some cells) at e =
-          cells_sane cells (found_page (λ (cs : List Cell). AllByRecursion (Sane kept) (flat_map (λ (x : Cell). pointers_in x.word) cs)) i.memory.pages (page_of w) cells (each_unflat (Sane kept) page_pointers i.memory.pages live.1) at) (place_of w) c e
+          cells_sane cells
+          (found_page (λ (cs : List Cell). AllByRecursion (Sane kept) (flat_map (λ (x : Cell). pointers_in x.word) cs)) i.memory.pages (page_of w) cells
+          (each_unflat (Sane kept) page_pointers i.memory.pages live.1) at) (place_of w) c e
 
       by : (b : Bool) → (if b then cell_in (page_at i.memory (page_of w)) (place_of w) else None) ≡ Some c → AllByRecursion (Sane kept) (pointers_in c.word)
       by true e = inside (page_at i.memory (page_of w)) refl e
@@ -127,7 +131,8 @@ module _ (i : Image) (kept : List Segment) (ks : Keeps i kept) where
       let h = slot_sane s c in
       record {
         ip = h.0;
-        forms = into_map (SaneForm kept) exactly s.regs (each_map (λ (w : Word). AllByRecursion (Sane kept) (pointers_in w)) (λ (w : Word). SaneForm kept (exactly w)) (sane_exactly kept) s.regs (each_unflat (Sane kept) pointers_in s.regs h.1));
+        forms = into_map (SaneForm kept) exactly s.regs
+            (each_map (λ (w : Word). AllByRecursion (Sane kept) (pointers_in w)) (λ (w : Word). SaneForm kept (exactly w)) (sane_exactly kept) s.regs (each_unflat (Sane kept) pointers_in s.regs h.1));
       }
 
   -- 2. What a sane thread can come to.
@@ -251,7 +256,8 @@ module _ (i : Image) (kept : List Segment) (ks : Keeps i kept) where
         by true e = (k.user, inside_within kept (record p { addr = base_of p }) p (record { shorter = omega arith; here = base_same p }) (k.whole (moves_segment p.perm k.user mv) e))
         by false e = tt
 
-    moving : (x : Instr) (rd : ℕ) (f : Form) (o : Option ℕ) (by : Pointer → ℕ → Result Pointer Cause) → SaneForm kept f → ((p q : Pointer) (n : ℕ) → by p n ≡ Ok q → Moved q p) → Os (moves kept t x rd f o by)
+    moving : (x : Instr) (rd : ℕ) (f : Form) (o : Option ℕ) (by : Pointer → ℕ → Result Pointer Cause) → SaneForm kept f → ((p q : Pointer) (n : ℕ) → by p n ≡ Ok q → Moved q p)
+        → Os (moves kept t x rd f o by)
     unfolding moves
     moving x rd (Number n) o by k mv = (faults x, tt)
     moving x rd Integer o by k mv = (faults x, tt)
@@ -400,7 +406,8 @@ module _ (i : Image) (kept : List Segment) (ks : Keeps i kept) where
     testing rd ra (Exactly p) = (setting rd (Number 1) tt, tt)
     testing rd ra (Open perm) = (setting rd (Number 1) tt, tt)
     testing rd ra (Inside p) = (setting rd (Number 1) tt, tt)
-    testing rd ra Any = (seeing rd ra Integer 0 tt, (seeing rd ra (Open Ro) 1 tt, (seeing rd ra (Open Rw) 1 tt, (seeing rd ra (Open Xu) 1 tt, (seeing rd ra (Open Eu) 1 tt, (seeing rd ra (Open Key) 1 tt, tt))))))
+    testing rd ra Any =
+        (seeing rd ra Integer 0 tt, (seeing rd ra (Open Ro) 1 tt, (seeing rd ra (Open Rw) 1 tt, (seeing rd ra (Open Xu) 1 tt, (seeing rd ra (Open Eu) 1 tt, (seeing rd ra (Open Key) 1 tt, tt))))))
 
     computing : (x : Instr) (b : Bool) (rd : ℕ) (f : Form) (o : Option ℕ) → SaneForm kept f → Os (computes t x b rd f o)
     computing x false rd f o k = (setting rd f k, tt)
@@ -424,9 +431,11 @@ module _ (i : Image) (kept : List Segment) (ks : Keeps i kept) where
     instr_sane (SelfSlot rd) = (setting rd Integer tt, tt)
     instr_sane (Alu op rd ra rb) = computing (Alu op rd ra rb) (divides op) rd (alu_form op (form_in t ra) (form_in t rb)) (exact_bits (form_in t rb)) (alu_sane op (form_in t ra) (form_in t rb))
     instr_sane (Addi rd ra imm) = (setting rd (alu_form Add (form_in t ra) (Number (cast_unsigned w64 imm))) (alu_sane Add (form_in t ra) (Number (cast_unsigned w64 imm))), tt)
-    instr_sane (Lea rd ra rb) = moving (Lea rd ra rb) rd (form_in t ra) (exact_bits (form_in t rb)) (λ p bits. lea_result p (cast_signed w64 bits)) (form ra) (λ p q n e. lea_moved i kept p q (cast_signed w64 n) e)
+    instr_sane (Lea rd ra rb) = moving (Lea rd ra rb) rd (form_in t ra) (exact_bits (form_in t rb)) (λ p bits. lea_result p (cast_signed w64 bits)) (form ra)
+        (λ p q n e. lea_moved i kept p q (cast_signed w64 n) e)
     instr_sane (Leai rd ra imm) = moving (Leai rd ra imm) rd (form_in t ra) (Some 0) (λ p bits. lea_result p imm) (form ra) (λ p q n e. lea_moved i kept p q imm e)
-    instr_sane (Leab rd ra rb) = moving (Leab rd ra rb) rd (form_in t ra) (exact_bits (form_in t rb)) (λ p bits. leab_result p (cast_signed w64 bits)) (form ra) (λ p q n e. leab_moved i kept p q (cast_signed w64 n) e)
+    instr_sane (Leab rd ra rb) = moving (Leab rd ra rb) rd (form_in t ra) (exact_bits (form_in t rb)) (λ p bits. leab_result p (cast_signed w64 bits)) (form ra)
+        (λ p q n e. leab_moved i kept p q (cast_signed w64 n) e)
     instr_sane (Restrict rd ra rb) = narrowing (Restrict rd ra rb) rd (form_in t ra) (form_in t rb) (form ra)
     instr_sane (Subseg rd ra rb) = moving (Subseg rd ra rb) rd (form_in t ra) (exact_bits (form_in t rb)) subseg_result (form ra) (λ p q n e. subseg_moved i kept p q n e)
     instr_sane (Setptr rd ra) = (faults (Setptr rd ra), tt)
@@ -523,7 +532,8 @@ module _ (i : Image) (kept : List Segment) (ks : Keeps i kept) where
   facts_sane (reads_served {fact = f} t u next h reg from d own c held k) =
       let su : SaneThread kept u = facts_sane held in
       each_contained (SaneFact kept) (take_up i kept (with_form next reg (form_in u from))) f
-      (takes_up kept i (with_form next reg (form_in u from)) (sane_with kept next reg (form_in u from) (outcome_is t (facts_sane d) (outcome.ReadsServed reg from next) c) (sane_form kept u su from))) k
+      (takes_up kept i (with_form next reg (form_in u from))
+      (sane_with kept next reg (form_in u from) (outcome_is t (facts_sane d) (outcome.ReadsServed reg from next) c) (sane_form kept u su from))) k
   facts_sane (writes_served t u h reg g d from c held) = sane_with kept u reg g (facts_sane held) (outcome_is t (facts_sane d) (outcome.WritesServed reg g) c)
 
   -- each form of a derived thread: what is known of its pointers

@@ -78,7 +78,8 @@ meets_same kept p q l a = by kept
     by [] = refl
     by (x ∷ xs) = by2 (one x) (by xs)
       where
-        by2 : meets_segment q x ≡ meets_segment p x → list_any (meets_segment q) xs ≡ list_any (meets_segment p) xs → (meets_segment q x || list_any (meets_segment q) xs) ≡ (meets_segment p x || list_any (meets_segment p) xs)
+        by2 : meets_segment q x ≡ meets_segment p x → list_any (meets_segment q) xs ≡ list_any (meets_segment p) xs
+            → (meets_segment q x || list_any (meets_segment q) xs) ≡ (meets_segment p x || list_any (meets_segment p) xs)
         by2 e f = ap (λ b. b || list_any (meets_segment q) xs) e ∙ ap (λ b. meets_segment p x || b) f
 
 -- 4. Inside.
@@ -120,7 +121,8 @@ points_within outer q h =
 pub within_points : (outer q : Pointer) → q.perm ≡ outer.perm → Within q outer → PointsInside outer q
 within_points outer q perm h = record {
   perm = perm;
-  inside = and_from (nat_le q.log outer.log) (lies_in q.addr (segment_of outer)) (le-leb q.log outer.log h.shorter) (eq-eqb (q.addr / 2 ^ outer.log) (base_of outer / 2 ^ outer.log) (h.here ∙ sym (base_same outer)));
+  inside = and_from (nat_le q.log outer.log) (lies_in q.addr (segment_of outer)) (le-leb q.log outer.log h.shorter)
+      (eq-eqb (q.addr / 2 ^ outer.log) (base_of outer / 2 ^ outer.log) (h.here ∙ sym (base_same outer)));
 }
 
 -- a word of the inner one lies in the part of the outer one

@@ -113,7 +113,8 @@ module _ (i : Image) (kept : List Segment) (core : Core) (m : Memory) (k : Machi
   event_up rd e (inl is) all = subst (λ (y : Handling). Up i kept (kernel.with_event (stepped t) rd y.ip y.address y.value)) (sym is) all.0
   event_up rd e (inr g) all = all.1.0 s.number e (own_origin i kept t.origin s.number a.matches.origin g.0) g.1
 
-  event_match : (rd n : ℕ) (e : Event) (g : Handling) → Ready s rd → Ready s (rd + 1) → Ready s (rd + 2) → Ready s (rd + 3) → Fits i kept g.ip (Ptr e.ip) → Fits i kept g.address e.addr_op → Fits i kept g.value e.value_op
+  event_match : (rd n : ℕ) (e : Event) (g : Handling) → Ready s rd → Ready s (rd + 1) → Ready s (rd + 2) → Ready s (rd + 3) → Fits i kept g.ip (Ptr e.ip) → Fits i kept g.address e.addr_op
+      → Fits i kept g.value e.value_op
       → Match i kept (kernel.with_event (stepped t) rd g.ip g.address g.value)
       (record (next_slot i kept core m k s t a) { regs = slice_set (slice_set (slice_set (slice_set s.regs rd (Int n)) (rd + 1) (Ptr e.ip)) (rd + 2) e.addr_op) (rd + 3) e.value_op })
   unfolding is_empty
@@ -134,7 +135,8 @@ module _ (i : Image) (kept : List Segment) (core : Core) (m : Memory) (k : Machi
       let m3 : Match i kept t3 s3 = match_write i kept t2 s2 (rd + 2) g.address e.addr_op m2 so2 h2.small h2.free f2 in
       match_write i kept t3 s3 (rd + 3) g.value e.value_op m3 so3 h3.small h3.free f3
 
-  took_ok : (x : Instr) (rd : ℕ) (e : Event) (rest : List Event) (of : Slot) → Ready s rd → Ready s (rd + 1) → Ready s (rd + 2) → Ready s (rd + 3) → EventOk i kept s.number e → AllByRecursion (EventOk i kept s.number) rest
+  took_ok : (x : Instr) (rd : ℕ) (e : Event) (rest : List Event) (of : Slot) → Ready s rd → Ready s (rd + 1) → Ready s (rd + 2) → Ready s (rd + 3) → EventOk i kept s.number e
+      → AllByRecursion (EventOk i kept s.number) rest
       → StoppedOk i kept of → Alls (outcome.Goes (kernel.with_event (stepped t) rd Any Any Any) ∷ outcome.TakesEvent rd (stepped t) ∷ []) → Eff x (takes s rd (Took e rest of))
   unfolding plain slot_after
   took_ok x rd e rest of h0 h1 h2 h3 ok others stopped all =
@@ -160,7 +162,9 @@ module _ (i : Image) (kept : List Segment) (core : Core) (m : Memory) (k : Machi
           go : (o : Option Slot) → slot_at core e.slot ≡ o → Eff x (takes s rd (event_reply e rest o))
           go None found = tt
           go (Some of) found =
-              let waits = (subst (AllByRecursion (λ (y : Event). y.slot ≡ e.slot → (is_waiting of.state ≡ true) × (of.handler ≡ Some s.number))) is (queued_waits core k.matched e.slot of found s.number)).0 refl in
+              let waits =
+              (subst (AllByRecursion (λ (y : Event). y.slot ≡ e.slot → (is_waiting of.state ≡ true) × (of.handler ≡ Some s.number))) is
+              (queued_waits core k.matched e.slot of found s.number)).0 refl in
               took_ok x rd e rest of h0 h1 h2 h3 ok.0 ok.1 (waiting_stopped i kept of of.state waits.0 (slot_ok i kept core k.rows e.slot of found)) all
 
   -- 2. Served slots.
@@ -187,9 +191,11 @@ module _ (i : Image) (kept : List Segment) (core : Core) (m : Memory) (k : Machi
         let two : ◌≡◌ {A = Option ℕ} (Some h.handler) (Some s.number) = sym h.is ∙ handled in
         let same : h.handler ≡ s.number = cc in
         let serving : serves_some i s.number ≡ true = came_serves i kept of s.number stop.came handled in
-        let kernel_slot : is_kernel i kept s.number ≡ true = ap (is_kernel i kept) (sym same) ∙ h.kernel in
-        (own_origin i kept t.origin s.number a.matches.origin (and_from (is_kernel i kept s.number) (serves_some i s.number) kernel_slot serving),
-        subst (λ y. Derived i kept (HasFaulted y stop.thread)) same h.derived, kernel_slot);
+        let kernel_slot : is_kernel i kept s.number ≡ true = ap (is_kernel i kept) (sym same) ∙ h.kernel in (
+          own_origin i kept t.origin s.number a.matches.origin (and_from (is_kernel i kept s.number) (serves_some i s.number) kernel_slot serving),
+          subst (λ y. Derived i kept (HasFaulted y stop.thread)) same h.derived,
+          kernel_slot,
+        );
     handled = handled;
   }
     where
@@ -242,7 +248,13 @@ module _ (i : Image) (kept : List Segment) (core : Core) (m : Memory) (k : Machi
       mu = h.stopped.matches
 
       by : Free i kept h.stopped.thread ⊎ HeldFor i kept h.stopped.thread of.handler → Up i kept (on_after h.stopped.thread)
-      by (inl free) = free_up i kept (on_after h.stopped.thread) (record { outside = outside_within kept (advanced h.stopped.thread.ip) h.stopped.thread.ip (below_within (advanced h.stopped.thread.ip) h.stopped.thread.ip (advanced_below h.stopped.thread.ip)) free.outside; forms = free.forms; fast = free.fast })
+      by (inl free) = free_up i kept (on_after h.stopped.thread)
+          (record {
+            outside = outside_within kept (advanced h.stopped.thread.ip) h.stopped.thread.ip
+                (below_within (advanced h.stopped.thread.ip) h.stopped.thread.ip (advanced_below h.stopped.thread.ip)) free.outside;
+            forms = free.forms;
+            fast = free.fast;
+          })
       by (inr held) = let d = h.held held in f s.number h.stopped.thread (on_after h.stopped.thread) d.0 d.1 (0, omega arith, refl)
 
   pub resume_ok : (x : Instr) (how : How) (n : ℕ) → Alls (kernel.fault t x ∷ outcome.Goes (stepped t) ∷ outcome.Resumes how ∷ []) → Eff x (resumes s how (served s.number (slot_at core n)))
@@ -253,12 +265,15 @@ module _ (i : Image) (kept : List Segment) (core : Core) (m : Memory) (k : Machi
 
   -- a register that is read
 
-  pub read_ok : (x : Instr) (rd r n : ℕ) → Ready s rd → Alls (kernel.fault t x ∷ kernel.sets t rd Any ∷ outcome.ReadsServed rd r (stepped t) ∷ []) → Eff x (reads_of core.split s rd r (served s.number (slot_at core n)))
+  pub read_ok : (x : Instr) (rd r n : ℕ) → Ready s rd → Alls (kernel.fault t x ∷ kernel.sets t rd Any ∷ outcome.ReadsServed rd r (stepped t) ∷ [])
+      → Eff x (reads_of core.split s rd r (served s.number (slot_at core n)))
   unfolding kernel.sets
   read_ok x rd r n hd all = serve_ok x n (reads_of core.split s rd r) (λ c. all.0) (λ of h. by of h (core.split && is_empty of r) refl)
     where
-      got : (of : Slot) (h : Serves of) → Fits i kept (form_in h.stopped.thread r) (register of r) → Free i kept h.stopped.thread ⊎ HeldFor i kept h.stopped.thread of.handler → Eff x (sets s rd (register of r))
-      got of h fits (inl free) = sets_ok i kept core m k s t a x rd Any (register of r) hd all.1.0 (public_fits i kept (form_in h.stopped.thread r) (register of r) (free_form i kept h.stopped.thread free r) fits)
+      got : (of : Slot) (h : Serves of) → Fits i kept (form_in h.stopped.thread r) (register of r) → Free i kept h.stopped.thread ⊎ HeldFor i kept h.stopped.thread of.handler
+          → Eff x (sets s rd (register of r))
+      got of h fits (inl free) = sets_ok i kept core m k s t a x rd Any (register of r) hd all.1.0
+          (public_fits i kept (form_in h.stopped.thread r) (register of r) (free_form i kept h.stopped.thread free r) fits)
       got of h fits (inr held) =
           let d = h.held held in
           sets_ok i kept core m k s t a x rd (form_in h.stopped.thread r) (register of r) hd (all.1.1.0 s.number h.stopped.thread d.0 d.1) fits
@@ -275,7 +290,8 @@ module _ (i : Image) (kept : List Segment) (core : Core) (m : Memory) (k : Machi
   unfolding plain slot_after
   write_ok x r n rb w lt fits leak all pub_of = serve_ok x n (writes_of core.split s r w) (λ c. all.0) (λ of h. by of h (core.split && is_empty of r) refl)
     where
-      put : (of : Slot) (h : Serves of) → is_empty of r ≡ false → Free i kept h.stopped.thread ⊎ HeldFor i kept h.stopped.thread of.handler → StoppedOk i kept (record of { regs = slice_set of.regs r w })
+      put : (of : Slot) (h : Serves of) → is_empty of r ≡ false → Free i kept h.stopped.thread ⊎ HeldFor i kept h.stopped.thread of.handler
+          → StoppedOk i kept (record of { regs = slice_set of.regs r w })
       put of h free why = record {
         came = came_like i kept of (record of { regs = slice_set of.regs r w }) refl h.stopped.came;
         thread = with_form h.stopped.thread r (form_in t rb);
@@ -283,10 +299,19 @@ module _ (i : Image) (kept : List Segment) (core : Core) (m : Memory) (k : Machi
         matches = match_write i kept h.stopped.thread of r (form_in t rb) w h.stopped.matches h.sounds lt free fits;
       }
         where
-          whys : Free i kept h.stopped.thread ⊎ HeldFor i kept h.stopped.thread of.handler → Free i kept (with_form h.stopped.thread r (form_in t rb)) ⊎ HeldFor i kept (with_form h.stopped.thread r (form_in t rb)) of.handler
+          whys : Free i kept h.stopped.thread ⊎ HeldFor i kept h.stopped.thread of.handler
+              → Free i kept (with_form h.stopped.thread r (form_in t rb)) ⊎ HeldFor i kept (with_form h.stopped.thread r (form_in t rb)) of.handler
           whys (inl f) = inl (free_with i kept h.stopped.thread r (form_in t rb) f (pub_of all.1.1.0))
           whys (inr held) = let d = h.held held in inr (record { handler = s.number; is = h.handled; kernel = d.2; derived = all.1.1.1.0 s.number h.stopped.thread d.0 d.1 })
 
-      by : (of : Slot) (h : Serves of) (b : Bool) → (core.split && is_empty of r) ≡ b → Eff x (if b then Deliver (delivered of) else Does (record (plain s) { other = Some (record of { regs = slice_set of.regs r w }) }))
+      by : (of : Slot) (h : Serves of) (b : Bool) → (core.split && is_empty of r) ≡ b
+          → Eff x (if b then Deliver (delivered of) else Does (record (plain s) { other = Some (record of { regs = slice_set of.regs r w }) }))
       by of h true e = slot_delivered i kept of h.sounds h.whole
-      by of h false e = record { own = steps_on i kept core m k s t a all.1.0; cell = tt; pages = refl; queue = tt; other = taken_as i kept (record of { regs = slice_set of.regs r w }) of.state h.taken (put of h (h.ready r e) h.stopped.why) }
+      by of h false e = record {
+        own = steps_on i kept core m k s t a all.1.0;
+        cell = tt;
+        pages = refl;
+        queue = tt;
+        other = taken_as i kept
+            (record of { regs = slice_set of.regs r w }) of.state h.taken (put of h (h.ready r e) h.stopped.why);
+      }

@@ -55,7 +55,8 @@ none_for : (r : ℕ) (ps : List Pending) → loads_for r ps ≡ 0 → AllByRecur
 none_for r [] e = tt
 none_for r (p ∷ ps) e = by (nat_eq p.reg r) refl e (λ k. none_for r ps k)
   where
-    by : (b : Bool) → nat_eq p.reg r ≡ b → (if b then loads_for r ps + 1 else loads_for r ps) ≡ 0 → (loads_for r ps ≡ 0 → AllByRecursion (λ (q : Pending). q.reg ≡ r → ⊥) ps) → AllByRecursion (λ (q : Pending). q.reg ≡ r → ⊥) (p ∷ ps)
+    by : (b : Bool) → nat_eq p.reg r ≡ b → (if b then loads_for r ps + 1 else loads_for r ps) ≡ 0 → (loads_for r ps ≡ 0 → AllByRecursion (λ (q : Pending). q.reg ≡ r → ⊥) ps)
+        → AllByRecursion (λ (q : Pending). q.reg ≡ r → ⊥) (p ∷ ps)
     by true at k rest = absurd (omega arith)
     by false at k rest = ((λ same. let no = eqb-false p.reg r at in no same), rest k)
 
@@ -174,7 +175,8 @@ module _ (i : Image) (kept : List Segment) where
         (same_fits t r r f w m.long lt refl fits);
   }
     where
-      one : (k : ℕ) → slice_index_or (slice_set s.empty r true) k false ≡ false → (k ≡ r) ⊎ (k ≡ r → ⊥) → Fits i kept (form_in (with_form t r f) k) (slice_index_or (slice_set s.regs r (Int 0)) k (Int 0))
+      one : (k : ℕ) → slice_index_or (slice_set s.empty r true) k false ≡ false → (k ≡ r) ⊎ (k ≡ r → ⊥)
+          → Fits i kept (form_in (with_form t r f) k) (slice_index_or (slice_set s.regs r (Int 0)) k (Int 0))
       one k ready (inl e) =
           let flags = h.flags in
           let at : slice_index_or (slice_set s.empty r true) k false ≡ true = ap (λ x. slice_index_or (slice_set s.empty r true) x false) e ∙ get_or-set_same s.empty r true false (omega arith) in
@@ -202,11 +204,13 @@ module _ (i : Image) (kept : List Segment) where
       small : p.reg < 16
       small = loaded_small s h p rest e
 
-      one : (k : ℕ) → slice_index_or (slice_set s.empty p.reg false) k false ≡ false → (k ≡ p.reg) ⊎ (k ≡ p.reg → ⊥) → Fits i kept (form_in t k) (slice_index_or (slice_set s.regs p.reg p.word) k (Int 0))
+      one : (k : ℕ) → slice_index_or (slice_set s.empty p.reg false) k false ≡ false → (k ≡ p.reg) ⊎ (k ≡ p.reg → ⊥)
+          → Fits i kept (form_in t k) (slice_index_or (slice_set s.regs p.reg p.word) k (Int 0))
       one k ready (inl same) =
           let regs = h.registers in
           let lt = small in
-          let at : slice_index_or (slice_set s.regs p.reg p.word) k (Int 0) ≡ p.word = ap (λ x. slice_index_or (slice_set s.regs p.reg p.word) x (Int 0)) same ∙ get_or-set_same s.regs p.reg p.word (Int 0) (omega arith) in
+          let at : slice_index_or (slice_set s.regs p.reg p.word) k (Int 0) ≡ p.word = ap (λ x. slice_index_or (slice_set s.regs p.reg p.word) x (Int 0)) same
+          ∙ get_or-set_same s.regs p.reg p.word (Int 0) (omega arith) in
           subst (Fits i kept (form_in t k)) (sym at) (subst (λ x. Fits i kept (form_in t x) p.word) (sym same) parts.0)
       one k ready (inr ne) =
           subst (Fits i kept (form_in t k)) (sym (get_or-set_other s.regs p.reg k p.word (Int 0) ne))
@@ -246,7 +250,8 @@ module _ (i : Image) (kept : List Segment) where
     long = refl;
     clean = m.clean;
     registers = λ r ready. any_fits t m.long r (register s r) (free r) (m.registers r ready);
-    pending = each_map (λ (p : Pending). Fits i kept (form_in t p.reg) p.word) (λ (p : Pending). Fits i kept (form_in (anyone t) p.reg) p.word) (λ p k. any_fits t m.long p.reg p.word (free p.reg) k) s.pending m.pending;
+    pending = each_map (λ (p : Pending). Fits i kept (form_in t p.reg) p.word) (λ (p : Pending). Fits i kept (form_in (anyone t) p.reg) p.word)
+        (λ p k. any_fits t m.long p.reg p.word (free p.reg) k) s.pending m.pending;
   }
 
   -- 5. Slots by their states.

@@ -98,7 +98,8 @@ module _ (j : Image) (P : Pointer → Type 0) (all : AllByRecursion P (live_poin
       inside (Some cells) at e =
           each_got (λ (x : Cell). AllByRecursion P (pointers_in x.word)) cells (place_of w) c
           (each_unflat P (λ (x : Cell). pointers_in x.word) cells
-          (found_page (λ (cs : List Cell). AllByRecursion P (flat_map (λ (x : Cell). pointers_in x.word) cs)) j.memory.pages (page_of w) cells (each_unflat P page_pointers j.memory.pages live_parts.1) at)) e
+          (found_page (λ (cs : List Cell). AllByRecursion P (flat_map (λ (x : Cell). pointers_in x.word) cs)) j.memory.pages (page_of w) cells
+          (each_unflat P page_pointers j.memory.pages live_parts.1) at)) e
 
       by : (b : Bool) → (if b then cell_in (page_at j.memory (page_of w)) (place_of w) else None) ≡ Some c → AllByRecursion P (pointers_in c.word)
       by true e = inside (page_at j.memory (page_of w)) refl e
@@ -106,7 +107,8 @@ module _ (j : Image) (P : Pointer → Type 0) (all : AllByRecursion P (live_poin
 
 -- 3. Two memories with the same pages have the same words.
 
-find_some : (ps qs : List (ℕ × List Cell)) → map (λ (e : ℕ × List Cell). e.0) ps ≡ map (λ (e : ℕ × List Cell). e.0) qs → (q : ℕ) (cells : List Cell) → find nat_cmp q ps ≡ Some cells → (ds : List Cell) × (find nat_cmp q qs ≡ Some ds)
+find_some : (ps qs : List (ℕ × List Cell)) → map (λ (e : ℕ × List Cell). e.0) ps ≡ map (λ (e : ℕ × List Cell). e.0) qs → (q : ℕ) (cells : List Cell) → find nat_cmp q ps ≡ Some cells
+    → (ds : List Cell) × (find nat_cmp q qs ≡ Some ds)
 find_some [] qs e q cells is = cc
 find_some (x ∷ ps) [] e q cells is = cc
 find_some (x ∷ ps) (y ∷ qs) e q cells is =
@@ -114,13 +116,15 @@ find_some (x ∷ ps) (y ∷ qs) e q cells is =
     let tail : map (λ (e : ℕ × List Cell). e.0) ps ≡ map (λ (e : ℕ × List Cell). e.0) qs = cc in
     by (eq_by_cmp nat_cmp q x.0) (eq_by_cmp nat_cmp q y.0) (ap (eq_by_cmp nat_cmp q) head) is (λ k. find_some ps qs tail q cells k)
   where
-    by : (b c : Bool) → b ≡ c → cond b (Some x.1) (find nat_cmp q ps) ≡ Some cells → (find nat_cmp q ps ≡ Some cells → (ds : List Cell) × (find nat_cmp q qs ≡ Some ds)) → (ds : List Cell) × (cond c (Some y.1) (find nat_cmp q qs) ≡ Some ds)
+    by : (b c : Bool) → b ≡ c → cond b (Some x.1) (find nat_cmp q ps) ≡ Some cells → (find nat_cmp q ps ≡ Some cells → (ds : List Cell) × (find nat_cmp q qs ≡ Some ds))
+        → (ds : List Cell) × (cond c (Some y.1) (find nat_cmp q qs) ≡ Some ds)
     by true true e k rest = (y.1, refl)
     by true false e k rest = cc
     by false true e k rest = cc
     by false false e k rest = rest k
 
-pub cell_there : (a b : Memory) → IsPaged b → map (λ (e : ℕ × List Cell). e.0) a.pages ≡ map (λ (e : ℕ × List Cell). e.0) b.pages → (w : ℕ) (c : Cell) → cell_at a w ≡ Some c → (d : Cell) × (cell_at b w ≡ Some d)
+pub cell_there : (a b : Memory) → IsPaged b → map (λ (e : ℕ × List Cell). e.0) a.pages ≡ map (λ (e : ℕ × List Cell). e.0) b.pages → (w : ℕ) (c : Cell) → cell_at a w ≡ Some c
+    → (d : Cell) × (cell_at b w ≡ Some d)
 cell_there a b h keys w c at =
     let page = page_of_cell a w c at in
     let other = find_some a.pages b.pages keys (page_of w) page.0 page.1 in
@@ -146,12 +150,14 @@ module _ (i : Image) (kept : List Segment) (ks : Keeps i kept) where
   pub cell_shared : (w : ℕ) (d : Cell) → cell_at i.memory w ≡ Some d → is_kept kept w ≡ false → IsShared i kept d.word
   cell_shared w d at out =
       let facts : AllByRecursion (Derived i kept) (hand_out kept (exactly d.word) (leak.Cell w (exactly d.word))) =
-          subst (λ b. AllByRecursion (Derived i kept) (if b then HasForm w (first_form (is_fixed i w) d.word) ∷ [] else hand_out kept (exactly d.word) (leak.Cell w (exactly d.word)))) out (own_facts w d at) in
+      subst (λ b. AllByRecursion (Derived i kept) (if b then HasForm w (first_form (is_fixed i w) d.word) ∷ [] else hand_out kept (exactly d.word) (leak.Cell w (exactly d.word)))) out
+      (own_facts w d at) in
       public_shared i kept (exactly d.word) d.word (handed_out i kept ks (exactly d.word) (leak.Cell w (exactly d.word)) facts) (holds_exactly i kept d.word)
 
   pub cell_held : (w : ℕ) (d : Cell) → cell_at i.memory w ≡ Some d → is_kept kept w ≡ true → Derived i kept (HasForm w (first_form (is_fixed i w) d.word))
   cell_held w d at is =
-      (subst (λ b. AllByRecursion (Derived i kept) (if b then HasForm w (first_form (is_fixed i w) d.word) ∷ [] else hand_out kept (exactly d.word) (leak.Cell w (exactly d.word)))) is (own_facts w d at)).0
+      (subst (λ b. AllByRecursion (Derived i kept) (if b then HasForm w (first_form (is_fixed i w) d.word) ∷ [] else hand_out kept (exactly d.word) (leak.Cell w (exactly d.word)))) is
+      (own_facts w d at)).0
 
 -- 5. The pointers of a variant.
 
@@ -214,7 +220,8 @@ module _ (i j : Image) (kept : List Segment) (img : IsImage i) (jmg : IsImage j)
         };
       }
     where
-      both : (ws : List Word) → AllByRecursion (λ (w : Word). AllByRecursion Spares (pointers_in w)) ws → AllByRecursion (λ (w : Word). AllByRecursion User (pointers_in w)) ws → AllByRecursion (CleanWord i) ws
+      both : (ws : List Word) → AllByRecursion (λ (w : Word). AllByRecursion Spares (pointers_in w)) ws → AllByRecursion (λ (w : Word). AllByRecursion User (pointers_in w)) ws
+          → AllByRecursion (CleanWord i) ws
       both [] h u = tt
       both (w ∷ ws) h u = (clean_word w h.0 u.0, both ws h.1 u.1)
 
@@ -224,7 +231,8 @@ module _ (i j : Image) (kept : List Segment) (img : IsImage i) (jmg : IsImage j)
   -- numbers are of one slot each
   one_slot : (s x : Slot) → Contains i.slots s → Contains i.slots x → x.number ≡ s.number → x ≡ s
   one_slot s x c d e =
-      let found : AllByRecursion (λ (y : Slot). slot_at (start i).core y.number ≡ Some y) i.slots = subst (AllByRecursion (λ (y : Slot). slot_at (start i).core y.number ≡ Some y)) (start_slots i) (slots_found (start i).core (start_formed i img.rising img.fresh).rising) in
+      let found : AllByRecursion (λ (y : Slot). slot_at (start i).core y.number ≡ Some y) i.slots = subst (AllByRecursion (λ (y : Slot). slot_at (start i).core y.number ≡ Some y))
+      (start_slots i) (slots_found (start i).core (start_formed i img.rising img.fresh).rising) in
       let a = each_contained (λ (y : Slot). slot_at (start i).core y.number ≡ Some y) i.slots s found c in
       let b = each_contained (λ (y : Slot). slot_at (start i).core y.number ≡ Some y) i.slots x found d in
       let two : ◌≡◌ {A = Option Slot} (Some x) (Some s) = sym b ∙ ap (slot_at (start i).core) e ∙ a in
@@ -240,7 +248,8 @@ module _ (i j : Image) (kept : List Segment) (img : IsImage i) (jmg : IsImage j)
       by x d true at = ap (is_kernel_slot kept) (one_slot s x c d (eqb-true x.number s.number at)) ∙ e
       by x d false at = refl
 
-  caller_begins : (s u : Slot) → Contains i.slots s → Contains j.slots u → identity_of u ≡ identity_of s → s.state ≡ Running → u.state ≡ Running → is_kernel_slot kept s ≡ false → IsAnyCaller i kept u → RunningOk i kept u
+  caller_begins : (s u : Slot) → Contains i.slots s → Contains j.slots u → identity_of u ≡ identity_of s → s.state ≡ Running → u.state ≡ Running → is_kernel_slot kept s ≡ false
+      → IsAnyCaller i kept u → RunningOk i kept u
   unfolding form_in register
   caller_begins s u c d same on run k h =
       let among = running_in j u d run in
@@ -260,7 +269,8 @@ module _ (i j : Image) (kept : List Segment) (img : IsImage i) (jmg : IsImage j)
           origin = and_left (is_kernel i kept u.number) (serves_some i u.number) none;
           long = refl;
           clean = record { user = user; spares = (live_slot j Spares spared u among).0 };
-          registers = λ r ready. one t r (cases_lt r 16) fresh.registers (each_or (λ (w : Word). Fits i kept Any w) u.regs r (Int 0) (fits u.regs h.registers (live_registers j Spares spared u among)) (fits_any_int i kept 0));
+          registers = λ r ready. one t r (cases_lt r 16) fresh.registers
+              (each_or (λ (w : Word). Fits i kept Any w) u.regs r (Int 0) (fits u.regs h.registers (live_registers j Spares spared u among)) (fits_any_int i kept 0));
           pending = subst (AllByRecursion (λ (p : Pending). Fits i kept (form_in (anyone t) p.reg) p.word)) (sym fresh.pending) tt;
         };
       }
@@ -269,7 +279,8 @@ module _ (i j : Image) (kept : List Segment) (img : IsImage i) (jmg : IsImage j)
       fits [] h p = tt
       fits (w ∷ ws) h p = (record { holds = h.0; clean = clean_word w p.0 (open_users w h.0.open_word) }, fits ws h.1 p.1)
 
-      one : (t : Thread) (r : ℕ) → (r < 16) ⊎ (16 ≤ r) → length u.regs ≡ 16 → Fits i kept Any (slice_index_or u.regs r (Int 0)) → Fits i kept (slice_index_or (replicate 16 Any) r zero_form) (slice_index_or u.regs r (Int 0))
+      one : (t : Thread) (r : ℕ) → (r < 16) ⊎ (16 ≤ r) → length u.regs ≡ 16 → Fits i kept Any (slice_index_or u.regs r (Int 0))
+          → Fits i kept (slice_index_or (replicate 16 Any) r zero_form) (slice_index_or u.regs r (Int 0))
       one t r (inl lt) long f = subst (λ x. Fits i kept x (slice_index_or u.regs r (Int 0))) (sym (any_register t r lt)) f
       one t r (inr le) long f =
           subst (λ x. Fits i kept x (slice_index_or u.regs r (Int 0))) (sym (get_or_past (replicate 16 Any) r zero_form (omega arith)))
@@ -292,7 +303,8 @@ module _ (i j : Image) (kept : List Segment) (img : IsImage i) (jmg : IsImage j)
       by Taken e b = absurd b
       by (Halted c) e b = tt
 
-  rows_begin : (xs ys : List Slot) → AllZip (IsVariantSlot i kept) xs ys → AllByRecursion (Contains i.slots) xs → AllByRecursion (Contains j.slots) ys → AllByRecursion (RowOk i kept) (map (λ (s : Slot). record { slot = s; queue = [] }) ys)
+  rows_begin : (xs ys : List Slot) → AllZip (IsVariantSlot i kept) xs ys → AllByRecursion (Contains i.slots) xs → AllByRecursion (Contains j.slots) ys
+      → AllByRecursion (RowOk i kept) (map (λ (s : Slot). record { slot = s; queue = [] }) ys)
   rows_begin [] [] z h k = tt
   rows_begin [] (y ∷ ys) z h k = absurd z
   rows_begin (x ∷ xs) [] z h k = absurd z
@@ -341,7 +353,8 @@ module _ (i j : Image) (kept : List Segment) (img : IsImage i) (jmg : IsImage j)
           let st : stays i kept w ≡ true = or_left (is_kept kept w) (is_fixed i w) is in
           let same : was.0 ≡ c = same_cell w c was.0 at was.1 st in
           subst (λ z. WordOkAs i kept z w c.word) (sym is)
-          (subst (λ (x : Cell). HeldIn i kept w x.word) same (record { form = first_form (is_fixed i w) was.0.word; derived = cell_held i kept ks w was.0 was.1 is; fits = first_fits (is_fixed i w) was.0.word (clean_same st) }))
+          (subst (λ (x : Cell). HeldIn i kept w x.word) same
+          (record { form = first_form (is_fixed i w) was.0.word; derived = cell_held i kept ks w was.0 was.1 is; fits = first_fits (is_fixed i w) was.0.word (clean_same st) }))
       by false true is fx =
           let st : stays i kept w ≡ true = or_right (is_kept kept w) (is_fixed i w) fx in
           let same : was.0 ≡ c = same_cell w c was.0 at was.1 st in

@@ -94,7 +94,8 @@ module _ (i : Image) (kept : List Segment) (ks : Keeps i kept) (core : Core) (m 
     unkept : IfSome f (λ (x : Touch). is_kept kept x.addr ≡ false) → IfSome t (λ (x : Touch). is_kept kept x.addr ≡ false) → UsesOk f t
 
   uses_kept : (u : Turned) (f t : Option Touch) → u.step.fetched ≡ f → u.step.touched ≡ t → UsesOk f t → AllByRecursion (KeptByCode i kept u) (touches u.step)
-  uses_kept u f t fe te ok = subst (λ (y : Option Touch). AllByRecursion (KeptByCode i kept u) (option_to_list y ++ option_to_list u.step.touched)) (sym fe) (subst (λ (y : Option Touch). AllByRecursion (KeptByCode i kept u) (option_to_list f ++ option_to_list y)) (sym te) (by f t fe ok))
+  uses_kept u f t fe te ok = subst (λ (y : Option Touch). AllByRecursion (KeptByCode i kept u) (option_to_list y ++ option_to_list u.step.touched)) (sym fe)
+      (subst (λ (y : Option Touch). AllByRecursion (KeptByCode i kept u) (option_to_list f ++ option_to_list y)) (sym te) (by f t fe ok))
     where
       coded : (x : Touch) → u.step.fetched ≡ Some x → IsCode i kept x.addr → (y : Touch) → KeptByCode i kept u y
       coded x e c y = λ is. (x, e, c)
@@ -108,14 +109,16 @@ module _ (i : Image) (kept : List Segment) (ks : Keeps i kept) (core : Core) (m 
       both (Some x) None h = (h x, tt)
       both (Some x) (Some y) h = (h x, (h y, tt))
 
-      none : (f t : Option Touch) → IfSome f (λ (x : Touch). is_kept kept x.addr ≡ false) → IfSome t (λ (x : Touch). is_kept kept x.addr ≡ false) → AllByRecursion (KeptByCode i kept u) (option_to_list f ++ option_to_list t)
+      none : (f t : Option Touch) → IfSome f (λ (x : Touch). is_kept kept x.addr ≡ false) → IfSome t (λ (x : Touch). is_kept kept x.addr ≡ false)
+          → AllByRecursion (KeptByCode i kept u) (option_to_list f ++ option_to_list t)
       none None None h j = tt
       none None (Some y) h j = (plainly y j, tt)
       none (Some x) None h j = (plainly x h, tt)
       none (Some x) (Some y) h j = (plainly x h, (plainly y j, tt))
 
       by : (f t : Option Touch) → u.step.fetched ≡ f → UsesOk f t → AllByRecursion (KeptByCode i kept u) (option_to_list f ++ option_to_list t)
-      by f t e (nothing fn tn) = subst (λ (y : Option Touch). AllByRecursion (KeptByCode i kept u) (option_to_list y ++ option_to_list t)) (sym fn) (subst (λ (y : Option Touch). AllByRecursion (KeptByCode i kept u) (option_to_list y)) (sym tn) tt)
+      by f t e (nothing fn tn) = subst (λ (y : Option Touch). AllByRecursion (KeptByCode i kept u) (option_to_list y ++ option_to_list t)) (sym fn)
+          (subst (λ (y : Option Touch). AllByRecursion (KeptByCode i kept u) (option_to_list y)) (sym tn) tt)
       by f t e (by_code x is c) = both f t (coded x (e ∙ is) c)
       by f t e (unkept h j) = none f t h j
 
@@ -142,7 +145,12 @@ module _ (i : Image) (kept : List Segment) (ks : Keeps i kept) (core : Core) (m 
 
     blocked_ok : (mid : Core) → RowsOk i kept mid → (f : Touch) (to : Option Touch) (us : List Use) → UsesOk (Some f) to → TurnOk (blocked mid m s f to us)
     unfolding blocked
-    blocked_ok mid rows f to us uses = record { rows = put_slot_ok i kept mid (stood s Running) rows stood_running; cells = k.cells; accesses = uses_kept (blocked mid m s f to us) (Some f) to refl refl uses }
+    blocked_ok mid rows f to us uses = record {
+      rows = put_slot_ok i kept mid (stood s Running) rows stood_running;
+      cells = k.cells;
+      accesses = uses_kept (blocked mid m s f to us)
+          (Some f) to refl refl uses;
+    }
 
     -- 2. Faults.
 
@@ -175,7 +183,8 @@ module _ (i : Image) (kept : List Segment) (ks : Keeps i kept) (core : Core) (m 
           },
         )
 
-    faulted_ok : (c : Cause) (a v : Word) (fa fv : Form) (f to : Option Touch) (us : List Use) → Fits i kept fa a → Fits i kept fv v → (Free i kept t → Public i kept fa) → (Free i kept t → Public i kept fv)
+    faulted_ok : (c : Cause) (a v : Word) (fa fv : Form) (f to : Option Touch) (us : List Use) → Fits i kept fa a → Fits i kept fv v → (Free i kept t → Public i kept fa)
+        → (Free i kept t → Public i kept fv)
         → Follows i kept t (outcome.Faults fa fv) → UsesOk f to → TurnOk (faulted core m s c a v f to us)
     unfolding faulted
     faulted_ok c a v fa fv f to us ha hv pa pv why uses = record {
@@ -185,7 +194,8 @@ module _ (i : Image) (kept : List Segment) (ks : Keeps i kept) (core : Core) (m 
     }
 
     early_ok : (c : Cause) (f : Option Touch) (us : List Use) → Follows i kept t kernel.early_fault → UsesOk f None → TurnOk (faulted core m s c (Int 0) (Int 0) f None us)
-    early_ok c f us why uses = faulted_ok c (Int 0) (Int 0) zero_form zero_form f None us (fits_number i kept 0) (fits_number i kept 0) (λ x. public_number i kept 0) (λ x. public_number i kept 0) why uses
+    early_ok c f us why uses = faulted_ok c (Int 0) (Int 0) zero_form zero_form f None us (fits_number i kept 0) (fits_number i kept 0) (λ x. public_number i kept 0)
+        (λ x. public_number i kept 0) why uses
 
     -- 3. An instruction.
 
@@ -205,7 +215,8 @@ module _ (i : Image) (kept : List Segment) (ks : Keeps i kept) (core : Core) (m 
     fits_b None imm h = fits_number i kept _
     fits_b (Some x) imm h = reg i kept core m k s t r.acts x h
 
-    ended_ok : (x : Instr) (f : Touch) (to : Option Touch) (us : List Use) (e : Effect) → ReadyFor s x → EffectOk i kept core m k s t r.acts x e → UsesOk (Some f) to → TurnOk (ended core m s x f to us e)
+    ended_ok : (x : Instr) (f : Touch) (to : Option Touch) (us : List Use) (e : Effect) → ReadyFor s x → EffectOk i kept core m k s t r.acts x e → UsesOk (Some f) to
+        → TurnOk (ended core m s x f to us e)
     unfolding ended addr_operand value_operand kernel.fault
     ended_ok x f to us (Fault c) h ok uses =
         faulted_ok c (addr_operand x s) (value_operand x s) (kernel.operand_a t (field_a x)) (kernel.operand_b t (field_b x) (field_imm x)) (Some f) to us
@@ -220,7 +231,8 @@ module _ (i : Image) (kept : List Segment) (ks : Keeps i kept) (core : Core) (m 
 
     -- 4. Accesses.
 
-    reach_free : (w : Word) (by : ℤ) (kind : Kind) (pre : Pre) (x : Result Touch Cause) → IsWord w → IsShared i kept w → check_result w by kind ≡ x → IfSome (touch_of (reaching x pre)) (λ (y : Touch). is_kept kept y.addr ≡ false)
+    reach_free : (w : Word) (by : ℤ) (kind : Kind) (pre : Pre) (x : Result Touch Cause) → IsWord w → IsShared i kept w → check_result w by kind ≡ x
+        → IfSome (touch_of (reaching x pre)) (λ (y : Touch). is_kept kept y.addr ≡ false)
     reach_free w by kind pre (Err c) h sh e = tt
     reach_free w by kind pre (Ok to) h sh e =
         let th = through w by kind to h e in
@@ -241,8 +253,10 @@ module _ (i : Image) (kept : List Segment) (ks : Keeps i kept) (core : Core) (m 
         reach_free (register s ra) imm (load_kind post) pre (check_result (register s ra) imm (load_kind post)) (word i kept core m k s t r.acts ra) (shared_reg free ra h.a) refl
     touch_free free (instr.St ra rb pre post imm) h =
         reach_free (register s ra) imm Store pre (check_result (register s ra) imm Store) (word i kept core m k s t r.acts ra) (shared_reg free ra h.a) refl
-    touch_free free (instr.Map rd ra) h = page_free (λ (y : Touch). is_kept kept y.addr ≡ false) (Ask.MapPage (word_bits (register s ra))) (is_privileged s.ip.perm) (nat_lt (word_bits (register s ra)) (2 ^ 42)) refl
-    touch_free free (instr.Unmap rd ra) h = page_free (λ (y : Touch). is_kept kept y.addr ≡ false) (Ask.UnmapPage (word_bits (register s ra))) (is_privileged s.ip.perm) (nat_lt (word_bits (register s ra)) (2 ^ 42)) refl
+    touch_free free (instr.Map rd ra) h = page_free (λ (y : Touch). is_kept kept y.addr ≡ false) (Ask.MapPage (word_bits (register s ra))) (is_privileged s.ip.perm)
+        (nat_lt (word_bits (register s ra)) (2 ^ 42)) refl
+    touch_free free (instr.Unmap rd ra) h = page_free (λ (y : Touch). is_kept kept y.addr ≡ false) (Ask.UnmapPage (word_bits (register s ra))) (is_privileged s.ip.perm)
+        (nat_lt (word_bits (register s ra)) (2 ^ 42)) refl
     touch_free free _ h = tt
 
     fetch_free : (f : Touch) → Free i kept t → check_result (Ptr s.ip) (pos 0) Fetch ≡ Ok f → is_kept kept f.addr ≡ false
@@ -262,7 +276,8 @@ module _ (i : Image) (kept : List Segment) (ks : Keeps i kept) (core : Core) (m 
       fetches = record { on = r.acts.matches.past ∙ on; access = f; checked = ap (λ (p : Pointer). check_result (Ptr p) (pos 0) Fetch) r.acts.matches.ip ∙ e; at = refl };
     }
 
-    uses_of : (f : Touch) (to : Option Touch) → s.past ≡ false → check_result (Ptr s.ip) (pos 0) Fetch ≡ Ok f → (Free i kept t → IfSome to (λ (y : Touch). is_kept kept y.addr ≡ false)) → UsesOk (Some f) to
+    uses_of : (f : Touch) (to : Option Touch) → s.past ≡ false → check_result (Ptr s.ip) (pos 0) Fetch ≡ Ok f → (Free i kept t → IfSome to (λ (y : Touch). is_kept kept y.addr ≡ false))
+        → UsesOk (Some f) to
     uses_of f to on e touched = by r.kind
       where
         by : Free i kept t ⊎ Bound i kept t → UsesOk (Some f) to
@@ -279,7 +294,8 @@ module _ (i : Image) (kept : List Segment) (ks : Keeps i kept) (core : Core) (m 
     unfolding kernel.outcomes
     aims b on =
         subst (λ (p : Pointer). Alls (kernel.aimed i kept t (check_result (Ptr p) (pos 0) Fetch))) r.acts.matches.ip
-        (subst (λ y. Alls (if y then kernel.early_fault ∷ [] else kernel.aimed i kept t (check_result (Ptr t.ip) (pos 0) Fetch))) (r.acts.matches.past ∙ on) (all_follow i kept ks t r.acts.matches.long b))
+        (subst (λ y. Alls (if y then kernel.early_fault ∷ [] else kernel.aimed i kept t (check_result (Ptr t.ip) (pos 0) Fetch))) (r.acts.matches.past ∙ on)
+        (all_follow i kept ks t r.acts.matches.long b))
 
     past_follows : s.past ≡ true → Follows i kept t kernel.early_fault
     unfolding kernel.outcomes
@@ -287,7 +303,9 @@ module _ (i : Image) (kept : List Segment) (ks : Keeps i kept) (core : Core) (m 
       where
         by : Free i kept t ⊎ Bound i kept t → Follows i kept t kernel.early_fault
         by (inl free) = inl free
-        by (inr b) = (subst (λ y. Alls (if y then kernel.early_fault ∷ [] else kernel.aimed i kept t (check_result (Ptr t.ip) (pos 0) Fetch))) (r.acts.matches.past ∙ e) (all_follow i kept ks t r.acts.matches.long b)).0
+        by (inr b) =
+            (subst (λ y. Alls (if y then kernel.early_fault ∷ [] else kernel.aimed i kept t (check_result (Ptr t.ip) (pos 0) Fetch))) (r.acts.matches.past ∙ e)
+            (all_follow i kept ks t r.acts.matches.long b)).0
 
     either : (Bound i kept t → Follows i kept t kernel.early_fault) → Follows i kept t kernel.early_fault
     either f = by r.kind
@@ -311,7 +329,8 @@ module _ (i : Image) (kept : List Segment) (ks : Keeps i kept) (core : Core) (m 
         let there = k.cells.there f.addr c at in
         by (is_fixed i f.addr) there.0 refl there.1 (fetches b on f e (Some there.0) there.1)
       where
-        by : (z : Bool) (d : Cell) → is_fixed i f.addr ≡ z → cell_at i.memory f.addr ≡ Some d → Alls (if z then kernel.decoded i kept t (instr_in d.word) else outcome.Leaks (Code f.addr) ∷ []) → Alls (kernel.decoded i kept t (instr_in c.word))
+        by : (z : Bool) (d : Cell) → is_fixed i f.addr ≡ z → cell_at i.memory f.addr ≡ Some d
+            → Alls (if z then kernel.decoded i kept t (instr_in d.word) else outcome.Leaks (Code f.addr) ∷ []) → Alls (kernel.decoded i kept t (instr_in c.word))
         by false d fx is g = absurd g.0
         by true d fx is g =
             let now = k.cells.fixed f.addr d is fx in
@@ -342,7 +361,8 @@ module _ (i : Image) (kept : List Segment) (ks : Keeps i kept) (core : Core) (m 
           accesses = uses_kept (blocked core m (delivered s) f None us) (Some f) None refl refl uses;
         }
 
-    executed_ok : (f : Touch) (u : Use) (x : Instr) → s.past ≡ false → check_result (Ptr s.ip) (pos 0) Fetch ≡ Ok f → IsInstr x → ReadyFor s x → Alls (kernel.outcomes_of i kept t x) → TurnOk (executed core m s f u x)
+    executed_ok : (f : Touch) (u : Use) (x : Instr) → s.past ≡ false → check_result (Ptr s.ip) (pos 0) Fetch ≡ Ok f → IsInstr x → ReadyFor s x → Alls (kernel.outcomes_of i kept t x)
+        → TurnOk (executed core m s f u x)
     unfolding executed
     executed_ok f u x on e h rd all =
         ended_ok x f (touch_of (ask x s)) (u ∷ asked_use m (ask x s)) (effect core.split x s (reply core m s.number (ask x s))) rd
@@ -356,7 +376,8 @@ module _ (i : Image) (kept : List Segment) (ks : Keeps i kept) (core : Core) (m 
         by true g = lacking_ok f (u ∷ []) (uses_of f None on e (λ free. tt))
         by false g = executed_ok f u x on e h (ready x h g) all
 
-    decoded_ok : (f : Touch) (u : Use) (c : Cell) (o : Option Instr) → s.past ≡ false → check_result (Ptr s.ip) (pos 0) Fetch ≡ Ok f → cell_at m f.addr ≡ Some c → instr_in c.word ≡ o → TurnOk (decoded core m s f u o)
+    decoded_ok : (f : Touch) (u : Use) (c : Cell) (o : Option Instr) → s.past ≡ false → check_result (Ptr s.ip) (pos 0) Fetch ≡ Ok f → cell_at m f.addr ≡ Some c → instr_in c.word ≡ o
+        → TurnOk (decoded core m s f u o)
     decoded_ok f u c None on e at is =
         early_ok Illegal (Some f) (u ∷ []) (either (λ b. (subst (λ y. Alls (kernel.decoded i kept t y)) is (decodes b on f e c at)).0)) (uses_of f None on e (λ free. tt))
     decoded_ok f u c (Some x) on e at is = issued_ok f u x on e (spelled_instr c.word x is) (all r.kind)
@@ -391,7 +412,16 @@ module _ (i : Image) (kept : List Segment) (ks : Keeps i kept) (core : Core) (m 
   started_by s at whole on h = by (up_cases i kept h.thread h.up)
     where
       by : Free i kept h.thread ⊎ Bound i kept h.thread → TurnOk (started core m s)
-      by (inr b) = started_ok s h.thread (record { acts = record { at = at; came = h.came; matches = h.matches; whole = thread_whole i kept ks h.thread b.derived }; up = h.up; slot = whole; on = on; kind = inr b; freely = λ free x w. let one = b.not_free in let two = free_is i kept h.thread free in absurd (cc) })
+      by (inr b) = started_ok s h.thread
+          (record {
+            acts = record { at = at; came = h.came; matches = h.matches; whole = thread_whole i kept ks h.thread b.derived };
+            up = h.up;
+            slot = whole;
+            on = on;
+            kind = inr b;
+            freely =
+                λ free x w. let one = b.not_free in let two = free_is i kept h.thread free in absurd (cc);
+          })
       by (inl free) =
           let ip : h.thread.ip ≡ s.ip = h.matches.ip in
           let user : runs_privileged h.thread.ip.perm ≡ false = ap (λ (p : Pointer). runs_privileged p.perm) ip ∙ h.matches.clean.user in

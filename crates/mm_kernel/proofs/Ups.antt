@@ -168,13 +168,15 @@ module _ (i : Image) (kept : List Segment) (ks : Keeps i kept) where
         let parts = each_split (Derived i kept) first (flat_map (register_shown kept t) (range_with_len 0 16)) h in
         let regs = each_unflat (Derived i kept) (register_shown kept t) (range_with_len 0 16) parts.1 in
         and_from (not (meets kept t.ip)) (list_all (is_open_form kept) t.forms) (not_from_false (meets kept t.ip) (out (meets kept t.ip) refl parts.0))
-        (all_from (is_open_form kept) t.forms zero_form (λ r lt. shown_open r (is_open_form kept (form_in t r)) refl (each_register (λ (x : ℕ). AllByRecursion (Derived i kept) (register_shown kept t x)) regs r (omega arith))))
+        (all_from (is_open_form kept) t.forms zero_form
+        (λ r lt. shown_open r (is_open_form kept (form_in t r)) refl (each_register (λ (x : ℕ). AllByRecursion (Derived i kept) (register_shown kept t x)) regs r (omega arith))))
       where
         out : (b : Bool) → meets kept t.ip ≡ b → AllByRecursion (Derived i kept) (if b then HasLeak (FaultPointer t.ip.addr) ∷ [] else []) → meets kept t.ip ≡ false
         out true e k = absurd (ks.no_leak (FaultPointer t.ip.addr) k.0)
         out false e k = e
 
-        shown_open : (r : ℕ) (b : Bool) → is_open_form kept (form_in t r) ≡ b → AllByRecursion (Derived i kept) (if b then [] else HasLeak (Fault t.ip.addr r (form_in t r)) ∷ []) → is_open_form kept (form_in t r) ≡ true
+        shown_open : (r : ℕ) (b : Bool) → is_open_form kept (form_in t r) ≡ b → AllByRecursion (Derived i kept) (if b then [] else HasLeak (Fault t.ip.addr r (form_in t r)) ∷ [])
+            → is_open_form kept (form_in t r) ≡ true
         shown_open r true e k = e
         shown_open r false e k = absurd (ks.no_leak (Fault t.ip.addr r (form_in t r)) k.0)
 
@@ -186,7 +188,8 @@ module _ (i : Image) (kept : List Segment) (ks : Keeps i kept) where
     -- each outcome of a derived thread has what follows from it
     pub derived_follows : (o : Outcome) → Contains (outcomes i kept t) o → Follows i kept t o
     derived_follows (outcome.Goes next) c = facts (outcome.Goes next) c
-    derived_follows (outcome.Loads part reg next) c = λ w f held inside. each_from (Derived i kept) (take_up i kept (with_form next reg f)) (λ fact k. loads t next part reg w f bound.derived c held inside k)
+    derived_follows (outcome.Loads part reg next) c = λ w f held inside. each_from (Derived i kept) (take_up i kept (with_form next reg f))
+        (λ fact k. loads t next part reg w f bound.derived c held inside k)
     derived_follows (outcome.Stores part f) c = λ w cell at k inside. stores t part w cell f bound.derived c at k inside
     derived_follows (outcome.HandsOut form leak) c = handed form leak (facts (outcome.HandsOut form leak) c)
     derived_follows (outcome.Leaves linked) c =
@@ -195,9 +198,11 @@ module _ (i : Image) (kept : List Segment) (ks : Keeps i kept) where
         ((λ r lt. handed (form_in linked r) (Jump linked.ip.addr r (form_in linked r)) (each_register (λ (x : ℕ). AllByRecursion (Derived i kept) (register_left kept linked x)) regs r lt)), parts.1)
     derived_follows (outcome.Leaks leak) c = ks.no_leak leak (facts (outcome.Leaks leak) c).0
     derived_follows (outcome.Faults address value) c = inr (handles t.handler address value (facts (outcome.Faults address value) c))
-    derived_follows (outcome.TakesEvent reg next) c = λ h e from held. each_from (Derived i kept) (take_up i kept (with_event next reg e.ip e.address e.value)) (λ fact k. takes t next h reg e bound.derived from c held k)
+    derived_follows (outcome.TakesEvent reg next) c = λ h e from held. each_from (Derived i kept) (take_up i kept (with_event next reg e.ip e.address e.value))
+        (λ fact k. takes t next h reg e bound.derived from c held k)
     derived_follows (outcome.Resumes how) c = λ h u next from held among. each_from (Derived i kept) (take_up i kept next) (λ fact k. resumes t u next h how bound.derived from c held among k)
-    derived_follows (outcome.ReadsServed reg from next) c = λ h u own held. each_from (Derived i kept) (take_up i kept (with_form next reg (form_in u from))) (λ fact k. reads_served t u next h reg from bound.derived own c held k)
+    derived_follows (outcome.ReadsServed reg from next) c = λ h u own held. each_from (Derived i kept) (take_up i kept (with_form next reg (form_in u from)))
+        (λ fact k. reads_served t u next h reg from bound.derived own c held k)
     derived_follows (outcome.WritesServed reg f) c = λ h u from held. writes_served t u h reg f bound.derived from c held
 
     pub all_follow : AllByRecursion (Follows i kept t) (outcomes i kept t)

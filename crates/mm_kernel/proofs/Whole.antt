@@ -285,7 +285,8 @@ module _ (kept : List Segment) where
   leaks_only : (t : Thread) → AllByRecursion SaneFact (shown kept t)
   leaks_only t =
       each_join SaneFact (if meets kept t.ip then HasLeak (FaultPointer t.ip.addr) ∷ [] else []) (flat_map (register_shown kept t) (range_with_len 0 16)) (first (meets kept t.ip))
-      (each_flat SaneFact (register_shown kept t) (range_with_len 0 16) (each_from (λ (r : ℕ). AllByRecursion SaneFact (register_shown kept t r)) (range_with_len 0 16) (λ r c. one r (is_open_form kept (form_in t r)))))
+      (each_flat SaneFact (register_shown kept t) (range_with_len 0 16)
+      (each_from (λ (r : ℕ). AllByRecursion SaneFact (register_shown kept t r)) (range_with_len 0 16) (λ r c. one r (is_open_form kept (form_in t r)))))
     where
       first : (b : Bool) → AllByRecursion SaneFact (if b then HasLeak (FaultPointer t.ip.addr) ∷ [] else [])
       first true = (tt, tt)
@@ -304,7 +305,9 @@ module _ (kept : List Segment) where
   outcome_sane i t (outcome.Goes next) h k = takes_up i next k
   outcome_sane i t (outcome.Leaves linked) h k =
       each_join SaneFact (flat_map (register_left kept linked) (range_with_len 0 16)) (loose i kept linked.origin)
-      (each_flat SaneFact (register_left kept linked) (range_with_len 0 16) (each_from (λ (r : ℕ). AllByRecursion SaneFact (register_left kept linked r)) (range_with_len 0 16) (λ r c. hands_out (form_in linked r) (Jump linked.ip.addr r (form_in linked r)) (sane_form linked k r))))
+      (each_flat SaneFact (register_left kept linked) (range_with_len 0 16)
+      (each_from (λ (r : ℕ). AllByRecursion SaneFact (register_left kept linked r)) (range_with_len 0 16)
+      (λ r c. hands_out (form_in linked r) (Jump linked.ip.addr r (form_in linked r)) (sane_form linked k r))))
       (loose_sane i linked.origin)
   outcome_sane i t (outcome.HandsOut f leak) h k = hands_out f leak k
   outcome_sane i t (outcome.Leaks leak) h k = (tt, tt)
