@@ -1,5 +1,5 @@
 -- What each instruction does is as it must be, where its outcomes have what follows from them.
-use Rattle.std.proofs.Common.{◌≡◌, ℕ, ◌+◌, ◌%◌, ◌^◌, ◌<◌, Bool, true, false, ◌&&◌, ◌||◌, ◌==◌, nat_lt, if◌then◌else◌, ℤ, List, [], ◌∷◌, ◌++◌, length, Option, Some, None, Result, Ok, Err, refl, sym, ap, ◌∙◌, subst, arith}
+use Rattle.std.proofs.Common.{◌≡◌, ℕ, ◌+◌, ◌%◌, ◌^◌, ◌<◌, Bool, true, false, ◌||◌, nat_lt, if◌then◌else◌, List, [], ◌∷◌, length, Option, Some, None, refl, arith}
 use Rattle.std.specs.Prelude.{IfSome}
 use Rattle.std.specs.Int.{w64, cast_unsigned, cast_signed}
 use Rattle.std.specs.List.{AllByRecursion, flat_map, list_any}
@@ -7,10 +7,9 @@ use Rattle.std.proofs.lemmas.Bool.{or_parts}
 use Rattle.mm_word.specs.declared.perm.Perm.{Perm}
 use Rattle.mm_word.specs.declared.perm.Perm.TheVariants.{Ro, Rw, Xu, Xp, Eu, Ep, Key}
 use Rattle.mm_word.specs.declared.cause.Cause.TheVariants as cause
-use Rattle.mm_word.specs.declared.word.Word.{Word}
-use Rattle.mm_word.specs.declared.word.Word.TheVariants.{Int, Ptr}
-use Rattle.mm_word.specs.Pointer.{Pointer, lea_result, leab_result, subseg_result, setptr_result, next_result}
-use Rattle.mm_word.specs.Word.{IsWord, word_bits}
+use Rattle.mm_word.specs.declared.word.Word.TheVariants.{Int}
+use Rattle.mm_word.specs.Pointer.{lea_result, leab_result, subseg_result, setptr_result}
+use Rattle.mm_word.specs.Word.{word_bits}
 use Rattle.mm_isa.specs.declared.instr.AluOp.TheVariants.{Add}
 use Rattle.mm_isa.specs.declared.instr.Instr.{Instr}
 use Rattle.mm_isa.specs.declared.instr.Instr.TheVariants.{Halt, Nop, Ldi, Ldhi, Mov, Isptr, Eqw, Out, SelfSlot, Alu}
@@ -22,10 +21,10 @@ use Rattle.mm_isa.specs.declared.operand.Operand.TheVariants.{Rd, EvtRd, Ra, Rb}
 use Rattle.mm_isa.specs.Table.{operation_of, IsInRange, IsInstr}
 use Rattle.mm_model.specs.Memory.{Memory}
 use Rattle.mm_model.specs.Slot.{Slot, register, is_empty}
-use Rattle.mm_model.specs.State.{Core, slot_at, queue_at, output_of}
+use Rattle.mm_model.specs.State.{Core, output_of}
 use Rattle.mm_model.specs.Image.{Image, output_limit}
-use Rattle.mm_model.specs.Operands.{first, ra_in, rb_in, rd_in, field_a, field_b, field_imm, fields_d, field_empty, lacks}
-use Rattle.mm_model.specs.Ask.{ask, is_privileged, load_kind}
+use Rattle.mm_model.specs.Operands.{first, ra_in, rb_in, rd_in, field_a, field_b, fields_d, field_empty, lacks}
+use Rattle.mm_model.specs.Ask.{ask, is_privileged}
 use Rattle.mm_model.specs.Ask.Ask.{Refuse, MapPage, UnmapPage}
 use Rattle.mm_model.specs.Effect.{Effect, effect, plain, puts_out, high_and_low, maps, unmaps, sets_pointer}
 use Rattle.mm_model.specs.Effect.Reply.{Fine, Refused}

@@ -1,9 +1,8 @@
 -- The rows that narrow a permission, use memory, branch and jump.
-use Rattle.std.proofs.Common.{◌≡◌, ℕ, ◌+◌, ◌*◌, ◌/◌, ◌%◌, ◌^◌, ◌<◌, ◌≤◌, ◌⊎◌, inl, inr, Bool, true, false, ◌&&◌, ◌||◌, ◌==◌, if◌then◌else◌, eqb-true, eq-eqb, ℤ, pos, ◌+ℤ◌, ◌*ℤ◌, List, [], ◌∷◌, ◌++◌, map, length, replicate, slice_set, slice_index_or, is_some, Option, Some, None, Result, Ok, Err, refl, sym, ap, ◌∙◌, subst, arith, add-zero}
-use Rattle.std.specs.Prelude.{Contains, IfSome, option_map}
+use Rattle.std.proofs.Common.{◌≡◌, ℕ, ◌+◌, ◌/◌, ◌^◌, ◌⊎◌, inl, inr, Bool, true, false, ◌&&◌, ◌==◌, if◌then◌else◌, eqb-true, eq-eqb, ℤ, List, [], ◌∷◌, map, slice_set, Option, Some, None, Result, Ok, Err, refl, sym, ap, ◌∙◌, subst, arith, add-zero}
+use Rattle.std.specs.Prelude.{Contains, option_map}
 use Rattle.std.specs.List.{AllByRecursion}
-use Rattle.std.proofs.lemmas.Bool.{and_parts, and_from, and_right, cases_lt, false_from_ne_true, true_from_ne_false}
-use Rattle.std.proofs.lemmas.List.{get_or_past}
+use Rattle.std.proofs.lemmas.Bool.{and_parts, and_from, false_from_ne_true}
 use Rattle.mm_word.specs.declared.perm.Perm.{Perm}
 use Rattle.mm_word.specs.declared.perm.Perm.TheVariants.{Ro, Rw, Xu, Xp, Eu, Ep, Key}
 use Rattle.mm_word.specs.declared.perm.Kind.{Kind}
@@ -18,49 +17,39 @@ use Rattle.mm_word.specs.declared.word.Word.{Word}
 use Rattle.mm_word.specs.declared.word.Word.TheVariants.{Int, Ptr}
 use Rattle.mm_word.specs.declared.word.Cell.{Cell}
 use Rattle.mm_word.specs.Access.{Touch, IsGranted, check_result}
-use Rattle.mm_word.specs.Perm.{can_load, can_store, can_fetch, can_become, allows, code_of, execute_form}
-use Rattle.mm_word.specs.Pointer.{Pointer, InSegment, Covers, holds_word, enter_result, moved_to, next_result, restrict_result, IsBelow}
+use Rattle.mm_word.specs.Perm.{can_load, can_store, can_become, allows, code_of, execute_form}
+use Rattle.mm_word.specs.Pointer.{Pointer, InSegment, Covers, holds_word, enter_result, restrict_result}
 use Rattle.mm_word.specs.Word.{IsWord, IsPointerAnd, word_bits, is_pointer}
 use Rattle.mm_word.proofs.Checked.{pointer_by, kind_by, Covers-holds_word}
-use Rattle.mm_word.proofs.Results.{check_result-IsGranted, next_result-IsBelow}
+use Rattle.mm_word.proofs.Results.{check_result-IsGranted}
 use Rattle.mm_isa.specs.declared.instr.Instr.{Instr}
-use Rattle.mm_isa.specs.declared.instr.Instr.TheVariants as instr
-use Rattle.mm_model.specs.declared.slot.SlotState.TheVariants.{Running}
-use Rattle.mm_model.specs.declared.slot.Pending.{Pending}
-use Rattle.mm_model.specs.Memory.{Memory, cell_at, passes, full_after}
-use Rattle.mm_model.specs.Slot.{Slot, register, is_empty}
-use Rattle.mm_model.specs.State.{Core, slot_at}
+use Rattle.mm_model.specs.Memory.{Memory, cell_at, passes}
+use Rattle.mm_model.specs.Slot.{Slot, is_empty}
+use Rattle.mm_model.specs.State.{Core}
 use Rattle.mm_model.specs.Image.{Image}
-use Rattle.mm_model.specs.Fits.{identity_of}
 use Rattle.mm_model.specs.Ask.{load_kind, reaching}
-use Rattle.mm_model.specs.Effect.{Reply, Change, Effect, advanced, plain, sets_pointer, if_pointer, set_by, loaded, stored, branches, at_distance, jumps, links, entry_of}
+use Rattle.mm_model.specs.Effect.{Effect, plain, sets_pointer, if_pointer, set_by, loaded, stored}
 use Rattle.mm_model.specs.Effect.Reply.{Refused, Got}
-use Rattle.mm_model.specs.Effect.Effect.{Fault, Block, Deliver, Does}
 use Rattle.mm_model.specs.Turn.{slot_after, reply, reached, with_issue}
 use Rattle.mm_model.proofs.CoreRows.{each_contained, out_of_map}
-use Rattle.mm_kernel.specs.Segments.{Segment, lies_in, meets, is_inside, is_kept, is_fixed, may_write, runs_privileged, is_open, is_open_as, is_enter, is_door}
+use Rattle.mm_kernel.specs.Segments.{Segment, lies_in, meets, is_kept, is_fixed, may_write, runs_privileged, is_open, is_enter, is_door}
 use Rattle.mm_kernel.specs.declared.form.Form.{Form}
 use Rattle.mm_kernel.specs.declared.form.Form.TheVariants.{Number, Pointer as Exactly, Integer, Open, Any, Inside}
 use Rattle.mm_kernel.specs.declared.outcome.Outcome.{Outcome}
 use Rattle.mm_kernel.specs.declared.outcome.Outcome.TheVariants as outcome
 use Rattle.mm_kernel.specs.declared.thread.Thread.{Thread}
-use Rattle.mm_kernel.specs.Forms.{PointsInside, exactly, exact_bits, stored_form, zero_form}
-use Rattle.mm_kernel.specs.Threads.{form_in, with_form, stepped, going_to, handler_of, thread_through}
+use Rattle.mm_kernel.specs.Forms.{PointsInside, exactly, exact_bits, stored_form}
+use Rattle.mm_kernel.specs.Threads.{form_in, with_form, stepped}
 use Rattle.mm_kernel.specs.Operations.{choices, with_permission, permission_of, may_name}
-use Rattle.mm_kernel.specs.Facts.Fact.{HasForm, HasDoor}
-use Rattle.mm_kernel.specs.Facts.{take_up}
 use Rattle.mm_kernel.specs.Turns as kernel
-use Rattle.mm_kernel.specs.Derived.{Derived, Keeps}
-use Rattle.mm_kernel.specs.Derived.Derived.{enters}
 use Rattle.mm_kernel.specs.Variants.{IsShared}
-use Rattle.mm_kernel.proofs.Segs.{Within, within_all, below_within, outside_within, not_kept, holds_in, meets_same, inside_kept, points_within, word_in_part}
-use Rattle.mm_kernel.proofs.Values.{Clean, CleanWord, clean_below, open_outside, open_is_user, allows_loads, Holds, Fits, fits_exactly, fits_stored, fits_number, Public, public_fits, public_any, public_number, public_outside}
-use Rattle.mm_kernel.proofs.Ups.{Up, Free, free_up, Follows, each_split, each_from}
-use Rattle.mm_kernel.proofs.Anyone.{anyone, anyone_free, distance_below}
-use Rattle.mm_kernel.proofs.Slots.{Sound, sound_at, OriginOk, guards, Match, match_write, match_at, match_issue, match_anyone, origin_guards, Came, came_like, RunningOk, SlotOk}
-use Rattle.mm_kernel.proofs.Cores.{RowsOk, HeldIn, WordOk, WordOkAs, MemOk, WriteOk, CellOk, ChangeOk}
+use Rattle.mm_kernel.proofs.Segs.{Within, within_all, not_kept, meets_same, inside_kept, points_within, word_in_part}
+use Rattle.mm_kernel.proofs.Values.{Clean, CleanWord, open_outside, allows_loads, Holds, Fits, fits_exactly, fits_stored, Public, public_fits}
+use Rattle.mm_kernel.proofs.Ups.{Up, Follows, each_split}
+use Rattle.mm_kernel.proofs.Slots.{match_issue}
+use Rattle.mm_kernel.proofs.Cores.{HeldIn, WordOk, WordOkAs, CellOk}
 use Rattle.mm_kernel.proofs.Results.{exact_bits_is, Narrowed, restrict_tells, narrowed_fits, any_narrowed, permission_is, chosen, choice_becomes}
-use Rattle.mm_kernel.proofs.Rows.{WholeForm, Machine, Acts, Ready, EffectOk, sound, reg, word, next_slot, next_match, next_sound, next_free, runs_on, steps_on, writes_on, plain_ok, sets_ok}
+use Rattle.mm_kernel.proofs.Rows.{WholeForm, Machine, Acts, Ready, EffectOk, next_slot, next_match, next_sound, runs_on, steps_on, writes_on, sets_ok}
 
 -- 1. Words of pointers.
 

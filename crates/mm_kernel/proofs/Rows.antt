@@ -1,20 +1,15 @@
 -- Each row of the table of instructions: what it does, one of its thread's outcomes stands for.
-use Rattle.std.proofs.Common.{◌≡◌, ℕ, ◌+◌, ◌*◌, ◌/◌, ◌%◌, ◌^◌, ◌<◌, ◌≤◌, ◌⊎◌, inl, inr, Bool, true, false, ◌&&◌, ◌||◌, ◌==◌, nat_lt, if◌then◌else◌, eqb-true, eq-eqb, ℤ, pos, ◌+ℤ◌, ◌*ℤ◌, List, [], ◌∷◌, ◌++◌, map, length, slice_set, slice_index_or, Option, Some, None, Result, Ok, Err, refl, sym, ap, ◌∙◌, subst, arith}
-use Rattle.std.specs.Prelude.{Contains, IfSome}
-use Rattle.std.specs.Int.{w64, cast_unsigned, cast_signed}
+use Rattle.std.proofs.Common.{◌≡◌, ℕ, ◌+◌, ◌/◌, ◌%◌, ◌<◌, Bool, true, false, ◌==◌, if◌then◌else◌, eqb-true, eq-eqb, List, [], ◌∷◌, ◌++◌, slice_set, slice_index_or, Option, Some, None, Result, Ok, Err, refl, sym, ap, ◌∙◌, subst}
 use Rattle.std.specs.List.{AllByRecursion}
-use Rattle.std.proofs.lemmas.Bool.{and_parts, eqb-false}
 use Rattle.std.proofs.lemmas.List.{set-get_or}
 use Rattle.mm_word.specs.declared.perm.Perm.{Perm}
 use Rattle.mm_word.specs.declared.perm.Perm.TheVariants.{Ro, Rw, Xu, Xp, Eu, Ep, Key}
 use Rattle.mm_word.specs.declared.cause.Cause.{Cause}
-use Rattle.mm_word.specs.declared.cause.Cause.TheVariants as cause
 use Rattle.mm_word.specs.declared.word.Word.{Word}
 use Rattle.mm_word.specs.declared.word.Word.TheVariants.{Int, Ptr}
-use Rattle.mm_word.specs.declared.word.Cell.{Cell}
-use Rattle.mm_word.specs.Perm.{can_fetch, can_move, can_become, code_of, is_privileged}
-use Rattle.mm_word.specs.Pointer.{Pointer, bits_of, restrict_result}
-use Rattle.mm_word.specs.Word.{IsWord, IsPointerAnd, word_bits, is_pointer}
+use Rattle.mm_word.specs.Perm.{can_fetch, can_move}
+use Rattle.mm_word.specs.Pointer.{Pointer}
+use Rattle.mm_word.specs.Word.{IsWord, word_bits, is_pointer}
 use Rattle.mm_isa.specs.declared.instr.AluOp.{AluOp}
 use Rattle.mm_isa.specs.declared.instr.AluOp.TheVariants.{Add, Sub, Mul, Divu, Remu, And, Or, Xor, Shl, Shr, Sar, Eq, Ltu, Lts}
 use Rattle.mm_isa.specs.declared.instr.DivZero.{DivZero}
@@ -27,12 +22,9 @@ use Rattle.mm_model.specs.Slot.{Slot, register, is_empty}
 use Rattle.mm_model.specs.State.{Core, slot_at}
 use Rattle.mm_model.specs.Image.{Image}
 use Rattle.mm_model.specs.Fits.{Matches, identity_of}
-use Rattle.mm_model.specs.Operands.{field_a, field_b, field_imm, fields_d, addr_operand, value_operand, word_a, word_b}
-use Rattle.mm_model.specs.Effect.{Reply, Change, Effect, effect, advanced, runs_past, plain, sets, sets_pointer, sets_number, if_pointer, test, same_word, high_and_low}
+use Rattle.mm_model.specs.Effect.{Effect, advanced, runs_past, plain, sets, sets_pointer, sets_number, if_pointer, test}
 use Rattle.mm_model.specs.Effect.Effect.{Fault, Block, Deliver, Does}
-use Rattle.mm_model.specs.Effect.Pages.{Keep}
 use Rattle.mm_model.specs.Turn.{slot_after}
-use Rattle.mm_model.proofs.CoreRows.{each_contained, out_of_map}
 use Rattle.mm_kernel.specs.Segments.{Segment, meets, is_inside, runs_privileged}
 use Rattle.mm_kernel.specs.Derived.{has_segment}
 use Rattle.mm_kernel.specs.declared.form.Form.{Form}
@@ -40,18 +32,16 @@ use Rattle.mm_kernel.specs.declared.form.Form.TheVariants.{Number, Pointer as Ex
 use Rattle.mm_kernel.specs.declared.outcome.Outcome.{Outcome}
 use Rattle.mm_kernel.specs.declared.outcome.Outcome.TheVariants as outcome
 use Rattle.mm_kernel.specs.declared.thread.Thread.{Thread}
-use Rattle.mm_kernel.specs.Forms.{zero_form, exact_bits, around}
-use Rattle.mm_kernel.specs.Threads.{form_in, with_form, stepped, going_to}
-use Rattle.mm_kernel.specs.Operations.{alu_form, may_be_zero, is_zero, high_form, equal_form, choices, with_permission, permission_of, may_name}
+use Rattle.mm_kernel.specs.Forms.{exact_bits, around}
+use Rattle.mm_kernel.specs.Threads.{form_in, with_form, stepped}
+use Rattle.mm_kernel.specs.Operations.{alu_form}
 use Rattle.mm_kernel.specs.Turns as kernel
-use Rattle.mm_kernel.specs.Variants.{IsShared}
-use Rattle.mm_kernel.proofs.Segs.{Within, below_within, outside_within}
-use Rattle.mm_kernel.proofs.Values.{Clean, CleanWord, clean_below, Holds, Fits, fits_number, fits_integer, shared_int, Moved}
-use Rattle.mm_kernel.proofs.Ups.{Up, Free, Follows, each_split}
+use Rattle.mm_kernel.proofs.Values.{Clean, clean_below, Holds, Fits, fits_number, fits_integer, Moved}
+use Rattle.mm_kernel.proofs.Ups.{Up, Follows}
 use Rattle.mm_kernel.proofs.Anyone.{advanced_below}
 use Rattle.mm_kernel.proofs.Slots.{Sound, sound_at, Match, match_write, match_at, Came, came_like, RunningOk, SlotOk}
 use Rattle.mm_kernel.proofs.Cores.{RowsOk, MemOk, ChangeOk}
-use Rattle.mm_kernel.proofs.Results.{exact_bits_is, high_fits, equal_fits, alu_fits, open_moved, any_moved, inside_moved, around_moved, Narrowed, restrict_tells, narrowed_fits, any_narrowed, permission_is, chosen, choice_becomes}
+use Rattle.mm_kernel.proofs.Results.{exact_bits_is, alu_fits, open_moved, any_moved, inside_moved, around_moved}
 
 -- what is known of a form: a part lies in the kept segments
 abbrev pub WholeForm : List Segment → Form → Type 0

@@ -1,11 +1,11 @@
 -- A thread stands for a slot, and how that is kept.
-use Rattle.std.proofs.Common.{◌≡◌, ℕ, zero, suc, ◌+◌, ◌<◌, ◌≤◌, ◌⊎◌, inl, inr, Bool, true, false, ◌&&◌, if◌then◌else◌, nat_eq, eqb-true, List, [], ◌∷◌, ◌++◌, length, replicate, slice_set, slice_index_or, Option, Some, None, refl, sym, ap, ◌∙◌, subst, arith, length-set, get_or-set_same, get_or-set_other}
+use Rattle.std.proofs.Common.{◌≡◌, ℕ, ◌+◌, ◌<◌, ◌≤◌, ◌⊎◌, inl, inr, Bool, true, false, ◌&&◌, if◌then◌else◌, nat_eq, List, [], ◌∷◌, length, replicate, slice_set, slice_index_or, Option, Some, refl, sym, ap, ◌∙◌, subst, arith, length-set, get_or-set_same, get_or-set_other}
 use Rattle.std.specs.Prelude.{Contains}
 use Rattle.std.specs.List.{AllByRecursion}
 use Rattle.std.proofs.lemmas.Bool.{cases_eq, cases_lt, eqb-false}
 use Rattle.std.proofs.lemmas.List.{get_or_past}
 use Rattle.mm_word.specs.declared.word.Word.{Word}
-use Rattle.mm_word.specs.declared.word.Word.TheVariants.{Int, Ptr}
+use Rattle.mm_word.specs.declared.word.Word.TheVariants.{Int}
 use Rattle.mm_word.specs.Pointer.{Pointer}
 use Rattle.mm_model.specs.declared.slot.SlotState.{SlotState}
 use Rattle.mm_model.specs.declared.slot.SlotState.TheVariants.{Running, Waiting, Taken, Halted}
@@ -16,7 +16,7 @@ use Rattle.mm_model.specs.Flags.{one_if}
 use Rattle.mm_model.specs.Fits.{loads_for, LoadsMatch, identity_of}
 use Rattle.mm_model.specs.Effect.{delivers, delivered}
 use Rattle.mm_model.specs.Turn.{with_issue}
-use Rattle.mm_model.proofs.CoreRows.{each_map, each_both, each_push, each_set}
+use Rattle.mm_model.proofs.CoreRows.{each_map, each_both, each_push}
 use Rattle.mm_model.proofs.EffectWords.{each_or}
 use Rattle.mm_model.proofs.CoreSteps.{some_true}
 use Rattle.mm_model.proofs.SlotSteps.{empty_within}
@@ -29,7 +29,7 @@ use Rattle.mm_kernel.specs.declared.thread.Origin.TheVariants.{Door, Slot as OfS
 use Rattle.mm_kernel.specs.declared.thread.Thread.{Thread}
 use Rattle.mm_kernel.specs.Forms.{zero_form}
 use Rattle.mm_kernel.specs.Threads.{form_in, with_form, handler_of, is_kernel, serves_some}
-use Rattle.mm_kernel.specs.Facts.{Fact, loose}
+use Rattle.mm_kernel.specs.Facts.{loose}
 use Rattle.mm_kernel.specs.Facts.Fact.{HasFaulted, HasLeak}
 use Rattle.mm_kernel.specs.Derived.{Derived, Keeps}
 use Rattle.mm_kernel.proofs.Values.{Clean, Fits, Public, public_fits, public_number}

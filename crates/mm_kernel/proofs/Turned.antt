@@ -1,5 +1,5 @@
 -- One turn keeps what holds of rows and cells, and uses kept words by code words alone.
-use Rattle.std.proofs.Common.{◌≡◌, ℕ, ◌+◌, ◌<◌, ◌≤◌, ◌⊎◌, inl, inr, Bool, true, false, ◌&&◌, ◌||◌, nat_lt, ◌^◌, if◌then◌else◌, ℤ, pos, List, [], ◌∷◌, ◌++◌, replicate, length, Option, Some, None, Result, Ok, Err, refl, sym, ap, ◌∙◌, subst, arith}
+use Rattle.std.proofs.Common.{◌≡◌, ℕ, ◌+◌, ◌⊎◌, inl, inr, Bool, true, false, ◌&&◌, nat_lt, ◌^◌, if◌then◌else◌, ℤ, pos, List, [], ◌∷◌, ◌++◌, replicate, Option, Some, None, Result, Ok, Err, refl, sym, ap, ◌∙◌, subst}
 use Rattle.std.specs.Prelude.{IfSome}
 use Rattle.std.specs.List.{AllByRecursion}
 use Rattle.std.specs.Option.{option_to_list}
@@ -20,23 +20,20 @@ use Rattle.mm_isa.specs.declared.instr.Instr.{Instr}
 use Rattle.mm_isa.specs.declared.instr.Instr.TheVariants as instr
 use Rattle.mm_isa.specs.Table.{IsInstr}
 use Rattle.mm_isa.proofs.Spelling.{instr_of-spelled}
-use Rattle.mm_model.specs.declared.event.Event.{Event}
 use Rattle.mm_model.specs.declared.slot.SlotState.{SlotState}
 use Rattle.mm_model.specs.declared.slot.SlotState.TheVariants.{Running, Waiting, Taken, Halted}
 use Rattle.mm_model.specs.declared.slot.Pending.{Pending}
-use Rattle.mm_model.specs.declared.step.Step.{Step}
 use Rattle.mm_model.specs.Memory.{Memory, cell_at}
 use Rattle.mm_model.specs.Uses.{Use, Accessed}
-use Rattle.mm_model.specs.Slot.{Slot, register, is_empty}
+use Rattle.mm_model.specs.Slot.{Slot, register}
 use Rattle.mm_model.specs.State.{Core, slot_at, put_slot}
 use Rattle.mm_model.specs.Image.{Image}
 use Rattle.mm_model.specs.Operands.{addr_operand, value_operand, word_a, word_b, field_a, field_b, field_imm, lacks}
 use Rattle.mm_model.specs.Ask.{Ask, ask, reaching, load_kind, is_privileged}
-use Rattle.mm_model.specs.Effect.{Effect, effect, delivered, delivers}
+use Rattle.mm_model.specs.Effect.{Effect, effect, delivered}
 use Rattle.mm_model.specs.Effect.Effect.{Fault, Block, Deliver, Does}
-use Rattle.mm_model.specs.Turn.{Turned, is_running, reply, stood, event_of, core_faulted, faulted, touch_of, asked_use, blocked, ended, executed, issued, decoded, instr_in, fetched, aimed, started, idle, arrives, turn}
+use Rattle.mm_model.specs.Turn.{Turned, is_running, reply, stood, event_of, faulted, touch_of, asked_use, blocked, ended, executed, issued, decoded, instr_in, fetched, aimed, started, idle, arrives, turn}
 use Rattle.mm_model.specs.Trace.{touches}
-use Rattle.mm_model.specs.Outcomes.{Runs}
 use Rattle.mm_model.proofs.SlotSteps.{delivered_from}
 use Rattle.mm_model.proofs.EffectWords.{each_or}
 use Rattle.mm_model.proofs.TurnShapes.{turn_by}
@@ -47,24 +44,22 @@ use Rattle.mm_kernel.specs.declared.form.Form.TheVariants.{Pointer as Exactly, A
 use Rattle.mm_kernel.specs.declared.outcome.Outcome.{Outcome}
 use Rattle.mm_kernel.specs.declared.outcome.Outcome.TheVariants as outcome
 use Rattle.mm_kernel.specs.declared.thread.Handler.{Handler}
-use Rattle.mm_kernel.specs.declared.thread.Handler.TheVariants.{Nobody, Kernel, Caller}
 use Rattle.mm_kernel.specs.declared.thread.Thread.{Thread}
 use Rattle.mm_kernel.specs.Forms.{zero_form}
 use Rattle.mm_kernel.specs.Threads.{form_in, handler_of, handler_as, is_kernel, serves_some}
-use Rattle.mm_kernel.specs.Facts.Fact.{HasThread, HasFaulted, HasEvent}
 use Rattle.mm_kernel.specs.Turns as kernel
-use Rattle.mm_kernel.specs.Derived.{Derived, Keeps, Fetches, IsCode}
+use Rattle.mm_kernel.specs.Derived.{Keeps, IsCode}
 use Rattle.mm_kernel.specs.Variants.{IsShared}
-use Rattle.mm_kernel.specs.Laws.{FetchesCode, KeptByCode}
+use Rattle.mm_kernel.specs.Laws.{KeptByCode}
 use Rattle.mm_kernel.proofs.Segs.{not_kept}
-use Rattle.mm_kernel.proofs.Values.{Clean, Fits, shared_outside, fits_number, Public, public_fits, public_number, allows_loads, open_outside}
+use Rattle.mm_kernel.proofs.Values.{Fits, shared_outside, fits_number, Public, public_fits, public_number, allows_loads, open_outside}
 use Rattle.mm_kernel.proofs.Ups.{Up, Free, Bound, free_is, free_up, up_cases, Follows, ByHandler, all_follow}
 use Rattle.mm_kernel.proofs.Anyone.{anyone, anyone_free, anyone_follows}
-use Rattle.mm_kernel.proofs.Slots.{Sound, guards, Match, match_at, match_anyone, origin_guards, free_form, Came, came_like, HeldFor, RunningOk, StoppedOk, SlotOk, SlotOkAs, slot_delivered}
-use Rattle.mm_kernel.proofs.Cores.{any_event, EventOk, RowsOk, put_slot_ok, slot_ok, MemOk, ChangeOk, change_rows, change_cells, FaultOk, fault_rows}
+use Rattle.mm_kernel.proofs.Slots.{Sound, Match, match_at, match_anyone, origin_guards, free_form, came_like, RunningOk, SlotOk, SlotOkAs, slot_delivered}
+use Rattle.mm_kernel.proofs.Cores.{any_event, RowsOk, put_slot_ok, slot_ok, MemOk, change_rows, change_cells, FaultOk, fault_rows}
 use Rattle.mm_kernel.proofs.Rows.{WholeForm, Machine, Acts, Ready, EffectOk, reg, word}
-use Rattle.mm_kernel.proofs.Places.{Through, through, touched_in}
-use Rattle.mm_kernel.proofs.Serves.{came_serves, match_state}
+use Rattle.mm_kernel.proofs.Places.{through, touched_in}
+use Rattle.mm_kernel.proofs.Serves.{came_serves}
 use Rattle.mm_kernel.proofs.Effects.{ReadyFor, ready_for, ready_all, effect_ok}
 use Rattle.mm_kernel.proofs.Sanes.{thread_whole}
 

@@ -1,7 +1,6 @@
 -- Words that a form stands for, with what is known of every word that is ever held.
-use Rattle.std.proofs.Common.{◌≡◌, ℕ, ◌⊎◌, inl, inr, Bool, true, false, ◌&&◌, ◌||◌, not, List, [], ◌∷◌, Option, Some, None, Result, Ok, Err, refl, sym, ap, ◌∙◌, subst, arith, ◌+◌, if◌then◌else◌}
+use Rattle.std.proofs.Common.{◌≡◌, ℕ, ◌⊎◌, inl, inr, Bool, true, false, ◌&&◌, List, [], ◌∷◌, Some, refl, sym, ap, ◌∙◌, subst, ◌+◌, if◌then◌else◌}
 use Rattle.std.specs.List.{AllByRecursion}
-use Rattle.std.specs.Prelude.{option_map}
 use Rattle.std.proofs.lemmas.Bool.{and_parts, and_from, and_left, and_right, false_from_ne_true}
 use Rattle.mm_word.specs.declared.perm.Perm.{Perm}
 use Rattle.mm_word.specs.declared.perm.Perm.TheVariants.{Ro, Rw, Xu, Xp, Eu, Ep, Key}
@@ -10,22 +9,22 @@ use Rattle.mm_word.specs.declared.perm.Kind.TheVariants.{Fetch, Load, LoadSet, S
 use Rattle.mm_word.specs.declared.word.Word.{Word}
 use Rattle.mm_word.specs.declared.word.Word.TheVariants.{Int, Ptr}
 use Rattle.mm_word.specs.declared.word.Cell.{Cell}
-use Rattle.mm_word.specs.Perm.{can_load, can_store, can_fetch, can_move, can_become, allows, execute_form}
-use Rattle.mm_word.specs.Pointer.{Pointer, InSegment, Covers, holds_word, enter_result, IsBelow}
+use Rattle.mm_word.specs.Perm.{can_load, can_store, can_move, can_become, allows}
+use Rattle.mm_word.specs.Pointer.{Pointer, Covers, holds_word, IsBelow}
 use Rattle.mm_word.specs.Word.{IsPointerAnd, is_pointer}
 use Rattle.mm_word.proofs.Below.{holds_word-Covers}
 use Rattle.mm_word.proofs.Checked.{Covers-holds_word}
 use Rattle.mm_model.specs.Memory.{cell_at}
 use Rattle.mm_model.specs.Image.{Image}
-use Rattle.mm_kernel.specs.Segments.{Segment, is_kept, is_fixed, meets, is_inside, may_write, runs_privileged, is_open, is_open_as, is_open_pointer, is_enter, is_door}
+use Rattle.mm_kernel.specs.Segments.{Segment, is_fixed, meets, may_write, runs_privileged, is_open, is_open_as, is_enter, is_door}
 use Rattle.mm_kernel.specs.declared.form.Form.{Form}
 use Rattle.mm_kernel.specs.declared.form.Form.TheVariants.{Number, Pointer as Exactly, Integer, Open, Any, Inside}
-use Rattle.mm_kernel.specs.Forms.{Stands, PointsInside, exactly, is_open_form, stored_form, exact_bits, exact}
-use Rattle.mm_kernel.specs.Facts.{Fact, let_out}
+use Rattle.mm_kernel.specs.Forms.{Stands, PointsInside, exactly, is_open_form, stored_form}
+use Rattle.mm_kernel.specs.Facts.{let_out}
 use Rattle.mm_kernel.specs.Facts.Fact.{HasDoor}
 use Rattle.mm_kernel.specs.Derived.{Derived}
 use Rattle.mm_kernel.specs.Variants.{EntersByDoor, IsShared}
-use Rattle.mm_kernel.proofs.Segs.{Within, within_all, below_within, meets_within, outside_within, not_kept, holds_in, meets_same, points_within}
+use Rattle.mm_kernel.proofs.Segs.{Within, within_all, below_within, outside_within}
 
 -- 1. What holds of every pointer that is held: it is no privileged one, and stores to no fixed word of the image.
 

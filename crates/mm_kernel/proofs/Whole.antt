@@ -1,48 +1,23 @@
 -- Each pointer of a derived form that meets the kept segments is inside, where no live pointer of the image reaches across.
-use Rattle.std.proofs.Common.{◌≡◌, ℕ, zero, suc, ◌+◌, ◌*◌, ◌/◌, ◌%◌, ◌^◌, ◌<◌, ◌≤◌, ◌⊎◌, inl, inr, Bool, true, false, ◌&&◌, ◌||◌, not, ◌==◌, if◌then◌else◌, cond, ℤ, pos, negsuc, ◌+ℤ◌, ◌*ℤ◌, List, [], ◌∷◌, ◌++◌, map, length, replicate, slice_set, slice_get, is_some, Option, Some, None, Result, Ok, Err, refl, sym, ap, ◌∙◌, subst, arith, eqb-true}
-use Rattle.std.specs.Prelude.{Contains, option_map}
-use Rattle.std.specs.List.{AllByRecursion, flat_map, list_any, list_all, range_with_len}
-use Rattle.std.specs.Ordering.{nat_cmp, eq_by_cmp}
-use Rattle.std.specs.FinMap.{find}
-use Rattle.std.proofs.lemmas.Bool.{and_parts, and_from, or_parts, not-true, not-false, cases_Bool}
+use Rattle.std.proofs.Common.{◌≡◌, ℕ, ◌+◌, ◌/◌, ◌^◌, Bool, true, false, ◌&&◌, if◌then◌else◌, ℤ, pos, negsuc, List, [], ◌∷◌, ◌++◌, Option, Some, None, Ok, Err, refl, sym, ap, ◌∙◌, subst, arith, eqb-true}
+use Rattle.std.specs.Prelude.{option_map}
+use Rattle.std.specs.List.{AllByRecursion, flat_map, range_with_len}
+use Rattle.std.proofs.lemmas.Bool.{and_parts}
 use Rattle.mm_word.specs.declared.perm.Perm.{Perm}
 use Rattle.mm_word.specs.declared.perm.Perm.TheVariants.{Ro, Rw, Xu, Xp, Eu, Ep, Key}
-use Rattle.mm_word.specs.declared.perm.Kind.{Kind}
-use Rattle.mm_word.specs.declared.perm.Kind.TheVariants.{Fetch, Store}
-use Rattle.mm_word.specs.declared.cause.Cause.{Cause}
 use Rattle.mm_word.specs.declared.cause.Cause.TheVariants as cause
-use Rattle.mm_word.specs.declared.word.Pre.{Pre}
-use Rattle.mm_word.specs.declared.word.Pre.TheVariants as pres
 use Rattle.mm_word.specs.declared.word.Word.{Word}
 use Rattle.mm_word.specs.declared.word.Word.TheVariants.{Int, Ptr}
-use Rattle.mm_word.specs.declared.word.Cell.{Cell}
-use Rattle.mm_word.specs.Access.{Touch, check_result}
-use Rattle.mm_word.specs.Perm.{can_move, can_become, allows, execute_form}
-use Rattle.mm_word.specs.Pointer.{Pointer, in_segment, base_of, moved_to, next_result, enter_result, lea_result, leab_result, subseg_result}
-use Rattle.mm_isa.specs.declared.instr.AluOp.{AluOp}
-use Rattle.mm_isa.specs.declared.instr.How.{How}
-use Rattle.mm_isa.specs.declared.instr.How.TheVariants.{Retry, Skip, Kill}
-use Rattle.mm_isa.specs.declared.instr.DivZero.{DivZero}
-use Rattle.mm_isa.specs.declared.instr.Instr.{Instr}
-use Rattle.mm_isa.specs.declared.instr.Instr.TheVariants.{Halt, Nop, Ldi, Ldhi, Mov, Isptr, Eqw, Out, SelfSlot, Alu}
-use Rattle.mm_isa.specs.declared.instr.Instr.TheVariants.{Addi, Lea, Leai, Leab, Restrict, Subseg, Setptr, Ld, St, Br}
-use Rattle.mm_isa.specs.declared.instr.Instr.TheVariants.{Bz, Bnz, Jmp, Jal, Lip, Trap, Evt, Resume, Rreg, Wreg, Map}
-use Rattle.mm_isa.specs.declared.instr.Instr.TheVariants.{Unmap}
-use Rattle.mm_isa.specs.Alu.{divides}
-use Rattle.mm_model.specs.Memory.{Memory, cell_at, cell_in, page_at, page_of, place_of}
-use Rattle.mm_model.specs.Slot.{Slot}
-use Rattle.mm_model.specs.Effect.{advanced, runs_past, moved_on}
+use Rattle.mm_word.specs.Perm.{can_move, can_become, execute_form}
+use Rattle.mm_word.specs.Pointer.{Pointer, in_segment, moved_to, next_result, enter_result}
+use Rattle.mm_model.specs.Effect.{advanced, moved_on}
 use Rattle.mm_model.specs.Image.{Image}
-use Rattle.mm_model.specs.Ask.{load_kind}
-use Rattle.mm_model.specs.Operands.{field_a, field_b, field_imm}
-use Rattle.mm_model.specs.Turn.{instr_in}
-use Rattle.mm_model.proofs.CoreRows.{each_map, each_set, each_contained, into_map}
+use Rattle.mm_model.proofs.CoreRows.{each_map, each_set}
 use Rattle.mm_model.proofs.EffectWords.{each_or}
 use Rattle.mm_model.proofs.EffectSteps.{moved_perm}
-use Rattle.mm_kernel.specs.Segments.{Segment, lies_in, is_kept, is_fixed, is_inside, meets, pointers_in, slot_pointers, page_pointers, running_slots, live_pointers, runs_privileged, is_user, is_door}
+use Rattle.mm_kernel.specs.Segments.{Segment, is_inside, meets, pointers_in, runs_privileged, is_door}
 use Rattle.mm_kernel.specs.declared.fact.Leak.{Leak}
-use Rattle.mm_kernel.specs.declared.fact.Leak.TheVariants.{Across, Cell as InCell, Jump, FaultPointer, Fault, Loose}
-use Rattle.mm_kernel.specs.declared.fact.Handling.{Handling}
+use Rattle.mm_kernel.specs.declared.fact.Leak.TheVariants.{Jump, FaultPointer, Fault, Loose}
 use Rattle.mm_kernel.specs.declared.form.Form.{Form}
 use Rattle.mm_kernel.specs.declared.form.Form.TheVariants.{Number, Pointer as Exactly, Integer, Open, Any, Inside}
 use Rattle.mm_kernel.specs.declared.outcome.Outcome.{Outcome}
@@ -52,17 +27,15 @@ use Rattle.mm_kernel.specs.declared.thread.Handler.TheVariants.{Nobody, Kernel, 
 use Rattle.mm_kernel.specs.declared.thread.Origin.{Origin}
 use Rattle.mm_kernel.specs.declared.thread.Origin.TheVariants.{Door, Slot as OfSlot}
 use Rattle.mm_kernel.specs.declared.thread.Thread.{Thread}
-use Rattle.mm_kernel.specs.Forms.{exactly, is_open_form, exact, exact_bits, zero_form, stored_form, around, around_as}
-use Rattle.mm_kernel.specs.Threads.{form_in, with_form, stepped, going_to, is_free, is_kernel, serves_some, own_thread, thread_through, handler_of}
+use Rattle.mm_kernel.specs.Forms.{exactly, is_open_form, zero_form, stored_form}
+use Rattle.mm_kernel.specs.Threads.{form_in, with_form, stepped, is_free, is_kernel, serves_some}
 use Rattle.mm_kernel.specs.Facts.{Fact, let_out, hand_out, loose, take_up}
 use Rattle.mm_kernel.specs.Facts.Fact.{HasThread, HasForm, HasDoor, HasEvent, HasFaulted, HasLeak}
-use Rattle.mm_kernel.specs.Operations.{small, small_result, alu_form, alu_if_exact, alu_by, leaves_code, equal_form, equal_if_exact, high_form, high_if_exact, choices, with_permission, permission_of, inside_as}
-use Rattle.mm_kernel.specs.Turns.{outcomes, outcomes_of, decoded, fetched, aimed, fault, early_fault, operand_a, operand_b, sets, moves, moved, moved_somewhere, restricts, restricted, restricts_as, may_refuse, loads, loaded_by, loaded_at, word_loaded, waits, stores, stored_by, stored_at, word_stored, stores_outside, branches, branched, branches_if, jumps, jumped, links, at_distance, tests_tag, computes, with_event, seen_as}
-use Rattle.mm_kernel.specs.Derived.{Derived, Keeps, first_form, cell_facts, has_segment, reaches_across, register_shown, shown, fault_facts, register_left, outcome_facts, on_after, resumed}
-use Rattle.mm_kernel.proofs.Segs.{Within, meets_within, inside_within, meets_same}
+use Rattle.mm_kernel.specs.Turns.{with_event}
+use Rattle.mm_kernel.specs.Derived.{has_segment, register_shown, shown, fault_facts, register_left, outcome_facts}
+use Rattle.mm_kernel.proofs.Segs.{Within, meets_within, inside_within}
 use Rattle.mm_kernel.proofs.Values.{Moved, moved_within}
-use Rattle.mm_kernel.proofs.Results.{lea_moved, leab_moved, subseg_moved, choice_becomes}
-use Rattle.mm_kernel.proofs.Ups.{each_from, each_split, each_join, each_flat, each_unflat, each_in}
+use Rattle.mm_kernel.proofs.Ups.{each_from, each_join, each_flat}
 use Rattle.mm_kernel.proofs.Rows.{WholeForm}
 
 -- 1. Pointers.

@@ -1,7 +1,7 @@
 -- What a kernel comes to, whatever its callers do: the least sets of facts under its rules.
-use Rattle.std.specs.Prelude.{◌≡◌, ℕ, ◌+◌, ◌<◌, Bool, true, false, ◌&&◌, ◌||◌, not, if◌then◌else◌, List, [], ◌∷◌, ◌++◌, map, Contains}
-use Rattle.std.specs.Prelude.{Option, Some, None, pos, Result, Ok, Err}
-use Rattle.std.specs.List.{flat_map, range_with_len, AllByRecursion}
+use Rattle.std.specs.Prelude.{◌≡◌, ℕ, Bool, true, false, ◌&&◌, ◌||◌, not, if◌then◌else◌, List, [], ◌∷◌, ◌++◌, Contains}
+use Rattle.std.specs.Prelude.{Some, pos, Ok}
+use Rattle.std.specs.List.{flat_map, range_with_len}
 use Rattle.mm_word.specs.declared.perm.Perm.{Perm}
 use Rattle.mm_word.specs.declared.perm.Perm.TheVariants.{Ro, Rw, Xu, Eu}
 use Rattle.mm_word.specs.declared.perm.Kind.TheVariants.{Fetch}
@@ -29,7 +29,7 @@ use Rattle.mm_kernel.specs.declared.thread.Handler.TheVariants.{Nobody, Kernel, 
 use Rattle.mm_kernel.specs.declared.thread.Origin.TheVariants.{Slot as OfSlot}
 use Rattle.mm_kernel.specs.declared.thread.Thread.{Thread}
 use Rattle.mm_kernel.specs.Forms.{exactly, is_open_form}
-use Rattle.mm_kernel.specs.Threads.{form_in, with_form, stepped, handler_of, own_thread, thread_through}
+use Rattle.mm_kernel.specs.Threads.{form_in, with_form, handler_of, own_thread, thread_through}
 use Rattle.mm_kernel.specs.Facts.{Fact, hand_out, loose, take_up}
 use Rattle.mm_kernel.specs.Facts.Fact.{HasThread, HasForm, HasDoor, HasEvent, HasFaulted, HasLeak}
 use Rattle.mm_kernel.specs.Turns.{outcomes, with_event}

@@ -1,5 +1,5 @@
 -- What is derived of a kernel: threads, forms of cells, doors, events, faulted threads and leaks.
-use Rattle.std.specs.Prelude.{ℕ, Bool, true, false, ◌&&◌, if◌then◌else◌, List, [], ◌∷◌, ◌++◌}
+use Rattle.std.specs.Prelude.{ℕ, ◌&&◌, if◌then◌else◌, List, [], ◌∷◌, ◌++◌}
 use Rattle.std.specs.List.{flat_map}
 use Rattle.mm_word.specs.Pointer.{Pointer as PointerValue}
 use Rattle.mm_model.specs.Image.{Image}

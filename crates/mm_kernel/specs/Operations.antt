@@ -1,10 +1,9 @@
 -- What an instruction makes of the forms of its operands.
-use Rattle.std.specs.Prelude.{ℕ, ◌/◌, ◌%◌, ◌^◌, Bool, true, false, not, ◌&&◌, ◌||◌, ◌==◌, nat_lt, if◌then◌else◌, ℤ, pos}
-use Rattle.std.specs.Prelude.{◌+ℤ◌, ◌*ℤ◌, List, [], ◌∷◌, ◌++◌, map, Option, Some, None, Result, Ok, Err, is_none}
+use Rattle.std.specs.Prelude.{ℕ, ◌%◌, Bool, true, false, ◌&&◌, ◌==◌, nat_lt, if◌then◌else◌, ℤ}
+use Rattle.std.specs.Prelude.{List, [], ◌∷◌, Option, Some, None, Result, Ok, Err}
 use Rattle.std.specs.List.{filter}
 use Rattle.mm_word.specs.declared.perm.Perm.{Perm}
 use Rattle.mm_word.specs.declared.perm.Perm.TheVariants.{Ro, Rw, Xu, Xp, Eu, Ep, Key}
-use Rattle.mm_word.specs.declared.cause.Cause.{Cause}
 use Rattle.mm_word.specs.declared.word.Word.{Word}
 use Rattle.mm_word.specs.Perm.{code_of, can_become}
 use Rattle.mm_word.specs.Pointer.{Pointer as PointerValue, bits_of}
@@ -14,7 +13,7 @@ use Rattle.mm_isa.specs.declared.instr.DivZero.{DivZero}
 use Rattle.mm_isa.specs.Alu.{alu_result}
 use Rattle.mm_model.specs.Effect.{same_word, test, high_and_low}
 use Rattle.mm_kernel.specs.declared.form.Form.{Form}
-use Rattle.mm_kernel.specs.declared.form.Form.TheVariants.{Number, Pointer, Integer, Open, Any, Inside}
+use Rattle.mm_kernel.specs.declared.form.Form.TheVariants.{Number, Pointer, Integer, Open, Inside}
 use Rattle.mm_kernel.specs.Forms.{exact, exact_bits}
 
 -- 1. Integers.
