@@ -1,5 +1,7 @@
 -- A free slot stands for the thread of which nothing is known but where it is: what it can come to leaves all as it is.
-use Rattle.std.proofs.Common.{◌≡◌, ℕ, ◌+◌, ◌<◌, inl, Bool, true, false, if◌then◌else◌, ℤ, pos, ◌+ℤ◌, ◌*ℤ◌, List, [], ◌∷◌, replicate, slice_set, Option, Some, None, Result, Ok, Err, refl, sym, ap, ◌∙◌, subst, arith}
+use Rattle.std.proofs.Common.{◌≡◌, ℕ, ◌+◌, ◌<◌, inl, Bool, true, false, if◌then◌else◌, ℤ, pos, ◌+ℤ◌, ◌*ℤ◌, List, []}
+use Rattle.std.proofs.Common.{◌∷◌, replicate, slice_set, Option, Some, None, Result, Ok, Err, refl, sym, ap, ◌∙◌, subst}
+use Rattle.std.proofs.Common.{arith}
 use Rattle.std.specs.List.{AllByRecursion}
 use Rattle.std.specs.Int.{w64, cast_unsigned, cast_signed}
 use Rattle.mm_word.specs.declared.perm.Perm.TheVariants.{Ro, Rw, Xu, Eu, Key}
@@ -34,7 +36,8 @@ use Rattle.mm_kernel.specs.declared.thread.Thread.{Thread}
 use Rattle.mm_kernel.specs.Forms.{zero_form, exact_bits}
 use Rattle.mm_kernel.specs.Threads.{form_in, with_form, stepped, going_to}
 use Rattle.mm_kernel.specs.Operations.{alu_form, high_form, equal_form}
-use Rattle.mm_kernel.specs.Turns.{outcomes_of, fault, sets, moves, moved, restricts, loads, stores, branches, branched, branches_if, jumps, links, at_distance, tests_tag, computes, with_event, seen_as}
+use Rattle.mm_kernel.specs.Turns.{outcomes_of, fault, sets, moves, moved, restricts, loads, stores, branches, branched}
+use Rattle.mm_kernel.specs.Turns.{branches_if, jumps, links, at_distance, tests_tag, computes, with_event, seen_as}
 use Rattle.mm_kernel.proofs.Segs.{below_within, outside_within}
 use Rattle.mm_kernel.proofs.Values.{Public, public_any, public_number, public_integer, public_open, public_outside}
 use Rattle.mm_kernel.proofs.Ups.{Free, free_up, Follows}

@@ -1,5 +1,6 @@
 -- What each instruction does is as it must be, where its outcomes have what follows from them.
-use Rattle.std.proofs.Common.{◌≡◌, ℕ, ◌+◌, ◌%◌, ◌^◌, ◌<◌, Bool, true, false, ◌||◌, nat_lt, if◌then◌else◌, List, [], ◌∷◌, length, Option, Some, None, refl, arith}
+use Rattle.std.proofs.Common.{◌≡◌, ℕ, ◌+◌, ◌%◌, ◌^◌, ◌<◌, Bool, true, false, ◌||◌, nat_lt, if◌then◌else◌, List, [], ◌∷◌}
+use Rattle.std.proofs.Common.{length, Option, Some, None, refl, arith}
 use Rattle.std.specs.Prelude.{IfSome}
 use Rattle.std.specs.Int.{w64, cast_unsigned, cast_signed}
 use Rattle.std.specs.List.{AllByRecursion, flat_map, list_any}
@@ -44,8 +45,10 @@ use Rattle.mm_kernel.specs.Turns as kernel
 use Rattle.mm_kernel.specs.Derived.{Keeps}
 use Rattle.mm_kernel.proofs.Values.{fits_number, fits_integer}
 use Rattle.mm_kernel.proofs.Ups.{Follows}
-use Rattle.mm_kernel.proofs.Results.{exact_bits_is, high_fits, equal_fits, alu_fits, lea_moved, leab_moved, subseg_moved}
-use Rattle.mm_kernel.proofs.Rows.{Machine, Acts, Ready, EffectOk, reg, word, steps_on, plain_ok, sets_ok, halts_ok, tests_ok, computes_ok, moves_ok}
+use Rattle.mm_kernel.proofs.Results.{exact_bits_is, high_fits, equal_fits, alu_fits, lea_moved, leab_moved}
+use Rattle.mm_kernel.proofs.Results.{subseg_moved}
+use Rattle.mm_kernel.proofs.Rows.{Machine, Acts, Ready, EffectOk, reg, word, steps_on, plain_ok, sets_ok, halts_ok}
+use Rattle.mm_kernel.proofs.Rows.{tests_ok, computes_ok, moves_ok}
 use Rattle.mm_kernel.proofs.Places.{restrict_ok, load_ok, store_ok}
 use Rattle.mm_kernel.proofs.Jumps.{branch_ok, branch_if_zero, branch_if_not, lip_ok, jmp_ok, jal_ok}
 use Rattle.mm_kernel.proofs.Serves.{event_ok, resume_ok, read_ok, write_ok}

@@ -1,5 +1,7 @@
 -- The rows that branch and jump.
-use Rattle.std.proofs.Common.{◌≡◌, ℕ, ◌+◌, ◌<◌, ◌≤◌, ◌⊎◌, inl, inr, Bool, true, false, ◌==◌, if◌then◌else◌, ℤ, pos, ◌+ℤ◌, ◌*ℤ◌, List, [], ◌∷◌, slice_set, slice_index_or, is_some, Option, Some, None, Result, Ok, Err, refl, sym, ap, ◌∙◌, subst, arith}
+use Rattle.std.proofs.Common.{◌≡◌, ℕ, ◌+◌, ◌<◌, ◌≤◌, ◌⊎◌, inl, inr, Bool, true, false, ◌==◌, if◌then◌else◌, ℤ, pos}
+use Rattle.std.proofs.Common.{◌+ℤ◌, ◌*ℤ◌, List, [], ◌∷◌, slice_set, slice_index_or, is_some, Option, Some, None, Result}
+use Rattle.std.proofs.Common.{Ok, Err, refl, sym, ap, ◌∙◌, subst, arith}
 use Rattle.std.specs.Prelude.{option_map}
 use Rattle.std.specs.List.{AllByRecursion}
 use Rattle.std.proofs.lemmas.Bool.{cases_lt}
@@ -42,7 +44,8 @@ use Rattle.mm_kernel.specs.Variants.{IsShared}
 use Rattle.mm_kernel.proofs.Values.{Clean, clean_below, Holds, Fits, Public, public_number}
 use Rattle.mm_kernel.proofs.Ups.{Up, free_up, Follows, each_from}
 use Rattle.mm_kernel.proofs.Anyone.{anyone, anyone_free, distance_below}
-use Rattle.mm_kernel.proofs.Slots.{guards, Match, match_write, match_at, match_anyone, origin_guards, Came, came_like, RunningOk}
+use Rattle.mm_kernel.proofs.Slots.{guards, Match, match_write, match_at, match_anyone, origin_guards, Came, came_like}
+use Rattle.mm_kernel.proofs.Slots.{RunningOk}
 use Rattle.mm_kernel.proofs.Results.{exact_bits_is}
 use Rattle.mm_kernel.proofs.Rows.{Machine, Acts, Ready, EffectOk, sound, runs_on, plain_ok, sets_ok}
 use Rattle.mm_kernel.proofs.Places.{Entered, entered, clean_entered, entered_perm, entered_outside}

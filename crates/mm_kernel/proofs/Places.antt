@@ -1,5 +1,7 @@
 -- The rows that narrow a permission, use memory, branch and jump.
-use Rattle.std.proofs.Common.{◌≡◌, ℕ, ◌+◌, ◌/◌, ◌^◌, ◌⊎◌, inl, inr, Bool, true, false, ◌&&◌, ◌==◌, if◌then◌else◌, eqb-true, eq-eqb, ℤ, List, [], ◌∷◌, map, slice_set, Option, Some, None, Result, Ok, Err, refl, sym, ap, ◌∙◌, subst, arith, add-zero}
+use Rattle.std.proofs.Common.{◌≡◌, ℕ, ◌+◌, ◌/◌, ◌^◌, ◌⊎◌, inl, inr, Bool, true, false, ◌&&◌, ◌==◌, if◌then◌else◌}
+use Rattle.std.proofs.Common.{eqb-true, eq-eqb, ℤ, List, [], ◌∷◌, map, slice_set, Option, Some, None, Result, Ok, Err}
+use Rattle.std.proofs.Common.{refl, sym, ap, ◌∙◌, subst, arith, add-zero}
 use Rattle.std.specs.Prelude.{Contains, option_map}
 use Rattle.std.specs.List.{AllByRecursion}
 use Rattle.std.proofs.lemmas.Bool.{and_parts, and_from, false_from_ne_true}
@@ -32,7 +34,8 @@ use Rattle.mm_model.specs.Effect.{Effect, plain, sets_pointer, if_pointer, set_b
 use Rattle.mm_model.specs.Effect.Reply.{Refused, Got}
 use Rattle.mm_model.specs.Turn.{slot_after, reply, reached, with_issue}
 use Rattle.mm_model.proofs.CoreRows.{each_contained, out_of_map}
-use Rattle.mm_kernel.specs.Segments.{Segment, lies_in, meets, is_kept, is_fixed, may_write, runs_privileged, is_open, is_enter, is_door}
+use Rattle.mm_kernel.specs.Segments.{Segment, lies_in, meets, is_kept, is_fixed, may_write, runs_privileged, is_open}
+use Rattle.mm_kernel.specs.Segments.{is_enter, is_door}
 use Rattle.mm_kernel.specs.declared.form.Form.{Form}
 use Rattle.mm_kernel.specs.declared.form.Form.TheVariants.{Number, Pointer as Exactly, Integer, Open, Any, Inside}
 use Rattle.mm_kernel.specs.declared.outcome.Outcome.{Outcome}
@@ -44,12 +47,15 @@ use Rattle.mm_kernel.specs.Operations.{choices, with_permission, permission_of, 
 use Rattle.mm_kernel.specs.Turns as kernel
 use Rattle.mm_kernel.specs.Variants.{IsShared}
 use Rattle.mm_kernel.proofs.Segs.{Within, within_all, not_kept, meets_same, inside_kept, points_within, word_in_part}
-use Rattle.mm_kernel.proofs.Values.{Clean, CleanWord, open_outside, allows_loads, Holds, Fits, fits_exactly, fits_stored, Public, public_fits}
+use Rattle.mm_kernel.proofs.Values.{Clean, CleanWord, open_outside, allows_loads, Holds, Fits, fits_exactly}
+use Rattle.mm_kernel.proofs.Values.{fits_stored, Public, public_fits}
 use Rattle.mm_kernel.proofs.Ups.{Up, Follows, each_split}
 use Rattle.mm_kernel.proofs.Slots.{match_issue}
 use Rattle.mm_kernel.proofs.Cores.{HeldIn, WordOk, WordOkAs, CellOk}
-use Rattle.mm_kernel.proofs.Results.{exact_bits_is, Narrowed, restrict_tells, narrowed_fits, any_narrowed, permission_is, chosen, choice_becomes}
-use Rattle.mm_kernel.proofs.Rows.{WholeForm, Machine, Acts, Ready, EffectOk, next_slot, next_match, next_sound, runs_on, steps_on, writes_on, sets_ok}
+use Rattle.mm_kernel.proofs.Results.{exact_bits_is, Narrowed, restrict_tells, narrowed_fits, any_narrowed}
+use Rattle.mm_kernel.proofs.Results.{permission_is, chosen, choice_becomes}
+use Rattle.mm_kernel.proofs.Rows.{WholeForm, Machine, Acts, Ready, EffectOk, next_slot, next_match, next_sound, runs_on}
+use Rattle.mm_kernel.proofs.Rows.{steps_on, writes_on, sets_ok}
 
 -- 1. Words of pointers.
 

@@ -1,5 +1,7 @@
 -- What an operation makes of words, its form stands for.
-use Rattle.std.proofs.Common.{◌≡◌, ℕ, ◌+◌, ◌*◌, ◌/◌, ◌%◌, ◌^◌, ◌<◌, inr, Bool, true, false, ◌&&◌, nat_lt, if◌then◌else◌, eqb-true, eq-eqb, ℤ, pos, ◌+ℤ◌, List, Option, Some, None, Result, Ok, Err, refl, sym, ap, ◌∙◌, subst, arith}
+use Rattle.std.proofs.Common.{◌≡◌, ℕ, ◌+◌, ◌*◌, ◌/◌, ◌%◌, ◌^◌, ◌<◌, inr, Bool, true, false, ◌&&◌, nat_lt, if◌then◌else◌}
+use Rattle.std.proofs.Common.{eqb-true, eq-eqb, ℤ, pos, ◌+ℤ◌, List, Option, Some, None, Result, Ok, Err, refl, sym, ap}
+use Rattle.std.proofs.Common.{◌∙◌, subst, arith}
 use Rattle.std.specs.Prelude.{Contains}
 use Rattle.std.proofs.lemmas.Bool.{and_parts, and_from}
 use Rattle.std.proofs.lemmas.Nat.{shr_high}
@@ -11,11 +13,13 @@ use Rattle.mm_word.specs.declared.cause.Cause.TheVariants as cause
 use Rattle.mm_word.specs.declared.word.Word.{Word}
 use Rattle.mm_word.specs.declared.word.Word.TheVariants.{Int, Ptr}
 use Rattle.mm_word.specs.Perm.{code_of, perm_of, can_move, can_become, can_load}
-use Rattle.mm_word.specs.Pointer.{Pointer, IsWellFormed, IsBelow, bits_of, base_of, moved_to, lea_result, leab_result, restrict_result, restricted_to, subseg_result}
+use Rattle.mm_word.specs.Pointer.{Pointer, IsWellFormed, IsBelow, bits_of, base_of, moved_to, lea_result, leab_result}
+use Rattle.mm_word.specs.Pointer.{restrict_result, restricted_to, subseg_result}
 use Rattle.mm_word.specs.Word.{IsWord, IsPointerAnd, word_bits}
 use Rattle.mm_word.proofs.Results.{lea_result-IsBelow, leab_result-IsBelow, subseg_result-IsBelow}
 use Rattle.mm_isa.specs.declared.instr.AluOp.{AluOp}
-use Rattle.mm_isa.specs.declared.instr.AluOp.TheVariants.{Add, Sub, Mul, Divu, Remu, And, Or, Xor, Shl, Shr, Sar, Eq, Ltu, Lts}
+use Rattle.mm_isa.specs.declared.instr.AluOp.TheVariants.{Add, Sub, Mul, Divu, Remu, And, Or, Xor, Shl, Shr, Sar, Eq}
+use Rattle.mm_isa.specs.declared.instr.AluOp.TheVariants.{Ltu, Lts}
 use Rattle.mm_isa.specs.declared.instr.DivZero.{DivZero}
 use Rattle.mm_isa.specs.Alu.{alu_result}
 use Rattle.mm_model.specs.Effect.{same_word, test, high_and_low}
@@ -27,9 +31,13 @@ use Rattle.mm_kernel.specs.Variants.{IsShared}
 use Rattle.mm_kernel.specs.declared.form.Form.{Form}
 use Rattle.mm_kernel.specs.declared.form.Form.TheVariants.{Number, Pointer as Exactly, Integer, Open, Any, Inside}
 use Rattle.mm_kernel.specs.Forms.{PointsInside, exact_bits, exact, around, around_as}
-use Rattle.mm_kernel.specs.Operations.{small, small_result, leaves_code, alu_by, alu_if_exact, alu_form, equal_if_exact, equal_form, high_if_exact, high_form, permissions, may_name, choices, inside_as, with_permission, permission_of}
-use Rattle.mm_kernel.proofs.Segs.{Within, outside_within, meets_same, points_within, within_points, within_trans, within_base}
-use Rattle.mm_kernel.proofs.Values.{Clean, clean_below, shared_outside, key_shared, open_outside, Holds, Fits, Moved, moved_within, shared_moved}
+use Rattle.mm_kernel.specs.Operations.{small, small_result, leaves_code, alu_by, alu_if_exact, alu_form, equal_if_exact}
+use Rattle.mm_kernel.specs.Operations.{equal_form, high_if_exact, high_form, permissions, may_name, choices, inside_as}
+use Rattle.mm_kernel.specs.Operations.{with_permission, permission_of}
+use Rattle.mm_kernel.proofs.Segs.{Within, outside_within, meets_same, points_within, within_points, within_trans}
+use Rattle.mm_kernel.proofs.Segs.{within_base}
+use Rattle.mm_kernel.proofs.Values.{Clean, clean_below, shared_outside, key_shared, open_outside, Holds, Fits, Moved}
+use Rattle.mm_kernel.proofs.Values.{moved_within, shared_moved}
 
 -- the code of a permission
 pub code_named : (n : ℕ) (to : Perm) → perm_of n ≡ Some to → n ≡ code_of to

@@ -1,5 +1,6 @@
 -- The laws: by induction over the list of items.
-use Rattle.std.proofs.Common.{◌≡◌, ℕ, suc, ◌<◌, ◌⊎◌, inl, inr, Bool, true, false, ◌&&◌, not, if◌then◌else◌, List, [], ◌∷◌, map, length, slice_index_or, Some, refl, sym, ap, ◌∙◌, subst, arith}
+use Rattle.std.proofs.Common.{◌≡◌, ℕ, suc, ◌<◌, ◌⊎◌, inl, inr, Bool, true, false, ◌&&◌, not, if◌then◌else◌, List, []}
+use Rattle.std.proofs.Common.{◌∷◌, map, length, slice_index_or, Some, refl, sym, ap, ◌∙◌, subst, arith}
 use Rattle.std.specs.Prelude.{Contains}
 use Rattle.std.specs.List.{AllByRecursion, AllZip, list_all}
 use Rattle.std.proofs.lemmas.Bool.{and_parts, and_from, or_right, or_parts, not-true}
@@ -30,7 +31,8 @@ use Rattle.mm_kernel.specs.declared.fact.Handling.{Handling}
 use Rattle.mm_kernel.specs.declared.form.Form.TheVariants.{Any}
 use Rattle.mm_kernel.specs.declared.thread.Thread.{Thread}
 use Rattle.mm_kernel.specs.Forms.{exactly, is_open_form}
-use Rattle.mm_kernel.specs.Threads.{form_in, has_open_words, is_kernel_slot, is_kernel, serves_some, is_free, own_thread}
+use Rattle.mm_kernel.specs.Threads.{form_in, has_open_words, is_kernel_slot, is_kernel, serves_some, is_free}
+use Rattle.mm_kernel.specs.Threads.{own_thread}
 use Rattle.mm_kernel.specs.Facts.{take_up}
 use Rattle.mm_kernel.specs.Facts.Fact.{HasEvent}
 use Rattle.mm_kernel.specs.Derived.{Derived, Keeps}

@@ -1,5 +1,7 @@
 -- Every derived fact is sane: its pointers that meet the kept segments are inside.
-use Rattle.std.proofs.Common.{◌≡◌, ℕ, zero, suc, Bool, true, false, ◌&&◌, not, ◌==◌, nat_lt, ◌%◌, ◌/◌, ◌^◌, if◌then◌else◌, cond, ℤ, pos, ◌+ℤ◌, ◌*ℤ◌, List, [], ◌∷◌, ◌++◌, map, slice_get, is_some, Option, Some, None, Result, Ok, Err, refl, ap, ◌∙◌, subst, arith}
+use Rattle.std.proofs.Common.{◌≡◌, ℕ, zero, suc, Bool, true, false, ◌&&◌, not, ◌==◌, nat_lt, ◌%◌, ◌/◌, ◌^◌}
+use Rattle.std.proofs.Common.{if◌then◌else◌, cond, ℤ, pos, ◌+ℤ◌, ◌*ℤ◌, List, [], ◌∷◌, ◌++◌, map, slice_get, is_some}
+use Rattle.std.proofs.Common.{Option, Some, None, Result, Ok, Err, refl, ap, ◌∙◌, subst, arith}
 use Rattle.std.specs.Prelude.{Contains}
 use Rattle.std.specs.Int.{w64, cast_unsigned, cast_signed}
 use Rattle.std.specs.List.{AllByRecursion, flat_map, list_any}
@@ -19,7 +21,8 @@ use Rattle.mm_word.specs.declared.word.Word.TheVariants.{Int, Ptr}
 use Rattle.mm_word.specs.declared.word.Cell.{Cell}
 use Rattle.mm_word.specs.Access.{Touch, check_result}
 use Rattle.mm_word.specs.Perm.{can_move, can_become, allows, execute_form, code_of}
-use Rattle.mm_word.specs.Pointer.{Pointer, bits_of, base_of, next_result, enter_result, lea_result, leab_result, subseg_result}
+use Rattle.mm_word.specs.Pointer.{Pointer, bits_of, base_of, next_result, enter_result, lea_result, leab_result}
+use Rattle.mm_word.specs.Pointer.{subseg_result}
 use Rattle.mm_isa.specs.declared.instr.AluOp.{AluOp}
 use Rattle.mm_isa.specs.declared.instr.AluOp.TheVariants.{Add}
 use Rattle.mm_isa.specs.declared.instr.How.{How}
@@ -38,7 +41,8 @@ use Rattle.mm_model.specs.Ask.{load_kind}
 use Rattle.mm_model.specs.Operands.{field_a, field_b, field_imm}
 use Rattle.mm_model.specs.Turn.{instr_in}
 use Rattle.mm_model.proofs.CoreRows.{each_map, each_contained, into_map}
-use Rattle.mm_kernel.specs.Segments.{Segment, is_kept, is_fixed, is_inside, meets, pointers_in, slot_pointers, page_pointers, running_slots, live_pointers, runs_privileged, is_user}
+use Rattle.mm_kernel.specs.Segments.{Segment, is_kept, is_fixed, is_inside, meets, pointers_in, slot_pointers}
+use Rattle.mm_kernel.specs.Segments.{page_pointers, running_slots, live_pointers, runs_privileged, is_user}
 use Rattle.mm_kernel.specs.declared.fact.Leak.TheVariants as leak
 use Rattle.mm_kernel.specs.declared.form.Form.{Form}
 use Rattle.mm_kernel.specs.declared.form.Form.TheVariants.{Number, Pointer as Exactly, Integer, Open, Any, Inside}
@@ -49,16 +53,27 @@ use Rattle.mm_kernel.specs.Forms.{exactly, exact, exact_bits, stored_form, aroun
 use Rattle.mm_kernel.specs.Threads.{form_in, with_form, stepped, going_to, own_thread, thread_through, handler_of}
 use Rattle.mm_kernel.specs.Facts.{Fact, hand_out, take_up}
 use Rattle.mm_kernel.specs.Facts.Fact.{HasThread, HasForm}
-use Rattle.mm_kernel.specs.Operations.{small_result, alu_form, alu_if_exact, alu_by, leaves_code, equal_form, equal_if_exact, high_form, high_if_exact, choices, with_permission, permission_of, inside_as}
-use Rattle.mm_kernel.specs.Turns.{outcomes, outcomes_of, decoded, fetched, aimed, fault, early_fault, operand_a, operand_b, sets, moves, moved, moved_somewhere, restricts, restricted, may_refuse, loads, loaded_by, loaded_at, word_loaded, waits, stores, stored_by, stored_at, word_stored, stores_outside, branches, branched, branches_if, jumps, jumped, links, at_distance, tests_tag, computes, with_event, seen_as}
-use Rattle.mm_kernel.specs.Derived.{Derived, Keeps, first_form, cell_facts, has_segment, outcome_facts, on_after, resumed}
-use Rattle.mm_kernel.specs.Derived.Derived.{begins_in_cell, begins_in_slot, reaches, enters, turns, loads as by_load, stores as by_store, takes, resumes, reads_served, writes_served}
+use Rattle.mm_kernel.specs.Operations.{small_result, alu_form, alu_if_exact, alu_by, leaves_code, equal_form}
+use Rattle.mm_kernel.specs.Operations.{equal_if_exact, high_form, high_if_exact, choices, with_permission}
+use Rattle.mm_kernel.specs.Operations.{permission_of, inside_as}
+use Rattle.mm_kernel.specs.Turns.{outcomes, outcomes_of, decoded, fetched, aimed, fault, early_fault, operand_a}
+use Rattle.mm_kernel.specs.Turns.{operand_b, sets, moves, moved, moved_somewhere, restricts, restricted, may_refuse}
+use Rattle.mm_kernel.specs.Turns.{loads, loaded_by, loaded_at, word_loaded, waits, stores, stored_by, stored_at}
+use Rattle.mm_kernel.specs.Turns.{word_stored, stores_outside, branches, branched, branches_if, jumps, jumped, links}
+use Rattle.mm_kernel.specs.Turns.{at_distance, tests_tag, computes, with_event, seen_as}
+use Rattle.mm_kernel.specs.Derived.{Derived, Keeps, first_form, cell_facts, has_segment, outcome_facts, on_after}
+use Rattle.mm_kernel.specs.Derived.{resumed}
+use Rattle.mm_kernel.specs.Derived.Derived.{begins_in_cell, begins_in_slot, reaches, enters, turns, loads as by_load}
+use Rattle.mm_kernel.specs.Derived.Derived.{stores as by_store, takes, resumes, reads_served, writes_served}
 use Rattle.mm_kernel.proofs.Segs.{inside_within}
 use Rattle.mm_kernel.proofs.Values.{Moved}
 use Rattle.mm_kernel.proofs.Results.{lea_moved, leab_moved, subseg_moved, choice_becomes}
 use Rattle.mm_kernel.proofs.Ups.{each_from, each_split, each_join, each_unflat}
 use Rattle.mm_kernel.proofs.Rows.{WholeForm}
-use Rattle.mm_kernel.proofs.Whole.{Sane, become_user, moves_segment, sane_moved, self_within, sane_as, sane_next, sane_advanced, sane_distance, sane_entered, SaneForm, SaneThread, SaneFact, SaneOutcome, sane_form, sane_with, sane_stepped, sane_event, sane_exactly, sane_stored, sane_whole, hands_out, takes_up, outcome_sane}
+use Rattle.mm_kernel.proofs.Whole.{Sane, become_user, moves_segment, sane_moved, self_within, sane_as, sane_next}
+use Rattle.mm_kernel.proofs.Whole.{sane_advanced, sane_distance, sane_entered, SaneForm, SaneThread, SaneFact}
+use Rattle.mm_kernel.proofs.Whole.{SaneOutcome, sane_form, sane_with, sane_stepped, sane_event, sane_exactly}
+use Rattle.mm_kernel.proofs.Whole.{sane_stored, sane_whole, hands_out, takes_up, outcome_sane}
 
 -- 1. The image.
 

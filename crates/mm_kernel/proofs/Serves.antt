@@ -1,5 +1,6 @@
 -- The rows about events and served slots.
-use Rattle.std.proofs.Common.{◌≡◌, ℕ, ◌+◌, ◌*◌, ◌<◌, ◌⊎◌, inl, inr, Bool, true, false, ◌&&◌, ◌||◌, if◌then◌else◌, eq-eqb, List, [], ◌∷◌, slice_set, Option, Some, None, refl, sym, ap, ◌∙◌, subst, arith}
+use Rattle.std.proofs.Common.{◌≡◌, ℕ, ◌+◌, ◌*◌, ◌<◌, ◌⊎◌, inl, inr, Bool, true, false, ◌&&◌, ◌||◌, if◌then◌else◌}
+use Rattle.std.proofs.Common.{eq-eqb, List, [], ◌∷◌, slice_set, Option, Some, None, refl, sym, ap, ◌∙◌, subst, arith}
 use Rattle.std.specs.Prelude.{Contains}
 use Rattle.std.specs.List.{AllByRecursion, list_any}
 use Rattle.std.proofs.lemmas.Bool.{and_parts, and_from, or_left, or_right}
@@ -20,7 +21,8 @@ use Rattle.mm_model.specs.Slot.{Slot, register, is_empty}
 use Rattle.mm_model.specs.State.{Core, slot_at, queue_at}
 use Rattle.mm_model.specs.Image.{Image}
 use Rattle.mm_model.specs.Fits.{is_waiting}
-use Rattle.mm_model.specs.Effect.{Reply, Effect, advanced, runs_past, plain, sets, takes, resumed_by, resumes, delivered, reads_of, writes_of}
+use Rattle.mm_model.specs.Effect.{Reply, Effect, advanced, runs_past, plain, sets, takes, resumed_by, resumes}
+use Rattle.mm_model.specs.Effect.{delivered, reads_of, writes_of}
 use Rattle.mm_model.specs.Effect.Reply.{Refused, Took, Served}
 use Rattle.mm_model.specs.Effect.Effect.{Deliver, Does}
 use Rattle.mm_model.specs.Turn.{slot_after, event_reply, first_event, served, is_taken, is_handler}
@@ -43,9 +45,11 @@ use Rattle.mm_kernel.proofs.Segs.{below_within, outside_within}
 use Rattle.mm_kernel.proofs.Values.{clean_below, Fits, fits_integer, Public, public_fits}
 use Rattle.mm_kernel.proofs.Ups.{Up, Free, free_up, Follows}
 use Rattle.mm_kernel.proofs.Anyone.{advanced_below}
-use Rattle.mm_kernel.proofs.Slots.{Sound, sound_write, guards, OriginOk, Match, match_write, match_at, free_form, Came, came_like, HeldFor, StoppedOk, SlotOk, SlotOkAs, slot_delivered}
+use Rattle.mm_kernel.proofs.Slots.{Sound, sound_write, guards, OriginOk, Match, match_write, match_at, free_form, Came}
+use Rattle.mm_kernel.proofs.Slots.{came_like, HeldFor, StoppedOk, SlotOk, SlotOkAs, slot_delivered}
 use Rattle.mm_kernel.proofs.Cores.{any_event, EventOk, slot_ok, queue_ok}
-use Rattle.mm_kernel.proofs.Rows.{Machine, Acts, Ready, EffectOk, next_slot, next_match, next_sound, runs_on, steps_on, sets_ok}
+use Rattle.mm_kernel.proofs.Rows.{Machine, Acts, Ready, EffectOk, next_slot, next_match, next_sound, runs_on, steps_on}
+use Rattle.mm_kernel.proofs.Rows.{sets_ok}
 
 any_among : {A : Type 0} (p : A → Bool) (xs : List A) → AllByRecursion (λ (x : A). p x ≡ true → list_any p xs ≡ true) xs
 any_among p [] = tt

@@ -1,5 +1,7 @@
 -- What holds at the start of a variant.
-use Rattle.std.proofs.Common.{◌≡◌, ℕ, zero, suc, ◌%◌, ◌<◌, ◌≤◌, ◌⊎◌, inl, inr, Bool, true, false, ◌&&◌, ◌==◌, nat_eq, eqb-true, if◌then◌else◌, cond, List, [], ◌∷◌, map, replicate, length, slice_get, slice_index_or, Option, Some, None, refl, sym, ap, ◌∙◌, subst, arith}
+use Rattle.std.proofs.Common.{◌≡◌, ℕ, zero, suc, ◌%◌, ◌<◌, ◌≤◌, ◌⊎◌, inl, inr, Bool, true, false, ◌&&◌, ◌==◌, nat_eq}
+use Rattle.std.proofs.Common.{eqb-true, if◌then◌else◌, cond, List, [], ◌∷◌, map, replicate, length, slice_get}
+use Rattle.std.proofs.Common.{slice_index_or, Option, Some, None, refl, sym, ap, ◌∙◌, subst, arith}
 use Rattle.std.specs.Prelude.{Contains}
 use Rattle.std.specs.List.{AllByRecursion, AllZip, flat_map, list_any}
 use Rattle.std.specs.Ordering.{nat_cmp, eq_by_cmp}
@@ -27,7 +29,8 @@ use Rattle.mm_model.proofs.Memories.{aligned, page_of_cell, page_whole, place_wi
 use Rattle.mm_model.proofs.EffectWords.{each_or}
 use Rattle.mm_model.proofs.Filters.{contained_filter}
 use Rattle.mm_model.proofs.Starts.{start_slots, start_formed}
-use Rattle.mm_kernel.specs.Segments.{Segment, is_kept, is_fixed, may_write, pointers_in, slot_pointers, page_pointers, running_slots, live_pointers, runs_privileged, is_user, is_open}
+use Rattle.mm_kernel.specs.Segments.{Segment, is_kept, is_fixed, may_write, pointers_in, slot_pointers, page_pointers}
+use Rattle.mm_kernel.specs.Segments.{running_slots, live_pointers, runs_privileged, is_user, is_open}
 use Rattle.mm_kernel.specs.declared.form.Form.TheVariants.{Any}
 use Rattle.mm_kernel.specs.declared.fact.Leak.TheVariants as leak
 use Rattle.mm_kernel.specs.declared.thread.Origin.TheVariants.{Door}
@@ -39,7 +42,8 @@ use Rattle.mm_kernel.specs.Facts.Fact.{HasForm}
 use Rattle.mm_kernel.specs.Derived.{Derived, Keeps, first_form, cell_facts}
 use Rattle.mm_kernel.specs.Derived.Derived.{begins_in_cell, begins_in_slot}
 use Rattle.mm_kernel.specs.Variants.{IsShared, IsAnyCaller, IsVariantSlot, stays, Variant}
-use Rattle.mm_kernel.proofs.Values.{CleanWord, open_is_user, Fits, fits_exactly, fits_any_int, fits_number, public_shared, holds_exactly}
+use Rattle.mm_kernel.proofs.Values.{CleanWord, open_is_user, Fits, fits_exactly, fits_any_int, fits_number}
+use Rattle.mm_kernel.proofs.Values.{public_shared, holds_exactly}
 use Rattle.mm_kernel.proofs.Ups.{free_up, handed_out, each_in, each_from, each_split, each_unflat}
 use Rattle.mm_kernel.proofs.Anyone.{anyone, anyone_free, any_register}
 use Rattle.mm_kernel.proofs.Slots.{RunningOk, SlotOk, SlotOkAs}

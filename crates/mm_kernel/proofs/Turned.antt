@@ -1,5 +1,7 @@
 -- One turn keeps what holds of rows and cells, and uses kept words by code words alone.
-use Rattle.std.proofs.Common.{◌≡◌, ℕ, ◌+◌, ◌⊎◌, inl, inr, Bool, true, false, ◌&&◌, nat_lt, ◌^◌, if◌then◌else◌, ℤ, pos, List, [], ◌∷◌, ◌++◌, replicate, Option, Some, None, Result, Ok, Err, refl, sym, ap, ◌∙◌, subst}
+use Rattle.std.proofs.Common.{◌≡◌, ℕ, ◌+◌, ◌⊎◌, inl, inr, Bool, true, false, ◌&&◌, nat_lt, ◌^◌, if◌then◌else◌, ℤ, pos}
+use Rattle.std.proofs.Common.{List, [], ◌∷◌, ◌++◌, replicate, Option, Some, None, Result, Ok, Err, refl, sym, ap, ◌∙◌}
+use Rattle.std.proofs.Common.{subst}
 use Rattle.std.specs.Prelude.{IfSome}
 use Rattle.std.specs.List.{AllByRecursion}
 use Rattle.std.specs.Option.{option_to_list}
@@ -32,7 +34,9 @@ use Rattle.mm_model.specs.Operands.{addr_operand, value_operand, word_a, word_b,
 use Rattle.mm_model.specs.Ask.{Ask, ask, reaching, load_kind, is_privileged}
 use Rattle.mm_model.specs.Effect.{Effect, effect, delivered}
 use Rattle.mm_model.specs.Effect.Effect.{Fault, Block, Deliver, Does}
-use Rattle.mm_model.specs.Turn.{Turned, is_running, reply, stood, event_of, faulted, touch_of, asked_use, blocked, ended, executed, issued, decoded, instr_in, fetched, aimed, started, idle, arrives, turn}
+use Rattle.mm_model.specs.Turn.{Turned, is_running, reply, stood, event_of, faulted, touch_of, asked_use, blocked}
+use Rattle.mm_model.specs.Turn.{ended, executed, issued, decoded, instr_in, fetched, aimed, started, idle, arrives}
+use Rattle.mm_model.specs.Turn.{turn}
 use Rattle.mm_model.specs.Trace.{touches}
 use Rattle.mm_model.proofs.SlotSteps.{delivered_from}
 use Rattle.mm_model.proofs.EffectWords.{each_or}
@@ -52,11 +56,14 @@ use Rattle.mm_kernel.specs.Derived.{Keeps, IsCode}
 use Rattle.mm_kernel.specs.Variants.{IsShared}
 use Rattle.mm_kernel.specs.Laws.{KeptByCode}
 use Rattle.mm_kernel.proofs.Segs.{not_kept}
-use Rattle.mm_kernel.proofs.Values.{Fits, shared_outside, fits_number, Public, public_fits, public_number, allows_loads, open_outside}
+use Rattle.mm_kernel.proofs.Values.{Fits, shared_outside, fits_number, Public, public_fits, public_number, allows_loads}
+use Rattle.mm_kernel.proofs.Values.{open_outside}
 use Rattle.mm_kernel.proofs.Ups.{Up, Free, Bound, free_is, free_up, up_cases, Follows, ByHandler, all_follow}
 use Rattle.mm_kernel.proofs.Anyone.{anyone, anyone_free, anyone_follows}
-use Rattle.mm_kernel.proofs.Slots.{Sound, Match, match_at, match_anyone, origin_guards, free_form, came_like, RunningOk, SlotOk, SlotOkAs, slot_delivered}
-use Rattle.mm_kernel.proofs.Cores.{any_event, RowsOk, put_slot_ok, slot_ok, MemOk, change_rows, change_cells, FaultOk, fault_rows}
+use Rattle.mm_kernel.proofs.Slots.{Sound, Match, match_at, match_anyone, origin_guards, free_form, came_like, RunningOk}
+use Rattle.mm_kernel.proofs.Slots.{SlotOk, SlotOkAs, slot_delivered}
+use Rattle.mm_kernel.proofs.Cores.{any_event, RowsOk, put_slot_ok, slot_ok, MemOk, change_rows, change_cells, FaultOk}
+use Rattle.mm_kernel.proofs.Cores.{fault_rows}
 use Rattle.mm_kernel.proofs.Rows.{WholeForm, Machine, Acts, Ready, EffectOk, reg, word}
 use Rattle.mm_kernel.proofs.Places.{through, touched_in}
 use Rattle.mm_kernel.proofs.Serves.{came_serves}

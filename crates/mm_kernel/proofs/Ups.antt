@@ -1,5 +1,6 @@
 -- What follows from what a derived thread can come to, where no leak is derived.
-use Rattle.std.proofs.Common.{◌≡◌, ℕ, suc, ◌+◌, ◌<◌, ◌⊎◌, inl, inr, Bool, true, false, not, if◌then◌else◌, List, [], ◌∷◌, ◌++◌, length, slice_index_or, Some, refl, sym, subst, arith}
+use Rattle.std.proofs.Common.{◌≡◌, ℕ, suc, ◌+◌, ◌<◌, ◌⊎◌, inl, inr, Bool, true, false, not, if◌then◌else◌, List, []}
+use Rattle.std.proofs.Common.{◌∷◌, ◌++◌, length, slice_index_or, Some, refl, sym, subst, arith}
 use Rattle.std.specs.Prelude.{Contains}
 use Rattle.std.specs.List.{AllByRecursion, flat_map, list_all, range_with_len}
 use Rattle.std.proofs.lemmas.Bool.{and_parts, and_from, not-true, not_from_false}
@@ -25,7 +26,8 @@ use Rattle.mm_kernel.specs.Threads.{form_in, with_form, is_free}
 use Rattle.mm_kernel.specs.Facts.{Fact, let_out, hand_out, loose, take_up}
 use Rattle.mm_kernel.specs.Facts.Fact.{HasThread, HasForm, HasEvent, HasFaulted, HasLeak}
 use Rattle.mm_kernel.specs.Turns.{outcomes, with_event}
-use Rattle.mm_kernel.specs.Derived.{Derived, Keeps, outcome_facts, fault_facts, shown, register_shown, register_left, resumed}
+use Rattle.mm_kernel.specs.Derived.{Derived, Keeps, outcome_facts, fault_facts, shown, register_shown, register_left}
+use Rattle.mm_kernel.specs.Derived.{resumed}
 use Rattle.mm_kernel.specs.Derived.Derived.{turns, loads, stores, takes, resumes, reads_served, writes_served}
 use Rattle.mm_kernel.proofs.Values.{Public}
 

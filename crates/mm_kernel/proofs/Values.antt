@@ -1,5 +1,6 @@
 -- Words that a form stands for, with what is known of every word that is ever held.
-use Rattle.std.proofs.Common.{◌≡◌, ℕ, ◌⊎◌, inl, inr, Bool, true, false, ◌&&◌, List, [], ◌∷◌, Some, refl, sym, ap, ◌∙◌, subst, ◌+◌, if◌then◌else◌}
+use Rattle.std.proofs.Common.{◌≡◌, ℕ, ◌⊎◌, inl, inr, Bool, true, false, ◌&&◌, List, [], ◌∷◌, Some, refl, sym, ap, ◌∙◌}
+use Rattle.std.proofs.Common.{subst, ◌+◌, if◌then◌else◌}
 use Rattle.std.specs.List.{AllByRecursion}
 use Rattle.std.proofs.lemmas.Bool.{and_parts, and_from, and_left, and_right, false_from_ne_true}
 use Rattle.mm_word.specs.declared.perm.Perm.{Perm}
@@ -16,7 +17,8 @@ use Rattle.mm_word.proofs.Below.{holds_word-Covers}
 use Rattle.mm_word.proofs.Checked.{Covers-holds_word}
 use Rattle.mm_model.specs.Memory.{cell_at}
 use Rattle.mm_model.specs.Image.{Image}
-use Rattle.mm_kernel.specs.Segments.{Segment, is_fixed, meets, may_write, runs_privileged, is_open, is_open_as, is_enter, is_door}
+use Rattle.mm_kernel.specs.Segments.{Segment, is_fixed, meets, may_write, runs_privileged, is_open, is_open_as}
+use Rattle.mm_kernel.specs.Segments.{is_enter, is_door}
 use Rattle.mm_kernel.specs.declared.form.Form.{Form}
 use Rattle.mm_kernel.specs.declared.form.Form.TheVariants.{Number, Pointer as Exactly, Integer, Open, Any, Inside}
 use Rattle.mm_kernel.specs.Forms.{Stands, PointsInside, exactly, is_open_form, stored_form}

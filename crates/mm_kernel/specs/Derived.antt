@@ -16,7 +16,8 @@ use Rattle.mm_model.specs.Memory.{cell_at}
 use Rattle.mm_model.specs.Slot.{Slot}
 use Rattle.mm_model.specs.Effect.{advanced, runs_past}
 use Rattle.mm_model.specs.Image.{Image}
-use Rattle.mm_kernel.specs.Segments.{Segment, lies_in, is_kept, is_fixed, is_inside, meets, live_pointers, running_slots, is_user}
+use Rattle.mm_kernel.specs.Segments.{Segment, lies_in, is_kept, is_fixed, is_inside, meets, live_pointers}
+use Rattle.mm_kernel.specs.Segments.{running_slots, is_user}
 use Rattle.mm_kernel.specs.declared.fact.Leak.{Leak}
 use Rattle.mm_kernel.specs.declared.fact.Leak.TheVariants.{Across, Cell as InCell, Jump, FaultPointer, Fault}
 use Rattle.mm_kernel.specs.declared.fact.Handling.{Handling}
@@ -114,15 +115,18 @@ pub data Derived (i : Image) (kept : List Segment) : Fact → Type 0 where
   reaches : (p : PointerValue) → Contains (live_pointers i) p → reaches_across kept p ≡ true
       → Derived i kept (HasLeak (Across p))
   -- a thread through a door, in a slot with the handler of any running slot
-  enters : {fact : Fact} (door ip : PointerValue) (s : Slot) → Derived i kept (HasDoor door) → enter_result door ≡ Some ip
-      → Contains (running_slots i) s → Contains (take_up i kept (thread_through door ip (handler_of i kept s.handler))) fact
+  enters : {fact : Fact} (door ip : PointerValue) (s : Slot) → Derived i kept (HasDoor door)
+      → enter_result door ≡ Some ip
+      → Contains (running_slots i) s
+      → Contains (take_up i kept (thread_through door ip (handler_of i kept s.handler))) fact
       → Derived i kept fact
   -- an outcome of a thread's turn
   turns : {fact : Fact} (t : Thread) (o : Outcome) → Derived i kept (HasThread t) → Contains (outcomes i kept t) o
       → Contains (outcome_facts i kept t o) fact → Derived i kept fact
   -- a load: each form of a kept word that it may reach
   loads : {fact : Fact} (t next : Thread) (part : Segment) (reg w : ℕ) (f : Form) → Derived i kept (HasThread t)
-      → Contains (outcomes i kept t) (outcome.Loads part reg next) → Derived i kept (HasForm w f) → lies_in w part ≡ true
+      → Contains (outcomes i kept t) (outcome.Loads part reg next) → Derived i kept (HasForm w f)
+      → lies_in w part ≡ true
       → Contains (take_up i kept (with_form next reg f)) fact → Derived i kept fact
   -- a store: each kept word of the image's pages that it may reach
   stores : (t : Thread) (part : Segment) (w : ℕ) (c : Cell) (f : Form) → Derived i kept (HasThread t)

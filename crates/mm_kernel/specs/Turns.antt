@@ -13,7 +13,8 @@ use Rattle.mm_word.specs.declared.word.Word.TheVariants.{Ptr}
 use Rattle.mm_word.specs.declared.word.Cell.{Cell}
 use Rattle.mm_word.specs.Access.{Touch, check_result}
 use Rattle.mm_word.specs.Perm.{can_move, allows, execute_form}
-use Rattle.mm_word.specs.Pointer.{Pointer as PointerValue, moved_to, lea_result, leab_result, subseg_result, next_result, enter_result}
+use Rattle.mm_word.specs.Pointer.{Pointer as PointerValue, moved_to, lea_result, leab_result, subseg_result}
+use Rattle.mm_word.specs.Pointer.{next_result, enter_result}
 use Rattle.mm_isa.specs.declared.instr.AluOp.TheVariants.{Add}
 use Rattle.mm_isa.specs.declared.instr.Instr.{Instr}
 use Rattle.mm_isa.specs.declared.instr.Instr.TheVariants as instr
@@ -68,13 +69,15 @@ moved t i rd (Err c) = fault t i ∷ []
 abbrev pub moved_somewhere : Thread → Instr → ℕ → Perm → Form → List Outcome
 moved_somewhere t i rd perm f = if can_move perm then fault t i ∷ sets t rd f ∷ [] else fault t i ∷ []
 
-abbrev pub pointer_moved : List Segment → Thread → Instr → ℕ → PointerValue → Option ℕ → (PointerValue → ℕ → Result PointerValue Cause)
+abbrev pub pointer_moved : List Segment → Thread → Instr → ℕ → PointerValue → Option ℕ
+    → (PointerValue → ℕ → Result PointerValue Cause)
     → List Outcome
 pointer_moved kept t i rd p None by = moved_somewhere t i rd p.perm (around kept p)
 pointer_moved kept t i rd p (Some bits) by = moved t i rd (by p bits)
 
 -- a form is moved or narrowed by the bits of another
-unfoldable pub moves : List Segment → Thread → Instr → ℕ → Form → Option ℕ → (PointerValue → ℕ → Result PointerValue Cause)
+unfoldable pub moves : List Segment → Thread → Instr → ℕ → Form → Option ℕ
+    → (PointerValue → ℕ → Result PointerValue Cause)
     → List Outcome
 moves kept t i rd (Number n) bits by = fault t i ∷ []
 moves kept t i rd (Pointer p) bits by = pointer_moved kept t i rd p bits by
@@ -236,15 +239,18 @@ outcomes_of image kept t (instr.Eqw rd ra rb) = sets t rd (equal_form (form_in t
 outcomes_of image kept t (instr.Out ra) = fault t (instr.Out ra) ∷ Goes (stepped t) ∷ []
 outcomes_of image kept t (instr.SelfSlot rd) = sets t rd Integer ∷ []
 outcomes_of image kept t (instr.Alu op rd ra rb) =
-    computes t (instr.Alu op rd ra rb) (divides op) rd (alu_form op (form_in t ra) (form_in t rb)) (exact_bits (form_in t rb))
+    computes t (instr.Alu op rd ra rb) (divides op) rd (alu_form op (form_in t ra) (form_in t rb))
+    (exact_bits (form_in t rb))
 outcomes_of image kept t (instr.Addi rd ra imm) =
     sets t rd (alu_form Add (form_in t ra) (Number (cast_unsigned w64 imm))) ∷ []
 outcomes_of image kept t (instr.Lea rd ra rb) =
-    moves kept t (instr.Lea rd ra rb) rd (form_in t ra) (exact_bits (form_in t rb)) (λ p bits. lea_result p (cast_signed w64 bits))
+    moves kept t (instr.Lea rd ra rb) rd (form_in t ra) (exact_bits (form_in t rb))
+    (λ p bits. lea_result p (cast_signed w64 bits))
 outcomes_of image kept t (instr.Leai rd ra imm) =
     moves kept t (instr.Leai rd ra imm) rd (form_in t ra) (Some 0) (λ p bits. lea_result p imm)
 outcomes_of image kept t (instr.Leab rd ra rb) =
-    moves kept t (instr.Leab rd ra rb) rd (form_in t ra) (exact_bits (form_in t rb)) (λ p bits. leab_result p (cast_signed w64 bits))
+    moves kept t (instr.Leab rd ra rb) rd (form_in t ra) (exact_bits (form_in t rb))
+    (λ p bits. leab_result p (cast_signed w64 bits))
 outcomes_of image kept t (instr.Restrict rd ra rb) =
     restricts t (instr.Restrict rd ra rb) rd (form_in t ra) (form_in t rb)
 outcomes_of image kept t (instr.Subseg rd ra rb) =
