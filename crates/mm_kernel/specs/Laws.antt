@@ -60,8 +60,8 @@ abbrev pub is_of_kernel : Image → List Segment → Option ℕ → Bool
 is_of_kernel i kept None = false
 is_of_kernel i kept (Some n) = is_kernel i kept n
 
--- a slot that others run, or serve: at an instruction pointer that no thread of the kernel has, or stopped by a fault with
--- a handler that is no slot of the kernel
+-- a slot that others run, or serve: at an instruction pointer that no thread of the kernel has, or stopped by a fault
+-- with a handler that is no slot of the kernel
 abbrev pub ServedByOthers : Image → List Segment → Slot → SlotState → Type 0
 ServedByOthers i kept s Running = (t : Thread) → Derived i kept (HasThread t) → t.ip ≡ s.ip → ⊥
 ServedByOthers i kept s (Halted cause) = ⊥
