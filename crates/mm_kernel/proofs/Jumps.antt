@@ -1,0 +1,294 @@
+-- The rows that branch and jump.
+use Rattle.std.proofs.Common.{◌≡◌, ℕ, ◌+◌, ◌<◌, ◌≤◌, ◌⊎◌, inl, inr, Bool, true, false, ◌==◌, if◌then◌else◌, ℤ, pos}
+use Rattle.std.proofs.Common.{◌+ℤ◌, ◌*ℤ◌, List, [], ◌∷◌, slice_set, slice_index_or, is_some, Option, Some, None, Result}
+use Rattle.std.proofs.Common.{Ok, Err, refl, sym, ap, ◌∙◌, subst, arith}
+use Rattle.std.specs.Prelude.{option_map}
+use Rattle.std.specs.List.{AllByRecursion}
+use Rattle.std.proofs.lemmas.Bool.{cases_lt}
+use Rattle.std.proofs.lemmas.List.{get_or_past}
+use Rattle.mm_word.specs.declared.perm.Perm.{Perm}
+use Rattle.mm_word.specs.declared.perm.Perm.TheVariants.{Xu}
+use Rattle.mm_word.specs.declared.cause.Cause.{Cause}
+use Rattle.mm_word.specs.declared.cause.Cause.TheVariants as cause
+use Rattle.mm_word.specs.declared.word.Word.{Word}
+use Rattle.mm_word.specs.declared.word.Word.TheVariants.{Int, Ptr}
+use Rattle.mm_word.specs.Perm.{can_fetch, execute_form}
+use Rattle.mm_word.specs.Pointer.{Pointer, enter_result, moved_to, next_result, IsBelow}
+use Rattle.mm_word.specs.Word.{word_bits}
+use Rattle.mm_word.proofs.Results.{next_result-IsBelow}
+use Rattle.mm_isa.specs.declared.instr.Instr.{Instr}
+use Rattle.mm_model.specs.declared.slot.SlotState.TheVariants.{Running}
+use Rattle.mm_model.specs.Memory.{Memory}
+use Rattle.mm_model.specs.Slot.{Slot}
+use Rattle.mm_model.specs.State.{Core}
+use Rattle.mm_model.specs.Image.{Image}
+use Rattle.mm_model.specs.Fits.{identity_of}
+use Rattle.mm_model.specs.Effect.{Effect, plain, sets_pointer, if_pointer, branches, at_distance, jumps, links}
+use Rattle.mm_model.specs.Effect.Effect.{Fault, Does}
+use Rattle.mm_model.specs.Turn.{slot_after}
+use Rattle.mm_kernel.specs.Segments.{Segment, is_door}
+use Rattle.mm_kernel.specs.declared.fact.Leak.TheVariants.{Enter}
+use Rattle.mm_kernel.specs.declared.form.Form.{Form}
+use Rattle.mm_kernel.specs.declared.form.Form.TheVariants.{Number, Pointer as Exactly, Integer, Open, Any, Inside}
+use Rattle.mm_kernel.specs.declared.outcome.Outcome.{Outcome}
+use Rattle.mm_kernel.specs.declared.outcome.Outcome.TheVariants as outcome
+use Rattle.mm_kernel.specs.declared.thread.Thread.{Thread}
+use Rattle.mm_kernel.specs.Forms.{exact_bits, zero_form}
+use Rattle.mm_kernel.specs.Threads.{form_in, with_form, stepped, going_to, handler_of, thread_through}
+use Rattle.mm_kernel.specs.Facts.{take_up}
+use Rattle.mm_kernel.specs.Facts.Fact.{HasDoor}
+use Rattle.mm_kernel.specs.Turns as kernel
+use Rattle.mm_kernel.specs.Derived.{Derived, Keeps}
+use Rattle.mm_kernel.specs.Derived.Derived.{enters}
+use Rattle.mm_kernel.specs.Variants.{IsShared}
+use Rattle.mm_kernel.proofs.Values.{Clean, clean_below, Holds, Fits, Public, public_number}
+use Rattle.mm_kernel.proofs.Ups.{Up, free_up, Follows, each_from}
+use Rattle.mm_kernel.proofs.Anyone.{anyone, anyone_free, distance_below}
+use Rattle.mm_kernel.proofs.Slots.{guards, Match, match_write, match_at, match_anyone, origin_guards, Came, came_like}
+use Rattle.mm_kernel.proofs.Slots.{RunningOk}
+use Rattle.mm_kernel.proofs.Results.{exact_bits_is}
+use Rattle.mm_kernel.proofs.Rows.{Machine, Acts, Ready, EffectOk, sound, runs_on, plain_ok, sets_ok}
+use Rattle.mm_kernel.proofs.Places.{Entered, entered, clean_entered, entered_perm, entered_outside}
+
+-- one of two statements, by a test
+abbrev pub Chosen : Type 0 → Type 0 → Bool → Type 0
+Chosen P Q true = P
+Chosen P Q false = Q
+
+module _ (i : Image) (kept : List Segment) (core : Core) (m : Memory) (k : Machine i kept core m) (s : Slot) (t : Thread) (a : Acts i kept core s t) (ks : Keeps i kept) where
+  abbrev Alls : List Outcome → Type 0
+  Alls os = AllByRecursion (Follows i kept t) os
+
+  abbrev Eff : Instr → Effect → Type 0
+  Eff x e = EffectOk i kept core m k s t a x e
+
+  runs : can_fetch s.ip.perm ≡ true
+  runs = k.runs s.number s a.at
+
+  -- 1. Branches.
+
+  to_below : (q : Pointer) (imm : ℤ) → at_distance s imm ≡ Ok q → IsBelow q s.ip
+  to_below q imm e = distance_below s.ip q imm runs e
+
+  same_distance : (imm : ℤ) → kernel.at_distance t imm ≡ at_distance s imm
+  same_distance imm = ap (λ (p : Pointer). moved_to p (pos p.addr +ℤ (pos 8 *ℤ imm))) a.matches.ip
+
+  goes_there : (q : Pointer) → Clean i q → Up i kept (going_to t q) → RunningOk i kept (record s { ip = q; past = false; turns = s.turns + 1; state = Running })
+  goes_there q c up =
+      runs_on i kept core m k s t a (going_to t q) (record s { ip = q; past = false; turns = s.turns + 1; state = Running }) refl up
+      (match_at i kept t s q q false false (s.turns + 1) Running a.matches refl refl c)
+
+  pub branch_ok : (x : Instr) (imm : ℤ) → Follows i kept t (kernel.branches t x imm) → Eff x (branches s (at_distance s imm))
+  unfolding kernel.branches plain slot_after
+  branch_ok x imm f = by (at_distance s imm) refl (subst (λ r. Follows i kept t (kernel.branched t x r)) (same_distance imm) f)
+    where
+      by : (r : Result Pointer Cause) → at_distance s imm ≡ r → Follows i kept t (kernel.branched t x r) → Eff x (branches s r)
+      by (Ok q) e g = record { own = goes_there q (clean_below i q s.ip (to_below q imm e) a.matches.clean) g; cell = tt; pages = refl; queue = tt; other = tt }
+      by (Err c) e g = g
+
+  pub branch_if_zero : (x : Instr) (f : Form) (w : Word) (imm : ℤ) → Holds i kept f w → Alls (kernel.branches_if true t x (exact_bits f) imm)
+      → Eff x (if word_bits w == 0 then branches s (at_distance s imm) else Does (plain s))
+  branch_if_zero x f w imm h all = go (exact_bits f) refl all
+    where
+      on : (b : Bool) → Chosen (Follows i kept t (kernel.branches t x imm)) (Follows i kept t (outcome.Goes (stepped t))) b → Eff x (if b then branches s (at_distance s imm) else Does (plain s))
+      on true f = branch_ok x imm f
+      on false f = plain_ok i kept core m k s t a x f
+
+      one : (b : Bool) → Alls ((if b then kernel.branches t x imm else outcome.Goes (stepped t)) ∷ [])
+          → Chosen (Follows i kept t (kernel.branches t x imm)) (Follows i kept t (outcome.Goes (stepped t))) b
+      one true g = g.0
+      one false g = g.0
+
+      either : (b : Bool) → Alls (kernel.branches t x imm ∷ outcome.Goes (stepped t) ∷ []) → Chosen (Follows i kept t (kernel.branches t x imm)) (Follows i kept t (outcome.Goes (stepped t))) b
+      either true g = g.0
+      either false g = g.1.0
+
+      go : (o : Option ℕ) → exact_bits f ≡ o → Alls (kernel.branches_if true t x o imm) → Eff x (if word_bits w == 0 then branches s (at_distance s imm) else Does (plain s))
+      go None e g = on (word_bits w == 0) (either (word_bits w == 0) g)
+      go (Some n) e g = subst (λ y. Eff x (if y == 0 then branches s (at_distance s imm) else Does (plain s))) (exact_bits_is i kept f w h n e) (on (n == 0) (one (n == 0) g))
+
+  pub branch_if_not : (x : Instr) (f : Form) (w : Word) (imm : ℤ) → Holds i kept f w → Alls (kernel.branches_if false t x (exact_bits f) imm)
+      → Eff x (if word_bits w == 0 then Does (plain s) else branches s (at_distance s imm))
+  branch_if_not x f w imm h all = go (exact_bits f) refl all
+    where
+      on : (b : Bool) → Chosen (Follows i kept t (outcome.Goes (stepped t))) (Follows i kept t (kernel.branches t x imm)) b → Eff x (if b then Does (plain s) else branches s (at_distance s imm))
+      on false f = branch_ok x imm f
+      on true f = plain_ok i kept core m k s t a x f
+
+      one : (b : Bool) → Alls ((if b then outcome.Goes (stepped t) else kernel.branches t x imm) ∷ [])
+          → Chosen (Follows i kept t (outcome.Goes (stepped t))) (Follows i kept t (kernel.branches t x imm)) b
+      one true g = g.0
+      one false g = g.0
+
+      either : (b : Bool) → Alls (kernel.branches t x imm ∷ outcome.Goes (stepped t) ∷ []) → Chosen (Follows i kept t (outcome.Goes (stepped t))) (Follows i kept t (kernel.branches t x imm)) b
+      either false g = g.0
+      either true g = g.1.0
+
+      go : (o : Option ℕ) → exact_bits f ≡ o → Alls (kernel.branches_if false t x o imm) → Eff x (if word_bits w == 0 then Does (plain s) else branches s (at_distance s imm))
+      go None e g = on (word_bits w == 0) (either (word_bits w == 0) g)
+      go (Some n) e g = subst (λ y. Eff x (if y == 0 then Does (plain s) else branches s (at_distance s imm))) (exact_bits_is i kept f w h n e) (on (n == 0) (one (n == 0) g))
+
+  pub lip_ok : (x : Instr) (rd : ℕ) (imm : ℤ) → Ready s rd → Alls (kernel.moved t x rd (kernel.at_distance t imm)) → Eff x (sets_pointer s rd (at_distance s imm))
+  lip_ok x rd imm hd all = by (at_distance s imm) refl (subst (λ r. Alls (kernel.moved t x rd r)) (same_distance imm) all)
+    where
+      by : (r : Result Pointer Cause) → at_distance s imm ≡ r → Alls (kernel.moved t x rd r) → Eff x (sets_pointer s rd r)
+      by (Ok q) e g = sets_ok i kept core m k s t a x rd (Exactly q) (Ptr q) hd g.0 (record { holds = refl; clean = clean_below i q s.ip (to_below q imm e) a.matches.clean })
+      by (Err c) e g = g.0
+
+  -- 2. A jump of a thread l, which stands for the slot with its link in a register.
+
+  module _ (l : Thread) (sl : Slot) (same : identity_of s ≡ identity_of sl) (ml : Match i kept l sl) where
+    abbrev target : Pointer → Slot
+    target to = record sl { ip = to; past = false; turns = s.turns + 1; state = Running }
+
+    arrives : (to : Pointer) → Clean i to → Match i kept (going_to l to) (target to)
+    arrives to c = match_at i kept l sl to to false false (s.turns + 1) Running ml refl refl c
+
+    came : (to : Pointer) → Came i kept (target to)
+    came to = came_like i kept s (target to) same a.came
+
+    -- an exact pointer is followed
+    followed : (to : Pointer) → Clean i to → Up i kept (going_to l to) → RunningOk i kept (target to)
+    followed to c up = record { came = came to; thread = going_to l to; up = up; matches = arrives to c }
+
+    public_all : (to : Pointer) → ((r : ℕ) → r < 16 → Public i kept (form_in l r)) → (r : ℕ) → Public i kept (form_in (going_to l to) r)
+    unfolding form_in
+    public_all to h r = by (cases_lt r 16)
+      where
+        by : (r < 16) ⊎ (16 ≤ r) → Public i kept (slice_index_or l.forms r zero_form)
+        by (inl lt) = h r lt
+        by (inr le) = let long = ml.long in subst (Public i kept) (sym (get_or_past l.forms r zero_form (omega arith))) (public_number i kept 0)
+
+    -- any shared pointer: outside, or through a door
+    left : (p to : Pointer) → IsShared i kept (Ptr p) → Clean i p → enter_result p ≡ Some to → Follows i kept t (outcome.Leaves l) → RunningOk i kept (target to)
+    unfolding form_in
+    left p to sh c e f = by (is_door kept p) refl
+      where
+        en : Entered p to
+        en = entered p to c.user e
+
+        ct : Clean i to
+        ct = clean_entered i p to c en
+
+        out : guards i kept s.number ≡ false
+        out = subst (λ n. guards i kept n ≡ false) (sym (ap (λ (y : ℕ × ℕ × Option ℕ). y.0) same)) (origin_guards i kept ks l.origin sl.number ml.origin f.1)
+
+        outs : guards i kept (target to).number ≡ false
+        outs = origin_guards i kept ks l.origin sl.number ml.origin f.1
+
+        anyones : Match i kept (anyone (going_to l to)) (target to)
+        anyones = match_anyone i kept (going_to l to) (target to) (arrives to ct) (public_all to f.0) outs
+
+        xu : to.perm ≡ Xu
+        xu = entered_perm p to en
+
+        through : Derived i kept (HasDoor p) → RunningOk i kept (target to)
+        through d =
+            let c0 = came to in
+            let h : handler_of i kept c0.slot.handler ≡ handler_of i kept sl.handler = ap (λ (y : ℕ × ℕ × Option ℕ). handler_of i kept y.2) c0.same in
+            record {
+              came = c0;
+              thread = thread_through p to (handler_of i kept c0.slot.handler);
+              up = each_from (Derived i kept) (take_up i kept (thread_through p to (handler_of i kept c0.slot.handler))) (λ fact among. enters p to c0.slot d e c0.among among);
+              matches = record {
+                ip = refl;
+                past = refl;
+                handler = h;
+                origin = outs;
+                long = refl;
+                clean = ct;
+                registers = anyones.registers;
+                pending = anyones.pending;
+              };
+            }
+
+        by : (b : Bool) → is_door kept p ≡ b → RunningOk i kept (target to)
+        by true d = through (sh.door d)
+        by false d = record {
+          came = came to;
+          thread = anyone (going_to l to);
+          up = free_up i kept (anyone (going_to l to)) (anyone_free i kept (going_to l to) (entered_outside kept p to sh.open_word d en) ct.user (ap can_fetch xu));
+          matches = anyones;
+        }
+
+    -- whatever the jump does with its target
+    pub jumps_ok : (x : Instr) (ra : ℕ) (f : Form) (v : Word) (K : Pointer → Effect) → Fits i kept f v
+        → ((p : Pointer) → enter_result p ≡ None → Follows i kept t (kernel.fault t x) → Eff x (K p))
+        → ((p to : Pointer) → enter_result p ≡ Some to → RunningOk i kept (target to) → Eff x (K p))
+        → (Follows i kept t (kernel.fault t x) → Eff x (Fault cause.NotPointer))
+        → Alls (kernel.jumps t l x ra f) → Eff x (if_pointer v K)
+    unfolding kernel.jumps
+    jumps_ok x ra (Number n) (Int b) K h kf kg kn g = kn g.0
+    jumps_ok x ra (Number n) (Ptr p) K h kf kg kn g = let no = h.holds in cc
+    jumps_ok x ra Integer (Int b) K h kf kg kn g = kn g.0
+    jumps_ok x ra Integer (Ptr p) K h kf kg kn g = let no = h.holds in cc
+    jumps_ok x ra Any (Int b) K h kf kg kn g = kn g.0
+    jumps_ok x ra Any (Ptr p) K h kf kg kn g = by (enter_result p) refl
+      where
+        by : (o : Option Pointer) → enter_result p ≡ o → Eff x (K p)
+        by None e = kf p e g.0
+        by (Some to) e = kg p to e (left p to h.holds h.clean e g.1.0)
+    jumps_ok x ra (Open perm) (Int b) K h kf kg kn g = absurd h.holds.0
+    jumps_ok x ra (Open perm) (Ptr p) K h kf kg kn g = by (execute_form perm) (execute_form p.perm) refl (ap execute_form h.holds.0) g
+      where
+        by : (o q : Option Perm) → execute_form p.perm ≡ q → q ≡ o → Alls (if is_some o then outcome.Leaves l ∷ [] else kernel.fault t x ∷ []) → Eff x (K p)
+        by None None e d j = kf p (ap (option_map (λ (y : Perm). record p { perm = y })) e) j.0
+        by None (Some c) e d j = cc
+        by (Some c) None e d j = cc
+        by (Some b) (Some c) e d j =
+            let to : Pointer = record p { perm = c } in
+            let is : enter_result p ≡ Some to = ap (option_map (λ (y : Perm). record p { perm = y })) e in
+            kg p to is (left p to h.holds.1 h.clean is j.0)
+    jumps_ok x ra (Inside o) (Int b) K h kf kg kn g = absurd h.holds
+    jumps_ok x ra (Inside o) (Ptr p) K h kf kg kn g = by (execute_form o.perm) (execute_form p.perm) refl (ap execute_form h.holds.perm) g
+      where
+        by : (z q : Option Perm) → execute_form p.perm ≡ q → q ≡ z → Alls (if is_some z then outcome.Leaks (Enter t.ip.addr ra (Inside o)) ∷ [] else kernel.fault t x ∷ []) → Eff x (K p)
+        by None None e d j = kf p (ap (option_map (λ (y : Perm). record p { perm = y })) e) j.0
+        by None (Some c) e d j = cc
+        by (Some c) q e d j = absurd j.0
+    jumps_ok x ra (Exactly q) (Int b) K h kf kg kn g = let no = h.holds in cc
+    jumps_ok x ra (Exactly q) (Ptr p) K h kf kg kn g = by (enter_result q) refl g
+      where
+        is : p ≡ q
+        is = let held : Ptr p ≡ Ptr q = h.holds in cc
+
+        by : (o : Option Pointer) → enter_result q ≡ o → Alls (kernel.jumped t l x o) → Eff x (K p)
+        by None e j = kf p (ap enter_result is ∙ e) j.0
+        by (Some to) e j =
+            let at : enter_result p ≡ Some to = ap enter_result is ∙ e in
+            kg p to at (followed to (clean_entered i p to h.clean (entered p to h.clean.user at)) j.0)
+
+  -- 3. The rows.
+
+  pub jmp_ok : (x : Instr) (ra : ℕ) (f : Form) (v : Word) → Fits i kept f v → Alls (kernel.jumps t t x ra f) → Eff x (if_pointer v (λ p. jumps s p (enter_result p)))
+  unfolding plain slot_after
+  jmp_ok x ra f v h all =
+      jumps_ok t s refl a.matches x ra f v (λ p. jumps s p (enter_result p)) h
+      (λ p e fault. subst (λ o. Eff x (jumps s p o)) (sym e) fault)
+      (λ p to e ok. subst (λ o. Eff x (jumps s p o)) (sym e) (record { own = ok; cell = tt; pages = refl; queue = tt; other = tt }))
+      (λ fault. fault) all
+
+  pub jal_ok : (x : Instr) (rd ra : ℕ) (f : Form) (v : Word) → Ready s rd → Fits i kept f v → f ≡ form_in t ra → Alls (kernel.links t x rd ra (next_result t.ip))
+      → Eff x (if_pointer v (λ p. links s rd p (enter_result p) (next_result s.ip)))
+  unfolding plain slot_after
+  jal_ok x rd ra f v hd h fe all = by (next_result s.ip) refl (subst (λ (y : Pointer). Alls (kernel.links t x rd ra (next_result y))) a.matches.ip all)
+    where
+      by : (o : Option Pointer) → next_result s.ip ≡ o → Alls (kernel.links t x rd ra o) → Eff x (if_pointer v (λ p. links s rd p (enter_result p) o))
+      by None e g = none v
+        where
+          entering : (p : Pointer) (o : Option Pointer) → Eff x (links s rd p o None)
+          entering p None = g.0
+          entering p (Some to) = g.0
+
+          none : (v : Word) → Eff x (if_pointer v (λ p. links s rd p (enter_result p) None))
+          none (Int b) = g.0
+          none (Ptr p) = entering p (enter_result p)
+      by (Some back) e g =
+          let clean : Clean i back = clean_below i back s.ip (next_result-IsBelow s.ip back e) a.matches.clean in
+          let linked : Thread = with_form t rd (Exactly back) in
+          let ml : Match i kept linked (record s { regs = slice_set s.regs rd (Ptr back) }) =
+          match_write i kept t s rd (Exactly back) (Ptr back) a.matches (sound i kept core m k s t a) hd.small hd.free (record { holds = refl; clean = clean }) in
+          jumps_ok linked (record s { regs = slice_set s.regs rd (Ptr back) }) refl ml x ra f v (λ p. links s rd p (enter_result p) (Some back)) h
+          (λ p e fault. subst (λ o. Eff x (links s rd p o (Some back))) (sym e) fault)
+          (λ p to e ok. subst (λ o. Eff x (links s rd p o (Some back))) (sym e) (record { own = ok; cell = tt; pages = refl; queue = tt; other = tt }))
+          (λ fault. fault) (subst (λ (y : Form). Alls (kernel.jumps t linked x ra y)) (sym fe) g)

@@ -1,0 +1,309 @@
+-- A thread stands for a slot, and how that is kept.
+use Rattle.std.proofs.Common.{◌≡◌, ℕ, ◌+◌, ◌<◌, ◌≤◌, ◌⊎◌, inl, inr, Bool, true, false, ◌&&◌, if◌then◌else◌, nat_eq}
+use Rattle.std.proofs.Common.{List, [], ◌∷◌, length, replicate, slice_set, slice_index_or, Option, Some, refl, sym, ap}
+use Rattle.std.proofs.Common.{◌∙◌, subst, arith, length-set, get_or-set_same, get_or-set_other}
+use Rattle.std.specs.Prelude.{Contains}
+use Rattle.std.specs.List.{AllByRecursion}
+use Rattle.std.proofs.lemmas.Bool.{cases_eq, cases_lt, eqb-false}
+use Rattle.std.proofs.lemmas.List.{get_or_past}
+use Rattle.mm_word.specs.declared.word.Word.{Word}
+use Rattle.mm_word.specs.declared.word.Word.TheVariants.{Int}
+use Rattle.mm_word.specs.Pointer.{Pointer}
+use Rattle.mm_model.specs.declared.slot.SlotState.{SlotState}
+use Rattle.mm_model.specs.declared.slot.SlotState.TheVariants.{Running, Waiting, Taken, Halted}
+use Rattle.mm_model.specs.declared.slot.Pending.{Pending}
+use Rattle.mm_model.specs.Slot.{Slot, register, is_empty}
+use Rattle.mm_model.specs.Image.{Image}
+use Rattle.mm_model.specs.Flags.{one_if}
+use Rattle.mm_model.specs.Fits.{loads_for, LoadsMatch, identity_of}
+use Rattle.mm_model.specs.Effect.{delivers, delivered}
+use Rattle.mm_model.specs.Turn.{with_issue}
+use Rattle.mm_model.proofs.CoreRows.{each_map, each_both, each_push}
+use Rattle.mm_model.proofs.EffectWords.{each_or}
+use Rattle.mm_model.proofs.CoreSteps.{some_true}
+use Rattle.mm_model.proofs.SlotSteps.{empty_within}
+use Rattle.mm_kernel.specs.Segments.{Segment, running_slots}
+use Rattle.mm_kernel.specs.declared.fact.Leak.TheVariants.{Loose}
+use Rattle.mm_kernel.specs.declared.form.Form.{Form}
+use Rattle.mm_kernel.specs.declared.form.Form.TheVariants.{Any}
+use Rattle.mm_kernel.specs.declared.thread.Origin.{Origin}
+use Rattle.mm_kernel.specs.declared.thread.Origin.TheVariants.{Door, Slot as OfSlot}
+use Rattle.mm_kernel.specs.declared.thread.Thread.{Thread}
+use Rattle.mm_kernel.specs.Forms.{zero_form}
+use Rattle.mm_kernel.specs.Threads.{form_in, with_form, handler_of, is_kernel, serves_some}
+use Rattle.mm_kernel.specs.Facts.{loose}
+use Rattle.mm_kernel.specs.Facts.Fact.{HasFaulted, HasLeak}
+use Rattle.mm_kernel.specs.Derived.{Derived, Keeps}
+use Rattle.mm_kernel.proofs.Values.{Clean, Fits, Public, public_fits, public_number}
+use Rattle.mm_kernel.proofs.Ups.{Up, Free}
+use Rattle.mm_kernel.proofs.Anyone.{anyone, any_register}
+
+-- 1. A slot of the machine: its registers and flags are sixteen, and its loads match.
+
+pub record Sound (s : Slot) : Type 0 where
+  pub registers : length s.regs ≡ 16
+  pub flags : length s.empty ≡ 16
+  pub loads : LoadsMatch s
+
+pub sound_write : (s : Slot) (r : ℕ) (w : Word) → Sound s → Sound (record s { regs = slice_set s.regs r w })
+unfolding is_empty
+sound_write s r w h = record { registers = length-set s.regs r w ∙ h.registers; flags = h.flags; loads = record { each = h.loads.each } }
+
+pub sound_at : (s : Slot) (ip : Pointer) (past : Bool) (turns : ℕ) (state : SlotState) → Sound s → Sound (record s { ip = ip; past = past; turns = turns; state = state })
+unfolding is_empty
+sound_at s ip past turns state h = record { registers = h.registers; flags = h.flags; loads = record { each = h.loads.each } }
+
+none_for : (r : ℕ) (ps : List Pending) → loads_for r ps ≡ 0 → AllByRecursion (λ (p : Pending). p.reg ≡ r → ⊥) ps
+none_for r [] e = tt
+none_for r (p ∷ ps) e = by (nat_eq p.reg r) refl e (λ k. none_for r ps k)
+  where
+    by : (b : Bool) → nat_eq p.reg r ≡ b → (if b then loads_for r ps + 1 else loads_for r ps) ≡ 0 → (loads_for r ps ≡ 0 → AllByRecursion (λ (q : Pending). q.reg ≡ r → ⊥) ps)
+        → AllByRecursion (λ (q : Pending). q.reg ≡ r → ⊥) (p ∷ ps)
+    by true at k rest = absurd (omega arith)
+    by false at k rest = ((λ same. let no = eqb-false p.reg r at in no same), rest k)
+
+-- a register that waits for nothing has no load
+pub nothing_for : (s : Slot) → Sound s → (r : ℕ) → is_empty s r ≡ false → AllByRecursion (λ (p : Pending). p.reg ≡ r → ⊥) s.pending
+nothing_for s h r e = none_for r s.pending (h.loads.each r ∙ ap one_if e)
+
+-- a register that a load waits for is one of sixteen
+loaded_small : (s : Slot) → Sound s → (p : Pending) (rest : List Pending) → s.pending ≡ p ∷ rest → p.reg < 16
+loaded_small s h p rest e =
+    let some : loads_for p.reg s.pending ≡ loads_for p.reg rest + 1 = ap (loads_for p.reg) e ∙ here (nat_eq p.reg p.reg) refl in
+    let is : is_empty s p.reg ≡ true = some_true (is_empty s p.reg) (let each = h.loads.each p.reg in omega arith) in
+    let flags = h.flags in
+    let within = empty_within s p.reg is in
+    omega arith
+  where
+    here : (b : Bool) → nat_eq p.reg p.reg ≡ b → (if b then loads_for p.reg rest + 1 else loads_for p.reg rest) ≡ loads_for p.reg rest + 1
+    here true at = refl
+    here false at = absurd (eqb-false p.reg p.reg at refl)
+
+-- 2. A thread stands for a slot.
+
+-- a slot of the kernel that serves a running one
+abbrev pub guards : Image → List Segment → ℕ → Bool
+guards i kept n = is_kernel i kept n && serves_some i n
+
+abbrev pub OriginOk : Image → List Segment → Origin → ℕ → Type 0
+OriginOk i kept (Door d) n = guards i kept n ≡ false
+OriginOk i kept (OfSlot m) n = m ≡ n
+
+pub record Match (i : Image) (kept : List Segment) (t : Thread) (s : Slot) : Type 0 where
+  pub ip : t.ip ≡ s.ip
+  pub past : t.past ≡ s.past
+  pub handler : t.handler ≡ handler_of i kept s.handler
+  pub origin : OriginOk i kept t.origin s.number
+  pub long : length t.forms ≡ 16
+  pub clean : Clean i s.ip
+  pub registers : (r : ℕ) → is_empty s r ≡ false → Fits i kept (form_in t r) (register s r)
+  pub pending : AllByRecursion (λ (p : Pending). Fits i kept (form_in t p.reg) p.word) s.pending
+
+module _ (i : Image) (kept : List Segment) where
+  -- 3. Forms that are set.
+
+  pub form_same : (t : Thread) (r : ℕ) (f : Form) → length t.forms ≡ 16 → r < 16 → form_in (with_form t r f) r ≡ f
+  unfolding form_in with_form
+  form_same t r f long lt = get_or-set_same t.forms r f zero_form (omega arith)
+
+  pub form_other : (t : Thread) (r k : ℕ) (f : Form) → (k ≡ r → ⊥) → form_in (with_form t r f) k ≡ form_in t k
+  unfolding form_in with_form
+  form_other t r k f ne = get_or-set_other t.forms r k f zero_form ne
+
+  form_fits : (t : Thread) (r k : ℕ) (f : Form) (w : Word) → (k ≡ r → ⊥) → Fits i kept (form_in t k) w → Fits i kept (form_in (with_form t r f) k) w
+  form_fits t r k f w ne h = subst (λ x. Fits i kept x w) (sym (form_other t r k f ne)) h
+
+  same_fits : (t : Thread) (r k : ℕ) (f : Form) (w : Word) → length t.forms ≡ 16 → r < 16 → k ≡ r → Fits i kept f w → Fits i kept (form_in (with_form t r f) k) w
+  same_fits t r k f w long lt e h = subst (λ x. Fits i kept (form_in (with_form t r f) x) w) (sym e) (subst (λ x. Fits i kept x w) (sym (form_same t r f long lt)) h)
+
+  pub with_long : (t : Thread) (r : ℕ) (f : Form) → length t.forms ≡ 16 → length (with_form t r f).forms ≡ 16
+  unfolding with_form
+  with_long t r f long = length-set t.forms r f ∙ long
+
+  pub match_write : (t : Thread) (s : Slot) (r : ℕ) (f : Form) (w : Word) → Match i kept t s → Sound s → r < 16 → is_empty s r ≡ false → Fits i kept f w
+      → Match i kept (with_form t r f) (record s { regs = slice_set s.regs r w })
+  unfolding register is_empty with_form
+  match_write t s r f w m h lt free fits = record {
+    ip = m.ip;
+    past = m.past;
+    handler = m.handler;
+    origin = m.origin;
+    long = with_long t r f m.long;
+    clean = m.clean;
+    registers = λ k ready. one k ready (cases_eq k r);
+    pending =
+        each_both (λ (p : Pending). p.reg ≡ r → ⊥) (λ (p : Pending). Fits i kept (form_in t p.reg) p.word)
+        (λ (p : Pending). Fits i kept (form_in (with_form t r f) p.reg) p.word) (λ p ne k. form_fits t r p.reg f p.word ne k) s.pending (nothing_for s h r free) m.pending;
+  }
+    where
+      one : (k : ℕ) → slice_index_or s.empty k false ≡ false → (k ≡ r) ⊎ (k ≡ r → ⊥) → Fits i kept (form_in (with_form t r f) k) (slice_index_or (slice_set s.regs r w) k (Int 0))
+      one k ready (inl e) =
+          let regs = h.registers in
+          let at : slice_index_or (slice_set s.regs r w) k (Int 0) ≡ w = ap (λ x. slice_index_or (slice_set s.regs r w) x (Int 0)) e ∙ get_or-set_same s.regs r w (Int 0) (omega arith) in
+          subst (Fits i kept (form_in (with_form t r f) k)) (sym at) (same_fits t r k f w m.long lt e fits)
+      one k ready (inr ne) =
+          subst (Fits i kept (form_in (with_form t r f) k)) (sym (get_or-set_other s.regs r k w (Int 0) ne)) (form_fits t r k f (slice_index_or s.regs k (Int 0)) ne (m.registers k ready))
+
+  pub match_at : (t : Thread) (s : Slot) (ip ip' : Pointer) (past past' : Bool) (turns : ℕ) (state : SlotState) → Match i kept t s → ip ≡ ip' → past ≡ past' → Clean i ip'
+      → Match i kept (record t { ip = ip; past = past }) (record s { ip = ip'; past = past'; turns = turns; state = state })
+  unfolding register is_empty form_in
+  match_at t s ip ip' past past' turns state m same alike clean = record {
+    ip = same;
+    past = alike;
+    handler = m.handler;
+    origin = m.origin;
+    long = m.long;
+    clean = clean;
+    registers = m.registers;
+    pending = m.pending;
+  }
+
+  -- a load that is issued: its register is empty, and its form is that of the word to come
+  pub match_issue : (t : Thread) (s : Slot) (r : ℕ) (f : Form) (w : Word) → Match i kept t s → Sound s → r < 16 → is_empty s r ≡ false → Fits i kept f w
+      → Match i kept (with_form t r f) (with_issue (record s { regs = slice_set s.regs r (Int 0) }) (Some (record { reg = r; word = w })))
+  unfolding register is_empty with_form
+  match_issue t s r f w m h lt free fits = record {
+    ip = m.ip;
+    past = m.past;
+    handler = m.handler;
+    origin = m.origin;
+    long = with_long t r f m.long;
+    clean = m.clean;
+    registers = λ k ready. one k ready (cases_eq k r);
+    pending =
+        each_push (λ (p : Pending). Fits i kept (form_in (with_form t r f) p.reg) p.word) s.pending (record { reg = r; word = w })
+        (each_both (λ (p : Pending). p.reg ≡ r → ⊥) (λ (p : Pending). Fits i kept (form_in t p.reg) p.word)
+        (λ (p : Pending). Fits i kept (form_in (with_form t r f) p.reg) p.word) (λ p ne k. form_fits t r p.reg f p.word ne k) s.pending (nothing_for s h r free) m.pending)
+        (same_fits t r r f w m.long lt refl fits);
+  }
+    where
+      one : (k : ℕ) → slice_index_or (slice_set s.empty r true) k false ≡ false → (k ≡ r) ⊎ (k ≡ r → ⊥)
+          → Fits i kept (form_in (with_form t r f) k) (slice_index_or (slice_set s.regs r (Int 0)) k (Int 0))
+      one k ready (inl e) =
+          let flags = h.flags in
+          let at : slice_index_or (slice_set s.empty r true) k false ≡ true = ap (λ x. slice_index_or (slice_set s.empty r true) x false) e ∙ get_or-set_same s.empty r true false (omega arith) in
+          absurd (cc)
+      one k ready (inr ne) =
+          subst (Fits i kept (form_in (with_form t r f) k)) (sym (get_or-set_other s.regs r k (Int 0) (Int 0) ne))
+          (form_fits t r k f (slice_index_or s.regs k (Int 0)) ne (m.registers k (sym (get_or-set_other s.empty r k true false ne) ∙ ready)))
+
+  match_delivers : (t : Thread) (s : Slot) (p : Pending) (rest : List Pending) → Match i kept t s → Sound s → s.pending ≡ p ∷ rest → Match i kept t (delivers s (p ∷ rest))
+  unfolding register is_empty
+  match_delivers t s p rest m h e = record {
+    ip = m.ip;
+    past = m.past;
+    handler = m.handler;
+    origin = m.origin;
+    long = m.long;
+    clean = m.clean;
+    registers = λ k ready. one k ready (cases_eq k p.reg);
+    pending = parts.1;
+  }
+    where
+      parts : AllByRecursion (λ (q : Pending). Fits i kept (form_in t q.reg) q.word) (p ∷ rest)
+      parts = subst (AllByRecursion (λ (q : Pending). Fits i kept (form_in t q.reg) q.word)) e m.pending
+
+      small : p.reg < 16
+      small = loaded_small s h p rest e
+
+      one : (k : ℕ) → slice_index_or (slice_set s.empty p.reg false) k false ≡ false → (k ≡ p.reg) ⊎ (k ≡ p.reg → ⊥)
+          → Fits i kept (form_in t k) (slice_index_or (slice_set s.regs p.reg p.word) k (Int 0))
+      one k ready (inl same) =
+          let regs = h.registers in
+          let lt = small in
+          let at : slice_index_or (slice_set s.regs p.reg p.word) k (Int 0) ≡ p.word = ap (λ x. slice_index_or (slice_set s.regs p.reg p.word) x (Int 0)) same
+          ∙ get_or-set_same s.regs p.reg p.word (Int 0) (omega arith) in
+          subst (Fits i kept (form_in t k)) (sym at) (subst (λ x. Fits i kept (form_in t x) p.word) (sym same) parts.0)
+      one k ready (inr ne) =
+          subst (Fits i kept (form_in t k)) (sym (get_or-set_other s.regs p.reg k p.word (Int 0) ne))
+          (m.registers k (sym (get_or-set_other s.empty p.reg k false false ne) ∙ ready))
+
+  -- 4. A thread that is free: callers could have each of its words.
+
+  pub origin_guards : Keeps i kept → (o : Origin) (n : ℕ) → OriginOk i kept o n → AllByRecursion (Derived i kept) (loose i kept o) → guards i kept n ≡ false
+  origin_guards ks (Door d) n h k = h
+  origin_guards ks (OfSlot m) n h k = subst (λ x. guards i kept x ≡ false) h (by (guards i kept m) refl k)
+    where
+      by : (b : Bool) → guards i kept m ≡ b → AllByRecursion (Derived i kept) (if b then HasLeak (Loose m) ∷ [] else []) → guards i kept m ≡ false
+      by true e j = absurd (ks.no_leak (Loose m) j.0)
+      by false e j = e
+
+  pub free_form : (t : Thread) → Free i kept t → (r : ℕ) → Public i kept (form_in t r)
+  unfolding form_in
+  free_form t h r = each_or (Public i kept) t.forms r zero_form h.forms (public_number i kept 0)
+
+  any_fits : (t : Thread) → length t.forms ≡ 16 → (r : ℕ) (w : Word) → Public i kept (form_in t r) → Fits i kept (form_in t r) w → Fits i kept (form_in (anyone t) r) w
+  unfolding form_in
+  any_fits t long r w p h = by (cases_lt r 16)
+    where
+      past : 16 ≤ r → form_in (anyone t) r ≡ form_in t r
+      past le = get_or_past (replicate 16 Any) r zero_form (omega arith) ∙ sym (get_or_past t.forms r zero_form (omega arith))
+
+      by : (r < 16) ⊎ (16 ≤ r) → Fits i kept (form_in (anyone t) r) w
+      by (inl lt) = subst (λ x. Fits i kept x w) (sym (any_register t r lt)) (public_fits i kept (form_in t r) w p h)
+      by (inr le) = subst (λ x. Fits i kept x w) (sym (past le)) h
+
+  pub match_anyone : (t : Thread) (s : Slot) → Match i kept t s → ((r : ℕ) → Public i kept (form_in t r)) → guards i kept s.number ≡ false → Match i kept (anyone t) s
+  match_anyone t s m free out = record {
+    ip = m.ip;
+    past = m.past;
+    handler = m.handler;
+    origin = out;
+    long = refl;
+    clean = m.clean;
+    registers = λ r ready. any_fits t m.long r (register s r) (free r) (m.registers r ready);
+    pending = each_map (λ (p : Pending). Fits i kept (form_in t p.reg) p.word) (λ (p : Pending). Fits i kept (form_in (anyone t) p.reg) p.word)
+        (λ p k. any_fits t m.long p.reg p.word (free p.reg) k) s.pending m.pending;
+  }
+
+  -- 5. Slots by their states.
+
+  -- the running slot of the image that a slot is
+  pub record Came (s : Slot) : Type 0 where
+    pub slot : Slot
+    pub among : Contains (running_slots i) slot
+    pub same : identity_of slot ≡ identity_of s
+
+  pub record HeldFor (t : Thread) (o : Option ℕ) : Type 0 where
+    pub handler : ℕ
+    pub is : o ≡ Some handler
+    pub kernel : is_kernel i kept handler ≡ true
+    pub derived : Derived i kept (HasFaulted handler t)
+
+  pub record RunningOk (s : Slot) : Type 0 where
+    pub came : Came s
+    pub thread : Thread
+    pub up : Up i kept thread
+    pub matches : Match i kept thread s
+
+  pub record StoppedOk (s : Slot) : Type 0 where
+    pub came : Came s
+    pub thread : Thread
+    pub why : Free i kept thread ⊎ HeldFor thread s.handler
+    pub matches : Match i kept thread s
+
+  abbrev pub SlotOkAs : Slot → SlotState → Type 0
+  SlotOkAs s Running = RunningOk s
+  SlotOkAs s Waiting = StoppedOk s
+  SlotOkAs s Taken = StoppedOk s
+  SlotOkAs s (Halted cause) = Unit {0}
+
+  abbrev pub SlotOk : Slot → Type 0
+  SlotOk s = SlotOkAs s s.state
+
+  pub came_like : (s s' : Slot) → identity_of s ≡ identity_of s' → Came s → Came s'
+  came_like s s' e h = record { slot = h.slot; among = h.among; same = h.same ∙ e }
+
+  pub slot_like : (s s' : Slot) → identity_of s ≡ identity_of s' → s.handler ≡ s'.handler → ((t : Thread) → Match i kept t s → Match i kept t s') → (st : SlotState) → SlotOkAs s st → SlotOkAs s' st
+  slot_like s s' e k f Running h = record { came = came_like s s' e h.came; thread = h.thread; up = h.up; matches = f h.thread h.matches }
+  slot_like s s' e k f Waiting h = record { came = came_like s s' e h.came; thread = h.thread; why = subst (λ o. Free i kept h.thread ⊎ HeldFor h.thread o) k h.why; matches = f h.thread h.matches }
+  slot_like s s' e k f Taken h = record { came = came_like s s' e h.came; thread = h.thread; why = subst (λ o. Free i kept h.thread ⊎ HeldFor h.thread o) k h.why; matches = f h.thread h.matches }
+  slot_like s s' e k f (Halted cause) h = tt
+
+  pub slot_delivered : (s : Slot) → Sound s → SlotOk s → SlotOk (delivered s)
+  unfolding delivered
+  slot_delivered s h ok = by s.pending refl
+    where
+      by : (ps : List Pending) → s.pending ≡ ps → SlotOk (delivers s ps)
+      by [] e = ok
+      by (p ∷ rest) e = slot_like s (delivers s (p ∷ rest)) refl refl (λ t m. match_delivers t s p rest m h e) s.state ok

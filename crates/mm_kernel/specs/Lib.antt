@@ -1,0 +1,9 @@
+pub mod Segments
+pub mod Forms
+pub mod Threads
+pub mod Facts
+pub mod Operations
+pub mod Turns
+pub mod Derived
+pub mod Variants
+pub mod Laws
