@@ -67,6 +67,7 @@ module _ (tells : List Use → Option Counts) (held : List ℕ → Option (List 
   trace_proved (v ∷ lists, accepted, writes) = absurd (assumption (accepted, writes))
 
   log_proved : RowComesTo tells held left (log image cycles schedule) (write text) → LogIsProved tells held image cycles schedule text
+  unfolding proved
   log_proved (an_image i ∷ lists, accepted, (items, issues, is)) =
       let spelled = accepted.0.means.image in
       record {
