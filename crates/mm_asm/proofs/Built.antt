@@ -39,8 +39,8 @@ module _ {A B : Type 0} (f : ℕ → A → List B) where
       ∙ ap (λ y. old ++ (numbered 0 (take i xs) ++ f i y)) is ∙ ap (λ n. old ++ (numbered 0 (take i xs) ++ f n (get_or xs i x))) (sym same)
       ∙ ap (λ ys. old ++ ys) (sym (numbered_more 0 xs i x lt))
 
-  pub numbered_gathered : (mid new : List B) (xs : List A) (i : ℕ) (x : A) → i < length xs → x ≡ get_or xs i x → mid ≡ numbered 0 (take i xs) → new ≡ mid ++ f i x → new ≡ numbered 0 (take (i + 1) xs)
-  numbered_gathered mid new xs i x lt is before now =
+  pub numbered_appended : (mid new : List B) (xs : List A) (i : ℕ) (x : A) → i < length xs → x ≡ get_or xs i x → mid ≡ numbered 0 (take i xs) → new ≡ mid ++ f i x → new ≡ numbered 0 (take (i + 1) xs)
+  numbered_appended mid new xs i x lt is before now =
       let same : 0 + i ≡ i = omega arith in
       now ∙ ap (λ ys. ys ++ f i x) before
       ∙ ap (λ y. numbered 0 (take i xs) ++ f i y) is ∙ ap (λ n. numbered 0 (take i xs) ++ f n (get_or xs i x)) (sym same)

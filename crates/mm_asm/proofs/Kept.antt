@@ -34,22 +34,22 @@ place_more : (entries more : List Entry) (name : List ℕ) (p : Location) → pl
 place_more [] more name p e = absurd cc
 place_more (x ∷ entries) more name p e = by (bytes_eq name x.name) e (place_more entries more name p)
   where
-    by : (b : Bool) → (if b then Some x.place else place_in entries name) ≡ Some p → (place_in entries name ≡ Some p → place_in (entries ++ more) name ≡ Some p) →
-        (if b then Some x.place else place_in (entries ++ more) name) ≡ Some p
+    by : (b : Bool) → (if b then Some x.location else place_in entries name) ≡ Some p → (place_in entries name ≡ Some p → place_in (entries ++ more) name ≡ Some p) →
+        (if b then Some x.location else place_in (entries ++ more) name) ≡ Some p
     by true f later = f
     by false f later = later f
 
 -- a name that stands for nothing stands for what is entered with it
-place_new : (entries : List Entry) (e : Entry) → is_some (place_in entries e.name) ≡ false → place_in (entries ++ e ∷ []) e.name ≡ Some e.place
+place_new : (entries : List Entry) (e : Entry) → is_some (place_in entries e.name) ≡ false → place_in (entries ++ e ∷ []) e.name ≡ Some e.location
 place_new [] e new = by (bytes_eq e.name e.name) ((bytes_eq-Decides e.name e.name).1 refl)
   where
-    by : (b : Bool) → b ≡ true → (if b then Some e.place else None) ≡ Some e.place
+    by : (b : Bool) → b ≡ true → (if b then Some e.location else None) ≡ Some e.location
     by true f = refl
     by false f = absurd cc
 place_new (x ∷ entries) e new = by (bytes_eq e.name x.name) new (place_new entries e)
   where
-    by : (b : Bool) → is_some (if b then Some x.place else place_in entries e.name) ≡ false → (is_some (place_in entries e.name) ≡ false → place_in (entries ++ e ∷ []) e.name ≡ Some e.place) →
-        (if b then Some x.place else place_in (entries ++ e ∷ []) e.name) ≡ Some e.place
+    by : (b : Bool) → is_some (if b then Some x.location else place_in entries e.name) ≡ false → (is_some (place_in entries e.name) ≡ false → place_in (entries ++ e ∷ []) e.name ≡ Some e.location) →
+        (if b then Some x.location else place_in (entries ++ e ∷ []) e.name) ≡ Some e.location
     by true f later = absurd cc
     by false f later = later f
 
@@ -58,7 +58,7 @@ entry_is_new : (entries : List Entry) (name : List ℕ) → is_some (place_in en
 entry_is_new [] name new = refl
 entry_is_new (x ∷ entries) name new = by (bytes_eq name x.name) refl new (entry_is_new entries name)
   where
-    by : (b : Bool) → bytes_eq name x.name ≡ b → is_some (if b then Some x.place else place_in entries name) ≡ false
+    by : (b : Bool) → bytes_eq name x.name ≡ b → is_some (if b then Some x.location else place_in entries name) ≡ false
         → (is_some (place_in entries name) ≡ false → is_among name (map (λ (e : Entry). e.name) entries) ≡ false) →
         is_among name (map (λ (e : Entry). e.name) (x ∷ entries)) ≡ false
     by true e f later = absurd cc
@@ -146,9 +146,9 @@ pointers_total (s ∷ segments) = omega (arith, pointers_total segments)
 -- 4. Segments.
 
 pub label_kept : (segments : List Segment) (entries : List Entry) (name : List ℕ) (s : Segment) → AreSegments segments entries → last segments ≡ Some s → is_some (place_in entries name) ≡ false →
-    AreSegments segments (entries ++ record { name = name; place = record { segment = length segments - 1; word = words_so_far (last segments); is_label = true } } ∷ [])
+    AreSegments segments (entries ++ record { name = name; location = record { segment = length segments - 1; word = words_so_far (last segments); is_label = true } } ∷ [])
 label_kept segments entries name s h e new =
-    let entered : Entry = record { name = name; place = record { segment = length segments - 1; word = words_so_far (last segments); is_label = true } } in
+    let entered : Entry = record { name = name; location = record { segment = length segments - 1; word = words_so_far (last segments); is_label = true } } in
     record {
       few = h.few;
       each = h.each;
@@ -157,7 +157,7 @@ label_kept segments entries name s h e new =
       pointers = h.pointers;
       named = named_more entries entered 0 segments h.named;
       alone = entries_apart entries entered h.alone new;
-      places = each_more (λ (x : Entry). IsLocation segments x.place) entries (entered ∷ []) h.places (place_of_label segments s e, tt);
+      places = each_more (λ (x : Entry). IsLocation segments x.location) entries (entered ∷ []) h.places (place_of_label segments s e, tt);
     }
 
 module _ (segments : List Segment) (entries : List Entry) (name : List ℕ) (log : ℕ) (h : AreSegments segments entries) where
@@ -165,12 +165,12 @@ module _ (segments : List Segment) (entries : List Entry) (name : List ℕ) (log
   begun = record { name = name; log = log; words = [] }
 
   abbrev entered : Entry
-  entered = record { name = name; place = record { segment = length segments; word = 0; is_label = false } }
+  entered = record { name = name; location = record { segment = length segments; word = 0; is_label = false } }
 
   pub begin_kept : length segments < segment_limit → is_some (place_in entries name) ≡ false → is_name name ≡ true → 3 ≤ log → log ≤ 20 → AreSegments (segments ++ begun ∷ []) (entries ++ entered ∷ [])
   begin_kept few new is least greatest =
       let same : length segments ≡ 0 + length segments = omega arith in
-      let first : Some entered.place ≡ Some (record { segment = 0 + length segments; word = 0; is_label = false }) = ap
+      let first : Some entered.location ≡ Some (record { segment = 0 + length segments; word = 0; is_label = false }) = ap
       (λ (i : ℕ). Some (let p : Location = record { segment = i; word = 0; is_label = false } in p)) same in
       let is_segment : IsSegment begun = record { name = is; least = least; greatest = greatest; room = omega arith; words = tt } in
       let words_same : words_of (segments ++ begun ∷ []) ≡ words_of segments = omega (
@@ -196,9 +196,9 @@ module _ (segments : List Segment) (entries : List Entry) (name : List ℕ) (log
         alone = entries_apart entries entered h.alone new;
         words = omega (arith, words_same, h.words);
         pointers = omega (arith, pointers_same, h.pointers);
-        places = each_more (λ (x : Entry). IsLocation (segments ++ begun ∷ []) x.place) entries (entered ∷ [])
-            (each_weaker (λ (x : Entry). IsLocation segments x.place) (λ (x : Entry). IsLocation (segments ++ begun ∷ [])
-            x.place) entries (λ x k. place_stays segments (begun ∷ []) x.place.segment x.place.word k) h.places)
+        places = each_more (λ (x : Entry). IsLocation (segments ++ begun ∷ []) x.location) entries (entered ∷ [])
+            (each_weaker (λ (x : Entry). IsLocation segments x.location) (λ (x : Entry). IsLocation (segments ++ begun ∷ [])
+            x.location) entries (λ x k. place_stays segments (begun ∷ []) x.location.segment x.location.word k) h.places)
             (place_of_last segments begun, tt);
       }
 
@@ -226,8 +226,8 @@ module _ (d : Draft) (h : AreSegments d.segments d.names) (words : List Word) (c
         alone = h.alone;
         words = omega (arith, words_total longer, words_total d.segments, words_grow, is_count, word_room);
         pointers = omega (arith, pointers_total longer, pointers_total d.segments, pointers_grow, is_pointers, pointer_room);
-        places = each_weaker (λ (x : Entry). IsLocation d.segments x.place) (λ (x : Entry). IsLocation longer x.place) d.names
-            (λ x k. place_in_longer words d.segments x.place.segment x.place.word k) h.places;
+        places = each_weaker (λ (x : Entry). IsLocation d.segments x.location) (λ (x : Entry). IsLocation longer x.location) d.names
+            (λ x k. place_in_longer words d.segments x.location.segment x.location.word k) h.places;
       }
 
   pub words_kept : words_faults d count pointers left (last d.segments) ≡ [] → AreSegments longer d.names

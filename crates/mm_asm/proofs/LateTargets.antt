@@ -29,7 +29,7 @@ use Rattle.mm_asm.proofs.Uses.{uses_placed}
 use Rattle.mm_asm.proofs.Targets.{segments_of, external_count, targets_are, few_externals}
 use Rattle.mm_asm.proofs.ExternalNames.{used_among}
 use Rattle.mm_asm.proofs.Segments.{words_in}
-use Rattle.mm_asm.proofs.Whole.{in_words, in_threads}
+use Rattle.mm_asm.proofs.MeantObjects.{in_words, in_threads}
 
 -- 1. A target.
 

@@ -7,7 +7,7 @@ pub mod Targets
 pub mod Relocs
 pub mod ThreadRows
 pub mod Segments
-pub mod Whole
+pub mod MeantObjects
 pub mod Kept
 pub mod Bounded
 pub mod Meanings

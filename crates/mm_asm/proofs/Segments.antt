@@ -79,12 +79,12 @@ word_in (s ∷ segments) zero word h = omega (arith, h)
 word_in (s ∷ segments) (suc i) word h = omega (arith, word_in segments i word h)
 
 -- what is true of all entries' places is true of what a name stands for
-pub place_is : (P : Location → Type 0) (entries : List Entry) (name : List ℕ) (p : Location) → AllByRecursion (λ (e : Entry). P e.place) entries → place_in entries name ≡ Some p → P p
+pub place_is : (P : Location → Type 0) (entries : List Entry) (name : List ℕ) (p : Location) → AllByRecursion (λ (e : Entry). P e.location) entries → place_in entries name ≡ Some p → P p
 place_is P [] name p h e = absurd cc
 place_is P (x ∷ entries) name p h e = by (bytes_eq name x.name) e (place_is P entries name p h.1)
   where
-    by : (b : Bool) → (if b then Some x.place else place_in entries name) ≡ Some p → (place_in entries name ≡ Some p → P p) → P p
-    by true f later = subst P (let same : x.place ≡ p = cc in same) h.0
+    by : (b : Bool) → (if b then Some x.location else place_in entries name) ≡ Some p → (place_in entries name ≡ Some p → P p) → P p
+    by true f later = subst P (let same : x.location ≡ p = cc in same) h.0
     by false f later = later f
 
 module _ (d : Draft) (is_draft : IsDraft d) where

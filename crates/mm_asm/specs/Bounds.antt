@@ -73,7 +73,7 @@ pub record AreSegments (segments : List Segment) (entries : List Entry) : Type 0
   pub pointers : pointers_of segments ≤ reloc_limit
   pub named : AreNamed entries 0 segments
   pub alone : are_apart (map (λ (e : Entry). e.name) entries) ≡ true
-  pub places : AllByRecursion (λ (e : Entry). IsLocation segments e.place) entries
+  pub places : AllByRecursion (λ (e : Entry). IsLocation segments e.location) entries
 
 pub record AreThreads (threads : List Thread) : Type 0 where
   pub each : AllByRecursion IsThread threads

@@ -12,12 +12,12 @@ use mm_draft::{Draft, Failure, Location, Segment, Word};
 use mm_line::{Code, Content, Fault, Problem};
 
 /// Whether a name stands for a label of a segment.
-fn is_label_in(place: Option<Location>, segment: usize) -> bool
-    ensures { result ≡ is_label_in place segment }
+fn is_label_in(location: Option<Location>, segment: usize) -> bool
+    ensures { result ≡ is_label_in location segment }
 {
-    match place {
+    match location {
         None => false,
-        Some(place) => place.is_label && place.segment == segment,
+        Some(location) => location.is_label && location.segment == segment,
     }
 }
 
@@ -83,13 +83,13 @@ fn meet_target(first: &mut Option<Failure>, draft: &Draft<'_>, u: &Use<'_, '_>)
     ensures { Meets first.old first.new (use_failures draft.now u.now) }
 {
     let target = u.target;
-    if let Some(place) = draft.place_of(target.mark.name.bytes()) {
+    if let Some(location) = draft.place_of(target.mark.name.bytes()) {
         let problem = Problem {
             fault: Fault::Range,
             left: target.mark.left,
         };
-        let offset = 8 * place.word as u128 + target.addend as u128;
-        let wrong = is_outside(draft.segments().get(place.segment), offset);
+        let offset = 8 * location.word as u128 + target.addend as u128;
+        let wrong = is_outside(draft.segments().get(location.segment), offset);
         meet_if(first, wrong, u.source, problem);
     }
 }

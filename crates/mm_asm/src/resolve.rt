@@ -27,20 +27,20 @@ fn position_of(names: &[Name], name: &[u8]) -> usize
     ensures { result ≡ position_of name.now names.now }
 {
     match names.binary_search_by(|other| compare(other, name)) {
-        Ok(place) => place,
+        Ok(position) => position,
         Err(_) => unreachable!(),
     }
 }
 
 /// The target that is `addend` bytes after a place of the draft.
-fn here(place: Location, addend: u32) -> Target
-    requires segment { place.segment < 2 ^ 16 }
-    requires offset { 8 * place.word + addend < 2 ^ 32 }
-    ensures { result ≡ record { index = place.segment; addend = 8 * place.word + addend } }
+fn here(location: Location, addend: u32) -> Target
+    requires segment { location.segment < 2 ^ 16 }
+    requires offset { 8 * location.word + addend < 2 ^ 32 }
+    ensures { result ≡ record { index = location.segment; addend = 8 * location.word + addend } }
 {
     Target {
-        index: place.segment as u16,
-        addend: (8 * place.word + addend as usize) as u32,
+        index: location.segment as u16,
+        addend: (8 * location.word + addend as usize) as u32,
     }
 }
 
@@ -63,7 +63,7 @@ pub(crate) fn target_of(draft: &Draft<'_>, externals: &[Name], target: &Named<'_
 {
     let name = target.mark.name.bytes();
     match draft.place_of(name) {
-        Some(place) => here(place, target.addend),
+        Some(location) => here(location, target.addend),
         None => {
             let external = position_of(externals, name);
             elsewhere(draft.segments().len(), external, target.addend)

@@ -22,7 +22,7 @@ fn distance_to(draft: &Draft<'_>, mark: &Mark<'_>, word: usize) -> i32
 {
     match draft.place_of(mark.name.bytes()) {
         None => 0,
-        Some(place) => (place.word as i128 - word as i128) as i32,
+        Some(location) => (location.word as i128 - word as i128) as i32,
     }
 }
 

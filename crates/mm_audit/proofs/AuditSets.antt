@@ -12,7 +12,7 @@ use Rattle.mm_audit.specs.Audits.{Audits, set_of}
 use Rattle.mm_audit.specs.GroupSets.{AreGroupSets}
 use Rattle.mm_audit.specs.Spans.{can}
 use Rattle.mm_audit.specs.Surveys.{SurveyValue, Surveys}
-use Rattle.mm_audit.proofs.Exactly.{CanUse, touch_use, write_use, are_maximal, group_covers}
+use Rattle.mm_audit.proofs.MaximalSpans.{CanUse, touch_use, write_use, are_maximal, group_covers}
 use Rattle.mm_audit.proofs.Granted.{granted-small}
 use Rattle.mm_audit.proofs.Outermost.{outermost_set}
 use Rattle.mm_audit.proofs.Reading.{empty_past, past}

@@ -13,7 +13,7 @@ use Rattle.mm_seg.specs.Segments.{end_of}
 use Rattle.mm_audit.specs.Spans.{AreSpans, can, mask, segment_of}
 use Rattle.mm_audit.specs.Walks.{outermost, is_next}
 use Rattle.mm_audit.proofs.AuditSets.{none_maximal}
-use Rattle.mm_audit.proofs.Exactly.{are_maximal}
+use Rattle.mm_audit.proofs.MaximalSpans.{are_maximal}
 
 -- the mask of a group: empty for one that no slot can have
 abbrev pub mask_of : ℕ → ℕ

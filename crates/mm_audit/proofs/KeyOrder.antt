@@ -6,7 +6,7 @@ use Rattle.mm_seg.specs.Segments.{IsSegment, end_of}
 use Rattle.mm_seg.proofs.Inserts.{nested_aligned}
 use Rattle.mm_graph.specs.declared.canonical_ptr.CanonicalPtr.{CanonicalPtr}
 use Rattle.mm_graph.specs.Key.{IsKey, key_cmp, pointer_at}
-use Rattle.mm_graph.proofs.Standing.{base_below}
+use Rattle.mm_graph.proofs.Representatives.{base_below}
 use Rattle.mm_graph.proofs.Nesting.{log_is, aligned_key, base_rises, length_falls}
 
 abbrev pub key_segment : CanonicalPtr → ℕ × ℕ

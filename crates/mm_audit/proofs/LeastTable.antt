@@ -13,7 +13,7 @@ use Rattle.mm_audit.specs.Spans.{AreSpans, base_at}
 use Rattle.mm_audit.specs.Opening.{IsLive}
 use Rattle.mm_audit.specs.Meeting.{HaveMet, HasWord, MeetAt, word_at}
 use Rattle.mm_audit.specs.Surveys.{IsLeastShared, IsLeastTable}
-use Rattle.mm_audit.proofs.Exactly.{CanUse, UsedSpan, touch_use, write_use, use_span, span_use}
+use Rattle.mm_audit.proofs.MaximalSpans.{CanUse, UsedSpan, touch_use, write_use, use_span, span_use}
 use Rattle.mm_audit.proofs.Granted.{granted-small}
 use Rattle.mm_audit.proofs.Words.{base_word}
 

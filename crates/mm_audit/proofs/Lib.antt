@@ -20,7 +20,7 @@ mod Collecting
 mod Noting
 mod Opens
 mod Meetings
-pub mod Exactly
+pub mod MaximalSpans
 mod LeastTable
 pub mod AuditSets
 mod Rows

@@ -6,7 +6,7 @@ use Rattle.std.proofs.lemmas.Nat.{pow_below, shr_high}
 use Rattle.mm_word.specs.Pointer.{Pointer, InSegment, IsBelow, IsWellFormed, base_of}
 use Rattle.mm_graph.proofs.Segments.{inside-log}
 use Rattle.mm_seg.specs.Segments.{IsSegment, LiesIn, end_of}
-use Rattle.mm_graph.proofs.Standing.{base-block, base_below}
+use Rattle.mm_graph.proofs.Representatives.{base-block, base_below}
 
 -- the segment of a pointer
 abbrev pub segment_of : Pointer → ℕ × ℕ

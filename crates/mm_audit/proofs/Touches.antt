@@ -15,7 +15,7 @@ use Rattle.mm_model.specs.declared.word_use.WordUse.TheVariants.{Touch}
 use Rattle.mm_audit.specs.declared.span.Span.{Span}
 use Rattle.mm_audit.specs.Spans.{AreSpans, span_at}
 use Rattle.mm_audit.specs.Walks.{outermost}
-use Rattle.mm_audit.proofs.Exactly.{touch_use, use_span, span_use, covered_use, use_covered}
+use Rattle.mm_audit.proofs.MaximalSpans.{touch_use, use_span, span_use, covered_use, use_covered}
 use Rattle.mm_audit.proofs.Sharing.{shares_test}
 use Rattle.mm_audit.proofs.Granted.{granted-well_formed, granted-small}
 use Rattle.mm_audit.proofs.Words.{first_byte}

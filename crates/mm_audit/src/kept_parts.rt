@@ -35,8 +35,8 @@ fn has_word(set: &SegSet, page: u64) -> bool
     requires { page < 2 ^ 42 }
     ensures { result ≡ has_word (is_covered set.now) page }
 {
-    for place in 0..512u64 {
-        if covers(set, page * 4096 + 8 * place) {
+    for cell_index in 0..512u64 {
+        if covers(set, page * 4096 + 8 * cell_index) {
             return true;
         }
     }
@@ -63,9 +63,9 @@ fn cells_of(alloc: Global, set: &SegSet, page: &Page) -> Result<Vec<Cell>, Alloc
     let base = page.number() * 4096;
     let cells = page.cells();
     let mut kept = Vec::with_capacity(alloc, cells.len())?;
-    for place in 0..cells.len() {
-        let keep = covers(set, base + 8 * place as u64);
-        kept.push(kept_cell(keep, cells[place]))?;
+    for cell_index in 0..cells.len() {
+        let keep = covers(set, base + 8 * cell_index as u64);
+        kept.push(kept_cell(keep, cells[cell_index]))?;
     }
     Ok(kept)
 }

@@ -11,7 +11,7 @@ use mm_word::NoMemory;
 use std::alloc::Global;
 
 /// The mask if it is kept, or else 0.
-fn kept(keep: bool, mask: u64) -> u64
+fn masked(keep: bool, mask: u64) -> u64
     ensures { result ≡ kept_mask keep mask }
 {
     if keep { mask } else { 0 }
@@ -24,8 +24,8 @@ fn node_span(key: CanonicalPtr, node: Node, mark: u64) -> Span
 {
     Span {
         base: key.base,
-        touch: kept(node.loads, mark),
-        write: kept(node.stores, mark),
+        touch: masked(node.loads, mark),
+        write: masked(node.stores, mark),
         log: 54 - key.narrow,
     }
 }

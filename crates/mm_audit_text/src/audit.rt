@@ -11,7 +11,7 @@ use crate::lines::put_apart;
 use mm_audit::Survey;
 use mm_image::Image;
 use mm_io::{Sink, WriteFault};
-use mm_text::Gather;
+use mm_text::TextBuffer;
 
 /// Writes the audit of an image, given its survey with all entries: for each group that has a slot, ascending, whether
 /// it is privileged, the maximal segments of at least a word that it can touch and that it can write, and whether it
@@ -20,7 +20,7 @@ pub fn write_audit<O: Sink>(survey: &Survey, img: &Image, out: &mut O) -> Result
     ensures { (text : List ℕ) × Writes O.taken O.faults out.old out.new text result
         × (Surveys img.now All survey.now → IsAudit img.now None text) }
 {
-    let mut text = Gather::new();
+    let mut text = TextBuffer::new();
     put_groups(&mut text, out, survey, img, true);
     text.finish(out)
 }
@@ -36,7 +36,7 @@ pub fn write_audit_of<O: Sink>(
     ensures { (text : List ℕ) × Writes O.taken O.faults out.old out.new text result
         × (Surveys img.now All survey.now → IsAudit img.now (Some groups.now) text) }
 {
-    let mut text = Gather::new();
+    let mut text = TextBuffer::new();
     put_groups(&mut text, out, survey, img, false);
     put_apart(&mut text, out, survey, groups);
     text.finish(out)

@@ -5,7 +5,7 @@ ghost use Rattle.std.specs.List.{flat_map};
 ghost use Rattle.mm_model.specs.Audit.{ApartLine, apart_line, groups_text, kind_line, segment_line, verdict_text};
 ghost use Rattle.mm_model.specs.Image.{Image as ImageValue};
 ghost use Rattle.mm_model.specs.Reach.Entries.{All};
-ghost use Rattle.mm_text.specs.Gathers.{Gathers};
+ghost use Rattle.mm_text.specs.Appends.{Appends};
 ghost use Rattle.mm_audit.specs.Surveys.{Surveys};
 ghost use Rattle.mm_audit.specs.Crossing.{verdict_of};
 
@@ -13,11 +13,11 @@ use crate::uses::use_name;
 use mm_audit::{Apart, Segments, Survey};
 use mm_io::Sink;
 use mm_model::WordUse;
-use mm_text::{Gather, Line, Piece};
+use mm_text::{TextBuffer, Line, Piece};
 
 /// Appends whether a group is privileged.
-pub fn put_kind<O: Sink>(text: &mut Gather, out: &mut O, group: u8, privileged: bool)
-    ensures { Gathers O.taken O.faults out.old out.new text.old text.new (kind_line group privileged) }
+pub fn put_kind<O: Sink>(text: &mut TextBuffer, out: &mut O, group: u8, privileged: bool)
+    ensures { Appends O.taken O.faults out.old out.new text.old text.new (kind_line group privileged) }
 {
     let kind = if privileged {
         " privileged\n"
@@ -36,8 +36,8 @@ pub fn put_kind<O: Sink>(text: &mut Gather, out: &mut O, group: u8, privileged: 
 
 /// Appends the line of a segment.
 #[tactic(auto, using(mm_text::proofs::LineLengths::line_lengths))]
-fn put_segment<O: Sink>(text: &mut Gather, out: &mut O, how: WordUse, base: u64, log: u8)
-    ensures { Gathers O.taken O.faults out.old out.new text.old text.new (segment_line how (base, log)) }
+fn put_segment<O: Sink>(text: &mut TextBuffer, out: &mut O, how: WordUse, base: u64, log: u8)
+    ensures { Appends O.taken O.faults out.old out.new text.old text.new (segment_line how (base, log)) }
 {
     let mut line = Line::new();
     line.put_byte(b'\n');
@@ -51,12 +51,12 @@ fn put_segment<O: Sink>(text: &mut Gather, out: &mut O, how: WordUse, base: u64,
 
 /// Appends the lines of segments.
 pub fn put_segments<O: Sink>(
-    text: &mut Gather,
+    text: &mut TextBuffer,
     out: &mut O,
     how: WordUse,
     segments: &mut Segments<'_>,
 )
-    ensures { Gathers O.taken O.faults out.old out.new text.old text.new
+    ensures { Appends O.taken O.faults out.old out.new text.old text.new
         (flat_map (segment_line how) segments.old) }
 {
     while let Some((base, log)) = segments.next() {
@@ -65,8 +65,8 @@ pub fn put_segments<O: Sink>(
 }
 
 /// Appends the numbers of groups, with commas between them.
-fn put_numbers<O: Sink>(text: &mut Gather, out: &mut O, groups: &[u8])
-    ensures { Gathers O.taken O.faults out.old out.new text.old text.new (groups_text groups.now) }
+fn put_numbers<O: Sink>(text: &mut TextBuffer, out: &mut O, groups: &[u8])
+    ensures { Appends O.taken O.faults out.old out.new text.old text.new (groups_text groups.now) }
 {
     let [first, rest @ ..] = groups else {
         return;
@@ -78,8 +78,8 @@ fn put_numbers<O: Sink>(text: &mut Gather, out: &mut O, groups: &[u8])
 }
 
 /// Appends the answer whether groups stand apart.
-fn put_verdict<O: Sink>(text: &mut Gather, out: &mut O, apart: Apart)
-    ensures { Gathers O.taken O.faults out.old out.new text.old text.new (verdict_text (verdict_of apart)) }
+fn put_verdict<O: Sink>(text: &mut TextBuffer, out: &mut O, apart: Apart)
+    ensures { Appends O.taken O.faults out.old out.new text.old text.new (verdict_text (verdict_of apart)) }
 {
     match apart {
         Apart::Yes => text.put(out, &[Piece::Text("yes")]),
@@ -101,8 +101,8 @@ fn put_verdict<O: Sink>(text: &mut Gather, out: &mut O, apart: Apart)
 }
 
 /// Appends the line that says whether groups stand apart, given the answer.
-fn put_answer<O: Sink>(text: &mut Gather, out: &mut O, groups: &[u8], apart: Apart)
-    ensures { Gathers O.taken O.faults out.old out.new text.old text.new (apart_line groups.now (verdict_of apart)) }
+fn put_answer<O: Sink>(text: &mut TextBuffer, out: &mut O, groups: &[u8], apart: Apart)
+    ensures { Appends O.taken O.faults out.old out.new text.old text.new (apart_line groups.now (verdict_of apart)) }
 {
     text.put(out, &[Piece::Text("apart ")]);
     put_numbers(text, out, groups);
@@ -112,8 +112,8 @@ fn put_answer<O: Sink>(text: &mut Gather, out: &mut O, groups: &[u8], apart: Apa
 }
 
 /// Appends the line that says whether groups stand apart from all others, by a survey.
-pub fn put_apart<O: Sink>(text: &mut Gather, out: &mut O, survey: &Survey, groups: &[u8])
-    ensures { (line : List ℕ) × Gathers O.taken O.faults out.old out.new text.old text.new line
+pub fn put_apart<O: Sink>(text: &mut TextBuffer, out: &mut O, survey: &Survey, groups: &[u8])
+    ensures { (line : List ℕ) × Appends O.taken O.faults out.old out.new text.old text.new line
         × ((i : ImageValue) → Surveys i All survey.now → ApartLine i groups.now line) }
 {
     put_answer(text, out, groups, survey.apart(groups));

@@ -36,62 +36,62 @@ get_right (x ∷ xs) ys i = ap (slice_get (x ∷ (xs ++ ys))) (let e : suc (leng
 -- a block of a page
 
 -- a cell of a block is the page's
-pub block_get : (cells : List Cell) (place i : ℕ) → i < 8 → slice_get (block_in cells place) i ≡ slice_get cells (place * 8 + i)
-block_get cells place i lt = get_take 8 (drop (place * 8) cells) i lt ∙ get_drop (place * 8) cells i
+pub block_get : (cells : List Cell) (block_index i : ℕ) → i < 8 → slice_get (block_in cells block_index) i ≡ slice_get cells (block_index * 8 + i)
+block_get cells block_index i lt = get_take 8 (drop (block_index * 8) cells) i lt ∙ get_drop (block_index * 8) cells i
 
-block_past : (cells : List Cell) (place i : ℕ) → 8 ≤ i → slice_get (block_in cells place) i ≡ None
-block_past cells place i le = slice_get_past (block_in cells place) i (omega (arith, length-take 8 (drop (place * 8) cells)))
+block_past : (cells : List Cell) (block_index i : ℕ) → 8 ≤ i → slice_get (block_in cells block_index) i ≡ None
+block_past cells block_index i le = slice_get_past (block_in cells block_index) i (omega (arith, length-take 8 (drop (block_index * 8) cells)))
 
-pub block_length : (cells : List Cell) (place : ℕ) → place * 8 + 8 ≤ length cells → length (block_in cells place) ≡ 8
-block_length cells place fits = omega (arith, length-take 8 (drop (place * 8) cells), length-drop (place * 8) cells)
+pub block_length : (cells : List Cell) (block_index : ℕ) → block_index * 8 + 8 ≤ length cells → length (block_in cells block_index) ≡ 8
+block_length cells block_index fits = omega (arith, length-take 8 (drop (block_index * 8) cells), length-drop (block_index * 8) cells)
 
-module _ (cells : List Cell) (place : ℕ) (new : List Cell) (fits : place * 8 + 8 ≤ length cells) (eight : length new ≡ 8) where
-  before : length (take (place * 8) cells) ≡ place * 8
-  before = omega (arith, length-take (place * 8) cells)
+module _ (cells : List Cell) (block_index : ℕ) (new : List Cell) (fits : block_index * 8 + 8 ≤ length cells) (eight : length new ≡ 8) where
+  before : length (take (block_index * 8) cells) ≡ block_index * 8
+  before = omega (arith, length-take (block_index * 8) cells)
 
-  parts : with_block cells place new ≡ take (place * 8) cells ++ (new ++ drop (place * 8 + 8) cells)
-  parts = append_assoc (take (place * 8) cells) new (drop (place * 8 + 8) cells)
+  parts : with_block cells block_index new ≡ take (block_index * 8) cells ++ (new ++ drop (block_index * 8 + 8) cells)
+  parts = append_assoc (take (block_index * 8) cells) new (drop (block_index * 8 + 8) cells)
 
   -- where a block is put its cells are
-  pub with_block_here : (j : ℕ) → j / 8 ≡ place → slice_get (with_block cells place new) j ≡ slice_get new (j % 8)
+  pub with_block_here : (j : ℕ) → j / 8 ≡ block_index → slice_get (with_block cells block_index new) j ≡ slice_get new (j % 8)
   with_block_here j at =
-      let front : length (take (place * 8) cells) ≡ place * 8 = before in
-      let index : j ≡ length (take (place * 8) cells) + j % 8 = omega arith in
+      let front : length (take (block_index * 8) cells) ≡ block_index * 8 = before in
+      let index : j ≡ length (take (block_index * 8) cells) + j % 8 = omega arith in
       ap (λ (xs : List Cell). slice_get xs j) parts
-      ∙ ap (slice_get (take (place * 8) cells ++ (new ++ drop (place * 8 + 8) cells))) index
-      ∙ get_right (take (place * 8) cells) (new ++ drop (place * 8 + 8) cells) (j % 8)
-      ∙ get_left new (drop (place * 8 + 8) cells) (j % 8) (omega arith)
+      ∙ ap (slice_get (take (block_index * 8) cells ++ (new ++ drop (block_index * 8 + 8) cells))) index
+      ∙ get_right (take (block_index * 8) cells) (new ++ drop (block_index * 8 + 8) cells) (j % 8)
+      ∙ get_left new (drop (block_index * 8 + 8) cells) (j % 8) (omega arith)
 
-  before_block : (j : ℕ) → j < place * 8 → slice_get (with_block cells place new) j ≡ slice_get cells j
+  before_block : (j : ℕ) → j < block_index * 8 → slice_get (with_block cells block_index new) j ≡ slice_get cells j
   before_block j lt =
-      let front : length (take (place * 8) cells) ≡ place * 8 = before in
-      ap (λ (xs : List Cell). slice_get xs j) parts ∙ get_left (take (place * 8) cells) (new ++ drop (place * 8 + 8) cells) j (omega arith) ∙ get_take (place * 8) cells j lt
+      let front : length (take (block_index * 8) cells) ≡ block_index * 8 = before in
+      ap (λ (xs : List Cell). slice_get xs j) parts ∙ get_left (take (block_index * 8) cells) (new ++ drop (block_index * 8 + 8) cells) j (omega arith) ∙ get_take (block_index * 8) cells j lt
 
-  after_block : (j : ℕ) → place * 8 + 8 ≤ j → slice_get (with_block cells place new) j ≡ slice_get cells j
+  after_block : (j : ℕ) → block_index * 8 + 8 ≤ j → slice_get (with_block cells block_index new) j ≡ slice_get cells j
   after_block j le =
-      let front : length (take (place * 8) cells) ≡ place * 8 = before in
-      let rest : ℕ = j - (place * 8 + 8) in
-      let index : j ≡ length (take (place * 8) cells) + (length new + rest) = omega arith in
-      let back : (place * 8 + 8) + rest ≡ j = omega arith in
+      let front : length (take (block_index * 8) cells) ≡ block_index * 8 = before in
+      let rest : ℕ = j - (block_index * 8 + 8) in
+      let index : j ≡ length (take (block_index * 8) cells) + (length new + rest) = omega arith in
+      let back : (block_index * 8 + 8) + rest ≡ j = omega arith in
       ap (λ (xs : List Cell). slice_get xs j) parts
-      ∙ ap (slice_get (take (place * 8) cells ++ (new ++ drop (place * 8 + 8) cells))) index
-      ∙ get_right (take (place * 8) cells) (new ++ drop (place * 8 + 8) cells) (length new + rest)
-      ∙ get_right new (drop (place * 8 + 8) cells) rest
-      ∙ get_drop (place * 8 + 8) cells rest
+      ∙ ap (slice_get (take (block_index * 8) cells ++ (new ++ drop (block_index * 8 + 8) cells))) index
+      ∙ get_right (take (block_index * 8) cells) (new ++ drop (block_index * 8 + 8) cells) (length new + rest)
+      ∙ get_right new (drop (block_index * 8 + 8) cells) rest
+      ∙ get_drop (block_index * 8 + 8) cells rest
       ∙ ap (slice_get cells) back
 
   -- elsewhere the cell is the page's
-  pub with_block_there : (j : ℕ) → j / 8 ≢ place → slice_get (with_block cells place new) j ≡ slice_get cells j
-  with_block_there j other = elim (cases_lt j (place * 8)) [
+  pub with_block_there : (j : ℕ) → j / 8 ≢ block_index → slice_get (with_block cells block_index new) j ≡ slice_get cells j
+  with_block_there j other = elim (cases_lt j (block_index * 8)) [
     | inl lt ↦ before_block j lt
     | inr le ↦ after_block j (grind (arith, other, le))
   ]
 
   -- another block stays
-  pub with_block_other : (other : ℕ) → other ≢ place → block_in (with_block cells place new) other ≡ block_in cells other
+  pub with_block_other : (other : ℕ) → other ≢ block_index → block_in (with_block cells block_index new) other ≡ block_in cells other
   with_block_other other differs = same_list _ _ (λ i. elim (cases_lt i 8) [
-    | inl lt ↦ block_get (with_block cells place new) other i lt ∙ with_block_there (other * 8 + i) (λ same. differs (omega arith)) ∙ sym (block_get cells other i lt)
-    | inr le ↦ block_past (with_block cells place new) other i le ∙ sym (block_past cells other i le)
+    | inl lt ↦ block_get (with_block cells block_index new) other i lt ∙ with_block_there (other * 8 + i) (λ same. differs (omega arith)) ∙ sym (block_get cells other i lt)
+    | inr le ↦ block_past (with_block cells block_index new) other i le ∙ sym (block_past cells other i le)
   ])
 
 -- a block of a memory

@@ -11,13 +11,13 @@ use Rattle.mm_cache.specs.Lines.{line_in}
 
 -- the cell at a place of a page, as it is read through a line
 abbrev pub over_cell : Option CacheLine → ℕ → ℕ → Cell → Cell
-over_cell None page place c = c
-over_cell (Some l) page place c = if page_of_block l.block == page then slice_index_or l.cells (place % 8) c else c
+over_cell None page cell_index c = c
+over_cell (Some l) page cell_index c = if page_of_block l.block == page then slice_index_or l.cells (cell_index % 8) c else c
 
 -- the cells of a page from a place on, as they are read through the lines
 abbrev pub lay : List (Option CacheLine) → ℕ → ℕ → List Cell → List Cell
-lay lines page place [] = []
-lay lines page place (c ∷ cells) = over_cell (line_in lines (place / 8)) page place c ∷ lay lines page (suc place) cells
+lay lines page cell_index [] = []
+lay lines page cell_index (c ∷ cells) = over_cell (line_in lines (cell_index / 8)) page cell_index c ∷ lay lines page (suc cell_index) cells
 
 -- the memory that is read through the lines
 unfoldable pub over : Memory → List (Option CacheLine) → Memory

@@ -15,7 +15,7 @@ use Rattle.mm_model.specs.{Slot.Slot, Image.{Image, frame_limit}, Fits.identity_
 use Rattle.mm_model.specs.{Spelling.{IsImage, bitmap}, Typed.IsTypedSlot, declared.slot.Pending.Pending}
 use Rattle.mm_format.specs.{Formats.each, Images.{word, page_record}}
 use Rattle.mm_format.proofs.ImagesWhole.{words_spelled, page_spelled}
-use Rattle.mm_model.proofs.{CoreRows.{each_map, each_both, slot_limit-few}, ImageBytes.Apart.number_of_flags-below}
+use Rattle.mm_model.proofs.{CoreRows.{each_map, each_both, slot_limit-few}, Bytes.Apart.number_of_flags-below}
 use Rattle.mm_thread.specs.Output.{Output}
 use Rattle.mm_machine.specs.Snapshot.{Parts, IsPending}
 use Rattle.mm_checkpoint.specs.Checkpoints.{Saved, saved_of, IsCheckpoint, last_byte, state_byte, cause_byte}

@@ -1,7 +1,7 @@
 -- In which order the faults of a checkpoint's file come.
 use Rattle.std.proofs.Common.{◌≡◌, ℕ, Bool, true, false, cond, nat_lt, List, length, Option, Some, None, refl, ap, ◌∙◌}
 use Rattle.mm_model.specs.Image.{Image}
-use Rattle.mm_format.specs.Formats.{Outcome, after, answer, fault_in, Outcome.{Got, Bad}}
+use Rattle.mm_format.specs.Formats.{Parsed, after, answer, fault_in, Parsed.{Got, Bad}}
 use Rattle.mm_format.specs.Images.{pages}
 use Rattle.mm_checkpoint.specs.declared.header.Header.{Header}
 use Rattle.mm_checkpoint.specs.declared.rows.SlotRow.{SlotRow}
@@ -9,18 +9,18 @@ use Rattle.mm_checkpoint.specs.{Faults.said_of, FileOrder.{records, bad_place, o
 use Rattle.mm_checkpoint.specs.Format.{header, front, front_from, tested, checkpoint, contents_from, saved_in}
 
 -- a fault of the first part is that of both
-stops : {A B : Type 0} (o : Outcome A) (rest : A → ℕ → Outcome B) (fault : ℕ × ℕ) → fault_in o ≡ Some fault
+stops : {A B : Type 0} (o : Parsed A) (rest : A → ℕ → Parsed B) (fault : ℕ × ℕ) → fault_in o ≡ Some fault
     → fault_in (after o rest) ≡ Some fault
 stops (Got a next) rest fault e = absurd cc
 stops (Bad number at) rest fault e = e
 
 -- and so is one of the second, if the first was read
-goes_on : {A B : Type 0} (o : Outcome A) (rest : A → ℕ → Outcome B) (a : A) (next : ℕ) (fault : ℕ × ℕ) → o ≡ Got a next
+goes_on : {A B : Type 0} (o : Parsed A) (rest : A → ℕ → Parsed B) (a : A) (next : ℕ) (fault : ℕ × ℕ) → o ≡ Got a next
     → fault_in (rest a next) ≡ Some fault → fault_in (after o rest) ≡ Some fault
 goes_on o rest a next fault is e = ap (λ x. fault_in (after x rest)) is ∙ e
 
 -- a part that was read is followed by the rest
-then : {A B : Type 0} (o : Outcome A) (rest : A → ℕ → Outcome B) (a : A) (next : ℕ) → o ≡ Got a next
+then : {A B : Type 0} (o : Parsed A) (rest : A → ℕ → Parsed B) (a : A) (next : ℕ) → o ≡ Got a next
     → after o rest ≡ rest a next
 then o rest a next is = ap (λ x. after x rest) is
 

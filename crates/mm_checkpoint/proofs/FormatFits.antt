@@ -13,9 +13,9 @@ use Rattle.mm_word.{specs.Word.{IsWord, word_bits, is_pointer}, proofs.Packing.p
 use Rattle.mm_model.specs.declared.event.Event.{Event}
 use Rattle.mm_model.specs.declared.slot.{Pending.Pending, SlotState.{SlotState, TheVariants.Taken}}
 use Rattle.mm_model.specs.{Flags.{flags, number_of_flags, one_if}, Fits.{is_waiting, identity_of, EventHoldsWords}}
-use Rattle.mm_model.{specs.Typed.IsTypedSlot, proofs.ImageBytes.Apart.{number_of_flags-below, flag-get}}
-use Rattle.mm_model.proofs.ImageBytes.{Clean.is_below, CleanWords.well_formed}
-use Rattle.mm_model.proofs.{ImageBytes.SpelledRecords.{is_spelled, not_le}, FlagLists.flags-get}
+use Rattle.mm_model.{specs.Typed.IsTypedSlot, proofs.Bytes.Apart.{number_of_flags-below, flag-get}}
+use Rattle.mm_model.proofs.Bytes.{Clean.is_below, CleanWords.well_formed}
+use Rattle.mm_model.proofs.{Bytes.SpelledRecords.{is_spelled, not_le}, FlagLists.flags-get}
 use Rattle.mm_machine.specs.Snapshot.{IsPending}
 use Rattle.mm_format.specs.{Formats.{each, times, cons}, Images.word}
 use Rattle.mm_format.proofs.ImagesFit.{small_bits, word_fits, fits_word, ip_fits, fits_ip, fits_mask}

@@ -8,7 +8,7 @@ use Rattle.mm_word.specs.declared.{cause.Cause.TheVariants.NotPointer, word.Word
 use Rattle.mm_word.specs.Word.{word_bits, is_pointer}
 use Rattle.mm_model.specs.{declared.event.Event.Event, Flags.{flags, number_of_flags, one_if}, Slot.Slot}
 use Rattle.mm_model.specs.Image.{Image, output_limit}
-use Rattle.mm_model.proofs.ImageBytes.Bitmaps.{number_of_flags-flags}
+use Rattle.mm_model.proofs.Bytes.Bitmaps.{number_of_flags-flags}
 use Rattle.mm_format.specs.Formats.{Format, IsFormat, u16, u32, u64, byte, each, cons}
 use Rattle.mm_format.specs.Images.{mask, flags_of, word, page}
 use Rattle.mm_format.proofs.Formats.{byte_is, u16_is, u32_is, u64_is, text_is, test_is, literal_is, literal_read}

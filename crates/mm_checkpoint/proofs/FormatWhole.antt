@@ -12,11 +12,11 @@ use Rattle.mm_model.specs.declared.{event.Event.Event, slot.{Pending.Pending, Sl
 use Rattle.mm_model.specs.{Flags.{flags, number_of_flags, one_if}, Fits.identity_of, Image.{Image, output_limit}}
 use Rattle.mm_model.specs.{Bytes.IsBytes, Slot.Slot, Spelling.{IsImage, numbers_of}}
 use Rattle.mm_model.{specs.Typed.IsTypedSlot, proofs.{CoreRows.{each_map, by_identities}, OwnSlots.{Ascends, ascends}}}
-use Rattle.mm_model.proofs.ImageBytes.{Ranges.map-map, Rising.AreRisingFrom}
-use Rattle.mm_model.proofs.ImageBytes.SpelledRecords.{not_le}
+use Rattle.mm_model.proofs.Bytes.{Ranges.map-map, Rising.AreRisingFrom}
+use Rattle.mm_model.proofs.Bytes.SpelledRecords.{not_le}
 use Rattle.mm_thread.specs.Output.{Output}
 use Rattle.mm_machine.specs.Snapshot.{Parts, IsSnapshot, IsPending}
-use Rattle.mm_format.specs.Formats.{each, times, cons, first_late, after, file, Outcome.Got}
+use Rattle.mm_format.specs.Formats.{each, times, cons, first_late, after, file, Parsed.Got}
 use Rattle.mm_format.specs.Images.{mask, ip, page}
 use Rattle.mm_format.proofs.{Formats.after_got, ImagesFit.{Rise, rises, rise_all, PagesAre, pages_fit, fit_pages}}
 use Rattle.mm_format.proofs.{Lists.{times_long}}

@@ -2,7 +2,7 @@
 use Rattle.std.proofs.Common.{◌≡◌, ℕ, List, refl, ap, sym, ◌∙◌}
 use Rattle.mm_model.{specs.{State.State, Image.{Image, start}, Run.run, Spelling.IsImage}, proofs.Starts.start_fits}
 use Rattle.mm_machine.specs.Snapshot.{IsAlike, restored}
-use Rattle.mm_machine.proofs.{Keeping.kept_core, Returning.put_back, Went.run_both}
+use Rattle.mm_machine.proofs.{Keeping.valid_core, Returning.put_back, Went.run_both}
 use Rattle.mm_checkpoint.specs.Laws.{RestoredRunsGoOn}
 use Rattle.mm_checkpoint.proofs.Reached.{reached}
 
@@ -14,7 +14,7 @@ alike i items image =
       version = r.fits.version ∙ sym first.version;
       split = r.fits.split ∙ sym first.split;
       frames = r.fits.frames ∙ sym first.frames;
-      core = ∣ kept_core (run (start i) items) r.kept ∣₁;
+      core = ∣ valid_core (run (start i) items) r.kept ∣₁;
     }
 
 pub goes_on : RestoredRunsGoOn

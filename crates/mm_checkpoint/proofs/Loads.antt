@@ -4,7 +4,7 @@ use Rattle.std.proofs.Common.{◌++◌, length, get_or, refl, sym, ap, subst, �
 use Rattle.std.proofs.lemmas.{Bool.{cases_eq, cases_lt, ne_eqb}, List.{get_or_past, append-nil}}
 use Rattle.std.specs.{Prelude.{◌==◌, count_by}, List.{AllByRecursion, range_with_len}}
 use Rattle.mm_model.specs.{declared.slot.Pending.Pending, Flags.{flags, one_if, number_of_flags}}
-use Rattle.mm_model.{specs.Slot.{Slot, is_empty}, proofs.{CoreRows.each_map, ImageBytes.Bitmaps.bits-flags}}
+use Rattle.mm_model.{specs.Slot.{Slot, is_empty}, proofs.{CoreRows.each_map, Bytes.Bitmaps.bits-flags}}
 use Rattle.mm_machine.specs.Snapshot.{IsPending}
 use Rattle.mm_format.{specs.Images.{mask, flags_of}, proofs.ImagesFit.fits_mask}
 use Rattle.mm_checkpoint.specs.{Tests.{bits_set, has_entry}, Steps.bit_count}

@@ -4,24 +4,24 @@ use Rattle.std.specs.{Prelude.{IfSome, Option}, List.AllByRecursion}
 use Rattle.mm_model.specs.{State.State, Image.{Image, start, output_limit}, Run.{after, run}, Spelling.IsImage}
 use Rattle.mm_model.{specs.Fits.Fits, proofs.{Starts.start_fits, StateKeeps.after_fits}}
 use Rattle.mm_thread.specs.Output.{Output}
-use Rattle.mm_machine.specs.{Kept.Kept, Snapshot.{Parts, IsTyped, IsSnapshotOf}}
-use Rattle.mm_machine.proofs.{Keeping.{kept_start, kept_after}, Restorable.can_own}
+use Rattle.mm_machine.specs.{Validity.IsValid, Snapshot.{Parts, IsTyped, IsSnapshotOf}}
+use Rattle.mm_machine.proofs.{Keeping.{valid_start, valid_after}, Restorable.can_own}
 use Rattle.mm_checkpoint.specs.Checkpoints.{IsCheckpoint}
 
 -- what is true of a machine of the image after so many cycles
 pub record Reached (i : Image) (cycles : ℕ) (s : State) : Type 0 where
-  pub kept : Kept s
+  pub kept : IsValid s
   pub fits : Fits i s
   pub counted : s.cycles ≡ cycles
 
 reached_start : (i : Image) → IsImage i → Reached i 0 (start i)
 unfolding start
-reached_start i image = record { kept = kept_start i image; fits = start_fits i image; counted = refl }
+reached_start i image = record { kept = valid_start i image; fits = start_fits i image; counted = refl }
 
 reached_after : (i : Image) (cycles : ℕ) (s : State) (n : ℕ) → IsImage i → Reached i cycles s → Reached i (cycles + 1) (after s n)
 unfolding after
 reached_after i cycles s n image r = record {
-  kept = kept_after s n r.kept;
+  kept = valid_after s n r.kept;
   fits = after_fits i s n image r.kept.state r.fits;
   counted = ap (λ (c : ℕ). c + 1) r.counted;
 }

@@ -5,8 +5,8 @@ use Rattle.mm_model.proofs.TurnKeeps.{each_of}
 use Rattle.mm_model.specs.{Slot.Slot, State.State, Image.start, Run.run, Fits.{slots_of, IsOfVersion}, Bytes.IsBytes}
 use Rattle.mm_model.proofs.CoreRows.{each_map, into_map}
 use Rattle.mm_thread.specs.Output.{Output}
-use Rattle.mm_machine.specs.{Kept.Kept, Snapshot.{Parts, IsSnapshotOf, IsTyped}, Capture.OutputsBelow}
-use Rattle.mm_machine.proofs.{Keeping.kept_core, Copied.{snapshot_taken, typed_taken}}
+use Rattle.mm_machine.specs.{Validity.IsValid, Snapshot.{Parts, IsSnapshotOf, IsTyped}, Capture.OutputsBelow}
+use Rattle.mm_machine.proofs.{Keeping.valid_core, Copied.{snapshot_taken, typed_taken}}
 use Rattle.mm_checkpoint.specs.{Checkpoints.{saved_of, Saved, IsCheckpoint}, Format.spelling, Reading.groups_of}
 use Rattle.mm_checkpoint.specs.{States.{outputs_of, saved_form}, Laws.{RunsHaveSnapshots, RunsHaveCheckpoints}}
 use Rattle.mm_checkpoint.proofs.{Reached.{reached, snapshots}, Forms.{groups_made, said_made}}
@@ -16,7 +16,7 @@ use Rattle.mm_model.proofs.OutputBytes.{AreBytes, group_bytes, run_bytes}
 
 -- 1. The parts.
 
-module _ (s : State) (kept : Kept s) where
+module _ (s : State) (kept : IsValid s) where
   abbrev slots : List Slot
   slots = slots_of s.core
 
@@ -27,7 +27,7 @@ module _ (s : State) (kept : Kept s) where
   same_groups = groups_made s.core (groups_of slots)
 
   small : AllByRecursion (λ (x : Slot). x.group < 64) slots
-  small = each_map (IsOfVersion 2) (λ (x : Slot). x.group < 64) (λ x is. is.group) slots (kept_core s kept).numbers
+  small = each_map (IsOfVersion 2) (λ (x : Slot). x.group < 64) (λ x is. is.group) slots (valid_core s kept).numbers
 
   below : OutputsBelow s.core (slots_of s.core) 64 outputs
   below = record {
@@ -54,7 +54,7 @@ module _ (s : State) (kept : Kept s) where
 pub runs_have_snapshots : RunsHaveSnapshots
 runs_have_snapshots i items image =
     let s : State = run (start i) items in
-    let kept : Kept s = (reached i items image).kept in
+    let kept : IsValid s = (reached i items image).kept in
     record { parts = parts s kept; of = are_snapshot s kept; typed = are_typed s kept }
 
 -- 2. The bytes.
@@ -67,7 +67,7 @@ is_bytes (b ∷ bytes) h (suc k) = is_bytes bytes h.1 k
 pub runs_have_checkpoints : RunsHaveCheckpoints
 runs_have_checkpoints i items last image few small =
     let s : State = run (start i) items in
-    let kept : Kept s = (reached i items image).kept in
+    let kept : IsValid s = (reached i items image).kept in
     let p = parts s kept in
     let form = have_form s kept last in
     let checkpoint : IsCheckpoint i p last =

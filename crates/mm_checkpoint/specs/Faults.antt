@@ -7,13 +7,13 @@
 use Rattle.std.specs.Prelude.{ℕ, List, Option}
 use Rattle.std.specs.Option.{option_map}
 use Rattle.mm_model.specs.Image.{Image}
-use Rattle.mm_format.specs.Formats.{Outcome, after, file, fault_in}
-use Rattle.mm_format.specs.Formats.Outcome.{Got}
+use Rattle.mm_format.specs.Formats.{Parsed, after, file, fault_in}
+use Rattle.mm_format.specs.Formats.Parsed.{Got}
 use Rattle.mm_checkpoint.specs.Checkpoints.{Saved}
 use Rattle.mm_checkpoint.specs.Format.{checkpoint, saved_in}
 
 -- what a file says of an image: the parts of a checkpoint, or the first fault in the order of reading
-unfoldable pub said_of : Image → List ℕ → Outcome Saved
+unfoldable pub said_of : Image → List ℕ → Parsed Saved
 said_of i bytes = after (file (checkpoint i) 13 bytes) (λ contents next. Got (saved_in contents) next)
 
 -- the number and the offset of the first fault, if there is one

@@ -5,7 +5,7 @@ use Rattle.mm_word.specs.declared.word.Cell.{Cell}
 use Rattle.mm_model.specs.Image.{Image, output_limit}
 use Rattle.mm_model.specs.Spelling.{IsImage}
 use Rattle.mm_format.specs.Formats.{Format, fault_in, first_late, each}
-use Rattle.mm_format.specs.Formats.Outcome.{Got}
+use Rattle.mm_format.specs.Formats.Parsed.{Got}
 use Rattle.mm_format.specs.Images.{pages, page_record}
 use Rattle.mm_machine.specs.Snapshot.{Parts}
 use Rattle.mm_checkpoint.specs.declared.header.Header.{Header}

@@ -10,9 +10,9 @@ use Rattle.mm_checkpoint.specs.declared.fault.SaveError.TheVariants.{Fault, NoMe
 use Rattle.mm_model.specs.Flags.{in_mask}
 
 -- the error of a reader of checkpoints for that of a reader of fields, without the kind of the fault
-abbrev pub told : ReadError ImageFault → SaveError
-told (reading.Fault kind offset) = Fault offset
-told reading.NoMemory = NoMemory
+abbrev pub from_read_error : ReadError ImageFault → SaveError
+from_read_error (reading.Fault kind offset) = Fault offset
+from_read_error reading.NoMemory = NoMemory
 
 -- a group with the bytes that it has put out
 abbrev pub put_out : Output → ℕ × List ℕ

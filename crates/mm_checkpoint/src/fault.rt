@@ -14,9 +14,9 @@ pub enum SaveError {
 }
 
 impl From<ReadError<ImageFault>> for SaveError {
-    ghost use Rattle.mm_checkpoint.specs.Steps.{told};
+    ghost use Rattle.mm_checkpoint.specs.Steps.{from_read_error};
 
-    ghost from_gives = { λ e told_error. told_error ≡ told e };
+    ghost from_gives = { λ e error. error ≡ from_read_error e };
 
     fn from(error: ReadError<ImageFault>) -> SaveError {
         match error {

@@ -10,7 +10,7 @@ ghost use Rattle.mm_format.specs.Reading.{ReadsAlone};
 ghost use Rattle.mm_image.specs.Faults.{number_of};
 ghost use Rattle.mm_checkpoint.specs.Format.{beside, operand, register, tagged};
 
-use mm_format::{ReadError, Reader, Sixteen, failed, is_set, read_sixteen, refuse_if};
+use mm_format::{ReadError, Reader, Elements, failed, is_set, read_array, refuse_if};
 use mm_image::{ImageFault, read_word, word_of};
 use mm_word::Word;
 
@@ -21,19 +21,19 @@ struct Masks {
     empty: u16,
 }
 
-impl Sixteen<ImageFault> for Masks {
+impl Elements<ImageFault> for Masks {
     ghost use Rattle.std.specs.Prelude.{◌==◌, ◌/◌, ◌%◌, ◌^◌};
     ghost use Rattle.mm_word.specs.Word.{IsWord};
     ghost use Rattle.mm_checkpoint.specs.Format.{register};
 
     type Item = Word;
 
-    ghost reads = { λ m place. (register (m.tags / 2 ^ place % 2 == 1, m.empty / 2 ^ place % 2 == 1)).read };
+    ghost reads = { λ m index. (register (m.tags / 2 ^ index % 2 == 1, m.empty / 2 ^ index % 2 == 1)).read };
 
     ghost holds = { IsWord };
 
-    fn item(&self, reader: &mut Reader, place: usize) -> Result<Word, ReadError<ImageFault>> {
-        read_register(reader, is_set(self.tags, place), is_set(self.empty, place))
+    fn item(&self, reader: &mut Reader, index: usize) -> Result<Word, ReadError<ImageFault>> {
+        read_register(reader, is_set(self.tags, index), is_set(self.empty, index))
     }
 }
 
@@ -48,7 +48,7 @@ pub(crate) fn read_registers(
     ensures count { IfOk result (λ regs. length regs ≡ 16) }
     ensures words { IfOk result (λ regs. AllByRecursion IsWord regs) }
 {
-    read_sixteen(reader, &Masks { tags, empty }, Word::Int(0))
+    read_array(reader, &Masks { tags, empty }, Word::Int(0))
 }
 
 /// Reads a register, which holds integer 0 if it is empty.

@@ -189,10 +189,10 @@ no_split text found = by (nat_lt (position_or_len is_comma text) (length text)) 
 pub part_more : (text rest gs hs part : List ℕ) (g at n : ℕ) → slice_split is_comma text ≡ map decimal gs ++ slice_split is_comma rest → position is_comma rest ≡ Some at
     → part ≡ take at rest → part ≡ decimal g → hs ≡ gs ++ g ∷ [] → n ≡ length rest - (at + 1)
     → slice_split is_comma text ≡ map decimal hs ++ slice_split is_comma (take n (drop (at + 1) rest))
-part_more text rest gs hs part g at n read found front said more size =
+part_more text rest gs hs part g at n read found front arguments more size =
     let all : take n (drop (at + 1) rest) ≡ drop (at + 1) rest = take_all n (drop (at + 1) rest) (omega (arith, length-drop (at + 1) rest)) in
     read
-    ∙ ap (λ (parts : List (List ℕ)). map decimal gs ++ parts) (split_at rest at found ∙ ap (λ (word : List ℕ). word ∷ slice_split is_comma (drop (at + 1) rest)) (sym front ∙ said))
+    ∙ ap (λ (parts : List (List ℕ)). map decimal gs ++ parts) (split_at rest at found ∙ ap (λ (word : List ℕ). word ∷ slice_split is_comma (drop (at + 1) rest)) (sym front ∙ arguments))
     ∙ map_more gs g (slice_split is_comma (drop (at + 1) rest))
     ∙ ap (λ (xs : List ℕ). map decimal xs ++ slice_split is_comma (drop (at + 1) rest)) (sym more)
     ∙ ap (λ (xs : List ℕ). map decimal hs ++ slice_split is_comma xs) (sym all)
@@ -221,9 +221,9 @@ longer (h ∷ gs) g = omega arith
 
 pub last_part : (text rest gs hs : List ℕ) (g : ℕ) → slice_split is_comma text ≡ map decimal gs ++ slice_split is_comma rest → AreSoFar gs → position is_comma rest ≡ None
     → Follows gs g → rest ≡ decimal g → hs ≡ gs ++ g ∷ [] → (text ≡ groups_text hs) × AreGroups hs
-last_part text rest gs hs g read so_far found follows said more =
+last_part text rest gs hs g read so_far found follows arguments more =
     let whole = so_far_more gs hs g so_far follows more in
     let parts : slice_split is_comma text ≡ map decimal hs =
-    read ∙ ap (λ (parts : List (List ℕ)). map decimal gs ++ parts) (no_split rest found ∙ ap (λ (word : List ℕ). word ∷ []) said)
+    read ∙ ap (λ (parts : List (List ℕ)). map decimal gs ++ parts) (no_split rest found ∙ ap (λ (word : List ℕ). word ∷ []) arguments)
     ∙ map_more gs g [] ∙ append-nil (map decimal (gs ++ g ∷ [])) ∙ ap (map decimal) (sym more) in
     (text_of text hs parts, record { some = subst (λ (xs : List ℕ). 1 ≤ length xs) (sym more) (longer gs g); ascending = whole.ascending; few = whole.few })

@@ -1,4 +1,4 @@
 mod GroupWords
 mod RowWords
-pub mod SaidWords
+pub mod ArgumentWords
 pub mod Rows

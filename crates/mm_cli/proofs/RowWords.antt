@@ -8,11 +8,11 @@ use Rattle.std.proofs.lemmas.Bool.{eqb-true}
 use Rattle.mm_cli.specs.declared.table.Kind.{Kind}
 use Rattle.mm_cli.specs.declared.table.Parameter.{Parameter}
 use Rattle.mm_cli.specs.declared.table.Parameter.TheVariants.{File, Number, Groups, Mode, Range, Address, Use}
-use Rattle.mm_cli.specs.declared.table.Last.{Last}
-use Rattle.mm_cli.specs.declared.table.Last.TheVariants.{Nothing, Several}
+use Rattle.mm_cli.specs.declared.table.Tail.{Tail}
+use Rattle.mm_cli.specs.declared.table.Tail.TheVariants.{Nothing, Repeated}
 use Rattle.mm_cli.specs.declared.words.Word.{Word as Read}
 use Rattle.mm_cli.specs.Words.{Word, file_word, number_word, groups_word, mode_word, range_word, use_word, text_list}
-use Rattle.mm_cli.specs.Words.{spelled, spoken, texts, words_of, AreNone, FitInTurn, FitsParameter, FitsLast, FitsRow, IsOfParameter, AreOfLast}
+use Rattle.mm_cli.specs.Words.{spelled, spoken, texts, words_of, AreNone, FitInTurn, FitsParameter, FitsTail, FitsRow, IsOfParameter, AreOfTail}
 use Rattle.mm_cli.specs.Words.{AreOfRow}
 
 -- 1. What is left after the words of one parameter.
@@ -72,76 +72,76 @@ module _ {A : Type 0} (Fits : Parameter → A → Type 0) where
 -- 3. Words so far.
 
 -- Of these texts some were read as the words of the first parameters, and the rest is left.
-pub record ReadSoFar (parameters : List Parameter) (last : Last) (texts : List (List ℕ)) (at : ℕ) (words : List Word) (rest : List (List ℕ)) : Type 0 where
+pub record ReadSoFar (parameters : List Parameter) (tail : Tail) (texts : List (List ℕ)) (at : ℕ) (words : List Word) (rest : List (List ℕ)) : Type 0 where
   pub fits : FitsRow (take at parameters) Nothing words
-  pub said : texts ≡ spelled words ++ rest
+  pub arguments : texts ≡ spelled words ++ rest
   -- whatever words of the whole row they are, the rest is those of the other parameters
-  pub goes_on : (all : List Word) → FitsRow parameters last all → texts ≡ spelled all → (more : List Word) × FitsRow (drop at parameters) last more × (rest ≡ spelled more)
+  pub goes_on : (all : List Word) → FitsRow parameters tail all → texts ≡ spelled all → (more : List Word) × FitsRow (drop at parameters) tail more × (rest ≡ spelled more)
 
-pub read_none : (parameters : List Parameter) (last : Last) (texts : List (List ℕ)) → ReadSoFar parameters last texts 0 [] texts
-read_none parameters last texts = record { fits = tt; said = refl; goes_on = λ all fits said. (all, fits, said) }
+pub read_none : (parameters : List Parameter) (tail : Tail) (texts : List (List ℕ)) → ReadSoFar parameters tail texts 0 [] texts
+read_none parameters tail texts = record { fits = tt; arguments = refl; goes_on = λ all fits arguments. (all, fits, arguments) }
 
 -- the rest begins with a word for the next parameter
-next_word : (parameters : List Parameter) (last : Last) (at : ℕ) (d : Parameter) (more : List Word) (rest : List (List ℕ)) → at < length parameters → FitsRow (drop at parameters) last more
+next_word : (parameters : List Parameter) (tail : Tail) (at : ℕ) (d : Parameter) (more : List Word) (rest : List (List ℕ)) → at < length parameters → FitsRow (drop at parameters) tail more
     → rest ≡ spelled more
-    → (word : Word) × (others : List Word) × FitsParameter (get_or parameters at d) word × FitsRow (drop (at + 1) parameters) last others × (rest ≡ text_list word ++ spelled others)
-next_word parameters last at d more rest inside fits said = by more (subst (λ (ps : List Parameter). FitsRow ps last more) (drop_more parameters at d inside) fits) said
+    → (word : Word) × (others : List Word) × FitsParameter (get_or parameters at d) word × FitsRow (drop (at + 1) parameters) tail others × (rest ≡ text_list word ++ spelled others)
+next_word parameters tail at d more rest inside fits arguments = by more (subst (λ (ps : List Parameter). FitsRow ps tail more) (drop_more parameters at d inside) fits) arguments
   where
-    by : (ws : List Word) → FitsRow (get_or parameters at d ∷ drop (at + 1) parameters) last ws → rest ≡ spelled ws
-        → (word : Word) × (others : List Word) × FitsParameter (get_or parameters at d) word × FitsRow (drop (at + 1) parameters) last others × (rest ≡ text_list word ++ spelled others)
+    by : (ws : List Word) → FitsRow (get_or parameters at d ∷ drop (at + 1) parameters) tail ws → rest ≡ spelled ws
+        → (word : Word) × (others : List Word) × FitsParameter (get_or parameters at d) word × FitsRow (drop (at + 1) parameters) tail others × (rest ≡ text_list word ++ spelled others)
     by [] fit is = absurd fit
     by (w ∷ ws) fit is = (w, ws, fit.0, fit.1, is)
 
-pub read_more : (parameters : List Parameter) (last : Last) (texts : List (List ℕ)) (at : ℕ) (d : Parameter) (words more : List Word) (word : Word) (rest after : List (List ℕ))
+pub read_more : (parameters : List Parameter) (tail : Tail) (texts : List (List ℕ)) (at : ℕ) (d : Parameter) (words more : List Word) (word : Word) (rest after : List (List ℕ))
     → at < length parameters
-    → ReadSoFar parameters last texts at words rest → FitsParameter (get_or parameters at d) word → rest ≡ text_list word ++ after → more ≡ words ++ word ∷ []
-    → ReadSoFar parameters last texts (at + 1) more after
-read_more parameters last texts at d words more word rest after inside so_far one said also = record {
+    → ReadSoFar parameters tail texts at words rest → FitsParameter (get_or parameters at d) word → rest ≡ text_list word ++ after → more ≡ words ++ word ∷ []
+    → ReadSoFar parameters tail texts (at + 1) more after
+read_more parameters tail texts at d words more word rest after inside so_far one arguments also = record {
   fits =
       subst (λ (ws : List Word). FitsRow (take (at + 1) parameters) Nothing ws) (sym also)
       (subst (λ (ps : List Parameter). FitsRow ps Nothing (words ++ word ∷ []))
       (sym (take_more parameters at d inside)) (one_more FitsParameter (take at parameters) (get_or parameters at d) words word so_far.fits one));
-  said =
-      so_far.said ∙ ap (λ (xs : List (List ℕ)). spelled words ++ xs) said
+  arguments =
+      so_far.arguments ∙ ap (λ (xs : List (List ℕ)). spelled words ++ xs) arguments
       ∙ sym (append_assoc (spelled words) (text_list word) after)
       ∙ ap (λ (xs : List (List ℕ)). xs ++ after) (ap (λ (xs : List (List ℕ)). spelled words ++ xs) (sym (append-nil (text_list word))) ∙ sym (spelled_both words (word ∷ [])) ∙ ap spelled (sym also));
   goes_on = λ all fits is.
       let (ws, fit, are) = so_far.goes_on all fits is in
-      let (w, others, first, then, spells) = next_word parameters last at d ws rest inside fit are in
-      (others, then, same_after (get_or parameters at d) word w after (spelled others) one first (sym said ∙ spells));
+      let (w, others, first, then, spells) = next_word parameters tail at d ws rest inside fit are in
+      (others, then, same_after (get_or parameters at d) word w after (spelled others) one first (sym arguments ∙ spells));
 }
 
 -- no words of the row are said where none is read for the next parameter
-pub read_no_more : (parameters : List Parameter) (last : Last) (texts : List (List ℕ)) (at : ℕ) (d : Parameter) (words : List Word) (rest : List (List ℕ)) → at < length parameters
-    → ReadSoFar parameters last texts at words rest → ((word : Word) (after : List (List ℕ)) → FitsParameter (get_or parameters at d) word → rest ≡ text_list word ++ after → ⊥)
-    → (all : List Word) → FitsRow parameters last all → texts ≡ spelled all → ⊥
-read_no_more parameters last texts at d words rest inside so_far none all fits is =
+pub read_no_more : (parameters : List Parameter) (tail : Tail) (texts : List (List ℕ)) (at : ℕ) (d : Parameter) (words : List Word) (rest : List (List ℕ)) → at < length parameters
+    → ReadSoFar parameters tail texts at words rest → ((word : Word) (after : List (List ℕ)) → FitsParameter (get_or parameters at d) word → rest ≡ text_list word ++ after → ⊥)
+    → (all : List Word) → FitsRow parameters tail all → texts ≡ spelled all → ⊥
+read_no_more parameters tail texts at d words rest inside so_far none all fits is =
     let (ws, fit, are) = so_far.goes_on all fits is in
-    let (w, others, first, then, spells) = next_word parameters last at d ws rest inside fit are in
+    let (w, others, first, then, spells) = next_word parameters tail at d ws rest inside fit are in
     none w (spelled others) first spells
 
 -- and what comes last is all that is left after the parameters
-pub read_no_last : (parameters : List Parameter) (last : Last) (texts : List (List ℕ)) (at : ℕ) (words : List Word) (rest : List (List ℕ)) → length parameters ≤ at
-    → ReadSoFar parameters last texts at words rest → ((said : List Word) → FitsLast last said → rest ≡ spelled said → ⊥)
-    → (all : List Word) → FitsRow parameters last all → texts ≡ spelled all → ⊥
-read_no_last parameters last texts at words rest all_read so_far none all fits is =
+pub read_no_tail : (parameters : List Parameter) (tail : Tail) (texts : List (List ℕ)) (at : ℕ) (words : List Word) (rest : List (List ℕ)) → length parameters ≤ at
+    → ReadSoFar parameters tail texts at words rest → ((arguments : List Word) → FitsTail tail arguments → rest ≡ spelled arguments → ⊥)
+    → (all : List Word) → FitsRow parameters tail all → texts ≡ spelled all → ⊥
+read_no_tail parameters tail texts at words rest all_read so_far none all fits is =
     let (ws, fit, are) = so_far.goes_on all fits is in
-    none ws (subst (λ (ps : List Parameter). FitsRow ps last ws) (drop_all at parameters all_read) fit) are
+    none ws (subst (λ (ps : List Parameter). FitsRow ps tail ws) (drop_all at parameters all_read) fit) are
 
-pub read_all : (parameters : List Parameter) (last : Last) (texts : List (List ℕ)) (at : ℕ) (words said all : List Word) (rest : List (List ℕ)) → length parameters ≤ at
-    → ReadSoFar parameters last texts at words rest → FitsLast last said → rest ≡ spelled said → all ≡ words ++ said → FitsRow parameters last all × (texts ≡ spelled all)
-read_all parameters last texts at words said all rest all_read so_far fit are whole = (
-  subst (λ (ws : List Word). FitsRow parameters last ws) (sym whole)
-      (with_others FitsParameter (FitsLast last) parameters words said (subst (λ (ps : List Parameter). FitsRow ps Nothing words) (take_all at parameters all_read) so_far.fits) fit),
-  so_far.said ∙ ap (λ (xs : List (List ℕ)). spelled words ++ xs) are ∙ sym (spelled_both words said) ∙ ap spelled (sym whole),
+pub read_all : (parameters : List Parameter) (tail : Tail) (texts : List (List ℕ)) (at : ℕ) (words arguments all : List Word) (rest : List (List ℕ)) → length parameters ≤ at
+    → ReadSoFar parameters tail texts at words rest → FitsTail tail arguments → rest ≡ spelled arguments → all ≡ words ++ arguments → FitsRow parameters tail all × (texts ≡ spelled all)
+read_all parameters tail texts at words arguments all rest all_read so_far fit are whole = (
+  subst (λ (ws : List Word). FitsRow parameters tail ws) (sym whole)
+      (with_others FitsParameter (FitsTail tail) parameters words arguments (subst (λ (ps : List Parameter). FitsRow ps Nothing words) (take_all at parameters all_read) so_far.fits) fit),
+  so_far.arguments ∙ ap (λ (xs : List (List ℕ)). spelled words ++ xs) are ∙ sym (spelled_both words arguments) ∙ ap spelled (sym whole),
 )
 
 -- 4. What comes last.
 
 -- nothing is left behind one word
 pub one_left : (words after : List (String Global)) (word : Word) → texts words ≡ text_list word ++ texts after → (length after == 0) ≡ true → texts words ≡ spelled (word ∷ [])
-one_left words [] word said none = said
-one_left words (w ∷ after) word said none = let zero : length (w ∷ after) ≡ 0 = eqb-true _ _ none in absurd (omega arith)
+one_left words [] word arguments none = arguments
+one_left words (w ∷ after) word arguments none = let zero : length (w ∷ after) ≡ 0 = eqb-true _ _ none in absurd (omega arith)
 
 pub names_spelled : (kind : Kind) (names : List (List ℕ)) → spelled (map (file_word kind) names) ≡ names
 names_spelled kind [] = refl
@@ -156,15 +156,15 @@ no_words words none = eqb-true _ _ none
 
 -- the words are the names of files, as many as there may be
 pub several_said : (kind : Kind) (most : ℕ) (words : List (String Global)) → (length words == 0) ≡ false → length words ≤ most
-    → FitsLast (Several kind most) (map (file_word kind) (texts words)) × (texts words ≡ spelled (map (file_word kind) (texts words)))
+    → FitsTail (Repeated kind most) (map (file_word kind) (texts words)) × (texts words ≡ spelled (map (file_word kind) (texts words)))
 several_said kind most words some few =
     let count = length-map words (λ (word : String Global). string_bytes word) in
     ((texts words, refl, omega (arith, count, some_words words some), omega (arith, count)), sym (names_spelled kind (texts words)))
 
 -- there are none of them, or too many
-pub several_none : (kind : Kind) (most : ℕ) (said : List Word) (words : List (String Global)) → FitsLast (Several kind most) said → texts words ≡ spelled said
+pub several_none : (kind : Kind) (most : ℕ) (arguments : List Word) (words : List (String Global)) → FitsTail (Repeated kind most) arguments → texts words ≡ spelled arguments
     → ((length words == 0) ≡ true) ⊎ (most < length words) → ⊥
-several_none kind most said words (names, is, some, few) are wrong =
+several_none kind most arguments words (names, is, some, few) are wrong =
     let same : texts words ≡ names = are ∙ ap spelled is ∙ names_spelled kind names in
     let count : length words ≡ length names = sym (length-map words (λ (word : String Global). string_bytes word)) ∙ ap (λ (xs : List (List ℕ)). length xs) same in
     elim wrong [ inl empty ↦ let none = no_words words empty in absurd (omega (arith, count, some)) | inr more ↦ absurd (omega (arith, count, few)) ]
@@ -178,12 +178,12 @@ formed_more parameters at d read more r inside are one also =
     subst (λ (rs : List Read). AreOfRow (take (at + 1) parameters) Nothing rs) (sym also)
     (subst (λ (ps : List Parameter). AreOfRow ps Nothing (read ++ r ∷ [])) (sym (take_more parameters at d inside)) (one_more IsOfParameter (take at parameters) (get_or parameters at d) read r are one))
 
-pub formed_all : (parameters : List Parameter) (last : Last) (at : ℕ) (read more all : List Read) → length parameters ≤ at
-    → AreOfRow (take at parameters) Nothing read → AreOfLast last more → all ≡ read ++ more
-    → AreOfRow parameters last all
-formed_all parameters last at read more all all_read are rest whole =
-    subst (λ (rs : List Read). AreOfRow parameters last rs) (sym whole)
-    (with_others IsOfParameter (AreOfLast last) parameters read more (subst (λ (ps : List Parameter). AreOfRow ps Nothing read) (take_all at parameters all_read) are) rest)
+pub formed_all : (parameters : List Parameter) (tail : Tail) (at : ℕ) (read more all : List Read) → length parameters ≤ at
+    → AreOfRow (take at parameters) Nothing read → AreOfTail tail more → all ≡ read ++ more
+    → AreOfRow parameters tail all
+formed_all parameters tail at read more all all_read are rest whole =
+    subst (λ (rs : List Read). AreOfRow parameters tail rs) (sym whole)
+    (with_others IsOfParameter (AreOfTail tail) parameters read more (subst (λ (ps : List Parameter). AreOfRow ps Nothing read) (take_all at parameters all_read) are) rest)
 
 pub spoken_both : (xs ys zs : List Read) → zs ≡ xs ++ ys → spoken zs ≡ spoken xs ++ spoken ys
 spoken_both xs ys zs whole = ap spoken whole ∙ by xs

@@ -16,28 +16,28 @@ use Rattle.mm_cli.specs.contracts.table.Command.{the_type}
 use Rattle.mm_cli.specs.declared.table.Command.{Command}
 use Rattle.mm_cli.specs.declared.table.Parameter.{Parameter}
 use Rattle.mm_cli.specs.declared.table.Parameter.TheVariants.{File, Number, Groups, Mode, Range, Address, Use}
-use Rattle.mm_cli.specs.declared.table.Last.{Last}
-use Rattle.mm_cli.specs.declared.table.Last.TheVariants.{Nothing, Perhaps, Several}
+use Rattle.mm_cli.specs.declared.table.Tail.{Tail}
+use Rattle.mm_cli.specs.declared.table.Tail.TheVariants.{Nothing, Optional, Repeated}
 use Rattle.mm_cli.specs.declared.words.Word.{Word as Read}
 use Rattle.mm_cli.specs.Words.{AreOfRow, Word, file_word, number_word, groups_word, mode_word, range_word, use_word}
 use Rattle.mm_model.specs.declared.word_use.WordUse.{WordUse}
 use Rattle.mm_model.specs.declared.word_use.WordUse.TheVariants.{Touch, Write}
 use Rattle.mm_model.specs.Audit.{use_text}
-use Rattle.mm_cli.specs.Words.{mode_text, text_list, FitsParameter, FitsLast, FitsRow, room, spelled, spoken}
+use Rattle.mm_cli.specs.Words.{mode_text, text_list, FitsParameter, FitsTail, FitsRow, room, spelled, spoken}
 use Rattle.mm_cli.specs.Words.{texts}
-use Rattle.mm_cli.specs.Table.{Listed, Row, IsInTable, Asks, Fits, InNoRow, is_same, row_for, table}
-use Rattle.mm_cli.specs.Said.{said, said_by}
+use Rattle.mm_cli.specs.Table.{TableRow, Row, IsInTable, Matches, Fits, InNoRow, is_same, row_for, table}
+use Rattle.mm_cli.specs.Arguments.{arguments, arguments_by}
 use Rattle.mm_cli.proofs.GroupWords.{one_list}
-use Rattle.mm_cli.proofs.SaidWords.{said_row}
+use Rattle.mm_cli.proofs.ArgumentWords.{arguments_row}
 use Rattle.mm_cli.proofs.RowWords.{same_after, names_spelled}
 
 -- 1. What is seen of each row of a list.
 
-abbrev each : (Listed → Bool) → List Listed → Bool
+abbrev each : (TableRow → Bool) → List TableRow → Bool
 each test [] = true
 each test (row ∷ rows) = cond (test row) (each test rows) false
 
-at_each : (test : Listed → Bool) (rows : List Listed) (k : ℕ) (row : Listed) → each test rows ≡ true → slice_get rows k ≡ Some row → test row ≡ true
+at_each : (test : TableRow → Bool) (rows : List TableRow) (k : ℕ) (row : TableRow) → each test rows ≡ true → slice_get rows k ≡ Some row → test row ≡ true
 at_each test [] k row all at = absurd (cc)
 at_each test (r ∷ rows) k row all at = by (test r) refl all k at (λ j rest here. at_each test rows j row rest here)
   where
@@ -52,21 +52,21 @@ at_each test (r ∷ rows) k row all at = by (test r) refl all k at (λ j rest he
 bytes_same : (name : List ℕ) → bytes_eq name name ≡ true
 bytes_same name = (bytes_eq-Decides name name).1 refl
 
-abbrev is_other : List ℕ → Listed → Bool
+abbrev is_other : List ℕ → TableRow → Bool
 is_other name row = cond (bytes_eq name row.name) false true
 
 -- each name is there once
-abbrev names_once : List Listed → Bool
+abbrev names_once : List TableRow → Bool
 names_once [] = true
 names_once (row ∷ rows) = cond (each (is_other row.name) rows) (names_once rows) false
 
-no_other : (name : List ℕ) (row : Listed) → row.name ≡ name → is_other name row ≡ true → ⊥
+no_other : (name : List ℕ) (row : TableRow) → row.name ≡ name → is_other name row ≡ true → ⊥
 no_other name row same other =
     let equal : bytes_eq name row.name ≡ true = ap (bytes_eq name) same ∙ bytes_same name in
     let not : false ≡ true = sym (ap (λ (b : Bool). cond b false true) equal) ∙ other in
     absurd (cc)
 
-one_named_in : (rows : List Listed) (j k : ℕ) (a b : Listed) → names_once rows ≡ true → slice_get rows j ≡ Some a → slice_get rows k ≡ Some b → a.name ≡ b.name → a ≡ b
+one_named_in : (rows : List TableRow) (j k : ℕ) (a b : TableRow) → names_once rows ≡ true → slice_get rows j ≡ Some a → slice_get rows k ≡ Some b → a.name ≡ b.name → a ≡ b
 one_named_in [] j k a b once one two same = absurd (cc)
 one_named_in (r ∷ rows) j k a b once one two same = by (each (is_other r.name) rows) refl once j k one two (λ m n rest first second. one_named_in rows m n a b rest first second same)
   where
@@ -76,28 +76,28 @@ one_named_in (r ∷ rows) j k a b once one two same = by (each (is_other r.name)
     by true others rest zero zero first second later = cc
     by true others rest zero (suc n) first second later =
         let here : r ≡ a = cc in
-        absurd (no_other r.name b (sym same ∙ ap (λ (row : Listed). row.name) (sym here)) (at_each (is_other r.name) rows n b others second))
+        absurd (no_other r.name b (sym same ∙ ap (λ (row : TableRow). row.name) (sym here)) (at_each (is_other r.name) rows n b others second))
     by true others rest (suc m) zero first second later =
         let here : r ≡ b = cc in
-        absurd (no_other r.name a (same ∙ ap (λ (row : Listed). row.name) (sym here)) (at_each (is_other r.name) rows m a others first))
+        absurd (no_other r.name a (same ∙ ap (λ (row : TableRow). row.name) (sym here)) (at_each (is_other r.name) rows m a others first))
     by true others rest (suc m) (suc n) first second later = later m n rest first second
 
 table_names : names_once table ≡ true
 table_names = refl
 
-pub one_named : (j k : ℕ) (a b : Listed) → slice_get table j ≡ Some a → slice_get table k ≡ Some b → a.name ≡ b.name → a ≡ b
+pub one_named : (j k : ℕ) (a b : TableRow) → slice_get table j ≡ Some a → slice_get table k ≡ Some b → a.name ≡ b.name → a ≡ b
 one_named j k a b one two same = one_named_in table j k a b table_names one two same
 
 -- 3. The words of a row have room.
 
-abbrev has_room : Listed → Bool
-has_room row = nat_lt (length row.parameters + room row.last) 5
+abbrev has_room : TableRow → Bool
+has_room row = nat_lt (length row.parameters + room row.tail) 5
 
 table_room : each has_room table ≡ true
 table_room = refl
 
-pub room_for_words : (k : ℕ) (row : Listed) → slice_get table k ≡ Some row → length row.parameters + room row.last ≤ 4
-room_for_words k row at = let few : length row.parameters + room row.last < 5 = ltb-true (length row.parameters + room row.last) 5 (at_each has_room table k row table_room at) in omega (arith, few)
+pub room_for_words : (k : ℕ) (row : TableRow) → slice_get table k ≡ Some row → length row.parameters + room row.tail ≤ 4
+room_for_words k row at = let few : length row.parameters + room row.tail < 5 = ltb-true (length row.parameters + room row.tail) 5 (at_each has_room table k row table_room at) in omega (arith, few)
 
 -- 4. Words that are read.
 
@@ -110,27 +110,27 @@ first_and_rest (w ∷ words) word some is =
     ∙ ap (λ (xs : List (String Global)). string_bytes word ∷ texts xs) (sym (take_all (length (w ∷ words) - 1) words (omega arith)))
 
 -- nor where the rest is not that of the row that the first names
-pub no_rest_of : (words : List (List ℕ)) (name : List ℕ) (rest : List (List ℕ)) (number : ℕ) (listed : Listed) → words ≡ name ∷ rest → slice_get table number ≡ Some listed → listed.name ≡ name
-    → ((said : List Word) → FitsRow listed.parameters listed.last said → rest ≢ spelled said) → InNoRow words
-no_rest_of words name rest number listed are at named none row asks =
-    let same : asks.in_table.listed.name ≡ name = cc (asks.said, are) in
-    let one : asks.in_table.listed ≡ listed = one_named asks.in_table.number number asks.in_table.listed listed asks.in_table.at at (same ∙ sym named) in
-    let spells : rest ≡ spelled row.words = cc (asks.said, are) in
-    none row.words (subst (λ (l : Listed). FitsRow l.parameters l.last row.words) one asks.in_table.fits) spells
+pub no_rest_of : (words : List (List ℕ)) (name : List ℕ) (rest : List (List ℕ)) (number : ℕ) (table_row : TableRow) → words ≡ name ∷ rest → slice_get table number ≡ Some table_row → table_row.name ≡ name
+    → ((arguments : List Word) → FitsRow table_row.parameters table_row.tail arguments → rest ≢ spelled arguments) → InNoRow words
+no_rest_of words name rest number table_row are at named none row asks =
+    let same : asks.in_table.table_row.name ≡ name = cc (asks.arguments, are) in
+    let one : asks.in_table.table_row ≡ table_row = one_named asks.in_table.number number asks.in_table.table_row table_row asks.in_table.at at (same ∙ sym named) in
+    let spells : rest ≡ spelled row.words = cc (asks.arguments, are) in
+    none row.words (subst (λ (l : TableRow). FitsRow l.parameters l.tail row.words) one asks.in_table.fits) spells
 
-pub asks_for : (words : List (List ℕ)) (name : List ℕ) (rest : List (List ℕ)) (number : ℕ) (listed : Listed) (said : List Word) → words ≡ name ∷ rest → slice_get table number ≡ Some listed
-    → listed.name ≡ name → FitsRow listed.parameters listed.last said → rest ≡ spelled said → Asks words (record { command = listed.command; words = said })
-asks_for words name rest number listed said are at named fits spells = record {
-  in_table = record { number = number; listed = listed; at = at; command = refl; fits = fits };
-  said = are ∙ ap (λ (n : List ℕ). n ∷ rest) (sym named) ∙ ap (λ (xs : List (List ℕ)). listed.name ∷ xs) spells;
+pub asks_for : (words : List (List ℕ)) (name : List ℕ) (rest : List (List ℕ)) (number : ℕ) (table_row : TableRow) (arguments : List Word) → words ≡ name ∷ rest → slice_get table number ≡ Some table_row
+    → table_row.name ≡ name → FitsRow table_row.parameters table_row.tail arguments → rest ≡ spelled arguments → Matches words (record { command = table_row.command; words = arguments })
+asks_for words name rest number table_row arguments are at named fits spells = record {
+  in_table = record { number = number; table_row = table_row; at = at; command = refl; fits = fits };
+  arguments = are ∙ ap (λ (n : List ℕ). n ∷ rest) (sym named) ∙ ap (λ (xs : List (List ℕ)). table_row.name ∷ xs) spells;
 }
 
 -- 5. A row is told by its command.
 
-abbrev is_different : Command → Listed → Bool
+abbrev is_different : Command → TableRow → Bool
 is_different command row = cond (is_same command row.command) false true
 
-abbrev commands_once : List Listed → Bool
+abbrev commands_once : List TableRow → Bool
 commands_once [] = true
 commands_once (row ∷ rows) = cond (each (is_different row.command) rows) (commands_once rows) false
 
@@ -140,17 +140,17 @@ table_commands = refl
 same_command : (command : Command) → is_same command command ≡ true
 same_command command = (Decides-eqb (tag_of the_type command) (tag_of the_type command)).1 refl
 
-found_in : (rows : List Listed) (k : ℕ) (row : Listed) → commands_once rows ≡ true → slice_get rows k ≡ Some row → find (λ (r : Listed). is_same r.command row.command) rows ≡ Some row
+found_in : (rows : List TableRow) (k : ℕ) (row : TableRow) → commands_once rows ≡ true → slice_get rows k ≡ Some row → find (λ (r : TableRow). is_same r.command row.command) rows ≡ Some row
 found_in [] k row once at = absurd (cc)
 found_in (r ∷ rows) k row once at = by (each (is_different r.command) rows) refl once k at (λ j rest first. found_in rows j row rest first)
   where
-    test : Listed → Bool
+    test : TableRow → Bool
     test x = is_same x.command row.command
 
     here : (b : Bool) → test r ≡ b → r ≡ row → cond b (Some r) (find test rows) ≡ Some row
-    here true is same = ap (λ (x : Listed). Some x) same
+    here true is same = ap (λ (x : TableRow). Some x) same
     here false is same =
-        let equal : test r ≡ true = ap (λ (x : Listed). is_same x.command row.command) same ∙ same_command row.command in
+        let equal : test r ≡ true = ap (λ (x : TableRow). is_same x.command row.command) same ∙ same_command row.command in
         absurd (cc)
 
     later : (b : Bool) → test r ≡ b → is_different r.command row ≡ true → find test rows ≡ Some row → cond b (Some r) (find test rows) ≡ Some row
@@ -168,9 +168,9 @@ found_in (r ∷ rows) k row once at = by (each (is_different r.command) rows) re
 -- words that are in a row of the table fit in the row of its command
 pub fits_of : (row : Row) → IsInTable row → Fits row.command row.words
 fits_of row is =
-    let found : row_for is.listed.command ≡ Some is.listed = found_in table is.number is.listed table_commands is.at in
-    let same : row_for row.command ≡ Some is.listed = ap row_for (sym is.command) ∙ found in
-    subst (λ (o : Option Listed). IfSome o (λ r. FitsRow r.parameters r.last row.words)) (sym same) is.fits
+    let found : row_for is.table_row.command ≡ Some is.table_row = found_in table is.number is.table_row table_commands is.at in
+    let same : row_for row.command ≡ Some is.table_row = ap row_for (sym is.command) ∙ found in
+    subst (λ (o : Option TableRow). IfSome o (λ r. FitsRow r.parameters r.tail row.words)) (sym same) is.fits
 
 -- 6. Words are in one row at most.
 
@@ -182,12 +182,12 @@ abbrev all_small : List Parameter → Bool
 all_small [] = true
 all_small (parameter ∷ parameters) = cond (small parameter) (all_small parameters) false
 
-abbrev small_last : Last → Bool
-small_last (Perhaps parameter) = small parameter
-small_last last = true
+abbrev small_tail : Tail → Bool
+small_tail (Optional parameter) = small parameter
+small_tail tail = true
 
-abbrev is_small : Listed → Bool
-is_small row = cond (all_small row.parameters) (small_last row.last) false
+abbrev is_small : TableRow → Bool
+is_small row = cond (all_small row.parameters) (small_tail row.tail) false
 
 table_small : each is_small table ≡ true
 table_small = refl
@@ -245,48 +245,48 @@ not_empty (mode_word split) ws none = absurd (cc)
 not_empty (range_word b l) ws none = absurd (cc)
 not_empty (use_word how) ws none = absurd (cc)
 
-one_last : (last : Last) (vs ws : List Word) → small_last last ≡ true → FitsLast last vs → FitsLast last ws → spelled vs ≡ spelled ws → vs ≡ ws
-one_last Nothing [] [] few one two same = refl
-one_last Nothing [] (w ∷ ws) few one two same = absurd two
-one_last Nothing (v ∷ vs) ws few one two same = absurd one
-one_last (Perhaps p) [] [] few one two same = refl
-one_last (Perhaps p) [] (w ∷ []) few one two same = absurd (not_empty w [] (sym same))
-one_last (Perhaps p) [] (w ∷ x ∷ ws) few one two same = absurd two
-one_last (Perhaps p) (v ∷ []) [] few one two same = absurd (not_empty v [] same)
-one_last (Perhaps p) (v ∷ []) (w ∷ []) few one two same = ap (λ (x : Word). x ∷ []) (one_word p v w [] [] few one two same)
-one_last (Perhaps p) (v ∷ []) (w ∷ x ∷ ws) few one two same = absurd two
-one_last (Perhaps p) (v ∷ x ∷ vs) ws few one two same = absurd one
-one_last (Several k most) vs ws few one two same =
+one_tail : (tail : Tail) (vs ws : List Word) → small_tail tail ≡ true → FitsTail tail vs → FitsTail tail ws → spelled vs ≡ spelled ws → vs ≡ ws
+one_tail Nothing [] [] few one two same = refl
+one_tail Nothing [] (w ∷ ws) few one two same = absurd two
+one_tail Nothing (v ∷ vs) ws few one two same = absurd one
+one_tail (Optional p) [] [] few one two same = refl
+one_tail (Optional p) [] (w ∷ []) few one two same = absurd (not_empty w [] (sym same))
+one_tail (Optional p) [] (w ∷ x ∷ ws) few one two same = absurd two
+one_tail (Optional p) (v ∷ []) [] few one two same = absurd (not_empty v [] same)
+one_tail (Optional p) (v ∷ []) (w ∷ []) few one two same = ap (λ (x : Word). x ∷ []) (one_word p v w [] [] few one two same)
+one_tail (Optional p) (v ∷ []) (w ∷ x ∷ ws) few one two same = absurd two
+one_tail (Optional p) (v ∷ x ∷ vs) ws few one two same = absurd one
+one_tail (Repeated k most) vs ws few one two same =
     let names : one.0 ≡ two.0 = sym (names_spelled k one.0) ∙ sym (ap spelled one.1) ∙ same ∙ ap spelled two.1 ∙ names_spelled k two.0 in
     one.1 ∙ ap (map (file_word k)) names ∙ sym two.1
 
-one_row_of : (ps : List Parameter) (last : Last) (vs ws : List Word) → all_small ps ≡ true → small_last last ≡ true → FitsRow ps last vs → FitsRow ps last ws → spelled vs ≡ spelled ws → vs ≡ ws
-one_row_of [] last vs ws few least one two same = one_last last vs ws least one two same
-one_row_of (p ∷ ps) last [] ws few least one two same = absurd one
-one_row_of (p ∷ ps) last (v ∷ vs) [] few least one two same = absurd two
-one_row_of (p ∷ ps) last (v ∷ vs) (w ∷ ws) few least one two same =
+one_row_of : (ps : List Parameter) (tail : Tail) (vs ws : List Word) → all_small ps ≡ true → small_tail tail ≡ true → FitsRow ps tail vs → FitsRow ps tail ws → spelled vs ≡ spelled ws → vs ≡ ws
+one_row_of [] tail vs ws few least one two same = one_tail tail vs ws least one two same
+one_row_of (p ∷ ps) tail [] ws few least one two same = absurd one
+one_row_of (p ∷ ps) tail (v ∷ vs) [] few least one two same = absurd two
+one_row_of (p ∷ ps) tail (v ∷ vs) (w ∷ ws) few least one two same =
     let (first, others) = both (small p) (all_small ps) few in
     let head : v ≡ w = one_word p v w (spelled vs) (spelled ws) first one.0 two.0 same in
-    let tail : vs ≡ ws = one_row_of ps last vs ws others least one.1 two.1 (same_after p v w (spelled vs) (spelled ws) one.0 two.0 same) in
+    let tail : vs ≡ ws = one_row_of ps tail vs ws others least one.1 two.1 (same_after p v w (spelled vs) (spelled ws) one.0 two.0 same) in
     cc
 
 -- the same words ask for the same row
-pub one_row : (words : List (List ℕ)) (a b : Row) → Asks words a → Asks words b → a ≡ b
+pub one_row : (words : List (List ℕ)) (a b : Row) → Matches words a → Matches words b → a ≡ b
 one_row words a b one two =
-    let d = one.in_table.listed in
-    let e = two.in_table.listed in
-    let names : d.name ≡ e.name = cc (one.said, two.said) in
+    let d = one.in_table.table_row in
+    let e = two.in_table.table_row in
+    let names : d.name ≡ e.name = cc (one.arguments, two.arguments) in
     let rows : d ≡ e = one_named one.in_table.number two.in_table.number d e one.in_table.at two.in_table.at names in
-    let texts : spelled a.words ≡ spelled b.words = cc (one.said, two.said) in
-    let (few, least) = both (all_small d.parameters) (small_last d.last) (at_each is_small table one.in_table.number d table_small one.in_table.at) in
-    let fits : FitsRow d.parameters d.last b.words = subst (λ (l : Listed). FitsRow l.parameters l.last b.words) (sym rows) two.in_table.fits in
-    let words_same : a.words ≡ b.words = one_row_of d.parameters d.last a.words b.words few least one.in_table.fits fits texts in
-    let commands : a.command ≡ b.command = sym one.in_table.command ∙ ap (λ (l : Listed). l.command) rows ∙ two.in_table.command in
+    let texts : spelled a.words ≡ spelled b.words = cc (one.arguments, two.arguments) in
+    let (few, least) = both (all_small d.parameters) (small_tail d.tail) (at_each is_small table one.in_table.number d table_small one.in_table.at) in
+    let fits : FitsRow d.parameters d.tail b.words = subst (λ (l : TableRow). FitsRow l.parameters l.tail b.words) (sym rows) two.in_table.fits in
+    let words_same : a.words ≡ b.words = one_row_of d.parameters d.tail a.words b.words few least one.in_table.fits fits texts in
+    let commands : a.command ≡ b.command = sym one.in_table.command ∙ ap (λ (l : TableRow). l.command) rows ∙ two.in_table.command in
     ap (λ (c : Command). record { command = c; words = a.words }) commands ∙ ap (λ (ws : List Word). record { command = b.command; words = ws }) words_same
 
 -- what was read for a row of the table is what the words of its command say
-pub as_said : (number : ℕ) (row : Listed) (words : List Read) → slice_get table number ≡ Some row
-    → AreOfRow row.parameters row.last words → spoken words ≡ said row.command words
+pub as_said : (number : ℕ) (row : TableRow) (words : List Read) → slice_get table number ≡ Some row
+    → AreOfRow row.parameters row.tail words → spoken words ≡ arguments row.command words
 as_said number row words at are =
     let found : row_for row.command ≡ Some row = found_in table number row table_commands at in
-    said_row row.parameters row.last words are ∙ ap (λ (o : Option Listed). said_by o words) (sym found)
+    arguments_row row.parameters row.tail words are ∙ ap (λ (o : Option TableRow). arguments_by o words) (sym found)

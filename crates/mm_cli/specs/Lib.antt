@@ -1,5 +1,5 @@
 pub mod GroupList
 pub mod Words
 pub mod Table
-pub mod Said
-pub mod Asked
+pub mod Arguments
+pub mod ParsedCommand

@@ -11,8 +11,8 @@ use Rattle.mm_cli.specs.declared.table.Parameter.{Parameter}
 use Rattle.mm_cli.specs.declared.table.Parameter.TheVariants.{File, Number, Groups, Mode, Range, Address, Use}
 use Rattle.mm_cli.specs.declared.words.Word.{Word as Read}
 use Rattle.mm_cli.specs.declared.words.Word.TheVariants as read
-use Rattle.mm_cli.specs.declared.table.Last.{Last}
-use Rattle.mm_cli.specs.declared.table.Last.TheVariants.{Nothing, Perhaps, Several}
+use Rattle.mm_cli.specs.declared.table.Tail.{Tail}
+use Rattle.mm_cli.specs.declared.table.Tail.TheVariants.{Nothing, Optional, Repeated}
 
 -- 1. Words, and how they are written.
 
@@ -47,9 +47,9 @@ spelled [] = []
 spelled (word ∷ words) = text_list word ++ spelled words
 
 -- the word for a value, if there is a value
-abbrev pub perhaps : {A : Type 0} → (A → Word) → Option A → List Word
-perhaps word None = []
-perhaps word (Some a) = word a ∷ []
+abbrev pub optional : {A : Type 0} → (A → Word) → Option A → List Word
+optional word None = []
+optional word (Some a) = word a ∷ []
 
 -- the files that words name
 abbrev pub files_in : List Word → List (List ℕ × Kind)
@@ -102,15 +102,15 @@ FitInTurn Fits OthersFit (parameter ∷ parameters) (word ∷ words) =
 FitInTurn Fits OthersFit (parameter ∷ parameters) [] = ⊥
 
 -- the words fit in what comes after the parameters of a row
-abbrev pub FitsLast : Last → List Word → Type 0
-FitsLast Nothing words = AreNone words
-FitsLast (Perhaps parameter) words = AreAtMostOne (FitsParameter parameter) words
-FitsLast (Several kind most) words =
+abbrev pub FitsTail : Tail → List Word → Type 0
+FitsTail Nothing words = AreNone words
+FitsTail (Optional parameter) words = AreAtMostOne (FitsParameter parameter) words
+FitsTail (Repeated kind most) words =
     (names : List (List ℕ)) × (words ≡ map (file_word kind) names) × (1 ≤ length names) × (length names ≤ most)
 
 -- the words fit in the parameters, and then in what comes after them
-abbrev pub FitsRow : List Parameter → Last → List Word → Type 0
-FitsRow parameters last words = FitInTurn FitsParameter (FitsLast last) parameters words
+abbrev pub FitsRow : List Parameter → Tail → List Word → Type 0
+FitsRow parameters tail words = FitInTurn FitsParameter (FitsTail tail) parameters words
 
 -- 3. The words of a command line.
 
@@ -130,17 +130,17 @@ word_of (read.Use how) = Some (use_word how)
 -- what a word that was read says: one word for each file if it names several
 abbrev pub words_of : Read → List Word
 words_of (read.Files kind names) = map (file_word kind) (texts names.now)
-words_of word = perhaps (λ w. w) (word_of word)
+words_of word = optional (λ w. w) (word_of word)
 
 abbrev pub spoken : List Read → List Word
 spoken [] = []
 spoken (word ∷ words) = words_of word ++ spoken words
 
 -- the most words that are read for what comes after the parameters of a row
-abbrev pub room : Last → ℕ
+abbrev pub room : Tail → ℕ
 room Nothing = 0
-room (Perhaps parameter) = 1
-room (Several kind most) = 1
+room (Optional parameter) = 1
+room (Repeated kind most) = 1
 
 -- 4. Words as they are read, parameter by parameter.
 
@@ -149,13 +149,13 @@ abbrev pub IsOfParameter : Parameter → Read → Type 0
 IsOfParameter parameter word = IsSomeAnd (word_of word) (FitsParameter parameter)
 
 -- at most one word was read for what comes after the parameters of a row: several files are one word
-abbrev pub AreOfLast : Last → List Read → Type 0
-AreOfLast Nothing words = AreNone words
-AreOfLast (Perhaps parameter) words = AreAtMostOne (IsOfParameter parameter) words
-AreOfLast (Several kind most) (read.Files other names ∷ []) = (other ≡ kind) × (1 ≤ length names.now)
+abbrev pub AreOfTail : Tail → List Read → Type 0
+AreOfTail Nothing words = AreNone words
+AreOfTail (Optional parameter) words = AreAtMostOne (IsOfParameter parameter) words
+AreOfTail (Repeated kind most) (read.Files other names ∷ []) = (other ≡ kind) × (1 ≤ length names.now)
     × (length names.now ≤ most)
-AreOfLast (Several kind most) _ = ⊥
+AreOfTail (Repeated kind most) _ = ⊥
 
 -- one word was read for each parameter, and then at most one for what comes after them
-abbrev pub AreOfRow : List Parameter → Last → List Read → Type 0
-AreOfRow parameters last words = FitInTurn IsOfParameter (AreOfLast last) parameters words
+abbrev pub AreOfRow : List Parameter → Tail → List Read → Type 0
+AreOfRow parameters tail words = FitInTurn IsOfParameter (AreOfTail tail) parameters words

@@ -3,14 +3,14 @@
 
 mod groups;
 mod reading;
-mod said;
+mod arguments;
 mod table;
 mod words;
 
-pub use reading::{Asked, read_words};
-pub use said::{
-    groups_at, groups_perhaps_at, mode_at, name_at, name_perhaps_at, names_at, number_at, range_at,
+pub use reading::{ParsedCommand, read_words};
+pub use arguments::{
+    groups_at, optional_groups_at, mode_at, name_at, optional_name_at, names_at, number_at, range_at,
     use_at,
 };
-pub use table::{Command, Kind, Last, Listed, Parameter, TABLE};
+pub use table::{Command, Kind, Tail, TableRow, Parameter, TABLE};
 pub use words::Word;

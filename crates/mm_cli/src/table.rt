@@ -62,17 +62,17 @@ pub enum Parameter {
 
 /// What comes after the parameters of a row.
 #[derive(Clone, Copy)]
-pub enum Last {
+pub enum Tail {
     Nothing,
     /// One parameter, or nothing.
-    Perhaps(Parameter),
+    Optional(Parameter),
     /// The names of one or more files of a kind, up to `most`.
-    Several { kind: Kind, most: usize },
+    Repeated { kind: Kind, most: usize },
 }
 
 /// A row of the table: the command's name, the command, the parameters after the name, and what comes after these
 /// parameters.
-pub type Listed<'a> = (&'a str, Command, &'a [Parameter], Last);
+pub type TableRow<'a> = (&'a str, Command, &'a [Parameter], Tail);
 
 const IMAGE: Parameter = Parameter::File(Kind::Image);
 
@@ -122,72 +122,72 @@ const SEED: Parameter = Parameter::Number {
 /// The number of slots of a generated image.
 const SIZE: Parameter = Parameter::Number { least: 1, most: 16 };
 
-const OBJECTS: Last = Last::Several {
+const OBJECTS: Tail = Tail::Repeated {
     kind: Kind::Object,
     most: 16,
 };
 
 /// The images of a net's nodes.
-const NODES: Last = Last::Several {
+const NODES: Tail = Tail::Repeated {
     kind: Kind::Image,
     most: 8,
 };
 
 /// The commands, each with its words.
-pub static TABLE: [Listed<'static>; 20] = [
+pub static TABLE: [TableRow<'static>; 20] = [
     (
         "run",
         Command::Run,
         &[IMAGE, CYCLES],
-        Last::Perhaps(SCHEDULE),
+        Tail::Optional(SCHEDULE),
     ),
     (
         "trace",
         Command::Trace,
         &[IMAGE, CYCLES],
-        Last::Perhaps(SCHEDULE),
+        Tail::Optional(SCHEDULE),
     ),
     (
         "log",
         Command::Log,
         &[IMAGE, CYCLES],
-        Last::Perhaps(SCHEDULE),
+        Tail::Optional(SCHEDULE),
     ),
     (
         "solo",
         Command::Solo,
         &[IMAGE, GROUPS, CYCLES, SCHEDULE],
-        Last::Nothing,
+        Tail::Nothing,
     ),
-    ("grants", Command::Grants, &[IMAGE], Last::Perhaps(GROUPS)),
-    ("extract", Command::Extract, &[IMAGE, GROUPS], Last::Nothing),
-    ("asm", Command::Asm, &[SOURCE], Last::Nothing),
+    ("grants", Command::Grants, &[IMAGE], Tail::Optional(GROUPS)),
+    ("extract", Command::Extract, &[IMAGE, GROUPS], Tail::Nothing),
+    ("asm", Command::Asm, &[SOURCE], Tail::Nothing),
     ("link", Command::Link, &[], OBJECTS),
-    ("dis", Command::Dis, &[OBJECT], Last::Nothing),
-    ("debug", Command::Debug, &[IMAGE], Last::Perhaps(SCHEDULE)),
-    ("gen", Command::Gen, &[SEED, SIZE], Last::Nothing),
-    ("soak", Command::Soak, &[SEED, SIZE, CYCLES], Last::Nothing),
-    ("migrate", Command::Migrate, &[IMAGE, MODE], Last::Nothing),
-    ("sweep", Command::Sweep, &[IMAGE, RANGE], Last::Nothing),
-    ("holders", Command::Holders, &[IMAGE, RANGE], Last::Nothing),
+    ("dis", Command::Dis, &[OBJECT], Tail::Nothing),
+    ("debug", Command::Debug, &[IMAGE], Tail::Optional(SCHEDULE)),
+    ("gen", Command::Gen, &[SEED, SIZE], Tail::Nothing),
+    ("soak", Command::Soak, &[SEED, SIZE, CYCLES], Tail::Nothing),
+    ("migrate", Command::Migrate, &[IMAGE, MODE], Tail::Nothing),
+    ("sweep", Command::Sweep, &[IMAGE, RANGE], Tail::Nothing),
+    ("holders", Command::Holders, &[IMAGE, RANGE], Tail::Nothing),
     (
         "save",
         Command::Save,
         &[IMAGE, CYCLES],
-        Last::Perhaps(SCHEDULE),
+        Tail::Optional(SCHEDULE),
     ),
     (
         "continue",
         Command::Continue,
         &[IMAGE, CHECKPOINT, CYCLES],
-        Last::Perhaps(SCHEDULE),
+        Tail::Optional(SCHEDULE),
     ),
     ("net", Command::Net, &[LINKS, EVENTS, CYCLES], NODES),
-    ("explore", Command::Explore, &[IMAGE, STATES], Last::Nothing),
+    ("explore", Command::Explore, &[IMAGE, STATES], Tail::Nothing),
     (
         "why",
         Command::Why,
         &[IMAGE, GROUP, ADDRESS, USE],
-        Last::Nothing,
+        Tail::Nothing,
     ),
 ];

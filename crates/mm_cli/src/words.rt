@@ -73,9 +73,9 @@ fn read_range_words(words: &[String]) -> Option<(Word<'_>, &[String])>
 /// Reads one word by a parameter. `None` if the parameter is a range, which takes two words.
 fn read_word(parameter: Parameter, word: &String) -> Option<Word<'_>>
     ensures { MatchOption result
-        ((said : Spoken) → FitsParameter parameter said → string_bytes word.now ∷ [] ≢ text_list said)
-        (λ read. (said : Spoken) × IsOfParameter parameter read × (words_of read ≡ said ∷ [])
-        × FitsParameter parameter said × (string_bytes word.now ∷ [] ≡ text_list said)) }
+        ((argument : Spoken) → FitsParameter parameter argument → string_bytes word.now ∷ [] ≢ text_list argument)
+        (λ read. (argument : Spoken) × IsOfParameter parameter read × (words_of read ≡ argument ∷ [])
+        × FitsParameter parameter argument × (string_bytes word.now ∷ [] ≡ text_list argument)) }
 {
     match parameter {
         Parameter::File(kind) => Some(Word::File {

@@ -3,8 +3,8 @@ use Rattle.std.proofs.Common.{◌≡◌, ℕ, zero, suc, ◌-◌, Bool, true, fa
 use Rattle.mm_debug.specs.declared.command.Command.{Command}
 use Rattle.mm_debug.specs.declared.command.Command.TheVariants.{Nothing, Step, Run, Break, Watch, Regs, Mem, Quit, Bad}
 use Rattle.mm_debug.specs.declared.breakpoints.Break.{Break as Breakpoint}
-use Rattle.mm_debug.specs.declared.stop.Stop.{Stop}
-use Rattle.mm_debug.specs.declared.stop.Stop.TheVariants as stop
+use Rattle.mm_debug.specs.declared.stop.StopReason.{StopReason}
+use Rattle.mm_debug.specs.declared.stop.StopReason.TheVariants as stop
 use Rattle.mm_debug.specs.Commands.{command_of}
 use Rattle.mm_model.specs.Limits.{cycle_limit}
 use Rattle.mm_debug.specs.Session.{Session, total_of, next_item, issued, then_stepped, stepped}
@@ -30,7 +30,7 @@ module _ (P : Session → Type 0) (each : Keeps P) where
   stepped_keeps s (suc count) h =
       then_keeps s (next_item s) (λ item. stepped (issued s item) count) refl (λ item is. stepped_keeps (issued s item) count (each.issues s item is h)) h
 
-  break_keeps : (s : Session) (why : Stop) (b : Bool) (rest : Ran) → P s → P rest.session → P (if b then stopped s why else rest).session
+  break_keeps : (s : Session) (why : StopReason) (b : Bool) (rest : Ran) → P s → P rest.session → P (if b then stopped s why else rest).session
   break_keeps s why true rest h later = h
   break_keeps s why false rest h later = later
 

@@ -6,7 +6,7 @@ use Rattle.mm_word.specs.declared.cause.Cause.{Cause}
 use Rattle.mm_word.specs.declared.word.Word.{Word}
 use Rattle.mm_word.specs.declared.word.Word.TheVariants.{Int}
 use Rattle.mm_word.specs.declared.word.Cell.{Cell}
-use Rattle.mm_word.specs.Access.{Touch}
+use Rattle.mm_word.specs.Access.{AccessValue}
 use Rattle.mm_model.specs.declared.slot.SlotState.TheVariants.{Running, Waiting, Halted}
 use Rattle.mm_model.specs.declared.event.Event.{Event}
 use Rattle.mm_model.specs.Memory.{Memory}
@@ -17,7 +17,7 @@ use Rattle.mm_model.specs.Operands.{addr_operand, value_operand}
 use Rattle.mm_model.specs.Ask.{ask}
 use Rattle.mm_model.specs.Effect.{Change, Pages, Effect, effect, delivered}
 use Rattle.mm_model.specs.Effect.Pages.{Keep, Add, Remove}
-use Rattle.mm_model.specs.Effect.Effect.{Fault, Block, Deliver, Does}
+use Rattle.mm_model.specs.Effect.Effect.{Fault, Block, Deliver, Do}
 use Rattle.mm_model.specs.Turn.{Turned, reply, slot_after, with_other, with_queue, with_out, with_cell, with_pages}
 use Rattle.mm_model.specs.Turn.{core_after, memory_after, stood, is_sync, event_of, core_faulted, faulted, touch_of}
 use Rattle.mm_model.specs.Turn.{asked_use, blocked, ended, executed, idle, turn}
@@ -62,7 +62,7 @@ outputs_grow : (was now : List (List ℕ)) → OutputMoves was now → (g : ℕ)
 outputs_grow was now (OutputMoves.Same e) g = rw e (omega arith)
 outputs_grow was now (OutputMoves.Puts p) g = rw p.outputs (grows_at was p.group g p.byte)
 
-same_frames : (m later : Memory) (t : Option Touch) → MemoryMoves m later t → later.frames ≡ m.frames
+same_frames : (m later : Memory) (t : Option AccessValue) → MemoryMoves m later t → later.frames ≡ m.frames
 same_frames m later t (MemoryMoves.Stays e) = ap (λ (x : Memory). x.frames) e
 same_frames m later t (MemoryMoves.Writes w) = ap (λ (x : Memory). x.frames) w.memory ∙ put_frames m w.access.addr w.cell
 same_frames m later t (MemoryMoves.Maps p) = ap (λ (x : Memory). x.frames) p.memory ∙ map_frames m p.page

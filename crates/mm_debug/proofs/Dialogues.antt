@@ -1,7 +1,7 @@
 -- Lines that are answered one after the other.
 use Rattle.std.proofs.Common.{◌≡◌, ℕ, Bool, true, false, List, [], ◌∷◌, ◌++◌, Option, refl, sym, ap, ap₂, subst, ◌∙◌, arith, append_assoc, append-nil}
 use Rattle.mm_io.proofs.Known.{append_known-[]}
-use Rattle.mm_text.specs.Gathers.{Gathered, Gathers, Became}
+use Rattle.mm_text.specs.Appends.{Buffered, Appends, Became}
 use Rattle.mm_debug.specs.declared.session.Go.{Go}
 use Rattle.mm_debug.specs.declared.session.Go.TheVariants.{More, Quit}
 use Rattle.mm_debug.specs.Session.{Session, Answer, Dialogue, after_answer, dialogue_by}
@@ -11,7 +11,7 @@ use Rattle.mm_debug.specs.Dialogues.Carried.{all, quit, more}
 -- 1. Texts that are gathered.
 
 -- what is gathered where there is no text
-pub no_text : {S : Type 0} {taken : S → Option (List ℕ)} {faults : S → ℕ} {out : S} {text : Gathered} → Gathers taken faults out out text text []
+pub no_text : {S : Type 0} {taken : S → Option (List ℕ)} {faults : S → ℕ} {out : S} {text : Buffered} → Appends taken faults out out text text []
 no_text {taken = taken} {faults = faults} {out = out} {text = text} = record { later = omega arith; became = by text.failed }
   where
     by : (failed : Bool) → Became taken faults out out failed failed (text.kept ++ []) text.kept

@@ -1,8 +1,8 @@
 -- A run issues the least number of cycles after which a stop stands.
 use Rattle.std.proofs.Common.{◌≡◌, ℕ, zero, suc, ◌+◌, ◌-◌, ◌<◌, Bool, true, false, ◌&&◌, if◌then◌else◌, Option, None, Some, refl, sym, ap, ◌∙◌, arith}
 use Rattle.std.specs.Option.{option_or}
-use Rattle.mm_debug.specs.declared.stop.Stop.{Stop}
-use Rattle.mm_debug.specs.declared.stop.Stop.TheVariants as stop
+use Rattle.mm_debug.specs.declared.stop.StopReason.{StopReason}
+use Rattle.mm_debug.specs.declared.stop.StopReason.TheVariants as stop
 use Rattle.mm_debug.specs.Session.{Session, Ran, total_of, next_item, issued, stepped, stops_before, stops_after, stopped, after_cycle, before_cycle, run_from, ran}
 use Rattle.mm_debug.specs.Laws.{watch_of, watch_stands, end_or_break, stop_after, StopsFirst, RunsStopFirst}
 use Rattle.mm_debug.proofs.Stepping.{limit_ends, issued_total, stepped_none, stepped_goes}
@@ -10,7 +10,7 @@ use Rattle.mm_debug.proofs.Stepping.{limit_ends, issued_total, stepped_none, ste
 -- 1. The stop that stands after so many cycles.
 
 -- the same of a run that has begun before
-abbrev stop_from : Bool → Session → ℕ → Option Stop
+abbrev stop_from : Bool → Session → ℕ → Option StopReason
 stop_from begun s zero = end_or_break begun s (next_item s)
 stop_from begun s (suc count) = stop_after s (suc count)
 
@@ -19,11 +19,11 @@ from_start s zero = refl
 from_start s (suc count) = refl
 
 -- a watch after the next cycle
-abbrev watch_at : Session → Option Stop
+abbrev watch_at : Session → Option StopReason
 watch_at s = watch_stands s (next_item s)
 
 -- the end or a break after a cycle
-abbrev end_at : Session → Option Stop
+abbrev end_at : Session → Option StopReason
 end_at s = end_or_break true s (next_item s)
 
 module _ (s : Session) (item : ℕ) (next : next_item s ≡ Some item) where
@@ -52,7 +52,7 @@ record StopsFrom (begun : Bool) (s : Session) (r : Ran) : Type 0 where
   pub stands : stop_from begun s count ≡ Some r.stop
   pub least : (k : ℕ) → k < count → stop_from begun s k ≡ None
 
-at_once : (begun : Bool) (s : Session) (why : Stop) → stop_from begun s 0 ≡ Some why → StopsFrom begun s (stopped s why)
+at_once : (begun : Bool) (s : Session) (why : StopReason) → stop_from begun s 0 ≡ Some why → StopsFrom begun s (stopped s why)
 at_once begun s why stands = record {
   count = 0;
   session = sym (stepped_none s 0 refl);

@@ -3,7 +3,7 @@ use Rattle.std.proofs.Common.{◌≡◌, ℕ, List, refl, sym, subst}
 use Rattle.mm_mem.specs.declared.memory.Memory.{Ghosts}
 use Rattle.mm_model.specs.State.{State}
 use Rattle.mm_model.specs.Run.{after}
-use Rattle.mm_machine.specs.Kept.{Kept}
+use Rattle.mm_machine.specs.Validity.{IsValid}
 use Rattle.mm_machine.specs.Snapshot.{Parts, CanRestore}
 use Rattle.mm_machine.proofs.Keeping.{goes_on}
 use Rattle.mm_machine.proofs.Restorable.{can_after}
@@ -19,8 +19,8 @@ use Rattle.mm_debug.proofs.Dialogues.{IsDialogue, is_dialogue}
 
 -- a state of the same machine: it is kept where the first is, and can be put back to what the first can
 record Follows (s t : State) : Type 0 where
-  kept : ∥ Kept s ∥₁ → ∥ Kept t ∥₁
-  can : ∥ Kept s ∥₁ → (p : Parts) → CanRestore s p → CanRestore t p
+  kept : ∥ IsValid s ∥₁ → ∥ IsValid t ∥₁
+  can : ∥ IsValid s ∥₁ → (p : Parts) → CanRestore s p → CanRestore t p
 
 itself : (s : State) → Follows s s
 itself s = record { kept = λ k. k; can = λ k p can. can }
@@ -44,24 +44,24 @@ answer_follows s c = answer_keeps (λ (t : Session). Follows s.state t.state) (e
 dialogue_follows : (s : Session) (lines : List (List ℕ)) → Follows s.state (dialogue s lines).session.state
 dialogue_follows s lines = dialogue_keeps (λ (t : Session). Follows s.state t.state) (each_follows s.state) s lines (itself s.state)
 
-can_go : (s t : Session) (p : Point) → Follows s.state t.state → ∥ Kept s.state ∥₁ → CanGo s p → CanGo t p
+can_go : (s t : Session) (p : Point) → Follows s.state t.state → ∥ IsValid s.state ∥₁ → CanGo s p → CanGo t p
 can_go s t p f kept can = record { restore = f.can kept p.snapshot can.restore; limit = can.limit }
 
 -- after a command
 
-pub answer_goes : (s : Session) (c : Command) (p : Point) → ∥ Kept s.state ∥₁ → CanGo s p → CanGo (answer s c).session p
+pub answer_goes : (s : Session) (c : Command) (p : Point) → ∥ IsValid s.state ∥₁ → CanGo s p → CanGo (answer s c).session p
 answer_goes s c p kept can = can_go s (answer s c).session p (answer_follows s c) kept can
 
 -- after lines
 
-pub dialogue_goes : (s : Session) (lines : List (List ℕ)) (p : Point) → ∥ Kept s.state ∥₁ → CanGo s p → CanGo (dialogue s lines).session p
+pub dialogue_goes : (s : Session) (lines : List (List ℕ)) (p : Point) → ∥ IsValid s.state ∥₁ → CanGo s p → CanGo (dialogue s lines).session p
 dialogue_goes s lines p kept can = can_go s (dialogue s lines).session p (dialogue_follows s lines) kept can
 
 -- and of sessions that code holds, whose machine is kept
 
 module _ {M : Type 0} {memory : Ghosts M} where
   pub input_goes : (old new : Held M memory) (input : List ℕ) → session_of new ≡ (debugged (session_of old) input).session → (p : Point) → CanGo (session_of old) p → CanGo (session_of new) p
-  input_goes old new input is p can = subst (λ (t : Session). CanGo t p) (sym is) (dialogue_goes (session_of old) (lines_of input) p old.machine.kept can)
+  input_goes old new input is p can = subst (λ (t : Session). CanGo t p) (sym is) (dialogue_goes (session_of old) (lines_of input) p old.machine.valid can)
 
   -- what carried out lines, each as a session answers it, is where its dialogue ended
   pub sessions_said : {old new : Held M memory} {lines : List (List ℕ)} {text : List ℕ}

@@ -10,9 +10,9 @@ use Rattle.mm_model.specs.Fits.{identity_of, slots_of}
 use Rattle.mm_model.proofs.CoreRows.{has_group_by}
 use Rattle.mm_sched.specs.declared.schedule.Order.{Order}
 use Rattle.mm_sched.specs.declared.schedule.Order.TheVariants as order
-use Rattle.mm_machine.specs.Kept.{Kept}
+use Rattle.mm_machine.specs.Validity.{IsValid}
 use Rattle.mm_machine.specs.Snapshot.{IsSnapshotOf, CanRestore, restored}
-use Rattle.mm_machine.proofs.Keeping.{kept_after}
+use Rattle.mm_machine.proofs.Keeping.{valid_after}
 use Rattle.mm_machine.proofs.Went.{run_both}
 use Rattle.mm_debug.specs.Session.{Session, total_of}
 use Rattle.mm_debug.specs.Standing.{run_items, GoesOnAfter, StandsFor, Point, total_at, PointStandsFor}
@@ -51,10 +51,10 @@ run_front s items all f = ap (run s) f.is ∙ run_both s items f.rest
 
 -- 2. Two states of one run.
 
-kept_run : (s : State) (items : List ℕ) → Kept s → Kept (run s items)
+kept_run : (s : State) (items : List ℕ) → IsValid s → IsValid (run s items)
 unfolding run
 kept_run s [] kept = kept
-kept_run s (n ∷ items) kept = kept_run (after s n) items (kept_after s n kept)
+kept_run s (n ∷ items) kept = kept_run (after s n) items (valid_after s n kept)
 
 begun_count : (i : Image) → length (start i).core.outputs ≡ 64
 unfolding start
@@ -91,14 +91,14 @@ quiet_before t items count same later = record {
 abbrev state_at : Image → Order → ℕ → State
 state_at i o total = run (start i) (run_items i o total)
 
-module _ (i : Image) (s : Session) (p : Point) (kept : ∥ Kept s.state ∥₁) (stands : StandsFor i s) (point : PointStandsFor i s.order p) (can : CanRestore s.state p.snapshot) where
+module _ (i : Image) (s : Session) (p : Point) (kept : ∥ IsValid s.state ∥₁) (stands : StandsFor i s) (point : PointStandsFor i s.order p) (can : CanRestore s.state p.snapshot) where
   quiet_later : total_of s ≤ total_at p → IsQuiet (state_at i s.order (total_at p)).core
   quiet_later le =
       let front = front_of i s.order (total_of s) (total_at p) le in
       let is : state_at i s.order (total_at p) ≡ run s.state front.rest =
       run_front (start i) (run_items i s.order (total_of s)) (run_items i s.order (total_at p)) front ∙ ap (λ (t : State). run t front.rest)
       (sym stands.state) in
-      kept_quiet (state_at i s.order (total_at p)) (subst (λ (t : State). ∥ Kept t ∥₁) (sym is) (∥∥₁_map kept (λ k. kept_run s.state front.rest k)))
+      kept_quiet (state_at i s.order (total_at p)) (subst (λ (t : State). ∥ IsValid t ∥₁) (sym is) (∥∥₁_map kept (λ k. kept_run s.state front.rest k)))
 
   quiet_earlier : total_at p ≤ total_of s → IsQuiet (state_at i s.order (total_at p)).core
   quiet_earlier le =
@@ -117,7 +117,7 @@ module _ (i : Image) (s : Session) (p : Point) (kept : ∥ Kept s.state ∥₁) 
   alike_there : AreAlike s.state (state_at i s.order (total_at p))
   alike_there = subst (λ (t : State). AreAlike t (state_at i s.order (total_at p))) (sym stands.state) (runs_alike i (run_items i s.order (total_of s)) (run_items i s.order (total_at p)))
 
-  went : (u : State) → u ≡ restored s.state p.snapshot → IsSnapshotOf u p.snapshot → ∥ Kept u ∥₁ → u ≡ state_at i s.order (total_at p)
+  went : (u : State) → u ≡ restored s.state p.snapshot → IsSnapshotOf u p.snapshot → ∥ IsValid u ∥₁ → u ≡ state_at i s.order (total_at p)
   went u made shown kept_now =
       let there : State = state_at i s.order (total_at p) in
       same_state u there p.snapshot
@@ -131,7 +131,7 @@ module _ (i : Image) (s : Session) (p : Point) (kept : ∥ Kept s.state ∥₁) 
 abbrev at_point : Session → Point → State → Session
 at_point s p state = record s { last = p.last; state = state }
 
-pub gone_stands : (i : Image) (s : Session) (p : Point) (u : State) → u ≡ restored s.state p.snapshot → IsSnapshotOf u p.snapshot → ∥ Kept s.state ∥₁ → ∥ Kept u ∥₁ → CanRestore s.state p.snapshot
+pub gone_stands : (i : Image) (s : Session) (p : Point) (u : State) → u ≡ restored s.state p.snapshot → IsSnapshotOf u p.snapshot → ∥ IsValid s.state ∥₁ → ∥ IsValid u ∥₁ → CanRestore s.state p.snapshot
     → StandsFor i s → PointStandsFor i s.order p → StandsFor i (at_point s p u)
 gone_stands i s p u made shown before now can stands point = record {
   state = went i s p before stands point can u made shown now ∙ ap (λ n. run (start i) (run_items i s.order n)) shown.cycles;

@@ -9,8 +9,8 @@ use Rattle.mm_sched.specs.declared.schedule.Order.TheVariants as order
 use Rattle.mm_debug.specs.declared.command.Command.{Command}
 use Rattle.mm_debug.specs.declared.command.Command.TheVariants.{Nothing, Step, Run, Break, Watch, Regs, Mem, Quit, Bad}
 use Rattle.mm_debug.specs.declared.breakpoints.Break.{Break as Breakpoint}
-use Rattle.mm_debug.specs.declared.stop.Stop.{Stop}
-use Rattle.mm_debug.specs.declared.stop.Stop.TheVariants as stop
+use Rattle.mm_debug.specs.declared.stop.StopReason.{StopReason}
+use Rattle.mm_debug.specs.declared.stop.StopReason.TheVariants as stop
 use Rattle.mm_debug.specs.Commands.{command_of}
 use Rattle.mm_debug.specs.Breakpoints.{has_break, has_watch, fits, with_break, with_watch}
 use Rattle.mm_model.specs.Limits.{cycle_limit}
@@ -92,14 +92,14 @@ same_watch : (s t : Session) → IsSame s t → (item : ℕ) → stops_after s i
 same_watch s t h item =
     ap (λ (words : List ℕ). watched words (turn_of s.state item).step) h.watches ∙ ap (λ (x : State). watched t.watches (turn_of x item).step) h.state
 
-same_or : (s t : Session) (why : Stop) (b : Bool) (f g : Ran) → IsSame s t → SameRan f g → SameRan (if b then stopped s why else f) (if b then stopped t why else g)
+same_or : (s t : Session) (why : StopReason) (b : Bool) (f g : Ran) → IsSame s t → SameRan f g → SameRan (if b then stopped s why else f) (if b then stopped t why else g)
 same_or s t why true f g h later = record { session = h; stop = refl }
 same_or s t why false f g h later = later
 
 same_before : (begun : Bool) (s t : Session) (o : Option ℕ) (f g : ℕ → Ran) → IsSame s t → ((item : ℕ) → SameRan (f item) (g item)) → SameRan (before_cycle begun s o f) (before_cycle begun t o g)
 same_before begun s t None f g h later = record { session = h; stop = refl }
 same_before begun s t (Some item) f g h later =
-    let why : Stop = stop.Break item in
+    let why : StopReason = stop.Break item in
     subst (λ (b : Bool). SameRan (if begun && stops_before s item then stopped s why else f item) (if begun && b then stopped t why else g item)) (same_break s t h item)
     (same_or s t why (begun && stops_before s item) (f item) (g item) h (later item))
 
@@ -145,7 +145,7 @@ same_answer s t h (Step count) =
 same_answer s t h Run =
     let later = same_ran s t h in
     record {
-      reply = ap (λ (x : Stop). stop_text x (total_of (ran s).session)) later.stop ∙ ap (stop_text (ran t).stop) (same_total later.session);
+      reply = ap (λ (x : StopReason). stop_text x (total_of (ran s).session)) later.stop ∙ ap (stop_text (ran t).stop) (same_total later.session);
       session = later.session;
       go = refl;
     }

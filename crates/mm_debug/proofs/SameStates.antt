@@ -15,7 +15,7 @@ use Rattle.mm_model.specs.Groups.{has_group}
 use Rattle.mm_model.specs.Spelling.{numbers_of}
 use Rattle.mm_model.specs.Fits.{slots_of}
 use Rattle.mm_model.proofs.CoreRows.{each_both, rest_rises, above_first, Rises}
-use Rattle.mm_machine.specs.Kept.{Kept}
+use Rattle.mm_machine.specs.Validity.{IsValid}
 use Rattle.mm_machine.specs.Snapshot.{Parts, has_output, IsOutputOf, IsSnapshotOf, queued, queued_at}
 
 -- 1. Rows: the queue of each is that of the events beside its slot's number.
@@ -100,7 +100,7 @@ pub record IsQuiet (core : Core) : Type 0 where
   pub count : length core.outputs ≡ 64
   pub silent : (g : ℕ) → has_group (slots_of core) g ≡ false → output_of core g ≡ []
 
-pub kept_quiet : (s : State) → ∥ Kept s ∥₁ → IsQuiet s.core
+pub kept_quiet : (s : State) → ∥ IsValid s ∥₁ → IsQuiet s.core
 kept_quiet s kept = ∥∥₁_elim kept (hlevel props) (λ k. record { count = k.state.core.outputs; silent = k.types.silent })
 
 -- what holds of the number of each entry holds of a number that an entry has

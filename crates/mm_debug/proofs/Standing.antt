@@ -12,7 +12,7 @@ use Rattle.mm_machine.proofs.Keeping.{run_more}
 use Rattle.mm_debug.specs.declared.command.Command.{Command}
 use Rattle.mm_debug.specs.declared.command.Command.TheVariants.{Nothing, Step, Run, Break, Watch, Regs, Mem, Quit, Bad}
 use Rattle.mm_debug.specs.declared.breakpoints.Break.{Break as Breakpoint}
-use Rattle.mm_debug.specs.declared.stop.Stop.TheVariants as stop
+use Rattle.mm_debug.specs.declared.stop.StopReason.TheVariants as stop
 use Rattle.mm_debug.specs.Commands.{command_of}
 use Rattle.mm_model.specs.Limits.{cycle_limit}
 use Rattle.mm_debug.specs.Session.{Session, begun, total_of, next_item, issued}

@@ -12,7 +12,7 @@ use Rattle.mm_model.specs.Turn.{is_running}
 use Rattle.mm_model.specs.Run.{after, first_running, any_number, next_running}
 use Rattle.mm_model.specs.Fits.{IsSlot, slots_of}
 use Rattle.mm_model.proofs.CoreRows.{each_map}
-use Rattle.mm_machine.specs.Kept.{Kept}
+use Rattle.mm_machine.specs.Validity.{IsValid}
 use Rattle.mm_sched.specs.declared.schedule.Order.TheVariants as order
 use Rattle.mm_debug.specs.Session.{Session, total_of, next_item, issued, then_stepped, stepped}
 use Rattle.mm_sched.specs.Orders.{item_in}
@@ -55,7 +55,7 @@ next_small rows (Some last) n small is = by (first_running (nat_lt last) rows) r
     by None above is = first_small any_number rows n small is
     by (Some m) above is = first_small (nat_lt last) rows n small (above ∙ is)
 
-pub robin_small : (s : Session) (item : ℕ) → ∥ Kept s.state ∥₁ → s.order ≡ order.Robin → next_item s ≡ Some item → item < 64
+pub robin_small : (s : Session) (item : ℕ) → ∥ IsValid s.state ∥₁ → s.order ≡ order.Robin → next_item s ≡ Some item → item < 64
 robin_small s item kept robin next =
     let here : next_running s.state.core.rows s.last ≡ Some item =
     sym (ap (λ o. item_in o s.last s.state) robin) ∙ sym (item_of_order s (item_below_limit s item next)) ∙ next in

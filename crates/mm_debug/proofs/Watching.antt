@@ -11,7 +11,7 @@ use Rattle.mm_word.specs.declared.word.Pre.{Pre}
 use Rattle.mm_word.specs.declared.word.Word.{Word}
 use Rattle.mm_word.specs.declared.word.Word.TheVariants.{Int, Ptr}
 use Rattle.mm_word.specs.declared.word.Cell.{Cell}
-use Rattle.mm_word.specs.Access.{Touch, check_result, touch_at}
+use Rattle.mm_word.specs.Access.{AccessValue, check_result, touch_at}
 use Rattle.mm_word.specs.Perm.{allows}
 use Rattle.mm_word.specs.Pointer.{Pointer, holds_word}
 use Rattle.mm_word.specs.Word.{word_bits}
@@ -28,7 +28,7 @@ use Rattle.mm_model.specs.Ask.{Ask, ask, is_privileged, load_kind, reaching}
 use Rattle.mm_model.specs.Ask.Ask.{Nothing, Refuse, Reach, MapPage, UnmapPage, NextEvent, Room, Serve}
 use Rattle.mm_model.specs.Effect.{Reply, Change, Effect, effect, loaded, stored, delivered}
 use Rattle.mm_model.specs.Effect.Reply.{Refused, Got}
-use Rattle.mm_model.specs.Effect.Effect.{Fault, Block, Deliver, Does}
+use Rattle.mm_model.specs.Effect.Effect.{Fault, Block, Deliver, Do}
 use Rattle.mm_model.specs.Turn.{Turned, reply, reached, removal_use, asked_use, touch_of, is_sync, tick_faulted}
 use Rattle.mm_model.specs.Turn.{faulted, blocked, ended, executed, issued, decoded, instr_in, fetched, aimed, started}
 use Rattle.mm_model.specs.Turn.{idle, arrives, port_of, taken_by_port, taken_by, is_running, turn}
@@ -90,15 +90,15 @@ signal_at word (u ∷ us) kind on (suc k) lt is = inr (signal_at word us kind on
 
 -- 2. A fetch is no signal.
 
-fetched_kind : (p : Pointer) (f : Touch) → check_result (Ptr p) (pos 0) Fetch ≡ Ok f → f.kind ≡ Fetch
+fetched_kind : (p : Pointer) (f : AccessValue) → check_result (Ptr p) (pos 0) Fetch ≡ Ok f → f.kind ≡ Fetch
 fetched_kind p f e = kind_by (Ptr p) (pos 0) Fetch (Ok f) (sym e)
 
-no_fetch : (f : Touch) → f.kind ≡ Fetch → (word : ℕ) → ¬ (signal_of (Accessed f.kind f.addr true true) ≡ Some word)
+no_fetch : (f : AccessValue) → f.kind ≡ Fetch → (word : ℕ) → ¬ (signal_of (Accessed f.kind f.addr true true) ≡ Some word)
 no_fetch f is word e =
     let none : None ≡ Some word = sym (ap (λ (kind : Kind). if writes kind then Some f.addr else None) is) ∙ e in
     cc
 
-fetch_quiet : (s : Slot) (f : Option Touch) (done : Bool) → IfSome f (Fetches s) → (word : ℕ) → ¬ (HasSignal word (fetch_uses f done))
+fetch_quiet : (s : Slot) (f : Option AccessValue) (done : Bool) → IfSome f (Fetches s) → (word : ℕ) → ¬ (HasSignal word (fetch_uses f done))
 fetch_quiet s None done aim word h = h
 fetch_quiet s (Some f) true aim word (inl e) = no_fetch f (fetched_kind s.ip f aim) word e
 fetch_quiet s (Some f) false aim word (inl e) = cc
@@ -127,31 +127,31 @@ module _ (watches : List ℕ) where
       by true = refl
       by false = refl
 
-  faulted_sees : (core : Core) (m : Memory) (s : Slot) (c : Cause) (a v : Word) (f touched : Option Touch) (us : List Use)
+  faulted_sees : (core : Core) (m : Memory) (s : Slot) (c : Cause) (a v : Word) (f touched : Option AccessValue) (us : List Use)
       → ((word : ℕ) → ¬ (HasSignal word us)) → Sees (faulted core m s c a v f touched us)
   unfolding faulted
   faulted_sees core m s c a v f touched us none = undone (faulted core m s c a v f touched us) (fault_undone c s.handler) none
 
-  blocked_sees : (core : Core) (m : Memory) (s : Slot) (f : Touch) (touched : Option Touch) (us : List Use) → ((word : ℕ) → ¬ (HasSignal word us)) → Sees (blocked core m s f touched us)
+  blocked_sees : (core : Core) (m : Memory) (s : Slot) (f : AccessValue) (touched : Option AccessValue) (us : List Use) → ((word : ℕ) → ¬ (HasSignal word us)) → Sees (blocked core m s f touched us)
   unfolding blocked
   blocked_sees core m s f touched us none = undone (blocked core m s f touched us) refl none
 
   -- an instruction that touches no cell
-  untouched_sees : (core : Core) (m : Memory) (s : Slot) (i : Instr) (f : Touch) (us : List Use) → ((word : ℕ) → ¬ (HasSignal word us)) → (e : Effect) → Sees (ended core m s i f None us e)
+  untouched_sees : (core : Core) (m : Memory) (s : Slot) (i : Instr) (f : AccessValue) (us : List Use) → ((word : ℕ) → ¬ (HasSignal word us)) → (e : Effect) → Sees (ended core m s i f None us e)
   unfolding ended
   untouched_sees core m s i f us none (Fault c) = faulted_sees core m s c (addr_operand i s) (value_operand i s) (Some f) None us none
   untouched_sees core m s i f us none Block = blocked_sees core m s f None us none
   untouched_sees core m s i f us none (Deliver other) = blocked_sees _ m s f None us none
-  untouched_sees core m s i f us none (Does c) = λ word. (λ e. cc, λ h. absurd (none word h.1))
+  untouched_sees core m s i f us none (Do c) = λ word. (λ e. cc, λ h. absurd (none word h.1))
 
   -- an access to a watched word that was done, where its kind sets the bit
-  touch_sees : (a : Touch) (word : ℕ) (kinds there : Bool) → has_watch watches a.addr ≡ there → (if kinds && there then Some a.addr else None) ≡ Some word
+  touch_sees : (a : AccessValue) (word : ℕ) (kinds there : Bool) → has_watch watches a.addr ≡ there → (if kinds && there then Some a.addr else None) ≡ Some word
       → (has_watch watches word ≡ true) × ((if kinds then Some a.addr else None) ≡ Some word)
   touch_sees a word true true is e = let same : a.addr ≡ word = cc in (ap (has_watch watches) (sym same) ∙ is, e)
   touch_sees a word true false is e = cc
   touch_sees a word false there is e = cc
 
-  touch_seen : (a : Touch) (word : ℕ) (kinds there : Bool) → has_watch watches a.addr ≡ there → has_watch watches word ≡ true → (if kinds then Some a.addr else None) ≡ Some word
+  touch_seen : (a : AccessValue) (word : ℕ) (kinds there : Bool) → has_watch watches a.addr ≡ there → has_watch watches word ≡ true → (if kinds then Some a.addr else None) ≡ Some word
       → (if kinds && there then Some a.addr else None) ≡ Some word
   touch_seen a word true true is on e = e
   touch_seen a word true false is on e =
@@ -160,7 +160,7 @@ module _ (watches : List ℕ) where
       cc
   touch_seen a word false there is on e = cc
 
-  module _ (core : Core) (m : Memory) (s : Slot) (f : Touch) (u : Use) (own : (word : ℕ) → ¬ (signal_of u ≡ Some word)) where
+  module _ (core : Core) (m : Memory) (s : Slot) (f : AccessValue) (u : Use) (own : (word : ℕ) → ¬ (signal_of u ≡ Some word)) where
     quiet : (us : List Use) → ((word : ℕ) → ¬ (HasSignal word us)) → (word : ℕ) → ¬ (HasSignal word (u ∷ us))
     quiet us none word (inl e) = own word e
     quiet us none word (inr h) = none word h
@@ -187,16 +187,16 @@ module _ (watches : List ℕ) where
 
     asks_no_cell : (i : Instr) (a : Ask) → touch_of a ≡ None → (e : Effect) → Sees (ended core m s i f (touch_of a) (u ∷ asked_use m a) e)
     asks_no_cell i a is e =
-        subst (λ (t : Option Touch). Sees (ended core m s i f t (u ∷ asked_use m a) e)) (sym is) (untouched_sees core m s i f (u ∷ asked_use m a) (quiet_asked a is) e)
+        subst (λ (t : Option AccessValue). Sees (ended core m s i f t (u ∷ asked_use m a) e)) (sym is) (untouched_sees core m s i f (u ∷ asked_use m a) (quiet_asked a is) e)
 
-    module _ (i : Instr) (does : Reply → Effect) (refuses : (c : Cause) → does (Refused c) ≡ Fault c) (goes : (a : Touch) (c : Cell) → (x : Change) × (does (Got a c) ≡ Does x)) where
-      refused_sees : (a : Touch) (c : Cause) (v : Use) → ((word : ℕ) → ¬ (signal_of v ≡ Some word)) → Sees (ended core m s i f (Some a) (u ∷ v ∷ []) (does (Refused c)))
+    module _ (i : Instr) (does : Reply → Effect) (refuses : (c : Cause) → does (Refused c) ≡ Fault c) (goes : (a : AccessValue) (c : Cell) → (x : Change) × (does (Got a c) ≡ Do x)) where
+      refused_sees : (a : AccessValue) (c : Cause) (v : Use) → ((word : ℕ) → ¬ (signal_of v ≡ Some word)) → Sees (ended core m s i f (Some a) (u ∷ v ∷ []) (does (Refused c)))
       unfolding ended
       refused_sees a c v none =
           subst (λ (e : Effect). Sees (ended core m s i f (Some a) (u ∷ v ∷ []) e)) (sym (refuses c))
           (faulted_sees core m s c (addr_operand i s) (value_operand i s) (Some f) (Some a) (u ∷ v ∷ []) (quiet_one v none))
 
-      did_sees : (a : Touch) (x : Change) → Sees (ended core m s i f (Some a) (u ∷ Accessed a.kind a.addr true true ∷ []) (Does x))
+      did_sees : (a : AccessValue) (x : Change) → Sees (ended core m s i f (Some a) (u ∷ Accessed a.kind a.addr true true ∷ []) (Do x))
       unfolding ended
       did_sees a x word = (stops, seen)
         where
@@ -209,19 +209,19 @@ module _ (watches : List ℕ) where
             | inr later ↦ elim later [ inl e ↦ touch_seen a word (writes a.kind) (has_watch watches a.addr) refl h.0 e | inr never ↦ absurd never ]
           ]
 
-      got_sees : (a : Touch) (c : Cell) → Sees (ended core m s i f (Some a) (u ∷ Accessed a.kind a.addr true true ∷ []) (does (Got a c)))
+      got_sees : (a : AccessValue) (c : Cell) → Sees (ended core m s i f (Some a) (u ∷ Accessed a.kind a.addr true true ∷ []) (does (Got a c)))
       got_sees a c = subst (λ (e : Effect). Sees (ended core m s i f (Some a) (u ∷ Accessed a.kind a.addr true true ∷ []) e)) (sym (goes a c).1) (did_sees a (goes a c).0)
 
-      bit_sees : (a : Touch) (c : Cell) (b : Bool) → Sees (ended core m s i f (Some a) (u ∷ Accessed a.kind a.addr true b ∷ []) (does (if b then Got a c else Refused cause.Sync)))
+      bit_sees : (a : AccessValue) (c : Cell) (b : Bool) → Sees (ended core m s i f (Some a) (u ∷ Accessed a.kind a.addr true b ∷ []) (does (if b then Got a c else Refused cause.Sync)))
       bit_sees a c true = got_sees a c
       bit_sees a c false = refused_sees a cause.Sync (Accessed a.kind a.addr true false) (λ word e. cc)
 
-      cell_sees : (a : Touch) (pre : Pre) (o : Option Cell) → Sees (ended core m s i f (Some a) (u ∷ use_at a.kind a.addr pre o ∷ []) (does (reached a pre o)))
+      cell_sees : (a : AccessValue) (pre : Pre) (o : Option Cell) → Sees (ended core m s i f (Some a) (u ∷ use_at a.kind a.addr pre o ∷ []) (does (reached a pre o)))
       cell_sees a pre None = refused_sees a cause.NoPage (Accessed a.kind a.addr false false) (λ word e. cc)
       cell_sees a pre (Some c) = bit_sees a c (passes pre c.full)
 
       -- an instruction that reaches for a cell
-      reaches_cell : (r : Result Touch Cause) (pre : Pre) → Sees (ended core m s i f (touch_of (reaching r pre)) (u ∷ asked_use m (reaching r pre)) (does (reply core m s.number (reaching r pre))))
+      reaches_cell : (r : Result AccessValue Cause) (pre : Pre) → Sees (ended core m s i f (touch_of (reaching r pre)) (u ∷ asked_use m (reaching r pre)) (does (reply core m s.number (reaching r pre))))
       unfolding reply
       reaches_cell (Err c) pre = untouched_sees core m s i f (u ∷ []) quiet_alone (does (Refused c))
       reaches_cell (Ok a) pre = cell_sees a pre (cell_at m a.addr)

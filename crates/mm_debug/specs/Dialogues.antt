@@ -1,16 +1,16 @@
 -- Lines that are carried out one after the other, by any handler.
 use Rattle.std.specs.Prelude.{◌≡◌, ℕ, List, [], ◌∷◌, ◌++◌, Option}
-use Rattle.mm_text.specs.Gathers.{Gathered, Gathers}
+use Rattle.mm_text.specs.Appends.{Buffered, Appends}
 use Rattle.mm_debug.specs.declared.session.Go.{Go}
 use Rattle.mm_debug.specs.declared.session.Go.TheVariants.{More, Quit}
 use Rattle.mm_debug.specs.Session.{Session, Answer}
 
 -- A text was gathered, and a property holds of it.
-pub record GathersSome {S : Type 0} (taken : S → Option (List ℕ)) (faults : S → ℕ) (old_out new_out : S)
-    (old new : Gathered)
+pub record AppendsSome {S : Type 0} (taken : S → Option (List ℕ)) (faults : S → ℕ) (old_out new_out : S)
+    (old new : Buffered)
     (Holds : List ℕ → Type 0) : Type 0 where
   pub text : List ℕ
-  pub gathers : Gathers taken faults old_out new_out old new text
+  pub appends : Appends taken faults old_out new_out old new text
   pub holds : Holds text
 
 -- A reply, a session, and whether another line may follow, are those of an answer.

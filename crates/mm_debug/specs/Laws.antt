@@ -7,8 +7,8 @@ use Rattle.mm_model.specs.Image.{Image, start}
 use Rattle.mm_model.specs.Run.{run, turn_of}
 use Rattle.mm_model.specs.Uses.{Use, Accessed}
 use Rattle.mm_sched.specs.declared.schedule.Order.{Order}
-use Rattle.mm_debug.specs.declared.stop.Stop.{Stop}
-use Rattle.mm_debug.specs.declared.stop.Stop.TheVariants as stop
+use Rattle.mm_debug.specs.declared.stop.StopReason.{StopReason}
+use Rattle.mm_debug.specs.declared.stop.StopReason.TheVariants as stop
 use Rattle.mm_debug.specs.Breakpoints.{has_watch}
 use Rattle.mm_debug.specs.Session.{Session, total_of, begun, next_item, stepped, stops_before, stops_after}
 use Rattle.mm_debug.specs.Session.{ran, answer_to}
@@ -17,22 +17,22 @@ use Rattle.mm_model.specs.Counted.{writes}
 
 -- 1. The stops of a run.
 
-abbrev pub watch_of : Option ℕ → Option Stop
+abbrev pub watch_of : Option ℕ → Option StopReason
 watch_of None = None
 watch_of (Some word) = Some (stop.Watch word)
 
 -- a stop by a watch, after the cycle of the next item
-abbrev pub watch_stands : Session → Option ℕ → Option Stop
+abbrev pub watch_stands : Session → Option ℕ → Option StopReason
 watch_stands s None = None
 watch_stands s (Some item) = watch_of (stops_after s item)
 
 -- the end if there is no next item, or else a break before that item, which needs a cycle of the run
-abbrev pub end_or_break : (after_cycle : Bool) → Session → Option ℕ → Option Stop
+abbrev pub end_or_break : (after_cycle : Bool) → Session → Option ℕ → Option StopReason
 end_or_break after_cycle s None = Some stop.End
 end_or_break after_cycle s (Some item) = if after_cycle && stops_before s item then Some (stop.Break item) else None
 
 -- the stop after `count` cycles of a run: a watch before the end before a break
-abbrev pub stop_after : Session → ℕ → Option Stop
+abbrev pub stop_after : Session → ℕ → Option StopReason
 stop_after s zero = end_or_break false s (next_item s)
 stop_after s (suc count) =
     option_or (watch_stands (stepped s count) (next_item (stepped s count)))

@@ -3,7 +3,7 @@ use Rattle.std.specs.Prelude.{ℕ, zero, suc, ◌+◌, ◌-◌, ◌*◌, Bool, t
 use Rattle.std.specs.Prelude.{[], ◌∷◌, ◌++◌, codes, decimal, Option, Some, None}
 use Rattle.std.specs.List.{flat_map, range_with_len}
 use Rattle.mm_word.specs.declared.word.Cell.{Cell}
-use Rattle.mm_word.specs.Access.{Touch}
+use Rattle.mm_word.specs.Access.{AccessValue}
 use Rattle.mm_model.specs.declared.step.Step.{Step as StepTaken}
 use Rattle.mm_model.specs.declared.step.Tick.{Tick}
 use Rattle.mm_model.specs.declared.step.Tick.TheVariants.{Idle, Blocked, Did, Faulted, Delivered}
@@ -20,8 +20,8 @@ use Rattle.mm_sched.specs.Orders.{item_in, last_after}
 use Rattle.mm_debug.specs.declared.command.Command.{Command}
 use Rattle.mm_debug.specs.declared.command.Command.TheVariants.{Nothing, Step, Run, Break, Watch, Regs, Mem, Quit, Bad}
 use Rattle.mm_debug.specs.declared.breakpoints.Break.{Break as Breakpoint}
-use Rattle.mm_debug.specs.declared.stop.Stop.{Stop}
-use Rattle.mm_debug.specs.declared.stop.Stop.TheVariants as stop
+use Rattle.mm_debug.specs.declared.stop.StopReason.{StopReason}
+use Rattle.mm_debug.specs.declared.stop.StopReason.TheVariants as stop
 use Rattle.mm_debug.specs.declared.session.Go.{Go}
 use Rattle.mm_debug.specs.declared.session.Go.TheVariants as go
 use Rattle.mm_debug.specs.Commands.{command_of, lines_of}
@@ -84,7 +84,7 @@ is_done (Faulted cause) = false
 is_done (Delivered reg) = false
 
 -- the watched word of an access that may set the cell's bit
-abbrev pub watched_by : List ℕ → Option Touch → Option ℕ
+abbrev pub watched_by : List ℕ → Option AccessValue → Option ℕ
 watched_by watches None = None
 watched_by watches (Some t) = if writes t.kind && has_watch watches t.addr then Some t.addr else None
 
@@ -99,9 +99,9 @@ stops_after s item = watched s.watches (turn_of s.state item).step
 -- The session when a run stops, and why it stops.
 pub record Ran : Type 0 where
   pub session : Session
-  pub stop : Stop
+  pub stop : StopReason
 
-abbrev pub stopped : Session → Stop → Ran
+abbrev pub stopped : Session → StopReason → Ran
 stopped s why = record { session = s; stop = why }
 
 -- the run after a cycle was issued: it stops if a watched word stops it
@@ -130,7 +130,7 @@ ran s = run_from false s (cycle_limit - total_of s)
 abbrev pub stepped_text : (count total : ℕ) → List ℕ
 stepped_text count total = codes "stepped " ++ decimal count ++ codes " total " ++ decimal total ++ newline
 
-abbrev pub stop_text : Stop → (total : ℕ) → List ℕ
+abbrev pub stop_text : StopReason → (total : ℕ) → List ℕ
 stop_text stop.End total = codes "stopped end " ++ decimal total ++ newline
 stop_text (stop.Break slot) total = codes "stopped break " ++ decimal slot ++ codes " " ++ decimal total ++ newline
 stop_text (stop.Watch word) total = codes "stopped watch " ++ hex 14 word ++ codes " " ++ decimal total ++ newline

@@ -77,9 +77,9 @@ impl Breaks {
         let entry = Break { slot, address };
         match self.kept.binary_search(&entry) {
             Ok(_) => true,
-            Err(place) => {
+            Err(at) => {
                 self.spots[spot(address)] = true;
-                self.kept.try_insert(place, entry).is_ok()
+                self.kept.try_insert(at, entry).is_ok()
             }
         }
     }
@@ -127,7 +127,7 @@ impl Watches {
     {
         match self.kept.binary_search(&word) {
             Ok(_) => true,
-            Err(place) => self.kept.try_insert(place, word).is_ok(),
+            Err(at) => self.kept.try_insert(at, word).is_ok(),
         }
     }
 }

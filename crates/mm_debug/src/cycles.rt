@@ -7,7 +7,7 @@ ghost use Rattle.mm_debug.specs.Shown.{session_of};
 
 use crate::breakpoints::Watches;
 use crate::session::Session;
-use crate::stop::Stop;
+use crate::stop::StopReason;
 use mm_mem::Memory;
 use mm_model::{CYCLE_LIMIT, SlotState, Step, Tick};
 use mm_sched::{Order, Robin};
@@ -28,24 +28,24 @@ impl<M: Memory> Session<M> {
 
     /// Issues cycles up to a stop. The loop has as many rounds as cycles are left below the limit; after the last of
     /// them the limit has ended.
-    pub(crate) fn run(&mut self) -> Stop
+    pub(crate) fn run(&mut self) -> StopReason
         ensures { ran (session_of self.old) ≡ record { session = session_of self.new; stop = result } }
     {
         let mut begun = false;
         for _ in self.machine.cycles()..CYCLE_LIMIT {
             let Some(item) = self.next_item() else {
-                return Stop::End;
+                return StopReason::End;
             };
             if begun && self.stops_before(item) {
-                return Stop::Break(item);
+                return StopReason::Break(item);
             }
             let step = self.issue(item);
             if let Some(word) = watched(&self.watches, &step) {
-                return Stop::Watch(word);
+                return StopReason::Watch(word);
             }
             begun = true;
         }
-        Stop::End
+        StopReason::End
     }
 
     /// The next item; `None` if the order or the limit has ended.

@@ -1,22 +1,22 @@
 //! The texts of replies.
 
 ghost use Rattle.std.specs.Prelude.{◌≡◌, ◌≤◌, ◌<◌, ◌+◌, ◌*◌, ◌%◌, ◌^◌};
-ghost use Rattle.mm_text.specs.Gathers.{Gathers};
+ghost use Rattle.mm_text.specs.Appends.{Appends};
 ghost use Rattle.mm_model.specs.Memory.{cell_at};
 ghost use Rattle.mm_model.specs.State.{slot_at};
 ghost use Rattle.mm_machine.specs.Machine.{state_of};
 ghost use Rattle.mm_debug.specs.Session.{stepped_text, stop_text, break_text, watch_text, slot_text, word_line};
 ghost use Rattle.mm_debug.specs.Session.{memory_text};
 
-use crate::stop::Stop;
+use crate::stop::StopReason;
 use mm_io::Sink;
 use mm_machine::Machine;
 use mm_mem::{Inspect, Memory};
-use mm_text::{Gather, Piece, put_cell, put_slot};
+use mm_text::{TextBuffer, Piece, put_cell, put_slot};
 
 /// Appends the reply of a `step`: the count of cycles that it issued, and the total.
-pub(crate) fn put_stepped<O: Sink>(reply: &mut Gather, out: &mut O, count: u64, total: u64)
-    ensures { Gathers O.taken O.faults out.old out.new reply.old reply.new (stepped_text count total) }
+pub(crate) fn put_stepped<O: Sink>(reply: &mut TextBuffer, out: &mut O, count: u64, total: u64)
+    ensures { Appends O.taken O.faults out.old out.new reply.old reply.new (stepped_text count total) }
 {
     reply.put(
         out,
@@ -31,11 +31,11 @@ pub(crate) fn put_stepped<O: Sink>(reply: &mut Gather, out: &mut O, count: u64, 
 }
 
 /// Appends the reply of a `run`: why it stopped, and the total of cycles.
-pub(crate) fn put_stop<O: Sink>(reply: &mut Gather, out: &mut O, stop: Stop, total: u64)
-    ensures { Gathers O.taken O.faults out.old out.new reply.old reply.new (stop_text stop total) }
+pub(crate) fn put_stop<O: Sink>(reply: &mut TextBuffer, out: &mut O, stop: StopReason, total: u64)
+    ensures { Appends O.taken O.faults out.old out.new reply.old reply.new (stop_text stop total) }
 {
     match stop {
-        Stop::End => reply.put(
+        StopReason::End => reply.put(
             out,
             &[
                 Piece::Text("stopped end "),
@@ -43,7 +43,7 @@ pub(crate) fn put_stop<O: Sink>(reply: &mut Gather, out: &mut O, stop: Stop, tot
                 Piece::Text("\n"),
             ],
         ),
-        Stop::Break(slot) => reply.put(
+        StopReason::Break(slot) => reply.put(
             out,
             &[
                 Piece::Text("stopped break "),
@@ -53,7 +53,7 @@ pub(crate) fn put_stop<O: Sink>(reply: &mut Gather, out: &mut O, stop: Stop, tot
                 Piece::Text("\n"),
             ],
         ),
-        Stop::Watch(word) => reply.put(
+        StopReason::Watch(word) => reply.put(
             out,
             &[
                 Piece::Text("stopped watch "),
@@ -67,8 +67,8 @@ pub(crate) fn put_stop<O: Sink>(reply: &mut Gather, out: &mut O, stop: Stop, tot
 }
 
 /// Appends the reply of a `break`: whether it is kept.
-pub(crate) fn put_break<O: Sink>(reply: &mut Gather, out: &mut O, kept: bool)
-    ensures { Gathers O.taken O.faults out.old out.new reply.old reply.new (break_text kept) }
+pub(crate) fn put_break<O: Sink>(reply: &mut TextBuffer, out: &mut O, kept: bool)
+    ensures { Appends O.taken O.faults out.old out.new reply.old reply.new (break_text kept) }
 {
     reply.put_piece(
         out,
@@ -77,8 +77,8 @@ pub(crate) fn put_break<O: Sink>(reply: &mut Gather, out: &mut O, kept: bool)
 }
 
 /// Appends the reply of a `watch`: whether it is kept.
-pub(crate) fn put_watch<O: Sink>(reply: &mut Gather, out: &mut O, kept: bool)
-    ensures { Gathers O.taken O.faults out.old out.new reply.old reply.new (watch_text kept) }
+pub(crate) fn put_watch<O: Sink>(reply: &mut TextBuffer, out: &mut O, kept: bool)
+    ensures { Appends O.taken O.faults out.old out.new reply.old reply.new (watch_text kept) }
 {
     reply.put_piece(
         out,
@@ -88,12 +88,12 @@ pub(crate) fn put_watch<O: Sink>(reply: &mut Gather, out: &mut O, kept: bool)
 
 /// Appends the lines of a slot, or says that there is none of this number.
 pub(crate) fn put_slot_at<M: Memory, O: Sink>(
-    reply: &mut Gather,
+    reply: &mut TextBuffer,
     out: &mut O,
     machine: &Machine<M>,
     number: u8,
 )
-    ensures { Gathers O.taken O.faults out.old out.new reply.old reply.new
+    ensures { Appends O.taken O.faults out.old out.new reply.old reply.new
         (slot_text (slot_at (state_of machine.now).core number)) }
 {
     match machine.slot(number) {
@@ -104,7 +104,7 @@ pub(crate) fn put_slot_at<M: Memory, O: Sink>(
 
 /// Appends a line for each of `count` words from a word on.
 pub(crate) fn put_words<M: Inspect, O: Sink>(
-    reply: &mut Gather,
+    reply: &mut TextBuffer,
     out: &mut O,
     memory: &M,
     word: u64,
@@ -112,7 +112,7 @@ pub(crate) fn put_words<M: Inspect, O: Sink>(
 )
     requires aligned { word % 8 ≡ 0 }
     requires within { word + 8 * count ≤ 2 ^ 54 }
-    ensures { Gathers O.taken O.faults out.old out.new reply.old reply.new
+    ensures { Appends O.taken O.faults out.old out.new reply.old reply.new
         (memory_text (M.meaning memory.now) word count) }
 {
     for k in 0..count {
@@ -121,10 +121,10 @@ pub(crate) fn put_words<M: Inspect, O: Sink>(
 }
 
 /// Appends the line of a word: its cell, or that no mapped page has it.
-fn put_word_line<M: Inspect, O: Sink>(reply: &mut Gather, out: &mut O, memory: &M, word: u64)
+fn put_word_line<M: Inspect, O: Sink>(reply: &mut TextBuffer, out: &mut O, memory: &M, word: u64)
     requires aligned { word % 8 ≡ 0 }
     requires within { word < 2 ^ 54 }
-    ensures { Gathers O.taken O.faults out.old out.new reply.old reply.new
+    ensures { Appends O.taken O.faults out.old out.new reply.old reply.new
         (word_line word (cell_at (M.meaning memory.now) word)) }
 {
     match memory.peek(word) {

@@ -12,7 +12,7 @@ use mm_io::{Sink, WriteFault};
 use mm_machine::Machine;
 use mm_mem::{Inspect, Memory};
 use mm_sched::{Order, Robin};
-use mm_text::{Gather, Piece};
+use mm_text::{TextBuffer, Piece};
 
 /// Whether another line may follow.
 #[derive(Clone, Copy, PartialEq, Eq)]
@@ -39,7 +39,7 @@ pub struct Session<M: Memory> {
 impl<M: Inspect> Session<M> {
     ghost use Rattle.std.specs.Prelude.{◌≡◌, ◌≤◌, IfOk};
     ghost use Rattle.mm_io.specs.Sinks.{Writes};
-    ghost use Rattle.mm_text.specs.Gathers.{Gathers};
+    ghost use Rattle.mm_text.specs.Appends.{Appends};
     ghost use Rattle.mm_model.specs.Image.{Image, start};
     ghost use Rattle.mm_model.specs.Limits.{cycle_limit};
     ghost use Rattle.mm_machine.specs.Machine.{state_of};
@@ -84,7 +84,7 @@ impl<M: Inspect> Session<M> {
         ensures stands { (i : Image) → StandsFor i (session_of self.old) → StandsFor i (session_of self.new) }
         ensures fits { (p : Point) → CanGo (session_of self.old) p → CanGo (session_of self.new) p }
     {
-        let mut reply = Gather::new();
+        let mut reply = TextBuffer::new();
         let go = self.put_line(&mut reply, out, text);
         reply.finish(out)?;
         Ok(go)
@@ -99,16 +99,16 @@ impl<M: Inspect> Session<M> {
         ensures stands { (i : Image) → StandsFor i (session_of self.old) → StandsFor i (session_of self.new) }
         ensures fits { (p : Point) → CanGo (session_of self.old) p → CanGo (session_of self.new) p }
     {
-        let mut replies = Gather::new();
+        let mut replies = TextBuffer::new();
         handle_lines(self, &mut replies, out, input);
         replies.finish(out)
     }
 
     /// Carries out a line, and appends its reply.
     #[tactic(auto, unfolding(crate::specs::Session::answer))]
-    pub fn put_line<O: Sink>(&mut self, reply: &mut Gather, out: &mut O, line: &[u8]) -> Go
+    pub fn put_line<O: Sink>(&mut self, reply: &mut TextBuffer, out: &mut O, line: &[u8]) -> Go
         ensures session { session_of self.new ≡ (answer_to (session_of self.old) line.now).session }
-        ensures reply { Gathers O.taken O.faults out.old out.new reply.old reply.new
+        ensures reply { Appends O.taken O.faults out.old out.new reply.old reply.new
             (answer_to (session_of self.old) line.now).reply }
         ensures go { result ≡ (answer_to (session_of self.old) line.now).go }
         ensures stands { (i : Image) → StandsFor i (session_of self.old) → StandsFor i (session_of self.new) }
@@ -150,7 +150,7 @@ impl<M: Inspect> LineHandler for Session<M> {
 
     ghost Answers = { λ old line reply new go. IsAnswer (answer_to (session_of old) line) reply (session_of new) go };
 
-    fn handle_line<O: Sink>(&mut self, reply: &mut Gather, out: &mut O, line: &[u8]) -> Go {
+    fn handle_line<O: Sink>(&mut self, reply: &mut TextBuffer, out: &mut O, line: &[u8]) -> Go {
         self.put_line(reply, out, line)
     }
 }

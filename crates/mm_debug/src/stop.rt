@@ -2,7 +2,7 @@
 
 /// Why a run stops.
 #[derive(Clone, Copy, PartialEq, Eq)]
-pub enum Stop {
+pub enum StopReason {
     /// The order or the limit has ended.
     End,
     /// The slot that is next has a break at its instruction pointer's address.

@@ -35,7 +35,7 @@ place_none k (x ∷ names) name h =
     by (bytes_eq name x) refl parts.0 (place_none (k + 1) names name parts.1)
   where
     by : (b : Bool) → bytes_eq name x ≡ b → bytes_eq name x ≡ false → place_in (entries_named (k + 1) names) name ≡ None →
-        (if b then Some (entry_of k x).place else place_in (entries_named (k + 1) names) name) ≡ None
+        (if b then Some (entry_of k x).location else place_in (entries_named (k + 1) names) name) ≡ None
     by true e f later = absurd (let same : name ≡ x = (bytes_eq-Decides name x).0 e in let g : bytes_eq name x ≡ true = ap (bytes_eq name) (sym same) ∙ same_itself name in cc (f, g))
     by false e f later = later
 
@@ -54,8 +54,8 @@ place_some k zero (x ∷ names) apart lt = by (bytes_eq x x) ((bytes_eq-Decides 
     same : k ≡ k + 0
     same = omega arith
 
-    by : (b : Bool) → b ≡ true → (if b then Some (entry_of k x).place else place_in (entries_named (k + 1) names) x) ≡ Some (record { segment = k + 0; word = 0; is_label = false })
-    by true e = ap (λ (n : ℕ). Some (entry_of n x).place) same
+    by : (b : Bool) → b ≡ true → (if b then Some (entry_of k x).location else place_in (entries_named (k + 1) names) x) ≡ Some (record { segment = k + 0; word = 0; is_label = false })
+    by true e = ap (λ (n : ℕ). Some (entry_of n x).location) same
     by false e = absurd cc
 place_some k (suc i) (x ∷ names) apart lt =
     by (bytes_eq (get_or names i []) x) (turn x (get_or names i []) (none_later names x (not-true _ parts.0) i (omega arith)))
@@ -68,9 +68,9 @@ place_some k (suc i) (x ∷ names) apart lt =
     same = omega arith
 
     by : (b : Bool) → b ≡ false → place_in (entries_named (k + 1) names) (get_or names i []) ≡ Some (record { segment = k + 1 + i; word = 0; is_label = false }) →
-        (if b then Some (entry_of k x).place else place_in (entries_named (k + 1) names) (get_or names i [])) ≡ Some (record { segment = k + suc i; word = 0; is_label = false })
+        (if b then Some (entry_of k x).location else place_in (entries_named (k + 1) names) (get_or names i [])) ≡ Some (record { segment = k + suc i; word = 0; is_label = false })
     by true e later = absurd cc
-    by false e later = later ∙ ap (λ (n : ℕ). Some (entry_of n x).place) same
+    by false e later = later ∙ ap (λ (n : ℕ). Some (entry_of n x).location) same
 
 -- 2. The names of an object.
 
@@ -140,7 +140,7 @@ module _ (o : Object) where
         ap (λ (entries : List Entry). place_in entries written.mark.name) names_are
         ∙ ap (place_in (entries_named 0 (names_of o.segments))) (same.0 ∙ own_name t h)
         ∙ place_some 0 t.index (names_of o.segments) is.names (omega (arith, h.low, length-map o.segments (λ (s : Segment). s.name)))
-        ∙ ap (λ (n : ℕ). Some (entry_of n []).place) zero_more
+        ∙ ap (λ (n : ℕ). Some (entry_of n []).location) zero_more
 
     -- an external's for nothing
     pub foreign_place : (t : Target) (written : text.Target) → IsForeign t → IsTargetOf o t written → place_of d written.mark.name ≡ None

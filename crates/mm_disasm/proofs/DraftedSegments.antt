@@ -21,7 +21,7 @@ use Rattle.mm_model.specs.Limits.{segment_limit, word_limit, reloc_limit}
 
 -- the name of each segment from a number on stands for its first word
 abbrev pub entry_of : ℕ → List ℕ → Entry
-entry_of k name = record { name = name; place = record { segment = k; word = 0; is_label = false } }
+entry_of k name = record { name = name; location = record { segment = k; word = 0; is_label = false } }
 
 abbrev pub entries_from : ℕ → List draft.Segment → List Entry
 entries_from k [] = []
@@ -38,12 +38,12 @@ IsNew before s = is_some (place_in (entries_from 0 before) s.name) ≡ false
 
 still_new : (k : ℕ) (segments : List draft.Segment) (s : draft.Segment) (name : List ℕ) → is_some (place_in (entries_from k segments) name) ≡ false →
     bytes_eq name s.name ≡ false → is_some (place_in (entries_from k (segments ++ s ∷ [])) name) ≡ false
-still_new k [] s name h other = ap (λ (b : Bool). is_some (if b then Some (entry_of k s.name).place else None)) other
+still_new k [] s name h other = ap (λ (b : Bool). is_some (if b then Some (entry_of k s.name).location else None)) other
 still_new k (x ∷ segments) s name h other = by (bytes_eq name x.name) h (λ e. still_new (k + 1) segments s name e other)
   where
-    by : (b : Bool) → is_some (if b then Some (entry_of k x.name).place else place_in (entries_from (k + 1) segments) name) ≡ false →
+    by : (b : Bool) → is_some (if b then Some (entry_of k x.name).location else place_in (entries_from (k + 1) segments) name) ≡ false →
         (is_some (place_in (entries_from (k + 1) segments) name) ≡ false → is_some (place_in (entries_from (k + 1) (segments ++ s ∷ [])) name) ≡ false) →
-        is_some (if b then Some (entry_of k x.name).place else place_in (entries_from (k + 1) (segments ++ s ∷ [])) name) ≡ false
+        is_some (if b then Some (entry_of k x.name).location else place_in (entries_from (k + 1) (segments ++ s ∷ [])) name) ≡ false
     by true e later = absurd cc
     by false e later = later e
 

@@ -23,7 +23,7 @@ use Rattle.mm_line.specs.declared.token.Token.{Token}
 use Rattle.mm_line.specs.declared.token.Token.TheVariants.{Name, Number}
 use Rattle.mm_line.specs.Tokens.{Next, next_token}
 use Rattle.mm_line.specs.Forms.{is_name}
-use Rattle.mm_line.specs.Standing.{written}
+use Rattle.mm_line.specs.TokenPlaces.{written}
 use Rattle.mm_line.specs.Reading.{between, immediate_of, modulo}
 use Rattle.mm_line.specs.Operands.{with_operand, operand_at, comma_of, more_at, operands_at}
 use Rattle.mm_line.proofs.Registers.{register_again}

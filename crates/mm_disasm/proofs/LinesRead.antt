@@ -12,7 +12,7 @@ use Rattle.mm_line.specs.declared.token.Token.{Token}
 use Rattle.mm_line.specs.declared.token.Token.TheVariants.{Name, Directive, Number, Plus}
 use Rattle.mm_line.specs.Tokens.{Next, end, token_at, next_token}
 use Rattle.mm_line.specs.Forms.{is_name}
-use Rattle.mm_line.specs.Standing.{written}
+use Rattle.mm_line.specs.TokenPlaces.{written}
 use Rattle.mm_line.specs.Words.{look_up, directives}
 use Rattle.mm_line.specs.Reading.{◌>>=◌, number_of}
 use Rattle.mm_line.specs.Statements.{addend_at, target_at, front_by, statement_of, claim_of, body_of, is_label, line_of}

@@ -16,7 +16,7 @@ use Rattle.mm_line.specs.declared.token.Token.{Token}
 use Rattle.mm_line.specs.declared.token.Token.TheVariants.{Name, Number}
 use Rattle.mm_line.specs.Tokens.{next_token}
 use Rattle.mm_line.specs.Forms.{is_name}
-use Rattle.mm_line.specs.Standing.{written}
+use Rattle.mm_line.specs.TokenPlaces.{written}
 use Rattle.mm_line.specs.Words.{perms, ip_perms}
 use Rattle.mm_line.specs.Reading.{word_of, handler_of}
 use Rattle.mm_line.specs.Statements.{spare_at, segment_at, thread_at, register_at, constant_at, integer_at, pointer_at, front_by}

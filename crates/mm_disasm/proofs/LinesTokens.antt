@@ -15,7 +15,7 @@ use Rattle.mm_model.specs.Digits.{hex}
 use Rattle.mm_text.proofs.HexDigits.{length-hex}
 use Rattle.mm_line.specs.declared.token.Token.TheVariants.{Number}
 use Rattle.mm_line.specs.Tokens.{number, next_token}
-use Rattle.mm_line.specs.Standing.{written}
+use Rattle.mm_line.specs.TokenPlaces.{written}
 use Rattle.mm_line.proofs.Written.{blank_read, decimal_read, negative_read, hexadecimal_read, or_last}
 use Rattle.mm_disasm.specs.Canonical.{short_hex, long_hex}
 

@@ -23,7 +23,7 @@ use Rattle.mm_line.specs.declared.token.Token.{Token}
 use Rattle.mm_line.specs.declared.token.Token.TheVariants.{Name, Directive}
 use Rattle.mm_line.specs.Tokens.{Next, next_token}
 use Rattle.mm_line.specs.Forms.{is_name}
-use Rattle.mm_line.specs.Standing.{written}
+use Rattle.mm_line.specs.TokenPlaces.{written}
 use Rattle.mm_line.specs.Words.{look_up, directives}
 use Rattle.mm_line.specs.Operands.{operands_at, bare, code_at}
 use Rattle.mm_line.specs.Statements.{content_by_directive, content_by_operation, content_of, word, front_by, is_label}

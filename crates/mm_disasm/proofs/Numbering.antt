@@ -1,8 +1,8 @@
 -- Lines with numbers, gathered one after the other.
 use Rattle.std.proofs.Common.{◌≡◌, ℕ, ◌+◌, ◌<◌, ◌≤◌, List, [], ◌∷◌, ◌++◌, length, take, get_or, Option, refl, sym, ap, ◌∙◌, arith}
 use Rattle.std.proofs.lemmas.List.{take_all}
-use Rattle.mm_text.specs.Gathers.{Gathered, Gathers}
-use Rattle.mm_text.proofs.Gathering.{gathers_then, gathers_same}
+use Rattle.mm_text.specs.Appends.{Buffered, Appends}
+use Rattle.mm_text.proofs.Appending.{appends_then, appends_same}
 use Rattle.mm_object.specs.declared.item.Item.{Item}
 use Rattle.mm_object.specs.declared.thread.Value.{Value}
 use Rattle.mm_object.specs.Objects.{Segment, Object}
@@ -11,24 +11,24 @@ use Rattle.mm_asm.proofs.Built.{numbered, numbered_more}
 
 module _ {A : Type 0} (line : ℕ → A → List ℕ) (items : List A) where
   -- one line more
-  pub gathers_numbered : {S : Type 0} {taken : S → Option (List ℕ)} {faults : S → ℕ} {a b c : S} {f g h : Gathered} (i : ℕ) (d : A)
-      → i < length items → Gathers taken faults a b f g (numbered line 0 (take i items)) → Gathers taken faults b c g h (line i (get_or items i d))
-      → Gathers taken faults a c f h (numbered line 0 (take (i + 1) items))
-  gathers_numbered i d inside before now =
+  pub appends_numbered : {S : Type 0} {taken : S → Option (List ℕ)} {faults : S → ℕ} {a b c : S} {f g h : Buffered} (i : ℕ) (d : A)
+      → i < length items → Appends taken faults a b f g (numbered line 0 (take i items)) → Appends taken faults b c g h (line i (get_or items i d))
+      → Appends taken faults a c f h (numbered line 0 (take (i + 1) items))
+  appends_numbered i d inside before now =
       let front = numbered line 0 (take i items) in
       let same : 0 + i ≡ i = omega arith in
-      gathers_same (gathers_then before now) (ap (λ (n : ℕ). front ++ line n (get_or items i d)) (sym same) ∙ sym (numbered_more line 0 items i d inside))
+      appends_same (appends_then before now) (ap (λ (n : ℕ). front ++ line n (get_or items i d)) (sym same) ∙ sym (numbered_more line 0 items i d inside))
 
   -- the same of an item that is known by what it is
-  pub gathers_numbered_item : {S : Type 0} {taken : S → Option (List ℕ)} {faults : S → ℕ} {a b c : S} {f g h : Gathered} (i : ℕ) (item : A)
-      → i < length items → item ≡ get_or items i item → Gathers taken faults a b f g (numbered line 0 (take i items)) → Gathers taken faults b c g h (line i item)
-      → Gathers taken faults a c f h (numbered line 0 (take (i + 1) items))
-  gathers_numbered_item i item inside is before now = gathers_numbered i item inside before (gathers_same now (ap (line i) is))
+  pub appends_numbered_item : {S : Type 0} {taken : S → Option (List ℕ)} {faults : S → ℕ} {a b c : S} {f g h : Buffered} (i : ℕ) (item : A)
+      → i < length items → item ≡ get_or items i item → Appends taken faults a b f g (numbered line 0 (take i items)) → Appends taken faults b c g h (line i item)
+      → Appends taken faults a c f h (numbered line 0 (take (i + 1) items))
+  appends_numbered_item i item inside is before now = appends_numbered i item inside before (appends_same now (ap (line i) is))
 
   -- all of them
-  pub gathers_all : {S : Type 0} {taken : S → Option (List ℕ)} {faults : S → ℕ} {a b : S} {f g : Gathered} (i : ℕ) {text : List ℕ}
-      → length items ≤ i → text ≡ numbered line 0 items → Gathers taken faults a b f g (numbered line 0 (take i items)) → Gathers taken faults a b f g text
-  gathers_all i end is before = gathers_same before (ap (numbered line 0) (take_all i items end) ∙ sym is)
+  pub appends_all : {S : Type 0} {taken : S → Option (List ℕ)} {faults : S → ℕ} {a b : S} {f g : Buffered} (i : ℕ) {text : List ℕ}
+      → length items ≤ i → text ≡ numbered line 0 items → Appends taken faults a b f g (numbered line 0 (take i items)) → Appends taken faults a b f g text
+  appends_all i end is before = appends_same before (ap (numbered line 0) (take_all i items end) ∙ sym is)
 
 -- the lines of an object that have numbers
 module _ (o : Object) where

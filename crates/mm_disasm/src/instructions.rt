@@ -1,6 +1,6 @@
 //! The texts of instructions.
 
-ghost use Rattle.mm_text.specs.Gathers.{Gathers};
+ghost use Rattle.mm_text.specs.Appends.{Appends};
 ghost use Rattle.mm_disasm.specs.Canonical.{further_text, integer_text, operand_text, operands_text, operation_text};
 ghost use Rattle.mm_disasm.specs.Canonical.{register_text};
 
@@ -8,12 +8,12 @@ use crate::names::{how_name, post_name, pre_name};
 use crate::numbers::put_signed;
 use mm_io::Sink;
 use mm_isa::{Operand, Operation, decode};
-use mm_text::{Gather, Piece};
+use mm_text::{TextBuffer, Piece};
 
 /// Appends a word that is no pointer: the instruction that it spells, or else an integer.
 #[tactic(auto, unfolding(crate::specs::Canonical::integer_text))]
-pub(crate) fn put_integer<O: Sink>(text: &mut Gather, out: &mut O, bits: u64)
-    ensures { Gathers O.taken O.faults out.old out.new text.old text.new (integer_text bits) }
+pub(crate) fn put_integer<O: Sink>(text: &mut TextBuffer, out: &mut O, bits: u64)
+    ensures { Appends O.taken O.faults out.old out.new text.old text.new (integer_text bits) }
 {
     match decode(bits) {
         Some(instruction) => put_operation(text, out, &instruction.operation()),
@@ -23,16 +23,16 @@ pub(crate) fn put_integer<O: Sink>(text: &mut Gather, out: &mut O, bits: u64)
 
 /// Appends an operation: its name, and its operands.
 #[tactic(auto, unfolding(crate::specs::Canonical::operation_text))]
-fn put_operation<O: Sink>(text: &mut Gather, out: &mut O, operation: &Operation)
-    ensures { Gathers O.taken O.faults out.old out.new text.old text.new (operation_text operation.now) }
+fn put_operation<O: Sink>(text: &mut TextBuffer, out: &mut O, operation: &Operation)
+    ensures { Appends O.taken O.faults out.old out.new text.old text.new (operation_text operation.now) }
 {
     text.put_piece(out, &Piece::Text(operation.name));
     put_operands(text, out, &operation.operands);
 }
 
 /// Appends operands: a blank before the first, and a comma and a blank before each further one.
-fn put_operands<O: Sink>(text: &mut Gather, out: &mut O, operands: &[Operand])
-    ensures { Gathers O.taken O.faults out.old out.new text.old text.new (operands_text operands.now) }
+fn put_operands<O: Sink>(text: &mut TextBuffer, out: &mut O, operands: &[Operand])
+    ensures { Appends O.taken O.faults out.old out.new text.old text.new (operands_text operands.now) }
 {
     let [first, rest @ ..] = operands else {
         return;
@@ -45,16 +45,16 @@ fn put_operands<O: Sink>(text: &mut Gather, out: &mut O, operands: &[Operand])
 }
 
 /// Appends an operand after another one.
-fn put_further<O: Sink>(text: &mut Gather, out: &mut O, operand: Operand)
-    ensures { Gathers O.taken O.faults out.old out.new text.old text.new (further_text operand) }
+fn put_further<O: Sink>(text: &mut TextBuffer, out: &mut O, operand: Operand)
+    ensures { Appends O.taken O.faults out.old out.new text.old text.new (further_text operand) }
 {
     text.put_piece(out, &Piece::Text(", "));
     put_operand(text, out, operand);
 }
 
 /// Appends an operand as sources spell it. A distance is a number of words, and not a label.
-fn put_operand<O: Sink>(text: &mut Gather, out: &mut O, operand: Operand)
-    ensures { Gathers O.taken O.faults out.old out.new text.old text.new (operand_text operand) }
+fn put_operand<O: Sink>(text: &mut TextBuffer, out: &mut O, operand: Operand)
+    ensures { Appends O.taken O.faults out.old out.new text.old text.new (operand_text operand) }
 {
     match operand {
         Operand::Rd(register) | Operand::Ra(register) | Operand::Rb(register) => {
@@ -73,8 +73,8 @@ fn put_operand<O: Sink>(text: &mut Gather, out: &mut O, operand: Operand)
 }
 
 /// Appends the name of a register: `r0` to `r15`.
-fn put_register<O: Sink>(text: &mut Gather, out: &mut O, number: u8)
-    ensures { Gathers O.taken O.faults out.old out.new text.old text.new (register_text number) }
+fn put_register<O: Sink>(text: &mut TextBuffer, out: &mut O, number: u8)
+    ensures { Appends O.taken O.faults out.old out.new text.old text.new (register_text number) }
 {
     text.put(out, &[Piece::Text("r"), Piece::Decimal(number as u64)]);
 }

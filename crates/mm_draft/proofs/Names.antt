@@ -15,13 +15,13 @@ found (e ∷ es) name = ap (λ r. cond (bytes_eq name e.0.now) (Some e.1) r) (fo
 
 -- a new name goes last
 pub inserted : (es : List (Bor (List ℕ) × Location)) (k : Bor (List ℕ)) (v : Location) → place_in (entries_of es) k.now ≡ None
-    → entries_of (insert_entry (λ x y. bytes_eq x.now y.now) es k v) ≡ entries_of es ++ record { name = k.now; place = v } ∷ []
+    → entries_of (insert_entry (λ x y. bytes_eq x.now y.now) es k v) ≡ entries_of es ++ record { name = k.now; location = v } ∷ []
 inserted [] k v h = refl
 inserted (e ∷ es) k v h = by (bytes_eq k.now e.0.now) (inserted es k v) h
   where
-    by : (b : Bool) → (place_in (entries_of es) k.now ≡ None → entries_of (insert_entry (λ x y. bytes_eq x.now y.now) es k v) ≡ entries_of es ++ record { name = k.now; place = v } ∷ [])
+    by : (b : Bool) → (place_in (entries_of es) k.now ≡ None → entries_of (insert_entry (λ x y. bytes_eq x.now y.now) es k v) ≡ entries_of es ++ record { name = k.now; location = v } ∷ [])
         → cond b (Some e.1) (place_in (entries_of es) k.now) ≡ None
         → entries_of (cond b ((e.0, v) ∷ es) (e ∷ insert_entry (λ x y. bytes_eq x.now y.now) es k v)) ≡
-        record { name = e.0.now; place = e.1 } ∷ (entries_of es ++ record { name = k.now; place = v } ∷ [])
+        record { name = e.0.now; location = e.1 } ∷ (entries_of es ++ record { name = k.now; location = v } ∷ [])
     by true rest n = cc
-    by false rest n = ap (λ r. record { name = e.0.now; place = e.1 } ∷ r) (rest n)
+    by false rest n = ap (λ r. record { name = e.0.now; location = e.1 } ∷ r) (rest n)

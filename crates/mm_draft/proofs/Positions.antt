@@ -20,7 +20,7 @@ use Rattle.mm_line.specs.Reading.{at, wrong, name_of}
 use Rattle.mm_line.specs.Statements.{is_label, body_of, line_of, claim_of, statement_of}
 use Rattle.mm_line.specs.Ranges.{IsBody, IsClaim, IsStatement, IsOptionalBody, IsLabel, Reads}
 use Rattle.mm_line.proofs.Choices.{either}
-use Rattle.mm_line.proofs.Standing.{token_stands}
+use Rattle.mm_line.proofs.TokenPlaces.{token_stands}
 use Rattle.mm_line.proofs.StatementRanges.{line_is}
 use Rattle.mm_draft.specs.Drafts.{Draft, Segment, last, words_of, pointers_of, add_maybe_label}
 use Rattle.mm_draft.specs.Faults.{is_before, lesser, first_of, fault_if, claim_faults, words_faults, statement_faults}
@@ -102,17 +102,17 @@ body_within d most b h = each_append (Within b.left) (claim_faults d b.claim) (r
 -- 3. A label stands before its statement.
 
 abbrev Stands : ℕ → Result Mark Problem → Type 0
-Stands place (Ok mark) = mark.left ≡ place
-Stands place (Err problem) = problem.left ≡ place
+Stands remaining (Ok mark) = mark.left ≡ remaining
+Stands remaining (Err problem) = problem.left ≡ remaining
 
 abbrev IsBehind : ℕ → Option Body → Type 0
-IsBehind place None = Unit {0}
-IsBehind place (Some b) = b.left < place
+IsBehind remaining None = Unit {0}
+IsBehind remaining (Some b) = b.left < remaining
 
 -- where a label stands, and that its statement is behind it
 abbrev LabelFirst : Option (Result Mark Problem) → Option Body → Type 0
 LabelFirst None body = Unit {0}
-LabelFirst (Some label) body = (place : ℕ) × Stands place label × IsBehind place body
+LabelFirst (Some label) body = (remaining : ℕ) × Stands remaining label × IsBehind remaining body
 
 label_tokens : (a b : Token) → is_label a b ≡ true → (a ≡ tokens.Name) × (b ≡ tokens.Colon)
 label_tokens tokens.Name tokens.Colon e = (refl, refl)
@@ -130,11 +130,11 @@ name_stands n e = of n.token e
     of tokens.Name r = either (Stands n.left) (nat_le (length n.text) 31) (Ok (record { name = n.text; left = n.left })) (Err (at faults.Name n)) (λ _. refl) (λ _. refl)
     of _ r = cc
 
-body_behind : (place : ℕ) (n : Next) → n.left < place → IsBehind place (body_of n)
+body_behind : (remaining : ℕ) (n : Next) → n.left < remaining → IsBehind remaining (body_of n)
 unfolding body_of
-body_behind place n lt = of n.token
+body_behind remaining n lt = of n.token
   where
-    of : (t : Token) → IsBehind place (elim t [ tokens.End ↦ None | _ ↦ Some (record { left = n.left; claim = claim_of n; reading = statement_of n }) ])
+    of : (t : Token) → IsBehind remaining (elim t [ tokens.End ↦ None | _ ↦ Some (record { left = n.left; claim = claim_of n; reading = statement_of n }) ])
     of tokens.End = tt
     of _ = lt
 
@@ -157,21 +157,21 @@ label_first bytes =
 
 -- 4. So the first fault of a line is its label's or, where that has none, its statement's.
 
-label_at : (d : Draft) (place : ℕ) (label : Result Mark Problem) → Stands place label → EachIs (λ p. p.left ≡ place) (maybe_label_faults d (Some label))
-label_at d place (Ok mark) h = each_two (λ p. p.left ≡ place) (is_none (last d.segments)) (is_named d mark.name) faults.Place faults.Twice mark.left h h
-label_at d place (Err problem) h = (h, tt)
+label_at : (d : Draft) (remaining : ℕ) (label : Result Mark Problem) → Stands remaining label → EachIs (λ p. p.left ≡ remaining) (maybe_label_faults d (Some label))
+label_at d remaining (Ok mark) h = each_two (λ p. p.left ≡ remaining) (is_none (last d.segments)) (is_named d mark.name) faults.Place faults.Twice mark.left h h
+label_at d remaining (Err problem) h = (h, tt)
 
-body_before : (d : Draft) (most place : ℕ) (body : Option Body) → IsOptionalBody most body → IsBehind place body → EachIs (λ p. p.left < place) (body_faults d body)
-body_before d most place None h lt = tt
-body_before d most place (Some b) h lt = each_weaker (Within b.left) (λ p. p.left < place) (λ p le. omega arith) (body_faults d (Some b)) (body_within d most b h)
+body_before : (d : Draft) (most remaining : ℕ) (body : Option Body) → IsOptionalBody most body → IsBehind remaining body → EachIs (λ p. p.left < remaining) (body_faults d body)
+body_before d most remaining None h lt = tt
+body_before d most remaining (Some b) h lt = each_weaker (Within b.left) (λ p. p.left < remaining) (λ p le. omega arith) (body_faults d (Some b)) (body_within d most b h)
 
 not_before : (p q : Problem) → q.left < p.left → is_before q p ≡ false
 not_before p q lt = grind (arith, nat_tests)
 
-both_or_else : (place : ℕ) (p q : Option Problem) → FirstIs (λ x. x.left ≡ place) p → FirstIs (λ x. x.left < place) q → first_of_both p q ≡ option_or p q
-both_or_else place None q a b = refl
-both_or_else place (Some p) None a b = refl
-both_or_else place (Some p) (Some q) a b = let n = not_before p q (omega arith) in rw n refl
+both_or_else : (remaining : ℕ) (p q : Option Problem) → FirstIs (λ x. x.left ≡ remaining) p → FirstIs (λ x. x.left < remaining) q → first_of_both p q ≡ option_or p q
+both_or_else remaining None q a b = refl
+both_or_else remaining (Some p) None a b = refl
+both_or_else remaining (Some p) (Some q) a b = let n = not_before p q (omega arith) in rw n refl
 
 line_first_of : (d e : Draft) (most : ℕ) (label : Option (Result Mark Problem)) (body : Option Body) → LabelFirst label body → IsOptionalBody most body
     → first_of (maybe_label_faults d label ++ body_faults e body) ≡ option_or (first_of (maybe_label_faults d label)) (first_of (body_faults e body))

@@ -11,25 +11,25 @@ use Rattle.mm_draft.proofs.Lasts.{words_more, pointers_more, words_begin, pointe
 
 pub label_step : (v d : Draft) (mark : Mark) (names : List Entry) (bytes : List ℕ) (segment word : ℕ) → v ≡ d
     → bytes ≡ mark.name → segment ≡ length v.segments - 1 → word ≡ words_so_far (last d.segments)
-    → names ≡ v.names ++ record { name = bytes; place = record { segment = segment; word = word; is_label = true } } ∷ [] → record v { names = names } ≡ add_label mark d
+    → names ≡ v.names ++ record { name = bytes; location = record { segment = segment; word = word; is_label = true } } ∷ [] → record v { names = names } ≡ add_label mark d
 label_step v d mark names bytes segment word e b s w n =
     let u : word ≡ words_so_far (last v.segments) = w ∙ ap (λ (x : Draft). words_so_far (last x.segments)) (sym e) in
-    ap (λ x. record v { names = x }) (n ∙ (λ i. v.names ++ record { name = b i; place = record { segment = s i; word = u i; is_label = true } } ∷ [])) ∙ ap (add_label mark) e
+    ap (λ x. record v { names = x }) (n ∙ (λ i. v.names ++ record { name = b i; location = record { segment = s i; word = u i; is_label = true } } ∷ [])) ∙ ap (add_label mark) e
 
 pub segment_step : (v d : Draft) (mark : Mark) (log : ℕ) (names : List Entry) (segments : List Segment) (bytes : List ℕ)
     (words : List Word) (segment : ℕ) → v ≡ d → bytes ≡ mark.name → segment ≡ length v.segments → words ≡ []
-    → names ≡ v.names ++ record { name = bytes; place = record { segment = segment; word = 0; is_label = false } } ∷ []
+    → names ≡ v.names ++ record { name = bytes; location = record { segment = segment; word = 0; is_label = false } } ∷ []
     → segments ≡ v.segments ++ record { name = mark.name; log = log; words = words } ∷ [] → record v { names = names; segments = segments } ≡ add_segment mark log d
 segment_step v d mark log names segments bytes words segment e b s w n g =
     let n' : names ≡ v.names ++ record {
       name = mark.name;
-      place = record {
+      location = record {
         segment = length v.segments;
         word = 0;
         is_label = false;
       };
     } ∷ [] = n ∙
-    (λ i. v.names ++ record { name = b i; place = record { segment = s i; word = 0; is_label = false } } ∷ []) in
+    (λ i. v.names ++ record { name = b i; location = record { segment = s i; word = 0; is_label = false } } ∷ []) in
     let g' : segments ≡ v.segments ++ record { name = mark.name; log = log; words = [] } ∷ [] = g ∙ (λ i. v.segments ++ record { name = mark.name; log = log; words = w i } ∷ []) in
     (λ i. record v { names = n' i; segments = g' i }) ∙ ap (add_segment mark log) e
 

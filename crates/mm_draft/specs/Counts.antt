@@ -11,7 +11,7 @@ use Rattle.mm_model.specs.Limits.{word_limit, reloc_limit}
 
 -- the entries of a map from names to places
 abbrev pub entries_of : List (Bor (List ℕ) × Location) → List Entry
-entries_of es = map (λ e. record { name = e.0.now; place = e.1 }) es
+entries_of es = map (λ e. record { name = e.0.now; location = e.1 }) es
 
 -- the counts of words and pointers in the segments, within the limits
 pub record Counts (segments : List Segment) (words pointers : ℕ) : Type 0 where

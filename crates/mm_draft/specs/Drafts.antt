@@ -28,7 +28,7 @@ pub record Segment : Type 0 where
 -- a name that the text has, and what it stands for
 pub record Entry : Type 0 where
   pub name : List ℕ
-  pub place : Location
+  pub location : Location
 
 pub record Thread : Type 0 where
   pub slot : ℕ
@@ -53,7 +53,7 @@ nothing = record { segments = []; names = []; threads = []; spare = None }
 
 abbrev pub place_in : List Entry → List ℕ → Option Location
 place_in [] name = None
-place_in (e ∷ entries) name = if bytes_eq name e.name then Some e.place else place_in entries name
+place_in (e ∷ entries) name = if bytes_eq name e.name then Some e.location else place_in entries name
 
 -- what a name stands for, if the text has it
 abbrev pub place_of : Draft → List ℕ → Option Location
@@ -104,7 +104,7 @@ abbrev pub add_words : List Word → Draft → Draft
 add_words words d = record d { segments = change_last (with_words words) d.segments }
 
 abbrev pub add_name : List ℕ → Location → Draft → Draft
-add_name name place d = record d { names = d.names ++ record { name = name; place = place } ∷ [] }
+add_name name location d = record d { names = d.names ++ record { name = name; location = location } ∷ [] }
 
 -- the draft with this label, which names the next word of the last segment
 abbrev pub add_label : Mark → Draft → Draft

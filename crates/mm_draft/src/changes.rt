@@ -27,12 +27,12 @@ impl<'a> Draft<'a> {
         requires { place_of self.old mark.name ≡ None }
         ensures { OnOk result (self.new ≡ add_label mark.entry self.old) }
     {
-        let place = Location {
+        let location = Location {
             segment: self.segments.len().saturating_sub(1),
             word: self.words_so_far(),
             is_label: true,
         };
-        self.names.insert(mark.name.bytes(), place)?;
+        self.names.insert(mark.name.bytes(), location)?;
         Ok(())
     }
 
@@ -42,12 +42,12 @@ impl<'a> Draft<'a> {
         requires size { log ≤ 20 }
         ensures { OnOk result (self.new ≡ add_segment mark.entry log self.old) }
     {
-        let place = Location {
+        let location = Location {
             segment: self.segments.len(),
             word: 0,
             is_label: false,
         };
-        self.names.insert(mark.name.bytes(), place)?;
+        self.names.insert(mark.name.bytes(), location)?;
         let words = Vec::new(*self.segments.allocator());
         self.segments.push(Segment {
             name: mark.name,

@@ -6,9 +6,9 @@ use Rattle.mm_cli.specs.declared.table.Command.TheVariants as command
 use Rattle.mm_cli.specs.declared.table.Kind.TheVariants as kind
 use Rattle.mm_cli.specs.declared.table.Parameter.{Parameter}
 use Rattle.mm_cli.specs.declared.table.Parameter.TheVariants.{File, Number, Groups, Mode, Range, Address, Use}
-use Rattle.mm_cli.specs.declared.table.Last.{Last}
-use Rattle.mm_cli.specs.declared.table.Last.TheVariants.{Nothing, Perhaps, Several}
-use Rattle.mm_cli.specs.Table.{Listed, table}
+use Rattle.mm_cli.specs.declared.table.Tail.{Tail}
+use Rattle.mm_cli.specs.declared.table.Tail.TheVariants.{Nothing, Optional, Repeated}
+use Rattle.mm_cli.specs.Table.{TableRow, table}
 
 abbrev image : Parameter
 image = File kind.Image
@@ -17,21 +17,21 @@ image = File kind.Image
 abbrev cycles : Parameter
 cycles = Number 0 1000000
 
-abbrev perhaps_a_schedule : Last
-perhaps_a_schedule = Perhaps (File kind.Schedule)
+abbrev perhaps_a_schedule : Tail
+perhaps_a_schedule = Optional (File kind.Schedule)
 
-abbrev row : List ℕ → Command → List Parameter → Last → Listed
-row name command parameters last = record { name = name; command = command; parameters = parameters; last = last }
+abbrev row : List ℕ → Command → List Parameter → Tail → TableRow
+row name command parameters tail = record { name = name; command = command; parameters = parameters; tail = tail }
 
-abbrev pub rows : List Listed
+abbrev pub rows : List TableRow
 rows = row (codes "run") command.Run (image ∷ cycles ∷ []) perhaps_a_schedule
     ∷ row (codes "trace") command.Trace (image ∷ cycles ∷ []) perhaps_a_schedule
     ∷ row (codes "log") command.Log (image ∷ cycles ∷ []) perhaps_a_schedule
     ∷ row (codes "solo") command.Solo (image ∷ Groups ∷ cycles ∷ File kind.Schedule ∷ []) Nothing
-    ∷ row (codes "grants") command.Grants (image ∷ []) (Perhaps Groups)
+    ∷ row (codes "grants") command.Grants (image ∷ []) (Optional Groups)
     ∷ row (codes "extract") command.Extract (image ∷ Groups ∷ []) Nothing
     ∷ row (codes "asm") command.Asm (File kind.Source ∷ []) Nothing
-    ∷ row (codes "link") command.Link [] (Several kind.Object 16)
+    ∷ row (codes "link") command.Link [] (Repeated kind.Object 16)
     ∷ row (codes "dis") command.Dis (File kind.Object ∷ []) Nothing
     ∷ row (codes "debug") command.Debug (image ∷ []) perhaps_a_schedule
     ∷ row (codes "gen") command.Gen (Number 0 18446744073709551615 ∷ Number 1 16 ∷ []) Nothing
@@ -41,7 +41,7 @@ rows = row (codes "run") command.Run (image ∷ cycles ∷ []) perhaps_a_schedul
     ∷ row (codes "holders") command.Holders (image ∷ Range ∷ []) Nothing
     ∷ row (codes "save") command.Save (image ∷ cycles ∷ []) perhaps_a_schedule
     ∷ row (codes "continue") command.Continue (image ∷ File kind.Checkpoint ∷ cycles ∷ []) perhaps_a_schedule
-    ∷ row (codes "net") command.Net (File kind.Links ∷ File kind.Events ∷ cycles ∷ []) (Several kind.Image 8)
+    ∷ row (codes "net") command.Net (File kind.Links ∷ File kind.Events ∷ cycles ∷ []) (Repeated kind.Image 8)
     ∷ row (codes "explore") command.Explore (image ∷ Number 1 1000000 ∷ []) Nothing
     ∷ row (codes "why") command.Why (image ∷ Number 0 63 ∷ Address ∷ Use ∷ []) Nothing
     ∷ []

@@ -3,7 +3,7 @@ use Rattle.std.proofs.Common.{◌≡◌, inl, inr, ℕ, ◌==◌, Bool, true, fa
 use Rattle.std.specs.Prelude.{Contains, IsSome}
 use Rattle.std.proofs.lemmas.Bool.{both_ways}
 use Rattle.mm_word.specs.declared.perm.Kind.{Kind}
-use Rattle.mm_word.specs.Access.{Touch}
+use Rattle.mm_word.specs.Access.{AccessValue}
 use Rattle.mm_model.specs.declared.step.Step.{Step}
 use Rattle.mm_model.specs.State.{State}
 use Rattle.mm_model.specs.Image.{Image, start}
@@ -23,7 +23,7 @@ use Rattle.mm_explore.proofs.Finals.{final_in, first_of}
 use Rattle.mm_model.specs.Counted.{writes}
 
 -- a cycle with an access, or with a fault, is that of a move
-pub touching_moves : (s : State) (n : ℕ) (a : Touch) → Contains (touches (turn_of s n).step) a → Contains (moves s) n
+pub touching_moves : (s : State) (n : ℕ) (a : AccessValue) → Contains (touches (turn_of s n).step) a → Contains (moves s) n
 unfolding idle
 touching_moves s n a inside = elim (moves_or_idles s n) [
   | inl fault ↦ fault
@@ -68,7 +68,7 @@ module _ (i : Image) (list : List (List ℕ)) (t s : List ℕ) (inside : Contain
   move_of : (n : ℕ) → Contains (moves there) n → Contains (explored_turns i list) (record { schedule = t; item = n })
   move_of n move = explores i list t n inside (subst (λ l. Contains l n) (sym (alike i t s e).moves) move)
 
-  pub reaches : (passes : Kind → Bool) (n : ℕ) (a : Touch) → Contains (touches (turn_of there n).step) a → passes a.kind ≡ true → Reaches passes i list (group_in (turn_of there n)) a.addr
+  pub reaches : (passes : Kind → Bool) (n : ℕ) (a : AccessValue) → Contains (touches (turn_of there n).step) a → passes a.kind ≡ true → Reaches passes i list (group_in (turn_of there n)) a.addr
   reaches passes n a made kind = record {
     turn = record { schedule = t; item = n };
     explored = move_of n (touching_moves there n a made);

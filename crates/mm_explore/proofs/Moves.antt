@@ -12,7 +12,7 @@ use Rattle.std.specs.Cmp.{unsigned_tied}
 use Rattle.std.proofs.lemmas.Cmp.{nat_cmp_total}
 use Rattle.std.proofs.lemmas.Bool.{cases_eq, ne_eqb}
 use Rattle.mm_word.specs.declared.word.Cell.{Cell}
-use Rattle.mm_word.specs.Access.{Touch}
+use Rattle.mm_word.specs.Access.{AccessValue}
 use Rattle.mm_model.specs.declared.step.Step.{Step}
 use Rattle.mm_model.specs.Memory.{Memory, page_of, place_of, page_at, cell_at, put_cell, put_in, is_mapped, can_map, map_page, unmap_page, zero_page, IsPaged}
 use Rattle.mm_model.specs.State.{Core, State}
@@ -102,10 +102,10 @@ removed_less m p is = by (page_at m p) refl
 
 -- 2. The memory after a turn.
 
-written : (touched : Option Touch) (a : Touch) → touched ≡ Some a → writes a.kind ≡ true → word_written touched ≡ Some a.addr
+written : (touched : Option AccessValue) (a : AccessValue) → touched ≡ Some a → writes a.kind ≡ true → word_written touched ≡ Some a.addr
 written touched a is kind = ap word_written is ∙ ap (λ b. if b then Some a.addr else None) kind
 
-pub moved : (m later : Memory) (touched : Option Touch) → IsPaged m → IfSome (word_written touched) (λ w. w % 8 ≡ 0) → MemoryMoves m later touched → IsMoved m later (word_written touched)
+pub moved : (m later : Memory) (touched : Option AccessValue) → IsPaged m → IfSome (word_written touched) (λ w. w % 8 ≡ 0) → MemoryMoves m later touched → IsMoved m later (word_written touched)
 moved m later touched h a (Stays e) = record { pages = λ long. ap (λ (n : Memory). page_numbers n.pages) e; cells = λ long v beside. ap (λ (n : Memory). cell_at n v) e }
 moved m later touched h a (Writes w) =
     let word = written touched w.access w.is w.kind in

@@ -4,7 +4,7 @@ use Rattle.std.proofs.Common.{◌∷◌, ◌++◌, map, length, refl, sym, ap, �
 use Rattle.std.specs.Prelude.{◌==◌, unwrap_or, Option}
 use Rattle.std.specs.List.{AllByRecursion, flat_map}
 use lib.Pointwise.{pointwise, pointwise_decides}
-use Rattle.mm_model.proofs.ImageBytes.SpelledRecords.{is_spelled}
+use Rattle.mm_model.proofs.Bytes.SpelledRecords.{is_spelled}
 use Rattle.mm_model.proofs.OneIf.{below_two, one_back}
 use Rattle.mm_explore.proofs.Finals.{numbers_decide}
 use Rattle.mm_word.specs.declared.cause.Cause.{Cause}

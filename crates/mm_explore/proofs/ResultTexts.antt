@@ -6,7 +6,7 @@ use Rattle.std.proofs.lemmas.Option.{slice_get_within}
 use Rattle.std.specs.List.{AllByRecursion, AllZip, flat_map}
 use Rattle.mm_word.specs.Cause.{cause_numbers}
 use Rattle.mm_word.specs.declared.perm.Kind.{Kind}
-use Rattle.mm_word.specs.Access.{Touch}
+use Rattle.mm_word.specs.Access.{AccessValue}
 use Rattle.mm_model.specs.Image.{Image, start}
 use Rattle.mm_model.specs.Report.{groups_of}
 use Rattle.mm_model.specs.Slot.{Slot}
@@ -26,11 +26,11 @@ use Rattle.mm_model.specs.Counted.{writes}
 
 module _ (passes : Kind → Bool) where
   -- what is among the words of an access
-  record Passed (group : ℕ) (access : Touch) (key : ℕ × ℕ) : Type 0 where
+  record Passed (group : ℕ) (access : AccessValue) (key : ℕ × ℕ) : Type 0 where
     kind : passes access.kind ≡ true
     is : let k : ℕ × ℕ = (group, access.addr) in k ≡ key
 
-  passed_in : (group : ℕ) (access : Touch) (key : ℕ × ℕ) → Contains (passed_words passes group access) key → Passed group access key
+  passed_in : (group : ℕ) (access : AccessValue) (key : ℕ × ℕ) → Contains (passed_words passes group access) key → Passed group access key
   passed_in group access key there = by (passes access.kind) refl there
     where
       by : (b : Bool) → passes access.kind ≡ b → Contains {X = ℕ × ℕ} (if b then (group, access.addr) ∷ [] else []) key → Passed group access key
@@ -40,7 +40,7 @@ module _ (passes : Kind → Bool) where
       ]
       by false e inside = absurd (none_in key inside)
 
-  in_passed : (group : ℕ) (access : Touch) → passes access.kind ≡ true → Contains {X = ℕ × ℕ} (passed_words passes group access) (group, access.addr)
+  in_passed : (group : ℕ) (access : AccessValue) → passes access.kind ≡ true → Contains {X = ℕ × ℕ} (passed_words passes group access) (group, access.addr)
   in_passed group access e =
       let key : ℕ × ℕ = (group, access.addr) in
       subst (λ (b : Bool). Contains {X = ℕ × ℕ} (if b then key ∷ [] else []) key) (sym e) (in_first key [])

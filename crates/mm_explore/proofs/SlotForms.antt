@@ -5,7 +5,7 @@ use Rattle.std.proofs.Common.{subst, arith, eqb-true, append_assoc}
 use Rattle.std.specs.Prelude.{◌==◌, replicate}
 use Rattle.std.specs.List.{AllByRecursion, flat_map, list_any}
 use Rattle.std.proofs.lemmas.Bool.{le-ltb, cond-false, ne_eqb, and_parts, not-true}
-use Rattle.mm_model.proofs.ImageBytes.Apart.{number_of_flags-below}
+use Rattle.mm_model.proofs.Bytes.Apart.{number_of_flags-below}
 use Rattle.mm_model.proofs.Sames.{bits_same, words_same}
 use Rattle.mm_model.proofs.OneIf.{below_two, one_back}
 use Rattle.mm_word.specs.declared.word.Word.{Word}

@@ -17,7 +17,7 @@ use Rattle.mm_machine.specs.Snapshot.{queued, page_numbers}
 use Rattle.mm_machine.proofs.Starting.{at_most_64, slots_made}
 use Rattle.mm_thread.specs.Output.{Output}
 use Rattle.mm_thread.specs.Parts.{core_of, AreParts}
-use Rattle.mm_thread.specs.Places.{row_alone}
+use Rattle.mm_thread.specs.SlotIndices.{row_alone}
 use Rattle.mm_explore.specs.Assembled.{IsStateOf}
 use Rattle.mm_explore.specs.Configurations.{uncounted_slot, uncounted_row, uncounted, configuration}
 use Rattle.mm_explore.specs.Explored.{leads_to}

@@ -9,7 +9,7 @@ use Rattle.mm_word.specs.declared.word.Post.{Post}
 use Rattle.mm_word.specs.declared.word.Word.{Word}
 use Rattle.mm_word.specs.declared.word.Word.TheVariants.{Int, Ptr}
 use Rattle.mm_word.specs.declared.word.Cell.{Cell}
-use Rattle.mm_word.specs.Access.{Touch}
+use Rattle.mm_word.specs.Access.{AccessValue}
 use Rattle.mm_word.specs.Word.{word_bits}
 use Rattle.mm_word.specs.Pointer.{Pointer, lea_result, leab_result, restrict_result, subseg_result, setptr_result, next_result, enter_result}
 use Rattle.mm_isa.specs.declared.instr.DivZero.{DivZero}
@@ -37,7 +37,7 @@ use Rattle.mm_model.specs.Effect.{Reply, Change, Effect, effect, delivers, deliv
 use Rattle.mm_model.specs.Effect.{if_pointer, puts_out, loaded, stored, at_distance, branches, jumps, links, takes}
 use Rattle.mm_model.specs.Effect.{resumed_by, resumes, reads_of, writes_of, maps, unmaps, plain}
 use Rattle.mm_model.specs.Effect.Reply.{Fine, Refused, Got, Paged, NoEvent, Took, Served}
-use Rattle.mm_model.specs.Effect.Effect.{Fault, Block, Deliver, Does}
+use Rattle.mm_model.specs.Effect.Effect.{Fault, Block, Deliver, Do}
 use Rattle.mm_model.specs.Turn.{Turned, reached, event_reply, first_event, is_handler, is_taken, served}
 use Rattle.mm_model.specs.Turn.{reply, put_all, state_after, slot_after, with_issue, with_other, with_queue, with_out}
 use Rattle.mm_model.specs.Turn.{core_after, memory_after, stood, is_sync, event_of, core_faulted, faulted, touch_of}
@@ -159,10 +159,10 @@ abbrev pub uncounted_effect : Effect → Effect
 uncounted_effect (Fault c) = Fault c
 uncounted_effect Block = Block
 uncounted_effect (Deliver other) = Deliver (uncounted_slot other)
-uncounted_effect (Does c) = Does (record c { other = uncounted_one c.other })
+uncounted_effect (Do c) = Do (record c { other = uncounted_one c.other })
 
 module _ (core : Core) (m : Memory) where
-  reached_so : (a : Touch) (pre : Pre) (o : Option Cell) → reached a pre o ≡ uncounted_reply (reached a pre o)
+  reached_so : (a : AccessValue) (pre : Pre) (o : Option Cell) → reached a pre o ≡ uncounted_reply (reached a pre o)
   reached_so a pre None = refl
   reached_so a pre (Some c) = by (passes pre c.full)
     where
@@ -245,7 +245,7 @@ module _ (s : Slot) where
   out_so byte Fine = refl
   out_so byte _ = refl
 
-  loaded_by : (split : Bool) (rd : ℕ) (post : Post) (a : Touch) (c : Cell) → SameEffect (loaded split s rd post (Got a c)) (loaded split u rd post (Got a c))
+  loaded_by : (split : Bool) (rd : ℕ) (post : Post) (a : AccessValue) (c : Cell) → SameEffect (loaded split s rd post (Got a c)) (loaded split u rd post (Got a c))
   unfolding plain
   loaded_by true rd post a c = refl
   loaded_by false rd post a c = refl
@@ -282,7 +282,7 @@ module _ (s : Slot) where
 
   resumes_so : (how : How) (r : Reply) → SameEffect (resumes s how r) (resumes u how (uncounted_reply r))
   unfolding plain
-  resumes_so how (Served of) = ap (λ (o : Slot). Does (record (plain s) { other = Some o })) (resumed_so how of)
+  resumes_so how (Served of) = ap (λ (o : Slot). Do (record (plain s) { other = Some o })) (resumed_so how of)
   resumes_so how _ = refl
 
   reads_so : (split : Bool) (rd reg : ℕ) (r : Reply) → SameEffect (reads_of split s rd reg r) (reads_of split u rd reg (uncounted_reply r))
@@ -293,7 +293,7 @@ module _ (s : Slot) where
   reads_so split rd reg _ = refl
 
   abbrev writes_other : Slot → Slot → ℕ → Word → Effect
-  writes_other s of reg w = Does (record (plain s) { other = Some (record of { regs = slice_set of.regs reg w }) })
+  writes_other s of reg w = Do (record (plain s) { other = Some (record of { regs = slice_set of.regs reg w }) })
 
   writes_so : (split : Bool) (reg : ℕ) (w : Word) (r : Reply) → SameEffect (writes_of split s reg w r) (writes_of split u reg w (uncounted_reply r))
   unfolding plain is_empty register
@@ -331,9 +331,9 @@ module _ (s : Slot) where
   effect_so split (St ra rb pre post imm) r = stored_so (register s rb) post r
   effect_so split (Br imm) r = branches_so (at_distance s imm)
   effect_so split (Bz ra imm) r =
-      either (word_bits (register s ra) == 0) (branches s (at_distance s imm)) (branches u (at_distance s imm)) (Does (plain s)) (Does (plain u)) (branches_so (at_distance s imm)) refl
+      either (word_bits (register s ra) == 0) (branches s (at_distance s imm)) (branches u (at_distance s imm)) (Do (plain s)) (Do (plain u)) (branches_so (at_distance s imm)) refl
   effect_so split (Bnz ra imm) r =
-      either (word_bits (register s ra) == 0) (Does (plain s)) (Does (plain u)) (branches s (at_distance s imm)) (branches u (at_distance s imm)) refl (branches_so (at_distance s imm))
+      either (word_bits (register s ra) == 0) (Do (plain s)) (Do (plain u)) (branches s (at_distance s imm)) (branches u (at_distance s imm)) refl (branches_so (at_distance s imm))
   effect_so split (Jmp ra) r = if_pointer_so (register s ra) _ _ (λ p. jumps_so p (enter_result p))
   effect_so split (Jal rd ra) r = if_pointer_so (register s ra) _ _ (λ p. links_so rd p (enter_result p) (next_result s.ip))
   effect_so split (Lip rd imm) r = pointer_so rd (at_distance s imm)
@@ -421,7 +421,7 @@ module _ (core : Core) (m : Memory) where
       by true = put_same core c' (stood s Running) (stood (uncounted_slot s) Running) self refl
       by false = put_same core c' (stood s (Halted (Some e.cause))) (stood (uncounted_slot s) (Halted (Some e.cause))) self refl
 
-  fault_so : (s : Slot) (c : Cause) (a w : Word) (f t : Option Touch) (us : List Use) → SameTurn (faulted core m s c a w f t us) (faulted c' m (uncounted_slot s) c a w f t us)
+  fault_so : (s : Slot) (c : Cause) (a w : Word) (f t : Option AccessValue) (us : List Use) → SameTurn (faulted core m s c a w f t us) (faulted c' m (uncounted_slot s) c a w f t us)
   unfolding faulted event_of
   fault_so s c a w f t us = ap (λ (k : Core). record (faulted core m s c a w f t us) { core = k }) (fault_core s (event_of s c a w) s.handler)
 
@@ -461,19 +461,19 @@ module _ (core : Core) (m : Memory) where
       (queues_so a b s.number c.queue
       (put_same (with_other core c.other) (with_other c' (uncounted_one c.other)) (slot_after s c) (slot_after s' c) (others_so c.other) (after_so s c)))
 
-  block_so : (s : Slot) (f : Touch) (t : Option Touch) (us : List Use) → SameTurn (blocked core m s f t us) (blocked c' m (uncounted_slot s) f t us)
+  block_so : (s : Slot) (f : AccessValue) (t : Option AccessValue) (us : List Use) → SameTurn (blocked core m s f t us) (blocked c' m (uncounted_slot s) f t us)
   unfolding blocked
   block_so s f t us =
       ap (λ (k : Core). record (blocked core m s f t us) { core = k }) (put_same core c' (stood s Running) (stood (uncounted_slot s) Running) self refl)
 
-  deliver_so : (s other : Slot) (f : Touch) (t : Option Touch) (us : List Use)
+  deliver_so : (s other : Slot) (f : AccessValue) (t : Option AccessValue) (us : List Use)
       → SameTurn (blocked (put_slot core other) m s f t us) (blocked (put_slot c' (uncounted_slot other)) m (uncounted_slot s) f t us)
   unfolding blocked
   deliver_so s other f t us =
       ap (λ (k : Core). record (blocked core m s f t us) { core = k })
       (put_same (put_slot core other) (put_slot c' (uncounted_slot other)) (stood s Running) (stood (uncounted_slot s) Running) (stands_so other) refl)
 
-  end_bare : (s : Slot) (i : Instr) (f : Touch) (t : Option Touch) (us : List Use) (y : Effect)
+  end_bare : (s : Slot) (i : Instr) (f : AccessValue) (t : Option AccessValue) (us : List Use) (y : Effect)
       → SameTurn (ended core m s i f t us y) (ended c' m (uncounted_slot s) i f t us (uncounted_effect y))
   unfolding ended memory_after
   end_bare s i f t us (Fault c) =
@@ -482,13 +482,13 @@ module _ (core : Core) (m : Memory) where
       ∙ ap (λ w. uncounted_turn (faulted c' m (uncounted_slot s) c (addr_operand i (uncounted_slot s)) w (Some f) t us)) (sym (value_so s i))
   end_bare s i f t us Block = block_so s f t us
   end_bare s i f t us (Deliver other) = deliver_so s other f t us
-  end_bare s i f t us (Does c) = ap (λ (k : Core). record (ended core m s i f t us (Does c)) { core = k }) (change_core s c)
+  end_bare s i f t us (Do c) = ap (λ (k : Core). record (ended core m s i f t us (Do c)) { core = k }) (change_core s c)
 
 module _ (core : Core) (m : Memory) where
   abbrev c'' : Core
   c'' = uncounted core
 
-  end_so : (s : Slot) (i : Instr) (f : Touch) (t : Option Touch) (us : List Use) (y z : Effect) → SameEffect y z
+  end_so : (s : Slot) (i : Instr) (f : AccessValue) (t : Option AccessValue) (us : List Use) (y z : Effect) → SameEffect y z
       → SameTurn (ended core m s i f t us y) (ended c'' m (uncounted_slot s) i f t us z)
   end_so s i f t us y z e =
       let s' = uncounted_slot s in
@@ -497,7 +497,7 @@ module _ (core : Core) (m : Memory) where
       ∙ ap (λ k. uncounted_turn (ended k m s' i f t us (uncounted_effect z))) (sym (uncounted_again core))
       ∙ sym (end_bare c'' m s' i f t us z)
 
-  execute_so : (s : Slot) (f : Touch) (w : Use) (i : Instr) → SameTurn (executed core m s f w i) (executed c'' m (uncounted_slot s) f w i)
+  execute_so : (s : Slot) (f : AccessValue) (w : Use) (i : Instr) → SameTurn (executed core m s f w i) (executed c'' m (uncounted_slot s) f w i)
   unfolding executed
   execute_so s f w i =
       let s' = uncounted_slot s in
@@ -507,7 +507,7 @@ module _ (core : Core) (m : Memory) where
       ∙ ap (λ r. uncounted_turn (ended c'' m s' i f (touch_of asked) (w ∷ asked_use m asked) (effect core.split i s' r))) (sym (reply_so core m s.number asked))
       ∙ ap (λ a. uncounted_turn (ended c'' m s' i f (touch_of a) (w ∷ asked_use m a) (effect core.split i s' (reply c'' m s.number a)))) (sym (ask_so s i))
 
-  waits_so : (s : Slot) (f : Touch) (us : List Use) → SameTurn (blocked core m (delivered s) f None us) (blocked c'' m (delivered (uncounted_slot s)) f None us)
+  waits_so : (s : Slot) (f : AccessValue) (us : List Use) → SameTurn (blocked core m (delivered s) f None us) (blocked c'' m (delivered (uncounted_slot s)) f None us)
   waits_so s f us =
       block_so core m (delivered s) f None us
       ∙ ap (λ x. uncounted_turn (blocked c'' m x f None us)) (delivered_so s)

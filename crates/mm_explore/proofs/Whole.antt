@@ -9,7 +9,7 @@ use Rattle.mm_model.specs.Image.{Image}
 use Rattle.mm_model.specs.Slot.{Slot, register, is_empty}
 use Rattle.mm_model.specs.Spelling.{numbers_of, IsOther, IsImage}
 use Rattle.mm_model.specs.State.{ThreadRow, Core, State, slot_at, queue_at, output_of}
-use Rattle.mm_model.specs.Fits.{IsSlot, slots_of, IsFormed, LoadsMatch, events_of, waits_for, WaitsForSome, Matches, identity_of, IsAtSlot, LoadsAreKept, TakenBySome, IsKept, IsOfVersion, IsCore}
+use Rattle.mm_model.specs.Fits.{IsSlot, slots_of, IsFormed, LoadsMatch, events_of, waits_for, WaitsForSome, Matches, identity_of, IsAtSlot, LoadsAreConsistent, TakenBySome, IsConsistent, IsOfVersion, IsCore}
 use Rattle.mm_model.proofs.CoreRows.{each_map}
 use Rattle.mm_model.proofs.Fitted.{core_of as core_of_state}
 use Rattle.mm_thread.specs.Output.{Output}
@@ -82,13 +82,13 @@ module _ (core : Core) where
     loads = each_bare LoadsMatch LoadsMatch (λ s x. record { each = x.each }) core.rows h.loads;
   }
 
-  kept_bare : IsKept core → IsKept (uncounted core)
+  kept_bare : IsConsistent core → IsConsistent (uncounted core)
   unfolding output_of register is_empty
   kept_bare h = record {
     in_place = λ q. subst (AllByRecursion (IsAtSlot (uncounted core))) (sym (queue_at_so core q))
         (each_map (IsAtSlot core) (IsAtSlot (uncounted core))
         (λ e x. subst (λ (o : Option Slot). IfSome o (λ s. e.ip ≡ s.ip)) (sym (slot_at_so core e.slot)) (at_bare e (slot_at core e.slot) x)) (queue_at core q) (h.in_place q));
-    loads = each_bare (LoadsAreKept core.split) (LoadsAreKept core.split) (λ s x. record { zero = x.zero; mode = x.mode }) core.rows h.loads;
+    loads = each_bare (LoadsAreConsistent core.split) (LoadsAreConsistent core.split) (λ s x. record { zero = x.zero; mode = x.mode }) core.rows h.loads;
     taken = each_bare TakenBySome TakenBySome (λ s x. x) core.rows h.taken;
     within = h.within;
     silent = λ g none. h.silent g (sym (group_bare g core.rows) ∙ none);

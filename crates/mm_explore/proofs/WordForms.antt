@@ -5,7 +5,7 @@ use Rattle.std.proofs.Common.{append_assoc}
 use Rattle.std.specs.Prelude.{◌==◌}
 use Rattle.std.specs.List.{AllByRecursion, flat_map}
 use Rattle.mm_model.proofs.Sames.{words_same}
-use Rattle.mm_model.proofs.ImageBytes.SpelledRecords.{is_spelled}
+use Rattle.mm_model.proofs.Bytes.SpelledRecords.{is_spelled}
 use Rattle.mm_model.proofs.OneIf.{one_back}
 use Rattle.mm_word.specs.declared.word.Word.{Word}
 use Rattle.mm_word.specs.declared.word.Word.TheVariants.{Int, Ptr}

@@ -17,7 +17,7 @@ use Rattle.mm_explore.specs.Words.{order, AreKept, IsWordKey, words_in, passed_w
 use Rattle.std.specs.Option.{option_to_list}
 use Rattle.std.proofs.lemmas.Grind.{flat_map-append}
 use Rattle.mm_word.specs.declared.perm.Kind.{Kind}
-use Rattle.mm_word.specs.Access.{Touch}
+use Rattle.mm_word.specs.Access.{AccessValue}
 use Rattle.mm_model.specs.declared.step.Step.{Step}
 use Rattle.mm_explore.specs.Findings.{any_kind}
 use Rattle.mm_explore.proofs.Members.{none_in, in_first, in_rest, in_cases, all_at, all_of}
@@ -136,10 +136,10 @@ words_up group (key ∷ keys) h = by (words_up group keys (sorted_tail order key
 
 -- 3. The words of a step.
 
-pub passed_all : (group : ℕ) (a : Touch) (o : Option Touch) → o ≡ Some a → flat_map (passed_words any_kind group) (option_to_list o) ≡ (group, a.addr) ∷ []
+pub passed_all : (group : ℕ) (a : AccessValue) (o : Option AccessValue) → o ≡ Some a → flat_map (passed_words any_kind group) (option_to_list o) ≡ (group, a.addr) ∷ []
 passed_all group a o e = ap (λ o. flat_map (passed_words any_kind group) (option_to_list o)) e
 
-pub passed_if : (group : ℕ) (a : Touch) (o : Option Touch) (b : Bool) → o ≡ Some a → writes a.kind ≡ b
+pub passed_if : (group : ℕ) (a : AccessValue) (o : Option AccessValue) (b : Bool) → o ≡ Some a → writes a.kind ≡ b
     → flat_map (passed_words writes group) (option_to_list o) ≡ (if b then (group, a.addr) ∷ [] else [])
 passed_if group a o b is kind =
     ap (λ o. flat_map (passed_words writes group) (option_to_list o)) is

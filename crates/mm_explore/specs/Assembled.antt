@@ -6,7 +6,7 @@ use Rattle.mm_model.specs.Memory.{Memory, page_at, put_cell}
 use Rattle.mm_model.specs.State.{State}
 use Rattle.mm_model.specs.Image.{Image}
 use Rattle.mm_model.specs.Report.{cells_or_zero}
-use Rattle.mm_model.specs.Fits.{IsState, Fits, IsKept}
+use Rattle.mm_model.specs.Fits.{IsState, Fits, IsConsistent}
 use Rattle.mm_thread.specs.Parts.{core_of}
 use Rattle.mm_explore.specs.Kept.{Parts}
 
@@ -34,6 +34,6 @@ assembled i p = record {
 pub record IsStateOf (i : Image) (s : State) : Type 0 where
   pub state : IsState s
   pub fits : Fits i s
-  pub kept : IsKept s.core
+  pub kept : IsConsistent s.core
   -- outputs are bytes
   pub bytes : AllByRecursion (λ output. AllByRecursion (λ byte. byte < 256) output) s.core.outputs

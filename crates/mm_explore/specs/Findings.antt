@@ -4,7 +4,7 @@ use Rattle.std.specs.Prelude.{[], ◌∷◌, ◌++◌, map, Contains, Option, So
 use Rattle.std.specs.List.{AllByRecursion, find, flat_map, list_any, count_by}
 use lib.Pointwise.{pointwise}
 use Rattle.mm_word.specs.declared.perm.Kind.{Kind}
-use Rattle.mm_word.specs.Access.{Touch}
+use Rattle.mm_word.specs.Access.{AccessValue}
 use Rattle.mm_word.specs.Cause.{number_of}
 use Rattle.mm_model.specs.declared.slot.SlotState.{SlotState}
 use Rattle.mm_model.specs.declared.slot.SlotState.TheVariants.{Running, Waiting, Taken, Halted}
@@ -54,7 +54,7 @@ any_kind kind = true
 pub record Reaches (passes : Kind → Bool) (i : Image) (list : List (List ℕ)) (group word : ℕ) : Type 0 where
   pub turn : Extension
   pub explored : Contains (explored_turns i list) turn
-  pub access : Touch
+  pub access : AccessValue
   pub made : Contains (touches (turn_at i turn).step) access
   pub kind : passes access.kind ≡ true
   pub by : group_in (turn_at i turn) ≡ group

@@ -4,7 +4,7 @@ use Rattle.std.specs.List.{AllByRecursion}
 use Rattle.std.specs.Option.{option_map}
 use lib.Pointwise.{pointwise}
 use Rattle.mm_word.specs.declared.word.Cell.{Cell}
-use Rattle.mm_word.specs.Access.{Touch}
+use Rattle.mm_word.specs.Access.{AccessValue}
 use Rattle.mm_model.specs.Image.{Image}
 use Rattle.mm_model.specs.Memory.{Memory, cell_at, IsPaged}
 use Rattle.mm_model.specs.Report.{changes}
@@ -46,7 +46,7 @@ pub record IsHolding (i : Image) (m : Memory) (h : Held) : Type 0 where
   pub spent : h.mem.uses ≤ h.spent
 
 -- the word of a cell that an access may have written
-abbrev pub word_written : Option Touch → Option ℕ
+abbrev pub word_written : Option AccessValue → Option ℕ
 word_written None = None
 word_written (Some a) = if writes a.kind then Some a.addr else None
 

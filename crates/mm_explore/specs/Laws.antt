@@ -1,6 +1,6 @@
 -- What holds of every exploration.
 use Rattle.std.specs.Prelude.{◌≡◌, ◌↔◌, ℕ, true, List, [], ◌∷◌, ◌++◌, Contains, Some, IsSome}
-use Rattle.mm_word.specs.Access.{Touch}
+use Rattle.mm_word.specs.Access.{AccessValue}
 use Rattle.mm_model.specs.State.{State}
 use Rattle.mm_model.specs.Image.{Image, start}
 use Rattle.mm_model.specs.Spelling.{IsImage}
@@ -42,9 +42,9 @@ pub record IsFound (i : Image) (list : List (List ℕ)) (s : List ℕ) : Type 0 
   -- the run's configuration has its least schedule in the list
   pub least : (t : List ℕ) × Contains list t × IsLeast i t × (leads_to i t ≡ leads_to i s)
   -- each access is on a word that its slot's group touched, and wrote if the access writes
-  pub touched : (item : ℕ) (a : Touch) → Contains (touches (turn_of (run (start i) s) item).step) a
+  pub touched : (item : ℕ) (a : AccessValue) → Contains (touches (turn_of (run (start i) s) item).step) a
       → Reaches any_kind i list (group_in (turn_of (run (start i) s) item)) a.addr
-  pub wrote : (item : ℕ) (a : Touch) → Contains (touches (turn_of (run (start i) s) item).step) a
+  pub wrote : (item : ℕ) (a : AccessValue) → Contains (touches (turn_of (run (start i) s) item).step) a
       → writes a.kind ≡ true → Reaches writes i list (group_in (turn_of (run (start i) s) item)) a.addr
   -- each fault is found
   pub fault : (item slot cause : ℕ) → has_fault slot cause (turn_of (run (start i) s) item).step ≡ true

@@ -5,7 +5,7 @@ use Rattle.std.specs.List.{AllByRecursion, flat_map}
 use Rattle.std.specs.Ordering.{nat_cmp, ordering_then}
 use Rattle.std.specs.declared.cmp.Ordering.{Ordering}
 use Rattle.mm_word.specs.declared.perm.Kind.{Kind}
-use Rattle.mm_word.specs.Access.{Touch}
+use Rattle.mm_word.specs.Access.{AccessValue}
 use Rattle.mm_model.specs.declared.step.Step.{Step}
 use Rattle.mm_model.specs.Image.{Image}
 use Rattle.mm_model.specs.Trace.{touches, group_in}
@@ -17,7 +17,7 @@ abbrev pub order : ℕ × ℕ → ℕ × ℕ → Ordering
 order a b = ordering_then (nat_cmp a.0 b.0) (nat_cmp a.1 b.1)
 
 -- the word of an access of a group, if its kind passes
-abbrev pub passed_words : (Kind → Bool) → ℕ → Touch → List (ℕ × ℕ)
+abbrev pub passed_words : (Kind → Bool) → ℕ → AccessValue → List (ℕ × ℕ)
 passed_words passes group access = if passes access.kind then (group, access.addr) ∷ [] else []
 
 -- the words of the accesses of a step of a group

@@ -3,7 +3,7 @@
 ghost use Rattle.std.specs.Prelude.{◌≡◌, ◌≤◌, ◌++◌, codes, decimal, length};
 ghost use Rattle.std.specs.List.{flat_map};
 ghost use Rattle.mm_io.specs.Sinks.{Writes};
-ghost use Rattle.mm_text.specs.Gathers.{Gathers};
+ghost use Rattle.mm_text.specs.Appends.{Appends};
 ghost use Rattle.mm_explore.specs.Repeats.{leading as leading_of};
 ghost use Rattle.mm_explore.specs.Results.{explored_text, group_found_lines, fault_found_lines, outcome_found_lines};
 ghost use Rattle.mm_explore.specs.Results.{state_found_line, output_text};
@@ -15,7 +15,7 @@ use crate::reached::{GroupFound, Span};
 use mm_io::{Sink, WriteFault};
 use mm_model::SlotState;
 use mm_text::Piece::{Decimal, HexAddress, Text};
-use mm_text::{Gather, put_output, put_state};
+use mm_text::{TextBuffer, put_output, put_state};
 use mm_thread::Output;
 
 /// Writes the text of an exploration:
@@ -33,7 +33,7 @@ use mm_thread::Output;
 pub fn write_explored<O: Sink>(e: &Explored, out: &mut O) -> Result<(), WriteFault>
     ensures { Writes O.taken O.faults out.old out.new (explored_text e.now) result }
 {
-    let mut text = Gather::new();
+    let mut text = TextBuffer::new();
     put_extent(&mut text, out, e.count, e.all);
     put_groups(&mut text, out, &e.groups);
     put_faults(&mut text, out, &e.faults);
@@ -42,8 +42,8 @@ pub fn write_explored<O: Sink>(e: &Explored, out: &mut O) -> Result<(), WriteFau
 }
 
 /// Appends the first line: `explored N all`, or `explored N more` if not all configurations were met.
-fn put_extent<O: Sink>(text: &mut Gather, out: &mut O, count: u64, all: bool)
-    ensures { Gathers O.taken O.faults out.old out.new text.old text.new
+fn put_extent<O: Sink>(text: &mut TextBuffer, out: &mut O, count: u64, all: bool)
+    ensures { Appends O.taken O.faults out.old out.new text.old text.new
         (codes "explored " ++ decimal count ++ extent_text all) }
 {
     let extent = if all { " all\n" } else { " more\n" };
@@ -53,8 +53,8 @@ fn put_extent<O: Sink>(text: &mut Gather, out: &mut O, count: u64, all: bool)
 // 1. Words.
 
 /// Appends the lines of groups.
-fn put_groups<O: Sink>(text: &mut Gather, out: &mut O, groups: &[GroupFound])
-    ensures { Gathers O.taken O.faults out.old out.new text.old text.new (flat_map group_found_lines groups.now) }
+fn put_groups<O: Sink>(text: &mut TextBuffer, out: &mut O, groups: &[GroupFound])
+    ensures { Appends O.taken O.faults out.old out.new text.old text.new (flat_map group_found_lines groups.now) }
 {
     for group in groups {
         put_group(text, out, group);
@@ -62,8 +62,8 @@ fn put_groups<O: Sink>(text: &mut Gather, out: &mut O, groups: &[GroupFound])
 }
 
 /// Appends the lines of a group: its number, and the words that it touched and wrote.
-fn put_group<O: Sink>(text: &mut Gather, out: &mut O, group: &GroupFound)
-    ensures { Gathers O.taken O.faults out.old out.new text.old text.new (group_found_lines group.now) }
+fn put_group<O: Sink>(text: &mut TextBuffer, out: &mut O, group: &GroupFound)
+    ensures { Appends O.taken O.faults out.old out.new text.old text.new (group_found_lines group.now) }
 {
     text.put_number(out, "group ", group.group as u64, "\n");
     put_spans(text, out, "touched ", &group.touched);
@@ -71,8 +71,8 @@ fn put_group<O: Sink>(text: &mut Gather, out: &mut O, group: &GroupFound)
 }
 
 /// Appends a line for each run of words, after `touched ` or `wrote `.
-fn put_spans<O: Sink>(text: &mut Gather, out: &mut O, verb: &str, spans: &[Span])
-    ensures { Gathers O.taken O.faults out.old out.new text.old text.new (flat_map (word_line verb.now) spans.now) }
+fn put_spans<O: Sink>(text: &mut TextBuffer, out: &mut O, verb: &str, spans: &[Span])
+    ensures { Appends O.taken O.faults out.old out.new text.old text.new (flat_map (word_line verb.now) spans.now) }
 {
     for span in spans {
         put_span(text, out, verb, span);
@@ -80,8 +80,8 @@ fn put_spans<O: Sink>(text: &mut Gather, out: &mut O, verb: &str, spans: &[Span]
 }
 
 /// Appends the line of a run of words: a verb, the address of the first, and their count.
-fn put_span<O: Sink>(text: &mut Gather, out: &mut O, verb: &str, span: &Span)
-    ensures { Gathers O.taken O.faults out.old out.new text.old text.new (word_line verb.now span.now) }
+fn put_span<O: Sink>(text: &mut TextBuffer, out: &mut O, verb: &str, span: &Span)
+    ensures { Appends O.taken O.faults out.old out.new text.old text.new (word_line verb.now span.now) }
 {
     text.put(
         out,
@@ -98,8 +98,8 @@ fn put_span<O: Sink>(text: &mut Gather, out: &mut O, verb: &str, span: &Span)
 // 2. Faults.
 
 /// Appends the lines of faults.
-fn put_faults<O: Sink>(text: &mut Gather, out: &mut O, faults: &[FaultFound])
-    ensures { Gathers O.taken O.faults out.old out.new text.old text.new (flat_map fault_found_lines faults.now) }
+fn put_faults<O: Sink>(text: &mut TextBuffer, out: &mut O, faults: &[FaultFound])
+    ensures { Appends O.taken O.faults out.old out.new text.old text.new (flat_map fault_found_lines faults.now) }
 {
     for fault in faults {
         put_fault(text, out, fault);
@@ -107,8 +107,8 @@ fn put_faults<O: Sink>(text: &mut Gather, out: &mut O, faults: &[FaultFound])
 }
 
 /// Appends the lines of a fault: `fault SLOT NUMBER`, and the first schedule that meets it.
-fn put_fault<O: Sink>(text: &mut Gather, out: &mut O, fault: &FaultFound)
-    ensures { Gathers O.taken O.faults out.old out.new text.old text.new (fault_found_lines fault.now) }
+fn put_fault<O: Sink>(text: &mut TextBuffer, out: &mut O, fault: &FaultFound)
+    ensures { Appends O.taken O.faults out.old out.new text.old text.new (fault_found_lines fault.now) }
 {
     text.put(
         out,
@@ -126,8 +126,8 @@ fn put_fault<O: Sink>(text: &mut Gather, out: &mut O, fault: &FaultFound)
 // 3. Outcomes.
 
 /// Appends the lines of outcomes.
-fn put_outcomes<O: Sink>(text: &mut Gather, out: &mut O, outcomes: &[OutcomeFound])
-    ensures { Gathers O.taken O.faults out.old out.new text.old text.new (flat_map outcome_found_lines outcomes.now) }
+fn put_outcomes<O: Sink>(text: &mut TextBuffer, out: &mut O, outcomes: &[OutcomeFound])
+    ensures { Appends O.taken O.faults out.old out.new text.old text.new (flat_map outcome_found_lines outcomes.now) }
 {
     for outcome in outcomes {
         put_outcome(text, out, outcome);
@@ -135,8 +135,8 @@ fn put_outcomes<O: Sink>(text: &mut Gather, out: &mut O, outcomes: &[OutcomeFoun
 }
 
 /// Appends the lines of an outcome: how many schedules end so, the states, the outputs, and the first schedule.
-fn put_outcome<O: Sink>(text: &mut Gather, out: &mut O, outcome: &OutcomeFound)
-    ensures { Gathers O.taken O.faults out.old out.new text.old text.new (outcome_found_lines outcome.now) }
+fn put_outcome<O: Sink>(text: &mut TextBuffer, out: &mut O, outcome: &OutcomeFound)
+    ensures { Appends O.taken O.faults out.old out.new text.old text.new (outcome_found_lines outcome.now) }
 {
     put_end(text, out, outcome.count, outcome.ended);
     put_states(text, out, &outcome.states);
@@ -145,8 +145,8 @@ fn put_outcome<O: Sink>(text: &mut Gather, out: &mut O, outcome: &OutcomeFound)
 }
 
 /// Appends the first line of an outcome: `outcome N ended`, or `outcome N stuck` if there are moves left.
-fn put_end<O: Sink>(text: &mut Gather, out: &mut O, count: u64, ended: bool)
-    ensures { Gathers O.taken O.faults out.old out.new text.old text.new
+fn put_end<O: Sink>(text: &mut TextBuffer, out: &mut O, count: u64, ended: bool)
+    ensures { Appends O.taken O.faults out.old out.new text.old text.new
         (codes "outcome " ++ decimal count ++ end_text ended) }
 {
     let end = if ended { " ended\n" } else { " stuck\n" };
@@ -154,8 +154,8 @@ fn put_end<O: Sink>(text: &mut Gather, out: &mut O, count: u64, ended: bool)
 }
 
 /// Appends the lines of slots with their states.
-fn put_states<O: Sink>(text: &mut Gather, out: &mut O, states: &[(u8, SlotState)])
-    ensures { Gathers O.taken O.faults out.old out.new text.old text.new (flat_map state_found_line states.now) }
+fn put_states<O: Sink>(text: &mut TextBuffer, out: &mut O, states: &[(u8, SlotState)])
+    ensures { Appends O.taken O.faults out.old out.new text.old text.new (flat_map state_found_line states.now) }
 {
     for (slot, state) in states {
         put_state_line(text, out, *slot, *state);
@@ -163,8 +163,8 @@ fn put_states<O: Sink>(text: &mut Gather, out: &mut O, states: &[(u8, SlotState)
 }
 
 /// Appends the line of a slot with its state: `slot S STATE`.
-fn put_state_line<O: Sink>(text: &mut Gather, out: &mut O, slot: u8, state: SlotState)
-    ensures { Gathers O.taken O.faults out.old out.new text.old text.new (state_found_line (slot, state)) }
+fn put_state_line<O: Sink>(text: &mut TextBuffer, out: &mut O, slot: u8, state: SlotState)
+    ensures { Appends O.taken O.faults out.old out.new text.old text.new (state_found_line (slot, state)) }
 {
     text.put_number(out, "slot ", slot as u64, " ");
     put_state(text, out, state);
@@ -172,8 +172,8 @@ fn put_state_line<O: Sink>(text: &mut Gather, out: &mut O, slot: u8, state: Slot
 }
 
 /// Appends the lines of the groups' outputs.
-fn put_outputs<O: Sink>(text: &mut Gather, out: &mut O, outputs: &[Output])
-    ensures { Gathers O.taken O.faults out.old out.new text.old text.new (flat_map output_text outputs.now) }
+fn put_outputs<O: Sink>(text: &mut TextBuffer, out: &mut O, outputs: &[Output])
+    ensures { Appends O.taken O.faults out.old out.new text.old text.new (flat_map output_text outputs.now) }
 {
     for output in outputs {
         put_output_text(text, out, output);
@@ -181,8 +181,8 @@ fn put_outputs<O: Sink>(text: &mut Gather, out: &mut O, outputs: &[Output])
 }
 
 /// Appends the lines of a group's output: `group G output N`, and the bytes.
-fn put_output_text<O: Sink>(text: &mut Gather, out: &mut O, output: &Output)
-    ensures { Gathers O.taken O.faults out.old out.new text.old text.new (output_text output.now) }
+fn put_output_text<O: Sink>(text: &mut TextBuffer, out: &mut O, output: &Output)
+    ensures { Appends O.taken O.faults out.old out.new text.old text.new (output_text output.now) }
 {
     let bytes = output.bytes.as_slice();
     text.put(
@@ -202,8 +202,8 @@ fn put_output_text<O: Sink>(text: &mut Gather, out: &mut O, output: &Output)
 
 /// Appends the line of a schedule.
 #[tactic(auto, unfolding(crate::specs::Texts::by_line))]
-fn put_by<O: Sink>(text: &mut Gather, out: &mut O, items: &[u8])
-    ensures { Gathers O.taken O.faults out.old out.new text.old text.new (by_line items.now) }
+fn put_by<O: Sink>(text: &mut TextBuffer, out: &mut O, items: &[u8])
+    ensures { Appends O.taken O.faults out.old out.new text.old text.new (by_line items.now) }
 {
     text.put(out, &[Text("by")]);
     put_repeats(text, out, items);
@@ -224,8 +224,8 @@ fn leading(item: u8, items: &[u8]) -> usize
 }
 
 /// Appends the longest runs of equal items.
-fn put_repeats<O: Sink>(text: &mut Gather, out: &mut O, items: &[u8])
-    ensures { Gathers O.taken O.faults out.old out.new text.old text.new (flat_map repeat_text (repeats_of items.now)) }
+fn put_repeats<O: Sink>(text: &mut TextBuffer, out: &mut O, items: &[u8])
+    ensures { Appends O.taken O.faults out.old out.new text.old text.new (flat_map repeat_text (repeats_of items.now)) }
 {
     let mut at = 0;
     while at < items.len() {
@@ -238,8 +238,8 @@ fn put_repeats<O: Sink>(text: &mut Gather, out: &mut O, items: &[u8])
 }
 
 /// Appends an item, and how many times it comes if it comes more than once.
-fn put_repeat<O: Sink>(text: &mut Gather, out: &mut O, item: u8, count: u64)
-    ensures { Gathers O.taken O.faults out.old out.new text.old text.new
+fn put_repeat<O: Sink>(text: &mut TextBuffer, out: &mut O, item: u8, count: u64)
+    ensures { Appends O.taken O.faults out.old out.new text.old text.new
         (repeat_text (record { item = item; count = count })) }
 {
     text.put(out, &[Text(" "), Decimal(item as u64)]);
@@ -247,8 +247,8 @@ fn put_repeat<O: Sink>(text: &mut Gather, out: &mut O, item: u8, count: u64)
 }
 
 /// Appends `*` and the count; nothing for 1.
-fn put_count<O: Sink>(text: &mut Gather, out: &mut O, count: u64)
-    ensures { Gathers O.taken O.faults out.old out.new text.old text.new (count_text count) }
+fn put_count<O: Sink>(text: &mut TextBuffer, out: &mut O, count: u64)
+    ensures { Appends O.taken O.faults out.old out.new text.old text.new (count_text count) }
 {
     if count != 1 {
         text.put(out, &[Text("*"), Decimal(count)]);

@@ -11,7 +11,7 @@ use crate::flow::flow;
 use crate::forest::after;
 use crate::graph::Graph;
 use crate::node::{Node, Right};
-use crate::sharing::{kept, marks_above, propagate_shared, share};
+use crate::sharing::{mark_if, marks_above, propagate_shared, share};
 use crate::work::Work;
 use std::alloc::{AllocError, Global};
 use std::collections::VecDeque;
@@ -24,7 +24,7 @@ pub fn any(nodes: &[Node], marks: &[u64], right: Right) -> u64
     let mut all = 0;
     for k in 0..marks.len() {
         let node = nodes[k];
-        all |= kept(node, right, marks[k]);
+        all |= mark_if(node, right, marks[k]);
     }
     all
 }

@@ -8,7 +8,7 @@ use crate::node::{Node, Right};
 use std::alloc::{AllocError, Global};
 
 /// The node's mark if the node has the right, or else 0.
-pub fn kept(node: Node, right: Right, mark: u64) -> u64
+pub fn mark_if(node: Node, right: Right, mark: u64) -> u64
     ensures { result ≡ kept_mark (has_right right node) mark }
 {
     if node.has(right) { mark } else { 0 }
@@ -30,7 +30,7 @@ pub fn marks_above(
     let mut out = Vec::new(alloc);
     for k in 0..marks.len() {
         let node = nodes[k];
-        let own = kept(node, right, marks[k]);
+        let own = mark_if(node, right, marks[k]);
         let up = parents[k];
         let over = if up < k { out[up] } else { 0 };
         out.push(own | over)?;

@@ -6,8 +6,8 @@ use Rattle.std.proofs.lemmas.List.{take_all}
 use Rattle.mm_model.specs.Bytes.{IsBytes}
 use Rattle.mm_format.specs.declared.reader.ReadError.{ReadError}
 use Rattle.mm_format.specs.declared.reader.ReadError.TheVariants.{Fault, NoMemory}
-use Rattle.mm_format.specs.Formats.{Outcome, Format, IsFormat, IsSpelledAt, file, fault_in, RoundTrips, IsOneToOne}
-use Rattle.mm_format.specs.Formats.Outcome.{Got, Bad}
+use Rattle.mm_format.specs.Formats.{Parsed, Format, IsFormat, IsSpelledAt, file, fault_in, RoundTrips, IsOneToOne}
+use Rattle.mm_format.specs.Formats.Parsed.{Got, Bad}
 use Rattle.mm_format.specs.Reading.{Fails, AnswersFile, fault_named_by}
 use Rattle.mm_format.proofs.Formats.{after_got}
 
@@ -61,12 +61,12 @@ module _ {A : Type 0} where
   pub same_value : {a b : A} {m n : ℕ} → Got a m ≡ Got b n → a ≡ b
   same_value e = cc
 
-  pub clean_got : (o : Outcome A) → fault_in o ≡ None → (a : A) × (next : ℕ) × (o ≡ Got a next)
+  pub clean_got : (o : Parsed A) → fault_in o ≡ None → (a : A) × (next : ℕ) × (o ≡ Got a next)
   clean_got (Got a next) none = (a, next, refl)
   clean_got (Bad number at) none = absurd cc
 
 -- what a reader of the whole file answers
-module _ {A K E : Type 0} (file : Outcome A) (Spells : A → Type 0)
+module _ {A K E : Type 0} (file : Parsed A) (Spells : A → Type 0)
     (end : ℕ) (reads : (a : A) → Spells a → file ≡ Got a end) (number : K → ℕ) (fault_of : E → Option (ℕ × ℕ)) where
   pub answers_ok : (a : A) (next : ℕ) → file ≡ Got a next → Spells a → AnswersFile fault_of Spells (fault_in file) (Ok a)
   answers_ok a next is spells = record {
@@ -92,7 +92,7 @@ module _ {A K E : Type 0} (file : Outcome A) (Spells : A → Type 0)
   }
 
 -- an error of a reader, if there is something to be read
-pub read_fails : {A K : Type 0} (number : K → ℕ) (o : Outcome A) (e : ReadError K) → Fails number o e → (a : A) (next : ℕ)
+pub read_fails : {A K : Type 0} (number : K → ℕ) (o : Parsed A) (e : ReadError K) → Fails number o e → (a : A) (next : ℕ)
     → o ≡ Got a next → e ≡ NoMemory
 read_fails number o NoMemory h a next e = refl
 read_fails number o (Fault kind offset) h a next e =

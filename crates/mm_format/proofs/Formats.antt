@@ -7,13 +7,13 @@ use Rattle.std.proofs.lemmas.Bool.{ltb-false, le-ltb, not-false}
 use Rattle.std.proofs.lemmas.List.{length-append, length-take, length-drop}
 use Rattle.std.proofs.lemmas.Slice.Eq.{bytes_eq-Decides}
 use Rattle.mm_model.specs.Bytes.{IsBytes, number_at}
-use Rattle.mm_model.proofs.ImageBytes.Numbers.{number_is_4}
-use Rattle.mm_model.proofs.ImageBytes.Parts.{join_at, length-part, IsBytes-part, one_byte, two_bytes, four_bytes}
-use Rattle.mm_model.proofs.ImageBytes.Parts.{eight_bytes, below_8, below_16, below_64}
-use Rattle.mm_model.proofs.ImageBytes.Apart.{split, number_in_1, number_in_2, number_in_4, number_in_8}
-use Rattle.mm_format.specs.Formats.{Outcome, Format, IsFormat, IsSpelledAt, whole, number, byte, u16, u32, u64, text, raw}
+use Rattle.mm_model.proofs.Bytes.Numbers.{number_is_4}
+use Rattle.mm_model.proofs.Bytes.Parts.{join_at, length-part, IsBytes-part, one_byte, two_bytes, four_bytes}
+use Rattle.mm_model.proofs.Bytes.Parts.{eight_bytes, below_8, below_16, below_64}
+use Rattle.mm_model.proofs.Bytes.Apart.{split, number_in_1, number_in_2, number_in_4, number_in_8}
+use Rattle.mm_format.specs.Formats.{Parsed, Format, IsFormat, IsSpelledAt, whole, number, byte, u16, u32, u64, text, raw}
 use Rattle.mm_format.specs.Formats.{tried, test, literal, Part, after, ◌>>=◌, done}
-use Rattle.mm_format.specs.Formats.Outcome.{Got, Bad}
+use Rattle.mm_format.specs.Formats.Parsed.{Got, Bad}
 
 -- 1. Texts at a place.
 
@@ -27,7 +27,7 @@ module _ (bytes : List ℕ) (at : ℕ) where
         sym (join_at bytes at (at + length x) (length x) (length y) (length (x ++ y)) x y (sym p) (sym q) refl
         (sym (length-append x y)))
 
-    in_two : IsSpelledAt bytes at (x ++ y) → Rattle.mm_model.proofs.ImageBytes.Apart.InTwo bytes at (length x) (length y) x y
+    in_two : IsSpelledAt bytes at (x ++ y) → Rattle.mm_model.proofs.Bytes.Apart.InTwo bytes at (length x) (length y) x y
     in_two e =
         split bytes at (length x) (length y) x y
         (ap (λ n. take n (drop at bytes)) (sym (length-append x y)) ∙ e) refl
@@ -45,12 +45,12 @@ pub is_whole : {A : Type 0} (b : Bool) (end n next : ℕ) (v a : A) → cond b (
 is_whole true end n next v a e = absurd cc
 is_whole false end n next v a e = (refl, cc, cc)
 
-pub after_got : {A B : Type 0} (o : Outcome A) (rest : A → ℕ → Outcome B) (b : B) (next : ℕ) → after o rest ≡ Got b next
+pub after_got : {A B : Type 0} (o : Parsed A) (rest : A → ℕ → Parsed B) (b : B) (next : ℕ) → after o rest ≡ Got b next
     → (a : A) × (middle : ℕ) × (o ≡ Got a middle) × (rest a middle ≡ Got b next)
 after_got (Got a middle) rest b next e = (a, middle, refl, e)
 after_got (Bad n p) rest b next e = absurd cc
 
-tried_got : {A : Type 0} (number at : ℕ) (bad : A → Bool) (o : Outcome A) (a : A) (next : ℕ)
+tried_got : {A : Type 0} (number at : ℕ) (bad : A → Bool) (o : Parsed A) (a : A) (next : ℕ)
     → tried number at bad o ≡ Got a next → (o ≡ Got a next) × (bad a ≡ false)
 tried_got number at bad (Bad n p) a next e = absurd cc
 tried_got number at bad (Got x n) a next e = go (bad x) refl e

@@ -17,9 +17,9 @@ use Rattle.mm_model.specs.Slot.{Slot}
 use Rattle.mm_model.specs.Image.{Image, slot_limit}
 use Rattle.mm_model.specs.Bytes.{IsBytes, bit_at}
 use Rattle.mm_model.specs.Spelling.{handler_byte, state_byte, bitmap}
-use Rattle.mm_model.proofs.ImageBytes.CleanWords.{bits_again}
-use Rattle.mm_model.proofs.ImageBytes.Bitmaps.{number_of_flags-flags, bitmap-part}
-use Rattle.mm_model.proofs.ImageBytes.Ranges.{map-map}
+use Rattle.mm_model.proofs.Bytes.CleanWords.{bits_again}
+use Rattle.mm_model.proofs.Bytes.Bitmaps.{number_of_flags-flags, bitmap-part}
+use Rattle.mm_model.proofs.Bytes.Ranges.{map-map}
 use Rattle.mm_format.specs.Formats.{IsFormat, u64, byte, each}
 use Rattle.mm_format.specs.Images.{mask, flags_of, bits_in, bits, word, ip, slot, cells_of, page, handler_tests}
 use Rattle.mm_format.specs.Images.{slots, header_in, image}

@@ -28,14 +28,14 @@ use Rattle.mm_model.specs.Image.{Image, slot_limit, frame_limit, none_empty}
 use Rattle.mm_model.specs.Bytes.{IsBytes, bit_at}
 use Rattle.mm_model.specs.Spelling.{Begins, IsFresh, IsImage, HoldsWords, mode_of, handler_byte}
 use Rattle.mm_model.specs.Spelling.{state_byte, bitmap, is_bad_handler}
-use Rattle.mm_model.proofs.ImageBytes.Apart.{number_of_flags-below, bit_at-bitmap}
-use Rattle.mm_model.proofs.ImageBytes.Clean.{is_below}
-use Rattle.mm_model.proofs.ImageBytes.CleanRecords.{handler_is_other}
-use Rattle.mm_model.proofs.ImageBytes.CleanWords.{well_formed}
-use Rattle.mm_model.proofs.ImageBytes.Ranges.{map-map, range-list}
-use Rattle.mm_model.proofs.ImageBytes.Rising.{AreRisingFrom, sorted_from, rising_from_sorted}
-use Rattle.mm_model.proofs.ImageBytes.SpelledRecords.{is_spelled, not_le}
-use Rattle.mm_model.proofs.ImageBytes.SpelledSlots.{handler_small, handler_good}
+use Rattle.mm_model.proofs.Bytes.Apart.{number_of_flags-below, bit_at-bitmap}
+use Rattle.mm_model.proofs.Bytes.Clean.{is_below}
+use Rattle.mm_model.proofs.Bytes.CleanRecords.{handler_is_other}
+use Rattle.mm_model.proofs.Bytes.CleanWords.{well_formed}
+use Rattle.mm_model.proofs.Bytes.Ranges.{map-map, range-list}
+use Rattle.mm_model.proofs.Bytes.Rising.{AreRisingFrom, sorted_from, rising_from_sorted}
+use Rattle.mm_model.proofs.Bytes.SpelledRecords.{is_spelled, not_le}
+use Rattle.mm_model.proofs.Bytes.SpelledSlots.{handler_small, handler_good}
 use Rattle.mm_format.specs.Formats.{each, times, cons, first_late}
 use Rattle.mm_format.specs.Headers.{header}
 use Rattle.mm_format.specs.Images.{mask, flags_of, bits_in, bits, word, ip, slot, cells_of, page, handler_tests}

@@ -4,7 +4,7 @@ use Rattle.std.specs.{List.flat_map, Int.{w64, to_be_bytes}}
 use Rattle.std.proofs.lemmas.List.{append-nil}
 use Rattle.mm_word.specs.{declared.{word.{Word.Word, Cell.Cell}}, Word.{word_bits, is_pointer}}
 use Rattle.mm_model.specs.{Slot.Slot, Image.{Image, slot_limit}, Bytes.IsBytes, Spelling.bitmap}
-use Rattle.mm_format.specs.{Formats.{each, file, fault_in, Outcome.Got}, Headers.header}
+use Rattle.mm_format.specs.{Formats.{each, file, fault_in, Parsed.Got}, Headers.header}
 use Rattle.mm_format.specs.Images as images
 use Rattle.mm_format.specs.Images.{word, bits, slot, page, image, header_in, slot_record, page_record, spelling, Spells}
 use Rattle.mm_format.specs.Images.{image_fault}

@@ -5,7 +5,7 @@ use Rattle.std.specs.List.{flat_map}
 use Rattle.std.proofs.lemmas.List.{length-append}
 use Rattle.mm_format.specs.Formats.{Format, IsFormat, IsSpelledAt, Late, first_late, after, answer, late}
 use Rattle.mm_format.specs.Formats.{cons_fits, cons_spell, cons, times, each}
-use Rattle.mm_format.specs.Formats.Outcome.{Got}
+use Rattle.mm_format.specs.Formats.Parsed.{Got}
 use Rattle.mm_format.proofs.Formats.{after_got, ends_within, stand_both, stands_first, stands_second, done_is}
 
 got_both : {A : Type 0} {a b : A} {m n : ℕ} → Got a m ≡ Got b n → (a ≡ b) × (m ≡ n)

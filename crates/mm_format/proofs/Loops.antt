@@ -5,32 +5,32 @@ use Rattle.std.specs.Prelude.{◌==◌}
 use Rattle.std.proofs.lemmas.List.{append-nil, drop_more, drop_all}
 use Rattle.mm_format.specs.declared.reader.ReadError.{ReadError}
 use Rattle.mm_format.specs.declared.reader.ReadError.TheVariants.{Fault, NoMemory}
-use Rattle.mm_format.specs.Formats.{Outcome, Format, after, answer, cons, times, each, runs, sixteen}
-use Rattle.mm_format.specs.Formats.Outcome.{Got, Bad}
+use Rattle.mm_format.specs.Formats.{Parsed, Format, after, answer, cons, times, each, runs, sixteen}
+use Rattle.mm_format.specs.Formats.Parsed.{Got, Bad}
 use Rattle.mm_format.specs.Images.{flags_of}
 use Rattle.mm_format.specs.Reading.{FailsOr}
 use Rattle.mm_model.proofs.FlagLists.{flags-get}
 
 module _ {A : Type 0} where
   -- what was read before, and what is still read
-  abbrev pub prefixed : List A → Outcome (List A) → Outcome (List A)
+  abbrev pub prefixed : List A → Parsed (List A) → Parsed (List A)
   prefixed front read = after read (λ others end. Got (front ++ others) end)
 
-  regroup : (front : List A) (x : A) (o : Outcome (List A))
+  regroup : (front : List A) (x : A) (o : Parsed (List A))
       → prefixed front (after o (λ others end. Got (x ∷ others) end)) ≡ prefixed (front ++ x ∷ []) o
   regroup front x (Got others end) = ap (λ xs. Got xs end) (sym (append_assoc front (x ∷ []) others))
   regroup front x (Bad n p) = refl
 
-  pub nothing_before : (o : Outcome (List A)) → prefixed [] o ≡ o
+  pub nothing_before : (o : Parsed (List A)) → prefixed [] o ≡ o
   nothing_before (Got xs end) = refl
   nothing_before (Bad n p) = refl
 
-  pub is_read : (front : List A) (at : ℕ) (total : Outcome (List A)) → prefixed front (Got [] at) ≡ total → total
+  pub is_read : (front : List A) (at : ℕ) (total : Parsed (List A)) → prefixed front (Got [] at) ≡ total → total
       ≡ Got front at
   is_read front at total so_far = sym so_far ∙ ap (λ xs. Got xs at) (append-nil front)
 
   module _ (f : Format A) (rest : A → Format (List A)) (bytes : List ℕ) (at : ℕ) (front : List A)
-      (total : Outcome (List A)) (so_far : prefixed front ((cons f rest).read bytes at) ≡ total) where
+      (total : Parsed (List A)) (so_far : prefixed front ((cons f rest).read bytes at) ≡ total) where
     pub one_more : (a : A) (next : ℕ) → f.read bytes at ≡ Got a next
         → prefixed (front ++ a ∷ []) ((rest a).read bytes next) ≡ total
     unfolding cons
@@ -49,7 +49,7 @@ module _ {A : Type 0} where
 
 -- the loop over a count
 module _ {S A : Type 0} (f : S → Format A) (onward : S → A → S) (count k : ℕ) (s : S) (bytes : List ℕ) (at : ℕ)
-    (front : List A) (total : Outcome (List A))
+    (front : List A) (total : Parsed (List A))
     (so_far : prefixed front ((times f onward (count - k) s).read bytes at) ≡ total) where
   unrolled : k < count → prefixed front
       ((cons (f s) (λ a. times f onward (count - (k + 1)) (onward s a))).read bytes at) ≡ total
@@ -73,7 +73,7 @@ module _ {S A : Type 0} (f : S → Format A) (onward : S → A → S) (count k :
 
 -- the loop over a list
 module _ {B A : Type 0} (f : B → Format A) (bs : List B) (k : ℕ) (d : B) (bytes : List ℕ) (at : ℕ) (front : List A)
-    (total : Outcome (List A)) (so_far : prefixed front ((each f (drop k bs)).read bytes at) ≡ total) where
+    (total : Parsed (List A)) (so_far : prefixed front ((each f (drop k bs)).read bytes at) ≡ total) where
   each_unrolled : k < length bs
       → prefixed front ((cons (f (get_or bs k d)) (λ _. each f (drop (k + 1) bs))).read bytes at) ≡ total
   each_unrolled lt = subst (λ xs. prefixed front ((each f xs).read bytes at) ≡ total) (drop_more bs k d lt) so_far
@@ -92,10 +92,10 @@ module _ {B A : Type 0} (f : B → Format A) (bs : List B) (k : ℕ) (d : B) (by
       (subst (λ xs. prefixed front ((each f xs).read bytes at) ≡ total) (drop_all k bs le) so_far)
 
 -- the loop over any records
-module _ {S A : Type 0} (read : S → List ℕ → ℕ → Outcome A) (onward : S → A → S) (count k : ℕ) (s : S)
-    (bytes : List ℕ) (at : ℕ) (front : List A) (total : Outcome (List A))
+module _ {S A : Type 0} (read : S → List ℕ → ℕ → Parsed A) (onward : S → A → S) (count k : ℕ) (s : S)
+    (bytes : List ℕ) (at : ℕ) (front : List A) (total : Parsed (List A))
     (so_far : prefixed front (runs read onward (count - k) s bytes at) ≡ total) where
-  abbrev others : A → ℕ → Outcome (List A)
+  abbrev others : A → ℕ → Parsed (List A)
   others a next = after (runs read onward (count - (k + 1)) (onward s a) bytes next) (λ xs end. Got (a ∷ xs) end)
 
   runs_unrolled : k < count → prefixed front (after (read s bytes at) others) ≡ total
@@ -119,7 +119,7 @@ module _ {S A : Type 0} (read : S → List ℕ → ℕ → Outcome A) (onward : 
       let none : count - k ≡ 0 = omega arith in
       is_read front at total (subst (λ n. prefixed front (runs read onward n s bytes at) ≡ total) none so_far)
 
-pub runs_begin : {S A : Type 0} (read : S → List ℕ → ℕ → Outcome A) (onward : S → A → S) (count : ℕ) (s : S)
+pub runs_begin : {S A : Type 0} (read : S → List ℕ → ℕ → Parsed A) (onward : S → A → S) (count : ℕ) (s : S)
     (bytes : List ℕ) (at : ℕ)
     → prefixed [] (runs read onward (count - 0) s bytes at) ≡ runs read onward count s bytes at
 runs_begin read onward count s bytes at =
@@ -127,7 +127,7 @@ runs_begin read onward count s bytes at =
     nothing_before (runs read onward (count - 0) s bytes at) ∙ ap (λ n. runs read onward n s bytes at) all
 
 -- a list is the same if what follows its first value is
-cons_same : {A : Type 0} (o : Outcome A) (f g : A → ℕ → Outcome (List A))
+cons_same : {A : Type 0} (o : Parsed A) (f g : A → ℕ → Parsed (List A))
     → ((a : A) (next : ℕ) → f a next ≡ g a next)
     → after o (λ a next. after (f a next) (λ xs end. Got (a ∷ xs) end))
     ≡ after o (λ a next. after (g a next) (λ xs end. Got (a ∷ xs) end))
@@ -135,7 +135,7 @@ cons_same (Got a next) f g same = ap (λ o. after o (λ xs end. Got (a ∷ xs) e
 cons_same (Bad k p) f g same = refl
 
 -- the same records, where what stands before them is told in another way
-pub runs_told : {S T A : Type 0} (to : S → T) (read : T → List ℕ → ℕ → Outcome A) (onward : S → A → S)
+pub runs_told : {S T A : Type 0} (to : S → T) (read : T → List ℕ → ℕ → Parsed A) (onward : S → A → S)
     (onto : T → A → T) → ((s : S) (a : A) → onto (to s) a ≡ to (onward s a))
     → (n : ℕ) (s : S) (bytes : List ℕ) (at : ℕ)
     → runs (λ s. read (to s)) onward n s bytes at ≡ runs read onto n (to s) bytes at
@@ -153,7 +153,7 @@ times_runs f onward (suc n) s bytes at =
     cons_same ((f s).read bytes at) _ _ (λ a next. times_runs f onward n (onward s a) bytes next)
 
 -- so is a value for each of a list, where each place is read as its format reads
-each_runs : {B A : Type 0} (f : B → Format A) (bs : List B) (d : B) (read : ℕ → List ℕ → ℕ → Outcome A) (s : ℕ)
+each_runs : {B A : Type 0} (f : B → Format A) (bs : List B) (d : B) (read : ℕ → List ℕ → ℕ → Parsed A) (s : ℕ)
     → ((k : ℕ) → k < length bs → (f (get_or bs k d)).read ≡ read (s + k)) → (bytes : List ℕ) (at : ℕ)
     → (each f bs).read bytes at ≡ runs read (λ k _. k + 1) (length bs) s bytes at
 unfolding cons
@@ -167,7 +167,7 @@ each_runs f (b ∷ bs) d read s same bytes at =
     (λ xs end. Got (a ∷ xs) end))) (same 0 (omega arith) ∙ ap read here)
 
 -- so of sixteen
-pub each_sixteen : {B A : Type 0} (f : B → Format A) (bs : List B) (d : B) (read : ℕ → List ℕ → ℕ → Outcome A)
+pub each_sixteen : {B A : Type 0} (f : B → Format A) (bs : List B) (d : B) (read : ℕ → List ℕ → ℕ → Parsed A)
     → length bs ≡ 16 → ((k : ℕ) → k < 16 → (f (get_or bs k d)).read ≡ read k) → (bytes : List ℕ) (at : ℕ)
     → (each f bs).read bytes at ≡ sixteen read bytes at
 unfolding sixteen
@@ -195,7 +195,7 @@ late_stop number true n at rest total v end same wants (Fault kind offset) fails
 late_stop number false n at rest total v end same wants (Fault kind offset) fails = absurd cc
 
 -- what is never in want of memory fails as what may be
-pub fails_so : {K A : Type 0} (number : K → ℕ) (wants : Type 0) (read : Outcome A) (e : ReadError K) → FailsOr ⊥ number read e
+pub fails_so : {K A : Type 0} (number : K → ℕ) (wants : Type 0) (read : Parsed A) (e : ReadError K) → FailsOr ⊥ number read e
     → FailsOr wants number read e
 fails_so number wants read NoMemory fails = absurd fails
 fails_so number wants read (Fault kind offset) fails = fails

@@ -4,10 +4,10 @@ use Rattle.std.proofs.Common.{sym, ap, ◌∙◌, arith}
 use Rattle.std.specs.Int.{w16, w32, w64, from_be_bytes}
 use Rattle.std.proofs.lemmas.Bool.{ltb-false}
 use Rattle.mm_model.specs.Bytes.{number_at}
-use Rattle.mm_model.proofs.ImageBytes.Numbers.{number_is_2, number_is_4, number_is_8}
-use Rattle.mm_model.proofs.ImageBytes.Parts.{length-part}
+use Rattle.mm_model.proofs.Bytes.Numbers.{number_is_2, number_is_4, number_is_8}
+use Rattle.mm_model.proofs.Bytes.Parts.{length-part}
 use Rattle.mm_format.specs.Formats.{text, byte, u16, u32, u64}
-use Rattle.mm_format.specs.Formats.Outcome.{Got, Bad}
+use Rattle.mm_format.specs.Formats.Parsed.{Got, Bad}
 use Rattle.mm_format.proofs.Formats.{is_whole}
 
 module _ (bytes : List ℕ) (at : ℕ) where

@@ -9,15 +9,15 @@ use Rattle.mm_model.specs.Bytes.{IsBytes, number_at}
 -- 1. Formats.
 
 -- what is read at a place: a value and where the next field begins, or the number and the place of the first fault
-pub data Outcome (A : Type 0) : Type 0 where
-  Got : A → (next : ℕ) → Outcome A
-  Bad : (number at : ℕ) → Outcome A
+pub data Parsed (A : Type 0) : Type 0 where
+  Got : A → (next : ℕ) → Parsed A
+  Bad : (number at : ℕ) → Parsed A
 
 -- a format of values: which of them have a spelling, how each is spelled, and what is read from bytes at a place
 pub record Format (A : Type 0) : Type 1 where
   pub Fits : A → Type 0
   pub spell : A → List ℕ
-  pub read : (bytes : List ℕ) (at : ℕ) → Outcome A
+  pub read : (bytes : List ℕ) (at : ℕ) → Parsed A
 
 -- the text is what the bytes have at this place
 abbrev pub IsSpelledAt : (bytes : List ℕ) (at : ℕ) (text : List ℕ) → Type 0
@@ -25,17 +25,17 @@ IsSpelledAt bytes at text = take (length text) (drop at bytes) ≡ text
 
 -- what a format has to be: what is read fits and is spelled where it was read; what fits is read where it is spelled
 pub record IsFormat {A : Type 0} (f : Format A) : Type 0 where
-  pub sound : (bytes : List ℕ) → IsBytes bytes → (at : ℕ) (a : A) (next : ℕ) → f.read bytes at ≡ Outcome.Got a next
+  pub sound : (bytes : List ℕ) → IsBytes bytes → (at : ℕ) (a : A) (next : ℕ) → f.read bytes at ≡ Parsed.Got a next
       → f.Fits a × IsSpelledAt bytes at (f.spell a) × (next ≡ at + length (f.spell a))
   pub complete : (bytes : List ℕ) (at : ℕ) (a : A) → f.Fits a → IsSpelledAt bytes at (f.spell a)
-      → at ≤ length bytes → f.read bytes at ≡ Outcome.Got a (at + length (f.spell a))
+      → at ≤ length bytes → f.read bytes at ≡ Parsed.Got a (at + length (f.spell a))
 
 -- 2. Fields.
 
 -- a field of this size, which has to be whole: else fault 1 is at the end of the file
-abbrev pub whole : {A : Type 0} → (List ℕ → ℕ → A) → (size : ℕ) → (bytes : List ℕ) (at : ℕ) → Outcome A
+abbrev pub whole : {A : Type 0} → (List ℕ → ℕ → A) → (size : ℕ) → (bytes : List ℕ) (at : ℕ) → Parsed A
 whole value size bytes at =
-    if nat_lt (length bytes) (at + size) then Outcome.Bad 1 (length bytes) else Outcome.Got (value bytes at) (at + size)
+    if nat_lt (length bytes) (at + size) then Parsed.Bad 1 (length bytes) else Parsed.Got (value bytes at) (at + size)
 
 -- a number of this size in bytes, spelled by these digits
 abbrev pub number : (size : ℕ) (digits : ℕ → List ℕ) → Format ℕ
@@ -72,9 +72,9 @@ raw size = record {
 
 -- 3. Tests.
 
-abbrev pub tried : {A : Type 0} → (number at : ℕ) (bad : A → Bool) → Outcome A → Outcome A
-tried number at bad (Outcome.Got a next) = if bad a then Outcome.Bad number at else Outcome.Got a next
-tried number at bad (Outcome.Bad n place) = Outcome.Bad n place
+abbrev pub tried : {A : Type 0} → (number at : ℕ) (bad : A → Bool) → Parsed A → Parsed A
+tried number at bad (Parsed.Got a next) = if bad a then Parsed.Bad number at else Parsed.Got a next
+tried number at bad (Parsed.Bad n place) = Parsed.Bad n place
 
 -- a value that is not bad: else the fault of this number is where it begins
 abbrev pub test : {A : Type 0} → Format A → (number : ℕ) (bad : A → Bool) → Format A
@@ -95,9 +95,9 @@ pub record Part (B A : Type 0) : Type 1 where
   pub of : B → A
   pub format : Format A
 
-abbrev pub after : {A B : Type 0} → Outcome A → (A → ℕ → Outcome B) → Outcome B
-after (Outcome.Got a next) rest = rest a next
-after (Outcome.Bad number at) rest = Outcome.Bad number at
+abbrev pub after : {A B : Type 0} → Parsed A → (A → ℕ → Parsed B) → Parsed B
+after (Parsed.Got a next) rest = rest a next
+after (Parsed.Bad number at) rest = Parsed.Bad number at
 
 -- a part, and after it the rest, which may depend on what the part is
 infixl 10 ◌>>=◌
@@ -110,7 +110,7 @@ part >>= rest = record {
 
 -- the value is complete
 abbrev pub done : {B : Type 0} → B → Format B
-done value = record { Fits = λ b. b ≡ value; spell = λ b. []; read = λ bytes at. Outcome.Got value at }
+done value = record { Fits = λ b. b ≡ value; spell = λ b. []; read = λ bytes at. Parsed.Got value at }
 
 -- the part that a function takes from a value
 abbrev pub part : {A B : Type 0} → (B → A) → Format A → Part B A
@@ -119,25 +119,25 @@ part of format = record { of = of; format = format }
 -- 5. Whole files.
 
 -- what the bytes of a file say: if they go on after the last field, the fault of this number is there
-abbrev pub file : {A : Type 0} → Format A → (trailing : ℕ) → (bytes : List ℕ) → Outcome A
+abbrev pub file : {A : Type 0} → Format A → (trailing : ℕ) → (bytes : List ℕ) → Parsed A
 file f trailing bytes =
     after (f.read bytes 0)
-    (λ a next. if nat_lt next (length bytes) then Outcome.Bad trailing next else Outcome.Got a next)
+    (λ a next. if nat_lt next (length bytes) then Parsed.Bad trailing next else Parsed.Got a next)
 
 -- a file has no fault exactly if it spells a value that fits, and that value is read
 abbrev pub RoundTrips : {A : Type 0} → Format A → Type 0
 RoundTrips {A} f =
     (trailing : ℕ) (bytes : List ℕ) → IsBytes bytes → (a : A)
-    → (file f trailing bytes ≡ Outcome.Got a (length bytes)) ↔ (f.Fits a × (bytes ≡ f.spell a))
+    → (file f trailing bytes ≡ Parsed.Got a (length bytes)) ↔ (f.Fits a × (bytes ≡ f.spell a))
 
 -- different values have different spellings
 abbrev pub IsOneToOne : {A : Type 0} → Format A → Type 0
 IsOneToOne {A} f = (a b : A) → f.Fits a → f.Fits b → f.spell a ≡ f.spell b → a ≡ b
 
 -- the number and the place of the fault, if that is what was read
-abbrev pub fault_in : {A : Type 0} → Outcome A → Option (ℕ × ℕ)
-fault_in (Outcome.Got value next) = None
-fault_in (Outcome.Bad number at) = Some (number, at)
+abbrev pub fault_in : {A : Type 0} → Parsed A → Option (ℕ × ℕ)
+fault_in (Parsed.Got value next) = None
+fault_in (Parsed.Bad number at) = Some (number, at)
 
 -- 6. Lists.
 
@@ -155,7 +155,7 @@ cons f rest = record {
   Fits = cons_fits f rest;
   spell = cons_spell f rest;
   read = λ bytes at. after (f.read bytes at)
-      (λ a next. after ((rest a).read bytes next) (λ others end. Outcome.Got (a ∷ others) end));
+      (λ a next. after ((rest a).read bytes next) (λ others end. Parsed.Got (a ∷ others) end));
 }
 
 -- a list of this count of values; the format of each depends on what comes before it
@@ -181,9 +181,9 @@ first_late at [] = None
 first_late at (t ∷ tests) = if t.bad then Some (t.number, at + t.offset) else first_late at tests
 
 -- a value, if there is no fault
-abbrev pub answer : {A : Type 0} → Option (ℕ × ℕ) → A → (next : ℕ) → Outcome A
-answer None value next = Outcome.Got value next
-answer (Some fault) value next = Outcome.Bad fault.0 fault.1
+abbrev pub answer : {A : Type 0} → Option (ℕ × ℕ) → A → (next : ℕ) → Parsed A
+answer None value next = Parsed.Got value next
+answer (Some fault) value next = Parsed.Bad fault.0 fault.1
 
 -- the first of these faults, if there is one
 abbrev pub late : {A : Type 0} → Format A → (A → List Late) → Format A
@@ -196,12 +196,12 @@ late f tests = record {
 -- 8. Reading alone.
 
 -- the records of a count, each read with what comes before it
-abbrev pub runs : {S A : Type 0} → (S → List ℕ → ℕ → Outcome A) → (S → A → S) → ℕ → S → List ℕ → ℕ → Outcome (List A)
-runs read onward zero s bytes at = Outcome.Got [] at
+abbrev pub runs : {S A : Type 0} → (S → List ℕ → ℕ → Parsed A) → (S → A → S) → ℕ → S → List ℕ → ℕ → Parsed (List A)
+runs read onward zero s bytes at = Parsed.Got [] at
 runs read onward (suc n) s bytes at =
     after (read s bytes at)
-    (λ a next. after (runs read onward n (onward s a) bytes next) (λ others end. Outcome.Got (a ∷ others) end))
+    (λ a next. after (runs read onward n (onward s a) bytes next) (λ others end. Parsed.Got (a ∷ others) end))
 
 -- the values of sixteen places
-unfoldable pub sixteen : {A : Type 0} → (ℕ → List ℕ → ℕ → Outcome A) → List ℕ → ℕ → Outcome (List A)
+unfoldable pub sixteen : {A : Type 0} → (ℕ → List ℕ → ℕ → Parsed A) → List ℕ → ℕ → Parsed (List A)
 sixteen read bytes at = runs read (λ k _. k + 1) 16 0 bytes at

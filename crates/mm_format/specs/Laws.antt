@@ -6,7 +6,7 @@ use Rattle.mm_model.specs.Spelling.{IsImage}
 use Rattle.mm_model.specs.Slot.{Slot}
 use Rattle.mm_format.specs.declared.header.Header.{Header}
 use Rattle.mm_format.specs.Formats.{fault_in, times}
-use Rattle.mm_format.specs.Formats.Outcome.{Got}
+use Rattle.mm_format.specs.Formats.Parsed.{Got}
 use Rattle.mm_format.specs.Headers.{header}
 use Rattle.mm_format.specs.Images.{slot, slots, pages, image, image_fault}
 

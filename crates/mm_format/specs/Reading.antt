@@ -4,46 +4,46 @@ use Rattle.std.specs.Result.{IsErrAnd}
 use Rattle.mm_format.specs.declared.reader.ReadError.{ReadError}
 use Rattle.mm_format.specs.declared.reader.ReadError.TheVariants.{Fault, NoMemory}
 use Rattle.mm_format.specs.declared.reader.Reader.{Reader}
-use Rattle.mm_format.specs.Formats.{Outcome}
+use Rattle.mm_format.specs.Formats.{Parsed}
 
 -- an error is the fault that reading gives, or says that memory ran out, and then `wants` holds
-abbrev pub FailsOr : {K A : Type 0} → (wants : Type 0) → (K → ℕ) → Outcome A → ReadError K → Type 0
-FailsOr wants number read (Fault kind offset) = read ≡ Outcome.Bad (number kind) offset
+abbrev pub FailsOr : {K A : Type 0} → (wants : Type 0) → (K → ℕ) → Parsed A → ReadError K → Type 0
+FailsOr wants number read (Fault kind offset) = read ≡ Parsed.Bad (number kind) offset
 FailsOr wants number read NoMemory = wants
 
 -- an error is the fault that reading gives, unless memory ran out
-abbrev pub Fails : {K A : Type 0} → (K → ℕ) → Outcome A → ReadError K → Type 0
+abbrev pub Fails : {K A : Type 0} → (K → ℕ) → Parsed A → ReadError K → Type 0
 Fails number read e = FailsOr (Unit {0}) number read e
 
-abbrev pub GivesOr : {K X A : Type 0} → (wants : Type 0) → (K → ℕ) → (X → A) → Outcome A → (next : ℕ)
+abbrev pub GivesOr : {K X A : Type 0} → (wants : Type 0) → (K → ℕ) → (X → A) → Parsed A → (next : ℕ)
     → Result X (ReadError K) → Type 0
-GivesOr wants number view read next (Ok x) = read ≡ Outcome.Got (view x) next
+GivesOr wants number view read next (Ok x) = read ≡ Parsed.Got (view x) next
 GivesOr wants number view read next (Err e) = FailsOr wants number read e
 
 -- what a function that takes no memory returned is an outcome, and never that memory ran out
-abbrev pub GivesAlone : {K X A : Type 0} → (K → ℕ) → (X → A) → Outcome A → (next : ℕ) → Result X (ReadError K)
+abbrev pub GivesAlone : {K X A : Type 0} → (K → ℕ) → (X → A) → Parsed A → (next : ℕ) → Result X (ReadError K)
     → Type 0
 GivesAlone number view read next r = GivesOr ⊥ number view read next r
 
 -- From a reader of some bytes comes one of the same bytes, and what a function returned is what reading gives from where
 -- the old one stood to where the new one stands.
-abbrev pub ReadsOr : {K X A : Type 0} → (wants : Type 0) → (K → ℕ) → (X → A) → (List ℕ → ℕ → Outcome A)
+abbrev pub ReadsOr : {K X A : Type 0} → (wants : Type 0) → (K → ℕ) → (X → A) → (List ℕ → ℕ → Parsed A)
     → (old new : Reader) → Result X (ReadError K) → Type 0
 ReadsOr wants number view read old new r =
     GivesOr wants number view (read old.bytes.now old.at) new.at r × (new.bytes.now ≡ old.bytes.now)
 
-abbrev pub Reads : {K X A : Type 0} → (K → ℕ) → (X → A) → (List ℕ → ℕ → Outcome A) → (old new : Reader)
+abbrev pub Reads : {K X A : Type 0} → (K → ℕ) → (X → A) → (List ℕ → ℕ → Parsed A) → (old new : Reader)
     → Result X (ReadError K) → Type 0
 Reads number view read old new r = ReadsOr (Unit {0}) number view read old new r
 
 -- the same of a function that takes no memory: it never returns that memory ran out
-abbrev pub ReadsAlone : {K X A : Type 0} → (K → ℕ) → (X → A) → (List ℕ → ℕ → Outcome A) → (old new : Reader)
+abbrev pub ReadsAlone : {K X A : Type 0} → (K → ℕ) → (X → A) → (List ℕ → ℕ → Parsed A) → (old new : Reader)
     → Result X (ReadError K) → Type 0
 ReadsAlone number view read old new r = ReadsOr ⊥ number view read old new r
 
 -- what a function returned is what a whole file says
-abbrev pub ReadsFile : {K X A : Type 0} → (K → ℕ) → (X → A) → Outcome A → Result X (ReadError K) → Type 0
-ReadsFile number view read (Ok x) = (next : ℕ) × (read ≡ Outcome.Got (view x) next)
+abbrev pub ReadsFile : {K X A : Type 0} → (K → ℕ) → (X → A) → Parsed A → Result X (ReadError K) → Type 0
+ReadsFile number view read (Ok x) = (next : ℕ) × (read ≡ Parsed.Got (view x) next)
 ReadsFile number view read (Err e) = Fails number read e
 
 -- the number and the offset of the fault that an error names, if memory did not run out

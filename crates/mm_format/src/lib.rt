@@ -22,10 +22,10 @@
 mod header;
 pub mod laws;
 mod reader;
-mod run;
-mod sixteen;
+mod records;
+mod elements;
 
 pub use header::Header;
 pub use reader::{FaultKind, ReadError, Reader, failed, refuse_if};
-pub use run::{Run, read_run};
-pub use sixteen::{Sixteen, is_set, read_sixteen};
+pub use records::{Records, read_records};
+pub use elements::{Elements, is_set, read_array};

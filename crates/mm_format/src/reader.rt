@@ -1,7 +1,7 @@
 //! A reader of bytes from the front, field by field.
 
 ghost use Rattle.std.specs.Prelude.{◌≡◌, ◌≤◌, if◌then◌else◌, false, nat_lt, IfOk, OnOk, OnErr, length};
-ghost use Rattle.mm_format.specs.Formats.{text, byte, u16, u32, u64, test, literal, Outcome};
+ghost use Rattle.mm_format.specs.Formats.{text, byte, u16, u32, u64, test, literal, Parsed};
 ghost use Rattle.mm_format.specs.Reading.{GivesAlone, ReadsAlone};
 
 use std::alloc::{AllocError, AllocFailed};
@@ -183,7 +183,7 @@ pub fn failed<K>(fault: K, at: usize) -> ReadError<K>
 /// Fails with this fault if `wrong`.
 pub fn refuse_if<K: FaultKind>(wrong: bool, kind: K, at: usize) -> Result<(), ReadError<K>>
     ensures fault { GivesAlone K.number (λ _. false)
-        (if wrong then Outcome.Bad (K.number kind) at else Outcome.Got false 0) 0 result }
+        (if wrong then Parsed.Bad (K.number kind) at else Parsed.Got false 0) 0 result }
     ensures right { OnOk result (wrong ≡ false) }
 {
     if wrong {

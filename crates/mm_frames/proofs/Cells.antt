@@ -19,67 +19,67 @@ pub length-cells_of : (blocks : List (List Cell)) → AreEight blocks → length
 length-cells_of [] all = refl
 length-cells_of (b ∷ blocks) all = omega (arith, all.0, length-append b (cells_of blocks), length-cells_of blocks all.1)
 
-pub eight_at : (blocks : List (List Cell)) (place : ℕ) → AreEight blocks → place < length blocks → length (get_or blocks place []) ≡ 8
-eight_at [] place all lt = absurd (omega (arith, lt))
+pub eight_at : (blocks : List (List Cell)) (index : ℕ) → AreEight blocks → index < length blocks → length (get_or blocks index []) ≡ 8
+eight_at [] index all lt = absurd (omega (arith, lt))
 eight_at (b ∷ blocks) zero all lt = all.0
-eight_at (b ∷ blocks) (suc place) all lt = eight_at blocks place all.1 (omega (arith, lt))
+eight_at (b ∷ blocks) (suc index) all lt = eight_at blocks index all.1 (omega (arith, lt))
 
-pub eight_set : (blocks : List (List Cell)) (place : ℕ) (new : List Cell) → AreEight blocks → length new ≡ 8 → AreEight (set blocks place new)
-eight_set [] place new all eight = all
+pub eight_set : (blocks : List (List Cell)) (index : ℕ) (new : List Cell) → AreEight blocks → length new ≡ 8 → AreEight (set blocks index new)
+eight_set [] index new all eight = all
 eight_set (b ∷ blocks) zero new all eight = (eight, all.1)
-eight_set (b ∷ blocks) (suc place) new all eight = (all.0, eight_set blocks place new all.1 eight)
+eight_set (b ∷ blocks) (suc index) new all eight = (all.0, eight_set blocks index new all.1 eight)
 
 -- 2. A block is read.
 
 module _ (b cells : List Cell) (eight : length b ≡ 8) where
-  take_more : (place : ℕ) → take (suc place * 8) (b ++ cells) ≡ b ++ take (place * 8) cells
-  take_more place =
-      let sum : suc place * 8 ≡ length b + place * 8 = omega (arith, eight) in
-      ap (λ n. take n (b ++ cells)) sum ∙ take-append-add b cells (place * 8)
+  take_more : (index : ℕ) → take (suc index * 8) (b ++ cells) ≡ b ++ take (index * 8) cells
+  take_more index =
+      let sum : suc index * 8 ≡ length b + index * 8 = omega (arith, eight) in
+      ap (λ n. take n (b ++ cells)) sum ∙ take-append-add b cells (index * 8)
 
-  drop_more : (place more : ℕ) → drop (suc place * 8 + more) (b ++ cells) ≡ drop (place * 8 + more) cells
-  drop_more place more =
-      let sum : suc place * 8 + more ≡ length b + (place * 8 + more) = omega (arith, eight) in
-      ap (λ n. drop n (b ++ cells)) sum ∙ drop-append-add b cells (place * 8 + more)
+  drop_more : (index more : ℕ) → drop (suc index * 8 + more) (b ++ cells) ≡ drop (index * 8 + more) cells
+  drop_more index more =
+      let sum : suc index * 8 + more ≡ length b + (index * 8 + more) = omega (arith, eight) in
+      ap (λ n. drop n (b ++ cells)) sum ∙ drop-append-add b cells (index * 8 + more)
 
-  drop_on : (place : ℕ) → drop (suc place * 8) (b ++ cells) ≡ drop (place * 8) cells
-  drop_on place =
-      let sum : suc place * 8 ≡ length b + place * 8 = omega (arith, eight) in
-      ap (λ n. drop n (b ++ cells)) sum ∙ drop-append-add b cells (place * 8)
+  drop_on : (index : ℕ) → drop (suc index * 8) (b ++ cells) ≡ drop (index * 8) cells
+  drop_on index =
+      let sum : suc index * 8 ≡ length b + index * 8 = omega (arith, eight) in
+      ap (λ n. drop n (b ++ cells)) sum ∙ drop-append-add b cells (index * 8)
 
-pub block_read : (blocks : List (List Cell)) (place : ℕ) → AreEight blocks → place < length blocks → get_or blocks place [] ≡ block_in (cells_of blocks) place
-block_read [] place all lt = absurd (omega (arith, lt))
+pub block_read : (blocks : List (List Cell)) (index : ℕ) → AreEight blocks → index < length blocks → get_or blocks index [] ≡ block_in (cells_of blocks) index
+block_read [] index all lt = absurd (omega (arith, lt))
 block_read (b ∷ blocks) zero all lt = sym (take_at b (cells_of blocks) 8 all.0)
-block_read (b ∷ blocks) (suc place) all lt = block_read blocks place all.1 (omega (arith, lt)) ∙ ap (take 8) (sym (drop_on b (cells_of blocks) all.0 place))
+block_read (b ∷ blocks) (suc index) all lt = block_read blocks index all.1 (omega (arith, lt)) ∙ ap (take 8) (sym (drop_on b (cells_of blocks) all.0 index))
 
 -- a cell is read in its block
-pub cell_read : (blocks : List (List Cell)) (place : ℕ) → AreEight blocks → place < length blocks * 8 → slice_get (cells_of blocks) place ≡ slice_get (get_or blocks (place / 8) []) (place % 8)
-cell_read blocks place all lt =
+pub cell_read : (blocks : List (List Cell)) (index : ℕ) → AreEight blocks → index < length blocks * 8 → slice_get (cells_of blocks) index ≡ slice_get (get_or blocks (index / 8) []) (index % 8)
+cell_read blocks index all lt =
     let cells : List Cell = cells_of blocks in
-    let block : List Cell = get_or blocks (place / 8) [] in
-    let within : place / 8 < length blocks = omega (arith, lt) in
-    let low : place % 8 < 8 = omega arith in
-    let sum : place / 8 * 8 + place % 8 ≡ place = omega arith in
-    slice_get-get_or cells place zero_cell (omega (arith, lt, length-cells_of blocks all))
+    let block : List Cell = get_or blocks (index / 8) [] in
+    let within : index / 8 < length blocks = omega (arith, lt) in
+    let low : index % 8 < 8 = omega arith in
+    let sum : index / 8 * 8 + index % 8 ≡ index = omega arith in
+    slice_get-get_or cells index zero_cell (omega (arith, lt, length-cells_of blocks all))
     ∙ ap (λ n. Some (get_or cells n zero_cell)) (sym sum)
-    ∙ ap Some (sym (get_or-take 8 (drop (place / 8 * 8) cells) (place % 8) zero_cell low ∙ get_or-drop (place / 8 * 8) cells (place % 8) zero_cell))
-    ∙ ap (λ xs. Some (get_or xs (place % 8) zero_cell)) (sym (block_read blocks (place / 8) all within))
-    ∙ sym (slice_get-get_or block (place % 8) zero_cell (omega (arith, low, eight_at blocks (place / 8) all within)))
+    ∙ ap Some (sym (get_or-take 8 (drop (index / 8 * 8) cells) (index % 8) zero_cell low ∙ get_or-drop (index / 8 * 8) cells (index % 8) zero_cell))
+    ∙ ap (λ xs. Some (get_or xs (index % 8) zero_cell)) (sym (block_read blocks (index / 8) all within))
+    ∙ sym (slice_get-get_or block (index % 8) zero_cell (omega (arith, low, eight_at blocks (index / 8) all within)))
 
 -- 3. A block is written.
 
-pub block_put : (blocks : List (List Cell)) (place : ℕ) (new : List Cell) → AreEight blocks → place < length blocks → cells_of (set blocks place new) ≡ with_block (cells_of blocks) place new
-block_put [] place new all lt = absurd (omega (arith, lt))
+pub block_put : (blocks : List (List Cell)) (index : ℕ) (new : List Cell) → AreEight blocks → index < length blocks → cells_of (set blocks index new) ≡ with_block (cells_of blocks) index new
+block_put [] index new all lt = absurd (omega (arith, lt))
 block_put (b ∷ blocks) zero new all lt = ap (λ xs. new ++ xs) (sym (drop_at b (cells_of blocks) 8 all.0))
-block_put (b ∷ blocks) (suc place) new all lt =
+block_put (b ∷ blocks) (suc index) new all lt =
     let cells : List Cell = cells_of blocks in
-    let front : List Cell = take (place * 8) cells in
-    let rest : List Cell = drop (place * 8 + 8) cells in
-    ap (λ xs. b ++ xs) (block_put blocks place new all.1 (omega (arith, lt)))
+    let front : List Cell = take (index * 8) cells in
+    let rest : List Cell = drop (index * 8 + 8) cells in
+    ap (λ xs. b ++ xs) (block_put blocks index new all.1 (omega (arith, lt)))
     ∙ sym (append_assoc b (front ++ new) rest)
     ∙ ap (λ xs. xs ++ rest) (sym (append_assoc b front new))
-    ∙ ap (λ xs. xs ++ new ++ rest) (sym (take_more b cells all.0 place))
-    ∙ ap (λ xs. take (suc place * 8) (b ++ cells) ++ new ++ xs) (sym (drop_more b cells all.0 place 8))
+    ∙ ap (λ xs. xs ++ new ++ rest) (sym (take_more b cells all.0 index))
+    ∙ ap (λ xs. take (suc index * 8) (b ++ cells) ++ new ++ xs) (sym (drop_more b cells all.0 index 8))
 
 -- 4. Zeros.
 
@@ -97,24 +97,24 @@ zero_frame = zero_cells 64
 -- 5. A page is copied block by block.
 
 -- the cells of a page that go into a block are eight
-pub eight_of_page : (cells : List Cell) (place : ℕ) → place < 64 → length cells ≡ 512 → length (take (place * 8 + 8 - place * 8) (drop (place * 8) cells)) ≡ 8
-eight_of_page cells place lt long =
-    let eight : place * 8 + 8 - place * 8 ≡ 8 = omega arith in
-    ap (λ n. length (take n (drop (place * 8) cells))) eight ∙ length-take-le 8 (drop (place * 8) cells) (omega (arith, lt, long, length-drop (place * 8) cells))
+pub eight_of_page : (cells : List Cell) (index : ℕ) → index < 64 → length cells ≡ 512 → length (take (index * 8 + 8 - index * 8) (drop (index * 8) cells)) ≡ 8
+eight_of_page cells index lt long =
+    let eight : index * 8 + 8 - index * 8 ≡ 8 = omega arith in
+    ap (λ n. length (take n (drop (index * 8) cells))) eight ∙ length-take-le 8 (drop (index * 8) cells) (omega (arith, lt, long, length-drop (index * 8) cells))
 
-pub front_more : (old cells new : List Cell) (place : ℕ) → place < 64 → length old ≡ 512 → length cells ≡ 512 → new ≡ take (place * 8 + 8 - place * 8) (drop (place * 8) cells)
-    → take (place * 8) old ≡ take (place * 8) cells → take ((place + 1) * 8) (with_block old place new) ≡ take ((place + 1) * 8) cells
-front_more old cells new place lt whole long is so_far =
-    let eight : place * 8 + 8 - place * 8 ≡ 8 = omega arith in
-    let next : place * 8 + 8 ≡ (place + 1) * 8 = omega arith in
-    let part : new ≡ take 8 (drop (place * 8) cells) = is ∙ ap (λ n. take n (drop (place * 8) cells)) eight in
-    let size : length new ≡ 8 = ap length is ∙ eight_of_page cells place lt long in
-    let count : length (take (place * 8) old ++ new) ≡ (place + 1) * 8 = omega (arith, size, length-append (take (place * 8) old) new, length-take-le (place * 8) old (omega (arith, whole))) in
-    take_at (take (place * 8) old ++ new) (drop (place * 8 + 8) old) ((place + 1) * 8) count
+pub front_more : (old cells new : List Cell) (index : ℕ) → index < 64 → length old ≡ 512 → length cells ≡ 512 → new ≡ take (index * 8 + 8 - index * 8) (drop (index * 8) cells)
+    → take (index * 8) old ≡ take (index * 8) cells → take ((index + 1) * 8) (with_block old index new) ≡ take ((index + 1) * 8) cells
+front_more old cells new index lt whole long is so_far =
+    let eight : index * 8 + 8 - index * 8 ≡ 8 = omega arith in
+    let next : index * 8 + 8 ≡ (index + 1) * 8 = omega arith in
+    let part : new ≡ take 8 (drop (index * 8) cells) = is ∙ ap (λ n. take n (drop (index * 8) cells)) eight in
+    let size : length new ≡ 8 = ap length is ∙ eight_of_page cells index lt long in
+    let count : length (take (index * 8) old ++ new) ≡ (index + 1) * 8 = omega (arith, size, length-append (take (index * 8) old) new, length-take-le (index * 8) old (omega (arith, whole))) in
+    take_at (take (index * 8) old ++ new) (drop (index * 8 + 8) old) ((index + 1) * 8) count
     ∙ ap (λ xs. xs ++ new) so_far
-    ∙ ap (λ xs. take (place * 8) cells ++ xs) part
-    ∙ sym (take-add (place * 8) 8 cells)
+    ∙ ap (λ xs. take (index * 8) cells ++ xs) part
+    ∙ sym (take-add (index * 8) 8 cells)
     ∙ ap (λ n. take n cells) next
 
-pub whole_with_block : (old new : List Cell) (place : ℕ) → place < 64 → length old ≡ 512 → length new ≡ 8 → length (with_block old place new) ≡ 512
-whole_with_block old new place lt whole eight = length_with_block old new place whole eight lt
+pub whole_with_block : (old new : List Cell) (index : ℕ) → index < 64 → length old ≡ 512 → length new ≡ 8 → length (with_block old index new) ≡ 512
+whole_with_block old new index lt whole eight = length_with_block old new index whole eight lt

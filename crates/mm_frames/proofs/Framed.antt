@@ -46,11 +46,11 @@ pub page_in_frame : (f : Framed) (page frame : ℕ) → frame_of f page ≡ Some
 page_in_frame f page frame h = page_at_is f page ∙ ap (option_map (cells_in f)) h
 
 -- a block of the page is that of the frame
-pub block_in_frame : (f : Framed) (page frame place : ℕ) → frame_of f page ≡ Some frame → place < 64 → block_at (memory_of f) (page * 64 + place) ≡ Some (block_in (cells_in f frame) place)
-block_in_frame f page frame place h within =
-    let block : ℕ = page * 64 + place in
+pub block_in_frame : (f : Framed) (page frame block_index : ℕ) → frame_of f page ≡ Some frame → block_index < 64 → block_at (memory_of f) (page * 64 + block_index) ≡ Some (block_in (cells_in f frame) block_index)
+block_in_frame f page frame block_index h within =
+    let block : ℕ = page * 64 + block_index in
     let its_page : page_of_block block ≡ page = omega arith in
-    let its_place : place_of_block block ≡ place = omega arith in
+    let its_place : place_of_block block ≡ block_index = omega arith in
     ap (λ o. block_of_page o block) (ap (page_at (memory_of f)) its_page ∙ page_in_frame f page frame h)
     ∙ ap (λ n. Some (block_in (cells_in f frame) n)) its_place
 
@@ -88,8 +88,8 @@ pub frame_of-without_other : (f : Framed) (page q : ℕ) → (q ≡ page → ⊥
 frame_of-without_other f page q ne = frame_of-filter f page q ∙ ap (λ b. cond (not b) (frame_of f q) None) (ne_eqb q page ne)
 
 -- a write moves no page
-pub frame_of-written : (f : Framed) (frame place : ℕ) (new : List Cell) (q : ℕ) → frame_of (written f frame place new) q ≡ frame_of f q
-frame_of-written f frame place new q = refl
+pub frame_of-written : (f : Framed) (frame block_index : ℕ) (new : List Cell) (q : ℕ) → frame_of (written f frame block_index new) q ≡ frame_of f q
+frame_of-written f frame block_index new q = refl
 
 -- 3. The memory after a call.
 
@@ -125,14 +125,14 @@ memory_of-set f page frame new sorted found lt once =
     ∙ ap (λ n. record { pages = put nat_cmp page new (paired (cells_in f) f.rows); frames = n }) (length-set f.cells frame new)
 
 -- a block of a page's frame was written
-pub memory_of-written : (f : Framed) (page frame place : ℕ) (new : List Cell) → IsTrue (is_sorted nat_cmp f.rows) → frame_of f page ≡ Some frame → frame < length f.cells
-    → rows_with frame f.rows ≤ 1 → place < 64 → memory_of (written f frame place new) ≡ put_block (memory_of f) (page * 64 + place) new
-memory_of-written f page frame place new sorted found lt once within =
-    let block : ℕ = page * 64 + place in
+pub memory_of-written : (f : Framed) (page frame block_index : ℕ) (new : List Cell) → IsTrue (is_sorted nat_cmp f.rows) → frame_of f page ≡ Some frame → frame < length f.cells
+    → rows_with frame f.rows ≤ 1 → block_index < 64 → memory_of (written f frame block_index new) ≡ put_block (memory_of f) (page * 64 + block_index) new
+memory_of-written f page frame block_index new sorted found lt once within =
+    let block : ℕ = page * 64 + block_index in
     let its_page : page_of_block block ≡ page = omega arith in
-    let its_place : place_of_block block ≡ place = omega arith in
-    memory_of-set f page frame (with_block (cells_in f frame) place new) sorted found lt once
-    ∙ ap (λ p. record (memory_of f) { pages = put nat_cmp p (with_block (cells_in f frame) place new) (memory_of f).pages }) (sym its_page)
+    let its_place : place_of_block block ≡ block_index = omega arith in
+    memory_of-set f page frame (with_block (cells_in f frame) block_index new) sorted found lt once
+    ∙ ap (λ p. record (memory_of f) { pages = put nat_cmp p (with_block (cells_in f frame) block_index new) (memory_of f).pages }) (sym its_page)
     ∙ ap (λ p. record (memory_of f) { pages = put nat_cmp (page_of_block block) (with_block (cells_in f frame) p new) (memory_of f).pages }) (sym its_place)
     ∙ sym (put_block-mapped (memory_of f) block new (cells_in f frame) (ap (page_at (memory_of f)) its_page ∙ page_in_frame f page frame found))
 

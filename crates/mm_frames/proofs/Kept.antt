@@ -117,13 +117,13 @@ kept_seated f rest page frame i h gap small =
           omega (arith, added, h.once n, times_push n frame rest) ∙ ap (λ k. one_if (nat_lt n k)) (sym same);
     }
 
-pub kept_written : (f : Framed) (free : List ℕ) (frame place : ℕ) (new : List Cell) → IsFramed f free → IsOccupied f frame → place < 64 → length new ≡ 8 → IsFramed (written f frame place new) free
-kept_written f free frame place new h occupied within eight =
+pub kept_written : (f : Framed) (free : List ℕ) (frame block_index : ℕ) (new : List Cell) → IsFramed f free → IsOccupied f frame → block_index < 64 → length new ≡ 8 → IsFramed (written f frame block_index new) free
+kept_written f free frame block_index new h occupied within eight =
     let page = occupied.page in
     let same = length-set f.cells frame _ in
     record {
-      paged = subst IsPaged (sym (memory_of-written f page frame place new (rows_rise f free h) occupied.is (frame_in_range f free h page frame occupied.is) (one_page f free h frame) within))
-          (put_block_paged (memory_of f) (page * 64 + place) new h.paged eight);
+      paged = subst IsPaged (sym (memory_of-written f page frame block_index new (rows_rise f free h) occupied.is (frame_in_range f free h page frame occupied.is) (one_page f free h frame) within))
+          (put_block_paged (memory_of f) (page * 64 + block_index) new h.paged eight);
       small = omega (arith, same, h.small);
       counted = h.counted ∙ sym same;
       once = λ n. h.once n ∙ ap (λ k. one_if (nat_lt n k)) (sym same);

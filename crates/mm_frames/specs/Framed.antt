@@ -52,8 +52,8 @@ without f page = record f { rows = filter (λ row. not (row.0 == page)) f.rows }
 
 -- the frames after a block of a frame was written
 abbrev pub written : Framed → ℕ → ℕ → List Cell → Framed
-written f frame place new = record f {
-  cells = slice_set f.cells frame (with_block (cells_in f frame) place new);
+written f frame block_index new = record f {
+  cells = slice_set f.cells frame (with_block (cells_in f frame) block_index new);
   writes = f.writes + 1;
 }
 

@@ -48,30 +48,30 @@ impl Frame {
     }
 
     /// The cell at a place of the frame.
-    pub(crate) fn cell(&self, place: usize) -> Cell
-        requires { place < 512 }
-        ensures { slice_get self.now place ≡ Some result }
+    pub(crate) fn cell(&self, cell_index: usize) -> Cell
+        requires { cell_index < 512 }
+        ensures { slice_get self.now cell_index ≡ Some result }
     {
-        self.blocks[place / BLOCK].cell(place % BLOCK)
+        self.blocks[cell_index / BLOCK].cell(cell_index % BLOCK)
     }
 
     /// The block at a place of the frame.
-    pub(crate) fn block(&self, place: usize) -> Block
-        requires { place < 64 }
-        ensures block { result ≡ block_in self.now place }
+    pub(crate) fn block(&self, block_index: usize) -> Block
+        requires { block_index < 64 }
+        ensures block { result ≡ block_in self.now block_index }
         ensures whole { length result ≡ 8 }
     {
-        self.blocks[place]
+        self.blocks[block_index]
     }
 
     /// Writes the block at a place of the frame.
-    pub(crate) fn put(&mut self, place: usize, block: &Block)
-        requires place { place < 64 }
+    pub(crate) fn put(&mut self, block_index: usize, block: &Block)
+        requires block_index { block_index < 64 }
         requires whole { length block.now ≡ 8 }
-        ensures cells { self.new ≡ with_block self.old place block.now }
+        ensures cells { self.new ≡ with_block self.old block_index block.now }
         ensures whole { length self.old ≡ 512 }
     {
-        self.blocks[place] = *block;
+        self.blocks[block_index] = *block;
     }
 
     /// Makes each cell integer 0, full.
@@ -86,9 +86,9 @@ impl Frame {
         ensures { self.new ≡ page.now.1 }
     {
         let cells = page.cells();
-        for place in 0..BLOCKS {
-            let at = place * BLOCK;
-            self.put(place, &Block::of(&cells[at..at + BLOCK]));
+        for block_index in 0..BLOCKS {
+            let at = block_index * BLOCK;
+            self.put(block_index, &Block::of(&cells[at..at + BLOCK]));
         }
     }
 }

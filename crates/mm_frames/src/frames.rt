@@ -215,7 +215,7 @@ impl Frames {
     /// Reads a block of a frame, which is counted. `block` is its place in the frame, 0 to 63.
     pub fn read_block(&mut self, frame: u32, block: u8) -> [Cell; BLOCK]
         requires occupied { IsOccupied self.old frame }
-        requires place { block < 64 }
+        requires in_page { block < 64 }
         requires room { self.old.reads < 2 ^ 64 - 1 }
         ensures cells { result ≡ block_in (cells_in self.old frame) block }
         ensures memory { (page : ℕ) → frame_of self.old page ≡ Some frame
@@ -228,7 +228,7 @@ impl Frames {
     /// Writes a block of a frame, which is counted. `block` is its place in the frame, 0 to 63.
     pub fn write_block(&mut self, frame: u32, block: u8, cells: &[Cell; BLOCK])
         requires occupied { IsOccupied self.old frame }
-        requires place { block < 64 }
+        requires in_page { block < 64 }
         requires room { self.old.writes < 2 ^ 64 - 1 }
         ensures after { self.new ≡ written self.old frame block cells.now }
         ensures memory { (page : ℕ) → frame_of self.old page ≡ Some frame
@@ -240,7 +240,7 @@ impl Frames {
     /// Reads a block as `read_block` does, and leaves it packed.
     pub fn read_packed(&mut self, frame: u32, block: u8) -> Block
         requires occupied { IsOccupied self.old frame }
-        requires place { block < 64 }
+        requires in_page { block < 64 }
         requires room { self.old.reads < 2 ^ 64 - 1 }
         ensures cells { result ≡ block_in (cells_in self.old frame) block }
         ensures whole { length result ≡ 8 }
@@ -253,7 +253,7 @@ impl Frames {
     /// Writes a block as `write_block` does, from its packed form.
     pub fn write_packed(&mut self, frame: u32, block: u8, cells: &Block)
         requires occupied { IsOccupied self.old frame }
-        requires place { block < 64 }
+        requires in_page { block < 64 }
         requires whole { length cells.now ≡ 8 }
         requires room { self.old.writes < 2 ^ 64 - 1 }
         ensures after { self.new ≡ written self.old frame block cells.now }
@@ -267,7 +267,7 @@ impl Frames {
     /// The cell of a frame at an index, 0 to 511. It is not counted.
     pub fn peek_cell(&self, frame: u32, index: u16) -> Cell
         requires occupied { IsOccupied self.now frame }
-        requires place { index < 512 }
+        requires in_page { index < 512 }
         ensures cell { slice_get (cells_in self.now frame) index ≡ Some result }
         ensures memory { (page : ℕ) → frame_of self.now page ≡ Some frame
             → cell_at (memory_of self.now) (page * 4096 + index * 8) ≡ Some result }

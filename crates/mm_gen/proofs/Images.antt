@@ -12,7 +12,7 @@ use Rattle.mm_word.specs.Word.{IsWord}
 use Rattle.mm_model.specs.Slot.{Slot}
 use Rattle.mm_model.specs.Memory.{IsPage, IsPaged}
 use Rattle.mm_model.specs.Spelling.{numbers_of, IsFresh, HoldsWords, IsImage}
-use Rattle.mm_model.proofs.ImageBytes.Rising.{sorted_from}
+use Rattle.mm_model.proofs.Bytes.Rising.{sorted_from}
 use Rattle.mm_image.specs.Images.{image_from}
 use Rattle.mm_gen.specs.Generated.{code_page, data_page, slot_pages, page_pointer, slot_at, generated}
 use Rattle.mm_gen.proofs.PageLists.{length-code_cells, length-data_cells, code_words, data_words, each_in_range, each_page, length-pages, pages_rise}

@@ -9,7 +9,7 @@ use Rattle.mm_word.specs.declared.word.Cell.{Cell}
 use Rattle.mm_word.specs.Word.{IsWord}
 use Rattle.mm_isa.specs.Table.{packed, spelling}
 use Rattle.mm_model.specs.Memory.{zero_cell}
-use Rattle.mm_model.proofs.ImageBytes.Rising.{AreRisingFrom}
+use Rattle.mm_model.proofs.Bytes.Rising.{AreRisingFrom}
 use Rattle.mm_gen.specs.Generated.{nth_number, code_page, data_page, full_cell, loop, code_cells, data_cell, data_cells, slot_pages}
 use Rattle.mm_gen.specs.Steps.{cells_behind, pages_behind}
 use Rattle.mm_gen.proofs.Numbers.{nth_number-fits, cells_behind-data}

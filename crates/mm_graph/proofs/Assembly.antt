@@ -37,7 +37,7 @@ use Rattle.mm_graph.specs.Nodes.{IsKeysOf, IsNodes, IsNode, IsTargets, IsMarks, 
 use Rattle.mm_graph.specs.Masks.{IsEntryMasks}
 use Rattle.mm_graph.specs.Forest.{HasForest}
 use Rattle.mm_graph.specs.Marked.{node_pointer}
-use Rattle.mm_graph.proofs.Standing.{stands_from, stands_above, stands_below, standing_none, entry_from, base_below}
+use Rattle.mm_graph.proofs.Representatives.{stands_from, stands_above, stands_below, standing_none, entry_from, base_below}
 use Rattle.mm_graph.proofs.Nesting.{log_is}
 use Rattle.mm_graph.proofs.Cells.{there, held}
 use Rattle.mm_graph.proofs.CellWords.{well_formed}

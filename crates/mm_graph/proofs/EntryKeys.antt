@@ -5,7 +5,7 @@ use Rattle.mm_word.specs.Pointer.{Pointer, IsWellFormed, base_of}
 use Rattle.mm_word.proofs.Packing.{SpellsPointer-bits_of}
 use Rattle.mm_graph.specs.declared.canonical_ptr.CanonicalPtr.{CanonicalPtr}
 use Rattle.mm_graph.specs.Key.{IsKey, key_of, pointer_at, standing_for, entry_key}
-use Rattle.mm_graph.proofs.Standing.{pointer_at-key_of, standing-well_formed, stands_from, entry_from}
+use Rattle.mm_graph.proofs.Representatives.{pointer_at-key_of, standing-well_formed, stands_from, entry_from}
 
 pub key_of-is_key : (p : Pointer) → IsWellFormed p → IsKey (key_of p)
 key_of-is_key p w =

@@ -13,7 +13,7 @@ use Rattle.mm_graph.specs.declared.placed.Placed.{Placed}
 use Rattle.mm_graph.specs.Key.{IsKey, IsRising, entry_key, key_at, no_key}
 use Rattle.mm_graph.specs.Placed.{held_keys, all_keys_of, IsPlaced, HasTargets}
 use Rattle.mm_graph.specs.Nodes.{IsKeysOf, IsTargets, nothing}
-use Rattle.mm_graph.proofs.Standing.{entry_again}
+use Rattle.mm_graph.proofs.Representatives.{entry_again}
 
 cons_list : {A : Type 0} (o : Option A) → cons_option o [] ≡ option_to_list o
 cons_list None = refl

@@ -6,7 +6,7 @@ pub mod Lists
 pub mod OneBits
 pub mod GroupLinks
 pub mod Marking
-pub mod Standing
+pub mod Representatives
 pub mod KeyLists
 pub mod Places
 pub mod EntryKeys

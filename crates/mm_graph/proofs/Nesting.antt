@@ -11,7 +11,7 @@ use Rattle.mm_flow.proofs.Geometry.{ordered_nested}
 use Rattle.mm_graph.specs.declared.canonical_ptr.CanonicalPtr.{CanonicalPtr}
 use Rattle.mm_graph.specs.Key.{IsKey, IsRising, key_cmp, key_at, no_key, pointer_at}
 use Rattle.mm_graph.specs.Forest.{IsBases, IsEnds, HasForest}
-use Rattle.mm_graph.proofs.Standing.{base-block}
+use Rattle.mm_graph.proofs.Representatives.{base-block}
 
 -- by base, or by length at one base
 less_cases : (x y : CanonicalPtr) → key_cmp x y ≡ Less → (x.base < y.base) ⊎ ((x.base ≡ y.base) × (x.narrow ≤ y.narrow))

@@ -16,17 +16,17 @@ abbrev pub all_keys_of : List Found → List Seed → List CanonicalPtr
 all_keys_of found seeds = held_keys found seeds ++ filter_map entry_key (held_keys found seeds)
 
 abbrev pub placed_at : List Placed → ℕ → Placed
-placed_at placed k = slice_index_or placed k (record { key = no_key; place = 0 })
+placed_at placed k = slice_index_or placed k (record { key = no_key; index = 0 })
 
 -- each key with its index, in the order of the list
 pub record IsPlacing (keys : List CanonicalPtr) (placed : List Placed) : Type 0 where
   pub len : length placed ≡ length keys
-  pub at : (k : ℕ) → k < length keys → placed_at placed k ≡ record { key = key_at keys k; place = k }
+  pub at : (k : ℕ) → k < length keys → placed_at placed k ≡ record { key = key_at keys k; index = k }
 
 -- each key with its index, in any order
 pub record IsPlaced (keys : List CanonicalPtr) (placed : List Placed) : Type 0 where
-  pub only : (p : Placed) → Contains placed p → (p.place < length keys) × (p.key ≡ key_at keys p.place)
-  pub each : (k : ℕ) → k < length keys → Contains placed (record { key = key_at keys k; place = k })
+  pub only : (p : Placed) → Contains placed p → (p.index < length keys) × (p.key ≡ key_at keys p.index)
+  pub each : (k : ℕ) → k < length keys → Contains placed (record { key = key_at keys k; index = k })
 
 -- the first keys of the list that was given with indices are at these indices among other keys
 abbrev pub HasTargets : List CanonicalPtr → List Placed → List ℕ → Type 0

@@ -27,7 +27,7 @@ pub fn find(keys: &[CanonicalPtr], key: CanonicalPtr) -> Option<usize>
 }
 
 /// The index of a key that is there.
-pub fn place(keys: &[CanonicalPtr], key: CanonicalPtr) -> usize
+pub fn lower_bound(keys: &[CanonicalPtr], key: CanonicalPtr) -> usize
     requires rising { IsRising keys.now }
     requires there { Contains keys.now key }
     ensures small { result < length keys.now }
@@ -55,5 +55,5 @@ pub fn near(keys: &[CanonicalPtr], at: usize, key: CanonicalPtr) -> usize
             return next;
         }
     }
-    place(keys, key)
+    lower_bound(keys, key)
 }

@@ -11,7 +11,7 @@ use std::alloc::{AllocError, Global};
 #[derive(Clone, Copy, PartialEq, Eq, PartialOrd, Ord)]
 pub struct Placed {
     pub key: CanonicalPtr,
-    pub place: usize,
+    pub index: usize,
 }
 
 /// Each key of a list with its index.
@@ -19,10 +19,10 @@ fn places_of(alloc: Global, keys: &[CanonicalPtr]) -> Result<Vec<Placed>, AllocE
     ensures { IfOk result (λ placed. IsPlacing keys.now placed.items) }
 {
     let mut placed = Vec::new(alloc);
-    for place in 0..keys.len() {
+    for index in 0..keys.len() {
         placed.push(Placed {
-            key: keys[place],
-            place,
+            key: keys[index],
+            index,
         })?;
     }
     Ok(placed)

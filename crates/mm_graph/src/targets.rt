@@ -19,10 +19,10 @@ fn fill_targets(targets: &mut [usize], keys: &[CanonicalPtr], placed: &[Placed])
 {
     let mut at = 0;
     for k in 0..placed.len() {
-        let Placed { key, place } = placed[k];
+        let Placed { key, index } = placed[k];
         at = near(keys, at, key);
-        if place < targets.len() {
-            targets[place] = at;
+        if index < targets.len() {
+            targets[index] = at;
         }
     }
 }

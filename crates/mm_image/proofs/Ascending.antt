@@ -9,7 +9,7 @@ use Rattle.std.proofs.lemmas.List.{get_or-map, length-map, drop_more, drop_all}
 use Rattle.mm_word.specs.declared.word.Cell.{Cell}
 use Rattle.mm_model.specs.Slot.{Slot}
 use Rattle.mm_model.specs.Spelling.{numbers_of}
-use Rattle.mm_model.proofs.ImageBytes.Rising.{AreRisingFrom, sorted_from, rising_from_sorted}
+use Rattle.mm_model.proofs.Bytes.Rising.{AreRisingFrom, sorted_from, rising_from_sorted}
 
 -- 1. Slots.
 

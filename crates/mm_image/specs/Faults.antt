@@ -23,9 +23,9 @@ number_of faults.Frames = 12
 number_of faults.Trailing = 13
 
 -- the error of a reader of fields, as one of images
-abbrev pub told : ReadError ImageFault → ImageError
-told (reading.Fault kind offset) = errors.Fault kind offset
-told reading.NoMemory = errors.NoMemory
+abbrev pub from_read_error : ReadError ImageFault → ImageError
+from_read_error (reading.Fault kind offset) = errors.Fault kind offset
+from_read_error reading.NoMemory = errors.NoMemory
 
 -- the number and the offset of the fault that an error names, if memory did not run out
 abbrev pub fault_of : ImageError → Option (ℕ × ℕ)

@@ -72,9 +72,9 @@ impl FaultKind for ImageFault {
 }
 
 impl From<ReadError<ImageFault>> for ImageError {
-    ghost use Rattle.mm_image.specs.Faults.{told};
+    ghost use Rattle.mm_image.specs.Faults.{from_read_error};
 
-    ghost from_gives = { λ e told_error. told_error ≡ told e };
+    ghost from_gives = { λ e error. error ≡ from_read_error e };
 
     fn from(error: ReadError<ImageFault>) -> ImageError {
         match error {

@@ -132,7 +132,7 @@ fn page_of(pages: &[Page], number: u64) -> Option<&Page>
     ensures { option_map (λ page. page.now.1) result ≡ find nat_cmp number pages.now }
 {
     match pages.binary_search_by_key(&number, |page| page.number()) {
-        Ok(place) => Some(&pages[place]),
+        Ok(at) => Some(&pages[at]),
         Err(_) => None,
     }
 }

@@ -10,7 +10,7 @@ ghost use Rattle.mm_image.specs.Faults.{number_of};
 
 use crate::fault::ImageFault;
 use crate::words::read_word;
-use mm_format::{ReadError, Reader, Run, is_set, read_run, refuse_if};
+use mm_format::{ReadError, Reader, Records, is_set, read_records, refuse_if};
 use mm_model::{CELLS, Page};
 use mm_word::Cell;
 use std::alloc::Global;
@@ -22,12 +22,12 @@ const PAGE_LIMIT: u64 = 1 << 42;
 const BITMAP_BYTES: usize = CELLS / 8;
 
 /// The bit at a place of a bitmap, the lowest of each byte first.
-fn bit(bitmap: &[u8], place: usize) -> bool
-    requires place { place < 512 }
+fn bit(bitmap: &[u8], index: usize) -> bool
+    requires index { index < 512 }
     requires whole { length bitmap.now ≡ 64 }
-    ensures { result ≡ bit_at bitmap.now 0 place }
+    ensures { result ≡ bit_at bitmap.now 0 index }
 {
-    is_set(u16::from(bitmap[place / 8]), place % 8)
+    is_set(u16::from(bitmap[index / 8]), index % 8)
 }
 
 /// Reads the words of a page's cells, with these tags and full bits.
@@ -45,11 +45,11 @@ fn read_cells(
     ensures count { IfOk result (λ cells. vec_len cells ≡ 512) }
 {
     let mut cells = Vec::with_capacity(alloc, CELLS)?;
-    for place in 0..CELLS {
-        let word = read_word(reader, bit(tags, place))?;
+    for index in 0..CELLS {
+        let word = read_word(reader, bit(tags, index))?;
         cells.push(Cell {
             word,
-            full: bit(full, place),
+            full: bit(full, index),
         })?;
     }
     Ok(cells)
@@ -79,11 +79,11 @@ pub fn read_page(
 
 /// What comes before a page: the least number that it may have.
 #[derive(Drop)]
-pub(crate) struct PageRun {
+pub(crate) struct PageRecords {
     pub least: u64,
 }
 
-impl Run<ImageFault> for PageRun {
+impl Records<ImageFault> for PageRecords {
     ghost use Rattle.std.specs.Prelude.{◌+◌};
     ghost use Rattle.mm_format.specs.Images.{page};
 
@@ -109,6 +109,6 @@ pub fn read_pages(
     ensures read { Reads number_of (λ pages. pages.items)
         (times page (λ _ p. p.0 + 1) count 0).read reader.old reader.new result }
 {
-    let mut run = PageRun { least: 0 };
-    read_run(alloc, reader, &mut run, usize::from(count))
+    let mut run = PageRecords { least: 0 };
+    read_records(alloc, reader, &mut run, usize::from(count))
 }

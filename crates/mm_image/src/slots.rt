@@ -15,7 +15,7 @@ use crate::header::slot_limit;
 use crate::layout::{HEADER_BYTES, SLOT_BYTES};
 use crate::words::{read_ip, read_registers};
 use arrayvec::ArrayVec;
-use mm_format::{ReadError, Reader, Run, read_run, refuse_if};
+use mm_format::{ReadError, Reader, Records, read_records, refuse_if};
 use mm_model::{Slot, SlotState};
 use std::alloc::Global;
 
@@ -93,12 +93,12 @@ pub(crate) fn read_slot(
 
 /// What comes before a slot: the limit of numbers, and the least that the next may have.
 #[derive(Drop)]
-pub(crate) struct SlotRun {
+pub(crate) struct SlotRecords {
     pub limit: u8,
     pub least: u8,
 }
 
-impl Run<ImageFault> for SlotRun {
+impl Records<ImageFault> for SlotRecords {
     ghost use Rattle.std.specs.Prelude.{◌+◌};
     ghost use Rattle.mm_format.specs.Images.{slot};
 
@@ -126,11 +126,11 @@ fn slot_records(
         (times (slot (slot_limit version)) (λ _ s. s.number + 1) count 0).read reader.old reader.new result }
     ensures count { IfOk result (λ slots. vec_len slots ≡ count) }
 {
-    let mut run = SlotRun {
+    let mut run = SlotRecords {
         limit: slot_limit(version),
         least: 0,
     };
-    read_run(alloc, reader, &mut run, usize::from(count))
+    read_records(alloc, reader, &mut run, usize::from(count))
 }
 
 /// Fails with `Handler` at the first slot whose handler is bad.

@@ -13,7 +13,7 @@ ghost use Rattle.mm_format.specs.Reading.{ReadsAlone};
 ghost use Rattle.mm_image.specs.Faults.{number_of};
 
 use crate::fault::ImageFault;
-use mm_format::{ReadError, Reader, Sixteen, failed, is_set, read_sixteen};
+use mm_format::{ReadError, Reader, Elements, failed, is_set, read_array};
 use mm_word::{GuardedPtr, Kind, Word};
 
 /// The word of these bits: a pointer if it is tagged. `None` if it is tagged and the bits spell no pointer.
@@ -66,19 +66,19 @@ struct Tags {
     tags: u16,
 }
 
-impl Sixteen<ImageFault> for Tags {
+impl Elements<ImageFault> for Tags {
     ghost use Rattle.std.specs.Prelude.{◌==◌, ◌/◌, ◌%◌, ◌^◌};
     ghost use Rattle.mm_word.specs.Word.{IsWord};
     ghost use Rattle.mm_format.specs.Images.{word};
 
     type Item = Word;
 
-    ghost reads = { λ t place. (word (t.tags / 2 ^ place % 2 == 1)).read };
+    ghost reads = { λ t index. (word (t.tags / 2 ^ index % 2 == 1)).read };
 
     ghost holds = { IsWord };
 
-    fn item(&self, reader: &mut Reader, place: usize) -> Result<Word, ReadError<ImageFault>> {
-        read_word(reader, is_set(self.tags, place))
+    fn item(&self, reader: &mut Reader, index: usize) -> Result<Word, ReadError<ImageFault>> {
+        read_word(reader, is_set(self.tags, index))
     }
 }
 
@@ -93,5 +93,5 @@ pub(crate) fn read_registers(
     ensures words { IfOk result (λ regs. AllByRecursion IsWord regs) }
     ensures count { IfOk result (λ regs. length regs ≡ 16) }
 {
-    read_sixteen(reader, &Tags { tags }, Word::Int(0))
+    read_array(reader, &Tags { tags }, Word::Int(0))
 }

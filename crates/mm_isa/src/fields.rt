@@ -105,7 +105,7 @@ impl Fields {
 
 /// The fields of an instruction, made from its row.
 impl Visitor for Fields {
-    ghost told = { λ f name code. record f { operation = code } };
+    ghost begun = { λ f name code. record f { operation = code } };
 
     ghost given = { put };
 

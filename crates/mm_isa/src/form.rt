@@ -40,7 +40,7 @@ impl Visitor for Form {
     ghost use Rattle.std.specs.Prelude.{◌++◌, [], ◌∷◌, length, nat_lt, if◌then◌else◌};
     ghost use Rattle.mm_isa.specs.Table.{kind_of};
 
-    ghost told = { λ f name code. record f {
+    ghost begun = { λ f name code. record f {
       name = name;
       code = code;
     } };
@@ -78,7 +78,7 @@ impl Model for Name {
 }
 
 impl Visitor for Name {
-    ghost told = { λ _ name _. name };
+    ghost begun = { λ _ name _. name };
 
     ghost given = { λ name _. name };
 

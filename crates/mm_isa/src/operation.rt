@@ -34,7 +34,7 @@ impl Model for Operation {
 impl Visitor for Operation {
     ghost use Rattle.std.specs.Prelude.{◌++◌, [], ◌∷◌, length, nat_lt, if◌then◌else◌};
 
-    ghost told = { λ o name code. record o {
+    ghost begun = { λ o name code. record o {
       name = name;
       code = code;
     } };

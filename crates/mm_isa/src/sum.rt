@@ -20,7 +20,7 @@ impl Visitor for Sum {
     ghost use Rattle.std.specs.Prelude.{◌*◌, ◌^◌};
     ghost use Rattle.mm_isa.specs.Sum.{added};
 
-    ghost told = { λ s name code. record { word = code * 2 ^ 56 } };
+    ghost begun = { λ s name code. record { word = code * 2 ^ 56 } };
 
     ghost given = { added };
 

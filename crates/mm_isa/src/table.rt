@@ -15,14 +15,14 @@ pub trait Visitor {
     ghost use Rattle.mm_isa.specs.declared.operand.Operand.{Operand};
 
     /// The visitor after this name and number of an operation.
-    ghost told: { Self → List ℕ → ℕ → Self };
+    ghost begun: { Self → List ℕ → ℕ → Self };
 
     /// The visitor after one operand more.
     ghost given: { Self → Operand → Self };
 
     /// Takes the name and the number of the operation; it comes before the operands.
     fn operation(self, name: &'static str, code: u8) -> Self
-        ensures { result ≡ told self name.now code };
+        ensures { result ≡ begun self name.now code };
 
     /// Takes the next operand.
     fn operand(self, operand: Operand) -> Self
@@ -37,13 +37,13 @@ fn row<V: Visitor, const N: usize>(
     code: u8,
     operands: [Operand; N],
 ) -> V
-    ensures { result ≡ fold V.given (V.told visitor name.now code) operands.entry }
+    ensures { result ≡ fold V.given (V.begun visitor name.now code) operands.entry }
 {
-    let mut told = visitor.operation(name, code);
+    let mut begun = visitor.operation(name, code);
     for operand in operands {
-        told = told.operand(operand);
+        begun = begun.operand(operand);
     }
-    told
+    begun
 }
 
 impl AluOp {
@@ -73,8 +73,8 @@ impl AluOp {
 impl Instr {
     /// Gives the visitor the instruction's row of the table.
     pub fn visit<V: Visitor>(self, v: V) -> V
-        ensures value { let told = V.told v (operation_of self).name (operation_of self).code in
-            result ≡ fold V.given told (operation_of self).operands }
+        ensures value { let begun = V.begun v (operation_of self).name (operation_of self).code in
+            result ≡ fold V.given begun (operation_of self).operands }
         ensures legal { IsInstr self }
     {
         match self {

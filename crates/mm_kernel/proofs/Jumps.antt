@@ -24,7 +24,7 @@ use Rattle.mm_model.specs.State.{Core}
 use Rattle.mm_model.specs.Image.{Image}
 use Rattle.mm_model.specs.Fits.{identity_of}
 use Rattle.mm_model.specs.Effect.{Effect, plain, sets_pointer, if_pointer, branches, at_distance, jumps, links}
-use Rattle.mm_model.specs.Effect.Effect.{Fault, Does}
+use Rattle.mm_model.specs.Effect.Effect.{Fault, Do}
 use Rattle.mm_model.specs.Turn.{slot_after}
 use Rattle.mm_kernel.specs.Segments.{Segment, is_door}
 use Rattle.mm_kernel.specs.declared.fact.Leak.TheVariants.{Enter}
@@ -87,10 +87,10 @@ module _ (i : Image) (kept : List Segment) (core : Core) (m : Memory) (k : Machi
       by (Err c) e g = g
 
   pub branch_if_zero : (x : Instr) (f : Form) (w : Word) (imm : ℤ) → Holds i kept f w → Alls (kernel.branches_if true t x (exact_bits f) imm)
-      → Eff x (if word_bits w == 0 then branches s (at_distance s imm) else Does (plain s))
+      → Eff x (if word_bits w == 0 then branches s (at_distance s imm) else Do (plain s))
   branch_if_zero x f w imm h all = go (exact_bits f) refl all
     where
-      on : (b : Bool) → Chosen (Follows i kept t (kernel.branches t x imm)) (Follows i kept t (outcome.Goes (stepped t))) b → Eff x (if b then branches s (at_distance s imm) else Does (plain s))
+      on : (b : Bool) → Chosen (Follows i kept t (kernel.branches t x imm)) (Follows i kept t (outcome.Goes (stepped t))) b → Eff x (if b then branches s (at_distance s imm) else Do (plain s))
       on true f = branch_ok x imm f
       on false f = plain_ok i kept core m k s t a x f
 
@@ -103,15 +103,15 @@ module _ (i : Image) (kept : List Segment) (core : Core) (m : Memory) (k : Machi
       either true g = g.0
       either false g = g.1.0
 
-      go : (o : Option ℕ) → exact_bits f ≡ o → Alls (kernel.branches_if true t x o imm) → Eff x (if word_bits w == 0 then branches s (at_distance s imm) else Does (plain s))
+      go : (o : Option ℕ) → exact_bits f ≡ o → Alls (kernel.branches_if true t x o imm) → Eff x (if word_bits w == 0 then branches s (at_distance s imm) else Do (plain s))
       go None e g = on (word_bits w == 0) (either (word_bits w == 0) g)
-      go (Some n) e g = subst (λ y. Eff x (if y == 0 then branches s (at_distance s imm) else Does (plain s))) (exact_bits_is i kept f w h n e) (on (n == 0) (one (n == 0) g))
+      go (Some n) e g = subst (λ y. Eff x (if y == 0 then branches s (at_distance s imm) else Do (plain s))) (exact_bits_is i kept f w h n e) (on (n == 0) (one (n == 0) g))
 
   pub branch_if_not : (x : Instr) (f : Form) (w : Word) (imm : ℤ) → Holds i kept f w → Alls (kernel.branches_if false t x (exact_bits f) imm)
-      → Eff x (if word_bits w == 0 then Does (plain s) else branches s (at_distance s imm))
+      → Eff x (if word_bits w == 0 then Do (plain s) else branches s (at_distance s imm))
   branch_if_not x f w imm h all = go (exact_bits f) refl all
     where
-      on : (b : Bool) → Chosen (Follows i kept t (outcome.Goes (stepped t))) (Follows i kept t (kernel.branches t x imm)) b → Eff x (if b then Does (plain s) else branches s (at_distance s imm))
+      on : (b : Bool) → Chosen (Follows i kept t (outcome.Goes (stepped t))) (Follows i kept t (kernel.branches t x imm)) b → Eff x (if b then Do (plain s) else branches s (at_distance s imm))
       on false f = branch_ok x imm f
       on true f = plain_ok i kept core m k s t a x f
 
@@ -124,9 +124,9 @@ module _ (i : Image) (kept : List Segment) (core : Core) (m : Memory) (k : Machi
       either false g = g.0
       either true g = g.1.0
 
-      go : (o : Option ℕ) → exact_bits f ≡ o → Alls (kernel.branches_if false t x o imm) → Eff x (if word_bits w == 0 then Does (plain s) else branches s (at_distance s imm))
+      go : (o : Option ℕ) → exact_bits f ≡ o → Alls (kernel.branches_if false t x o imm) → Eff x (if word_bits w == 0 then Do (plain s) else branches s (at_distance s imm))
       go None e g = on (word_bits w == 0) (either (word_bits w == 0) g)
-      go (Some n) e g = subst (λ y. Eff x (if y == 0 then Does (plain s) else branches s (at_distance s imm))) (exact_bits_is i kept f w h n e) (on (n == 0) (one (n == 0) g))
+      go (Some n) e g = subst (λ y. Eff x (if y == 0 then Do (plain s) else branches s (at_distance s imm))) (exact_bits_is i kept f w h n e) (on (n == 0) (one (n == 0) g))
 
   pub lip_ok : (x : Instr) (rd : ℕ) (imm : ℤ) → Ready s rd → Alls (kernel.moved t x rd (kernel.at_distance t imm)) → Eff x (sets_pointer s rd (at_distance s imm))
   lip_ok x rd imm hd all = by (at_distance s imm) refl (subst (λ r. Alls (kernel.moved t x rd r)) (same_distance imm) all)

@@ -18,7 +18,7 @@ use Rattle.mm_word.specs.declared.word.Post.TheVariants as posts
 use Rattle.mm_word.specs.declared.word.Word.{Word}
 use Rattle.mm_word.specs.declared.word.Word.TheVariants.{Int, Ptr}
 use Rattle.mm_word.specs.declared.word.Cell.{Cell}
-use Rattle.mm_word.specs.Access.{Touch, IsGranted, check_result}
+use Rattle.mm_word.specs.Access.{AccessValue, IsGranted, check_result}
 use Rattle.mm_word.specs.Perm.{can_load, can_store, can_become, allows, code_of, execute_form}
 use Rattle.mm_word.specs.Pointer.{Pointer, InSegment, Covers, holds_word, enter_result, restrict_result}
 use Rattle.mm_word.specs.Word.{IsWord, IsPointerAnd, word_bits, is_pointer}
@@ -69,18 +69,18 @@ restrict_named p Ep e = ap (λ b. if b then Ok (record p { perm = Ep }) else Err
 restrict_named p Key e = ap (λ b. if b then Ok (record p { perm = Key }) else Err cause.Perm) e
 
 -- an access that passed its tests, through a word
-pub record Through (w : Word) (kind : Kind) (t : Touch) : Type 0 where
+pub record Through (w : Word) (kind : Kind) (t : AccessValue) : Type 0 where
   pub is : w ≡ Ptr t.ptr
   pub right : allows t.ptr.perm kind ≡ true
   pub granted : IsGranted t
 
-pub through : (w : Word) (by : ℤ) (kind : Kind) (t : Touch) → IsWord w → check_result w by kind ≡ Ok t → Through w kind t
+pub through : (w : Word) (by : ℤ) (kind : Kind) (t : AccessValue) → IsWord w → check_result w by kind ≡ Ok t → Through w kind t
 through w by kind t h e =
     let granted = check_result-IsGranted w by kind t h e in
     let is : t.kind ≡ kind = kind_by w by kind (Ok t) (sym e) in
     record { is = pointer_by w by kind (Ok t) (sym e); right = ap (allows t.ptr.perm) (sym is) ∙ granted.right; granted = granted }
 
-pub touched_in : (t : Touch) → IsGranted t → InSegment t.ptr t.addr
+pub touched_in : (t : AccessValue) → IsGranted t → InSegment t.ptr t.addr
 touched_in t h = let first : (t.addr + 0) / 2 ^ t.ptr.log ≡ t.ptr.addr / 2 ^ t.ptr.log = h.inside 0 (omega arith) in rw add-zero at first
 
 -- what enters an executable pointer
@@ -206,7 +206,7 @@ module _ (i : Image) (kept : List Segment) (core : Core) (m : Memory) (k : Machi
   as_kept : (w : ℕ) (v : Word) (b : Bool) → is_kept kept w ≡ b → WordOk i kept w v → WordOkAs i kept b w v
   as_kept w v b e h = subst (λ c. WordOkAs i kept c w v) e h
 
-  shared_unkept : (to : Touch) → IsShared i kept (Ptr to.ptr) → can_load to.ptr.perm ≡ true → IsGranted to → is_kept kept to.addr ≡ false
+  shared_unkept : (to : AccessValue) → IsShared i kept (Ptr to.ptr) → can_load to.ptr.perm ≡ true → IsGranted to → is_kept kept to.addr ≡ false
   shared_unkept to sh right granted = not_kept kept to.ptr to.addr (touched_in to granted) (open_outside kept to.ptr sh.open_word right)
 
   itself : (w : ℕ) → lies_in w (w, 3) ≡ true
@@ -219,7 +219,7 @@ module _ (i : Image) (kept : List Segment) (core : Core) (m : Memory) (k : Machi
     pub up : Up i kept (with_form (stepped t) rd form)
     pub fits : Fits i kept form v
 
-  any_loaded : (rd : ℕ) (to : Touch) (c : Cell) → cell_at m to.addr ≡ Some c → is_kept kept to.addr ≡ false → Follows i kept t (kernel.sets t rd Any) → Loaded rd c.word
+  any_loaded : (rd : ℕ) (to : AccessValue) (c : Cell) → cell_at m to.addr ≡ Some c → is_kept kept to.addr ≡ false → Follows i kept t (kernel.sets t rd Any) → Loaded rd c.word
   unfolding kernel.sets
   any_loaded rd to c at out up = record { form = Any; up = up; fits = as_kept to.addr c.word false out (k.cells.cells to.addr c at) }
 
@@ -249,7 +249,7 @@ module _ (i : Image) (kept : List Segment) (core : Core) (m : Memory) (k : Machi
           record { form = exactly d.word; up = g; fits = subst (λ (y : Cell). Fits i kept (exactly y.word) c.word) same (fits_exactly i kept c.word (word_clean w c at)) }
       by false false is fx g = record { form = Any; up = g; fits = as_kept w c.word false is (k.cells.cells w c at) }
 
-  set_ok : (post : Post) (f : Form) (v : Word) (to : Touch) (c : Cell) → cell_at m to.addr ≡ Some c → Fits i kept f v → Through v (load_kind post) to → CellOk i kept m (set_by post to.addr c)
+  set_ok : (post : Post) (f : Form) (v : Word) (to : AccessValue) (c : Cell) → cell_at m to.addr ≡ Some c → Fits i kept f v → Through v (load_kind post) to → CellOk i kept m (set_by post to.addr c)
   set_ok posts.Keep f v to c at h th = tt
   set_ok posts.Full f v to c at h th =
       let clean : Clean i to.ptr = subst (CleanWord i) th.is h.clean in
@@ -270,7 +270,7 @@ module _ (i : Image) (kept : List Segment) (core : Core) (m : Memory) (k : Machi
         word = k.cells.cells to.addr c at;
       }
 
-  got_ok : (x : Instr) (rd : ℕ) (post : Post) (f : Form) (v : Word) (to : Touch) (c : Cell) (split : Bool) → Ready s rd → cell_at m to.addr ≡ Some c → Fits i kept f v
+  got_ok : (x : Instr) (rd : ℕ) (post : Post) (f : Form) (v : Word) (to : AccessValue) (c : Cell) (split : Bool) → Ready s rd → cell_at m to.addr ≡ Some c → Fits i kept f v
       → Through v (load_kind post) to → Loaded rd c.word
       → Eff x (loaded split s rd post (Got to c))
   unfolding plain slot_after is_empty
@@ -313,7 +313,7 @@ module _ (i : Image) (kept : List Segment) (core : Core) (m : Memory) (k : Machi
   waits_fault x pres.Empty full e g = g.0
 
   -- what is loaded
-  load_value : (x : Instr) (rd : ℕ) (f : Form) (v : Word) (imm : ℤ) (pre : Pre) (kind : Kind) (to : Touch) (c : Cell) → WholeForm kept f → Fits i kept f v → Through v kind to
+  load_value : (x : Instr) (rd : ℕ) (f : Form) (v : Word) (imm : ℤ) (pre : Pre) (kind : Kind) (to : AccessValue) (c : Cell) → WholeForm kept f → Fits i kept f v → Through v kind to
       → check_result v imm kind ≡ Ok to
       → cell_at m to.addr ≡ Some c → Alls (kernel.loads i kept t x rd f imm pre kind) → Loaded rd c.word
   unfolding kernel.loads
@@ -351,37 +351,37 @@ module _ (i : Image) (kept : List Segment) (core : Core) (m : Memory) (k : Machi
       held p e = (subst (λ (y : Form). Fits i kept y v) e h).holds
 
       -- an exact pointer, by the result of its check
-      exactly_by : (r : Result Touch Cause) → check_result v imm kind ≡ r → (Alls (kernel.loaded_by i kept t x rd pre r) → Follows i kept t (kernel.fault t x)) → Follows i kept t (kernel.fault t x)
+      exactly_by : (r : Result AccessValue Cause) → check_result v imm kind ≡ r → (Alls (kernel.loaded_by i kept t x rd pre r) → Follows i kept t (kernel.fault t x)) → Follows i kept t (kernel.fault t x)
       exactly_by r e f2 = load_faults x rd f imm pre kind
           (λ p is g. f2 (subst (λ y. Alls (kernel.loaded_by i kept t x rd pre y)) (ap (λ (y : Word). check_result y imm kind) (sym (held p is)) ∙ e) g)) all
 
-      at_image : (to : Touch) (o : Option Cell) → cell_at i.memory to.addr ≡ o → Alls (kernel.loaded_by i kept t x rd pre (Ok to)) → Alls (kernel.loaded_at i kept t x rd pre to.addr o)
+      at_image : (to : AccessValue) (o : Option Cell) → cell_at i.memory to.addr ≡ o → Alls (kernel.loaded_by i kept t x rd pre (Ok to)) → Alls (kernel.loaded_at i kept t x rd pre to.addr o)
       at_image to o e g = subst (λ y. Alls (kernel.loaded_at i kept t x rd pre to.addr y)) e g
 
-      missing : (to : Touch) → cell_at m to.addr ≡ None → Alls (kernel.loaded_by i kept t x rd pre (Ok to)) → Follows i kept t (kernel.fault t x)
+      missing : (to : AccessValue) → cell_at m to.addr ≡ None → Alls (kernel.loaded_by i kept t x rd pre (Ok to)) → Follows i kept t (kernel.fault t x)
       missing to none g = go (cell_at i.memory to.addr) refl (at_image to (cell_at i.memory to.addr) refl g)
         where
           go : (o : Option Cell) → cell_at i.memory to.addr ≡ o → Alls (kernel.loaded_at i kept t x rd pre to.addr o) → Follows i kept t (kernel.fault t x)
           go None e g = g.0
           go (Some d) e g = let back = k.cells.back to.addr d e in let is = back.1 in absurd (cc)
 
-      synced : (to : Touch) (c : Cell) → cell_at m to.addr ≡ Some c → passes pre c.full ≡ false → Alls (kernel.loaded_by i kept t x rd pre (Ok to)) → Follows i kept t (kernel.fault t x)
+      synced : (to : AccessValue) (c : Cell) → cell_at m to.addr ≡ Some c → passes pre c.full ≡ false → Alls (kernel.loaded_by i kept t x rd pre (Ok to)) → Follows i kept t (kernel.fault t x)
       synced to c at bad g =
           let there = k.cells.there to.addr c at in
           waits_fault x pre c.full bad (at_image to (Some there.0) there.1 g).1
 
-      passed : (to : Touch) (c : Cell) (b : Bool) → check_result v imm kind ≡ Ok to → cell_at m to.addr ≡ Some c → passes pre c.full ≡ b
+      passed : (to : AccessValue) (c : Cell) (b : Bool) → check_result v imm kind ≡ Ok to → cell_at m to.addr ≡ Some c → passes pre c.full ≡ b
           → Eff x (loaded core.split s rd post (if b then Got to c else Refused cause.Sync))
       passed to c true e at p =
           let th = through v imm kind to ok e in
           got_ok x rd post f v to c core.split hd at h th (load_value x rd f v imm pre kind to c whole h th e at all)
       passed to c false e at p = exactly_by (Ok to) e (synced to c at p)
 
-      found : (to : Touch) (o : Option Cell) → check_result v imm kind ≡ Ok to → cell_at m to.addr ≡ o → Eff x (loaded core.split s rd post (reached to pre o))
+      found : (to : AccessValue) (o : Option Cell) → check_result v imm kind ≡ Ok to → cell_at m to.addr ≡ o → Eff x (loaded core.split s rd post (reached to pre o))
       found to None e at = exactly_by (Ok to) e (missing to at)
       found to (Some c) e at = passed to c (passes pre c.full) e at refl
 
-      by : (r : Result Touch Cause) → check_result v imm kind ≡ r → Eff x (loaded core.split s rd post (reply core m s.number (reaching r pre)))
+      by : (r : Result AccessValue Cause) → check_result v imm kind ≡ r → Eff x (loaded core.split s rd post (reply core m s.number (reaching r pre)))
       by (Err c) e = exactly_by (Err c) e (λ g. g.0)
       by (Ok to) e = found to (cell_at m to.addr) e refl
 
@@ -430,7 +430,7 @@ module _ (i : Image) (kept : List Segment) (core : Core) (m : Memory) (k : Machi
       by true e g = held_stored rb w v c (w, 3) at h e (itself w) g
       by false e g = outside_stored rb w v h e g
 
-  store_value : (x : Instr) (rb : ℕ) (f : Form) (v u : Word) (imm : ℤ) (pre : Pre) (to : Touch) (c : Cell) → WholeForm kept f → Fits i kept f u → Fits i kept (form_in t rb) v
+  store_value : (x : Instr) (rb : ℕ) (f : Form) (v u : Word) (imm : ℤ) (pre : Pre) (to : AccessValue) (c : Cell) → WholeForm kept f → Fits i kept f u → Fits i kept (form_in t rb) v
       → Through u Store to → check_result u imm Store ≡ Ok to
       → cell_at m to.addr ≡ Some c → Alls (kernel.stores i kept t x f rb imm pre) → Stored to.addr v
   unfolding kernel.stores
@@ -464,26 +464,26 @@ module _ (i : Image) (kept : List Segment) (core : Core) (m : Memory) (k : Machi
       held : (p : Pointer) → f ≡ Exactly p → u ≡ Ptr p
       held p e = (subst (λ (y : Form). Fits i kept y u) e h).holds
 
-      exactly_by : (r : Result Touch Cause) → check_result u imm Store ≡ r → (Alls (kernel.stored_by i kept t x rb pre r) → Follows i kept t (kernel.fault t x)) → Follows i kept t (kernel.fault t x)
+      exactly_by : (r : Result AccessValue Cause) → check_result u imm Store ≡ r → (Alls (kernel.stored_by i kept t x rb pre r) → Follows i kept t (kernel.fault t x)) → Follows i kept t (kernel.fault t x)
       exactly_by r e f2 = store_faults x rb f imm pre
           (λ p is g. f2 (subst (λ y. Alls (kernel.stored_by i kept t x rb pre y)) (ap (λ (y : Word). check_result y imm Store) (sym (held p is)) ∙ e) g)) all
 
-      at_image : (to : Touch) (o : Option Cell) → cell_at i.memory to.addr ≡ o → Alls (kernel.stored_by i kept t x rb pre (Ok to)) → Alls (kernel.stored_at kept t x rb pre to.addr o)
+      at_image : (to : AccessValue) (o : Option Cell) → cell_at i.memory to.addr ≡ o → Alls (kernel.stored_by i kept t x rb pre (Ok to)) → Alls (kernel.stored_at kept t x rb pre to.addr o)
       at_image to o e g = subst (λ y. Alls (kernel.stored_at kept t x rb pre to.addr y)) e g
 
-      missing : (to : Touch) → cell_at m to.addr ≡ None → Alls (kernel.stored_by i kept t x rb pre (Ok to)) → Follows i kept t (kernel.fault t x)
+      missing : (to : AccessValue) → cell_at m to.addr ≡ None → Alls (kernel.stored_by i kept t x rb pre (Ok to)) → Follows i kept t (kernel.fault t x)
       missing to none g = go (cell_at i.memory to.addr) refl (at_image to (cell_at i.memory to.addr) refl g)
         where
           go : (o : Option Cell) → cell_at i.memory to.addr ≡ o → Alls (kernel.stored_at kept t x rb pre to.addr o) → Follows i kept t (kernel.fault t x)
           go None e g = g.0
           go (Some d) e g = let back = k.cells.back to.addr d e in let is = back.1 in absurd (cc)
 
-      synced : (to : Touch) (c : Cell) → cell_at m to.addr ≡ Some c → passes pre c.full ≡ false → Alls (kernel.stored_by i kept t x rb pre (Ok to)) → Follows i kept t (kernel.fault t x)
+      synced : (to : AccessValue) (c : Cell) → cell_at m to.addr ≡ Some c → passes pre c.full ≡ false → Alls (kernel.stored_by i kept t x rb pre (Ok to)) → Follows i kept t (kernel.fault t x)
       synced to c at bad g =
           let there = k.cells.there to.addr c at in
           waits_fault x pre c.full bad (at_image to (Some there.0) there.1 g).1.1
 
-      passed : (to : Touch) (c : Cell) (b : Bool) → check_result u imm Store ≡ Ok to → cell_at m to.addr ≡ Some c → passes pre c.full ≡ b
+      passed : (to : AccessValue) (c : Cell) (b : Bool) → check_result u imm Store ≡ Ok to → cell_at m to.addr ≡ Some c → passes pre c.full ≡ b
           → Eff x (stored s v post (if b then Got to c else Refused cause.Sync))
       passed to c true e at p =
           let th = through u imm Store to ok e in
@@ -498,10 +498,10 @@ module _ (i : Image) (kept : List Segment) (core : Core) (m : Memory) (k : Machi
           }
       passed to c false e at p = exactly_by (Ok to) e (synced to c at p)
 
-      found : (to : Touch) (o : Option Cell) → check_result u imm Store ≡ Ok to → cell_at m to.addr ≡ o → Eff x (stored s v post (reached to pre o))
+      found : (to : AccessValue) (o : Option Cell) → check_result u imm Store ≡ Ok to → cell_at m to.addr ≡ o → Eff x (stored s v post (reached to pre o))
       found to None e at = exactly_by (Ok to) e (missing to at)
       found to (Some c) e at = passed to c (passes pre c.full) e at refl
 
-      by : (r : Result Touch Cause) → check_result u imm Store ≡ r → Eff x (stored s v post (reply core m s.number (reaching r pre)))
+      by : (r : Result AccessValue Cause) → check_result u imm Store ≡ r → Eff x (stored s v post (reply core m s.number (reaching r pre)))
       by (Err c) e = exactly_by (Err c) e (λ g. g.0)
       by (Ok to) e = found to (cell_at m to.addr) e refl

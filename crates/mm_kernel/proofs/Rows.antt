@@ -26,7 +26,7 @@ use Rattle.mm_model.specs.State.{Core, slot_at}
 use Rattle.mm_model.specs.Image.{Image}
 use Rattle.mm_model.specs.Fits.{Matches, identity_of}
 use Rattle.mm_model.specs.Effect.{Effect, advanced, runs_past, plain, sets, sets_pointer, sets_number, if_pointer, test}
-use Rattle.mm_model.specs.Effect.Effect.{Fault, Block, Deliver, Does}
+use Rattle.mm_model.specs.Effect.Effect.{Fault, Block, Deliver, Do}
 use Rattle.mm_model.specs.Turn.{slot_after}
 use Rattle.mm_kernel.specs.Segments.{Segment, meets, is_inside, runs_privileged}
 use Rattle.mm_kernel.specs.Derived.{has_segment}
@@ -131,7 +131,7 @@ module _ (i : Image) (kept : List Segment) (core : Core) (m : Memory) (k : Machi
   EffectOk x (Fault c) = Follows i kept t (kernel.fault t x)
   EffectOk x Block = Unit {0}
   EffectOk x (Deliver o) = SlotOk i kept o
-  EffectOk x (Does c) = ChangeOk i kept m s c
+  EffectOk x (Do c) = ChangeOk i kept m s c
 
   pub sound : Sound s
   sound = k.sound s.number s a.at
@@ -171,7 +171,7 @@ module _ (i : Image) (kept : List Segment) (core : Core) (m : Memory) (k : Machi
 
   -- the rows
 
-  pub plain_ok : (x : Instr) → Follows i kept t (outcome.Goes (stepped t)) → EffectOk x (Does (plain s))
+  pub plain_ok : (x : Instr) → Follows i kept t (outcome.Goes (stepped t)) → EffectOk x (Do (plain s))
   unfolding plain slot_after
   plain_ok x up = record { own = steps_on up; cell = tt; pages = refl; queue = tt; other = tt }
 
@@ -179,7 +179,7 @@ module _ (i : Image) (kept : List Segment) (core : Core) (m : Memory) (k : Machi
   unfolding plain slot_after kernel.sets
   sets_ok x rd f w h up fits = record { own = writes_on rd f w h up fits; cell = tt; pages = refl; queue = tt; other = tt }
 
-  pub halts_ok : (x : Instr) → EffectOk x (Does (record (plain s) { next = s.ip; past = s.past; halts = true }))
+  pub halts_ok : (x : Instr) → EffectOk x (Do (record (plain s) { next = s.ip; past = s.past; halts = true }))
   unfolding plain slot_after
   halts_ok x = record { own = tt; cell = tt; pages = refl; queue = tt; other = tt }
 

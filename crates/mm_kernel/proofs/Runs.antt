@@ -18,7 +18,7 @@ use Rattle.mm_model.specs.State.{ThreadRow, State, slot_at}
 use Rattle.mm_model.specs.Image.{Image, slot_limit, start}
 use Rattle.mm_model.specs.Spelling.{IsFresh, IsImage}
 use Rattle.mm_model.specs.Flags.{one_if}
-use Rattle.mm_model.specs.Fits.{IsSlot, IsState, LoadsMatch, LoadsAreKept, IsKept, loads_for, Fits as FitsImage}
+use Rattle.mm_model.specs.Fits.{IsSlot, IsState, LoadsMatch, LoadsAreConsistent, IsConsistent, loads_for, Fits as FitsImage}
 use Rattle.mm_model.specs.Turn.{is_running}
 use Rattle.mm_model.specs.Run.{turn_of, after, run}
 use Rattle.mm_model.proofs.CoreRows.{each_map, each_both, each_contained, slot_has, slots_found, out_of_map}
@@ -61,7 +61,7 @@ module _ (i j : Image) (kept : List Segment) (img : IsImage i) (jmg : IsImage j)
   pub record Holding (s : State) : Type 0 where
     pub state : IsState s
     pub fits : FitsImage j s
-    pub keeps : IsKept s.core
+    pub keeps : IsConsistent s.core
     pub rows : RowsOk i kept s.core
     pub cells : MemOk i kept s.memory
 
@@ -77,7 +77,7 @@ module _ (i j : Image) (kept : List Segment) (img : IsImage i) (jmg : IsImage j)
     cells = h.cells;
     sound = λ n of at. record { registers = (slot_is s h n of at).registers; flags = (slot_is s h n of at).flags; loads = loads_are s h n of at };
     mode = λ e n of r at.
-        let loads = slot_has (LoadsAreKept s.core.split) s.core n of h.keeps.loads at in
+        let loads = slot_has (LoadsAreConsistent s.core.split) s.core n of h.keeps.loads at in
         let none : of.pending ≡ [] = loads.mode e in
         one_if_zero (is_empty of r) (sym ((loads_are s h n of at).each r) ∙ ap (loads_for r) none);
     runs = λ n of at. (slot_is s h n of at).executable;
@@ -129,7 +129,7 @@ module _ (i j : Image) (kept : List Segment) (img : IsImage i) (jmg : IsImage j)
         word : (r : ℕ) (b : Bool) → is_empty of r ≡ b → IsShared i kept (register of r)
         word r false e = public_shared i kept (form_in t r) (register of r) (free_form i kept t free r) (m.registers r e).holds
         word r true e =
-            let loads = slot_has (LoadsAreKept s.core.split) s.core n of h.keeps.loads at in
+            let loads = slot_has (LoadsAreConsistent s.core.split) s.core n of h.keeps.loads at in
             subst (IsShared i kept) (sym (loads.zero r e)) (shared_int i kept 0)
 
     event_shares : (n : ℕ) (e : Event) → is_kernel i kept n ≡ false → EventOk i kept n e → EventShares i kept e

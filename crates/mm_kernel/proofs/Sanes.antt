@@ -19,7 +19,7 @@ use Rattle.mm_word.specs.declared.word.Pre.TheVariants as pres
 use Rattle.mm_word.specs.declared.word.Word.{Word}
 use Rattle.mm_word.specs.declared.word.Word.TheVariants.{Int, Ptr}
 use Rattle.mm_word.specs.declared.word.Cell.{Cell}
-use Rattle.mm_word.specs.Access.{Touch, check_result}
+use Rattle.mm_word.specs.Access.{AccessValue, check_result}
 use Rattle.mm_word.specs.Perm.{can_move, can_become, allows, execute_form, code_of}
 use Rattle.mm_word.specs.Pointer.{Pointer, bits_of, base_of, next_result, enter_result, lea_result, leab_result}
 use Rattle.mm_word.specs.Pointer.{subseg_result}
@@ -316,7 +316,7 @@ module _ (i : Image) (kept : List Segment) (ks : Keeps i kept) where
         by false true = setting rd (exactly c.word) (sane_exactly kept c.word (cell_sane w c at))
         by false false = setting rd Any tt
 
-    loaded_from : (x : Instr) (rd : ℕ) (pre : Pre) (r : Result Touch Cause) → Os (loaded_by i kept t x rd pre r)
+    loaded_from : (x : Instr) (rd : ℕ) (pre : Pre) (r : Result AccessValue Cause) → Os (loaded_by i kept t x rd pre r)
     loaded_from x rd pre (Err c) = (faults x, tt)
     loaded_from x rd pre (Ok a) = by (cell_at i.memory a.addr) refl
       where
@@ -348,7 +348,7 @@ module _ (i : Image) (kept : List Segment) (ks : Keeps i kept) where
         by true = sane_stored kept (form_in t rb) (form rb)
         by false = form rb
 
-    stored_from : (x : Instr) (rb : ℕ) (pre : Pre) (r : Result Touch Cause) → Os (stored_by i kept t x rb pre r)
+    stored_from : (x : Instr) (rb : ℕ) (pre : Pre) (r : Result AccessValue Cause) → Os (stored_by i kept t x rb pre r)
     stored_from x rb pre (Err c) = (faults x, tt)
     stored_from x rb pre (Ok a) = by (cell_at i.memory a.addr)
       where
@@ -483,7 +483,7 @@ module _ (i : Image) (kept : List Segment) (ks : Keeps i kept) where
         got w None = ((tt, tt), tt)
         got w (Some c) = word_is w c (is_fixed i w)
 
-        aims : (r : Result Touch Cause) → Os (aimed i kept t r)
+        aims : (r : Result AccessValue Cause) → Os (aimed i kept t r)
         aims (Err c) = ((tt, tt), tt)
         aims (Ok a) = got a.addr (cell_at i.memory a.addr)
 

@@ -24,7 +24,7 @@ use Rattle.mm_model.specs.Fits.{is_waiting}
 use Rattle.mm_model.specs.Effect.{Reply, Effect, advanced, runs_past, plain, sets, takes, resumed_by, resumes}
 use Rattle.mm_model.specs.Effect.{delivered, reads_of, writes_of}
 use Rattle.mm_model.specs.Effect.Reply.{Refused, Took, Served}
-use Rattle.mm_model.specs.Effect.Effect.{Deliver, Does}
+use Rattle.mm_model.specs.Effect.Effect.{Deliver, Do}
 use Rattle.mm_model.specs.Turn.{slot_after, event_reply, first_event, served, is_taken, is_handler}
 use Rattle.mm_model.proofs.CoreRows.{each_contained, each_map, each_set}
 use Rattle.mm_model.proofs.CoreSteps.{queued_waits, handler_is}
@@ -308,7 +308,7 @@ module _ (i : Image) (kept : List Segment) (core : Core) (m : Memory) (k : Machi
           whys (inr held) = let d = h.held held in inr (record { handler = s.number; is = h.handled; kernel = d.2; derived = all.1.1.1.0 s.number h.stopped.thread d.0 d.1 })
 
       by : (of : Slot) (h : Serves of) (b : Bool) → (core.split && is_empty of r) ≡ b
-          → Eff x (if b then Deliver (delivered of) else Does (record (plain s) { other = Some (record of { regs = slice_set of.regs r w }) }))
+          → Eff x (if b then Deliver (delivered of) else Do (record (plain s) { other = Some (record of { regs = slice_set of.regs r w }) }))
       by of h true e = slot_delivered i kept of h.sounds h.whole
       by of h false e = record {
         own = steps_on i kept core m k s t a all.1.0;

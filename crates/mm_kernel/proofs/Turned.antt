@@ -14,7 +14,7 @@ use Rattle.mm_word.specs.declared.word.Pre.{Pre}
 use Rattle.mm_word.specs.declared.word.Word.{Word}
 use Rattle.mm_word.specs.declared.word.Word.TheVariants.{Int, Ptr}
 use Rattle.mm_word.specs.declared.word.Cell.{Cell}
-use Rattle.mm_word.specs.Access.{Touch, check_result}
+use Rattle.mm_word.specs.Access.{AccessValue, check_result}
 use Rattle.mm_word.specs.Perm.{can_fetch}
 use Rattle.mm_word.specs.Pointer.{Pointer, IsWellFormed}
 use Rattle.mm_word.specs.Word.{IsWord, word_bits}
@@ -33,7 +33,7 @@ use Rattle.mm_model.specs.Image.{Image}
 use Rattle.mm_model.specs.Operands.{addr_operand, value_operand, word_a, word_b, field_a, field_b, field_imm, lacks}
 use Rattle.mm_model.specs.Ask.{Ask, ask, reaching, load_kind, is_privileged}
 use Rattle.mm_model.specs.Effect.{Effect, effect, delivered}
-use Rattle.mm_model.specs.Effect.Effect.{Fault, Block, Deliver, Does}
+use Rattle.mm_model.specs.Effect.Effect.{Fault, Block, Deliver, Do}
 use Rattle.mm_model.specs.Turn.{Turned, is_running, reply, stood, event_of, faulted, touch_of, asked_use, blocked}
 use Rattle.mm_model.specs.Turn.{ended, executed, issued, decoded, instr_in, fetched, aimed, started, idle, arrives}
 use Rattle.mm_model.specs.Turn.{turn}
@@ -90,37 +90,37 @@ module _ (i : Image) (kept : List Segment) (ks : Keeps i kept) (core : Core) (m 
     pub freely : Free i kept t → (x : Instr) → IsInstr x → AllByRecursion (Follows i kept t) (kernel.outcomes_of i kept t x)
 
   -- what the uses of a turn are: none, or by a fetch that is of code or of no kept word
-  pub data UsesOk (f t : Option Touch) : Type 0 where
+  pub data UsesOk (f t : Option AccessValue) : Type 0 where
     nothing : f ≡ None → t ≡ None → UsesOk f t
-    by_code : (x : Touch) → f ≡ Some x → IsCode i kept x.addr → UsesOk f t
-    unkept : IfSome f (λ (x : Touch). is_kept kept x.addr ≡ false) → IfSome t (λ (x : Touch). is_kept kept x.addr ≡ false) → UsesOk f t
+    by_code : (x : AccessValue) → f ≡ Some x → IsCode i kept x.addr → UsesOk f t
+    unkept : IfSome f (λ (x : AccessValue). is_kept kept x.addr ≡ false) → IfSome t (λ (x : AccessValue). is_kept kept x.addr ≡ false) → UsesOk f t
 
-  uses_kept : (u : Turned) (f t : Option Touch) → u.step.fetched ≡ f → u.step.touched ≡ t → UsesOk f t → AllByRecursion (KeptByCode i kept u) (touches u.step)
-  uses_kept u f t fe te ok = subst (λ (y : Option Touch). AllByRecursion (KeptByCode i kept u) (option_to_list y ++ option_to_list u.step.touched)) (sym fe)
-      (subst (λ (y : Option Touch). AllByRecursion (KeptByCode i kept u) (option_to_list f ++ option_to_list y)) (sym te) (by f t fe ok))
+  uses_kept : (u : Turned) (f t : Option AccessValue) → u.step.fetched ≡ f → u.step.touched ≡ t → UsesOk f t → AllByRecursion (KeptByCode i kept u) (touches u.step)
+  uses_kept u f t fe te ok = subst (λ (y : Option AccessValue). AllByRecursion (KeptByCode i kept u) (option_to_list y ++ option_to_list u.step.touched)) (sym fe)
+      (subst (λ (y : Option AccessValue). AllByRecursion (KeptByCode i kept u) (option_to_list f ++ option_to_list y)) (sym te) (by f t fe ok))
     where
-      coded : (x : Touch) → u.step.fetched ≡ Some x → IsCode i kept x.addr → (y : Touch) → KeptByCode i kept u y
+      coded : (x : AccessValue) → u.step.fetched ≡ Some x → IsCode i kept x.addr → (y : AccessValue) → KeptByCode i kept u y
       coded x e c y = λ is. (x, e, c)
 
-      plainly : (y : Touch) → is_kept kept y.addr ≡ false → KeptByCode i kept u y
+      plainly : (y : AccessValue) → is_kept kept y.addr ≡ false → KeptByCode i kept u y
       plainly y e = λ is. absurd (cc)
 
-      both : (f t : Option Touch) → ((y : Touch) → KeptByCode i kept u y) → AllByRecursion (KeptByCode i kept u) (option_to_list f ++ option_to_list t)
+      both : (f t : Option AccessValue) → ((y : AccessValue) → KeptByCode i kept u y) → AllByRecursion (KeptByCode i kept u) (option_to_list f ++ option_to_list t)
       both None None h = tt
       both None (Some y) h = (h y, tt)
       both (Some x) None h = (h x, tt)
       both (Some x) (Some y) h = (h x, (h y, tt))
 
-      none : (f t : Option Touch) → IfSome f (λ (x : Touch). is_kept kept x.addr ≡ false) → IfSome t (λ (x : Touch). is_kept kept x.addr ≡ false)
+      none : (f t : Option AccessValue) → IfSome f (λ (x : AccessValue). is_kept kept x.addr ≡ false) → IfSome t (λ (x : AccessValue). is_kept kept x.addr ≡ false)
           → AllByRecursion (KeptByCode i kept u) (option_to_list f ++ option_to_list t)
       none None None h j = tt
       none None (Some y) h j = (plainly y j, tt)
       none (Some x) None h j = (plainly x h, tt)
       none (Some x) (Some y) h j = (plainly x h, (plainly y j, tt))
 
-      by : (f t : Option Touch) → u.step.fetched ≡ f → UsesOk f t → AllByRecursion (KeptByCode i kept u) (option_to_list f ++ option_to_list t)
-      by f t e (nothing fn tn) = subst (λ (y : Option Touch). AllByRecursion (KeptByCode i kept u) (option_to_list y ++ option_to_list t)) (sym fn)
-          (subst (λ (y : Option Touch). AllByRecursion (KeptByCode i kept u) (option_to_list y)) (sym tn) tt)
+      by : (f t : Option AccessValue) → u.step.fetched ≡ f → UsesOk f t → AllByRecursion (KeptByCode i kept u) (option_to_list f ++ option_to_list t)
+      by f t e (nothing fn tn) = subst (λ (y : Option AccessValue). AllByRecursion (KeptByCode i kept u) (option_to_list y ++ option_to_list t)) (sym fn)
+          (subst (λ (y : Option AccessValue). AllByRecursion (KeptByCode i kept u) (option_to_list y)) (sym tn) tt)
       by f t e (by_code x is c) = both f t (coded x (e ∙ is) c)
       by f t e (unkept h j) = none f t h j
 
@@ -145,7 +145,7 @@ module _ (i : Image) (kept : List Segment) (ks : Keeps i kept) (core : Core) (m 
     stood_running : RunningOk i kept (stood s Running)
     stood_running = record { came = came_like i kept s (stood s Running) refl r.acts.came; thread = t; up = r.up; matches = stood_match Running }
 
-    blocked_ok : (mid : Core) → RowsOk i kept mid → (f : Touch) (to : Option Touch) (us : List Use) → UsesOk (Some f) to → TurnOk (blocked mid m s f to us)
+    blocked_ok : (mid : Core) → RowsOk i kept mid → (f : AccessValue) (to : Option AccessValue) (us : List Use) → UsesOk (Some f) to → TurnOk (blocked mid m s f to us)
     unfolding blocked
     blocked_ok mid rows f to us uses = record {
       rows = put_slot_ok i kept mid (stood s Running) rows stood_running;
@@ -185,7 +185,7 @@ module _ (i : Image) (kept : List Segment) (ks : Keeps i kept) (core : Core) (m 
           },
         )
 
-    faulted_ok : (c : Cause) (a v : Word) (fa fv : Form) (f to : Option Touch) (us : List Use) → Fits i kept fa a → Fits i kept fv v → (Free i kept t → Public i kept fa)
+    faulted_ok : (c : Cause) (a v : Word) (fa fv : Form) (f to : Option AccessValue) (us : List Use) → Fits i kept fa a → Fits i kept fv v → (Free i kept t → Public i kept fa)
         → (Free i kept t → Public i kept fv)
         → Follows i kept t (outcome.Faults fa fv) → UsesOk f to → TurnOk (faulted core m s c a v f to us)
     unfolding faulted
@@ -195,7 +195,7 @@ module _ (i : Image) (kept : List Segment) (ks : Keeps i kept) (core : Core) (m 
       accesses = uses_kept (faulted core m s c a v f to us) f to refl refl uses;
     }
 
-    early_ok : (c : Cause) (f : Option Touch) (us : List Use) → Follows i kept t kernel.early_fault → UsesOk f None → TurnOk (faulted core m s c (Int 0) (Int 0) f None us)
+    early_ok : (c : Cause) (f : Option AccessValue) (us : List Use) → Follows i kept t kernel.early_fault → UsesOk f None → TurnOk (faulted core m s c (Int 0) (Int 0) f None us)
     early_ok c f us why uses = faulted_ok c (Int 0) (Int 0) zero_form zero_form f None us (fits_number i kept 0) (fits_number i kept 0) (λ x. public_number i kept 0)
         (λ x. public_number i kept 0) why uses
 
@@ -217,7 +217,7 @@ module _ (i : Image) (kept : List Segment) (ks : Keeps i kept) (core : Core) (m 
     fits_b None imm h = fits_number i kept _
     fits_b (Some x) imm h = reg i kept core m k s t r.acts x h
 
-    ended_ok : (x : Instr) (f : Touch) (to : Option Touch) (us : List Use) (e : Effect) → ReadyFor s x → EffectOk i kept core m k s t r.acts x e → UsesOk (Some f) to
+    ended_ok : (x : Instr) (f : AccessValue) (to : Option AccessValue) (us : List Use) (e : Effect) → ReadyFor s x → EffectOk i kept core m k s t r.acts x e → UsesOk (Some f) to
         → TurnOk (ended core m s x f to us e)
     unfolding ended addr_operand value_operand kernel.fault
     ended_ok x f to us (Fault c) h ok uses =
@@ -225,16 +225,16 @@ module _ (i : Image) (kept : List Segment) (ks : Keeps i kept) (core : Core) (m 
         (fits_a (field_a x) h.a) (fits_b (field_b x) (field_imm x) h.b) (public_a (field_a x)) (public_b (field_b x) (field_imm x)) ok uses
     ended_ok x f to us Block h ok uses = blocked_ok core k.rows f to us uses
     ended_ok x f to us (Deliver o) h ok uses = blocked_ok (put_slot core o) (put_slot_ok i kept core o k.rows ok) f to us uses
-    ended_ok x f to us (Does c) h ok uses = record {
+    ended_ok x f to us (Do c) h ok uses = record {
       rows = change_rows i kept core m s c k.rows ok;
       cells = change_cells i kept m s c k.cells ok;
-      accesses = uses_kept (ended core m s x f to us (Does c)) (Some f) to refl refl uses;
+      accesses = uses_kept (ended core m s x f to us (Do c)) (Some f) to refl refl uses;
     }
 
     -- 4. Accesses.
 
-    reach_free : (w : Word) (by : ℤ) (kind : Kind) (pre : Pre) (x : Result Touch Cause) → IsWord w → IsShared i kept w → check_result w by kind ≡ x
-        → IfSome (touch_of (reaching x pre)) (λ (y : Touch). is_kept kept y.addr ≡ false)
+    reach_free : (w : Word) (by : ℤ) (kind : Kind) (pre : Pre) (x : Result AccessValue Cause) → IsWord w → IsShared i kept w → check_result w by kind ≡ x
+        → IfSome (touch_of (reaching x pre)) (λ (y : AccessValue). is_kept kept y.addr ≡ false)
     reach_free w by kind pre (Err c) h sh e = tt
     reach_free w by kind pre (Ok to) h sh e =
         let th = through w by kind to h e in
@@ -244,24 +244,24 @@ module _ (i : Image) (kept : List Segment) (ks : Keeps i kept) (core : Core) (m 
     shared_reg : Free i kept t → (x : ℕ) → Ready s x → IsShared i kept (register s x)
     shared_reg free x h = (public_fits i kept (form_in t x) (register s x) (free_form i kept t free x) (reg i kept core m k s t r.acts x h)).holds
 
-    page_free : (P : Touch → Type 0) (a : Ask) (b c : Bool) → touch_of a ≡ None → IfSome (touch_of (if b then (if c then a else Ask.Refuse Bounds) else Ask.Refuse Priv)) P
+    page_free : (P : AccessValue → Type 0) (a : Ask) (b c : Bool) → touch_of a ≡ None → IfSome (touch_of (if b then (if c then a else Ask.Refuse Bounds) else Ask.Refuse Priv)) P
     page_free P a true true none = subst (λ o. IfSome o P) (sym none) tt
     page_free P a true false none = tt
     page_free P a false c none = tt
 
-    touch_free : Free i kept t → (x : Instr) → ReadyFor s x → IfSome (touch_of (ask x s)) (λ (y : Touch). is_kept kept y.addr ≡ false)
+    touch_free : Free i kept t → (x : Instr) → ReadyFor s x → IfSome (touch_of (ask x s)) (λ (y : AccessValue). is_kept kept y.addr ≡ false)
     unfolding ask
     touch_free free (instr.Ld rd ra pre post imm) h =
         reach_free (register s ra) imm (load_kind post) pre (check_result (register s ra) imm (load_kind post)) (word i kept core m k s t r.acts ra) (shared_reg free ra h.a) refl
     touch_free free (instr.St ra rb pre post imm) h =
         reach_free (register s ra) imm Store pre (check_result (register s ra) imm Store) (word i kept core m k s t r.acts ra) (shared_reg free ra h.a) refl
-    touch_free free (instr.Map rd ra) h = page_free (λ (y : Touch). is_kept kept y.addr ≡ false) (Ask.MapPage (word_bits (register s ra))) (is_privileged s.ip.perm)
+    touch_free free (instr.Map rd ra) h = page_free (λ (y : AccessValue). is_kept kept y.addr ≡ false) (Ask.MapPage (word_bits (register s ra))) (is_privileged s.ip.perm)
         (nat_lt (word_bits (register s ra)) (2 ^ 42)) refl
-    touch_free free (instr.Unmap rd ra) h = page_free (λ (y : Touch). is_kept kept y.addr ≡ false) (Ask.UnmapPage (word_bits (register s ra))) (is_privileged s.ip.perm)
+    touch_free free (instr.Unmap rd ra) h = page_free (λ (y : AccessValue). is_kept kept y.addr ≡ false) (Ask.UnmapPage (word_bits (register s ra))) (is_privileged s.ip.perm)
         (nat_lt (word_bits (register s ra)) (2 ^ 42)) refl
     touch_free free _ h = tt
 
-    fetch_free : (f : Touch) → Free i kept t → check_result (Ptr s.ip) (pos 0) Fetch ≡ Ok f → is_kept kept f.addr ≡ false
+    fetch_free : (f : AccessValue) → Free i kept t → check_result (Ptr s.ip) (pos 0) Fetch ≡ Ok f → is_kept kept f.addr ≡ false
     fetch_free f free e =
         let th = through (Ptr s.ip) (pos 0) Fetch f (ip_word) e in
         let same : s.ip ≡ f.ptr = let two : Ptr s.ip ≡ Ptr f.ptr = th.is in cc in
@@ -271,14 +271,14 @@ module _ (i : Image) (kept : List Segment) (ks : Keeps i kept) (core : Core) (m 
         ip_word = ips s.number s r.acts.at
 
     -- the fetch of a derived thread is of a code word
-    fetch_code : (f : Touch) → Bound i kept t → s.past ≡ false → check_result (Ptr s.ip) (pos 0) Fetch ≡ Ok f → IsCode i kept f.addr
+    fetch_code : (f : AccessValue) → Bound i kept t → s.past ≡ false → check_result (Ptr s.ip) (pos 0) Fetch ≡ Ok f → IsCode i kept f.addr
     fetch_code f b on e = record {
       thread = t;
       derived = b.derived;
       fetches = record { on = r.acts.matches.past ∙ on; access = f; checked = ap (λ (p : Pointer). check_result (Ptr p) (pos 0) Fetch) r.acts.matches.ip ∙ e; at = refl };
     }
 
-    uses_of : (f : Touch) (to : Option Touch) → s.past ≡ false → check_result (Ptr s.ip) (pos 0) Fetch ≡ Ok f → (Free i kept t → IfSome to (λ (y : Touch). is_kept kept y.addr ≡ false))
+    uses_of : (f : AccessValue) (to : Option AccessValue) → s.past ≡ false → check_result (Ptr s.ip) (pos 0) Fetch ≡ Ok f → (Free i kept t → IfSome to (λ (y : AccessValue). is_kept kept y.addr ≡ false))
         → UsesOk (Some f) to
     uses_of f to on e touched = by r.kind
       where
@@ -316,17 +316,17 @@ module _ (i : Image) (kept : List Segment) (ks : Keeps i kept) (core : Core) (m 
         by (inl free) = inl free
         by (inr b) = f b
 
-    fetches : Bound i kept t → s.past ≡ false → (f : Touch) → check_result (Ptr s.ip) (pos 0) Fetch ≡ Ok f → (o : Option Cell) → cell_at i.memory f.addr ≡ o → Alls (kernel.fetched i kept t f.addr o)
+    fetches : Bound i kept t → s.past ≡ false → (f : AccessValue) → check_result (Ptr s.ip) (pos 0) Fetch ≡ Ok f → (o : Option Cell) → cell_at i.memory f.addr ≡ o → Alls (kernel.fetched i kept t f.addr o)
     fetches b on f e o at = subst (λ y. Alls (kernel.fetched i kept t f.addr y)) at (subst (λ y. Alls (kernel.aimed i kept t y)) e (aims b on))
 
-    missing : Bound i kept t → s.past ≡ false → (f : Touch) → check_result (Ptr s.ip) (pos 0) Fetch ≡ Ok f → cell_at m f.addr ≡ None → Follows i kept t kernel.early_fault
+    missing : Bound i kept t → s.past ≡ false → (f : AccessValue) → check_result (Ptr s.ip) (pos 0) Fetch ≡ Ok f → cell_at m f.addr ≡ None → Follows i kept t kernel.early_fault
     missing b on f e none = by (cell_at i.memory f.addr) refl (fetches b on f e (cell_at i.memory f.addr) refl)
       where
         by : (o : Option Cell) → cell_at i.memory f.addr ≡ o → Alls (kernel.fetched i kept t f.addr o) → Follows i kept t kernel.early_fault
         by None at g = g.0
         by (Some d) at g = let back = k.cells.back f.addr d at in let is = back.1 in absurd (cc)
 
-    decodes : Bound i kept t → s.past ≡ false → (f : Touch) → check_result (Ptr s.ip) (pos 0) Fetch ≡ Ok f → (c : Cell) → cell_at m f.addr ≡ Some c → Alls (kernel.decoded i kept t (instr_in c.word))
+    decodes : Bound i kept t → s.past ≡ false → (f : AccessValue) → check_result (Ptr s.ip) (pos 0) Fetch ≡ Ok f → (c : Cell) → cell_at m f.addr ≡ Some c → Alls (kernel.decoded i kept t (instr_in c.word))
     decodes b on f e c at =
         let there = k.cells.there f.addr c at in
         by (is_fixed i f.addr) there.0 refl there.1 (fetches b on f e (Some there.0) there.1)
@@ -346,7 +346,7 @@ module _ (i : Image) (kept : List Segment) (ks : Keeps i kept) (core : Core) (m 
         by true at g = ready_for s x h g
         by false at g = ready_all s x h (λ y. k.mode at s.number s y r.acts.at)
 
-    lacking_ok : (f : Touch) (us : List Use) → UsesOk (Some f) None → TurnOk (blocked core m (delivered s) f None us)
+    lacking_ok : (f : AccessValue) (us : List Use) → UsesOk (Some f) None → TurnOk (blocked core m (delivered s) f None us)
     unfolding blocked
     lacking_ok f us uses =
         let d : Slot = delivered s in
@@ -363,14 +363,14 @@ module _ (i : Image) (kept : List Segment) (ks : Keeps i kept) (core : Core) (m 
           accesses = uses_kept (blocked core m (delivered s) f None us) (Some f) None refl refl uses;
         }
 
-    executed_ok : (f : Touch) (u : Use) (x : Instr) → s.past ≡ false → check_result (Ptr s.ip) (pos 0) Fetch ≡ Ok f → IsInstr x → ReadyFor s x → Alls (kernel.outcomes_of i kept t x)
+    executed_ok : (f : AccessValue) (u : Use) (x : Instr) → s.past ≡ false → check_result (Ptr s.ip) (pos 0) Fetch ≡ Ok f → IsInstr x → ReadyFor s x → Alls (kernel.outcomes_of i kept t x)
         → TurnOk (executed core m s f u x)
     unfolding executed
     executed_ok f u x on e h rd all =
         ended_ok x f (touch_of (ask x s)) (u ∷ asked_use m (ask x s)) (effect core.split x s (reply core m s.number (ask x s))) rd
         (effect_ok i kept core m k s t r.acts ks x h rd all) (uses_of f (touch_of (ask x s)) on e (λ free. touch_free free x rd))
 
-    issued_ok : (f : Touch) (u : Use) (x : Instr) → s.past ≡ false → check_result (Ptr s.ip) (pos 0) Fetch ≡ Ok f → IsInstr x → Alls (kernel.outcomes_of i kept t x) → TurnOk (issued core m s f u x)
+    issued_ok : (f : AccessValue) (u : Use) (x : Instr) → s.past ≡ false → check_result (Ptr s.ip) (pos 0) Fetch ≡ Ok f → IsInstr x → Alls (kernel.outcomes_of i kept t x) → TurnOk (issued core m s f u x)
     unfolding issued
     issued_ok f u x on e h all = by (core.split && lacks x s) refl
       where
@@ -378,7 +378,7 @@ module _ (i : Image) (kept : List Segment) (ks : Keeps i kept) (core : Core) (m 
         by true g = lacking_ok f (u ∷ []) (uses_of f None on e (λ free. tt))
         by false g = executed_ok f u x on e h (ready x h g) all
 
-    decoded_ok : (f : Touch) (u : Use) (c : Cell) (o : Option Instr) → s.past ≡ false → check_result (Ptr s.ip) (pos 0) Fetch ≡ Ok f → cell_at m f.addr ≡ Some c → instr_in c.word ≡ o
+    decoded_ok : (f : AccessValue) (u : Use) (c : Cell) (o : Option Instr) → s.past ≡ false → check_result (Ptr s.ip) (pos 0) Fetch ≡ Ok f → cell_at m f.addr ≡ Some c → instr_in c.word ≡ o
         → TurnOk (decoded core m s f u o)
     decoded_ok f u c None on e at is =
         early_ok Illegal (Some f) (u ∷ []) (either (λ b. (subst (λ y. Alls (kernel.decoded i kept t y)) is (decodes b on f e c at)).0)) (uses_of f None on e (λ free. tt))
@@ -388,11 +388,11 @@ module _ (i : Image) (kept : List Segment) (ks : Keeps i kept) (core : Core) (m 
         all (inl free) = r.freely free x (spelled_instr c.word x is)
         all (inr b) = subst (λ y. Alls (kernel.decoded i kept t y)) is (decodes b on f e c at)
 
-    fetched_ok : (f : Touch) (o : Option Cell) → s.past ≡ false → check_result (Ptr s.ip) (pos 0) Fetch ≡ Ok f → cell_at m f.addr ≡ o → TurnOk (fetched core m s f o)
+    fetched_ok : (f : AccessValue) (o : Option Cell) → s.past ≡ false → check_result (Ptr s.ip) (pos 0) Fetch ≡ Ok f → cell_at m f.addr ≡ o → TurnOk (fetched core m s f o)
     fetched_ok f None on e at = early_ok NoPage (Some f) (Accessed f.kind f.addr false false ∷ []) (either (λ b. missing b on f e at)) (uses_of f None on e (λ free. tt))
     fetched_ok f (Some c) on e at = decoded_ok f (Accessed f.kind f.addr true true) c (instr_in c.word) on e at refl
 
-    aimed_ok : (x : Result Touch Cause) → s.past ≡ false → check_result (Ptr s.ip) (pos 0) Fetch ≡ x → TurnOk (aimed core m s x)
+    aimed_ok : (x : Result AccessValue Cause) → s.past ≡ false → check_result (Ptr s.ip) (pos 0) Fetch ≡ x → TurnOk (aimed core m s x)
     aimed_ok (Err c) on e = early_ok c None [] (either (λ b. (subst (λ y. Alls (kernel.aimed i kept t y)) e (aims b on)).0)) (nothing refl refl)
     aimed_ok (Ok f) on e = fetched_ok f (cell_at m f.addr) on e refl
 

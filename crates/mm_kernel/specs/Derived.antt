@@ -8,7 +8,7 @@ use Rattle.mm_word.specs.declared.perm.Kind.TheVariants.{Fetch}
 use Rattle.mm_word.specs.declared.word.Word.{Word}
 use Rattle.mm_word.specs.declared.word.Word.TheVariants.{Int, Ptr}
 use Rattle.mm_word.specs.declared.word.Cell.{Cell}
-use Rattle.mm_word.specs.Access.{Touch, check_result}
+use Rattle.mm_word.specs.Access.{AccessValue, check_result}
 use Rattle.mm_word.specs.Pointer.{Pointer as PointerValue, enter_result}
 use Rattle.mm_isa.specs.declared.instr.How.{How}
 use Rattle.mm_isa.specs.declared.instr.How.TheVariants.{Retry, Skip, Kill}
@@ -163,7 +163,7 @@ pub record Keeps (i : Image) (kept : List Segment) : Type 0 where
 -- the word that a thread's turn fetches
 pub record Fetches (t : Thread) (w : ℕ) : Type 0 where
   pub on : t.past ≡ false
-  pub access : Touch
+  pub access : AccessValue
   pub checked : check_result (Ptr t.ip) (pos 0) Fetch ≡ Ok access
   pub at : access.addr ≡ w
 

@@ -4,7 +4,7 @@ use Rattle.std.specs.List.{AllByRecursion}
 use Rattle.mm_word.specs.declared.word.Word.{Word}
 use Rattle.mm_word.specs.declared.word.Word.TheVariants.{Ptr}
 use Rattle.mm_word.specs.declared.word.Cell.{Cell}
-use Rattle.mm_word.specs.Access.{Touch}
+use Rattle.mm_word.specs.Access.{AccessValue}
 use Rattle.mm_model.specs.declared.slot.SlotState.{SlotState}
 use Rattle.mm_model.specs.declared.slot.SlotState.TheVariants.{Running, Halted}
 use Rattle.mm_model.specs.declared.slot.Pending.{Pending}
@@ -39,9 +39,9 @@ pub record IsSegment (seg : Segment) : Type 0 where
 
 -- the accesses of a turn that fetches a code word of the kernel may be on kept words, and no others
 abbrev pub FetchesCode : Image → List Segment → Turned → Type 0
-FetchesCode i kept t = (f : Touch) × (t.step.fetched ≡ Some f) × IsCode i kept f.addr
+FetchesCode i kept t = (f : AccessValue) × (t.step.fetched ≡ Some f) × IsCode i kept f.addr
 
-abbrev pub KeptByCode : Image → List Segment → Turned → Touch → Type 0
+abbrev pub KeptByCode : Image → List Segment → Turned → AccessValue → Type 0
 KeptByCode i kept t a = is_kept kept a.addr ≡ true → FetchesCode i kept t
 
 -- the words of a slot, in registers and in pending loads, are shared

@@ -11,7 +11,7 @@ use Rattle.mm_word.specs.declared.word.Pre.{Pre}
 use Rattle.mm_word.specs.declared.word.Pre.TheVariants as pres
 use Rattle.mm_word.specs.declared.word.Word.TheVariants.{Ptr}
 use Rattle.mm_word.specs.declared.word.Cell.{Cell}
-use Rattle.mm_word.specs.Access.{Touch, check_result}
+use Rattle.mm_word.specs.Access.{AccessValue, check_result}
 use Rattle.mm_word.specs.Perm.{can_move, allows, execute_form}
 use Rattle.mm_word.specs.Pointer.{Pointer as PointerValue, moved_to, lea_result, leab_result, subseg_result}
 use Rattle.mm_word.specs.Pointer.{next_result, enter_result}
@@ -121,7 +121,7 @@ abbrev pub loaded_at : Image → List Segment → Thread → Instr → ℕ → P
 loaded_at image kept t i rd pre w None = fault t i ∷ []
 loaded_at image kept t i rd pre w (Some c) = word_loaded image kept t rd w c ∷ waits t i pre
 
-abbrev pub loaded_by : Image → List Segment → Thread → Instr → ℕ → Pre → Result Touch Cause → List Outcome
+abbrev pub loaded_by : Image → List Segment → Thread → Instr → ℕ → Pre → Result AccessValue Cause → List Outcome
 loaded_by image kept t i rd pre (Err c) = fault t i ∷ []
 loaded_by image kept t i rd pre (Ok a) = loaded_at image kept t i rd pre a.addr (cell_at image.memory a.addr)
 
@@ -146,7 +146,7 @@ abbrev pub stored_at : List Segment → Thread → Instr → ℕ → Pre → ℕ
 stored_at kept t i rb pre w None = fault t i ∷ []
 stored_at kept t i rb pre w (Some c) = word_stored kept t rb w ∷ Goes (stepped t) ∷ waits t i pre
 
-abbrev pub stored_by : Image → List Segment → Thread → Instr → ℕ → Pre → Result Touch Cause → List Outcome
+abbrev pub stored_by : Image → List Segment → Thread → Instr → ℕ → Pre → Result AccessValue Cause → List Outcome
 stored_by image kept t i rb pre (Err c) = fault t i ∷ []
 stored_by image kept t i rb pre (Ok a) = stored_at kept t i rb pre a.addr (cell_at image.memory a.addr)
 
@@ -289,7 +289,7 @@ fetched image kept t w None = early_fault ∷ []
 fetched image kept t w (Some c) =
     if is_fixed image w then decoded image kept t (instr_in c.word) else Leaks (leak.Code w) ∷ []
 
-abbrev pub aimed : Image → List Segment → Thread → Result Touch Cause → List Outcome
+abbrev pub aimed : Image → List Segment → Thread → Result AccessValue Cause → List Outcome
 aimed image kept t (Err c) = early_fault ∷ []
 aimed image kept t (Ok a) = fetched image kept t a.addr (cell_at image.memory a.addr)
 

@@ -12,7 +12,7 @@ use Rattle.mm_word.specs.declared.word.Pre.{Pre}
 use Rattle.mm_word.specs.declared.word.Word.{Word}
 use Rattle.mm_word.specs.declared.word.Word.TheVariants.{Int}
 use Rattle.mm_word.specs.declared.word.Cell.{Cell}
-use Rattle.mm_word.specs.Access.{Touch, check_result}
+use Rattle.mm_word.specs.Access.{AccessValue, check_result}
 use Rattle.mm_word.specs.Word.{word_bits}
 use Rattle.mm_isa.specs.declared.instr.Instr.{Instr}
 use Rattle.mm_isa.specs.declared.instr.Instr.TheVariants.{Out, Ld, St, Map, Unmap}
@@ -33,7 +33,7 @@ use Rattle.mm_model.specs.Ask.Ask.{Nothing, Refuse, Reach, MapPage, UnmapPage, N
 use Rattle.mm_model.specs.Effect.{Change, Pages, Effect, effect, delivered}
 use Rattle.mm_model.specs.Effect.Reply.{Fine, Refused, Paged, Served}
 use Rattle.mm_model.specs.Effect.Pages.{Keep, Add, Remove}
-use Rattle.mm_model.specs.Effect.Effect.{Fault, Block, Deliver, Does}
+use Rattle.mm_model.specs.Effect.Effect.{Fault, Block, Deliver, Do}
 use Rattle.mm_model.specs.Turn.{Turned, reply, reached, event_reply, first_event, is_taken, is_handler, served}
 use Rattle.mm_model.specs.Turn.{slot_after, with_other, with_queue, with_out, with_cell, with_pages, core_after}
 use Rattle.mm_model.specs.Turn.{memory_after, stood, is_sync, event_of, core_faulted, faulted, touch_of, asked_use}
@@ -96,7 +96,7 @@ Needs i c (UnmapPage page) = IsPrivileged i All c
 Needs i c (Room g) = c g ≡ true
 Needs i c _ = Unit {0}
 
-needs_reach : (i : Image) (c : ℕ → Bool) (g : ℕ) (r : Result Touch Cause) (pre : Pre) → c g ≡ true → IfSome (touch_of (reaching r pre)) (TouchGranted i All g) → Needs i c (reaching r pre)
+needs_reach : (i : Image) (c : ℕ → Bool) (g : ℕ) (r : Result AccessValue Cause) (pre : Pre) → c g ≡ true → IfSome (touch_of (reaching r pre)) (TouchGranted i All g) → Needs i c (reaching r pre)
 needs_reach i c g (Err e) pre cg h = tt
 needs_reach i c g (Ok t) pre cg h = touch_known i c g t cg h
 
@@ -276,7 +276,7 @@ module _ (i j : Image) (c : ℕ → Bool) (a b : Core) (ma mb : Memory) (h : Bot
     faulted_output : (core : Core) (e : Event) (g : ℕ) → output_of (core_faulted core x e x.handler) g ≡ output_of core g
     faulted_output core e g = same_output core (core_faulted core x e x.handler) (fault_same core x e x.handler) g
 
-    same_fault : (cause : Cause) (v w : Word) (f t : Option Touch) (us vs : List Use) → Same (faulted a ma x cause v w f t us) (faulted b mb x cause v w f t vs)
+    same_fault : (cause : Cause) (v w : Word) (f t : Option AccessValue) (us vs : List Use) → Same (faulted a ma x cause v w f t us) (faulted b mb x cause v w f t vs)
     unfolding faulted
     same_fault cause v w f t us vs = record {
       rows = fault_both (event_of x cause v w) x.handler refl;
@@ -287,7 +287,7 @@ module _ (i j : Image) (c : ℕ → Bool) (a b : Core) (ma mb : Memory) (h : Bot
 
     same_blocked : (p q : Core) → Sames a p → Sames b q → mine c p ≡ mine c q
         → ((g : ℕ) → c g ≡ true → output_of p g ≡ output_of q g) → (now : Slot) → now.number ≡ x.number
-        → now.group ≡ x.group → (f : Touch) (t : Option Touch) (us vs : List Use)
+        → now.group ≡ x.group → (f : AccessValue) (t : Option AccessValue) (us vs : List Use)
         → Same (blocked p ma now f t us) (blocked q mb now f t vs)
     unfolding blocked
     same_blocked p q kp kq e outs now number group f t us vs = record {
@@ -364,7 +364,7 @@ module _ (i j : Image) (c : ℕ → Bool) (a b : Core) (ma mb : Memory) (h : Bot
       unfolding memory_after
       memory_both w t = cells_both d.pages ga.pages w t
 
-    same_ended : (instr : Instr) (f : Touch) (t : Option Touch) (us vs : List Use) (y : Effect) → EffectGranted i All a
+    same_ended : (instr : Instr) (f : AccessValue) (t : Option AccessValue) (us vs : List Use) (y : Effect) → EffectGranted i All a
         ma x y → EffectGranted j All b mb x y → Same (ended a ma x instr f t us y) (ended b mb x instr f t vs y)
     unfolding ended
     same_ended instr f t us vs (Fault cause) ga gb = same_fault cause (addr_operand instr x) (value_operand instr x) (Some f) t us vs
@@ -373,9 +373,9 @@ module _ (i j : Image) (c : ℕ → Bool) (a b : Core) (ma mb : Memory) (h : Bot
         same_blocked (put_slot a o) (put_slot b o) (other_sames i a h.one.formed.rising x.number (Some o) ga) (other_sames j b h.other.formed.rising x.number (Some o) gb)
         (put_both a b sames_a sames_b h.rows o ga.old gb.old ga.stands ga.group gb.stands gb.group)
         (λ g cg. output_of-put_slot a o g ∙ h.outputs g cg ∙ sym (output_of-put_slot b o g)) x refl refl f t us vs
-    same_ended instr f t us vs (Does d) ga gb = record { rows = rows_both d ga gb; outputs = outputs_both d ga gb; cells = memory_both d ga gb; step = refl }
+    same_ended instr f t us vs (Do d) ga gb = record { rows = rows_both d ga gb; outputs = outputs_both d ga gb; cells = memory_both d ga gb; step = refl }
 
-    same_executed : (f : Touch) (u v : Use) (instr : Instr) → Same (executed a ma x f u instr) (executed b mb x f v instr)
+    same_executed : (f : AccessValue) (u v : Use) (instr : Instr) → Same (executed a ma x f u instr) (executed b mb x f v instr)
     unfolding executed
     same_executed f u v instr =
         let e : effect a.split instr x (reply a ma x.number (ask instr x)) ≡ effect b.split instr x (reply b mb x.number (ask instr x)) =

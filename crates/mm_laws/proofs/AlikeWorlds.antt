@@ -15,7 +15,7 @@ use Rattle.mm_word.specs.declared.perm.Kind.{Kind}
 use Rattle.mm_word.specs.declared.perm.Kind.TheVariants.{Fetch, Load, LoadSet, Store}
 use Rattle.mm_word.specs.declared.perm.Perm.{Perm}
 use Rattle.mm_word.specs.declared.word.Cell.{Cell}
-use Rattle.mm_word.specs.Access.{Touch}
+use Rattle.mm_word.specs.Access.{AccessValue}
 use Rattle.mm_word.specs.Perm.{allows, can_load, can_store}
 use Rattle.mm_word.specs.Pointer.{Pointer, IsWellFormed, Covers}
 use Rattle.mm_word.proofs.Rights.{can_fetch-loads, can_store-loads}
@@ -112,7 +112,7 @@ kind_loads LoadSet p e = (and_parts (can_load p) (can_store p) e).0
 kind_loads Store p e = can_store-loads p e
 
 -- a granted touch of one of the groups is at a word that they can touch
-pub touch_known : (i : Image) (c : ℕ → Bool) (g : ℕ) (t : Touch) → c g ≡ true → TouchGranted i All g t → Touchable i All c t.addr
+pub touch_known : (i : Image) (c : ℕ → Bool) (g : ℕ) (t : AccessValue) → c g ≡ true → TouchGranted i All g t → Touchable i All c t.addr
 touch_known i c g t cg h =
     record { group = g; member = cg; touches = record { by = h.by; granted = h.granted; loads = record { word = h.aligned; right = kind_loads t.kind h.by.perm h.right; covers = h.covers } } }
 

@@ -2,7 +2,7 @@
 use Rattle.std.proofs.Common.{◌≡◌, ℕ, Bool, true, false, ◌&&◌, ◌||◌, nat_eq, if◌then◌else◌, List, [], ◌∷◌, ◌++◌, Option, Some, None, refl, sym, ap, ◌∙◌, eqb-true, eq-eqb}
 use Rattle.mm_word.specs.declared.perm.Kind.{Kind}
 use Rattle.mm_model.specs.Uses.{Use, Accessed, Removed}
-use Rattle.mm_model.specs.Counted.{block_of, line_of, page_of_block, writes, kept, latest, is_hit, written}
+use Rattle.mm_model.specs.Counted.{block_of, line_of, page_of_block, writes, outside_page, latest, is_hit, written}
 use Rattle.mm_model.specs.CountFacts.{HitsOnly, WroteSinceMiss}
 use Rattle.mm_model.proofs.CountsSay.{latest_says, says_latest, hit_says}
 
@@ -10,7 +10,7 @@ use Rattle.mm_model.proofs.CountsSay.{latest_says, says_latest, hit_says}
 line_is : (line block : ℕ) (us : List Use) → latest line us ≡ Some block → line_of block ≡ line
 line_is line block us e = (latest_says line block us e).its_line
 
-kept_before : (page block : ℕ) (o : Option ℕ) → kept page o ≡ Some block → o ≡ Some block
+kept_before : (page block : ℕ) (o : Option ℕ) → outside_page page o ≡ Some block → o ≡ Some block
 kept_before page block None e = cc
 kept_before page block (Some b) e = by (nat_eq (page_of_block b) page) e
   where

@@ -19,7 +19,7 @@ use Rattle.mm_word.specs.declared.word.Post.TheVariants as posts
 use Rattle.mm_word.specs.declared.word.Word.{Word}
 use Rattle.mm_word.specs.declared.word.Word.TheVariants.{Int, Ptr}
 use Rattle.mm_word.specs.declared.word.Cell.{Cell}
-use Rattle.mm_word.specs.Access.{Touch, IsGranted, touch_at, check_result}
+use Rattle.mm_word.specs.Access.{AccessValue, IsGranted, touch_at, check_result}
 use Rattle.mm_word.specs.Perm.{can_load, can_store, allows, execute_form}
 use Rattle.mm_word.specs.Pointer.{Pointer, IsBelow, moved_to, lea_result, leab_result, restrict_result, subseg_result, setptr_result, next_result, enter_result}
 use Rattle.mm_word.specs.Word.{IsWord, word_bits, is_pointer}
@@ -49,7 +49,7 @@ use Rattle.mm_model.specs.Effect.{stored, at_distance, branches, entry_as, entry
 use Rattle.mm_model.specs.Effect.{resumes, delivered, reads_of, writes_of, maps, unmaps}
 use Rattle.mm_model.specs.Effect.Reply.{Fine, Refused, Got, Paged, Took, Served}
 use Rattle.mm_model.specs.Effect.Pages.{Keep, Add, Remove}
-use Rattle.mm_model.specs.Effect.Effect.{Fault, Block, Deliver, Does}
+use Rattle.mm_model.specs.Effect.Effect.{Fault, Block, Deliver, Do}
 use Rattle.mm_model.specs.Turn.{reply, reached, event_reply, first_event, served, is_taken, is_handler}
 use Rattle.mm_model.specs.Reach.{Entries, Grants, CanWrite, Privileged}
 use Rattle.mm_model.specs.Reach.Grants.{below}
@@ -127,7 +127,7 @@ abbrev pub EffectGranted : Image → Entries → Core → Memory → Slot → Ef
 EffectGranted i e core m s (Fault c) = Unit {0}
 EffectGranted i e core m s Block = Unit {0}
 EffectGranted i e core m s (Deliver o) = OtherGranted i e core s.number o
-EffectGranted i e core m s (Does c) = ChangeGranted i e core m s c
+EffectGranted i e core m s (Do c) = ChangeGranted i e core m s c
 
 -- 2. Pointers that operations make.
 
@@ -163,19 +163,19 @@ jumps_to p to is = by p.perm refl is
     by Ep at e = enters (inr at) (ap (entry_as p) at)
 
 -- an access that passed its tests, through a word
-pub record Checked (w : Word) (kind : Kind) (t : Touch) : Type 0 where
+pub record Checked (w : Word) (kind : Kind) (t : AccessValue) : Type 0 where
   pub is : w ≡ Ptr t.ptr
   pub kind_is : t.kind ≡ kind
   pub granted : IsGranted t
 
-touch_at-tells : (p : Pointer) (z : ℤ) (kind : Kind) (t : Touch) → touch_at p z kind ≡ Ok t → (t.ptr ≡ p) × (t.kind ≡ kind)
+touch_at-tells : (p : Pointer) (z : ℤ) (kind : Kind) (t : AccessValue) → touch_at p z kind ≡ Ok t → (t.ptr ≡ p) × (t.kind ≡ kind)
 touch_at-tells p (pos a) kind t e = grind (arith, common_steps)
 touch_at-tells p (negsuc a) kind t e = cc
 
-check_result-tells : (p : Pointer) (by : ℤ) (kind : Kind) (t : Touch) → check_result (Ptr p) by kind ≡ Ok t → touch_at p (pos p.addr +ℤ by) kind ≡ Ok t
+check_result-tells : (p : Pointer) (by : ℤ) (kind : Kind) (t : AccessValue) → check_result (Ptr p) by kind ≡ Ok t → touch_at p (pos p.addr +ℤ by) kind ≡ Ok t
 check_result-tells p by kind t e = grind (arith, common_steps)
 
-pub checked : (w : Word) (by : ℤ) (kind : Kind) (t : Touch) → IsWord w → check_result w by kind ≡ Ok t → Checked w kind t
+pub checked : (w : Word) (by : ℤ) (kind : Kind) (t : AccessValue) → IsWord w → check_result w by kind ≡ Ok t → Checked w kind t
 checked (Int bits) by kind t h e = cc
 checked (Ptr p) by kind t h e =
     let tells = touch_at-tells p (pos p.addr +ℤ by) kind t (check_result-tells p by kind t e) in
@@ -216,7 +216,7 @@ module _ (i : Image) (e : Entries) (core : Core) (m : Memory) (st : Stands i e c
   advances : Grants i e s.group (advanced s.ip)
   advances = advanced_granted s own
 
-  plain_granted : Is (Does (plain s))
+  plain_granted : Is (Do (plain s))
   unfolding plain
   plain_granted = record { writes = tt; next = advances; issue = tt; cell = tt; pages = tt; queue = tt; other = tt }
 
@@ -244,7 +244,7 @@ module _ (i : Image) (e : Entries) (core : Core) (m : Memory) (st : Stands i e c
   if_granted true x y p q = p
   if_granted false x y p q = q
 
-  halts_granted : Is (Does (record (plain s) { next = s.ip; past = s.past; halts = true }))
+  halts_granted : Is (Do (record (plain s) { next = s.ip; past = s.past; halts = true }))
   unfolding plain
   halts_granted = record { writes = tt; next = own.ip; issue = tt; cell = tt; pages = tt; queue = tt; other = tt }
 
@@ -299,13 +299,13 @@ module _ (i : Image) (e : Entries) (core : Core) (m : Memory) (st : Stands i e c
   word_at r = register_fits s r (slot_words core s.number s st.words at).registers
 
   -- the pointer of an access through a granted word
-  through : (w : Word) (kind : Kind) (t : Touch) → WordGranted i e s.group w → Checked w kind t → Grants i e s.group t.ptr
+  through : (w : Word) (kind : Kind) (t : AccessValue) → WordGranted i e s.group w → Checked w kind t → Grants i e s.group t.ptr
   through w kind t g ok = subst (WordGranted i e s.group) ok.is g
 
-  may_write : (t : Touch) → Grants i e s.group t.ptr → IsGranted t → can_store t.ptr.perm ≡ true → CanWrite i e s.group t.addr
+  may_write : (t : AccessValue) → Grants i e s.group t.ptr → IsGranted t → can_store t.ptr.perm ≡ true → CanWrite i e s.group t.addr
   may_write t g ok right = record { by = t.ptr; granted = g; stores = record { word = ok.aligned; right = right; covers = ok.inside } }
 
-  set_granted : (post : Post) (w : Word) (t : Touch) (c : Cell) → cell_at m t.addr ≡ Some c → WordGranted i e s.group w
+  set_granted : (post : Post) (w : Word) (t : AccessValue) (c : Cell) → cell_at m t.addr ≡ Some c → WordGranted i e s.group w
       → Checked w (load_kind post) t → WordGranted i e s.group c.word → CellWritten i e m s.group (set_by post t.addr c)
   set_granted posts.Keep w t c is g ok fits = tt
   set_granted posts.Full w t c is g ok fits =
@@ -315,7 +315,7 @@ module _ (i : Image) (e : Entries) (core : Core) (m : Memory) (st : Stands i e c
       let right : allows t.ptr.perm (load_kind posts.Empty) ≡ true = ap (allows t.ptr.perm) (sym ok.kind_is) ∙ ok.granted.right in
       record { old = c; stands = is; writes = may_write t (through w (load_kind posts.Empty) t g ok) ok.granted (and_parts (can_load t.ptr.perm) (can_store t.ptr.perm) right).1; word = fits }
 
-  got_granted : (split : Bool) (rd : ℕ) (post : Post) (w : Word) (t : Touch) (c : Cell) → cell_at m t.addr ≡ Some c
+  got_granted : (split : Bool) (rd : ℕ) (post : Post) (w : Word) (t : AccessValue) (c : Cell) → cell_at m t.addr ≡ Some c
       → WordGranted i e s.group w → Checked w (load_kind post) t → Is (loaded split s rd post (Got t c))
   unfolding plain
   got_granted split rd post w t c is g ok = by split
@@ -334,8 +334,8 @@ module _ (i : Image) (e : Entries) (core : Core) (m : Memory) (st : Stands i e c
       by false = record { writes = (word, tt); next = advances; issue = tt; cell = set_granted post w t c is g ok word; pages = tt; queue = tt; other = tt }
       by true = record { writes = (tt, tt); next = advances; issue = word; cell = set_granted post w t c is g ok word; pages = tt; queue = tt; other = tt }
 
-  load_row : (rd : ℕ) (post : Post) (pre : Pre) (w : Word) (r : Result Touch Cause) → WordGranted i e s.group w
-      → ((t : Touch) → r ≡ Ok t → Checked w (load_kind post) t)
+  load_row : (rd : ℕ) (post : Post) (pre : Pre) (w : Word) (r : Result AccessValue Cause) → WordGranted i e s.group w
+      → ((t : AccessValue) → r ≡ Ok t → Checked w (load_kind post) t)
       → Is (loaded core.split s rd post (reply core m s.number (reaching r pre)))
   unfolding reply
   load_row rd post pre w (Err c) g ok = tt
@@ -349,8 +349,8 @@ module _ (i : Image) (e : Entries) (core : Core) (m : Memory) (st : Stands i e c
       by None is = tt
       by (Some c) is = passed c (passes pre c.full) is
 
-  store_row : (v w : Word) (post : Post) (pre : Pre) (r : Result Touch Cause) → WordGranted i e s.group v
-      → WordGranted i e s.group w → ((t : Touch) → r ≡ Ok t → Checked w Store t)
+  store_row : (v w : Word) (post : Post) (pre : Pre) (r : Result AccessValue Cause) → WordGranted i e s.group v
+      → WordGranted i e s.group w → ((t : AccessValue) → r ≡ Ok t → Checked w Store t)
       → Is (stored s v post (reply core m s.number (reaching r pre)))
   unfolding reply plain
   store_row v w post pre (Err c) gv g ok = tt
@@ -466,7 +466,7 @@ module _ (i : Image) (e : Entries) (core : Core) (m : Memory) (st : Stands i e c
   unfolding plain
   write_granted r k w of g is handled =
       let old = slot_granted i e core st.rows k of is in
-      if_granted (core.split && is_empty of r) (Deliver (delivered of)) (Does (record (plain s) { other = Some (record of { regs = slice_set of.regs r w }) })) (other_delivered k of is handled)
+      if_granted (core.split && is_empty of r) (Deliver (delivered of)) (Do (record (plain s) { other = Some (record of { regs = slice_set of.regs r w }) })) (other_delivered k of is handled)
       (record {
         writes = tt;
         next = advances;
@@ -546,8 +546,8 @@ module _ (i : Image) (e : Entries) (core : Core) (m : Memory) (st : Stands i e c
   effect_granted (St ra rb pre post imm) =
       store_row (register s rb) (register s ra) post pre (check_result (register s ra) imm Store) (reg rb) (reg ra) (λ t is. checked (register s ra) imm Store t (word_at ra) is)
   effect_granted (Br imm) = branch_granted imm
-  effect_granted (Bz ra imm) = if_granted (word_bits (register s ra) == 0) (branches s (at_distance s imm)) (Does (plain s)) (branch_granted imm) plain_granted
-  effect_granted (Bnz ra imm) = if_granted (word_bits (register s ra) == 0) (Does (plain s)) (branches s (at_distance s imm)) plain_granted (branch_granted imm)
+  effect_granted (Bz ra imm) = if_granted (word_bits (register s ra) == 0) (branches s (at_distance s imm)) (Do (plain s)) (branch_granted imm) plain_granted
+  effect_granted (Bnz ra imm) = if_granted (word_bits (register s ra) == 0) (Do (plain s)) (branches s (at_distance s imm)) plain_granted (branch_granted imm)
   effect_granted (Jmp ra) = if_pointer_granted (register s ra) (λ p. jumps s p (enter_result p)) (reg ra) (λ p g. jump_granted p (enter_result p) g refl)
   effect_granted (Jal rd ra) = if_pointer_granted (register s ra)
       (λ p. links s rd p (enter_result p) (next_result s.ip)) (reg ra) (λ p g. link_granted rd p (enter_result p)

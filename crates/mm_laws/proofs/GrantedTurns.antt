@@ -16,7 +16,7 @@ use Rattle.mm_word.specs.declared.word.Pre.{Pre}
 use Rattle.mm_word.specs.declared.word.Word.{Word}
 use Rattle.mm_word.specs.declared.word.Word.TheVariants.{Int, Ptr}
 use Rattle.mm_word.specs.declared.word.Cell.{Cell}
-use Rattle.mm_word.specs.Access.{Touch, check_result}
+use Rattle.mm_word.specs.Access.{AccessValue, check_result}
 use Rattle.mm_word.specs.Perm.{can_store}
 use Rattle.mm_word.specs.Pointer.{Pointer, IsWellFormed, Covers}
 use Rattle.mm_word.specs.Word.{word_bits}
@@ -39,7 +39,7 @@ use Rattle.mm_model.specs.Ask.{Ask, ask, is_privileged, load_kind, reaching}
 use Rattle.mm_model.specs.Ask.Ask.{Refuse, MapPage, UnmapPage}
 use Rattle.mm_model.specs.Effect.{Change, Pages, Effect, effect, delivered}
 use Rattle.mm_model.specs.Effect.Pages.{Keep, Add, Remove}
-use Rattle.mm_model.specs.Effect.Effect.{Fault, Block, Deliver, Does}
+use Rattle.mm_model.specs.Effect.Effect.{Fault, Block, Deliver, Do}
 use Rattle.mm_model.specs.Turn.{Turned, reply, put_all, state_after, with_issue, slot_after, with_other, with_queue}
 use Rattle.mm_model.specs.Turn.{with_out, with_cell, with_pages, core_after, memory_after, stood, is_sync, event_of}
 use Rattle.mm_model.specs.Turn.{core_faulted, faulted, touch_of, asked_use, blocked, ended, executed, idle, arrives}
@@ -337,33 +337,33 @@ module _ (i : Image) (e : Entries) (core : Core) (m : Memory) (st : Stands i e c
 
 -- 4. Touches.
 
-each_touch : (P : Touch → Type 0) (o p : Option Touch) → IfSome o P → IfSome p P → AllByRecursion P (option_to_list o ++ option_to_list p)
+each_touch : (P : AccessValue → Type 0) (o p : Option AccessValue) → IfSome o P → IfSome p P → AllByRecursion P (option_to_list o ++ option_to_list p)
 each_touch P None None h k = tt
 each_touch P None (Some t) h k = (k, tt)
 each_touch P (Some f) None h k = (h, tt)
 each_touch P (Some f) (Some t) h k = (h, (k, tt))
 
-touch_through : (i : Image) (e : Entries) (g : ℕ) (w : Word) (kind : Kind) (t : Touch) → WordGranted i e g w → Checked w kind t → TouchGranted i e g t
+touch_through : (i : Image) (e : Entries) (g : ℕ) (w : Word) (kind : Kind) (t : AccessValue) → WordGranted i e g w → Checked w kind t → TouchGranted i e g t
 touch_through i e g w kind t h ok =
     record { by = t.ptr; granted = subst (WordGranted i e g) ok.is h; right = ok.granted.right; covers = ok.granted.inside; aligned = ok.granted.aligned; below = ok.granted.below }
 
-reach_touch : (i : Image) (e : Entries) (g : ℕ) (w : Word) (kind : Kind) (pre : Pre) (r : Result Touch Cause)
-    → WordGranted i e g w → ((t : Touch) → r ≡ Ok t → Checked w kind t) → IfSome (touch_of (reaching r pre))
+reach_touch : (i : Image) (e : Entries) (g : ℕ) (w : Word) (kind : Kind) (pre : Pre) (r : Result AccessValue Cause)
+    → WordGranted i e g w → ((t : AccessValue) → r ≡ Ok t → Checked w kind t) → IfSome (touch_of (reaching r pre))
     (TouchGranted i e g)
 reach_touch i e g w kind pre (Err c) h ok = tt
 reach_touch i e g w kind pre (Ok t) h ok = touch_through i e g w kind t h (ok t refl)
 
-page_touch : (P : Touch → Type 0) (a : Ask) (b c : Bool) → touch_of a ≡ None → IfSome (touch_of (if b then (if c then a else Refuse Bounds) else Refuse Priv)) P
+page_touch : (P : AccessValue → Type 0) (a : Ask) (b c : Bool) → touch_of a ≡ None → IfSome (touch_of (if b then (if c then a else Refuse Bounds) else Refuse Priv)) P
 page_touch P a true true none = subst (λ o. IfSome o P) (sym none) tt
 page_touch P a true false none = tt
 page_touch P a false c none = tt
 
 module _ (i : Image) (e : Entries) (core : Core) (m : Memory) (st : Stands i e core m) (s : Slot) (at : slot_at core s.number ≡ Some s) where
-  pub fetch_granted : (f : Touch) → Fetches s f → TouchGranted i e s.group f
+  pub fetch_granted : (f : AccessValue) → Fetches s f → TouchGranted i e s.group f
   fetch_granted f aim =
       touch_through i e s.group (Ptr s.ip) Fetch f (slot_granted i e core st.rows s.number s at).ip (checked (Ptr s.ip) (pos 0) Fetch f (slot_words core s.number s st.words at).ip aim)
 
-  fetches_granted : (f : Option Touch) → IfSome f (Fetches s) → IfSome f (TouchGranted i e s.group)
+  fetches_granted : (f : Option AccessValue) → IfSome f (Fetches s) → IfSome f (TouchGranted i e s.group)
   fetches_granted None aim = tt
   fetches_granted (Some f) aim = fetch_granted f aim
 
@@ -441,7 +441,7 @@ module _ (i : Image) (e : Entries) (core : Core) (m : Memory) (st : Stands i e c
         (each_push (EventGranted i e h.group) (queue_at waits g) (event_of s c a v) (good_queue i e core waits good g h other.1.1)
         (record { ip = Grants.served s.group own_slot_granted.ip sv.here; address = word_served i e h.group s.group a ga sv.here; value = word_served i e h.group s.group v gv sv.here }))
 
-    faulted_granted : (c : Cause) (a v : Word) (f t : Option Touch) (us : List Use) → WordGranted i e s.group a
+    faulted_granted : (c : Cause) (a v : Word) (f t : Option AccessValue) (us : List Use) → WordGranted i e s.group a
         → WordGranted i e s.group v → IfSome f (TouchGranted i e s.group) → IfSome t (TouchGranted i e s.group)
         → TurnGranted i e m (faulted core m s c a v f t us)
     unfolding faulted
@@ -450,7 +450,7 @@ module _ (i : Image) (e : Entries) (core : Core) (m : Memory) (st : Stands i e c
         still (faulted core m s c a v f t us) s.group good refl refl (group_is (faulted core m s c a v f t us) good.same refl) (each_touch (TouchGranted i e s.group) f t gf gt)
 
     blocked_granted : (mid : Core) → Good i e core mid → (now : Slot) → identity_of s ≡ identity_of now
-        → SlotGranted i e now → (f : Touch) (t : Option Touch) (us : List Use) → TouchGranted i e s.group f
+        → SlotGranted i e now → (f : AccessValue) (t : Option AccessValue) (us : List Use) → TouchGranted i e s.group f
         → IfSome t (TouchGranted i e s.group)
         → TurnGranted i e m (blocked mid m now f t us)
     unfolding blocked
@@ -459,7 +459,7 @@ module _ (i : Image) (e : Entries) (core : Core) (m : Memory) (st : Stands i e c
         still (blocked mid m now f t us) s.group after refl refl (group_is (blocked mid m now f t us) after.same
         (sym (ap (λ (x : ℕ × ℕ × Option ℕ). x.0) same))) (each_touch (TouchGranted i e s.group) (Some f) t gf gt)
 
-    module _ (c : Change) (g : ChangeGranted i e core m s c) (f : Touch) (t : Option Touch) (us : List Use) where
+    module _ (c : Change) (g : ChangeGranted i e core m s c) (f : AccessValue) (t : Option AccessValue) (us : List Use) where
       abbrev did : Turned
       did = record { core = core_after core s c; memory = memory_after m c; step = record { tick = Did; slot = s.number; fetched = Some f; touched = t; entered = c.entered }; uses = us }
 
@@ -500,7 +500,7 @@ module _ (i : Image) (e : Entries) (core : Core) (m : Memory) (st : Stands i e c
             changed = subst (λ h. ChangedBy i e h m (memory_after m c)) (sym did_group) (change_changed i e s.group m c g.cell g.pages);
           }
 
-    ended_granted : (instr : Instr) (f : Touch) (t : Option Touch) (us : List Use) (x : Effect) → EffectGranted i e core
+    ended_granted : (instr : Instr) (f : AccessValue) (t : Option AccessValue) (us : List Use) (x : Effect) → EffectGranted i e core
         m s x → TouchGranted i e s.group f → IfSome t (TouchGranted i e s.group) → TurnGranted i e m
         (ended core m s instr f t us x)
     unfolding ended
@@ -513,12 +513,12 @@ module _ (i : Image) (e : Entries) (core : Core) (m : Memory) (st : Stands i e c
         let group = g.group in
         let handler = g.handler in
         blocked_granted (put_slot core o) (put_slot-good i e core core same_self o g.old g.stands (cc) g.granted) s refl own_slot_granted f t us gf gt
-    ended_granted instr f t us (Does c) g gf gt = did_granted c g f t us gf gt
+    ended_granted instr f t us (Do c) g gf gt = did_granted c g f t us gf gt
 
-    lacking_granted : (f : Touch) (us : List Use) → Fetches s f → TurnGranted i e m (blocked core m (delivered s) f None us)
+    lacking_granted : (f : AccessValue) (us : List Use) → Fetches s f → TurnGranted i e m (blocked core m (delivered s) f None us)
     lacking_granted f us aim = blocked_granted core same_self (delivered s) (delivered_identity s) (delivered_granted i e s own_slot_granted) f None us (fetch_granted i e core m st s at f aim) tt
 
-    executed_granted : (f : Touch) (u : Use) (instr : Instr) → Fetches s f → TurnGranted i e m (executed core m s f u instr)
+    executed_granted : (f : AccessValue) (u : Use) (instr : Instr) → Fetches s f → TurnGranted i e m (executed core m s f u instr)
     unfolding executed
     executed_granted f u instr aim =
         ended_granted instr f (touch_of (ask instr s)) (u ∷ asked_use m (ask instr s))

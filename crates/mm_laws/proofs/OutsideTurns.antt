@@ -7,7 +7,7 @@ use Rattle.std.proofs.lemmas.Bool.{both_ways}
 use Rattle.mm_word.specs.declared.cause.Cause.{Cause}
 use Rattle.mm_word.specs.declared.word.Word.{Word}
 use Rattle.mm_word.specs.declared.word.Word.TheVariants.{Int}
-use Rattle.mm_word.specs.Access.{Touch}
+use Rattle.mm_word.specs.Access.{AccessValue}
 use Rattle.mm_isa.specs.declared.instr.Instr.{Instr}
 use Rattle.mm_model.specs.declared.slot.SlotState.{SlotState}
 use Rattle.mm_model.specs.declared.slot.SlotState.TheVariants.{Running, Waiting, Halted}
@@ -23,7 +23,7 @@ use Rattle.mm_model.specs.Fits.{slots_of}
 use Rattle.mm_model.specs.Operands.{addr_operand, value_operand}
 use Rattle.mm_model.specs.Ask.{ask}
 use Rattle.mm_model.specs.Effect.{Change, Effect, effect, delivered}
-use Rattle.mm_model.specs.Effect.Effect.{Fault, Block, Deliver, Does}
+use Rattle.mm_model.specs.Effect.Effect.{Fault, Block, Deliver, Do}
 use Rattle.mm_model.specs.Turn.{Turned, reply, slot_after, with_other, with_queue, with_out, core_after, stood, is_sync}
 use Rattle.mm_model.specs.Turn.{event_of, core_faulted, faulted, touch_of, asked_use, blocked, ended, executed}
 use Rattle.mm_model.specs.Turn.{started, idle, arrives}
@@ -94,7 +94,7 @@ module _ (i : Image) (c : ℕ → Bool) (apart : Apart i All c) (core : Core) (m
         refl) c k (queue_at (put_slot core (stood s Waiting)) k ++ e ∷ []) other.1.0 other.1.1 (sym side ∙ out)
         ∙ stood_quiet core sames s refl refl Waiting
 
-    faulted_quiet : (cause : Cause) (v w : Word) (f t : Option Touch) (us : List Use) → Quiet (faulted core m s cause v w f t us)
+    faulted_quiet : (cause : Cause) (v w : Word) (f t : Option AccessValue) (us : List Use) → Quiet (faulted core m s cause v w f t us)
     unfolding faulted
     faulted_quiet cause v w f t us =
         let e : Event = event_of s cause v w in
@@ -102,7 +102,7 @@ module _ (i : Image) (c : ℕ → Bool) (apart : Apart i All c) (core : Core) (m
 
     blocked_quiet : (mid : Core) → Sames core mid → mine c mid ≡ mine c core
         → ((g : ℕ) → output_of mid g ≡ output_of core g) → (now : Slot) → now.number ≡ s.number → now.group ≡ s.group
-        → (f : Touch) (t : Option Touch) (us : List Use)
+        → (f : AccessValue) (t : Option AccessValue) (us : List Use)
         → Quiet (blocked mid m now f t us)
     unfolding blocked
     blocked_quiet mid k same outs now number group f t us = record {
@@ -150,14 +150,14 @@ module _ (i : Image) (c : ℕ → Bool) (apart : Apart i All c) (core : Core) (m
       change_outputs k ck =
           byte_outputs (with_queue (put_slot (with_other core d.other) (slot_after s d)) s.number d.queue) (moved_same core d.other (slot_after s d) s.number d.queue).outputs d.out k ck
 
-    ended_quiet : (instr : Instr) (f : Touch) (t : Option Touch) (us : List Use) (y : Effect) → EffectGranted i All core m s y → Quiet (ended core m s instr f t us y)
+    ended_quiet : (instr : Instr) (f : AccessValue) (t : Option AccessValue) (us : List Use) (y : Effect) → EffectGranted i All core m s y → Quiet (ended core m s instr f t us y)
     unfolding ended
     ended_quiet instr f t us (Fault cause) g = faulted_quiet cause (addr_operand instr s) (value_operand instr s) (Some f) t us
     ended_quiet instr f t us Block g = blocked_quiet core sames refl (λ k. refl) s refl refl f t us
     ended_quiet instr f t us (Deliver o) g =
         blocked_quiet (put_slot core o) (other_sames i core st.formed.rising s.number (Some o) g) (beside-put_slot core core sames c o g.old g.stands g.group (other_out o g))
         (output_of-put_slot core o) s refl refl f t us
-    ended_quiet instr f t us (Does d) g = record { rows = change_rows d g; outputs = change_outputs d g; slot = refl }
+    ended_quiet instr f t us (Do d) g = record { rows = change_rows d g; outputs = change_outputs d g; slot = refl }
 
     started_quiet : Quiet (started core m s)
     unfolding executed

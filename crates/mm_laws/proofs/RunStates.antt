@@ -9,7 +9,7 @@ use Rattle.mm_model.specs.State.{State, slot_at, queue_at}
 use Rattle.mm_model.specs.Image.{Image, start}
 use Rattle.mm_model.specs.Spelling.{IsImage}
 use Rattle.mm_model.specs.Run.{after, run}
-use Rattle.mm_model.specs.Fits.{is_waiting, waits_for, IsState, LoadsMatch, WaitsForSome, Fits, IsAtSlot, EventsAreAtSlots, IsKept, IsSlot, TurnsWithin}
+use Rattle.mm_model.specs.Fits.{is_waiting, waits_for, IsState, LoadsMatch, WaitsForSome, Fits, IsAtSlot, EventsAreAtSlots, IsConsistent, IsSlot, TurnsWithin}
 use Rattle.mm_model.proofs.CoreRows.{each_both, each_map, slot_at-number, slot_has}
 use Rattle.mm_model.proofs.CoreSteps.{waits_for-says, waits_for-at}
 use Rattle.mm_model.proofs.StateKeeps.{after_state, after_fits, after_kept}
@@ -34,7 +34,7 @@ takes_turn i s n k now h fits is =
 record Reached (i : Image) (s : State) : Type 0 where
   state : IsState s
   fits : Fits i s
-  kept : IsKept s.core
+  kept : IsConsistent s.core
   few : TurnsWithin s
 
 reached_after : (i : Image) (s : State) (n : ℕ) → IsImage i → Reached i s → Reached i (after s n)
@@ -56,7 +56,7 @@ runs_reached i items img = run_reached i (start i) items img (record { state = s
 pub runs_fit : (i : Image) (items : List ℕ) → IsImage i → IsState (run (start i) items) × Fits i (run (start i) items)
 runs_fit i items img = let r = runs_reached i items img in (r.state, r.fits)
 
-pub runs_kept : (i : Image) (items : List ℕ) → IsImage i → IsKept (run (start i) items).core
+pub runs_kept : (i : Image) (items : List ℕ) → IsImage i → IsConsistent (run (start i) items).core
 runs_kept i items img = (runs_reached i items img).kept
 
 pub runs_within : (i : Image) (items : List ℕ) → IsImage i → TurnsWithin (run (start i) items)

@@ -2,7 +2,7 @@
 use Rattle.std.proofs.Common.{◌≡◌, ℕ, Bool, true, false, cond, if◌then◌else◌, List, [], ◌∷◌, ◌++◌, map, Option, Some, refl, sym, ap, ◌∙◌, subst, inl, inr}
 use Rattle.std.specs.List.{filter}
 use Rattle.std.proofs.lemmas.Bool.{cases_Bool}
-use Rattle.mm_word.specs.Access.{Touch}
+use Rattle.mm_word.specs.Access.{AccessValue}
 use Rattle.mm_isa.specs.declared.instr.Instr.{Instr}
 use Rattle.mm_model.specs.declared.step.Step.{Step}
 use Rattle.mm_model.specs.declared.slot.Pending.{Pending}
@@ -14,7 +14,7 @@ use Rattle.mm_model.specs.Image.{Image, start}
 use Rattle.mm_model.specs.Schedule.{is_kept, only}
 use Rattle.mm_model.specs.Ask.{ask}
 use Rattle.mm_model.specs.Effect.{Effect, effect}
-use Rattle.mm_model.specs.Effect.Effect.{Fault, Block, Deliver, Does}
+use Rattle.mm_model.specs.Effect.Effect.{Fault, Block, Deliver, Do}
 use Rattle.mm_model.specs.Turn.{Turned, reply, faulted, touch_of, asked_use, blocked, ended, executed}
 use Rattle.mm_model.specs.Turn.{started, idle, arrives, taken_by_port, taken_by, is_running}
 use Rattle.mm_model.specs.Turn.{turn}
@@ -37,12 +37,12 @@ use Rattle.mm_laws.proofs.TwoRuns.{Item, item, same_turns, quiet_s, quiet_t, bot
 -- 1. The slot that a turn is about.
 
 module _ (core : Core) (m : Memory) (s : Slot) where
-  ended_slot : (instr : Instr) (f : Touch) (t : Option Touch) (us : List Use) (y : Effect) → (ended core m s instr f t us y).step.slot ≡ s.number
+  ended_slot : (instr : Instr) (f : AccessValue) (t : Option AccessValue) (us : List Use) (y : Effect) → (ended core m s instr f t us y).step.slot ≡ s.number
   unfolding ended faulted blocked
   ended_slot instr f t us (Fault cause) = refl
   ended_slot instr f t us Block = refl
   ended_slot instr f t us (Deliver o) = refl
-  ended_slot instr f t us (Does d) = refl
+  ended_slot instr f t us (Do d) = refl
 
   started_slot : (started core m s).step.slot ≡ s.number
   unfolding executed faulted blocked

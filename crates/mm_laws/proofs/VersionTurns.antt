@@ -9,7 +9,7 @@ use Rattle.mm_word.specs.declared.cause.Cause.TheVariants.{Bounds, Priv, OutFull
 use Rattle.mm_word.specs.declared.word.Pre.{Pre}
 use Rattle.mm_word.specs.declared.word.Word.{Word}
 use Rattle.mm_word.specs.declared.word.Word.TheVariants.{Int}
-use Rattle.mm_word.specs.Access.{Touch, check_result}
+use Rattle.mm_word.specs.Access.{AccessValue, check_result}
 use Rattle.mm_word.specs.Word.{word_bits}
 use Rattle.mm_isa.specs.declared.instr.Instr.{Instr}
 use Rattle.mm_isa.specs.declared.instr.Instr.TheVariants.{Out, Ld, St, Map, Unmap}
@@ -26,7 +26,7 @@ use Rattle.mm_model.specs.Ask.{Ask, ask, is_privileged, load_kind, reaching}
 use Rattle.mm_model.specs.Ask.Ask.{Nothing, Refuse, Reach, MapPage, UnmapPage, NextEvent, Room, Serve}
 use Rattle.mm_model.specs.Effect.{Change, Effect, effect, delivered, puts_out}
 use Rattle.mm_model.specs.Effect.Reply.{Fine, Refused}
-use Rattle.mm_model.specs.Effect.Effect.{Fault, Block, Deliver, Does}
+use Rattle.mm_model.specs.Effect.Effect.{Fault, Block, Deliver, Do}
 use Rattle.mm_model.proofs.TurnShapes.{fetch_uses, fetch_use, ItemAlike, same_option, started_by, turn_both}
 use Rattle.mm_model.specs.Turn.{Turned, reply, first_event, slot_after, with_other, with_queue, with_out, core_after}
 use Rattle.mm_model.specs.Turn.{stood, is_sync, event_of, core_faulted, tick_faulted, faulted, touch_of, asked_use}
@@ -65,7 +65,7 @@ module _ (v : ℕ) (core : Core) (m : Memory) where
       by true = refl
       by false = refl
 
-  fault_as : (s : Slot) (c : Cause) (a w : Word) (f t : Option Touch) (us : List Use) → faulted (core_as v core) m s c a w f t us ≡ turned_as v (faulted core m s c a w f t us)
+  fault_as : (s : Slot) (c : Cause) (a w : Word) (f t : Option AccessValue) (us : List Use) → faulted (core_as v core) m s c a w f t us ≡ turned_as v (faulted core m s c a w f t us)
   unfolding faulted
   fault_as s c a w f t us = ap (λ (k : Core). record (faulted core m s c a w f t us) { core = k }) (fault_core s (event_of s c a w) s.handler)
 
@@ -85,16 +85,16 @@ module _ (v : ℕ) (core : Core) (m : Memory) where
       by (Some other) (Some l) None = refl
       by (Some other) (Some l) (Some byte) = refl
 
-  block_as : (s : Slot) (f : Touch) (t : Option Touch) (us : List Use) → blocked (core_as v core) m s f t us ≡ turned_as v (blocked core m s f t us)
+  block_as : (s : Slot) (f : AccessValue) (t : Option AccessValue) (us : List Use) → blocked (core_as v core) m s f t us ≡ turned_as v (blocked core m s f t us)
   unfolding blocked put_slot
   block_as s f t us = refl
 
-  end_as : (s : Slot) (i : Instr) (f : Touch) (t : Option Touch) (us : List Use) (y : Effect) → ended (core_as v core) m s i f t us y ≡ turned_as v (ended core m s i f t us y)
+  end_as : (s : Slot) (i : Instr) (f : AccessValue) (t : Option AccessValue) (us : List Use) (y : Effect) → ended (core_as v core) m s i f t us y ≡ turned_as v (ended core m s i f t us y)
   unfolding ended blocked put_slot
   end_as s i f t us (Fault c) = fault_as s c (addr_operand i s) (value_operand i s) (Some f) t us
   end_as s i f t us Block = refl
   end_as s i f t us (Deliver other) = refl
-  end_as s i f t us (Does c) = ap (λ (k : Core). record (ended core m s i f t us (Does c)) { core = k }) (change_core s c)
+  end_as s i f t us (Do c) = ap (λ (k : Core). record (ended core m s i f t us (Do c)) { core = k }) (change_core s c)
 
   -- 2. Replies: only the one for room for a byte has to do with the version.
 
@@ -118,7 +118,7 @@ module _ (v : ℕ) (core : Core) (m : Memory) where
   reply_as n (Room g) h = ap (λ (b : Bool). if b then Fine else Refused OutFull) h
   reply_as n (Serve k) h = refl
 
-  room_reach : (r : Result Touch Cause) (pre : Pre) → RoomAs (reaching r pre)
+  room_reach : (r : Result AccessValue Cause) (pre : Pre) → RoomAs (reaching r pre)
   room_reach (Err c) pre = tt
   room_reach (Ok a) pre = tt
 
@@ -128,12 +128,12 @@ module _ (v : ℕ) (core : Core) (m : Memory) where
   room_page a false d h = tt
 
   -- where there is no room, the turn faults
-  out_full : (s : Slot) (f : Touch) (u : Use) (ra : ℕ) → nat_lt (length (output_of core s.group)) (output_limit core.version) ≡ false → (executed core m s f u (Out ra)).step.tick ≡ Faulted OutFull
+  out_full : (s : Slot) (f : AccessValue) (u : Use) (ra : ℕ) → nat_lt (length (output_of core s.group)) (output_limit core.version) ≡ false → (executed core m s f u (Out ra)).step.tick ≡ Faulted OutFull
   unfolding executed ask reply effect ended faulted
   out_full s f u ra full =
       ap (λ (b : Bool). (ended core m s (Out ra) f None (u ∷ []) (puts_out s (word_bits (register s ra) % 256) (if b then Fine else Refused OutFull))).step.tick) full ∙ full_tick s.handler
 
-  room_out : (s : Slot) (f : Touch) (u : Use) (ra : ℕ) → MeetsNoLimit v core (executed core m s f u (Out ra)) → RoomAs (Room s.group)
+  room_out : (s : Slot) (f : AccessValue) (u : Use) (ra : ℕ) → MeetsNoLimit v core (executed core m s f u (Out ra)) → RoomAs (Room s.group)
   room_out s f u ra (inl same) = ap (nat_lt (length (output_of core s.group))) same
   room_out s f u ra (inr k) = by (nat_lt (length (output_of core s.group)) (output_limit core.version)) refl
     where
@@ -144,7 +144,7 @@ module _ (v : ℕ) (core : Core) (m : Memory) where
           lt-ltb (length (output_of core s.group)) (output_limit v) (omega (arith, few, less)) ∙ sym e
       by false e = absurd (k.1 (out_full s f u ra e))
 
-  room_as : (s : Slot) (f : Touch) (u : Use) (i : Instr) → MeetsNoLimit v core (executed core m s f u i) → RoomAs (ask i s)
+  room_as : (s : Slot) (f : AccessValue) (u : Use) (i : Instr) → MeetsNoLimit v core (executed core m s f u i) → RoomAs (ask i s)
   unfolding ask
   room_as s f u (Out ra) h = room_out s f u ra h
   room_as s f u (Ld rd ra pre post imm) h = room_reach (check_result (register s ra) imm (load_kind post)) pre
@@ -155,7 +155,7 @@ module _ (v : ℕ) (core : Core) (m : Memory) where
 
   -- 3. The turn.
 
-  execute_as : (s : Slot) (f : Touch) (u : Use) (i : Instr) → Same v core (executed core m s f u i) (executed (core_as v core) m s f u i)
+  execute_as : (s : Slot) (f : AccessValue) (u : Use) (i : Instr) → Same v core (executed core m s f u i) (executed (core_as v core) m s f u i)
   unfolding executed
   execute_as s f u i h =
       ap (λ r. ended (core_as v core) m s i f (touch_of (ask i s)) (u ∷ asked_use m (ask i s)) (effect core.split i s r)) (reply_as s.number (ask i s) (room_as s f u i h))

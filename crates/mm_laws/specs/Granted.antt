@@ -7,7 +7,7 @@ use Rattle.mm_word.specs.declared.word.Word.TheVariants.{Int, Ptr}
 use Rattle.mm_word.specs.declared.word.Cell.{Cell}
 use Rattle.mm_word.specs.Perm.{allows}
 use Rattle.mm_word.specs.Pointer.{Pointer, Covers, enter_result}
-use Rattle.mm_word.specs.Access.{Touch}
+use Rattle.mm_word.specs.Access.{AccessValue}
 use Rattle.mm_model.specs.declared.slot.Pending.{Pending}
 use Rattle.mm_model.specs.declared.event.Event.{Event}
 use Rattle.mm_model.specs.Memory.{Memory, cell_at}
@@ -74,7 +74,7 @@ pub record WordsGranted (i : Image) (e : Entries) (s : State) : Type 0 where
 -- 2. The accesses, entries and changes of a turn.
 
 -- a pointer that is granted to the group covers the word of an access, with the rights of its kind
-pub record TouchGranted (i : Image) (e : Entries) (g : ℕ) (t : Touch) : Type 0 where
+pub record TouchGranted (i : Image) (e : Entries) (g : ℕ) (t : AccessValue) : Type 0 where
   pub by : Pointer
   pub granted : Grants i e g by
   pub right : allows by.perm t.kind ≡ true

@@ -8,7 +8,7 @@ use Rattle.mm_model.specs.Image.{Image, start}
 use Rattle.mm_model.specs.Spelling.{IsImage}
 use Rattle.mm_model.specs.Turn.{is_running}
 use Rattle.mm_model.specs.Run.{after, run}
-use Rattle.mm_model.specs.Fits.{is_waiting, events_of, IsState, Fits, EventsAreAtSlots, IsKept, TurnsWithin}
+use Rattle.mm_model.specs.Fits.{is_waiting, events_of, IsState, Fits, EventsAreAtSlots, IsConsistent, TurnsWithin}
 
 -- 1. The start, a turn and a run.
 
@@ -17,8 +17,8 @@ abbrev pub StartsFit : Type 0
 StartsFit = (i : Image) → IsImage i → IsState (start i) × Fits i (start i) × TurnsWithin (start i)
 
 -- the machine's start keeps the invariants of a machine's types
-abbrev pub StartsAreKept : Type 0
-StartsAreKept = (i : Image) → IsImage i → IsKept (start i).core
+abbrev pub StartsAreConsistent : Type 0
+StartsAreConsistent = (i : Image) → IsImage i → IsConsistent (start i).core
 
 -- a turn, of any item, leaves a state, also if that does not fit an image
 abbrev pub TurnsKeepStates : Type 0
@@ -31,7 +31,7 @@ TurnsKeepFit = (i : Image) (s : State) (n : ℕ) → IsImage i → IsState s →
 -- a turn keeps the invariants of the types, in a state that fits an image
 abbrev pub TurnsKeepTypes : Type 0
 TurnsKeepTypes =
-    (i : Image) (s : State) (n : ℕ) → IsImage i → IsState s → Fits i s → IsKept s.core → IsKept (after s n).core
+    (i : Image) (s : State) (n : ℕ) → IsImage i → IsState s → Fits i s → IsConsistent s.core → IsConsistent (after s n).core
 
 -- a turn keeps the bound: no slot has taken more turns than there were cycles
 abbrev pub TurnsKeepBound : Type 0
@@ -53,8 +53,8 @@ abbrev pub RunsFit : Type 0
 RunsFit = (i : Image) (items : List ℕ) → IsImage i → IsState (run (start i) items) × Fits i (run (start i) items)
 
 -- the state after any list of items keeps the invariants of a machine's types
-abbrev pub RunsAreKept : Type 0
-RunsAreKept = (i : Image) (items : List ℕ) → IsImage i → IsKept (run (start i) items).core
+abbrev pub RunsAreConsistent : Type 0
+RunsAreConsistent = (i : Image) (items : List ℕ) → IsImage i → IsConsistent (run (start i) items).core
 
 -- after any list of items no slot has taken more turns than there were cycles
 abbrev pub RunsKeepBound : Type 0

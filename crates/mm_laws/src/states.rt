@@ -1,13 +1,13 @@
 //! The states of a run.
-ghost use Rattle.mm_laws.specs.States.{StartsFit, StartsAreKept, TurnsKeepStates, TurnsKeepFit, TurnsKeepTypes};
-ghost use Rattle.mm_laws.specs.States.{TurnsKeepBound, OneSlotTakesTurns, RunsFit, RunsAreKept, RunsKeepBound};
+ghost use Rattle.mm_laws.specs.States.{StartsFit, StartsAreConsistent, TurnsKeepStates, TurnsKeepFit, TurnsKeepTypes};
+ghost use Rattle.mm_laws.specs.States.{TurnsKeepBound, OneSlotTakesTurns, RunsFit, RunsAreConsistent, RunsKeepBound};
 ghost use Rattle.mm_laws.specs.States.{QueuedSlotsWait, QueuedSlotsStand, WaitingSlotsAreQueued, QueuesAreShort};
 ghost use Rattle.mm_laws.specs.States.{PendingIsShort};
 
 /// The machine's start is a state that fits its image, and keeps the invariants of the types.
 pub fn starts_fit()
     ensures fit { StartsFit }
-    ensures kept { StartsAreKept }
+    ensures kept { StartsAreConsistent }
 {}
 
 /// A turn leaves a state. It keeps a state that fits an image, then also the invariants of the types, and the bound of
@@ -24,7 +24,7 @@ pub fn turns_keep_fit()
 /// turns than there were cycles.
 pub fn runs_fit()
     ensures fit { RunsFit }
-    ensures kept { RunsAreKept }
+    ensures kept { RunsAreConsistent }
     ensures bound { RunsKeepBound }
 {}
 

@@ -5,7 +5,7 @@ pub mod Longest
 pub mod Numbers
 pub mod OperandRanges
 pub mod Registers
-pub mod Standing
+pub mod TokenPlaces
 pub mod StatementRanges
 pub mod TokenRanges
 pub mod Written

@@ -15,7 +15,7 @@ use Rattle.mm_line.specs.declared.token.Token.TheVariants.{Name, Directive, Numb
 use Rattle.mm_line.specs.Tokens.{Next, is_in, run, starts, behind, starts_hexadecimal, number, decimal, hexadecimal, front, end, token_at, next_token}
 use Rattle.mm_line.specs.Forms.{is_name, is_directive, is_digits, is_number, is_sign, is_token, has_form, IsLongest}
 use Rattle.mm_line.proofs.Cases.{token_cases}
-use Rattle.mm_line.proofs.Standing.{token_begins, run_all, name_form}
+use Rattle.mm_line.proofs.TokenPlaces.{token_begins, run_all, name_form}
 
 -- a longer piece than a run is not all of its kind
 run_stops : (c : Class) (bytes : List ℕ) (k : ℕ) → run c bytes < k → k ≤ length bytes → list_all (is_in c) (take k bytes) ≡ false

@@ -27,7 +27,7 @@ use Rattle.mm_line.specs.Reading.{◌>>=◌, at, wrong, name_of, word_of, regist
 use Rattle.mm_line.specs.Operands.{event_register_of, operand_of, is_goal, with_operand, operand_at, comma_of, more_at, operands_at, bare, code_at}
 use Rattle.mm_line.specs.Ranges.{IsMark, IsGoal, IsCode, Reads}
 use Rattle.mm_line.proofs.Choices.{either}
-use Rattle.mm_line.proofs.Standing.{Found, found}
+use Rattle.mm_line.proofs.TokenPlaces.{Found, found}
 use Rattle.mm_line.proofs.TokenRanges.{reads_ok, reads_err, reads_then, reads_weaker, is_wrong, range_fault, name_reads, known_reads, number_reads, immediate_reads, register_reads}
 
 -- a value of a kind, in its range

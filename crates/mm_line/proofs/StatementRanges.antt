@@ -29,7 +29,7 @@ use Rattle.mm_line.specs.Statements.{register_at, front_by, end_of, statement_of
 use Rattle.mm_line.specs.Statements.{line_of}
 use Rattle.mm_line.specs.Ranges.{IsMark, IsTarget, IsConstant, IsCode, IsContent, IsHandler, IsStatement, Reads, IsClaim, IsBody, IsOptionalBody, IsLine}
 use Rattle.mm_line.proofs.Choices.{either}
-use Rattle.mm_line.proofs.Standing.{Found, found, token_stands}
+use Rattle.mm_line.proofs.TokenPlaces.{Found, found, token_stands}
 use Rattle.mm_line.proofs.TokenRanges.{reads_ok, reads_err, reads_then, problem, is_wrong, name_fault, name_reads, known_reads, number_reads, integer_reads, ip_perm_reads, handler_reads}
 use Rattle.mm_line.proofs.OperandRanges.{Behind, code_reads}
 

@@ -25,7 +25,7 @@ use Rattle.mm_line.specs.Faults.{number_of as fault_number}
 use Rattle.mm_line.specs.Reading.{◌>>=◌, at, wrong, wrong_token, name_of, known, word_of, register_of, ranged, between, number_of, modulo, integer_of, immediate, immediate_of, handler_of}
 use Rattle.mm_line.specs.Ranges.{IsMark, IsProblem, IsHandler, Reads}
 use Rattle.mm_line.proofs.Choices.{either, some_same}
-use Rattle.mm_line.proofs.Standing.{Found}
+use Rattle.mm_line.proofs.TokenPlaces.{Found}
 
 err_same : {A B : Type 0} (x y : B) → let left : Result A B = Err x in let right : Result A B = Err y in left ≡ right → x ≡ y
 err_same x y e = cc

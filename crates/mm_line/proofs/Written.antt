@@ -11,7 +11,7 @@ use Rattle.mm_line.specs.declared.token.Token.{Token}
 use Rattle.mm_line.specs.declared.token.Token.TheVariants.{Name, Directive, Comma, Colon, Plus}
 use Rattle.mm_line.specs.Tokens.{is_in, run, starts, behind, starts_hexadecimal, number, decimal, hexadecimal, front, token_at, next_token}
 use Rattle.mm_line.specs.Forms.{is_name, is_digits}
-use Rattle.mm_line.specs.Standing.{written}
+use Rattle.mm_line.specs.TokenPlaces.{written}
 use Rattle.mm_line.proofs.Longest.{other, no_digit}
 
 -- a run ends where a byte of another kind is behind it

@@ -5,7 +5,7 @@ pub mod Operands
 pub mod Ranges
 pub mod Reading
 pub mod Seen
-pub mod Standing
+pub mod TokenPlaces
 pub mod Statements
 pub mod Tokens
 pub mod Words

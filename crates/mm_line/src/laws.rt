@@ -5,7 +5,7 @@ ghost use Rattle.std.specs.Str.Parse.{digits_value};
 ghost use Rattle.mm_line.specs.declared.class.Class.TheVariants.{Blank, NameByte, Decimal, Hexadecimal};
 ghost use Rattle.mm_line.specs.declared.token.Token.TheVariants.{Name, Directive, Comma, Colon, Plus};
 ghost use Rattle.mm_line.specs.Tokens.{is_in, starts, number, next_token};
-ghost use Rattle.mm_line.specs.Standing.{StandsIn, written};
+ghost use Rattle.mm_line.specs.TokenPlaces.{StandsIn, written};
 ghost use Rattle.mm_line.specs.Words.{register_named};
 ghost use Rattle.mm_line.specs.Forms.{is_name, is_digits, IsLongest};
 ghost use Rattle.mm_line.specs.Statements.{line_of};

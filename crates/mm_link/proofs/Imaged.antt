@@ -7,7 +7,7 @@ use Rattle.mm_link.specs.Faults.{link_fault, page_count}
 use Rattle.mm_link.specs.Linked.{cells_of, pages_of, first_page, image_of}
 use Rattle.mm_link.specs.Laws.{LinkedObjectsAreImages}
 use Rattle.mm_link.proofs.Clean.{clean, few_frames, page_frames, some_frames}
-use Rattle.mm_link.proofs.Standing.{near_sites}
+use Rattle.mm_link.proofs.SegmentPlaces.{near_sites}
 use Rattle.mm_link.proofs.Numbered.{slots_are}
 use Rattle.mm_link.proofs.Paged.{cells_hold, pages_long, pages_whole, pages_hold}
 

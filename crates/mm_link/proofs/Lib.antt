@@ -2,7 +2,7 @@ pub mod Lists
 pub mod Buckets
 pub mod Clean
 pub mod Parts
-pub mod Standing
+pub mod SegmentPlaces
 pub mod Numbered
 pub mod Paged
 pub mod Imaged
@@ -12,7 +12,7 @@ pub mod Known
 pub mod Places
 pub mod Targets
 pub mod Cells
-pub mod Whole
+pub mod LinkResults
 pub mod Falling
 pub mod Named
 pub mod Celled
@@ -22,4 +22,4 @@ pub mod Mapped
 pub mod Pointed
 pub mod Threaded
 pub mod Apart
-pub mod Exactly
+pub mod Acceptance

@@ -6,7 +6,7 @@ use Rattle.std.specs.Option.{option_map}
 use Rattle.std.specs.List.{AllByRecursion, IsDistinct}
 use Rattle.std.specs.Str.{bytes_eq}
 use Rattle.std.specs.Map.{lookup}
-use Rattle.mm_model.proofs.ImageBytes.SpelledSlots.{all_at}
+use Rattle.mm_model.proofs.Bytes.SpelledSlots.{all_at}
 use Rattle.indexmap.specs.IndexMap.{insert_entry}
 use denote.Ref.{Bor}
 use Rattle.mm_link.specs.declared.sites.Placement.{Placement}

@@ -16,7 +16,7 @@ use Rattle.mm_link.specs.Linked.{object_slots, by_number, slots_of, image_of}
 use Rattle.mm_link.specs.Laws.{SlotsAreThreads}
 use Rattle.mm_object.proofs.Members.{In, from_flat, in_filter, each_in, each_from, contained}
 use Rattle.mm_link.proofs.Clean.{clean, few_frames, page_frames}
-use Rattle.mm_link.proofs.Standing.{near_sites}
+use Rattle.mm_link.proofs.SegmentPlaces.{near_sites}
 use Rattle.mm_link.proofs.Numbered.{is_start, as_many, small}
 use Rattle.mm_link.proofs.Tied.{none_kept}
 

@@ -2,8 +2,8 @@
 use Rattle.std.proofs.Common.{◌≡◌, ℕ, ◌+◌, ◌≤◌, inl, inr, List, [], ◌∷◌, ◌++◌, length, Option, Result, Ok, Err, IfOk, IfErr, refl, sym, ap, ◌∙◌, subst, arith, append_assoc, append-nil}
 use Rattle.mm_io.specs.Files.{Rose, NoneFell, Holds, PieceRead, AreOf, FrontToEnd}
 use Rattle.mm_load.specs.declared.status.Refusal.{Refusal}
-use Rattle.mm_load.specs.declared.status.Stop.{Stop}
-use Rattle.mm_load.specs.declared.status.Stop.TheVariants as stop
+use Rattle.mm_load.specs.declared.status.CommandError.{CommandError}
+use Rattle.mm_load.specs.declared.status.CommandError.TheVariants as stop
 use Rattle.mm_cli.specs.declared.table.Kind.{Kind}
 use Rattle.mm_load.specs.Kinds.{Value, Accepts, Faults, limit_of}
 use Rattle.mm_load.specs.Files.{Reading, FilesAccepted, FilesRefused, FilesFailed, FilesRead, AsksInOrder, AsksFiles, GoThrough, ReadsWhole, Stops}
@@ -131,7 +131,7 @@ module _ (a b : Reading) (asks : List PieceRead → Type 0) (on : GoesOn a b ask
   failed_since before (file ∷ files) (inr (v, here, failed)) =
       inr (v, rw on.kept at here, failed_since (before ++ v ∷ []) files failed)
 
-  stops_then : (before : List Value) (xs ys : List (List ℕ × Kind)) (vs : List Value) (s : Stop) → FilesAccepted a.held before xs vs
+  stops_then : (before : List Value) (xs ys : List (List ℕ × Kind)) (vs : List Value) (s : CommandError) → FilesAccepted a.held before xs vs
       → Stops (FilesRefused b.held (before ++ vs) ys) (FilesFailed b (before ++ vs) ys) s
       → Stops (FilesRefused a.held before (xs ++ ys)) (FilesFailed (both a b asks) before (xs ++ ys)) s
   stops_then before xs ys vs (stop.Refused r) front says =
@@ -142,7 +142,7 @@ module _ (a b : Reading) (asks : List PieceRead → Type 0) (on : GoesOn a b ask
 
 -- both read their files in order
 asked_then : {T U : Type 0} {a b : Reading} {asks : List PieceRead → Type 0} {before : List Value}
-    {xs ys : List (List ℕ × Kind)} {values : T → List Value} {others : U → List Value} {t : T} {result : Result U Stop}
+    {xs ys : List (List ℕ × Kind)} {values : T → List Value} {others : U → List Value} {t : T} {result : Result U CommandError}
     → FilesRead a before xs values (Ok t) → FilesRead b (before ++ values t) ys others result → GoesOn a b asks → AsksFiles (both a b asks) before (xs ++ ys)
 asked_then {a = a} {before = before} {xs = xs} {ys = ys} {values = values} {t = t} front back on = record {
   reads = front.asked.reads ++ back.asked.reads;
@@ -163,7 +163,7 @@ whole_then {a = a} {xs = xs} {ys = ys} front back on = record {
 
 -- the files behind were read too, or their reading stopped
 pub files_then : {T U : Type 0} {a b : Reading} {asks : List PieceRead → Type 0} {before : List Value}
-    {xs ys : List (List ℕ × Kind)} {values : T → List Value} {others : U → List Value} {t : T} {result : Result U Stop}
+    {xs ys : List (List ℕ × Kind)} {values : T → List Value} {others : U → List Value} {t : T} {result : Result U CommandError}
     → FilesRead a before xs values (Ok t) → FilesRead b (before ++ values t) ys others result → GoesOn a b asks
     → FilesRead (both a b asks) before (xs ++ ys) (λ u. values t ++ others u) result
 files_then {a = a} {b = b} {before = before} {xs = xs} {ys = ys} {values = values} {others = others} {t = t} {result = Ok u} front back on = record {
@@ -181,7 +181,7 @@ files_then {a = a} {b = b} {asks = asks} {before = before} {xs = xs} {ys = ys} {
 }
 
 -- the reading of files stops where that of the first of them does
-pub stops_first : (a : Reading) (ys : List (List ℕ × Kind)) (before : List Value) (xs : List (List ℕ × Kind)) (s : Stop)
+pub stops_first : (a : Reading) (ys : List (List ℕ × Kind)) (before : List Value) (xs : List (List ℕ × Kind)) (s : CommandError)
     → Stops (FilesRefused a.held before xs) (FilesFailed a before xs) s → Stops (FilesRefused a.held before (xs ++ ys)) (FilesFailed a before (xs ++ ys)) s
 stops_first a ys before xs (stop.Refused r) says = refused_first a.held ys before xs r says
 stops_first a ys before xs stop.ReadFault says = failed_first a ys before xs says
@@ -233,7 +233,7 @@ refused_file reads bytes holds short fault of asked = record {
 }
 
 -- one file was read, and its bytes were parsed
-pub parsed_file : {T : Type 0} {a : Reading} {before : List Value} {name : List ℕ} {kind : Kind} {value : T → Value} {number : ℕ} {bytes text : List ℕ} {result : Result T Stop}
+pub parsed_file : {T : Type 0} {a : Reading} {before : List Value} {name : List ℕ} {kind : Kind} {value : T → Value} {number : ℕ} {bytes text : List ℕ} {result : Result T CommandError}
     (mine whole : List PieceRead)
     → number ≡ length before + 1 → text ≡ bytes → Holds (a.held name) bytes → length bytes ≤ limit_of kind
     → IfOk result (λ (t : T). Accepts kind before text (value t)) → IfErr result (Stops (Faults kind before number text) ⊥)

@@ -4,7 +4,7 @@ use Rattle.std.specs.Result.{IsErrAnd}
 use Rattle.std.specs.declared.alloc.Global.{Global}
 use Rattle.std.proofs.lemmas.List.{take_more, map-append, take-append-drop}
 use Rattle.mm_io.specs.Files.{PieceRead}
-use Rattle.mm_load.specs.declared.status.Stop.{Stop}
+use Rattle.mm_load.specs.declared.status.CommandError.{CommandError}
 use Rattle.mm_cli.specs.declared.table.Kind.{Kind}
 use Rattle.mm_cli.specs.Words.{file_word, files_in, texts}
 use Rattle.mm_load.specs.Kinds.{Value}
@@ -48,7 +48,7 @@ module _ {A : Type 0} (kind : Kind) (value : A → Value) where
 
   -- what was asked for so far is asked for of all
   pub values_asked : {T : Type 0} {a b : Reading} {asks : List PieceRead → Type 0} {before : List Value} (names : List (String Global)) (at : ℕ) (name : String Global) (items : List A)
-      (values : T → List Value) (result : Result T Stop) → at < length names → name ≡ get_or names at name
+      (values : T → List Value) (result : Result T CommandError) → at < length names → name ≡ get_or names at name
       → FilesRead {T = Unit {0}} a before (files_named kind (take at names)) (λ t. map value items) (Ok tt)
       → FilesRead b (before ++ map value items) (named name ∷ []) values result → GoesOn a b asks → AsksFiles (both a b asks) before (files_named kind names)
   values_asked {a = a} {b = b} {asks = asks} {before = before} names at name items values result lt is front back on =
@@ -57,14 +57,14 @@ module _ {A : Type 0} (kind : Kind) (value : A → Value) where
 
   -- the reading of one stops, and none behind it is read
   pub value_stops : {T : Type 0} {a b : Reading} {asks : List PieceRead → Type 0} {before : List Value} (names : List (String Global)) (at : ℕ) (name : String Global) (items : List A)
-      (values : T → List Value) (s : Stop) (result : Result T Stop) → at < length names → name ≡ get_or names at name
+      (values : T → List Value) (s : CommandError) (result : Result T CommandError) → at < length names → name ≡ get_or names at name
       → FilesRead {T = Unit {0}} a before (files_named kind (take at names)) (λ t. map value items) (Ok tt)
       → FilesRead b (before ++ map value items) (named name ∷ []) (λ x. value x ∷ []) (Err s) → GoesOn a b asks → IsErrAnd result (λ e. e ≡ s)
       → FilesRead (both a b asks) before (files_named kind names) values result
   value_stops names at name items values s (Ok t) lt is front back on same = absurd same
   value_stops {a = a} {b = b} {asks = asks} {before = before} names at name items values s (Err e) lt is front back on same =
       let P : List (List ℕ × Kind) → Type 0 = λ files. Stops (FilesRefused a.held before files) (FilesFailed (both a b asks) before files) s in
-      let Q : Stop → Type 0 = λ x. Stops (FilesRefused a.held before (files_named kind names)) (FilesFailed (both a b asks) before (files_named kind names)) x in
+      let Q : CommandError → Type 0 = λ x. Stops (FilesRefused a.held before (files_named kind names)) (FilesFailed (both a b asks) before (files_named kind names)) x in
       let first = subst P (sym (next_named names at name lt is)) (files_then front back on).stopped in
       record {
         accepted = tt;

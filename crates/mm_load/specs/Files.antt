@@ -8,8 +8,8 @@ use Rattle.mm_word.specs.Adding.{Adds}
 use Rattle.mm_io.specs.Files.{Rose, Holds, IsLonger, PieceRead, AreOf, FrontToEnd}
 use Rattle.mm_load.specs.declared.status.Refusal.{Refusal}
 use Rattle.mm_load.specs.declared.status.Refusal.TheVariants.{TooLong}
-use Rattle.mm_load.specs.declared.status.Stop.{Stop}
-use Rattle.mm_load.specs.declared.status.Stop.TheVariants as stop
+use Rattle.mm_load.specs.declared.status.CommandError.{CommandError}
+use Rattle.mm_load.specs.declared.status.CommandError.TheVariants as stop
 use Rattle.mm_cli.specs.declared.table.Kind.{Kind}
 use Rattle.mm_load.specs.Kinds.{Value, limit_of, Accepts, Faults}
 
@@ -184,7 +184,7 @@ ToldInputsRefused held left files (Some kind) r = ToldFilesRefused held [] files
 -- 5. What the reading of inputs answers.
 
 -- Why the reading stops: a refusal, a fault of the files, or a lack of memory.
-abbrev pub Stops : (Refusal → Type 0) → Type 0 → Stop → Type 0
+abbrev pub Stops : (Refusal → Type 0) → Type 0 → CommandError → Type 0
 Stops Refuses Fails (stop.Refused r) = Refuses r
 Stops Refuses Fails stop.ReadFault = Fails
 Stops Refuses Fails stop.WriteFault = ⊥
@@ -194,7 +194,7 @@ Stops Refuses Fails stop.NoMemory = ⊤
 -- stops. It asks for their names in order.
 pub record FilesRead {T : Type 0} (r : Reading) (before : List Value) (files : List (List ℕ × Kind))
     (values : T → List Value)
-    (result : Result T Stop) : Type 0 where
+    (result : Result T CommandError) : Type 0 where
   pub accepted : IfOk result (λ t. FilesAccepted r.held before files (values t))
   pub stopped : IfErr result (Stops (FilesRefused r.held before files) (FilesFailed r before files))
   pub asked : AsksFiles r before files
@@ -202,7 +202,7 @@ pub record FilesRead {T : Type 0} (r : Reading) (before : List Value) (files : L
 
 -- The reading of standard input answers its value, or why it stops.
 pub record InputRead {T : Type 0} (d : Drawing) (before : List Value) (kind : Kind) (value : T → Value)
-    (result : Result T Stop) : Type 0 where
+    (result : Result T CommandError) : Type 0 where
   pub accepted : IfOk result (λ t. Accepted kind before d.left (value t))
   pub stopped : IfErr result (Stops (InputRefused kind before 0 d.left) (Rose d.before d.now))
 

@@ -6,7 +6,7 @@ ghost use Rattle.mm_load.specs.Files.{FilesRead, files_named, reading};
 
 use crate::from_file::FromFile;
 use crate::load::load_file;
-use crate::status::Stop;
+use crate::status::CommandError;
 use mm_image::Image;
 use mm_io::Files;
 use mm_object::Object;
@@ -18,7 +18,7 @@ fn load_each<T: FromFile, F: Files>(
     files: &mut F,
     names: &[String],
     first: u8,
-) -> Result<Vec<T>, Stop>
+) -> Result<Vec<T>, CommandError>
     requires few { length names.now ≤ 16 }
     requires early { first ≤ 16 }
     ensures read { (before : List Value) → first ≡ length before + 1
@@ -40,7 +40,7 @@ pub fn load_objects<F: Files>(
     files: &mut F,
     names: &[String],
     first: u8,
-) -> Result<Vec<Object>, Stop>
+) -> Result<Vec<Object>, CommandError>
     requires few { length names.now ≤ 16 }
     requires early { first ≤ 16 }
     ensures read { (before : List Value) → first ≡ length before + 1
@@ -57,7 +57,7 @@ pub fn load_images<F: Files>(
     files: &mut F,
     names: &[String],
     first: u8,
-) -> Result<Vec<Image>, Stop>
+) -> Result<Vec<Image>, CommandError>
     requires few { length names.now ≤ 16 }
     requires early { first ≤ 16 }
     ensures read { (before : List Value) → first ≡ length before + 1

@@ -7,7 +7,7 @@ ghost use Rattle.mm_load.specs.Kinds.{Value, Accepts, Faults, limit_of};
 ghost use Rattle.mm_load.specs.Kinds.{an_image, a_list, an_object, a_links, an_events};
 ghost use Rattle.mm_load.specs.Files.{Stops};
 
-use crate::status::{Refusal, Stop};
+use crate::status::{Refusal, CommandError};
 use mm_image::{Image, ImageError};
 use mm_net::{Events, Links, NetError, read_events, read_links};
 use mm_object::{Object, ObjectError};
@@ -31,7 +31,7 @@ pub trait FromFile: Drop + Sized {
         ensures small { result < 2 ^ 31 };
 
     /// Parses the bytes of the command's file `number`.
-    fn parse(alloc: Global, bytes: &[u8], number: u8) -> Result<Self, Stop>
+    fn parse(alloc: Global, bytes: &[u8], number: u8) -> Result<Self, CommandError>
         ensures means { (before : List Value) → IfOk result (λ x. Accepts of_kind before bytes.now (meaning x)) }
         ensures fault { (before : List Value) → IfErr result (Stops (Faults of_kind before number bytes.now) ⊥) };
 }
@@ -45,15 +45,15 @@ impl FromFile for Image {
         33_554_432
     }
 
-    fn parse(alloc: Global, bytes: &[u8], number: u8) -> Result<Image, Stop> {
+    fn parse(alloc: Global, bytes: &[u8], number: u8) -> Result<Image, CommandError> {
         match mm_image::read(alloc, bytes) {
             Ok(image) => Ok(image),
-            Err(ImageError::Fault { fault, offset }) => Err(Stop::Refused(Refusal::Image {
+            Err(ImageError::Fault { fault, offset }) => Err(CommandError::Refused(Refusal::Image {
                 file: number,
                 fault,
                 offset,
             })),
-            Err(ImageError::NoMemory) => Err(Stop::NoMemory),
+            Err(ImageError::NoMemory) => Err(CommandError::NoMemory),
         }
     }
 }
@@ -67,14 +67,14 @@ impl FromFile for Schedule {
         8_388_608
     }
 
-    fn parse(alloc: Global, bytes: &[u8], number: u8) -> Result<Schedule, Stop> {
+    fn parse(alloc: Global, bytes: &[u8], number: u8) -> Result<Schedule, CommandError> {
         match mm_sched::parse(alloc, bytes) {
             Ok(list) => Ok(list),
-            Err(SchedError::Fault { offset }) => Err(Stop::Refused(Refusal::Schedule {
+            Err(SchedError::Fault { offset }) => Err(CommandError::Refused(Refusal::Schedule {
                 file: number,
                 offset,
             })),
-            Err(SchedError::NoMemory) => Err(Stop::NoMemory),
+            Err(SchedError::NoMemory) => Err(CommandError::NoMemory),
         }
     }
 }
@@ -88,15 +88,15 @@ impl FromFile for Object {
         2_097_152
     }
 
-    fn parse(alloc: Global, bytes: &[u8], number: u8) -> Result<Object, Stop> {
+    fn parse(alloc: Global, bytes: &[u8], number: u8) -> Result<Object, CommandError> {
         match mm_object::read(alloc, bytes) {
             Ok(object) => Ok(object),
-            Err(ObjectError::Fault { fault, offset }) => Err(Stop::Refused(Refusal::Object {
+            Err(ObjectError::Fault { fault, offset }) => Err(CommandError::Refused(Refusal::Object {
                 file: number,
                 fault,
                 offset,
             })),
-            Err(ObjectError::NoMemory) => Err(Stop::NoMemory),
+            Err(ObjectError::NoMemory) => Err(CommandError::NoMemory),
         }
     }
 }
@@ -110,14 +110,14 @@ impl FromFile for Links {
         65_536
     }
 
-    fn parse(alloc: Global, bytes: &[u8], number: u8) -> Result<Links, Stop> {
+    fn parse(alloc: Global, bytes: &[u8], number: u8) -> Result<Links, CommandError> {
         match read_links(alloc, bytes) {
             Ok(links) => Ok(links),
-            Err(NetError::Fault { offset }) => Err(Stop::Refused(Refusal::Links {
+            Err(NetError::Fault { offset }) => Err(CommandError::Refused(Refusal::Links {
                 file: number,
                 offset,
             })),
-            Err(NetError::NoMemory) => Err(Stop::NoMemory),
+            Err(NetError::NoMemory) => Err(CommandError::NoMemory),
         }
     }
 }
@@ -132,14 +132,14 @@ impl FromFile for Events {
     }
 
     // Its faults are refused as those of a schedule.
-    fn parse(alloc: Global, bytes: &[u8], number: u8) -> Result<Events, Stop> {
+    fn parse(alloc: Global, bytes: &[u8], number: u8) -> Result<Events, CommandError> {
         match read_events(alloc, bytes) {
             Ok(events) => Ok(events),
-            Err(NetError::Fault { offset }) => Err(Stop::Refused(Refusal::Schedule {
+            Err(NetError::Fault { offset }) => Err(CommandError::Refused(Refusal::Schedule {
                 file: number,
                 offset,
             })),
-            Err(NetError::NoMemory) => Err(Stop::NoMemory),
+            Err(NetError::NoMemory) => Err(CommandError::NoMemory),
         }
     }
 }

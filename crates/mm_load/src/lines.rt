@@ -1,13 +1,13 @@
 //! The line that an answer writes to standard error.
 ghost use Rattle.mm_io.specs.Sinks.{Writes};
-ghost use Rattle.mm_text.specs.Gathers.{Gathers};
+ghost use Rattle.mm_text.specs.Appends.{Appends};
 ghost use Rattle.std.specs.Prelude.{◌++◌, codes, decimal};
 ghost use Rattle.mm_load.specs.Lines.{in_file, line_of, named_by};
 
 use crate::status::{Refusal, Status};
 use mm_io::{Sink, WriteFault, write_all};
 use mm_link::LinkFault;
-use mm_text::{Gather, Piece, write_pieces};
+use mm_text::{TextBuffer, Piece, write_pieces};
 
 /// Writes the line that says why a command is not done. Writes nothing if it is done.
 pub fn write_line<D: Sink>(status: &Status, diag: &mut D) -> Result<(), WriteFault>
@@ -138,7 +138,7 @@ fn write_numbered<D: Sink>(
 fn write_link_fault<D: Sink>(fault: &LinkFault, diag: &mut D) -> Result<(), WriteFault>
     ensures { Writes D.taken D.faults diag.old diag.new (line_of (Status.Refused (Refusal.Link fault.now))) result }
 {
-    let mut text = Gather::new();
+    let mut text = TextBuffer::new();
     text.put(
         diag,
         &[
@@ -153,8 +153,8 @@ fn write_link_fault<D: Sink>(fault: &LinkFault, diag: &mut D) -> Result<(), Writ
 }
 
 /// Appends what a fault of linking names: a name, a slot, or `-` if it names neither.
-fn put_named<D: Sink>(text: &mut Gather, diag: &mut D, fault: &LinkFault)
-    ensures { Gathers D.taken D.faults diag.old diag.new text.old text.new (named_by fault.now) }
+fn put_named<D: Sink>(text: &mut TextBuffer, diag: &mut D, fault: &LinkFault)
+    ensures { Appends D.taken D.faults diag.old diag.new text.old text.new (named_by fault.now) }
 {
     match fault {
         LinkFault::Twice(name) | LinkFault::Undefined(name) | LinkFault::Offset(name) => {

@@ -8,12 +8,12 @@ ghost use Rattle.mm_cli.specs.declared.table.Kind.TheVariants.{Schedule as sched
 ghost use Rattle.mm_cli.specs.declared.table.Kind.TheVariants.{Checkpoint as checkpoint_file, Text as text_input};
 ghost use Rattle.mm_load.specs.Kinds.{Value, an_image, an_object, a_checkpoint, a_text};
 ghost use Rattle.mm_load.specs.Files.{Stops, IsTooLong, FilesRead, InputRead, reading, drawing};
-ghost use Rattle.mm_cli.specs.Words.{file_word, files_in, perhaps};
+ghost use Rattle.mm_cli.specs.Words.{file_word, files_in, optional};
 ghost use Rattle.mm_load.specs.Kinds.{values_of};
 ghost use Rattle.mm_load.specs.Stops.{stop_of_error};
 
 use crate::from_file::FromFile;
-use crate::status::{Refusal, Stop};
+use crate::status::{Refusal, CommandError};
 use mm_asm::{AsmError, assemble};
 use mm_checkpoint::SaveError;
 use mm_image::Image;
@@ -39,7 +39,7 @@ fn read_file<F: Files>(
     name: &str,
     limit: u64,
     number: u8,
-) -> Result<Vec<u8>, Stop>
+) -> Result<Vec<u8>, CommandError>
     requires { limit < 2 ^ 31 }
     ensures bytes { IfOk result (λ bytes. Holds (F.held files.old name.now) bytes.items) }
     ensures short { IfOk result (λ bytes. length bytes.items ≤ limit) }
@@ -58,13 +58,13 @@ fn read_file<F: Files>(
 }
 
 /// Why a command stops if the file of this number cannot be read.
-fn stop_of(error: ReadError, file: u8) -> Stop
+fn stop_of(error: ReadError, file: u8) -> CommandError
     ensures { result ≡ stop_of_error error file }
 {
     match error {
-        ReadError::ReadFault => Stop::ReadFault,
-        ReadError::TooLong => Stop::Refused(Refusal::TooLong { file }),
-        ReadError::NoMemory => Stop::NoMemory,
+        ReadError::ReadFault => CommandError::ReadFault,
+        ReadError::TooLong => CommandError::Refused(Refusal::TooLong { file }),
+        ReadError::NoMemory => CommandError::NoMemory,
     }
 }
 
@@ -74,7 +74,7 @@ pub fn load_file<T: FromFile, F: Files>(
     files: &mut F,
     name: &str,
     number: u8,
-) -> Result<T, Stop>
+) -> Result<T, CommandError>
     ensures read { (before : List Value) → number ≡ length before + 1
         → FilesRead (reading F.held F.faults F.asked files.old files.new) before ((name.now, T.of_kind) ∷ [])
         (λ x. T.meaning x ∷ []) result }
@@ -91,7 +91,7 @@ pub fn load_source<F: Files>(
     files: &mut F,
     name: &str,
     number: u8,
-) -> Result<Object, Stop>
+) -> Result<Object, CommandError>
     ensures { (before : List Value) → number ≡ length before + 1
         → FilesRead (reading F.held F.faults F.asked files.old files.new) before ((name.now, source_file) ∷ [])
         (λ o. an_object o ∷ []) result }
@@ -105,12 +105,12 @@ pub fn load_source<F: Files>(
                 line,
                 column,
             },
-        ) => Err(Stop::Refused(Refusal::Asm {
+        ) => Err(CommandError::Refused(Refusal::Asm {
             fault,
             line,
             column,
         })),
-        Err(AsmError::NoMemory) => Err(Stop::NoMemory),
+        Err(AsmError::NoMemory) => Err(CommandError::NoMemory),
     }
 }
 
@@ -127,7 +127,7 @@ pub fn load_checkpoint<F: Files>(
     files: &mut F,
     name: &str,
     image: &Image,
-) -> Result<Checkpoint, Stop>
+) -> Result<Checkpoint, CommandError>
     ensures read { FilesRead (reading F.held F.faults F.asked files.old files.new) (an_image image.now ∷ [])
         ((name.now, checkpoint_file) ∷ [])
         (λ c. a_checkpoint (saved_of c.snapshot c.last) ∷ []) result }
@@ -139,9 +139,9 @@ pub fn load_checkpoint<F: Files>(
     match mm_checkpoint::read(alloc, image, &bytes) {
         Ok((snapshot, last)) => Ok(Checkpoint { snapshot, last }),
         Err(SaveError::Fault { offset }) => {
-            Err(Stop::Refused(Refusal::Checkpoint { file: 2, offset }))
+            Err(CommandError::Refused(Refusal::Checkpoint { file: 2, offset }))
         }
-        Err(SaveError::NoMemory) => Err(Stop::NoMemory),
+        Err(SaveError::NoMemory) => Err(CommandError::NoMemory),
     }
 }
 
@@ -151,10 +151,10 @@ pub fn load_order<F: Files>(
     files: &mut F,
     name: Option<&str>,
     number: u8,
-) -> Result<Order, Stop>
+) -> Result<Order, CommandError>
     ensures { (before : List Value) → number ≡ length before + 1
         → FilesRead (reading F.held F.faults F.asked files.old files.new) before
-        (files_in (perhaps (file_word schedule_file) (option_map (λ name. name.now) name.entry))) values_of result }
+        (files_in (optional (file_word schedule_file) (option_map (λ name. name.now) name.entry))) values_of result }
 {
     match name {
         None => Ok(Order::Robin),
@@ -166,7 +166,7 @@ pub fn load_order<F: Files>(
 }
 
 /// Reads standard input, which has number 0, to its end.
-pub fn load_input<I: Source>(alloc: Global, input: &mut I) -> Result<Vec<u8>, Stop>
+pub fn load_input<I: Source>(alloc: Global, input: &mut I) -> Result<Vec<u8>, CommandError>
     ensures read { (before : List Value)
         → InputRead (drawing I.left I.faults input.old input.new) before text_input (λ text. a_text text.items) result }
     ensures end { OnOk result (IsAtEnd (I.left input.new)) }

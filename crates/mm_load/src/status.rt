@@ -1,6 +1,6 @@
 //! What the program answers, and why a command stops.
 ghost use Rattle.std.specs.Prelude.{◌≡◌};
-ghost use Rattle.mm_load.specs.declared.status.Stop.TheVariants as stop;
+ghost use Rattle.mm_load.specs.declared.status.CommandError.TheVariants as stop;
 ghost use Rattle.mm_load.specs.Stops.{end_of, stop_of_link};
 
 use mm_asm::AsmFault;
@@ -92,7 +92,7 @@ pub enum Status {
 
 /// Why a command stops before it is done.
 #[derive(Drop)]
-pub enum Stop {
+pub enum CommandError {
     Refused(Refusal),
     ReadFault,
     WriteFault,
@@ -100,46 +100,46 @@ pub enum Stop {
 }
 
 /// How a command ends after the write of its text.
-pub fn ended(wrote: Result<(), WriteFault>) -> Result<(), Stop>
+pub fn ended(wrote: Result<(), WriteFault>) -> Result<(), CommandError>
     ensures { result ≡ end_of wrote }
 {
     match wrote {
         Ok(()) => Ok(()),
-        Err(WriteFault) => Err(Stop::WriteFault),
+        Err(WriteFault) => Err(CommandError::WriteFault),
     }
 }
 
-impl From<WriteFault> for Stop {
+impl From<WriteFault> for CommandError {
     ghost from_gives = { λ _ e. e ≡ stop.WriteFault };
 
     fn from(_: WriteFault) -> Self {
-        Stop::WriteFault
+        CommandError::WriteFault
     }
 }
 
-impl From<LinkError> for Stop {
+impl From<LinkError> for CommandError {
     ghost from_gives = { λ error e. e ≡ stop_of_link error };
 
     fn from(error: LinkError) -> Self {
         match error {
-            LinkError::Fault(fault) => Stop::Refused(Refusal::Link(fault)),
-            LinkError::NoMemory => Stop::NoMemory,
+            LinkError::Fault(fault) => CommandError::Refused(Refusal::Link(fault)),
+            LinkError::NoMemory => CommandError::NoMemory,
         }
     }
 }
 
-impl<T: Drop> From<AllocFailed<T>> for Stop {
+impl<T: Drop> From<AllocFailed<T>> for CommandError {
     ghost from_gives = { λ _ e. e ≡ stop.NoMemory };
 
     fn from(_: AllocFailed<T>) -> Self {
-        Stop::NoMemory
+        CommandError::NoMemory
     }
 }
 
-impl From<NoMemory> for Stop {
+impl From<NoMemory> for CommandError {
     ghost from_gives = { λ _ e. e ≡ stop.NoMemory };
 
     fn from(_: NoMemory) -> Self {
-        Stop::NoMemory
+        CommandError::NoMemory
     }
 }

@@ -5,7 +5,7 @@ use Rattle.std.specs.List.{AllByRecursion}
 use Rattle.std.specs.List.Sorted.{IsStrictlyIncreasing}
 use Rattle.std.proofs.lemmas.Bool.{cases_eq}
 use Rattle.mm_machine.proofs.Returning.{above_rows}
-use Rattle.mm_model.proofs.ImageBytes.Ranges.{map-map}
+use Rattle.mm_model.proofs.Bytes.Ranges.{map-map}
 use Rattle.mm_model.specs.declared.event.Event.{Event}
 use Rattle.mm_model.specs.Slot.{Slot}
 use Rattle.mm_model.specs.State.{ThreadRow, Core, State, row_in, at_number, put_output, output_of}

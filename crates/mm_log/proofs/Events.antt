@@ -11,7 +11,7 @@ use Rattle.mm_word.specs.declared.cause.Cause.{Cause}
 use Rattle.mm_word.specs.declared.cause.Cause.TheVariants as cause
 use Rattle.mm_word.specs.declared.perm.Kind.TheVariants.{Store}
 use Rattle.mm_word.specs.declared.word.Pre.{Pre}
-use Rattle.mm_word.specs.Access.{Touch, check_result}
+use Rattle.mm_word.specs.Access.{AccessValue, check_result}
 use Rattle.mm_word.specs.Word.{word_bits}
 use Rattle.mm_isa.specs.declared.instr.Instr.{Instr}
 use Rattle.mm_isa.specs.declared.instr.Instr.TheVariants.{Out, Ld, St, Evt, Resume, Rreg, Wreg, Map, Unmap}
@@ -26,7 +26,7 @@ use Rattle.mm_model.specs.Fits.{slots_of, IsSlot, IsFormed}
 use Rattle.mm_model.specs.Ask.{Ask, ask, is_privileged, load_kind, reaching}
 use Rattle.mm_model.specs.Ask.Ask.{Refuse, MapPage, UnmapPage, NextEvent}
 use Rattle.mm_model.specs.Effect.{Change, effect, takes, delivered}
-use Rattle.mm_model.specs.Effect.Effect.{Does}
+use Rattle.mm_model.specs.Effect.Effect.{Do}
 use Rattle.mm_model.specs.Turn.{Turned, reply, first_event, event_reply, slot_after, with_other, with_queue, with_out}
 use Rattle.mm_model.specs.Turn.{core_after, stood, is_sync, event_of, core_faulted, tick_faulted, faulted, blocked}
 use Rattle.mm_model.specs.Turn.{ended, idle, turn}
@@ -45,7 +45,7 @@ use Rattle.mm_log.proofs.Seeing.{runs_own, same_own}
 
 -- 1. Which instruction reads events.
 
-reads_of_reach : (own : ℕ) (pre : Pre) (r : Result Touch Cause) (l : List Line) → reaching r pre ≡ NextEvent → [] ≡ l
+reads_of_reach : (own : ℕ) (pre : Pre) (r : Result AccessValue Cause) (l : List Line) → reaching r pre ≡ NextEvent → [] ≡ l
 reads_of_reach own pre (Ok a) l e = cc
 reads_of_reach own pre (Err c) l e = cc
 
@@ -68,15 +68,15 @@ event_row (Wreg ra rb reg) s own e = cc
 event_row _ s own e = cc
 
 module _ (core : Core) (m : Memory) (s : Slot) where
-  no_event_row : (i : Instr) (c : Change) (own : ℕ) → effect core.split i s (reply core m s.number (ask i s)) ≡ Does c → c.queue ≡ None → read_own (Some i) own ≡ []
+  no_event_row : (i : Instr) (c : Change) (own : ℕ) → effect core.split i s (reply core m s.number (ask i s)) ≡ Do c → c.queue ≡ None → read_own (Some i) own ≡ []
   unfolding effect ask reply
   no_event_row (Evt rd) c own made none = by (queue_at core s.number) made
     where
-      found : (e : Event) (rest : List Event) (o : Option Slot) → takes s rd (event_reply e rest o) ≡ Does c → read_own (Some (Evt rd)) own ≡ []
+      found : (e : Event) (rest : List Event) (o : Option Slot) → takes s rd (event_reply e rest o) ≡ Do c → read_own (Some (Evt rd)) own ≡ []
       found e rest None is = cc
       found e rest (Some of) is = cc
 
-      by : (q : List Event) → takes s rd (first_event core q) ≡ Does c → read_own (Some (Evt rd)) own ≡ []
+      by : (q : List Event) → takes s rd (first_event core q) ≡ Do c → read_own (Some (Evt rd)) own ≡ []
       by [] is = cc
       by (e ∷ rest) is = found e rest (slot_at core e.slot) is
   no_event_row _ c own made none = refl
@@ -176,7 +176,7 @@ module _ (core : Core) (m : Memory) (n : ℕ) (formed : IsFormed core) (fit : Fi
       )
 
   -- an instruction that is carried out
-  module _ (s : Slot) (at : slot_at core s.number ≡ Some s) (i : Instr) (c : Change) (made : effect core.split i s (reply core m s.number (ask i s)) ≡ Does c) where
+  module _ (s : Slot) (at : slot_at core s.number ≡ Some s) (i : Instr) (c : Change) (made : effect core.split i s (reply core m s.number (ask i s)) ≡ Do c) where
     abbrev mid : Core
     mid = put_slot (with_other core c.other) (slot_after s c)
 

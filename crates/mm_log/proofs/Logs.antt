@@ -26,7 +26,7 @@ use Rattle.mm_model.specs.Report.{changes_from}
 use Rattle.mm_model.specs.Turn.{Turned}
 use Rattle.mm_model.specs.Trace.{turns_of}
 use Rattle.mm_model.specs.Run.{turn_of, after, run}
-use Rattle.mm_model.specs.Fits.{IsState, IsSlot, Fits, IsKept, LoadsMatch, LoadsAreKept}
+use Rattle.mm_model.specs.Fits.{IsState, IsSlot, Fits, IsConsistent, LoadsMatch, LoadsAreConsistent}
 use Rattle.mm_model.proofs.CoreRows.{slot_at-number, slot_has}
 use Rattle.mm_model.proofs.EffectWords.{slot_words}
 use Rattle.mm_model.proofs.Fitted.{fitting_of}
@@ -214,7 +214,7 @@ out_at k (l ∷ ls) outs lt =
 
 -- 3. One turn.
 
-module _ (i : Image) (img : IsImage i) (s : State) (n : ℕ) (state : IsState s) (fits : Fits i s) (kept : IsKept s.core) where
+module _ (i : Image) (img : IsImage i) (s : State) (n : ℕ) (state : IsState s) (fits : Fits i s) (kept : IsConsistent s.core) where
   abbrev t : Turned
   t = turn_of s n
 
@@ -228,7 +228,7 @@ module _ (i : Image) (img : IsImage i) (s : State) (n : ℕ) (state : IsState s)
   unfolding after
   later_state = after_state s n state
 
-  later_kept : IsKept t.core
+  later_kept : IsConsistent t.core
   unfolding after
   later_kept = after_kept i s n img state fits kept
 
@@ -265,7 +265,7 @@ module _ (i : Image) (img : IsImage i) (s : State) (n : ℕ) (state : IsState s)
       let old = slot_has IsSlot s.core k x state.core.slots at in
       let new = slot_has IsSlot t.core k y later_state.core.slots there in
       let loads = slot_has LoadsMatch s.core k x fits.matched.loads at in
-      let zeros = slot_has (LoadsAreKept t.core.split) t.core k y later_kept.loads there in
+      let zeros = slot_has (LoadsAreConsistent t.core.split) t.core k y later_kept.loads there in
       let few : k < 64 = let low = new.number in omega arith in
       let f : ℕ → List Line = λ j. changes_between (slot_at s.core j) (slot_at t.core j) in
       let first : Slot = record x { turns = y.turns } in
@@ -446,7 +446,7 @@ unfolding replay
 replay_append s [] ys = refl
 replay_append s (l ∷ xs) ys = replay_append (carry_out s l) xs ys
 
-log_replayed : (i : Image) → IsImage i → (s : State) (items : List ℕ) (c : ℕ) → IsState s → Fits i s → IsKept s.core
+log_replayed : (i : Image) → IsImage i → (s : State) (items : List ℕ) (c : ℕ) → IsState s → Fits i s → IsConsistent s.core
     → replay (record s { cycles = c }) (log s items) ≡ record (run s items) { cycles = c }
 unfolding log run replay
 log_replayed i img s [] c state fits kept = refl

@@ -15,7 +15,7 @@ use Rattle.mm_model.specs.State.{Core, slot_at, queue_at, put_slot}
 use Rattle.mm_model.specs.Operands.{addr_operand, value_operand}
 use Rattle.mm_model.specs.Ask.{ask}
 use Rattle.mm_model.specs.Effect.{effect, delivers, delivered}
-use Rattle.mm_model.specs.Effect.Effect.{Does}
+use Rattle.mm_model.specs.Effect.Effect.{Do}
 use Rattle.mm_model.specs.Turn.{Turned, reply, slot_after, core_after, stood, is_sync, event_of, core_faulted, faulted, blocked, ended, idle, turn}
 use Rattle.mm_model.specs.Outcomes.{Runs}
 use Rattle.mm_model.proofs.CoreRows.{slot_at-put_same, slot_at-put_queue}
@@ -130,9 +130,9 @@ module _ (core : Core) (m : Memory) (n : ℕ) (s : Slot) (i : Instr) (runs : Run
   way_left t (Way.does x y c f u us r found made moves is) =
       let one = same_own core n s x own (runs_own core n x r) in
       let instr = same_instr x y one found in
-      let done : effect core.split i s (reply core m s.number (ask i s)) ≡ Does c =
+      let done : effect core.split i s (reply core m s.number (ask i s)) ≡ Do c =
       ap (λ (z : Instr). effect core.split z s (reply core m s.number (ask z s))) (sym instr) ∙ ap (λ (z : Slot). effect core.split y z (reply core m z.number (ask y z))) (sym one) ∙ made in
-      let spares : (k : ℕ) → Spares (written_by i) k → EffectLeaves k (Does c) =
+      let spares : (k : ℕ) → Spares (written_by i) k → EffectLeaves k (Do c) =
       λ k h. subst (EffectLeaves k) done (row_leaves s k core.split i (reply core m s.number (ask i s)) h) in
       let tick : t.step.tick ≡ Did = ap (λ (z : Turned). z.step.tick) is in
       record {

@@ -21,7 +21,7 @@ use Rattle.mm_model.specs.Report.{same_bit}
 use Rattle.mm_model.specs.Turn.{turn}
 use Rattle.mm_model.specs.Trace.{turns_of, step_line}
 use Rattle.mm_model.specs.Run.{turn_of, after}
-use Rattle.mm_machine.specs.Kept.{Kept}
+use Rattle.mm_machine.specs.Validity.{IsValid}
 use Rattle.mm_log.specs.declared.before.Before.{Before}
 use Rattle.mm_log.specs.declared.local.Writes.{Writes}
 use Rattle.mm_log.specs.declared.local.Writes.TheVariants.{Nothing, One, More}
@@ -201,7 +201,7 @@ local_text later q tick =
     ∙ sym (text_append (t ++ o) c ∙ ap (λ x. x ++ text_of c) (text_append t o))
 
 -- the lines of the cycle
-pub near_line : (s t : State) (n : ℕ) (q : Local) (step : Step) (turns : ℕ) → ∥ Kept s ∥₁ → IsLocal s.core s.memory n q
+pub near_line : (s t : State) (n : ℕ) (q : Local) (step : Step) (turns : ℕ) → ∥ IsValid s ∥₁ → IsLocal s.core s.memory n q
     → step ≡ (turn_of s n).step → t ≡ after s n → turns ≡ turns_of (slot_at t.core step.slot)
     → step_line turns step step.tick ++ text_of (local_seen t q step.tick) ≡ text_of (cycle_log s n)
 near_line s t n q step turns kept l is left counted =

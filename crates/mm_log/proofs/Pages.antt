@@ -13,7 +13,7 @@ use Rattle.std.proofs.lemmas.Cmp.{nat_cmp_total}
 use Rattle.std.proofs.lemmas.Bool.{cases_eq, ne_eqb}
 use Rattle.std.proofs.lemmas.Bool.Decides.{nat_tests}
 use Rattle.mm_word.specs.declared.word.Cell.{Cell}
-use Rattle.mm_word.specs.Access.{Touch}
+use Rattle.mm_word.specs.Access.{AccessValue}
 use Rattle.mm_word.specs.declared.word.Pre.{Pre}
 use Rattle.mm_word.specs.Word.{IsWord}
 use Rattle.mm_model.specs.Memory.{Memory, page_at, page_of, place_of, is_mapped, cell_at, cell_in, put_in, put_cell, map_page, unmap_page, zero_page, ArePages}
@@ -139,7 +139,7 @@ told_cell false w c = refl
 
 pub data MemoryTold (m : Memory) (asked : Ask) (later : Memory) : Type 0 where
   nothing : later ≡ m → pages_mapped m later ≡ [] → pages_removed m later ≡ [] → cells_changed m later ≡ [] → MemoryTold m asked later
-  cell : (a : Touch) (pre : Pre) (old c : Cell) → asked ≡ Reach a pre → cell_at m a.addr ≡ Some old → later ≡ put_cell m a.addr c → pages_mapped m later ≡ [] → pages_removed m later ≡ []
+  cell : (a : AccessValue) (pre : Pre) (old c : Cell) → asked ≡ Reach a pre → cell_at m a.addr ≡ Some old → later ≡ put_cell m a.addr c → pages_mapped m later ≡ [] → pages_removed m later ≡ []
       → cells_changed m later ≡ (if same_cell c old then [] else Sets a.addr c ∷ []) → MemoryTold m asked later
   mapped : (p : ℕ) → asked ≡ MapPage p → is_mapped m p ≡ false → later ≡ map_page m p → pages_mapped m later ≡ Maps p ∷
       [] → pages_removed m later ≡ [] → cells_changed m later ≡ [] → MemoryTold m asked later
@@ -182,7 +182,7 @@ module _ (m : Memory) (pages : ArePages m.pages) where
       (each_map (λ (e : ℕ × List Cell). is_mapped later e.0 ≡ true) (λ (e : ℕ × List Cell). unless_mapped later Removes
       e ≡ []) (λ e is. ap (λ b. if b then [] else Removes e.0 ∷ []) is) m.pages h)
 
-  module _ (a : Touch) (pre : Pre) (old c : Cell) (at : cell_at m a.addr ≡ Some old) where
+  module _ (a : AccessValue) (pre : Pre) (old c : Cell) (at : cell_at m a.addr ≡ Some old) where
     w : ℕ
     w = a.addr
 

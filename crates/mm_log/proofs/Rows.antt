@@ -11,7 +11,7 @@ use Rattle.mm_word.specs.declared.word.Post.TheVariants as posts
 use Rattle.mm_word.specs.declared.word.Word.{Word}
 use Rattle.mm_word.specs.declared.word.Word.TheVariants.{Int, Ptr}
 use Rattle.mm_word.specs.declared.word.Cell.{Cell}
-use Rattle.mm_word.specs.Access.{Touch, check_result}
+use Rattle.mm_word.specs.Access.{AccessValue, check_result}
 use Rattle.mm_word.specs.Word.{word_bits, is_pointer}
 use Rattle.mm_word.specs.Pointer.{Pointer, lea_result, leab_result, restrict_result, subseg_result, setptr_result, next_result, enter_result}
 use Rattle.mm_isa.specs.declared.instr.DivZero.{DivZero}
@@ -37,7 +37,7 @@ use Rattle.mm_model.specs.Effect.{test, same_word, high_and_low, puts_out, loade
 use Rattle.mm_model.specs.Effect.{links, takes, resumed_by, resumes, delivers, delivered, reads_of, writes_of, maps}
 use Rattle.mm_model.specs.Effect.{unmaps}
 use Rattle.mm_model.specs.Effect.Reply.{Fine, Refused, Got, Paged, Served}
-use Rattle.mm_model.specs.Effect.Effect.{Fault, Block, Deliver, Does}
+use Rattle.mm_model.specs.Effect.Effect.{Fault, Block, Deliver, Do}
 use Rattle.mm_model.specs.Turn.{reply, reached, event_reply, first_event, served, is_taken, is_handler, memory_after}
 use Rattle.mm_model.proofs.CoreRows.{slot_at-number}
 use Rattle.mm_model.proofs.Memories.{can_map-facts}
@@ -58,7 +58,7 @@ pub record SlotMove (was now : Slot) : Type 0 where
 
 pub data MemoryMove (m : Memory) (asked : Ask) (later : Memory) : Type 0 where
   stays : later ≡ m → MemoryMove m asked later
-  writes : (a : Touch) (pre : Pre) (old c : Cell) → asked ≡ Reach a pre → cell_at m a.addr ≡ Some old → later ≡ put_cell m a.addr c → MemoryMove m asked later
+  writes : (a : AccessValue) (pre : Pre) (old c : Cell) → asked ≡ Reach a pre → cell_at m a.addr ≡ Some old → later ≡ put_cell m a.addr c → MemoryMove m asked later
   maps_page : (p : ℕ) → asked ≡ MapPage p → is_mapped m p ≡ false → later ≡ map_page m p → MemoryMove m asked later
   removes_page : (p : ℕ) → asked ≡ UnmapPage p → is_mapped m p ≡ true → later ≡ unmap_page m p → MemoryMove m asked later
 
@@ -87,7 +87,7 @@ abbrev pub EffectMoves : Core → Memory → Slot → Ask → Effect → Type 0
 EffectMoves core m s asked (Fault c) = Unit {0}
 EffectMoves core m s asked Block = Unit {0}
 EffectMoves core m s asked (Deliver o) = OtherMove core s.number asked o
-EffectMoves core m s asked (Does c) = ChangeMoves core m s asked c
+EffectMoves core m s asked (Do c) = ChangeMoves core m s asked c
 
 -- 2. The rows.
 
@@ -115,11 +115,11 @@ module _ (core : Core) (m : Memory) (s : Slot) (asked : Ask) where
   if_moves true x y h k = h
   if_moves false x y h k = k
 
-  plain_moves : Moves (Does (plain s))
+  plain_moves : Moves (Do (plain s))
   unfolding plain memory_after
   plain_moves = record { other = tt; queue = tt; memory = MemoryMove.stays refl }
 
-  halt_moves : Moves (Does (record (plain s) { next = s.ip; past = s.past; halts = true }))
+  halt_moves : Moves (Do (record (plain s) { next = s.ip; past = s.past; halts = true }))
   unfolding plain memory_after
   halt_moves = record { other = tt; queue = tt; memory = MemoryMove.stays refl }
 
@@ -162,7 +162,7 @@ module _ (core : Core) (m : Memory) (s : Slot) (asked : Ask) where
 
   -- accesses
 
-  module _ (a : Touch) (pre : Pre) (is : asked ≡ Reach a pre) where
+  module _ (a : AccessValue) (pre : Pre) (is : asked ≡ Reach a pre) where
     load_moves : (split : Bool) (rd : ℕ) (post : Post) (c : Cell) → cell_at m a.addr ≡ Some c → Moves (loaded split s rd post (Got a c))
     unfolding plain memory_after
     load_moves true rd posts.Keep c at = record { other = tt; queue = tt; memory = MemoryMove.stays refl }
@@ -250,10 +250,10 @@ module _ (core : Core) (m : Memory) (s : Slot) (asked : Ask) where
     write_moves : (split : Bool) (reg : ℕ) (w : Word) (of : Slot) → slot_at core k ≡ Some of → Moves (writes_of split s reg w (Served of))
     unfolding plain memory_after
     write_moves split reg w of at = if_moves (split && is_empty of reg) (Deliver (delivered of))
-        (Does (record (plain s) { other = Some (record of { regs = slice_set of.regs reg w }) })) (deliver_moves of at)
+        (Do (record (plain s) { other = Some (record of { regs = slice_set of.regs reg w }) })) (deliver_moves of at)
         done
       where
-        done : Moves (Does (record (plain s) { other = Some (record of { regs = slice_set of.regs reg w }) }))
+        done : Moves (Do (record (plain s) { other = Some (record of { regs = slice_set of.regs reg w }) }))
         done = record {
           other = other_moves of (record of { regs = slice_set of.regs reg w }) at
               (record { number = refl; group = refl; handler = refl; loads = LoadsMove.stay refl refl }) refl;
@@ -274,12 +274,12 @@ module _ (core : Core) (m : Memory) (s : Slot) (asked : Ask) where
   unmap_moves rd page false is mapped = sets_moves rd (Int 0)
 
 module _ (core : Core) (m : Memory) (s : Slot) where
-  load_row : (split : Bool) (rd : ℕ) (pre : Pre) (post : Post) (r : Result Touch Cause) → EffectMoves core m s (reaching r pre) (loaded split s rd post (reply core m s.number (reaching r pre)))
+  load_row : (split : Bool) (rd : ℕ) (pre : Pre) (post : Post) (r : Result AccessValue Cause) → EffectMoves core m s (reaching r pre) (loaded split s rd post (reply core m s.number (reaching r pre)))
   unfolding reply
   load_row split rd pre post (Ok a) = loaded_moves core m s (Reach a pre) a pre refl split rd post (cell_at m a.addr) refl
   load_row split rd pre post (Err c) = tt
 
-  store_row : (w : Word) (pre : Pre) (post : Post) (r : Result Touch Cause) → EffectMoves core m s (reaching r pre) (stored s w post (reply core m s.number (reaching r pre)))
+  store_row : (w : Word) (pre : Pre) (post : Post) (r : Result AccessValue Cause) → EffectMoves core m s (reaching r pre) (stored s w post (reply core m s.number (reaching r pre)))
   unfolding reply
   store_row w pre post (Ok a) = stored_moves core m s (Reach a pre) a pre refl w post (cell_at m a.addr) refl
   store_row w pre post (Err c) = tt
@@ -334,8 +334,8 @@ module _ (core : Core) (m : Memory) (s : Slot) where
   effect_moves (St ra rb pre post imm) = store_row (register s rb) pre post (check_result (register s ra) imm Store)
   effect_moves (Br imm) = branch_moves core m s Nothing (at_distance s imm)
   effect_moves (Bz ra imm) = if_moves core m s Nothing (word_bits (register s ra) == 0) (branches s (at_distance s imm))
-      (Does (plain s)) (branch_moves core m s Nothing (at_distance s imm)) (plain_moves core m s Nothing)
-  effect_moves (Bnz ra imm) = if_moves core m s Nothing (word_bits (register s ra) == 0) (Does (plain s))
+      (Do (plain s)) (branch_moves core m s Nothing (at_distance s imm)) (plain_moves core m s Nothing)
+  effect_moves (Bnz ra imm) = if_moves core m s Nothing (word_bits (register s ra) == 0) (Do (plain s))
       (branches s (at_distance s imm)) (plain_moves core m s Nothing)
       (branch_moves core m s Nothing (at_distance s imm))
   effect_moves (Jmp ra) = through_moves core m s Nothing (register s ra) (λ p. jumps s p (enter_result p)) (λ p. jump_moves core m s Nothing p (enter_result p))

@@ -4,7 +4,7 @@ use Rattle.std.proofs.Common.{List, [], ◌∷◌, ◌++◌, length, drop, map, 
 use Rattle.std.proofs.Common.{subst, slice_index_or, get_or-set_other}
 use Rattle.std.proofs.Math.Seq.{drop-length}
 use Rattle.mm_word.specs.declared.word.Cell.{Cell}
-use Rattle.mm_word.specs.Access.{Touch}
+use Rattle.mm_word.specs.Access.{AccessValue}
 use Rattle.mm_isa.specs.declared.instr.Instr.{Instr}
 use Rattle.mm_model.specs.declared.slot.SlotState.TheVariants.{Running, Halted}
 use Rattle.mm_model.specs.declared.event.Event.{Event}
@@ -125,7 +125,7 @@ module _ (core : Core) (m : Memory) (n : ℕ) where
   abbrev NothingOf : There → Type 0
   NothingOf x = (page_seen m x ≡ []) × (cell_seen m x ≡ [])
 
-  nothing_cell : (a : Touch) (o : Option Cell) → cell_at m a.addr ≡ o → NothingOf (cell_there a o)
+  nothing_cell : (a : AccessValue) (o : Option Cell) → cell_at m a.addr ≡ o → NothingOf (cell_there a o)
   nothing_cell a None is = (refl, refl)
   nothing_cell a (Some c) is = (refl, ap (cell_now a.addr c) is ∙ cell_none a.addr c)
 

@@ -12,7 +12,7 @@ use Rattle.mm_word.specs.declared.word.Pre.{Pre}
 use Rattle.mm_word.specs.declared.word.Word.{Word}
 use Rattle.mm_word.specs.declared.word.Word.TheVariants.{Int, Ptr}
 use Rattle.mm_word.specs.declared.word.Cell.{Cell}
-use Rattle.mm_word.specs.Access.{Touch, check_result}
+use Rattle.mm_word.specs.Access.{AccessValue, check_result}
 use Rattle.mm_word.specs.Cause.{number_of}
 use Rattle.mm_word.specs.Word.{word_bits}
 use Rattle.mm_word.specs.declared.perm.Kind.TheVariants.{Fetch}
@@ -32,7 +32,7 @@ use Rattle.mm_model.specs.Fits.{is_waiting, IsSlot, IsFormed, Matches}
 use Rattle.mm_model.specs.Ask.{Ask, ask, is_privileged, load_kind, reaching}
 use Rattle.mm_model.specs.Ask.Ask.{Refuse, MapPage, UnmapPage, NextEvent, Serve}
 use Rattle.mm_model.specs.Effect.{Change, Effect, effect, plain, takes, delivered}
-use Rattle.mm_model.specs.Effect.Effect.{Deliver, Does}
+use Rattle.mm_model.specs.Effect.Effect.{Deliver, Do}
 use Rattle.mm_model.specs.Turn.{Turned, instr_in, reply, first_event, event_reply, slot_after, core_after, stood, is_sync, event_of, tick_faulted, faulted, blocked, ended, idle, turn}
 use Rattle.mm_model.proofs.CoreRows.{slot_at-number, slot_at-put_other, slot_has}
 use Rattle.mm_model.proofs.CoreSteps.{queued_waits}
@@ -54,7 +54,7 @@ use Rattle.mm_log.proofs.OneSlot.{own_at, alone_by, beside}
 
 -- 1. Which instruction reads events.
 
-reach_not : (pre : Pre) (r : Result Touch Cause) → reaching r pre ≡ NextEvent → ⊥
+reach_not : (pre : Pre) (r : Result AccessValue Cause) → reaching r pre ≡ NextEvent → ⊥
 reach_not pre (Ok a) e = cc
 reach_not pre (Err c) e = cc
 
@@ -99,7 +99,7 @@ comes_instr m s i is = by s.past is
     cell None e = cc
     cell (Some c) e = word_instr c.word i e
 
-    found : (r : Result Touch Cause) → found_by m r ≡ Some i → IsInstr i
+    found : (r : Result AccessValue Cause) → found_by m r ≡ Some i → IsInstr i
     found (Err c) e = cc
     found (Ok f) e = cell (cell_at m f.addr) e
 
@@ -165,11 +165,11 @@ module _ (core : Core) (m : Memory) (s : Slot) (rd : ℕ) where
     pub there : slot_at core event.slot ≡ Some of
     pub is : change_of event rest of ≡ c
 
-  reads_event : (c : Change) (q : List Event) → queue_at core s.number ≡ q → takes s rd (first_event core q) ≡ Does c → Read c
+  reads_event : (c : Change) (q : List Event) → queue_at core s.number ≡ q → takes s rd (first_event core q) ≡ Do c → Read c
   reads_event c [] at made = cc
   reads_event c (e ∷ rest) at made = by (slot_at core e.slot) refl made
     where
-      by : (o : Option Slot) → slot_at core e.slot ≡ o → takes s rd (event_reply e rest o) ≡ Does c → Read c
+      by : (o : Option Slot) → slot_at core e.slot ≡ o → takes s rd (event_reply e rest o) ≡ Do c → Read c
       by None there is = cc
       by (Some of) there is = record { event = e; rest = rest; of = of; queue = at; there = there; is = cc }
 
@@ -306,7 +306,7 @@ module _ (core : Core) (m : Memory) (n : ℕ) (formed : IsFormed core) (match : 
       let one = same_own core n s x own (runs_own core n x r) in
       let two : ◌≡◌ {A = Option Instr} (Some y) (Some i) = sym found ∙ ap (comes_to m) one ∙ comes in
       let instr : y ≡ i = cc in
-      let done = made_by (Does c) (ap (λ (z : Instr). effect core.split z s (reply core m s.number (ask z s)))
+      let done = made_by (Do c) (ap (λ (z : Instr). effect core.split z s (reply core m s.number (ask z s)))
       (sym instr) ∙ ap (λ (z : Slot). effect core.split y z (reply core m z.number (ask y z))) (sym one) ∙ made) in
       let read = reads_event core m s evt.rd c (queue_at core s.number) refl done in
       let tick : t.step.tick ≡ Did = ap (λ (z : Turned). z.step.tick) is in

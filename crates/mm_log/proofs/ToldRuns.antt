@@ -2,7 +2,7 @@
 use Rattle.std.proofs.Common.{◌≡◌, ℕ, Bool, true, false, List, [], ◌∷◌, ◌++◌, Option, refl, sym, ap, ◌∙◌, arith, append_assoc, append-nil}
 use Rattle.mm_machine.proofs.Keeping.{run_more}
 use Rattle.mm_io.proofs.Known.{append_known-[]}
-use Rattle.mm_text.specs.Gathers.{Gathered, Gathers, Became}
+use Rattle.mm_text.specs.Appends.{Buffered, Appends, Became}
 use Rattle.mm_model.specs.declared.step.Step.{Step}
 use Rattle.mm_model.specs.State.{State, slot_at}
 use Rattle.mm_model.specs.Run.{turn_of, after, run}
@@ -28,7 +28,7 @@ module _ (of_cycle : State → ℕ → List ℕ) where
   lines_more s t items n so_far = ap (λ (x : State). text_of_run of_cycle s items ++ of_cycle x n) so_far ∙ sym (text_one_more s items n)
 
   -- before the first cycle there is no line
-  pub no_lines : {S : Type 0} {taken : S → Option (List ℕ)} {faults : S → ℕ} {out : S} {text : Gathered} (s : State) → Gathers taken faults out out text text (text_of_run of_cycle s [])
+  pub no_lines : {S : Type 0} {taken : S → Option (List ℕ)} {faults : S → ℕ} {out : S} {text : Buffered} (s : State) → Appends taken faults out out text text (text_of_run of_cycle s [])
   unfolding text_of_run
   no_lines {taken = taken} {faults = faults} {out = out} {text = text} s = record { later = omega arith; became = by text.failed }
     where

@@ -6,7 +6,7 @@ use Rattle.std.proofs.lemmas.Bool.{cases_eq}
 use Rattle.mm_word.specs.declared.cause.Cause.{Cause}
 use Rattle.mm_word.specs.declared.word.Word.{Word}
 use Rattle.mm_word.specs.declared.word.Word.TheVariants.{Int}
-use Rattle.mm_word.specs.Access.{Touch}
+use Rattle.mm_word.specs.Access.{AccessValue}
 use Rattle.mm_isa.specs.declared.instr.Instr.{Instr}
 use Rattle.mm_model.specs.declared.slot.SlotState.{SlotState}
 use Rattle.mm_model.specs.declared.slot.SlotState.TheVariants.{Running, Waiting, Halted}
@@ -23,7 +23,7 @@ use Rattle.mm_model.specs.Operands.{addr_operand, value_operand}
 use Rattle.mm_model.specs.Ask.{Ask, ask}
 use Rattle.mm_model.specs.Ask.Ask.{Nothing}
 use Rattle.mm_model.specs.Effect.{Change, Effect, effect, delivered}
-use Rattle.mm_model.specs.Effect.Effect.{Fault, Block, Deliver, Does}
+use Rattle.mm_model.specs.Effect.Effect.{Fault, Block, Deliver, Do}
 use Rattle.mm_model.specs.Turn.{Turned, reply, put_all, state_after, with_issue, slot_after, with_other, with_queue}
 use Rattle.mm_model.specs.Turn.{with_out, core_after, stood, is_sync, event_of, core_faulted, tick_faulted, faulted}
 use Rattle.mm_model.specs.Turn.{touch_of, asked_use, blocked, ended, executed, idle, arrives, turn}
@@ -204,7 +204,7 @@ module _ (core : Core) (m : Memory) (h : IsFormed core) (fit : Fitting core) whe
         by true = refl
         by false = refl
 
-    fault_moves : (c : Cause) (a v : Word) (f u : Option Touch) (us : List Use) → TurnMoves core m (faulted core m s c a v f u us)
+    fault_moves : (c : Cause) (a v : Word) (f u : Option AccessValue) (us : List Use) → TurnMoves core m (faulted core m s c a v f u us)
     unfolding faulted
     fault_moves c a v f u us = record {
       slots = fault_slots (Counts (faulted core m s c a v f u us)) (refl, fault_turns c s.handler) (event_of s c a v) s.handler;
@@ -222,7 +222,7 @@ module _ (core : Core) (m : Memory) (h : IsFormed core) (fit : Fitting core) whe
     -- the slot waits, and a load of its own or of a slot that it serves may have been delivered
     blocked_moves : (mid : Core) (x : Slot) → ((C : ℕ → Type 0) → SlotsMove C core mid)
         → ((k : ℕ) → queue_at mid k ≡ queue_at core k) → mid.outputs ≡ core.outputs → SlotMove s x
-        → (f : Touch) (u : Option Touch) (us : List Use)
+        → (f : AccessValue) (u : Option AccessValue) (us : List Use)
         → TurnMoves core m (blocked mid m x f u us)
     unfolding blocked
     blocked_moves mid x slots queues outs move f u us = record {
@@ -311,13 +311,13 @@ module _ (core : Core) (m : Memory) (h : IsFormed core) (fit : Fitting core) whe
         unfolding core_after
         change_outs = out_move core (with_queue mid s.number c.queue) s.group c.out (with_outs c.other own c.queue)
 
-    ended_moves : (asked : Ask) (i : Instr) (f : Touch) (u : Option Touch) (us : List Use) (x : Effect) → EffectMoves core m s asked x → TurnMoves core m (ended core m s i f u us x)
+    ended_moves : (asked : Ask) (i : Instr) (f : AccessValue) (u : Option AccessValue) (us : List Use) (x : Effect) → EffectMoves core m s asked x → TurnMoves core m (ended core m s i f u us x)
     unfolding ended
     ended_moves asked i f u us (Fault c) k = fault_moves c (addr_operand i s) (value_operand i s) (Some f) u us
     ended_moves asked i f u us Block k = blocked_moves core s (λ C. slots_stay C core) (λ j. refl) refl (own_move s) f u us
     ended_moves asked i f u us (Deliver o) k = blocked_moves (put_slot core o) s (λ C. other_slots asked C o k) (λ j. queue_at-put_slot core o j) (put_outs core o refl) (own_move s) f u us
-    ended_moves asked i f u us (Does c) k = record {
-      slots = change_slots asked c k (Counts (ended core m s i f u us (Does c))) (refl, refl);
+    ended_moves asked i f u us (Do c) k = record {
+      slots = change_slots asked c k (Counts (ended core m s i f u us (Do c))) (refl, refl);
       queues = change_queues asked c k;
       outputs = change_outs asked c k;
       asked = asked;

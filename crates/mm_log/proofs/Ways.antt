@@ -5,7 +5,7 @@ use Rattle.mm_word.specs.declared.cause.Cause.{Cause}
 use Rattle.mm_word.specs.declared.cause.Cause.TheVariants.{Bounds, NoPage, Illegal}
 use Rattle.mm_word.specs.declared.word.Word.TheVariants.{Int, Ptr}
 use Rattle.mm_word.specs.declared.word.Cell.{Cell}
-use Rattle.mm_word.specs.Access.{Touch, check_result}
+use Rattle.mm_word.specs.Access.{AccessValue, check_result}
 use Rattle.mm_isa.specs.declared.instr.Instr.{Instr}
 use Rattle.mm_model.specs.declared.slot.Pending.{Pending}
 use Rattle.mm_model.specs.Memory.{Memory, cell_at}
@@ -15,7 +15,7 @@ use Rattle.mm_model.specs.State.{Core, slot_at, put_slot}
 use Rattle.mm_model.specs.Operands.{lacks}
 use Rattle.mm_model.specs.Ask.{ask}
 use Rattle.mm_model.specs.Effect.{Change, Effect, effect, delivered}
-use Rattle.mm_model.specs.Effect.Effect.{Fault, Block, Deliver, Does}
+use Rattle.mm_model.specs.Effect.Effect.{Fault, Block, Deliver, Do}
 use Rattle.mm_model.specs.Turn.{Turned, reply, faulted, touch_of, asked_use, blocked, ended, executed, issued, decoded}
 use Rattle.mm_model.specs.Turn.{instr_in, fetched, aimed, started, idle, arrives}
 use Rattle.mm_model.specs.Turn.{turn}
@@ -31,36 +31,36 @@ pub data Way (core : Core) (m : Memory) (n : ℕ) (t : Turned) : Type 0 where
   arrives_at : (s : Slot) (p : Pending) (rest : List Pending) → slot_at core n ≡ None → nat_le 128 n ≡ true
       → slot_at core (n - 128) ≡ Some s → s.pending ≡ p ∷ rest → t ≡ arrives core m s (p ∷ rest) → Way core m n t
   -- the turn faults
-  faults : (s : Slot) (c : Cause) (f u : Option Touch) (us : List Use) → Runs core n s → t ≡ faulted core m s c (address_told (comes_to m s) s) (value_told (comes_to m s) s) f u us → Way core m n t
+  faults : (s : Slot) (c : Cause) (f u : Option AccessValue) (us : List Use) → Runs core n s → t ≡ faulted core m s c (address_told (comes_to m s) s) (value_told (comes_to m s) s) f u us → Way core m n t
   -- the slot waits; a load of its own may be delivered
-  waits : (s x : Slot) (f : Touch) (u : Option Touch) (us : List Use) → Runs core n s → (x ≡ s) ⊎ (x ≡ delivered s) → t ≡ blocked core m x f u us → Way core m n t
+  waits : (s x : Slot) (f : AccessValue) (u : Option AccessValue) (us : List Use) → Runs core n s → (x ≡ s) ⊎ (x ≡ delivered s) → t ≡ blocked core m x f u us → Way core m n t
   -- or a load of a slot that it serves
-  helps : (s o : Slot) (i : Instr) (f : Touch) (u : Option Touch) (us : List Use) → Runs core n s → comes_to m s ≡ Some
+  helps : (s o : Slot) (i : Instr) (f : AccessValue) (u : Option AccessValue) (us : List Use) → Runs core n s → comes_to m s ≡ Some
       i → effect core.split i s (reply core m s.number (ask i s)) ≡ Deliver o → OtherMove core s.number (ask i s) o
       → t ≡ blocked (put_slot core o) m s f u us → Way core m n t
   -- the instruction is carried out
-  does : (s : Slot) (i : Instr) (c : Change) (f : Touch) (u : Option Touch) (us : List Use) → Runs core n s
-      → comes_to m s ≡ Some i → effect core.split i s (reply core m s.number (ask i s)) ≡ Does c → ChangeMoves core m s
-      (ask i s) c → t ≡ ended core m s i f u us (Does c) → Way core m n t
+  does : (s : Slot) (i : Instr) (c : Change) (f : AccessValue) (u : Option AccessValue) (us : List Use) → Runs core n s
+      → comes_to m s ≡ Some i → effect core.split i s (reply core m s.number (ask i s)) ≡ Do c → ChangeMoves core m s
+      (ask i s) c → t ≡ ended core m s i f u us (Do c) → Way core m n t
 
 module _ (core : Core) (m : Memory) (n : ℕ) where
   abbrev Goes : Turned → Type 0
   Goes t = Way core m n t
 
   module _ (s : Slot) (r : Runs core n s) where
-    fault_way : (o : Option Instr) → comes_to m s ≡ o → (c : Cause) (f u : Option Touch) (us : List Use) → Goes (faulted core m s c (address_told o s) (value_told o s) f u us)
+    fault_way : (o : Option Instr) → comes_to m s ≡ o → (c : Cause) (f u : Option AccessValue) (us : List Use) → Goes (faulted core m s c (address_told o s) (value_told o s) f u us)
     fault_way o is c f u us = Way.faults s c f u us r (ap (λ x. faulted core m s c (address_told x s) (value_told x s) f u us) (sym is))
 
-    ended_way : (i : Instr) → comes_to m s ≡ Some i → (f : Touch) (u : Option Touch) (us : List Use) (x : Effect)
+    ended_way : (i : Instr) → comes_to m s ≡ Some i → (f : AccessValue) (u : Option AccessValue) (us : List Use) (x : Effect)
         → effect core.split i s (reply core m s.number (ask i s)) ≡ x → EffectMoves core m s (ask i s) x
         → Goes (ended core m s i f u us x)
     unfolding ended
     ended_way i is f u us (Fault c) e k = fault_way (Some i) is c (Some f) u us
     ended_way i is f u us Block e k = Way.waits s s f u us r (inl refl) refl
     ended_way i is f u us (Deliver o) e k = Way.helps s o i f u us r is e k refl
-    ended_way i is f u us (Does c) e k = Way.does s i c f u us r is e k refl
+    ended_way i is f u us (Do c) e k = Way.does s i c f u us r is e k refl
 
-    issued_way : (i : Instr) → comes_to m s ≡ Some i → (f : Touch) (u : Use) → Goes (issued core m s f u i)
+    issued_way : (i : Instr) → comes_to m s ≡ Some i → (f : AccessValue) (u : Use) → Goes (issued core m s f u i)
     unfolding issued executed
     issued_way i is f u = by (core.split && lacks i s)
       where
@@ -68,15 +68,15 @@ module _ (core : Core) (m : Memory) (n : ℕ) where
         by true = Way.waits s (delivered s) f None (u ∷ []) r (inr refl) refl
         by false = ended_way i is f (touch_of (ask i s)) (u ∷ asked_use m (ask i s)) (effect core.split i s (reply core m s.number (ask i s))) refl (effect_moves core m s i)
 
-    decoded_way : (o : Option Instr) → comes_to m s ≡ o → (f : Touch) (u : Use) → Goes (decoded core m s f u o)
+    decoded_way : (o : Option Instr) → comes_to m s ≡ o → (f : AccessValue) (u : Use) → Goes (decoded core m s f u o)
     decoded_way None is f u = fault_way None is Illegal (Some f) None (u ∷ [])
     decoded_way (Some i) is f u = issued_way i is f u
 
-    fetched_way : (o : Option Cell) → comes_to m s ≡ in_cell o → (f : Touch) → Goes (fetched core m s f o)
+    fetched_way : (o : Option Cell) → comes_to m s ≡ in_cell o → (f : AccessValue) → Goes (fetched core m s f o)
     fetched_way None is f = fault_way None is NoPage (Some f) None (Accessed f.kind f.addr false false ∷ [])
     fetched_way (Some c) is f = decoded_way (instr_in c.word) is f (Accessed f.kind f.addr true true)
 
-    aimed_way : (x : Result Touch Cause) → comes_to m s ≡ found_by m x → Goes (aimed core m s x)
+    aimed_way : (x : Result AccessValue Cause) → comes_to m s ≡ found_by m x → Goes (aimed core m s x)
     aimed_way (Err c) is = fault_way None is c None None []
     aimed_way (Ok f) is = fetched_way (cell_at m f.addr) is f
 

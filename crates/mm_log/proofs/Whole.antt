@@ -6,7 +6,7 @@ use Rattle.std.proofs.Math.Seq.{drop-length}
 use Rattle.std.proofs.lemmas.Bool.Decides.{nat_tests}
 use Rattle.mm_word.specs.declared.word.Pre.{Pre}
 use Rattle.mm_word.specs.declared.word.Cell.{Cell}
-use Rattle.mm_word.specs.Access.{Touch}
+use Rattle.mm_word.specs.Access.{AccessValue}
 use Rattle.mm_isa.specs.declared.instr.Instr.{Instr}
 use Rattle.mm_model.specs.declared.step.Step.{Step}
 use Rattle.mm_model.specs.declared.step.Tick.{Tick}
@@ -22,7 +22,7 @@ use Rattle.mm_model.specs.Trace.{turns_of, step_line}
 use Rattle.mm_model.specs.Run.{turn_of, after}
 use Rattle.mm_model.proofs.CoreRows.{slot_at-number, slot_has}
 use Rattle.mm_model.proofs.Fitted.{fitting_of, core_of}
-use Rattle.mm_machine.specs.Kept.{Kept}
+use Rattle.mm_machine.specs.Validity.{IsValid}
 use Rattle.mm_log.specs.declared.before.There.{There}
 use Rattle.mm_log.specs.declared.before.There.TheVariants as there
 use Rattle.mm_log.specs.declared.before.Before.{Before}
@@ -116,7 +116,7 @@ module _ (core : Core) (m : Memory) (n : ℕ) (formed : IsFormed core) (match : 
           let yes_small : nat_lt j 64 ≡ true = grind (arith, nat_tests) in
           cc (yes_small, low)
 
-  reached : (i : Instr) (a : Touch) (pre : Pre) → comes_to m s ≡ Some i → ask i s ≡ Reach a pre → (o : Option Cell) → Tells (cell_there a o)
+  reached : (i : Instr) (a : AccessValue) (pre : Pre) → comes_to m s ≡ Some i → ask i s ≡ Reach a pre → (o : Option Cell) → Tells (cell_there a o)
   reached i a pre comes is None = plainly i comes (λ j e. cc (is, e)) (λ e. cc (is, e))
   reached i a pre comes is (Some c) = plainly i comes (λ j e. cc (is, e)) (λ e. cc (is, e))
 
@@ -141,7 +141,7 @@ module _ (core : Core) (m : Memory) (n : ℕ) (formed : IsFormed core) (match : 
 
 -- 2. All that changes.
 
-module _ (s : State) (n : ℕ) (k : Kept s) where
+module _ (s : State) (n : ℕ) (k : IsValid s) where
   -- of an item of a slot
   pub changes_seen : (x : Slot) → own_of s.core n ≡ Some x → changes s (after s n) ≡ seen (after s n) (looked_at s.core s.memory x) (turn_of s n).step.tick
   unfolding changes seen after
@@ -246,7 +246,7 @@ module _ (s : State) (n : ℕ) (k : Kept s) where
       by (Faulted c) e = refl
       by (Delivered r) e = refl
 
-pub line_is : (s t : State) (n : ℕ) (before : Option Before) (step : Step) (turns : ℕ) → ∥ Kept s ∥₁
+pub line_is : (s t : State) (n : ℕ) (before : Option Before) (step : Step) (turns : ℕ) → ∥ IsValid s ∥₁
     → before ≡ looks s.core s.memory n → step ≡ (turn_of s n).step → t ≡ after s n → turns ≡ turns_of
     (slot_at t.core step.slot)
     → step_line turns step step.tick ++ text_of (seen_by t before step.tick) ≡ text_of (cycle_log s n)

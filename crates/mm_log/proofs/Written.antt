@@ -8,7 +8,7 @@ use Rattle.mm_word.specs.declared.word.Pre.{Pre}
 use Rattle.mm_word.specs.declared.word.Post.{Post}
 use Rattle.mm_word.specs.declared.word.Word.{Word}
 use Rattle.mm_word.specs.declared.word.Word.TheVariants.{Int, Ptr}
-use Rattle.mm_word.specs.Access.{Touch, check_result}
+use Rattle.mm_word.specs.Access.{AccessValue, check_result}
 use Rattle.mm_word.specs.Word.{word_bits, is_pointer}
 use Rattle.mm_word.specs.Pointer.{Pointer, lea_result, leab_result, restrict_result, subseg_result, setptr_result, next_result, enter_result}
 use Rattle.mm_isa.specs.declared.instr.DivZero.{DivZero}
@@ -26,7 +26,7 @@ use Rattle.mm_model.specs.Effect.{Reply, Change, Effect, effect, plain, sets, se
 use Rattle.mm_model.specs.Effect.{test, same_word, high_and_low, puts_out, loaded, stored, at_distance, branches, jumps}
 use Rattle.mm_model.specs.Effect.{links}
 use Rattle.mm_model.specs.Effect.Reply.{Fine, Refused, Got}
-use Rattle.mm_model.specs.Effect.Effect.{Fault, Block, Deliver, Does}
+use Rattle.mm_model.specs.Effect.Effect.{Fault, Block, Deliver, Do}
 use Rattle.mm_model.specs.Turn.{put_all, state_after, with_issue, slot_after}
 use Rattle.mm_log.specs.declared.local.Writes.{Writes}
 use Rattle.mm_log.specs.declared.local.Writes.TheVariants.{Nothing, One, More}
@@ -44,7 +44,7 @@ IsNearAsk NextEvent = ⊥
 IsNearAsk (Room g) = Unit {0}
 IsNearAsk (Serve k) = ⊥
 
-reach_near : (r : Result Touch Cause) (pre : Pre) → IsNearAsk (reaching r pre)
+reach_near : (r : Result AccessValue Cause) (pre : Pre) → IsNearAsk (reaching r pre)
 reach_near (Ok a) pre = tt
 reach_near (Err c) pre = tt
 
@@ -81,17 +81,17 @@ abbrev pub EffectLeaves : ℕ → Effect → Type 0
 EffectLeaves k (Fault c) = Unit {0}
 EffectLeaves k Block = Unit {0}
 EffectLeaves k (Deliver o) = Unit {0}
-EffectLeaves k (Does c) = Leaves k c
+EffectLeaves k (Do c) = Leaves k c
 
 module _ (s : Slot) (k : ℕ) where
   abbrev Left : Effect → Type 0
   Left e = EffectLeaves k e
 
-  plain_leaves : Left (Does (plain s))
+  plain_leaves : Left (Do (plain s))
   unfolding plain
   plain_leaves = record { word = λ regs. refl; flag = λ flags. refl }
 
-  halt_leaves : Left (Does (record (plain s) { next = s.ip; past = s.past; halts = true }))
+  halt_leaves : Left (Do (record (plain s) { next = s.ip; past = s.past; halts = true }))
   unfolding plain
   halt_leaves = record { word = λ regs. refl; flag = λ flags. refl }
 
@@ -182,8 +182,8 @@ module _ (s : Slot) (k : ℕ) where
   row_leaves split (Ld rd ra pre post imm) r h = load_leaves split rd post h r
   row_leaves split (St ra rb pre post imm) r h = store_leaves (register s rb) post r
   row_leaves split (Br imm) r h = branch_leaves (at_distance s imm)
-  row_leaves split (Bz ra imm) r h = if_leaves (word_bits (register s ra) == 0) (branches s (at_distance s imm)) (Does (plain s)) (branch_leaves (at_distance s imm)) plain_leaves
-  row_leaves split (Bnz ra imm) r h = if_leaves (word_bits (register s ra) == 0) (Does (plain s)) (branches s (at_distance s imm)) plain_leaves (branch_leaves (at_distance s imm))
+  row_leaves split (Bz ra imm) r h = if_leaves (word_bits (register s ra) == 0) (branches s (at_distance s imm)) (Do (plain s)) (branch_leaves (at_distance s imm)) plain_leaves
+  row_leaves split (Bnz ra imm) r h = if_leaves (word_bits (register s ra) == 0) (Do (plain s)) (branches s (at_distance s imm)) plain_leaves (branch_leaves (at_distance s imm))
   row_leaves split (Jmp ra) r h = through_leaves (register s ra) (λ p. jumps s p (enter_result p)) (λ p. jump_leaves p (enter_result p))
   row_leaves split (Jal rd ra) r h = through_leaves (register s ra) (λ p. links s rd p (enter_result p) (next_result s.ip)) (λ p. link_leaves rd h p (enter_result p) (next_result s.ip))
   row_leaves split (Lip rd imm) r h = pointer_leaves rd h (at_distance s imm)

@@ -4,7 +4,7 @@ use Rattle.std.specs.Prelude.{Option, Some, None, IfSome}
 use Rattle.mm_word.specs.declared.word.Word.{Word}
 use Rattle.mm_word.specs.declared.word.Word.TheVariants.{Ptr}
 use Rattle.mm_word.specs.declared.word.Cell.{Cell}
-use Rattle.mm_word.specs.Access.{Touch}
+use Rattle.mm_word.specs.Access.{AccessValue}
 use Rattle.mm_word.specs.Pointer.{Pointer}
 use Rattle.mm_isa.specs.declared.instr.Instr.{Instr}
 use Rattle.mm_isa.specs.declared.instr.Instr.TheVariants.{Ldi, Ldhi, Mov, Isptr, Eqw, SelfSlot, Alu, Addi, Lea, Leai}
@@ -69,12 +69,12 @@ abbrev pub held_of : Slot → Writes → Option Held
 held_of s (One r) = Some (record { register = r; word = register s r; empty = is_empty s r })
 held_of s _ = None
 
-abbrev pub with_touch : Touch → Option Cell → Option (Touch × Cell)
+abbrev pub with_touch : AccessValue → Option Cell → Option (AccessValue × Cell)
 with_touch a None = None
 with_touch a (Some c) = Some (a, c)
 
 -- the cell that an instruction asks for
-abbrev pub cell_asked : Memory → Ask → Option (Touch × Cell)
+abbrev pub cell_asked : Memory → Ask → Option (AccessValue × Cell)
 cell_asked m (Reach a pre) = with_touch a (cell_at m a.addr)
 cell_asked m _ = None
 
@@ -124,7 +124,7 @@ abbrev pub told_of : Local → Tick → Option Slot → List Line
 told_of q tick None = []
 told_of q tick (Some now) = slot_left q now ++ queued_by (Some q.instr) now tick
 
-abbrev pub cell_left : Memory → Option (Touch × Cell) → List Line
+abbrev pub cell_left : Memory → Option (AccessValue × Cell) → List Line
 cell_left later None = []
 cell_left later (Some x) = cell_now x.0.addr x.1 (cell_at later x.0.addr)
 

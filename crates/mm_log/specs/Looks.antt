@@ -5,7 +5,7 @@ use Rattle.mm_word.specs.declared.cause.Cause.{Cause}
 use Rattle.mm_word.specs.declared.word.Word.{Word}
 use Rattle.mm_word.specs.declared.word.Word.TheVariants.{Int, Ptr}
 use Rattle.mm_word.specs.declared.word.Cell.{Cell}
-use Rattle.mm_word.specs.Access.{Touch, check_result}
+use Rattle.mm_word.specs.Access.{AccessValue, check_result}
 use Rattle.mm_isa.specs.declared.instr.Instr.{Instr}
 use Rattle.mm_model.specs.Memory.{Memory, cell_at, is_mapped}
 use Rattle.mm_model.specs.Slot.{Slot}
@@ -31,7 +31,7 @@ abbrev pub in_cell : Option Cell → Option Instr
 in_cell None = None
 in_cell (Some c) = instr_in c.word
 
-abbrev pub found_by : Memory → Result Touch Cause → Option Instr
+abbrev pub found_by : Memory → Result AccessValue Cause → Option Instr
 found_by m (Err c) = None
 found_by m (Ok f) = in_cell (cell_at m f.addr)
 
@@ -49,7 +49,7 @@ abbrev pub value_told : Option Instr → Slot → Word
 value_told None s = Int 0
 value_told (Some i) s = value_operand i s
 
-abbrev pub cell_there : Touch → Option Cell → There
+abbrev pub cell_there : AccessValue → Option Cell → There
 cell_there a None = there.Nothing
 cell_there a (Some c) = there.Cell a c
 

@@ -3,7 +3,7 @@
 
 ghost use Rattle.std.specs.Prelude.{◌≡◌, ◌/◌, ◌%◌, ◌&&◌, ◌++◌, ◌∷◌, [], drop, nat_lt, not, if◌then◌else◌, Some};
 ghost use Rattle.std.specs.List.{flat_map};
-ghost use Rattle.mm_text.specs.Gathers.{Gathers};
+ghost use Rattle.mm_text.specs.Appends.{Appends};
 ghost use Rattle.mm_word.specs.Word.{word_bits};
 ghost use Rattle.mm_model.specs.Slot.{register as register_of};
 ghost use Rattle.mm_model.specs.Memory.{cell_at};
@@ -30,12 +30,12 @@ use mm_isa::{EvtReg, Instr};
 use mm_machine::Machine;
 use mm_mem::{Inspect, Memory};
 use mm_model::{Event, Slot, SlotState, Tick, is_same_word};
-use mm_text::Gather;
+use mm_text::TextBuffer;
 use mm_word::{Access, Cause, Cell};
 
 /// Appends the lines of a slot's changes.
-fn put_own<M: Memory, O: Sink>(text: &mut Gather, out: &mut O, machine: &Machine<M>, was: &Slot)
-    ensures { Gathers O.taken O.faults out.old out.new text.old text.new
+fn put_own<M: Memory, O: Sink>(text: &mut TextBuffer, out: &mut O, machine: &Machine<M>, was: &Slot)
+    ensures { Appends O.taken O.faults out.old out.new text.old text.new
         (text_of (seen_of (state_of machine.now).core was.now)) }
 {
     if let Some(now) = machine.slot(was.number) {
@@ -80,13 +80,13 @@ fn read_slot<M: Memory>(
 
 /// Appends the lines of the changes of `was`, if its number is less than that of `own`.
 fn put_own_before<M: Memory, O: Sink>(
-    text: &mut Gather,
+    text: &mut TextBuffer,
     out: &mut O,
     machine: &Machine<M>,
     was: &Slot,
     own: &Slot,
 )
-    ensures { Gathers O.taken O.faults out.old out.new text.old text.new
+    ensures { Appends O.taken O.faults out.old out.new text.old text.new
         (text_of (if nat_lt was.now.number own.now.number then seen_of (state_of machine.now).core was.now else [])) }
 {
     if was.number < own.number {
@@ -96,13 +96,13 @@ fn put_own_before<M: Memory, O: Sink>(
 
 /// Appends the lines of the changes of `was`, if its number is greater than that of `own`.
 fn put_own_behind<M: Memory, O: Sink>(
-    text: &mut Gather,
+    text: &mut TextBuffer,
     out: &mut O,
     machine: &Machine<M>,
     was: &Slot,
     own: &Slot,
 )
-    ensures { Gathers O.taken O.faults out.old out.new text.old text.new
+    ensures { Appends O.taken O.faults out.old out.new text.old text.new
         (text_of (if nat_lt own.now.number was.now.number then seen_of (state_of machine.now).core was.now else [])) }
 {
     if own.number < was.number {
@@ -112,13 +112,13 @@ fn put_own_behind<M: Memory, O: Sink>(
 
 /// Appends the lines of the changes of two slots, ascending by number.
 fn put_two<M: Memory, O: Sink>(
-    text: &mut Gather,
+    text: &mut TextBuffer,
     out: &mut O,
     machine: &Machine<M>,
     own: &Slot,
     other: &Slot,
 )
-    ensures { Gathers O.taken O.faults out.old out.new text.old text.new
+    ensures { Appends O.taken O.faults out.old out.new text.old text.new
         (text_of (in_order own.now.number other.now.number (seen_of (state_of machine.now).core own.now)
         (seen_of (state_of machine.now).core other.now))) }
 {
@@ -128,8 +128,8 @@ fn put_two<M: Memory, O: Sink>(
 }
 
 /// Appends the line of a taken slot, if its number is less than that of `own`.
-fn put_taken_before<O: Sink>(text: &mut Gather, out: &mut O, slot: u8, own: &Slot)
-    ensures { Gathers O.taken O.faults out.old out.new text.old text.new
+fn put_taken_before<O: Sink>(text: &mut TextBuffer, out: &mut O, slot: u8, own: &Slot)
+    ensures { Appends O.taken O.faults out.old out.new text.old text.new
         (text_of (if nat_lt slot own.now.number then Enters slot Taken ∷ [] else [])) }
 {
     if slot < own.number {
@@ -138,8 +138,8 @@ fn put_taken_before<O: Sink>(text: &mut Gather, out: &mut O, slot: u8, own: &Slo
 }
 
 /// Appends the line of a taken slot, if its number is greater than that of `own`.
-fn put_taken_behind<O: Sink>(text: &mut Gather, out: &mut O, slot: u8, own: &Slot)
-    ensures { Gathers O.taken O.faults out.old out.new text.old text.new
+fn put_taken_behind<O: Sink>(text: &mut TextBuffer, out: &mut O, slot: u8, own: &Slot)
+    ensures { Appends O.taken O.faults out.old out.new text.old text.new
         (text_of (if nat_lt own.now.number slot then Enters slot Taken ∷ [] else [])) }
 {
     if own.number < slot {
@@ -149,13 +149,13 @@ fn put_taken_behind<O: Sink>(text: &mut Gather, out: &mut O, slot: u8, own: &Slo
 
 /// Appends the lines of a slot's changes and the line of a taken slot, ascending by number.
 fn put_both<M: Memory, O: Sink>(
-    text: &mut Gather,
+    text: &mut TextBuffer,
     out: &mut O,
     machine: &Machine<M>,
     own: &Slot,
     taken: u8,
 )
-    ensures { Gathers O.taken O.faults out.old out.new text.old text.new
+    ensures { Appends O.taken O.faults out.old out.new text.old text.new
         (text_of (in_order own.now.number taken (seen_of (state_of machine.now).core own.now)
         (Enters taken Taken ∷ []))) }
 {
@@ -166,13 +166,13 @@ fn put_both<M: Memory, O: Sink>(
 
 /// Appends the lines of a slot's changes and, if a slot was taken, the line of that, ascending by number.
 fn put_with_taken<M: Memory, O: Sink>(
-    text: &mut Gather,
+    text: &mut TextBuffer,
     out: &mut O,
     machine: &Machine<M>,
     own: &Slot,
     taken: Option<u8>,
 )
-    ensures { Gathers O.taken O.faults out.old out.new text.old text.new
+    ensures { Appends O.taken O.faults out.old out.new text.old text.new
         (text_of (with_taken (state_of machine.now).core own.now taken)) }
 {
     match taken {
@@ -183,13 +183,13 @@ fn put_with_taken<M: Memory, O: Sink>(
 
 /// Appends the lines of the slots that changed.
 fn put_slots<M: Memory, O: Sink>(
-    text: &mut Gather,
+    text: &mut TextBuffer,
     out: &mut O,
     machine: &Machine<M>,
     before: &Before,
     tick: Tick,
 )
-    ensures { Gathers O.taken O.faults out.old out.new text.old text.new
+    ensures { Appends O.taken O.faults out.old out.new text.old text.new
         (text_of (slots_seen (state_of machine.now).core before.now tick)) }
 {
     match &before.there {
@@ -223,13 +223,13 @@ fn event_of(slot: &Slot, instr: &Option<Instr>, cause: Cause) -> Event
 /// Appends the line of the event that a fault queued, if one was queued.
 #[inline(always)]
 pub(crate) fn put_queued<O: Sink>(
-    text: &mut Gather,
+    text: &mut TextBuffer,
     out: &mut O,
     own: &Slot,
     instr: &Option<Instr>,
     tick: Tick,
 )
-    ensures { Gathers O.taken O.faults out.old out.new text.old text.new (text_of (queued_by instr.now own.now tick)) }
+    ensures { Appends O.taken O.faults out.old out.new text.old text.new (text_of (queued_by instr.now own.now tick)) }
 {
     let Tick::Faulted(cause) = tick else {
         return;
@@ -242,8 +242,8 @@ pub(crate) fn put_queued<O: Sink>(
 }
 
 /// Appends the line of the event that an instruction read, if it is one that reads.
-fn put_read_by<O: Sink>(text: &mut Gather, out: &mut O, instr: &Option<Instr>, own: u8)
-    ensures { Gathers O.taken O.faults out.old out.new text.old text.new (text_of (read_own instr.now own)) }
+fn put_read_by<O: Sink>(text: &mut TextBuffer, out: &mut O, instr: &Option<Instr>, own: u8)
+    ensures { Appends O.taken O.faults out.old out.new text.old text.new (text_of (read_own instr.now own)) }
 {
     if let Some(Instr::Evt { .. }) = instr {
         put_taken(text, out, own);
@@ -251,8 +251,8 @@ fn put_read_by<O: Sink>(text: &mut Gather, out: &mut O, instr: &Option<Instr>, o
 }
 
 /// Appends the line of the event that a turn read, if it read one.
-fn put_read<O: Sink>(text: &mut Gather, out: &mut O, before: &Before, tick: Tick)
-    ensures { Gathers O.taken O.faults out.old out.new text.old text.new
+fn put_read<O: Sink>(text: &mut TextBuffer, out: &mut O, before: &Before, tick: Tick)
+    ensures { Appends O.taken O.faults out.old out.new text.old text.new
         (text_of (read_seen before.now.instr before.now.own.number tick)) }
 {
     if tick != Tick::Did {
@@ -262,8 +262,8 @@ fn put_read<O: Sink>(text: &mut Gather, out: &mut O, before: &Before, tick: Tick
 }
 
 /// Appends the lines of bytes that a group put out.
-fn put_bytes<O: Sink>(text: &mut Gather, out: &mut O, group: u8, bytes: &[u8])
-    ensures { Gathers O.taken O.faults out.old out.new text.old text.new
+fn put_bytes<O: Sink>(text: &mut TextBuffer, out: &mut O, group: u8, bytes: &[u8])
+    ensures { Appends O.taken O.faults out.old out.new text.old text.new
         (flat_map (λ b. line_text (Puts group b)) bytes.now) }
 {
     for byte in bytes {
@@ -274,13 +274,13 @@ fn put_bytes<O: Sink>(text: &mut Gather, out: &mut O, group: u8, bytes: &[u8])
 /// Appends the lines of the bytes that a group has put out since it had put out `before` bytes.
 #[inline(always)]
 pub(crate) fn put_out<M: Memory, O: Sink>(
-    text: &mut Gather,
+    text: &mut TextBuffer,
     out: &mut O,
     machine: &Machine<M>,
     group: u8,
     before: usize,
 )
-    ensures { Gathers O.taken O.faults out.old out.new text.old text.new
+    ensures { Appends O.taken O.faults out.old out.new text.old text.new
         (flat_map (λ b. line_text (Puts group b)) (drop before (output_of (state_of machine.now).core group))) }
 {
     let bytes = machine.output(group);
@@ -291,12 +291,12 @@ pub(crate) fn put_out<M: Memory, O: Sink>(
 
 /// Appends the lines of the bytes that the slot's group put out.
 fn put_own_out<M: Memory, O: Sink>(
-    text: &mut Gather,
+    text: &mut TextBuffer,
     out: &mut O,
     machine: &Machine<M>,
     before: &Before,
 )
-    ensures { Gathers O.taken O.faults out.old out.new text.old text.new
+    ensures { Appends O.taken O.faults out.old out.new text.old text.new
         (flat_map (λ b. line_text (Puts before.now.own.group b))
         (drop before.now.output (output_of (state_of machine.now).core before.now.own.group))) }
 {
@@ -304,8 +304,8 @@ fn put_own_out<M: Memory, O: Sink>(
 }
 
 /// Appends the line that a page was mapped, if it is mapped now and was not before.
-fn put_mapped<O: Sink>(text: &mut Gather, out: &mut O, page: u64, was: bool, now: bool)
-    ensures { Gathers O.taken O.faults out.old out.new text.old text.new
+fn put_mapped<O: Sink>(text: &mut TextBuffer, out: &mut O, page: u64, was: bool, now: bool)
+    ensures { Appends O.taken O.faults out.old out.new text.old text.new
         (text_of (if now && not was then Maps page ∷ [] else [])) }
 {
     if now && !was {
@@ -314,8 +314,8 @@ fn put_mapped<O: Sink>(text: &mut Gather, out: &mut O, page: u64, was: bool, now
 }
 
 /// Appends the line that a page was removed, if it was mapped before and is not now.
-fn put_removed<O: Sink>(text: &mut Gather, out: &mut O, page: u64, was: bool, now: bool)
-    ensures { Gathers O.taken O.faults out.old out.new text.old text.new
+fn put_removed<O: Sink>(text: &mut TextBuffer, out: &mut O, page: u64, was: bool, now: bool)
+    ensures { Appends O.taken O.faults out.old out.new text.old text.new
         (text_of (if was && not now then Removes page ∷ [] else [])) }
 {
     if was && !now {
@@ -324,16 +324,16 @@ fn put_removed<O: Sink>(text: &mut Gather, out: &mut O, page: u64, was: bool, no
 }
 
 /// Appends the line of a page that was mapped or removed, if it was.
-fn put_page<O: Sink>(text: &mut Gather, out: &mut O, page: u64, was: bool, now: bool)
-    ensures { Gathers O.taken O.faults out.old out.new text.old text.new (text_of (page_told page was now)) }
+fn put_page<O: Sink>(text: &mut TextBuffer, out: &mut O, page: u64, was: bool, now: bool)
+    ensures { Appends O.taken O.faults out.old out.new text.old text.new (text_of (page_told page was now)) }
 {
     put_mapped(text, out, page, was, now);
     put_removed(text, out, page, was, now);
 }
 
 /// Appends the line of a cell, if the cell changed.
-fn put_changed<O: Sink>(text: &mut Gather, out: &mut O, word: u64, was: &Cell, now: &Cell)
-    ensures { Gathers O.taken O.faults out.old out.new text.old text.new
+fn put_changed<O: Sink>(text: &mut TextBuffer, out: &mut O, word: u64, was: &Cell, now: &Cell)
+    ensures { Appends O.taken O.faults out.old out.new text.old text.new
         (text_of (cell_now word was.now (Some now.now))) }
 {
     if !(is_same_word(now.word, was.word) && is_same_bit(now.full, was.full)) {
@@ -343,13 +343,13 @@ fn put_changed<O: Sink>(text: &mut Gather, out: &mut O, word: u64, was: &Cell, n
 
 /// Appends the line of the cell of an access, if the cell changed.
 pub(crate) fn put_reached<M: Inspect, O: Sink>(
-    text: &mut Gather,
+    text: &mut TextBuffer,
     out: &mut O,
     machine: &Machine<M>,
     access: Access,
     was: &Cell,
 )
-    ensures { Gathers O.taken O.faults out.old out.new text.old text.new
+    ensures { Appends O.taken O.faults out.old out.new text.old text.new
         (text_of (cell_now access.addr was.now (cell_at (state_of machine.now).memory access.addr))) }
 {
     if let Some(now) = cell_of(machine, access) {
@@ -359,12 +359,12 @@ pub(crate) fn put_reached<M: Inspect, O: Sink>(
 
 /// Appends the lines of the changes of the memory.
 fn put_memory<M: Inspect, O: Sink>(
-    text: &mut Gather,
+    text: &mut TextBuffer,
     out: &mut O,
     machine: &Machine<M>,
     there: &There,
 )
-    ensures { Gathers O.taken O.faults out.old out.new text.old text.new
+    ensures { Appends O.taken O.faults out.old out.new text.old text.new
         (text_of (page_seen (state_of machine.now).memory there.now
         ++ cell_seen (state_of machine.now).memory there.now)) }
 {
@@ -377,13 +377,13 @@ fn put_memory<M: Inspect, O: Sink>(
 
 /// Appends the lines of what a cycle changed, given what the look before it found.
 fn put_seen<M: Inspect, O: Sink>(
-    text: &mut Gather,
+    text: &mut TextBuffer,
     out: &mut O,
     machine: &Machine<M>,
     before: &Before,
     tick: Tick,
 )
-    ensures { Gathers O.taken O.faults out.old out.new text.old text.new
+    ensures { Appends O.taken O.faults out.old out.new text.old text.new
         (text_of (seen (state_of machine.now) before.now tick)) }
 {
     put_slots(text, out, machine, before, tick);
@@ -395,13 +395,13 @@ fn put_seen<M: Inspect, O: Sink>(
 
 /// Appends the lines of what a cycle changed. Appends nothing if the look before it found no slot.
 pub(crate) fn put_changes<M: Inspect, O: Sink>(
-    text: &mut Gather,
+    text: &mut TextBuffer,
     out: &mut O,
     machine: &Machine<M>,
     before: &Option<Before>,
     tick: Tick,
 )
-    ensures { Gathers O.taken O.faults out.old out.new text.old text.new
+    ensures { Appends O.taken O.faults out.old out.new text.old text.new
         (text_of (seen_by (state_of machine.now) before.now tick)) }
 {
     if let Some(before) = before {

@@ -2,7 +2,7 @@
 #![tactic(auto, unfolding(crate::specs::Lines::line_text))]
 
 ghost use Rattle.std.specs.Prelude.{◌≡◌, ◌+◌, ◌≤◌, ◌++◌, codes, decimal, length};
-ghost use Rattle.mm_text.specs.Gathers.{Gathers};
+ghost use Rattle.mm_text.specs.Appends.{Appends};
 ghost use Rattle.mm_word.specs.Cause.{number_of};
 ghost use Rattle.mm_model.specs.Lines.{word_text};
 ghost use Rattle.mm_log.specs.Lines.{line_text, register_text, event_text};
@@ -11,18 +11,18 @@ ghost use Rattle.mm_log.specs.Lines.Line.{Sets};
 
 use mm_io::Sink;
 use mm_model::{Event, Pending, SlotState};
-use mm_text::{Gather, Line, Piece, put_state, put_word};
+use mm_text::{TextBuffer, Line, Piece, put_state, put_word};
 use mm_word::{Cause, Cell, GuardedPtr, Word};
 
 /// Appends `ip S P`, or `ip S P past`.
 pub(crate) fn put_pointer<O: Sink>(
-    text: &mut Gather,
+    text: &mut TextBuffer,
     out: &mut O,
     slot: u8,
     ip: GuardedPtr,
     past: bool,
 )
-    ensures { Gathers O.taken O.faults out.old out.new text.old text.new (line_text (Points slot ip past)) }
+    ensures { Appends O.taken O.faults out.old out.new text.old text.new (line_text (Points slot ip past)) }
 {
     let mut line = Line::new();
     write_pointer(&mut line, slot, ip, past);
@@ -44,8 +44,8 @@ pub(crate) fn write_pointer(line: &mut Line, slot: u8, ip: GuardedPtr, past: boo
 }
 
 /// Appends `state S STATE`.
-pub(crate) fn put_slot_state<O: Sink>(text: &mut Gather, out: &mut O, slot: u8, state: SlotState)
-    ensures { Gathers O.taken O.faults out.old out.new text.old text.new (line_text (Enters slot state)) }
+pub(crate) fn put_slot_state<O: Sink>(text: &mut TextBuffer, out: &mut O, slot: u8, state: SlotState)
+    ensures { Appends O.taken O.faults out.old out.new text.old text.new (line_text (Enters slot state)) }
 {
     put_front(text, out, "state ", slot);
     put_state(text, out, state);
@@ -77,8 +77,8 @@ pub(crate) fn write_empty(line: &mut Line, slot: u8, register: u8)
 }
 
 /// Appends `load S K WORD`.
-pub(crate) fn put_load<O: Sink>(text: &mut Gather, out: &mut O, slot: u8, load: &Pending)
-    ensures { Gathers O.taken O.faults out.old out.new text.old text.new (line_text (Issues slot load.now)) }
+pub(crate) fn put_load<O: Sink>(text: &mut TextBuffer, out: &mut O, slot: u8, load: &Pending)
+    ensures { Appends O.taken O.faults out.old out.new text.old text.new (line_text (Issues slot load.now)) }
 {
     text.put(
         out,
@@ -95,8 +95,8 @@ pub(crate) fn put_load<O: Sink>(text: &mut Gather, out: &mut O, slot: u8, load: 
 }
 
 /// Appends `event H S C P X Y`.
-pub(crate) fn put_event<O: Sink>(text: &mut Gather, out: &mut O, handler: u8, event: &Event)
-    ensures { Gathers O.taken O.faults out.old out.new text.old text.new (line_text (Queues handler event.now)) }
+pub(crate) fn put_event<O: Sink>(text: &mut TextBuffer, out: &mut O, handler: u8, event: &Event)
+    ensures { Appends O.taken O.faults out.old out.new text.old text.new (line_text (Queues handler event.now)) }
 {
     put_front(text, out, "event ", handler);
     put_told(text, out, event);
@@ -104,8 +104,8 @@ pub(crate) fn put_event<O: Sink>(text: &mut Gather, out: &mut O, handler: u8, ev
 }
 
 /// Appends `taken H`.
-pub(crate) fn put_taken<O: Sink>(text: &mut Gather, out: &mut O, handler: u8)
-    ensures { Gathers O.taken O.faults out.old out.new text.old text.new (line_text (Reads handler)) }
+pub(crate) fn put_taken<O: Sink>(text: &mut TextBuffer, out: &mut O, handler: u8)
+    ensures { Appends O.taken O.faults out.old out.new text.old text.new (line_text (Reads handler)) }
 {
     text.put(
         out,
@@ -118,8 +118,8 @@ pub(crate) fn put_taken<O: Sink>(text: &mut Gather, out: &mut O, handler: u8)
 }
 
 /// Appends `out G HH`.
-pub(crate) fn put_byte<O: Sink>(text: &mut Gather, out: &mut O, group: u8, byte: u8)
-    ensures { Gathers O.taken O.faults out.old out.new text.old text.new (line_text (Puts group byte)) }
+pub(crate) fn put_byte<O: Sink>(text: &mut TextBuffer, out: &mut O, group: u8, byte: u8)
+    ensures { Appends O.taken O.faults out.old out.new text.old text.new (line_text (Puts group byte)) }
 {
     text.put(
         out,
@@ -134,8 +134,8 @@ pub(crate) fn put_byte<O: Sink>(text: &mut Gather, out: &mut O, group: u8, byte:
 }
 
 /// Appends `page P new`.
-pub(crate) fn put_new_page<O: Sink>(text: &mut Gather, out: &mut O, page: u64)
-    ensures { Gathers O.taken O.faults out.old out.new text.old text.new (line_text (Maps page)) }
+pub(crate) fn put_new_page<O: Sink>(text: &mut TextBuffer, out: &mut O, page: u64)
+    ensures { Appends O.taken O.faults out.old out.new text.old text.new (line_text (Maps page)) }
 {
     text.put(
         out,
@@ -148,8 +148,8 @@ pub(crate) fn put_new_page<O: Sink>(text: &mut Gather, out: &mut O, page: u64)
 }
 
 /// Appends `page P gone`.
-pub(crate) fn put_gone_page<O: Sink>(text: &mut Gather, out: &mut O, page: u64)
-    ensures { Gathers O.taken O.faults out.old out.new text.old text.new (line_text (Removes page)) }
+pub(crate) fn put_gone_page<O: Sink>(text: &mut TextBuffer, out: &mut O, page: u64)
+    ensures { Appends O.taken O.faults out.old out.new text.old text.new (line_text (Removes page)) }
 {
     text.put(
         out,
@@ -163,8 +163,8 @@ pub(crate) fn put_gone_page<O: Sink>(text: &mut Gather, out: &mut O, page: u64)
 
 /// Appends `cell A WORD full` or `cell A WORD empty`.
 #[tactic(auto, using(mm_text::proofs::LineLengths::line_lengths), unfolding(crate::specs::Lines::line_text))]
-pub(crate) fn put_set<O: Sink>(text: &mut Gather, out: &mut O, word: u64, cell: &Cell)
-    ensures { Gathers O.taken O.faults out.old out.new text.old text.new (line_text (Sets word cell.now)) }
+pub(crate) fn put_set<O: Sink>(text: &mut TextBuffer, out: &mut O, word: u64, cell: &Cell)
+    ensures { Appends O.taken O.faults out.old out.new text.old text.new (line_text (Sets word cell.now)) }
 {
     let mut line = Line::new();
     line.put_text(if cell.full { " full\n" } else { " empty\n" });
@@ -187,8 +187,8 @@ fn write_word(line: &mut Line, word: Word)
 }
 
 /// Appends a line's name, which ends in a blank, then a number and a blank.
-fn put_front<O: Sink>(text: &mut Gather, out: &mut O, name: &str, number: u8)
-    ensures { Gathers O.taken O.faults out.old out.new text.old text.new (name.now ++ decimal number ++ codes " ") }
+fn put_front<O: Sink>(text: &mut TextBuffer, out: &mut O, name: &str, number: u8)
+    ensures { Appends O.taken O.faults out.old out.new text.old text.new (name.now ++ decimal number ++ codes " ") }
 {
     text.put(
         out,
@@ -201,8 +201,8 @@ fn put_front<O: Sink>(text: &mut Gather, out: &mut O, name: &str, number: u8)
 }
 
 /// Appends the slot, cause, instruction pointer, address operand and data operand of an event.
-fn put_told<O: Sink>(text: &mut Gather, out: &mut O, event: &Event)
-    ensures { Gathers O.taken O.faults out.old out.new text.old text.new (event_text event.now) }
+fn put_told<O: Sink>(text: &mut TextBuffer, out: &mut O, event: &Event)
+    ensures { Appends O.taken O.faults out.old out.new text.old text.new (event_text event.now) }
 {
     put_fault(text, out, event.slot, event.cause);
     put_word(text, out, Word::Ptr(event.ip));
@@ -213,8 +213,8 @@ fn put_told<O: Sink>(text: &mut Gather, out: &mut O, event: &Event)
 }
 
 /// Appends the number of a slot and the number of its fault, each followed by a blank.
-fn put_fault<O: Sink>(text: &mut Gather, out: &mut O, slot: u8, cause: Cause)
-    ensures { Gathers O.taken O.faults out.old out.new text.old text.new
+fn put_fault<O: Sink>(text: &mut TextBuffer, out: &mut O, slot: u8, cause: Cause)
+    ensures { Appends O.taken O.faults out.old out.new text.old text.new
         (decimal slot ++ codes " " ++ decimal (number_of cause) ++ codes " ") }
 {
     text.put(

@@ -3,7 +3,7 @@
 
 ghost use Rattle.std.specs.Prelude.{◌≡◌, ◌+◌, ◌<◌, ◌≤◌, ◌++◌, [], true, false, length, drop, IfSome, Some};
 ghost use Rattle.std.specs.List.{flat_map};
-ghost use Rattle.mm_text.specs.Gathers.{Gathers};
+ghost use Rattle.mm_text.specs.Appends.{Appends};
 ghost use Rattle.mm_word.specs.declared.word.Pre.{Pre as PreValue};
 ghost use Rattle.mm_model.specs.Ask.{ask, reaching};
 ghost use Rattle.mm_model.specs.Memory.{cell_at};
@@ -28,7 +28,7 @@ use mm_isa::{Instr, Reg};
 use mm_machine::Machine;
 use mm_mem::{Inspect, Memory};
 use mm_model::{Slot, SlotState, Tick, is_same_word};
-use mm_text::{Gather, Line};
+use mm_text::{TextBuffer, Line};
 use mm_thread::load_kind;
 use mm_word::{Access, Cause, Cell, GuardedPtr, Kind, Word, check};
 
@@ -244,8 +244,8 @@ fn write_held(line: &mut Line, held: &Option<Held>, now: &Slot)
 }
 
 /// Appends the lines of the instruction pointer and of the register that was written, as one text.
-fn put_moved<O: Sink>(text: &mut Gather, out: &mut O, was: &Local, held: &Held, now: &Slot)
-    ensures { Gathers O.taken O.faults out.old out.new text.old text.new
+fn put_moved<O: Sink>(text: &mut TextBuffer, out: &mut O, was: &Local, held: &Held, now: &Slot)
+    ensures { Appends O.taken O.faults out.old out.new text.old text.new
         (text_of (pointer_left was.now.ip false now.now)
         ++ text_of (register_left held.now.word held.now.empty now.now held.now.register)) }
 {
@@ -256,8 +256,8 @@ fn put_moved<O: Sink>(text: &mut Gather, out: &mut O, was: &Local, held: &Held, 
 }
 
 /// Appends the line of the instruction pointer, if it changed.
-fn put_pointer_left<O: Sink>(text: &mut Gather, out: &mut O, was: &Local, now: &Slot)
-    ensures { Gathers O.taken O.faults out.old out.new text.old text.new
+fn put_pointer_left<O: Sink>(text: &mut TextBuffer, out: &mut O, was: &Local, now: &Slot)
+    ensures { Appends O.taken O.faults out.old out.new text.old text.new
         (text_of (pointer_left was.now.ip false now.now)) }
 {
     let mut line = Line::new();
@@ -266,8 +266,8 @@ fn put_pointer_left<O: Sink>(text: &mut Gather, out: &mut O, was: &Local, now: &
 }
 
 /// Appends the line of the state, if the slot runs no more.
-fn put_stop<O: Sink>(text: &mut Gather, out: &mut O, now: &Slot)
-    ensures { Gathers O.taken O.faults out.old out.new text.old text.new (text_of (state_left Running now.now)) }
+fn put_stop<O: Sink>(text: &mut TextBuffer, out: &mut O, now: &Slot)
+    ensures { Appends O.taken O.faults out.old out.new text.old text.new (text_of (state_left Running now.now)) }
 {
     match now.state {
         SlotState::Running => {}
@@ -276,8 +276,8 @@ fn put_stop<O: Sink>(text: &mut Gather, out: &mut O, now: &Slot)
 }
 
 /// Appends the line of the register that was written, if it changed.
-fn put_held<O: Sink>(text: &mut Gather, out: &mut O, held: &Option<Held>, now: &Slot)
-    ensures { Gathers O.taken O.faults out.old out.new text.old text.new (text_of (held_left held.now now.now)) }
+fn put_held<O: Sink>(text: &mut TextBuffer, out: &mut O, held: &Option<Held>, now: &Slot)
+    ensures { Appends O.taken O.faults out.old out.new text.old text.new (text_of (held_left held.now now.now)) }
 {
     let mut line = Line::new();
     write_held(&mut line, held, now);
@@ -285,8 +285,8 @@ fn put_held<O: Sink>(text: &mut Gather, out: &mut O, held: &Option<Held>, now: &
 }
 
 /// Appends the lines of the instruction pointer and of the register that was written, if there is one.
-fn put_running<O: Sink>(text: &mut Gather, out: &mut O, was: &Local, now: &Slot)
-    ensures { Gathers O.taken O.faults out.old out.new text.old text.new
+fn put_running<O: Sink>(text: &mut TextBuffer, out: &mut O, was: &Local, now: &Slot)
+    ensures { Appends O.taken O.faults out.old out.new text.old text.new
         (text_of (pointer_left was.now.ip false now.now) ++ text_of (held_left was.now.held now.now)) }
 {
     match &was.held {
@@ -296,8 +296,8 @@ fn put_running<O: Sink>(text: &mut Gather, out: &mut O, was: &Local, now: &Slot)
 }
 
 /// Appends the lines of the changes of a slot that runs no more, but for loads.
-fn put_stopped<O: Sink>(text: &mut Gather, out: &mut O, was: &Local, now: &Slot)
-    ensures { Gathers O.taken O.faults out.old out.new text.old text.new
+fn put_stopped<O: Sink>(text: &mut TextBuffer, out: &mut O, was: &Local, now: &Slot)
+    ensures { Appends O.taken O.faults out.old out.new text.old text.new
         (text_of (pointer_left was.now.ip false now.now) ++ text_of (state_left Running now.now)
         ++ text_of (held_left was.now.held now.now)) }
 {
@@ -307,8 +307,8 @@ fn put_stopped<O: Sink>(text: &mut Gather, out: &mut O, was: &Local, now: &Slot)
 }
 
 /// Appends the lines of the slot's changes, but for loads.
-fn put_without_loads<O: Sink>(text: &mut Gather, out: &mut O, was: &Local, now: &Slot)
-    ensures { Gathers O.taken O.faults out.old out.new text.old text.new
+fn put_without_loads<O: Sink>(text: &mut TextBuffer, out: &mut O, was: &Local, now: &Slot)
+    ensures { Appends O.taken O.faults out.old out.new text.old text.new
         (text_of (pointer_left was.now.ip false now.now) ++ text_of (state_left Running now.now)
         ++ text_of (held_left was.now.held now.now)) }
 {
@@ -319,8 +319,8 @@ fn put_without_loads<O: Sink>(text: &mut Gather, out: &mut O, was: &Local, now: 
 }
 
 /// Appends the lines of all pending loads.
-fn put_all_loads<O: Sink>(text: &mut Gather, out: &mut O, now: &Slot)
-    ensures { Gathers O.taken O.faults out.old out.new text.old text.new
+fn put_all_loads<O: Sink>(text: &mut TextBuffer, out: &mut O, now: &Slot)
+    ensures { Appends O.taken O.faults out.old out.new text.old text.new
         (flat_map (λ load. line_text (Issues now.now.number load)) now.now.pending) }
 {
     if !now.pending.is_empty() {
@@ -329,24 +329,24 @@ fn put_all_loads<O: Sink>(text: &mut Gather, out: &mut O, now: &Slot)
 }
 
 /// Appends the lines of the slot's changes.
-fn put_slot_left<O: Sink>(text: &mut Gather, out: &mut O, was: &Local, now: &Slot)
-    ensures { Gathers O.taken O.faults out.old out.new text.old text.new (text_of (slot_left was.now now.now)) }
+fn put_slot_left<O: Sink>(text: &mut TextBuffer, out: &mut O, was: &Local, now: &Slot)
+    ensures { Appends O.taken O.faults out.old out.new text.old text.new (text_of (slot_left was.now now.now)) }
 {
     put_without_loads(text, out, was, now);
     put_all_loads(text, out, now);
 }
 
 /// Appends the line of the event that the fault of the instruction queued, if one was queued.
-fn put_event_left<O: Sink>(text: &mut Gather, out: &mut O, was: &Local, now: &Slot, tick: Tick)
-    ensures { Gathers O.taken O.faults out.old out.new text.old text.new
+fn put_event_left<O: Sink>(text: &mut TextBuffer, out: &mut O, was: &Local, now: &Slot, tick: Tick)
+    ensures { Appends O.taken O.faults out.old out.new text.old text.new
         (text_of (queued_by (Some was.now.instr) now.now tick)) }
 {
     put_queued(text, out, now, &Some(was.instr), tick);
 }
 
 /// Appends the lines of the slot's changes and of the event that its fault queued.
-fn put_told_of<O: Sink>(text: &mut Gather, out: &mut O, was: &Local, now: &Slot, tick: Tick)
-    ensures { Gathers O.taken O.faults out.old out.new text.old text.new
+fn put_told_of<O: Sink>(text: &mut TextBuffer, out: &mut O, was: &Local, now: &Slot, tick: Tick)
+    ensures { Appends O.taken O.faults out.old out.new text.old text.new
         (text_of (told_of was.now tick (Some now.now))) }
 {
     put_slot_left(text, out, was, now);
@@ -355,13 +355,13 @@ fn put_told_of<O: Sink>(text: &mut Gather, out: &mut O, was: &Local, now: &Slot,
 
 /// Appends the lines of the slot's changes and of the event that its fault queued, if the slot is there.
 fn put_told<M: Memory, O: Sink>(
-    text: &mut Gather,
+    text: &mut TextBuffer,
     out: &mut O,
     machine: &Machine<M>,
     was: &Local,
     tick: Tick,
 )
-    ensures { Gathers O.taken O.faults out.old out.new text.old text.new
+    ensures { Appends O.taken O.faults out.old out.new text.old text.new
         (text_of (told_of was.now tick (slot_at (state_of machine.now).core was.now.number))) }
 {
     if let Some(now) = machine.slot(was.number) {
@@ -371,12 +371,12 @@ fn put_told<M: Memory, O: Sink>(
 
 /// Appends the lines of the bytes that the slot's group put out.
 fn put_bytes_left<M: Memory, O: Sink>(
-    text: &mut Gather,
+    text: &mut TextBuffer,
     out: &mut O,
     machine: &Machine<M>,
     was: &Local,
 )
-    ensures { Gathers O.taken O.faults out.old out.new text.old text.new
+    ensures { Appends O.taken O.faults out.old out.new text.old text.new
         (flat_map (λ b. line_text (Puts was.now.group b))
         (drop was.now.output (output_of (state_of machine.now).core was.now.group))) }
 {
@@ -385,12 +385,12 @@ fn put_bytes_left<M: Memory, O: Sink>(
 
 /// Appends the line of the cell, if it changed.
 fn put_cell_left<M: Inspect, O: Sink>(
-    text: &mut Gather,
+    text: &mut TextBuffer,
     out: &mut O,
     machine: &Machine<M>,
     cell: &Option<(Access, Cell)>,
 )
-    ensures { Gathers O.taken O.faults out.old out.new text.old text.new
+    ensures { Appends O.taken O.faults out.old out.new text.old text.new
         (text_of (cell_left (state_of machine.now).memory cell.now)) }
 {
     if let Some((access, was)) = cell {
@@ -401,13 +401,13 @@ fn put_cell_left<M: Inspect, O: Sink>(
 
 /// Appends the lines of what the turn changed, given what was looked at before it.
 pub(crate) fn put_local<M: Inspect, O: Sink>(
-    text: &mut Gather,
+    text: &mut TextBuffer,
     out: &mut O,
     machine: &Machine<M>,
     was: &Local,
     tick: Tick,
 )
-    ensures { Gathers O.taken O.faults out.old out.new text.old text.new
+    ensures { Appends O.taken O.faults out.old out.new text.old text.new
         (text_of (local_seen (state_of machine.now) was.now tick)) }
 {
     put_told(text, out, machine, was, tick);

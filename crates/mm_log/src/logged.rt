@@ -1,7 +1,7 @@
 //! Cycles in an order, each with the lines of its log.
 
 ghost use Rattle.std.specs.Prelude.{◌≡◌, ◌+◌, ◌≤◌, ◌<◌, ◌^◌, ◌++◌, ◌∷◌, [], ℕ, List};
-ghost use Rattle.mm_text.specs.Gathers.{Gathers};
+ghost use Rattle.mm_text.specs.Appends.{Appends};
 ghost use Rattle.mm_model.specs.Image.{Image};
 ghost use Rattle.mm_model.specs.Run.{after};
 ghost use Rattle.mm_machine.specs.Machine.{state_of, StandsFor};
@@ -18,7 +18,7 @@ use mm_machine::Machine;
 use mm_mem::Inspect;
 use mm_report::put_step;
 use mm_sched::Order;
-use mm_text::Gather;
+use mm_text::TextBuffer;
 
 /// Issues up to `count` cycles in an order, and appends the lines of each. Stops early if the items end or no slot
 /// runs.
@@ -26,13 +26,13 @@ pub fn issue_logged<M: Inspect, O: Sink>(
     machine: &mut Machine<M>,
     order: &Order,
     count: u64,
-    text: &mut Gather,
+    text: &mut TextBuffer,
     out: &mut O,
 )
     requires { (state_of machine.old).cycles + count ≤ 2 ^ 32 }
     ensures goes { (i : Image) (before : List ℕ) → StandsFor i before machine.old
         → StandsFor i (before ++ items_of order.now (state_of machine.old) count) machine.new }
-    ensures lines { Gathers O.taken O.faults out.old out.new text.old text.new
+    ensures lines { Appends O.taken O.faults out.old out.new text.old text.new
         (log_text (state_of machine.old) (items_of order.now (state_of machine.old) count)) }
 {
     issue_told::<Logger, M, O>(machine, order, count, text, out)
@@ -49,7 +49,7 @@ impl Teller for Logger {
     fn tell<M: Inspect, O: Sink>(
         machine: &mut Machine<M>,
         item: u8,
-        text: &mut Gather,
+        text: &mut TextBuffer,
         out: &mut O,
     ) {
         cycle_logged(machine, item, text, out)
@@ -60,14 +60,14 @@ impl Teller for Logger {
 fn cycle_logged<M: Inspect, O: Sink>(
     machine: &mut Machine<M>,
     item: u8,
-    text: &mut Gather,
+    text: &mut TextBuffer,
     out: &mut O,
 )
     requires { (state_of machine.old).cycles < 2 ^ 32 }
     ensures state { state_of machine.new ≡ after (state_of machine.old) item }
     ensures goes { (i : Image) (before : List ℕ) → StandsFor i before machine.old
         → StandsFor i (before ++ item ∷ []) machine.new }
-    ensures line { Gathers O.taken O.faults out.old out.new text.old text.new
+    ensures line { Appends O.taken O.faults out.old out.new text.old text.new
         (text_of (cycle_log (state_of machine.old) item)) }
 {
     match look_near(machine, item) {
@@ -81,7 +81,7 @@ fn cycle_near<M: Inspect, O: Sink>(
     machine: &mut Machine<M>,
     item: u8,
     was: &Local,
-    text: &mut Gather,
+    text: &mut TextBuffer,
     out: &mut O,
 )
     requires cycles { (state_of machine.old).cycles < 2 ^ 32 }
@@ -89,7 +89,7 @@ fn cycle_near<M: Inspect, O: Sink>(
     ensures state { state_of machine.new ≡ after (state_of machine.old) item }
     ensures goes { (i : Image) (before : List ℕ) → StandsFor i before machine.old
         → StandsFor i (before ++ item ∷ []) machine.new }
-    ensures line { Gathers O.taken O.faults out.old out.new text.old text.new
+    ensures line { Appends O.taken O.faults out.old out.new text.old text.new
         (text_of (cycle_log (state_of machine.old) item)) }
 {
     let step = machine.cycle(item);
@@ -103,14 +103,14 @@ fn cycle_near<M: Inspect, O: Sink>(
 fn cycle_looked<M: Inspect, O: Sink>(
     machine: &mut Machine<M>,
     item: u8,
-    text: &mut Gather,
+    text: &mut TextBuffer,
     out: &mut O,
 )
     requires { (state_of machine.old).cycles < 2 ^ 32 }
     ensures state { state_of machine.new ≡ after (state_of machine.old) item }
     ensures goes { (i : Image) (before : List ℕ) → StandsFor i before machine.old
         → StandsFor i (before ++ item ∷ []) machine.new }
-    ensures line { Gathers O.taken O.faults out.old out.new text.old text.new
+    ensures line { Appends O.taken O.faults out.old out.new text.old text.new
         (text_of (cycle_log (state_of machine.old) item)) }
 {
     let before = look(machine, item);

@@ -3,7 +3,7 @@
 
 ghost use Rattle.std.specs.Prelude.{◌≡◌, ◌+◌, ◌<◌, ◌≤◌, ◌++◌, drop, length};
 ghost use Rattle.std.specs.List.{flat_map, range_with_len};
-ghost use Rattle.mm_text.specs.Gathers.{Gathers};
+ghost use Rattle.mm_text.specs.Appends.{Appends};
 ghost use Rattle.mm_word.specs.declared.word.Word.TheVariants.{Ptr};
 ghost use Rattle.mm_model.specs.Effect.{same_word as same_word_of};
 ghost use Rattle.mm_model.specs.Report.{same_bit as same_bit_of};
@@ -16,7 +16,7 @@ ghost use Rattle.mm_log.specs.Log.{text_of};
 use crate::lines::{put_load, put_pointer, put_slot_state, write_empty, write_register};
 use mm_io::Sink;
 use mm_model::{Pending, Slot, SlotState, is_same_word};
-use mm_text::{Gather, Line};
+use mm_text::{TextBuffer, Line};
 use mm_word::{GuardedPtr, Word};
 
 /// Whether two pointers are equal in bits.
@@ -48,8 +48,8 @@ fn is_same_state(a: SlotState, b: SlotState) -> bool
 }
 
 /// Appends the line of the instruction pointer, if the pointer or `past` changed.
-fn put_pointer_change<O: Sink>(text: &mut Gather, out: &mut O, was: &Slot, now: &Slot)
-    ensures { Gathers O.taken O.faults out.old out.new text.old text.new (text_of (pointer_changes was.now now.now)) }
+fn put_pointer_change<O: Sink>(text: &mut TextBuffer, out: &mut O, was: &Slot, now: &Slot)
+    ensures { Appends O.taken O.faults out.old out.new text.old text.new (text_of (pointer_changes was.now now.now)) }
 {
     if !(is_same_pointer(was.ip, now.ip) && is_same_bit(was.past, now.past)) {
         put_pointer(text, out, now.number, now.ip, now.past);
@@ -57,8 +57,8 @@ fn put_pointer_change<O: Sink>(text: &mut Gather, out: &mut O, was: &Slot, now: 
 }
 
 /// Appends the line of the state, if the state changed.
-fn put_state_change<O: Sink>(text: &mut Gather, out: &mut O, was: &Slot, now: &Slot)
-    ensures { Gathers O.taken O.faults out.old out.new text.old text.new (text_of (state_changes was.now now.now)) }
+fn put_state_change<O: Sink>(text: &mut TextBuffer, out: &mut O, was: &Slot, now: &Slot)
+    ensures { Appends O.taken O.faults out.old out.new text.old text.new (text_of (state_changes was.now now.now)) }
 {
     if !is_same_state(was.state, now.state) {
         put_slot_state(text, out, now.number, now.state);
@@ -81,9 +81,9 @@ pub(crate) fn write_register_now(line: &mut Line, now: &Slot, register: u8)
 }
 
 /// Appends the line of a register as it is now.
-fn put_register_now<O: Sink>(text: &mut Gather, out: &mut O, now: &Slot, register: u8)
+fn put_register_now<O: Sink>(text: &mut TextBuffer, out: &mut O, now: &Slot, register: u8)
     requires { register < 16 }
-    ensures { Gathers O.taken O.faults out.old out.new text.old text.new (line_text (register_now now.now register)) }
+    ensures { Appends O.taken O.faults out.old out.new text.old text.new (line_text (register_now now.now register)) }
 {
     let mut line = Line::new();
     write_register_now(&mut line, now, register);
@@ -92,14 +92,14 @@ fn put_register_now<O: Sink>(text: &mut Gather, out: &mut O, now: &Slot, registe
 
 /// Appends the line of a register, if its word changed or it began or ended a wait for a load.
 fn put_register_change<O: Sink>(
-    text: &mut Gather,
+    text: &mut TextBuffer,
     out: &mut O,
     was: &Slot,
     now: &Slot,
     register: u8,
 )
     requires { register < 16 }
-    ensures { Gathers O.taken O.faults out.old out.new text.old text.new
+    ensures { Appends O.taken O.faults out.old out.new text.old text.new
         (text_of (register_changes was.now now.now register)) }
 {
     let same = is_same_word(was.register(register), now.register(register))
@@ -110,8 +110,8 @@ fn put_register_change<O: Sink>(
 }
 
 /// Appends the lines of the registers whose word or empty bit changed, ascending.
-fn put_register_changes<O: Sink>(text: &mut Gather, out: &mut O, was: &Slot, now: &Slot)
-    ensures { Gathers O.taken O.faults out.old out.new text.old text.new
+fn put_register_changes<O: Sink>(text: &mut TextBuffer, out: &mut O, was: &Slot, now: &Slot)
+    ensures { Appends O.taken O.faults out.old out.new text.old text.new
         (flat_map (λ r. text_of (register_changes was.now now.now r)) (range_with_len 0 16)) }
 {
     for register in 0..16 {
@@ -120,8 +120,8 @@ fn put_register_changes<O: Sink>(text: &mut Gather, out: &mut O, was: &Slot, now
 }
 
 /// Appends the lines of loads that a slot issued.
-pub(crate) fn put_loads<O: Sink>(text: &mut Gather, out: &mut O, slot: u8, loads: &[Pending])
-    ensures { Gathers O.taken O.faults out.old out.new text.old text.new
+pub(crate) fn put_loads<O: Sink>(text: &mut TextBuffer, out: &mut O, slot: u8, loads: &[Pending])
+    ensures { Appends O.taken O.faults out.old out.new text.old text.new
         (flat_map (λ load. line_text (Issues slot load)) loads.now) }
 {
     for load in loads {
@@ -130,8 +130,8 @@ pub(crate) fn put_loads<O: Sink>(text: &mut Gather, out: &mut O, slot: u8, loads
 }
 
 /// Appends the lines of the pending loads that were added.
-fn put_load_changes<O: Sink>(text: &mut Gather, out: &mut O, was: &Slot, now: &Slot)
-    ensures { Gathers O.taken O.faults out.old out.new text.old text.new
+fn put_load_changes<O: Sink>(text: &mut TextBuffer, out: &mut O, was: &Slot, now: &Slot)
+    ensures { Appends O.taken O.faults out.old out.new text.old text.new
         (flat_map (λ load. line_text (Issues now.now.number load)) (drop (length was.now.pending) now.now.pending)) }
 {
     let before = was.pending.len();
@@ -141,8 +141,8 @@ fn put_load_changes<O: Sink>(text: &mut Gather, out: &mut O, was: &Slot, now: &S
 }
 
 /// Appends the lines of all changes of a slot.
-pub(crate) fn put_slot_changes<O: Sink>(text: &mut Gather, out: &mut O, was: &Slot, now: &Slot)
-    ensures { Gathers O.taken O.faults out.old out.new text.old text.new (text_of (slot_changes_of was.now now.now)) }
+pub(crate) fn put_slot_changes<O: Sink>(text: &mut TextBuffer, out: &mut O, was: &Slot, now: &Slot)
+    ensures { Appends O.taken O.faults out.old out.new text.old text.new (text_of (slot_changes_of was.now now.now)) }
 {
     put_pointer_change(text, out, was, now);
     put_state_change(text, out, was, now);

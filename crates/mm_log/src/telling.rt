@@ -1,7 +1,7 @@
 //! Cycles in an order, each with its text.
 
 ghost use Rattle.std.specs.Prelude.{◌≡◌, ◌+◌, ◌≤◌, ◌^◌, ◌++◌, ℕ, List, None, length};
-ghost use Rattle.mm_text.specs.Gathers.{Gathers};
+ghost use Rattle.mm_text.specs.Appends.{Appends};
 ghost use Rattle.mm_model.specs.Image.{Image};
 ghost use Rattle.mm_model.specs.Run.{robin_from};
 ghost use Rattle.mm_model.specs.State.{slot_at};
@@ -14,12 +14,12 @@ use mm_io::Sink;
 use mm_machine::Machine;
 use mm_mem::{Inspect, Memory};
 use mm_sched::{Order, Robin};
-use mm_text::Gather;
+use mm_text::TextBuffer;
 
 /// A teller of cycles, which makes a cycle and writes its text.
 pub trait Teller {
     ghost use Rattle.std.specs.Prelude.{◌≡◌, ◌<◌, ◌^◌, ◌++◌, ◌∷◌, [], ℕ, List};
-    ghost use Rattle.mm_text.specs.Gathers.{Gathers};
+    ghost use Rattle.mm_text.specs.Appends.{Appends};
     ghost use Rattle.mm_model.specs.Image.{Image};
     ghost use Rattle.mm_model.specs.State.{State};
     ghost use Rattle.mm_model.specs.Run.{after};
@@ -29,12 +29,12 @@ pub trait Teller {
     ghost of_cycle: { State → ℕ → List ℕ };
 
     /// Makes one cycle, and appends its text.
-    fn tell<M: Inspect, O: Sink>(machine: &mut Machine<M>, item: u8, text: &mut Gather, out: &mut O)
+    fn tell<M: Inspect, O: Sink>(machine: &mut Machine<M>, item: u8, text: &mut TextBuffer, out: &mut O)
         requires { (state_of machine.old).cycles < 2 ^ 32 }
         ensures state { state_of machine.new ≡ after (state_of machine.old) item }
         ensures goes { (i : Image) (before : List ℕ) → StandsFor i before machine.old
             → StandsFor i (before ++ item ∷ []) machine.new }
-        ensures line { Gathers O.taken O.faults out.old out.new text.old text.new
+        ensures line { Appends O.taken O.faults out.old out.new text.old text.new
             (of_cycle (state_of machine.old) item) };
 }
 
@@ -43,13 +43,13 @@ pub fn issue_told<T: Teller, M: Inspect, O: Sink>(
     machine: &mut Machine<M>,
     order: &Order,
     count: u64,
-    text: &mut Gather,
+    text: &mut TextBuffer,
     out: &mut O,
 )
     requires { (state_of machine.old).cycles + count ≤ 2 ^ 32 }
     ensures goes { (i : Image) (before : List ℕ) → StandsFor i before machine.old
         → StandsFor i (before ++ items_of order.now (state_of machine.old) count) machine.new }
-    ensures lines { Gathers O.taken O.faults out.old out.new text.old text.new
+    ensures lines { Appends O.taken O.faults out.old out.new text.old text.new
         (text_of_run T.of_cycle (state_of machine.old) (items_of order.now (state_of machine.old) count)) }
 {
     match order {
@@ -66,13 +66,13 @@ pub fn issue_told<T: Teller, M: Inspect, O: Sink>(
 fn tell_list<T: Teller, M: Inspect, O: Sink>(
     machine: &mut Machine<M>,
     items: &[u8],
-    text: &mut Gather,
+    text: &mut TextBuffer,
     out: &mut O,
 )
     requires { (state_of machine.old).cycles + length items.now ≤ 2 ^ 32 }
     ensures goes { (i : Image) (before : List ℕ) → StandsFor i before machine.old
         → StandsFor i (before ++ items.now) machine.new }
-    ensures lines { Gathers O.taken O.faults out.old out.new text.old text.new
+    ensures lines { Appends O.taken O.faults out.old out.new text.old text.new
         (text_of_run T.of_cycle (state_of machine.old) items.now) }
 {
     for item in items {
@@ -84,13 +84,13 @@ fn tell_list<T: Teller, M: Inspect, O: Sink>(
 fn tell_robin<T: Teller, M: Inspect, O: Sink>(
     machine: &mut Machine<M>,
     count: u64,
-    text: &mut Gather,
+    text: &mut TextBuffer,
     out: &mut O,
 )
     requires { (state_of machine.old).cycles + count ≤ 2 ^ 32 }
     ensures goes { (i : Image) (before : List ℕ) → StandsFor i before machine.old
         → StandsFor i (before ++ robin_from (state_of machine.old) None count) machine.new }
-    ensures lines { Gathers O.taken O.faults out.old out.new text.old text.new
+    ensures lines { Appends O.taken O.faults out.old out.new text.old text.new
         (text_of_run T.of_cycle (state_of machine.old) (robin_from (state_of machine.old) None count)) }
 {
     let mut robin = Robin::new();

@@ -1,7 +1,7 @@
 //! Cycles in an order, each with the line of its trace.
 
 ghost use Rattle.std.specs.Prelude.{◌+◌, ◌≤◌, ◌^◌, ◌++◌, ℕ, List};
-ghost use Rattle.mm_text.specs.Gathers.{Gathers};
+ghost use Rattle.mm_text.specs.Appends.{Appends};
 ghost use Rattle.mm_model.specs.Image.{Image};
 ghost use Rattle.mm_model.specs.Trace.{trace};
 ghost use Rattle.mm_machine.specs.Machine.{state_of, StandsFor};
@@ -13,20 +13,20 @@ use mm_machine::Machine;
 use mm_mem::Inspect;
 use mm_report::put_step;
 use mm_sched::Order;
-use mm_text::Gather;
+use mm_text::TextBuffer;
 
 /// Issues up to `count` cycles in an order, and appends the line of each. Stops early if the items end or no slot runs.
 pub fn issue_traced<M: Inspect, O: Sink>(
     machine: &mut Machine<M>,
     order: &Order,
     count: u64,
-    text: &mut Gather,
+    text: &mut TextBuffer,
     out: &mut O,
 )
     requires { (state_of machine.old).cycles + count ≤ 2 ^ 32 }
     ensures goes { (i : Image) (before : List ℕ) → StandsFor i before machine.old
         → StandsFor i (before ++ items_of order.now (state_of machine.old) count) machine.new }
-    ensures lines { Gathers O.taken O.faults out.old out.new text.old text.new
+    ensures lines { Appends O.taken O.faults out.old out.new text.old text.new
         (trace (state_of machine.old) (items_of order.now (state_of machine.old) count)) }
 {
     issue_told::<Tracer, M, O>(machine, order, count, text, out)
@@ -43,7 +43,7 @@ impl Teller for Tracer {
     fn tell<M: Inspect, O: Sink>(
         machine: &mut Machine<M>,
         item: u8,
-        text: &mut Gather,
+        text: &mut TextBuffer,
         out: &mut O,
     ) {
         let step = machine.cycle(item);

@@ -22,7 +22,7 @@ use Rattle.mm_model.specs.Spelling.{numbers_of}
 use Rattle.mm_model.specs.Flags.{one_if}
 use Rattle.mm_model.specs.Turn.{is_taken}
 use Rattle.mm_model.specs.Fits.{is_waiting, waits_for, events_of, slots_of, IsSlot, LoadsMatch, WaitsForSome, IsAtSlot}
-use Rattle.mm_model.specs.Fits.{LoadsAreKept, TakenBySome, IsOfVersion, IsCore, SlotHoldsWords, EventHoldsWords}
+use Rattle.mm_model.specs.Fits.{LoadsAreConsistent, TakenBySome, IsOfVersion, IsCore, SlotHoldsWords, EventHoldsWords}
 use Rattle.mm_model.specs.Fits.{RowHoldsWords}
 use Rattle.mm_model.proofs.CoreRows.{each_map, each_both, rest_rises, above_first, Rises, slot_has, slots_found}
 use Rattle.mm_model.proofs.CoreSteps.{some_true, events_of-here, waits_for-rests, waits_for-at, events_more}
@@ -32,12 +32,12 @@ use Rattle.mm_thread.specs.Parts.{events_for}
 use Rattle.mm_thread.proofs.Cores.{output_short}
 use Rattle.mm_thread.proofs.Sound.{queue-none}
 use Rattle.mm_model.specs.Typed.{IsTypedSlot}
-use Rattle.mm_machine.specs.Kept.{Kept}
+use Rattle.mm_machine.specs.Validity.{IsValid}
 use Rattle.mm_machine.specs.Snapshot.{parts_of, numbered, has_output, page_numbers, queues_of, IsEventOf, IsAwaited}
 use Rattle.mm_machine.specs.Snapshot.{HasOneEvent, IsPending, DoesNotFall, IsSnapshot, IsOutputOf, IsTypedEvent}
 use Rattle.mm_machine.specs.Snapshot.{IsTyped, queued, queued_at}
 use Rattle.mm_machine.specs.Capture.{OutputsBelow}
-use Rattle.mm_machine.proofs.Keeping.{kept_core}
+use Rattle.mm_machine.proofs.Keeping.{valid_core}
 use Rattle.mm_machine.proofs.Pendings.{loads_counted}
 use Rattle.mm_machine.proofs.Queues.{slot_numbered, tally, tallied, beside_one, of_none, awaited_by}
 use Rattle.mm_machine.proofs.Steps.{from_zero}
@@ -227,10 +227,10 @@ own_group (s ∷ slots) = (
       (λ x has. ap (λ b. eqb s.group x.group || b) has ∙ or-true (eqb s.group x.group)) slots (own_group slots),
 )
 
-pub snapshot_taken : (s : State) (outputs : List Output) → OutputsBelow s.core (slots_of s.core) 64 outputs → Kept s
+pub snapshot_taken : (s : State) (outputs : List Output) → OutputsBelow s.core (slots_of s.core) 64 outputs → IsValid s
     → IsSnapshot (record { slots = slots_of s.core; events = queued s.core; outputs = outputs; pages = s.memory.pages; cycles = s.cycles })
 snapshot_taken s outputs out k =
-    let whole = kept_core s k in
+    let whole = valid_core s k in
     record {
       slots = whole.formed.rising;
       groups = out.rising;
@@ -244,13 +244,13 @@ snapshot_taken s outputs out k =
       one_event = queued_once s.core whole;
       taken = each_map TakenBySome (λ (x : Slot). x.state ≡ Taken → x.handler ≢ None) (λ x is taken. is (ap is_taken taken)) (slots_of s.core) whole.kept.taken;
       outputs = each_map (IsOutputOf s.core) (λ (o : Output). length o.bytes ≤ 65536) (λ o is. omega (arith, ap length is, output_short s.core whole o.group)) outputs out.said;
-      pending = each_both LoadsMatch (LoadsAreKept s.core.split) IsPending
+      pending = each_both LoadsMatch (LoadsAreConsistent s.core.split) IsPending
           (λ x match kept r. record { loads = sym (loads_counted r x.pending) ∙ match.each r; zero = kept.zero r })
           (slots_of s.core) whole.matched.loads whole.kept.loads;
       turns = k.turns;
     }
 
-pub typed_taken : (s : State) (outputs : List Output) → Kept s → IsTyped (record { slots = slots_of s.core; events = queued s.core; outputs = outputs; pages = s.memory.pages; cycles = s.cycles })
+pub typed_taken : (s : State) (outputs : List Output) → IsValid s → IsTyped (record { slots = slots_of s.core; events = queued s.core; outputs = outputs; pages = s.memory.pages; cycles = s.cycles })
 typed_taken s outputs k = record {
   slots = each_both IsSlot SlotHoldsWords IsTypedSlot
       (λ x is words. record {
@@ -270,7 +270,7 @@ typed_taken s outputs k = record {
 -- 5. From the parts as they were copied.
 
 module _ (s : State) (slots : List Slot) (events : List (ℕ × Event)) (outputs : List Output) (pages : List (ℕ × List Cell))
-    (is_slots : slots ≡ slots_of s.core) (is_events : events ≡ queued s.core) (is_pages : pages ≡ s.memory.pages) (kept : ∥ Kept s ∥₁) where
+    (is_slots : slots ≡ slots_of s.core) (is_events : events ≡ queued s.core) (is_pages : pages ≡ s.memory.pages) (kept : ∥ IsValid s ∥₁) where
   same_parts : parts_of (slots_of s.core) (queued s.core) outputs s.memory.pages s.cycles ≡ parts_of slots events outputs pages s.cycles
   same_parts =
       sym (ap (λ (x : List Slot). parts_of x events outputs pages s.cycles) is_slots

@@ -19,13 +19,13 @@ use Rattle.mm_model.specs.Outcomes.{StopsAt, FaultChanges}
 use Rattle.mm_model.specs.declared.step.Step.{Step}
 use Rattle.mm_model.proofs.Causes.{IsOrderly, EndsExactly, core_orderly, ends_exactly, fault_changes}
 use Rattle.mm_model.proofs.TurnBounds.{after_within}
-use Rattle.mm_machine.specs.Kept.{Kept}
+use Rattle.mm_machine.specs.Validity.{IsValid}
 
-pub kept_start : (i : Image) → IsImage i → Kept (start i)
-kept_start i h = record { image = i; is_image = h; state = start_state i h; fits = start_fits i h; types = start_kept i h.rising h.fresh; turns = start_within i h }
+pub valid_start : (i : Image) → IsImage i → IsValid (start i)
+valid_start i h = record { image = i; is_image = h; state = start_state i h; fits = start_fits i h; types = start_kept i h.rising h.fresh; turns = start_within i h }
 
-pub kept_after : (s : State) (n : ℕ) → Kept s → Kept (after s n)
-kept_after s n k = record {
+pub valid_after : (s : State) (n : ℕ) → IsValid s → IsValid (after s n)
+valid_after s n k = record {
   image = k.image;
   is_image = k.is_image;
   state = after_state s n k.state;
@@ -35,18 +35,18 @@ kept_after s n k = record {
 }
 
 -- its slots, queues and outputs are those of a machine
-pub kept_core : (s : State) → Kept s → IsCore s.core
-kept_core s k = core_of k.image s k.is_image k.state k.fits k.types
+pub valid_core : (s : State) → IsValid s → IsCore s.core
+valid_core s k = core_of k.image s k.is_image k.state k.fits k.types
 
-pub kept_paged : (s : State) → Kept s → IsPaged s.memory
-kept_paged s k = paged_of k.image s k.state k.fits
+pub valid_paged : (s : State) → IsValid s → IsPaged s.memory
+valid_paged s k = paged_of k.image s k.state k.fits
 
 fewer : (slots : List Slot) (n m : ℕ) → n < m → AllByRecursion (λ (s : Slot). s.turns ≤ n) slots → AllByRecursion (λ (s : Slot). s.turns < m) slots
 fewer [] n m lt h = tt
 fewer (s ∷ slots) n m lt h = (let le = h.0 in omega arith, fewer slots n m lt h.1)
 
-pub kept_turns : (s : State) → s.cycles < 2 ^ 32 → Kept s → AllByRecursion (λ (slot : Slot). slot.turns < 2 ^ 61) (slots_of s.core)
-kept_turns s lt k = fewer (slots_of s.core) s.cycles (2 ^ 61) (omega arith) k.turns
+pub valid_turns : (s : State) → s.cycles < 2 ^ 32 → IsValid s → AllByRecursion (λ (slot : Slot). slot.turns < 2 ^ 61) (slots_of s.core)
+valid_turns s lt k = fewer (slots_of s.core) s.cycles (2 ^ 61) (omega arith) k.turns
 
 -- one item more
 
@@ -63,14 +63,14 @@ uses_more s (m ∷ items) n = ap (λ (us : List Use). (turn_of s m).uses ++ us) 
 
 -- what is kept, from a state to the next
 
-pub memory_paged : (s : State) → ∥ Kept s ∥₁ → IsPaged s.memory
-memory_paged s h = ∥∥₁_elim h (hlevel props) (λ k. kept_paged s k)
+pub memory_paged : (s : State) → ∥ IsValid s ∥₁ → IsPaged s.memory
+memory_paged s h = ∥∥₁_elim h (hlevel props) (λ k. valid_paged s k)
 
-pub few_turns : (s : State) → s.cycles < 2 ^ 32 → ∥ Kept s ∥₁ → AllByRecursion (λ (slot : Slot). slot.turns < 2 ^ 61) (slots_of s.core)
-few_turns s lt h = ∥∥₁_elim h (hlevel props) (λ k. kept_turns s lt k)
+pub few_turns : (s : State) → s.cycles < 2 ^ 32 → ∥ IsValid s ∥₁ → AllByRecursion (λ (slot : Slot). slot.turns < 2 ^ 61) (slots_of s.core)
+few_turns s lt h = ∥∥₁_elim h (hlevel props) (λ k. valid_turns s lt k)
 
-pub goes_on : (s t : State) (n : ℕ) → t ≡ after s n → ∥ Kept s ∥₁ → ∥ Kept t ∥₁
-goes_on s t n is h = ∥∥₁_map h (λ k. subst Kept (sym is) (kept_after s n k))
+pub goes_on : (s t : State) (n : ℕ) → t ≡ after s n → ∥ IsValid s ∥₁ → ∥ IsValid t ∥₁
+goes_on s t n is h = ∥∥₁_map h (λ k. subst IsValid (sym is) (valid_after s n k))
 
 pub state_made : (s : State) (n : ℕ) (core : Core) (memory : Memory) → core ≡ (turn_of s n).core → memory ≡ (turn_of s n).memory
     → record { core = core; memory = memory; cycles = s.cycles + 1 } ≡ after s n
@@ -80,12 +80,12 @@ state_made s n core memory c m =
     ∙ ap (λ (x : Memory). let t : State = record { core = (turn_of s n).core; memory = x; cycles = s.cycles + 1 } in t) m
 
 -- what a fault changes, of a state that is kept
-pub kept_orderly : (s : State) → ∥ Kept s ∥₁ → IsOrderly s.core
-kept_orderly s h = ∥∥₁_elim h (hlevel props) (λ k. core_orderly s.core (kept_core s k))
+pub valid_orderly : (s : State) → ∥ IsValid s ∥₁ → IsOrderly s.core
+valid_orderly s h = ∥∥₁_elim h (hlevel props) (λ k. core_orderly s.core (valid_core s k))
 
 -- what comes of an item, by its step
-pub exactly : (s : State) (n : ℕ) (step : Step) → ∥ Kept s ∥₁ → step ≡ (turn_of s n).step → EndsExactly s.core s.memory n step.tick
-exactly s n step kept is = subst (λ (x : Step). EndsExactly s.core s.memory n x.tick) (sym is) (ends_exactly s.core s.memory n (kept_orderly s kept))
+pub exactly : (s : State) (n : ℕ) (step : Step) → ∥ IsValid s ∥₁ → step ≡ (turn_of s n).step → EndsExactly s.core s.memory n step.tick
+exactly s n step kept is = subst (λ (x : Step). EndsExactly s.core s.memory n x.tick) (sym is) (ends_exactly s.core s.memory n (valid_orderly s kept))
 
-pub fault_changed : (s t : State) (n : ℕ) → t ≡ after s n → ∥ Kept s ∥₁ → (x : Slot) (c : Cause) → StopsAt s.core s.memory n x c → FaultChanges x c s t
-fault_changed s t n is kept x c stops = subst (FaultChanges x c s) (sym is) (fault_changes s n x c (kept_orderly s kept) stops)
+pub fault_changed : (s t : State) (n : ℕ) → t ≡ after s n → ∥ IsValid s ∥₁ → (x : Slot) (c : Cause) → StopsAt s.core s.memory n x c → FaultChanges x c s t
+fault_changed s t n is kept x c stops = subst (FaultChanges x c s) (sym is) (fault_changes s n x c (valid_orderly s kept) stops)

@@ -5,7 +5,7 @@ use Rattle.std.proofs.lemmas.Bool.{cases_lt}
 use Rattle.std.proofs.lemmas.Bool.Decides.{nat_tests}
 use Rattle.std.proofs.lemmas.List.{get_or_past}
 use Rattle.std.proofs.lemmas.List.Recursion.{is_count_by}
-use Rattle.mm_model.proofs.ImageBytes.Bitmaps.{length-flags}
+use Rattle.mm_model.proofs.Bytes.Bitmaps.{length-flags}
 use Rattle.mm_model.specs.declared.slot.Pending.{Pending}
 use Rattle.mm_model.specs.Flags.{flags}
 use Rattle.mm_model.specs.Slot.{Slot, is_empty}

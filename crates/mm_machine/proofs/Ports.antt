@@ -13,7 +13,7 @@ use Rattle.mm_model.specs.Spelling.{HoldsWords}
 use Rattle.mm_model.proofs.EffectWords.{cell_words}
 use Rattle.mm_model.proofs.StateKeeps.{MemoryKeeps, memory_self, cell_keeps}
 use Rattle.mm_mem.specs.Answers.{set_where, put_where, after_load, after_store}
-use Rattle.mm_machine.specs.Kept.{Kept}
+use Rattle.mm_machine.specs.Validity.{IsValid}
 
 module _ (m : Memory) (pages : ArePages m.pages) (cells : AllByRecursion HoldsWords m.pages) where
   same : MemoryKeeps m m
@@ -37,8 +37,8 @@ module _ (m : Memory) (pages : ArePages m.pages) (cells : AllByRecursion HoldsWo
       by None = same
       by (Some c) = put_where-keeps w (record { word = Int bits; full = true }) fits (not c.full)
 
-kept_with : (s : State) (m : Memory) → MemoryKeeps s.memory m → Kept s → Kept (record s { memory = m })
-kept_with s m keeps k = record {
+valid_with : (s : State) (m : Memory) → MemoryKeeps s.memory m → IsValid s → IsValid (record s { memory = m })
+valid_with s m keeps k = record {
   image = k.image;
   is_image = k.is_image;
   state = record { core = k.state.core; rows = k.state.rows; pages = keeps.pages; cells = keeps.cells };
@@ -54,8 +54,8 @@ kept_with s m keeps k = record {
   turns = k.turns;
 }
 
-pub kept_taken : (s : State) (w : ℕ) (m : Memory) → m ≡ after_load s.memory w pres.Full posts.Empty → ∥ Kept s ∥₁ → ∥ Kept (record s { memory = m }) ∥₁
-kept_taken s w m is h = ∥∥₁_map h (λ k. kept_with s m (subst (MemoryKeeps s.memory) (sym is) (take_keeps s.memory k.state.pages k.state.cells w)) k)
+pub valid_taken : (s : State) (w : ℕ) (m : Memory) → m ≡ after_load s.memory w pres.Full posts.Empty → ∥ IsValid s ∥₁ → ∥ IsValid (record s { memory = m }) ∥₁
+valid_taken s w m is h = ∥∥₁_map h (λ k. valid_with s m (subst (MemoryKeeps s.memory) (sym is) (take_keeps s.memory k.state.pages k.state.cells w)) k)
 
-pub kept_put : (s : State) (w bits : ℕ) (m : Memory) → bits < 2 ^ 64 → m ≡ after_store s.memory w (Int bits) pres.Empty posts.Full → ∥ Kept s ∥₁ → ∥ Kept (record s { memory = m }) ∥₁
-kept_put s w bits m fits is h = ∥∥₁_map h (λ k. kept_with s m (subst (MemoryKeeps s.memory) (sym is) (put_keeps s.memory k.state.pages k.state.cells w bits fits)) k)
+pub valid_put : (s : State) (w bits : ℕ) (m : Memory) → bits < 2 ^ 64 → m ≡ after_store s.memory w (Int bits) pres.Empty posts.Full → ∥ IsValid s ∥₁ → ∥ IsValid (record s { memory = m }) ∥₁
+valid_put s w bits m fits is h = ∥∥₁_map h (λ k. valid_with s m (subst (MemoryKeeps s.memory) (sym is) (put_keeps s.memory k.state.pages k.state.cells w bits fits)) k)

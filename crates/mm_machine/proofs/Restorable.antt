@@ -9,13 +9,13 @@ use Rattle.mm_model.specs.Slot.{Slot}
 use Rattle.mm_model.specs.State.{State, output_of}
 use Rattle.mm_model.specs.Image.{output_limit}
 use Rattle.mm_model.specs.Run.{after}
-use Rattle.mm_model.specs.Fits.{identity_of, slots_of, LoadsAreKept, IsCore}
+use Rattle.mm_model.specs.Fits.{identity_of, slots_of, LoadsAreConsistent, IsCore}
 use Rattle.mm_model.proofs.CoreRows.{each_map, each_get}
 use Rattle.mm_model.proofs.StateKeeps.{after_fits}
 use Rattle.mm_thread.specs.Output.{Output}
 use Rattle.mm_thread.proofs.Assigned.{slots-with}
-use Rattle.mm_machine.specs.Kept.{Kept}
-use Rattle.mm_machine.proofs.Keeping.{kept_core}
+use Rattle.mm_machine.specs.Validity.{IsValid}
+use Rattle.mm_machine.proofs.Keeping.{valid_core}
 use Rattle.mm_machine.specs.Snapshot.{Parts, CanRestore, IsOutputOf, IsSnapshotOf, restored}
 
 -- two states of one machine
@@ -33,7 +33,7 @@ can_too s t p same can = record {
   pages = subst (λ (n : ℕ). length p.pages ≤ n) same.frames can.pages;
 }
 
-same_after : (s : State) (n : ℕ) → Kept s → IsSameMachine s (after s n)
+same_after : (s : State) (n : ℕ) → IsValid s → IsSameMachine s (after s n)
 same_after s n k =
     let later = after_fits k.image s n k.is_image k.state k.fits in
     record {
@@ -44,7 +44,7 @@ same_after s n k =
     }
 
 -- after one more cycle
-pub can_after : (s t : State) (n : ℕ) (p : Parts) → t ≡ after s n → ∥ Kept s ∥₁ → CanRestore s p → CanRestore t p
+pub can_after : (s t : State) (n : ℕ) (p : Parts) → t ≡ after s n → ∥ IsValid s ∥₁ → CanRestore s p → CanRestore t p
 can_after s t n p is kept can = subst (λ (u : State). CanRestore u p) (sym is) (∥∥₁_elim kept (hlevel props) (λ k. can_too s (after s n) p (same_after s n k) can))
 
 -- after another state was put back
@@ -68,14 +68,14 @@ own_limit s o whole is = elim (cases_lt o.group 64) as (λ _. length o.bytes ≤
   | inr past ↦ omega (arith, ap length is, ap length (get_or_past s.core.outputs o.group [] (omega (arith, whole.formed.outputs))))
 ]
 
-own : (s : State) (p : Parts) → IsSnapshotOf s p → Kept s → CanRestore s p
+own : (s : State) (p : Parts) → IsSnapshotOf s p → IsValid s → CanRestore s p
 own s p is k = record {
   slots = ap (map identity_of) is.slots;
   mode = λ off. subst (AllByRecursion (λ (x : Slot). x.pending ≡ [])) (sym is.slots)
-      (each_map (LoadsAreKept s.core.split) (λ (x : Slot). x.pending ≡ []) (λ x one. one.mode off) (slots_of s.core) k.types.loads);
-  outputs = each_map (IsOutputOf s.core) (λ (o : Output). length o.bytes ≤ output_limit s.core.version) (λ o said. own_limit s o (kept_core s k) said) p.outputs is.outputs;
+      (each_map (LoadsAreConsistent s.core.split) (λ (x : Slot). x.pending ≡ []) (λ x one. one.mode off) (slots_of s.core) k.types.loads);
+  outputs = each_map (IsOutputOf s.core) (λ (o : Output). length o.bytes ≤ output_limit s.core.version) (λ o said. own_limit s o (valid_core s k) said) p.outputs is.outputs;
   pages = let few = k.fits.mapped in let same = ap length is.pages in omega arith;
 }
 
-pub can_own : (s : State) (p : Parts) → ∥ Kept s ∥₁ → IsSnapshotOf s p → CanRestore s p
+pub can_own : (s : State) (p : Parts) → ∥ IsValid s ∥₁ → IsSnapshotOf s p → CanRestore s p
 can_own s p kept is = ∥∥₁_elim kept (hlevel props) (λ k. own s p is k)

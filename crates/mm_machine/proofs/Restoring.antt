@@ -22,20 +22,20 @@ use Rattle.mm_model.specs.Turn.{is_taken}
 use Rattle.mm_model.specs.Groups.{has_group}
 use Rattle.mm_model.specs.Spelling.{numbers_of, IsOther}
 use Rattle.mm_model.specs.Fits.{waits_for, events_of, identity_of, slots_of, IsSlot, IsFormed, LoadsMatch, WaitsForSome}
-use Rattle.mm_model.specs.Fits.{Matches, IsAtSlot, LoadsAreKept, TakenBySome, IsKept, IsOfVersion, HandlersAreOthers}
+use Rattle.mm_model.specs.Fits.{Matches, IsAtSlot, LoadsAreConsistent, TakenBySome, IsConsistent, IsOfVersion, HandlersAreOthers}
 use Rattle.mm_model.specs.Fits.{IsCore, EventHoldsWords, RowHoldsWords}
 use Rattle.mm_model.proofs.Causes.{some_of}
 use Rattle.mm_model.proofs.CoreRows.{each_map, each_both, of_version_by, rest_rises, above_first, Rises, each_slot, slot_has, other_at, other_in, identities_of, stays_by}
 use Rattle.mm_model.proofs.CoreSteps.{waits_for-says}
-use Rattle.mm_model.proofs.ImageBytes.Rising.{AreRisingFrom, sorted_from}
+use Rattle.mm_model.proofs.Bytes.Rising.{AreRisingFrom, sorted_from}
 use Rattle.mm_thread.specs.Output.{Output}
 use Rattle.mm_thread.specs.Parts.{events_for, row_with, core_of, AreParts}
 use Rattle.mm_thread.proofs.Assigned.{queue-with, slots-with}
 use Rattle.mm_thread.proofs.Sound.{queue-none}
 use Rattle.mm_model.specs.Typed.{IsTypedSlot}
-use Rattle.mm_machine.specs.Kept.{Kept}
+use Rattle.mm_machine.specs.Validity.{IsValid}
 use Rattle.mm_machine.specs.Snapshot.{Parts, numbered, page_numbers, IsEventOf, IsAwaited, IsPending, IsSnapshot, IsTypedEvent, IsTyped, CanRestore, restored}
-use Rattle.mm_machine.proofs.Keeping.{kept_core}
+use Rattle.mm_machine.proofs.Keeping.{valid_core}
 use Rattle.mm_machine.proofs.Pendings.{loads_counted}
 use Rattle.mm_machine.proofs.Queues.{slot_numbered, matched, waits_handled}
 use Rattle.mm_machine.proofs.Outputs.{outputs_count, outputs_within, nothing_within, output_untouched, outputs_given, group_has}
@@ -89,8 +89,8 @@ host_of core whole = record {
 pub hosts : (core : Core) → ∥ IsCore core ∥₁ → IsHost core
 hosts core whole = ∥∥₁_elim whole (hlevel props) (λ k. host_of core k)
 
-pub kept_hosts : (s : State) → ∥ Kept s ∥₁ → IsHost s.core
-kept_hosts s kept = ∥∥₁_elim kept (hlevel props) (λ k. host_of s.core (kept_core s k))
+pub valid_hosts : (s : State) → ∥ IsValid s ∥₁ → IsHost s.core
+valid_hosts s kept = ∥∥₁_elim kept (hlevel props) (λ k. host_of s.core (valid_core s k))
 
 module _ (old : Core) (p : Parts) (was : IsHost old) (rules : IsSnapshot p) (typed : IsTyped p) (same : map identity_of p.slots ≡ map identity_of (slots_of old)) where
   abbrev core : Core
@@ -221,11 +221,11 @@ module _ (old : Core) (p : Parts) (was : IsHost old) (rules : IsSnapshot p) (typ
       loads = on_slots LoadsMatch (each_map IsPending LoadsMatch (λ s pending. record { each = λ r. loads_counted r s.pending ∙ (pending r).loads }) p.slots rules.pending);
     }
 
-    pub core_kept : IsKept core
-    core_kept = record {
+    pub core_consistent : IsConsistent core
+    core_consistent = record {
       in_place = core_in_place;
-      loads = on_slots (LoadsAreKept old.split)
-          (each_both IsPending (λ (s : Slot). old.split ≡ false → s.pending ≡ []) (LoadsAreKept old.split)
+      loads = on_slots (LoadsAreConsistent old.split)
+          (each_both IsPending (λ (s : Slot). old.split ≡ false → s.pending ≡ []) (LoadsAreConsistent old.split)
           (λ s pending off. record { zero = λ r empty. (pending r).zero empty; mode = off }) p.slots rules.pending
           (modes old.split refl));
       taken = on_slots TakenBySome core_taken;
@@ -234,7 +234,7 @@ module _ (old : Core) (p : Parts) (was : IsHost old) (rules : IsSnapshot p) (typ
     }
 
     pub core_whole : IsCore core
-    core_whole = record { formed = core_formed; numbers = on_slots (IsOfVersion 2) numbers; handlers = handlers; matched = core_matches; kept = core_kept }
+    core_whole = record { formed = core_formed; numbers = on_slots (IsOfVersion 2) numbers; handlers = handlers; matched = core_matches; kept = core_consistent }
 
     pub are_parts : AreParts old p.slots p.events p.outputs
     are_parts = record { whole = core_whole; same = same; given = core_given }
@@ -253,9 +253,9 @@ rows_words events good (s ∷ slots) h = (
 )
 
 module _ (s : State) (p : Parts) (rules : IsSnapshot p) (typed : IsTyped p) (can : CanRestore s p) where
-  restored_keeps : Kept s → Kept (restored s p)
+  restored_keeps : IsValid s → IsValid (restored s p)
   restored_keeps k =
-      let host = host_of s.core (kept_core s k) in
+      let host = host_of s.core (valid_core s k) in
       let whole = core_whole s.core p host rules typed can.slots can.mode can.outputs in
       record {
         image = k.image;
@@ -278,19 +278,19 @@ module _ (s : State) (p : Parts) (rules : IsSnapshot p) (typed : IsTyped p) (can
         turns = subst (AllByRecursion (λ (x : Slot). x.turns ≤ p.cycles)) (sym (slots_are s.core p host rules typed can.slots)) rules.turns;
       }
 
-  pub restored_kept : (t : State) → t ≡ restored s p → ∥ Kept s ∥₁ → ∥ Kept t ∥₁
-  restored_kept t is kept = ∥∥₁_map kept (λ k. subst Kept (sym is) (restored_keeps k))
+  pub restored_valid : (t : State) → t ≡ restored s p → ∥ IsValid s ∥₁ → ∥ IsValid t ∥₁
+  restored_valid t is kept = ∥∥₁_map kept (λ k. subst IsValid (sym is) (restored_keeps k))
 
 -- 4. From the parts as they were read.
 
 module _ (s : State) (p : Parts) (slots : List Slot) (events : List (ℕ × Event)) (outputs : List Output)
     (is_slots : slots ≡ p.slots) (is_events : events ≡ p.events) (is_outputs : outputs ≡ p.outputs) where
-  pub parts_read : IsSnapshot p → IsTyped p → CanRestore s p → ∥ Kept s ∥₁ → AreParts s.core slots events outputs
+  pub parts_read : IsSnapshot p → IsTyped p → CanRestore s p → ∥ IsValid s ∥₁ → AreParts s.core slots events outputs
   parts_read rules typed can kept =
       subst (λ (xs : List Slot). AreParts s.core xs events outputs) (sym is_slots)
       (subst (λ (xs : List (ℕ × Event)). AreParts s.core p.slots xs outputs) (sym is_events)
       (subst (λ (xs : List Output). AreParts s.core p.slots p.events xs) (sym is_outputs)
-      (are_parts s.core p (kept_hosts s kept) rules typed can.slots can.mode can.outputs)))
+      (are_parts s.core p (valid_hosts s kept) rules typed can.slots can.mode can.outputs)))
 
   pub state_read : (core : Core) (memory : Memory) (pages : List (ℕ × List Cell)) (cycles : ℕ)
       → core ≡ core_of s.core.version s.core.split slots events outputs → memory ≡ record { pages = pages; frames = s.memory.frames } → pages ≡ p.pages → cycles ≡ p.cycles

@@ -13,7 +13,7 @@ use Rattle.mm_model.specs.Slot.{Slot}
 use Rattle.mm_model.specs.State.{State, slot_at}
 use Rattle.mm_model.specs.Turn.{is_running}
 use Rattle.mm_model.specs.Run.{next_running}
-use Rattle.mm_machine.specs.Kept.{Kept}
+use Rattle.mm_machine.specs.Validity.{IsValid}
 use Rattle.mm_sched.specs.Shown.{runs, Shows}
 use Rattle.mm_sched.specs.Following.{IsNextBit}
 use Rattle.mm_sched.proofs.Rounds.{next_shown, none_shown}
@@ -29,11 +29,11 @@ runs_means (Some s) = (is_running_of s.state, runs_where s.state)
 
 -- 2. Bits.
 
-set_means : (masked bit place : ℕ) → bit < 2 → 0 < place → masked ≡ bit * place → (masked ≢ 0) ↔ (bit ≡ 1)
-set_means masked zero place lt some is = (λ set. absurd (set (omega arith)), λ one. cc)
-set_means masked (suc bit) place lt some is =
+set_means : (masked bit weight : ℕ) → bit < 2 → 0 < weight → masked ≡ bit * weight → (masked ≢ 0) ↔ (bit ≡ 1)
+set_means masked zero weight lt some is = (λ set. absurd (set (omega arith)), λ one. cc)
+set_means masked (suc bit) weight lt some is =
     let none : bit ≡ 0 = omega arith in
-    (λ set. omega arith, λ one is_zero. let whole : masked ≡ place = is ∙ ap (λ b. suc b * place) none ∙ omega arith in omega arith)
+    (λ set. omega arith, λ one is_zero. let whole : masked ≡ weight = is ∙ ap (λ b. suc b * weight) none ∙ omega arith in omega arith)
 
 bit_means : (mask n : ℕ) → IsBitSet mask n ↔ (bit_at mask n ≡ 1)
 bit_means mask n = set_means (bit_and mask (2 ^ n)) (bit_at mask n) (2 ^ n) (bit_at-lt mask n) (pow_pos n) (and_pow mask n)
@@ -53,11 +53,11 @@ shows s mask masks = record {
 
 -- 4. What comes next in the mask is the next running slot, and where no bit is set none runs.
 
-pub next_is : (s : State) (mask : ℕ) (last : Option ℕ) (n : ℕ) → ∥ Kept s ∥₁ → Masks s mask → IsNextBit mask last n → next_running s.core.rows last ≡ Some n
+pub next_is : (s : State) (mask : ℕ) (last : Option ℕ) (n : ℕ) → ∥ IsValid s ∥₁ → Masks s mask → IsNextBit mask last n → next_running s.core.rows last ≡ Some n
 next_is s mask last n kept masks next =
     ∥∥₁_elim kept (hlevel props) (λ k. next_shown s.core mask last n k.state.core.rising (shows s mask masks) next)
 
-pub none_is : (s : State) (mask : ℕ) (last : Option ℕ) → ∥ Kept s ∥₁ → Masks s mask → mask ≡ 0 → next_running s.core.rows last ≡ None
+pub none_is : (s : State) (mask : ℕ) (last : Option ℕ) → ∥ IsValid s ∥₁ → Masks s mask → mask ≡ 0 → next_running s.core.rows last ≡ None
 none_is s mask last kept masks none =
     ∥∥₁_elim kept (hlevel props) (λ k. none_shown s.core mask last k.state.core.rising (shows s mask masks) none)
 
@@ -66,6 +66,6 @@ zero_of zero none = refl
 zero_of (suc n) none = let clash : false ≡ true = none (λ is. omega arith) in absurd (cc)
 
 -- what comes next in the mask of the running slots is the next running slot
-pub peeked : (s : State) (mask : ℕ) (last next : Option ℕ) → ∥ Kept s ∥₁ → Masks s mask → (IsSome next ↔ (mask ≢ 0)) → IfSome next (IsNextBit mask last) → next ≡ next_running s.core.rows last
+pub peeked : (s : State) (mask : ℕ) (last next : Option ℕ) → ∥ IsValid s ∥₁ → Masks s mask → (IsSome next ↔ (mask ≢ 0)) → IfSome next (IsNextBit mask last) → next ≡ next_running s.core.rows last
 peeked s mask last None kept masks some is = sym (none_is s mask last kept masks (zero_of mask some.1))
 peeked s mask last (Some n) kept masks some is = sym (next_is s mask last n kept masks is)

@@ -15,10 +15,10 @@ use Rattle.mm_model.proofs.CoreRows.{each_map, rest_rises, above_first, slots_fo
 use Rattle.mm_thread.specs.Output.{Output}
 use Rattle.mm_thread.specs.Parts.{events_for, core_of}
 use Rattle.mm_thread.proofs.Assigned.{queue-with}
-use Rattle.mm_machine.specs.Kept.{Kept}
+use Rattle.mm_machine.specs.Validity.{IsValid}
 use Rattle.mm_machine.specs.Snapshot.{Parts, numbered, queues_of, IsAwaited, DoesNotFall, IsSnapshot, IsTyped, IsOutputOf, IsSnapshotOf, CanRestore, queued_at, restored}
 use Rattle.mm_machine.proofs.Queues.{numbered_has, awaits}
-use Rattle.mm_machine.proofs.Restoring.{IsHost, kept_hosts, slots_are, at, rising, unwaited, core_given}
+use Rattle.mm_machine.proofs.Restoring.{IsHost, valid_hosts, slots_are, at, rising, unwaited, core_given}
 
 -- 1. Events that do not fall are those of the queues, slot by slot.
 
@@ -125,5 +125,5 @@ module _ (s : State) (p : Parts) (rules : IsSnapshot p) (typed : IsTyped p) (can
     cycles = refl;
   }
 
-pub shown_back : (s t : State) (p : Parts) → t ≡ restored s p → IsSnapshot p → IsTyped p → CanRestore s p → ∥ Kept s ∥₁ → IsSnapshotOf t p
-shown_back s t p is rules typed can kept = subst (λ (u : State). IsSnapshotOf u p) (sym is) (shows s p rules typed can (kept_hosts s kept))
+pub shown_back : (s t : State) (p : Parts) → t ≡ restored s p → IsSnapshot p → IsTyped p → CanRestore s p → ∥ IsValid s ∥₁ → IsSnapshotOf t p
+shown_back s t p is rules typed can kept = subst (λ (u : State). IsSnapshotOf u p) (sym is) (shows s p rules typed can (valid_hosts s kept))

@@ -9,7 +9,7 @@ use Rattle.mm_model.specs.Image.{Image, slot_limit, start}
 use Rattle.mm_model.specs.Spelling.{IsFresh, IsImage}
 use Rattle.mm_model.specs.Fits.{slots_of, IsOfVersion}
 use Rattle.mm_model.proofs.Starts.{start_slots}
-use Rattle.mm_thread.specs.Places.{row_alone}
+use Rattle.mm_thread.specs.SlotIndices.{row_alone}
 
 each : {A : Type 0} {P Q : A → Type 0} → ((x : A) → P x → Q x) → (xs : List A) → AllByRecursion P xs → AllByRecursion Q xs
 each f [] h = tt

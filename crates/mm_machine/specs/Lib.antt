@@ -1,4 +1,4 @@
-pub mod Kept
+pub mod Validity
 pub mod Machine
 pub mod Going
 pub mod Snapshot

@@ -94,20 +94,20 @@ fn page_copy<M: Inspect>(alloc: Global, mem: &M, number: u64) -> Result<Page, Al
     ensures { IfOk result (λ page. page ≡ (number, cells_of (M.meaning mem.now) number)) }
 {
     let mut cells = Vec::with_capacity(alloc, CELLS)?;
-    for place in 0..CELLS {
-        cells.push(cell_at(mem, number, place))?;
+    for cell_index in 0..CELLS {
+        cells.push(cell_at(mem, number, cell_index))?;
     }
     Ok(Page::of(number, cells))
 }
 
 /// A cell of a mapped page.
-fn cell_at<M: Inspect>(mem: &M, number: u64, place: usize) -> Cell
+fn cell_at<M: Inspect>(mem: &M, number: u64, cell_index: usize) -> Cell
     requires paged { IsPaged (M.meaning mem.now) }
     requires number { number < 2 ^ 42 }
     requires mapped { is_mapped (M.meaning mem.now) number ≡ true }
-    requires place { place < 512 }
-    ensures { result ≡ slice_index_or (cells_of (M.meaning mem.now) number) place zero_cell }
+    requires cell_index { cell_index < 512 }
+    ensures { result ≡ slice_index_or (cells_of (M.meaning mem.now) number) cell_index zero_cell }
 {
-    mem.peek(number * 4096 + 8 * place as u64)
+    mem.peek(number * 4096 + 8 * cell_index as u64)
         .unwrap_or(Cell::ZERO)
 }

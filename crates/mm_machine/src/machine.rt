@@ -2,7 +2,7 @@
 
 ghost use Rattle.std.specs.Prelude.{◌≡◌, ◌+◌, ◌*◌, ◌≤◌, ◌^◌};
 ghost use Rattle.std.specs.Option.{option_or};
-ghost use Rattle.mm_machine.specs.Kept.{Kept};
+ghost use Rattle.mm_machine.specs.Validity.{IsValid};
 
 use crate::Snapshot;
 use crate::capture::{events_of, outputs_of, pages_of, slots_of};
@@ -21,7 +21,7 @@ pub struct Machine<M: Memory> {
     cycles: u64,
     /// The count of port calls.
     ports: u64,
-    ghost kept: { ∥ Kept (record { core = core; memory = M.meaning mem; cycles = cycles }) ∥₁ },
+    ghost valid: { ∥ IsValid (record { core = core; memory = M.meaning mem; cycles = cycles }) ∥₁ },
     ghost few_ports: { ports ≤ 2 ^ 32 },
     ghost few_uses: { M.uses mem ≤ 2 * cycles + ports },
     ghost most_uses: { M.uses mem ≤ 2 ^ 33 + ports },

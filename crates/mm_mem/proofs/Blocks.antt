@@ -19,53 +19,53 @@ eight_in_front : {X : Type 0} (xs ys : List X) (n : ℕ) → n + 8 ≤ length xs
 eight_in_front xs ys n le =
     ap (take 8) (drop-append-le n xs ys (omega arith)) ∙ take-append-le 8 (drop n xs) ys (omega (arith, length-drop n xs))
 
-module _ {X : Type 0} (cells new : List X) (place : ℕ) (whole : length cells ≡ 512) (eight : length new ≡ 8) (within : place < 64) where
+module _ {X : Type 0} (cells new : List X) (block_index : ℕ) (whole : length cells ≡ 512) (eight : length new ≡ 8) (within : block_index < 64) where
   abbrev front : List X
-  front = take (place * 8) cells
+  front = take (block_index * 8) cells
 
   abbrev rest : List X
-  rest = drop (place * 8 + 8) cells
+  rest = drop (block_index * 8 + 8) cells
 
   abbrev after : List X
   after = front ++ new ++ rest
 
-  front_length : length front ≡ place * 8
-  front_length = length-take-le (place * 8) cells (omega (arith, whole))
+  front_length : length front ≡ block_index * 8
+  front_length = length-take-le (block_index * 8) cells (omega (arith, whole))
 
-  up_to_block : length (front ++ new) ≡ place * 8 + 8
+  up_to_block : length (front ++ new) ≡ block_index * 8 + 8
   up_to_block = omega (arith, front_length, eight, length-append front new)
 
   pub length_with_block : length after ≡ 512
-  length_with_block = omega (arith, up_to_block, whole, length-append (front ++ new) rest, length-drop (place * 8 + 8) cells)
+  length_with_block = omega (arith, up_to_block, whole, length-append (front ++ new) rest, length-drop (block_index * 8 + 8) cells)
 
   -- the block that was written
-  pub block_written : take 8 (drop (place * 8) after) ≡ new
+  pub block_written : take 8 (drop (block_index * 8) after) ≡ new
   block_written =
-      ap (λ xs. take 8 (drop (place * 8) xs)) (append_assoc front new rest)
-      ∙ ap (take 8) (drop_at front (new ++ rest) (place * 8) front_length)
+      ap (λ xs. take 8 (drop (block_index * 8) xs)) (append_assoc front new rest)
+      ∙ ap (take 8) (drop_at front (new ++ rest) (block_index * 8) front_length)
       ∙ take_at new rest 8 eight
 
   -- one before it
-  block_before : (q : ℕ) → q < place → take 8 (drop (q * 8) after) ≡ take 8 (drop (q * 8) cells)
+  block_before : (q : ℕ) → q < block_index → take 8 (drop (q * 8) after) ≡ take 8 (drop (q * 8) cells)
   block_before q lt =
       ap (λ xs. take 8 (drop (q * 8) xs)) (append_assoc front new rest)
       ∙ eight_in_front front (new ++ rest) (q * 8) (omega (arith, front_length))
-      ∙ sym (eight_in_front front (drop (place * 8) cells) (q * 8) (omega (arith, front_length)))
-      ∙ ap (λ xs. take 8 (drop (q * 8) xs)) (take-append-drop (place * 8) cells)
+      ∙ sym (eight_in_front front (drop (block_index * 8) cells) (q * 8) (omega (arith, front_length)))
+      ∙ ap (λ xs. take 8 (drop (q * 8) xs)) (take-append-drop (block_index * 8) cells)
 
   -- one after it
-  block_behind : (q : ℕ) → place < q → take 8 (drop (q * 8) after) ≡ take 8 (drop (q * 8) cells)
+  block_behind : (q : ℕ) → block_index < q → take 8 (drop (q * 8) after) ≡ take 8 (drop (q * 8) cells)
   block_behind q lt =
-      let k : ℕ = place * 8 + 8 in
+      let k : ℕ = block_index * 8 + 8 in
       let sum : k + (q * 8 - k) ≡ q * 8 = omega arith in
       ap (λ n. take 8 (drop n after)) (sym sum)
       ∙ ap (take 8) (sym (drop-drop (q * 8 - k) k after) ∙ ap (drop (q * 8 - k)) (drop_at (front ++ new) rest k up_to_block) ∙ drop-drop (q * 8 - k) k cells)
       ∙ ap (λ n. take 8 (drop n cells)) sum
 
-  pub other_block : (q : ℕ) → (q ≡ place → ⊥) → take 8 (drop (q * 8) after) ≡ take 8 (drop (q * 8) cells)
-  other_block q ne = go (nat_lt q place) refl
+  pub other_block : (q : ℕ) → (q ≡ block_index → ⊥) → take 8 (drop (q * 8) after) ≡ take 8 (drop (q * 8) cells)
+  other_block q ne = go (nat_lt q block_index) refl
     where
-      go : (b : Bool) → nat_lt q place ≡ b → take 8 (drop (q * 8) after) ≡ take 8 (drop (q * 8) cells)
+      go : (b : Bool) → nat_lt q block_index ≡ b → take 8 (drop (q * 8) after) ≡ take 8 (drop (q * 8) cells)
       go true y = block_before q (grind (arith, nat_tests, y))
       go false n = block_behind q (grind (arith, nat_tests, n, ne))
 

@@ -17,7 +17,7 @@ use Rattle.mm_word.specs.Word.{IsWord, word_bits, is_pointer}
 use Rattle.mm_word.proofs.Packing.{pointer_of-bits_of, SpellsPointer-bits_of}
 use Rattle.mm_model.specs.Flags.{one_if, number_of_flags, in_mask}
 use Rattle.mm_model.specs.Memory.{zero_cell}
-use Rattle.mm_model.proofs.ImageBytes.Apart.{number_of_flags-below, flag-get}
+use Rattle.mm_model.proofs.Bytes.Apart.{number_of_flags-below, flag-get}
 use Rattle.mm_mem.specs.Packed.{word_of, cell_from, cell_of_block, block_of, IsPackedBlock}
 use Rattle.mm_mem.specs.Unpacked.{words_of, tags_of, fulls_of}
 
@@ -101,47 +101,47 @@ module _ (cells : List Cell) (eight : length cells ≡ 8) (words : HoldWords cel
 
 -- 4. A cell of a block that is written.
 
-module _ (bits : List ℕ) (tags fulls : ℕ) (is : IsPackedBlock bits tags fulls) (place : ℕ) (within : place < 8) (c : Cell) (word : IsWord c.word)
+module _ (bits : List ℕ) (tags fulls : ℕ) (is : IsPackedBlock bits tags fulls) (index : ℕ) (within : index < 8) (c : Cell) (word : IsWord c.word)
     (tags_after fulls_after : ℕ)
-    (tag_own : in_mask tags_after place ≡ is_pointer c.word) (tag_others : (i : ℕ) → i < 8 → i ≢ place → in_mask tags_after i ≡ in_mask tags i)
-    (full_own : in_mask fulls_after place ≡ c.full) (full_others : (i : ℕ) → i < 8 → i ≢ place → in_mask fulls_after i ≡ in_mask fulls i) where
+    (tag_own : in_mask tags_after index ≡ is_pointer c.word) (tag_others : (i : ℕ) → i < 8 → i ≢ index → in_mask tags_after i ≡ in_mask tags i)
+    (full_own : in_mask fulls_after index ≡ c.full) (full_others : (i : ℕ) → i < 8 → i ≢ index → in_mask fulls_after i ≡ in_mask fulls i) where
   abbrev words_after : List ℕ
-  words_after = set bits place (word_bits c.word)
+  words_after = set bits index (word_bits c.word)
 
-  here : get_or words_after place 0 ≡ word_bits c.word
-  here = get_or-set_same bits place (word_bits c.word) 0 (omega (arith, within, is.words))
+  here : get_or words_after index 0 ≡ word_bits c.word
+  here = get_or-set_same bits index (word_bits c.word) 0 (omega (arith, within, is.words))
 
-  there : (i : ℕ) → i ≢ place → get_or words_after i 0 ≡ get_or bits i 0
-  there i ne = get_or-set_other bits place i (word_bits c.word) 0 ne
+  there : (i : ℕ) → i ≢ index → get_or words_after i 0 ≡ get_or bits i 0
+  there i ne = get_or-set_other bits index i (word_bits c.word) 0 ne
 
   abbrev cells : List Cell
   cells = block_of bits tags fulls
 
-  each : (i : ℕ) → i < 8 → get_or (set cells place c) i zero_cell ≡ cell_of_block words_after tags_after fulls_after i
+  each : (i : ℕ) → i < 8 → get_or (set cells index c) i zero_cell ≡ cell_of_block words_after tags_after fulls_after i
   each i lt = ⊎_elim
-      (λ (e : i ≡ place).
-      ap (λ n. get_or (set cells place c) n zero_cell) e
-      ∙ get_or-set_same cells place c zero_cell (omega (arith, within, length-block_of bits tags fulls))
+      (λ (e : i ≡ index).
+      ap (λ n. get_or (set cells index c) n zero_cell) e
+      ∙ get_or-set_same cells index c zero_cell (omega (arith, within, length-block_of bits tags fulls))
       ∙ sym (cell_again _ _ _ c here tag_own full_own word)
       ∙ ap (cell_of_block words_after tags_after fulls_after) (sym e))
-      (λ (ne : i ≡ place → ⊥).
-      get_or-set_other cells place i c zero_cell ne
+      (λ (ne : i ≡ index → ⊥).
+      get_or-set_other cells index i c zero_cell ne
       ∙ get_or-block_of bits tags fulls i zero_cell lt
       ∙ sym (same_cell _ _ tags_after tags fulls_after fulls i i (there i ne) (tag_others i lt ne) (full_others i lt ne)))
-      (cases_eq i place)
+      (cases_eq i index)
 
-  pub cell_set : block_of words_after tags_after fulls_after ≡ set cells place c
-  cell_set = sym (block_is words_after tags_after fulls_after (set cells place c) (length-set cells place c ∙ length-block_of bits tags fulls) each)
+  pub cell_set : block_of words_after tags_after fulls_after ≡ set cells index c
+  cell_set = sym (block_is words_after tags_after fulls_after (set cells index c) (length-set cells index c ∙ length-block_of bits tags fulls) each)
 
   pub set_is : tags_after < 256 → fulls_after < 256 → IsPackedBlock words_after tags_after fulls_after
   set_is small_tags small_fulls = record {
-    words = length-set bits place (word_bits c.word) ∙ is.words;
+    words = length-set bits index (word_bits c.word) ∙ is.words;
     tag_byte = small_tags;
     full_byte = small_fulls;
     pointers = λ i lt tagged. ⊎_elim
-        (λ (e : i ≡ place). subst SpellsPointer (sym here ∙ ap (λ n. get_or words_after n 0) (sym e)) (tagged_spells c.word word (sym tag_own ∙ ap (in_mask tags_after) (sym e) ∙ tagged)))
-        (λ (ne : i ≡ place → ⊥). subst SpellsPointer (sym (there i ne)) (is.pointers i lt (sym (tag_others i lt ne) ∙ tagged)))
-        (cases_eq i place);
+        (λ (e : i ≡ index). subst SpellsPointer (sym here ∙ ap (λ n. get_or words_after n 0) (sym e)) (tagged_spells c.word word (sym tag_own ∙ ap (in_mask tags_after) (sym e) ∙ tagged)))
+        (λ (ne : i ≡ index → ⊥). subst SpellsPointer (sym (there i ne)) (is.pointers i lt (sym (tag_others i lt ne) ∙ tagged)))
+        (cases_eq i index);
   }
 
 -- 5. One step of a loop over a block.

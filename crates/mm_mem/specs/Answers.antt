@@ -5,7 +5,7 @@ use Rattle.mm_word.specs.declared.word.Cell.{Cell}
 use Rattle.mm_word.specs.declared.word.Pre.{Pre}
 use Rattle.mm_word.specs.declared.word.Pre.TheVariants.{Any}
 use Rattle.mm_word.specs.declared.word.Post.{Post}
-use Rattle.mm_word.specs.Access.{Touch}
+use Rattle.mm_word.specs.Access.{AccessValue}
 use Rattle.mm_mem.specs.declared.answer.Loaded.{Loaded}
 use Rattle.mm_mem.specs.declared.answer.Loaded.TheVariants as loads
 use Rattle.mm_mem.specs.declared.answer.Stored.{Stored}
@@ -61,10 +61,10 @@ after_unmap m p = if is_mapped m p then unmap_page m p else m
 
 -- 3. The uses that the calls add.
 
-abbrev pub access_uses : Memory → Touch → Pre → List Use
+abbrev pub access_uses : Memory → AccessValue → Pre → List Use
 access_uses m a pre = use_at a.kind a.addr pre (cell_at m a.addr) ∷ []
 
-abbrev pub fetch_uses : Memory → Touch → List Use
+abbrev pub fetch_uses : Memory → AccessValue → List Use
 fetch_uses m a = access_uses m a Any
 
 abbrev pub unmap_uses : Memory → ℕ → List Use

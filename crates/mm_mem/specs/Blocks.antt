@@ -12,11 +12,11 @@ place_of_block block = block % 64
 
 -- the cells of the block at this index
 abbrev pub block_in : List Cell → ℕ → List Cell
-block_in cells place = take 8 (drop (place * 8) cells)
+block_in cells block_index = take 8 (drop (block_index * 8) cells)
 
 -- the cells with these in the block at this index
 abbrev pub with_block : List Cell → ℕ → List Cell → List Cell
-with_block cells place new = take (place * 8) cells ++ new ++ drop (place * 8 + 8) cells
+with_block cells block_index new = take (block_index * 8) cells ++ new ++ drop (block_index * 8 + 8) cells
 
 abbrev pub block_of_page : Option (List Cell) → ℕ → Option (List Cell)
 block_of_page None block = None

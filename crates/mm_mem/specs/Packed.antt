@@ -18,8 +18,8 @@ abbrev pub cell_from : (bits tags fulls i : ℕ) → Cell
 cell_from bits tags fulls i = record { word = word_of bits (in_mask tags i); full = in_mask fulls i }
 
 -- the cell at a place of a block
-abbrev pub cell_of_block : (bits : List ℕ) (tags fulls place : ℕ) → Cell
-cell_of_block bits tags fulls place = cell_from (slice_index bits place) tags fulls place
+abbrev pub cell_of_block : (bits : List ℕ) (tags fulls index : ℕ) → Cell
+cell_of_block bits tags fulls index = cell_from (slice_index bits index) tags fulls index
 
 -- the eight cells of a block
 unfoldable pub block_of : (bits : List ℕ) (tags fulls : ℕ) → List Cell
@@ -30,4 +30,4 @@ pub record IsPackedBlock (bits : List ℕ) (tags fulls : ℕ) : Type 0 where
   pub words : length bits ≡ 8
   pub tag_byte : tags < 256
   pub full_byte : fulls < 256
-  pub pointers : (place : ℕ) → place < 8 → in_mask tags place ≡ true → SpellsPointer (slice_index bits place)
+  pub pointers : (index : ℕ) → index < 8 → in_mask tags index ≡ true → SpellsPointer (slice_index bits index)

@@ -9,8 +9,8 @@ use Rattle.mm_word.specs.Pointer.{SpellsPointer}
 use Rattle.mm_word.specs.PointerBits.{bits_of-pointer_of}
 use Rattle.mm_word.specs.Word.{word_bits, is_pointer}
 use Rattle.mm_model.specs.Flags.{number_of_flags, in_mask}
-use Rattle.mm_model.proofs.ImageBytes.Bitmaps.{number_of_bits}
-use Rattle.mm_model.proofs.ImageBytes.Ranges.{map-map, map-same}
+use Rattle.mm_model.proofs.Bytes.Bitmaps.{number_of_bits}
+use Rattle.mm_model.proofs.Bytes.Ranges.{map-map, map-same}
 use Rattle.mm_mem.specs.declared.block.Block.TheInside.{Inside}
 use Rattle.mm_mem.specs.Packed.{word_of, cell_of_block, block_of, IsPackedBlock}
 

@@ -57,31 +57,31 @@ impl Block {
         ensures { result ≡ self.now }
     {
         let mut cells = [Cell::ZERO; BLOCK];
-        for place in 0..BLOCK {
-            cells[place] = self.cell(place);
+        for index in 0..BLOCK {
+            cells[index] = self.cell(index);
         }
         cells
     }
 
     /// The cell at a place, 0 to 7.
-    pub fn cell(&self, place: usize) -> Cell
-        requires { place < 8 }
-        ensures cell { slice_get self.now place ≡ Some result }
+    pub fn cell(&self, index: usize) -> Cell
+        requires { index < 8 }
+        ensures cell { slice_get self.now index ≡ Some result }
         ensures whole { length self.now ≡ 8 }
     {
         Cell {
-            word: word_of(self.bits[place], is_set(self.tags, place)),
-            full: is_set(self.fulls, place),
+            word: word_of(self.bits[index], is_set(self.tags, index)),
+            full: is_set(self.fulls, index),
         }
     }
 
     /// Writes the cell at a place, 0 to 7.
-    pub fn set(&mut self, place: usize, cell: Cell)
-        requires { place < 8 }
-        ensures { self.new ≡ slice_set self.old place cell }
+    pub fn set(&mut self, index: usize, cell: Cell)
+        requires { index < 8 }
+        ensures { self.new ≡ slice_set self.old index cell }
     {
-        self.bits[place] = cell.word.bits();
-        self.tags = with_bit(self.tags, place, cell.word.is_pointer());
-        self.fulls = with_bit(self.fulls, place, cell.full);
+        self.bits[index] = cell.word.bits();
+        self.tags = with_bit(self.tags, index, cell.word.is_pointer());
+        self.fulls = with_bit(self.fulls, index, cell.full);
     }
 }

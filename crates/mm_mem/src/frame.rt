@@ -44,19 +44,19 @@ impl Frame {
     }
 
     /// The cell at a place of the page.
-    pub(crate) fn cell(&self, place: usize) -> Cell
-        requires { place < 512 }
-        ensures { slice_get self.now.1 place ≡ Some result }
+    pub(crate) fn cell(&self, cell_index: usize) -> Cell
+        requires { cell_index < 512 }
+        ensures { slice_get self.now.1 cell_index ≡ Some result }
     {
-        self.cells[place]
+        self.cells[cell_index]
     }
 
     /// Writes the cell at a place of the page.
-    pub(crate) fn put(&mut self, place: usize, cell: Cell)
-        requires { place < 512 }
-        ensures { self.new ≡ (self.old.0, slice_set self.old.1 place cell) }
+    pub(crate) fn put(&mut self, cell_index: usize, cell: Cell)
+        requires { cell_index < 512 }
+        ensures { self.new ≡ (self.old.0, slice_set self.old.1 cell_index cell) }
     {
-        self.cells[place] = cell;
+        self.cells[cell_index] = cell;
     }
 
     /// Makes the frame a page of zeros.

@@ -12,23 +12,23 @@ ghost use Rattle.mm_model.specs.Flags.{in_mask};
 use mm_word::{Cell, GuardedPtr, Word};
 
 /// Whether the bit at a place of a byte is set; the lowest is at place 0.
-pub(crate) fn is_set(byte: u8, place: usize) -> bool
-    requires { place < 8 }
-    ensures { result ≡ in_mask byte place }
+pub(crate) fn is_set(byte: u8, index: usize) -> bool
+    requires { index < 8 }
+    ensures { result ≡ in_mask byte index }
 {
-    byte >> place & 1 == 1
+    byte >> index & 1 == 1
 }
 
 /// The byte with this bit at a place, the lowest at place 0. The other bits stay.
-pub(crate) fn with_bit(byte: u8, place: usize, bit: bool) -> u8
-    requires { place < 8 }
-    ensures own { in_mask result place ≡ bit }
-    ensures others { (i : ℕ) → i < 8 → i ≢ place → in_mask result i ≡ in_mask byte i }
+pub(crate) fn with_bit(byte: u8, index: usize, bit: bool) -> u8
+    requires { index < 8 }
+    ensures own { in_mask result index ≡ bit }
+    ensures others { (i : ℕ) → i < 8 → i ≢ index → in_mask result i ≡ in_mask byte i }
 {
     if bit {
-        byte | 1 << place
+        byte | 1 << index
     } else {
-        byte & !(1 << place)
+        byte & !(1 << index)
     }
 }
 

@@ -22,7 +22,7 @@ use Rattle.mm_model.specs.Fits.{slots_of, waits_for, IsSlot, IsFormed, IsState, 
 use Rattle.mm_model.specs.Turn.{Turned, is_sync, is_handler, stood, event_of, core_faulted, tick_faulted, faulted, started, idle, turn}
 use Rattle.mm_model.specs.Run.{turn_of, state_of, after}
 use Rattle.mm_model.specs.Tests.{Stop, first_stop}
-use Rattle.mm_model.specs.Tests.Stop.{Fails, Lacks, Awaits}
+use Rattle.mm_model.specs.Tests.Stop.{Fault, Deliver, Block}
 use Rattle.mm_model.specs.Outcomes.{Runs, IsPort, IsIdle, Delivers, StopsAt, Waits, Blocks, Faults, Completes, state_faulted, FaultChanges}
 use Rattle.mm_model.proofs.CoreRows.{each_map, slot_at-number, slot_at-put_same, slot_at-put_other, queue_at-put_slot, slot_at-put_queue, queue_at-put_same, queue_at-put_other, slot_has, other_at}
 use Rattle.mm_model.proofs.CoreSteps.{Fitting}
@@ -99,7 +99,7 @@ none_idle core n h none = record { no_slot = none.no_slot; no_port = by (slot_at
 data RunTick (core : Core) (m : Memory) (s : Slot) (tick : Tick) : Type 0 where
   completes : first_stop core m s ≡ None → tick ≡ Did → RunTick core m s tick
   strays : Orphan core s.number → first_stop core m s ≡ None → tick ≡ Blocked → RunTick core m s tick
-  faults : (c : Cause) → first_stop core m s ≡ Some (Fails c) → (c ≡ cause.Sync → s.handler ≢ None) → tick ≡ Faulted c → RunTick core m s tick
+  faults : (c : Cause) → first_stop core m s ≡ Some (Fault c) → (c ≡ cause.Sync → s.handler ≢ None) → tick ≡ Faulted c → RunTick core m s tick
   waits : Waits core m s → tick ≡ Blocked → RunTick core m s tick
 
 is_sync-says : (c : Cause) → is_sync c ≡ true → c ≡ cause.Sync
@@ -107,12 +107,12 @@ is_sync-says cause.Sync h = refl
 is_sync-says _ h = cc
 
 module _ (core : Core) (m : Memory) where
-  faulted_tick : (s : Slot) (c : Cause) (t : Turned) → first_stop core m s ≡ Some (Fails c) → FaultedTurn core m s c t → RunTick core m s t.step.tick
+  faulted_tick : (s : Slot) (c : Cause) (t : Turned) → first_stop core m s ≡ Some (Fault c) → FaultedTurn core m s c t → RunTick core m s t.step.tick
   unfolding faulted
   faulted_tick s c t stop f = by s.handler refl (ap (λ (x : Turned). x.step.tick) f.is)
     where
       alone : (b : Bool) → is_sync c ≡ b → s.handler ≡ None → t.step.tick ≡ (if b then Blocked else Faulted c) → RunTick core m s t.step.tick
-      alone true sync none is = let same = is_sync-says c sync in RunTick.waits (Waits.for_bit (stop ∙ ap (λ x. Some (Fails x)) same) none) is
+      alone true sync none is = let same = is_sync-says c sync in RunTick.waits (Waits.for_bit (stop ∙ ap (λ x. Some (Fault x)) same) none) is
       alone false other none is = RunTick.faults c stop (λ same. cc (ap is_sync same, other)) is
 
       by : (o : Option ℕ) → s.handler ≡ o → t.step.tick ≡ tick_faulted c o → RunTick core m s t.step.tick
@@ -122,17 +122,17 @@ module _ (core : Core) (m : Memory) where
   run_tick : (s : Slot) (t : Turned) (o : Option Stop) → first_stop core m s ≡ o → Stands core m s o t → RunTick core m s t.step.tick
   run_tick s t None stop (inl is) = RunTick.completes stop is
   run_tick s t None stop (inr k) = RunTick.strays k.0 stop k.1
-  run_tick s t (Some (Fails c)) stop k = faulted_tick s c t stop k
-  run_tick s t (Some (Lacks of)) stop is = RunTick.waits (Waits.for_load of stop) is
-  run_tick s t (Some Awaits) stop is = RunTick.waits (Waits.for_event stop) is
+  run_tick s t (Some (Fault c)) stop k = faulted_tick s c t stop k
+  run_tick s t (Some (Deliver of)) stop is = RunTick.waits (Waits.for_load of stop) is
+  run_tick s t (Some Block) stop is = RunTick.waits (Waits.for_event stop) is
 
 -- why a turn waits is why it stops
 waits_stop : (core : Core) (m : Memory) (s : Slot) → Waits core m s → (x : Stop) × (first_stop core m s ≡ Some x)
-waits_stop core m s (Waits.for_load of is) = (Lacks of, is)
-waits_stop core m s (Waits.for_bit is none) = (Fails cause.Sync, is)
-waits_stop core m s (Waits.for_event is) = (Awaits, is)
+waits_stop core m s (Waits.for_load of is) = (Deliver of, is)
+waits_stop core m s (Waits.for_bit is none) = (Fault cause.Sync, is)
+waits_stop core m s (Waits.for_event is) = (Block, is)
 
-waits_faults_not : (core : Core) (m : Memory) (s : Slot) (c : Cause) → Waits core m s → first_stop core m s ≡ Some (Fails c) → (c ≡ cause.Sync → s.handler ≢ None) → ⊥
+waits_faults_not : (core : Core) (m : Memory) (s : Slot) (c : Cause) → Waits core m s → first_stop core m s ≡ Some (Fault c) → (c ≡ cause.Sync → s.handler ≢ None) → ⊥
 waits_faults_not core m s c (Waits.for_load of is) stop handled = cc
 waits_faults_not core m s c (Waits.for_bit is none) stop handled = handled (cc) none
 waits_faults_not core m s c (Waits.for_event is) stop handled = cc
@@ -169,7 +169,7 @@ module _ (core : Core) (m : Memory) (n : ℕ) where
       to is (Ending.delivers s p free port tick) = cc
       to is (Ending.idles none tick) = cc
 
-      back : (s : Slot) → first_stop core m s ≡ Some (Fails c) → (c ≡ cause.Sync → s.handler ≢ None) → RunTick core m s outcome → outcome ≡ Faulted c
+      back : (s : Slot) → first_stop core m s ≡ Some (Fault c) → (c ≡ cause.Sync → s.handler ≢ None) → RunTick core m s outcome → outcome ≡ Faulted c
       back s is handled (RunTick.completes stop tick) = cc
       back s is handled (RunTick.strays o stop tick) = cc
       back s is handled (RunTick.faults d stop also tick) = cc

@@ -15,7 +15,7 @@ use Rattle.mm_model.specs.Groups.{has_group}
 use Rattle.mm_model.specs.Spelling.{IsOther}
 use Rattle.mm_model.specs.Turn.{is_handler, is_taken}
 use Rattle.mm_model.specs.Fits.{is_waiting, waits_for, events_of, slots_of, identity_of, IsSlot, IsFormed, LoadsMatch}
-use Rattle.mm_model.specs.Fits.{WaitsForSome, Matches, IsAtSlot, EventsAreAtSlots, LoadsAreKept, TakenBySome, IsKept}
+use Rattle.mm_model.specs.Fits.{WaitsForSome, Matches, IsAtSlot, EventsAreAtSlots, LoadsAreConsistent, TakenBySome, IsConsistent}
 use Rattle.mm_model.specs.Fits.{HandlersAreOthers}
 use Rattle.mm_model.proofs.CoreRows.{each_map, each_both, each_push, each_set, slot_at-number, slot_at-put_same}
 use Rattle.mm_model.proofs.CoreRows.{slot_at-put_other, queue_at-put_slot, AfterPut, put_slot-cases, slot_at-put_queue}
@@ -119,7 +119,7 @@ pub record Keeps (core after : Core) : Type 0 where
   pub split : after.split ≡ core.split
   pub formed : IsFormed after
   pub fitting : Fitting core → Fitting after
-  pub kept : Fitting core → IsKept core → IsKept after
+  pub kept : Fitting core → IsConsistent core → IsConsistent after
 
 pub keeps_self : (core : Core) → IsFormed core → Keeps core core
 keeps_self core h = record { identities = refl; version = refl; split = refl; formed = h; fitting = λ fit. fit; kept = λ fit kept. kept }
@@ -193,14 +193,14 @@ module _ (core after : Core) (new : Slot) (h : IsFormed core) (ids : identities_
     }
 
     -- where it is taken by a handler, and its events are at their slots
-    replaced_kept : Fitting core → IsKept core → TakenBySome new → EventsAreAtSlots after → IsKept after
+    replaced_kept : Fitting core → IsConsistent core → TakenBySome new → EventsAreAtSlots after → IsConsistent after
     unfolding output_of
     replaced_kept fit kept taken in_place = record {
       in_place = in_place;
-      loads = subst (λ (b : Bool). AllByRecursion (LoadsAreKept b) (slots_of after)) (sym split)
-          (each_put (LoadsAreKept core.split)
+      loads = subst (λ (b : Bool). AllByRecursion (LoadsAreConsistent b) (slots_of after)) (sym split)
+          (each_put (LoadsAreConsistent core.split)
           (r.goes_on.kept (slot_has LoadsMatch core new.number r.old fit.matched.loads r.stands)
-          (slot_has (LoadsAreKept core.split) core new.number r.old kept.loads r.stands)) kept.loads);
+          (slot_has (LoadsAreConsistent core.split) core new.number r.old kept.loads r.stands)) kept.loads);
       taken = each_put TakenBySome taken kept.taken;
       within = subst (λ v. AllByRecursion (λ (bytes : List ℕ). length bytes ≤ output_limit v) after.outputs)
           (sym version) (subst (AllByRecursion (λ (bytes : List ℕ). length bytes ≤ output_limit core.version))

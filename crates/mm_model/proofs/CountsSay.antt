@@ -4,7 +4,7 @@ use Rattle.std.proofs.lemmas.Bool.{cases_eq, or_cases, and_parts}
 use Rattle.std.proofs.lemmas.Bool.Decides.{nat_tests}
 use Rattle.mm_word.specs.declared.perm.Kind.{Kind}
 use Rattle.mm_model.specs.Uses.{Use, Accessed, Removed}
-use Rattle.mm_model.specs.Counted.{latest, written, writes, kept, is_block, is_hit, block_of, line_of, page_of_block}
+use Rattle.mm_model.specs.Counted.{latest, written, writes, outside_page, is_block, is_hit, block_of, line_of, page_of_block}
 use Rattle.mm_model.specs.CountFacts.{NoneWithLine, NotRemoved, LatestWas, WroteSinceMiss}
 
 later_access : {line block : ℕ} {us : List Use} (kind : Kind) (addr : ℕ) (done : Bool) → line_of (block_of addr) ≢ line
@@ -50,7 +50,7 @@ later_removed page other was = record {
   stays = (other, was.stays);
 }
 
-kept_is : (page block : ℕ) (o : Option ℕ) → kept page o ≡ Some block → (o ≡ Some block) × (page_of_block block ≢ page)
+kept_is : (page block : ℕ) (o : Option ℕ) → outside_page page o ≡ Some block → (o ≡ Some block) × (page_of_block block ≢ page)
 kept_is page block None is = cc
 kept_is page block (Some b) is = by (page_of_block b == page) refl is
   where
@@ -105,7 +105,7 @@ latest_after line kind addr done earlier (Accessed k a false d ∷ later) same n
 latest_after line kind addr done earlier (Removed p ∷ later) same none stays =
     let first : page_of_block (block_of addr) ≢ p = stays.0 in
     let test : (page_of_block (block_of addr) == p) ≡ false = grind (arith, nat_tests, first) in
-    ap (λ (o : Option ℕ). kept p o) (latest_after line kind addr done earlier later same none stays.1)
+    ap (λ (o : Option ℕ). outside_page p o) (latest_after line kind addr done earlier later same none stays.1)
     ∙ ap (λ (t : Bool). if t then None else Some (block_of addr)) test
 
 pub says_latest : (line block : ℕ) (us : List Use) → LatestWas line block us → latest line us ≡ Some block

@@ -16,7 +16,7 @@ use Rattle.mm_word.specs.declared.word.Post.{Post}
 use Rattle.mm_word.specs.declared.word.Word.{Word}
 use Rattle.mm_word.specs.declared.word.Word.TheVariants.{Int, Ptr}
 use Rattle.mm_word.specs.declared.word.Cell.{Cell}
-use Rattle.mm_word.specs.Access.{Touch, check_result}
+use Rattle.mm_word.specs.Access.{AccessValue, check_result}
 use Rattle.mm_word.specs.Perm.{can_fetch, can_move, execute_form}
 use Rattle.mm_word.specs.Pointer.{Pointer, in_segment, moved_to, lea_result, leab_result, restrict_result, subseg_result, setptr_result, next_result, enter_result}
 use Rattle.mm_word.specs.Word.{word_bits, is_pointer}
@@ -45,7 +45,7 @@ use Rattle.mm_model.specs.Effect.{sets_pointer, sets_number, if_pointer, test, s
 use Rattle.mm_model.specs.Effect.{loaded, stored, at_distance, branches, jumps, links, takes, resumed_by, resumes}
 use Rattle.mm_model.specs.Effect.{delivered, reads_of, writes_of, maps, unmaps}
 use Rattle.mm_model.specs.Effect.Reply.{Fine, Refused, Got, Paged, Took, Served}
-use Rattle.mm_model.specs.Effect.Effect.{Fault, Block, Deliver, Does}
+use Rattle.mm_model.specs.Effect.Effect.{Fault, Block, Deliver, Do}
 use Rattle.mm_model.specs.Turn.{reply, reached, event_reply, first_event, served, is_running, is_taken, is_handler}
 use Rattle.mm_model.specs.Fits.{is_waiting, identity_of, IsSlot, IsFormed}
 use Rattle.mm_model.proofs.CoreRows.{slot_at-number, slot_has}
@@ -100,7 +100,7 @@ abbrev pub EffectKeeps : Core → Slot → Effect → Type 0
 EffectKeeps core s (Fault c) = Unit {0}
 EffectKeeps core s Block = Unit {0}
 EffectKeeps core s (Deliver o) = OtherKeeps core s.number o
-EffectKeeps core s (Does c) = ChangeKeeps core s c
+EffectKeeps core s (Do c) = ChangeKeeps core s c
 
 -- 2. Pointers that go on to be executable.
 
@@ -174,7 +174,7 @@ module _ (core : Core) (h : IsFormed core) (s : Slot) (at : slot_at core s.numbe
   own_advances : can_fetch (advanced s.ip).perm ≡ true
   own_advances = ap can_fetch (advanced_perm s.ip) ∙ own.executable
 
-  plain_keeps : EffectKeeps core s (Does (plain s))
+  plain_keeps : EffectKeeps core s (Do (plain s))
   unfolding plain
   plain_keeps = record { runs = own_advances; writes = tt; issue = tt; moves = Moves.keeps_all refl refl; room = tt }
 
@@ -198,7 +198,7 @@ module _ (core : Core) (h : IsFormed core) (s : Slot) (at : slot_at core s.numbe
   if_keeps true x y p q = p
   if_keeps false x y p q = q
 
-  halts_keeps : EffectKeeps core s (Does (record (plain s) { next = s.ip; past = s.past; halts = true }))
+  halts_keeps : EffectKeeps core s (Do (record (plain s) { next = s.ip; past = s.past; halts = true }))
   unfolding plain
   halts_keeps = record { runs = own.executable; writes = tt; issue = tt; moves = Moves.keeps_all refl refl; room = tt }
 
@@ -213,12 +213,12 @@ module _ (core : Core) (h : IsFormed core) (s : Slot) (at : slot_at core s.numbe
   }
   out_keeps byte false room = tt
 
-  got_keeps : (rd : ℕ) (post : Post) (a : Touch) (c : Cell) (b : Bool) → core.split ≡ b → Free rd → rd < 16 → EffectKeeps core s (loaded b s rd post (Got a c))
+  got_keeps : (rd : ℕ) (post : Post) (a : AccessValue) (c : Cell) (b : Bool) → core.split ≡ b → Free rd → rd < 16 → EffectKeeps core s (loaded b s rd post (Got a c))
   unfolding plain
   got_keeps rd post a c false mode free small = record { runs = own_advances; writes = (free, tt); issue = tt; moves = Moves.keeps_all refl refl; room = tt }
   got_keeps rd post a c true mode free small = record { runs = own_advances; writes = (free, tt); issue = (mode, small, refl); moves = Moves.keeps_all refl refl; room = tt }
 
-  load_keeps : (rd : ℕ) (post : Post) (pre : Pre) (m : Memory) (r : Result Touch Cause) → Free rd → rd < 16 → EffectKeeps core s (loaded core.split s rd post (reply core m s.number (reaching r pre)))
+  load_keeps : (rd : ℕ) (post : Post) (pre : Pre) (m : Memory) (r : Result AccessValue Cause) → Free rd → rd < 16 → EffectKeeps core s (loaded core.split s rd post (reply core m s.number (reaching r pre)))
   unfolding reply
   load_keeps rd post pre m (Err c) free small = tt
   load_keeps rd post pre m (Ok a) free small = by (cell_at m a.addr)
@@ -231,7 +231,7 @@ module _ (core : Core) (h : IsFormed core) (s : Slot) (at : slot_at core s.numbe
       by None = tt
       by (Some c) = passed c (passes pre c.full)
 
-  store_keeps : (w : Word) (post : Post) (pre : Pre) (m : Memory) (r : Result Touch Cause) → EffectKeeps core s (stored s w post (reply core m s.number (reaching r pre)))
+  store_keeps : (w : Word) (post : Post) (pre : Pre) (m : Memory) (r : Result AccessValue Cause) → EffectKeeps core s (stored s w post (reply core m s.number (reaching r pre)))
   unfolding reply plain
   store_keeps w post pre m (Err c) = tt
   store_keeps w post pre m (Ok a) = by (cell_at m a.addr)
@@ -378,7 +378,7 @@ module _ (core : Core) (h : IsFormed core) (s : Slot) (at : slot_at core s.numbe
       free false e on = cc
 
       by : (b : Bool) → (core.split && is_empty of reg) ≡ b → EffectKeeps core s
-          (if b then Deliver (delivered of) else Does
+          (if b then Deliver (delivered of) else Do
           (record (plain s) { other = Some (record of { regs = slice_set of.regs reg w }) }))
       by true e = delivered_keeps k of served
       by false e =
@@ -453,8 +453,8 @@ module _ (core : Core) (h : IsFormed core) (s : Slot) (at : slot_at core s.numbe
   effect_keeps m (Ld rd ra pre post imm) free small = load_keeps rd post pre m (check_result (register s ra) imm (load_kind post)) free.0 small.0
   effect_keeps m (St ra rb pre post imm) free small = store_keeps (register s rb) post pre m (check_result (register s ra) imm Store)
   effect_keeps m (Br imm) free small = branch_keeps imm
-  effect_keeps m (Bz ra imm) free small = if_keeps (word_bits (register s ra) == 0) (branches s (at_distance s imm)) (Does (plain s)) (branch_keeps imm) plain_keeps
-  effect_keeps m (Bnz ra imm) free small = if_keeps (word_bits (register s ra) == 0) (Does (plain s)) (branches s (at_distance s imm)) plain_keeps (branch_keeps imm)
+  effect_keeps m (Bz ra imm) free small = if_keeps (word_bits (register s ra) == 0) (branches s (at_distance s imm)) (Do (plain s)) (branch_keeps imm) plain_keeps
+  effect_keeps m (Bnz ra imm) free small = if_keeps (word_bits (register s ra) == 0) (Do (plain s)) (branches s (at_distance s imm)) plain_keeps (branch_keeps imm)
   effect_keeps m (Jmp ra) free small = if_pointer_keeps (register s ra) (λ p. jumps s p (enter_result p)) (λ p. jump_keeps p (enter_result p) refl)
   effect_keeps m (Jal rd ra) free small = if_pointer_keeps (register s ra)
       (λ p. links s rd p (enter_result p) (next_result s.ip)) (λ p. link_keeps rd p (enter_result p) (next_result s.ip)

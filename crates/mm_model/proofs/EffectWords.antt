@@ -18,7 +18,7 @@ use Rattle.mm_word.specs.declared.word.Post.TheVariants as posts
 use Rattle.mm_word.specs.declared.word.Word.{Word}
 use Rattle.mm_word.specs.declared.word.Word.TheVariants.{Int, Ptr}
 use Rattle.mm_word.specs.declared.word.Cell.{Cell}
-use Rattle.mm_word.specs.Access.{Touch, check_result}
+use Rattle.mm_word.specs.Access.{AccessValue, check_result}
 use Rattle.mm_word.specs.Cause.{number_of}
 use Rattle.mm_word.specs.Perm.{can_fetch, can_move}
 use Rattle.mm_word.specs.Pointer.{Pointer, IsWellFormed, moved_to, lea_result, leab_result, restrict_result, subseg_result, setptr_result, next_result, enter_result}
@@ -57,7 +57,7 @@ use Rattle.mm_model.specs.Effect.{stored, at_distance, branches, jumps, links, t
 use Rattle.mm_model.specs.Effect.{delivered, reads_of, writes_of, maps, unmaps}
 use Rattle.mm_model.specs.Effect.Reply.{Fine, Refused, Got, Paged, Took, Served}
 use Rattle.mm_model.specs.Effect.Pages.{Keep, Add, Remove}
-use Rattle.mm_model.specs.Effect.Effect.{Fault, Block, Deliver, Does}
+use Rattle.mm_model.specs.Effect.Effect.{Fault, Block, Deliver, Do}
 use Rattle.mm_model.specs.Turn.{reply, reached, event_reply, first_event, served, is_taken, is_handler}
 use Rattle.mm_model.specs.Fits.{IsSlot, IsFormed, SlotHoldsWords, EventHoldsWords, RowHoldsWords}
 use Rattle.mm_model.proofs.CoreRows.{each_set, slot_at-number, slot_has}
@@ -99,7 +99,7 @@ abbrev pub EffectWords : Memory → Effect → Type 0
 EffectWords m (Fault c) = Unit {0}
 EffectWords m Block = Unit {0}
 EffectWords m (Deliver o) = SlotHoldsWords o
-EffectWords m (Does c) = ChangeWords m c
+EffectWords m (Do c) = ChangeWords m c
 
 -- 2. Words of slots, queues and cells.
 
@@ -259,7 +259,7 @@ module _ (core : Core) (h : IsFormed core) (rows : AllByRecursion RowHoldsWords 
   advances : IsWellFormed (advanced s.ip)
   advances = advanced_fits s.ip own_words.ip
 
-  plain_words : EffectWords m (Does (plain s))
+  plain_words : EffectWords m (Do (plain s))
   unfolding plain
   plain_words = record { next = advances; writes = tt; issue = tt; cell = tt; pages = tt; queue = tt; other = tt }
 
@@ -293,12 +293,12 @@ module _ (core : Core) (h : IsFormed core) (rows : AllByRecursion RowHoldsWords 
   set_words posts.Full w c fits = fits
   set_words posts.Empty w c fits = fits
 
-  got_words : (split : Bool) (rd : ℕ) (post : Post) (a : Touch) (c : Cell) → IsWord c.word → EffectWords m (loaded split s rd post (Got a c))
+  got_words : (split : Bool) (rd : ℕ) (post : Post) (a : AccessValue) (c : Cell) → IsWord c.word → EffectWords m (loaded split s rd post (Got a c))
   unfolding plain
   got_words false rd post a c fits = record { next = advances; writes = (fits, tt); issue = tt; cell = set_words post a.addr c fits; pages = tt; queue = tt; other = tt }
   got_words true rd post a c fits = record { next = advances; writes = (zero_fits, tt); issue = fits; cell = set_words post a.addr c fits; pages = tt; queue = tt; other = tt }
 
-  load_words : (split : Bool) (rd : ℕ) (post : Post) (pre : Pre) (r : Result Touch Cause) → EffectWords m (loaded split s rd post (reply core m s.number (reaching r pre)))
+  load_words : (split : Bool) (rd : ℕ) (post : Post) (pre : Pre) (r : Result AccessValue Cause) → EffectWords m (loaded split s rd post (reply core m s.number (reaching r pre)))
   unfolding reply
   load_words split rd post pre (Err c) = tt
   load_words split rd post pre (Ok a) = by (cell_at m a.addr) refl
@@ -311,7 +311,7 @@ module _ (core : Core) (h : IsFormed core) (rows : AllByRecursion RowHoldsWords 
       by None is = tt
       by (Some c) is = passed c (passes pre c.full) (cell_words m a.addr c cells is)
 
-  store_words : (w : Word) (post : Post) (pre : Pre) (r : Result Touch Cause) → IsWord w → EffectWords m (stored s w post (reply core m s.number (reaching r pre)))
+  store_words : (w : Word) (post : Post) (pre : Pre) (r : Result AccessValue Cause) → IsWord w → EffectWords m (stored s w post (reply core m s.number (reaching r pre)))
   unfolding reply plain
   store_words w post pre (Err c) fits = tt
   store_words w post pre (Ok a) fits = by (cell_at m a.addr)
@@ -414,7 +414,7 @@ module _ (core : Core) (h : IsFormed core) (rows : AllByRecursion RowHoldsWords 
   write_words : (split : Bool) (reg : ℕ) (w : Word) (of : Slot) → IsWord w → SlotHoldsWords of → EffectWords m (writes_of split s reg w (Served of))
   unfolding plain
   write_words split reg w of fits k =
-      if_words (split && is_empty of reg) (Deliver (delivered of)) (Does (record (plain s) { other = Some (record of { regs = slice_set of.regs reg w }) })) (delivered_words of k)
+      if_words (split && is_empty of reg) (Deliver (delivered of)) (Do (record (plain s) { other = Some (record of { regs = slice_set of.regs reg w }) })) (delivered_words of k)
       (record {
         next = advances;
         writes = tt;
@@ -450,7 +450,7 @@ module _ (core : Core) (h : IsFormed core) (rows : AllByRecursion RowHoldsWords 
   unmap_words rd page true false = tt
   unmap_words rd page false c = tt
 
-  halt_words : EffectWords m (Does (record (plain s) { next = s.ip; past = s.past; halts = true }))
+  halt_words : EffectWords m (Do (record (plain s) { next = s.ip; past = s.past; halts = true }))
   unfolding plain
   halt_words = record { next = own_words.ip; writes = tt; issue = tt; cell = tt; pages = tt; queue = tt; other = tt }
 
@@ -496,8 +496,8 @@ module _ (core : Core) (h : IsFormed core) (rows : AllByRecursion RowHoldsWords 
   effect_words (Ld rd ra pre post imm) instr = load_words core.split rd post pre (check_result (register s ra) imm (load_kind post))
   effect_words (St ra rb pre post imm) instr = store_words (register s rb) post pre (check_result (register s ra) imm Store) (reg rb)
   effect_words (Br imm) instr = branch_words imm
-  effect_words (Bz ra imm) instr = if_words (word_bits (register s ra) == 0) (branches s (at_distance s imm)) (Does (plain s)) (branch_words imm) plain_words
-  effect_words (Bnz ra imm) instr = if_words (word_bits (register s ra) == 0) (Does (plain s)) (branches s (at_distance s imm)) plain_words (branch_words imm)
+  effect_words (Bz ra imm) instr = if_words (word_bits (register s ra) == 0) (branches s (at_distance s imm)) (Do (plain s)) (branch_words imm) plain_words
+  effect_words (Bnz ra imm) instr = if_words (word_bits (register s ra) == 0) (Do (plain s)) (branches s (at_distance s imm)) plain_words (branch_words imm)
   effect_words (Jmp ra) instr = if_pointer_words (register s ra) (λ p. jumps s p (enter_result p)) (reg ra) (λ p fits. jump_words p (enter_result p) fits refl)
   effect_words (Jal rd ra) instr = if_pointer_words (register s ra)
       (λ p. links s rd p (enter_result p) (next_result s.ip)) (reg ra) (λ p fits. link_words rd p (enter_result p)

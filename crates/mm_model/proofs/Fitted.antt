@@ -5,7 +5,7 @@ use Rattle.mm_model.specs.Memory.{IsPaged}
 use Rattle.mm_model.specs.State.{Core, State}
 use Rattle.mm_model.specs.Image.{Image, start}
 use Rattle.mm_model.specs.Spelling.{IsImage}
-use Rattle.mm_model.specs.Fits.{slots_of, identity_of, IsState, Fits, IsKept, IsOfVersion, HandlersAreOthers, IsCore}
+use Rattle.mm_model.specs.Fits.{slots_of, identity_of, IsState, Fits, IsConsistent, IsOfVersion, HandlersAreOthers, IsCore}
 use Rattle.mm_model.proofs.CoreRows.{of_version_by, identities_of}
 use Rattle.mm_model.proofs.CoreSteps.{Fitting, handlers_by}
 use Rattle.mm_model.proofs.Starts.{start_slots, start_core}
@@ -30,7 +30,7 @@ image_numbers i core img same =
     of_version_by 2 (slots_of core) (slots_of (start i).core) (same ∙ sym (ap (map identity_of) (start_slots i))) (start_core i img.rising img.fresh).numbers
 
 -- its core is one of a machine, where what the types keep is kept
-pub core_of : (i : Image) (s : State) → IsImage i → IsState s → Fits i s → IsKept s.core → IsCore s.core
+pub core_of : (i : Image) (s : State) → IsImage i → IsState s → Fits i s → IsConsistent s.core → IsCore s.core
 core_of i s img h fits kept =
     let fit = fitting_of i s img fits in
     record { formed = h.core; numbers = image_numbers i s.core img fits.same_slots; handlers = fit.handlers; matched = fit.matched; kept = kept }

@@ -17,7 +17,7 @@ pub mod OutputBytes
 pub mod Shortness
 pub mod Stops
 pub mod Causes
-pub mod ImageBytes
+pub mod Bytes
 pub mod Filters
 pub mod OwnSlots
 pub mod Answered

@@ -14,7 +14,7 @@ use Rattle.mm_model.specs.Flags.{one_if}
 use Rattle.mm_model.specs.Slot.{Slot, register, is_empty}
 use Rattle.mm_model.specs.Effect.{delivers, delivered}
 use Rattle.mm_model.specs.Turn.{put_all, stood, with_issue}
-use Rattle.mm_model.specs.Fits.{loads_for, IsSlot, LoadsMatch, LoadsAreKept}
+use Rattle.mm_model.specs.Fits.{loads_for, IsSlot, LoadsMatch, LoadsAreConsistent}
 
 -- 1. Flags and pending loads.
 
@@ -61,7 +61,7 @@ none_waits s match none r = no (is_empty s r) (sym (ap (loads_for r) none) ∙ m
     no false e = refl
 
 -- so a register that waits for no load in a split machine waits for none in any
-waits_not : (split : Bool) (s : Slot) (r : ℕ) → (split ≡ true → is_empty s r ≡ false) → LoadsMatch s → LoadsAreKept split s → is_empty s r ≡ false
+waits_not : (split : Bool) (s : Slot) (r : ℕ) → (split ≡ true → is_empty s r ≡ false) → LoadsMatch s → LoadsAreConsistent split s → is_empty s r ≡ false
 waits_not true s r free match kept = free refl
 waits_not false s r free match kept = none_waits s match (kept.mode refl) r
 
@@ -70,7 +70,7 @@ waits_not false s r free match kept = none_waits s match (kept.mode refl) r
 pub record GoesOn (split : Bool) (old new : Slot) : Type 0 where
   pub slot : IsSlot new
   pub loads : LoadsMatch old → LoadsMatch new
-  pub kept : LoadsMatch old → LoadsAreKept split old → LoadsAreKept split new
+  pub kept : LoadsMatch old → LoadsAreConsistent split old → LoadsAreConsistent split new
 
 module _ (split : Bool) where
   pub goes_then : (a b c : Slot) → GoesOn split a b → GoesOn split b c → GoesOn split a c

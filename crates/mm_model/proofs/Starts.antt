@@ -15,7 +15,7 @@ use Rattle.mm_model.specs.Spelling.{Begins, numbers_of, IsOther, IsFresh, IsImag
 use Rattle.mm_model.specs.Turn.{is_taken}
 use Rattle.mm_model.specs.Fits.{loads_for, is_waiting, waits_for, events_of, slots_of, identity_of, SlotHoldsWords}
 use Rattle.mm_model.specs.Fits.{RowHoldsWords, IsSlot, IsFormed, IsState, LoadsMatch, WaitsForSome, Matches, Fits}
-use Rattle.mm_model.specs.Fits.{IsAtSlot, LoadsAreKept, TakenBySome, IsKept, IsOfVersion, HandlersAreOthers, IsCore}
+use Rattle.mm_model.specs.Fits.{IsAtSlot, LoadsAreConsistent, TakenBySome, IsConsistent, IsOfVersion, HandlersAreOthers, IsCore}
 use Rattle.mm_model.specs.Fits.{TurnsWithin}
 use Rattle.mm_model.proofs.CoreRows.{each_map, slot_limit-few, slot_has}
 use Rattle.mm_model.proofs.CoreSteps.{waits_for-rests}
@@ -85,7 +85,7 @@ fresh_loads : (limit : ℕ) (slots : List Slot) (s : Slot) → IsFresh limit slo
 unfolding is_empty
 fresh_loads limit slots s h = record { each = λ r. ap (loads_for r) h.pending ∙ sym (ap one_if (ap (λ (flags : List Bool). slice_index_or flags r false) h.empty ∙ none_set 16 r)) }
 
-fresh_kept : (limit : ℕ) (split : Bool) (slots : List Slot) (s : Slot) → IsFresh limit slots s → LoadsAreKept split s
+fresh_kept : (limit : ℕ) (split : Bool) (slots : List Slot) (s : Slot) → IsFresh limit slots s → LoadsAreConsistent split s
 unfolding is_empty
 fresh_kept limit split slots s h = record { zero = λ r e. cc (e, ap (λ (flags : List Bool). slice_index_or flags r false) h.empty, none_set 16 r); mode = λ off. h.pending }
 
@@ -131,11 +131,11 @@ module _ (i : Image) (rising : IsStrictlyIncreasing (numbers_of i.slots)) (fresh
     loads = each_start LoadsMatch (λ s k. fresh_loads (slot_limit i.version) i.slots s k);
   }
 
-  pub start_kept : IsKept (start i).core
+  pub start_kept : IsConsistent (start i).core
   unfolding start output_of
   start_kept = record {
     in_place = λ g. subst (AllByRecursion (IsAtSlot (start i).core)) (sym (start_queues i g)) tt;
-    loads = each_start (LoadsAreKept i.split) (λ s k. fresh_kept (slot_limit i.version) i.split i.slots s k);
+    loads = each_start (LoadsAreConsistent i.split) (λ s k. fresh_kept (slot_limit i.version) i.split i.slots s k);
     taken = each_start TakenBySome (λ s k t. cc (t, (begun s.state k.begins).0));
     within = each_empty 64;
     silent = λ g none. nothing_out 64 g;

@@ -11,7 +11,7 @@ use Rattle.mm_word.specs.declared.cause.Cause.{Cause}
 use Rattle.mm_word.specs.declared.word.Word.{Word}
 use Rattle.mm_word.specs.declared.word.Word.TheVariants.{Int}
 use Rattle.mm_word.specs.declared.word.Cell.{Cell}
-use Rattle.mm_word.specs.Access.{Touch}
+use Rattle.mm_word.specs.Access.{AccessValue}
 use Rattle.mm_word.specs.Word.{IsWord}
 use Rattle.mm_isa.specs.declared.instr.Instr.{Instr}
 use Rattle.mm_isa.specs.Table.{IsInstr}
@@ -29,12 +29,12 @@ use Rattle.mm_model.specs.Operands.{addr_operand, value_operand}
 use Rattle.mm_model.specs.Ask.{ask}
 use Rattle.mm_model.specs.Effect.{Change, Pages, Effect, effect, delivered}
 use Rattle.mm_model.specs.Effect.Pages.{Keep, Add, Remove}
-use Rattle.mm_model.specs.Effect.Effect.{Fault, Block, Deliver, Does}
+use Rattle.mm_model.specs.Effect.Effect.{Fault, Block, Deliver, Do}
 use Rattle.mm_model.specs.Turn.{Turned, reply, put_all, state_after, with_issue, slot_after, with_other, with_queue}
 use Rattle.mm_model.specs.Turn.{with_out, with_cell, with_pages, core_after, memory_after, stood, is_sync, event_of}
 use Rattle.mm_model.specs.Turn.{core_faulted, faulted, touch_of, asked_use, blocked, ended, executed, idle, turn}
 use Rattle.mm_model.specs.Run.{after}
-use Rattle.mm_model.specs.Fits.{SlotHoldsWords, EventHoldsWords, RowHoldsWords, IsFormed, IsState, Fits, IsKept}
+use Rattle.mm_model.specs.Fits.{SlotHoldsWords, EventHoldsWords, RowHoldsWords, IsFormed, IsState, Fits, IsConsistent}
 use Rattle.mm_model.proofs.Memories.{put_frames, map_frames, unmap_frames, put_pages, put_count, map_pages, map_fitting, unmap_pages, unmap_count}
 use Rattle.mm_model.proofs.CoreRows.{each_set, each_push}
 use Rattle.mm_model.proofs.EffectWords.{page_words, IssueWords, CellWords, PagesFit, QueueWords, OtherWords}
@@ -191,7 +191,7 @@ module _ (core : Core) (m : Memory) (h : IsFormed core) (rows : AllByRecursion R
   same_memory : MemoryKeeps m m
   same_memory = memory_self m pages cells
 
-  fault_words : (s : Slot) (c : Cause) (a v : Word) (f t : Option Touch) (us : List Use) → SlotHoldsWords s → IsWord a → IsWord v → TurnWords m (faulted core m s c a v f t us)
+  fault_words : (s : Slot) (c : Cause) (a v : Word) (f t : Option AccessValue) (us : List Use) → SlotHoldsWords s → IsWord a → IsWord v → TurnWords m (faulted core m s c a v f t us)
   unfolding faulted event_of
   fault_words s c a v f t us own fits_a fits_v = record {
     memory = same_memory;
@@ -199,13 +199,13 @@ module _ (core : Core) (m : Memory) (h : IsFormed core) (rows : AllByRecursion R
         (event_of s c a v) s.handler rows own (record { ip = own.ip; address = fits_a; value = fits_v });
   }
 
-  ended_words : (s : Slot) (i : Instr) (f : Touch) (t : Option Touch) (us : List Use) (x : Effect) → SlotHoldsWords s → IsInstr i → EffectWords m x → TurnWords m (ended core m s i f t us x)
+  ended_words : (s : Slot) (i : Instr) (f : AccessValue) (t : Option AccessValue) (us : List Use) (x : Effect) → SlotHoldsWords s → IsInstr i → EffectWords m x → TurnWords m (ended core m s i f t us x)
   unfolding ended blocked
   ended_words s i f t us (Fault c) own instr k = fault_words s c (addr_operand i s) (value_operand i s) (Some f) t us
       own (addr_operand-fits i s own.registers) (value_operand-fits i s instr own.registers)
   ended_words s i f t us Block own instr k = record { memory = same_memory; rows = put_slot-words core (stood s Running) rows (stood-words s Running own) }
   ended_words s i f t us (Deliver o) own instr k = record { memory = same_memory; rows = put_slot-words (put_slot core o) (stood s Running) (put_slot-words core o rows k) (stood-words s Running own) }
-  ended_words s i f t us (Does c) own instr k = record { memory = change_memory m c pages cells k; rows = change_rows core m s c rows own k }
+  ended_words s i f t us (Do c) own instr k = record { memory = change_memory m c pages cells k; rows = change_rows core m s c rows own k }
 
   turn_words : (n : ℕ) → TurnWords m (turn core m n)
   unfolding idle blocked executed
@@ -253,6 +253,6 @@ after_fits i s n img h fits =
     }
 
 -- and what the types keep is kept
-pub after_kept : (i : Image) (s : State) (n : ℕ) → IsImage i → IsState s → Fits i s → IsKept s.core → IsKept (after s n).core
+pub after_kept : (i : Image) (s : State) (n : ℕ) → IsImage i → IsState s → Fits i s → IsConsistent s.core → IsConsistent (after s n).core
 unfolding after
 after_kept i s n img h fits kept = (turn_keeps s.core s.memory h.core n).kept (fitting_of i s img fits) kept

@@ -1,7 +1,7 @@
 -- Only the running slot that an item names takes a turn, so no slot takes more turns than there are cycles.
 use Rattle.std.proofs.Common.{◌≡◌, ℕ, ◌+◌, ◌≤◌, ◌⊎◌, inl, inr, Bool, true, false, if◌then◌else◌, List, [], ◌∷◌, ◌++◌, Option, Some, None, refl, sym, ap, ◌∙◌, subst, arith}
 use Rattle.mm_word.specs.declared.word.Word.TheVariants.{Int}
-use Rattle.mm_word.specs.Access.{Touch}
+use Rattle.mm_word.specs.Access.{AccessValue}
 use Rattle.mm_isa.specs.declared.instr.Instr.{Instr}
 use Rattle.mm_model.specs.declared.slot.SlotState.TheVariants.{Running, Waiting, Halted}
 use Rattle.mm_model.specs.declared.event.Event.{Event}
@@ -12,7 +12,7 @@ use Rattle.mm_model.specs.State.{Core, State, slot_at, queue_at, put_slot, put_q
 use Rattle.mm_model.specs.Operands.{addr_operand, value_operand}
 use Rattle.mm_model.specs.Ask.{ask}
 use Rattle.mm_model.specs.Effect.{Change, Effect, effect, delivered}
-use Rattle.mm_model.specs.Effect.Effect.{Fault, Block, Deliver, Does}
+use Rattle.mm_model.specs.Effect.Effect.{Fault, Block, Deliver, Do}
 use Rattle.mm_model.specs.Turn.{Turned, reply, slot_after, with_other, with_queue, with_out, core_after, stood, is_sync}
 use Rattle.mm_model.specs.Turn.{event_of, core_faulted, faulted, touch_of, asked_use, blocked, ended, executed, idle}
 use Rattle.mm_model.specs.Turn.{is_running, turn}
@@ -112,12 +112,12 @@ module _ (core : Core) (n : ℕ) (h : IsFormed core) (match : Matches core) (s :
       by true = stood_takes (stood s Running) refl refl
       by false = stood_takes (stood s (Halted (Some e.cause))) refl refl
 
-  ended_takes : (m : Memory) (i : Instr) (f : Touch) (t : Option Touch) (us : List Use) (x : Effect) → EffectKeeps core s x → TakesTurns core n (ended core m s i f t us x).core
+  ended_takes : (m : Memory) (i : Instr) (f : AccessValue) (t : Option AccessValue) (us : List Use) (x : Effect) → EffectKeeps core s x → TakesTurns core n (ended core m s i f t us x).core
   unfolding ended blocked faulted
   ended_takes m i f t us (Fault c) keeps = faulted_takes (event_of s c (addr_operand i s) (value_operand i s)) s.handler
   ended_takes m i f t us Block keeps = stood_takes (stood s Running) refl refl
   ended_takes m i f t us (Deliver o) keeps = other_takes o keeps.replaces keeps.turns keeps.runs_not (stood s Running) refl refl
-  ended_takes m i f t us (Does c) keeps = change_takes c keeps
+  ended_takes m i f t us (Do c) keeps = change_takes c keeps
 
 -- only the running slot that an item names takes a turn
 pub turn_takes : (core : Core) (m : Memory) (n : ℕ) → IsFormed core → Matches core → TakesTurns core n (turn core m n).core

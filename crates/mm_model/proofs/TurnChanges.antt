@@ -12,7 +12,7 @@ use Rattle.mm_word.specs.declared.word.Post.TheVariants as posts
 use Rattle.mm_word.specs.declared.word.Word.{Word}
 use Rattle.mm_word.specs.declared.word.Word.TheVariants.{Int, Ptr}
 use Rattle.mm_word.specs.declared.word.Cell.{Cell}
-use Rattle.mm_word.specs.Access.{Touch, check_result}
+use Rattle.mm_word.specs.Access.{AccessValue, check_result}
 use Rattle.mm_word.specs.Word.{word_bits}
 use Rattle.mm_word.proofs.Checked.{kind_by}
 use Rattle.std.specs.Prelude.{IfOk}
@@ -41,7 +41,7 @@ use Rattle.mm_model.specs.Effect.{puts_out, set_by, loads, loaded, stored, at_di
 use Rattle.mm_model.specs.Effect.{resumes, reads_of, writes_of, maps, unmaps, plain}
 use Rattle.mm_model.specs.Effect.Reply.{Fine, Refused, Got, Paged, Took, Served}
 use Rattle.mm_model.specs.Effect.Pages.{Keep, Add, Remove}
-use Rattle.mm_model.specs.Effect.Effect.{Fault, Block, Deliver, Does}
+use Rattle.mm_model.specs.Effect.Effect.{Fault, Block, Deliver, Do}
 use Rattle.mm_model.specs.Turn.{Turned, reached, reply, slot_after, with_other, with_queue, with_out, with_cell}
 use Rattle.mm_model.specs.Turn.{with_pages, core_after, memory_after, stood, is_sync, event_of}
 use Rattle.mm_model.specs.Turn.{core_faulted, faulted, touch_of, asked_use, blocked, ended, executed}
@@ -61,7 +61,7 @@ record IsQuiet (c : Change) : Type 0 where
   pages : c.pages ≡ Keep
 
 abbrev Quiet : Effect → Type 0
-Quiet (Does c) = IsQuiet c
+Quiet (Do c) = IsQuiet c
 Quiet _ = Unit {0}
 
 silent : {c : Change} → c.out ≡ None → c.cell ≡ None → c.pages ≡ Keep → IsQuiet c
@@ -129,7 +129,7 @@ module _ (s : Slot) where
   write_quiet : (split : Bool) (reg : ℕ) (w : Word) (r : Reply) → Quiet (writes_of split s reg w r)
   unfolding plain
   write_quiet split reg w (Served of) = either_quiet (split && is_empty of reg) (Deliver (delivered of))
-      (Does (record (plain s) { other = Some (record of { regs = slice_set of.regs reg w }) })) tt
+      (Do (record (plain s) { other = Some (record of { regs = slice_set of.regs reg w }) })) tt
       (silent refl refl refl)
   write_quiet split reg w _ = tt
 
@@ -148,8 +148,8 @@ module _ (s : Slot) where
   quiet_or_loud split (Ld rd ra pre post imm) r = inr tt
   quiet_or_loud split (St ra rb pre post imm) r = inr tt
   quiet_or_loud split (Br imm) r = inl (branch_quiet (at_distance s imm))
-  quiet_or_loud split (Bz ra imm) r = inl (either_quiet (word_bits (register s ra) == 0) (branches s (at_distance s imm)) (Does (plain s)) (branch_quiet (at_distance s imm)) (silent refl refl refl))
-  quiet_or_loud split (Bnz ra imm) r = inl (either_quiet (word_bits (register s ra) == 0) (Does (plain s)) (branches s (at_distance s imm)) (silent refl refl refl) (branch_quiet (at_distance s imm)))
+  quiet_or_loud split (Bz ra imm) r = inl (either_quiet (word_bits (register s ra) == 0) (branches s (at_distance s imm)) (Do (plain s)) (branch_quiet (at_distance s imm)) (silent refl refl refl))
+  quiet_or_loud split (Bnz ra imm) r = inl (either_quiet (word_bits (register s ra) == 0) (Do (plain s)) (branches s (at_distance s imm)) (silent refl refl refl) (branch_quiet (at_distance s imm)))
   quiet_or_loud split (Jmp ra) r = inl (if_quiet (register s ra) _ (λ p. jump_quiet p (enter_result p)))
   quiet_or_loud split (Jal rd ra) r = inl (if_quiet (register s ra) _ (λ p. link_quiet rd p (enter_result p) (next_result s.ip)))
   quiet_or_loud split (Lip rd imm) r = inl (pointer_quiet rd (at_distance s imm))
@@ -165,8 +165,8 @@ module _ (s : Slot) where
 -- 2. What a change makes of the memory and of the outputs.
 
 -- a cell was written at the word of an access that writes
-pub record WroteAt (m later : Memory) (touched : Option Touch) : Type 0 where
-  pub access : Touch
+pub record WroteAt (m later : Memory) (touched : Option AccessValue) : Type 0 where
+  pub access : AccessValue
   pub cell : Cell
   pub is : touched ≡ Some access
   pub kind : writes access.kind ≡ true
@@ -182,7 +182,7 @@ pub record RemovedOne (m later : Memory) : Type 0 where
   pub was : is_mapped m page ≡ true
   pub memory : later ≡ unmap_page m page
 
-pub data MemoryMoves (m later : Memory) (touched : Option Touch) : Type 0 where
+pub data MemoryMoves (m later : Memory) (touched : Option AccessValue) : Type 0 where
   Stays : later ≡ m → MemoryMoves m later touched
   Writes : WroteAt m later touched → MemoryMoves m later touched
   Maps : MappedOne m later → MemoryMoves m later touched
@@ -256,17 +256,17 @@ module _ (core : Core) (m : Memory) where
   abbrev Changes : Turned → Type 0
   Changes t = TurnChanges core m t
 
-  fault_changes : (s : Slot) (c : Cause) (a w : Word) (f t : Option Touch) (us : List Use) → Changes (faulted core m s c a w f t us)
+  fault_changes : (s : Slot) (c : Cause) (a w : Word) (f t : Option AccessValue) (us : List Use) → Changes (faulted core m s c a w f t us)
   unfolding faulted
   fault_changes s c a w f t us =
       let same = fault_same core s (event_of s c a w) s.handler in
       record { memory = Stays refl; outputs = Same same.outputs; version = same.version; split = same.split }
 
-  block_changes : (s : Slot) (f : Touch) (t : Option Touch) (us : List Use) → Changes (blocked core m s f t us)
+  block_changes : (s : Slot) (f : AccessValue) (t : Option AccessValue) (us : List Use) → Changes (blocked core m s f t us)
   unfolding blocked put_slot
   block_changes s f t us = record { memory = Stays refl; outputs = Same refl; version = refl; split = refl }
 
-  deliver_changes : (s other : Slot) (f : Touch) (t : Option Touch) (us : List Use) → Changes (blocked (put_slot core other) m s f t us)
+  deliver_changes : (s other : Slot) (f : AccessValue) (t : Option AccessValue) (us : List Use) → Changes (blocked (put_slot core other) m s f t us)
   unfolding blocked put_slot
   deliver_changes s other f t us = record { memory = Stays refl; outputs = Same refl; version = refl; split = refl }
 
@@ -278,8 +278,8 @@ module _ (core : Core) (m : Memory) where
   SmallOut None = Unit {0}
   SmallOut (Some byte) = byte < 256
 
-  did_changes : (k : Core) → SameButRows core k → (g : ℕ) (o : Option ℕ) → SmallOut o → (i : Instr) (s : Slot) (f : Touch) (t : Option Touch) (us : List Use) (c : Change)
-      → core_after core s c ≡ with_out k g o → MemoryMoves m (memory_after m c) t → Changes (ended core m s i f t us (Does c))
+  did_changes : (k : Core) → SameButRows core k → (g : ℕ) (o : Option ℕ) → SmallOut o → (i : Instr) (s : Slot) (f : AccessValue) (t : Option AccessValue) (us : List Use) (c : Change)
+      → core_after core s c ≡ with_out k g o → MemoryMoves m (memory_after m c) t → Changes (ended core m s i f t us (Do c))
   unfolding ended put_output output_of
   did_changes k e g None h i s f t us c is moves =
       record { memory = moves; outputs = Same (ap (λ (x : Core). x.outputs) is ∙ e.outputs); version = ap (λ (x : Core). x.version) is ∙ e.version; split = ap (λ (x : Core). x.split) is ∙ e.split }
@@ -295,7 +295,7 @@ module _ (core : Core) (m : Memory) where
     split = ap (λ (x : Core). x.split) is ∙ e.split;
   }
 
-  does_changes : (s : Slot) (i : Instr) (f : Touch) (t : Option Touch) (us : List Use) (c : Change) → SmallOut c.out → MemoryMoves m (memory_after m c) t → Changes (ended core m s i f t us (Does c))
+  does_changes : (s : Slot) (i : Instr) (f : AccessValue) (t : Option AccessValue) (us : List Use) (c : Change) → SmallOut c.out → MemoryMoves m (memory_after m c) t → Changes (ended core m s i f t us (Do c))
   unfolding core_after
   does_changes s i f t us c small moves =
       did_changes (with_queue (put_slot (with_other core c.other) (slot_after s c)) s.number c.queue)
@@ -308,21 +308,21 @@ module _ (core : Core) (m : Memory) where
   quiet_small : (c : Change) → IsQuiet c → SmallOut c.out
   quiet_small c q = subst SmallOut (sym q.out) tt
 
-  quiet_changes : (s : Slot) (i : Instr) (f : Touch) (t : Option Touch) (us : List Use) (y : Effect) → Quiet y → Changes (ended core m s i f t us y)
+  quiet_changes : (s : Slot) (i : Instr) (f : AccessValue) (t : Option AccessValue) (us : List Use) (y : Effect) → Quiet y → Changes (ended core m s i f t us y)
   unfolding ended
   quiet_changes s i f t us (Fault c) q = fault_changes s c (addr_operand i s) (value_operand i s) (Some f) t us
   quiet_changes s i f t us Block q = block_changes s f t us
   quiet_changes s i f t us (Deliver other) q = deliver_changes s other f t us
-  quiet_changes s i f t us (Does c) q = does_changes s i f t us c (quiet_small c q) (Stays (quiet_memory c q))
+  quiet_changes s i f t us (Do c) q = does_changes s i f t us c (quiet_small c q) (Stays (quiet_memory c q))
 
   -- 4. The instructions that change cells, pages or outputs.
 
-  out_changes : (s : Slot) (i : Instr) (f : Touch) (us : List Use) (n : ℕ) (b : Bool) → Changes (ended core m s i f None us (puts_out s (n % 256) (if b then Fine else Refused cause.OutFull)))
+  out_changes : (s : Slot) (i : Instr) (f : AccessValue) (us : List Use) (n : ℕ) (b : Bool) → Changes (ended core m s i f None us (puts_out s (n % 256) (if b then Fine else Refused cause.OutFull)))
   unfolding plain memory_after
   out_changes s i f us n true = does_changes s i f None us (record (plain s) { out = Some (n % 256) }) (omega arith) (Stays refl)
   out_changes s i f us n false = quiet_changes s i f None us (Fault cause.OutFull) tt
 
-  load_change : (split : Bool) (s : Slot) (rd : ℕ) (post : Post) (a : Touch) (c : Cell) → a.kind ≡ load_kind post
+  load_change : (split : Bool) (s : Slot) (rd : ℕ) (post : Post) (a : AccessValue) (c : Cell) → a.kind ≡ load_kind post
       → SmallOut (record (loads split s rd c.word) { cell = set_by post a.addr c }).out × MemoryMoves m (memory_after m (record (loads split s rd c.word) { cell = set_by post a.addr c })) (Some a)
   unfolding plain memory_after
   load_change true s rd posts.Keep a c e = (tt, Stays refl)
@@ -332,7 +332,7 @@ module _ (core : Core) (m : Memory) where
   load_change true s rd posts.Empty a c e = (tt, Writes (record { access = a; cell = record c { full = false }; is = refl; kind = ap writes e; memory = refl }))
   load_change false s rd posts.Empty a c e = (tt, Writes (record { access = a; cell = record c { full = false }; is = refl; kind = ap writes e; memory = refl }))
 
-  load_changes : (split : Bool) (s : Slot) (i : Instr) (f : Touch) (us : List Use) (rd : ℕ) (post : Post) (pre : Pre) (a : Touch) (o : Option Cell) → a.kind ≡ load_kind post
+  load_changes : (split : Bool) (s : Slot) (i : Instr) (f : AccessValue) (us : List Use) (rd : ℕ) (post : Post) (pre : Pre) (a : AccessValue) (o : Option Cell) → a.kind ≡ load_kind post
       → Changes (ended core m s i f (Some a) us (loaded split s rd post (reached a pre o)))
   load_changes split s i f us rd post pre a None e = quiet_changes s i f (Some a) us (Fault cause.NoPage) tt
   load_changes split s i f us rd post pre a (Some c) e = by (passes pre c.full)
@@ -341,13 +341,13 @@ module _ (core : Core) (m : Memory) where
       by true = let k = load_change split s rd post a c e in does_changes s i f (Some a) us (record (loads split s rd c.word) { cell = set_by post a.addr c }) k.0 k.1
       by false = quiet_changes s i f (Some a) us (Fault cause.Sync) tt
 
-  loads_changes : (split : Bool) (s : Slot) (i : Instr) (f : Touch) (u : Use) (rd : ℕ) (post : Post) (pre : Pre) (r : Result Touch Cause) → IfOk r (λ (a : Touch). a.kind ≡ load_kind post)
+  loads_changes : (split : Bool) (s : Slot) (i : Instr) (f : AccessValue) (u : Use) (rd : ℕ) (post : Post) (pre : Pre) (r : Result AccessValue Cause) → IfOk r (λ (a : AccessValue). a.kind ≡ load_kind post)
       → Changes (ended core m s i f (touch_of (reaching r pre)) (u ∷ asked_use m (reaching r pre)) (loaded split s rd post (reply core m s.number (reaching r pre))))
   unfolding reply
   loads_changes split s i f u rd post pre (Err c) h = quiet_changes s i f None (u ∷ []) (Fault c) tt
   loads_changes split s i f u rd post pre (Ok a) h = load_changes split s i f (u ∷ asked_use m (Reach a pre)) rd post pre a (cell_at m a.addr) h
 
-  store_change : (s : Slot) (w : Word) (post : Post) (a : Touch) (c : Cell) → a.kind ≡ Store
+  store_change : (s : Slot) (w : Word) (post : Post) (a : AccessValue) (c : Cell) → a.kind ≡ Store
       → MemoryMoves m (memory_after m (record (plain s) { cell = Some (a.addr, record { word = w; full = full_after post c.full }) })) (Some a)
   unfolding plain memory_after
   store_change s w post a c e = Writes (record { access = a; cell = record { word = w; full = full_after post c.full }; is = refl; kind = ap writes e; memory = refl })
@@ -356,7 +356,7 @@ module _ (core : Core) (m : Memory) where
   unfolding plain
   store_small s x = tt
 
-  store_changes : (s : Slot) (i : Instr) (f : Touch) (us : List Use) (w : Word) (post : Post) (pre : Pre) (a : Touch) (o : Option Cell) → a.kind ≡ Store
+  store_changes : (s : Slot) (i : Instr) (f : AccessValue) (us : List Use) (w : Word) (post : Post) (pre : Pre) (a : AccessValue) (o : Option Cell) → a.kind ≡ Store
       → Changes (ended core m s i f (Some a) us (stored s w post (reached a pre o)))
   store_changes s i f us w post pre a None e = quiet_changes s i f (Some a) us (Fault cause.NoPage) tt
   store_changes s i f us w post pre a (Some c) e = by (passes pre c.full)
@@ -367,18 +367,18 @@ module _ (core : Core) (m : Memory) where
           (store_small s (a.addr, record { word = w; full = full_after post c.full })) (store_change s w post a c e)
       by false = quiet_changes s i f (Some a) us (Fault cause.Sync) tt
 
-  stores_changes : (s : Slot) (i : Instr) (f : Touch) (u : Use) (w : Word) (post : Post) (pre : Pre) (r : Result Touch Cause) → IfOk r (λ (a : Touch). a.kind ≡ Store)
+  stores_changes : (s : Slot) (i : Instr) (f : AccessValue) (u : Use) (w : Word) (post : Post) (pre : Pre) (r : Result AccessValue Cause) → IfOk r (λ (a : AccessValue). a.kind ≡ Store)
       → Changes (ended core m s i f (touch_of (reaching r pre)) (u ∷ asked_use m (reaching r pre)) (stored s w post (reply core m s.number (reaching r pre))))
   unfolding reply
   stores_changes s i f u w post pre (Err c) h = quiet_changes s i f None (u ∷ []) (Fault c) tt
   stores_changes s i f u w post pre (Ok a) h = store_changes s i f (u ∷ asked_use m (Reach a pre)) w post pre a (cell_at m a.addr) h
 
-  map_changes : (s : Slot) (i : Instr) (f : Touch) (us : List Use) (rd p : ℕ) (b : Bool) → can_map m p ≡ b → Changes (ended core m s i f None us (maps s rd (Paged p b)))
+  map_changes : (s : Slot) (i : Instr) (f : AccessValue) (us : List Use) (rd p : ℕ) (b : Bool) → can_map m p ≡ b → Changes (ended core m s i f None us (maps s rd (Paged p b)))
   unfolding plain memory_after
   map_changes s i f us rd p true e = does_changes s i f None us (record (plain s) { writes = (rd, Int 1) ∷ []; pages = Add p }) tt (Maps (record { page = p; could = e; memory = refl }))
   map_changes s i f us rd p false e = quiet_changes s i f None us (sets s rd (Int 0)) (silent refl refl refl)
 
-  unmap_changes : (s : Slot) (i : Instr) (f : Touch) (us : List Use) (rd p : ℕ) (b : Bool) → is_mapped m p ≡ b → Changes (ended core m s i f None us (unmaps s rd (Paged p b)))
+  unmap_changes : (s : Slot) (i : Instr) (f : AccessValue) (us : List Use) (rd p : ℕ) (b : Bool) → is_mapped m p ≡ b → Changes (ended core m s i f None us (unmaps s rd (Paged p b)))
   unfolding plain memory_after
   unmap_changes s i f us rd p true e = does_changes s i f None us (record (plain s) { writes = (rd, Int 1) ∷ []; pages = Remove p }) tt (Removes (record { page = p; was = e; memory = refl }))
   unmap_changes s i f us rd p false e = quiet_changes s i f None us (sets s rd (Int 0)) (silent refl refl refl)
@@ -386,21 +386,21 @@ module _ (core : Core) (m : Memory) where
   abbrev paging : Bool → Bool → Ask → Ask
   paging b d asked = if b then (if d then asked else Refuse cause.Bounds) else Refuse cause.Priv
 
-  maps_changes : (s : Slot) (i : Instr) (f : Touch) (u : Use) (rd p : ℕ) (b d : Bool)
+  maps_changes : (s : Slot) (i : Instr) (f : AccessValue) (u : Use) (rd p : ℕ) (b d : Bool)
       → Changes (ended core m s i f (touch_of (paging b d (MapPage p))) (u ∷ asked_use m (paging b d (MapPage p))) (maps s rd (reply core m s.number (paging b d (MapPage p)))))
   unfolding reply
   maps_changes s i f u rd p true true = map_changes s i f (u ∷ []) rd p (can_map m p) refl
   maps_changes s i f u rd p true false = quiet_changes s i f None (u ∷ []) (Fault cause.Bounds) tt
   maps_changes s i f u rd p false d = quiet_changes s i f None (u ∷ []) (Fault cause.Priv) tt
 
-  unmaps_changes : (s : Slot) (i : Instr) (f : Touch) (u : Use) (rd p : ℕ) (b d : Bool)
+  unmaps_changes : (s : Slot) (i : Instr) (f : AccessValue) (u : Use) (rd p : ℕ) (b d : Bool)
       → Changes (ended core m s i f (touch_of (paging b d (UnmapPage p))) (u ∷ asked_use m (paging b d (UnmapPage p))) (unmaps s rd (reply core m s.number (paging b d (UnmapPage p)))))
   unfolding reply
   unmaps_changes s i f u rd p true true = unmap_changes s i f (u ∷ asked_use m (UnmapPage p)) rd p (is_mapped m p) refl
   unmaps_changes s i f u rd p true false = quiet_changes s i f None (u ∷ []) (Fault cause.Bounds) tt
   unmaps_changes s i f u rd p false d = quiet_changes s i f None (u ∷ []) (Fault cause.Priv) tt
 
-  loud_changes : (s : Slot) (f : Touch) (u : Use) (i : Instr) → IsLoud i → Changes (executed core m s f u i)
+  loud_changes : (s : Slot) (f : AccessValue) (u : Use) (i : Instr) → IsLoud i → Changes (executed core m s f u i)
   unfolding executed ask effect reply
   loud_changes s f u (Out ra) l = out_changes s (Out ra) f (u ∷ []) (word_bits (register s ra)) (nat_lt (length (output_of core s.group)) (output_limit core.version))
   loud_changes s f u (Ld rd ra pre post imm) l =
@@ -415,7 +415,7 @@ module _ (core : Core) (m : Memory) where
 
   -- 5. The turn.
 
-  execute_changes : (s : Slot) (f : Touch) (u : Use) (i : Instr) → Changes (executed core m s f u i)
+  execute_changes : (s : Slot) (f : AccessValue) (u : Use) (i : Instr) → Changes (executed core m s f u i)
   unfolding executed
   execute_changes s f u i =
       let asked = ask i s in

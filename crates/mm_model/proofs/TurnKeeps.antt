@@ -7,7 +7,7 @@ use Rattle.std.proofs.lemmas.Bool.{or_right}
 use Rattle.mm_word.specs.declared.cause.Cause.{Cause}
 use Rattle.mm_word.specs.declared.word.Word.{Word}
 use Rattle.mm_word.specs.declared.word.Word.TheVariants.{Int}
-use Rattle.mm_word.specs.Access.{Touch}
+use Rattle.mm_word.specs.Access.{AccessValue}
 use Rattle.mm_word.specs.Perm.{can_fetch}
 use Rattle.mm_isa.specs.declared.instr.Instr.{Instr}
 use Rattle.mm_isa.specs.declared.operand.Operand.{Operand}
@@ -26,7 +26,7 @@ use Rattle.mm_model.specs.Groups.{has_group}
 use Rattle.mm_model.specs.Operands.{addr_operand, value_operand, field_a, field_b, rd_in, fields_d, field_empty, lacks}
 use Rattle.mm_model.specs.Ask.{ask}
 use Rattle.mm_model.specs.Effect.{Change, Effect, effect, delivered}
-use Rattle.mm_model.specs.Effect.Effect.{Fault, Block, Deliver, Does}
+use Rattle.mm_model.specs.Effect.Effect.{Fault, Block, Deliver, Do}
 use Rattle.mm_model.specs.Turn.{Turned, reply, put_all, state_after, with_issue, slot_after, with_other, with_queue}
 use Rattle.mm_model.specs.Turn.{with_out, core_after, stood, is_sync, event_of, core_faulted, faulted, touch_of}
 use Rattle.mm_model.specs.Turn.{asked_use, blocked, ended, executed, idle, arrives, is_running, is_taken, turn}
@@ -254,11 +254,11 @@ module _ (core : Core) (h : IsFormed core) (s : Slot) (at : slot_at core s.numbe
       by true = rested_keeps Running refl refl
       by false = rested_keeps (Halted (Some e.cause)) refl refl
 
-  fault_keeps : (m : Memory) (c : Cause) (a v : Word) (f t : Option Touch) (us : List Use) → Keeps core (faulted core m s c a v f t us).core
+  fault_keeps : (m : Memory) (c : Cause) (a v : Word) (f t : Option AccessValue) (us : List Use) → Keeps core (faulted core m s c a v f t us).core
   unfolding faulted event_of
   fault_keeps m c a v f t us = faulted_keeps (event_of s c a v) s.handler refl refl refl
 
-  blocked_keeps : (m : Memory) (f : Touch) (t : Option Touch) (us : List Use) → Keeps core (blocked core m s f t us).core
+  blocked_keeps : (m : Memory) (f : AccessValue) (t : Option AccessValue) (us : List Use) → Keeps core (blocked core m s f t us).core
   unfolding blocked
   blocked_keeps m f t us = rested_keeps Running refl refl
 
@@ -271,7 +271,7 @@ module _ (core : Core) (h : IsFormed core) (s : Slot) (at : slot_at core s.numbe
   delivered_there = ap (slot_at core) (delivered_from s).number ∙ at
 
   -- the slot waits for it
-  lacking_keeps : is_running s.state ≡ true → (m : Memory) (f : Touch) (us : List Use) → Keeps core (blocked core m (delivered s) f None us).core
+  lacking_keeps : is_running s.state ≡ true → (m : Memory) (f : AccessValue) (us : List Use) → Keeps core (blocked core m (delivered s) f None us).core
   unfolding blocked
   lacking_keeps running m f us =
       let from = delivered_from s in
@@ -297,7 +297,7 @@ module _ (core : Core) (h : IsFormed core) (s : Slot) (at : slot_at core s.numbe
 -- 5. The turn.
 
 module _ (core : Core) (h : IsFormed core) (s : Slot) (at : slot_at core s.number ≡ Some s) (running : is_running s.state ≡ true) where
-  ended_keeps : (m : Memory) (i : Instr) (f : Touch) (t : Option Touch) (us : List Use) (x : Effect) → EffectKeeps core s x → Keeps core (ended core m s i f t us x).core
+  ended_keeps : (m : Memory) (i : Instr) (f : AccessValue) (t : Option AccessValue) (us : List Use) (x : Effect) → EffectKeeps core s x → Keeps core (ended core m s i f t us x).core
   unfolding ended
   ended_keeps m i f t us (Fault c) k = fault_keeps core h s at running m c (addr_operand i s) (value_operand i s) (Some f) t us
   ended_keeps m i f t us Block k = blocked_keeps core h s at running m f t us
@@ -305,7 +305,7 @@ module _ (core : Core) (h : IsFormed core) (s : Slot) (at : slot_at core s.numbe
       let to = other_keeps core h s at running o k in
       keeps_then core (put_slot core o) (blocked (put_slot core o) m s f t us).core to
       (blocked_keeps (put_slot core o) to.formed s (still_there core h s at running o k.replaces k.runs_not) running m f t us)
-  ended_keeps m i f t us (Does c) k = change_keeps core h s at running c k
+  ended_keeps m i f t us (Do c) k = change_keeps core h s at running c k
 
 -- what a turn leaves
 pub turn_keeps : (core : Core) (m : Memory) → IsFormed core → (n : ℕ) → Keeps core (turn core m n).core

@@ -8,7 +8,7 @@ use Rattle.mm_word.specs.declared.cause.Cause.TheVariants.{Bounds, NoPage, Illeg
 use Rattle.mm_word.specs.declared.word.Word.{Word}
 use Rattle.mm_word.specs.declared.word.Word.TheVariants.{Int, Ptr}
 use Rattle.mm_word.specs.declared.word.Cell.{Cell}
-use Rattle.mm_word.specs.Access.{Touch, check_result}
+use Rattle.mm_word.specs.Access.{AccessValue, check_result}
 use Rattle.mm_word.specs.Pointer.{Pointer}
 use Rattle.mm_isa.specs.declared.instr.Instr.{Instr}
 use Rattle.mm_isa.specs.Table.{IsInstr}
@@ -27,11 +27,11 @@ use Rattle.mm_model.proofs.CoreRows.{slot_at-number}
 -- 1. The instruction that a turn fetches.
 
 -- the access that fetches the slot's instruction
-abbrev pub Fetches : Slot → Touch → Type 0
+abbrev pub Fetches : Slot → AccessValue → Type 0
 Fetches s f = check_result (Ptr s.ip) (pos 0) Fetch ≡ Ok f
 
 -- it finds a cell whose word is this instruction, whose fields are in range
-pub record Decodes (m : Memory) (f : Touch) (i : Instr) : Type 0 where
+pub record Decodes (m : Memory) (f : AccessValue) (i : Instr) : Type 0 where
   pub cell : Cell
   pub found : cell_at m f.addr ≡ Some cell
   pub spelled : instr_in cell.word ≡ Some i
@@ -42,11 +42,11 @@ spelled_instr (Int bits) i is = (instr_of-spelled bits i is).0
 spelled_instr (Ptr p) i is = cc
 
 -- the uses of a fetch: none if there is no access
-abbrev pub fetch_uses : Option Touch → Bool → List Use
+abbrev pub fetch_uses : Option AccessValue → Bool → List Use
 fetch_uses None done = []
 fetch_uses (Some f) done = Accessed f.kind f.addr done done ∷ []
 
-abbrev pub fetch_use : Touch → Use
+abbrev pub fetch_use : AccessValue → Use
 fetch_use f = Accessed f.kind f.addr true true
 
 -- 2. The turns of two slots that run and fetch the same.
@@ -54,23 +54,23 @@ fetch_use f = Accessed f.kind f.addr true true
 pub record FetchAlike (core core' : Core) (m m' : Memory) (s s' : Slot) : Type 0 where
   pub past : s.past ≡ s'.past
   pub ip : s.ip ≡ s'.ip
-  pub cells : (f : Touch) → Fetches s f → cell_at m f.addr ≡ cell_at m' f.addr
+  pub cells : (f : AccessValue) → Fetches s f → cell_at m f.addr ≡ cell_at m' f.addr
   pub lacking : (i : Instr) → (core.split && lacks i s) ≡ (core'.split && lacks i s')
 
 -- what is to be shown of two such turns
 pub record StartCases (core core' : Core) (m m' : Memory) (s s' : Slot) (R : Turned → Turned → Type 0) : Type 0 where
   -- the turn faults before there is an instruction: there is no access, or one that finds no page or no instruction
-  pub faults : (c : Cause) (f : Option Touch) (done : Bool) → IfSome f (Fetches s)
+  pub faults : (c : Cause) (f : Option AccessValue) (done : Bool) → IfSome f (Fetches s)
       → R (faulted core m s c (Int 0) (Int 0) f None (fetch_uses f done)) (faulted core' m' s' c (Int 0) (Int 0) f None (fetch_uses f done))
   -- the instruction needs a register that waits for a load
-  pub lacks_register : (f : Touch) (i : Instr) → Fetches s f → Decodes m f i → (core.split && lacks i s) ≡ true
+  pub lacks_register : (f : AccessValue) (i : Instr) → Fetches s f → Decodes m f i → (core.split && lacks i s) ≡ true
       → R (blocked core m (delivered s) f None (fetch_use f ∷ [])) (blocked core' m' (delivered s') f None (fetch_use f ∷ []))
   -- the instruction is executed
-  pub carries_out : (f : Touch) (i : Instr) → Fetches s f → Decodes m f i → (core.split && lacks i s) ≡ false
+  pub carries_out : (f : AccessValue) (i : Instr) → Fetches s f → Decodes m f i → (core.split && lacks i s) ≡ false
       → R (executed core m s f (fetch_use f) i) (executed core' m' s' f (fetch_use f) i)
 
 module _ (core core' : Core) (m m' : Memory) (s s' : Slot) (h : FetchAlike core core' m m' s s') (R : Turned → Turned → Type 0) (k : StartCases core core' m m' s s' R) where
-  issued_by : (f : Touch) (i : Instr) → Fetches s f → Decodes m f i → R (issued core m s f (fetch_use f) i) (issued core' m' s' f (fetch_use f) i)
+  issued_by : (f : AccessValue) (i : Instr) → Fetches s f → Decodes m f i → R (issued core m s f (fetch_use f) i) (issued core' m' s' f (fetch_use f) i)
   unfolding issued
   issued_by f i aim is = subst (λ y. R (one (core.split && lacks i s)) (other y)) (h.lacking i) (by (core.split && lacks i s) refl)
     where
@@ -84,16 +84,16 @@ module _ (core core' : Core) (m m' : Memory) (s s' : Slot) (h : FetchAlike core 
       by true e = k.lacks_register f i aim is e
       by false e = k.carries_out f i aim is e
 
-  decoded_by : (f : Touch) (c : Cell) (o : Option Instr) → Fetches s f → cell_at m f.addr ≡ Some c → instr_in c.word ≡ o
+  decoded_by : (f : AccessValue) (c : Cell) (o : Option Instr) → Fetches s f → cell_at m f.addr ≡ Some c → instr_in c.word ≡ o
       → R (decoded core m s f (fetch_use f) o) (decoded core' m' s' f (fetch_use f) o)
   decoded_by f c None aim found is = k.faults Illegal (Some f) true aim
   decoded_by f c (Some i) aim found is = issued_by f i aim (record { cell = c; found = found; spelled = is; whole = spelled_instr c.word i is })
 
-  fetched_by : (f : Touch) (o : Option Cell) → Fetches s f → cell_at m f.addr ≡ o → R (fetched core m s f o) (fetched core' m' s' f o)
+  fetched_by : (f : AccessValue) (o : Option Cell) → Fetches s f → cell_at m f.addr ≡ o → R (fetched core m s f o) (fetched core' m' s' f o)
   fetched_by f None aim found = k.faults NoPage (Some f) false aim
   fetched_by f (Some c) aim found = decoded_by f c (instr_in c.word) aim found refl
 
-  aimed_by : (x : Result Touch Cause) → check_result (Ptr s.ip) (pos 0) Fetch ≡ x → R (aimed core m s x) (aimed core' m' s' x)
+  aimed_by : (x : Result AccessValue Cause) → check_result (Ptr s.ip) (pos 0) Fetch ≡ x → R (aimed core m s x) (aimed core' m' s' x)
   aimed_by (Err c) aim = k.faults c None false tt
   aimed_by (Ok f) aim = subst (λ o. R (fetched core m s f (cell_at m f.addr)) (fetched core' m' s' f o)) (h.cells f aim) (fetched_by f (cell_at m f.addr) aim refl)
 
@@ -102,13 +102,13 @@ module _ (core core' : Core) (m m' : Memory) (s s' : Slot) (h : FetchAlike core 
   unfolding started
   started_by = subst (λ x. R (one s.past) (other s'.past x)) (ap found h.ip) (subst (λ b. R (one s.past) (other b (found s.ip))) h.past (by s.past))
     where
-      found : Pointer → Result Touch Cause
+      found : Pointer → Result AccessValue Cause
       found p = check_result (Ptr p) (pos 0) Fetch
 
       one : Bool → Turned
       one b = if b then faulted core m s Bounds (Int 0) (Int 0) None None [] else aimed core m s (found s.ip)
 
-      other : Bool → Result Touch Cause → Turned
+      other : Bool → Result AccessValue Cause → Turned
       other b x = if b then faulted core' m' s' Bounds (Int 0) (Int 0) None None [] else aimed core' m' s' x
 
       by : (b : Bool) → R (one b) (other b (found s.ip))

@@ -38,8 +38,8 @@ lists_unique {A = A} g (run ∷ runs) xs ys a b =
 pub lists_more : {A : Type 0} {Says : List ℕ → List A → Type 0} {runs : Runs} {items : List A} (at : ℕ) (w : List ℕ) (said : List A)
     → Lists Says runs items → Says w said → Lists Says (runs ++ (at, w) ∷ []) (items ++ said)
 lists_more {A = A} {Says = Says} at w said no_word says = subst (λ (xs : List A). Lists Says ((at, w) ∷ []) xs) (append-nil said) (word says no_word)
-lists_more {A = A} {Says = Says} at w said (word {at = place} {word = v} {words = words} {said = first} {items = rest} says lists) more =
-    let P : List A → Type 0 = λ xs. Lists Says ((place, v) ∷ (words ++ (at, w) ∷ [])) xs in
+lists_more {A = A} {Says = Says} at w said (word {at = offset} {word = v} {words = words} {said = first} {items = rest} says lists) more =
+    let P : List A → Type 0 = λ xs. Lists Says ((offset, v) ∷ (words ++ (at, w) ∷ [])) xs in
     subst P (sym (append_assoc first rest said)) (word says (lists_more at w said lists more))
 
 -- the words before a place list the front of the items
@@ -71,19 +71,19 @@ pub means_unique : {A : Type 0} {Says : List ℕ → List A → Type 0} {Keeps :
 means_unique g text xs ys a b = lists_unique g (runs_of text) xs ys a.lists b.lists
 
 -- no fault stands in words that list what keeps the rules
-no_fault : {A : Type 0} {Says : List ℕ → List A → Type 0} {Keeps : List A → Type 0} → IsGrammar Says Keeps → (text : List ℕ) (place : ℕ)
-    (f : TextFaultsAt Says Keeps text place) (runs behind : Runs) (items : List A) → runs ≡ f.before ++ (place, f.word) ∷ behind → Lists Says runs items → Keeps items → ⊥
-no_fault {A = A} {Says = Says} {Keeps = Keeps} g text place f runs behind items is lists rules =
-    let parts = front_of f.before ((place, f.word) ∷ behind) items (subst (λ (ws : Runs). Lists Says ws items) is lists) in
+no_fault : {A : Type 0} {Says : List ℕ → List A → Type 0} {Keeps : List A → Type 0} → IsGrammar Says Keeps → (text : List ℕ) (offset : ℕ)
+    (f : TextFaultsAt Says Keeps text offset) (runs behind : Runs) (items : List A) → runs ≡ f.before ++ (offset, f.word) ∷ behind → Lists Says runs items → Keeps items → ⊥
+no_fault {A = A} {Says = Says} {Keeps = Keeps} g text offset f runs behind items is lists rules =
+    let parts = front_of f.before ((offset, f.word) ∷ behind) items (subst (λ (ws : Runs). Lists Says ws items) is lists) in
     let h = invert parts.rest in
     let same : parts.front ≡ f.items = lists_unique g f.before parts.front f.items parts.lists f.lists in
     let all : items ≡ (f.items ++ h.said) ++ h.rest =
     parts.both ∙ ap (λ (zs : List A). zs ++ parts.back) same ∙ ap (λ (zs : List A). f.items ++ zs) h.both ∙ sym (append_assoc f.items h.said h.rest) in
     f.fault h.said h.says (g.front (f.items ++ h.said) h.rest (subst Keeps all rules))
 
-pub never_both : {A : Type 0} {Says : List ℕ → List A → Type 0} {Keeps : List A → Type 0} → IsGrammar Says Keeps → (text : List ℕ) (items : List A) (place : ℕ)
-    → TextMeans Says Keeps text items → ¬ TextFaultsAt Says Keeps text place
-never_both g text items place means fault = no_fault g text place fault (runs_of text) fault.behind items fault.split means.lists means.rules
+pub never_both : {A : Type 0} {Says : List ℕ → List A → Type 0} {Keeps : List A → Type 0} → IsGrammar Says Keeps → (text : List ℕ) (items : List A) (offset : ℕ)
+    → TextMeans Says Keeps text items → ¬ TextFaultsAt Says Keeps text offset
+never_both g text items offset means fault = no_fault g text offset fault (runs_of text) fault.behind items fault.split means.lists means.rules
 
 -- two ways to split a list: at one place, or one behind the other
 record Behind (before other : Runs) (w : ℕ × List ℕ) : Type 0 where

@@ -9,7 +9,7 @@ use Rattle.mm_word.specs.declared.cause.Cause.TheVariants.{Bounds, Priv}
 use Rattle.mm_word.specs.declared.word.Pre.{Pre}
 use Rattle.mm_word.specs.declared.word.Post.{Post}
 use Rattle.mm_word.specs.declared.word.Post.TheVariants as posts
-use Rattle.mm_word.specs.Access.{Touch, check_result}
+use Rattle.mm_word.specs.Access.{AccessValue, check_result}
 use Rattle.mm_word.specs.Word.{word_bits}
 use Rattle.mm_isa.specs.declared.instr.Instr.{Instr}
 use Rattle.mm_isa.specs.declared.instr.Instr.TheVariants.{Out, Ld, St, Evt, Resume, Rreg, Wreg, Map, Unmap}
@@ -21,7 +21,7 @@ pub data Ask : Type 0 where
   -- a test of the instruction's own fails
   Refuse : (cause : Cause) → Ask
   -- an access to a cell that has to pass a precondition
-  Reach : (access : Touch) (pre : Pre) → Ask
+  Reach : (access : AccessValue) (pre : Pre) → Ask
   MapPage : (page : ℕ) → Ask
   UnmapPage : (page : ℕ) → Ask
   -- the oldest event of the slot's own queue
@@ -37,7 +37,7 @@ load_kind posts.Keep = Load
 load_kind posts.Full = LoadSet
 load_kind posts.Empty = LoadSet
 
-abbrev pub reaching : Result Touch Cause → Pre → Ask
+abbrev pub reaching : Result AccessValue Cause → Pre → Ask
 reaching (Err c) pre = Refuse c
 reaching (Ok a) pre = Reach a pre
 

@@ -25,9 +25,9 @@ writes LoadSet = true
 writes Store = true
 
 -- the block that a line keeps when a page is removed: none if it is of that page
-abbrev pub kept : ℕ → Option ℕ → Option ℕ
-kept page None = None
-kept page (Some block) = if page_of_block block == page then None else Some block
+abbrev pub outside_page : ℕ → Option ℕ → Option ℕ
+outside_page page None = None
+outside_page page (Some block) = if page_of_block block == page then None else Some block
 
 -- the block of the latest counted access with this line index, if its page was not removed since
 abbrev pub latest : ℕ → List Use → Option ℕ
@@ -35,7 +35,7 @@ latest line [] = None
 latest line (Accessed kind addr true done ∷ us) =
     if line_of (block_of addr) == line then Some (block_of addr) else latest line us
 latest line (Accessed kind addr false done ∷ us) = latest line us
-latest line (Removed page ∷ us) = kept page (latest line us)
+latest line (Removed page ∷ us) = outside_page page (latest line us)
 
 abbrev pub is_block : Option ℕ → ℕ → Bool
 is_block None block = false

@@ -11,7 +11,7 @@ use Rattle.mm_word.specs.declared.word.Post.TheVariants as posts
 use Rattle.mm_word.specs.declared.word.Word.{Word}
 use Rattle.mm_word.specs.declared.word.Word.TheVariants.{Int, Ptr}
 use Rattle.mm_word.specs.declared.word.Cell.{Cell}
-use Rattle.mm_word.specs.Access.{Touch}
+use Rattle.mm_word.specs.Access.{AccessValue}
 use Rattle.mm_word.specs.Cause.{number_of}
 use Rattle.mm_word.specs.Word.{word_bits, is_pointer}
 use Rattle.mm_word.specs.Pointer.{Pointer, moved_to, lea_result, leab_result, restrict_result, subseg_result}
@@ -37,7 +37,7 @@ pub data Reply : Type 0 where
   Fine : Reply
   Refused : (cause : Cause) → Reply
   -- the cell of an access that passes its precondition
-  Got : (access : Touch) (cell : Cell) → Reply
+  Got : (access : AccessValue) (cell : Cell) → Reply
   -- whether the page was mapped or unmapped
   Paged : (page : ℕ) (done : Bool) → Reply
   -- no event is there
@@ -80,7 +80,7 @@ pub data Effect : Type 0 where
   Block : Effect
   -- the slot waits, and the oldest pending load of the served slot is delivered
   Deliver : (other : Slot) → Effect
-  Does : (change : Change) → Effect
+  Do : (change : Change) → Effect
 
 abbrev pub moved_on : Pointer → Option Pointer → Pointer
 moved_on p None = p
@@ -116,7 +116,7 @@ plain s = record {
 
 -- register rd gets a word
 abbrev pub sets : Slot → ℕ → Word → Effect
-sets s rd w = Does (record (plain s) { writes = (rd, w) ∷ [] })
+sets s rd w = Do (record (plain s) { writes = (rd, w) ∷ [] })
 
 abbrev pub sets_pointer : Slot → ℕ → Result Pointer Cause → Effect
 sets_pointer s rd (Ok p) = sets s rd (Ptr p)
@@ -145,7 +145,7 @@ abbrev pub high_and_low : ℕ → ℤ → ℕ
 high_and_low bits imm = bits * 2 ^ 32 % 2 ^ 64 + cast_unsigned w32 imm
 
 abbrev pub puts_out : Slot → ℕ → Reply → Effect
-puts_out s byte Fine = Does (record (plain s) { out = Some byte })
+puts_out s byte Fine = Do (record (plain s) { out = Some byte })
 puts_out s byte (Refused c) = Fault c
 puts_out s byte _ = Block
 
@@ -161,13 +161,13 @@ loads false s rd w = record (plain s) { writes = (rd, w) ∷ [] }
 loads true s rd w = record (plain s) { writes = (rd, Int 0) ∷ []; issue = Some (record { reg = rd; word = w }) }
 
 abbrev pub loaded : Bool → Slot → ℕ → Post → Reply → Effect
-loaded split s rd post (Got a c) = Does (record (loads split s rd c.word) { cell = set_by post a.addr c })
+loaded split s rd post (Got a c) = Do (record (loads split s rd c.word) { cell = set_by post a.addr c })
 loaded split s rd post (Refused c) = Fault c
 loaded split s rd post _ = Block
 
 abbrev pub stored : Slot → Word → Post → Reply → Effect
 stored s w post (Got a c) =
-    Does (record (plain s) { cell = Some (a.addr, record { word = w; full = full_after post c.full }) })
+    Do (record (plain s) { cell = Some (a.addr, record { word = w; full = full_after post c.full }) })
 stored s w post (Refused c) = Fault c
 stored s w post _ = Block
 
@@ -176,7 +176,7 @@ abbrev pub at_distance : Slot → ℤ → Result Pointer Cause
 at_distance s imm = moved_to s.ip (pos s.ip.addr +ℤ (pos 8 *ℤ imm))
 
 abbrev pub branches : Slot → Result Pointer Cause → Effect
-branches s (Ok p) = Does (record (plain s) { next = p; past = false })
+branches s (Ok p) = Do (record (plain s) { next = p; past = false })
 branches s (Err c) = Fault c
 
 -- the enter pointer that a jump through p enters
@@ -190,18 +190,18 @@ entry_of p = entry_as p p.perm
 
 abbrev pub jumps : Slot → Pointer → Option Pointer → Effect
 jumps s p None = Fault cause.Perm
-jumps s p (Some to) = Does (record (plain s) { next = to; past = false; entered = entry_of p })
+jumps s p (Some to) = Do (record (plain s) { next = to; past = false; entered = entry_of p })
 
 -- the jump, after which rd holds the pointer to the instruction after this one
 abbrev pub links : Slot → ℕ → Pointer → Option Pointer → Option Pointer → Effect
 links s rd p None behind = Fault cause.Perm
 links s rd p (Some to) None = Fault cause.Bounds
 links s rd p (Some to) (Some back) =
-    Does (record (plain s) { writes = (rd, Ptr back) ∷ []; next = to; past = false; entered = entry_of p })
+    Do (record (plain s) { writes = (rd, Ptr back) ∷ []; next = to; past = false; entered = entry_of p })
 
 -- an event's words go to four registers, and its slot is taken
 abbrev pub takes : Slot → ℕ → Reply → Effect
-takes s rd (Took e rest of) = Does (record (plain s) {
+takes s rd (Took e rest of) = Do (record (plain s) {
   writes = (rd, Int (number_of e.cause + 256 * e.slot)) ∷ (rd + 1, Ptr e.ip) ∷ (rd + 2, e.addr_op)
       ∷ (rd + 3, e.value_op) ∷ [];
   queue = Some rest;
@@ -216,7 +216,7 @@ resumed_by Skip of = record of { state = Running; ip = advanced of.ip; past = of
 resumed_by Kill of = record of { state = Halted None }
 
 abbrev pub resumes : Slot → How → Reply → Effect
-resumes s how (Served of) = Does (record (plain s) { other = Some (resumed_by how of) })
+resumes s how (Served of) = Do (record (plain s) { other = Some (resumed_by how of) })
 resumes s how (Refused c) = Fault c
 resumes s how _ = Block
 
@@ -239,26 +239,26 @@ reads_of split s rd reg _ = Block
 abbrev pub writes_of : Bool → Slot → ℕ → Word → Reply → Effect
 writes_of split s reg w (Served of) =
     if split && is_empty of reg then Deliver (delivered of)
-    else Does (record (plain s) { other = Some (record of { regs = slice_set of.regs reg w }) })
+    else Do (record (plain s) { other = Some (record of { regs = slice_set of.regs reg w }) })
 writes_of split s reg w (Refused c) = Fault c
 writes_of split s reg w _ = Block
 
 abbrev pub maps : Slot → ℕ → Reply → Effect
-maps s rd (Paged page true) = Does (record (plain s) { writes = (rd, Int 1) ∷ []; pages = Add page })
+maps s rd (Paged page true) = Do (record (plain s) { writes = (rd, Int 1) ∷ []; pages = Add page })
 maps s rd (Paged page false) = sets s rd (Int 0)
 maps s rd (Refused c) = Fault c
 maps s rd _ = Block
 
 abbrev pub unmaps : Slot → ℕ → Reply → Effect
-unmaps s rd (Paged page true) = Does (record (plain s) { writes = (rd, Int 1) ∷ []; pages = Remove page })
+unmaps s rd (Paged page true) = Do (record (plain s) { writes = (rd, Int 1) ∷ []; pages = Remove page })
 unmaps s rd (Paged page false) = sets s rd (Int 0)
 unmaps s rd (Refused c) = Fault c
 unmaps s rd _ = Block
 
 -- The table of instructions: what each does for its slot with the reply, in a split machine or in a plain one.
 unfoldable pub effect : Bool → Instr → Slot → Reply → Effect
-effect split Halt s reply = Does (record (plain s) { next = s.ip; past = s.past; halts = true })
-effect split Nop s reply = Does (plain s)
+effect split Halt s reply = Do (record (plain s) { next = s.ip; past = s.past; halts = true })
+effect split Nop s reply = Do (plain s)
 effect split (Ldi rd imm) s reply = sets s rd (Int (cast_unsigned w64 imm))
 effect split (Ldhi rd imm) s reply = sets s rd (Int (high_and_low (word_bits (register s rd)) imm))
 effect split (Mov rd ra) s reply = sets s rd (register s ra)
@@ -284,9 +284,9 @@ effect split (Ld rd ra pre post imm) s reply = loaded split s rd post reply
 effect split (St ra rb pre post imm) s reply = stored s (register s rb) post reply
 effect split (Br imm) s reply = branches s (at_distance s imm)
 effect split (Bz ra imm) s reply =
-    if word_bits (register s ra) == 0 then branches s (at_distance s imm) else Does (plain s)
+    if word_bits (register s ra) == 0 then branches s (at_distance s imm) else Do (plain s)
 effect split (Bnz ra imm) s reply =
-    if word_bits (register s ra) == 0 then Does (plain s) else branches s (at_distance s imm)
+    if word_bits (register s ra) == 0 then Do (plain s) else branches s (at_distance s imm)
 effect split (Jmp ra) s reply = if_pointer (register s ra) (λ p. jumps s p (enter_result p))
 effect split (Jal rd ra) s reply = if_pointer (register s ra) (λ p. links s rd p (enter_result p) (next_result s.ip))
 effect split (Lip rd imm) s reply = sets_pointer s rd (at_distance s imm)

@@ -121,7 +121,7 @@ abbrev pub EventsAreAtSlots : Core → Type 0
 EventsAreAtSlots core = (h : ℕ) → AllByRecursion (IsAtSlot core) (queue_at core h)
 
 -- an empty register holds integer 0, and no load is pending in a plain machine
-pub record LoadsAreKept (split : Bool) (s : Slot) : Type 0 where
+pub record LoadsAreConsistent (split : Bool) (s : Slot) : Type 0 where
   pub zero : (r : ℕ) → is_empty s r ≡ true → register s r ≡ Int 0
   pub mode : split ≡ false → s.pending ≡ []
 
@@ -129,9 +129,9 @@ pub record LoadsAreKept (split : Bool) (s : Slot) : Type 0 where
 abbrev pub TakenBySome : Slot → Type 0
 TakenBySome s = is_taken s.state ≡ true → s.handler ≢ None
 
-pub record IsKept (core : Core) : Type 0 where
+pub record IsConsistent (core : Core) : Type 0 where
   pub in_place : EventsAreAtSlots core
-  pub loads : AllByRecursion (LoadsAreKept core.split) (slots_of core)
+  pub loads : AllByRecursion (LoadsAreConsistent core.split) (slots_of core)
   pub taken : AllByRecursion TakenBySome (slots_of core)
   -- no output is above the version's limit, and a group without a slot has put out nothing
   pub within : AllByRecursion (λ bytes. length bytes ≤ output_limit core.version) core.outputs
@@ -156,7 +156,7 @@ pub record IsCore (core : Core) : Type 0 where
   pub numbers : AllByRecursion (IsOfVersion 2) (slots_of core)
   pub handlers : HandlersAreOthers core
   pub matched : Matches core
-  pub kept : IsKept core
+  pub kept : IsConsistent core
 
 -- no slot has taken more turns than there were cycles
 abbrev pub TurnsWithin : State → Type 0

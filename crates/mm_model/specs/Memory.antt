@@ -33,8 +33,8 @@ abbrev pub is_mapped : Memory → ℕ → Bool
 is_mapped m p = is_some (page_at m p)
 
 abbrev pub cell_in : Option (List Cell) → ℕ → Option Cell
-cell_in None place = None
-cell_in (Some cells) place = slice_get cells place
+cell_in None cell_index = None
+cell_in (Some cells) cell_index = slice_get cells cell_index
 
 -- the cell of a word, if its page is mapped; none at an address that is no word's
 unfoldable pub cell_at : Memory → ℕ → Option Cell

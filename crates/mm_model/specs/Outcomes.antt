@@ -11,7 +11,7 @@ use Rattle.mm_model.specs.Slot.{Slot}
 use Rattle.mm_model.specs.State.{Core, State, slot_at, queue_at}
 use Rattle.mm_model.specs.Turn.{is_running, is_handler, is_sync, stood}
 use Rattle.mm_model.specs.Tests.{first_stop}
-use Rattle.mm_model.specs.Tests.Stop.{Fails, Lacks, Awaits}
+use Rattle.mm_model.specs.Tests.Stop.{Fault, Deliver, Block}
 
 -- 1. The item of a cycle.
 
@@ -41,16 +41,16 @@ Delivers core n reg = (s : Slot) × (p : Pending) × IsPort core n s p × (p.reg
 -- the slot runs by this item, and its turn stops at a fault
 pub record StopsAt (core : Core) (m : Memory) (n : ℕ) (s : Slot) (c : Cause) : Type 0 where
   pub runs : Runs core n s
-  pub stop : first_stop core m s ≡ Some (Fails c)
+  pub stop : first_stop core m s ≡ Some (Fault c)
 
 -- why a turn leaves its slot running at the same instruction
 pub data Waits (core : Core) (m : Memory) (s : Slot) : Type 0 where
   -- a register that the instruction needs waits for a load
-  for_load : (of : Slot) → first_stop core m s ≡ Some (Lacks of) → Waits core m s
+  for_load : (of : Slot) → first_stop core m s ≡ Some (Deliver of) → Waits core m s
   -- the synchronisation bit fails the precondition, and the slot has no handler
-  for_bit : first_stop core m s ≡ Some (Fails Sync) → s.handler ≡ None → Waits core m s
+  for_bit : first_stop core m s ≡ Some (Fault Sync) → s.handler ≡ None → Waits core m s
   -- there is no event to take
-  for_event : first_stop core m s ≡ Some Awaits → Waits core m s
+  for_event : first_stop core m s ≡ Some Block → Waits core m s
 
 -- blocked: the item is the number of a slot that runs, and its turn waits
 abbrev pub Blocks : Core → Memory → ℕ → Type 0

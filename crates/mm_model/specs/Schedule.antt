@@ -37,7 +37,7 @@ Means text items = TextMeans SaysItems FitsLimit text items
 -- The text's fault is at a place: there begins the first run that is no item, or that brings the count of items above
 -- the limit.
 abbrev pub FaultsAt : List ℕ → ℕ → Type 0
-FaultsAt text place = TextFaultsAt SaysItems FitsLimit text place
+FaultsAt text offset = TextFaultsAt SaysItems FitsLimit text offset
 
 -- 2. The items that are issued.
 

@@ -4,7 +4,7 @@ use Rattle.std.specs.Option.{option_to_list}
 use Rattle.mm_word.specs.declared.perm.Kind.{Kind}
 use Rattle.mm_word.specs.declared.perm.Kind.TheVariants.{Fetch, Load, LoadSet, Store}
 use Rattle.mm_word.specs.declared.word.Word.TheVariants.{Ptr}
-use Rattle.mm_word.specs.Access.{Touch}
+use Rattle.mm_word.specs.Access.{AccessValue}
 use Rattle.mm_word.specs.Cause.{number_of}
 use Rattle.mm_word.specs.Pointer.{Pointer}
 use Rattle.mm_model.specs.declared.step.Step.{Step}
@@ -26,7 +26,7 @@ kind_text Load = codes " load "
 kind_text LoadSet = codes " loadset "
 kind_text Store = codes " store "
 
-abbrev pub touch_text : Option Touch → List ℕ
+abbrev pub touch_text : Option AccessValue → List ℕ
 touch_text None = []
 touch_text (Some t) = kind_text t.kind ++ hex 14 t.addr
 
@@ -69,7 +69,7 @@ trace s items = traced (λ _. true) s items
 -- 2. Touches and entries.
 
 -- the accesses of a step: its fetch, and then what it touched
-abbrev pub touches : Step → List Touch
+abbrev pub touches : Step → List AccessValue
 touches step = option_to_list step.fetched ++ option_to_list step.touched
 
 abbrev pub group_of : Option Slot → ℕ

@@ -8,7 +8,7 @@ use Rattle.mm_word.specs.declared.word.Pre.{Pre}
 use Rattle.mm_word.specs.declared.word.Word.{Word}
 use Rattle.mm_word.specs.declared.word.Word.TheVariants.{Int, Ptr}
 use Rattle.mm_word.specs.declared.word.Cell.{Cell}
-use Rattle.mm_word.specs.Access.{Touch, check_result}
+use Rattle.mm_word.specs.Access.{AccessValue, check_result}
 use Rattle.mm_isa.specs.declared.instr.Instr.{Instr}
 use Rattle.mm_isa.specs.Decode.{instr_of}
 use Rattle.mm_model.specs.declared.slot.SlotState.{SlotState}
@@ -29,7 +29,7 @@ use Rattle.mm_model.specs.Ask.Ask.{Nothing, Refuse, Reach, MapPage, UnmapPage, N
 use Rattle.mm_model.specs.Effect.{Reply, Change, Pages, Effect, effect, delivered}
 use Rattle.mm_model.specs.Effect.Reply.{Fine, Refused, Got, Paged, NoEvent, Took, Served}
 use Rattle.mm_model.specs.Effect.Pages.{Keep, Add, Remove}
-use Rattle.mm_model.specs.Effect.Effect.{Fault, Block, Deliver, Does}
+use Rattle.mm_model.specs.Effect.Effect.{Fault, Block, Deliver, Do}
 
 -- what a turn leaves, its step, and what it asks of memory, in order
 pub record Turned : Type 0 where
@@ -40,7 +40,7 @@ pub record Turned : Type 0 where
 
 -- 1. The reply to what an instruction asks.
 
-abbrev pub reached : Touch → Pre → Option Cell → Reply
+abbrev pub reached : AccessValue → Pre → Option Cell → Reply
 reached a pre None = Refused NoPage
 reached a pre (Some c) = if passes pre c.full then Got a c else Refused Sync
 
@@ -157,7 +157,7 @@ abbrev pub tick_faulted : Cause → Option ℕ → Tick
 tick_faulted c (Some h) = Faulted c
 tick_faulted c None = if is_sync c then Blocked else Faulted c
 
-unfoldable pub faulted : Core → Memory → Slot → Cause → Word → Word → Option Touch → Option Touch → List Use → Turned
+unfoldable pub faulted : Core → Memory → Slot → Cause → Word → Word → Option AccessValue → Option AccessValue → List Use → Turned
 faulted core m s c a v fetched touched uses = record {
   core = core_faulted core s (event_of s c a v) s.handler;
   memory = m;
@@ -183,11 +183,11 @@ asked_use m (Reach a pre) = use_at a.kind a.addr pre (cell_at m a.addr) ∷ []
 asked_use m (UnmapPage page) = removal_use page (is_mapped m page)
 asked_use m _ = []
 
-abbrev pub touch_of : Ask → Option Touch
+abbrev pub touch_of : Ask → Option AccessValue
 touch_of (Reach a pre) = Some a
 touch_of _ = None
 
-unfoldable pub blocked : Core → Memory → Slot → Touch → Option Touch → List Use → Turned
+unfoldable pub blocked : Core → Memory → Slot → AccessValue → Option AccessValue → List Use → Turned
 blocked core m s f touched uses = record {
   core = put_slot core (stood s Running);
   memory = m;
@@ -195,29 +195,29 @@ blocked core m s f touched uses = record {
   uses = uses;
 }
 
-unfoldable pub ended : Core → Memory → Slot → Instr → Touch → Option Touch → List Use → Effect → Turned
+unfoldable pub ended : Core → Memory → Slot → Instr → AccessValue → Option AccessValue → List Use → Effect → Turned
 ended core m s i f touched uses (Fault c) =
     faulted core m s c (addr_operand i s) (value_operand i s) (Some f) touched uses
 ended core m s i f touched uses Block = blocked core m s f touched uses
 ended core m s i f touched uses (Deliver other) = blocked (put_slot core other) m s f touched uses
-ended core m s i f touched uses (Does c) = record {
+ended core m s i f touched uses (Do c) = record {
   core = core_after core s c;
   memory = memory_after m c;
   step = record { tick = Did; slot = s.number; fetched = Some f; touched = touched; entered = c.entered };
   uses = uses;
 }
 
-unfoldable pub executed : Core → Memory → Slot → Touch → Use → Instr → Turned
+unfoldable pub executed : Core → Memory → Slot → AccessValue → Use → Instr → Turned
 executed core m s f u i =
     let asked = ask i s in
     ended core m s i f (touch_of asked) (u ∷ asked_use m asked) (effect core.split i s (reply core m s.number asked))
 
 -- an instruction that needs an empty register waits, and the slot's oldest pending load is delivered
-unfoldable pub issued : Core → Memory → Slot → Touch → Use → Instr → Turned
+unfoldable pub issued : Core → Memory → Slot → AccessValue → Use → Instr → Turned
 issued core m s f u i =
     if core.split && lacks i s then blocked core m (delivered s) f None (u ∷ []) else executed core m s f u i
 
-abbrev pub decoded : Core → Memory → Slot → Touch → Use → Option Instr → Turned
+abbrev pub decoded : Core → Memory → Slot → AccessValue → Use → Option Instr → Turned
 decoded core m s f u None = faulted core m s Illegal (Int 0) (Int 0) (Some f) None (u ∷ [])
 decoded core m s f u (Some i) = issued core m s f u i
 
@@ -226,12 +226,12 @@ abbrev pub instr_in : Word → Option Instr
 instr_in (Int bits) = instr_of bits
 instr_in (Ptr p) = None
 
-abbrev pub fetched : Core → Memory → Slot → Touch → Option Cell → Turned
+abbrev pub fetched : Core → Memory → Slot → AccessValue → Option Cell → Turned
 fetched core m s f None =
     faulted core m s NoPage (Int 0) (Int 0) (Some f) None (Accessed f.kind f.addr false false ∷ [])
 fetched core m s f (Some c) = decoded core m s f (Accessed f.kind f.addr true true) (instr_in c.word)
 
-abbrev pub aimed : Core → Memory → Slot → Result Touch Cause → Turned
+abbrev pub aimed : Core → Memory → Slot → Result AccessValue Cause → Turned
 aimed core m s (Err c) = faulted core m s c (Int 0) (Int 0) None None []
 aimed core m s (Ok f) = fetched core m s f (cell_at m f.addr)
 

@@ -44,11 +44,11 @@ pub record TextMeans {A : Type 0} (Says : List ℕ → List A → Type 0) (Keeps
 
 -- The fault of the text is at a place: the first word that says nothing, or whose items break a rule, begins there.
 pub record TextFaultsAt {A : Type 0} (Says : List ℕ → List A → Type 0) (Keeps : List A → Type 0) (text : List ℕ)
-    (place : ℕ) : Type 0 where
+    (offset : ℕ) : Type 0 where
   pub before : List (ℕ × List ℕ)
   pub word : List ℕ
   pub behind : List (ℕ × List ℕ)
-  pub split : runs_of text ≡ before ++ (place, word) ∷ behind
+  pub split : runs_of text ≡ before ++ (offset, word) ∷ behind
   pub items : List A
   pub lists : Lists Says before items
   pub rules : Keeps items

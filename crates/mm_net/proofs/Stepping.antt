@@ -5,7 +5,7 @@ use Rattle.std.proofs.lemmas.Option.{same_Some}
 use Rattle.std.proofs.lemmas.Bool.{eqb-true}
 use Rattle.mm_word.specs.declared.perm.Kind.{Kind}
 use Rattle.mm_word.specs.declared.perm.Kind.TheVariants.{LoadSet, Store}
-use Rattle.mm_word.specs.Access.{Touch}
+use Rattle.mm_word.specs.Access.{AccessValue}
 use Rattle.mm_word.specs.declared.word.Pre.TheVariants.{Full, Empty}
 use Rattle.mm_word.specs.declared.word.Cell.{Cell}
 use Rattle.mm_mem.specs.declared.memory.Memory.{Ghosts}
@@ -179,7 +179,7 @@ module _ {M : Type 0} {memory : Ghosts M} where
       told refl took (ap (map link_by) wires ∙ links_kept old.wires.items l w v wire link) room steps
 
   -- the same, by what an access takes
-  pub sends : (old new : Net M memory) (l : ℕ) (tick : NetTick) (w v : Wired) (link : Link) (m m' : Machine M memory) (a : Touch)
+  pub sends : (old new : Net M memory) (l : ℕ) (tick : NetTick) (w v : Wired) (link : Link) (m m' : Machine M memory) (a : AccessValue)
       → link ≡ w.link → slice_get old.wires.items l ≡ Some w → slice_get old.nodes.items link.from ≡ Some m
       → new.nodes.items ≡ slice_set old.nodes.items link.from m' → new.wires.items ≡ slice_set old.wires.items l v
       → room_of new ≡ room_of old → steps_of new ≡ steps_of old + 1 → Reaches a LoadSet w.link.take
@@ -229,7 +229,7 @@ module _ {M : Type 0} {memory : Ghosts M} where
       told refl took (ap (map link_by) wires ∙ links_kept old.wires.items l w v wire link) room steps
 
   -- the same, by what an access puts
-  pub carries : (old new : Net M memory) (l k bits : ℕ) (tick : NetTick) (w v : Wired) (link : Link) (m m' : Machine M memory) (a : Touch)
+  pub carries : (old new : Net M memory) (l k bits : ℕ) (tick : NetTick) (w v : Wired) (link : Link) (m m' : Machine M memory) (a : AccessValue)
       → link ≡ w.link → slice_get old.wires.items l ≡ Some w → due w.carried k ≡ Some bits → slice_get old.nodes.items link.to ≡ Some m
       → new.nodes.items ≡ slice_set old.nodes.items link.to m' → new.wires.items ≡ slice_set old.wires.items l v
       → room_of new ≡ room_of old → steps_of new ≡ steps_of old + 1 → Reaches a Store w.link.put

@@ -12,7 +12,7 @@ use Rattle.std.proofs.lemmas.Slice.Zip.{get_or-zip, length-zip}
 use Rattle.std.proofs.lemmas.Grind.{flat_map-append}
 use Rattle.mm_io.specs.Sinks.{Writes}
 use Rattle.mm_io.proofs.Known.{writes_then, writes_same, writes_cut, append_known-[]}
-use Rattle.mm_text.proofs.Gathering.{lines_more}
+use Rattle.mm_text.proofs.Appending.{lines_more}
 use Rattle.mm_model.specs.declared.counts.Counts.{Counts}
 use Rattle.mm_model.specs.Uses.{Use}
 use Rattle.mm_model.specs.State.{State}

@@ -37,4 +37,4 @@ Means text items = TextMeans Says AreEvents text items
 
 -- the first word that is no event, or that brings the count of events above the limit, begins at the place
 abbrev pub FaultsAt : List ℕ → ℕ → Type 0
-FaultsAt text place = TextFaultsAt Says AreEvents text place
+FaultsAt text offset = TextFaultsAt Says AreEvents text offset

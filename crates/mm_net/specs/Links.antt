@@ -50,4 +50,4 @@ Means text links = TextMeans Says AreLinks text links
 
 -- the first word that is no link, or whose link breaks a rule, begins at the place
 abbrev pub FaultsAt : List ℕ → ℕ → Type 0
-FaultsAt text place = TextFaultsAt Says AreLinks text place
+FaultsAt text offset = TextFaultsAt Says AreLinks text offset

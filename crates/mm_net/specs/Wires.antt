@@ -2,7 +2,7 @@
 use Rattle.std.specs.Prelude.{◌≡◌, ℕ, ◌≤◌, List, map}
 use Rattle.mm_word.specs.declared.perm.Kind.{Kind}
 use Rattle.mm_word.specs.declared.perm.Kind.TheVariants.{LoadSet, Store}
-use Rattle.mm_word.specs.Access.{Touch}
+use Rattle.mm_word.specs.Access.{AccessValue}
 use Rattle.mm_model.specs.Schedule.{item_limit}
 use Rattle.mm_net.specs.declared.link.Link.{Link}
 use Rattle.mm_net.specs.Nets.{Carried}
@@ -20,12 +20,12 @@ abbrev pub carried_list : List Wired → List Carried
 carried_list wires = map (λ (w : Wired). w.carried) wires
 
 -- an access of a kind to the word at an address
-pub record Reaches (access : Touch) (kind : Kind) (address : ℕ) : Type 0 where
+pub record Reaches (access : AccessValue) (kind : Kind) (address : ℕ) : Type 0 where
   pub of_kind : access.kind ≡ kind
   pub at : access.addr ≡ address
 
 -- the accesses are those of the link, and no more integers arrived than it took
-pub record IsWire (link : Link) (taking putting : Touch) (sent arrived : ℕ) : Type 0 where
+pub record IsWire (link : Link) (taking putting : AccessValue) (sent arrived : ℕ) : Type 0 where
   pub takes : Reaches taking LoadSet link.take
   pub puts : Reaches putting Store link.put
   pub front : arrived ≤ sent

@@ -2,7 +2,7 @@
 
 ghost use Rattle.std.specs.Prelude.{◌≡◌, ◌<◌, ◌++◌, ℕ, List, length, Option, Some};
 ghost use Rattle.mm_io.specs.Sinks.{Writes};
-ghost use Rattle.mm_text.specs.Gathers.{Gathers};
+ghost use Rattle.mm_text.specs.Appends.{Appends};
 ghost use Rattle.mm_model.specs.declared.counts.Counts.{Counts};
 ghost use Rattle.mm_model.specs.Uses.{Use};
 ghost use Rattle.mm_machine.specs.Machine.{state_of, StandsTo};
@@ -16,7 +16,7 @@ use mm_image::Image;
 use mm_io::{Sink, WriteFault};
 use mm_machine::Machine;
 use mm_mem::{Inspect, Memory};
-use mm_text::{Gather, Piece, write_pieces};
+use mm_text::{TextBuffer, Piece, write_pieces};
 
 /// Writes the text of a net against the images of its nodes: for each node, ascending, a line `node N` and the node's
 /// report; then for each link, ascending, a line `link L sent N arrived M`. After a [`WriteFault`] the sink has taken a
@@ -93,7 +93,7 @@ fn write_node<M: Inspect, O: Sink>(
 fn write_links<M: Memory, O: Sink>(net: &Net<M>, out: &mut O) -> Result<(), WriteFault>
     ensures { Writes O.taken O.faults out.old out.new (link_lines (net_of net.now).links) result }
 {
-    let mut text = Gather::new();
+    let mut text = TextBuffer::new();
     for link in 0..net.link_count() {
         put_link(&mut text, out, net, link);
     }
@@ -101,10 +101,10 @@ fn write_links<M: Memory, O: Sink>(net: &Net<M>, out: &mut O) -> Result<(), Writ
 }
 
 /// Appends the line of a link.
-fn put_link<M: Memory, O: Sink>(text: &mut Gather, out: &mut O, net: &Net<M>, link: u8)
+fn put_link<M: Memory, O: Sink>(text: &mut TextBuffer, out: &mut O, net: &Net<M>, link: u8)
     requires { link < length (links_of net.now) }
     ensures { (carried : Carried) → carried_in net.now link ≡ Some carried
-        → Gathers O.taken O.faults out.old out.new text.old text.new (link_line link carried) }
+        → Appends O.taken O.faults out.old out.new text.old text.new (link_line link carried) }
 {
     text.put(
         out,

@@ -9,12 +9,12 @@ use Rattle.std.proofs.lemmas.List.FromFn.{length-map-range_with_len, take-map-ra
 use Rattle.mm_model.specs.Flags.{number_of_flags}
 use Rattle.mm_model.specs.Spelling.{bitmap}
 use Rattle.mm_model.specs.Bytes.{number_at, bit_at}
-use Rattle.mm_model.proofs.ImageBytes.Numbers.{field_1}
-use Rattle.mm_model.proofs.ImageBytes.Parts.{IsBytes, part, join_at, one_byte}
-use Rattle.mm_model.proofs.ImageBytes.Ranges.{map-same, map-shift, drop-range}
-use Rattle.mm_model.proofs.ImageBytes.Bitmaps.{number_of_bits, bitmap-part}
-use Rattle.mm_model.proofs.ImageBytes.Clean.{is_below}
-use Rattle.mm_model.proofs.ImageBytes.Apart.{number_of_flags-below, flag-get}
+use Rattle.mm_model.proofs.Bytes.Numbers.{field_1}
+use Rattle.mm_model.proofs.Bytes.Parts.{IsBytes, part, join_at, one_byte}
+use Rattle.mm_model.proofs.Bytes.Ranges.{map-same, map-shift, drop-range}
+use Rattle.mm_model.proofs.Bytes.Bitmaps.{number_of_bits, bitmap-part}
+use Rattle.mm_model.proofs.Bytes.Clean.{is_below}
+use Rattle.mm_model.proofs.Bytes.Apart.{number_of_flags-below, flag-get}
 use Rattle.mm_object.specs.Format.{has_unused_bit}
 use Rattle.mm_object.proofs.Written.{bitmap_more}
 

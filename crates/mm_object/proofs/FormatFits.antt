@@ -12,8 +12,8 @@ use Rattle.mm_word.specs.declared.perm.Perm.TheVariants.{Key}
 use Rattle.mm_word.proofs.Packing.{perm_of-code_of, code_of-in_range}
 use Rattle.mm_model.specs.Bytes.{IsBytes, bit_at}
 use Rattle.mm_model.specs.Spelling.{bitmap, handler_byte}
-use Rattle.mm_model.proofs.ImageBytes.Apart.{number_of_flags-below}
-use Rattle.mm_model.proofs.ImageBytes.Ranges.{range-list}
+use Rattle.mm_model.proofs.Bytes.Apart.{number_of_flags-below}
+use Rattle.mm_model.proofs.Bytes.Ranges.{range-list}
 use Rattle.mm_format.specs.Formats.{each, times, cons, first_late}
 use Rattle.mm_format.specs.Images.{mask, flags_of, bits_in}
 use Rattle.mm_format.proofs.ImagesFit.{fits_mask, Rise, rises, rise_all, long_bitmap, not_zero}

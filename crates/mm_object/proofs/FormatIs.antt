@@ -15,7 +15,7 @@ use Rattle.mm_model.specs.Spelling.{bitmap, handler_byte}
 use Rattle.mm_format.specs.Formats.{Format, IsFormat, byte, u16, u32, raw, each, cons}
 use Rattle.mm_format.specs.Images.{mask, flags_of, bits_in}
 use Rattle.mm_format.proofs.Formats.{byte_is, u16_is, u32_is, u64_is, text_is, raw_is, test_is, literal_is}
-use Rattle.mm_format.specs.Formats.Outcome.{Got}
+use Rattle.mm_format.specs.Formats.Parsed.{Got}
 use Rattle.mm_format.proofs.Formats.{literal_read, then_is, done_is, ends_within}
 use Rattle.mm_format.proofs.Images.{mask_is, bits_count, handler_again}
 use Rattle.mm_format.proofs.Lists.{each_is, times_is, times_long, late_is}

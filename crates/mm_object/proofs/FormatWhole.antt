@@ -4,13 +4,13 @@ use Rattle.std.proofs.Common.{append_assoc, append-nil}
 use Rattle.std.specs.List.{flat_map}
 use Rattle.mm_model.specs.Bytes.{IsBytes}
 use Rattle.mm_format.specs.Formats.{file, fault_in}
-use Rattle.mm_format.specs.Formats.Outcome.{Got}
+use Rattle.mm_format.specs.Formats.Parsed.{Got}
 use Rattle.mm_format.specs.declared.reader.ReadError.{ReadError, TheVariants.{Fault, NoMemory}}
 use Rattle.mm_format.specs.Reading.{fault_named_by}
 use Rattle.mm_format.proofs.Files.{spelled_by, read_whole, same_value, clean_got}
 use Rattle.mm_format.proofs.Lists.{times_spell}
 use Rattle.mm_object.specs.declared.fault.ObjectFault.{ObjectFault}
-use Rattle.mm_object.specs.Answers.{number_of, told}
+use Rattle.mm_object.specs.Answers.{number_of, from_read_error}
 use Rattle.mm_object.specs.Faults.{fault_of, object_fault}
 use Rattle.mm_object.specs.Format.{push, header_row, external_row, segment_row, count_row, good_reloc, reloc_row, good_thread}
 use Rattle.mm_object.specs.Format.{thread_row, pointers_row, header_in, object, segment_record, name_record, reloc_record}
@@ -66,6 +66,6 @@ module _ (bytes : List ℕ) where
   spelled_one a b s t = same_value (sym (spelled_read a s) ∙ spelled_read b t)
 
 -- the error that is told names the fault that was met
-pub told_right : (e : ReadError ObjectFault) → fault_of (told e) ≡ fault_named_by number_of e
+pub told_right : (e : ReadError ObjectFault) → fault_of (from_read_error e) ≡ fault_named_by number_of e
 told_right (Fault kind offset) = refl
 told_right NoMemory = refl

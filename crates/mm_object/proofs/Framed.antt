@@ -2,13 +2,13 @@
 use Rattle.std.proofs.Common.{◌≡◌, ℕ, List, length, ap, ◌∙◌}
 use Rattle.mm_format.specs.declared.reader.ReadError.{ReadError}
 use Rattle.mm_format.specs.declared.reader.ReadError.TheVariants.{Fault, NoMemory}
-use Rattle.mm_format.specs.Formats.{Outcome, Format, IsFormat, text, after}
-use Rattle.mm_format.specs.Formats.Outcome.{Got, Bad}
+use Rattle.mm_format.specs.Formats.{Parsed, Format, IsFormat, text, after}
+use Rattle.mm_format.specs.Formats.Parsed.{Got, Bad}
 use Rattle.mm_format.specs.Reading.{FailsOr}
 use Rattle.mm_format.proofs.Formats.{after_got, text_is}
 use Rattle.mm_object.specs.Format.{renamed, framed}
 
-named : {A : Type 0} (number at : ℕ) (o : Outcome A) (a : A) (next : ℕ) → renamed number at o ≡ Got a next
+named : {A : Type 0} (number at : ℕ) (o : Parsed A) (a : A) (next : ℕ) → renamed number at o ≡ Got a next
     → o ≡ Got a next
 named number at (Got x n) a next e = e
 named number at (Bad n p) a next e = absurd cc

@@ -2,8 +2,8 @@
 use Rattle.std.proofs.Common.{◌≡◌, ℕ, ◌-◌, true, List, [], Option, Some, None, ap, ◌∙◌, arith}
 use Rattle.mm_format.specs.declared.reader.ReadError.{ReadError}
 use Rattle.mm_format.specs.declared.reader.ReadError.TheVariants.{Fault, NoMemory}
-use Rattle.mm_format.specs.Formats.{Outcome, Format, Late, after, answer, first_late, times}
-use Rattle.mm_format.specs.Formats.Outcome.{Got, Bad}
+use Rattle.mm_format.specs.Formats.{Parsed, Format, Late, after, answer, first_late, times}
+use Rattle.mm_format.specs.Formats.Parsed.{Got, Bad}
 use Rattle.mm_format.specs.Reading.{FailsOr}
 use Rattle.mm_format.proofs.Loops.{prefixed, nothing_before}
 use Rattle.mm_object.specs.Format.{push}
@@ -16,7 +16,7 @@ push_begin f count bytes at xs none =
     rw (none, all) (nothing_before ((times f push count []).read bytes at))
 
 -- a late test refuses what was read
-pub late_refused : {K A : Type 0} (number : K → ℕ) (wants : Type 0) (tests : A → List Late) (at : ℕ) (read : Outcome A)
+pub late_refused : {K A : Type 0} (number : K → ℕ) (wants : Type 0) (tests : A → List Late) (at : ℕ) (read : Parsed A)
     (a : A) (next : ℕ) → read ≡ Got a next → (e : ReadError K)
     → FailsOr ⊥ number (answer (first_late at (tests a)) true 0) e
     → FailsOr wants number (after read (λ a next. answer (first_late at (tests a)) a next)) e

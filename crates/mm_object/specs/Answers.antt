@@ -19,6 +19,6 @@ number_of faults.Thread = 8
 number_of faults.Trailing = 9
 
 -- the error of a reader of fields, as one of objects
-abbrev pub told : ReadError ObjectFault → ObjectError
-told (reading.Fault kind offset) = errors.Fault kind offset
-told reading.NoMemory = errors.NoMemory
+abbrev pub from_read_error : ReadError ObjectFault → ObjectError
+from_read_error (reading.Fault kind offset) = errors.Fault kind offset
+from_read_error reading.NoMemory = errors.NoMemory

@@ -18,7 +18,7 @@ use Rattle.mm_word.specs.declared.perm.Perm.TheVariants.{Key}
 use Rattle.mm_word.specs.Perm.{code_of, perm_of}
 use Rattle.mm_model.specs.Bytes.{number_at}
 use Rattle.mm_model.specs.Spelling.{bitmap, handler_byte}
-use Rattle.mm_format.specs.Formats.{Outcome, Format, Late, byte, u16, u32, u64, text, raw, test, literal, part, after}
+use Rattle.mm_format.specs.Formats.{Parsed, Format, Late, byte, u16, u32, u64, text, raw, test, literal, part, after}
 use Rattle.mm_format.specs.Formats.{done, ◌>>=◌, each, times, late}
 use Rattle.mm_format.specs.Images.{mask, bits_in}
 use Rattle.mm_object.specs.declared.header.Header.{Header}
@@ -43,9 +43,9 @@ abbrev pub push : {A : Type 0} → List A → A → List A
 push xs x = xs ++ x ∷ []
 
 -- whatever is wrong is the fault of this number at this place
-abbrev pub renamed : {A : Type 0} → (number at : ℕ) → Outcome A → Outcome A
-renamed number at (Outcome.Got a next) = Outcome.Got a next
-renamed number at (Outcome.Bad n place) = Outcome.Bad number at
+abbrev pub renamed : {A : Type 0} → (number at : ℕ) → Parsed A → Parsed A
+renamed number at (Parsed.Got a next) = Parsed.Got a next
+renamed number at (Parsed.Bad n place) = Parsed.Bad number at
 
 -- a record of this size, which has to be whole; whatever is wrong in it, the fault of this number is where it begins
 abbrev pub framed : {A : Type 0} → (size : ℕ) → Format A → (number : ℕ) → Format A

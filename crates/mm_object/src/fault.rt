@@ -68,9 +68,9 @@ impl FaultKind for ObjectFault {
 }
 
 impl From<ReadError<ObjectFault>> for ObjectError {
-    ghost use Rattle.mm_object.specs.Answers.{told};
+    ghost use Rattle.mm_object.specs.Answers.{from_read_error};
 
-    ghost from_gives = { λ e told_error. told_error ≡ told e };
+    ghost from_gives = { λ e error. error ≡ from_read_error e };
 
     fn from(error: ReadError<ObjectFault>) -> ObjectError {
         match error {

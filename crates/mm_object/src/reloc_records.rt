@@ -12,7 +12,7 @@ use crate::fields::{read_perm, read_target};
 use crate::relocs::{is_reloc, place_of};
 use crate::segment::Segment;
 use crate::target::Reloc;
-use mm_format::{ReadError, Reader, Run, failed, read_run, refuse_if};
+use mm_format::{ReadError, Reader, Records, failed, read_records, refuse_if};
 use std::alloc::Global;
 
 /// The length in bytes of the record of a relocation.
@@ -85,13 +85,13 @@ fn read_reloc(
 /// What comes before a relocation: the segments and the count of externals of its object, and the least place that it
 /// may have.
 #[derive(Drop)]
-struct RelocRun<'a> {
+struct RelocRecords<'a> {
     segments: &'a [Segment],
     externals: u16,
     least: u64,
 }
 
-impl Run<ObjectFault> for RelocRun<'_> {
+impl Records<ObjectFault> for RelocRecords<'_> {
     ghost use Rattle.std.specs.Prelude.{◌+◌};
     ghost use Rattle.mm_object.specs.Format.{reloc_row};
     ghost use Rattle.mm_object.specs.Objects.{place_of};
@@ -124,10 +124,10 @@ pub(crate) fn read_relocs(
     ensures read { Reads number_of (λ relocs. relocs.items)
         (times (reloc_row segments.now externals) (λ _ r. place_of r + 1) count 0).read reader.old reader.new result }
 {
-    let mut run = RelocRun {
+    let mut run = RelocRecords {
         segments,
         externals,
         least: 0,
     };
-    read_run(alloc, reader, &mut run, usize::from(count))
+    read_records(alloc, reader, &mut run, usize::from(count))
 }

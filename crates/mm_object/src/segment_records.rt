@@ -56,11 +56,11 @@ fn read_count(reader: &mut Reader, log: u8, words: usize) -> Result<u32, ReadErr
 
 /// The number of a byte of a bitmap, which begins at place 0.
 #[tactic(auto, using(crate::proofs::Numbers::byte_at))]
-fn byte(bitmap: &[u8], place: usize) -> u8
-    requires { place < length bitmap.now }
-    ensures { result ≡ number_at bitmap.now (0 + place) 1 }
+fn byte(bitmap: &[u8], index: usize) -> u8
+    requires { index < length bitmap.now }
+    ensures { result ≡ number_at bitmap.now (0 + index) 1 }
 {
-    bitmap[place]
+    bitmap[index]
 }
 
 /// Whether the last byte of a bitmap has a bit set that belongs to none of `count` words.
@@ -90,11 +90,11 @@ fn read_bits<'a>(reader: &mut Reader<'a>, count: u32) -> Result<&'a [u8], ReadEr
 }
 
 /// Whether a bit of a bitmap is set, the lowest bit of each byte first.
-fn bit(bitmap: &[u8], place: usize) -> bool
-    requires { place / 8 < length bitmap.now }
-    ensures { result ≡ bit_at bitmap.now 0 place }
+fn bit(bitmap: &[u8], index: usize) -> bool
+    requires { index / 8 < length bitmap.now }
+    ensures { result ≡ bit_at bitmap.now 0 index }
 {
-    is_set(u16::from(byte(bitmap, place / 8)), place % 8)
+    is_set(u16::from(byte(bitmap, index / 8)), index % 8)
 }
 
 /// Reads a word, which is full or empty.

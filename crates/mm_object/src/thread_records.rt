@@ -16,7 +16,7 @@ use crate::thread::{Thread, Value};
 use crate::threads::is_thread;
 use crate::writing::NO_HANDLER;
 use mm_format::{
-    ReadError, Reader, Run, Sixteen, failed, is_set, read_run, read_sixteen, refuse_if,
+    ReadError, Reader, Records, Elements, failed, is_set, read_records, read_array, refuse_if,
 };
 use std::alloc::Global;
 
@@ -69,16 +69,16 @@ struct Tags {
     tags: u16,
 }
 
-impl Sixteen<ObjectFault> for Tags {
+impl Elements<ObjectFault> for Tags {
     ghost use Rattle.std.specs.Prelude.{◌==◌, ◌/◌, ◌%◌, ◌^◌};
     ghost use Rattle.mm_object.specs.Format.{value_row};
 
     type Item = Value;
 
-    ghost reads = { λ t place. (value_row (t.tags / 2 ^ place % 2 == 1)).read };
+    ghost reads = { λ t index. (value_row (t.tags / 2 ^ index % 2 == 1)).read };
 
-    fn item(&self, reader: &mut Reader, place: usize) -> Result<Value, ReadError<ObjectFault>> {
-        read_value(reader, is_set(self.tags, place))
+    fn item(&self, reader: &mut Reader, index: usize) -> Result<Value, ReadError<ObjectFault>> {
+        read_value(reader, is_set(self.tags, index))
     }
 }
 
@@ -88,7 +88,7 @@ fn read_registers(reader: &mut Reader, tags: u16) -> Result<[Value; 16], ReadErr
     ensures read { ReadsAlone number_of (λ regs. regs)
         (each value_row (flags_of tags)).read reader.old reader.new result }
 {
-    read_sixteen(reader, &Tags { tags }, Value::Int(0))
+    read_array(reader, &Tags { tags }, Value::Int(0))
 }
 
 /// Reads the fields of a thread.
@@ -162,13 +162,13 @@ fn read_thread(
 /// What comes before a thread: the segments and the count of externals of its object, and the least slot that it may
 /// have.
 #[derive(Drop)]
-struct ThreadRun<'a> {
+struct ThreadRecords<'a> {
     segments: &'a [Segment],
     externals: u16,
     least: u8,
 }
 
-impl Run<ObjectFault> for ThreadRun<'_> {
+impl Records<ObjectFault> for ThreadRecords<'_> {
     ghost use Rattle.std.specs.Prelude.{◌+◌};
     ghost use Rattle.mm_object.specs.Format.{thread_row};
 
@@ -200,10 +200,10 @@ pub(crate) fn read_threads(
     ensures read { Reads number_of (λ threads. threads.items)
         (times (thread_row segments.now externals) (λ _ t. t.slot + 1) count 0).read reader.old reader.new result }
 {
-    let mut run = ThreadRun {
+    let mut run = ThreadRecords {
         segments,
         externals,
         least: 0,
     };
-    read_run(alloc, reader, &mut run, usize::from(count))
+    read_records(alloc, reader, &mut run, usize::from(count))
 }

@@ -12,7 +12,7 @@ use Rattle.std.specs.FinMap.{is_sorted, put}
 use Rattle.std.specs.FinMap.Entries.{by_order, below_all}
 use Rattle.std.proofs.lemmas.Bool.Decides.{nat_tests}
 use Rattle.mm_word.specs.declared.word.Cell.{Cell}
-use Rattle.mm_text.specs.Gathers.{Gathered, Gathers}
+use Rattle.mm_text.specs.Appends.{Buffered, Appends}
 use Rattle.mm_model.specs.Memory.{Memory, page_of, page_at, cell_at, is_mapped, zero_cell, IsPage, IsPaged}
 use Rattle.mm_model.specs.Report.{page_change, page_lines, pages_of}
 use Rattle.mm_mem.specs.Places.{IsAt}
@@ -195,9 +195,9 @@ shorter (x ∷ xs) (y ∷ ys) n e =
     ]
 
 -- the lines up to two places are written, and the others follow
-pub record Written {S : Type 0} (taken : S → Option (List ℕ)) (faults : S → ℕ) (old_out new_out : S) (old new : Gathered) (now was : Memory) (i j : ℕ) : Type 0 where
+pub record Written {S : Type 0} (taken : S → Option (List ℕ)) (faults : S → ℕ) (old_out new_out : S) (old new : Buffered) (now was : Memory) (i j : ℕ) : Type 0 where
   pub text : List ℕ
-  pub gathered : Gathers taken faults old_out new_out old new text
+  pub gathered : Appends taken faults old_out new_out old new text
   pub rest : text ++ lines_of now was (drop i (numbers now.pages)) (drop j (numbers was.pages)) ≡ page_lines now was
   pub mapped : i ≤ length now.pages
   pub had : j ≤ length was.pages

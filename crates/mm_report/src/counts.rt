@@ -1,15 +1,15 @@
 //! The line of the counts of a memory.
 
-ghost use Rattle.mm_text.specs.Gathers.{Gathers};
+ghost use Rattle.mm_text.specs.Appends.{Appends};
 ghost use Rattle.mm_model.specs.Report.{count_line};
 
 use mm_io::Sink;
 use mm_model::Counts;
-use mm_text::{Gather, Piece};
+use mm_text::{TextBuffer, Piece};
 
 /// Appends the line of the counts of a memory, if it counts.
-pub fn put_counts<O: Sink>(text: &mut Gather, out: &mut O, counts: Option<Counts>)
-    ensures { Gathers O.taken O.faults out.old out.new text.old text.new (count_line counts) }
+pub fn put_counts<O: Sink>(text: &mut TextBuffer, out: &mut O, counts: Option<Counts>)
+    ensures { Appends O.taken O.faults out.old out.new text.old text.new (count_line counts) }
 {
     let Some(counts) = counts else {
         return;

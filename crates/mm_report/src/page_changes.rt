@@ -4,7 +4,7 @@ ghost use Rattle.std.specs.Prelude.{◌≡◌, ◌<◌, ◌≤◌, ◌^◌, ◌+
 ghost use Rattle.std.specs.List.{AllByRecursion};
 ghost use Rattle.std.specs.Ordering.{nat_cmp};
 ghost use Rattle.std.specs.FinMap.{is_sorted};
-ghost use Rattle.mm_text.specs.Gathers.{Gathers};
+ghost use Rattle.mm_text.specs.Appends.{Appends};
 ghost use Rattle.mm_model.specs.Memory.{is_mapped, IsPage, IsPaged};
 ghost use Rattle.mm_model.specs.Report.{page_change, page_lines};
 ghost use Rattle.mm_report.specs.Changes.{contents};
@@ -14,11 +14,11 @@ use crate::cells::find_page;
 use mm_io::Sink;
 use mm_mem::Inspect;
 use mm_model::Page;
-use mm_text::{Gather, Piece};
+use mm_text::{TextBuffer, Piece};
 
 /// Appends the line of a page that was mapped or removed.
-fn put_page_change<O: Sink>(text: &mut Gather, out: &mut O, number: u64, now: bool, was: bool)
-    ensures { Gathers O.taken O.faults out.old out.new text.old text.new (page_change number now was) }
+fn put_page_change<O: Sink>(text: &mut TextBuffer, out: &mut O, number: u64, now: bool, was: bool)
+    ensures { Appends O.taken O.faults out.old out.new text.old text.new (page_change number now was) }
 {
     let what = match (now, was) {
         (true, false) => " new\n",
@@ -114,11 +114,11 @@ fn had_behind(pages: &[Page], j: usize, number: u64) -> usize
 }
 
 /// Appends the lines of pages that are mapped and not in the image, or in the image and not mapped, ascending.
-pub fn put_pages<M: Inspect, O: Sink>(text: &mut Gather, out: &mut O, mem: &M, pages: &[Page])
+pub fn put_pages<M: Inspect, O: Sink>(text: &mut TextBuffer, out: &mut O, mem: &M, pages: &[Page])
     requires rising { IsTrue (is_sorted nat_cmp pages.now) }
     requires whole { AllByRecursion IsPage pages.now }
     requires paged { IsPaged (M.meaning mem.now) }
-    ensures { Gathers O.taken O.faults out.old out.new text.old text.new
+    ensures { Appends O.taken O.faults out.old out.new text.old text.new
         (page_lines (M.meaning mem.now) (contents pages.now)) }
 {
     let mut i = 0;

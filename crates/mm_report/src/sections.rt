@@ -2,7 +2,7 @@
 
 ghost use Rattle.std.specs.Prelude.{◌≡◌};
 ghost use Rattle.std.specs.List.{flat_map, filter, list_any};
-ghost use Rattle.mm_text.specs.Gathers.{Gathers};
+ghost use Rattle.mm_text.specs.Appends.{Appends};
 ghost use Rattle.mm_model.specs.Lines.{slot_lines};
 ghost use Rattle.mm_model.specs.Report.{is_of, group_line, section, sections};
 ghost use Rattle.mm_machine.specs.Machine.{state_of};
@@ -12,7 +12,7 @@ use mm_io::Sink;
 use mm_machine::Machine;
 use mm_mem::Memory;
 use mm_model::Slot;
-use mm_text::{Gather, Piece, put_output, put_slot};
+use mm_text::{TextBuffer, Piece, put_output, put_slot};
 
 /// The count of groups that there can be.
 const GROUPS: u8 = 64;
@@ -30,8 +30,8 @@ fn has_slot<M: Memory>(m: &Machine<M>, group: u8) -> bool
 }
 
 /// Appends the first line of a group's section: `group G output N`, with the count of its output's bytes.
-fn put_group<O: Sink>(text: &mut Gather, out: &mut O, group: u8, count: u64)
-    ensures { Gathers O.taken O.faults out.old out.new text.old text.new (group_line group count) }
+fn put_group<O: Sink>(text: &mut TextBuffer, out: &mut O, group: u8, count: u64)
+    ensures { Appends O.taken O.faults out.old out.new text.old text.new (group_line group count) }
 {
     text.put(
         out,
@@ -46,8 +46,8 @@ fn put_group<O: Sink>(text: &mut Gather, out: &mut O, group: u8, count: u64)
 }
 
 /// Appends the lines of a slot, if it is of the group.
-fn put_member<O: Sink>(text: &mut Gather, out: &mut O, slot: &Slot, group: u8)
-    ensures { Gathers O.taken O.faults out.old out.new text.old text.new (member_text group slot.now) }
+fn put_member<O: Sink>(text: &mut TextBuffer, out: &mut O, slot: &Slot, group: u8)
+    ensures { Appends O.taken O.faults out.old out.new text.old text.new (member_text group slot.now) }
 {
     if slot.group == group {
         put_slot(text, out, slot);
@@ -55,8 +55,8 @@ fn put_member<O: Sink>(text: &mut Gather, out: &mut O, slot: &Slot, group: u8)
 }
 
 /// Appends the lines of the slots of a group.
-fn put_members<M: Memory, O: Sink>(text: &mut Gather, out: &mut O, m: &Machine<M>, group: u8)
-    ensures { Gathers O.taken O.faults out.old out.new text.old text.new
+fn put_members<M: Memory, O: Sink>(text: &mut TextBuffer, out: &mut O, m: &Machine<M>, group: u8)
+    ensures { Appends O.taken O.faults out.old out.new text.old text.new
         (flat_map (λ row. slot_lines row.slot) (filter (is_of group) (state_of m.now).core.rows)) }
 {
     for i in 0..m.slot_count() {
@@ -65,8 +65,8 @@ fn put_members<M: Memory, O: Sink>(text: &mut Gather, out: &mut O, m: &Machine<M
 }
 
 /// Appends the section of a group.
-fn put_section<M: Memory, O: Sink>(text: &mut Gather, out: &mut O, m: &Machine<M>, group: u8)
-    ensures { Gathers O.taken O.faults out.old out.new text.old text.new (section (state_of m.now).core group) }
+fn put_section<M: Memory, O: Sink>(text: &mut TextBuffer, out: &mut O, m: &Machine<M>, group: u8)
+    ensures { Appends O.taken O.faults out.old out.new text.old text.new (section (state_of m.now).core group) }
 {
     let output = m.output(group);
     put_group(text, out, group, output.len() as u64);
@@ -75,8 +75,8 @@ fn put_section<M: Memory, O: Sink>(text: &mut Gather, out: &mut O, m: &Machine<M
 }
 
 /// Appends the section of a group, if it has a slot.
-fn put_group_text<M: Memory, O: Sink>(text: &mut Gather, out: &mut O, m: &Machine<M>, group: u8)
-    ensures { Gathers O.taken O.faults out.old out.new text.old text.new (group_text (state_of m.now).core group) }
+fn put_group_text<M: Memory, O: Sink>(text: &mut TextBuffer, out: &mut O, m: &Machine<M>, group: u8)
+    ensures { Appends O.taken O.faults out.old out.new text.old text.new (group_text (state_of m.now).core group) }
 {
     if has_slot(m, group) {
         put_section(text, out, m, group);
@@ -84,8 +84,8 @@ fn put_group_text<M: Memory, O: Sink>(text: &mut Gather, out: &mut O, m: &Machin
 }
 
 /// Appends the sections of the groups that have a slot, ascending.
-pub fn put_sections<M: Memory, O: Sink>(text: &mut Gather, out: &mut O, m: &Machine<M>)
-    ensures { Gathers O.taken O.faults out.old out.new text.old text.new (sections (state_of m.now).core) }
+pub fn put_sections<M: Memory, O: Sink>(text: &mut TextBuffer, out: &mut O, m: &Machine<M>)
+    ensures { Appends O.taken O.faults out.old out.new text.old text.new (sections (state_of m.now).core) }
 {
     for group in 0..GROUPS {
         put_group_text(text, out, m, group);

@@ -15,7 +15,7 @@ use mm_image::Image;
 use mm_io::{Sink, WriteFault};
 use mm_machine::Machine;
 use mm_mem::Inspect;
-use mm_text::{Gather, put_cycles};
+use mm_text::{TextBuffer, put_cycles};
 
 /// Writes the report of a machine against an image: the total of cycles; for each group that has a slot its output and
 /// its slots; the pages that were mapped or removed; the cells that changed; and the counts of the memory, if it
@@ -36,7 +36,7 @@ pub fn report<M: Inspect, O: Sink>(
 {
     let mem = m.memory();
     let pages = img.pages();
-    let mut text = Gather::new();
+    let mut text = TextBuffer::new();
     put_cycles(&mut text, out, m.cycles());
     put_sections(&mut text, out, m);
     put_pages(&mut text, out, mem, pages);

@@ -2,13 +2,13 @@
 
 ghost use Rattle.std.specs.Prelude.{◌++◌, codes, decimal};
 ghost use Rattle.mm_io.specs.Sinks.{Writes};
-ghost use Rattle.mm_text.specs.Gathers.{Gathers};
+ghost use Rattle.mm_text.specs.Appends.{Appends};
 ghost use Rattle.mm_model.specs.Trace.{kind_text, touch_text, enter_text, turn_line, step_line};
 ghost use Rattle.mm_report.specs.Outcomes.{outcome_text};
 
 use mm_io::{Sink, WriteFault};
 use mm_model::{Step, Tick};
-use mm_text::{Gather, Piece, put_word};
+use mm_text::{TextBuffer, Piece, put_word};
 use mm_word::{Access, GuardedPtr, Kind, Word};
 
 /// Writes the line of a cycle in a trace:
@@ -24,15 +24,15 @@ use mm_word::{Access, GuardedPtr, Kind, Word};
 pub fn trace_line<O: Sink>(step: &Step, turn: u64, out: &mut O) -> Result<(), WriteFault>
     ensures { Writes O.taken O.faults out.old out.new (step_line turn step.now step.now.tick) result }
 {
-    let mut text = Gather::new();
+    let mut text = TextBuffer::new();
     put_step(&mut text, out, step, turn);
     text.finish(out)
 }
 
 /// Appends the line of a cycle, as [`trace_line`] writes it.
 #[tactic(auto, unfolding(mm_model::specs::Trace::step_line))]
-pub fn put_step<O: Sink>(text: &mut Gather, out: &mut O, step: &Step, turn: u64)
-    ensures { Gathers O.taken O.faults out.old out.new text.old text.new (step_line turn step.now step.now.tick) }
+pub fn put_step<O: Sink>(text: &mut TextBuffer, out: &mut O, step: &Step, turn: u64)
+    ensures { Appends O.taken O.faults out.old out.new text.old text.new (step_line turn step.now step.now.tick) }
 {
     match step.tick {
         Tick::Idle => {}
@@ -42,8 +42,8 @@ pub fn put_step<O: Sink>(text: &mut Gather, out: &mut O, step: &Step, turn: u64)
 }
 
 /// Appends the line of a delivery: `m S R`, with its slot and its register.
-fn put_delivery<O: Sink>(text: &mut Gather, out: &mut O, slot: u8, register: u8)
-    ensures { Gathers O.taken O.faults out.old out.new text.old text.new
+fn put_delivery<O: Sink>(text: &mut TextBuffer, out: &mut O, slot: u8, register: u8)
+    ensures { Appends O.taken O.faults out.old out.new text.old text.new
         (codes "m " ++ decimal slot ++ codes " " ++ decimal register ++ codes "\n") }
 {
     text.put(
@@ -59,8 +59,8 @@ fn put_delivery<O: Sink>(text: &mut Gather, out: &mut O, slot: u8, register: u8)
 }
 
 /// Appends the line of a turn.
-fn put_turn<O: Sink>(text: &mut Gather, out: &mut O, step: &Step, turn: u64)
-    ensures { Gathers O.taken O.faults out.old out.new text.old text.new
+fn put_turn<O: Sink>(text: &mut TextBuffer, out: &mut O, step: &Step, turn: u64)
+    ensures { Appends O.taken O.faults out.old out.new text.old text.new
         (turn_line turn step.now (outcome_text step.now.tick)) }
 {
     text.put(
@@ -81,8 +81,8 @@ fn put_turn<O: Sink>(text: &mut Gather, out: &mut O, step: &Step, turn: u64)
 }
 
 /// Appends how a turn ended: `did`, `blocked`, or `faulted` with the number of the cause.
-fn put_outcome<O: Sink>(text: &mut Gather, out: &mut O, tick: Tick)
-    ensures { Gathers O.taken O.faults out.old out.new text.old text.new (outcome_text tick) }
+fn put_outcome<O: Sink>(text: &mut TextBuffer, out: &mut O, tick: Tick)
+    ensures { Appends O.taken O.faults out.old out.new text.old text.new (outcome_text tick) }
 {
     match tick {
         Tick::Did => text.put_piece(out, &Piece::Text("did")),
@@ -99,8 +99,8 @@ fn put_outcome<O: Sink>(text: &mut Gather, out: &mut O, tick: Tick)
 }
 
 /// Appends an access, if there is one.
-fn put_touch<O: Sink>(text: &mut Gather, out: &mut O, access: Option<Access>)
-    ensures { Gathers O.taken O.faults out.old out.new text.old text.new (touch_text access) }
+fn put_touch<O: Sink>(text: &mut TextBuffer, out: &mut O, access: Option<Access>)
+    ensures { Appends O.taken O.faults out.old out.new text.old text.new (touch_text access) }
 {
     if let Some(access) = access {
         put_kind(text, out, access.kind());
@@ -109,8 +109,8 @@ fn put_touch<O: Sink>(text: &mut Gather, out: &mut O, access: Option<Access>)
 }
 
 /// Appends the name of a kind of access, with a blank on either side.
-fn put_kind<O: Sink>(text: &mut Gather, out: &mut O, kind: Kind)
-    ensures { Gathers O.taken O.faults out.old out.new text.old text.new (kind_text kind) }
+fn put_kind<O: Sink>(text: &mut TextBuffer, out: &mut O, kind: Kind)
+    ensures { Appends O.taken O.faults out.old out.new text.old text.new (kind_text kind) }
 {
     let name = match kind {
         Kind::Fetch => " fetch ",
@@ -122,8 +122,8 @@ fn put_kind<O: Sink>(text: &mut Gather, out: &mut O, kind: Kind)
 }
 
 /// Appends the enter pointer that was entered, if one was.
-fn put_entry<O: Sink>(text: &mut Gather, out: &mut O, entered: Option<GuardedPtr>)
-    ensures { Gathers O.taken O.faults out.old out.new text.old text.new (enter_text entered) }
+fn put_entry<O: Sink>(text: &mut TextBuffer, out: &mut O, entered: Option<GuardedPtr>)
+    ensures { Appends O.taken O.faults out.old out.new text.old text.new (enter_text entered) }
 {
     if let Some(pointer) = entered {
         text.put_piece(out, &Piece::Text(" enter "));

@@ -5,7 +5,7 @@ use Rattle.std.specs.Int.{abs_diff}
 use Rattle.std.proofs.lemmas.Bool.Decides.{nat_tests}
 use Rattle.std.proofs.lemmas.Option.{slice_get_within, get_or_from_slice_get}
 use Rattle.mm_model.specs.Image.{Image}
-use Rattle.mm_machine.specs.Kept.{Kept}
+use Rattle.mm_machine.specs.Validity.{IsValid}
 use Rattle.mm_debug.specs.declared.session.Go.TheVariants.{More}
 use Rattle.mm_debug.specs.Commands.{command_of}
 use Rattle.mm_debug.specs.Session.{Session, total_of, stepped, Answer, answer_to}
@@ -35,14 +35,14 @@ pub record WentBack (s : Session) (start : Point) (ring : List Point) (count : �
 
 -- it went to a point on the way, and issued the rest
 pub went : (s : Session) (start q : Point) (ring : List Point) (count n : ℕ) (g t : Session) → Remembers s start ring → IsOnTheWay (began_at s start) s q → total_at q ≤ total_of s - count
-    → g ≡ gone s q → t ≡ stepped g n → n ≡ total_of s - count - total_at q → ∥ Kept g.state ∥₁ → ((p : Point) → CanGo s p → CanGo g p) → WentBack s start ring count t
+    → g ≡ gone s q → t ≡ stepped g n → n ≡ total_of s - count - total_at q → ∥ IsValid g.state ∥₁ → ((p : Point) → CanGo s p → CanGo g p) → WentBack s start ring count t
 went s start q ring count n g t r on later is steps many kept goes =
     let target : ℕ = total_of s - count in
     let few : target ≤ total_of s = omega arith in
     let at : t ≡ stepped (gone s q) (target - total_at q) = steps ∙ ap (λ (h : Session). stepped h n) is ∙ ap (stepped (gone s q)) many in
     record {
       remembers = subst (λ (u : Session). Remembers u start ring) (sym at)
-          (back_remembers s start ring r q on target later few (subst (λ (h : Session). ∥ Kept h.state ∥₁) is kept) (λ p can. subst (λ (h : Session). CanGo h p) is (goes p can)));
+          (back_remembers s start ring r q on target later few (subst (λ (h : Session). ∥ IsValid h.state ∥₁) is kept) (λ p can. subst (λ (h : Session). CanGo h p) is (goes p can)));
       session = at ∙ went_back s start ring r q on target later few;
       total = ap total_of at ∙ back_total s start ring r q on target later few;
       first = ap (λ (u : Session). began_at u start) at ∙ back_first s start ring r q on target later few;
@@ -51,7 +51,7 @@ went s start q ring count n g t r on later is steps many kept goes =
 
 -- it went to the start
 pub went_home : (s : Session) (start : Point) (ring : List Point) (count n : ℕ) (g t : Session) → Remembers s start ring
-    → g ≡ gone s start → t ≡ stepped g n → n ≡ total_of s - count - total_at start → ∥ Kept g.state ∥₁ → ((p : Point) → CanGo s p → CanGo g p) → WentBack s start ring count t
+    → g ≡ gone s start → t ≡ stepped g n → n ≡ total_of s - count - total_at start → ∥ IsValid g.state ∥₁ → ((p : Point) → CanGo s p → CanGo g p) → WentBack s start ring count t
 went_home s start ring count n g t r is steps many kept goes =
     let begins = r.begins in
     went s start start ring count n g t r (start_on_way s start ring r) (omega (arith, begins)) is steps many kept goes

@@ -7,9 +7,9 @@ use Rattle.circular_buffer.specs.Buffer.{keep_last}
 use Rattle.mm_model.specs.State.{State}
 use Rattle.mm_model.specs.Image.{Image}
 use Rattle.mm_model.specs.Run.{after, run}
-use Rattle.mm_machine.specs.Kept.{Kept}
+use Rattle.mm_machine.specs.Validity.{IsValid}
 use Rattle.mm_machine.specs.Snapshot.{restored}
-use Rattle.mm_machine.proofs.Keeping.{kept_core}
+use Rattle.mm_machine.proofs.Keeping.{valid_core}
 use Rattle.mm_machine.proofs.Returning.{put_back}
 use Rattle.mm_debug.specs.declared.command.Command.{Command}
 use Rattle.mm_debug.specs.declared.command.Command.TheVariants.{Step}
@@ -126,7 +126,7 @@ module _ (s : Session) (c : Command) (start : Point) where
   pub answer_first : began_at (answer s c).session start ≡ began_at s start
   answer_first = began_like s (answer s c).session start (answer_keeps (IsLike s) (each_like s) s c (like_itself s))
 
-  pub answer_remembers : (ring : List Point) → ∥ Kept s.state ∥₁ → Remembers s start ring → Remembers (answer s c).session start ring
+  pub answer_remembers : (ring : List Point) → ∥ IsValid s.state ∥₁ → Remembers s start ring → Remembers (answer s c).session start ring
   answer_remembers ring kept r =
       remembers_like s (answer s c).session start ring (answer_keeps (IsLike s) (each_like s) s c (like_itself s))
       (answer_keeps (IsOn (began_at s start)) (each_on (began_at s start)) s c r.here) (λ p can. answer_goes s c p kept can) r
@@ -182,7 +182,7 @@ module _ (s : Session) (start : Point) (ring : List Point) (r : Remembers s star
     pub back_first : began_at there start ≡ began_at s start
     back_first = began_like s there start there_like
 
-    pub back_remembers : ∥ Kept (gone s q).state ∥₁ → ((p : Point) → CanGo s p → CanGo (gone s q) p) → Remembers there start ring
+    pub back_remembers : ∥ IsValid (gone s q).state ∥₁ → ((p : Point) → CanGo s p → CanGo (gone s q) p) → Remembers there start ring
     unfolding answer
     back_remembers kept goes =
         remembers_like s there start ring there_like (ap (stepped first) back_total ∙ sym bare_there)
@@ -198,13 +198,13 @@ module _ (s : Session) (start : Point) (ring : List Point) (r : Remembers s star
 -- 6. A recorder that keeps a state.
 
 -- a point of a session is where the session is
-pub point_here : (s : Session) (q : Point) → ∥ Kept s.state ∥₁ → IsPointOf s q → began_at s q ≡ bare s
+pub point_here : (s : Session) (q : Point) → ∥ IsValid s.state ∥₁ → IsPointOf s q → began_at s q ≡ bare s
 point_here s q kept is =
     let back : restored s.state q.snapshot ≡ s.state =
-    put_back s.state s.state q.snapshot (restored s.state q.snapshot) refl (record { version = refl; split = refl; frames = refl; core = ∥∥₁_map kept (λ k. kept_core s.state k) }) is.state in
+    put_back s.state s.state q.snapshot (restored s.state q.snapshot) refl (record { version = refl; split = refl; frames = refl; core = ∥∥₁_map kept (λ k. valid_core s.state k) }) is.state in
     ap (λ (state : State). bare (record s { last = q.last; state = state })) back ∙ ap (λ (last : Option ℕ). bare (record s { last = last })) is.last
 
-pub keeps_point : (s : Session) (start q : Point) (ring : List Point) (size : ℕ) → ∥ Kept s.state ∥₁ → IsPointOf s q → CanGo s q → Remembers s start ring
+pub keeps_point : (s : Session) (start q : Point) (ring : List Point) (size : ℕ) → ∥ IsValid s.state ∥₁ → IsPointOf s q → CanGo s q → Remembers s start ring
     → Remembers s start (keep_last size (ring ++ q ∷ []))
 keeps_point s start q ring size kept is can r =
     let P : Point → Type 0 = IsOnTheWay (began_at s start) s in
@@ -218,7 +218,7 @@ keeps_point s start q ring size kept is can r =
 
 -- 7. A recorder that begins.
 
-pub begins_with : (s : Session) (p : Point) → ∥ Kept s.state ∥₁ → IsPointOf s p → CanGo s p → total_of s ≡ 0 → Remembers s p []
+pub begins_with : (s : Session) (p : Point) → ∥ IsValid s.state ∥₁ → IsPointOf s p → CanGo s p → total_of s ≡ 0 → Remembers s p []
 begins_with s p kept is can none = record {
   begins = is.state.cycles ∙ none;
   fits = can;

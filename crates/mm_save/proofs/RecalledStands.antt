@@ -7,7 +7,7 @@ use Rattle.mm_sched.specs.declared.schedule.Order.{Order}
 use Rattle.mm_debug.specs.declared.command.Command.{Command}
 use Rattle.mm_debug.specs.Commands.{command_of}
 use Rattle.mm_debug.specs.Session.{Session, total_of, begun, stepped, answer}
-use Rattle.mm_machine.specs.Kept.{Kept}
+use Rattle.mm_machine.specs.Validity.{IsValid}
 use Rattle.mm_debug.specs.Standing.{Point, StandsFor, IsPointOf, GoesOnAfter, run_items, gone, total_at}
 use Rattle.mm_debug.proofs.Dialogues.{keeps}
 use Rattle.mm_debug.proofs.LinesStand.{answer_order}
@@ -92,5 +92,5 @@ back_recalls i s start ring now r q on target later few recalls = record {
 }
 
 -- a recorder that begins
-pub begins_recalls : (i : Image) (s : Session) (p : Point) (ring : List Point) → ∥ Kept s.state ∥₁ → IsPointOf s p → StandsFor i s → Recalls i (recording_by s p ring)
+pub begins_recalls : (i : Image) (s : Session) (p : Point) (ring : List Point) → ∥ IsValid s.state ∥₁ → IsPointOf s p → StandsFor i s → Recalls i (recording_by s p ring)
 begins_recalls i s p ring kept is stands = record { order = refl; session = stands; first = subst (StandsFor i) (sym (point_here s p kept is)) (bare_stands i s stands) }

@@ -4,7 +4,7 @@ ghost use Rattle.std.specs.Prelude.{◌≡◌, if◌then◌else◌, codes, None}
 ghost use Rattle.std.specs.Str.{bytes_eq};
 ghost use Rattle.mm_debug.specs.Shown.{session_of};
 ghost use Rattle.mm_save.specs.Recorder.{back_of, back_text, count_of};
-ghost use Rattle.mm_text.specs.Gathers.{Gathers};
+ghost use Rattle.mm_text.specs.Appends.{Appends};
 ghost use Rattle.mm_save.specs.Recorded.{Remembers};
 ghost use Rattle.std.proofs.Props.{props};
 
@@ -13,7 +13,7 @@ use mm_debug::{Go, LineHandler, Point, Session, handle_lines, number, take_token
 use mm_io::{Sink, WriteFault};
 use mm_mem::{Memory, Reset};
 use mm_model::CYCLE_LIMIT;
-use mm_text::{Gather, Piece};
+use mm_text::{TextBuffer, Piece};
 use mm_word::NoMemory;
 use std::alloc::Global;
 
@@ -42,7 +42,7 @@ pub struct Recorder<M: Memory> {
 impl<M: Reset> Recorder<M> {
     ghost use Rattle.std.specs.Prelude.{◌≡◌, ℕ, ◌-◌, ◌≤◌, min, [], IfOk, IfSome, IsSomeAnd, slice_get};
     ghost use Rattle.mm_io.specs.Sinks.{Writes};
-    ghost use Rattle.mm_text.specs.Gathers.{Gathers};
+    ghost use Rattle.mm_text.specs.Appends.{Appends};
     ghost use Rattle.mm_model.specs.Image.{Image};
     ghost use Rattle.mm_debug.specs.Commands.{lines_of};
     ghost use Rattle.mm_debug.specs.Session.{total_of};
@@ -112,7 +112,7 @@ impl<M: Reset> Recorder<M> {
         // The recorder stands for every image for which it stood.
         ensures stands { (i : Image) → Recalls i (recording_of self.old) → Recalls i (recording_of self.new) }
     {
-        let mut reply = Gather::new();
+        let mut reply = TextBuffer::new();
         let go = self.put_line(&mut reply, out, text);
         reply.finish(out)?;
         Ok(go)
@@ -130,20 +130,20 @@ impl<M: Reset> Recorder<M> {
             Writes O.taken O.faults out.old out.new (recorded r.first r.session input.now).text result }
         ensures stands { (i : Image) → Recalls i (recording_of self.old) → Recalls i (recording_of self.new) }
     {
-        let mut replies = Gather::new();
+        let mut replies = TextBuffer::new();
         handle_lines(self, &mut replies, out, input);
         replies.finish(out)
     }
 
     /// Carries out a line, and appends its reply.
-    fn put_line<O: Sink>(&mut self, reply: &mut Gather, out: &mut O, line: &[u8]) -> Go
+    fn put_line<O: Sink>(&mut self, reply: &mut TextBuffer, out: &mut O, line: &[u8]) -> Go
         ensures session { let r = recording_of self.old in
             (recording_of self.new).session ≡ (recalled r.first r.session line.now).session }
         ensures first { (recording_of self.new).first ≡ (recording_of self.old).first }
         ensures kept { let r = recording_of self.old in
             IsKept r.kept (total_of r.session) (recording_of self.new).kept }
         ensures reply { let r = recording_of self.old in
-            Gathers O.taken O.faults out.old out.new reply.old reply.new (recalled r.first r.session line.now).reply }
+            Appends O.taken O.faults out.old out.new reply.old reply.new (recalled r.first r.session line.now).reply }
         ensures go { let r = recording_of self.old in result ≡ (recalled r.first r.session line.now).go }
         ensures total { let was = total_of (recording_of self.old).session in (n : ℕ) → back_of line.now ≡ Some n
             → total_of (recording_of self.new).session ≡ was - min n was }
@@ -228,7 +228,7 @@ impl<M: Reset> LineHandler for Recorder<M> {
 
     ghost Answers = { λ old line reply new go. Handled (recording_of old) line reply (recording_of new) go };
 
-    fn handle_line<O: Sink>(&mut self, reply: &mut Gather, out: &mut O, line: &[u8]) -> Go {
+    fn handle_line<O: Sink>(&mut self, reply: &mut TextBuffer, out: &mut O, line: &[u8]) -> Go {
         self.put_line(reply, out, line)
     }
 }
@@ -257,8 +257,8 @@ fn count_of(word: &[u8], number: Option<u64>) -> Option<u64>
 }
 
 /// Appends the reply of a line that went back.
-fn put_back<O: Sink>(reply: &mut Gather, out: &mut O, count: u64, total: u64)
-    ensures { Gathers O.taken O.faults out.old out.new reply.old reply.new (back_text count total) }
+fn put_back<O: Sink>(reply: &mut TextBuffer, out: &mut O, count: u64, total: u64)
+    ensures { Appends O.taken O.faults out.old out.new reply.old reply.new (back_text count total) }
 {
     reply.put(
         out,

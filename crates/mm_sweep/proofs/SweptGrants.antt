@@ -8,7 +8,7 @@ use Rattle.mm_word.specs.declared.perm.Perm.{Perm}
 use Rattle.mm_word.specs.declared.word.Word.{Word}
 use Rattle.mm_word.specs.declared.word.Word.TheVariants.{Ptr}
 use Rattle.mm_word.specs.declared.word.Cell.{Cell}
-use Rattle.mm_word.specs.Access.{Touch}
+use Rattle.mm_word.specs.Access.{AccessValue}
 use Rattle.mm_word.specs.Perm.{execute_form}
 use Rattle.mm_word.specs.Pointer.{Pointer, IsBelow, enter_result}
 use Rattle.mm_model.specs.Slot.{Slot}
@@ -148,11 +148,11 @@ module _ (most : AllGrantMost) (range : ℕ × ℕ) (i : Image) (can : CanSweep 
 
   -- 4. What a turn touches.
 
-  touch_free : (e : Entries) (g : ℕ) (t : Touch) → TouchGranted (swept range i) e g t → ¬ (InRange range t.addr)
+  touch_free : (e : Entries) (g : ℕ) (t : AccessValue) → TouchGranted (swept range i) e g t → ¬ (InRange range t.addr)
   touch_free e g t granted within = let old = before e granted.granted in covers_none range granted.by t.addr old.free granted.covers within
 
-  pub touches_free : (e : Entries) (g : ℕ) (touches : List Touch) → AllByRecursion (TouchGranted (swept range i) e g) touches → AllByRecursion (λ (t : Touch). ¬ (InRange range t.addr)) touches
-  touches_free e g touches h = each_map (TouchGranted (swept range i) e g) (λ (t : Touch). ¬ (InRange range t.addr)) (touch_free e g) touches h
+  pub touches_free : (e : Entries) (g : ℕ) (touches : List AccessValue) → AllByRecursion (TouchGranted (swept range i) e g) touches → AllByRecursion (λ (t : AccessValue). ¬ (InRange range t.addr)) touches
+  touches_free e g touches h = each_map (TouchGranted (swept range i) e g) (λ (t : AccessValue). ¬ (InRange range t.addr)) (touch_free e g) touches h
 
 -- so does the answer of a call that sweeps
 pub revokes_swept : SweepingRevokes → {range range' : ℕ × ℕ} → range ≡ range'

@@ -1,7 +1,7 @@
 -- What holds of swept images.
 use Rattle.std.specs.Prelude.{◌≡◌, ◌↔◌, ℕ, Bool, true, List}
 use Rattle.std.specs.List.{AllByRecursion}
-use Rattle.mm_word.specs.Access.{Touch}
+use Rattle.mm_word.specs.Access.{AccessValue}
 use Rattle.mm_word.specs.Pointer.{Pointer, InSegment}
 use Rattle.mm_seg.specs.Segments.{IsSegment}
 use Rattle.mm_model.specs.Image.{Image, start}
@@ -48,5 +48,5 @@ SweepingRevokes = (range : ℕ × ℕ) (i : Image) → CanSweep range i → Revo
 abbrev pub SweptSilent : Type 0
 SweptSilent =
     (range : ℕ × ℕ) (i : Image) (before : List ℕ) (n : ℕ) → IsSegment range → IsImage i → CanSweep range i
-    → AllByRecursion (λ (t : Touch). ¬ InRange range t.addr)
+    → AllByRecursion (λ (t : AccessValue). ¬ InRange range t.addr)
     (touches (turn_of (run (start (swept range i)) before) n).step)

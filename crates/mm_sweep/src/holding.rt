@@ -2,7 +2,7 @@
 
 ghost use Rattle.std.specs.List.{flat_map};
 ghost use Rattle.mm_io.specs.Sinks.{Writes};
-ghost use Rattle.mm_text.specs.Gathers.{Gathers};
+ghost use Rattle.mm_text.specs.Appends.{Appends};
 ghost use Rattle.mm_seg.specs.Segments.{IsSegment};
 ghost use Rattle.mm_sweep.specs.Holders.{holder_line, register_holders, slot_holders, page_holders, holders};
 ghost use Rattle.mm_sweep.specs.HolderTexts.{holder_text};
@@ -11,7 +11,7 @@ use crate::meeting::Range;
 use mm_image::Image;
 use mm_io::{Sink, WriteFault};
 use mm_model::{Page, Slot};
-use mm_text::{Gather, Piece, put_word};
+use mm_text::{TextBuffer, Piece, put_word};
 use mm_word::Word;
 
 /// A place that holds a pointer.
@@ -34,15 +34,15 @@ pub fn holders<O: Sink>(img: &Image, base: u64, log: u8, out: &mut O) -> Result<
     ensures { Writes O.taken O.faults out.old out.new (holders (base, log) img.now) result }
 {
     let range = Range::new(base, log);
-    let mut text = Gather::new();
+    let mut text = TextBuffer::new();
     put_slots(&mut text, out, &range, img.slots());
     put_pages(&mut text, out, &range, img.pages());
     text.finish(out)
 }
 
 /// Appends the lines of slots.
-fn put_slots<O: Sink>(text: &mut Gather, out: &mut O, range: &Range, slots: &[Slot])
-    ensures { Gathers O.taken O.faults out.old out.new text.old text.new (flat_map (slot_holders range.now) slots.now) }
+fn put_slots<O: Sink>(text: &mut TextBuffer, out: &mut O, range: &Range, slots: &[Slot])
+    ensures { Appends O.taken O.faults out.old out.new text.old text.new (flat_map (slot_holders range.now) slots.now) }
 {
     for slot in slots {
         put_slot(text, out, range, slot);
@@ -50,8 +50,8 @@ fn put_slots<O: Sink>(text: &mut Gather, out: &mut O, range: &Range, slots: &[Sl
 }
 
 /// Appends the lines of a slot: its instruction pointer, and then its registers.
-fn put_slot<O: Sink>(text: &mut Gather, out: &mut O, range: &Range, slot: &Slot)
-    ensures { Gathers O.taken O.faults out.old out.new text.old text.new (slot_holders range.now slot.now) }
+fn put_slot<O: Sink>(text: &mut TextBuffer, out: &mut O, range: &Range, slot: &Slot)
+    ensures { Appends O.taken O.faults out.old out.new text.old text.new (slot_holders range.now slot.now) }
 {
     let holder = Holder::Ip { slot: slot.number };
     put_holder(text, out, range, holder, Word::Ptr(slot.ip));
@@ -59,8 +59,8 @@ fn put_slot<O: Sink>(text: &mut Gather, out: &mut O, range: &Range, slot: &Slot)
 }
 
 /// Appends the lines of a slot's registers.
-fn put_registers<O: Sink>(text: &mut Gather, out: &mut O, range: &Range, slot: &Slot)
-    ensures { Gathers O.taken O.faults out.old out.new text.old text.new
+fn put_registers<O: Sink>(text: &mut TextBuffer, out: &mut O, range: &Range, slot: &Slot)
+    ensures { Appends O.taken O.faults out.old out.new text.old text.new
         (register_holders range.now slot.now.number 0 slot.now.regs) }
 {
     for (number, word) in slot.regs.iter().enumerate() {
@@ -73,8 +73,8 @@ fn put_registers<O: Sink>(text: &mut Gather, out: &mut O, range: &Range, slot: &
 }
 
 /// Appends the lines of pages.
-fn put_pages<O: Sink>(text: &mut Gather, out: &mut O, range: &Range, pages: &[Page])
-    ensures { Gathers O.taken O.faults out.old out.new text.old text.new (flat_map (page_holders range.now) pages.now) }
+fn put_pages<O: Sink>(text: &mut TextBuffer, out: &mut O, range: &Range, pages: &[Page])
+    ensures { Appends O.taken O.faults out.old out.new text.old text.new (flat_map (page_holders range.now) pages.now) }
 {
     for page in pages {
         put_cells(text, out, range, page);
@@ -82,8 +82,8 @@ fn put_pages<O: Sink>(text: &mut Gather, out: &mut O, range: &Range, pages: &[Pa
 }
 
 /// Appends the lines of a page's cells.
-fn put_cells<O: Sink>(text: &mut Gather, out: &mut O, range: &Range, page: &Page)
-    ensures { Gathers O.taken O.faults out.old out.new text.old text.new (page_holders range.now page.now) }
+fn put_cells<O: Sink>(text: &mut TextBuffer, out: &mut O, range: &Range, page: &Page)
+    ensures { Appends O.taken O.faults out.old out.new text.old text.new (page_holders range.now page.now) }
 {
     let start = page.number() * 4096;
     for (index, cell) in page.cells().iter().enumerate() {
@@ -95,8 +95,8 @@ fn put_cells<O: Sink>(text: &mut Gather, out: &mut O, range: &Range, page: &Page
 }
 
 /// Appends the line of a place, if it holds a pointer whose segment meets the range.
-fn put_holder<O: Sink>(text: &mut Gather, out: &mut O, range: &Range, holder: Holder, word: Word)
-    ensures { Gathers O.taken O.faults out.old out.new text.old text.new
+fn put_holder<O: Sink>(text: &mut TextBuffer, out: &mut O, range: &Range, holder: Holder, word: Word)
+    ensures { Appends O.taken O.faults out.old out.new text.old text.new
         (holder_line range.now (holder_text holder) word) }
 {
     if range.meets_word(&word) {
@@ -108,8 +108,8 @@ fn put_holder<O: Sink>(text: &mut Gather, out: &mut O, range: &Range, holder: Ho
 }
 
 /// Appends the beginning of the line of a place.
-fn put_holder_text<O: Sink>(text: &mut Gather, out: &mut O, holder: Holder)
-    ensures { Gathers O.taken O.faults out.old out.new text.old text.new (holder_text holder) }
+fn put_holder_text<O: Sink>(text: &mut TextBuffer, out: &mut O, holder: Holder)
+    ensures { Appends O.taken O.faults out.old out.new text.old text.new (holder_text holder) }
 {
     match holder {
         Holder::Ip { slot } => text.put(out, &[Piece::Text("ip "), Piece::Decimal(slot as u64)]),

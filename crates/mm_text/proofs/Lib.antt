@@ -1,4 +1,4 @@
-pub mod Gathering
+pub mod Appending
 pub mod HexDigits
 pub mod LineLengths
 pub mod RegisterLines

@@ -1,2 +1,2 @@
-pub mod Gathers
+pub mod Appends
 pub mod Pieces

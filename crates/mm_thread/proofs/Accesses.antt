@@ -8,7 +8,7 @@ use Rattle.mm_word.specs.declared.word.Word.{Word}
 use Rattle.mm_word.specs.declared.word.Word.TheVariants.{Int}
 use Rattle.mm_word.specs.declared.word.Cell.{Cell}
 use Rattle.mm_word.specs.Word.{word_bits}
-use Rattle.mm_word.specs.Access.{Touch}
+use Rattle.mm_word.specs.Access.{AccessValue}
 use Rattle.mm_isa.specs.declared.instr.Instr.{Instr}
 use Rattle.mm_isa.specs.declared.instr.Instr.TheVariants.{Out, Ld, St, Evt, Resume, Rreg, Wreg, Map, Unmap}
 use Rattle.mm_isa.specs.declared.instr.How.{How}
@@ -23,24 +23,24 @@ use Rattle.mm_model.specs.Effect.{Effect, effect, plain, loads, loaded, stored, 
 use Rattle.mm_model.specs.Effect.Reply.{Refused, Paged}
 use Rattle.mm_model.specs.Turn.{reply, reached, removal_use, touch_of, asked_use, slot_after, core_after, memory_after}
 use Rattle.mm_mem.specs.Answers.{loaded as loaded_answer, stored as stored_answer, set_where, put_where}
-use Rattle.mm_thread.specs.declared.outcome.Outcome.{Outcome}
-use Rattle.mm_thread.specs.declared.outcome.Outcome.TheVariants.{Goes}
-use Rattle.mm_thread.specs.declared.outcome.Retired.{Retired}
+use Rattle.mm_thread.specs.declared.completion.Completion.{Completion}
+use Rattle.mm_thread.specs.declared.completion.Completion.TheVariants.{Did}
+use Rattle.mm_thread.specs.declared.completion.Retired.{Retired}
 use Rattle.mm_thread.specs.Ends.{is_alone}
-use Rattle.mm_thread.specs.Places.{slot_in, with_slot}
-use Rattle.mm_thread.specs.Execution.{Leaves, effect_in, Executes, core_loaded, outcome_loaded, core_stored, outcome_stored, page_named}
+use Rattle.mm_thread.specs.SlotIndices.{slot_in, with_slot}
+use Rattle.mm_thread.specs.Execution.{Leaves, effect_in, Executes, core_loaded, completion_loaded, core_stored, completion_stored, page_named}
 use Rattle.mm_thread.specs.Tables.{AreNumbered}
-use Rattle.mm_thread.proofs.Around.{own_put}
+use Rattle.mm_thread.proofs.SlotUpdates.{own_put}
 
 -- 1. An instruction by what it asks.
 
 module _ {M : Type 0} (meaning : M → Memory) (uses : M → ℕ) (stands : M → List Use → Type 0) where
-  pub executes_by : (core : Core) (s : Slot) (i : Instr) (old new : M) (core' : Core) (told : Retired) (a : Ask) → ask i s ≡ a
-      → Leaves core (meaning old) s (effect core.split i s (reply core (meaning old) s.number a)) core' (meaning new) told.outcome
-      → told.touched ≡ touch_of a → TakesUses stands old new (asked_use (meaning old) a) → uses new ≡ uses old + accesses (asked_use (meaning old) a)
-      → Executes meaning uses stands core s i old new core' told
-  executes_by core s i old new core' told a is leaves touched takes count =
-      let Left : Ask → Type 0 = λ b. Leaves core (meaning old) s (effect core.split i s (reply core (meaning old) s.number b)) core' (meaning new) told.outcome in
+  pub executes_by : (core : Core) (s : Slot) (i : Instr) (old new : M) (core' : Core) (retired : Retired) (a : Ask) → ask i s ≡ a
+      → Leaves core (meaning old) s (effect core.split i s (reply core (meaning old) s.number a)) core' (meaning new) retired.completion
+      → retired.touched ≡ touch_of a → TakesUses stands old new (asked_use (meaning old) a) → uses new ≡ uses old + accesses (asked_use (meaning old) a)
+      → Executes meaning uses stands core s i old new core' retired
+  executes_by core s i old new core' retired a is leaves touched takes count =
+      let Left : Ask → Type 0 = λ b. Leaves core (meaning old) s (effect core.split i s (reply core (meaning old) s.number b)) core' (meaning new) retired.completion in
       let Takes : Ask → Type 0 = λ b. TakesUses stands old new (asked_use (meaning old) b) in
       record {
         leaves = subst Left (sym is) leaves;
@@ -50,10 +50,10 @@ module _ {M : Type 0} (meaning : M → Memory) (uses : M → ℕ) (stands : M �
       }
 
   -- what no memory is asked for
-  pub executes_quietly : (core : Core) (s : Slot) (i : Instr) (old : M) (core' : Core) (told : Retired) (a : Ask) → ask i s ≡ a → touch_of a ≡ None → asked_use (meaning old) a ≡ []
-      → Leaves core (meaning old) s (effect_in core (meaning old) s i) core' (meaning old) told.outcome → told.touched ≡ None
-      → Executes meaning uses stands core s i old old core' told
-  executes_quietly core s i old core' told a is untouched unasked leaves touched =
+  pub executes_quietly : (core : Core) (s : Slot) (i : Instr) (old : M) (core' : Core) (retired : Retired) (a : Ask) → ask i s ≡ a → touch_of a ≡ None → asked_use (meaning old) a ≡ []
+      → Leaves core (meaning old) s (effect_in core (meaning old) s i) core' (meaning old) retired.completion → retired.touched ≡ None
+      → Executes meaning uses stands core s i old old core' retired
+  executes_quietly core s i old core' retired a is untouched unasked leaves touched =
       let none : asked_use (meaning old) (ask i s) ≡ [] = ap (asked_use (meaning old)) is ∙ unasked in
       let Takes : List Use → Type 0 = λ us. TakesUses stands old old us in
       record {
@@ -79,14 +79,14 @@ module _ (core : Core) (apart : AreNumbered core.rows) (p : ℕ) (within : p < l
   load_memory m true rd w cell = refl
   load_memory m false rd w cell = refl
 
-  load_goes : (split : Bool) (rd : ℕ) (w : Word) (cell : Option (ℕ × Cell)) → Goes (loads split s rd w).entered ≡ Goes None
+  load_goes : (split : Bool) (rd : ℕ) (w : Word) (cell : Option (ℕ × Cell)) → Did (loads split s rd w).entered ≡ Did None
   unfolding plain
   load_goes true rd w cell = refl
   load_goes false rd w cell = refl
 
-  pub load_leaves : (m : Memory) (a : Touch) (rd : ℕ) (pre : Pre) (post : Post) (o : Option Cell)
-      → Leaves core m s (loaded core.split s rd post (reached a pre o)) (core_loaded core p rd (loaded_answer pre o)) (set_where m a.addr pre post o) (outcome_loaded (loaded_answer pre o))
-  load_leaves m a rd pre post None = record { core_is = refl; memory_is = refl; outcome_is = refl; stays = λ e. cc }
+  pub load_leaves : (m : Memory) (a : AccessValue) (rd : ℕ) (pre : Pre) (post : Post) (o : Option Cell)
+      → Leaves core m s (loaded core.split s rd post (reached a pre o)) (core_loaded core p rd (loaded_answer pre o)) (set_where m a.addr pre post o) (completion_loaded (loaded_answer pre o))
+  load_leaves m a rd pre post None = record { core_is = refl; memory_is = refl; completion_is = refl; stays = λ e. cc }
   load_leaves m a rd pre post (Some c) = by (passes pre c.full)
     where
       by : (b : Bool) → Leaves core m s
@@ -94,24 +94,24 @@ module _ (core : Core) (apart : AreNumbered core.rows) (p : ℕ) (within : p < l
           (core_loaded core p rd (cond b (Rattle.mm_mem.specs.declared.answer.Loaded.TheVariants.Value c.word)
           Rattle.mm_mem.specs.declared.answer.Loaded.TheVariants.NotReady))
           (cond b (Rattle.mm_model.specs.Turn.with_cell m (set_by post a.addr c)) m)
-          (outcome_loaded (cond b (Rattle.mm_mem.specs.declared.answer.Loaded.TheVariants.Value c.word)
+          (completion_loaded (cond b (Rattle.mm_mem.specs.declared.answer.Loaded.TheVariants.Value c.word)
           Rattle.mm_mem.specs.declared.answer.Loaded.TheVariants.NotReady))
       by true = record {
         core_is = sym (load_core core.split rd c.word (set_by post a.addr c));
         memory_is = sym (load_memory m core.split rd c.word (set_by post a.addr c));
-        outcome_is = sym (load_goes core.split rd c.word None);
+        completion_is = sym (load_goes core.split rd c.word None);
         stays = λ e. cc;
       }
-      by false = record { core_is = refl; memory_is = refl; outcome_is = refl; stays = λ e. cc }
+      by false = record { core_is = refl; memory_is = refl; completion_is = refl; stays = λ e. cc }
 
-  pub store_leaves : (m : Memory) (a : Touch) (w : Word) (pre : Pre) (post : Post) (o : Option Cell)
+  pub store_leaves : (m : Memory) (a : AccessValue) (w : Word) (pre : Pre) (post : Post) (o : Option Cell)
       → Leaves core m s (stored s w post (reached a pre o)) (core_stored core p (stored_answer pre o))
       (put_where m a.addr pre o (λ c. record {
         word = w;
         full = Rattle.mm_model.specs.Memory.full_after post c.full;
-      })) (outcome_stored (stored_answer pre o))
+      })) (completion_stored (stored_answer pre o))
   unfolding core_after memory_after plain slot_after
-  store_leaves m a w pre post None = record { core_is = refl; memory_is = refl; outcome_is = refl; stays = λ e. cc }
+  store_leaves m a w pre post None = record { core_is = refl; memory_is = refl; completion_is = refl; stays = λ e. cc }
   store_leaves m a w pre post (Some c) = by (passes pre c.full)
     where
       by : (b : Bool) → Leaves core m s
@@ -120,28 +120,28 @@ module _ (core : Core) (apart : AreNumbered core.rows) (p : ℕ) (within : p < l
           Rattle.mm_mem.specs.declared.answer.Stored.TheVariants.NotReady))
           (cond b (Rattle.mm_model.specs.Memory.put_cell m a.addr
           (record { word = w; full = Rattle.mm_model.specs.Memory.full_after post c.full })) m)
-          (outcome_stored (cond b Rattle.mm_mem.specs.declared.answer.Stored.TheVariants.Done
+          (completion_stored (cond b Rattle.mm_mem.specs.declared.answer.Stored.TheVariants.Done
           Rattle.mm_mem.specs.declared.answer.Stored.TheVariants.NotReady))
-      by true = record { core_is = sym (own_put core apart p within (plain s)); memory_is = refl; outcome_is = refl; stays = λ e. cc }
-      by false = record { core_is = refl; memory_is = refl; outcome_is = refl; stays = λ e. cc }
+      by true = record { core_is = sym (own_put core apart p within (plain s)); memory_is = refl; completion_is = refl; stays = λ e. cc }
+      by false = record { core_is = refl; memory_is = refl; completion_is = refl; stays = λ e. cc }
 
   -- 3. Pages.
 
   pub map_leaves : (m : Memory) (rd page : ℕ) (b : Bool)
       → Leaves core m s (maps s rd (Paged page b))
       (with_slot core p (slot_after s (record (plain s) { writes = (rd, Int (test b)) ∷ [] })))
-      (cond b (Rattle.mm_model.specs.Memory.map_page m page) m) (Goes None)
+      (cond b (Rattle.mm_model.specs.Memory.map_page m page) m) (Did None)
   unfolding core_after memory_after plain slot_after
-  map_leaves m rd page true = record { core_is = sym (own_put core apart p within (record (plain s) { writes = (rd, Int 1) ∷ [] })); memory_is = refl; outcome_is = refl; stays = λ e. cc }
-  map_leaves m rd page false = record { core_is = sym (own_put core apart p within (record (plain s) { writes = (rd, Int 0) ∷ [] })); memory_is = refl; outcome_is = refl; stays = λ e. cc }
+  map_leaves m rd page true = record { core_is = sym (own_put core apart p within (record (plain s) { writes = (rd, Int 1) ∷ [] })); memory_is = refl; completion_is = refl; stays = λ e. cc }
+  map_leaves m rd page false = record { core_is = sym (own_put core apart p within (record (plain s) { writes = (rd, Int 0) ∷ [] })); memory_is = refl; completion_is = refl; stays = λ e. cc }
 
   pub unmap_leaves : (m : Memory) (rd page : ℕ) (b : Bool)
       → Leaves core m s (unmaps s rd (Paged page b))
       (with_slot core p (slot_after s (record (plain s) { writes = (rd, Int (test b)) ∷ [] })))
-      (cond b (Rattle.mm_model.specs.Memory.unmap_page m page) m) (Goes None)
+      (cond b (Rattle.mm_model.specs.Memory.unmap_page m page) m) (Did None)
   unfolding core_after memory_after plain slot_after
-  unmap_leaves m rd page true = record { core_is = sym (own_put core apart p within (record (plain s) { writes = (rd, Int 1) ∷ [] })); memory_is = refl; outcome_is = refl; stays = λ e. cc }
-  unmap_leaves m rd page false = record { core_is = sym (own_put core apart p within (record (plain s) { writes = (rd, Int 0) ∷ [] })); memory_is = refl; outcome_is = refl; stays = λ e. cc }
+  unmap_leaves m rd page true = record { core_is = sym (own_put core apart p within (record (plain s) { writes = (rd, Int 1) ∷ [] })); memory_is = refl; completion_is = refl; stays = λ e. cc }
+  unmap_leaves m rd page false = record { core_is = sym (own_put core apart p within (record (plain s) { writes = (rd, Int 0) ∷ [] })); memory_is = refl; completion_is = refl; stays = λ e. cc }
 
 -- what is asked with the page that a register names
 abbrev pub page_ask : (ℕ → Ask) → Result ℕ Cause → Ask
@@ -168,13 +168,13 @@ free_destination s rd ra pre post imm free = by (is_empty s rd) refl
     by false e = e
     by true e = let h = rw e at free in cc
 
-pub leaves_all : (core : Core) (m : Memory) (s : Slot) (e : Effect) (k : Core) (n : Memory) (o : Outcome) (k' : Core) (n' : Memory) (o' : Outcome)
+pub leaves_all : (core : Core) (m : Memory) (s : Slot) (e : Effect) (k : Core) (n : Memory) (o : Completion) (k' : Core) (n' : Memory) (o' : Completion)
     → Leaves core m s e k n o → k' ≡ k → n' ≡ n → o' ≡ o → Leaves core m s e k' n' o'
-leaves_all core m s e k n o k' n' o' h same_core same_memory same_outcome = record {
+leaves_all core m s e k n o k' n' o' h same_core same_memory same_completion = record {
   core_is = same_core ∙ h.core_is;
   memory_is = same_memory ∙ h.memory_is;
-  outcome_is = same_outcome ∙ h.outcome_is;
-  stays = λ e. ap (λ (x : Core). slot_at x s.number) same_core ∙ h.stays (sym same_outcome ∙ e);
+  completion_is = same_completion ∙ h.completion_is;
+  stays = λ e. ap (λ (x : Core). slot_at x s.number) same_core ∙ h.stays (sym same_completion ∙ e);
 }
 
 -- a removal is no access
@@ -184,12 +184,12 @@ no_access page false = refl
 
 module _ {M : Type 0} (meaning : M → Memory) (uses : M → ℕ) (stands : M → List Use → Type 0) where
   -- what reaches no cell
-  pub executes_untouched : (core : Core) (s : Slot) (i : Instr) (old : M) (core' : Core) (told : Retired) (o : Outcome) (a : Ask) → told ≡ record { outcome = o; touched = None }
+  pub executes_untouched : (core : Core) (s : Slot) (i : Instr) (old : M) (core' : Core) (retired : Retired) (o : Completion) (a : Ask) → retired ≡ record { completion = o; touched = None }
       → ask i s ≡ a → touch_of a ≡ None → asked_use (meaning old) a ≡ [] → Leaves core (meaning old) s (effect_in core (meaning old) s i) core' (meaning old) o
-      → Executes meaning uses stands core s i old old core' told
-  executes_untouched core s i old core' told o a is asks untouched unasked leaves =
-      executes_quietly meaning uses stands core s i old core' told a asks untouched unasked
-      (leaves_all core (meaning old) s _ core' (meaning old) o core' (meaning old) told.outcome leaves refl refl (ap (λ (x : Retired). x.outcome) is))
+      → Executes meaning uses stands core s i old old core' retired
+  executes_untouched core s i old core' retired o a is asks untouched unasked leaves =
+      executes_quietly meaning uses stands core s i old core' retired a asks untouched unasked
+      (leaves_all core (meaning old) s _ core' (meaning old) o core' (meaning old) retired.completion leaves refl refl (ap (λ (x : Retired). x.completion) is))
       (ap (λ (x : Retired). x.touched) is)
 
 pub is_alone-others : (i : Instr) → ((ra : ℕ) → i ≡ Out ra → ⊥) → ((rd ra : ℕ) (pre : Pre) (post : Post) (imm : ℤ)

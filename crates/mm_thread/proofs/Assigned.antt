@@ -14,11 +14,11 @@ use Rattle.mm_model.specs.Fits.{slots_of, IsCore}
 use Rattle.mm_model.proofs.CoreRows.{each_map, slots_found}
 use Rattle.mm_model.proofs.Shortness.{queue_short}
 use Rattle.mm_thread.specs.Output.{Output}
-use Rattle.mm_thread.specs.Places.{row_alone, slot_in, queue_in, with_queue_in}
+use Rattle.mm_thread.specs.SlotIndices.{row_alone, slot_in, queue_in, with_queue_in}
 use Rattle.mm_thread.specs.Tables.{AreNumbered}
 use Rattle.mm_thread.specs.Parts.{events_for, row_with, core_of}
 use Rattle.mm_thread.proofs.Cores.{output_short}
-use Rattle.mm_thread.proofs.Index.{row_found, queue_found, put_queue-place}
+use Rattle.mm_thread.proofs.Index.{row_found, queue_found, put_queue-at}
 
 -- 1. One event.
 
@@ -26,7 +26,7 @@ module _ (core : Core) (apart : AreNumbered core.rows) where
   pub event_put : (p n : ℕ) (e : Event) → p < length core.rows → (slot_in core p).number ≡ n → with_queue_in core p (queue_in core p ++ e ∷ []) ≡ put_queue core n (queue_at core n ++ e ∷ [])
   event_put p n e within number =
       let queue : queue_at core n ≡ queue_in core p = ap (queue_at core) (sym number) ∙ queue_found core apart p within in
-      sym (put_queue-place core apart p within (queue_in core p ++ e ∷ []))
+      sym (put_queue-at core apart p within (queue_in core p ++ e ∷ []))
       ∙ ap (λ (k : ℕ). put_queue core k (queue_in core p ++ e ∷ [])) number
       ∙ ap (λ (q : List Event). put_queue core n (q ++ e ∷ [])) (sym queue)
 

@@ -17,10 +17,10 @@ use Rattle.mm_model.proofs.CoreRows.{each_get, slot_has, other_at}
 use Rattle.mm_model.proofs.CoreSteps.{waits_for-rests}
 use Rattle.mm_model.proofs.EffectSteps.{running_waits_not}
 use Rattle.mm_model.proofs.Shortness as short
-use Rattle.mm_thread.specs.Places.{no_row, row_at, slot_in, queue_in, with_row, with_slot, with_queue_in}
+use Rattle.mm_thread.specs.SlotIndices.{no_row, row_at, slot_in, queue_in, with_row, with_slot, with_queue_in}
 use Rattle.mm_thread.specs.Tables.{AreNumbered}
-use Rattle.mm_thread.proofs.Index.{slot_found, queue_found, put_slot-place, put_queue-place, numbers-with_row, number-get}
-use Rattle.mm_thread.proofs.Placing.{apart_in}
+use Rattle.mm_thread.proofs.Index.{slot_found, queue_found, put_slot-at, put_queue-at, numbers-with_row, number-get}
+use Rattle.mm_thread.proofs.RowIndex.{apart_in}
 use Rattle.mm_thread.proofs.RunningSlots.{numbered_set}
 
 -- 1. A row in the place of one.
@@ -138,16 +138,16 @@ module _ (core : Core) (apart : AreNumbered core.rows) (p : ℕ) (within : p < l
       let number : (slot_in waits at).number ≡ h = number-with_slot core apart p within (stood s Waiting) refl at inside ∙ is in
       let queue : queue_at waits h ≡ queue_in waits at = ap (queue_at waits) (sym number) ∙ queue_found waits indexed at still in
       let put : with_queue_in waits at (queue_in waits at ++ e ∷ []) ≡ put_queue waits h (queue_at waits h ++ e ∷ []) =
-      sym (put_queue-place waits indexed at still (queue_in waits at ++ e ∷ []))
+      sym (put_queue-at waits indexed at still (queue_in waits at ++ e ∷ []))
       ∙ ap (λ (n : ℕ). put_queue waits n (queue_in waits at ++ e ∷ [])) number
       ∙ ap (λ (q : List Event). put_queue waits h (q ++ e ∷ [])) (sym queue)
       in
-      put ∙ ap (λ (c : Core). put_queue c h (queue_at c h ++ e ∷ [])) (sym (put_slot-place core apart p within (stood s Waiting) refl))
+      put ∙ ap (λ (c : Core). put_queue c h (queue_at c h ++ e ∷ [])) (sym (put_slot-at core apart p within (stood s Waiting) refl))
 
   pub faulted-waits : (e : Event) → is_sync e.cause ≡ true → with_slot core p (stood (slot_in core p) Running) ≡ core_faulted core (slot_in core p) e None
   unfolding core_faulted
-  faulted-waits e sync = rw sync (sym (put_slot-place core apart p within (stood (slot_in core p) Running) refl))
+  faulted-waits e sync = rw sync (sym (put_slot-at core apart p within (stood (slot_in core p) Running) refl))
 
   pub faulted-halts : (e : Event) → is_sync e.cause ≡ false → with_slot core p (stood (slot_in core p) (Halted (Some e.cause))) ≡ core_faulted core (slot_in core p) e None
   unfolding core_faulted
-  faulted-halts e sync = rw sync (sym (put_slot-place core apart p within (stood (slot_in core p) (Halted (Some e.cause))) refl))
+  faulted-halts e sync = rw sync (sym (put_slot-at core apart p within (stood (slot_in core p) (Halted (Some e.cause))) refl))

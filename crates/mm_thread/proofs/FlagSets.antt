@@ -4,7 +4,7 @@ use Rattle.std.specs.Int.{w16, bit_not, bit_at}
 use Rattle.std.proofs.lemmas.Bool.{cases_eq}
 use Rattle.std.proofs.lemmas.List.{same_lists, get_or-set_same, get_or-set_other, get_or_default, length-set}
 use Rattle.std.proofs.lemmas.Nat.Bits.{bit_at_set_same, bit_at_set_other, bit_at_clear_same, bit_at_clear_other}
-use Rattle.mm_model.proofs.ImageBytes.Bitmaps.{length-flags}
+use Rattle.mm_model.proofs.Bytes.Bitmaps.{length-flags}
 use Rattle.mm_model.specs.Flags.{flags}
 use Rattle.mm_model.proofs.FlagLists.{flags-get}
 

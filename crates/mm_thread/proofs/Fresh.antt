@@ -8,7 +8,7 @@ use Rattle.mm_model.specs.Image.{Image, start}
 use Rattle.mm_model.specs.Spelling.{numbers_of, IsFresh}
 use Rattle.mm_model.specs.Fits.{IsCore}
 use Rattle.mm_model.proofs.Starts.{start_core}
-use Rattle.mm_thread.specs.Places.{row_alone}
+use Rattle.mm_thread.specs.SlotIndices.{row_alone}
 use Rattle.mm_thread.proofs.Sound.{version_whole}
 
 pub each_nothing : (n : ℕ) → AllByRecursion (λ (bytes : List ℕ). bytes ≡ []) (replicate n [])

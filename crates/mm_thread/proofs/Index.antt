@@ -6,7 +6,7 @@ use Rattle.mm_model.specs.declared.event.Event.{Event}
 use Rattle.mm_model.specs.Slot.{Slot}
 use Rattle.mm_model.specs.State.{ThreadRow, Core, row_in, slot_of, queue_of, slot_at, queue_at, at_number, put_slot, put_queue}
 use Rattle.mm_model.specs.Fits.{slots_of}
-use Rattle.mm_thread.specs.Places.{no_row, row_at, slot_in, queue_in, with_row, with_slot, with_queue_in, numbers_in}
+use Rattle.mm_thread.specs.SlotIndices.{no_row, row_at, slot_in, queue_in, with_row, with_slot, with_queue_in, numbers_in}
 use Rattle.mm_thread.specs.Tables.{AreNumbered, IsIndex}
 
 abbrev number_at : List ThreadRow → ℕ → ℕ
@@ -74,15 +74,15 @@ module _ (core : Core) (apart : AreNumbered core.rows) where
     unfolding queue_at
     queue_found = ap queue_of row_found
 
-    pub put_slot-place : (s : Slot) → s.number ≡ (slot_in core p).number → put_slot core s ≡ with_slot core p s
+    pub put_slot-at : (s : Slot) → s.number ≡ (slot_in core p).number → put_slot core s ≡ with_slot core p s
     unfolding put_slot
-    put_slot-place s same =
+    put_slot-at s same =
         ap (λ (n : ℕ). record core { rows = map (at_number n (λ row. record row { slot = s })) core.rows }) same
         ∙ ap (λ (rows : List ThreadRow). record core { rows = rows }) (map-alone core.rows p (slot_in core p).number (λ row. record row { slot = s }) within refl (alone_at p within))
 
-    pub put_queue-place : (q : List Event) → put_queue core (slot_in core p).number q ≡ with_queue_in core p q
+    pub put_queue-at : (q : List Event) → put_queue core (slot_in core p).number q ≡ with_queue_in core p q
     unfolding put_queue
-    put_queue-place q = ap (λ (rows : List ThreadRow). record core { rows = rows }) (map-alone core.rows p (slot_in core p).number (λ row. record row { queue = q }) within refl (alone_at p within))
+    put_queue-at q = ap (λ (rows : List ThreadRow). record core { rows = rows }) (map-alone core.rows p (slot_in core p).number (λ row. record row { queue = q }) within refl (alone_at p within))
 
     pub numbers-with_row : (row : ThreadRow) → row.slot.number ≡ (slot_in core p).number → numbers_in (with_row core p row) ≡ numbers_in core
     numbers-with_row row same =

@@ -17,11 +17,11 @@ use Rattle.mm_model.specs.Turn.{Turned, idle, arrives, port_of, taken_by, taken_
 use Rattle.mm_model.specs.Fits.{IsCore, slots_of}
 use Rattle.mm_model.proofs.CoreRows.{slot_has}
 use Rattle.mm_model.proofs.SlotSteps.{delivered_from}
-use Rattle.mm_thread.specs.Places.{no_row, slot_in, with_slot, first_register}
+use Rattle.mm_thread.specs.SlotIndices.{no_row, slot_in, with_slot, first_register}
 use Rattle.mm_thread.specs.Execution.{CanTurn, TakesTurn, AsksNothing}
 use Rattle.mm_thread.specs.Tables.{AreNumbered}
-use Rattle.mm_thread.proofs.Placing.{apart_in}
-use Rattle.mm_thread.proofs.Index.{slot_found, put_slot-place}
+use Rattle.mm_thread.proofs.RowIndex.{apart_in}
+use Rattle.mm_thread.proofs.Index.{slot_found, put_slot-at}
 
 abbrev pub step_of : Tick → ℕ → Step
 step_of tick n = record { tick = tick; slot = n; fetched = None; touched = None; entered = None }
@@ -60,7 +60,7 @@ module _ (core : Core) (apart : AreNumbered core.rows) (p : ℕ) (within : p < l
       idles_at : core' ≡ core → AsksNothing (idle core m s.number) m core step → AsksNothing (idle core m s.number) m core' step
       idles_at same h = record { core_is = same ∙ h.core_is; memory_is = h.memory_is; step_is = h.step_is; uses_are = h.uses_are }
   port_arrives m core' step core_is (q ∷ qs) some step_is = record {
-    core_is = core_is ∙ sym (put_slot-place core apart p within (delivered s) (delivered_from s).number);
+    core_is = core_is ∙ sym (put_slot-at core apart p within (delivered s) (delivered_from s).number);
     memory_is = refl;
     step_is = step_is;
     uses_are = refl;

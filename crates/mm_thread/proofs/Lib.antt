@@ -3,13 +3,13 @@ pub mod Index
 pub mod Pointers
 pub mod Pendings
 pub mod Cores
-pub mod Around
+pub mod SlotUpdates
 pub mod Accesses
 pub mod Turns
 pub mod Items
 pub mod Sound
-pub mod Exactly
+pub mod StepAccesses
 pub mod Fresh
-pub mod Placing
+pub mod RowIndex
 pub mod RunningSlots
 pub mod Assigned

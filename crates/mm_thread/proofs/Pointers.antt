@@ -21,22 +21,22 @@ or_halves high low below =
     rw moved (or_shifted (high % 2 ^ 32) 32 low below)
 
 through_word :
-    (w : Word) (s new : Slot) (rd : ℕ) (p : Pointer) (told : Result (Option Pointer) Cause) (make : Pointer → Result Pointer Cause) →
+    (w : Word) (s new : Slot) (rd : ℕ) (p : Pointer) (ended : Result (Option Pointer) Cause) (make : Pointer → Result Pointer Cause) →
     Ok p ≡ pointer_in w →
-    EndsAlone (sets_pointer s rd (make p)) s new told →
-    EndsAlone (if_pointer w (λ q. sets_pointer s rd (make q))) s new told
-through_word (Int bits) s new rd p told make there ends = cc
-through_word (Ptr q) s new rd p told make there ends =
+    EndsAlone (sets_pointer s rd (make p)) s new ended →
+    EndsAlone (if_pointer w (λ q. sets_pointer s rd (make q))) s new ended
+through_word (Int bits) s new rd p ended make there ends = cc
+through_word (Ptr q) s new rd p ended make there ends =
     let same : p ≡ q = cc in
-    subst (λ (r : Pointer). EndsAlone (sets_pointer s rd (make r)) s new told) same ends
+    subst (λ (r : Pointer). EndsAlone (sets_pointer s rd (make r)) s new ended) same ends
 
 -- an instruction that makes a pointer from the pointer in register ra ends as one that was given the pointer
 pub through_pointer :
-    (s new : Slot) (rd ra : ℕ) (p : Pointer) (told : Result (Option Pointer) Cause) (make : Pointer → Result Pointer Cause) (made : Result Pointer Cause) →
+    (s new : Slot) (rd ra : ℕ) (p : Pointer) (ended : Result (Option Pointer) Cause) (make : Pointer → Result Pointer Cause) (made : Result Pointer Cause) →
     Ok p ≡ pointer_in (register s ra) →
     made ≡ make p →
-    EndsAlone (sets_pointer s rd made) s new told →
-    EndsAlone (if_pointer (register s ra) (λ q. sets_pointer s rd (make q))) s new told
-through_pointer s new rd ra p told make made there is ends =
-    through_word (register s ra) s new rd p told make there
-    (subst (λ (m : Result Pointer Cause). EndsAlone (sets_pointer s rd m) s new told) is ends)
+    EndsAlone (sets_pointer s rd made) s new ended →
+    EndsAlone (if_pointer (register s ra) (λ q. sets_pointer s rd (make q))) s new ended
+through_pointer s new rd ra p ended make made there is ends =
+    through_word (register s ra) s new rd p ended make there
+    (subst (λ (m : Result Pointer Cause). EndsAlone (sets_pointer s rd m) s new ended) is ends)

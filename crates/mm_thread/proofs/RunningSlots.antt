@@ -17,12 +17,12 @@ use Rattle.mm_model.specs.declared.slot.SlotState.TheVariants.{Running, Waiting,
 use Rattle.mm_model.specs.Slot.{Slot}
 use Rattle.mm_model.specs.State.{ThreadRow, Core, slot_of, slot_at}
 use Rattle.mm_model.specs.Effect.{Change, Effect, resumed_by}
-use Rattle.mm_model.specs.Effect.Effect.{Fault, Block, Deliver, Does}
+use Rattle.mm_model.specs.Effect.Effect.{Fault, Block, Deliver, Do}
 use Rattle.mm_model.specs.Turn.{is_running, slot_after}
 use Rattle.mm_model.specs.Flags.{one_if}
 use Rattle.mm_model.proofs.TurnKeeps.{changed_from}
 use Rattle.mm_thread.specs.Ends.{EndsAlone}
-use Rattle.mm_thread.specs.Places.{no_row}
+use Rattle.mm_thread.specs.SlotIndices.{no_row}
 use Rattle.mm_thread.specs.Tables.{slot_of_row, AreNumbered, HasRunners, IsNoted, IsIndex, AreKnown}
 use Rattle.mm_thread.proofs.Index.{row_in-none, row_in-alone}
 
@@ -167,11 +167,11 @@ runners_say core runners fits h n = elim (has_number core.rows n) as (λ _. IsBi
 pub after_number : (s : Slot) (c : Change) → (slot_after s c).number ≡ s.number
 after_number s c = let from = changed_from s c in from.number
 
-pub alone_number : (e : Effect) (old new : Slot) (told : Result (Option Pointer) Cause) → EndsAlone e old new told → new.number ≡ old.number
-alone_number (Does c) old new told h = ap (λ (s : Slot). s.number) h.slot ∙ after_number old c
-alone_number (Fault c) old new told h = ap (λ (s : Slot). s.number) h.slot
-alone_number Block old new told h = absurd h
-alone_number (Deliver other) old new told h = absurd h
+pub alone_number : (e : Effect) (old new : Slot) (ended : Result (Option Pointer) Cause) → EndsAlone e old new ended → new.number ≡ old.number
+alone_number (Do c) old new ended h = ap (λ (s : Slot). s.number) h.slot ∙ after_number old c
+alone_number (Fault c) old new ended h = ap (λ (s : Slot). s.number) h.slot
+alone_number Block old new ended h = absurd h
+alone_number (Deliver other) old new ended h = absurd h
 
 pub resumed_number : (how : How) (s : Slot) → (resumed_by how s).number ≡ s.number
 resumed_number Retry s = refl

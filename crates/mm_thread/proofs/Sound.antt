@@ -7,7 +7,7 @@ use Rattle.mm_model.specs.Slot.{Slot}
 use Rattle.mm_model.specs.State.{ThreadRow, Core, row_in, slot_of, queue_of, slot_at, queue_at, output_of}
 use Rattle.mm_model.specs.Image.{output_limit}
 use Rattle.mm_model.specs.Spelling.{numbers_of}
-use Rattle.mm_model.specs.Fits.{identity_of, slots_of, LoadsAreKept, IsCore}
+use Rattle.mm_model.specs.Fits.{identity_of, slots_of, LoadsAreConsistent, IsCore}
 use Rattle.mm_model.specs.Turn.{turn}
 use Rattle.mm_model.proofs.CoreRows.{each_map, each_both}
 use Rattle.mm_model.proofs.TurnKeeps.{core_keeps}
@@ -29,7 +29,7 @@ split_whole core on none old = record {
   matched = record { events = old.matched.events; waiting = old.matched.waiting; loads = old.matched.loads };
   kept = record {
     in_place = old.kept.in_place;
-    loads = each_both (LoadsAreKept core.split) (λ (s : Slot). s.pending ≡ []) (LoadsAreKept on) (λ s is empty. record { zero = is.zero; mode = λ _. empty }) (slots_of core) old.kept.loads none;
+    loads = each_both (LoadsAreConsistent core.split) (λ (s : Slot). s.pending ≡ []) (LoadsAreConsistent on) (λ s is empty. record { zero = is.zero; mode = λ _. empty }) (slots_of core) old.kept.loads none;
     taken = old.kept.taken;
     within = old.kept.within;
     silent = old.kept.silent;

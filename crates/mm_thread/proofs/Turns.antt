@@ -8,7 +8,7 @@ use Rattle.mm_word.specs.declared.cause.Cause.TheVariants.{Bounds}
 use Rattle.mm_word.specs.declared.word.Word.{Word}
 use Rattle.mm_word.specs.declared.word.Word.TheVariants.{Int, Ptr}
 use Rattle.mm_word.specs.declared.word.Cell.{Cell}
-use Rattle.mm_word.specs.Access.{Touch, check_result}
+use Rattle.mm_word.specs.Access.{AccessValue, check_result}
 use Rattle.mm_isa.specs.declared.instr.Instr.{Instr}
 use Rattle.mm_model.specs.declared.slot.SlotState.TheVariants.{Running}
 use Rattle.mm_model.specs.declared.step.Step.{Step}
@@ -20,18 +20,18 @@ use Rattle.mm_model.specs.Uses.{Use, accesses, accesses-append, TakesUses, takes
 use Rattle.mm_model.specs.Operands.{addr_operand, value_operand, lacks}
 use Rattle.mm_model.specs.Ask.{ask}
 use Rattle.mm_model.specs.Effect.{Effect, delivered}
-use Rattle.mm_model.specs.Effect.Effect.{Fault, Block, Deliver, Does}
+use Rattle.mm_model.specs.Effect.Effect.{Fault, Block, Deliver, Do}
 use Rattle.mm_model.specs.Turn.{Turned, stood, core_faulted, event_of, tick_faulted, faulted, blocked, ended, executed, issued, fetched, aimed, started, touch_of, asked_use}
 use Rattle.mm_model.proofs.SlotSteps.{delivered_from}
 use Rattle.mm_mem.specs.Answers.{fetched as fetched_answer}
-use Rattle.mm_thread.specs.declared.outcome.Outcome.{Outcome}
-use Rattle.mm_thread.specs.declared.outcome.Outcome.TheVariants.{Waits, Fails}
-use Rattle.mm_thread.specs.declared.outcome.Retired.{Retired}
-use Rattle.mm_thread.specs.Places.{row_at, slot_in, with_row, with_slot, numbers_in}
+use Rattle.mm_thread.specs.declared.completion.Completion.{Completion}
+use Rattle.mm_thread.specs.declared.completion.Completion.TheVariants as completions
+use Rattle.mm_thread.specs.declared.completion.Retired.{Retired}
+use Rattle.mm_thread.specs.SlotIndices.{row_at, slot_in, with_row, with_slot, numbers_in}
 use Rattle.mm_thread.specs.Execution.{CanTurn, CanEnd, Leaves, effect_in, Executes, TakesTurn, core_ended, step_ended}
 use Rattle.mm_thread.specs.Tables.{AreNumbered}
-use Rattle.mm_thread.proofs.Placing.{apart_in}
-use Rattle.mm_thread.proofs.Index.{slot_found, put_slot-place, number-get, apart_by}
+use Rattle.mm_thread.proofs.RowIndex.{apart_in}
+use Rattle.mm_thread.proofs.Index.{slot_found, put_slot-at, number-get, apart_by}
 use Rattle.mm_thread.proofs.Cores.{queue_in-slot, slot_in-same}
 
 -- 1. A slot that is put in a core.
@@ -99,68 +99,68 @@ module _ (core : Core) (p : ℕ) (can : CanTurn core p) (m : Memory) where
     waits_on =
         let indexed : AreNumbered core1.rows = apart_by core core1 numbers_stay (apart_in core can.whole) in
         ap (λ (x : Slot). with_slot core1 p (stood x Running)) slot_stays
-        ∙ sym (put_slot-place core1 indexed p still (stood s Running) (ap (λ (x : Slot). x.number) (sym slot_stays)))
+        ∙ sym (put_slot-at core1 indexed p still (stood s Running) (ap (λ (x : Slot). x.number) (sym slot_stays)))
 
   -- what the end of a turn needs
-  pub can_end : (e : Effect) (core1 : Core) (m1 : Memory) (o : Outcome) → Leaves core m s e core1 m1 o → CanEnd o core1 p
-  can_end e core1 m1 o h = by e o h.core_is h.outcome_is h.stays
+  pub can_end : (e : Effect) (core1 : Core) (m1 : Memory) (o : Completion) → Leaves core m s e core1 m1 o → CanEnd o core1 p
+  can_end e core1 m1 o h = by e o h.core_is h.completion_is h.stays
     where
-      waiting : (k : Core) → p < length k.rows → slot_in k p ≡ s → CanEnd Waits k p
+      waiting : (k : Core) → p < length k.rows → slot_in k p ≡ s → CanEnd completions.Blocked k p
       waiting k inside same = (inside, let t = can.turns in omega (arith, ap (λ (x : Slot). x.turns) same))
 
-      by : (e : Effect) (o : Outcome) → core1 ≡ Rattle.mm_thread.specs.Execution.core_left core s e → o ≡ Rattle.mm_thread.specs.Execution.outcome_of e
-          → (o ≡ Waits → slot_at core1 s.number ≡ slot_at core s.number) → CanEnd o core1 p
-      by (Does c) o core_is outcome_is stays = let P : Outcome → Type 0 = λ x. CanEnd x core1 p in subst P (sym outcome_is) tt
-      by (Fault c) o core_is outcome_is stays =
-          let P : Outcome → Type 0 = λ x. CanEnd x core1 p in
+      by : (e : Effect) (o : Completion) → core1 ≡ Rattle.mm_thread.specs.Execution.core_left core s e → o ≡ Rattle.mm_thread.specs.Execution.completion_of e
+          → (o ≡ completions.Blocked → slot_at core1 s.number ≡ slot_at core s.number) → CanEnd o core1 p
+      by (Do c) o core_is completion_is stays = let P : Completion → Type 0 = λ x. CanEnd x core1 p in subst P (sym completion_is) tt
+      by (Fault c) o core_is completion_is stays =
+          let P : Completion → Type 0 = λ x. CanEnd x core1 p in
           let C : Core → Type 0 = λ k. CanTurn k p in
-          subst P (sym outcome_is) (subst C (sym core_is) can)
-      by Block o core_is outcome_is stays =
-          let P : Outcome → Type 0 = λ x. CanEnd x core1 p in
-          let C : Core → Type 0 = λ k. CanEnd Waits k p in
-          subst P (sym outcome_is) (subst C (sym core_is) (waiting core can.within refl))
-      by (Deliver other) o core_is outcome_is stays =
-          let P : Outcome → Type 0 = λ x. CanEnd x core1 p in
-          subst P (sym outcome_is) (waiting core1 (still other core1 core_is (stays outcome_is)) (slot_stays other core1 core_is (stays outcome_is)))
+          subst P (sym completion_is) (subst C (sym core_is) can)
+      by Block o core_is completion_is stays =
+          let P : Completion → Type 0 = λ x. CanEnd x core1 p in
+          let C : Core → Type 0 = λ k. CanEnd completions.Blocked k p in
+          subst P (sym completion_is) (subst C (sym core_is) (waiting core can.within refl))
+      by (Deliver other) o core_is completion_is stays =
+          let P : Completion → Type 0 = λ x. CanEnd x core1 p in
+          subst P (sym completion_is) (waiting core1 (still other core1 core_is (stays completion_is)) (slot_stays other core1 core_is (stays completion_is)))
 
-  module _ (i : Instr) (f : Touch) (touched : Option Touch) (us : List Use) (core1 : Core) (m1 : Memory) (o : Outcome) (core2 : Core) (step : Step)
+  module _ (i : Instr) (f : AccessValue) (touched : Option AccessValue) (us : List Use) (core1 : Core) (m1 : Memory) (o : Completion) (core2 : Core) (step : Step)
       (core_is : core2 ≡ core_ended i core1 (slot_in core1 p) p o) (step_is : step ≡ step_ended s.number (slot_in core1 p) (Some f) touched o) where
     pub ended_so : (e : Effect) → Leaves core m s e core1 m1 o → EndsSo (ended core m s i f touched us e) core2 m1 step
     unfolding ended faulted blocked
-    ended_so (Does c) h = record {
-      core_is = core_is ∙ ap (core_ended i core1 (slot_in core1 p) p) h.outcome_is ∙ h.core_is;
+    ended_so (Do c) h = record {
+      core_is = core_is ∙ ap (core_ended i core1 (slot_in core1 p) p) h.completion_is ∙ h.core_is;
       memory_is = h.memory_is;
-      step_is = step_is ∙ ap (step_ended s.number (slot_in core1 p) (Some f) touched) h.outcome_is;
+      step_is = step_is ∙ ap (step_ended s.number (slot_in core1 p) (Some f) touched) h.completion_is;
     }
     ended_so (Fault c) h = record {
-      core_is = core_is ∙ ap (core_ended i core1 (slot_in core1 p) p) h.outcome_is
+      core_is = core_is ∙ ap (core_ended i core1 (slot_in core1 p) p) h.completion_is
           ∙ ap (λ (k : Core). core_faulted k (slot_in k p) (event_of (slot_in k p) c (addr_operand i (slot_in k p)) (value_operand i (slot_in k p))) (slot_in k p).handler) h.core_is;
       memory_is = h.memory_is;
-      step_is = step_is ∙ ap (step_ended s.number (slot_in core1 p) (Some f) touched) h.outcome_is ∙ ap (λ (k : Core). step_ended s.number (slot_in k p) (Some f) touched (Fails c)) h.core_is;
+      step_is = step_is ∙ ap (step_ended s.number (slot_in core1 p) (Some f) touched) h.completion_is ∙ ap (λ (k : Core). step_ended s.number (slot_in k p) (Some f) touched (completions.Faulted c)) h.core_is;
     }
     ended_so Block h = record {
-      core_is = core_is ∙ ap (core_ended i core1 (slot_in core1 p) p) h.outcome_is ∙ ap (λ (k : Core). with_slot k p (stood (slot_in k p) Running)) h.core_is
-          ∙ sym (put_slot-place core (apart_in core can.whole) p can.within (stood s Running) refl);
+      core_is = core_is ∙ ap (core_ended i core1 (slot_in core1 p) p) h.completion_is ∙ ap (λ (k : Core). with_slot k p (stood (slot_in k p) Running)) h.core_is
+          ∙ sym (put_slot-at core (apart_in core can.whole) p can.within (stood s Running) refl);
       memory_is = h.memory_is;
-      step_is = step_is ∙ ap (step_ended s.number (slot_in core1 p) (Some f) touched) h.outcome_is;
+      step_is = step_is ∙ ap (step_ended s.number (slot_in core1 p) (Some f) touched) h.completion_is;
     }
     ended_so (Deliver other) h = record {
-      core_is = core_is ∙ ap (core_ended i core1 (slot_in core1 p) p) h.outcome_is ∙ waits_on other core1 h.core_is (h.stays h.outcome_is) ∙ ap (λ (k : Core). put_slot k (stood s Running)) h.core_is;
+      core_is = core_is ∙ ap (core_ended i core1 (slot_in core1 p) p) h.completion_is ∙ waits_on other core1 h.core_is (h.stays h.completion_is) ∙ ap (λ (k : Core). put_slot k (stood s Running)) h.core_is;
       memory_is = h.memory_is;
-      step_is = step_is ∙ ap (step_ended s.number (slot_in core1 p) (Some f) touched) h.outcome_is;
+      step_is = step_is ∙ ap (step_ended s.number (slot_in core1 p) (Some f) touched) h.completion_is;
     }
 
-pub ended_uses : (core : Core) (m : Memory) (s : Slot) (i : Instr) (f : Touch) (touched : Option Touch) (us : List Use) (e : Effect) → (ended core m s i f touched us e).uses ≡ us
+pub ended_uses : (core : Core) (m : Memory) (s : Slot) (i : Instr) (f : AccessValue) (touched : Option AccessValue) (us : List Use) (e : Effect) → (ended core m s i f touched us e).uses ≡ us
 unfolding ended faulted blocked
 ended_uses core m s i f touched us (Fault c) = refl
 ended_uses core m s i f touched us Block = refl
 ended_uses core m s i f touched us (Deliver other) = refl
-ended_uses core m s i f touched us (Does c) = refl
+ended_uses core m s i f touched us (Do c) = refl
 
 -- 3. The same with what is asked of a memory.
 
 module _ {M : Type 0} (meaning : M → Memory) (uses : M → ℕ) (stands : M → List Use → Type 0) where
-  pub faults_give : (core : Core) (m : Memory) (s : Slot) (c : Cause) (f : Option Touch) (us : List Use) (old new : M) (core' : Core) (step : Step)
+  pub faults_give : (core : Core) (m : Memory) (s : Slot) (c : Cause) (f : Option AccessValue) (us : List Use) (old new : M) (core' : Core) (step : Step)
       → core' ≡ core_faulted core s (event_of s c (Int 0) (Int 0)) s.handler → meaning new ≡ m
       → step ≡ record { tick = tick_faulted c s.handler; slot = s.number; fetched = f; touched = None; entered = None } → TakesUses stands old new us → uses new ≡ uses old + accesses us
       → TakesTurn meaning uses stands (faulted core m s c (Int 0) (Int 0) f None us) old new core' step
@@ -168,23 +168,23 @@ module _ {M : Type 0} (meaning : M → Memory) (uses : M → ℕ) (stands : M �
   faults_give core m s c f us old new core' step core_is memory_is step_is takes count =
       record { core_is = core_is; memory_is = memory_is; step_is = step_is; takes = takes; count = count }
 
-  module _ (core : Core) (p : ℕ) (can : CanTurn core p) (f : Touch) (u : Use) (i : Instr) (before mid : M)
+  module _ (core : Core) (p : ℕ) (can : CanTurn core p) (f : AccessValue) (u : Use) (i : Instr) (before mid : M)
       (first : TakesUses stands before mid (u ∷ [])) (same : meaning mid ≡ meaning before) (counted : uses mid ≡ uses before + accesses (u ∷ [])) where
     -- the instruction is carried out
     pub issued_gives : (core.split && lacks i (slot_in core p)) ≡ false → (new : M) (core1 core2 : Core)
-        (told : Retired) (step : Step) → Executes meaning uses stands core (slot_in core p) i mid new core1 told
-        → core2 ≡ core_ended i core1 (slot_in core1 p) p told.outcome → step ≡ step_ended (slot_in core p).number (slot_in core1 p) (Some f) told.touched told.outcome
+        (retired : Retired) (step : Step) → Executes meaning uses stands core (slot_in core p) i mid new core1 retired
+        → core2 ≡ core_ended i core1 (slot_in core1 p) p retired.completion → step ≡ step_ended (slot_in core p).number (slot_in core1 p) (Some f) retired.touched retired.completion
         → TakesTurn meaning uses stands (issued core (meaning before) (slot_in core p) f u i) before new core2 step
     unfolding issued executed
-    issued_gives free new core1 core2 told step ex core_is step_is =
+    issued_gives free new core1 core2 retired step ex core_is step_is =
         let s = slot_in core p in
         let m : Memory = meaning before in
-        let LeavesAt : Memory → Type 0 = λ x. Leaves core x s (effect_in core x s i) core1 (meaning new) told.outcome in
+        let LeavesAt : Memory → Type 0 = λ x. Leaves core x s (effect_in core x s i) core1 (meaning new) retired.completion in
         let TakesAt : Memory → Type 0 = λ x. TakesUses stands mid new (asked_use x (ask i s)) in
         let CountAt : Memory → Type 0 = λ x. uses new ≡ uses mid + accesses (asked_use x (ask i s)) in
         let us : List Use = u ∷ asked_use m (ask i s) in
-        let so = ended_so core p can m i f (touch_of (ask i s)) us core1 (meaning new) told.outcome core2 step core_is
-        (step_is ∙ ap (λ t. step_ended s.number (slot_in core1 p) (Some f) t told.outcome) ex.touched) (effect_in core m s i) (subst LeavesAt same ex.leaves) in
+        let so = ended_so core p can m i f (touch_of (ask i s)) us core1 (meaning new) retired.completion core2 step core_is
+        (step_is ∙ ap (λ t. step_ended s.number (slot_in core1 p) (Some f) t retired.completion) ex.touched) (effect_in core m s i) (subst LeavesAt same ex.leaves) in
         let listed = ended_uses core m s i f (touch_of (ask i s)) us (effect_in core m s i) in
         let Takes : List Use → Type 0 = λ ws. TakesUses stands before new ws in
         let Count : List Use → Type 0 = λ ws. uses new ≡ uses before + accesses ws in
@@ -211,7 +211,7 @@ module _ {M : Type 0} (meaning : M → Memory) (uses : M → ℕ) (stands : M �
           core_is = core_is ∙ ap (λ (k : Core). with_slot k p (stood (slot_in k p) Running)) first_is
               ∙ ap (λ (x : Slot). with_slot (with_slot core p (delivered s)) p (stood x Running)) (slot_in-same core p (delivered s) can.within)
               ∙ with_slot-twice core p (delivered s) (stood (delivered s) Running) can.within
-              ∙ sym (put_slot-place core (apart_in core can.whole) p can.within (stood (delivered s) Running) from.number);
+              ∙ sym (put_slot-at core (apart_in core can.whole) p can.within (stood (delivered s) Running) from.number);
           memory_is = same;
           step_is = step_is ∙ ap (λ (k : ℕ). record { tick = Blocked; slot = k; fetched = Some f; touched = None; entered = None }) (number_is ∙ sym from.number);
           takes = first;
@@ -254,6 +254,6 @@ module _ (core : Core) (m : Memory) (s : Slot) where
   unfolding started
   starts_unfetched c past err = where_false s.past _ _ past ∙ ap (aimed core m s) err
 
-  pub starts_fetched : (f : Touch) → s.past ≡ false → check_result (Ptr s.ip) (pos 0) Fetch ≡ Ok f → started core m s ≡ fetched core m s f (cell_at m f.addr)
+  pub starts_fetched : (f : AccessValue) → s.past ≡ false → check_result (Ptr s.ip) (pos 0) Fetch ≡ Ok f → started core m s ≡ fetched core m s f (cell_at m f.addr)
   unfolding started
   starts_fetched f past ok = where_false s.past _ _ past ∙ ap (aimed core m s) ok

@@ -10,7 +10,7 @@ use Rattle.mm_isa.specs.declared.instr.Instr.TheVariants.{Out, Ld, St, Evt, Resu
 use Rattle.mm_model.specs.Slot.{Slot}
 use Rattle.mm_model.specs.Effect.{Change, Effect}
 use Rattle.mm_model.specs.Effect.Pages.{Keep}
-use Rattle.mm_model.specs.Effect.Effect.{Fault, Does}
+use Rattle.mm_model.specs.Effect.Effect.{Fault, Do}
 use Rattle.mm_model.specs.Turn.{slot_after}
 
 -- the instructions that concern their slot alone
@@ -34,18 +34,18 @@ alone c = record c { out = None; cell = None; pages = Keep; queue = None; other 
 pub record ChangesAlone (c : Change) (old new : Slot) (ending : Result (Option Pointer) Cause) : Type 0 where
   pub alone : alone c ≡ c
   pub slot : new ≡ slot_after old c
-  pub told : ending ≡ Ok c.entered
+  pub ended : ending ≡ Ok c.entered
 
 -- a fault leaves the slot as it was
 pub record FaultsAlone (c : Cause) (old new : Slot) (ending : Result (Option Pointer) Cause) : Type 0 where
   pub slot : new ≡ old
-  pub told : ending ≡ Err c
+  pub ended : ending ≡ Err c
 
 -- an instruction that concerns its slot alone leaves what its effect says
 abbrev pub EndsAlone : Effect → Slot → Slot → Result (Option Pointer) Cause → Type 0
-EndsAlone (Does c) old new told = ChangesAlone c old new told
-EndsAlone (Fault c) old new told = FaultsAlone c old new told
-EndsAlone _ old new told = ⊥
+EndsAlone (Do c) old new ended = ChangesAlone c old new ended
+EndsAlone (Fault c) old new ended = FaultsAlone c old new ended
+EndsAlone _ old new ended = ⊥
 
 -- the pointer that a word is, or the fault that it is none
 abbrev pub pointer_in : Word → Result Pointer Cause

@@ -1,7 +1,7 @@
 pub mod Ends
-pub mod Places
+pub mod SlotIndices
 pub mod Execution
-pub mod Told
+pub mod StepAccesses
 pub mod Output
 pub mod Parts
 pub mod Tables

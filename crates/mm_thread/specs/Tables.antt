@@ -6,7 +6,7 @@ use Rattle.mm_model.specs.Slot.{Slot}
 use Rattle.mm_model.specs.State.{ThreadRow}
 use Rattle.mm_model.specs.Turn.{is_running}
 use Rattle.mm_model.specs.Flags.{one_if}
-use Rattle.mm_thread.specs.Places.{no_row}
+use Rattle.mm_thread.specs.SlotIndices.{no_row}
 
 abbrev pub slot_of_row : List ThreadRow → ℕ → Slot
 slot_of_row rows k = (slice_index_or rows k no_row).slot

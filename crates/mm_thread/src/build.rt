@@ -1,7 +1,7 @@
 //! Making a core.
 
 ghost use Rattle.std.specs.Prelude.{◌≡◌, ◌≤◌, [], length, map, replicate, IfOk};
-ghost use Rattle.mm_thread.specs.Places.{row_alone};
+ghost use Rattle.mm_thread.specs.SlotIndices.{row_alone};
 ghost use Rattle.mm_thread.specs.Tables.{AreNumbered, IsIndex};
 
 use crate::group_output::GroupOutput;

@@ -2,31 +2,31 @@
 
 ghost use Rattle.std.specs.Prelude.{◌≡◌, ◌<◌, ◌^◌, ◌&&◌, false};
 ghost use Rattle.mm_model.specs.Operands.{lacks};
-ghost use Rattle.mm_thread.specs.Places.{slot_in};
+ghost use Rattle.mm_thread.specs.SlotIndices.{slot_in};
 ghost use Rattle.mm_thread.specs.Execution.{CanTurn, Executes};
 
 use crate::memory_ops::{MemoryOperand, load, map, store, unmap, untouched};
-use crate::outcome::Retired;
+use crate::completion::Retired;
 use crate::slot_ops::{go_alone, next_event, put_out, read_register, resume, write_register};
 use crate::tables::Tables;
 use mm_isa::Instr;
 use mm_mem::Memory;
 
-/// Carries out an instruction of the slot at `place`.
+/// Carries out an instruction of the slot at `slot_index`.
 pub(crate) fn execute<M: Memory>(
     tables: &mut Tables,
-    place: usize,
+    slot_index: usize,
     mem: &mut M,
     instr: &Instr,
 ) -> Retired
-    requires can { CanTurn tables.old place }
-    requires free { (tables.old.split && lacks instr.now (slot_in tables.old place)) ≡ false }
+    requires can { CanTurn tables.old slot_index }
+    requires free { (tables.old.split && lacks instr.now (slot_in tables.old slot_index)) ≡ false }
     requires room { M.uses mem.old < 2 ^ 62 }
-    ensures { Executes M.meaning M.uses M.stands tables.old (slot_in tables.old place) instr.now mem.old mem.new
+    ensures { Executes M.meaning M.uses M.stands tables.old (slot_in tables.old slot_index) instr.now mem.old mem.new
         tables.new result }
 {
     match instr {
-        Instr::Out { ra } => untouched(put_out(tables, place, *ra)),
+        Instr::Out { ra } => untouched(put_out(tables, slot_index, *ra)),
         Instr::Ld {
             rd,
             ra,
@@ -35,7 +35,7 @@ pub(crate) fn execute<M: Memory>(
             imm,
         } => load(
             tables,
-            place,
+            slot_index,
             mem,
             *rd,
             MemoryOperand {
@@ -53,7 +53,7 @@ pub(crate) fn execute<M: Memory>(
             imm,
         } => store(
             tables,
-            place,
+            slot_index,
             mem,
             *rb,
             MemoryOperand {
@@ -63,12 +63,12 @@ pub(crate) fn execute<M: Memory>(
                 post: *post,
             },
         ),
-        Instr::Evt { rd } => untouched(next_event(tables, place, *rd)),
-        Instr::Resume { ra, how } => untouched(resume(tables, place, *ra, *how)),
-        Instr::Rreg { rd, ra, reg } => untouched(read_register(tables, place, *rd, *ra, *reg)),
-        Instr::Wreg { ra, rb, reg } => untouched(write_register(tables, place, *ra, *rb, *reg)),
-        Instr::Map { rd, ra } => map(tables, place, mem, *rd, *ra),
-        Instr::Unmap { rd, ra } => unmap(tables, place, mem, *rd, *ra),
-        _ => untouched(go_alone(tables, place, instr)),
+        Instr::Evt { rd } => untouched(next_event(tables, slot_index, *rd)),
+        Instr::Resume { ra, how } => untouched(resume(tables, slot_index, *ra, *how)),
+        Instr::Rreg { rd, ra, reg } => untouched(read_register(tables, slot_index, *rd, *ra, *reg)),
+        Instr::Wreg { ra, rb, reg } => untouched(write_register(tables, slot_index, *ra, *rb, *reg)),
+        Instr::Map { rd, ra } => map(tables, slot_index, mem, *rd, *ra),
+        Instr::Unmap { rd, ra } => unmap(tables, slot_index, mem, *rd, *ra),
+        _ => untouched(go_alone(tables, slot_index, instr)),
     }
 }

@@ -6,10 +6,10 @@ ghost use Rattle.mm_model.specs.Slot.{Slot as SlotValue};
 ghost use Rattle.mm_model.specs.Fits.{IsCore, slots_of};
 ghost use Rattle.mm_model.specs.Turn.{turn, taken_by_port, port_of, is_running};
 ghost use Rattle.mm_model.specs.Memory.{Memory as MemoryValue};
-ghost use Rattle.mm_thread.specs.Places.{slot_in};
+ghost use Rattle.mm_thread.specs.SlotIndices.{slot_in};
 ghost use Rattle.mm_thread.specs.Execution.{TakesTurn, AsksNothing};
 
-use crate::slot_turn::{start, tell};
+use crate::slot_turn::{start, write_step};
 use crate::tables::Tables;
 use mm_mem::Memory;
 use mm_model::{Slot, SlotState, Step, Tick};
@@ -22,13 +22,13 @@ pub(crate) fn take_item<M: Memory>(tables: &mut Tables, mem: &mut M, item: u8, s
     ensures { TakesTurn M.meaning M.uses M.stands (turn tables.old (M.meaning mem.old) item) mem.old mem.new tables.new
         step.new }
 {
-    match tables.place_of(u64::from(item)) {
+    match tables.find_slot(u64::from(item)) {
         None => take_port(tables, item, step),
-        Some(place) => {
-            if is_running(tables.slot(place)) {
-                start(tables, place, mem, step);
+        Some(slot_index) => {
+            if is_running(tables.slot(slot_index)) {
+                start(tables, slot_index, mem, step);
             } else {
-                tell(step, Tick::Idle, item, None, None);
+                write_step(step, Tick::Idle, item, None, None);
             }
         }
     }
@@ -47,16 +47,16 @@ fn take_port(tables: &mut Tables, item: u8, step: &mut Step)
     ensures { (m : MemoryValue)
         → AsksNothing (taken_by_port tables.old m item (port_of tables.old item)) m tables.new step.new }
 {
-    let Some(place) = port_of(tables, item) else {
-        tell(step, Tick::Idle, item, None, None);
+    let Some(slot_index) = port_of(tables, item) else {
+        write_step(step, Tick::Idle, item, None, None);
         return;
     };
-    let number = tables.slot(place).number;
-    let tick = match tables.deliver(place) {
+    let number = tables.slot(slot_index).number;
+    let tick = match tables.deliver(slot_index) {
         Some(register) => Tick::Delivered(register),
         None => Tick::Idle,
     };
-    tell(step, tick, number, None, None);
+    write_step(step, tick, number, None, None);
 }
 
 /// The index of the slot whose port the item is. In a split machine the items from 128 on are ports.
@@ -67,7 +67,7 @@ fn port_of(tables: &Tables, item: u8) -> Option<usize>
     ensures none { IfNone result (port_of tables.now item ≡ None) }
 {
     if tables.split() && item >= 128 {
-        tables.place_of(u64::from(item - 128))
+        tables.find_slot(u64::from(item - 128))
     } else {
         None
     }

@@ -13,7 +13,7 @@
 //! | the changes of a turn to its slot | `slot` |
 //! | the table of the other instructions | `execute` |
 //! | a function for each that needs memory, or other slots, queues or outputs | `memory_ops`, `slot_ops` |
-//! | the values of an instruction's operands, and how an instruction ends | `operands`, `outcome` |
+//! | the values of an instruction's operands, and how an instruction ends | `operands`, `completion` |
 #![tactic(auto)]
 
 mod build;
@@ -25,7 +25,7 @@ mod item;
 mod local_ops;
 mod memory_ops;
 mod operands;
-mod outcome;
+mod completion;
 mod output;
 mod queue;
 mod restore;

@@ -10,7 +10,7 @@ ghost use Rattle.mm_model.specs.Slot.{register};
 ghost use Rattle.mm_model.specs.Ask.{is_privileged};
 ghost use Rattle.mm_model.specs.Effect.{effect, sets_pointer, branches, at_distance, high_and_low, test};
 ghost use Rattle.mm_model.specs.Effect.{entry_of, jumps, links, plain};
-ghost use Rattle.mm_model.specs.Effect.Effect.{Does};
+ghost use Rattle.mm_model.specs.Effect.Effect.{Do};
 ghost use Rattle.mm_model.specs.Effect.Reply.{Fine};
 ghost use Rattle.mm_thread.specs.Ends.{EndsAlone, pointer_in};
 
@@ -36,7 +36,7 @@ pub(crate) fn halt(slot: &mut Slot) -> Entered
 pub(crate) fn nop(slot: &mut Slot) -> Entered
     requires { slot.old.turns < 2 ^ 62 }
     ensures ends { (split : Bool) → EndsAlone (effect split Instr.Nop slot.old Fine) slot.old slot.new result }
-    ensures as_step { EndsAlone (Does (plain slot.old)) slot.old slot.new result }
+    ensures as_step { EndsAlone (Do (plain slot.old)) slot.old slot.new result }
 {
     advance(slot);
     Ok(None)
@@ -255,7 +255,7 @@ pub(crate) fn set_pointer(slot: &mut Slot, rd: Reg, ra: Reg) -> Entered
 
 /// The instruction pointer moved by `imm` words.
 fn at_distance(slot: &Slot, imm: i32) -> Result<GuardedPtr, Cause>
-    ensures place { result ≡ at_distance slot.now imm }
+    ensures pointer { result ≡ at_distance slot.now imm }
     ensures executable { IfOk result (λ p. can_fetch p.perm ≡ true) }
 {
     lea(slot.ip, 8 * i64::from(imm))
@@ -312,7 +312,7 @@ fn entry_of(p: GuardedPtr) -> Option<GuardedPtr>
 
 /// The instruction pointer after a jump through a pointer.
 fn entered(p: GuardedPtr) -> Option<GuardedPtr>
-    ensures place { result ≡ enter_result p }
+    ensures pointer { result ≡ enter_result p }
     ensures executable { IfSome result (λ q. can_fetch q.perm ≡ true) }
 {
     enter(p)

@@ -6,12 +6,12 @@ ghost use Rattle.mm_model.specs.Slot.{register};
 ghost use Rattle.mm_model.specs.Operands.{lacks};
 ghost use Rattle.mm_model.specs.Ask.{load_kind};
 ghost use Rattle.mm_model.specs.Turn.{is_running};
-ghost use Rattle.mm_thread.specs.Places.{slot_in};
-ghost use Rattle.mm_thread.specs.Execution.{CanTurn, Executes, core_loaded, outcome_loaded, core_stored};
-ghost use Rattle.mm_thread.specs.Execution.{outcome_stored, page_named};
+ghost use Rattle.mm_thread.specs.SlotIndices.{slot_in};
+ghost use Rattle.mm_thread.specs.Execution.{CanTurn, Executes, core_loaded, completion_loaded, core_stored};
+ghost use Rattle.mm_thread.specs.Execution.{completion_stored, page_named};
 
 use crate::local_ops::{flag, is_privileged};
-use crate::outcome::{Outcome, Retired};
+use crate::completion::{Completion, Retired};
 use crate::slot::word_of;
 use crate::tables::Tables;
 use mm_isa::{Instr, Reg};
@@ -33,24 +33,24 @@ pub(crate) struct MemoryOperand {
 /// `ld`: writes a cell's word to a register; in a split machine the word arrives later.
 pub(crate) fn load<M: Memory>(
     tables: &mut Tables,
-    place: usize,
+    slot_index: usize,
     mem: &mut M,
     rd: Reg,
     at: MemoryOperand,
 ) -> Retired
-    requires can { CanTurn tables.old place }
+    requires can { CanTurn tables.old slot_index }
     requires free { (tables.old.split
-        && lacks (Instr.Ld rd at.base at.pre at.post at.offset) (slot_in tables.old place)) ≡ false }
+        && lacks (Instr.Ld rd at.base at.pre at.post at.offset) (slot_in tables.old slot_index)) ≡ false }
     requires room { M.uses mem.old < 2 ^ 62 }
-    ensures { Executes M.meaning M.uses M.stands tables.old (slot_in tables.old place)
+    ensures { Executes M.meaning M.uses M.stands tables.old (slot_in tables.old slot_index)
         (Instr.Ld rd at.base at.pre at.post at.offset) mem.old mem.new tables.new result }
 {
-    match reach(tables.slot(place), at.base, at.offset, load_kind(at.post)) {
-        Err(cause) => untouched(Outcome::Fails(cause)),
+    match reach(tables.slot(slot_index), at.base, at.offset, load_kind(at.post)) {
+        Err(cause) => untouched(Completion::Faulted(cause)),
         Ok(access) => {
             let loaded = mem.load(&access, at.pre, at.post);
-            let outcome = receive(tables, place, rd, loaded);
-            touching(outcome, access)
+            let completion = receive(tables, slot_index, rd, loaded);
+            touching(completion, access)
         }
     }
 }
@@ -58,23 +58,23 @@ pub(crate) fn load<M: Memory>(
 /// `st`: writes a register's word to a cell.
 pub(crate) fn store<M: Memory>(
     tables: &mut Tables,
-    place: usize,
+    slot_index: usize,
     mem: &mut M,
     rb: Reg,
     at: MemoryOperand,
 ) -> Retired
-    requires can { CanTurn tables.old place }
+    requires can { CanTurn tables.old slot_index }
     requires room { M.uses mem.old < 2 ^ 62 }
-    ensures { Executes M.meaning M.uses M.stands tables.old (slot_in tables.old place)
+    ensures { Executes M.meaning M.uses M.stands tables.old (slot_in tables.old slot_index)
         (Instr.St at.base rb at.pre at.post at.offset) mem.old mem.new tables.new result }
 {
-    match reach(tables.slot(place), at.base, at.offset, Kind::Store) {
-        Err(cause) => untouched(Outcome::Fails(cause)),
+    match reach(tables.slot(slot_index), at.base, at.offset, Kind::Store) {
+        Err(cause) => untouched(Completion::Faulted(cause)),
         Ok(access) => {
-            let word = word_of(tables.slot(place), rb);
+            let word = word_of(tables.slot(slot_index), rb);
             let stored = mem.store(&access, word, at.pre, at.post);
-            let outcome = finish_store(tables, place, stored);
-            touching(outcome, access)
+            let completion = finish_store(tables, slot_index, stored);
+            touching(completion, access)
         }
     }
 }
@@ -82,21 +82,21 @@ pub(crate) fn store<M: Memory>(
 /// `map`: maps a page, and writes to a register whether that was done.
 pub(crate) fn map<M: Memory>(
     tables: &mut Tables,
-    place: usize,
+    slot_index: usize,
     mem: &mut M,
     rd: Reg,
     ra: Reg,
 ) -> Retired
-    requires can { CanTurn tables.old place }
-    ensures { Executes M.meaning M.uses M.stands tables.old (slot_in tables.old place) (Instr.Map rd ra) mem.old mem.new
+    requires can { CanTurn tables.old slot_index }
+    ensures { Executes M.meaning M.uses M.stands tables.old (slot_in tables.old slot_index) (Instr.Map rd ra) mem.old mem.new
         tables.new result }
 {
-    match page_named(tables.slot(place), ra) {
-        Err(cause) => untouched(Outcome::Fails(cause)),
+    match page_named(tables.slot(slot_index), ra) {
+        Err(cause) => untouched(Completion::Faulted(cause)),
         Ok(page) => {
             let mapped = mem.map(page);
-            tables.sets(place, rd, Word::Int(flag(mapped)));
-            untouched(Outcome::Goes(None))
+            tables.sets(slot_index, rd, Word::Int(flag(mapped)));
+            untouched(Completion::Did(None))
         }
     }
 }
@@ -104,41 +104,41 @@ pub(crate) fn map<M: Memory>(
 /// `unmap`: removes a page, and writes to a register whether that was done.
 pub(crate) fn unmap<M: Memory>(
     tables: &mut Tables,
-    place: usize,
+    slot_index: usize,
     mem: &mut M,
     rd: Reg,
     ra: Reg,
 ) -> Retired
-    requires can { CanTurn tables.old place }
-    ensures { Executes M.meaning M.uses M.stands tables.old (slot_in tables.old place) (Instr.Unmap rd ra) mem.old
+    requires can { CanTurn tables.old slot_index }
+    ensures { Executes M.meaning M.uses M.stands tables.old (slot_in tables.old slot_index) (Instr.Unmap rd ra) mem.old
         mem.new tables.new result }
 {
-    match page_named(tables.slot(place), ra) {
-        Err(cause) => untouched(Outcome::Fails(cause)),
+    match page_named(tables.slot(slot_index), ra) {
+        Err(cause) => untouched(Completion::Faulted(cause)),
         Ok(page) => {
             let removed = mem.unmap(page);
-            tables.sets(place, rd, Word::Int(flag(removed)));
-            untouched(Outcome::Goes(None))
+            tables.sets(slot_index, rd, Word::Int(flag(removed)));
+            untouched(Completion::Did(None))
         }
     }
 }
 
 /// The outcome of an instruction that reached no cell.
-pub(crate) fn untouched(outcome: Outcome) -> Retired
-    ensures { result ≡ record { outcome = outcome; touched = None } }
+pub(crate) fn untouched(completion: Completion) -> Retired
+    ensures { result ≡ record { completion = completion; touched = None } }
 {
     Retired {
-        outcome,
+        completion,
         touched: None,
     }
 }
 
 /// The outcome of an instruction with its access to a cell.
-fn touching(outcome: Outcome, access: Access) -> Retired
-    ensures { result ≡ record { outcome = outcome; touched = Some access } }
+fn touching(completion: Completion, access: Access) -> Retired
+    ensures { result ≡ record { completion = completion; touched = Some access } }
 {
     Retired {
-        outcome,
+        completion,
         touched: Some(access),
     }
 }
@@ -163,43 +163,43 @@ fn reach(slot: &Slot, ra: Reg, imm: i32, kind: Kind) -> Result<Access, Cause>
 }
 
 /// Writes the word of a load to a register, if the load was done.
-fn receive(tables: &mut Tables, place: usize, rd: Reg, loaded: Loaded) -> Outcome
-    requires place { place < length tables.old.rows }
-    requires runs { is_running (slot_in tables.old place).state ≡ true }
-    requires turns { (slot_in tables.old place).turns < 2 ^ 62 }
-    requires room { tables.old.split ≡ true → length (slot_in tables.old place).pending < 16 }
-    ensures core { tables.new ≡ core_loaded tables.old place rd loaded }
-    ensures outcome { result ≡ outcome_loaded loaded }
+fn receive(tables: &mut Tables, slot_index: usize, rd: Reg, loaded: Loaded) -> Completion
+    requires slot_index { slot_index < length tables.old.rows }
+    requires runs { is_running (slot_in tables.old slot_index).state ≡ true }
+    requires turns { (slot_in tables.old slot_index).turns < 2 ^ 62 }
+    requires room { tables.old.split ≡ true → length (slot_in tables.old slot_index).pending < 16 }
+    ensures core { tables.new ≡ core_loaded tables.old slot_index rd loaded }
+    ensures completion { result ≡ completion_loaded loaded }
 {
     match loaded {
         Loaded::Value(word) => {
             if tables.split() {
-                tables.issue(place, rd, word);
+                tables.issue(slot_index, rd, word);
             } else {
-                tables.sets(place, rd, word);
+                tables.sets(slot_index, rd, word);
             }
-            Outcome::Goes(None)
+            Completion::Did(None)
         }
-        Loaded::NoPage => Outcome::Fails(Cause::NoPage),
-        Loaded::NotReady => Outcome::Fails(Cause::Sync),
+        Loaded::NoPage => Completion::Faulted(Cause::NoPage),
+        Loaded::NotReady => Completion::Faulted(Cause::Sync),
     }
 }
 
 /// Goes on to the next instruction if the store was done, and else fails as the store did.
-fn finish_store(tables: &mut Tables, place: usize, stored: Stored) -> Outcome
-    requires place { place < length tables.old.rows }
-    requires runs { is_running (slot_in tables.old place).state ≡ true }
-    requires turns { (slot_in tables.old place).turns < 2 ^ 62 }
-    ensures core { tables.new ≡ core_stored tables.old place stored }
-    ensures outcome { result ≡ outcome_stored stored }
+fn finish_store(tables: &mut Tables, slot_index: usize, stored: Stored) -> Completion
+    requires slot_index { slot_index < length tables.old.rows }
+    requires runs { is_running (slot_in tables.old slot_index).state ≡ true }
+    requires turns { (slot_in tables.old slot_index).turns < 2 ^ 62 }
+    ensures core { tables.new ≡ core_stored tables.old slot_index stored }
+    ensures completion { result ≡ completion_stored stored }
 {
     match stored {
         Stored::Done => {
-            tables.advance(place);
-            Outcome::Goes(None)
+            tables.advance(slot_index);
+            Completion::Did(None)
         }
-        Stored::NoPage => Outcome::Fails(Cause::NoPage),
-        Stored::NotReady => Outcome::Fails(Cause::Sync),
+        Stored::NoPage => Completion::Faulted(Cause::NoPage),
+        Stored::NotReady => Completion::Faulted(Cause::Sync),
     }
 }
 

@@ -28,7 +28,7 @@ struct Named {
 impl Visitor for Named {
     ghost use Rattle.mm_thread.specs.Named.{named_too};
 
-    ghost told = { λ n name code. n };
+    ghost begun = { λ n name code. n };
 
     ghost given = { named_too };
 

@@ -7,7 +7,7 @@ ghost use Rattle.mm_model.specs.State.{row_in, queue_at, put_queue};
 ghost use Rattle.mm_model.specs.Spelling.{numbers_of};
 ghost use Rattle.mm_model.specs.Fits.{slots_of};
 ghost use Rattle.mm_thread.specs.Output.{Output as OutputValue};
-ghost use Rattle.mm_thread.specs.Places.{row_alone, numbers_in};
+ghost use Rattle.mm_thread.specs.SlotIndices.{row_alone, numbers_in};
 ghost use Rattle.mm_thread.specs.Tables.{AreNumbered};
 ghost use Rattle.mm_thread.specs.Parts.{events_for, row_with, outputs_with};
 
@@ -45,8 +45,8 @@ fn put_event(tables: &mut Tables, number: u8, event: Event)
     requires room { IfSome (row_in tables.old.rows number) (λ row. length row.queue < 64) }
     ensures { tables.new ≡ put_queue tables.old number (queue_at tables.old number ++ event ∷ []) }
 {
-    if let Some(place) = tables.place_of(u64::from(number)) {
-        tables.push_event(place, event);
+    if let Some(slot_index) = tables.find_slot(u64::from(number)) {
+        tables.push_event(slot_index, event);
     }
 }
 

@@ -22,7 +22,7 @@ pub(crate) fn noted(runners: u64, slot: &Slot) -> u64
 }
 
 /// The set after a turn of a slot that ran. Nearly every turn leaves the slot running, and then the set stays as it is.
-pub(crate) fn kept(runners: u64, slot: &Slot) -> u64
+pub(crate) fn keep_running(runners: u64, slot: &Slot) -> u64
     requires small { slot.now.number < 64 }
     requires ran { bit_at runners slot.now.number ≡ 1 }
     ensures { IsNoted runners result slot.now }

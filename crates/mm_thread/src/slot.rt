@@ -8,7 +8,7 @@ ghost use Rattle.mm_model.specs.Slot.{register};
 ghost use Rattle.mm_model.specs.declared.slot.Pending.{Pending};
 ghost use Rattle.mm_model.specs.Effect.{plain, delivered, resumed_by};
 ghost use Rattle.mm_model.specs.Turn.{slot_after, stood};
-ghost use Rattle.mm_thread.specs.Places.{first_register, event_writes};
+ghost use Rattle.mm_thread.specs.SlotIndices.{first_register, event_writes};
 ghost use Rattle.mm_word.specs.declared.word.Word.TheVariants.{Int, Ptr};
 
 use mm_isa::{EvtReg, How, Reg};

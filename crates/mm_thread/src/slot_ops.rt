@@ -8,11 +8,11 @@ ghost use Rattle.mm_model.specs.Slot.{register};
 ghost use Rattle.mm_model.specs.State.{slot_at};
 ghost use Rattle.mm_model.specs.Effect.Reply.{Refused, Served};
 ghost use Rattle.mm_model.specs.Turn.{served, is_handler, is_taken};
-ghost use Rattle.mm_thread.specs.Places.{slot_in};
+ghost use Rattle.mm_thread.specs.SlotIndices.{slot_in};
 ghost use Rattle.mm_thread.specs.Ends.{is_alone};
 ghost use Rattle.mm_thread.specs.Execution.{CanTurn, Leaves, effect_in};
 
-use crate::outcome::Outcome;
+use crate::completion::Completion;
 use crate::slot::word_of;
 use crate::tables::Tables;
 use mm_isa::{EvtReg, How, Instr, Reg};
@@ -21,67 +21,67 @@ use mm_word::{Cause, Word};
 
 /// Carries out an instruction that concerns its slot alone.
 #[inline(always)]
-pub(crate) fn go_alone(tables: &mut Tables, place: usize, instr: &Instr) -> Outcome
-    requires can { CanTurn tables.old place }
+pub(crate) fn go_alone(tables: &mut Tables, slot_index: usize, instr: &Instr) -> Completion
+    requires can { CanTurn tables.old slot_index }
     requires alone { is_alone instr.now ≡ true }
-    ensures { (m : Memory) → let s = slot_in tables.old place in
+    ensures { (m : Memory) → let s = slot_in tables.old slot_index in
         Leaves tables.old m s (effect_in tables.old m s instr.now) tables.new m result }
 {
-    match tables.carry_out(place, instr) {
-        Ok(entered) => Outcome::Goes(entered),
-        Err(cause) => Outcome::Fails(cause),
+    match tables.carry_out(slot_index, instr) {
+        Ok(entered) => Completion::Did(entered),
+        Err(cause) => Completion::Faulted(cause),
     }
 }
 
 /// `out`: puts out the lowest byte of a word to the group's output.
-pub(crate) fn put_out(tables: &mut Tables, place: usize, ra: Reg) -> Outcome
-    requires { CanTurn tables.old place }
-    ensures { (m : Memory) → let s = slot_in tables.old place in
+pub(crate) fn put_out(tables: &mut Tables, slot_index: usize, ra: Reg) -> Completion
+    requires { CanTurn tables.old slot_index }
+    ensures { (m : Memory) → let s = slot_in tables.old slot_index in
         Leaves tables.old m s (effect_in tables.old m s (Instr.Out ra)) tables.new m result }
 {
-    let slot = tables.slot(place);
+    let slot = tables.slot(slot_index);
     let group = slot.group;
     let byte = (word_of(slot, ra).bits() % 256) as u8;
     if tables.has_room(group) {
-        tables.advance(place);
+        tables.advance(slot_index);
         tables.put_byte(group, byte);
-        Outcome::Goes(None)
+        Completion::Did(None)
     } else {
-        Outcome::Fails(Cause::OutFull)
+        Completion::Faulted(Cause::OutFull)
     }
 }
 
 /// `evt`: writes the oldest event of the slot's own queue to four registers; the event's slot is then taken.
-pub(crate) fn next_event(tables: &mut Tables, place: usize, rd: EvtReg) -> Outcome
-    requires { CanTurn tables.old place }
-    ensures { (m : Memory) → let s = slot_in tables.old place in
+pub(crate) fn next_event(tables: &mut Tables, slot_index: usize, rd: EvtReg) -> Completion
+    requires { CanTurn tables.old slot_index }
+    ensures { (m : Memory) → let s = slot_in tables.old slot_index in
         Leaves tables.old m s (effect_in tables.old m s (Instr.Evt rd)) tables.new m result }
 {
-    let Some(event) = tables.queue(place).first().copied() else {
-        return Outcome::Waits;
+    let Some(event) = tables.queue(slot_index).first().copied() else {
+        return Completion::Blocked;
     };
-    let Some(of) = tables.place_of(u64::from(event.slot)) else {
-        return Outcome::Waits;
+    let Some(of) = tables.find_slot(u64::from(event.slot)) else {
+        return Completion::Blocked;
     };
     tables.set_taken(of);
-    tables.take_event(place, rd, &event);
-    tables.remove_event(place);
-    Outcome::Goes(None)
+    tables.take_event(slot_index, rd, &event);
+    tables.remove_event(slot_index);
+    Completion::Did(None)
 }
 
-/// The index of the slot that a register names, if the slot at `place` is its handler and has read its event.
-fn served(tables: &Tables, place: usize, ra: Reg) -> Option<usize>
-    requires { CanTurn tables.now place }
+/// The index of the slot that a register names, if the slot at `slot_index` is its handler and has read its event.
+fn served(tables: &Tables, slot_index: usize, ra: Reg) -> Option<usize>
+    requires { CanTurn tables.now slot_index }
     ensures within { IfSome result (λ p. p < length tables.now.rows) }
-    ensures served { IfSome result (λ p. let s = slot_in tables.now place in
+    ensures served { IfSome result (λ p. let s = slot_in tables.now slot_index in
         served s.number (slot_at tables.now (word_bits (register s ra))) ≡ Served (slot_in tables.now p)) }
-    ensures other { IfSome result (λ p. p ≢ place) }
-    ensures none { IfNone result (let s = slot_in tables.now place in
+    ensures other { IfSome result (λ p. p ≢ slot_index) }
+    ensures none { IfNone result (let s = slot_in tables.now slot_index in
         served s.number (slot_at tables.now (word_bits (register s ra))) ≡ Refused NoSlot) }
 {
-    let slot = tables.slot(place);
+    let slot = tables.slot(slot_index);
     let number = slot.number;
-    let of = tables.place_of(word_of(slot, ra).bits())?;
+    let of = tables.find_slot(word_of(slot, ra).bits())?;
     let other = tables.slot(of);
     if is_handled_by(other, number) && is_taken(other) {
         Some(of)
@@ -108,64 +108,64 @@ fn is_taken(slot: &Slot) -> bool
 }
 
 /// `resume`: the slot that a register names goes on, or is halted.
-pub(crate) fn resume(tables: &mut Tables, place: usize, ra: Reg, how: How) -> Outcome
-    requires { CanTurn tables.old place }
-    ensures { (m : Memory) → let s = slot_in tables.old place in
+pub(crate) fn resume(tables: &mut Tables, slot_index: usize, ra: Reg, how: How) -> Completion
+    requires { CanTurn tables.old slot_index }
+    ensures { (m : Memory) → let s = slot_in tables.old slot_index in
         Leaves tables.old m s (effect_in tables.old m s (Instr.Resume ra how)) tables.new m result }
 {
-    let Some(of) = served(tables, place, ra) else {
-        return Outcome::Fails(Cause::NoSlot);
+    let Some(of) = served(tables, slot_index, ra) else {
+        return Completion::Faulted(Cause::NoSlot);
     };
     tables.resume(of, how);
-    tables.advance(place);
-    Outcome::Goes(None)
+    tables.advance(slot_index);
+    Completion::Did(None)
 }
 
 /// `rreg`: a register of the slot that a register names is read.
 pub(crate) fn read_register(
     tables: &mut Tables,
-    place: usize,
+    slot_index: usize,
     rd: Reg,
     ra: Reg,
     reg: Reg,
-) -> Outcome
-    requires { CanTurn tables.old place }
-    ensures { (m : Memory) → let s = slot_in tables.old place in
+) -> Completion
+    requires { CanTurn tables.old slot_index }
+    ensures { (m : Memory) → let s = slot_in tables.old slot_index in
         Leaves tables.old m s (effect_in tables.old m s (Instr.Rreg rd ra reg)) tables.new m result }
 {
-    let Some(of) = served(tables, place, ra) else {
-        return Outcome::Fails(Cause::NoSlot);
+    let Some(of) = served(tables, slot_index, ra) else {
+        return Completion::Faulted(Cause::NoSlot);
     };
     if tables.lacks(of, reg) {
         let _register = tables.deliver(of);
-        return Outcome::Waits;
+        return Completion::Blocked;
     }
     let word = word_of(tables.slot(of), reg);
-    tables.sets(place, rd, word);
-    Outcome::Goes(None)
+    tables.sets(slot_index, rd, word);
+    Completion::Did(None)
 }
 
 /// `wreg`: a register of the slot that a register names is written.
 pub(crate) fn write_register(
     tables: &mut Tables,
-    place: usize,
+    slot_index: usize,
     ra: Reg,
     rb: Reg,
     reg: Reg,
-) -> Outcome
-    requires { CanTurn tables.old place }
-    ensures { (m : Memory) → let s = slot_in tables.old place in
+) -> Completion
+    requires { CanTurn tables.old slot_index }
+    ensures { (m : Memory) → let s = slot_in tables.old slot_index in
         Leaves tables.old m s (effect_in tables.old m s (Instr.Wreg ra rb reg)) tables.new m result }
 {
-    let Some(of) = served(tables, place, ra) else {
-        return Outcome::Fails(Cause::NoSlot);
+    let Some(of) = served(tables, slot_index, ra) else {
+        return Completion::Faulted(Cause::NoSlot);
     };
     if tables.lacks(of, reg) {
         let _register = tables.deliver(of);
-        return Outcome::Waits;
+        return Completion::Blocked;
     }
-    let word = word_of(tables.slot(place), rb);
+    let word = word_of(tables.slot(slot_index), rb);
     tables.set_register(of, reg, word);
-    tables.advance(place);
-    Outcome::Goes(None)
+    tables.advance(slot_index);
+    Completion::Did(None)
 }

@@ -17,8 +17,8 @@ ghost use Rattle.mm_model.specs.Turn.{turn as turn_of};
 ghost use Rattle.mm_model.specs.Outcomes.{IsIdle, Delivers, Blocks, Faults, Completes};
 ghost use Rattle.mm_word.specs.declared.cause.Cause.{Cause};
 ghost use Rattle.mm_model.specs.declared.step.Tick.{Tick};
-ghost use Rattle.mm_thread.specs.Places.{row_alone};
-ghost use Rattle.mm_thread.specs.Told.{accesses_in, accesses_told};
+ghost use Rattle.mm_thread.specs.SlotIndices.{row_alone};
+ghost use Rattle.mm_thread.specs.StepAccesses.{accesses_in, accesses_shown};
 
 use crate::build::{no_outputs, rows_of};
 use crate::item::take_item;
@@ -71,7 +71,7 @@ pub fn turn<M: Memory>(core: &mut Core, mem: &mut M, item: u8) -> Step
     ensures few { accesses (turn_of core.old (M.meaning mem.old) item).uses ≤ 2 }
 
     // The step tells exactly the accesses that were made.
-    ensures exactly { accesses_in (turn_of core.old (M.meaning mem.old) item).uses ≡ accesses_told result }
+    ensures exactly { accesses_in (turn_of core.old (M.meaning mem.old) item).uses ≡ accesses_shown result }
 {
     let mut step = Step::idle(item);
     turn_into(core, mem, item, &mut step);
@@ -147,8 +147,8 @@ impl Core {
     pub fn slot(&self, n: u8) -> Option<&Slot>
         ensures { option_copied result ≡ slot_at self.now n }
     {
-        match self.tables.place_of(u64::from(n)) {
-            Some(place) => Some(self.tables.slot(place)),
+        match self.tables.find_slot(u64::from(n)) {
+            Some(slot_index) => Some(self.tables.slot(slot_index)),
             None => None,
         }
     }
@@ -164,8 +164,8 @@ impl Core {
     pub fn queue(&self, n: u8) -> &[Event]
         ensures { result.now ≡ queue_at self.now n }
     {
-        match self.tables.place_of(u64::from(n)) {
-            Some(place) => self.tables.queue(place),
+        match self.tables.find_slot(u64::from(n)) {
+            Some(slot_index) => self.tables.queue(slot_index),
             None => &[],
         }
     }

@@ -15,15 +15,15 @@ ghost use Rattle.mm_model.specs.Effect.Reply.{Fine};
 ghost use Rattle.mm_model.specs.Turn.{slot_after, stood, is_running};
 ghost use Rattle.mm_thread.specs.Ends.{EndsAlone, is_alone};
 ghost use Rattle.mm_thread.specs.Tables.{AreNumbered};
-ghost use Rattle.mm_thread.specs.Places.{row_alone, slot_in, queue_in, with_row, with_slot, with_queue_in};
-ghost use Rattle.mm_thread.specs.Places.{first_register, event_writes};
+ghost use Rattle.mm_thread.specs.SlotIndices.{row_alone, slot_in, queue_in, with_row, with_slot, with_queue_in};
+ghost use Rattle.mm_thread.specs.SlotIndices.{first_register, event_writes};
 
 use crate::build::index_of;
 use crate::carry_out::carry_out;
 use crate::group_output::GroupOutput;
 use crate::local_ops::Entered;
 use crate::row::ThreadRow;
-use crate::run_mask::{kept, noted, runners_of};
+use crate::run_mask::{keep_running, noted, runners_of};
 use crate::slot::{advance, deliver, issue, resume, set_register, sets, stand, take_event};
 use mm_isa::{EvtReg, How, Instr, Reg};
 use mm_model::{Event, Slot, SlotState, output_limit};
@@ -100,7 +100,7 @@ impl Tables {
     }
 
     /// The index of the slot of a number, if there is one.
-    pub(crate) fn place_of(&self, number: u64) -> Option<usize>
+    pub(crate) fn find_slot(&self, number: u64) -> Option<usize>
         ensures within { IfSome result (λ p. p < length self.now.rows) }
         ensures number { IfSome result (λ p. (slot_in self.now p).number ≡ number) }
         ensures missing { IfNone result (slot_at self.now number ≡ None) }
@@ -109,16 +109,16 @@ impl Tables {
         if number >= 64 {
             return None;
         }
-        let place = self.index[number as usize] as usize;
-        if place < count { Some(place) } else { None }
+        let slot_index = self.index[number as usize] as usize;
+        if slot_index < count { Some(slot_index) } else { None }
     }
 
-    /// The slot at `place`.
-    pub(crate) fn slot(&self, place: usize) -> &Slot
-        requires { place < length self.now.rows }
-        ensures { result.now ≡ slot_in self.now place }
+    /// The slot at `slot_index`.
+    pub(crate) fn slot(&self, slot_index: usize) -> &Slot
+        requires { slot_index < length self.now.rows }
+        ensures { result.now ≡ slot_in self.now slot_index }
     {
-        let row = &self.rows[place];
+        let row = &self.rows[slot_index];
         &row.slot
     }
 
@@ -129,12 +129,12 @@ impl Tables {
         self.runners
     }
 
-    /// The events that the slot at `place` has still to handle, oldest first.
-    pub(crate) fn queue(&self, place: usize) -> &[Event]
-        requires { place < length self.now.rows }
-        ensures { result.now ≡ queue_in self.now place }
+    /// The events that the slot at `slot_index` has still to handle, oldest first.
+    pub(crate) fn queue(&self, slot_index: usize) -> &[Event]
+        requires { slot_index < length self.now.rows }
+        ensures { result.now ≡ queue_in self.now slot_index }
     {
-        let row = &self.rows[place];
+        let row = &self.rows[slot_index];
         row.queue.events()
     }
 
@@ -156,12 +156,12 @@ impl Tables {
         self.outputs[group as usize].len() < output_limit(self.version)
     }
 
-    /// Whether a register of the slot at `place` waits for a load, in a split machine.
-    pub(crate) fn lacks(&self, place: usize, reg: Reg) -> bool
-        requires { place < length self.now.rows }
-        ensures { result ≡ (self.now.split && is_empty (slot_in self.now place) reg) }
+    /// Whether a register of the slot at `slot_index` waits for a load, in a split machine.
+    pub(crate) fn lacks(&self, slot_index: usize, reg: Reg) -> bool
+        requires { slot_index < length self.now.rows }
+        ensures { result ≡ (self.now.split && is_empty (slot_in self.now slot_index) reg) }
     {
-        self.split && self.slot(place).is_empty(reg.number())
+        self.split && self.slot(slot_index).is_empty(reg.number())
     }
 
     /// The version, which says how many bytes a group may put out.
@@ -179,141 +179,141 @@ impl Tables {
     }
 }
 
-// Changes to the slot at `place`.
+// Changes to the slot at `slot_index`.
 impl Tables {
     /// Counts a turn of the slot, and sets its state.
-    pub(crate) fn stand(&mut self, place: usize, state: SlotState)
-        requires place { place < length self.old.rows }
-        requires turns { (slot_in self.old place).turns < 2 ^ 62 }
-        ensures { self.new ≡ with_slot self.old place (stood (slot_in self.old place) state) }
+    pub(crate) fn stand(&mut self, slot_index: usize, state: SlotState)
+        requires slot_index { slot_index < length self.old.rows }
+        requires turns { (slot_in self.old slot_index).turns < 2 ^ 62 }
+        ensures { self.new ≡ with_slot self.old slot_index (stood (slot_in self.old slot_index) state) }
     {
-        let row = &mut self.rows[place];
+        let row = &mut self.rows[slot_index];
         let slot = &mut row.slot;
         stand(slot, state);
         self.runners = noted(self.runners, slot);
     }
 
     /// Lets the slot go on to its next instruction.
-    pub(crate) fn advance(&mut self, place: usize)
-        requires place { place < length self.old.rows }
-        requires runs { is_running (slot_in self.old place).state ≡ true }
-        requires turns { (slot_in self.old place).turns < 2 ^ 62 }
-        ensures { self.new ≡ with_slot self.old place
-            (slot_after (slot_in self.old place) (plain (slot_in self.old place))) }
+    pub(crate) fn advance(&mut self, slot_index: usize)
+        requires slot_index { slot_index < length self.old.rows }
+        requires runs { is_running (slot_in self.old slot_index).state ≡ true }
+        requires turns { (slot_in self.old slot_index).turns < 2 ^ 62 }
+        ensures { self.new ≡ with_slot self.old slot_index
+            (slot_after (slot_in self.old slot_index) (plain (slot_in self.old slot_index))) }
     {
-        let row = &mut self.rows[place];
+        let row = &mut self.rows[slot_index];
         let slot = &mut row.slot;
         advance(slot);
-        self.runners = kept(self.runners, slot);
+        self.runners = keep_running(self.runners, slot);
     }
 
     /// Writes a word to a register of the slot, and lets the slot go on.
-    pub(crate) fn sets(&mut self, place: usize, rd: Reg, word: Word)
-        requires place { place < length self.old.rows }
-        requires runs { is_running (slot_in self.old place).state ≡ true }
-        requires turns { (slot_in self.old place).turns < 2 ^ 62 }
-        ensures { self.new ≡ with_slot self.old place
-            (slot_after (slot_in self.old place)
-            (record (plain (slot_in self.old place)) { writes = (rd, word) ∷ [] })) }
+    pub(crate) fn sets(&mut self, slot_index: usize, rd: Reg, word: Word)
+        requires slot_index { slot_index < length self.old.rows }
+        requires runs { is_running (slot_in self.old slot_index).state ≡ true }
+        requires turns { (slot_in self.old slot_index).turns < 2 ^ 62 }
+        ensures { self.new ≡ with_slot self.old slot_index
+            (slot_after (slot_in self.old slot_index)
+            (record (plain (slot_in self.old slot_index)) { writes = (rd, word) ∷ [] })) }
     {
-        let row = &mut self.rows[place];
+        let row = &mut self.rows[slot_index];
         let slot = &mut row.slot;
         sets(slot, rd, word);
-        self.runners = kept(self.runners, slot);
+        self.runners = keep_running(self.runners, slot);
     }
 
     /// Issues a load of the slot: the word arrives in the register later. The slot goes on.
-    pub(crate) fn issue(&mut self, place: usize, rd: Reg, word: Word)
-        requires place { place < length self.old.rows }
-        requires runs { is_running (slot_in self.old place).state ≡ true }
-        requires turns { (slot_in self.old place).turns < 2 ^ 62 }
-        requires room { length (slot_in self.old place).pending < 16 }
-        ensures { self.new ≡ with_slot self.old place
-            (slot_after (slot_in self.old place)
-            (record (plain (slot_in self.old place))
+    pub(crate) fn issue(&mut self, slot_index: usize, rd: Reg, word: Word)
+        requires slot_index { slot_index < length self.old.rows }
+        requires runs { is_running (slot_in self.old slot_index).state ≡ true }
+        requires turns { (slot_in self.old slot_index).turns < 2 ^ 62 }
+        requires room { length (slot_in self.old slot_index).pending < 16 }
+        ensures { self.new ≡ with_slot self.old slot_index
+            (slot_after (slot_in self.old slot_index)
+            (record (plain (slot_in self.old slot_index))
             { writes = (rd, Int 0) ∷ []; issue = Some (record { reg = rd; word = word }) })) }
     {
-        let row = &mut self.rows[place];
+        let row = &mut self.rows[slot_index];
         let slot = &mut row.slot;
         issue(slot, rd, word);
-        self.runners = kept(self.runners, slot);
+        self.runners = keep_running(self.runners, slot);
     }
 
     /// Carries out an instruction of the slot that concerns it alone.
     #[inline(always)]
-    pub(crate) fn carry_out(&mut self, place: usize, instr: &Instr) -> Entered
-        requires place { place < length self.old.rows }
-        requires runs { is_running (slot_in self.old place).state ≡ true }
-        requires turns { (slot_in self.old place).turns < 2 ^ 62 }
+    pub(crate) fn carry_out(&mut self, slot_index: usize, instr: &Instr) -> Entered
+        requires slot_index { slot_index < length self.old.rows }
+        requires runs { is_running (slot_in self.old slot_index).state ≡ true }
+        requires turns { (slot_in self.old slot_index).turns < 2 ^ 62 }
         requires alone { is_alone instr.now ≡ true }
         ensures ends { (split : Bool)
-            → EndsAlone (effect split instr.now (slot_in self.old place) Fine) (slot_in self.old place)
-            (slot_in self.new place) result }
-        ensures others { self.new ≡ with_slot self.old place (slot_in self.new place) }
+            → EndsAlone (effect split instr.now (slot_in self.old slot_index) Fine) (slot_in self.old slot_index)
+            (slot_in self.new slot_index) result }
+        ensures others { self.new ≡ with_slot self.old slot_index (slot_in self.new slot_index) }
     {
-        let row = &mut self.rows[place];
+        let row = &mut self.rows[slot_index];
         let slot = &mut row.slot;
         let entered = carry_out(slot, instr);
-        self.runners = kept(self.runners, slot);
+        self.runners = keep_running(self.runners, slot);
         entered
     }
 
     /// Writes the words of an event to four registers of the slot, and lets the slot go on.
-    pub(crate) fn take_event(&mut self, place: usize, rd: EvtReg, event: &Event)
-        requires place { place < length self.old.rows }
-        requires runs { is_running (slot_in self.old place).state ≡ true }
-        requires turns { (slot_in self.old place).turns < 2 ^ 62 }
-        ensures { self.new ≡ with_slot self.old place
-            (slot_after (slot_in self.old place)
-            (record (plain (slot_in self.old place)) { writes = event_writes rd event.now })) }
+    pub(crate) fn take_event(&mut self, slot_index: usize, rd: EvtReg, event: &Event)
+        requires slot_index { slot_index < length self.old.rows }
+        requires runs { is_running (slot_in self.old slot_index).state ≡ true }
+        requires turns { (slot_in self.old slot_index).turns < 2 ^ 62 }
+        ensures { self.new ≡ with_slot self.old slot_index
+            (slot_after (slot_in self.old slot_index)
+            (record (plain (slot_in self.old slot_index)) { writes = event_writes rd event.now })) }
     {
-        let row = &mut self.rows[place];
+        let row = &mut self.rows[slot_index];
         let slot = &mut row.slot;
         take_event(slot, rd, event);
-        self.runners = kept(self.runners, slot);
+        self.runners = keep_running(self.runners, slot);
     }
 
     /// Delivers the slot's oldest pending load, and gives its register; `None` if no load is pending.
-    pub(crate) fn deliver(&mut self, place: usize) -> Option<u8>
-        requires place { place < length self.old.rows }
-        requires registers { AllByRecursion (λ (p : Pending). p.reg < 16) (slot_in self.old place).pending }
-        ensures slot { self.new ≡ with_slot self.old place (delivered (slot_in self.old place)) }
-        ensures register { result ≡ first_register (slot_in self.old place).pending }
+    pub(crate) fn deliver(&mut self, slot_index: usize) -> Option<u8>
+        requires slot_index { slot_index < length self.old.rows }
+        requires registers { AllByRecursion (λ (p : Pending). p.reg < 16) (slot_in self.old slot_index).pending }
+        ensures slot { self.new ≡ with_slot self.old slot_index (delivered (slot_in self.old slot_index)) }
+        ensures register { result ≡ first_register (slot_in self.old slot_index).pending }
     {
-        let row = &mut self.rows[place];
+        let row = &mut self.rows[slot_index];
         let slot = &mut row.slot;
         deliver(slot)
     }
 
     /// Changes the slot as its handler resumes it.
-    pub(crate) fn resume(&mut self, place: usize, how: How)
-        requires { place < length self.old.rows }
-        ensures { self.new ≡ with_slot self.old place (resumed_by how (slot_in self.old place)) }
+    pub(crate) fn resume(&mut self, slot_index: usize, how: How)
+        requires { slot_index < length self.old.rows }
+        ensures { self.new ≡ with_slot self.old slot_index (resumed_by how (slot_in self.old slot_index)) }
     {
-        let row = &mut self.rows[place];
+        let row = &mut self.rows[slot_index];
         let slot = &mut row.slot;
         resume(slot, how);
         self.runners = noted(self.runners, slot);
     }
 
     /// Marks that the slot's handler has read its event.
-    pub(crate) fn set_taken(&mut self, place: usize)
-        requires { place < length self.old.rows }
-        ensures { self.new ≡ with_slot self.old place (record (slot_in self.old place) { state = Taken }) }
+    pub(crate) fn set_taken(&mut self, slot_index: usize)
+        requires { slot_index < length self.old.rows }
+        ensures { self.new ≡ with_slot self.old slot_index (record (slot_in self.old slot_index) { state = Taken }) }
     {
-        let row = &mut self.rows[place];
+        let row = &mut self.rows[slot_index];
         let slot = &mut row.slot;
         slot.state = SlotState::Taken;
         self.runners = noted(self.runners, slot);
     }
 
     /// Writes a register of the slot, for its handler.
-    pub(crate) fn set_register(&mut self, place: usize, reg: Reg, word: Word)
-        requires { place < length self.old.rows }
-        ensures { self.new ≡ with_slot self.old place
-            (record (slot_in self.old place) { regs = slice_set (slot_in self.old place).regs reg word }) }
+    pub(crate) fn set_register(&mut self, slot_index: usize, reg: Reg, word: Word)
+        requires { slot_index < length self.old.rows }
+        ensures { self.new ≡ with_slot self.old slot_index
+            (record (slot_in self.old slot_index) { regs = slice_set (slot_in self.old slot_index).regs reg word }) }
     {
-        let row = &mut self.rows[place];
+        let row = &mut self.rows[slot_index];
         let slot = &mut row.slot;
         set_register(slot, reg, word);
     }
@@ -321,23 +321,23 @@ impl Tables {
 
 // Changes to queues and outputs.
 impl Tables {
-    /// Appends an event to the queue at `place`.
-    pub(crate) fn push_event(&mut self, place: usize, event: Event)
-        requires place { place < length self.old.rows }
-        requires room { length (queue_in self.old place) < 64 }
-        ensures { self.new ≡ with_queue_in self.old place (queue_in self.old place ++ event ∷ []) }
+    /// Appends an event to the queue at `slot_index`.
+    pub(crate) fn push_event(&mut self, slot_index: usize, event: Event)
+        requires slot_index { slot_index < length self.old.rows }
+        requires room { length (queue_in self.old slot_index) < 64 }
+        ensures { self.new ≡ with_queue_in self.old slot_index (queue_in self.old slot_index ++ event ∷ []) }
     {
-        let row = &mut self.rows[place];
+        let row = &mut self.rows[slot_index];
         row.queue.push(event);
     }
 
-    /// Removes the oldest event from the queue at `place`.
-    pub(crate) fn remove_event(&mut self, place: usize)
-        requires place { place < length self.old.rows }
-        requires some { 0 < length (queue_in self.old place) }
-        ensures { self.new ≡ with_queue_in self.old place (drop 1 (queue_in self.old place)) }
+    /// Removes the oldest event from the queue at `slot_index`.
+    pub(crate) fn remove_event(&mut self, slot_index: usize)
+        requires slot_index { slot_index < length self.old.rows }
+        requires some { 0 < length (queue_in self.old slot_index) }
+        ensures { self.new ≡ with_queue_in self.old slot_index (drop 1 (queue_in self.old slot_index)) }
     {
-        let row = &mut self.rows[place];
+        let row = &mut self.rows[slot_index];
         row.queue.remove_first();
     }
 
@@ -352,13 +352,13 @@ impl Tables {
         output.push(byte);
     }
 
-    /// Replaces the slot at `place` by one of the same number, without events.
-    pub(crate) fn set_row(&mut self, place: usize, slot: &Slot)
-        requires place { place < length self.old.rows }
-        requires number { slot.now.number ≡ (slot_in self.old place).number }
-        ensures { self.new ≡ with_row self.old place (row_alone slot.now) }
+    /// Replaces the slot at `slot_index` by one of the same number, without events.
+    pub(crate) fn set_row(&mut self, slot_index: usize, slot: &Slot)
+        requires slot_index { slot_index < length self.old.rows }
+        requires number { slot.now.number ≡ (slot_in self.old slot_index).number }
+        ensures { self.new ≡ with_row self.old slot_index (row_alone slot.now) }
     {
-        let row = &mut self.rows[place];
+        let row = &mut self.rows[slot_index];
         row.slot = slot.copy();
         row.queue.clear();
         self.runners = noted(self.runners, &row.slot);

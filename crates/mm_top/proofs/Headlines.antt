@@ -18,7 +18,7 @@ use Rattle.mm_load.specs.declared.status.Status.{Status}
 use Rattle.mm_load.specs.declared.status.Status.TheVariants.{Done}
 use Rattle.mm_load.specs.Files.{FilesAccepted}
 use Rattle.mm_load.specs.Kinds.{Value, an_image}
-use Rattle.mm_cli.specs.Table.{Row, Asks, files_of}
+use Rattle.mm_cli.specs.Table.{Row, Matches, files_of}
 use Rattle.mm_log.proofs.Logs.{logs_replay}
 use Rattle.mm_top.specs.Commands.{run, trace, log}
 use Rattle.mm_top.specs.Answers.{Answers, Call, RowComesTo, write}
@@ -80,28 +80,28 @@ module _ (tells : List Use → Option Counts) (held : List ℕ → Option (List 
 -- 2. The headline, from the answer.
 
 -- the text that is written is what the row of the words comes to
-written : {c : Call} {words : List (List ℕ)} {status : Status} → Answers c words status → status ≡ Done → (row : Row) → Asks words row
+written : {c : Call} {words : List (List ℕ)} {status : Status} → Answers c words status → status ≡ Done → (row : Row) → Matches words row
     → (text : List ℕ) × RowComesTo c.tells c.files.held c.input.left row (write text) × (c.out.taken ≡ append_known c.out.taken_before text)
 written {c = c} {words = words} answers same row asks =
     let (text, comes, took) = done answers same in
     (text, subst (λ (r : Row). RowComesTo c.tells c.files.held c.input.left r (write text)) (one_row words comes.row row comes.asks asks) comes.gives, took)
 
 pub run_headline : {c : Call} {words : List (List ℕ)} {status : Status} → Answers c words status → status ≡ Done → (image : List ℕ) (cycles : ℕ) (schedule : Option (List ℕ))
-    → Asks words (run image cycles schedule)
+    → Matches words (run image cycles schedule)
     → (text : List ℕ) × RunIsProved run no_turns c.tells c.files.held image cycles schedule text × (c.out.taken ≡ append_known c.out.taken_before text)
 run_headline {c = c} answers same image cycles schedule asks =
     let (text, gives, took) = written answers same (run image cycles schedule) asks in
     (text, run_proved c.tells c.files.held c.input.left image cycles schedule text gives, took)
 
 pub trace_headline : {c : Call} {words : List (List ℕ)} {status : Status} → Answers c words status → status ≡ Done → (image : List ℕ) (cycles : ℕ) (schedule : Option (List ℕ))
-    → Asks words (trace image cycles schedule)
+    → Matches words (trace image cycles schedule)
     → (text : List ℕ) × RunIsProved trace trace_of c.tells c.files.held image cycles schedule text × (c.out.taken ≡ append_known c.out.taken_before text)
 trace_headline {c = c} answers same image cycles schedule asks =
     let (text, gives, took) = written answers same (trace image cycles schedule) asks in
     (text, trace_proved c.tells c.files.held c.input.left image cycles schedule text gives, took)
 
 pub log_headline : {c : Call} {words : List (List ℕ)} {status : Status} → Answers c words status → status ≡ Done → (image : List ℕ)
-    (cycles : ℕ) (schedule : Option (List ℕ)) → Asks words (log image cycles schedule)
+    (cycles : ℕ) (schedule : Option (List ℕ)) → Matches words (log image cycles schedule)
     → (text : List ℕ) × LogIsProved c.tells c.files.held image cycles schedule text × (c.out.taken ≡ append_known c.out.taken_before text)
 log_headline {c = c} answers same image cycles schedule asks =
     let (text, gives, took) = written answers same (log image cycles schedule) asks in

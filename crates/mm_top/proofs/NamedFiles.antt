@@ -3,29 +3,29 @@ use Rattle.std.proofs.Common.{◌≡◌, ℕ, List, [], ◌∷◌, map, Option, 
 use Rattle.std.specs.declared.alloc.Global.{Global}
 use Rattle.mm_cli.specs.declared.table.Kind.{Kind}
 use Rattle.mm_cli.specs.declared.table.Kind.TheVariants.{Schedule as schedule_file}
-use Rattle.mm_cli.specs.Words.{file_word, files_in, perhaps, texts}
-use Rattle.mm_load.specs.declared.status.Stop.{Stop}
+use Rattle.mm_cli.specs.Words.{file_word, files_in, optional, texts}
+use Rattle.mm_load.specs.declared.status.CommandError.{CommandError}
 use Rattle.mm_load.specs.Kinds.{Value}
 use Rattle.mm_load.specs.Files.{Reading, FilesRead, files_named}
 use Rattle.mm_load.proofs.Several.{files_in_words}
 
 -- one file
-pub named : {T : Type 0} {r : Reading} {before : List Value} {kind : Kind} {values : T → List Value} {result : Result T Stop}
+pub named : {T : Type 0} {r : Reading} {before : List Value} {kind : Kind} {values : T → List Value} {result : Result T CommandError}
     {name other : List ℕ} → name ≡ other → FilesRead r before ((name, kind) ∷ []) values result
     → FilesRead r before ((other, kind) ∷ []) values result
 named {r = r} {before = before} {kind = kind} {values = values} {result = result} same read =
     subst (λ (n : List ℕ). FilesRead r before ((n, kind) ∷ []) values result) same read
 
 -- a schedule, or none
-pub schedule_named : {T : Type 0} {r : Reading} {before : List Value} {values : T → List Value} {result : Result T Stop}
+pub schedule_named : {T : Type 0} {r : Reading} {before : List Value} {values : T → List Value} {result : Result T CommandError}
     {name other : Option (List ℕ)} → name ≡ other
-    → FilesRead r before (files_in (perhaps (file_word schedule_file) name)) values result
-    → FilesRead r before (files_in (perhaps (file_word schedule_file) other)) values result
+    → FilesRead r before (files_in (optional (file_word schedule_file) name)) values result
+    → FilesRead r before (files_in (optional (file_word schedule_file) other)) values result
 schedule_named {r = r} {before = before} {values = values} {result = result} same read =
-    subst (λ (n : Option (List ℕ)). FilesRead r before (files_in (perhaps (file_word schedule_file) n)) values result) same read
+    subst (λ (n : Option (List ℕ)). FilesRead r before (files_in (optional (file_word schedule_file) n)) values result) same read
 
 -- several files of one kind
-pub several_named : {T : Type 0} {r : Reading} {before : List Value} {values : T → List Value} {result : Result T Stop}
+pub several_named : {T : Type 0} {r : Reading} {before : List Value} {values : T → List Value} {result : Result T CommandError}
     (kind : Kind) {names others : List (String Global)} → names ≡ others
     → FilesRead r before (files_named kind names) values result
     → FilesRead r before (files_in (map (file_word kind) (texts others))) values result

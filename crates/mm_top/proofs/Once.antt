@@ -13,8 +13,8 @@ use Rattle.mm_load.specs.declared.status.Refusal.{Refusal}
 use Rattle.mm_load.specs.declared.status.Refusal.TheVariants as refusal
 use Rattle.mm_load.specs.declared.status.Status.{Status}
 use Rattle.mm_load.specs.declared.status.Status.TheVariants.{Done, NoMemory}
-use Rattle.mm_load.specs.declared.status.Stop.{Stop}
-use Rattle.mm_load.specs.declared.status.Stop.TheVariants as stop
+use Rattle.mm_load.specs.declared.status.CommandError.{CommandError}
+use Rattle.mm_load.specs.declared.status.CommandError.TheVariants as stop
 use Rattle.mm_top.specs.Groups.{GroupsRefused}
 use Rattle.mm_net.specs.declared.link.Link.{Link}
 use Rattle.mm_load.specs.Kinds.{Value, an_image, a_list, an_object, a_links, an_events}
@@ -183,7 +183,7 @@ unrefused c words nothing r (inr (others, also, declines)) =
     inputs_values c.files.held c.input.left (files_of nothing.row) (input_of nothing.row) others nothing.values nothing.told also nothing.accepted in
     nothing.unrefused r (subst (λ (vs : List Value). Declines nothing.row vs r) same declines)
 
-fine : (c : Call) (words : List (List ℕ)) (nothing : NothingFails c words) (result : Result (Unit {0}) Stop) → RowEnds c nothing.row result
+fine : (c : Call) (words : List (List ℕ)) (nothing : NothingFails c words) (result : Result (Unit {0}) CommandError) → RowEnds c nothing.row result
     → (status_of result ≡ Done) ⊎ (status_of result ≡ NoMemory)
 fine c words nothing (Ok done) ends = inl refl
 fine c words nothing (Err stop.NoMemory) ends = inr refl
@@ -200,7 +200,7 @@ complete {c = c} {words = words} answers nothing = elim answers.cases [
       subst P (sym says.answers) (fine c words nothing says.result (subst (λ (x : Row). RowEnds c x says.result) same says.ends))
 ]
 
-answered : (c : Call) (row : Row) (r : Refusal) → ToldToRefuse c.files.held c.input.left row r → (result : Result (Unit {0}) Stop) → RowEnds c row result
+answered : (c : Call) (row : Row) (r : Refusal) → ToldToRefuse c.files.held c.input.left row r → (result : Result (Unit {0}) CommandError) → RowEnds c row result
     → RefusedUnless r (status_of result)
 answered c row r why (Ok done) ends = absurd (refused_once c.tells c.files.held c.input.left row r ends.0 why ends.1)
 answered c row r why (Err (stop.Refused q)) ends = told_to_one c.tells c.files.held c.input.left row r q why ends.0

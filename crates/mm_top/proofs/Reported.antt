@@ -19,8 +19,8 @@ use Rattle.mm_sched.specs.Orders.{items_of}
 use Rattle.mm_debug.specs.Session as session
 use Rattle.mm_save.specs.Recorder.{bare, recorded}
 use Rattle.mm_load.specs.declared.status.Refusal.{Refusal}
-use Rattle.mm_load.specs.declared.status.Stop.{Stop}
-use Rattle.mm_load.specs.declared.status.Stop.TheVariants as stop
+use Rattle.mm_load.specs.declared.status.CommandError.{CommandError}
+use Rattle.mm_load.specs.declared.status.CommandError.TheVariants as stop
 use Rattle.mm_load.specs.Kinds.{values_of}
 use Rattle.mm_top.specs.Orders.{AreIssued}
 use Rattle.mm_top.specs.Commands.{replies_to}
@@ -65,7 +65,7 @@ issued_for o i {cycles = cycles} same =
     subst (λ (n : ℕ). AreIssued i n (values_of o) (items_of o (start i) cycles)) same (issued o i cycles)
 
 -- a text of one kind is one of another
-pub ends_as : (out : Writing) (IsText Other : List ℕ → Type 0) (result : Result (Unit {0}) Stop)
+pub ends_as : (out : Writing) (IsText Other : List ℕ → Type 0) (result : Result (Unit {0}) CommandError)
     → ((text : List ℕ) → IsText text → Other text) → EndsWith out IsText result → EndsWith out Other result
 ends_as out IsText Other (Ok done) becomes (text, is, took) = (text, becomes text is, took)
 ends_as out IsText Other (Err (stop.Refused r)) becomes ends = ends
@@ -75,20 +75,20 @@ ends_as out IsText Other (Err stop.NoMemory) becomes ends = ends
 
 module _ {S : Type 0} {taken : S → Option (List ℕ)} {faults : S → ℕ} {old new : S} (Refuses : Refusal → Type 0) (Fails : Type 0) (IsText : List ℕ → Type 0) (text : List ℕ) (is : IsText text) where
   -- a command that writes a text ends so
-  pub ends_written : (wrote : Result (Unit {0}) WriteFault) (result : Result (Unit {0}) Stop) → result ≡ end_of wrote → Writes taken faults old new text wrote
+  pub ends_written : (wrote : Result (Unit {0}) WriteFault) (result : Result (Unit {0}) CommandError) → result ≡ end_of wrote → Writes taken faults old new text wrote
       → Ends (writing taken faults old new) Refuses Fails IsText result
   ends_written (Ok done) result same wrote =
-      let P : Result (Unit {0}) Stop → Type 0 = λ x. Ends (writing taken faults old new) Refuses Fails IsText x in
+      let P : Result (Unit {0}) CommandError → Type 0 = λ x. Ends (writing taken faults old new) Refuses Fails IsText x in
       subst P (sym same) (text, is, wrote.whole)
   ends_written (Err e) result same wrote =
-      let P : Result (Unit {0}) Stop → Type 0 = λ x. Ends (writing taken faults old new) Refuses Fails IsText x in
+      let P : Result (Unit {0}) CommandError → Type 0 = λ x. Ends (writing taken faults old new) Refuses Fails IsText x in
       subst P (sym same) (text, is, wrote.part, wrote.failed)
 
 -- and so does one that stops since the sink failed
 pub ends_cut : {S T E : Type 0} {taken : S → Option (List ℕ)} {faults : S → ℕ} {old new : S} {e : E} (Refuses : Refusal → Type 0) (Fails : Type 0) (IsText : List ℕ → Type 0) (text : List ℕ)
-    (result : Result (Unit {0}) Stop) → IsText text → Writes {T = T} {E = E} taken faults old new text (Err e) → IsErrAnd result (λ s. s ≡ stop.WriteFault)
+    (result : Result (Unit {0}) CommandError) → IsText text → Writes {T = T} {E = E} taken faults old new text (Err e) → IsErrAnd result (λ s. s ≡ stop.WriteFault)
     → Ends (writing taken faults old new) Refuses Fails IsText result
 ends_cut Refuses Fails IsText text (Ok t) is wrote fails = absurd fails
 ends_cut {taken = taken} {faults = faults} {old = old} {new = new} Refuses Fails IsText text (Err s) is wrote fails =
-    let P : Stop → Type 0 = λ x. Ends (writing taken faults old new) Refuses Fails IsText (Err x) in
+    let P : CommandError → Type 0 = λ x. Ends (writing taken faults old new) Refuses Fails IsText (Err x) in
     subst P (sym fails) (text, is, wrote.part, wrote.failed)

@@ -4,19 +4,19 @@ use Rattle.std.specs.Result.{IsErrAnd}
 use Rattle.mm_word.specs.Adding.{adds_none}
 use Rattle.mm_io.specs.Files.{PieceRead}
 use Rattle.mm_load.specs.declared.status.Refusal.{Refusal}
-use Rattle.mm_load.specs.declared.status.Stop.{Stop}
-use Rattle.mm_load.specs.declared.status.Stop.TheVariants as stop
+use Rattle.mm_load.specs.declared.status.CommandError.{CommandError}
+use Rattle.mm_load.specs.declared.status.CommandError.TheVariants as stop
 use Rattle.mm_cli.specs.declared.table.Kind.{Kind}
 use Rattle.mm_load.specs.Kinds.{Value}
 use Rattle.mm_load.specs.Files.{Reading, reading, FilesAccepted, FilesRefused, FilesFailed, FilesRead, AsksFiles, ReadsWhole, Stops}
 use Rattle.mm_load.proofs.Reading.{stops_first, asks_of_all}
-use Rattle.mm_cli.specs.Words.{files_in, groups_word, perhaps}
+use Rattle.mm_cli.specs.Words.{files_in, groups_word, optional}
 use Rattle.mm_cli.specs.Table.{Row, files_of}
 use Rattle.mm_top.specs.Commands.{Declines}
 use Rattle.mm_top.specs.Answers.{CommandEnds, Ends, EndsWith, Writing}
 
 -- the reading of its files stops
-stopped : (files : Reading) (out : Writing) (Text : Row → List Value → List ℕ → Type 0) (row : Row) (s : Stop)
+stopped : (files : Reading) (out : Writing) (Text : Row → List Value → List ℕ → Type 0) (row : Row) (s : CommandError)
     → Stops (FilesRefused files.held [] (files_of row)) (FilesFailed files [] (files_of row)) s
     → AsksFiles files [] (files_of row) → out.taken ≡ out.taken_before → CommandEnds files out Text row (Err s)
 stopped files out Text row (stop.Refused r) says asked same = record { ends = (inl says, same); asked = asked; whole = tt }
@@ -26,11 +26,11 @@ stopped files out Text row stop.NoMemory says asked same = record { ends = same;
 
 -- the reading of all of some files stops if that of the first of them does
 pub reading_stops : {T U : Type 0} {files : Reading} {before : List Value} {xs all : List (List ℕ × Kind)}
-    {values : T → List Value} {others : U → List Value} {s : Stop} (ys : List (List ℕ × Kind)) (result : Result U Stop)
+    {values : T → List Value} {others : U → List Value} {s : CommandError} (ys : List (List ℕ × Kind)) (result : Result U CommandError)
     → FilesRead files before xs values (Err s) → all ≡ xs ++ ys → IsErrAnd result (λ e. e ≡ s) → FilesRead files before all others result
 reading_stops ys (Ok u) read first is = absurd is
 reading_stops {files = files} {before = before} {xs = xs} {all = all} {s = s} ys (Err e) read first is =
-    let P : Stop → Type 0 = λ x. Stops (FilesRefused files.held before all) (FilesFailed files before all) x in
+    let P : CommandError → Type 0 = λ x. Stops (FilesRefused files.held before all) (FilesFailed files before all) x in
     let Q : List (List ℕ × Kind) → Type 0 = λ fs. Stops (FilesRefused files.held before fs) (FilesFailed files before fs) s in
     let R : List (List ℕ × Kind) → Type 0 = λ fs. AsksFiles files before fs in
     record {
@@ -54,8 +54,8 @@ reading_ends {files = files} {before = before} {xs = xs} {values = values} {t = 
     }
 
 pub row_stops : {T : Type 0} {files : Reading} {out : Writing} {Text : Row → List Value → List ℕ → Type 0} {row : Row}
-    {xs : List (List ℕ × Kind)} {values : T → List Value} {s : Stop} (ys : List (List ℕ × Kind))
-    (result : Result (Unit {0}) Stop)
+    {xs : List (List ℕ × Kind)} {values : T → List Value} {s : CommandError} (ys : List (List ℕ × Kind))
+    (result : Result (Unit {0}) CommandError)
     → FilesRead files [] xs values (Err s) → files_of row ≡ xs ++ ys → out.taken ≡ out.taken_before → IsErrAnd result (λ e. e ≡ s) → CommandEnds files out Text row result
 row_stops ys (Ok t) read first same is = absurd is
 row_stops {files = files} {out = out} {Text = Text} {row = row} ys (Err e) read first same is =
@@ -64,7 +64,7 @@ row_stops {files = files} {out = out} {Text = Text} {row = row} ys (Err e) read 
 
 -- they are read, and the command ends with their values
 ends_read : (files : Reading) (out : Writing) (Text : Row → List Value → List ℕ → Type 0) (row : Row)
-    (values : List Value) (Refuses : Refusal → Type 0) (IsText : List ℕ → Type 0) (result : Result (Unit {0}) Stop)
+    (values : List Value) (Refuses : Refusal → Type 0) (IsText : List ℕ → Type 0) (result : Result (Unit {0}) CommandError)
     → FilesAccepted files.held [] (files_of row) values → AsksFiles files [] (files_of row) → ReadsWhole files (files_of row) → Ends out Refuses ⊥ IsText result
     → ((r : Refusal) → Refuses r → Declines row values r) → ((text : List ℕ) → IsText text → Text row values text) → CommandEnds files out Text row result
 ends_read files out Text row values Refuses IsText (Ok done) accepted asked whole (text, is, took) refuses writes =
@@ -79,7 +79,7 @@ ends_read files out Text row values Refuses IsText (Err stop.NoMemory) accepted 
 pub row_ends : {T : Type 0} {files : Reading} {out : Writing} {Text : Row → List Value → List ℕ → Type 0} {row : Row}
     {xs : List (List ℕ × Kind)} {values : T → List Value} {t : T} (Refuses : Refusal → Type 0)
     (IsText : List ℕ → Type 0)
-    {result : Result (Unit {0}) Stop} → FilesRead files [] xs values (Ok t) → files_of row ≡ xs → Ends out Refuses ⊥ IsText result
+    {result : Result (Unit {0}) CommandError} → FilesRead files [] xs values (Ok t) → files_of row ≡ xs → Ends out Refuses ⊥ IsText result
     → ((r : Refusal) → Refuses r → Declines row (values t) r) → ((text : List ℕ) → IsText text → Text row (values t) text) → CommandEnds files out Text row result
 row_ends {files = files} {out = out} {Text = Text} {row = row} {values = values} {t = t} Refuses IsText {result = result} read all ends refuses writes =
     let P : List (List ℕ × Kind) → Type 0 = λ fs. FilesAccepted files.held [] fs (values t) in
@@ -89,7 +89,7 @@ row_ends {files = files} {out = out} {Text = Text} {row = row} {values = values}
 
 -- a row that reads nothing
 pub row_alone : {F : Type 0} (held : F → List ℕ → Option (List ℕ)) (faults : F → List ℕ → ℕ) (asked : F → List PieceRead → Type 0) (files : F) {out : Writing}
-    (Text : Row → List Value → List ℕ → Type 0) (row : Row) (IsText : List ℕ → Type 0) {result : Result (Unit {0}) Stop} → files_of row ≡ [] → EndsWith out IsText result
+    (Text : Row → List Value → List ℕ → Type 0) (row : Row) (IsText : List ℕ → Type 0) {result : Result (Unit {0}) CommandError} → files_of row ≡ [] → EndsWith out IsText result
     → ((text : List ℕ) → IsText text → Text row [] text) → CommandEnds (reading held faults asked files files) out Text row result
 row_alone held faults asked files {out = out} Text row IsText {result = result} none ends writes =
     let r = reading held faults asked files files in
@@ -100,6 +100,6 @@ row_alone held faults asked files {out = out} Text row IsText {result = result} 
     ends (λ r no. absurd no) writes
 
 -- groups name no file
-pub groups_files : (groups : Option (List ℕ)) → files_in (perhaps groups_word groups) ≡ []
+pub groups_files : (groups : Option (List ℕ)) → files_in (optional groups_word groups) ≡ []
 groups_files None = refl
 groups_files (Some groups) = refl

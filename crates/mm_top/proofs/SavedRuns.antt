@@ -13,9 +13,9 @@ use Rattle.mm_model.specs.Run.{after, run, uses, next_running, first_running, th
 use Rattle.mm_model.specs.Report.{report}
 use Rattle.mm_model.specs.Spelling.{IsImage}
 use Rattle.mm_model.specs.Fits.{IsSlot}
-use Rattle.mm_machine.specs.Kept.{Kept}
+use Rattle.mm_machine.specs.Validity.{IsValid}
 use Rattle.mm_machine.specs.Snapshot.{Parts, restored}
-use Rattle.mm_machine.proofs.Keeping.{kept_start, kept_after}
+use Rattle.mm_machine.proofs.Keeping.{valid_start, valid_after}
 use Rattle.mm_machine.proofs.Returning.{put_back}
 use Rattle.mm_checkpoint.specs.{Checkpoints.{Saved, saved_of}, Format.Saves}
 use Rattle.mm_checkpoint.specs.States.{saved_form}
@@ -63,12 +63,12 @@ numbered : (rows : List ThreadRow) → AllByRecursion IsSlot (map (λ (row : Thr
 numbered [] h = tt
 numbered (row ∷ rows) h = (h.0.number, numbered rows h.1)
 
-pub last_small : (s : State) (last : Option ℕ) (count : ℕ) → Kept s → IsSmall last → IsSmall (last_item last (robin_from s last count))
+pub last_small : (s : State) (last : Option ℕ) (count : ℕ) → IsValid s → IsSmall last → IsSmall (last_item last (robin_from s last count))
 unfolding robin_from
 last_small s last zero kept small = small
 last_small s last (suc count) kept small =
     by (next_running s.core.rows last) (next_small s.core.rows last (numbered s.core.rows kept.state.core.slots))
-    (λ n few. last_small (after s n) (Some n) count (kept_after s n kept) few)
+    (λ n few. last_small (after s n) (Some n) count (valid_after s n kept) few)
   where
     by : (o : Option ℕ) → IsSmall o → ((n : ℕ) → n < 64 → IsSmall (last_item (Some n) (robin_from (after s n) (Some n) count)))
         → IsSmall (last_item last (then_issued o (λ n. robin_from (after s n) (Some n) count)))
@@ -132,7 +132,7 @@ issued_few i a (a_list list ∷ []) items is = subst (λ (xs : List ℕ). length
 issued_few i a lists items is = absurd (assumption is)
 
 issued_small : (i : Image) (a : ℕ) (lists : List Value) (items : List ℕ) → IsImage i → AreIssued i a lists items → IsSmall (last_issued lists items)
-issued_small i a [] items image is = subst (λ (xs : List ℕ). IsSmall (last_item None xs)) (sym is) (last_small (start i) None a (kept_start i image) tt)
+issued_small i a [] items image is = subst (λ (xs : List ℕ). IsSmall (last_item None xs)) (sym is) (last_small (start i) None a (valid_start i image) tt)
 issued_small i a (list ∷ lists) items image is = tt
 
 -- a checkpoint that bytes are read as is the one that they are

@@ -8,10 +8,10 @@ use Rattle.mm_io.proofs.Known.{writes_none}
 use Rattle.mm_load.specs.declared.status.Refusal.{Refusal}
 use Rattle.mm_load.specs.declared.status.Status.{Status}
 use Rattle.mm_load.specs.declared.status.Status.TheVariants.{Done, Usage, Refused, ReadFault, WriteFault, NoMemory}
-use Rattle.mm_load.specs.declared.status.Stop.{Stop}
-use Rattle.mm_load.specs.declared.status.Stop.TheVariants as stop
+use Rattle.mm_load.specs.declared.status.CommandError.{CommandError}
+use Rattle.mm_load.specs.declared.status.CommandError.TheVariants as stop
 use Rattle.mm_load.specs.Files.{AsksFiles, ReadsWhole}
-use Rattle.mm_cli.specs.Table.{Row, Asks, InNoRow, files_of}
+use Rattle.mm_cli.specs.Table.{Row, Matches, InNoRow, files_of}
 use Rattle.mm_load.specs.Lines.{line_of}
 use Rattle.mm_top.specs.Answers.{Answers, Call, ComesTo, ReadFailed, RowEnds, TookLine, refuse, write, status_of}
 use Rattle.mm_cli.proofs.Rows.{one_row}
@@ -19,19 +19,19 @@ use Rattle.mm_cli.proofs.Rows.{one_row}
 -- 1. A status other than that of usage, and the end of the command that it comes from.
 
 -- the command that the words ask for ended so
-pub record EndsSo (c : Call) (words : List (List ℕ)) (result : Result (Unit {0}) Stop) : Type 0 where
+pub record EndsSo (c : Call) (words : List (List ℕ)) (result : Result (Unit {0}) CommandError) : Type 0 where
   pub row : Row
-  pub asks : Asks words row
+  pub asks : Matches words row
   pub ends : RowEnds c row result
 
-result_at : Status → Result (Unit {0}) Stop
+result_at : Status → Result (Unit {0}) CommandError
 result_at (Refused r) = Err (stop.Refused r)
 result_at ReadFault = Err stop.ReadFault
 result_at WriteFault = Err stop.WriteFault
 result_at NoMemory = Err stop.NoMemory
 result_at _ = Ok tt
 
-at_status : (result : Result (Unit {0}) Stop) → result_at (status_of result) ≡ result
+at_status : (result : Result (Unit {0}) CommandError) → result_at (status_of result) ≡ result
 unfolding result_at
 at_status (Ok done) = refl
 at_status (Err (stop.Refused r)) = refl
@@ -39,22 +39,22 @@ at_status (Err stop.ReadFault) = refl
 at_status (Err stop.WriteFault) = refl
 at_status (Err stop.NoMemory) = refl
 
-result_of : (result other : Result (Unit {0}) Stop) → status_of result ≡ status_of other → result ≡ other
+result_of : (result other : Result (Unit {0}) CommandError) → status_of result ≡ status_of other → result ≡ other
 result_of result other same = sym (at_status result) ∙ ap result_at same ∙ at_status other
 
-pub not_usage : (result : Result (Unit {0}) Stop) → status_of result ≡ Usage → ⊥
+pub not_usage : (result : Result (Unit {0}) CommandError) → status_of result ≡ Usage → ⊥
 not_usage (Ok done) same = cc
 not_usage (Err (stop.Refused r)) same = cc
 not_usage (Err stop.ReadFault) same = cc
 not_usage (Err stop.WriteFault) same = cc
 not_usage (Err stop.NoMemory) same = cc
 
-ended : {c : Call} {words : List (List ℕ)} {status : Status} → Answers c words status → (result : Result (Unit {0}) Stop) → status ≡ status_of result → EndsSo c words result
+ended : {c : Call} {words : List (List ℕ)} {status : Status} → Answers c words status → (result : Result (Unit {0}) CommandError) → status ≡ status_of result → EndsSo c words result
 ended {c = c} answers result same = elim answers.cases [
   | inl none ↦ absurd (not_usage result (sym same ∙ none.1))
   | inr says ↦
       let one : says.result ≡ result = result_of says.result result (sym says.answers ∙ same) in
-      record { row = says.row; asks = says.asks; ends = subst (λ (x : Result (Unit {0}) Stop). RowEnds c says.row x) one says.ends }
+      record { row = says.row; asks = says.asks; ends = subst (λ (x : Result (Unit {0}) CommandError). RowEnds c says.row x) one says.ends }
 ]
 
 -- 2. The clauses.
@@ -75,19 +75,19 @@ read_fault answers same = let e = ended answers (Err stop.ReadFault) same in (e.
 pub write_fault : {c : Call} {words : List (List ℕ)} {status : Status} → Answers c words status → status ≡ WriteFault → Rose c.out.before c.out.now
 write_fault answers same = let e = ended answers (Err stop.WriteFault) same in e.ends.3
 
-pub asks : {c : Call} {words : List (List ℕ)} {status : Status} → Answers c words status → (row : Row) → Asks words row → AsksFiles c.files [] (files_of row)
+pub asks : {c : Call} {words : List (List ℕ)} {status : Status} → Answers c words status → (row : Row) → Matches words row → AsksFiles c.files [] (files_of row)
 asks {c = c} {words = words} answers row in_row = elim answers.cases [
   | inl none ↦ absurd (none.0 row in_row)
   | inr says ↦ subst (λ (x : Row). AsksFiles c.files [] (files_of x)) (one_row words says.row row says.asks in_row) says.asked
 ]
 
-pub whole : {c : Call} {words : List (List ℕ)} {status : Status} → Answers c words status → status ≡ Done → (row : Row) → Asks words row → ReadsWhole c.files (files_of row)
+pub whole : {c : Call} {words : List (List ℕ)} {status : Status} → Answers c words status → status ≡ Done → (row : Row) → Matches words row → ReadsWhole c.files (files_of row)
 whole {c = c} {words = words} answers same row in_row = elim answers.cases [
   | inl none ↦ absurd (none.0 row in_row)
   | inr says ↦
       let ok : says.result ≡ Ok tt = result_of says.result (Ok tt) (sym says.answers ∙ same) in
       subst (λ (x : Row). ReadsWhole c.files (files_of x)) (one_row words says.row row says.asks in_row)
-      (subst (λ (x : Result (Unit {0}) Stop). OnOk x (ReadsWhole c.files (files_of says.row))) ok says.whole)
+      (subst (λ (x : Result (Unit {0}) CommandError). OnOk x (ReadsWhole c.files (files_of says.row))) ok says.whole)
 ]
 
 pub done : {c : Call} {words : List (List ℕ)} {status : Status} → Answers c words status → status ≡ Done

@@ -8,25 +8,25 @@ use Rattle.mm_model.specs.Uses.{Use}
 use Rattle.mm_load.specs.declared.status.Refusal.{Refusal}
 use Rattle.mm_load.specs.declared.status.Status.{Status}
 use Rattle.mm_load.specs.declared.status.Status.TheVariants.{Done, Usage, Refused, ReadFault, WriteFault, NoMemory}
-use Rattle.mm_load.specs.declared.status.Stop.{Stop}
-use Rattle.mm_load.specs.declared.status.Stop.TheVariants as stop
+use Rattle.mm_load.specs.declared.status.CommandError.{CommandError}
+use Rattle.mm_load.specs.declared.status.CommandError.TheVariants as stop
 use Rattle.mm_load.specs.Kinds.{Value}
 use Rattle.mm_load.specs.Files.{Reading, Drawing, FilesAccepted, FilesRefused, FilesFailed, AsksFiles, InputsAccepted}
 use Rattle.mm_load.specs.Files.{InputsRefused, InputsFailed, InputsTold, ReadsWhole, ToldInputsRefused}
-use Rattle.mm_cli.specs.Table.{Row, files_of, input_of, Asks, InNoRow}
+use Rattle.mm_cli.specs.Table.{Row, files_of, input_of, Matches, InNoRow}
 use Rattle.mm_top.specs.Commands.{Declines, Yields}
 
 -- 1. What words come to.
 
 -- What a row comes to once its inputs are read: a refusal, or a text that is to be written.
-pub data Outcome : Type 0 where
-  refuse : Refusal → Outcome
-  write : List ℕ → Outcome
+pub data Answer : Type 0 where
+  refuse : Refusal → Answer
+  write : List ℕ → Answer
 
 -- what a row comes to, given what the memory tells of uses and, if that is known, what the files hold and standard
 -- input has left
 abbrev pub RowComesTo : (List Use → Option Counts) → (List ℕ → Option (List ℕ)) → (left : Option (List ℕ)) → Row
-    → Outcome → Type 0
+    → Answer → Type 0
 RowComesTo tells held left row (refuse r) =
     InputsRefused held left (files_of row) (input_of row) r
     ⊎ ((values : List Value) × InputsAccepted held left (files_of row) (input_of row) values × Declines row values r)
@@ -35,10 +35,10 @@ RowComesTo tells held left row (write text) = (values : List Value)
 
 -- What words come to: they are in a row that has this outcome.
 pub record ComesTo (tells : List Use → Option Counts) (held : List ℕ → Option (List ℕ)) (left : Option (List ℕ))
-    (words : List (List ℕ)) (outcome : Outcome) : Type 0 where
+    (words : List (List ℕ)) (answer : Answer) : Type 0 where
   pub row : Row
-  pub asks : Asks words row
-  pub gives : RowComesTo tells held left row outcome
+  pub asks : Matches words row
+  pub gives : RowComesTo tells held left row answer
 
 -- 2. What a call starts and ends with.
 
@@ -68,7 +68,7 @@ call tells files input out = record { tells = tells; files = files; input = inpu
 
 -- the fault count of one of the row's inputs rose or is at its last value, and each input before it was accepted
 abbrev pub ReadFailed : Reading → Drawing → List (List ℕ) → Type 0
-ReadFailed files input words = (row : Row) × Asks words row × InputsFailed files input (files_of row) (input_of row)
+ReadFailed files input words = (row : Row) × Matches words row × InputsFailed files input (files_of row) (input_of row)
 
 -- a call with this answer writes nothing
 abbrev pub WritesNothing : Status → Type 0
@@ -85,7 +85,7 @@ pub record TookLine (old new : Option (List ℕ)) (before now : ℕ) (line : Lis
 -- no refusal, and no fault count that the row depends on rose or is at its last value.
 pub record NothingFails (c : Call) (words : List (List ℕ)) : Type 0 where
   pub row : Row
-  pub asks : Asks words row
+  pub asks : Matches words row
   pub told : InputsTold c.files.held c.input.left (files_of row) (input_of row)
   pub values : List Value
   pub accepted : InputsAccepted c.files.held c.input.left (files_of row) (input_of row) values
@@ -105,7 +105,7 @@ ToldToRefuse held left row r =
 pub record HasToRefuse (held : List ℕ → Option (List ℕ)) (left : Option (List ℕ)) (words : List (List ℕ)) (r : Refusal)
     : Type 0 where
   pub row : Row
-  pub asks : Asks words row
+  pub asks : Matches words row
   pub why : ToldToRefuse held left row r
 
 -- the answer is this refusal, unless a read failed or memory ran out
@@ -120,7 +120,7 @@ RefusedUnless r _ = ⊥
 -- How a command ends: with the whole text that it is to write, or because it is refused, reading or writing fails, or
 -- memory runs out.
 abbrev pub Ends : Writing → (Refuses : Refusal → Type 0) → (Fails : Type 0) → (IsText : List ℕ → Type 0)
-    → Result (Unit {0}) Stop → Type 0
+    → Result (Unit {0}) CommandError → Type 0
 Ends out Refuses Fails IsText (Ok done) = (text : List ℕ) × IsText text
     × (out.taken ≡ append_known out.taken_before text)
 Ends out Refuses Fails IsText (Err (stop.Refused r)) = Refuses r × (out.taken ≡ out.taken_before)
@@ -130,13 +130,13 @@ Ends out Refuses Fails IsText (Err stop.WriteFault) =
 Ends out Refuses Fails IsText (Err stop.NoMemory) = out.taken ≡ out.taken_before
 
 -- how a command ends after its inputs are read, if it refuses nothing
-abbrev pub EndsWith : Writing → (IsText : List ℕ → Type 0) → Result (Unit {0}) Stop → Type 0
+abbrev pub EndsWith : Writing → (IsText : List ℕ → Type 0) → Result (Unit {0}) CommandError → Type 0
 EndsWith out IsText result = Ends out (λ r. ⊥) ⊥ IsText result
 
 -- how the command of a row ends if it reads files alone; `Text` says what the command writes, given the values of the
 -- files
 abbrev pub FilesEnd : (files : Reading) (out : Writing) (Text : Row → List Value → List ℕ → Type 0) → Row
-    → Result (Unit {0}) Stop → Type 0
+    → Result (Unit {0}) CommandError → Type 0
 FilesEnd files out Text row result =
     Ends out (λ r. FilesRefused files.held [] (files_of row) r
     ⊎ ((values : List Value) × FilesAccepted files.held [] (files_of row) values × Declines row values r))
@@ -146,20 +146,20 @@ FilesEnd files out Text row result =
 
 -- What the command of a row answers if it reads files alone.
 pub record CommandEnds (files : Reading) (out : Writing) (Text : Row → List Value → List ℕ → Type 0) (row : Row)
-    (result : Result (Unit {0}) Stop) : Type 0 where
+    (result : Result (Unit {0}) CommandError) : Type 0 where
   pub ends : FilesEnd files out Text row result
   pub asked : AsksFiles files [] (files_of row)
   pub whole : OnOk result (ReadsWhole files (files_of row))
 
 -- how the command of a row ends
-abbrev pub RowEnds : Call → Row → Result (Unit {0}) Stop → Type 0
+abbrev pub RowEnds : Call → Row → Result (Unit {0}) CommandError → Type 0
 RowEnds c row result =
     Ends c.out (λ r. RowComesTo c.tells c.files.held c.input.left row (refuse r))
     (InputsFailed c.files c.input (files_of row) (input_of row))
     (λ text. RowComesTo c.tells c.files.held c.input.left row (write text)) result
 
 -- the status at the end of a command
-abbrev pub status_of : Result (Unit {0}) Stop → Status
+abbrev pub status_of : Result (Unit {0}) CommandError → Status
 status_of (Ok done) = Done
 status_of (Err (stop.Refused r)) = Refused r
 status_of (Err stop.ReadFault) = ReadFault
@@ -169,8 +169,8 @@ status_of (Err stop.NoMemory) = NoMemory
 -- What the answer to a row says.
 pub record RowAnswers (c : Call) (words : List (List ℕ)) (status : Status) : Type 0 where
   pub row : Row
-  pub result : Result (Unit {0}) Stop
-  pub asks : Asks words row
+  pub result : Result (Unit {0}) CommandError
+  pub asks : Matches words row
   pub ends : RowEnds c row result
   pub asked : AsksFiles c.files [] (files_of row)
   pub whole : OnOk result (ReadsWhole c.files (files_of row))

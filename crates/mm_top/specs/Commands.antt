@@ -37,7 +37,7 @@ use Rattle.mm_cli.specs.declared.table.Kind.TheVariants.{Image as image_file, Sc
 use Rattle.mm_cli.specs.declared.table.Kind.TheVariants.{Source as source_file, Object as object_file}
 use Rattle.mm_cli.specs.declared.table.Kind.TheVariants.{Checkpoint as checkpoint_file}
 use Rattle.mm_cli.specs.Words.{Word, file_word, number_word, groups_word, mode_word, range_word, use_word}
-use Rattle.mm_cli.specs.Words.{perhaps}
+use Rattle.mm_cli.specs.Words.{optional}
 use Rattle.mm_cli.specs.Table.{Row}
 use Rattle.mm_load.specs.declared.status.Refusal.{Refusal}
 use Rattle.mm_load.specs.declared.status.Refusal.TheVariants as refusal
@@ -157,7 +157,7 @@ Yields tells row values text = YieldsAt tells row.command row.words values text
 -- the words of a run: an image, a count of cycles and, perhaps, a schedule
 abbrev pub run_words : (image : List ℕ) (cycles : ℕ) (schedule : Option (List ℕ)) → List Word
 run_words image cycles schedule =
-    file_word image_file image ∷ number_word cycles ∷ perhaps (file_word schedule_file) schedule
+    file_word image_file image ∷ number_word cycles ∷ optional (file_word schedule_file) schedule
 
 abbrev pub run : (image : List ℕ) (cycles : ℕ) (schedule : Option (List ℕ)) → Row
 run image cycles schedule = record { command = Run; words = run_words image cycles schedule }
@@ -175,7 +175,7 @@ abbrev pub continue : (image checkpoint : List ℕ) (cycles : ℕ) (schedule : O
 continue image checkpoint cycles schedule = record {
   command = Continue;
   words = file_word image_file image ∷ file_word checkpoint_file checkpoint ∷ number_word cycles
-      ∷ perhaps (file_word schedule_file) schedule;
+      ∷ optional (file_word schedule_file) schedule;
 }
 
 abbrev pub asm : (source : List ℕ) → Row

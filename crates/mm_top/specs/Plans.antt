@@ -6,14 +6,14 @@ use Rattle.mm_model.specs.Trace.{trace}
 use Rattle.mm_log.specs.Log.{log_text}
 use Rattle.mm_sched.specs.Orders.{items_of}
 use Rattle.mm_top.specs.declared.plan.Plan.{Plan}
-use Rattle.mm_top.specs.declared.told.Told.{Told}
-use Rattle.mm_top.specs.declared.told.Told.TheVariants.{Turn, Changes}
+use Rattle.mm_top.specs.declared.detail.TraceDetail.{TraceDetail}
+use Rattle.mm_top.specs.declared.detail.TraceDetail.TheVariants.{Turn, Changes}
 
 -- the items that a plan issues
 abbrev pub items_planned : Plan → List ℕ
 items_planned p = items_of p.order (start p.image) p.cycles
 
 -- what is told of the cycles of these items
-abbrev pub told_of : Told → State → (items : List ℕ) → List ℕ
-told_of Turn s items = trace s items
-told_of Changes s items = log_text s items
+abbrev pub detail_text : TraceDetail → State → (items : List ℕ) → List ℕ
+detail_text Turn s items = trace s items
+detail_text Changes s items = log_text s items

@@ -4,16 +4,16 @@ ghost use Rattle.std.specs.Prelude.{◌≡◌, [], OnOk};
 ghost use Rattle.std.specs.Io.KnownBytes.{IsAtEnd};
 ghost use Rattle.mm_load.specs.Files.{AsksFiles, DrawnBehind, ReadsWhole, reading, drawing};
 ghost use Rattle.mm_cli.specs.Table.{files_of};
-ghost use Rattle.mm_cli.specs.Said.{row};
+ghost use Rattle.mm_cli.specs.Arguments.{row};
 ghost use Rattle.mm_top.specs.Commands.{replies_to};
 ghost use Rattle.mm_top.specs.Answers.{RowEnds, EndsWith, call, writing};
 
 use crate::boot::boot;
-use mm_cli::{Command, Word, name_at, name_perhaps_at};
+use mm_cli::{Command, Word, name_at, optional_name_at};
 use mm_debug::Session;
 use mm_image::Image;
 use mm_io::{Files, Sink, Source};
-use mm_load::{Stop, ended, load_file, load_input, load_order};
+use mm_load::{CommandError, ended, load_file, load_input, load_order};
 use mm_machine::Machine;
 use mm_mem::{Boot, Reset};
 use mm_save::Recorder;
@@ -27,7 +27,7 @@ pub fn debug<M: Boot + Reset, F: Files, I: Source, O: Sink>(
     files: &mut F,
     input: &mut I,
     out: &mut O,
-) -> Result<(), Stop>
+) -> Result<(), CommandError>
     ensures ends { RowEnds
         (call M.tells (reading F.held F.faults F.asked files.old files.new)
         (drawing I.left I.faults input.old input.new) (writing O.taken O.faults out.old out.new))
@@ -40,7 +40,7 @@ pub fn debug<M: Boot + Reset, F: Files, I: Source, O: Sink>(
     ensures read { OnOk result (IsAtEnd (I.left input.new)) }
 {
     let image = load_file::<Image, F>(alloc, files, name_at(words, 0), 1)?;
-    let order = load_order(alloc, files, name_perhaps_at(words, 1), 2)?;
+    let order = load_order(alloc, files, optional_name_at(words, 1), 2)?;
     let lines = load_input(alloc, input)?;
     write_replies::<M, O>(alloc, &image, order, &lines, out)
 }
@@ -52,7 +52,7 @@ fn write_replies<M: Boot + Reset, O: Sink>(
     order: Order,
     lines: &[u8],
     out: &mut O,
-) -> Result<(), Stop>
+) -> Result<(), CommandError>
     ensures { EndsWith (writing O.taken O.faults out.old out.new) (λ text. text ≡ replies_to image.now order lines.now)
         result }
 {

@@ -1,14 +1,14 @@
 //! `dis`: the text of an object.
 
 ghost use Rattle.mm_load.specs.Files.{reading};
-ghost use Rattle.mm_cli.specs.Said.{row};
+ghost use Rattle.mm_cli.specs.Arguments.{row};
 ghost use Rattle.mm_top.specs.Commands.{YieldsAlone};
 ghost use Rattle.mm_top.specs.Answers.{CommandEnds, writing};
 
 use mm_cli::{Command, Word, name_at};
 use mm_disasm::disassemble;
 use mm_io::{Files, Sink};
-use mm_load::{Stop, ended, load_file};
+use mm_load::{CommandError, ended, load_file};
 use mm_object::Object;
 use std::alloc::Global;
 
@@ -18,7 +18,7 @@ pub fn dis<F: Files, O: Sink>(
     words: &[Word<'_>],
     files: &mut F,
     out: &mut O,
-) -> Result<(), Stop>
+) -> Result<(), CommandError>
     ensures { CommandEnds (reading F.held F.faults F.asked files.old files.new)
         (writing O.taken O.faults out.old out.new) YieldsAlone (row Command.Dis words.now) result }
 {

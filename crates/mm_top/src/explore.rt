@@ -4,7 +4,7 @@ ghost use Rattle.std.specs.Prelude.{◌≤◌};
 ghost use Rattle.mm_model.specs.Limits.{state_limit};
 ghost use Rattle.mm_explore.specs.Texts.{Explores};
 ghost use Rattle.mm_load.specs.Files.{reading};
-ghost use Rattle.mm_cli.specs.Said.{AreOf, row};
+ghost use Rattle.mm_cli.specs.Arguments.{HasArguments, row};
 ghost use Rattle.mm_top.specs.Commands.{YieldsAlone};
 ghost use Rattle.mm_top.specs.Answers.{CommandEnds, EndsWith, writing};
 
@@ -12,7 +12,7 @@ use mm_cli::{Command, Word, name_at, number_at};
 use mm_explore::write_explored;
 use mm_image::Image;
 use mm_io::{Files, Sink};
-use mm_load::{Stop, ended, load_file};
+use mm_load::{CommandError, ended, load_file};
 use std::alloc::Global;
 
 /// `explore IMAGE STATES`
@@ -21,8 +21,8 @@ pub fn explore<F: Files, O: Sink>(
     words: &[Word<'_>],
     files: &mut F,
     out: &mut O,
-) -> Result<(), Stop>
-    requires { AreOf Command.Explore words.now }
+) -> Result<(), CommandError>
+    requires { HasArguments Command.Explore words.now }
     ensures { CommandEnds (reading F.held F.faults F.asked files.old files.new)
         (writing O.taken O.faults out.old out.new) YieldsAlone (row Command.Explore words.now) result }
 {
@@ -36,7 +36,7 @@ fn write_exploration<O: Sink>(
     image: &Image,
     states: u32,
     out: &mut O,
-) -> Result<(), Stop>
+) -> Result<(), CommandError>
     requires some { 1 ≤ states }
     requires few { states ≤ state_limit }
     ensures { EndsWith (writing O.taken O.faults out.old out.new) (Explores image.now states) result }

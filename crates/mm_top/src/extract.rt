@@ -4,7 +4,7 @@ ghost use Rattle.mm_model.specs.Groups.{among};
 ghost use Rattle.mm_audit.specs.Refusals.{StandAlone};
 ghost use Rattle.mm_load.specs.Files.{reading};
 ghost use Rattle.mm_top.specs.Groups.{GroupsRefused};
-ghost use Rattle.mm_cli.specs.Said.{row};
+ghost use Rattle.mm_cli.specs.Arguments.{row};
 ghost use Rattle.mm_top.specs.Commands.{IsExtract, YieldsAlone};
 ghost use Rattle.mm_top.specs.Answers.{CommandEnds, Ends, writing};
 
@@ -13,7 +13,7 @@ use crate::stops::stop_of_extract;
 use mm_cli::{Command, Word, groups_at, name_at};
 use mm_image::Image;
 use mm_io::{Files, Sink};
-use mm_load::{Stop, load_file};
+use mm_load::{CommandError, load_file};
 use std::alloc::Global;
 
 /// `extract IMAGE GROUPS`
@@ -22,7 +22,7 @@ pub fn extract<F: Files, O: Sink>(
     words: &[Word<'_>],
     files: &mut F,
     out: &mut O,
-) -> Result<(), Stop>
+) -> Result<(), CommandError>
     ensures { CommandEnds (reading F.held F.faults F.asked files.old files.new)
         (writing O.taken O.faults out.old out.new) YieldsAlone (row Command.Extract words.now) result }
 {
@@ -36,7 +36,7 @@ fn write_extract<O: Sink>(
     image: &Image,
     groups: &[u8],
     out: &mut O,
-) -> Result<(), Stop>
+) -> Result<(), CommandError>
     ensures { Ends (writing O.taken O.faults out.old out.new) (GroupsRefused image.now (among groups.now)) ⊥
         (λ text. StandAlone image.now (among groups.now) × IsExtract image.now (among groups.now) text) result }
 {

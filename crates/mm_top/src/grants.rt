@@ -7,16 +7,16 @@ ghost use Rattle.mm_model.specs.Audit.{IsAudit};
 ghost use Rattle.mm_model.specs.Reach.Entries.{All};
 ghost use Rattle.mm_audit.specs.Surveys.{Surveys};
 ghost use Rattle.mm_load.specs.Files.{reading};
-ghost use Rattle.mm_cli.specs.Said.{row};
+ghost use Rattle.mm_cli.specs.Arguments.{row};
 ghost use Rattle.mm_top.specs.Commands.{YieldsAlone};
 ghost use Rattle.mm_top.specs.Answers.{CommandEnds, EndsWith, writing};
 
 use mm_audit::{Entries, Survey, survey};
 use mm_audit_text::{write_audit, write_audit_of};
-use mm_cli::{Command, Word, groups_perhaps_at, name_at};
+use mm_cli::{Command, Word, optional_groups_at, name_at};
 use mm_image::Image;
 use mm_io::{Files, Sink, WriteFault};
-use mm_load::{Stop, load_file};
+use mm_load::{CommandError, load_file};
 use std::alloc::Global;
 
 /// `grants IMAGE [GROUPS]`
@@ -25,12 +25,12 @@ pub fn grants<F: Files, O: Sink>(
     words: &[Word<'_>],
     files: &mut F,
     out: &mut O,
-) -> Result<(), Stop>
+) -> Result<(), CommandError>
     ensures { CommandEnds (reading F.held F.faults F.asked files.old files.new)
         (writing O.taken O.faults out.old out.new) YieldsAlone (row Command.Grants words.now) result }
 {
     let image = load_file::<Image, F>(alloc, files, name_at(words, 0), 1)?;
-    write_grants(alloc, &image, groups_perhaps_at(words, 1), out)
+    write_grants(alloc, &image, optional_groups_at(words, 1), out)
 }
 
 /// Writes the audit of an image, with the answer for the groups if groups are given.
@@ -39,7 +39,7 @@ fn write_grants<O: Sink>(
     image: &Image,
     groups: Option<&[u8]>,
     out: &mut O,
-) -> Result<(), Stop>
+) -> Result<(), CommandError>
     ensures { EndsWith (writing O.taken O.faults out.old out.new)
         (IsAudit image.now (option_map (λ list. list.now) groups.entry)) result }
 {

@@ -11,7 +11,7 @@
 //! | commands that look at an image | `grants`, `why`, `holders`, `explore` |
 //! | commands that make an image of an image | `extract`, `sweep`, `migrate` |
 //! | commands that make an image, an object or a text | `generate` (`gen`), `asm`, `link`, `dis` |
-//! | what runs share: the machine, the plan, the cycles, a text of each | `boot`, `plan`, `cycles`, `told` |
+//! | what runs share: the machine, the plan, the cycles, a text of each | `boot`, `plan`, `cycles`, `detail` |
 //! | what else commands share: images that are written, why a command stops | `images`, `stops` |
 //! | the items that name an image's slots and their ports | `members` |
 //! | what the program's memory adds to a report | `memories` |
@@ -44,7 +44,7 @@ mod soak;
 mod solo;
 mod stops;
 mod sweep;
-mod told;
+mod detail;
 mod top;
 mod trace;
 mod why;

@@ -4,7 +4,7 @@ ghost use Rattle.std.specs.Prelude.{◌≡◌, IfOk};
 ghost use Rattle.mm_format.specs.Images.{Spells};
 ghost use Rattle.mm_model.specs.Worlds.{migrated};
 ghost use Rattle.mm_load.specs.Files.{reading};
-ghost use Rattle.mm_cli.specs.Said.{row};
+ghost use Rattle.mm_cli.specs.Arguments.{row};
 ghost use Rattle.mm_top.specs.Commands.{YieldsAlone};
 ghost use Rattle.mm_top.specs.Answers.{CommandEnds, EndsWith, writing};
 
@@ -12,7 +12,7 @@ use crate::images::write_image;
 use mm_cli::{Command, Word, mode_at, name_at};
 use mm_image::Image;
 use mm_io::{Files, Sink};
-use mm_load::{Stop, load_file};
+use mm_load::{CommandError, load_file};
 use mm_model::{Page, Slot};
 use mm_word::NoMemory;
 use std::alloc::Global;
@@ -23,7 +23,7 @@ pub fn migrate<F: Files, O: Sink>(
     words: &[Word<'_>],
     files: &mut F,
     out: &mut O,
-) -> Result<(), Stop>
+) -> Result<(), CommandError>
     ensures { CommandEnds (reading F.held F.faults F.asked files.old files.new)
         (writing O.taken O.faults out.old out.new) YieldsAlone (row Command.Migrate words.now) result }
 {
@@ -37,7 +37,7 @@ fn write_migrated<O: Sink>(
     image: &Image,
     split: bool,
     out: &mut O,
-) -> Result<(), Stop>
+) -> Result<(), CommandError>
     ensures { EndsWith (writing O.taken O.faults out.old out.new) (λ text. Spells text (migrated image.now split))
         result }
 {

@@ -8,7 +8,7 @@ ghost use Rattle.mm_net.specs.declared.item.NetItem.{NetItem as Item};
 ghost use Rattle.mm_net.specs.Net.{net_of, links_of, room_of, steps_of, sent_count, AllStart, IsUnused, StandsFor};
 ghost use Rattle.mm_net.specs.Texts.{net_text};
 ghost use Rattle.mm_load.specs.Files.{reading};
-ghost use Rattle.mm_cli.specs.Said.{AreOf, row};
+ghost use Rattle.mm_cli.specs.Arguments.{HasArguments, row};
 ghost use Rattle.mm_top.specs.Nodes.{FirstLacking, NoneLacking, JoinRefused, is_send};
 ghost use Rattle.mm_top.specs.Commands.{Yields};
 ghost use Rattle.mm_top.specs.Answers.{CommandEnds, Ends, writing};
@@ -17,7 +17,7 @@ use crate::boot::boot;
 use mm_cli::{Command, Word, name_at, names_at, number_at};
 use mm_image::Image;
 use mm_io::{Files, Sink};
-use mm_load::{Refusal, Stop, ended, load_file, load_images};
+use mm_load::{Refusal, CommandError, ended, load_file, load_images};
 use mm_machine::Machine;
 use mm_mem::{Boot, Memory};
 use mm_net::{Events, Link, Links, Net, NetItem, report};
@@ -30,8 +30,8 @@ pub fn run_net<M: Boot, F: Files, O: Sink>(
     words: &[Word<'_>],
     files: &mut F,
     out: &mut O,
-) -> Result<(), Stop>
-    requires { AreOf Command.Net words.now }
+) -> Result<(), CommandError>
+    requires { HasArguments Command.Net words.now }
     ensures { CommandEnds (reading F.held F.faults F.asked files.old files.new)
         (writing O.taken O.faults out.old out.new) (Yields M.tells) (row Command.Net words.now) result }
 {
@@ -50,7 +50,7 @@ fn write_net<M: Boot, O: Sink>(
     images: &[Image],
     cycles: u64,
     out: &mut O,
-) -> Result<(), Stop>
+) -> Result<(), CommandError>
     requires some { 1 ≤ length images.now }
     requires few { length images.now ≤ 8 }
     ensures { Ends (writing O.taken O.faults out.old out.new) (JoinRefused links (length images.now)) ⊥
@@ -58,7 +58,7 @@ fn write_net<M: Boot, O: Sink>(
         × (text ≡ net_text M.tells links images.now (take cycles events.now))) result }
 {
     if let Some(link) = lacking_link(links.items(), images.len()) {
-        return Err(Stop::Refused(Refusal::NoNode { link }));
+        return Err(CommandError::Refused(Refusal::NoNode { link }));
     }
     let items = events.items();
     let first = &items[..cycles.min(items.len() as u64) as usize];

@@ -2,17 +2,17 @@
 
 ghost use Rattle.std.specs.Prelude.{◌≤◌, ◌∷◌, [], IfOk, slice_get};
 ghost use Rattle.mm_model.specs.Limits.{cycle_limit};
-ghost use Rattle.mm_cli.specs.Said.{AreOf, number_of, row};
+ghost use Rattle.mm_cli.specs.Arguments.{HasArguments, number_of, row};
 ghost use Rattle.mm_cli.specs.Table.{files_of};
 ghost use Rattle.mm_load.specs.Files.{FilesRead, reading};
 ghost use Rattle.mm_load.specs.Kinds.{an_image, values_of};
 ghost use Rattle.mm_top.specs.Orders.{AreIssued};
 ghost use Rattle.mm_top.specs.Plans.{items_planned};
 
-use mm_cli::{Command, Word, name_at, name_perhaps_at, number_at};
+use mm_cli::{Command, Word, name_at, optional_name_at, number_at};
 use mm_image::Image;
 use mm_io::Files;
-use mm_load::{Stop, load_file, load_order};
+use mm_load::{CommandError, load_file, load_order};
 use mm_sched::Order;
 use std::alloc::Global;
 
@@ -25,8 +25,8 @@ pub struct Plan {
 }
 
 /// Reads what the words `IMAGE CYCLES [SCHEDULE]` name, as those of `run` do.
-pub fn load_plan<F: Files>(alloc: Global, words: &[Word<'_>], files: &mut F) -> Result<Plan, Stop>
-    requires { AreOf Command.Run words.now }
+pub fn load_plan<F: Files>(alloc: Global, words: &[Word<'_>], files: &mut F) -> Result<Plan, CommandError>
+    requires { HasArguments Command.Run words.now }
     ensures read { FilesRead (reading F.held F.faults F.asked files.old files.new) []
         (files_of (row Command.Run words.now)) (λ p. an_image p.image ∷ values_of p.order) result }
     ensures few { IfOk result (λ p. p.cycles ≤ cycle_limit) }
@@ -34,7 +34,7 @@ pub fn load_plan<F: Files>(alloc: Global, words: &[Word<'_>], files: &mut F) -> 
         (items_planned p)) }
 {
     let image = load_file::<Image, F>(alloc, files, name_at(words, 0), 1)?;
-    let order = load_order(alloc, files, name_perhaps_at(words, 2), 2)?;
+    let order = load_order(alloc, files, optional_name_at(words, 2), 2)?;
     let cycles = number_at(words, 1);
     Ok(Plan {
         image,

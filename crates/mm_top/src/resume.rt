@@ -4,7 +4,7 @@ ghost use Rattle.std.specs.Prelude.{◌≤◌};
 ghost use Rattle.mm_model.specs.Limits.{cycle_limit};
 ghost use Rattle.mm_checkpoint.specs.Checkpoints.{IsCheckpoint, saved_of};
 ghost use Rattle.mm_load.specs.Files.{reading};
-ghost use Rattle.mm_cli.specs.Said.{AreOf, row};
+ghost use Rattle.mm_cli.specs.Arguments.{HasArguments, row};
 ghost use Rattle.mm_load.specs.Kinds.{values_of};
 ghost use Rattle.mm_top.specs.Saving.{Continues};
 ghost use Rattle.mm_top.specs.Commands.{Yields};
@@ -12,10 +12,10 @@ ghost use Rattle.mm_top.specs.Answers.{CommandEnds, EndsWith, writing};
 
 use crate::boot::boot;
 use crate::cycles::issue;
-use mm_cli::{Command, Word, name_at, name_perhaps_at, number_at};
+use mm_cli::{Command, Word, name_at, optional_name_at, number_at};
 use mm_image::Image;
 use mm_io::{Files, Sink};
-use mm_load::{Checkpoint, Stop, ended, load_checkpoint, load_file, load_order};
+use mm_load::{Checkpoint, CommandError, ended, load_checkpoint, load_file, load_order};
 use mm_machine::Machine;
 use mm_mem::{Boot, Reset};
 use mm_report::report;
@@ -28,14 +28,14 @@ pub fn resume<M: Boot + Reset, F: Files, O: Sink>(
     words: &[Word<'_>],
     files: &mut F,
     out: &mut O,
-) -> Result<(), Stop>
-    requires { AreOf Command.Continue words.now }
+) -> Result<(), CommandError>
+    requires { HasArguments Command.Continue words.now }
     ensures { CommandEnds (reading F.held F.faults F.asked files.old files.new)
         (writing O.taken O.faults out.old out.new) (Yields M.tells) (row Command.Continue words.now) result }
 {
     let image = load_file::<Image, F>(alloc, files, name_at(words, 0), 1)?;
     let checkpoint = load_checkpoint(alloc, files, name_at(words, 1), &image)?;
-    let order = load_order(alloc, files, name_perhaps_at(words, 3), 3)?;
+    let order = load_order(alloc, files, optional_name_at(words, 3), 3)?;
     write_resumed::<M, O>(alloc, &image, &checkpoint, &order, number_at(words, 2), out)
 }
 
@@ -47,7 +47,7 @@ fn write_resumed<M: Boot + Reset, O: Sink>(
     order: &Order,
     cycles: u64,
     out: &mut O,
-) -> Result<(), Stop>
+) -> Result<(), CommandError>
     requires checkpoint { IsCheckpoint image.now checkpoint.now.snapshot checkpoint.now.last }
     requires few { cycles ≤ cycle_limit }
     ensures { EndsWith (writing O.taken O.faults out.old out.new)

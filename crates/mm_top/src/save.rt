@@ -3,7 +3,7 @@
 ghost use Rattle.std.specs.Prelude.{◌≡◌, ◌≤◌};
 ghost use Rattle.mm_model.specs.Limits.{cycle_limit};
 ghost use Rattle.mm_load.specs.Files.{reading};
-ghost use Rattle.mm_cli.specs.Said.{AreOf, row};
+ghost use Rattle.mm_cli.specs.Arguments.{HasArguments, row};
 ghost use Rattle.mm_load.specs.Kinds.{values_of};
 ghost use Rattle.mm_top.specs.Saving.{last_issued, saved_after};
 ghost use Rattle.mm_top.specs.Plans.{items_planned};
@@ -15,7 +15,7 @@ use crate::cycles::issue;
 use crate::plan::{Plan, load_plan};
 use mm_cli::{Command, Word};
 use mm_io::{Files, Sink, write_all};
-use mm_load::Stop;
+use mm_load::CommandError;
 use mm_machine::Machine;
 use mm_mem::Boot;
 use std::alloc::Global;
@@ -26,8 +26,8 @@ pub fn save<M: Boot, F: Files, O: Sink>(
     words: &[Word<'_>],
     files: &mut F,
     out: &mut O,
-) -> Result<(), Stop>
-    requires { AreOf Command.Save words.now }
+) -> Result<(), CommandError>
+    requires { HasArguments Command.Save words.now }
     ensures { CommandEnds (reading F.held F.faults F.asked files.old files.new)
         (writing O.taken O.faults out.old out.new) (Yields M.tells) (row Command.Save words.now) result }
 {
@@ -36,7 +36,7 @@ pub fn save<M: Boot, F: Files, O: Sink>(
 }
 
 /// Writes the checkpoint of a plan's run.
-fn write_saved<M: Boot, O: Sink>(alloc: Global, plan: &Plan, out: &mut O) -> Result<(), Stop>
+fn write_saved<M: Boot, O: Sink>(alloc: Global, plan: &Plan, out: &mut O) -> Result<(), CommandError>
     requires { plan.now.cycles ≤ cycle_limit }
     ensures { let items = items_planned plan.now in
         EndsWith (writing O.taken O.faults out.old out.new)

@@ -2,7 +2,7 @@
 
 ghost use Rattle.std.specs.Prelude.{◌≡◌, ◌≤◌, []};
 ghost use Rattle.mm_model.specs.Limits.{cycle_limit};
-ghost use Rattle.mm_cli.specs.Said.{AreOf, row};
+ghost use Rattle.mm_cli.specs.Arguments.{HasArguments, row};
 ghost use Rattle.mm_top.specs.Commands.{soaked, Yields};
 ghost use Rattle.mm_top.specs.Answers.{EndsWith, writing};
 
@@ -10,14 +10,14 @@ use crate::boot::boot;
 use mm_cli::{Command, Word, number_at};
 use mm_gen::{image, summary};
 use mm_io::Sink;
-use mm_load::{Stop, ended};
+use mm_load::{CommandError, ended};
 use mm_machine::Machine;
 use mm_mem::Boot;
 use std::alloc::Global;
 
 /// `soak NUMBER SIZE CYCLES`
-pub fn soak<M: Boot, O: Sink>(alloc: Global, words: &[Word<'_>], out: &mut O) -> Result<(), Stop>
-    requires { AreOf Command.Soak words.now }
+pub fn soak<M: Boot, O: Sink>(alloc: Global, words: &[Word<'_>], out: &mut O) -> Result<(), CommandError>
+    requires { HasArguments Command.Soak words.now }
     ensures { EndsWith (writing O.taken O.faults out.old out.new) (Yields M.tells (row Command.Soak words.now) [])
         result }
 {
@@ -37,7 +37,7 @@ fn write_soaked<M: Boot, O: Sink>(
     size: u8,
     cycles: u64,
     out: &mut O,
-) -> Result<(), Stop>
+) -> Result<(), CommandError>
     requires some { 1 ≤ size }
     requires few { size ≤ 16 }
     requires most { cycles ≤ cycle_limit }

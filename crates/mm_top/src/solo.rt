@@ -5,7 +5,7 @@ ghost use Rattle.mm_model.specs.Groups.{among};
 ghost use Rattle.mm_audit.specs.Refusals.{StandAlone};
 ghost use Rattle.mm_load.specs.Files.{reading};
 ghost use Rattle.mm_top.specs.Groups.{GroupsRefused};
-ghost use Rattle.mm_cli.specs.Said.{row};
+ghost use Rattle.mm_cli.specs.Arguments.{row};
 ghost use Rattle.mm_top.specs.Commands.{own_report, Yields};
 ghost use Rattle.mm_top.specs.Answers.{CommandEnds, Ends, writing};
 
@@ -16,7 +16,7 @@ use mm_audit::alone;
 use mm_cli::{Command, Word, groups_at, name_at, number_at};
 use mm_image::Image;
 use mm_io::{Files, Sink};
-use mm_load::{Stop, ended, load_file};
+use mm_load::{CommandError, ended, load_file};
 use mm_machine::Machine;
 use mm_mem::Boot;
 use mm_report::report;
@@ -29,7 +29,7 @@ pub fn solo<M: Boot, F: Files, O: Sink>(
     words: &[Word<'_>],
     files: &mut F,
     out: &mut O,
-) -> Result<(), Stop>
+) -> Result<(), CommandError>
     ensures { CommandEnds (reading F.held F.faults F.asked files.old files.new)
         (writing O.taken O.faults out.old out.new) (Yields M.tells) (row Command.Solo words.now) result }
 {
@@ -53,7 +53,7 @@ fn write_solo<M: Boot, O: Sink>(
     cycles: u64,
     list: &Schedule,
     out: &mut O,
-) -> Result<(), Stop>
+) -> Result<(), CommandError>
     ensures { Ends (writing O.taken O.faults out.old out.new) (GroupsRefused image (among groups.now)) ⊥
         (λ text. StandAlone image (among groups.now)
         × (text ≡ own_report M.tells image list.now cycles (among groups.now))) result }

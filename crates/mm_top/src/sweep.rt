@@ -6,7 +6,7 @@ ghost use Rattle.mm_sweep.specs.Refusals.{CanSweep};
 ghost use Rattle.mm_load.specs.Files.{reading};
 ghost use Rattle.mm_top.specs.Ranges.{SweepRefused};
 ghost use Rattle.mm_cli.specs.Words.{IsRange};
-ghost use Rattle.mm_cli.specs.Said.{AreOf, row};
+ghost use Rattle.mm_cli.specs.Arguments.{HasArguments, row};
 ghost use Rattle.mm_top.specs.Commands.{YieldsAlone};
 ghost use Rattle.mm_top.specs.Answers.{CommandEnds, Ends, writing};
 
@@ -15,7 +15,7 @@ use crate::stops::stop_of_sweep;
 use mm_cli::{Command, Word, name_at, range_at};
 use mm_image::Image;
 use mm_io::{Files, Sink};
-use mm_load::{Stop, load_file};
+use mm_load::{CommandError, load_file};
 use std::alloc::Global;
 
 /// `sweep IMAGE BASE LOG`
@@ -24,8 +24,8 @@ pub fn sweep<F: Files, O: Sink>(
     words: &[Word<'_>],
     files: &mut F,
     out: &mut O,
-) -> Result<(), Stop>
-    requires { AreOf Command.Sweep words.now }
+) -> Result<(), CommandError>
+    requires { HasArguments Command.Sweep words.now }
     ensures { CommandEnds (reading F.held F.faults F.asked files.old files.new)
         (writing O.taken O.faults out.old out.new) YieldsAlone (row Command.Sweep words.now) result }
 {
@@ -41,7 +41,7 @@ fn write_swept<O: Sink>(
     base: u64,
     log: u8,
     out: &mut O,
-) -> Result<(), Stop>
+) -> Result<(), CommandError>
     requires { IsRange base log }
     ensures { Ends (writing O.taken O.faults out.old out.new) (SweepRefused (base, log) image.now) ⊥
         (λ text. CanSweep (base, log) image.now × Spells text (swept (base, log) image.now)) result }

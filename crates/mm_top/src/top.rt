@@ -7,8 +7,8 @@ ghost use Rattle.mm_io.specs.Sinks.{TookPart};
 ghost use Rattle.mm_load.specs.declared.status.Refusal.{Refusal};
 ghost use Rattle.mm_load.specs.Files.{AsksFiles, DrawnBehind, ReadsWhole, drawing, reading};
 ghost use Rattle.mm_cli.specs.Words.{texts};
-ghost use Rattle.mm_cli.specs.Table.{InNoRow, Asks, LeaveInput, Row, files_of, input_of};
-ghost use Rattle.mm_cli.specs.Said.{AreOf, row};
+ghost use Rattle.mm_cli.specs.Table.{InNoRow, Matches, LeaveInput, Row, files_of, input_of};
+ghost use Rattle.mm_cli.specs.Arguments.{HasArguments, row};
 ghost use Rattle.mm_top.specs.Commands.{run, trace, log};
 ghost use Rattle.mm_load.specs.Lines.{line_of};
 ghost use Rattle.mm_top.specs.Answers.{ComesTo, ReadFailed, WritesNothing, TookLine, NothingFails, HasToRefuse};
@@ -38,7 +38,7 @@ use crate::trace::trace;
 use crate::why::why;
 use mm_cli::{Command, Word, read_words};
 use mm_io::{Files, Sink, Source};
-use mm_load::{Refusal, Status, Stop, write_line};
+use mm_load::{Refusal, Status, CommandError, write_line};
 use mm_mem::{Boot, Reset};
 use std::alloc::Global;
 
@@ -68,14 +68,14 @@ pub fn mmachine<M: Boot + Reset, F: Files, I: Source, O: Sink, D: Sink>(
     // were accepted; and after them standard input to its end, if the row reads it. If the command is done, each file
     // was read once, from its front to its end.
     ensures unread { result ≡ Status.Usage → files.new ≡ files.old }
-    ensures asks { (row : Row) → Asks (texts words.now) row
+    ensures asks { (row : Row) → Matches (texts words.now) row
         → AsksFiles (reading F.held F.faults F.asked files.old files.new) [] (files_of row) }
-    ensures whole { result ≡ Status.Done → (row : Row) → Asks (texts words.now) row
+    ensures whole { result ≡ Status.Done → (row : Row) → Matches (texts words.now) row
         → ReadsWhole (reading F.held F.faults F.asked files.old files.new) (files_of row) }
     ensures undrawn { LeaveInput (texts words.now) → input.new ≡ input.old }
-    ensures drawn { (row : Row) → Asks (texts words.now) row
+    ensures drawn { (row : Row) → Matches (texts words.now) row
         → DrawnBehind (F.held files.old) (files_of row) (input.new ≡ input.old) }
-    ensures read { result ≡ Status.Done → (row : Row) → Asks (texts words.now) row → IsSome (input_of row)
+    ensures read { result ≡ Status.Done → (row : Row) → Matches (texts words.now) row → IsSome (input_of row)
         → IsAtEnd (I.left input.new) }
 
     // What is written.
@@ -92,13 +92,13 @@ pub fn mmachine<M: Boot + Reset, F: Files, I: Source, O: Sink, D: Sink>(
 
     // The headline holds of each run that is done: it writes the report of its items and nothing before it.
     ensures headline { result ≡ Status.Done → (image : List ℕ) (cycles : ℕ) (schedule : Option (List ℕ))
-        → Asks (texts words.now) (run image cycles schedule)
+        → Matches (texts words.now) (run image cycles schedule)
         → (written : List ℕ) × RunIsProved run no_turns M.tells (F.held files.old) image cycles schedule written
         × (O.taken out.new ≡ append_known (O.taken out.old) written) }
 
     // The headline holds of each trace that is done, with the lines of its turns before the report.
     ensures reach { result ≡ Status.Done → (image : List ℕ) (cycles : ℕ) (schedule : Option (List ℕ))
-        → Asks (texts words.now) (trace image cycles schedule)
+        → Matches (texts words.now) (trace image cycles schedule)
         → (written : List ℕ) × RunIsProved trace trace_of M.tells (F.held files.old) image cycles schedule written
         × (O.taken out.new ≡ append_known (O.taken out.old) written) }
 
@@ -106,7 +106,7 @@ pub fn mmachine<M: Boot + Reset, F: Files, I: Source, O: Sink, D: Sink>(
     // report. Carried out, the log's lines up to any cycle make the state of the run then, except for the number of
     // cycles.
     ensures replay { result ≡ Status.Done → (image : List ℕ) (cycles : ℕ) (schedule : Option (List ℕ))
-        → Asks (texts words.now) (log image cycles schedule)
+        → Matches (texts words.now) (log image cycles schedule)
         → (written : List ℕ) × LogIsProved M.tells (F.held files.old) image cycles schedule written
         × (O.taken out.new ≡ append_known (O.taken out.old) written) }
 
@@ -138,16 +138,16 @@ fn by_row<M: Boot + Reset, F: Files, I: Source, O: Sink>(
         result }
     ensures unread { result ≡ Status.Usage → files.new ≡ files.old }
     ensures undrawn { LeaveInput (texts words.now) → input.new ≡ input.old }
-    ensures drawn { (row : Row) → Asks (texts words.now) row
+    ensures drawn { (row : Row) → Matches (texts words.now) row
         → DrawnBehind (F.held files.old) (files_of row) (input.new ≡ input.old) }
-    ensures read { result ≡ Status.Done → (row : Row) → Asks (texts words.now) row → IsSome (input_of row)
+    ensures read { result ≡ Status.Done → (row : Row) → Matches (texts words.now) row → IsSome (input_of row)
         → IsAtEnd (I.left input.new) }
 {
     match read_words(words) {
         None => Status::Usage,
-        Some(asked) => {
-            let said = asked.words.as_slice();
-            status(by_command::<M, F, I, O>(alloc, asked.command, said, files, input, out))
+        Some(parsed) => {
+            let arguments = parsed.words.as_slice();
+            status(by_command::<M, F, I, O>(alloc, parsed.command, arguments, files, input, out))
         }
     }
 }
@@ -161,8 +161,8 @@ fn by_command<M: Boot + Reset, F: Files, I: Source, O: Sink>(
     files: &mut F,
     input: &mut I,
     out: &mut O,
-) -> Result<(), Stop>
-    requires { AreOf command words.now }
+) -> Result<(), CommandError>
+    requires { HasArguments command words.now }
     ensures ends { RowEnds
         (call M.tells (reading F.held F.faults F.asked files.old files.new)
         (drawing I.left I.faults input.old input.new) (writing O.taken O.faults out.old out.new))
@@ -200,14 +200,14 @@ fn by_command<M: Boot + Reset, F: Files, I: Source, O: Sink>(
 }
 
 /// The status of the answer after a command.
-fn status(outcome: Result<(), Stop>) -> Status
+fn status(outcome: Result<(), CommandError>) -> Status
     ensures { result ≡ status_of outcome }
 {
     match outcome {
         Ok(()) => Status::Done,
-        Err(Stop::Refused(refusal)) => Status::Refused(refusal),
-        Err(Stop::ReadFault) => Status::ReadFault,
-        Err(Stop::WriteFault) => Status::WriteFault,
-        Err(Stop::NoMemory) => Status::NoMemory,
+        Err(CommandError::Refused(refusal)) => Status::Refused(refusal),
+        Err(CommandError::ReadFault) => Status::ReadFault,
+        Err(CommandError::WriteFault) => Status::WriteFault,
+        Err(CommandError::NoMemory) => Status::NoMemory,
     }
 }

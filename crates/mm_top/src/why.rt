@@ -4,14 +4,14 @@ ghost use Rattle.std.specs.Prelude.{◌<◌, Result};
 ghost use Rattle.mm_why.specs.Text.{SaysWhy};
 ghost use Rattle.mm_load.specs.Files.{reading};
 ghost use Rattle.mm_cli.specs.Words.{IsWordAddress};
-ghost use Rattle.mm_cli.specs.Said.{AreOf, row};
+ghost use Rattle.mm_cli.specs.Arguments.{HasArguments, row};
 ghost use Rattle.mm_top.specs.Commands.{YieldsAlone};
 ghost use Rattle.mm_top.specs.Answers.{CommandEnds, EndsWith, writing};
 
 use mm_cli::{Command, Word, name_at, number_at, use_at};
 use mm_image::Image;
 use mm_io::{Files, Sink};
-use mm_load::{Stop, ended, load_file};
+use mm_load::{CommandError, ended, load_file};
 use mm_model::WordUse;
 use mm_why::write_why;
 use std::alloc::Global;
@@ -22,8 +22,8 @@ pub fn why<F: Files, O: Sink>(
     words: &[Word<'_>],
     files: &mut F,
     out: &mut O,
-) -> Result<(), Stop>
-    requires { AreOf Command.Why words.now }
+) -> Result<(), CommandError>
+    requires { HasArguments Command.Why words.now }
     ensures { CommandEnds (reading F.held F.faults F.asked files.old files.new)
         (writing O.taken O.faults out.old out.new) YieldsAlone (row Command.Why words.now) result }
 {
@@ -41,7 +41,7 @@ fn write_reason<O: Sink>(
     word: u64,
     how: WordUse,
     out: &mut O,
-) -> Result<(), Stop>
+) -> Result<(), CommandError>
     requires few { group < 64 }
     requires address { IsWordAddress word }
     ensures { EndsWith (writing O.taken O.faults out.old out.new) (SaysWhy image.now how group word) result }

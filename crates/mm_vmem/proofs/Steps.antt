@@ -8,7 +8,7 @@ use Rattle.std.specs.Prelude.{slice_set}
 use Rattle.mm_word.specs.declared.perm.Kind.{Kind}
 use Rattle.mm_model.specs.Uses.{Use, Accessed, Removed, accesses-append}
 use Rattle.mm_model.specs.declared.counts.Counts.{Counts}
-use Rattle.mm_model.specs.Counted.{latest, written, recent, numbers, page_of_block, block_of, line_of, kept, has, distinct, is_block, is_hit, given_back, written_back, looked_up, look_ups}
+use Rattle.mm_model.specs.Counted.{latest, written, recent, numbers, page_of_block, block_of, line_of, outside_page, has, distinct, is_block, is_hit, given_back, written_back, looked_up, look_ups}
 use Rattle.mm_model.specs.Counted.{buffer_hits, buffer_misses, page_of_old, writes}
 use Rattle.mm_model.specs.Flags.{one_if}
 use Rattle.mm_vmem.specs.Stands.{LineState, state_with, line_after, line_without, Stands, moved, flat_line, state_at, state_has, back_of, next_state, sought, after_looks, found_in, missed_in}
@@ -174,7 +174,7 @@ stands_no_page uses more lines buffer n us kind addr done one_more old =
       numbers_are = old.numbers_are ∙ ap numbers at_end;
     }
 
-without_tag : (page : ℕ) (o : Option ℕ) (w : Bool) → line_without page (state_with o w) ≡ state_with (kept page o) w
+without_tag : (page : ℕ) (o : Option ℕ) (w : Bool) → line_without page (state_with o w) ≡ state_with (outside_page page o) w
 without_tag page None w = refl
 without_tag page (Some x) w = by (page_of_block x == page)
   where

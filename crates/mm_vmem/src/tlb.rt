@@ -37,7 +37,7 @@ impl Model for Tlb {
 }
 
 /// The index of the entry of a page.
-fn place(entries: &[Entry], page: u64) -> Option<usize>
+fn position(entries: &[Entry], page: u64) -> Option<usize>
     ensures { result ≡ position (λ entry. entry.page == page) entries.now }
 {
     entries.iter().position(|entry| entry.page == page)
@@ -80,7 +80,7 @@ impl Tlb {
         ensures { result ≡ frame_in page self.now }
     {
         let entries = self.entries.as_slice();
-        let i = place(entries, page)?;
+        let i = position(entries, page)?;
         Some(entries[i].frame)
     }
 

@@ -14,7 +14,7 @@ use Rattle.mm_graph.specs.Key.{key_at}
 use Rattle.mm_graph.specs.Marked.{node_pointer}
 use Rattle.mm_graph.specs.GraphOf.{IsGraphOf, CommonWord}
 use Rattle.mm_graph.proofs.Assembly.{graph}
-use Rattle.mm_graph.proofs.Standing.{stands_from, stands_below}
+use Rattle.mm_graph.proofs.Representatives.{stands_from, stands_below}
 use Rattle.mm_graph.proofs.Segments.{below-loads, below-stores, never_xp}
 use Rattle.mm_graph.proofs.Summaries.{whole_fits, whole_covers}
 use Rattle.mm_model.specs.Reach.Entries.{All}

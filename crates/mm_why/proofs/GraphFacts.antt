@@ -28,7 +28,7 @@ use Rattle.mm_graph.specs.Found.{page_keys}
 use Rattle.mm_graph.specs.Nodes.{IsNode, nothing, found_word}
 use Rattle.mm_graph.proofs.Cells.{held}
 use Rattle.mm_graph.proofs.CellWords.{well_formed}
-use Rattle.mm_graph.proofs.Standing.{stands_from, stands-pointer, stands_below, entry_from}
+use Rattle.mm_graph.proofs.Representatives.{stands_from, stands-pointer, stands_below, entry_from}
 use Rattle.mm_graph.proofs.Bounds.{in_covers, loads_then, entry_then}
 use Rattle.mm_graph.proofs.Segments.{below-loads}
 use Rattle.mm_why.specs.declared.line.Rule.TheVariants as rules

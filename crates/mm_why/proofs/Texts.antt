@@ -2,24 +2,24 @@
 use Rattle.std.proofs.Common.{◌≡◌, ℕ, ◌+◌, ◌<◌, List, [], ◌∷◌, ◌++◌, length, take, get_or, Option, refl, sym, ap, ◌∙◌, append_assoc, append-nil, arith, codes, decimal}
 use Rattle.std.specs.Fmt.{digits}
 use Rattle.std.proofs.lemmas.List.{take_more, length-take-le}
-use Rattle.mm_text.specs.Gathers.{Gathered, Gathers}
-use Rattle.mm_text.proofs.Gathering.{gathers_then, gathers_same}
+use Rattle.mm_text.specs.Appends.{Buffered, Appends}
+use Rattle.mm_text.proofs.Appending.{appends_then, appends_same}
 use Rattle.mm_why.specs.declared.line.Line.{Line}
 use Rattle.mm_why.specs.Text.{line_text, lines_text}
 
 -- 1. What is gathered after a text.
 
-module _ {S : Type 0} {taken : S → Option (List ℕ)} {faults : S → ℕ} {a b c : S} {f g h : Gathered} where
+module _ {S : Type 0} {taken : S → Option (List ℕ)} {faults : S → ℕ} {a b c : S} {f g h : Buffered} where
   -- a word and what it tells
-  pub gathers_word : (first word told : List ℕ) → Gathers taken faults a b f g first → Gathers taken faults b c g h (word ++ told)
-      → Gathers taken faults a c f h (first ++ word ++ told)
-  gathers_word first word told x y = gathers_same (gathers_then x y) (sym (append_assoc first word told))
+  pub appends_word : (first word told : List ℕ) → Appends taken faults a b f g first → Appends taken faults b c g h (word ++ told)
+      → Appends taken faults a c f h (first ++ word ++ told)
+  appends_word first word told x y = appends_same (appends_then x y) (sym (append_assoc first word told))
 
   -- a word, what it tells, and the word after it
-  pub gathers_words : (first word told next : List ℕ) → Gathers taken faults a b f g first → Gathers taken faults b c g h (word ++ told ++ next)
-      → Gathers taken faults a c f h (first ++ word ++ told ++ next)
-  gathers_words first word told next x y =
-      gathers_same (gathers_then x y)
+  pub appends_words : (first word told next : List ℕ) → Appends taken faults a b f g first → Appends taken faults b c g h (word ++ told ++ next)
+      → Appends taken faults a c f h (first ++ word ++ told ++ next)
+  appends_words first word told next x y =
+      appends_same (appends_then x y)
       (sym (append_assoc first (word ++ told) next) ∙ ap (λ (text : List ℕ). text ++ next) (sym (append_assoc first word told)))
 
 -- 2. The texts of lines.
@@ -32,9 +32,9 @@ no_lines : lines_text 0 [] ≡ []
 unfolding lines_text
 no_lines = refl
 
-pub gathers_none : {S : Type 0} {taken : S → Option (List ℕ)} {faults : S → ℕ} {a b : S} {f g : Gathered} → Gathers taken faults a b f g []
-    → Gathers taken faults a b f g (lines_text 0 [])
-gathers_none x = gathers_same x (sym no_lines)
+pub appends_none : {S : Type 0} {taken : S → Option (List ℕ)} {faults : S → ℕ} {a b : S} {f g : Buffered} → Appends taken faults a b f g []
+    → Appends taken faults a b f g (lines_text 0 [])
+appends_none x = appends_same x (sym no_lines)
 
 lines_text-append : (k : ℕ) (a b : List Line) → lines_text k (a ++ b) ≡ lines_text k a ++ lines_text (k + length a) b
 unfolding lines_text

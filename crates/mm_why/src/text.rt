@@ -3,20 +3,20 @@
 ghost use Rattle.std.specs.Prelude.{◌++◌, decimal};
 ghost use Rattle.mm_model.specs.Digits.{hex};
 ghost use Rattle.mm_io.specs.Sinks.{Writes};
-ghost use Rattle.mm_text.specs.Gathers.{Gathers};
+ghost use Rattle.mm_text.specs.Appends.{Appends};
 ghost use Rattle.mm_why.specs.Text.{line_text, lines_text, number_text, rule_text, why_text};
 
 use crate::line::{Line, Rule};
 use mm_io::{Sink, WriteFault};
-use mm_text::{Gather, Piece, put_word};
+use mm_text::{TextBuffer, Piece, put_word};
 use mm_word::Word;
 
 /// The number of the line past the last index.
 const LAST_NUMBER: &str = "18446744073709551616";
 
 /// Appends the number of the line at an index: lines are counted from 1 on.
-fn put_number<O: Sink>(text: &mut Gather, out: &mut O, k: usize)
-    ensures { Gathers O.taken O.faults out.old out.new text.old text.new (number_text k) }
+fn put_number<O: Sink>(text: &mut TextBuffer, out: &mut O, k: usize)
+    ensures { Appends O.taken O.faults out.old out.new text.old text.new (number_text k) }
 {
     match (k as u64).checked_add(1) {
         Some(number) => text.put_piece(out, &Piece::Decimal(number)),
@@ -25,30 +25,30 @@ fn put_number<O: Sink>(text: &mut Gather, out: &mut O, k: usize)
 }
 
 /// Appends a word and the number of the line that it tells.
-fn put_named<O: Sink>(text: &mut Gather, out: &mut O, word: &str, k: usize)
-    ensures { Gathers O.taken O.faults out.old out.new text.old text.new (word.now ++ number_text k) }
+fn put_named<O: Sink>(text: &mut TextBuffer, out: &mut O, word: &str, k: usize)
+    ensures { Appends O.taken O.faults out.old out.new text.old text.new (word.now ++ number_text k) }
 {
     text.put_piece(out, &Piece::Text(word));
     put_number(text, out, k);
 }
 
 /// Appends a word and an address.
-fn put_at<O: Sink>(text: &mut Gather, out: &mut O, word: &str, address: u64)
-    ensures { Gathers O.taken O.faults out.old out.new text.old text.new (word.now ++ hex 14 address) }
+fn put_at<O: Sink>(text: &mut TextBuffer, out: &mut O, word: &str, address: u64)
+    ensures { Appends O.taken O.faults out.old out.new text.old text.new (word.now ++ hex 14 address) }
 {
     text.put(out, &[Piece::Text(word), Piece::HexAddress(address)]);
 }
 
 /// Appends a word and the number of a slot.
-fn put_slot<O: Sink>(text: &mut Gather, out: &mut O, word: &str, slot: u8)
-    ensures { Gathers O.taken O.faults out.old out.new text.old text.new (word.now ++ decimal slot) }
+fn put_slot<O: Sink>(text: &mut TextBuffer, out: &mut O, word: &str, slot: u8)
+    ensures { Appends O.taken O.faults out.old out.new text.old text.new (word.now ++ decimal slot) }
 {
     text.put(out, &[Piece::Text(word), Piece::Decimal(slot as u64)]);
 }
 
 /// Appends the rule of a line.
-fn put_rule<O: Sink>(text: &mut Gather, out: &mut O, rule: Rule)
-    ensures { Gathers O.taken O.faults out.old out.new text.old text.new (rule_text rule) }
+fn put_rule<O: Sink>(text: &mut TextBuffer, out: &mut O, rule: Rule)
+    ensures { Appends O.taken O.faults out.old out.new text.old text.new (rule_text rule) }
 {
     match rule {
         Rule::Register { slot, register } => {
@@ -82,8 +82,8 @@ fn put_rule<O: Sink>(text: &mut Gather, out: &mut O, rule: Rule)
 }
 
 /// Appends the line at an index.
-fn put_line<O: Sink>(text: &mut Gather, out: &mut O, k: usize, line: Line)
-    ensures { Gathers O.taken O.faults out.old out.new text.old text.new (line_text k line) }
+fn put_line<O: Sink>(text: &mut TextBuffer, out: &mut O, k: usize, line: Line)
+    ensures { Appends O.taken O.faults out.old out.new text.old text.new (line_text k line) }
 {
     put_number(text, out, k);
     text.put(
@@ -101,8 +101,8 @@ fn put_line<O: Sink>(text: &mut Gather, out: &mut O, k: usize, line: Line)
 }
 
 /// Appends the lines of a derivation, numbered from 1 on.
-fn put_lines<O: Sink>(text: &mut Gather, out: &mut O, lines: &[Line])
-    ensures { Gathers O.taken O.faults out.old out.new text.old text.new (lines_text 0 lines.now) }
+fn put_lines<O: Sink>(text: &mut TextBuffer, out: &mut O, lines: &[Line])
+    ensures { Appends O.taken O.faults out.old out.new text.old text.new (lines_text 0 lines.now) }
 {
     for k in 0..lines.len() {
         put_line(text, out, k, lines[k]);
@@ -110,8 +110,8 @@ fn put_lines<O: Sink>(text: &mut Gather, out: &mut O, lines: &[Line])
 }
 
 /// Appends the lines of a derivation, or the line `no`.
-fn put_answer<O: Sink>(text: &mut Gather, out: &mut O, answer: Option<&[Line]>)
-    ensures { Gathers O.taken O.faults out.old out.new text.old text.new (why_text answer.entry) }
+fn put_answer<O: Sink>(text: &mut TextBuffer, out: &mut O, answer: Option<&[Line]>)
+    ensures { Appends O.taken O.faults out.old out.new text.old text.new (why_text answer.entry) }
 {
     match answer {
         Some(lines) => put_lines(text, out, lines),
@@ -135,7 +135,7 @@ fn put_answer<O: Sink>(text: &mut Gather, out: &mut O, answer: Option<&[Line]>)
 pub fn write_why<O: Sink>(answer: Option<&[Line]>, out: &mut O) -> Result<(), WriteFault>
     ensures { Writes O.taken O.faults out.old out.new (why_text answer.entry) result }
 {
-    let mut text = Gather::new();
+    let mut text = TextBuffer::new();
     put_answer(&mut text, out, answer);
     text.finish(out)
 }

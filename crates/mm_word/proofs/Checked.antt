@@ -12,11 +12,11 @@ use Rattle.mm_word.specs.Cause.{first_failing}
 use Rattle.mm_word.specs.Word.{IsPointerAnd}
 use Rattle.mm_word.specs.Perm.{allows}
 use Rattle.mm_word.specs.Pointer.{Pointer, InSegment, Covers, holds_word}
-use Rattle.mm_word.specs.Access.{Touch, touch_at, check_result, first_fault, holds_word_at, is_aligned, IsUncovered, IsMisaligned}
+use Rattle.mm_word.specs.Access.{AccessValue, touch_at, check_result, first_fault, holds_word_at, is_aligned, IsUncovered, IsMisaligned}
 use Rattle.mm_word.proofs.Below.{holds_word-Covers}
 
 -- the result at an exact sum
-abbrev result_at : Pointer → ℤ → Kind → Result Touch Cause
+abbrev result_at : Pointer → ℤ → Kind → Result AccessValue Cause
 result_at p z kind = if allows p.perm kind then touch_at p z kind else Err cause.Perm
 
 abbrev fault_at : Pointer → ℤ → Kind → Option Cause
@@ -26,11 +26,11 @@ refused_at : (p : Pointer) (z : ℤ) (kind : Kind) (c : Cause) → result_at p z
 refused_at p (pos a) kind c e = grind (arith, common_steps)
 refused_at p (negsuc a) kind c e = grind (arith, common_steps)
 
-passed_at : (p : Pointer) (z : ℤ) (kind : Kind) (t : Touch) → result_at p z kind ≡ Ok t → fault_at p z kind ≡ None
+passed_at : (p : Pointer) (z : ℤ) (kind : Kind) (t : AccessValue) → result_at p z kind ≡ Ok t → fault_at p z kind ≡ None
 passed_at p (pos a) kind t e = grind (arith, common_steps)
 passed_at p (negsuc a) kind t e = grind (arith, common_steps)
 
-is_at : (p : Pointer) (z : ℤ) (kind : Kind) (t : Touch) → result_at p z kind ≡ Ok t → (p ≡ t.ptr) × (pos t.addr ≡ z) × (t.kind ≡ kind)
+is_at : (p : Pointer) (z : ℤ) (kind : Kind) (t : AccessValue) → result_at p z kind ≡ Ok t → (p ≡ t.ptr) × (pos t.addr ≡ z) × (t.kind ≡ kind)
 is_at p (pos a) kind t e = grind (arith, common_steps)
 is_at p (negsuc a) kind t e = grind (arith, common_steps)
 
@@ -74,39 +74,39 @@ misaligned p (negsuc b) kind right (a, same, covers, odd) = absurd (cc)
 
 -- the same through a word
 
-pub refused_by : (w : Word) (by : ℤ) (kind : Kind) (r : Result Touch Cause) → r ≡ check_result w by kind → IfErr r (λ c. first_fault w by kind ≡ Some c)
+pub refused_by : (w : Word) (by : ℤ) (kind : Kind) (r : Result AccessValue Cause) → r ≡ check_result w by kind → IfErr r (λ c. first_fault w by kind ≡ Some c)
 refused_by w by kind (Ok t) e = tt
 refused_by (Int n) by kind (Err c) e = grind (arith, common_steps)
 refused_by (Ptr p) by kind (Err c) e = refused_at p (pos p.addr +ℤ by) kind c (sym e)
 
-pub passed_by : (w : Word) (by : ℤ) (kind : Kind) (r : Result Touch Cause) → r ≡ check_result w by kind → OnOk r (first_fault w by kind ≡ None)
+pub passed_by : (w : Word) (by : ℤ) (kind : Kind) (r : Result AccessValue Cause) → r ≡ check_result w by kind → OnOk r (first_fault w by kind ≡ None)
 passed_by w by kind (Err c) e = tt
 passed_by (Int n) by kind (Ok t) e = absurd (cc)
 passed_by (Ptr p) by kind (Ok t) e = passed_at p (pos p.addr +ℤ by) kind t (sym e)
 
-pub pointer_by : (w : Word) (by : ℤ) (kind : Kind) (r : Result Touch Cause) → r ≡ check_result w by kind → IfOk r (λ t. w ≡ Ptr t.ptr)
+pub pointer_by : (w : Word) (by : ℤ) (kind : Kind) (r : Result AccessValue Cause) → r ≡ check_result w by kind → IfOk r (λ t. w ≡ Ptr t.ptr)
 pointer_by w by kind (Err c) e = tt
 pointer_by (Int n) by kind (Ok t) e = absurd (cc)
 pointer_by (Ptr p) by kind (Ok t) e = let tells = is_at p (pos p.addr +ℤ by) kind t (sym e) in ap (λ (q : Pointer). Ptr q) tells.0
 
-pub address_by : (w : Word) (by : ℤ) (kind : Kind) (r : Result Touch Cause) → r ≡ check_result w by kind → IfOk r (λ t. pos t.addr ≡ pos t.ptr.addr +ℤ by)
+pub address_by : (w : Word) (by : ℤ) (kind : Kind) (r : Result AccessValue Cause) → r ≡ check_result w by kind → IfOk r (λ t. pos t.addr ≡ pos t.ptr.addr +ℤ by)
 address_by w by kind (Err c) e = tt
 address_by (Int n) by kind (Ok t) e = absurd (cc)
 address_by (Ptr p) by kind (Ok t) e = let tells = is_at p (pos p.addr +ℤ by) kind t (sym e) in tells.1 ∙ ap (λ (q : Pointer). pos q.addr +ℤ by) tells.0
 
-pub kind_by : (w : Word) (by : ℤ) (kind : Kind) (r : Result Touch Cause) → r ≡ check_result w by kind → IfOk r (λ t. t.kind ≡ kind)
+pub kind_by : (w : Word) (by : ℤ) (kind : Kind) (r : Result AccessValue Cause) → r ≡ check_result w by kind → IfOk r (λ t. t.kind ≡ kind)
 kind_by w by kind (Err c) e = tt
 kind_by (Int n) by kind (Ok t) e = absurd (cc)
 kind_by (Ptr p) by kind (Ok t) e = let tells = is_at p (pos p.addr +ℤ by) kind t (sym e) in tells.2
 
-pub bounds_by : (w : Word) (by : ℤ) (kind : Kind) (r : Result Touch Cause) → r ≡ check_result w by kind →
+pub bounds_by : (w : Word) (by : ℤ) (kind : Kind) (r : Result AccessValue Cause) → r ≡ check_result w by kind →
     (r ≡ Err cause.Bounds) ↔ IsPointerAnd w (λ p. (allows p.perm kind ≡ true) × IsUncovered p (pos p.addr +ℤ by))
 bounds_by (Int n) by kind r e = (λ is. absurd (cc), λ none. absurd none)
 bounds_by (Ptr p) by kind r e =
     let z = pos p.addr +ℤ by in
     (λ is. let tells = bounds_at p z kind (sym e ∙ is) in (tells.0, uncovered p z tells.1), λ out. e ∙ out_of_bounds p z kind out.0 out.1)
 
-pub align_by : (w : Word) (by : ℤ) (kind : Kind) (r : Result Touch Cause) → r ≡ check_result w by kind →
+pub align_by : (w : Word) (by : ℤ) (kind : Kind) (r : Result AccessValue Cause) → r ≡ check_result w by kind →
     (r ≡ Err cause.Align) ↔ IsPointerAnd w (λ p. (allows p.perm kind ≡ true) × IsMisaligned p (pos p.addr +ℤ by))
 align_by (Int n) by kind r e = (λ is. absurd (cc), λ none. absurd none)
 align_by (Ptr p) by kind r e =

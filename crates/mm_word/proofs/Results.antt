@@ -9,7 +9,7 @@ use Rattle.mm_word.specs.Pointer.{Pointer, IsWellFormed, InSegment, Covers, hold
 use Rattle.mm_word.specs.Pointer.{leab_result, restrict_result, subseg_result, setptr_result, next_result, enter_result}
 use Rattle.mm_word.specs.Pointer.{IsBelow}
 use Rattle.mm_word.specs.Word.{IsWord}
-use Rattle.mm_word.specs.Access.{Touch, IsGranted, touch_at, check_result}
+use Rattle.mm_word.specs.Access.{AccessValue, IsGranted, touch_at, check_result}
 use Rattle.mm_word.proofs.Segments.{segment_below}
 use Rattle.mm_word.proofs.Below.{IsBelow-shorter, holds_word-Covers}
 
@@ -45,12 +45,12 @@ enter_result-well_formed p q w e = grind (arith, common_steps)
 pub setptr_result-well_formed : (bits : ℕ) (p : Pointer) → setptr_result bits ≡ Ok p → IsWellFormed p
 setptr_result-well_formed bits p e = grind (arith, common_steps)
 
-touch_at-tells : (p : Pointer) (a : ℕ) (kind : Kind) (t : Touch) → touch_at p (pos a) kind ≡ Ok t →
+touch_at-tells : (p : Pointer) (a : ℕ) (kind : Kind) (t : AccessValue) → touch_at p (pos a) kind ≡ Ok t →
     (holds_word p a ≡ true) × (a % 8 ≡ 0) × (record { ptr = p; addr = a; kind = kind } ≡ t)
 touch_at-tells p a kind t e = grind (arith, common_steps)
 
 -- an access that a well-formed pointer passes is granted
-touch_at-IsGranted : (p : Pointer) (z : ℤ) (kind : Kind) (t : Touch) → IsWellFormed p → allows p.perm kind ≡ true → touch_at p z kind ≡ Ok t → IsGranted t
+touch_at-IsGranted : (p : Pointer) (z : ℤ) (kind : Kind) (t : AccessValue) → IsWellFormed p → allows p.perm kind ≡ true → touch_at p z kind ≡ Ok t → IsGranted t
 touch_at-IsGranted p (pos a) kind t w right e =
     let tells = touch_at-tells p a kind t e in
     let covered : Covers p a = holds_word-Covers p a tells.0 in
@@ -63,11 +63,11 @@ touch_at-IsGranted p (pos a) kind t w right e =
     })
 touch_at-IsGranted p (negsuc a) kind t w right e = cc
 
-check_result-tells : (p : Pointer) (by : ℤ) (kind : Kind) (t : Touch) → check_result (Ptr p) by kind ≡ Ok t →
+check_result-tells : (p : Pointer) (by : ℤ) (kind : Kind) (t : AccessValue) → check_result (Ptr p) by kind ≡ Ok t →
     (allows p.perm kind ≡ true) × (touch_at p (pos p.addr +ℤ by) kind ≡ Ok t)
 check_result-tells p by kind t e = grind (arith, common_steps)
 
-pub check_result-IsGranted : (w : Word) (by : ℤ) (kind : Kind) (t : Touch) → IsWord w → check_result w by kind ≡ Ok t → IsGranted t
+pub check_result-IsGranted : (w : Word) (by : ℤ) (kind : Kind) (t : AccessValue) → IsWord w → check_result w by kind ≡ Ok t → IsGranted t
 check_result-IsGranted (Int n) by kind t h e = cc
 check_result-IsGranted (Ptr p) by kind t h e =
     let tells = check_result-tells p by kind t e in

@@ -7,7 +7,7 @@ use Rattle.mm_word.specs.Perm.{can_become, can_load, can_store, can_fetch}
 use Rattle.mm_word.specs.Pointer.{Pointer, IsWellFormed, bits_of, InSegment, Covers, lea_result, leab_result}
 use Rattle.mm_word.specs.Pointer.{restrict_result, subseg_result, setptr_result, next_result, enter_result, IsBelow}
 use Rattle.mm_word.specs.Word.{IsWord}
-use Rattle.mm_word.specs.Access.{Touch, IsGranted, check_result}
+use Rattle.mm_word.specs.Access.{AccessValue, IsGranted, check_result}
 
 -- what two restrictions give, one restriction may give
 abbrev pub RestrictionIsTransitive : Type 0
@@ -52,7 +52,7 @@ EnteredIsWellFormed = (p q : Pointer) → IsWellFormed p → enter_result p ≡ 
 -- an access that passes its tests is granted
 abbrev pub PassedIsGranted : Type 0
 PassedIsGranted =
-    (w : Word) (by : ℤ) (kind : Kind) (t : Touch) → IsWord w → check_result w by kind ≡ Ok t → IsGranted t
+    (w : Word) (by : ℤ) (kind : Kind) (t : AccessValue) → IsWord w → check_result w by kind ≡ Ok t → IsGranted t
 
 -- a segment that is no longer than another lies in it if its pointer's address does
 abbrev pub ShorterSegmentsNest : Type 0

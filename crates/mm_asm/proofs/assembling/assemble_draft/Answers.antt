@@ -5,7 +5,7 @@ use Rattle.mm_asm.specs.Meaning.{object_of}
 use Rattle.mm_asm.specs.declared.fault.AsmError.TheVariants.{NoMemory}
 use Rattle.mm_asm.specs.Faults.{late_failures}
 use Rattle.mm_asm.specs.Answers.{Fails, pair_of_first}
-use Rattle.mm_asm.proofs.Whole.{object_is}
+use Rattle.mm_asm.proofs.MeantObjects.{object_is}
 use Rattle.mm_asm.proofs.LateFirsts.{met_late}
 use Rattle.mm_asm.proofs.LateSources.{late_place}
 use Rattle.mm_asm.proofs.LateTargets.{pointers_fit, threads_fit}

@@ -9,7 +9,7 @@ use Rattle.mm_asm.proofs.resolve.position_of.Goals as goal
 pub returns : goal.returns
 returns c =
     let order : List ℕ → Ordering = λ y. slice_cmp nat_cmp y c.args.name.now in
-    place_is c.args.names.now c.args.name.now c.in-Ok.place c.requires.up c.in-Ok.ensures.bound (c.in-Ok.ensures.position order (always_returns_same _ _ _ (λ a r f called. search rules)))
+    place_is c.args.names.now c.args.name.now c.in-Ok.position c.requires.up c.in-Ok.ensures.bound (c.in-Ok.ensures.position order (always_returns_same _ _ _ (λ a r f called. search rules)))
 
 pub unreachable-requires : goal.unreachable-requires
 unreachable-requires c =

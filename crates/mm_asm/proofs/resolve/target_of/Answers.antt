@@ -21,12 +21,12 @@ position_of-external-requires-clause-among c =
 
 pub here-requires : goal.here-requires
 here-requires c =
-    let r = here_fits c.args.draft.now c.args.target.now c.bytes-name.result.now c.in-Some.place c.bytes-name.ensures (sym c.place_of.ensures ∙ c.in-Some.is) c.requires.fits in
+    let r = here_fits c.args.draft.now c.args.target.now c.bytes-name.result.now c.in-Some.location c.bytes-name.ensures (sym c.place_of.ensures ∙ c.in-Some.is) c.requires.fits in
     record { segment = r.0; offset = r.1 }
 
 pub elsewhere-requires : goal.elsewhere-requires
 elsewhere-requires c =
     let d = c.args.draft.now in
     let h = elsewhere_fits d c.args.target.now c.bytes-name.result.now c.bytes-name.ensures (sym c.place_of.ensures ∙ c.in-None.is) c.requires.fits in
-    let place = c.position_of-external.ensures ∙ ap (position_of c.bytes-name.result.now) c.requires.names in
-    omega (arith, h, place, ap length c.segments.ensures)
+    let location = c.position_of-external.ensures ∙ ap (position_of c.bytes-name.result.now) c.requires.names in
+    omega (arith, h, location, ap length c.segments.ensures)

@@ -1,7 +1,7 @@
 use Rattle.std.proofs.Common.{ℕ, ◌++◌, ◌∷◌, [], List, ap, ◌∙◌, sym}
 use Rattle.std.proofs.lemmas.List.{take_all}
 use Rattle.mm_object.specs.declared.item.Item.{Item}
-use Rattle.mm_asm.proofs.Built.{numbered, numbered_gathered}
+use Rattle.mm_asm.proofs.Built.{numbered, numbered_appended}
 use Rattle.mm_asm.proofs.BuiltNumbered.{item_at, items_are}
 use Rattle.mm_asm.proofs.LateWords.{fits_at}
 use Rattle.mm_asm.proofs.words.items_of.Goals as goal
@@ -11,7 +11,7 @@ loop-k-preserved c =
     let l = c.loop-k in
     let w = c.index-words-k.result in
     let one : ℕ → List Item = λ b. l.items.items ++ record { bits = b; full = w.full } ∷ [] in
-    numbered_gathered (item_at c.args.draft.now) l.items.items c.push.new.self.items c.args.words.now l.k w c.loop-k-test.true c.index-words-k.is l.invariant
+    numbered_appended (item_at c.args.draft.now) l.items.items c.push.new.self.items c.args.words.now l.k w c.loop-k-test.true c.index-words-k.is l.invariant
     (c.in_ok-push.ensures.items ∙ ap one c.bits_of.ensures)
 
 pub bits_of-requires : goal.bits_of-requires

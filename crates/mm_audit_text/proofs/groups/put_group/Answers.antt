@@ -3,7 +3,7 @@ use Rattle.std.specs.List.{flat_map}
 use Rattle.mm_model.specs.declared.word_use.WordUse.TheVariants.{Touch, Write}
 use Rattle.mm_model.specs.Reach.Entries.{All}
 use Rattle.mm_model.specs.Audit.{kind_line, segment_line}
-use Rattle.mm_text.proofs.Gathering.{gathers_then}
+use Rattle.mm_text.proofs.Appending.{appends_then}
 use Rattle.mm_audit_text.proofs.groups.put_group.Goals as goal
 
 pub returns : goal.returns
@@ -11,7 +11,7 @@ returns g c =
     let touch = c.touched.result in
     let write = c.written.result in (
       kind_line c.args.group c.privileged.result ++ flat_map (segment_line Touch) touch ++ flat_map (segment_line Write) write,
-      gathers_then (gathers_then c.put_kind.ensures c.put_segments.ensures) c.put_segments-2.ensures,
+      appends_then (appends_then c.put_kind.ensures c.put_segments.ensures) c.put_segments-2.ensures,
       λ i surveys. record {
         privileged = c.privileged.result;
         touch = touch;

@@ -1,7 +1,7 @@
 use Rattle.std.proofs.Common.{rules, ◌++◌, [], subst, sym, arith, take}
 use Rattle.std.specs.List.{filter, range_with_len}
 use Rattle.mm_model.specs.Groups.{has_group}
-use Rattle.mm_text.proofs.Gathering.{gathers_then}
+use Rattle.mm_text.proofs.Appending.{appends_then}
 use Rattle.mm_audit_text.specs.Parts.{IsPart, if_present}
 use Rattle.mm_audit_text.proofs.Presence.{nothing_yet, then_part, one_more, all_present}
 use Rattle.mm_audit_text.proofs.groups.put_groups.Goals as goal
@@ -16,7 +16,7 @@ loop-group-preserved g c =
     let (whole, wrote, is) = c.loop-group.invariant in
     let (part, then, more) = c.put_present.ensures in (
       whole ++ part,
-      gathers_then wrote then,
+      appends_then wrote then,
       λ surveys.
           subst (λ gs. IsPart i c.args.apart gs (whole ++ part)) (sym (one_more (has_group i.slots) n (omega arith)))
           (then_part i c.args.apart (filter (has_group i.slots) (take n (range_with_len 0 64))) (if_present (has_group i.slots n) n) whole part (is surveys) (more surveys)),

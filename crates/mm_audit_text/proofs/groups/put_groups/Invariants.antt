@@ -1,7 +1,7 @@
 use Rattle.std.proofs.Common.{ℕ, List, take}
 use Rattle.std.specs.List.{filter, range_with_len}
 use Rattle.mm_model.specs.Groups.{has_group}
-use Rattle.mm_text.specs.Gathers.{Gathers}
+use Rattle.mm_text.specs.Appends.{Appends}
 use Rattle.mm_model.specs.Reach.Entries.{All}
 use Rattle.mm_audit.specs.Surveys.{Surveys}
 use Rattle.mm_audit_text.specs.Parts.{IsPart}
@@ -10,5 +10,5 @@ use Rattle.mm_audit_text.proofs.groups.put_groups.Given as goal
 -- what is written of the groups before one
 abbrev pub invariant-loop-group : goal.invariant-loop-group
 invariant-loop-group g l =
-    (whole : List ℕ) × Gathers g.O.Sink.taken g.O.Sink.faults l.initial.out l.out l.initial.text l.text whole
+    (whole : List ℕ) × Appends g.O.Sink.taken g.O.Sink.faults l.initial.out l.out l.initial.text l.text whole
     × (Surveys l.img All l.survey → IsPart l.img l.apart (filter (has_group l.img.slots) (take l.group (range_with_len 0 64))) whole)

@@ -1,7 +1,7 @@
 use Rattle.std.proofs.Common.{rules, ◌≡◌, ℕ, ap, ◌∙◌, ◌++◌, [], Bool, List, sym}
 use Rattle.mm_model.specs.Slot.{Slot}
 use Rattle.mm_model.specs.Groups.{has_group}
-use Rattle.mm_text.proofs.Gathering.{gathers_then}
+use Rattle.mm_text.proofs.Appending.{appends_then}
 use Rattle.mm_audit_text.proofs.Presence.{one_part, one_alone, no_part}
 use Rattle.mm_audit_text.proofs.groups.put_present.Goals as goal
 
@@ -14,7 +14,7 @@ returns-then-apart g c =
     let (own, wrote, is) = c.put_group.ensures in
     let (line, then, answers) = c.put_apart.ensures in (
       own ++ line,
-      gathers_then wrote then,
+      appends_then wrote then,
       λ surveys. one_part c.args.img.now c.args.apart (has_group c.args.img.now.slots c.args.group) c.args.group own
           line (has c.args.group c.slots.ensures.slots c.has_group.ensures c.if-has_group.true) c.if-apart.true
           (is c.args.img.now surveys) (answers c.args.img.now surveys),

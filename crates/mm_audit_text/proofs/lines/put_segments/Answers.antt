@@ -2,7 +2,7 @@ use Rattle.std.proofs.Common.{rules, ◌≡◌, ◌∷◌, ◌++◌, [], List, �
 use Rattle.std.specs.List.{flat_map}
 use Rattle.std.proofs.lemmas.Grind.{flat_map-append}
 use Rattle.mm_model.specs.Audit.{segment_line}
-use Rattle.mm_text.proofs.Gathering.{gathers_then, gathers_same}
+use Rattle.mm_text.proofs.Appending.{appends_then, appends_same}
 use Rattle.mm_audit_text.proofs.lines.put_segments.Goals as goal
 
 pub loop-base-init : goal.loop-base-init
@@ -16,10 +16,10 @@ loop-base-preserved g c =
     let (done, is, wrote) = c.loop-base.invariant in (
       done ++ (c.in-Some.base, c.in-Some.log) ∷ [],
       is ∙ ap (λ (l : List (ℕ × ℕ)). done ++ l) c.in-Some.ensures ∙ sym (append_assoc done ((c.in-Some.base, c.in-Some.log) ∷ []) c.next.new.self),
-      gathers_same (gathers_then wrote c.put_segment.ensures) (one_more (segment_line c.args.how) done (c.in-Some.base, c.in-Some.log)),
+      appends_same (appends_then wrote c.put_segment.ensures) (one_more (segment_line c.args.how) done (c.in-Some.base, c.in-Some.log)),
     )
 
 pub returns : goal.returns
 returns g c =
     let (done, is, wrote) = c.loop-base.invariant in
-    gathers_same wrote (ap (flat_map (segment_line c.args.how)) (sym (is ∙ ap (λ (l : List (ℕ × ℕ)). done ++ l) c.in_default.ensures.0 ∙ append-nil done)))
+    appends_same wrote (ap (flat_map (segment_line c.args.how)) (sym (is ∙ ap (λ (l : List (ℕ × ℕ)). done ++ l) c.in_default.ensures.0 ∙ append-nil done)))

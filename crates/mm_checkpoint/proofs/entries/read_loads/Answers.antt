@@ -2,7 +2,7 @@ use Rattle.std.proofs.Common.{◌≡◌, ℕ, ◌-◌, List, [], ◌∷◌, ◌+
 use Rattle.std.proofs.lemmas.{List.length-append, Result.err_from_is_err_and}
 use Rattle.mm_word.specs.Word.{IsWord}
 use Rattle.mm_model.{specs.declared.slot.Pending.Pending, proofs.CoreRows.each_push}
-use Rattle.mm_format.specs.{Formats.{Format, times, Outcome.Got}, Reading.FailsOr}
+use Rattle.mm_format.specs.{Formats.{Format, times, Parsed.Got}, Reading.FailsOr}
 use Rattle.mm_format.proofs.Loops.{nothing_before, times_more, times_stop, times_read}
 use Rattle.mm_image.specs.Faults.{number_of}
 use Rattle.mm_checkpoint.specs.Format.{load}

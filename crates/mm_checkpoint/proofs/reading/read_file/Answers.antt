@@ -1,5 +1,5 @@
 use Rattle.std.proofs.Common.{cond, ltb, length, map, ap, ◌∙◌}
-use Rattle.mm_format.specs.Formats.{after, Outcome.{Got, Bad}}
+use Rattle.mm_format.specs.Formats.{after, Parsed.{Got, Bad}}
 use Rattle.mm_checkpoint.specs.{Format.contents_from, Steps.put_out}
 use Rattle.mm_checkpoint.proofs.reading.read_file.Goals as goal
 

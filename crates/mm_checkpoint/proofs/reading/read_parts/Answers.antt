@@ -1,16 +1,16 @@
 use Rattle.std.proofs.{Common.{ℕ, List, map, sym, ap, ◌∙◌}, lemmas.Result.err_from_is_err_and}
 use Rattle.mm_model.specs.{declared.event.Event.Event, Slot.Slot}
-use Rattle.mm_format.specs.{Formats.{Outcome, after, Outcome.Got}, Reading.Fails}
+use Rattle.mm_format.specs.{Formats.{Parsed, after, Parsed.Got}, Reading.Fails}
 use Rattle.mm_format.specs.declared.reader.ReadError.{ReadError, TheVariants.{Fault, NoMemory}}
 use Rattle.mm_image.specs.{declared.fault.ImageFault.ImageFault, Faults.number_of}
 use Rattle.mm_checkpoint.specs.{Checkpoints.Saved, Faults.said_of, Format.{Contents, contents_from, saved_in}}
 use Rattle.mm_checkpoint.specs.{Reading.{in_order, events_of}, Steps.put_out}
 use Rattle.mm_checkpoint.proofs.reading.read_parts.Goals as goal
 
-abbrev said : Outcome Contents → Outcome Saved
+abbrev said : Parsed Contents → Parsed Saved
 said o = after o (λ c next. Got (saved_in c) next)
 
-fails : (o : Outcome Contents) (e : ReadError ImageFault) → Fails number_of o e → Fails number_of (said o) e
+fails : (o : Parsed Contents) (e : ReadError ImageFault) → Fails number_of o e → Fails number_of (said o) e
 fails o (Fault kind at) h = ap said h
 fails o NoMemory h = tt
 
@@ -25,7 +25,7 @@ unfolding said_of
 returns-clause-parts c =
     let f = c.in_ok-file.file in
     let next = c.in_ok-file.ensures.read.0 in
-    let make : List Slot → List (ℕ × Event) → Outcome Saved = λ slots events. Got (record {
+    let make : List Slot → List (ℕ × Event) → Parsed Saved = λ slots events. Got (record {
       slots = slots;
       events = events;
       outputs = map put_out f.outputs.items;

@@ -1,14 +1,14 @@
 use Rattle.std.proofs.Common.{rules, ◌≡◌, ◌==◌, ◌&&◌, not, ℕ, Bool, false, cond, is_some, refl, ap, ◌∙◌}
-use Rattle.mm_format.specs.{Formats.{Outcome, after, tried, Outcome.{Got, Bad}}, Images.{mask, flags_of}}
+use Rattle.mm_format.specs.{Formats.{Parsed, after, tried, Parsed.{Got, Bad}}, Images.{mask, flags_of}}
 use Rattle.mm_checkpoint.specs.{Tests.{is_bad_state, is_bad_cause}, Format.slot_row}
 use Rattle.mm_checkpoint.proofs.rows.read_row.Goals as goal
 
 -- a field that is read, and what is read after it
-field : {A B : Type 0} (read : Outcome A) (rest : A → ℕ → Outcome B) (all : Outcome B) (a : A) (next : ℕ)
+field : {A B : Type 0} (read : Parsed A) (rest : A → ℕ → Parsed B) (all : Parsed B) (a : A) (next : ℕ)
     → read ≡ Got a next → rest a next ≡ all → after read rest ≡ all
 field read rest all a next e others = ap (λ o. after o rest) e ∙ others
 
-passed : {A : Type 0} (number at : ℕ) (bad : A → Bool) (read : Outcome A) (a : A) (next : ℕ)
+passed : {A : Type 0} (number at : ℕ) (bad : A → Bool) (read : Parsed A) (a : A) (next : ℕ)
     → read ≡ Got a next → bad a ≡ false → tried number at bad read ≡ Got a next
 passed number at bad read a next e right =
     ap (tried number at bad) e ∙ ap (λ b. cond b (Bad number at) (Got a next)) right

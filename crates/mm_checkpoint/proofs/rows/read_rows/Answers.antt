@@ -1,5 +1,5 @@
 use Rattle.std.proofs.{Common.{◌≡◌, ◌+◌, subst, ap, ◌∙◌}, lemmas.{Result.err_from_is_err_and, List.drop_all}}
-use Rattle.mm_format.specs.{Formats.{each, Outcome.Got}, Reading.FailsOr}
+use Rattle.mm_format.specs.{Formats.{each, Parsed.Got}, Reading.FailsOr}
 use Rattle.mm_format.proofs.Loops.{prefixed, is_read, each_more, each_stop, fails_so}
 use Rattle.mm_image.specs.Faults.{number_of}
 use Rattle.mm_checkpoint.specs.Format.{slot_row}

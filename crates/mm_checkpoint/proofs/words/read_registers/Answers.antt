@@ -25,4 +25,4 @@ by_masks tags empty =
 pub returns-clause-read : goal.returns-clause-read
 returns-clause-read c =
     let reader = c.args.reader.now in
-    rw (by_masks c.args.tags c.args.empty reader.bytes.now reader.at) c.read_sixteen.ensures.read
+    rw (by_masks c.args.tags c.args.empty reader.bytes.now reader.at) c.read_array.ensures.read

@@ -6,9 +6,9 @@ use Rattle.mm_cli.proofs.GroupWords.{room_for}
 use Rattle.mm_cli.proofs.groups.push_group.Goals as goal
 
 pub returns-then-not-is_above-clause-none : goal.returns-then-not-is_above-clause-none
-returns-then-not-is_above-clause-none c none g follows said =
+returns-then-not-is_above-clause-none c none g follows arguments =
     let group = c.in_ok-group.field-0 in
-    let digits : decimal group ≡ decimal g = sym c.in_ok-group.ensures.some.0 ∙ said in
+    let digits : decimal group ≡ decimal g = sym c.in_ok-group.ensures.some.0 ∙ arguments in
     let same : g ≡ group = decimal_injective g group (omega (arith, follows.few)) (omega (arith, c.in_ok-group.ensures.some.1)) (sym digits) in
     let above : AllByRecursion (λ h. h < group) c.as_slice.result.now =
     subst (AllByRecursion (λ h. h < group)) (sym c.as_slice.ensures.value) (subst (λ (n : ℕ). AllByRecursion (λ h. h < n) c.args.groups.now.items) same follows.above) in

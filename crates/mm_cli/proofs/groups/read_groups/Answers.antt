@@ -4,12 +4,12 @@ use Rattle.mm_cli.proofs.groups.read_groups.Goals as goal
 
 pub loop-at-preserved : goal.loop-at-preserved
 loop-at-preserved c =
-    let (g, follows, said, more) = c.in_ok-push_group.ensures.some refl in
+    let (g, follows, arguments, more) = c.in_ok-push_group.ensures.some refl in
     record {
       short = rest_short c.args.text.now c.loop-at.rest.now c.in-Some.at _ c.loop-at.invariant.short;
       so_far = so_far_more c.loop-at.groups.items c.push_group.new.groups.items g c.loop-at.invariant.so_far follows more;
       parts = part_more c.args.text.now c.loop-at.rest.now c.loop-at.groups.items c.push_group.new.groups.items _ g c.in-Some.at _ c.loop-at.invariant.parts (sym c.in-Some.ensures)
-          refl said more refl;
+          refl arguments more refl;
     }
 
 pub overflow_add-rest : goal.overflow_add-rest
@@ -29,6 +29,6 @@ returns-in_err-push_group-2 c =
 
 pub returns : goal.returns
 returns c =
-    let (g, follows, said, more) = c.in_ok-push_group-2.ensures.some refl in
+    let (g, follows, arguments, more) = c.in_ok-push_group-2.ensures.some refl in
     last_part c.args.text.now c.loop-at.rest.now c.loop-at.groups.items c.push_group-2.new.groups.items g c.loop-at.invariant.parts c.loop-at.invariant.so_far (sym c.in_default.ensures)
-    follows said more
+    follows arguments more

@@ -19,61 +19,61 @@ returns-in-File c =
 pub returns-in_ok-read_number-in-Number : goal.returns-in_ok-read_number-in-Number
 returns-in_ok-read_number-in-Number c =
     let n = c.in_ok-read_number-in-Number.field-0 in
-    let said = c.in_ok-read_number-in-Number.ensures in
-    let fits : FitsParameter c.args.parameter (number_word n) = subst (λ (parameter : Parameter). FitsParameter parameter (number_word n)) (sym c.in-Number.is) (said.1, said.2) in (
+    let argument = c.in_ok-read_number-in-Number.ensures in
+    let fits : FitsParameter c.args.parameter (number_word n) = subst (λ (parameter : Parameter). FitsParameter parameter (number_word n)) (sym c.in-Number.is) (argument.1, argument.2) in (
       number_word n,
-      subst (λ (parameter : Parameter). IsOfParameter parameter (read.Number n)) (sym c.in-Number.is) (said.1, said.2),
+      subst (λ (parameter : Parameter). IsOfParameter parameter (read.Number n)) (sym c.in-Number.is) (argument.1, argument.2),
       refl,
       fits,
-      ap (λ (text : List ℕ). text ∷ []) (sym c.as_bytes.ensures.value ∙ said.0),
+      ap (λ (text : List ℕ). text ∷ []) (sym c.as_bytes.ensures.value ∙ argument.0),
     )
 
 pub returns-in_ok-read_groups-in-Groups : goal.returns-in_ok-read_groups-in-Groups
 returns-in_ok-read_groups-in-Groups c =
     let groups = c.in_ok-read_groups-in-Groups.field-0.items in
-    let said = c.in_ok-read_groups-in-Groups.ensures in
-    let fits : FitsParameter c.args.parameter (groups_word groups) = subst (λ (parameter : Parameter). FitsParameter parameter (groups_word groups)) (sym c.in-Groups.is) said.1 in (
+    let argument = c.in_ok-read_groups-in-Groups.ensures in
+    let fits : FitsParameter c.args.parameter (groups_word groups) = subst (λ (parameter : Parameter). FitsParameter parameter (groups_word groups)) (sym c.in-Groups.is) argument.1 in (
       groups_word groups,
       subst (λ (parameter : Parameter). IsOfParameter parameter (read.Groups c.in_ok-read_groups-in-Groups.field-0))
-          (sym c.in-Groups.is) said.1,
+          (sym c.in-Groups.is) argument.1,
       refl,
       fits,
       ap (λ (text : List ℕ). text ∷ [])
-          (sym c.as_bytes-in-Groups.ensures.value ∙ said.0),
+          (sym c.as_bytes-in-Groups.ensures.value ∙ argument.0),
     )
 
 pub returns-in_ok-read_mode-in-Mode : goal.returns-in_ok-read_mode-in-Mode
 returns-in_ok-read_mode-in-Mode c =
     let split = c.in_ok-read_mode-in-Mode.field-0 in
-    let said = c.in_ok-read_mode-in-Mode.ensures in
+    let argument = c.in_ok-read_mode-in-Mode.ensures in
     let fits : FitsParameter c.args.parameter (mode_word split) = subst (λ (parameter : Parameter). FitsParameter parameter (mode_word split)) (sym c.in-Mode.is) tt in (
       mode_word split,
       subst (λ (parameter : Parameter). IsOfParameter parameter (read.Mode split)) (sym c.in-Mode.is) tt,
       refl,
       fits,
-      ap (λ (text : List ℕ). text ∷ []) (sym c.as_str-in-Mode.ensures.value ∙ said),
+      ap (λ (text : List ℕ). text ∷ []) (sym c.as_str-in-Mode.ensures.value ∙ argument),
     )
 
 pub returns-in_ok-read_address-in-Address : goal.returns-in_ok-read_address-in-Address
 returns-in_ok-read_address-in-Address c =
     let n = c.in_ok-read_address-in-Address.field-0 in
-    let said = c.in_ok-read_address-in-Address.ensures in
-    let fits : FitsParameter c.args.parameter (number_word n) = subst (λ (parameter : Parameter). FitsParameter parameter (number_word n)) (sym c.in-Address.is) said.1 in (
+    let argument = c.in_ok-read_address-in-Address.ensures in
+    let fits : FitsParameter c.args.parameter (number_word n) = subst (λ (parameter : Parameter). FitsParameter parameter (number_word n)) (sym c.in-Address.is) argument.1 in (
       number_word n,
-      subst (λ (parameter : Parameter). IsOfParameter parameter (read.Number n)) (sym c.in-Address.is) said.1,
+      subst (λ (parameter : Parameter). IsOfParameter parameter (read.Number n)) (sym c.in-Address.is) argument.1,
       refl,
       fits,
-      ap (λ (text : List ℕ). text ∷ []) (sym c.as_bytes-in-Address.ensures.value ∙ said.0),
+      ap (λ (text : List ℕ). text ∷ []) (sym c.as_bytes-in-Address.ensures.value ∙ argument.0),
     )
 
 pub returns-in_ok-read_use-in-Use : goal.returns-in_ok-read_use-in-Use
 returns-in_ok-read_use-in-Use c =
     let how = c.in_ok-read_use-in-Use.field-0 in
-    let said = c.in_ok-read_use-in-Use.ensures in
+    let argument = c.in_ok-read_use-in-Use.ensures in
     let fits : FitsParameter c.args.parameter (use_word how) = subst (λ (parameter : Parameter). FitsParameter parameter (use_word how)) (sym c.in-Use.is) tt in (
       use_word how,
       subst (λ (parameter : Parameter). IsOfParameter parameter (read.Use how)) (sym c.in-Use.is) tt,
       refl,
       fits,
-      ap (λ (text : List ℕ). text ∷ []) (sym c.as_str-in-Use.ensures.value ∙ said),
+      ap (λ (text : List ℕ). text ∷ []) (sym c.as_str-in-Use.ensures.value ∙ argument),
     )

@@ -1,6 +1,6 @@
 use Rattle.std.proofs.Common.{◌≡◌, [], ◌++◌, length, arith, rules}
 use Rattle.std.proofs.lemmas.Bool.Decides.{nat_tests}
-use Rattle.mm_text.proofs.Gathering.{gathers_then}
+use Rattle.mm_text.proofs.Appending.{appends_then}
 use Rattle.mm_debug.specs.declared.session.Go.TheVariants.{More, Quit}
 use Rattle.mm_debug.specs.Commands.{lines_of}
 use Rattle.mm_debug.proofs.Dialogues.{no_text, goes_on, ends_at, ends}
@@ -8,7 +8,7 @@ use Rattle.mm_debug.proofs.InputLines.{no_lines}
 use Rattle.mm_debug.proofs.lines.handle_lines.Goals as goal
 
 pub loop-rest-init : goal.loop-rest-init
-loop-rest-init g c = record { said = []; gathers = no_text; goes = λ text last later. later }
+loop-rest-init g c = record { said = []; appends = no_text; goes = λ text last later. later }
 
 pub loop-rest-preserved : goal.loop-rest-preserved
 loop-rest-preserved g c =
@@ -16,7 +16,7 @@ loop-rest-preserved g c =
     let more : More ≡ c.handle_line.result = search rules in
     record {
       said = so_far.said ++ c.handle_line.ensures.text;
-      gathers = gathers_then so_far.gathers c.handle_line.ensures.gathers;
+      appends = appends_then so_far.appends c.handle_line.ensures.appends;
       goes = goes_on c.loop-rest.handler c.handle_line.new.self so_far.said c.handle_line.ensures.text c.handle_line.result
           (lines_of c.loop-rest.rest.now) (lines_of c.first_line.result.1.now) c.first_line.result.0.now
           c.first_line.ensures.lines so_far.goes c.handle_line.ensures.holds more;
@@ -29,7 +29,7 @@ returns-then-eq g c =
     let last : Quit ≡ c.handle_line.result = search rules in
     record {
       text = so_far.said ++ c.handle_line.ensures.text;
-      gathers = gathers_then so_far.gathers c.handle_line.ensures.gathers;
+      appends = appends_then so_far.appends c.handle_line.ensures.appends;
       holds = ends_at c.loop-rest.handler c.handle_line.new.self so_far.said c.handle_line.ensures.text c.handle_line.result
           (lines_of c.loop-rest.rest.now) (lines_of c.first_line.result.1.now) c.first_line.result.0.now
           c.first_line.ensures.lines so_far.goes c.handle_line.ensures.holds last;
@@ -42,6 +42,6 @@ returns-after-loop-rest g c =
     let none : length c.loop-rest.rest.now ≡ 0 = grind (arith, nat_tests) in
     record {
       text = so_far.said;
-      gathers = so_far.gathers;
+      appends = so_far.appends;
       holds = ends (lines_of c.loop-rest.rest.now) (no_lines c.loop-rest.rest.now none) so_far.goes;
     }

@@ -1,5 +1,5 @@
 use Rattle.std.proofs.Common.{List, ℕ, length}
-use Rattle.mm_text.specs.Gathers.{Gathers}
+use Rattle.mm_text.specs.Appends.{Appends}
 use Rattle.mm_debug.specs.Commands.{lines_of}
 use Rattle.mm_debug.proofs.Dialogues.{GoesOn}
 use Rattle.mm_debug.proofs.lines.handle_lines.Given as goal
@@ -8,7 +8,7 @@ use Rattle.mm_debug.proofs.lines.handle_lines.Given as goal
 abbrev pub invariant-loop-rest : goal.invariant-loop-rest
 invariant-loop-rest g l = record {
   said : List ℕ;
-  gathers : Gathers g.O.Sink.taken g.O.Sink.faults l.initial.out l.out l.initial.replies l.replies said;
+  appends : Appends g.O.Sink.taken g.O.Sink.faults l.initial.out l.out l.initial.replies l.replies said;
   goes : GoesOn g.H.LineHandler.Answers l.initial.handler (lines_of l.input) said l.handler (lines_of l.rest);
 }
 

@@ -1,5 +1,5 @@
-use Rattle.mm_text.proofs.Gathering.{gathers_then}
+use Rattle.mm_text.proofs.Appending.{appends_then}
 use Rattle.mm_disasm.proofs.instructions.put_further.Goals as goal
 
 pub returns : goal.returns
-returns g c = gathers_then c.put_piece.ensures c.put_operand.ensures
+returns g c = appends_then c.put_piece.ensures c.put_operand.ensures

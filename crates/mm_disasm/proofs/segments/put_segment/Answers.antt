@@ -1,7 +1,7 @@
 use Rattle.std.proofs.Common.{◌≡◌, ℕ, List, length, ap, ◌∙◌, arith}
 use Rattle.mm_object.specs.declared.item.Item.{Item}
 use Rattle.mm_object.specs.Objects.{Segment}
-use Rattle.mm_text.proofs.Gathering.{gathers_then, gathers_same}
+use Rattle.mm_text.proofs.Appending.{appends_then, appends_same}
 use Rattle.mm_disasm.specs.Canonical.{words_text, segment_text}
 use Rattle.mm_disasm.proofs.Targets.{few_items}
 use Rattle.mm_disasm.proofs.segments.put_segment.Goals as goal
@@ -16,4 +16,4 @@ unfolding segment_text
 returns g c =
     let items : c.deref.result.now ≡ c.args.segment.now.items = c.deref.ensures.value ∙ ap (λ (s : Segment). s.items) c.segment.view_is in
     let words : List Item → List ℕ = words_text c.args.o.now c.args.number 0 in
-    gathers_then c.put_segment_line.ensures (gathers_same {first = words c.deref.result.now} c.put_words.ensures (ap words items))
+    appends_then c.put_segment_line.ensures (appends_same {first = words c.deref.result.now} c.put_words.ensures (ap words items))

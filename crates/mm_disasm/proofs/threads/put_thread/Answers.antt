@@ -1,5 +1,5 @@
 use Rattle.std.proofs.Common.{length}
-use Rattle.mm_text.proofs.Gathering.{gathers_then}
+use Rattle.mm_text.proofs.Appending.{appends_then}
 use Rattle.mm_disasm.specs.Canonical.{thread_text}
 use Rattle.mm_disasm.proofs.Targets.{thread_parts}
 use Rattle.mm_disasm.proofs.threads.put_thread.Goals as goal
@@ -12,4 +12,4 @@ put_registers-requires g c = (thread_parts c.args.o.now.segments (length c.args.
 
 pub returns : goal.returns
 unfolding thread_text
-returns g c = gathers_then c.put_thread_line.ensures c.put_registers.ensures
+returns g c = appends_then c.put_thread_line.ensures c.put_registers.ensures

@@ -1,7 +1,7 @@
 use Rattle.std.proofs.Common.{length}
 use Rattle.mm_object.specs.Objects.{is_thread}
 use Rattle.mm_object.proofs.Bools.{all_at}
-use Rattle.mm_text.proofs.Gathering.{gathers_more}
+use Rattle.mm_text.proofs.Appending.{appends_more}
 use Rattle.mm_disasm.specs.Canonical.{thread_text}
 use Rattle.mm_disasm.proofs.threads.put_threads.Goals as goal
 
@@ -11,4 +11,4 @@ put_thread-requires g c =
 
 pub loop-thread-preserved : goal.loop-thread-preserved
 loop-thread-preserved g c =
-    gathers_more (thread_text c.args.o.now) c.args.threads.now c.loop-thread.thread-index _ c.loop-thread-test.true c.loop-thread.invariant c.put_thread.ensures
+    appends_more (thread_text c.args.o.now) c.args.threads.now c.loop-thread.thread-index _ c.loop-thread-test.true c.loop-thread.invariant c.put_thread.ensures

@@ -1,6 +1,6 @@
 use Rattle.std.proofs.Common.{Option, ap}
 use Rattle.mm_object.specs.declared.target.Reloc.{Reloc}
-use Rattle.mm_text.proofs.Gathering.{gathers_then, gathers_same}
+use Rattle.mm_text.proofs.Appending.{appends_then, appends_same}
 use Rattle.mm_disasm.specs.Canonical.{word_by}
 use Rattle.mm_disasm.proofs.Targets.{reloc_target}
 use Rattle.mm_disasm.proofs.words.put_content.Goals as goal
@@ -10,7 +10,7 @@ put_pointer-requires g c = reloc_target c.args.o.now c.args.segment c.args.word 
 
 pub returns-in-Some : goal.returns-in-Some
 returns-in-Some g c =
-    gathers_same (gathers_then c.put_piece.ensures c.put_pointer.ensures) (ap (λ (r : Option Reloc). word_by c.args.o.now r c.args.bits) c.in-Some.ensures)
+    appends_same (appends_then c.put_piece.ensures c.put_pointer.ensures) (ap (λ (r : Option Reloc). word_by c.args.o.now r c.args.bits) c.in-Some.ensures)
 
 pub returns-in-None : goal.returns-in-None
-returns-in-None g c = gathers_same c.put_integer.ensures (ap (λ (r : Option Reloc). word_by c.args.o.now r c.args.bits) c.in-None.ensures)
+returns-in-None g c = appends_same c.put_integer.ensures (ap (λ (r : Option Reloc). word_by c.args.o.now r c.args.bits) c.in-None.ensures)

@@ -1,6 +1,6 @@
 use Rattle.std.proofs.Common.{◌++◌, ◌∙◌, codes, decimal, ap}
 use Rattle.mm_model.specs.Lines.{newline}
-use Rattle.mm_text.proofs.Gathering.{gathers_then, gathers_same}
+use Rattle.mm_text.proofs.Appending.{appends_then, appends_same}
 use Rattle.mm_explore.specs.Results.{fault_found_lines}
 use Rattle.mm_explore.specs.Texts.{by_line}
 use Rattle.mm_explore.proofs.text.put_fault.Goals as goal
@@ -9,5 +9,5 @@ pub returns : goal.returns
 unfolding fault_found_lines
 returns g c =
     let f = c.fault.inside in
-    gathers_same (gathers_then c.put.ensures c.put_by.ensures)
+    appends_same (appends_then c.put.ensures c.put_by.ensures)
     ((λ j. codes "fault " ++ decimal f.slot ++ codes " " ++ decimal f.cause ++ newline ++ by_line (c.deref.ensures.value j)) ∙ ap fault_found_lines c.fault.view_is)

@@ -1,6 +1,6 @@
 use Rattle.std.proofs.Common.{◌++◌, ◌∙◌, codes, decimal, ap}
 use Rattle.std.specs.List.{flat_map}
-use Rattle.mm_text.proofs.Gathering.{gathers_then, gathers_same}
+use Rattle.mm_text.proofs.Appending.{appends_then, appends_same}
 use Rattle.mm_explore.specs.Results.{state_found_line, output_text, outcome_found_lines}
 use Rattle.mm_explore.specs.Texts.{by_line, end_text}
 use Rattle.mm_explore.proofs.text.put_outcome.Goals as goal
@@ -9,7 +9,7 @@ pub returns : goal.returns
 unfolding outcome_found_lines
 returns g c =
     let o = c.outcome.inside in
-    gathers_same (gathers_then (gathers_then (gathers_then c.put_end.ensures c.put_states.ensures) c.put_outputs.ensures) c.put_by.ensures)
+    appends_same (appends_then (appends_then (appends_then c.put_end.ensures c.put_states.ensures) c.put_outputs.ensures) c.put_by.ensures)
     ((λ j. codes "outcome " ++ decimal o.count ++ end_text o.ended ++ flat_map state_found_line (c.deref.ensures.value j)
     ++ flat_map output_text (c.deref-2.ensures.value j) ++ by_line (c.deref-3.ensures.value j))
     ∙ ap outcome_found_lines c.outcome.view_is)

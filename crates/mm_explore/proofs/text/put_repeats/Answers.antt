@@ -1,7 +1,7 @@
 use Rattle.std.proofs.Common.{◌≡◌, ◌+◌, ◌++◌, ◌∙◌, refl, sym, ap, append_assoc, append-nil, drop, length, arith, get_or, length-drop}
 use Rattle.std.specs.List.{flat_map}
 use Rattle.std.proofs.lemmas.List.{drop_all}
-use Rattle.mm_text.proofs.Gathering.{gathers_then, gathers_same}
+use Rattle.mm_text.proofs.Appending.{appends_then, appends_same}
 use Rattle.mm_explore.specs.Repeats.{leading}
 use Rattle.mm_explore.specs.Texts.{repeats_of, repeat_text}
 use Rattle.mm_explore.proofs.Repeats.{repeat, repeats_more}
@@ -23,7 +23,7 @@ loop-at-preserved g c =
     let inside = c.loop-at-test.true in
     record {
       done = before.done ++ first;
-      gathers = gathers_then before.gathers c.put_repeat.ensures;
+      appends = appends_then before.appends c.put_repeat.ensures;
       left = append_assoc before.done first (flat_map repeat_text (repeats_of (drop (at + (more + 1)) items))) ∙ ap (λ text. before.done ++ text) (sym next) ∙ before.left;
       within = omega (arith, low, back, long, inside);
     }
@@ -31,5 +31,5 @@ loop-at-preserved g c =
 pub returns : goal.returns
 returns g c =
     let before = c.loop-at.invariant in
-    gathers_same before.gathers
+    appends_same before.appends
     (sym (append-nil before.done) ∙ ap (λ l. before.done ++ flat_map repeat_text (repeats_of l)) (sym (drop_all c.loop-at.at c.args.items.now c.loop-at-test.false)) ∙ before.left)

@@ -1,6 +1,6 @@
 use Rattle.std.proofs.Common.{◌≡◌, ◌-◌, ◌≤◌, ℕ, List, ◌++◌, drop, length}
 use Rattle.std.specs.List.{flat_map}
-use Rattle.mm_text.specs.Gathers.{Gathers}
+use Rattle.mm_text.specs.Appends.{Appends}
 use Rattle.mm_explore.specs.Texts.{repeats_of, repeat_text}
 use Rattle.mm_explore.proofs.text.put_repeats.Given as goal
 
@@ -8,7 +8,7 @@ use Rattle.mm_explore.proofs.text.put_repeats.Given as goal
 abbrev pub invariant-loop-at : goal.invariant-loop-at
 invariant-loop-at g l = record {
   done : List ℕ;
-  gathers : Gathers g.O.Sink.taken g.O.Sink.faults l.initial.out l.out l.initial.text l.text done;
+  appends : Appends g.O.Sink.taken g.O.Sink.faults l.initial.out l.out l.initial.text l.text done;
   left : done ++ flat_map repeat_text (repeats_of (drop l.at l.items)) ≡ flat_map repeat_text (repeats_of l.items);
   within : l.at ≤ length l.items;
 }

@@ -1,6 +1,6 @@
 use Rattle.std.proofs.Common.{◌++◌, ◌∙◌, codes, decimal, ap}
 use Rattle.std.specs.List.{flat_map}
-use Rattle.mm_text.proofs.Gathering.{gathers_then, gathers_same, gathered_writes}
+use Rattle.mm_text.proofs.Appending.{appends_then, appends_same, buffered_writes}
 use Rattle.mm_explore.specs.Results.{explored_text, group_found_lines, fault_found_lines, outcome_found_lines}
 use Rattle.mm_explore.specs.Texts.{extent_text}
 use Rattle.mm_explore.proofs.text.write_explored.Goals as goal
@@ -9,8 +9,8 @@ pub returns : goal.returns
 unfolding explored_text
 returns g c =
     let e = c.e.inside in
-    gathered_writes c.new-text.ensures
-    (gathers_same (gathers_then (gathers_then (gathers_then c.put_extent.ensures c.put_groups.ensures) c.put_faults.ensures) c.put_outcomes.ensures)
+    buffered_writes c.new-text.ensures
+    (appends_same (appends_then (appends_then (appends_then c.put_extent.ensures c.put_groups.ensures) c.put_faults.ensures) c.put_outcomes.ensures)
     ((λ j. codes "explored " ++ decimal e.count ++ extent_text e.all ++ flat_map group_found_lines (c.deref.ensures.value j)
     ++ flat_map fault_found_lines (c.deref-2.ensures.value j) ++ flat_map outcome_found_lines (c.deref-3.ensures.value j))
     ∙ ap explored_text c.e.view_is))

@@ -21,6 +21,6 @@ loop-k-preserved c =
     rw c.in_ok-push.ensures.items (
       above_more c.args.parents.now c.args.marks.now (right_at c.args.nodes.now c.args.right) c.loop-k.out.items
           c.loop-k.k _ c.if-up-k.over c.loop-k.invariant.0 c.loop-k.invariant.1
-          (ap (λ v. bit_or v c.if-up-k.over) c.kept-own.ensures) from,
+          (ap (λ v. bit_or v c.if-up-k.over) c.mark_if-own.ensures) from,
       push_length c.loop-k.out.items _ c.loop-k.k c.loop-k.invariant.1,
     )

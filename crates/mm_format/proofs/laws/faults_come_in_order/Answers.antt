@@ -1,21 +1,21 @@
 use Rattle.std.proofs.Common.{◌≡◌, ℕ, Bool, true, false, cond, nat_lt, length, Some, None, refl, ap, ◌∙◌}
-use Rattle.mm_format.specs.Formats.{Outcome, after, fault_in, Outcome.{Got, Bad}}
+use Rattle.mm_format.specs.Formats.{Parsed, after, fault_in, Parsed.{Got, Bad}}
 use Rattle.mm_format.specs.{Headers.header, Images.{slots, pages, image, image_fault}}
 use Rattle.mm_format.proofs.laws.faults_come_in_order.Goals as goal
 
 -- a fault of the first part is that of both
-stops : {A B : Type 0} (o : Outcome A) (rest : A → ℕ → Outcome B) (fault : ℕ × ℕ) → fault_in o ≡ Some fault
+stops : {A B : Type 0} (o : Parsed A) (rest : A → ℕ → Parsed B) (fault : ℕ × ℕ) → fault_in o ≡ Some fault
     → fault_in (after o rest) ≡ Some fault
 stops (Got a next) rest fault e = absurd cc
 stops (Bad number at) rest fault e = e
 
 -- and so is one of the second, if the first was read
-goes_on : {A B : Type 0} (o : Outcome A) (rest : A → ℕ → Outcome B) (a : A) (next : ℕ) (fault : ℕ × ℕ) → o ≡ Got a next
+goes_on : {A B : Type 0} (o : Parsed A) (rest : A → ℕ → Parsed B) (a : A) (next : ℕ) (fault : ℕ × ℕ) → o ≡ Got a next
     → fault_in (rest a next) ≡ Some fault → fault_in (after o rest) ≡ Some fault
 goes_on o rest a next fault is e = ap (λ x. fault_in (after x rest)) is ∙ e
 
 -- a part that was read is followed by the rest
-then : {A B : Type 0} (o : Outcome A) (rest : A → ℕ → Outcome B) (a : A) (next : ℕ) → o ≡ Got a next
+then : {A B : Type 0} (o : Parsed A) (rest : A → ℕ → Parsed B) (a : A) (next : ℕ) → o ≡ Got a next
     → after o rest ≡ rest a next
 then o rest a next is = ap (λ x. after x rest) is
 

@@ -2,7 +2,7 @@ use Rattle.std.proofs.Common.{◌∙◌, arith}
 use Rattle.std.proofs.lemmas.List.Elements.{Contains-get_or}
 use Rattle.mm_graph.proofs.Places.{filled_write, filled_skip, filled_end, nowhere}
 use Rattle.mm_graph.proofs.targets.fill_targets.Goals as goal
-use Rattle.mm_graph.proofs.targets.fill_targets.Goals.{then-place-targets, else-place-targets}
+use Rattle.mm_graph.proofs.targets.fill_targets.Goals.{then-index-targets, else-index-targets}
 
 pub near-at-requires-clause-there : goal.near-at-requires-clause-there
 near-at-requires-clause-there c = c.requires.there _ (Contains-get_or c.args.placed.now c.loop-k.k nowhere c.loop-k-test.true)
@@ -10,15 +10,15 @@ near-at-requires-clause-there c = c.requires.there _ (Contains-get_or c.args.pla
 pub loop-k-preserved : goal.loop-k-preserved
 loop-k-preserved c =
     let small = c.loop-k-test.true in
-    elim c.if-place-targets.branch [
-      | then-place-targets w ↦ (
+    elim c.if-index-targets.branch [
+      | then-index-targets w ↦ (
         rw w.targets-is (filled_write c.args.keys.now c.args.placed.now c.loop-k.targets c.loop-k.k c.loop-k.invariant.0
-            c.near-at.result small c.near-at.ensures.small c.near-at.ensures.at w.if-place-targets.true),
-        c.if-place-targets.auto.targets ∙ c.loop-k.invariant.1,
+            c.near-at.result small c.near-at.ensures.small c.near-at.ensures.at w.if-index-targets.true),
+        c.if-index-targets.auto.targets ∙ c.loop-k.invariant.1,
       )
-      | else-place-targets w ↦ (
-        rw w.targets-is (filled_skip c.args.keys.now c.args.placed.now c.loop-k.targets c.loop-k.k c.loop-k.invariant.0 w.if-place-targets.false),
-        c.if-place-targets.auto.targets ∙ c.loop-k.invariant.1,
+      | else-index-targets w ↦ (
+        rw w.targets-is (filled_skip c.args.keys.now c.args.placed.now c.loop-k.targets c.loop-k.k c.loop-k.invariant.0 w.if-index-targets.false),
+        c.if-index-targets.auto.targets ∙ c.loop-k.invariant.1,
       )
     ]
 

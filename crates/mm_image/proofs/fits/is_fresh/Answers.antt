@@ -2,8 +2,8 @@ use Rattle.std.proofs.Common.{sym, ap, subst, ◌∙◌, arith}
 use Rattle.mm_model.specs.Slot.{Slot}
 use Rattle.mm_model.specs.Spelling.{Begins}
 use Rattle.mm_model.specs.Typed.{IsTypedSlot}
-use Rattle.mm_model.proofs.ImageBytes.CleanRecords.{handler_is_other}
-use Rattle.mm_model.proofs.ImageBytes.SpelledSlots.{handler_good}
+use Rattle.mm_model.proofs.Bytes.CleanRecords.{handler_is_other}
+use Rattle.mm_model.proofs.Bytes.SpelledSlots.{handler_good}
 use Rattle.mm_image.proofs.fits.is_fresh.Goals as goal
 use Rattle.mm_image.proofs.fits.is_fresh.Goals.{then-slot-limit-via-then-slot-limit}
 use Rattle.mm_image.proofs.fits.is_fresh.Goals.{then-slot-limit-via-else-slot-limit+then-slot-limit-2}

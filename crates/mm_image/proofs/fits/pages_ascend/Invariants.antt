@@ -1,5 +1,5 @@
 use Rattle.std.proofs.Common.{drop, ◌↔◌}
-use Rattle.mm_model.proofs.ImageBytes.Rising.{AreRisingFrom}
+use Rattle.mm_model.proofs.Bytes.Rising.{AreRisingFrom}
 use Rattle.mm_image.proofs.fits.pages_ascend.Given as goal
 
 abbrev pub invariant-loop-page : goal.invariant-loop-page

@@ -3,7 +3,7 @@ use Rattle.std.proofs.Common.{sym, ap, subst, ◌∙◌, arith}
 use Rattle.std.proofs.lemmas.Result.{err_from_is_err_and}
 use Rattle.std.proofs.lemmas.List.{take_all}
 use Rattle.mm_word.specs.declared.word.Cell.{Cell}
-use Rattle.mm_format.specs.Formats.Outcome.{Got}
+use Rattle.mm_format.specs.Formats.Parsed.{Got}
 use Rattle.mm_format.specs.Images.{word, bits_in}
 use Rattle.mm_format.specs.Reading.{FailsOr}
 use Rattle.mm_format.proofs.Images.{bits_count, bits_item}
@@ -27,51 +27,51 @@ take_more fs k lt = Rattle.std.proofs.lemmas.List.take_more fs k false lt
 pub returns-in_err-word-clause-read : goal.returns-in_err-word-clause-read
 returns-in_err-word-clause-read c =
     let p = err_from_is_err_and c.from_residual-in_err-word.result c.from_residual-in_err-word.ensures.1 in
-    let l = c.loop-place in
+    let l = c.loop-index in
     let bytes = l.reader.bytes.now in
     let tags = bits_in 512 c.args.tags.now in
     let fails = subst (λ b. FailsOr ⊥ number_of ((word b).read bytes l.reader.at) c.in_err-word.field-0.0)
-    (c.bit.ensures ∙ bits_item 512 c.args.tags.now l.place c.loop-place-test.true) c.in_err-word.ensures.read.0 in (
-      rw (p.1, p.2) (each_stop word tags l.place false bytes l.reader.at (map word_in l.cells.items) _ l.invariant.read
-          (omega (arith, bits_count 512 c.args.tags.now, c.loop-place-test.true)) number_of _ c.in_err-word.field-0.0
+    (c.bit.ensures ∙ bits_item 512 c.args.tags.now l.index c.loop-index-test.true) c.in_err-word.ensures.read.0 in (
+      rw (p.1, p.2) (each_stop word tags l.index false bytes l.reader.at (map word_in l.cells.items) _ l.invariant.read
+          (omega (arith, bits_count 512 c.args.tags.now, c.loop-index-test.true)) number_of _ c.in_err-word.field-0.0
           (fails_so number_of _ _ c.in_err-word.field-0.0 fails)),
-      c.in_err-word.ensures.read.1 ∙ c.loop-place.invariant.same,
+      c.in_err-word.ensures.read.1 ∙ c.loop-index.invariant.same,
     )
 
-pub loop-place-preserved : goal.loop-place-preserved
-loop-place-preserved c =
-    let l = c.loop-place in
+pub loop-index-preserved : goal.loop-index-preserved
+loop-index-preserved c =
+    let l = c.loop-index in
     let w = c.in_ok-word.word in
     let bytes = l.reader.bytes.now in
     let tags = bits_in 512 c.args.tags.now in
     let full = bits_in 512 c.args.full.now in
     let next = c.read_word.new.reader.at in
-    let cell : Cell = record { word = w; full = c.bit-in-loop-place.result } in
+    let cell : Cell = record { word = w; full = c.bit-in-loop-index.result } in
     let read = subst (λ b. (word b).read bytes l.reader.at ≡ Got w next)
-    (c.bit.ensures ∙ bits_item 512 c.args.tags.now l.place c.loop-place-test.true) c.in_ok-word.ensures.read.0 in
+    (c.bit.ensures ∙ bits_item 512 c.args.tags.now l.index c.loop-index-test.true) c.in_ok-word.ensures.read.0 in
     record {
       read = rw (c.in_ok-word.ensures.read.1, c.in_ok-push.ensures.items, map_push word_in l.cells.items cell)
-          (each_more word tags l.place false bytes l.reader.at (map word_in l.cells.items) _ l.invariant.read
-          (omega (arith, bits_count 512 c.args.tags.now, c.loop-place-test.true)) w next read);
+          (each_more word tags l.index false bytes l.reader.at (map word_in l.cells.items) _ l.invariant.read
+          (omega (arith, bits_count 512 c.args.tags.now, c.loop-index-test.true)) w next read);
       full = rw c.in_ok-push.ensures.items (map_push full_in l.cells.items cell
-          ∙ ap (λ fs. fs ++ c.bit-in-loop-place.result ∷ []) l.invariant.full
-          ∙ ap (λ b. take l.place full ++ b ∷ [])
-          (c.bit-in-loop-place.ensures ∙ bits_item 512 c.args.full.now l.place c.loop-place-test.true)
-          ∙ sym (take_more full l.place (omega (arith, bits_count 512 c.args.full.now, c.loop-place-test.true))));
+          ∙ ap (λ fs. fs ++ c.bit-in-loop-index.result ∷ []) l.invariant.full
+          ∙ ap (λ b. take l.index full ++ b ∷ [])
+          (c.bit-in-loop-index.ensures ∙ bits_item 512 c.args.full.now l.index c.loop-index-test.true)
+          ∙ sym (take_more full l.index (omega (arith, bits_count 512 c.args.full.now, c.loop-index-test.true))));
       same = c.in_ok-word.ensures.read.1 ∙ l.invariant.same;
       count = c.in_ok-push.ensures.len ∙ ap (λ n. n + 1) l.invariant.count;
     }
 
 pub returns-clause-read : goal.returns-clause-read
 returns-clause-read c =
-    let l = c.loop-place in (
-      each_read word (bits_in 512 c.args.tags.now) l.place false l.reader.bytes.now l.reader.at (map word_in l.cells.items) _
-          l.invariant.read (omega (arith, bits_count 512 c.args.tags.now, c.loop-place-test.false)),
+    let l = c.loop-index in (
+      each_read word (bits_in 512 c.args.tags.now) l.index false l.reader.bytes.now l.reader.at (map word_in l.cells.items) _
+          l.invariant.read (omega (arith, bits_count 512 c.args.tags.now, c.loop-index-test.false)),
       l.invariant.same,
     )
 
 pub returns-clause-full : goal.returns-clause-full
 returns-clause-full c =
-    let l = c.loop-place in
-    l.invariant.full ∙ take_all l.place (bits_in 512 c.args.full.now)
-    (omega (arith, bits_count 512 c.args.full.now, c.loop-place-test.false))
+    let l = c.loop-index in
+    l.invariant.full ∙ take_all l.index (bits_in 512 c.args.full.now)
+    (omega (arith, bits_count 512 c.args.full.now, c.loop-index-test.false))

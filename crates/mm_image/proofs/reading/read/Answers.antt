@@ -2,10 +2,10 @@ use Rattle.std.proofs.{Common.{◌≡◌, refl, arith}, lemmas.Result.err_from_i
 use Rattle.mm_format.specs.{declared.reader.ReadError.{ReadError, TheVariants.{Fault, NoMemory}}, Reading.fault_named_by}
 use Rattle.mm_format.proofs.{Files.{answers_ok, answers_err}, ImagesWhole.{read_spells, spelled_read}}
 use Rattle.mm_format.specs.Images.{image_fault}
-use Rattle.mm_image.specs.{declared.fault.ImageFault.ImageFault, Faults.{number_of, told, fault_of}}
+use Rattle.mm_image.specs.{declared.fault.ImageFault.ImageFault, Faults.{number_of, from_read_error, fault_of}}
 use Rattle.mm_image.proofs.reading.read.Goals as goal
 
-told_right : (e : ReadError ImageFault) → fault_of (told e) ≡ fault_named_by number_of e
+told_right : (e : ReadError ImageFault) → fault_of (from_read_error e) ≡ fault_named_by number_of e
 told_right (Fault kind offset) = refl
 told_right NoMemory = refl
 

@@ -5,7 +5,7 @@ use Rattle.std.proofs.lemmas.Result.{err_from_is_err_and}
 use Rattle.mm_model.specs.Slot.{Slot}
 use Rattle.mm_model.specs.Spelling.{is_bad_handler}
 use Rattle.mm_format.specs.Formats.{answer, first_late}
-use Rattle.mm_format.specs.Formats.Outcome.{Got, Bad}
+use Rattle.mm_format.specs.Formats.Parsed.{Got, Bad}
 use Rattle.mm_format.specs.Images.{handler_tests}
 use Rattle.mm_format.specs.Reading.{FailsOr}
 use Rattle.mm_format.proofs.Loops.{late_stop}

@@ -4,7 +4,7 @@ use Rattle.mm_link.specs.Placing.{Site}
 use Rattle.mm_link.specs.Answers.{Fails}
 use Rattle.mm_link.specs.Faults.{unknown_names, outsides}
 use Rattle.mm_link.specs.Steps.{Passes}
-use Rattle.mm_link.proofs.Whole.{fails_known, fails_slots, after_four}
+use Rattle.mm_link.proofs.LinkResults.{fails_known, fails_slots, after_four}
 use Rattle.mm_link.proofs.linking.check_objects.Goals as goal
 
 pub returns-in_err-check_known : goal.returns-in_err-check_known

@@ -1,6 +1,6 @@
 use Rattle.std.proofs.Common.{sym, subst, ◌∙◌}
 use Rattle.mm_model.specs.Spelling.{IsImage}
-use Rattle.mm_link.proofs.Whole.{image_is}
+use Rattle.mm_link.proofs.LinkResults.{image_is}
 use Rattle.mm_link.proofs.linking.image_of.Goals as goal
 
 pub of-requires : goal.of-requires

@@ -5,7 +5,7 @@ use Rattle.mm_link.specs.Faults.{link_fault}
 use Rattle.mm_link.specs.declared.fault.LinkError.TheVariants.{NoMemory}
 use Rattle.mm_link.specs.Linked.{image_of}
 use Rattle.mm_link.proofs.Imaged.{linked_is_image}
-use Rattle.mm_link.proofs.Whole.{fails_five, fails_large, no_fault, order_few, order_apart, sites_are, few_pages}
+use Rattle.mm_link.proofs.LinkResults.{fails_five, fails_large, no_fault, order_few, order_apart, sites_are, few_pages}
 use Rattle.mm_link.proofs.linking.image_of_parts.Goals as goal
 
 pub sites_of-requires-clause-few : goal.sites_of-requires-clause-few

@@ -1,4 +1,4 @@
-use Rattle.mm_link.proofs.Whole.{is_linked, is_again, is_fault, is_first}
+use Rattle.mm_link.proofs.LinkResults.{is_linked, is_again, is_fault, is_first}
 use Rattle.mm_link.proofs.linking.link.Goals as goal
 
 pub returns-clause-linked : goal.returns-clause-linked

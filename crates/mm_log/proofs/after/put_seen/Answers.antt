@@ -1,10 +1,10 @@
-use Rattle.mm_text.proofs.Gathering.{gathers_then, gathers_same}
+use Rattle.mm_text.proofs.Appending.{appends_then, appends_same}
 use Rattle.mm_machine.specs.Machine.{state_of}
 use Rattle.mm_log.proofs.Told.{seen_text}
 use Rattle.mm_log.proofs.after.put_seen.Goals as goal
 
 pub returns : goal.returns
 returns g c =
-    gathers_same
-    (gathers_then (gathers_then (gathers_then (gathers_then c.put_slots.ensures c.put_queued.ensures) c.put_read.ensures) c.put_own_out.ensures) c.put_memory.ensures)
+    appends_same
+    (appends_then (appends_then (appends_then (appends_then c.put_slots.ensures c.put_queued.ensures) c.put_read.ensures) c.put_own_out.ensures) c.put_memory.ensures)
     (seen_text (state_of c.args.machine.now) c.args.before.now c.args.tick)

@@ -1,7 +1,7 @@
 use Rattle.mm_log.specs.Lines.{line_text}
-use Rattle.mm_text.proofs.Gathering.{gathers_then}
+use Rattle.mm_text.proofs.Appending.{appends_then}
 use Rattle.mm_log.proofs.lines.put_load.Goals as goal
 
 pub returns : goal.returns
 unfolding line_text
-returns g c = gathers_then (gathers_then c.put.ensures c.put_word.ensures) c.put_piece.ensures
+returns g c = appends_then (appends_then c.put.ensures c.put_word.ensures) c.put_piece.ensures

@@ -1,7 +1,7 @@
 use Rattle.mm_log.specs.Lines.{line_text}
-use Rattle.mm_text.proofs.Gathering.{gathers_then}
+use Rattle.mm_text.proofs.Appending.{appends_then}
 use Rattle.mm_log.proofs.lines.put_slot_state.Goals as goal
 
 pub returns : goal.returns
 unfolding line_text
-returns g c = gathers_then (gathers_then c.put_front.ensures c.put_state.ensures) c.put_piece.ensures
+returns g c = appends_then (appends_then c.put_front.ensures c.put_state.ensures) c.put_piece.ensures

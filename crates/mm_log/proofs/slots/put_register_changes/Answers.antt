@@ -2,7 +2,7 @@ use Rattle.std.proofs.Common.{◌≡◌, ◌<◌, get_or, ap, arith}
 use Rattle.std.proofs.lemmas.List.{take_all}
 use Rattle.std.proofs.lemmas.List.FromFn.{get_or-range_with_len}
 use Rattle.std.specs.List.{flat_map, range_with_len}
-use Rattle.mm_text.proofs.Gathering.{gathers_item, gathers_same}
+use Rattle.mm_text.proofs.Appending.{appends_item, appends_same}
 use Rattle.mm_log.specs.Changes.{register_changes}
 use Rattle.mm_log.specs.Log.{text_of}
 use Rattle.mm_log.proofs.slots.put_register_changes.Goals as goal
@@ -12,9 +12,9 @@ loop-register-preserved g c =
     let n = c.loop-register.register in
     let inside : n < 16 = omega arith in
     let same : n ≡ get_or (range_with_len 0 16) n n = omega (arith, get_or-range_with_len 0 16 n n inside) in
-    gathers_item (λ r. text_of (register_changes c.args.was.now c.args.now.now r)) (range_with_len 0 16) n n inside same c.loop-register.invariant c.put_register_change.ensures
+    appends_item (λ r. text_of (register_changes c.args.was.now c.args.now.now r)) (range_with_len 0 16) n n inside same c.loop-register.invariant c.put_register_change.ensures
 
 pub returns : goal.returns
 returns g c =
-    gathers_same c.loop-register.invariant
+    appends_same c.loop-register.invariant
     (ap (flat_map (λ r. text_of (register_changes c.args.was.now c.args.now.now r))) (take_all c.loop-register.register (range_with_len 0 16) (omega arith)))

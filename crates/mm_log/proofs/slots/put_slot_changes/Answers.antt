@@ -1,9 +1,9 @@
-use Rattle.mm_text.proofs.Gathering.{gathers_then, gathers_same}
+use Rattle.mm_text.proofs.Appending.{appends_then, appends_same}
 use Rattle.mm_log.proofs.Told.{slot_text}
 use Rattle.mm_log.proofs.slots.put_slot_changes.Goals as goal
 
 pub returns : goal.returns
 returns g c =
-    gathers_same
-    (gathers_then (gathers_then (gathers_then c.put_pointer_change.ensures c.put_state_change.ensures) c.put_register_changes.ensures) c.put_load_changes.ensures)
+    appends_same
+    (appends_then (appends_then (appends_then c.put_pointer_change.ensures c.put_state_change.ensures) c.put_register_changes.ensures) c.put_load_changes.ensures)
     (slot_text c.args.was.now c.args.now.now)

@@ -3,7 +3,7 @@ use Rattle.std.proofs.lemmas.List.{take_more}
 use Rattle.mm_model.specs.State.{State}
 use Rattle.mm_model.specs.Run.{run}
 use Rattle.mm_log.specs.Telling.{text_of_run}
-use Rattle.mm_text.proofs.Gathering.{gathers_then, gathers_same}
+use Rattle.mm_text.proofs.Appending.{appends_then, appends_same}
 use Rattle.mm_machine.specs.Machine.{state_of, StandsFor}
 use Rattle.mm_machine.proofs.Rounds.{after_cycles, one_item_more}
 use Rattle.mm_log.proofs.ToldRuns.{state_more, lines_more, no_state, no_lines}
@@ -33,6 +33,6 @@ loop-item-preserved g c =
       state =
           state_more first (state_of c.loop-item.machine) (state_of c.tell.new.machine) (take at items) (get_or items at 0) c.loop-item.invariant.state c.tell.ensures.state
           ∙ ap (run first) more;
-      lines = gathers_same (gathers_then c.loop-item.invariant.lines c.tell.ensures.line)
+      lines = appends_same (appends_then c.loop-item.invariant.lines c.tell.ensures.line)
           (lines_more g.T.Teller.of_cycle first (state_of c.loop-item.machine) (take at items) (get_or items at 0) c.loop-item.invariant.state ∙ ap (text_of_run g.T.Teller.of_cycle first) more);
     }

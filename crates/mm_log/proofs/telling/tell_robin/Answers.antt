@@ -2,7 +2,7 @@ use Rattle.std.proofs.Common.{◌≡◌, ◌+◌, ◌-◌, ◌++◌, ◌∷◌, 
 use Rattle.mm_model.specs.State.{State}
 use Rattle.mm_model.specs.Run.{next_running, robin_from}
 use Rattle.mm_log.specs.Telling.{text_of_run}
-use Rattle.mm_text.proofs.Gathering.{gathers_then, gathers_same}
+use Rattle.mm_text.proofs.Appending.{appends_then, appends_same}
 use Rattle.mm_machine.specs.Machine.{state_of, StandsFor}
 use Rattle.mm_machine.proofs.Rounds.{after_cycles, one_more, robin_step, robin_over, robin_ends, robin_done}
 use Rattle.mm_machine.proofs.Running.{next_is, none_is, zero_of}
@@ -34,7 +34,7 @@ loop-preserved g c =
     let first = state_of c.args.machine.now in
     let item = c.in-Some.item in
     let next : next_running c.loop.machine.core.rows c.loop.robin ≡ Some item =
-    next_is (state_of c.loop.machine) c.running.result c.loop.robin item c.loop.machine.kept c.running.ensures c.in-Some.ensures.next.0 in
+    next_is (state_of c.loop.machine) c.running.result c.loop.robin item c.loop.machine.valid c.running.ensures c.in-Some.ensures.next.0 in
     record {
       cycles = omega (arith, ap (λ (s : State). s.cycles) c.tell.ensures.state ∙ after_cycles (state_of c.loop.machine) item);
       goes = (
@@ -45,7 +45,7 @@ loop-preserved g c =
             subst P (one_more before front item) (c.tell.ensures.goes i (before ++ front) (goes i before h))
             ),
         state_more first (state_of c.loop.machine) (state_of c.tell.new.machine) front item state c.tell.ensures.state,
-        gathers_same (gathers_then lines c.tell.ensures.line) (lines_more g.T.Teller.of_cycle first (state_of c.loop.machine) front item state),
+        appends_same (appends_then lines c.tell.ensures.line) (lines_more g.T.Teller.of_cycle first (state_of c.loop.machine) front item state),
         robin_step (state_of c.loop.machine) (state_of c.tell.new.machine) c.loop.robin c.next.new.self item (c.args.count - c.loop.counter)
             (c.args.count - (c.loop.counter + 1)) front _ next (omega arith) c.tell.ensures.state c.in-Some.ensures.next.1 so_far,
       );
@@ -62,14 +62,14 @@ pub returns-after-loop-clause-lines : goal.returns-after-loop-clause-lines
 returns-after-loop-clause-lines g c =
     let (front, goes, state, lines, so_far) = c.loop.invariant.goes in
     let none = robin_done (state_of c.loop.machine) c.loop.robin (c.args.count - c.loop.counter) (omega arith) in
-    gathers_same lines (ap (text_of_run g.T.Teller.of_cycle (state_of c.args.machine.now)) (robin_over (state_of c.loop.machine) c.loop.robin (c.args.count - c.loop.counter) front _ none so_far))
+    appends_same lines (ap (text_of_run g.T.Teller.of_cycle (state_of c.args.machine.now)) (robin_over (state_of c.loop.machine) c.loop.robin (c.args.count - c.loop.counter) front _ none so_far))
 
 pub returns-in_default-clause-goes : goal.returns-in_default-clause-goes
 returns-in_default-clause-goes g c i before h =
     let (front, goes, state, lines, so_far) = c.loop.invariant.goes in
     let P : List ℕ → Type 0 = λ items. StandsFor i items c.loop.machine in
     let next : next_running c.loop.machine.core.rows c.loop.robin ≡ None =
-    none_is (state_of c.loop.machine) c.running.result c.loop.robin c.loop.machine.kept c.running.ensures (zero_of _ c.in_default.ensures.some.1) in
+    none_is (state_of c.loop.machine) c.running.result c.loop.robin c.loop.machine.valid c.running.ensures (zero_of _ c.in_default.ensures.some.1) in
     let none = robin_ends (state_of c.loop.machine) c.loop.robin (c.args.count - c.loop.counter) next in
     subst P (ap (λ (items : List ℕ). before ++ items) (robin_over (state_of c.loop.machine) c.loop.robin (c.args.count - c.loop.counter) front _ none so_far)) (goes i before h)
 
@@ -77,6 +77,6 @@ pub returns-in_default-clause-lines : goal.returns-in_default-clause-lines
 returns-in_default-clause-lines g c =
     let (front, goes, state, lines, so_far) = c.loop.invariant.goes in
     let next : next_running c.loop.machine.core.rows c.loop.robin ≡ None =
-    none_is (state_of c.loop.machine) c.running.result c.loop.robin c.loop.machine.kept c.running.ensures (zero_of _ c.in_default.ensures.some.1) in
+    none_is (state_of c.loop.machine) c.running.result c.loop.robin c.loop.machine.valid c.running.ensures (zero_of _ c.in_default.ensures.some.1) in
     let none = robin_ends (state_of c.loop.machine) c.loop.robin (c.args.count - c.loop.counter) next in
-    gathers_same lines (ap (text_of_run g.T.Teller.of_cycle (state_of c.args.machine.now)) (robin_over (state_of c.loop.machine) c.loop.robin (c.args.count - c.loop.counter) front _ none so_far))
+    appends_same lines (ap (text_of_run g.T.Teller.of_cycle (state_of c.args.machine.now)) (robin_over (state_of c.loop.machine) c.loop.robin (c.args.count - c.loop.counter) front _ none so_far))

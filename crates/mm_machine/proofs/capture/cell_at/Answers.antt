@@ -9,4 +9,4 @@ pub returns : goal.returns
 returns g c =
     c.unwrap_or.ensures
     ∙ ap (λ (o : Option Cell). unwrap_or o zero_cell)
-    (c.peek.ensures ∙ cell_there (g.M.Memory.meaning c.args.mem.now) c.args.number c.args.place c.requires.paged c.requires.mapped c.requires.place)
+    (c.peek.ensures ∙ cell_there (g.M.Memory.meaning c.args.mem.now) c.args.number c.args.cell_index c.requires.paged c.requires.mapped c.requires.cell_index)

@@ -6,25 +6,25 @@ use Rattle.mm_machine.specs.Capture.{cells_of}
 use Rattle.mm_mem.proofs.PagePlaces.{page_is}
 use Rattle.mm_machine.proofs.capture.page_copy.Goals as goal
 
-pub loop-place-preserved : goal.loop-place-preserved
-loop-place-preserved g c =
+pub loop-cell_index-preserved : goal.loop-cell_index-preserved
+loop-cell_index-preserved g c =
     let cells : List Cell = cells_of (g.M.Memory.meaning c.args.mem.now) c.args.number in
     let size = (page_is (g.M.Memory.meaning c.args.mem.now) c.args.number c.requires.paged c.requires.mapped).cells in
-    let within : c.loop-place.place < length cells = omega (arith, size) in
-    let more = take_more cells c.loop-place.place zero_cell within in
+    let within : c.loop-cell_index.cell_index < length cells = omega (arith, size) in
+    let more = take_more cells c.loop-cell_index.cell_index zero_cell within in
     let pushed = c.in_ok-push.ensures.items in
     let cell = c.cell_at.ensures in
-    let before = c.loop-place.invariant in
+    let before = c.loop-cell_index.invariant in
     cc
 
 pub of-requires : goal.of-requires
 of-requires g c =
     let page = page_is (g.M.Memory.meaning c.args.mem.now) c.args.number c.requires.paged c.requires.mapped in
-    let all = c.loop-place.invariant ∙ take_all c.loop-place.place (cells_of (g.M.Memory.meaning c.args.mem.now) c.args.number) (let size = page.cells in omega arith) in
+    let all = c.loop-cell_index.invariant ∙ take_all c.loop-cell_index.cell_index (cells_of (g.M.Memory.meaning c.args.mem.now) c.args.number) (let size = page.cells in omega arith) in
     subst (λ (cells : List Cell). IsPage (c.args.number, cells)) (sym all) page
 
 pub returns : goal.returns
 returns g c =
     let page = page_is (g.M.Memory.meaning c.args.mem.now) c.args.number c.requires.paged c.requires.mapped in
-    let all = c.loop-place.invariant ∙ take_all c.loop-place.place (cells_of (g.M.Memory.meaning c.args.mem.now) c.args.number) (let size = page.cells in omega arith) in
+    let all = c.loop-cell_index.invariant ∙ take_all c.loop-cell_index.cell_index (cells_of (g.M.Memory.meaning c.args.mem.now) c.args.number) (let size = page.cells in omega arith) in
     c.of.ensures ∙ ap (λ (cells : List Cell). let pair : ℕ × List Cell = (c.args.number, cells) in pair) all

@@ -2,7 +2,7 @@ use Rattle.std.proofs.Common.{◌≡◌, ◌<◌, length, get_or, slice_get, Som
 use Rattle.std.specs.List.{flat_map, enumerate_from}
 use Rattle.std.proofs.lemmas.List.{length-map, take_all}
 use Rattle.std.proofs.lemmas.Option.{slice_get-get_or, get_or_from_slice_get}
-use Rattle.mm_text.proofs.Gathering.{gathers_item, gathers_same, gathered_writes}
+use Rattle.mm_text.proofs.Appending.{appends_item, appends_same, buffered_writes}
 use Rattle.mm_net.specs.Nets.{Carried, nothing_carried}
 use Rattle.mm_net.specs.Net.{net_of}
 use Rattle.mm_net.specs.Texts.{link_line}
@@ -18,7 +18,7 @@ loop-link-preserved g c =
     let inside : l < length links = omega (arith, c.link_count-link-end.ensures.count, c.loop-link-test.true, length-map wires link_by, length-map wires carried_by) in
     let carried : Carried = get_or links l nothing_carried in
     let is : slice_get links l ≡ Some carried = slice_get-get_or links l nothing_carried inside in
-    gathers_item (λ x. link_line x.0 x.1) (enumerate_from 0 links) l (l, carried)
+    appends_item (λ x. link_line x.0 x.1) (enumerate_from 0 links) l (l, carried)
     (omega (arith, inside, places_count links))
     (placed links l carried inside (sym (get_or_from_slice_get links l carried carried is)))
     c.loop-link.invariant (c.put_link.ensures carried is)
@@ -27,8 +27,8 @@ pub returns : goal.returns
 returns g c =
     let wires = c.args.net.now.wires.items in
     let links = (net_of c.args.net.now).links in
-    gathered_writes c.new-text.ensures
-    (gathers_same c.loop-link.invariant
+    buffered_writes c.new-text.ensures
+    (appends_same c.loop-link.invariant
     (ap (flat_map (λ x. link_line x.0 x.1)) (take_all c.loop-link.link (enumerate_from 0 links)
     (omega (arith, c.link_count-link-end.ensures.count, c.loop-link-test.false, length-map wires link_by, length-map wires carried_by, places_count links)))))
     c.finish.ensures

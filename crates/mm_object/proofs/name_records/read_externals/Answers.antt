@@ -1,6 +1,6 @@
 use Rattle.std.proofs.Common.{◌≡◌, ℕ, ◌+◌, List, refl, ap, subst, ◌∙◌, arith}
 use Rattle.std.proofs.lemmas.Result.{err_from_is_err_and}
-use Rattle.mm_format.specs.Formats.Outcome.{Got}
+use Rattle.mm_format.specs.Formats.Parsed.{Got}
 use Rattle.mm_format.specs.Reading.{FailsOr}
 use Rattle.mm_format.proofs.Loops.{times_more, times_stop, times_read, fails_so}
 use Rattle.mm_object.specs.Answers.{number_of}

@@ -3,7 +3,7 @@ use Rattle.std.proofs.Common.{get_or, sym, ap, subst, ◌∙◌, arith}
 use Rattle.std.proofs.lemmas.List.{drop_more, drop_all}
 use Rattle.std.proofs.lemmas.Result.{err_from_is_err_and}
 use Rattle.mm_format.specs.Formats.{answer, first_late}
-use Rattle.mm_format.specs.Formats.Outcome.{Got, Bad}
+use Rattle.mm_format.specs.Formats.Parsed.{Got, Bad}
 use Rattle.mm_format.specs.Reading.{FailsOr}
 use Rattle.mm_format.proofs.Loops.{late_stop}
 use Rattle.mm_object.specs.declared.target.Target.{Target}

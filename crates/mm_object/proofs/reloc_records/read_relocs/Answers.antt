@@ -1,6 +1,6 @@
 use Rattle.std.proofs.Common.{ℕ, ◌+◌, refl, ◌∙◌}
 use Rattle.mm_format.proofs.Loops.{times_runs, runs_told}
-use Rattle.mm_object.specs.declared.reloc_records.RelocRun.{RelocRun}
+use Rattle.mm_object.specs.declared.reloc_records.RelocRecords.{RelocRecords}
 use Rattle.mm_object.specs.Format.{reloc_row}
 use Rattle.mm_object.specs.Objects.{place_of}
 use Rattle.mm_object.proofs.reloc_records.read_relocs.Goals as goal
@@ -9,11 +9,11 @@ pub returns : goal.returns
 returns c =
     let segments = c.args.segments in
     let externals = c.args.externals in
-    let to : ℕ → RelocRun = λ least. record { segments = segments; externals = externals; least = least } in
+    let to : ℕ → RelocRecords = λ least. record { segments = segments; externals = externals; least = least } in
     let bytes = c.args.reader.now.bytes.now in
     let at = c.args.reader.now.at in
     let same = times_runs (reloc_row segments.now externals) (λ _ r. place_of r + 1) c.args.count 0 bytes at
     ∙ runs_told to (λ s. (reloc_row s.segments.now s.externals s.least).read) (λ _ r. place_of r + 1)
     (λ s r. record { segments = s.segments; externals = s.externals; least = place_of r + 1 }) (λ s a. refl) c.args.count 0
     bytes at in
-    record { read = rw same (rw c.from.ensures at c.read_run.ensures.read) }
+    record { read = rw same (rw c.from.ensures at c.read_records.ensures.read) }

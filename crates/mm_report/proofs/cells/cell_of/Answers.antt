@@ -11,7 +11,7 @@ use Rattle.mm_report.proofs.cells.cell_of.Goals as goal
 pub returns-in-Some : goal.returns-in-Some
 returns-in-Some c =
     let P : Option ℕ → Type 0 = λ o. MatchOption o (page_at (contents c.args.pages.now) c.args.number ≡ None) (IsAt c.args.number c.args.pages.now) in
-    let here : IsAt c.args.number c.args.pages.now c.in-Some.at = subst P c.in-Some.is c.requires.place in
+    let here : IsAt c.args.number c.args.pages.now c.in-Some.at = subst P c.in-Some.is c.requires.page_index in
     let there : cells_of (contents c.args.pages.now) c.args.number ≡ c.index-pages-at.result.1 =
     cells_here c.args.pages.now c.args.number c.in-Some.at c.index-pages-at.result c.requires.rising here c.index-pages-at.is in
     c.index-cells-index.is
@@ -21,5 +21,5 @@ returns-in-Some c =
 pub returns-in-None : goal.returns-in-None
 returns-in-None c =
     let P : Option ℕ → Type 0 = λ o. MatchOption o (page_at (contents c.args.pages.now) c.args.number ≡ None) (IsAt c.args.number c.args.pages.now) in
-    let nowhere : page_at (contents c.args.pages.now) c.args.number ≡ None = subst P c.in-None.is c.requires.place in
+    let nowhere : page_at (contents c.args.pages.now) c.args.number ≡ None = subst P c.in-None.is c.requires.page_index in
     zero_there c.args.index c.requires.index ∙ ap (λ (cells : List Cell). slice_index_or cells c.args.index zero_cell) (sym (cells_nowhere c.args.pages.now c.args.number nowhere))

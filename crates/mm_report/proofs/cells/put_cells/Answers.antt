@@ -3,7 +3,7 @@ use Rattle.std.proofs.lemmas.List.{take_all}
 use Rattle.std.specs.List.{flat_map}
 use Rattle.mm_word.specs.declared.word.Cell.{Cell}
 use Rattle.mm_model.specs.Memory.{Memory, zero_page}
-use Rattle.mm_text.proofs.Gathering.{gathers_more, gathers_same}
+use Rattle.mm_text.proofs.Appending.{appends_more, appends_same}
 use Rattle.mm_report.specs.Changes.{contents, lines_of}
 use Rattle.mm_mem.proofs.PagePlaces.{place_number, place_mapped}
 use Rattle.mm_report.proofs.CellPlaces.{page_changes, changes_here, lines_of_pages}
@@ -19,11 +19,11 @@ pub loop-i-preserved : goal.loop-i-preserved
 loop-i-preserved g c =
     let now : Memory = g.M.Memory.meaning c.args.mem.now in
     let line : ℕ × List Cell → List ℕ = λ page. lines_of (page_changes (contents c.args.pages.now) page) in
-    gathers_more line now.pages c.loop-i.i (0, zero_page) (omega arith) c.loop-i.invariant
-    (gathers_same c.put_page_cells.ensures (changes_here now (contents c.args.pages.now) c.loop-i.i c.page_at-number.result (0, zero_page) c.requires.paged c.page_at-number.ensures))
+    appends_more line now.pages c.loop-i.i (0, zero_page) (omega arith) c.loop-i.invariant
+    (appends_same c.put_page_cells.ensures (changes_here now (contents c.args.pages.now) c.loop-i.i c.page_at-number.result (0, zero_page) c.requires.paged c.page_at-number.ensures))
 
 pub returns : goal.returns
 returns g c =
     let now : Memory = g.M.Memory.meaning c.args.mem.now in
     let line : ℕ × List Cell → List ℕ = λ page. lines_of (page_changes (contents c.args.pages.now) page) in
-    gathers_same c.loop-i.invariant (ap (flat_map line) (take_all c.loop-i.i now.pages (omega arith)) ∙ lines_of_pages (contents c.args.pages.now) now.pages)
+    appends_same c.loop-i.invariant (ap (flat_map line) (take_all c.loop-i.i now.pages (omega arith)) ∙ lines_of_pages (contents c.args.pages.now) now.pages)

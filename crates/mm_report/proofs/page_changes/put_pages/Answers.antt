@@ -2,7 +2,7 @@ use Rattle.std.proofs.Common.{◌≡◌, ◌∙◌, ◌++◌, ◌+◌, ◌<◌, 
 use Rattle.mm_word.specs.declared.word.Cell.{Cell}
 use Rattle.mm_model.specs.Report.{page_change}
 use Rattle.mm_model.specs.Memory.{Memory, is_mapped}
-use Rattle.mm_text.proofs.Gathering.{gathers_then, gathers_same}
+use Rattle.mm_text.proofs.Appending.{appends_then, appends_same}
 use Rattle.mm_report.specs.Changes.{contents}
 use Rattle.mm_report.specs.Pages.{numbers, first, lesser, behind}
 use Rattle.mm_report.proofs.Unions.{lines_of, change_at, all_lines, no_lines, one_line, shorter, small_number}
@@ -48,7 +48,7 @@ loop-number-preserved g c =
     ∙ ap (lines_of now was (behind n xs)) c.had_behind-j.ensures.rest in
     record {
       text = w.text ++ change_at now was n;
-      gathered = gathers_then w.gathered (gathers_same c.put_page_change.ensures line);
+      gathered = appends_then w.gathered (appends_same c.put_page_change.ensures line);
       rest =
           ap (λ (text : List ℕ). (w.text ++ change_at now was n) ++ text) left
           ∙ append_assoc w.text (change_at now was n) (lines_of now was (behind n xs) (behind n ys))
@@ -79,4 +79,4 @@ returns g c =
     let ys : List ℕ = drop c.loop-number.j (numbers was.pages) in
     let w = c.loop-number.invariant in
     let none : lesser (first xs) (first ys) ≡ None = none_left xs ys c.mapped_at.result c.had_at.result c.lesser.result c.mapped_at.ensures.number c.had_at.ensures c.lesser.ensures c.in_default.is in
-    gathers_same w.gathered (sym (append-nil w.text) ∙ ap (λ (text : List ℕ). w.text ++ text) (sym (no_lines now was xs ys none)) ∙ w.rest)
+    appends_same w.gathered (sym (append-nil w.text) ∙ ap (λ (text : List ℕ). w.text ++ text) (sym (no_lines now was xs ys none)) ∙ w.rest)

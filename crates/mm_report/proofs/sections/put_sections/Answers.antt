@@ -3,7 +3,7 @@ use Rattle.std.proofs.lemmas.List.{take_all}
 use Rattle.std.proofs.lemmas.List.FromFn.{get_or-range_with_len}
 use Rattle.std.specs.List.{flat_map, list_any, range_with_len}
 use Rattle.mm_model.specs.Report.{is_of, section}
-use Rattle.mm_text.proofs.Gathering.{gathers_item, gathers_same}
+use Rattle.mm_text.proofs.Appending.{appends_item, appends_same}
 use Rattle.mm_report.specs.Groups.{group_text}
 use Rattle.mm_report.proofs.Members.{passed_texts}
 use Rattle.mm_report.proofs.sections.put_sections.Goals as goal
@@ -13,10 +13,10 @@ loop-group-preserved g c =
     let n = c.loop-group.group in
     let inside : n < 64 = omega arith in
     let same : n ≡ get_or (range_with_len 0 64) n n = omega (arith, get_or-range_with_len 0 64 n n inside) in
-    gathers_item (group_text c.args.m.now.core) (range_with_len 0 64) n n inside same c.loop-group.invariant c.put_group_text.ensures
+    appends_item (group_text c.args.m.now.core) (range_with_len 0 64) n n inside same c.loop-group.invariant c.put_group_text.ensures
 
 pub returns : goal.returns
 returns g c =
-    gathers_same c.loop-group.invariant
+    appends_same c.loop-group.invariant
     (ap (flat_map (group_text c.args.m.now.core)) (take_all c.loop-group.group (range_with_len 0 64) (omega arith))
     ∙ passed_texts (λ k. list_any (is_of k) c.args.m.now.core.rows) (section c.args.m.now.core) (range_with_len 0 64))

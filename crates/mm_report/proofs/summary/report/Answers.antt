@@ -6,7 +6,7 @@ use Rattle.std.specs.FinMap.{is_sorted}
 use Rattle.mm_word.specs.declared.word.Cell.{Cell}
 use Rattle.mm_model.specs.Memory.{IsPage}
 use Rattle.mm_machine.specs.Machine.{state_of}
-use Rattle.mm_text.proofs.Gathering.{gathers_then, gathers_same, gathered_writes}
+use Rattle.mm_text.proofs.Appending.{appends_then, appends_same, buffered_writes}
 use Rattle.mm_report.proofs.ReportText.{report_text}
 use Rattle.mm_report.proofs.summary.report.Goals as goal
 
@@ -19,9 +19,9 @@ put_pages-requires-clause-whole g c = subst (λ (ps : List (ℕ × List Cell)). 
 pub returns-clause-text : goal.returns-clause-text
 returns-clause-text g c = (
   c.counts.result,
-  gathered_writes c.new-text.ensures
-      (gathers_same
-      (gathers_then (gathers_then (gathers_then (gathers_then c.put_cycles.ensures c.put_sections.ensures) c.put_pages.ensures) c.put_cells.ensures) c.put_counts.ensures)
+  buffered_writes c.new-text.ensures
+      (appends_same
+      (appends_then (appends_then (appends_then (appends_then c.put_cycles.ensures c.put_sections.ensures) c.put_pages.ensures) c.put_cells.ensures) c.put_counts.ensures)
       (report_text (state_of c.args.m.now) c.args.img.now c.counts.result c.counts.result c.cycles.result (g.M.Memory.meaning c.memory-mem.result.now) c.pages-pages.result.now
       c.cycles.ensures c.memory-mem.ensures.memory c.pages-pages.ensures.pages refl))
       c.finish.ensures,
@@ -29,9 +29,9 @@ returns-clause-text g c = (
 
 pub returns-clause-counts : goal.returns-clause-counts
 returns-clause-counts g c us stands =
-    gathered_writes c.new-text.ensures
-    (gathers_same
-    (gathers_then (gathers_then (gathers_then (gathers_then c.put_cycles.ensures c.put_sections.ensures) c.put_pages.ensures) c.put_cells.ensures) c.put_counts.ensures)
+    buffered_writes c.new-text.ensures
+    (appends_same
+    (appends_then (appends_then (appends_then (appends_then c.put_cycles.ensures c.put_sections.ensures) c.put_pages.ensures) c.put_cells.ensures) c.put_counts.ensures)
     (report_text (state_of c.args.m.now) c.args.img.now (g.M.Inspect.tells us) c.counts.result c.cycles.result (g.M.Memory.meaning c.memory-mem.result.now) c.pages-pages.result.now
     c.cycles.ensures c.memory-mem.ensures.memory c.pages-pages.ensures.pages (c.counts.ensures us (c.memory-mem.ensures.stands us stands))))
     c.finish.ensures

@@ -1,6 +1,6 @@
 use Rattle.std.proofs.Common.{◌≡◌, ◌*◌, ◌<◌, List, length, get_or, subst}
 use Rattle.mm_word.specs.declared.word.Cell.{Cell}
-use Rattle.mm_text.proofs.Gathering.{gathers_then, gathers_same}
+use Rattle.mm_text.proofs.Appending.{appends_then, appends_same}
 use Rattle.mm_sweep.proofs.HolderLines.{cells_more}
 use Rattle.mm_sweep.proofs.holding.put_cells.Goals as goal
 
@@ -11,4 +11,4 @@ loop-index-preserved g c =
     let n = c.loop-index.index in
     let lt : n < length cells = subst (λ (l : List Cell). n < length l) c.cells-cell-items.ensures.cells c.loop-index-test.true in
     let is : cell ≡ get_or cells n cell = subst (λ (l : List Cell). cell ≡ get_or l n cell) c.cells-cell-items.ensures.cells c.cell-item.is in
-    gathers_same (gathers_then c.loop-index.invariant c.put_holder.ensures) (cells_more c.args.range.now (c.number-start.result * 4096) n cells cell lt is)
+    appends_same (appends_then c.loop-index.invariant c.put_holder.ensures) (cells_more c.args.range.now (c.number-start.result * 4096) n cells cell lt is)

@@ -1,7 +1,7 @@
 use Rattle.std.proofs.Common.{◌≡◌, ◌∙◌, ℕ, ◌<◌, List, length, get_or, sym, ap, subst, arith}
 use Rattle.mm_word.specs.declared.word.Word.{Word}
 use Rattle.mm_model.specs.Slot.{Slot}
-use Rattle.mm_text.proofs.Gathering.{gathers_then, gathers_same}
+use Rattle.mm_text.proofs.Appending.{appends_then, appends_same}
 use Rattle.mm_sweep.specs.Holders.{holder_line, register_place}
 use Rattle.mm_sweep.proofs.HolderLines.{registers_more}
 use Rattle.mm_sweep.proofs.holding.put_registers.Goals as goal
@@ -17,5 +17,5 @@ loop-number-preserved g c =
     let lt : n < length slot.regs = omega arith in
     let is : word ≡ get_or slot.regs n word = subst (λ (l : List Word). word ≡ get_or l n word) regs c.word-item.is in
     let line : ℕ → Word → List ℕ = λ number x. holder_line range (register_place number n) x in
-    gathers_same (gathers_then c.loop-number.invariant (gathers_same c.put_holder.ensures (ap (line c.slot.inside.number) (sym c.word-item.is) ∙ ap (λ (s : Slot). line s.number word) c.slot.view_is)))
+    appends_same (appends_then c.loop-number.invariant (appends_same c.put_holder.ensures (ap (line c.slot.inside.number) (sym c.word-item.is) ∙ ap (λ (s : Slot). line s.number word) c.slot.view_is)))
     (registers_more range slot.number n slot.regs word lt is)

@@ -1,7 +1,7 @@
 use Rattle.mm_sweep.specs.Holders.{slot_holders}
-use Rattle.mm_text.proofs.Gathering.{gathers_item}
+use Rattle.mm_text.proofs.Appending.{appends_item}
 use Rattle.mm_sweep.proofs.holding.put_slots.Goals as goal
 
 pub loop-slot-preserved : goal.loop-slot-preserved
 loop-slot-preserved g c =
-    gathers_item (slot_holders c.args.range.now) c.args.slots.now c.loop-slot.slot-index c.slot-item.result c.loop-slot-test.true c.slot-item.is c.loop-slot.invariant c.put_slot.ensures
+    appends_item (slot_holders c.args.range.now) c.args.slots.now c.loop-slot.slot-index c.slot-item.result c.loop-slot-test.true c.slot-item.is c.loop-slot.invariant c.put_slot.ensures

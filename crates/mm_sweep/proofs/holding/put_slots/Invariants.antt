@@ -1,8 +1,8 @@
 use Rattle.std.proofs.Common.{take}
 use Rattle.std.specs.List.{flat_map}
-use Rattle.mm_text.specs.Gathers.{Gathers}
+use Rattle.mm_text.specs.Appends.{Appends}
 use Rattle.mm_sweep.specs.Holders.{slot_holders}
 use Rattle.mm_sweep.proofs.holding.put_slots.Given as goal
 
 abbrev pub invariant-loop-slot : goal.invariant-loop-slot
-invariant-loop-slot g l = Gathers g.O.Sink.taken g.O.Sink.faults l.initial.out l.out l.initial.text l.text (flat_map (slot_holders l.range) (take l.slot-index l.slots))
+invariant-loop-slot g l = Appends g.O.Sink.taken g.O.Sink.faults l.initial.out l.out l.initial.text l.text (flat_map (slot_holders l.range) (take l.slot-index l.slots))

@@ -1,6 +1,6 @@
 use Rattle.std.proofs.Common.{◌++◌, ◌∙◌, ap, append_assoc, length, ◌<◌, rules}
 use Rattle.mm_model.specs.Lines.{output_lines, output_row}
-use Rattle.mm_text.proofs.Gathering.{gathers_then}
+use Rattle.mm_text.proofs.Appending.{appends_then}
 use Rattle.mm_text.proofs.OutputRows.{output_lines-step}
 use Rattle.mm_text.proofs.output.put_output.Goals as goal
 
@@ -14,6 +14,6 @@ loop-rest-preserved g c =
     let step = output_lines-step rest row others _ some c.min.ensures c.split_at.ensures.front c.split_at.ensures.back in
     record {
       done = before.done ++ output_row row;
-      gathers = gathers_then before.gathers c.put_row.ensures;
+      appends = appends_then before.appends c.put_row.ensures;
       left = append_assoc before.done (output_row row) (output_lines others) ∙ ap (λ text. before.done ++ text) step ∙ before.left;
     }

@@ -1,5 +1,5 @@
 use Rattle.std.proofs.Common.{◌≡◌, ℕ, List, ◌++◌, length}
-use Rattle.mm_text.specs.Gathers.{Gathers}
+use Rattle.mm_text.specs.Appends.{Appends}
 use Rattle.mm_model.specs.Lines.{output_lines}
 use Rattle.mm_text.proofs.output.put_output.Given as goal
 
@@ -7,7 +7,7 @@ use Rattle.mm_text.proofs.output.put_output.Given as goal
 abbrev pub invariant-loop-rest : goal.invariant-loop-rest
 invariant-loop-rest g l = record {
   done : List ℕ;
-  gathers : Gathers g.O.Sink.taken g.O.Sink.faults l.initial.out l.out l.initial.text l.text done;
+  appends : Appends g.O.Sink.taken g.O.Sink.faults l.initial.out l.out l.initial.text l.text done;
   left : done ++ output_lines l.rest ≡ output_lines l.bytes;
 }
 

@@ -1,4 +1,4 @@
-use Rattle.mm_thread.proofs.Placing.{IsIndexBelow}
+use Rattle.mm_thread.proofs.RowIndex.{IsIndexBelow}
 use Rattle.mm_thread.proofs.build.index_of.Given as goal
 
 abbrev pub invariant-loop-i : goal.invariant-loop-i

@@ -2,9 +2,9 @@ use Rattle.std.proofs.Common.{sym, ap, ◌∙◌}
 use Rattle.mm_model.specs.Slot.{Slot}
 use Rattle.mm_model.specs.State.{slot_at}
 use Rattle.mm_model.specs.Turn.{is_running}
-use Rattle.mm_thread.specs.Places.{slot_in}
+use Rattle.mm_thread.specs.SlotIndices.{slot_in}
 use Rattle.mm_thread.proofs.Index.{slot_found}
-use Rattle.mm_thread.proofs.Placing.{apart_in}
+use Rattle.mm_thread.proofs.RowIndex.{apart_in}
 use Rattle.mm_thread.proofs.Items.{nothing_gives, idles, can_turn, turn-none, turn-running, turn-resting}
 use Rattle.mm_thread.proofs.item.take_item.Goals as goal
 
@@ -13,7 +13,7 @@ start-requires-clause-can g c =
     let a = c.args in
     let r = c.requires in
     let runs = ap (λ (x : Slot). is_running x.state) (sym c.slot.ensures) ∙ sym c.is_running.ensures ∙ c.if-is_running.true in
-    can_turn a.tables.now r.whole r.turns c.in-Some.place c.in-Some.ensures.within runs
+    can_turn a.tables.now r.whole r.turns c.in-Some.slot_index c.in-Some.ensures.within runs
 
 pub returns-in-None : goal.returns-in-None
 returns-in-None g c =
@@ -27,7 +27,7 @@ pub returns-then-is_running : goal.returns-then-is_running
 returns-then-is_running g c =
     let a = c.args in
     let t = a.tables.now in
-    let p = c.in-Some.place in
+    let p = c.in-Some.slot_index in
     let m = g.M.Memory.meaning a.mem.now in
     let found = ap (slot_at t) (sym (c.in-Some.ensures.number ∙ c.from.ensures)) ∙ slot_found t (apart_in t c.requires.whole) p c.in-Some.ensures.within in
     let runs = ap (λ (x : Slot). is_running x.state) (sym c.slot.ensures) ∙ sym c.is_running.ensures ∙ c.if-is_running.true in
@@ -37,9 +37,9 @@ pub returns-else-is_running : goal.returns-else-is_running
 returns-else-is_running g c =
     let a = c.args in
     let t = a.tables.now in
-    let p = c.in-Some.place in
+    let p = c.in-Some.slot_index in
     let m = g.M.Memory.meaning a.mem.now in
     let found = ap (slot_at t) (sym (c.in-Some.ensures.number ∙ c.from.ensures)) ∙ slot_found t (apart_in t c.requires.whole) p c.in-Some.ensures.within in
     let rests = ap (λ (x : Slot). is_running x.state) (sym c.slot.ensures) ∙ sym c.is_running.ensures ∙ c.if-is_running.false in
     rw (turn-resting t m a.item (slot_in t p) found rests) (nothing_gives g.M.Memory.meaning g.M.Memory.uses
-    g.M.Memory.stands _ a.mem.now t c.tell.new.step (idles t m a.item c.tell.new.step c.tell.ensures))
+    g.M.Memory.stands _ a.mem.now t c.write_step.new.step (idles t m a.item c.write_step.new.step c.write_step.ensures))

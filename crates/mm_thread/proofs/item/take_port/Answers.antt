@@ -1,27 +1,27 @@
 use Rattle.std.proofs.Common.{◌≡◌, ap, sym, ◌∙◌}
 use Rattle.mm_model.specs.Slot.{Slot}
 use Rattle.mm_thread.proofs.Cores.{registers_small}
-use Rattle.mm_thread.proofs.Placing.{apart_in}
+use Rattle.mm_thread.proofs.RowIndex.{apart_in}
 use Rattle.mm_thread.proofs.Items.{port_idles, port_delivers, arrival, step_of}
 use Rattle.mm_thread.proofs.item.take_port.Goals as goal
 use Rattle.mm_thread.proofs.item.take_port.Goals.{in-Some-deliver, in-None}
 
 pub returns-in_default : goal.returns-in_default
-returns-in_default c = λ m. port_idles c.args.tables.now m c.args.item c.tell.new.step c.in_default.ensures.none c.tell.ensures
+returns-in_default c = λ m. port_idles c.args.tables.now m c.args.item c.write_step.new.step c.in_default.ensures.none c.write_step.ensures
 
 pub deliver-requires-clause-registers : goal.deliver-requires-clause-registers
 deliver-requires-clause-registers c =
     let t = c.args.tables.now in
-    registers_small t c.requires.whole c.in-Some.place c.in-Some.ensures.within
+    registers_small t c.requires.whole c.in-Some.slot_index c.in-Some.ensures.within
 
 pub returns : goal.returns
 returns c = λ m.
     let t = c.args.tables.now in
-    let p = c.in-Some.place in
+    let p = c.in-Some.slot_index in
     let number = ap (λ (x : Slot). x.number) (c.behind-tables.view_is ∙ c.slot.ensures) in
-    let told : c.match-deliver.tick ≡ arrival c.deliver.result = elim c.match-deliver.branch [
+    let arrived : c.match-deliver.tick ≡ arrival c.deliver.result = elim c.match-deliver.branch [
       | in-Some-deliver w ↦ w.tick-is ∙ ap arrival (sym w.in-Some-deliver.is)
       | in-None w ↦ w.tick-is ∙ ap arrival (sym w.in-None.is)
     ] in
-    port_delivers t (apart_in t c.requires.whole) p c.in-Some.ensures.within m c.args.item c.deliver.new.self c.tell-2.new.step c.match-deliver.tick
-    c.in-Some.ensures.port c.deliver.ensures.slot (told ∙ ap arrival c.deliver.ensures.register) (c.tell-2.ensures ∙ ap (step_of c.match-deliver.tick) number)
+    port_delivers t (apart_in t c.requires.whole) p c.in-Some.ensures.within m c.args.item c.deliver.new.self c.write_step-2.new.step c.match-deliver.tick
+    c.in-Some.ensures.port c.deliver.ensures.slot (arrived ∙ ap arrival c.deliver.ensures.register) (c.write_step-2.ensures ∙ ap (step_of c.match-deliver.tick) number)

@@ -7,8 +7,8 @@ use Rattle.mm_model.specs.Effect.{at_distance}
 use Rattle.mm_thread.proofs.Pointers.{lea_result-code}
 use Rattle.mm_thread.proofs.local_ops.at_distance.Goals as goal
 
-pub returns-clause-place : goal.returns-clause-place
-returns-clause-place c =
+pub returns-clause-pointer : goal.returns-clause-pointer
+returns-clause-pointer c =
     let fits : FitsSigned w32 c.args.imm = search rules in
     let same : c.from.result ≡ c.args.imm = c.from.ensures ∙ to_z-of_z w32 c.args.imm fits in
     let wide : FitsSigned w64 c.from.result = search rules in

@@ -9,4 +9,4 @@ pub returns-in-Some-next : goal.returns-in-Some-next
 unfolding plain slot_after
 returns-in-Some-next c =
     let behind = ap (λ (s : Slot). next_result s.ip) (sym c.slot.view_is) ∙ sym c.next.ensures.value ∙ c.in-Some-next.is in
-    rw (sym c.entered.ensures.place ∙ c.in-Some.is, behind) (record { alone = refl; slot = c.link.ensures; told = ap Ok c.entry_of.ensures })
+    rw (sym c.entered.ensures.pointer ∙ c.in-Some.is, behind) (record { alone = refl; slot = c.link.ensures; ended = ap Ok c.entry_of.ensures })

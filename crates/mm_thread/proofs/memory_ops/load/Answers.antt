@@ -4,7 +4,7 @@ use Rattle.std.specs.Int.{w32}
 use Rattle.std.proofs.lemmas.Int.{to_z-of_z}
 use Rattle.mm_mem.proofs.Counted.{one}
 use Rattle.mm_word.specs.declared.cause.Cause.{Cause}
-use Rattle.mm_word.specs.Access.{Touch}
+use Rattle.mm_word.specs.Access.{AccessValue}
 use Rattle.mm_isa.specs.declared.instr.Instr.TheVariants.{Ld}
 use Rattle.mm_model.specs.Memory.{Memory, cell_at}
 use Rattle.mm_model.specs.Operands.{lacks}
@@ -13,35 +13,35 @@ use Rattle.mm_model.specs.Ask.Ask.{Refuse, Reach}
 use Rattle.mm_model.specs.Effect.{effect}
 use Rattle.mm_model.specs.Turn.{reply}
 use Rattle.mm_model.specs.Uses.{takes_none}
-use Rattle.mm_thread.specs.Places.{slot_in}
-use Rattle.mm_thread.specs.Execution.{core_loaded, outcome_loaded}
-use Rattle.mm_thread.specs.declared.outcome.Retired.{Retired}
+use Rattle.mm_thread.specs.SlotIndices.{slot_in}
+use Rattle.mm_thread.specs.Execution.{core_loaded, completion_loaded}
+use Rattle.mm_thread.specs.declared.completion.Retired.{Retired}
 use Rattle.mm_mem.specs.Answers.{loaded}
 use Rattle.mm_thread.proofs.Cores.{pending_room}
 use Rattle.mm_thread.proofs.Accesses.{executes_by, load_leaves, free_destination, leaves_all}
-use Rattle.mm_thread.proofs.Placing.{apart_in}
+use Rattle.mm_thread.proofs.RowIndex.{apart_in}
 use Rattle.mm_thread.proofs.memory_ops.load.Goals as goal
 
-pub receive-outcome-requires-clause-room : goal.receive-outcome-requires-clause-room
-receive-outcome-requires-clause-room g c = λ split.
+pub receive-completion-requires-clause-room : goal.receive-completion-requires-clause-room
+receive-completion-requires-clause-room g c = λ split.
     let a = c.args in
     let t = a.tables.now in
     let r = c.requires.can in
-    let s = slot_in t a.place in
+    let s = slot_in t a.slot_index in
     let free : lacks (Ld a.rd a.at.base a.at.pre a.at.post a.at.offset) s ≡ false = ap (λ (b : Bool). b && lacks (Ld a.rd a.at.base a.at.pre a.at.post a.at.offset) s) (sym split) ∙ c.requires.free in
-    pending_room t r.whole a.place r.within a.rd (search rules) (free_destination s a.rd a.at.base a.at.pre a.at.post a.at.offset free)
+    pending_room t r.whole a.slot_index r.within a.rd (search rules) (free_destination s a.rd a.at.base a.at.pre a.at.post a.at.offset free)
 
 pub returns-in-Err : goal.returns-in-Err
 unfolding ask effect reply
 returns-in-Err g c =
     let a = c.args in
     let t = a.tables.now in
-    let s = slot_in t a.place in
+    let s = slot_in t a.slot_index in
     let fits : FitsSigned w32 a.at.offset = search rules in
     let checked = rw (to_z-of_z w32 a.at.offset fits, c.load_kind.ensures, c.slot.ensures) at c.in-Err.ensures.value in
     executes_by g.M.Memory.meaning g.M.Memory.uses g.M.Memory.stands t s (Ld a.rd a.at.base a.at.pre a.at.post a.at.offset) a.mem.now a.mem.now t c.untouched.result (Refuse c.in-Err.cause)
-    (ap (λ (x : Result Touch Cause). reaching x a.at.pre) (sym checked))
-    (record { core_is = refl; memory_is = refl; outcome_is = ap (λ (x : Retired). x.outcome) c.untouched.ensures; stays = λ e. refl })
+    (ap (λ (x : Result AccessValue Cause). reaching x a.at.pre) (sym checked))
+    (record { core_is = refl; memory_is = refl; completion_is = ap (λ (x : Retired). x.completion) c.untouched.ensures; stays = λ e. refl })
     (ap (λ (x : Retired). x.touched) c.untouched.ensures) (takes_none a.mem.now) (omega arith)
 
 pub returns-in-Ok : goal.returns-in-Ok
@@ -50,21 +50,21 @@ returns-in-Ok g c =
     let a = c.args in
     let t = a.tables.now in
     let r = c.requires.can in
-    let s = slot_in t a.place in
+    let s = slot_in t a.slot_index in
     let m : Memory = g.M.Memory.meaning a.mem.now in
-    let access : Touch = c.in-Ok.access in
+    let access : AccessValue = c.in-Ok.access in
     let fits : FitsSigned w32 a.at.offset = search rules in
     let checked = rw (to_z-of_z w32 a.at.offset fits, c.load_kind.ensures, c.slot.ensures) at c.in-Ok.ensures.value in
     let answer = c.load-loaded.ensures.answer in
     executes_by g.M.Memory.meaning g.M.Memory.uses g.M.Memory.stands t s
-    (Ld a.rd a.at.base a.at.pre a.at.post a.at.offset) a.mem.now c.load-loaded.new.self c.receive-outcome.new.tables
+    (Ld a.rd a.at.base a.at.pre a.at.post a.at.offset) a.mem.now c.load-loaded.new.self c.receive-completion.new.tables
     c.touching.result (Reach access a.at.pre)
-    (ap (λ (x : Result Touch Cause). reaching x a.at.pre) (sym checked))
-    (leaves_all t m s _ (core_loaded t a.place a.rd (loaded a.at.pre (cell_at m access.addr))) _ (outcome_loaded (loaded a.at.pre (cell_at m access.addr)))
-    c.receive-outcome.new.tables (g.M.Memory.meaning c.load-loaded.new.self) c.touching.result.outcome
-    (load_leaves t (apart_in t r.whole) a.place r.within m access a.rd a.at.pre a.at.post (cell_at m access.addr))
-    (c.receive-outcome.ensures.core ∙ ap (core_loaded t a.place a.rd) answer)
+    (ap (λ (x : Result AccessValue Cause). reaching x a.at.pre) (sym checked))
+    (leaves_all t m s _ (core_loaded t a.slot_index a.rd (loaded a.at.pre (cell_at m access.addr))) _ (completion_loaded (loaded a.at.pre (cell_at m access.addr)))
+    c.receive-completion.new.tables (g.M.Memory.meaning c.load-loaded.new.self) c.touching.result.completion
+    (load_leaves t (apart_in t r.whole) a.slot_index r.within m access a.rd a.at.pre a.at.post (cell_at m access.addr))
+    (c.receive-completion.ensures.core ∙ ap (core_loaded t a.slot_index a.rd) answer)
     c.load-loaded.ensures.after
-    (ap (λ (x : Retired). x.outcome) c.touching.ensures ∙ c.receive-outcome.ensures.outcome ∙ ap outcome_loaded answer))
+    (ap (λ (x : Retired). x.completion) c.touching.ensures ∙ c.receive-completion.ensures.completion ∙ ap completion_loaded answer))
     (ap (λ (x : Retired). x.touched) c.touching.ensures) c.load-loaded.ensures.takes
     (c.load-loaded.ensures.count ∙ ap (λ (n : ℕ). g.M.Memory.uses a.mem.now + n) (sym (one access a.at.pre (cell_at m access.addr))))

@@ -5,7 +5,7 @@ use Rattle.std.proofs.lemmas.Int.{to_z-of_z}
 use Rattle.mm_mem.proofs.Counted.{one}
 use Rattle.mm_word.specs.declared.cause.Cause.{Cause}
 use Rattle.mm_word.specs.declared.word.Word.{Word}
-use Rattle.mm_word.specs.Access.{Touch}
+use Rattle.mm_word.specs.Access.{AccessValue}
 use Rattle.mm_isa.specs.declared.instr.Instr.TheVariants.{St}
 use Rattle.mm_model.specs.Memory.{Memory, cell_at}
 use Rattle.mm_model.specs.Slot.{Slot, register}
@@ -14,14 +14,14 @@ use Rattle.mm_model.specs.Ask.Ask.{Refuse, Reach}
 use Rattle.mm_model.specs.Effect.{effect}
 use Rattle.mm_model.specs.Turn.{reply}
 use Rattle.mm_model.specs.Uses.{takes_none}
-use Rattle.mm_thread.specs.Places.{slot_in}
-use Rattle.mm_thread.specs.Execution.{core_stored, outcome_stored}
-use Rattle.mm_thread.specs.declared.outcome.Retired.{Retired}
+use Rattle.mm_thread.specs.SlotIndices.{slot_in}
+use Rattle.mm_thread.specs.Execution.{core_stored, completion_stored}
+use Rattle.mm_thread.specs.declared.completion.Retired.{Retired}
 use Rattle.mm_mem.specs.Answers.{stored, put_where}
 use Rattle.mm_word.specs.declared.word.Cell.{Cell}
 use Rattle.mm_model.specs.Memory.{full_after}
 use Rattle.mm_thread.proofs.Accesses.{executes_by, store_leaves, leaves_all}
-use Rattle.mm_thread.proofs.Placing.{apart_in}
+use Rattle.mm_thread.proofs.RowIndex.{apart_in}
 use Rattle.mm_thread.proofs.memory_ops.store.Goals as goal
 
 pub returns-in-Err : goal.returns-in-Err
@@ -29,12 +29,12 @@ unfolding ask effect reply
 returns-in-Err g c =
     let a = c.args in
     let t = a.tables.now in
-    let s = slot_in t a.place in
+    let s = slot_in t a.slot_index in
     let fits : FitsSigned w32 a.at.offset = search rules in
     let checked = rw (to_z-of_z w32 a.at.offset fits, c.slot.ensures) at c.in-Err.ensures.value in
     executes_by g.M.Memory.meaning g.M.Memory.uses g.M.Memory.stands t s (St a.at.base a.rb a.at.pre a.at.post a.at.offset) a.mem.now a.mem.now t c.untouched.result (Refuse c.in-Err.cause)
-    (ap (λ (x : Result Touch Cause). reaching x a.at.pre) (sym checked))
-    (record { core_is = refl; memory_is = refl; outcome_is = ap (λ (x : Retired). x.outcome) c.untouched.ensures; stays = λ e. refl })
+    (ap (λ (x : Result AccessValue Cause). reaching x a.at.pre) (sym checked))
+    (record { core_is = refl; memory_is = refl; completion_is = ap (λ (x : Retired). x.completion) c.untouched.ensures; stays = λ e. refl })
     (ap (λ (x : Retired). x.touched) c.untouched.ensures) (takes_none a.mem.now) (omega arith)
 
 pub returns-in-Ok : goal.returns-in-Ok
@@ -43,22 +43,22 @@ returns-in-Ok g c =
     let a = c.args in
     let t = a.tables.now in
     let r = c.requires.can in
-    let s = slot_in t a.place in
+    let s = slot_in t a.slot_index in
     let m : Memory = g.M.Memory.meaning a.mem.now in
-    let access : Touch = c.in-Ok.access in
+    let access : AccessValue = c.in-Ok.access in
     let fits : FitsSigned w32 a.at.offset = search rules in
     let checked = rw (to_z-of_z w32 a.at.offset fits, c.slot.ensures) at c.in-Ok.ensures.value in
     let answer = c.store-stored.ensures.answer in
     let word : c.word_of-word.result ≡ register s a.rb = c.word_of-word.ensures ∙ ap (λ (x : Slot). register x a.rb) c.slot-in-Ok.ensures in
     executes_by g.M.Memory.meaning g.M.Memory.uses g.M.Memory.stands t s
     (St a.at.base a.rb a.at.pre a.at.post a.at.offset) a.mem.now c.store-stored.new.self
-    c.finish_store-outcome.new.tables c.touching.result (Reach access a.at.pre)
-    (ap (λ (x : Result Touch Cause). reaching x a.at.pre) (sym checked))
-    (leaves_all t m s _ (core_stored t a.place (stored a.at.pre (cell_at m access.addr))) _ (outcome_stored (stored a.at.pre (cell_at m access.addr)))
-    c.finish_store-outcome.new.tables (g.M.Memory.meaning c.store-stored.new.self) c.touching.result.outcome
-    (store_leaves t (apart_in t r.whole) a.place r.within m access (register s a.rb) a.at.pre a.at.post (cell_at m access.addr))
-    (c.finish_store-outcome.ensures.core ∙ ap (core_stored t a.place) answer)
+    c.finish_store-completion.new.tables c.touching.result (Reach access a.at.pre)
+    (ap (λ (x : Result AccessValue Cause). reaching x a.at.pre) (sym checked))
+    (leaves_all t m s _ (core_stored t a.slot_index (stored a.at.pre (cell_at m access.addr))) _ (completion_stored (stored a.at.pre (cell_at m access.addr)))
+    c.finish_store-completion.new.tables (g.M.Memory.meaning c.store-stored.new.self) c.touching.result.completion
+    (store_leaves t (apart_in t r.whole) a.slot_index r.within m access (register s a.rb) a.at.pre a.at.post (cell_at m access.addr))
+    (c.finish_store-completion.ensures.core ∙ ap (core_stored t a.slot_index) answer)
     (c.store-stored.ensures.after ∙ ap (λ (w : Word). put_where m access.addr a.at.pre (cell_at m access.addr) (λ (x : Cell). record { word = w; full = full_after a.at.post x.full })) word)
-    (ap (λ (x : Retired). x.outcome) c.touching.ensures ∙ c.finish_store-outcome.ensures.outcome ∙ ap outcome_stored answer))
+    (ap (λ (x : Retired). x.completion) c.touching.ensures ∙ c.finish_store-completion.ensures.completion ∙ ap completion_stored answer))
     (ap (λ (x : Retired). x.touched) c.touching.ensures) c.store-stored.ensures.takes
     (c.store-stored.ensures.count ∙ ap (λ (n : ℕ). g.M.Memory.uses a.mem.now + n) (sym (one access a.at.pre (cell_at m access.addr))))

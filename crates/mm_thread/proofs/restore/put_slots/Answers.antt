@@ -3,7 +3,7 @@ use Rattle.std.specs.Prelude.{ℕ, slice_index}
 use Rattle.std.proofs.lemmas.List.{get_or-map, length-map, length-take-le}
 use Rattle.mm_model.specs.Slot.{Slot}
 use Rattle.mm_model.specs.State.{Core, ThreadRow}
-use Rattle.mm_thread.specs.Places.{no_row, row_alone, slot_in, with_row}
+use Rattle.mm_thread.specs.SlotIndices.{no_row, row_alone, slot_in, with_row}
 use Rattle.mm_thread.proofs.Index.{number-get}
 use Rattle.mm_thread.proofs.Assigned.{front_more, front_next}
 use Rattle.mm_thread.proofs.restore.put_slots.Goals as goal

@@ -1,5 +1,5 @@
 use Rattle.std.proofs.Common.{◌≡◌, ◌++◌, map, take, drop}
-use Rattle.mm_thread.specs.Places.{row_alone}
+use Rattle.mm_thread.specs.SlotIndices.{row_alone}
 use Rattle.mm_thread.proofs.restore.put_slots.Given as goal
 
 abbrev pub invariant-loop-i : goal.invariant-loop-i

@@ -5,10 +5,10 @@ use Rattle.mm_model.specs.State.{Core, output_of, put_output}
 use Rattle.mm_model.specs.Image.{output_limit}
 use Rattle.mm_model.specs.Effect.{plain}
 use Rattle.mm_model.specs.Turn.{slot_after}
-use Rattle.mm_thread.specs.Places.{slot_in, with_slot}
+use Rattle.mm_thread.specs.SlotIndices.{slot_in, with_slot}
 use Rattle.mm_thread.proofs.Cores.{group_small, byte_limit}
-use Rattle.mm_thread.proofs.Around.{room_left, no_room_left, leaves_at}
-use Rattle.mm_thread.proofs.Placing.{apart_in}
+use Rattle.mm_thread.proofs.SlotUpdates.{room_left, no_room_left, leaves_at}
+use Rattle.mm_thread.proofs.RowIndex.{apart_in}
 use Rattle.mm_thread.proofs.slot_ops.put_out.Goals as goal
 
 pub has_room-requires : goal.has_room-requires
@@ -16,14 +16,14 @@ has_room-requires c =
     let r = c.requires in
     let t = c.args.tables.now in
     let group = ap (λ (s : Slot). s.group) (c.slot.view_is ∙ c.slot-slot.ensures) in
-    omega (arith, group_small t r.whole c.args.place r.within, r.whole.formed.outputs)
+    omega (arith, group_small t r.whole c.args.slot_index r.within, r.whole.formed.outputs)
 
 pub put_byte-requires-clause-group : goal.put_byte-requires-clause-group
 put_byte-requires-clause-group c =
     let r = c.requires in
     let t = c.args.tables.now in
     let group = ap (λ (s : Slot). s.group) (c.slot.view_is ∙ c.slot-slot.ensures) in
-    omega (arith, group_small t r.whole c.args.place r.within, r.whole.formed.outputs, ap (λ (k : Core). length k.outputs) c.advance.ensures)
+    omega (arith, group_small t r.whole c.args.slot_index r.within, r.whole.formed.outputs, ap (λ (k : Core). length k.outputs) c.advance.ensures)
 
 pub put_byte-requires-clause-room : goal.put_byte-requires-clause-room
 unfolding output_of
@@ -37,7 +37,7 @@ unfolding output_of put_output
 returns-then-has_room c = λ m.
     let r = c.requires in
     let t = c.args.tables.now in
-    let p = c.args.place in
+    let p = c.args.slot_index in
     let s = slot_in t p in
     let same = c.slot.view_is ∙ c.slot-slot.ensures in
     let group : c.slot.inside.group ≡ s.group = ap (λ (x : Slot). x.group) same in
@@ -58,6 +58,6 @@ returns-else-has_room c = λ m.
     let r = c.requires in
     let t = c.args.tables.now in
     let group = ap (λ (x : Slot). x.group) (c.slot.view_is ∙ c.slot-slot.ensures) in
-    no_room_left t (apart_in t r.whole) c.args.place r.within m c.args.ra
+    no_room_left t (apart_in t r.whole) c.args.slot_index r.within m c.args.ra
     (ap (λ (g : ℕ). ltb (length (output_of t g)) (output_limit t.version)) (sym group) ∙ sym c.has_room.ensures
     ∙ c.if-has_room.false)

@@ -3,10 +3,10 @@ use Rattle.mm_word.specs.Word.{word_bits}
 use Rattle.mm_model.specs.Slot.{Slot, register}
 use Rattle.mm_model.specs.State.{slot_at}
 use Rattle.mm_model.specs.Turn.{is_handler, is_taken}
-use Rattle.mm_thread.specs.Places.{slot_in}
+use Rattle.mm_thread.specs.SlotIndices.{slot_in}
 use Rattle.mm_thread.proofs.Index.{slot_found}
-use Rattle.mm_thread.proofs.Around.{served-is, served-unhandled, served-untaken}
-use Rattle.mm_thread.proofs.Placing.{apart_in}
+use Rattle.mm_thread.proofs.SlotUpdates.{served-is, served-unhandled, served-untaken}
+use Rattle.mm_thread.proofs.RowIndex.{apart_in}
 use Rattle.mm_thread.proofs.slot_ops.served.Goals as goal
 use Rattle.mm_thread.proofs.slot_ops.served.Goals.{else-is_handled_by-via-then-is_handled_by+else-is_taken, else-is_handled_by-via-else-is_handled_by}
 
@@ -15,7 +15,7 @@ returns-then-is_taken-clause-served c =
     let t = c.args.tables.now in
     let r = c.requires in
     let q = c.in_ok-of.of in
-    let s = slot_in t c.args.place in
+    let s = slot_in t c.args.slot_index in
     let number : c.slot.inside.number ≡ s.number = ap (λ (x : Slot). x.number) (c.slot.view_is ∙ c.slot-slot.ensures) in
     let named = c.bits.ensures.value ∙ ap word_bits (c.word_of.ensures ∙ ap (λ (x : Slot). register x c.args.ra) c.slot-slot.ensures) in
     let found = ap (slot_at t) (sym (c.in_ok-of.ensures.number ∙ named)) ∙ slot_found t (apart_in t r.whole) q c.in_ok-of.ensures.within in
@@ -30,7 +30,7 @@ returns-else-is_handled_by-clause-none c =
     let t = c.args.tables.now in
     let r = c.requires in
     let q = c.in_ok-of.of in
-    let s = slot_in t c.args.place in
+    let s = slot_in t c.args.slot_index in
     let number : c.slot.inside.number ≡ s.number = ap (λ (x : Slot). x.number) (c.slot.view_is ∙ c.slot-slot.ensures) in
     let named = c.bits.ensures.value ∙ ap word_bits (c.word_of.ensures ∙ ap (λ (x : Slot). register x c.args.ra) c.slot-slot.ensures) in
     let found = ap (slot_at t) (sym (c.in_ok-of.ensures.number ∙ named)) ∙ slot_found t (apart_in t r.whole) q c.in_ok-of.ensures.within in

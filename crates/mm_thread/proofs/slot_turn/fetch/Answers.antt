@@ -3,7 +3,7 @@ use Rattle.mm_word.specs.declared.cause.Cause.TheVariants.{NoPage, Illegal}
 use Rattle.mm_model.specs.Memory.{Memory, cell_at}
 use Rattle.mm_model.specs.Uses.{Accessed}
 use Rattle.mm_model.specs.Turn.{instr_in}
-use Rattle.mm_thread.specs.Places.{slot_in}
+use Rattle.mm_thread.specs.SlotIndices.{slot_in}
 use Rattle.mm_thread.proofs.Turns.{faults_give, fetched-none, fetched-some}
 use Rattle.mm_thread.proofs.slot_turn.fetch.Goals as goal
 
@@ -15,7 +15,7 @@ returns-in_default g c =
     let m : Memory = g.M.Memory.meaning a.mem.now in
     let cell : cell_at m f.addr ≡ None = fetched-none (cell_at m f.addr) (sym c.fetch.ensures.answer ∙ c.in_default.is) in
     let takes = rw cell at c.fetch.ensures.takes in
-    rw cell (faults_give g.M.Memory.meaning g.M.Memory.uses g.M.Memory.stands t m (slot_in t a.place) NoPage (Some f)
+    rw cell (faults_give g.M.Memory.meaning g.M.Memory.uses g.M.Memory.stands t m (slot_in t a.slot_index) NoPage (Some f)
     (Accessed f.kind f.addr false false ∷ []) a.mem.now c.fetch.new.self c.fail_fetch.new.tables
     c.fail_fetch.new.step
     c.fail_fetch.ensures.core c.fetch.ensures.after c.fail_fetch.ensures.step takes c.fetch.ensures.count)
@@ -29,7 +29,7 @@ returns-in-None g c =
     let found = fetched-some (cell_at m f.addr) c.in-Some.word (sym c.fetch.ensures.answer ∙ c.in-Some.is) in
     let takes = rw found.1 at c.fetch.ensures.takes in
     let none : instr_in (found.0).word ≡ None = ap instr_in found.2 ∙ sym c.instr_in.ensures ∙ c.in-None.is in
-    rw (found.1, none) (faults_give g.M.Memory.meaning g.M.Memory.uses g.M.Memory.stands t m (slot_in t a.place) Illegal
+    rw (found.1, none) (faults_give g.M.Memory.meaning g.M.Memory.uses g.M.Memory.stands t m (slot_in t a.slot_index) Illegal
     (Some f) (Accessed f.kind f.addr true true ∷ []) a.mem.now c.fetch.new.self c.fail_fetch-in-None.new.tables
     c.fail_fetch-in-None.new.step
     c.fail_fetch-in-None.ensures.core c.fetch.ensures.after c.fail_fetch-in-None.ensures.step takes c.fetch.ensures.count)

@@ -1,6 +1,6 @@
 use Rattle.std.proofs.Common.{ℕ, Some, sym, ap, ◌∙◌}
 use Rattle.mm_model.specs.Slot.{Slot}
-use Rattle.mm_thread.specs.Places.{slot_in}
+use Rattle.mm_thread.specs.SlotIndices.{slot_in}
 use Rattle.mm_thread.specs.Execution.{step_ended}
 use Rattle.mm_thread.proofs.Cores.{registers_small}
 use Rattle.mm_thread.proofs.Turns.{can_end, issued_gives, issued_waits, turns-delivered}
@@ -10,29 +10,29 @@ pub deliver-register-requires-clause-registers : goal.deliver-register-requires-
 deliver-register-requires-clause-registers g c =
     let t = c.args.tables.now in
     let r = c.requires.can in
-    registers_small t r.whole c.args.place r.within
+    registers_small t r.whole c.args.slot_index r.within
 
 pub stand-requires-clause-turns : goal.stand-requires-clause-turns
-stand-requires-clause-turns g c = turns-delivered c.args.tables.now c.args.place c.requires.can c.deliver-register.new.self c.deliver-register.ensures.slot
+stand-requires-clause-turns g c = turns-delivered c.args.tables.now c.args.slot_index c.requires.can c.deliver-register.new.self c.deliver-register.ensures.slot
 
 pub returns-then-must_wait : goal.returns-then-must_wait
 returns-then-must_wait g c = λ before u first same counted.
     let a = c.args in
     let number = ap (λ (x : Slot). x.number) (c.behind-tables.view_is ∙ c.slot.ensures) in
-    issued_waits g.M.Memory.meaning g.M.Memory.uses g.M.Memory.stands a.tables.now a.place c.requires.can a.access u a.instr before a.mem.now first same counted
-    (sym c.must_wait.ensures ∙ c.if-must_wait.true) c.deliver-register.new.self c.stand.new.self c.tell.new.step
-    c.behind-tables.inside.number c.deliver-register.ensures.slot c.stand.ensures number c.tell.ensures
+    issued_waits g.M.Memory.meaning g.M.Memory.uses g.M.Memory.stands a.tables.now a.slot_index c.requires.can a.access u a.instr before a.mem.now first same counted
+    (sym c.must_wait.ensures ∙ c.if-must_wait.true) c.deliver-register.new.self c.stand.new.self c.write_step.new.step
+    c.behind-tables.inside.number c.deliver-register.ensures.slot c.stand.ensures number c.write_step.ensures
 
 pub end-requires : goal.end-requires
 end-requires g c =
     let a = c.args in
-    can_end a.tables.now a.place c.requires.can (g.M.Memory.meaning a.mem.now) _ c.execute-told.new.tables
-    (g.M.Memory.meaning c.execute-told.new.mem) c.execute-told.result.outcome c.execute-told.ensures.leaves
+    can_end a.tables.now a.slot_index c.requires.can (g.M.Memory.meaning a.mem.now) _ c.execute-retired.new.tables
+    (g.M.Memory.meaning c.execute-retired.new.mem) c.execute-retired.result.completion c.execute-retired.ensures.leaves
 
 pub returns : goal.returns
 returns g c = λ before u first same counted.
     let a = c.args in
     let number = ap (λ (x : Slot). x.number) (c.behind-tables.view_is ∙ c.slot.ensures) in
-    issued_gives g.M.Memory.meaning g.M.Memory.uses g.M.Memory.stands a.tables.now a.place c.requires.can a.access u a.instr before a.mem.now first same counted
-    (sym c.must_wait.ensures ∙ c.if-must_wait.false) c.execute-told.new.mem c.execute-told.new.tables c.end.new.tables c.execute-told.result c.end.new.step c.execute-told.ensures c.end.ensures.core
-    (c.end.ensures.step ∙ ap (λ (n : ℕ). step_ended n (slot_in c.execute-told.new.tables a.place) (Some a.access) c.execute-told.result.touched c.execute-told.result.outcome) number)
+    issued_gives g.M.Memory.meaning g.M.Memory.uses g.M.Memory.stands a.tables.now a.slot_index c.requires.can a.access u a.instr before a.mem.now first same counted
+    (sym c.must_wait.ensures ∙ c.if-must_wait.false) c.execute-retired.new.mem c.execute-retired.new.tables c.end.new.tables c.execute-retired.result c.end.new.step c.execute-retired.ensures c.end.ensures.core
+    (c.end.ensures.step ∙ ap (λ (n : ℕ). step_ended n (slot_in c.execute-retired.new.tables a.slot_index) (Some a.access) c.execute-retired.result.touched c.execute-retired.result.completion) number)

@@ -5,7 +5,7 @@ use Rattle.mm_word.specs.declared.word.Word.TheVariants.{Ptr}
 use Rattle.mm_word.specs.Access.{check_result}
 use Rattle.mm_model.specs.Slot.{Slot}
 use Rattle.mm_model.specs.Uses.{takes_none}
-use Rattle.mm_thread.specs.Places.{slot_in}
+use Rattle.mm_thread.specs.SlotIndices.{slot_in}
 use Rattle.mm_thread.proofs.Turns.{faults_give, starts_past, starts_unfetched, starts_fetched}
 use Rattle.mm_thread.proofs.slot_turn.start.Goals as goal
 
@@ -13,7 +13,7 @@ pub returns-then-past : goal.returns-then-past
 returns-then-past g c =
     let a = c.args in
     let t = a.tables.now in
-    let s = slot_in t a.place in
+    let s = slot_in t a.slot_index in
     let past : s.past ≡ true = ap (λ (x : Slot). x.past) (sym (c.slot.view_is ∙ c.slot-slot.ensures)) ∙ c.if-past.true in
     rw (starts_past t (g.M.Memory.meaning a.mem.now) s past)
     (faults_give g.M.Memory.meaning g.M.Memory.uses g.M.Memory.stands t (g.M.Memory.meaning a.mem.now) s Bounds None [] a.mem.now a.mem.now c.fail_fetch.new.tables c.fail_fetch.new.step
@@ -23,7 +23,7 @@ pub returns-in-Err : goal.returns-in-Err
 returns-in-Err g c =
     let a = c.args in
     let t = a.tables.now in
-    let s = slot_in t a.place in
+    let s = slot_in t a.slot_index in
     let same = c.slot.view_is ∙ c.slot-slot.ensures in
     let past : s.past ≡ false = ap (λ (x : Slot). x.past) (sym same) ∙ c.if-past.false in
     let checked : check_result (Ptr s.ip) (pos 0) Fetch ≡ Err c.in-Err.cause = ap (λ (x : Slot). check_result (Ptr x.ip) (pos 0) Fetch) (sym same) ∙ sym c.in-Err.ensures.value in
@@ -36,7 +36,7 @@ pub returns-in-Ok : goal.returns-in-Ok
 returns-in-Ok g c =
     let a = c.args in
     let t = a.tables.now in
-    let s = slot_in t a.place in
+    let s = slot_in t a.slot_index in
     let same = c.slot.view_is ∙ c.slot-slot.ensures in
     let past : s.past ≡ false = ap (λ (x : Slot). x.past) (sym same) ∙ c.if-past.false in
     let checked : check_result (Ptr s.ip) (pos 0) Fetch ≡ Ok c.in-Ok.access = ap (λ (x : Slot). check_result (Ptr x.ip) (pos 0) Fetch) (sym same) ∙ sym c.in-Ok.ensures.value in

@@ -1,6 +1,6 @@
 use Rattle.std.proofs.Common.{refl, sym, ap, ◌∙◌}
-use Rattle.mm_thread.specs.Told.{accesses_told}
-use Rattle.mm_thread.proofs.Exactly.{turn_ends, turn_told}
+use Rattle.mm_thread.specs.StepAccesses.{accesses_shown}
+use Rattle.mm_thread.proofs.StepAccesses.{turn_ends, turn_exact}
 use Rattle.mm_thread.proofs.state.turn.Goals as goal
 
 pub returns-clause-idle : goal.returns-clause-idle
@@ -20,4 +20,4 @@ returns-clause-did g c = (turn_ends _ _ _ _ _ c.turn_into.ensures.whole refl c.t
 
 pub returns-clause-exactly : goal.returns-clause-exactly
 returns-clause-exactly g c =
-    (turn_told c.args.core.now (g.M.Memory.meaning c.args.mem.now) c.args.item).told ∙ ap accesses_told (sym c.turn_into.ensures.step)
+    (turn_exact c.args.core.now (g.M.Memory.meaning c.args.mem.now) c.args.item).exact ∙ ap accesses_shown (sym c.turn_into.ensures.step)

@@ -5,7 +5,7 @@ use Rattle.mm_cli.specs.declared.table.Kind.TheVariants.{Text as text_input}
 use Rattle.mm_load.specs.Kinds.{an_image}
 use Rattle.mm_load.specs.Files.{drawing}
 use Rattle.mm_load.specs.Kinds.{values_of}
-use Rattle.mm_cli.specs.Said.{row}
+use Rattle.mm_cli.specs.Arguments.{row}
 use Rattle.mm_top.specs.Commands.{replies_to}
 use Rattle.mm_top.specs.Answers.{writing}
 use Rattle.mm_load.proofs.Reading.{files_then, asks_of_all}
@@ -29,7 +29,7 @@ returns-in_err-order-clause-ends g c =
     row_stopped g.M.Inspect.tells (writing g.O.Sink.taken g.O.Sink.faults c.args.out.now c.args.out.now) (row Debug c.args.words.now) c.from_residual-in_err-order.result
     (files_stop (drawing g.I.Source.left g.I.Source.faults c.args.input.now c.args.input.now) text_input _ []
     (files_then {asks = Adds g.F.Files.asked c.args.files.now c.load_order.new.files}
-    (named c.name_at.ensures (c.in_ok-image.ensures.read [] refl)) (schedule_named c.name_perhaps_at.ensures
+    (named c.name_at.ensures (c.in_ok-image.ensures.read [] refl)) (schedule_named c.optional_name_at.ensures
     (c.in_err-order.ensures (an_image c.in_ok-image.image ∷ []) refl))
     (record { kept = c.load_file.ensures.kept; counts = refl; later = c.load_file.ensures.later; asked = λ names more one two. adds_both one two }))
     (sym (append-nil _))) refl c.from_residual-in_err-order.ensures.1
@@ -37,7 +37,7 @@ returns-in_err-order-clause-ends g c =
 pub returns-in_err-order-clause-asked : goal.returns-in_err-order-clause-asked
 returns-in_err-order-clause-asked g c =
     (files_then {asks = Adds g.F.Files.asked c.args.files.now c.load_order.new.files}
-    (named c.name_at.ensures (c.in_ok-image.ensures.read [] refl)) (schedule_named c.name_perhaps_at.ensures
+    (named c.name_at.ensures (c.in_ok-image.ensures.read [] refl)) (schedule_named c.optional_name_at.ensures
     (c.in_err-order.ensures (an_image c.in_ok-image.image ∷ []) refl))
     (record { kept = c.load_file.ensures.kept; counts = refl; later = c.load_file.ensures.later; asked = λ names more one two. adds_both one two })).asked
 
@@ -47,7 +47,7 @@ returns-in_err-lines-clause-ends g c =
     row_stopped g.M.Inspect.tells (writing g.O.Sink.taken g.O.Sink.faults c.args.out.now c.args.out.now) (row Debug c.args.words.now) c.from_residual-in_err-lines.result
     (input_stops
     (files_then {asks = Adds g.F.Files.asked c.args.files.now c.load_order.new.files}
-    (named c.name_at.ensures (c.in_ok-image.ensures.read [] refl)) (schedule_named c.name_perhaps_at.ensures
+    (named c.name_at.ensures (c.in_ok-image.ensures.read [] refl)) (schedule_named c.optional_name_at.ensures
     (c.in_ok-order.ensures (an_image c.in_ok-image.image ∷ []) refl))
     (record { kept = c.load_file.ensures.kept; counts = refl; later = c.load_file.ensures.later; asked = λ names more one two. adds_both one two }))
     (c.in_err-lines.ensures.read _)) refl c.from_residual-in_err-lines.ensures.1
@@ -55,7 +55,7 @@ returns-in_err-lines-clause-ends g c =
 pub returns-in_err-lines-clause-asked : goal.returns-in_err-lines-clause-asked
 returns-in_err-lines-clause-asked g c =
     (files_then {asks = Adds g.F.Files.asked c.args.files.now c.load_order.new.files}
-    (named c.name_at.ensures (c.in_ok-image.ensures.read [] refl)) (schedule_named c.name_perhaps_at.ensures
+    (named c.name_at.ensures (c.in_ok-image.ensures.read [] refl)) (schedule_named c.optional_name_at.ensures
     (c.in_ok-order.ensures (an_image c.in_ok-image.image ∷ []) refl))
     (record { kept = c.load_file.ensures.kept; counts = refl; later = c.load_file.ensures.later; asked = λ names more one two. adds_both one two })).asked
 
@@ -64,7 +64,7 @@ returns-in_err-lines-clause-drawn g c =
     inr (
       an_image c.in_ok-image.image ∷ values_of c.in_ok-order.order,
       (files_then {asks = Adds g.F.Files.asked c.args.files.now c.load_order.new.files}
-          (named c.name_at.ensures (c.in_ok-image.ensures.read [] refl)) (schedule_named c.name_perhaps_at.ensures
+          (named c.name_at.ensures (c.in_ok-image.ensures.read [] refl)) (schedule_named c.optional_name_at.ensures
           (c.in_ok-order.ensures (an_image c.in_ok-image.image ∷ []) refl))
           (record { kept = c.load_file.ensures.kept; counts = refl; later = c.load_file.ensures.later; asked = λ names more one two. adds_both one two })).accepted,
     )
@@ -76,7 +76,7 @@ returns-clause-ends g c =
     let order = c.in_ok-order.order in
     row_writes g.M.Inspect.tells (writing g.O.Sink.taken g.O.Sink.faults c.args.out.now c.write_replies.new.out) (row Debug c.args.words.now) _ c.write_replies.result
     (files_then {asks = Adds g.F.Files.asked c.args.files.now c.load_order.new.files}
-    (named c.name_at.ensures (c.in_ok-image.ensures.read [] refl)) (schedule_named c.name_perhaps_at.ensures
+    (named c.name_at.ensures (c.in_ok-image.ensures.read [] refl)) (schedule_named c.optional_name_at.ensures
     (c.in_ok-order.ensures (an_image i ∷ []) refl))
     (record { kept = c.load_file.ensures.kept; counts = refl; later = c.load_file.ensures.later; asked = λ names more one two. adds_both one two }))
     (c.in_ok-lines.ensures.read _) refl c.write_replies.ensures
@@ -85,14 +85,14 @@ returns-clause-ends g c =
 pub returns-clause-asked : goal.returns-clause-asked
 returns-clause-asked g c =
     (files_then {asks = Adds g.F.Files.asked c.args.files.now c.load_order.new.files}
-    (named c.name_at.ensures (c.in_ok-image.ensures.read [] refl)) (schedule_named c.name_perhaps_at.ensures
+    (named c.name_at.ensures (c.in_ok-image.ensures.read [] refl)) (schedule_named c.optional_name_at.ensures
     (c.in_ok-order.ensures (an_image c.in_ok-image.image ∷ []) refl))
     (record { kept = c.load_file.ensures.kept; counts = refl; later = c.load_file.ensures.later; asked = λ names more one two. adds_both one two })).asked
 
 pub returns-clause-whole : goal.returns-clause-whole
 returns-clause-whole g c =
     whole_read c.write_replies.result ((files_then {asks = Adds g.F.Files.asked c.args.files.now c.load_order.new.files}
-    (named c.name_at.ensures (c.in_ok-image.ensures.read [] refl)) (schedule_named c.name_perhaps_at.ensures
+    (named c.name_at.ensures (c.in_ok-image.ensures.read [] refl)) (schedule_named c.optional_name_at.ensures
     (c.in_ok-order.ensures (an_image c.in_ok-image.image ∷ []) refl))
     (record { kept = c.load_file.ensures.kept; counts = refl; later = c.load_file.ensures.later; asked = λ names more one two. adds_both one two })).whole)
 
@@ -101,7 +101,7 @@ returns-clause-drawn g c =
     inr (
       an_image c.in_ok-image.image ∷ values_of c.in_ok-order.order,
       (files_then {asks = Adds g.F.Files.asked c.args.files.now c.load_order.new.files}
-          (named c.name_at.ensures (c.in_ok-image.ensures.read [] refl)) (schedule_named c.name_perhaps_at.ensures
+          (named c.name_at.ensures (c.in_ok-image.ensures.read [] refl)) (schedule_named c.optional_name_at.ensures
           (c.in_ok-order.ensures (an_image c.in_ok-image.image ∷ []) refl))
           (record { kept = c.load_file.ensures.kept; counts = refl; later = c.load_file.ensures.later; asked = λ names more one two. adds_both one two })).accepted,
     )

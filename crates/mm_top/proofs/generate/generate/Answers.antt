@@ -1,7 +1,7 @@
 use Rattle.std.proofs.Common.{ℕ, List, slice_get, subst, arith}
 use Rattle.mm_format.specs.Images.{Spells}
 use Rattle.mm_gen.specs.Generated.{generated}
-use Rattle.mm_cli.specs.Said.{number_of}
+use Rattle.mm_cli.specs.Arguments.{number_of}
 use Rattle.mm_top.proofs.Reported.{ends_as}
 use Rattle.mm_top.proofs.generate.generate.Goals as goal
 

@@ -2,8 +2,8 @@ use Rattle.std.proofs.Common.{ℕ, List, [], ◌∷◌, slice_get, Option, None,
 use Rattle.mm_model.specs.Image.{Image}
 use Rattle.mm_model.specs.Audit.{IsAudit}
 use Rattle.mm_cli.specs.declared.table.Command.TheVariants.{Grants}
-use Rattle.mm_cli.specs.Words.{Word, file_word, groups_word, perhaps}
-use Rattle.mm_cli.specs.Said.{name_of, groups_perhaps_of}
+use Rattle.mm_cli.specs.Words.{Word, file_word, groups_word, optional}
+use Rattle.mm_cli.specs.Arguments.{name_of, optional_groups_of}
 use Rattle.mm_load.specs.Kinds.{an_image}
 use Rattle.mm_top.specs.Commands.{YieldsAloneAt}
 use Rattle.mm_cli.specs.declared.table.Kind.{Kind}
@@ -13,7 +13,7 @@ use Rattle.mm_top.proofs.NamedFiles.{named}
 use Rattle.mm_top.proofs.grants.grants.Goals as goal
 
 audited : (name : Word) (i : Image) (text : List ℕ) (groups : Option (List ℕ)) → IsAudit i groups text
-    → YieldsAloneAt Grants (name ∷ perhaps groups_word groups) (an_image i ∷ []) text
+    → YieldsAloneAt Grants (name ∷ optional groups_word groups) (an_image i ∷ []) text
 audited name i text None is = is
 audited name i text (Some groups) is = is
 
@@ -24,7 +24,7 @@ pub returns : goal.returns
 returns g c =
     let i = c.in_ok-image.image in
     let name = name_of (slice_get c.args.words.now 0) in
-    let groups = groups_perhaps_of (slice_get c.args.words.now 1) in
+    let groups = optional_groups_of (slice_get c.args.words.now 1) in
     let first = λ (files : List (List ℕ × Kind)). (name, image_file) ∷ files in
     row_ends _ _ (named c.name_at.ensures (c.in_ok-image.ensures.read [] refl)) (ap first (groups_files _)) c.write_grants.ensures (λ r no. no)
-    (λ text is. audited (file_word image_file name) i text groups (subst (λ (gs : Option (List ℕ)). IsAudit i gs text) c.groups_perhaps_at.ensures is))
+    (λ text is. audited (file_word image_file name) i text groups (subst (λ (gs : Option (List ℕ)). IsAudit i gs text) c.optional_groups_at.ensures is))

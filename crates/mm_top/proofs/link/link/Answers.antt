@@ -2,7 +2,7 @@ use Rattle.std.proofs.Common.{◌≤◌, List, [], length, String, refl, sym, ap
 use Rattle.std.specs.declared.alloc.Global.{Global}
 use Rattle.mm_object.specs.Objects.{Object}
 use Rattle.mm_cli.specs.declared.table.Kind.TheVariants.{Object as object_file}
-use Rattle.mm_cli.proofs.SaidWords.{named_few}
+use Rattle.mm_cli.proofs.ArgumentWords.{named_few}
 use Rattle.mm_top.specs.Commands.{IsLinked, LinkRefused}
 use Rattle.mm_top.proofs.Rows.{row_stops, row_ends}
 use Rattle.mm_top.proofs.NamedFiles.{several_named}

@@ -11,5 +11,5 @@ returns-in_err-plan g c = row_stops [] c.from_residual.result c.in_err-plan.ensu
 
 pub returns : goal.returns
 returns g c =
-    row_ends _ _ c.in_ok-plan.ensures.read refl c.write_told.ensures (λ r no. no)
+    row_ends _ _ c.in_ok-plan.ensures.read refl c.write_detail.ensures (λ r no. no)
     (λ text is. (items_planned c.in_ok-plan.plan, c.in_ok-plan.ensures.issues, is))

@@ -5,8 +5,8 @@ use Rattle.mm_model.specs.Image.{Image}
 use Rattle.mm_net.specs.Texts.{net_text}
 use Rattle.mm_top.specs.Nodes.{NoneLacking, JoinRefused}
 use Rattle.mm_cli.specs.declared.table.Kind.TheVariants.{Links as links_file, Events as events_file, Image as image_file}
-use Rattle.mm_cli.specs.Said.{name_of}
-use Rattle.mm_cli.proofs.SaidWords.{named_few}
+use Rattle.mm_cli.specs.Arguments.{name_of}
+use Rattle.mm_cli.proofs.ArgumentWords.{named_few}
 use Rattle.mm_load.specs.Kinds.{a_links, an_events}
 use Rattle.mm_load.specs.Files.{FilesRead, reading}
 use Rattle.mm_load.proofs.Reading.{files_then}

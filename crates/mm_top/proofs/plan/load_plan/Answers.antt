@@ -14,14 +14,14 @@ returns-in_err-image-clause-read g c =
 pub returns-in_err-order-clause-read : goal.returns-in_err-order-clause-read
 returns-in_err-order-clause-read g c =
     reading_stops _ c.from_residual-in_err-order.result
-    (files_then (named c.name_at.ensures (c.in_ok-image.ensures.read [] refl)) (schedule_named c.name_perhaps_at.ensures (c.in_err-order.ensures (an_image c.in_ok-image.image ∷ []) refl))
+    (files_then (named c.name_at.ensures (c.in_ok-image.ensures.read [] refl)) (schedule_named c.optional_name_at.ensures (c.in_err-order.ensures (an_image c.in_ok-image.image ∷ []) refl))
     (record { kept = c.load_file.ensures.kept; counts = refl; later = c.load_file.ensures.later; asked = λ names more one two. adds_both one two }))
     (sym (append-nil _)) c.from_residual-in_err-order.ensures.1
 
 pub returns-clause-read : goal.returns-clause-read
 returns-clause-read g c =
     reading_ends _ _
-    (files_then (named c.name_at.ensures (c.in_ok-image.ensures.read [] refl)) (schedule_named c.name_perhaps_at.ensures (c.in_ok-order.ensures (an_image c.in_ok-image.image ∷ []) refl))
+    (files_then (named c.name_at.ensures (c.in_ok-image.ensures.read [] refl)) (schedule_named c.optional_name_at.ensures (c.in_ok-order.ensures (an_image c.in_ok-image.image ∷ []) refl))
     (record { kept = c.load_file.ensures.kept; counts = refl; later = c.load_file.ensures.later; asked = λ names more one two. adds_both one two }))
     refl refl
 

@@ -2,7 +2,7 @@ use Rattle.std.proofs.Common.{ℕ, [], ◌∷◌, slice_get, Ok, refl, sym, ◌�
 use Rattle.mm_word.specs.Adding.{adds_both}
 use Rattle.mm_checkpoint.specs.Checkpoints.{saved_of}
 use Rattle.mm_cli.specs.declared.table.Kind.TheVariants.{Image as image_file, Checkpoint as checkpoint_file}
-use Rattle.mm_cli.specs.Said.{name_of}
+use Rattle.mm_cli.specs.Arguments.{name_of}
 use Rattle.mm_load.specs.Kinds.{an_image, a_checkpoint, values_of}
 use Rattle.mm_top.specs.Saving.{Continues}
 use Rattle.mm_load.specs.Files.{FilesRead, reading}
@@ -32,7 +32,7 @@ returns-in_err-order g c =
     files_then (named c.name_at.ensures (c.in_ok-image.ensures.read [] refl)) (named c.name_at-2.ensures c.in_ok-checkpoint.ensures.read)
     (record { kept = c.load_file.ensures.kept; counts = refl; later = c.load_file.ensures.later; asked = λ names more one two. adds_both one two }) in
     row_stops _ c.from_residual-in_err-order.result
-    (files_then both (schedule_named c.name_perhaps_at.ensures (c.in_err-order.ensures (an_image i ∷ a_checkpoint (saved_of k.snapshot k.last) ∷ []) refl))
+    (files_then both (schedule_named c.optional_name_at.ensures (c.in_err-order.ensures (an_image i ∷ a_checkpoint (saved_of k.snapshot k.last) ∷ []) refl))
     (record {
       kept = c.load_checkpoint.ensures.kept ∙ c.load_file.ensures.kept;
       counts = refl;
@@ -54,7 +54,7 @@ returns g c =
     files_then (named c.name_at.ensures (c.in_ok-image.ensures.read [] refl)) (named c.name_at-2.ensures c.in_ok-checkpoint.ensures.read)
     (record { kept = c.load_file.ensures.kept; counts = refl; later = c.load_file.ensures.later; asked = λ names more one two. adds_both one two }) in
     row_ends _ _
-    (files_then both (schedule_named c.name_perhaps_at.ensures (c.in_ok-order.ensures (an_image i ∷ a_checkpoint (saved_of k.snapshot k.last) ∷ []) refl))
+    (files_then both (schedule_named c.optional_name_at.ensures (c.in_ok-order.ensures (an_image i ∷ a_checkpoint (saved_of k.snapshot k.last) ∷ []) refl))
     (record {
       kept = c.load_checkpoint.ensures.kept ∙ c.load_file.ensures.kept;
       counts = refl;

@@ -7,7 +7,7 @@ use Rattle.mm_model.specs.Run.{uses}
 use Rattle.mm_model.specs.Report.{report}
 use Rattle.mm_machine.specs.Machine.{state_of}
 use Rattle.mm_machine.specs.Snapshot.{Parts, CanRestore, restored}
-use Rattle.mm_machine.proofs.Keeping.{kept_core}
+use Rattle.mm_machine.proofs.Keeping.{valid_core}
 use Rattle.mm_checkpoint.specs.Checkpoints.{saved_of}
 use Rattle.mm_checkpoint.proofs.Forms.{have_form}
 use Rattle.mm_top.specs.Saving.{HasState}
@@ -40,7 +40,7 @@ returns g c =
         version = ap (λ (x : State). x.core.version) is;
         split = ap (λ (x : State). x.core.split) is;
         frames = ap (λ (x : State). x.memory.frames) is;
-        core = ∥∥₁_map c.restore.new.self.kept (λ k. kept_core s k);
+        core = ∥∥₁_map c.restore.new.self.valid (λ k. valid_core s k);
       };
       saved = sym (have_form i s p last c.in_ok-machine.ensures.image c.requires.checkpoint.slots c.restore.ensures.shown);
     } in

@@ -2,7 +2,7 @@ use Rattle.std.proofs.Common.{◌≡◌, ℕ, List, [], ◌∷◌, slice_get, re
 use Rattle.mm_word.specs.Adding.{adds_both}
 use Rattle.mm_model.specs.Groups.{among}
 use Rattle.mm_audit.specs.Refusals.{StandAlone}
-use Rattle.mm_cli.specs.Said.{groups_of}
+use Rattle.mm_cli.specs.Arguments.{groups_of}
 use Rattle.mm_load.specs.Kinds.{an_image}
 use Rattle.mm_top.specs.Groups.{GroupsRefused}
 use Rattle.mm_top.specs.Commands.{own_report}

@@ -7,10 +7,10 @@ pub invariant_of-self : goal.invariant_of-self
 invariant_of-self c =
     let found = c.in-Err.ensures in
     let added = c.try_insert.ensures in (
-      new_kept c.in-Err.place c.self.inside.kept c.try_insert.new.self
+      new_kept c.in-Err.at c.self.inside.kept c.try_insert.new.self
           (break_searched c.args.slot c.args.address _ _ _ c.deref.ensures.0 c.self.invariant.0 found.bound found.position) c.try_insert.result
           added.variant added.ok added.len added.err,
-      new_spotted c.self.inside.spots c.in-Err.place c.args.slot c.args.address c.spot.result c.self.inside.kept c.try_insert.new.self
+      new_spotted c.self.inside.spots c.in-Err.at c.args.slot c.args.address c.spot.result c.self.inside.kept c.try_insert.new.self
           c.spot.ensures.spot (omega arith) c.self.invariant.1 c.try_insert.result added.ok added.err,
     )
 
@@ -28,7 +28,7 @@ pub returns-in-Err-clause-fits : goal.returns-in-Err-clause-fits
 returns-in-Err-clause-fits c =
     let found = c.in-Err.ensures in
     rw (← c.self.view_is)
-    (c.is_ok.ensures.value ∙ new_fits c.in-Err.place c.self.inside.kept
+    (c.is_ok.ensures.value ∙ new_fits c.in-Err.at c.self.inside.kept
     (break_searched c.args.slot c.args.address _ _ _ c.deref.ensures.0 c.self.invariant.0 found.bound found.position) c.try_insert.result
     c.try_insert.ensures.variant)
 
@@ -37,6 +37,6 @@ returns-in-Err-clause-after c =
     let found = c.in-Err.ensures in
     let added = c.try_insert.ensures in
     rw (← c.self.view_is)
-    (new_placed c.in-Err.place c.self.inside.kept c.try_insert.new.self
+    (new_placed c.in-Err.at c.self.inside.kept c.try_insert.new.self
     (break_searched c.args.slot c.args.address _ _ _ c.deref.ensures.0 c.self.invariant.0 found.bound found.position) c.try_insert.result
     added.variant added.ok added.err)

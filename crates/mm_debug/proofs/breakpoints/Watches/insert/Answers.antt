@@ -6,7 +6,7 @@ pub invariant_of-self : goal.invariant_of-self
 invariant_of-self c =
     let found = c.in-Err.ensures in
     let added = c.try_insert.ensures in
-    new_kept c.in-Err.place c.self.inside.kept c.try_insert.new.self
+    new_kept c.in-Err.at c.self.inside.kept c.try_insert.new.self
     (word_searched c.args.word _ _ _ c.deref.ensures.0 c.self.invariant found.bound found.position) c.try_insert.result added.variant added.ok
     added.len added.err
 
@@ -24,7 +24,7 @@ pub returns-in-Err-clause-fits : goal.returns-in-Err-clause-fits
 returns-in-Err-clause-fits c =
     let found = c.in-Err.ensures in
     rw (← c.self.view_is)
-    (c.is_ok.ensures.value ∙ new_fits c.in-Err.place c.self.inside.kept
+    (c.is_ok.ensures.value ∙ new_fits c.in-Err.at c.self.inside.kept
     (word_searched c.args.word _ _ _ c.deref.ensures.0 c.self.invariant found.bound found.position) c.try_insert.result
     c.try_insert.ensures.variant)
 
@@ -33,6 +33,6 @@ returns-in-Err-clause-after c =
     let found = c.in-Err.ensures in
     let added = c.try_insert.ensures in
     rw (← c.self.view_is)
-    (new_placed c.in-Err.place c.self.inside.kept c.try_insert.new.self
+    (new_placed c.in-Err.at c.self.inside.kept c.try_insert.new.self
     (word_searched c.args.word _ _ _ c.deref.ensures.0 c.self.invariant found.bound found.position) c.try_insert.result added.variant added.ok
     added.err)

@@ -13,5 +13,5 @@ returns-clause-stands g c i stands point =
     let is : c.args.p.now ≡ p = sym c.p.view_is in
     let can = subst (CanGo s) is c.requires in
     gone_stands i s p
-    (state_of c.restore.new.self) c.restore.ensures.state c.restore.ensures.shown c.args.self.now.machine.kept c.restore.new.self.kept can.restore
+    (state_of c.restore.new.self) c.restore.ensures.state c.restore.ensures.shown c.args.self.now.machine.valid c.restore.new.self.valid can.restore
     stands (subst (PointStandsFor i s.order) is point)

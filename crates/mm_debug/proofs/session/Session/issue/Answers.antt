@@ -5,7 +5,7 @@ use Rattle.mm_debug.proofs.Stepping.{item_below_limit, robin_small, issued_total
 use Rattle.mm_debug.proofs.session.Session.issue.Goals as goal
 
 pub after-self-requires : goal.after-self-requires
-after-self-requires g c = robin_small (session_of c.args.self.now) c.args.item c.args.self.now.machine.kept c.in-Robin.is c.requires
+after-self-requires g c = robin_small (session_of c.args.self.now) c.args.item c.args.self.now.machine.valid c.in-Robin.is c.requires
 
 pub invariant_of-self : goal.invariant_of-self
 invariant_of-self g c =

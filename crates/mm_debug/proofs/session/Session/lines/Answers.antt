@@ -1,5 +1,5 @@
 use Rattle.std.proofs.Common.{sym, subst}
-use Rattle.mm_text.proofs.Gathering.{gathers_same, gathered_writes}
+use Rattle.mm_text.proofs.Appending.{appends_same, buffered_writes}
 use Rattle.mm_debug.specs.Commands.{lines_of}
 use Rattle.mm_debug.specs.Shown.{session_of}
 use Rattle.mm_debug.specs.Standing.{StandsFor}
@@ -12,8 +12,8 @@ returns-clause-session g c = (sessions_said c.handle_lines.ensures.holds).sessio
 
 pub returns-clause-replies : goal.returns-clause-replies
 returns-clause-replies g c =
-    gathered_writes c.new-replies.ensures
-    (gathers_same c.handle_lines.ensures.gathers (sessions_said c.handle_lines.ensures.holds).text)
+    buffered_writes c.new-replies.ensures
+    (appends_same c.handle_lines.ensures.appends (sessions_said c.handle_lines.ensures.holds).text)
     c.finish.ensures
 
 pub returns-clause-stands : goal.returns-clause-stands

@@ -15,7 +15,7 @@ pub returns-in-Robin : goal.returns-in-Robin
 returns-in-Robin g c =
     let s = session_of c.args.self.now in
     let below : total_of s < 1000000 = omega arith in
-    peeked s.state c.running.result s.last c.peek.result c.args.self.now.machine.kept c.running.ensures c.peek.ensures.some c.peek.ensures.next
+    peeked s.state c.running.result s.last c.peek.result c.args.self.now.machine.valid c.running.ensures c.peek.ensures.some c.peek.ensures.next
     ∙ sym (ap (λ o. item_in o s.last s.state) c.in-Robin.is)
     ∙ sym (item_of_order s below)
 

@@ -1,5 +1,5 @@
 use Rattle.std.proofs.Common.{sym, ap, ◌∙◌, arith}
-use Rattle.mm_text.proofs.Gathering.{gathers_same}
+use Rattle.mm_text.proofs.Appending.{appends_same}
 use Rattle.mm_debug.specs.declared.command.Command.TheVariants.{Step, Run}
 use Rattle.mm_debug.specs.Session.{total_of, answer}
 use Rattle.mm_debug.specs.Shown.{session_of}
@@ -27,13 +27,13 @@ returns-in-Run-clause-stands g c = λ i stands. rw c.run-stop.ensures at (ran_st
 pub returns-in-Bad-clause-reply : goal.returns-in-Bad-clause-reply
 unfolding answer
 returns-in-Bad-clause-reply g c =
-    gathers_same c.put_piece-in-Bad.ensures
+    appends_same c.put_piece-in-Bad.ensures
     (ap (λ command. (answer (session_of c.args.self.now) command).reply) (sym c.in-Bad.is ∙ c.read_command.ensures))
 
 pub returns-in-Step-clause-fits : goal.returns-in-Step-clause-fits
 unfolding answer
-returns-in-Step-clause-fits g c = λ p can. rw c.step.ensures (answer_goes (session_of c.args.self.now) (Step c.in-Step.count) p c.args.self.now.machine.kept can)
+returns-in-Step-clause-fits g c = λ p can. rw c.step.ensures (answer_goes (session_of c.args.self.now) (Step c.in-Step.count) p c.args.self.now.machine.valid can)
 
 pub returns-in-Run-clause-fits : goal.returns-in-Run-clause-fits
 unfolding answer
-returns-in-Run-clause-fits g c = λ p can. rw c.run-stop.ensures at (answer_goes (session_of c.args.self.now) Run p c.args.self.now.machine.kept can)
+returns-in-Run-clause-fits g c = λ p can. rw c.run-stop.ensures at (answer_goes (session_of c.args.self.now) Run p c.args.self.now.machine.valid can)

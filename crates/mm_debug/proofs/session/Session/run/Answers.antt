@@ -1,6 +1,6 @@
 use Rattle.std.proofs.Common.{◌≡◌, ◌+◌, ◌-◌, true, false, ◌&&◌, None, Some, sym, ap, ◌∙◌, arith}
 use Rattle.std.proofs.lemmas.Bool.{and_left}
-use Rattle.mm_debug.specs.declared.stop.Stop.TheVariants as stop
+use Rattle.mm_debug.specs.declared.stop.StopReason.TheVariants as stop
 use Rattle.mm_debug.specs.Session.{Session, stops_before, stopped, run_from}
 use Rattle.mm_debug.specs.Shown.{session_of}
 use Rattle.mm_debug.proofs.Runs.{run_begins, run_over, run_ends, run_breaks, run_watches, run_goes, passes_later, seen_after}

@@ -6,6 +6,6 @@ use Rattle.mm_debug.proofs.session.SessionLineHandler.handle_line.Goals as goal
 pub returns : goal.returns
 returns g c = record {
   text = (answer_to (session_of c.args.self.now) c.args.line.now).reply;
-  gathers = c.put_line.ensures.reply;
+  appends = c.put_line.ensures.reply;
   holds = record { reply = refl; session = c.put_line.ensures.session; go = c.put_line.ensures.go };
 }

@@ -7,7 +7,7 @@ use Rattle.mm_model.specs.Slot.{Slot}
 use Rattle.mm_model.specs.Spelling.{numbers_of, IsFresh}
 use Rattle.mm_model.specs.State.{Core}
 use Rattle.mm_machine.proofs.Starting.{fresh_slots, no_output}
-use Rattle.mm_thread.specs.Places.{row_alone}
+use Rattle.mm_thread.specs.SlotIndices.{row_alone}
 use Rattle.mm_explore.specs.Holds.{IsHolding}
 use Rattle.mm_explore.proofs.Standing.{each_fresh, start_made, begun, first_memory}
 use Rattle.mm_explore.proofs.bench.Bench.new.Goals as goal

@@ -8,15 +8,15 @@ pub invariant_of-self : goal.invariant_of-self
 invariant_of-self c =
     let blocks = c.self.inside.blocks.items in
     record {
-      many = length-set blocks c.args.place c.args.block.now ∙ c.self.invariant.many;
-      whole = eight_set blocks c.args.place c.args.block.now c.self.invariant.whole c.requires.whole;
+      many = length-set blocks c.args.block_index c.args.block.now ∙ c.self.invariant.many;
+      whole = eight_set blocks c.args.block_index c.args.block.now c.self.invariant.whole c.requires.whole;
     }
 
 pub returns-clause-cells : goal.returns-clause-cells
 returns-clause-cells c =
     let blocks = c.self.inside.blocks.items in
-    block_put blocks c.args.place c.args.block.now c.self.invariant.whole (omega (arith, c.requires.place, c.self.invariant.many))
-    ∙ ap (λ (cells : List Cell). with_block cells c.args.place c.args.block.now) c.self.view_is
+    block_put blocks c.args.block_index c.args.block.now c.self.invariant.whole (omega (arith, c.requires.block_index, c.self.invariant.many))
+    ∙ ap (λ (cells : List Cell). with_block cells c.args.block_index c.args.block.now) c.self.view_is
 
 pub returns-clause-whole : goal.returns-clause-whole
 returns-clause-whole c =

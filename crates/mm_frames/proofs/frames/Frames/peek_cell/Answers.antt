@@ -17,4 +17,4 @@ returns-clause-cell c =
     sym (ap (λ (f : Framed). slice_get (cells_in f c.args.frame) c.args.index) c.self.view_is) ∙ ap (λ (cells : List Cell). slice_get cells c.args.index) (sym cells) ∙ c.cell.ensures
 
 pub returns-clause-memory : goal.returns-clause-memory
-returns-clause-memory c = λ page found. cell_in_frame c.args.self.now page c.args.frame c.args.index found c.requires.place ∙ returns-clause-cell c
+returns-clause-memory c = λ page found. cell_in_frame c.args.self.now page c.args.frame c.args.index found c.requires.in_page ∙ returns-clause-cell c

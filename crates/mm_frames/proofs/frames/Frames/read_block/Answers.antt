@@ -8,4 +8,4 @@ returns-clause-cells c = c.cells.ensures ∙ c.read_packed.ensures.cells
 
 pub returns-clause-memory : goal.returns-clause-memory
 returns-clause-memory c = λ page found.
-    block_in_frame c.args.self.now page c.args.frame c.args.block found c.requires.place ∙ ap (λ (cells : List Cell). Some cells) (sym (returns-clause-cells c))
+    block_in_frame c.args.self.now page c.args.frame c.args.block found c.requires.in_page ∙ ap (λ (cells : List Cell). Some cells) (sym (returns-clause-cells c))

@@ -29,7 +29,7 @@ invariant_of-self c =
     let here = subst (λ (f : Framed). IsOccupied f c.args.frame) (sym c.self.view_is) c.requires.occupied in
     record {
       framed = subst (λ (f : Framed). IsFramed f c.self.inside.free.items) (sym (after c))
-          (kept_written f c.self.inside.free.items c.args.frame c.args.block c.args.cells.now c.self.invariant.framed here c.requires.place c.requires.whole);
+          (kept_written f c.self.inside.free.items c.args.frame c.args.block c.args.cells.now c.self.invariant.framed here c.requires.in_page c.requires.whole);
       rows_fit = c.self.invariant.rows_fit;
       free_fit = c.self.invariant.free_fit;
     }
@@ -42,5 +42,5 @@ returns-clause-memory c = λ page found.
     let kept = c.self.invariant.framed in
     ap memory_of (after c)
     ∙ memory_of-written f page c.args.frame c.args.block c.args.cells.now (rows_rise f free kept) here (frame_in_range f free kept page c.args.frame here)
-    (one_page f free kept c.args.frame) c.requires.place
+    (one_page f free kept c.args.frame) c.requires.in_page
     ∙ ap (λ (f : Framed). put_block (memory_of f) (page * 64 + c.args.block) c.args.cells.now) c.self.view_is

@@ -5,15 +5,15 @@ use Rattle.mm_machine.proofs.Keeping.{few_turns, goes_on, state_made}
 use Rattle.mm_machine.proofs.machine.Machine.advance.Goals as goal
 
 pub turn_into-requires-clause-turns : goal.turn_into-requires-clause-turns
-turn_into-requires-clause-turns g c = few_turns (state_of c.args.self.now) c.requires c.args.self.now.kept
+turn_into-requires-clause-turns g c = few_turns (state_of c.args.self.now) c.requires c.args.self.now.valid
 
 pub invariant_of-self : goal.invariant_of-self
 invariant_of-self g c =
     let old : State = state_of c.args.self.now in
     record {
-      kept = goes_on old _ c.args.item
+      valid = goes_on old _ c.args.item
           (state_made old c.args.item c.turn_into.new.core (g.M.Memory.meaning c.turn_into.new.mem) c.turn_into.ensures.core c.turn_into.ensures.memory)
-          c.args.self.now.kept;
+          c.args.self.now.valid;
       few_ports = c.args.self.now.few_ports;
       few_uses = omega (arith, c.turn_into.ensures.count, c.turn_into.ensures.few, c.args.self.now.few_uses);
       most_uses = omega (arith, c.turn_into.ensures.count, c.turn_into.ensures.few, c.args.self.now.few_uses);

@@ -5,8 +5,8 @@ use Rattle.mm_model.specs.Slot.{Slot}
 use Rattle.mm_model.specs.Image.{start}
 use Rattle.mm_model.specs.Run.{run, uses}
 use Rattle.mm_model.specs.Spelling.{numbers_of, IsFresh}
-use Rattle.mm_machine.specs.Kept.{Kept}
-use Rattle.mm_machine.proofs.Keeping.{kept_start}
+use Rattle.mm_machine.specs.Validity.{IsValid}
+use Rattle.mm_machine.proofs.Keeping.{valid_start}
 use Rattle.mm_machine.proofs.Starting.{fresh_slots, within, none_pending, no_output, start_made, rows_made, versioned_rows}
 use Rattle.mm_machine.proofs.machine.Machine.new.Goals as goal
 
@@ -46,7 +46,7 @@ invariant_of-result g c =
     c.set_version.ensures c.set_split.ensures c.version.ensures.version c.split.ensures.split c.requires.memory in
     let none : g.M.Memory.uses c.args.mem ≡ 0 = g.M.Memory.counted c.args.mem [] c.requires.unused in
     record {
-      kept = ∣ subst Kept (sym is) (kept_start c.args.img.now c.slots.ensures.image) ∣₁;
+      valid = ∣ subst IsValid (sym is) (valid_start c.args.img.now c.slots.ensures.image) ∣₁;
       few_ports = omega arith;
       few_uses = omega (arith, none);
       most_uses = omega (arith, none);

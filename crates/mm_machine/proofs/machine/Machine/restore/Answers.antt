@@ -6,7 +6,7 @@ use Rattle.mm_word.specs.declared.word.Cell.{Cell}
 use Rattle.mm_model.specs.State.{State}
 use Rattle.mm_machine.specs.Machine.{state_of}
 use Rattle.mm_machine.specs.Snapshot.{Parts}
-use Rattle.mm_machine.proofs.Restoring.{pages_sorted, restored_kept, parts_read, state_read}
+use Rattle.mm_machine.proofs.Restoring.{pages_sorted, restored_valid, parts_read, state_read}
 use Rattle.mm_machine.proofs.Returning.{put_back}
 use Rattle.mm_machine.proofs.Restorable.{can_restored}
 use Rattle.mm_machine.proofs.Shown.{shown_back}
@@ -15,7 +15,7 @@ use Rattle.mm_machine.proofs.machine.Machine.restore.Goals as goal
 pub assign-requires : goal.assign-requires
 assign-requires g c =
     parts_read (state_of c.args.self.now) c.args.s.now c.slots.result.now c.events.result.now c.outputs.result.now c.slots.ensures.slots c.events.ensures.events c.outputs.ensures.outputs
-    c.slots.ensures.snapshot c.slots.ensures.typed c.requires c.args.self.now.kept
+    c.slots.ensures.snapshot c.slots.ensures.typed c.requires c.args.self.now.valid
 
 pub reset-requires-clause-ascend : goal.reset-requires-clause-ascend
 reset-requires-clause-ascend g c = subst (λ (pages : List (ℕ × List Cell)). IsTrue (is_sorted nat_cmp pages))
@@ -29,7 +29,7 @@ invariant_of-self g c =
     c.assign.new.self (g.M.Memory.meaning c.reset.new.self) c.pages.result.now c.cycles-self.result c.assign.ensures c.reset.ensures.meaning c.pages.ensures.pages c.cycles-self.ensures.cycles in
     let none : g.M.Memory.uses c.reset.new.self ≡ 0 = g.M.Memory.counted c.reset.new.self [] c.reset.ensures.stands in
     record {
-      kept = restored_kept old p c.slots.ensures.snapshot c.slots.ensures.typed c.requires _ made c.args.self.now.kept;
+      valid = restored_valid old p c.slots.ensures.snapshot c.slots.ensures.typed c.requires _ made c.args.self.now.valid;
       few_ports = c.args.self.now.few_ports;
       few_uses = omega (arith, none);
       most_uses = omega (arith, none);
@@ -54,4 +54,4 @@ returns-clause-shown g c =
     shown_back (state_of c.args.self.now) _ c.args.s.now
     (state_read (state_of c.args.self.now) c.args.s.now c.slots.result.now c.events.result.now c.outputs.result.now c.slots.ensures.slots c.events.ensures.events c.outputs.ensures.outputs
     c.assign.new.self (g.M.Memory.meaning c.reset.new.self) c.pages.result.now c.cycles-self.result c.assign.ensures c.reset.ensures.meaning c.pages.ensures.pages c.cycles-self.ensures.cycles)
-    c.slots.ensures.snapshot c.slots.ensures.typed c.requires c.args.self.now.kept
+    c.slots.ensures.snapshot c.slots.ensures.typed c.requires c.args.self.now.valid

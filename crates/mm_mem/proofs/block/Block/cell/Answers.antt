@@ -11,14 +11,14 @@ use Rattle.mm_model.specs.Flags.{in_mask}
 pub returns-clause-cell : goal.returns-clause-cell
 returns-clause-cell c =
     let b = c.self.inside in
-    let place = c.args.place in
+    let index = c.args.index in
     let cells : List Cell = block_of b.bits b.tags b.fulls in
-    let within : place < length cells = omega (arith, c.requires, length-block_of b.bits b.tags b.fulls) in
-    let word = c.word_of.ensures ∙ ap (word_of (get_or b.bits place 0)) c.is_set.ensures in
-    sym (ap (λ (cells : List Cell). slice_get cells place) c.self.view_is)
-    ∙ slice_get-get_or cells place zero_cell within
-    ∙ ap Some (get_or-block_of b.bits b.tags b.fulls place zero_cell c.requires
-    ∙ ap (λ (w : Word). record { word = w; full = in_mask b.fulls place }) (sym word)
+    let within : index < length cells = omega (arith, c.requires, length-block_of b.bits b.tags b.fulls) in
+    let word = c.word_of.ensures ∙ ap (word_of (get_or b.bits index 0)) c.is_set.ensures in
+    sym (ap (λ (cells : List Cell). slice_get cells index) c.self.view_is)
+    ∙ slice_get-get_or cells index zero_cell within
+    ∙ ap Some (get_or-block_of b.bits b.tags b.fulls index zero_cell c.requires
+    ∙ ap (λ (w : Word). record { word = w; full = in_mask b.fulls index }) (sym word)
     ∙ ap (λ (full : Bool). record { word = c.word_of.result; full = full }) (sym c.is_set-2.ensures))
 
 pub returns-clause-whole : goal.returns-clause-whole

@@ -16,7 +16,7 @@ kept g c =
     went s self.start q self.ring.items c.args.count _ (session_of c.go.new.self) (session_of c.step.new.self) self.within
     (on_way_at s self.start self.ring.items self.within c.in-Some.at q is)
     (subst (λ n. total_at q ≤ n - c.args.count) c.total.ensures.total (early_at self.ring.items c.in-Some.at _ q is c.in-Some.ensures))
-    c.go.ensures.session c.step.ensures (ap₂ (λ a b. a - c.args.count - b) c.total.ensures.total c.total-in-Some-get.ensures) c.go.new.self.machine.kept c.go.ensures.fits
+    c.go.ensures.session c.step.ensures (ap₂ (λ a b. a - c.args.count - b) c.total.ensures.total c.total-in-Some-get.ensures) c.go.new.self.machine.valid c.go.ensures.fits
 
 -- or to the start
 home : (g : Over) (c : After-step-in-None g) → WentBack (session_of c.args.self.now.session) c.args.self.now.start c.args.self.now.ring.items c.args.count (session_of c.step-in-None.new.self)
@@ -24,7 +24,7 @@ home g c =
     let self = c.args.self.now in
     let s = session_of self.session in
     went_home s self.start self.ring.items c.args.count _ (session_of c.go-in-None.new.self) (session_of c.step-in-None.new.self) self.within
-    c.go-in-None.ensures.session c.step-in-None.ensures (ap₂ (λ a b. a - c.args.count - b) c.total.ensures.total c.total-in-None.ensures) c.go-in-None.new.self.machine.kept c.go-in-None.ensures.fits
+    c.go-in-None.ensures.session c.step-in-None.ensures (ap₂ (λ a b. a - c.args.count - b) c.total.ensures.total c.total-in-None.ensures) c.go-in-None.new.self.machine.valid c.go-in-None.ensures.fits
 
 pub invariant_of-self-in-Some-get : goal.invariant_of-self-in-Some-get
 invariant_of-self-in-Some-get g c = record { within = (kept g c).remembers; size = c.args.self.now.size }

@@ -16,7 +16,7 @@ invariant_of-self g c =
     let pushed = c.push_back.ensures.items in
     record {
       within = rw (pushed, self.size)
-          (keeps_point (session_of self.session) self.start c.in-Ok.point self.ring.items 8 self.session.machine.kept c.in-Ok.ensures.point
+          (keeps_point (session_of self.session) self.start c.in-Ok.point self.ring.items 8 self.session.machine.valid c.in-Ok.ensures.point
           c.in-Ok.ensures.fits self.within);
       size = ap (λ (b : Buffer Point). b.capacity) pushed ∙ self.size;
     }

@@ -1,4 +1,4 @@
-use Rattle.mm_text.proofs.Gathering.{gathers_same, gathered_writes}
+use Rattle.mm_text.proofs.Appending.{appends_same, buffered_writes}
 use Rattle.mm_save.proofs.LinesHandled.{replies_are, first_stays, stands_still, kept_are}
 use Rattle.mm_save.proofs.recorder.Recorder.lines.Goals as goal
 
@@ -13,8 +13,8 @@ returns-clause-kept g c = kept_are c.handle_lines.ensures.holds
 
 pub returns-clause-replies : goal.returns-clause-replies
 returns-clause-replies g c =
-    gathered_writes c.new-replies.ensures
-    (gathers_same c.handle_lines.ensures.gathers (replies_are c.handle_lines.ensures.holds).text)
+    buffered_writes c.new-replies.ensures
+    (appends_same c.handle_lines.ensures.appends (replies_are c.handle_lines.ensures.holds).text)
     c.finish.ensures
 
 pub returns-clause-stands : goal.returns-clause-stands

@@ -1,6 +1,6 @@
 use Rattle.std.proofs.Common.{◌≡◌, None, sym, ap, ◌∙◌, subst}
 use Rattle.std.specs.Prelude.{min}
-use Rattle.mm_text.proofs.Gathering.{gathers_same}
+use Rattle.mm_text.proofs.Appending.{appends_same}
 use Rattle.mm_debug.specs.Commands.{command_of}
 use Rattle.mm_debug.specs.Session.{Session, Answer, total_of}
 use Rattle.mm_debug.specs.Shown.{session_of}
@@ -22,7 +22,7 @@ invariant_of-self g c =
     let k = c.keep.new.self in
     record {
       within = subst (λ (t : Session). Remembers t k.start k.ring.items) (sym c.put_line.ensures.session)
-          (answer_remembers (session_of k.session) (command_of c.args.line.now) k.start k.ring.items k.session.machine.kept k.within);
+          (answer_remembers (session_of k.session) (command_of c.args.line.now) k.start k.ring.items k.session.machine.valid k.within);
       size = k.size;
     }
 
@@ -35,7 +35,7 @@ returns-in-None-clause-first g c = plain_first _ _ _ _ (stays g (goal.at.returns
 
 pub returns-in-None-clause-reply : goal.returns-in-None-clause-reply
 returns-in-None-clause-reply g c =
-    gathers_same c.put_line.ensures.reply
+    appends_same c.put_line.ensures.reply
     (ap (λ (a : Answer). a.reply) (plainly _ _ _ _ (stays g (goal.at.returns-in-None-clause-reply g c).After-keep) c.args.line.now c.in-None.ensures))
 
 pub returns-in-None-clause-go : goal.returns-in-None-clause-go
@@ -61,7 +61,7 @@ returns-in-Some-clause-session g c =
 
 pub returns-in-Some-clause-reply : goal.returns-in-Some-clause-reply
 returns-in-Some-clause-reply g c =
-    gathers_same c.put_back.ensures
+    appends_same c.put_back.ensures
     (back_reply _ _ _ _ (stays g (goal.at.returns-in-Some-clause-reply g c).After-keep) c.args.line.now c.in-Some.asked _ c.in-Some.ensures
     (least g (goal.at.returns-in-Some-clause-reply g c).After-min-count) _ (c.total-in-Some.ensures.total ∙ c.go_back.ensures.total))
 

@@ -8,7 +8,7 @@ returns g c =
     let r = recording_of c.args.self.now in
     record {
       text = (recalled r.first r.session c.args.line.now).reply;
-      gathers = c.put_line.ensures.reply;
+      appends = c.put_line.ensures.reply;
       holds = record {
         answer = record { reply = refl; session = c.put_line.ensures.session; go = c.put_line.ensures.go };
         first = c.put_line.ensures.first;

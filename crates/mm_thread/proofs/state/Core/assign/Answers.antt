@@ -5,11 +5,11 @@ use Rattle.mm_model.specs.Slot.{Slot}
 use Rattle.mm_model.specs.State.{Core}
 use Rattle.mm_model.specs.Spelling.{numbers_of}
 use Rattle.mm_model.specs.Fits.{slots_of, IsCore}
-use Rattle.mm_thread.specs.Places.{row_alone, numbers_in}
+use Rattle.mm_thread.specs.SlotIndices.{row_alone, numbers_in}
 use Rattle.mm_thread.specs.Parts.{events_for, row_with, outputs_with, core_of, AreParts}
 use Rattle.mm_thread.proofs.Assigned.{slots-alone, parts_room, parts_short}
 use Rattle.mm_thread.proofs.Index.{apart_by}
-use Rattle.mm_thread.proofs.Placing.{apart_in}
+use Rattle.mm_thread.proofs.RowIndex.{apart_in}
 use Rattle.mm_thread.proofs.state.Core.assign.Goals as goal
 
 pub put_slots-requires-clause-numbers : goal.put_slots-requires-clause-numbers

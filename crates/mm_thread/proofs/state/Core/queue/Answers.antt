@@ -1,6 +1,6 @@
 use Rattle.std.proofs.Common.{sym, ap, ◌∙◌}
 use Rattle.mm_model.specs.State.{Core, slot_at, queue_at}
-use Rattle.mm_thread.proofs.Placing.{apart_in}
+use Rattle.mm_thread.proofs.RowIndex.{apart_in}
 use Rattle.mm_thread.proofs.Index.{queue_found}
 use Rattle.mm_thread.proofs.Sound.{queue-none}
 use Rattle.mm_thread.proofs.state.Core.queue.Goals as goal
@@ -8,7 +8,7 @@ use Rattle.mm_thread.proofs.state.Core.queue.Goals as goal
 pub returns-in-Some : goal.returns-in-Some
 returns-in-Some c =
     let t = c.self.inside.tables in
-    let p = c.in-Some.place in
+    let p = c.in-Some.slot_index in
     let found = queue_found t (apart_in t c.self.invariant) p c.in-Some.ensures.within in
     c.queue.ensures ∙ sym found ∙ ap (queue_at t) (c.in-Some.ensures.number ∙ c.from.ensures) ∙ ap (λ (k : Core). queue_at k c.args.n) c.self.view_is
 

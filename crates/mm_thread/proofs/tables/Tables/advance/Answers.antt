@@ -4,29 +4,29 @@ use Rattle.mm_model.specs.Flags.{one_if}
 use Rattle.mm_model.specs.Turn.{is_running}
 use Rattle.mm_model.specs.Slot.{Slot}
 use Rattle.mm_model.specs.State.{Core}
-use Rattle.mm_thread.specs.Places.{slot_in}
+use Rattle.mm_thread.specs.SlotIndices.{slot_in}
 use Rattle.mm_thread.proofs.RunningSlots.{after_number, slot_there, known_set}
 use Rattle.mm_thread.proofs.tables.Tables.advance.Goals as goal
 
-pub kept-self-inside-requires-clause-small : goal.kept-self-inside-requires-clause-small
-kept-self-inside-requires-clause-small c =
+pub keep_running-self-inside-requires-clause-small : goal.keep_running-self-inside-requires-clause-small
+keep_running-self-inside-requires-clause-small c =
     let rows = c.self.inside.rows.items in
-    let within : c.args.place < length rows = omega (arith, ap (λ (k : Core). length k.rows) c.self.view_is) in
-    let here = slot_there rows c.args.place within _ _ (c.row.view_is ∙ c.index_mut-row.ensures.value) in
-    omega (arith, ap (λ (s : Slot). s.number) c.advance.ensures ∙ after_number _ _ ∙ ap (λ (s : Slot). s.number) here, c.self.invariant.running.numbered.small c.args.place within)
+    let within : c.args.slot_index < length rows = omega (arith, ap (λ (k : Core). length k.rows) c.self.view_is) in
+    let here = slot_there rows c.args.slot_index within _ _ (c.row.view_is ∙ c.index_mut-row.ensures.value) in
+    omega (arith, ap (λ (s : Slot). s.number) c.advance.ensures ∙ after_number _ _ ∙ ap (λ (s : Slot). s.number) here, c.self.invariant.running.numbered.small c.args.slot_index within)
 
-pub kept-self-inside-requires-clause-ran : goal.kept-self-inside-requires-clause-ran
-kept-self-inside-requires-clause-ran c =
+pub keep_running-self-inside-requires-clause-ran : goal.keep_running-self-inside-requires-clause-ran
+keep_running-self-inside-requires-clause-ran c =
     let rows = c.self.inside.rows.items in
-    let within : c.args.place < length rows = omega (arith, ap (λ (k : Core). length k.rows) c.self.view_is) in
-    let here = slot_there rows c.args.place within _ _ (c.row.view_is ∙ c.index_mut-row.ensures.value) in
+    let within : c.args.slot_index < length rows = omega (arith, ap (λ (k : Core). length k.rows) c.self.view_is) in
+    let here = slot_there rows c.args.slot_index within _ _ (c.row.view_is ∙ c.index_mut-row.ensures.value) in
     ap (bit_at c.self.inside.runners) (ap (λ (s : Slot). s.number) c.advance.ensures ∙ after_number _ _
-    ∙ ap (λ (s : Slot). s.number) here) ∙ c.self.invariant.running.bits.each c.args.place within
-    ∙ ap one_if (ap (λ (k : Core). is_running (slot_in k c.args.place).state) c.self.view_is ∙ c.requires.runs)
+    ∙ ap (λ (s : Slot). s.number) here) ∙ c.self.invariant.running.bits.each c.args.slot_index within
+    ∙ ap one_if (ap (λ (k : Core). is_running (slot_in k c.args.slot_index).state) c.self.view_is ∙ c.requires.runs)
 
 pub invariant_of-self : goal.invariant_of-self
 invariant_of-self c =
     let rows = c.self.inside.rows.items in
-    let within : c.args.place < length rows = omega (arith, ap (λ (k : Core). length k.rows) c.self.view_is) in
-    let here = slot_there rows c.args.place within _ _ (c.row.view_is ∙ c.index_mut-row.ensures.value) in
-    known_set rows c.args.place within _ (ap (λ (s : Slot). s.number) c.advance.ensures ∙ after_number _ _ ∙ ap (λ (s : Slot). s.number) here) _ _ _ c.self.invariant c.kept-self-inside.ensures
+    let within : c.args.slot_index < length rows = omega (arith, ap (λ (k : Core). length k.rows) c.self.view_is) in
+    let here = slot_there rows c.args.slot_index within _ _ (c.row.view_is ∙ c.index_mut-row.ensures.value) in
+    known_set rows c.args.slot_index within _ (ap (λ (s : Slot). s.number) c.advance.ensures ∙ after_number _ _ ∙ ap (λ (s : Slot). s.number) here) _ _ _ c.self.invariant c.keep_running-self-inside.ensures

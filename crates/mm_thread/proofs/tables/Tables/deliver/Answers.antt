@@ -8,8 +8,8 @@ use Rattle.mm_thread.proofs.tables.Tables.deliver.Goals as goal
 pub invariant_of-self : goal.invariant_of-self
 invariant_of-self c =
     let rows = c.self.inside.rows.items in
-    let within : c.args.place < length rows = omega (arith, ap (λ (k : Core). length k.rows) c.self.view_is) in
-    let here = slot_there rows c.args.place within _ _ (c.row.view_is ∙ c.index_mut-row.ensures.value) in
-    known_kept rows c.args.place within _ (ap (λ (s : Slot). s.number) c.deliver.ensures.slot
+    let within : c.args.slot_index < length rows = omega (arith, ap (λ (k : Core). length k.rows) c.self.view_is) in
+    let here = slot_there rows c.args.slot_index within _ _ (c.row.view_is ∙ c.index_mut-row.ensures.value) in
+    known_kept rows c.args.slot_index within _ (ap (λ (s : Slot). s.number) c.deliver.ensures.slot
     ∙ (delivered_from _).number ∙ ap (λ (s : Slot). s.number) here) _ _ c.self.invariant
     (ap (λ (s : Slot). s.state) c.deliver.ensures.slot ∙ (delivered_from _).state ∙ ap (λ (s : Slot). s.state) here)

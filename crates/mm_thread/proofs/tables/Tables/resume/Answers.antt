@@ -7,14 +7,14 @@ use Rattle.mm_thread.proofs.tables.Tables.resume.Goals as goal
 pub noted-self-inside-requires : goal.noted-self-inside-requires
 noted-self-inside-requires c =
     let rows = c.self.inside.rows.items in
-    let within : c.args.place < length rows = omega (arith, ap (λ (k : Core). length k.rows) c.self.view_is) in
-    let here = slot_there rows c.args.place within _ _ (c.row.view_is ∙ c.index_mut-row.ensures.value) in
-    omega (arith, ap (λ (s : Slot). s.number) c.resume.ensures ∙ resumed_number c.args.how _ ∙ ap (λ (s : Slot). s.number) here, c.self.invariant.running.numbered.small c.args.place within)
+    let within : c.args.slot_index < length rows = omega (arith, ap (λ (k : Core). length k.rows) c.self.view_is) in
+    let here = slot_there rows c.args.slot_index within _ _ (c.row.view_is ∙ c.index_mut-row.ensures.value) in
+    omega (arith, ap (λ (s : Slot). s.number) c.resume.ensures ∙ resumed_number c.args.how _ ∙ ap (λ (s : Slot). s.number) here, c.self.invariant.running.numbered.small c.args.slot_index within)
 
 pub invariant_of-self : goal.invariant_of-self
 invariant_of-self c =
     let rows = c.self.inside.rows.items in
-    let within : c.args.place < length rows = omega (arith, ap (λ (k : Core). length k.rows) c.self.view_is) in
-    let here = slot_there rows c.args.place within _ _ (c.row.view_is ∙ c.index_mut-row.ensures.value) in
-    known_set rows c.args.place within _ (ap (λ (s : Slot). s.number) c.resume.ensures ∙ resumed_number c.args.how _
+    let within : c.args.slot_index < length rows = omega (arith, ap (λ (k : Core). length k.rows) c.self.view_is) in
+    let here = slot_there rows c.args.slot_index within _ _ (c.row.view_is ∙ c.index_mut-row.ensures.value) in
+    known_set rows c.args.slot_index within _ (ap (λ (s : Slot). s.number) c.resume.ensures ∙ resumed_number c.args.how _
     ∙ ap (λ (s : Slot). s.number) here) _ _ _ c.self.invariant c.noted-self-inside.ensures

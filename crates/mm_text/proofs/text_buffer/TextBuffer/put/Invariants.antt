@@ -1,0 +1,8 @@
+use Rattle.std.proofs.Common.{take}
+use Rattle.std.specs.List.{flat_map}
+use Rattle.mm_text.specs.Appends.{Appends}
+use Rattle.mm_text.specs.Pieces.{piece_text}
+use Rattle.mm_text.proofs.text_buffer.TextBuffer.put.Given as goal
+
+abbrev pub invariant-loop-piece : goal.invariant-loop-piece
+invariant-loop-piece g l = Appends g.O.Sink.taken g.O.Sink.faults l.initial.out l.out l.initial.self l.self (flat_map piece_text (take l.piece-index l.pieces))
