@@ -1,40 +1,26 @@
 -- The draft of a text is within its bounds.
 use Rattle.std.proofs.Common.{◌≡◌, ℕ, ◌+◌, ◌<◌, Bool, true, false, nat_le, if◌then◌else◌, List, [], ◌∷◌, length}
 use Rattle.std.proofs.Common.{replicate, Option, Some, None, is_some, Result, Ok, Err, refl, sym, ap, ◌∙◌, subst, arith}
-use Rattle.std.proofs.lemmas.List.{length-replicate}
-use Rattle.std.proofs.lemmas.Bool.Decides.{nat_tests}
-use Rattle.std.specs.Prelude.{is_none}
-use Rattle.mm_draft.proofs.Steps.{zeros_point_nowhere}
-use Rattle.mm_draft.proofs.Allowed.{good}
-use Rattle.mm_draft.proofs.Firsts.{no_fault}
-use Rattle.mm_line.specs.declared.fault.Problem.{Problem}
-use Rattle.mm_line.specs.declared.fault.Fault.TheVariants as faults
-use Rattle.mm_line.specs.declared.name.Mark.{Mark}
-use Rattle.mm_line.specs.declared.statement.Statement.{Statement}
-use Rattle.mm_line.specs.declared.statement.Statement.TheVariants as statement
-use Rattle.mm_line.specs.declared.line.Claim.{Claim}
-use Rattle.mm_line.specs.declared.line.Claim.TheVariants as claims
-use Rattle.mm_line.specs.declared.line.Body.{Body}
-use Rattle.mm_line.specs.declared.line.Line.{Line}
-use Rattle.mm_line.specs.Statements.{line_of}
-use Rattle.mm_line.specs.Ranges.{IsStatement, IsOptionalBody, IsLine, Names, NamesItsClaim}
-use Rattle.mm_line.proofs.StatementRanges.{line_is}
-use Rattle.mm_line.proofs.Claims.{line_claims}
-use Rattle.mm_draft.specs.declared.source.Source.{Source}
-use Rattle.mm_draft.specs.declared.segment.Word.{Word}
-use Rattle.mm_draft.specs.declared.thread.Register.{Register}
+use Rattle.std.{proofs.lemmas.{List.length-replicate, Bool.Decides.nat_tests}, specs.Prelude.is_none}
+use Rattle.mm_draft.proofs.{Steps.zeros_point_nowhere, Allowed.good, Firsts.no_fault}
+use Rattle.mm_draft.specs.declared.{source.Source.Source, segment.Word.Word, thread.Register.Register}
 use Rattle.mm_draft.specs.declared.fault.Failure.{Failure}
-use Rattle.mm_draft.specs.Drafts.{place_in, Segment, Thread, Draft, nothing, last, zero_word, add_statement, add_reading, add_body, add_maybe_label, add_line}
+use Rattle.mm_draft.specs.Drafts.{place_in, Segment, Thread, Draft, nothing, last, zero_word, add_statement}
+use Rattle.mm_draft.specs.Drafts.{add_reading, add_body, add_maybe_label, add_line}
 use Rattle.mm_draft.specs.Faults.{fault_if, is_named, has_slot, has_register, claim_faults, maybe_label_faults}
-use Rattle.mm_draft.specs.Faults.{one_if_pointer, statement_faults, reading_faults, body_faults, line_faults}
-use Rattle.mm_draft.specs.Faults.{is_before, lesser, first_of, source_of, step_by, step, ◌then◌}
-use Rattle.mm_draft.specs.Faults.{lines_from, lines_of, draft_of}
-use Rattle.mm_asm.specs.Bounds.{IsRegister, IsThread, IsDraft}
-use Rattle.mm_asm.specs.Laws.{DraftsAreBounded}
-use Rattle.mm_asm.proofs.Lists.{none_both}
-use Rattle.mm_asm.proofs.Segments.{mark_name}
+use Rattle.mm_draft.specs.Faults.{one_if_pointer, statement_faults, reading_faults, body_faults, line_faults, is_before}
+use Rattle.mm_draft.specs.Faults.{lesser, first_of, source_of, step_by, step, ◌then◌, lines_from, lines_of, draft_of}
+use Rattle.mm_line.specs.declared.{fault.Problem.Problem, name.Mark.Mark, statement.Statement.Statement}
+use Rattle.mm_line.specs.{declared.line.{Claim.Claim, Body.Body, Line.Line}, Statements.line_of}
+use Rattle.mm_line.specs.Ranges.{IsStatement, IsOptionalBody, IsLine, Names, NamesItsClaim}
+use Rattle.mm_line.proofs.{StatementRanges.line_is, Claims.line_claims}
+use Rattle.mm_asm.specs.{Bounds.{IsRegister, IsThread, IsDraft}, Laws.DraftsAreBounded}
+use Rattle.mm_asm.proofs.{Lists.none_both, Segments.mark_name}
 use Rattle.mm_asm.proofs.Kept.{label_kept, begin_kept, words_kept, zeros_are, thread_kept, register_kept}
 use Rattle.mm_model.specs.Limits.{segment_limit}
+use Rattle.mm_line.specs.declared.fault.Fault.TheVariants as faults
+use Rattle.mm_line.specs.declared.statement.Statement.TheVariants as statement
+use Rattle.mm_line.specs.declared.line.Claim.TheVariants as claims
 
 -- 1. Statements.
 

@@ -1,6 +1,6 @@
 -- Lists that a loop builds.
-use Rattle.std.proofs.Common.{◌≡◌, ℕ, zero, suc, ◌+◌, ◌<◌, List, [], ◌∷◌, length, get_or, take, ◌++◌, sym, ap, ◌∙◌, arith, append_assoc, append-nil}
-use Rattle.std.specs.List.{flat_map}
+use Rattle.std.proofs.Common.{◌≡◌, ℕ, zero, suc, ◌+◌, ◌<◌, List, [], ◌∷◌, length, get_or, take, ◌++◌, sym, ap, ◌∙◌}
+use Rattle.std.{proofs.Common.{arith, append_assoc, append-nil}, specs.List.flat_map}
 use Rattle.mm_object.proofs.Bools.{flat_map-more}
 
 module _ {A B : Type 0} (f : A → List B) where

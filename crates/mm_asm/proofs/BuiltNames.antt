@@ -1,31 +1,19 @@
 -- Names in a set, and the place of a name among those that rise.
-use Rattle.std.proofs.Common.{◌≡◌, ℕ, zero, suc, ◌+◌, ◌<◌, Bool, true, false, not, ◌&&◌, ◌||◌, List, bytes_eq}
-use Rattle.std.proofs.Common.{[], ◌∷◌, ◌++◌, length, get_or, take, Option, is_some, refl, sym, ap, ◌∙◌}
-use Rattle.std.proofs.Common.{subst, arith, inl, inr}
-use Rattle.std.specs.declared.cmp.Ordering.{Ordering}
-use Rattle.std.specs.declared.cmp.Ordering.TheVariants.{Less, Equal, Greater}
-use Rattle.std.specs.Ordering.{ordering_index, nat_cmp, is_lt, is_eq}
-use Rattle.std.specs.Cmp.Lexicographic.{slice_cmp}
-use Rattle.std.proofs.lemmas.Cmp.{nat_list_cmp_total, tied_itself}
-use Rattle.std.proofs.lemmas.Map.Text.{is_eq-slice_cmp}
-use Rattle.std.proofs.lemmas.Bool.{cases_lt, and_parts, false_from_ne_true}
-use Rattle.std.proofs.lemmas.List.Sorted.{searchable_from_sorted}
+use Rattle.std.proofs.Common.{◌≡◌, ℕ, zero, suc, ◌+◌, ◌<◌, Bool, true, false, not, ◌&&◌, ◌||◌, List, bytes_eq, [], ◌∷◌}
+use Rattle.std.proofs.Common.{◌++◌, length, get_or, take, Option, is_some, refl, sym, ap, ◌∙◌, subst, arith, inl, inr}
+use Rattle.std.proofs.lemmas.{Cmp.{nat_list_cmp_total, tied_itself}, Map.Text.is_eq-slice_cmp}
+use Rattle.std.proofs.lemmas.{Bool.{cases_lt, and_parts, false_from_ne_true}, List.Sorted.searchable_from_sorted}
+use Rattle.std.specs.declared.cmp.Ordering.{Ordering, TheVariants.{Less, Equal, Greater}}
+use Rattle.std.specs.{Ordering.{ordering_index, nat_cmp, is_lt, is_eq}, Cmp.Lexicographic.slice_cmp}
 use Rattle.std.specs.List.Sorted.{IsSortedBy, IsNonDecreasingBy, IsPartitionPoint}
 use denote.Ref.{Bor}
 use Rattle.mm_line.specs.declared.fault.Fault.TheVariants.{Limit}
-use Rattle.mm_draft.specs.Faults.{fault_if}
-use Rattle.mm_draft.specs.Drafts.{Draft, place_of}
-use Rattle.mm_draft.specs.declared.fault.Failure.{Failure}
-use Rattle.mm_object.specs.Names.{is_before}
-use Rattle.mm_object.specs.Objects.{is_among, ascend}
+use Rattle.mm_draft.specs.{Faults.fault_if, Drafts.{Draft, place_of}, declared.fault.Failure.Failure}
+use Rattle.mm_object.specs.{Names.is_before, Objects.{is_among, ascend}, Steps.key_names}
 use Rattle.mm_asm.specs.Names.{Use, position_of, externals_with, with_use, is_external, name_of}
-use Rattle.mm_asm.specs.Faults.{limit_failures, in_source, is_too_many}
-use Rattle.mm_asm.specs.Steps.{limit_failure}
-use Rattle.mm_asm.specs.Answers.{Meets}
-use Rattle.mm_asm.proofs.Lists.{each_weaker}
-use Rattle.mm_asm.proofs.Order.{Rising, not_itself, before_all, position_at, is_same}
+use Rattle.mm_asm.specs.{Faults.{limit_failures, in_source, is_too_many}, Steps.limit_failure, Answers.Meets}
+use Rattle.mm_asm.proofs.{Lists.each_weaker, Order.{Rising, not_itself, before_all, position_at, is_same}}
 use Rattle.mm_asm.proofs.LateFirsts.{met_both}
-use Rattle.mm_object.specs.Steps.{key_names}
 
 -- 1. The order of bytes.
 

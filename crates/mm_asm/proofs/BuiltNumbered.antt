@@ -1,11 +1,7 @@
 -- The lists of the meaning, as items of numbered items.
-use Rattle.std.proofs.Common.{◌≡◌, ℕ, ◌+◌, List, [], ◌∷◌, ◌++◌, refl, ap}
-use Rattle.std.specs.List.{flat_map}
-use Rattle.mm_draft.specs.declared.fault.Failure.{Failure}
-use Rattle.mm_draft.specs.declared.segment.Word.{Word}
-use Rattle.mm_draft.specs.Drafts.{Segment, Draft}
-use Rattle.mm_object.specs.declared.item.Item.{Item}
-use Rattle.mm_object.specs.declared.target.Reloc.{Reloc}
+use Rattle.std.{proofs.Common.{◌≡◌, ℕ, ◌+◌, List, [], ◌∷◌, ◌++◌, refl, ap}, specs.List.flat_map}
+use Rattle.mm_draft.specs.{declared.{fault.Failure.Failure, segment.Word.Word}, Drafts.{Segment, Draft}}
+use Rattle.mm_object.specs.declared.{item.Item.Item, target.Reloc.Reloc}
 use Rattle.mm_asm.specs.Faults.{word_failures, goal_failures}
 use Rattle.mm_asm.specs.Meaning.{bits_of, word_items, content_relocs, words_relocs, segments_relocs}
 use Rattle.mm_asm.proofs.Built.{numbered}

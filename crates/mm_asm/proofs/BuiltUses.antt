@@ -1,6 +1,6 @@
 -- The end of a merge of two lists of uses.
-use Rattle.std.proofs.Common.{◌≡◌, ◌⊎◌, ℕ, ◌≤◌, List, [], ◌∷◌, ◌++◌, length, take, drop, ◌-◌, refl, sym, ap, ◌∙◌, inl, inr, append-nil, arith}
-use Rattle.std.proofs.lemmas.List.{drop_all, take_all, length-drop}
+use Rattle.std.proofs.Common.{◌≡◌, ◌⊎◌, ℕ, ◌≤◌, List, [], ◌∷◌, ◌++◌, length, take, drop, ◌-◌, refl, sym, ap, ◌∙◌, inl}
+use Rattle.std.proofs.{Common.{inr, append-nil, arith}, lemmas.List.{drop_all, take_all, length-drop}}
 use Rattle.mm_asm.specs.Names.{Use, merge}
 
 merge_none : (xs : List Use) → merge xs [] ≡ xs

@@ -1,19 +1,15 @@
 -- The externals of uses: in order, each the name of a use, and few where no use is one too many.
-use Rattle.std.proofs.Common.{◌≡◌, ℕ, ◌≤◌, Bool, true, false, not, ◌&&◌, ◌||◌, nat_le, if◌then◌else◌, List, [], ◌∷◌, length, refl, sym, ap, ◌∙◌, subst, inl, inr, arith, bytes_eq}
-use Rattle.std.specs.List.{AllByRecursion}
-use Rattle.std.proofs.lemmas.Bool.{cases_lt, or_right, or_left}
-use Rattle.std.proofs.lemmas.Bool.Decides.{nat_tests}
-use Rattle.mm_draft.proofs.Allowed.{good}
-use Rattle.mm_line.specs.declared.fault.Fault.{Fault}
-use Rattle.mm_line.specs.declared.fault.Fault.TheVariants.{Limit}
-use Rattle.mm_draft.specs.Drafts.{Draft}
-use Rattle.mm_draft.specs.Faults.{fault_if}
-use Rattle.mm_object.specs.Objects.{is_among, external_limit}
+use Rattle.std.proofs.Common.{◌≡◌, ℕ, ◌≤◌, Bool, true, false, not, ◌&&◌, ◌||◌, nat_le, if◌then◌else◌, List, [], ◌∷◌}
+use Rattle.std.proofs.Common.{length, refl, sym, ap, ◌∙◌, subst, inl, inr, arith, bytes_eq}
+use Rattle.std.{proofs.lemmas.Bool.{cases_lt, or_right, or_left, Decides.nat_tests}, specs.List.AllByRecursion}
+use Rattle.mm_draft.{proofs.Allowed.good, specs.{Drafts.Draft, Faults.fault_if}}
+use Rattle.mm_line.specs.declared.fault.Fault.{Fault, TheVariants.Limit}
+use Rattle.mm_object.{specs.Objects.{is_among, external_limit}, proofs.Members.In}
 use Rattle.mm_asm.specs.Names.{Use, is_external, name_of, insert_name, with_use, externals_with}
 use Rattle.mm_asm.specs.Faults.{in_source, is_too_many, limit_failures}
 use Rattle.mm_asm.proofs.Lists.{none_both, none_map}
-use Rattle.mm_object.proofs.Members.{In}
-use Rattle.mm_asm.proofs.Order.{Rising, insert_rising, insert_each, insert_among, insert_length, insert_again, same_itself}
+use Rattle.mm_asm.proofs.Order.{Rising, insert_rising, insert_each, insert_among, insert_length, insert_again}
+use Rattle.mm_asm.proofs.Order.{same_itself}
 
 module _ (d : Draft) where
   pub externals_rise : (uses : List Use) (names : List (List ℕ)) → Rising names → Rising (externals_with d names uses)

@@ -1,29 +1,18 @@
 -- Names as they are first seen, and the same names in the order of their bytes.
-use Rattle.std.proofs.Common.{◌≡◌, ℕ, suc, ◌+◌, ◌≤◌, Bool, true, false, not, ◌&&◌, ◌||◌, if◌then◌else◌}
-use Rattle.std.proofs.Common.{List, [], ◌∷◌, ◌++◌, length, length-append, get_or, refl, sym, ap, ◌∙◌, subst, arith}
-use Rattle.std.specs.Prelude.{nat_le}
-use Rattle.std.specs.Str.{bytes_eq}
-use Rattle.std.specs.Ordering.{is_lt}
-use Rattle.std.specs.List.{list_any, IsDistinct}
-use Rattle.std.specs.List.Sorted.{IsSorted}
-use Rattle.std.proofs.lemmas.Bool.Decides.{nat_tests}
-use Rattle.std.proofs.lemmas.List.{map-append}
-use Rattle.std.proofs.lemmas.Map.Keys.{IsDistinct-head, IsDistinct-tail}
-use Rattle.std.proofs.lemmas.Slice.Eq.{bytes_eq-Decides}
-use Rattle.std.proofs.lemmas.Bool.{and_from, false_from_ne_true, or_left}
+use Rattle.std.proofs.Common.{◌≡◌, ℕ, suc, ◌+◌, ◌≤◌, Bool, true, false, not, ◌&&◌, ◌||◌, if◌then◌else◌, List, [], ◌∷◌}
+use Rattle.std.proofs.Common.{◌++◌, length, length-append, get_or, refl, sym, ap, ◌∙◌, subst, arith}
+use Rattle.std.proofs.lemmas.{Bool.{and_from, false_from_ne_true, or_left, Decides.nat_tests}, List.map-append}
+use Rattle.std.proofs.lemmas.{Map.Keys.{IsDistinct-head, IsDistinct-tail}, Slice.Eq.bytes_eq-Decides}
+use Rattle.std.specs.{Prelude.nat_le, Str.bytes_eq, Ordering.is_lt, List.{list_any, IsDistinct, Sorted.IsSorted}}
 use Rattle.indexmap.specs.IndexSet.{insert_key}
 use denote.Ref.{Bor}
 use Rattle.mm_line.specs.declared.fault.Fault.TheVariants.{Limit}
-use Rattle.mm_draft.specs.Drafts.{Draft}
-use Rattle.mm_draft.specs.Faults.{fault_if}
-use Rattle.mm_object.specs.Names.{is_before}
-use Rattle.mm_object.specs.Objects.{is_among, ascend, external_limit}
+use Rattle.mm_draft.specs.{Drafts.Draft, Faults.fault_if}
+use Rattle.mm_object.specs.{Names.is_before, Objects.{is_among, ascend, external_limit}, Steps.key_names}
 use Rattle.mm_asm.specs.Names.{Use, HasEach, insert_name, is_external, name_of, seen_with, with_use}
-use Rattle.mm_asm.specs.Faults.{in_source, is_too_many}
-use Rattle.mm_asm.specs.Steps.{limit_failure}
-use Rattle.mm_asm.proofs.Order.{Rising, before_all, not_itself, one_first, is_same, is_other, same_itself, insert_among, insert_again, each_among, turned}
-use Rattle.mm_asm.proofs.BuiltNames.{order_of, ascend_rises, as_many}
-use Rattle.mm_object.specs.Steps.{key_names}
+use Rattle.mm_asm.specs.{Faults.{in_source, is_too_many}, Steps.limit_failure}
+use Rattle.mm_asm.proofs.Order.{Rising, before_all, not_itself, one_first, is_same, is_other, same_itself, insert_among}
+use Rattle.mm_asm.proofs.{Order.{insert_again, each_among, turned}, BuiltNames.{order_of, ascend_rises, as_many}}
 
 -- 1. Truth.
 

@@ -2,40 +2,27 @@
 use Rattle.std.proofs.Common.{◌≡◌, ℕ, zero, suc, ◌+◌, ◌<◌, ◌≤◌, Bool, true, false, nat_lt, if◌then◌else◌, List, [], ◌∷◌}
 use Rattle.std.proofs.Common.{◌++◌, map, replicate, Option, Some, None, Result, Ok, Err, refl, sym, ap, ◌∙◌, subst, inl}
 use Rattle.std.proofs.Common.{inr, arith, append_assoc, append-nil}
-use Rattle.std.specs.List.{flat_map, AllByRecursion}
-use Rattle.std.proofs.lemmas.List.{map-append}
-use Rattle.std.proofs.lemmas.Bool.Decides.{nat_tests}
-use Rattle.std.proofs.lemmas.Grind.{flat_map-append}
-use Rattle.std.specs.Prelude.{is_none}
-use Rattle.std.proofs.lemmas.Bool.{lt-ltb}
-use Rattle.mm_draft.proofs.Allowed.{good}
-use Rattle.mm_draft.proofs.Firsts.{no_fault}
-use Rattle.mm_line.specs.declared.fault.Problem.{Problem}
-use Rattle.mm_line.specs.declared.fault.Fault.TheVariants as faults
-use Rattle.mm_line.specs.declared.name.Mark.{Mark}
-use Rattle.mm_line.specs.declared.statement.Constant.{Constant}
-use Rattle.mm_line.specs.declared.statement.Constant.TheVariants.{Integer, Pointer}
-use Rattle.mm_line.specs.declared.statement.Content.{Content}
-use Rattle.mm_line.specs.declared.statement.Content.TheVariants as content
-use Rattle.mm_line.specs.declared.statement.Statement.{Statement}
-use Rattle.mm_line.specs.declared.statement.Statement.TheVariants as statement
-use Rattle.mm_line.specs.declared.line.Body.{Body}
-use Rattle.mm_line.specs.declared.line.Line.{Line}
-use Rattle.mm_line.specs.Statements.{line_of}
-use Rattle.mm_draft.specs.declared.source.Source.{Source}
-use Rattle.mm_draft.specs.declared.segment.Word.{Word}
-use Rattle.mm_draft.specs.declared.thread.Register.{Register}
+use Rattle.std.proofs.lemmas.{List.map-append, Bool.{lt-ltb, Decides.nat_tests}, Grind.flat_map-append}
+use Rattle.std.specs.{List.{flat_map, AllByRecursion}, Prelude.is_none}
+use Rattle.mm_draft.proofs.{Allowed.good, Firsts.no_fault}
+use Rattle.mm_draft.specs.declared.{source.Source.Source, segment.Word.Word, thread.Register.Register}
 use Rattle.mm_draft.specs.declared.fault.Failure.{Failure}
-use Rattle.mm_draft.specs.Drafts.{Segment, Thread, Draft, nothing, last, change_last, with_words, with_register, zero_word, add_statement, add_reading, add_body, add_maybe_label, add_line}
-use Rattle.mm_draft.specs.Faults.{claim_faults, maybe_label_faults, one_if_pointer, words_faults}
-use Rattle.mm_draft.specs.Faults.{statement_faults, reading_faults, body_faults, line_faults, first_of, source_of}
-use Rattle.mm_draft.specs.Faults.{step_by, step, ◌then◌, lines_from, lines_of, draft_of}
-use Rattle.mm_asm.specs.Names.{Use, constant_uses, content_uses, word_uses, segment_uses, register_uses, thread_uses, merge, uses_of}
-use Rattle.mm_asm.specs.Laws.{TargetsStandInOrder}
-use Rattle.mm_asm.proofs.Lists.{each_weaker, none_both}
+use Rattle.mm_draft.specs.Drafts.{Segment, Thread, Draft, nothing, last, change_last, with_words, with_register}
+use Rattle.mm_draft.specs.Drafts.{zero_word, add_statement, add_reading, add_body, add_maybe_label, add_line}
+use Rattle.mm_draft.specs.Faults.{claim_faults, maybe_label_faults, one_if_pointer, words_faults, statement_faults}
+use Rattle.mm_draft.specs.Faults.{reading_faults, body_faults, line_faults, first_of, source_of, step_by, step, ◌then◌}
+use Rattle.mm_draft.specs.Faults.{lines_from, lines_of, draft_of}
+use Rattle.mm_line.specs.declared.{fault.Problem.Problem, name.Mark.Mark}
+use Rattle.mm_line.specs.declared.statement.{Constant.{Constant, TheVariants.{Integer, Pointer}}, Content.Content}
+use Rattle.mm_line.specs.declared.{statement.Statement.Statement, line.{Body.Body, Line.Line}}
+use Rattle.mm_line.specs.Statements.{line_of}
+use Rattle.mm_asm.specs.Names.{Use, constant_uses, content_uses, word_uses, segment_uses, register_uses, thread_uses}
+use Rattle.mm_asm.specs.{Names.{merge, uses_of}, Laws.TargetsStandInOrder}
+use Rattle.mm_asm.proofs.{Lists.{each_weaker, none_both}, Uses.in_merge, Relocs.{RisesWithin, higher, rises, in_turn}}
 use Rattle.mm_object.proofs.Members.{each_in, each_from}
-use Rattle.mm_asm.proofs.Uses.{in_merge}
-use Rattle.mm_asm.proofs.Relocs.{RisesWithin, higher, rises, in_turn}
+use Rattle.mm_line.specs.declared.fault.Fault.TheVariants as faults
+use Rattle.mm_line.specs.declared.statement.Content.TheVariants as content
+use Rattle.mm_line.specs.declared.statement.Statement.TheVariants as statement
 
 abbrev line_of_use : Use → ℕ
 line_of_use u = u.source.line

@@ -2,31 +2,23 @@
 use Rattle.std.proofs.Common.{◌≡◌, ℕ, zero, suc, ◌+◌, ◌-◌, ◌<◌, ◌≤◌, Bool, true, false, ◌||◌, ◌==◌, nat_lt}
 use Rattle.std.proofs.Common.{if◌then◌else◌, List, [], ◌∷◌, ◌++◌, map, length, replicate, slice_get, Option, Some, None}
 use Rattle.std.proofs.Common.{is_some, bytes_eq, refl, sym, ap, ◌∙◌, subst, arith, length-append}
-use Rattle.std.specs.List.{list_any, AllByRecursion}
-use Rattle.std.proofs.lemmas.List.{map-append}
-use Rattle.std.proofs.lemmas.List.Folds.{list_any-append}
-use Rattle.std.proofs.lemmas.Bool.Decides.{nat_tests}
-use Rattle.std.proofs.lemmas.Slice.Eq.{bytes_eq-Decides}
-use Rattle.std.proofs.lemmas.Bool.{or_parts, false_from_ne_true, or_from, ltb-false}
-use Rattle.mm_draft.proofs.Lasts.{pointers_append}
-use Rattle.mm_draft.proofs.Allowed.{good}
-use Rattle.mm_model.proofs.CoreRows.{into_map}
-use Rattle.mm_line.specs.declared.fault.Fault.TheVariants.{Full, Limit}
-use Rattle.mm_draft.specs.declared.source.Source.{Source}
-use Rattle.mm_draft.specs.declared.segment.Word.{Word}
-use Rattle.mm_draft.specs.declared.location.Location.{Location}
+use Rattle.std.proofs.lemmas.List.{map-append, Folds.list_any-append}
+use Rattle.std.proofs.lemmas.Bool.{or_parts, false_from_ne_true, or_from, ltb-false, Decides.nat_tests}
+use Rattle.std.{proofs.lemmas.Slice.Eq.bytes_eq-Decides, specs.List.{list_any, AllByRecursion}}
+use Rattle.mm_draft.proofs.{Lasts.pointers_append, Allowed.good}
+use Rattle.mm_draft.specs.declared.{source.Source.Source, segment.Word.Word, location.Location.Location}
 use Rattle.mm_draft.specs.declared.thread.Register.{Register}
-use Rattle.mm_draft.specs.Drafts.{Segment, Entry, Thread, Draft, place_in, last, words_so_far, words_of, pointers_among, pointers_of, change_last, with_words, with_register, zero_word}
+use Rattle.mm_draft.specs.Drafts.{Segment, Entry, Thread, Draft, place_in, last, words_so_far, words_of, pointers_among}
+use Rattle.mm_draft.specs.Drafts.{pointers_of, change_last, with_words, with_register, zero_word}
 use Rattle.mm_draft.specs.Faults.{room_of, fault_if, has_register, words_faults}
-use Rattle.mm_object.specs.Names.{is_name}
-use Rattle.mm_object.specs.Objects.{is_among, are_apart}
-use Rattle.mm_object.proofs.Bools.{any-map}
-use Rattle.mm_object.proofs.Apartness.{apart-push}
-use Rattle.mm_asm.specs.Bounds.{IsWord, IsRegister, AreApart, IsSegment, IsThread, HasWord, IsLocation, AreNamed, AreSegments, AreThreads}
-use Rattle.mm_asm.proofs.Lists.{each_weaker, each_changed, length_changed, map_changed, total, total_more, total_changed, none_both}
-use Rattle.mm_object.proofs.Members.{each_more}
-use Rattle.mm_asm.proofs.Order.{is_other, each_among}
-use Rattle.mm_model.specs.Limits.{segment_limit, word_limit, reloc_limit}
+use Rattle.mm_model.{proofs.CoreRows.into_map, specs.Limits.{segment_limit, word_limit, reloc_limit}}
+use Rattle.mm_line.specs.declared.fault.Fault.TheVariants.{Full, Limit}
+use Rattle.mm_object.specs.{Names.is_name, Objects.{is_among, are_apart}}
+use Rattle.mm_object.proofs.{Bools.any-map, Apartness.apart-push, Members.each_more}
+use Rattle.mm_asm.specs.Bounds.{IsWord, IsRegister, AreApart, IsSegment, IsThread, HasWord, IsLocation, AreNamed}
+use Rattle.mm_asm.specs.Bounds.{AreSegments, AreThreads}
+use Rattle.mm_asm.proofs.Lists.{each_weaker, each_changed, length_changed, map_changed, total, total_more}
+use Rattle.mm_asm.proofs.{Lists.{total_changed, none_both}, Order.{is_other, each_among}}
 
 -- 1. Names.
 

@@ -2,24 +2,15 @@
 use Rattle.std.proofs.Common.{◌≡◌, ℕ, List, [], map, Option, Some, None, Result, Ok, Err, refl, sym, ap, ◌∙◌, subst}
 use Rattle.std.specs.{Prelude.IfOk, Result.IsErrAnd}
 use Rattle.mm_model.specs.Answers.{IsUnless, ValueOrFault}
-use Rattle.mm_line.specs.declared.fault.Fault.{Fault}
-use Rattle.mm_line.specs.Faults.{number_of}
-use Rattle.mm_draft.specs.Drafts.{Draft}
-use Rattle.mm_draft.specs.Seen.{Reads}
-use Rattle.mm_draft.specs.declared.fault.DraftError.{DraftError}
-use Rattle.mm_draft.specs.declared.fault.DraftError.TheVariants as early
-use Rattle.mm_draft.specs.declared.fault.Failure.{Failure}
-use Rattle.mm_draft.specs.Faults.{draft_of}
-use Rattle.mm_draft.specs.Laws.{Pair, failure_pair, least}
-use Rattle.mm_draft.proofs.Least.{first_is_least}
+use Rattle.mm_line.specs.{declared.fault.Fault.Fault, Faults.number_of}
+use Rattle.mm_draft.specs.{Drafts.Draft, Seen.Reads, declared.fault.{DraftError.DraftError, Failure.Failure}}
+use Rattle.mm_draft.{specs.{Faults.draft_of, Laws.{Pair, failure_pair, least}}, proofs.Least.first_is_least}
 use Rattle.mm_object.specs.Objects.{Object}
-use Rattle.mm_asm.specs.declared.fault.AsmError.{AsmError}
+use Rattle.mm_asm.specs.{declared.fault.AsmError.AsmError, Meaning.object_of}
+use Rattle.mm_asm.specs.{Faults.{late_failures, first_fault, Means}, Answers.{Fails, pair_of_error}}
+use Rattle.mm_asm.proofs.{Lists.none_map, Texts.{none_least, ok_same}}
+use Rattle.mm_draft.specs.declared.fault.DraftError.TheVariants as early
 use Rattle.mm_asm.specs.declared.fault.AsmError.TheVariants as errors
-use Rattle.mm_asm.specs.Meaning.{object_of}
-use Rattle.mm_asm.specs.Faults.{late_failures, first_fault, Means}
-use Rattle.mm_asm.proofs.Lists.{none_map}
-use Rattle.mm_asm.proofs.Texts.{none_least, ok_same}
-use Rattle.mm_asm.specs.Answers.{Fails, pair_of_error}
 
 -- failures without a least one are none
 pub none_late : (failures : List Failure) → least (map failure_pair failures) ≡ None → failures ≡ []

@@ -1,16 +1,12 @@
 -- The first of faults that are met in turn.
-use Rattle.std.proofs.Common.{◌≡◌, ℕ, ◌+◌, ◌<◌, Bool, true, false, if◌then◌else◌, ◌&&◌, ◌||◌, List, [], ◌∷◌, ◌++◌, map, length, get_or, take, Option, Some, None, refl, sym, ap, ◌∙◌, subst, arith}
-use Rattle.std.specs.Prelude.{nat_lt, ◌==◌}
-use Rattle.std.specs.List.{flat_map}
-use Rattle.std.proofs.lemmas.Bool.Decides.{nat_tests}
-use Rattle.mm_draft.specs.declared.fault.Failure.{Failure}
-use Rattle.mm_draft.specs.Laws.{Pair, failure_pair, precedes, sooner, least}
+use Rattle.std.proofs.Common.{◌≡◌, ℕ, ◌+◌, ◌<◌, Bool, true, false, if◌then◌else◌, ◌&&◌, ◌||◌, List, [], ◌∷◌, ◌++◌, map}
+use Rattle.std.proofs.Common.{length, get_or, take, Option, Some, None, refl, sym, ap, ◌∙◌, subst, arith}
+use Rattle.std.{proofs.lemmas.Bool.Decides.nat_tests, specs.{Prelude.{nat_lt, ◌==◌}, List.flat_map}}
+use Rattle.mm_draft.specs.{declared.fault.Failure.Failure, Laws.{Pair, failure_pair, precedes, sooner, least}}
 use Rattle.mm_draft.specs.Drafts.{Draft}
 use Rattle.mm_object.proofs.Bools.{flat_map-more}
-use Rattle.mm_asm.specs.Names.{Use, uses_of}
-use Rattle.mm_asm.specs.Faults.{goal_failures, use_failures, limit_failures, late_failures}
-use Rattle.mm_asm.specs.Answers.{either, pair_of_first, Meets}
-use Rattle.mm_asm.proofs.Built.{numbered, numbered_more}
+use Rattle.mm_asm.specs.{Names.{Use, uses_of}, Faults.{goal_failures, use_failures, limit_failures, late_failures}}
+use Rattle.mm_asm.{specs.Answers.{either, pair_of_first, Meets}, proofs.Built.{numbered, numbered_more}}
 
 -- the order, on numbers alone
 goes_before : ℕ → ℕ → ℕ → ℕ → ℕ → ℕ → Bool

@@ -2,36 +2,27 @@
 use Rattle.std.proofs.Common.{◌≡◌, ℕ, zero, suc, ◌+◌, ◌-◌, ◌^◌, ◌<◌, ◌≤◌, Bool, true, false, cond, if◌then◌else◌, List}
 use Rattle.std.proofs.Common.{[], ◌∷◌, ◌++◌, map, length, replicate, Option, Some, None, Result, Ok, Err, subst, inl}
 use Rattle.std.proofs.Common.{inr, arith}
-use Rattle.std.specs.List.{flat_map, slice_split, onto_first, AllByRecursion}
-use Rattle.std.specs.Prelude.{◌==◌}
+use Rattle.std.specs.{List.{flat_map, slice_split, onto_first, AllByRecursion}, Prelude.◌==◌}
 use Prim.Native.Char.{code}
-use Rattle.mm_line.specs.declared.fault.Problem.{Problem}
-use Rattle.mm_line.specs.declared.name.Mark.{Mark}
-use Rattle.mm_line.specs.declared.statement.Constant.{Constant}
-use Rattle.mm_line.specs.declared.statement.Constant.TheVariants.{Integer, Pointer}
-use Rattle.mm_line.specs.declared.statement.Content.{Content}
-use Rattle.mm_line.specs.declared.statement.Content.TheVariants as content
-use Rattle.mm_line.specs.declared.statement.Statement.{Statement}
-use Rattle.mm_line.specs.declared.statement.Statement.TheVariants as statement
-use Rattle.mm_line.specs.declared.line.Body.{Body}
-use Rattle.mm_line.specs.declared.line.Line.{Line}
+use Rattle.mm_line.specs.declared.{fault.Problem.Problem, name.Mark.Mark}
+use Rattle.mm_line.specs.declared.statement.{Constant.{Constant, TheVariants.{Integer, Pointer}}, Content.Content}
+use Rattle.mm_line.specs.declared.{statement.Statement.Statement, line.{Body.Body, Line.Line}}
 use Rattle.mm_line.specs.Statements.{line_of}
-use Rattle.mm_draft.specs.declared.source.Source.{Source}
-use Rattle.mm_draft.specs.declared.segment.Word.{Word}
-use Rattle.mm_draft.specs.declared.thread.Register.{Register}
-use Rattle.mm_draft.specs.declared.fault.Failure.{Failure}
-use Rattle.mm_draft.specs.declared.fault.DraftError.{DraftError}
-use Rattle.mm_draft.specs.declared.fault.DraftError.TheVariants as early
-use Rattle.mm_draft.specs.Seen.{Reads}
-use Rattle.mm_draft.specs.Drafts.{Segment, Thread, Draft, nothing, with_words, with_register, zero_word, add_statement, add_reading, add_body, add_maybe_label, add_line}
-use Rattle.mm_draft.specs.Faults.{line_faults, first_of, source_of, step_by, step, ◌then◌, lines_from, lines_of, draft_of}
-use Rattle.mm_draft.specs.Laws.{Pair, failure_pair, precedes, sooner, least}
-use Rattle.mm_asm.specs.Names.{Use, constant_uses, content_uses, word_uses, segment_uses, register_uses, thread_uses, merge, uses_of, with_use}
+use Rattle.mm_draft.specs.declared.{source.Source.Source, segment.Word.Word, thread.Register.Register}
+use Rattle.mm_draft.specs.{declared.fault.{Failure.Failure, DraftError.DraftError}, Seen.Reads}
+use Rattle.mm_draft.specs.Drafts.{Segment, Thread, Draft, nothing, with_words, with_register, zero_word, add_statement}
+use Rattle.mm_draft.specs.Drafts.{add_reading, add_body, add_maybe_label, add_line}
+use Rattle.mm_draft.specs.Faults.{line_faults, first_of, source_of, step_by, step, ◌then◌, lines_from, lines_of}
+use Rattle.mm_draft.specs.{Faults.draft_of, Laws.{Pair, failure_pair, precedes, sooner, least}}
+use Rattle.mm_asm.specs.Names.{Use, constant_uses, content_uses, word_uses, segment_uses, register_uses, thread_uses}
+use Rattle.mm_asm.specs.Names.{merge, uses_of, with_use}
 use Rattle.mm_asm.specs.Faults.{in_source, word_failures, goal_failures, use_failures, limit_failures, late_failures}
 use Rattle.mm_asm.specs.Sources.{IsSmall, IsSmallError, HasSmallWords, HasSmallRegisters, IsFromSmall, IsPosition}
-use Rattle.mm_asm.proofs.Lists.{each_weaker, each_changed}
+use Rattle.mm_asm.proofs.{Lists.{each_weaker, each_changed}, Uses.from_merge}
 use Rattle.mm_object.proofs.Members.{each_in, each_from, each_more}
-use Rattle.mm_asm.proofs.Uses.{from_merge}
+use Rattle.mm_line.specs.declared.statement.Content.TheVariants as content
+use Rattle.mm_line.specs.declared.statement.Statement.TheVariants as statement
+use Rattle.mm_draft.specs.declared.fault.DraftError.TheVariants as early
 
 -- 1. What a line adds.
 

@@ -1,35 +1,24 @@
 -- Where a draft has no late faults, what its targets come to can be written.
-use Rattle.std.proofs.Common.{◌≡◌, ℕ, zero, suc, ◌+◌, ◌*◌, ◌^◌, ◌<◌, ◌≤◌, true, not, nat_lt, List, [], ◌∷◌, length, slice_get, Option, Some, None, is_some, refl, sym, ap, ◌∙◌, subst, inl, inr, arith}
-use Rattle.std.specs.List.{AllByRecursion}
+use Rattle.std.proofs.Common.{◌≡◌, ℕ, zero, suc, ◌+◌, ◌*◌, ◌^◌, ◌<◌, ◌≤◌, true, not, nat_lt, List, [], ◌∷◌, length}
+use Rattle.std.proofs.Common.{slice_get, Option, Some, None, is_some, refl, sym, ap, ◌∙◌, subst, inl, inr, arith}
 use Rattle.std.proofs.Math.Nat.{pow-le-pow_right}
-use Rattle.std.proofs.lemmas.Bool.Decides.{nat_tests}
-use Rattle.std.proofs.lemmas.List.{length-map}
-use Rattle.std.proofs.lemmas.Bool.{and_parts, ltb-true}
+use Rattle.std.proofs.lemmas.{Bool.{and_parts, ltb-true, Decides.nat_tests}, List.length-map}
+use Rattle.std.specs.List.{AllByRecursion}
 use Rattle.mm_model.proofs.CoreRows.{into_map}
-use Rattle.mm_line.specs.declared.statement.Target as text
-use Rattle.mm_line.specs.declared.statement.Constant.{Constant}
-use Rattle.mm_line.specs.declared.statement.Constant.TheVariants.{Integer, Pointer}
-use Rattle.mm_line.specs.declared.statement.Content.{Content}
-use Rattle.mm_line.specs.declared.statement.Content.TheVariants as content
-use Rattle.mm_draft.specs.declared.source.Source.{Source}
-use Rattle.mm_draft.specs.declared.segment.Word.{Word}
-use Rattle.mm_draft.specs.declared.location.Location.{Location}
-use Rattle.mm_draft.specs.declared.thread.Register.{Register}
-use Rattle.mm_draft.specs.Drafts as draft
-use Rattle.mm_draft.specs.Drafts.{Draft, place_of}
-use Rattle.mm_object.specs.Objects.{Segment, is_within}
-use Rattle.mm_asm.specs.Names.{Use, uses_of, externals_of, segment_uses, word_uses, content_uses, constant_uses, thread_uses, register_uses, meant_by, position_of}
-use Rattle.mm_asm.specs.Meaning.{segment_of, target_of, target_by}
-use Rattle.mm_asm.specs.Faults.{late_failures}
-use Rattle.mm_asm.specs.Bounds as bounds
-use Rattle.mm_asm.specs.Bounds.{IsDraft}
+use Rattle.mm_line.specs.declared.statement.{Constant.{Constant, TheVariants.{Integer, Pointer}}, Content.Content}
+use Rattle.mm_draft.specs.declared.{source.Source.Source, segment.Word.Word, location.Location.Location}
+use Rattle.mm_draft.specs.{declared.thread.Register.Register, Drafts.{Draft, place_of}}
+use Rattle.mm_object.{specs.Objects.{Segment, is_within}, proofs.Members.{In, in_flat, each_in, each_from}}
+use Rattle.mm_asm.specs.Names.{Use, uses_of, externals_of, segment_uses, word_uses, content_uses, constant_uses}
+use Rattle.mm_asm.specs.Names.{thread_uses, register_uses, meant_by, position_of}
+use Rattle.mm_asm.specs.{Meaning.{segment_of, target_of, target_by}, Faults.late_failures, Bounds.IsDraft}
 use Rattle.mm_asm.specs.Fits.{FitsTarget, FitsConstant, FitsPointer, FitsPointers, FitsThread}
-use Rattle.mm_object.proofs.Members.{In, in_flat, each_in, each_from}
-use Rattle.mm_asm.proofs.Uses.{uses_placed}
-use Rattle.mm_asm.proofs.Targets.{segments_of, external_count, targets_are, few_externals}
-use Rattle.mm_asm.proofs.ExternalNames.{used_among}
-use Rattle.mm_asm.proofs.Segments.{words_in}
-use Rattle.mm_asm.proofs.MeantObjects.{in_words, in_threads}
+use Rattle.mm_asm.proofs.{Uses.uses_placed, Targets.{segments_of, external_count, targets_are, few_externals}}
+use Rattle.mm_asm.proofs.{ExternalNames.used_among, Segments.words_in, MeantObjects.{in_words, in_threads}}
+use Rattle.mm_line.specs.declared.statement.Target as text
+use Rattle.mm_line.specs.declared.statement.Content.TheVariants as content
+use Rattle.mm_draft.specs.Drafts as draft
+use Rattle.mm_asm.specs.Bounds as bounds
 
 -- 1. A target.
 

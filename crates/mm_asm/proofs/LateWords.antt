@@ -1,21 +1,13 @@
 -- The words and names of a draft have their places in its object.
-use Rattle.std.proofs.Common.{◌≡◌, ℕ, zero, suc, ◌+◌, ◌<◌, ◌≤◌, true, List, [], ◌∷◌, length, get_or, sym, ap, ◌∙◌, subst, arith}
-use Rattle.std.specs.List.{list_all, AllByRecursion}
-use Rattle.mm_isa.specs.Table.{FitInWord}
-use Rattle.mm_isa.proofs.Operands.{fields_fit}
-use Rattle.mm_line.specs.Ranges.{IsContent}
-use Rattle.mm_line.specs.declared.statement.Content.{Content}
+use Rattle.std.proofs.Common.{◌≡◌, ℕ, zero, suc, ◌+◌, ◌<◌, ◌≤◌, true, List, [], ◌∷◌, length, get_or, sym, ap, ◌∙◌}
+use Rattle.std.{proofs.Common.{subst, arith}, specs.List.{list_all, AllByRecursion}}
+use Rattle.mm_isa.{specs.Table.FitInWord, proofs.Operands.fields_fit}
+use Rattle.mm_line.specs.{Ranges.IsContent, declared.statement.Content.Content}
+use Rattle.mm_draft.specs.{declared.segment.Word.Word, Drafts.Draft}
+use Rattle.mm_object.{specs.{Names.is_name, Objects.IsObject}, proofs.Members.{each_in, each_from}}
+use Rattle.mm_asm.specs.{Names.{Use, uses_of, externals_with}, Meaning.object_of, Bounds.{IsDraft, IsWord, IsSegment}}
+use Rattle.mm_asm.{specs.Fits.{FitsContent, FitsWords, FitsSegment}, proofs.Segments.{words_in, fields_fit_with}}
 use Rattle.mm_line.specs.declared.statement.Content.TheVariants as content
-use Rattle.mm_draft.specs.declared.segment.Word.{Word}
-use Rattle.mm_draft.specs.Drafts.{Draft}
-use Rattle.mm_object.specs.Names.{is_name}
-use Rattle.mm_object.specs.Objects.{IsObject}
-use Rattle.mm_asm.specs.Names.{Use, uses_of, externals_with}
-use Rattle.mm_asm.specs.Meaning.{object_of}
-use Rattle.mm_asm.specs.Bounds.{IsDraft, IsWord, IsSegment}
-use Rattle.mm_asm.specs.Fits.{FitsContent, FitsWords, FitsSegment}
-use Rattle.mm_object.proofs.Members.{each_in, each_from}
-use Rattle.mm_asm.proofs.Segments.{words_in, fields_fit_with}
 
 module _ (d : Draft) (is_draft : IsDraft d) where
   content_fits : (most k : ℕ) (c : Content) → k ≤ 131072 → IsContent most c → FitsContent d k c

@@ -1,36 +1,28 @@
 -- What a text means is an object, where its draft is within its bounds.
 use Rattle.std.proofs.Common.{◌≡◌, ◌⊎◌, ℕ, zero, suc, ◌+◌, ◌*◌, ◌^◌, ◌<◌, ◌≤◌, true, false, not, ◌==◌, List, [], ◌∷◌}
 use Rattle.std.proofs.Common.{map, length, get_or, slice_get, Option, Some, None, is_some, refl, sym, ap, ◌∙◌, subst}
-use Rattle.std.proofs.Common.{inl, inr, arith}
-use Rattle.std.specs.List.{flat_map, list_any, list_all, AllByRecursion}
-use Rattle.std.specs.List.Sorted.{IsStrictlyIncreasing}
-use Rattle.std.proofs.lemmas.List.{length-map}
-use Rattle.std.proofs.lemmas.Bool.Decides.{nat_tests}
-use Rattle.std.proofs.lemmas.Bool.{eq-eqb}
+use Rattle.std.proofs.{Common.{inl, inr, arith}, lemmas.{List.length-map, Bool.{eq-eqb, Decides.nat_tests}}}
+use Rattle.std.specs.List.{flat_map, list_any, list_all, AllByRecursion, Sorted.IsStrictlyIncreasing}
 use Rattle.mm_model.proofs.CoreRows.{into_map}
-use Rattle.mm_draft.specs.declared.location.Location.{Location}
-use Rattle.mm_draft.specs.Drafts as draft
-use Rattle.mm_draft.specs.Drafts.{Draft, place_of}
-use Rattle.mm_object.specs.declared.target.Target.{Target}
-use Rattle.mm_object.specs.declared.target.Reloc.{Reloc}
-use Rattle.mm_object.specs.declared.thread.Thread.{Thread}
-use Rattle.mm_object.specs.Names.{is_name}
-use Rattle.mm_object.specs.Objects.{IsObject, IsSegment, IsNumber, names_of, is_among, are_apart, is_target, is_reloc, is_thread, place_of as reloc_place, targets_of}
-use Rattle.mm_asm.specs.Names.{Use, meant_by, segment_uses, thread_uses, uses_of, is_external, name_of, externals_of, position_of}
-use Rattle.mm_asm.specs.Meaning.{segment_of, target_by, target_of, segments_relocs, thread_of, by_slot, object_of}
-use Rattle.mm_asm.specs.Faults.{late_failures}
-use Rattle.mm_asm.specs.Bounds as bounds
-use Rattle.mm_asm.specs.Bounds.{IsDraft}
-use Rattle.mm_asm.proofs.Lists.{passes, any_found, none_found}
+use Rattle.mm_draft.specs.{declared.location.Location.Location, Drafts.{Draft, place_of}}
+use Rattle.mm_object.specs.{declared.{target.{Target.Target, Reloc.Reloc}, thread.Thread.Thread}, Names.is_name}
+use Rattle.mm_object.specs.Objects.{IsObject, IsSegment, IsNumber, names_of, is_among, are_apart, is_target, is_reloc}
+use Rattle.mm_object.specs.Objects.{is_thread, place_of as reloc_place, targets_of}
 use Rattle.mm_object.proofs.Members.{In, in_left, in_right, in_map, in_flat, from_flat, each_in, each_from}
-use Rattle.mm_asm.proofs.Order.{rising_ascends, each_among, position_at}
-use Rattle.mm_asm.proofs.ExternalNames.{externals_each}
-use Rattle.mm_asm.proofs.Uses.{in_merge, from_merge, uses_placed}
+use Rattle.mm_asm.specs.Names.{Use, meant_by, segment_uses, thread_uses, uses_of, is_external, name_of, externals_of}
+use Rattle.mm_asm.specs.Names.{position_of}
+use Rattle.mm_asm.specs.Meaning.{segment_of, target_by, target_of, segments_relocs, thread_of, by_slot, object_of}
+use Rattle.mm_asm.specs.{Faults.late_failures, Bounds.IsDraft}
+use Rattle.mm_asm.proofs.{Lists.{passes, any_found, none_found}, Order.{rising_ascends, each_among, position_at}}
+use Rattle.mm_asm.proofs.{ExternalNames.externals_each, Uses.{in_merge, from_merge, uses_placed}}
 use Rattle.mm_asm.proofs.Targets.{externals_rising, segments_of, external_count, few_externals, targets_are}
-use Rattle.mm_asm.proofs.Relocs.{RisesWithin, as_many, rises, segments_rise, segments_count, segments_targets, segments_replace}
-use Rattle.mm_asm.proofs.ThreadRows.{numbers, sixteen, thread_targets, thread_points, thread_is, each_by_slot, in_by_slot, by_slot_rises, slots_same}
-use Rattle.mm_asm.proofs.Kept.{each_stands}
+use Rattle.mm_asm.proofs.Relocs.{RisesWithin, as_many, rises, segments_rise, segments_count, segments_targets}
+use Rattle.mm_asm.proofs.Relocs.{segments_replace}
+use Rattle.mm_asm.proofs.ThreadRows.{numbers, sixteen, thread_targets, thread_points, thread_is, each_by_slot}
+use Rattle.mm_asm.proofs.{ThreadRows.{in_by_slot, by_slot_rises, slots_same}, Kept.each_stands}
 use Rattle.mm_asm.proofs.Segments.{mark_name, names_same, words_same, words_in, segment_is}
+use Rattle.mm_draft.specs.Drafts as draft
+use Rattle.mm_asm.specs.Bounds as bounds
 
 module _ (d : Draft) (is_draft : IsDraft d) (late : late_failures d ≡ []) where
   abbrev relocs : List Reloc

@@ -1,25 +1,18 @@
 -- The relocations of a draft: each replaces a word that is 0, they are in order, and there is one for each pointer.
 use Rattle.std.proofs.Common.{◌≡◌, ℕ, zero, suc, ◌+◌, ◌*◌, ◌^◌, ◌≤◌, true, ◌==◌, if◌then◌else◌, List, [], ◌∷◌, ◌++◌}
 use Rattle.std.proofs.Common.{map, length, slice_get, Option, Some, option_map, refl, sym, ap, ◌∙◌, subst, inl, arith}
-use Rattle.std.proofs.Common.{length-append}
-use Rattle.std.specs.List.{flat_map, AllByRecursion}
-use Rattle.std.specs.List.Sorted.{IsStrictlyIncreasing}
-use Rattle.std.proofs.lemmas.List.{map-append}
-use Rattle.std.proofs.lemmas.Bool.{and_from}
-use Rattle.mm_line.specs.declared.statement.Constant.TheVariants.{Integer, Pointer}
-use Rattle.mm_line.specs.declared.statement.Content.{Content}
-use Rattle.mm_line.specs.declared.statement.Content.TheVariants as content
-use Rattle.mm_draft.specs.declared.segment.Word.{Word}
-use Rattle.mm_draft.specs.Drafts as draft
-use Rattle.mm_draft.specs.Drafts.{Draft, is_pointer, pointers_among, pointers_of}
-use Rattle.mm_object.specs.declared.item.Item.{Item}
-use Rattle.mm_object.specs.declared.target.Target.{Target}
-use Rattle.mm_object.specs.declared.target.Reloc.{Reloc}
+use Rattle.std.proofs.{Common.length-append, lemmas.{List.map-append, Bool.and_from}}
+use Rattle.std.specs.List.{flat_map, AllByRecursion, Sorted.IsStrictlyIncreasing}
+use Rattle.mm_line.specs.declared.statement.{Constant.TheVariants.{Integer, Pointer}, Content.Content}
+use Rattle.mm_draft.specs.{declared.segment.Word.Word, Drafts.{Draft, is_pointer, pointers_among, pointers_of}}
+use Rattle.mm_object.specs.declared.{item.Item.Item, target.{Target.Target, Reloc.Reloc}}
 use Rattle.mm_object.specs.Objects.{Segment, is_target, item_of, is_zero, is_reloc, place_of}
-use Rattle.mm_asm.specs.Names.{Use, content_uses, word_uses, segment_uses}
-use Rattle.mm_asm.specs.Meaning.{bits_of, word_items, segment_of, target_of, content_relocs, words_relocs, segments_relocs}
-use Rattle.mm_asm.proofs.Lists.{get_map}
 use Rattle.mm_object.proofs.Members.{In, in_left, in_right, each_more}
+use Rattle.mm_asm.specs.Names.{Use, content_uses, word_uses, segment_uses}
+use Rattle.mm_asm.specs.Meaning.{bits_of, word_items, segment_of, target_of, content_relocs, words_relocs}
+use Rattle.mm_asm.{specs.Meaning.segments_relocs, proofs.Lists.get_map}
+use Rattle.mm_line.specs.declared.statement.Content.TheVariants as content
+use Rattle.mm_draft.specs.Drafts as draft
 
 -- 1. Numbers that rise from one bound to another.
 

@@ -2,33 +2,23 @@
 use Rattle.std.proofs.Common.{◌≡◌, ℕ, zero, suc, ◌+◌, ◌-◌, ◌^◌, ◌<◌, ◌≤◌, Bool, true, false, ◌||◌, ◌==◌, nat_le}
 use Rattle.std.proofs.Common.{if◌then◌else◌, List, [], ◌∷◌, map, length, slice_get, Option, Some, None, FitsSigned}
 use Rattle.std.proofs.Common.{bytes_eq, refl, ap, subst, inl, inr, arith}
+use Rattle.std.proofs.lemmas.{Int.ints, Bool.{and_parts, and_from, Decides.nat_tests}}
+use Rattle.std.specs.{List.{list_all, AllByRecursion}, Char.{is_digit, is_ascii_alphabetic}, Int.w32}
 use Prim.Native.Char.{code}
-use Rattle.std.specs.List.{list_all, AllByRecursion}
-use Rattle.std.specs.Char.{is_digit, is_ascii_alphabetic}
-use Rattle.std.specs.Int.{w32}
-use Rattle.std.proofs.lemmas.Int.{ints}
-use Rattle.std.proofs.lemmas.Bool.Decides.{nat_tests}
-use Rattle.std.proofs.lemmas.Bool.{and_parts, and_from}
-use Rattle.mm_isa.specs.declared.fields.Fields.{Fields}
-use Rattle.mm_isa.specs.Table.{packed, FitInWord}
-use Rattle.mm_isa.proofs.Operands.{fields_fit}
-use Rattle.mm_isa.proofs.Packing.{cast_below}
-use Rattle.mm_line.specs.declared.name.Mark.{Mark}
-use Rattle.mm_line.specs.declared.statement.Constant.TheVariants.{Integer, Pointer}
-use Rattle.mm_line.specs.declared.statement.Content.{Content}
-use Rattle.mm_line.specs.declared.statement.Content.TheVariants as content
-use Rattle.mm_line.specs.Forms as forms
+use Rattle.mm_isa.specs.{declared.fields.Fields.Fields, Table.{packed, FitInWord}}
+use Rattle.mm_isa.proofs.{Operands.fields_fit, Packing.cast_below}
+use Rattle.mm_line.specs.declared.{name.Mark.Mark, statement.{Constant.TheVariants.{Integer, Pointer}, Content.Content}}
 use Rattle.mm_line.specs.Ranges.{IsMark, IsContent}
-use Rattle.mm_draft.specs.declared.segment.Word.{Word}
-use Rattle.mm_draft.specs.declared.location.Location.{Location}
-use Rattle.mm_draft.specs.Drafts as draft
+use Rattle.mm_draft.specs.declared.{segment.Word.Word, location.Location.Location}
 use Rattle.mm_draft.specs.Drafts.{Entry, Draft, place_in, place_of}
-use Rattle.mm_object.specs.declared.item.Item.{Item}
-use Rattle.mm_object.specs.Names.{begins_name, goes_on, has_form, is_name}
-use Rattle.mm_object.specs.Objects as object
+use Rattle.mm_object.specs.{declared.item.Item.Item, Names.{begins_name, goes_on, has_form, is_name}}
+use Rattle.mm_object.proofs.Members.{In}
 use Rattle.mm_asm.specs.Meaning.{distance_to, with_goal, bits_of, word_items, segment_of}
 use Rattle.mm_asm.specs.Bounds.{IsWord, IsSegment, HasWord, IsLocation, IsDraft}
-use Rattle.mm_object.proofs.Members.{In}
+use Rattle.mm_line.specs.declared.statement.Content.TheVariants as content
+use Rattle.mm_line.specs.Forms as forms
+use Rattle.mm_draft.specs.Drafts as draft
+use Rattle.mm_object.specs.Objects as object
 
 -- 1. Names.
 

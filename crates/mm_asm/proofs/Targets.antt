@@ -1,25 +1,20 @@
 -- Where a draft has no late faults, each target of it is one of its object, and its externals are few.
-use Rattle.std.proofs.Common.{◌≡◌, ℕ, ◌+◌, ◌*◌, ◌^◌, ◌<◌, ◌≤◌, true, false, not, nat_lt, List, [], ◌++◌, map, length, slice_get, Option, Some, None, is_some, option_map, refl, ap, ◌∙◌, subst, arith}
+use Rattle.std.proofs.Common.{◌≡◌, ℕ, ◌+◌, ◌*◌, ◌^◌, ◌<◌, ◌≤◌, true, false, not, nat_lt, List, [], ◌++◌, map, length}
+use Rattle.std.proofs.Common.{slice_get, Option, Some, None, is_some, option_map, refl, ap, ◌∙◌, subst, arith}
+use Rattle.std.proofs.lemmas.{List.length-map, Bool.{and_from, Decides.nat_tests}, Option.slice_get_past}
 use Rattle.std.specs.List.{flat_map}
-use Rattle.std.proofs.lemmas.List.{length-map}
-use Rattle.std.proofs.lemmas.Bool.Decides.{nat_tests}
-use Rattle.std.proofs.lemmas.Bool.{and_from}
-use Rattle.std.proofs.lemmas.Option.{slice_get_past}
-use Rattle.mm_draft.proofs.Allowed.{good}
+use Rattle.mm_draft.{proofs.Allowed.good, specs.{declared.location.Location.Location, Drafts.{Draft, place_of}}}
 use Rattle.mm_line.specs.declared.fault.Fault.TheVariants.{Range}
-use Rattle.mm_line.specs.declared.statement.Target as text
-use Rattle.mm_draft.specs.declared.location.Location.{Location}
-use Rattle.mm_draft.specs.Drafts as draft
-use Rattle.mm_draft.specs.Drafts.{Draft, place_of}
 use Rattle.mm_object.specs.Objects.{Segment, is_among, is_within, is_target, external_limit, greatest_log}
+use Rattle.mm_object.proofs.Members.{In}
 use Rattle.mm_asm.specs.Names.{Use, Here, meant_by, meant, uses_of, externals_of, position_of}
 use Rattle.mm_asm.specs.Meaning.{segment_of, target_by, target_of}
 use Rattle.mm_asm.specs.Faults.{is_outside, meant_faults, use_failures, goal_failures, limit_failures, late_failures}
 use Rattle.mm_asm.specs.Bounds.{IsPlaced}
-use Rattle.mm_asm.proofs.Lists.{none_both, none_flat, none_map, get_map}
-use Rattle.mm_object.proofs.Members.{In}
-use Rattle.mm_asm.proofs.Order.{Rising, position_below}
+use Rattle.mm_asm.proofs.{Lists.{none_both, none_flat, none_map, get_map}, Order.{Rising, position_below}}
 use Rattle.mm_asm.proofs.ExternalNames.{externals_rise, externals_few, used_among}
+use Rattle.mm_line.specs.declared.statement.Target as text
+use Rattle.mm_draft.specs.Drafts as draft
 
 module _ (d : Draft) where
   pub externals_rising : Rising (externals_of d)

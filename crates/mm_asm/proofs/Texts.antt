@@ -1,16 +1,11 @@
 -- A text means an object exactly where it has no fault.
-use Rattle.std.proofs.Common.{◌≡◌, ◌↔◌, ℕ, Bool, true, false, if◌then◌else◌, List, [], ◌∷◌, map, Option, Some, None, Result, Ok, Err, refl, sym, ap, ◌∙◌}
-use Rattle.std.specs.Option.{option_or}
-use Rattle.mm_draft.specs.Drafts.{Draft}
-use Rattle.mm_draft.specs.declared.fault.Failure.{Failure}
-use Rattle.mm_draft.specs.Faults.{draft_of}
-use Rattle.mm_draft.specs.Laws.{Pair, failure_pair, precedes, sooner, least, fault_of}
-use Rattle.mm_draft.proofs.Least.{first_is_least}
+use Rattle.std.proofs.Common.{◌≡◌, ◌↔◌, ℕ, Bool, true, false, if◌then◌else◌, List, [], ◌∷◌, map, Option, Some, None}
+use Rattle.std.{proofs.Common.{Result, Ok, Err, refl, sym, ap, ◌∙◌}, specs.Option.option_or}
+use Rattle.mm_draft.specs.{Drafts.Draft, declared.fault.Failure.Failure, Faults.draft_of}
+use Rattle.mm_draft.{specs.Laws.{Pair, failure_pair, precedes, sooner, least, fault_of}, proofs.Least.first_is_least}
 use Rattle.mm_object.specs.Objects.{Object}
-use Rattle.mm_asm.specs.Meaning.{object_of}
-use Rattle.mm_asm.specs.Faults.{late_failures, late_of, first_fault, Means}
-use Rattle.mm_asm.specs.Laws.{MeaningsAreOne, TextsMeanOrFail}
-use Rattle.mm_asm.proofs.Lists.{none_map}
+use Rattle.mm_asm.specs.{Meaning.object_of, Faults.{late_failures, late_of, first_fault, Means}}
+use Rattle.mm_asm.{specs.Laws.{MeaningsAreOne, TextsMeanOrFail}, proofs.Lists.none_map}
 
 sooner_is : (p : Pair) (q : Option Pair) → sooner p q ≡ None → ⊥
 sooner_is p None e = cc

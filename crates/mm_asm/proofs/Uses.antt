@@ -1,16 +1,14 @@
 -- What is among the targets of a draft.
 use Rattle.std.proofs.Common.{◌⊎◌, ℕ, Bool, true, false, nat_lt, if◌then◌else◌, List, [], ◌∷◌, sym, subst, inl, inr}
 use Rattle.std.specs.List.{flat_map, AllByRecursion}
-use Rattle.mm_line.specs.declared.statement.Constant.{Constant}
-use Rattle.mm_line.specs.declared.statement.Constant.TheVariants.{Integer, Pointer}
-use Rattle.mm_line.specs.declared.statement.Content.{Content}
-use Rattle.mm_line.specs.declared.statement.Content.TheVariants as content
+use Rattle.mm_line.specs.declared.statement.{Constant.{Constant, TheVariants.{Integer, Pointer}}, Content.Content}
 use Rattle.mm_line.specs.Ranges.{IsContent}
-use Rattle.mm_draft.specs.declared.source.Source.{Source}
-use Rattle.mm_draft.specs.Drafts.{Segment, Thread, Draft}
-use Rattle.mm_asm.specs.Names.{Use, constant_uses, content_uses, word_uses, segment_uses, register_uses, thread_uses, merge, uses_of}
+use Rattle.mm_draft.specs.{declared.source.Source.Source, Drafts.{Segment, Thread, Draft}}
+use Rattle.mm_asm.specs.Names.{Use, constant_uses, content_uses, word_uses, segment_uses, register_uses, thread_uses}
+use Rattle.mm_asm.specs.Names.{merge, uses_of}
 use Rattle.mm_asm.specs.Bounds.{IsWord, IsValue, IsPlaced, IsRegister, IsSegment, IsThread, IsDraft}
 use Rattle.mm_object.proofs.Members.{In, from_flat, each_in}
+use Rattle.mm_line.specs.declared.statement.Content.TheVariants as content
 
 -- 1. Two lists merged.
 

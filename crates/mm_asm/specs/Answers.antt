@@ -1,12 +1,10 @@
 -- The answers of the assembler, and the first of the faults that it meets.
-use Rattle.std.specs.Prelude.{◌≡◌, List, map, Option, Some, None}
-use Rattle.std.specs.Option.{option_map}
+use Rattle.std.specs.{Prelude.{◌≡◌, List, map, Option, Some, None}, Option.option_map}
 use Rattle.mm_line.specs.Faults.{number_of}
-use Rattle.mm_draft.specs.declared.fault.Failure.{Failure}
-use Rattle.mm_draft.specs.declared.fault.DraftError.{DraftError}
-use Rattle.mm_draft.specs.declared.fault.DraftError.TheVariants as early
+use Rattle.mm_draft.specs.declared.fault.{Failure.Failure, DraftError.DraftError}
 use Rattle.mm_draft.specs.Laws.{Pair, failure_pair, sooner, least}
 use Rattle.mm_asm.specs.declared.fault.AsmError.{AsmError}
+use Rattle.mm_draft.specs.declared.fault.DraftError.TheVariants as early
 use Rattle.mm_asm.specs.declared.fault.AsmError.TheVariants as errors
 
 -- 1. Answers.

@@ -1,18 +1,12 @@
 -- What is true of each draft of a text: its names have their form, and its sizes and values are in their ranges.
 use Rattle.std.specs.Prelude.{◌≡◌, ℕ, ◌<◌, ◌+◌, ◌≤◌, ◌==◌, true, false, List, [], ◌∷◌, map, length, slice_get, Option}
-use Rattle.std.specs.Prelude.{Some, None, unwrap_or}
-use Rattle.std.specs.List.{list_any, AllByRecursion}
+use Rattle.std.specs.{Prelude.{Some, None, unwrap_or}, List.{list_any, AllByRecursion}}
 use Rattle.mm_word.specs.Perm.{can_fetch}
-use Rattle.mm_line.specs.declared.statement.Target.{Target}
-use Rattle.mm_line.specs.declared.statement.Constant.{Constant}
+use Rattle.mm_line.specs.declared.statement.{Target.Target, Constant.Constant}
 use Rattle.mm_line.specs.Ranges.{IsTarget, IsConstant, IsContent, IsHandler}
-use Rattle.mm_draft.specs.declared.segment.Word.{Word}
-use Rattle.mm_draft.specs.declared.location.Location.{Location}
-use Rattle.mm_draft.specs.declared.thread.Register.{Register}
-use Rattle.mm_draft.specs.Drafts.{Segment, Entry, Thread, Draft, place_in, words_of, pointers_of}
-use Rattle.mm_draft.specs.Faults.{room_of}
-use Rattle.mm_object.specs.Names.{is_name}
-use Rattle.mm_object.specs.Objects.{are_apart}
+use Rattle.mm_draft.specs.declared.{segment.Word.Word, location.Location.Location, thread.Register.Register}
+use Rattle.mm_draft.specs.{Drafts.{Segment, Entry, Thread, Draft, place_in, words_of, pointers_of}, Faults.room_of}
+use Rattle.mm_object.specs.{Names.is_name, Objects.are_apart}
 use Rattle.mm_model.specs.Limits.{segment_limit, word_limit, reloc_limit}
 
 -- a word that some line can say

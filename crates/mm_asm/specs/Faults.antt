@@ -1,23 +1,15 @@
 -- The faults that are found once a whole text was read, and the first fault of a text.
 use Rattle.std.specs.Prelude.{◌≡◌, ℕ, ◌+◌, ◌^◌, ◌==◌, nat_le, Bool, true, false, not, ◌&&◌, List, [], ◌∷◌, ◌++◌, map}
-use Rattle.std.specs.Prelude.{length, slice_get, Option, Some, None, Result, Ok, Err}
-use Rattle.std.specs.List.{flat_map}
-use Rattle.std.specs.Option.{option_or}
-use Rattle.mm_line.specs.declared.fault.Fault.TheVariants.{Label, Range, Limit}
-use Rattle.mm_line.specs.declared.fault.Problem.{Problem}
-use Rattle.mm_line.specs.declared.name.Mark.{Mark}
+use Rattle.std.specs.{Prelude.{length, slice_get, Option, Some, None, Result, Ok, Err}, List.flat_map, Option.option_or}
+use Rattle.mm_line.specs.declared.{fault.{Fault.TheVariants.{Label, Range, Limit}, Problem.Problem}, name.Mark.Mark}
 use Rattle.mm_line.specs.declared.statement.Content.{Content}
-use Rattle.mm_line.specs.declared.statement.Content.TheVariants as content
-use Rattle.mm_draft.specs.declared.source.Source.{Source}
-use Rattle.mm_draft.specs.declared.segment.Word.{Word}
-use Rattle.mm_draft.specs.declared.location.Location.{Location}
-use Rattle.mm_draft.specs.declared.fault.Failure.{Failure}
-use Rattle.mm_draft.specs.Drafts.{Segment, Draft, place_of}
-use Rattle.mm_draft.specs.Faults.{fault_if, draft_of}
-use Rattle.mm_draft.specs.Laws.{Pair, failure_pair, early_faults, least}
+use Rattle.mm_draft.specs.declared.{source.Source.Source, segment.Word.Word, location.Location.Location}
+use Rattle.mm_draft.specs.{declared.fault.Failure.Failure, Drafts.{Segment, Draft, place_of}}
+use Rattle.mm_draft.specs.{Faults.{fault_if, draft_of}, Laws.{Pair, failure_pair, early_faults, least}}
 use Rattle.mm_object.specs.Objects.{Object, is_among, external_limit}
 use Rattle.mm_asm.specs.Names.{Use, Meant, Here, Elsewhere, meant, uses_of, is_external, name_of, with_use}
 use Rattle.mm_asm.specs.Meaning.{object_of}
+use Rattle.mm_line.specs.declared.statement.Content.TheVariants as content
 
 -- 1. Late faults.
 

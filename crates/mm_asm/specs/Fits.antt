@@ -1,19 +1,13 @@
 -- Drafts whose parts fit into an object.
-use Rattle.std.specs.Prelude.{◌≡◌, ℕ, ◌+◌, ◌^◌, ◌<◌, true, List, [], ◌∷◌, length, None}
-use Rattle.std.specs.List.{AllByRecursion}
-use Rattle.mm_line.specs.declared.statement.Target as text
-use Rattle.mm_line.specs.declared.statement.Constant.{Constant}
-use Rattle.mm_line.specs.declared.statement.Constant.TheVariants.{Integer, Pointer}
+use Rattle.std.specs.{Prelude.{◌≡◌, ℕ, ◌+◌, ◌^◌, ◌<◌, true, List, [], ◌∷◌, length, None}, List.AllByRecursion}
+use Rattle.mm_line.specs.declared.statement.{Constant.{Constant, TheVariants.{Integer, Pointer}}, Content.Content}
 use Rattle.mm_isa.specs.Table.{FitInWord}
-use Rattle.mm_line.specs.declared.statement.Content.{Content}
-use Rattle.mm_line.specs.declared.statement.Content.TheVariants as content
-use Rattle.mm_draft.specs.declared.segment.Word.{Word}
-use Rattle.mm_draft.specs.declared.thread.Register.{Register}
+use Rattle.mm_draft.specs.declared.{segment.Word.Word, thread.Register.Register}
 use Rattle.mm_draft.specs.Drafts.{Segment, Thread, Draft, place_of}
-use Rattle.mm_object.specs.Objects.{is_among}
-use Rattle.mm_object.specs.Names.{is_name}
-use Rattle.mm_asm.specs.Meaning.{with_goal, target_of}
-use Rattle.mm_asm.specs.Names.{externals_of}
+use Rattle.mm_object.specs.{Objects.is_among, Names.is_name}
+use Rattle.mm_asm.specs.{Meaning.{with_goal, target_of}, Names.externals_of}
+use Rattle.mm_line.specs.declared.statement.Target as text
+use Rattle.mm_line.specs.declared.statement.Content.TheVariants as content
 
 -- the fields of a word, with the distance of its label, fit into the word
 abbrev pub FitsContent : Draft → ℕ → Content → Type 0

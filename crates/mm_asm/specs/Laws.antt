@@ -1,12 +1,8 @@
 -- Laws of assembler texts.
-use Rattle.std.specs.Prelude.{◌≡◌, ◌↔◌, ℕ, List, map, None, Ok}
-use Rattle.std.specs.List.Sorted.{IsStrictlyIncreasing}
-use Rattle.mm_draft.specs.Drafts.{Draft}
-use Rattle.mm_draft.specs.Faults.{draft_of}
+use Rattle.std.specs.{Prelude.{◌≡◌, ◌↔◌, ℕ, List, map, None, Ok}, List.Sorted.IsStrictlyIncreasing}
+use Rattle.mm_draft.specs.{Drafts.Draft, Faults.draft_of}
 use Rattle.mm_object.specs.Objects.{Object, IsObject}
-use Rattle.mm_asm.specs.Names.{Use, uses_of}
-use Rattle.mm_asm.specs.Faults.{first_fault, Means}
-use Rattle.mm_asm.specs.Bounds.{IsDraft}
+use Rattle.mm_asm.specs.{Names.{Use, uses_of}, Faults.{first_fault, Means}, Bounds.IsDraft}
 
 -- the draft of a text is within its bounds
 abbrev pub DraftsAreBounded : Type 0

@@ -1,28 +1,18 @@
 -- The object of a draft.
 use Rattle.std.specs.Prelude.{ℕ, ◌+◌, ◌==◌, if◌then◌else◌, List, [], ◌∷◌, ◌++◌, map, length, Option, Some, None, ℤ, pos}
-use Rattle.std.specs.Prelude.{◌-ℤ◌, unwrap_or, nat_lt}
-use Rattle.std.specs.List.{range_with_len}
-use Rattle.mm_isa.specs.declared.fields.Fields.{Fields}
-use Rattle.mm_isa.specs.Table.{packed}
+use Rattle.std.specs.{Prelude.{◌-ℤ◌, unwrap_or, nat_lt}, List.range_with_len}
+use Rattle.mm_isa.specs.{declared.fields.Fields.Fields, Table.packed}
 use Rattle.mm_line.specs.declared.name.Mark.{Mark}
-use Rattle.mm_line.specs.declared.statement.Target as text
-use Rattle.mm_line.specs.declared.statement.Constant.{Constant}
-use Rattle.mm_line.specs.declared.statement.Constant.TheVariants.{Integer, Pointer}
-use Rattle.mm_line.specs.declared.statement.Content.{Content}
-use Rattle.mm_line.specs.declared.statement.Content.TheVariants as content
-use Rattle.mm_draft.specs.Drafts as draft
-use Rattle.mm_draft.specs.declared.segment.Word.{Word}
-use Rattle.mm_draft.specs.declared.location.Location.{Location}
-use Rattle.mm_draft.specs.declared.thread.Register.{Register}
+use Rattle.mm_line.specs.declared.statement.{Constant.{Constant, TheVariants.{Integer, Pointer}}, Content.Content}
+use Rattle.mm_draft.specs.declared.{segment.Word.Word, location.Location.Location, thread.Register.Register}
 use Rattle.mm_draft.specs.Drafts.{Draft, place_of}
-use Rattle.mm_object.specs.declared.item.Item.{Item}
-use Rattle.mm_object.specs.declared.target.Target.{Target}
-use Rattle.mm_object.specs.declared.target.Reloc.{Reloc}
-use Rattle.mm_object.specs.declared.thread.Value.{Value}
-use Rattle.mm_object.specs.declared.thread.Value.TheVariants.{Int, Ptr}
-use Rattle.mm_object.specs.declared.thread.Thread.{Thread}
+use Rattle.mm_object.specs.declared.{item.Item.Item, target.{Target.Target, Reloc.Reloc}}
+use Rattle.mm_object.specs.declared.thread.{Value.{Value, TheVariants.{Int, Ptr}}, Thread.Thread}
 use Rattle.mm_object.specs.Objects.{Segment, Object}
 use Rattle.mm_asm.specs.Names.{Meant, Here, Elsewhere, meant, position_of, externals_of}
+use Rattle.mm_line.specs.declared.statement.Target as text
+use Rattle.mm_line.specs.declared.statement.Content.TheVariants as content
+use Rattle.mm_draft.specs.Drafts as draft
 
 -- 1. Words.
 

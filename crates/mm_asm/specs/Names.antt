@@ -1,20 +1,12 @@
 -- What names stand for in a draft, and the names that it uses and does not define.
 use Rattle.std.specs.Prelude.{◌≡◌, ℕ, ◌+◌, ◌*◌, nat_lt, Bool, not, ◌&&◌, if◌then◌else◌, List, [], ◌∷◌, ◌++◌, length}
-use Rattle.std.specs.Prelude.{Option, Some, None, is_some}
-use Rattle.std.specs.Str.{bytes_eq}
-use Rattle.std.specs.List.{flat_map}
-use Rattle.mm_line.specs.declared.statement.Target.{Target}
-use Rattle.mm_line.specs.declared.statement.Constant.{Constant}
-use Rattle.mm_line.specs.declared.statement.Constant.TheVariants.{Integer, Pointer}
+use Rattle.std.specs.{Prelude.{Option, Some, None, is_some}, Str.bytes_eq, List.flat_map}
+use Rattle.mm_line.specs.declared.statement.{Target.Target, Constant.{Constant, TheVariants.{Integer, Pointer}}}
 use Rattle.mm_line.specs.declared.statement.Content.{Content}
+use Rattle.mm_object.specs.{Names.is_before, Objects.is_among}
+use Rattle.mm_draft.specs.declared.{source.Source.Source, segment.Word.Word, location.Location.Location}
+use Rattle.mm_draft.specs.{declared.thread.Register.Register, Drafts.{Segment, Thread, Draft, place_of}}
 use Rattle.mm_line.specs.declared.statement.Content.TheVariants as content
-use Rattle.mm_object.specs.Names.{is_before}
-use Rattle.mm_object.specs.Objects.{is_among}
-use Rattle.mm_draft.specs.declared.source.Source.{Source}
-use Rattle.mm_draft.specs.declared.segment.Word.{Word}
-use Rattle.mm_draft.specs.declared.location.Location.{Location}
-use Rattle.mm_draft.specs.declared.thread.Register.{Register}
-use Rattle.mm_draft.specs.Drafts.{Segment, Thread, Draft, place_of}
 
 -- a target, and the line that it is on
 pub record Use : Type 0 where

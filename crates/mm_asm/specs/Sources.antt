@@ -1,13 +1,8 @@
 -- Lines whose numbers fit into 32 bits.
-use Rattle.std.specs.Prelude.{◌+◌, ◌^◌, ◌<◌}
-use Rattle.std.specs.List.{AllByRecursion}
-use Rattle.mm_draft.specs.declared.source.Source.{Source}
-use Rattle.mm_draft.specs.declared.segment.Word.{Word}
-use Rattle.mm_draft.specs.declared.thread.Register.{Register}
-use Rattle.mm_draft.specs.declared.fault.DraftError.{DraftError}
+use Rattle.std.specs.{Prelude.{◌+◌, ◌^◌, ◌<◌}, List.AllByRecursion}
+use Rattle.mm_draft.specs.declared.{source.Source.Source, segment.Word.Word, thread.Register.Register}
+use Rattle.mm_draft.specs.{declared.fault.DraftError.DraftError, Drafts.{Segment, Thread, Draft}, Laws.Pair}
 use Rattle.mm_draft.specs.declared.fault.DraftError.TheVariants as early
-use Rattle.mm_draft.specs.Drafts.{Segment, Thread, Draft}
-use Rattle.mm_draft.specs.Laws.{Pair}
 
 -- the number of a line and those of its columns, counted from 1, have 32 bits
 abbrev pub IsSmall : Source → Type 0

@@ -1,11 +1,8 @@
 -- One step of the limit of externals.
 use Rattle.std.specs.Prelude.{ℕ, ◌&&◌, List}
 use Rattle.mm_line.specs.declared.fault.Fault.TheVariants.{Limit}
-use Rattle.mm_draft.specs.Drafts.{Draft}
-use Rattle.mm_draft.specs.Faults.{fault_if}
-use Rattle.mm_draft.specs.declared.fault.Failure.{Failure}
-use Rattle.mm_asm.specs.Names.{Use, is_external, name_of}
-use Rattle.mm_asm.specs.Faults.{in_source, is_too_many}
+use Rattle.mm_draft.specs.{Drafts.Draft, Faults.fault_if, declared.fault.Failure.Failure}
+use Rattle.mm_asm.specs.{Names.{Use, is_external, name_of}, Faults.{in_source, is_too_many}}
 
 -- one external too many at this use, after uses with these externals
 abbrev pub limit_failure : Draft → List (List ℕ) → Use → List Failure

@@ -1,21 +1,11 @@
 -- The sets of a survey are its audit.
-use Rattle.std.proofs.Common.{◌≡◌, ℕ, ◌%◌, ◌^◌, ◌≤◌, ◌↔◌, inl, inr, List, [], sym, subst, arith}
-use Rattle.std.proofs.lemmas.Bool.{cases_lt}
-use Rattle.mm_model.specs.Image.{Image}
-use Rattle.mm_model.specs.Spelling.{IsImage}
-use Rattle.mm_model.specs.Reach.{Entries}
-use Rattle.mm_model.specs.Audit.{MaximalSegments}
+use Rattle.std.proofs.{Common.{◌≡◌, ℕ, ◌%◌, ◌^◌, ◌≤◌, ◌↔◌, inl, inr, List, [], sym, subst, arith}, lemmas.Bool.cases_lt}
+use Rattle.mm_model.specs.{Image.Image, Spelling.IsImage, Reach.Entries, Audit.MaximalSegments}
+use Rattle.mm_model.specs.declared.word_use.WordUse.{WordUse, TheVariants.{Touch, Write}}
 use Rattle.mm_seg.specs.Segments.{IsSet, Covered}
-use Rattle.mm_model.specs.declared.word_use.WordUse.{WordUse}
-use Rattle.mm_model.specs.declared.word_use.WordUse.TheVariants.{Touch, Write}
-use Rattle.mm_audit.specs.Audits.{Audits, set_of}
-use Rattle.mm_audit.specs.GroupSets.{AreGroupSets}
-use Rattle.mm_audit.specs.Spans.{can}
-use Rattle.mm_audit.specs.Surveys.{SurveyValue, Surveys}
+use Rattle.mm_audit.specs.{Audits.{Audits, set_of}, GroupSets.AreGroupSets, Spans.can, Surveys.{SurveyValue, Surveys}}
 use Rattle.mm_audit.proofs.MaximalSpans.{CanUse, touch_use, write_use, are_maximal, group_covers}
-use Rattle.mm_audit.proofs.Granted.{granted-small}
-use Rattle.mm_audit.proofs.Outermost.{outermost_set}
-use Rattle.mm_audit.proofs.Reading.{empty_past, past}
+use Rattle.mm_audit.proofs.{Granted.granted-small, Outermost.outermost_set, Reading.{empty_past, past}}
 
 empty_set : IsSet []
 empty_set = record { segments = λ k lt. absurd (omega arith); rise = λ m n up lt. absurd (omega arith) }

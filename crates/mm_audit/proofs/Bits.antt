@@ -1,8 +1,9 @@
 -- Bits of masks.
-use Rattle.std.proofs.Common.{◌≡◌, ◌==◌, not, ℕ, zero, suc, ◌+◌, ◌-◌, ◌*◌, ◌/◌, ◌%◌, ◌^◌, ◌<◌, ◌⊎◌, ◌↔◌, inl, inr, true, min, bit_and, bit_xor, refl, sym, ap, ◌∙◌, arith, pow_pos}
-use Rattle.std.specs.Int.{bit_at, bit_not, w64}
+use Rattle.std.proofs.Common.{◌≡◌, ◌==◌, not, ℕ, zero, suc, ◌+◌, ◌-◌, ◌*◌, ◌/◌, ◌%◌, ◌^◌, ◌<◌, ◌⊎◌, ◌↔◌, inl, inr, true}
+use Rattle.std.proofs.Common.{min, bit_and, bit_xor, refl, sym, ap, ◌∙◌, arith, pow_pos}
 use Rattle.std.proofs.lemmas.Bool.Decides.{nat_tests}
 use Rattle.std.proofs.lemmas.Nat.Bits.{bit_at_and, bit_at_xor, bit_at_not, bit_at-lt, bit_at-suc, and_pow, shr_and_one}
+use Rattle.std.specs.Int.{bit_at, bit_not, w64}
 
 -- two bits that differ leave a bit
 pub same_bit : (a b g : ℕ) → (bit_at (bit_xor a b) g ≡ 1 → ⊥) → bit_at a g ≡ bit_at b g

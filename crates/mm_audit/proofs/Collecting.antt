@@ -1,17 +1,12 @@
 -- Segments that are collected one by one.
-use Rattle.std.proofs.Common.{◌≡◌, ℕ, ◌+◌, ◌/◌, ◌^◌, ◌<◌, ◌≤◌, inl, inr, ◌==◌, bit_or, bit_xor, List, [], ◌∷◌, ◌++◌, length, length-append, refl, sym, ap, ◌∙◌, subst, arith}
-use Rattle.std.specs.Int.{bit_at}
-use Rattle.std.proofs.lemmas.List.{get_or_append_left, get_or_push}
-use Rattle.mm_seg.specs.Segments.{IsSet, IsSegment, IsBehind, segment_at, end_of}
-use Rattle.mm_seg.proofs.Searches.{same_or_below}
+use Rattle.std.proofs.Common.{◌≡◌, ℕ, ◌+◌, ◌/◌, ◌^◌, ◌<◌, ◌≤◌, inl, inr, ◌==◌, bit_or, bit_xor, List, [], ◌∷◌, ◌++◌}
+use Rattle.std.proofs.Common.{length, length-append, refl, sym, ap, ◌∙◌, subst, arith}
+use Rattle.std.{proofs.lemmas.List.{get_or_append_left, get_or_push}, specs.Int.bit_at}
+use Rattle.mm_seg.{specs.Segments.{IsSet, IsSegment, IsBehind, segment_at, end_of}, proofs.Searches.same_or_below}
 use Rattle.mm_model.specs.declared.word_use.WordUse.{WordUse}
-use Rattle.mm_audit.specs.declared.span.Span.{Span}
-use Rattle.mm_audit.specs.Spans.{mask, span_at}
-use Rattle.mm_audit.specs.GroupSets.{AreGroupSets, SameUsers}
-use Rattle.mm_audit.specs.Walks.{outermost}
+use Rattle.mm_audit.specs.{declared.span.Span.Span, Spans.{mask, span_at}, GroupSets.{AreGroupSets, SameUsers}}
+use Rattle.mm_audit.{specs.Walks.outermost, proofs.{Bits.{same_bit, half_bit, one_test}, Outermost.outermost_agree}}
 use Rattle.mm_flow.proofs.Bits.{or_left, or_right}
-use Rattle.mm_audit.proofs.Bits.{same_bit, half_bit, one_test}
-use Rattle.mm_audit.proofs.Outermost.{outermost_agree}
 
 module _ (s : ℕ × ℕ) (ys : List (ℕ × ℕ)) where
   in_middle : (xs : List (ℕ × ℕ)) → segment_at (xs ++ s ∷ ys) (length xs) ≡ s

@@ -1,11 +1,10 @@
 -- The least crossing slot, and the mask of groups, with one more.
-use Rattle.std.proofs.Common.{◌≡◌, ◌≢◌, ℕ, ◌+◌, ◌*◌, ◌%◌, ◌^◌, ◌<◌, ◌≤◌, ◌⊎◌, ◌↔◌, inl, inr, min, bit_or, Bool, true, false, List, Option, Some, None, MatchOption, sym, ap, ◌∙◌, subst, arith}
+use Rattle.std.proofs.Common.{◌≡◌, ◌≢◌, ℕ, ◌+◌, ◌*◌, ◌%◌, ◌^◌, ◌<◌, ◌≤◌, ◌⊎◌, ◌↔◌, inl, inr, min, bit_or, Bool, true}
+use Rattle.std.proofs.Common.{false, List, Option, Some, None, MatchOption, sym, ap, ◌∙◌, subst, arith}
+use Rattle.std.proofs.lemmas.{Bool.{cases_lt, cases_eq}, Nat.Bits.{bit_at_set_same, bit_at_set_other}}
 use Rattle.std.specs.Int.{bit_at, w64}
-use Rattle.std.proofs.lemmas.Bool.{cases_lt, cases_eq}
-use Rattle.std.proofs.lemmas.Nat.Bits.{bit_at_set_same, bit_at_set_other}
 use Rattle.mm_seg.proofs.Searches.{same_or_below}
-use Rattle.mm_audit.specs.declared.handlers.Served.{Served}
-use Rattle.mm_audit.specs.Crossing.{IsCrossing, LeastCrossing, NoCrossing, served_at}
+use Rattle.mm_audit.specs.{declared.handlers.Served.Served, Crossing.{IsCrossing, LeastCrossing, NoCrossing, served_at}}
 
 abbrev IsMask : ℕ → ℕ → (ℕ → Bool) → Type 0
 IsMask mask g c = (n : ℕ) → (bit_at mask n ≡ 1) ↔ ((n < g) × (c n ≡ true))

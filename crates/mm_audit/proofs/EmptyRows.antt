@@ -2,8 +2,7 @@
 use Rattle.std.proofs.Common.{◌≡◌, ℕ, ◌+◌, ◌<◌, inl, inr, List, [], ◌∷◌, ◌++◌, length, sym, ap, ◌∙◌, subst}
 use Rattle.std.proofs.lemmas.List.{get_or_append_left, get_or_push, length_push}
 use Rattle.mm_seg.proofs.Searches.{same_or_below}
-use Rattle.mm_audit.specs.declared.shared_words.Meets.{Meets}
-use Rattle.mm_audit.specs.Meeting.{AreNoRows, no_meets, no_row, row_at}
+use Rattle.mm_audit.specs.{declared.shared_words.Meets.Meets, Meeting.{AreNoRows, no_meets, no_row, row_at}}
 
 pub empty_more : (top : ℕ) (table next : List Meets) (row : Meets) → AreNoRows top table → row ≡ no_meets
     → next ≡ table ++ row ∷ [] → AreNoRows (top + 1) next

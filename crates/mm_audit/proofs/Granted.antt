@@ -1,15 +1,9 @@
 -- Granted pointers are well-formed.
 use Rattle.std.proofs.Common.{ℕ, ◌<◌, ◌≤◌, inl, inr, sym, subst, arith}
-use Rattle.std.specs.List.{Contains}
-use Rattle.std.proofs.lemmas.List.Elements.{All-from_recursion, All-contains}
-use Rattle.mm_word.proofs.Results.{enter_result-well_formed}
-use Rattle.mm_word.specs.declared.word.Word.TheVariants.{Ptr}
-use Rattle.mm_word.specs.Word.{IsWord}
-use Rattle.mm_word.specs.Pointer.{Pointer, IsWellFormed}
-use Rattle.mm_word.proofs.Below.{IsBelow-well_formed}
-use Rattle.mm_model.specs.Slot.{Slot}
-use Rattle.mm_model.specs.Image.{Image, slot_limit}
-use Rattle.mm_model.specs.Spelling.{IsImage, IsFresh}
+use Rattle.std.{proofs.lemmas.List.Elements.{All-from_recursion, All-contains}, specs.List.Contains}
+use Rattle.mm_word.proofs.{Results.enter_result-well_formed, Below.IsBelow-well_formed}
+use Rattle.mm_word.specs.{declared.word.Word.TheVariants.Ptr, Word.IsWord, Pointer.{Pointer, IsWellFormed}}
+use Rattle.mm_model.specs.{Slot.Slot, Image.{Image, slot_limit}, Spelling.{IsImage, IsFresh}}
 use Rattle.mm_model.specs.Reach.{Entries, Grants, Serves}
 use Rattle.mm_model.specs.Reach.Grants.{in_register, runs_by, in_cell, below, passed, entered, served, made}
 use Rattle.mm_graph.proofs.CellWords.{well_formed}

@@ -1,19 +1,12 @@
 -- The outermost spans of any group, also of one that no slot can have.
-use Rattle.std.proofs.Common.{◌≡◌, ℕ, ◌^◌, inl, inr, Bool, true, false, nat_lt, nat_le, not, ◌==◌, ◌&&◌, if◌then◌else◌, List, [], ◌∷◌, refl, sym, ap, ◌∙◌, subst, arith}
-use Rattle.std.specs.Int.Bits.{and_zero_r}
-use Rattle.std.proofs.lemmas.Bool.{cases_lt}
-use Rattle.std.proofs.lemmas.Bool.Decides.{nat_tests}
-use Rattle.mm_model.specs.Image.{Image}
-use Rattle.mm_model.specs.Spelling.{IsImage}
-use Rattle.mm_model.specs.Reach.{Entries}
-use Rattle.mm_model.specs.Audit.{MaximalSegments}
+use Rattle.std.proofs.Common.{◌≡◌, ℕ, ◌^◌, inl, inr, Bool, true, false, nat_lt, nat_le, not, ◌==◌, ◌&&◌, if◌then◌else◌}
+use Rattle.std.proofs.Common.{List, [], ◌∷◌, refl, sym, ap, ◌∙◌, subst, arith}
+use Rattle.std.{proofs.lemmas.Bool.{cases_lt, Decides.nat_tests}, specs.Int.Bits.and_zero_r}
+use Rattle.mm_model.specs.{Image.Image, Spelling.IsImage, Reach.Entries, Audit.MaximalSegments}
 use Rattle.mm_model.specs.declared.word_use.WordUse.{WordUse}
-use Rattle.mm_audit.specs.declared.span.Span.{Span}
+use Rattle.mm_audit.specs.{declared.span.Span.Span, Spans.{AreSpans, can, mask, segment_of}, Walks.{outermost, is_next}}
+use Rattle.mm_audit.proofs.{AuditSets.none_maximal, MaximalSpans.are_maximal}
 use Rattle.mm_seg.specs.Segments.{end_of}
-use Rattle.mm_audit.specs.Spans.{AreSpans, can, mask, segment_of}
-use Rattle.mm_audit.specs.Walks.{outermost, is_next}
-use Rattle.mm_audit.proofs.AuditSets.{none_maximal}
-use Rattle.mm_audit.proofs.MaximalSpans.{are_maximal}
 
 -- the mask of a group: empty for one that no slot can have
 abbrev pub mask_of : ℕ → ℕ

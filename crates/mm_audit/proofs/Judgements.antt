@@ -1,28 +1,15 @@
 -- An answer is the verdict.
-use Rattle.std.proofs.Common.{◌≡◌, ℕ, ◌<◌, ◌≤◌, ◌↔◌, inl, inr, Bool, true, false, if◌then◌else◌, List, [], ◌∷◌, length, Option, Some, refl, sym, ap, ◌∙◌, subst, arith, eq-eqb}
-use Rattle.std.specs.Int.{bit_at}
-use Rattle.std.specs.List.{Contains, flat_map}
-use Rattle.std.proofs.lemmas.Bool.{cases_lt}
-use Rattle.std.proofs.lemmas.List.{get_or_default}
-use Rattle.std.proofs.lemmas.List.Elements.{Contains-get_or}
-use Rattle.mm_model.specs.Slot.{Slot}
-use Rattle.mm_model.specs.Image.{Image}
-use Rattle.mm_model.specs.Turn.{is_handler}
-use Rattle.mm_model.specs.Spelling.{IsImage}
-use Rattle.mm_model.specs.Reach.{Entries}
-use Rattle.mm_model.specs.Audit.{Crosses, Writes, Judged}
-use Rattle.mm_model.specs.Audit.Verdict.{Yes, Handler, Writer}
-use Rattle.mm_model.proofs.CoreSteps.{handler_is}
-use Rattle.mm_graph.proofs.KeyLists.{contains_here, contains_cases}
-use Rattle.mm_graph.proofs.Cells.{in_flat_map, from_flat_map}
-use Rattle.mm_audit.specs.declared.handlers.Served.{Served}
-use Rattle.mm_audit.specs.declared.shared_words.Meets.{Meets}
-use Rattle.mm_audit.specs.Meeting.{row_at, word_at}
-use Rattle.mm_audit.specs.Surveys.{IsLeastTable}
-use Rattle.mm_audit.specs.Serving.{served_by, served_of}
+use Rattle.std.proofs.Common.{◌≡◌, ℕ, ◌<◌, ◌≤◌, ◌↔◌, inl, inr, Bool, true, false, if◌then◌else◌, List, [], ◌∷◌, length}
+use Rattle.std.proofs.Common.{Option, Some, refl, sym, ap, ◌∙◌, subst, arith, eq-eqb}
+use Rattle.std.proofs.lemmas.{Bool.cases_lt, List.{get_or_default, Elements.Contains-get_or}}
+use Rattle.std.specs.{Int.bit_at, List.{Contains, flat_map}}
+use Rattle.mm_model.specs.{Slot.Slot, Image.Image, Turn.is_handler, Spelling.IsImage, Reach.Entries}
+use Rattle.mm_model.{specs.Audit.{Crosses, Writes, Judged, Verdict.{Yes, Handler, Writer}}, proofs.CoreSteps.handler_is}
+use Rattle.mm_graph.proofs.{KeyLists.{contains_here, contains_cases}, Cells.{in_flat_map, from_flat_map}}
+use Rattle.mm_audit.specs.{declared.{handlers.Served.Served, shared_words.Meets.Meets}, Meeting.{row_at, word_at}}
+use Rattle.mm_audit.specs.{Surveys.IsLeastTable, Serving.{served_by, served_of}}
 use Rattle.mm_audit.specs.Crossing.{IsCrossing, LeastCrossing, NoCrossing, served_at}
-use Rattle.mm_audit.specs.Writers.{IsWord, NoneWith, IsOutside, IsWriter, NoWriter}
-use Rattle.mm_audit.proofs.Granted.{granted-small}
+use Rattle.mm_audit.{specs.Writers.{IsWord, NoneWith, IsOutside, IsWriter, NoWriter}, proofs.Granted.granted-small}
 
 -- 1. Slots and their handlers.
 

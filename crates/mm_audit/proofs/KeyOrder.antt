@@ -1,13 +1,9 @@
 -- The segments of keys in their order.
-use Rattle.std.proofs.Common.{◌≡◌, ℕ, ◌-◌, ◌^◌, ◌<◌, ◌≤◌, inl, inr, refl, arith, pow_pos}
+use Rattle.std.proofs.{Common.{◌≡◌, ℕ, ◌-◌, ◌^◌, ◌<◌, ◌≤◌, inl, inr, refl, arith, pow_pos}, Math.Pow.pow_mono}
 use Rattle.std.specs.declared.cmp.Ordering.TheVariants.{Less}
-use Rattle.std.proofs.Math.Pow.{pow_mono}
-use Rattle.mm_seg.specs.Segments.{IsSegment, end_of}
-use Rattle.mm_seg.proofs.Inserts.{nested_aligned}
-use Rattle.mm_graph.specs.declared.canonical_ptr.CanonicalPtr.{CanonicalPtr}
-use Rattle.mm_graph.specs.Key.{IsKey, key_cmp, pointer_at}
-use Rattle.mm_graph.proofs.Representatives.{base_below}
-use Rattle.mm_graph.proofs.Nesting.{log_is, aligned_key, base_rises, length_falls}
+use Rattle.mm_seg.{specs.Segments.{IsSegment, end_of}, proofs.Inserts.nested_aligned}
+use Rattle.mm_graph.specs.{declared.canonical_ptr.CanonicalPtr.CanonicalPtr, Key.{IsKey, key_cmp, pointer_at}}
+use Rattle.mm_graph.proofs.{Representatives.base_below, Nesting.{log_is, aligned_key, base_rises, length_falls}}
 
 abbrev pub key_segment : CanonicalPtr → ℕ × ℕ
 key_segment k = (k.base, 54 - k.narrow)

@@ -1,21 +1,13 @@
 -- The words at which groups meet are the least that they share.
-use Rattle.std.proofs.Common.{ℕ, ◌+◌, ◌<◌, ◌≤◌, inl, inr, List, length, sym, subst, arith}
-use Rattle.std.proofs.lemmas.Bool.{cases_lt}
-use Rattle.mm_model.specs.Image.{Image}
-use Rattle.mm_model.specs.Spelling.{IsImage}
-use Rattle.mm_model.specs.Reach.{Entries, CanTouch, CanWrite}
+use Rattle.std.proofs.{Common.{ℕ, ◌+◌, ◌<◌, ◌≤◌, inl, inr, List, length, sym, subst, arith}, lemmas.Bool.cases_lt}
+use Rattle.mm_model.specs.{Image.Image, Spelling.IsImage, Reach.{Entries, CanTouch, CanWrite}}
+use Rattle.mm_model.specs.declared.word_use.WordUse.{WordUse, TheVariants.{Touch, Write}}
 use Rattle.mm_seg.proofs.Searches.{same_or_below}
-use Rattle.mm_model.specs.declared.word_use.WordUse.{WordUse}
-use Rattle.mm_model.specs.declared.word_use.WordUse.TheVariants.{Touch, Write}
-use Rattle.mm_audit.specs.declared.span.Span.{Span}
-use Rattle.mm_audit.specs.declared.shared_words.Meets.{Meets}
-use Rattle.mm_audit.specs.Spans.{AreSpans, base_at}
-use Rattle.mm_audit.specs.Opening.{IsLive}
-use Rattle.mm_audit.specs.Meeting.{HaveMet, HasWord, MeetAt, word_at}
+use Rattle.mm_audit.specs.{declared.{span.Span.Span, shared_words.Meets.Meets}, Spans.{AreSpans, base_at}}
+use Rattle.mm_audit.specs.{Opening.IsLive, Meeting.{HaveMet, HasWord, MeetAt, word_at}}
 use Rattle.mm_audit.specs.Surveys.{IsLeastShared, IsLeastTable}
 use Rattle.mm_audit.proofs.MaximalSpans.{CanUse, UsedSpan, touch_use, write_use, use_span, span_use}
-use Rattle.mm_audit.proofs.Granted.{granted-small}
-use Rattle.mm_audit.proofs.Words.{base_word}
+use Rattle.mm_audit.proofs.{Granted.granted-small, Words.base_word}
 
 module _ (i : Image) (e : Entries) (image : IsImage i) (spans : List Span) (a : AreSpans i e spans) (table : List Meets) (m : HaveMet spans (length spans) table) where
   rises : (j k : ℕ) → j ≤ k → k < length spans → base_at spans j ≤ base_at spans k

@@ -2,21 +2,18 @@
 use Rattle.std.proofs.Common.{◌≡◌, ◌≢◌, ℕ, zero, suc, ◌+◌, ◌*◌, ◌/◌, ◌%◌, ◌^◌, ◌<◌, ◌≤◌, ◌⊎◌, ◌↔◌, inl, inr, bit_and}
 use Rattle.std.proofs.Common.{bit_or, Bool, true, false, ◌==◌, if◌then◌else◌, List, [], ◌∷◌, ◌++◌, length, get_or, drop}
 use Rattle.std.proofs.Common.{drop-cons, Option, Some, None, refl, sym, ap, ◌∙◌, subst, arith, eqb-true, eq-eqb}
-use Rattle.std.specs.Prelude.{Contains, IfSome}
-use Rattle.std.specs.List.{list_any}
-use Rattle.std.specs.Int.{bit_at, w64}
-use Rattle.std.proofs.lemmas.Bool.{both_ways, false_from_ne_true, true_from_ne_false, and_parts, and_from, cases_lt, cases_eq}
+use Rattle.std.proofs.lemmas.Bool.{both_ways, false_from_ne_true, true_from_ne_false, and_parts, and_from, cases_lt}
+use Rattle.std.proofs.lemmas.Bool.{cases_eq}
 use Rattle.std.proofs.lemmas.Nat.Bits.{bit_at-lt, bit_at-zero, shr_and_one, bit_at_set_same, bit_at_set_other}
 use Rattle.std.proofs.lemmas.List.Folds.{Any-from_list_any, list_any_at}
-use Rattle.std.proofs.lemmas.List.Elements.{All-from_recursion, All-contains, Contains-append_left, Contains-push, Contains-push_cases}
-use Rattle.mm_model.specs.Slot.{Slot}
-use Rattle.mm_model.specs.Image.{Image, slot_limit}
+use Rattle.std.proofs.lemmas.List.Elements.{All-from_recursion, All-contains, Contains-append_left, Contains-push}
+use Rattle.std.proofs.lemmas.List.Elements.{Contains-push_cases}
+use Rattle.std.specs.{Prelude.{Contains, IfSome}, List.list_any, Int.{bit_at, w64}}
+use Rattle.mm_model.specs.{Slot.Slot, Image.{Image, slot_limit}}
 use Rattle.mm_model.specs.Groups.{HasSlot, HasNoGroup, HandlersStayInside, HasSlotAt}
-use Rattle.mm_model.specs.Spelling.{IsImage, IsFresh, IsOther}
-use Rattle.mm_model.proofs.OwnSlots.{Ascends, ascends}
+use Rattle.mm_model.{specs.Spelling.{IsImage, IsFresh, IsOther}, proofs.OwnSlots.{Ascends, ascends}}
 use Rattle.mm_graph.proofs.KeyLists.{contains_here, contains_rest, contains_cases}
-use Rattle.mm_audit.specs.Inside.{is_out, leaves, first_leaving}
-use Rattle.mm_audit.specs.Refusals.{CrossesOut, FirstCrossing}
+use Rattle.mm_audit.specs.{Inside.{is_out, leaves, first_leaving}, Refusals.{CrossesOut, FirstCrossing}}
 use Rattle.mm_audit.proofs.Granted.{limit_small}
 
 -- 1. Slots by their numbers.

@@ -1,41 +1,23 @@
 -- The spans of an exact summary are those of what is granted.
-use Rattle.std.proofs.Common.{◌≡◌, ℕ, ◌<◌, ◌≤◌, ◌↔◌, inl, inr, Bool, true, false, ◌&&◌, nat_le, List, length, slice_index, refl, sym, ap, ◌∙◌, subst, arith, eqb-true, eq-eqb}
+use Rattle.std.proofs.Common.{◌≡◌, ℕ, ◌<◌, ◌≤◌, ◌↔◌, inl, inr, Bool, true, false, ◌&&◌, nat_le, List, length}
+use Rattle.std.proofs.Common.{slice_index, refl, sym, ap, ◌∙◌, subst, arith, eqb-true, eq-eqb}
+use Rattle.std.proofs.lemmas.{Bool.{and_parts, and_from, Decides.nat_tests}, Nat.Bits.bit_at-zero}
 use Rattle.std.specs.Int.{bit_at}
-use Rattle.std.proofs.lemmas.Bool.Decides.{nat_tests}
-use Rattle.std.proofs.lemmas.Bool.{and_parts, and_from}
-use Rattle.std.proofs.lemmas.Nat.Bits.{bit_at-zero}
-use Rattle.mm_word.specs.declared.perm.Perm.{Perm}
-use Rattle.mm_word.specs.declared.perm.Perm.TheVariants.{Ro, Rw, Key as KeyPerm}
-use Rattle.mm_word.specs.Perm.{can_load, can_store}
-use Rattle.mm_word.specs.Pointer.{Pointer, IsBelow, base_of}
-use Rattle.mm_model.specs.Image.{Image}
-use Rattle.mm_model.specs.Flags.{in_mask}
-use Rattle.mm_model.specs.Spelling.{IsImage}
-use Rattle.mm_model.specs.Reach.{Entries, Grants}
-use Rattle.mm_model.specs.Reach.Grants.{made}
-use Rattle.mm_model.specs.Audit.{GrantedSegment}
-use Rattle.mm_flow.specs.declared.node.Node.{Node}
-use Rattle.mm_flow.specs.declared.node.Right.{Right}
-use Rattle.mm_flow.specs.declared.node.Right.TheVariants.{Load, Store, Make}
-use Rattle.mm_flow.specs.Edges.{right_at}
+use Rattle.mm_word.specs.declared.{perm.{Perm.{Perm, TheVariants.{Ro, Rw, Key as KeyPerm}}}}
+use Rattle.mm_word.specs.{Perm.{can_load, can_store}, Pointer.{Pointer, IsBelow, base_of}}
+use Rattle.mm_model.specs.{Image.Image, Flags.in_mask, Spelling.IsImage, Reach.{Entries, Grants, Grants.made}}
+use Rattle.mm_model.specs.{Audit.GrantedSegment, declared.word_use.WordUse.{WordUse, TheVariants.{Touch, Write}}}
+use Rattle.mm_flow.specs.{declared.node.{Node.Node, Right.{Right, TheVariants.{Load, Store, Make}}}, Edges.right_at}
 use Rattle.mm_flow.specs.Reached.{HasSome}
-use Rattle.mm_graph.specs.Summary.{IsPowerless, IsExact, Holds}
-use Rattle.mm_graph.specs.GraphOf.{Marked}
-use Rattle.mm_graph.proofs.Segments.{below-can_load, below-can_store}
-use Rattle.mm_seg.specs.Segments.{LiesIn}
-use Rattle.mm_graph.specs.declared.canonical_ptr.CanonicalPtr.{CanonicalPtr}
-use Rattle.mm_graph.specs.Key.{key_at, no_key}
+use Rattle.mm_graph.specs.{Summary.{IsPowerless, IsExact, Holds}, GraphOf.Marked}
+use Rattle.mm_graph.specs.{declared.canonical_ptr.CanonicalPtr.CanonicalPtr, Key.{key_at, no_key}}
 use Rattle.mm_graph.specs.Marked.{IsMarked, node_pointer}
-use Rattle.mm_graph.proofs.Nesting.{log_is}
-use Rattle.mm_graph.proofs.Bounds.{three_then, three}
-use Rattle.mm_model.specs.declared.word_use.WordUse.{WordUse}
-use Rattle.mm_model.specs.declared.word_use.WordUse.TheVariants.{Touch, Write}
+use Rattle.mm_graph.proofs.{Segments.{below-can_load, below-can_store}, Nesting.log_is, Bounds.{three_then, three}}
+use Rattle.mm_seg.specs.Segments.{LiesIn}
 use Rattle.mm_audit.specs.declared.span.Span.{Span}
 use Rattle.mm_audit.specs.Spans.{AreSpans, IsHeld, Uses, can, mask, span_at, segment_of as span_segment}
-use Rattle.mm_audit.specs.Marks.{kept_mask, span_of, whole_span, IsUsed, IsAmongSpans, SpansOf}
-use Rattle.mm_audit.specs.Surveys.{ArePrivileged}
-use Rattle.mm_audit.proofs.Granted.{granted-well_formed}
-use Rattle.mm_audit.proofs.KeyOrder.{key_segment, in_memory}
+use Rattle.mm_audit.specs.{Marks.{kept_mask, span_of, whole_span, IsUsed, IsAmongSpans, SpansOf}, Surveys.ArePrivileged}
+use Rattle.mm_audit.proofs.{Granted.granted-well_formed, KeyOrder.{key_segment, in_memory}}
 use Rattle.mm_audit.proofs.PointerSegments.{segment_of, pointer_segment, lies_below, log_below}
 
 kept_then : (b : Bool) (m g : ℕ) → bit_at (kept_mask b m) g ≡ 1 → (bit_at m g ≡ 1) × (b ≡ true)

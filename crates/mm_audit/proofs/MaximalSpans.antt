@@ -1,24 +1,17 @@
 -- The outermost spans of a group are the maximal segments that it is granted.
-use Rattle.std.proofs.Common.{◌≡◌, ℕ, suc, ◌+◌, ◌%◌, ◌^◌, ◌<◌, ◌≤◌, ◌↔◌, inl, inr, true, List, [], ◌∷◌, length, zip, drop, sym, ap, ◌∙◌, subst, arith, pow_pos, eqb-true, eq-eqb}
+use Rattle.std.proofs.Common.{◌≡◌, ℕ, suc, ◌+◌, ◌%◌, ◌^◌, ◌<◌, ◌≤◌, ◌↔◌, inl, inr, true, List, [], ◌∷◌, length, zip}
+use Rattle.std.proofs.Common.{drop, sym, ap, ◌∙◌, subst, arith, pow_pos, eqb-true, eq-eqb}
+use Rattle.std.proofs.lemmas.{Bool.cases_lt, List.{get_or_default, Elements.Contains-get_or}}
 use Rattle.std.specs.List.{Contains, AllByRecursion}
-use Rattle.std.proofs.lemmas.Bool.{cases_lt}
-use Rattle.std.proofs.lemmas.List.{get_or_default}
-use Rattle.std.proofs.lemmas.List.Elements.{Contains-get_or}
-use Rattle.mm_seg.proofs.Commons.{some_in}
-use Rattle.mm_word.specs.Pointer.{Pointer, InSegment, Covers, base_of}
-use Rattle.mm_word.proofs.Below.{Covers-short}
-use Rattle.mm_model.specs.Image.{Image}
-use Rattle.mm_model.specs.Reach.{Entries, Grants, CanTouch, CanWrite}
+use Rattle.mm_seg.{proofs.Commons.some_in, specs.Segments.{IsSet, SomeHolds, Covered, At, LiesIn, segment_at, end_of}}
+use Rattle.mm_word.{specs.Pointer.{Pointer, InSegment, Covers, base_of}, proofs.Below.Covers-short}
+use Rattle.mm_model.specs.{Image.Image, Reach.{Entries, Grants, CanTouch, CanWrite}}
 use Rattle.mm_model.specs.Audit.{GrantedSegment, MaximalSegment, MaximalSegments}
-use Rattle.mm_seg.specs.Segments.{IsSet, SomeHolds, Covered, At, LiesIn, segment_at, end_of}
+use Rattle.mm_model.specs.declared.word_use.WordUse.{WordUse, TheVariants.{Touch, Write}}
 use Rattle.mm_graph.proofs.Bounds.{covers_in, in_covers}
-use Rattle.mm_model.specs.declared.word_use.WordUse.{WordUse}
-use Rattle.mm_model.specs.declared.word_use.WordUse.TheVariants.{Touch, Write}
-use Rattle.mm_audit.specs.declared.span.Span.{Span}
-use Rattle.mm_audit.specs.Spans.{AreSpans, Uses, can, mask, span_at, base_at, end_at}
+use Rattle.mm_audit.specs.{declared.span.Span.Span, Spans.{AreSpans, Uses, can, mask, span_at, base_at, end_at}}
 use Rattle.mm_audit.specs.Walks.{outermost}
-use Rattle.mm_audit.proofs.Bits.{one_test}
-use Rattle.mm_audit.proofs.Outermost.{is_of, from_spans, outermost_set, outermost_holds}
+use Rattle.mm_audit.proofs.{Bits.one_test, Outermost.{is_of, from_spans, outermost_set, outermost_holds}}
 use Rattle.mm_audit.proofs.PointerSegments.{segment_of, between, in_by, shorter}
 
 -- a granted pointer with the right covers the word

@@ -1,18 +1,14 @@
 -- The words at which groups meet, with one span more.
-use Rattle.std.proofs.Common.{◌≡◌, ℕ, ◌+◌, ◌<◌, ◌≤◌, ◌⊎◌, inl, inr, List, length, slice_index, slice_set, sym, ap, ◌∙◌, subst, arith}
+use Rattle.std.proofs.Common.{◌≡◌, ℕ, ◌+◌, ◌<◌, ◌≤◌, ◌⊎◌, inl, inr, List, length, slice_index, slice_set, sym, ap, ◌∙◌}
+use Rattle.std.proofs.Common.{subst, arith}
+use Rattle.std.proofs.lemmas.{List.{get_or-set_same, get_or-set_other, length-set}, Nat.Bits.bit_at-zero, Bool.cases_eq}
 use Rattle.std.specs.Int.{bit_at}
-use Rattle.std.proofs.lemmas.List.{get_or-set_same, get_or-set_other, length-set}
-use Rattle.std.proofs.lemmas.Nat.Bits.{bit_at-zero}
-use Rattle.std.proofs.lemmas.Bool.{cases_eq}
 use Rattle.mm_seg.proofs.Searches.{same_or_below}
 use Rattle.mm_model.specs.declared.word_use.WordUse.TheVariants.{Touch, Write}
-use Rattle.mm_audit.specs.declared.span.Span.{Span}
-use Rattle.mm_audit.specs.declared.open_spans.Open.{Open}
-use Rattle.mm_audit.specs.declared.shared_words.Meets.{Meets}
-use Rattle.mm_audit.specs.Spans.{AreInOrder, base_at}
-use Rattle.mm_audit.specs.Opening.{IsOpenAt}
-use Rattle.mm_audit.specs.Meeting.{NotesWord, NotesAll, AreNoRows, MeetAt, IsMeeting, HaveMet, HasWord, no_row, row_at, word_at}
-use Rattle.mm_audit.proofs.Bits.{zero_or_one}
+use Rattle.mm_audit.specs.declared.{span.Span.Span, open_spans.Open.Open, shared_words.Meets.Meets}
+use Rattle.mm_audit.specs.{Spans.{AreInOrder, base_at}, Opening.IsOpenAt}
+use Rattle.mm_audit.specs.Meeting.{NotesWord, NotesAll, AreNoRows, MeetAt, IsMeeting, HaveMet, HasWord, no_row, row_at}
+use Rattle.mm_audit.{specs.Meeting.word_at, proofs.Bits.zero_or_one}
 
 -- 1. One row more.
 

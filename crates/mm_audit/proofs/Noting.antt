@@ -1,11 +1,9 @@
 -- One word noted in a row.
-use Rattle.std.proofs.Common.{◌≡◌, ℕ, ◌<◌, inl, inr, List, bit_or, refl, ap, ◌∙◌, arith}
+use Rattle.std.proofs.{Common.{◌≡◌, ℕ, ◌<◌, inl, inr, List, bit_or, refl, ap, ◌∙◌, arith}, lemmas.Nat.Bits.bit_at-zero}
 use Rattle.std.specs.Int.{bit_at}
-use Rattle.std.proofs.lemmas.Nat.Bits.{bit_at-zero}
-use Rattle.mm_audit.specs.declared.shared_words.Meets.{Meets}
-use Rattle.mm_audit.specs.Meeting.{FillsWords, IsWithout, NotesWord}
-use Rattle.mm_flow.proofs.Bits.{or_left, or_right, or_cases}
+use Rattle.mm_audit.specs.{declared.shared_words.Meets.Meets, Meeting.{FillsWords, IsWithout, NotesWord}}
 use Rattle.mm_audit.proofs.Bits.{zero_or_one}
+use Rattle.mm_flow.proofs.Bits.{or_left, or_right, or_cases}
 
 module _ (groups word fresh : ℕ) (old : Meets) (is : IsWithout groups old.groups fresh) where
   pub noted : (words : List ℕ) → FillsWords fresh word 64 old.words words → NotesWord groups word old (record { groups = bit_or old.groups fresh; words = words })

@@ -1,16 +1,14 @@
 -- The open spans, with one span more.
-use Rattle.std.proofs.Common.{◌≡◌, ℕ, ◌+◌, ◌-◌, ◌<◌, ◌≤◌, ◌⊎◌, ◌↔◌, inl, inr, List, [], ◌∷◌, ◌++◌, length, length-append, bit_or, refl, sym, ap, ◌∙◌, subst, arith, pow_pos}
+use Rattle.std.proofs.Common.{◌≡◌, ℕ, ◌+◌, ◌-◌, ◌<◌, ◌≤◌, ◌⊎◌, ◌↔◌, inl, inr, List, [], ◌∷◌, ◌++◌, length}
+use Rattle.std.proofs.Common.{length-append, bit_or, refl, sym, ap, ◌∙◌, subst, arith, pow_pos}
+use Rattle.std.proofs.lemmas.{List.{get_or-take, get_or_append_left, get_or_push}, Nat.Bits.bit_at-zero, Bool.cases_lt}
 use Rattle.std.specs.Int.{bit_at}
-use Rattle.std.proofs.lemmas.List.{get_or-take, get_or_append_left, get_or_push}
-use Rattle.std.proofs.lemmas.Nat.Bits.{bit_at-zero}
-use Rattle.std.proofs.lemmas.Bool.{cases_lt}
 use Rattle.mm_seg.proofs.Searches.{same_or_below}
-use Rattle.mm_model.specs.declared.word_use.WordUse.{WordUse}
-use Rattle.mm_model.specs.declared.word_use.WordUse.TheVariants.{Touch, Write}
-use Rattle.mm_audit.specs.declared.span.Span.{Span}
-use Rattle.mm_audit.specs.declared.open_spans.Open.{Open}
+use Rattle.mm_model.specs.declared.word_use.WordUse.{WordUse, TheVariants.{Touch, Write}}
+use Rattle.mm_audit.specs.declared.{span.Span.Span, open_spans.Open.Open}
 use Rattle.mm_audit.specs.Spans.{AreInOrder, Uses, mask, span_at, base_at, end_at}
-use Rattle.mm_audit.specs.Opening.{IsLive, Closed, IsLast, IsInnermost, AreOpen, IsOpenAt, no_open, open_at, open_end, users}
+use Rattle.mm_audit.specs.Opening.{IsLive, Closed, IsLast, IsInnermost, AreOpen, IsOpenAt, no_open, open_at, open_end}
+use Rattle.mm_audit.specs.Opening.{users}
 use Rattle.mm_flow.proofs.Bits.{or_left, or_right, or_cases}
 
 -- 1. Before any span, and at later addresses.

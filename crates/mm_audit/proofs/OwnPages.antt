@@ -2,24 +2,15 @@
 use Rattle.std.proofs.Common.{◌≡◌, ℕ, zero, suc, ◌+◌, ◌*◌, ◌%◌, ◌^◌, ◌<◌, ◌≤◌, ◌↔◌, inl, inr, Bool, true, false, cond}
 use Rattle.std.proofs.Common.{◌&&◌, ◌||◌, List, [], ◌∷◌, ◌++◌, map, length, slice_get, get_or, take, length-take}
 use Rattle.std.proofs.Common.{Option, Some, None, is_some, refl, sym, ap, ◌∙◌, subst, arith, T, eqb-true}
-use Rattle.std.specs.Prelude.{IsTrue}
-use Rattle.std.proofs.lemmas.Bool.{both_ways, cases_Bool, false_from_ne_true}
-use Rattle.std.proofs.lemmas.List.{take_more, map-append}
-use Rattle.std.specs.List.{AllByRecursion, filter}
-use Rattle.std.specs.Option.{option_map}
-use Rattle.std.specs.Ordering.{nat_cmp, eq_by_cmp, is_lt}
-use Rattle.std.specs.Cmp.{unsigned_tied}
+use Rattle.std.proofs.lemmas.{Bool.{both_ways, cases_Bool, false_from_ne_true}, List.{take_more, map-append}}
+use Rattle.std.specs.{Prelude.IsTrue, List.{AllByRecursion, filter}, Option.option_map}
+use Rattle.std.specs.{Ordering.{nat_cmp, eq_by_cmp, is_lt}, Cmp.unsigned_tied}
 use Rattle.std.specs.FinMap.{find, is_sorted, nat_cmp-IsAntisymmetric}
 use Rattle.std.specs.FinMap.Entries.{below_all, find-where_key, is_sorted-where_key}
-use Rattle.mm_word.specs.declared.word.Cell.{Cell}
-use Rattle.mm_word.specs.Word.{IsWord}
-use Rattle.mm_model.specs.Memory.{Memory, cell_at, cell_in, page_at, page_of, place_of, is_mapped, zero_cell, IsPage, IsPaged}
-use Rattle.mm_model.specs.Slot.{Slot}
-use Rattle.mm_model.specs.Image.{Image}
-use Rattle.mm_model.specs.Groups.{own_slots}
-use Rattle.mm_model.specs.Spelling.{HoldsWords, IsImage}
-use Rattle.mm_model.specs.Reach.Entries.{All}
-use Rattle.mm_model.specs.Worlds.{Touchable, Extracts}
+use Rattle.mm_word.specs.{declared.word.Cell.Cell, Word.IsWord}
+use Rattle.mm_model.specs.Memory.{Memory, cell_at, cell_in, page_at, page_of, place_of, is_mapped, zero_cell, IsPage}
+use Rattle.mm_model.specs.{Memory.IsPaged, Slot.Slot, Image.Image, Groups.own_slots, Spelling.{HoldsWords, IsImage}}
+use Rattle.mm_model.specs.{Reach.Entries.All, Worlds.{Touchable, Extracts}}
 use Rattle.mm_model.proofs.Filters.{filter_last_in, filter_last_out}
 use Rattle.mm_model.proofs.Memories.{cell_at-aligned, cell_at-unaligned, word_or_none, page_whole, truth, place_within}
 use Rattle.mm_image.specs.Images.{image_from}

@@ -1,12 +1,10 @@
 -- Segments of pointers.
 use Rattle.std.proofs.Common.{◌≡◌, ℕ, ◌+◌, ◌-◌, ◌*◌, ◌/◌, ◌^◌, ◌<◌, ◌≤◌, inl, inr, ap, subst, arith, pow_pos}
 use Rattle.std.proofs.Math.Nat.{div-mul-le_self, lt-div-mul-add, div-eq_of_lt-le}
-use Rattle.std.proofs.lemmas.Bool.{cases_lt}
-use Rattle.std.proofs.lemmas.Nat.{pow_below, shr_high}
+use Rattle.std.proofs.lemmas.{Bool.cases_lt, Nat.{pow_below, shr_high}}
 use Rattle.mm_word.specs.Pointer.{Pointer, InSegment, IsBelow, IsWellFormed, base_of}
-use Rattle.mm_graph.proofs.Segments.{inside-log}
+use Rattle.mm_graph.proofs.{Segments.inside-log, Representatives.{base-block, base_below}}
 use Rattle.mm_seg.specs.Segments.{IsSegment, LiesIn, end_of}
-use Rattle.mm_graph.proofs.Representatives.{base-block, base_below}
 
 -- the segment of a pointer
 abbrev pub segment_of : Pointer → ℕ × ℕ

@@ -1,7 +1,6 @@
 -- What an audit tells of a group that has no set.
 use Rattle.std.proofs.Common.{◌≡◌, ℕ, ◌≤◌, ◌↔◌, nat_lt, IsTrue, List, [], length, subst, arith}
-use Rattle.std.proofs.lemmas.List.{get_or_past}
-use Rattle.std.proofs.lemmas.Bool.Decides.{nat_tests}
+use Rattle.std.proofs.lemmas.{List.get_or_past, Bool.Decides.nat_tests}
 use Rattle.mm_seg.specs.Segments.{Covered}
 use Rattle.mm_audit.specs.Audits.{set_of}
 

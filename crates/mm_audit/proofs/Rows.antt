@@ -1,10 +1,9 @@
 -- The best so far, with one group more.
-use Rattle.std.proofs.Common.{◌≡◌, ℕ, ◌+◌, ◌<◌, ◌≤◌, inl, inr, min, bit_and, List, slice_index, Option, Some, None, MatchOption, sym, ◌∙◌, subst, arith}
+use Rattle.std.proofs.Common.{◌≡◌, ℕ, ◌+◌, ◌<◌, ◌≤◌, inl, inr, min, bit_and, List, slice_index, Option, Some, None}
+use Rattle.std.proofs.{Common.{MatchOption, sym, ◌∙◌, subst, arith}, lemmas.Bool.cases_lt}
 use Rattle.std.specs.Int.{bit_at}
-use Rattle.std.proofs.lemmas.Bool.{cases_lt}
 use Rattle.mm_seg.proofs.Searches.{same_or_below}
-use Rattle.mm_audit.specs.declared.shared_words.Meets.{Meets}
-use Rattle.mm_audit.specs.Meeting.{row_at}
+use Rattle.mm_audit.specs.{declared.shared_words.Meets.Meets, Meeting.row_at}
 use Rattle.mm_audit.specs.Writers.{IsWord, NoneWith, LeastWith, IsOutside}
 use Rattle.mm_flow.proofs.Bits.{and_both, both_bits}
 

@@ -1,7 +1,6 @@
 -- A slot more, in a list of the parts that slots give.
 use Rattle.std.proofs.Common.{◌≡◌, ℕ, ◌+◌, ◌<◌, List, [], ◌∷◌, ◌++◌, length, get_or, take, sym, ap, ◌∙◌}
-use Rattle.std.specs.List.{flat_map}
-use Rattle.std.proofs.lemmas.List.{flat_map_more, take_more}
+use Rattle.std.{proofs.lemmas.List.{flat_map_more, take_more}, specs.List.flat_map}
 
 -- the part of the item at `i` comes behind those of the items before it
 pub part_more : {A B : Type 0} (f : A → List B) (xs : List A) (i : ℕ) (x : A) → i < length xs → x ≡ get_or xs i x → (start now next : List B)

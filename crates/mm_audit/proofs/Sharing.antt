@@ -1,8 +1,7 @@
 -- Masks that share a group.
-use Rattle.std.proofs.Common.{◌≡◌, ◌==◌, ◌↔◌, ℕ, zero, suc, Bool, true, false, not, eqb-true, ◌^◌, ◌<◌, bit_and, refl, ap, ◌∙◌, arith}
+use Rattle.std.proofs.Common.{◌≡◌, ◌==◌, ◌↔◌, ℕ, zero, suc, Bool, true, false, not, eqb-true, ◌^◌, ◌<◌, bit_and, refl}
+use Rattle.std.proofs.{Common.{ap, ◌∙◌, arith}, lemmas.Nat.{and_le_r, Bits.{bit_at-zero, bit_at-trailing_zeros}}}
 use Rattle.std.specs.Int.{bit_at, w64}
-use Rattle.std.proofs.lemmas.Nat.{and_le_r}
-use Rattle.std.proofs.lemmas.Nat.Bits.{bit_at-zero, bit_at-trailing_zeros}
 use Rattle.mm_flow.proofs.Bits.{and_both, both_bits}
 
 -- a group is of both masks

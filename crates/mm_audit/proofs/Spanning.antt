@@ -1,16 +1,13 @@
 -- The spans of nodes, with one node more.
-use Rattle.std.proofs.Common.{◌≡◌, ℕ, ◌+◌, ◌<◌, ◌≤◌, ◌⊎◌, inl, inr, List, [], ◌∷◌, ◌++◌, length, length-append, refl, sym, ap, ◌∙◌, subst, arith}
+use Rattle.std.proofs.Common.{◌≡◌, ℕ, ◌+◌, ◌<◌, ◌≤◌, ◌⊎◌, inl, inr, List, [], ◌∷◌, ◌++◌, length, length-append, refl}
+use Rattle.std.proofs.{Common.{sym, ap, ◌∙◌, subst, arith}, lemmas.List.{get_or_append_left, get_or_push}}
 use Rattle.std.specs.List.{All}
-use Rattle.std.proofs.lemmas.List.{get_or_append_left, get_or_push}
 use Rattle.mm_flow.specs.declared.node.Node.{Node}
-use Rattle.mm_seg.specs.Segments.{IsSegment, end_of}
-use Rattle.mm_seg.proofs.Searches.{same_or_below}
+use Rattle.mm_seg.{specs.Segments.{IsSegment, end_of}, proofs.Searches.same_or_below}
 use Rattle.mm_graph.specs.declared.canonical_ptr.CanonicalPtr.{CanonicalPtr}
-use Rattle.mm_graph.specs.Key.{IsKey, IsRising, key_at, no_key, pointer_at}
-use Rattle.mm_audit.specs.declared.span.Span.{Span}
-use Rattle.mm_audit.specs.Spans.{AreInOrder, segment_of, span_at, no_span, base_at, end_at}
+use Rattle.mm_graph.{specs.Key.{IsKey, IsRising, key_at, no_key, pointer_at}, proofs.Nesting.base_rises}
+use Rattle.mm_audit.specs.{declared.span.Span.Span, Spans.{AreInOrder, segment_of, span_at, no_span, base_at, end_at}}
 use Rattle.mm_audit.specs.Marks.{span_of, whole_span, IsUsed, Added, OfNode, IsAmongSpans, SpansOf}
-use Rattle.mm_graph.proofs.Nesting.{base_rises}
 use Rattle.mm_audit.proofs.KeyOrder.{key_segment, key_is_segment, end_nests, in_memory}
 
 abbrev pub Rises : Span → Span → Type 0

@@ -1,24 +1,16 @@
 -- The set of some groups covers what they can touch.
-use Rattle.std.proofs.Common.{◌≡◌, ℕ, zero, suc, ◌%◌, ◌^◌, ◌<◌, ◌≤◌, ◌↔◌, Bool, true, false, ◌&&◌, ◌||◌, nat_le, nat_lt, IsTrue, List, [], ◌∷◌, refl, sym, arith, eqb-true, eq-eqb}
+use Rattle.std.proofs.Common.{◌≡◌, ℕ, zero, suc, ◌%◌, ◌^◌, ◌<◌, ◌≤◌, ◌↔◌, Bool, true, false, ◌&&◌, ◌||◌, nat_le, nat_lt}
+use Rattle.std.proofs.Common.{IsTrue, List, [], ◌∷◌, refl, sym, arith, eqb-true, eq-eqb}
+use Rattle.std.proofs.lemmas.Bool.{and_parts, and_from, leb-true, ltb-true, le-leb, lt-ltb, Decides.nat_tests}
 use Rattle.std.specs.Int.{bit_at}
-use Rattle.std.proofs.lemmas.Bool.{and_parts, and_from, leb-true, ltb-true, le-leb, lt-ltb}
-use Rattle.std.proofs.lemmas.Bool.Decides.{nat_tests}
 use Rattle.mm_word.proofs.Segments.{segment_below}
-use Rattle.mm_model.specs.Image.{Image}
-use Rattle.mm_model.specs.Spelling.{IsImage}
-use Rattle.mm_model.specs.Reach.{Entries, CanTouch}
-use Rattle.mm_model.specs.Reach.Entries.{All}
-use Rattle.mm_model.specs.Worlds.{Touchable}
-use Rattle.mm_seg.specs.Segments.{Covered, At, end_of}
-use Rattle.mm_audit.specs.Own.{CoversTouched, is_covered}
+use Rattle.mm_model.specs.{Image.Image, Spelling.IsImage, Reach.{Entries, CanTouch, Entries.All}, Worlds.Touchable}
 use Rattle.mm_model.specs.declared.word_use.WordUse.TheVariants.{Touch}
-use Rattle.mm_audit.specs.declared.span.Span.{Span}
-use Rattle.mm_audit.specs.Spans.{AreSpans, span_at}
+use Rattle.mm_seg.specs.Segments.{Covered, At, end_of}
+use Rattle.mm_audit.specs.{Own.{CoversTouched, is_covered}, declared.span.Span.Span, Spans.{AreSpans, span_at}}
 use Rattle.mm_audit.specs.Walks.{outermost}
-use Rattle.mm_audit.proofs.MaximalSpans.{touch_use, use_span, span_use, covered_use, use_covered}
-use Rattle.mm_audit.proofs.Sharing.{shares_test}
-use Rattle.mm_audit.proofs.Granted.{granted-well_formed, granted-small}
-use Rattle.mm_audit.proofs.Words.{first_byte}
+use Rattle.mm_audit.proofs.{MaximalSpans.{touch_use, use_span, span_use, covered_use, use_covered}, Sharing.shares_test}
+use Rattle.mm_audit.proofs.{Granted.{granted-well_formed, granted-small}, Words.first_byte}
 
 pub touch_small : (i : Image) (e : Entries) → IsImage i → (g w : ℕ) → CanTouch i e g w → w < 2 ^ 54
 touch_small i e image g w t =

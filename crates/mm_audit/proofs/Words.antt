@@ -1,9 +1,8 @@
 -- Words in segments.
-use Rattle.std.proofs.Common.{◌≡◌, ℕ, ◌+◌, ◌-◌, ◌*◌, ◌/◌, ◌%◌, ◌^◌, ◌<◌, ◌≤◌, sym, ap, ◌∙◌, subst, arith, pow-add, pow_pos, add-zero}
-use Rattle.std.proofs.Math.Nat.{div-eq_of_lt-le}
+use Rattle.std.proofs.Common.{◌≡◌, ℕ, ◌+◌, ◌-◌, ◌*◌, ◌/◌, ◌%◌, ◌^◌, ◌<◌, ◌≤◌, sym, ap, ◌∙◌, subst, arith, pow-add}
+use Rattle.std.proofs.{Common.{pow_pos, add-zero}, Math.Nat.div-eq_of_lt-le}
 use Rattle.mm_graph.proofs.Bounds.{assoc}
-use Rattle.mm_word.proofs.Segments.{segment_below}
-use Rattle.mm_word.specs.Pointer.{Pointer, Covers}
+use Rattle.mm_word.{proofs.Segments.segment_below, specs.Pointer.{Pointer, Covers}}
 use Rattle.mm_seg.specs.Segments.{IsSegment, end_of}
 
 -- the word of an address of a segment begins in it, and lies in memory

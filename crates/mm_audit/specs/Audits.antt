@@ -1,15 +1,10 @@
 -- The value of a finished audit, and what it says of an image.
-use Rattle.std.specs.Prelude.{◌≡◌, ℕ, ◌%◌, ◌^◌, ◌<◌, ◌↔◌, List, [], slice_index_or, length}
-use Rattle.std.specs.Int.{bit_at}
+use Rattle.std.specs.{Prelude.{◌≡◌, ℕ, ◌%◌, ◌^◌, ◌<◌, ◌↔◌, List, [], slice_index_or, length}, Int.bit_at}
 use Rattle.mm_word.specs.Perm.{can_load, can_store}
-use Rattle.mm_model.specs.Image.{Image}
-use Rattle.mm_model.specs.Spelling.{IsImage}
-use Rattle.mm_model.specs.Reach.{Entries, CanTouch, CanWrite, Privileged}
+use Rattle.mm_model.specs.{Image.Image, Spelling.IsImage, Reach.{Entries, CanTouch, CanWrite, Privileged}}
 use Rattle.mm_model.specs.Audit.{MaximalSegments}
 use Rattle.mm_seg.specs.Segments.{IsSet, Covered}
-use Rattle.mm_audit.specs.declared.handlers.Served.{Served}
-use Rattle.mm_audit.specs.declared.shared_words.Meets.{Meets}
-use Rattle.mm_audit.specs.Serving.{served_of}
+use Rattle.mm_audit.specs.{declared.{handlers.Served.Served, shared_words.Meets.Meets}, Serving.served_of}
 use Rattle.mm_audit.specs.Surveys.{IsLeastTable}
 
 -- an audit as contracts see it: the mask of the privileged groups, each group's segments, the slots with the groups of

@@ -1,9 +1,7 @@
 -- Slots with handlers on the other side.
 use Rattle.std.specs.Prelude.{◌≡◌, ◌≢◌, ℕ, ◌<◌, ◌≤◌, Bool, List, slice_index_or}
-use Rattle.mm_model.specs.Audit.{Verdict}
-use Rattle.mm_model.specs.Audit.Verdict.{Yes, Handler, Writer}
-use Rattle.mm_audit.specs.declared.handlers.Served.{Served}
-use Rattle.mm_audit.specs.declared.apart_groups.Apart.{Apart}
+use Rattle.mm_model.specs.Audit.{Verdict, Verdict.{Yes, Handler, Writer}}
+use Rattle.mm_audit.specs.declared.{handlers.Served.Served, apart_groups.Apart.Apart}
 use Rattle.mm_audit.specs.declared.apart_groups.Apart.TheVariants as answers
 
 abbrev pub served_at : List Served → ℕ → Served

@@ -1,11 +1,7 @@
 -- The sets of groups.
-use Rattle.std.specs.Prelude.{◌≡◌, ℕ, ◌<◌, ◌^◌, List, length}
-use Rattle.std.specs.Int.{bit_at}
+use Rattle.std.specs.{Prelude.{◌≡◌, ℕ, ◌<◌, ◌^◌, List, length}, Int.bit_at}
 use Rattle.mm_model.specs.declared.word_use.WordUse.{WordUse}
-use Rattle.mm_audit.specs.declared.span.Span.{Span}
-use Rattle.mm_audit.specs.Audits.{set_of}
-use Rattle.mm_audit.specs.Spans.{mask, span_at}
-use Rattle.mm_audit.specs.Walks.{outermost}
+use Rattle.mm_audit.specs.{declared.span.Span.Span, Audits.set_of, Spans.{mask, span_at}, Walks.outermost}
 
 -- the sets of the first `top` groups
 pub record AreGroupSets (spans : List Span) (how : WordUse) (top : ℕ) (sets : List (List (ℕ × ℕ))) : Type 0 where

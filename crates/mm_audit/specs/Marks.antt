@@ -1,11 +1,8 @@
 -- The spans that the marks of nodes give.
 use Rattle.std.specs.Prelude.{◌≡◌, ◌≢◌, ℕ, ◌-◌, ◌<◌, ◌⊎◌, Bool, if◌then◌else◌, List, [], ◌∷◌, ◌++◌, length, slice_index}
-use Rattle.mm_flow.specs.declared.node.Node.{Node}
-use Rattle.mm_flow.specs.Edges.{node_at}
-use Rattle.mm_graph.specs.declared.canonical_ptr.CanonicalPtr.{CanonicalPtr}
-use Rattle.mm_graph.specs.Key.{key_at}
-use Rattle.mm_audit.specs.declared.span.Span.{Span}
-use Rattle.mm_audit.specs.Spans.{span_at, AreInOrder}
+use Rattle.mm_flow.specs.{declared.node.Node.Node, Edges.node_at}
+use Rattle.mm_graph.specs.{declared.canonical_ptr.CanonicalPtr.CanonicalPtr, Key.key_at}
+use Rattle.mm_audit.specs.{declared.span.Span.Span, Spans.{span_at, AreInOrder}}
 
 abbrev pub kept_mask : Bool → ℕ → ℕ
 kept_mask keep mask = if keep then mask else 0

@@ -2,10 +2,7 @@
 use Rattle.std.specs.Prelude.{◌≡◌, ℕ, ◌+◌, ◌<◌, ◌≤◌, ◌↔◌, ◌⊎◌, List, [], length, slice_index, slice_index_or, replicate}
 use Rattle.std.specs.Int.{bit_at}
 use Rattle.mm_model.specs.declared.word_use.WordUse.TheVariants.{Touch, Write}
-use Rattle.mm_audit.specs.declared.span.Span.{Span}
-use Rattle.mm_audit.specs.declared.shared_words.Meets.{Meets}
-use Rattle.mm_audit.specs.Spans.{base_at}
-use Rattle.mm_audit.specs.Opening.{IsLive}
+use Rattle.mm_audit.specs.{declared.{span.Span.Span, shared_words.Meets.Meets}, Spans.base_at, Opening.IsLive}
 
 abbrev pub no_meets : Meets
 no_meets = record { groups = 0; words = replicate 64 0 }

@@ -1,11 +1,7 @@
 -- The groups that use an address, by the spans that begin before or at it.
-use Rattle.std.specs.Prelude.{◌≡◌, ℕ, ◌+◌, ◌-◌, ◌<◌, ◌≤◌, ◌↔◌, List, length, take, slice_index_or}
-use Rattle.std.specs.Int.{bit_at}
-use Rattle.mm_model.specs.declared.word_use.WordUse.{WordUse}
-use Rattle.mm_model.specs.declared.word_use.WordUse.TheVariants.{Touch, Write}
-use Rattle.mm_audit.specs.declared.span.Span.{Span}
-use Rattle.mm_audit.specs.declared.open_spans.Open.{Open}
-use Rattle.mm_audit.specs.Spans.{Uses, base_at, end_at}
+use Rattle.std.specs.{Prelude.{◌≡◌, ℕ, ◌+◌, ◌-◌, ◌<◌, ◌≤◌, ◌↔◌, List, length, take, slice_index_or}, Int.bit_at}
+use Rattle.mm_model.specs.declared.word_use.WordUse.{WordUse, TheVariants.{Touch, Write}}
+use Rattle.mm_audit.specs.{declared.{span.Span.Span, open_spans.Open.Open}, Spans.{Uses, base_at, end_at}}
 
 abbrev pub no_open : Open
 no_open = record { end = 0; touch = 0; write = 0 }

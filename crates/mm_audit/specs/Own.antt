@@ -1,13 +1,8 @@
 -- The cells and pages that groups keep.
 use Rattle.std.specs.Prelude.{◌≡◌, ℕ, zero, suc, ◌+◌, ◌*◌, ◌%◌, ◌^◌, ◌<◌, ◌↔◌, Bool, false, ◌&&◌, ◌||◌, nat_le, nat_lt}
-use Rattle.std.specs.Prelude.{if◌then◌else◌, List, [], ◌∷◌, map}
-use Rattle.std.specs.List.{list_any, filter}
+use Rattle.std.specs.{Prelude.{if◌then◌else◌, List, [], ◌∷◌, map}, List.{list_any, filter}}
 use Rattle.mm_word.specs.declared.word.Cell.{Cell}
-use Rattle.mm_model.specs.Memory.{zero_cell}
-use Rattle.mm_model.specs.Image.{Image}
-use Rattle.mm_model.specs.Flags.{in_mask}
-use Rattle.mm_model.specs.Reach.Entries.{All}
-use Rattle.mm_model.specs.Worlds.{Touchable}
+use Rattle.mm_model.specs.{Memory.zero_cell, Image.Image, Flags.in_mask, Reach.Entries.All, Worlds.Touchable}
 use Rattle.mm_seg.specs.Segments.{Covered, end_of}
 
 -- the set covers exactly the words that a group of the mask can touch if anything may be entered

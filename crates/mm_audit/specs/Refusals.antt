@@ -1,11 +1,8 @@
 -- Whether the slots of some groups can stand alone.
 use Rattle.std.specs.Prelude.{◌≡◌, ℕ, ◌≤◌, Bool, true}
-use Rattle.mm_model.specs.Image.{Image}
-use Rattle.mm_model.specs.Groups.{HasSlot, HasNoGroup, HandlersStayInside}
-use Rattle.mm_model.specs.Audit.{Crosses}
-use Rattle.mm_audit.specs.declared.refusals.Refused.{Refused}
+use Rattle.mm_model.specs.{Image.Image, Groups.{HasSlot, HasNoGroup, HandlersStayInside}, Audit.Crosses}
+use Rattle.mm_audit.specs.declared.{refusals.Refused.Refused, extracting.ExtractError.ExtractError}
 use Rattle.mm_audit.specs.declared.refusals.Refused.TheVariants as refused
-use Rattle.mm_audit.specs.declared.extracting.ExtractError.{ExtractError}
 use Rattle.mm_audit.specs.declared.extracting.ExtractError.TheVariants as errors
 
 -- a slot of this number is of one of the groups, and its handler is of none of them

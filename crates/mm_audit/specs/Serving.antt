@@ -1,8 +1,6 @@
 -- Slots and the groups of their handlers.
-use Rattle.std.specs.Prelude.{if◌then◌else◌, List, [], ◌∷◌}
-use Rattle.std.specs.List.{flat_map}
-use Rattle.mm_model.specs.Slot.{Slot}
-use Rattle.mm_model.specs.Turn.{is_handler}
+use Rattle.std.specs.{Prelude.{if◌then◌else◌, List, [], ◌∷◌}, List.flat_map}
+use Rattle.mm_model.specs.{Slot.Slot, Turn.is_handler}
 use Rattle.mm_audit.specs.declared.handlers.Served.{Served}
 
 -- the slot `s` with its group and that of `t`, if `t` is its handler

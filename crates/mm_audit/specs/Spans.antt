@@ -1,15 +1,9 @@
 -- Spans: segments of pointers that groups are granted.
-use Rattle.std.specs.Prelude.{◌≡◌, ℕ, ◌<◌, ◌≤◌, Bool, true, List, length, slice_index_or}
-use Rattle.std.specs.Int.{bit_at}
-use Rattle.mm_word.specs.declared.perm.Perm.{Perm}
-use Rattle.mm_word.specs.Perm.{can_load, can_store}
-use Rattle.mm_word.specs.Pointer.{Pointer, base_of}
-use Rattle.mm_model.specs.Image.{Image}
-use Rattle.mm_model.specs.Reach.{Entries, Grants}
-use Rattle.mm_model.specs.Audit.{GrantedSegment}
+use Rattle.std.specs.{Prelude.{◌≡◌, ℕ, ◌<◌, ◌≤◌, Bool, true, List, length, slice_index_or}, Int.bit_at}
+use Rattle.mm_word.specs.{declared.perm.Perm.Perm, Perm.{can_load, can_store}, Pointer.{Pointer, base_of}}
+use Rattle.mm_model.specs.{Image.Image, Reach.{Entries, Grants}, Audit.GrantedSegment}
+use Rattle.mm_model.specs.declared.word_use.WordUse.{WordUse, TheVariants.{Touch, Write}}
 use Rattle.mm_seg.specs.Segments.{IsSegment, LiesIn, end_of}
-use Rattle.mm_model.specs.declared.word_use.WordUse.{WordUse}
-use Rattle.mm_model.specs.declared.word_use.WordUse.TheVariants.{Touch, Write}
 use Rattle.mm_audit.specs.declared.span.Span.{Span}
 
 abbrev pub segment_of : Span → ℕ × ℕ

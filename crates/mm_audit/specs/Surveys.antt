@@ -1,15 +1,8 @@
 -- The value of a survey, and what it says of an image.
-use Rattle.std.specs.Prelude.{◌≡◌, ℕ, ◌≤◌, ◌<◌, ◌↔◌, List, length}
-use Rattle.std.specs.Int.{bit_at}
-use Rattle.mm_model.specs.Image.{Image}
-use Rattle.mm_model.specs.Spelling.{IsImage}
-use Rattle.mm_model.specs.Reach.{Entries, CanTouch, CanWrite, Privileged}
-use Rattle.mm_audit.specs.declared.handlers.Served.{Served}
-use Rattle.mm_audit.specs.declared.span.Span.{Span}
-use Rattle.mm_audit.specs.declared.shared_words.Meets.{Meets}
-use Rattle.mm_audit.specs.Serving.{served_of}
-use Rattle.mm_audit.specs.Spans.{AreSpans}
-use Rattle.mm_audit.specs.Meeting.{HasWord, word_at}
+use Rattle.std.specs.{Prelude.{◌≡◌, ℕ, ◌≤◌, ◌<◌, ◌↔◌, List, length}, Int.bit_at}
+use Rattle.mm_model.specs.{Image.Image, Spelling.IsImage, Reach.{Entries, CanTouch, CanWrite, Privileged}}
+use Rattle.mm_audit.specs.declared.{handlers.Served.Served, span.Span.Span, shared_words.Meets.Meets}
+use Rattle.mm_audit.specs.{Serving.served_of, Spans.AreSpans, Meeting.{HasWord, word_at}}
 
 -- a survey as contracts see it: the mask of the privileged groups, the segments with the groups that use them, the
 -- slots with the groups of their handlers, and for each two groups the least word that the one writes and the other

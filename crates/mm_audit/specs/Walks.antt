@@ -1,9 +1,8 @@
 -- The outermost spans of groups.
 use Rattle.std.specs.Prelude.{ℕ, Bool, not, ◌==◌, ◌&&◌, nat_le, bit_and, if◌then◌else◌, List, [], ◌∷◌}
 use Rattle.mm_model.specs.declared.word_use.WordUse.{WordUse}
-use Rattle.mm_audit.specs.declared.span.Span.{Span}
+use Rattle.mm_audit.specs.{declared.span.Span.Span, Spans.{mask, segment_of}}
 use Rattle.mm_seg.specs.Segments.{end_of}
-use Rattle.mm_audit.specs.Spans.{mask, segment_of}
 
 -- one of the groups uses the span, and the span does not begin before the address
 abbrev pub is_next : WordUse → ℕ → ℕ → Span → Bool

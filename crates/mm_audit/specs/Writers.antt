@@ -1,8 +1,6 @@
 -- The least word that a group outside writes and a group inside touches.
-use Rattle.std.specs.Prelude.{◌≡◌, ℕ, ◌<◌, ◌≤◌, List, slice_index}
-use Rattle.std.specs.Int.{bit_at}
-use Rattle.mm_audit.specs.declared.shared_words.Meets.{Meets}
-use Rattle.mm_audit.specs.Meeting.{row_at}
+use Rattle.std.specs.{Prelude.{◌≡◌, ℕ, ◌<◌, ◌≤◌, List, slice_index}, Int.bit_at}
+use Rattle.mm_audit.specs.{declared.shared_words.Meets.Meets, Meeting.row_at}
 
 -- the row has a word with a group of the mask, whose number is below `top`
 pub record IsWord (row : Meets) (inside top g : ℕ) : Type 0 where

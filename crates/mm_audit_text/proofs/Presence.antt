@@ -2,14 +2,10 @@
 use Rattle.std.proofs.Common.{◌≡◌, ℕ, ◌+◌, ◌-◌, ◌<◌, ◌≤◌, ◌==◌, Bool, true, false, ◌||◌, List, [], ◌∷◌, ◌++◌, length}
 use Rattle.std.proofs.Common.{map, take, drop, get_or, codes, decimal, refl, sym, ap, ◌∙◌, subst, append_assoc}
 use Rattle.std.proofs.Common.{append-nil, arith}
-use Rattle.std.specs.List.{list_any, filter, flat_map, range_with_len}
 use Rattle.std.proofs.lemmas.List.{take_more, take_all}
-use Rattle.std.proofs.lemmas.List.Elements.{filter-append, filter_agree}
-use Rattle.std.proofs.lemmas.List.FromFn.{get_or-range_with_len}
-use Rattle.mm_model.specs.Slot.{Slot}
-use Rattle.mm_model.specs.Image.{Image, start}
-use Rattle.mm_model.specs.Groups.{has_group}
-use Rattle.mm_model.specs.Report.{is_of, groups_of}
+use Rattle.std.proofs.lemmas.List.{Elements.{filter-append, filter_agree}, FromFn.get_or-range_with_len}
+use Rattle.std.specs.List.{list_any, filter, flat_map, range_with_len}
+use Rattle.mm_model.specs.{Slot.Slot, Image.{Image, start}, Groups.has_group, Report.{is_of, groups_of}}
 use Rattle.mm_model.specs.Audit.{AuditOf, AuditEach, AuditGroups, ApartLine, groups_text}
 use Rattle.mm_audit_text.specs.Parts.{IsPart, if_present, further}
 

@@ -1,7 +1,6 @@
 -- The lines of groups, which may say whether each stands apart.
 use Rattle.std.specs.Prelude.{ℕ, Bool, true, false, if◌then◌else◌, List, [], ◌∷◌, ◌++◌, codes, decimal}
-use Rattle.mm_model.specs.Image.{Image}
-use Rattle.mm_model.specs.Audit.{AuditEach, AuditGroups}
+use Rattle.mm_model.specs.{Image.Image, Audit.{AuditEach, AuditGroups}}
 
 abbrev pub IsPart : Image → Bool → List ℕ → List ℕ → Type 0
 IsPart i true groups text = AuditEach i groups text

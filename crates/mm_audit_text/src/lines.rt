@@ -13,7 +13,7 @@ use crate::uses::use_name;
 use mm_audit::{Apart, Segments, Survey};
 use mm_io::Sink;
 use mm_model::WordUse;
-use mm_text::{TextBuffer, Line, Piece};
+use mm_text::{Line, Piece, TextBuffer};
 
 /// Appends whether a group is privileged.
 pub fn put_kind<O: Sink>(text: &mut TextBuffer, out: &mut O, group: u8, privileged: bool)

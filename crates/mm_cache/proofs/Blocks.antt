@@ -1,11 +1,10 @@
 -- The cells of a block: in a page, and in a memory that a block is put into.
-use Rattle.std.proofs.Common.{◌≡◌, ◌≢◌, ℕ, zero, suc, ◌+◌, ◌-◌, ◌*◌, ◌<◌, ◌≤◌, ◌/◌, ◌%◌, is_some, true, List, [], ◌∷◌, ◌++◌, length, take, drop, Option, None, Some, slice_get, refl, sym, ap, arith}
-use Rattle.std.proofs.Common.{◌∙◌, inl, inr, length-drop, length-take, append_assoc}
-use Rattle.std.proofs.lemmas.Bool.{cases_lt}
-use Rattle.std.proofs.lemmas.Option.{slice_get_past}
+use Rattle.std.proofs.Common.{◌≡◌, ◌≢◌, ℕ, zero, suc, ◌+◌, ◌-◌, ◌*◌, ◌<◌, ◌≤◌, ◌/◌, ◌%◌, is_some, true, List, [], ◌∷◌}
+use Rattle.std.proofs.Common.{◌++◌, length, take, drop, Option, None, Some, slice_get, refl, sym, ap, arith, ◌∙◌, inl}
+use Rattle.std.proofs.Common.{inr, length-drop, length-take, append_assoc}
+use Rattle.std.proofs.lemmas.{Bool.cases_lt, Option.slice_get_past}
 use Rattle.mm_word.specs.declared.word.Cell.{Cell}
-use Rattle.mm_model.specs.Memory.{Memory, page_at, is_mapped, IsPaged}
-use Rattle.mm_model.specs.Counted.{page_of_block}
+use Rattle.mm_model.specs.{Memory.{Memory, page_at, is_mapped, IsPaged}, Counted.page_of_block}
 use Rattle.mm_model.proofs.Memories.{page_whole}
 use Rattle.mm_mem.specs.Blocks.{place_of_block, block_in, with_block, block_of_page, block_at, put_block}
 use Rattle.mm_mem.proofs.Blocks.{put_block-mapped, page_at-written, page_at-other, is_mapped-put_block}

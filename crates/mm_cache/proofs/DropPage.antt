@@ -1,6 +1,6 @@
 -- Lines while the blocks of a page go, from the first line on.
-use Rattle.std.proofs.Common.{◌≡◌, ℕ, zero, suc, ◌+◌, ◌<◌, List, [], ◌∷◌, ◌++◌, length, get_or, set, take, drop, Option, None, slice_get, refl, sym, ap, subst, arith, ◌∙◌}
-use Rattle.std.specs.Prelude.{slice_set}
+use Rattle.std.proofs.Common.{◌≡◌, ℕ, zero, suc, ◌+◌, ◌<◌, List, [], ◌∷◌, ◌++◌, length, get_or, set, take, drop, Option}
+use Rattle.std.{proofs.Common.{None, slice_get, refl, sym, ap, subst, arith, ◌∙◌}, specs.Prelude.slice_set}
 use Rattle.mm_cache.specs.declared.line.CacheLine.{CacheLine}
 use Rattle.mm_cache.specs.Lines.{flat_line, line_in, AreLines, line_without, without_page}
 use Rattle.mm_cache.proofs.Placed.{lines_emptied}

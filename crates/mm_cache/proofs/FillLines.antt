@@ -1,18 +1,14 @@
 -- A line that is filled from the memory, and a clean one that goes.
-use Rattle.std.proofs.Common.{◌≡◌, ℕ, ◌+◌, ◌*◌, ◌/◌, ◌%◌, is_some, true, false, List, length, Option, None, Some, slice_get, refl, sym, ap, subst, arith, ◌∙◌, inl, inr}
-use Rattle.std.proofs.lemmas.Bool.{cases_eq}
-use Rattle.std.proofs.lemmas.Option.{get_or_from_slice_get}
+use Rattle.std.proofs.Common.{◌≡◌, ℕ, ◌+◌, ◌*◌, ◌/◌, ◌%◌, is_some, true, false, List, length, Option, None, Some}
+use Rattle.std.proofs.Common.{slice_get, refl, sym, ap, subst, arith, ◌∙◌, inl, inr}
+use Rattle.std.proofs.lemmas.{Bool.cases_eq, Option.get_or_from_slice_get}
 use Rattle.mm_word.specs.declared.word.Cell.{Cell}
-use Rattle.mm_model.specs.Memory.{Memory, page_at, is_mapped, cell_in}
-use Rattle.mm_model.specs.Counted.{line_of, page_of_block}
+use Rattle.mm_model.specs.{Memory.{Memory, page_at, is_mapped, cell_in}, Counted.{line_of, page_of_block}}
 use Rattle.mm_mem.specs.Blocks.{block_in, block_of_page, block_at, place_of_block}
-use Rattle.mm_cache.specs.declared.line.CacheLine.{CacheLine}
-use Rattle.mm_cache.specs.Lines.{line_in, filled, emptied}
-use Rattle.mm_cache.specs.Over.{over_cell, over, Holds}
-use Rattle.mm_cache.specs.Laws.{Cover, FillsAreOver, CleanLinesGo}
+use Rattle.mm_cache.specs.{declared.line.CacheLine.CacheLine, Lines.{line_in, filled, emptied}}
+use Rattle.mm_cache.specs.{Over.{over_cell, over, Holds}, Laws.{Cover, FillsAreOver, CleanLinesGo}}
 use Rattle.mm_cache.proofs.Placed.{line_set_same, line_set_other, line_emptied, line_cases, lines_set, lines_emptied}
-use Rattle.mm_cache.proofs.Laid.{over_line, shown, hidden}
-use Rattle.mm_cache.proofs.Blocks.{block_get, page_of_there, block_at_length}
+use Rattle.mm_cache.proofs.{Laid.{over_line, shown, hidden}, Blocks.{block_get, page_of_there, block_at_length}}
 
 -- a page that has a cell
 page_of_place : (o : Option (List Cell)) (j : ℕ) (c : Cell) → cell_in o j ≡ Some c → (page : List Cell) × (o ≡ Some page) × (slice_get page j ≡ Some c)

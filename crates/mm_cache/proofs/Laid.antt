@@ -1,22 +1,15 @@
 -- The pages and cells of a memory under lines; two such memories are one where their cells are.
-use Rattle.std.proofs.Common.{◌≡◌, ◌≢◌, ℕ, zero, suc, ◌+◌, ◌/◌, ◌%◌, ◌==◌, if◌then◌else◌, get_or, cond, is_some, Bool, true, false, ◌&&◌, T, IsTrue, List, [], ◌∷◌, Option, None, Some, slice_get}
-use Rattle.std.proofs.Common.{option_map, refl, sym, ap, subst, arith, ◌∙◌, ◌⊎◌, inl, inr}
-use Rattle.std.specs.Prelude.{map, length}
-use Rattle.std.specs.List.{AllByRecursion}
-use Rattle.std.specs.Ordering.{nat_cmp, eq_by_cmp, is_lt}
+use Rattle.std.proofs.Common.{◌≡◌, ◌≢◌, ℕ, zero, suc, ◌+◌, ◌/◌, ◌%◌, ◌==◌, if◌then◌else◌, get_or, cond, is_some, Bool}
+use Rattle.std.proofs.Common.{true, false, ◌&&◌, T, IsTrue, List, [], ◌∷◌, Option, None, Some, slice_get, option_map}
+use Rattle.std.proofs.Common.{refl, sym, ap, subst, arith, ◌∙◌, ◌⊎◌, inl, inr}
+use Rattle.std.proofs.lemmas.{Cmp.nat_cmp_total, Bool.{cases_eq, Decides.nat_tests}, Option.same_Some}
+use Rattle.std.specs.{Prelude.{map, length}, List.AllByRecursion, Ordering.{nat_cmp, eq_by_cmp, is_lt}}
 use Rattle.std.specs.FinMap.{find, put, is_sorted, nat_cmp-IsAntisymmetric}
 use Rattle.std.specs.FinMap.Entries.{below_all, same_entries, is_sorted-put}
-use Rattle.std.proofs.lemmas.Cmp.{nat_cmp_total}
-use Rattle.std.proofs.lemmas.Bool.{cases_eq}
-use Rattle.std.proofs.lemmas.Bool.Decides.{nat_tests}
-use Rattle.std.proofs.lemmas.Option.{same_Some}
 use Rattle.mm_model.proofs.Memories.{truth}
+use Rattle.mm_model.specs.{Memory.{Memory, page_at, is_mapped, cell_in, IsPage, IsPaged}, Counted.page_of_block}
 use Rattle.mm_word.specs.declared.word.Cell.{Cell}
-use Rattle.mm_model.specs.Memory.{Memory, page_at, is_mapped, cell_in, IsPage, IsPaged}
-use Rattle.mm_model.specs.Counted.{page_of_block}
-use Rattle.mm_cache.specs.declared.line.CacheLine.{CacheLine}
-use Rattle.mm_cache.specs.Lines.{line_in}
-use Rattle.mm_cache.specs.Over.{over_cell, lay, over}
+use Rattle.mm_cache.specs.{declared.line.CacheLine.CacheLine, Lines.line_in, Over.{over_cell, lay, over}}
 
 -- memories
 

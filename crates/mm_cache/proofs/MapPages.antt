@@ -1,20 +1,20 @@
 -- A page that is mapped under the lines, or removed with its lines, and the start with no lines.
-use Rattle.std.proofs.Common.{◌<◌, ◌^◌, ◌≡◌, ◌≢◌, ℕ, zero, suc, ◌/◌, ◌==◌, ◌&&◌, not, nat_lt, is_some, Bool, true, false, if◌then◌else◌, List, [], ◌∷◌, length, replicate, Option, None, Some}
-use Rattle.std.proofs.Common.{option_map, refl, sym, ap, arith, ◌∙◌, inl, inr}
+use Rattle.std.proofs.Common.{◌<◌, ◌^◌, ◌≡◌, ◌≢◌, ℕ, zero, suc, ◌/◌, ◌==◌, ◌&&◌, not, nat_lt, is_some, Bool, true}
+use Rattle.std.proofs.Common.{false, if◌then◌else◌, List, [], ◌∷◌, length, replicate, Option, None, Some, option_map}
+use Rattle.std.proofs.{Common.{refl, sym, ap, arith, ◌∙◌, inl, inr}, lemmas.Bool.{cases_eq, Decides.nat_tests}}
 use Rattle.std.specs.Prelude.{map}
-use Rattle.std.proofs.lemmas.Bool.{cases_eq}
-use Rattle.std.proofs.lemmas.Bool.Decides.{nat_tests}
 use Rattle.mm_word.specs.declared.word.Cell.{Cell}
-use Rattle.mm_model.specs.Memory.{Memory, page_at, is_mapped, can_map, cell_in, map_page, unmap_page, zero_page, IsPaged}
-use Rattle.mm_model.specs.Counted.{page_of_block}
-use Rattle.mm_model.proofs.Memories.{page_at-map_same, page_at-map_other, page_at-unmap_same, page_at-unmap_other, map_frames, map_paged, unmap_frames, unmap_pages, unmap_paged, can_map-facts}
+use Rattle.mm_model.specs.Memory.{Memory, page_at, is_mapped, can_map, cell_in, map_page, unmap_page, zero_page}
+use Rattle.mm_model.specs.{Memory.IsPaged, Counted.page_of_block}
+use Rattle.mm_model.proofs.Memories.{page_at-map_same, page_at-map_other, page_at-unmap_same, page_at-unmap_other}
+use Rattle.mm_model.proofs.Memories.{map_frames, map_paged, unmap_frames, unmap_pages, unmap_paged, can_map-facts}
 use Rattle.mm_mem.specs.Blocks.{block_of_page}
 use Rattle.mm_cache.specs.declared.line.CacheLine.{CacheLine}
 use Rattle.mm_cache.specs.Lines.{flat_line, line_in, line_without, without_page, AreLines}
-use Rattle.mm_cache.specs.Over.{over_cell, lay, over, Holds, LieOver}
-use Rattle.mm_cache.specs.Laws.{Cover, PagesAreOver, EmptyLinesAreOver}
+use Rattle.mm_cache.specs.{Over.{over_cell, lay, over, Holds, LieOver}, Laws.{Cover, PagesAreOver, EmptyLinesAreOver}}
 use Rattle.mm_cache.proofs.Placed.{empty_or_there, line_empty, lines_empty}
-use Rattle.mm_cache.proofs.Laid.{Rises, put_rises, same_cells, over_frames, over_rises, over_count, over_paged, mapped_over, seen, cell_over, hidden}
+use Rattle.mm_cache.proofs.Laid.{Rises, put_rises, same_cells, over_frames, over_rises, over_count, over_paged}
+use Rattle.mm_cache.proofs.Laid.{mapped_over, seen, cell_over, hidden}
 
 -- pages that are mapped, or not
 

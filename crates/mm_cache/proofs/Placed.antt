@@ -1,10 +1,9 @@
 -- Lines in their places, after a change of one line and while the blocks of a page go.
-use Rattle.std.proofs.Common.{◌≡◌, ◌≢◌, ℕ, zero, suc, ◌<◌, List, [], ◌∷◌, length, length-set, Option, None, Some, replicate, refl, sym, ap, arith, ◌∙◌, ◌⊎◌, inl, inr}
-use Rattle.std.proofs.lemmas.Bool.{cases_eq}
+use Rattle.std.proofs.Common.{◌≡◌, ◌≢◌, ℕ, zero, suc, ◌<◌, List, [], ◌∷◌, length, length-set, Option, None, Some}
+use Rattle.std.proofs.{Common.{replicate, refl, sym, ap, arith, ◌∙◌, ◌⊎◌, inl, inr}, lemmas.Bool.cases_eq}
 use Rattle.std.specs.Prelude.{slice_set, ◌==◌, Bool, true, false, if◌then◌else◌}
 use Rattle.mm_word.specs.declared.word.Cell.{Cell}
-use Rattle.mm_model.specs.Counted.{block_of, line_of}
-use Rattle.mm_model.proofs.Memories.{get_set_other}
+use Rattle.mm_model.{specs.Counted.{block_of, line_of}, proofs.Memories.get_set_other}
 use Rattle.mm_cache.specs.declared.line.CacheLine.{CacheLine}
 use Rattle.mm_cache.specs.Lines.{flat_line, line_in, line_with, place_in_block, AreLines}
 

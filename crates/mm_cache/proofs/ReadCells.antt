@@ -1,16 +1,14 @@
 -- A word that is read in its line, and one whose block is not there.
-use Rattle.std.proofs.Common.{◌≡◌, ◌≢◌, ℕ, ◌/◌, ◌%◌, ◌==◌, Bool, true, false, if◌then◌else◌, List, length, get_or, Option, None, Some, slice_get, option_map, refl, sym, ap, arith, ◌∙◌, inl, inr}
-use Rattle.std.proofs.lemmas.Bool.Decides.{nat_tests}
-use Rattle.std.proofs.lemmas.Option.{slice_get-get_or}
+use Rattle.std.proofs.Common.{◌≡◌, ◌≢◌, ℕ, ◌/◌, ◌%◌, ◌==◌, Bool, true, false, if◌then◌else◌, List, length, get_or}
+use Rattle.std.proofs.Common.{Option, None, Some, slice_get, option_map, refl, sym, ap, arith, ◌∙◌, inl, inr}
+use Rattle.std.proofs.lemmas.{Bool.Decides.nat_tests, Option.slice_get-get_or}
 use Rattle.mm_word.specs.declared.word.Cell.{Cell}
 use Rattle.mm_model.specs.Memory.{Memory, page_of, place_of, page_at, cell_in, cell_at}
 use Rattle.mm_model.specs.Counted.{block_of, line_of, page_of_block}
 use Rattle.mm_model.proofs.Memories.{aligned, cell_at-aligned, cell_at-unaligned, word_or_none}
 use Rattle.mm_cache.specs.declared.line.CacheLine.{CacheLine}
-use Rattle.mm_cache.specs.Lines.{line_in, is_in, hits, cell_in_line, cell_of, place_in_block}
-use Rattle.mm_cache.specs.Over.{over_cell, over}
-use Rattle.mm_cache.specs.Laws.{Cover, ReadsAreOver}
-use Rattle.mm_cache.proofs.Laid.{seen, shown, hidden}
+use Rattle.mm_cache.specs.{Lines.{line_in, is_in, hits, cell_in_line, cell_of, place_in_block}, Over.{over_cell, over}}
+use Rattle.mm_cache.{specs.Laws.{Cover, ReadsAreOver}, proofs.Laid.{seen, shown, hidden}}
 
 in_line : (o : Option CacheLine) (block : ℕ) → is_in o block ≡ true → (l : CacheLine) × (o ≡ Some l) × (l.block ≡ block)
 in_line None block h = cc

@@ -1,19 +1,16 @@
 -- A line that is emptied and written back.
-use Rattle.std.proofs.Common.{◌≡◌, ◌≢◌, ℕ, ◌+◌, ◌*◌, ◌<◌, ◌/◌, ◌%◌, List, [], ◌∷◌, zero, suc, ◌≤◌, length, Option, None, Some, slice_get, option_map, refl, sym, ap, arith, ◌∙◌, inl, inr}
-use Rattle.std.proofs.lemmas.Bool.{cases_eq}
-use Rattle.std.proofs.lemmas.Option.{slice_get-get_or}
+use Rattle.std.proofs.Common.{◌≡◌, ◌≢◌, ℕ, ◌+◌, ◌*◌, ◌<◌, ◌/◌, ◌%◌, List, [], ◌∷◌, zero, suc, ◌≤◌, length, Option, None}
+use Rattle.std.proofs.Common.{Some, slice_get, option_map, refl, sym, ap, arith, ◌∙◌, inl, inr}
+use Rattle.std.proofs.lemmas.{Bool.cases_eq, Option.slice_get-get_or}
 use Rattle.mm_word.specs.declared.word.Cell.{Cell}
-use Rattle.mm_model.specs.Memory.{Memory, page_at, cell_in, IsPaged}
-use Rattle.mm_model.specs.Counted.{line_of, page_of_block}
-use Rattle.mm_mem.specs.Blocks.{block_of_page, block_at, place_of_block, put_block}
-use Rattle.mm_cache.specs.declared.line.CacheLine.{CacheLine}
-use Rattle.mm_cache.specs.Lines.{line_in, emptied}
-use Rattle.mm_cache.specs.Over.{over_cell, over, Holds}
+use Rattle.mm_model.specs.{Memory.{Memory, page_at, cell_in, IsPaged}, Counted.{line_of, page_of_block}}
+use Rattle.mm_mem.{specs.Blocks.{block_of_page, block_at, place_of_block, put_block}, proofs.Blocks.put_block_paged}
+use Rattle.mm_cache.specs.{declared.line.CacheLine.CacheLine, Lines.{line_in, emptied}, Over.{over_cell, over, Holds}}
 use Rattle.mm_cache.specs.Laws.{Cover, LinesAreWrittenBack}
 use Rattle.mm_cache.proofs.Placed.{line_set_other, line_emptied, line_cases, lines_emptied}
 use Rattle.mm_cache.proofs.Laid.{over_alike, cell_over, shown, hidden}
-use Rattle.mm_cache.proofs.Blocks.{with_block_here, with_block_there, with_block_other, page_there, block_fits, put_block_frames, put_block_here, put_block_there, put_block_mapped}
-use Rattle.mm_mem.proofs.Blocks.{put_block_paged}
+use Rattle.mm_cache.proofs.Blocks.{with_block_here, with_block_there, with_block_other, page_there, block_fits}
+use Rattle.mm_cache.proofs.Blocks.{put_block_frames, put_block_here, put_block_there, put_block_mapped}
 
 get_within : (xs : List Cell) (n : ℕ) → n < length xs → (x : Cell) × (slice_get xs n ≡ Some x)
 get_within [] n lt = absurd (omega arith)

@@ -1,20 +1,19 @@
 -- A cell that is written in its line.
-use Rattle.std.proofs.Common.{◌≡◌, ◌≢◌, ℕ, zero, suc, ◌<◌, ◌/◌, ◌%◌, ◌==◌, Bool, true, false, if◌then◌else◌, List, [], ◌∷◌, length, length-set, get_or, Option, None, Some, slice_get, option_map, refl}
-use Rattle.std.proofs.Common.{sym, ap, subst, arith, ◌∙◌, ◌⊎◌, inl, inr}
+use Rattle.std.proofs.Common.{◌≡◌, ◌≢◌, ℕ, zero, suc, ◌<◌, ◌/◌, ◌%◌, ◌==◌, Bool, true, false, if◌then◌else◌, List, []}
+use Rattle.std.proofs.Common.{◌∷◌, length, length-set, get_or, Option, None, Some, slice_get, option_map, refl, sym, ap}
+use Rattle.std.proofs.{Common.{subst, arith, ◌∙◌, ◌⊎◌, inl, inr}, lemmas.Bool.{cases_eq, Decides.nat_tests}}
 use Rattle.std.specs.Prelude.{slice_set}
-use Rattle.std.proofs.lemmas.Bool.{cases_eq}
-use Rattle.std.proofs.lemmas.Bool.Decides.{nat_tests}
 use Rattle.mm_word.specs.declared.word.Cell.{Cell}
 use Rattle.mm_model.specs.Memory.{Memory, page_of, place_of, page_at, is_mapped, cell_in, put_cell}
 use Rattle.mm_model.specs.Counted.{block_of, line_of, page_of_block}
-use Rattle.mm_model.proofs.Memories.{put_cell-unmapped, page_at-put_same, page_at-put_other, is_mapped-put, put_frames, put_paged, get_set_other}
+use Rattle.mm_model.proofs.Memories.{put_cell-unmapped, page_at-put_same, page_at-put_other, is_mapped-put, put_frames}
+use Rattle.mm_model.proofs.Memories.{put_paged, get_set_other}
 use Rattle.mm_cache.specs.declared.line.CacheLine.{CacheLine}
-use Rattle.mm_cache.specs.Lines.{line_in, hits, line_with, with_cell, place_in_block}
-use Rattle.mm_cache.specs.Over.{over_cell, over, Holds}
+use Rattle.mm_cache.specs.{Lines.{line_in, hits, line_with, with_cell, place_in_block}, Over.{over_cell, over, Holds}}
 use Rattle.mm_cache.specs.Laws.{Cover, WritesAreOver}
 use Rattle.mm_cache.proofs.Placed.{line_set_same, line_set_other, line_cases, lines_set}
-use Rattle.mm_cache.proofs.Laid.{same_cells, over_frames, over_rises, over_paged, mapped_over, seen, cell_over, shown, hidden}
-use Rattle.mm_cache.proofs.ReadCells.{line_hit}
+use Rattle.mm_cache.proofs.Laid.{same_cells, over_frames, over_rises, over_paged, mapped_over, seen, cell_over, shown}
+use Rattle.mm_cache.proofs.{Laid.hidden, ReadCells.line_hit}
 
 -- cells of lists
 

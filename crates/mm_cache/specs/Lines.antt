@@ -3,8 +3,7 @@ use Rattle.std.specs.Prelude.{◌≡◌, ℕ, ◌/◌, ◌%◌, ◌==◌, Bool, 
 use Rattle.std.specs.Prelude.{Some, slice_get, slice_set}
 use Rattle.mm_word.specs.declared.word.Cell.{Cell}
 use Rattle.mm_model.specs.Counted.{block_of, line_of, page_of_block}
-use Rattle.mm_cache.specs.declared.line.CacheLine.{CacheLine}
-use Rattle.mm_cache.specs.declared.line.Victim.{Victim}
+use Rattle.mm_cache.specs.declared.line.{CacheLine.CacheLine, Victim.Victim}
 
 -- the index of a word's cell in its block
 abbrev pub place_in_block : ℕ → ℕ

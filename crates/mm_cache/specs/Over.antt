@@ -3,11 +3,9 @@
 use Rattle.std.specs.Prelude.{◌≡◌, ℕ, suc, ◌/◌, ◌%◌, ◌==◌, true, false, if◌then◌else◌, List, [], ◌∷◌, Option, None}
 use Rattle.std.specs.Prelude.{Some, slice_index_or, map}
 use Rattle.mm_word.specs.declared.word.Cell.{Cell}
-use Rattle.mm_model.specs.Memory.{Memory, is_mapped}
-use Rattle.mm_model.specs.Counted.{page_of_block}
+use Rattle.mm_model.specs.{Memory.{Memory, is_mapped}, Counted.page_of_block}
 use Rattle.mm_mem.specs.Blocks.{block_at}
-use Rattle.mm_cache.specs.declared.line.CacheLine.{CacheLine}
-use Rattle.mm_cache.specs.Lines.{line_in}
+use Rattle.mm_cache.specs.{declared.line.CacheLine.CacheLine, Lines.line_in}
 
 -- the cell at a place of a page, as it is read through a line
 abbrev pub over_cell : Option CacheLine → ℕ → ℕ → Cell → Cell

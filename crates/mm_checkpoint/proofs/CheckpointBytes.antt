@@ -1,29 +1,26 @@
 -- The text of a checkpoint: how long it is at most, and that it is bytes if its outputs are.
-use Rattle.std.proofs.Common.{◌≡◌, ℕ, zero, suc, ◌+◌, ◌*◌, ◌%◌, ◌/◌, ◌^◌, ◌<◌, ◌≤◌, Bool, true, false, cond, List}
-use Rattle.std.proofs.Common.{[], ◌∷◌, ◌++◌, length, map, take, drop, Option, Some, None, sym, ap, subst, ◌∙◌}
-use Rattle.std.proofs.{Common.arith, lemmas.List.{length-append, length-map, length-take, Sums.count_by-le-length}}
-use Rattle.std.proofs.Math.Pow.{pow_mono}
+use Rattle.std.proofs.Common.{◌≡◌, ℕ, zero, suc, ◌+◌, ◌*◌, ◌%◌, ◌/◌, ◌^◌, ◌<◌, ◌≤◌, Bool, true, false, cond, List, []}
+use Rattle.std.proofs.Common.{◌∷◌, ◌++◌, length, map, take, drop, Option, Some, None, sym, ap, subst, ◌∙◌, arith}
+use Rattle.std.proofs.{lemmas.List.{length-append, length-map, length-take, Sums.count_by-le-length}, Math.Pow.pow_mono}
 use Rattle.std.specs.{Prelude.{◌==◌, codes, IfSome, option_map}, Int.{w64, to_be_bytes, byte_at, bytes_high_first}}
 use Rattle.std.specs.List.{flat_map, AllByRecursion}
-use Rattle.mm_model.proofs.OneIf.{at_most_one}
-use Rattle.mm_model.proofs.TurnKeeps.{each_of}
-use Rattle.mm_model.proofs.CoreRows.{into_map}
+use Rattle.mm_model.proofs.{OneIf.at_most_one, TurnKeeps.each_of}
+use Rattle.mm_model.proofs.{CoreRows.{into_map, each_map, each_both, slot_limit-few}, Bytes.Apart.number_of_flags-below}
+use Rattle.mm_model.specs.{declared.{event.Event.Event, slot.Pending.Pending}, Flags.{flags, one_if, number_of_flags}}
+use Rattle.mm_model.specs.{Memory.IsPage, Slot.Slot, Image.{Image, frame_limit}, Fits.identity_of}
+use Rattle.mm_model.specs.{Spelling.{IsImage, bitmap}, Typed.IsTypedSlot}
 use Rattle.mm_word.specs.{Pointer.bits_of, declared.word.{Word.{Word, TheVariants.Int}, Cell.Cell}}
 use Rattle.mm_word.specs.Word.{word_bits, is_pointer}
-use Rattle.mm_model.specs.{declared.event.Event.Event, Flags.{flags, one_if, number_of_flags}, Memory.IsPage}
-use Rattle.mm_model.specs.{Slot.Slot, Image.{Image, frame_limit}, Fits.identity_of}
-use Rattle.mm_model.specs.{Spelling.{IsImage, bitmap}, Typed.IsTypedSlot, declared.slot.Pending.Pending}
 use Rattle.mm_format.specs.{Formats.each, Images.{word, page_record}}
 use Rattle.mm_format.proofs.ImagesWhole.{words_spelled, page_spelled}
-use Rattle.mm_model.proofs.{CoreRows.{each_map, each_both, slot_limit-few}, Bytes.Apart.number_of_flags-below}
 use Rattle.mm_thread.specs.Output.{Output}
 use Rattle.mm_machine.specs.Snapshot.{Parts, IsPending}
-use Rattle.mm_checkpoint.specs.Checkpoints.{Saved, saved_of, IsCheckpoint, last_byte, state_byte, cause_byte}
-use Rattle.mm_checkpoint.specs.{Checkpoints.{place_in, place_byte, event_of}, Laws.CheckpointsAreShort}
-use Rattle.mm_checkpoint.specs.Format.{header, tagged, load, output, event_in, place_in_row, address_in, value_in, row_of}
-use Rattle.mm_checkpoint.specs.Format.{header_of, spelling, slot_record, output_record, load_record, tagged_word}
-use Rattle.mm_checkpoint.proofs.Spelled.{record_spelled, checkpoint_spelled}
-use Rattle.mm_checkpoint.proofs.{Counts.each_append, Groups.few_outputs}
+use Rattle.mm_checkpoint.specs.Checkpoints.{Saved, saved_of, IsCheckpoint, last_byte, state_byte, cause_byte, place_in}
+use Rattle.mm_checkpoint.specs.{Checkpoints.{place_byte, event_of}, Laws.CheckpointsAreShort}
+use Rattle.mm_checkpoint.specs.Format.{header, tagged, load, output, event_in, place_in_row, address_in, value_in}
+use Rattle.mm_checkpoint.specs.Format.{row_of, header_of, spelling, slot_record, output_record, load_record}
+use Rattle.mm_checkpoint.specs.Format.{tagged_word}
+use Rattle.mm_checkpoint.proofs.{Spelled.{record_spelled, checkpoint_spelled}, Counts.each_append, Groups.few_outputs}
 use Rattle.mm_checkpoint.proofs.{Loads.{registers_small, pending_set}, Owns.few_events}
 use Rattle.mm_checkpoint.proofs.States.{state_small, cause_small}
 

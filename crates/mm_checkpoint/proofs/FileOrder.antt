@@ -1,11 +1,9 @@
 -- In which order the faults of a checkpoint's file come.
 use Rattle.std.proofs.Common.{◌≡◌, ℕ, Bool, true, false, cond, nat_lt, List, length, Option, Some, None, refl, ap, ◌∙◌}
 use Rattle.mm_model.specs.Image.{Image}
-use Rattle.mm_format.specs.Formats.{Parsed, after, answer, fault_in, Parsed.{Got, Bad}}
-use Rattle.mm_format.specs.Images.{pages}
-use Rattle.mm_checkpoint.specs.declared.header.Header.{Header}
-use Rattle.mm_checkpoint.specs.declared.rows.SlotRow.{SlotRow}
-use Rattle.mm_checkpoint.specs.{Faults.said_of, FileOrder.{records, bad_place, outputs, ReadsSlots, FaultsComeInOrder}}
+use Rattle.mm_format.specs.{Formats.{Parsed, after, answer, fault_in, Parsed.{Got, Bad}}, Images.pages}
+use Rattle.mm_checkpoint.specs.{declared.{header.Header.Header, rows.SlotRow.SlotRow}, Faults.said_of}
+use Rattle.mm_checkpoint.specs.FileOrder.{records, bad_place, outputs, ReadsSlots, FaultsComeInOrder}
 use Rattle.mm_checkpoint.specs.Format.{header, front, front_from, tested, checkpoint, contents_from, saved_in}
 
 -- a fault of the first part is that of both

@@ -1,37 +1,33 @@
 -- What fits the format of a slot's record keeps the rules of slots, and a slot that keeps them fits it.
 use Rattle.std.proofs.Common.{◌≡◌, ◌≢◌, ℕ, zero, suc, ◌^◌, ◌<◌, ◌≤◌, Bool, true, false, not, cond, nat_lt, inl, inr}
-use Rattle.std.proofs.Common.{List, [], ◌∷◌, ◌++◌, length, get_or, map, Option, Some, None, refl, sym, ap, subst}
-use Rattle.std.proofs.Common.{◌∙◌, arith, eqb-true}
-use Rattle.std.proofs.lemmas.{Bool.{cases_lt, eq-eqb}, List.{length-map, get_or_past, Sums.count_by-le-length}}
+use Rattle.std.proofs.Common.{List, [], ◌∷◌, ◌++◌, length, get_or, map, Option, Some, None, refl, sym, ap, subst, ◌∙◌}
+use Rattle.std.proofs.Common.{arith, eqb-true}
+use Rattle.std.proofs.lemmas.Bool.{cases_lt, eq-eqb, or_from, or_parts, not-false, ltb-false, le-ltb}
+use Rattle.std.proofs.lemmas.List.{length-map, get_or_past, Sums.count_by-le-length}
 use Rattle.std.specs.{Prelude.{◌==◌, ◌&&◌, ◌||◌, ◌⊎◌, count_by, is_some, option_map, unwrap_or}, List.AllByRecursion}
-use Rattle.std.proofs.lemmas.Bool.{or_from, or_parts, not-false, ltb-false, le-ltb}
-use Rattle.mm_model.proofs.CoreSteps.{some_true}
-use Rattle.mm_model.proofs.OneIf.{at_most_one, one_back}
+use Rattle.mm_model.proofs.{CoreSteps.some_true, OneIf.{at_most_one, one_back}}
+use Rattle.mm_model.proofs.Bytes.{Apart.{number_of_flags-below, flag-get}, Clean.is_below, CleanWords.well_formed}
+use Rattle.mm_model.proofs.{Bytes.SpelledRecords.{is_spelled, not_le}, FlagLists.flags-get}
+use Rattle.mm_model.specs.declared.{event.Event.Event, slot.{Pending.Pending, SlotState.{SlotState, TheVariants.Taken}}}
+use Rattle.mm_model.specs.Flags.{flags, number_of_flags, one_if, in_mask}
+use Rattle.mm_model.specs.{Fits.{is_waiting, identity_of, EventHoldsWords}, Typed.IsTypedSlot}
+use Rattle.mm_model.specs.Slot.{Slot, register as register_of, is_empty}
 use Rattle.mm_word.specs.declared.cause.Cause.{Cause, TheVariants.NotPointer}
 use Rattle.mm_word.specs.{declared.word.Word.{Word, TheVariants.{Int, Ptr}}, Pointer.{Pointer, IsWellFormed}}
-use Rattle.mm_word.{specs.Word.{IsWord, word_bits, is_pointer}, proofs.Packing.pointer_of-bits_of}
-use Rattle.mm_model.specs.declared.event.Event.{Event}
-use Rattle.mm_model.specs.declared.slot.{Pending.Pending, SlotState.{SlotState, TheVariants.Taken}}
-use Rattle.mm_model.specs.{Flags.{flags, number_of_flags, one_if}, Fits.{is_waiting, identity_of, EventHoldsWords}}
-use Rattle.mm_model.{specs.Typed.IsTypedSlot, proofs.Bytes.Apart.{number_of_flags-below, flag-get}}
-use Rattle.mm_model.proofs.Bytes.{Clean.is_below, CleanWords.well_formed}
-use Rattle.mm_model.proofs.{Bytes.SpelledRecords.{is_spelled, not_le}, FlagLists.flags-get}
+use Rattle.mm_word.specs.{Word.{IsWord, word_bits, is_pointer}, Cause.cause_of}
+use Rattle.mm_word.proofs.{Packing.pointer_of-bits_of, Causes.cause_back}
 use Rattle.mm_machine.specs.Snapshot.{IsPending}
 use Rattle.mm_format.specs.{Formats.{each, times, cons}, Images.word}
 use Rattle.mm_format.proofs.ImagesFit.{small_bits, word_fits, fits_word, ip_fits, fits_ip, fits_mask}
-use Rattle.mm_checkpoint.specs.Checkpoints.{state_byte, cause_byte, event_of, place_byte}
-use Rattle.mm_word.{specs.Cause.cause_of, proofs.Causes.cause_back}
-use Rattle.mm_checkpoint.specs.{Reading.state_of, Tests.{is_bad_state, is_bad_cause, bits_set}}
+use Rattle.mm_checkpoint.specs.{Checkpoints.{state_byte, cause_byte, event_of, place_byte}, Reading.state_of}
+use Rattle.mm_checkpoint.specs.Tests.{is_bad_state, is_bad_cause, bits_set}
 use Rattle.mm_checkpoint.specs.declared.rows.{Queued.Queued, SlotRow.SlotRow}
 use Rattle.mm_checkpoint.specs.Format.{word_with, tagged, register, operand, load, beside, event_in, place_in_row}
 use Rattle.mm_checkpoint.specs.Format.{address_in, value_in, slot_row, load_count, row_of}
-use Rattle.mm_checkpoint.proofs.Spelled.{event_back}
-use Rattle.mm_checkpoint.proofs.Counts.{count_append, count_none, count_yes, any_none, moved}
+use Rattle.mm_checkpoint.proofs.{Spelled.event_back, Counts.{count_append, count_none, count_yes, any_none, moved}}
 use Rattle.mm_checkpoint.proofs.{Loads.{AreNew, one_load, sixteen_flags, pending_set, none_empty}, Owns.Owns}
-use Rattle.mm_checkpoint.proofs.States.{state_right, state_small, cause_small, byte_waits, state_back}
-use Rattle.mm_checkpoint.proofs.States.{state_good, cause_good, IsZeroUnless, operand_good}
-use Rattle.mm_model.specs.Slot.{Slot, register as register_of, is_empty}
-use Rattle.mm_model.specs.Flags.{in_mask}
+use Rattle.mm_checkpoint.proofs.States.{state_right, state_small, cause_small, byte_waits, state_back, state_good}
+use Rattle.mm_checkpoint.proofs.States.{cause_good, IsZeroUnless, operand_good}
 
 -- two facts
 pub also : {A B : Type 0} → A → B → A × B

@@ -1,23 +1,19 @@
 -- The checkpoint's file is a format.
-use Rattle.std.proofs.Common.{◌≡◌, ℕ, ◌+◌, ◌≤◌, Bool, true, false, not, cond, List, [], ◌∷◌, length, map, Option}
-use Rattle.std.proofs.Common.{Some, None, refl, sym, ap, ◌∙◌, arith, eqb-true, eq-eqb, codes}
-use Rattle.std.specs.Prelude.{◌==◌, ◌&&◌, option_map, unwrap_or}
-use Rattle.std.proofs.lemmas.Bool.{not-false, ltb-false, eqb-false}
-use Rattle.mm_model.proofs.OneIf.{at_most_one}
-use Rattle.mm_word.specs.declared.{cause.Cause.TheVariants.NotPointer, word.Word.{Word, TheVariants.{Int, Ptr}}}
-use Rattle.mm_word.specs.Word.{word_bits, is_pointer}
+use Rattle.std.proofs.Common.{◌≡◌, ℕ, ◌+◌, ◌≤◌, Bool, true, false, not, cond, List, [], ◌∷◌, length, map, Option, Some}
+use Rattle.std.proofs.Common.{None, refl, sym, ap, ◌∙◌, arith, eqb-true, eq-eqb, codes}
+use Rattle.std.{proofs.lemmas.Bool.{not-false, ltb-false, eqb-false}, specs.Prelude.{◌==◌, ◌&&◌, option_map, unwrap_or}}
+use Rattle.mm_model.proofs.{OneIf.at_most_one, Bytes.Bitmaps.number_of_flags-flags}
 use Rattle.mm_model.specs.{declared.event.Event.Event, Flags.{flags, number_of_flags, one_if}, Slot.Slot}
 use Rattle.mm_model.specs.Image.{Image, output_limit}
-use Rattle.mm_model.proofs.Bytes.Bitmaps.{number_of_flags-flags}
+use Rattle.mm_word.specs.declared.{cause.Cause.TheVariants.NotPointer, word.Word.{Word, TheVariants.{Int, Ptr}}}
+use Rattle.mm_word.specs.{Word.{word_bits, is_pointer}, Cause.cause_of}
 use Rattle.mm_format.specs.Formats.{Format, IsFormat, u16, u32, u64, byte, each, cons}
 use Rattle.mm_format.specs.Images.{mask, flags_of, word, page}
 use Rattle.mm_format.proofs.Formats.{byte_is, u16_is, u32_is, u64_is, text_is, test_is, literal_is, literal_read}
 use Rattle.mm_format.proofs.{Formats.{then_is, done_is}, Lists.{each_is, times_is, times_long, late_is}}
 use Rattle.mm_format.proofs.Images.{mask_is, word_is, word_tag, word_again, ip_is, page_is}
-use Rattle.mm_checkpoint.specs.Checkpoints.{last_byte, state_byte, cause_byte}
-use Rattle.mm_word.specs.Cause.{cause_of}
-use Rattle.mm_checkpoint.specs.{Reading.{state_of, groups_of}, Tests.is_bad_cause}
-use Rattle.mm_checkpoint.specs.declared.rows.{Queued.Queued, SlotRow.SlotRow}
+use Rattle.mm_checkpoint.specs.{Checkpoints.{last_byte, state_byte, cause_byte}, Reading.{state_of, groups_of}}
+use Rattle.mm_checkpoint.specs.{Tests.is_bad_cause, declared.rows.{Queued.Queued, SlotRow.SlotRow}}
 use Rattle.mm_checkpoint.specs.Format.{header, word_with, tagged, register, operand, load, beside, event_in}
 use Rattle.mm_checkpoint.specs.Format.{place_in_row, address_in, value_in, slot_row, load_count, queue_tests, Front}
 use Rattle.mm_checkpoint.specs.Format.{front, waiting_in, output, Contents, checkpoint}

@@ -3,19 +3,16 @@ use Rattle.std.proofs.Common.{◌≡◌, ℕ, ◌+◌, ◌*◌, ◌<◌, suc, Bo
 use Rattle.std.proofs.Common.{length, map, Option, Some, None, refl, sym, ap, subst, ◌∙◌, arith, eq-eqb, eqb-true}
 use Rattle.std.proofs.lemmas.Bool.{ne_eqb}
 use Rattle.std.specs.{Prelude.{◌⊎◌, ◌==◌, count_by, is_some, option_map, unwrap_or, IsSomeAnd}, List.AllByRecursion}
-use Rattle.mm_model.proofs.TurnKeeps.{each_of}
-use Rattle.mm_model.proofs.CoreRows.{out_of_map}
+use Rattle.mm_model.proofs.{TurnKeeps.each_of, CoreRows.{out_of_map, each_map, each_both}, OwnSlots.Ascends}
 use Rattle.mm_model.specs.{declared.event.Event.Event, Flags.one_if, Fits.{is_waiting, identity_of, EventHoldsWords}}
-use Rattle.mm_model.{specs.{Turn.is_handler, Slot.Slot}, proofs.{CoreRows.{each_map, each_both}, OwnSlots.Ascends}}
-use Rattle.mm_machine.specs.Snapshot.{DoesNotFall, queues_of, numbered, IsEventOf, IsAwaited, HasOneEvent}
-use Rattle.mm_machine.specs.Snapshot.{IsTypedEvent}
+use Rattle.mm_model.specs.{Turn.is_handler, Slot.Slot}
+use Rattle.mm_machine.specs.Snapshot.{DoesNotFall, queues_of, numbered, IsEventOf, IsAwaited, HasOneEvent, IsTypedEvent}
 use Rattle.mm_format.specs.Formats.{each, cons}
 use Rattle.mm_checkpoint.specs.declared.{waiting.Waiter.Waiter, rows.{Queued.Queued, SlotRow.SlotRow}}
 use Rattle.mm_checkpoint.specs.{Checkpoints.{event_of, place_in, place_byte}, Reading.{handler_of, in_order, events_of}}
 use Rattle.mm_checkpoint.specs.{Tests.waits_with, Format.{event_in, place_in_row, slot_row, waiter_in, waiters_in}}
-use Rattle.mm_checkpoint.proofs.Counts.{each_append, none_count, count_none, count_yes, count_no}
-use Rattle.mm_checkpoint.proofs.Counts.{count_map, find_some, find_none}
-use Rattle.mm_checkpoint.proofs.FormatFits.{IsWaitingRow, IsIdleRow, IsRow, row_fits}
+use Rattle.mm_checkpoint.proofs.Counts.{each_append, none_count, count_none, count_yes, count_no, count_map, find_some}
+use Rattle.mm_checkpoint.proofs.{Counts.find_none, FormatFits.{IsWaitingRow, IsIdleRow, IsRow, row_fits}}
 use Rattle.mm_checkpoint.proofs.Order.{is_of, AreRight, Rises, each_in_order, each_event, count_in_order, order_rises}
 use Rattle.mm_checkpoint.proofs.{Order.{each_place, falls_not, place_found}, Owns.each_numbered, States.byte_waits}
 

@@ -1,25 +1,20 @@
 -- Checkpoints and the bytes that spell them, by their format.
-use Rattle.std.proofs.Common.{◌≡◌, ◌≢◌, ℕ, ◌+◌, ◌*◌, ◌<◌, ◌≤◌, Bool, true, false, not, cond, inl, inr, List, []}
-use Rattle.std.proofs.Common.{◌∷◌, ◌++◌, length, map, Option, Some, None, refl, sym, ap, subst, ◌∙◌, arith}
-use Rattle.std.proofs.{Common.append_assoc, lemmas.{Bool.Decides.nat_tests, List.{append-nil, map-append}}}
+use Rattle.std.proofs.Common.{◌≡◌, ◌≢◌, ℕ, ◌+◌, ◌*◌, ◌<◌, ◌≤◌, Bool, true, false, not, cond, inl, inr, List, [], ◌∷◌}
+use Rattle.std.proofs.Common.{◌++◌, length, map, Option, Some, None, refl, sym, ap, subst, ◌∙◌, arith, append_assoc}
+use Rattle.std.proofs.lemmas.{Bool.{le-ltb, ltb-false, Decides.nat_tests}, List.{append-nil, map-append}}
 use Rattle.std.specs.Prelude.{◌==◌, ◌&&◌, nat_le, IfSome, option_map, unwrap_or, codes}
 use Rattle.std.specs.{Int.{w16, w32, w64, to_be_bytes}, List.{flat_map, AllByRecursion, Sorted.IsStrictlyIncreasing}}
-use Rattle.std.proofs.lemmas.Bool.{le-ltb, ltb-false}
-use Rattle.mm_model.proofs.CoreRows.{numbers_by, into_map}
-use Rattle.mm_thread.proofs.Cores.{byte_limit}
-use Rattle.mm_word.specs.{declared.word.{Word.Word, Cell.Cell}, Pointer.bits_of, Word.{word_bits, is_pointer}}
+use Rattle.mm_model.proofs.{CoreRows.{numbers_by, into_map, each_map, by_identities}, OwnSlots.{Ascends, ascends}}
+use Rattle.mm_model.proofs.Bytes.{Ranges.map-map, Rising.AreRisingFrom, SpelledRecords.not_le}
 use Rattle.mm_model.specs.declared.{event.Event.Event, slot.{Pending.Pending, SlotState.TheVariants.Taken}}
 use Rattle.mm_model.specs.{Flags.{flags, number_of_flags, one_if}, Fits.identity_of, Image.{Image, output_limit}}
-use Rattle.mm_model.specs.{Bytes.IsBytes, Slot.Slot, Spelling.{IsImage, numbers_of}}
-use Rattle.mm_model.{specs.Typed.IsTypedSlot, proofs.{CoreRows.{each_map, by_identities}, OwnSlots.{Ascends, ascends}}}
-use Rattle.mm_model.proofs.Bytes.{Ranges.map-map, Rising.AreRisingFrom}
-use Rattle.mm_model.proofs.Bytes.SpelledRecords.{not_le}
-use Rattle.mm_thread.specs.Output.{Output}
+use Rattle.mm_model.specs.{Bytes.IsBytes, Slot.Slot, Spelling.{IsImage, numbers_of}, Typed.IsTypedSlot}
+use Rattle.mm_thread.{proofs.Cores.byte_limit, specs.Output.Output}
+use Rattle.mm_word.specs.{declared.word.{Word.Word, Cell.Cell}, Pointer.bits_of, Word.{word_bits, is_pointer}}
 use Rattle.mm_machine.specs.Snapshot.{Parts, IsSnapshot, IsPending}
-use Rattle.mm_format.specs.Formats.{each, times, cons, first_late, after, file, Parsed.Got}
-use Rattle.mm_format.specs.Images.{mask, ip, page}
+use Rattle.mm_format.specs.{Formats.{each, times, cons, first_late, after, file, Parsed.Got}, Images.{mask, ip, page}}
 use Rattle.mm_format.proofs.{Formats.after_got, ImagesFit.{Rise, rises, rise_all, PagesAre, pages_fit, fit_pages}}
-use Rattle.mm_format.proofs.{Lists.{times_long}}
+use Rattle.mm_format.proofs.Lists.{times_long}
 use Rattle.mm_checkpoint.specs.declared.{waiting.Waiter.Waiter, rows.{Queued.Queued, SlotRow.SlotRow}}
 use Rattle.mm_checkpoint.specs.declared.header.Header.{Header}
 use Rattle.mm_checkpoint.specs.Checkpoints.{Saved, saved_of, IsCheckpoint, last_byte, state_byte, place_byte, place_in}
@@ -27,9 +22,8 @@ use Rattle.mm_checkpoint.specs.{Reading.{in_order, events_of, slots_start, group
 use Rattle.mm_checkpoint.specs.Format.{header, event_in, place_in_row, slot_row, waiter_in, waiters_in, queue_tests}
 use Rattle.mm_checkpoint.specs.Format.{front, waiting_in, output, Contents, checkpoint, saved_in, contents_from, row_of}
 use Rattle.mm_checkpoint.specs.Format.{contents_of, spelling, Saves}
-use Rattle.mm_checkpoint.proofs.CheckpointBytes.{queued, place_small, last_small, frames_few}
-use Rattle.mm_checkpoint.proofs.{Counts.listed, FormatFits.{also, IsRow, IsSavedSlot, fits_row}}
-use Rattle.mm_checkpoint.proofs.FormatIs.{checkpoint_is}
+use Rattle.mm_checkpoint.proofs.{CheckpointBytes.{queued, place_small, last_small, frames_few}, Counts.listed}
+use Rattle.mm_checkpoint.proofs.{FormatFits.{also, IsRow, IsSavedSlot, fits_row}, FormatIs.checkpoint_is}
 use Rattle.mm_checkpoint.proofs.FormatRows.{slots_of, rows_fit, IsSettled, Agrees, each_agrees, one_event, awaited}
 use Rattle.mm_checkpoint.proofs.FormatRows.{typed_events, fall_not}
 use Rattle.mm_checkpoint.proofs.Groups.{groups_rise, groups_used, slots_shown, small_groups, groups_by, groups_same}

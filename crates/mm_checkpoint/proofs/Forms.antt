@@ -1,16 +1,14 @@
 -- The saved form of a run's snapshot is that of the run's state, and parts that have it are such a snapshot.
 use Rattle.std.proofs.Common.{◌≡◌, ℕ, List, [], ◌∷◌, map, Option, refl, ap, sym, subst, ◌∙◌}
 use Rattle.std.specs.List.{AllByRecursion}
-use Rattle.mm_model.proofs.TurnKeeps.{each_of}
-use Rattle.mm_model.proofs.CoreRows.{into_map}
+use Rattle.mm_model.proofs.{TurnKeeps.each_of, CoreRows.into_map}
 use Rattle.mm_model.specs.{State.{Core, State, output_of}, Image.{Image, start}, Run.run, Spelling.IsImage}
 use Rattle.mm_model.specs.Fits.{identity_of, slots_of}
 use Rattle.mm_thread.specs.Output.{Output}
 use Rattle.mm_machine.specs.Snapshot.{Parts, IsSnapshot, IsSnapshotOf, IsOutputOf}
 use Rattle.mm_checkpoint.specs.{Checkpoints.{Saved, saved_of}, Reading.groups_of, States.saved_form}
 use Rattle.mm_checkpoint.specs.{Laws.SnapshotsHaveSavedForms, Steps.put_out}
-use Rattle.mm_checkpoint.proofs.{Reached.reached, Groups.{groups_same, groups_by}}
-use Rattle.mm_checkpoint.proofs.Made.{made_outputs, parts_back}
+use Rattle.mm_checkpoint.proofs.{Reached.reached, Groups.{groups_same, groups_by}, Made.{made_outputs, parts_back}}
 
 -- a group beside what a core says of it
 abbrev pub told : Core → ℕ → ℕ × List ℕ

@@ -3,8 +3,7 @@ use Rattle.std.proofs.Common.{◌≡◌, ℕ, List, refl, ap, sym, ◌∙◌}
 use Rattle.mm_model.{specs.{State.State, Image.{Image, start}, Run.run, Spelling.IsImage}, proofs.Starts.start_fits}
 use Rattle.mm_machine.specs.Snapshot.{IsAlike, restored}
 use Rattle.mm_machine.proofs.{Keeping.valid_core, Returning.put_back, Went.run_both}
-use Rattle.mm_checkpoint.specs.Laws.{RestoredRunsGoOn}
-use Rattle.mm_checkpoint.proofs.Reached.{reached}
+use Rattle.mm_checkpoint.{specs.Laws.RestoredRunsGoOn, proofs.Reached.reached}
 
 alike : (i : Image) (items : List ℕ) → IsImage i → IsAlike (start i) (run (start i) items)
 alike i items image =

@@ -1,19 +1,19 @@
 -- The groups of slots, ascending, and outputs of these groups.
-use Rattle.std.proofs.Common.{◌≡◌, ◌≢◌, ℕ, zero, suc, ◌+◌, ◌<◌, ◌≤◌, inl, inr, Bool, true, false, cond, ◌||◌, eqb}
-use Rattle.std.proofs.Common.{List, [], ◌∷◌, length, map, Option, refl, sym, ap, subst, ◌∙◌, arith, eq-eqb}
+use Rattle.std.specs.Prelude.{◌==◌}
+use Rattle.std.proofs.Common.{◌≡◌, ◌≢◌, ℕ, zero, suc, ◌+◌, ◌<◌, ◌≤◌, inl, inr, Bool, true, false, cond, ◌||◌, eqb, List}
+use Rattle.std.proofs.Common.{[], ◌∷◌, length, map, Option, refl, sym, ap, subst, ◌∙◌, arith, eq-eqb}
 use Rattle.std.proofs.lemmas.Bool.{cases_Bool, cases_eq, ne_eqb, or_right}
-use Rattle.std.proofs.lemmas.List.{length-map, Kept.IsStrictlyIncreasing-filter}
-use Rattle.std.{proofs.lemmas.List.FromFn.{length-range_with_len, get_or-range_with_len}, specs.Prelude.◌==◌}
+use Rattle.std.proofs.lemmas.List.{length-map}
+use Rattle.std.proofs.lemmas.List.Kept.{IsStrictlyIncreasing-filter}
+use Rattle.std.proofs.lemmas.List.FromFn.{length-range_with_len, get_or-range_with_len}
 use Rattle.std.specs.List.{AllByRecursion, filter, list_any, range_with_len, Sorted.IsStrictlyIncreasing}
-use Rattle.mm_machine.proofs.Copied.{own_group}
+use Rattle.mm_machine.{proofs.{Copied.own_group, Outputs.group_has}, specs.Snapshot.{Parts, has_output, IsSnapshot}}
 use Rattle.mm_model.proofs.TurnKeeps.{each_of}
-use Rattle.mm_model.specs.{Slot.Slot, Image.Image, Groups.has_group, Fits.identity_of, Spelling.IsImage}
 use Rattle.mm_model.proofs.CoreRows.{each_map, each_both, rest_rises, above_first, slot_limit-few, out_of_map}
 use Rattle.mm_model.proofs.Filters.{filter_takes, filter_drops, each_filter, filter_short}
+use Rattle.mm_model.specs.{Slot.Slot, Image.Image, Groups.has_group, Fits.identity_of, Spelling.IsImage}
 use Rattle.mm_thread.specs.Output.{Output}
-use Rattle.mm_machine.{specs.Snapshot.{Parts, has_output, IsSnapshot}, proofs.Outputs.group_has}
-use Rattle.mm_checkpoint.specs.Reading.{groups_of}
-use Rattle.mm_checkpoint.proofs.Counts.{any_map}
+use Rattle.mm_checkpoint.{specs.Reading.groups_of, proofs.Counts.any_map}
 
 -- 1. Outputs of the groups of slots.
 

@@ -1,15 +1,14 @@
 -- Pending loads and empty registers, one for each other, and sums of what a function gives at each number below n.
-use Rattle.std.proofs.Common.{◌≡◌, ℕ, zero, suc, ◌+◌, ◌*◌, ◌<◌, ◌≤◌, Bool, true, false, inl, inr, List, [], ◌∷◌}
-use Rattle.std.proofs.Common.{◌++◌, length, get_or, refl, sym, ap, subst, ◌∙◌, arith, eq-eqb, eqb-true}
+use Rattle.std.proofs.Common.{◌≡◌, ℕ, zero, suc, ◌+◌, ◌*◌, ◌<◌, ◌≤◌, Bool, true, false, inl, inr, List, [], ◌∷◌, ◌++◌}
+use Rattle.std.proofs.Common.{length, get_or, refl, sym, ap, subst, ◌∙◌, arith, eq-eqb, eqb-true}
 use Rattle.std.proofs.lemmas.{Bool.{cases_eq, cases_lt, ne_eqb}, List.{get_or_past, append-nil}}
 use Rattle.std.specs.{Prelude.{◌==◌, count_by}, List.{AllByRecursion, range_with_len}}
-use Rattle.mm_model.specs.{declared.slot.Pending.Pending, Flags.{flags, one_if, number_of_flags}}
+use Rattle.mm_model.specs.{declared.slot.Pending.Pending, Flags.{flags, one_if, number_of_flags, in_mask}}
 use Rattle.mm_model.{specs.Slot.{Slot, is_empty}, proofs.{CoreRows.each_map, Bytes.Bitmaps.bits-flags}}
 use Rattle.mm_machine.specs.Snapshot.{IsPending}
 use Rattle.mm_format.{specs.Images.{mask, flags_of}, proofs.ImagesFit.fits_mask}
 use Rattle.mm_checkpoint.specs.{Tests.{bits_set, has_entry}, Steps.bit_count}
 use Rattle.mm_checkpoint.proofs.Counts.{count_cons, count_yes, count_map, count_push, none_count, none_any, moved}
-use Rattle.mm_model.specs.Flags.{in_mask}
 
 abbrev sum_below : (ℕ → ℕ) → ℕ → ℕ
 sum_below f zero = 0

@@ -1,9 +1,9 @@
 -- The parts of a run's state are a snapshot of it, and spelled by bytes they are a checkpoint of its image.
 use Rattle.std.proofs.Common.{◌≡◌, ℕ, ◌<◌, List, map, Option, None, refl, ap, zero, suc, [], ◌∷◌, sym, subst, arith}
 use Rattle.std.specs.List.{AllByRecursion}
-use Rattle.mm_model.proofs.TurnKeeps.{each_of}
+use Rattle.mm_model.proofs.{TurnKeeps.each_of, CoreRows.{each_map, into_map}}
+use Rattle.mm_model.proofs.OutputBytes.{AreBytes, group_bytes, run_bytes}
 use Rattle.mm_model.specs.{Slot.Slot, State.State, Image.start, Run.run, Fits.{slots_of, IsOfVersion}, Bytes.IsBytes}
-use Rattle.mm_model.proofs.CoreRows.{each_map, into_map}
 use Rattle.mm_thread.specs.Output.{Output}
 use Rattle.mm_machine.specs.{Validity.IsValid, Snapshot.{Parts, IsSnapshotOf, IsTyped}, Capture.OutputsBelow}
 use Rattle.mm_machine.proofs.{Keeping.valid_core, Copied.{snapshot_taken, typed_taken}}
@@ -12,7 +12,6 @@ use Rattle.mm_checkpoint.specs.{States.{outputs_of, saved_form}, Laws.{RunsHaveS
 use Rattle.mm_checkpoint.proofs.{Reached.{reached, snapshots}, Forms.{groups_made, said_made}}
 use Rattle.mm_checkpoint.proofs.Made.{made_outputs, made_parts, made_saved}
 use Rattle.mm_checkpoint.proofs.{Groups.{groups_rise, groups_used, groups_low, groups_shown}, CheckpointBytes.whole}
-use Rattle.mm_model.proofs.OutputBytes.{AreBytes, group_bytes, run_bytes}
 
 -- 1. The parts.
 

@@ -1,21 +1,20 @@
 -- The bytes of a checkpoint, part by part.
-use Rattle.std.proofs.Common.{◌≡◌, ℕ, suc, ◌+◌, Bool, false, List, [], ◌∷◌, ◌++◌, length, map, Option, Some, None, refl, sym, ap}
-use Rattle.std.proofs.{Common.{◌∙◌, append_assoc, arith}, lemmas.List.{append-nil, length-map}}
+use Rattle.std.proofs.Common.{◌≡◌, ℕ, suc, ◌+◌, Bool, false, List, [], ◌∷◌, ◌++◌, length, map, Option, Some, None, refl}
+use Rattle.std.proofs.{Common.{sym, ap, ◌∙◌, append_assoc, arith}, lemmas.List.{append-nil, length-map}}
 use Rattle.std.specs.{Prelude.option_map, List.flat_map, Int.{w16, w64, to_be_bytes}}
 use Rattle.mm_word.specs.{Pointer.bits_of, declared.word.{Word.Word, Cell.Cell}, Word.{word_bits, is_pointer}}
-use Rattle.mm_model.specs.{declared.event.Event.Event, Flags.{flags, number_of_flags, one_if}, Fits.identity_of, Slot.Slot}
-use Rattle.mm_model.specs.{Image.{Image, output_limit}, Spelling.IsImage}
+use Rattle.mm_model.specs.{declared.event.Event.Event, Flags.{flags, number_of_flags, one_if}, Fits.identity_of}
+use Rattle.mm_model.specs.{Slot.Slot, Image.{Image, output_limit}, Spelling.IsImage}
 use Rattle.mm_thread.specs.Output.{Output}
 use Rattle.mm_machine.specs.Snapshot.{Parts}
 use Rattle.mm_format.specs.{Formats.{each, times}, Images.{mask, ip, word, page, page_record}}
 use Rattle.mm_format.proofs.{ImagesWhole.{words_spelled, pages_spelled}, Lists.{each_spell, times_spell}}
 use Rattle.mm_checkpoint.specs.Checkpoints.{saved_of, IsCheckpoint, state_byte, cause_byte, place_byte, event_of}
 use Rattle.mm_checkpoint.specs.declared.rows.{Queued.Queued, SlotRow.SlotRow}
-use Rattle.mm_checkpoint.specs.Format.{header, word_with, tagged, register, load, beside, event_in, place_in_row, address_in}
-use Rattle.mm_checkpoint.specs.Format.{value_in, slot_row, load_count, front, output, checkpoint, row_of, header_of}
-use Rattle.mm_checkpoint.specs.Format.{spelling, slot_record, output_record, load_record, tagged_word}
-use Rattle.mm_checkpoint.specs.Reading.{groups_of}
-use Rattle.mm_checkpoint.proofs.Groups.{groups_same}
+use Rattle.mm_checkpoint.specs.Format.{header, word_with, tagged, register, load, beside, event_in, place_in_row}
+use Rattle.mm_checkpoint.specs.Format.{address_in, value_in, slot_row, load_count, front, output, checkpoint, row_of}
+use Rattle.mm_checkpoint.specs.Format.{header_of, spelling, slot_record, output_record, load_record, tagged_word}
+use Rattle.mm_checkpoint.{specs.Reading.groups_of, proofs.Groups.groups_same}
 
 -- 1. The record of a slot.
 

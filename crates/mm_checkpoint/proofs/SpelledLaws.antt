@@ -3,9 +3,9 @@ use Rattle.std.{proofs.Common.{◌≡◌, ℕ, List, None, refl, sym, ap, ◌∙
 use Rattle.mm_model.specs.{Image.Image, Bytes.IsBytes, Spelling.IsImage}
 use Rattle.mm_format.specs.{Formats.{Parsed, fault_in, Parsed.Got}, Reading.Fails, declared.reader.ReadError.ReadError}
 use Rattle.mm_format.proofs.Files.{same_value, clean_got, read_fails}
-use Rattle.mm_checkpoint.specs.{Checkpoints.Saved, Faults.{said_of, save_fault}}
-use Rattle.mm_checkpoint.specs.Laws.{SomeSaved, CheckpointsAreOne}
-use Rattle.mm_checkpoint.specs.{declared.fault.SaveError.TheVariants.{Fault, NoMemory}, Answers.FailsAt, Steps.from_read_error}
+use Rattle.mm_checkpoint.specs.{Checkpoints.Saved, Faults.{said_of, save_fault}, Laws.{SomeSaved, CheckpointsAreOne}}
+use Rattle.mm_checkpoint.specs.{declared.fault.SaveError.TheVariants.{Fault, NoMemory}, Answers.FailsAt}
+use Rattle.mm_checkpoint.specs.Steps.{from_read_error}
 use Rattle.mm_checkpoint.proofs.{FormatWhole.{are_saved, spelled_said}, Made.{made_parts, made_saved}}
 use Rattle.mm_image.specs.{declared.fault.ImageFault.ImageFault, Faults.number_of}
 use Rattle.mm_format.specs.declared.reader.ReadError.TheVariants as reading

@@ -1,18 +1,16 @@
 -- The bytes of a slot's state and of its cause, and of the event that it waits with.
-use Rattle.std.proofs.Common.{◌≡◌, ◌≢◌, ℕ, zero, suc, ◌+◌, ◌<◌, ◌≤◌, Bool, true, false, not, nat_lt, inl, inr, List}
-use Rattle.std.proofs.Common.{[], ◌∷◌, length, Option, Some, None, refl, sym, ap, subst, ◌∙◌, arith, eqb-true}
-use Rattle.std.specs.Prelude.{◌==◌, ◌&&◌, ◌||◌, is_some, unwrap_or, option_map}
+use Rattle.std.proofs.Common.{◌≡◌, ◌≢◌, ℕ, zero, suc, ◌+◌, ◌<◌, ◌≤◌, Bool, true, false, not, nat_lt, inl, inr, List, []}
+use Rattle.std.proofs.Common.{◌∷◌, length, Option, Some, None, refl, sym, ap, subst, ◌∙◌, arith, eqb-true}
 use Rattle.std.proofs.lemmas.Bool.{or_from, ne_eqb, le-ltb, or_parts, not-false, ltb-false, eqb-false}
-use Rattle.mm_word.specs.declared.cause.Cause.{Cause}
-use Rattle.mm_word.specs.declared.cause.Cause.TheVariants.{NotPointer}
+use Rattle.std.specs.Prelude.{◌==◌, ◌&&◌, ◌||◌, is_some, unwrap_or, option_map}
+use Rattle.mm_word.specs.declared.{cause.Cause.{Cause, TheVariants.NotPointer}, word.Word.{Word, TheVariants.Int}}
+use Rattle.mm_word.specs.{Cause.{number_of, cause_of}, Word.IsWord}
 use Rattle.mm_word.proofs.Causes.{cause_back, number_within, number_back}
-use Rattle.mm_word.specs.{Cause.{number_of, cause_of}, declared.word.Word.Word, declared.word.Word.TheVariants.Int, Word.IsWord}
-use Rattle.mm_model.specs.{declared.event.Event.Event, declared.slot.SlotState.SlotState}
-use Rattle.mm_model.specs.{declared.slot.SlotState.TheVariants.{Running, Waiting, Taken, Halted}, Slot.Slot}
-use Rattle.mm_model.specs.Fits.{is_waiting, EventHoldsWords}
+use Rattle.mm_model.specs.declared.event.Event.{Event}
+use Rattle.mm_model.specs.declared.slot.SlotState.{SlotState, TheVariants.{Running, Waiting, Taken, Halted}}
+use Rattle.mm_model.specs.{Slot.Slot, Fits.{is_waiting, EventHoldsWords}}
 use Rattle.mm_checkpoint.specs.{Checkpoints.{state_byte, event_of, cause_byte}, Reading.state_of}
-use Rattle.mm_checkpoint.specs.Tests.{is_bad_state, is_bad_cause}
-use Rattle.mm_checkpoint.proofs.Owns.{Owns}
+use Rattle.mm_checkpoint.{specs.Tests.{is_bad_state, is_bad_cause}, proofs.Owns.Owns}
 
 -- 1. Causes and their numbers.
 

@@ -4,13 +4,10 @@
 -- to faults of the same kind: 1 a field that is not whole, 2 magic, 3 version, 4 a number or a flag outside its range,
 -- 7 a place in a queue, 8 a state, 9 a word, 10 an instruction pointer, 11 the order of pages, 12 the count of pages,
 -- 13 a byte too many.
-use Rattle.std.specs.Prelude.{ℕ, List, Option}
-use Rattle.std.specs.Option.{option_map}
+use Rattle.std.specs.{Prelude.{ℕ, List, Option}, Option.option_map}
 use Rattle.mm_model.specs.Image.{Image}
-use Rattle.mm_format.specs.Formats.{Parsed, after, file, fault_in}
-use Rattle.mm_format.specs.Formats.Parsed.{Got}
-use Rattle.mm_checkpoint.specs.Checkpoints.{Saved}
-use Rattle.mm_checkpoint.specs.Format.{checkpoint, saved_in}
+use Rattle.mm_format.specs.Formats.{Parsed, after, file, fault_in, Parsed.Got}
+use Rattle.mm_checkpoint.specs.{Checkpoints.Saved, Format.{checkpoint, saved_in}}
 
 -- what a file says of an image: the parts of a checkpoint, or the first fault in the order of reading
 unfoldable pub said_of : Image → List ℕ → Parsed Saved

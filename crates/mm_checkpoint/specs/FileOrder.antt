@@ -2,19 +2,13 @@
 use Rattle.std.specs.Prelude.{◌≡◌, ℕ, nat_lt, if◌then◌else◌, List, [], ◌++◌, length, Option, Some, None}
 use Rattle.std.specs.List.{flat_map}
 use Rattle.mm_word.specs.declared.word.Cell.{Cell}
-use Rattle.mm_model.specs.Image.{Image, output_limit}
-use Rattle.mm_model.specs.Spelling.{IsImage}
-use Rattle.mm_format.specs.Formats.{Format, fault_in, first_late, each}
-use Rattle.mm_format.specs.Formats.Parsed.{Got}
-use Rattle.mm_format.specs.Images.{pages, page_record}
+use Rattle.mm_model.specs.{Image.{Image, output_limit}, Spelling.IsImage}
+use Rattle.mm_format.specs.{Formats.{Format, fault_in, first_late, each, Parsed.Got}, Images.{pages, page_record}}
 use Rattle.mm_machine.specs.Snapshot.{Parts}
-use Rattle.mm_checkpoint.specs.declared.header.Header.{Header}
-use Rattle.mm_checkpoint.specs.declared.rows.SlotRow.{SlotRow}
-use Rattle.mm_checkpoint.specs.Checkpoints.{IsCheckpoint, saved_of}
-use Rattle.mm_checkpoint.specs.Reading.{groups_of}
-use Rattle.mm_checkpoint.specs.Format.{header, slot_row, waiting_in, front_from, queue_tests, output, spelling, header_of}
-use Rattle.mm_checkpoint.specs.Format.{slot_record, output_record}
-use Rattle.mm_checkpoint.specs.Faults.{first_fault}
+use Rattle.mm_checkpoint.specs.declared.{header.Header.Header, rows.SlotRow.SlotRow}
+use Rattle.mm_checkpoint.specs.{Checkpoints.{IsCheckpoint, saved_of}, Reading.groups_of}
+use Rattle.mm_checkpoint.specs.Format.{header, slot_row, waiting_in, front_from, queue_tests, output, spelling}
+use Rattle.mm_checkpoint.specs.{Format.{header_of, slot_record, output_record}, Faults.first_fault}
 
 -- the bytes of an image's checkpoint are those of its header, of the records of its slots, of its outputs and of its
 -- pages, one after the other

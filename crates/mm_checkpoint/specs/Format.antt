@@ -1,29 +1,18 @@
 -- The checkpoint of an image as a format: a row of its table is a line.
-use Rattle.std.specs.Prelude.{◌≡◌, ℕ, ◌+◌, ◌*◌, Bool, false, not, ◌&&◌, ◌||◌, ◌==◌, nat_lt, nat_le, if◌then◌else◌, List, [], ◌∷◌}
-use Rattle.std.specs.Prelude.{◌++◌, map, length, codes, option_map, unwrap_or, is_some, Option, Some, None}
+use Rattle.std.specs.Prelude.{◌≡◌, ℕ, ◌+◌, ◌*◌, Bool, false, not, ◌&&◌, ◌||◌, ◌==◌, nat_lt, nat_le, if◌then◌else◌, List}
+use Rattle.std.specs.Prelude.{[], ◌∷◌, ◌++◌, map, length, codes, option_map, unwrap_or, is_some, Option, Some, None}
 use Rattle.mm_word.specs.declared.cause.Cause.TheVariants.{NotPointer}
-use Rattle.mm_word.specs.declared.word.Word.{Word}
-use Rattle.mm_word.specs.declared.word.Word.TheVariants.{Int, Ptr}
-use Rattle.mm_word.specs.declared.word.Cell.{Cell}
-use Rattle.mm_word.specs.Pointer.{pointer_of, spells_pointer}
-use Rattle.mm_word.specs.Word.{word_bits, is_pointer}
-use Rattle.mm_word.specs.Cause.{cause_of}
-use Rattle.mm_model.specs.declared.slot.Pending.{Pending}
-use Rattle.mm_model.specs.declared.event.Event.{Event}
-use Rattle.mm_model.specs.Flags.{flags, number_of_flags, one_if}
-use Rattle.mm_model.specs.Slot.{Slot}
-use Rattle.mm_model.specs.Image.{Image, output_limit}
-use Rattle.mm_model.specs.Limits.{cycle_limit}
+use Rattle.mm_word.specs.declared.word.{Word.{Word, TheVariants.{Int, Ptr}}, Cell.Cell}
+use Rattle.mm_word.specs.{Pointer.{pointer_of, spells_pointer}, Word.{word_bits, is_pointer}, Cause.cause_of}
+use Rattle.mm_model.specs.{declared.{slot.Pending.Pending, event.Event.Event}, Flags.{flags, number_of_flags, one_if}}
+use Rattle.mm_model.specs.{Slot.Slot, Image.{Image, output_limit}, Limits.cycle_limit}
 use Rattle.mm_format.specs.Formats.{Format, Late, byte, u16, u32, u64, text, test, literal, part, done, ◌>>=◌, each}
-use Rattle.mm_format.specs.Formats.{times, late}
-use Rattle.mm_format.specs.Images.{mask, ip, word, page}
+use Rattle.mm_format.specs.{Formats.{times, late}, Images.{mask, ip, word, page}}
 use Rattle.mm_machine.specs.Snapshot.{Parts}
-use Rattle.mm_checkpoint.specs.declared.header.Header.{Header}
-use Rattle.mm_checkpoint.specs.declared.rows.Queued.{Queued}
-use Rattle.mm_checkpoint.specs.declared.rows.SlotRow.{SlotRow}
+use Rattle.mm_checkpoint.specs.declared.{header.Header.Header, rows.{Queued.Queued, SlotRow.SlotRow}}
 use Rattle.mm_checkpoint.specs.declared.waiting.Waiter.{Waiter}
-use Rattle.mm_checkpoint.specs.Checkpoints.{Saved, IsCheckpoint, saved_of, last_byte, state_byte, cause_byte, place_byte}
-use Rattle.mm_checkpoint.specs.Checkpoints.{event_of}
+use Rattle.mm_checkpoint.specs.Checkpoints.{Saved, IsCheckpoint, saved_of, last_byte, state_byte, cause_byte}
+use Rattle.mm_checkpoint.specs.Checkpoints.{place_byte, event_of}
 use Rattle.mm_checkpoint.specs.Reading.{state_of, handler_of, in_order, events_of, slots_start, groups_of}
 use Rattle.mm_checkpoint.specs.Tests.{is_bad_state, is_bad_cause, bits_set, is_bad_entry, is_bad_place}
 

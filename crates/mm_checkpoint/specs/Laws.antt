@@ -1,14 +1,9 @@
 -- Laws of checkpoints.
 use Rattle.std.specs.Prelude.{◌≡◌, ◌↔◌, ℕ, ◌+◌, ◌<◌, ◌≤◌, List, ◌++◌, length, Option, None, IfSome}
-use Rattle.mm_model.specs.Image.{Image, start}
-use Rattle.mm_model.specs.Bytes.{IsBytes}
-use Rattle.mm_model.specs.Limits.{cycle_limit}
-use Rattle.mm_model.specs.Run.{run, robin_from, last_item}
-use Rattle.mm_model.specs.Spelling.{IsImage}
-use Rattle.mm_model.specs.State.{State}
+use Rattle.mm_model.specs.{Image.{Image, start}, Bytes.IsBytes, Limits.cycle_limit, Run.{run, robin_from, last_item}}
+use Rattle.mm_model.specs.{Spelling.IsImage, State.State}
 use Rattle.mm_machine.specs.Snapshot.{Parts, IsSnapshot, IsTyped, IsSnapshotOf, restored}
-use Rattle.mm_checkpoint.specs.{Checkpoints.{saved_of, IsCheckpoint}, Format.{Saves, spelling}}
-use Rattle.mm_checkpoint.specs.Faults.{save_fault}
+use Rattle.mm_checkpoint.specs.{Checkpoints.{saved_of, IsCheckpoint}, Format.{Saves, spelling}, Faults.save_fault}
 use Rattle.mm_checkpoint.specs.States.{saved_form}
 
 -- 1. Bytes and checkpoints.

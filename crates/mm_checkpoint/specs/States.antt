@@ -1,10 +1,8 @@
 -- The parts of a state that a checkpoint has.
 use Rattle.std.specs.Prelude.{ℕ, List, map, Option}
-use Rattle.mm_model.specs.Fits.{slots_of}
-use Rattle.mm_model.specs.State.{Core, State, output_of}
+use Rattle.mm_model.specs.{Fits.slots_of, State.{Core, State, output_of}}
 use Rattle.mm_machine.specs.Snapshot.{queued}
-use Rattle.mm_checkpoint.specs.Checkpoints.{Saved}
-use Rattle.mm_checkpoint.specs.Reading.{groups_of}
+use Rattle.mm_checkpoint.specs.{Checkpoints.Saved, Reading.groups_of}
 
 -- each group of a slot, ascending, with its output
 abbrev pub outputs_of : Core → List (ℕ × List ℕ)

@@ -1,13 +1,11 @@
 -- What the code that reads a checkpoint keeps between its fields.
-use Rattle.std.specs.Prelude.{ℕ, List, count_by}
-use Rattle.std.specs.List.{range_with_len}
+use Rattle.std.specs.{Prelude.{ℕ, List, count_by}, List.range_with_len}
 use Rattle.mm_thread.specs.Output.{Output}
 use Rattle.mm_format.specs.declared.reader.ReadError.{ReadError}
-use Rattle.mm_format.specs.declared.reader.ReadError.TheVariants as reading
 use Rattle.mm_image.specs.declared.fault.ImageFault.{ImageFault}
-use Rattle.mm_checkpoint.specs.declared.fault.SaveError.{SaveError}
-use Rattle.mm_checkpoint.specs.declared.fault.SaveError.TheVariants.{Fault, NoMemory}
+use Rattle.mm_checkpoint.specs.declared.fault.SaveError.{SaveError, TheVariants.{Fault, NoMemory}}
 use Rattle.mm_model.specs.Flags.{in_mask}
+use Rattle.mm_format.specs.declared.reader.ReadError.TheVariants as reading
 
 -- the error of a reader of checkpoints for that of a reader of fields, without the kind of the fault
 abbrev pub from_read_error : ReadError ImageFault → SaveError

@@ -1,9 +1,7 @@
 -- The tests of a checkpoint's numbers that take more than a line.
-use Rattle.std.specs.Prelude.{ℕ, Bool, not, ◌&&◌, ◌||◌, ◌==◌, nat_lt, nat_le, if◌then◌else◌, List}
-use Rattle.std.specs.Prelude.{count_by}
+use Rattle.std.specs.Prelude.{ℕ, Bool, not, ◌&&◌, ◌||◌, ◌==◌, nat_lt, nat_le, if◌then◌else◌, List, count_by}
 use Rattle.std.specs.List.{list_any}
-use Rattle.mm_model.specs.declared.slot.Pending.{Pending}
-use Rattle.mm_model.specs.Flags.{flags, in_mask}
+use Rattle.mm_model.specs.{declared.slot.Pending.Pending, Flags.{flags, in_mask}}
 use Rattle.mm_checkpoint.specs.declared.waiting.Waiter.{Waiter}
 
 -- 1. Tests of numbers.

@@ -10,7 +10,7 @@ ghost use Rattle.mm_format.specs.Reading.{ReadsAlone};
 ghost use Rattle.mm_image.specs.Faults.{number_of};
 ghost use Rattle.mm_checkpoint.specs.Format.{beside, operand, register, tagged};
 
-use mm_format::{ReadError, Reader, Elements, failed, is_set, read_array, refuse_if};
+use mm_format::{Elements, ReadError, Reader, failed, is_set, read_array, refuse_if};
 use mm_image::{ImageFault, read_word, word_of};
 use mm_word::Word;
 

@@ -1,16 +1,15 @@
 -- What was read, and what the words of a command say.
-use Rattle.std.proofs.Common.{◌≡◌, ℕ, suc, ◌≤◌, List, [], ◌∷◌, ◌++◌, length, map, slice_get, None, Some, String, string_bytes, refl, sym, ap, ◌∙◌, append-nil, arith}
+use Rattle.std.proofs.Common.{◌≡◌, ℕ, suc, ◌≤◌, List, [], ◌∷◌, ◌++◌, length, map, slice_get, None, Some, String}
+use Rattle.std.proofs.{Common.{string_bytes, refl, sym, ap, ◌∙◌, append-nil, arith}, lemmas.List.length-map}
 use Rattle.std.specs.declared.alloc.Global.{Global}
-use Rattle.std.proofs.lemmas.List.{length-map}
 use Rattle.mm_cli.specs.declared.table.Kind.{Kind}
 use Rattle.mm_cli.specs.declared.table.Parameter.{Parameter}
 use Rattle.mm_cli.specs.declared.table.Parameter.TheVariants.{File, Number, Groups, Mode, Range, Address, Use}
-use Rattle.mm_cli.specs.declared.table.Tail.{Tail}
-use Rattle.mm_cli.specs.declared.table.Tail.TheVariants.{Nothing, Optional, Repeated}
-use Rattle.mm_cli.specs.declared.words.Word.{Word as Read}
-use Rattle.mm_cli.specs.declared.words.Word.TheVariants as read
+use Rattle.mm_cli.specs.declared.table.Tail.{Tail, TheVariants.{Nothing, Optional, Repeated}}
+use Rattle.mm_cli.specs.declared.words.{Word.{Word as Read}}
 use Rattle.mm_cli.specs.Words.{Word, file_word, spoken, texts, words_of, FitsTail, IsOfParameter, AreOfTail, AreOfRow}
 use Rattle.mm_cli.specs.Arguments.{argument_at, tail_arguments, arguments_from}
+use Rattle.mm_cli.specs.declared.words.Word.TheVariants as read
 
 word_said : (parameter : Parameter) (word : Read) → IsOfParameter parameter word → words_of word ≡ argument_at parameter (Some word) ∷ []
 word_said (File kind) (read.File other name) same = ap (λ (k : Kind). file_word k name.now ∷ []) same

@@ -2,13 +2,12 @@
 use Rattle.std.proofs.Common.{◌≡◌, ◌≢◌, ℕ, zero, suc, ◌+◌, ◌-◌, ◌/◌, ◌%◌, ◌<◌, ◌≤◌, Bool, true, false, List, [], ◌∷◌}
 use Rattle.std.proofs.Common.{◌++◌, length, map, take, drop, slice_get, ◌↔◌, Some, None, decimal, codes, nat_lt, cond}
 use Rattle.std.proofs.Common.{refl, sym, ap, ◌∙◌, subst, arith, append_assoc, append-nil, length-drop, length-take}
-use Rattle.std.specs.List.{All, AllByRecursion, slice_split, join_with_byte, position, position_or_len}
-use Rattle.std.proofs.lemmas.Bool.{ne_eqb, ltb-true, ltb-false, lt-ltb}
-use Rattle.std.proofs.lemmas.Fmt.{decimal_by_steps, decimal_injective}
-use Rattle.std.proofs.lemmas.List.Elements.{All-append}
-use Rattle.std.proofs.lemmas.List.Splits.{slice_split_at, slice_split_none, slice_split_first, join_with_byte-slice_split}
-use Rattle.std.proofs.lemmas.List.Sums.{fails_before_first}
+use Rattle.std.proofs.lemmas.{Bool.{ne_eqb, ltb-true, ltb-false, lt-ltb}, Fmt.{decimal_by_steps, decimal_injective}}
 use Rattle.std.proofs.lemmas.List.{take_all}
+use Rattle.std.proofs.lemmas.List.Elements.{All-append}
+use Rattle.std.proofs.lemmas.List.Splits.{slice_split_at, slice_split_none, slice_split_first}
+use Rattle.std.proofs.lemmas.List.{Splits.join_with_byte-slice_split, Sums.fails_before_first}
+use Rattle.std.specs.List.{All, AllByRecursion, slice_split, join_with_byte, position, position_or_len}
 use Rattle.mm_model.specs.Audit.{groups_text}
 use Rattle.mm_cli.specs.GroupList.{Ascends, AreGroups, AreSoFar, Follows, is_comma}
 

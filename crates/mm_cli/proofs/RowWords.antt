@@ -2,18 +2,15 @@
 use Rattle.std.proofs.Common.{◌≡◌, ℕ, ◌+◌, ◌<◌, ◌≤◌, ◌==◌, ◌⊎◌, inl, inr, true, false, String, string_bytes, List, []}
 use Rattle.std.proofs.Common.{◌∷◌, ◌++◌, length, map, take, drop, get_or, refl, sym, ap, ◌∙◌, subst, arith}
 use Rattle.std.proofs.Common.{append_assoc, append-nil}
+use Rattle.std.proofs.lemmas.{List.{take_more, drop_more, take_all, drop_all, length-map}, Bool.eqb-true}
 use Rattle.std.specs.declared.alloc.Global.{Global}
-use Rattle.std.proofs.lemmas.List.{take_more, drop_more, take_all, drop_all, length-map}
-use Rattle.std.proofs.lemmas.Bool.{eqb-true}
 use Rattle.mm_cli.specs.declared.table.Kind.{Kind}
 use Rattle.mm_cli.specs.declared.table.Parameter.{Parameter}
 use Rattle.mm_cli.specs.declared.table.Parameter.TheVariants.{File, Number, Groups, Mode, Range, Address, Use}
-use Rattle.mm_cli.specs.declared.table.Tail.{Tail}
-use Rattle.mm_cli.specs.declared.table.Tail.TheVariants.{Nothing, Repeated}
-use Rattle.mm_cli.specs.declared.words.Word.{Word as Read}
+use Rattle.mm_cli.specs.declared.{table.Tail.{Tail, TheVariants.{Nothing, Repeated}}, words.{Word.{Word as Read}}}
 use Rattle.mm_cli.specs.Words.{Word, file_word, number_word, groups_word, mode_word, range_word, use_word, text_list}
-use Rattle.mm_cli.specs.Words.{spelled, spoken, texts, words_of, AreNone, FitInTurn, FitsParameter, FitsTail, FitsRow, IsOfParameter, AreOfTail}
-use Rattle.mm_cli.specs.Words.{AreOfRow}
+use Rattle.mm_cli.specs.Words.{spelled, spoken, texts, words_of, AreNone, FitInTurn, FitsParameter, FitsTail, FitsRow}
+use Rattle.mm_cli.specs.Words.{IsOfParameter, AreOfTail, AreOfRow}
 
 -- 1. What is left after the words of one parameter.
 

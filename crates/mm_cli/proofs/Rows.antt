@@ -2,34 +2,22 @@
 use Rattle.std.proofs.Common.{◌≡◌, ◌≢◌, ℕ, zero, suc, ◌+◌, ◌-◌, ◌<◌, ◌≤◌, ◌^◌, Bool, true, false, cond, List, [], ◌∷◌}
 use Rattle.std.proofs.Common.{◌++◌, length, map, take, drop, get_or, slice_get, Option, Some, String, string_bytes}
 use Rattle.std.proofs.Common.{codes, refl, sym, ap, ◌∙◌, subst, arith, nat_lt}
-use Rattle.std.specs.Prelude.{IfSome}
-use Rattle.std.specs.List.{find}
-use Rattle.std.specs.Str.{bytes_eq}
-use Rattle.std.specs.declared.alloc.Global.{Global}
-use Rattle.std.proofs.lemmas.List.{take_all}
-use Rattle.std.proofs.lemmas.Bool.{ltb-true}
-use Rattle.std.proofs.lemmas.Bool.Decides.{Decides-eqb}
-use Rattle.std.proofs.lemmas.Fmt.{decimal_injective}
+use Rattle.std.proofs.lemmas.{List.take_all, Bool.{ltb-true, Decides.Decides-eqb}, Fmt.decimal_injective}
 use Rattle.std.proofs.lemmas.Slice.Eq.{bytes_eq-Decides}
+use Rattle.std.specs.{Prelude.IfSome, List.find, Str.bytes_eq, declared.alloc.Global.Global}
 use denote.Enum.Declared.{tag_of}
 use Rattle.mm_cli.specs.contracts.table.Command.{the_type}
 use Rattle.mm_cli.specs.declared.table.Command.{Command}
 use Rattle.mm_cli.specs.declared.table.Parameter.{Parameter}
 use Rattle.mm_cli.specs.declared.table.Parameter.TheVariants.{File, Number, Groups, Mode, Range, Address, Use}
-use Rattle.mm_cli.specs.declared.table.Tail.{Tail}
-use Rattle.mm_cli.specs.declared.table.Tail.TheVariants.{Nothing, Optional, Repeated}
-use Rattle.mm_cli.specs.declared.words.Word.{Word as Read}
+use Rattle.mm_cli.specs.declared.table.Tail.{Tail, TheVariants.{Nothing, Optional, Repeated}}
+use Rattle.mm_cli.specs.declared.words.{Word.{Word as Read}}
 use Rattle.mm_cli.specs.Words.{AreOfRow, Word, file_word, number_word, groups_word, mode_word, range_word, use_word}
-use Rattle.mm_model.specs.declared.word_use.WordUse.{WordUse}
-use Rattle.mm_model.specs.declared.word_use.WordUse.TheVariants.{Touch, Write}
-use Rattle.mm_model.specs.Audit.{use_text}
-use Rattle.mm_cli.specs.Words.{mode_text, text_list, FitsParameter, FitsTail, FitsRow, room, spelled, spoken}
-use Rattle.mm_cli.specs.Words.{texts}
+use Rattle.mm_cli.specs.Words.{mode_text, text_list, FitsParameter, FitsTail, FitsRow, room, spelled, spoken, texts}
 use Rattle.mm_cli.specs.Table.{TableRow, Row, IsInTable, Matches, Fits, InNoRow, is_same, row_for, table}
 use Rattle.mm_cli.specs.Arguments.{arguments, arguments_by}
-use Rattle.mm_cli.proofs.GroupWords.{one_list}
-use Rattle.mm_cli.proofs.ArgumentWords.{arguments_row}
-use Rattle.mm_cli.proofs.RowWords.{same_after, names_spelled}
+use Rattle.mm_cli.proofs.{GroupWords.one_list, ArgumentWords.arguments_row, RowWords.{same_after, names_spelled}}
+use Rattle.mm_model.specs.{declared.word_use.WordUse.{WordUse, TheVariants.{Touch, Write}}, Audit.use_text}
 
 -- 1. What is seen of each row of a list.
 

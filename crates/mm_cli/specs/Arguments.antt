@@ -1,18 +1,15 @@
 -- What the words of a command say, parameter by parameter.
 use Rattle.std.specs.Prelude.{ℕ, suc, Bool, false, List, [], ◌∷◌, map, slice_get, String, Option, None, Some}
 use Rattle.std.specs.declared.alloc.Global.{Global}
-use Rattle.mm_model.specs.declared.word_use.WordUse.{WordUse}
-use Rattle.mm_model.specs.declared.word_use.WordUse.TheVariants.{Touch}
+use Rattle.mm_model.specs.declared.word_use.WordUse.{WordUse, TheVariants.Touch}
 use Rattle.mm_cli.specs.declared.table.Command.{Command}
 use Rattle.mm_cli.specs.declared.table.Parameter.{Parameter}
 use Rattle.mm_cli.specs.declared.table.Parameter.TheVariants.{File, Number, Groups, Mode, Range, Address, Use}
-use Rattle.mm_cli.specs.declared.table.Tail.{Tail}
-use Rattle.mm_cli.specs.declared.table.Tail.TheVariants.{Nothing, Optional, Repeated}
-use Rattle.mm_cli.specs.declared.words.Word.{Word as Read}
+use Rattle.mm_cli.specs.declared.table.Tail.{Tail, TheVariants.{Nothing, Optional, Repeated}}
+use Rattle.mm_cli.specs.declared.words.{Word.{Word as Read}}
+use Rattle.mm_cli.specs.Words.{Word, file_word, number_word, groups_word, mode_word, range_word, use_word, optional}
+use Rattle.mm_cli.specs.{Words.texts, Table.{TableRow, Row, Fits, row_for}}
 use Rattle.mm_cli.specs.declared.words.Word.TheVariants as read
-use Rattle.mm_cli.specs.Words.{Word, file_word, number_word, groups_word, mode_word, range_word, use_word}
-use Rattle.mm_cli.specs.Words.{optional, texts}
-use Rattle.mm_cli.specs.Table.{TableRow, Row, Fits, row_for}
 
 -- 1. What a word that was read says, if there is one.
 

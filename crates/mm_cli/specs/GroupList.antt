@@ -1,6 +1,5 @@
 -- Lists of groups as the command line writes them.
-use Rattle.std.specs.Prelude.{ℕ, ◌<◌, ◌≤◌, Bool, ◌==◌, List, [], ◌∷◌, length, ⊤}
-use Rattle.std.specs.List.{AllByRecursion}
+use Rattle.std.specs.{Prelude.{ℕ, ◌<◌, ◌≤◌, Bool, ◌==◌, List, [], ◌∷◌, length, ⊤}, List.AllByRecursion}
 
 -- each group is below those after it
 abbrev pub Ascends : List ℕ → Type 0

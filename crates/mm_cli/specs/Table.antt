@@ -1,17 +1,11 @@
 -- The table of commands, and the words that are in its rows.
 use Rattle.std.specs.Prelude.{◌≡◌, ◌≢◌, ℕ, ◌==◌, Bool, List, ◌∷◌, map, slice_get, Option, None, Some, IfSome}
-use Rattle.std.specs.List.{find}
-use Rattle.std.specs.Borrow.{Bor}
+use Rattle.std.specs.{List.find, Borrow.Bor}
 use denote.Enum.Declared.{tag_of}
 use Rattle.mm_cli.specs.contracts.table.Command.{the_type}
-use Rattle.mm_cli.specs.declared.table.TheConstants.{TABLE}
-use Rattle.mm_cli.specs.declared.table.Command.{Command}
-use Rattle.mm_cli.specs.declared.table.Command.TheVariants.{Debug}
-use Rattle.mm_cli.specs.declared.table.Kind.{Kind}
+use Rattle.mm_cli.specs.declared.table.{TheConstants.TABLE, Command.{Command, TheVariants.Debug}, Kind.Kind}
+use Rattle.mm_cli.specs.{declared.table.{Parameter.Parameter, Tail.Tail}, Words.{Word, FitsRow, files_in, spelled}}
 use Rattle.mm_cli.specs.declared.table.Kind.TheVariants as kind
-use Rattle.mm_cli.specs.declared.table.Parameter.{Parameter}
-use Rattle.mm_cli.specs.declared.table.Tail.{Tail}
-use Rattle.mm_cli.specs.Words.{Word, FitsRow, files_in, spelled}
 
 -- A row of the table of src/table.rt: the command's name, the command, the parameters after the name, and what comes
 -- after these parameters.

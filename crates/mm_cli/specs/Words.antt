@@ -1,18 +1,15 @@
 -- What words say, how it is written, and where it fits.
 use Rattle.std.specs.Prelude.{◌≡◌, ℕ, ◌%◌, ◌^◌, ◌-◌, ◌<◌, ◌≤◌, Bool, true, false, List, [], ◌∷◌, ◌++◌, map, length}
-use Rattle.std.specs.Prelude.{String}
-use Rattle.std.specs.Prelude.{string_bytes, codes, decimal, Option, None, Some, IsSomeAnd, ⊤}
+use Rattle.std.specs.Prelude.{String, string_bytes, codes, decimal, Option, None, Some, IsSomeAnd, ⊤}
 use Rattle.std.specs.declared.alloc.Global.{Global}
-use Rattle.mm_model.specs.declared.word_use.WordUse.{WordUse}
-use Rattle.mm_model.specs.Audit.{groups_text, use_text}
+use Rattle.mm_model.specs.{declared.word_use.WordUse.WordUse, Audit.{groups_text, use_text}}
 use Rattle.mm_cli.specs.GroupList.{AreGroups}
 use Rattle.mm_cli.specs.declared.table.Kind.{Kind}
 use Rattle.mm_cli.specs.declared.table.Parameter.{Parameter}
 use Rattle.mm_cli.specs.declared.table.Parameter.TheVariants.{File, Number, Groups, Mode, Range, Address, Use}
-use Rattle.mm_cli.specs.declared.words.Word.{Word as Read}
+use Rattle.mm_cli.specs.declared.table.Tail.{Tail, TheVariants.{Nothing, Optional, Repeated}}
+use Rattle.mm_cli.specs.declared.words.{Word.{Word as Read}}
 use Rattle.mm_cli.specs.declared.words.Word.TheVariants as read
-use Rattle.mm_cli.specs.declared.table.Tail.{Tail}
-use Rattle.mm_cli.specs.declared.table.Tail.TheVariants.{Nothing, Optional, Repeated}
 
 -- 1. Words, and how they are written.
 

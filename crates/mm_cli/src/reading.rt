@@ -8,7 +8,7 @@ ghost use Rattle.mm_cli.specs.Words.{texts};
 ghost use Rattle.mm_cli.specs.Table.{InNoRow, Matches, NoneIsNamed, table_row, table};
 ghost use Rattle.mm_cli.specs.ParsedCommand.{row_of};
 
-use crate::table::{Command, Tail, TableRow, Parameter, TABLE};
+use crate::table::{Command, Parameter, TABLE, TableRow, Tail};
 use crate::words::{Word, read_parameter};
 use arrayvec::ArrayVec;
 

@@ -1,17 +1,15 @@
 -- What each cycle and each entry keeps of a session, every answer keeps.
-use Rattle.std.proofs.Common.{◌≡◌, ℕ, zero, suc, ◌-◌, Bool, true, false, ◌&&◌, if◌then◌else◌, List, [], ◌∷◌, Option, Some, None, refl}
+use Rattle.std.proofs.Common.{◌≡◌, ℕ, zero, suc, ◌-◌, Bool, true, false, ◌&&◌, if◌then◌else◌, List, [], ◌∷◌, Option}
+use Rattle.std.proofs.Common.{Some, None, refl}
 use Rattle.mm_debug.specs.declared.command.Command.{Command}
 use Rattle.mm_debug.specs.declared.command.Command.TheVariants.{Nothing, Step, Run, Break, Watch, Regs, Mem, Quit, Bad}
-use Rattle.mm_debug.specs.declared.breakpoints.Break.{Break as Breakpoint}
-use Rattle.mm_debug.specs.declared.stop.StopReason.{StopReason}
-use Rattle.mm_debug.specs.declared.stop.StopReason.TheVariants as stop
+use Rattle.mm_debug.specs.declared.{breakpoints.{Break.{Break as Breakpoint}}, stop.StopReason.StopReason}
 use Rattle.mm_debug.specs.Commands.{command_of}
+use Rattle.mm_debug.specs.Session.{Session, total_of, next_item, issued, then_stepped, stepped, stops_before}
+use Rattle.mm_debug.specs.Session.{stops_after, Ran, stopped, after_cycle, before_cycle, run_from, ran, answer}
+use Rattle.mm_debug.{specs.{Session.{answer_to, dialogue}, Laws.after_lines}, proofs.Dialogues.keeps}
 use Rattle.mm_model.specs.Limits.{cycle_limit}
-use Rattle.mm_debug.specs.Session.{Session, total_of, next_item, issued, then_stepped, stepped}
-use Rattle.mm_debug.specs.Session.{stops_before, stops_after, Ran, stopped, after_cycle, before_cycle, run_from, ran}
-use Rattle.mm_debug.specs.Session.{answer, answer_to, dialogue}
-use Rattle.mm_debug.specs.Laws.{after_lines}
-use Rattle.mm_debug.proofs.Dialogues.{keeps}
+use Rattle.mm_debug.specs.declared.stop.StopReason.TheVariants as stop
 
 -- the cycle of the next item keeps it, and it does not speak of breaks and watches
 pub record Keeps (P : Session → Type 0) : Type 0 where

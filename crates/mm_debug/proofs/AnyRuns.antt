@@ -2,26 +2,17 @@
 use Rattle.std.proofs.Common.{ap, ◌≡◌, ℕ, zero, suc, ◌≤◌, Bool, true, false, if◌then◌else◌, List, [], ◌∷◌, ◌++◌, length}
 use Rattle.std.proofs.Common.{slice_set, slice_index_or, Option, Some, None, refl, sym, ◌∙◌, subst, arith, length-set}
 use Rattle.std.proofs.Common.{length-append}
-use Rattle.mm_word.specs.declared.cause.Cause.{Cause}
-use Rattle.mm_word.specs.declared.word.Word.{Word}
-use Rattle.mm_word.specs.declared.word.Word.TheVariants.{Int}
-use Rattle.mm_word.specs.declared.word.Cell.{Cell}
+use Rattle.mm_word.specs.declared.{cause.Cause.Cause, word.{Word.{Word, TheVariants.Int}, Cell.Cell}}
 use Rattle.mm_word.specs.Access.{AccessValue}
-use Rattle.mm_model.specs.declared.slot.SlotState.TheVariants.{Running, Waiting, Halted}
-use Rattle.mm_model.specs.declared.event.Event.{Event}
-use Rattle.mm_model.specs.Memory.{Memory}
-use Rattle.mm_model.specs.Uses.{Use}
-use Rattle.mm_model.specs.Slot.{Slot}
+use Rattle.mm_model.specs.declared.{slot.SlotState.TheVariants.{Running, Waiting, Halted}, event.Event.Event}
+use Rattle.mm_model.specs.{Memory.Memory, Uses.Use, Slot.Slot}
 use Rattle.mm_model.specs.State.{Core, State, queue_at, put_slot, put_queue, output_of, put_output}
-use Rattle.mm_model.specs.Operands.{addr_operand, value_operand}
-use Rattle.mm_model.specs.Ask.{ask}
+use Rattle.mm_model.specs.{Operands.{addr_operand, value_operand}, Ask.ask}
 use Rattle.mm_model.specs.Effect.{Change, Pages, Effect, effect, delivered}
-use Rattle.mm_model.specs.Effect.Pages.{Keep, Add, Remove}
-use Rattle.mm_model.specs.Effect.Effect.{Fault, Block, Deliver, Do}
+use Rattle.mm_model.specs.Effect.{Pages.{Keep, Add, Remove}, Effect.{Fault, Block, Deliver, Do}}
 use Rattle.mm_model.specs.Turn.{Turned, reply, slot_after, with_other, with_queue, with_out, with_cell, with_pages}
 use Rattle.mm_model.specs.Turn.{core_after, memory_after, stood, is_sync, event_of, core_faulted, faulted, touch_of}
-use Rattle.mm_model.specs.Turn.{asked_use, blocked, ended, executed, idle, turn}
-use Rattle.mm_model.specs.Run.{after, run}
+use Rattle.mm_model.specs.{Turn.{asked_use, blocked, ended, executed, idle, turn}, Run.{after, run}}
 use Rattle.mm_model.proofs.Memories.{put_frames, map_frames, unmap_frames}
 use Rattle.mm_model.proofs.TurnChanges.{MemoryMoves, OutputMoves, turn_changes}
 use Rattle.mm_isa.specs.declared.instr.Instr.{Instr}

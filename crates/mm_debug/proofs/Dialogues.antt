@@ -1,12 +1,11 @@
 -- Lines that are answered one after the other.
-use Rattle.std.proofs.Common.{◌≡◌, ℕ, Bool, true, false, List, [], ◌∷◌, ◌++◌, Option, refl, sym, ap, ap₂, subst, ◌∙◌, arith, append_assoc, append-nil}
+use Rattle.std.proofs.Common.{◌≡◌, ℕ, Bool, true, false, List, [], ◌∷◌, ◌++◌, Option, refl, sym, ap, ap₂, subst, ◌∙◌}
+use Rattle.std.proofs.Common.{arith, append_assoc, append-nil}
 use Rattle.mm_io.proofs.Known.{append_known-[]}
 use Rattle.mm_text.specs.Appends.{Buffered, Appends, Became}
-use Rattle.mm_debug.specs.declared.session.Go.{Go}
-use Rattle.mm_debug.specs.declared.session.Go.TheVariants.{More, Quit}
+use Rattle.mm_debug.specs.declared.session.Go.{Go, TheVariants.{More, Quit}}
 use Rattle.mm_debug.specs.Session.{Session, Answer, Dialogue, after_answer, dialogue_by}
-use Rattle.mm_debug.specs.Dialogues.{IsAnswer, Carried}
-use Rattle.mm_debug.specs.Dialogues.Carried.{all, quit, more}
+use Rattle.mm_debug.specs.Dialogues.{IsAnswer, Carried, Carried.{all, quit, more}}
 
 -- 1. Texts that are gathered.
 

@@ -1,11 +1,12 @@
 -- A run issues the least number of cycles after which a stop stands.
-use Rattle.std.proofs.Common.{◌≡◌, ℕ, zero, suc, ◌+◌, ◌-◌, ◌<◌, Bool, true, false, ◌&&◌, if◌then◌else◌, Option, None, Some, refl, sym, ap, ◌∙◌, arith}
-use Rattle.std.specs.Option.{option_or}
+use Rattle.std.proofs.Common.{◌≡◌, ℕ, zero, suc, ◌+◌, ◌-◌, ◌<◌, Bool, true, false, ◌&&◌, if◌then◌else◌, Option, None}
+use Rattle.std.{proofs.Common.{Some, refl, sym, ap, ◌∙◌, arith}, specs.Option.option_or}
 use Rattle.mm_debug.specs.declared.stop.StopReason.{StopReason}
-use Rattle.mm_debug.specs.declared.stop.StopReason.TheVariants as stop
-use Rattle.mm_debug.specs.Session.{Session, Ran, total_of, next_item, issued, stepped, stops_before, stops_after, stopped, after_cycle, before_cycle, run_from, ran}
+use Rattle.mm_debug.specs.Session.{Session, Ran, total_of, next_item, issued, stepped, stops_before, stops_after}
+use Rattle.mm_debug.specs.Session.{stopped, after_cycle, before_cycle, run_from, ran}
 use Rattle.mm_debug.specs.Laws.{watch_of, watch_stands, end_or_break, stop_after, StopsFirst, RunsStopFirst}
 use Rattle.mm_debug.proofs.Stepping.{limit_ends, issued_total, stepped_none, stepped_goes}
+use Rattle.mm_debug.specs.declared.stop.StopReason.TheVariants as stop
 
 -- 1. The stop that stands after so many cycles.
 

@@ -1,21 +1,13 @@
 -- Whatever a command does, a session can still go to each point to which it could go before.
 use Rattle.std.proofs.Common.{◌≡◌, ℕ, List, refl, sym, subst}
 use Rattle.mm_mem.specs.declared.memory.Memory.{Ghosts}
-use Rattle.mm_model.specs.State.{State}
-use Rattle.mm_model.specs.Run.{after}
-use Rattle.mm_machine.specs.Validity.{IsValid}
-use Rattle.mm_machine.specs.Snapshot.{Parts, CanRestore}
-use Rattle.mm_machine.proofs.Keeping.{goes_on}
-use Rattle.mm_machine.proofs.Restorable.{can_after}
-use Rattle.mm_debug.specs.declared.command.Command.{Command}
-use Rattle.mm_debug.specs.declared.session.Session.{Session as Held}
-use Rattle.mm_debug.specs.Commands.{lines_of}
-use Rattle.mm_debug.specs.Session.{Session, answer, answer_to, dialogue, debugged}
-use Rattle.mm_debug.specs.Dialogues.{IsAnswer, Carried}
-use Rattle.mm_debug.specs.Shown.{session_of}
-use Rattle.mm_debug.specs.Standing.{Point, CanGo}
-use Rattle.mm_debug.proofs.AnswersKeep.{Keeps, answer_keeps, dialogue_keeps}
-use Rattle.mm_debug.proofs.Dialogues.{IsDialogue, is_dialogue}
+use Rattle.mm_model.specs.{State.State, Run.after}
+use Rattle.mm_machine.specs.{Validity.IsValid, Snapshot.{Parts, CanRestore}}
+use Rattle.mm_machine.proofs.{Keeping.goes_on, Restorable.can_after}
+use Rattle.mm_debug.specs.{declared.{command.Command.Command, session.{Session.{Session as Held}}}, Commands.lines_of}
+use Rattle.mm_debug.specs.{Session.{Session, answer, answer_to, dialogue, debugged}, Dialogues.{IsAnswer, Carried}}
+use Rattle.mm_debug.specs.{Shown.session_of, Standing.{Point, CanGo}}
+use Rattle.mm_debug.proofs.{AnswersKeep.{Keeps, answer_keeps, dialogue_keeps}, Dialogues.{IsDialogue, is_dialogue}}
 
 -- a state of the same machine: it is kept where the first is, and can be put back to what the first can
 record Follows (s t : State) : Type 0 where

@@ -1,15 +1,11 @@
 -- What is kept after an entry is set.
-use Rattle.std.proofs.Common.{◌≡◌, ℕ, ◌+◌, ◌<◌, refl, Bool, true, false, nat_lt, List, length, ap, subst, ◌∙◌, sym, arith, Result, Ok, Err}
-use Rattle.std.specs.Prelude.{◌↔◌, ◌==◌, if◌then◌else◌}
-use Rattle.std.specs.Result.{is_ok, IsOk, OnOk, OnErr}
-use Rattle.std.specs.List.{list_any, insert}
-use Rattle.std.specs.List.Sorted.{IsSearchInRange, IsBinarySearchResult}
-use Rattle.std.specs.Cmp.{IsTotalOrder, unsigned_ties, both_tied}
-use Rattle.std.specs.Ordering.{nat_cmp, is_eq}
+use Rattle.std.proofs.Common.{◌≡◌, ℕ, ◌+◌, ◌<◌, refl, Bool, true, false, nat_lt, List, length, ap, subst, ◌∙◌, sym}
+use Rattle.std.proofs.{Common.{arith, Result, Ok, Err}, lemmas.{Cmp.{nat_cmp_total, on_total, then_total}, Bool.lt-ltb}}
+use Rattle.std.specs.{Prelude.{◌↔◌, ◌==◌, if◌then◌else◌}, Result.{is_ok, IsOk, OnOk, OnErr}}
+use Rattle.std.specs.List.{list_any, insert, Sorted.{IsSearchInRange, IsBinarySearchResult}}
+use Rattle.std.specs.{Cmp.{IsTotalOrder, unsigned_ties, both_tied}, Ordering.{nat_cmp, is_eq}}
 use Rattle.std.specs.declared.cmp.Ordering.{Ordering}
 use Rattle.arrayvec.specs.ArrayVec.{ArrayVec}
-use Rattle.std.proofs.lemmas.Cmp.{nat_cmp_total, on_total, then_total}
-use Rattle.std.proofs.lemmas.Bool.{lt-ltb}
 use Rattle.mm_debug.specs.declared.breakpoints.Break.{Break}
 use Rattle.mm_debug.specs.Breakpoints.{AreEntries, break_cmp, is_break, placed, fits, entered}
 use Rattle.mm_debug.proofs.Rising.{rise_placed, placed_new, searchable, any_there, any_new}

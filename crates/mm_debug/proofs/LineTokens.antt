@@ -1,8 +1,7 @@
 -- The tokens of a line, taken one after another from its front.
-use Rattle.std.proofs.Common.{◌≡◌, ℕ, suc, ◌-◌, Bool, true, false, not, List, [], ◌∷◌, length, take, drop, refl, sym, ap, ◌∙◌, one-add}
+use Rattle.std.proofs.Common.{◌≡◌, ℕ, suc, ◌-◌, Bool, true, false, not, List, [], ◌∷◌, length, take, drop, refl, sym}
+use Rattle.std.proofs.{Common.{ap, ◌∙◌, one-add}, lemmas.{List.take_rest, Bool.{cond-true, cond-false, not-true}}}
 use Rattle.std.specs.List.{prefix_len}
-use Rattle.std.proofs.lemmas.List.{take_rest}
-use Rattle.std.proofs.lemmas.Bool.{cond-true, cond-false, not-true}
 use Rattle.mm_debug.specs.Commands.{is_blank, goes_on, led_by, tokens, with_token}
 
 -- how many blanks, and how many bytes of a token, a line begins with

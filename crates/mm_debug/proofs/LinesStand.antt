@@ -1,15 +1,11 @@
 -- Whatever lines a session carries out, it has its order, and stands for every image for which it stood.
 use Rattle.std.proofs.Common.{◌≡◌, ℕ, List, [], ◌∷◌, refl, ap, ◌∙◌}
-use Rattle.mm_model.specs.Image.{Image, start}
-use Rattle.mm_model.specs.Run.{run}
+use Rattle.mm_model.specs.{Image.{Image, start}, Run.run}
 use Rattle.mm_sched.specs.declared.schedule.Order.{Order}
-use Rattle.mm_debug.specs.declared.command.Command.{Command}
-use Rattle.mm_debug.specs.Commands.{command_of}
-use Rattle.mm_debug.specs.Session.{Session, total_of, begun, answer, answer_to}
-use Rattle.mm_debug.specs.Standing.{run_items, StandsFor}
+use Rattle.mm_debug.specs.{declared.command.Command.Command, Commands.command_of}
+use Rattle.mm_debug.specs.{Session.{Session, total_of, begun, answer, answer_to}, Standing.{run_items, StandsFor}}
 use Rattle.mm_debug.specs.Laws.{after_lines, LinesKeepStanding, DebuggingChangesNoRun}
-use Rattle.mm_debug.proofs.AnswersKeep.{Keeps, answer_keeps, lines_keep}
-use Rattle.mm_debug.proofs.Standing.{answer_stands, begun_stands}
+use Rattle.mm_debug.proofs.{AnswersKeep.{Keeps, answer_keeps, lines_keep}, Standing.{answer_stands, begun_stands}}
 
 each_order : (o : Order) → Keeps (λ (s : Session). s.order ≡ o)
 each_order o = record { issues = λ s item is same. same; breaks = λ s entries same. same; watches = λ s words same. same }

@@ -1,11 +1,11 @@
 -- The words for which a line asks are words.
-use Rattle.std.proofs.Common.{◌≡◌, ℕ, ◌+◌, ◌*◌, ◌%◌, ◌^◌, ◌≤◌, Bool, true, false, ◌&&◌, if◌then◌else◌, List, [], ◌∷◌, codes, Option, None, Some, refl, sym, ◌∙◌, arith}
-use Rattle.std.proofs.lemmas.Bool.Decides.{nat_tests}
-use Rattle.std.specs.Prelude.{⊤}
-use Rattle.std.specs.Str.{bytes_eq}
+use Rattle.std.proofs.Common.{◌≡◌, ℕ, ◌+◌, ◌*◌, ◌%◌, ◌^◌, ◌≤◌, Bool, true, false, ◌&&◌, if◌then◌else◌, List, [], ◌∷◌}
+use Rattle.std.proofs.{Common.{codes, Option, None, Some, refl, sym, ◌∙◌, arith}, lemmas.Bool.Decides.nat_tests}
+use Rattle.std.specs.{Prelude.⊤, Str.bytes_eq}
 use Rattle.mm_debug.specs.declared.command.Command.{Command}
 use Rattle.mm_debug.specs.declared.command.Command.TheVariants.{Nothing, Step, Run, Break, Watch, Regs, Mem, Quit, Bad}
-use Rattle.mm_debug.specs.Commands.{command_of, by_tokens, tokens, number_of, alone, with_one, with_two, if_in_range, is_count, is_word, is_slot, is_address, are_words}
+use Rattle.mm_debug.specs.Commands.{command_of, by_tokens, tokens, number_of, alone, with_one, with_two, if_in_range}
+use Rattle.mm_debug.specs.Commands.{is_count, is_word, is_slot, is_address, are_words}
 
 -- what a command shows are words of the address space
 abbrev ShowsWords : Command → Type 0

@@ -1,23 +1,17 @@
 -- A session that goes to a point stands for the images for which both stood.
-use Rattle.std.proofs.Common.{◌≡◌, ℕ, zero, suc, ◌≤◌, inl, inr, List, [], ◌∷◌, ◌++◌, length, map, take, Option, Some, None, refl, sym, ap, subst, ◌∙◌, arith}
-use Rattle.std.proofs.lemmas.Bool.{cases_lt}
-use Rattle.std.proofs.lemmas.List.{length-replicate}
+use Rattle.std.proofs.Common.{◌≡◌, ℕ, zero, suc, ◌≤◌, inl, inr, List, [], ◌∷◌, ◌++◌, length, map, take, Option, Some}
+use Rattle.std.proofs.{Common.{None, refl, sym, ap, subst, ◌∙◌, arith}, lemmas.{Bool.cases_lt, List.length-replicate}}
 use Rattle.std.proofs.Math.Logic.{∥∥₁_map}
-use Rattle.mm_model.specs.State.{State, output_of}
-use Rattle.mm_model.specs.Image.{Image, start}
-use Rattle.mm_model.specs.Run.{after, run, next_running, then_issued, robin_from}
-use Rattle.mm_model.specs.Fits.{identity_of, slots_of}
+use Rattle.mm_model.specs.{State.{State, output_of}, Image.{Image, start}}
+use Rattle.mm_model.specs.{Run.{after, run, next_running, then_issued, robin_from}, Fits.{identity_of, slots_of}}
 use Rattle.mm_model.proofs.CoreRows.{has_group_by}
 use Rattle.mm_sched.specs.declared.schedule.Order.{Order}
-use Rattle.mm_sched.specs.declared.schedule.Order.TheVariants as order
-use Rattle.mm_machine.specs.Validity.{IsValid}
-use Rattle.mm_machine.specs.Snapshot.{IsSnapshotOf, CanRestore, restored}
-use Rattle.mm_machine.proofs.Keeping.{valid_after}
-use Rattle.mm_machine.proofs.Went.{run_both}
+use Rattle.mm_machine.specs.{Validity.IsValid, Snapshot.{IsSnapshotOf, CanRestore, restored}}
+use Rattle.mm_machine.proofs.{Keeping.valid_after, Went.run_both}
 use Rattle.mm_debug.specs.Session.{Session, total_of}
 use Rattle.mm_debug.specs.Standing.{run_items, GoesOnAfter, StandsFor, Point, total_at, PointStandsFor}
-use Rattle.mm_debug.proofs.AnyRuns.{run_goes_on}
-use Rattle.mm_debug.proofs.SameStates.{IsQuiet, kept_quiet, AreAlike, same_state}
+use Rattle.mm_debug.proofs.{AnyRuns.run_goes_on, SameStates.{IsQuiet, kept_quiet, AreAlike, same_state}}
+use Rattle.mm_sched.specs.declared.schedule.Order.TheVariants as order
 
 -- 1. Of two counts of cycles, the items of the lesser are the first of those of the greater.
 

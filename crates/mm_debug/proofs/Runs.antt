@@ -1,9 +1,10 @@
 -- A run of a session, one cycle at a time.
-use Rattle.std.proofs.Common.{◌≡◌, ℕ, zero, suc, ◌-◌, Bool, true, false, ◌&&◌, if◌then◌else◌, Option, None, Some, refl, sym, ap, ◌∙◌, arith}
-use Rattle.mm_model.specs.declared.step.Step.{Step}
-use Rattle.mm_model.specs.Run.{turn_of}
+use Rattle.std.proofs.Common.{◌≡◌, ℕ, zero, suc, ◌-◌, Bool, true, false, ◌&&◌, if◌then◌else◌, Option, None, Some, refl}
+use Rattle.std.proofs.Common.{sym, ap, ◌∙◌, arith}
+use Rattle.mm_model.specs.{declared.step.Step.Step, Run.turn_of}
+use Rattle.mm_debug.specs.Session.{Session, Ran, total_of, next_item, issued, stops_before, stops_after, watched}
+use Rattle.mm_debug.specs.Session.{stopped, after_cycle, before_cycle, run_from, ran}
 use Rattle.mm_debug.specs.declared.stop.StopReason.TheVariants as stop
-use Rattle.mm_debug.specs.Session.{Session, Ran, total_of, next_item, issued, stops_before, stops_after, watched, stopped, after_cycle, before_cycle, run_from, ran}
 
 pub run_begins : (s : Session) (total : ℕ) → total ≡ total_of s → ran s ≡ run_from false s (1000000 - total)
 unfolding ran

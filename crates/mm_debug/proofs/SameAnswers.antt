@@ -1,26 +1,20 @@
 -- Two sessions that stand for one image, with as many cycles of one order and the same breaks and watches, answer the same.
-use Rattle.std.proofs.Common.{◌≡◌, ℕ, zero, suc, ◌-◌, Bool, true, false, ◌&&◌, nat_lt, if◌then◌else◌, List, Option, Some, None, refl, sym, ap, ◌∙◌, subst}
-use Rattle.std.specs.Prelude.{⊤}
-use Rattle.mm_model.specs.State.{State, slot_at}
-use Rattle.mm_model.specs.Image.{Image, start}
-use Rattle.mm_model.specs.Run.{turn_of, after, run, next_running}
-use Rattle.mm_sched.specs.declared.schedule.Order.{Order}
-use Rattle.mm_sched.specs.declared.schedule.Order.TheVariants as order
+use Rattle.std.proofs.Common.{◌≡◌, ℕ, zero, suc, ◌-◌, Bool, true, false, ◌&&◌, nat_lt, if◌then◌else◌, List, Option}
+use Rattle.std.{proofs.Common.{Some, None, refl, sym, ap, ◌∙◌, subst}, specs.Prelude.⊤}
+use Rattle.mm_model.specs.{State.{State, slot_at}, Image.{Image, start}, Run.{turn_of, after, run, next_running}}
+use Rattle.mm_model.specs.Limits.{cycle_limit}
+use Rattle.mm_sched.specs.{declared.schedule.Order.Order, Orders.{item_in, last_after}}
 use Rattle.mm_debug.specs.declared.command.Command.{Command}
 use Rattle.mm_debug.specs.declared.command.Command.TheVariants.{Nothing, Step, Run, Break, Watch, Regs, Mem, Quit, Bad}
-use Rattle.mm_debug.specs.declared.breakpoints.Break.{Break as Breakpoint}
-use Rattle.mm_debug.specs.declared.stop.StopReason.{StopReason}
-use Rattle.mm_debug.specs.declared.stop.StopReason.TheVariants as stop
-use Rattle.mm_debug.specs.Commands.{command_of}
-use Rattle.mm_debug.specs.Breakpoints.{has_break, has_watch, fits, with_break, with_watch}
-use Rattle.mm_model.specs.Limits.{cycle_limit}
-use Rattle.mm_debug.specs.Session.{Session, total_of, next_item, issued, then_stepped}
-use Rattle.mm_sched.specs.Orders.{item_in, last_after}
-use Rattle.mm_debug.specs.Session.{stepped, breaks_for, stops_before, watched, stops_after, Ran, stopped, after_cycle}
-use Rattle.mm_debug.specs.Session.{before_cycle, run_from, ran, stepped_text, stop_text, break_text, watch_text}
-use Rattle.mm_debug.specs.Session.{slot_text, memory_text, Answer, answer}
-use Rattle.mm_debug.specs.Standing.{run_items, GoesOnAfter, StandsFor}
+use Rattle.mm_debug.specs.declared.{breakpoints.{Break.{Break as Breakpoint}}, stop.StopReason.StopReason}
+use Rattle.mm_debug.specs.{Commands.command_of, Breakpoints.{has_break, has_watch, fits, with_break, with_watch}}
+use Rattle.mm_debug.specs.Session.{Session, total_of, next_item, issued, then_stepped, stepped, breaks_for}
+use Rattle.mm_debug.specs.Session.{stops_before, watched, stops_after, Ran, stopped, after_cycle, before_cycle}
+use Rattle.mm_debug.specs.Session.{run_from, ran, stepped_text, stop_text, break_text, watch_text, slot_text}
+use Rattle.mm_debug.specs.{Session.{memory_text, Answer, answer}, Standing.{run_items, GoesOnAfter, StandsFor}}
 use Rattle.mm_debug.specs.Laws.{AreAlike, AnswersDependOnThese}
+use Rattle.mm_sched.specs.declared.schedule.Order.TheVariants as order
+use Rattle.mm_debug.specs.declared.stop.StopReason.TheVariants as stop
 
 -- 1. Sessions that are the same, but for a last item at which nothing looks.
 

@@ -1,22 +1,16 @@
 -- States with one snapshot are the same, where version, mode and frames are and no group without a slot has put out anything.
-use Rattle.std.proofs.Common.{◌≡◌, ℕ, ◌<◌, inl, inr, Bool, true, false, ◌==◌, if◌then◌else◌, List, [], ◌∷◌, ◌++◌, length, map, refl, sym, ap, subst, ◌∙◌, arith, append-nil, eq-eqb}
-use Rattle.std.specs.List.{AllByRecursion, flat_map, list_any}
-use Rattle.std.specs.List.Sorted.{IsStrictlyIncreasing}
-use Rattle.std.proofs.Props.{props}
-use Rattle.std.proofs.Math.Logic.{∥∥₁_elim}
-use Rattle.std.proofs.lemmas.Bool.{cases_eq, ne_eqb}
-use Rattle.mm_machine.proofs.Returning.{same_all}
-use Rattle.mm_machine.proofs.Copied.{for_own, for_other}
-use Rattle.mm_word.specs.declared.word.Cell.{Cell}
-use Rattle.mm_model.specs.declared.event.Event.{Event}
-use Rattle.mm_model.specs.Slot.{Slot}
-use Rattle.mm_model.specs.State.{ThreadRow, Core, State, row_in, queue_of, queue_at, output_of}
-use Rattle.mm_model.specs.Groups.{has_group}
-use Rattle.mm_model.specs.Spelling.{numbers_of}
-use Rattle.mm_model.specs.Fits.{slots_of}
-use Rattle.mm_model.proofs.CoreRows.{each_both, rest_rises, above_first, Rises}
+use Rattle.std.proofs.Common.{◌≡◌, ℕ, ◌<◌, inl, inr, Bool, true, false, ◌==◌, if◌then◌else◌, List, [], ◌∷◌, ◌++◌}
+use Rattle.std.proofs.Common.{length, map, refl, sym, ap, subst, ◌∙◌, arith, append-nil, eq-eqb}
+use Rattle.std.proofs.{Props.props, Math.Logic.∥∥₁_elim, lemmas.Bool.{cases_eq, ne_eqb}}
+use Rattle.std.specs.List.{AllByRecursion, flat_map, list_any, Sorted.IsStrictlyIncreasing}
+use Rattle.mm_machine.proofs.{Returning.same_all, Copied.{for_own, for_other}}
 use Rattle.mm_machine.specs.Validity.{IsValid}
 use Rattle.mm_machine.specs.Snapshot.{Parts, has_output, IsOutputOf, IsSnapshotOf, queued, queued_at}
+use Rattle.mm_word.specs.declared.word.Cell.{Cell}
+use Rattle.mm_model.specs.{declared.event.Event.Event, Slot.Slot}
+use Rattle.mm_model.specs.{State.{ThreadRow, Core, State, row_in, queue_of, queue_at, output_of}, Groups.has_group}
+use Rattle.mm_model.specs.{Spelling.numbers_of, Fits.slots_of}
+use Rattle.mm_model.proofs.CoreRows.{each_both, rest_rises, above_first, Rises}
 
 -- 1. Rows: the queue of each is that of the events beside its slot's number.
 

@@ -1,15 +1,10 @@
 -- Spots of addresses at which there may be a break.
 use Rattle.std.proofs.Common.{◌≡◌, inl, inr, ℕ, zero, suc, ◌<◌, Bool, true, false, ◌&&◌, ◌||◌, ◌==◌, List, [], ◌∷◌}
 use Rattle.std.proofs.Common.{length, set, get_or, get_or-set_other, Result, Ok, Err, OnOk, OnErr, refl, sym, ap, ◌∙◌}
-use Rattle.std.proofs.Common.{subst, arith}
-use Rattle.std.specs.List.{list_any, insert, AllByRecursion}
-use Rattle.std.proofs.lemmas.Bool.Decides.{nat_tests}
-use Rattle.std.proofs.lemmas.Grind.{get_or-set_at}
-use Rattle.std.proofs.Math.Bool.{and-false}
-use Rattle.std.proofs.lemmas.Bool.{cases_eq}
+use Rattle.std.proofs.{Common.{subst, arith}, lemmas.{Bool.{cases_eq, Decides.nat_tests}, Grind.get_or-set_at}}
+use Rattle.std.{proofs.Math.Bool.and-false, specs.List.{list_any, insert, AllByRecursion}}
 use Rattle.arrayvec.specs.ArrayVec.{ArrayVec}
-use Rattle.mm_debug.specs.declared.breakpoints.Break.{Break}
-use Rattle.mm_debug.specs.Breakpoints.{is_break, has_break, spot_of, AreSpotted}
+use Rattle.mm_debug.specs.{declared.breakpoints.Break.Break, Breakpoints.{is_break, has_break, spot_of, AreSpotted}}
 
 -- 1. An address whose spot is not set has no break.
 

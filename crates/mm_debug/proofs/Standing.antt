@@ -1,26 +1,20 @@
 -- A session goes on standing for an image, whatever it answers.
-use Rattle.std.proofs.Common.{◌≡◌, ℕ, zero, suc, ◌+◌, ◌-◌, Bool, true, false, ◌&&◌, nat_lt, if◌then◌else◌, List, [], ◌∷◌, ◌++◌, take, slice_get, Option, Some, None, refl, sym, ap, ◌∙◌, subst, arith}
-use Rattle.std.proofs.lemmas.List.{take_more}
-use Rattle.std.proofs.lemmas.Option.{slice_get_within, get_or_from_slice_get}
-use Rattle.mm_machine.proofs.Went.{last_more}
-use Rattle.mm_model.specs.State.{State}
-use Rattle.mm_model.specs.Image.{Image, start}
-use Rattle.mm_model.specs.Run.{after, run, next_running, then_issued, robin_from, last_item}
-use Rattle.mm_sched.specs.declared.schedule.Order.{Order}
-use Rattle.mm_sched.specs.declared.schedule.Order.TheVariants as order
-use Rattle.mm_machine.proofs.Keeping.{run_more}
+use Rattle.std.proofs.Common.{◌≡◌, ℕ, zero, suc, ◌+◌, ◌-◌, Bool, true, false, ◌&&◌, nat_lt, if◌then◌else◌, List, []}
+use Rattle.std.proofs.Common.{◌∷◌, ◌++◌, take, slice_get, Option, Some, None, refl, sym, ap, ◌∙◌, subst, arith}
+use Rattle.std.proofs.lemmas.{List.take_more, Option.{slice_get_within, get_or_from_slice_get}}
+use Rattle.mm_machine.proofs.{Went.last_more, Keeping.run_more}
+use Rattle.mm_model.specs.{State.State, Image.{Image, start}}
+use Rattle.mm_model.specs.{Run.{after, run, next_running, then_issued, robin_from, last_item}, Limits.cycle_limit}
+use Rattle.mm_sched.specs.{declared.schedule.Order.Order, Orders.{item_in, last_after}}
 use Rattle.mm_debug.specs.declared.command.Command.{Command}
 use Rattle.mm_debug.specs.declared.command.Command.TheVariants.{Nothing, Step, Run, Break, Watch, Regs, Mem, Quit, Bad}
-use Rattle.mm_debug.specs.declared.breakpoints.Break.{Break as Breakpoint}
-use Rattle.mm_debug.specs.declared.stop.StopReason.TheVariants as stop
-use Rattle.mm_debug.specs.Commands.{command_of}
-use Rattle.mm_model.specs.Limits.{cycle_limit}
-use Rattle.mm_debug.specs.Session.{Session, begun, total_of, next_item, issued}
-use Rattle.mm_sched.specs.Orders.{item_in, last_after}
-use Rattle.mm_debug.specs.Session.{then_stepped, stepped, stops_before, stops_after, Ran, stopped, after_cycle}
-use Rattle.mm_debug.specs.Session.{before_cycle, run_from, ran, answer, answer_to, dialogue}
-use Rattle.mm_debug.specs.Standing.{run_items, GoesOnAfter, StandsFor}
+use Rattle.mm_debug.specs.{declared.breakpoints.{Break.{Break as Breakpoint}}, Commands.command_of}
+use Rattle.mm_debug.specs.Session.{Session, begun, total_of, next_item, issued, then_stepped, stepped, stops_before}
+use Rattle.mm_debug.specs.Session.{stops_after, Ran, stopped, after_cycle, before_cycle, run_from, ran, answer}
+use Rattle.mm_debug.specs.{Session.{answer_to, dialogue}, Standing.{run_items, GoesOnAfter, StandsFor}}
 use Rattle.mm_debug.proofs.Dialogues.{keeps}
+use Rattle.mm_sched.specs.declared.schedule.Order.TheVariants as order
+use Rattle.mm_debug.specs.declared.stop.StopReason.TheVariants as stop
 
 -- 1. An order issues one item more.
 

@@ -1,8 +1,7 @@
 -- A step issues as many cycles as it asks for, fewer only where the order or the limit has ended.
 use Rattle.std.proofs.Common.{◌≡◌, ℕ, zero, suc, ◌+◌, ◌<◌, ◌≤◌, Option, Some, None, refl, arith}
 use Rattle.mm_model.specs.Run.{after}
-use Rattle.mm_debug.specs.Session.{Session, total_of, next_item, issued, then_stepped, stepped}
-use Rattle.mm_debug.specs.Laws.{StepsIssueCycles}
+use Rattle.mm_debug.specs.{Session.{Session, total_of, next_item, issued, then_stepped, stepped}, Laws.StepsIssueCycles}
 
 -- so many cycles lead from one session to the other, fewer only where there is no next item
 record UpTo (s : Session) (count : ℕ) (t : Session) : Type 0 where

@@ -1,21 +1,15 @@
 -- The next item of a session, and the session after cycles.
-use Rattle.std.proofs.Common.{◌≡◌, inl, inr, ℕ, zero, suc, ◌+◌, ◌<◌, ◌≤◌, Bool, true, false, nat_lt, if◌then◌else◌, List, [], ◌∷◌, map, Option, None, Some, refl, sym, ap, ◌∙◌, arith}
-use Rattle.std.proofs.Props.{props}
-use Rattle.std.proofs.Math.Logic.{∥∥₁_elim}
-use Rattle.std.proofs.lemmas.Bool.Decides.{nat_tests}
-use Rattle.std.specs.List.{AllByRecursion}
-use Rattle.std.specs.Option.{option_or}
-use Rattle.std.proofs.lemmas.Bool.{cases_lt}
-use Rattle.mm_model.specs.Slot.{Slot}
-use Rattle.mm_model.specs.State.{ThreadRow}
-use Rattle.mm_model.specs.Turn.{is_running}
-use Rattle.mm_model.specs.Run.{after, first_running, any_number, next_running}
-use Rattle.mm_model.specs.Fits.{IsSlot, slots_of}
+use Rattle.std.proofs.Common.{◌≡◌, inl, inr, ℕ, zero, suc, ◌+◌, ◌<◌, ◌≤◌, Bool, true, false, nat_lt, if◌then◌else◌}
+use Rattle.std.proofs.Common.{List, [], ◌∷◌, map, Option, None, Some, refl, sym, ap, ◌∙◌, arith}
+use Rattle.std.proofs.{Props.props, Math.Logic.∥∥₁_elim, lemmas.Bool.{cases_lt, Decides.nat_tests}}
+use Rattle.std.specs.{List.AllByRecursion, Option.option_or}
+use Rattle.mm_model.specs.{Slot.Slot, State.ThreadRow, Turn.is_running}
+use Rattle.mm_model.specs.{Run.{after, first_running, any_number, next_running}, Fits.{IsSlot, slots_of}}
 use Rattle.mm_model.proofs.CoreRows.{each_map}
 use Rattle.mm_machine.specs.Validity.{IsValid}
-use Rattle.mm_sched.specs.declared.schedule.Order.TheVariants as order
 use Rattle.mm_debug.specs.Session.{Session, total_of, next_item, issued, then_stepped, stepped}
 use Rattle.mm_sched.specs.Orders.{item_in}
+use Rattle.mm_sched.specs.declared.schedule.Order.TheVariants as order
 
 -- 1. The next item.
 

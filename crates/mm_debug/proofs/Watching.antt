@@ -1,44 +1,26 @@
 -- A cycle stops a run for a watch exactly where it did a Store or a LoadSet on the watched word.
 use Rattle.std.proofs.Common.{◌≡◌, ◌↔◌, ℕ, zero, suc, ◌<◌, Bool, true, false, ◌&&◌, ◌==◌, if◌then◌else◌, ℤ, pos, negsuc}
 use Rattle.std.proofs.Common.{◌+ℤ◌, ◌%◌, ◌⊎◌, inl, inr, List, [], ◌∷◌, length, Option, Some, None, Result, Ok, Err}
-use Rattle.std.proofs.Common.{refl, sym, ap, ◌∙◌, subst, arith}
-use Rattle.std.specs.Prelude.{slice_index_or}
-use Rattle.mm_word.specs.declared.perm.Kind.{Kind}
-use Rattle.mm_word.specs.declared.perm.Kind.TheVariants.{Fetch, Store}
-use Rattle.mm_word.specs.declared.cause.Cause.{Cause}
-use Rattle.mm_word.specs.declared.cause.Cause.TheVariants as cause
-use Rattle.mm_word.specs.declared.word.Pre.{Pre}
-use Rattle.mm_word.specs.declared.word.Word.{Word}
-use Rattle.mm_word.specs.declared.word.Word.TheVariants.{Int, Ptr}
-use Rattle.mm_word.specs.declared.word.Cell.{Cell}
-use Rattle.mm_word.specs.Access.{AccessValue, check_result, touch_at}
-use Rattle.mm_word.specs.Perm.{allows}
-use Rattle.mm_word.specs.Pointer.{Pointer, holds_word}
-use Rattle.mm_word.specs.Word.{word_bits}
-use Rattle.mm_isa.specs.declared.instr.Instr.{Instr}
-use Rattle.mm_isa.specs.declared.instr.Instr.TheVariants.{Ld, St, Map, Unmap}
-use Rattle.mm_model.specs.declared.slot.Pending.{Pending}
-use Rattle.mm_model.specs.declared.step.Tick.TheVariants.{Blocked, Faulted}
-use Rattle.mm_model.specs.Memory.{Memory, cell_at, is_mapped, passes}
-use Rattle.mm_model.specs.Uses.{Use, Accessed, Removed, use_at}
-use Rattle.mm_model.specs.Slot.{Slot, register}
-use Rattle.mm_model.specs.State.{Core, slot_at}
-use Rattle.mm_model.specs.Operands.{addr_operand, value_operand, lacks}
+use Rattle.std.{proofs.Common.{refl, sym, ap, ◌∙◌, subst, arith}, specs.Prelude.{slice_index_or, IfSome}}
+use Rattle.mm_word.specs.declared.{perm.Kind.{Kind, TheVariants.{Fetch, Store}}, cause.Cause.Cause}
+use Rattle.mm_word.specs.declared.word.{Pre.Pre, Word.{Word, TheVariants.{Int, Ptr}}, Cell.Cell}
+use Rattle.mm_word.specs.{Access.{AccessValue, check_result, touch_at}, Perm.allows, Pointer.{Pointer, holds_word}}
+use Rattle.mm_word.{specs.Word.word_bits, proofs.Checked.kind_by}
+use Rattle.mm_isa.specs.declared.instr.Instr.{Instr, TheVariants.{Ld, St, Map, Unmap}}
+use Rattle.mm_model.specs.declared.{slot.Pending.Pending, step.Tick.TheVariants.{Blocked, Faulted}}
+use Rattle.mm_model.specs.{Memory.{Memory, cell_at, is_mapped, passes}, Uses.{Use, Accessed, Removed, use_at}}
+use Rattle.mm_model.specs.{Slot.{Slot, register}, State.{Core, slot_at}, Operands.{addr_operand, value_operand, lacks}}
 use Rattle.mm_model.specs.Ask.{Ask, ask, is_privileged, load_kind, reaching}
 use Rattle.mm_model.specs.Ask.Ask.{Nothing, Refuse, Reach, MapPage, UnmapPage, NextEvent, Room, Serve}
 use Rattle.mm_model.specs.Effect.{Reply, Change, Effect, effect, loaded, stored, delivered}
-use Rattle.mm_model.specs.Effect.Reply.{Refused, Got}
-use Rattle.mm_model.specs.Effect.Effect.{Fault, Block, Deliver, Do}
+use Rattle.mm_model.specs.Effect.{Reply.{Refused, Got}, Effect.{Fault, Block, Deliver, Do}}
 use Rattle.mm_model.specs.Turn.{Turned, reply, reached, removal_use, asked_use, touch_of, is_sync, tick_faulted}
 use Rattle.mm_model.specs.Turn.{faulted, blocked, ended, executed, issued, decoded, instr_in, fetched, aimed, started}
 use Rattle.mm_model.specs.Turn.{idle, arrives, port_of, taken_by_port, taken_by, is_running, turn}
-use Rattle.mm_debug.specs.Breakpoints.{has_watch}
-use Rattle.mm_debug.specs.Session.{is_done, watched_by, watched}
+use Rattle.mm_model.{specs.Counted.writes, proofs.TurnShapes.{Fetches, fetch_uses, fetch_use, started_one, turn_by}}
+use Rattle.mm_debug.specs.{Breakpoints.has_watch, Session.{is_done, watched_by, watched}}
 use Rattle.mm_debug.specs.Laws.{SetsBitAt, WatchesSeeSignals}
-use Rattle.mm_model.specs.Counted.{writes}
-use Rattle.mm_model.proofs.TurnShapes.{Fetches, fetch_uses, fetch_use, started_one, turn_by}
-use Rattle.mm_word.proofs.Checked.{kind_by}
-use Rattle.std.specs.Prelude.{IfSome}
+use Rattle.mm_word.specs.declared.cause.Cause.TheVariants as cause
 
 -- 1. Uses that are a Store or a LoadSet which was done.
 

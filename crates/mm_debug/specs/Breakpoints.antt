@@ -1,10 +1,7 @@
 -- Breaks and watches: lists of up to 64 entries in rising order, all different.
 use Rattle.std.specs.Prelude.{◌≡◌, ℕ, ◌/◌, ◌%◌, ◌≤◌, Bool, true, false, ◌&&◌, ◌==◌, nat_lt, if◌then◌else◌, List, []}
-use Rattle.std.specs.Prelude.{◌∷◌, length, slice_index_or}
-use Rattle.std.specs.List.{list_any, AllByRecursion}
-use Rattle.std.specs.List.Sorted.{IsStrictlySortedBy}
-use Rattle.std.specs.declared.cmp.Ordering.{Ordering}
-use Rattle.std.specs.declared.cmp.Ordering.TheVariants.{Less, Equal, Greater}
+use Rattle.std.specs.{Prelude.{◌∷◌, length, slice_index_or}, List.{list_any, AllByRecursion, Sorted.IsStrictlySortedBy}}
+use Rattle.std.specs.declared.cmp.Ordering.{Ordering, TheVariants.{Less, Equal, Greater}}
 use Rattle.std.specs.Ordering.{nat_cmp, ordering_then}
 use Rattle.mm_debug.specs.declared.breakpoints.Break.{Break}
 

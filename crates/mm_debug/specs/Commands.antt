@@ -1,12 +1,9 @@
 -- The lines of an input, and the command of a line.
 use Rattle.std.specs.Prelude.{ℕ, ◌+◌, ◌*◌, ◌%◌, ◌^◌, Bool, true, false, not, ◌&&◌, ◌||◌, ◌==◌, nat_lt, nat_le}
-use Rattle.std.specs.Prelude.{if◌then◌else◌, List, [], ◌∷◌, codes, Option, Some, None}
-use Rattle.std.specs.Str.{bytes_eq}
+use Rattle.std.specs.{Prelude.{if◌then◌else◌, List, [], ◌∷◌, codes, Option, Some, None}, Str.bytes_eq}
 use Prim.Native.Char.{code}
 use Rattle.mm_model.specs.Limits.{cycle_limit}
-use Rattle.mm_line.specs.declared.token.Token.{Token}
-use Rattle.mm_line.specs.declared.token.Token.TheVariants.{Number}
-use Rattle.mm_line.specs.Tokens.{next_token}
+use Rattle.mm_line.specs.{declared.token.Token.{Token, TheVariants.Number}, Tokens.next_token}
 use Rattle.mm_debug.specs.declared.command.Command.{Command}
 use Rattle.mm_debug.specs.declared.command.Command.TheVariants.{Nothing, Step, Run, Break, Watch, Regs, Mem, Quit, Bad}
 

@@ -1,9 +1,7 @@
 -- Lines that are carried out one after the other, by any handler.
 use Rattle.std.specs.Prelude.{◌≡◌, ℕ, List, [], ◌∷◌, ◌++◌, Option}
 use Rattle.mm_text.specs.Appends.{Buffered, Appends}
-use Rattle.mm_debug.specs.declared.session.Go.{Go}
-use Rattle.mm_debug.specs.declared.session.Go.TheVariants.{More, Quit}
-use Rattle.mm_debug.specs.Session.{Session, Answer}
+use Rattle.mm_debug.specs.{declared.session.Go.{Go, TheVariants.{More, Quit}}, Session.{Session, Answer}}
 
 -- A text was gathered, and a property holds of it.
 pub record AppendsSome {S : Type 0} (taken : S → Option (List ℕ)) (faults : S → ℕ) (old_out new_out : S)

@@ -1,19 +1,13 @@
 -- Laws of sessions.
 use Rattle.std.specs.Prelude.{◌≡◌, ◌↔◌, ℕ, zero, suc, ◌+◌, ◌<◌, ◌≤◌, Bool, true, false, ◌&&◌, if◌then◌else◌, List, []}
-use Rattle.std.specs.Prelude.{◌∷◌, Contains, Option, Some, None}
-use Rattle.std.specs.Option.{option_or}
+use Rattle.std.specs.{Prelude.{◌∷◌, Contains, Option, Some, None}, Option.option_or}
 use Rattle.mm_word.specs.declared.perm.Kind.{Kind}
-use Rattle.mm_model.specs.Image.{Image, start}
-use Rattle.mm_model.specs.Run.{run, turn_of}
-use Rattle.mm_model.specs.Uses.{Use, Accessed}
+use Rattle.mm_model.specs.{Image.{Image, start}, Run.{run, turn_of}, Uses.{Use, Accessed}, Counted.writes}
 use Rattle.mm_sched.specs.declared.schedule.Order.{Order}
-use Rattle.mm_debug.specs.declared.stop.StopReason.{StopReason}
+use Rattle.mm_debug.specs.{declared.stop.StopReason.StopReason, Breakpoints.has_watch}
+use Rattle.mm_debug.specs.Session.{Session, total_of, begun, next_item, stepped, stops_before, stops_after, ran}
+use Rattle.mm_debug.specs.{Session.answer_to, Standing.{StandsFor, run_items}}
 use Rattle.mm_debug.specs.declared.stop.StopReason.TheVariants as stop
-use Rattle.mm_debug.specs.Breakpoints.{has_watch}
-use Rattle.mm_debug.specs.Session.{Session, total_of, begun, next_item, stepped, stops_before, stops_after}
-use Rattle.mm_debug.specs.Session.{ran, answer_to}
-use Rattle.mm_debug.specs.Standing.{StandsFor, run_items}
-use Rattle.mm_model.specs.Counted.{writes}
 
 -- 1. The stops of a run.
 

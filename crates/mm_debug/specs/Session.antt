@@ -1,32 +1,20 @@
 -- The answer of a session to a line, and the session after it.
 use Rattle.std.specs.Prelude.{ℕ, zero, suc, ◌+◌, ◌-◌, ◌*◌, Bool, true, false, not, ◌&&◌, nat_lt, if◌then◌else◌, List}
-use Rattle.std.specs.Prelude.{[], ◌∷◌, ◌++◌, codes, decimal, Option, Some, None}
-use Rattle.std.specs.List.{flat_map, range_with_len}
-use Rattle.mm_word.specs.declared.word.Cell.{Cell}
-use Rattle.mm_word.specs.Access.{AccessValue}
+use Rattle.std.specs.{Prelude.{[], ◌∷◌, ◌++◌, codes, decimal, Option, Some, None}, List.{flat_map, range_with_len}}
+use Rattle.mm_word.specs.{declared.word.Cell.Cell, Access.AccessValue}
 use Rattle.mm_model.specs.declared.step.Step.{Step as StepTaken}
-use Rattle.mm_model.specs.declared.step.Tick.{Tick}
-use Rattle.mm_model.specs.declared.step.Tick.TheVariants.{Idle, Blocked, Did, Faulted, Delivered}
-use Rattle.mm_model.specs.Digits.{hex}
-use Rattle.mm_model.specs.Limits.{cycle_limit}
-use Rattle.mm_model.specs.Lines.{newline, slot_lines, cell_line}
-use Rattle.mm_model.specs.Memory.{Memory, cell_at}
-use Rattle.mm_model.specs.Slot.{Slot}
-use Rattle.mm_model.specs.State.{State, slot_at}
-use Rattle.mm_model.specs.Turn.{is_running}
-use Rattle.mm_model.specs.Run.{turn_of, after}
-use Rattle.mm_sched.specs.declared.schedule.Order.{Order}
-use Rattle.mm_sched.specs.Orders.{item_in, last_after}
+use Rattle.mm_model.specs.declared.step.Tick.{Tick, TheVariants.{Idle, Blocked, Did, Faulted, Delivered}}
+use Rattle.mm_model.specs.{Digits.hex, Limits.cycle_limit, Lines.{newline, slot_lines, cell_line}}
+use Rattle.mm_model.specs.{Memory.{Memory, cell_at}, Slot.Slot, State.{State, slot_at}, Turn.is_running}
+use Rattle.mm_model.specs.{Run.{turn_of, after}, Counted.writes}
+use Rattle.mm_sched.specs.{declared.schedule.Order.Order, Orders.{item_in, last_after}}
 use Rattle.mm_debug.specs.declared.command.Command.{Command}
 use Rattle.mm_debug.specs.declared.command.Command.TheVariants.{Nothing, Step, Run, Break, Watch, Regs, Mem, Quit, Bad}
-use Rattle.mm_debug.specs.declared.breakpoints.Break.{Break as Breakpoint}
-use Rattle.mm_debug.specs.declared.stop.StopReason.{StopReason}
-use Rattle.mm_debug.specs.declared.stop.StopReason.TheVariants as stop
-use Rattle.mm_debug.specs.declared.session.Go.{Go}
-use Rattle.mm_debug.specs.declared.session.Go.TheVariants as go
-use Rattle.mm_debug.specs.Commands.{command_of, lines_of}
+use Rattle.mm_debug.specs.declared.{breakpoints.{Break.{Break as Breakpoint}}, stop.StopReason.StopReason}
+use Rattle.mm_debug.specs.{declared.session.Go.Go, Commands.{command_of, lines_of}}
 use Rattle.mm_debug.specs.Breakpoints.{has_break, has_watch, fits, with_break, with_watch}
-use Rattle.mm_model.specs.Counted.{writes}
+use Rattle.mm_debug.specs.declared.stop.StopReason.TheVariants as stop
+use Rattle.mm_debug.specs.declared.session.Go.TheVariants as go
 
 -- 1. Sessions.
 

@@ -1,8 +1,8 @@
 -- The values of a session and of a point that contracts see.
 use Rattle.mm_mem.specs.declared.memory.Memory.{Ghosts}
 use Rattle.mm_machine.specs.Machine.{state_of}
-use Rattle.mm_debug.specs.Session as model
 use Rattle.mm_debug.specs.declared.session.Session.{Session}
+use Rattle.mm_debug.specs.Session as model
 
 module _ {M : Type 0} {memory : Ghosts M} where
   -- the session's order, the last item of round robin, the state of its machine, and its breaks and watches

@@ -1,13 +1,10 @@
 -- Sessions and points that stand for an image under an order.
 use Rattle.std.specs.Prelude.{◌≡◌, ℕ, ◌≤◌, List, Option, None, ⊤}
-use Rattle.mm_model.specs.Image.{Image, start}
-use Rattle.mm_model.specs.Limits.{cycle_limit}
-use Rattle.mm_model.specs.Run.{run, last_item}
+use Rattle.mm_model.specs.{Image.{Image, start}, Limits.cycle_limit, Run.{run, last_item}}
 use Rattle.mm_machine.specs.Snapshot.{Parts, IsSnapshotOf, CanRestore, restored}
-use Rattle.mm_sched.specs.declared.schedule.Order.{Order}
-use Rattle.mm_sched.specs.declared.schedule.Order.TheVariants as order
-use Rattle.mm_sched.specs.Orders.{items_of}
+use Rattle.mm_sched.specs.{declared.schedule.Order.Order, Orders.items_of}
 use Rattle.mm_debug.specs.Session.{Session, total_of}
+use Rattle.mm_sched.specs.declared.schedule.Order.TheVariants as order
 
 -- the items that an image's run under an order issues, up to a count
 abbrev pub run_items : Image → Order → ℕ → List ℕ

@@ -12,7 +12,7 @@ use crate::stop::StopReason;
 use mm_io::Sink;
 use mm_machine::Machine;
 use mm_mem::{Inspect, Memory};
-use mm_text::{TextBuffer, Piece, put_cell, put_slot};
+use mm_text::{Piece, TextBuffer, put_cell, put_slot};
 
 /// Appends the reply of a `step`: the count of cycles that it issued, and the total.
 pub(crate) fn put_stepped<O: Sink>(reply: &mut TextBuffer, out: &mut O, count: u64, total: u64)

@@ -12,7 +12,7 @@ use mm_io::{Sink, WriteFault};
 use mm_machine::Machine;
 use mm_mem::{Inspect, Memory};
 use mm_sched::{Order, Robin};
-use mm_text::{TextBuffer, Piece};
+use mm_text::{Piece, TextBuffer};
 
 /// Whether another line may follow.
 #[derive(Clone, Copy, PartialEq, Eq)]

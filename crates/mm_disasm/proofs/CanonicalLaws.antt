@@ -1,9 +1,7 @@
 -- No two objects have the same canonical text.
 use Rattle.std.proofs.Common.{ℕ, List, sym, subst}
-use Rattle.mm_asm.specs.Faults.{Means}
-use Rattle.mm_asm.proofs.Texts.{meanings_are_one}
-use Rattle.mm_disasm.specs.Canonical.{canonical}
-use Rattle.mm_disasm.specs.Laws.{CanonicalTextsMeanTheirObjects, CanonicalTextsDiffer}
+use Rattle.mm_asm.{specs.Faults.Means, proofs.Texts.meanings_are_one}
+use Rattle.mm_disasm.specs.{Canonical.canonical, Laws.{CanonicalTextsMeanTheirObjects, CanonicalTextsDiffer}}
 
 -- since each means its object
 pub canonical_texts_differ : CanonicalTextsMeanTheirObjects → CanonicalTextsDiffer

@@ -1,15 +1,10 @@
 -- The draft of the lines of an object.
 use Rattle.std.proofs.Common.{◌≡◌, ℕ, List, [], ◌∷◌, ◌++◌, length, Some, Ok, refl, ap, ◌∙◌, arith, append_assoc}
 use Rattle.std.specs.List.{AllByRecursion}
-use Rattle.mm_draft.specs.Drafts.{Draft, nothing}
-use Rattle.mm_draft.specs.Faults.{lines_from, lines_of, draft_of}
-use Rattle.mm_object.specs.declared.thread.Thread.{Thread}
-use Rattle.mm_object.specs.Objects.{Segment, Object, IsObject}
-use Rattle.mm_disasm.proofs.Saying.{object_lines, segment_lines, thread_lines}
-use Rattle.mm_disasm.proofs.Speaking.{Speaks}
-use Rattle.mm_disasm.proofs.DraftedLines.{spare_read, nothing_read}
-use Rattle.mm_disasm.proofs.DraftedOrder.{ascends_by}
-use Rattle.mm_disasm.proofs.DraftedRelocs.{found_all}
+use Rattle.mm_draft.specs.{Drafts.{Draft, nothing}, Faults.{lines_from, lines_of, draft_of}}
+use Rattle.mm_object.specs.{declared.thread.Thread.Thread, Objects.{Segment, Object, IsObject}}
+use Rattle.mm_disasm.proofs.{Saying.{object_lines, segment_lines, thread_lines}, Speaking.Speaks}
+use Rattle.mm_disasm.proofs.{DraftedLines.{spare_read, nothing_read}, DraftedOrder.ascends_by, DraftedRelocs.found_all}
 use Rattle.mm_disasm.proofs.DraftedSegments.{IsNew, entries_from, AreSegmentsOf, Fit, read_segments}
 use Rattle.mm_disasm.proofs.DraftedThreads.{IsBehind, AreThreadsOf, read_threads}
 

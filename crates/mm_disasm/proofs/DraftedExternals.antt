@@ -1,26 +1,21 @@
 -- The externals of the draft are those of the object, and what its targets come to.
-use Rattle.std.proofs.Common.{◌≡◌, ℕ, zero, suc, ◌+◌, ◌*◌, ◌<◌, true, not, ◌==◌, List, [], ◌∷◌, length, get_or, Option, is_some, refl, sym, ap, ◌∙◌, subst, inl, inr, arith, bytes_eq}
+use Rattle.std.proofs.Common.{◌≡◌, ℕ, zero, suc, ◌+◌, ◌*◌, ◌<◌, true, not, ◌==◌, List, [], ◌∷◌, length, get_or, Option}
+use Rattle.std.proofs.Common.{is_some, refl, sym, ap, ◌∙◌, subst, inl, inr, arith, bytes_eq}
 use Rattle.std.proofs.lemmas.Bool.{eqb-true}
-use Rattle.mm_line.specs.declared.statement.Target as text
-use Rattle.mm_draft.specs.declared.location.Location.{Location}
-use Rattle.mm_draft.specs.Drafts as draft
-use Rattle.mm_draft.specs.Drafts.{Draft}
-use Rattle.mm_object.specs.declared.target.Target.{Target}
-use Rattle.mm_object.specs.Lookups.{name_of_target}
-use Rattle.mm_object.specs.Names.{is_before}
+use Rattle.mm_draft.specs.{declared.location.Location.Location, Drafts.Draft}
+use Rattle.mm_object.specs.{declared.target.Target.Target, Lookups.name_of_target, Names.is_before}
 use Rattle.mm_object.specs.Objects.{Segment, Object, IsObject, is_among, is_target, targets_of}
+use Rattle.mm_object.proofs.Members.{In, each_in, found}
 use Rattle.mm_asm.specs.Names.{Use, Here, meant_by, meant, uses_of, is_external, name_of, externals_of, position_of}
 use Rattle.mm_asm.specs.Meaning.{target_by, target_of}
-use Rattle.mm_object.proofs.Members.{In, each_in, found}
 use Rattle.mm_asm.proofs.Order.{before_all, not_itself, is_same, position_at}
-use Rattle.mm_asm.proofs.ExternalNames.{externals_each, used_among}
-use Rattle.mm_asm.proofs.Targets.{externals_rising}
-use Rattle.mm_disasm.proofs.Saying.{IsTargetOf}
-use Rattle.mm_disasm.proofs.DraftedOrder.{same_items, ascend_all}
-use Rattle.mm_disasm.proofs.DraftedSegments.{AreSegmentsOf}
+use Rattle.mm_asm.proofs.{ExternalNames.{externals_each, used_among}, Targets.externals_rising}
+use Rattle.mm_disasm.proofs.{Saying.IsTargetOf, DraftedOrder.{same_items, ascend_all}, DraftedSegments.AreSegmentsOf}
 use Rattle.mm_disasm.proofs.Drafted.{IsDraftOf}
 use Rattle.mm_disasm.proofs.DraftedNames.{IsOwn, IsForeign, own_or_foreign, foreign_name, own_place, foreign_place}
 use Rattle.mm_disasm.proofs.DraftedUses.{use_target, target_use, target_is}
+use Rattle.mm_line.specs.declared.statement.Target as text
+use Rattle.mm_draft.specs.Drafts as draft
 
 in_at : (names : List (List ℕ)) (name : List ℕ) → In name names → (i : ℕ) × (i < length names) × (name ≡ get_or names i [])
 in_at [] name m = absurd m

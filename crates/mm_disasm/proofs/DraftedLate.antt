@@ -1,36 +1,23 @@
 -- The draft has no late faults.
 use Rattle.std.proofs.Common.{◌≡◌, ℕ, zero, suc, ◌+◌, ◌^◌, ◌<◌, ◌≤◌, Bool, true, false, not, ◌&&◌, nat_le, bytes_eq}
 use Rattle.std.proofs.Common.{if◌then◌else◌, List, [], ◌∷◌, ◌++◌, length, slice_get, Option, Some, None, refl, sym, ap}
-use Rattle.std.proofs.Common.{◌∙◌, subst, inl, inr, arith}
-use Rattle.std.specs.List.{flat_map}
-use Rattle.std.proofs.lemmas.Bool.Decides.{nat_tests}
-use Rattle.std.proofs.Math.Bool.{and-false}
-use Rattle.std.proofs.lemmas.Bool.{lt-leb}
+use Rattle.std.proofs.{Common.{◌∙◌, subst, inl, inr, arith}, lemmas.Bool.{lt-leb, Decides.nat_tests}}
+use Rattle.std.{proofs.Math.Bool.and-false, specs.List.flat_map}
 use Rattle.mm_asm.proofs.FirstSeen.{insert_new}
-use Rattle.mm_line.specs.declared.fault.Fault.TheVariants.{Range, Limit}
-use Rattle.mm_line.specs.declared.statement.Content.{Content}
-use Rattle.mm_line.specs.declared.statement.Content.TheVariants as content
-use Rattle.mm_draft.specs.declared.segment.Word.{Word}
-use Rattle.mm_draft.specs.declared.location.Location.{Location}
-use Rattle.mm_draft.specs.Drafts as draft
-use Rattle.mm_draft.specs.Drafts.{Draft}
-use Rattle.mm_draft.specs.Faults.{fault_if}
-use Rattle.mm_object.specs.declared.item.Item.{Item}
-use Rattle.mm_object.specs.declared.target.Reloc.{Reloc}
-use Rattle.mm_object.specs.Lookups.{reloc_at}
-use Rattle.mm_object.specs.Names.{is_before}
-use Rattle.mm_object.specs.Objects.{Segment, Object, IsObject, is_among, external_limit}
-use Rattle.mm_asm.specs.Names.{Use, Meant, meant_by, uses_of, is_external, name_of, insert_name, with_use, externals_with}
-use Rattle.mm_asm.specs.Faults.{goal_faults, content_faults, in_source, word_failures, goal_failures, is_outside, meant_faults, use_failures, is_too_many, limit_failures, late_failures}
-use Rattle.mm_object.proofs.Members.{In}
-use Rattle.mm_disasm.proofs.Saying.{IsBits, IsContentOf}
-use Rattle.mm_disasm.proofs.DraftedLines.{clear}
-use Rattle.mm_disasm.proofs.DraftedWords.{AreWordsOf}
-use Rattle.mm_disasm.proofs.DraftedSegments.{AreSegmentsOf}
-use Rattle.mm_disasm.proofs.Drafted.{IsDraftOf}
-use Rattle.mm_disasm.proofs.DraftedNames.{own_or_foreign, foreign_place}
-use Rattle.mm_disasm.proofs.DraftedUses.{use_target, target_is}
+use Rattle.mm_asm.specs.Names.{Use, Meant, meant_by, uses_of, is_external, name_of, insert_name, with_use}
+use Rattle.mm_asm.specs.Names.{externals_with}
+use Rattle.mm_asm.specs.Faults.{goal_faults, content_faults, in_source, word_failures, goal_failures, is_outside}
+use Rattle.mm_asm.specs.Faults.{meant_faults, use_failures, is_too_many, limit_failures, late_failures}
+use Rattle.mm_line.specs.declared.{fault.Fault.TheVariants.{Range, Limit}, statement.Content.Content}
+use Rattle.mm_draft.specs.{declared.{segment.Word.Word, location.Location.Location}, Drafts.Draft, Faults.fault_if}
+use Rattle.mm_object.specs.{declared.{item.Item.Item, target.Reloc.Reloc}, Lookups.reloc_at, Names.is_before}
+use Rattle.mm_object.{specs.Objects.{Segment, Object, IsObject, is_among, external_limit}, proofs.Members.In}
+use Rattle.mm_disasm.proofs.{Saying.{IsBits, IsContentOf}, DraftedLines.clear, DraftedWords.AreWordsOf}
+use Rattle.mm_disasm.proofs.{DraftedSegments.AreSegmentsOf, Drafted.IsDraftOf}
+use Rattle.mm_disasm.proofs.{DraftedNames.{own_or_foreign, foreign_place}, DraftedUses.{use_target, target_is}}
 use Rattle.mm_disasm.proofs.DraftedExternals.{externals_same, own_means}
+use Rattle.mm_line.specs.declared.statement.Content.TheVariants as content
+use Rattle.mm_draft.specs.Drafts as draft
 
 none_of_both : {A : Type 0} (xs ys : List A) → xs ≡ [] → ys ≡ [] → xs ++ ys ≡ []
 none_of_both xs ys e f = ap (λ zs. zs ++ ys) e ∙ f

@@ -1,28 +1,20 @@
 -- A line that says something, without a fault behind a draft, adds it to the draft.
-use Rattle.std.proofs.Common.{◌≡◌, ℕ, ◌+◌, Bool, false, nat_le, List, [], ◌∷◌, ◌++◌, length, Some, None, is_some, Result, Ok, refl, ap, ◌∙◌, subst}
-use Rattle.std.specs.Prelude.{is_none}
-use Rattle.mm_line.specs.declared.fault.Fault.{Fault}
-use Rattle.mm_line.specs.declared.fault.Fault.TheVariants as faults
-use Rattle.mm_line.specs.declared.fault.Problem.{Problem}
-use Rattle.mm_line.specs.declared.statement.Statement.{Statement}
-use Rattle.mm_line.specs.declared.statement.Statement.TheVariants as statement
-use Rattle.mm_line.specs.declared.line.Line.{Line}
-use Rattle.mm_line.specs.Tokens.{token_at, next_token}
-use Rattle.mm_line.specs.Statements.{line_of, body_of}
-use Rattle.mm_line.specs.Ranges.{Names, NamesItsClaim}
+use Rattle.std.proofs.Common.{◌≡◌, ℕ, ◌+◌, Bool, false, nat_le, List, [], ◌∷◌, ◌++◌, length, Some, None, is_some}
+use Rattle.std.{proofs.Common.{Result, Ok, refl, ap, ◌∙◌, subst}, specs.Prelude.is_none}
+use Rattle.mm_line.specs.declared.{fault.{Fault.Fault, Problem.Problem}, statement.Statement.Statement, line.Line.Line}
+use Rattle.mm_line.specs.{Tokens.{token_at, next_token}, Statements.{line_of, body_of}, Ranges.{Names, NamesItsClaim}}
 use Rattle.mm_line.proofs.Claims.{line_claims}
 use Rattle.mm_draft.specs.declared.fault.Failure.{Failure}
-use Rattle.mm_draft.specs.Drafts as draft
 use Rattle.mm_draft.specs.Drafts.{Draft, place_of, last, add_segment, add_words, add_register, add_statement, add_line}
-use Rattle.mm_draft.specs.Faults.{fault_if, has_slot, has_register, words_faults}
-use Rattle.mm_draft.specs.Faults.{one_if_pointer, claim_faults, statement_faults, line_faults, first_of, source_of}
-use Rattle.mm_draft.specs.Faults.{step_by, step, ◌then◌, lines_from}
-use Rattle.mm_object.specs.declared.item.Item.{Item}
-use Rattle.mm_object.specs.declared.thread.Value.{Value}
-use Rattle.mm_object.specs.declared.thread.Thread.{Thread}
-use Rattle.mm_object.specs.Objects.{Segment, Object}
-use Rattle.mm_disasm.proofs.Saying.{Says, SaysSpare, SaysBegin, SaysWord, SaysThread, SaysRegister, spare_of, begin_of, word_of, thread_of, register_of}
+use Rattle.mm_draft.specs.Faults.{fault_if, has_slot, has_register, words_faults, one_if_pointer, claim_faults}
+use Rattle.mm_draft.specs.Faults.{statement_faults, line_faults, first_of, source_of, step_by, step, ◌then◌, lines_from}
+use Rattle.mm_object.specs.{declared.{item.Item.Item, thread.{Value.Value, Thread.Thread}}, Objects.{Segment, Object}}
+use Rattle.mm_disasm.proofs.Saying.{Says, SaysSpare, SaysBegin, SaysWord, SaysThread, SaysRegister, spare_of, begin_of}
+use Rattle.mm_disasm.proofs.Saying.{word_of, thread_of, register_of}
 use Rattle.mm_model.specs.Limits.{segment_limit}
+use Rattle.mm_line.specs.declared.fault.Fault.TheVariants as faults
+use Rattle.mm_line.specs.declared.statement.Statement.TheVariants as statement
+use Rattle.mm_draft.specs.Drafts as draft
 
 -- a test that does not hold is no fault
 pub clear : (b : Bool) (fault : Fault) (left : ℕ) → b ≡ false → fault_if b fault left ≡ []

@@ -2,23 +2,18 @@
 use Rattle.std.proofs.Common.{◌≡◌, ◌⊎◌, ℕ, zero, suc, ◌+◌, ◌^◌, ◌<◌, ◌-◌, Bool, true, false, not, nat_lt, if◌then◌else◌}
 use Rattle.std.proofs.Common.{List, [], ◌∷◌, ◌++◌, length, get_or, slice_get, Option, Some, None, bytes_eq, refl, sym}
 use Rattle.std.proofs.Common.{ap, ◌∙◌, inl, inr, arith}
-use Rattle.std.proofs.lemmas.List.{get_or_append_left, get_or-append-add, length-map}
-use Rattle.std.proofs.lemmas.Option.{slice_get_cases}
-use Rattle.std.proofs.lemmas.Bool.{not-true, or_parts, and_parts}
-use Rattle.std.proofs.lemmas.Bool.Decides.{nat_tests}
-use Rattle.std.proofs.lemmas.Slice.Eq.{bytes_eq-Decides}
-use Rattle.mm_object.proofs.Apartness.{turn}
+use Rattle.std.proofs.lemmas.{List.{get_or_append_left, get_or-append-add, length-map}, Option.slice_get_cases}
+use Rattle.std.proofs.lemmas.{Bool.{not-true, or_parts, and_parts, Decides.nat_tests}, Slice.Eq.bytes_eq-Decides}
+use Rattle.mm_object.proofs.{Apartness.turn, Bools.none_at}
+use Rattle.mm_object.specs.{declared.target.Target.Target, Lookups.name_of_target}
+use Rattle.mm_object.specs.Objects.{Segment, Object, IsObject, greatest_log, is_among, are_apart, names_of, is_within}
+use Rattle.mm_object.specs.Objects.{is_target}
+use Rattle.mm_draft.specs.Drafts.{Entry, Draft, place_in, place_of}
+use Rattle.mm_asm.proofs.Order.{same_itself}
+use Rattle.mm_disasm.proofs.{Saying.IsTargetOf, DraftedSegments.{entry_of, entries_from, AreSegmentsOf}}
+use Rattle.mm_disasm.proofs.Drafted.{IsDraftOf}
 use Rattle.mm_line.specs.declared.statement.Target as text
 use Rattle.mm_draft.specs.Drafts as draft
-use Rattle.mm_draft.specs.Drafts.{Entry, Draft, place_in, place_of}
-use Rattle.mm_object.specs.declared.target.Target.{Target}
-use Rattle.mm_object.specs.Lookups.{name_of_target}
-use Rattle.mm_object.specs.Objects.{Segment, Object, IsObject, greatest_log, is_among, are_apart, names_of, is_within, is_target}
-use Rattle.mm_object.proofs.Bools.{none_at}
-use Rattle.mm_asm.proofs.Order.{same_itself}
-use Rattle.mm_disasm.proofs.Saying.{IsTargetOf}
-use Rattle.mm_disasm.proofs.DraftedSegments.{entry_of, entries_from, AreSegmentsOf}
-use Rattle.mm_disasm.proofs.Drafted.{IsDraftOf}
 
 -- 1. Names that stand for the first words of segments.
 

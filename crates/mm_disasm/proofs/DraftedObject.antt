@@ -1,37 +1,26 @@
 -- The draft comes to the object.
 use Rattle.std.proofs.Common.{◌≡◌, ℕ, zero, suc, ◌+◌, ◌<◌, Bool, true, false, ◌==◌, nat_lt, if◌then◌else◌, List, []}
 use Rattle.std.proofs.Common.{◌∷◌, ◌++◌, map, length, slice_get, Option, Some, None, unwrap_or, refl, sym, ap, ◌∙◌}
-use Rattle.std.proofs.Common.{arith}
-use Rattle.std.specs.Option.{option_to_list}
-use Rattle.std.specs.List.{range_with_len, list_all, AllByRecursion}
-use Rattle.std.proofs.lemmas.Bool.{eqb-true, eq-eqb, ne_eqb, and_parts, lt-ltb}
-use Rattle.mm_isa.specs.declared.fields.Fields.{Fields}
-use Rattle.mm_isa.specs.Table.{packed}
-use Rattle.mm_line.specs.declared.name.Mark.{Mark}
-use Rattle.mm_line.specs.declared.statement.Constant.{Constant}
-use Rattle.mm_line.specs.declared.statement.Content.{Content}
-use Rattle.mm_line.specs.declared.statement.Content.TheVariants as content
-use Rattle.mm_draft.specs.declared.segment.Word.{Word}
-use Rattle.mm_draft.specs.declared.thread.Register.{Register}
-use Rattle.mm_draft.specs.Drafts as draft
-use Rattle.mm_draft.specs.Drafts.{Draft}
-use Rattle.mm_object.specs.declared.item.Item.{Item}
-use Rattle.mm_object.specs.declared.target.Reloc.{Reloc}
-use Rattle.mm_object.specs.declared.thread.Value.{Value}
-use Rattle.mm_object.specs.declared.thread.Value.TheVariants as value
-use Rattle.mm_object.specs.declared.thread.Thread.{Thread}
-use Rattle.mm_object.specs.Lookups.{reloc_at}
-use Rattle.mm_object.specs.Objects.{Segment, Object, IsObject, is_target, is_value, is_thread}
-use Rattle.mm_asm.specs.Meaning.{with_goal, bits_of, word_items, segment_of, content_relocs, words_relocs, segments_relocs, value_of, register_value, thread_of, insert_thread, by_slot, object_of}
+use Rattle.std.proofs.{Common.arith, lemmas.Bool.{eqb-true, eq-eqb, ne_eqb, and_parts, lt-ltb}}
+use Rattle.std.specs.{Option.option_to_list, List.{range_with_len, list_all, AllByRecursion}}
+use Rattle.mm_isa.specs.{declared.fields.Fields.Fields, Table.packed}
+use Rattle.mm_line.specs.declared.{name.Mark.Mark, statement.{Constant.Constant, Content.Content}}
+use Rattle.mm_draft.specs.{declared.{segment.Word.Word, thread.Register.Register}, Drafts.Draft}
+use Rattle.mm_object.specs.declared.{item.Item.Item, target.Reloc.Reloc, thread.{Value.Value, Thread.Thread}}
+use Rattle.mm_object.specs.{Lookups.reloc_at, Objects.{Segment, Object, IsObject, is_target, is_value, is_thread}}
+use Rattle.mm_asm.specs.Meaning.{with_goal, bits_of, word_items, segment_of, content_relocs, words_relocs}
+use Rattle.mm_asm.specs.Meaning.{segments_relocs, value_of, register_value, thread_of, insert_thread, by_slot}
+use Rattle.mm_asm.specs.Meaning.{object_of}
 use Rattle.mm_disasm.specs.Canonical.{is_zero}
-use Rattle.mm_disasm.proofs.Saying.{IsConstantOf, IsBits, IsContentOf}
-use Rattle.mm_disasm.proofs.DraftedOrder.{Ascends, ascends_by}
+use Rattle.mm_disasm.proofs.{Saying.{IsConstantOf, IsBits, IsContentOf}, DraftedOrder.{Ascends, ascends_by}}
 use Rattle.mm_disasm.proofs.DraftedRelocs.{found_words, found_segments, found_at, found_all, reloc_target, reloc_stands}
-use Rattle.mm_disasm.proofs.DraftedWords.{AreWordsOf}
-use Rattle.mm_disasm.proofs.DraftedSegments.{AreSegmentsOf}
-use Rattle.mm_disasm.proofs.DraftedThreads.{other_number, IsRegisterOf, RegistersBy, AreRegistersOf, IsThreadOf, AreThreadsOf}
-use Rattle.mm_disasm.proofs.Drafted.{IsDraftOf}
+use Rattle.mm_disasm.proofs.{DraftedWords.AreWordsOf, DraftedSegments.AreSegmentsOf}
+use Rattle.mm_disasm.proofs.DraftedThreads.{other_number, IsRegisterOf, RegistersBy, AreRegistersOf, IsThreadOf}
+use Rattle.mm_disasm.proofs.{DraftedThreads.AreThreadsOf, Drafted.IsDraftOf}
 use Rattle.mm_disasm.proofs.DraftedExternals.{externals_same, target_same}
+use Rattle.mm_line.specs.declared.statement.Content.TheVariants as content
+use Rattle.mm_draft.specs.Drafts as draft
+use Rattle.mm_object.specs.declared.thread.Value.TheVariants as value
 
 module _ (o : Object) (is : IsObject o) (d : Draft) (drafted : IsDraftOf o d) where
   -- 1. Words.

@@ -1,13 +1,9 @@
 -- Lists in an order: two with the same items are the same.
-use Rattle.std.proofs.Common.{◌≡◌, ℕ, suc, ◌+◌, ◌<◌, Bool, true, List, [], ◌∷◌, map, get_or, refl, sym, ap, ◌∙◌, subst, inl, inr, arith}
-use Rattle.std.specs.List.{list_all, AllByRecursion}
-use Rattle.std.specs.List.Sorted.{IsStrictlyIncreasing}
-use Rattle.std.proofs.lemmas.Bool.{and_parts}
-use Rattle.mm_object.specs.Names.{is_before}
-use Rattle.mm_object.specs.Objects.{ascend}
-use Rattle.mm_asm.proofs.Lists.{each_weaker}
-use Rattle.mm_object.proofs.Members.{In, each_in}
-use Rattle.mm_asm.proofs.Order.{before_all}
+use Rattle.std.proofs.Common.{◌≡◌, ℕ, suc, ◌+◌, ◌<◌, Bool, true, List, [], ◌∷◌, map, get_or, refl, sym, ap, ◌∙◌, subst}
+use Rattle.std.proofs.{Common.{inl, inr, arith}, lemmas.Bool.and_parts}
+use Rattle.std.specs.List.{list_all, AllByRecursion, Sorted.IsStrictlyIncreasing}
+use Rattle.mm_object.{specs.{Names.is_before, Objects.ascend}, proofs.Members.{In, each_in}}
+use Rattle.mm_asm.proofs.{Lists.each_weaker, Order.before_all}
 
 -- one item of a list passes what all do
 pub one_passes : {A : Type 0} (p : A → Bool) (xs : List A) (x : A) → list_all p xs ≡ true → In x xs → p x ≡ true

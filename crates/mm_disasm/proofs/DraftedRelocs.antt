@@ -1,17 +1,11 @@
 -- The relocations that are found at the words of an object, one word after the other, are all of them.
 use Rattle.std.proofs.Common.{◌≡◌, ℕ, zero, suc, ◌+◌, ◌*◌, ◌^◌, ◌<◌, ◌≤◌, Bool, true, false, ◌&&◌, ◌==◌, cond, List, []}
 use Rattle.std.proofs.Common.{◌∷◌, ◌++◌, map, length, slice_get, Option, Some, None, refl, sym, ap, ◌∙◌, subst, inl}
-use Rattle.std.proofs.Common.{inr, arith}
-use Rattle.std.specs.Prelude.{find}
-use Rattle.std.specs.Option.{option_to_list}
-use Rattle.std.proofs.lemmas.List.{map-append}
-use Rattle.std.proofs.lemmas.Bool.Decides.{nat_tests}
-use Rattle.std.proofs.lemmas.Bool.{and_parts, eqb-true}
-use Rattle.mm_object.specs.declared.item.Item.{Item}
-use Rattle.mm_object.specs.declared.target.Reloc.{Reloc}
-use Rattle.mm_object.specs.Lookups.{is_at, reloc_at}
-use Rattle.mm_object.specs.Objects.{Segment, Object, IsObject, words_of, place_of, item_of, is_zero, is_target, is_reloc}
-use Rattle.mm_object.proofs.Members.{In, in_left, in_right, in_either}
+use Rattle.std.proofs.{Common.{inr, arith}, lemmas.{List.map-append, Bool.{and_parts, eqb-true, Decides.nat_tests}}}
+use Rattle.std.specs.{Prelude.find, Option.option_to_list}
+use Rattle.mm_object.specs.{declared.{item.Item.Item, target.Reloc.Reloc}, Lookups.{is_at, reloc_at}}
+use Rattle.mm_object.specs.Objects.{Segment, Object, IsObject, words_of, place_of, item_of, is_zero, is_target}
+use Rattle.mm_object.{specs.Objects.is_reloc, proofs.Members.{In, in_left, in_right, in_either}}
 use Rattle.mm_asm.proofs.Relocs.{RisesWithin, lower, higher, in_turn, rises}
 use Rattle.mm_disasm.proofs.DraftedOrder.{one_passes, Ascends, ascends_by, same_items, one_item}
 

@@ -1,21 +1,17 @@
 -- The segments of an object, as their lines are read.
 use Rattle.std.proofs.Common.{◌≡◌, ℕ, ◌+◌, ◌≤◌, Bool, true, false, not, nat_le, if◌then◌else◌, List, [], ◌∷◌, ◌++◌}
 use Rattle.std.proofs.Common.{length, Option, Some, None, is_some, bytes_eq, refl, sym, ap, ◌∙◌, arith, append_assoc}
-use Rattle.std.proofs.Common.{length-append}
+use Rattle.std.proofs.{Common.length-append, lemmas.{List.append-nil, Bool.{not-true, or_parts, and_parts, lt-leb}}}
 use Rattle.std.specs.List.{AllByRecursion}
-use Rattle.std.proofs.lemmas.List.{append-nil}
-use Rattle.std.proofs.lemmas.Bool.{not-true, or_parts, and_parts, lt-leb}
 use Rattle.mm_object.proofs.Apartness.{turn}
-use Rattle.mm_draft.specs.Drafts as draft
-use Rattle.mm_draft.specs.Drafts.{Entry, Draft, place_in, pointers_of}
-use Rattle.mm_draft.specs.Faults.{lines_from}
 use Rattle.mm_object.specs.Objects.{Segment, Object, IsSegment, is_among, are_apart, names_of, words_of}
-use Rattle.mm_disasm.proofs.Saying.{segment_lines, word_lines}
-use Rattle.mm_disasm.proofs.Speaking.{SegmentsSpeak}
-use Rattle.mm_disasm.proofs.DraftedLines.{begin_read}
+use Rattle.mm_draft.specs.{Drafts.{Entry, Draft, place_in, pointers_of}, Faults.lines_from}
+use Rattle.mm_disasm.proofs.{Saying.{segment_lines, word_lines}, Speaking.SegmentsSpeak, DraftedLines.begin_read}
 use Rattle.mm_disasm.proofs.DraftedRelocs.{found_words, found_segments}
-use Rattle.mm_disasm.proofs.DraftedWords.{AreWordsOf, as_many_words, as_many_pointers, words_pushed, pointers_pushed, HasRoom, read_words}
+use Rattle.mm_disasm.proofs.DraftedWords.{AreWordsOf, as_many_words, as_many_pointers, words_pushed, pointers_pushed}
+use Rattle.mm_disasm.proofs.DraftedWords.{HasRoom, read_words}
 use Rattle.mm_model.specs.Limits.{segment_limit, word_limit, reloc_limit}
+use Rattle.mm_draft.specs.Drafts as draft
 
 -- 1. Names.
 

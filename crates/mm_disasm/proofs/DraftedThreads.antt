@@ -1,24 +1,17 @@
 -- The threads of an object, as their lines are read.
-use Rattle.std.proofs.Common.{◌≡◌, ℕ, ◌+◌, ◌<◌, Bool, true, false, ◌==◌, if◌then◌else◌, List, [], ◌∷◌, ◌++◌, Option, refl, sym, ap, ◌∙◌, subst, arith, append_assoc}
-use Rattle.std.specs.List.{list_any, AllByRecursion}
-use Rattle.std.proofs.lemmas.List.{append-nil}
-use Rattle.std.proofs.lemmas.Bool.{ne_eqb, or_from}
-use Rattle.std.specs.Prelude.{is_none}
-use Rattle.mm_draft.specs.declared.thread.Register.{Register}
-use Rattle.mm_draft.specs.Drafts as draft
-use Rattle.mm_draft.specs.Drafts.{Entry, Draft, last, with_register}
+use Rattle.std.proofs.Common.{◌≡◌, ℕ, ◌+◌, ◌<◌, Bool, true, false, ◌==◌, if◌then◌else◌, List, [], ◌∷◌, ◌++◌, Option}
+use Rattle.std.proofs.Common.{refl, sym, ap, ◌∙◌, subst, arith, append_assoc}
+use Rattle.std.proofs.lemmas.{List.append-nil, Bool.{ne_eqb, or_from}}
+use Rattle.std.specs.{List.{list_any, AllByRecursion}, Prelude.is_none}
+use Rattle.mm_draft.specs.{declared.thread.Register.Register, Drafts.{Entry, Draft, last, with_register}}
 use Rattle.mm_draft.specs.Faults.{has_register, source_of, lines_from}
-use Rattle.mm_object.specs.declared.thread.Value.{Value}
-use Rattle.mm_object.specs.declared.thread.Thread.{Thread}
-use Rattle.mm_object.specs.Objects.{Object}
+use Rattle.mm_object.{specs.{declared.thread.{Value.Value, Thread.Thread}, Objects.Object}, proofs.Members.each_more}
 use Rattle.mm_asm.proofs.Lists.{each_weaker}
-use Rattle.mm_object.proofs.Members.{each_more}
 use Rattle.mm_disasm.specs.Canonical.{is_zero}
 use Rattle.mm_disasm.proofs.Saying.{IsTargetOf, IsConstantOf, thread_of, register_of, register_lines, thread_lines}
-use Rattle.mm_disasm.proofs.Speaking.{RegistersSpeak, ThreadSpeaks}
-use Rattle.mm_disasm.proofs.DraftedLines.{thread_read, register_read}
-use Rattle.mm_disasm.proofs.DraftedOrder.{Ascends}
-use Rattle.mm_disasm.proofs.DraftedWords.{change_pushed, last_pushed}
+use Rattle.mm_disasm.proofs.{Speaking.{RegistersSpeak, ThreadSpeaks}, DraftedLines.{thread_read, register_read}}
+use Rattle.mm_disasm.proofs.{DraftedOrder.Ascends, DraftedWords.{change_pushed, last_pushed}}
+use Rattle.mm_draft.specs.Drafts as draft
 
 -- 1. Registers and threads of an object.
 

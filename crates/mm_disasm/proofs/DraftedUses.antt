@@ -1,36 +1,24 @@
 -- The targets of the draft are those of the object.
-use Rattle.std.proofs.Common.{◌≡◌, ℕ, ◌+◌, Bool, true, false, List, [], ◌∷◌, ◌++◌, map, length, Option, Some, None, refl, sym, ap, ◌∙◌, subst, inl, inr}
-use Rattle.std.specs.Option.{option_to_list}
-use Rattle.std.specs.List.{flat_map, list_all}
-use Rattle.std.proofs.lemmas.Bool.{and_parts}
-use Rattle.mm_line.specs.declared.statement.Target as text
-use Rattle.mm_line.specs.declared.statement.Constant.{Constant}
-use Rattle.mm_line.specs.declared.statement.Content.{Content}
-use Rattle.mm_line.specs.declared.statement.Content.TheVariants as content
-use Rattle.mm_draft.specs.declared.source.Source.{Source}
-use Rattle.mm_draft.specs.declared.segment.Word.{Word}
-use Rattle.mm_draft.specs.declared.thread.Register.{Register}
-use Rattle.mm_draft.specs.Drafts as draft
-use Rattle.mm_draft.specs.Drafts.{Draft}
-use Rattle.mm_object.specs.declared.item.Item.{Item}
-use Rattle.mm_object.specs.declared.target.Target.{Target}
-use Rattle.mm_object.specs.declared.target.Reloc.{Reloc}
-use Rattle.mm_object.specs.declared.thread.Value.{Value}
-use Rattle.mm_object.specs.declared.thread.Value.TheVariants as value
-use Rattle.mm_object.specs.declared.thread.Thread.{Thread}
-use Rattle.mm_object.specs.Lookups.{reloc_at}
-use Rattle.mm_object.specs.Objects.{Segment, Object, IsObject, is_target, is_value, is_thread, value_targets, targets_of}
-use Rattle.mm_asm.specs.Names.{Use, constant_uses, content_uses, word_uses, segment_uses, register_uses, thread_uses, uses_of}
-use Rattle.mm_object.proofs.Members.{In, in_left, in_right, in_either, in_map, from_flat}
-use Rattle.mm_asm.proofs.Uses.{in_merge, from_merge}
+use Rattle.std.proofs.Common.{◌≡◌, ℕ, ◌+◌, Bool, true, false, List, [], ◌∷◌, ◌++◌, map, length, Option, Some, None}
+use Rattle.std.proofs.{Common.{refl, sym, ap, ◌∙◌, subst, inl, inr}, lemmas.Bool.and_parts}
+use Rattle.std.specs.{Option.option_to_list, List.{flat_map, list_all}}
+use Rattle.mm_line.specs.declared.statement.{Constant.Constant, Content.Content}
+use Rattle.mm_draft.specs.{declared.{source.Source.Source, segment.Word.Word, thread.Register.Register}, Drafts.Draft}
+use Rattle.mm_object.specs.declared.{item.Item.Item, target.{Target.Target, Reloc.Reloc}}
+use Rattle.mm_object.specs.{declared.thread.{Value.Value, Thread.Thread}, Lookups.reloc_at}
+use Rattle.mm_object.specs.Objects.{Segment, Object, IsObject, is_target, is_value, is_thread, value_targets}
+use Rattle.mm_object.{specs.Objects.targets_of, proofs.Members.{In, in_left, in_right, in_either, in_map, from_flat}}
+use Rattle.mm_asm.specs.Names.{Use, constant_uses, content_uses, word_uses, segment_uses, register_uses, thread_uses}
+use Rattle.mm_asm.{specs.Names.uses_of, proofs.Uses.{in_merge, from_merge}}
 use Rattle.mm_disasm.specs.Canonical.{is_zero}
-use Rattle.mm_disasm.proofs.Saying.{IsTargetOf, IsConstantOf, IsContentOf}
-use Rattle.mm_disasm.proofs.DraftedOrder.{one_passes}
+use Rattle.mm_disasm.proofs.{Saying.{IsTargetOf, IsConstantOf, IsContentOf}, DraftedOrder.one_passes}
 use Rattle.mm_disasm.proofs.DraftedRelocs.{found_words, found_segments, found_all, segments_from, reloc_target}
-use Rattle.mm_disasm.proofs.DraftedWords.{AreWordsOf}
-use Rattle.mm_disasm.proofs.DraftedSegments.{AreSegmentsOf}
-use Rattle.mm_disasm.proofs.DraftedThreads.{RegistersBy, AreRegistersOf, AreThreadsOf}
-use Rattle.mm_disasm.proofs.Drafted.{IsDraftOf}
+use Rattle.mm_disasm.proofs.{DraftedWords.AreWordsOf, DraftedSegments.AreSegmentsOf}
+use Rattle.mm_disasm.proofs.{DraftedThreads.{RegistersBy, AreRegistersOf, AreThreadsOf}, Drafted.IsDraftOf}
+use Rattle.mm_line.specs.declared.statement.Target as text
+use Rattle.mm_line.specs.declared.statement.Content.TheVariants as content
+use Rattle.mm_draft.specs.Drafts as draft
+use Rattle.mm_object.specs.declared.thread.Value.TheVariants as value
 
 module _ (o : Object) where
   -- the targets of an object that are written so, and a target's uses

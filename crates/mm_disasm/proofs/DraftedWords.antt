@@ -1,27 +1,19 @@
 -- The words of a segment, as its lines are read.
-use Rattle.std.proofs.Common.{◌≡◌, ℕ, ◌+◌, ◌≤◌, Bool, nat_lt, ◌||◌, List, [], ◌∷◌, ◌++◌, length, Option, Some, None, refl, sym, ap, ◌∙◌, arith, append_assoc, length-append}
-use Rattle.std.specs.Option.{option_to_list}
-use Rattle.std.proofs.lemmas.List.{append-nil}
-use Rattle.std.proofs.lemmas.Bool.{or_from, le-ltb}
-use Rattle.mm_line.specs.declared.fault.Fault.TheVariants.{Full, Limit}
-use Rattle.mm_line.specs.declared.fault.Problem.{Problem}
-use Rattle.mm_line.specs.declared.statement.Constant.{Constant}
-use Rattle.mm_line.specs.declared.statement.Content.{Content}
-use Rattle.mm_line.specs.declared.statement.Content.TheVariants as content
+use Rattle.std.proofs.Common.{◌≡◌, ℕ, ◌+◌, ◌≤◌, Bool, nat_lt, ◌||◌, List, [], ◌∷◌, ◌++◌, length, Option, Some, None}
+use Rattle.std.proofs.Common.{refl, sym, ap, ◌∙◌, arith, append_assoc, length-append}
+use Rattle.std.{proofs.lemmas.{List.append-nil, Bool.{or_from, le-ltb}}, specs.Option.option_to_list}
+use Rattle.mm_line.specs.declared.fault.{Fault.TheVariants.{Full, Limit}, Problem.Problem}
+use Rattle.mm_line.specs.declared.statement.{Constant.Constant, Content.Content}
 use Rattle.mm_draft.specs.declared.segment.Word.{Word}
-use Rattle.mm_draft.specs.Drafts as draft
 use Rattle.mm_draft.specs.Drafts.{Entry, Draft, last, change_last, with_words, words_of, pointers_among, pointers_of}
 use Rattle.mm_draft.specs.Faults.{room_of, fault_if, words_faults, one_if_pointer, source_of, lines_from}
 use Rattle.mm_draft.proofs.Lasts.{pointers_append}
-use Rattle.mm_object.specs.declared.item.Item.{Item}
-use Rattle.mm_object.specs.declared.target.Reloc.{Reloc}
-use Rattle.mm_object.specs.Lookups.{reloc_at}
-use Rattle.mm_object.specs.Objects.{Object}
-use Rattle.mm_disasm.proofs.Saying.{IsContentOf, word_of, word_lines}
-use Rattle.mm_disasm.proofs.Speaking.{WordsSpeak}
-use Rattle.mm_disasm.proofs.DraftedLines.{clear, word_read}
-use Rattle.mm_disasm.proofs.DraftedRelocs.{found_words}
+use Rattle.mm_object.specs.{declared.{item.Item.Item, target.Reloc.Reloc}, Lookups.reloc_at, Objects.Object}
+use Rattle.mm_disasm.proofs.{Saying.{IsContentOf, word_of, word_lines}, Speaking.WordsSpeak}
+use Rattle.mm_disasm.proofs.{DraftedLines.{clear, word_read}, DraftedRelocs.found_words}
 use Rattle.mm_model.specs.Limits.{word_limit, reloc_limit}
+use Rattle.mm_line.specs.declared.statement.Content.TheVariants as content
+use Rattle.mm_draft.specs.Drafts as draft
 
 -- 1. What is last.
 

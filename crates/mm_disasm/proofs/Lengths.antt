@@ -1,54 +1,38 @@
 -- How long a canonical text is.
-use Rattle.std.proofs.Common.{◌≡◌, ℕ, zero, suc, ◌+◌, ◌*◌, ◌^◌, ◌<◌, ◌≤◌, Bool, true, false, nat_lt}
-use Rattle.std.proofs.Common.{if◌then◌else◌, List, [], ◌∷◌, ◌++◌, length, get_or, codes, Option, Some, None, ℤ, pos}
-use Rattle.std.proofs.Common.{negsuc, FitsSigned, refl, arith, length-append}
-use Rattle.std.specs.Prelude.{decimal}
-use Rattle.std.specs.Int.{w32}
-use Rattle.std.specs.Fmt.{digits, signed_decimal}
-use Rattle.std.specs.List.{flat_map, list_all, AllByRecursion}
-use Rattle.std.proofs.lemmas.Fmt.{length-decimal-le}
-use Rattle.std.proofs.lemmas.Int.{ints}
-use Rattle.std.proofs.lemmas.Bool.Decides.{nat_tests}
-use Rattle.std.proofs.lemmas.Bool.{and_parts}
+use Rattle.std.proofs.Common.{◌≡◌, ℕ, zero, suc, ◌+◌, ◌*◌, ◌^◌, ◌<◌, ◌≤◌, Bool, true, false, nat_lt, if◌then◌else◌}
+use Rattle.std.proofs.Common.{List, [], ◌∷◌, ◌++◌, length, get_or, codes, Option, Some, None, ℤ, pos, negsuc}
+use Rattle.std.proofs.Common.{FitsSigned, refl, arith, length-append}
+use Rattle.std.proofs.lemmas.{Fmt.length-decimal-le, Int.ints, Bool.{and_parts, Decides.nat_tests}}
+use Rattle.std.specs.{Prelude.decimal, Int.w32, Fmt.{digits, signed_decimal}, List.{flat_map, list_all, AllByRecursion}}
 use Rattle.mm_text.proofs.HexDigits.{length-hex}
 use Rattle.mm_word.specs.Perm.{can_fetch}
-use Rattle.mm_word.specs.declared.perm.Perm.{Perm}
-use Rattle.mm_word.specs.declared.perm.Perm.TheVariants.{Ro, Rw, Xu, Xp, Eu, Ep, Key}
-use Rattle.mm_word.specs.declared.word.Pre.{Pre}
-use Rattle.mm_word.specs.declared.word.Pre.TheVariants as pre
-use Rattle.mm_word.specs.declared.word.Post.{Post}
-use Rattle.mm_word.specs.declared.word.Post.TheVariants as post
+use Rattle.mm_word.specs.declared.perm.Perm.{Perm, TheVariants.{Ro, Rw, Xu, Xp, Eu, Ep, Key}}
+use Rattle.mm_word.specs.declared.word.{Pre.Pre, Post.Post}
 use Rattle.mm_isa.specs.declared.instr.AluOp.{AluOp}
-use Rattle.mm_isa.specs.declared.instr.AluOp.TheVariants.{Add, Sub, Mul, Divu, Remu, And, Or, Xor, Shl, Shr, Sar, Eq, Ltu, Lts}
-use Rattle.mm_isa.specs.declared.instr.Instr.{Instr}
-use Rattle.mm_isa.specs.declared.instr.Instr.TheVariants.{Alu}
-use Rattle.mm_isa.specs.declared.instr.How.{How}
-use Rattle.mm_isa.specs.declared.instr.How.TheVariants.{Retry, Skip, Kill}
+use Rattle.mm_isa.specs.declared.instr.AluOp.TheVariants.{Add, Sub, Mul, Divu, Remu, And, Or, Xor, Shl, Shr, Sar, Eq}
+use Rattle.mm_isa.specs.declared.instr.{AluOp.TheVariants.{Ltu, Lts}, Instr.{Instr, TheVariants.Alu}}
+use Rattle.mm_isa.specs.declared.instr.How.{How, TheVariants.{Retry, Skip, Kill}}
 use Rattle.mm_isa.specs.declared.operand.Operand.{Operand}
-use Rattle.mm_isa.specs.declared.operand.Operand.TheVariants as operand
 use Rattle.mm_isa.specs.declared.operand.Operand.TheVariants.{Rd, EvtRd, Ra, Rb, Imm, Distance, RegisterNumber}
-use Rattle.mm_isa.specs.Table.{integer, operation_of, IsInRange, IsInstr}
-use Rattle.mm_isa.specs.Decode.{instr_of}
+use Rattle.mm_isa.specs.{Table.{integer, operation_of, IsInRange, IsInstr}, Decode.instr_of}
 use Rattle.mm_isa.proofs.Spelling.{instr_of-spelled}
-use Rattle.mm_model.specs.Digits.{hex}
-use Rattle.mm_model.specs.Lines.{newline}
-use Rattle.mm_object.specs.declared.item.Item.{Item}
-use Rattle.mm_object.specs.declared.target.Target.{Target}
-use Rattle.mm_object.specs.declared.target.Reloc.{Reloc}
-use Rattle.mm_object.specs.declared.thread.Value.{Value}
-use Rattle.mm_object.specs.declared.thread.Value.TheVariants as value
-use Rattle.mm_object.specs.declared.thread.Thread.{Thread}
-use Rattle.mm_object.specs.Lookups.{name_of_target, reloc_at}
+use Rattle.mm_model.specs.{Digits.hex, Lines.newline}
+use Rattle.mm_object.specs.declared.{item.Item.Item, target.{Target.Target, Reloc.Reloc}}
+use Rattle.mm_object.specs.{declared.thread.{Value.Value, Thread.Thread}, Lookups.{name_of_target, reloc_at}}
 use Rattle.mm_object.specs.Names.{has_form, is_name}
-use Rattle.mm_object.specs.Objects.{Segment, Object, IsObject, IsSegment, words_of, names_of, is_handler, is_target, is_value, is_thread}
-use Rattle.mm_disasm.specs.Canonical.{perm_text, pre_text, post_text, how_text, register_text}
-use Rattle.mm_disasm.specs.Canonical.{short_hex, long_hex, operand_text, further_text, operands_text, operation_text}
-use Rattle.mm_disasm.specs.Canonical.{pointer_text, bits_text, integer_text, word_by, mark_text, word_line, words_text}
-use Rattle.mm_disasm.specs.Canonical.{segment_line, segment_text, segments_text, handler_text, thread_line, value_text}
-use Rattle.mm_disasm.specs.Canonical.{is_zero, register_line, registers_text, thread_text, spare_line, canonical}
+use Rattle.mm_object.specs.Objects.{Segment, Object, IsObject, IsSegment, words_of, names_of, is_handler, is_target}
+use Rattle.mm_object.specs.Objects.{is_value, is_thread}
+use Rattle.mm_disasm.specs.Canonical.{perm_text, pre_text, post_text, how_text, register_text, short_hex, long_hex}
+use Rattle.mm_disasm.specs.Canonical.{operand_text, further_text, operands_text, operation_text, pointer_text}
+use Rattle.mm_disasm.specs.Canonical.{bits_text, integer_text, word_by, mark_text, word_line, words_text, segment_line}
+use Rattle.mm_disasm.specs.Canonical.{segment_text, segments_text, handler_text, thread_line, value_text, is_zero}
+use Rattle.mm_disasm.specs.Canonical.{register_line, registers_text, thread_text, spare_line, canonical}
 use Rattle.mm_disasm.specs.Laws.{CanonicalTextsAreSources}
-use Rattle.mm_disasm.proofs.LinesNames.{IsKnown, known, relocated}
-use Rattle.mm_disasm.proofs.ShortHex.{at_most_five}
+use Rattle.mm_disasm.proofs.{LinesNames.{IsKnown, known, relocated}, ShortHex.at_most_five}
+use Rattle.mm_word.specs.declared.word.Pre.TheVariants as pre
+use Rattle.mm_word.specs.declared.word.Post.TheVariants as post
+use Rattle.mm_isa.specs.declared.operand.Operand.TheVariants as operand
+use Rattle.mm_object.specs.declared.thread.Value.TheVariants as value
 
 -- 1. Words of the language.
 

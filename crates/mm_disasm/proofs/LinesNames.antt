@@ -1,19 +1,14 @@
 -- The names of an object are names of the language, and its targets have them.
 use Rattle.std.proofs.Common.{◌≡◌, ℕ, zero, suc, ◌+◌, ◌^◌, ◌<◌, ◌≤◌, Bool, true, false, cond, ◌||◌, ◌==◌, nat_lt}
 use Rattle.std.proofs.Common.{nat_le, List, [], ◌∷◌, ◌++◌, length, slice_get, Some, ◌⊎◌, inl, inr, refl, subst, arith}
-use Rattle.std.specs.List.{list_all, find, slice_index_or, AllByRecursion}
-use Rattle.std.specs.Char.{is_ascii_alphabetic}
 use Rattle.std.proofs.Math.Pow.{pow_mono}
-use Rattle.std.proofs.lemmas.Bool.{ltb-true, leb-true, and_parts}
-use Rattle.std.proofs.lemmas.Bool.Decides.{nat_tests}
-use Rattle.std.proofs.lemmas.List.{length-append, length-map}
+use Rattle.std.proofs.lemmas.{Bool.{ltb-true, leb-true, and_parts, Decides.nat_tests}, List.{length-append, length-map}}
+use Rattle.std.specs.{List.{list_all, find, slice_index_or, AllByRecursion}, Char.is_ascii_alphabetic}
 use Rattle.mm_line.specs.Forms.{is_name}
-use Rattle.mm_object.specs.declared.target.Target.{Target}
-use Rattle.mm_object.specs.declared.target.Reloc.{Reloc}
-use Rattle.mm_object.specs.Names as names
-use Rattle.mm_object.specs.Lookups.{name_of_target, reloc_at}
+use Rattle.mm_object.specs.{declared.target.{Target.Target, Reloc.Reloc}, Lookups.{name_of_target, reloc_at}}
 use Rattle.mm_object.specs.Objects.{Segment, Object, IsSegment, IsObject, names_of, is_within, is_target, is_reloc}
 use Rattle.mm_disasm.proofs.LinesTokens.{all_append, name_byte}
+use Rattle.mm_object.specs.Names as names
 
 -- 1. Names.
 

@@ -1,35 +1,24 @@
 -- Operands are read as they are written.
-use Rattle.std.proofs.Common.{◌≡◌, ℕ, suc, ◌+◌, ◌-◌, ◌%◌, ◌^◌, ◌<◌, ◌≤◌, true, false, List, [], ◌∷◌, ◌++◌, map, fold, codes, Some, Result, Ok, ℤ, pos, negsuc, FitsSigned, refl, ap, ◌∙◌, arith}
-use Rattle.std.specs.List.{flat_map, AllByRecursion}
-use Rattle.std.specs.Fmt.{signed_decimal}
-use Rattle.std.specs.Int.{w32, cast_signed}
-use Rattle.std.proofs.lemmas.Int.{to_z_pos, to_z-of_z}
-use Rattle.std.proofs.lemmas.List.{append_assoc}
-use Rattle.std.proofs.lemmas.Bool.{le-leb}
-use Rattle.mm_word.specs.declared.word.Pre.{Pre}
-use Rattle.mm_word.specs.declared.word.Pre.TheVariants as pre
-use Rattle.mm_word.specs.declared.word.Post.{Post}
-use Rattle.mm_word.specs.declared.word.Post.TheVariants as post
-use Rattle.mm_isa.specs.declared.instr.How.{How}
-use Rattle.mm_isa.specs.declared.instr.How.TheVariants.{Retry, Skip, Kill}
+use Rattle.std.proofs.Common.{◌≡◌, ℕ, suc, ◌+◌, ◌-◌, ◌%◌, ◌^◌, ◌<◌, ◌≤◌, true, false, List, [], ◌∷◌, ◌++◌, map, fold}
+use Rattle.std.proofs.Common.{codes, Some, Result, Ok, ℤ, pos, negsuc, FitsSigned, refl, ap, ◌∙◌, arith}
+use Rattle.std.proofs.lemmas.{Int.{to_z_pos, to_z-of_z}, List.append_assoc, Bool.le-leb}
+use Rattle.std.specs.{List.{flat_map, AllByRecursion}, Fmt.signed_decimal, Int.{w32, cast_signed}}
+use Rattle.mm_word.specs.declared.word.{Pre.Pre, Post.Post}
+use Rattle.mm_isa.specs.declared.instr.How.{How, TheVariants.{Retry, Skip, Kill}}
 use Rattle.mm_isa.specs.declared.operand.Operand.{Operand}
-use Rattle.mm_isa.specs.declared.operand.Operand.TheVariants as operand
 use Rattle.mm_isa.specs.declared.operand.Operand.TheVariants.{Rd, EvtRd, Ra, Rb, Imm, Distance, RegisterNumber}
-use Rattle.mm_isa.specs.declared.operand.OperandKind.{OperandKind}
-use Rattle.mm_isa.specs.Table.{kind_of, put, IsInRange}
-use Rattle.mm_line.specs.declared.fault.Problem.{Problem}
-use Rattle.mm_line.specs.declared.statement.Code.{Code}
-use Rattle.mm_line.specs.declared.token.Token.{Token}
-use Rattle.mm_line.specs.declared.token.Token.TheVariants.{Name, Number}
-use Rattle.mm_line.specs.Tokens.{Next, next_token}
-use Rattle.mm_line.specs.Forms.{is_name}
-use Rattle.mm_line.specs.TokenPlaces.{written}
-use Rattle.mm_line.specs.Reading.{between, immediate_of, modulo}
+use Rattle.mm_isa.specs.{declared.operand.OperandKind.OperandKind, Table.{kind_of, put, IsInRange}}
+use Rattle.mm_line.specs.declared.{fault.Problem.Problem, statement.Code.Code}
+use Rattle.mm_line.specs.{declared.token.Token.{Token, TheVariants.{Name, Number}}, Tokens.{Next, next_token}}
+use Rattle.mm_line.specs.{Forms.is_name, TokenPlaces.written, Reading.{between, immediate_of, modulo}}
 use Rattle.mm_line.specs.Operands.{with_operand, operand_at, comma_of, more_at, operands_at}
-use Rattle.mm_line.proofs.Registers.{register_again}
-use Rattle.mm_line.proofs.Written.{name_read, comma_read}
-use Rattle.mm_disasm.specs.Canonical.{register_text, pre_text, post_text, how_text, operand_text, further_text, operands_text}
+use Rattle.mm_line.proofs.{Registers.register_again, Written.{name_read, comma_read}}
+use Rattle.mm_disasm.specs.Canonical.{register_text, pre_text, post_text, how_text, operand_text, further_text}
+use Rattle.mm_disasm.specs.Canonical.{operands_text}
 use Rattle.mm_disasm.proofs.LinesTokens.{name_byte, begins, digits_go_on, blank, decimal_token, negative_token}
+use Rattle.mm_word.specs.declared.word.Pre.TheVariants as pre
+use Rattle.mm_word.specs.declared.word.Post.TheVariants as post
+use Rattle.mm_isa.specs.declared.operand.Operand.TheVariants as operand
 
 -- 1. The token of an operand.
 

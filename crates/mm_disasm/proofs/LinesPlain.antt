@@ -1,42 +1,32 @@
 -- No line of a canonical text has a newline in it.
-use Rattle.std.proofs.Common.{◌≡◌, ℕ, suc, ◌+◌, ◌^◌, ◌<◌, ◌≤◌, Bool, true, false, not, ◌==◌, List, [], ◌∷◌, ◌++◌, length, codes, Option, Some, None, ℤ, pos, negsuc, FitsSigned, refl, arith}
-use Rattle.std.specs.List.{list_all, flat_map, AllByRecursion}
-use Rattle.std.specs.Char.{is_digit}
-use Rattle.std.specs.Fmt.{decimal, digits, signed_decimal}
+use Rattle.std.proofs.Common.{◌≡◌, ℕ, suc, ◌+◌, ◌^◌, ◌<◌, ◌≤◌, Bool, true, false, not, ◌==◌, List, [], ◌∷◌, ◌++◌}
+use Rattle.std.proofs.Common.{length, codes, Option, Some, None, ℤ, pos, negsuc, FitsSigned, refl, arith}
+use Rattle.std.proofs.lemmas.Bool.{and_parts, Decides.nat_tests}
+use Rattle.std.specs.{List.{list_all, flat_map, AllByRecursion}, Char.is_digit, Fmt.{decimal, digits, signed_decimal}}
 use Rattle.std.specs.Int.{w32}
-use Rattle.std.proofs.lemmas.Bool.Decides.{nat_tests}
-use Rattle.std.proofs.lemmas.Bool.{and_parts}
 use Rattle.mm_word.specs.declared.perm.Perm.{Perm}
-use Rattle.mm_word.specs.declared.word.Pre.TheVariants as pre
-use Rattle.mm_word.specs.declared.word.Post.TheVariants as post
-use Rattle.mm_isa.specs.declared.instr.How.TheVariants.{Retry, Skip, Kill}
-use Rattle.mm_isa.specs.declared.instr.Instr.{Instr}
+use Rattle.mm_isa.specs.declared.instr.{How.TheVariants.{Retry, Skip, Kill}, Instr.Instr}
 use Rattle.mm_isa.specs.declared.operand.Operand.{Operand}
-use Rattle.mm_isa.specs.declared.operand.Operand.TheVariants as operand
 use Rattle.mm_isa.specs.declared.operand.Operand.TheVariants.{Rd, EvtRd, Ra, Rb, Imm, Distance, RegisterNumber}
-use Rattle.mm_isa.specs.Table.{operation_of, IsInRange, IsInstr}
-use Rattle.mm_isa.specs.Decode.{instr_of}
-use Rattle.mm_isa.proofs.Spelling.{instr_of-spelled}
+use Rattle.mm_isa.{specs.{Table.{operation_of, IsInRange, IsInstr}, Decode.instr_of}, proofs.Spelling.instr_of-spelled}
 use Rattle.mm_model.specs.Digits.{hex}
-use Rattle.mm_line.specs.Forms.{is_name}
-use Rattle.mm_line.proofs.Choices.{either}
-use Rattle.mm_line.proofs.Longest.{other}
-use Rattle.mm_object.specs.declared.item.Item.{Item}
-use Rattle.mm_object.specs.declared.target.Target.{Target}
-use Rattle.mm_object.specs.declared.target.Reloc.{Reloc}
-use Rattle.mm_object.specs.declared.thread.Value.{Value}
-use Rattle.mm_object.specs.declared.thread.Value.TheVariants as value
-use Rattle.mm_object.specs.declared.thread.Thread.{Thread}
-use Rattle.mm_object.specs.Lookups.{name_of_target, reloc_at}
+use Rattle.mm_line.{specs.Forms.is_name, proofs.{Choices.either, Longest.other}}
+use Rattle.mm_object.specs.declared.{item.Item.Item, target.{Target.Target, Reloc.Reloc}}
+use Rattle.mm_object.specs.{declared.thread.{Value.Value, Thread.Thread}, Lookups.{name_of_target, reloc_at}}
 use Rattle.mm_object.specs.Objects.{Segment, Object, IsSegment, IsObject, IsNumber, is_handler, is_value, is_thread}
-use Rattle.mm_disasm.specs.Canonical.{perm_text, short_hex, operand_text, further_text}
-use Rattle.mm_disasm.specs.Canonical.{operands_text, operation_text, pointer_text, bits_text, integer_text, word_by}
-use Rattle.mm_disasm.specs.Canonical.{mark_text, handler_text, value_text, is_zero}
-use Rattle.mm_disasm.proofs.Saying.{spare_of, begin_of, word_of, thread_of, register_of, word_lines, segment_lines, register_lines, thread_lines, object_lines}
+use Rattle.mm_disasm.specs.Canonical.{perm_text, short_hex, operand_text, further_text, operands_text, operation_text}
+use Rattle.mm_disasm.specs.Canonical.{pointer_text, bits_text, integer_text, word_by, mark_text, handler_text}
+use Rattle.mm_disasm.specs.Canonical.{value_text, is_zero}
+use Rattle.mm_disasm.proofs.Saying.{spare_of, begin_of, word_of, thread_of, register_of, word_lines, segment_lines}
+use Rattle.mm_disasm.proofs.Saying.{register_lines, thread_lines, object_lines}
 use Rattle.mm_disasm.proofs.LinesTokens.{all_append, name_byte, begins, all_of, are_decimal, are_hexadecimal, are_short}
 use Rattle.mm_disasm.proofs.LinesNames.{is_word, IsKnown, relocated}
-use Rattle.mm_disasm.proofs.LinesThreads.{perm_named, IsWritten, is_written, thread_values, IsWrittenValue, is_written_value}
-use Rattle.mm_disasm.proofs.LinesWords.{named}
+use Rattle.mm_disasm.proofs.LinesThreads.{perm_named, IsWritten, is_written, thread_values, IsWrittenValue}
+use Rattle.mm_disasm.proofs.{LinesThreads.is_written_value, LinesWords.named}
+use Rattle.mm_word.specs.declared.word.Pre.TheVariants as pre
+use Rattle.mm_word.specs.declared.word.Post.TheVariants as post
+use Rattle.mm_isa.specs.declared.operand.Operand.TheVariants as operand
+use Rattle.mm_object.specs.declared.thread.Value.TheVariants as value
 
 abbrev pub is_plain_byte : ℕ → Bool
 is_plain_byte b = not (b == 10)

@@ -1,30 +1,19 @@
 -- A line of one statement, and the parts that statements share.
-use Rattle.std.proofs.Common.{◌≡◌, ℕ, ◌-◌, ◌^◌, ◌<◌, Bool, true, false, List, [], ◌∷◌, ◌++◌, length, codes, Option, Some, None, Result, Ok, refl, sym, ap, ◌∙◌, arith}
-use Rattle.std.specs.Fmt.{decimal}
-use Rattle.std.proofs.lemmas.List.{append-nil, append_assoc}
-use Rattle.std.proofs.lemmas.Bool.{le-leb}
+use Rattle.std.proofs.Common.{◌≡◌, ℕ, ◌-◌, ◌^◌, ◌<◌, Bool, true, false, List, [], ◌∷◌, ◌++◌, length, codes, Option}
+use Rattle.std.proofs.Common.{Some, None, Result, Ok, refl, sym, ap, ◌∙◌, arith}
+use Rattle.std.{proofs.lemmas.{List.{append-nil, append_assoc}, Bool.le-leb}, specs.Fmt.decimal}
 use Rattle.mm_word.specs.declared.perm.Perm.{Perm}
-use Rattle.mm_line.specs.declared.fault.Problem.{Problem}
-use Rattle.mm_line.specs.declared.statement.Target as text
-use Rattle.mm_line.specs.declared.statement.Statement.{Statement}
-use Rattle.mm_line.specs.declared.line.Body.{Body}
-use Rattle.mm_line.specs.declared.token.Token.{Token}
-use Rattle.mm_line.specs.declared.token.Token.TheVariants.{Name, Directive, Number, Plus}
-use Rattle.mm_line.specs.Tokens.{Next, end, token_at, next_token}
-use Rattle.mm_line.specs.Forms.{is_name}
-use Rattle.mm_line.specs.TokenPlaces.{written}
-use Rattle.mm_line.specs.Words.{look_up, directives}
-use Rattle.mm_line.specs.Reading.{◌>>=◌, number_of}
+use Rattle.mm_line.specs.declared.{fault.Problem.Problem, statement.Statement.Statement, line.Body.Body}
+use Rattle.mm_line.specs.declared.token.Token.{Token, TheVariants.{Name, Directive, Number, Plus}}
+use Rattle.mm_line.specs.{Tokens.{Next, end, token_at, next_token}, Forms.is_name, TokenPlaces.written}
+use Rattle.mm_line.specs.{Words.{look_up, directives}, Reading.{◌>>=◌, number_of}}
 use Rattle.mm_line.specs.Statements.{addend_at, target_at, front_by, statement_of, claim_of, body_of, is_label, line_of}
 use Rattle.mm_line.proofs.Written.{name_read, directive_read, plus_read}
-use Rattle.mm_object.specs.declared.target.Target.{Target}
-use Rattle.mm_object.specs.Lookups.{name_of_target}
-use Rattle.mm_object.specs.Objects.{Object}
+use Rattle.mm_object.specs.{declared.target.Target.Target, Lookups.name_of_target, Objects.Object}
 use Rattle.mm_disasm.specs.Canonical.{perm_text, short_hex, long_hex, pointer_text}
-use Rattle.mm_disasm.proofs.Saying.{Says, IsTargetOf}
-use Rattle.mm_disasm.proofs.LinesTokens.{blank, decimal_token, short_token, long_token}
-use Rattle.mm_disasm.proofs.LinesOperands.{between_again}
-use Rattle.mm_disasm.proofs.LinesNames.{IsWord, IsKnown}
+use Rattle.mm_disasm.proofs.{Saying.{Says, IsTargetOf}, LinesTokens.{blank, decimal_token, short_token, long_token}}
+use Rattle.mm_disasm.proofs.{LinesOperands.between_again, LinesNames.{IsWord, IsKnown}}
+use Rattle.mm_line.specs.declared.statement.Target as text
 
 -- 1. The line.
 

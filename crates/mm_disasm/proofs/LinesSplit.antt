@@ -1,16 +1,15 @@
 -- A canonical text is its lines, each with a newline behind it.
-use Rattle.std.proofs.Common.{◌≡◌, ℕ, ◌+◌, Bool, true, false, ◌==◌, if◌then◌else◌, List, [], ◌∷◌, ◌++◌, refl, sym, ap, ◌∙◌}
+use Rattle.std.proofs.Common.{◌≡◌, ℕ, ◌+◌, Bool, true, false, ◌==◌, if◌then◌else◌, List, [], ◌∷◌, ◌++◌, refl, sym, ap}
+use Rattle.std.proofs.{Common.◌∙◌, lemmas.{Grind.flat_map-append, Bool.{and_parts, not-true}}}
 use Rattle.std.specs.List.{flat_map, slice_split, onto_first}
-use Rattle.std.proofs.lemmas.Grind.{flat_map-append}
-use Rattle.std.proofs.lemmas.Bool.{and_parts, not-true}
 use Rattle.mm_draft.specs.Faults.{lines_of}
 use Rattle.mm_model.specs.Lines.{newline}
-use Rattle.mm_object.specs.declared.item.Item.{Item}
-use Rattle.mm_object.specs.declared.thread.Value.{Value}
-use Rattle.mm_object.specs.declared.thread.Thread.{Thread}
+use Rattle.mm_object.specs.declared.{item.Item.Item, thread.{Value.Value, Thread.Thread}}
 use Rattle.mm_object.specs.Objects.{Segment, Object, IsObject}
-use Rattle.mm_disasm.specs.Canonical.{word_line, words_text, segment_text, segments_text, register_line, registers_text, thread_text, canonical, is_zero}
-use Rattle.mm_disasm.proofs.Saying.{spare_of, begin_of, word_of, thread_of, register_of, word_lines, segment_lines, register_lines, thread_lines, object_lines}
+use Rattle.mm_disasm.specs.Canonical.{word_line, words_text, segment_text, segments_text, register_line, registers_text}
+use Rattle.mm_disasm.specs.Canonical.{thread_text, canonical, is_zero}
+use Rattle.mm_disasm.proofs.Saying.{spare_of, begin_of, word_of, thread_of, register_of, word_lines, segment_lines}
+use Rattle.mm_disasm.proofs.Saying.{register_lines, thread_lines, object_lines}
 use Rattle.mm_disasm.proofs.LinesPlain.{is_plain_byte, is_plain, are_plain, lines_plain}
 
 -- 1. The text of lines.

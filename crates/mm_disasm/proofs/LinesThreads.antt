@@ -1,37 +1,25 @@
 -- What the lines of spare frames, segments, threads and registers say.
-use Rattle.std.proofs.Common.{◌≡◌, ℕ, ◌%◌, ◌^◌, ◌<◌, ◌≤◌, true, false, not, ◌&&◌, ◌==◌, nat_lt, List, [], ◌∷◌, ◌++◌, length, codes, Option, Some, None, Ok, bytes_eq, refl, sym, ap, ◌∙◌, subst, arith}
-use Rattle.std.specs.List.{list_all}
-use Rattle.std.specs.Char.{is_digit}
-use Rattle.std.specs.Fmt.{decimal}
-use Rattle.std.proofs.lemmas.Bool.{ltb-true, and_parts, le-leb, not-true}
-use Rattle.std.proofs.lemmas.List.{append_assoc}
-use Rattle.mm_word.specs.declared.perm.Perm.{Perm}
-use Rattle.mm_word.specs.declared.perm.Perm.TheVariants.{Ro, Rw, Xu, Xp, Eu, Ep, Key}
-use Rattle.mm_word.specs.Perm.{can_fetch}
-use Rattle.mm_line.specs.declared.statement.Constant.{Constant}
-use Rattle.mm_line.specs.declared.statement.Constant.TheVariants.{Integer, Pointer}
-use Rattle.mm_line.specs.declared.statement.Statement.{Statement}
-use Rattle.mm_line.specs.declared.statement.Statement.TheVariants as statement
-use Rattle.mm_line.specs.declared.token.Token.{Token}
-use Rattle.mm_line.specs.declared.token.Token.TheVariants.{Name, Number}
-use Rattle.mm_line.specs.Tokens.{next_token}
-use Rattle.mm_line.specs.Forms.{is_name}
-use Rattle.mm_line.specs.TokenPlaces.{written}
-use Rattle.mm_line.specs.Words.{perms, ip_perms}
-use Rattle.mm_line.specs.Reading.{word_of, handler_of}
-use Rattle.mm_line.specs.Statements.{spare_at, segment_at, thread_at, register_at, constant_at, integer_at, pointer_at, front_by}
-use Rattle.mm_line.proofs.Longest.{other}
-use Rattle.mm_object.specs.declared.target.Target.{Target}
-use Rattle.mm_object.specs.declared.thread.Value.{Value}
-use Rattle.mm_object.specs.declared.thread.Value.TheVariants as value
-use Rattle.mm_object.specs.declared.thread.Thread.{Thread}
-use Rattle.mm_object.specs.Objects.{Segment, Object, IsSegment, IsObject, IsNumber, is_handler, is_target, is_value, is_thread}
+use Rattle.std.proofs.Common.{◌≡◌, ℕ, ◌%◌, ◌^◌, ◌<◌, ◌≤◌, true, false, not, ◌&&◌, ◌==◌, nat_lt, List, [], ◌∷◌, ◌++◌}
+use Rattle.std.proofs.Common.{length, codes, Option, Some, None, Ok, bytes_eq, refl, sym, ap, ◌∙◌, subst, arith}
+use Rattle.std.proofs.lemmas.{Bool.{ltb-true, and_parts, le-leb, not-true}, List.append_assoc}
+use Rattle.std.specs.{List.list_all, Char.is_digit, Fmt.decimal}
+use Rattle.mm_word.specs.{declared.perm.Perm.{Perm, TheVariants.{Ro, Rw, Xu, Xp, Eu, Ep, Key}}, Perm.can_fetch}
+use Rattle.mm_line.specs.declared.statement.{Constant.{Constant, TheVariants.{Integer, Pointer}}, Statement.Statement}
+use Rattle.mm_line.specs.{declared.token.Token.{Token, TheVariants.{Name, Number}}, Tokens.next_token, Forms.is_name}
+use Rattle.mm_line.specs.{TokenPlaces.written, Words.{perms, ip_perms}, Reading.{word_of, handler_of}}
+use Rattle.mm_line.specs.Statements.{spare_at, segment_at, thread_at, register_at, constant_at, integer_at, pointer_at}
+use Rattle.mm_line.{specs.Statements.front_by, proofs.Longest.other}
+use Rattle.mm_object.specs.declared.{target.Target.Target, thread.{Value.Value, Thread.Thread}}
+use Rattle.mm_object.specs.Objects.{Segment, Object, IsSegment, IsObject, IsNumber, is_handler, is_target, is_value}
+use Rattle.mm_object.specs.Objects.{is_thread}
 use Rattle.mm_disasm.specs.Canonical.{perm_text, long_hex, handler_text, pointer_text, value_text}
-use Rattle.mm_disasm.proofs.Saying.{Says, SaysSpare, SaysBegin, SaysThread, SaysRegister, IsConstantOf, spare_of, begin_of, thread_of, register_of}
-use Rattle.mm_disasm.proofs.LinesTokens.{all_of, are_decimal}
-use Rattle.mm_disasm.proofs.LinesOperands.{between_again}
-use Rattle.mm_disasm.proofs.LinesNames.{IsWord, is_word, IsKnown, known}
-use Rattle.mm_disasm.proofs.LinesRead.{directive_says, name_behind, decimal_behind, decimal_last, long_last, target_line, target_in, target_read, same_target, pointer_shape}
+use Rattle.mm_disasm.proofs.Saying.{Says, SaysSpare, SaysBegin, SaysThread, SaysRegister, IsConstantOf, spare_of}
+use Rattle.mm_disasm.proofs.{Saying.{begin_of, thread_of, register_of}, LinesTokens.{all_of, are_decimal}}
+use Rattle.mm_disasm.proofs.{LinesOperands.between_again, LinesNames.{IsWord, is_word, IsKnown, known}}
+use Rattle.mm_disasm.proofs.LinesRead.{directive_says, name_behind, decimal_behind, decimal_last, long_last}
+use Rattle.mm_disasm.proofs.LinesRead.{target_line, target_in, target_read, same_target, pointer_shape}
+use Rattle.mm_line.specs.declared.statement.Statement.TheVariants as statement
+use Rattle.mm_object.specs.declared.thread.Value.TheVariants as value
 
 -- 1. Spare frames.
 

@@ -1,21 +1,14 @@
 -- Numbers are read as they are written.
-use Rattle.std.proofs.Common.{◌≡◌, ℕ, zero, suc, ◌/◌, ◌%◌, ◌^◌, ◌<◌, ◌≤◌, Bool, true, false, ◌&&◌, ◌||◌, ◌==◌, List, [], ◌∷◌, ◌++◌, length, codes, refl, ap, ◌∙◌, arith}
-use Rattle.std.specs.List.{list_all}
-use Rattle.std.specs.Char.{digit_value, is_digit, is_ascii_alphabetic}
-use Rattle.std.specs.Fmt.{decimal, digits, digit_glyph}
-use Rattle.std.specs.Str.Parse.{AllDigits, IsNumeral, digits_value}
-use Rattle.std.proofs.lemmas.Bool.Decides.{nat_tests}
-use Rattle.std.proofs.lemmas.Fmt.{decimal_is_IsNumeral, digits_is_IsNumeral}
-use Rattle.std.proofs.lemmas.List.Folds.{list_all-append}
-use Rattle.std.proofs.lemmas.Int.Digits.{digits_push, digits_value_push}
-use Rattle.std.proofs.lemmas.Str.{digit_value-digit_char}
-use Rattle.std.proofs.lemmas.Bool.{lt-ltb}
-use Rattle.std.proofs.Math.Bool.{or-true}
+use Rattle.std.proofs.Common.{◌≡◌, ℕ, zero, suc, ◌/◌, ◌%◌, ◌^◌, ◌<◌, ◌≤◌, Bool, true, false, ◌&&◌, ◌||◌, ◌==◌, List, []}
+use Rattle.std.proofs.Common.{◌∷◌, ◌++◌, length, codes, refl, ap, ◌∙◌, arith}
+use Rattle.std.proofs.lemmas.{Bool.{lt-ltb, Decides.nat_tests}, Fmt.{decimal_is_IsNumeral, digits_is_IsNumeral}}
+use Rattle.std.proofs.lemmas.{List.Folds.list_all-append, Int.Digits.{digits_push, digits_value_push}}
+use Rattle.std.proofs.{lemmas.Str.digit_value-digit_char, Math.Bool.or-true}
+use Rattle.std.specs.{List.list_all, Char.{digit_value, is_digit, is_ascii_alphabetic}}
+use Rattle.std.specs.{Fmt.{decimal, digits, digit_glyph}, Str.Parse.{AllDigits, IsNumeral, digits_value}}
 use Rattle.mm_model.specs.Digits.{hex}
 use Rattle.mm_text.proofs.HexDigits.{length-hex}
-use Rattle.mm_line.specs.declared.token.Token.TheVariants.{Number}
-use Rattle.mm_line.specs.Tokens.{number, next_token}
-use Rattle.mm_line.specs.TokenPlaces.{written}
+use Rattle.mm_line.specs.{declared.token.Token.TheVariants.Number, Tokens.{number, next_token}, TokenPlaces.written}
 use Rattle.mm_line.proofs.Written.{blank_read, decimal_read, negative_read, hexadecimal_read, or_last}
 use Rattle.mm_disasm.specs.Canonical.{short_hex, long_hex}
 

@@ -1,44 +1,31 @@
 -- What the lines of words say.
-use Rattle.std.proofs.Common.{◌≡◌, ℕ, ◌^◌, ◌<◌, Bool, true, false, List, [], ◌∷◌, ◌++◌, codes, Option, Some, None, Ok, ℤ, pos, negsuc, refl, sym, ap, ◌∙◌}
+use Rattle.std.proofs.Common.{◌≡◌, ℕ, ◌^◌, ◌<◌, Bool, true, false, List, [], ◌∷◌, ◌++◌, codes, Option, Some, None, Ok}
+use Rattle.std.proofs.{Common.{ℤ, pos, negsuc, refl, sym, ap, ◌∙◌}, lemmas.List.append-nil}
 use Rattle.std.specs.List.{AllByRecursion}
-use Rattle.std.proofs.lemmas.List.{append-nil}
-use Rattle.mm_isa.specs.declared.instr.AluOp.{AluOp}
-use Rattle.mm_isa.specs.declared.instr.AluOp.TheVariants.{Add}
-use Rattle.mm_isa.specs.declared.instr.Instr.{Instr}
-use Rattle.mm_isa.specs.declared.instr.Instr.TheVariants.{Halt, Alu}
-use Rattle.mm_isa.specs.declared.operand.Operand.{Operand}
-use Rattle.mm_isa.specs.declared.operand.Operand.TheVariants.{Rd, Imm, Distance}
+use Rattle.mm_isa.specs.declared.instr.{AluOp.{AluOp, TheVariants.Add}, Instr.{Instr, TheVariants.{Halt, Alu}}}
+use Rattle.mm_isa.specs.declared.operand.Operand.{Operand, TheVariants.{Rd, Imm, Distance}}
 use Rattle.mm_isa.specs.Table.{operation_of, kinds_of, fields_of, packed, IsInRange, IsInstr}
 use Rattle.mm_isa.specs.Decode.{Form, form_of, instr_of, operation_named}
-use Rattle.mm_isa.proofs.Forms.{operation_named-name}
-use Rattle.mm_isa.proofs.Spelling.{instr_of-spelled}
+use Rattle.mm_isa.proofs.{Forms.operation_named-name, Spelling.instr_of-spelled}
 use Rattle.mm_line.specs.declared.fault.Fault.{Fault}
-use Rattle.mm_line.specs.declared.fault.Fault.TheVariants as faults
-use Rattle.mm_line.specs.declared.statement.Code.{Code}
-use Rattle.mm_line.specs.declared.statement.Constant.TheVariants.{Integer, Pointer}
-use Rattle.mm_line.specs.declared.statement.Content.{Content}
-use Rattle.mm_line.specs.declared.statement.Content.TheVariants as content
-use Rattle.mm_line.specs.declared.statement.Statement.TheVariants as statement
-use Rattle.mm_line.specs.declared.token.Token.{Token}
-use Rattle.mm_line.specs.declared.token.Token.TheVariants.{Name, Directive}
-use Rattle.mm_line.specs.Tokens.{Next, next_token}
-use Rattle.mm_line.specs.Forms.{is_name}
-use Rattle.mm_line.specs.TokenPlaces.{written}
-use Rattle.mm_line.specs.Words.{look_up, directives}
+use Rattle.mm_line.specs.declared.statement.{Code.Code, Constant.TheVariants.{Integer, Pointer}, Content.Content}
+use Rattle.mm_line.specs.{declared.token.Token.{Token, TheVariants.{Name, Directive}}, Tokens.{Next, next_token}}
+use Rattle.mm_line.specs.{Forms.is_name, TokenPlaces.written, Words.{look_up, directives}}
 use Rattle.mm_line.specs.Operands.{operands_at, bare, code_at}
 use Rattle.mm_line.specs.Statements.{content_by_directive, content_by_operation, content_of, word, front_by, is_label}
 use Rattle.mm_line.proofs.Written.{name_read, directive_read}
-use Rattle.mm_object.specs.declared.item.Item.{Item}
-use Rattle.mm_object.specs.declared.target.Reloc.{Reloc}
-use Rattle.mm_object.specs.Lookups.{reloc_at}
-use Rattle.mm_object.specs.Objects.{Object, IsObject}
-use Rattle.mm_disasm.specs.Canonical.{long_hex, operand_text, operands_text, operation_text, pointer_text, bits_text, integer_text, word_by, mark_text}
+use Rattle.mm_object.specs.{declared.{item.Item.Item, target.Reloc.Reloc}, Lookups.reloc_at, Objects.{Object, IsObject}}
+use Rattle.mm_disasm.specs.Canonical.{long_hex, operand_text, operands_text, operation_text, pointer_text, bits_text}
+use Rattle.mm_disasm.specs.Canonical.{integer_text, word_by, mark_text}
 use Rattle.mm_disasm.proofs.Saying.{Says, SaysWord, IsBits, IsContentOf, word_of}
 use Rattle.mm_disasm.proofs.LinesTokens.{name_byte, begins, blank}
-use Rattle.mm_disasm.proofs.LinesOperands.{signed_token, operand_token, operand_read, further, commas_stop, operands_shape, operands_read}
-use Rattle.mm_disasm.proofs.LinesNames.{IsKnown, relocated}
+use Rattle.mm_disasm.proofs.LinesOperands.{signed_token, operand_token, operand_read, further, commas_stop}
+use Rattle.mm_disasm.proofs.{LinesOperands.{operands_shape, operands_read}, LinesNames.{IsKnown, relocated}}
 use Rattle.mm_disasm.proofs.LinesRead.{opens, says, directive_says, nothing_left, target_in, same_target}
 use Rattle.mm_disasm.proofs.LinesThreads.{pointer_read, integer_read}
+use Rattle.mm_line.specs.declared.fault.Fault.TheVariants as faults
+use Rattle.mm_line.specs.declared.statement.Content.TheVariants as content
+use Rattle.mm_line.specs.declared.statement.Statement.TheVariants as statement
 
 -- 1. What the text of a word begins with, and what it is read as.
 pub record IsContent (line : List ℕ) (P : Content → Type 0) : Type 0 where

@@ -1,11 +1,8 @@
 -- Lines with numbers, gathered one after the other.
-use Rattle.std.proofs.Common.{◌≡◌, ℕ, ◌+◌, ◌<◌, ◌≤◌, List, [], ◌∷◌, ◌++◌, length, take, get_or, Option, refl, sym, ap, ◌∙◌, arith}
-use Rattle.std.proofs.lemmas.List.{take_all}
-use Rattle.mm_text.specs.Appends.{Buffered, Appends}
-use Rattle.mm_text.proofs.Appending.{appends_then, appends_same}
-use Rattle.mm_object.specs.declared.item.Item.{Item}
-use Rattle.mm_object.specs.declared.thread.Value.{Value}
-use Rattle.mm_object.specs.Objects.{Segment, Object}
+use Rattle.std.proofs.Common.{◌≡◌, ℕ, ◌+◌, ◌<◌, ◌≤◌, List, [], ◌∷◌, ◌++◌, length, take, get_or, Option, refl, sym, ap}
+use Rattle.std.proofs.{Common.{◌∙◌, arith}, lemmas.List.take_all}
+use Rattle.mm_text.{specs.Appends.{Buffered, Appends}, proofs.Appending.{appends_then, appends_same}}
+use Rattle.mm_object.specs.{declared.{item.Item.Item, thread.Value.Value}, Objects.{Segment, Object}}
 use Rattle.mm_disasm.specs.Canonical.{word_line, words_text, segment_text, segments_text, register_line, registers_text}
 use Rattle.mm_asm.proofs.Built.{numbered, numbered_more}
 

@@ -1,7 +1,6 @@
 -- Operands with commas between them.
 use Rattle.std.proofs.Common.{◌≡◌, ℕ, ◌-◌, ◌≤◌, List, [], ◌∷◌, ◌++◌, length, take, drop, get_or, codes, ap, ◌∙◌, arith}
-use Rattle.std.specs.List.{flat_map}
-use Rattle.std.proofs.lemmas.List.{take_all}
+use Rattle.std.{proofs.lemmas.List.take_all, specs.List.flat_map}
 use Rattle.mm_isa.specs.declared.operand.Operand.{Operand}
 use Rattle.mm_disasm.specs.Canonical.{operand_text, further_text, operands_text}
 

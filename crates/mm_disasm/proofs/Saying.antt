@@ -1,24 +1,16 @@
 -- The lines of a canonical text, and what each of them says.
 use Rattle.std.specs.Prelude.{◌≡◌, ℕ, ◌+◌, if◌then◌else◌, List, [], ◌∷◌, ◌++◌, codes, decimal, Option, Some, None, Ok}
 use Rattle.mm_isa.specs.Table.{packed}
-use Rattle.mm_line.specs.declared.statement.Target as text
-use Rattle.mm_line.specs.declared.statement.Constant.{Constant}
-use Rattle.mm_line.specs.declared.statement.Constant.TheVariants.{Integer, Pointer}
-use Rattle.mm_line.specs.declared.statement.Content.{Content}
-use Rattle.mm_line.specs.declared.statement.Content.TheVariants as content
-use Rattle.mm_line.specs.declared.statement.Statement.{Statement}
-use Rattle.mm_line.specs.declared.statement.Statement.TheVariants as statement
-use Rattle.mm_line.specs.declared.line.Claim.{Claim}
-use Rattle.mm_line.specs.Statements.{line_of}
-use Rattle.mm_object.specs.declared.item.Item.{Item}
-use Rattle.mm_object.specs.declared.target.Target.{Target}
-use Rattle.mm_object.specs.declared.target.Reloc.{Reloc}
-use Rattle.mm_object.specs.declared.thread.Value.{Value}
-use Rattle.mm_object.specs.declared.thread.Value.TheVariants as value
-use Rattle.mm_object.specs.declared.thread.Thread.{Thread}
-use Rattle.mm_object.specs.Lookups.{name_of_target, reloc_at}
+use Rattle.mm_line.specs.declared.statement.{Constant.{Constant, TheVariants.{Integer, Pointer}}, Content.Content}
+use Rattle.mm_line.specs.{declared.{statement.Statement.Statement, line.Claim.Claim}, Statements.line_of}
+use Rattle.mm_object.specs.declared.{item.Item.Item, target.{Target.Target, Reloc.Reloc}}
+use Rattle.mm_object.specs.{declared.thread.{Value.Value, Thread.Thread}, Lookups.{name_of_target, reloc_at}}
 use Rattle.mm_object.specs.Objects.{Segment, Object}
 use Rattle.mm_disasm.specs.Canonical.{mark_text, word_by, pointer_text, handler_text, value_text, is_zero}
+use Rattle.mm_line.specs.declared.statement.Target as text
+use Rattle.mm_line.specs.declared.statement.Content.TheVariants as content
+use Rattle.mm_line.specs.declared.statement.Statement.TheVariants as statement
+use Rattle.mm_object.specs.declared.thread.Value.TheVariants as value
 
 -- 1. The lines, without their newlines.
 

@@ -1,12 +1,9 @@
 -- What all lines of a canonical text say.
-use Rattle.std.proofs.Common.{◌≡◌, ℕ, ◌+◌, false, List, [], ◌∷◌}
-use Rattle.std.specs.List.{AllByRecursion}
-use Rattle.mm_object.specs.declared.item.Item.{Item}
-use Rattle.mm_object.specs.declared.thread.Value.{Value}
-use Rattle.mm_object.specs.declared.thread.Thread.{Thread}
-use Rattle.mm_object.specs.Objects.{Segment, Object}
+use Rattle.std.{proofs.Common.{◌≡◌, ℕ, ◌+◌, false, List, [], ◌∷◌}, specs.List.AllByRecursion}
+use Rattle.mm_object.specs.{declared.{item.Item.Item, thread.{Value.Value, Thread.Thread}}, Objects.{Segment, Object}}
 use Rattle.mm_disasm.specs.Canonical.{is_zero}
-use Rattle.mm_disasm.proofs.Saying.{Says, SaysSpare, SaysBegin, SaysWord, SaysThread, SaysRegister, spare_of, begin_of, word_of, thread_of, register_of}
+use Rattle.mm_disasm.proofs.Saying.{Says, SaysSpare, SaysBegin, SaysWord, SaysThread, SaysRegister, spare_of, begin_of}
+use Rattle.mm_disasm.proofs.Saying.{word_of, thread_of, register_of}
 
 -- the words of a segment from word k on
 abbrev pub WordsSpeak : Object → (segment k : ℕ) → List Item → Type 0

@@ -1,18 +1,13 @@
 -- All lines of a canonical text say what they are to say, so it means its object.
-use Rattle.std.proofs.Common.{◌≡◌, ℕ, ◌+◌, ◌^◌, ◌<◌, ◌≤◌, true, List, [], ◌∷◌, length, arith}
+use Rattle.std.proofs.{Common.{◌≡◌, ℕ, ◌+◌, ◌^◌, ◌<◌, ◌≤◌, true, List, [], ◌∷◌, length, arith}, lemmas.Bool.and_parts}
 use Rattle.std.specs.List.{list_all, AllByRecursion}
-use Rattle.std.proofs.lemmas.Bool.{and_parts}
-use Rattle.mm_object.specs.declared.item.Item.{Item}
-use Rattle.mm_object.specs.declared.thread.Value.{Value}
-use Rattle.mm_object.specs.declared.thread.Thread.{Thread}
+use Rattle.mm_object.specs.declared.{item.Item.Item, thread.{Value.Value, Thread.Thread}}
 use Rattle.mm_object.specs.Objects.{Segment, Object, IsSegment, IsObject, IsNumber, is_value, is_thread}
-use Rattle.mm_disasm.specs.Canonical.{canonical}
-use Rattle.mm_disasm.specs.Laws.{CanonicalTextsMeanTheirObjects}
+use Rattle.mm_disasm.specs.{Canonical.canonical, Laws.CanonicalTextsMeanTheirObjects}
 use Rattle.mm_disasm.proofs.Speaking.{WordsSpeak, SegmentsSpeak, RegistersSpeak, ThreadSpeaks, Speaks}
 use Rattle.mm_disasm.proofs.LinesSplit.{lines_are}
 use Rattle.mm_disasm.proofs.LinesThreads.{spare_says, begin_says, thread_says, thread_values, register_says}
-use Rattle.mm_disasm.proofs.LinesWords.{word_says}
-use Rattle.mm_disasm.proofs.DraftedMeans.{drafted_means}
+use Rattle.mm_disasm.proofs.{LinesWords.word_says, DraftedMeans.drafted_means}
 
 module _ (o : Object) (is : IsObject o) where
   words_speak : (segment k : ℕ) (items : List Item) → AllByRecursion (λ (item : Item). item.bits < 2 ^ 64) items → WordsSpeak o segment k items

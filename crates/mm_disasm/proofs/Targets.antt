@@ -1,15 +1,12 @@
 -- The targets of relocations and threads.
-use Rattle.std.proofs.Common.{◌≡◌, ℕ, ◌+◌, ◌-◌, ◌<◌, ◌≤◌, Bool, true, false, cond, List, [], ◌∷◌, length, Option, Some, None, sym, ap, ◌∙◌, arith, inl, inr}
-use Rattle.std.specs.Prelude.{find, nat_lt, ◌^◌, slice_get}
-use Rattle.std.specs.List.{list_all}
-use Rattle.std.proofs.Math.Pow.{pow_mono}
-use Rattle.std.proofs.lemmas.Bool.{ltb-true, and_parts}
-use Rattle.std.proofs.lemmas.Option.{slice_get_cases}
-use Rattle.mm_object.specs.declared.target.Target.{Target}
-use Rattle.mm_object.specs.declared.target.Reloc.{Reloc}
-use Rattle.mm_object.specs.declared.thread.Thread.{Thread}
+use Rattle.std.proofs.Common.{◌≡◌, ℕ, ◌+◌, ◌-◌, ◌<◌, ◌≤◌, Bool, true, false, cond, List, [], ◌∷◌, length, Option, Some}
+use Rattle.std.proofs.{Common.{None, sym, ap, ◌∙◌, arith, inl, inr}, Math.Pow.pow_mono}
+use Rattle.std.proofs.lemmas.{Bool.{ltb-true, and_parts}, Option.slice_get_cases}
+use Rattle.std.specs.{Prelude.{find, nat_lt, ◌^◌, slice_get}, List.list_all}
+use Rattle.mm_object.specs.declared.{target.{Target.Target, Reloc.Reloc}, thread.Thread.Thread}
 use Rattle.mm_object.specs.Lookups.{is_at, reloc_at}
-use Rattle.mm_object.specs.Objects.{Segment, Object, IsObject, IsSegment, greatest_log, is_within, is_target, is_zero, item_of, is_reloc, is_value, is_thread}
+use Rattle.mm_object.specs.Objects.{Segment, Object, IsObject, IsSegment, greatest_log, is_within, is_target, is_zero}
+use Rattle.mm_object.specs.Objects.{item_of, is_reloc, is_value, is_thread}
 
 -- a target has a name
 pub index_inside : (segments : List Segment) (externals : ℕ) (t : Target) → is_target segments externals t ≡ true → t.index < length segments + externals

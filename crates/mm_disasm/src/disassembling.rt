@@ -8,7 +8,7 @@ use crate::segments::put_segments;
 use crate::threads::put_threads;
 use mm_io::{Sink, WriteFault};
 use mm_object::Object;
-use mm_text::{TextBuffer, Piece};
+use mm_text::{Piece, TextBuffer};
 
 /// Writes the canonical text of an object. After a [`WriteFault`] the sink has taken a prefix of it.
 pub fn disassemble<O: Sink>(o: &Object, out: &mut O) -> Result<(), WriteFault>

@@ -8,7 +8,7 @@ use crate::names::{how_name, post_name, pre_name};
 use crate::numbers::put_signed;
 use mm_io::Sink;
 use mm_isa::{Operand, Operation, decode};
-use mm_text::{TextBuffer, Piece};
+use mm_text::{Piece, TextBuffer};
 
 /// Appends a word that is no pointer: the instruction that it spells, or else an integer.
 #[tactic(auto, unfolding(crate::specs::Canonical::integer_text))]

@@ -8,7 +8,7 @@ ghost use Rattle.mm_disasm.specs.Canonical.{short_hex};
 
 use itoa::Buffer;
 use mm_io::Sink;
-use mm_text::{TextBuffer, Piece};
+use mm_text::{Piece, TextBuffer};
 
 /// Appends a number in decimal, with a `-` if it is negative.
 pub(crate) fn put_signed<O: Sink>(text: &mut TextBuffer, out: &mut O, number: i32)

@@ -9,7 +9,7 @@ ghost use Rattle.mm_disasm.specs.Canonical.{segment_line, segment_text, segments
 use crate::words::put_words;
 use mm_io::Sink;
 use mm_object::{Object, Segment};
-use mm_text::{TextBuffer, Piece};
+use mm_text::{Piece, TextBuffer};
 
 /// Appends the lines of segments, each with a line for each word.
 pub(crate) fn put_segments<O: Sink>(
@@ -30,7 +30,13 @@ pub(crate) fn put_segments<O: Sink>(
 
 /// Appends the lines of a segment: its own, and those of its words.
 #[tactic(auto, unfolding(crate::specs::Canonical::segment_text))]
-fn put_segment<O: Sink>(text: &mut TextBuffer, out: &mut O, o: &Object, number: u16, segment: &Segment)
+fn put_segment<O: Sink>(
+    text: &mut TextBuffer,
+    out: &mut O,
+    o: &Object,
+    number: u16,
+    segment: &Segment,
+)
     requires object { IsObject o.now }
     requires segment { IsSegment segment.now }
     ensures { Appends O.taken O.faults out.old out.new text.old text.new (segment_text o.now number segment.now) }

@@ -10,10 +10,15 @@ ghost use Rattle.mm_disasm.specs.Canonical.{thread_text, value_text};
 use crate::words::put_pointer;
 use mm_io::Sink;
 use mm_object::{Object, Thread, Value};
-use mm_text::{TextBuffer, Piece};
+use mm_text::{Piece, TextBuffer};
 
 /// Appends the lines of threads, each with the lines of its registers.
-pub(crate) fn put_threads<O: Sink>(text: &mut TextBuffer, out: &mut O, o: &Object, threads: &[Thread])
+pub(crate) fn put_threads<O: Sink>(
+    text: &mut TextBuffer,
+    out: &mut O,
+    o: &Object,
+    threads: &[Thread],
+)
     requires { list_all (is_thread o.now.segments (length o.now.externals)) threads.now ≡ true }
     ensures { Appends O.taken O.faults out.old out.new text.old text.new (flat_map (thread_text o.now) threads.now) }
 {

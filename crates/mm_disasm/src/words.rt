@@ -11,7 +11,7 @@ use crate::names::perm_name;
 use crate::numbers::put_short_hex;
 use mm_io::Sink;
 use mm_object::{Item, Object, Target};
-use mm_text::{TextBuffer, Piece};
+use mm_text::{Piece, TextBuffer};
 use mm_word::Perm;
 
 /// Appends a permission and a target of the object: its name, and the addend.

@@ -1,21 +1,17 @@
 -- A statement without a fault may be added.
-use Rattle.std.proofs.Common.{◌≡◌, ℕ, ◌≤◌, Bool, true, false, ◌||◌, List, [], ◌∷◌, ◌++◌, Option, Some, None, Result, Ok, Err, is_some, refl, sym, ap, ◌∙◌, arith}
-use Rattle.std.specs.Prelude.{nat_lt}
-use Rattle.std.proofs.lemmas.Bool.Decides.{nat_tests}
-use Rattle.std.proofs.lemmas.Bool.{or_parts, ltb-false}
-use Rattle.mm_line.specs.declared.fault.Fault.{Fault}
-use Rattle.mm_line.specs.declared.fault.Problem.{Problem}
-use Rattle.mm_line.specs.declared.statement.Statement.{Statement}
-use Rattle.mm_line.specs.declared.statement.Statement.TheVariants as statement
-use Rattle.mm_line.specs.declared.line.Claim.{Claim}
-use Rattle.mm_line.specs.declared.line.Claim.TheVariants as claims
-use Rattle.mm_line.specs.declared.line.Body.{Body}
+use Rattle.std.proofs.Common.{◌≡◌, ℕ, ◌≤◌, Bool, true, false, ◌||◌, List, [], ◌∷◌, ◌++◌, Option, Some, None, Result, Ok}
+use Rattle.std.proofs.Common.{Err, is_some, refl, sym, ap, ◌∙◌, arith}
+use Rattle.std.{proofs.lemmas.Bool.{or_parts, ltb-false, Decides.nat_tests}, specs.Prelude.nat_lt}
+use Rattle.mm_line.specs.declared.{fault.{Fault.Fault, Problem.Problem}, statement.Statement.Statement}
+use Rattle.mm_line.specs.declared.line.{Claim.Claim, Body.Body}
 use Rattle.mm_line.specs.Ranges.{IsBody, NamesItsClaim, Names, Reads, IsStatement}
 use Rattle.mm_draft.specs.Drafts.{Draft, Segment, last, place_of}
-use Rattle.mm_draft.specs.Faults.{first_of, fault_if, claim_faults, words_faults, statement_faults, reading_faults, body_faults, is_named, one_if_pointer}
-use Rattle.mm_draft.specs.Counts.{HasRoom, MayAdd, MayAddReading}
+use Rattle.mm_draft.specs.Faults.{first_of, fault_if, claim_faults, words_faults, statement_faults, reading_faults}
+use Rattle.mm_draft.specs.{Faults.{body_faults, is_named, one_if_pointer}, Counts.{HasRoom, MayAdd, MayAddReading}}
 use Rattle.mm_draft.proofs.Firsts.{no_fault}
 use Rattle.mm_model.specs.Limits.{word_limit, reloc_limit}
+use Rattle.mm_line.specs.declared.statement.Statement.TheVariants as statement
+use Rattle.mm_line.specs.declared.line.Claim.TheVariants as claims
 
 append_none : (xs ys : List Problem) → xs ++ ys ≡ [] → (xs ≡ []) × (ys ≡ [])
 append_none [] ys e = (refl, e)

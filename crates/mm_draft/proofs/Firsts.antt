@@ -1,11 +1,9 @@
 -- The first fault of two lists of faults.
-use Rattle.std.proofs.Common.{◌≡◌, ℕ, Bool, true, false, if◌then◌else◌, ◌&&◌, ◌||◌, List, [], ◌∷◌, ◌++◌, Option, Some, None, refl, ap, ◌∙◌, arith}
+use Rattle.std.proofs.Common.{◌≡◌, ℕ, Bool, true, false, if◌then◌else◌, ◌&&◌, ◌||◌, List, [], ◌∷◌, ◌++◌, Option, Some}
+use Rattle.std.proofs.{Common.{None, refl, ap, ◌∙◌, arith}, lemmas.Bool.Decides.nat_tests}
 use Rattle.std.specs.Prelude.{nat_lt, ◌==◌}
-use Rattle.std.proofs.lemmas.Bool.Decides.{nat_tests}
-use Rattle.mm_line.specs.declared.fault.Problem.{Problem}
-use Rattle.mm_line.specs.Faults.{number_of}
-use Rattle.mm_draft.specs.Faults.{is_before, lesser, first_of}
-use Rattle.mm_draft.specs.Seen.{first_of_both}
+use Rattle.mm_line.specs.{declared.fault.Problem.Problem, Faults.number_of}
+use Rattle.mm_draft.specs.{Faults.{is_before, lesser, first_of}, Seen.first_of_both}
 
 -- the order, on places and numbers alone
 goes_before : ℕ → ℕ → ℕ → ℕ → Bool

@@ -1,13 +1,11 @@
 -- The first fault of a text is the least of all its faults.
-use Rattle.std.proofs.Common.{◌≡◌, ℕ, ◌+◌, ◌-◌, ◌<◌, ◌≤◌, Bool, true, false, ◌&&◌, ◌||◌, if◌then◌else◌, List, [], ◌∷◌, ◌++◌, map, length, Option, Some, None, refl, sym, ap, ◌∙◌, arith}
-use Rattle.std.specs.Prelude.{nat_lt, ◌==◌, option_map}
-use Rattle.std.proofs.lemmas.Bool.Decides.{nat_tests}
-use Rattle.std.specs.Option.{option_or}
-use Rattle.mm_line.specs.declared.fault.Problem.{Problem}
-use Rattle.mm_line.specs.Faults.{number_of}
-use Rattle.mm_line.specs.Statements.{line_of}
+use Rattle.std.proofs.Common.{◌≡◌, ℕ, ◌+◌, ◌-◌, ◌<◌, ◌≤◌, Bool, true, false, ◌&&◌, ◌||◌, if◌then◌else◌, List, [], ◌∷◌}
+use Rattle.std.proofs.Common.{◌++◌, map, length, Option, Some, None, refl, sym, ap, ◌∙◌, arith}
+use Rattle.std.{proofs.lemmas.Bool.Decides.nat_tests, specs.{Prelude.{nat_lt, ◌==◌, option_map}, Option.option_or}}
+use Rattle.mm_line.specs.{declared.fault.Problem.Problem, Faults.number_of, Statements.line_of}
 use Rattle.mm_draft.specs.Drafts.{Draft, nothing, add_line}
-use Rattle.mm_draft.specs.Faults.{is_before, lesser, first_of, line_faults, source_of, step, step_by, lines_from, lines_of, draft_of, ◌then◌}
+use Rattle.mm_draft.specs.Faults.{is_before, lesser, first_of, line_faults, source_of, step, step_by, lines_from}
+use Rattle.mm_draft.specs.Faults.{lines_of, draft_of, ◌then◌}
 use Rattle.mm_draft.specs.Laws.{Pair, pair_of, all_from, early_faults, precedes, sooner, least, fault_of}
 use Rattle.mm_draft.proofs.Positions.{EachIs, Within, line_within}
 

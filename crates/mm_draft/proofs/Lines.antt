@@ -1,20 +1,14 @@
 -- A line of a text, and the loop over its lines.
-use Rattle.std.proofs.Common.{◌≡◌, ℕ, ◌+◌, ◌<◌, ◌≤◌, List, length, drop, get_or, Option, Some, None, Result, Ok, Err, refl, sym, ap, subst, ◌∙◌, arith}
-use Rattle.std.specs.List.{enumerate_from}
-use Rattle.std.proofs.lemmas.List.{drop_more, drop_all}
-use Rattle.std.proofs.lemmas.List.FromFn.{length-enumerate_from, get_or-enumerate_from}
-use Rattle.std.specs.Option.{option_or}
-use Rattle.mm_line.specs.declared.fault.Problem.{Problem}
-use Rattle.mm_line.specs.declared.line.Line.{Line}
-use Rattle.mm_line.specs.Statements.{line_of}
+use Rattle.std.proofs.Common.{◌≡◌, ℕ, ◌+◌, ◌<◌, ◌≤◌, List, length, drop, get_or, Option, Some, None, Result, Ok, Err}
+use Rattle.std.proofs.Common.{refl, sym, ap, subst, ◌∙◌, arith}
+use Rattle.std.proofs.lemmas.List.{drop_more, drop_all, FromFn.{length-enumerate_from, get_or-enumerate_from}}
+use Rattle.std.specs.{List.enumerate_from, Option.option_or}
+use Rattle.mm_line.specs.{declared.{fault.Problem.Problem, line.Line.Line}, Statements.line_of}
 use Rattle.mm_draft.specs.declared.source.Source.{Source}
-use Rattle.mm_draft.specs.declared.fault.Failure.{Failure}
-use Rattle.mm_draft.specs.declared.fault.DraftError.{DraftError}
-use Rattle.mm_draft.specs.declared.fault.DraftError.TheVariants.{Fault, NoMemory}
+use Rattle.mm_draft.specs.declared.fault.{Failure.Failure, DraftError.{DraftError, TheVariants.{Fault, NoMemory}}}
 use Rattle.mm_draft.specs.Drafts.{Draft, add_line, add_body, add_maybe_label}
-use Rattle.mm_draft.specs.Faults.{first_of, maybe_label_faults, body_faults, source_of, step, step_by, lines_from, ◌then◌}
-use Rattle.mm_draft.specs.Seen.{Leaves, Reads, unless}
-use Rattle.mm_draft.proofs.Positions.{line_first}
+use Rattle.mm_draft.specs.Faults.{first_of, maybe_label_faults, body_faults, source_of, step, step_by, lines_from}
+use Rattle.mm_draft.{specs.{Faults.◌then◌, Seen.{Leaves, Reads, unless}}, proofs.Positions.line_first}
 
 -- 1. A line is its label and then its statement.
 

@@ -1,12 +1,9 @@
 -- A map's entries as the list of names.
 use Rattle.std.proofs.Common.{◌≡◌, ℕ, Bool, true, false, cond, List, [], ◌∷◌, ◌++◌, Some, None, refl, ap}
-use Rattle.std.specs.Str.{bytes_eq}
-use Rattle.std.specs.Map.{lookup}
+use Rattle.std.specs.{Str.bytes_eq, Map.lookup}
 use Rattle.indexmap.specs.IndexMap.{insert_entry}
 use denote.Ref.{Bor}
-use Rattle.mm_draft.specs.declared.location.Location.{Location}
-use Rattle.mm_draft.specs.Drafts.{place_in}
-use Rattle.mm_draft.specs.Counts.{entries_of}
+use Rattle.mm_draft.specs.{declared.location.Location.Location, Drafts.place_in, Counts.entries_of}
 
 -- what the map has under a name is what the name stands for
 pub found : (es : List (Bor (List ℕ) × Location)) (name : List ℕ) → lookup (λ y. bytes_eq name y.now) es ≡ place_in (entries_of es) name

@@ -1,34 +1,22 @@
 -- Where the faults of a line stand.
-use Rattle.std.proofs.Common.{◌≡◌, ℕ, ◌+◌, ◌<◌, ◌≤◌, Bool, true, false, nat_le, if◌then◌else◌, ◌||◌, List, [], ◌∷◌, ◌++◌, length, Option, Some, None, Result, Ok, Err, refl, ◌∙◌, arith}
-use Rattle.std.specs.Prelude.{nat_lt, is_none}
-use Rattle.std.proofs.lemmas.Bool.Decides.{nat_tests}
-use Rattle.std.specs.Option.{option_or}
-use Rattle.mm_line.specs.declared.fault.Fault.{Fault}
-use Rattle.mm_line.specs.declared.fault.Fault.TheVariants as faults
-use Rattle.mm_line.specs.declared.fault.Problem.{Problem}
-use Rattle.mm_line.specs.declared.name.Mark.{Mark}
-use Rattle.mm_line.specs.declared.token.Token.{Token}
-use Rattle.mm_line.specs.declared.token.Token.TheVariants as tokens
-use Rattle.mm_line.specs.declared.statement.Statement.{Statement}
-use Rattle.mm_line.specs.declared.statement.Statement.TheVariants as statement
-use Rattle.mm_line.specs.declared.line.Claim.{Claim}
-use Rattle.mm_line.specs.declared.line.Claim.TheVariants as claims
-use Rattle.mm_line.specs.declared.line.Body.{Body}
-use Rattle.mm_line.specs.declared.line.Line.{Line}
-use Rattle.mm_line.specs.Tokens.{Next, next_token}
-use Rattle.mm_line.specs.Reading.{at, wrong, name_of}
+use Rattle.std.proofs.Common.{◌≡◌, ℕ, ◌+◌, ◌<◌, ◌≤◌, Bool, true, false, nat_le, if◌then◌else◌, ◌||◌, List, [], ◌∷◌}
+use Rattle.std.proofs.Common.{◌++◌, length, Option, Some, None, Result, Ok, Err, refl, ◌∙◌, arith}
+use Rattle.std.{proofs.lemmas.Bool.Decides.nat_tests, specs.{Prelude.{nat_lt, is_none}, Option.option_or}}
+use Rattle.mm_line.specs.declared.{fault.{Fault.Fault, Problem.Problem}, name.Mark.Mark, token.Token.Token}
+use Rattle.mm_line.specs.declared.{statement.Statement.Statement, line.{Claim.Claim, Body.Body, Line.Line}}
+use Rattle.mm_line.specs.{Tokens.{Next, next_token}, Reading.{at, wrong, name_of}}
 use Rattle.mm_line.specs.Statements.{is_label, body_of, line_of, claim_of, statement_of}
 use Rattle.mm_line.specs.Ranges.{IsBody, IsClaim, IsStatement, IsOptionalBody, IsLabel, Reads}
-use Rattle.mm_line.proofs.Choices.{either}
-use Rattle.mm_line.proofs.TokenPlaces.{token_stands}
-use Rattle.mm_line.proofs.StatementRanges.{line_is}
+use Rattle.mm_line.proofs.{Choices.either, TokenPlaces.token_stands, StatementRanges.line_is}
 use Rattle.mm_draft.specs.Drafts.{Draft, Segment, last, words_of, pointers_of, add_maybe_label}
 use Rattle.mm_draft.specs.Faults.{is_before, lesser, first_of, fault_if, claim_faults, words_faults, statement_faults}
-use Rattle.mm_draft.specs.Faults.{reading_faults, body_faults, maybe_label_faults, line_faults, is_named}
-use Rattle.mm_draft.specs.Faults.{room_of}
-use Rattle.mm_draft.specs.Seen.{first_of_both}
-use Rattle.mm_draft.proofs.Firsts.{first_of_append}
+use Rattle.mm_draft.specs.Faults.{reading_faults, body_faults, maybe_label_faults, line_faults, is_named, room_of}
+use Rattle.mm_draft.{specs.Seen.first_of_both, proofs.Firsts.first_of_append}
 use Rattle.mm_model.specs.Limits.{word_limit, reloc_limit}
+use Rattle.mm_line.specs.declared.fault.Fault.TheVariants as faults
+use Rattle.mm_line.specs.declared.token.Token.TheVariants as tokens
+use Rattle.mm_line.specs.declared.statement.Statement.TheVariants as statement
+use Rattle.mm_line.specs.declared.line.Claim.TheVariants as claims
 
 -- 1. All faults of a list are such, so the first one is.
 

@@ -1,12 +1,12 @@
 -- What a draft becomes, over plain variables.
-use Rattle.std.proofs.Common.{◌≡◌, ℕ, zero, suc, ◌+◌, ◌-◌, ◌<◌, true, false, List, [], ◌∷◌, ◌++◌, length, replicate, Option, Some, None, refl, sym, ap, subst, ◌∙◌, arith}
+use Rattle.std.proofs.Common.{◌≡◌, ℕ, zero, suc, ◌+◌, ◌-◌, ◌<◌, true, false, List, [], ◌∷◌, ◌++◌, length, replicate}
+use Rattle.std.proofs.Common.{Option, Some, None, refl, sym, ap, subst, ◌∙◌, arith}
 use Rattle.std.proofs.lemmas.List.{length-replicate, append-nil, replicate_more}
 use Rattle.mm_line.specs.declared.name.Mark.{Mark}
-use Rattle.mm_draft.specs.declared.source.Source.{Source}
-use Rattle.mm_draft.specs.declared.segment.Word.{Word}
-use Rattle.mm_draft.specs.Drafts.{Segment, Thread, Entry, Draft, last, words_so_far, words_of, pointers_of, pointers_among, change_last, with_words, add_label, add_segment, add_words, zero_word}
-use Rattle.mm_draft.specs.Faults.{one_if_pointer}
-use Rattle.mm_draft.specs.Counts.{Counts, HasRoom}
+use Rattle.mm_draft.specs.declared.{source.Source.Source, segment.Word.Word}
+use Rattle.mm_draft.specs.Drafts.{Segment, Thread, Entry, Draft, last, words_so_far, words_of, pointers_of}
+use Rattle.mm_draft.specs.Drafts.{pointers_among, change_last, with_words, add_label, add_segment, add_words, zero_word}
+use Rattle.mm_draft.specs.{Faults.one_if_pointer, Counts.{Counts, HasRoom}}
 use Rattle.mm_draft.proofs.Lasts.{words_more, pointers_more, words_begin, pointers_begin, change_last_none, words_twice}
 
 pub label_step : (v d : Draft) (mark : Mark) (names : List Entry) (bytes : List ℕ) (segment word : ℕ) → v ≡ d

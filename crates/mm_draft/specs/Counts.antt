@@ -1,13 +1,11 @@
 -- The counts that a draft keeps of its segments, and what may be added to it.
 use Rattle.std.specs.Prelude.{◌≡◌, ℕ, ◌+◌, ◌≤◌, List, map, None, Result, Ok, Err}
 use denote.Ref.{Bor}
-use Rattle.mm_line.specs.declared.fault.Problem.{Problem}
-use Rattle.mm_line.specs.declared.statement.Statement.{Statement}
-use Rattle.mm_line.specs.declared.statement.Statement.TheVariants as statement
+use Rattle.mm_line.specs.declared.{fault.Problem.Problem, statement.Statement.Statement}
 use Rattle.mm_draft.specs.declared.location.Location.{Location}
-use Rattle.mm_draft.specs.Drafts.{Segment, Entry, Draft, place_of, words_of, pointers_of}
-use Rattle.mm_draft.specs.Faults.{one_if_pointer}
+use Rattle.mm_draft.specs.{Drafts.{Segment, Entry, Draft, place_of, words_of, pointers_of}, Faults.one_if_pointer}
 use Rattle.mm_model.specs.Limits.{word_limit, reloc_limit}
+use Rattle.mm_line.specs.declared.statement.Statement.TheVariants as statement
 
 -- the entries of a map from names to places
 abbrev pub entries_of : List (Bor (List ℕ) × Location) → List Entry

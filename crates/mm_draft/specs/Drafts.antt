@@ -1,23 +1,15 @@
 -- A draft: what the lines of a text say together, before names are looked up: segments with their words, names, threads
 -- and spare frames. Each line adds its own items to the segment, or the thread, that came last.
 use Rattle.std.specs.Prelude.{ℕ, ◌-◌, ◌+◌, Bool, true, false, if◌then◌else◌, List, [], ◌∷◌, ◌++◌, length, replicate}
-use Rattle.std.specs.Prelude.{Option, Some, None, Result, Ok, Err}
-use Rattle.std.specs.Str.{bytes_eq}
+use Rattle.std.specs.{Prelude.{Option, Some, None, Result, Ok, Err}, Str.bytes_eq}
 use Rattle.mm_word.specs.declared.perm.Perm.{Perm}
 use Rattle.mm_line.specs.declared.name.Mark.{Mark}
-use Rattle.mm_line.specs.declared.statement.Target.{Target}
-use Rattle.mm_line.specs.declared.statement.Constant.TheVariants.{Integer, Pointer}
-use Rattle.mm_line.specs.declared.statement.Content.{Content}
-use Rattle.mm_line.specs.declared.statement.Content.TheVariants as content
-use Rattle.mm_line.specs.declared.statement.Statement.{Statement}
-use Rattle.mm_line.specs.declared.statement.Statement.TheVariants as statement
-use Rattle.mm_line.specs.declared.line.Line.{Line}
-use Rattle.mm_line.specs.declared.line.Body.{Body}
-use Rattle.mm_line.specs.declared.fault.Problem.{Problem}
-use Rattle.mm_draft.specs.declared.source.Source.{Source}
-use Rattle.mm_draft.specs.declared.segment.Word.{Word}
-use Rattle.mm_draft.specs.declared.location.Location.{Location}
+use Rattle.mm_line.specs.declared.statement.{Target.Target, Constant.TheVariants.{Integer, Pointer}, Content.Content}
+use Rattle.mm_line.specs.declared.{statement.Statement.Statement, line.{Line.Line, Body.Body}, fault.Problem.Problem}
+use Rattle.mm_draft.specs.declared.{source.Source.Source, segment.Word.Word, location.Location.Location}
 use Rattle.mm_draft.specs.declared.thread.Register.{Register}
+use Rattle.mm_line.specs.declared.statement.Content.TheVariants as content
+use Rattle.mm_line.specs.declared.statement.Statement.TheVariants as statement
 
 pub record Segment : Type 0 where
   pub name : List ℕ

@@ -3,24 +3,15 @@ use Rattle.std.specs.Prelude.{ℕ, ◌+◌, ◌-◌, ◌^◌, ◌==◌, nat_lt, 
 use Rattle.std.specs.Prelude.{List, [], ◌∷◌, ◌++◌, length, Option, Some, None, is_some, is_none, Result, Ok, Err}
 use Rattle.std.specs.List.{list_any, slice_split}
 use Prim.Native.Char.{code}
-use Rattle.mm_line.specs.declared.fault.Fault.{Fault}
-use Rattle.mm_line.specs.declared.fault.Fault.TheVariants.{Twice, Place, Full, Limit}
-use Rattle.mm_line.specs.declared.fault.Problem.{Problem}
-use Rattle.mm_line.specs.Faults.{number_of}
-use Rattle.mm_line.specs.declared.name.Mark.{Mark}
-use Rattle.mm_line.specs.declared.statement.Content.{Content}
-use Rattle.mm_line.specs.declared.statement.Statement.{Statement}
-use Rattle.mm_line.specs.declared.statement.Statement.TheVariants as statement
-use Rattle.mm_line.specs.declared.line.Claim.{Claim}
-use Rattle.mm_line.specs.declared.line.Claim.TheVariants as claims
-use Rattle.mm_line.specs.declared.line.Body.{Body}
-use Rattle.mm_line.specs.declared.line.Line.{Line}
-use Rattle.mm_line.specs.Statements.{line_of}
-use Rattle.mm_draft.specs.declared.source.Source.{Source}
-use Rattle.mm_draft.specs.declared.fault.Failure.{Failure}
+use Rattle.mm_line.specs.declared.fault.{Fault.{Fault, TheVariants.{Twice, Place, Full, Limit}}, Problem.Problem}
+use Rattle.mm_line.specs.declared.{name.Mark.Mark, statement.{Content.Content, Statement.Statement}}
+use Rattle.mm_line.specs.{declared.line.{Claim.Claim, Body.Body, Line.Line}, Faults.number_of, Statements.line_of}
+use Rattle.mm_draft.specs.declared.{source.Source.Source, fault.Failure.Failure}
 use Rattle.mm_draft.specs.Drafts.{Segment, Thread, Draft, nothing, place_of, last, words_of, pointers_of, is_pointer}
 use Rattle.mm_draft.specs.Drafts.{add_maybe_label, add_line}
 use Rattle.mm_model.specs.Limits.{segment_limit, word_limit, reloc_limit}
+use Rattle.mm_line.specs.declared.statement.Statement.TheVariants as statement
+use Rattle.mm_line.specs.declared.line.Claim.TheVariants as claims
 
 -- the count of words that a segment of this size has room for
 abbrev pub room_of : Segment → ℕ

@@ -1,11 +1,8 @@
 -- What stops the reading of a text is the least of its early faults.
 use Rattle.std.specs.Prelude.{◌≡◌, ℕ, ◌+◌, ◌-◌, ◌==◌, nat_lt, Bool, ◌&&◌, ◌||◌, if◌then◌else◌, List, [], ◌∷◌, ◌++◌, map}
 use Rattle.std.specs.Prelude.{length, Option, Some, None, Result, Ok, Err}
-use Rattle.mm_line.specs.declared.fault.Problem.{Problem}
-use Rattle.mm_line.specs.Faults.{number_of}
-use Rattle.mm_line.specs.Statements.{line_of}
-use Rattle.mm_draft.specs.Drafts.{Draft, nothing, add_line}
-use Rattle.mm_draft.specs.declared.fault.Failure.{Failure}
+use Rattle.mm_line.specs.{declared.fault.Problem.Problem, Faults.number_of, Statements.line_of}
+use Rattle.mm_draft.specs.{Drafts.{Draft, nothing, add_line}, declared.fault.Failure.Failure}
 use Rattle.mm_draft.specs.Faults.{source_of, line_faults, lines_of, draft_of}
 
 -- a place of a text, counted from 1 in lines and bytes, and the number of a fault there

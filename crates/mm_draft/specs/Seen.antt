@@ -2,11 +2,8 @@
 use Rattle.std.specs.Prelude.{◌≡◌, Result, Ok, Err, Option, Some, None}
 use Rattle.mm_line.specs.declared.fault.Problem.{Problem}
 use Rattle.mm_draft.specs.declared.source.Source.{Source}
-use Rattle.mm_draft.specs.declared.fault.Failure.{Failure}
-use Rattle.mm_draft.specs.declared.fault.DraftError.{DraftError}
-use Rattle.mm_draft.specs.declared.fault.DraftError.TheVariants.{Fault, NoMemory}
-use Rattle.mm_draft.specs.Drafts.{Draft}
-use Rattle.mm_draft.specs.Faults.{lesser}
+use Rattle.mm_draft.specs.declared.fault.{Failure.Failure, DraftError.{DraftError, TheVariants.{Fault, NoMemory}}}
+use Rattle.mm_draft.specs.{Drafts.Draft, Faults.lesser}
 
 -- the draft that was read, or its fault, is the specified one. Nothing is said if memory ran out
 abbrev pub Reads : Result Draft DraftError → Result Draft Failure → Type 0

@@ -1,15 +1,12 @@
 -- Schedules, computed.
-use Rattle.std.proofs.Common.{◌≡◌, ◌≢◌, ℕ, ◌+◌, ◌≤◌, List, [], ◌∷◌, ◌++◌, length, codes, decimal, refl, sym, ap, ◌∙◌, arith, inl, inr}
-use Rattle.std.specs.Prelude.{replicate}
-use Rattle.std.specs.Fmt.{digits}
-use Rattle.std.proofs.lemmas.List.{length-append, length-replicate}
-use Rattle.mm_model.specs.Words.{runs_of, no_word, word}
-use Rattle.mm_model.specs.Schedule.{IsItem, SaysItems, FaultsAt, only}
+use Rattle.std.proofs.Common.{◌≡◌, ◌≢◌, ℕ, ◌+◌, ◌≤◌, List, [], ◌∷◌, ◌++◌, length, codes, decimal, refl, sym, ap, ◌∙◌}
+use Rattle.std.proofs.{Common.{arith, inl, inr}, lemmas.List.{length-append, length-replicate}}
+use Rattle.std.specs.{Prelude.replicate, Fmt.digits}
+use Rattle.mm_model.specs.{Words.{runs_of, no_word, word}, Schedule.{IsItem, SaysItems, FaultsAt, only}}
 use Rattle.mm_model.proofs.ScheduleWords.{says_copies}
 use Rattle.mm_examples.specs.WorkedSchedules.{MeansItems, MeansNothing, MeansAbsentSlots, SkipsComments, CountsTooMany}
 use Rattle.mm_examples.specs.WorkedSchedules.{ListsTooMany, CountsNone, LeadsWithZero, KeepsOneGroup, KeepsIdleItems}
-use Rattle.mm_examples.specs.WorkedSchedules.{KeepsPorts}
-use Rattle.mm_examples.proofs.Items.{plain_item, counted_item, value_is}
+use Rattle.mm_examples.{specs.WorkedSchedules.KeepsPorts, proofs.Items.{plain_item, counted_item, value_is}}
 
 -- a number alone
 alone : (n : ℕ) (text : List ℕ) → n ≤ 255 → text ≡ decimal n → SaysItems text (n ∷ [])

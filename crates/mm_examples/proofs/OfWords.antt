@@ -1,7 +1,6 @@
 -- Words, computed.
 use Rattle.std.proofs.Common.{refl}
-use Rattle.mm_isa.specs.Table.{packed}
-use Rattle.mm_isa.specs.Decode.{fields_in, rows, row_of, instr_of}
+use Rattle.mm_isa.specs.{Table.packed, Decode.{fields_in, rows, row_of, instr_of}}
 use Rattle.mm_examples.specs.WorkedWords.{MakesPointers, MakesNone, Moves, MovesFromTheBase, Restricts, Shortens}
 use Rattle.mm_examples.specs.WorkedWords.{Advances, JumpsTo, Accesses, IntegersAreNoPointers, ReadsWords}
 use Rattle.mm_examples.specs.WorkedWords.{ReadsArithmetic, ReadsNone, Calculates}

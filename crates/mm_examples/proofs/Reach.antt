@@ -1,22 +1,17 @@
 -- What groups of worked examples can touch and write.
-use Rattle.std.proofs.Common.{◌≡◌, ℕ, zero, suc, ◌%◌, ◌⊎◌, inl, inr, Bool, true, false, ◌&&◌, ◌==◌, cond, List, [], ◌∷◌, refl, sym, subst, ◌∙◌, arith, Contains, Some, None}
-use Rattle.std.specs.List.{list_all, slice_get}
-use Rattle.std.specs.Ordering.{nat_cmp, eq_by_cmp}
-use Rattle.std.specs.FinMap.Entries.{find}
+use Rattle.std.proofs.Common.{◌≡◌, ℕ, zero, suc, ◌%◌, ◌⊎◌, inl, inr, Bool, true, false, ◌&&◌, ◌==◌, cond, List, [], ◌∷◌}
+use Rattle.std.proofs.Common.{refl, sym, subst, ◌∙◌, arith, Contains, Some, None}
+use Rattle.std.specs.{List.{list_all, slice_get}, Ordering.{nat_cmp, eq_by_cmp}, FinMap.Entries.find}
 use Rattle.mm_word.specs.declared.perm.Perm.TheVariants.{Rw, Xu, Xp, Eu, Ep}
-use Rattle.mm_word.specs.declared.word.Word.{Word}
-use Rattle.mm_word.specs.declared.word.Word.TheVariants.{Int, Ptr}
-use Rattle.mm_word.specs.declared.word.Cell.{Cell}
-use Rattle.mm_word.specs.Perm.{can_store}
-use Rattle.mm_word.specs.Pointer.{Pointer, IsBelow, enter_result}
-use Rattle.mm_word.proofs.Below.{IsBelow-trans}
-use Rattle.mm_model.specs.Memory.{Memory, cell_at, cell_in, page_of, place_of}
-use Rattle.mm_model.specs.Slot.{Slot}
+use Rattle.mm_word.specs.{declared.word.{Word.{Word, TheVariants.{Int, Ptr}}, Cell.Cell}, Perm.can_store}
+use Rattle.mm_word.{specs.Pointer.{Pointer, IsBelow, enter_result}, proofs.Below.IsBelow-trans}
+use Rattle.mm_model.specs.{Memory.{Memory, cell_at, cell_in, page_of, place_of}, Slot.Slot}
 use Rattle.mm_model.specs.Reach.{Grants, LoadsAt, StoresAt}
 use Rattle.mm_model.specs.Reach.Grants.{in_register, runs_by, in_cell, below, passed, entered, served, made}
 use Rattle.mm_model.specs.Reach.Entries.{All}
 use Rattle.mm_examples.specs.Images.{two_groups, one_pointer_too_many, pointer, code, slot}
-use Rattle.mm_examples.specs.WorkedReach.{TouchesItsCode, NoGroupWrites, WritesNoCode, TwoGroupsStandApart, BothCanWrite, NeitherStandsApart}
+use Rattle.mm_examples.specs.WorkedReach.{TouchesItsCode, NoGroupWrites, WritesNoCode, TwoGroupsStandApart}
+use Rattle.mm_examples.specs.WorkedReach.{BothCanWrite, NeitherStandsApart}
 
 -- 1. Words and cells that hold no pointer.
 

@@ -1,8 +1,7 @@
 -- Bytes of images, computed.
 use Rattle.std.proofs.Common.{refl}
 use Rattle.mm_model.specs.Bytes.{number_at}
-use Rattle.mm_format.specs.Formats.{cons}
-use Rattle.mm_format.specs.Headers.{header}
+use Rattle.mm_format.specs.{Formats.cons, Headers.header}
 use Rattle.mm_format.specs.Images.{flags_of, mask, bits_in, bits, word, ip, slot, page, slots, image, image_fault}
 use Rattle.mm_examples.specs.Worked.{SpelledInBytes, FirstFaults, HandlersAreLate}
 

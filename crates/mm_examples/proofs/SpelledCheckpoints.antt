@@ -1,20 +1,14 @@
 -- Bytes and first faults of checkpoints, computed.
 use Rattle.std.proofs.Common.{refl}
-use Rattle.mm_isa.specs.Table.{packed}
-use Rattle.mm_isa.specs.Decode.{fields_in, rows, row_of, instr_of}
-use Rattle.mm_model.specs.Bytes.{number_at}
-use Rattle.mm_model.specs.Memory.{cell_at, put_cell, can_map, map_page, unmap_page}
+use Rattle.mm_isa.specs.{Table.packed, Decode.{fields_in, rows, row_of, instr_of}}
+use Rattle.mm_model.specs.{Bytes.number_at, Memory.{cell_at, put_cell, can_map, map_page, unmap_page}}
 use Rattle.mm_model.specs.Slot.{register, is_empty}
-use Rattle.mm_model.specs.State.{slot_at, queue_at, put_slot, put_queue, output_of, put_output}
-use Rattle.mm_model.specs.Image.{start}
-use Rattle.mm_model.specs.Operands.{addr_operand, value_operand, lacks}
-use Rattle.mm_model.specs.Ask.{ask}
+use Rattle.mm_model.specs.{State.{slot_at, queue_at, put_slot, put_queue, output_of, put_output}, Image.start}
+use Rattle.mm_model.specs.{Operands.{addr_operand, value_operand, lacks}, Ask.ask}
 use Rattle.mm_model.specs.Effect.{effect, plain, advanced, runs_past, delivered}
 use Rattle.mm_model.specs.Turn.{turn, idle, started, issued, executed, ended, blocked, faulted, core_faulted, event_of}
-use Rattle.mm_model.specs.Turn.{memory_after, core_after, slot_after, reply}
-use Rattle.mm_model.specs.Run.{run, after, steps}
-use Rattle.mm_format.specs.Formats.{cons}
-use Rattle.mm_format.specs.Images.{flags_of, mask, bits_in, bits, word, ip, page}
+use Rattle.mm_model.specs.{Turn.{memory_after, core_after, slot_after, reply}, Run.{run, after, steps}}
+use Rattle.mm_format.specs.{Formats.cons, Images.{flags_of, mask, bits_in, bits, word, ip, page}}
 use Rattle.mm_checkpoint.specs.Reading.{in_order, groups_of}
 use Rattle.mm_checkpoint.specs.Format.{header, word_with, tagged, load, load_count, slot_row, front, output, checkpoint}
 use Rattle.mm_checkpoint.specs.Faults.{said_of}

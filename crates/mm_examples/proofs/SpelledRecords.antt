@@ -1,7 +1,6 @@
 -- Bytes of records of images and objects, computed.
 use Rattle.std.proofs.Common.{refl}
-use Rattle.mm_format.specs.Formats.{cons}
-use Rattle.mm_format.specs.Images.{mask, bits, word, ip, slot, page}
+use Rattle.mm_format.specs.{Formats.cons, Images.{mask, bits, word, ip, slot, page}}
 use Rattle.mm_object.specs.Format.{name_fields, name_row, bits_row, item_row, log_row, count_row, segment_row, perm_row}
 use Rattle.mm_object.specs.Format.{target_row, reloc_fields, good_reloc, integer_row, pointer_row, thread_fields}
 use Rattle.mm_object.specs.Format.{good_thread}

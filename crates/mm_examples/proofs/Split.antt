@@ -1,21 +1,13 @@
 -- Runs of split machines, computed.
-use Rattle.std.proofs.Common.{refl}
-use Rattle.std.specs.Fmt.{digits}
-use Rattle.mm_isa.specs.Table.{packed}
-use Rattle.mm_isa.specs.Decode.{fields_in, rows, row_of, instr_of}
-use Rattle.mm_model.specs.Memory.{cell_at, put_cell, can_map, map_page, unmap_page}
-use Rattle.mm_model.specs.Slot.{register, is_empty}
-use Rattle.mm_model.specs.State.{slot_at, queue_at, put_slot, put_queue, output_of, put_output}
-use Rattle.mm_model.specs.Image.{start}
-use Rattle.mm_model.specs.Operands.{addr_operand, value_operand, lacks}
-use Rattle.mm_model.specs.Ask.{ask}
+use Rattle.std.{proofs.Common.refl, specs.Fmt.digits}
+use Rattle.mm_isa.specs.{Table.packed, Decode.{fields_in, rows, row_of, instr_of}}
+use Rattle.mm_model.specs.{Memory.{cell_at, put_cell, can_map, map_page, unmap_page}, Slot.{register, is_empty}}
+use Rattle.mm_model.specs.{State.{slot_at, queue_at, put_slot, put_queue, output_of, put_output}, Image.start}
+use Rattle.mm_model.specs.{Operands.{addr_operand, value_operand, lacks}, Ask.ask}
 use Rattle.mm_model.specs.Effect.{effect, plain, advanced, runs_past, delivered}
-use Rattle.mm_model.specs.Turn.{turn, idle, started, issued, executed, ended, blocked, faulted, core_faulted, event_of, memory_after, core_after, slot_after, reply}
-use Rattle.mm_model.specs.Run.{run, after, steps, robin_from}
-use Rattle.mm_model.specs.Digits.{hex}
-use Rattle.mm_model.specs.Lines.{slot_lines}
-use Rattle.mm_model.specs.Report.{section, report}
-use Rattle.mm_model.specs.Trace.{traced, trace, step_line}
+use Rattle.mm_model.specs.Turn.{turn, idle, started, issued, executed, ended, blocked, faulted, core_faulted, event_of}
+use Rattle.mm_model.specs.{Turn.{memory_after, core_after, slot_after, reply}, Run.{run, after, steps, robin_from}}
+use Rattle.mm_model.specs.{Digits.hex, Lines.slot_lines, Report.{section, report}, Trace.{traced, trace, step_line}}
 use Rattle.mm_examples.specs.Worked.{WaitsToWrite, Issues, Delivers, LoadsAtOnce}
 
 pub issues : Issues

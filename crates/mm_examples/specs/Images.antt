@@ -1,16 +1,9 @@
 -- Images of worked examples.
 use Rattle.std.specs.Prelude.{ℕ, ◌-◌, Bool, true, false, List, [], ◌∷◌, ◌++◌, map, length, replicate, slice_set, Some}
-use Rattle.std.specs.Prelude.{None}
-use Rattle.std.specs.List.{fold, range_with_len}
-use Rattle.mm_word.specs.declared.perm.Perm.{Perm}
-use Rattle.mm_word.specs.declared.perm.Perm.TheVariants.{Ro, Rw, Xu, Eu}
-use Rattle.mm_word.specs.declared.word.Word.{Word}
-use Rattle.mm_word.specs.declared.word.Word.TheVariants.{Int, Ptr}
-use Rattle.mm_word.specs.declared.word.Cell.{Cell}
-use Rattle.mm_word.specs.Pointer.{Pointer}
-use Rattle.mm_model.specs.declared.slot.SlotState.TheVariants.{Running}
-use Rattle.mm_model.specs.Memory.{Memory, zero_cell}
-use Rattle.mm_model.specs.Slot.{Slot}
+use Rattle.std.specs.{Prelude.None, List.{fold, range_with_len}}
+use Rattle.mm_word.specs.declared.perm.Perm.{Perm, TheVariants.{Ro, Rw, Xu, Eu}}
+use Rattle.mm_word.specs.{declared.word.{Word.{Word, TheVariants.{Int, Ptr}}, Cell.Cell}, Pointer.Pointer}
+use Rattle.mm_model.specs.{declared.slot.SlotState.TheVariants.Running, Memory.{Memory, zero_cell}, Slot.Slot}
 use Rattle.mm_model.specs.Image.{Image, none_empty}
 
 -- 1. Parts.

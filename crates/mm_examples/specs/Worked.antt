@@ -1,26 +1,14 @@
 -- Worked examples of runs.
 use Rattle.std.specs.Prelude.{◌≡◌, ℕ, true, false, List, [], ◌∷◌, ◌++◌, length, take, drop, slice_set, map, replicate}
 use Rattle.std.specs.Prelude.{codes, Option, Some, None}
-use Rattle.mm_word.specs.declared.word.Word.{Word}
-use Rattle.mm_word.specs.declared.word.Word.TheVariants.{Int}
+use Rattle.mm_word.specs.declared.word.Word.{Word, TheVariants.Int}
 use Rattle.mm_word.specs.declared.cause.Cause.TheVariants.{Perm, Priv, Trap, NoSlot}
-use Rattle.mm_word.specs.declared.perm.Perm.TheVariants.{Xp}
-use Rattle.mm_model.specs.declared.step.Step.{Step}
-use Rattle.mm_model.specs.declared.step.Tick.{Tick}
-use Rattle.mm_model.specs.declared.step.Tick.TheVariants.{Idle, Blocked, Did, Faulted, Delivered}
-use Rattle.mm_model.specs.declared.counts.Counts.{Counts}
-use Rattle.mm_model.specs.Counted.{counts_of}
-use Rattle.mm_model.specs.Memory.{cell_at}
-use Rattle.mm_model.specs.Slot.{Slot, register}
-use Rattle.mm_model.specs.State.{State, slot_at}
-use Rattle.mm_model.specs.Image.{Image, start}
-use Rattle.mm_format.specs.Images.{spelling}
-use Rattle.mm_format.specs.Images.{image_fault}
-use Rattle.mm_model.specs.Report.{report}
-use Rattle.mm_model.specs.Run.{run, steps, uses, robin_from}
-use Rattle.mm_model.specs.Trace.{trace}
-use Rattle.mm_word.specs.declared.perm.Kind.TheVariants.{Load, Store}
-use Rattle.mm_model.specs.Uses.{Accessed}
+use Rattle.mm_word.specs.declared.perm.{Perm.TheVariants.Xp, Kind.TheVariants.{Load, Store}}
+use Rattle.mm_model.specs.declared.step.{Step.Step, Tick.{Tick, TheVariants.{Idle, Blocked, Did, Faulted, Delivered}}}
+use Rattle.mm_model.specs.{declared.counts.Counts.Counts, Counted.counts_of, Memory.cell_at, Slot.{Slot, register}}
+use Rattle.mm_model.specs.{State.{State, slot_at}, Image.{Image, start}, Report.report}
+use Rattle.mm_model.specs.{Run.{run, steps, uses, robin_from}, Trace.trace, Uses.Accessed}
+use Rattle.mm_format.specs.Images.{spelling, image_fault}
 use Rattle.mm_examples.specs.Images.{pointer, page, full_int, memory, code_page, code, hello, smallest, one_word, jumps}
 use Rattle.mm_examples.specs.Images.{moves_a_gate, loads_a_gate, exchange, signals_by_reading, traps, forges}
 use Rattle.mm_examples.specs.Images.{two_groups, maps, splits, gated, sweeper}

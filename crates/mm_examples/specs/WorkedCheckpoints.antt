@@ -1,20 +1,13 @@
 -- Worked examples of checkpoints: of the bytes of records and of whole files, and of first faults.
-use Rattle.std.specs.Prelude.{◌≡◌, ℕ, true, false, List, [], ◌∷◌, ◌++◌, take, drop, slice_set, replicate, codes}
-use Rattle.std.specs.Prelude.{Option, Some, None}
-use Rattle.mm_word.specs.declared.perm.Perm.TheVariants.{Ro, Rw, Xu, Xp}
-use Rattle.mm_word.specs.declared.word.Word.{Word}
-use Rattle.mm_word.specs.declared.word.Word.TheVariants.{Int, Ptr}
+use Rattle.std.specs.Prelude.{◌≡◌, ℕ, true, false, List, [], ◌∷◌, ◌++◌, take, drop, slice_set, replicate, codes, Option}
+use Rattle.std.specs.Prelude.{Some, None}
+use Rattle.mm_word.specs.declared.{perm.Perm.TheVariants.{Ro, Rw, Xu, Xp}, word.Word.{Word, TheVariants.{Int, Ptr}}}
 use Rattle.mm_word.specs.declared.cause.Cause.TheVariants.{Align, NoPage, Trap}
-use Rattle.mm_model.specs.declared.event.Event.{Event}
-use Rattle.mm_model.specs.declared.slot.SlotState.TheVariants.{Waiting, Halted}
-use Rattle.mm_model.specs.Flags.{flags}
-use Rattle.mm_model.specs.Image.{Image, start}
-use Rattle.mm_model.specs.Run.{run}
-use Rattle.mm_model.specs.Slot.{Slot}
+use Rattle.mm_model.specs.{declared.{event.Event.Event, slot.SlotState.TheVariants.{Waiting, Halted}}, Flags.flags}
+use Rattle.mm_model.specs.{Image.{Image, start}, Run.run, Slot.Slot}
 use Rattle.mm_checkpoint.specs.Checkpoints.{Saved}
 use Rattle.mm_checkpoint.specs.Format.{header, header_of, slot_record, output_record, load_record, spelling}
-use Rattle.mm_checkpoint.specs.Faults.{first_fault}
-use Rattle.mm_checkpoint.specs.States.{saved_form}
+use Rattle.mm_checkpoint.specs.{Faults.first_fault, States.saved_form}
 use Rattle.mm_examples.specs.Images.{pointer, smallest, splits, traps, two_groups}
 
 -- 1. The bytes of records: each field of a record has a value of its own, so a table that had two of them in the other

@@ -2,13 +2,12 @@
 -- come after these.
 use Rattle.std.specs.Prelude.{◌≡◌, ℕ, List, [], ◌∷◌, codes}
 use Rattle.mm_cli.specs.declared.table.Command.{Command}
-use Rattle.mm_cli.specs.declared.table.Command.TheVariants as command
-use Rattle.mm_cli.specs.declared.table.Kind.TheVariants as kind
 use Rattle.mm_cli.specs.declared.table.Parameter.{Parameter}
 use Rattle.mm_cli.specs.declared.table.Parameter.TheVariants.{File, Number, Groups, Mode, Range, Address, Use}
-use Rattle.mm_cli.specs.declared.table.Tail.{Tail}
-use Rattle.mm_cli.specs.declared.table.Tail.TheVariants.{Nothing, Optional, Repeated}
+use Rattle.mm_cli.specs.declared.table.Tail.{Tail, TheVariants.{Nothing, Optional, Repeated}}
 use Rattle.mm_cli.specs.Table.{TableRow, table}
+use Rattle.mm_cli.specs.declared.table.Command.TheVariants as command
+use Rattle.mm_cli.specs.declared.table.Kind.TheVariants as kind
 
 abbrev image : Parameter
 image = File kind.Image

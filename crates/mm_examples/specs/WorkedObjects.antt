@@ -1,10 +1,8 @@
 -- Worked examples of object files: of the bytes of records, and of first faults.
-use Rattle.std.specs.Prelude.{◌≡◌, ℕ, List, [], ◌∷◌, ◌++◌, take, slice_set, replicate, codes, Some, None}
-use Rattle.std.specs.Prelude.{true, false}
+use Rattle.std.specs.Prelude.{◌≡◌, ℕ, List, [], ◌∷◌, ◌++◌, take, slice_set, replicate, codes, Some, None, true, false}
 use Rattle.mm_word.specs.declared.perm.Perm.TheVariants.{Ro, Rw, Xu, Xp}
 use Rattle.mm_object.specs.declared.thread.Value.TheVariants.{Int, Ptr}
-use Rattle.mm_object.specs.Format.{segment_record, reloc_record, thread_record}
-use Rattle.mm_object.specs.Faults.{object_fault}
+use Rattle.mm_object.specs.{Format.{segment_record, reloc_record, thread_record}, Faults.object_fault}
 
 -- the bytes of an object: a segment `a` of one word, an external `x`, and a relocation that makes the word a pointer
 -- to it

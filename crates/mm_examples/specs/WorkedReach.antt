@@ -1,8 +1,6 @@
 -- Worked examples of what groups can touch and write.
 use Rattle.std.specs.Prelude.{ℕ, ◌==◌}
-use Rattle.mm_model.specs.Reach.{CanTouch, CanWrite}
-use Rattle.mm_model.specs.Reach.Entries.{All}
-use Rattle.mm_model.specs.Worlds.{Apart}
+use Rattle.mm_model.specs.{Reach.{CanTouch, CanWrite, Entries.All}, Worlds.Apart}
 use Rattle.mm_examples.specs.Images.{two_groups, one_pointer_too_many}
 
 -- 1. Two groups that run the same code.

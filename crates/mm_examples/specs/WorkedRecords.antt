@@ -1,11 +1,8 @@
 -- Worked examples of the bytes of an image's records: each field of a record has a value of its own, so a table that
 -- had two of them in the other order would spell other bytes.
 use Rattle.std.specs.Prelude.{◌≡◌, ℕ, false, List, [], ◌∷◌, ◌++◌, replicate, Some, None}
-use Rattle.mm_word.specs.declared.word.Word.TheVariants.{Int, Ptr}
-use Rattle.mm_word.specs.declared.perm.Perm.TheVariants.{Xu, Xp}
-use Rattle.mm_model.specs.declared.slot.SlotState.TheVariants.{Halted}
-use Rattle.mm_model.specs.Slot.{Slot}
-use Rattle.mm_model.specs.Image.{none_empty}
+use Rattle.mm_word.specs.declared.{word.Word.TheVariants.{Int, Ptr}, perm.Perm.TheVariants.{Xu, Xp}}
+use Rattle.mm_model.specs.{declared.slot.SlotState.TheVariants.Halted, Slot.Slot, Image.none_empty}
 use Rattle.mm_format.specs.Images.{slot_record, page_record}
 use Rattle.mm_examples.specs.Images.{pointer, full_int}
 

@@ -1,9 +1,7 @@
 -- Worked examples of schedules.
 use Rattle.std.specs.Prelude.{◌≡◌, ◌==◌, true, [], ◌∷◌, codes, None}
-use Rattle.mm_model.specs.declared.slot.SlotState.TheVariants.{Halted}
-use Rattle.mm_model.specs.Schedule.{Means, FaultsAt, only}
-use Rattle.mm_model.specs.Image.{Image, start}
-use Rattle.mm_model.specs.Run.{robin_from}
+use Rattle.mm_model.specs.{declared.slot.SlotState.TheVariants.Halted, Schedule.{Means, FaultsAt, only}}
+use Rattle.mm_model.specs.{Image.{Image, start}, Run.robin_from}
 use Rattle.mm_examples.specs.Images.{code, slot, memory, image, code_page, two_groups, splits}
 
 -- a text of items and counts, and its meaning

@@ -1,26 +1,20 @@
 -- Worked examples of words: pointers, accesses, instructions and arithmetic.
-use Rattle.std.specs.Prelude.{◌≡◌, ℕ, ◌^◌, ◌-◌, ℤ, pos, negsuc, [], ◌∷◌, map, replicate, Some, None}
-use Rattle.std.specs.Prelude.{option_map, Result, Ok, Err}
-use Rattle.mm_word.specs.declared.cause.Cause.{Cause}
-use Rattle.mm_word.specs.declared.cause.Cause.TheVariants as cause
-use Rattle.mm_word.specs.declared.perm.Kind.{Kind}
-use Rattle.mm_word.specs.declared.perm.Kind.TheVariants.{Fetch, Load, LoadSet, Store}
-use Rattle.mm_word.specs.declared.word.Pre.TheVariants as pre
-use Rattle.mm_word.specs.declared.word.Post.TheVariants as post
+use Rattle.std.specs.Prelude.{◌≡◌, ℕ, ◌^◌, ◌-◌, ℤ, pos, negsuc, [], ◌∷◌, map, replicate, Some, None, option_map, Result}
+use Rattle.std.specs.Prelude.{Ok, Err}
+use Rattle.mm_word.specs.declared.{cause.Cause.Cause, perm.Kind.{Kind, TheVariants.{Fetch, Load, LoadSet, Store}}}
 use Rattle.mm_word.specs.declared.word.Word.TheVariants.{Int, Ptr}
 use Rattle.mm_word.specs.Pointer.{Pointer, pointer_of, bits_of, lea_result, leab_result, restrict_result, subseg_result}
-use Rattle.mm_word.specs.Pointer.{setptr_result, next_result, enter_result}
-use Rattle.mm_word.specs.Access.{first_fault}
+use Rattle.mm_word.specs.{Pointer.{setptr_result, next_result, enter_result}, Access.first_fault}
 use Rattle.mm_isa.specs.declared.instr.AluOp.{AluOp}
 use Rattle.mm_isa.specs.declared.instr.AluOp.TheVariants.{Add, Sub, Mul, Divu, Remu, And, Or, Xor, Shl, Shr, Sar, Eq}
-use Rattle.mm_isa.specs.declared.instr.AluOp.TheVariants.{Ltu, Lts}
-use Rattle.mm_isa.specs.declared.instr.How.TheVariants.{Kill}
+use Rattle.mm_isa.specs.declared.instr.{AluOp.TheVariants.{Ltu, Lts}, How.TheVariants.Kill}
 use Rattle.mm_isa.specs.declared.instr.Instr.TheVariants.{Halt, Nop, Ldi, Ldhi, Mov, Isptr, Eqw, Out, SelfSlot, Alu}
 use Rattle.mm_isa.specs.declared.instr.Instr.TheVariants.{Addi, Lea, Leai, Leab, Restrict, Subseg, Setptr, Ld, St, Br}
 use Rattle.mm_isa.specs.declared.instr.Instr.TheVariants.{Bz, Bnz, Jmp, Jal, Lip, Trap, Evt, Resume, Rreg, Wreg, Map}
-use Rattle.mm_isa.specs.declared.instr.Instr.TheVariants.{Unmap}
-use Rattle.mm_isa.specs.Alu.{div_zero, alu_result}
-use Rattle.mm_isa.specs.Decode.{instr_of}
+use Rattle.mm_isa.specs.{declared.instr.Instr.TheVariants.Unmap, Alu.{div_zero, alu_result}, Decode.instr_of}
+use Rattle.mm_word.specs.declared.cause.Cause.TheVariants as cause
+use Rattle.mm_word.specs.declared.word.Pre.TheVariants as pre
+use Rattle.mm_word.specs.declared.word.Post.TheVariants as post
 
 -- 1. Pointers.
 

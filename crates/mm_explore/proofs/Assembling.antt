@@ -1,42 +1,26 @@
 -- The parts of a state of a machine of the image make its configuration.
 use Rattle.std.proofs.Common.{◌≡◌, ◌≢◌, ◌⊎◌, inl, inr, ℕ, zero, suc, ◌+◌, ◌%◌, ◌<◌, ◌≤◌, Bool, true, false, ◌&&◌, ◌||◌}
-use Rattle.std.proofs.Common.{cond, nat_eq, List, [], ◌∷◌, map, length, replicate, Option, Some, None}
-use Rattle.std.proofs.Common.{refl, sym, ap, ◌∙◌, subst, arith, eqb-true}
+use Rattle.std.proofs.Common.{cond, nat_eq, List, [], ◌∷◌, map, length, replicate, Option, Some, None, refl, sym, ap}
+use Rattle.std.proofs.{Common.{◌∙◌, subst, arith, eqb-true}, lemmas.Bool.{cases_Bool, cases_eq, both_ways}}
 use Rattle.std.specs.Prelude.{◌==◌, Contains, slice_set, slice_get, slice_index_or}
-use Rattle.std.specs.List.{AllByRecursion, list_any, range_with_len}
-use Rattle.std.specs.List.Sorted.{IsStrictlyIncreasing}
-use Rattle.std.specs.Ordering.{nat_cmp}
-use Rattle.std.specs.Ordering.{is_lt}
-use Rattle.std.specs.FinMap.{find, is_sorted}
-use Rattle.std.specs.FinMap.Entries.{below_all}
-use Rattle.std.specs.Cmp.{unsigned_tied}
-use Rattle.mm_model.specs.Memory.{place_of}
-use Rattle.mm_model.proofs.Memories.{put_frames, put_paged, cell_at-aligned, aligned, page_whole, cell_at-put_same, cell_at-put_other, zeros_get, place_within}
-use Rattle.mm_model.proofs.Starts.{start_slots, nothing_out}
+use Rattle.std.specs.List.{AllByRecursion, list_any, range_with_len, Sorted.IsStrictlyIncreasing}
+use Rattle.std.specs.{Ordering.{nat_cmp, is_lt}, FinMap.{find, is_sorted, Entries.below_all}, Cmp.unsigned_tied}
+use Rattle.mm_model.specs.Memory.{place_of, Memory, page_at, cell_in, cell_at, put_cell, page_of, IsPage, IsPaged}
+use Rattle.mm_model.specs.declared.event.Event.{Event}
+use Rattle.mm_model.specs.{State.{ThreadRow, Core, State, row_in, queue_of, queue_at, output_of}, Groups.has_group}
+use Rattle.mm_model.specs.{Image.{Image, start}, Spelling.{IsImage, HoldsWords, numbers_of}}
+use Rattle.mm_model.specs.{Report.{is_of, groups_of, same_cell, cells_or_zero, changes}, Fits.{slots_of, identity_of}}
+use Rattle.mm_model.proofs.Memories.{put_frames, put_paged, cell_at-aligned, aligned, page_whole, cell_at-put_same}
+use Rattle.mm_model.proofs.{Memories.{cell_at-put_other, zeros_get, place_within}, Starts.{start_slots, nothing_out}}
+use Rattle.mm_model.proofs.{EffectWords.cell_words, Sames.cells_same, CoreRows.{each_map, has_group_by}}
+use Rattle.mm_model.proofs.Fitted.{paged_of}
 use Rattle.mm_laws.proofs.CellViews.{IsIn, Rising}
 use Rattle.mm_laws.proofs.ChangedCells.{each_of_in, cell_or_zero, DiffersAt, in_changes, changes_in, changes_rising}
-use Rattle.mm_laws.proofs.AlikeWorlds.{whole_memory}
-use Rattle.std.proofs.lemmas.Bool.{cases_Bool, cases_eq, both_ways}
-use Rattle.mm_model.proofs.EffectWords.{cell_words}
-use Rattle.mm_model.proofs.Sames.{cells_same}
-use Rattle.mm_laws.proofs.OwnImages.{each_among}
-use Rattle.mm_machine.proofs.Returning.{own_queues}
-use Rattle.mm_word.specs.declared.word.Cell.{Cell}
-use Rattle.mm_word.specs.Word.{IsWord}
-use Rattle.mm_model.specs.declared.event.Event.{Event}
-use Rattle.mm_model.specs.Memory.{Memory, page_at, cell_in, cell_at, put_cell, page_of, IsPage, IsPaged}
-use Rattle.mm_model.specs.State.{ThreadRow, Core, State, row_in, queue_of, queue_at, output_of}
-use Rattle.mm_model.specs.Groups.{has_group}
-use Rattle.mm_model.specs.Image.{Image, start}
-use Rattle.mm_model.specs.Spelling.{IsImage, HoldsWords, numbers_of}
-use Rattle.mm_model.specs.Report.{is_of, groups_of, same_cell, cells_or_zero, changes}
-use Rattle.mm_model.specs.Fits.{slots_of, identity_of}
-use Rattle.mm_model.proofs.CoreRows.{each_map, has_group_by}
-use Rattle.mm_model.proofs.Fitted.{paged_of}
-use Rattle.mm_thread.specs.Parts.{events_for, row_with, outputs_with}
+use Rattle.mm_laws.proofs.{AlikeWorlds.whole_memory, OwnImages.each_among}
+use Rattle.mm_machine.proofs.{Returning.own_queues, Copied.queued_for, Outputs.outputs_count}
 use Rattle.mm_machine.specs.Snapshot.{queued, page_numbers}
-use Rattle.mm_machine.proofs.Copied.{queued_for}
-use Rattle.mm_machine.proofs.Outputs.{outputs_count}
+use Rattle.mm_word.specs.{declared.word.Cell.Cell, Word.IsWord}
+use Rattle.mm_thread.specs.Parts.{events_for, row_with, outputs_with}
 use Rattle.mm_explore.specs.Configurations.{uncounted_slot, uncounted_row, configuration}
 use Rattle.mm_explore.specs.Kept.{output_part, parts_of}
 use Rattle.mm_explore.specs.Assembled.{base_page, base_memory, put_cells, assembled, IsStateOf}

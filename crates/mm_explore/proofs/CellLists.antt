@@ -1,27 +1,23 @@
 -- Ascending lists of cells by what they have at a word.
-use Rattle.std.proofs.Common.{◌≡◌, ◌≢◌, inl, inr, ℕ, zero, suc, ◌+◌, ◌%◌, ◌^◌, ◌<◌, Bool, true}
-use Rattle.std.proofs.Common.{false, not, cond, nat_eq, if◌then◌else◌, List, [], ◌∷◌, ◌++◌, length, Option, Some}
-use Rattle.std.proofs.Common.{None, refl, sym, ap, ◌∙◌, subst, arith, T, eq-eqb, set, Ok, Err}
+use Rattle.std.proofs.Common.{◌≡◌, ◌≢◌, inl, inr, ℕ, zero, suc, ◌+◌, ◌%◌, ◌^◌, ◌<◌, Bool, true, false, not, cond}
+use Rattle.std.proofs.Common.{nat_eq, if◌then◌else◌, List, [], ◌∷◌, ◌++◌, length, Option, Some, None, refl, sym, ap}
+use Rattle.std.proofs.Common.{◌∙◌, subst, arith, T, eq-eqb, set, Ok, Err}
+use Rattle.std.proofs.lemmas.{Cmp.nat_cmp_total, Bool.{cases_eq, both_ways, ne_eqb, Decides.nat_tests}}
 use Rattle.std.specs.Prelude.{◌==◌, IsTrue}
-use Rattle.std.specs.List.{AllByRecursion, insert, remove}
-use Rattle.std.specs.List.Sorted.{IsSearchInRange, IsBinarySearchResult}
-use Rattle.std.specs.Option.{unwrap_or}
-use Rattle.std.specs.Ordering.{nat_cmp}
+use Rattle.std.specs.List.{AllByRecursion, insert, remove, Sorted.{IsSearchInRange, IsBinarySearchResult}}
+use Rattle.std.specs.{Option.unwrap_or, Ordering.nat_cmp}
 use Rattle.std.specs.FinMap.{find, put, is_sorted, nat_cmp-IsAntisymmetric}
-use Rattle.std.specs.FinMap.Entries.{below_all, find-put, find-where_key, is_sorted-put, is_sorted-where_key, same_entries}
-use Rattle.std.specs.Cmp.{unsigned_tied}
-use Rattle.std.proofs.lemmas.Cmp.{nat_cmp_total}
-use Rattle.std.proofs.lemmas.Bool.{cases_eq, both_ways, ne_eqb}
-use Rattle.std.proofs.lemmas.Bool.Decides.{nat_tests}
+use Rattle.std.specs.FinMap.Entries.{below_all, find-put, find-where_key, is_sorted-put, is_sorted-where_key}
+use Rattle.std.specs.{FinMap.Entries.same_entries, Cmp.unsigned_tied}
 use Rattle.mm_model.proofs.Sames.{cell_self}
-use Rattle.mm_laws.proofs.OwnImages.{each_among}
-use Rattle.mm_word.specs.declared.word.Cell.{Cell}
+use Rattle.mm_model.proofs.Memories.{aligned, page_of_cell, page_whole, cell_at-aligned, put_cell-unmapped, put_paged}
+use Rattle.mm_model.proofs.Memories.{cell_at-put_same, cell_at-put_other}
 use Rattle.mm_model.specs.Image.{Image}
 use Rattle.mm_model.specs.Memory.{Memory, page_of, place_of, page_at, cell_in, cell_at, put_cell, zero_cell, IsPaged}
 use Rattle.mm_model.specs.Report.{same_cell, changes}
-use Rattle.mm_model.proofs.Memories.{aligned, page_of_cell, page_whole, cell_at-aligned, put_cell-unmapped, put_paged, cell_at-put_same, cell_at-put_other}
-use Rattle.mm_laws.proofs.CellViews.{IsIn, Rising}
+use Rattle.mm_laws.proofs.{OwnImages.each_among, CellViews.{IsIn, Rising}}
 use Rattle.mm_laws.proofs.ChangedCells.{each_of_in, cell_or_zero, DiffersAt, in_changes, changes_in, changes_rising}
+use Rattle.mm_word.specs.declared.word.Cell.{Cell}
 use Rattle.mm_mem.specs.Places.{IsAt, IsGap}
 use Rattle.mm_mem.proofs.Places.{held, searched, remove_at, set_at, insert_in_gap, absent_in_gap}
 use Rattle.mm_explore.specs.Assembled.{put_cells}

@@ -1,31 +1,20 @@
 -- What is kept and what is written of the end of a run.
-use Rattle.std.proofs.Common.{◌≡◌, ℕ, zero, suc, ◌==◌, Bool, ◌||◌, List, [], ◌∷◌, ◌++◌, map, codes, decimal, Some, slice_get, refl, sym, ap, ◌∙◌}
+use Rattle.std.proofs.Common.{◌≡◌, ℕ, zero, suc, ◌==◌, Bool, ◌||◌, List, [], ◌∷◌, ◌++◌, map, codes, decimal, Some}
+use Rattle.std.proofs.{Common.{slice_get, refl, sym, ap, ◌∙◌}, lemmas.List.Elements.filter_agree}
 use Rattle.std.specs.List.{list_any, flat_map, range_with_len}
-use Rattle.std.proofs.lemmas.List.Elements.{filter_agree}
-use Rattle.mm_model.proofs.OneIf.{one_back}
-use Rattle.mm_model.proofs.Starts.{start_slots}
-use Rattle.mm_model.specs.declared.slot.SlotState.{SlotState}
-use Rattle.mm_model.specs.Fits.{slots_of, identity_of}
-use Rattle.mm_model.specs.Image.{Image, start}
-use Rattle.mm_model.specs.Report.{is_of, groups_of}
-use Rattle.mm_model.specs.Run.{run}
-use Rattle.mm_model.specs.Slot.{Slot}
-use Rattle.mm_model.specs.Spelling.{IsImage}
+use Rattle.mm_model.proofs.{OneIf.one_back, Starts.start_slots}
+use Rattle.mm_model.specs.{declared.slot.SlotState.SlotState, Fits.{slots_of, identity_of}, Image.{Image, start}}
+use Rattle.mm_model.specs.{Report.{is_of, groups_of}, Run.run, Slot.Slot, Spelling.IsImage}
 use Rattle.mm_model.specs.State.{ThreadRow, State, output_of}
 use Rattle.mm_thread.specs.Output.{Output}
-use Rattle.mm_explore.specs.Benches.{ArePartsAt, parts_held}
-use Rattle.mm_explore.specs.Configurations.{uncounted_slot, moves}
-use Rattle.mm_explore.specs.Findings.{Outcome, are_none, outcome_of, outcome_at}
-use Rattle.mm_explore.specs.FoundLists.{FoundList, Holds}
+use Rattle.mm_explore.specs.{Benches.{ArePartsAt, parts_held}, Configurations.{uncounted_slot, moves}}
+use Rattle.mm_explore.specs.{Findings.{Outcome, are_none, outcome_of, outcome_at}, FoundLists.{FoundList, Holds}}
 use Rattle.mm_explore.specs.Kept.{Parts, output_part, parts_of, parts_from, kept, first_number}
-use Rattle.mm_explore.proofs.Keepables.{parts_again}
+use Rattle.mm_explore.specs.{Results.{output_text, outcome_found_lines}, Texts.{end_text, by_line}, Noting.outcome_form}
+use Rattle.mm_explore.proofs.{Keepables.parts_again, KeptRuns.runs_state_of}
 use Rattle.mm_explore.specs.declared.parts.Parts as code
-use Rattle.mm_explore.specs.Results.{output_text, outcome_found_lines}
 use Rattle.mm_explore.specs.Results as results
 use Rattle.mm_explore.specs.Texts as texts
-use Rattle.mm_explore.specs.Texts.{end_text, by_line}
-use Rattle.mm_explore.specs.Noting.{outcome_form}
-use Rattle.mm_explore.proofs.KeptRuns.{runs_state_of}
 
 -- 1. The groups of a run are those of the image.
 

@@ -1,19 +1,15 @@
 -- Final schedules, their outcomes, and the first of each outcome.
-use Rattle.std.proofs.Common.{◌≡◌, ◌⊎◌, inl, inr, ℕ, Bool, true, false, ◌&&◌, ◌||◌, if◌then◌else◌, nat_eq, List, [], ◌∷◌, refl, sym, ap, ◌∙◌, subst, eqb-true, eq-eqb}
-use Rattle.std.specs.Prelude.{Contains}
-use Rattle.std.specs.List.{list_any}
-use lib.Pointwise.{pointwise, pointwise_decides}
+use Rattle.std.proofs.Common.{◌≡◌, ◌⊎◌, inl, inr, ℕ, Bool, true, false, ◌&&◌, ◌||◌, if◌then◌else◌, nat_eq, List, []}
+use Rattle.std.proofs.Common.{◌∷◌, refl, sym, ap, ◌∙◌, subst, eqb-true, eq-eqb}
 use Rattle.std.proofs.lemmas.Bool.{cases_Bool, both_ways, and_parts, or_cases, or_right}
+use Rattle.std.specs.{Prelude.Contains, List.list_any}
+use lib.Pointwise.{pointwise, pointwise_decides}
 use Rattle.mm_model.proofs.Sames.{bits_same, bit_self}
-use Rattle.mm_model.specs.declared.slot.SlotState.{SlotState}
-use Rattle.mm_model.specs.Image.{Image}
-use Rattle.mm_model.specs.Report.{same_bit}
-use Rattle.mm_explore.specs.Schedules.{Before}
-use Rattle.mm_explore.specs.Pairs.{EachPair}
-use Rattle.mm_explore.specs.Findings.{IsFinal, AreFinal, Outcome, outcome_at, state_number, same_state, same_outcome, firsts_after, firsts}
-use Rattle.mm_explore.specs.Kept.{state_at}
-use Rattle.mm_explore.proofs.SlotForms.{state_back}
-use Rattle.mm_explore.proofs.Orders.{before_self, before_through}
+use Rattle.mm_model.specs.{declared.slot.SlotState.SlotState, Image.Image, Report.same_bit}
+use Rattle.mm_explore.specs.{Schedules.Before, Pairs.EachPair}
+use Rattle.mm_explore.specs.Findings.{IsFinal, AreFinal, Outcome, outcome_at, state_number, same_state, same_outcome}
+use Rattle.mm_explore.specs.{Findings.{firsts_after, firsts}, Kept.state_at}
+use Rattle.mm_explore.proofs.{SlotForms.state_back, Orders.{before_self, before_through}}
 use Rattle.mm_explore.proofs.Members.{none_in, in_first, in_rest, in_cases, all_at, all_of}
 
 -- 1. Outcomes that are tested to be the same are the same.

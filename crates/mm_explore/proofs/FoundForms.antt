@@ -1,16 +1,12 @@
 -- The lists of what was found: what is kept, and the schedules that origins spell.
-use Rattle.std.proofs.Common.{◌≡◌, inl, inr, ℕ, zero, suc, ◌+◌, ◌-◌, ◌^◌, ◌<◌, ◌≤◌, Bool, true, false}
-use Rattle.std.proofs.Common.{nat_eq, List, [], ◌∷◌, ◌++◌, map, length, slice_index_or, reverse, refl, sym, ap, ◌∙◌}
-use Rattle.std.proofs.Common.{subst, arith, append_assoc, length-append}
-use Rattle.std.specs.Prelude.{Contains, Some, slice_get, if◌then◌else◌, Result, Ok, Err, OnOk}
-use Rattle.std.specs.List.{list_any}
-use Rattle.std.proofs.lemmas.Bool.{cases_Bool, both_ways, or_cases, or_parts}
-use Rattle.std.proofs.lemmas.List.{length-map, reverse-append}
+use Rattle.std.proofs.Common.{◌≡◌, inl, inr, ℕ, zero, suc, ◌+◌, ◌-◌, ◌^◌, ◌<◌, ◌≤◌, Bool, true, false, nat_eq, List, []}
+use Rattle.std.proofs.Common.{◌∷◌, ◌++◌, map, length, slice_index_or, reverse, refl, sym, ap, ◌∙◌, subst, arith}
+use Rattle.std.proofs.Common.{append_assoc, length-append}
+use Rattle.std.proofs.lemmas.{Bool.{cases_Bool, both_ways, or_cases, or_parts}, List.{length-map, reverse-append}}
+use Rattle.std.specs.{Prelude.{Contains, Some, slice_get, if◌then◌else◌, Result, Ok, Err, OnOk}, List.list_any}
 use lib.Pointwise.{pointwise, pointwise_decides}
-use Rattle.mm_explore.proofs.Finals.{numbers_decide}
-use Rattle.mm_explore.specs.declared.found.Origin.{Origin}
-use Rattle.mm_explore.specs.FoundLists.{FoundList, led_by, spelled, AreEarlier}
-use Rattle.mm_explore.proofs.Members.{none_in, in_first, in_rest, in_cases}
+use Rattle.mm_explore.proofs.{Finals.numbers_decide, Members.{none_in, in_first, in_rest, in_cases}}
+use Rattle.mm_explore.specs.{declared.found.Origin.Origin, FoundLists.{FoundList, led_by, spelled, AreEarlier}}
 
 -- 1. What is kept.
 

@@ -1,26 +1,16 @@
 -- In a list that is all, what comes of every run is found.
 use Rattle.std.proofs.Common.{◌≡◌, inl, inr, ℕ, ◌==◌, Bool, true, false, ◌&&◌, List, refl, sym, ap, ◌∙◌, subst}
-use Rattle.std.specs.Prelude.{Contains, IsSome}
-use Rattle.std.proofs.lemmas.Bool.{both_ways}
-use Rattle.mm_word.specs.declared.perm.Kind.{Kind}
-use Rattle.mm_word.specs.Access.{AccessValue}
-use Rattle.mm_model.specs.declared.step.Step.{Step}
-use Rattle.mm_model.specs.State.{State}
-use Rattle.mm_model.specs.Image.{Image, start}
-use Rattle.mm_model.specs.Turn.{Turned, idle}
-use Rattle.mm_model.specs.Run.{turn_of, run}
-use Rattle.mm_model.specs.Trace.{touches, group_in}
-use Rattle.mm_explore.specs.Configurations.{moves}
-use Rattle.mm_explore.specs.Explored.{leads_to, IsLeast}
-use Rattle.mm_explore.specs.Findings.{Extension, turn_at, extensions, explored_turns, any_kind, Reaches, has_fault, first_fault, IsFinal, AreFinal, outcome_at, firsts}
+use Rattle.std.{proofs.lemmas.Bool.both_ways, specs.Prelude.{Contains, IsSome}}
+use Rattle.mm_word.specs.{declared.perm.Kind.Kind, Access.AccessValue}
+use Rattle.mm_model.specs.{declared.step.Step.Step, State.State, Image.{Image, start}, Turn.{Turned, idle}}
+use Rattle.mm_model.specs.{Run.{turn_of, run}, Trace.{touches, group_in}, Counted.writes}
+use Rattle.mm_explore.specs.{Configurations.moves, Explored.{leads_to, IsLeast}}
+use Rattle.mm_explore.specs.Findings.{Extension, turn_at, extensions, explored_turns, any_kind, Reaches, has_fault}
+use Rattle.mm_explore.specs.Findings.{first_fault, IsFinal, AreFinal, outcome_at, firsts}
 use Rattle.mm_explore.specs.Laws.{GoesOnAlike, ExploredIsAll}
-use Rattle.mm_explore.proofs.Members.{none_in, in_map, in_flat, all_at, finds_some}
-use Rattle.mm_explore.proofs.Goings.{same_outcomes}
-use Rattle.mm_explore.proofs.Movings.{moves_or_idles}
-use Rattle.mm_explore.proofs.Coverings.{alike, leads_alike}
-use Rattle.mm_explore.proofs.Orders.{more}
+use Rattle.mm_explore.proofs.{Members.{none_in, in_map, in_flat, all_at, finds_some}, Goings.same_outcomes}
+use Rattle.mm_explore.proofs.{Movings.moves_or_idles, Coverings.{alike, leads_alike}, Orders.more}
 use Rattle.mm_explore.proofs.Finals.{final_in, first_of}
-use Rattle.mm_model.specs.Counted.{writes}
 
 -- a cycle with an access, or with a fault, is that of a move
 pub touching_moves : (s : State) (n : ℕ) (a : AccessValue) → Contains (touches (turn_of s n).step) a → Contains (moves s) n

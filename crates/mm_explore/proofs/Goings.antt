@@ -1,15 +1,11 @@
 -- States of one configuration go on alike, and what is read of a configuration.
-use Rattle.std.proofs.Common.{◌≡◌, ℕ, ◌+◌, Bool, true, false, cond, ◌||◌, if◌then◌else◌, List, [], ◌∷◌, ◌++◌, map, Option, Some, None, refl, sym, ap, ◌∙◌}
-use Rattle.std.specs.List.{filter, list_any, range_with_len}
-use Rattle.mm_model.specs.declared.slot.SlotState.{SlotState}
-use Rattle.mm_model.specs.Slot.{Slot}
-use Rattle.mm_model.specs.State.{ThreadRow, Core, State, slot_at, output_of}
-use Rattle.mm_model.specs.Turn.{Turned, turn}
-use Rattle.mm_model.specs.Run.{turn_of, after}
-use Rattle.mm_model.specs.Trace.{group_of, group_in}
-use Rattle.mm_model.specs.Report.{is_of, groups_of}
-use Rattle.mm_explore.specs.Configurations.{uncounted_row, uncounted, configuration, runs, has_load, running_slots, loaded_ports, moves}
-use Rattle.mm_explore.specs.Findings.{Outcome, are_none, outcome_of}
+use Rattle.std.proofs.Common.{◌≡◌, ℕ, ◌+◌, Bool, true, false, cond, ◌||◌, if◌then◌else◌, List, [], ◌∷◌, ◌++◌, map}
+use Rattle.std.{proofs.Common.{Option, Some, None, refl, sym, ap, ◌∙◌}, specs.List.{filter, list_any, range_with_len}}
+use Rattle.mm_model.specs.{declared.slot.SlotState.SlotState, Slot.Slot}
+use Rattle.mm_model.specs.{State.{ThreadRow, Core, State, slot_at, output_of}, Turn.{Turned, turn}}
+use Rattle.mm_model.specs.{Run.{turn_of, after}, Trace.{group_of, group_in}, Report.{is_of, groups_of}}
+use Rattle.mm_explore.specs.Configurations.{uncounted_row, uncounted, configuration, runs, has_load, running_slots}
+use Rattle.mm_explore.specs.{Configurations.{loaded_ports, moves}, Findings.{Outcome, are_none, outcome_of}}
 use Rattle.mm_explore.specs.Laws.{GoesOnAlike, ConfigurationsGoOn}
 use Rattle.mm_explore.proofs.Uncounted.{uncounted_one, slot_at_so, SameTurn, turns_alike}
 

@@ -1,27 +1,19 @@
 -- The parts of a state of a machine of the image can be kept as their difference from the image.
-use Rattle.std.proofs.Common.{◌≡◌, ℕ, ◌+◌, ◌*◌, ◌<◌, Bool, true, false, if◌then◌else◌, List, [], ◌∷◌, ◌++◌, map, Option, Some, None, refl, sym, ap, ◌∙◌, zero, suc, slice_index_or, arith}
+use Rattle.std.proofs.Common.{◌≡◌, ℕ, ◌+◌, ◌*◌, ◌<◌, Bool, true, false, if◌then◌else◌, List, [], ◌∷◌, ◌++◌, map, Option}
+use Rattle.std.proofs.Common.{Some, None, refl, sym, ap, ◌∙◌, zero, suc, slice_index_or, arith}
 use Rattle.std.specs.List.{AllByRecursion, flat_map}
-use Rattle.mm_machine.proofs.Copied.{slots_words, queues_words}
-use Rattle.mm_word.specs.declared.word.Cell.{Cell}
-use Rattle.mm_word.specs.Word.{IsWord}
-use Rattle.mm_model.specs.declared.event.Event.{Event}
-use Rattle.mm_model.specs.declared.slot.Pending.{Pending}
-use Rattle.mm_model.specs.Memory.{Memory, page_at}
-use Rattle.mm_model.specs.Slot.{Slot}
-use Rattle.mm_model.specs.State.{Core, State, slot_at, queue_at, output_of}
-use Rattle.mm_model.specs.Image.{Image, slot_limit}
-use Rattle.mm_model.specs.Spelling.{IsFresh, HoldsWords, IsImage}
-use Rattle.mm_model.specs.Report.{same_cell, changes_from, cells_or_zero}
-use Rattle.mm_model.specs.Fits.{IsSlot, slots_of, IsFormed, SlotHoldsWords, EventHoldsWords, RowHoldsWords, LoadsMatch, waits_for, Matches, identity_of}
+use Rattle.mm_machine.{proofs.Copied.{slots_words, queues_words}, specs.{Snapshot.{queued_at as events_at}}}
+use Rattle.mm_word.specs.{declared.word.Cell.Cell, Word.IsWord}
+use Rattle.mm_model.specs.{declared.{event.Event.Event, slot.Pending.Pending}, Memory.{Memory, page_at}, Slot.Slot}
+use Rattle.mm_model.specs.{State.{Core, State, slot_at, queue_at, output_of}, Image.{Image, slot_limit}}
+use Rattle.mm_model.specs.{Spelling.{IsFresh, HoldsWords, IsImage}, Report.{same_cell, changes_from, cells_or_zero}}
+use Rattle.mm_model.specs.Fits.{IsSlot, slots_of, IsFormed, SlotHoldsWords, EventHoldsWords, RowHoldsWords, LoadsMatch}
+use Rattle.mm_model.specs.Fits.{waits_for, Matches, identity_of}
 use Rattle.mm_model.proofs.CoreRows.{each_map, each_both, slot_at-number, slot_has}
 use Rattle.mm_model.proofs.Shortness.{pending_short, loads_small, queued_at}
-use Rattle.mm_explore.proofs.WordForms.{IsLoad}
-use Rattle.mm_machine.specs.Snapshot.{queued_at as events_at}
-use Rattle.mm_explore.specs.Configurations.{uncounted_slot}
-use Rattle.mm_explore.specs.Kept.{parts_of, parts_from, kept}
-use Rattle.mm_explore.specs.Assembled.{IsStateOf}
-use Rattle.mm_explore.proofs.SlotForms.{IsKeepable, IsUnused, AreKeepable}
+use Rattle.mm_explore.proofs.{WordForms.IsLoad, SlotForms.{IsKeepable, IsUnused, AreKeepable}}
 use Rattle.mm_explore.proofs.PartForms.{IsKeptEvent, AreBytes, CanKeep, parts_read}
+use Rattle.mm_explore.specs.{Configurations.uncounted_slot, Kept.{parts_of, parts_from, kept}, Assembled.IsStateOf}
 
 -- 1. Slots.
 

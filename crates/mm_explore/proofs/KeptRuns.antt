@@ -1,27 +1,16 @@
 -- What is kept of two states is the same exactly if they are of one configuration; and states of runs are kept.
-use Rattle.std.proofs.Common.{◌≡◌, ℕ, zero, suc, ◌<◌, List, [], ◌∷◌, ◌++◌, map, replicate, slice_index_or, sym, refl, ap, ◌∙◌, subst}
-use Rattle.std.specs.Prelude.{slice_set}
-use Rattle.std.specs.List.{AllByRecursion, flat_map}
-use Rattle.mm_model.specs.declared.event.Event.{Event}
-use Rattle.mm_model.specs.Slot.{Slot}
-use Rattle.mm_model.specs.State.{ThreadRow, Core, State, output_of}
-use Rattle.mm_model.specs.Image.{Image, start}
-use Rattle.mm_model.specs.Spelling.{IsImage}
-use Rattle.mm_model.specs.Run.{after, run}
-use Rattle.mm_model.specs.Report.{groups_of, changes}
-use Rattle.mm_model.specs.Fits.{slots_of}
+use Rattle.std.proofs.Common.{◌≡◌, ℕ, zero, suc, ◌<◌, List, [], ◌∷◌, ◌++◌, map, replicate, slice_index_or, sym, refl}
+use Rattle.std.{proofs.Common.{ap, ◌∙◌, subst}, specs.{Prelude.slice_set, List.{AllByRecursion, flat_map}}}
+use Rattle.mm_model.specs.{declared.event.Event.Event, Slot.Slot, State.{ThreadRow, Core, State, output_of}}
+use Rattle.mm_model.specs.{Image.{Image, start}, Spelling.IsImage, Run.{after, run}, Report.{groups_of, changes}}
+use Rattle.mm_model.specs.{Fits.slots_of, Turn.turn}
 use Rattle.mm_model.proofs.Starts.{start_state, start_fits, start_kept}
-use Rattle.mm_model.proofs.StateKeeps.{after_state, after_fits, after_kept}
+use Rattle.mm_model.proofs.{StateKeeps.{after_state, after_fits, after_kept}, OutputBytes.{after_bytes, start_bytes}}
 use Rattle.mm_machine.specs.Snapshot.{queued, queued_at, page_numbers}
 use Rattle.mm_explore.specs.Configurations.{uncounted_slot, uncounted_row, uncounted, configuration}
-use Rattle.mm_explore.specs.Kept.{Parts, output_part, parts_of, numbers_of, kept}
-use Rattle.mm_explore.specs.Assembled.{assembled, IsStateOf}
+use Rattle.mm_explore.specs.{Kept.{Parts, output_part, parts_of, numbers_of, kept}, Assembled.{assembled, IsStateOf}}
 use Rattle.mm_explore.specs.Laws.{KeptFormsAreConfigurations}
-use Rattle.mm_explore.proofs.Uncounted.{queue_at_so}
-use Rattle.mm_model.specs.Turn.{turn}
-use Rattle.mm_model.proofs.OutputBytes.{after_bytes, start_bytes}
-use Rattle.mm_explore.proofs.Keepables.{kept_tells}
-use Rattle.mm_explore.proofs.Assembling.{assembles}
+use Rattle.mm_explore.proofs.{Uncounted.queue_at_so, Keepables.kept_tells, Assembling.assembles}
 
 slots_bare : (rows : List ThreadRow) → map uncounted_slot (map (λ (row : ThreadRow). row.slot) (map uncounted_row rows)) ≡ map uncounted_slot (map (λ (row : ThreadRow). row.slot) rows)
 slots_bare [] = refl

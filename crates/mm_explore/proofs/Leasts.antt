@@ -1,13 +1,8 @@
 -- A least schedule is a least schedule and a move after it.
-use Rattle.std.proofs.Common.{◌≡◌, inl, inr, ℕ, List, sym, ◌∙◌}
-use Rattle.std.specs.Prelude.{Contains}
-use Rattle.mm_model.specs.Image.{Image, start}
-use Rattle.mm_model.specs.Run.{run}
-use Rattle.mm_explore.specs.Configurations.{moves}
-use Rattle.mm_explore.specs.Explored.{leads_to, IsLeast}
-use Rattle.mm_explore.specs.Laws.{LeastSchedulesAreMoves}
-use Rattle.mm_explore.proofs.Orders.{before_more, before_both, more}
-use Rattle.mm_explore.proofs.Movings.{moves_or_idles, idle_leads}
+use Rattle.std.{proofs.Common.{◌≡◌, inl, inr, ℕ, List, sym, ◌∙◌}, specs.Prelude.Contains}
+use Rattle.mm_model.specs.{Image.{Image, start}, Run.run}
+use Rattle.mm_explore.specs.{Configurations.moves, Explored.{leads_to, IsLeast}, Laws.LeastSchedulesAreMoves}
+use Rattle.mm_explore.proofs.{Orders.{before_more, before_both, more}, Movings.{moves_or_idles, idle_leads}}
 use Rattle.mm_explore.proofs.Coverings.{leads_alike, leads_more}
 
 least_front : (i : Image) (t : List ℕ) (x : ℕ) → IsLeast i (more t x) → IsLeast i t

@@ -1,9 +1,8 @@
 -- Lines of results so far, and of what is left.
-use Rattle.std.proofs.Common.{◌≡◌, ℕ, ◌+◌, ◌-◌, ◌<◌, ◌≤◌, get_or, take, length, arith, List, [], ◌∷◌, ◌++◌, sym, ap, ◌∙◌, subst, append_assoc, append-nil}
-use Rattle.std.specs.List.{AllZip, flat_map, range_with_len}
-use Rattle.std.proofs.lemmas.List.{take_more}
-use Rattle.std.proofs.lemmas.List.FromFn.{get_or-range_with_len, length-range_with_len}
-use Rattle.std.proofs.lemmas.Grind.{flat_map-append}
+use Rattle.std.proofs.Common.{◌≡◌, ℕ, ◌+◌, ◌-◌, ◌<◌, ◌≤◌, get_or, take, length, arith, List, [], ◌∷◌, ◌++◌, sym, ap}
+use Rattle.std.proofs.Common.{◌∙◌, subst, append_assoc, append-nil}
+use Rattle.std.proofs.lemmas.List.{take_more, FromFn.{get_or-range_with_len, length-range_with_len}}
+use Rattle.std.{proofs.lemmas.Grind.flat_map-append, specs.List.{AllZip, flat_map, range_with_len}}
 use Rattle.mm_word.specs.Cause.{cause_numbers}
 
 -- each of a list stands in a relation to one of another list, results have the lines of the first of them, and the rest is left

@@ -1,11 +1,9 @@
 -- The list of changed cells of a memory after a turn.
 use Rattle.std.proofs.Common.{◌≡◌, ℕ, List, length, Option, Some, None, sym, ap, ◌∙◌, subst}
 use Rattle.mm_word.specs.declared.word.Cell.{Cell}
-use Rattle.mm_model.specs.Image.{Image}
-use Rattle.mm_model.specs.Memory.{Memory}
+use Rattle.mm_model.specs.{Image.Image, Memory.Memory}
 use Rattle.mm_laws.proofs.AlikeWorlds.{whole_memory}
-use Rattle.mm_explore.specs.Edits.{changed_at, noted}
-use Rattle.mm_explore.specs.Holds.{IsMemoryOf, AreListed, IsMoved}
+use Rattle.mm_explore.specs.{Edits.{changed_at, noted}, Holds.{IsMemoryOf, AreListed, IsMoved}}
 use Rattle.mm_explore.proofs.CellLists.{noted_right}
 
 module _ (i : Image) (m later : Memory) (hm : IsMemoryOf i m) (hl : IsMemoryOf i later)

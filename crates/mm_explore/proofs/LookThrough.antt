@@ -1,20 +1,14 @@
 -- The changed cells of a memory, page by page and cell by cell.
 use Rattle.std.proofs.Common.{◌≡◌, inl, inr, ℕ, zero, suc, ◌+◌, ◌*◌, ◌^◌, ◌<◌, Bool, true, false, if◌then◌else◌, List}
-use Rattle.std.proofs.Common.{[], ◌∷◌, ◌++◌, map, take, length, slice_get, Option, Some, None, is_some, refl}
-use Rattle.std.proofs.Common.{sym, ap, ◌∙◌, subst, arith, T, append_assoc}
+use Rattle.std.proofs.Common.{[], ◌∷◌, ◌++◌, map, take, length, slice_get, Option, Some, None, is_some, refl, sym, ap}
+use Rattle.std.proofs.{Common.{◌∙◌, subst, arith, T, append_assoc}, lemmas.List.{take_all, flat_map_more}}
 use Rattle.std.specs.List.{flat_map}
-use Rattle.std.proofs.lemmas.List.{take_all, flat_map_more}
-use Rattle.mm_explore.proofs.Assembling.{there_get}
-use Rattle.mm_word.specs.declared.word.Cell.{Cell}
-use Rattle.mm_model.specs.Image.{Image}
-use Rattle.mm_model.specs.Memory.{Memory, page_at, cell_in, cell_at, is_mapped, IsPaged}
-use Rattle.mm_model.specs.Report.{same_cell, cells_or_zero, changes_from}
-use Rattle.mm_model.proofs.Memories.{page_whole, zeros_get}
-use Rattle.mm_laws.proofs.CellViews.{IsIn}
-use Rattle.mm_laws.proofs.ChangedCells.{cell_or_zero, cell_of, found_page}
+use Rattle.mm_explore.proofs.{Assembling.there_get, CellLists.same_base, Putting.take_got}
 use Rattle.mm_explore.specs.Edits.{base_cell, if_changed, changed_at, entry}
-use Rattle.mm_explore.proofs.CellLists.{same_base}
-use Rattle.mm_explore.proofs.Putting.{take_got}
+use Rattle.mm_word.specs.declared.word.Cell.{Cell}
+use Rattle.mm_model.specs.{Image.Image, Memory.{Memory, page_at, cell_in, cell_at, is_mapped, IsPaged}}
+use Rattle.mm_model.{specs.Report.{same_cell, cells_or_zero, changes_from}, proofs.Memories.{page_whole, zeros_get}}
+use Rattle.mm_laws.proofs.{CellViews.IsIn, ChangedCells.{cell_or_zero, cell_of, found_page}}
 
 -- 1. One cell more.
 

@@ -1,29 +1,19 @@
 -- A memory with one list of changed cells becomes that with another.
-use Rattle.std.proofs.Common.{◌≡◌, inl, inr, ℕ, zero, suc, ◌-◌, ◌%◌, ◌<◌, Bool, true, false, if◌then◌else◌}
-use Rattle.std.proofs.Common.{List, [], ◌∷◌, ◌++◌, map, take, drop, length, length-drop, Option, Some, None, refl, sym}
-use Rattle.std.proofs.Common.{ap, ◌∙◌, subst, arith}
-use Rattle.std.specs.List.{AllByRecursion}
-use Rattle.std.specs.Ordering.{nat_cmp}
-use Rattle.std.specs.FinMap.{find}
-use Rattle.std.proofs.lemmas.Bool.{cases_eq}
-use Rattle.std.proofs.lemmas.List.{take_all}
-use Rattle.mm_model.proofs.EffectWords.{cell_words}
-use Rattle.mm_model.proofs.Sames.{cells_same}
-use Rattle.mm_word.specs.declared.word.Cell.{Cell}
-use Rattle.mm_word.specs.Word.{IsWord}
-use Rattle.mm_model.specs.Image.{Image}
-use Rattle.mm_model.specs.Memory.{Memory, cell_at, IsPaged}
-use Rattle.mm_model.specs.Report.{same_cell, changes}
+use Rattle.std.proofs.Common.{◌≡◌, inl, inr, ℕ, zero, suc, ◌-◌, ◌%◌, ◌<◌, Bool, true, false, if◌then◌else◌, List, []}
+use Rattle.std.proofs.Common.{◌∷◌, ◌++◌, map, take, drop, length, length-drop, Option, Some, None, refl, sym, ap, ◌∙◌}
+use Rattle.std.proofs.{Common.{subst, arith}, lemmas.{Bool.cases_eq, List.take_all}}
+use Rattle.std.specs.{List.AllByRecursion, Ordering.nat_cmp, FinMap.find}
+use Rattle.mm_model.proofs.{EffectWords.cell_words, Sames.cells_same}
+use Rattle.mm_model.specs.{Image.Image, Memory.{Memory, cell_at, IsPaged}, Report.{same_cell, changes}}
 use Rattle.mm_model.specs.Spelling.{IsImage}
+use Rattle.mm_word.specs.{declared.word.Cell.Cell, Word.IsWord}
 use Rattle.mm_machine.specs.Snapshot.{page_numbers}
-use Rattle.mm_laws.proofs.CellViews.{Rising}
-use Rattle.mm_laws.proofs.ChangedCells.{changes_rising}
-use Rattle.mm_laws.proofs.AlikeWorlds.{whole_memory}
+use Rattle.mm_laws.proofs.{CellViews.Rising, ChangedCells.changes_rising, AlikeWorlds.whole_memory}
 use Rattle.mm_explore.specs.Assembled.{base_memory, put_cells}
-use Rattle.mm_explore.specs.Edits.{base_cell, if_changed, changed_at, as_base, AreAtWords}
-use Rattle.mm_explore.specs.Holds.{IsMemoryOf}
+use Rattle.mm_explore.specs.{Edits.{base_cell, if_changed, changed_at, as_base, AreAtWords}, Holds.IsMemoryOf}
 use Rattle.mm_explore.proofs.Assembling.{as_in_image, base_cell_at, put_frames_all, put_paged_all, image_word}
-use Rattle.mm_explore.proofs.CellLists.{find_here, find_later, same_base, find_both, either, rises_left, rises_right, in_one, change_found, changes_at_words, over, put_found, Aligned}
+use Rattle.mm_explore.proofs.CellLists.{find_here, find_later, same_base, find_both, either, rises_left, rises_right}
+use Rattle.mm_explore.proofs.CellLists.{in_one, change_found, changes_at_words, over, put_found, Aligned}
 
 -- 1. The image's cells at the words of a list.
 

@@ -1,19 +1,13 @@
 -- A store puts a cell where one is.
-use Rattle.std.proofs.Common.{◌≡◌, ℕ, ◌+◌, ◌%◌, ◌<◌, Bool, true, false, if◌then◌else◌, List, [], ◌∷◌, ◌++◌}
-use Rattle.std.proofs.Common.{map, take, length, get_or, slice_get, Option, None, Some, refl, sym, ap, ◌∙◌, subst}
-use Rattle.std.proofs.Common.{arith}
+use Rattle.std.proofs.Common.{◌≡◌, ℕ, ◌+◌, ◌%◌, ◌<◌, Bool, true, false, if◌then◌else◌, List, [], ◌∷◌, ◌++◌, map, take}
+use Rattle.std.proofs.Common.{length, get_or, slice_get, Option, None, Some, refl, sym, ap, ◌∙◌, subst, arith}
 use Rattle.std.proofs.lemmas.Option.{slice_get-get_or}
-use Rattle.mm_word.specs.declared.word.Cell.{Cell}
-use Rattle.mm_word.specs.declared.word.Pre.TheVariants.{Any}
-use Rattle.mm_word.specs.declared.word.Post.{Post}
-use Rattle.mm_word.specs.declared.word.Post.TheVariants.{Full, Empty}
-use Rattle.mm_model.specs.Memory.{Memory, IsPaged, page_of, place_of, page_at, cell_in, cell_at, put_cell, full_after, zero_cell}
+use Rattle.mm_word.specs.declared.word.{Cell.Cell, Pre.TheVariants.Any, Post.{Post, TheVariants.{Full, Empty}}}
+use Rattle.mm_model.specs.Memory.{Memory, IsPaged, page_of, place_of, page_at, cell_in, cell_at, put_cell, full_after}
+use Rattle.mm_model.specs.{Memory.zero_cell, Image.Image}
 use Rattle.mm_model.proofs.Memories.{put_cell-unmapped, put_paged, cell_at-aligned, page_whole, place_within}
-use Rattle.mm_model.specs.Image.{Image}
 use Rattle.mm_mem.specs.Answers.{put_where, after_store}
-use Rattle.mm_explore.specs.Assembled.{put_cells}
-use Rattle.mm_explore.specs.Edits.{as_base, base_cell}
-use Rattle.mm_explore.proofs.Putting.{take_got}
+use Rattle.mm_explore.{specs.{Assembled.put_cells, Edits.{as_base, base_cell}}, proofs.Putting.take_got}
 
 abbrev pub post_of : Bool → Post
 post_of full = if full then Full else Empty

@@ -1,36 +1,21 @@
 -- What a turn makes of the pages and cells of a memory; and where it leads a machine that stands at a configuration.
 use Rattle.std.proofs.Common.{◌≡◌, inl, inr, ℕ, suc, ◌+◌, ◌%◌, ◌^◌, ◌<◌, ◌≤◌, Bool, true, false, not, cond}
 use Rattle.std.proofs.Common.{if◌then◌else◌, List, [], ◌∷◌, ◌++◌, length, Option, Some, None, is_some, refl, sym, ap}
-use Rattle.std.proofs.Common.{◌∙◌, subst, arith, T, eq-eqb}
-use Rattle.std.specs.Prelude.{◌==◌, IfSome}
-use Rattle.std.specs.List.{filter}
-use Rattle.std.specs.Ordering.{nat_cmp, is_eq}
+use Rattle.std.proofs.{Common.{◌∙◌, subst, arith, T, eq-eqb}, lemmas.{Cmp.nat_cmp_total, Bool.{cases_eq, ne_eqb}}}
+use Rattle.std.specs.{Prelude.{◌==◌, IfSome}, List.filter, Ordering.{nat_cmp, is_eq}}
 use Rattle.std.specs.declared.cmp.Ordering.TheVariants.{Less, Equal, Greater}
-use Rattle.std.specs.FinMap.{find, put, is_sorted}
-use Rattle.std.specs.FinMap.Entries.{by_order, length-put}
-use Rattle.std.specs.Cmp.{unsigned_tied}
-use Rattle.std.proofs.lemmas.Cmp.{nat_cmp_total}
-use Rattle.std.proofs.lemmas.Bool.{cases_eq, ne_eqb}
-use Rattle.mm_word.specs.declared.word.Cell.{Cell}
-use Rattle.mm_word.specs.Access.{AccessValue}
+use Rattle.std.specs.{FinMap.{find, put, is_sorted, Entries.{by_order, length-put}}, Cmp.unsigned_tied}
+use Rattle.mm_word.specs.{declared.word.Cell.Cell, Access.AccessValue}
 use Rattle.mm_model.specs.declared.step.Step.{Step}
-use Rattle.mm_model.specs.Memory.{Memory, page_of, place_of, page_at, cell_at, put_cell, put_in, is_mapped, can_map, map_page, unmap_page, zero_page, IsPaged}
-use Rattle.mm_model.specs.State.{Core, State}
-use Rattle.mm_model.specs.Image.{Image, start}
-use Rattle.mm_model.specs.Run.{after, run}
-use Rattle.mm_model.specs.Trace.{group_in}
-use Rattle.mm_model.specs.Turn.{turn}
+use Rattle.mm_model.specs.Memory.{Memory, page_of, place_of, page_at, cell_at, put_cell, put_in, is_mapped, can_map}
+use Rattle.mm_model.specs.{Memory.{map_page, unmap_page, zero_page, IsPaged}, State.{Core, State}, Image.{Image, start}}
+use Rattle.mm_model.specs.{Run.{after, run}, Trace.group_in, Turn.turn, Counted.writes}
 use Rattle.mm_model.proofs.Memories.{cell_at-put_other, can_map-facts}
+use Rattle.mm_model.proofs.TurnChanges.{MemoryMoves, turn_changes, MemoryMoves.{Stays, Writes, Maps, Removes}}
 use Rattle.mm_machine.specs.Snapshot.{page_numbers}
-use Rattle.mm_explore.specs.Configurations.{configuration}
-use Rattle.mm_explore.specs.Explored.{leads_to}
-use Rattle.mm_explore.specs.Findings.{turn_at}
+use Rattle.mm_explore.specs.{Configurations.configuration, Explored.leads_to, Findings.turn_at}
 use Rattle.mm_explore.specs.Holds.{word_written, IsBeside, IsMoved}
-use Rattle.mm_explore.proofs.Coverings.{leads_more}
-use Rattle.mm_explore.proofs.Goings.{configurations_go_on}
-use Rattle.mm_model.proofs.TurnChanges.{MemoryMoves, turn_changes}
-use Rattle.mm_model.proofs.TurnChanges.MemoryMoves.{Stays, Writes, Maps, Removes}
-use Rattle.mm_model.specs.Counted.{writes}
+use Rattle.mm_explore.proofs.{Coverings.leads_more, Goings.configurations_go_on}
 
 abbrev Pages : Type 0
 Pages = List (ℕ × List Cell)

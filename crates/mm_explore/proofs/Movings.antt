@@ -2,28 +2,21 @@
 use Rattle.std.proofs.Common.{◌≡◌, ◌⊎◌, inl, inr, ℕ, ◌+◌, ◌-◌, ◌<◌, ◌≤◌, Bool, true, false, ◌&&◌, ◌==◌, nat_le}
 use Rattle.std.proofs.Common.{if◌then◌else◌, List, [], ◌∷◌, map, Option, Some, None, refl, sym, ap, ◌∙◌, subst, arith}
 use Rattle.std.proofs.Common.{eqb-true, leb-true}
-use Rattle.std.specs.Prelude.{Contains}
-use Rattle.std.specs.List.{filter}
-use Rattle.std.proofs.lemmas.Bool.{both_ways}
-use Rattle.std.proofs.lemmas.List.Elements.{Contains-append_left, Contains-append_right}
-use Rattle.mm_model.specs.declared.slot.Pending.{Pending}
-use Rattle.mm_model.specs.Memory.{Memory}
-use Rattle.mm_model.specs.Slot.{Slot}
+use Rattle.std.proofs.lemmas.{Bool.both_ways, List.Elements.{Contains-append_left, Contains-append_right}}
+use Rattle.std.specs.{Prelude.Contains, List.{filter, Sorted.IsStrictlyIncreasing}}
+use Rattle.mm_model.specs.{declared.slot.Pending.Pending, Memory.Memory, Slot.Slot}
 use Rattle.mm_model.specs.State.{ThreadRow, Core, State, row_in, slot_of, slot_at}
 use Rattle.mm_model.specs.Turn.{Turned, is_running, started, idle, arrives, taken_by_port, taken_by, turn}
-use Rattle.mm_model.specs.Run.{turn_of, after, run}
-use Rattle.std.specs.List.Sorted.{IsStrictlyIncreasing}
-use Rattle.mm_laws.proofs.AlikeRows.{numbers_above}
-use Rattle.mm_model.specs.Image.{Image, start}
-use Rattle.mm_model.specs.Spelling.{IsImage}
+use Rattle.mm_model.specs.{Run.{turn_of, after, run}, Image.{Image, start}, Spelling.IsImage}
 use Rattle.mm_model.specs.Fits.{IsSlot, slots_of, IsFormed, IsState, Fits}
-use Rattle.mm_model.proofs.CoreRows.{above_first, rest_rises}
-use Rattle.mm_model.proofs.Starts.{start_state, start_fits}
+use Rattle.mm_model.proofs.{CoreRows.{above_first, rest_rises}, Starts.{start_state, start_fits}}
 use Rattle.mm_model.proofs.StateKeeps.{after_state, after_fits}
+use Rattle.mm_laws.proofs.AlikeRows.{numbers_above}
 use Rattle.mm_explore.specs.Pairs.{EachPair}
-use Rattle.mm_explore.specs.Configurations.{uncounted, configuration, runs, are_some, has_load, running_slots, loaded_ports, moves}
-use Rattle.mm_explore.specs.Laws.{OthersAreIdle}
-use Rattle.mm_explore.proofs.Members.{none_in, in_first, in_rest, in_map, in_filter, all_at, map_in, filter_in, pairs_both, pairs_filter, pairs_map}
+use Rattle.mm_explore.specs.Configurations.{uncounted, configuration, runs, are_some, has_load, running_slots}
+use Rattle.mm_explore.specs.{Configurations.{loaded_ports, moves}, Laws.OthersAreIdle}
+use Rattle.mm_explore.proofs.Members.{none_in, in_first, in_rest, in_map, in_filter, all_at, map_in, filter_in}
+use Rattle.mm_explore.proofs.Members.{pairs_both, pairs_filter, pairs_map}
 
 both_first : (a b : Bool) → (a && b) ≡ true → a ≡ true
 both_first true b e = refl

@@ -1,27 +1,19 @@
 -- One turn more, and one final schedule more, is noted.
-use Rattle.std.proofs.Common.{◌≡◌, ℕ, ◌<◌, ◌^◌, Bool, true, false, cond, nat_eq, List, [], ◌∷◌, ◌++◌, length, Option, Some, None, slice_get, Result, Ok, Err, OnOk, sym, ap, ◌∙◌, subst, append-nil}
-use Rattle.std.specs.List.{AllZip, AllByRecursion, flat_map}
-use Rattle.std.specs.Option.{option_or}
-use Rattle.std.specs.BTreeMap.{get}
-use Rattle.std.specs.Global.{Vec}
-use Rattle.std.proofs.lemmas.Grind.{flat_map-append}
-use Rattle.std.proofs.lemmas.List.Folds.{find-append}
+use Rattle.std.proofs.Common.{◌≡◌, ℕ, ◌<◌, ◌^◌, Bool, true, false, cond, nat_eq, List, [], ◌∷◌, ◌++◌, length, Option}
+use Rattle.std.proofs.Common.{Some, None, slice_get, Result, Ok, Err, OnOk, sym, ap, ◌∙◌, subst, append-nil}
+use Rattle.std.proofs.lemmas.{Grind.flat_map-append, List.Folds.find-append}
+use Rattle.std.specs.{List.{AllZip, AllByRecursion, flat_map}, Option.option_or, BTreeMap.get, Global.Vec}
 use Rattle.indexmap.specs.IndexMap.{insert_entry, IsUnique}
-use Rattle.indexmap.specs.IndexMap as index
 use lib.Pointwise.{pointwise}
 use Rattle.mm_word.specs.declared.perm.Kind.{Kind}
-use Rattle.mm_model.specs.declared.step.Step.{Step}
-use Rattle.mm_model.specs.Image.{Image}
-use Rattle.mm_model.specs.Trace.{group_in}
-use Rattle.mm_explore.specs.declared.findings.Findings.{Findings}
-use Rattle.mm_explore.specs.declared.found.Origin.{Origin}
+use Rattle.mm_model.specs.{declared.step.Step.Step, Image.Image, Trace.group_in, Counted.writes}
+use Rattle.mm_explore.specs.declared.{findings.Findings.Findings, found.Origin.Origin}
 use Rattle.mm_explore.specs.Findings.{Extension, turn_at, any_kind, has_fault, IsFinal, outcome_at, firsts}
 use Rattle.mm_explore.specs.FoundLists.{IsOrigin}
 use Rattle.mm_explore.specs.Noting.{IsFrom, first_kept, first_in, outcome_form, IsEnd, tally_after, Noted, Ended}
 use Rattle.mm_explore.specs.Words.{order, AreKept, step_words, turn_words}
-use Rattle.mm_explore.proofs.Notings.{final_more}
-use Rattle.mm_explore.proofs.Tallies.{ends_more, counts_fit}
-use Rattle.mm_model.specs.Counted.{writes}
+use Rattle.mm_explore.proofs.{Notings.final_more, Tallies.{ends_more, counts_fit}}
+use Rattle.indexmap.specs.IndexMap as index
 
 pub both_ok : {T E P Q R : Type 0} → (r : Result T E) → (P → Q → R) → OnOk r P → OnOk r Q → OnOk r R
 both_ok (Ok t) f h k = f h k

@@ -2,10 +2,8 @@
 use Rattle.std.proofs.Common.{◌≡◌, inl, inr, ℕ, suc, zero, List, [], ◌∷◌, ◌++◌, Option, Some, None, slice_get, refl, ap}
 use Rattle.std.specs.List.{AllZip}
 use Rattle.mm_model.specs.Image.{Image}
-use Rattle.mm_explore.specs.declared.findings.Findings.{Findings}
-use Rattle.mm_explore.specs.declared.found.Origin.{Origin}
-use Rattle.mm_explore.specs.Findings.{Extension, IsFinal, AreFinal}
-use Rattle.mm_explore.specs.Noting.{IsFrom, IsEnd, Noted, Ended}
+use Rattle.mm_explore.specs.declared.{findings.Findings.Findings, found.Origin.Origin}
+use Rattle.mm_explore.specs.{Findings.{Extension, IsFinal, AreFinal}, Noting.{IsFrom, IsEnd, Noted, Ended}}
 
 -- what is at an index stays there
 stays_at : {X : Type 0} (xs ys : List X) (k : ℕ) (x : X) → slice_get xs k ≡ Some x → slice_get (xs ++ ys) k ≡ Some x

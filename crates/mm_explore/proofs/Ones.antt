@@ -1,19 +1,13 @@
 -- What an exploration finds is determined: the list, the runs of words, the final schedules, and so the text.
-use Rattle.std.proofs.Common.{◌≡◌, ◌⊎◌, inl, inr, ℕ, zero, suc, ◌<◌, ◌≤◌, Bool, true, false, List, [], ◌∷◌, length, refl, sym, ap, ◌∙◌, subst, arith}
-use Rattle.std.specs.Prelude.{Contains}
-use Rattle.std.specs.List.{AllByRecursion, AllZip}
-use Rattle.mm_model.specs.Image.{Image, start}
-use Rattle.mm_model.specs.Report.{groups_of}
-use Rattle.mm_explore.specs.Pairs.{EachPair}
-use Rattle.mm_explore.specs.Schedules.{Before}
-use Rattle.mm_explore.specs.Explored.{IsLeast, IsExplored, IsAll}
+use Rattle.std.proofs.Common.{◌≡◌, ◌⊎◌, inl, inr, ℕ, zero, suc, ◌<◌, ◌≤◌, Bool, true, false, List, [], ◌∷◌, length}
+use Rattle.std.proofs.Common.{refl, sym, ap, ◌∙◌, subst, arith}
+use Rattle.std.specs.{Prelude.Contains, List.{AllByRecursion, AllZip}}
+use Rattle.mm_model.specs.{Image.{Image, start}, Report.groups_of, Counted.writes}
+use Rattle.mm_explore.specs.{Pairs.EachPair, Schedules.Before, Explored.{IsLeast, IsExplored, IsAll}}
 use Rattle.mm_explore.specs.Findings.{Span, word_in, IsApart, AreSpans, any_kind, Reaches, Reached, IsReached, AreFinal}
-use Rattle.mm_explore.specs.Texts.{Exploration, IsExploration, exploration_text}
-use Rattle.mm_explore.specs.Laws.{ExplorationsAreOne}
+use Rattle.mm_explore.specs.{Texts.{Exploration, IsExploration, exploration_text}, Laws.ExplorationsAreOne}
 use Rattle.mm_explore.specs.Searching.{UpTo}
-use Rattle.mm_explore.proofs.Orders.{before_self, before_through, numbers}
-use Rattle.mm_explore.proofs.Members.{none_in, in_cases, all_at}
-use Rattle.mm_model.specs.Counted.{writes}
+use Rattle.mm_explore.proofs.{Orders.{before_self, before_through, numbers}, Members.{none_in, in_cases, all_at}}
 
 -- 1. The first schedules for which something holds.
 

@@ -1,7 +1,7 @@
 -- The order of schedules: it is a strict total order, it is well-founded, and what it is to one item more.
-use Rattle.std.proofs.Common.{◌≡◌, ◌⊎◌, inl, inr, ℕ, zero, suc, ◌<◌, List, [], ◌∷◌, ◌++◌, length, refl, sym, ap, ◌∙◌, subst, arith, length-append}
-use Rattle.mm_explore.specs.Schedules.{IsLess, Before}
-use Rattle.mm_explore.specs.Searching.{UpTo}
+use Rattle.std.proofs.Common.{◌≡◌, ◌⊎◌, inl, inr, ℕ, zero, suc, ◌<◌, List, [], ◌∷◌, ◌++◌, length, refl, sym, ap, ◌∙◌}
+use Rattle.std.proofs.Common.{subst, arith, length-append}
+use Rattle.mm_explore.specs.{Schedules.{IsLess, Before}, Searching.UpTo}
 
 -- 1. Numbers.
 

@@ -1,38 +1,25 @@
 -- The parts of a configuration, read again from their numbers.
 use Rattle.std.proofs.Common.{◌≡◌, ℕ, suc, ◌+◌, ◌*◌, ◌/◌, ◌%◌, ◌<◌, Bool, true, false, if◌then◌else◌, nat_eq, List, []}
 use Rattle.std.proofs.Common.{◌∷◌, ◌++◌, map, length, refl, sym, ap, ◌∙◌, arith, append_assoc}
-use Rattle.std.specs.Prelude.{◌==◌, unwrap_or, Option}
-use Rattle.std.specs.List.{AllByRecursion, flat_map}
+use Rattle.std.specs.{Prelude.{◌==◌, unwrap_or, Option}, List.{AllByRecursion, flat_map}}
 use lib.Pointwise.{pointwise, pointwise_decides}
-use Rattle.mm_model.proofs.Bytes.SpelledRecords.{is_spelled}
-use Rattle.mm_model.proofs.OneIf.{below_two, one_back}
-use Rattle.mm_explore.proofs.Finals.{numbers_decide}
-use Rattle.mm_word.specs.declared.cause.Cause.{Cause}
-use Rattle.mm_word.specs.declared.cause.Cause.TheVariants.{NotPointer}
-use Rattle.mm_word.specs.declared.perm.Perm.TheVariants.{Key}
-use Rattle.mm_word.specs.declared.word.Word.{Word}
-use Rattle.mm_word.specs.declared.word.Cell.{Cell}
-use Rattle.mm_word.specs.Pointer.{Pointer, IsWellFormed, pointer_of, bits_of}
-use Rattle.mm_word.specs.Cause.{number_of, cause_of}
-use Rattle.mm_word.proofs.Causes.{cause_back}
-use Rattle.mm_word.specs.Word.{IsWord, word_bits, is_pointer}
-use Rattle.mm_word.proofs.Packing.{pointer_of-bits_of}
-use Rattle.mm_model.specs.declared.event.Event.{Event}
-use Rattle.mm_model.specs.Fits.{EventHoldsWords}
-use Rattle.mm_model.specs.Flags.{one_if}
-use Rattle.mm_model.specs.Image.{Image, start}
-use Rattle.mm_model.specs.Report.{groups_of}
-use Rattle.mm_model.specs.Slot.{Slot}
-use Rattle.mm_thread.specs.Output.{Output}
-use Rattle.mm_machine.specs.Snapshot.{page_numbers}
+use Rattle.mm_model.proofs.{Bytes.SpelledRecords.is_spelled, OneIf.{below_two, one_back}}
+use Rattle.mm_model.specs.{declared.event.Event.Event, Fits.EventHoldsWords, Flags.one_if, Image.{Image, start}}
+use Rattle.mm_model.specs.{Report.groups_of, Slot.Slot}
+use Rattle.mm_explore.proofs.{Finals.numbers_decide, WordForms.{word_again, word_read}}
+use Rattle.mm_explore.proofs.SlotForms.{AreKeepable, slots_read}
 use Rattle.mm_explore.specs.Configurations.{uncounted_slot}
 use Rattle.mm_explore.specs.Kept.{Parts, first_number, behind, word_of, word_form, word_from, pointer_or_key}
 use Rattle.mm_explore.specs.Kept.{event_form, event_from, events_by, events_form, events_from, bytes_by, output_form}
 use Rattle.mm_explore.specs.Kept.{outputs_form, outputs_from, pages_form, pages_by, pages_from, cells_form, cells_from}
 use Rattle.mm_explore.specs.Kept.{slots_form, slots_from, numbers_of, parts_with_pages, parts_with_outputs}
 use Rattle.mm_explore.specs.Kept.{parts_with_events, parts_with_slots, parts_from, numbers_by}
-use Rattle.mm_explore.proofs.WordForms.{word_again, word_read}
-use Rattle.mm_explore.proofs.SlotForms.{AreKeepable, slots_read}
+use Rattle.mm_word.specs.declared.{cause.Cause.{Cause, TheVariants.NotPointer}, perm.Perm.TheVariants.Key}
+use Rattle.mm_word.specs.{declared.word.{Word.Word, Cell.Cell}, Pointer.{Pointer, IsWellFormed, pointer_of, bits_of}}
+use Rattle.mm_word.specs.{Cause.{number_of, cause_of}, Word.{IsWord, word_bits, is_pointer}}
+use Rattle.mm_word.proofs.{Causes.cause_back, Packing.pointer_of-bits_of}
+use Rattle.mm_thread.specs.Output.{Output}
+use Rattle.mm_machine.specs.Snapshot.{page_numbers}
 
 -- 1. Events.
 

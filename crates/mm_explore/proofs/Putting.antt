@@ -2,22 +2,17 @@
 use Rattle.std.proofs.Common.{◌≡◌, ℕ, zero, suc, ◌+◌, ◌-◌, ◌*◌, ◌<◌, ◌≤◌, Bool, true, false, if◌then◌else◌, nat_eq}
 use Rattle.std.proofs.Common.{List, [], ◌∷◌, ◌++◌, map, drop, take, length, get_or, Option, Some, slice_get, Result, Ok}
 use Rattle.std.proofs.Common.{Err, OnOk, refl, sym, ap, ◌∙◌, append_assoc, arith, eqb-true}
+use Rattle.std.proofs.{Math.Seq.take-length, lemmas.{Option.{slice_get_within, get_or_from_slice_get}, List.take_more}}
+use Rattle.std.specs.{Prelude.not, List.list_any}
 use mir.Val.{bool_byte}
-use Rattle.std.proofs.Math.Seq.{take-length}
-use Rattle.std.specs.Prelude.{not}
-use Rattle.std.specs.List.{list_any}
-use Rattle.std.proofs.lemmas.Option.{slice_get_within, get_or_from_slice_get}
-use Rattle.std.proofs.lemmas.List.{take_more}
 use Rattle.mm_mem.proofs.PackedCells.{byte_of_bool}
-use Rattle.mm_model.specs.declared.event.Event.{Event}
+use Rattle.mm_model.specs.{declared.event.Event.Event, Image.Image, Flags.{one_if, number_of_flags}, Slot.Slot}
 use Rattle.mm_machine.specs.Snapshot.{page_numbers}
 use Rattle.mm_word.specs.declared.word.Cell.{Cell}
-use Rattle.mm_model.specs.Image.{Image}
 use Rattle.mm_thread.specs.Output.{Output}
-use Rattle.mm_model.specs.Flags.{one_if, number_of_flags}
-use Rattle.mm_model.specs.Slot.{Slot}
 use Rattle.mm_explore.specs.Configurations.{uncounted_slot}
-use Rattle.mm_explore.specs.Kept.{is_base, slot_flags, slot_form, slot_forms, slots_form, events_form, outputs_form, pages_form, cells_form, listed, held_parts, numbers_of}
+use Rattle.mm_explore.specs.Kept.{is_base, slot_flags, slot_form, slot_forms, slots_form, events_form, outputs_form}
+use Rattle.mm_explore.specs.Kept.{pages_form, cells_form, listed, held_parts, numbers_of}
 
 -- 1. Flags that are all clear.
 

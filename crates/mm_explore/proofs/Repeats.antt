@@ -1,9 +1,8 @@
 -- The longest runs of equal items, run by run from the front.
-use Rattle.std.proofs.Common.{◌≡◌, ℕ, suc, ◌+◌, ◌==◌, Bool, true, false, cond, List, [], ◌∷◌, ◌<◌, length, drop, get_or, refl, sym, ap, ◌∙◌, arith, eqb-true}
-use Rattle.std.proofs.lemmas.List.{drop_more, drop-drop}
-use Rattle.std.proofs.lemmas.Bool.Decides.{nat_tests}
-use Rattle.mm_explore.specs.Repeats.{leading}
-use Rattle.mm_explore.specs.Texts.{Repeat, repeat_before, repeats_of}
+use Rattle.std.proofs.Common.{◌≡◌, ℕ, suc, ◌+◌, ◌==◌, Bool, true, false, cond, List, [], ◌∷◌, ◌<◌, length, drop, get_or}
+use Rattle.std.proofs.Common.{refl, sym, ap, ◌∙◌, arith, eqb-true}
+use Rattle.std.proofs.lemmas.{List.{drop_more, drop-drop}, Bool.Decides.nat_tests}
+use Rattle.mm_explore.specs.{Repeats.leading, Texts.{Repeat, repeat_before, repeats_of}}
 
 abbrev pub repeat : ℕ → ℕ → Repeat
 repeat n count = record { item = n; count = count }

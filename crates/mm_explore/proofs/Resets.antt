@@ -1,25 +1,16 @@
 -- A memory made anew: the image's cells on given pages, and then changed cells.
-use Rattle.std.proofs.Common.{◌≡◌, ℕ, ◌+◌, ◌*◌, ◌^◌, ◌<◌, ◌≤◌, List, [], ◌∷◌, ◌++◌, map, take, length, Option, refl, sym, ap, ◌∙◌, subst, arith}
-use Rattle.std.specs.Prelude.{IsTrue}
-use Rattle.std.specs.List.{AllByRecursion}
-use Rattle.std.specs.Ordering.{nat_cmp}
-use Rattle.std.specs.FinMap.{is_sorted}
-use Rattle.std.proofs.lemmas.List.{take_all}
+use Rattle.std.proofs.Common.{◌≡◌, ℕ, ◌+◌, ◌*◌, ◌^◌, ◌<◌, ◌≤◌, List, [], ◌∷◌, ◌++◌, map, take, length, Option, refl}
+use Rattle.std.proofs.{Common.{sym, ap, ◌∙◌, subst, arith}, lemmas.List.take_all}
+use Rattle.std.specs.{Prelude.IsTrue, List.AllByRecursion, Ordering.nat_cmp, FinMap.is_sorted}
 use Rattle.mm_word.specs.declared.word.Cell.{Cell}
-use Rattle.mm_model.specs.Image.{Image}
-use Rattle.mm_model.specs.Memory.{Memory, page_at, cell_in, cell_at, IsPage, IsPaged}
-use Rattle.mm_model.specs.Report.{cells_or_zero}
-use Rattle.mm_model.specs.Spelling.{IsImage}
+use Rattle.mm_model.specs.{Image.Image, Memory.{Memory, page_at, cell_in, cell_at, IsPage, IsPaged}}
+use Rattle.mm_model.specs.{Report.cells_or_zero, Spelling.IsImage}
 use Rattle.mm_machine.specs.Snapshot.{page_numbers}
 use Rattle.mm_laws.proofs.ChangedCells.{cell_or_zero, cell_of}
-use Rattle.mm_explore.specs.Assembled.{base_page, base_memory, put_cells}
-use Rattle.mm_explore.specs.Edits.{base_cell}
-use Rattle.mm_explore.specs.Holds.{IsMemoryOf, AreListed}
-use Rattle.mm_explore.specs.Kept.{listed}
+use Rattle.mm_explore.specs.{Assembled.{base_page, base_memory, put_cells}, Edits.base_cell}
+use Rattle.mm_explore.specs.{Holds.{IsMemoryOf, AreListed}, Kept.listed}
 use Rattle.mm_explore.proofs.Assembling.{sorted_same, count_same, base_paged, memory_made}
-use Rattle.mm_explore.proofs.CellLists.{same_base, no_changes}
-use Rattle.mm_explore.proofs.LookThrough.{page_get, page_long}
-use Rattle.mm_explore.proofs.Putting.{take_got}
+use Rattle.mm_explore.proofs.{CellLists.{same_base, no_changes}, LookThrough.{page_get, page_long}, Putting.take_got}
 
 -- 1. The image's pages.
 

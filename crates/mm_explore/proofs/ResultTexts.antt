@@ -1,26 +1,19 @@
 -- What was noted of all turns explored and of all final schedules is what an exploration finds.
 use Rattle.std.proofs.Common.{◌≡◌, inl, inr, ℕ, ◌<◌, Bool, true, false, if◌then◌else◌, List, [], ◌∷◌, ◌++◌, map, length}
 use Rattle.std.proofs.Common.{zip, zero, suc, codes, decimal, Option, Some, None, slice_get, refl, sym, subst}
-use Rattle.std.specs.Prelude.{Contains, IfSome, slice_index_or}
 use Rattle.std.proofs.lemmas.Option.{slice_get_within}
-use Rattle.std.specs.List.{AllByRecursion, AllZip, flat_map}
-use Rattle.mm_word.specs.Cause.{cause_numbers}
-use Rattle.mm_word.specs.declared.perm.Kind.{Kind}
-use Rattle.mm_word.specs.Access.{AccessValue}
-use Rattle.mm_model.specs.Image.{Image, start}
-use Rattle.mm_model.specs.Report.{groups_of}
-use Rattle.mm_model.specs.Slot.{Slot}
-use Rattle.mm_model.specs.Trace.{touches, group_in}
+use Rattle.std.specs.{Prelude.{Contains, IfSome, slice_index_or}, List.{AllByRecursion, AllZip, flat_map}}
+use Rattle.mm_word.specs.{Cause.cause_numbers, declared.perm.Kind.Kind, Access.AccessValue}
+use Rattle.mm_model.specs.{Image.{Image, start}, Report.groups_of, Slot.Slot, Trace.{touches, group_in}, Counted.writes}
 use Rattle.mm_explore.specs.declared.found.Origin.{Origin}
-use Rattle.mm_explore.specs.Findings.{Extension, turn_at, explored_turns, Reaches, IsReached, any_kind, first_fault, firsts}
-use Rattle.mm_explore.specs.Noting.{IsFrom, fault_found}
-use Rattle.mm_explore.specs.Results.{Results, GroupFound, group_found_lines, fault_found_lines, outcome_found_lines, explored_text}
-use Rattle.mm_explore.specs.Texts as texts
+use Rattle.mm_explore.specs.Findings.{Extension, turn_at, explored_turns, Reaches, IsReached, any_kind, first_fault}
+use Rattle.mm_explore.specs.{Findings.firsts, Noting.{IsFrom, fault_found}}
+use Rattle.mm_explore.specs.Results.{Results, GroupFound, group_found_lines, fault_found_lines, outcome_found_lines}
+use Rattle.mm_explore.specs.Results.{explored_text}
 use Rattle.mm_explore.specs.Texts.{Exploration, exploration_text, reached_lines, faults_of, extent_text}
 use Rattle.mm_explore.specs.Words.{AreKept, IsGroupFound, passed_words, turn_words}
-use Rattle.mm_explore.proofs.Members.{none_in, in_first, in_cases, in_flat, flat_in}
-use Rattle.mm_explore.proofs.Spans.{spans_alike}
-use Rattle.mm_model.specs.Counted.{writes}
+use Rattle.mm_explore.proofs.{Members.{none_in, in_first, in_cases, in_flat, flat_in}, Spans.spans_alike}
+use Rattle.mm_explore.specs.Texts as texts
 
 -- 1. Words.
 

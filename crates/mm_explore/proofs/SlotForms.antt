@@ -2,31 +2,20 @@
 use Rattle.std.proofs.Common.{◌≡◌, ℕ, suc, ◌+◌, ◌*◌, ◌/◌, ◌%◌, ◌^◌, ◌<◌, ◌≤◌, Bool, true, false, not, ◌||◌}
 use Rattle.std.proofs.Common.{if◌then◌else◌, List, [], ◌∷◌, ◌++◌, map, length, Option, Some, None, refl, sym, ap, ◌∙◌}
 use Rattle.std.proofs.Common.{subst, arith, eqb-true, append_assoc}
-use Rattle.std.specs.Prelude.{◌==◌, replicate}
-use Rattle.std.specs.List.{AllByRecursion, flat_map, list_any}
 use Rattle.std.proofs.lemmas.Bool.{le-ltb, cond-false, ne_eqb, and_parts, not-true}
-use Rattle.mm_model.proofs.Bytes.Apart.{number_of_flags-below}
-use Rattle.mm_model.proofs.Sames.{bits_same, words_same}
+use Rattle.std.specs.{Prelude.{◌==◌, replicate}, List.{AllByRecursion, flat_map, list_any}}
+use Rattle.mm_model.proofs.{Bytes.Apart.number_of_flags-below, Sames.{bits_same, words_same}}
 use Rattle.mm_model.proofs.OneIf.{below_two, one_back}
-use Rattle.mm_word.specs.declared.word.Word.{Word}
-use Rattle.mm_word.specs.declared.word.Word.TheVariants.{Ptr}
-use Rattle.mm_word.specs.Cause.{number_of, cause_of}
+use Rattle.mm_model.specs.declared.slot.SlotState.{SlotState, TheVariants.{Running, Waiting, Taken, Halted}}
+use Rattle.mm_model.specs.{declared.slot.Pending.Pending, Effect.same_word, Flags.{one_if, number_of_flags}}
+use Rattle.mm_model.specs.{Report.same_bit, Slot.Slot}
+use Rattle.mm_word.specs.{declared.word.Word.{Word, TheVariants.Ptr}, Cause.{number_of, cause_of}, Perm.can_fetch}
+use Rattle.mm_word.specs.{Pointer.{Pointer, IsWellFormed, bits_of}, Word.is_pointer}
 use Rattle.mm_word.proofs.Causes.{cause_back, number_within}
-use Rattle.mm_word.specs.Perm.{can_fetch}
-use Rattle.mm_word.specs.Pointer.{Pointer, IsWellFormed, bits_of}
-use Rattle.mm_word.specs.Word.{is_pointer}
-use Rattle.mm_model.specs.declared.slot.SlotState.{SlotState}
-use Rattle.mm_model.specs.declared.slot.SlotState.TheVariants.{Running, Waiting, Taken, Halted}
-use Rattle.mm_model.specs.declared.slot.Pending.{Pending}
-use Rattle.mm_model.specs.Effect.{same_word}
-use Rattle.mm_model.specs.Flags.{one_if, number_of_flags}
-use Rattle.mm_model.specs.Report.{same_bit}
-use Rattle.mm_model.specs.Slot.{Slot}
-use Rattle.mm_explore.specs.Configurations.{uncounted_slot, are_some}
-use Rattle.mm_explore.specs.Findings.{state_number, same_state}
+use Rattle.mm_explore.specs.{Configurations.{uncounted_slot, are_some}, Findings.{state_number, same_state}}
 use Rattle.mm_explore.specs.Kept.{changed_flags, changed_bits, words_from, load_form, loads_from, few_loads}
-use Rattle.mm_explore.specs.Kept.{register_flags, state_at, ip_of, slot_head, slot_masks, slot_form}
-use Rattle.mm_explore.specs.Kept.{slot_from, is_base, slot_flags, slot_forms, slots_by, slots_form, slots_from}
+use Rattle.mm_explore.specs.Kept.{register_flags, state_at, ip_of, slot_head, slot_masks, slot_form, slot_from, is_base}
+use Rattle.mm_explore.specs.Kept.{slot_flags, slot_forms, slots_by, slots_form, slots_from}
 use Rattle.mm_explore.proofs.WordForms.{flags_of, ip_again, AreWords, words_read, length-changed, IsLoad, loads_read}
 
 -- 1. States.

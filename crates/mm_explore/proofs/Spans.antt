@@ -1,12 +1,8 @@
 -- The longest runs of ascending words.
-use Rattle.std.proofs.Common.{◌≡◌, ◌⊎◌, inl, inr, ℕ, ◌+◌, ◌*◌, ◌%◌, ◌<◌, ◌≤◌, ◌==◌, Bool, true, false, if◌then◌else◌, List, [], ◌∷◌, Some, None, refl, sym, ap, ◌∙◌, subst, eqb-true, arith}
-use Rattle.std.specs.Prelude.{Contains}
-use Rattle.std.specs.List.{AllByRecursion}
-use Rattle.std.proofs.lemmas.Bool.Decides.{nat_tests}
-use Rattle.std.proofs.lemmas.Bool.{eqb-false}
-use Rattle.mm_explore.specs.Pairs.{EachPair}
-use Rattle.mm_explore.specs.Findings.{Span, word_in, InSpan, IsApart, AreSpans}
-use Rattle.mm_explore.specs.Words.{spans_after}
+use Rattle.std.proofs.Common.{◌≡◌, ◌⊎◌, inl, inr, ℕ, ◌+◌, ◌*◌, ◌%◌, ◌<◌, ◌≤◌, ◌==◌, Bool, true, false, if◌then◌else◌}
+use Rattle.std.proofs.Common.{List, [], ◌∷◌, Some, None, refl, sym, ap, ◌∙◌, subst, eqb-true, arith}
+use Rattle.std.{proofs.lemmas.Bool.{eqb-false, Decides.nat_tests}, specs.{Prelude.Contains, List.AllByRecursion}}
+use Rattle.mm_explore.specs.{Pairs.EachPair, Findings.{Span, word_in, InSpan, IsApart, AreSpans}, Words.spans_after}
 use Rattle.mm_explore.proofs.Members.{none_in, in_first, in_rest, in_cases, all_at, all_of}
 
 abbrev one_word : ℕ → Span

@@ -1,10 +1,8 @@
 -- Bits that spell a pointer, by their test; and small numbers of flags.
 use Rattle.std.proofs.Common.{◌≡◌, inl, inr, ℕ, ◌/◌, ◌%◌, ◌^◌, true, false, ◌&&◌, ap, ◌∙◌}
-use Rattle.std.specs.Prelude.{nat_le}
-use Rattle.std.proofs.lemmas.Bool.{cases_Bool, le-leb}
-use Rattle.mm_model.proofs.Bytes.SpelledRecords.{known_codes}
+use Rattle.std.{proofs.lemmas.Bool.{cases_Bool, le-leb}, specs.Prelude.nat_le}
+use Rattle.mm_model.proofs.Bytes.{SpelledRecords.known_codes, CleanWords.spells}
 use Rattle.mm_word.specs.Pointer.{SpellsPointer, spells_pointer}
-use Rattle.mm_model.proofs.Bytes.CleanWords.{spells}
 
 pub spells_test : (bits : ℕ) → SpellsPointer bits → spells_pointer bits ≡ true
 spells_test bits h =

@@ -1,31 +1,17 @@
 -- A machine that stands at the configuration of a state: its parts, its core and its memory.
-use Rattle.std.proofs.Common.{◌≡◌, ℕ, suc, ◌^◌, ◌<◌, ◌≤◌, Bool, List, [], ◌∷◌, map, replicate, length, Option, refl, sym, ap, ◌∙◌, subst, arith}
-use Rattle.std.specs.List.{AllByRecursion}
+use Rattle.std.proofs.Common.{◌≡◌, ℕ, suc, ◌^◌, ◌<◌, ◌≤◌, Bool, List, [], ◌∷◌, map, replicate, length, Option, refl}
+use Rattle.std.{proofs.Common.{sym, ap, ◌∙◌, subst, arith}, specs.List.AllByRecursion}
 use Rattle.mm_word.specs.declared.word.Cell.{Cell}
-use Rattle.mm_model.specs.declared.event.Event.{Event}
-use Rattle.mm_model.specs.Fits.{slots_of, identity_of}
-use Rattle.mm_model.specs.Image.{Image, slot_limit, start}
-use Rattle.mm_model.specs.Memory.{Memory}
-use Rattle.mm_model.specs.Run.{run}
-use Rattle.mm_model.specs.Report.{groups_of}
-use Rattle.mm_model.specs.Slot.{Slot}
-use Rattle.mm_model.specs.Spelling.{IsFresh, IsImage}
-use Rattle.mm_model.specs.State.{ThreadRow, Core, State}
-use Rattle.mm_model.proofs.CoreRows.{each_map}
-use Rattle.mm_model.proofs.Fitted.{paged_of}
-use Rattle.mm_machine.specs.Snapshot.{queued, page_numbers}
-use Rattle.mm_machine.proofs.Starting.{at_most_64, slots_made}
-use Rattle.mm_thread.specs.Output.{Output}
-use Rattle.mm_thread.specs.Parts.{core_of, AreParts}
-use Rattle.mm_thread.specs.SlotIndices.{row_alone}
+use Rattle.mm_model.specs.{declared.event.Event.Event, Fits.{slots_of, identity_of}, Image.{Image, slot_limit, start}}
+use Rattle.mm_model.specs.{Memory.Memory, Run.run, Report.groups_of, Slot.Slot, Spelling.{IsFresh, IsImage}}
+use Rattle.mm_model.{specs.State.{ThreadRow, Core, State}, proofs.{CoreRows.each_map, Fitted.paged_of}}
+use Rattle.mm_machine.{specs.Snapshot.{queued, page_numbers}, proofs.Starting.{at_most_64, slots_made}}
+use Rattle.mm_thread.specs.{Output.Output, Parts.{core_of, AreParts}, SlotIndices.row_alone}
 use Rattle.mm_explore.specs.Assembled.{IsStateOf}
 use Rattle.mm_explore.specs.Configurations.{uncounted_slot, uncounted_row, uncounted, configuration}
-use Rattle.mm_explore.specs.Explored.{leads_to}
-use Rattle.mm_explore.specs.Holds.{IsMemoryOf, AreListed}
+use Rattle.mm_explore.specs.{Explored.leads_to, Holds.{IsMemoryOf, AreListed}}
 use Rattle.mm_explore.specs.Kept.{Parts, core_output, parts_of, held_parts, numbers_of, kept, listed}
-use Rattle.mm_explore.proofs.KeptRuns.{parts_bare}
-use Rattle.mm_explore.proofs.Moves.{standing}
-use Rattle.mm_explore.proofs.Whole.{made, are_parts}
+use Rattle.mm_explore.proofs.{KeptRuns.parts_bare, Moves.standing, Whole.{made, are_parts}}
 
 -- 1. The memory of a state.
 

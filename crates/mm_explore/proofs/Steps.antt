@@ -1,42 +1,25 @@
 -- One more turn of a search.
 use Rattle.std.proofs.Common.{◌≡◌, ℕ, zero, suc, ◌+◌, ◌^◌, ◌<◌, ◌≤◌, Bool, true, false, ◌&&◌, Vec, Global, List, []}
 use Rattle.std.proofs.Common.{◌∷◌, ◌++◌, map, length, take, drop, slice_index_or, refl, sym, ap, ◌∙◌, subst, arith}
-use Rattle.std.proofs.Common.{append_assoc, append-nil, length-append}
+use Rattle.std.proofs.{Common.{append_assoc, append-nil, length-append}, Math.Dec.eqb-suc-zero, lemmas.List.length-map}
 use Rattle.std.specs.Prelude.{◌==◌, Contains, Some, slice_get, Result, Ok, Err, IfOk, OnOk}
 use Rattle.std.specs.List.{AllByRecursion, flat_map}
-use Rattle.std.proofs.Math.Dec.{eqb-suc-zero}
-use Rattle.std.proofs.lemmas.List.{length-map}
 use Rattle.mm_model.proofs.CoreRows.{each_push}
-use Rattle.mm_explore.proofs.FoundForms.{map_push}
-use Rattle.mm_model.specs.Fits.{slots_of}
-use Rattle.mm_model.specs.Image.{Image, start}
-use Rattle.mm_model.specs.Slot.{Slot}
-use Rattle.mm_model.specs.Report.{groups_of}
-use Rattle.mm_model.specs.Spelling.{IsImage}
-use Rattle.mm_model.specs.Run.{run}
-use Rattle.mm_explore.specs.declared.found.Looked.{Looked}
-use Rattle.mm_explore.specs.declared.found.Looked.TheVariants.{Known, New, Full}
-use Rattle.mm_explore.specs.declared.found.Origin.{Origin}
-use Rattle.mm_explore.specs.declared.parts.Parts as code
-use Rattle.mm_explore.specs.declared.search.Node.{Node}
-use Rattle.mm_explore.specs.declared.search.Search.{Search}
-use Rattle.mm_explore.specs.declared.bench.Bench.{Bench}
-use Rattle.mm_explore.specs.declared.findings.Findings.{Findings}
-use Rattle.mm_explore.specs.Benches.{IsAtConfiguration, ArePartsAt, parts_held}
-use Rattle.mm_explore.specs.Configurations.{uncounted_slot, moves}
-use Rattle.mm_explore.specs.Explored.{leads_to, IsExplored, IsAll}
-use Rattle.mm_explore.specs.Findings.{Extension, extended, extensions, explored_turns, IsFinal, are_none}
-use Rattle.mm_explore.specs.FoundLists.{FoundList, led_by, Holds, Looks}
-use Rattle.mm_explore.specs.Kept.{Parts, parts_of, parts_from, kept}
-use Rattle.mm_explore.specs.MoveLists.{moves_in}
-use Rattle.mm_explore.specs.Noting.{Noted, Ended}
-use Rattle.mm_explore.specs.Searching.{GoesOn, IsFull, HasCome, IsBefore, IsWithin, node_schedule, turns_before, turns_from, StaysBy, AllStay, all_after, Met, KeptBy}
-use Rattle.mm_explore.proofs.Keepables.{parts_again}
-use Rattle.mm_explore.proofs.KeptRuns.{kept_alike, kept_apart, runs_state_of}
-use Rattle.mm_explore.proofs.Members.{in_map, map_in, all_at}
-use Rattle.mm_explore.proofs.MoveForms.{moves_are, small_numbers}
-use Rattle.mm_explore.proofs.Notings.{noted_more, ended_more}
+use Rattle.mm_model.specs.{Fits.slots_of, Image.{Image, start}, Slot.Slot, Report.groups_of, Spelling.IsImage, Run.run}
+use Rattle.mm_explore.proofs.{FoundForms.map_push, Keepables.parts_again}
+use Rattle.mm_explore.proofs.{KeptRuns.{kept_alike, kept_apart, runs_state_of}, Members.{in_map, map_in, all_at}}
+use Rattle.mm_explore.proofs.{MoveForms.{moves_are, small_numbers}, Notings.{noted_more, ended_more}}
 use Rattle.mm_explore.proofs.Searches.{IsNew, search_begins, search_known, search_new, search_full, search_ends}
+use Rattle.mm_explore.specs.declared.found.{Looked.{Looked, TheVariants.{Known, New, Full}}, Origin.Origin}
+use Rattle.mm_explore.specs.declared.{search.{Node.Node, Search.Search}, bench.Bench.Bench, findings.Findings.Findings}
+use Rattle.mm_explore.specs.Benches.{IsAtConfiguration, ArePartsAt, parts_held}
+use Rattle.mm_explore.specs.{Configurations.{uncounted_slot, moves}, Explored.{leads_to, IsExplored, IsAll}}
+use Rattle.mm_explore.specs.Findings.{Extension, extended, extensions, explored_turns, IsFinal, are_none}
+use Rattle.mm_explore.specs.{FoundLists.{FoundList, led_by, Holds, Looks}, Kept.{Parts, parts_of, parts_from, kept}}
+use Rattle.mm_explore.specs.{MoveLists.moves_in, Noting.{Noted, Ended}}
+use Rattle.mm_explore.specs.Searching.{GoesOn, IsFull, HasCome, IsBefore, IsWithin, node_schedule, turns_before}
+use Rattle.mm_explore.specs.Searching.{turns_from, StaysBy, AllStay, all_after, Met, KeptBy}
+use Rattle.mm_explore.specs.declared.parts.Parts as code
 
 -- 1. Lists up to an index and from it on.
 

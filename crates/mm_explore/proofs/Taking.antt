@@ -1,15 +1,11 @@
 -- Lists that are read one element after the other.
-use Rattle.std.proofs.Common.{◌≡◌, ℕ, suc, take, set, length, ◌+◌, ◌-◌, ◌/◌, ◌%◌, ◌<◌, List, [], ◌∷◌, ◌++◌, refl, sym, ap, ◌∙◌, arith, append_assoc, ◌≤◌}
-use Rattle.std.proofs.lemmas.List.{take_more_set}
-use Rattle.mm_word.specs.declared.word.Word.{Word}
-use Rattle.mm_word.specs.declared.word.Cell.{Cell}
-use Rattle.mm_model.specs.declared.slot.Pending.{Pending}
+use Rattle.std.proofs.Common.{◌≡◌, ℕ, suc, take, set, length, ◌+◌, ◌-◌, ◌/◌, ◌%◌, ◌<◌, List, [], ◌∷◌, ◌++◌, refl, sym}
+use Rattle.std.proofs.{Common.{ap, ◌∙◌, arith, append_assoc, ◌≤◌}, lemmas.List.take_more_set}
 use Rattle.std.specs.Prelude.{◌==◌}
-use Rattle.mm_word.specs.Pointer.{Pointer}
-use Rattle.mm_model.specs.declared.slot.SlotState.{SlotState}
-use Rattle.mm_model.specs.Slot.{Slot}
-use Rattle.mm_model.specs.Flags.{flags}
-use Rattle.mm_explore.specs.Kept.{first_number, behind, word_from, words_from, register_flags, loads_from, few_loads, ip_of, state_at, slot_from, cell_of, cells_from}
+use Rattle.mm_word.specs.{declared.word.{Word.Word, Cell.Cell}, Pointer.Pointer}
+use Rattle.mm_model.specs.{declared.slot.{Pending.Pending, SlotState.SlotState}, Slot.Slot, Flags.flags}
+use Rattle.mm_explore.specs.Kept.{first_number, behind, word_from, words_from, register_flags, loads_from, few_loads}
+use Rattle.mm_explore.specs.Kept.{ip_of, state_at, slot_from, cell_of, cells_from}
 
 one_left : (count k : ℕ) → k < count → count - k ≡ suc (count - (k + 1))
 one_left count k lt = omega (arith, lt)

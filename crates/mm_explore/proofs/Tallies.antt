@@ -2,23 +2,18 @@
 use Rattle.std.proofs.Common.{◌≡◌, inl, inr, ℕ, suc, ◌+◌, ◌^◌, ◌<◌, ◌≤◌, Bool, true, false, cond, if◌then◌else◌, ◌||◌}
 use Rattle.std.proofs.Common.{nat_eq, List, [], ◌∷◌, ◌++◌, map, length, Some, None, refl, sym, ap, ◌∙◌, subst, arith}
 use Rattle.std.proofs.Common.{append-nil}
+use Rattle.std.proofs.lemmas.{Bool.{cases_Bool, both_ways, or_parts}, List.Sums.{count_by-le-length, sum_by-append}}
+use Rattle.std.proofs.lemmas.Map.Keys.{IsDistinct-head, IsDistinct-tail}
 use Rattle.std.specs.Prelude.{slice_get}
 use Rattle.std.specs.List.{AllByRecursion, AllZip, list_any, count_by, sum_by, flat_map, IsDistinct}
 use Rattle.std.specs.Map.{lookup, keys_of}
-use Rattle.std.proofs.lemmas.Bool.{cases_Bool, both_ways, or_parts}
-use Rattle.std.proofs.lemmas.List.Sums.{count_by-le-length, sum_by-append}
-use Rattle.std.proofs.lemmas.Map.Keys.{IsDistinct-head, IsDistinct-tail}
 use Rattle.indexmap.specs.IndexMap.{insert_entry}
 use lib.Pointwise.{pointwise, pointwise_decides}
-use Rattle.mm_model.specs.declared.slot.SlotState.{SlotState}
-use Rattle.mm_model.specs.Flags.{one_if}
-use Rattle.mm_model.specs.Image.{Image}
+use Rattle.mm_model.specs.{declared.slot.SlotState.SlotState, Flags.one_if, Image.Image}
 use Rattle.mm_explore.specs.declared.ends.Tally.{Tally}
 use Rattle.mm_explore.specs.Findings.{AreFinal, Outcome, outcome_at, state_number, same_outcome, firsts_after, firsts}
-use Rattle.mm_explore.specs.Kept.{state_at}
-use Rattle.mm_explore.specs.Noting.{bytes_form, outcome_form, IsEnd, tally_after}
-use Rattle.mm_explore.proofs.Finals.{outcomes_decide, numbers_decide}
-use Rattle.mm_explore.proofs.SlotForms.{state_back}
+use Rattle.mm_explore.specs.{Kept.state_at, Noting.{bytes_form, outcome_form, IsEnd, tally_after}}
+use Rattle.mm_explore.proofs.{Finals.{outcomes_decide, numbers_decide}, SlotForms.state_back}
 
 -- 1. Outcomes are told apart by their numbers.
 

@@ -1,36 +1,24 @@
 -- A turn reads no count of turns, so it is the same in a core without these counts, but for them.
 use Rattle.std.proofs.Common.{◌≡◌, ℕ, ◌+◌, ◌-◌, Bool, true, false, ◌&&◌, ◌||◌, ◌==◌, nat_le, if◌then◌else◌, ℤ}
 use Rattle.std.proofs.Common.{slice_set, List, [], ◌∷◌, ◌++◌, map, Option, Some, None, Result, Ok, Err, refl, sym, ap}
-use Rattle.std.proofs.Common.{◌∙◌}
+use Rattle.std.{proofs.Common.◌∙◌, specs.{Int.{w64, cast_signed}, List.list_any, Prelude.option_map}}
 use Rattle.mm_word.specs.declared.cause.Cause.{Cause}
-use Rattle.mm_word.specs.declared.cause.Cause.TheVariants as cause
-use Rattle.mm_word.specs.declared.word.Pre.{Pre}
-use Rattle.mm_word.specs.declared.word.Post.{Post}
-use Rattle.mm_word.specs.declared.word.Word.{Word}
-use Rattle.mm_word.specs.declared.word.Word.TheVariants.{Int, Ptr}
-use Rattle.mm_word.specs.declared.word.Cell.{Cell}
-use Rattle.mm_word.specs.Access.{AccessValue}
-use Rattle.mm_word.specs.Word.{word_bits}
-use Rattle.mm_word.specs.Pointer.{Pointer, lea_result, leab_result, restrict_result, subseg_result, setptr_result, next_result, enter_result}
-use Rattle.mm_isa.specs.declared.instr.DivZero.{DivZero}
-use Rattle.mm_isa.specs.declared.instr.How.{How}
-use Rattle.mm_isa.specs.declared.instr.How.TheVariants.{Retry, Skip, Kill}
+use Rattle.mm_word.specs.declared.word.{Pre.Pre, Post.Post, Word.{Word, TheVariants.{Int, Ptr}}, Cell.Cell}
+use Rattle.mm_word.specs.{Access.AccessValue, Word.word_bits}
+use Rattle.mm_word.specs.Pointer.{Pointer, lea_result, leab_result, restrict_result, subseg_result, setptr_result}
+use Rattle.mm_word.specs.Pointer.{next_result, enter_result}
+use Rattle.mm_isa.specs.declared.instr.{DivZero.DivZero, How.{How, TheVariants.{Retry, Skip, Kill}}}
 use Rattle.mm_isa.specs.declared.instr.Instr.{Instr}
-use Rattle.mm_isa.specs.declared.instr.Instr.TheVariants.{Out, Alu}
-use Rattle.mm_isa.specs.declared.instr.Instr.TheVariants.{Lea, Leai, Leab, Restrict, Subseg, Setptr, Ld, St, Br}
-use Rattle.mm_isa.specs.declared.instr.Instr.TheVariants.{Bz, Bnz, Jmp, Jal, Lip, Evt, Resume, Rreg, Wreg, Map}
-use Rattle.mm_isa.specs.declared.instr.Instr.TheVariants.{Unmap}
-use Rattle.mm_isa.specs.Alu.{alu_result}
-use Rattle.std.specs.Int.{w64, cast_signed}
-use Rattle.mm_model.specs.declared.slot.SlotState.TheVariants.{Running, Waiting, Halted}
-use Rattle.mm_model.specs.declared.slot.Pending.{Pending}
-use Rattle.mm_model.specs.declared.event.Event.{Event}
-use Rattle.mm_model.specs.Memory.{Memory, cell_at, passes}
-use Rattle.mm_model.specs.Uses.{Use}
+use Rattle.mm_isa.specs.declared.instr.Instr.TheVariants.{Out, Alu, Lea, Leai, Leab, Restrict, Subseg, Setptr, Ld, St}
+use Rattle.mm_isa.specs.declared.instr.Instr.TheVariants.{Br, Bz, Bnz, Jmp, Jal, Lip, Evt, Resume, Rreg, Wreg, Map}
+use Rattle.mm_isa.specs.{declared.instr.Instr.TheVariants.Unmap, Alu.alu_result}
+use Rattle.mm_model.specs.declared.slot.{SlotState.TheVariants.{Running, Waiting, Halted}, Pending.Pending}
+use Rattle.mm_model.specs.{declared.event.Event.Event, Memory.{Memory, cell_at, passes}, Uses.Use}
 use Rattle.mm_model.specs.Slot.{Slot, register, is_empty}
-use Rattle.mm_model.specs.State.{ThreadRow, Core, row_in, slot_of, queue_of, slot_at, queue_at, at_number, put_slot, put_queue, output_of, put_output}
-use Rattle.mm_model.specs.Operands.{addr_operand, value_operand, field_a, field_b, field_imm, fields_d, word_a, word_b, field_empty, lacks}
-use Rattle.std.specs.List.{list_any}
+use Rattle.mm_model.specs.State.{ThreadRow, Core, row_in, slot_of, queue_of, slot_at, queue_at, at_number, put_slot}
+use Rattle.mm_model.specs.State.{put_queue, output_of, put_output}
+use Rattle.mm_model.specs.Operands.{addr_operand, value_operand, field_a, field_b, field_imm, fields_d, word_a, word_b}
+use Rattle.mm_model.specs.Operands.{field_empty, lacks}
 use Rattle.mm_model.specs.Ask.{Ask, ask, is_privileged}
 use Rattle.mm_model.specs.Ask.Ask.{Nothing, Refuse, Reach, MapPage, UnmapPage, NextEvent, Room, Serve}
 use Rattle.mm_model.specs.Effect.{Reply, Change, Effect, effect, delivers, delivered, sets, sets_pointer, sets_number}
@@ -38,14 +26,13 @@ use Rattle.mm_model.specs.Effect.{if_pointer, puts_out, loaded, stored, at_dista
 use Rattle.mm_model.specs.Effect.{resumed_by, resumes, reads_of, writes_of, maps, unmaps, plain}
 use Rattle.mm_model.specs.Effect.Reply.{Fine, Refused, Got, Paged, NoEvent, Took, Served}
 use Rattle.mm_model.specs.Effect.Effect.{Fault, Block, Deliver, Do}
-use Rattle.mm_model.specs.Turn.{Turned, reached, event_reply, first_event, is_handler, is_taken, served}
-use Rattle.mm_model.specs.Turn.{reply, put_all, state_after, slot_after, with_issue, with_other, with_queue, with_out}
-use Rattle.mm_model.specs.Turn.{core_after, memory_after, stood, is_sync, event_of, core_faulted, faulted, touch_of}
-use Rattle.mm_model.specs.Turn.{asked_use, blocked, ended, executed, started}
-use Rattle.mm_model.specs.Turn.{idle, arrives, port_of, turn}
+use Rattle.mm_model.specs.Turn.{Turned, reached, event_reply, first_event, is_handler, is_taken, served, reply, put_all}
+use Rattle.mm_model.specs.Turn.{state_after, slot_after, with_issue, with_other, with_queue, with_out, core_after}
+use Rattle.mm_model.specs.Turn.{memory_after, stood, is_sync, event_of, core_faulted, faulted, touch_of, asked_use}
+use Rattle.mm_model.specs.Turn.{blocked, ended, executed, started, idle, arrives, port_of, turn}
 use Rattle.mm_model.proofs.TurnShapes.{fetch_uses, fetch_use, started_by, turn_both}
-use Rattle.std.specs.Prelude.{option_map}
 use Rattle.mm_explore.specs.Configurations.{uncounted_slot, uncounted_row, uncounted}
+use Rattle.mm_word.specs.declared.cause.Cause.TheVariants as cause
 
 -- 1. Cores without counts of turns.
 

@@ -1,25 +1,16 @@
 -- The parts of a configuration make a core: no count of turns is in what a core is.
 use Rattle.std.proofs.Common.{◌≡◌, ℕ, ◌||◌, List, [], ◌∷◌, map, Option, Some, None, IfSome, refl, sym, ap, ◌∙◌, subst}
-use Rattle.std.specs.Prelude.{Contains, ◌==◌}
-use Rattle.std.specs.List.{AllByRecursion}
-use Rattle.mm_model.specs.declared.event.Event.{Event}
-use Rattle.mm_model.specs.Flags.{one_if}
-use Rattle.mm_model.specs.Groups.{has_group}
-use Rattle.mm_model.specs.Image.{Image}
-use Rattle.mm_model.specs.Slot.{Slot, register, is_empty}
-use Rattle.mm_model.specs.Spelling.{numbers_of, IsOther, IsImage}
+use Rattle.std.specs.{Prelude.{Contains, ◌==◌}, List.AllByRecursion}
+use Rattle.mm_model.specs.{declared.event.Event.Event, Flags.one_if, Groups.has_group, Image.Image}
+use Rattle.mm_model.specs.{Slot.{Slot, register, is_empty}, Spelling.{numbers_of, IsOther, IsImage}}
 use Rattle.mm_model.specs.State.{ThreadRow, Core, State, slot_at, queue_at, output_of}
-use Rattle.mm_model.specs.Fits.{IsSlot, slots_of, IsFormed, LoadsMatch, events_of, waits_for, WaitsForSome, Matches, identity_of, IsAtSlot, LoadsAreConsistent, TakenBySome, IsConsistent, IsOfVersion, IsCore}
-use Rattle.mm_model.proofs.CoreRows.{each_map}
-use Rattle.mm_model.proofs.Fitted.{core_of as core_of_state}
-use Rattle.mm_thread.specs.Output.{Output}
-use Rattle.mm_thread.specs.Parts.{core_of, AreParts}
+use Rattle.mm_model.specs.Fits.{IsSlot, slots_of, IsFormed, LoadsMatch, events_of, waits_for, WaitsForSome, Matches}
+use Rattle.mm_model.specs.Fits.{identity_of, IsAtSlot, LoadsAreConsistent, TakenBySome, IsConsistent, IsOfVersion}
+use Rattle.mm_model.{specs.Fits.IsCore, proofs.{CoreRows.each_map, Fitted.{core_of as core_of_state}}}
+use Rattle.mm_thread.specs.{Output.Output, Parts.{core_of, AreParts}}
 use Rattle.mm_explore.specs.Configurations.{uncounted_slot, uncounted_row, uncounted, configuration}
-use Rattle.mm_explore.specs.Kept.{output_part, parts_of}
-use Rattle.mm_explore.specs.Assembled.{assembled, IsStateOf}
-use Rattle.mm_explore.proofs.Members.{in_map}
-use Rattle.mm_explore.proofs.Uncounted.{uncounted_one, slot_at_so, queue_at_so}
-use Rattle.mm_explore.proofs.Assembling.{assembles}
+use Rattle.mm_explore.specs.{Kept.{output_part, parts_of}, Assembled.{assembled, IsStateOf}}
+use Rattle.mm_explore.proofs.{Members.in_map, Uncounted.{uncounted_one, slot_at_so, queue_at_so}, Assembling.assembles}
 
 -- 1. Slots with no counts.
 

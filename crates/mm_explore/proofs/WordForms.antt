@@ -1,22 +1,14 @@
 -- Words, flags and registers, read again from their numbers.
-use Rattle.std.proofs.Common.{◌≡◌, ℕ, suc, ◌+◌, ◌*◌, ◌/◌, ◌%◌, ◌<◌, Bool, true, false, not, ◌&&◌}
-use Rattle.std.proofs.Common.{if◌then◌else◌, List, [], ◌∷◌, ◌++◌, map, length, refl, sym, ap, ◌∙◌, arith}
-use Rattle.std.proofs.Common.{append_assoc}
-use Rattle.std.specs.Prelude.{◌==◌}
-use Rattle.std.specs.List.{AllByRecursion, flat_map}
-use Rattle.mm_model.proofs.Sames.{words_same}
-use Rattle.mm_model.proofs.Bytes.SpelledRecords.{is_spelled}
-use Rattle.mm_model.proofs.OneIf.{one_back}
-use Rattle.mm_word.specs.declared.word.Word.{Word}
-use Rattle.mm_word.specs.declared.word.Word.TheVariants.{Int, Ptr}
-use Rattle.mm_word.specs.Perm.{can_fetch}
-use Rattle.mm_word.specs.Pointer.{Pointer, IsWellFormed, pointer_of, bits_of}
-use Rattle.mm_word.specs.Word.{IsWord, word_bits, is_pointer}
+use Rattle.std.proofs.Common.{◌≡◌, ℕ, suc, ◌+◌, ◌*◌, ◌/◌, ◌%◌, ◌<◌, Bool, true, false, not, ◌&&◌, if◌then◌else◌, List}
+use Rattle.std.proofs.Common.{[], ◌∷◌, ◌++◌, map, length, refl, sym, ap, ◌∙◌, arith, append_assoc}
+use Rattle.std.specs.{Prelude.◌==◌, List.{AllByRecursion, flat_map}}
+use Rattle.mm_model.proofs.{Sames.words_same, Bytes.SpelledRecords.is_spelled, OneIf.one_back}
+use Rattle.mm_model.specs.{declared.slot.Pending.Pending, Effect.same_word, Flags.{one_if, flags, number_of_flags}}
+use Rattle.mm_word.specs.{declared.word.Word.{Word, TheVariants.{Int, Ptr}}, Perm.can_fetch}
+use Rattle.mm_word.specs.{Pointer.{Pointer, IsWellFormed, pointer_of, bits_of}, Word.{IsWord, word_bits, is_pointer}}
 use Rattle.mm_word.proofs.Packing.{pointer_of-bits_of}
-use Rattle.mm_model.specs.declared.slot.Pending.{Pending}
-use Rattle.mm_model.specs.Effect.{same_word}
-use Rattle.mm_model.specs.Flags.{one_if, flags, number_of_flags}
-use Rattle.mm_explore.specs.Kept.{word_of, word_form, word_from, changed_flags, changed_bits, words_from, load_form, loads_from, ip_of}
+use Rattle.mm_explore.specs.Kept.{word_of, word_form, word_from, changed_flags, changed_bits, words_from, load_form}
+use Rattle.mm_explore.specs.Kept.{loads_from, ip_of}
 
 -- 1. Flags.
 

@@ -1,27 +1,17 @@
 -- Words that are kept in order, each with its group.
 use Rattle.std.proofs.Common.{◌≡◌, ◌⊎◌, inl, inr, ℕ, ◌%◌, ◌<◌, ◌==◌, Bool, true, false, if◌then◌else◌, List, [], ◌∷◌}
 use Rattle.std.proofs.Common.{◌++◌, Option, Some, refl, sym, ap, ◌∙◌, subst, eqb-true, eq-eqb, append_assoc, append-nil}
-use Rattle.std.specs.Prelude.{Contains}
-use Rattle.std.specs.List.{AllByRecursion, flat_map}
-use Rattle.std.specs.declared.cmp.Ordering.{Ordering}
-use Rattle.std.specs.declared.cmp.Ordering.TheVariants.{Less, Equal, Greater}
-use Rattle.std.specs.Ordering.{match_ordering, nat_cmp, ordering_then, MatchOrdering}
-use Rattle.std.specs.Cmp.{nat_cmp_is, ranks}
-use Rattle.std.specs.List.Sorted.{IsStrictlySortedBy}
-use Rattle.std.proofs.lemmas.Map.Keys.{sorted_head, sorted_tail}
-use Rattle.mm_explore.specs.Pairs.{EachPair}
-use Rattle.std.specs.BTreeSet.{insert_key}
-use Rattle.std.proofs.lemmas.Map.Lookups.{exact_pairs, exact_unsigned}
+use Rattle.std.proofs.lemmas.Map.{Keys.{sorted_head, sorted_tail}, Lookups.{exact_pairs, exact_unsigned}}
 use Rattle.std.proofs.lemmas.List.Elements.{Contains-append_left, Contains-push, Contains-push_cases}
-use Rattle.mm_explore.specs.Words.{order, AreKept, IsWordKey, words_in, passed_words, step_words}
-use Rattle.std.specs.Option.{option_to_list}
 use Rattle.std.proofs.lemmas.Grind.{flat_map-append}
-use Rattle.mm_word.specs.declared.perm.Kind.{Kind}
-use Rattle.mm_word.specs.Access.{AccessValue}
-use Rattle.mm_model.specs.declared.step.Step.{Step}
-use Rattle.mm_explore.specs.Findings.{any_kind}
-use Rattle.mm_explore.proofs.Members.{none_in, in_first, in_rest, in_cases, all_at, all_of}
-use Rattle.mm_model.specs.Counted.{writes}
+use Rattle.std.specs.{Prelude.Contains, List.{AllByRecursion, flat_map, Sorted.IsStrictlySortedBy}}
+use Rattle.std.specs.declared.cmp.Ordering.{Ordering, TheVariants.{Less, Equal, Greater}}
+use Rattle.std.specs.{Ordering.{match_ordering, nat_cmp, ordering_then, MatchOrdering}, Cmp.{nat_cmp_is, ranks}}
+use Rattle.std.specs.{BTreeSet.insert_key, Option.option_to_list}
+use Rattle.mm_explore.specs.{Pairs.EachPair, Words.{order, AreKept, IsWordKey, words_in, passed_words, step_words}}
+use Rattle.mm_explore.{specs.Findings.any_kind, proofs.Members.{none_in, in_first, in_rest, in_cases, all_at, all_of}}
+use Rattle.mm_word.specs.{declared.perm.Kind.Kind, Access.AccessValue}
+use Rattle.mm_model.specs.{declared.step.Step.Step, Counted.writes}
 
 same_key : (a b : ℕ × ℕ) → order a b ≡ Equal → a ≡ b
 same_key a b e = exact_pairs nat_cmp nat_cmp exact_unsigned exact_unsigned a b e

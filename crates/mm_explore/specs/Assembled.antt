@@ -1,11 +1,7 @@
 -- The state that the parts of a configuration make, and the states of which there are parts.
-use Rattle.std.specs.List.{AllByRecursion}
-use Rattle.std.specs.Prelude.{◌<◌, ℕ, List, [], ◌∷◌, map}
+use Rattle.std.specs.{List.AllByRecursion, Prelude.{◌<◌, ℕ, List, [], ◌∷◌, map}}
 use Rattle.mm_word.specs.declared.word.Cell.{Cell}
-use Rattle.mm_model.specs.Memory.{Memory, page_at, put_cell}
-use Rattle.mm_model.specs.State.{State}
-use Rattle.mm_model.specs.Image.{Image}
-use Rattle.mm_model.specs.Report.{cells_or_zero}
+use Rattle.mm_model.specs.{Memory.{Memory, page_at, put_cell}, State.State, Image.Image, Report.cells_or_zero}
 use Rattle.mm_model.specs.Fits.{IsState, Fits, IsConsistent}
 use Rattle.mm_thread.specs.Parts.{core_of}
 use Rattle.mm_explore.specs.Kept.{Parts}

@@ -1,18 +1,9 @@
 -- The machine that is put to configurations and moved.
-use Rattle.std.specs.Prelude.{◌≡◌, ℕ, ◌<◌, ◌^◌, List}
-use Rattle.std.specs.List.{AllByRecursion}
-use Rattle.std.specs.Option.{option_map}
-use Rattle.mm_model.specs.Slot.{Slot}
-use Rattle.mm_model.specs.Fits.{slots_of}
-use Rattle.mm_model.specs.Image.{Image, start}
-use Rattle.mm_model.specs.Run.{run}
-use Rattle.mm_model.specs.Spelling.{IsImage}
-use Rattle.mm_explore.specs.declared.bench.Bench.{Bench}
+use Rattle.std.specs.{Prelude.{◌≡◌, ℕ, ◌<◌, ◌^◌, List}, List.AllByRecursion, Option.option_map}
+use Rattle.mm_model.specs.{Slot.Slot, Fits.slots_of, Image.{Image, start}, Run.run, Spelling.IsImage}
+use Rattle.mm_explore.specs.{declared.bench.Bench.Bench, Configurations.configuration, Explored.leads_to}
+use Rattle.mm_explore.specs.{Holds.IsHolding, Kept.{Parts, parts_of, held_parts}}
 use Rattle.mm_explore.specs.declared.parts.Parts as code
-use Rattle.mm_explore.specs.Configurations.{configuration}
-use Rattle.mm_explore.specs.Explored.{leads_to}
-use Rattle.mm_explore.specs.Holds.{IsHolding}
-use Rattle.mm_explore.specs.Kept.{Parts, parts_of, held_parts}
 
 -- the machine of a bench is at the configuration to which a schedule leads
 pub record IsAtConfiguration (i : Image) (t : List ℕ) (b : Bench) : Type 0 where

@@ -1,10 +1,6 @@
 -- Configurations: states without their counts; and the moves of a state.
-use Rattle.std.specs.Prelude.{ℕ, ◌+◌, Bool, true, false, if◌then◌else◌, List, [], ◌∷◌, ◌++◌, map}
-use Rattle.std.specs.List.{filter}
-use Rattle.mm_model.specs.declared.slot.Pending.{Pending}
-use Rattle.mm_model.specs.Slot.{Slot}
-use Rattle.mm_model.specs.State.{ThreadRow, Core, State}
-use Rattle.mm_model.specs.Turn.{is_running}
+use Rattle.std.specs.{Prelude.{ℕ, ◌+◌, Bool, true, false, if◌then◌else◌, List, [], ◌∷◌, ◌++◌, map}, List.filter}
+use Rattle.mm_model.specs.{declared.slot.Pending.Pending, Slot.Slot, State.{ThreadRow, Core, State}, Turn.is_running}
 
 -- a slot with no count of turns
 abbrev pub uncounted_slot : Slot → Slot

@@ -1,13 +1,8 @@
 -- Cells that differ from the image's, word by word, and what a list of them becomes.
 use Rattle.std.specs.Prelude.{◌≡◌, ℕ, ◌%◌, ◌^◌, ◌<◌, not, ◌==◌, if◌then◌else◌, List, [], ◌∷◌, Option, Some, None}
-use Rattle.std.specs.List.{AllByRecursion, filter, insert}
-use Rattle.std.specs.Option.{unwrap_or}
-use Rattle.std.specs.Ordering.{nat_cmp}
-use Rattle.std.specs.FinMap.{put}
+use Rattle.std.specs.{List.{AllByRecursion, filter, insert}, Option.unwrap_or, Ordering.nat_cmp, FinMap.put}
 use Rattle.mm_word.specs.declared.word.Cell.{Cell}
-use Rattle.mm_model.specs.Memory.{Memory, cell_at, zero_cell}
-use Rattle.mm_model.specs.Image.{Image}
-use Rattle.mm_model.specs.Report.{same_cell}
+use Rattle.mm_model.specs.{Memory.{Memory, cell_at, zero_cell}, Image.Image, Report.same_cell}
 
 -- the image's cell of a word; integer 0, full, if the image does not have the word's page
 abbrev pub base_cell : Image → ℕ → Cell

@@ -3,24 +3,12 @@ use Rattle.std.specs.Prelude.{◌≡◌, ◌⊎◌, ℕ, ◌+◌, ◌*◌, ◌<�
 use Rattle.std.specs.Prelude.{[], ◌∷◌, ◌++◌, map, Contains, Option, Some, None}
 use Rattle.std.specs.List.{AllByRecursion, find, flat_map, list_any, count_by}
 use lib.Pointwise.{pointwise}
-use Rattle.mm_word.specs.declared.perm.Kind.{Kind}
-use Rattle.mm_word.specs.Access.{AccessValue}
-use Rattle.mm_word.specs.Cause.{number_of}
-use Rattle.mm_model.specs.declared.slot.SlotState.{SlotState}
-use Rattle.mm_model.specs.declared.slot.SlotState.TheVariants.{Running, Waiting, Taken, Halted}
-use Rattle.mm_model.specs.declared.step.Step.{Step}
-use Rattle.mm_model.specs.declared.step.Tick.{Tick}
-use Rattle.mm_model.specs.declared.step.Tick.TheVariants.{Faulted}
-use Rattle.mm_model.specs.State.{State, output_of}
-use Rattle.mm_model.specs.Image.{Image, start}
-use Rattle.mm_model.specs.Turn.{Turned}
-use Rattle.mm_model.specs.Run.{turn_of, run}
-use Rattle.mm_model.specs.Trace.{touches, group_in}
-use Rattle.mm_model.specs.Report.{same_bit, groups_of}
-use Rattle.mm_explore.specs.Pairs.{EachPair}
-use Rattle.mm_explore.specs.Configurations.{moves}
-use Rattle.mm_explore.specs.Explored.{leads_to}
-use Rattle.mm_model.specs.Counted.{writes}
+use Rattle.mm_word.specs.{declared.perm.Kind.Kind, Access.AccessValue, Cause.number_of}
+use Rattle.mm_model.specs.declared.slot.SlotState.{SlotState, TheVariants.{Running, Waiting, Taken, Halted}}
+use Rattle.mm_model.specs.{declared.step.{Step.Step, Tick.{Tick, TheVariants.Faulted}}, State.{State, output_of}}
+use Rattle.mm_model.specs.{Image.{Image, start}, Turn.Turned, Run.{turn_of, run}, Trace.{touches, group_in}}
+use Rattle.mm_model.specs.{Report.{same_bit, groups_of}, Counted.writes}
+use Rattle.mm_explore.specs.{Pairs.EachPair, Configurations.moves, Explored.leads_to}
 
 -- 1. The turns explored.
 

@@ -1,12 +1,8 @@
 -- What was found is what an exploration of the image finds.
-use Rattle.std.specs.Prelude.{◌≡◌, ℕ, true, false, List, length, map}
-use Rattle.std.specs.List.{AllByRecursion}
-use Rattle.mm_model.specs.Image.{Image, start}
-use Rattle.mm_model.specs.Report.{groups_of}
-use Rattle.mm_explore.specs.Explored.{IsExplored, IsAll}
-use Rattle.mm_explore.specs.Findings.{IsReached}
-use Rattle.mm_explore.specs.Results.{Results, GroupFound, explored_text}
-use Rattle.mm_explore.specs.Texts.{Explores}
+use Rattle.std.specs.{Prelude.{◌≡◌, ℕ, true, false, List, length, map}, List.AllByRecursion}
+use Rattle.mm_model.specs.{Image.{Image, start}, Report.groups_of}
+use Rattle.mm_explore.specs.{Explored.{IsExplored, IsAll}, Findings.IsReached}
+use Rattle.mm_explore.specs.{Results.{Results, GroupFound, explored_text}, Texts.Explores}
 
 -- the results have the text of an exploration up to a limit, and their count, whether they are all, and what their
 -- groups reached are those of the least schedules in their order

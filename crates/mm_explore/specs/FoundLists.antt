@@ -1,13 +1,9 @@
 -- The configurations that were found, each with its schedule and the numbers by which it is kept.
-use Rattle.std.specs.Prelude.{◌≡◌, ℕ, ◌+◌, ◌<◌, List, [], ◌∷◌, ◌++◌, map, length, Contains}
-use Rattle.std.specs.Prelude.{Option, Some, None, slice_get, slice_index_or}
-use Rattle.mm_model.specs.Image.{Image, start}
-use Rattle.mm_model.specs.Run.{run}
-use Rattle.mm_explore.specs.declared.found.Origin.{Origin}
-use Rattle.mm_explore.specs.declared.found.Looked.{Looked}
-use Rattle.mm_explore.specs.declared.found.Looked.TheVariants.{Known, New, Full}
-use Rattle.mm_explore.specs.Findings.{Extension}
-use Rattle.mm_explore.specs.Kept.{kept}
+use Rattle.std.specs.Prelude.{◌≡◌, ℕ, ◌+◌, ◌<◌, List, [], ◌∷◌, ◌++◌, map, length, Contains, Option, Some, None}
+use Rattle.std.specs.Prelude.{slice_get, slice_index_or}
+use Rattle.mm_model.specs.{Image.{Image, start}, Run.run}
+use Rattle.mm_explore.specs.declared.found.{Origin.Origin, Looked.{Looked, TheVariants.{Known, New, Full}}}
+use Rattle.mm_explore.specs.{Findings.Extension, Kept.kept}
 
 pub record FoundList : Type 0 where
   -- the schedules, in the order in which they were found

@@ -1,18 +1,12 @@
 -- A memory that is put to configurations, and what of it is not as in the image.
 use Rattle.std.specs.Prelude.{◌≡◌, ◌≢◌, ℕ, ◌≤◌, false, if◌then◌else◌, List, length, nat_eq, Option, Some, None, IfSome}
-use Rattle.std.specs.List.{AllByRecursion}
-use Rattle.std.specs.Option.{option_map}
+use Rattle.std.specs.{List.AllByRecursion, Option.option_map}
 use lib.Pointwise.{pointwise}
-use Rattle.mm_word.specs.declared.word.Cell.{Cell}
-use Rattle.mm_word.specs.Access.{AccessValue}
-use Rattle.mm_model.specs.Image.{Image}
-use Rattle.mm_model.specs.Memory.{Memory, cell_at, IsPaged}
-use Rattle.mm_model.specs.Report.{changes}
-use Rattle.mm_model.specs.Spelling.{HoldsWords, IsImage}
+use Rattle.mm_word.specs.{declared.word.Cell.Cell, Access.AccessValue}
+use Rattle.mm_model.specs.{Image.Image, Memory.{Memory, cell_at, IsPaged}, Report.changes}
+use Rattle.mm_model.specs.{Spelling.{HoldsWords, IsImage}, Counted.writes}
 use Rattle.mm_machine.specs.Snapshot.{page_numbers}
-use Rattle.mm_explore.specs.declared.held.Held.{Held}
-use Rattle.mm_explore.specs.Kept.{listed}
-use Rattle.mm_model.specs.Counted.{writes}
+use Rattle.mm_explore.specs.{declared.held.Held.Held, Kept.listed}
 
 -- a memory of a machine of the image
 pub record IsMemoryOf (i : Image) (m : Memory) : Type 0 where

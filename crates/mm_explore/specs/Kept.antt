@@ -3,30 +3,17 @@ use Rattle.std.specs.Prelude.{ℕ, zero, suc, ◌+◌, ◌*◌, ◌-◌, ◌/◌
 use Rattle.std.specs.Prelude.{if◌then◌else◌, List, [], ◌∷◌, ◌++◌, map, length, unwrap_or, Option, Some, None}
 use Rattle.std.specs.List.{flat_map, list_any}
 use lib.Pointwise.{pointwise}
-use Rattle.mm_word.specs.declared.cause.Cause.TheVariants.{NotPointer}
-use Rattle.mm_word.specs.declared.perm.Perm.TheVariants.{Key}
-use Rattle.mm_word.specs.declared.word.Word.{Word}
-use Rattle.mm_word.specs.declared.word.Word.TheVariants.{Int, Ptr}
-use Rattle.mm_word.specs.declared.word.Cell.{Cell}
-use Rattle.mm_word.specs.Cause.{number_of, cause_of}
-use Rattle.mm_word.specs.Perm.{can_fetch}
-use Rattle.mm_word.specs.Pointer.{Pointer, pointer_of, bits_of, spells_pointer}
+use Rattle.mm_word.specs.declared.{cause.Cause.TheVariants.NotPointer, perm.Perm.TheVariants.Key}
+use Rattle.mm_word.specs.{declared.word.{Word.{Word, TheVariants.{Int, Ptr}}, Cell.Cell}, Cause.{number_of, cause_of}}
+use Rattle.mm_word.specs.{Perm.can_fetch, Pointer.{Pointer, pointer_of, bits_of, spells_pointer}}
 use Rattle.mm_word.specs.Word.{word_bits, is_pointer}
-use Rattle.mm_model.specs.declared.slot.SlotState.{SlotState}
-use Rattle.mm_model.specs.declared.slot.SlotState.TheVariants.{Running, Waiting, Taken, Halted}
-use Rattle.mm_model.specs.declared.slot.Pending.{Pending}
-use Rattle.mm_model.specs.declared.event.Event.{Event}
-use Rattle.mm_model.specs.Effect.{same_word}
-use Rattle.mm_model.specs.Fits.{slots_of}
-use Rattle.mm_model.specs.Flags.{one_if, flags, number_of_flags}
-use Rattle.mm_model.specs.Image.{Image, start}
-use Rattle.mm_model.specs.Report.{same_bit, groups_of, changes}
-use Rattle.mm_model.specs.Slot.{Slot}
-use Rattle.mm_model.specs.State.{Core, State, output_of}
+use Rattle.mm_model.specs.declared.slot.SlotState.{SlotState, TheVariants.{Running, Waiting, Taken, Halted}}
+use Rattle.mm_model.specs.{declared.{slot.Pending.Pending, event.Event.Event}, Effect.same_word, Fits.slots_of}
+use Rattle.mm_model.specs.{Flags.{one_if, flags, number_of_flags}, Image.{Image, start}}
+use Rattle.mm_model.specs.{Report.{same_bit, groups_of, changes}, Slot.Slot, State.{Core, State, output_of}}
 use Rattle.mm_thread.specs.Output.{Output}
 use Rattle.mm_machine.specs.Snapshot.{queued, page_numbers}
-use Rattle.mm_explore.specs.Configurations.{uncounted_slot, are_some}
-use Rattle.mm_explore.specs.Findings.{state_number, same_state}
+use Rattle.mm_explore.specs.{Configurations.{uncounted_slot, are_some}, Findings.{state_number, same_state}}
 
 -- 1. Parts.
 

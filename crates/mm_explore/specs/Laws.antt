@@ -1,19 +1,12 @@
 -- What holds of every exploration.
 use Rattle.std.specs.Prelude.{◌≡◌, ◌↔◌, ℕ, true, List, [], ◌∷◌, ◌++◌, Contains, Some, IsSome}
 use Rattle.mm_word.specs.Access.{AccessValue}
-use Rattle.mm_model.specs.State.{State}
-use Rattle.mm_model.specs.Image.{Image, start}
-use Rattle.mm_model.specs.Spelling.{IsImage}
-use Rattle.mm_model.specs.Run.{turn_of, after, run}
-use Rattle.mm_model.specs.Trace.{touches, group_in}
-use Rattle.mm_explore.specs.Configurations.{configuration, moves}
-use Rattle.mm_explore.specs.Schedules.{Before}
+use Rattle.mm_model.specs.{State.State, Image.{Image, start}, Spelling.IsImage, Run.{turn_of, after, run}}
+use Rattle.mm_model.specs.{Trace.{touches, group_in}, Counted.writes}
+use Rattle.mm_explore.specs.{Configurations.{configuration, moves}, Schedules.Before}
 use Rattle.mm_explore.specs.Explored.{leads_to, IsLeast, IsExplored, IsAll}
-use Rattle.mm_explore.specs.Findings.{Extension, extended, turn_at, any_kind, Reaches, has_fault, first_fault}
-use Rattle.mm_explore.specs.Findings.{IsFinal, AreFinal, outcome_at, firsts}
-use Rattle.mm_explore.specs.Texts.{Explores}
-use Rattle.mm_explore.specs.Kept.{kept}
-use Rattle.mm_model.specs.Counted.{writes}
+use Rattle.mm_explore.specs.Findings.{Extension, extended, turn_at, any_kind, Reaches, has_fault, first_fault, IsFinal}
+use Rattle.mm_explore.specs.{Findings.{AreFinal, outcome_at, firsts}, Texts.Explores, Kept.kept}
 
 -- 1. States of one configuration go on alike.
 

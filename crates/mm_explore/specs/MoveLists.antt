@@ -1,8 +1,6 @@
 -- The moves of a configuration, read of its slots.
-use Rattle.std.specs.Prelude.{ℕ, ◌+◌, Bool, if◌then◌else◌, List, [], ◌∷◌, ◌++◌}
-use Rattle.std.specs.List.{flat_map}
-use Rattle.mm_model.specs.Slot.{Slot}
-use Rattle.mm_model.specs.Turn.{is_running}
+use Rattle.std.specs.{Prelude.{ℕ, ◌+◌, Bool, if◌then◌else◌, List, [], ◌∷◌, ◌++◌}, List.flat_map}
+use Rattle.mm_model.specs.{Slot.Slot, Turn.is_running}
 use Rattle.mm_explore.specs.Configurations.{are_some}
 
 -- the number of a slot, if it runs

@@ -1,21 +1,13 @@
 -- What was noted of the turns and of the ends that a search went through.
-use Rattle.std.specs.Prelude.{◌≡◌, ℕ, ◌+◌, nat_eq, Bool, true, false, List, [], ◌∷◌, ◌++◌, map, length}
-use Rattle.std.specs.Prelude.{Option, Some, None, slice_get}
-use Rattle.std.specs.List.{AllZip, find, flat_map}
-use Rattle.std.specs.BTreeMap.{get}
+use Rattle.std.specs.Prelude.{◌≡◌, ℕ, ◌+◌, nat_eq, Bool, true, false, List, [], ◌∷◌, ◌++◌, map, length, Option, Some}
+use Rattle.std.specs.{Prelude.{None, slice_get}, List.{AllZip, find, flat_map}, BTreeMap.get}
 use Rattle.indexmap.specs.IndexMap.{IsUnique}
 use lib.Pointwise.{pointwise}
-use Rattle.mm_model.specs.Flags.{one_if}
-use Rattle.mm_model.specs.Image.{Image}
-use Rattle.mm_explore.specs.declared.findings.Findings.{Findings}
-use Rattle.mm_explore.specs.declared.ends.Tally.{Tally}
-use Rattle.mm_explore.specs.declared.found.Origin.{Origin}
-use Rattle.mm_explore.specs.Findings.{Extension, turn_at, any_kind, has_fault}
-use Rattle.mm_explore.specs.Findings.{AreFinal, Outcome, outcome_at, state_number, firsts, count_like}
-use Rattle.mm_explore.specs.FoundLists.{IsOrigin, led_by}
-use Rattle.mm_explore.specs.Results.{fault_found_lines}
-use Rattle.mm_explore.specs.Words.{order, AreKept, turn_words}
-use Rattle.mm_model.specs.Counted.{writes}
+use Rattle.mm_model.specs.{Flags.one_if, Image.Image, Counted.writes}
+use Rattle.mm_explore.specs.declared.{findings.Findings.Findings, ends.Tally.Tally, found.Origin.Origin}
+use Rattle.mm_explore.specs.Findings.{Extension, turn_at, any_kind, has_fault, AreFinal, Outcome, outcome_at}
+use Rattle.mm_explore.specs.{Findings.{state_number, firsts, count_like}, FoundLists.{IsOrigin, led_by}}
+use Rattle.mm_explore.specs.{Results.fault_found_lines, Words.{order, AreKept, turn_words}}
 
 -- 1. Faults.
 

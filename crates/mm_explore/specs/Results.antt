@@ -1,12 +1,9 @@
 -- What an exploration found, and its text.
-use Rattle.std.specs.Prelude.{ℕ, Bool, List, ◌++◌, length, codes, decimal}
-use Rattle.std.specs.List.{flat_map}
-use Rattle.mm_model.specs.declared.slot.SlotState.{SlotState}
-use Rattle.mm_model.specs.Lines.{newline, state_text, output_lines}
+use Rattle.std.specs.{Prelude.{ℕ, Bool, List, ◌++◌, length, codes, decimal}, List.flat_map}
+use Rattle.mm_model.specs.{declared.slot.SlotState.SlotState, Lines.{newline, state_text, output_lines}}
 use Rattle.mm_model.specs.Report.{group_line}
 use Rattle.mm_thread.specs.Output.{Output}
-use Rattle.mm_explore.specs.Findings.{Reached}
-use Rattle.mm_explore.specs.Texts.{reached_lines, by_line, end_text, extent_text}
+use Rattle.mm_explore.specs.{Findings.Reached, Texts.{reached_lines, by_line, end_text, extent_text}}
 
 -- what a group touched and wrote
 pub record GroupFound : Type 0 where

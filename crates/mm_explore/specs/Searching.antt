@@ -1,24 +1,12 @@
 -- How far a search has come.
-use Rattle.std.specs.Prelude.{◌≡◌, ◌⊎◌, ℕ, ◌+◌, ◌^◌, ◌<◌, ◌≤◌, Bool, true, false, List, [], ◌∷◌, ◌++◌, length}
-use Rattle.std.specs.Prelude.{take, drop, Contains, Some, slice_get, slice_index_or}
-use Rattle.std.specs.List.{AllByRecursion, flat_map}
-use Rattle.mm_model.specs.Image.{Image, start}
-use Rattle.mm_model.specs.Report.{groups_of}
-use Rattle.mm_model.specs.Run.{run}
-use Rattle.mm_model.specs.Spelling.{IsImage}
-use Rattle.mm_explore.specs.declared.found.Looked.{Looked}
-use Rattle.mm_explore.specs.declared.found.Looked.TheVariants.{Known, New, Full}
-use Rattle.mm_explore.specs.declared.found.Origin.{Origin}
-use Rattle.mm_explore.specs.declared.search.Node.{Node}
-use Rattle.mm_explore.specs.declared.search.Search.{Search}
-use Rattle.mm_explore.specs.Benches.{IsAtSomeConfiguration, ArePartsAt}
-use Rattle.mm_explore.specs.Configurations.{moves}
-use Rattle.mm_explore.specs.Explored.{leads_to, IsLeast, IsExplored, IsAll}
+use Rattle.std.specs.Prelude.{◌≡◌, ◌⊎◌, ℕ, ◌+◌, ◌^◌, ◌<◌, ◌≤◌, Bool, true, false, List, [], ◌∷◌, ◌++◌, length, take}
+use Rattle.std.specs.{Prelude.{drop, Contains, Some, slice_get, slice_index_or}, List.{AllByRecursion, flat_map}}
+use Rattle.mm_model.specs.{Image.{Image, start}, Report.groups_of, Run.run, Spelling.IsImage}
+use Rattle.mm_explore.specs.declared.found.{Looked.{Looked, TheVariants.{Known, New, Full}}, Origin.Origin}
+use Rattle.mm_explore.specs.{declared.search.{Node.Node, Search.Search}, Benches.{IsAtSomeConfiguration, ArePartsAt}}
+use Rattle.mm_explore.specs.{Configurations.moves, Explored.{leads_to, IsLeast, IsExplored, IsAll}}
 use Rattle.mm_explore.specs.Findings.{Extension, extended, extensions, explored_turns, IsFinal}
-use Rattle.mm_explore.specs.FoundLists.{Holds, Looks}
-use Rattle.mm_explore.specs.Noting.{Noted, Ended}
-use Rattle.mm_explore.specs.Pairs.{EachPair}
-use Rattle.mm_explore.specs.Schedules.{Before}
+use Rattle.mm_explore.specs.{FoundLists.{Holds, Looks}, Noting.{Noted, Ended}, Pairs.EachPair, Schedules.Before}
 
 -- 1. The list that is found.
 

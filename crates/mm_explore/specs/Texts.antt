@@ -1,18 +1,12 @@
 -- The text of an exploration.
 use Rattle.std.specs.Prelude.{◌≡◌, ℕ, ◌+◌, Bool, true, false, ◌==◌, if◌then◌else◌, List, [], ◌∷◌, ◌++◌, length, codes}
-use Rattle.std.specs.Prelude.{decimal, zip, Option, Some, None}
-use Rattle.std.specs.List.{AllZip, flat_map}
+use Rattle.std.specs.{Prelude.{decimal, zip, Option, Some, None}, List.{AllZip, flat_map}}
 use Rattle.mm_word.specs.Cause.{cause_numbers}
-use Rattle.mm_model.specs.Digits.{hex}
-use Rattle.mm_model.specs.Lines.{newline, state_text, output_lines}
-use Rattle.mm_model.specs.State.{ThreadRow, State, output_of}
-use Rattle.mm_model.specs.Image.{Image, start}
-use Rattle.mm_model.specs.Slot.{Slot}
-use Rattle.mm_model.specs.Run.{run}
-use Rattle.mm_model.specs.Report.{groups_of, group_line}
+use Rattle.mm_model.specs.{Digits.hex, Lines.{newline, state_text, output_lines}, State.{ThreadRow, State, output_of}}
+use Rattle.mm_model.specs.{Image.{Image, start}, Slot.Slot, Run.run, Report.{groups_of, group_line}}
 use Rattle.mm_explore.specs.Explored.{IsExplored, IsAll}
-use Rattle.mm_explore.specs.Findings.{Extension, extended, Span, Reached, IsReached, first_fault, AreFinal}
-use Rattle.mm_explore.specs.Findings.{outcome_at, firsts, count_like}
+use Rattle.mm_explore.specs.Findings.{Extension, extended, Span, Reached, IsReached, first_fault, AreFinal, outcome_at}
+use Rattle.mm_explore.specs.Findings.{firsts, count_like}
 
 -- 1. Schedules.
 

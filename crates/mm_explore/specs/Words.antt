@@ -1,16 +1,10 @@
 -- The words that groups touch and write, each with its group, and the runs of ascending words.
-use Rattle.std.specs.Prelude.{◌≡◌, ℕ, ◌+◌, ◌%◌, ◌^◌, ◌<◌, Bool, ◌==◌, if◌then◌else◌, List, [], ◌∷◌}
-use Rattle.std.specs.Prelude.{Contains, Option, Some, None}
-use Rattle.std.specs.List.{AllByRecursion, flat_map}
-use Rattle.std.specs.Ordering.{nat_cmp, ordering_then}
+use Rattle.std.specs.Prelude.{◌≡◌, ℕ, ◌+◌, ◌%◌, ◌^◌, ◌<◌, Bool, ◌==◌, if◌then◌else◌, List, [], ◌∷◌, Contains, Option}
+use Rattle.std.specs.{Prelude.{Some, None}, List.{AllByRecursion, flat_map}, Ordering.{nat_cmp, ordering_then}}
 use Rattle.std.specs.declared.cmp.Ordering.{Ordering}
-use Rattle.mm_word.specs.declared.perm.Kind.{Kind}
-use Rattle.mm_word.specs.Access.{AccessValue}
-use Rattle.mm_model.specs.declared.step.Step.{Step}
-use Rattle.mm_model.specs.Image.{Image}
-use Rattle.mm_model.specs.Trace.{touches, group_in}
-use Rattle.mm_explore.specs.Findings.{Span, word_in, AreSpans, Extension, turn_at}
-use Rattle.mm_explore.specs.Results.{GroupFound}
+use Rattle.mm_word.specs.{declared.perm.Kind.Kind, Access.AccessValue}
+use Rattle.mm_model.specs.{declared.step.Step.Step, Image.Image, Trace.{touches, group_in}}
+use Rattle.mm_explore.specs.{Findings.{Span, word_in, AreSpans, Extension, turn_at}, Results.GroupFound}
 
 -- the order of groups and words
 abbrev pub order : ℕ × ℕ → ℕ × ℕ → Ordering

@@ -1,8 +1,6 @@
 -- A later node for each.
 use Rattle.std.proofs.Common.{◌≡◌, ℕ, ◌+◌, ◌<◌, List, [], ◌∷◌, ◌++◌, length, slice_index, sym, ap, ◌∙◌, arith}
-use Rattle.mm_flow.specs.Work.{IsAhead}
-use Rattle.mm_flow.proofs.SharedMarks.{push_cases, push_length}
-use Rattle.mm_flow.proofs.SharedMarks.Pushed.{last, before}
+use Rattle.mm_flow.{specs.Work.IsAhead, proofs.SharedMarks.{push_cases, push_length, Pushed.{last, before}}}
 
 pub nexts_more : (next : List ℕ) (k : ℕ) → length next ≡ k → ((i : ℕ) → i < k → slice_index next i ≡ i + 1)
     → (length (next ++ (k + 1) ∷ []) ≡ k + 1) × ((i : ℕ) → i < k + 1 → slice_index (next ++ (k + 1) ∷ []) i ≡ i + 1)

@@ -1,11 +1,8 @@
 -- Ordered segments nest, and share an address where both are above one.
 use Rattle.std.proofs.Common.{◌≡◌, ℕ, ◌+◌, ◌<◌, ◌≤◌, inl, inr, List, length, slice_index, refl, subst, arith, pow_pos}
 use Rattle.std.proofs.lemmas.Bool.{cases_lt}
-use Rattle.mm_flow.specs.Sharing.{Up}
-use Rattle.mm_flow.specs.Sharing.Up.{here}
-use Rattle.mm_seg.proofs.Searches.{same_or_below}
-use Rattle.mm_seg.proofs.Inserts.{nested_aligned}
-use Rattle.mm_flow.specs.Forest.{IsNested, IsForest, IsOrdered, In, SharesOf}
+use Rattle.mm_flow.specs.{Sharing.{Up, Up.here}, Forest.{IsNested, IsForest, IsOrdered, In, SharesOf}}
+use Rattle.mm_seg.proofs.{Searches.same_or_below, Inserts.nested_aligned}
 
 pub ordered_nested : (bases logs ends : List ℕ) → IsOrdered bases logs ends → IsNested bases ends
 ordered_nested bases logs ends o = record {

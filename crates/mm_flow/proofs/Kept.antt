@@ -1,12 +1,9 @@
 -- Kept marks of the nodes before one.
-use Rattle.std.proofs.Common.{◌≡◌, ℕ, ◌+◌, ◌<◌, ◌↔◌, inl, inr, Bool, true, List, length, slice_index, bit_or, sym, ap, ◌∙◌, arith}
-use Rattle.std.specs.Int.{bit_at}
+use Rattle.std.proofs.Common.{◌≡◌, ℕ, ◌+◌, ◌<◌, ◌↔◌, inl, inr, Bool, true, List, length, slice_index, bit_or, sym, ap}
+use Rattle.std.{proofs.Common.{◌∙◌, arith}, specs.Int.bit_at}
 use Rattle.mm_seg.proofs.Searches.{same_or_below}
-use Rattle.mm_flow.specs.Flow.{Has}
-use Rattle.mm_flow.proofs.Bits.{or_left, or_right, or_cases, zero_bit}
-use Rattle.mm_flow.proofs.SharedMarks.{kept_then, then_kept}
-use Rattle.mm_flow.specs.Sharing.{kept_mark}
-use Rattle.mm_flow.specs.Reached.{HasSome}
+use Rattle.mm_flow.specs.{Flow.Has, Sharing.kept_mark, Reached.HasSome}
+use Rattle.mm_flow.proofs.{Bits.{or_left, or_right, or_cases, zero_bit}, SharedMarks.{kept_then, then_kept}}
 
 pub record SomeBefore (k : ℕ) (marks : List ℕ) (keep : ℕ → Bool) (g : ℕ) : Type 0 where
   pub node : ℕ

@@ -1,18 +1,15 @@
 -- What is shared is reached, and marks that nothing changes hold all that is reached.
-use Rattle.std.proofs.Common.{◌≡◌, ℕ, ◌<◌, ◌≤◌, ◌↔◌, inl, inr, Bool, false, List, length, slice_index, refl, sym, ◌∙◌, subst, arith}
-use Rattle.std.specs.Int.{bit_at}
+use Rattle.std.proofs.Common.{◌≡◌, ℕ, ◌<◌, ◌≤◌, ◌↔◌, inl, inr, Bool, false, List, length, slice_index, refl, sym, ◌∙◌}
+use Rattle.std.{proofs.Common.{subst, arith}, specs.Int.bit_at}
 use Rattle.mm_flow.specs.declared.node.Right.TheVariants.{Load, Store, Make}
 use Rattle.mm_flow.specs.Edges.{Edges, SharingEdges, enters_at, right_at}
 use Rattle.mm_flow.specs.Flow.{Has, Flows, IsFlow}
 use Rattle.mm_flow.specs.Flow.Flows.{from as flow_from, along as flow_along, through as flow_through}
-use Rattle.mm_flow.proofs.Masks.{Within-refl, Within-trans}
-use Rattle.mm_flow.specs.Sharing.{Up, AreMarksAbove, AddsEdges, PropagatesShared}
-use Rattle.mm_flow.proofs.Bits.{and_both}
-use Rattle.mm_flow.proofs.Walks.{at_one}
+use Rattle.mm_flow.specs.Sharing.{Up, AreMarksAbove, AddsEdges, PropagatesShared, Up.{here, over}}
 use Rattle.mm_flow.specs.Reached.{HasSome, Shares, AreSharingEdges, SharingSoFar, Reached, IsReach, Saturating}
-use Rattle.mm_flow.specs.Sharing.Up.{here, over}
 use Rattle.mm_flow.specs.Reached.Shares.{linked as edge_linked, shared as edge_shared, by_maker as edge_by_maker}
 use Rattle.mm_flow.specs.Reached.Reached.{from, along, through, linked, shared, by_maker}
+use Rattle.mm_flow.proofs.{Masks.{Within-refl, Within-trans}, Bits.and_both, Walks.at_one}
 
 Up-le : (par : List ℕ) (j k : ℕ) → Up par j k → j ≤ k
 Up-le par j k (here e) = omega arith

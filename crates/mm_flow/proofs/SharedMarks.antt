@@ -2,15 +2,14 @@
 use Rattle.std.proofs.lemmas.Nat.{le_or_l}
 use Rattle.std.proofs.Common.{◌≡◌, ℕ, zero, suc, ◌+◌, ◌^◌, ◌<◌, ◌≤◌, ◌⊎◌, ◌↔◌, inl, inr, Bool, true, false, List, []}
 use Rattle.std.proofs.Common.{◌∷◌, ◌++◌, length, slice_index, slice_index_or, slice_set, bit_or, refl, sym, ap, ◌∙◌}
-use Rattle.std.proofs.Common.{subst, arith, length-append}
-use Rattle.std.specs.Int.{bit_at}
+use Rattle.std.{proofs.Common.{subst, arith, length-append}, specs.Int.bit_at}
 use Rattle.mm_seg.proofs.Searches.{same_or_below}
 use Rattle.mm_flow.specs.Flow.{Has, Within, room}
+use Rattle.mm_flow.specs.Sharing.{Up, MarkedAbove, AreMarksAbove, AddsEdges, SharedBy, PropagatingShared, kept_mark}
+use Rattle.mm_flow.specs.Sharing.Up.{here, over}
 use Rattle.mm_flow.proofs.Bits.{or_left, or_right, or_cases, zero_bit}
 use Rattle.mm_flow.proofs.Masks.{set_cases, length_set, room_set, Within-refl, Within-trans, Within-or_left}
 use Rattle.mm_flow.proofs.Masks.Set.{here as set_here, there as set_there}
-use Rattle.mm_flow.specs.Sharing.{Up, MarkedAbove, AreMarksAbove, AddsEdges, SharedBy, PropagatingShared, kept_mark}
-use Rattle.mm_flow.specs.Sharing.Up.{here, over}
 
 -- the groups of one more
 module _ (old a : List ℕ) (from to h : ℕ) (k : AddsEdges h old from to a) where

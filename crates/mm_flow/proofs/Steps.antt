@@ -1,14 +1,11 @@
 -- The steps of the flow.
-use Rattle.std.proofs.lemmas.Bool.{cases_lt}
-use Rattle.std.proofs.Math.ListN.{get_or-eq_default}
-use Rattle.std.proofs.Common.{◌≡◌, ℕ, ◌<◌, ◌⊎◌, inl, inr, List, [], ◌∷◌, length, slice_index, bit_and, refl, sym, ◌∙◌, subst, arith}
+use Rattle.std.proofs.{lemmas.Bool.cases_lt, Math.ListN.get_or-eq_default}
+use Rattle.std.proofs.Common.{◌≡◌, ℕ, ◌<◌, ◌⊎◌, inl, inr, List, [], ◌∷◌, length, slice_index, bit_and, refl, sym, ◌∙◌}
+use Rattle.std.proofs.Common.{subst, arith}
 use Rattle.mm_flow.specs.Edges.{Edges, entry_at, enters_at}
-use Rattle.mm_flow.specs.Flow.{Within, Has, Flows, IsSaturated, IsFlow}
+use Rattle.mm_flow.specs.Flow.{Within, Has, Flows, IsSaturated, IsFlow, Flows.{from, along, through}}
 use Rattle.mm_flow.specs.Work.{IsIn, Propagated, IsTarget, IsPassed, IsReady, Working, IsTaken, Flowing}
-use Rattle.mm_flow.specs.Flow.Flows.{from, along, through}
-use Rattle.mm_flow.proofs.Masks.{Within-refl, Within-trans}
-use Rattle.mm_flow.proofs.Bits.{both_bits}
-use Rattle.mm_flow.proofs.Walks.{and_within, zero_within}
+use Rattle.mm_flow.proofs.{Masks.{Within-refl, Within-trans}, Bits.both_bits, Walks.{and_within, zero_within}}
 
 pub flowing_start : (e : Edges) (old propagated p : List ℕ) → IsReady e old propagated
     → ((k : ℕ) → IsIn k p → k < length old) → ((k : ℕ) → k < length old → IsIn k p ⊎ (slice_index old k ≡ 0))

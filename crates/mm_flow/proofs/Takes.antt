@@ -1,7 +1,6 @@
 -- A node taken at either end.
 use Rattle.std.proofs.Common.{◌≡◌, ℕ, inl, inr, List, [], ◌∷◌, ◌++◌, length, length-append, refl, sym, subst, arith}
-use Rattle.mm_flow.specs.Work.{IsTaken}
-use Rattle.mm_flow.proofs.Masks.{in_push_left, in_push_last, in_push_cases}
+use Rattle.mm_flow.{specs.Work.IsTaken, proofs.Masks.{in_push_left, in_push_last, in_push_cases}}
 
 first : (k : ℕ) (rest : List ℕ) → IsTaken k (k ∷ rest) rest
 first k rest = record {

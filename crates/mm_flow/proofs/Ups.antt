@@ -1,12 +1,9 @@
 -- Climbing, and one segment more.
-use Rattle.std.proofs.Common.{◌≡◌, ℕ, ◌-◌, ◌<◌, ◌≤◌, inl, inr, List, [], ◌∷◌, ◌++◌, length, slice_index, refl, sym, subst, arith}
+use Rattle.std.proofs.Common.{◌≡◌, ℕ, ◌-◌, ◌<◌, ◌≤◌, inl, inr, List, [], ◌∷◌, ◌++◌, length, slice_index, refl, sym}
+use Rattle.std.proofs.Common.{subst, arith}
 use Rattle.mm_seg.proofs.Searches.{same_or_below}
-use Rattle.mm_flow.specs.Sharing.{Up}
-use Rattle.mm_flow.specs.Sharing.Up.{here, over}
-use Rattle.mm_flow.proofs.SharedMarks.{push_cases, push_length}
-use Rattle.mm_flow.proofs.SharedMarks.Pushed.{last, before}
-use Rattle.mm_flow.specs.Forest.{IsNested, IsForest, Climbed}
-use Rattle.mm_flow.specs.Forest.Climbed.{found, missed}
+use Rattle.mm_flow.specs.{Sharing.{Up, Up.{here, over}}, Forest.{IsNested, IsForest, Climbed, Climbed.{found, missed}}}
+use Rattle.mm_flow.proofs.SharedMarks.{push_cases, push_length, Pushed.{last, before}}
 
 before_push : (par : List ℕ) (v k : ℕ) → k < length par → slice_index (par ++ v ∷ []) k ≡ slice_index par k
 before_push par v k lt = elim (push_cases par v k (omega arith)) [ last e f ↦ absurd (omega arith) | before small f ↦ f ]

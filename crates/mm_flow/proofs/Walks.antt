@@ -1,14 +1,13 @@
 -- The way over the nodes within one.
-use Rattle.std.proofs.lemmas.Bool.{cases_lt, cases_eq}
-use Rattle.std.proofs.lemmas.Nat.Bits.{bit_at-lt, bit_at-zero, bit_at_and}
-use Rattle.std.proofs.Common.{◌≡◌, ℕ, zero, suc, ◌+◌, ◌<◌, ◌≤◌, inl, inr, List, ◌∷◌, length, slice_index, slice_set, max, min, bit_and, bit_or, refl, sym, ap, ◌∙◌, subst, arith}
+use Rattle.std.proofs.lemmas.{Bool.{cases_lt, cases_eq}, Nat.Bits.{bit_at-lt, bit_at-zero, bit_at_and}}
+use Rattle.std.proofs.Common.{◌≡◌, ℕ, zero, suc, ◌+◌, ◌<◌, ◌≤◌, inl, inr, List, ◌∷◌, length, slice_index, slice_set}
+use Rattle.std.proofs.Common.{max, min, bit_and, bit_or, refl, sym, ap, ◌∙◌, subst, arith}
 use Rattle.std.specs.Int.{bit_at}
-use Rattle.mm_flow.specs.Edges.{Edges, low_at, high_at, entry_at, enters_at}
-use Rattle.mm_flow.specs.Flow.{Within, Has}
-use Rattle.mm_flow.specs.Work.{Propagated, IsAmong, IsListed, StaysListed, HasPropagated, IsPassed, IsReady, Working, IsInner, IsOnWay, Walked, Walking, Will, Worklist, pass_of, way_of}
+use Rattle.mm_flow.specs.{Edges.{Edges, low_at, high_at, entry_at, enters_at}, Flow.{Within, Has}}
+use Rattle.mm_flow.specs.Work.{Propagated, IsAmong, IsListed, StaysListed, HasPropagated, IsPassed, IsReady, Working}
+use Rattle.mm_flow.specs.Work.{IsInner, IsOnWay, Walked, Walking, Will, Worklist, pass_of, way_of}
 use Rattle.mm_flow.proofs.Masks.{Within-refl, Within-trans, Within-or_left, Within-or_right, set_cases, length_set, Set}
-use Rattle.mm_flow.proofs.Bits.{or_cases, and_both, both_bits}
-use Rattle.mm_flow.proofs.Masks.Set.{here, there}
+use Rattle.mm_flow.proofs.{Masks.Set.{here, there}, Bits.{or_cases, and_both, both_bits}}
 
 pub at_one : (x y g : ℕ) → Within x y → bit_at x g ≡ 1 → bit_at y g ≡ 1
 at_one x y g h one = let le = h g in let lt = bit_at-lt y g in omega arith

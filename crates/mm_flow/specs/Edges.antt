@@ -1,8 +1,6 @@
 -- A graph: nodes, each with the nodes to which it leads.
 use Rattle.std.specs.Prelude.{ℕ, Bool, false, List, slice_index_or}
-use Rattle.mm_flow.specs.declared.node.Node.{Node}
-use Rattle.mm_flow.specs.declared.node.Right.{Right}
-use Rattle.mm_flow.specs.declared.node.Right.TheVariants.{Load, Store, Make}
+use Rattle.mm_flow.specs.declared.node.{Node.Node, Right.{Right, TheVariants.{Load, Store, Make}}}
 
 -- the node past the end of a list
 abbrev pub no_node : Node

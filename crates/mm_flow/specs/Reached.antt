@@ -1,10 +1,8 @@
 -- All that groups reach in a graph.
-use Rattle.std.specs.Prelude.{◌≡◌, ℕ, ◌<◌, ◌≤◌, ◌⊎◌, Bool, true, List, length, slice_index}
-use Rattle.std.specs.Int.{bit_at}
+use Rattle.std.specs.{Prelude.{◌≡◌, ℕ, ◌<◌, ◌≤◌, ◌⊎◌, Bool, true, List, length, slice_index}, Int.bit_at}
 use Rattle.mm_flow.specs.declared.node.Right.TheVariants.{Load, Store, Make}
 use Rattle.mm_flow.specs.Edges.{Edges, SharingEdges, low_at, high_at, entry_at, enters_at, right_at}
-use Rattle.mm_flow.specs.Flow.{Has, Within}
-use Rattle.mm_flow.specs.Sharing.{Up, MarkedAbove}
+use Rattle.mm_flow.specs.{Flow.{Has, Within}, Sharing.{Up, MarkedAbove}}
 
 pub record SharingEdgesFit (n : SharingEdges) (size : ℕ) : Type 0 where
   pub nodes : length n.nodes ≡ size

@@ -1,7 +1,6 @@
 -- Groups that are given all that another group has.
 use Rattle.std.specs.Prelude.{◌≡◌, ℕ, ◌+◌, ◌^◌, ◌<◌, ◌≤◌, ◌⊎◌, List, length, slice_index, Bool, true, false}
-use Rattle.std.specs.Prelude.{if◌then◌else◌}
-use Rattle.std.specs.Int.{bit_at}
+use Rattle.std.specs.{Prelude.if◌then◌else◌, Int.bit_at}
 use Rattle.mm_flow.specs.Flow.{Has, Within, room}
 
 -- the node j is node k or above it; a node whose parent is not before it is a root

@@ -1,8 +1,7 @@
 -- Marks that spread along edges: what holds while nodes are worked off.
 use Rattle.std.specs.Prelude.{◌≡◌, ℕ, ◌+◌, ◌*◌, ◌^◌, ◌<◌, ◌≤◌, ◌⊎◌, List, [], ◌∷◌, length, slice_index, bit_and, bit_or}
 use Rattle.std.specs.Int.{bit_at}
-use Rattle.mm_flow.specs.Edges.{Edges, low_at, high_at, entry_at, enters_at}
-use Rattle.mm_flow.specs.Flow.{Within, Has, Flows, room}
+use Rattle.mm_flow.specs.{Edges.{Edges, low_at, high_at, entry_at, enters_at}, Flow.{Within, Has, Flows, room}}
 use Rattle.mm_flow.specs.declared.work.Work.{Work}
 
 abbrev pub IsIn : ℕ → List ℕ → Type 0

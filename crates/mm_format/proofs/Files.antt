@@ -1,14 +1,11 @@
 -- Whole files: what a format is there and back.
-use Rattle.std.proofs.Common.{◌≡◌, ℕ, ◌+◌, ◌≤◌, Bool, true, false, cond, ltb, List, length, take, Option, Some, None, Ok, Err, inl, inr, refl}
-use Rattle.std.proofs.Common.{sym, ap, ◌∙◌, arith}
-use Rattle.std.proofs.lemmas.Bool.{ltb-false, le-ltb}
-use Rattle.std.proofs.lemmas.List.{take_all}
+use Rattle.std.proofs.Common.{◌≡◌, ℕ, ◌+◌, ◌≤◌, Bool, true, false, cond, ltb, List, length, take, Option, Some, None}
+use Rattle.std.proofs.Common.{Ok, Err, inl, inr, refl, sym, ap, ◌∙◌, arith}
+use Rattle.std.proofs.lemmas.{Bool.{ltb-false, le-ltb}, List.take_all}
 use Rattle.mm_model.specs.Bytes.{IsBytes}
-use Rattle.mm_format.specs.declared.reader.ReadError.{ReadError}
-use Rattle.mm_format.specs.declared.reader.ReadError.TheVariants.{Fault, NoMemory}
+use Rattle.mm_format.specs.declared.reader.ReadError.{ReadError, TheVariants.{Fault, NoMemory}}
 use Rattle.mm_format.specs.Formats.{Parsed, Format, IsFormat, IsSpelledAt, file, fault_in, RoundTrips, IsOneToOne}
-use Rattle.mm_format.specs.Formats.Parsed.{Got, Bad}
-use Rattle.mm_format.specs.Reading.{Fails, AnswersFile, fault_named_by}
+use Rattle.mm_format.specs.{Formats.Parsed.{Got, Bad}, Reading.{Fails, AnswersFile, fault_named_by}}
 use Rattle.mm_format.proofs.Formats.{after_got}
 
 module _ {A : Type 0} (f : Format A) (is : IsFormat f) where

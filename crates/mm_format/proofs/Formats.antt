@@ -1,18 +1,15 @@
 -- What each way to make a format keeps.
-use Rattle.std.proofs.Common.{◌≡◌, ℕ, ◌+◌, ◌^◌, ◌<◌, ◌≤◌, Bool, true, false, not, cond}
-use Rattle.std.proofs.Common.{List, [], ◌∷◌, ◌++◌, length, take, drop, refl, sym, ap, subst, ◌∙◌, arith}
-use Rattle.std.specs.Int.{w16, w32, w64, to_be_bytes}
-use Rattle.std.specs.Str.{bytes_eq}
-use Rattle.std.proofs.lemmas.Bool.{ltb-false, le-ltb, not-false}
-use Rattle.std.proofs.lemmas.List.{length-append, length-take, length-drop}
-use Rattle.std.proofs.lemmas.Slice.Eq.{bytes_eq-Decides}
+use Rattle.std.proofs.Common.{◌≡◌, ℕ, ◌+◌, ◌^◌, ◌<◌, ◌≤◌, Bool, true, false, not, cond, List, [], ◌∷◌, ◌++◌, length}
+use Rattle.std.proofs.Common.{take, drop, refl, sym, ap, subst, ◌∙◌, arith}
+use Rattle.std.proofs.lemmas.{Bool.{ltb-false, le-ltb, not-false}, List.{length-append, length-take, length-drop}}
+use Rattle.std.{proofs.lemmas.Slice.Eq.bytes_eq-Decides, specs.{Int.{w16, w32, w64, to_be_bytes}, Str.bytes_eq}}
 use Rattle.mm_model.specs.Bytes.{IsBytes, number_at}
 use Rattle.mm_model.proofs.Bytes.Numbers.{number_is_4}
 use Rattle.mm_model.proofs.Bytes.Parts.{join_at, length-part, IsBytes-part, one_byte, two_bytes, four_bytes}
 use Rattle.mm_model.proofs.Bytes.Parts.{eight_bytes, below_8, below_16, below_64}
 use Rattle.mm_model.proofs.Bytes.Apart.{split, number_in_1, number_in_2, number_in_4, number_in_8}
-use Rattle.mm_format.specs.Formats.{Parsed, Format, IsFormat, IsSpelledAt, whole, number, byte, u16, u32, u64, text, raw}
-use Rattle.mm_format.specs.Formats.{tried, test, literal, Part, after, ◌>>=◌, done}
+use Rattle.mm_format.specs.Formats.{Parsed, Format, IsFormat, IsSpelledAt, whole, number, byte, u16, u32, u64, text}
+use Rattle.mm_format.specs.Formats.{raw, tried, test, literal, Part, after, ◌>>=◌, done}
 use Rattle.mm_format.specs.Formats.Parsed.{Got, Bad}
 
 -- 1. Texts at a place.

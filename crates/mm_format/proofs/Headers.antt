@@ -1,11 +1,8 @@
 -- The header of an image file as a format.
 use Rattle.std.proofs.Common.{◌≡◌, ℕ, ◌-◌, false, not, nat_lt, length, refl, ap, ◌∙◌, codes, arith}
-use Rattle.std.specs.Prelude.{◌==◌, ◌||◌}
-use Rattle.std.proofs.lemmas.Bool.Decides.{nat_tests}
+use Rattle.std.{proofs.lemmas.Bool.Decides.nat_tests, specs.Prelude.{◌==◌, ◌||◌}}
 use Rattle.mm_model.specs.Spelling.{mode_of}
-use Rattle.mm_format.specs.declared.header.Header.{Header}
-use Rattle.mm_format.specs.Formats.{IsFormat, u16, u32}
-use Rattle.mm_format.specs.Headers.{header}
+use Rattle.mm_format.specs.{declared.header.Header.Header, Formats.{IsFormat, u16, u32}, Headers.header}
 use Rattle.mm_format.proofs.Formats.{literal_is, literal_read, u16_is, u32_is, test_is, then_is, done_is}
 
 mode_again : (version mode : ℕ) → not (version == 1 || version == 2) ≡ false → nat_lt (version - 1) mode ≡ false

@@ -1,30 +1,18 @@
 -- The image file is a format.
-use Rattle.std.proofs.Common.{◌≡◌, ℕ, ◌+◌, ◌*◌, ◌<◌, ◌≤◌, Bool, true, false, not, cond}
-use Rattle.std.proofs.Common.{List, [], ◌∷◌}
-use Rattle.std.proofs.Common.{length, map, get_or, Some, None, eqb-true, refl, sym, ap, ◌∙◌, arith}
-use Rattle.std.specs.Prelude.{◌==◌, ◌&&◌}
-use Rattle.std.proofs.lemmas.List.{take_all}
-use Rattle.std.proofs.lemmas.List.FromFn.{length-map-range_with_len, get_or-map-range_with_len}
-use Rattle.std.proofs.lemmas.Bool.{or_parts, not-false, ltb-false, eqb-false}
-use Rattle.mm_word.specs.declared.word.Word.{Word}
-use Rattle.mm_word.specs.declared.word.Word.TheVariants.{Int, Ptr}
-use Rattle.mm_word.specs.declared.word.Cell.{Cell}
-use Rattle.mm_word.specs.Pointer.{pointer_of, bits_of, spells_pointer}
-use Rattle.mm_word.specs.Word.{word_bits, is_pointer}
-use Rattle.mm_model.specs.declared.slot.SlotState.TheVariants.{Running, Halted}
-use Rattle.mm_model.specs.Flags.{number_of_flags}
-use Rattle.mm_model.specs.Slot.{Slot}
-use Rattle.mm_model.specs.Image.{Image, slot_limit}
-use Rattle.mm_model.specs.Bytes.{IsBytes, bit_at}
+use Rattle.std.proofs.Common.{◌≡◌, ℕ, ◌+◌, ◌*◌, ◌<◌, ◌≤◌, Bool, true, false, not, cond, List, [], ◌∷◌, length, map}
+use Rattle.std.proofs.Common.{get_or, Some, None, eqb-true, refl, sym, ap, ◌∙◌, arith}
+use Rattle.std.proofs.lemmas.List.{take_all, FromFn.{length-map-range_with_len, get_or-map-range_with_len}}
+use Rattle.std.{proofs.lemmas.Bool.{or_parts, not-false, ltb-false, eqb-false}, specs.Prelude.{◌==◌, ◌&&◌}}
+use Rattle.mm_word.specs.declared.word.{Word.{Word, TheVariants.{Int, Ptr}}, Cell.Cell}
+use Rattle.mm_word.specs.{Pointer.{pointer_of, bits_of, spells_pointer}, Word.{word_bits, is_pointer}}
+use Rattle.mm_model.specs.{declared.slot.SlotState.TheVariants.{Running, Halted}, Flags.number_of_flags, Slot.Slot}
+use Rattle.mm_model.specs.{Image.{Image, slot_limit}, Bytes.{IsBytes, bit_at}}
 use Rattle.mm_model.specs.Spelling.{handler_byte, state_byte, bitmap}
-use Rattle.mm_model.proofs.Bytes.CleanWords.{bits_again}
-use Rattle.mm_model.proofs.Bytes.Bitmaps.{number_of_flags-flags, bitmap-part}
-use Rattle.mm_model.proofs.Bytes.Ranges.{map-map}
+use Rattle.mm_model.proofs.Bytes.{CleanWords.bits_again, Bitmaps.{number_of_flags-flags, bitmap-part}, Ranges.map-map}
 use Rattle.mm_format.specs.Formats.{IsFormat, u64, byte, each}
-use Rattle.mm_format.specs.Images.{mask, flags_of, bits_in, bits, word, ip, slot, cells_of, page, handler_tests}
-use Rattle.mm_format.specs.Images.{slots, header_in, image}
-use Rattle.mm_format.proofs.Formats.{byte_is, u16_is, u64_is, raw_is, test_is, then_is, done_is}
-use Rattle.mm_format.proofs.Headers.{header_is}
+use Rattle.mm_format.specs.Images.{mask, flags_of, bits_in, bits, word, ip, slot, cells_of, page, handler_tests, slots}
+use Rattle.mm_format.specs.Images.{header_in, image}
+use Rattle.mm_format.proofs.{Formats.{byte_is, u16_is, u64_is, raw_is, test_is, then_is, done_is}, Headers.header_is}
 use Rattle.mm_format.proofs.Lists.{times_is, times_long, each_is, each_long, late_is}
 
 -- 1. Flags and words.

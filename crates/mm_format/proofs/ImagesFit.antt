@@ -1,46 +1,26 @@
 -- What fits the image's format is an image, and what is an image fits it.
-use Rattle.std.proofs.Common.{◌≡◌, ℕ, zero, suc, ◌+◌, ◌*◌, ◌/◌, ◌%◌, ◌-◌, ◌^◌, ◌<◌, ◌≤◌, Bool, true, false}
-use Rattle.std.proofs.Common.{not, cond, nat_lt}
-use Rattle.std.proofs.Common.{List, [], ◌∷◌, length, take, drop, map, get_or, Option, Some, None, refl, sym, ap}
-use Rattle.std.proofs.Common.{subst}
-use Rattle.std.proofs.Common.{◌∙◌, arith, inl, inr, eqb-true, eq-eqb}
-use Rattle.std.specs.Prelude.{◌==◌, ◌||◌, IfSome, slice_index, ◌⊎◌}
-use Rattle.std.specs.List.{AllByRecursion, range_with_len}
-use Rattle.std.specs.List.Sorted.{IsStrictlyIncreasing}
-use Rattle.std.proofs.Math.Pow.{pow_mono}
-use Rattle.std.proofs.lemmas.Bool.Decides.{nat_tests}
+use Rattle.std.proofs.Common.{◌≡◌, ℕ, zero, suc, ◌+◌, ◌*◌, ◌/◌, ◌%◌, ◌-◌, ◌^◌, ◌<◌, ◌≤◌, Bool, true, false, not, cond}
+use Rattle.std.proofs.Common.{nat_lt, List, [], ◌∷◌, length, take, drop, map, get_or, Option, Some, None, refl, sym, ap}
+use Rattle.std.proofs.{Common.{subst, ◌∙◌, arith, inl, inr, eqb-true, eq-eqb}, Math.Pow.pow_mono}
+use Rattle.std.proofs.lemmas.Bool.{or_parts, not-false, ltb-false, le-ltb, or_from, Decides.nat_tests}
 use Rattle.std.proofs.lemmas.List.{length-map, length-take, take_all}
-use Rattle.std.proofs.lemmas.Bool.{or_parts, not-false, ltb-false, le-ltb, or_from}
-use Rattle.mm_word.specs.declared.word.Word.{Word}
-use Rattle.mm_word.specs.declared.word.Word.TheVariants.{Int, Ptr}
-use Rattle.mm_word.specs.declared.word.Cell.{Cell}
-use Rattle.mm_word.specs.Perm.{can_fetch}
-use Rattle.mm_word.specs.Pointer.{Pointer, IsWellFormed, pointer_of, bits_of}
-use Rattle.mm_word.specs.Word.{IsWord, word_bits, is_pointer}
+use Rattle.std.specs.Prelude.{◌==◌, ◌||◌, IfSome, slice_index, ◌⊎◌}
+use Rattle.std.specs.List.{AllByRecursion, range_with_len, Sorted.IsStrictlyIncreasing}
+use Rattle.mm_word.specs.{declared.word.{Word.{Word, TheVariants.{Int, Ptr}}, Cell.Cell}, Perm.can_fetch}
+use Rattle.mm_word.specs.{Pointer.{Pointer, IsWellFormed, pointer_of, bits_of}, Word.{IsWord, word_bits, is_pointer}}
 use Rattle.mm_word.proofs.Packing.{code_of-in_range, pointer_of-bits_of}
-use Rattle.mm_model.specs.declared.slot.SlotState.{SlotState}
-use Rattle.mm_model.specs.declared.slot.SlotState.TheVariants.{Running, Waiting, Taken, Halted}
-use Rattle.mm_model.specs.declared.slot.Pending.{Pending}
-use Rattle.mm_model.specs.Flags.{flags, number_of_flags}
-use Rattle.mm_model.specs.Memory.{IsPage}
-use Rattle.mm_model.specs.Slot.{Slot}
-use Rattle.mm_model.specs.Image.{Image, slot_limit, frame_limit, none_empty}
-use Rattle.mm_model.specs.Bytes.{IsBytes, bit_at}
-use Rattle.mm_model.specs.Spelling.{Begins, IsFresh, IsImage, HoldsWords, mode_of, handler_byte}
-use Rattle.mm_model.specs.Spelling.{state_byte, bitmap, is_bad_handler}
-use Rattle.mm_model.proofs.Bytes.Apart.{number_of_flags-below, bit_at-bitmap}
-use Rattle.mm_model.proofs.Bytes.Clean.{is_below}
-use Rattle.mm_model.proofs.Bytes.CleanRecords.{handler_is_other}
-use Rattle.mm_model.proofs.Bytes.CleanWords.{well_formed}
-use Rattle.mm_model.proofs.Bytes.Ranges.{map-map, range-list}
+use Rattle.mm_model.specs.declared.slot.SlotState.{SlotState, TheVariants.{Running, Waiting, Taken, Halted}}
+use Rattle.mm_model.specs.{declared.slot.Pending.Pending, Flags.{flags, number_of_flags}, Memory.IsPage, Slot.Slot}
+use Rattle.mm_model.specs.{Image.{Image, slot_limit, frame_limit, none_empty}, Bytes.{IsBytes, bit_at}}
+use Rattle.mm_model.specs.Spelling.{Begins, IsFresh, IsImage, HoldsWords, mode_of, handler_byte, state_byte, bitmap}
+use Rattle.mm_model.specs.Spelling.{is_bad_handler}
+use Rattle.mm_model.proofs.Bytes.{Apart.{number_of_flags-below, bit_at-bitmap}, Clean.is_below}
+use Rattle.mm_model.proofs.Bytes.{CleanRecords.handler_is_other, CleanWords.well_formed, Ranges.{map-map, range-list}}
 use Rattle.mm_model.proofs.Bytes.Rising.{AreRisingFrom, sorted_from, rising_from_sorted}
-use Rattle.mm_model.proofs.Bytes.SpelledRecords.{is_spelled, not_le}
-use Rattle.mm_model.proofs.Bytes.SpelledSlots.{handler_small, handler_good}
-use Rattle.mm_format.specs.Formats.{each, times, cons, first_late}
-use Rattle.mm_format.specs.Headers.{header}
-use Rattle.mm_format.specs.Images.{mask, flags_of, bits_in, bits, word, ip, slot, cells_of, page, handler_tests}
-use Rattle.mm_format.specs.Images.{slots, image}
-use Rattle.mm_format.proofs.Images.{bits_long}
+use Rattle.mm_model.proofs.Bytes.{SpelledRecords.{is_spelled, not_le}, SpelledSlots.{handler_small, handler_good}}
+use Rattle.mm_format.specs.{Formats.{each, times, cons, first_late}, Headers.header}
+use Rattle.mm_format.specs.Images.{mask, flags_of, bits_in, bits, word, ip, slot, cells_of, page, handler_tests, slots}
+use Rattle.mm_format.{specs.Images.image, proofs.Images.bits_long}
 -- names by which crates above know them
 pub use Rattle.std.proofs.lemmas.Bool.{or_from as or_false}
 

@@ -1,15 +1,14 @@
 -- The laws of image files, by their format.
 use Rattle.std.proofs.Common.{◌≡◌, ℕ, ◌+◌, Bool, List, [], ◌++◌, length, map, None, refl, sym, ap, ◌∙◌, append_assoc}
-use Rattle.std.specs.{List.flat_map, Int.{w64, to_be_bytes}}
-use Rattle.std.proofs.lemmas.List.{append-nil}
-use Rattle.mm_word.specs.{declared.{word.{Word.Word, Cell.Cell}}, Word.{word_bits, is_pointer}}
+use Rattle.std.{proofs.lemmas.List.append-nil, specs.{List.flat_map, Int.{w64, to_be_bytes}}}
+use Rattle.mm_word.specs.{declared.word.{Word.Word, Cell.Cell}, Word.{word_bits, is_pointer}}
 use Rattle.mm_model.specs.{Slot.Slot, Image.{Image, slot_limit}, Bytes.IsBytes, Spelling.bitmap}
 use Rattle.mm_format.specs.{Formats.{each, file, fault_in, Parsed.Got}, Headers.header}
-use Rattle.mm_format.specs.Images as images
 use Rattle.mm_format.specs.Images.{word, bits, slot, page, image, header_in, slot_record, page_record, spelling, Spells}
 use Rattle.mm_format.specs.Images.{image_fault}
-use Rattle.mm_format.proofs.Files.{spelled_by, read_whole, same_value, clean_got}
-use Rattle.mm_format.proofs.{Images.image_is, ImagesFit.{image_fits, fits_image}, Lists.{each_spell, times_spell}}
+use Rattle.mm_format.proofs.{Files.{spelled_by, read_whole, same_value, clean_got}, Images.image_is}
+use Rattle.mm_format.proofs.{ImagesFit.{image_fits, fits_image}, Lists.{each_spell, times_spell}}
+use Rattle.mm_format.specs.Images as images
 
 -- 1. The spelling.
 

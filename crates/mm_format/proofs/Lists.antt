@@ -1,10 +1,9 @@
 -- Lists, and tests that are made late.
 use Rattle.std.proofs.Common.{◌≡◌, ℕ, zero, suc, ◌+◌, ◌≤◌, Bool, true, false, cond, List, [], ◌∷◌, ◌++◌, length, map}
-use Rattle.std.proofs.Common.{Option, Some, None, refl, sym, ap, subst, ◌∙◌, arith}
+use Rattle.std.proofs.{Common.{Option, Some, None, refl, sym, ap, subst, ◌∙◌, arith}, lemmas.List.length-append}
 use Rattle.std.specs.List.{flat_map}
-use Rattle.std.proofs.lemmas.List.{length-append}
-use Rattle.mm_format.specs.Formats.{Format, IsFormat, IsSpelledAt, Late, first_late, after, answer, late}
-use Rattle.mm_format.specs.Formats.{cons_fits, cons_spell, cons, times, each}
+use Rattle.mm_format.specs.Formats.{Format, IsFormat, IsSpelledAt, Late, first_late, after, answer, late, cons_fits}
+use Rattle.mm_format.specs.Formats.{cons_spell, cons, times, each}
 use Rattle.mm_format.specs.Formats.Parsed.{Got}
 use Rattle.mm_format.proofs.Formats.{after_got, ends_within, stand_both, stands_first, stands_second, done_is}
 

@@ -1,14 +1,10 @@
 -- Lists, as loops read them.
-use Rattle.std.proofs.Common.{◌≡◌, ℕ, zero, suc, ◌+◌, ◌-◌, ◌/◌, ◌%◌, ◌^◌, ◌≤◌, ◌<◌, Bool, true, false, cond, Option, Some}
-use Rattle.std.proofs.Common.{List, [], ◌∷◌, ◌++◌, drop, length, get_or, refl, sym, ap, subst, ◌∙◌, append_assoc, arith}
-use Rattle.std.specs.Prelude.{◌==◌}
-use Rattle.std.proofs.lemmas.List.{append-nil, drop_more, drop_all}
-use Rattle.mm_format.specs.declared.reader.ReadError.{ReadError}
-use Rattle.mm_format.specs.declared.reader.ReadError.TheVariants.{Fault, NoMemory}
-use Rattle.mm_format.specs.Formats.{Parsed, Format, after, answer, cons, times, each, runs, sixteen}
-use Rattle.mm_format.specs.Formats.Parsed.{Got, Bad}
-use Rattle.mm_format.specs.Images.{flags_of}
-use Rattle.mm_format.specs.Reading.{FailsOr}
+use Rattle.std.proofs.Common.{◌≡◌, ℕ, zero, suc, ◌+◌, ◌-◌, ◌/◌, ◌%◌, ◌^◌, ◌≤◌, ◌<◌, Bool, true, false, cond, Option}
+use Rattle.std.proofs.Common.{Some, List, [], ◌∷◌, ◌++◌, drop, length, get_or, refl, sym, ap, subst, ◌∙◌, append_assoc}
+use Rattle.std.{proofs.{Common.arith, lemmas.List.{append-nil, drop_more, drop_all}}, specs.Prelude.◌==◌}
+use Rattle.mm_format.specs.declared.reader.ReadError.{ReadError, TheVariants.{Fault, NoMemory}}
+use Rattle.mm_format.specs.Formats.{Parsed, Format, after, answer, cons, times, each, runs, sixteen, Parsed.{Got, Bad}}
+use Rattle.mm_format.specs.{Images.flags_of, Reading.FailsOr}
 use Rattle.mm_model.proofs.FlagLists.{flags-get}
 
 module _ {A : Type 0} where

@@ -1,14 +1,9 @@
 -- Numbers, as code reads them from a field.
-use Rattle.std.proofs.Common.{◌≡◌, ℕ, ◌+◌, ◌*◌, Bool, true, false, cond, List, [], ◌∷◌, length, get_or}
-use Rattle.std.proofs.Common.{sym, ap, ◌∙◌, arith}
-use Rattle.std.specs.Int.{w16, w32, w64, from_be_bytes}
-use Rattle.std.proofs.lemmas.Bool.{ltb-false}
+use Rattle.std.proofs.Common.{◌≡◌, ℕ, ◌+◌, ◌*◌, Bool, true, false, cond, List, [], ◌∷◌, length, get_or, sym, ap, ◌∙◌}
+use Rattle.std.{proofs.{Common.arith, lemmas.Bool.ltb-false}, specs.Int.{w16, w32, w64, from_be_bytes}}
 use Rattle.mm_model.specs.Bytes.{number_at}
-use Rattle.mm_model.proofs.Bytes.Numbers.{number_is_2, number_is_4, number_is_8}
-use Rattle.mm_model.proofs.Bytes.Parts.{length-part}
-use Rattle.mm_format.specs.Formats.{text, byte, u16, u32, u64}
-use Rattle.mm_format.specs.Formats.Parsed.{Got, Bad}
-use Rattle.mm_format.proofs.Formats.{is_whole}
+use Rattle.mm_model.proofs.Bytes.{Numbers.{number_is_2, number_is_4, number_is_8}, Parts.length-part}
+use Rattle.mm_format.{specs.Formats.{text, byte, u16, u32, u64, Parsed.{Got, Bad}}, proofs.Formats.is_whole}
 
 module _ (bytes : List ℕ) (at : ℕ) where
   same_bad : {A B : Type 0} (b : Bool) (end n k p : ℕ) (v : A) (w : B) → cond b (Bad 1 end) (Got v n) ≡ Bad k p

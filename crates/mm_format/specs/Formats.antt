@@ -1,8 +1,6 @@
 -- Formats of files: of one description, how a value is spelled, what is read from bytes, and the first fault.
-use Rattle.std.specs.Prelude.{◌≡◌, ◌↔◌, ℕ, zero, suc, ◌+◌, ◌^◌, ◌<◌, ◌≤◌, Bool, false, not, nat_lt}
-use Rattle.std.specs.Prelude.{if◌then◌else◌, List, [], ◌∷◌}
-use Rattle.std.specs.Prelude.{◌++◌, length, take, drop, Option, Some, None}
-use Rattle.std.specs.Int.{w16, w32, w64, to_be_bytes}
+use Rattle.std.specs.Prelude.{◌≡◌, ◌↔◌, ℕ, zero, suc, ◌+◌, ◌^◌, ◌<◌, ◌≤◌, Bool, false, not, nat_lt, if◌then◌else◌, List}
+use Rattle.std.specs.{Prelude.{[], ◌∷◌, ◌++◌, length, take, drop, Option, Some, None}, Int.{w16, w32, w64, to_be_bytes}}
 use Rattle.std.specs.Str.{bytes_eq}
 use Rattle.mm_model.specs.Bytes.{IsBytes, number_at}
 

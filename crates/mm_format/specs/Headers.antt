@@ -1,9 +1,7 @@
 -- The header of an image file, row by row.
 use Rattle.std.specs.Prelude.{◌-◌, not, ◌||◌, ◌==◌, nat_lt, codes}
-use Rattle.mm_model.specs.Image.{slot_limit, frame_limit}
-use Rattle.mm_model.specs.Spelling.{mode_of}
-use Rattle.mm_format.specs.declared.header.Header.{Header}
-use Rattle.mm_format.specs.Formats.{Format, u16, u32, test, literal, part, done, ◌>>=◌}
+use Rattle.mm_model.specs.{Image.{slot_limit, frame_limit}, Spelling.mode_of}
+use Rattle.mm_format.specs.{declared.header.Header.Header, Formats.{Format, u16, u32, test, literal, part, done, ◌>>=◌}}
 
 unfoldable pub header : Format Header
 header = do

@@ -14,24 +14,15 @@
 -- 12 frames: of frames, or of pages
 -- 13 trailing, at the first byte too many
 use Rattle.std.specs.Prelude.{◌≡◌, ℕ, ◌+◌, ◌*◌, ◌^◌, Bool, not, ◌&&◌, ◌||◌, ◌==◌, nat_lt, nat_le, if◌then◌else◌, List}
-use Rattle.std.specs.Prelude.{[], ◌∷◌, map, length, Option, Some, None, false}
-use Rattle.std.specs.List.{range_with_len}
-use Rattle.mm_word.specs.declared.word.Word.{Word}
-use Rattle.mm_word.specs.declared.word.Word.TheVariants.{Int, Ptr}
-use Rattle.mm_word.specs.declared.word.Cell.{Cell}
-use Rattle.mm_word.specs.Perm.{can_fetch}
-use Rattle.mm_word.specs.Pointer.{Pointer, pointer_of, bits_of, spells_pointer}
-use Rattle.mm_word.specs.Word.{word_bits, is_pointer}
-use Rattle.mm_model.specs.declared.slot.SlotState.TheVariants.{Running, Halted}
-use Rattle.mm_model.specs.Flags.{flags, number_of_flags}
-use Rattle.mm_model.specs.Slot.{Slot}
-use Rattle.mm_model.specs.Image.{Image, slot_limit, none_empty}
-use Rattle.mm_model.specs.Bytes.{bit_at}
+use Rattle.std.specs.{Prelude.{[], ◌∷◌, map, length, Option, Some, None, false}, List.range_with_len}
+use Rattle.mm_word.specs.{declared.word.{Word.{Word, TheVariants.{Int, Ptr}}, Cell.Cell}, Perm.can_fetch}
+use Rattle.mm_word.specs.{Pointer.{Pointer, pointer_of, bits_of, spells_pointer}, Word.{word_bits, is_pointer}}
+use Rattle.mm_model.specs.{declared.slot.SlotState.TheVariants.{Running, Halted}, Flags.{flags, number_of_flags}}
+use Rattle.mm_model.specs.{Slot.Slot, Image.{Image, slot_limit, none_empty}, Bytes.bit_at}
 use Rattle.mm_model.specs.Spelling.{IsImage, handler_byte, state_byte, bitmap, is_bad_handler}
 use Rattle.mm_format.specs.declared.header.Header.{Header}
-use Rattle.mm_format.specs.Formats.{Format, Late, byte, u16, u64, raw, test, late, part, done, ◌>>=◌, times, each}
-use Rattle.mm_format.specs.Formats.{file, fault_in}
-use Rattle.mm_format.specs.Headers.{header}
+use Rattle.mm_format.specs.Formats.{Format, Late, byte, u16, u64, raw, test, late, part, done, ◌>>=◌, times, each, file}
+use Rattle.mm_format.specs.{Formats.fault_in, Headers.header}
 
 -- sixteen flags of a number
 unfoldable pub flags_of : ℕ → List Bool

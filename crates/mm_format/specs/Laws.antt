@@ -1,13 +1,8 @@
 -- Laws of the image file as a format.
 use Rattle.std.specs.Prelude.{◌≡◌, ◌↔◌, ℕ, ◌+◌, nat_lt, if◌then◌else◌, List, length, Some, None}
 use Rattle.mm_word.specs.declared.word.Cell.{Cell}
-use Rattle.mm_model.specs.Image.{Image, slot_limit}
-use Rattle.mm_model.specs.Spelling.{IsImage}
-use Rattle.mm_model.specs.Slot.{Slot}
-use Rattle.mm_format.specs.declared.header.Header.{Header}
-use Rattle.mm_format.specs.Formats.{fault_in, times}
-use Rattle.mm_format.specs.Formats.Parsed.{Got}
-use Rattle.mm_format.specs.Headers.{header}
+use Rattle.mm_model.specs.{Image.{Image, slot_limit}, Spelling.IsImage, Slot.Slot}
+use Rattle.mm_format.specs.{declared.header.Header.Header, Formats.{fault_in, times, Parsed.Got}, Headers.header}
 use Rattle.mm_format.specs.Images.{slot, slots, pages, image, image_fault}
 
 -- the first fault of an image file is that of its header, if that has one; else that of the records of its slots, where

@@ -1,9 +1,6 @@
 -- What code that reads a format answers.
-use Rattle.std.specs.Prelude.{◌≡◌, ◌⊎◌, ℕ, List, Option, Some, None, Result, Ok, Err, IfOk, IfErr}
-use Rattle.std.specs.Result.{IsErrAnd}
-use Rattle.mm_format.specs.declared.reader.ReadError.{ReadError}
-use Rattle.mm_format.specs.declared.reader.ReadError.TheVariants.{Fault, NoMemory}
-use Rattle.mm_format.specs.declared.reader.Reader.{Reader}
+use Rattle.std.specs.{Prelude.{◌≡◌, ◌⊎◌, ℕ, List, Option, Some, None, Result, Ok, Err, IfOk, IfErr}, Result.IsErrAnd}
+use Rattle.mm_format.specs.declared.reader.{ReadError.{ReadError, TheVariants.{Fault, NoMemory}}, Reader.Reader}
 use Rattle.mm_format.specs.Formats.{Parsed}
 
 -- an error is the fault that reading gives, or says that memory ran out, and then `wants` holds

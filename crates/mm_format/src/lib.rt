@@ -19,13 +19,13 @@
 //! `specs/Headers` and `specs/Images` are the image file, row by row.
 #![tactic(auto)]
 
+mod elements;
 mod header;
 pub mod laws;
 mod reader;
 mod records;
-mod elements;
 
+pub use elements::{Elements, is_set, read_array};
 pub use header::Header;
 pub use reader::{FaultKind, ReadError, Reader, failed, refuse_if};
 pub use records::{Records, read_records};
-pub use elements::{Elements, is_set, read_array};

@@ -1,13 +1,12 @@
 -- Blocks that are a frame's cells, read and written.
-use Rattle.std.proofs.Common.{◌≡◌, ℕ, ◌+◌, ◌-◌, ◌*◌, ◌/◌, ◌%◌, ◌<◌, List, [], ◌∷◌, ◌++◌, zero, suc, length, take, drop, get_or, set, replicate, Some, slice_get, refl, sym, ap, ◌∙◌, arith}
-use Rattle.std.specs.List.{AllByRecursion}
-use Rattle.std.proofs.lemmas.List.{length-append, length-take-le, length-drop, get_or-take, get_or-drop, take_at, drop_at, append_assoc, replicate-append-replicate}
-use Rattle.std.proofs.lemmas.Option.{slice_get-get_or}
-use Rattle.std.proofs.Math.Seq.{take-add, take-append-add, drop-append-add}
+use Rattle.std.proofs.Common.{◌≡◌, ℕ, ◌+◌, ◌-◌, ◌*◌, ◌/◌, ◌%◌, ◌<◌, List, [], ◌∷◌, ◌++◌, zero, suc, length, take, drop}
+use Rattle.std.proofs.Common.{get_or, set, replicate, Some, slice_get, refl, sym, ap, ◌∙◌, arith}
+use Rattle.std.proofs.lemmas.List.{length-append, length-take-le, length-drop, get_or-take, get_or-drop, take_at}
+use Rattle.std.proofs.lemmas.{List.{drop_at, append_assoc, replicate-append-replicate}, Option.slice_get-get_or}
+use Rattle.std.{proofs.Math.Seq.{take-add, take-append-add, drop-append-add}, specs.List.AllByRecursion}
 use Rattle.mm_word.specs.declared.word.Cell.{Cell}
 use Rattle.mm_model.specs.Memory.{zero_cell, zero_page}
-use Rattle.mm_mem.specs.Blocks.{block_in, with_block}
-use Rattle.mm_mem.proofs.Blocks.{length_with_block}
+use Rattle.mm_mem.{specs.Blocks.{block_in, with_block}, proofs.Blocks.length_with_block}
 use Rattle.mm_frames.specs.Cells.{cells_of}
 
 -- 1. Blocks of eight cells.

@@ -1,7 +1,6 @@
 -- How often a frame is among the rows and among the free frames.
-use Rattle.std.proofs.Common.{◌≡◌, ℕ, zero, suc, ◌+◌, ◌<◌, ◌≤◌, ◌==◌, nat_lt, List, [], ◌∷◌, ◌++◌, length, get_or, arith}
-use Rattle.std.specs.List.{insert, remove}
-use Rattle.std.proofs.lemmas.Bool.Decides.{nat_tests}
+use Rattle.std.proofs.Common.{◌≡◌, ℕ, zero, suc, ◌+◌, ◌<◌, ◌≤◌, ◌==◌, nat_lt, List, [], ◌∷◌, ◌++◌, length, get_or}
+use Rattle.std.{proofs.{Common.arith, lemmas.Bool.Decides.nat_tests}, specs.List.{insert, remove}}
 use Rattle.mm_model.specs.Flags.{one_if}
 use Rattle.mm_frames.specs.Framed.{times, rows_with}
 

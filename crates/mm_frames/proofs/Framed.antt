@@ -1,25 +1,20 @@
 -- What frames and pages are to one another, and the memory of frames after each call.
-use Rattle.std.proofs.Common.{◌≡◌, ℕ, ◌+◌, ◌*◌, slice_get, ◌<◌, ◌≤◌, cond, not, ◌==◌, nat_eq, nat_lt, List, [], length, slice_index_or, slice_set, Option, None, Some, is_some, refl}
-use Rattle.std.proofs.Common.{sym, ap, ◌∙◌, arith, IsTrue}
-use Rattle.std.specs.Option.{option_map}
-use Rattle.std.specs.Ordering.{nat_cmp}
-use Rattle.std.specs.FinMap.{put, is_sorted, nat_cmp-IsAntisymmetric}
-use Rattle.std.specs.FinMap.Entries.{find-put, find-where_key}
+use Rattle.std.proofs.Common.{◌≡◌, ℕ, ◌+◌, ◌*◌, slice_get, ◌<◌, ◌≤◌, cond, not, ◌==◌, nat_eq, nat_lt, List, [], length}
+use Rattle.std.proofs.Common.{slice_index_or, slice_set, Option, None, Some, is_some, refl, sym, ap, ◌∙◌, arith, IsTrue}
+use Rattle.std.proofs.lemmas.{Cmp.nat_cmp_total, List.{length-set, get_or-set_same, get_or-set_other}, Bool.ne_eqb}
+use Rattle.std.specs.{Option.option_map, Ordering.nat_cmp}
+use Rattle.std.specs.FinMap.{put, is_sorted, nat_cmp-IsAntisymmetric, Entries.{find-put, find-where_key}}
 use Rattle.std.specs.Cmp.{unsigned_tied}
-use Rattle.std.proofs.lemmas.Cmp.{nat_cmp_total}
-use Rattle.std.proofs.lemmas.List.{length-set, get_or-set_same, get_or-set_other}
-use Rattle.std.proofs.lemmas.Bool.{ne_eqb}
-use Rattle.mm_model.proofs.OneIf.{at_most_one}
+use Rattle.mm_model.proofs.{OneIf.at_most_one, Memories.cell_at-aligned}
+use Rattle.mm_model.specs.Memory.{page_of, place_of, cell_in, cell_at, page_at, is_mapped, map_page, unmap_page}
+use Rattle.mm_model.specs.{Memory.zero_page, Counted.page_of_block}
 use Rattle.mm_word.specs.declared.word.Cell.{Cell}
-use Rattle.mm_model.specs.Memory.{page_of, place_of, cell_in, cell_at, page_at, is_mapped, map_page, unmap_page, zero_page}
-use Rattle.mm_model.proofs.Memories.{cell_at-aligned}
-use Rattle.mm_model.specs.Counted.{page_of_block}
-use Rattle.mm_mem.proofs.Places.{held}
+use Rattle.mm_mem.proofs.{Places.held, Blocks.put_block-mapped}
 use Rattle.mm_mem.specs.Blocks.{place_of_block, block_in, block_of_page, block_at, with_block, put_block}
-use Rattle.mm_frames.specs.Framed.{Framed, IsFramed, IsOccupied, IsFree, frame_of, cells_in, memory_of, seated, without, written, times, rows_with}
-use Rattle.mm_frames.proofs.Rows.{paired, find_paired, sorted_paired, put_paired, filter_paired, length_paired, paired_apart, paired_but_one, found_is_with}
-use Rattle.mm_frames.proofs.Counts.{in_range}
-use Rattle.mm_mem.proofs.Blocks.{put_block-mapped}
+use Rattle.mm_frames.specs.Framed.{Framed, IsFramed, IsOccupied, IsFree, frame_of, cells_in, memory_of, seated, without}
+use Rattle.mm_frames.specs.Framed.{written, times, rows_with}
+use Rattle.mm_frames.proofs.Rows.{paired, find_paired, sorted_paired, put_paired, filter_paired, length_paired}
+use Rattle.mm_frames.proofs.{Rows.{paired_apart, paired_but_one, found_is_with}, Counts.in_range}
 
 -- 1. Pages and frames.
 

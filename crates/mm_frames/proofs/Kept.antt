@@ -1,24 +1,22 @@
 -- What each call keeps of frames.
-use Rattle.std.proofs.Common.{◌≡◌, ℕ, ◌+◌, ◌*◌, ◌^◌, ◌<◌, ◌≤◌, true, false, not, ◌&&◌, ◌==◌, nat_lt, List, [], ◌∷◌, ◌++◌, length, get_or, None, Some, is_some, refl, sym, ap, subst, ◌∙◌, arith, IsTrue}
+use Rattle.std.proofs.Common.{◌≡◌, ℕ, ◌+◌, ◌*◌, ◌^◌, ◌<◌, ◌≤◌, true, false, not, ◌&&◌, ◌==◌, nat_lt, List, [], ◌∷◌}
+use Rattle.std.proofs.Common.{◌++◌, length, get_or, None, Some, is_some, refl, sym, ap, subst, ◌∙◌, arith, IsTrue}
 use Rattle.std.proofs.Common.{Result, Ok, Err, IfOk, IfErr}
-use Rattle.std.specs.Result.{result_ok, result_err}
-use Rattle.std.specs.List.{insert, remove, filter}
-use Rattle.std.specs.Ordering.{nat_cmp}
-use Rattle.std.specs.FinMap.{is_sorted, find}
-use Rattle.std.proofs.lemmas.List.{length-set, length-append}
-use Rattle.std.proofs.lemmas.List.Edits.{length-insert, length-remove}
+use Rattle.std.proofs.lemmas.List.{length-set, length-append, Edits.{length-insert, length-remove}}
 use Rattle.std.proofs.lemmas.Bool.Decides.{nat_tests}
+use Rattle.std.specs.{Result.{result_ok, result_err}, List.{insert, remove, filter}, Ordering.nat_cmp}
+use Rattle.std.specs.FinMap.{is_sorted, find}
 use Rattle.mm_word.specs.declared.word.Cell.{Cell}
-use Rattle.mm_model.specs.Flags.{one_if}
-use Rattle.mm_model.specs.Memory.{Memory, IsPaged, is_mapped, can_map, zero_page}
+use Rattle.mm_model.specs.{Flags.one_if, Memory.{Memory, IsPaged, is_mapped, can_map, zero_page}}
 use Rattle.mm_model.proofs.Memories.{map_paged, unmap_paged}
 use Rattle.mm_mem.specs.Places.{IsAt, IsGap}
 use Rattle.mm_mem.proofs.Places.{held, found_at, absent_in_gap, insert_in_gap, remove_at}
-use Rattle.mm_mem.proofs.Flats.{cannot_map_full as full_refuses}
-use Rattle.mm_frames.specs.Framed.{Framed, IsFramed, IsOccupied, frame_of, memory_of, seated, without, written, times, rows_with}
+use Rattle.mm_mem.proofs.{Flats.{cannot_map_full as full_refuses}, Blocks.put_block_paged}
+use Rattle.mm_frames.specs.Framed.{Framed, IsFramed, IsOccupied, frame_of, memory_of, seated, without, written, times}
+use Rattle.mm_frames.specs.Framed.{rows_with}
 use Rattle.mm_frames.proofs.Counts.{times_push, with_insert, with_remove, one_if_same}
-use Rattle.mm_mem.proofs.Blocks.{put_block_paged}
-use Rattle.mm_frames.proofs.Framed.{frames_are, pages_length, has_frame_is_mapped, memory_of-read, memory_of-seated, memory_of-without, memory_of-written, rows_rise, one_page, frame_in_range}
+use Rattle.mm_frames.proofs.Framed.{frames_are, pages_length, has_frame_is_mapped, memory_of-read, memory_of-seated}
+use Rattle.mm_frames.proofs.Framed.{memory_of-without, memory_of-written, rows_rise, one_page, frame_in_range}
 use Rattle.mm_frames.proofs.Framed.{free_has_no_row, free_in_range}
 
 -- 1. What a search among the rows says of a page.

@@ -1,11 +1,9 @@
 -- Pages that are copied into frames one by one.
 use Rattle.std.proofs.Common.{◌≡◌, ℕ, ◌+◌, ◌<◌, List, [], ◌∷◌, ◌++◌, length, take, get_or, set, sym, ap, subst, ◌∙◌}
-use Rattle.std.specs.List.{AllByRecursion}
-use Rattle.std.proofs.lemmas.List.{take_more, get_or-set_same, get_or-set_other}
+use Rattle.std.{proofs.lemmas.List.{take_more, get_or-set_same, get_or-set_other}, specs.List.AllByRecursion}
 use Rattle.mm_word.specs.declared.word.Cell.{Cell}
 use Rattle.mm_model.specs.Memory.{IsPage}
-use Rattle.mm_frames.specs.Framed.{rows_with}
-use Rattle.mm_frames.proofs.Rows.{paired, append_paired, paired_apart}
+use Rattle.mm_frames.{specs.Framed.rows_with, proofs.Rows.{paired, append_paired, paired_apart}}
 
 all_push : (pages : List (ℕ × List Cell)) (page : ℕ × List Cell) → AllByRecursion IsPage pages → IsPage page → AllByRecursion IsPage (pages ++ page ∷ [])
 all_push [] page h new = (new, tt)

@@ -1,6 +1,5 @@
 -- The cells of a frame.
-use Rattle.std.specs.Prelude.{◌≡◌, List, [], ◌∷◌, ◌++◌, length}
-use Rattle.std.specs.List.{AllByRecursion}
+use Rattle.std.specs.{Prelude.{◌≡◌, List, [], ◌∷◌, ◌++◌, length}, List.AllByRecursion}
 use Rattle.mm_word.specs.declared.word.Cell.{Cell}
 
 -- the cells of blocks, one block after another

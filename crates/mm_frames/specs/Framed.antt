@@ -1,12 +1,8 @@
 -- Pages in frames.
 use Rattle.std.specs.Prelude.{◌≡◌, ℕ, ◌+◌, ◌^◌, ◌==◌, ◌<◌, nat_lt, not, List, [], ◌∷◌, map, length, slice_index_or}
-use Rattle.std.specs.Prelude.{slice_set, Option, Some}
-use Rattle.std.specs.List.{filter}
-use Rattle.std.specs.Ordering.{nat_cmp}
-use Rattle.std.specs.FinMap.{find, put}
+use Rattle.std.specs.{Prelude.{slice_set, Option, Some}, List.filter, Ordering.nat_cmp, FinMap.{find, put}}
 use Rattle.mm_word.specs.declared.word.Cell.{Cell}
-use Rattle.mm_model.specs.Flags.{one_if}
-use Rattle.mm_model.specs.Memory.{Memory, IsPaged, zero_page}
+use Rattle.mm_model.specs.{Flags.one_if, Memory.{Memory, IsPaged, zero_page}}
 use Rattle.mm_mem.specs.Blocks.{with_block}
 
 -- frames, as contracts see them

@@ -1,8 +1,7 @@
 -- What holds of blocks.
 use Rattle.std.specs.Prelude.{◌≡◌, ◌≢◌, ℕ, true, List, length, Some}
 use Rattle.mm_word.specs.declared.word.Cell.{Cell}
-use Rattle.mm_model.specs.Memory.{Memory, IsPaged, is_mapped}
-use Rattle.mm_model.specs.Counted.{page_of_block}
+use Rattle.mm_model.specs.{Memory.{Memory, IsPaged, is_mapped}, Counted.page_of_block}
 use Rattle.mm_mem.specs.Blocks.{block_at, put_block}
 
 -- a block that was written is read again, and each other block stays

@@ -1,21 +1,17 @@
 -- What is generated is an image.
-use Rattle.std.proofs.Common.{◌≡◌, ℕ, ◌+◌, ◌*◌, ◌^◌, ◌<◌, ◌≤◌, false, List, [], ◌∷◌, map, replicate, refl, ap, sym, subst, inl, arith, lit<, lit≤}
+use Rattle.std.proofs.Common.{◌≡◌, ℕ, ◌+◌, ◌*◌, ◌^◌, ◌<◌, ◌≤◌, false, List, [], ◌∷◌, map, replicate, refl, ap, sym}
+use Rattle.std.proofs.Common.{subst, inl, arith, lit<, lit≤}
 use Rattle.std.proofs.lemmas.List.Elements.{All-replicate, recursion_from_All}
 use Rattle.std.proofs.lemmas.List.FromFn.{length-range_with_len, length-map-range_with_len, get_or-range_with_len}
-use Rattle.std.specs.List.{flat_map, range_with_len}
-use Rattle.std.specs.List.Sorted.{IsStrictlyIncreasing}
-use Rattle.mm_word.specs.declared.perm.Perm.{Perm}
-use Rattle.mm_word.specs.declared.word.Word.TheVariants.{Int}
-use Rattle.mm_word.specs.declared.word.Cell.{Cell}
-use Rattle.mm_word.specs.Pointer.{IsWellFormed}
+use Rattle.std.specs.List.{flat_map, range_with_len, Sorted.IsStrictlyIncreasing}
+use Rattle.mm_word.specs.{declared.{perm.Perm.Perm, word.{Word.TheVariants.Int, Cell.Cell}}, Pointer.IsWellFormed}
 use Rattle.mm_word.specs.Word.{IsWord}
-use Rattle.mm_model.specs.Slot.{Slot}
-use Rattle.mm_model.specs.Memory.{IsPage, IsPaged}
-use Rattle.mm_model.specs.Spelling.{numbers_of, IsFresh, HoldsWords, IsImage}
+use Rattle.mm_model.specs.{Slot.Slot, Memory.{IsPage, IsPaged}, Spelling.{numbers_of, IsFresh, HoldsWords, IsImage}}
 use Rattle.mm_model.proofs.Bytes.Rising.{sorted_from}
 use Rattle.mm_image.specs.Images.{image_from}
 use Rattle.mm_gen.specs.Generated.{code_page, data_page, slot_pages, page_pointer, slot_at, generated}
-use Rattle.mm_gen.proofs.PageLists.{length-code_cells, length-data_cells, code_words, data_words, each_in_range, each_page, length-pages, pages_rise}
+use Rattle.mm_gen.proofs.PageLists.{length-code_cells, length-data_cells, code_words, data_words, each_in_range}
+use Rattle.mm_gen.proofs.PageLists.{each_page, length-pages, pages_rise}
 
 -- 1. Slots.
 

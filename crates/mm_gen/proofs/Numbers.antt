@@ -1,9 +1,9 @@
 -- Numbers one behind the other, and the cells that hold them.
-use Rattle.std.proofs.Common.{◌≡◌, ℕ, zero, suc, ◌+◌, ◌*◌, ◌^◌, ◌<◌, List, [], ◌∷◌, ◌++◌, map, length, refl, ap, ◌∙◌, arith, add-one, add-zero}
-use Rattle.std.specs.List.{range_with_len}
+use Rattle.std.proofs.Common.{◌≡◌, ℕ, zero, suc, ◌+◌, ◌*◌, ◌^◌, ◌<◌, List, [], ◌∷◌, ◌++◌, map, length, refl, ap, ◌∙◌}
+use Rattle.std.proofs.Common.{arith, add-one, add-zero}
 use Rattle.std.proofs.lemmas.List.FromFn.{length-map-range_with_len, map-range_with_len_more}
-use Rattle.mm_gen.specs.Generated.{next_number, nth_number, full_cell, data_cell, data_cells}
-use Rattle.mm_gen.specs.Steps.{cells_behind}
+use Rattle.std.specs.List.{range_with_len}
+use Rattle.mm_gen.specs.{Generated.{next_number, nth_number, full_cell, data_cell, data_cells}, Steps.cells_behind}
 
 -- 1. Numbers.
 

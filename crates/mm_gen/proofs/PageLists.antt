@@ -1,17 +1,16 @@
 -- The pages of generated images.
-use Rattle.std.proofs.Common.{◌≡◌, ℕ, zero, suc, ◌+◌, ◌*◌, ◌^◌, ◌<◌, ◌≤◌, List, [], ◌∷◌, ◌++◌, map, length, replicate, refl, ap, sym, ◌∙◌, arith, lit<}
+use Rattle.std.proofs.Common.{◌≡◌, ℕ, zero, suc, ◌+◌, ◌*◌, ◌^◌, ◌<◌, ◌≤◌, List, [], ◌∷◌, ◌++◌, map, length, replicate}
+use Rattle.std.proofs.Common.{refl, ap, sym, ◌∙◌, arith, lit<}
 use Rattle.std.proofs.lemmas.List.{length-append, length-replicate, append-nil, append_assoc, map-id}
 use Rattle.std.proofs.lemmas.List.Concat.{flat_map-append}
 use Rattle.std.proofs.lemmas.List.Elements.{All-append, All-replicate, All-from_recursion, recursion_from_All}
 use Rattle.std.proofs.lemmas.List.FromFn.{length-map-range_with_len, map-range_with_len_more}
 use Rattle.std.specs.List.{flat_map, range_with_len, AllByRecursion}
-use Rattle.mm_word.specs.declared.word.Cell.{Cell}
-use Rattle.mm_word.specs.Word.{IsWord}
+use Rattle.mm_word.specs.{declared.word.Cell.Cell, Word.IsWord}
 use Rattle.mm_isa.specs.Table.{packed, spelling}
-use Rattle.mm_model.specs.Memory.{zero_cell}
-use Rattle.mm_model.proofs.Bytes.Rising.{AreRisingFrom}
-use Rattle.mm_gen.specs.Generated.{nth_number, code_page, data_page, full_cell, loop, code_cells, data_cell, data_cells, slot_pages}
-use Rattle.mm_gen.specs.Steps.{cells_behind, pages_behind}
+use Rattle.mm_model.{specs.Memory.zero_cell, proofs.Bytes.Rising.AreRisingFrom}
+use Rattle.mm_gen.specs.Generated.{nth_number, code_page, data_page, full_cell, loop, code_cells, data_cell, data_cells}
+use Rattle.mm_gen.specs.{Generated.slot_pages, Steps.{cells_behind, pages_behind}}
 use Rattle.mm_gen.proofs.Numbers.{nth_number-fits, cells_behind-data}
 
 -- 1. Cells.

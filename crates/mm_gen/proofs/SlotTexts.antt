@@ -1,11 +1,8 @@
 -- The texts of slots, as code goes over them.
-use Rattle.std.proofs.Common.{◌≡◌, ℕ, List, [], ◌∷◌, ◌++◌, map, length, codes, decimal, refl, ap}
-use Rattle.std.specs.List.{flat_map}
+use Rattle.std.{proofs.Common.{◌≡◌, ℕ, List, [], ◌∷◌, ◌++◌, map, length, codes, decimal, refl, ap}, specs.List.flat_map}
 use Rattle.mm_word.specs.declared.word.Word.{Word}
-use Rattle.mm_model.specs.Lines.{newline, numbers_text, state_text, word_text}
-use Rattle.mm_model.specs.Slot.{Slot, register}
-use Rattle.mm_model.specs.State.{ThreadRow, Core, output_of}
-use Rattle.mm_model.specs.Fits.{slots_of}
+use Rattle.mm_model.specs.{Lines.{newline, numbers_text, state_text, word_text}, Slot.{Slot, register}}
+use Rattle.mm_model.specs.{State.{ThreadRow, Core, output_of}, Fits.slots_of}
 use Rattle.mm_gen.specs.Summary.{slot_summary}
 
 row_texts : (core : Core) (rows : List ThreadRow) → flat_map (slot_summary core) (map (λ row. row.slot) rows) ≡ flat_map (λ (row : ThreadRow). slot_summary core row.slot) rows

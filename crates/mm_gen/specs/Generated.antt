@@ -1,22 +1,14 @@
 -- Images that are generated of a number.
 use Rattle.std.specs.Prelude.{ℕ, zero, suc, ◌+◌, ◌*◌, ◌%◌, ◌^◌, true, false, List, [], ◌∷◌, ◌++◌, map, replicate, None}
-use Rattle.std.specs.Prelude.{pos, negsuc}
-use Rattle.std.specs.List.{flat_map, range_with_len}
-use Rattle.mm_word.specs.declared.perm.Perm.{Perm}
-use Rattle.mm_word.specs.declared.perm.Perm.TheVariants.{Rw, Xu}
-use Rattle.mm_word.specs.declared.word.Word.TheVariants.{Int, Ptr}
-use Rattle.mm_word.specs.declared.word.Cell.{Cell}
+use Rattle.std.specs.{Prelude.{pos, negsuc}, List.{flat_map, range_with_len}}
+use Rattle.mm_word.specs.declared.perm.Perm.{Perm, TheVariants.{Rw, Xu}}
+use Rattle.mm_word.specs.{declared.word.{Word.TheVariants.{Int, Ptr}, Cell.Cell}, Pointer.Pointer}
+use Rattle.mm_isa.specs.declared.instr.{Instr.{Instr, TheVariants.{Ld, Alu, Out, Leai, Br}}, AluOp.TheVariants.Xor}
+use Rattle.mm_isa.specs.Table.{spelling}
+use Rattle.mm_model.specs.{declared.slot.SlotState.TheVariants.Running, Memory.zero_cell, Slot.Slot}
+use Rattle.mm_model.specs.Image.{Image, none_empty}
 use Rattle.mm_word.specs.declared.word.Pre.TheVariants as pre
 use Rattle.mm_word.specs.declared.word.Post.TheVariants as post
-use Rattle.mm_word.specs.Pointer.{Pointer}
-use Rattle.mm_isa.specs.declared.instr.Instr.{Instr}
-use Rattle.mm_isa.specs.declared.instr.Instr.TheVariants.{Ld, Alu, Out, Leai, Br}
-use Rattle.mm_isa.specs.declared.instr.AluOp.TheVariants.{Xor}
-use Rattle.mm_isa.specs.Table.{spelling}
-use Rattle.mm_model.specs.declared.slot.SlotState.TheVariants.{Running}
-use Rattle.mm_model.specs.Memory.{zero_cell}
-use Rattle.mm_model.specs.Slot.{Slot}
-use Rattle.mm_model.specs.Image.{Image, none_empty}
 
 -- 1. Numbers.
 

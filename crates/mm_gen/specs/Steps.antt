@@ -1,6 +1,5 @@
 -- What the code that makes an image keeps between its steps.
-use Rattle.std.specs.Prelude.{ℕ, ◌+◌, List, [], ◌∷◌, map}
-use Rattle.std.specs.List.{range_with_len}
+use Rattle.std.specs.{Prelude.{ℕ, ◌+◌, List, [], ◌∷◌, map}, List.range_with_len}
 use Rattle.mm_word.specs.declared.word.Cell.{Cell}
 use Rattle.mm_gen.specs.Generated.{nth_number, full_cell, code_page, code_cells, data_page}
 

@@ -1,10 +1,7 @@
 -- The summary of a machine.
-use Rattle.std.specs.Prelude.{ℕ, List, ◌++◌, length, codes, decimal}
-use Rattle.std.specs.List.{flat_map}
-use Rattle.mm_model.specs.Lines.{newline, numbers_text, state_text, word_text}
-use Rattle.mm_model.specs.Slot.{Slot, register}
-use Rattle.mm_model.specs.State.{ThreadRow, Core, State, output_of}
-use Rattle.mm_model.specs.Report.{cycles_line}
+use Rattle.std.specs.{Prelude.{ℕ, List, ◌++◌, length, codes, decimal}, List.flat_map}
+use Rattle.mm_model.specs.{Lines.{newline, numbers_text, state_text, word_text}, Slot.{Slot, register}}
+use Rattle.mm_model.specs.{State.{ThreadRow, Core, State, output_of}, Report.cycles_line}
 
 -- the line of a slot: its turns and state, the count of bytes that its group has put out, and its register 3
 abbrev pub slot_summary : Core → Slot → List ℕ

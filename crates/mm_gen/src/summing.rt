@@ -10,7 +10,7 @@ use mm_io::{Sink, WriteFault};
 use mm_machine::Machine;
 use mm_mem::Memory;
 use mm_model::Slot;
-use mm_text::{TextBuffer, Piece, put_cycles, put_numbers, put_state, put_word};
+use mm_text::{Piece, TextBuffer, put_cycles, put_numbers, put_state, put_word};
 
 /// The register that a summary shows.
 const REGISTER: u8 = 3;

@@ -2,47 +2,29 @@
 use Rattle.std.proofs.Common.{◌≡◌, ℕ, ◌+◌, ◌-◌, ◌*◌, ◌/◌, ◌%◌, ◌^◌, ◌<◌, ◌≤◌, ◌⊎◌, inl, inr, Bool, true, false, List}
 use Rattle.std.proofs.Common.{length, slice_index, get_or, Option, Some, None, option_and_then, refl, sym, ap, ◌∙◌}
 use Rattle.std.proofs.Common.{subst, arith, pow_pos}
-use Rattle.std.specs.Int.{bit_at}
-use Rattle.std.specs.List.{Contains}
-use Rattle.std.proofs.lemmas.List.{get_or_default}
-use Rattle.std.proofs.lemmas.List.Elements.{Contains-get_or, All-from_recursion, All-contains}
+use Rattle.std.proofs.lemmas.List.{get_or_default, Elements.{Contains-get_or, All-from_recursion, All-contains}}
+use Rattle.std.specs.{Int.bit_at, List.Contains}
 use Rattle.mm_word.proofs.Results.{enter_result-well_formed}
 use Rattle.mm_word.specs.declared.perm.Perm.TheVariants.{Eu, Ep}
-use Rattle.mm_word.specs.declared.word.Word.{Word}
-use Rattle.mm_word.specs.declared.word.Word.TheVariants.{Int, Ptr}
-use Rattle.mm_word.specs.declared.word.Cell.{Cell}
-use Rattle.mm_word.specs.Word.{IsWord}
+use Rattle.mm_word.specs.{declared.word.{Word.{Word, TheVariants.{Int, Ptr}}, Cell.Cell}, Word.IsWord}
 use Rattle.mm_word.specs.Pointer.{Pointer, IsWellFormed, IsBelow, base_of, enter_result}
-use Rattle.mm_model.specs.Memory.{cell_at}
-use Rattle.mm_model.specs.Slot.{Slot}
-use Rattle.mm_model.specs.Image.{Image, slot_limit}
-use Rattle.mm_model.specs.Spelling.{IsImage, IsFresh}
-use Rattle.mm_model.specs.Reach.{Entries, Grants, MayEnter, LoadsAt, StoresAt}
-use Rattle.mm_model.specs.Reach.Grants.{in_register, runs_by, below}
-use Rattle.mm_flow.specs.declared.node.Node.{Node}
-use Rattle.mm_flow.specs.declared.node.Right.TheVariants.{Load, Store}
+use Rattle.mm_model.specs.{Memory.cell_at, Slot.Slot, Image.{Image, slot_limit}, Spelling.{IsImage, IsFresh}}
+use Rattle.mm_model.specs.Reach.{Entries, Grants, MayEnter, LoadsAt, StoresAt, Grants.{in_register, runs_by, below}}
+use Rattle.mm_flow.specs.declared.node.{Node.Node, Right.TheVariants.{Load, Store}}
 use Rattle.mm_flow.specs.Edges.{Edges, SharingEdges, node_at, low_at, high_at, entry_at, enters_at, right_at}
-use Rattle.mm_flow.specs.Flow.{Has}
-use Rattle.mm_flow.specs.Sharing.{Up}
-use Rattle.mm_flow.specs.Forest.{In}
-use Rattle.mm_flow.proofs.Geometry.{share, shared_base}
-use Rattle.mm_flow.proofs.Bits.{zero_bit}
+use Rattle.mm_flow.{specs.{Flow.Has, Sharing.Up, Forest.In}, proofs.{Geometry.{share, shared_base}, Bits.zero_bit}}
 use Rattle.mm_graph.specs.Summary.{IsPowerless}
 use Rattle.mm_graph.specs.GraphOf.{IsGraphOf, Started, TargetOf, CellOf, EntryOf, CommonWord, Meet, LoadedWord, Entered}
-use Rattle.mm_graph.specs.declared.canonical_ptr.CanonicalPtr.{CanonicalPtr}
-use Rattle.mm_graph.specs.declared.found.Found.{Found}
-use Rattle.mm_graph.specs.Key.{IsKey, key_at, no_key, pointer_at, standing_key, word_key, entry_key, loads_words, is_entry}
-use Rattle.mm_graph.specs.Found.{page_keys, seeds_of}
+use Rattle.mm_graph.specs.declared.{canonical_ptr.CanonicalPtr.CanonicalPtr, found.Found.Found}
+use Rattle.mm_graph.specs.Key.{IsKey, key_at, no_key, pointer_at, standing_key, word_key, entry_key, loads_words}
+use Rattle.mm_graph.specs.{Key.is_entry, Found.{page_keys, seeds_of}}
 use Rattle.mm_graph.specs.Nodes.{IsKeysOf, IsNodes, IsNode, IsTargets, IsMarks, IsLinks, nothing, found_word}
-use Rattle.mm_graph.specs.Masks.{IsEntryMasks}
-use Rattle.mm_graph.specs.Forest.{HasForest}
-use Rattle.mm_graph.specs.Marked.{node_pointer}
-use Rattle.mm_graph.proofs.Representatives.{stands_from, stands_above, stands_below, standing_none, entry_from, base_below}
-use Rattle.mm_graph.proofs.Nesting.{log_is}
-use Rattle.mm_graph.proofs.Cells.{there, held}
-use Rattle.mm_graph.proofs.CellWords.{well_formed}
+use Rattle.mm_graph.specs.{Masks.IsEntryMasks, Forest.HasForest, Marked.node_pointer}
+use Rattle.mm_graph.proofs.Representatives.{stands_from, stands_above, stands_below, standing_none, entry_from}
+use Rattle.mm_graph.proofs.{Representatives.base_below, Nesting.log_is, Cells.{there, held}, CellWords.well_formed}
 use Rattle.mm_graph.proofs.Slots.{held_seed, run_seed, seed_from}
-use Rattle.mm_graph.proofs.Bounds.{covers_in, in_covers, of_words, loads_then, stores_then, loads_test, stores_test, makes_test, makes_then, entry_test, entry_then}
+use Rattle.mm_graph.proofs.Bounds.{covers_in, in_covers, of_words, loads_then, stores_then, loads_test, stores_test}
+use Rattle.mm_graph.proofs.Bounds.{makes_test, makes_then, entry_test, entry_then}
 
 module _ (i : Image) (e : Entries) (image : IsImage i) (keys : List CanonicalPtr) (nodes : List Node) (targets parents links start masks : List ℕ)
     (k : IsKeysOf (page_keys i.memory.pages) (seeds_of i.slots) keys) (n : IsNodes keys (page_keys i.memory.pages) masks nodes) (t : IsTargets keys (page_keys i.memory.pages) targets)

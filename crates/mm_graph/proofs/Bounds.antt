@@ -1,12 +1,10 @@
 -- A pointer covers the words between the base and the end of its segment.
 use Rattle.std.proofs.Math.Nat.{div-mul-le_self, lt-div-mul-add, div-eq_of_lt-le}
-use Rattle.std.proofs.Common.{◌≡◌, ℕ, ◌+◌, ◌-◌, ◌*◌, ◌/◌, ◌%◌, ◌^◌, ◌<◌, ◌≤◌, ◌⊎◌, inl, inr, Bool, true, false, ◌&&◌, nat_le, refl, sym, ap, ◌∙◌, subst, arith, pow_pos, pow-add}
-use Rattle.std.proofs.lemmas.Bool.{cases_lt, and_parts}
-use Rattle.std.proofs.lemmas.Bool.Decides.{nat_tests}
-use Rattle.mm_word.specs.declared.perm.Perm.{Perm}
-use Rattle.mm_word.specs.declared.perm.Perm.TheVariants.{Ro, Rw, Xu, Xp, Eu, Ep, Key as KeyPerm}
-use Rattle.mm_word.specs.Perm.{can_load, can_store, is_privileged}
-use Rattle.mm_word.specs.Pointer.{Pointer, Covers, base_of}
+use Rattle.std.proofs.Common.{◌≡◌, ℕ, ◌+◌, ◌-◌, ◌*◌, ◌/◌, ◌%◌, ◌^◌, ◌<◌, ◌≤◌, ◌⊎◌, inl, inr, Bool, true, false, ◌&&◌}
+use Rattle.std.proofs.Common.{nat_le, refl, sym, ap, ◌∙◌, subst, arith, pow_pos, pow-add}
+use Rattle.std.proofs.lemmas.Bool.{cases_lt, and_parts, Decides.nat_tests}
+use Rattle.mm_word.specs.declared.{perm.{Perm.{Perm, TheVariants.{Ro, Rw, Xu, Xp, Eu, Ep, Key as KeyPerm}}}}
+use Rattle.mm_word.specs.{Perm.{can_load, can_store, is_privileged}, Pointer.{Pointer, Covers, base_of}}
 use Rattle.mm_word.proofs.Below.{Covers-short}
 use Rattle.mm_model.specs.Reach.{LoadsAt, StoresAt}
 use Rattle.mm_graph.specs.Key.{loads_words, stores_words, is_entry}

@@ -1,13 +1,9 @@
 -- The words of cells are ones.
-use Rattle.std.proofs.Common.{◌≡◌, ℕ, zero, suc, inl, inr, List, [], ◌∷◌, slice_get, Option, Some, None, refl, sym, ◌∙◌, subst}
+use Rattle.std.proofs.Common.{◌≡◌, ℕ, zero, suc, inl, inr, List, [], ◌∷◌, slice_get, Option, Some, None, refl, sym, ◌∙◌}
+use Rattle.std.proofs.{Common.subst, lemmas.List.Elements.{All-from_recursion, All-contains}}
 use Rattle.std.specs.List.{AllByRecursion}
-use Rattle.std.proofs.lemmas.List.Elements.{All-from_recursion, All-contains}
-use Rattle.mm_word.specs.declared.word.Word.TheVariants.{Ptr}
-use Rattle.mm_word.specs.declared.word.Cell.{Cell}
-use Rattle.mm_word.specs.Word.{IsWord}
-use Rattle.mm_word.specs.Pointer.{Pointer, IsWellFormed}
-use Rattle.mm_model.specs.Memory.{Memory, cell_at, cell_in, page_at, page_of, place_of}
-use Rattle.mm_model.specs.Spelling.{HoldsWords}
+use Rattle.mm_word.specs.{declared.word.{Word.TheVariants.Ptr, Cell.Cell}, Word.IsWord, Pointer.{Pointer, IsWellFormed}}
+use Rattle.mm_model.specs.{Memory.{Memory, cell_at, cell_in, page_at, page_of, place_of}, Spelling.HoldsWords}
 use Rattle.mm_model.proofs.Memories.{cell_at-aligned, cell_at-unaligned, word_or_none}
 use Rattle.mm_graph.proofs.Cells.{found_page}
 

@@ -2,20 +2,15 @@
 use Rattle.std.proofs.Common.{◌≡◌, ℕ, zero, suc, ◌+◌, ◌*◌, ◌%◌, ◌^◌, ◌<◌, ◌≤◌, inl, inr, Bool, true, false}
 use Rattle.std.proofs.Common.{if◌then◌else◌, List, [], ◌∷◌, ◌++◌, length, get_or, slice_get, Option, Some, None, refl}
 use Rattle.std.proofs.Common.{sym, ap, ◌∙◌, subst, arith, eqb-true}
-use Rattle.std.specs.List.{Contains, flat_map}
-use Rattle.std.specs.Ordering.{nat_cmp, eq_by_cmp}
-use Rattle.std.specs.Cmp.{unsigned_tied}
-use Rattle.std.specs.FinMap.{find}
-use Rattle.std.proofs.lemmas.List.Elements.{Contains-append_left, Contains-append_right, Contains-append_cases, All-from_recursion, All-contains}
+use Rattle.std.proofs.lemmas.List.Elements.{Contains-append_left, Contains-append_right, Contains-append_cases}
+use Rattle.std.proofs.lemmas.List.Elements.{All-from_recursion, All-contains}
+use Rattle.std.specs.{List.{Contains, flat_map}, Ordering.{nat_cmp, eq_by_cmp}, Cmp.unsigned_tied, FinMap.find}
 use Rattle.mm_word.specs.declared.word.Cell.{Cell}
 use Rattle.mm_model.specs.Memory.{Memory, cell_at, cell_in, page_at, page_of, place_of, IsPage, IsPaged}
 use Rattle.mm_model.proofs.Memories.{cell_at-aligned, cell_at-unaligned, word_or_none}
 use Rattle.mm_image.proofs.SortedEntries.{rises, find-at}
-use Rattle.mm_graph.specs.declared.canonical_ptr.CanonicalPtr.{CanonicalPtr}
-use Rattle.mm_graph.specs.declared.found.Found.{Found}
-use Rattle.mm_graph.specs.Key.{word_key}
-use Rattle.mm_graph.specs.Found.{found_at, cell_keys, page_keys}
-use Rattle.mm_graph.specs.Nodes.{IsAscending, found_word}
+use Rattle.mm_graph.specs.{declared.{canonical_ptr.CanonicalPtr.CanonicalPtr, found.Found.Found}, Key.word_key}
+use Rattle.mm_graph.specs.{Found.{found_at, cell_keys, page_keys}, Nodes.{IsAscending, found_word}}
 use Rattle.mm_graph.proofs.KeyLists.{contains_here, contains_rest, contains_cases}
 
 -- one page's cells

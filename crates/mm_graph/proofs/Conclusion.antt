@@ -1,16 +1,10 @@
 -- The marks of a graph that has spread are exact.
-use Rattle.std.proofs.Common.{◌≡◌, ℕ, ◌^◌, ◌<◌, List, ◌++◌, length, take, slice_index, ◌∙◌}
-use Rattle.std.proofs.lemmas.List.{take_at}
-use Rattle.mm_model.specs.Image.{Image}
-use Rattle.mm_model.specs.Reach.{Entries}
-use Rattle.mm_model.specs.Spelling.{IsImage}
-use Rattle.mm_flow.specs.declared.node.Node.{Node}
-use Rattle.mm_flow.specs.Reached.{IsReach}
-use Rattle.mm_graph.proofs.Graphs.{exact_marks}
-use Rattle.mm_graph.specs.declared.canonical_ptr.CanonicalPtr.{CanonicalPtr}
-use Rattle.mm_graph.specs.Parts.{IsBuilt}
+use Rattle.std.proofs.{Common.{◌≡◌, ℕ, ◌^◌, ◌<◌, List, ◌++◌, length, take, slice_index, ◌∙◌}, lemmas.List.take_at}
+use Rattle.mm_model.specs.{Image.Image, Reach.Entries, Spelling.IsImage}
+use Rattle.mm_flow.specs.{declared.node.Node.Node, Reached.IsReach}
+use Rattle.mm_graph.proofs.{Graphs.exact_marks, Assembly.graph}
+use Rattle.mm_graph.specs.{declared.canonical_ptr.CanonicalPtr.CanonicalPtr, Parts.IsBuilt}
 use Rattle.mm_graph.specs.Marked.{IsMarked, node_pointer}
-use Rattle.mm_graph.proofs.Assembly.{graph}
 
 pub marked_all : (i : Image) (e : Entries) (keys : List CanonicalPtr) (nodes : List Node) (targets parents links start marks : List ℕ) → IsImage i → IsBuilt i e keys nodes targets parents links start
     → IsReach (record { nodes = nodes; targets = targets }) (record { nodes = nodes; parents = parents; links = links })

@@ -1,8 +1,7 @@
 -- The key that an entry gives is one.
 use Rattle.std.proofs.Common.{◌≡◌, ◌+◌, ◌-◌, Some, sym, ap, subst, arith}
-use Rattle.mm_word.proofs.Results.{enter_result-well_formed}
+use Rattle.mm_word.proofs.{Results.enter_result-well_formed, Packing.SpellsPointer-bits_of}
 use Rattle.mm_word.specs.Pointer.{Pointer, IsWellFormed, base_of}
-use Rattle.mm_word.proofs.Packing.{SpellsPointer-bits_of}
 use Rattle.mm_graph.specs.declared.canonical_ptr.CanonicalPtr.{CanonicalPtr}
 use Rattle.mm_graph.specs.Key.{IsKey, key_of, pointer_at, standing_for, entry_key}
 use Rattle.mm_graph.proofs.Representatives.{pointer_at-key_of, standing-well_formed, stands_from, entry_from}

@@ -1,18 +1,14 @@
 -- The masks of those who may enter.
-use Rattle.std.proofs.Common.{◌≡◌, ℕ, ◌+◌, ◌-◌, ◌^◌, ◌<◌, inl, inr, List, [], ◌∷◌, ◌++◌, length, take, replicate, get_or, sym, ap, ◌∙◌, subst, arith}
-use Rattle.std.proofs.lemmas.List.{get_or-replicate, length-replicate, take_more}
-use Rattle.std.proofs.lemmas.Nat.Bits.{bit_at_ones}
-use Rattle.std.specs.Int.{bit_at}
-use Rattle.std.specs.List.{Contains, All, AllZip}
+use Rattle.std.proofs.Common.{◌≡◌, ℕ, ◌+◌, ◌-◌, ◌^◌, ◌<◌, inl, inr, List, [], ◌∷◌, ◌++◌, length, take, replicate}
+use Rattle.std.proofs.Common.{get_or, sym, ap, ◌∙◌, subst, arith}
+use Rattle.std.proofs.lemmas.{List.{get_or-replicate, length-replicate, take_more}, Nat.Bits.bit_at_ones}
+use Rattle.std.specs.{Int.bit_at, List.{Contains, All, AllZip}}
 use Rattle.mm_word.specs.Pointer.{Pointer, pointer_of, bits_of, SpellsPointer}
-use Rattle.mm_model.specs.Reach.Entries.{All as AnyEntry, These as TheseEntries}
-use Rattle.mm_graph.specs.declared.canonical_ptr.CanonicalPtr.{CanonicalPtr}
-use Rattle.mm_graph.specs.declared.seed.Seed.{Seed}
-use Rattle.mm_graph.specs.Key.{IsKey, key_at, key_of, pointer_at, no_key}
-use Rattle.mm_graph.specs.Nodes.{IsMarks}
+use Rattle.mm_model.specs.{Reach.{Entries.{All as AnyEntry, These as TheseEntries}}}
+use Rattle.mm_graph.specs.declared.{canonical_ptr.CanonicalPtr.CanonicalPtr, seed.Seed.Seed}
+use Rattle.mm_graph.specs.{Key.{IsKey, key_at, key_of, pointer_at, no_key}, Nodes.IsMarks}
 use Rattle.mm_graph.specs.Masks.{IsEntryMasks, IsEntrySeed}
-use Rattle.mm_graph.proofs.KeyLists.{contains_here, contains_rest, contains_cases}
-use Rattle.mm_graph.proofs.Rising.{same_fields}
+use Rattle.mm_graph.proofs.{KeyLists.{contains_here, contains_rest, contains_cases}, Rising.same_fields}
 use Rattle.mm_graph.proofs.Marking.{same_seed}
 
 pub any_masks : (keys : List CanonicalPtr) → IsEntryMasks AnyEntry keys (replicate (length keys) (2 ^ 64 - 1))

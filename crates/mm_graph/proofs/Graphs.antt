@@ -1,22 +1,15 @@
 -- The marks of a graph are a sound and closed summary of its image.
-use Rattle.std.proofs.lemmas.Nat.Bits.{bit_at_above}
-use Rattle.std.proofs.lemmas.Bool.{cases_lt}
-use Rattle.std.proofs.Common.{◌≡◌, ℕ, ◌<◌, ◌^◌, ◌⊎◌, ◌↔◌, inl, inr, Bool, IsTrue, List, length, slice_index, Some, refl, sym, ap, ◌∙◌, subst, arith, eqb-true, eq-eqb}
-use Rattle.std.specs.Int.{bit_at}
-use Rattle.mm_word.specs.declared.perm.Perm.TheVariants.{Rw, Xp, Eu, Ep}
-use Rattle.mm_word.specs.declared.word.Word.TheVariants.{Ptr}
-use Rattle.mm_word.specs.declared.word.Cell.{Cell}
+use Rattle.std.proofs.lemmas.{Nat.Bits.bit_at_above, Bool.cases_lt}
+use Rattle.std.proofs.Common.{◌≡◌, ℕ, ◌<◌, ◌^◌, ◌⊎◌, ◌↔◌, inl, inr, Bool, IsTrue, List, length, slice_index, Some, refl}
+use Rattle.std.{proofs.Common.{sym, ap, ◌∙◌, subst, arith, eqb-true, eq-eqb}, specs.Int.bit_at}
+use Rattle.mm_word.specs.declared.{perm.Perm.TheVariants.{Rw, Xp, Eu, Ep}, word.{Word.TheVariants.Ptr, Cell.Cell}}
 use Rattle.mm_word.specs.Pointer.{Pointer, IsBelow, enter_result}
-use Rattle.mm_model.specs.Memory.{cell_at}
-use Rattle.mm_model.specs.Image.{Image}
-use Rattle.mm_model.specs.Flags.{in_mask}
+use Rattle.mm_model.specs.{Memory.cell_at, Image.Image, Flags.in_mask}
 use Rattle.mm_model.specs.Reach.{Entries, Grants, MayEnter, LoadsAt, StoresAt}
 use Rattle.mm_model.specs.Reach.Grants.{in_cell, below, passed, entered, served, made}
-use Rattle.mm_flow.specs.declared.node.Right.TheVariants.{Make}
-use Rattle.mm_flow.specs.Edges.{Edges, SharingEdges, entry_at, right_at}
+use Rattle.mm_flow.specs.{declared.node.Right.TheVariants.Make, Edges.{Edges, SharingEdges, entry_at, right_at}}
 use Rattle.mm_flow.specs.Flow.{Has}
-use Rattle.mm_flow.specs.Reached.{HasSome, Reached, IsReach}
-use Rattle.mm_flow.specs.Reached.Reached.{from, along, through, linked, shared, by_maker}
+use Rattle.mm_flow.specs.Reached.{HasSome, Reached, IsReach, Reached.{from, along, through, linked, shared, by_maker}}
 use Rattle.mm_graph.specs.Summary.{IsPowerless, Holds, Includes, IsClosed, IsSound, IsExact}
 use Rattle.mm_graph.specs.GraphOf.{IsGraphOf, Started, Marked}
 use Rattle.mm_graph.proofs.Summaries.{exact, whole_by, whole_covers, whole_fits}

@@ -2,8 +2,7 @@
 use Rattle.std.proofs.Common.{◌≡◌, ℕ, ◌<◌, inl, inr, List, length, get_or, sym, ◌∙◌, arith}
 use Rattle.mm_flow.specs.Flow.{Has}
 use Rattle.mm_model.specs.Slot.{Slot}
-use Rattle.mm_graph.specs.Linking.{IsLink, ServedBy}
-use Rattle.mm_graph.specs.Nodes.{AreLinked}
+use Rattle.mm_graph.specs.{Linking.{IsLink, ServedBy}, Nodes.AreLinked}
 use Rattle.mm_graph.proofs.OneBits.{with_bit, with_bit-only, with_bit-keeps, with_bit-there, with_bit-length}
 
 pub both_ways : (old : List ℕ) (a b : ℕ) → length old ≡ 64 → a < 64 → b < 64 → IsLink a b old (with_bit (with_bit old a b) b a)

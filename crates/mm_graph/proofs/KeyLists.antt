@@ -2,17 +2,13 @@
 use Rattle.std.proofs.Common.{◌≡◌, ℕ, zero, suc, ◌+◌, ◌<◌, ◌⊎◌, ◌↔◌, inl, inr, List, [], ◌∷◌, ◌++◌, length}
 use Rattle.std.proofs.Common.{length-append, slice_index_or, take, map, get_or, Option, Some, None, refl, sym, ap, ◌∙◌}
 use Rattle.std.proofs.Common.{subst, arith}
-use Rattle.std.specs.List.{Contains, All, filter_map, cons_option}
-use Rattle.std.specs.Option.{option_to_list}
 use Rattle.std.proofs.lemmas.List.{take_more, get_or_append_left, get_or-map, length-map}
-use Rattle.std.proofs.lemmas.List.Elements.{filter_map-append, All-append, All-map, All-contains, Contains-get_or, Contains-append_left, Contains-append_right, Contains-append_cases}
-use Rattle.mm_graph.specs.declared.canonical_ptr.CanonicalPtr.{CanonicalPtr}
-use Rattle.mm_graph.specs.declared.found.Found.{Found}
-use Rattle.mm_graph.specs.declared.seed.Seed.{Seed}
-use Rattle.mm_graph.specs.declared.placed.Placed.{Placed}
-use Rattle.mm_graph.specs.Key.{IsKey, IsRising, entry_key, key_at, no_key}
-use Rattle.mm_graph.specs.Placed.{held_keys, all_keys_of, IsPlaced, HasTargets}
-use Rattle.mm_graph.specs.Nodes.{IsKeysOf, IsTargets, nothing}
+use Rattle.std.proofs.lemmas.List.Elements.{filter_map-append, All-append, All-map, All-contains, Contains-get_or}
+use Rattle.std.proofs.lemmas.List.Elements.{Contains-append_left, Contains-append_right, Contains-append_cases}
+use Rattle.std.specs.{List.{Contains, All, filter_map, cons_option}, Option.option_to_list}
+use Rattle.mm_graph.specs.declared.{canonical_ptr.CanonicalPtr.CanonicalPtr, found.Found.Found, seed.Seed.Seed}
+use Rattle.mm_graph.specs.{declared.placed.Placed.Placed, Key.{IsKey, IsRising, entry_key, key_at, no_key}}
+use Rattle.mm_graph.specs.{Placed.{held_keys, all_keys_of, IsPlaced, HasTargets}, Nodes.{IsKeysOf, IsTargets, nothing}}
 use Rattle.mm_graph.proofs.Representatives.{entry_again}
 
 cons_list : {A : Type 0} (o : Option A) → cons_option o [] ≡ option_to_list o

@@ -1,10 +1,8 @@
 -- Lists of what is found, with one cell or word more.
-use Rattle.std.proofs.Common.{◌≡◌, ℕ, ◌+◌, ◌*◌, ◌<◌, List, [], ◌∷◌, ◌++◌, length, take, get_or, append_assoc, append-nil, refl, sym, ap, ◌∙◌, arith}
-use Rattle.std.proofs.lemmas.List.{take_more, length-take-le}
-use Rattle.mm_word.specs.declared.word.Word.{Word}
-use Rattle.mm_word.specs.declared.word.Cell.{Cell}
-use Rattle.mm_graph.specs.Key.{word_key}
-use Rattle.mm_graph.specs.Found.{found_at, cell_keys, seed_at, word_seeds}
+use Rattle.std.proofs.Common.{◌≡◌, ℕ, ◌+◌, ◌*◌, ◌<◌, List, [], ◌∷◌, ◌++◌, length, take, get_or, append_assoc}
+use Rattle.std.proofs.{Common.{append-nil, refl, sym, ap, ◌∙◌, arith}, lemmas.List.{take_more, length-take-le}}
+use Rattle.mm_word.specs.declared.word.{Word.Word, Cell.Cell}
+use Rattle.mm_graph.specs.{Key.word_key, Found.{found_at, cell_keys, seed_at, word_seeds}}
 
 pub cell_keys-append : (w : ℕ) (xs ys : List Cell) → cell_keys w (xs ++ ys) ≡ cell_keys w xs ++ cell_keys (w + 8 * length xs) ys
 cell_keys-append w [] ys = ap (λ v. cell_keys v ys) (let e : w ≡ w + 8 * 0 = omega arith in e)

@@ -1,16 +1,12 @@
 -- Marks, one after the other.
-use Rattle.std.proofs.Common.{◌≡◌, ℕ, zero, suc, ◌+◌, ◌<◌, inl, inr, List, [], ◌∷◌, ◌++◌, length, take, replicate, slice_index, get_or, refl, sym, ap, ◌∙◌, subst, arith}
-use Rattle.std.specs.List.{Contains}
+use Rattle.std.proofs.Common.{◌≡◌, ℕ, zero, suc, ◌+◌, ◌<◌, inl, inr, List, [], ◌∷◌, ◌++◌, length, take, replicate}
+use Rattle.std.proofs.Common.{slice_index, get_or, refl, sym, ap, ◌∙◌, subst, arith}
 use Rattle.std.proofs.lemmas.List.{take_more, length-replicate}
 use Rattle.std.proofs.lemmas.List.Elements.{Contains-append_left, Contains-push, Contains-push_cases}
-use Rattle.mm_flow.specs.Flow.{Has}
-use Rattle.mm_flow.proofs.Bits.{zero_bit}
-use Rattle.std.specs.Int.{bit_at}
-use Rattle.mm_graph.specs.declared.canonical_ptr.CanonicalPtr.{CanonicalPtr}
-use Rattle.mm_graph.specs.declared.seed.Seed.{Seed}
-use Rattle.mm_graph.specs.Key.{IsRising, key_at}
-use Rattle.mm_graph.specs.Marking.{IsMark}
-use Rattle.mm_graph.specs.Nodes.{IsMarks}
+use Rattle.std.specs.{List.Contains, Int.bit_at}
+use Rattle.mm_flow.{specs.Flow.Has, proofs.Bits.zero_bit}
+use Rattle.mm_graph.specs.{declared.{canonical_ptr.CanonicalPtr.CanonicalPtr, seed.Seed.Seed}, Key.{IsRising, key_at}}
+use Rattle.mm_graph.specs.{Marking.IsMark, Nodes.IsMarks}
 use Rattle.mm_graph.proofs.Rising.{same_place}
 use Rattle.mm_graph.proofs.OneBits.{with_bit, with_bit-only, with_bit-keeps, with_bit-there, with_bit-length}
 

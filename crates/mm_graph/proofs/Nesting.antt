@@ -1,17 +1,13 @@
 -- The keys of a graph in their order: segments that nest.
-use Rattle.std.proofs.Common.{◌≡◌, ℕ, zero, suc, ◌+◌, ◌-◌, ◌*◌, ◌/◌, ◌^◌, ◌<◌, ◌≤◌, ◌⊎◌, inl, inr, List, [], ◌∷◌, length, map, slice_index, refl, sym, ap, ◌∙◌, arith}
-use Rattle.std.specs.List.{All}
-use Rattle.std.specs.Ordering.{nat_cmp, ordering_then}
-use Rattle.std.specs.declared.cmp.Ordering.{Ordering}
-use Rattle.std.specs.declared.cmp.Ordering.TheVariants.{Less, Equal, Greater}
-use Rattle.std.proofs.lemmas.Cmp.{ranked}
+use Rattle.std.proofs.Common.{◌≡◌, ℕ, zero, suc, ◌+◌, ◌-◌, ◌*◌, ◌/◌, ◌^◌, ◌<◌, ◌≤◌, ◌⊎◌, inl, inr, List, [], ◌∷◌}
+use Rattle.std.proofs.{Common.{length, map, slice_index, refl, sym, ap, ◌∙◌, arith}, lemmas.Cmp.ranked}
 use Rattle.std.proofs.Math.Pow.{pow_mono}
-use Rattle.mm_flow.specs.Forest.{IsOrdered, IsNested, IsForest}
-use Rattle.mm_flow.proofs.Geometry.{ordered_nested}
+use Rattle.std.specs.{List.All, Ordering.{nat_cmp, ordering_then}}
+use Rattle.std.specs.declared.cmp.Ordering.{Ordering, TheVariants.{Less, Equal, Greater}}
+use Rattle.mm_flow.{specs.Forest.{IsOrdered, IsNested, IsForest}, proofs.Geometry.ordered_nested}
 use Rattle.mm_graph.specs.declared.canonical_ptr.CanonicalPtr.{CanonicalPtr}
 use Rattle.mm_graph.specs.Key.{IsKey, IsRising, key_cmp, key_at, no_key, pointer_at}
-use Rattle.mm_graph.specs.Forest.{IsBases, IsEnds, HasForest}
-use Rattle.mm_graph.proofs.Representatives.{base-block}
+use Rattle.mm_graph.{specs.Forest.{IsBases, IsEnds, HasForest}, proofs.Representatives.base-block}
 
 -- by base, or by length at one base
 less_cases : (x y : CanonicalPtr) → key_cmp x y ≡ Less → (x.base < y.base) ⊎ ((x.base ≡ y.base) × (x.narrow ≤ y.narrow))

@@ -1,13 +1,9 @@
 -- One bit more in a list of masks.
-use Rattle.std.proofs.lemmas.Nat.{pow_below}
-use Rattle.std.proofs.lemmas.Nat.Bits.{bit_at-pow_same, bit_at-pow_other}
-use Rattle.std.proofs.lemmas.Bool.{cases_lt}
-use Rattle.std.proofs.Common.{◌≡◌, ◌≢◌, ℕ, ◌*◌, ◌%◌, ◌^◌, ◌<◌, ◌⊎◌, inl, inr, List, length, slice_index, slice_set, bit_or, refl, sym, ap, ◌∙◌, arith}
-use Rattle.std.specs.Int.{bit_at}
+use Rattle.std.proofs.lemmas.{Nat.{pow_below, Bits.{bit_at-pow_same, bit_at-pow_other}}, Bool.cases_lt}
+use Rattle.std.proofs.Common.{◌≡◌, ◌≢◌, ℕ, ◌*◌, ◌%◌, ◌^◌, ◌<◌, ◌⊎◌, inl, inr, List, length, slice_index, slice_set}
+use Rattle.std.{proofs.Common.{bit_or, refl, sym, ap, ◌∙◌, arith}, specs.Int.bit_at}
 use Rattle.mm_flow.specs.Flow.{Has}
-use Rattle.mm_flow.proofs.Bits.{or_left, or_right, or_cases}
-use Rattle.mm_flow.proofs.Masks.{set_cases, length_set}
-use Rattle.mm_flow.proofs.Masks.Set.{here, there}
+use Rattle.mm_flow.proofs.{Bits.{or_left, or_right, or_cases}, Masks.{set_cases, length_set, Set.{here, there}}}
 
 pub one_bit : (b : ℕ) → b < 64 → 1 * 2 ^ b % 2 ^ 64 ≡ 2 ^ b
 one_bit b lt = let below : 2 ^ b < 2 ^ 64 = pow_below b 64 lt in omega arith

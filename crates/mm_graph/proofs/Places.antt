@@ -1,16 +1,11 @@
 -- Keys with their places, in any order, and where they stand among other keys.
 use Rattle.std.proofs.lemmas.List.{get_or_default}
-use Rattle.std.proofs.lemmas.List.Elements.{Contains-get_or}
-use Rattle.std.proofs.lemmas.List.Sorted.{Contains-permutation, IsPermutation-sym}
-use Rattle.std.specs.List.Sorted.{IsPermutation}
-use Rattle.std.proofs.Common.{◌≡◌, ℕ, ◌+◌, ◌<◌, ◌≤◌, ◌↔◌, inl, inr, List, [], ◌∷◌, length, map, get_or, slice_index, slice_set, sym, ap, ◌∙◌, subst, arith}
-use Rattle.std.specs.List.{Contains}
-use Rattle.mm_flow.proofs.Masks.{below_cases, set_cases, length_set}
-use Rattle.mm_flow.proofs.Masks.Set.{here, there}
-use Rattle.mm_graph.specs.declared.canonical_ptr.CanonicalPtr.{CanonicalPtr}
-use Rattle.mm_graph.specs.declared.placed.Placed.{Placed}
-use Rattle.mm_graph.specs.Key.{key_at, no_key}
-use Rattle.mm_graph.specs.Placed.{placed_at, IsPlacing, IsPlaced, HasTargets}
+use Rattle.std.proofs.lemmas.List.{Elements.Contains-get_or, Sorted.{Contains-permutation, IsPermutation-sym}}
+use Rattle.std.proofs.Common.{◌≡◌, ℕ, ◌+◌, ◌<◌, ◌≤◌, ◌↔◌, inl, inr, List, [], ◌∷◌, length, map, get_or, slice_index}
+use Rattle.std.{proofs.Common.{slice_set, sym, ap, ◌∙◌, subst, arith}, specs.List.{Contains, Sorted.IsPermutation}}
+use Rattle.mm_flow.proofs.Masks.{below_cases, set_cases, length_set, Set.{here, there}}
+use Rattle.mm_graph.specs.declared.{canonical_ptr.CanonicalPtr.CanonicalPtr, placed.Placed.Placed}
+use Rattle.mm_graph.specs.{Key.{key_at, no_key}, Placed.{placed_at, IsPlacing, IsPlaced, HasTargets}}
 use Rattle.mm_graph.proofs.KeyLists.{in_map, contains_here, contains_rest, contains_cases}
 
 abbrev pub nowhere : Placed

@@ -1,15 +1,12 @@
 -- Pointers that stand for others.
-use Rattle.std.proofs.Common.{◌≡◌, ◌≢◌, ℕ, ◌*◌, ◌/◌, ◌^◌, ◌<◌, ◌≤◌, ◌⊎◌, inl, inr, Bool, true, false, Option, Some, None, option_map, option_and_then, if◌then◌else◌, refl, sym, ap, ◌∙◌, subst, arith}
-use Rattle.std.proofs.lemmas.Nat.{shl-shr, shr_split}
-use Rattle.std.proofs.lemmas.Bool.Decides.{nat_tests}
-use Rattle.mm_word.proofs.Results.{enter_result-well_formed}
-use Rattle.mm_word.specs.declared.perm.Perm.{Perm}
-use Rattle.mm_word.specs.declared.perm.Perm.TheVariants.{Ro, Rw, Xu, Xp, Eu, Ep, Key as KeyPerm}
+use Rattle.std.proofs.Common.{◌≡◌, ◌≢◌, ℕ, ◌*◌, ◌/◌, ◌^◌, ◌<◌, ◌≤◌, ◌⊎◌, inl, inr, Bool, true, false, Option, Some}
+use Rattle.std.proofs.Common.{None, option_map, option_and_then, if◌then◌else◌, refl, sym, ap, ◌∙◌, subst, arith}
+use Rattle.std.proofs.lemmas.{Nat.{shl-shr, shr_split}, Bool.Decides.nat_tests}
+use Rattle.mm_word.proofs.{Results.enter_result-well_formed, Packing.pointer_of-bits_of}
+use Rattle.mm_word.specs.declared.{perm.{Perm.{Perm, TheVariants.{Ro, Rw, Xu, Xp, Eu, Ep, Key as KeyPerm}}}}
 use Rattle.mm_word.specs.Perm.{can_move, execute_form}
 use Rattle.mm_word.specs.Pointer.{Pointer, IsWellFormed, IsBelow, base_of, enter_result}
-use Rattle.mm_word.proofs.Packing.{pointer_of-bits_of}
-use Rattle.mm_graph.specs.Summary.{IsPowerless}
-use Rattle.mm_graph.specs.declared.canonical_ptr.CanonicalPtr.{CanonicalPtr}
+use Rattle.mm_graph.specs.{Summary.IsPowerless, declared.canonical_ptr.CanonicalPtr.CanonicalPtr}
 use Rattle.mm_graph.specs.Key.{key_of, pointer_at, is_powerless_at, is_powerless, standing_for, standing_key, entry_key}
 
 -- the test of powerless pointers

@@ -1,12 +1,8 @@
 -- What a pointer below another permits.
 use Rattle.std.proofs.Common.{◌≡◌, ℕ, ◌+◌, ◌≤◌, ◌⊎◌, inl, inr, true, refl, sym, ap, ◌∙◌, subst, arith}
-use Rattle.mm_word.proofs.Rights.{can_store-loads}
-use Rattle.mm_word.specs.declared.perm.Perm.{Perm}
-use Rattle.mm_word.specs.declared.perm.Perm.TheVariants.{Ro, Rw, Xu, Xp, Eu, Ep, Key}
-use Rattle.mm_word.specs.Perm.{can_load, can_store, can_move, can_become}
-use Rattle.mm_word.specs.Pointer.{Pointer, InSegment, IsBelow}
-use Rattle.mm_word.proofs.Below.{Covers-short}
-use Rattle.mm_word.proofs.Segments.{inside_is_shorter}
+use Rattle.mm_word.proofs.{Rights.can_store-loads, Below.Covers-short, Segments.inside_is_shorter}
+use Rattle.mm_word.specs.declared.perm.Perm.{Perm, TheVariants.{Ro, Rw, Xu, Xp, Eu, Ep, Key}}
+use Rattle.mm_word.specs.{Perm.{can_load, can_store, can_move, can_become}, Pointer.{Pointer, InSegment, IsBelow}}
 use Rattle.mm_model.specs.Reach.{LoadsAt, StoresAt}
 use Rattle.mm_graph.specs.Summary.{IsPowerless}
 

@@ -1,17 +1,12 @@
 -- Seeds are the pointers of slots.
 use Rattle.std.proofs.Common.{◌≡◌, ℕ, ◌⊎◌, inl, inr, List, [], ◌∷◌, Option, Some, None, sym, ap, ◌∙◌, subst, arith}
-use Rattle.std.specs.List.{Contains}
 use Rattle.std.proofs.lemmas.List.Elements.{Contains-append_left, Contains-append_right, Contains-append_cases}
-use Rattle.mm_word.specs.declared.word.Word.{Word}
-use Rattle.mm_word.specs.declared.word.Word.TheVariants.{Int, Ptr}
-use Rattle.mm_word.specs.Pointer.{Pointer}
+use Rattle.std.specs.List.{Contains}
+use Rattle.mm_word.specs.{declared.word.Word.{Word, TheVariants.{Int, Ptr}}, Pointer.Pointer}
 use Rattle.mm_model.specs.Slot.{Slot}
-use Rattle.mm_graph.specs.declared.canonical_ptr.CanonicalPtr.{CanonicalPtr}
-use Rattle.mm_graph.specs.declared.seed.Seed.{Seed}
-use Rattle.mm_graph.specs.Key.{word_key, standing_key}
-use Rattle.mm_graph.specs.Found.{seed_at, word_seeds, slot_seeds, seeds_of}
-use Rattle.mm_graph.proofs.KeyLists.{contains_here, contains_rest, contains_cases}
-use Rattle.mm_graph.proofs.Cells.{in_flat_map, from_flat_map}
+use Rattle.mm_graph.specs.declared.{canonical_ptr.CanonicalPtr.CanonicalPtr, seed.Seed.Seed}
+use Rattle.mm_graph.specs.{Key.{word_key, standing_key}, Found.{seed_at, word_seeds, slot_seeds, seeds_of}}
+use Rattle.mm_graph.proofs.{KeyLists.{contains_here, contains_rest, contains_cases}, Cells.{in_flat_map, from_flat_map}}
 
 at_seed : (g : ℕ) (o : Option CanonicalPtr) (key : CanonicalPtr) → o ≡ Some key → Contains (seed_at g o) (record { group = g; key = key })
 at_seed g o key e = subst (λ v. Contains (seed_at g v) (record { group = g; key = key })) (sym e) (contains_here _ [])

@@ -1,19 +1,15 @@
 -- A closed summary holds all that is granted.
-use Rattle.std.proofs.Common.{◌≡◌, ℕ, ◌+◌, ◌/◌, ◌%◌, ◌^◌, ◌<◌, ◌⊎◌, inl, inr, Bool, true, IsTrue, Option, Some, option_map, refl, sym, ap, ◌∙◌, subst, arith}
-use Rattle.std.proofs.Math.Nat.{div-eq_of_lt}
-use Rattle.mm_word.specs.declared.perm.Perm.{Perm}
-use Rattle.mm_word.specs.declared.perm.Perm.TheVariants.{Xp, Eu, Ep, Key}
-use Rattle.mm_word.specs.declared.word.Word.TheVariants.{Ptr}
-use Rattle.mm_word.specs.declared.word.Cell.{Cell}
-use Rattle.mm_word.specs.Perm.{can_move, can_become, execute_form}
-use Rattle.mm_word.specs.Pointer.{Pointer, IsBelow, IsWellFormed, enter_result}
-use Rattle.mm_word.proofs.Below.{IsBelow-trans}
-use Rattle.mm_model.specs.Memory.{cell_at}
-use Rattle.mm_model.specs.Image.{Image}
+use Rattle.std.proofs.Common.{◌≡◌, ℕ, ◌+◌, ◌/◌, ◌%◌, ◌^◌, ◌<◌, ◌⊎◌, inl, inr, Bool, true, IsTrue, Option, Some}
+use Rattle.std.proofs.{Common.{option_map, refl, sym, ap, ◌∙◌, subst, arith}, Math.Nat.div-eq_of_lt}
+use Rattle.mm_word.specs.declared.perm.Perm.{Perm, TheVariants.{Xp, Eu, Ep, Key}}
+use Rattle.mm_word.specs.{declared.word.{Word.TheVariants.Ptr, Cell.Cell}, Perm.{can_move, can_become, execute_form}}
+use Rattle.mm_word.{specs.Pointer.{Pointer, IsBelow, IsWellFormed, enter_result}, proofs.Below.IsBelow-trans}
+use Rattle.mm_model.specs.{Memory.cell_at, Image.Image}
 use Rattle.mm_model.specs.Reach.{Entries, Grants, MayEnter, LoadsAt, StoresAt}
 use Rattle.mm_model.specs.Reach.Grants.{in_register, runs_by, in_cell, below, passed, entered, served, made}
 use Rattle.mm_graph.specs.Summary.{IsPowerless, Holds, Includes, IsClosed, IsSound, IsExact, SomeLoads, SomeStores}
-use Rattle.mm_graph.proofs.Segments.{powerless_loads, below-loads, below-stores, stores-loads, below-powerless, never_xp, only_xp, only_x}
+use Rattle.mm_graph.proofs.Segments.{powerless_loads, below-loads, below-stores, stores-loads, below-powerless}
+use Rattle.mm_graph.proofs.Segments.{never_xp, only_xp, only_x}
 
 -- the pointer with the form of a permission
 abbrev form_of : Pointer → Perm → Option Pointer

@@ -1,8 +1,7 @@
 -- The parents of the keys of a graph.
 use Rattle.std.specs.Prelude.{◌≡◌, ℕ, ◌+◌, ◌-◌, ◌^◌, ◌<◌, List, length, slice_index}
 use Rattle.mm_flow.specs.Forest.{IsOrdered, IsForest}
-use Rattle.mm_graph.specs.declared.canonical_ptr.CanonicalPtr.{CanonicalPtr}
-use Rattle.mm_graph.specs.Key.{key_at}
+use Rattle.mm_graph.specs.{declared.canonical_ptr.CanonicalPtr.CanonicalPtr, Key.key_at}
 
 -- the base of each key's segment
 pub record IsBases (keys : List CanonicalPtr) (bases : List ℕ) : Type 0 where

@@ -1,13 +1,8 @@
 -- The pointers in memory and in slots.
-use Rattle.std.specs.Prelude.{ℕ, ◌+◌, ◌*◌, List, [], ◌∷◌, ◌++◌, Option, Some, None}
-use Rattle.std.specs.List.{flat_map}
-use Rattle.mm_word.specs.declared.word.Word.{Word}
-use Rattle.mm_word.specs.declared.word.Word.TheVariants.{Ptr}
-use Rattle.mm_word.specs.declared.word.Cell.{Cell}
+use Rattle.std.specs.{Prelude.{ℕ, ◌+◌, ◌*◌, List, [], ◌∷◌, ◌++◌, Option, Some, None}, List.flat_map}
+use Rattle.mm_word.specs.declared.word.{Word.{Word, TheVariants.Ptr}, Cell.Cell}
 use Rattle.mm_model.specs.Slot.{Slot}
-use Rattle.mm_graph.specs.declared.canonical_ptr.CanonicalPtr.{CanonicalPtr}
-use Rattle.mm_graph.specs.declared.found.Found.{Found}
-use Rattle.mm_graph.specs.declared.seed.Seed.{Seed}
+use Rattle.mm_graph.specs.declared.{canonical_ptr.CanonicalPtr.CanonicalPtr, found.Found.Found, seed.Seed.Seed}
 use Rattle.mm_graph.specs.Key.{word_key}
 
 abbrev pub found_at : ℕ → Option CanonicalPtr → List Found

@@ -1,17 +1,11 @@
 -- A graph that stands for an image: each node is a pointer.
-use Rattle.std.specs.Prelude.{◌≡◌, ℕ, ◌<◌, ◌≤◌, ◌^◌, ◌⊎◌, true, List, length, slice_index, Contains, Some}
-use Rattle.std.specs.Int.{bit_at}
-use Rattle.mm_word.specs.declared.perm.Perm.TheVariants.{Xp, Eu, Ep}
-use Rattle.mm_word.specs.declared.word.Word.TheVariants.{Ptr}
-use Rattle.mm_word.specs.declared.word.Cell.{Cell}
+use Rattle.std.specs.{Prelude.{◌≡◌, ℕ, ◌<◌, ◌≤◌, ◌^◌, ◌⊎◌, true, List, length, slice_index, Contains, Some}, Int.bit_at}
+use Rattle.mm_word.specs.declared.{perm.Perm.TheVariants.{Xp, Eu, Ep}, word.{Word.TheVariants.Ptr, Cell.Cell}}
 use Rattle.mm_word.specs.Pointer.{Pointer, IsBelow, enter_result}
-use Rattle.mm_model.specs.Memory.{cell_at}
-use Rattle.mm_model.specs.Slot.{Slot}
-use Rattle.mm_model.specs.Image.{Image}
+use Rattle.mm_model.specs.{Memory.cell_at, Slot.Slot, Image.Image}
 use Rattle.mm_model.specs.Reach.{Entries, Grants, MayEnter, Serves, LoadsAt, StoresAt}
 use Rattle.mm_flow.specs.declared.node.Right.TheVariants.{Load, Store, Make}
-use Rattle.mm_flow.specs.Edges.{Edges, SharingEdges, low_at, high_at, entry_at, enters_at, right_at}
-use Rattle.mm_flow.specs.Flow.{Has}
+use Rattle.mm_flow.specs.{Edges.{Edges, SharingEdges, low_at, high_at, entry_at, enters_at, right_at}, Flow.Has}
 use Rattle.mm_flow.specs.Sharing.{Up}
 use Rattle.mm_graph.specs.Summary.{IsPowerless}
 

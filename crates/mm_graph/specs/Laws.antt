@@ -1,15 +1,10 @@
 -- The laws of summaries.
-use Rattle.std.specs.Prelude.{◌≡◌, ℕ, ◌<◌, ◌^◌, ◌↔◌, Bool, List, slice_index, Contains}
-use Rattle.std.specs.Int.{bit_at}
-use Rattle.mm_flow.specs.declared.node.Right.TheVariants.{Make}
-use Rattle.mm_flow.specs.Edges.{Edges, SharingEdges, right_at}
+use Rattle.std.specs.{Prelude.{◌≡◌, ℕ, ◌<◌, ◌^◌, ◌↔◌, Bool, List, slice_index, Contains}, Int.bit_at}
+use Rattle.mm_flow.specs.{declared.node.Right.TheVariants.Make, Edges.{Edges, SharingEdges, right_at}}
 use Rattle.mm_flow.specs.Reached.{HasSome, IsReach}
-use Rattle.mm_graph.specs.GraphOf.{IsGraphOf, Marked}
+use Rattle.mm_graph.specs.{GraphOf.{IsGraphOf, Marked}, Summary.{IsClosed, IsSound, IsExact}}
 use Rattle.mm_word.specs.Pointer.{Pointer}
-use Rattle.mm_model.specs.Image.{Image}
-use Rattle.mm_model.specs.Flags.{in_mask}
-use Rattle.mm_model.specs.Reach.{Entries}
-use Rattle.mm_graph.specs.Summary.{IsClosed, IsSound, IsExact}
+use Rattle.mm_model.specs.{Image.Image, Flags.in_mask, Reach.Entries}
 
 -- a summary of granted pointers to which no rule adds is exact
 abbrev pub SummariesDecide : Type 0

@@ -1,17 +1,10 @@
 -- The marks of an image's graph.
-use Rattle.std.specs.Prelude.{◌≡◌, ℕ, ◌^◌, ◌<◌, ◌↔◌, List, length, slice_index, All}
-use Rattle.std.specs.Int.{bit_at}
+use Rattle.std.specs.{Prelude.{◌≡◌, ℕ, ◌^◌, ◌<◌, ◌↔◌, List, length, slice_index, All}, Int.bit_at}
 use Rattle.mm_word.specs.Pointer.{Pointer}
-use Rattle.mm_model.specs.Image.{Image}
-use Rattle.mm_model.specs.Flags.{in_mask}
-use Rattle.mm_model.specs.Reach.{Entries}
-use Rattle.mm_flow.specs.declared.node.Node.{Node}
-use Rattle.mm_flow.specs.declared.node.Right.TheVariants.{Load, Store, Make}
-use Rattle.mm_flow.specs.Edges.{right_at}
+use Rattle.mm_model.specs.{Image.Image, Flags.in_mask, Reach.Entries}
+use Rattle.mm_flow.specs.{declared.node.{Node.Node, Right.TheVariants.{Load, Store, Make}}, Edges.right_at}
 use Rattle.mm_flow.specs.Reached.{HasSome}
-use Rattle.mm_graph.specs.Summary.{IsExact}
-use Rattle.mm_graph.specs.GraphOf.{Marked}
-use Rattle.mm_graph.specs.declared.canonical_ptr.CanonicalPtr.{CanonicalPtr}
+use Rattle.mm_graph.specs.{Summary.IsExact, GraphOf.Marked, declared.canonical_ptr.CanonicalPtr.CanonicalPtr}
 use Rattle.mm_graph.specs.Key.{IsKey, IsRising, key_at, pointer_at, loads_words, stores_words}
 
 -- the pointer of a node

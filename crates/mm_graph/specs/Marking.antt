@@ -1,9 +1,7 @@
 -- One mark at a key.
 use Rattle.std.specs.Prelude.{◌≡◌, ℕ, ◌<◌, ◌⊎◌, List, length}
 use Rattle.mm_flow.specs.Flow.{Has}
-use Rattle.mm_graph.specs.declared.canonical_ptr.CanonicalPtr.{CanonicalPtr}
-use Rattle.mm_graph.specs.declared.seed.Seed.{Seed}
-use Rattle.mm_graph.specs.Key.{key_at}
+use Rattle.mm_graph.specs.{declared.{canonical_ptr.CanonicalPtr.CanonicalPtr, seed.Seed.Seed}, Key.key_at}
 
 -- the group of the seed was marked at its key
 pub record IsMark (keys : List CanonicalPtr) (s : Seed) (old new : List ℕ) : Type 0 where

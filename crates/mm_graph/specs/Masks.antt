@@ -1,13 +1,10 @@
 -- The groups that may enter by the keys of a graph.
 use Rattle.std.specs.Prelude.{◌≡◌, ℕ, ◌<◌, List, length}
 use Rattle.mm_word.specs.Pointer.{Pointer}
-use Rattle.mm_model.specs.Reach.{Entries, MayEnter}
-use Rattle.mm_model.specs.Reach.Entries.{All as AnyEntry, These as TheseEntries}
+use Rattle.mm_model.specs.{Reach.{Entries, MayEnter, Entries.{All as AnyEntry, These as TheseEntries}}}
 use Rattle.mm_flow.specs.Flow.{Has}
-use Rattle.mm_graph.specs.declared.entries.Entries.{Entries as DeclaredEntries}
-use Rattle.mm_graph.specs.declared.entries.Entries.TheVariants.{All, These}
-use Rattle.mm_graph.specs.declared.canonical_ptr.CanonicalPtr.{CanonicalPtr}
-use Rattle.mm_graph.specs.declared.seed.Seed.{Seed}
+use Rattle.mm_graph.specs.declared.entries.{Entries.{Entries as DeclaredEntries, TheVariants.{All, These}}}
+use Rattle.mm_graph.specs.declared.{canonical_ptr.CanonicalPtr.CanonicalPtr, seed.Seed.Seed}
 use Rattle.mm_graph.specs.Key.{key_at, key_of, pointer_at}
 
 -- the entries that a value of the type stands for

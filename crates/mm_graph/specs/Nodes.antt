@@ -1,15 +1,10 @@
 -- The parts of a graph, for keys and pointers in cells.
 use Rattle.std.specs.Prelude.{◌≡◌, ℕ, ◌+◌, ◌^◌, ◌<◌, ◌≤◌, true, false, ◌⊎◌, List, length, slice_index, slice_index_or}
 use Rattle.std.specs.Prelude.{Contains, All, Some, None}
-use Rattle.mm_word.specs.Perm.{is_privileged}
-use Rattle.mm_word.specs.Pointer.{Pointer, base_of}
+use Rattle.mm_word.specs.{Perm.is_privileged, Pointer.{Pointer, base_of}}
 use Rattle.mm_model.specs.Slot.{Slot}
-use Rattle.mm_flow.specs.declared.node.Node.{Node}
-use Rattle.mm_flow.specs.Edges.{node_at}
-use Rattle.mm_flow.specs.Flow.{Has}
-use Rattle.mm_graph.specs.declared.canonical_ptr.CanonicalPtr.{CanonicalPtr}
-use Rattle.mm_graph.specs.declared.found.Found.{Found}
-use Rattle.mm_graph.specs.declared.seed.Seed.{Seed}
+use Rattle.mm_flow.specs.{declared.node.Node.Node, Edges.node_at, Flow.Has}
+use Rattle.mm_graph.specs.declared.{canonical_ptr.CanonicalPtr.CanonicalPtr, found.Found.Found, seed.Seed.Seed}
 use Rattle.mm_graph.specs.Key.{IsKey, IsRising, key_at, no_key, pointer_at, entry_key, loads_words, stores_words}
 use Rattle.mm_graph.specs.Key.{is_entry}
 

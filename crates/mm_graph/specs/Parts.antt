@@ -1,13 +1,9 @@
 -- All parts of an image's graph.
 use Rattle.std.specs.Prelude.{ℕ, List}
-use Rattle.mm_model.specs.Image.{Image}
-use Rattle.mm_model.specs.Reach.{Entries}
+use Rattle.mm_model.specs.{Image.Image, Reach.Entries}
 use Rattle.mm_flow.specs.declared.node.Node.{Node}
-use Rattle.mm_graph.specs.declared.canonical_ptr.CanonicalPtr.{CanonicalPtr}
-use Rattle.mm_graph.specs.Found.{page_keys, seeds_of}
-use Rattle.mm_graph.specs.Nodes.{IsKeysOf, IsNodes, IsTargets, IsMarks, IsLinks}
-use Rattle.mm_graph.specs.Masks.{IsEntryMasks}
-use Rattle.mm_graph.specs.Forest.{HasForest}
+use Rattle.mm_graph.specs.{declared.canonical_ptr.CanonicalPtr.CanonicalPtr, Found.{page_keys, seeds_of}}
+use Rattle.mm_graph.specs.{Nodes.{IsKeysOf, IsNodes, IsTargets, IsMarks, IsLinks}, Masks.IsEntryMasks, Forest.HasForest}
 
 -- the nodes of keys, if these entries may be made
 pub record HasNodes (i : Image) (e : Entries) (keys : List CanonicalPtr) (nodes : List Node) : Type 0 where

@@ -1,11 +1,8 @@
 -- Keys with their indices in a list.
 use Rattle.std.specs.Prelude.{◌≡◌, ℕ, ◌<◌, ◌++◌, List, length, slice_index, slice_index_or, Contains, map}
 use Rattle.std.specs.List.{filter_map}
-use Rattle.mm_graph.specs.declared.canonical_ptr.CanonicalPtr.{CanonicalPtr}
-use Rattle.mm_graph.specs.declared.found.Found.{Found}
-use Rattle.mm_graph.specs.declared.seed.Seed.{Seed}
-use Rattle.mm_graph.specs.declared.placed.Placed.{Placed}
-use Rattle.mm_graph.specs.Key.{key_at, no_key, entry_key}
+use Rattle.mm_graph.specs.declared.{canonical_ptr.CanonicalPtr.CanonicalPtr, found.Found.Found, seed.Seed.Seed}
+use Rattle.mm_graph.specs.{declared.placed.Placed.Placed, Key.{key_at, no_key, entry_key}}
 
 -- the keys of pointers in cells and of seeds
 abbrev pub held_keys : List Found → List Seed → List CanonicalPtr

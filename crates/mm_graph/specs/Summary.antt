@@ -1,12 +1,8 @@
 -- Summaries of each group's pointers, and when they are exact.
 use Rattle.std.specs.Prelude.{◌≡◌, ◌≢◌, ℕ, ◌<◌, ◌⊎◌, ◌↔◌, Bool, IsTrue, Contains, Some}
-use Rattle.mm_word.specs.declared.perm.Perm.TheVariants.{Xp, Eu, Ep, Key}
-use Rattle.mm_word.specs.declared.word.Word.TheVariants.{Ptr}
-use Rattle.mm_word.specs.declared.word.Cell.{Cell}
+use Rattle.mm_word.specs.declared.{perm.Perm.TheVariants.{Xp, Eu, Ep, Key}, word.{Word.TheVariants.Ptr, Cell.Cell}}
 use Rattle.mm_word.specs.Pointer.{Pointer, IsBelow, enter_result}
-use Rattle.mm_model.specs.Memory.{cell_at}
-use Rattle.mm_model.specs.Slot.{Slot}
-use Rattle.mm_model.specs.Image.{Image}
+use Rattle.mm_model.specs.{Memory.cell_at, Slot.Slot, Image.Image}
 use Rattle.mm_model.specs.Reach.{Entries, Grants, MayEnter, Serves, LoadsAt, StoresAt, CanTouch, CanWrite, Privileged}
 
 -- the pointer permits nothing, and nothing made of it does: a key, or a pointer to a segment shorter than a word that

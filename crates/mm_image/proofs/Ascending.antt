@@ -1,14 +1,10 @@
 -- Slots and pages whose numbers ascend, as loops test it.
-use Rattle.std.proofs.Common.{◌≡◌, ℕ, ◌+◌, ◌-◌, ◌<◌, ◌≤◌, ◌↔◌, true, false, List, length, get_or, drop, sym, ap, subst, ◌∙◌, arith, inl, inr}
-use Rattle.std.specs.Prelude.{IsTrue}
-use Rattle.std.specs.List.Sorted.{IsStrictlyIncreasing}
-use Rattle.std.specs.Ordering.{nat_cmp}
-use Rattle.std.specs.FinMap.{is_sorted}
-use Rattle.std.proofs.lemmas.Bool.{cases_lt}
-use Rattle.std.proofs.lemmas.List.{get_or-map, length-map, drop_more, drop_all}
+use Rattle.std.proofs.Common.{◌≡◌, ℕ, ◌+◌, ◌-◌, ◌<◌, ◌≤◌, ◌↔◌, true, false, List, length, get_or, drop, sym, ap, subst}
+use Rattle.std.proofs.Common.{◌∙◌, arith, inl, inr}
+use Rattle.std.proofs.lemmas.{Bool.cases_lt, List.{get_or-map, length-map, drop_more, drop_all}}
+use Rattle.std.specs.{Prelude.IsTrue, List.Sorted.IsStrictlyIncreasing, Ordering.nat_cmp, FinMap.is_sorted}
 use Rattle.mm_word.specs.declared.word.Cell.{Cell}
-use Rattle.mm_model.specs.Slot.{Slot}
-use Rattle.mm_model.specs.Spelling.{numbers_of}
+use Rattle.mm_model.specs.{Slot.Slot, Spelling.numbers_of}
 use Rattle.mm_model.proofs.Bytes.Rising.{AreRisingFrom, sorted_from, rising_from_sorted}
 
 -- 1. Slots.

@@ -1,13 +1,11 @@
 -- The numbers of slots, in a table.
-use Rattle.std.proofs.Common.{◌≡◌, ℕ, ◌+◌, ◌<◌, Bool, true, false, List, [], length, get_or, take, replicate, sym, ap, ◌∙◌, arith, inl, inr, eq-eqb}
-use Rattle.std.specs.Prelude.{◌||◌, ◌==◌, slice_index_or, slice_set}
+use Rattle.std.proofs.Common.{◌≡◌, ℕ, ◌+◌, ◌<◌, Bool, true, false, List, [], length, get_or, take, replicate, sym, ap}
+use Rattle.std.proofs.Common.{◌∙◌, arith, inl, inr, eq-eqb}
 use Rattle.std.proofs.lemmas.Bool.{cases_eq, ne_eqb}
-use Rattle.std.proofs.lemmas.List.{get_or-replicate, get_or-set_same, get_or-set_other}
-use Rattle.std.proofs.lemmas.List.Folds.{list_any_more}
-use Rattle.std.proofs.Math.Bool.{or-true, or-false}
-use Rattle.mm_model.specs.Slot.{Slot}
+use Rattle.std.proofs.lemmas.List.{get_or-replicate, get_or-set_same, get_or-set_other, Folds.list_any_more}
+use Rattle.std.{proofs.Math.Bool.{or-true, or-false}, specs.Prelude.{◌||◌, ◌==◌, slice_index_or, slice_set}}
+use Rattle.mm_model.specs.{Slot.Slot, Spelling.has_number}
 use Rattle.mm_image.specs.Reading.{HoldsNumbers}
-use Rattle.mm_model.specs.Spelling.{has_number}
 
 pub none_yet : HoldsNumbers (replicate 256 false) []
 none_yet n below = get_or-replicate 256 n false false below

@@ -1,10 +1,8 @@
 -- A search in entries whose numbers rise.
-use Rattle.std.proofs.Common.{◌≡◌, ◌≢◌, ℕ, zero, suc, ◌<◌, Bool, true, false, List, [], ◌∷◌, length, get_or, Some, None, refl, sym, arith}
-use Rattle.std.specs.Prelude.{IsTrue, ◌&&◌}
-use Rattle.std.specs.Ordering.{nat_cmp, eq_by_cmp, is_lt}
-use Rattle.std.specs.FinMap.{find, is_sorted}
-use Rattle.std.specs.FinMap.Entries.{below_all}
-use Rattle.std.proofs.lemmas.Bool.Decides.{nat_tests}
+use Rattle.std.proofs.Common.{◌≡◌, ◌≢◌, ℕ, zero, suc, ◌<◌, Bool, true, false, List, [], ◌∷◌, length, get_or, Some, None}
+use Rattle.std.proofs.{Common.{refl, sym, arith}, lemmas.Bool.Decides.nat_tests}
+use Rattle.std.specs.{Prelude.{IsTrue, ◌&&◌}, Ordering.{nat_cmp, eq_by_cmp, is_lt}}
+use Rattle.std.specs.FinMap.{find, is_sorted, Entries.below_all}
 
 left : (a b : Bool) → IsTrue (a && b) → IsTrue a
 left true b h = refl

@@ -1,16 +1,10 @@
 -- What a search by halving finds in ascending pages.
 use Rattle.std.proofs.Common.{◌≡◌, ◌≢◌, ℕ, ◌+◌, ◌<◌, List, length, get_or, Some, None, sym, ap, ◌∙◌, arith, inl, inr}
-use Rattle.std.specs.Prelude.{IsTrue}
-use Rattle.std.specs.Ordering.{nat_cmp, ordering_index}
-use Rattle.std.specs.List.{HoldsAt}
-use Rattle.std.specs.List.Sorted.{IsNonDecreasingBy, IsPartitionPoint}
-use Rattle.std.specs.FinMap.{find, is_sorted}
-use Rattle.std.specs.declared.cmp.Ordering.{Ordering}
-use Rattle.std.specs.declared.cmp.Ordering.TheVariants.{Less, Equal, Greater}
-use Rattle.std.proofs.lemmas.Bool.{cases_lt}
-use Rattle.std.proofs.lemmas.Bool.Decides.{nat_tests}
-use Rattle.std.proofs.lemmas.Cmp.{ranked, nat_cmp_total}
+use Rattle.std.proofs.lemmas.{Bool.{cases_lt, Decides.nat_tests}, Cmp.{ranked, nat_cmp_total}}
 use Rattle.std.proofs.lemmas.List.Sorted.{searchable_from_sorted}
+use Rattle.std.specs.{Prelude.IsTrue, Ordering.{nat_cmp, ordering_index}}
+use Rattle.std.specs.{List.{HoldsAt, Sorted.{IsNonDecreasingBy, IsPartitionPoint}}, FinMap.{find, is_sorted}}
+use Rattle.std.specs.declared.cmp.Ordering.{Ordering, TheVariants.{Less, Equal, Greater}}
 use Rattle.mm_word.specs.declared.word.Cell.{Cell}
 use Rattle.mm_image.proofs.SortedEntries.{rises, find-at, find-none}
 

@@ -1,8 +1,7 @@
 -- Texts that are written one behind the other.
-use Rattle.std.proofs.Common.{◌≡◌, ℕ, zero, suc, ◌+◌, ◌*◌, Bool, List, [], ◌∷◌, ◌++◌, take, drop, map, refl, sym, ap, ◌∙◌, append_assoc, arith}
-use Rattle.std.proofs.lemmas.List.{take-map, drop-map, drop-drop}
-use Rattle.mm_model.specs.Flags.{number_of_flags}
-use Rattle.mm_model.specs.Spelling.{bitmap}
+use Rattle.std.proofs.Common.{◌≡◌, ℕ, zero, suc, ◌+◌, ◌*◌, Bool, List, [], ◌∷◌, ◌++◌, take, drop, map, refl, sym, ap}
+use Rattle.std.proofs.{Common.{◌∙◌, append_assoc, arith}, lemmas.List.{take-map, drop-map, drop-drop}}
+use Rattle.mm_model.specs.{Flags.number_of_flags, Spelling.bitmap}
 
 -- two texts
 pub both_written : (old mid new a b : List ℕ) → mid ≡ old ++ a → new ≡ mid ++ b → new ≡ old ++ (a ++ b)

@@ -1,10 +1,9 @@
 -- The numbers of the faults of image files, and what a reader answers.
 use Rattle.std.specs.Prelude.{ℕ, Option, Some, None}
 use Rattle.mm_format.specs.declared.reader.ReadError.{ReadError}
+use Rattle.mm_image.specs.declared.fault.{ImageFault.ImageFault, ImageError.ImageError}
 use Rattle.mm_format.specs.declared.reader.ReadError.TheVariants as reading
-use Rattle.mm_image.specs.declared.fault.ImageFault.{ImageFault}
 use Rattle.mm_image.specs.declared.fault.ImageFault.TheVariants as faults
-use Rattle.mm_image.specs.declared.fault.ImageError.{ImageError}
 use Rattle.mm_image.specs.declared.fault.ImageError.TheVariants as errors
 
 abbrev pub number_of : ImageFault → ℕ

@@ -1,11 +1,7 @@
 -- An image from its parts.
-use Rattle.std.specs.Prelude.{ℕ, ◌≤◌, Bool, List, length}
-use Rattle.std.specs.List.{AllByRecursion}
-use Rattle.std.specs.List.Sorted.{IsStrictlyIncreasing}
+use Rattle.std.specs.{Prelude.{ℕ, ◌≤◌, Bool, List, length}, List.{AllByRecursion, Sorted.IsStrictlyIncreasing}}
 use Rattle.mm_word.specs.declared.word.Cell.{Cell}
-use Rattle.mm_model.specs.Slot.{Slot}
-use Rattle.mm_model.specs.Memory.{IsPaged}
-use Rattle.mm_model.specs.Image.{Image, slot_limit, frame_limit}
+use Rattle.mm_model.specs.{Slot.Slot, Memory.IsPaged, Image.{Image, slot_limit, frame_limit}}
 use Rattle.mm_model.specs.Spelling.{numbers_of, IsFresh, HoldsWords}
 
 -- the image of these parts

@@ -1,8 +1,6 @@
 -- Laws of image files.
 use Rattle.std.specs.Prelude.{◌≡◌, ℕ, List, None}
-use Rattle.mm_model.specs.Image.{Image}
-use Rattle.mm_model.specs.Spelling.{IsImage}
-use Rattle.mm_model.specs.Bytes.{IsBytes}
+use Rattle.mm_model.specs.{Image.Image, Spelling.IsImage, Bytes.IsBytes}
 use Rattle.mm_format.specs.Images.{spelling, Spells, image_fault}
 
 -- bytes that spell an image have no fault, and bytes without a fault spell one

@@ -1,8 +1,6 @@
 -- What the code that reads an image keeps between its fields.
 use Rattle.std.specs.Prelude.{◌≡◌, ◌<◌, slice_index_or, ℕ, Bool, false, List, []}
-use Rattle.mm_model.specs.Slot.{Slot}
-use Rattle.mm_model.specs.Image.{none_empty}
-use Rattle.mm_model.specs.Spelling.{has_number}
+use Rattle.mm_model.specs.{Slot.Slot, Image.none_empty, Spelling.has_number}
 
 -- the slot has taken no turn and waits for nothing
 pub record HasNotRun (s : Slot) : Type 0 where

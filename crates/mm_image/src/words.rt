@@ -13,7 +13,7 @@ ghost use Rattle.mm_format.specs.Reading.{ReadsAlone};
 ghost use Rattle.mm_image.specs.Faults.{number_of};
 
 use crate::fault::ImageFault;
-use mm_format::{ReadError, Reader, Elements, failed, is_set, read_array};
+use mm_format::{Elements, ReadError, Reader, failed, is_set, read_array};
 use mm_word::{GuardedPtr, Kind, Word};
 
 /// The word of these bits: a pointer if it is tagged. `None` if it is tagged and the bits spell no pointer.

@@ -1,8 +1,6 @@
 -- What reads of one file are, one after the other.
 use Rattle.std.proofs.Common.{◌≡◌, ℕ, ◌+◌, ◌<◌, List, [], ◌∷◌, ◌++◌, Some, refl, sym, ap, ◌∙◌, subst, arith}
-use Rattle.std.specs.List.{fold}
-use Rattle.std.proofs.lemmas.List.Sums.{fold-append}
-use Rattle.std.specs.List.{sum, AllByRecursion}
+use Rattle.std.{proofs.lemmas.List.Sums.fold-append, specs.List.{fold, sum, AllByRecursion}}
 use Rattle.mm_word.specs.Adding.{Adds, adds_none, adds_both}
 use Rattle.mm_io.specs.Files.{PieceRead, AreOf, reads_from, AsksOnly, AsksWhole, AsksBeyond}
 

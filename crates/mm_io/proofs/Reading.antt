@@ -1,9 +1,8 @@
 -- A file that is read piece by piece.
-use Rattle.std.proofs.Common.{◌≡◌, ℕ, ◌+◌, ◌-◌, ◌<◌, ◌≤◌, List, ◌++◌, length, take, drop, Option, None, Some, refl, sym, ◌∙◌, ap, arith, length-append, length-drop, append_assoc}
-use Rattle.std.specs.Bool.{⊤}
+use Rattle.std.proofs.Common.{◌≡◌, ℕ, ◌+◌, ◌-◌, ◌<◌, ◌≤◌, List, ◌++◌, length, take, drop, Option, None, Some, refl, sym}
+use Rattle.std.proofs.Common.{◌∙◌, ap, arith, length-append, length-drop, append_assoc}
 use Rattle.std.proofs.lemmas.List.{length-take, length-take-le, take_all, take-append-le, take-append-drop, drop-drop}
-use Rattle.std.specs.Io.KnownBytes.{prepend_known}
-use Rattle.std.proofs.Math.Seq.{take-add}
+use Rattle.std.{proofs.Math.Seq.take-add, specs.{Bool.⊤, Io.KnownBytes.prepend_known}}
 use Rattle.mm_io.specs.Files.{ReadsAt, IsLonger, DrawnFrom}
 
 -- these are the first bytes of the file, as far as it is told

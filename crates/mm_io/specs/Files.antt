@@ -1,8 +1,6 @@
 -- What a read of a file or a source gives, and when a call may fail.
 use Rattle.std.specs.Prelude.{◌≡◌, ℕ, ◌+◌, ◌-◌, ◌^◌, ◌<◌, ◌≤◌, min, List, [], ◌∷◌, ◌++◌, length, take, drop, ⊤, None}
-use Rattle.std.specs.Prelude.{Some, Option, Ok, Err, Result}
-use Rattle.std.specs.List.{sum, AllByRecursion}
-use Rattle.std.specs.Io.KnownBytes.{prepend_known}
+use Rattle.std.specs.{Prelude.{Some, Option, Ok, Err, Result}, List.{sum, AllByRecursion}, Io.KnownBytes.prepend_known}
 use Rattle.mm_word.specs.Adding.{Adds}
 
 -- a count of 64 bits after one fault more: it stays at its last value once that is reached

@@ -1,7 +1,6 @@
 -- What sinks and files in memory hold.
 use Rattle.std.specs.Prelude.{◌≡◌, ℕ, ◌+◌, ◌-◌, ◌<◌, ◌⊎◌, min, List, [], ◌∷◌, length, Contains, Vec, String}
-use Rattle.std.specs.Prelude.{string_bytes, if◌then◌else◌, Option, Some, None, unwrap_or}
-use Rattle.std.specs.Str.{bytes_eq}
+use Rattle.std.specs.{Prelude.{string_bytes, if◌then◌else◌, Option, Some, None, unwrap_or}, Str.bytes_eq}
 use Rattle.std.specs.declared.alloc.Global.{Global}
 use Rattle.mm_io.specs.Files.{raised}
 

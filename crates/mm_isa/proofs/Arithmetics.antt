@@ -1,12 +1,12 @@
 -- The range of results.
-use Rattle.std.proofs.Common.{ℕ, ◌*◌, ◌/◌, ◌%◌, ◌^◌, ◌<◌, ℤ, pos, negsuc, arith, IfOk, Bool, true, false, lit<, if◌then◌else◌, ◌==◌, nat_lt, int_lt, Ok, Err, FitsSigned}
-use Rattle.std.specs.Int.{w64, cast_unsigned, int_div_euclid}
-use Rattle.std.proofs.Math.Facts.{sfits_to_z, Fits-bits}
-use Rattle.std.proofs.Math.Nat.{div-le_self, mod-le}
+use Rattle.std.proofs.Common.{ℕ, ◌*◌, ◌/◌, ◌%◌, ◌^◌, ◌<◌, ℤ, pos, negsuc, arith, IfOk, Bool, true, false, lit<}
+use Rattle.std.proofs.Common.{if◌then◌else◌, ◌==◌, nat_lt, int_lt, Ok, Err, FitsSigned}
+use Rattle.std.proofs.Math.{Facts.{sfits_to_z, Fits-bits}, Nat.{div-le_self, mod-le}}
 use Rattle.std.proofs.lemmas.Nat.{or_lt, xor_lt, and_le_l, shr_le, mod_below}
+use Rattle.std.specs.Int.{w64, cast_unsigned, int_div_euclid}
 use Rattle.mm_isa.specs.declared.instr.AluOp.{AluOp}
-use Rattle.mm_isa.specs.declared.instr.AluOp.TheVariants.{Add, Sub, Mul, Divu, Remu, And, Or, Xor, Shl, Shr, Sar, Eq, Ltu, Lts}
-use Rattle.mm_isa.specs.Alu.{alu_result, answer, signed, div_zero}
+use Rattle.mm_isa.specs.declared.instr.AluOp.TheVariants.{Add, Sub, Mul, Divu, Remu, And, Or, Xor, Shl, Shr, Sar, Eq}
+use Rattle.mm_isa.specs.{declared.instr.AluOp.TheVariants.{Ltu, Lts}, Alu.{alu_result, answer, signed, div_zero}}
 
 divided_fits : (t : Bool) (n : ℕ) → n < 2 ^ 64 → IfOk (if t then Err div_zero else Ok n) (λ r. r < 2 ^ 64)
 divided_fits true n h = tt

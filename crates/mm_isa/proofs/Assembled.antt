@@ -1,29 +1,21 @@
 -- Operands in their range, of the kinds of a row, are those of an instruction.
-use Rattle.std.proofs.Common.{◌≡◌, ℕ, ◌+◌, ◌*◌, ◌/◌, ◌%◌, ◌<◌, ◌==◌, min, Bool, true, not, ◌&&◌, if◌then◌else◌, List, [], ◌∷◌, map, fold, Option, Some, None, arith, refl, ap, sym, ◌∙◌, subst}
-use Rattle.std.specs.List.{AllByRecursion, list_any, list_all}
-use Rattle.std.specs.Option.{option_map}
-use Rattle.std.proofs.lemmas.Bool.{and_parts}
-use Rattle.mm_word.specs.declared.word.Pre.{Pre}
-use Rattle.mm_word.specs.declared.word.Pre.TheVariants as pre
-use Rattle.mm_word.specs.declared.word.Post.{Post}
-use Rattle.mm_word.specs.declared.word.Post.TheVariants as post
+use Rattle.std.proofs.Common.{◌≡◌, ℕ, ◌+◌, ◌*◌, ◌/◌, ◌%◌, ◌<◌, ◌==◌, min, Bool, true, not, ◌&&◌, if◌then◌else◌, List}
+use Rattle.std.proofs.Common.{[], ◌∷◌, map, fold, Option, Some, None, arith, refl, ap, sym, ◌∙◌, subst}
+use Rattle.std.{proofs.lemmas.Bool.and_parts, specs.{List.{AllByRecursion, list_any, list_all}, Option.option_map}}
+use Rattle.mm_word.specs.declared.word.{Pre.Pre, Post.Post}
 use Rattle.mm_isa.specs.declared.fields.Fields.{Fields}
-use Rattle.mm_isa.specs.declared.instr.AluOp.{AluOp}
-use Rattle.mm_isa.specs.declared.instr.AluOp.TheVariants.{Add}
-use Rattle.mm_isa.specs.declared.instr.How.{How}
-use Rattle.mm_isa.specs.declared.instr.How.TheVariants.{Retry, Skip, Kill}
-use Rattle.mm_isa.specs.declared.instr.Instr.{Instr}
-use Rattle.mm_isa.specs.declared.instr.Instr.TheVariants.{Halt, Alu}
+use Rattle.mm_isa.specs.declared.instr.{AluOp.{AluOp, TheVariants.Add}, How.{How, TheVariants.{Retry, Skip, Kill}}}
+use Rattle.mm_isa.specs.declared.instr.Instr.{Instr, TheVariants.{Halt, Alu}}
 use Rattle.mm_isa.specs.declared.operand.Operand.{Operand}
-use Rattle.mm_isa.specs.declared.operand.Operand.TheVariants as operand
 use Rattle.mm_isa.specs.declared.operand.Operand.TheVariants.{Rd, EvtRd, Ra, Rb, Imm, Distance, RegisterNumber}
 use Rattle.mm_isa.specs.declared.operand.OperandKind.{OperandKind}
+use Rattle.mm_isa.specs.Table.{Operation, operation_of, kind_of, kinds_of, unused, put, pre_code, post_code, how_code}
+use Rattle.mm_isa.specs.{Table.{fields_of, packed, IsInRange, IsInstr}, Decode.{rows, row_of, instr_of, how_in}}
+use Rattle.mm_isa.proofs.{Operands.post_small, Rows.operand_in, Spelling.instr_of-spelling}
+use Rattle.mm_word.specs.declared.word.Pre.TheVariants as pre
+use Rattle.mm_word.specs.declared.word.Post.TheVariants as post
+use Rattle.mm_isa.specs.declared.operand.Operand.TheVariants as operand
 use Rattle.mm_isa.specs.declared.operand.OperandKind.TheVariants as kind
-use Rattle.mm_isa.specs.Table.{Operation, operation_of, kind_of, kinds_of, unused, put, pre_code, post_code, how_code, fields_of, packed, IsInRange, IsInstr}
-use Rattle.mm_isa.specs.Decode.{rows, row_of, instr_of, how_in}
-use Rattle.mm_isa.proofs.Operands.{post_small}
-use Rattle.mm_isa.proofs.Rows.{operand_in}
-use Rattle.mm_isa.proofs.Spelling.{instr_of-spelling}
 
 -- the parts of a word that an operand of this kind fills
 abbrev places : OperandKind → List ℕ

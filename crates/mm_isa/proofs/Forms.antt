@@ -1,23 +1,14 @@
 -- Operations are found by their names and by their numbers.
-use Rattle.std.proofs.Common.{◌≡◌, ◌≢◌, ℕ, ◌<◌, nat_lt, nat_eq, if◌then◌else◌, Bool, true, false, List, [], ◌∷◌, ◌++◌, length, map, fold, Option, Some, None, IfSome, refl, ap, sym, ◌∙◌}
-use Rattle.std.specs.Bool.{Decides}
-use Rattle.std.specs.Cmp.{unsigned_Decides}
-use Rattle.std.specs.List.{find, AllPairs}
-use Rattle.std.specs.Option.{option_map}
-use Rattle.std.specs.Str.{bytes_eq}
+use Rattle.std.proofs.Common.{◌≡◌, ◌≢◌, ℕ, ◌<◌, nat_lt, nat_eq, if◌then◌else◌, Bool, true, false, List, [], ◌∷◌, ◌++◌}
+use Rattle.std.proofs.Common.{length, map, fold, Option, Some, None, IfSome, refl, ap, sym, ◌∙◌}
 use Rattle.std.proofs.lemmas.Cmp.{nat_eq_equiv, nat_list_eq_equiv}
-use Rattle.std.proofs.lemmas.Map.Made.{AllPairs-from_IsDistinct, IsDistinct-from_count}
-use Rattle.std.proofs.lemmas.Slice.Eq.{bytes_eq-Decides}
+use Rattle.std.proofs.lemmas.{Map.Made.{AllPairs-from_IsDistinct, IsDistinct-from_count}, Slice.Eq.bytes_eq-Decides}
+use Rattle.std.specs.{Bool.Decides, Cmp.unsigned_Decides, List.{find, AllPairs}, Option.option_map, Str.bytes_eq}
 use Rattle.mm_isa.specs.declared.fields.Fields.{Fields}
-use Rattle.mm_isa.specs.declared.instr.AluOp.{AluOp}
-use Rattle.mm_isa.specs.declared.instr.AluOp.TheVariants.{Add}
-use Rattle.mm_isa.specs.declared.instr.Instr.{Instr}
-use Rattle.mm_isa.specs.declared.instr.Instr.TheVariants.{Halt, Alu}
-use Rattle.mm_isa.specs.declared.operand.Operand.{Operand}
-use Rattle.mm_isa.specs.Table.{operation_of, kind_of, unused, fields_of, IsInstr}
+use Rattle.mm_isa.specs.declared.instr.{AluOp.{AluOp, TheVariants.Add}, Instr.{Instr, TheVariants.{Halt, Alu}}}
+use Rattle.mm_isa.specs.{declared.operand.Operand.Operand, Table.{operation_of, kind_of, unused, fields_of, IsInstr}}
 use Rattle.mm_isa.specs.Decode.{Form, form_of, rows, row_of, forms, operation_named}
-use Rattle.mm_isa.proofs.Operands.{code_small}
-use Rattle.mm_isa.proofs.Rows.{row_of-fields_of}
+use Rattle.mm_isa.proofs.{Operands.code_small, Rows.row_of-fields_of}
 
 integer_named : (op : AluOp) (rd ra rb : ℕ) → operation_named (operation_of (Alu op rd ra rb)).name ≡ Some (form_of (Alu op rd ra rb))
 unfolding operation_named forms rows

@@ -1,23 +1,17 @@
 -- Operands in their range fit their places in a word.
-use Rattle.std.proofs.Common.{ℕ, ◌<◌, pos, FitsSigned, List, [], ◌∷◌, fold, arith, lit<}
-use Rattle.std.specs.Int.{w32}
-use Rattle.std.specs.List.{AllByRecursion}
-use Rattle.std.proofs.lemmas.Int.{ints}
-use Rattle.mm_word.specs.declared.word.Pre.{Pre}
-use Rattle.mm_word.specs.declared.word.Pre.TheVariants as pre
-use Rattle.mm_word.specs.declared.word.Post.{Post}
-use Rattle.mm_word.specs.declared.word.Post.TheVariants as post
+use Rattle.std.proofs.{Common.{ℕ, ◌<◌, pos, FitsSigned, List, [], ◌∷◌, fold, arith, lit<}, lemmas.Int.ints}
+use Rattle.std.specs.{Int.w32, List.AllByRecursion}
+use Rattle.mm_word.specs.declared.word.{Pre.Pre, Post.Post}
 use Rattle.mm_isa.specs.declared.fields.Fields.{Fields}
-use Rattle.mm_isa.specs.declared.instr.AluOp.{AluOp}
-use Rattle.mm_isa.specs.declared.instr.AluOp.TheVariants.{Add}
-use Rattle.mm_isa.specs.declared.instr.How.{How}
-use Rattle.mm_isa.specs.declared.instr.How.TheVariants.{Retry, Skip, Kill}
-use Rattle.mm_isa.specs.declared.instr.Instr.{Instr}
-use Rattle.mm_isa.specs.declared.instr.Instr.TheVariants.{Halt, Alu}
+use Rattle.mm_isa.specs.declared.instr.{AluOp.{AluOp, TheVariants.Add}, How.{How, TheVariants.{Retry, Skip, Kill}}}
+use Rattle.mm_isa.specs.declared.instr.Instr.{Instr, TheVariants.{Halt, Alu}}
 use Rattle.mm_isa.specs.declared.operand.Operand.{Operand}
-use Rattle.mm_isa.specs.declared.operand.Operand.TheVariants as operand
 use Rattle.mm_isa.specs.declared.operand.Operand.TheVariants.{Rd, EvtRd, Ra, Rb, Imm, Distance, RegisterNumber}
-use Rattle.mm_isa.specs.Table.{integer, operation_of, unused, put, pre_code, post_code, how_code, fields_of, FitInWord, IsInRange, IsInstr}
+use Rattle.mm_isa.specs.Table.{integer, operation_of, unused, put, pre_code, post_code, how_code, fields_of, FitInWord}
+use Rattle.mm_isa.specs.Table.{IsInRange, IsInstr}
+use Rattle.mm_word.specs.declared.word.Pre.TheVariants as pre
+use Rattle.mm_word.specs.declared.word.Post.TheVariants as post
+use Rattle.mm_isa.specs.declared.operand.Operand.TheVariants as operand
 
 fits : (f : Fields) → f.operation < 256 → f.rd < 16 → f.ra < 16 → f.rb < 16 → f.c < 16 → FitsSigned w32 f.imm → FitInWord f
 fits f operation rd ra rb c imm = record { operation = operation; rd = rd; ra = ra; rb = rb; c = c; imm = imm }

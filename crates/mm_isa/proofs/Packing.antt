@@ -1,11 +1,8 @@
 -- The fields of a word, both ways.
 use Rattle.std.proofs.Common.{◌≡◌, ℕ, ◌+◌, ◌*◌, ◌/◌, ◌%◌, ◌^◌, ◌<◌, bit_and, bit_or, ℤ, FitsSigned, arith, ap, ◌∙◌}
+use Rattle.std.proofs.lemmas.{Nat.{or_shifted, and_mask}, Int.{ints, to_z-of_z, of_z-to_z}}
 use Rattle.std.specs.Int.{w32, cast_signed, cast_unsigned}
-use Rattle.std.proofs.lemmas.Nat.{or_shifted, and_mask}
-use Rattle.std.proofs.lemmas.Int.{ints, to_z-of_z, of_z-to_z}
-use Rattle.mm_isa.specs.declared.fields.Fields.{Fields}
-use Rattle.mm_isa.specs.Table.{FitInWord, packed}
-use Rattle.mm_isa.specs.Decode.{fields_in}
+use Rattle.mm_isa.specs.{declared.fields.Fields.Fields, Table.{FitInWord, packed}, Decode.fields_in}
 
 -- six fields side by side
 abbrev side_by_side : ℕ → ℕ → ℕ → ℕ → ℕ → ℕ → ℕ

@@ -1,22 +1,18 @@
 -- Each row of the table is found by its fields, and each row that is found is an instruction.
-use Rattle.std.proofs.Common.{◌≡◌, ℕ, ◌%◌, ◌<◌, min, Bool, true, false, cond, FitsSigned, List, [], ◌∷◌, Option, Some, map, arith, refl, ap, sym, subst}
-use Rattle.std.specs.Int.{w32}
-use Rattle.std.specs.List.{find, AllByRecursion}
-use Rattle.mm_word.specs.declared.word.Pre.TheVariants as pre
-use Rattle.mm_word.specs.declared.word.Post.TheVariants as post
+use Rattle.std.proofs.Common.{◌≡◌, ℕ, ◌%◌, ◌<◌, min, Bool, true, false, cond, FitsSigned, List, [], ◌∷◌, Option, Some}
+use Rattle.std.{proofs.Common.{map, arith, refl, ap, sym, subst}, specs.{Int.w32, List.{find, AllByRecursion}}}
 use Rattle.mm_isa.specs.declared.fields.Fields.{Fields}
-use Rattle.mm_isa.specs.declared.instr.AluOp.{AluOp}
-use Rattle.mm_isa.specs.declared.instr.AluOp.TheVariants.{Add}
-use Rattle.mm_isa.specs.declared.instr.How.TheVariants.{Retry, Skip, Kill}
-use Rattle.mm_isa.specs.declared.instr.Instr.{Instr}
-use Rattle.mm_isa.specs.declared.instr.Instr.TheVariants.{Halt, Alu, Ld, St, Evt, Resume, Rreg, Wreg}
+use Rattle.mm_isa.specs.declared.instr.{AluOp.{AluOp, TheVariants.Add}, How.TheVariants.{Retry, Skip, Kill}}
+use Rattle.mm_isa.specs.declared.instr.Instr.{Instr, TheVariants.{Halt, Alu, Ld, St, Evt, Resume, Rreg, Wreg}}
 use Rattle.mm_isa.specs.declared.operand.Operand.{Operand}
-use Rattle.mm_isa.specs.declared.operand.Operand.TheVariants as operand
 use Rattle.mm_isa.specs.declared.operand.Operand.TheVariants.{Rd, EvtRd, Ra, Rb, Imm, Distance, RegisterNumber}
 use Rattle.mm_isa.specs.declared.operand.OperandKind.{OperandKind}
-use Rattle.mm_isa.specs.declared.operand.OperandKind.TheVariants as kind
 use Rattle.mm_isa.specs.Table.{operation_of, kinds_of, fields_of, IsInRange, IsInstr}
 use Rattle.mm_isa.specs.Decode.{rows, row_of, pre_in, post_in, how_in, register_in}
+use Rattle.mm_word.specs.declared.word.Pre.TheVariants as pre
+use Rattle.mm_word.specs.declared.word.Post.TheVariants as post
+use Rattle.mm_isa.specs.declared.operand.Operand.TheVariants as operand
+use Rattle.mm_isa.specs.declared.operand.OperandKind.TheVariants as kind
 
 -- each integer operation is found by its fields
 row_of-integer : (op : AluOp) (rd ra rb : ℕ) → row_of (fields_of (Alu op rd ra rb)) ≡ Some (Alu op rd ra rb)

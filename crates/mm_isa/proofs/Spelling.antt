@@ -1,15 +1,10 @@
 -- What a word spells, and what an instruction is spelled.
-use Rattle.std.proofs.Common.{◌≡◌, ◌≢◌, ◌↔◌, ℕ, ◌%◌, ◌^◌, ◌<◌, ◌==◌, Bool, true, false, Option, Some, None, arith, refl, ap, sym, ◌∙◌, eq-eqb}
-use Rattle.std.specs.Bool.{then_some}
-use Rattle.std.specs.Option.{option_and_then}
-use Rattle.std.proofs.Math.Facts.{sfits_to_z, Fits-bits}
-use Rattle.std.proofs.lemmas.Bool.Decides.{nat_tests}
-use Rattle.std.proofs.lemmas.Bool.{eqb-true}
-use Rattle.mm_isa.specs.declared.instr.Instr.{Instr}
-use Rattle.mm_isa.specs.Table.{fields_of, packed, spelling, IsInstr}
+use Rattle.std.proofs.Common.{◌≡◌, ◌≢◌, ◌↔◌, ℕ, ◌%◌, ◌^◌, ◌<◌, ◌==◌, Bool, true, false, Option, Some, None, arith, refl}
+use Rattle.std.proofs.{Common.{ap, sym, ◌∙◌, eq-eqb}, Math.Facts.{sfits_to_z, Fits-bits}}
+use Rattle.std.{proofs.lemmas.Bool.{eqb-true, Decides.nat_tests}, specs.{Bool.then_some, Option.option_and_then}}
+use Rattle.mm_isa.specs.{declared.instr.Instr.Instr, Table.{fields_of, packed, spelling, IsInstr}}
 use Rattle.mm_isa.specs.Decode.{fields_in, row_of, instr_of}
-use Rattle.mm_isa.proofs.Operands.{fields_fit}
-use Rattle.mm_isa.proofs.Packing.{cast_below, fields_in-packed}
+use Rattle.mm_isa.proofs.{Operands.fields_fit, Packing.{cast_below, fields_in-packed}}
 use Rattle.mm_isa.proofs.Rows.{ReadInRange, row_of-fields_of, IsInstr-row_of}
 
 pub spelling-fits : (i : Instr) → IsInstr i → spelling i < 2 ^ 64

@@ -1,22 +1,19 @@
 -- A word that is put together operand by operand is the instruction's.
 use Rattle.std.proofs.Common.{◌≡◌, ◌*◌, ◌^◌, ◌<◌, ◌≤◌, fold, arith}
-use Rattle.mm_word.specs.declared.word.Pre.{Pre}
-use Rattle.mm_word.specs.declared.word.Pre.TheVariants as pre
-use Rattle.mm_word.specs.declared.word.Post.{Post}
-use Rattle.mm_word.specs.declared.word.Post.TheVariants as post
+use Rattle.mm_word.specs.declared.word.{Pre.Pre, Post.Post}
 use Rattle.mm_isa.specs.declared.sum.Sum.{Sum}
 use Rattle.mm_isa.specs.declared.instr.AluOp.{AluOp}
-use Rattle.mm_isa.specs.declared.instr.AluOp.TheVariants.{Add, Sub, Mul, Divu, Remu, And, Or, Xor, Shl, Shr, Sar, Eq, Ltu, Lts}
-use Rattle.mm_isa.specs.declared.instr.How.{How}
-use Rattle.mm_isa.specs.declared.instr.How.TheVariants.{Retry, Skip, Kill}
+use Rattle.mm_isa.specs.declared.instr.AluOp.TheVariants.{Add, Sub, Mul, Divu, Remu, And, Or, Xor, Shl, Shr, Sar, Eq}
+use Rattle.mm_isa.specs.declared.instr.{AluOp.TheVariants.{Ltu, Lts}, How.{How, TheVariants.{Retry, Skip, Kill}}}
 use Rattle.mm_isa.specs.declared.instr.Instr.{Instr}
 use Rattle.mm_isa.specs.declared.instr.Instr.TheVariants.{Halt, Nop, Ldi, Ldhi, Mov, Isptr, Eqw, Out, SelfSlot, Alu}
 use Rattle.mm_isa.specs.declared.instr.Instr.TheVariants.{Addi, Lea, Leai, Leab, Restrict, Subseg, Setptr, Ld, St, Br}
 use Rattle.mm_isa.specs.declared.instr.Instr.TheVariants.{Bz, Bnz, Jmp, Jal, Lip, Trap, Evt, Resume, Rreg, Wreg, Map}
 use Rattle.mm_isa.specs.declared.instr.Instr.TheVariants.{Unmap}
 use Rattle.mm_isa.specs.Table.{operation_of, number_of, pre_code, post_code, how_code, packed, spelling, IsInstr}
-use Rattle.mm_isa.specs.Sum.{added}
-use Rattle.mm_isa.proofs.Packing.{cast_below}
+use Rattle.mm_isa.{specs.Sum.added, proofs.Packing.cast_below}
+use Rattle.mm_word.specs.declared.word.Pre.TheVariants as pre
+use Rattle.mm_word.specs.declared.word.Post.TheVariants as post
 
 number_fits : (op : AluOp) → number_of op < 256
 number_fits Add = omega arith

@@ -1,25 +1,18 @@
 -- The instruction that a word spells.
 use Rattle.std.specs.Prelude.{ℕ, ◌/◌, ◌%◌, ◌^◌, min, ◌==◌, if◌then◌else◌, ℤ, option_and_then, Option, List, [], ◌∷◌}
-use Rattle.std.specs.Prelude.{map, find}
-use Rattle.std.specs.Str.{bytes_eq}
-use Rattle.std.specs.Bool.{then_some}
-use Rattle.std.specs.Int.{w32, cast_signed, cast_unsigned}
-use Rattle.mm_word.specs.declared.word.Pre.{Pre}
-use Rattle.mm_word.specs.declared.word.Pre.TheVariants as pre
-use Rattle.mm_word.specs.declared.word.Post.{Post}
-use Rattle.mm_word.specs.declared.word.Post.TheVariants as post
+use Rattle.std.specs.{Prelude.{map, find}, Str.bytes_eq, Bool.then_some, Int.{w32, cast_signed, cast_unsigned}}
+use Rattle.mm_word.specs.declared.word.{Pre.Pre, Post.Post}
 use Rattle.mm_isa.specs.declared.fields.Fields.{Fields}
 use Rattle.mm_isa.specs.declared.instr.AluOp.TheVariants.{Add, Sub, Mul, Divu, Remu, And, Or, Xor, Shl, Shr, Sar, Eq}
-use Rattle.mm_isa.specs.declared.instr.AluOp.TheVariants.{Ltu, Lts}
-use Rattle.mm_isa.specs.declared.instr.How.{How}
-use Rattle.mm_isa.specs.declared.instr.How.TheVariants.{Retry, Skip, Kill}
+use Rattle.mm_isa.specs.declared.instr.{AluOp.TheVariants.{Ltu, Lts}, How.{How, TheVariants.{Retry, Skip, Kill}}}
 use Rattle.mm_isa.specs.declared.instr.Instr.{Instr}
 use Rattle.mm_isa.specs.declared.instr.Instr.TheVariants.{Halt, Nop, Ldi, Ldhi, Mov, Isptr, Eqw, Out, SelfSlot, Alu}
 use Rattle.mm_isa.specs.declared.instr.Instr.TheVariants.{Addi, Lea, Leai, Leab, Restrict, Subseg, Setptr, Ld, St, Br}
 use Rattle.mm_isa.specs.declared.instr.Instr.TheVariants.{Bz, Bnz, Jmp, Jal, Lip, Trap, Evt, Resume, Rreg, Wreg, Map}
-use Rattle.mm_isa.specs.declared.instr.Instr.TheVariants.{Unmap}
-use Rattle.mm_isa.specs.declared.operand.OperandKind.{OperandKind}
+use Rattle.mm_isa.specs.declared.{instr.Instr.TheVariants.Unmap, operand.OperandKind.OperandKind}
 use Rattle.mm_isa.specs.Table.{operation_of, kinds_of, unused, spelling}
+use Rattle.mm_word.specs.declared.word.Pre.TheVariants as pre
+use Rattle.mm_word.specs.declared.word.Post.TheVariants as post
 
 -- the fields of a word
 unfoldable pub fields_in : ℕ → Fields

@@ -1,11 +1,10 @@
 -- A word that is put together operand by operand.
-use Rattle.std.specs.Prelude.{ℕ, ◌+◌, ◌*◌, ◌%◌, ◌^◌}
-use Rattle.std.specs.Int.{w32, cast_unsigned}
+use Rattle.std.specs.{Prelude.{ℕ, ◌+◌, ◌*◌, ◌%◌, ◌^◌}, Int.{w32, cast_unsigned}}
 use Rattle.mm_isa.specs.declared.sum.Sum.{Sum}
 use Rattle.mm_isa.specs.declared.operand.Operand.{Operand}
-use Rattle.mm_isa.specs.declared.operand.Operand.TheVariants as operand
 use Rattle.mm_isa.specs.declared.operand.Operand.TheVariants.{Rd, EvtRd, Ra, Rb, Imm, Distance, RegisterNumber}
 use Rattle.mm_isa.specs.Table.{pre_code, post_code, how_code}
+use Rattle.mm_isa.specs.declared.operand.Operand.TheVariants as operand
 
 -- an operand at its place in a word, with zero elsewhere
 abbrev pub placed : Operand → ℕ

@@ -1,28 +1,24 @@
 -- The table of operations: each with its name, its number and its operands. The fields of an instruction word follow
 -- from it.
 use Rattle.std.specs.Prelude.{ℕ, ◌+◌, ◌*◌, ◌/◌, ◌%◌, ◌^◌, ◌<◌, ◌≤◌, pos, FitsSigned, List, [], ◌∷◌, map, fold, codes}
-use Rattle.std.specs.List.{AllByRecursion}
-use Rattle.std.specs.Int.{w32, cast_unsigned}
+use Rattle.std.specs.{List.AllByRecursion, Int.{w32, cast_unsigned}}
 use Prim.Native.String.{String}
-use Rattle.mm_word.specs.declared.word.Pre.{Pre}
-use Rattle.mm_word.specs.declared.word.Pre.TheVariants as pre
-use Rattle.mm_word.specs.declared.word.Post.{Post}
-use Rattle.mm_word.specs.declared.word.Post.TheVariants as post
+use Rattle.mm_word.specs.declared.word.{Pre.Pre, Post.Post}
 use Rattle.mm_isa.specs.declared.fields.Fields.{Fields}
 use Rattle.mm_isa.specs.declared.instr.AluOp.{AluOp}
 use Rattle.mm_isa.specs.declared.instr.AluOp.TheVariants.{Add, Sub, Mul, Divu, Remu, And, Or, Xor, Shl, Shr, Sar, Eq}
-use Rattle.mm_isa.specs.declared.instr.AluOp.TheVariants.{Ltu, Lts}
-use Rattle.mm_isa.specs.declared.instr.How.{How}
-use Rattle.mm_isa.specs.declared.instr.How.TheVariants.{Retry, Skip, Kill}
+use Rattle.mm_isa.specs.declared.instr.{AluOp.TheVariants.{Ltu, Lts}, How.{How, TheVariants.{Retry, Skip, Kill}}}
 use Rattle.mm_isa.specs.declared.instr.Instr.{Instr}
 use Rattle.mm_isa.specs.declared.instr.Instr.TheVariants.{Halt, Nop, Ldi, Ldhi, Mov, Isptr, Eqw, Out, SelfSlot, Alu}
 use Rattle.mm_isa.specs.declared.instr.Instr.TheVariants.{Addi, Lea, Leai, Leab, Restrict, Subseg, Setptr, Ld, St, Br}
 use Rattle.mm_isa.specs.declared.instr.Instr.TheVariants.{Bz, Bnz, Jmp, Jal, Lip, Trap, Evt, Resume, Rreg, Wreg, Map}
 use Rattle.mm_isa.specs.declared.instr.Instr.TheVariants.{Unmap}
 use Rattle.mm_isa.specs.declared.operand.Operand.{Operand}
-use Rattle.mm_isa.specs.declared.operand.Operand.TheVariants as operand
 use Rattle.mm_isa.specs.declared.operand.Operand.TheVariants.{Rd, EvtRd, Ra, Rb, Imm, Distance, RegisterNumber}
 use Rattle.mm_isa.specs.declared.operand.OperandKind.{OperandKind}
+use Rattle.mm_word.specs.declared.word.Pre.TheVariants as pre
+use Rattle.mm_word.specs.declared.word.Post.TheVariants as post
+use Rattle.mm_isa.specs.declared.operand.Operand.TheVariants as operand
 use Rattle.mm_isa.specs.declared.operand.OperandKind.TheVariants as kind
 
 -- an operation with the operands of one instruction, in the order in which text has them

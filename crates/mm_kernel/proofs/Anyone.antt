@@ -1,46 +1,31 @@
 -- A free slot stands for the thread of which nothing is known but where it is: what it can come to leaves all as it is.
 use Rattle.std.proofs.Common.{◌≡◌, ℕ, ◌+◌, ◌<◌, inl, Bool, true, false, if◌then◌else◌, ℤ, pos, ◌+ℤ◌, ◌*ℤ◌, List, []}
 use Rattle.std.proofs.Common.{◌∷◌, replicate, slice_set, Option, Some, None, Result, Ok, Err, refl, sym, ap, ◌∙◌, subst}
-use Rattle.std.proofs.Common.{arith}
-use Rattle.std.specs.List.{AllByRecursion}
-use Rattle.std.specs.Int.{w64, cast_unsigned, cast_signed}
-use Rattle.mm_word.specs.declared.perm.Perm.TheVariants.{Ro, Rw, Xu, Eu, Key}
-use Rattle.mm_word.specs.declared.perm.Kind.{Kind}
-use Rattle.mm_word.specs.declared.cause.Cause.{Cause}
-use Rattle.mm_word.specs.declared.cause.Cause.TheVariants as cause
-use Rattle.mm_word.specs.declared.word.Pre.{Pre}
-use Rattle.mm_word.specs.Perm.{can_fetch}
+use Rattle.std.{proofs.Common.arith, specs.{List.AllByRecursion, Int.{w64, cast_unsigned, cast_signed}}}
+use Rattle.mm_word.specs.declared.{perm.{Perm.TheVariants.{Ro, Rw, Xu, Eu, Key}, Kind.Kind}, cause.Cause.Cause}
+use Rattle.mm_word.specs.{declared.word.Pre.Pre, Perm.can_fetch}
 use Rattle.mm_word.specs.Pointer.{Pointer, IsBelow, moved_to, lea_result, leab_result, subseg_result, next_result}
 use Rattle.mm_word.proofs.Results.{lea_result-IsBelow, next_result-IsBelow}
 use Rattle.mm_isa.specs.declared.instr.Instr.{Instr}
 use Rattle.mm_isa.specs.declared.instr.Instr.TheVariants.{Halt, Nop, Ldi, Ldhi, Mov, Isptr, Eqw, Out, SelfSlot, Alu}
 use Rattle.mm_isa.specs.declared.instr.Instr.TheVariants.{Addi, Lea, Leai, Leab, Restrict, Subseg, Setptr, Ld, St, Br}
 use Rattle.mm_isa.specs.declared.instr.Instr.TheVariants.{Bz, Bnz, Jmp, Jal, Lip, Trap, Evt, Resume, Rreg, Wreg, Map}
-use Rattle.mm_isa.specs.declared.instr.Instr.TheVariants.{Unmap}
-use Rattle.mm_isa.specs.declared.instr.AluOp.TheVariants.{Add}
-use Rattle.mm_isa.specs.Table.{IsInstr}
-use Rattle.mm_isa.specs.Alu.{divides}
-use Rattle.mm_model.specs.Effect.{advanced, moved_on}
-use Rattle.mm_model.specs.Image.{Image}
-use Rattle.mm_model.specs.Ask.{load_kind}
-use Rattle.mm_model.proofs.CoreRows.{each_get, each_set}
-use Rattle.mm_model.proofs.EffectWords.{executable_moves, each_or}
+use Rattle.mm_isa.specs.{declared.instr.{Instr.TheVariants.Unmap, AluOp.TheVariants.Add}, Table.IsInstr, Alu.divides}
+use Rattle.mm_model.specs.{Effect.{advanced, moved_on}, Image.Image, Ask.load_kind}
+use Rattle.mm_model.proofs.{CoreRows.{each_get, each_set}, EffectWords.{executable_moves, each_or}}
 use Rattle.mm_model.proofs.EffectSteps.{moved_perm}
 use Rattle.mm_kernel.specs.Segments.{Segment, meets, runs_privileged}
-use Rattle.mm_kernel.specs.declared.form.Form.{Form}
-use Rattle.mm_kernel.specs.declared.form.Form.TheVariants.{Number, Pointer as Exactly, Integer, Open, Any}
-use Rattle.mm_kernel.specs.declared.outcome.Outcome.{Outcome}
-use Rattle.mm_kernel.specs.declared.outcome.Outcome.TheVariants as outcome
-use Rattle.mm_kernel.specs.declared.thread.Origin.TheVariants.{Door}
-use Rattle.mm_kernel.specs.declared.thread.Thread.{Thread}
-use Rattle.mm_kernel.specs.Forms.{zero_form, exact_bits}
-use Rattle.mm_kernel.specs.Threads.{form_in, with_form, stepped, going_to}
+use Rattle.mm_kernel.specs.declared.form.{Form.{Form, TheVariants.{Number, Pointer as Exactly, Integer, Open, Any}}}
+use Rattle.mm_kernel.specs.declared.{outcome.Outcome.Outcome, thread.{Origin.TheVariants.Door, Thread.Thread}}
+use Rattle.mm_kernel.specs.{Forms.{zero_form, exact_bits}, Threads.{form_in, with_form, stepped, going_to}}
 use Rattle.mm_kernel.specs.Operations.{alu_form, high_form, equal_form}
 use Rattle.mm_kernel.specs.Turns.{outcomes_of, fault, sets, moves, moved, restricts, loads, stores, branches, branched}
 use Rattle.mm_kernel.specs.Turns.{branches_if, jumps, links, at_distance, tests_tag, computes, with_event, seen_as}
 use Rattle.mm_kernel.proofs.Segs.{below_within, outside_within}
 use Rattle.mm_kernel.proofs.Values.{Public, public_any, public_number, public_integer, public_open, public_outside}
 use Rattle.mm_kernel.proofs.Ups.{Free, free_up, Follows}
+use Rattle.mm_word.specs.declared.cause.Cause.TheVariants as cause
+use Rattle.mm_kernel.specs.declared.outcome.Outcome.TheVariants as outcome
 
 -- 1. Pointers from the running code.
 

@@ -1,32 +1,20 @@
 -- What holds of the rows of a core and of the cells of a memory, and how changes keep it.
 use Rattle.std.proofs.Common.{◌≡◌, ℕ, ◌%◌, ◌⊎◌, inl, inr, Bool, true, false, if◌then◌else◌, nat_eq, eqb-true, List, []}
 use Rattle.std.proofs.Common.{◌∷◌, ◌++◌, map, Option, Some, None, refl, sym, ap, ◌∙◌, subst}
-use Rattle.std.specs.List.{AllByRecursion}
-use Rattle.std.proofs.lemmas.Bool.{cases_eq}
-use Rattle.mm_word.specs.declared.word.Word.{Word}
-use Rattle.mm_word.specs.declared.word.Word.TheVariants.{Ptr}
-use Rattle.mm_word.specs.declared.word.Cell.{Cell}
-use Rattle.mm_model.specs.declared.event.Event.{Event}
-use Rattle.mm_model.specs.declared.slot.SlotState.TheVariants.{Running, Waiting, Halted}
-use Rattle.mm_model.specs.Memory.{Memory, cell_at, put_cell}
-use Rattle.mm_model.specs.Slot.{Slot}
+use Rattle.std.{proofs.lemmas.Bool.cases_eq, specs.List.AllByRecursion}
+use Rattle.mm_word.specs.declared.word.{Word.{Word, TheVariants.Ptr}, Cell.Cell}
+use Rattle.mm_model.specs.declared.{event.Event.Event, slot.SlotState.TheVariants.{Running, Waiting, Halted}}
+use Rattle.mm_model.specs.{Memory.{Memory, cell_at, put_cell}, Slot.Slot}
 use Rattle.mm_model.specs.State.{ThreadRow, Core, slot_at, queue_at, row_in, queue_of, at_number, put_slot, put_queue}
-use Rattle.mm_model.specs.State.{put_output}
-use Rattle.mm_model.specs.Image.{Image}
-use Rattle.mm_model.specs.Effect.{Change, Pages}
-use Rattle.mm_model.specs.Effect.Pages.{Keep}
+use Rattle.mm_model.specs.{State.put_output, Image.Image, Effect.{Change, Pages, Pages.Keep}}
 use Rattle.mm_model.specs.Turn.{slot_after, with_other, with_queue, with_out, with_cell, with_pages, core_after}
 use Rattle.mm_model.specs.Turn.{memory_after, stood, is_sync, core_faulted}
 use Rattle.mm_model.proofs.CoreRows.{each_map, each_push, slot_has, into_map}
 use Rattle.mm_model.proofs.Memories.{put_cases, cell_at-put_same, cell_at-put_other, aligned}
 use Rattle.mm_kernel.specs.Segments.{Segment, is_kept, is_fixed}
-use Rattle.mm_kernel.specs.declared.fact.Handling.{Handling}
-use Rattle.mm_kernel.specs.declared.form.Form.{Form}
-use Rattle.mm_kernel.specs.declared.form.Form.TheVariants.{Any}
-use Rattle.mm_kernel.specs.Facts.Fact.{HasForm, HasEvent}
-use Rattle.mm_kernel.specs.Derived.{Derived}
-use Rattle.mm_kernel.proofs.Values.{Fits}
-use Rattle.mm_kernel.proofs.Slots.{guards, SlotOk}
+use Rattle.mm_kernel.specs.declared.{fact.Handling.Handling, form.Form.{Form, TheVariants.Any}}
+use Rattle.mm_kernel.specs.{Facts.Fact.{HasForm, HasEvent}, Derived.Derived}
+use Rattle.mm_kernel.proofs.{Values.Fits, Slots.{guards, SlotOk}}
 
 module _ (i : Image) (kept : List Segment) where
   -- 1. Events.

@@ -1,57 +1,40 @@
 -- What each instruction does is as it must be, where its outcomes have what follows from them.
 use Rattle.std.proofs.Common.{◌≡◌, ℕ, ◌+◌, ◌%◌, ◌^◌, ◌<◌, Bool, true, false, ◌||◌, nat_lt, if◌then◌else◌, List, [], ◌∷◌}
-use Rattle.std.proofs.Common.{length, Option, Some, None, refl, arith}
-use Rattle.std.specs.Prelude.{IfSome}
-use Rattle.std.specs.Int.{w64, cast_unsigned, cast_signed}
-use Rattle.std.specs.List.{AllByRecursion, flat_map, list_any}
-use Rattle.std.proofs.lemmas.Bool.{or_parts}
-use Rattle.mm_word.specs.declared.perm.Perm.{Perm}
-use Rattle.mm_word.specs.declared.perm.Perm.TheVariants.{Ro, Rw, Xu, Xp, Eu, Ep, Key}
-use Rattle.mm_word.specs.declared.cause.Cause.TheVariants as cause
+use Rattle.std.proofs.{Common.{length, Option, Some, None, refl, arith}, lemmas.Bool.or_parts}
+use Rattle.std.specs.{Prelude.IfSome, Int.{w64, cast_unsigned, cast_signed}, List.{AllByRecursion, flat_map, list_any}}
+use Rattle.mm_word.specs.declared.perm.Perm.{Perm, TheVariants.{Ro, Rw, Xu, Xp, Eu, Ep, Key}}
 use Rattle.mm_word.specs.declared.word.Word.TheVariants.{Int}
-use Rattle.mm_word.specs.Pointer.{lea_result, leab_result, subseg_result, setptr_result}
-use Rattle.mm_word.specs.Word.{word_bits}
+use Rattle.mm_word.specs.{Pointer.{lea_result, leab_result, subseg_result, setptr_result}, Word.word_bits}
 use Rattle.mm_isa.specs.declared.instr.AluOp.TheVariants.{Add}
 use Rattle.mm_isa.specs.declared.instr.Instr.{Instr}
 use Rattle.mm_isa.specs.declared.instr.Instr.TheVariants.{Halt, Nop, Ldi, Ldhi, Mov, Isptr, Eqw, Out, SelfSlot, Alu}
 use Rattle.mm_isa.specs.declared.instr.Instr.TheVariants.{Addi, Lea, Leai, Leab, Restrict, Subseg, Setptr, Ld, St, Br}
 use Rattle.mm_isa.specs.declared.instr.Instr.TheVariants.{Bz, Bnz, Jmp, Jal, Lip, Trap, Evt, Resume, Rreg, Wreg, Map}
 use Rattle.mm_isa.specs.declared.instr.Instr.TheVariants.{Unmap}
-use Rattle.mm_isa.specs.declared.operand.Operand.{Operand}
-use Rattle.mm_isa.specs.declared.operand.Operand.TheVariants.{Rd, EvtRd, Ra, Rb}
+use Rattle.mm_isa.specs.declared.operand.Operand.{Operand, TheVariants.{Rd, EvtRd, Ra, Rb}}
 use Rattle.mm_isa.specs.Table.{operation_of, IsInRange, IsInstr}
-use Rattle.mm_model.specs.Memory.{Memory}
-use Rattle.mm_model.specs.Slot.{Slot, register, is_empty}
-use Rattle.mm_model.specs.State.{Core, output_of}
+use Rattle.mm_model.specs.{Memory.Memory, Slot.{Slot, register, is_empty}, State.{Core, output_of}}
 use Rattle.mm_model.specs.Image.{Image, output_limit}
 use Rattle.mm_model.specs.Operands.{first, ra_in, rb_in, rd_in, field_a, field_b, fields_d, field_empty, lacks}
-use Rattle.mm_model.specs.Ask.{ask, is_privileged}
-use Rattle.mm_model.specs.Ask.Ask.{Refuse, MapPage, UnmapPage}
+use Rattle.mm_model.specs.Ask.{ask, is_privileged, Ask.{Refuse, MapPage, UnmapPage}}
 use Rattle.mm_model.specs.Effect.{Effect, effect, plain, puts_out, high_and_low, maps, unmaps, sets_pointer}
-use Rattle.mm_model.specs.Effect.Reply.{Fine, Refused}
-use Rattle.mm_model.specs.Effect.Effect.{Fault}
-use Rattle.mm_model.specs.Turn.{slot_after, reply}
+use Rattle.mm_model.specs.{Effect.{Reply.{Fine, Refused}, Effect.Fault}, Turn.{slot_after, reply}}
 use Rattle.mm_model.proofs.CoreRows.{each_both, each_map}
 use Rattle.mm_kernel.specs.Segments.{Segment, runs_privileged}
-use Rattle.mm_kernel.specs.declared.form.Form.TheVariants.{Number, Integer}
-use Rattle.mm_kernel.specs.declared.outcome.Outcome.{Outcome}
-use Rattle.mm_kernel.specs.declared.outcome.Outcome.TheVariants as outcome
-use Rattle.mm_kernel.specs.declared.thread.Thread.{Thread}
-use Rattle.mm_kernel.specs.declared.fact.Leak.TheVariants as leak
-use Rattle.mm_kernel.specs.Forms.{exact_bits}
-use Rattle.mm_kernel.specs.Threads.{form_in, stepped}
-use Rattle.mm_kernel.specs.Operations.{alu_form, equal_form, high_form}
-use Rattle.mm_kernel.specs.Turns as kernel
-use Rattle.mm_kernel.specs.Derived.{Keeps}
-use Rattle.mm_kernel.proofs.Values.{fits_number, fits_integer}
-use Rattle.mm_kernel.proofs.Ups.{Follows}
+use Rattle.mm_kernel.specs.declared.{form.Form.TheVariants.{Number, Integer}, outcome.Outcome.Outcome}
+use Rattle.mm_kernel.specs.{declared.thread.Thread.Thread, Forms.exact_bits, Threads.{form_in, stepped}}
+use Rattle.mm_kernel.specs.{Operations.{alu_form, equal_form, high_form}, Derived.Keeps}
+use Rattle.mm_kernel.proofs.{Values.{fits_number, fits_integer}, Ups.Follows}
 use Rattle.mm_kernel.proofs.Results.{exact_bits_is, high_fits, equal_fits, alu_fits, lea_moved, leab_moved}
 use Rattle.mm_kernel.proofs.Results.{subseg_moved}
 use Rattle.mm_kernel.proofs.Rows.{Machine, Acts, Ready, EffectOk, reg, word, steps_on, plain_ok, sets_ok, halts_ok}
-use Rattle.mm_kernel.proofs.Rows.{tests_ok, computes_ok, moves_ok}
-use Rattle.mm_kernel.proofs.Places.{restrict_ok, load_ok, store_ok}
+use Rattle.mm_kernel.proofs.{Rows.{tests_ok, computes_ok, moves_ok}, Places.{restrict_ok, load_ok, store_ok}}
 use Rattle.mm_kernel.proofs.Jumps.{branch_ok, branch_if_zero, branch_if_not, lip_ok, jmp_ok, jal_ok}
 use Rattle.mm_kernel.proofs.Serves.{event_ok, resume_ok, read_ok, write_ok}
+use Rattle.mm_word.specs.declared.cause.Cause.TheVariants as cause
+use Rattle.mm_kernel.specs.declared.outcome.Outcome.TheVariants as outcome
+use Rattle.mm_kernel.specs.declared.fact.Leak.TheVariants as leak
+use Rattle.mm_kernel.specs.Turns as kernel
 
 -- 1. The registers that an instruction names.
 

@@ -1,54 +1,33 @@
 -- The rows that branch and jump.
 use Rattle.std.proofs.Common.{◌≡◌, ℕ, ◌+◌, ◌<◌, ◌≤◌, ◌⊎◌, inl, inr, Bool, true, false, ◌==◌, if◌then◌else◌, ℤ, pos}
 use Rattle.std.proofs.Common.{◌+ℤ◌, ◌*ℤ◌, List, [], ◌∷◌, slice_set, slice_index_or, is_some, Option, Some, None, Result}
-use Rattle.std.proofs.Common.{Ok, Err, refl, sym, ap, ◌∙◌, subst, arith}
-use Rattle.std.specs.Prelude.{option_map}
-use Rattle.std.specs.List.{AllByRecursion}
-use Rattle.std.proofs.lemmas.Bool.{cases_lt}
-use Rattle.std.proofs.lemmas.List.{get_or_past}
-use Rattle.mm_word.specs.declared.perm.Perm.{Perm}
-use Rattle.mm_word.specs.declared.perm.Perm.TheVariants.{Xu}
-use Rattle.mm_word.specs.declared.cause.Cause.{Cause}
-use Rattle.mm_word.specs.declared.cause.Cause.TheVariants as cause
-use Rattle.mm_word.specs.declared.word.Word.{Word}
-use Rattle.mm_word.specs.declared.word.Word.TheVariants.{Int, Ptr}
-use Rattle.mm_word.specs.Perm.{can_fetch, execute_form}
-use Rattle.mm_word.specs.Pointer.{Pointer, enter_result, moved_to, next_result, IsBelow}
-use Rattle.mm_word.specs.Word.{word_bits}
+use Rattle.std.proofs.{Common.{Ok, Err, refl, sym, ap, ◌∙◌, subst, arith}, lemmas.{Bool.cases_lt, List.get_or_past}}
+use Rattle.std.specs.{Prelude.option_map, List.AllByRecursion}
+use Rattle.mm_word.specs.declared.{perm.Perm.{Perm, TheVariants.Xu}, cause.Cause.Cause}
+use Rattle.mm_word.specs.{declared.word.Word.{Word, TheVariants.{Int, Ptr}}, Perm.{can_fetch, execute_form}}
+use Rattle.mm_word.specs.{Pointer.{Pointer, enter_result, moved_to, next_result, IsBelow}, Word.word_bits}
 use Rattle.mm_word.proofs.Results.{next_result-IsBelow}
 use Rattle.mm_isa.specs.declared.instr.Instr.{Instr}
-use Rattle.mm_model.specs.declared.slot.SlotState.TheVariants.{Running}
-use Rattle.mm_model.specs.Memory.{Memory}
-use Rattle.mm_model.specs.Slot.{Slot}
-use Rattle.mm_model.specs.State.{Core}
-use Rattle.mm_model.specs.Image.{Image}
-use Rattle.mm_model.specs.Fits.{identity_of}
+use Rattle.mm_model.specs.{declared.slot.SlotState.TheVariants.Running, Memory.Memory, Slot.Slot, State.Core}
+use Rattle.mm_model.specs.{Image.Image, Fits.identity_of}
 use Rattle.mm_model.specs.Effect.{Effect, plain, sets_pointer, if_pointer, branches, at_distance, jumps, links}
-use Rattle.mm_model.specs.Effect.Effect.{Fault, Do}
-use Rattle.mm_model.specs.Turn.{slot_after}
+use Rattle.mm_model.specs.{Effect.Effect.{Fault, Do}, Turn.slot_after}
 use Rattle.mm_kernel.specs.Segments.{Segment, is_door}
 use Rattle.mm_kernel.specs.declared.fact.Leak.TheVariants.{Enter}
 use Rattle.mm_kernel.specs.declared.form.Form.{Form}
 use Rattle.mm_kernel.specs.declared.form.Form.TheVariants.{Number, Pointer as Exactly, Integer, Open, Any, Inside}
-use Rattle.mm_kernel.specs.declared.outcome.Outcome.{Outcome}
-use Rattle.mm_kernel.specs.declared.outcome.Outcome.TheVariants as outcome
-use Rattle.mm_kernel.specs.declared.thread.Thread.{Thread}
-use Rattle.mm_kernel.specs.Forms.{exact_bits, zero_form}
+use Rattle.mm_kernel.specs.{declared.{outcome.Outcome.Outcome, thread.Thread.Thread}, Forms.{exact_bits, zero_form}}
 use Rattle.mm_kernel.specs.Threads.{form_in, with_form, stepped, going_to, handler_of, thread_through}
-use Rattle.mm_kernel.specs.Facts.{take_up}
-use Rattle.mm_kernel.specs.Facts.Fact.{HasDoor}
-use Rattle.mm_kernel.specs.Turns as kernel
-use Rattle.mm_kernel.specs.Derived.{Derived, Keeps}
-use Rattle.mm_kernel.specs.Derived.Derived.{enters}
-use Rattle.mm_kernel.specs.Variants.{IsShared}
+use Rattle.mm_kernel.specs.{Facts.{take_up, Fact.HasDoor}, Derived.{Derived, Keeps, Derived.enters}, Variants.IsShared}
 use Rattle.mm_kernel.proofs.Values.{Clean, clean_below, Holds, Fits, Public, public_number}
-use Rattle.mm_kernel.proofs.Ups.{Up, free_up, Follows, each_from}
-use Rattle.mm_kernel.proofs.Anyone.{anyone, anyone_free, distance_below}
+use Rattle.mm_kernel.proofs.{Ups.{Up, free_up, Follows, each_from}, Anyone.{anyone, anyone_free, distance_below}}
 use Rattle.mm_kernel.proofs.Slots.{guards, Match, match_write, match_at, match_anyone, origin_guards, Came, came_like}
-use Rattle.mm_kernel.proofs.Slots.{RunningOk}
-use Rattle.mm_kernel.proofs.Results.{exact_bits_is}
+use Rattle.mm_kernel.proofs.{Slots.RunningOk, Results.exact_bits_is}
 use Rattle.mm_kernel.proofs.Rows.{Machine, Acts, Ready, EffectOk, sound, runs_on, plain_ok, sets_ok}
 use Rattle.mm_kernel.proofs.Places.{Entered, entered, clean_entered, entered_perm, entered_outside}
+use Rattle.mm_word.specs.declared.cause.Cause.TheVariants as cause
+use Rattle.mm_kernel.specs.declared.outcome.Outcome.TheVariants as outcome
+use Rattle.mm_kernel.specs.Turns as kernel
 
 -- one of two statements, by a test
 abbrev pub Chosen : Type 0 → Type 0 → Bool → Type 0

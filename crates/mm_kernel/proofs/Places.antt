@@ -2,60 +2,42 @@
 use Rattle.std.proofs.Common.{◌≡◌, ℕ, ◌+◌, ◌/◌, ◌^◌, ◌⊎◌, inl, inr, Bool, true, false, ◌&&◌, ◌==◌, if◌then◌else◌}
 use Rattle.std.proofs.Common.{eqb-true, eq-eqb, ℤ, List, [], ◌∷◌, map, slice_set, Option, Some, None, Result, Ok, Err}
 use Rattle.std.proofs.Common.{refl, sym, ap, ◌∙◌, subst, arith, add-zero}
-use Rattle.std.specs.Prelude.{Contains, option_map}
-use Rattle.std.specs.List.{AllByRecursion}
 use Rattle.std.proofs.lemmas.Bool.{and_parts, and_from, false_from_ne_true}
-use Rattle.mm_word.specs.declared.perm.Perm.{Perm}
-use Rattle.mm_word.specs.declared.perm.Perm.TheVariants.{Ro, Rw, Xu, Xp, Eu, Ep, Key}
-use Rattle.mm_word.specs.declared.perm.Kind.{Kind}
-use Rattle.mm_word.specs.declared.perm.Kind.TheVariants.{Store}
-use Rattle.mm_word.specs.declared.cause.Cause.{Cause}
-use Rattle.mm_word.specs.declared.cause.Cause.TheVariants as cause
-use Rattle.mm_word.specs.declared.word.Pre.{Pre}
-use Rattle.mm_word.specs.declared.word.Pre.TheVariants as pres
-use Rattle.mm_word.specs.declared.word.Post.{Post}
-use Rattle.mm_word.specs.declared.word.Post.TheVariants as posts
-use Rattle.mm_word.specs.declared.word.Word.{Word}
-use Rattle.mm_word.specs.declared.word.Word.TheVariants.{Int, Ptr}
-use Rattle.mm_word.specs.declared.word.Cell.{Cell}
+use Rattle.std.specs.{Prelude.{Contains, option_map}, List.AllByRecursion}
+use Rattle.mm_word.specs.declared.perm.Perm.{Perm, TheVariants.{Ro, Rw, Xu, Xp, Eu, Ep, Key}}
+use Rattle.mm_word.specs.declared.{perm.Kind.{Kind, TheVariants.Store}, cause.Cause.Cause}
+use Rattle.mm_word.specs.declared.word.{Pre.Pre, Post.Post, Word.{Word, TheVariants.{Int, Ptr}}, Cell.Cell}
 use Rattle.mm_word.specs.Access.{AccessValue, IsGranted, check_result}
 use Rattle.mm_word.specs.Perm.{can_load, can_store, can_become, allows, code_of, execute_form}
 use Rattle.mm_word.specs.Pointer.{Pointer, InSegment, Covers, holds_word, enter_result, restrict_result}
 use Rattle.mm_word.specs.Word.{IsWord, IsPointerAnd, word_bits, is_pointer}
-use Rattle.mm_word.proofs.Checked.{pointer_by, kind_by, Covers-holds_word}
-use Rattle.mm_word.proofs.Results.{check_result-IsGranted}
+use Rattle.mm_word.proofs.{Checked.{pointer_by, kind_by, Covers-holds_word}, Results.check_result-IsGranted}
 use Rattle.mm_isa.specs.declared.instr.Instr.{Instr}
-use Rattle.mm_model.specs.Memory.{Memory, cell_at, passes}
-use Rattle.mm_model.specs.Slot.{Slot, is_empty}
-use Rattle.mm_model.specs.State.{Core}
-use Rattle.mm_model.specs.Image.{Image}
+use Rattle.mm_model.specs.{Memory.{Memory, cell_at, passes}, Slot.{Slot, is_empty}, State.Core, Image.Image}
 use Rattle.mm_model.specs.Ask.{load_kind, reaching}
-use Rattle.mm_model.specs.Effect.{Effect, plain, sets_pointer, if_pointer, set_by, loaded, stored}
-use Rattle.mm_model.specs.Effect.Reply.{Refused, Got}
-use Rattle.mm_model.specs.Turn.{slot_after, reply, reached, with_issue}
-use Rattle.mm_model.proofs.CoreRows.{each_contained, out_of_map}
+use Rattle.mm_model.specs.Effect.{Effect, plain, sets_pointer, if_pointer, set_by, loaded, stored, Reply.{Refused, Got}}
+use Rattle.mm_model.{specs.Turn.{slot_after, reply, reached, with_issue}, proofs.CoreRows.{each_contained, out_of_map}}
 use Rattle.mm_kernel.specs.Segments.{Segment, lies_in, meets, is_kept, is_fixed, may_write, runs_privileged, is_open}
 use Rattle.mm_kernel.specs.Segments.{is_enter, is_door}
 use Rattle.mm_kernel.specs.declared.form.Form.{Form}
 use Rattle.mm_kernel.specs.declared.form.Form.TheVariants.{Number, Pointer as Exactly, Integer, Open, Any, Inside}
-use Rattle.mm_kernel.specs.declared.outcome.Outcome.{Outcome}
-use Rattle.mm_kernel.specs.declared.outcome.Outcome.TheVariants as outcome
-use Rattle.mm_kernel.specs.declared.thread.Thread.{Thread}
+use Rattle.mm_kernel.specs.declared.{outcome.Outcome.Outcome, thread.Thread.Thread}
 use Rattle.mm_kernel.specs.Forms.{PointsInside, exactly, exact_bits, stored_form}
 use Rattle.mm_kernel.specs.Threads.{form_in, with_form, stepped}
-use Rattle.mm_kernel.specs.Operations.{choices, with_permission, permission_of, may_name}
-use Rattle.mm_kernel.specs.Turns as kernel
-use Rattle.mm_kernel.specs.Variants.{IsShared}
+use Rattle.mm_kernel.specs.{Operations.{choices, with_permission, permission_of, may_name}, Variants.IsShared}
 use Rattle.mm_kernel.proofs.Segs.{Within, within_all, not_kept, meets_same, inside_kept, points_within, word_in_part}
 use Rattle.mm_kernel.proofs.Values.{Clean, CleanWord, open_outside, allows_loads, Holds, Fits, fits_exactly}
-use Rattle.mm_kernel.proofs.Values.{fits_stored, Public, public_fits}
-use Rattle.mm_kernel.proofs.Ups.{Up, Follows, each_split}
-use Rattle.mm_kernel.proofs.Slots.{match_issue}
-use Rattle.mm_kernel.proofs.Cores.{HeldIn, WordOk, WordOkAs, CellOk}
+use Rattle.mm_kernel.proofs.{Values.{fits_stored, Public, public_fits}, Ups.{Up, Follows, each_split}}
+use Rattle.mm_kernel.proofs.{Slots.match_issue, Cores.{HeldIn, WordOk, WordOkAs, CellOk}}
 use Rattle.mm_kernel.proofs.Results.{exact_bits_is, Narrowed, restrict_tells, narrowed_fits, any_narrowed}
 use Rattle.mm_kernel.proofs.Results.{permission_is, chosen, choice_becomes}
 use Rattle.mm_kernel.proofs.Rows.{WholeForm, Machine, Acts, Ready, EffectOk, next_slot, next_match, next_sound, runs_on}
 use Rattle.mm_kernel.proofs.Rows.{steps_on, writes_on, sets_ok}
+use Rattle.mm_word.specs.declared.cause.Cause.TheVariants as cause
+use Rattle.mm_word.specs.declared.word.Pre.TheVariants as pres
+use Rattle.mm_word.specs.declared.word.Post.TheVariants as posts
+use Rattle.mm_kernel.specs.declared.outcome.Outcome.TheVariants as outcome
+use Rattle.mm_kernel.specs.Turns as kernel
 
 -- 1. Words of pointers.
 

@@ -2,16 +2,10 @@
 use Rattle.std.proofs.Common.{◌≡◌, ℕ, ◌+◌, ◌*◌, ◌/◌, ◌%◌, ◌^◌, ◌<◌, inr, Bool, true, false, ◌&&◌, nat_lt, if◌then◌else◌}
 use Rattle.std.proofs.Common.{eqb-true, eq-eqb, ℤ, pos, ◌+ℤ◌, List, Option, Some, None, Result, Ok, Err, refl, sym, ap}
 use Rattle.std.proofs.Common.{◌∙◌, subst, arith}
+use Rattle.std.proofs.lemmas.{Bool.{and_parts, and_from}, Nat.shr_high, Grind.common_steps}
 use Rattle.std.specs.Prelude.{Contains}
-use Rattle.std.proofs.lemmas.Bool.{and_parts, and_from}
-use Rattle.std.proofs.lemmas.Nat.{shr_high}
-use Rattle.std.proofs.lemmas.Grind.{common_steps}
-use Rattle.mm_word.specs.declared.perm.Perm.{Perm}
-use Rattle.mm_word.specs.declared.perm.Perm.TheVariants.{Ro, Rw, Xu, Xp, Eu, Ep, Key}
-use Rattle.mm_word.specs.declared.cause.Cause.{Cause}
-use Rattle.mm_word.specs.declared.cause.Cause.TheVariants as cause
-use Rattle.mm_word.specs.declared.word.Word.{Word}
-use Rattle.mm_word.specs.declared.word.Word.TheVariants.{Int, Ptr}
+use Rattle.mm_word.specs.declared.{perm.Perm.{Perm, TheVariants.{Ro, Rw, Xu, Xp, Eu, Ep, Key}}, cause.Cause.Cause}
+use Rattle.mm_word.specs.declared.word.Word.{Word, TheVariants.{Int, Ptr}}
 use Rattle.mm_word.specs.Perm.{code_of, perm_of, can_move, can_become, can_load}
 use Rattle.mm_word.specs.Pointer.{Pointer, IsWellFormed, IsBelow, bits_of, base_of, moved_to, lea_result, leab_result}
 use Rattle.mm_word.specs.Pointer.{restrict_result, restricted_to, subseg_result}
@@ -19,15 +13,10 @@ use Rattle.mm_word.specs.Word.{IsWord, IsPointerAnd, word_bits}
 use Rattle.mm_word.proofs.Results.{lea_result-IsBelow, leab_result-IsBelow, subseg_result-IsBelow}
 use Rattle.mm_isa.specs.declared.instr.AluOp.{AluOp}
 use Rattle.mm_isa.specs.declared.instr.AluOp.TheVariants.{Add, Sub, Mul, Divu, Remu, And, Or, Xor, Shl, Shr, Sar, Eq}
-use Rattle.mm_isa.specs.declared.instr.AluOp.TheVariants.{Ltu, Lts}
-use Rattle.mm_isa.specs.declared.instr.DivZero.{DivZero}
-use Rattle.mm_isa.specs.Alu.{alu_result}
-use Rattle.mm_model.specs.Effect.{same_word, test, high_and_low}
-use Rattle.mm_model.specs.Image.{Image}
-use Rattle.mm_model.proofs.EffectSteps.{moved_perm}
-use Rattle.mm_model.proofs.Filters.{contained_filter, filter_contained}
-use Rattle.mm_kernel.specs.Segments.{Segment, meets}
-use Rattle.mm_kernel.specs.Variants.{IsShared}
+use Rattle.mm_isa.specs.{declared.instr.{AluOp.TheVariants.{Ltu, Lts}, DivZero.DivZero}, Alu.alu_result}
+use Rattle.mm_model.specs.{Effect.{same_word, test, high_and_low}, Image.Image}
+use Rattle.mm_model.proofs.{EffectSteps.moved_perm, Filters.{contained_filter, filter_contained}}
+use Rattle.mm_kernel.specs.{Segments.{Segment, meets}, Variants.IsShared}
 use Rattle.mm_kernel.specs.declared.form.Form.{Form}
 use Rattle.mm_kernel.specs.declared.form.Form.TheVariants.{Number, Pointer as Exactly, Integer, Open, Any, Inside}
 use Rattle.mm_kernel.specs.Forms.{PointsInside, exact_bits, exact, around, around_as}
@@ -38,6 +27,7 @@ use Rattle.mm_kernel.proofs.Segs.{Within, outside_within, meets_same, points_wit
 use Rattle.mm_kernel.proofs.Segs.{within_base}
 use Rattle.mm_kernel.proofs.Values.{Clean, clean_below, shared_outside, key_shared, open_outside, Holds, Fits, Moved}
 use Rattle.mm_kernel.proofs.Values.{moved_within, shared_moved}
+use Rattle.mm_word.specs.declared.cause.Cause.TheVariants as cause
 
 -- the code of a permission
 pub code_named : (n : ℕ) (to : Perm) → perm_of n ≡ Some to → n ≡ code_of to

@@ -1,50 +1,31 @@
 -- Each row of the table of instructions: what it does, one of its thread's outcomes stands for.
 use Rattle.std.proofs.Common.{◌≡◌, ℕ, ◌+◌, ◌/◌, ◌%◌, ◌<◌, Bool, true, false, ◌==◌, if◌then◌else◌, eqb-true, eq-eqb}
 use Rattle.std.proofs.Common.{List, [], ◌∷◌, ◌++◌, slice_set, slice_index_or, Option, Some, None, Result, Ok, Err, refl}
-use Rattle.std.proofs.Common.{sym, ap, ◌∙◌, subst}
-use Rattle.std.specs.List.{AllByRecursion}
-use Rattle.std.proofs.lemmas.List.{set-get_or}
-use Rattle.mm_word.specs.declared.perm.Perm.{Perm}
-use Rattle.mm_word.specs.declared.perm.Perm.TheVariants.{Ro, Rw, Xu, Xp, Eu, Ep, Key}
-use Rattle.mm_word.specs.declared.cause.Cause.{Cause}
-use Rattle.mm_word.specs.declared.word.Word.{Word}
-use Rattle.mm_word.specs.declared.word.Word.TheVariants.{Int, Ptr}
-use Rattle.mm_word.specs.Perm.{can_fetch, can_move}
-use Rattle.mm_word.specs.Pointer.{Pointer}
-use Rattle.mm_word.specs.Word.{IsWord, word_bits, is_pointer}
+use Rattle.std.{proofs.{Common.{sym, ap, ◌∙◌, subst}, lemmas.List.set-get_or}, specs.List.AllByRecursion}
+use Rattle.mm_word.specs.declared.{perm.Perm.{Perm, TheVariants.{Ro, Rw, Xu, Xp, Eu, Ep, Key}}, cause.Cause.Cause}
+use Rattle.mm_word.specs.{declared.word.Word.{Word, TheVariants.{Int, Ptr}}, Perm.{can_fetch, can_move}}
+use Rattle.mm_word.specs.{Pointer.Pointer, Word.{IsWord, word_bits, is_pointer}}
 use Rattle.mm_isa.specs.declared.instr.AluOp.{AluOp}
 use Rattle.mm_isa.specs.declared.instr.AluOp.TheVariants.{Add, Sub, Mul, Divu, Remu, And, Or, Xor, Shl, Shr, Sar, Eq}
-use Rattle.mm_isa.specs.declared.instr.AluOp.TheVariants.{Ltu, Lts}
-use Rattle.mm_isa.specs.declared.instr.DivZero.{DivZero}
-use Rattle.mm_isa.specs.declared.instr.Instr.{Instr}
-use Rattle.mm_isa.specs.declared.instr.Instr.TheVariants as instr
+use Rattle.mm_isa.specs.declared.instr.{AluOp.TheVariants.{Ltu, Lts}, DivZero.DivZero, Instr.Instr}
 use Rattle.mm_isa.specs.Alu.{alu_result, divides, div_zero}
-use Rattle.mm_model.specs.declared.slot.SlotState.TheVariants.{Running}
-use Rattle.mm_model.specs.Memory.{Memory}
-use Rattle.mm_model.specs.Slot.{Slot, register, is_empty}
-use Rattle.mm_model.specs.State.{Core, slot_at}
-use Rattle.mm_model.specs.Image.{Image}
-use Rattle.mm_model.specs.Fits.{Matches, identity_of}
+use Rattle.mm_model.specs.{declared.slot.SlotState.TheVariants.Running, Memory.Memory, Slot.{Slot, register, is_empty}}
+use Rattle.mm_model.specs.{State.{Core, slot_at}, Image.Image, Fits.{Matches, identity_of}}
 use Rattle.mm_model.specs.Effect.{Effect, advanced, runs_past, plain, sets, sets_pointer, sets_number, if_pointer, test}
-use Rattle.mm_model.specs.Effect.Effect.{Fault, Block, Deliver, Do}
-use Rattle.mm_model.specs.Turn.{slot_after}
-use Rattle.mm_kernel.specs.Segments.{Segment, meets, is_inside, runs_privileged}
-use Rattle.mm_kernel.specs.Derived.{has_segment}
+use Rattle.mm_model.specs.{Effect.Effect.{Fault, Block, Deliver, Do}, Turn.slot_after}
+use Rattle.mm_kernel.specs.{Segments.{Segment, meets, is_inside, runs_privileged}, Derived.has_segment}
 use Rattle.mm_kernel.specs.declared.form.Form.{Form}
 use Rattle.mm_kernel.specs.declared.form.Form.TheVariants.{Number, Pointer as Exactly, Integer, Open, Any, Inside}
-use Rattle.mm_kernel.specs.declared.outcome.Outcome.{Outcome}
-use Rattle.mm_kernel.specs.declared.outcome.Outcome.TheVariants as outcome
-use Rattle.mm_kernel.specs.declared.thread.Thread.{Thread}
-use Rattle.mm_kernel.specs.Forms.{exact_bits, around}
-use Rattle.mm_kernel.specs.Threads.{form_in, with_form, stepped}
-use Rattle.mm_kernel.specs.Operations.{alu_form}
-use Rattle.mm_kernel.specs.Turns as kernel
+use Rattle.mm_kernel.specs.{declared.{outcome.Outcome.Outcome, thread.Thread.Thread}, Forms.{exact_bits, around}}
+use Rattle.mm_kernel.specs.{Threads.{form_in, with_form, stepped}, Operations.alu_form}
 use Rattle.mm_kernel.proofs.Values.{Clean, clean_below, Holds, Fits, fits_number, fits_integer, Moved}
-use Rattle.mm_kernel.proofs.Ups.{Up, Follows}
-use Rattle.mm_kernel.proofs.Anyone.{advanced_below}
+use Rattle.mm_kernel.proofs.{Ups.{Up, Follows}, Anyone.advanced_below}
 use Rattle.mm_kernel.proofs.Slots.{Sound, sound_at, Match, match_write, match_at, Came, came_like, RunningOk, SlotOk}
 use Rattle.mm_kernel.proofs.Cores.{RowsOk, MemOk, ChangeOk}
 use Rattle.mm_kernel.proofs.Results.{exact_bits_is, alu_fits, open_moved, any_moved, inside_moved, around_moved}
+use Rattle.mm_isa.specs.declared.instr.Instr.TheVariants as instr
+use Rattle.mm_kernel.specs.declared.outcome.Outcome.TheVariants as outcome
+use Rattle.mm_kernel.specs.Turns as kernel
 
 -- what is known of a form: a part lies in the kept segments
 abbrev pub WholeForm : List Segment → Form → Type 0

@@ -1,51 +1,32 @@
 -- The laws: by induction over the list of items.
 use Rattle.std.proofs.Common.{◌≡◌, ℕ, suc, ◌<◌, ◌⊎◌, inl, inr, Bool, true, false, ◌&&◌, not, if◌then◌else◌, List, []}
 use Rattle.std.proofs.Common.{◌∷◌, map, length, slice_index_or, Some, refl, sym, ap, ◌∙◌, subst, arith}
-use Rattle.std.specs.Prelude.{Contains}
-use Rattle.std.specs.List.{AllByRecursion, AllZip, list_all}
 use Rattle.std.proofs.lemmas.Bool.{and_parts, and_from, or_right, or_parts, not-true}
-use Rattle.mm_word.specs.declared.perm.Perm.{Perm}
-use Rattle.mm_word.specs.declared.perm.Perm.TheVariants.{Ro, Rw, Xu, Xp, Eu, Ep, Key}
-use Rattle.mm_word.specs.declared.word.Word.{Word}
-use Rattle.mm_word.specs.declared.word.Word.TheVariants.{Int, Ptr}
-use Rattle.mm_word.specs.Perm.{can_fetch}
-use Rattle.mm_model.specs.declared.slot.SlotState.{SlotState}
-use Rattle.mm_model.specs.declared.slot.SlotState.TheVariants.{Running, Waiting, Taken, Halted}
-use Rattle.mm_model.specs.declared.slot.Pending.{Pending}
-use Rattle.mm_model.specs.declared.event.Event.{Event}
-use Rattle.mm_model.specs.Slot.{Slot, register, is_empty}
-use Rattle.mm_model.specs.State.{ThreadRow, State, slot_at}
-use Rattle.mm_model.specs.Image.{Image, slot_limit, start}
-use Rattle.mm_model.specs.Spelling.{IsFresh, IsImage}
-use Rattle.mm_model.specs.Flags.{one_if}
-use Rattle.mm_model.specs.Fits.{IsSlot, IsState, LoadsMatch, LoadsAreConsistent, IsConsistent, loads_for, Fits as FitsImage}
-use Rattle.mm_model.specs.Turn.{is_running}
-use Rattle.mm_model.specs.Run.{turn_of, after, run}
+use Rattle.std.specs.{Prelude.Contains, List.{AllByRecursion, AllZip, list_all}}
+use Rattle.mm_word.specs.declared.perm.Perm.{Perm, TheVariants.{Ro, Rw, Xu, Xp, Eu, Ep, Key}}
+use Rattle.mm_word.specs.{declared.word.Word.{Word, TheVariants.{Int, Ptr}}, Perm.can_fetch}
+use Rattle.mm_model.specs.declared.slot.SlotState.{SlotState, TheVariants.{Running, Waiting, Taken, Halted}}
+use Rattle.mm_model.specs.{declared.{slot.Pending.Pending, event.Event.Event}, Slot.{Slot, register, is_empty}}
+use Rattle.mm_model.specs.{State.{ThreadRow, State, slot_at}, Image.{Image, slot_limit, start}}
+use Rattle.mm_model.specs.{Spelling.{IsFresh, IsImage}, Flags.one_if}
+use Rattle.mm_model.specs.Fits.{IsSlot, IsState, LoadsMatch, LoadsAreConsistent, IsConsistent, loads_for}
+use Rattle.mm_model.specs.{Fits.Fits as FitsImage, Turn.is_running, Run.{turn_of, after, run}}
 use Rattle.mm_model.proofs.CoreRows.{each_map, each_both, each_contained, slot_has, slots_found, out_of_map}
-use Rattle.mm_model.proofs.EffectWords.{slot_words, register_fits}
-use Rattle.mm_model.proofs.StateKeeps.{after_state, after_fits, after_kept}
-use Rattle.mm_model.proofs.Starts.{start_state, start_fits, start_kept}
-use Rattle.mm_model.proofs.Filters.{contained_filter}
+use Rattle.mm_model.proofs.{EffectWords.{slot_words, register_fits}, StateKeeps.{after_state, after_fits, after_kept}}
+use Rattle.mm_model.proofs.{Starts.{start_state, start_fits, start_kept}, Filters.contained_filter}
 use Rattle.mm_kernel.specs.Segments.{Segment, is_kept, is_fixed, meets, is_open, running_slots, runs_privileged}
-use Rattle.mm_kernel.specs.declared.fact.Handling.{Handling}
-use Rattle.mm_kernel.specs.declared.form.Form.TheVariants.{Any}
-use Rattle.mm_kernel.specs.declared.thread.Thread.{Thread}
+use Rattle.mm_kernel.specs.declared.{fact.Handling.Handling, form.Form.TheVariants.Any, thread.Thread.Thread}
 use Rattle.mm_kernel.specs.Forms.{exactly, is_open_form}
 use Rattle.mm_kernel.specs.Threads.{form_in, has_open_words, is_kernel_slot, is_kernel, serves_some, is_free}
-use Rattle.mm_kernel.specs.Threads.{own_thread}
-use Rattle.mm_kernel.specs.Facts.{take_up}
-use Rattle.mm_kernel.specs.Facts.Fact.{HasEvent}
-use Rattle.mm_kernel.specs.Derived.{Derived, Keeps}
-use Rattle.mm_kernel.specs.Derived.Derived.{begins_in_slot}
+use Rattle.mm_kernel.specs.{Threads.own_thread, Facts.{take_up, Fact.HasEvent}}
+use Rattle.mm_kernel.specs.Derived.{Derived, Keeps, Derived.begins_in_slot}
 use Rattle.mm_kernel.specs.Variants.{IsShared, is_caller, IsAnyCaller, IsVariantSlot, Variant}
 use Rattle.mm_kernel.specs.Laws.{IsSegment, SlotShares, EventShares, is_of_kernel, ServedByOthers, RowKept, StateKept}
 use Rattle.mm_kernel.proofs.Values.{Fits, shared_int, public_shared, holds_stands, holds_exactly, Public}
 use Rattle.mm_kernel.proofs.Ups.{Up, Free, Bound, up_cases, each_in, each_from}
 use Rattle.mm_kernel.proofs.Slots.{guards, Match, free_form, HeldFor, StoppedOk, SlotOkAs}
-use Rattle.mm_kernel.proofs.Cores.{any_event, EventOk, RowOk, RowsOk, HeldIn, WordOkAs, MemOk}
-use Rattle.mm_kernel.proofs.Rows.{Machine}
-use Rattle.mm_kernel.proofs.Turned.{TurnOk, turn_ok}
-use Rattle.mm_kernel.proofs.Start.{start_rows, start_cells, live_user, cell_shared}
+use Rattle.mm_kernel.proofs.{Cores.{any_event, EventOk, RowOk, RowsOk, HeldIn, WordOkAs, MemOk}, Rows.Machine}
+use Rattle.mm_kernel.proofs.{Turned.{TurnOk, turn_ok}, Start.{start_rows, start_cells, live_user, cell_shared}}
 
 -- 1. What holds of each state of a run.
 

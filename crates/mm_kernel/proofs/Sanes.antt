@@ -2,57 +2,34 @@
 use Rattle.std.proofs.Common.{◌≡◌, ℕ, zero, suc, Bool, true, false, ◌&&◌, not, ◌==◌, nat_lt, ◌%◌, ◌/◌, ◌^◌}
 use Rattle.std.proofs.Common.{if◌then◌else◌, cond, ℤ, pos, ◌+ℤ◌, ◌*ℤ◌, List, [], ◌∷◌, ◌++◌, map, slice_get, is_some}
 use Rattle.std.proofs.Common.{Option, Some, None, Result, Ok, Err, refl, ap, ◌∙◌, subst, arith}
-use Rattle.std.specs.Prelude.{Contains}
-use Rattle.std.specs.Int.{w64, cast_unsigned, cast_signed}
-use Rattle.std.specs.List.{AllByRecursion, flat_map, list_any}
-use Rattle.std.specs.Ordering.{nat_cmp, eq_by_cmp}
-use Rattle.std.specs.FinMap.{find}
-use Rattle.std.proofs.lemmas.Bool.{and_from, not-true, or_parts, not_from_false}
-use Rattle.std.proofs.lemmas.Nat.{shl-shr}
-use Rattle.mm_word.specs.declared.perm.Perm.{Perm}
-use Rattle.mm_word.specs.declared.perm.Perm.TheVariants.{Ro, Rw, Xu, Xp, Eu, Ep, Key}
-use Rattle.mm_word.specs.declared.perm.Kind.{Kind}
-use Rattle.mm_word.specs.declared.perm.Kind.TheVariants.{Fetch, Store}
-use Rattle.mm_word.specs.declared.cause.Cause.{Cause}
-use Rattle.mm_word.specs.declared.word.Pre.{Pre}
-use Rattle.mm_word.specs.declared.word.Pre.TheVariants as pres
-use Rattle.mm_word.specs.declared.word.Word.{Word}
-use Rattle.mm_word.specs.declared.word.Word.TheVariants.{Int, Ptr}
-use Rattle.mm_word.specs.declared.word.Cell.{Cell}
+use Rattle.std.proofs.lemmas.{Bool.{and_from, not-true, or_parts, not_from_false}, Nat.shl-shr}
+use Rattle.std.specs.{Prelude.Contains, Int.{w64, cast_unsigned, cast_signed}}
+use Rattle.std.specs.{List.{AllByRecursion, flat_map, list_any}, Ordering.{nat_cmp, eq_by_cmp}, FinMap.find}
+use Rattle.mm_word.specs.declared.perm.Perm.{Perm, TheVariants.{Ro, Rw, Xu, Xp, Eu, Ep, Key}}
+use Rattle.mm_word.specs.declared.{perm.Kind.{Kind, TheVariants.{Fetch, Store}}, cause.Cause.Cause}
+use Rattle.mm_word.specs.declared.word.{Pre.Pre, Word.{Word, TheVariants.{Int, Ptr}}, Cell.Cell}
 use Rattle.mm_word.specs.Access.{AccessValue, check_result}
 use Rattle.mm_word.specs.Perm.{can_move, can_become, allows, execute_form, code_of}
 use Rattle.mm_word.specs.Pointer.{Pointer, bits_of, base_of, next_result, enter_result, lea_result, leab_result}
 use Rattle.mm_word.specs.Pointer.{subseg_result}
-use Rattle.mm_isa.specs.declared.instr.AluOp.{AluOp}
-use Rattle.mm_isa.specs.declared.instr.AluOp.TheVariants.{Add}
-use Rattle.mm_isa.specs.declared.instr.How.{How}
-use Rattle.mm_isa.specs.declared.instr.How.TheVariants.{Retry, Skip, Kill}
+use Rattle.mm_isa.specs.declared.instr.{AluOp.{AluOp, TheVariants.Add}, How.{How, TheVariants.{Retry, Skip, Kill}}}
 use Rattle.mm_isa.specs.declared.instr.DivZero.{DivZero}
 use Rattle.mm_isa.specs.declared.instr.Instr.{Instr}
 use Rattle.mm_isa.specs.declared.instr.Instr.TheVariants.{Halt, Nop, Ldi, Ldhi, Mov, Isptr, Eqw, Out, SelfSlot, Alu}
 use Rattle.mm_isa.specs.declared.instr.Instr.TheVariants.{Addi, Lea, Leai, Leab, Restrict, Subseg, Setptr, Ld, St, Br}
 use Rattle.mm_isa.specs.declared.instr.Instr.TheVariants.{Bz, Bnz, Jmp, Jal, Lip, Trap, Evt, Resume, Rreg, Wreg, Map}
-use Rattle.mm_isa.specs.declared.instr.Instr.TheVariants.{Unmap}
-use Rattle.mm_isa.specs.Alu.{alu_result, divides}
-use Rattle.mm_model.specs.Memory.{cell_at, cell_in, page_at, page_of, place_of}
-use Rattle.mm_model.specs.Slot.{Slot}
-use Rattle.mm_model.specs.Image.{Image}
-use Rattle.mm_model.specs.Ask.{load_kind}
-use Rattle.mm_model.specs.Operands.{field_a, field_b, field_imm}
-use Rattle.mm_model.specs.Turn.{instr_in}
+use Rattle.mm_isa.specs.{declared.instr.Instr.TheVariants.Unmap, Alu.{alu_result, divides}}
+use Rattle.mm_model.specs.{Memory.{cell_at, cell_in, page_at, page_of, place_of}, Slot.Slot, Image.Image, Ask.load_kind}
+use Rattle.mm_model.specs.{Operands.{field_a, field_b, field_imm}, Turn.instr_in}
 use Rattle.mm_model.proofs.CoreRows.{each_map, each_contained, into_map}
 use Rattle.mm_kernel.specs.Segments.{Segment, is_kept, is_fixed, is_inside, meets, pointers_in, slot_pointers}
 use Rattle.mm_kernel.specs.Segments.{page_pointers, running_slots, live_pointers, runs_privileged, is_user}
-use Rattle.mm_kernel.specs.declared.fact.Leak.TheVariants as leak
 use Rattle.mm_kernel.specs.declared.form.Form.{Form}
 use Rattle.mm_kernel.specs.declared.form.Form.TheVariants.{Number, Pointer as Exactly, Integer, Open, Any, Inside}
-use Rattle.mm_kernel.specs.declared.outcome.Outcome.{Outcome}
-use Rattle.mm_kernel.specs.declared.outcome.Outcome.TheVariants as outcome
-use Rattle.mm_kernel.specs.declared.thread.Thread.{Thread}
+use Rattle.mm_kernel.specs.declared.{outcome.Outcome.Outcome, thread.Thread.Thread}
 use Rattle.mm_kernel.specs.Forms.{exactly, exact, exact_bits, stored_form, around, around_as}
 use Rattle.mm_kernel.specs.Threads.{form_in, with_form, stepped, going_to, own_thread, thread_through, handler_of}
-use Rattle.mm_kernel.specs.Facts.{Fact, hand_out, take_up}
-use Rattle.mm_kernel.specs.Facts.Fact.{HasThread, HasForm}
+use Rattle.mm_kernel.specs.Facts.{Fact, hand_out, take_up, Fact.{HasThread, HasForm}}
 use Rattle.mm_kernel.specs.Operations.{small_result, alu_form, alu_if_exact, alu_by, leaves_code, equal_form}
 use Rattle.mm_kernel.specs.Operations.{equal_if_exact, high_form, high_if_exact, choices, with_permission}
 use Rattle.mm_kernel.specs.Operations.{permission_of, inside_as}
@@ -65,15 +42,16 @@ use Rattle.mm_kernel.specs.Derived.{Derived, Keeps, first_form, cell_facts, has_
 use Rattle.mm_kernel.specs.Derived.{resumed}
 use Rattle.mm_kernel.specs.Derived.Derived.{begins_in_cell, begins_in_slot, reaches, enters, turns, loads as by_load}
 use Rattle.mm_kernel.specs.Derived.Derived.{stores as by_store, takes, resumes, reads_served, writes_served}
-use Rattle.mm_kernel.proofs.Segs.{inside_within}
-use Rattle.mm_kernel.proofs.Values.{Moved}
+use Rattle.mm_kernel.proofs.{Segs.inside_within, Values.Moved}
 use Rattle.mm_kernel.proofs.Results.{lea_moved, leab_moved, subseg_moved, choice_becomes}
-use Rattle.mm_kernel.proofs.Ups.{each_from, each_split, each_join, each_unflat}
-use Rattle.mm_kernel.proofs.Rows.{WholeForm}
+use Rattle.mm_kernel.proofs.{Ups.{each_from, each_split, each_join, each_unflat}, Rows.WholeForm}
 use Rattle.mm_kernel.proofs.Whole.{Sane, become_user, moves_segment, sane_moved, self_within, sane_as, sane_next}
 use Rattle.mm_kernel.proofs.Whole.{sane_advanced, sane_distance, sane_entered, SaneForm, SaneThread, SaneFact}
 use Rattle.mm_kernel.proofs.Whole.{SaneOutcome, sane_form, sane_with, sane_stepped, sane_event, sane_exactly}
 use Rattle.mm_kernel.proofs.Whole.{sane_stored, sane_whole, hands_out, takes_up, outcome_sane}
+use Rattle.mm_word.specs.declared.word.Pre.TheVariants as pres
+use Rattle.mm_kernel.specs.declared.fact.Leak.TheVariants as leak
+use Rattle.mm_kernel.specs.declared.outcome.Outcome.TheVariants as outcome
 
 -- 1. The image.
 

@@ -1,10 +1,8 @@
 -- A pointer whose segment shares an address with a kept one meets the kept segments; what lies within it does not leave it.
 use Rattle.std.proofs.Common.{◌≡◌, ℕ, ◌/◌, ◌^◌, ◌<◌, ◌≤◌, ◌⊎◌, inl, inr, Bool, true, false, ◌||◌, List, [], ◌∷◌, refl}
 use Rattle.std.proofs.Common.{sym, ap, ◌∙◌, subst, arith, eqb-true, eq-eqb, leb-true, nat_le, ◌+◌}
-use Rattle.std.specs.List.{list_any}
 use Rattle.std.proofs.lemmas.Bool.{cases_lt, and_parts, and_from, or_cases, or_left, or_right, le-leb}
-use Rattle.std.proofs.lemmas.Bool.{false_from_ne_true}
-use Rattle.std.proofs.lemmas.Nat.{shl-shr}
+use Rattle.std.{proofs.lemmas.{Bool.false_from_ne_true, Nat.shl-shr}, specs.List.list_any}
 use Rattle.mm_word.specs.Pointer.{Pointer, InSegment, in_segment, holds_word, base_of, IsBelow}
 use Rattle.mm_word.proofs.Segments.{segment_widens, inside_is_shorter}
 use Rattle.mm_kernel.specs.Segments.{Segment, lies_in, is_kept, meets_segment, meets, lies_inside, is_inside}

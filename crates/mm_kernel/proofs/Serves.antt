@@ -1,55 +1,37 @@
 -- The rows about events and served slots.
 use Rattle.std.proofs.Common.{◌≡◌, ℕ, ◌+◌, ◌*◌, ◌<◌, ◌⊎◌, inl, inr, Bool, true, false, ◌&&◌, ◌||◌, if◌then◌else◌}
 use Rattle.std.proofs.Common.{eq-eqb, List, [], ◌∷◌, slice_set, Option, Some, None, refl, sym, ap, ◌∙◌, subst, arith}
-use Rattle.std.specs.Prelude.{Contains}
-use Rattle.std.specs.List.{AllByRecursion, list_any}
 use Rattle.std.proofs.lemmas.Bool.{and_parts, and_from, or_left, or_right}
-use Rattle.mm_word.specs.declared.cause.Cause.{Cause}
-use Rattle.mm_word.specs.declared.cause.Cause.TheVariants as cause
-use Rattle.mm_word.specs.declared.word.Word.{Word}
-use Rattle.mm_word.specs.declared.word.Word.TheVariants.{Int, Ptr}
-use Rattle.mm_word.specs.Cause.{number_of}
+use Rattle.std.specs.{Prelude.Contains, List.{AllByRecursion, list_any}}
+use Rattle.mm_word.specs.{declared.{cause.Cause.Cause, word.Word.{Word, TheVariants.{Int, Ptr}}}, Cause.number_of}
 use Rattle.mm_word.specs.Pointer.{Pointer}
-use Rattle.mm_isa.specs.declared.instr.How.{How}
-use Rattle.mm_isa.specs.declared.instr.How.TheVariants.{Retry, Skip, Kill}
-use Rattle.mm_isa.specs.declared.instr.Instr.{Instr}
+use Rattle.mm_isa.specs.declared.instr.{How.{How, TheVariants.{Retry, Skip, Kill}}, Instr.Instr}
 use Rattle.mm_model.specs.declared.event.Event.{Event}
-use Rattle.mm_model.specs.declared.slot.SlotState.{SlotState}
-use Rattle.mm_model.specs.declared.slot.SlotState.TheVariants.{Running, Waiting, Taken, Halted}
-use Rattle.mm_model.specs.Memory.{Memory}
-use Rattle.mm_model.specs.Slot.{Slot, register, is_empty}
-use Rattle.mm_model.specs.State.{Core, slot_at, queue_at}
-use Rattle.mm_model.specs.Image.{Image}
+use Rattle.mm_model.specs.declared.slot.SlotState.{SlotState, TheVariants.{Running, Waiting, Taken, Halted}}
+use Rattle.mm_model.specs.{Memory.Memory, Slot.{Slot, register, is_empty}, State.{Core, slot_at, queue_at}, Image.Image}
 use Rattle.mm_model.specs.Fits.{is_waiting}
 use Rattle.mm_model.specs.Effect.{Reply, Effect, advanced, runs_past, plain, sets, takes, resumed_by, resumes}
 use Rattle.mm_model.specs.Effect.{delivered, reads_of, writes_of}
-use Rattle.mm_model.specs.Effect.Reply.{Refused, Took, Served}
-use Rattle.mm_model.specs.Effect.Effect.{Deliver, Do}
+use Rattle.mm_model.specs.Effect.{Reply.{Refused, Took, Served}, Effect.{Deliver, Do}}
 use Rattle.mm_model.specs.Turn.{slot_after, event_reply, first_event, served, is_taken, is_handler}
-use Rattle.mm_model.proofs.CoreRows.{each_contained, each_map, each_set}
-use Rattle.mm_model.proofs.CoreSteps.{queued_waits, handler_is}
+use Rattle.mm_model.proofs.{CoreRows.{each_contained, each_map, each_set}, CoreSteps.{queued_waits, handler_is}}
 use Rattle.mm_kernel.specs.Segments.{Segment, running_slots}
-use Rattle.mm_kernel.specs.declared.fact.Handling.{Handling}
-use Rattle.mm_kernel.specs.declared.form.Form.{Form}
-use Rattle.mm_kernel.specs.declared.form.Form.TheVariants.{Integer, Any}
+use Rattle.mm_kernel.specs.declared.{fact.Handling.Handling, form.Form.{Form, TheVariants.{Integer, Any}}}
 use Rattle.mm_kernel.specs.declared.outcome.Outcome.{Outcome}
-use Rattle.mm_kernel.specs.declared.outcome.Outcome.TheVariants as outcome
-use Rattle.mm_kernel.specs.declared.thread.Origin.{Origin}
-use Rattle.mm_kernel.specs.declared.thread.Origin.TheVariants.{Door, Slot as OfSlot}
-use Rattle.mm_kernel.specs.declared.thread.Thread.{Thread}
+use Rattle.mm_kernel.specs.declared.thread.{Origin.{Origin, TheVariants.{Door, Slot as OfSlot}}, Thread.Thread}
 use Rattle.mm_kernel.specs.Threads.{form_in, with_form, stepped, is_kernel, serves_some}
-use Rattle.mm_kernel.specs.Facts.Fact.{HasFaulted, HasEvent}
-use Rattle.mm_kernel.specs.Turns as kernel
-use Rattle.mm_kernel.specs.Derived.{Derived, on_after}
+use Rattle.mm_kernel.specs.{Facts.Fact.{HasFaulted, HasEvent}, Derived.{Derived, on_after}}
 use Rattle.mm_kernel.proofs.Segs.{below_within, outside_within}
 use Rattle.mm_kernel.proofs.Values.{clean_below, Fits, fits_integer, Public, public_fits}
-use Rattle.mm_kernel.proofs.Ups.{Up, Free, free_up, Follows}
-use Rattle.mm_kernel.proofs.Anyone.{advanced_below}
+use Rattle.mm_kernel.proofs.{Ups.{Up, Free, free_up, Follows}, Anyone.advanced_below}
 use Rattle.mm_kernel.proofs.Slots.{Sound, sound_write, guards, OriginOk, Match, match_write, match_at, free_form, Came}
 use Rattle.mm_kernel.proofs.Slots.{came_like, HeldFor, StoppedOk, SlotOk, SlotOkAs, slot_delivered}
 use Rattle.mm_kernel.proofs.Cores.{any_event, EventOk, slot_ok, queue_ok}
 use Rattle.mm_kernel.proofs.Rows.{Machine, Acts, Ready, EffectOk, next_slot, next_match, next_sound, runs_on, steps_on}
 use Rattle.mm_kernel.proofs.Rows.{sets_ok}
+use Rattle.mm_word.specs.declared.cause.Cause.TheVariants as cause
+use Rattle.mm_kernel.specs.declared.outcome.Outcome.TheVariants as outcome
+use Rattle.mm_kernel.specs.Turns as kernel
 
 any_among : {A : Type 0} (p : A → Bool) (xs : List A) → AllByRecursion (λ (x : A). p x ≡ true → list_any p xs ≡ true) xs
 any_among p [] = tt

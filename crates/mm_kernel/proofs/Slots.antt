@@ -2,40 +2,20 @@
 use Rattle.std.proofs.Common.{◌≡◌, ℕ, ◌+◌, ◌<◌, ◌≤◌, ◌⊎◌, inl, inr, Bool, true, false, ◌&&◌, if◌then◌else◌, nat_eq}
 use Rattle.std.proofs.Common.{List, [], ◌∷◌, length, replicate, slice_set, slice_index_or, Option, Some, refl, sym, ap}
 use Rattle.std.proofs.Common.{◌∙◌, subst, arith, length-set, get_or-set_same, get_or-set_other}
-use Rattle.std.specs.Prelude.{Contains}
-use Rattle.std.specs.List.{AllByRecursion}
-use Rattle.std.proofs.lemmas.Bool.{cases_eq, cases_lt, eqb-false}
-use Rattle.std.proofs.lemmas.List.{get_or_past}
-use Rattle.mm_word.specs.declared.word.Word.{Word}
-use Rattle.mm_word.specs.declared.word.Word.TheVariants.{Int}
-use Rattle.mm_word.specs.Pointer.{Pointer}
-use Rattle.mm_model.specs.declared.slot.SlotState.{SlotState}
-use Rattle.mm_model.specs.declared.slot.SlotState.TheVariants.{Running, Waiting, Taken, Halted}
-use Rattle.mm_model.specs.declared.slot.Pending.{Pending}
-use Rattle.mm_model.specs.Slot.{Slot, register, is_empty}
-use Rattle.mm_model.specs.Image.{Image}
-use Rattle.mm_model.specs.Flags.{one_if}
-use Rattle.mm_model.specs.Fits.{loads_for, LoadsMatch, identity_of}
-use Rattle.mm_model.specs.Effect.{delivers, delivered}
-use Rattle.mm_model.specs.Turn.{with_issue}
-use Rattle.mm_model.proofs.CoreRows.{each_map, each_both, each_push}
-use Rattle.mm_model.proofs.EffectWords.{each_or}
-use Rattle.mm_model.proofs.CoreSteps.{some_true}
+use Rattle.std.proofs.lemmas.{Bool.{cases_eq, cases_lt, eqb-false}, List.get_or_past}
+use Rattle.std.specs.{Prelude.Contains, List.AllByRecursion}
+use Rattle.mm_word.specs.{declared.word.Word.{Word, TheVariants.Int}, Pointer.Pointer}
+use Rattle.mm_model.specs.declared.slot.SlotState.{SlotState, TheVariants.{Running, Waiting, Taken, Halted}}
+use Rattle.mm_model.specs.{declared.slot.Pending.Pending, Slot.{Slot, register, is_empty}, Image.Image, Flags.one_if}
+use Rattle.mm_model.specs.{Fits.{loads_for, LoadsMatch, identity_of}, Effect.{delivers, delivered}, Turn.with_issue}
+use Rattle.mm_model.proofs.{CoreRows.{each_map, each_both, each_push}, EffectWords.each_or, CoreSteps.some_true}
 use Rattle.mm_model.proofs.SlotSteps.{empty_within}
 use Rattle.mm_kernel.specs.Segments.{Segment, running_slots}
-use Rattle.mm_kernel.specs.declared.fact.Leak.TheVariants.{Loose}
-use Rattle.mm_kernel.specs.declared.form.Form.{Form}
-use Rattle.mm_kernel.specs.declared.form.Form.TheVariants.{Any}
-use Rattle.mm_kernel.specs.declared.thread.Origin.{Origin}
-use Rattle.mm_kernel.specs.declared.thread.Origin.TheVariants.{Door, Slot as OfSlot}
-use Rattle.mm_kernel.specs.declared.thread.Thread.{Thread}
-use Rattle.mm_kernel.specs.Forms.{zero_form}
-use Rattle.mm_kernel.specs.Threads.{form_in, with_form, handler_of, is_kernel, serves_some}
-use Rattle.mm_kernel.specs.Facts.{loose}
-use Rattle.mm_kernel.specs.Facts.Fact.{HasFaulted, HasLeak}
-use Rattle.mm_kernel.specs.Derived.{Derived, Keeps}
-use Rattle.mm_kernel.proofs.Values.{Clean, Fits, Public, public_fits, public_number}
-use Rattle.mm_kernel.proofs.Ups.{Up, Free}
+use Rattle.mm_kernel.specs.declared.{fact.Leak.TheVariants.Loose, form.Form.{Form, TheVariants.Any}}
+use Rattle.mm_kernel.specs.declared.thread.{Origin.{Origin, TheVariants.{Door, Slot as OfSlot}}, Thread.Thread}
+use Rattle.mm_kernel.specs.{Forms.zero_form, Threads.{form_in, with_form, handler_of, is_kernel, serves_some}}
+use Rattle.mm_kernel.specs.{Facts.{loose, Fact.{HasFaulted, HasLeak}}, Derived.{Derived, Keeps}}
+use Rattle.mm_kernel.proofs.{Values.{Clean, Fits, Public, public_fits, public_number}, Ups.{Up, Free}}
 use Rattle.mm_kernel.proofs.Anyone.{anyone, any_register}
 
 -- 1. A slot of the machine: its registers and flags are sixteen, and its loads match.

@@ -2,52 +2,34 @@
 use Rattle.std.proofs.Common.{◌≡◌, ℕ, zero, suc, ◌%◌, ◌<◌, ◌≤◌, ◌⊎◌, inl, inr, Bool, true, false, ◌&&◌, ◌==◌, nat_eq}
 use Rattle.std.proofs.Common.{eqb-true, if◌then◌else◌, cond, List, [], ◌∷◌, map, replicate, length, slice_get}
 use Rattle.std.proofs.Common.{slice_index_or, Option, Some, None, refl, sym, ap, ◌∙◌, subst, arith}
-use Rattle.std.specs.Prelude.{Contains}
-use Rattle.std.specs.List.{AllByRecursion, AllZip, flat_map, list_any}
-use Rattle.std.specs.Ordering.{nat_cmp, eq_by_cmp}
-use Rattle.std.specs.FinMap.{find}
 use Rattle.std.proofs.lemmas.Bool.{and_left, or_parts, or_from, or_left, or_right, not-true, cases_lt}
-use Rattle.std.proofs.lemmas.List.{get_or_past, length-map}
-use Rattle.std.proofs.Math.ListN.{get_or-map}
-use Rattle.mm_word.specs.declared.word.Word.{Word}
-use Rattle.mm_word.specs.declared.word.Word.TheVariants.{Int, Ptr}
-use Rattle.mm_word.specs.declared.word.Cell.{Cell}
-use Rattle.mm_word.specs.Perm.{can_fetch}
+use Rattle.std.proofs.{lemmas.List.{get_or_past, length-map}, Math.ListN.get_or-map}
+use Rattle.std.specs.{Prelude.Contains, List.{AllByRecursion, AllZip, flat_map, list_any}}
+use Rattle.std.specs.{Ordering.{nat_cmp, eq_by_cmp}, FinMap.find}
+use Rattle.mm_word.specs.{declared.word.{Word.{Word, TheVariants.{Int, Ptr}}, Cell.Cell}, Perm.can_fetch}
 use Rattle.mm_word.specs.Pointer.{Pointer}
-use Rattle.mm_model.specs.declared.slot.SlotState.{SlotState}
-use Rattle.mm_model.specs.declared.slot.SlotState.TheVariants.{Running, Waiting, Taken, Halted}
+use Rattle.mm_model.specs.declared.slot.SlotState.{SlotState, TheVariants.{Running, Waiting, Taken, Halted}}
 use Rattle.mm_model.specs.declared.slot.Pending.{Pending}
 use Rattle.mm_model.specs.Memory.{Memory, IsPaged, cell_at, cell_in, page_at, page_of, place_of}
-use Rattle.mm_model.specs.Slot.{Slot, register}
-use Rattle.mm_model.specs.State.{slot_at}
-use Rattle.mm_model.specs.Image.{Image, slot_limit, start}
-use Rattle.mm_model.specs.Spelling.{Begins, IsFresh, IsImage}
-use Rattle.mm_model.specs.Fits.{identity_of}
-use Rattle.mm_model.specs.Turn.{is_running}
+use Rattle.mm_model.specs.{Slot.{Slot, register}, State.slot_at, Image.{Image, slot_limit, start}}
+use Rattle.mm_model.specs.{Spelling.{Begins, IsFresh, IsImage}, Fits.identity_of, Turn.is_running}
 use Rattle.mm_model.proofs.CoreRows.{each_contained, slots_found}
 use Rattle.mm_model.proofs.Memories.{aligned, page_of_cell, page_whole, place_within, cell_at-aligned}
-use Rattle.mm_model.proofs.EffectWords.{each_or}
-use Rattle.mm_model.proofs.Filters.{contained_filter}
-use Rattle.mm_model.proofs.Starts.{start_slots, start_formed}
+use Rattle.mm_model.proofs.{EffectWords.each_or, Filters.contained_filter, Starts.{start_slots, start_formed}}
 use Rattle.mm_kernel.specs.Segments.{Segment, is_kept, is_fixed, may_write, pointers_in, slot_pointers, page_pointers}
 use Rattle.mm_kernel.specs.Segments.{running_slots, live_pointers, runs_privileged, is_user, is_open}
-use Rattle.mm_kernel.specs.declared.form.Form.TheVariants.{Any}
-use Rattle.mm_kernel.specs.declared.fact.Leak.TheVariants as leak
-use Rattle.mm_kernel.specs.declared.thread.Origin.TheVariants.{Door}
-use Rattle.mm_kernel.specs.declared.thread.Thread.{Thread}
+use Rattle.mm_kernel.specs.declared.{form.Form.TheVariants.Any, thread.{Origin.TheVariants.Door, Thread.Thread}}
 use Rattle.mm_kernel.specs.Forms.{exactly, zero_form}
 use Rattle.mm_kernel.specs.Threads.{form_in, handler_of, is_kernel_slot, is_kernel, serves_some, own_thread}
-use Rattle.mm_kernel.specs.Facts.{hand_out, take_up}
-use Rattle.mm_kernel.specs.Facts.Fact.{HasForm}
-use Rattle.mm_kernel.specs.Derived.{Derived, Keeps, first_form, cell_facts}
-use Rattle.mm_kernel.specs.Derived.Derived.{begins_in_cell, begins_in_slot}
+use Rattle.mm_kernel.specs.Facts.{hand_out, take_up, Fact.HasForm}
+use Rattle.mm_kernel.specs.Derived.{Derived, Keeps, first_form, cell_facts, Derived.{begins_in_cell, begins_in_slot}}
 use Rattle.mm_kernel.specs.Variants.{IsShared, IsAnyCaller, IsVariantSlot, stays, Variant}
 use Rattle.mm_kernel.proofs.Values.{CleanWord, open_is_user, Fits, fits_exactly, fits_any_int, fits_number}
 use Rattle.mm_kernel.proofs.Values.{public_shared, holds_exactly}
 use Rattle.mm_kernel.proofs.Ups.{free_up, handed_out, each_in, each_from, each_split, each_unflat}
-use Rattle.mm_kernel.proofs.Anyone.{anyone, anyone_free, any_register}
-use Rattle.mm_kernel.proofs.Slots.{RunningOk, SlotOk, SlotOkAs}
+use Rattle.mm_kernel.proofs.{Anyone.{anyone, anyone_free, any_register}, Slots.{RunningOk, SlotOk, SlotOkAs}}
 use Rattle.mm_kernel.proofs.Cores.{RowOk, RowsOk, HeldIn, WordOk, WordOkAs, MemOk}
+use Rattle.mm_kernel.specs.declared.fact.Leak.TheVariants as leak
 
 -- 1. Lists.
 

@@ -1,60 +1,30 @@
 -- One turn keeps what holds of rows and cells, and uses kept words by code words alone.
 use Rattle.std.proofs.Common.{◌≡◌, ℕ, ◌+◌, ◌⊎◌, inl, inr, Bool, true, false, ◌&&◌, nat_lt, ◌^◌, if◌then◌else◌, ℤ, pos}
 use Rattle.std.proofs.Common.{List, [], ◌∷◌, ◌++◌, replicate, Option, Some, None, Result, Ok, Err, refl, sym, ap, ◌∙◌}
-use Rattle.std.proofs.Common.{subst}
-use Rattle.std.specs.Prelude.{IfSome}
-use Rattle.std.specs.List.{AllByRecursion}
-use Rattle.std.specs.Option.{option_to_list}
-use Rattle.std.proofs.lemmas.Bool.{and_from}
-use Rattle.mm_word.specs.declared.perm.Kind.{Kind}
-use Rattle.mm_word.specs.declared.perm.Kind.TheVariants.{Fetch, Store}
-use Rattle.mm_word.specs.declared.cause.Cause.{Cause}
-use Rattle.mm_word.specs.declared.cause.Cause.TheVariants.{Bounds, NoPage, Illegal, Priv}
-use Rattle.mm_word.specs.declared.word.Pre.{Pre}
-use Rattle.mm_word.specs.declared.word.Word.{Word}
-use Rattle.mm_word.specs.declared.word.Word.TheVariants.{Int, Ptr}
-use Rattle.mm_word.specs.declared.word.Cell.{Cell}
-use Rattle.mm_word.specs.Access.{AccessValue, check_result}
-use Rattle.mm_word.specs.Perm.{can_fetch}
-use Rattle.mm_word.specs.Pointer.{Pointer, IsWellFormed}
+use Rattle.std.proofs.{Common.subst, lemmas.Bool.and_from}
+use Rattle.std.specs.{Prelude.IfSome, List.AllByRecursion, Option.option_to_list}
+use Rattle.mm_word.specs.declared.perm.Kind.{Kind, TheVariants.{Fetch, Store}}
+use Rattle.mm_word.specs.declared.cause.Cause.{Cause, TheVariants.{Bounds, NoPage, Illegal, Priv}}
+use Rattle.mm_word.specs.declared.word.{Pre.Pre, Word.{Word, TheVariants.{Int, Ptr}}, Cell.Cell}
+use Rattle.mm_word.specs.{Access.{AccessValue, check_result}, Perm.can_fetch, Pointer.{Pointer, IsWellFormed}}
 use Rattle.mm_word.specs.Word.{IsWord, word_bits}
-use Rattle.mm_isa.specs.declared.instr.Instr.{Instr}
-use Rattle.mm_isa.specs.declared.instr.Instr.TheVariants as instr
-use Rattle.mm_isa.specs.Table.{IsInstr}
-use Rattle.mm_isa.proofs.Spelling.{instr_of-spelled}
-use Rattle.mm_model.specs.declared.slot.SlotState.{SlotState}
-use Rattle.mm_model.specs.declared.slot.SlotState.TheVariants.{Running, Waiting, Taken, Halted}
-use Rattle.mm_model.specs.declared.slot.Pending.{Pending}
-use Rattle.mm_model.specs.Memory.{Memory, cell_at}
-use Rattle.mm_model.specs.Uses.{Use, Accessed}
-use Rattle.mm_model.specs.Slot.{Slot, register}
-use Rattle.mm_model.specs.State.{Core, slot_at, put_slot}
-use Rattle.mm_model.specs.Image.{Image}
+use Rattle.mm_isa.{specs.{declared.instr.Instr.Instr, Table.IsInstr}, proofs.Spelling.instr_of-spelled}
+use Rattle.mm_model.specs.declared.slot.SlotState.{SlotState, TheVariants.{Running, Waiting, Taken, Halted}}
+use Rattle.mm_model.specs.{declared.slot.Pending.Pending, Memory.{Memory, cell_at}, Uses.{Use, Accessed}}
+use Rattle.mm_model.specs.{Slot.{Slot, register}, State.{Core, slot_at, put_slot}, Image.Image}
 use Rattle.mm_model.specs.Operands.{addr_operand, value_operand, word_a, word_b, field_a, field_b, field_imm, lacks}
 use Rattle.mm_model.specs.Ask.{Ask, ask, reaching, load_kind, is_privileged}
-use Rattle.mm_model.specs.Effect.{Effect, effect, delivered}
-use Rattle.mm_model.specs.Effect.Effect.{Fault, Block, Deliver, Do}
+use Rattle.mm_model.specs.Effect.{Effect, effect, delivered, Effect.{Fault, Block, Deliver, Do}}
 use Rattle.mm_model.specs.Turn.{Turned, is_running, reply, stood, event_of, faulted, touch_of, asked_use, blocked}
 use Rattle.mm_model.specs.Turn.{ended, executed, issued, decoded, instr_in, fetched, aimed, started, idle, arrives}
-use Rattle.mm_model.specs.Turn.{turn}
-use Rattle.mm_model.specs.Trace.{touches}
-use Rattle.mm_model.proofs.SlotSteps.{delivered_from}
-use Rattle.mm_model.proofs.EffectWords.{each_or}
-use Rattle.mm_model.proofs.TurnShapes.{turn_by}
+use Rattle.mm_model.specs.{Turn.turn, Trace.touches}
+use Rattle.mm_model.proofs.{SlotSteps.delivered_from, EffectWords.each_or, TurnShapes.turn_by}
 use Rattle.mm_kernel.specs.Segments.{Segment, meets, is_kept, is_fixed, runs_privileged}
 use Rattle.mm_kernel.specs.declared.fact.Leak.TheVariants.{Code}
-use Rattle.mm_kernel.specs.declared.form.Form.{Form}
-use Rattle.mm_kernel.specs.declared.form.Form.TheVariants.{Pointer as Exactly, Any}
-use Rattle.mm_kernel.specs.declared.outcome.Outcome.{Outcome}
-use Rattle.mm_kernel.specs.declared.outcome.Outcome.TheVariants as outcome
-use Rattle.mm_kernel.specs.declared.thread.Handler.{Handler}
-use Rattle.mm_kernel.specs.declared.thread.Thread.{Thread}
-use Rattle.mm_kernel.specs.Forms.{zero_form}
-use Rattle.mm_kernel.specs.Threads.{form_in, handler_of, handler_as, is_kernel, serves_some}
-use Rattle.mm_kernel.specs.Turns as kernel
-use Rattle.mm_kernel.specs.Derived.{Keeps, IsCode}
-use Rattle.mm_kernel.specs.Variants.{IsShared}
-use Rattle.mm_kernel.specs.Laws.{KeptByCode}
+use Rattle.mm_kernel.specs.declared.{form.{Form.{Form, TheVariants.{Pointer as Exactly, Any}}}, outcome.Outcome.Outcome}
+use Rattle.mm_kernel.specs.{declared.thread.{Handler.Handler, Thread.Thread}, Forms.zero_form}
+use Rattle.mm_kernel.specs.{Threads.{form_in, handler_of, handler_as, is_kernel, serves_some}, Derived.{Keeps, IsCode}}
+use Rattle.mm_kernel.specs.{Variants.IsShared, Laws.KeptByCode}
 use Rattle.mm_kernel.proofs.Segs.{not_kept}
 use Rattle.mm_kernel.proofs.Values.{Fits, shared_outside, fits_number, Public, public_fits, public_number, allows_loads}
 use Rattle.mm_kernel.proofs.Values.{open_outside}
@@ -63,12 +33,12 @@ use Rattle.mm_kernel.proofs.Anyone.{anyone, anyone_free, anyone_follows}
 use Rattle.mm_kernel.proofs.Slots.{Sound, Match, match_at, match_anyone, origin_guards, free_form, came_like, RunningOk}
 use Rattle.mm_kernel.proofs.Slots.{SlotOk, SlotOkAs, slot_delivered}
 use Rattle.mm_kernel.proofs.Cores.{any_event, RowsOk, put_slot_ok, slot_ok, MemOk, change_rows, change_cells, FaultOk}
-use Rattle.mm_kernel.proofs.Cores.{fault_rows}
-use Rattle.mm_kernel.proofs.Rows.{WholeForm, Machine, Acts, Ready, EffectOk, reg, word}
-use Rattle.mm_kernel.proofs.Places.{through, touched_in}
-use Rattle.mm_kernel.proofs.Serves.{came_serves}
-use Rattle.mm_kernel.proofs.Effects.{ReadyFor, ready_for, ready_all, effect_ok}
-use Rattle.mm_kernel.proofs.Sanes.{thread_whole}
+use Rattle.mm_kernel.proofs.{Cores.fault_rows, Rows.{WholeForm, Machine, Acts, Ready, EffectOk, reg, word}}
+use Rattle.mm_kernel.proofs.{Places.{through, touched_in}, Serves.came_serves}
+use Rattle.mm_kernel.proofs.{Effects.{ReadyFor, ready_for, ready_all, effect_ok}, Sanes.thread_whole}
+use Rattle.mm_isa.specs.declared.instr.Instr.TheVariants as instr
+use Rattle.mm_kernel.specs.declared.outcome.Outcome.TheVariants as outcome
+use Rattle.mm_kernel.specs.Turns as kernel
 
 spelled_instr : (w : Word) (x : Instr) → instr_in w ≡ Some x → IsInstr x
 spelled_instr (Int bits) x is = (instr_of-spelled bits x is).0

@@ -1,28 +1,17 @@
 -- What follows from what a derived thread can come to, where no leak is derived.
 use Rattle.std.proofs.Common.{◌≡◌, ℕ, suc, ◌+◌, ◌<◌, ◌⊎◌, inl, inr, Bool, true, false, not, if◌then◌else◌, List, []}
 use Rattle.std.proofs.Common.{◌∷◌, ◌++◌, length, slice_index_or, Some, refl, sym, subst, arith}
-use Rattle.std.specs.Prelude.{Contains}
-use Rattle.std.specs.List.{AllByRecursion, flat_map, list_all, range_with_len}
 use Rattle.std.proofs.lemmas.Bool.{and_parts, and_from, not-true, not_from_false}
 use Rattle.std.proofs.lemmas.List.FromFn.{length-range_with_len, get_or-range_with_len}
+use Rattle.std.specs.{Prelude.Contains, List.{AllByRecursion, flat_map, list_all, range_with_len}}
 use Rattle.mm_word.specs.declared.word.Cell.{Cell}
-use Rattle.mm_model.specs.Memory.{cell_at}
-use Rattle.mm_model.specs.Image.{Image}
-use Rattle.mm_model.proofs.CoreRows.{each_map, each_get}
+use Rattle.mm_model.{specs.{Memory.cell_at, Image.Image}, proofs.CoreRows.{each_map, each_get}}
 use Rattle.mm_kernel.specs.Segments.{Segment, lies_in, is_kept, meets}
-use Rattle.mm_kernel.specs.declared.fact.Leak.{Leak}
-use Rattle.mm_kernel.specs.declared.fact.Leak.TheVariants.{Jump, FaultPointer, Fault}
-use Rattle.mm_kernel.specs.declared.fact.Handling.{Handling}
-use Rattle.mm_kernel.specs.declared.form.Form.{Form}
-use Rattle.mm_kernel.specs.declared.form.Form.TheVariants.{Pointer as Exactly}
-use Rattle.mm_kernel.specs.declared.outcome.Outcome.{Outcome}
-use Rattle.mm_kernel.specs.declared.outcome.Outcome.TheVariants as outcome
-use Rattle.mm_kernel.specs.declared.thread.Handler.{Handler}
-use Rattle.mm_kernel.specs.declared.thread.Handler.TheVariants.{Nobody, Kernel, Caller}
-use Rattle.mm_kernel.specs.declared.thread.Origin.TheVariants.{Slot as OfSlot}
-use Rattle.mm_kernel.specs.declared.thread.Thread.{Thread}
-use Rattle.mm_kernel.specs.Forms.{is_open_form, zero_form}
-use Rattle.mm_kernel.specs.Threads.{form_in, with_form, is_free}
+use Rattle.mm_kernel.specs.declared.fact.{Leak.{Leak, TheVariants.{Jump, FaultPointer, Fault}}, Handling.Handling}
+use Rattle.mm_kernel.specs.declared.{form.{Form.{Form, TheVariants.{Pointer as Exactly}}}, outcome.Outcome.Outcome}
+use Rattle.mm_kernel.specs.declared.thread.Handler.{Handler, TheVariants.{Nobody, Kernel, Caller}}
+use Rattle.mm_kernel.specs.declared.thread.{Origin.{TheVariants.{Slot as OfSlot}}, Thread.Thread}
+use Rattle.mm_kernel.specs.{Forms.{is_open_form, zero_form}, Threads.{form_in, with_form, is_free}}
 use Rattle.mm_kernel.specs.Facts.{Fact, let_out, hand_out, loose, take_up}
 use Rattle.mm_kernel.specs.Facts.Fact.{HasThread, HasForm, HasEvent, HasFaulted, HasLeak}
 use Rattle.mm_kernel.specs.Turns.{outcomes, with_event}
@@ -30,6 +19,7 @@ use Rattle.mm_kernel.specs.Derived.{Derived, Keeps, outcome_facts, fault_facts, 
 use Rattle.mm_kernel.specs.Derived.{resumed}
 use Rattle.mm_kernel.specs.Derived.Derived.{turns, loads, stores, takes, resumes, reads_served, writes_served}
 use Rattle.mm_kernel.proofs.Values.{Public}
+use Rattle.mm_kernel.specs.declared.outcome.Outcome.TheVariants as outcome
 
 -- 1. Lists.
 

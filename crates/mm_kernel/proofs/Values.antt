@@ -1,31 +1,21 @@
 -- Words that a form stands for, with what is known of every word that is ever held.
 use Rattle.std.proofs.Common.{◌≡◌, ℕ, ◌⊎◌, inl, inr, Bool, true, false, ◌&&◌, List, [], ◌∷◌, Some, refl, sym, ap, ◌∙◌}
 use Rattle.std.proofs.Common.{subst, ◌+◌, if◌then◌else◌}
-use Rattle.std.specs.List.{AllByRecursion}
 use Rattle.std.proofs.lemmas.Bool.{and_parts, and_from, and_left, and_right, false_from_ne_true}
-use Rattle.mm_word.specs.declared.perm.Perm.{Perm}
-use Rattle.mm_word.specs.declared.perm.Perm.TheVariants.{Ro, Rw, Xu, Xp, Eu, Ep, Key}
-use Rattle.mm_word.specs.declared.perm.Kind.{Kind}
-use Rattle.mm_word.specs.declared.perm.Kind.TheVariants.{Fetch, Load, LoadSet, Store}
-use Rattle.mm_word.specs.declared.word.Word.{Word}
-use Rattle.mm_word.specs.declared.word.Word.TheVariants.{Int, Ptr}
-use Rattle.mm_word.specs.declared.word.Cell.{Cell}
+use Rattle.std.specs.List.{AllByRecursion}
+use Rattle.mm_word.specs.declared.perm.Perm.{Perm, TheVariants.{Ro, Rw, Xu, Xp, Eu, Ep, Key}}
+use Rattle.mm_word.specs.declared.perm.Kind.{Kind, TheVariants.{Fetch, Load, LoadSet, Store}}
+use Rattle.mm_word.specs.declared.word.{Word.{Word, TheVariants.{Int, Ptr}}, Cell.Cell}
 use Rattle.mm_word.specs.Perm.{can_load, can_store, can_move, can_become, allows}
-use Rattle.mm_word.specs.Pointer.{Pointer, Covers, holds_word, IsBelow}
-use Rattle.mm_word.specs.Word.{IsPointerAnd, is_pointer}
-use Rattle.mm_word.proofs.Below.{holds_word-Covers}
-use Rattle.mm_word.proofs.Checked.{Covers-holds_word}
-use Rattle.mm_model.specs.Memory.{cell_at}
-use Rattle.mm_model.specs.Image.{Image}
+use Rattle.mm_word.specs.{Pointer.{Pointer, Covers, holds_word, IsBelow}, Word.{IsPointerAnd, is_pointer}}
+use Rattle.mm_word.proofs.{Below.holds_word-Covers, Checked.Covers-holds_word}
+use Rattle.mm_model.specs.{Memory.cell_at, Image.Image}
 use Rattle.mm_kernel.specs.Segments.{Segment, is_fixed, meets, may_write, runs_privileged, is_open, is_open_as}
 use Rattle.mm_kernel.specs.Segments.{is_enter, is_door}
 use Rattle.mm_kernel.specs.declared.form.Form.{Form}
 use Rattle.mm_kernel.specs.declared.form.Form.TheVariants.{Number, Pointer as Exactly, Integer, Open, Any, Inside}
 use Rattle.mm_kernel.specs.Forms.{Stands, PointsInside, exactly, is_open_form, stored_form}
-use Rattle.mm_kernel.specs.Facts.{let_out}
-use Rattle.mm_kernel.specs.Facts.Fact.{HasDoor}
-use Rattle.mm_kernel.specs.Derived.{Derived}
-use Rattle.mm_kernel.specs.Variants.{EntersByDoor, IsShared}
+use Rattle.mm_kernel.specs.{Facts.{let_out, Fact.HasDoor}, Derived.Derived, Variants.{EntersByDoor, IsShared}}
 use Rattle.mm_kernel.proofs.Segs.{Within, within_all, below_within, outside_within}
 
 -- 1. What holds of every pointer that is held: it is no privileged one, and stores to no fixed word of the image.

@@ -1,43 +1,30 @@
 -- Each pointer of a derived form that meets the kept segments is inside, where no live pointer of the image reaches across.
 use Rattle.std.proofs.Common.{◌≡◌, ℕ, ◌+◌, ◌/◌, ◌^◌, Bool, true, false, ◌&&◌, if◌then◌else◌, ℤ, pos, negsuc, List, []}
 use Rattle.std.proofs.Common.{◌∷◌, ◌++◌, Option, Some, None, Ok, Err, refl, sym, ap, ◌∙◌, subst, arith, eqb-true}
-use Rattle.std.specs.Prelude.{option_map}
-use Rattle.std.specs.List.{AllByRecursion, flat_map, range_with_len}
 use Rattle.std.proofs.lemmas.Bool.{and_parts}
-use Rattle.mm_word.specs.declared.perm.Perm.{Perm}
-use Rattle.mm_word.specs.declared.perm.Perm.TheVariants.{Ro, Rw, Xu, Xp, Eu, Ep, Key}
-use Rattle.mm_word.specs.declared.cause.Cause.TheVariants as cause
-use Rattle.mm_word.specs.declared.word.Word.{Word}
-use Rattle.mm_word.specs.declared.word.Word.TheVariants.{Int, Ptr}
-use Rattle.mm_word.specs.Perm.{can_move, can_become, execute_form}
+use Rattle.std.specs.{Prelude.option_map, List.{AllByRecursion, flat_map, range_with_len}}
+use Rattle.mm_word.specs.declared.perm.Perm.{Perm, TheVariants.{Ro, Rw, Xu, Xp, Eu, Ep, Key}}
+use Rattle.mm_word.specs.{declared.word.Word.{Word, TheVariants.{Int, Ptr}}, Perm.{can_move, can_become, execute_form}}
 use Rattle.mm_word.specs.Pointer.{Pointer, in_segment, moved_to, next_result, enter_result}
-use Rattle.mm_model.specs.Effect.{advanced, moved_on}
-use Rattle.mm_model.specs.Image.{Image}
-use Rattle.mm_model.proofs.CoreRows.{each_map, each_set}
-use Rattle.mm_model.proofs.EffectWords.{each_or}
-use Rattle.mm_model.proofs.EffectSteps.{moved_perm}
+use Rattle.mm_model.specs.{Effect.{advanced, moved_on}, Image.Image}
+use Rattle.mm_model.proofs.{CoreRows.{each_map, each_set}, EffectWords.each_or, EffectSteps.moved_perm}
 use Rattle.mm_kernel.specs.Segments.{Segment, is_inside, meets, pointers_in, runs_privileged, is_door}
-use Rattle.mm_kernel.specs.declared.fact.Leak.{Leak}
-use Rattle.mm_kernel.specs.declared.fact.Leak.TheVariants.{Jump, FaultPointer, Fault, Loose}
+use Rattle.mm_kernel.specs.declared.fact.Leak.{Leak, TheVariants.{Jump, FaultPointer, Fault, Loose}}
 use Rattle.mm_kernel.specs.declared.form.Form.{Form}
 use Rattle.mm_kernel.specs.declared.form.Form.TheVariants.{Number, Pointer as Exactly, Integer, Open, Any, Inside}
 use Rattle.mm_kernel.specs.declared.outcome.Outcome.{Outcome}
-use Rattle.mm_kernel.specs.declared.outcome.Outcome.TheVariants as outcome
-use Rattle.mm_kernel.specs.declared.thread.Handler.{Handler}
-use Rattle.mm_kernel.specs.declared.thread.Handler.TheVariants.{Nobody, Kernel, Caller}
-use Rattle.mm_kernel.specs.declared.thread.Origin.{Origin}
-use Rattle.mm_kernel.specs.declared.thread.Origin.TheVariants.{Door, Slot as OfSlot}
-use Rattle.mm_kernel.specs.declared.thread.Thread.{Thread}
+use Rattle.mm_kernel.specs.declared.thread.Handler.{Handler, TheVariants.{Nobody, Kernel, Caller}}
+use Rattle.mm_kernel.specs.declared.thread.{Origin.{Origin, TheVariants.{Door, Slot as OfSlot}}, Thread.Thread}
 use Rattle.mm_kernel.specs.Forms.{exactly, is_open_form, zero_form, stored_form}
 use Rattle.mm_kernel.specs.Threads.{form_in, with_form, stepped, is_free, is_kernel, serves_some}
 use Rattle.mm_kernel.specs.Facts.{Fact, let_out, hand_out, loose, take_up}
 use Rattle.mm_kernel.specs.Facts.Fact.{HasThread, HasForm, HasDoor, HasEvent, HasFaulted, HasLeak}
 use Rattle.mm_kernel.specs.Turns.{with_event}
 use Rattle.mm_kernel.specs.Derived.{has_segment, register_shown, shown, fault_facts, register_left, outcome_facts}
-use Rattle.mm_kernel.proofs.Segs.{Within, meets_within, inside_within}
-use Rattle.mm_kernel.proofs.Values.{Moved, moved_within}
-use Rattle.mm_kernel.proofs.Ups.{each_from, each_join, each_flat}
-use Rattle.mm_kernel.proofs.Rows.{WholeForm}
+use Rattle.mm_kernel.proofs.{Segs.{Within, meets_within, inside_within}, Values.{Moved, moved_within}}
+use Rattle.mm_kernel.proofs.{Ups.{each_from, each_join, each_flat}, Rows.WholeForm}
+use Rattle.mm_word.specs.declared.cause.Cause.TheVariants as cause
+use Rattle.mm_kernel.specs.declared.outcome.Outcome.TheVariants as outcome
 
 -- 1. Pointers.
 

@@ -1,39 +1,24 @@
 -- What a kernel comes to, whatever its callers do: the least sets of facts under its rules.
 use Rattle.std.specs.Prelude.{◌≡◌, ℕ, Bool, true, false, ◌&&◌, ◌||◌, not, if◌then◌else◌, List, [], ◌∷◌, ◌++◌, Contains}
-use Rattle.std.specs.Prelude.{Some, pos, Ok}
-use Rattle.std.specs.List.{flat_map, range_with_len}
-use Rattle.mm_word.specs.declared.perm.Perm.{Perm}
-use Rattle.mm_word.specs.declared.perm.Perm.TheVariants.{Ro, Rw, Xu, Eu}
-use Rattle.mm_word.specs.declared.perm.Kind.TheVariants.{Fetch}
-use Rattle.mm_word.specs.declared.word.Word.{Word}
-use Rattle.mm_word.specs.declared.word.Word.TheVariants.{Int, Ptr}
-use Rattle.mm_word.specs.declared.word.Cell.{Cell}
-use Rattle.mm_word.specs.Access.{AccessValue, check_result}
-use Rattle.mm_word.specs.Pointer.{Pointer as PointerValue, enter_result}
-use Rattle.mm_isa.specs.declared.instr.How.{How}
-use Rattle.mm_isa.specs.declared.instr.How.TheVariants.{Retry, Skip, Kill}
-use Rattle.mm_model.specs.Memory.{cell_at}
-use Rattle.mm_model.specs.Slot.{Slot}
-use Rattle.mm_model.specs.Effect.{advanced, runs_past}
-use Rattle.mm_model.specs.Image.{Image}
+use Rattle.std.specs.{Prelude.{Some, pos, Ok}, List.{flat_map, range_with_len}}
+use Rattle.mm_word.specs.declared.perm.{Perm.{Perm, TheVariants.{Ro, Rw, Xu, Eu}}, Kind.TheVariants.Fetch}
+use Rattle.mm_word.specs.declared.word.{Word.{Word, TheVariants.{Int, Ptr}}, Cell.Cell}
+use Rattle.mm_word.specs.{Access.{AccessValue, check_result}, Pointer.{Pointer as PointerValue, enter_result}}
+use Rattle.mm_isa.specs.declared.instr.How.{How, TheVariants.{Retry, Skip, Kill}}
+use Rattle.mm_model.specs.{Memory.cell_at, Slot.Slot, Effect.{advanced, runs_past}, Image.Image}
 use Rattle.mm_kernel.specs.Segments.{Segment, lies_in, is_kept, is_fixed, is_inside, meets, live_pointers}
 use Rattle.mm_kernel.specs.Segments.{running_slots, is_user}
-use Rattle.mm_kernel.specs.declared.fact.Leak.{Leak}
-use Rattle.mm_kernel.specs.declared.fact.Leak.TheVariants.{Across, Cell as InCell, Jump, FaultPointer, Fault}
-use Rattle.mm_kernel.specs.declared.fact.Handling.{Handling}
-use Rattle.mm_kernel.specs.declared.form.Form.{Form}
-use Rattle.mm_kernel.specs.declared.form.Form.TheVariants.{Pointer, Integer}
+use Rattle.mm_kernel.specs.declared.fact.Leak.{Leak, TheVariants.{Across, Cell as InCell, Jump, FaultPointer, Fault}}
+use Rattle.mm_kernel.specs.declared.{fact.Handling.Handling, form.Form.{Form, TheVariants.{Pointer, Integer}}}
 use Rattle.mm_kernel.specs.declared.outcome.Outcome.{Outcome}
-use Rattle.mm_kernel.specs.declared.outcome.Outcome.TheVariants as outcome
-use Rattle.mm_kernel.specs.declared.thread.Handler.{Handler}
-use Rattle.mm_kernel.specs.declared.thread.Handler.TheVariants.{Nobody, Kernel, Caller}
-use Rattle.mm_kernel.specs.declared.thread.Origin.TheVariants.{Slot as OfSlot}
-use Rattle.mm_kernel.specs.declared.thread.Thread.{Thread}
+use Rattle.mm_kernel.specs.declared.thread.Handler.{Handler, TheVariants.{Nobody, Kernel, Caller}}
+use Rattle.mm_kernel.specs.declared.thread.{Origin.{TheVariants.{Slot as OfSlot}}, Thread.Thread}
 use Rattle.mm_kernel.specs.Forms.{exactly, is_open_form}
 use Rattle.mm_kernel.specs.Threads.{form_in, with_form, handler_of, own_thread, thread_through}
 use Rattle.mm_kernel.specs.Facts.{Fact, hand_out, loose, take_up}
 use Rattle.mm_kernel.specs.Facts.Fact.{HasThread, HasForm, HasDoor, HasEvent, HasFaulted, HasLeak}
 use Rattle.mm_kernel.specs.Turns.{outcomes, with_event}
+use Rattle.mm_kernel.specs.declared.outcome.Outcome.TheVariants as outcome
 
 -- 1. What an image begins with.
 

@@ -1,19 +1,12 @@
 -- What is derived of a kernel: threads, forms of cells, doors, events, faulted threads and leaks.
-use Rattle.std.specs.Prelude.{ℕ, ◌&&◌, if◌then◌else◌, List, [], ◌∷◌, ◌++◌}
-use Rattle.std.specs.List.{flat_map}
-use Rattle.mm_word.specs.Pointer.{Pointer as PointerValue}
+use Rattle.std.specs.{Prelude.{ℕ, ◌&&◌, if◌then◌else◌, List, [], ◌∷◌, ◌++◌}, List.flat_map}
+use Rattle.mm_word.specs.{Pointer.{Pointer as PointerValue}}
 use Rattle.mm_model.specs.Image.{Image}
 use Rattle.mm_kernel.specs.Segments.{Segment, is_door}
-use Rattle.mm_kernel.specs.declared.fact.Leak.{Leak}
-use Rattle.mm_kernel.specs.declared.fact.Leak.TheVariants.{Loose}
-use Rattle.mm_kernel.specs.declared.fact.Handling.{Handling}
-use Rattle.mm_kernel.specs.declared.form.Form.{Form}
-use Rattle.mm_kernel.specs.declared.form.Form.TheVariants.{Pointer}
-use Rattle.mm_kernel.specs.declared.thread.Origin.{Origin}
-use Rattle.mm_kernel.specs.declared.thread.Origin.TheVariants.{Door, Slot as OfSlot}
-use Rattle.mm_kernel.specs.declared.thread.Thread.{Thread}
-use Rattle.mm_kernel.specs.Forms.{is_open_form}
-use Rattle.mm_kernel.specs.Threads.{is_free, is_kernel, serves_some}
+use Rattle.mm_kernel.specs.declared.fact.{Leak.{Leak, TheVariants.Loose}, Handling.Handling}
+use Rattle.mm_kernel.specs.declared.form.Form.{Form, TheVariants.Pointer}
+use Rattle.mm_kernel.specs.declared.thread.{Origin.{Origin, TheVariants.{Door, Slot as OfSlot}}, Thread.Thread}
+use Rattle.mm_kernel.specs.{Forms.is_open_form, Threads.{is_free, is_kernel, serves_some}}
 
 pub data Fact : Type 0 where
   HasThread : (thread : Thread) → Fact

@@ -1,11 +1,8 @@
 -- Forms: what is known of a word that a kernel's code handles.
 use Rattle.std.specs.Prelude.{◌≡◌, ℕ, Bool, true, false, Option, Some, None, List}
-use Rattle.mm_word.specs.declared.word.Word.{Word}
-use Rattle.mm_word.specs.declared.word.Word.TheVariants.{Int, Ptr}
-use Rattle.mm_word.specs.Pointer.{Pointer as PointerValue, base_of, bits_of}
-use Rattle.mm_word.specs.Word.{IsPointerAnd, is_pointer}
-use Rattle.mm_kernel.specs.declared.form.Form.{Form}
-use Rattle.mm_kernel.specs.declared.form.Form.TheVariants.{Number, Pointer, Integer, Open, Any, Inside}
+use Rattle.mm_word.specs.declared.word.Word.{Word, TheVariants.{Int, Ptr}}
+use Rattle.mm_word.specs.{Pointer.{Pointer as PointerValue, base_of, bits_of}, Word.{IsPointerAnd, is_pointer}}
+use Rattle.mm_kernel.specs.declared.form.Form.{Form, TheVariants.{Number, Pointer, Integer, Open, Any, Inside}}
 use Rattle.mm_kernel.specs.Segments.{Segment, lies_inside, meets, is_open, is_open_pointer}
 
 -- the form of a word alone

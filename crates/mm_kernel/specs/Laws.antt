@@ -1,30 +1,13 @@
 -- A kernel that keeps its segments keeps them in every run of every variant.
 use Rattle.std.specs.Prelude.{◌≡◌, ℕ, ◌%◌, ◌^◌, ◌<◌, ◌≤◌, true, false, Bool, List, Option, Some, None}
 use Rattle.std.specs.List.{AllByRecursion}
-use Rattle.mm_word.specs.declared.word.Word.{Word}
-use Rattle.mm_word.specs.declared.word.Word.TheVariants.{Ptr}
-use Rattle.mm_word.specs.declared.word.Cell.{Cell}
-use Rattle.mm_word.specs.Access.{AccessValue}
-use Rattle.mm_model.specs.declared.slot.SlotState.{SlotState}
-use Rattle.mm_model.specs.declared.slot.SlotState.TheVariants.{Running, Halted}
-use Rattle.mm_model.specs.declared.slot.Pending.{Pending}
-use Rattle.mm_model.specs.declared.event.Event.{Event}
-use Rattle.mm_model.specs.Memory.{cell_at}
-use Rattle.mm_model.specs.Slot.{Slot}
-use Rattle.mm_model.specs.State.{ThreadRow, State}
-use Rattle.mm_model.specs.Image.{Image, start}
-use Rattle.mm_model.specs.Spelling.{IsImage}
-use Rattle.mm_model.specs.Turn.{Turned}
-use Rattle.mm_model.specs.Run.{turn_of, run}
-use Rattle.mm_model.specs.Trace.{touches}
-use Rattle.mm_kernel.specs.Segments.{Segment, is_kept, is_fixed}
-use Rattle.mm_kernel.specs.declared.form.Form.{Form}
-use Rattle.mm_kernel.specs.Forms.{Stands}
-use Rattle.mm_kernel.specs.Threads.{is_kernel}
-use Rattle.mm_kernel.specs.declared.thread.Thread.{Thread}
-use Rattle.mm_kernel.specs.Facts.Fact.{HasThread, HasForm}
-use Rattle.mm_kernel.specs.Derived.{Derived, IsCode, Keeps}
-use Rattle.mm_kernel.specs.Variants.{IsShared, Variant}
+use Rattle.mm_word.specs.{declared.word.{Word.{Word, TheVariants.Ptr}, Cell.Cell}, Access.AccessValue}
+use Rattle.mm_model.specs.declared.slot.{SlotState.{SlotState, TheVariants.{Running, Halted}}, Pending.Pending}
+use Rattle.mm_model.specs.{declared.event.Event.Event, Memory.cell_at, Slot.Slot, State.{ThreadRow, State}}
+use Rattle.mm_model.specs.{Image.{Image, start}, Spelling.IsImage, Turn.Turned, Run.{turn_of, run}, Trace.touches}
+use Rattle.mm_kernel.specs.{Segments.{Segment, is_kept, is_fixed}, declared.{form.Form.Form, thread.Thread.Thread}}
+use Rattle.mm_kernel.specs.{Forms.Stands, Threads.is_kernel, Facts.Fact.{HasThread, HasForm}}
+use Rattle.mm_kernel.specs.{Derived.{Derived, IsCode, Keeps}, Variants.{IsShared, Variant}}
 
 -- 1. Which segments can be kept.
 

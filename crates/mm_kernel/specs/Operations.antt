@@ -1,19 +1,11 @@
 -- What an instruction makes of the forms of its operands.
-use Rattle.std.specs.Prelude.{ℕ, ◌%◌, Bool, true, false, ◌&&◌, ◌==◌, nat_lt, if◌then◌else◌, ℤ}
-use Rattle.std.specs.Prelude.{List, [], ◌∷◌, Option, Some, None, Result, Ok, Err}
-use Rattle.std.specs.List.{filter}
-use Rattle.mm_word.specs.declared.perm.Perm.{Perm}
-use Rattle.mm_word.specs.declared.perm.Perm.TheVariants.{Ro, Rw, Xu, Xp, Eu, Ep, Key}
-use Rattle.mm_word.specs.declared.word.Word.{Word}
-use Rattle.mm_word.specs.Perm.{code_of, can_become}
-use Rattle.mm_word.specs.Pointer.{Pointer as PointerValue, bits_of}
-use Rattle.mm_isa.specs.declared.instr.AluOp.{AluOp}
-use Rattle.mm_isa.specs.declared.instr.AluOp.TheVariants.{Shr}
-use Rattle.mm_isa.specs.declared.instr.DivZero.{DivZero}
-use Rattle.mm_isa.specs.Alu.{alu_result}
+use Rattle.std.specs.Prelude.{ℕ, ◌%◌, Bool, true, false, ◌&&◌, ◌==◌, nat_lt, if◌then◌else◌, ℤ, List, [], ◌∷◌, Option}
+use Rattle.std.specs.{Prelude.{Some, None, Result, Ok, Err}, List.filter}
+use Rattle.mm_word.specs.declared.{perm.Perm.{Perm, TheVariants.{Ro, Rw, Xu, Xp, Eu, Ep, Key}}, word.Word.Word}
+use Rattle.mm_word.specs.{Perm.{code_of, can_become}, Pointer.{Pointer as PointerValue, bits_of}}
+use Rattle.mm_isa.specs.{declared.instr.{AluOp.{AluOp, TheVariants.Shr}, DivZero.DivZero}, Alu.alu_result}
 use Rattle.mm_model.specs.Effect.{same_word, test, high_and_low}
-use Rattle.mm_kernel.specs.declared.form.Form.{Form}
-use Rattle.mm_kernel.specs.declared.form.Form.TheVariants.{Number, Pointer, Integer, Open, Inside}
+use Rattle.mm_kernel.specs.declared.form.Form.{Form, TheVariants.{Number, Pointer, Integer, Open, Inside}}
 use Rattle.mm_kernel.specs.Forms.{exact, exact_bits}
 
 -- 1. Integers.

@@ -1,19 +1,12 @@
 -- Kernel slots and callers, and threads of the kernel's code.
 use Rattle.std.specs.Prelude.{ℕ, Bool, true, false, not, ◌&&◌, ◌==◌, List, map, replicate, slice_index_or, slice_set}
-use Rattle.std.specs.Prelude.{Option, Some, None}
-use Rattle.std.specs.List.{list_all, list_any}
+use Rattle.std.specs.{Prelude.{Option, Some, None}, List.{list_all, list_any}}
 use Rattle.mm_word.specs.Pointer.{Pointer}
-use Rattle.mm_model.specs.Slot.{Slot}
-use Rattle.mm_model.specs.Image.{Image}
-use Rattle.mm_model.specs.Effect.{advanced, runs_past}
-use Rattle.mm_model.specs.Turn.{is_running, is_handler}
+use Rattle.mm_model.specs.{Slot.Slot, Image.Image, Effect.{advanced, runs_past}, Turn.{is_running, is_handler}}
 use Rattle.mm_kernel.specs.Segments.{Segment, meets, is_open, running_slots}
-use Rattle.mm_kernel.specs.declared.form.Form.{Form}
-use Rattle.mm_kernel.specs.declared.form.Form.TheVariants.{Any}
-use Rattle.mm_kernel.specs.declared.thread.Handler.{Handler}
-use Rattle.mm_kernel.specs.declared.thread.Handler.TheVariants.{Nobody, Kernel, Caller}
-use Rattle.mm_kernel.specs.declared.thread.Origin.TheVariants.{Door, Slot as OfSlot}
-use Rattle.mm_kernel.specs.declared.thread.Thread.{Thread}
+use Rattle.mm_kernel.specs.declared.form.Form.{Form, TheVariants.Any}
+use Rattle.mm_kernel.specs.declared.thread.Handler.{Handler, TheVariants.{Nobody, Kernel, Caller}}
+use Rattle.mm_kernel.specs.declared.thread.{Origin.{TheVariants.{Door, Slot as OfSlot}}, Thread.Thread}
 use Rattle.mm_kernel.specs.Forms.{exactly, is_open_form, zero_form}
 
 -- 1. Slots.

@@ -1,41 +1,28 @@
 -- What a turn of a thread can come to, instruction by instruction.
-use Rattle.std.specs.Prelude.{ℕ, ◌+◌, Bool, true, false, ◌==◌, is_some, if◌then◌else◌, ℤ, pos, ◌+ℤ◌, ◌*ℤ◌}
-use Rattle.std.specs.Prelude.{List, [], ◌∷◌, ◌++◌, map, Option, Some, None, Result, Ok, Err}
+use Rattle.std.specs.Prelude.{ℕ, ◌+◌, Bool, true, false, ◌==◌, is_some, if◌then◌else◌, ℤ, pos, ◌+ℤ◌, ◌*ℤ◌, List, []}
+use Rattle.std.specs.Prelude.{◌∷◌, ◌++◌, map, Option, Some, None, Result, Ok, Err}
 use Rattle.std.specs.Int.{w64, cast_unsigned, cast_signed}
-use Rattle.mm_word.specs.declared.perm.Perm.{Perm}
-use Rattle.mm_word.specs.declared.perm.Perm.TheVariants.{Ro, Rw, Xu, Eu, Key}
-use Rattle.mm_word.specs.declared.perm.Kind.{Kind}
-use Rattle.mm_word.specs.declared.perm.Kind.TheVariants.{Fetch, Store}
-use Rattle.mm_word.specs.declared.cause.Cause.{Cause}
-use Rattle.mm_word.specs.declared.word.Pre.{Pre}
-use Rattle.mm_word.specs.declared.word.Pre.TheVariants as pres
-use Rattle.mm_word.specs.declared.word.Word.TheVariants.{Ptr}
-use Rattle.mm_word.specs.declared.word.Cell.{Cell}
-use Rattle.mm_word.specs.Access.{AccessValue, check_result}
+use Rattle.mm_word.specs.declared.perm.Perm.{Perm, TheVariants.{Ro, Rw, Xu, Eu, Key}}
+use Rattle.mm_word.specs.declared.{perm.Kind.{Kind, TheVariants.{Fetch, Store}}, cause.Cause.Cause}
+use Rattle.mm_word.specs.{declared.word.{Pre.Pre, Word.TheVariants.Ptr, Cell.Cell}, Access.{AccessValue, check_result}}
 use Rattle.mm_word.specs.Perm.{can_move, allows, execute_form}
 use Rattle.mm_word.specs.Pointer.{Pointer as PointerValue, moved_to, lea_result, leab_result, subseg_result}
 use Rattle.mm_word.specs.Pointer.{next_result, enter_result}
-use Rattle.mm_isa.specs.declared.instr.AluOp.TheVariants.{Add}
-use Rattle.mm_isa.specs.declared.instr.Instr.{Instr}
-use Rattle.mm_isa.specs.declared.instr.Instr.TheVariants as instr
-use Rattle.mm_isa.specs.Alu.{divides}
-use Rattle.mm_model.specs.Memory.{cell_at}
-use Rattle.mm_model.specs.Image.{Image}
-use Rattle.mm_model.specs.Operands.{field_a, field_b, field_imm}
-use Rattle.mm_model.specs.Ask.{load_kind}
+use Rattle.mm_isa.specs.{declared.instr.{AluOp.TheVariants.Add, Instr.Instr}, Alu.divides}
+use Rattle.mm_model.specs.{Memory.cell_at, Image.Image, Operands.{field_a, field_b, field_imm}, Ask.load_kind}
 use Rattle.mm_model.specs.Turn.{instr_in}
 use Rattle.mm_kernel.specs.Segments.{Segment, is_kept, is_fixed}
-use Rattle.mm_kernel.specs.declared.fact.Leak.TheVariants as leak
-use Rattle.mm_kernel.specs.declared.form.Form.{Form}
-use Rattle.mm_kernel.specs.declared.form.Form.TheVariants.{Number, Pointer, Integer, Open, Any, Inside}
+use Rattle.mm_kernel.specs.declared.form.Form.{Form, TheVariants.{Number, Pointer, Integer, Open, Any, Inside}}
 use Rattle.mm_kernel.specs.declared.outcome.Outcome.{Outcome}
 use Rattle.mm_kernel.specs.declared.outcome.Outcome.TheVariants.{Goes, Loads, Stores, HandsOut, Leaves, Leaks, Faults}
 use Rattle.mm_kernel.specs.declared.outcome.Outcome.TheVariants.{TakesEvent, Resumes, ReadsServed, WritesServed}
-use Rattle.mm_kernel.specs.declared.thread.Thread.{Thread}
-use Rattle.mm_kernel.specs.Forms.{exactly, exact_bits, zero_form, stored_form, around}
+use Rattle.mm_kernel.specs.{declared.thread.Thread.Thread, Forms.{exactly, exact_bits, zero_form, stored_form, around}}
 use Rattle.mm_kernel.specs.Threads.{form_in, with_form, stepped, going_to}
-use Rattle.mm_kernel.specs.Operations.{alu_form, may_be_zero, is_zero, equal_form, high_form}
-use Rattle.mm_kernel.specs.Operations.{choices, with_permission, permission_of}
+use Rattle.mm_kernel.specs.Operations.{alu_form, may_be_zero, is_zero, equal_form, high_form, choices, with_permission}
+use Rattle.mm_kernel.specs.Operations.{permission_of}
+use Rattle.mm_word.specs.declared.word.Pre.TheVariants as pres
+use Rattle.mm_isa.specs.declared.instr.Instr.TheVariants as instr
+use Rattle.mm_kernel.specs.declared.fact.Leak.TheVariants as leak
 
 -- 1. Operands.
 

@@ -1,19 +1,10 @@
 -- Variants of an image: the same kernel, with any callers.
 use Rattle.std.specs.Prelude.{◌≡◌, ℕ, Bool, true, false, ◌||◌, if◌then◌else◌, List, map, Some}
 use Rattle.std.specs.List.{AllByRecursion, AllZip}
-use Rattle.mm_word.specs.declared.perm.Perm.TheVariants.{Xu}
-use Rattle.mm_word.specs.declared.word.Word.{Word}
-use Rattle.mm_word.specs.declared.word.Word.TheVariants.{Int, Ptr}
-use Rattle.mm_word.specs.declared.word.Cell.{Cell}
-use Rattle.mm_model.specs.Memory.{cell_at}
-use Rattle.mm_model.specs.Slot.{Slot}
-use Rattle.mm_model.specs.Image.{Image}
-use Rattle.mm_model.specs.Fits.{identity_of}
-use Rattle.mm_model.specs.Turn.{is_running}
-use Rattle.mm_kernel.specs.Segments.{Segment, is_kept, is_fixed, meets, is_open, is_door}
-use Rattle.mm_kernel.specs.Threads.{is_kernel_slot}
-use Rattle.mm_kernel.specs.Facts.Fact.{HasDoor}
-use Rattle.mm_kernel.specs.Derived.{Derived}
+use Rattle.mm_word.specs.declared.{perm.Perm.TheVariants.Xu, word.{Word.{Word, TheVariants.{Int, Ptr}}, Cell.Cell}}
+use Rattle.mm_model.specs.{Memory.cell_at, Slot.Slot, Image.Image, Fits.identity_of, Turn.is_running}
+use Rattle.mm_kernel.specs.{Segments.{Segment, is_kept, is_fixed, meets, is_open, is_door}, Threads.is_kernel_slot}
+use Rattle.mm_kernel.specs.{Facts.Fact.HasDoor, Derived.Derived}
 
 -- a door among words that callers share can be entered
 abbrev pub EntersByDoor : Image → List Segment → Word → Type 0

@@ -1,26 +1,17 @@
 -- Rows of some groups: where they are found, and after a slot or a queue was put.
-use Rattle.std.proofs.Common.{◌≡◌, ℕ, ◌<◌, inl, inr, Bool, true, false, cond, nat_eq, if◌then◌else◌, List, [], ◌∷◌, map, Option, Some, None, refl, sym, ap, ◌∙◌, subst, arith, eqb-true}
-use Rattle.std.specs.List.{AllByRecursion, filter}
-use Rattle.std.specs.List.Sorted.{IsStrictlyIncreasing}
+use Rattle.std.proofs.Common.{◌≡◌, ℕ, ◌<◌, inl, inr, Bool, true, false, cond, nat_eq, if◌then◌else◌, List, [], ◌∷◌, map}
+use Rattle.std.proofs.Common.{Option, Some, None, refl, sym, ap, ◌∙◌, subst, arith, eqb-true}
 use Rattle.std.proofs.lemmas.Bool.{both_ways, cases_Bool, cases_eq}
-use Rattle.mm_model.specs.declared.event.Event.{Event}
-use Rattle.mm_model.specs.Slot.{Slot}
-use Rattle.mm_model.specs.State.{ThreadRow, Core, row_in, slot_of, queue_of, slot_at, queue_at, at_number, put_slot, put_queue}
-use Rattle.mm_model.specs.Fits.{identity_of}
-use Rattle.mm_model.proofs.CoreRows.{each_map, above_first, rest_rises, Rises, identities_of, rises_by, stays_by, identities_of-put_slot, row_here, row_later}
-use Rattle.mm_model.proofs.Filters.{filter_takes, filter_drops}
-use Rattle.mm_model.specs.State.{output_of, put_output}
-use Rattle.mm_model.specs.Image.{Image}
-use Rattle.mm_model.specs.Effect.{Change}
-use Rattle.mm_model.specs.Turn.{with_other, with_out, slot_after}
-use Rattle.mm_model.specs.Reach.Entries.{All}
-use Rattle.mm_model.proofs.CoreRows.{slot_at-number}
-use Rattle.mm_model.proofs.TurnKeeps.{changed_from}
-use Rattle.mm_model.proofs.TurnChanges.{changed_identity}
+use Rattle.std.specs.List.{AllByRecursion, filter, Sorted.IsStrictlyIncreasing}
+use Rattle.mm_model.specs.{declared.event.Event.Event, Slot.Slot}
+use Rattle.mm_model.specs.State.{ThreadRow, Core, row_in, slot_of, queue_of, slot_at, queue_at, at_number, put_slot}
+use Rattle.mm_model.specs.{State.{put_queue, output_of, put_output}, Fits.identity_of, Image.Image, Effect.Change}
+use Rattle.mm_model.specs.{Turn.{with_other, with_out, slot_after}, Reach.Entries.All}
+use Rattle.mm_model.proofs.CoreRows.{each_map, above_first, rest_rises, Rises, identities_of, rises_by, stays_by}
+use Rattle.mm_model.proofs.CoreRows.{identities_of-put_slot, row_here, row_later, slot_at-number}
+use Rattle.mm_model.proofs.{Filters.{filter_takes, filter_drops}, TurnKeeps.changed_from, TurnChanges.changed_identity}
 use Rattle.mm_laws.specs.Isolated.{is_row_of}
-use Rattle.mm_laws.proofs.GrantedWords.{row_has, row_of}
-use Rattle.mm_laws.proofs.GrantedRows.{OtherSlot}
-use Rattle.mm_laws.proofs.GrantedTurns.{same_slot}
+use Rattle.mm_laws.proofs.{GrantedWords.{row_has, row_of}, GrantedRows.OtherSlot, GrantedTurns.same_slot}
 
 -- 1. Rows of the groups, by number.
 

@@ -1,59 +1,41 @@
 -- A turn of the groups is the same in two states that are alike to them.
-use Rattle.std.proofs.Common.{◌≡◌, ℕ, zero, suc, ◌^◌, inl, inr, Bool, true, false, ◌&&◌, nat_lt, if◌then◌else◌}
-use Rattle.std.proofs.Common.{List, [], ◌∷◌, ◌++◌, map, length, Option, Some, None, Result, Ok, Err, refl, sym, ap, ◌∙◌}
-use Rattle.std.proofs.Common.{subst, arith, slice_set, slice_index_or}
-use Rattle.std.specs.Prelude.{IfSome}
-use Rattle.std.specs.List.{AllByRecursion}
-use Rattle.std.proofs.lemmas.Bool.{both_ways, cases_Bool, cases_eq}
+use Rattle.std.proofs.Common.{◌≡◌, ℕ, zero, suc, ◌^◌, inl, inr, Bool, true, false, ◌&&◌, nat_lt, if◌then◌else◌, List}
+use Rattle.std.proofs.Common.{[], ◌∷◌, ◌++◌, map, length, Option, Some, None, Result, Ok, Err, refl, sym, ap, ◌∙◌}
+use Rattle.std.proofs.{Common.{subst, arith, slice_set, slice_index_or}, lemmas.Bool.{both_ways, cases_Bool, cases_eq}}
+use Rattle.std.specs.{Prelude.IfSome, List.AllByRecursion}
 use Rattle.mm_word.specs.declared.perm.Kind.TheVariants.{Store}
-use Rattle.mm_word.specs.declared.cause.Cause.{Cause}
-use Rattle.mm_word.specs.declared.cause.Cause.TheVariants.{Bounds, Priv, NoSlot, OutFull}
-use Rattle.mm_word.specs.declared.word.Pre.{Pre}
-use Rattle.mm_word.specs.declared.word.Word.{Word}
-use Rattle.mm_word.specs.declared.word.Word.TheVariants.{Int}
-use Rattle.mm_word.specs.declared.word.Cell.{Cell}
-use Rattle.mm_word.specs.Access.{AccessValue, check_result}
-use Rattle.mm_word.specs.Word.{word_bits}
-use Rattle.mm_isa.specs.declared.instr.Instr.{Instr}
-use Rattle.mm_isa.specs.declared.instr.Instr.TheVariants.{Out, Ld, St, Map, Unmap}
-use Rattle.mm_model.specs.declared.slot.SlotState.{SlotState}
-use Rattle.mm_model.specs.declared.slot.SlotState.TheVariants.{Running, Waiting, Halted}
-use Rattle.mm_model.specs.declared.slot.Pending.{Pending}
+use Rattle.mm_word.specs.declared.cause.Cause.{Cause, TheVariants.{Bounds, Priv, NoSlot, OutFull}}
+use Rattle.mm_word.specs.declared.word.{Pre.Pre, Word.{Word, TheVariants.Int}, Cell.Cell}
+use Rattle.mm_word.specs.{Access.{AccessValue, check_result}, Word.word_bits}
+use Rattle.mm_isa.specs.declared.instr.Instr.{Instr, TheVariants.{Out, Ld, St, Map, Unmap}}
+use Rattle.mm_model.specs.declared.slot.{SlotState.{SlotState, TheVariants.{Running, Waiting, Halted}}, Pending.Pending}
 use Rattle.mm_model.specs.declared.event.Event.{Event}
 use Rattle.mm_model.specs.Memory.{Memory, cell_at, put_cell, map_page, unmap_page, can_map, is_mapped, IsPaged}
-use Rattle.mm_model.specs.Uses.{Use}
-use Rattle.mm_model.specs.Slot.{Slot, register}
-use Rattle.mm_model.specs.State.{ThreadRow, Core, slot_at, queue_at, put_slot, put_queue, output_of, put_output, at_number}
-use Rattle.mm_model.specs.Image.{Image, output_limit}
-use Rattle.mm_model.specs.Spelling.{IsOther}
-use Rattle.mm_model.specs.Fits.{slots_of, is_waiting}
+use Rattle.mm_model.specs.{Uses.Use, Slot.{Slot, register}}
+use Rattle.mm_model.specs.State.{ThreadRow, Core, slot_at, queue_at, put_slot, put_queue, output_of, put_output}
+use Rattle.mm_model.specs.{State.at_number, Image.{Image, output_limit}, Spelling.IsOther, Fits.{slots_of, is_waiting}}
 use Rattle.mm_model.specs.Operands.{addr_operand, value_operand, lacks}
 use Rattle.mm_model.specs.Ask.{Ask, ask, is_privileged, load_kind, reaching}
 use Rattle.mm_model.specs.Ask.Ask.{Nothing, Refuse, Reach, MapPage, UnmapPage, NextEvent, Room, Serve}
 use Rattle.mm_model.specs.Effect.{Change, Pages, Effect, effect, delivered}
-use Rattle.mm_model.specs.Effect.Reply.{Fine, Refused, Paged, Served}
-use Rattle.mm_model.specs.Effect.Pages.{Keep, Add, Remove}
+use Rattle.mm_model.specs.Effect.{Reply.{Fine, Refused, Paged, Served}, Pages.{Keep, Add, Remove}}
 use Rattle.mm_model.specs.Effect.Effect.{Fault, Block, Deliver, Do}
 use Rattle.mm_model.specs.Turn.{Turned, reply, reached, event_reply, first_event, is_taken, is_handler, served}
 use Rattle.mm_model.specs.Turn.{slot_after, with_other, with_queue, with_out, with_cell, with_pages, core_after}
 use Rattle.mm_model.specs.Turn.{memory_after, stood, is_sync, event_of, core_faulted, faulted, touch_of, asked_use}
-use Rattle.mm_model.specs.Turn.{blocked, ended, executed, started, idle}
-use Rattle.mm_model.specs.Turn.{arrives}
-use Rattle.mm_model.specs.Reach.{Privileged}
-use Rattle.mm_model.specs.Reach.Entries.{All}
+use Rattle.mm_model.specs.{Turn.{blocked, ended, executed, started, idle, arrives}, Reach.{Privileged, Entries.All}}
 use Rattle.mm_model.specs.Worlds.{Touchable, IsPrivileged, Apart}
 use Rattle.mm_model.proofs.CoreRows.{slot_at-number, queue_at-put_slot, slot_has, other_at}
-use Rattle.mm_model.proofs.CoreSteps.{handler_is, queued_waits}
-use Rattle.mm_model.proofs.SlotSteps.{delivered_from}
-use Rattle.mm_model.proofs.Memories.{cell_at-put_same, cell_at-put_other}
-use Rattle.mm_model.proofs.TurnKeeps.{changed_from}
+use Rattle.mm_model.proofs.{CoreSteps.{handler_is, queued_waits}, SlotSteps.delivered_from}
+use Rattle.mm_model.proofs.{Memories.{cell_at-put_same, cell_at-put_other}, TurnKeeps.changed_from}
 use Rattle.mm_model.proofs.TurnChanges.{same_output, fault_same, moved_same}
 use Rattle.mm_model.proofs.TurnShapes.{fetch_uses, fetch_use, FetchAlike, started_by}
 use Rattle.mm_laws.specs.Granted.{TouchGranted}
 use Rattle.mm_laws.proofs.GrantedWords.{slot_granted}
-use Rattle.mm_laws.proofs.GrantedRows.{Stands, CellWritten, PagesGranted, OtherSlot, ChangeGranted, EffectGranted, effect_granted, is_xp}
-use Rattle.mm_laws.proofs.GrantedTurns.{fetch_granted, touch_granted}
-use Rattle.mm_laws.proofs.AlikeRows.{other_sames, own_sames, mine-with_out, output_of-put_slot, mine, SameSlotAt, same_at, Sames, sames_self, put_slot-sames, mine-put_slot, mine-put_queue}
+use Rattle.mm_laws.proofs.GrantedRows.{Stands, CellWritten, PagesGranted, OtherSlot, ChangeGranted, EffectGranted}
+use Rattle.mm_laws.proofs.{GrantedRows.{effect_granted, is_xp}, GrantedTurns.{fetch_granted, touch_granted}}
+use Rattle.mm_laws.proofs.AlikeRows.{other_sames, own_sames, mine-with_out, output_of-put_slot, mine, SameSlotAt}
+use Rattle.mm_laws.proofs.AlikeRows.{same_at, Sames, sames_self, put_slot-sames, mine-put_slot, mine-put_queue}
 use Rattle.mm_laws.proofs.AlikeWorlds.{state_side, touch_known, touches_all, whole_memory}
 
 -- what is the same of two turns

@@ -1,38 +1,20 @@
 -- What is granted to groups that stand apart is granted in both images, and memories with the same cells are equal.
-use Rattle.std.proofs.Common.{◌≡◌, ℕ, suc, ◌+◌, ◌*◌, ◌%◌, ◌^◌, ◌<◌, ◌≤◌, inl, inr, Bool, true}
-use Rattle.std.proofs.Common.{List, [], ◌∷◌, length, slice_get, Option, Some, None, refl, sym, ap, ◌∙◌, subst}
-use Rattle.std.proofs.Common.{arith, T}
-use Rattle.std.specs.Prelude.{Contains}
-use Rattle.std.specs.List.{filter}
-use Rattle.std.specs.Ordering.{nat_cmp}
-use Rattle.std.specs.FinMap.{nat_cmp-IsAntisymmetric}
-use Rattle.std.specs.FinMap.Entries.{same_entries}
-use Rattle.std.proofs.Math.Nat.{div-eq_of_lt}
-use Rattle.std.proofs.lemmas.Cmp.{nat_cmp_total}
-use Rattle.std.proofs.lemmas.Bool.{cases_Bool, and_parts}
-use Rattle.mm_word.specs.declared.perm.Perm.TheVariants.{Ro}
-use Rattle.mm_word.specs.declared.perm.Kind.{Kind}
-use Rattle.mm_word.specs.declared.perm.Kind.TheVariants.{Fetch, Load, LoadSet, Store}
-use Rattle.mm_word.specs.declared.perm.Perm.{Perm}
-use Rattle.mm_word.specs.declared.word.Cell.{Cell}
-use Rattle.mm_word.specs.Access.{AccessValue}
-use Rattle.mm_word.specs.Perm.{allows, can_load, can_store}
-use Rattle.mm_word.specs.Pointer.{Pointer, IsWellFormed, Covers}
-use Rattle.mm_word.proofs.Rights.{can_fetch-loads, can_store-loads}
-use Rattle.mm_model.specs.Memory.{Memory, page_of, place_of, page_at, cell_in, cell_at, IsPaged}
-use Rattle.mm_model.specs.Slot.{Slot}
-use Rattle.mm_model.specs.State.{Core, slot_at}
-use Rattle.mm_model.specs.Image.{Image}
-use Rattle.mm_model.specs.Fits.{identity_of}
-use Rattle.mm_model.specs.Reach.{Grants, Serves}
-use Rattle.mm_model.specs.Reach.Grants.{below}
-use Rattle.mm_model.specs.Reach.Entries.{All}
+use Rattle.std.proofs.Common.{◌≡◌, ℕ, suc, ◌+◌, ◌*◌, ◌%◌, ◌^◌, ◌<◌, ◌≤◌, inl, inr, Bool, true, List, [], ◌∷◌, length}
+use Rattle.std.proofs.Common.{slice_get, Option, Some, None, refl, sym, ap, ◌∙◌, subst, arith, T}
+use Rattle.std.proofs.{Math.Nat.div-eq_of_lt, lemmas.{Cmp.nat_cmp_total, Bool.{cases_Bool, and_parts}}}
+use Rattle.std.specs.{Prelude.Contains, List.filter, Ordering.nat_cmp}
+use Rattle.std.specs.FinMap.{nat_cmp-IsAntisymmetric, Entries.same_entries}
+use Rattle.mm_word.specs.declared.perm.Perm.{Perm, TheVariants.Ro}
+use Rattle.mm_word.specs.declared.perm.Kind.{Kind, TheVariants.{Fetch, Load, LoadSet, Store}}
+use Rattle.mm_word.specs.{declared.word.Cell.Cell, Access.AccessValue, Perm.{allows, can_load, can_store}}
+use Rattle.mm_word.{specs.Pointer.{Pointer, IsWellFormed, Covers}, proofs.Rights.{can_fetch-loads, can_store-loads}}
+use Rattle.mm_model.specs.{Memory.{Memory, page_of, place_of, page_at, cell_in, cell_at, IsPaged}, Slot.Slot}
+use Rattle.mm_model.specs.{State.{Core, slot_at}, Image.Image, Fits.identity_of}
+use Rattle.mm_model.specs.Reach.{Grants, Serves, Grants.below, Entries.All}
 use Rattle.mm_model.specs.Worlds.{Touchable, IsPrivileged, Apart, Agree}
-use Rattle.mm_model.proofs.CoreRows.{identities_of}
-use Rattle.mm_model.proofs.Memories.{cell_at-aligned, page_whole}
+use Rattle.mm_model.proofs.{CoreRows.identities_of, Memories.{cell_at-aligned, page_whole}}
 use Rattle.mm_model.proofs.Filters.{contained_filter, filter_contained}
-use Rattle.mm_laws.specs.Granted.{TouchGranted}
-use Rattle.mm_laws.proofs.GrantedWords.{image_slot}
+use Rattle.mm_laws.{specs.Granted.TouchGranted, proofs.GrantedWords.image_slot}
 
 -- 1. Sides.
 

@@ -1,26 +1,16 @@
 -- The lines of the cells that groups can touch are one text, which is the same in two worlds.
-use Rattle.std.proofs.Common.{◌≡◌, ◌≢◌, ℕ, ◌<◌, inl, inr, Bool, true, false, cond, ◌||◌, ◌↔◌, nat_eq, List, [], ◌∷◌, ◌++◌, refl, sym, ap, ◌∙◌, subst, arith, eq-eqb, eqb-true}
+use Rattle.std.proofs.Common.{◌≡◌, ◌≢◌, ℕ, ◌<◌, inl, inr, Bool, true, false, cond, ◌||◌, ◌↔◌, nat_eq, List, [], ◌∷◌}
+use Rattle.std.proofs.Common.{◌++◌, refl, sym, ap, ◌∙◌, subst, arith, eq-eqb, eqb-true}
+use Rattle.std.proofs.lemmas.Bool.{both_ways, cases_Bool, ne_eqb, or_parts}
 use Rattle.std.specs.List.{AllByRecursion, filter, flat_map}
-use Rattle.std.proofs.lemmas.Bool.{both_ways, cases_Bool, ne_eqb}
-use Rattle.std.proofs.lemmas.Bool.{or_parts}
 use Rattle.mm_word.specs.declared.word.Cell.{Cell}
-use Rattle.mm_model.specs.Image.{Image, start}
-use Rattle.mm_model.specs.Lines.{cell_line}
-use Rattle.mm_model.specs.Report.{changes}
-use Rattle.mm_model.specs.Schedule.{only}
-use Rattle.mm_model.specs.Run.{run}
-use Rattle.mm_model.specs.Reach.Entries.{All}
-use Rattle.mm_model.specs.Worlds.{Touchable}
-use Rattle.mm_model.proofs.CoreRows.{each_map}
-use Rattle.mm_laws.specs.CellLines.{LinesOf, CellLinesOf}
-use Rattle.mm_laws.specs.Isolated.{AgreeApart}
-use Rattle.mm_model.proofs.Fitted.{paged_of}
-use Rattle.mm_model.proofs.Filters.{filter_takes, filter_drops}
+use Rattle.mm_model.specs.{Image.{Image, start}, Lines.cell_line, Report.changes, Schedule.only, Run.run}
+use Rattle.mm_model.specs.{Reach.Entries.All, Worlds.Touchable}
+use Rattle.mm_model.proofs.{CoreRows.each_map, Fitted.paged_of, Filters.{filter_takes, filter_drops}}
+use Rattle.mm_laws.specs.{CellLines.{LinesOf, CellLinesOf}, Isolated.AgreeApart}
 use Rattle.mm_laws.proofs.AlikeWorlds.{touchable_other, touchable_back}
 use Rattle.mm_laws.proofs.CellViews.{IsIn, Rising, at_word, filter_in, in_filter}
-use Rattle.mm_laws.proofs.ChangedCells.{each_of_in, changes_rising}
-use Rattle.mm_laws.proofs.OwnImages.{each_among}
-use Rattle.mm_laws.proofs.SameViews.{same_worlds}
+use Rattle.mm_laws.proofs.{ChangedCells.{each_of_in, changes_rising}, OwnImages.each_among, SameViews.same_worlds}
 use Rattle.mm_laws.proofs.TwoLists.{two_runs}
 
 -- 1. One text.

@@ -1,10 +1,8 @@
 -- Two lists of cells that rise by their words and have the same cells at the words of a test are the same there.
-use Rattle.std.proofs.Common.{◌≡◌, ℕ, ◌<◌, ◌⊎◌, inl, inr, Bool, true, false, cond, List, [], ◌∷◌, refl, sym, ap, ◌∙◌, arith}
-use Rattle.std.specs.List.{AllByRecursion, filter}
-use Rattle.std.proofs.lemmas.Bool.{both_ways}
+use Rattle.std.proofs.Common.{◌≡◌, ℕ, ◌<◌, ◌⊎◌, inl, inr, Bool, true, false, cond, List, [], ◌∷◌, refl, sym, ap, ◌∙◌}
+use Rattle.std.{proofs.{Common.arith, lemmas.Bool.both_ways}, specs.List.{AllByRecursion, filter}}
 use Rattle.mm_word.specs.declared.word.Cell.{Cell}
-use Rattle.mm_model.proofs.CoreRows.{each_map}
-use Rattle.mm_model.proofs.Filters.{each_filter}
+use Rattle.mm_model.proofs.{CoreRows.each_map, Filters.each_filter}
 
 abbrev pub IsIn : {A : Type 0} → A → List A → Type 0
 IsIn x [] = ⊥

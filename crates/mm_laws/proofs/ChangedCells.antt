@@ -1,19 +1,14 @@
 -- Which cells differ from the image's, word by word.
-use Rattle.std.proofs.Common.{◌≡◌, ◌≢◌, ℕ, zero, suc, ◌+◌, ◌*◌, ◌%◌, ◌<◌, ◌≤◌, ◌⊎◌, inl, inr, Bool, true, false}
-use Rattle.std.proofs.Common.{cond, if◌then◌else◌, List, [], ◌∷◌, ◌++◌, length, replicate, slice_get, Option, Some}
-use Rattle.std.proofs.Common.{None, refl, sym, ap, ◌∙◌, subst, arith, T, eq-eqb, nat_eq}
-use Rattle.std.specs.List.{AllByRecursion, flat_map}
-use Rattle.std.specs.Ordering.{nat_cmp}
-use Rattle.std.specs.FinMap.{find, is_sorted}
-use Rattle.std.specs.FinMap.Entries.{below_all}
+use Rattle.std.proofs.Common.{◌≡◌, ◌≢◌, ℕ, zero, suc, ◌+◌, ◌*◌, ◌%◌, ◌<◌, ◌≤◌, ◌⊎◌, inl, inr, Bool, true, false, cond}
+use Rattle.std.proofs.Common.{if◌then◌else◌, List, [], ◌∷◌, ◌++◌, length, replicate, slice_get, Option, Some, None}
+use Rattle.std.proofs.Common.{refl, sym, ap, ◌∙◌, subst, arith, T, eq-eqb, nat_eq}
+use Rattle.std.proofs.lemmas.Bool.{ne_eqb, Decides.nat_tests}
+use Rattle.std.specs.{List.{AllByRecursion, flat_map}, Ordering.nat_cmp, FinMap.{find, is_sorted, Entries.below_all}}
 use Rattle.std.specs.Cmp.{unsigned_tied}
-use Rattle.std.proofs.lemmas.Bool.{ne_eqb}
-use Rattle.std.proofs.lemmas.Bool.Decides.{nat_tests}
 use Rattle.mm_word.specs.declared.word.Cell.{Cell}
 use Rattle.mm_model.specs.Memory.{Memory, page_of, place_of, page_at, cell_in, cell_at, zero_cell, IsPage, IsPaged}
 use Rattle.mm_model.specs.Report.{same_cell, cells_or_zero, changes_from, changes}
-use Rattle.mm_model.proofs.CoreRows.{each_map}
-use Rattle.mm_model.proofs.Memories.{cell_at-aligned, aligned, page_whole, zeros_get}
+use Rattle.mm_model.proofs.{CoreRows.each_map, Memories.{cell_at-aligned, aligned, page_whole, zeros_get}}
 use Rattle.mm_laws.proofs.CellViews.{IsIn, Rising}
 
 -- 1. Lists.

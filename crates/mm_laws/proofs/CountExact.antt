@@ -1,10 +1,10 @@
 -- A block that was written since its last miss is a written block of its line.
-use Rattle.std.proofs.Common.{◌≡◌, ℕ, Bool, true, false, ◌&&◌, ◌||◌, nat_eq, if◌then◌else◌, List, [], ◌∷◌, ◌++◌, Option, Some, None, refl, sym, ap, ◌∙◌, eqb-true, eq-eqb}
+use Rattle.std.proofs.Common.{◌≡◌, ℕ, Bool, true, false, ◌&&◌, ◌||◌, nat_eq, if◌then◌else◌, List, [], ◌∷◌, ◌++◌, Option}
+use Rattle.std.proofs.Common.{Some, None, refl, sym, ap, ◌∙◌, eqb-true, eq-eqb}
 use Rattle.mm_word.specs.declared.perm.Kind.{Kind}
 use Rattle.mm_model.specs.Uses.{Use, Accessed, Removed}
 use Rattle.mm_model.specs.Counted.{block_of, line_of, page_of_block, writes, outside_page, latest, is_hit, written}
-use Rattle.mm_model.specs.CountFacts.{HitsOnly, WroteSinceMiss}
-use Rattle.mm_model.proofs.CountsSay.{latest_says, says_latest, hit_says}
+use Rattle.mm_model.{specs.CountFacts.{HitsOnly, WroteSinceMiss}, proofs.CountsSay.{latest_says, says_latest, hit_says}}
 
 -- the block of a line has the line's index
 line_is : (line block : ℕ) (us : List Use) → latest line us ≡ Some block → line_of block ≡ line

@@ -1,9 +1,8 @@
 -- What counts sum to.
-use Rattle.std.proofs.Common.{◌≡◌, ℕ, ◌+◌, ◌≤◌, Bool, true, false, not, nat_eq, if◌then◌else◌, List, [], ◌∷◌, ◌++◌, length, reverse, take, Option, Some, None, refl, ap, arith}
-use Rattle.std.specs.Prelude.{is_some}
+use Rattle.std.proofs.Common.{◌≡◌, ℕ, ◌+◌, ◌≤◌, Bool, true, false, not, nat_eq, if◌then◌else◌, List, [], ◌∷◌, ◌++◌}
+use Rattle.std.{proofs.Common.{length, reverse, take, Option, Some, None, refl, ap, arith}, specs.Prelude.is_some}
 use mathlib.Core.List.{reverse_aux}
-use Rattle.mm_model.specs.Uses.{Use, Accessed, Removed}
-use Rattle.mm_model.specs.Flags.{one_if}
+use Rattle.mm_model.specs.{Uses.{Use, Accessed, Removed}, Flags.one_if}
 use Rattle.mm_model.specs.Counted.{block_of, line_of, page_of_block, latest, written, is_block, is_hit, given_back}
 use Rattle.mm_model.specs.Counted.{written_back, page_of_old, looked_up, look_ups, has, distinct, buffer_hits}
 use Rattle.mm_model.specs.Counted.{buffer_misses, total, hit_at, miss_at, back_at, found_at, sought_at, counts_of}

@@ -1,11 +1,8 @@
 -- Grants grow with entries.
 use Rattle.std.proofs.Common.{ℕ, List}
-use Rattle.mm_word.specs.Pointer.{Pointer, IsWellFormed}
-use Rattle.mm_word.proofs.Rights.{can_store-loads}
+use Rattle.mm_word.{specs.Pointer.{Pointer, IsWellFormed}, proofs.Rights.can_store-loads}
 use Rattle.mm_model.specs.Image.{Image}
-use Rattle.mm_model.specs.Reach.{Entries, Grants, CanTouch, CanWrite, Privileged}
-use Rattle.mm_model.specs.Reach.Entries.{All, These}
-use Rattle.mm_model.specs.Reach.Grants.{below}
+use Rattle.mm_model.specs.Reach.{Entries, Grants, CanTouch, CanWrite, Privileged, Entries.{All, These}, Grants.below}
 use Rattle.mm_laws.specs.Grants.{Grow}
 
 grows : (i : Image) (e f : Entries) → Grow e f → {g : ℕ} {q : Pointer} → Grants i e g q → Grants i f g q

@@ -2,63 +2,46 @@
 use Rattle.std.proofs.Common.{◌≡◌, ℕ, ◌+◌, ◌<◌, ◌^◌, ◌%◌, ◌⊎◌, inl, inr, Bool, true, false, ◌&&◌, ◌==◌, nat_lt}
 use Rattle.std.proofs.Common.{if◌then◌else◌, List, [], ◌∷◌, length, map, Option, Some, None, Result, Ok, Err, refl, sym}
 use Rattle.std.proofs.Common.{ap, ◌∙◌, subst, arith, ltb-true, ℤ, pos, negsuc, ◌*ℤ◌, ◌+ℤ◌, slice_set}
-use Rattle.std.specs.Prelude.{option_map}
-use Rattle.std.specs.Int.{w64, cast_unsigned, cast_signed}
-use Rattle.std.specs.List.{AllByRecursion}
-use Rattle.std.proofs.lemmas.Grind.{common_steps}
-use Rattle.std.proofs.lemmas.Bool.{and_parts}
-use Rattle.mm_word.specs.declared.perm.Perm.{Perm}
-use Rattle.mm_word.specs.declared.perm.Perm.TheVariants.{Ro, Rw, Xu, Xp, Eu, Ep, Key}
-use Rattle.mm_word.specs.declared.perm.Kind.{Kind}
-use Rattle.mm_word.specs.declared.perm.Kind.TheVariants.{Store}
-use Rattle.mm_word.specs.declared.cause.Cause.{Cause}
-use Rattle.mm_word.specs.declared.cause.Cause.TheVariants as cause
-use Rattle.mm_word.specs.declared.word.Pre.{Pre}
-use Rattle.mm_word.specs.declared.word.Post.{Post}
-use Rattle.mm_word.specs.declared.word.Post.TheVariants as posts
-use Rattle.mm_word.specs.declared.word.Word.{Word}
-use Rattle.mm_word.specs.declared.word.Word.TheVariants.{Int, Ptr}
-use Rattle.mm_word.specs.declared.word.Cell.{Cell}
+use Rattle.std.proofs.lemmas.{Grind.common_steps, Bool.and_parts}
+use Rattle.std.specs.{Prelude.option_map, Int.{w64, cast_unsigned, cast_signed}, List.AllByRecursion}
+use Rattle.mm_word.specs.declared.perm.Perm.{Perm, TheVariants.{Ro, Rw, Xu, Xp, Eu, Ep, Key}}
+use Rattle.mm_word.specs.declared.{perm.Kind.{Kind, TheVariants.Store}, cause.Cause.Cause}
+use Rattle.mm_word.specs.declared.word.{Pre.Pre, Post.Post, Word.{Word, TheVariants.{Int, Ptr}}, Cell.Cell}
 use Rattle.mm_word.specs.Access.{AccessValue, IsGranted, touch_at, check_result}
 use Rattle.mm_word.specs.Perm.{can_load, can_store, allows, execute_form}
-use Rattle.mm_word.specs.Pointer.{Pointer, IsBelow, moved_to, lea_result, leab_result, restrict_result, subseg_result, setptr_result, next_result, enter_result}
-use Rattle.mm_word.specs.Word.{IsWord, word_bits, is_pointer}
-use Rattle.mm_word.proofs.Results.{lea_result-IsBelow, leab_result-IsBelow, restrict_result-IsBelow, subseg_result-IsBelow, next_result-IsBelow, setptr_result-well_formed, check_result-IsGranted}
-use Rattle.mm_isa.specs.declared.instr.DivZero.{DivZero}
-use Rattle.mm_isa.specs.declared.instr.How.{How}
-use Rattle.mm_isa.specs.declared.instr.How.TheVariants.{Retry, Skip, Kill}
+use Rattle.mm_word.specs.Pointer.{Pointer, IsBelow, moved_to, lea_result, leab_result, restrict_result, subseg_result}
+use Rattle.mm_word.specs.{Pointer.{setptr_result, next_result, enter_result}, Word.{IsWord, word_bits, is_pointer}}
+use Rattle.mm_word.proofs.Results.{lea_result-IsBelow, leab_result-IsBelow, restrict_result-IsBelow}
+use Rattle.mm_word.proofs.Results.{subseg_result-IsBelow, next_result-IsBelow, setptr_result-well_formed}
+use Rattle.mm_word.proofs.Results.{check_result-IsGranted}
+use Rattle.mm_isa.specs.declared.instr.{DivZero.DivZero, How.{How, TheVariants.{Retry, Skip, Kill}}}
 use Rattle.mm_isa.specs.declared.instr.Instr.{Instr}
 use Rattle.mm_isa.specs.declared.instr.Instr.TheVariants.{Halt, Nop, Ldi, Ldhi, Mov, Isptr, Eqw, Out, SelfSlot, Alu}
 use Rattle.mm_isa.specs.declared.instr.Instr.TheVariants.{Addi, Lea, Leai, Leab, Restrict, Subseg, Setptr, Ld, St, Br}
 use Rattle.mm_isa.specs.declared.instr.Instr.TheVariants.{Bz, Bnz, Jmp, Jal, Lip, Trap, Evt, Resume, Rreg, Wreg, Map}
-use Rattle.mm_isa.specs.declared.instr.Instr.TheVariants.{Unmap}
-use Rattle.mm_isa.specs.Alu.{alu_result}
-use Rattle.mm_model.specs.declared.slot.Pending.{Pending}
-use Rattle.mm_model.specs.declared.event.Event.{Event}
-use Rattle.mm_model.specs.Memory.{Memory, cell_at, is_mapped, can_map, passes}
-use Rattle.mm_model.specs.Slot.{Slot, register, is_empty}
-use Rattle.mm_model.specs.State.{Core, slot_at, queue_at, output_of}
-use Rattle.mm_model.specs.Image.{Image, output_limit}
+use Rattle.mm_isa.specs.{declared.instr.Instr.TheVariants.Unmap, Alu.alu_result}
+use Rattle.mm_model.specs.declared.{slot.Pending.Pending, event.Event.Event}
+use Rattle.mm_model.specs.{Memory.{Memory, cell_at, is_mapped, can_map, passes}, Slot.{Slot, register, is_empty}}
+use Rattle.mm_model.specs.{State.{Core, slot_at, queue_at, output_of}, Image.{Image, output_limit}}
 use Rattle.mm_model.specs.Fits.{is_waiting, identity_of, IsSlot, IsFormed, RowHoldsWords}
 use Rattle.mm_model.specs.Operands.{addr_operand, value_operand, word_a, word_b, field_a, field_b, field_imm}
-use Rattle.mm_model.specs.Ask.{ask, is_privileged, load_kind, reaching}
-use Rattle.mm_model.specs.Ask.Ask.{Refuse, MapPage, UnmapPage}
+use Rattle.mm_model.specs.Ask.{ask, is_privileged, load_kind, reaching, Ask.{Refuse, MapPage, UnmapPage}}
 use Rattle.mm_model.specs.Effect.{Reply, Change, Pages, Effect, effect, advanced, plain, moved_on, sets, sets_pointer}
 use Rattle.mm_model.specs.Effect.{sets_number, if_pointer, test, same_word, high_and_low, puts_out, set_by, loaded}
 use Rattle.mm_model.specs.Effect.{stored, at_distance, branches, entry_as, entry_of, jumps, links, takes, resumed_by}
 use Rattle.mm_model.specs.Effect.{resumes, delivered, reads_of, writes_of, maps, unmaps}
-use Rattle.mm_model.specs.Effect.Reply.{Fine, Refused, Got, Paged, Took, Served}
-use Rattle.mm_model.specs.Effect.Pages.{Keep, Add, Remove}
+use Rattle.mm_model.specs.Effect.{Reply.{Fine, Refused, Got, Paged, Took, Served}, Pages.{Keep, Add, Remove}}
 use Rattle.mm_model.specs.Effect.Effect.{Fault, Block, Deliver, Do}
 use Rattle.mm_model.specs.Turn.{reply, reached, event_reply, first_event, served, is_taken, is_handler}
-use Rattle.mm_model.specs.Reach.{Entries, Grants, CanWrite, Privileged}
-use Rattle.mm_model.specs.Reach.Grants.{below}
-use Rattle.mm_model.proofs.CoreRows.{each_set, slot_at-number, slot_has, identities_of}
-use Rattle.mm_model.proofs.SlotSteps.{delivered_from}
+use Rattle.mm_model.specs.Reach.{Entries, Grants, CanWrite, Privileged, Grants.below}
+use Rattle.mm_model.proofs.{CoreRows.{each_set, slot_at-number, slot_has, identities_of}, SlotSteps.delivered_from}
 use Rattle.mm_model.proofs.CoreSteps.{Fitting, handler_is, queued_waits}
 use Rattle.mm_model.proofs.EffectWords.{slot_words, register_fits, executable_moves}
 use Rattle.mm_laws.specs.Granted.{WordGranted, SlotGranted, EventGranted, RowGranted, CellsGranted}
-use Rattle.mm_laws.proofs.GrantedWords.{slot_granted, queue_granted, register_granted, delivered_granted, BothServe, serving, word_served, load_granted}
+use Rattle.mm_laws.proofs.GrantedWords.{slot_granted, queue_granted, register_granted, delivered_granted, BothServe}
+use Rattle.mm_laws.proofs.GrantedWords.{serving, word_served, load_granted}
+use Rattle.mm_word.specs.declared.cause.Cause.TheVariants as cause
+use Rattle.mm_word.specs.declared.word.Post.TheVariants as posts
 
 -- 1. What an effect has to be.
 

@@ -1,30 +1,17 @@
 -- Whole runs, by induction over the list of items.
-use Rattle.std.proofs.Common.{◌≡◌, ℕ, suc, true, List, [], ◌∷◌, ◌++◌, map, Some, refl, sym, ap, ◌∙◌, subst, inl, arith, append_assoc, append-nil}
-use Rattle.std.specs.Prelude.{Contains, IfSome}
-use Rattle.std.specs.List.{AllByRecursion}
-use Rattle.mm_word.specs.declared.word.Word.{Word}
-use Rattle.mm_word.specs.declared.word.Word.TheVariants.{Int, Ptr}
-use Rattle.mm_word.specs.declared.word.Cell.{Cell}
-use Rattle.mm_word.specs.Pointer.{Pointer}
-use Rattle.mm_model.specs.declared.slot.Pending.{Pending}
-use Rattle.mm_model.specs.Memory.{cell_at}
-use Rattle.mm_model.specs.Slot.{Slot}
-use Rattle.mm_model.specs.declared.event.Event.{Event}
-use Rattle.mm_model.specs.State.{State, slot_at, queue_at}
-use Rattle.mm_model.specs.Image.{Image, slot_limit, start}
-use Rattle.mm_model.specs.Spelling.{IsOther, IsFresh, IsImage}
-use Rattle.mm_model.specs.Fits.{is_waiting, slots_of, IsState, Fits}
-use Rattle.mm_model.specs.Run.{turn_of, after, run}
-use Rattle.mm_model.specs.Trace.{done_entry, entries}
-use Rattle.mm_model.specs.Reach.{Entries, Grants}
-use Rattle.mm_model.specs.Reach.Entries.{All, These}
+use Rattle.std.proofs.Common.{◌≡◌, ℕ, suc, true, List, [], ◌∷◌, ◌++◌, map, Some, refl, sym, ap, ◌∙◌, subst, inl, arith}
+use Rattle.std.{proofs.Common.{append_assoc, append-nil}, specs.{Prelude.{Contains, IfSome}, List.AllByRecursion}}
+use Rattle.mm_word.specs.{declared.word.{Word.{Word, TheVariants.{Int, Ptr}}, Cell.Cell}, Pointer.Pointer}
+use Rattle.mm_model.specs.{declared.{slot.Pending.Pending, event.Event.Event}, Memory.cell_at, Slot.Slot}
+use Rattle.mm_model.specs.{State.{State, slot_at, queue_at}, Image.{Image, slot_limit, start}}
+use Rattle.mm_model.specs.{Spelling.{IsOther, IsFresh, IsImage}, Fits.{is_waiting, slots_of, IsState, Fits}}
+use Rattle.mm_model.specs.{Run.{turn_of, after, run}, Trace.{done_entry, entries}}
+use Rattle.mm_model.specs.Reach.{Entries, Grants, Entries.{All, These}}
 use Rattle.mm_model.proofs.CoreRows.{each_map, each_both, each_contained, slot_at-number, slot_has, other_at}
-use Rattle.mm_model.proofs.CoreSteps.{queued_waits}
-use Rattle.mm_model.proofs.Fitted.{image_handlers}
-use Rattle.mm_model.proofs.Starts.{start_state, start_fits}
-use Rattle.mm_laws.specs.Granted.{WordGranted, SlotGranted, EventGranted, RowGranted, CellGranted, WordsGranted, RunGranted, with_entries}
-use Rattle.mm_laws.proofs.GrantedWords.{queue_granted, serving, word_served}
-use Rattle.mm_laws.proofs.GrantedTurns.{step_granted}
+use Rattle.mm_model.proofs.{CoreSteps.queued_waits, Fitted.image_handlers, Starts.{start_state, start_fits}}
+use Rattle.mm_laws.specs.Granted.{WordGranted, SlotGranted, EventGranted, RowGranted, CellGranted, WordsGranted}
+use Rattle.mm_laws.specs.Granted.{RunGranted, with_entries}
+use Rattle.mm_laws.proofs.{GrantedWords.{queue_granted, serving, word_served}, GrantedTurns.step_granted}
 
 -- each element of a list is contained in it
 pub each_in : {A : Type 0} (xs : List A) → AllByRecursion (Contains xs) xs

@@ -1,64 +1,39 @@
 -- What a turn leaves is granted, and so is what it touches, enters and changes.
-use Rattle.std.proofs.Common.{◌≡◌, ◌≢◌, ℕ, ◌+◌, ◌/◌, ◌%◌, ◌^◌, ◌≤◌, ◌⊎◌, inl, inr, Bool, true, false, nat_eq}
-use Rattle.std.proofs.Common.{nat_lt, if◌then◌else◌, List, [], ◌∷◌, ◌++◌, map, Option, Some, None, Result, Ok, Err}
-use Rattle.std.proofs.Common.{refl, sym, ap, ◌∙◌, subst, arith, pos, slice_set, eqb-true}
-use Rattle.std.specs.Prelude.{IfSome}
-use Rattle.std.specs.Option.{option_to_list}
-use Rattle.std.specs.List.{AllByRecursion}
-use Rattle.std.proofs.Math.Nat.{div-eq_of_lt}
-use Rattle.std.proofs.lemmas.Bool.{cases_eq}
-use Rattle.mm_word.specs.declared.perm.Perm.TheVariants.{Rw}
-use Rattle.mm_word.specs.declared.perm.Kind.{Kind}
-use Rattle.mm_word.specs.declared.perm.Kind.TheVariants.{Fetch, Store}
-use Rattle.mm_word.specs.declared.cause.Cause.{Cause}
-use Rattle.mm_word.specs.declared.cause.Cause.TheVariants.{Bounds, Priv}
-use Rattle.mm_word.specs.declared.word.Pre.{Pre}
-use Rattle.mm_word.specs.declared.word.Word.{Word}
-use Rattle.mm_word.specs.declared.word.Word.TheVariants.{Int, Ptr}
-use Rattle.mm_word.specs.declared.word.Cell.{Cell}
-use Rattle.mm_word.specs.Access.{AccessValue, check_result}
-use Rattle.mm_word.specs.Perm.{can_store}
-use Rattle.mm_word.specs.Pointer.{Pointer, IsWellFormed, Covers}
+use Rattle.std.proofs.Common.{◌≡◌, ◌≢◌, ℕ, ◌+◌, ◌/◌, ◌%◌, ◌^◌, ◌≤◌, ◌⊎◌, inl, inr, Bool, true, false, nat_eq, nat_lt}
+use Rattle.std.proofs.Common.{if◌then◌else◌, List, [], ◌∷◌, ◌++◌, map, Option, Some, None, Result, Ok, Err, refl, sym}
+use Rattle.std.proofs.{Common.{ap, ◌∙◌, subst, arith, pos, slice_set, eqb-true}, Math.Nat.div-eq_of_lt}
+use Rattle.std.{proofs.lemmas.Bool.cases_eq, specs.{Prelude.IfSome, Option.option_to_list, List.AllByRecursion}}
+use Rattle.mm_word.specs.declared.perm.{Perm.TheVariants.Rw, Kind.{Kind, TheVariants.{Fetch, Store}}}
+use Rattle.mm_word.specs.declared.cause.Cause.{Cause, TheVariants.{Bounds, Priv}}
+use Rattle.mm_word.specs.declared.word.{Pre.Pre, Word.{Word, TheVariants.{Int, Ptr}}, Cell.Cell}
+use Rattle.mm_word.specs.{Access.{AccessValue, check_result}, Perm.can_store, Pointer.{Pointer, IsWellFormed, Covers}}
 use Rattle.mm_word.specs.Word.{word_bits}
-use Rattle.mm_isa.specs.declared.instr.Instr.{Instr}
-use Rattle.mm_isa.specs.declared.instr.Instr.TheVariants.{Ld, St, Map, Unmap}
-use Rattle.mm_model.specs.declared.slot.SlotState.{SlotState}
-use Rattle.mm_model.specs.declared.slot.SlotState.TheVariants.{Running, Waiting, Halted}
-use Rattle.mm_model.specs.declared.slot.Pending.{Pending}
-use Rattle.mm_model.specs.declared.event.Event.{Event}
-use Rattle.mm_model.specs.declared.step.Tick.TheVariants.{Did}
-use Rattle.mm_model.specs.Memory.{Memory, cell_at, page_of, map_page, unmap_page}
-use Rattle.mm_model.specs.Uses.{Use}
-use Rattle.mm_model.specs.Slot.{Slot, register}
+use Rattle.mm_isa.specs.declared.instr.Instr.{Instr, TheVariants.{Ld, St, Map, Unmap}}
+use Rattle.mm_model.specs.declared.slot.{SlotState.{SlotState, TheVariants.{Running, Waiting, Halted}}, Pending.Pending}
+use Rattle.mm_model.specs.declared.{event.Event.Event, step.Tick.TheVariants.Did}
+use Rattle.mm_model.specs.{Memory.{Memory, cell_at, page_of, map_page, unmap_page}, Uses.Use, Slot.{Slot, register}}
 use Rattle.mm_model.specs.State.{ThreadRow, Core, State, slot_at, queue_at, at_number, put_slot, put_queue, put_output}
-use Rattle.mm_model.specs.Image.{Image}
-use Rattle.mm_model.specs.Spelling.{IsImage, IsOther}
-use Rattle.mm_model.specs.Fits.{slots_of, identity_of, IsState, Fits}
+use Rattle.mm_model.specs.{Image.Image, Spelling.{IsImage, IsOther}, Fits.{slots_of, identity_of, IsState, Fits}}
 use Rattle.mm_model.specs.Operands.{addr_operand, value_operand}
-use Rattle.mm_model.specs.Ask.{Ask, ask, is_privileged, load_kind, reaching}
-use Rattle.mm_model.specs.Ask.Ask.{Refuse, MapPage, UnmapPage}
+use Rattle.mm_model.specs.Ask.{Ask, ask, is_privileged, load_kind, reaching, Ask.{Refuse, MapPage, UnmapPage}}
 use Rattle.mm_model.specs.Effect.{Change, Pages, Effect, effect, delivered}
-use Rattle.mm_model.specs.Effect.Pages.{Keep, Add, Remove}
-use Rattle.mm_model.specs.Effect.Effect.{Fault, Block, Deliver, Do}
+use Rattle.mm_model.specs.Effect.{Pages.{Keep, Add, Remove}, Effect.{Fault, Block, Deliver, Do}}
 use Rattle.mm_model.specs.Turn.{Turned, reply, put_all, state_after, with_issue, slot_after, with_other, with_queue}
 use Rattle.mm_model.specs.Turn.{with_out, with_cell, with_pages, core_after, memory_after, stood, is_sync, event_of}
 use Rattle.mm_model.specs.Turn.{core_faulted, faulted, touch_of, asked_use, blocked, ended, executed, idle, arrives}
-use Rattle.mm_model.specs.Turn.{turn}
-use Rattle.mm_model.specs.Run.{after}
-use Rattle.mm_model.specs.Trace.{touches, group_of, group_in, done_entry}
+use Rattle.mm_model.specs.{Turn.turn, Run.after, Trace.{touches, group_of, group_in, done_entry}}
 use Rattle.mm_model.specs.Reach.{Entries, Grants, CanWrite, Privileged}
 use Rattle.mm_model.proofs.CoreRows.{each_set, each_map, each_push, slot_at-number, slot_at-put_same, slot_at-put_queue}
 use Rattle.mm_model.proofs.CoreRows.{slots_of-put_queue, slots_found, slot_has, other_at, Rises, identities_of}
-use Rattle.mm_model.proofs.CoreRows.{rises_by, stays_by, identities_of-put_slot}
-use Rattle.mm_model.proofs.SlotSteps.{delivered_from}
+use Rattle.mm_model.proofs.{CoreRows.{rises_by, stays_by, identities_of-put_slot}, SlotSteps.delivered_from}
 use Rattle.mm_model.proofs.EffectWords.{slot_words}
-use Rattle.mm_model.proofs.Memories.{put_cases, map_cases, unmap_cases, cell_at-put_other, cell_at-map_other, cell_at-unmap_other, cell_at-unaligned, word_or_none}
-use Rattle.mm_model.proofs.TurnKeeps.{changed_from}
-use Rattle.mm_model.proofs.TurnChanges.{changed_identity, delivered_identity}
-use Rattle.mm_model.proofs.TurnShapes.{Fetches, fetch_uses, fetch_use, started_one, turn_by}
-use Rattle.mm_model.proofs.Fitted.{fitting_of}
+use Rattle.mm_model.proofs.Memories.{put_cases, map_cases, unmap_cases, cell_at-put_other, cell_at-map_other}
+use Rattle.mm_model.proofs.Memories.{cell_at-unmap_other, cell_at-unaligned, word_or_none}
+use Rattle.mm_model.proofs.{TurnKeeps.changed_from, TurnChanges.{changed_identity, delivered_identity}}
+use Rattle.mm_model.proofs.{TurnShapes.{Fetches, fetch_uses, fetch_use, started_one, turn_by}, Fitted.fitting_of}
 use Rattle.mm_model.proofs.StateKeeps.{after_state, after_fits}
-use Rattle.mm_laws.specs.Granted.{WordGranted, SlotGranted, EventGranted, RowGranted, CellGranted, CellsGranted, WordsGranted, TouchGranted, EntryGranted, StepGranted, with_entries}
+use Rattle.mm_laws.specs.Granted.{WordGranted, SlotGranted, EventGranted, RowGranted, CellGranted, CellsGranted}
+use Rattle.mm_laws.specs.Granted.{WordsGranted, TouchGranted, EntryGranted, StepGranted, with_entries}
 use Rattle.mm_laws.specs.Grants.{Grow}
 use Rattle.mm_laws.proofs.GrantLaws.{grants_grow}
 use Rattle.mm_laws.proofs.GrantedWords.{slot_granted, queue_granted, delivered_granted, serving, word_served}

@@ -1,26 +1,17 @@
 -- Words that are granted: of slots and queues by their numbers, along services, and under more entries.
-use Rattle.std.proofs.Common.{◌≡◌, ℕ, zero, suc, inl, inr, Bool, true, false, nat_eq, if◌then◌else◌, List, [], ◌∷◌, ◌++◌, map, Option, Some, None, refl, sym, ap, ◌∙◌, subst, arith}
-use Rattle.std.specs.Prelude.{Contains}
-use Rattle.std.specs.List.{AllByRecursion}
-use Rattle.mm_model.proofs.EffectWords.{each_or}
-use Rattle.mm_word.specs.declared.word.Word.{Word}
-use Rattle.mm_word.specs.declared.word.Word.TheVariants.{Int, Ptr}
-use Rattle.mm_word.specs.Pointer.{Pointer}
-use Rattle.mm_model.specs.declared.slot.Pending.{Pending}
-use Rattle.mm_model.specs.declared.event.Event.{Event}
-use Rattle.mm_model.specs.Memory.{Memory}
-use Rattle.mm_model.specs.Slot.{Slot, register}
-use Rattle.mm_model.specs.State.{ThreadRow, Core, row_in, slot_of, queue_of, slot_at, queue_at}
-use Rattle.mm_model.specs.Image.{Image, start}
-use Rattle.mm_model.specs.Fits.{identity_of}
-use Rattle.mm_model.specs.Effect.{delivers, delivered}
-use Rattle.mm_model.specs.Reach.{Entries, MayEnter, Grants, Serves, CanWrite, LoadsAt}
-use Rattle.mm_model.specs.Reach.Entries.{All, These}
-use Rattle.mm_model.proofs.CoreRows.{each_map, each_set, identities_of, stays_by, slot_contained}
+use Rattle.std.proofs.Common.{◌≡◌, ℕ, zero, suc, inl, inr, Bool, true, false, nat_eq, if◌then◌else◌, List, [], ◌∷◌}
+use Rattle.std.proofs.Common.{◌++◌, map, Option, Some, None, refl, sym, ap, ◌∙◌, subst, arith}
+use Rattle.std.specs.{Prelude.Contains, List.AllByRecursion}
+use Rattle.mm_model.proofs.{EffectWords.each_or, CoreRows.{each_map, each_set, identities_of, stays_by, slot_contained}}
 use Rattle.mm_model.proofs.Starts.{start_slots}
+use Rattle.mm_model.specs.{declared.{slot.Pending.Pending, event.Event.Event}, Memory.Memory, Slot.{Slot, register}}
+use Rattle.mm_model.specs.{State.{ThreadRow, Core, row_in, slot_of, queue_of, slot_at, queue_at}, Image.{Image, start}}
+use Rattle.mm_model.specs.{Fits.identity_of, Effect.{delivers, delivered}}
+use Rattle.mm_model.specs.Reach.{Entries, MayEnter, Grants, Serves, CanWrite, LoadsAt, Entries.{All, These}}
+use Rattle.mm_word.specs.{declared.word.Word.{Word, TheVariants.{Int, Ptr}}, Pointer.Pointer}
 use Rattle.mm_laws.specs.Grants.{Grow}
-use Rattle.mm_laws.specs.Granted.{WordGranted, SlotGranted, EventGranted, RowGranted, CellGranted, CellsGranted, with_entries}
-use Rattle.mm_laws.proofs.GrantLaws.{grants_grow}
+use Rattle.mm_laws.specs.Granted.{WordGranted, SlotGranted, EventGranted, RowGranted, CellGranted, CellsGranted}
+use Rattle.mm_laws.{specs.Granted.with_entries, proofs.GrantLaws.grants_grow}
 
 -- 1. Lists.
 

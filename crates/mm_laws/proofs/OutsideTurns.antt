@@ -1,46 +1,26 @@
 -- A turn outside the groups changes nothing that they see, and tells nothing of them.
-use Rattle.std.proofs.Common.{◌≡◌, ℕ, inl, inr, Bool, true, false, if◌then◌else◌, List, [], ◌∷◌}
-use Rattle.std.proofs.Common.{◌++◌, Option, Some, None, refl, sym, ap, ◌∙◌, subst, slice_index_or}
-use Rattle.std.proofs.Common.{get_or-set_other}
-use Rattle.std.specs.Prelude.{IfSome}
-use Rattle.std.proofs.lemmas.Bool.{both_ways}
-use Rattle.mm_word.specs.declared.cause.Cause.{Cause}
-use Rattle.mm_word.specs.declared.word.Word.{Word}
-use Rattle.mm_word.specs.declared.word.Word.TheVariants.{Int}
-use Rattle.mm_word.specs.Access.{AccessValue}
+use Rattle.std.proofs.Common.{◌≡◌, ℕ, inl, inr, Bool, true, false, if◌then◌else◌, List, [], ◌∷◌, ◌++◌, Option, Some}
+use Rattle.std.proofs.Common.{None, refl, sym, ap, ◌∙◌, subst, slice_index_or, get_or-set_other}
+use Rattle.std.{proofs.lemmas.Bool.both_ways, specs.Prelude.IfSome}
+use Rattle.mm_word.specs.{declared.{cause.Cause.Cause, word.Word.{Word, TheVariants.Int}}, Access.AccessValue}
 use Rattle.mm_isa.specs.declared.instr.Instr.{Instr}
-use Rattle.mm_model.specs.declared.slot.SlotState.{SlotState}
-use Rattle.mm_model.specs.declared.slot.SlotState.TheVariants.{Running, Waiting, Halted}
-use Rattle.mm_model.specs.declared.slot.Pending.{Pending}
-use Rattle.mm_model.specs.declared.event.Event.{Event}
-use Rattle.mm_model.specs.Memory.{Memory, cell_at}
-use Rattle.mm_model.specs.Uses.{Use}
-use Rattle.mm_model.specs.Slot.{Slot}
-use Rattle.mm_model.specs.State.{Core, slot_at, queue_at, put_slot, output_of, put_output}
-use Rattle.mm_model.specs.Image.{Image}
-use Rattle.mm_model.specs.Spelling.{IsOther}
-use Rattle.mm_model.specs.Fits.{slots_of}
-use Rattle.mm_model.specs.Operands.{addr_operand, value_operand}
-use Rattle.mm_model.specs.Ask.{ask}
-use Rattle.mm_model.specs.Effect.{Change, Effect, effect, delivered}
-use Rattle.mm_model.specs.Effect.Effect.{Fault, Block, Deliver, Do}
+use Rattle.mm_model.specs.declared.slot.{SlotState.{SlotState, TheVariants.{Running, Waiting, Halted}}, Pending.Pending}
+use Rattle.mm_model.specs.{declared.event.Event.Event, Memory.{Memory, cell_at}, Uses.Use, Slot.Slot}
+use Rattle.mm_model.specs.{State.{Core, slot_at, queue_at, put_slot, output_of, put_output}, Image.Image}
+use Rattle.mm_model.specs.{Spelling.IsOther, Fits.slots_of, Operands.{addr_operand, value_operand}, Ask.ask}
+use Rattle.mm_model.specs.Effect.{Change, Effect, effect, delivered, Effect.{Fault, Block, Deliver, Do}}
 use Rattle.mm_model.specs.Turn.{Turned, reply, slot_after, with_other, with_queue, with_out, core_after, stood, is_sync}
-use Rattle.mm_model.specs.Turn.{event_of, core_faulted, faulted, touch_of, asked_use, blocked, ended, executed}
-use Rattle.mm_model.specs.Turn.{started, idle, arrives}
-use Rattle.mm_model.specs.Turn.{turn}
-use Rattle.mm_model.specs.Trace.{group_of, group_in, trace_line, step_line}
-use Rattle.mm_model.specs.Reach.Entries.{All}
-use Rattle.mm_model.specs.Worlds.{Touchable, Apart, is_turn_of}
+use Rattle.mm_model.specs.Turn.{event_of, core_faulted, faulted, touch_of, asked_use, blocked, ended, executed, started}
+use Rattle.mm_model.specs.{Turn.{idle, arrives, turn}, Trace.{group_of, group_in, trace_line, step_line}}
+use Rattle.mm_model.specs.{Reach.Entries.All, Worlds.{Touchable, Apart, is_turn_of}, Outcomes.IsPort}
 use Rattle.mm_model.proofs.CoreRows.{slot_at-number, slot_has, other_at, identities_of, stays_by}
-use Rattle.mm_model.proofs.SlotSteps.{delivered_from}
-use Rattle.mm_model.proofs.TurnKeeps.{changed_from, turn_keeps}
+use Rattle.mm_model.proofs.{SlotSteps.delivered_from, TurnKeeps.{changed_from, turn_keeps}}
 use Rattle.mm_model.proofs.TurnChanges.{same_output, fault_same, moved_same}
 use Rattle.mm_model.proofs.TurnShapes.{fetch_uses, fetch_use, started_one, turn_by}
-use Rattle.mm_model.specs.Outcomes.{IsPort}
 use Rattle.mm_laws.proofs.GrantedRows.{Stands, OtherGranted, OtherSlot, ChangeGranted, EffectGranted, effect_granted}
 use Rattle.mm_laws.proofs.GrantedTurns.{turn_granted}
-use Rattle.mm_laws.proofs.AlikeRows.{other_sames, own_sames, mine-with_out, output_of-put_slot, mine, Sames, sames_self, put_slot-sames, beside-put_slot, beside-put_queue}
-use Rattle.mm_laws.proofs.AlikeWorlds.{state_side}
+use Rattle.mm_laws.proofs.AlikeRows.{other_sames, own_sames, mine-with_out, output_of-put_slot, mine, Sames, sames_self}
+use Rattle.mm_laws.proofs.{AlikeRows.{put_slot-sames, beside-put_slot, beside-put_queue}, AlikeWorlds.state_side}
 
 -- what a turn of a slot leaves as it was for the groups
 record QuietOf (c : ℕ → Bool) (core : Core) (s : Slot) (t : Turned) : Type 0 where

@@ -1,29 +1,15 @@
 -- The slots of groups that stand apart, alone or with the pages that they can touch, are an image that agrees with the whole on them.
-use Rattle.std.proofs.Common.{◌≡◌, ℕ, suc, ◌+◌, ◌*◌, ◌^◌, ◌⊎◌, inl, inr, Bool, true, List, [], ◌∷◌, slice_get, Some, refl, sym, ap, ◌∙◌, subst, arith, T}
-use Rattle.std.specs.Prelude.{Contains}
-use Rattle.std.specs.List.{AllByRecursion, filter}
-use Rattle.std.proofs.lemmas.Bool.{both_ways, cases_lt}
-use Rattle.mm_word.specs.declared.word.Word.{Word}
-use Rattle.mm_word.specs.declared.word.Word.TheVariants.{Int, Ptr}
-use Rattle.mm_word.specs.declared.word.Cell.{Cell}
-use Rattle.mm_word.specs.Pointer.{Pointer}
-use Rattle.mm_word.specs.Word.{IsWord}
-use Rattle.mm_model.specs.Memory.{cell_in, cell_at, zero_cell}
-use Rattle.mm_model.specs.Slot.{Slot}
-use Rattle.mm_model.specs.Image.{Image}
-use Rattle.mm_model.specs.Groups.{own_slots, HasSlot, HandlersStayInside}
-use Rattle.mm_model.specs.Spelling.{HoldsWords, IsImage}
-use Rattle.mm_model.specs.Reach.{Entries, Grants, Serves}
-use Rattle.mm_model.specs.Reach.Grants.{below}
-use Rattle.mm_model.specs.Reach.Entries.{All}
+use Rattle.std.proofs.Common.{◌≡◌, ℕ, suc, ◌+◌, ◌*◌, ◌^◌, ◌⊎◌, inl, inr, Bool, true, List, [], ◌∷◌, slice_get, Some}
+use Rattle.std.proofs.{Common.{refl, sym, ap, ◌∙◌, subst, arith, T}, lemmas.Bool.{both_ways, cases_lt}}
+use Rattle.std.specs.{Prelude.Contains, List.{AllByRecursion, filter}}
+use Rattle.mm_word.specs.{declared.word.{Word.{Word, TheVariants.{Int, Ptr}}, Cell.Cell}, Pointer.Pointer, Word.IsWord}
+use Rattle.mm_model.specs.{Memory.{cell_in, cell_at, zero_cell}, Slot.Slot, Image.Image}
+use Rattle.mm_model.specs.{Groups.{own_slots, HasSlot, HandlersStayInside}, Spelling.{HoldsWords, IsImage}}
+use Rattle.mm_model.specs.Reach.{Entries, Grants, Serves, Grants.below, Entries.All}
 use Rattle.mm_model.specs.Worlds.{Touchable, Apart, Extracts, alone}
-use Rattle.mm_model.proofs.EffectWords.{cell_words}
-use Rattle.mm_model.proofs.Memories.{page_whole}
-use Rattle.mm_model.proofs.Filters.{filter_again, filter_contained}
+use Rattle.mm_model.proofs.{EffectWords.cell_words, Memories.page_whole, Filters.{filter_again, filter_contained}}
 use Rattle.mm_model.proofs.OwnSlots.{own_image}
-use Rattle.mm_laws.specs.Isolated.{AgreeApart}
-use Rattle.mm_laws.proofs.CellViews.{IsIn}
-use Rattle.mm_laws.proofs.ChangedCells.{found_page, cell_of, get_short}
+use Rattle.mm_laws.{specs.Isolated.AgreeApart, proofs.{CellViews.IsIn, ChangedCells.{found_page, cell_of, get_short}}}
 
 -- 1. Nothing is granted to other groups there.
 

@@ -1,19 +1,11 @@
 -- Groups that stand apart see of a run what their own image shows of their own items.
-use Rattle.std.proofs.Common.{◌≡◌, ◌≢◌, ℕ, ◌-◌, ◌<◌, inl, inr, Bool, true, false, ◌||◌, ◌&&◌, nat_eq, nat_le, if◌then◌else◌, List, [], ◌∷◌, Some, None, refl, sym, ap, ◌∙◌, subst, arith, eqb-true}
-use Rattle.std.specs.List.{AllByRecursion, filter}
-use Rattle.std.proofs.lemmas.Bool.{cases_Bool, ne_eqb}
-use Rattle.mm_model.specs.Slot.{Slot}
-use Rattle.mm_model.specs.Image.{Image, slot_in}
-use Rattle.mm_model.specs.Groups.{HasSlot}
-use Rattle.mm_model.specs.Spelling.{IsImage}
-use Rattle.mm_model.specs.Schedule.{in_groups, is_kept, only}
-use Rattle.mm_model.specs.Reach.Entries.{All}
-use Rattle.mm_model.specs.Worlds.{Apart, Extracts, alone}
-use Rattle.mm_model.proofs.Filters.{filter_takes, filter_drops}
-use Rattle.mm_model.proofs.OwnSlots.{Ascends, ascends}
-use Rattle.mm_laws.specs.Isolated.{SameWorlds}
-use Rattle.mm_laws.proofs.SameViews.{same_worlds}
-use Rattle.mm_laws.proofs.OwnImages.{alone_agrees, extracts_agree}
+use Rattle.std.proofs.Common.{◌≡◌, ◌≢◌, ℕ, ◌-◌, ◌<◌, inl, inr, Bool, true, false, ◌||◌, ◌&&◌, nat_eq, nat_le}
+use Rattle.std.proofs.Common.{if◌then◌else◌, List, [], ◌∷◌, Some, None, refl, sym, ap, ◌∙◌, subst, arith, eqb-true}
+use Rattle.std.{proofs.lemmas.Bool.{cases_Bool, ne_eqb}, specs.List.{AllByRecursion, filter}}
+use Rattle.mm_model.specs.{Slot.Slot, Image.{Image, slot_in}, Groups.HasSlot, Spelling.IsImage}
+use Rattle.mm_model.specs.{Schedule.{in_groups, is_kept, only}, Reach.Entries.All, Worlds.{Apart, Extracts, alone}}
+use Rattle.mm_model.proofs.{Filters.{filter_takes, filter_drops}, OwnSlots.{Ascends, ascends}}
+use Rattle.mm_laws.{specs.Isolated.SameWorlds, proofs.{SameViews.same_worlds, OwnImages.{alone_agrees, extracts_agree}}}
 
 -- The items of the groups are theirs in their own image too.
 

@@ -2,23 +2,14 @@
 use Rattle.std.proofs.Common.{◌≡◌, ℕ, suc, ◌+◌, ◌-◌, ◌<◌, ◌≤◌, inl, inr, Bool, true, false, ◌&&◌, ◌||◌, nat_eq, nat_le}
 use Rattle.std.proofs.Common.{cond, if◌then◌else◌, List, [], ◌∷◌, ◌++◌, map, Option, Some, None, refl, sym, ap, ◌∙◌}
 use Rattle.std.proofs.Common.{arith, eqb-true, eq-eqb}
-use Rattle.std.specs.Prelude.{Contains, ◌↔◌}
-use Rattle.std.specs.List.{filter, AllByRecursion}
-use Rattle.std.specs.List.Sorted.{IsStrictlyIncreasing}
 use Rattle.std.proofs.lemmas.Bool.{or_cases, or_left, or_right, ne_eqb, leb-true, le-leb}
-use Rattle.mm_model.specs.Slot.{Slot}
-use Rattle.mm_model.specs.State.{State, slot_at}
-use Rattle.mm_model.specs.Image.{Image, slot_in, start}
-use Rattle.mm_model.specs.Groups.{HasSlotAt}
-use Rattle.mm_model.specs.Spelling.{numbers_of, IsImage}
-use Rattle.mm_model.specs.Schedule.{in_groups, is_kept, only}
-use Rattle.mm_model.specs.Turn.{turn}
-use Rattle.mm_model.specs.Run.{after, run}
-use Rattle.mm_model.specs.Fits.{slots_of, identity_of, IsSlot, IsState, Fits}
-use Rattle.mm_model.proofs.CoreRows.{each_map, each_both, each_contained, above_first, rest_rises, slot_at-number, each_slot, slot_has, stays_by, numbers_above}
-use Rattle.mm_model.proofs.TurnKeeps.{turn_keeps}
-use Rattle.mm_model.proofs.StateKeeps.{after_state, after_fits}
-use Rattle.mm_model.proofs.TurnBounds.{turn_takes}
+use Rattle.std.specs.{Prelude.{Contains, ◌↔◌}, List.{filter, AllByRecursion, Sorted.IsStrictlyIncreasing}}
+use Rattle.mm_model.specs.{Slot.Slot, State.{State, slot_at}, Image.{Image, slot_in, start}, Groups.HasSlotAt}
+use Rattle.mm_model.specs.{Spelling.{numbers_of, IsImage}, Schedule.{in_groups, is_kept, only}, Turn.turn}
+use Rattle.mm_model.specs.{Run.{after, run}, Fits.{slots_of, identity_of, IsSlot, IsState, Fits}}
+use Rattle.mm_model.proofs.CoreRows.{each_map, each_both, each_contained, above_first, rest_rises, slot_at-number}
+use Rattle.mm_model.proofs.{CoreRows.{each_slot, slot_has, stays_by, numbers_above}, TurnKeeps.turn_keeps}
+use Rattle.mm_model.proofs.{StateKeeps.{after_state, after_fits}, TurnBounds.turn_takes}
 use Rattle.mm_model.proofs.Starts.{start_at, start_slots, start_state, start_fits, start_within}
 use Rattle.mm_laws.specs.Restrictions.{Belongs}
 

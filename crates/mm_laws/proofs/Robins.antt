@@ -1,19 +1,13 @@
 -- Round robin issues the next running slot.
 use Rattle.std.proofs.Common.{◌≡◌, ℕ, zero, suc, ◌<◌, ◌≤◌, inl, inr, Bool, true, false, nat_lt, if◌then◌else◌, List, []}
 use Rattle.std.proofs.Common.{◌∷◌, ◌++◌, length, map, Option, Some, None, refl, sym, ap, ◌∙◌, arith, ltb-true}
-use Rattle.std.specs.Prelude.{Contains}
-use Rattle.std.specs.List.{AllByRecursion}
-use Rattle.std.specs.List.Sorted.{IsStrictlyIncreasing}
 use Rattle.std.proofs.lemmas.Bool.{lt-ltb}
-use Rattle.std.specs.Option.{option_or}
-use Rattle.mm_model.specs.Slot.{Slot}
-use Rattle.mm_model.specs.State.{ThreadRow, Core, State, slot_at}
-use Rattle.mm_model.specs.Spelling.{numbers_of}
-use Rattle.mm_model.specs.Turn.{is_running}
+use Rattle.std.specs.{Prelude.Contains, List.{AllByRecursion, Sorted.IsStrictlyIncreasing}, Option.option_or}
+use Rattle.mm_model.specs.{Slot.Slot, State.{ThreadRow, Core, State, slot_at}, Spelling.numbers_of, Turn.is_running}
 use Rattle.mm_model.specs.Run.{after, run, first_running, any_number, next_running, then_issued, robin_from, last_item}
 use Rattle.mm_model.specs.Fits.{slots_of, IsState}
-use Rattle.mm_model.proofs.CoreRows.{each_map, each_contained, above_first, rest_rises, slot_at-number, slots_found, slot_has, Rises, numbers_above}
-use Rattle.mm_model.proofs.StateKeeps.{after_state}
+use Rattle.mm_model.proofs.CoreRows.{each_map, each_contained, above_first, rest_rises, slot_at-number, slots_found}
+use Rattle.mm_model.proofs.{CoreRows.{slot_has, Rises, numbers_above}, StateKeeps.after_state}
 use Rattle.mm_laws.specs.Schedules.{NoneRuns, AnyNumber, IsLeast, IsNext}
 
 abbrev slots_in : List ThreadRow → List Slot

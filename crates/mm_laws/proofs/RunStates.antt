@@ -1,18 +1,12 @@
 -- What each state of a run is.
 use Rattle.std.proofs.Common.{◌≡◌, ℕ, ◌≤◌, true, List, [], ◌∷◌, length, Option, Some, None, refl, ap, ◌∙◌, subst}
-use Rattle.std.specs.Prelude.{IfSome}
-use Rattle.std.specs.List.{AllByRecursion}
-use Rattle.mm_model.specs.declared.event.Event.{Event}
-use Rattle.mm_model.specs.Flags.{one_if}
-use Rattle.mm_model.specs.Slot.{Slot}
-use Rattle.mm_model.specs.State.{State, slot_at, queue_at}
-use Rattle.mm_model.specs.Image.{Image, start}
-use Rattle.mm_model.specs.Spelling.{IsImage}
-use Rattle.mm_model.specs.Run.{after, run}
-use Rattle.mm_model.specs.Fits.{is_waiting, waits_for, IsState, LoadsMatch, WaitsForSome, Fits, IsAtSlot, EventsAreAtSlots, IsConsistent, IsSlot, TurnsWithin}
+use Rattle.std.specs.{Prelude.IfSome, List.AllByRecursion}
+use Rattle.mm_model.specs.{declared.event.Event.Event, Flags.one_if, Slot.Slot, State.{State, slot_at, queue_at}}
+use Rattle.mm_model.specs.{Image.{Image, start}, Spelling.IsImage, Run.{after, run}}
+use Rattle.mm_model.specs.Fits.{is_waiting, waits_for, IsState, LoadsMatch, WaitsForSome, Fits, IsAtSlot}
+use Rattle.mm_model.specs.Fits.{EventsAreAtSlots, IsConsistent, IsSlot, TurnsWithin}
 use Rattle.mm_model.proofs.CoreRows.{each_both, each_map, slot_at-number, slot_has}
-use Rattle.mm_model.proofs.CoreSteps.{waits_for-says, waits_for-at}
-use Rattle.mm_model.proofs.StateKeeps.{after_state, after_fits, after_kept}
+use Rattle.mm_model.proofs.{CoreSteps.{waits_for-says, waits_for-at}, StateKeeps.{after_state, after_fits, after_kept}}
 use Rattle.mm_model.proofs.TurnBounds.{turn_takes, after_within}
 use Rattle.mm_model.proofs.Starts.{start_state, start_fits, start_kept, start_within}
 use Rattle.mm_model.proofs.Shortness.{queue_short, pending_short, queued_at}

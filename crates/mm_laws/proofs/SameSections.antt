@@ -1,14 +1,11 @@
 -- Where groups' rows and outputs are the same, so are their sections of a report.
-use Rattle.std.proofs.Common.{◌≡◌, ℕ, Bool, true, false, cond, ◌||◌, List, [], ◌∷◌, ◌++◌, length, refl, sym, ap, ◌∙◌, inl, inr, eqb-true}
+use Rattle.std.proofs.Common.{◌≡◌, ℕ, Bool, true, false, cond, ◌||◌, List, [], ◌∷◌, ◌++◌, length, refl, sym, ap, ◌∙◌}
+use Rattle.std.proofs.{Common.{inl, inr, eqb-true}, lemmas.Bool.{both_ways, cases_Bool}}
 use Rattle.std.specs.List.{flat_map, filter, list_any, range_with_len}
-use Rattle.std.proofs.lemmas.Bool.{both_ways, cases_Bool}
-use Rattle.mm_model.specs.State.{ThreadRow, Core, output_of}
-use Rattle.mm_model.specs.Lines.{slot_lines, output_lines}
-use Rattle.mm_model.specs.Report.{is_of, group_line, section}
-use Rattle.mm_model.specs.Worlds.{sections_of}
+use Rattle.mm_model.specs.{State.{ThreadRow, Core, output_of}, Lines.{slot_lines, output_lines}}
+use Rattle.mm_model.specs.{Report.{is_of, group_line, section}, Worlds.sections_of}
 use Rattle.mm_model.proofs.Filters.{filter_takes, filter_drops}
-use Rattle.mm_laws.specs.Isolated.{is_row_of}
-use Rattle.mm_laws.proofs.AlikeRows.{mine}
+use Rattle.mm_laws.{specs.Isolated.is_row_of, proofs.AlikeRows.mine}
 
 -- a row of one group of the groups is a row of the groups
 of_groups : (c : ℕ → Bool) (g : ℕ) (row : ThreadRow) → c g ≡ true → is_of g row ≡ true → is_row_of c row ≡ true

@@ -1,15 +1,9 @@
 -- Two runs whose items of the groups are the same show them the same.
 use Rattle.std.proofs.Common.{◌≡◌, ℕ, Bool, true, List, sym, ap, ◌∙◌}
-use Rattle.mm_model.specs.Memory.{Memory, cell_at, IsPaged}
-use Rattle.mm_model.specs.Image.{Image, start}
-use Rattle.mm_model.specs.Report.{same_cell, changes}
-use Rattle.mm_model.specs.Schedule.{only}
-use Rattle.mm_model.specs.Run.{run}
-use Rattle.mm_model.proofs.Fitted.{paged_of}
+use Rattle.mm_model.specs.{Memory.{Memory, cell_at, IsPaged}, Image.{Image, start}, Report.{same_cell, changes}}
+use Rattle.mm_model.{specs.{Schedule.only, Run.run}, proofs.Fitted.paged_of}
 use Rattle.mm_laws.specs.Isolated.{AgreeApart, SameWorlds}
-use Rattle.mm_laws.proofs.TwoLists.{two_runs}
-use Rattle.mm_laws.proofs.SameSections.{same_sections}
-use Rattle.mm_laws.proofs.CellViews.{Passing, same_there}
+use Rattle.mm_laws.proofs.{TwoLists.two_runs, SameSections.same_sections, CellViews.{Passing, same_there}}
 use Rattle.mm_laws.proofs.ChangedCells.{cell_or_zero, changes_rising, in_changes, changes_in}
 
 -- the cells that pass differ in both

@@ -1,13 +1,10 @@
 -- A schedule's text always means a list or has a first fault.
-use Rattle.std.proofs.Common.{◌≡◌, ℕ, zero, suc, ◌+◌, ◌<◌, ◌≤◌, ◌⊎◌, inl, inr, List, [], ◌∷◌, ◌++◌, length}
-use Rattle.std.proofs.Common.{replicate, refl, sym, ap, ◌∙◌, subst, arith, append_assoc, append-nil}
-use Rattle.std.specs.Prelude.{decimal}
-use Rattle.std.proofs.lemmas.Bool.{cases_eq, cases_lt}
-use Rattle.mm_model.specs.Words.{runs_of, Lists}
-use Rattle.mm_model.specs.Words.Lists.{no_word}
+use Rattle.std.proofs.Common.{◌≡◌, ℕ, zero, suc, ◌+◌, ◌<◌, ◌≤◌, ◌⊎◌, inl, inr, List, [], ◌∷◌, ◌++◌, length, replicate}
+use Rattle.std.proofs.Common.{refl, sym, ap, ◌∙◌, subst, arith, append_assoc, append-nil}
+use Rattle.std.{proofs.lemmas.Bool.{cases_eq, cases_lt}, specs.Prelude.decimal}
+use Rattle.mm_model.specs.Words.{runs_of, Lists, Lists.no_word}
 use Rattle.mm_model.specs.Schedule.{item_limit, IsItem, SaysItems, FitsLimit, Means, FaultsAt}
-use Rattle.mm_model.proofs.WordTexts.{Runs, lists_more}
-use Rattle.mm_model.proofs.ScheduleWords.{says_copies, too_many}
+use Rattle.mm_model.proofs.{WordTexts.{Runs, lists_more}, ScheduleWords.{says_copies, too_many}}
 
 -- 1. What a word says.
 

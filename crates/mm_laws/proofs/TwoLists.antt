@@ -1,37 +1,22 @@
 -- Two runs whose items of the groups are the same, by induction over both lists.
-use Rattle.std.proofs.Common.{◌≡◌, ℕ, Bool, true, false, cond, if◌then◌else◌, List, [], ◌∷◌, ◌++◌, map, Option, Some, refl, sym, ap, ◌∙◌, subst, inl, inr}
+use Rattle.std.proofs.Common.{◌≡◌, ℕ, Bool, true, false, cond, if◌then◌else◌, List, [], ◌∷◌, ◌++◌, map, Option, Some}
+use Rattle.std.proofs.{Common.{refl, sym, ap, ◌∙◌, subst, inl, inr}, lemmas.Bool.cases_Bool}
 use Rattle.std.specs.List.{filter}
-use Rattle.std.proofs.lemmas.Bool.{cases_Bool}
 use Rattle.mm_word.specs.Access.{AccessValue}
 use Rattle.mm_isa.specs.declared.instr.Instr.{Instr}
-use Rattle.mm_model.specs.declared.step.Step.{Step}
-use Rattle.mm_model.specs.declared.slot.Pending.{Pending}
-use Rattle.mm_model.specs.Memory.{Memory}
-use Rattle.mm_model.specs.Uses.{Use}
-use Rattle.mm_model.specs.Slot.{Slot}
-use Rattle.mm_model.specs.State.{ThreadRow, Core, State, slot_at, output_of}
-use Rattle.mm_model.specs.Image.{Image, start}
-use Rattle.mm_model.specs.Schedule.{is_kept, only}
-use Rattle.mm_model.specs.Ask.{ask}
-use Rattle.mm_model.specs.Effect.{Effect, effect}
-use Rattle.mm_model.specs.Effect.Effect.{Fault, Block, Deliver, Do}
-use Rattle.mm_model.specs.Turn.{Turned, reply, faulted, touch_of, asked_use, blocked, ended, executed}
-use Rattle.mm_model.specs.Turn.{started, idle, arrives, taken_by_port, taken_by, is_running}
-use Rattle.mm_model.specs.Turn.{turn}
-use Rattle.mm_model.specs.Run.{turn_of, after, run}
-use Rattle.mm_model.specs.Trace.{group_of, turns_of, step_line, trace_line, traced}
-use Rattle.mm_model.specs.Reach.Entries.{All}
+use Rattle.mm_model.specs.{declared.{step.Step.Step, slot.Pending.Pending}, Memory.Memory, Uses.Use, Slot.Slot}
+use Rattle.mm_model.specs.{State.{ThreadRow, Core, State, slot_at, output_of}, Image.{Image, start}}
+use Rattle.mm_model.specs.{Schedule.{is_kept, only}, Ask.ask}
+use Rattle.mm_model.specs.Effect.{Effect, effect, Effect.{Fault, Block, Deliver, Do}}
+use Rattle.mm_model.specs.Turn.{Turned, reply, faulted, touch_of, asked_use, blocked, ended, executed, started, idle}
+use Rattle.mm_model.specs.{Turn.{arrives, taken_by_port, taken_by, is_running, turn}, Run.{turn_of, after, run}}
+use Rattle.mm_model.specs.{Trace.{group_of, turns_of, step_line, trace_line, traced}, Reach.Entries.All}
 use Rattle.mm_model.specs.Worlds.{is_turn_of, trace_of}
-use Rattle.mm_model.proofs.CoreRows.{slot_at-number, stays_by}
-use Rattle.mm_model.proofs.SlotSteps.{delivered_from}
-use Rattle.mm_model.proofs.Starts.{start_state, start_fits}
-use Rattle.mm_model.proofs.TurnKeeps.{turn_keeps}
-use Rattle.mm_model.proofs.TurnShapes.{fetch_use, started_one}
+use Rattle.mm_model.proofs.{CoreRows.{slot_at-number, stays_by}, SlotSteps.delivered_from}
+use Rattle.mm_model.proofs.{Starts.{start_state, start_fits}, TurnKeeps.turn_keeps, TurnShapes.{fetch_use, started_one}}
 use Rattle.mm_model.proofs.Filters.{filter_takes, filter_drops}
 use Rattle.mm_laws.specs.Isolated.{is_row_of, Alike, AgreeApart, Worlds}
-use Rattle.mm_laws.proofs.GrantedRuns.{start_granted}
-use Rattle.mm_laws.proofs.AlikeRows.{same_at}
-use Rattle.mm_laws.proofs.OutsideTurns.{QuietTurn}
+use Rattle.mm_laws.proofs.{GrantedRuns.start_granted, AlikeRows.same_at, OutsideTurns.QuietTurn}
 use Rattle.mm_laws.proofs.TwoRuns.{Item, item, same_turns, quiet_s, quiet_t, both_go_on, one_goes_on, other_goes_on}
 
 -- 1. The slot that a turn is about.

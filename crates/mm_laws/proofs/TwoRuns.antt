@@ -1,24 +1,16 @@
 -- Two worlds, step by step, and by induction over both lists of items.
-use Rattle.std.proofs.Common.{◌≡◌, ℕ, ◌-◌, ◌≤◌, inl, inr, Bool, true, false, ◌&&◌, nat_le, if◌then◌else◌, map, Option, Some, None, refl, sym, ap, ◌∙◌, subst, arith, leb-true}
-use Rattle.mm_model.specs.Slot.{Slot}
-use Rattle.mm_model.specs.declared.slot.Pending.{Pending}
-use Rattle.mm_model.specs.Outcomes.{IsPort}
+use Rattle.std.proofs.Common.{◌≡◌, ℕ, ◌-◌, ◌≤◌, inl, inr, Bool, true, false, ◌&&◌, nat_le, if◌then◌else◌, map, Option}
+use Rattle.std.proofs.Common.{Some, None, refl, sym, ap, ◌∙◌, subst, arith, leb-true}
 use Rattle.std.proofs.lemmas.Bool.{le-leb, or_cases, or_parts, and_parts}
-use Rattle.mm_model.specs.State.{Core, State, slot_at}
-use Rattle.mm_model.specs.Image.{Image, slot_in, start}
-use Rattle.mm_model.specs.Fits.{identity_of, IsSlot, IsState, Fits}
+use Rattle.mm_model.specs.{Slot.Slot, declared.slot.Pending.Pending, Outcomes.IsPort, State.{Core, State, slot_at}}
+use Rattle.mm_model.specs.{Image.{Image, slot_in, start}, Fits.{identity_of, IsSlot, IsState, Fits}}
 use Rattle.mm_model.specs.Schedule.{in_groups, is_kept}
 use Rattle.mm_model.specs.Turn.{Turned, started, idle, taken_by_port, taken_by, port_of, is_running, turn}
-use Rattle.mm_model.specs.Run.{turn_of, after}
-use Rattle.mm_model.specs.Reach.Entries.{All}
-use Rattle.mm_model.proofs.Starts.{start_at, start_slots}
-use Rattle.mm_model.proofs.Fitted.{paged_of}
+use Rattle.mm_model.specs.{Run.{turn_of, after}, Reach.Entries.All}
+use Rattle.mm_model.proofs.{Starts.{start_at, start_slots}, Fitted.paged_of}
 use Rattle.mm_model.proofs.CoreRows.{slot_at-number, slot_has, identities_of, identity_at}
-use Rattle.mm_laws.specs.Granted.{StepGranted}
-use Rattle.mm_laws.specs.Isolated.{AgreeApart, Worlds, WorldsGoOn}
-use Rattle.mm_laws.proofs.GrantedRows.{Stands}
-use Rattle.mm_laws.proofs.GrantedTurns.{stands_of, step_granted}
-use Rattle.mm_laws.proofs.AlikeRows.{same_at}
+use Rattle.mm_laws.specs.{Granted.StepGranted, Isolated.{AgreeApart, Worlds, WorldsGoOn}}
+use Rattle.mm_laws.proofs.{GrantedRows.Stands, GrantedTurns.{stands_of, step_granted}, AlikeRows.same_at}
 use Rattle.mm_laws.proofs.AlikeWorlds.{touchable_other}
 use Rattle.mm_laws.proofs.AlikeTurns.{SameTurn, Both, same_idle, same_started, same_arrives}
 use Rattle.mm_laws.proofs.OutsideTurns.{QuietTurn, turn_quiet}

@@ -1,26 +1,17 @@
 -- Runs, reports, traces and what groups reach, in two versions.
-use Rattle.std.proofs.Common.{◌≡◌, ℕ, ◌≤◌, ◌⊎◌, inl, inr, Bool, true, false, ◌==◌, if◌then◌else◌, List, [], ◌∷◌, ◌++◌, Option, refl, sym, ap, ◌∙◌, subst, arith, eqb-true}
-use Rattle.std.specs.Prelude.{Contains}
-use Rattle.std.specs.List.{AllByRecursion, flat_map}
-use Rattle.mm_word.specs.declared.cause.Cause.TheVariants.{OutFull}
-use Rattle.mm_word.specs.Pointer.{Pointer}
-use Rattle.mm_model.specs.declared.counts.Counts.{Counts}
-use Rattle.mm_model.specs.declared.step.Step.{Step}
-use Rattle.mm_model.specs.declared.step.Tick.TheVariants.{Faulted}
-use Rattle.mm_model.specs.Memory.{cell_at}
-use Rattle.mm_model.specs.Slot.{Slot}
-use Rattle.mm_model.specs.State.{Core, State, slot_at, output_of}
-use Rattle.mm_model.specs.Image.{Image, output_limit, start}
-use Rattle.mm_model.specs.Turn.{Turned}
-use Rattle.mm_model.specs.Run.{turn_of, state_of, after, run, steps, uses}
+use Rattle.std.proofs.Common.{◌≡◌, ℕ, ◌≤◌, ◌⊎◌, inl, inr, Bool, true, false, ◌==◌, if◌then◌else◌, List, [], ◌∷◌, ◌++◌}
+use Rattle.std.proofs.Common.{Option, refl, sym, ap, ◌∙◌, subst, arith, eqb-true}
+use Rattle.std.specs.{Prelude.Contains, List.{AllByRecursion, flat_map}}
+use Rattle.mm_word.specs.{declared.cause.Cause.TheVariants.OutFull, Pointer.Pointer}
+use Rattle.mm_model.specs.{declared.{counts.Counts.Counts, step.{Step.Step, Tick.TheVariants.Faulted}}, Memory.cell_at}
+use Rattle.mm_model.specs.{Slot.Slot, State.{Core, State, slot_at, output_of}, Image.{Image, output_limit, start}}
+use Rattle.mm_model.specs.{Turn.Turned, Run.{turn_of, state_of, after, run, steps, uses}}
 use Rattle.mm_model.specs.Report.{cycles_line, section, groups_of, page_lines, cell_lines, count_line, report}
 use Rattle.mm_model.specs.Trace.{trace_line, traced, trace}
-use Rattle.mm_model.specs.Reach.{Entries, Grants, Serves, CanTouch, CanWrite}
-use Rattle.mm_model.specs.Reach.Grants.{below}
-use Rattle.mm_model.specs.Worlds.{Touchable, Apart, migrated}
+use Rattle.mm_model.specs.Reach.{Entries, Grants, Serves, CanTouch, CanWrite, Grants.below}
+use Rattle.mm_model.{specs.Worlds.{Touchable, Apart, migrated}, proofs.TurnChanges.turn_changes}
 use Rattle.mm_laws.specs.Migration.{NoOutputIsFull, ShowsTheSame}
 use Rattle.mm_laws.proofs.VersionTurns.{core_as, turned_as, MeetsNoLimit, turn_as}
-use Rattle.mm_model.proofs.TurnChanges.{turn_changes}
 
 -- 1. Runs.
 

@@ -1,37 +1,24 @@
 -- A turn reads the version of a core as the limit of outputs alone, so it is the same in a version whose limit it does not meet.
-use Rattle.std.proofs.Common.{◌≡◌, ℕ, ◌^◌, ◌%◌, ◌≤◌, ◌⊎◌, inl, inr, Bool, true, false, nat_lt, if◌then◌else◌}
-use Rattle.std.proofs.Common.{List, [], ◌∷◌, length, Option, Some, None, Result, Ok, Err, refl, sym, ap, ◌∙◌, arith}
-use Rattle.std.proofs.Common.{ltb-true}
+use Rattle.std.proofs.Common.{◌≡◌, ℕ, ◌^◌, ◌%◌, ◌≤◌, ◌⊎◌, inl, inr, Bool, true, false, nat_lt, if◌then◌else◌, List, []}
+use Rattle.std.proofs.Common.{◌∷◌, length, Option, Some, None, Result, Ok, Err, refl, sym, ap, ◌∙◌, arith, ltb-true}
 use Rattle.std.proofs.lemmas.Bool.{lt-ltb}
 use Rattle.mm_word.specs.declared.perm.Kind.TheVariants.{Store}
-use Rattle.mm_word.specs.declared.cause.Cause.{Cause}
-use Rattle.mm_word.specs.declared.cause.Cause.TheVariants.{Bounds, Priv, OutFull}
-use Rattle.mm_word.specs.declared.word.Pre.{Pre}
-use Rattle.mm_word.specs.declared.word.Word.{Word}
-use Rattle.mm_word.specs.declared.word.Word.TheVariants.{Int}
-use Rattle.mm_word.specs.Access.{AccessValue, check_result}
+use Rattle.mm_word.specs.declared.cause.Cause.{Cause, TheVariants.{Bounds, Priv, OutFull}}
+use Rattle.mm_word.specs.{declared.word.{Pre.Pre, Word.{Word, TheVariants.Int}}, Access.{AccessValue, check_result}}
 use Rattle.mm_word.specs.Word.{word_bits}
-use Rattle.mm_isa.specs.declared.instr.Instr.{Instr}
-use Rattle.mm_isa.specs.declared.instr.Instr.TheVariants.{Out, Ld, St, Map, Unmap}
-use Rattle.mm_model.specs.declared.slot.SlotState.TheVariants.{Running, Halted}
-use Rattle.mm_model.specs.declared.event.Event.{Event}
-use Rattle.mm_model.specs.declared.step.Tick.TheVariants.{Faulted}
-use Rattle.mm_model.specs.Memory.{Memory}
-use Rattle.mm_model.specs.Uses.{Use}
-use Rattle.mm_model.specs.Slot.{Slot, register}
+use Rattle.mm_isa.specs.declared.instr.Instr.{Instr, TheVariants.{Out, Ld, St, Map, Unmap}}
+use Rattle.mm_model.specs.declared.{slot.SlotState.TheVariants.{Running, Halted}, event.Event.Event}
+use Rattle.mm_model.specs.{declared.step.Tick.TheVariants.Faulted, Memory.Memory, Uses.Use, Slot.{Slot, register}}
 use Rattle.mm_model.specs.State.{Core, slot_at, queue_at, put_slot, put_queue, output_of, put_output}
-use Rattle.mm_model.specs.Image.{output_limit}
-use Rattle.mm_model.specs.Operands.{addr_operand, value_operand}
+use Rattle.mm_model.specs.{Image.output_limit, Operands.{addr_operand, value_operand}}
 use Rattle.mm_model.specs.Ask.{Ask, ask, is_privileged, load_kind, reaching}
 use Rattle.mm_model.specs.Ask.Ask.{Nothing, Refuse, Reach, MapPage, UnmapPage, NextEvent, Room, Serve}
 use Rattle.mm_model.specs.Effect.{Change, Effect, effect, delivered, puts_out}
-use Rattle.mm_model.specs.Effect.Reply.{Fine, Refused}
-use Rattle.mm_model.specs.Effect.Effect.{Fault, Block, Deliver, Do}
-use Rattle.mm_model.proofs.TurnShapes.{fetch_uses, fetch_use, ItemAlike, same_option, started_by, turn_both}
+use Rattle.mm_model.specs.Effect.{Reply.{Fine, Refused}, Effect.{Fault, Block, Deliver, Do}}
 use Rattle.mm_model.specs.Turn.{Turned, reply, first_event, slot_after, with_other, with_queue, with_out, core_after}
 use Rattle.mm_model.specs.Turn.{stood, is_sync, event_of, core_faulted, tick_faulted, faulted, touch_of, asked_use}
-use Rattle.mm_model.specs.Turn.{blocked, ended, executed, started, idle}
-use Rattle.mm_model.specs.Turn.{port_of, turn}
+use Rattle.mm_model.specs.Turn.{blocked, ended, executed, started, idle, port_of, turn}
+use Rattle.mm_model.proofs.TurnShapes.{fetch_uses, fetch_use, ItemAlike, same_option, started_by, turn_both}
 
 -- the same in another version
 abbrev pub core_as : ℕ → Core → Core

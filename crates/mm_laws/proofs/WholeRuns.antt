@@ -1,34 +1,21 @@
 -- The lines of groups' sections and cells are lines of the report.
 use Rattle.std.proofs.Common.{◌≡◌, ℕ, zero, suc, ◌+◌, ◌/◌, inl, inr, Bool, true, false, if◌then◌else◌, List, [], ◌∷◌}
 use Rattle.std.proofs.Common.{◌++◌, length, take, drop, codes, decimal, Option, None, Some, refl, sym, ap, ◌∙◌, subst}
-use Rattle.std.proofs.Common.{append_assoc, append-nil, arith}
-use Rattle.std.specs.Prelude.{Contains}
-use Rattle.std.specs.List.{flat_map, filter, range_with_len}
-use Rattle.std.proofs.lemmas.Bool.{cases_Bool}
-use Rattle.mm_word.specs.declared.word.Cell.{Cell}
-use Rattle.mm_word.specs.declared.word.Word.{Word}
-use Rattle.mm_word.specs.declared.word.Word.TheVariants.{Ptr}
-use Rattle.mm_model.specs.declared.counts.Counts.{Counts}
-use Rattle.mm_model.specs.declared.slot.Pending.{Pending}
-use Rattle.mm_model.specs.Digits.{hex}
-use Rattle.mm_model.specs.Memory.{Memory, is_mapped}
-use Rattle.mm_model.specs.Slot.{Slot, register, is_empty}
-use Rattle.mm_model.specs.State.{ThreadRow, Core, State, output_of}
-use Rattle.mm_model.specs.Image.{Image, start}
-use Rattle.mm_model.specs.Groups.{HasSlot}
-use Rattle.mm_model.specs.Spelling.{IsImage}
-use Rattle.mm_model.specs.Run.{run}
+use Rattle.std.proofs.{Common.{append_assoc, append-nil, arith}, lemmas.Bool.cases_Bool}
+use Rattle.std.specs.{Prelude.Contains, List.{flat_map, filter, range_with_len}}
+use Rattle.mm_word.specs.declared.word.{Cell.Cell, Word.{Word, TheVariants.Ptr}}
+use Rattle.mm_model.specs.{declared.{counts.Counts.Counts, slot.Pending.Pending}, Digits.hex}
+use Rattle.mm_model.specs.{Memory.{Memory, is_mapped}, Slot.{Slot, register, is_empty}}
+use Rattle.mm_model.specs.{State.{ThreadRow, Core, State, output_of}, Image.{Image, start}, Groups.HasSlot}
+use Rattle.mm_model.specs.{Spelling.IsImage, Run.run}
 use Rattle.mm_model.specs.Lines.{newline, word_text, state_text, past_text, numbers_text, slot_line, is_zero, word_line}
 use Rattle.mm_model.specs.Lines.{register_line, pending_line, register_lines, slot_lines, bytes_text, output_row}
 use Rattle.mm_model.specs.Lines.{output_rows, output_lines, full_text, cell_line}
-use Rattle.mm_model.specs.Report.{is_of, cycles_line, group_line, section, groups_of, sections, page_change, page_lines, pages_of, changes, cell_lines, count_line, report}
-use Rattle.mm_model.specs.Reach.Entries.{All}
-use Rattle.mm_model.specs.Worlds.{sections_of, Touchable, Apart}
-use Rattle.mm_model.proofs.Filters.{filter_takes, filter_drops}
-use Rattle.mm_laws.specs.Runs.{EndsALine, AreLinesOf, IsLineOf, Reaches, Isolates}
-use Rattle.mm_laws.specs.CellLines.{LinesOf, CellLinesOf}
-use Rattle.mm_laws.proofs.GrantedRuns.{runs_granted}
-use Rattle.mm_laws.proofs.OwnItems.{alone_sees}
+use Rattle.mm_model.specs.Report.{is_of, cycles_line, group_line, section, groups_of, sections, page_change, page_lines}
+use Rattle.mm_model.specs.{Report.{pages_of, changes, cell_lines, count_line, report}, Reach.Entries.All}
+use Rattle.mm_model.{specs.Worlds.{sections_of, Touchable, Apart}, proofs.Filters.{filter_takes, filter_drops}}
+use Rattle.mm_laws.specs.{Runs.{EndsALine, AreLinesOf, IsLineOf, Reaches, Isolates}, CellLines.{LinesOf, CellLinesOf}}
+use Rattle.mm_laws.proofs.{GrantedRuns.runs_granted, OwnItems.alone_sees}
 
 -- 1. Texts that are made of whole lines.
 

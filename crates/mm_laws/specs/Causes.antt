@@ -1,12 +1,8 @@
 -- The outcome of each cycle, exactly, and what a fault changes.
 use Rattle.std.specs.Prelude.{◌≡◌, ◌↔◌, ℕ}
 use Rattle.mm_word.specs.declared.cause.Cause.{Cause}
-use Rattle.mm_model.specs.declared.step.Tick.TheVariants.{Idle, Blocked, Did, Faulted, Delivered}
-use Rattle.mm_model.specs.Slot.{Slot}
-use Rattle.mm_model.specs.State.{State}
-use Rattle.mm_model.specs.Image.{Image}
-use Rattle.mm_model.specs.Spelling.{IsImage}
-use Rattle.mm_model.specs.Fits.{IsState, Fits}
+use Rattle.mm_model.specs.{declared.step.Tick.TheVariants.{Idle, Blocked, Did, Faulted, Delivered}, Slot.Slot}
+use Rattle.mm_model.specs.{State.State, Image.Image, Spelling.IsImage, Fits.{IsState, Fits}}
 use Rattle.mm_model.specs.Outcomes.{IsIdle, Delivers, StopsAt, Blocks, Faults, Completes, FaultChanges}
 use Rattle.mm_model.specs.Run.{turn_of, after}
 

@@ -1,17 +1,9 @@
 -- The lines of the cells that groups can touch, as one text.
 use Rattle.std.specs.Prelude.{◌≡◌, ◌↔◌, ℕ, Bool, List, [], ◌∷◌, ◌++◌, Option}
 use Rattle.mm_word.specs.declared.word.Cell.{Cell}
-use Rattle.mm_model.specs.declared.counts.Counts.{Counts}
-use Rattle.mm_model.specs.State.{State}
-use Rattle.mm_model.specs.Image.{Image, start}
-use Rattle.mm_model.specs.Lines.{cell_line}
-use Rattle.mm_model.specs.Report.{changes, report}
-use Rattle.mm_model.specs.Schedule.{only}
-use Rattle.mm_model.specs.Run.{run}
-use Rattle.mm_model.specs.Reach.Entries.{All}
-use Rattle.mm_model.specs.Worlds.{Touchable}
-use Rattle.mm_laws.specs.Isolated.{AgreeApart}
-use Rattle.mm_laws.specs.Runs.{AreLinesOf}
+use Rattle.mm_model.specs.{declared.counts.Counts.Counts, State.State, Image.{Image, start}, Lines.cell_line}
+use Rattle.mm_model.specs.{Report.{changes, report}, Schedule.only, Run.run, Reach.Entries.All, Worlds.Touchable}
+use Rattle.mm_laws.specs.{Isolated.AgreeApart, Runs.AreLinesOf}
 
 -- the text has the lines of the cells that pass
 pub data LinesOf (Passes : ℕ → Type 0) : List (ℕ × Cell) → List ℕ → Type 0 where

@@ -1,7 +1,6 @@
 -- The sums of the counts of a list of uses, and what is counted.
 use Rattle.std.specs.Prelude.{◌≡◌, ◌↔◌, ℕ, ◌+◌, ◌≤◌, true, false, List, [], ◌∷◌, Some}
-use Rattle.mm_model.specs.Uses.{Use, Accessed, Removed}
-use Rattle.mm_model.specs.Counted.{line_of, latest, is_hit, written, counts_of}
+use Rattle.mm_model.specs.{Uses.{Use, Accessed, Removed}, Counted.{line_of, latest, is_hit, written, counts_of}}
 use Rattle.mm_model.specs.CountFacts.{LatestWas, WroteSinceMiss}
 
 -- the count of uses that are accesses that found a page

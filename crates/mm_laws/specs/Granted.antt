@@ -1,26 +1,13 @@
 -- All that a run reaches is granted.
-use Rattle.std.specs.Prelude.{◌≡◌, ◌⊎◌, ℕ, ◌%◌, ◌^◌, ◌<◌, true, List, ◌++◌, Some, IfSome}
-use Rattle.std.specs.List.{AllByRecursion}
+use Rattle.std.specs.{Prelude.{◌≡◌, ◌⊎◌, ℕ, ◌%◌, ◌^◌, ◌<◌, true, List, ◌++◌, Some, IfSome}, List.AllByRecursion}
 use Rattle.mm_word.specs.declared.perm.Perm.TheVariants.{Eu, Ep}
-use Rattle.mm_word.specs.declared.word.Word.{Word}
-use Rattle.mm_word.specs.declared.word.Word.TheVariants.{Int, Ptr}
-use Rattle.mm_word.specs.declared.word.Cell.{Cell}
-use Rattle.mm_word.specs.Perm.{allows}
-use Rattle.mm_word.specs.Pointer.{Pointer, Covers, enter_result}
-use Rattle.mm_word.specs.Access.{AccessValue}
-use Rattle.mm_model.specs.declared.slot.Pending.{Pending}
-use Rattle.mm_model.specs.declared.event.Event.{Event}
-use Rattle.mm_model.specs.Memory.{Memory, cell_at}
-use Rattle.mm_model.specs.Slot.{Slot}
-use Rattle.mm_model.specs.State.{ThreadRow, State, slot_at, queue_at}
-use Rattle.mm_model.specs.Image.{Image, start}
-use Rattle.mm_model.specs.Spelling.{IsImage}
-use Rattle.mm_model.specs.Fits.{IsState, Fits}
-use Rattle.mm_model.specs.Turn.{Turned}
-use Rattle.mm_model.specs.Run.{turn_of, after, run}
+use Rattle.mm_word.specs.{declared.word.{Word.{Word, TheVariants.{Int, Ptr}}, Cell.Cell}, Perm.allows}
+use Rattle.mm_word.specs.{Pointer.{Pointer, Covers, enter_result}, Access.AccessValue}
+use Rattle.mm_model.specs.{declared.{slot.Pending.Pending, event.Event.Event}, Memory.{Memory, cell_at}, Slot.Slot}
+use Rattle.mm_model.specs.{State.{ThreadRow, State, slot_at, queue_at}, Image.{Image, start}, Spelling.IsImage}
+use Rattle.mm_model.specs.{Fits.{IsState, Fits}, Turn.Turned, Run.{turn_of, after, run}}
 use Rattle.mm_model.specs.Trace.{touches, group_in, done_entry, entries}
-use Rattle.mm_model.specs.Reach.{Entries, Grants, CanWrite}
-use Rattle.mm_model.specs.Reach.Entries.{All, These}
+use Rattle.mm_model.specs.Reach.{Entries, Grants, CanWrite, Entries.{All, These}}
 
 -- 1. Words that are granted.
 

@@ -2,8 +2,7 @@
 use Rattle.std.specs.Prelude.{ℕ, List}
 use Rattle.mm_word.specs.Pointer.{Pointer, IsWellFormed}
 use Rattle.mm_model.specs.Image.{Image}
-use Rattle.mm_model.specs.Reach.{Entries, MayEnter, Grants, CanTouch, CanWrite, Privileged}
-use Rattle.mm_model.specs.Reach.Entries.{All, These}
+use Rattle.mm_model.specs.Reach.{Entries, MayEnter, Grants, CanTouch, CanWrite, Privileged, Entries.{All, These}}
 
 -- the first entries are among the second
 abbrev pub Grow : Entries → Entries → Type 0

@@ -1,16 +1,8 @@
 -- Groups that stand apart cannot tell what the others do.
-use Rattle.std.specs.Prelude.{◌≡◌, ℕ, Bool, true, false, List}
-use Rattle.std.specs.List.{filter}
-use Rattle.mm_model.specs.Memory.{cell_at}
-use Rattle.mm_model.specs.State.{ThreadRow, State, output_of}
-use Rattle.mm_model.specs.Image.{Image, start}
-use Rattle.mm_model.specs.Groups.{HasSlot}
-use Rattle.mm_model.specs.Spelling.{IsImage}
-use Rattle.mm_model.specs.Fits.{IsState, Fits}
-use Rattle.mm_model.specs.Schedule.{is_kept, only}
-use Rattle.mm_model.specs.Run.{turn_of, after, run}
-use Rattle.mm_model.specs.Reach.Entries.{All}
-use Rattle.mm_model.specs.Worlds.{Touchable, Apart, Agree, SameView, Extracts, alone}
+use Rattle.std.specs.{Prelude.{◌≡◌, ℕ, Bool, true, false, List}, List.filter}
+use Rattle.mm_model.specs.{Memory.cell_at, State.{ThreadRow, State, output_of}, Image.{Image, start}, Groups.HasSlot}
+use Rattle.mm_model.specs.{Spelling.IsImage, Fits.{IsState, Fits}, Schedule.{is_kept, only}, Run.{turn_of, after, run}}
+use Rattle.mm_model.specs.{Reach.Entries.All, Worlds.{Touchable, Apart, Agree, SameView, Extracts, alone}}
 use Rattle.mm_laws.specs.Granted.{WordsGranted}
 
 -- 1. Two states that are alike to the groups.

@@ -1,17 +1,9 @@
 -- A plain image that is migrated to version 2.
-use Rattle.std.specs.Prelude.{◌≡◌, ◌≢◌, ◌↔◌, ℕ, Bool, false, List, Option}
-use Rattle.std.specs.List.{AllByRecursion}
+use Rattle.std.specs.{Prelude.{◌≡◌, ◌≢◌, ◌↔◌, ℕ, Bool, false, List, Option}, List.AllByRecursion}
 use Rattle.mm_word.specs.declared.cause.Cause.TheVariants.{OutFull}
-use Rattle.mm_model.specs.declared.counts.Counts.{Counts}
-use Rattle.mm_model.specs.declared.step.Step.{Step}
-use Rattle.mm_model.specs.declared.step.Tick.TheVariants.{Faulted}
-use Rattle.mm_model.specs.Uses.{Use}
-use Rattle.mm_model.specs.Image.{Image, start}
-use Rattle.mm_model.specs.Run.{steps}
-use Rattle.mm_model.specs.Report.{report_after}
-use Rattle.mm_model.specs.Trace.{trace}
-use Rattle.mm_model.specs.Reach.{Entries, CanTouch, CanWrite}
-use Rattle.mm_model.specs.Worlds.{Apart, migrated}
+use Rattle.mm_model.specs.{declared.{counts.Counts.Counts, step.{Step.Step, Tick.TheVariants.Faulted}}, Uses.Use}
+use Rattle.mm_model.specs.{Image.{Image, start}, Run.steps, Report.report_after, Trace.trace}
+use Rattle.mm_model.specs.{Reach.{Entries, CanTouch, CanWrite}, Worlds.{Apart, migrated}}
 
 -- no turn of the run faults because an output is full
 abbrev pub NoOutputIsFull : Image → List ℕ → Type 0

@@ -1,12 +1,7 @@
 -- The items of a list that stay for groups.
 use Rattle.std.specs.Prelude.{◌≡◌, ℕ, ◌+◌, ◌↔◌, ◌⊎◌, Bool, true, false, List, [], ◌∷◌, ◌++◌, Some}
-use Rattle.mm_model.specs.Slot.{Slot}
-use Rattle.mm_model.specs.State.{slot_at}
-use Rattle.mm_model.specs.Image.{Image, start}
-use Rattle.mm_model.specs.Groups.{HasSlotAt}
-use Rattle.mm_model.specs.Spelling.{IsImage}
-use Rattle.mm_model.specs.Schedule.{only}
-use Rattle.mm_model.specs.Run.{run}
+use Rattle.mm_model.specs.{Slot.Slot, State.slot_at, Image.{Image, start}, Groups.HasSlotAt, Spelling.IsImage}
+use Rattle.mm_model.specs.{Schedule.only, Run.run}
 
 -- the item names a slot of the groups or, in a split machine, the port of such a slot
 abbrev pub Belongs : Image → (ℕ → Bool) → ℕ → Type 0

@@ -1,20 +1,10 @@
 -- The promises for a whole run: what it touches is granted, and groups that stand apart see what they see alone.
-use Rattle.std.specs.Prelude.{◌≡◌, ◌⊎◌, ℕ, Bool, List, [], ◌∷◌, ◌++◌, Contains, Option, IfSome}
-use Rattle.std.specs.List.{AllByRecursion}
+use Rattle.std.specs.{Prelude.{◌≡◌, ◌⊎◌, ℕ, Bool, List, [], ◌∷◌, ◌++◌, Contains, Option, IfSome}, List.AllByRecursion}
 use Rattle.mm_word.specs.declared.word.Cell.{Cell}
-use Rattle.mm_model.specs.declared.counts.Counts.{Counts}
-use Rattle.mm_model.specs.Lines.{newline, cell_line}
-use Rattle.mm_model.specs.Image.{Image, start}
-use Rattle.mm_model.specs.Groups.{HasSlot}
-use Rattle.mm_model.specs.Spelling.{IsImage}
-use Rattle.mm_model.specs.Turn.{Turned}
-use Rattle.mm_model.specs.Run.{turn_of, run}
-use Rattle.mm_model.specs.Schedule.{only}
-use Rattle.mm_model.specs.Report.{changes, report}
-use Rattle.mm_model.specs.Trace.{touches, group_in, entries}
-use Rattle.mm_model.specs.Reach.{Entries}
-use Rattle.mm_model.specs.Reach.Entries.{These}
-use Rattle.mm_model.specs.Reach.Entries.{All}
+use Rattle.mm_model.specs.{declared.counts.Counts.Counts, Lines.{newline, cell_line}, Image.{Image, start}}
+use Rattle.mm_model.specs.{Groups.HasSlot, Spelling.IsImage, Turn.Turned, Run.{turn_of, run}, Schedule.only}
+use Rattle.mm_model.specs.{Report.{changes, report}, Trace.{touches, group_in, entries}}
+use Rattle.mm_model.specs.Reach.{Entries, Entries.{These, All}}
 use Rattle.mm_model.specs.Worlds.{Touchable, Apart, SameView, alone, sections_of}
 use Rattle.mm_laws.specs.Granted.{TouchGranted, EntryGranted}
 

@@ -1,11 +1,7 @@
 -- The meaning of schedules, and the items that round robin issues.
 use Rattle.std.specs.Prelude.{◌≡◌, ℕ, ◌<◌, ◌≤◌, ◌⊎◌, List, ◌∷◌, ◌++◌, length, Option, Some, None}
-use Rattle.mm_model.specs.Slot.{Slot}
-use Rattle.mm_model.specs.State.{Core, State}
-use Rattle.mm_model.specs.Run.{run, robin_from, last_item}
-use Rattle.mm_model.specs.Outcomes.{Runs}
-use Rattle.mm_model.specs.Schedule.{Means, FaultsAt}
-use Rattle.mm_model.specs.Fits.{IsState}
+use Rattle.mm_model.specs.{Slot.Slot, State.{Core, State}, Run.{run, robin_from, last_item}, Outcomes.Runs}
+use Rattle.mm_model.specs.{Schedule.{Means, FaultsAt}, Fits.IsState}
 
 -- 1. Texts.
 

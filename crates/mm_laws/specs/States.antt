@@ -1,13 +1,7 @@
 -- The states of a run.
-use Rattle.std.specs.Prelude.{◌≡◌, ℕ, ◌+◌, ◌≤◌, ◌⊎◌, true, List, length, Some}
-use Rattle.std.specs.List.{AllByRecursion}
-use Rattle.mm_model.specs.declared.event.Event.{Event}
-use Rattle.mm_model.specs.Slot.{Slot}
-use Rattle.mm_model.specs.State.{State, slot_at, queue_at}
-use Rattle.mm_model.specs.Image.{Image, start}
-use Rattle.mm_model.specs.Spelling.{IsImage}
-use Rattle.mm_model.specs.Turn.{is_running}
-use Rattle.mm_model.specs.Run.{after, run}
+use Rattle.std.specs.{Prelude.{◌≡◌, ℕ, ◌+◌, ◌≤◌, ◌⊎◌, true, List, length, Some}, List.AllByRecursion}
+use Rattle.mm_model.specs.{declared.event.Event.Event, Slot.Slot, State.{State, slot_at, queue_at}}
+use Rattle.mm_model.specs.{Image.{Image, start}, Spelling.IsImage, Turn.is_running, Run.{after, run}}
 use Rattle.mm_model.specs.Fits.{is_waiting, events_of, IsState, Fits, EventsAreAtSlots, IsConsistent, TurnsWithin}
 
 -- 1. The start, a turn and a run.

@@ -3,8 +3,8 @@ use Rattle.std.proofs.Common.{◌≡◌, ℕ, ◌+◌, true, false, ◌==◌, if
 use Prim.Native.Char.{code}
 use Rattle.mm_line.specs.declared.class.Class.TheVariants.{Letter, NameByte, Decimal, Hexadecimal}
 use Rattle.mm_line.specs.declared.token.Token.TheVariants.{Name, Directive, Comma, Colon, Plus, Bad}
-use Rattle.mm_line.proofs.Choices.{either}
-use Rattle.mm_line.specs.Tokens.{Next, is_in, run, starts, behind, starts_hexadecimal, decimal, hexadecimal, front, end, token_at}
+use Rattle.mm_line.specs.Tokens.{Next, is_in, run, starts, behind, starts_hexadecimal, decimal, hexadecimal, front, end}
+use Rattle.mm_line.{specs.Tokens.token_at, proofs.Choices.either}
 
 module _ (b : ℕ) (bytes : List ℕ) where
   abbrev from_decimals : Next

@@ -1,28 +1,21 @@
 -- A statement that is read claims what it names.
-use Rattle.std.proofs.Common.{◌≡◌, ◌≢◌, ℕ, Bool, true, false, List, Option, Some, None, Result, Ok, Err, refl, ap, subst}
-use Rattle.std.specs.Option.{option_map}
-use Rattle.std.specs.Result.{result_ok}
-use Rattle.mm_line.specs.declared.fault.Fault.TheVariants as faults
+use Rattle.std.proofs.Common.{◌≡◌, ◌≢◌, ℕ, Bool, true, false, List, Option, Some, None, Result, Ok, Err, refl, ap}
+use Rattle.std.{proofs.Common.subst, specs.{Option.option_map, Result.result_ok}}
 use Rattle.mm_line.specs.declared.fault.Problem.{Problem}
 use Rattle.mm_line.specs.declared.statement.Content.{Content}
 use Rattle.mm_line.specs.declared.statement.Statement.{Statement}
 use Rattle.mm_line.specs.declared.statement.Statement.TheVariants.{Spare, Begin, Fill, Word, Thread, Register}
-use Rattle.mm_line.specs.declared.line.Claim.{Claim}
-use Rattle.mm_line.specs.declared.line.Claim.TheVariants as claims
-use Rattle.mm_line.specs.declared.line.Body.{Body}
-use Rattle.mm_line.specs.declared.line.Line.{Line}
-use Rattle.mm_line.specs.declared.token.Token.{Token}
-use Rattle.mm_line.specs.declared.token.Token.TheVariants as tokens
-use Rattle.mm_line.specs.declared.words.Directive.{Directive}
-use Rattle.mm_line.specs.declared.words.Directive.TheVariants as directive
-use Rattle.mm_line.specs.Tokens.{Next, next_token}
+use Rattle.mm_line.specs.declared.{line.{Claim.Claim, Body.Body, Line.Line}, token.Token.Token}
+use Rattle.mm_line.specs.{declared.words.Directive.Directive, Tokens.{Next, next_token}}
 use Rattle.mm_line.specs.Words.{look_up, directives, ip_perms}
 use Rattle.mm_line.specs.Reading.{◌>>=◌, name_of, word_of, number_of, handler_of}
 use Rattle.mm_line.specs.Statements.{target_at, constant_at, content_of, word, spare_at, segment_at, fill_at, thread_at}
 use Rattle.mm_line.specs.Statements.{register_at, front_by, end_of, statement_of, claim_by, claim_of, body_of, is_label}
-use Rattle.mm_line.specs.Statements.{line_of}
-use Rattle.mm_line.specs.Ranges.{Names, NamesItsClaim}
-use Rattle.mm_line.proofs.Choices.{either}
+use Rattle.mm_line.{specs.{Statements.line_of, Ranges.{Names, NamesItsClaim}}, proofs.Choices.either}
+use Rattle.mm_line.specs.declared.fault.Fault.TheVariants as faults
+use Rattle.mm_line.specs.declared.line.Claim.TheVariants as claims
+use Rattle.mm_line.specs.declared.token.Token.TheVariants as tokens
+use Rattle.mm_line.specs.declared.words.Directive.TheVariants as directive
 
 -- what is read, if anything is, has this property
 abbrev Has : {A : Type 0} → (A → Type 0) → Result A Problem → Type 0

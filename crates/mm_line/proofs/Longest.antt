@@ -1,21 +1,17 @@
 -- Each token is the longest one that begins at its place.
-use Rattle.std.proofs.Common.{◌≡◌, ◌≢◌, ℕ, zero, suc, ◌+◌, ◌<◌, ◌≤◌, ◌^◌, Bool, true, false, ◌&&◌, ◌==◌, nat_lt}
-use Rattle.std.proofs.Common.{nat_le, if◌then◌else◌, List, [], ◌∷◌, length, take, drop, refl, sym, ap, subst, arith}
-use Rattle.std.specs.List.{list_all}
-use Rattle.std.proofs.lemmas.Bool.Decides.{nat_tests}
-use Rattle.std.proofs.lemmas.List.{length-take-le}
-use Rattle.std.proofs.lemmas.List.Sums.{prefix_len-le-length}
-use Rattle.std.specs.Str.Parse.{digits_value}
-use Rattle.std.proofs.lemmas.Bool.{and_parts, eqb-true, and_right, and_from, or_left}
+use Rattle.std.proofs.Common.{◌≡◌, ◌≢◌, ℕ, zero, suc, ◌+◌, ◌<◌, ◌≤◌, ◌^◌, Bool, true, false, ◌&&◌, ◌==◌, nat_lt, nat_le}
+use Rattle.std.proofs.Common.{if◌then◌else◌, List, [], ◌∷◌, length, take, drop, refl, sym, ap, subst, arith}
+use Rattle.std.proofs.lemmas.Bool.{and_parts, eqb-true, and_right, and_from, or_left, Decides.nat_tests}
+use Rattle.std.proofs.lemmas.List.{length-take-le, Sums.prefix_len-le-length}
+use Rattle.std.specs.{List.list_all, Str.Parse.digits_value}
 use Prim.Native.Char.{code}
-use Rattle.mm_line.specs.declared.class.Class.{Class}
-use Rattle.mm_line.specs.declared.class.Class.TheVariants.{Blank, Letter, NameByte, Decimal, Hexadecimal}
+use Rattle.mm_line.specs.declared.class.Class.{Class, TheVariants.{Blank, Letter, NameByte, Decimal, Hexadecimal}}
 use Rattle.mm_line.specs.declared.token.Token.{Token}
 use Rattle.mm_line.specs.declared.token.Token.TheVariants.{Name, Directive, Number, Wide, Comma, Colon, Plus, Bad, End}
-use Rattle.mm_line.specs.Tokens.{Next, is_in, run, starts, behind, starts_hexadecimal, number, decimal, hexadecimal, front, end, token_at, next_token}
+use Rattle.mm_line.specs.Tokens.{Next, is_in, run, starts, behind, starts_hexadecimal, number, decimal, hexadecimal}
+use Rattle.mm_line.specs.Tokens.{front, end, token_at, next_token}
 use Rattle.mm_line.specs.Forms.{is_name, is_directive, is_digits, is_number, is_sign, is_token, has_form, IsLongest}
-use Rattle.mm_line.proofs.Cases.{token_cases}
-use Rattle.mm_line.proofs.TokenPlaces.{token_begins, run_all, name_form}
+use Rattle.mm_line.proofs.{Cases.token_cases, TokenPlaces.{token_begins, run_all, name_form}}
 
 -- a longer piece than a run is not all of its kind
 run_stops : (c : Class) (bytes : List ℕ) (k : ℕ) → run c bytes < k → k ≤ length bytes → list_all (is_in c) (take k bytes) ≡ false

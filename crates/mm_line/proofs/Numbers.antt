@@ -1,14 +1,9 @@
 -- Numbers that digits write.
-use Rattle.std.proofs.Common.{◌≡◌, ℕ, suc, ◌+◌, ◌*◌, ◌^◌, ◌<◌, ◌≤◌, Bool, true, false, cond, List, [], ◌∷◌, length, take, drop, Some, None, refl, sym, ap, ◌∙◌, arith, get_or}
-use Rattle.std.proofs.lemmas.Bool.{ltb-true}
-use Rattle.std.specs.List.{prefix_len}
-use Rattle.std.specs.Char.{digit_value}
-use Rattle.std.specs.Str.Parse.{AllDigits, digits_value_after}
-use Rattle.std.proofs.Math.Nat.{mul-le-mul_left}
-use Rattle.std.proofs.lemmas.List.{drop_more, drop_all}
-use Rattle.mm_line.specs.Tokens.{is_in, run}
-use Rattle.mm_line.specs.Seen.{limited}
-use Rattle.mm_line.specs.declared.class.Class.TheVariants.{Decimal, Hexadecimal}
+use Rattle.std.proofs.Common.{◌≡◌, ℕ, suc, ◌+◌, ◌*◌, ◌^◌, ◌<◌, ◌≤◌, Bool, true, false, cond, List, [], ◌∷◌, length}
+use Rattle.std.proofs.Common.{take, drop, Some, None, refl, sym, ap, ◌∙◌, arith, get_or}
+use Rattle.std.proofs.{lemmas.{Bool.ltb-true, List.{drop_more, drop_all}}, Math.Nat.mul-le-mul_left}
+use Rattle.std.specs.{List.prefix_len, Char.digit_value, Str.Parse.{AllDigits, digits_value_after}}
+use Rattle.mm_line.specs.{Tokens.{is_in, run}, Seen.limited, declared.class.Class.TheVariants.{Decimal, Hexadecimal}}
 
 pub value_after_ge : (radix n : ℕ) (ds : List ℕ) → 1 ≤ radix → n ≤ digits_value_after radix n ds
 value_after_ge radix n [] h = omega arith

@@ -1,34 +1,23 @@
 -- The operands of an operation are in their ranges, and make an instruction.
 use Rattle.std.proofs.Common.{◌≡◌, ℕ, ◌<◌, ◌≤◌, Bool, true, false, nat_le, if◌then◌else◌, List, [], ◌∷◌, length, map}
 use Rattle.std.proofs.Common.{fold, find, Option, Some, Result, Ok, Err, refl, sym, ap, ◌∙◌, subst, arith, pos}
-use Rattle.std.proofs.Common.{FitsSigned}
-use Rattle.std.specs.List.{AllByRecursion}
-use Rattle.std.specs.Str.{bytes_eq}
-use Rattle.std.specs.Int.{w32}
-use Rattle.std.proofs.lemmas.Bool.{leb-true}
-use Rattle.mm_isa.specs.declared.instr.Instr.{Instr}
-use Rattle.mm_isa.specs.declared.operand.Operand.{Operand}
-use Rattle.mm_isa.specs.declared.operand.Operand.TheVariants as operand
-use Rattle.mm_isa.specs.declared.operand.OperandKind.{OperandKind}
-use Rattle.mm_isa.specs.declared.operand.OperandKind.TheVariants as kind
+use Rattle.std.{proofs.{Common.FitsSigned, lemmas.Bool.leb-true}, specs.{List.AllByRecursion, Str.bytes_eq, Int.w32}}
+use Rattle.mm_isa.specs.declared.{instr.Instr.Instr, operand.{Operand.Operand, OperandKind.OperandKind}}
 use Rattle.mm_isa.specs.Table.{Operation, kind_of, kinds_of, unused, put, fields_of, IsInRange}
 use Rattle.mm_isa.specs.Decode.{Form, form_of, forms, rows, operation_named}
-use Rattle.mm_isa.proofs.Assembled.{assembled}
-use Rattle.mm_isa.proofs.Spelling.{instr_of-spelled}
-use Rattle.mm_line.specs.declared.fault.Fault.TheVariants as faults
-use Rattle.mm_line.specs.declared.fault.Problem.{Problem}
-use Rattle.mm_line.specs.declared.name.Mark.{Mark}
-use Rattle.mm_line.specs.declared.statement.Code.{Code}
-use Rattle.mm_line.specs.declared.token.Token.{Token}
-use Rattle.mm_line.specs.declared.token.Token.TheVariants.{Comma}
-use Rattle.mm_line.specs.Tokens.{Next, next_token}
+use Rattle.mm_isa.proofs.{Assembled.assembled, Spelling.instr_of-spelled}
+use Rattle.mm_line.specs.declared.{fault.Problem.Problem, name.Mark.Mark, statement.Code.Code}
+use Rattle.mm_line.specs.{declared.token.Token.{Token, TheVariants.Comma}, Tokens.{Next, next_token}}
 use Rattle.mm_line.specs.Words.{look_up, pres, posts, hows}
 use Rattle.mm_line.specs.Reading.{◌>>=◌, at, wrong, name_of, word_of, register_of, number_of, immediate_of}
-use Rattle.mm_line.specs.Operands.{event_register_of, operand_of, is_goal, with_operand, operand_at, comma_of, more_at, operands_at, bare, code_at}
-use Rattle.mm_line.specs.Ranges.{IsMark, IsGoal, IsCode, Reads}
-use Rattle.mm_line.proofs.Choices.{either}
-use Rattle.mm_line.proofs.TokenPlaces.{Found, found}
-use Rattle.mm_line.proofs.TokenRanges.{reads_ok, reads_err, reads_then, reads_weaker, is_wrong, range_fault, name_reads, known_reads, number_reads, immediate_reads, register_reads}
+use Rattle.mm_line.specs.Operands.{event_register_of, operand_of, is_goal, with_operand, operand_at, comma_of, more_at}
+use Rattle.mm_line.specs.{Operands.{operands_at, bare, code_at}, Ranges.{IsMark, IsGoal, IsCode, Reads}}
+use Rattle.mm_line.proofs.{Choices.either, TokenPlaces.{Found, found}}
+use Rattle.mm_line.proofs.TokenRanges.{reads_ok, reads_err, reads_then, reads_weaker, is_wrong, range_fault, name_reads}
+use Rattle.mm_line.proofs.TokenRanges.{known_reads, number_reads, immediate_reads, register_reads}
+use Rattle.mm_isa.specs.declared.operand.Operand.TheVariants as operand
+use Rattle.mm_isa.specs.declared.operand.OperandKind.TheVariants as kind
+use Rattle.mm_line.specs.declared.fault.Fault.TheVariants as faults
 
 -- a value of a kind, in its range
 pub record IsOperand (k : OperandKind) (o : Operand) : Type 0 where

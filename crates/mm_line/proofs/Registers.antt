@@ -1,14 +1,11 @@
 -- The names of registers.
-use Rattle.std.proofs.Common.{◌≡◌, ℕ, zero, suc, ◌+◌, ◌<◌, ◌&&◌, ◌==◌, List, [], ◌∷◌, ◌++◌, codes, Some, refl, sym, ap, ◌∙◌, arith}
-use Rattle.std.specs.Fmt.{decimal, digits}
-use Rattle.std.proofs.lemmas.Fmt.{decimal_digit}
-use Rattle.std.proofs.lemmas.Str.{digit_value_digit}
-use Rattle.std.proofs.lemmas.Str.Parse.{digit_from_value}
-use Rattle.std.specs.Char.{is_digit, digit_value}
+use Rattle.std.proofs.Common.{◌≡◌, ℕ, zero, suc, ◌+◌, ◌<◌, ◌&&◌, ◌==◌, List, [], ◌∷◌, ◌++◌, codes, Some, refl, sym, ap}
+use Rattle.std.proofs.Common.{◌∙◌, arith}
+use Rattle.std.proofs.lemmas.{Fmt.decimal_digit, Str.{digit_value_digit, Parse.digit_from_value}}
 use Rattle.std.proofs.lemmas.Bool.{ltb-true, and_parts, eqb-true}
+use Rattle.std.specs.{Fmt.{decimal, digits}, Char.{is_digit, digit_value}}
 use Prim.Native.Char.{code}
-use Rattle.mm_line.specs.Words.{register_named}
-use Rattle.mm_line.proofs.Choices.{some_same}
+use Rattle.mm_line.{specs.Words.register_named, proofs.Choices.some_same}
 
 abbrev named : ℕ → List ℕ
 named r = codes "r" ++ decimal r

@@ -1,37 +1,29 @@
 -- The values of a line are in their ranges, and its places lie in it.
-use Rattle.std.proofs.Common.{◌≡◌, ◌≢◌, ℕ, ◌-◌, ◌^◌, ◌<◌, ◌≤◌, Bool, true, false, if◌then◌else◌, List, length, codes, Option, Some, None, Result, Ok, Err, refl, arith}
-use Rattle.std.specs.Option.{option_map}
-use Rattle.std.specs.Result.{result_ok}
-use Rattle.std.specs.Str.{bytes_eq}
+use Rattle.std.proofs.Common.{◌≡◌, ◌≢◌, ℕ, ◌-◌, ◌^◌, ◌<◌, ◌≤◌, Bool, true, false, if◌then◌else◌, List, length, codes}
+use Rattle.std.proofs.Common.{Option, Some, None, Result, Ok, Err, refl, arith}
+use Rattle.std.specs.{Option.option_map, Result.result_ok, Str.bytes_eq}
 use Rattle.mm_word.specs.Perm.{can_fetch}
 use Rattle.mm_isa.specs.Decode.{Form, operation_named}
-use Rattle.mm_line.specs.declared.fault.Fault.{Fault}
-use Rattle.mm_line.specs.declared.fault.Fault.TheVariants as faults
-use Rattle.mm_line.specs.declared.fault.Problem.{Problem}
-use Rattle.mm_line.specs.declared.statement.Target.{Target}
-use Rattle.mm_line.specs.declared.statement.Constant.{Constant}
-use Rattle.mm_line.specs.declared.statement.Statement.{Statement}
-use Rattle.mm_line.specs.declared.line.Claim.{Claim}
-use Rattle.mm_line.specs.declared.line.Claim.TheVariants as claims
-use Rattle.mm_line.specs.declared.line.Body.{Body}
-use Rattle.mm_line.specs.declared.token.Token.{Token}
-use Rattle.mm_line.specs.declared.token.Token.TheVariants as tokens
-use Rattle.mm_line.specs.declared.words.Directive.{Directive}
-use Rattle.mm_line.specs.declared.words.Directive.TheVariants as directive
-use Rattle.mm_line.specs.Tokens.{Next, next_token}
-use Rattle.mm_line.specs.Words.{look_up, directives, perms, ip_perms}
+use Rattle.mm_line.specs.declared.fault.{Fault.Fault, Problem.Problem}
+use Rattle.mm_line.specs.declared.statement.{Target.Target, Constant.Constant, Statement.Statement}
+use Rattle.mm_line.specs.declared.{line.{Claim.Claim, Body.Body}, token.Token.Token, words.Directive.Directive}
+use Rattle.mm_line.specs.{Tokens.{Next, next_token}, Words.{look_up, directives, perms, ip_perms}}
 use Rattle.mm_line.specs.Faults.{number_of as fault_number}
-use Rattle.mm_line.specs.Reading.{◌>>=◌, wrong, name_of, word_of, number_of, integer_of, handler_of}
-use Rattle.mm_line.specs.Operands.{code_at}
+use Rattle.mm_line.specs.{Reading.{◌>>=◌, wrong, name_of, word_of, number_of, integer_of, handler_of}, Operands.code_at}
 use Rattle.mm_line.specs.Statements.{addend_at, target_at, integer_at, pointer_at, constant_at, content_by_directive}
 use Rattle.mm_line.specs.Statements.{content_by_operation, content_of, word, spare_at, segment_at, fill_at, thread_at}
 use Rattle.mm_line.specs.Statements.{register_at, front_by, end_of, statement_of, claim_by, claim_of, body_of, is_label}
 use Rattle.mm_line.specs.Statements.{line_of}
-use Rattle.mm_line.specs.Ranges.{IsMark, IsTarget, IsConstant, IsCode, IsContent, IsHandler, IsStatement, Reads, IsClaim, IsBody, IsOptionalBody, IsLine}
-use Rattle.mm_line.proofs.Choices.{either}
-use Rattle.mm_line.proofs.TokenPlaces.{Found, found, token_stands}
-use Rattle.mm_line.proofs.TokenRanges.{reads_ok, reads_err, reads_then, problem, is_wrong, name_fault, name_reads, known_reads, number_reads, integer_reads, ip_perm_reads, handler_reads}
+use Rattle.mm_line.specs.Ranges.{IsMark, IsTarget, IsConstant, IsCode, IsContent, IsHandler, IsStatement, Reads}
+use Rattle.mm_line.specs.Ranges.{IsClaim, IsBody, IsOptionalBody, IsLine}
+use Rattle.mm_line.proofs.{Choices.either, TokenPlaces.{Found, found, token_stands}}
+use Rattle.mm_line.proofs.TokenRanges.{reads_ok, reads_err, reads_then, problem, is_wrong, name_fault, name_reads}
+use Rattle.mm_line.proofs.TokenRanges.{known_reads, number_reads, integer_reads, ip_perm_reads, handler_reads}
 use Rattle.mm_line.proofs.OperandRanges.{Behind, code_reads}
+use Rattle.mm_line.specs.declared.fault.Fault.TheVariants as faults
+use Rattle.mm_line.specs.declared.line.Claim.TheVariants as claims
+use Rattle.mm_line.specs.declared.token.Token.TheVariants as tokens
+use Rattle.mm_line.specs.declared.words.Directive.TheVariants as directive
 
 module _ (most : ℕ) where
   -- the last of what is read in a row

@@ -1,20 +1,13 @@
 -- Each token stands in its line.
 use Rattle.std.proofs.Common.{◌≡◌, ◌≢◌, ℕ, suc, ◌+◌, ◌-◌, ◌<◌, ◌≤◌, ◌^◌, nat_lt, nat_le, Bool, true, false, ◌||◌, ◌==◌}
 use Rattle.std.proofs.Common.{if◌then◌else◌, List, [], ◌∷◌, ◌++◌, length, take, drop, refl, sym, ap, subst, arith}
-use Rattle.std.proofs.Common.{length-drop}
-use Rattle.std.specs.List.{list_all}
-use Rattle.std.specs.Char.{is_digit, is_ascii_alphabetic}
-use Rattle.std.proofs.lemmas.List.{take-append-drop}
-use Rattle.std.proofs.lemmas.List.Sums.{prefix_len-le-length}
-use Rattle.std.proofs.Math.Seq.{drop-length}
-use Rattle.mm_line.specs.declared.class.Class.{Class}
-use Rattle.mm_line.specs.declared.class.Class.TheVariants.{Blank, Letter, NameByte, Decimal, Hexadecimal}
+use Rattle.std.proofs.{Common.length-drop, lemmas.List.{take-append-drop, Sums.prefix_len-le-length}}
+use Rattle.std.{proofs.Math.Seq.drop-length, specs.{List.list_all, Char.{is_digit, is_ascii_alphabetic}}}
+use Rattle.mm_line.specs.declared.class.Class.{Class, TheVariants.{Blank, Letter, NameByte, Decimal, Hexadecimal}}
 use Rattle.mm_line.specs.declared.token.Token.{Token}
 use Rattle.mm_line.specs.declared.token.Token.TheVariants.{Name, Directive, Number, Wide, Comma, Colon, Plus, Bad, End}
-use Rattle.mm_line.specs.Tokens.{Next, is_in, run, starts, number, decimal, hexadecimal, front, end, token_at, next_token}
-use Rattle.mm_line.specs.TokenPlaces.{StandsIn}
-use Rattle.mm_line.specs.Forms.{is_name}
-use Rattle.mm_line.proofs.Cases.{token_cases}
+use Rattle.mm_line.specs.Tokens.{Next, is_in, run, starts, number, decimal, hexadecimal, front, end, token_at}
+use Rattle.mm_line.{specs.{Tokens.next_token, TokenPlaces.StandsIn, Forms.is_name}, proofs.Cases.token_cases}
 
 -- a token at the front of what is left
 pub record Begins (at : List ℕ) (n : Next) : Type 0 where

@@ -2,30 +2,19 @@
 use Rattle.std.proofs.Common.{◌≡◌, ◌≢◌, ℕ, ◌+◌, ◌-◌, ◌^◌, ◌<◌, ◌≤◌, Bool, true, false, not, ◌&&◌, ◌||◌, ◌==◌, nat_le}
 use Rattle.std.proofs.Common.{if◌then◌else◌, List, [], ◌∷◌, length, codes, Option, Some, None, ok_or, Result, Ok, Err}
 use Rattle.std.proofs.Common.{ℤ, FitsSigned, refl, sym, subst, arith}
-use Rattle.std.specs.Int.{w32, cast_signed}
-use Rattle.std.specs.Str.{bytes_eq}
-use Rattle.std.proofs.lemmas.Bool.{leb-true, ltb-true, and_parts, eqb-false}
-use Rattle.std.proofs.lemmas.Nat.{mod_below}
-use Rattle.std.specs.Char.{is_digit, digit_value}
-use Prim.Native.Char.{code}
+use Rattle.std.proofs.lemmas.{Bool.{leb-true, ltb-true, and_parts, eqb-false}, Nat.mod_below}
 use Rattle.std.proofs.Math.Facts.{sfits_to_z, Fits-bits}
-use Rattle.mm_line.proofs.Claims.{ok_same}
-use Rattle.mm_word.specs.declared.perm.Perm.{Perm}
-use Rattle.mm_word.specs.declared.perm.Perm.TheVariants.{Xu, Xp}
-use Rattle.mm_word.specs.Perm.{can_fetch}
-use Rattle.mm_line.specs.declared.fault.Fault.{Fault}
-use Rattle.mm_line.specs.declared.fault.Fault.TheVariants as faults
-use Rattle.mm_line.specs.declared.fault.Problem.{Problem}
-use Rattle.mm_line.specs.declared.name.Mark.{Mark}
-use Rattle.mm_line.specs.declared.token.Token.{Token}
-use Rattle.mm_line.specs.declared.token.Token.TheVariants.{Name, Number, Wide, Bad}
-use Rattle.mm_line.specs.Tokens.{Next}
-use Rattle.mm_line.specs.Words.{look_up, ip_perms, register_named}
-use Rattle.mm_line.specs.Faults.{number_of as fault_number}
-use Rattle.mm_line.specs.Reading.{◌>>=◌, at, wrong, wrong_token, name_of, known, word_of, register_of, ranged, between, number_of, modulo, integer_of, immediate, immediate_of, handler_of}
+use Rattle.std.specs.{Int.{w32, cast_signed}, Str.bytes_eq, Char.{is_digit, digit_value}}
+use Prim.Native.Char.{code}
+use Rattle.mm_line.proofs.{Claims.ok_same, Choices.{either, some_same}, TokenPlaces.Found}
+use Rattle.mm_line.specs.declared.{fault.{Fault.Fault, Problem.Problem}, name.Mark.Mark}
+use Rattle.mm_line.specs.declared.token.Token.{Token, TheVariants.{Name, Number, Wide, Bad}}
+use Rattle.mm_line.specs.{Tokens.Next, Words.{look_up, ip_perms, register_named}, Faults.{number_of as fault_number}}
+use Rattle.mm_line.specs.Reading.{◌>>=◌, at, wrong, wrong_token, name_of, known, word_of, register_of, ranged, between}
+use Rattle.mm_line.specs.Reading.{number_of, modulo, integer_of, immediate, immediate_of, handler_of}
 use Rattle.mm_line.specs.Ranges.{IsMark, IsProblem, IsHandler, Reads}
-use Rattle.mm_line.proofs.Choices.{either, some_same}
-use Rattle.mm_line.proofs.TokenPlaces.{Found}
+use Rattle.mm_word.specs.{declared.perm.Perm.{Perm, TheVariants.{Xu, Xp}}, Perm.can_fetch}
+use Rattle.mm_line.specs.declared.fault.Fault.TheVariants as faults
 
 err_same : {A B : Type 0} (x y : B) → let left : Result A B = Err x in let right : Result A B = Err y in left ≡ right → x ≡ y
 err_same x y e = cc

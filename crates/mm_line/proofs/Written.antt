@@ -1,17 +1,13 @@
 -- What is written as a token is read as it.
-use Rattle.std.proofs.Common.{◌≡◌, ℕ, suc, ◌+◌, Bool, true, false, ◌||◌, ◌==◌, List, [], ◌∷◌, ◌++◌, length, take, drop, codes, refl, ap, ◌∙◌, arith}
-use Rattle.std.specs.List.{list_all}
-use Rattle.std.specs.Str.Parse.{digits_value}
-use Rattle.std.proofs.lemmas.List.{take_at, drop_at}
-use Rattle.std.proofs.lemmas.Bool.{and_parts, eqb-true, and_right}
+use Rattle.std.proofs.Common.{◌≡◌, ℕ, suc, ◌+◌, Bool, true, false, ◌||◌, ◌==◌, List, [], ◌∷◌, ◌++◌, length, take, drop}
+use Rattle.std.proofs.Common.{codes, refl, ap, ◌∙◌, arith}
+use Rattle.std.proofs.lemmas.{List.{take_at, drop_at}, Bool.{and_parts, eqb-true, and_right}}
+use Rattle.std.specs.{List.list_all, Str.Parse.digits_value}
 use Prim.Native.Char.{code}
-use Rattle.mm_line.specs.declared.class.Class.{Class}
-use Rattle.mm_line.specs.declared.class.Class.TheVariants.{Blank, Letter, NameByte, Decimal, Hexadecimal}
-use Rattle.mm_line.specs.declared.token.Token.{Token}
-use Rattle.mm_line.specs.declared.token.Token.TheVariants.{Name, Directive, Comma, Colon, Plus}
-use Rattle.mm_line.specs.Tokens.{is_in, run, starts, behind, starts_hexadecimal, number, decimal, hexadecimal, front, token_at, next_token}
-use Rattle.mm_line.specs.Forms.{is_name, is_digits}
-use Rattle.mm_line.specs.TokenPlaces.{written}
+use Rattle.mm_line.specs.declared.class.Class.{Class, TheVariants.{Blank, Letter, NameByte, Decimal, Hexadecimal}}
+use Rattle.mm_line.specs.declared.token.Token.{Token, TheVariants.{Name, Directive, Comma, Colon, Plus}}
+use Rattle.mm_line.specs.Tokens.{is_in, run, starts, behind, starts_hexadecimal, number, decimal, hexadecimal, front}
+use Rattle.mm_line.specs.{Tokens.{token_at, next_token}, Forms.{is_name, is_digits}, TokenPlaces.written}
 use Rattle.mm_line.proofs.Longest.{other, no_digit}
 
 -- a run ends where a byte of another kind is behind it

@@ -2,29 +2,22 @@
 use Rattle.std.specs.Prelude.{◌≡◌, ℕ, ◌-◌, ◌^◌, true, false, List, [], ◌∷◌, length, codes, Option, Some, None, Ok, Err}
 use Rattle.std.specs.Prelude.{pos, negsuc}
 use Prim.Native.String.{String}
+use Rattle.mm_isa.specs.{declared.instr.Instr.Instr, Table.fields_of}
+use Rattle.mm_line.specs.declared.{fault.Fault.Fault, name.Mark.Mark}
+use Rattle.mm_line.specs.declared.statement.{Target.Target, Constant.TheVariants.{Integer, Pointer}, Content.Content}
+use Rattle.mm_line.specs.declared.statement.Statement.{Statement}
+use Rattle.mm_line.specs.declared.statement.Statement.TheVariants.{Spare, Begin, Fill, Word, Thread, Register}
+use Rattle.mm_line.specs.{declared.line.{Claim.Claim, Line.Line}, Tokens.{Next, next_token}, Statements.line_of}
 use Rattle.mm_word.specs.declared.perm.Perm.TheVariants as perm
 use Rattle.mm_word.specs.declared.word.Pre.TheVariants as pre
 use Rattle.mm_word.specs.declared.word.Post.TheVariants as post
 use Rattle.mm_isa.specs.declared.instr.AluOp.TheVariants as alu
 use Rattle.mm_isa.specs.declared.instr.How.TheVariants as how
-use Rattle.mm_isa.specs.declared.instr.Instr.{Instr}
 use Rattle.mm_isa.specs.declared.instr.Instr.TheVariants as instr
-use Rattle.mm_isa.specs.Table.{fields_of}
-use Rattle.mm_line.specs.declared.fault.Fault.{Fault}
 use Rattle.mm_line.specs.declared.fault.Fault.TheVariants as faults
-use Rattle.mm_line.specs.declared.name.Mark.{Mark}
-use Rattle.mm_line.specs.declared.statement.Target.{Target}
-use Rattle.mm_line.specs.declared.statement.Constant.TheVariants.{Integer, Pointer}
-use Rattle.mm_line.specs.declared.statement.Content.{Content}
 use Rattle.mm_line.specs.declared.statement.Content.TheVariants as content
-use Rattle.mm_line.specs.declared.statement.Statement.{Statement}
-use Rattle.mm_line.specs.declared.statement.Statement.TheVariants.{Spare, Begin, Fill, Word, Thread, Register}
-use Rattle.mm_line.specs.declared.line.Claim.{Claim}
 use Rattle.mm_line.specs.declared.line.Claim.TheVariants as claims
-use Rattle.mm_line.specs.declared.line.Line.{Line}
 use Rattle.mm_line.specs.declared.token.Token.TheVariants as tokens
-use Rattle.mm_line.specs.Tokens.{Next, next_token}
-use Rattle.mm_line.specs.Statements.{line_of}
 
 -- a text and the line that it is
 abbrev pub Example : Type 0

@@ -2,8 +2,7 @@
 use Rattle.std.specs.Prelude.{◌≡◌, ◌≢◌, ℕ, ◌<◌, ◌≤◌, Bool, true, false, ◌&&◌, ◌||◌, List, [], ◌∷◌, ◌++◌, length, take}
 use Rattle.std.specs.List.{list_all}
 use Prim.Native.Char.{code}
-use Rattle.mm_line.specs.declared.class.Class.{Class}
-use Rattle.mm_line.specs.declared.class.Class.TheVariants.{Letter, NameByte, Decimal, Hexadecimal}
+use Rattle.mm_line.specs.declared.class.Class.{Class, TheVariants.{Letter, NameByte, Decimal, Hexadecimal}}
 use Rattle.mm_line.specs.declared.token.Token.{Token}
 use Rattle.mm_line.specs.declared.token.Token.TheVariants.{Name, Directive, Number, Wide, Comma, Colon, Plus, Bad, End}
 use Rattle.mm_line.specs.Tokens.{Next, is_in, starts, behind}

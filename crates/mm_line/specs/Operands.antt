@@ -1,20 +1,14 @@
 -- The operands of an operation are read from left to right, by their kinds in its row of the table.
 use Rattle.std.specs.Prelude.{ℕ, Bool, true, false, nat_le, if◌then◌else◌, List, [], ◌∷◌, Some, None, Result, Ok, Err}
 use Rattle.std.specs.Prelude.{pos}
-use Rattle.mm_isa.specs.declared.operand.Operand.{Operand}
-use Rattle.mm_isa.specs.declared.operand.Operand.TheVariants as operand
-use Rattle.mm_isa.specs.declared.operand.OperandKind.{OperandKind}
-use Rattle.mm_isa.specs.declared.operand.OperandKind.TheVariants as kind
-use Rattle.mm_isa.specs.Table.{put, unused}
-use Rattle.mm_isa.specs.Decode.{Form}
-use Rattle.mm_line.specs.declared.fault.Fault.TheVariants as faults
-use Rattle.mm_line.specs.declared.fault.Problem.{Problem}
-use Rattle.mm_line.specs.declared.statement.Code.{Code}
-use Rattle.mm_line.specs.declared.token.Token.{Token}
-use Rattle.mm_line.specs.declared.token.Token.TheVariants.{Name, Comma}
-use Rattle.mm_line.specs.Tokens.{Next, next_token}
+use Rattle.mm_isa.specs.{declared.operand.{Operand.Operand, OperandKind.OperandKind}, Table.{put, unused}, Decode.Form}
+use Rattle.mm_line.specs.declared.{fault.Problem.Problem, statement.Code.Code}
+use Rattle.mm_line.specs.{declared.token.Token.{Token, TheVariants.{Name, Comma}}, Tokens.{Next, next_token}}
 use Rattle.mm_line.specs.Words.{pres, posts, hows}
 use Rattle.mm_line.specs.Reading.{◌>>=◌, at, wrong, name_of, word_of, register_of, number_of, immediate_of}
+use Rattle.mm_isa.specs.declared.operand.Operand.TheVariants as operand
+use Rattle.mm_isa.specs.declared.operand.OperandKind.TheVariants as kind
+use Rattle.mm_line.specs.declared.fault.Fault.TheVariants as faults
 
 -- the first of the four registers of an event: one that three more follow
 abbrev pub event_register_of : Next → Result ℕ Problem

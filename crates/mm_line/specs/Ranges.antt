@@ -1,24 +1,15 @@
 -- The ranges of a line's values, and of its places: at most `most` bytes before the line's end.
 use Rattle.std.specs.Prelude.{◌≡◌, ◌≢◌, ℕ, ◌^◌, ◌<◌, ◌≤◌, true, length, Option, Some, None, Result, Ok, Err}
 use Rattle.mm_word.specs.Perm.{can_fetch}
-use Rattle.mm_isa.specs.declared.instr.Instr.{Instr}
-use Rattle.mm_isa.specs.Table.{fields_of, IsInstr}
-use Rattle.mm_line.specs.declared.fault.Problem.{Problem}
-use Rattle.mm_line.specs.declared.name.Mark.{Mark}
-use Rattle.mm_line.specs.declared.statement.Target.{Target}
-use Rattle.mm_line.specs.declared.statement.Constant.{Constant}
-use Rattle.mm_line.specs.declared.statement.Constant.TheVariants.{Integer, Pointer}
-use Rattle.mm_line.specs.declared.statement.Code.{Code}
-use Rattle.mm_line.specs.declared.statement.Content.{Content}
-use Rattle.mm_line.specs.declared.statement.Content.TheVariants as content
+use Rattle.mm_isa.specs.{declared.instr.Instr.Instr, Table.{fields_of, IsInstr}}
+use Rattle.mm_line.specs.declared.{fault.Problem.Problem, name.Mark.Mark}
+use Rattle.mm_line.specs.declared.statement.{Target.Target, Constant.{Constant, TheVariants.{Integer, Pointer}}}
+use Rattle.mm_line.specs.declared.statement.{Code.Code, Content.Content}
 use Rattle.mm_line.specs.declared.statement.Statement.{Statement}
 use Rattle.mm_line.specs.declared.statement.Statement.TheVariants.{Spare, Begin, Fill, Word, Thread, Register}
-use Rattle.mm_line.specs.declared.line.Claim.{Claim}
+use Rattle.mm_line.specs.{declared.line.{Claim.Claim, Body.Body, Line.Line}, Forms.is_name, Faults.number_of}
+use Rattle.mm_line.specs.declared.statement.Content.TheVariants as content
 use Rattle.mm_line.specs.declared.line.Claim.TheVariants as claims
-use Rattle.mm_line.specs.declared.line.Body.{Body}
-use Rattle.mm_line.specs.declared.line.Line.{Line}
-use Rattle.mm_line.specs.Forms.{is_name}
-use Rattle.mm_line.specs.Faults.{number_of}
 
 pub record IsMark (most : ℕ) (m : Mark) : Type 0 where
   pub name : is_name m.name ≡ true

@@ -1,16 +1,11 @@
 -- What a token says in its place, or its fault there.
 use Rattle.std.specs.Prelude.{ℕ, ◌-◌, ◌%◌, ◌^◌, Bool, true, false, ◌&&◌, ◌||◌, not, ◌==◌, nat_le, if◌then◌else◌, length}
-use Rattle.std.specs.Prelude.{codes, Option, Some, None, ok_or, Result, Ok, Err, ℤ}
-use Rattle.std.specs.Str.{bytes_eq}
+use Rattle.std.specs.{Prelude.{codes, Option, Some, None, ok_or, Result, Ok, Err, ℤ}, Str.bytes_eq}
 use Rattle.std.specs.Int.{w32, cast_signed}
-use Rattle.mm_line.specs.declared.fault.Fault.{Fault}
+use Rattle.mm_line.specs.declared.{fault.{Fault.Fault, Problem.Problem}, name.Mark.Mark}
+use Rattle.mm_line.specs.declared.token.Token.{Token, TheVariants.{Name, Number, Wide, Bad}}
+use Rattle.mm_line.specs.{Tokens.Next, Words.{Table, look_up, register_named}}
 use Rattle.mm_line.specs.declared.fault.Fault.TheVariants as faults
-use Rattle.mm_line.specs.declared.fault.Problem.{Problem}
-use Rattle.mm_line.specs.declared.name.Mark.{Mark}
-use Rattle.mm_line.specs.declared.token.Token.{Token}
-use Rattle.mm_line.specs.declared.token.Token.TheVariants.{Name, Number, Wide, Bad}
-use Rattle.mm_line.specs.Tokens.{Next}
-use Rattle.mm_line.specs.Words.{Table, look_up, register_named}
 
 infixl 10 ◌>>=◌
 -- what is read next, if no fault came before

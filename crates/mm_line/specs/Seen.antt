@@ -1,8 +1,7 @@
 -- The values of the specification for values of the code.
 use Rattle.std.specs.Prelude.{◌≡◌, ℕ, ◌^◌, nat_lt, if◌then◌else◌, Option, Some, None, Result, Ok, Err}
+use Rattle.mm_line.specs.declared.{fault.Problem.Problem, token.Next.Next}
 use Rattle.mm_line.specs.Tokens as spec
-use Rattle.mm_line.specs.declared.fault.Problem.{Problem}
-use Rattle.mm_line.specs.declared.token.Next.{Next}
 
 -- a token, with its bytes and the line after it as lists of bytes
 abbrev pub seen : Next → spec.Next

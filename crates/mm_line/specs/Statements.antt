@@ -1,31 +1,22 @@
 -- A line is an optional label and an optional statement, which is read from left to right up to its first fault.
 use Rattle.std.specs.Prelude.{ℕ, ◌-◌, ◌^◌, Bool, true, false, if◌then◌else◌, List, codes, Option, Some, None}
-use Rattle.std.specs.Prelude.{option_map, Result, Ok, Err}
-use Rattle.std.specs.Str.{bytes_eq}
-use Rattle.std.specs.Result.{result_ok}
+use Rattle.std.specs.{Prelude.{option_map, Result, Ok, Err}, Str.bytes_eq, Result.result_ok}
 use Rattle.mm_isa.specs.Decode.{Form, operation_named}
-use Rattle.mm_line.specs.declared.fault.Fault.{Fault}
-use Rattle.mm_line.specs.declared.fault.Fault.TheVariants as faults
-use Rattle.mm_line.specs.declared.fault.Problem.{Problem}
-use Rattle.mm_line.specs.declared.statement.Target.{Target}
-use Rattle.mm_line.specs.declared.statement.Constant.{Constant}
-use Rattle.mm_line.specs.declared.statement.Constant.TheVariants.{Integer, Pointer}
+use Rattle.mm_line.specs.declared.fault.{Fault.Fault, Problem.Problem}
+use Rattle.mm_line.specs.declared.statement.{Target.Target, Constant.{Constant, TheVariants.{Integer, Pointer}}}
 use Rattle.mm_line.specs.declared.statement.Content.{Content}
-use Rattle.mm_line.specs.declared.statement.Content.TheVariants as content
 use Rattle.mm_line.specs.declared.statement.Statement.{Statement}
 use Rattle.mm_line.specs.declared.statement.Statement.TheVariants.{Spare, Begin, Fill, Word, Thread, Register}
-use Rattle.mm_line.specs.declared.line.Claim.{Claim}
-use Rattle.mm_line.specs.declared.line.Claim.TheVariants as claims
-use Rattle.mm_line.specs.declared.line.Body.{Body}
-use Rattle.mm_line.specs.declared.line.Line.{Line}
-use Rattle.mm_line.specs.declared.token.Token.{Token}
-use Rattle.mm_line.specs.declared.token.Token.TheVariants as tokens
-use Rattle.mm_line.specs.declared.words.Directive.{Directive}
-use Rattle.mm_line.specs.declared.words.Directive.TheVariants as directive
-use Rattle.mm_line.specs.Tokens.{Next, next_token}
+use Rattle.mm_line.specs.declared.{line.{Claim.Claim, Body.Body, Line.Line}, token.Token.Token}
+use Rattle.mm_line.specs.{declared.words.Directive.Directive, Tokens.{Next, next_token}}
 use Rattle.mm_line.specs.Words.{look_up, directives, perms, ip_perms}
 use Rattle.mm_line.specs.Reading.{◌>>=◌, at, wrong, name_of, word_of, number_of, integer_of, handler_of}
 use Rattle.mm_line.specs.Operands.{code_at}
+use Rattle.mm_line.specs.declared.fault.Fault.TheVariants as faults
+use Rattle.mm_line.specs.declared.statement.Content.TheVariants as content
+use Rattle.mm_line.specs.declared.line.Claim.TheVariants as claims
+use Rattle.mm_line.specs.declared.token.Token.TheVariants as tokens
+use Rattle.mm_line.specs.declared.words.Directive.TheVariants as directive
 
 -- the addend of a target and the line after it: 0 and the whole line, or the number after `+`
 unfoldable pub addend_at : List ℕ → Result (ℕ × List ℕ) Problem

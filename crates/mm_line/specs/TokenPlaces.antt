@@ -1,9 +1,6 @@
 -- The place of a token in its line.
-use Rattle.std.specs.Prelude.{◌≡◌, ◌≢◌, ℕ, ◌-◌, ◌<◌, ◌≤◌, true, List, ◌++◌, length, take, drop}
-use Rattle.std.specs.List.{list_all}
-use Rattle.mm_line.specs.declared.class.Class.TheVariants.{Blank}
-use Rattle.mm_line.specs.declared.token.Token.{Token}
-use Rattle.mm_line.specs.declared.token.Token.TheVariants.{End}
+use Rattle.std.specs.{Prelude.{◌≡◌, ◌≢◌, ℕ, ◌-◌, ◌<◌, ◌≤◌, true, List, ◌++◌, length, take, drop}, List.list_all}
+use Rattle.mm_line.specs.declared.{class.Class.TheVariants.Blank, token.Token.{Token, TheVariants.End}}
 use Rattle.mm_line.specs.Tokens.{Next, is_in}
 
 -- a token at the front of a line, with these bytes and this line after it

@@ -1,12 +1,9 @@
 -- The tokens of a line: each is the longest one that begins at its place.
 use Rattle.std.specs.Prelude.{ℕ, ◌+◌, ◌^◌, Bool, true, false, ◌&&◌, ◌||◌, ◌==◌, nat_lt, nat_le, if◌then◌else◌, List, []}
-use Rattle.std.specs.Prelude.{◌∷◌, length, take, drop}
-use Rattle.std.specs.List.{prefix_len}
-use Rattle.std.specs.Char.{is_digit, is_ascii_alphabetic}
+use Rattle.std.specs.{Prelude.{◌∷◌, length, take, drop}, List.prefix_len, Char.{is_digit, is_ascii_alphabetic}}
 use Rattle.std.specs.Str.Parse.{digits_value}
 use Prim.Native.Char.{code}
-use Rattle.mm_line.specs.declared.class.Class.{Class}
-use Rattle.mm_line.specs.declared.class.Class.TheVariants.{Blank, Letter, NameByte, Decimal, Hexadecimal}
+use Rattle.mm_line.specs.declared.class.Class.{Class, TheVariants.{Blank, Letter, NameByte, Decimal, Hexadecimal}}
 use Rattle.mm_line.specs.declared.token.Token.{Token}
 use Rattle.mm_line.specs.declared.token.Token.TheVariants.{Name, Directive, Number, Wide, Comma, Colon, Plus, Bad, End}
 

@@ -1,27 +1,24 @@
 -- Objects link exactly where nothing about them is wrong.
-use Rattle.std.proofs.Common.{◌≡◌, ℕ, ◌+◌, ◌^◌, ◌<◌, ◌≤◌, true, false, not, List, [], ◌∷◌, ◌++◌, length, Option, Some, None, option_map, refl, sym, ap, ◌∙◌, subst, inl, inr, arith, eq-eqb, eqb-true}
-use Rattle.std.proofs.Common.{bytes_eq}
+use Rattle.std.proofs.Common.{◌≡◌, ℕ, ◌+◌, ◌^◌, ◌<◌, ◌≤◌, true, false, not, List, [], ◌∷◌, ◌++◌, length, Option, Some}
+use Rattle.std.proofs.Common.{None, option_map, refl, sym, ap, ◌∙◌, subst, inl, inr, arith, eq-eqb, eqb-true, bytes_eq}
+use Rattle.std.proofs.lemmas.{Bool.{leb-true, le-ltb, not-false, and_parts}, Option.slice_get_within}
 use Rattle.std.specs.Prelude.{Contains, ◌==◌, if◌then◌else◌, is_some, nat_lt}
 use Rattle.std.specs.List.{flat_map, filter, list_any, AllByRecursion}
-use Rattle.std.proofs.lemmas.Bool.{leb-true, le-ltb, not-false, and_parts}
-use Rattle.std.proofs.lemmas.Option.{slice_get_within}
 use Rattle.mm_model.proofs.Causes.{some_of}
-use Rattle.mm_object.specs.declared.target.Target.{Target}
-use Rattle.mm_object.specs.declared.thread.Thread.{Thread}
-use Rattle.mm_object.specs.Lookups.{name_of_target}
+use Rattle.mm_object.specs.{declared.{target.Target.Target, thread.Thread.Thread}, Lookups.name_of_target}
 use Rattle.mm_object.specs.Objects.{Object, IsObject, is_among, targets_of}
+use Rattle.mm_object.proofs.Members.{In, in_right, in_map, from_map, in_flat, from_flat, from_filter, each_in}
+use Rattle.mm_object.proofs.Members.{contained, from_contained, found}
 use Rattle.mm_link.specs.declared.fault.LinkFault.TheVariants.{Twice, Undefined, Offset, SlotTwice, Handler, TooLarge}
-use Rattle.mm_link.specs.Placing.{Part, Site, parts_of, by_length, sites_from, sites_of, site_in, site_or_none, site_named, bytes_of, origin}
+use Rattle.mm_link.specs.Placing.{Part, Site, parts_of, by_length, sites_from, sites_of, site_in, site_or_none}
+use Rattle.mm_link.specs.Placing.{site_named, bytes_of, origin}
 use Rattle.mm_link.specs.Faults.{names_of, first_again, twice, undefined, is_outside, names_outside, first, offset}
 use Rattle.mm_link.specs.Faults.{threads_of, with_slot, slot_numbers, slot_twice, no_thread_of, no_thread, is_absent}
-use Rattle.mm_link.specs.Faults.{handler, frames_of, too_large, first_of, link_fault}
-use Rattle.mm_link.specs.Linked.{image_of}
+use Rattle.mm_link.specs.{Faults.{handler, frames_of, too_large, first_of, link_fault}, Linked.image_of}
 use Rattle.mm_link.specs.Laws.{LinkWell, ObjectsLinkExactly}
-use Rattle.mm_object.proofs.Members.{In, in_right, in_map, from_map, in_flat, from_flat, from_filter, each_in, contained, from_contained, found}
 use Rattle.mm_link.proofs.Parts.{are_parts, from_by_length, in_by_length}
 use Rattle.mm_link.proofs.Clean.{IsClean, clean, unmapped, one_thread, some_thread, handler_there, few_frames}
-use Rattle.mm_link.proofs.Named.{splits}
-use Rattle.mm_link.proofs.Mapped.{site_behind}
+use Rattle.mm_link.proofs.{Named.splits, Mapped.site_behind}
 use Rattle.mm_link.proofs.Pointed.{own_or_foreign, target_good, site_is, external_found, target_goes}
 use Rattle.mm_link.proofs.Apart.{none_any, one_any, none_found, apart_from_none, none_from_apart}
 use Rattle.mm_link.proofs.Threaded.{small_slot, apart_from_few, few_from_apart}

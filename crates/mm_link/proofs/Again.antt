@@ -1,23 +1,15 @@
 -- Names that are there twice.
-use Rattle.std.proofs.Common.{◌≡◌, ℕ, ◌+◌, ◌<◌, Bool, true, false, not, if◌then◌else◌, List, [], ◌∷◌, ◌++◌, length, get_or, drop, reverse, Some, None, refl, sym, ap, ◌∙◌, true≢false}
-use Rattle.std.specs.Prelude.{◌||◌}
-use Rattle.std.specs.List.{list_any, AllByRecursion, IsDistinct}
-use Rattle.std.specs.List.Sorted.{IsPermutation}
-use Rattle.std.specs.Str.{bytes_eq}
-use Rattle.std.proofs.lemmas.Bool.Decides.{same_from_decides}
+use Rattle.std.proofs.Common.{◌≡◌, ℕ, ◌+◌, ◌<◌, Bool, true, false, not, if◌then◌else◌, List, [], ◌∷◌, ◌++◌, length}
+use Rattle.std.proofs.Common.{get_or, drop, reverse, Some, None, refl, sym, ap, ◌∙◌, true≢false}
+use Rattle.std.proofs.lemmas.Bool.{or_parts, not-false, not-true, Decides.same_from_decides}
 use Rattle.std.proofs.lemmas.Slice.Eq.{bytes_eq-Decides}
-use Rattle.std.proofs.lemmas.List.{reverse-append}
-use Rattle.std.proofs.lemmas.List.Sorted.{IsPermutation-reverse, list_any-IsPermutation}
+use Rattle.std.proofs.lemmas.List.{reverse-append, Sorted.{IsPermutation-reverse, list_any-IsPermutation}}
 use Rattle.std.proofs.lemmas.Map.Keys.{IsDistinct-IsPermutation}
-use Rattle.std.proofs.lemmas.Bool.{or_parts, not-false, not-true}
+use Rattle.std.specs.{Prelude.◌||◌, List.{list_any, AllByRecursion, IsDistinct, Sorted.IsPermutation}, Str.bytes_eq}
 use Rattle.indexmap.specs.IndexSet.{insert_key}
 use denote.Ref.{Bor}
-use Rattle.mm_object.specs.Objects.{is_among}
-use Rattle.mm_link.specs.Placing.{Part}
-use Rattle.mm_link.specs.Faults.{first_again}
-use Rattle.mm_link.specs.Steps.{part_names, same_part}
-use Rattle.mm_link.proofs.Lists.{at_item}
-use Rattle.mm_object.specs.Steps.{key_names}
+use Rattle.mm_object.specs.{Objects.is_among, Steps.key_names}
+use Rattle.mm_link.{specs.{Placing.Part, Faults.first_again, Steps.{part_names, same_part}}, proofs.Lists.at_item}
 
 pub same_turned : (a b : List ℕ) → bytes_eq a b ≡ bytes_eq b a
 same_turned a b = same_from_decides (bytes_eq a b) (bytes_eq b a) (bytes_eq-Decides a b) ((λ h. sym ((bytes_eq-Decides b a).0 h)), (λ e. (bytes_eq-Decides b a).1 (sym e)))

@@ -1,13 +1,10 @@
 -- No name twice, as a search of those before each finds it and as a test of those behind each does.
-use Rattle.std.proofs.Common.{◌≡◌, ℕ, Bool, true, false, not, List, [], ◌∷◌, find, Some, None, refl, sym, ap, ◌∙◌, inl, inr, bytes_eq}
-use Rattle.std.specs.Prelude.{if◌then◌else◌, ◌&&◌, ◌||◌}
-use Rattle.std.specs.List.{list_any}
-use Rattle.std.proofs.lemmas.Bool.{or_parts, or_from, not-true, and_parts}
-use Rattle.mm_object.specs.Objects.{is_among, are_apart}
-use Rattle.std.proofs.lemmas.Slice.Eq.{bytes_eq-Decides}
-use Rattle.mm_object.proofs.Apartness.{turn}
+use Rattle.std.proofs.Common.{◌≡◌, ℕ, Bool, true, false, not, List, [], ◌∷◌, find, Some, None, refl, sym, ap, ◌∙◌, inl}
+use Rattle.std.proofs.Common.{inr, bytes_eq}
+use Rattle.std.proofs.lemmas.{Bool.{or_parts, or_from, not-true, and_parts}, Slice.Eq.bytes_eq-Decides}
+use Rattle.std.specs.{Prelude.{if◌then◌else◌, ◌&&◌, ◌||◌}, List.list_any}
+use Rattle.mm_object.{specs.Objects.{is_among, are_apart}, proofs.{Apartness.turn, Members.{In, none_passes}}}
 use Rattle.mm_link.specs.Faults.{first_again}
-use Rattle.mm_object.proofs.Members.{In, none_passes}
 
 -- 1. Tests that none or one passes.
 

@@ -1,16 +1,12 @@
 -- The memory of pages that are filled one after another has one list's cells.
 use Rattle.std.proofs.Common.{◌≡◌, ℕ, zero, suc, ◌+◌, ◌-◌, ◌*◌, ◌/◌, ◌%◌, ◌<◌, ◌≤◌, Bool, true, false, cond, nat_eq}
 use Rattle.std.proofs.Common.{List, [], ◌∷◌, ◌++◌, length, get_or, take, drop, replicate, slice_get, Some, refl, sym}
-use Rattle.std.proofs.Common.{ap, ◌∙◌, arith, eqb-true, eq-eqb, ne_eqb}
-use Rattle.std.specs.Ordering.{nat_cmp}
-use Rattle.std.specs.FinMap.{find}
-use Rattle.std.specs.Cmp.{unsigned_tied}
-use Rattle.std.proofs.lemmas.List.{drop-drop, get_or-drop}
+use Rattle.std.proofs.{Common.{ap, ◌∙◌, arith, eqb-true, eq-eqb, ne_eqb}, lemmas.List.{drop-drop, get_or-drop}}
+use Rattle.std.specs.{Ordering.nat_cmp, FinMap.find, Cmp.unsigned_tied}
 use Rattle.mm_word.specs.declared.word.Cell.{Cell}
 use Rattle.mm_model.specs.Memory.{Memory, cell_at, cell_in, page_at, page_of, place_of, zero_cell, zero_page}
 use Rattle.mm_model.proofs.Memories.{cell_at-aligned, aligned, page_of_cell}
-use Rattle.mm_link.specs.Placing.{origin}
-use Rattle.mm_link.specs.Linked.{pages_from, first_page}
+use Rattle.mm_link.specs.{Placing.origin, Linked.{pages_from, first_page}}
 
 module _ {A : Type 0} where
   -- the items of a list, and behind them so many of one kind

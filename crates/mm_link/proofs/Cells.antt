@@ -1,21 +1,14 @@
 -- Cells, pages of them, and slots, one more at a time.
 use Rattle.std.proofs.Common.{◌≡◌, ℕ, suc, ◌+◌, ◌-◌, ◌<◌, ◌≢◌, true, false, cond, min, List, [], ◌∷◌, ◌++◌, length}
 use Rattle.std.proofs.Common.{get_or, take, drop, map, replicate, refl, sym, ap, ◌∙◌, arith, append_assoc, append-nil}
-use Rattle.std.proofs.Common.{inl, inr, eqb-true, eq-eqb}
-use Rattle.std.specs.Prelude.{◌==◌}
-use Rattle.std.specs.List.{flat_map, range_with_len}
-use Rattle.std.proofs.Math.Seq.{take-append-add}
+use Rattle.std.proofs.{Common.{inl, inr, eqb-true, eq-eqb}, Math.Seq.take-append-add}
 use Rattle.std.proofs.lemmas.Bool.{cases_lt, false_from_ne_true}
 use Rattle.std.proofs.lemmas.List.{take_all, drop_all, take-append-le, take-replicate}
+use Rattle.std.specs.{Prelude.◌==◌, List.{flat_map, range_with_len}}
 use Rattle.mm_word.specs.declared.word.Cell.{Cell}
-use Rattle.mm_object.specs.declared.thread.Thread.{Thread}
-use Rattle.mm_object.specs.Objects.{Object}
-use Rattle.mm_model.specs.Slot.{Slot}
-use Rattle.mm_model.specs.Memory.{zero_page}
-use Rattle.mm_link.specs.Placing.{Site}
-use Rattle.mm_link.specs.Linked.{pages_from, slot_of}
-use Rattle.mm_link.specs.Steps.{numbered}
-use Rattle.mm_link.proofs.Lists.{pushing, itself}
+use Rattle.mm_object.specs.{declared.thread.Thread.Thread, Objects.Object}
+use Rattle.mm_model.specs.{Slot.Slot, Memory.zero_page}
+use Rattle.mm_link.{specs.{Placing.Site, Linked.{pages_from, slot_of}, Steps.numbered}, proofs.Lists.{pushing, itself}}
 
 -- 1. Pages.
 

@@ -1,15 +1,14 @@
 -- Objects without a fault: none of the seven.
-use Rattle.std.proofs.Common.{◌≡◌, ℕ, ◌<◌, ◌≤◌, ◌*◌, Bool, true, false, cond, List, [], ◌∷◌, length, find, Option, Some, None, option_map, refl, arith, eq-eqb, ltb-false}
-use Rattle.std.specs.Prelude.{nat_lt, ◌==◌}
-use Rattle.std.specs.List.{list_any}
-use Rattle.mm_object.specs.declared.thread.Thread.{Thread}
-use Rattle.mm_object.specs.Objects.{Object}
+use Rattle.std.proofs.Common.{◌≡◌, ℕ, ◌<◌, ◌≤◌, ◌*◌, Bool, true, false, cond, List, [], ◌∷◌, length, find, Option, Some}
+use Rattle.std.proofs.Common.{None, option_map, refl, arith, eq-eqb, ltb-false}
+use Rattle.std.specs.{Prelude.{nat_lt, ◌==◌}, List.list_any}
+use Rattle.mm_object.specs.{declared.thread.Thread.Thread, Objects.Object}
+use Rattle.mm_object.proofs.Members.{In, in_range, in_filter, none_passes, not_found}
 use Rattle.mm_link.specs.declared.fault.LinkFault.TheVariants.{SlotTwice, Handler, TooLarge}
 use Rattle.mm_link.specs.Placing.{parts_of, bytes_of}
 use Rattle.mm_link.specs.Faults.{first_of, twice, undefined, offset, slot_twice, no_thread, no_thread_of, handler}
 use Rattle.mm_link.specs.Faults.{too_large, link_fault, threads_of, with_slot, slot_numbers, is_absent, page_count}
 use Rattle.mm_link.specs.Faults.{frames_of}
-use Rattle.mm_object.proofs.Members.{In, in_range, in_filter, none_passes, not_found}
 
 pub record IsClean (objects : List Object) : Type 0 where
   pub names : twice objects ≡ None

@@ -1,13 +1,9 @@
 -- The first of several faults.
-use Rattle.std.proofs.Common.{◌≡◌, ℕ, ◌+◌, ◌<◌, Bool, true, false, cond, List, [], ◌∷◌, ◌++◌, length, get_or, drop, Option, Some, None, refl, sym, ap, ◌∙◌, subst}
-use Rattle.std.specs.Prelude.{find}
-use Rattle.std.specs.Option.{option_map}
-use Rattle.mm_link.specs.declared.fault.LinkFault.{LinkFault}
-use Rattle.mm_link.specs.declared.fault.LinkError.{LinkError}
+use Rattle.std.proofs.Common.{◌≡◌, ℕ, ◌+◌, ◌<◌, Bool, true, false, cond, List, [], ◌∷◌, ◌++◌, length, get_or, drop}
+use Rattle.std.{proofs.Common.{Option, Some, None, refl, sym, ap, ◌∙◌, subst}, specs.{Prelude.find, Option.option_map}}
+use Rattle.mm_link.specs.{declared.fault.{LinkFault.LinkFault, LinkError.LinkError}, Answers.Fails}
+use Rattle.mm_link.{specs.Faults.{first, first_of}, proofs.Lists.at_item}
 use Rattle.mm_link.specs.declared.fault.LinkError.TheVariants as errors
-use Rattle.mm_link.specs.Answers.{Fails}
-use Rattle.mm_link.specs.Faults.{first, first_of}
-use Rattle.mm_link.proofs.Lists.{at_item}
 
 module _ {A : Type 0} where
   -- the first of two, if there is one

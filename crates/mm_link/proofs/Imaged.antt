@@ -1,15 +1,11 @@
 -- What objects link to is an image.
-use Rattle.std.proofs.Common.{◌≡◌, List, None, refl, sym, subst, inl, arith}
-use Rattle.std.specs.List.{AllByRecursion}
+use Rattle.std.{proofs.Common.{◌≡◌, List, None, refl, sym, subst, inl, arith}, specs.List.AllByRecursion}
 use Rattle.mm_model.specs.Spelling.{IsImage}
 use Rattle.mm_object.specs.Objects.{Object, IsObject}
-use Rattle.mm_link.specs.Faults.{link_fault, page_count}
-use Rattle.mm_link.specs.Linked.{cells_of, pages_of, first_page, image_of}
+use Rattle.mm_link.specs.{Faults.{link_fault, page_count}, Linked.{cells_of, pages_of, first_page, image_of}}
 use Rattle.mm_link.specs.Laws.{LinkedObjectsAreImages}
-use Rattle.mm_link.proofs.Clean.{clean, few_frames, page_frames, some_frames}
-use Rattle.mm_link.proofs.SegmentPlaces.{near_sites}
-use Rattle.mm_link.proofs.Numbered.{slots_are}
-use Rattle.mm_link.proofs.Paged.{cells_hold, pages_long, pages_whole, pages_hold}
+use Rattle.mm_link.proofs.{Clean.{clean, few_frames, page_frames, some_frames}, SegmentPlaces.near_sites}
+use Rattle.mm_link.proofs.{Numbered.slots_are, Paged.{cells_hold, pages_long, pages_whole, pages_hold}}
 
 pub linked_is_image : (objects : List Object) → AllByRecursion IsObject objects → link_fault objects ≡ None → IsImage (image_of objects)
 unfolding image_of pages_of

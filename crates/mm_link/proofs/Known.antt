@@ -1,11 +1,7 @@
 -- Names that no segment has.
-use Rattle.std.proofs.Common.{◌≡◌, List, ◌∷◌, ap, ◌∙◌}
-use Rattle.std.specs.Prelude.{find}
-use Rattle.std.specs.Option.{option_map}
-use Rattle.std.specs.List.{flat_map}
+use Rattle.std.{proofs.Common.{◌≡◌, List, ◌∷◌, ap, ◌∙◌}, specs.{Prelude.find, Option.option_map, List.flat_map}}
 use Rattle.mm_object.specs.Objects.{Object}
-use Rattle.mm_link.specs.declared.fault.LinkFault.TheVariants.{Undefined}
-use Rattle.mm_link.specs.Placing.{Site}
+use Rattle.mm_link.specs.{declared.fault.LinkFault.TheVariants.Undefined, Placing.Site}
 use Rattle.mm_link.specs.Faults.{unknown, unknown_among, unknown_names}
 use Rattle.mm_link.proofs.Firsts.{sooner, find-append, map-sooner}
 

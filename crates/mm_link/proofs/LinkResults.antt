@@ -1,28 +1,20 @@
 -- The whole of linking: the first fault, or the image.
-use Rattle.std.proofs.Common.{◌≡◌, ℕ, ◌+◌, ◌*◌, ◌/◌, ◌≤◌, false, List, [], ◌∷◌, length, Option, Some, None, Result, Ok, Err, refl, sym, ap, ◌∙◌, subst, arith}
-use Rattle.std.specs.{Prelude.IfOk, Result.IsErrAnd}
-use Rattle.mm_model.specs.Answers.{IsUnless, ValueOrFault}
-use Rattle.std.specs.Option.{option_map}
-use Rattle.std.specs.List.{flat_map, AllByRecursion, IsDistinct}
-use Rattle.std.proofs.lemmas.List.Sorted.{length_permutation}
+use Rattle.std.proofs.Common.{◌≡◌, ℕ, ◌+◌, ◌*◌, ◌/◌, ◌≤◌, false, List, [], ◌∷◌, length, Option, Some, None, Result, Ok}
+use Rattle.std.proofs.{Common.{Err, refl, sym, ap, ◌∙◌, subst, arith}, lemmas.List.Sorted.length_permutation}
+use Rattle.std.specs.{Prelude.IfOk, Result.IsErrAnd, Option.option_map, List.{flat_map, AllByRecursion, IsDistinct}}
+use Rattle.mm_model.specs.{Answers.{IsUnless, ValueOrFault}, Slot.Slot, Image.Image}
 use Rattle.mm_word.specs.declared.word.Cell.{Cell}
-use Rattle.mm_model.specs.Slot.{Slot}
-use Rattle.mm_model.specs.Image.{Image}
 use Rattle.mm_image.specs.Images.{image_from}
 use Rattle.mm_object.specs.Objects.{Object, IsObject}
-use Rattle.mm_link.specs.declared.fault.LinkFault.{LinkFault}
-use Rattle.mm_link.specs.declared.fault.LinkFault.TheVariants.{Twice}
-use Rattle.mm_link.specs.declared.fault.LinkError.{LinkError}
-use Rattle.mm_link.specs.declared.fault.LinkError.TheVariants as errors
+use Rattle.mm_link.specs.declared.fault.{LinkFault.{LinkFault, TheVariants.Twice}, LinkError.LinkError}
 use Rattle.mm_link.specs.Placing.{Part, Site, parts_of, by_length, bytes_of, sites_from, sites_of, origin}
-use Rattle.mm_link.specs.Faults.{first_again, twice, undefined, offset, slot_twice, no_thread, handler, too_large, first_of, link_fault, page_count, frames_of}
-use Rattle.mm_link.specs.Linked.{Linked, object_slots, by_number, slots_of, part_cells, cells_of, pages_from, first_page, pages_of, image_of}
-use Rattle.mm_link.specs.Answers.{Fails}
-use Rattle.mm_link.specs.Steps.{part_names, same_part}
+use Rattle.mm_link.specs.Faults.{first_again, twice, undefined, offset, slot_twice, no_thread, handler, too_large}
+use Rattle.mm_link.specs.Faults.{first_of, link_fault, page_count, frames_of}
+use Rattle.mm_link.specs.Linked.{Linked, object_slots, by_number, slots_of, part_cells, cells_of, pages_from}
+use Rattle.mm_link.specs.{Linked.{first_page, pages_of, image_of}, Answers.Fails, Steps.{part_names, same_part}}
 use Rattle.mm_link.proofs.Firsts.{sooner, sooner_none, first_of-append, fails_sooner, fails_later}
-use Rattle.mm_link.proofs.Clean.{few_frames, page_frames}
-use Rattle.mm_link.proofs.Parts.{are_parts, placed}
-use Rattle.mm_link.proofs.Again.{distinct_placed}
+use Rattle.mm_link.proofs.{Clean.{few_frames, page_frames}, Parts.{are_parts, placed}, Again.distinct_placed}
+use Rattle.mm_link.specs.declared.fault.LinkError.TheVariants as errors
 
 -- 1. The seven faults, as they are tested.
 

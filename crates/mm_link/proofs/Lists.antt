@@ -1,11 +1,8 @@
 -- Lists that a loop goes through.
 use Rattle.std.proofs.Common.{◌≡◌, ℕ, zero, suc, ◌+◌, ◌-◌, ◌*◌, ◌%◌, ◌^◌, ◌<◌, ◌≤◌, Bool, true, false, List, [], ◌∷◌}
 use Rattle.std.proofs.Common.{◌++◌, length, get_or, take, drop, map, Option, Some, None, refl, sym, ap, ◌∙◌, arith}
-use Rattle.std.proofs.Common.{append_assoc, length-drop}
-use Rattle.std.proofs.Math.Nat.{pow-le-pow_right}
-use Rattle.std.specs.Prelude.{find, if◌then◌else◌}
-use Rattle.std.specs.List.{range_with_len, AllByRecursion}
-use Rattle.std.proofs.lemmas.List.{take_all, drop_all}
+use Rattle.std.proofs.{Common.{append_assoc, length-drop}, Math.Nat.pow-le-pow_right, lemmas.List.{take_all, drop_all}}
+use Rattle.std.specs.{Prelude.{find, if◌then◌else◌}, List.{range_with_len, AllByRecursion}}
 
 pub all_from : {A : Type 0} (P : A → Type 0) (xs : List A) (d : A) → ((i : ℕ) → i < length xs → P (get_or xs i d)) → AllByRecursion P xs
 all_from P [] d h = tt

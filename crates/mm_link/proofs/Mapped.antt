@@ -1,22 +1,13 @@
 -- Segments are found by their names, and each of their bytes is in a page.
-use Rattle.std.proofs.Common.{◌≡◌, ℕ, ◌+◌, ◌-◌, ◌*◌, ◌^◌, ◌<◌, ◌≤◌, true, List, [], ◌∷◌, ◌++◌, Option, Some, None, refl, sym, ap, ◌∙◌, inl, inr, arith}
-use Rattle.std.specs.Prelude.{is_some}
-use Rattle.std.specs.List.{AllByRecursion}
-use Rattle.std.specs.Ordering.{nat_cmp}
-use Rattle.std.specs.FinMap.{find}
-use Rattle.std.proofs.lemmas.Bool.{cases_lt}
-use Rattle.mm_model.specs.Memory.{is_mapped, page_of}
-use Rattle.mm_model.specs.Image.{Image}
-use Rattle.mm_object.specs.Objects.{Object, IsObject}
-use Rattle.std.proofs.lemmas.Slice.Eq.{bytes_eq-Decides}
-use Rattle.mm_model.proofs.Causes.{some_of}
+use Rattle.std.proofs.Common.{◌≡◌, ℕ, ◌+◌, ◌-◌, ◌*◌, ◌^◌, ◌<◌, ◌≤◌, true, List, [], ◌∷◌, ◌++◌, Option, Some, None, refl}
+use Rattle.std.proofs.{Common.{sym, ap, ◌∙◌, inl, inr, arith}, lemmas.{Bool.cases_lt, Slice.Eq.bytes_eq-Decides}}
+use Rattle.std.specs.{Prelude.is_some, List.AllByRecursion, Ordering.nat_cmp, FinMap.find}
+use Rattle.mm_model.{specs.{Memory.{is_mapped, page_of}, Image.Image}, proofs.Causes.some_of}
+use Rattle.mm_object.{specs.Objects.{Object, IsObject}, proofs.Members.{In, each_in, contained, from_contained}}
 use Rattle.mm_link.specs.Placing.{Part, Site, parts_of, by_length, sites_from, sites_of, site_in, bytes_of, origin}
-use Rattle.mm_link.specs.Faults.{page_count}
-use Rattle.mm_link.specs.Linked.{cells_of, pages_of, first_page, image_of}
+use Rattle.mm_link.specs.{Faults.page_count, Linked.{cells_of, pages_of, first_page, image_of}}
 use Rattle.mm_link.specs.Laws.{SegmentsAreFound, PagesAreThoseOfSegments, SegmentsAreMapped, PagesHoldSegments}
-use Rattle.mm_object.proofs.Members.{In, each_in, contained, from_contained}
-use Rattle.mm_link.proofs.Parts.{are_parts, in_by_length, bytes_placed}
-use Rattle.mm_link.proofs.Clean.{IsClean, clean, few_bytes}
+use Rattle.mm_link.proofs.{Parts.{are_parts, in_by_length, bytes_placed}, Clean.{IsClean, clean, few_bytes}}
 use Rattle.mm_link.proofs.Named.{named, named_more, named_in, once_named, found_site}
 use Rattle.mm_link.proofs.Celled.{page_there, page_within}
 

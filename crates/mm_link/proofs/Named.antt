@@ -1,19 +1,13 @@
 -- Segments without two of one name: the site of a name is that of the segment that has it.
-use Rattle.std.proofs.Common.{◌≡◌, ℕ, ◌+◌, ◌^◌, ◌≤◌, Bool, true, false, List, [], ◌∷◌, ◌++◌, map, sum_by, Some, None, refl, sym, ap, ◌∙◌, subst, inl, inr, arith, zero-add, bytes_eq}
-use Rattle.std.specs.Prelude.{if◌then◌else◌}
-use Rattle.std.specs.List.{AllByRecursion}
-use Rattle.std.proofs.lemmas.Bool.{or_left, or_right}
-use Rattle.std.proofs.lemmas.List.Sorted.{sum_by-IsPermutation}
-use Rattle.std.proofs.lemmas.List.Sums.{sum_by-cons}
+use Rattle.std.proofs.Common.{◌≡◌, ℕ, ◌+◌, ◌^◌, ◌≤◌, Bool, true, false, List, [], ◌∷◌, ◌++◌, map, sum_by, Some, None}
+use Rattle.std.proofs.Common.{refl, sym, ap, ◌∙◌, subst, inl, inr, arith, zero-add, bytes_eq}
+use Rattle.std.proofs.lemmas.{Bool.{or_left, or_right}, List.{Sorted.sum_by-IsPermutation, Sums.sum_by-cons}}
+use Rattle.std.{proofs.lemmas.Slice.Eq.bytes_eq-Decides, specs.{Prelude.if◌then◌else◌, List.AllByRecursion}}
 use Rattle.mm_model.specs.Flags.{one_if}
-use Rattle.mm_object.specs.Objects.{Object, IsObject, is_among}
-use Rattle.std.proofs.lemmas.Slice.Eq.{bytes_eq-Decides}
+use Rattle.mm_object.{specs.Objects.{Object, IsObject, is_among}, proofs.Members.{In, in_either}}
 use Rattle.mm_link.specs.declared.fault.LinkFault.TheVariants.{Twice}
 use Rattle.mm_link.specs.Placing.{Part, Site, parts_of, by_length, sites_from, site_in, bytes_of}
-use Rattle.mm_link.specs.Faults.{names_of, first_again}
-use Rattle.mm_object.proofs.Members.{In, in_either}
-use Rattle.mm_link.proofs.Parts.{are_parts, placed}
-use Rattle.mm_link.proofs.Clean.{IsClean, unmapped}
+use Rattle.mm_link.{specs.Faults.{names_of, first_again}, proofs.{Parts.{are_parts, placed}, Clean.{IsClean, unmapped}}}
 
 -- 1. Each name once.
 

@@ -1,24 +1,17 @@
 -- The pages of linked objects are whole and rise, and hold words.
 use Rattle.std.proofs.Common.{◌≡◌, ℕ, zero, suc, ◌+◌, ◌^◌, ◌<◌, ◌≤◌, min, Bool, true, false, cond, List, [], ◌∷◌, ◌++◌}
 use Rattle.std.proofs.Common.{length, length-append, length-take, take, drop, replicate, find, Option, Some, None, refl}
-use Rattle.std.proofs.Common.{ap, ◌∙◌, subst, arith}
+use Rattle.std.proofs.{Common.{ap, ◌∙◌, subst, arith}, lemmas.{List.length-replicate, Bool.and_parts}}
 use Rattle.std.specs.List.{flat_map, AllByRecursion}
-use Rattle.std.proofs.lemmas.List.{length-replicate}
-use Rattle.std.proofs.lemmas.Bool.{and_parts}
-use Rattle.mm_word.specs.declared.word.Cell.{Cell}
-use Rattle.mm_word.specs.Word.{IsWord}
-use Rattle.mm_model.specs.Memory.{zero_cell, zero_page, IsPage, ArePages}
-use Rattle.mm_model.specs.Spelling.{HoldsWords}
+use Rattle.mm_word.specs.{declared.word.Cell.Cell, Word.IsWord}
+use Rattle.mm_model.specs.{Memory.{zero_cell, zero_page, IsPage, ArePages}, Spelling.HoldsWords}
 use Rattle.mm_model.proofs.Bytes.Rising.{AreRisingFrom, sorted_from}
-use Rattle.mm_object.specs.declared.item.Item.{Item}
-use Rattle.mm_object.specs.declared.target.Reloc.{Reloc}
-use Rattle.mm_object.specs.Lookups.{is_at, reloc_at}
+use Rattle.mm_object.specs.{declared.{item.Item.Item, target.Reloc.Reloc}, Lookups.{is_at, reloc_at}}
 use Rattle.mm_object.specs.Objects.{Object, IsObject, is_reloc, is_target}
+use Rattle.mm_object.proofs.Members.{each_more, each_take, each_drop, each_replicate, each_passes}
 use Rattle.mm_link.specs.Placing.{Part, Site, parts_of, by_length, sites_of}
 use Rattle.mm_link.specs.Linked.{word_by, cells_from, unused, part_cells, cells_of, pages_from}
-use Rattle.mm_object.proofs.Members.{each_more, each_take, each_drop, each_replicate, each_passes}
-use Rattle.mm_link.proofs.Parts.{IsPart, are_parts, are_placed_parts}
-use Rattle.mm_link.proofs.SegmentPlaces.{IsNear, pointer_fits}
+use Rattle.mm_link.proofs.{Parts.{IsPart, are_parts, are_placed_parts}, SegmentPlaces.{IsNear, pointer_fits}}
 
 -- 1. Cells hold words.
 

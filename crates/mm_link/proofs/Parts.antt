@@ -1,12 +1,11 @@
 -- The parts of objects: where each comes from, what it is, and in which order they are placed.
 use Rattle.std.proofs.Common.{◌≡◌, ℕ, suc, ◌+◌, ◌^◌, List, [], ◌∷◌, sum_by, slice_get, Some, refl, sym, ap, ◌∙◌, arith}
-use Rattle.std.specs.List.{flat_map, filter, AllByRecursion}
-use Rattle.std.specs.List.Sorted.{IsPermutation}
-use Rattle.std.proofs.lemmas.List.Sorted.{sum_by-IsPermutation, Contains-permutation}
-use Rattle.std.proofs.lemmas.List.Sums.{sum_by-cons}
+use Rattle.std.proofs.lemmas.List.{Sorted.{sum_by-IsPermutation, Contains-permutation}, Sums.sum_by-cons}
+use Rattle.std.specs.List.{flat_map, filter, AllByRecursion, Sorted.IsPermutation}
 use Rattle.mm_object.specs.Objects.{Segment, Object, IsSegment, IsObject}
+use Rattle.mm_object.proofs.Members.{In, from_flat, from_filter, each_in, each_from, each_more, contained}
+use Rattle.mm_object.proofs.Members.{from_contained}
 use Rattle.mm_link.specs.Placing.{Part, parts_from, parts_of, has_log, falling_logs, by_length, bytes_of}
-use Rattle.mm_object.proofs.Members.{In, from_flat, from_filter, each_in, each_from, each_more, contained, from_contained}
 use Rattle.mm_link.proofs.Buckets.{PassesOnce, buckets_shuffle, once_falling}
 
 -- 1. What a part is.

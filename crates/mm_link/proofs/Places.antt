@@ -2,18 +2,14 @@
 use Rattle.std.proofs.Common.{◌≡◌, ℕ, zero, suc, ◌+◌, ◌^◌, ◌<◌, Bool, true, false, cond, if◌then◌else◌, List, [], ◌∷◌}
 use Rattle.std.proofs.Common.{◌++◌, length, get_or, drop, take, map, Some, None, refl, sym, ap, ◌∙◌, arith}
 use Rattle.std.proofs.Common.{append_assoc, lit<}
-use Rattle.std.specs.Option.{option_map}
-use Rattle.std.specs.List.{AllByRecursion, IsDistinct}
-use Rattle.std.specs.Str.{bytes_eq}
-use Rattle.std.specs.Map.{lookup}
+use Rattle.std.specs.{Option.option_map, List.{AllByRecursion, IsDistinct}, Str.bytes_eq, Map.lookup}
 use Rattle.mm_model.proofs.Bytes.SpelledSlots.{all_at}
 use Rattle.indexmap.specs.IndexMap.{insert_entry}
 use denote.Ref.{Bor}
 use Rattle.mm_link.specs.declared.sites.Placement.{Placement}
 use Rattle.mm_link.specs.Placing.{Part, Site, site_in, site_named, site_or_none, sites_from}
 use Rattle.mm_link.specs.Steps.{entries_of, place_of, FitsSite, part_names, same_part}
-use Rattle.mm_link.proofs.Again.{same_turned}
-use Rattle.mm_link.proofs.Lists.{rest_at}
+use Rattle.mm_link.proofs.{Again.same_turned, Lists.rest_at}
 
 abbrev pub Entries : Type 0
 Entries = List (Bor (List ℕ) × Placement)

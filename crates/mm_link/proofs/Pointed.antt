@@ -1,36 +1,28 @@
 -- Pointers are into the segments that their targets go by.
-use Rattle.std.proofs.Common.{◌≡◌, ℕ, zero, suc, ◌+◌, ◌-◌, ◌*◌, ◌/◌, ◌%◌, ◌^◌, ◌<◌, ◌≤◌, Bool, true, false, not, List, bytes_eq}
-use Rattle.std.proofs.Common.{[], ◌∷◌, ◌++◌, map, length, get_or, slice_get, find, Some, None, refl, sym, ap, ◌∙◌}
-use Rattle.std.proofs.Common.{subst, inl, inr, arith}
+use Rattle.std.proofs.Common.{◌≡◌, ℕ, zero, suc, ◌+◌, ◌-◌, ◌*◌, ◌/◌, ◌%◌, ◌^◌, ◌<◌, ◌≤◌, Bool, true, false, not, List}
+use Rattle.std.proofs.Common.{bytes_eq, [], ◌∷◌, ◌++◌, map, length, get_or, slice_get, find, Some, None, refl, sym, ap}
+use Rattle.std.proofs.Common.{◌∙◌, subst, inl, inr, arith}
+use Rattle.std.proofs.lemmas.Bool.{ltb-true, not-false, and_parts, false_from_ne_true, Decides.nat_tests}
+use Rattle.std.proofs.lemmas.List.{length-map, get_or-map, get_or_append_left, get_or-append-add}
+use Rattle.std.proofs.lemmas.{List.Elements.Contains-get_or, Nat.div-mul-add, Option.slice_get_cases}
+use Rattle.std.proofs.{lemmas.Slice.Eq.bytes_eq-Decides, Math.Nat.div-add-mod}
 use Rattle.std.specs.Prelude.{◌⊎◌, if◌then◌else◌, is_some, nat_le, nat_lt, ◌&&◌}
 use Rattle.std.specs.List.{flat_map, filter, AllByRecursion}
-use Rattle.std.proofs.lemmas.Bool.{ltb-true, not-false, and_parts, false_from_ne_true}
-use Rattle.std.proofs.lemmas.Bool.Decides.{nat_tests}
-use Rattle.std.proofs.lemmas.List.{length-map, get_or-map, get_or_append_left, get_or-append-add}
-use Rattle.std.proofs.lemmas.List.Elements.{Contains-get_or}
-use Rattle.std.proofs.lemmas.Nat.{div-mul-add}
-use Rattle.std.proofs.lemmas.Option.{slice_get_cases}
-use Rattle.std.proofs.Math.Nat.{div-add-mod}
-use Rattle.mm_word.specs.declared.perm.Perm.{Perm}
-use Rattle.mm_word.specs.Pointer.{Pointer}
-use Rattle.mm_object.specs.declared.target.Target.{Target}
-use Rattle.mm_object.specs.declared.target.Reloc.{Reloc}
-use Rattle.mm_object.specs.declared.thread.Value.{Value}
-use Rattle.mm_object.specs.declared.thread.Value.TheVariants as value
-use Rattle.mm_object.specs.declared.thread.Thread.{Thread}
+use Rattle.mm_word.specs.{declared.perm.Perm.Perm, Pointer.Pointer}
+use Rattle.mm_object.specs.declared.{target.{Target.Target, Reloc.Reloc}, thread.{Value.Value, Thread.Thread}}
 use Rattle.mm_object.specs.Lookups.{name_of_target}
-use Rattle.mm_object.specs.Objects.{Segment, Object, IsObject, names_of, is_target, is_within, is_reloc, is_value, value_targets, targets_of}
-use Rattle.std.proofs.lemmas.Slice.Eq.{bytes_eq-Decides}
+use Rattle.mm_object.specs.Objects.{Segment, Object, IsObject, names_of, is_target, is_within, is_reloc, is_value}
+use Rattle.mm_object.specs.Objects.{value_targets, targets_of}
+use Rattle.mm_object.proofs.Members.{In, in_either, in_map, from_map, in_flat, from_flat, in_filter, each_in}
+use Rattle.mm_object.proofs.Members.{each_passes, contained, from_contained, not_found}
 use Rattle.mm_model.proofs.Causes.{some_of}
 use Rattle.mm_link.specs.declared.fault.LinkFault.TheVariants.{Undefined, Offset}
-use Rattle.mm_link.specs.Placing.{Part, Site, parts_from, parts_of, sites_of, site_in, site_or_none, site_named, pointer_to}
-use Rattle.mm_link.specs.Faults.{is_outside, names_outside, first}
+use Rattle.mm_link.specs.Placing.{Part, Site, parts_from, parts_of, sites_of, site_in, site_or_none, site_named}
+use Rattle.mm_link.specs.{Placing.pointer_to, Faults.{is_outside, names_outside, first}}
 use Rattle.mm_link.specs.Laws.{IsInto, PointersAreIntoTheirSegments}
-use Rattle.mm_object.proofs.Members.{In, in_either, in_map, from_map, in_flat, from_flat, in_filter, each_in, each_passes, contained, from_contained, not_found}
-use Rattle.mm_link.proofs.Clean.{IsClean, clean, unmapped}
-use Rattle.mm_link.proofs.Numbered.{is_start}
-use Rattle.mm_link.proofs.Falling.{segments_are_aligned}
+use Rattle.mm_link.proofs.{Clean.{IsClean, clean, unmapped}, Numbered.is_start, Falling.segments_are_aligned}
 use Rattle.mm_link.proofs.Mapped.{part_found}
+use Rattle.mm_object.specs.declared.thread.Value.TheVariants as value
 
 -- 1. What targets are.
 

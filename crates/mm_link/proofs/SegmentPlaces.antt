@@ -1,16 +1,12 @@
 -- Where segments stand, and the pointers to them.
 use Rattle.std.proofs.Common.{◌≡◌, ℕ, ◌+◌, ◌^◌, ◌≤◌, true, false, cond, List, [], ◌∷◌, length, Some, arith, bytes_eq}
 use Rattle.std.specs.List.{AllByRecursion}
-use Rattle.mm_word.specs.declared.perm.Perm.{Perm}
-use Rattle.mm_word.specs.Pointer.{IsWellFormed}
-use Rattle.mm_object.specs.declared.target.Target.{Target}
-use Rattle.mm_object.specs.Lookups.{name_of_target}
-use Rattle.mm_object.specs.Objects.{Object, IsObject, is_target}
-use Rattle.mm_object.proofs.Bounds.{target_small}
-use Rattle.mm_link.specs.Placing.{Part, Site, parts_of, by_length, sites_from, sites_of, origin, bytes_of, site_in, site_or_none, site_named, pointer_to}
-use Rattle.mm_link.specs.Faults.{page_count}
-use Rattle.mm_link.proofs.Parts.{IsPart, are_parts, are_placed_parts, bytes_placed}
-use Rattle.mm_link.proofs.Clean.{few_bytes}
+use Rattle.mm_word.specs.{declared.perm.Perm.Perm, Pointer.IsWellFormed}
+use Rattle.mm_object.specs.{declared.target.Target.Target, Lookups.name_of_target}
+use Rattle.mm_object.{specs.Objects.{Object, IsObject, is_target}, proofs.Bounds.target_small}
+use Rattle.mm_link.specs.Placing.{Part, Site, parts_of, by_length, sites_from, sites_of, origin, bytes_of, site_in}
+use Rattle.mm_link.specs.{Placing.{site_or_none, site_named, pointer_to}, Faults.page_count}
+use Rattle.mm_link.proofs.{Parts.{IsPart, are_parts, are_placed_parts, bytes_placed}, Clean.few_bytes}
 
 -- a site that all pages hold
 pub record IsNear (s : Site) : Type 0 where

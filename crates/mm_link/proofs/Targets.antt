@@ -1,26 +1,16 @@
 -- What objects point to, and what of it is outside its segment.
-use Rattle.std.proofs.Common.{◌≡◌, ℕ, zero, suc, ◌+◌, ◌^◌, ◌<◌, Bool, true, false, cond, List, [], ◌∷◌, ◌++◌, length, get_or, drop, map, slice_get, Option, Some, None, refl, sym, ap, ◌∙◌, arith}
-use Rattle.std.specs.Prelude.{nat_lt, find}
-use Rattle.std.specs.Option.{option_map}
-use Rattle.std.specs.List.{filter, flat_map, list_all}
-use Rattle.std.proofs.lemmas.Bool.Decides.{nat_tests}
-use Rattle.std.proofs.lemmas.List.Elements.{filter-append}
-use Rattle.std.proofs.lemmas.Bool.{and_parts}
+use Rattle.std.proofs.Common.{◌≡◌, ℕ, zero, suc, ◌+◌, ◌^◌, ◌<◌, Bool, true, false, cond, List, [], ◌∷◌, ◌++◌, length}
+use Rattle.std.proofs.Common.{get_or, drop, map, slice_get, Option, Some, None, refl, sym, ap, ◌∙◌, arith}
+use Rattle.std.proofs.lemmas.{Bool.{and_parts, Decides.nat_tests}, List.Elements.filter-append}
+use Rattle.std.specs.{Prelude.{nat_lt, find}, Option.option_map, List.{filter, flat_map, list_all}}
 use Rattle.mm_word.specs.Perm.{can_fetch}
-use Rattle.mm_object.specs.declared.target.Target.{Target}
-use Rattle.mm_object.specs.declared.target.Reloc.{Reloc}
-use Rattle.mm_object.specs.declared.thread.Thread.{Thread}
+use Rattle.mm_object.specs.declared.{target.{Target.Target, Reloc.Reloc}, thread.Thread.Thread}
 use Rattle.mm_object.specs.Lookups.{name_of_target, is_at, reloc_at}
-use Rattle.mm_object.specs.Objects.{Segment, Object, IsObject, is_target, is_within, is_zero, item_of, is_reloc, is_value, is_thread, is_handler}
-use Rattle.mm_object.proofs.Bools.{all_at}
-use Rattle.mm_link.specs.declared.fault.LinkFault.TheVariants.{Offset}
-use Rattle.mm_link.specs.declared.fault.LinkError.{LinkError}
-use Rattle.mm_link.specs.Answers.{Fails}
-use Rattle.mm_link.specs.Placing.{Site}
-use Rattle.mm_link.specs.Faults.{is_outside, first}
-use Rattle.mm_link.specs.Steps.{IsTargetOf, outside}
-use Rattle.mm_link.proofs.Lists.{itself}
-use Rattle.mm_link.proofs.Firsts.{sooner, first-append, map-sooner, failing}
+use Rattle.mm_object.specs.Objects.{Segment, Object, IsObject, is_target, is_within, is_zero, item_of, is_reloc}
+use Rattle.mm_object.{specs.Objects.{is_value, is_thread, is_handler}, proofs.Bools.all_at}
+use Rattle.mm_link.specs.{declared.fault.{LinkFault.TheVariants.Offset, LinkError.LinkError}, Answers.Fails}
+use Rattle.mm_link.specs.{Placing.Site, Faults.{is_outside, first}, Steps.{IsTargetOf, outside}}
+use Rattle.mm_link.proofs.{Lists.itself, Firsts.{sooner, first-append, map-sooner, failing}}
 
 -- 1. Targets of an object.
 

@@ -1,24 +1,15 @@
 -- Each thread is a slot, and each slot a thread; and where each has a slot of its own.
-use Rattle.std.proofs.Common.{◌≡◌, ◌≢◌, ℕ, suc, ◌<◌, ◌≤◌, Bool, true, false, cond, List, [], ◌∷◌, length, ◌==◌, refl, sym, ap, ◌∙◌, subst, inl, inr, arith, eq-eqb, eqb-true, ne_eqb}
-use Rattle.std.specs.Prelude.{AllPairs}
-use Rattle.std.specs.List.{flat_map, AllByRecursion}
-use Rattle.std.specs.List.Sorted.{IsPermutation}
-use Rattle.std.proofs.lemmas.Bool.{cond-true}
-use Rattle.std.proofs.lemmas.List.Elements.{All-from_recursion}
-use Rattle.std.proofs.lemmas.List.Kept.{AllPairs-cons}
-use Rattle.mm_model.specs.Image.{Image}
-use Rattle.mm_model.specs.Slot.{Slot}
-use Rattle.mm_object.specs.declared.thread.Thread.{Thread}
-use Rattle.mm_object.specs.Objects.{Object, IsObject}
-use Rattle.mm_link.specs.Placing.{sites_of}
-use Rattle.mm_link.specs.Faults.{threads_of, with_slot}
-use Rattle.mm_link.specs.Linked.{object_slots, by_number, slots_of, image_of}
-use Rattle.mm_link.specs.Laws.{SlotsAreThreads}
+use Rattle.std.proofs.Common.{◌≡◌, ◌≢◌, ℕ, suc, ◌<◌, ◌≤◌, Bool, true, false, cond, List, [], ◌∷◌, length, ◌==◌, refl}
+use Rattle.std.proofs.Common.{sym, ap, ◌∙◌, subst, inl, inr, arith, eq-eqb, eqb-true, ne_eqb}
+use Rattle.std.proofs.lemmas.{Bool.cond-true, List.{Elements.All-from_recursion, Kept.AllPairs-cons}}
+use Rattle.std.specs.{Prelude.AllPairs, List.{flat_map, AllByRecursion, Sorted.IsPermutation}}
+use Rattle.mm_model.specs.{Image.Image, Slot.Slot}
+use Rattle.mm_object.specs.{declared.thread.Thread.Thread, Objects.{Object, IsObject}}
 use Rattle.mm_object.proofs.Members.{In, from_flat, in_filter, each_in, each_from, contained}
-use Rattle.mm_link.proofs.Clean.{clean, few_frames, page_frames}
-use Rattle.mm_link.proofs.SegmentPlaces.{near_sites}
-use Rattle.mm_link.proofs.Numbered.{is_start, as_many, small}
-use Rattle.mm_link.proofs.Tied.{none_kept}
+use Rattle.mm_link.specs.{Placing.sites_of, Faults.{threads_of, with_slot}}
+use Rattle.mm_link.specs.{Linked.{object_slots, by_number, slots_of, image_of}, Laws.SlotsAreThreads}
+use Rattle.mm_link.proofs.{Clean.{clean, few_frames, page_frames}, SegmentPlaces.near_sites}
+use Rattle.mm_link.proofs.{Numbered.{is_start, as_many, small}, Tied.none_kept}
 
 -- 1. Slots.
 

@@ -1,15 +1,13 @@
 -- Segments of one length stand as they are given.
-use Rattle.std.proofs.Common.{◌≡◌, ◌≢◌, ℕ, Bool, false, ◌==◌, List, [], ◌∷◌, ◌++◌, refl, sym, ap, ◌∙◌, subst, inl, inr, arith, eqb-true, ne_eqb}
-use Rattle.std.specs.List.{flat_map, filter, list_any, AllByRecursion}
+use Rattle.std.proofs.Common.{◌≡◌, ◌≢◌, ℕ, Bool, false, ◌==◌, List, [], ◌∷◌, ◌++◌, refl, sym, ap, ◌∙◌, subst, inl, inr}
+use Rattle.std.proofs.Common.{arith, eqb-true, ne_eqb}
 use Rattle.std.proofs.lemmas.Bool.{cases_lt, or_parts, cond-false, eqb-false}
-use Rattle.std.proofs.lemmas.List.{append-nil}
-use Rattle.std.proofs.lemmas.List.Elements.{filter-append}
+use Rattle.std.proofs.lemmas.List.{append-nil, Elements.filter-append}
+use Rattle.std.specs.List.{flat_map, filter, list_any, AllByRecursion}
 use Rattle.mm_model.proofs.Filters.{filter_again}
-use Rattle.mm_link.specs.Placing.{Part, parts_of, has_log, falling_logs, by_length}
-use Rattle.mm_link.specs.Laws.{TiesStandAsGiven}
+use Rattle.mm_link.specs.{Placing.{Part, parts_of, has_log, falling_logs, by_length}, Laws.TiesStandAsGiven}
+use Rattle.mm_link.proofs.{Buckets.{PassesOnce, once_falling}, Parts.{IsPart, are_parts, are_placed_parts}}
 use Rattle.mm_object.proofs.Members.{In, from_filter, each_in}
-use Rattle.mm_link.proofs.Buckets.{PassesOnce, once_falling}
-use Rattle.mm_link.proofs.Parts.{IsPart, are_parts, are_placed_parts}
 
 pub none_kept : {X : Type 0} (p : X → Bool) (xs : List X) → ((x : X) → In x xs → p x ≡ false) → filter p xs ≡ []
 none_kept p [] h = refl

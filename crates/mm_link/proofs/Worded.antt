@@ -1,23 +1,18 @@
 -- Each word of each segment stands in its cell, and each other cell is integer 0, full.
-use Rattle.std.proofs.Common.{◌≡◌, ◌⊎◌, ℕ, zero, suc, ◌+◌, ◌-◌, ◌*◌, ◌^◌, ◌<◌, ◌≤◌, true, List, [], ◌∷◌, ◌++◌, length, bytes_eq}
-use Rattle.std.proofs.Common.{length-append, get_or, replicate, slice_get, Some, refl, sym, ap, ◌∙◌, subst, inl, inr}
-use Rattle.std.proofs.Common.{arith, append_assoc, zero-add}
-use Rattle.std.specs.List.{flat_map, AllByRecursion}
-use Rattle.std.proofs.lemmas.Bool.{cases_lt}
-use Rattle.std.proofs.lemmas.List.{length-replicate, get_or_append_left, get_or-append-add}
-use Rattle.std.proofs.lemmas.Nat.{pow-add}
-use Rattle.std.proofs.lemmas.Option.{get_or_from_slice_get, slice_get_within, slice_get_cases}
+use Rattle.std.proofs.Common.{◌≡◌, ◌⊎◌, ℕ, zero, suc, ◌+◌, ◌-◌, ◌*◌, ◌^◌, ◌<◌, ◌≤◌, true, List, [], ◌∷◌, ◌++◌, length}
+use Rattle.std.proofs.Common.{bytes_eq, length-append, get_or, replicate, slice_get, Some, refl, sym, ap, ◌∙◌, subst}
+use Rattle.std.proofs.Common.{inl, inr, arith, append_assoc, zero-add}
+use Rattle.std.proofs.lemmas.{Bool.cases_lt, List.{length-replicate, get_or_append_left, get_or-append-add}}
+use Rattle.std.proofs.lemmas.{Nat.pow-add, Option.{get_or_from_slice_get, slice_get_within, slice_get_cases}}
+use Rattle.std.{proofs.lemmas.Slice.Eq.bytes_eq-Decides, specs.List.{flat_map, AllByRecursion}}
 use Rattle.mm_word.specs.declared.word.Cell.{Cell}
-use Rattle.mm_model.specs.Memory.{cell_at, zero_cell}
-use Rattle.mm_model.specs.Image.{Image}
-use Rattle.mm_object.specs.declared.item.Item.{Item}
-use Rattle.mm_object.specs.Objects.{Object, IsObject}
-use Rattle.std.proofs.lemmas.Slice.Eq.{bytes_eq-Decides}
+use Rattle.mm_model.specs.{Memory.{cell_at, zero_cell}, Image.Image}
+use Rattle.mm_object.specs.{declared.item.Item.Item, Objects.{Object, IsObject}}
+use Rattle.mm_object.proofs.Members.{In, in_right, each_left, contained, from_contained}
 use Rattle.mm_link.specs.Placing.{Part, Site, parts_of, by_length, sites_from, sites_of, site_in, bytes_of, origin}
 use Rattle.mm_link.specs.Faults.{page_count, frames_of}
 use Rattle.mm_link.specs.Linked.{cell_of, cells_from, unused, part_cells, cells_of, pages_of, image_of}
 use Rattle.mm_link.specs.Laws.{StandsAt, WordsStandInTheirCells, OtherCellsAreZero}
-use Rattle.mm_object.proofs.Members.{In, in_right, each_left, contained, from_contained}
 use Rattle.mm_link.proofs.Parts.{IsPart, are_parts, are_placed_parts, bytes_placed, from_by_length, in_by_length}
 use Rattle.mm_link.proofs.Clean.{clean, few_bytes}
 use Rattle.mm_link.proofs.Named.{named, named_more, named_in, once_named, Splits, splits, is_split, found_site}

@@ -1,7 +1,6 @@
 -- The answers of the linker.
 use Rattle.std.specs.Prelude.{◌≡◌, Option, Some}
-use Rattle.mm_link.specs.declared.fault.LinkFault.{LinkFault}
-use Rattle.mm_link.specs.declared.fault.LinkError.{LinkError}
+use Rattle.mm_link.specs.declared.fault.{LinkFault.LinkFault, LinkError.LinkError}
 use Rattle.mm_link.specs.declared.fault.LinkError.TheVariants as errors
 
 -- the error has the fault, unless memory ran out

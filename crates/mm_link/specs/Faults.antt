@@ -1,13 +1,10 @@
 -- The faults of linking, and the first of them.
 use Rattle.std.specs.Prelude.{ℕ, ◌+◌, ◌/◌, ◌^◌, ◌==◌, nat_lt, nat_le, Bool, false, not, ◌&&◌, if◌then◌else◌, List, []}
 use Rattle.std.specs.Prelude.{◌∷◌, map, length, max, Option, Some, None, find, is_some}
-use Rattle.std.specs.List.{flat_map, filter, list_any, range_with_len}
-use Rattle.std.specs.Option.{option_map}
-use Rattle.mm_object.specs.declared.target.Target.{Target}
-use Rattle.mm_object.specs.declared.thread.Thread.{Thread}
-use Rattle.mm_model.specs.Image.{frame_limit}
-use Rattle.mm_object.specs.Lookups.{name_of_target}
+use Rattle.std.specs.{List.{flat_map, filter, list_any, range_with_len}, Option.option_map}
+use Rattle.mm_object.specs.{declared.{target.Target.Target, thread.Thread.Thread}, Lookups.name_of_target}
 use Rattle.mm_object.specs.Objects.{Object, is_among, targets_of, thread_limit}
+use Rattle.mm_model.specs.Image.{frame_limit}
 use Rattle.mm_link.specs.declared.fault.LinkFault.{LinkFault}
 use Rattle.mm_link.specs.declared.fault.LinkFault.TheVariants.{Twice, Undefined, Offset, SlotTwice, NoThread, Handler}
 use Rattle.mm_link.specs.declared.fault.LinkFault.TheVariants.{TooLarge}

@@ -1,19 +1,10 @@
 -- Laws of linked objects.
 use Rattle.std.specs.Prelude.{◌≡◌, ◌≢◌, ◌↔◌, ℕ, ◌+◌, ◌*◌, ◌%◌, ◌^◌, ◌<◌, ◌≤◌, true, List, length, slice_get, Contains}
-use Rattle.std.specs.Prelude.{AllPairs, Some}
-use Rattle.std.specs.List.{filter, flat_map, AllByRecursion}
-use Rattle.std.specs.List.Sorted.{IsPermutation}
-use Rattle.mm_word.specs.declared.perm.Perm.{Perm}
-use Rattle.mm_word.specs.declared.word.Cell.{Cell}
-use Rattle.mm_word.specs.Pointer.{Pointer, base_of}
-use Rattle.mm_model.specs.Memory.{cell_at, is_mapped, page_of, zero_cell}
-use Rattle.mm_model.specs.Image.{Image}
-use Rattle.mm_model.specs.Spelling.{IsImage}
-use Rattle.mm_object.specs.declared.item.Item.{Item}
-use Rattle.mm_object.specs.declared.target.Target.{Target}
-use Rattle.mm_object.specs.declared.thread.Thread.{Thread}
-use Rattle.mm_object.specs.Lookups.{name_of_target}
-use Rattle.mm_object.specs.Objects.{Object, IsObject, are_apart, is_among, targets_of}
+use Rattle.std.specs.{Prelude.{AllPairs, Some}, List.{filter, flat_map, AllByRecursion, Sorted.IsPermutation}}
+use Rattle.mm_word.specs.{declared.{perm.Perm.Perm, word.Cell.Cell}, Pointer.{Pointer, base_of}}
+use Rattle.mm_model.specs.{Memory.{cell_at, is_mapped, page_of, zero_cell}, Image.Image, Spelling.IsImage}
+use Rattle.mm_object.specs.declared.{item.Item.Item, target.Target.Target, thread.Thread.Thread}
+use Rattle.mm_object.specs.{Lookups.name_of_target, Objects.{Object, IsObject, are_apart, is_among, targets_of}}
 use Rattle.mm_link.specs.Placing.{Part, Site, parts_of, has_log, by_length, sites_of, site_in, pointer_to}
 use Rattle.mm_link.specs.Faults.{names_of, threads_of, page_count, frames_of}
 use Rattle.mm_link.specs.Linked.{Linked, cell_of, first_page, object_slots}

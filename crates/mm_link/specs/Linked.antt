@@ -1,23 +1,14 @@
 -- The image of linked objects.
 use Rattle.std.specs.Prelude.{◌≡◌, ℕ, zero, suc, ◌+◌, ◌-◌, ◌^◌, ◌==◌, false, List, [], ◌∷◌, ◌++◌, map, length, take}
-use Rattle.std.specs.Prelude.{drop, replicate, Option, Some, None}
-use Rattle.std.specs.List.{flat_map, filter}
-use Rattle.mm_word.specs.declared.word.Word.{Word}
-use Rattle.mm_word.specs.declared.word.Word.TheVariants.{Int, Ptr}
-use Rattle.mm_word.specs.declared.word.Cell.{Cell}
-use Rattle.mm_model.specs.declared.slot.SlotState.TheVariants.{Running}
-use Rattle.mm_model.specs.Memory.{zero_cell, zero_page}
-use Rattle.mm_model.specs.Slot.{Slot}
+use Rattle.std.specs.{Prelude.{drop, replicate, Option, Some, None}, List.{flat_map, filter}}
+use Rattle.mm_word.specs.declared.word.{Word.{Word, TheVariants.{Int, Ptr}}, Cell.Cell}
+use Rattle.mm_model.specs.{declared.slot.SlotState.TheVariants.Running, Memory.{zero_cell, zero_page}, Slot.Slot}
 use Rattle.mm_model.specs.Image.{Image, none_empty}
-use Rattle.mm_object.specs.declared.item.Item.{Item}
-use Rattle.mm_object.specs.declared.target.Reloc.{Reloc}
-use Rattle.mm_object.specs.declared.thread.Value.{Value}
-use Rattle.mm_object.specs.declared.thread.Value.TheVariants as value
-use Rattle.mm_object.specs.declared.thread.Thread.{Thread}
-use Rattle.mm_object.specs.Lookups.{reloc_at}
-use Rattle.mm_object.specs.Objects.{Segment, Object}
+use Rattle.mm_object.specs.declared.{item.Item.Item, target.Reloc.Reloc, thread.{Value.Value, Thread.Thread}}
+use Rattle.mm_object.specs.{Lookups.reloc_at, Objects.{Segment, Object}}
 use Rattle.mm_link.specs.Placing.{Part, Site, parts_of, by_length, sites_of, pointer_to}
 use Rattle.mm_link.specs.Faults.{link_fault, page_count, frames_of, slot_numbers}
+use Rattle.mm_object.specs.declared.thread.Value.TheVariants as value
 
 -- 1. Memory.
 

@@ -1,22 +1,12 @@
 -- The answers of the steps of linking.
-use Rattle.std.specs.Prelude.{◌≡◌, ℕ, ◌+◌, ◌<◌, ◌≤◌, ◌^◌, Bool, ◌==◌, List, ◌∷◌, map, length, Option, None}
-use Rattle.std.specs.Prelude.{Result, Ok, Err}
-use Rattle.std.specs.Str.{bytes_eq}
-use Rattle.std.specs.List.{filter, flat_map, list_any}
-use Rattle.std.specs.Option.{option_map}
+use Rattle.std.specs.Prelude.{◌≡◌, ℕ, ◌+◌, ◌<◌, ◌≤◌, ◌^◌, Bool, ◌==◌, List, ◌∷◌, map, length, Option, None, Result, Ok}
+use Rattle.std.specs.{Prelude.Err, Str.bytes_eq, List.{filter, flat_map, list_any}, Option.option_map}
 use denote.Ref.{Bor}
-use Rattle.mm_object.specs.declared.target.Target.{Target}
-use Rattle.mm_object.specs.declared.target.Reloc.{Reloc}
-use Rattle.mm_object.specs.declared.thread.Thread.{Thread}
-use Rattle.mm_object.specs.Lookups.{name_of_target}
-use Rattle.mm_object.specs.Objects.{Object, value_targets}
+use Rattle.mm_object.specs.declared.{target.{Target.Target, Reloc.Reloc}, thread.Thread.Thread}
+use Rattle.mm_object.specs.{Lookups.name_of_target, Objects.{Object, value_targets}}
 use Rattle.mm_model.specs.Slot.{Slot}
-use Rattle.mm_link.specs.declared.fault.LinkFault.{LinkFault}
-use Rattle.mm_link.specs.declared.fault.LinkFault.TheVariants.{Offset}
-use Rattle.mm_link.specs.declared.fault.LinkError.{LinkError}
-use Rattle.mm_link.specs.declared.sites.Placement.{Placement}
-use Rattle.mm_link.specs.Answers.{Fails}
-use Rattle.mm_link.specs.Placing.{Part, Site}
+use Rattle.mm_link.specs.declared.fault.{LinkFault.{LinkFault, TheVariants.Offset}, LinkError.LinkError}
+use Rattle.mm_link.specs.{declared.sites.Placement.Placement, Answers.Fails, Placing.{Part, Site}}
 use Rattle.mm_link.specs.Faults.{is_outside, first}
 
 -- 1. Answers.

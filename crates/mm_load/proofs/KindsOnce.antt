@@ -1,45 +1,32 @@
 -- Bytes mean one value of a kind at most, or have one fault.
 use Rattle.std.proofs.Common.{◌≡◌, ℕ, List, [], ◌∷◌, ◌++◌, Option, None, Some, slice_index_or, refl, sym, ap, ◌∙◌}
-use Rattle.std.specs.Prelude.{⊤}
-use Rattle.std.specs.List.{AllByRecursion}
-use Rattle.mm_model.specs.Image.{Image}
-use Rattle.mm_model.specs.Spelling.{IsImage}
-use Rattle.mm_format.specs.Images.{Spells}
-use Rattle.mm_format.specs.Images.{image_fault}
-use Rattle.mm_image.specs.declared.fault.ImageFault.{ImageFault}
-use Rattle.mm_image.specs.declared.fault.ImageFault.TheVariants as faults
-use Rattle.mm_image.specs.Faults.{number_of}
-use Rattle.mm_format.proofs.ImagesWhole.{spelled_clean, spelled_one}
-use Rattle.mm_model.proofs.WordTexts.{never_both, fault_unique, means_unique}
-use Rattle.mm_model.proofs.ScheduleWords.{schedule_grammar}
-use Rattle.mm_line.specs.declared.fault.Fault.{Fault}
-use Rattle.mm_line.specs.declared.fault.Fault.TheVariants as text_faults
-use Rattle.mm_line.specs.Faults.{number_of as fault_number}
+use Rattle.std.specs.{Prelude.⊤, List.AllByRecursion}
+use Rattle.mm_model.specs.{Image.Image, Spelling.IsImage}
+use Rattle.mm_model.proofs.{WordTexts.{never_both, fault_unique, means_unique}, ScheduleWords.schedule_grammar}
+use Rattle.mm_format.{specs.Images.{Spells, image_fault}, proofs.ImagesWhole.{spelled_clean, spelled_one}}
+use Rattle.mm_image.specs.{declared.fault.ImageFault.ImageFault, Faults.number_of}
+use Rattle.mm_line.specs.{declared.fault.Fault.Fault, Faults.{number_of as fault_number}}
 use Rattle.mm_draft.specs.Laws.{Pair}
-use Rattle.mm_object.specs.declared.fault.ObjectFault.{ObjectFault}
-use Rattle.mm_object.specs.declared.fault.ObjectFault.TheVariants as object_faults
-use Rattle.mm_object.specs.Answers.{number_of as object_number}
-use Rattle.mm_object.specs.Faults.{object_fault}
-use Rattle.mm_object.specs.Objects.{Object}
-use Rattle.mm_object.specs.Format.{Spells as SpellsObject}
-use Rattle.mm_object.proofs.FormatWhole as objects
-use Rattle.mm_checkpoint.specs.Checkpoints.{Saved}
-use Rattle.mm_checkpoint.specs.Faults.{save_fault}
-use Rattle.mm_checkpoint.proofs.SpelledLaws as checkpoints
-use Rattle.mm_net.specs.declared.link.Link.{Link}
-use Rattle.mm_net.specs.declared.item.NetItem.{NetItem}
-use Rattle.mm_net.proofs.LinkWords.{links_grammar}
-use Rattle.mm_net.proofs.EventWords.{events_grammar}
-use Rattle.mm_asm.specs.Faults.{first_fault}
-use Rattle.mm_asm.proofs.Texts.{meanings_are_one, meaning_has_no_fault}
+use Rattle.mm_object.specs.{declared.fault.ObjectFault.ObjectFault, Answers.{number_of as object_number}}
+use Rattle.mm_object.specs.{Faults.object_fault, Objects.Object, Format.{Spells as SpellsObject}}
+use Rattle.mm_checkpoint.specs.{Checkpoints.Saved, Faults.save_fault}
+use Rattle.mm_net.specs.declared.{link.Link.Link, item.NetItem.NetItem}
+use Rattle.mm_net.proofs.{LinkWords.links_grammar, EventWords.events_grammar}
+use Rattle.mm_asm.{specs.Faults.first_fault, proofs.Texts.{meanings_are_one, meaning_has_no_fault}}
 use Rattle.mm_load.specs.declared.status.Refusal.{Refusal}
-use Rattle.mm_load.specs.declared.status.Refusal.TheVariants as refusal
+use Rattle.mm_load.specs.Kinds.{Value, an_image, a_list, an_object, a_checkpoint, a_links, an_events, a_text, Accepts}
+use Rattle.mm_load.specs.Kinds.{Faults}
 use Rattle.mm_cli.specs.declared.table.Kind.{Kind}
 use Rattle.mm_cli.specs.declared.table.Kind.TheVariants.{Image as image_file, Schedule as schedule_file}
 use Rattle.mm_cli.specs.declared.table.Kind.TheVariants.{Source as source_file, Object as object_file}
 use Rattle.mm_cli.specs.declared.table.Kind.TheVariants.{Checkpoint as checkpoint_file, Links as links_file}
 use Rattle.mm_cli.specs.declared.table.Kind.TheVariants.{Events as events_file, Text as text_input}
-use Rattle.mm_load.specs.Kinds.{Value, an_image, a_list, an_object, a_checkpoint, a_links, an_events, a_text, Accepts, Faults}
+use Rattle.mm_image.specs.declared.fault.ImageFault.TheVariants as faults
+use Rattle.mm_line.specs.declared.fault.Fault.TheVariants as text_faults
+use Rattle.mm_object.specs.declared.fault.ObjectFault.TheVariants as object_faults
+use Rattle.mm_object.proofs.FormatWhole as objects
+use Rattle.mm_checkpoint.proofs.SpelledLaws as checkpoints
+use Rattle.mm_load.specs.declared.status.Refusal.TheVariants as refusal
 
 -- 1. Images.
 

@@ -1,12 +1,13 @@
 -- Files that are read one after the other.
-use Rattle.std.proofs.Common.{◌≡◌, ℕ, ◌+◌, ◌≤◌, inl, inr, List, [], ◌∷◌, ◌++◌, length, Option, Result, Ok, Err, IfOk, IfErr, refl, sym, ap, ◌∙◌, subst, arith, append_assoc, append-nil}
+use Rattle.std.proofs.Common.{◌≡◌, ℕ, ◌+◌, ◌≤◌, inl, inr, List, [], ◌∷◌, ◌++◌, length, Option, Result, Ok, Err, IfOk}
+use Rattle.std.proofs.Common.{IfErr, refl, sym, ap, ◌∙◌, subst, arith, append_assoc, append-nil}
 use Rattle.mm_io.specs.Files.{Rose, NoneFell, Holds, PieceRead, AreOf, FrontToEnd}
-use Rattle.mm_load.specs.declared.status.Refusal.{Refusal}
-use Rattle.mm_load.specs.declared.status.CommandError.{CommandError}
-use Rattle.mm_load.specs.declared.status.CommandError.TheVariants as stop
-use Rattle.mm_cli.specs.declared.table.Kind.{Kind}
+use Rattle.mm_load.specs.declared.status.{Refusal.Refusal, CommandError.CommandError}
 use Rattle.mm_load.specs.Kinds.{Value, Accepts, Faults, limit_of}
-use Rattle.mm_load.specs.Files.{Reading, FilesAccepted, FilesRefused, FilesFailed, FilesRead, AsksInOrder, AsksFiles, GoThrough, ReadsWhole, Stops}
+use Rattle.mm_load.specs.Files.{Reading, FilesAccepted, FilesRefused, FilesFailed, FilesRead, AsksInOrder, AsksFiles}
+use Rattle.mm_load.specs.Files.{GoThrough, ReadsWhole, Stops}
+use Rattle.mm_cli.specs.declared.table.Kind.{Kind}
+use Rattle.mm_load.specs.declared.status.CommandError.TheVariants as stop
 
 -- 1. Files behind others.
 

@@ -1,16 +1,13 @@
 -- Files of one kind that are read one after the other.
-use Rattle.std.proofs.Common.{◌≡◌, ℕ, ◌+◌, ◌<◌, List, [], ◌∷◌, ◌++◌, length, map, take, drop, get_or, Result, Ok, Err, String, string_bytes, refl, sym, ap, ◌∙◌, subst}
-use Rattle.std.specs.Result.{IsErrAnd}
-use Rattle.std.specs.declared.alloc.Global.{Global}
+use Rattle.std.proofs.Common.{◌≡◌, ℕ, ◌+◌, ◌<◌, List, [], ◌∷◌, ◌++◌, length, map, take, drop, get_or, Result, Ok, Err}
+use Rattle.std.proofs.Common.{String, string_bytes, refl, sym, ap, ◌∙◌, subst}
 use Rattle.std.proofs.lemmas.List.{take_more, map-append, take-append-drop}
+use Rattle.std.specs.{Result.IsErrAnd, declared.alloc.Global.Global}
 use Rattle.mm_io.specs.Files.{PieceRead}
-use Rattle.mm_load.specs.declared.status.CommandError.{CommandError}
-use Rattle.mm_cli.specs.declared.table.Kind.{Kind}
-use Rattle.mm_cli.specs.Words.{file_word, files_in, texts}
-use Rattle.mm_load.specs.Kinds.{Value}
-use Rattle.mm_load.specs.Files.{Reading, FilesRead, FilesRefused, FilesFailed, AsksFiles, Stops}
-use Rattle.mm_load.specs.Files.{files_named}
+use Rattle.mm_load.specs.{declared.status.CommandError.CommandError, Kinds.Value}
+use Rattle.mm_load.specs.Files.{Reading, FilesRead, FilesRefused, FilesFailed, AsksFiles, Stops, files_named}
 use Rattle.mm_load.proofs.Reading.{GoesOn, both, files_then, stops_first, asks_of_all}
+use Rattle.mm_cli.specs.{declared.table.Kind.Kind, Words.{file_word, files_in, texts}}
 
 -- the files that these words name
 pub files_in_words : (kind : Kind) (names : List (String Global)) → files_in (map (file_word kind) (texts names)) ≡ files_named kind names

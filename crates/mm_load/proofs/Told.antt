@@ -1,12 +1,12 @@
 -- Inputs that are told are read in one way: their values, or one refusal.
-use Rattle.std.proofs.Common.{◌≡◌, ℕ, ◌+◌, inl, inr, List, [], ◌∷◌, ◌++◌, length, Option, None, Some, true, false, refl, sym, ap, ◌∙◌, subst, arith, append_assoc, append-nil}
-use Rattle.std.specs.Option.{IsSome}
+use Rattle.std.proofs.Common.{◌≡◌, ℕ, ◌+◌, inl, inr, List, [], ◌∷◌, ◌++◌, length, Option, None, Some, true, false, refl}
+use Rattle.std.{proofs.Common.{sym, ap, ◌∙◌, subst, arith, append_assoc, append-nil}, specs.Option.IsSome}
 use Rattle.mm_io.specs.Files.{Holds}
-use Rattle.mm_load.specs.declared.status.Refusal.{Refusal}
-use Rattle.mm_cli.specs.declared.table.Kind.{Kind}
-use Rattle.mm_load.specs.Kinds.{Value, Accepts, Faults}
-use Rattle.mm_load.specs.Files.{Accepted, InputRefused, FilesAccepted, FilesRefused, FilesTold, InputsAccepted, InputsRefused, InputsTold, ToldFilesRefused, ToldInputsRefused}
+use Rattle.mm_load.specs.{declared.status.Refusal.Refusal, Kinds.{Value, Accepts, Faults}}
+use Rattle.mm_load.specs.Files.{Accepted, InputRefused, FilesAccepted, FilesRefused, FilesTold, InputsAccepted}
+use Rattle.mm_load.specs.Files.{InputsRefused, InputsTold, ToldFilesRefused, ToldInputsRefused}
 use Rattle.mm_load.proofs.KindsOnce.{AreSound, sound_value, sound_more, one_value, one_fault, value_or_fault}
+use Rattle.mm_cli.specs.declared.table.Kind.{Kind}
 
 -- 1. One input.
 

@@ -1,17 +1,14 @@
 -- The inputs of a command, each read and parsed before the next: its files, and after them standard input if the
 -- command reads it.
 use Rattle.std.specs.Prelude.{◌≡◌, ◌⊎◌, ℕ, ◌+◌, ◌≤◌, List, [], ◌∷◌, ◌++◌, length, map, String, string_bytes, Option}
-use Rattle.std.specs.Prelude.{Some, None, IsSome, Result, IfOk, IfErr, OnOk, ⊤}
-use Rattle.std.specs.declared.alloc.Global.{Global}
+use Rattle.std.specs.{Prelude.{Some, None, IsSome, Result, IfOk, IfErr, OnOk, ⊤}, declared.alloc.Global.Global}
 use Rattle.std.specs.List.{AllByRecursion}
 use Rattle.mm_word.specs.Adding.{Adds}
 use Rattle.mm_io.specs.Files.{Rose, Holds, IsLonger, PieceRead, AreOf, FrontToEnd}
-use Rattle.mm_load.specs.declared.status.Refusal.{Refusal}
-use Rattle.mm_load.specs.declared.status.Refusal.TheVariants.{TooLong}
-use Rattle.mm_load.specs.declared.status.CommandError.{CommandError}
-use Rattle.mm_load.specs.declared.status.CommandError.TheVariants as stop
-use Rattle.mm_cli.specs.declared.table.Kind.{Kind}
+use Rattle.mm_load.specs.declared.status.{Refusal.{Refusal, TheVariants.TooLong}, CommandError.CommandError}
 use Rattle.mm_load.specs.Kinds.{Value, limit_of, Accepts, Faults}
+use Rattle.mm_cli.specs.declared.table.Kind.{Kind}
+use Rattle.mm_load.specs.declared.status.CommandError.TheVariants as stop
 
 -- 1. One input. `told` is what the input holds, if that is known.
 

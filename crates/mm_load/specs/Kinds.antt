@@ -5,30 +5,21 @@ use Rattle.mm_cli.specs.declared.table.Kind.TheVariants.{Image as image_file, Sc
 use Rattle.mm_cli.specs.declared.table.Kind.TheVariants.{Source as source_file, Object as object_file}
 use Rattle.mm_cli.specs.declared.table.Kind.TheVariants.{Checkpoint as checkpoint_file, Links as links_file}
 use Rattle.mm_cli.specs.declared.table.Kind.TheVariants.{Events as events_file, Text as text_input}
-use Rattle.mm_model.specs.Image.{Image}
-use Rattle.mm_format.specs.Images.{Spells}
-use Rattle.mm_format.specs.Images.{image_fault}
-use Rattle.mm_model.specs.Schedule.{Means, FaultsAt}
-use Rattle.mm_image.specs.declared.fault.ImageFault.{ImageFault}
-use Rattle.mm_line.specs.declared.fault.Fault.{Fault}
-use Rattle.mm_line.specs.Faults.{number_of as fault_number}
-use Rattle.mm_object.specs.declared.fault.ObjectFault.{ObjectFault}
-use Rattle.mm_object.specs.Answers.{number_of as object_number}
-use Rattle.mm_object.specs.Faults.{object_fault}
-use Rattle.mm_object.specs.Objects.{Object}
-use Rattle.mm_object.specs.Format.{Spells as SpellsObject}
-use Rattle.mm_asm.specs.Faults as text
-use Rattle.mm_image.specs.Faults.{number_of}
+use Rattle.mm_model.specs.{Image.Image, Schedule.{Means, FaultsAt}}
+use Rattle.mm_format.specs.Images.{Spells, image_fault}
+use Rattle.mm_image.specs.{declared.fault.ImageFault.ImageFault, Faults.number_of}
+use Rattle.mm_line.specs.{declared.fault.Fault.Fault, Faults.{number_of as fault_number}}
+use Rattle.mm_object.specs.{declared.fault.ObjectFault.ObjectFault, Answers.{number_of as object_number}}
+use Rattle.mm_object.specs.{Faults.object_fault, Objects.Object, Format.{Spells as SpellsObject}}
 use Rattle.mm_machine.specs.Snapshot.{Parts}
-use Rattle.mm_checkpoint.specs.{Checkpoints.{Saved, saved_of}, Format.Saves}
-use Rattle.mm_checkpoint.specs.Faults.{save_fault}
+use Rattle.mm_checkpoint.specs.{Checkpoints.{Saved, saved_of}, Format.Saves, Faults.save_fault}
 use Rattle.mm_sched.specs.declared.schedule.Order.{Order}
+use Rattle.mm_net.specs.declared.{link.Link.Link, item.NetItem.NetItem}
+use Rattle.mm_load.specs.declared.status.Refusal.{Refusal}
+use Rattle.mm_asm.specs.Faults as text
 use Rattle.mm_sched.specs.declared.schedule.Order.TheVariants as order
-use Rattle.mm_net.specs.declared.link.Link.{Link}
-use Rattle.mm_net.specs.declared.item.NetItem.{NetItem}
 use Rattle.mm_net.specs.Links as link
 use Rattle.mm_net.specs.Events as event
-use Rattle.mm_load.specs.declared.status.Refusal.{Refusal}
 use Rattle.mm_load.specs.declared.status.Refusal.TheVariants as refusal
 
 -- what an input is parsed to

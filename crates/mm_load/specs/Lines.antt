@@ -1,12 +1,11 @@
 -- What an answer writes to standard error.
 use Rattle.std.specs.Prelude.{ℕ, List, [], ◌++◌, codes, decimal}
 use Rattle.mm_image.specs.Faults.{number_of}
-use Rattle.mm_line.specs.Faults.{number_of as fault_number}
-use Rattle.mm_object.specs.Answers.{number_of as object_number}
+use Rattle.mm_line.specs.{Faults.{number_of as fault_number}}
+use Rattle.mm_object.specs.{Answers.{number_of as object_number}}
 use Rattle.mm_link.specs.declared.fault.LinkFault.{LinkFault}
 use Rattle.mm_link.specs.declared.fault.LinkFault.TheVariants.{Twice, Undefined, Offset, SlotTwice, NoThread, Handler}
-use Rattle.mm_link.specs.declared.fault.LinkFault.TheVariants.{TooLarge}
-use Rattle.mm_link.specs.Faults.{number_of as link_number}
+use Rattle.mm_link.specs.{declared.fault.LinkFault.TheVariants.TooLarge, Faults.{number_of as link_number}}
 use Rattle.mm_load.specs.declared.status.Refusal.TheVariants.{TooLong, Image, Schedule, Object, Asm, Link, NoGroup}
 use Rattle.mm_load.specs.declared.status.Refusal.TheVariants.{Crosses, Held, Privileged, Checkpoint, Links, NoNode}
 use Rattle.mm_load.specs.declared.status.Status.{Status}

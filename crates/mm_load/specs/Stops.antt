@@ -1,12 +1,10 @@
 -- Why a command stops, given what reading, writing and linking answer.
 use Rattle.std.specs.Prelude.{ℕ, Result, Ok, Err}
-use Rattle.mm_io.specs.declared.read.ReadError.{ReadError}
-use Rattle.mm_io.specs.declared.read.ReadError.TheVariants as error
-use Rattle.mm_io.specs.declared.write.WriteFault.{WriteFault as WriteFailed}
+use Rattle.mm_io.specs.{declared.{read.ReadError.ReadError, write.{WriteFault.{WriteFault as WriteFailed}}}}
 use Rattle.mm_link.specs.declared.fault.LinkError.{LinkError}
+use Rattle.mm_load.specs.declared.status.{Refusal.TheVariants.{TooLong, Link}, CommandError.CommandError}
+use Rattle.mm_io.specs.declared.read.ReadError.TheVariants as error
 use Rattle.mm_link.specs.declared.fault.LinkError.TheVariants as linking
-use Rattle.mm_load.specs.declared.status.Refusal.TheVariants.{TooLong, Link}
-use Rattle.mm_load.specs.declared.status.CommandError.{CommandError}
 use Rattle.mm_load.specs.declared.status.CommandError.TheVariants as stop
 
 -- how a command ends after the write of its text

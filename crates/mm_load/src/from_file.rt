@@ -7,7 +7,7 @@ ghost use Rattle.mm_load.specs.Kinds.{Value, Accepts, Faults, limit_of};
 ghost use Rattle.mm_load.specs.Kinds.{an_image, a_list, an_object, a_links, an_events};
 ghost use Rattle.mm_load.specs.Files.{Stops};
 
-use crate::status::{Refusal, CommandError};
+use crate::status::{CommandError, Refusal};
 use mm_image::{Image, ImageError};
 use mm_net::{Events, Links, NetError, read_events, read_links};
 use mm_object::{Object, ObjectError};
@@ -48,11 +48,13 @@ impl FromFile for Image {
     fn parse(alloc: Global, bytes: &[u8], number: u8) -> Result<Image, CommandError> {
         match mm_image::read(alloc, bytes) {
             Ok(image) => Ok(image),
-            Err(ImageError::Fault { fault, offset }) => Err(CommandError::Refused(Refusal::Image {
-                file: number,
-                fault,
-                offset,
-            })),
+            Err(ImageError::Fault { fault, offset }) => Err(CommandError::Refused(
+                Refusal::Image {
+                    file: number,
+                    fault,
+                    offset,
+                },
+            )),
             Err(ImageError::NoMemory) => Err(CommandError::NoMemory),
         }
     }
@@ -91,11 +93,13 @@ impl FromFile for Object {
     fn parse(alloc: Global, bytes: &[u8], number: u8) -> Result<Object, CommandError> {
         match mm_object::read(alloc, bytes) {
             Ok(object) => Ok(object),
-            Err(ObjectError::Fault { fault, offset }) => Err(CommandError::Refused(Refusal::Object {
-                file: number,
-                fault,
-                offset,
-            })),
+            Err(ObjectError::Fault { fault, offset }) => Err(CommandError::Refused(
+                Refusal::Object {
+                    file: number,
+                    fault,
+                    offset,
+                },
+            )),
             Err(ObjectError::NoMemory) => Err(CommandError::NoMemory),
         }
     }

@@ -11,4 +11,4 @@ pub use each::{load_images, load_objects};
 pub use from_file::FromFile;
 pub use lines::write_line;
 pub use load::{Checkpoint, load_checkpoint, load_file, load_input, load_order, load_source};
-pub use status::{Refusal, Status, CommandError, ended};
+pub use status::{CommandError, Refusal, Status, ended};

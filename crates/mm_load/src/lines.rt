@@ -7,7 +7,7 @@ ghost use Rattle.mm_load.specs.Lines.{in_file, line_of, named_by};
 use crate::status::{Refusal, Status};
 use mm_io::{Sink, WriteFault, write_all};
 use mm_link::LinkFault;
-use mm_text::{TextBuffer, Piece, write_pieces};
+use mm_text::{Piece, TextBuffer, write_pieces};
 
 /// Writes the line that says why a command is not done. Writes nothing if it is done.
 pub fn write_line<D: Sink>(status: &Status, diag: &mut D) -> Result<(), WriteFault>

@@ -13,7 +13,7 @@ ghost use Rattle.mm_load.specs.Kinds.{values_of};
 ghost use Rattle.mm_load.specs.Stops.{stop_of_error};
 
 use crate::from_file::FromFile;
-use crate::status::{Refusal, CommandError};
+use crate::status::{CommandError, Refusal};
 use mm_asm::{AsmError, assemble};
 use mm_checkpoint::SaveError;
 use mm_image::Image;

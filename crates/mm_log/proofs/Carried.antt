@@ -1,22 +1,17 @@
 -- What lines make of each row, of the outputs and of the memory of a state.
 use Rattle.std.proofs.Common.{◌≡◌, ◌≢◌, ℕ, ◌<◌, inl, inr, Bool, true, false, ◌==◌, nat_eq, if◌then◌else◌, List, [], ◌∷◌}
 use Rattle.std.proofs.Common.{◌++◌, map, slice_set, slice_index_or, Option, Some, refl, sym, ap, ◌∙◌, arith}
-use Rattle.std.specs.List.{AllByRecursion}
-use Rattle.std.specs.List.Sorted.{IsStrictlyIncreasing}
-use Rattle.std.proofs.lemmas.Bool.{cases_eq}
+use Rattle.std.{proofs.lemmas.Bool.cases_eq, specs.List.{AllByRecursion, Sorted.IsStrictlyIncreasing}}
 use Rattle.mm_machine.proofs.Returning.{above_rows}
-use Rattle.mm_model.proofs.Bytes.Ranges.{map-map}
-use Rattle.mm_model.specs.declared.event.Event.{Event}
-use Rattle.mm_model.specs.Slot.{Slot}
+use Rattle.mm_model.proofs.{Bytes.Ranges.map-map, CoreRows.{above_first, rest_rises, row_here, row_later}}
+use Rattle.mm_model.specs.{declared.event.Event.Event, Slot.Slot}
 use Rattle.mm_model.specs.State.{ThreadRow, Core, State, row_in, at_number, put_output, output_of}
-use Rattle.mm_model.specs.Spelling.{numbers_of}
-use Rattle.mm_model.specs.Fits.{identity_of, slots_of}
-use Rattle.mm_model.proofs.CoreRows.{above_first, rest_rises, row_here, row_later}
+use Rattle.mm_model.specs.{Spelling.numbers_of, Fits.{identity_of, slots_of}}
 use Rattle.mm_log.specs.Lines.{Line}
-use Rattle.mm_log.specs.Lines.Line.{Traced, Points, Enters, Holds, Empties, Issues, Queues, Reads, Puts, Maps, Removes, Sets}
+use Rattle.mm_log.specs.Lines.Line.{Traced, Points, Enters, Holds, Empties, Issues, Queues, Reads, Puts, Maps, Removes}
+use Rattle.mm_log.specs.Lines.Line.{Sets}
 use Rattle.mm_log.specs.Replay.{holding, emptied, is_turn, with_turns, without_first, carry_out, replay}
-use Rattle.mm_log.proofs.Runs.{run_on}
-use Rattle.mm_log.proofs.Pages.{memory_line}
+use Rattle.mm_log.proofs.{Runs.run_on, Pages.memory_line}
 
 -- 1. A line on a row, on outputs, on a slot and on a queue.
 

@@ -1,47 +1,30 @@
 -- What was looked at before a cycle tells the events that the cycle queues and reads.
 use Rattle.std.proofs.Common.{◌≡◌, ◌≢◌, ℕ, suc, ◌+◌, ◌<◌, ◌^◌, inl, inr, Bool, true, false, nat_lt, if◌then◌else◌, List}
 use Rattle.std.proofs.Common.{[], ◌∷◌, ◌++◌, length, drop, map, Option, Some, None, Result, Ok, Err, refl, sym, ap, ◌∙◌}
-use Rattle.std.proofs.Common.{subst, arith, length-append}
-use Rattle.std.specs.Prelude.{IfSome}
-use Rattle.std.proofs.lemmas.Bool.{cases_eq}
-use Rattle.std.proofs.lemmas.Bool.Decides.{nat_tests}
-use Rattle.std.proofs.Math.Seq.{drop-length, drop-append_seam}
-use Rattle.std.proofs.Math.ListN.{drop_of_length-le}
-use Rattle.mm_word.specs.declared.cause.Cause.{Cause}
-use Rattle.mm_word.specs.declared.cause.Cause.TheVariants as cause
-use Rattle.mm_word.specs.declared.perm.Kind.TheVariants.{Store}
-use Rattle.mm_word.specs.declared.word.Pre.{Pre}
-use Rattle.mm_word.specs.Access.{AccessValue, check_result}
-use Rattle.mm_word.specs.Word.{word_bits}
-use Rattle.mm_isa.specs.declared.instr.Instr.{Instr}
-use Rattle.mm_isa.specs.declared.instr.Instr.TheVariants.{Out, Ld, St, Evt, Resume, Rreg, Wreg, Map, Unmap}
-use Rattle.mm_model.specs.declared.slot.SlotState.TheVariants.{Running, Waiting, Halted}
-use Rattle.mm_model.specs.declared.event.Event.{Event}
-use Rattle.mm_model.specs.declared.step.Tick.TheVariants.{Blocked, Faulted}
-use Rattle.mm_model.specs.Memory.{Memory}
-use Rattle.mm_model.specs.Slot.{Slot, register}
-use Rattle.mm_model.specs.State.{Core, slot_at, queue_at, put_slot, put_queue, put_output}
-use Rattle.mm_model.specs.Spelling.{IsOther}
+use Rattle.std.proofs.{Common.{subst, arith, length-append}, lemmas.Bool.{cases_eq, Decides.nat_tests}}
+use Rattle.std.{proofs.Math.{Seq.{drop-length, drop-append_seam}, ListN.drop_of_length-le}, specs.Prelude.IfSome}
+use Rattle.mm_word.specs.declared.{cause.Cause.Cause, perm.Kind.TheVariants.Store, word.Pre.Pre}
+use Rattle.mm_word.specs.{Access.{AccessValue, check_result}, Word.word_bits}
+use Rattle.mm_isa.specs.declared.instr.Instr.{Instr, TheVariants.{Out, Ld, St, Evt, Resume, Rreg, Wreg, Map, Unmap}}
+use Rattle.mm_model.specs.declared.{slot.SlotState.TheVariants.{Running, Waiting, Halted}, event.Event.Event}
+use Rattle.mm_model.specs.{declared.step.Tick.TheVariants.{Blocked, Faulted}, Memory.Memory, Slot.{Slot, register}}
+use Rattle.mm_model.specs.{State.{Core, slot_at, queue_at, put_slot, put_queue, put_output}, Spelling.IsOther}
 use Rattle.mm_model.specs.Fits.{slots_of, IsSlot, IsFormed}
 use Rattle.mm_model.specs.Ask.{Ask, ask, is_privileged, load_kind, reaching}
 use Rattle.mm_model.specs.Ask.Ask.{Refuse, MapPage, UnmapPage, NextEvent}
-use Rattle.mm_model.specs.Effect.{Change, effect, takes, delivered}
-use Rattle.mm_model.specs.Effect.Effect.{Do}
+use Rattle.mm_model.specs.Effect.{Change, effect, takes, delivered, Effect.Do}
 use Rattle.mm_model.specs.Turn.{Turned, reply, first_event, event_reply, slot_after, with_other, with_queue, with_out}
 use Rattle.mm_model.specs.Turn.{core_after, stood, is_sync, event_of, core_faulted, tick_faulted, faulted, blocked}
 use Rattle.mm_model.specs.Turn.{ended, idle, turn}
-use Rattle.mm_model.proofs.CoreRows.{slot_at-number, slot_at-put_same, slot_at-put_other, queue_at-put_slot, queue_at-put_same, queue_at-put_other, slot_has, other_at}
-use Rattle.mm_model.proofs.CoreSteps.{Fitting}
-use Rattle.mm_model.proofs.TurnKeeps.{changed_from}
-use Rattle.mm_log.specs.Lines.{Line}
-use Rattle.mm_log.specs.Lines.Line.{Queues, Reads}
-use Rattle.mm_log.specs.Changes.{each_number, queued_at, read_at}
+use Rattle.mm_model.proofs.CoreRows.{slot_at-number, slot_at-put_same, slot_at-put_other, queue_at-put_slot}
+use Rattle.mm_model.proofs.CoreRows.{queue_at-put_same, queue_at-put_other, slot_has, other_at}
+use Rattle.mm_model.proofs.{CoreSteps.Fitting, TurnKeeps.changed_from}
+use Rattle.mm_log.specs.{Lines.{Line, Line.{Queues, Reads}}, Changes.{each_number, queued_at, read_at}}
 use Rattle.mm_log.specs.Looks.{own_of, comes_to, address_told, value_told}
 use Rattle.mm_log.specs.Seen.{queued_for, queued_by, read_own, read_seen}
-use Rattle.mm_log.proofs.Rows.{QueueMoves}
-use Rattle.mm_log.proofs.Numbers.{no_number, one_number}
-use Rattle.mm_log.proofs.Ways.{Way, turn_way}
+use Rattle.mm_log.proofs.{Rows.QueueMoves, Numbers.{no_number, one_number}, Ways.{Way, turn_way}}
 use Rattle.mm_log.proofs.Seeing.{runs_own, same_own}
+use Rattle.mm_word.specs.declared.cause.Cause.TheVariants as cause
 
 -- 1. Which instruction reads events.
 

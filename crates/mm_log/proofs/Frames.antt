@@ -1,22 +1,16 @@
 -- What a turn leaves as it was, by the way that it goes.
-use Rattle.std.proofs.Common.{◌≡◌, ◌≢◌, ℕ, Bool, true, false, if◌then◌else◌, [], ◌∷◌, ◌++◌, Option, Some, None, refl, sym, ◌∙◌, subst}
-use Rattle.mm_log.proofs.Placed.{out_same, queue_same}
-use Rattle.mm_isa.specs.declared.instr.Instr.{Instr}
-use Rattle.mm_model.specs.declared.slot.SlotState.TheVariants.{Running, Waiting, Halted}
-use Rattle.mm_model.specs.declared.event.Event.{Event}
-use Rattle.mm_model.specs.Memory.{Memory}
-use Rattle.mm_model.specs.Slot.{Slot}
-use Rattle.mm_model.specs.State.{Core, slot_at, queue_at, put_slot}
-use Rattle.mm_model.specs.Ask.{ask}
-use Rattle.mm_model.specs.Effect.{Change, delivered}
-use Rattle.mm_model.specs.Turn.{Turned, slot_after, with_other, with_queue, core_after, stood, is_sync, event_of, core_faulted, faulted, blocked, ended, idle, turn}
-use Rattle.mm_model.specs.Outcomes.{Runs}
-use Rattle.mm_model.proofs.CoreRows.{slot_at-put_other, slot_at-put_queue}
-use Rattle.mm_model.proofs.SlotSteps.{delivered_from}
-use Rattle.mm_model.proofs.TurnKeeps.{changed_from}
+use Rattle.std.proofs.Common.{◌≡◌, ◌≢◌, ℕ, Bool, true, false, if◌then◌else◌, [], ◌∷◌, ◌++◌, Option, Some, None, refl}
+use Rattle.std.proofs.Common.{sym, ◌∙◌, subst}
+use Rattle.mm_log.proofs.{Placed.{out_same, queue_same}, Rows.{OtherMove, OtherMoves}, Ways.{Way, turn_way}}
 use Rattle.mm_log.specs.Looks.{comes_to, address_told, value_told}
-use Rattle.mm_log.proofs.Rows.{OtherMove, OtherMoves}
-use Rattle.mm_log.proofs.Ways.{Way, turn_way}
+use Rattle.mm_isa.specs.declared.instr.Instr.{Instr}
+use Rattle.mm_model.specs.declared.{slot.SlotState.TheVariants.{Running, Waiting, Halted}, event.Event.Event}
+use Rattle.mm_model.specs.{Memory.Memory, Slot.Slot, State.{Core, slot_at, queue_at, put_slot}, Ask.ask}
+use Rattle.mm_model.specs.Effect.{Change, delivered}
+use Rattle.mm_model.specs.Turn.{Turned, slot_after, with_other, with_queue, core_after, stood, is_sync, event_of}
+use Rattle.mm_model.specs.{Turn.{core_faulted, faulted, blocked, ended, idle, turn}, Outcomes.Runs}
+use Rattle.mm_model.proofs.{CoreRows.{slot_at-put_other, slot_at-put_queue}, SlotSteps.delivered_from}
+use Rattle.mm_model.proofs.TurnKeeps.{changed_from}
 
 module _ (core : Core) (m : Memory) (n : ℕ) where
   -- no instruction that the turn comes to is about another slot of this number

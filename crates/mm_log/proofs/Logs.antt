@@ -3,45 +3,30 @@ use Rattle.std.proofs.Common.{◌≡◌, ◌≢◌, ℕ, ◌+◌, ◌<◌, inl, 
 use Rattle.std.proofs.Common.{List, [], ◌∷◌, ◌++◌, length, drop, map, slice_set, slice_index_or, Option, Some, None}
 use Rattle.std.proofs.Common.{refl, sym, ap, ◌∙◌, subst, arith, eq-eqb, eqb-true, suc, ◌*◌, ◌⊎◌, append_assoc}
 use Rattle.std.proofs.Common.{length-set, get_or-set_same, get_or-set_other, length-append}
+use Rattle.std.proofs.lemmas.{Bool.{cases_eq, ne_eqb, Decides.nat_tests}, List.ext_get_or}
+use Rattle.std.proofs.Math.{Seq.{drop-length, drop-append_seam}, ListN.drop_of_length-le}
 use Rattle.std.specs.List.{AllByRecursion, range_with_len}
-use Rattle.std.proofs.lemmas.Bool.{cases_eq, ne_eqb}
-use Rattle.std.proofs.lemmas.Bool.Decides.{nat_tests}
-use Rattle.std.proofs.lemmas.List.{ext_get_or}
-use Rattle.std.proofs.Math.Seq.{drop-length, drop-append_seam}
-use Rattle.std.proofs.Math.ListN.{drop_of_length-le}
-use Rattle.mm_word.specs.declared.word.Cell.{Cell}
-use Rattle.mm_word.specs.Pointer.{Pointer}
-use Rattle.mm_word.specs.declared.word.Word.{Word}
-use Rattle.mm_model.specs.declared.slot.SlotState.{SlotState}
-use Rattle.mm_model.specs.declared.slot.Pending.{Pending}
-use Rattle.mm_model.specs.declared.event.Event.{Event}
-use Rattle.mm_model.specs.declared.step.Tick.{Tick}
-use Rattle.mm_model.specs.declared.step.Tick.TheVariants.{Idle, Blocked, Did, Faulted, Delivered}
-use Rattle.mm_model.specs.Memory.{Memory, page_at, is_mapped}
-use Rattle.mm_model.specs.Slot.{Slot}
+use Rattle.mm_word.specs.{declared.word.{Cell.Cell, Word.Word}, Pointer.Pointer}
+use Rattle.mm_model.specs.declared.{slot.{SlotState.SlotState, Pending.Pending}, event.Event.Event}
+use Rattle.mm_model.specs.declared.step.Tick.{Tick, TheVariants.{Idle, Blocked, Did, Faulted, Delivered}}
+use Rattle.mm_model.specs.{Memory.{Memory, page_at, is_mapped}, Slot.Slot}
 use Rattle.mm_model.specs.State.{ThreadRow, Core, State, row_in, slot_of, queue_of, slot_at, queue_at, output_of}
-use Rattle.mm_model.specs.Image.{Image, start}
-use Rattle.mm_model.specs.Spelling.{IsImage}
-use Rattle.mm_model.specs.Report.{changes_from}
-use Rattle.mm_model.specs.Turn.{Turned}
-use Rattle.mm_model.specs.Trace.{turns_of}
+use Rattle.mm_model.specs.{Image.{Image, start}, Spelling.IsImage, Report.changes_from, Turn.Turned, Trace.turns_of}
 use Rattle.mm_model.specs.Run.{turn_of, after, run}
 use Rattle.mm_model.specs.Fits.{IsState, IsSlot, Fits, IsConsistent, LoadsMatch, LoadsAreConsistent}
-use Rattle.mm_model.proofs.CoreRows.{slot_at-number, slot_has}
-use Rattle.mm_model.proofs.EffectWords.{slot_words}
-use Rattle.mm_model.proofs.Fitted.{fitting_of}
+use Rattle.mm_model.proofs.{CoreRows.{slot_at-number, slot_has}, EffectWords.slot_words, Fitted.fitting_of}
 use Rattle.mm_model.proofs.Starts.{start_state, start_fits, start_kept}
-use Rattle.mm_model.proofs.StateKeeps.{after_state, after_fits, after_kept}
-use Rattle.mm_model.proofs.TurnKeeps.{turn_keeps}
+use Rattle.mm_model.proofs.{StateKeeps.{after_state, after_fits, after_kept}, TurnKeeps.turn_keeps}
 use Rattle.mm_log.specs.Lines.{Line}
-use Rattle.mm_log.specs.Lines.Line.{Traced, Points, Enters, Holds, Empties, Issues, Queues, Reads, Puts, Maps, Removes, Sets}
-use Rattle.mm_log.specs.Changes.{slot_changes, changes_between, each_number, slots_changed, queued_at, read_at, put_out_by, pages_mapped, pages_removed, cells_changed, cells_changed_in, changes}
+use Rattle.mm_log.specs.Lines.Line.{Traced, Points, Enters, Holds, Empties, Issues, Queues, Reads, Puts, Maps, Removes}
+use Rattle.mm_log.specs.Lines.Line.{Sets}
+use Rattle.mm_log.specs.Changes.{slot_changes, changes_between, each_number, slots_changed, queued_at, read_at}
+use Rattle.mm_log.specs.Changes.{put_out_by, pages_mapped, pages_removed, cells_changed, cells_changed_in, changes}
 use Rattle.mm_log.specs.Log.{turns_in, told, cycle_log, log}
 use Rattle.mm_log.specs.Replay.{holding, emptied, is_turn, with_turns, without_first, carry_out, replay}
 use Rattle.mm_log.specs.Laws.{but_cycles, LogsReplay}
-use Rattle.mm_log.proofs.Runs.{all_flat, all_map, all_unless, all_where, run_on, run_append, run_silent, run_range, IsSilent}
-use Rattle.mm_log.proofs.Rows.{SlotMove}
-use Rattle.mm_log.proofs.Turns.{Counts, QueueMove, OutMove, TurnMoves, turn_moves}
+use Rattle.mm_log.proofs.Runs.{all_flat, all_map, all_unless, all_where, run_on, run_append, run_silent, run_range}
+use Rattle.mm_log.proofs.{Runs.IsSilent, Rows.SlotMove, Turns.{Counts, QueueMove, OutMove, TurnMoves, turn_moves}}
 use Rattle.mm_log.proofs.Pages.{memory_line, memory_told, memory_made}
 use Rattle.mm_log.proofs.Carried.{row_line, out_line, slot_line, queue_line, replayed, row_all, found_number, core_made}
 use Rattle.mm_log.proofs.Registers.{slot_all, slot_replayed}

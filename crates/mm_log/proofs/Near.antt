@@ -1,31 +1,20 @@
 -- What the turn of an instruction that writes one register at most leaves of its slot.
-use Rattle.std.proofs.Common.{◌≡◌, ℕ, inl, inr, Bool, true, false, if◌then◌else◌, [], ◌∷◌, ◌++◌, Option, Some, None, pos, refl, sym, ap, ◌∙◌, subst}
-use Rattle.mm_word.specs.declared.perm.Kind.TheVariants.{Fetch}
-use Rattle.mm_word.specs.declared.word.Word.TheVariants.{Ptr}
-use Rattle.mm_word.specs.Access.{check_result}
+use Rattle.std.proofs.Common.{◌≡◌, ℕ, inl, inr, Bool, true, false, if◌then◌else◌, [], ◌∷◌, ◌++◌, Option, Some, None}
+use Rattle.std.proofs.Common.{pos, refl, sym, ap, ◌∙◌, subst}
+use Rattle.mm_word.specs.{declared.{perm.Kind.TheVariants.Fetch, word.Word.TheVariants.Ptr}, Access.check_result}
 use Rattle.mm_isa.specs.declared.instr.Instr.{Instr}
-use Rattle.mm_model.specs.declared.slot.SlotState.{SlotState}
-use Rattle.mm_model.specs.declared.slot.SlotState.TheVariants.{Running, Waiting, Halted}
+use Rattle.mm_model.specs.declared.slot.SlotState.{SlotState, TheVariants.{Running, Waiting, Halted}}
 use Rattle.mm_model.specs.declared.event.Event.{Event}
-use Rattle.mm_model.specs.declared.step.Tick.{Tick}
-use Rattle.mm_model.specs.declared.step.Tick.TheVariants.{Idle, Did, Blocked, Faulted, Delivered}
-use Rattle.mm_model.specs.Memory.{Memory}
-use Rattle.mm_model.specs.Slot.{Slot, register, is_empty}
-use Rattle.mm_model.specs.State.{Core, slot_at, queue_at, put_slot}
-use Rattle.mm_model.specs.Operands.{addr_operand, value_operand}
-use Rattle.mm_model.specs.Ask.{ask}
-use Rattle.mm_model.specs.Effect.{effect, delivers, delivered}
-use Rattle.mm_model.specs.Effect.Effect.{Do}
-use Rattle.mm_model.specs.Turn.{Turned, reply, slot_after, core_after, stood, is_sync, event_of, core_faulted, faulted, blocked, ended, idle, turn}
-use Rattle.mm_model.specs.Outcomes.{Runs}
+use Rattle.mm_model.specs.declared.step.Tick.{Tick, TheVariants.{Idle, Did, Blocked, Faulted, Delivered}}
+use Rattle.mm_model.specs.{Memory.Memory, Slot.{Slot, register, is_empty}, State.{Core, slot_at, queue_at, put_slot}}
+use Rattle.mm_model.specs.{Operands.{addr_operand, value_operand}, Ask.ask}
+use Rattle.mm_model.specs.Effect.{effect, delivers, delivered, Effect.Do}
+use Rattle.mm_model.specs.Turn.{Turned, reply, slot_after, core_after, stood, is_sync, event_of, core_faulted, faulted}
+use Rattle.mm_model.specs.{Turn.{blocked, ended, idle, turn}, Outcomes.Runs}
 use Rattle.mm_model.proofs.CoreRows.{slot_at-put_same, slot_at-put_queue}
-use Rattle.mm_log.specs.Looks.{own_of, comes_to, found_by, address_told, value_told}
-use Rattle.mm_log.specs.Seen.{queued_for, queued_by}
+use Rattle.mm_log.specs.{Looks.{own_of, comes_to, found_by, address_told, value_told}, Seen.{queued_for, queued_by}}
 use Rattle.mm_log.specs.Local.{written_by, IsNear}
-use Rattle.mm_log.proofs.Rows.{OtherMove}
-use Rattle.mm_log.proofs.Ways.{Way, turn_way}
-use Rattle.mm_log.proofs.Seeing.{runs_own, same_own}
-use Rattle.mm_log.proofs.Placed.{own_after}
+use Rattle.mm_log.proofs.{Rows.OtherMove, Ways.{Way, turn_way}, Seeing.{runs_own, same_own}, Placed.own_after}
 use Rattle.mm_log.proofs.OneSlot.{own_at}
 use Rattle.mm_log.proofs.Written.{IsNearAsk, asks_near, Spares, EffectLeaves, row_leaves, after_leaves}
 

@@ -1,45 +1,31 @@
 -- What was looked at before the turn of an instruction that writes one register at most tells all that the turn changes.
-use Rattle.std.proofs.Common.{◌≡◌, ℕ, ◌<◌, false, ◌&&◌, if◌then◌else◌, List, [], ◌∷◌, ◌++◌, length, drop, map, Option, Some, None, refl, sym, ap, ◌∙◌, subst, arith, append-nil}
-use Rattle.std.specs.Prelude.{IfSome}
-use Rattle.std.specs.List.{flat_map, range_with_len}
-use Rattle.std.proofs.lemmas.List.Folds.{flat_map-map}
+use Rattle.std.proofs.Common.{◌≡◌, ℕ, ◌<◌, false, ◌&&◌, if◌then◌else◌, List, [], ◌∷◌, ◌++◌, length, drop, map, Option}
+use Rattle.std.proofs.Common.{Some, None, refl, sym, ap, ◌∙◌, subst, arith, append-nil}
+use Rattle.std.{proofs.lemmas.List.Folds.flat_map-map, specs.{Prelude.IfSome, List.{flat_map, range_with_len}}}
 use Rattle.mm_thread.proofs.RunningSlots.{runs_where}
 use Rattle.mm_word.specs.declared.word.Cell.{Cell}
-use Rattle.mm_isa.specs.declared.instr.Instr.{Instr}
-use Rattle.mm_isa.specs.declared.instr.Instr.TheVariants.{Evt}
+use Rattle.mm_isa.specs.declared.instr.Instr.{Instr, TheVariants.Evt}
 use Rattle.mm_model.specs.declared.slot.SlotState.TheVariants.{Running}
-use Rattle.mm_model.specs.declared.step.Step.{Step}
-use Rattle.mm_model.specs.declared.step.Tick.{Tick}
-use Rattle.mm_model.specs.declared.step.Tick.TheVariants.{Idle, Blocked, Did, Faulted, Delivered}
-use Rattle.mm_model.specs.Memory.{Memory, cell_at}
-use Rattle.mm_model.specs.Slot.{Slot, register, is_empty}
+use Rattle.mm_model.specs.declared.step.{Step.Step, Tick.{Tick, TheVariants.{Idle, Blocked, Did, Faulted, Delivered}}}
+use Rattle.mm_model.specs.{Memory.{Memory, cell_at}, Slot.{Slot, register, is_empty}}
 use Rattle.mm_model.specs.State.{Core, State, slot_at, output_of}
 use Rattle.mm_model.specs.Ask.{Ask, ask}
 use Rattle.mm_model.specs.Ask.Ask.{Nothing as AskNothing, Refuse, Reach, MapPage, UnmapPage, NextEvent, Room, Serve}
-use Rattle.mm_model.specs.Effect.{same_word}
-use Rattle.mm_model.specs.Report.{same_bit}
-use Rattle.mm_model.specs.Turn.{turn}
-use Rattle.mm_model.specs.Trace.{turns_of, step_line}
-use Rattle.mm_model.specs.Run.{turn_of, after}
+use Rattle.mm_model.specs.{Effect.same_word, Report.same_bit, Turn.turn, Trace.{turns_of, step_line}}
+use Rattle.mm_model.{specs.Run.{turn_of, after}, proofs.Sames.pair_self}
 use Rattle.mm_machine.specs.Validity.{IsValid}
 use Rattle.mm_log.specs.declared.before.Before.{Before}
-use Rattle.mm_log.specs.declared.local.Writes.{Writes}
-use Rattle.mm_log.specs.declared.local.Writes.TheVariants.{Nothing, One, More}
-use Rattle.mm_log.specs.declared.local.Local.{Local}
-use Rattle.mm_log.specs.Lines.{Line, line_text}
-use Rattle.mm_log.specs.Lines.Line.{Issues, Puts}
-use Rattle.mm_log.specs.Changes.{state_changes, register_now, register_changes, load_changes, slot_changes, changes_between}
-use Rattle.mm_log.specs.Log.{cycle_log, text_of}
+use Rattle.mm_log.specs.declared.local.{Writes.{Writes, TheVariants.{Nothing, One, More}}, Local.Local}
+use Rattle.mm_log.specs.Lines.{Line, line_text, Line.{Issues, Puts}}
+use Rattle.mm_log.specs.Changes.{state_changes, register_now, register_changes, load_changes, slot_changes}
+use Rattle.mm_log.specs.{Changes.changes_between, Log.{cycle_log, text_of}}
 use Rattle.mm_log.specs.Looks.{cell_there, there_at, there_for, looked_at, looks_at, looks}
-use Rattle.mm_log.specs.Seen.{read_in, with_taken, with_there, slots_seen, queued_by, queued_seen, read_seen, out_seen, page_seen, cell_seen, seen, seen_by}
-use Rattle.mm_log.specs.Local.{written_by, IsNear, held_of, with_touch, cell_asked, local_of, IsLocal, pointer_left, state_left, held_left, slot_left, told_of, cell_left, local_seen}
-use Rattle.mm_log.proofs.Told.{text_append}
-use Rattle.mm_log.proofs.Numbers.{none_from, one_from}
-use Rattle.mm_model.proofs.Sames.{pair_self}
-use Rattle.mm_log.proofs.Seeing.{runs_own}
-use Rattle.mm_log.proofs.Taking.{no_read_row}
-use Rattle.mm_log.proofs.Whole.{read_none, line_is}
-use Rattle.mm_log.proofs.Written.{IsNearAsk, asks_near, Spares}
+use Rattle.mm_log.specs.Seen.{read_in, with_taken, with_there, slots_seen, queued_by, queued_seen, read_seen, out_seen}
+use Rattle.mm_log.specs.Seen.{page_seen, cell_seen, seen, seen_by}
+use Rattle.mm_log.specs.Local.{written_by, IsNear, held_of, with_touch, cell_asked, local_of, IsLocal, pointer_left}
+use Rattle.mm_log.specs.Local.{state_left, held_left, slot_left, told_of, cell_left, local_seen}
+use Rattle.mm_log.proofs.{Told.text_append, Numbers.{none_from, one_from}, Seeing.runs_own, Taking.no_read_row}
+use Rattle.mm_log.proofs.{Whole.{read_none, line_is}, Written.{IsNearAsk, asks_near, Spares}}
 use Rattle.mm_log.proofs.Near.{Left, turn_left, not_past}
 
 -- 1. The lines of the slot.

@@ -1,16 +1,12 @@
 -- What is told of numbers where few of them have something to tell.
-use Rattle.std.proofs.Common.{◌≡◌, ◌≢◌, ℕ, zero, suc, ◌+◌, ◌<◌, ◌≤◌, inl, inr, if◌then◌else◌, List, [], ◌∷◌, ◌++◌, map, Option, Some, None, refl, ap, ◌∙◌, arith, append-nil}
-use Rattle.std.specs.List.{AllByRecursion, flat_map, range_with_len}
-use Rattle.std.proofs.lemmas.Bool.{cases_eq}
-use Rattle.std.proofs.Math.Seq.{drop-length}
+use Rattle.std.proofs.Common.{◌≡◌, ◌≢◌, ℕ, zero, suc, ◌+◌, ◌<◌, ◌≤◌, inl, inr, if◌then◌else◌, List, [], ◌∷◌, ◌++◌, map}
+use Rattle.std.proofs.{Common.{Option, Some, None, refl, ap, ◌∙◌, arith, append-nil}, lemmas.Bool.cases_eq}
+use Rattle.std.{proofs.Math.Seq.drop-length, specs.List.{AllByRecursion, flat_map, range_with_len}}
 use Rattle.mm_word.specs.declared.word.Word.TheVariants.{Ptr}
-use Rattle.mm_model.specs.Slot.{Slot, register, is_empty}
-use Rattle.mm_log.specs.Lines.{Line}
-use Rattle.mm_log.specs.Lines.Line.{Points, Enters, Issues}
-use Rattle.mm_log.specs.Changes.{state_changes, register_changes, register_now, load_changes, slot_changes, changes_between}
-use Rattle.mm_log.proofs.Runs.{flat_none}
-use Rattle.mm_model.proofs.Sames.{pair_self}
-use Rattle.mm_log.proofs.Sames.{state_self}
+use Rattle.mm_model.{specs.Slot.{Slot, register, is_empty}, proofs.Sames.pair_self}
+use Rattle.mm_log.specs.Lines.{Line, Line.{Points, Enters, Issues}}
+use Rattle.mm_log.specs.Changes.{state_changes, register_changes, register_now, load_changes, slot_changes}
+use Rattle.mm_log.{specs.Changes.changes_between, proofs.{Runs.flat_none, Sames.state_self}}
 
 module _ (f : ℕ → List Line) where
   pub none_from : (first count : ℕ) → ((k : ℕ) → first ≤ k → f k ≡ []) → flat_map f (range_with_len first count) ≡ []

@@ -1,26 +1,15 @@
 -- What was looked at before a cycle tells the slots that the cycle changes, but for `evt`.
-use Rattle.std.proofs.Common.{◌≡◌, ◌≢◌, ◌⊎◌, ℕ, ◌-◌, ◌<◌, ◌≤◌, inl, inr, Bool, true, false, nat_le, nat_lt, if◌then◌else◌, List, [], ◌++◌, Option, Some, None, refl, sym, ap, ◌∙◌, arith, append-nil}
-use Rattle.std.proofs.lemmas.Bool.{cases_eq, lt-ltb, le-ltb}
-use Rattle.std.proofs.lemmas.Bool.Decides.{nat_tests}
+use Rattle.std.proofs.Common.{◌≡◌, ◌≢◌, ◌⊎◌, ℕ, ◌-◌, ◌<◌, ◌≤◌, inl, inr, Bool, true, false, nat_le, nat_lt}
+use Rattle.std.proofs.Common.{if◌then◌else◌, List, [], ◌++◌, Option, Some, None, refl, sym, ap, ◌∙◌, arith, append-nil}
+use Rattle.std.proofs.lemmas.Bool.{cases_eq, lt-ltb, le-ltb, Decides.nat_tests}
 use Rattle.mm_isa.specs.declared.instr.Instr.{Instr}
-use Rattle.mm_model.specs.Memory.{Memory}
-use Rattle.mm_model.specs.Slot.{Slot}
-use Rattle.mm_model.specs.State.{Core, slot_at}
-use Rattle.mm_model.specs.Fits.{IsSlot, IsFormed}
-use Rattle.mm_model.specs.Ask.{ask}
-use Rattle.mm_model.specs.Ask.Ask.{NextEvent, Serve}
-use Rattle.mm_model.specs.Turn.{Turned, faulted, blocked, ended, idle, turn}
-use Rattle.mm_model.proofs.CoreRows.{slot_at-number, slot_has}
-use Rattle.mm_model.proofs.SlotSteps.{delivered_from}
-use Rattle.mm_log.specs.Lines.{Line}
-use Rattle.mm_log.specs.Changes.{changes_between, slots_changed}
-use Rattle.mm_log.specs.Looks.{own_of, or_port, comes_to}
+use Rattle.mm_model.specs.{Memory.Memory, Slot.Slot, State.{Core, slot_at}, Fits.{IsSlot, IsFormed}}
+use Rattle.mm_model.specs.{Ask.{ask, Ask.{NextEvent, Serve}}, Turn.{Turned, faulted, blocked, ended, idle, turn}}
+use Rattle.mm_model.proofs.{CoreRows.{slot_at-number, slot_has}, SlotSteps.delivered_from}
+use Rattle.mm_log.specs.{Lines.Line, Changes.{changes_between, slots_changed}, Looks.{own_of, or_port, comes_to}}
 use Rattle.mm_log.specs.Seen.{seen_of, in_order}
-use Rattle.mm_log.proofs.Rows.{OtherMove}
-use Rattle.mm_log.proofs.Numbers.{one_number, two_numbers, changes_none}
-use Rattle.mm_log.proofs.Ways.{Way, turn_way}
-use Rattle.mm_log.proofs.Frames.{NoOther, slots_still}
-use Rattle.mm_log.proofs.Seeing.{runs_own, port_own, same_own}
+use Rattle.mm_log.proofs.{Rows.OtherMove, Numbers.{one_number, two_numbers, changes_none}, Ways.{Way, turn_way}}
+use Rattle.mm_log.proofs.{Frames.{NoOther, slots_still}, Seeing.{runs_own, port_own, same_own}}
 
 order_same : (a b : ℕ) (first second : List Line) → a ≡ b → in_order a b first second ≡ first
 order_same a b first second e =

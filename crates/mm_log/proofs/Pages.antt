@@ -2,36 +2,23 @@
 use Rattle.std.proofs.Common.{◌≡◌, ◌≢◌, ℕ, zero, suc, ◌+◌, ◌*◌, ◌<◌, inl, inr, Bool, true, false, cond, not, nat_eq}
 use Rattle.std.proofs.Common.{if◌then◌else◌, List, [], ◌∷◌, ◌++◌, map, slice_get, slice_set, Option, Some, None}
 use Rattle.std.proofs.Common.{is_some, refl, sym, ap, ◌∙◌, subst, arith, T, eq-eqb, append-nil}
-use Rattle.std.specs.List.{AllByRecursion, filter, flat_map}
-use Rattle.std.specs.Ordering.{nat_cmp}
-use Rattle.std.specs.declared.cmp.Ordering.TheVariants.{Less, Equal, Greater}
-use Rattle.std.specs.declared.cmp.Ordering.{Ordering}
-use Rattle.std.specs.FinMap.{find, put, is_sorted, nat_cmp-IsAntisymmetric}
-use Rattle.std.specs.FinMap.Entries.{by_order, below_all, same_entries}
+use Rattle.std.proofs.lemmas.{Cmp.nat_cmp_total, Bool.{cases_eq, ne_eqb, Decides.nat_tests}}
+use Rattle.std.specs.{List.{AllByRecursion, filter, flat_map}, Ordering.nat_cmp}
+use Rattle.std.specs.declared.cmp.Ordering.{Ordering, TheVariants.{Less, Equal, Greater}}
+use Rattle.std.specs.FinMap.{find, put, is_sorted, nat_cmp-IsAntisymmetric, Entries.{by_order, below_all, same_entries}}
 use Rattle.std.specs.Cmp.{unsigned_tied}
-use Rattle.std.proofs.lemmas.Cmp.{nat_cmp_total}
-use Rattle.std.proofs.lemmas.Bool.{cases_eq, ne_eqb}
-use Rattle.std.proofs.lemmas.Bool.Decides.{nat_tests}
-use Rattle.mm_word.specs.declared.word.Cell.{Cell}
-use Rattle.mm_word.specs.Access.{AccessValue}
-use Rattle.mm_word.specs.declared.word.Pre.{Pre}
-use Rattle.mm_word.specs.Word.{IsWord}
-use Rattle.mm_model.specs.Memory.{Memory, page_at, page_of, place_of, is_mapped, cell_at, cell_in, put_in, put_cell, map_page, unmap_page, zero_page, ArePages}
-use Rattle.mm_model.specs.Ask.{Ask}
-use Rattle.mm_model.specs.Ask.Ask.{Reach, MapPage, UnmapPage}
-use Rattle.mm_model.specs.Spelling.{HoldsWords}
+use Rattle.mm_word.specs.{declared.word.{Cell.Cell, Pre.Pre}, Access.AccessValue, Word.IsWord}
+use Rattle.mm_model.specs.Memory.{Memory, page_at, page_of, place_of, is_mapped, cell_at, cell_in, put_in, put_cell}
+use Rattle.mm_model.specs.Memory.{map_page, unmap_page, zero_page, ArePages}
+use Rattle.mm_model.specs.{Ask.{Ask, Ask.{Reach, MapPage, UnmapPage}}, Spelling.HoldsWords}
 use Rattle.mm_model.specs.Report.{same_cell, changes_from}
 use Rattle.mm_model.proofs.CoreRows.{each_map, each_both}
 use Rattle.mm_model.proofs.Memories.{cell_at-aligned, aligned, page_of_cell, page_at-put_same, page_at-put_other}
 use Rattle.mm_model.proofs.Memories.{page_at-map_other, page_at-unmap_same, page_at-unmap_other, put_frames, put_pages}
-use Rattle.mm_model.proofs.Memories.{cell_at-put_same}
-use Rattle.mm_model.proofs.EffectWords.{page_words}
-use Rattle.mm_log.specs.Lines.{Line}
-use Rattle.mm_log.specs.Lines.Line.{Maps, Removes, Sets}
+use Rattle.mm_model.proofs.{Memories.cell_at-put_same, EffectWords.page_words, Sames.{cell_self, cells_same}}
+use Rattle.mm_log.specs.Lines.{Line, Line.{Maps, Removes, Sets}}
 use Rattle.mm_log.specs.Changes.{pages_mapped, pages_removed, cells_changed, cells_changed_in}
-use Rattle.mm_log.proofs.Runs.{flat_none, run_on}
-use Rattle.mm_log.proofs.Rows.{MemoryMove}
-use Rattle.mm_model.proofs.Sames.{cell_self, cells_same}
+use Rattle.mm_log.proofs.{Runs.{flat_none, run_on}, Rows.MemoryMove}
 
 -- 1. Pages that rise.
 

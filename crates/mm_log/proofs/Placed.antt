@@ -1,13 +1,9 @@
 -- Where slots stand after a change.
 use Rattle.std.proofs.Common.{◌≡◌, ◌≢◌, ℕ, inl, inr, List, Option, Some, None, refl, sym, ap, ◌∙◌}
 use Rattle.std.proofs.lemmas.Bool.{cases_eq}
-use Rattle.mm_model.specs.declared.event.Event.{Event}
-use Rattle.mm_model.specs.Slot.{Slot}
-use Rattle.mm_model.specs.State.{Core, slot_at, put_slot, put_output}
-use Rattle.mm_model.specs.Effect.{Change}
-use Rattle.mm_model.specs.Turn.{slot_after, with_other, with_queue, with_out, core_after}
-use Rattle.mm_model.proofs.CoreRows.{slot_at-put_same, slot_at-put_other, slot_at-put_queue}
-use Rattle.mm_model.proofs.TurnKeeps.{changed_from}
+use Rattle.mm_model.specs.{declared.event.Event.Event, Slot.Slot, State.{Core, slot_at, put_slot, put_output}}
+use Rattle.mm_model.specs.{Effect.Change, Turn.{slot_after, with_other, with_queue, with_out, core_after}}
+use Rattle.mm_model.proofs.{CoreRows.{slot_at-put_same, slot_at-put_other, slot_at-put_queue}, TurnKeeps.changed_from}
 
 pub out_same : (mid : Core) (g : ℕ) (o : Option ℕ) (k : ℕ) → slot_at (with_out mid g o) k ≡ slot_at mid k
 unfolding slot_at put_output

@@ -3,34 +3,19 @@ use Rattle.std.proofs.Common.{◌≡◌, ◌≢◌, ℕ, zero, suc, ◌+◌, ◌
 use Rattle.std.proofs.Common.{if◌then◌else◌, List, [], ◌∷◌, ◌++◌, length, drop, map, slice_set, slice_index_or, refl}
 use Rattle.std.proofs.Common.{sym, ap, ◌∙◌, subst, arith, eq-eqb, append-nil, append_assoc, length-set, get_or-set_same}
 use Rattle.std.proofs.Common.{get_or-set_other}
+use Rattle.std.proofs.lemmas.{Bool.{cases_eq, lt-ltb, and_parts, Decides.nat_tests}, List.ext_get_or}
+use Rattle.std.proofs.Math.{Seq.{drop-length, drop-append_seam}, ListN.drop_of_length-le}
 use Rattle.std.specs.List.{AllByRecursion, flat_map, range_with_len}
-use Rattle.std.proofs.lemmas.Bool.{cases_eq, lt-ltb, and_parts}
-use Rattle.std.proofs.lemmas.Bool.Decides.{nat_tests}
-use Rattle.std.proofs.lemmas.List.{ext_get_or}
-use Rattle.std.proofs.Math.Seq.{drop-length, drop-append_seam}
-use Rattle.std.proofs.Math.ListN.{drop_of_length-le}
-use Rattle.mm_word.specs.declared.word.Word.{Word}
-use Rattle.mm_word.specs.declared.word.Word.TheVariants.{Int, Ptr}
-use Rattle.mm_word.specs.Word.{IsWord}
-use Rattle.mm_word.specs.Pointer.{Pointer}
-use Rattle.mm_model.specs.declared.slot.SlotState.{SlotState}
-use Rattle.mm_model.specs.declared.slot.Pending.{Pending}
-use Rattle.mm_model.specs.Flags.{one_if}
-use Rattle.mm_model.specs.Slot.{Slot, register, is_empty}
-use Rattle.mm_model.specs.Effect.{same_word}
-use Rattle.mm_model.specs.Report.{same_bit}
+use Rattle.mm_word.specs.{declared.word.Word.{Word, TheVariants.{Int, Ptr}}, Word.IsWord, Pointer.Pointer}
+use Rattle.mm_model.specs.{declared.slot.{SlotState.SlotState, Pending.Pending}, Flags.one_if}
+use Rattle.mm_model.specs.{Slot.{Slot, register, is_empty}, Effect.same_word, Report.same_bit}
 use Rattle.mm_model.specs.Fits.{loads_for, IsSlot, LoadsMatch, SlotHoldsWords}
-use Rattle.mm_model.proofs.CoreRows.{each_get}
-use Rattle.mm_model.proofs.SlotSteps.{empty_within}
-use Rattle.mm_log.specs.Lines.{Line}
-use Rattle.mm_log.specs.Lines.Line.{Points, Enters, Holds, Empties, Issues}
-use Rattle.mm_log.specs.Changes.{same_state, pointer_changes, state_changes, register_now, register_changes, load_changes, slot_changes}
-use Rattle.mm_log.specs.Replay.{without_load, holding, emptied}
+use Rattle.mm_model.proofs.{CoreRows.each_get, SlotSteps.empty_within, Sames.{words_same, pointers_same, bits_same}}
+use Rattle.mm_log.specs.Lines.{Line, Line.{Points, Enters, Holds, Empties, Issues}}
+use Rattle.mm_log.specs.Changes.{same_state, pointer_changes, state_changes, register_now, register_changes}
+use Rattle.mm_log.specs.{Changes.{load_changes, slot_changes}, Replay.{without_load, holding, emptied}}
 use Rattle.mm_log.proofs.Runs.{run_on, run_append, all_append, all_flat, all_map, all_unless}
-use Rattle.mm_log.proofs.Rows.{LoadsMove, SlotMove}
-use Rattle.mm_model.proofs.Sames.{words_same, pointers_same, bits_same}
-use Rattle.mm_log.proofs.Sames.{states_same}
-use Rattle.mm_log.proofs.Carried.{slot_line}
+use Rattle.mm_log.proofs.{Rows.{LoadsMove, SlotMove}, Sames.states_same, Carried.slot_line}
 
 -- 1. Which lines these are.
 

@@ -1,7 +1,7 @@
 -- Lines that are carried out one after the other on a part of a state.
-use Rattle.std.proofs.Common.{◌≡◌, ◌≢◌, ℕ, zero, suc, ◌+◌, ◌<◌, ◌≤◌, inl, inr, Bool, true, false, if◌then◌else◌, List, [], ◌∷◌, ◌++◌, map, refl, ap, ◌∙◌, arith}
+use Rattle.std.proofs.Common.{◌≡◌, ◌≢◌, ℕ, zero, suc, ◌+◌, ◌<◌, ◌≤◌, inl, inr, Bool, true, false, if◌then◌else◌, List}
+use Rattle.std.proofs.{Common.{[], ◌∷◌, ◌++◌, map, refl, ap, ◌∙◌, arith}, lemmas.Bool.cases_eq}
 use Rattle.std.specs.List.{AllByRecursion, flat_map, range_with_len}
-use Rattle.std.proofs.lemmas.Bool.{cases_eq}
 use Rattle.mm_log.specs.Lines.{Line}
 
 -- 1. Facts of each line of a list.

@@ -1,9 +1,7 @@
 -- States of slots that are tested to be the same are the same.
 use Rattle.std.proofs.Common.{◌≡◌, true, Some, None, refl, ap, eq-eqb}
-use Rattle.mm_word.specs.Cause.{number_of}
-use Rattle.mm_word.proofs.Causes.{causes_same}
-use Rattle.mm_model.specs.declared.slot.SlotState.{SlotState}
-use Rattle.mm_model.specs.declared.slot.SlotState.TheVariants.{Running, Waiting, Taken, Halted}
+use Rattle.mm_word.{specs.Cause.number_of, proofs.Causes.causes_same}
+use Rattle.mm_model.specs.declared.slot.SlotState.{SlotState, TheVariants.{Running, Waiting, Taken, Halted}}
 use Rattle.mm_log.specs.Changes.{same_state}
 
 pub states_same : (a b : SlotState) → same_state a b ≡ true → a ≡ b

@@ -1,32 +1,23 @@
 -- What was looked at before a cycle tells all that the cycle changes: bytes, events and the memory.
 use Rattle.std.proofs.Common.{◌≡◌, ◌≢◌, ◌⊎◌, ℕ, ◌-◌, ◌<◌, inl, inr, Bool, true, false, nat_le, nat_lt, if◌then◌else◌}
 use Rattle.std.proofs.Common.{List, [], ◌∷◌, ◌++◌, length, drop, map, Option, Some, None, is_some, refl, sym, ap, ◌∙◌}
-use Rattle.std.proofs.Common.{subst, slice_index_or, get_or-set_other}
-use Rattle.std.proofs.Math.Seq.{drop-length}
-use Rattle.mm_word.specs.declared.word.Cell.{Cell}
-use Rattle.mm_word.specs.Access.{AccessValue}
+use Rattle.std.proofs.{Common.{subst, slice_index_or, get_or-set_other}, Math.Seq.drop-length}
+use Rattle.mm_word.specs.{declared.word.Cell.Cell, Access.AccessValue}
 use Rattle.mm_isa.specs.declared.instr.Instr.{Instr}
-use Rattle.mm_model.specs.declared.slot.SlotState.TheVariants.{Running, Halted}
-use Rattle.mm_model.specs.declared.event.Event.{Event}
-use Rattle.mm_model.specs.Memory.{Memory, cell_at, is_mapped, ArePages}
-use Rattle.mm_model.specs.Slot.{Slot}
+use Rattle.mm_model.specs.declared.{slot.SlotState.TheVariants.{Running, Halted}, event.Event.Event}
+use Rattle.mm_model.specs.{Memory.{Memory, cell_at, is_mapped, ArePages}, Slot.Slot}
 use Rattle.mm_model.specs.State.{Core, slot_at, put_slot, put_queue, output_of, put_output}
-use Rattle.mm_model.specs.Ask.{Ask, ask}
-use Rattle.mm_model.specs.Ask.Ask.{Reach, MapPage, UnmapPage}
-use Rattle.mm_model.specs.Turn.{Turned, slot_after, with_other, with_queue, with_out, core_after, stood, is_sync, event_of, core_faulted, faulted, blocked, ended, idle, turn}
+use Rattle.mm_model.specs.Ask.{Ask, ask, Ask.{Reach, MapPage, UnmapPage}}
+use Rattle.mm_model.specs.Turn.{Turned, slot_after, with_other, with_queue, with_out, core_after, stood, is_sync}
+use Rattle.mm_model.specs.Turn.{event_of, core_faulted, faulted, blocked, ended, idle, turn}
 use Rattle.mm_model.specs.Outcomes.{Runs}
-use Rattle.mm_model.proofs.Memories.{cell_at-put_same, page_at-map_same, page_at-unmap_same}
-use Rattle.mm_log.specs.declared.before.There.{There}
-use Rattle.mm_log.specs.declared.before.There.TheVariants as there
-use Rattle.mm_log.specs.Lines.Line.{Puts, Maps, Sets}
+use Rattle.mm_model.proofs.{Memories.{cell_at-put_same, page_at-map_same, page_at-unmap_same}, Sames.cell_self}
+use Rattle.mm_log.specs.{declared.before.There.There, Lines.Line.{Puts, Maps, Sets}}
 use Rattle.mm_log.specs.Changes.{each_number, put_out_by, pages_mapped, pages_removed, cells_changed}
-use Rattle.mm_log.specs.Looks.{own_of, or_port, comes_to, address_told, value_told, there_at, there_for, cell_there, slot_there}
-use Rattle.mm_log.specs.Seen.{page_told, page_seen, cell_now, cell_seen}
-use Rattle.mm_log.proofs.Rows.{MemoryMove}
-use Rattle.mm_model.proofs.Sames.{cell_self}
-use Rattle.mm_log.proofs.Pages.{MemoryTold, memory_told}
-use Rattle.mm_log.proofs.Numbers.{one_number}
-use Rattle.mm_log.proofs.Ways.{Way, turn_way}
+use Rattle.mm_log.specs.Looks.{own_of, or_port, comes_to, address_told, value_told, there_at, there_for, cell_there}
+use Rattle.mm_log.specs.{Looks.slot_there, Seen.{page_told, page_seen, cell_now, cell_seen}}
+use Rattle.mm_log.proofs.{Rows.MemoryMove, Pages.{MemoryTold, memory_told}, Numbers.one_number, Ways.{Way, turn_way}}
+use Rattle.mm_log.specs.declared.before.There.TheVariants as there
 
 -- 1. The item's own slot.
 

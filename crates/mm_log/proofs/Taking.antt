@@ -2,55 +2,33 @@
 use Rattle.std.proofs.Common.{◌≡◌, ◌≢◌, ℕ, ◌+◌, ◌*◌, ◌/◌, ◌%◌, ◌<◌, ◌^◌, inl, inr, Bool, true, false, nat_lt}
 use Rattle.std.proofs.Common.{if◌then◌else◌, List, [], ◌∷◌, ◌++◌, length, map, Option, Some, None, Result, Ok, Err, pos}
 use Rattle.std.proofs.Common.{refl, sym, ap, ◌∙◌, subst, arith, slice_set, slice_index_or, get_or-set_same}
-use Rattle.std.proofs.Common.{get_or-set_other}
+use Rattle.std.proofs.{Common.get_or-set_other, Math.Seq.drop-length}
 use Rattle.std.specs.List.{AllByRecursion, flat_map, range_with_len}
-use Rattle.std.proofs.Math.Seq.{drop-length}
-use Rattle.mm_word.specs.declared.cause.Cause.{Cause}
-use Rattle.mm_word.specs.declared.cause.Cause.TheVariants as cause
-use Rattle.mm_word.specs.declared.perm.Kind.TheVariants.{Store}
-use Rattle.mm_word.specs.declared.word.Pre.{Pre}
-use Rattle.mm_word.specs.declared.word.Word.{Word}
-use Rattle.mm_word.specs.declared.word.Word.TheVariants.{Int, Ptr}
-use Rattle.mm_word.specs.declared.word.Cell.{Cell}
-use Rattle.mm_word.specs.Access.{AccessValue, check_result}
-use Rattle.mm_word.specs.Cause.{number_of}
-use Rattle.mm_word.specs.Word.{word_bits}
-use Rattle.mm_word.specs.declared.perm.Kind.TheVariants.{Fetch}
-use Rattle.mm_isa.specs.declared.instr.Instr.{Instr}
-use Rattle.mm_isa.specs.declared.instr.Instr.TheVariants.{Out, Ld, St, Evt, Resume, Rreg, Wreg, Map, Unmap}
-use Rattle.mm_isa.specs.Table.{IsInstr}
-use Rattle.mm_isa.proofs.Spelling.{instr_of-spelled}
-use Rattle.mm_model.specs.declared.slot.SlotState.{SlotState}
-use Rattle.mm_model.specs.declared.slot.SlotState.TheVariants.{Running, Waiting, Taken, Halted}
-use Rattle.mm_model.specs.declared.event.Event.{Event}
-use Rattle.mm_model.specs.declared.step.Tick.{Tick}
-use Rattle.mm_model.specs.declared.step.Tick.TheVariants.{Blocked, Did, Faulted}
-use Rattle.mm_model.specs.Memory.{Memory, cell_at}
-use Rattle.mm_model.specs.Slot.{Slot, register, is_empty}
-use Rattle.mm_model.specs.State.{Core, slot_at, queue_at}
+use Rattle.mm_word.specs.declared.{cause.Cause.Cause, perm.Kind.TheVariants.{Store, Fetch}}
+use Rattle.mm_word.specs.declared.word.{Pre.Pre, Word.{Word, TheVariants.{Int, Ptr}}, Cell.Cell}
+use Rattle.mm_word.specs.{Access.{AccessValue, check_result}, Cause.number_of, Word.word_bits}
+use Rattle.mm_isa.specs.declared.instr.Instr.{Instr, TheVariants.{Out, Ld, St, Evt, Resume, Rreg, Wreg, Map, Unmap}}
+use Rattle.mm_isa.{specs.Table.IsInstr, proofs.Spelling.instr_of-spelled}
+use Rattle.mm_model.specs.declared.slot.SlotState.{SlotState, TheVariants.{Running, Waiting, Taken, Halted}}
+use Rattle.mm_model.specs.declared.{event.Event.Event, step.Tick.{Tick, TheVariants.{Blocked, Did, Faulted}}}
+use Rattle.mm_model.specs.{Memory.{Memory, cell_at}, Slot.{Slot, register, is_empty}, State.{Core, slot_at, queue_at}}
 use Rattle.mm_model.specs.Fits.{is_waiting, IsSlot, IsFormed, Matches}
 use Rattle.mm_model.specs.Ask.{Ask, ask, is_privileged, load_kind, reaching}
 use Rattle.mm_model.specs.Ask.Ask.{Refuse, MapPage, UnmapPage, NextEvent, Serve}
-use Rattle.mm_model.specs.Effect.{Change, Effect, effect, plain, takes, delivered}
-use Rattle.mm_model.specs.Effect.Effect.{Deliver, Do}
-use Rattle.mm_model.specs.Turn.{Turned, instr_in, reply, first_event, event_reply, slot_after, core_after, stood, is_sync, event_of, tick_faulted, faulted, blocked, ended, idle, turn}
-use Rattle.mm_model.proofs.CoreRows.{slot_at-number, slot_at-put_other, slot_has}
-use Rattle.mm_model.proofs.CoreSteps.{queued_waits}
-use Rattle.mm_model.proofs.SlotSteps.{delivered_from}
-use Rattle.mm_model.proofs.TurnKeeps.{changed_from}
+use Rattle.mm_model.specs.Effect.{Change, Effect, effect, plain, takes, delivered, Effect.{Deliver, Do}}
+use Rattle.mm_model.specs.Turn.{Turned, instr_in, reply, first_event, event_reply, slot_after, core_after, stood}
+use Rattle.mm_model.specs.Turn.{is_sync, event_of, tick_faulted, faulted, blocked, ended, idle, turn}
+use Rattle.mm_model.proofs.{CoreRows.{slot_at-number, slot_at-put_other, slot_has}, CoreSteps.queued_waits}
+use Rattle.mm_model.proofs.{SlotSteps.delivered_from, TurnKeeps.changed_from, Sames.pair_self}
 use Rattle.mm_log.specs.Lines.Line.{Points, Enters, Issues}
-use Rattle.mm_log.specs.Changes.{same_state, state_changes, register_changes, register_now, load_changes, slot_changes, changes_between, slots_changed}
+use Rattle.mm_log.specs.Changes.{same_state, state_changes, register_changes, register_now, load_changes, slot_changes}
+use Rattle.mm_log.specs.Changes.{changes_between, slots_changed}
 use Rattle.mm_log.specs.Looks.{own_of, comes_to, found_by, in_cell, address_told, value_told}
 use Rattle.mm_log.specs.Seen.{slot_in, read_by, read_in, with_taken}
-use Rattle.mm_log.proofs.Runs.{flat_none}
-use Rattle.mm_model.proofs.Sames.{pair_self}
-use Rattle.mm_log.proofs.Rows.{OtherMove}
-use Rattle.mm_log.proofs.Numbers.{each_none}
-use Rattle.mm_log.proofs.Ways.{Way, turn_way}
-use Rattle.mm_log.proofs.Frames.{NoOther, fault_still}
-use Rattle.mm_log.proofs.Seeing.{runs_own, port_own, same_own}
-use Rattle.mm_log.proofs.Placed.{own_after, other_after}
-use Rattle.mm_log.proofs.OneSlot.{own_at, alone_by, beside}
+use Rattle.mm_log.proofs.{Runs.flat_none, Rows.OtherMove, Numbers.each_none, Ways.{Way, turn_way}}
+use Rattle.mm_log.proofs.{Frames.{NoOther, fault_still}, Seeing.{runs_own, port_own, same_own}}
+use Rattle.mm_log.proofs.{Placed.{own_after, other_after}, OneSlot.{own_at, alone_by, beside}}
+use Rattle.mm_word.specs.declared.cause.Cause.TheVariants as cause
 
 -- 1. Which instruction reads events.
 

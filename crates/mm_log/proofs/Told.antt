@@ -1,17 +1,13 @@
 -- The texts of lines, part by part.
-use Rattle.std.proofs.Common.{◌≡◌, ℕ, Bool, ◌&&◌, not, nat_lt, if◌then◌else◌, List, [], ◌∷◌, ◌++◌, length, drop, refl, sym, ap, ◌∙◌}
+use Rattle.std.proofs.Common.{◌≡◌, ℕ, Bool, ◌&&◌, not, nat_lt, if◌then◌else◌, List, [], ◌∷◌, ◌++◌, length, drop, refl}
+use Rattle.std.proofs.{Common.{sym, ap, ◌∙◌}, lemmas.{Grind.flat_map-append, List.Folds.flat_map-map}}
 use Rattle.std.specs.List.{flat_map, range_with_len}
-use Rattle.std.proofs.lemmas.Grind.{flat_map-append}
-use Rattle.std.proofs.lemmas.List.Folds.{flat_map-map}
-use Rattle.mm_model.specs.Slot.{Slot}
-use Rattle.mm_log.specs.Lines.{Line, line_text}
-use Rattle.mm_model.specs.declared.step.Tick.{Tick}
-use Rattle.mm_model.specs.State.{State, output_of}
-use Rattle.mm_log.specs.declared.before.Before.{Before}
-use Rattle.mm_log.specs.Lines.Line.{Issues, Puts, Maps, Removes}
+use Rattle.mm_model.specs.{Slot.Slot, declared.step.Tick.Tick, State.{State, output_of}}
+use Rattle.mm_log.specs.{Lines.{Line, line_text, Line.{Issues, Puts, Maps, Removes}}, declared.before.Before.Before}
 use Rattle.mm_log.specs.Changes.{pointer_changes, state_changes, register_changes, load_changes, slot_changes}
 use Rattle.mm_log.specs.Log.{text_of}
-use Rattle.mm_log.specs.Seen.{in_order, slots_seen, queued_seen, read_seen, out_seen, page_told, page_seen, cell_seen, seen}
+use Rattle.mm_log.specs.Seen.{in_order, slots_seen, queued_seen, read_seen, out_seen, page_told, page_seen, cell_seen}
+use Rattle.mm_log.specs.Seen.{seen}
 
 pub text_append : (xs ys : List Line) → text_of (xs ++ ys) ≡ text_of xs ++ text_of ys
 text_append xs ys = flat_map-append line_text xs ys

@@ -1,14 +1,12 @@
 -- The text of a run, one cycle at a time.
-use Rattle.std.proofs.Common.{◌≡◌, ℕ, Bool, true, false, List, [], ◌∷◌, ◌++◌, Option, refl, sym, ap, ◌∙◌, arith, append_assoc, append-nil}
+use Rattle.std.proofs.Common.{◌≡◌, ℕ, Bool, true, false, List, [], ◌∷◌, ◌++◌, Option, refl, sym, ap, ◌∙◌, arith}
+use Rattle.std.proofs.Common.{append_assoc, append-nil}
 use Rattle.mm_machine.proofs.Keeping.{run_more}
 use Rattle.mm_io.proofs.Known.{append_known-[]}
 use Rattle.mm_text.specs.Appends.{Buffered, Appends, Became}
-use Rattle.mm_model.specs.declared.step.Step.{Step}
-use Rattle.mm_model.specs.State.{State, slot_at}
-use Rattle.mm_model.specs.Run.{turn_of, after, run}
+use Rattle.mm_model.specs.{declared.step.Step.Step, State.{State, slot_at}, Run.{turn_of, after, run}}
 use Rattle.mm_model.specs.Trace.{trace, traced, step_line, turns_of}
-use Rattle.mm_log.specs.Log.{cycle_log, log, log_text}
-use Rattle.mm_log.specs.Telling.{text_of_run, traced_cycle, logged_cycle}
+use Rattle.mm_log.specs.{Log.{cycle_log, log, log_text}, Telling.{text_of_run, traced_cycle, logged_cycle}}
 use Rattle.mm_log.proofs.Told.{text_append}
 
 -- 1. One cycle more, where the state is that of the run so far.

@@ -1,37 +1,25 @@
 -- What a turn moves of a core and of a memory.
-use Rattle.std.proofs.Common.{◌≡◌, ◌⊎◌, ℕ, zero, suc, ◌+◌, inl, inr, Bool, true, false, if◌then◌else◌, List, []}
-use Rattle.std.proofs.Common.{◌∷◌, ◌++◌, Option, Some, None, refl, sym, ap, ◌∙◌, subst, slice_index_or, slice_set}
-use Rattle.std.specs.Prelude.{IfSome}
-use Rattle.std.proofs.lemmas.Bool.{cases_eq}
-use Rattle.mm_word.specs.declared.cause.Cause.{Cause}
-use Rattle.mm_word.specs.declared.word.Word.{Word}
-use Rattle.mm_word.specs.declared.word.Word.TheVariants.{Int}
-use Rattle.mm_word.specs.Access.{AccessValue}
+use Rattle.std.proofs.Common.{◌≡◌, ◌⊎◌, ℕ, zero, suc, ◌+◌, inl, inr, Bool, true, false, if◌then◌else◌, List, [], ◌∷◌}
+use Rattle.std.proofs.Common.{◌++◌, Option, Some, None, refl, sym, ap, ◌∙◌, subst, slice_index_or, slice_set}
+use Rattle.std.{proofs.lemmas.Bool.cases_eq, specs.Prelude.IfSome}
+use Rattle.mm_word.specs.{declared.{cause.Cause.Cause, word.Word.{Word, TheVariants.Int}}, Access.AccessValue}
 use Rattle.mm_isa.specs.declared.instr.Instr.{Instr}
-use Rattle.mm_model.specs.declared.slot.SlotState.{SlotState}
-use Rattle.mm_model.specs.declared.slot.SlotState.TheVariants.{Running, Waiting, Halted}
-use Rattle.mm_model.specs.declared.slot.Pending.{Pending}
-use Rattle.mm_model.specs.declared.event.Event.{Event}
-use Rattle.mm_model.specs.declared.step.Tick.TheVariants.{Idle, Blocked, Faulted}
-use Rattle.mm_model.specs.Memory.{Memory}
-use Rattle.mm_model.specs.Uses.{Use}
-use Rattle.mm_model.specs.Slot.{Slot}
+use Rattle.mm_model.specs.declared.slot.{SlotState.{SlotState, TheVariants.{Running, Waiting, Halted}}, Pending.Pending}
+use Rattle.mm_model.specs.declared.{event.Event.Event, step.Tick.TheVariants.{Idle, Blocked, Faulted}}
+use Rattle.mm_model.specs.{Memory.Memory, Uses.Use, Slot.Slot}
 use Rattle.mm_model.specs.State.{Core, slot_at, queue_at, put_slot, put_queue, output_of, put_output}
-use Rattle.mm_model.specs.Spelling.{IsOther}
-use Rattle.mm_model.specs.Fits.{slots_of, IsFormed}
-use Rattle.mm_model.specs.Operands.{addr_operand, value_operand}
-use Rattle.mm_model.specs.Ask.{Ask, ask}
-use Rattle.mm_model.specs.Ask.Ask.{Nothing}
-use Rattle.mm_model.specs.Effect.{Change, Effect, effect, delivered}
-use Rattle.mm_model.specs.Effect.Effect.{Fault, Block, Deliver, Do}
+use Rattle.mm_model.specs.{Spelling.IsOther, Fits.{slots_of, IsFormed}, Operands.{addr_operand, value_operand}}
+use Rattle.mm_model.specs.Ask.{Ask, ask, Ask.Nothing}
+use Rattle.mm_model.specs.Effect.{Change, Effect, effect, delivered, Effect.{Fault, Block, Deliver, Do}}
 use Rattle.mm_model.specs.Turn.{Turned, reply, put_all, state_after, with_issue, slot_after, with_other, with_queue}
 use Rattle.mm_model.specs.Turn.{with_out, core_after, stood, is_sync, event_of, core_faulted, tick_faulted, faulted}
 use Rattle.mm_model.specs.Turn.{touch_of, asked_use, blocked, ended, executed, idle, arrives, turn}
-use Rattle.mm_model.proofs.CoreRows.{slot_at-put_same, slot_at-put_other, queue_at-put_slot, slot_at-put_queue, queue_at-put_same, queue_at-put_other, slot_has, other_at}
-use Rattle.mm_model.proofs.CoreSteps.{Fitting}
-use Rattle.mm_model.proofs.TurnShapes.{fetch_uses, fetch_use, started_one, turn_by}
+use Rattle.mm_model.proofs.CoreRows.{slot_at-put_same, slot_at-put_other, queue_at-put_slot, slot_at-put_queue}
+use Rattle.mm_model.proofs.CoreRows.{queue_at-put_same, queue_at-put_other, slot_has, other_at}
+use Rattle.mm_model.proofs.{CoreSteps.Fitting, TurnShapes.{fetch_uses, fetch_use, started_one, turn_by}}
 use Rattle.mm_log.specs.Replay.{is_turn}
-use Rattle.mm_log.proofs.Rows.{LoadsMove, SlotMove, MemoryMove, OtherMove, OtherMoves, QueueMoves, ChangeMoves, EffectMoves, delivered_move, delivered_turns, effect_moves}
+use Rattle.mm_log.proofs.Rows.{LoadsMove, SlotMove, MemoryMove, OtherMove, OtherMoves, QueueMoves, ChangeMoves}
+use Rattle.mm_log.proofs.Rows.{EffectMoves, delivered_move, delivered_turns, effect_moves}
 
 -- 1. Slots.
 

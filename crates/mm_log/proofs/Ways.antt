@@ -1,27 +1,17 @@
 -- The ways that a turn can go, each with what it comes to.
-use Rattle.std.proofs.Common.{arith, ◌∙◌, ◌≡◌, ◌⊎◌, ℕ, ◌-◌, inl, inr, Bool, true, false, ◌&&◌, nat_le, if◌then◌else◌, pos, List, [], ◌∷◌, Option, Some, None, Result, Ok, Err, refl, sym, ap}
-use Rattle.mm_word.specs.declared.perm.Kind.TheVariants.{Fetch}
-use Rattle.mm_word.specs.declared.cause.Cause.{Cause}
-use Rattle.mm_word.specs.declared.cause.Cause.TheVariants.{Bounds, NoPage, Illegal}
-use Rattle.mm_word.specs.declared.word.Word.TheVariants.{Int, Ptr}
-use Rattle.mm_word.specs.declared.word.Cell.{Cell}
-use Rattle.mm_word.specs.Access.{AccessValue, check_result}
-use Rattle.mm_isa.specs.declared.instr.Instr.{Instr}
-use Rattle.mm_model.specs.declared.slot.Pending.{Pending}
-use Rattle.mm_model.specs.Memory.{Memory, cell_at}
-use Rattle.mm_model.specs.Uses.{Use, Accessed}
-use Rattle.mm_model.specs.Slot.{Slot}
-use Rattle.mm_model.specs.State.{Core, slot_at, put_slot}
-use Rattle.mm_model.specs.Operands.{lacks}
-use Rattle.mm_model.specs.Ask.{ask}
-use Rattle.mm_model.specs.Effect.{Change, Effect, effect, delivered}
-use Rattle.mm_model.specs.Effect.Effect.{Fault, Block, Deliver, Do}
-use Rattle.mm_model.specs.Turn.{Turned, reply, faulted, touch_of, asked_use, blocked, ended, executed, issued, decoded}
-use Rattle.mm_model.specs.Turn.{instr_in, fetched, aimed, started, idle, arrives}
-use Rattle.mm_model.specs.Turn.{turn}
-use Rattle.mm_model.specs.Outcomes.{Runs}
-use Rattle.mm_model.proofs.TurnShapes.{turn_by}
+use Rattle.std.proofs.Common.{arith, ◌∙◌, ◌≡◌, ◌⊎◌, ℕ, ◌-◌, inl, inr, Bool, true, false, ◌&&◌, nat_le, if◌then◌else◌}
+use Rattle.std.proofs.Common.{pos, List, [], ◌∷◌, Option, Some, None, Result, Ok, Err, refl, sym, ap}
 use Rattle.std.proofs.lemmas.Bool.{le-leb}
+use Rattle.mm_word.specs.declared.perm.Kind.TheVariants.{Fetch}
+use Rattle.mm_word.specs.declared.cause.Cause.{Cause, TheVariants.{Bounds, NoPage, Illegal}}
+use Rattle.mm_word.specs.{declared.word.{Word.TheVariants.{Int, Ptr}, Cell.Cell}, Access.{AccessValue, check_result}}
+use Rattle.mm_isa.specs.declared.instr.Instr.{Instr}
+use Rattle.mm_model.specs.{declared.slot.Pending.Pending, Memory.{Memory, cell_at}, Uses.{Use, Accessed}, Slot.Slot}
+use Rattle.mm_model.specs.{State.{Core, slot_at, put_slot}, Operands.lacks, Ask.ask}
+use Rattle.mm_model.specs.Effect.{Change, Effect, effect, delivered, Effect.{Fault, Block, Deliver, Do}}
+use Rattle.mm_model.specs.Turn.{Turned, reply, faulted, touch_of, asked_use, blocked, ended, executed, issued, decoded}
+use Rattle.mm_model.specs.{Turn.{instr_in, fetched, aimed, started, idle, arrives, turn}, Outcomes.Runs}
+use Rattle.mm_model.proofs.TurnShapes.{turn_by}
 use Rattle.mm_log.specs.Looks.{in_cell, found_by, comes_to, address_told, value_told}
 use Rattle.mm_log.proofs.Rows.{OtherMove, ChangeMoves, EffectMoves, effect_moves}
 

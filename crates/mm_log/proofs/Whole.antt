@@ -1,48 +1,30 @@
 -- What was looked at before a cycle tells all that the cycle changes.
-use Rattle.std.proofs.Common.{◌≡◌, ◌≢◌, ℕ, ◌<◌, Bool, true, false, nat_lt, if◌then◌else◌, List, [], ◌++◌, map, Option, Some, None, refl, sym, ap, ◌∙◌, arith, append_assoc}
-use Rattle.std.proofs.Math.Logic.{∥∥₁_elim}
-use Rattle.std.proofs.Props.{props}
-use Rattle.std.proofs.Math.Seq.{drop-length}
-use Rattle.std.proofs.lemmas.Bool.Decides.{nat_tests}
-use Rattle.mm_word.specs.declared.word.Pre.{Pre}
-use Rattle.mm_word.specs.declared.word.Cell.{Cell}
-use Rattle.mm_word.specs.Access.{AccessValue}
+use Rattle.std.proofs.Common.{◌≡◌, ◌≢◌, ℕ, ◌<◌, Bool, true, false, nat_lt, if◌then◌else◌, List, [], ◌++◌, map, Option}
+use Rattle.std.proofs.Common.{Some, None, refl, sym, ap, ◌∙◌, arith, append_assoc}
+use Rattle.std.proofs.{Math.{Logic.∥∥₁_elim, Seq.drop-length}, Props.props, lemmas.Bool.Decides.nat_tests}
+use Rattle.mm_word.specs.{declared.word.{Pre.Pre, Cell.Cell}, Access.AccessValue}
 use Rattle.mm_isa.specs.declared.instr.Instr.{Instr}
-use Rattle.mm_model.specs.declared.step.Step.{Step}
-use Rattle.mm_model.specs.declared.step.Tick.{Tick}
-use Rattle.mm_model.specs.declared.step.Tick.TheVariants.{Idle, Blocked, Did, Faulted, Delivered}
-use Rattle.mm_model.specs.Memory.{Memory, cell_at}
-use Rattle.mm_model.specs.Slot.{Slot}
-use Rattle.mm_model.specs.State.{Core, State, slot_at, output_of}
+use Rattle.mm_model.specs.declared.step.{Step.Step, Tick.{Tick, TheVariants.{Idle, Blocked, Did, Faulted, Delivered}}}
+use Rattle.mm_model.specs.{Memory.{Memory, cell_at}, Slot.Slot, State.{Core, State, slot_at, output_of}}
 use Rattle.mm_model.specs.Fits.{IsSlot, IsFormed, Matches, IsOfVersion}
-use Rattle.mm_model.specs.Ask.{Ask, ask}
-use Rattle.mm_model.specs.Ask.Ask.{Nothing, Refuse, Reach, MapPage, UnmapPage, NextEvent, Room, Serve}
-use Rattle.mm_model.specs.Turn.{Turned, turn, idle}
-use Rattle.mm_model.specs.Trace.{turns_of, step_line}
-use Rattle.mm_model.specs.Run.{turn_of, after}
-use Rattle.mm_model.proofs.CoreRows.{slot_at-number, slot_has}
-use Rattle.mm_model.proofs.Fitted.{fitting_of, core_of}
+use Rattle.mm_model.specs.Ask.{Ask, ask, Ask.{Nothing, Refuse, Reach, MapPage, UnmapPage, NextEvent, Room, Serve}}
+use Rattle.mm_model.specs.{Turn.{Turned, turn, idle}, Trace.{turns_of, step_line}, Run.{turn_of, after}}
+use Rattle.mm_model.proofs.{CoreRows.{slot_at-number, slot_has}, Fitted.{fitting_of, core_of}}
 use Rattle.mm_machine.specs.Validity.{IsValid}
-use Rattle.mm_log.specs.declared.before.There.{There}
-use Rattle.mm_log.specs.declared.before.There.TheVariants as there
-use Rattle.mm_log.specs.declared.before.Before.{Before}
-use Rattle.mm_log.specs.Lines.{Line, line_text}
-use Rattle.mm_log.specs.Lines.Line.{Puts}
-use Rattle.mm_log.specs.Changes.{changes_between, each_number, slots_changed, queued_at, read_at, put_out_by, pages_mapped, pages_removed, cells_changed, changes}
+use Rattle.mm_log.specs.{declared.before.{There.There, Before.Before}, Lines.{Line, line_text, Line.Puts}}
+use Rattle.mm_log.specs.Changes.{changes_between, each_number, slots_changed, queued_at, read_at, put_out_by}
+use Rattle.mm_log.specs.Changes.{pages_mapped, pages_removed, cells_changed, changes}
 use Rattle.mm_log.specs.Log.{turns_in, told, cycle_log, text_of}
-use Rattle.mm_log.specs.Looks.{own_of, comes_to, there_at, there_for, cell_there, slot_there, looked_at, looks_at, looks}
-use Rattle.mm_log.specs.Seen.{seen_of, read_by, read_in, with_taken, with_there, slots_seen, queued_seen, read_seen, out_seen, page_seen, seen, seen_by}
-use Rattle.mm_log.proofs.Rows.{OtherMove}
-use Rattle.mm_log.proofs.Turns.{turn_moves}
-use Rattle.mm_log.proofs.Numbers.{no_number, changes_self}
-use Rattle.mm_log.proofs.Frames.{NoOther}
-use Rattle.mm_log.proofs.Seeing.{runs_own, port_own, same_own, outs_seen, memory_seen}
-use Rattle.mm_log.proofs.Events.{none_queued, none_read, events_seen}
-use Rattle.mm_log.proofs.Pages.{memory_told, MemoryTold}
-use Rattle.mm_log.proofs.Rows.{MemoryMove}
-use Rattle.mm_log.proofs.OneSlot.{own_at, alone, beside, no_other, serves_one}
-use Rattle.mm_log.proofs.Taking.{no_read_row, evt_slots}
+use Rattle.mm_log.specs.Looks.{own_of, comes_to, there_at, there_for, cell_there, slot_there, looked_at, looks_at}
+use Rattle.mm_log.specs.Looks.{looks}
+use Rattle.mm_log.specs.Seen.{seen_of, read_by, read_in, with_taken, with_there, slots_seen, queued_seen, read_seen}
+use Rattle.mm_log.specs.Seen.{out_seen, page_seen, seen, seen_by}
+use Rattle.mm_log.proofs.{Rows.{OtherMove, MemoryMove}, Turns.turn_moves, Numbers.{no_number, changes_self}}
+use Rattle.mm_log.proofs.{Frames.NoOther, Seeing.{runs_own, port_own, same_own, outs_seen, memory_seen}}
+use Rattle.mm_log.proofs.{Events.{none_queued, none_read, events_seen}, Pages.{memory_told, MemoryTold}}
+use Rattle.mm_log.proofs.{OneSlot.{own_at, alone, beside, no_other, serves_one}, Taking.{no_read_row, evt_slots}}
 use Rattle.mm_log.proofs.Ways.{Way, turn_way}
+use Rattle.mm_log.specs.declared.before.There.TheVariants as there
 
 pub read_none : (o : Option Instr) (now : Option Slot) (tick : Tick) → read_by o now ≡ None → read_in o tick now ≡ None
 read_none o now Did e = e

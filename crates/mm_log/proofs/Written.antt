@@ -1,36 +1,28 @@
 -- Which registers a row of the table of instructions leaves as they are.
-use Rattle.std.proofs.Common.{◌≡◌, ◌≢◌, ℕ, ◌+◌, ◌%◌, ◌^◌, Bool, true, false, ◌==◌, if◌then◌else◌, List, Option, Some, None, Result, Ok, Err, refl, slice_index_or, slice_set, get_or-set_other}
+use Rattle.std.proofs.Common.{◌≡◌, ◌≢◌, ℕ, ◌+◌, ◌%◌, ◌^◌, Bool, true, false, ◌==◌, if◌then◌else◌, List, Option, Some}
+use Rattle.std.proofs.Common.{None, Result, Ok, Err, refl, slice_index_or, slice_set, get_or-set_other}
 use Rattle.std.specs.Int.{w64, cast_unsigned, cast_signed}
-use Rattle.mm_word.specs.declared.perm.Kind.TheVariants.{Store}
-use Rattle.mm_word.specs.declared.cause.Cause.{Cause}
-use Rattle.mm_word.specs.declared.cause.Cause.TheVariants as cause
-use Rattle.mm_word.specs.declared.word.Pre.{Pre}
-use Rattle.mm_word.specs.declared.word.Post.{Post}
-use Rattle.mm_word.specs.declared.word.Word.{Word}
-use Rattle.mm_word.specs.declared.word.Word.TheVariants.{Int, Ptr}
-use Rattle.mm_word.specs.Access.{AccessValue, check_result}
-use Rattle.mm_word.specs.Word.{word_bits, is_pointer}
-use Rattle.mm_word.specs.Pointer.{Pointer, lea_result, leab_result, restrict_result, subseg_result, setptr_result, next_result, enter_result}
+use Rattle.mm_word.specs.declared.{perm.Kind.TheVariants.Store, cause.Cause.Cause}
+use Rattle.mm_word.specs.declared.word.{Pre.Pre, Post.Post, Word.{Word, TheVariants.{Int, Ptr}}}
+use Rattle.mm_word.specs.{Access.{AccessValue, check_result}, Word.{word_bits, is_pointer}}
+use Rattle.mm_word.specs.Pointer.{Pointer, lea_result, leab_result, restrict_result, subseg_result, setptr_result}
+use Rattle.mm_word.specs.Pointer.{next_result, enter_result}
 use Rattle.mm_isa.specs.declared.instr.DivZero.{DivZero}
 use Rattle.mm_isa.specs.declared.instr.Instr.{Instr}
 use Rattle.mm_isa.specs.declared.instr.Instr.TheVariants.{Halt, Nop, Ldi, Ldhi, Mov, Isptr, Eqw, Out, SelfSlot, Alu}
 use Rattle.mm_isa.specs.declared.instr.Instr.TheVariants.{Addi, Lea, Leai, Leab, Restrict, Subseg, Setptr, Ld, St, Br}
 use Rattle.mm_isa.specs.declared.instr.Instr.TheVariants.{Bz, Bnz, Jmp, Jal, Lip, Trap, Evt, Resume, Rreg, Wreg, Map}
-use Rattle.mm_isa.specs.declared.instr.Instr.TheVariants.{Unmap}
-use Rattle.mm_isa.specs.Alu.{alu_result}
-use Rattle.mm_model.specs.declared.slot.Pending.{Pending}
-use Rattle.mm_model.specs.Slot.{Slot, register, is_empty}
+use Rattle.mm_isa.specs.{declared.instr.Instr.TheVariants.Unmap, Alu.alu_result}
+use Rattle.mm_model.specs.{declared.slot.Pending.Pending, Slot.{Slot, register, is_empty}}
 use Rattle.mm_model.specs.Ask.{Ask, ask, is_privileged, load_kind, reaching}
 use Rattle.mm_model.specs.Ask.Ask.{Nothing as AskNothing, Refuse, Reach, MapPage, UnmapPage, NextEvent, Room, Serve}
 use Rattle.mm_model.specs.Effect.{Reply, Change, Effect, effect, plain, sets, sets_pointer, sets_number, if_pointer}
 use Rattle.mm_model.specs.Effect.{test, same_word, high_and_low, puts_out, loaded, stored, at_distance, branches, jumps}
 use Rattle.mm_model.specs.Effect.{links}
-use Rattle.mm_model.specs.Effect.Reply.{Fine, Refused, Got}
-use Rattle.mm_model.specs.Effect.Effect.{Fault, Block, Deliver, Do}
+use Rattle.mm_model.specs.Effect.{Reply.{Fine, Refused, Got}, Effect.{Fault, Block, Deliver, Do}}
 use Rattle.mm_model.specs.Turn.{put_all, state_after, with_issue, slot_after}
-use Rattle.mm_log.specs.declared.local.Writes.{Writes}
-use Rattle.mm_log.specs.declared.local.Writes.TheVariants.{Nothing, One, More}
-use Rattle.mm_log.specs.Local.{written_by, IsNear}
+use Rattle.mm_log.specs.{declared.local.Writes.{Writes, TheVariants.{Nothing, One, More}}, Local.{written_by, IsNear}}
+use Rattle.mm_word.specs.declared.cause.Cause.TheVariants as cause
 
 -- 1. What an instruction asks for that writes one register at most.
 

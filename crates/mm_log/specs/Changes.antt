@@ -1,17 +1,10 @@
 -- The differences between two successive states, as lines.
 use Rattle.std.specs.Prelude.{ℕ, ◌*◌, Bool, true, false, ◌&&◌, ◌==◌, nat_lt, if◌then◌else◌, List, [], ◌∷◌, ◌++◌, length}
-use Rattle.std.specs.Prelude.{drop, map, Option, Some, None}
-use Rattle.std.specs.List.{flat_map, range_with_len}
-use Rattle.mm_word.specs.declared.word.Word.TheVariants.{Ptr}
-use Rattle.mm_word.specs.declared.word.Cell.{Cell}
-use Rattle.mm_word.specs.Cause.{number_of}
-use Rattle.mm_model.specs.declared.slot.SlotState.{SlotState}
-use Rattle.mm_model.specs.declared.slot.SlotState.TheVariants.{Running, Waiting, Taken, Halted}
-use Rattle.mm_model.specs.Memory.{Memory, page_at, is_mapped}
-use Rattle.mm_model.specs.Effect.{same_word}
-use Rattle.mm_model.specs.Report.{same_bit, changes_from}
-use Rattle.mm_model.specs.Slot.{Slot, register, is_empty}
-use Rattle.mm_model.specs.State.{Core, State, slot_at, queue_at, output_of}
+use Rattle.std.specs.{Prelude.{drop, map, Option, Some, None}, List.{flat_map, range_with_len}}
+use Rattle.mm_word.specs.{declared.word.{Word.TheVariants.Ptr, Cell.Cell}, Cause.number_of}
+use Rattle.mm_model.specs.declared.slot.SlotState.{SlotState, TheVariants.{Running, Waiting, Taken, Halted}}
+use Rattle.mm_model.specs.{Memory.{Memory, page_at, is_mapped}, Effect.same_word, Report.{same_bit, changes_from}}
+use Rattle.mm_model.specs.{Slot.{Slot, register, is_empty}, State.{Core, State, slot_at, queue_at, output_of}}
 use Rattle.mm_log.specs.Lines.{Line}
 use Rattle.mm_log.specs.Lines.Line.{Points, Enters, Holds, Empties, Issues, Queues, Reads, Puts, Maps, Removes, Sets}
 

@@ -1,11 +1,7 @@
 -- What holds of every commit log.
 use Rattle.std.specs.Prelude.{◌≡◌, ℕ, List, ◌++◌}
-use Rattle.mm_model.specs.Image.{Image, start}
-use Rattle.mm_model.specs.Spelling.{IsImage}
-use Rattle.mm_model.specs.State.{State}
-use Rattle.mm_model.specs.Run.{run}
-use Rattle.mm_log.specs.Log.{log}
-use Rattle.mm_log.specs.Replay.{replay}
+use Rattle.mm_model.specs.{Image.{Image, start}, Spelling.IsImage, State.State, Run.run}
+use Rattle.mm_log.specs.{Log.log, Replay.replay}
 
 -- a state except for its number of cycles
 abbrev pub but_cycles : State → State

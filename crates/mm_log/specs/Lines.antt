@@ -1,17 +1,8 @@
 -- The lines of a commit log as data, and their texts.
 use Rattle.std.specs.Prelude.{ℕ, Bool, List, ◌++◌, codes, decimal}
-use Rattle.mm_word.specs.declared.word.Word.{Word}
-use Rattle.mm_word.specs.declared.word.Word.TheVariants.{Ptr}
-use Rattle.mm_word.specs.declared.word.Cell.{Cell}
-use Rattle.mm_word.specs.Cause.{number_of}
-use Rattle.mm_word.specs.Pointer.{Pointer}
-use Rattle.mm_model.specs.declared.slot.SlotState.{SlotState}
-use Rattle.mm_model.specs.declared.slot.Pending.{Pending}
-use Rattle.mm_model.specs.declared.event.Event.{Event}
-use Rattle.mm_model.specs.declared.step.Step.{Step}
-use Rattle.mm_model.specs.Digits.{hex}
-use Rattle.mm_model.specs.Lines.{newline, word_text, state_text, past_text, cell_line}
-use Rattle.mm_model.specs.Trace.{step_line}
+use Rattle.mm_word.specs.{declared.word.{Word.{Word, TheVariants.Ptr}, Cell.Cell}, Cause.number_of, Pointer.Pointer}
+use Rattle.mm_model.specs.declared.{slot.{SlotState.SlotState, Pending.Pending}, event.Event.Event, step.Step.Step}
+use Rattle.mm_model.specs.{Digits.hex, Lines.{newline, word_text, state_text, past_text, cell_line}, Trace.step_line}
 
 pub data Line : Type 0 where
   -- the line of a cycle in a trace, and the number of turns that its slot has taken after it

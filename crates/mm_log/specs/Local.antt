@@ -1,35 +1,18 @@
 -- The lines of a turn whose instruction writes one register at most, and is about nothing else but a cell.
 use Rattle.std.specs.Prelude.{◌≡◌, ℕ, ◌<◌, Bool, false, ◌&&◌, if◌then◌else◌, List, [], ◌∷◌, ◌++◌, length, drop, map}
 use Rattle.std.specs.Prelude.{Option, Some, None, IfSome}
-use Rattle.mm_word.specs.declared.word.Word.{Word}
-use Rattle.mm_word.specs.declared.word.Word.TheVariants.{Ptr}
-use Rattle.mm_word.specs.declared.word.Cell.{Cell}
-use Rattle.mm_word.specs.Access.{AccessValue}
-use Rattle.mm_word.specs.Pointer.{Pointer}
+use Rattle.mm_word.specs.{declared.word.{Word.{Word, TheVariants.Ptr}, Cell.Cell}, Access.AccessValue, Pointer.Pointer}
 use Rattle.mm_isa.specs.declared.instr.Instr.{Instr}
 use Rattle.mm_isa.specs.declared.instr.Instr.TheVariants.{Ldi, Ldhi, Mov, Isptr, Eqw, SelfSlot, Alu, Addi, Lea, Leai}
 use Rattle.mm_isa.specs.declared.instr.Instr.TheVariants.{Leab, Restrict, Subseg, Setptr, Ld, Jal, Lip, Evt, Resume}
 use Rattle.mm_isa.specs.declared.instr.Instr.TheVariants.{Rreg, Wreg, Map, Unmap}
-use Rattle.mm_model.specs.declared.slot.SlotState.{SlotState}
-use Rattle.mm_model.specs.declared.slot.SlotState.TheVariants.{Running}
-use Rattle.mm_model.specs.declared.step.Tick.{Tick}
-use Rattle.mm_model.specs.Memory.{Memory, cell_at}
-use Rattle.mm_model.specs.Slot.{Slot, register, is_empty}
-use Rattle.mm_model.specs.State.{Core, State, slot_at, output_of}
-use Rattle.mm_model.specs.Ask.{Ask, ask}
-use Rattle.mm_model.specs.Ask.Ask.{Reach}
-use Rattle.mm_model.specs.Effect.{same_word}
-use Rattle.mm_model.specs.Report.{same_bit}
-use Rattle.mm_model.specs.Outcomes.{Runs}
-use Rattle.mm_log.specs.declared.local.Writes.{Writes}
-use Rattle.mm_log.specs.declared.local.Writes.TheVariants.{Nothing, One, More}
-use Rattle.mm_log.specs.declared.local.Held.{Held}
-use Rattle.mm_log.specs.declared.local.Local.{Local}
-use Rattle.mm_log.specs.Lines.{Line}
-use Rattle.mm_log.specs.Lines.Line.{Points, Enters, Issues, Puts}
-use Rattle.mm_log.specs.Changes.{same_state, register_now}
-use Rattle.mm_log.specs.Looks.{comes_to}
-use Rattle.mm_log.specs.Seen.{queued_by, cell_now}
+use Rattle.mm_model.specs.declared.{slot.SlotState.{SlotState, TheVariants.Running}, step.Tick.Tick}
+use Rattle.mm_model.specs.{Memory.{Memory, cell_at}, Slot.{Slot, register, is_empty}}
+use Rattle.mm_model.specs.{State.{Core, State, slot_at, output_of}, Ask.{Ask, ask, Ask.Reach}, Effect.same_word}
+use Rattle.mm_model.specs.{Report.same_bit, Outcomes.Runs}
+use Rattle.mm_log.specs.declared.local.{Writes.{Writes, TheVariants.{Nothing, One, More}}, Held.Held, Local.Local}
+use Rattle.mm_log.specs.{Lines.{Line, Line.{Points, Enters, Issues, Puts}}, Changes.{same_state, register_now}}
+use Rattle.mm_log.specs.{Looks.comes_to, Seen.{queued_by, cell_now}}
 
 -- 1. What is looked at before the turn.
 

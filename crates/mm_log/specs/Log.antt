@@ -1,16 +1,8 @@
 -- The commit log of a run: the line of each turn, followed by all that the turn changed.
-use Rattle.std.specs.Prelude.{ℕ, List, [], ◌∷◌, ◌++◌}
-use Rattle.std.specs.List.{flat_map}
-use Rattle.mm_model.specs.declared.step.Step.{Step}
-use Rattle.mm_model.specs.declared.step.Tick.{Tick}
-use Rattle.mm_model.specs.declared.step.Tick.TheVariants.{Idle}
-use Rattle.mm_model.specs.State.{State, slot_at}
-use Rattle.mm_model.specs.Turn.{Turned}
-use Rattle.mm_model.specs.Trace.{turns_of}
-use Rattle.mm_model.specs.Run.{turn_of, after}
-use Rattle.mm_log.specs.Lines.{Line, line_text}
-use Rattle.mm_log.specs.Lines.Line.{Traced}
-use Rattle.mm_log.specs.Changes.{changes}
+use Rattle.std.specs.{Prelude.{ℕ, List, [], ◌∷◌, ◌++◌}, List.flat_map}
+use Rattle.mm_model.specs.{declared.step.{Step.Step, Tick.{Tick, TheVariants.Idle}}, State.{State, slot_at}}
+use Rattle.mm_model.specs.{Turn.Turned, Trace.turns_of, Run.{turn_of, after}}
+use Rattle.mm_log.specs.{Lines.{Line, line_text, Line.Traced}, Changes.changes}
 
 -- the number of turns that the slot of a turn has taken, this one included
 abbrev pub turns_in : Turned → ℕ

@@ -1,22 +1,14 @@
 -- What a turn comes to, as it is before the turn.
 use Rattle.std.specs.Prelude.{ℕ, ◌-◌, nat_le, nat_lt, if◌then◌else◌, pos, length, Option, Some, None, Result, Ok, Err}
-use Rattle.mm_word.specs.declared.perm.Kind.TheVariants.{Fetch}
-use Rattle.mm_word.specs.declared.cause.Cause.{Cause}
-use Rattle.mm_word.specs.declared.word.Word.{Word}
-use Rattle.mm_word.specs.declared.word.Word.TheVariants.{Int, Ptr}
-use Rattle.mm_word.specs.declared.word.Cell.{Cell}
+use Rattle.mm_word.specs.declared.{perm.Kind.TheVariants.Fetch, cause.Cause.Cause}
+use Rattle.mm_word.specs.declared.word.{Word.{Word, TheVariants.{Int, Ptr}}, Cell.Cell}
 use Rattle.mm_word.specs.Access.{AccessValue, check_result}
 use Rattle.mm_isa.specs.declared.instr.Instr.{Instr}
-use Rattle.mm_model.specs.Memory.{Memory, cell_at, is_mapped}
-use Rattle.mm_model.specs.Slot.{Slot}
-use Rattle.mm_model.specs.State.{Core, slot_at, output_of}
-use Rattle.mm_model.specs.Ask.{Ask, ask}
-use Rattle.mm_model.specs.Ask.Ask.{Reach, MapPage, UnmapPage, Serve}
-use Rattle.mm_model.specs.Operands.{addr_operand, value_operand}
-use Rattle.mm_model.specs.Turn.{instr_in}
-use Rattle.mm_log.specs.declared.before.There.{There}
+use Rattle.mm_model.specs.{Memory.{Memory, cell_at, is_mapped}, Slot.Slot, State.{Core, slot_at, output_of}}
+use Rattle.mm_model.specs.Ask.{Ask, ask, Ask.{Reach, MapPage, UnmapPage, Serve}}
+use Rattle.mm_model.specs.{Operands.{addr_operand, value_operand}, Turn.instr_in}
+use Rattle.mm_log.specs.declared.before.{There.There, Before.Before}
 use Rattle.mm_log.specs.declared.before.There.TheVariants as there
-use Rattle.mm_log.specs.declared.before.Before.{Before}
 
 -- the given slot or, if there is none, the slot whose port an item is
 abbrev pub or_port : Core → ℕ → Option Slot → Option Slot

@@ -1,13 +1,9 @@
 -- The state that results when the lines of a log are carried out on a state.
 use Rattle.std.specs.Prelude.{ℕ, Bool, true, false, ◌==◌, if◌then◌else◌, List, [], ◌∷◌, ◌++◌, map, slice_set}
-use Rattle.mm_word.specs.declared.word.Word.{Word}
-use Rattle.mm_word.specs.declared.word.Word.TheVariants.{Int}
-use Rattle.mm_model.specs.declared.slot.Pending.{Pending}
-use Rattle.mm_model.specs.declared.event.Event.{Event}
-use Rattle.mm_model.specs.declared.step.Tick.{Tick}
-use Rattle.mm_model.specs.declared.step.Tick.TheVariants.{Did, Blocked, Faulted}
-use Rattle.mm_model.specs.Memory.{put_cell, map_page, unmap_page}
-use Rattle.mm_model.specs.Slot.{Slot, is_empty}
+use Rattle.mm_word.specs.declared.word.Word.{Word, TheVariants.Int}
+use Rattle.mm_model.specs.declared.{slot.Pending.Pending, event.Event.Event}
+use Rattle.mm_model.specs.declared.step.Tick.{Tick, TheVariants.{Did, Blocked, Faulted}}
+use Rattle.mm_model.specs.{Memory.{put_cell, map_page, unmap_page}, Slot.{Slot, is_empty}}
 use Rattle.mm_model.specs.State.{State, at_number, output_of, put_output}
 use Rattle.mm_log.specs.Lines.{Line}
 use Rattle.mm_log.specs.Lines.Line.{Traced, Points, Enters, Holds, Empties, Issues, Queues, Reads, Puts, Maps, Removes}

@@ -1,26 +1,15 @@
 -- The lines of what a cycle changed, given what the look before it found.
 use Rattle.std.specs.Prelude.{ℕ, ◌/◌, ◌%◌, Bool, ◌&&◌, nat_lt, not, if◌then◌else◌, List, [], ◌∷◌, ◌++◌, drop, map}
 use Rattle.std.specs.Prelude.{Option, Some, None}
-use Rattle.mm_word.specs.declared.cause.Cause.{Cause}
-use Rattle.mm_word.specs.declared.word.Cell.{Cell}
-use Rattle.mm_word.specs.Word.{word_bits}
-use Rattle.mm_isa.specs.declared.instr.Instr.{Instr}
-use Rattle.mm_isa.specs.declared.instr.Instr.TheVariants.{Evt}
-use Rattle.mm_model.specs.declared.slot.SlotState.TheVariants.{Taken}
-use Rattle.mm_model.specs.declared.step.Tick.{Tick}
-use Rattle.mm_model.specs.declared.step.Tick.TheVariants.{Did, Faulted}
-use Rattle.mm_model.specs.Memory.{Memory, cell_at, is_mapped}
-use Rattle.mm_model.specs.Report.{same_cell}
-use Rattle.mm_model.specs.Slot.{Slot, register}
-use Rattle.mm_model.specs.State.{Core, State, slot_at, output_of}
-use Rattle.mm_model.specs.Turn.{event_of}
-use Rattle.mm_log.specs.declared.before.There.{There}
-use Rattle.mm_log.specs.declared.before.There.TheVariants as there
-use Rattle.mm_log.specs.declared.before.Before.{Before}
-use Rattle.mm_log.specs.Lines.{Line}
-use Rattle.mm_log.specs.Lines.Line.{Enters, Queues, Reads, Puts, Maps, Removes, Sets}
-use Rattle.mm_log.specs.Changes.{changes_between}
+use Rattle.mm_word.specs.{declared.{cause.Cause.Cause, word.Cell.Cell}, Word.word_bits}
+use Rattle.mm_isa.specs.declared.instr.Instr.{Instr, TheVariants.Evt}
+use Rattle.mm_model.specs.declared.{slot.SlotState.TheVariants.Taken, step.Tick.{Tick, TheVariants.{Did, Faulted}}}
+use Rattle.mm_model.specs.{Memory.{Memory, cell_at, is_mapped}, Report.same_cell, Slot.{Slot, register}}
+use Rattle.mm_model.specs.{State.{Core, State, slot_at, output_of}, Turn.event_of}
+use Rattle.mm_log.specs.declared.before.{There.There, Before.Before}
+use Rattle.mm_log.specs.{Lines.{Line, Line.{Enters, Queues, Reads, Puts, Maps, Removes, Sets}}, Changes.changes_between}
 use Rattle.mm_log.specs.Looks.{address_told, value_told}
+use Rattle.mm_log.specs.declared.before.There.TheVariants as there
 
 -- the changes of a slot
 abbrev pub seen_of : Core → Slot → List Line

@@ -1,8 +1,6 @@
 -- The text of a run, put together from what is written of each of its cycles.
 use Rattle.std.specs.Prelude.{ℕ, List, [], ◌∷◌, ◌++◌}
-use Rattle.mm_model.specs.State.{State}
-use Rattle.mm_model.specs.Run.{turn_of, after}
-use Rattle.mm_model.specs.Trace.{trace_line}
+use Rattle.mm_model.specs.{State.State, Run.{turn_of, after}, Trace.trace_line}
 use Rattle.mm_log.specs.Log.{cycle_log, text_of}
 
 -- `of_cycle` says what is written of the cycle of an item from a state.

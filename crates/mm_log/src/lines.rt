@@ -11,7 +11,7 @@ ghost use Rattle.mm_log.specs.Lines.Line.{Sets};
 
 use mm_io::Sink;
 use mm_model::{Event, Pending, SlotState};
-use mm_text::{TextBuffer, Line, Piece, put_state, put_word};
+use mm_text::{Line, Piece, TextBuffer, put_state, put_word};
 use mm_word::{Cause, Cell, GuardedPtr, Word};
 
 /// Appends `ip S P`, or `ip S P past`.
@@ -44,7 +44,12 @@ pub(crate) fn write_pointer(line: &mut Line, slot: u8, ip: GuardedPtr, past: boo
 }
 
 /// Appends `state S STATE`.
-pub(crate) fn put_slot_state<O: Sink>(text: &mut TextBuffer, out: &mut O, slot: u8, state: SlotState)
+pub(crate) fn put_slot_state<O: Sink>(
+    text: &mut TextBuffer,
+    out: &mut O,
+    slot: u8,
+    state: SlotState,
+)
     ensures { Appends O.taken O.faults out.old out.new text.old text.new (line_text (Enters slot state)) }
 {
     put_front(text, out, "state ", slot);

@@ -28,7 +28,7 @@ use mm_isa::{Instr, Reg};
 use mm_machine::Machine;
 use mm_mem::{Inspect, Memory};
 use mm_model::{Slot, SlotState, Tick, is_same_word};
-use mm_text::{TextBuffer, Line};
+use mm_text::{Line, TextBuffer};
 use mm_thread::load_kind;
 use mm_word::{Access, Cause, Cell, GuardedPtr, Kind, Word, check};
 

@@ -16,7 +16,7 @@ ghost use Rattle.mm_log.specs.Log.{text_of};
 use crate::lines::{put_load, put_pointer, put_slot_state, write_empty, write_register};
 use mm_io::Sink;
 use mm_model::{Pending, Slot, SlotState, is_same_word};
-use mm_text::{TextBuffer, Line};
+use mm_text::{Line, TextBuffer};
 use mm_word::{GuardedPtr, Word};
 
 /// Whether two pointers are equal in bits.

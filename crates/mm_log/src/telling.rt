@@ -29,7 +29,12 @@ pub trait Teller {
     ghost of_cycle: { State → ℕ → List ℕ };
 
     /// Makes one cycle, and appends its text.
-    fn tell<M: Inspect, O: Sink>(machine: &mut Machine<M>, item: u8, text: &mut TextBuffer, out: &mut O)
+    fn tell<M: Inspect, O: Sink>(
+        machine: &mut Machine<M>,
+        item: u8,
+        text: &mut TextBuffer,
+        out: &mut O,
+    )
         requires { (state_of machine.old).cycles < 2 ^ 32 }
         ensures state { state_of machine.new ≡ after (state_of machine.old) item }
         ensures goes { (i : Image) (before : List ℕ) → StandsFor i before machine.old

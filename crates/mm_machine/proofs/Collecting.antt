@@ -1,27 +1,17 @@
 -- Outputs as they are collected group by group, and pages, slots and events by their places.
-use Rattle.std.proofs.Common.{◌≡◌, ℕ, zero, suc, ◌+◌, ◌<◌, inl, inr, true, false, eqb, ◌||◌, List, []}
-use Rattle.std.proofs.Common.{◌∷◌, ◌++◌, length, map, take, get_or, Option, Some, slice_get}
-use Rattle.std.proofs.Common.{sym, ap, subst, ◌∙◌, arith}
-use Rattle.std.specs.Prelude.{slice_index}
-use Rattle.std.specs.List.{AllByRecursion, flat_map}
-use Rattle.std.specs.List.Sorted.{IsStrictlyIncreasing}
+use Rattle.std.proofs.Common.{◌≡◌, ℕ, zero, suc, ◌+◌, ◌<◌, inl, inr, true, false, eqb, ◌||◌, List, [], ◌∷◌, ◌++◌}
+use Rattle.std.proofs.Common.{length, map, take, get_or, Option, Some, slice_get, sym, ap, subst, ◌∙◌, arith}
 use Rattle.std.proofs.lemmas.Bool.{cases_eq, eq-eqb}
-use Rattle.std.proofs.lemmas.List.{map-append, take_more, flat_map_more}
-use Rattle.std.proofs.lemmas.List.Folds.{list_any-append}
+use Rattle.std.proofs.lemmas.List.{map-append, take_more, flat_map_more, Folds.list_any-append}
 use Rattle.std.proofs.Math.Bool.{or-true}
+use Rattle.std.specs.{Prelude.slice_index, List.{AllByRecursion, flat_map, Sorted.IsStrictlyIncreasing}}
 use Rattle.mm_word.specs.declared.word.Cell.{Cell}
-use Rattle.mm_model.specs.Memory.{Memory, IsPaged}
-use Rattle.mm_model.specs.declared.event.Event.{Event}
-use Rattle.mm_model.specs.Slot.{Slot}
-use Rattle.mm_model.specs.State.{Core, queue_at, output_of}
-use Rattle.mm_model.specs.Groups.{has_group}
-use Rattle.mm_model.specs.Fits.{slots_of}
+use Rattle.mm_model.specs.{Memory.{Memory, IsPaged}, declared.event.Event.Event, Slot.Slot}
+use Rattle.mm_model.specs.{State.{Core, queue_at, output_of}, Groups.has_group, Fits.slots_of}
 use Rattle.mm_model.proofs.CoreRows.{each_map, each_push, rest_rises, above_first}
-use Rattle.mm_mem.proofs.Flats.{page_here}
-use Rattle.mm_mem.proofs.PagePlaces.{got, any_default, some_same, page_there, at_place, place_mapped}
+use Rattle.mm_mem.proofs.{Flats.page_here, PagePlaces.{got, any_default, some_same, page_there, at_place, place_mapped}}
 use Rattle.mm_thread.specs.Output.{Output}
-use Rattle.mm_machine.specs.Snapshot.{groups_of, has_output, IsOutputOf, queued_at}
-use Rattle.mm_machine.specs.Capture.{cells_of, OutputsBelow}
+use Rattle.mm_machine.specs.{Snapshot.{groups_of, has_output, IsOutputOf, queued_at}, Capture.{cells_of, OutputsBelow}}
 
 -- 1. Outputs.
 

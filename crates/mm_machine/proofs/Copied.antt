@@ -1,46 +1,27 @@
 -- What is copied of a state makes a snapshot.
 use Rattle.std.proofs.Common.{◌≡◌, ◌≢◌, ℕ, zero, suc, ◌+◌, ◌<◌, ◌≤◌, inl, inr, Bool, true, false, cond, ◌||◌, eqb, List}
 use Rattle.std.proofs.Common.{[], ◌∷◌, ◌++◌, length, map, Option, Some, None, refl, sym, ap, subst, ◌∙◌, arith}
-use Rattle.std.proofs.Common.{append-nil}
+use Rattle.std.proofs.{Common.append-nil, Props.props, Math.{Logic.∥∥₁_elim, Bool.or-true}}
+use Rattle.std.proofs.lemmas.{Bool.{cases_eq, eq-eqb, ne_eqb}, List.{get_or-map, length-map}}
 use Rattle.std.specs.Prelude.{IfSome, IsSomeAnd, IsTrue, slice_index}
-use Rattle.std.specs.List.{AllByRecursion, flat_map}
-use Rattle.std.specs.List.Sorted.{IsStrictlyIncreasing}
-use Rattle.std.specs.Ordering.{nat_cmp}
-use Rattle.std.specs.FinMap.{is_sorted}
-use Rattle.std.proofs.Props.{props}
-use Rattle.std.proofs.Math.Logic.{∥∥₁_elim}
-use Rattle.std.proofs.lemmas.Bool.{cases_eq, eq-eqb, ne_eqb}
-use Rattle.std.proofs.lemmas.List.{get_or-map, length-map}
-use Rattle.std.proofs.Math.Bool.{or-true}
+use Rattle.std.specs.{List.{AllByRecursion, flat_map, Sorted.IsStrictlyIncreasing}, Ordering.nat_cmp, FinMap.is_sorted}
 use Rattle.mm_word.specs.declared.word.Cell.{Cell}
-use Rattle.mm_model.specs.declared.slot.SlotState.TheVariants.{Taken}
-use Rattle.mm_model.specs.declared.event.Event.{Event}
-use Rattle.mm_model.specs.Slot.{Slot}
-use Rattle.mm_model.specs.State.{ThreadRow, Core, State, row_in, queue_of, slot_at, queue_at}
-use Rattle.mm_model.specs.Groups.{has_group}
-use Rattle.mm_model.specs.Spelling.{numbers_of}
-use Rattle.mm_model.specs.Flags.{one_if}
-use Rattle.mm_model.specs.Turn.{is_taken}
+use Rattle.mm_model.specs.{declared.{slot.SlotState.TheVariants.Taken, event.Event.Event}, Slot.Slot}
+use Rattle.mm_model.specs.{State.{ThreadRow, Core, State, row_in, queue_of, slot_at, queue_at}, Groups.has_group}
+use Rattle.mm_model.specs.{Spelling.numbers_of, Flags.one_if, Turn.is_taken}
 use Rattle.mm_model.specs.Fits.{is_waiting, waits_for, events_of, slots_of, IsSlot, LoadsMatch, WaitsForSome, IsAtSlot}
 use Rattle.mm_model.specs.Fits.{LoadsAreConsistent, TakenBySome, IsOfVersion, IsCore, SlotHoldsWords, EventHoldsWords}
-use Rattle.mm_model.specs.Fits.{RowHoldsWords}
+use Rattle.mm_model.specs.{Fits.RowHoldsWords, Typed.IsTypedSlot}
 use Rattle.mm_model.proofs.CoreRows.{each_map, each_both, rest_rises, above_first, Rises, slot_has, slots_found}
 use Rattle.mm_model.proofs.CoreSteps.{some_true, events_of-here, waits_for-rests, waits_for-at, events_more}
 use Rattle.mm_image.proofs.SortedEntries.{rises}
-use Rattle.mm_thread.specs.Output.{Output}
-use Rattle.mm_thread.specs.Parts.{events_for}
-use Rattle.mm_thread.proofs.Cores.{output_short}
-use Rattle.mm_thread.proofs.Sound.{queue-none}
-use Rattle.mm_model.specs.Typed.{IsTypedSlot}
+use Rattle.mm_thread.{specs.{Output.Output, Parts.events_for}, proofs.{Cores.output_short, Sound.queue-none}}
 use Rattle.mm_machine.specs.Validity.{IsValid}
 use Rattle.mm_machine.specs.Snapshot.{parts_of, numbered, has_output, page_numbers, queues_of, IsEventOf, IsAwaited}
 use Rattle.mm_machine.specs.Snapshot.{HasOneEvent, IsPending, DoesNotFall, IsSnapshot, IsOutputOf, IsTypedEvent}
-use Rattle.mm_machine.specs.Snapshot.{IsTyped, queued, queued_at}
-use Rattle.mm_machine.specs.Capture.{OutputsBelow}
-use Rattle.mm_machine.proofs.Keeping.{valid_core}
-use Rattle.mm_machine.proofs.Pendings.{loads_counted}
-use Rattle.mm_machine.proofs.Queues.{slot_numbered, tally, tallied, beside_one, of_none, awaited_by}
-use Rattle.mm_machine.proofs.Steps.{from_zero}
+use Rattle.mm_machine.specs.{Snapshot.{IsTyped, queued, queued_at}, Capture.OutputsBelow}
+use Rattle.mm_machine.proofs.{Keeping.valid_core, Pendings.loads_counted}
+use Rattle.mm_machine.proofs.{Queues.{slot_numbered, tally, tallied, beside_one, of_none, awaited_by}, Steps.from_zero}
 
 -- 1. The queues one behind the other.
 

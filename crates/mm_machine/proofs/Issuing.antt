@@ -1,16 +1,11 @@
 -- The items of a list and then those of round robin, one cycle more at a time.
-use Rattle.std.proofs.Common.{◌≡◌, ℕ, ◌+◌, ◌-◌, ◌<◌, ◌≤◌, List, [], ◌∷◌, ◌++◌, length, take, get_or, Option, Some, None, inl, inr, refl, sym, ap, ◌∙◌, subst, arith, append-nil}
-use Rattle.std.proofs.lemmas.List.{take_more, take_all}
-use Rattle.std.proofs.lemmas.Bool.{cases_lt}
-use Rattle.std.specs.Option.{option_or}
+use Rattle.std.proofs.Common.{◌≡◌, ℕ, ◌+◌, ◌-◌, ◌<◌, ◌≤◌, List, [], ◌∷◌, ◌++◌, length, take, get_or, Option, Some, None}
+use Rattle.std.proofs.Common.{inl, inr, refl, sym, ap, ◌∙◌, subst, arith, append-nil}
+use Rattle.std.{proofs.lemmas.{List.{take_more, take_all}, Bool.cases_lt}, specs.Option.option_or}
 use Rattle.mm_mem.specs.declared.memory.Memory.{Ghosts}
-use Rattle.mm_model.specs.State.{State}
-use Rattle.mm_model.specs.Uses.{Use}
-use Rattle.mm_model.specs.declared.step.Step.{Step}
+use Rattle.mm_model.specs.{State.State, Uses.Use, declared.step.Step.Step}
 use Rattle.mm_model.specs.Run.{after, run, uses, turn_of, next_running, robin_from, last_item}
-use Rattle.mm_machine.specs.declared.machine.Machine.{Machine}
-use Rattle.mm_machine.specs.Machine.{state_of, Takes}
-use Rattle.mm_machine.specs.Going.{WentOn}
+use Rattle.mm_machine.specs.{declared.machine.Machine.Machine, Machine.{state_of, Takes}, Going.WentOn}
 use Rattle.mm_machine.proofs.Rounds.{one_more, robin_step, robin_over, robin_ends, robin_done}
 use Rattle.mm_machine.proofs.Went.{went_nowhere, went_further, last_more}
 

@@ -1,24 +1,15 @@
 -- A machine keeps what is true of it, and goes on with the run that it stands for.
-use Rattle.std.proofs.Common.{◌≡◌, ℕ, ◌+◌, ◌<◌, ◌≤◌, ◌^◌, List, [], ◌∷◌, ◌++◌, refl, sym, ap, ◌∙◌, subst, arith, append_assoc, append-nil}
+use Rattle.std.proofs.Common.{◌≡◌, ℕ, ◌+◌, ◌<◌, ◌≤◌, ◌^◌, List, [], ◌∷◌, ◌++◌, refl, sym, ap, ◌∙◌, subst, arith}
+use Rattle.std.proofs.{Common.{append_assoc, append-nil}, Props.props, Math.Logic.{∥∥₁_elim, ∥∥₁_map}}
 use Rattle.std.specs.List.{AllByRecursion}
-use Rattle.std.proofs.Props.{props}
-use Rattle.std.proofs.Math.Logic.{∥∥₁_elim, ∥∥₁_map}
-use Rattle.mm_model.specs.Memory.{Memory, IsPaged}
-use Rattle.mm_model.specs.Slot.{Slot}
-use Rattle.mm_model.specs.State.{State, Core}
-use Rattle.mm_model.specs.Image.{Image, start}
-use Rattle.mm_model.specs.Spelling.{IsImage}
-use Rattle.mm_model.specs.Uses.{Use}
-use Rattle.mm_model.specs.Run.{turn_of, after, run, uses}
-use Rattle.mm_model.specs.Fits.{slots_of, IsCore}
-use Rattle.mm_model.proofs.Starts.{start_state, start_fits, start_kept, start_within}
-use Rattle.mm_model.proofs.Fitted.{paged_of, core_of}
+use Rattle.mm_model.specs.{Memory.{Memory, IsPaged}, Slot.Slot, State.{State, Core}, Image.{Image, start}}
+use Rattle.mm_model.specs.{Spelling.IsImage, Uses.Use, Run.{turn_of, after, run, uses}, Fits.{slots_of, IsCore}}
+use Rattle.mm_model.specs.{Outcomes.{StopsAt, FaultChanges}, declared.step.Step.Step}
+use Rattle.mm_model.proofs.{Starts.{start_state, start_fits, start_kept, start_within}, Fitted.{paged_of, core_of}}
 use Rattle.mm_model.proofs.StateKeeps.{after_state, after_fits, after_kept}
-use Rattle.mm_word.specs.declared.cause.Cause.{Cause}
-use Rattle.mm_model.specs.Outcomes.{StopsAt, FaultChanges}
-use Rattle.mm_model.specs.declared.step.Step.{Step}
 use Rattle.mm_model.proofs.Causes.{IsOrderly, EndsExactly, core_orderly, ends_exactly, fault_changes}
 use Rattle.mm_model.proofs.TurnBounds.{after_within}
+use Rattle.mm_word.specs.declared.cause.Cause.{Cause}
 use Rattle.mm_machine.specs.Validity.{IsValid}
 
 pub valid_start : (i : Image) → IsImage i → IsValid (start i)

@@ -1,14 +1,10 @@
 -- Outputs in their groups' places.
-use Rattle.std.proofs.Common.{◌≡◌, ◌≢◌, ℕ, zero, suc, ◌<◌, ◌≤◌, inl, inr, true, false, List, [], ◌∷◌, length, replicate, refl, sym, subst, ◌∙◌, arith, length-set, get_or-set_same, get_or-set_other}
-use Rattle.std.specs.Prelude.{slice_set, slice_index_or}
-use Rattle.std.specs.List.{AllByRecursion}
-use Rattle.std.specs.List.Sorted.{IsStrictlyIncreasing}
+use Rattle.std.proofs.Common.{◌≡◌, ◌≢◌, ℕ, zero, suc, ◌<◌, ◌≤◌, inl, inr, true, false, List, [], ◌∷◌, length, replicate}
+use Rattle.std.proofs.Common.{refl, sym, subst, ◌∙◌, arith, length-set, get_or-set_same, get_or-set_other}
 use Rattle.std.proofs.lemmas.Bool.{cases_eq, eq-eqb, ne_eqb}
-use Rattle.mm_model.specs.Slot.{Slot}
-use Rattle.mm_model.specs.Groups.{has_group}
-use Rattle.mm_model.proofs.CoreRows.{each_set, rest_rises, above_first}
-use Rattle.mm_thread.specs.Output.{Output}
-use Rattle.mm_thread.specs.Parts.{outputs_with}
+use Rattle.std.specs.{Prelude.{slice_set, slice_index_or}, List.{AllByRecursion, Sorted.IsStrictlyIncreasing}}
+use Rattle.mm_model.{specs.{Slot.Slot, Groups.has_group}, proofs.CoreRows.{each_set, rest_rises, above_first}}
+use Rattle.mm_thread.specs.{Output.Output, Parts.outputs_with}
 use Rattle.mm_machine.specs.Snapshot.{groups_of, has_output}
 
 pub outputs_count : (os : List Output) (all : List (List ℕ)) → length (outputs_with os all) ≡ length all

@@ -1,17 +1,11 @@
 -- The pending loads of a slot, register by register.
-use Rattle.std.proofs.Common.{◌≡◌, ℕ, ◌+◌, ◌<◌, ◌≤◌, inl, inr, Bool, true, false, cond, eqb, eq-eqb, List, [], ◌∷◌, length, refl, sym, ap, ◌∙◌, arith}
+use Rattle.std.proofs.Common.{◌≡◌, ℕ, ◌+◌, ◌<◌, ◌≤◌, inl, inr, Bool, true, false, cond, eqb, eq-eqb, List, [], ◌∷◌}
+use Rattle.std.proofs.Common.{length, refl, sym, ap, ◌∙◌, arith}
+use Rattle.std.proofs.lemmas.{Bool.{cases_lt, Decides.nat_tests}, List.{get_or_past, Recursion.is_count_by}}
 use Rattle.std.specs.List.{AllByRecursion, count_by}
-use Rattle.std.proofs.lemmas.Bool.{cases_lt}
-use Rattle.std.proofs.lemmas.Bool.Decides.{nat_tests}
-use Rattle.std.proofs.lemmas.List.{get_or_past}
-use Rattle.std.proofs.lemmas.List.Recursion.{is_count_by}
 use Rattle.mm_model.proofs.Bytes.Bitmaps.{length-flags}
-use Rattle.mm_model.specs.declared.slot.Pending.{Pending}
-use Rattle.mm_model.specs.Flags.{flags}
-use Rattle.mm_model.specs.Slot.{Slot, is_empty}
-use Rattle.mm_model.specs.Fits.{loads_for}
-use Rattle.mm_machine.specs.Snapshot.{RegisterStands, IsPending}
-use Rattle.mm_machine.proofs.Steps.{add_one}
+use Rattle.mm_model.specs.{declared.slot.Pending.Pending, Flags.flags, Slot.{Slot, is_empty}, Fits.loads_for}
+use Rattle.mm_machine.{specs.Snapshot.{RegisterStands, IsPending}, proofs.Steps.add_one}
 
 pub sixteen_flags : (n : ℕ) → length (flags 16 n) ≡ 16
 sixteen_flags n = length-flags 16 n

@@ -1,19 +1,13 @@
 -- A use of a port keeps what is true of a machine.
-use Rattle.std.proofs.Common.{◌≡◌, ℕ, ◌<◌, ◌^◌, Bool, true, false, not, if◌then◌else◌, Option, Some, None, refl, sym, ◌∙◌, subst}
-use Rattle.std.specs.List.{AllByRecursion}
-use Rattle.std.proofs.Math.Logic.{∥∥₁_map}
-use Rattle.mm_word.specs.declared.word.Word.TheVariants.{Int}
-use Rattle.mm_word.specs.declared.word.Cell.{Cell}
-use Rattle.mm_word.specs.declared.word.Pre.TheVariants as pres
-use Rattle.mm_word.specs.declared.word.Post.TheVariants as posts
-use Rattle.mm_word.specs.Word.{IsWord}
-use Rattle.mm_model.specs.Memory.{Memory, cell_at, put_cell, ArePages}
-use Rattle.mm_model.specs.State.{State}
-use Rattle.mm_model.specs.Spelling.{HoldsWords}
-use Rattle.mm_model.proofs.EffectWords.{cell_words}
-use Rattle.mm_model.proofs.StateKeeps.{MemoryKeeps, memory_self, cell_keeps}
+use Rattle.std.proofs.Common.{◌≡◌, ℕ, ◌<◌, ◌^◌, Bool, true, false, not, if◌then◌else◌, Option, Some, None, refl, sym}
+use Rattle.std.{proofs.{Common.{◌∙◌, subst}, Math.Logic.∥∥₁_map}, specs.List.AllByRecursion}
+use Rattle.mm_word.specs.{declared.word.{Word.TheVariants.Int, Cell.Cell}, Word.IsWord}
+use Rattle.mm_model.specs.{Memory.{Memory, cell_at, put_cell, ArePages}, State.State, Spelling.HoldsWords}
+use Rattle.mm_model.proofs.{EffectWords.cell_words, StateKeeps.{MemoryKeeps, memory_self, cell_keeps}}
 use Rattle.mm_mem.specs.Answers.{set_where, put_where, after_load, after_store}
 use Rattle.mm_machine.specs.Validity.{IsValid}
+use Rattle.mm_word.specs.declared.word.Pre.TheVariants as pres
+use Rattle.mm_word.specs.declared.word.Post.TheVariants as posts
 
 module _ (m : Memory) (pages : ArePages m.pages) (cells : AllByRecursion HoldsWords m.pages) where
   same : MemoryKeeps m m

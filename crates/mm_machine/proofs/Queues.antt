@@ -1,20 +1,13 @@
 -- Events beside the numbers of their queues, and the slots that wait.
-use Rattle.std.proofs.Common.{◌≡◌, ◌≢◌, ℕ, ◌+◌, inl, inr, Bool, true, false, cond, eqb, List, [], ◌∷◌, map, Option, Some, None, refl, sym, ap, subst, ◌∙◌, arith}
-use Rattle.std.specs.Prelude.{IsSomeAnd}
-use Rattle.std.specs.List.{AllByRecursion, count_by}
-use Rattle.std.proofs.lemmas.Bool.{cases_eq, eq-eqb, ne_eqb}
-use Rattle.std.proofs.lemmas.List.Recursion.{is_count_by}
-use Rattle.mm_model.specs.declared.event.Event.{Event}
-use Rattle.mm_model.specs.Slot.{Slot}
-use Rattle.mm_model.specs.State.{ThreadRow, Core, row_in, slot_of, slot_at}
-use Rattle.mm_model.specs.Flags.{one_if}
-use Rattle.mm_model.specs.Turn.{is_handler}
-use Rattle.mm_model.specs.Fits.{is_waiting, waits_for, events_of, slots_of}
-use Rattle.mm_model.proofs.CoreRows.{each_map}
-use Rattle.mm_model.proofs.CoreSteps.{waits_for-says}
+use Rattle.std.proofs.Common.{◌≡◌, ◌≢◌, ℕ, ◌+◌, inl, inr, Bool, true, false, cond, eqb, List, [], ◌∷◌, map, Option}
+use Rattle.std.proofs.Common.{Some, None, refl, sym, ap, subst, ◌∙◌, arith}
+use Rattle.std.proofs.lemmas.{Bool.{cases_eq, eq-eqb, ne_eqb}, List.Recursion.is_count_by}
+use Rattle.std.specs.{Prelude.IsSomeAnd, List.{AllByRecursion, count_by}}
+use Rattle.mm_model.specs.{declared.event.Event.Event, Slot.Slot, State.{ThreadRow, Core, row_in, slot_of, slot_at}}
+use Rattle.mm_model.specs.{Flags.one_if, Turn.is_handler, Fits.{is_waiting, waits_for, events_of, slots_of}}
+use Rattle.mm_model.proofs.{CoreRows.each_map, CoreSteps.waits_for-says}
 use Rattle.mm_thread.specs.Parts.{events_for}
-use Rattle.mm_machine.specs.Snapshot.{numbered, IsEventOf, IsAwaited, HasOneEvent}
-use Rattle.mm_machine.proofs.Steps.{add_one}
+use Rattle.mm_machine.{specs.Snapshot.{numbered, IsEventOf, IsAwaited, HasOneEvent}, proofs.Steps.add_one}
 
 -- 1. The slot of a number.
 

@@ -1,22 +1,13 @@
 -- What a machine can be put back to, it can be put back to after cycles and after other states were put back.
 use Rattle.std.proofs.Common.{◌≡◌, ℕ, ◌≤◌, inl, inr, List, [], length, map, refl, sym, ap, subst, ◌∙◌, arith}
+use Rattle.std.proofs.{Props.props, lemmas.{Bool.cases_lt, List.get_or_past}, Math.Logic.∥∥₁_elim}
 use Rattle.std.specs.List.{AllByRecursion}
-use Rattle.std.proofs.Props.{props}
-use Rattle.std.proofs.lemmas.Bool.{cases_lt}
-use Rattle.std.proofs.lemmas.List.{get_or_past}
-use Rattle.std.proofs.Math.Logic.{∥∥₁_elim}
-use Rattle.mm_model.specs.Slot.{Slot}
-use Rattle.mm_model.specs.State.{State, output_of}
-use Rattle.mm_model.specs.Image.{output_limit}
-use Rattle.mm_model.specs.Run.{after}
+use Rattle.mm_model.specs.{Slot.Slot, State.{State, output_of}, Image.output_limit, Run.after}
 use Rattle.mm_model.specs.Fits.{identity_of, slots_of, LoadsAreConsistent, IsCore}
-use Rattle.mm_model.proofs.CoreRows.{each_map, each_get}
-use Rattle.mm_model.proofs.StateKeeps.{after_fits}
-use Rattle.mm_thread.specs.Output.{Output}
-use Rattle.mm_thread.proofs.Assigned.{slots-with}
-use Rattle.mm_machine.specs.Validity.{IsValid}
+use Rattle.mm_model.proofs.{CoreRows.{each_map, each_get}, StateKeeps.after_fits}
+use Rattle.mm_thread.{specs.Output.Output, proofs.Assigned.slots-with}
+use Rattle.mm_machine.specs.{Validity.IsValid, Snapshot.{Parts, CanRestore, IsOutputOf, IsSnapshotOf, restored}}
 use Rattle.mm_machine.proofs.Keeping.{valid_core}
-use Rattle.mm_machine.specs.Snapshot.{Parts, CanRestore, IsOutputOf, IsSnapshotOf, restored}
 
 -- two states of one machine
 pub record IsSameMachine (s t : State) : Type 0 where

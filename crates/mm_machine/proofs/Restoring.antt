@@ -1,45 +1,31 @@
 -- What a core, and a state, is that is put back to the parts of a snapshot.
-use Rattle.std.proofs.Common.{◌≡◌, ◌≢◌, ℕ, ◌+◌, ◌<◌, ◌≤◌, Bool, true, false, cond, eqb, List, [], ◌∷◌, length, map, replicate, Option, Some, None, refl, sym, ap, subst, ◌∙◌, arith}
-use Rattle.std.specs.Prelude.{IfSome, IsSomeAnd, IsTrue}
-use Rattle.std.specs.List.{AllByRecursion}
-use Rattle.std.specs.List.Sorted.{IsStrictlyIncreasing}
-use Rattle.std.specs.Ordering.{nat_cmp}
-use Rattle.std.specs.FinMap.{is_sorted}
-use Rattle.std.specs.Option.{is_some}
-use Rattle.std.proofs.Props.{props}
-use Rattle.std.proofs.Math.Logic.{∥∥₁_elim, ∥∥₁_map}
-use Rattle.mm_model.proofs.Starts.{nothing_out}
-use Rattle.mm_word.specs.declared.word.Cell.{Cell}
-use Rattle.mm_model.specs.declared.slot.SlotState.{SlotState}
-use Rattle.mm_model.specs.declared.slot.SlotState.TheVariants.{Running, Waiting, Taken, Halted}
-use Rattle.mm_model.specs.declared.event.Event.{Event}
-use Rattle.mm_model.specs.Memory.{Memory}
-use Rattle.mm_model.specs.Slot.{Slot}
-use Rattle.mm_model.specs.State.{Core, State, slot_at, queue_at, output_of}
-use Rattle.mm_model.specs.Image.{output_limit}
-use Rattle.mm_model.specs.Flags.{one_if}
-use Rattle.mm_model.specs.Turn.{is_taken}
-use Rattle.mm_model.specs.Groups.{has_group}
-use Rattle.mm_model.specs.Spelling.{numbers_of, IsOther}
+use Rattle.std.proofs.Common.{◌≡◌, ◌≢◌, ℕ, ◌+◌, ◌<◌, ◌≤◌, Bool, true, false, cond, eqb, List, [], ◌∷◌, length, map}
+use Rattle.std.proofs.Common.{replicate, Option, Some, None, refl, sym, ap, subst, ◌∙◌, arith}
+use Rattle.std.proofs.{Props.props, Math.Logic.{∥∥₁_elim, ∥∥₁_map}}
+use Rattle.std.specs.{Prelude.{IfSome, IsSomeAnd, IsTrue}, List.{AllByRecursion, Sorted.IsStrictlyIncreasing}}
+use Rattle.std.specs.{Ordering.nat_cmp, FinMap.is_sorted, Option.is_some}
+use Rattle.mm_model.proofs.{Starts.nothing_out, Causes.some_of}
+use Rattle.mm_model.proofs.CoreRows.{each_map, each_both, of_version_by, rest_rises, above_first, Rises, each_slot}
+use Rattle.mm_model.proofs.CoreRows.{slot_has, other_at, other_in, identities_of, stays_by}
+use Rattle.mm_model.proofs.{CoreSteps.waits_for-says, Bytes.Rising.{AreRisingFrom, sorted_from}}
+use Rattle.mm_model.specs.declared.slot.SlotState.{SlotState, TheVariants.{Running, Waiting, Taken, Halted}}
+use Rattle.mm_model.specs.{declared.event.Event.Event, Memory.Memory, Slot.Slot}
+use Rattle.mm_model.specs.{State.{Core, State, slot_at, queue_at, output_of}, Image.output_limit, Flags.one_if}
+use Rattle.mm_model.specs.{Turn.is_taken, Groups.has_group, Spelling.{numbers_of, IsOther}}
 use Rattle.mm_model.specs.Fits.{waits_for, events_of, identity_of, slots_of, IsSlot, IsFormed, LoadsMatch, WaitsForSome}
-use Rattle.mm_model.specs.Fits.{Matches, IsAtSlot, LoadsAreConsistent, TakenBySome, IsConsistent, IsOfVersion, HandlersAreOthers}
-use Rattle.mm_model.specs.Fits.{IsCore, EventHoldsWords, RowHoldsWords}
-use Rattle.mm_model.proofs.Causes.{some_of}
-use Rattle.mm_model.proofs.CoreRows.{each_map, each_both, of_version_by, rest_rises, above_first, Rises, each_slot, slot_has, other_at, other_in, identities_of, stays_by}
-use Rattle.mm_model.proofs.CoreSteps.{waits_for-says}
-use Rattle.mm_model.proofs.Bytes.Rising.{AreRisingFrom, sorted_from}
-use Rattle.mm_thread.specs.Output.{Output}
-use Rattle.mm_thread.specs.Parts.{events_for, row_with, core_of, AreParts}
-use Rattle.mm_thread.proofs.Assigned.{queue-with, slots-with}
-use Rattle.mm_thread.proofs.Sound.{queue-none}
+use Rattle.mm_model.specs.Fits.{Matches, IsAtSlot, LoadsAreConsistent, TakenBySome, IsConsistent, IsOfVersion}
+use Rattle.mm_model.specs.Fits.{HandlersAreOthers, IsCore, EventHoldsWords, RowHoldsWords}
 use Rattle.mm_model.specs.Typed.{IsTypedSlot}
+use Rattle.mm_word.specs.declared.word.Cell.{Cell}
+use Rattle.mm_thread.specs.{Output.Output, Parts.{events_for, row_with, core_of, AreParts}}
+use Rattle.mm_thread.proofs.{Assigned.{queue-with, slots-with}, Sound.queue-none}
 use Rattle.mm_machine.specs.Validity.{IsValid}
-use Rattle.mm_machine.specs.Snapshot.{Parts, numbered, page_numbers, IsEventOf, IsAwaited, IsPending, IsSnapshot, IsTypedEvent, IsTyped, CanRestore, restored}
-use Rattle.mm_machine.proofs.Keeping.{valid_core}
-use Rattle.mm_machine.proofs.Pendings.{loads_counted}
+use Rattle.mm_machine.specs.Snapshot.{Parts, numbered, page_numbers, IsEventOf, IsAwaited, IsPending, IsSnapshot}
+use Rattle.mm_machine.specs.Snapshot.{IsTypedEvent, IsTyped, CanRestore, restored}
+use Rattle.mm_machine.proofs.{Keeping.valid_core, Pendings.loads_counted}
 use Rattle.mm_machine.proofs.Queues.{slot_numbered, matched, waits_handled}
-use Rattle.mm_machine.proofs.Outputs.{outputs_count, outputs_within, nothing_within, output_untouched, outputs_given, group_has}
-use Rattle.mm_machine.proofs.Steps.{from_zero}
+use Rattle.mm_machine.proofs.Outputs.{outputs_count, outputs_within, nothing_within, output_untouched, outputs_given}
+use Rattle.mm_machine.proofs.{Outputs.group_has, Steps.from_zero}
 
 -- 1. Lists.
 

@@ -1,23 +1,16 @@
 -- A state is put back by its own snapshot.
-use Rattle.std.proofs.Common.{◌≡◌, ℕ, suc, ◌<◌, Bool, true, false, List, [], ◌∷◌, length, map, replicate, get_or, refl, sym, ap, ◌∙◌, arith}
-use Rattle.std.specs.List.{AllByRecursion}
-use Rattle.std.specs.List.Sorted.{IsStrictlyIncreasing}
-use Rattle.std.proofs.lemmas.Bool.{eq-eqb, ne_eqb}
-use Rattle.mm_model.proofs.Starts.{nothing_out}
+use Rattle.std.proofs.Common.{◌≡◌, ℕ, suc, ◌<◌, Bool, true, false, List, [], ◌∷◌, length, map, replicate, get_or, refl}
+use Rattle.std.proofs.{Common.{sym, ap, ◌∙◌, arith}, lemmas.Bool.{eq-eqb, ne_eqb}}
+use Rattle.std.specs.List.{AllByRecursion, Sorted.IsStrictlyIncreasing}
+use Rattle.mm_model.proofs.{Starts.nothing_out, CoreRows.{each_map, each_both, rest_rises, above_first}}
+use Rattle.mm_model.specs.{declared.event.Event.Event, Slot.Slot}
+use Rattle.mm_model.specs.{State.{ThreadRow, Core, State, row_in, queue_of, queue_at, output_of}, Groups.has_group}
+use Rattle.mm_model.specs.{Spelling.numbers_of, Fits.{slots_of, IsOfVersion}}
 use Rattle.mm_word.specs.declared.word.Cell.{Cell}
-use Rattle.mm_model.specs.declared.event.Event.{Event}
-use Rattle.mm_model.specs.Slot.{Slot}
-use Rattle.mm_model.specs.State.{ThreadRow, Core, State, row_in, queue_of, queue_at, output_of}
-use Rattle.mm_model.specs.Groups.{has_group}
-use Rattle.mm_model.specs.Spelling.{numbers_of}
-use Rattle.mm_model.specs.Fits.{slots_of, IsOfVersion}
-use Rattle.mm_model.proofs.CoreRows.{each_map, each_both, rest_rises, above_first}
-use Rattle.mm_thread.specs.Output.{Output}
-use Rattle.mm_thread.specs.Parts.{events_for, row_with, outputs_with}
+use Rattle.mm_thread.specs.{Output.Output, Parts.{events_for, row_with, outputs_with}}
 use Rattle.mm_machine.specs.Snapshot.{Parts, has_output, IsOutputOf, IsSnapshotOf, IsAlike, queued, restored}
-use Rattle.mm_machine.proofs.Outputs.{outputs_count, output_untouched, outputs_given, group_has, output_has, no_output_at}
-use Rattle.mm_machine.proofs.Restoring.{IsHost, hosts}
-use Rattle.mm_machine.proofs.Copied.{queued_for}
+use Rattle.mm_machine.proofs.Outputs.{outputs_count, output_untouched, outputs_given, group_has, output_has}
+use Rattle.mm_machine.proofs.{Outputs.no_output_at, Restoring.{IsHost, hosts}, Copied.queued_for}
 
 -- 1. Rows.
 

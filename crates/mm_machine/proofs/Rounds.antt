@@ -1,9 +1,8 @@
 -- Round robin and lists, one cycle at a time.
-use Rattle.std.proofs.Common.{◌≡◌, ℕ, zero, suc, ◌+◌, ◌<◌, ◌≤◌, List, [], ◌∷◌, ◌++◌, length, take, get_or, Option, Some, None, refl, sym, ap, ◌∙◌, arith, append_assoc, append-nil}
+use Rattle.std.proofs.Common.{◌≡◌, ℕ, zero, suc, ◌+◌, ◌<◌, ◌≤◌, List, [], ◌∷◌, ◌++◌, length, take, get_or, Option, Some}
+use Rattle.std.proofs.Common.{None, refl, sym, ap, ◌∙◌, arith, append_assoc, append-nil}
 use Rattle.std.proofs.lemmas.List.{take_more, length-take}
-use Rattle.mm_model.specs.Schedule.{first_items}
-use Rattle.mm_model.specs.State.{State}
-use Rattle.mm_model.specs.Run.{after, next_running, then_issued, robin_from}
+use Rattle.mm_model.specs.{Schedule.first_items, State.State, Run.{after, next_running, then_issued, robin_from}}
 
 pub after_cycles : (s : State) (n : ℕ) → (after s n).cycles ≡ s.cycles + 1
 unfolding after

@@ -1,22 +1,13 @@
 -- The running slots of a machine, as bits of a mask.
-use Rattle.std.proofs.Common.{◌≡◌, ◌≢◌, ◌↔◌, ℕ, zero, suc, ◌*◌, ◌<◌, ◌^◌, true, false, Option, None, Some, IsSome, IfSome, bit_and, refl, sym, ap, ◌∙◌, arith}
-use Rattle.std.proofs.Props.{props}
-use Rattle.std.proofs.Math.Logic.{∥∥₁_elim}
-use Rattle.std.proofs.lemmas.Nat.{pow_pos}
-use Rattle.std.proofs.lemmas.Nat.Bits.{and_pow, bit_at-lt}
-use Rattle.std.specs.Option.{IsSomeAnd}
-use Rattle.std.specs.Int.{bit_at, IsBitSet}
+use Rattle.std.proofs.Common.{◌≡◌, ◌≢◌, ◌↔◌, ℕ, zero, suc, ◌*◌, ◌<◌, ◌^◌, true, false, Option, None, Some, IsSome}
+use Rattle.std.proofs.{Common.{IfSome, bit_and, refl, sym, ap, ◌∙◌, arith}, Props.props, Math.Logic.∥∥₁_elim}
+use Rattle.std.proofs.lemmas.Nat.{pow_pos, Bits.{and_pow, bit_at-lt}}
+use Rattle.std.specs.{Option.IsSomeAnd, Int.{bit_at, IsBitSet}}
 use Rattle.mm_thread.proofs.RunningSlots.{runs_where}
-use Rattle.mm_model.specs.declared.slot.SlotState.{SlotState}
-use Rattle.mm_model.specs.declared.slot.SlotState.TheVariants.{Running}
-use Rattle.mm_model.specs.Slot.{Slot}
-use Rattle.mm_model.specs.State.{State, slot_at}
-use Rattle.mm_model.specs.Turn.{is_running}
-use Rattle.mm_model.specs.Run.{next_running}
+use Rattle.mm_model.specs.{declared.slot.SlotState.{SlotState, TheVariants.Running}, Slot.Slot, State.{State, slot_at}}
+use Rattle.mm_model.specs.{Turn.is_running, Run.next_running}
 use Rattle.mm_machine.specs.Validity.{IsValid}
-use Rattle.mm_sched.specs.Shown.{runs, Shows}
-use Rattle.mm_sched.specs.Following.{IsNextBit}
-use Rattle.mm_sched.proofs.Rounds.{next_shown, none_shown}
+use Rattle.mm_sched.{specs.{Shown.{runs, Shows}, Following.IsNextBit}, proofs.Rounds.{next_shown, none_shown}}
 
 -- 1. A slot runs where its state says so.
 

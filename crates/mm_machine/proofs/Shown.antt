@@ -1,22 +1,14 @@
 -- What is put back is the state whose snapshot was given.
-use Rattle.std.proofs.Common.{◌≡◌, ◌≢◌, ℕ, suc, ◌+◌, ◌<◌, ◌≤◌, inl, inr, true, List, [], ◌∷◌, ◌++◌, map, Option, Some, None, refl, sym, ap, subst, ◌∙◌, arith}
-use Rattle.std.specs.Prelude.{slice_index}
-use Rattle.std.specs.Option.{is_some}
-use Rattle.std.specs.List.{AllByRecursion, flat_map}
-use Rattle.std.specs.List.Sorted.{IsStrictlyIncreasing}
-use Rattle.std.proofs.lemmas.Bool.{cases_eq, eq-eqb, ne_eqb}
-use Rattle.mm_model.specs.declared.event.Event.{Event}
-use Rattle.mm_model.specs.Slot.{Slot}
-use Rattle.mm_model.specs.State.{Core, State, slot_at, queue_at}
-use Rattle.mm_model.specs.Spelling.{numbers_of}
-use Rattle.mm_model.specs.Fits.{waits_for, slots_of}
-use Rattle.mm_model.proofs.Causes.{some_of}
-use Rattle.mm_model.proofs.CoreRows.{each_map, rest_rises, above_first, slots_found, numbers_above}
-use Rattle.mm_thread.specs.Output.{Output}
-use Rattle.mm_thread.specs.Parts.{events_for, core_of}
-use Rattle.mm_thread.proofs.Assigned.{queue-with}
+use Rattle.std.proofs.Common.{◌≡◌, ◌≢◌, ℕ, suc, ◌+◌, ◌<◌, ◌≤◌, inl, inr, true, List, [], ◌∷◌, ◌++◌, map, Option, Some}
+use Rattle.std.proofs.{Common.{None, refl, sym, ap, subst, ◌∙◌, arith}, lemmas.Bool.{cases_eq, eq-eqb, ne_eqb}}
+use Rattle.std.specs.{Prelude.slice_index, Option.is_some, List.{AllByRecursion, flat_map, Sorted.IsStrictlyIncreasing}}
+use Rattle.mm_model.specs.{declared.event.Event.Event, Slot.Slot, State.{Core, State, slot_at, queue_at}}
+use Rattle.mm_model.specs.{Spelling.numbers_of, Fits.{waits_for, slots_of}}
+use Rattle.mm_model.proofs.{Causes.some_of, CoreRows.{each_map, rest_rises, above_first, slots_found, numbers_above}}
+use Rattle.mm_thread.{specs.{Output.Output, Parts.{events_for, core_of}}, proofs.Assigned.queue-with}
 use Rattle.mm_machine.specs.Validity.{IsValid}
-use Rattle.mm_machine.specs.Snapshot.{Parts, numbered, queues_of, IsAwaited, DoesNotFall, IsSnapshot, IsTyped, IsOutputOf, IsSnapshotOf, CanRestore, queued_at, restored}
+use Rattle.mm_machine.specs.Snapshot.{Parts, numbered, queues_of, IsAwaited, DoesNotFall, IsSnapshot, IsTyped}
+use Rattle.mm_machine.specs.Snapshot.{IsOutputOf, IsSnapshotOf, CanRestore, queued_at, restored}
 use Rattle.mm_machine.proofs.Queues.{numbered_has, awaits}
 use Rattle.mm_machine.proofs.Restoring.{IsHost, valid_hosts, slots_are, at, rising, unwaited, core_given}
 

@@ -1,15 +1,9 @@
 -- The machine of an image begins where the image's run begins.
-use Rattle.std.proofs.Common.{◌≡◌, ℕ, ◌≤◌, ◌<◌, ◌⊎◌, inl, inr, Bool, List, [], ◌∷◌, map, replicate, sym, ap, ◌∙◌, subst, arith}
-use Rattle.std.specs.List.{AllByRecursion}
-use Rattle.mm_thread.proofs.Fresh.{each_nothing}
-use Rattle.mm_model.specs.Memory.{Memory}
-use Rattle.mm_model.specs.Slot.{Slot}
-use Rattle.mm_model.specs.State.{ThreadRow, State, Core}
-use Rattle.mm_model.specs.Image.{Image, slot_limit, start}
-use Rattle.mm_model.specs.Spelling.{IsFresh, IsImage}
-use Rattle.mm_model.specs.Fits.{slots_of, IsOfVersion}
-use Rattle.mm_model.proofs.Starts.{start_slots}
-use Rattle.mm_thread.specs.SlotIndices.{row_alone}
+use Rattle.std.proofs.Common.{◌≡◌, ℕ, ◌≤◌, ◌<◌, ◌⊎◌, inl, inr, Bool, List, [], ◌∷◌, map, replicate, sym, ap, ◌∙◌, subst}
+use Rattle.std.{proofs.Common.arith, specs.List.AllByRecursion}
+use Rattle.mm_thread.{proofs.Fresh.each_nothing, specs.SlotIndices.row_alone}
+use Rattle.mm_model.specs.{Memory.Memory, Slot.Slot, State.{ThreadRow, State, Core}, Image.{Image, slot_limit, start}}
+use Rattle.mm_model.{specs.{Spelling.{IsFresh, IsImage}, Fits.{slots_of, IsOfVersion}}, proofs.Starts.start_slots}
 
 each : {A : Type 0} {P Q : A → Type 0} → ((x : A) → P x → Q x) → (xs : List A) → AllByRecursion P xs → AllByRecursion Q xs
 each f [] h = tt

@@ -1,14 +1,10 @@
 -- Cycles of a machine: one more at a time, and for the run of an image.
 use Rattle.std.proofs.Common.{◌≡◌, ℕ, List, [], ◌∷◌, ◌++◌, Option, Some, refl, sym, ap, ◌∙◌, subst, append_assoc}
 use Rattle.mm_mem.specs.declared.memory.Memory.{Ghosts}
-use Rattle.mm_model.specs.Uses.{Use, takes_none, takes_both}
-use Rattle.mm_model.specs.State.{State}
-use Rattle.mm_model.specs.Image.{Image, start}
+use Rattle.mm_model.specs.{Uses.{Use, takes_none, takes_both}, State.State, Image.{Image, start}}
 use Rattle.mm_model.specs.Run.{after, run, uses, turn_of, last_item}
-use Rattle.mm_machine.specs.declared.machine.Machine.{Machine}
-use Rattle.mm_machine.specs.Machine.{state_of, Takes, StandsTo, StandsFor}
-use Rattle.mm_machine.proofs.Keeping.{run_more, uses_more}
-use Rattle.mm_machine.specs.Going.{WentOn}
+use Rattle.mm_machine.specs.{declared.machine.Machine.Machine, Machine.{state_of, Takes, StandsTo, StandsFor}}
+use Rattle.mm_machine.{specs.Going.WentOn, proofs.Keeping.{run_more, uses_more}}
 
 -- items behind items
 pub run_both : (s : State) (front items : List ℕ) → run s (front ++ items) ≡ run (run s front) items

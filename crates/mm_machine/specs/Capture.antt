@@ -1,13 +1,7 @@
 -- The parts that are copied of a state.
-use Rattle.std.specs.Prelude.{◌≡◌, ℕ, ◌<◌, true, List}
-use Rattle.std.specs.List.{AllByRecursion}
-use Rattle.std.specs.List.Sorted.{IsStrictlyIncreasing}
+use Rattle.std.specs.{Prelude.{◌≡◌, ℕ, ◌<◌, true, List}, List.{AllByRecursion, Sorted.IsStrictlyIncreasing}}
 use Rattle.mm_word.specs.declared.word.Cell.{Cell}
-use Rattle.mm_model.specs.Memory.{Memory, page_at}
-use Rattle.mm_model.specs.Slot.{Slot}
-use Rattle.mm_model.specs.State.{Core}
-use Rattle.mm_model.specs.Groups.{has_group}
-use Rattle.mm_model.specs.Report.{cells_or_zero}
+use Rattle.mm_model.specs.{Memory.{Memory, page_at}, Slot.Slot, State.Core, Groups.has_group, Report.cells_or_zero}
 use Rattle.mm_thread.specs.Output.{Output}
 use Rattle.mm_machine.specs.Snapshot.{groups_of, has_output, IsOutputOf}
 

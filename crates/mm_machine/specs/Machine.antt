@@ -1,10 +1,7 @@
 -- What contracts see of a machine, and the runs that it stands for.
 use Rattle.std.specs.Prelude.{◌≡◌, ℕ, List}
 use Rattle.mm_mem.specs.declared.memory.Memory.{Ghosts}
-use Rattle.mm_model.specs.Uses.{Use, TakesUses}
-use Rattle.mm_model.specs.State.{State}
-use Rattle.mm_model.specs.Image.{Image, start}
-use Rattle.mm_model.specs.Run.{run, uses}
+use Rattle.mm_model.specs.{Uses.{Use, TakesUses}, State.State, Image.{Image, start}, Run.{run, uses}}
 use Rattle.mm_machine.specs.declared.machine.Machine.{Machine}
 
 module _ {M : Type 0} {memory : Ghosts M} where

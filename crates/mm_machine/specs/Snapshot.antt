@@ -1,23 +1,14 @@
 -- A state of a machine, kept apart from the machine, without the frames of its memory.
 use Rattle.std.specs.Prelude.{◌≡◌, ◌≢◌, ℕ, ◌+◌, ◌<◌, ◌≤◌, Bool, true, false, ◌==◌, List, [], length, map, slice_index}
 use Rattle.std.specs.Prelude.{Option, Some, None, IsSomeAnd}
-use Rattle.std.specs.List.{AllByRecursion, list_any, find, count_by, flat_map}
-use Rattle.std.specs.List.Sorted.{IsStrictlyIncreasing}
-use Rattle.mm_word.specs.declared.word.Word.TheVariants.{Int}
-use Rattle.mm_word.specs.declared.word.Cell.{Cell}
-use Rattle.mm_model.specs.declared.slot.SlotState.TheVariants.{Taken}
-use Rattle.mm_model.specs.declared.event.Event.{Event}
-use Rattle.mm_model.specs.Memory.{IsPage}
-use Rattle.mm_model.specs.Slot.{Slot, register, is_empty}
-use Rattle.mm_model.specs.State.{Core, State, queue_at, output_of}
-use Rattle.mm_model.specs.Image.{output_limit}
-use Rattle.mm_model.specs.Groups.{has_group}
-use Rattle.mm_model.specs.Spelling.{numbers_of, HoldsWords}
-use Rattle.mm_model.specs.Flags.{one_if}
+use Rattle.std.specs.List.{AllByRecursion, list_any, find, count_by, flat_map, Sorted.IsStrictlyIncreasing}
+use Rattle.mm_word.specs.declared.word.{Word.TheVariants.Int, Cell.Cell}
+use Rattle.mm_model.specs.{declared.{slot.SlotState.TheVariants.Taken, event.Event.Event}, Memory.IsPage}
+use Rattle.mm_model.specs.{Slot.{Slot, register, is_empty}, State.{Core, State, queue_at, output_of}}
+use Rattle.mm_model.specs.{Image.output_limit, Groups.has_group, Spelling.{numbers_of, HoldsWords}, Flags.one_if}
 use Rattle.mm_model.specs.Fits.{is_waiting, waits_for, identity_of, slots_of, IsCore, EventHoldsWords}
 use Rattle.mm_model.specs.Typed.{IsTypedSlot}
-use Rattle.mm_thread.specs.Output.{Output}
-use Rattle.mm_thread.specs.Parts.{core_of}
+use Rattle.mm_thread.specs.{Output.Output, Parts.core_of}
 
 -- the parts of a state
 pub record Parts : Type 0 where

@@ -1,8 +1,5 @@
 -- What is true of a machine at every moment.
-use Rattle.mm_model.specs.State.{State}
-use Rattle.mm_model.specs.Image.{Image}
-use Rattle.mm_model.specs.Spelling.{IsImage}
-use Rattle.mm_model.specs.Fits.{IsState, Fits, IsConsistent, TurnsWithin}
+use Rattle.mm_model.specs.{State.State, Image.Image, Spelling.IsImage, Fits.{IsState, Fits, IsConsistent, TurnsWithin}}
 
 -- the state fits an image and keeps the invariants of the types, and no slot has taken more turns than there were
 -- cycles

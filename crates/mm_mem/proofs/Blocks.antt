@@ -1,15 +1,13 @@
 -- Blocks after a write.
-use Rattle.std.proofs.Common.{◌≡◌, ◌≢◌, ℕ, ◌+◌, ◌*◌, ◌<◌, ◌≤◌, Bool, true, false, cond, nat_eq, T, List, ◌++◌, length, take, drop, Option, None, Some, is_some, refl, sym, ap, subst, ◌∙◌}
-use Rattle.std.proofs.Common.{arith, append_assoc, nat_lt, ◌-◌, eqb-true, eq-eqb}
-use Rattle.std.specs.Ordering.{nat_cmp}
-use Rattle.std.specs.FinMap.{put, is_sorted}
-use Rattle.std.specs.FinMap.Entries.{is_sorted-put, length-put}
+use Rattle.std.proofs.Common.{◌≡◌, ◌≢◌, ℕ, ◌+◌, ◌*◌, ◌<◌, ◌≤◌, Bool, true, false, cond, nat_eq, T, List, ◌++◌, length}
+use Rattle.std.proofs.Common.{take, drop, Option, None, Some, is_some, refl, sym, ap, subst, ◌∙◌, arith, append_assoc}
+use Rattle.std.proofs.Common.{nat_lt, ◌-◌, eqb-true, eq-eqb}
 use Rattle.std.proofs.lemmas.Cmp.{nat_cmp_total}
-use Rattle.std.proofs.lemmas.List.{length-append, length-take-le, length-drop, take_at, drop_at, take-append-le, drop-append-le, drop-drop, take-append-drop}
-use Rattle.std.proofs.lemmas.Bool.Decides.{nat_tests}
+use Rattle.std.proofs.lemmas.List.{length-append, length-take-le, length-drop, take_at, drop_at, take-append-le}
+use Rattle.std.proofs.lemmas.{List.{drop-append-le, drop-drop, take-append-drop}, Bool.Decides.nat_tests}
+use Rattle.std.specs.{Ordering.nat_cmp, FinMap.{put, is_sorted, Entries.{is_sorted-put, length-put}}}
 use Rattle.mm_word.specs.declared.word.Cell.{Cell}
-use Rattle.mm_model.specs.Memory.{Memory, IsPaged, page_at, is_mapped}
-use Rattle.mm_model.specs.Counted.{page_of_block}
+use Rattle.mm_model.specs.{Memory.{Memory, IsPaged, page_at, is_mapped}, Counted.page_of_block}
 use Rattle.mm_model.proofs.Memories.{find_put_same, find_put_other, page_whole, truth, put_whole}
 use Rattle.mm_mem.specs.Blocks.{place_of_block, with_block, block_of_page, block_at, put_in_page, put_block}
 

@@ -1,10 +1,7 @@
 -- How many accesses a call adds.
 use Rattle.std.proofs.Common.{◌≡◌, ℕ, ◌+◌, Bool, true, false, List, [], ◌∷◌, ◌++◌, Option, Some, None, refl, arith}
-use Rattle.mm_word.specs.declared.word.Cell.{Cell}
-use Rattle.mm_word.specs.declared.word.Pre.{Pre}
-use Rattle.mm_word.specs.Access.{AccessValue}
-use Rattle.mm_model.specs.Uses.{Use, use_at, accesses, accesses-append}
-use Rattle.mm_model.specs.Turn.{removal_use}
+use Rattle.mm_word.specs.{declared.word.{Cell.Cell, Pre.Pre}, Access.AccessValue}
+use Rattle.mm_model.specs.{Uses.{Use, use_at, accesses, accesses-append}, Turn.removal_use}
 
 pub one : (t : AccessValue) (pre : Pre) (o : Option Cell) → accesses (use_at t.kind t.addr pre o ∷ []) ≡ 1
 one t pre None = refl

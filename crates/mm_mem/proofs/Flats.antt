@@ -1,15 +1,13 @@
 -- What an edit at a place of the list of pages is of a flat memory.
-use Rattle.std.proofs.Common.{subst, is_some, ◌&&◌, nat_lt, ◌≡◌, ℕ, ◌%◌, ◌<◌, ◌≤◌, Bool, true, false, not, List, length, get_or, set, Option, Some, None, Result, Ok, Err, IfErr, slice_get, slice_set}
-use Rattle.std.proofs.Common.{inl, inr, refl, sym, ap, arith, ◌∙◌, if◌then◌else◌}
-use Rattle.std.specs.Option.{IfNone}
-use Rattle.std.specs.Result.{result_ok}
-use Rattle.std.specs.List.{insert, remove}
-use Rattle.std.proofs.lemmas.Bool.Decides.{nat_tests}
+use Rattle.std.proofs.Common.{subst, is_some, ◌&&◌, nat_lt, ◌≡◌, ℕ, ◌%◌, ◌<◌, ◌≤◌, Bool, true, false, not, List, length}
+use Rattle.std.proofs.Common.{get_or, set, Option, Some, None, Result, Ok, Err, IfErr, slice_get, slice_set, inl, inr}
+use Rattle.std.proofs.{Common.{refl, sym, ap, arith, ◌∙◌, if◌then◌else◌}, lemmas.Bool.Decides.nat_tests}
+use Rattle.std.specs.{Option.IfNone, Result.result_ok, List.{insert, remove}}
 use Rattle.mm_word.specs.declared.word.Cell.{Cell}
-use Rattle.mm_model.specs.Memory.{Memory, page_of, place_of, cell_in, page_at, is_mapped, cell_at, put_cell, put_in, can_map, map_page, unmap_page, zero_page, IsPaged}
+use Rattle.mm_model.specs.Memory.{Memory, page_of, place_of, cell_in, page_at, is_mapped, cell_at, put_cell, put_in}
+use Rattle.mm_model.specs.Memory.{can_map, map_page, unmap_page, zero_page, IsPaged}
 use Rattle.mm_model.proofs.Memories.{cell_at-aligned, cell_at-unaligned, word_or_none}
-use Rattle.mm_mem.specs.Answers.{after_map, after_unmap}
-use Rattle.mm_mem.specs.Places.{IsAt, IsGap}
+use Rattle.mm_mem.specs.{Answers.{after_map, after_unmap}, Places.{IsAt, IsGap}}
 use Rattle.mm_mem.proofs.Places.{held, found_at, absent_in_gap, set_at, insert_in_gap, remove_at}
 
 abbrev pub Pages : Type 0

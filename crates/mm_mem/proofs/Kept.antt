@@ -1,24 +1,19 @@
 -- What an access, a mapped page and a removed page keep of a memory.
-use Rattle.std.proofs.Common.{◌≡◌, ◌≢◌, ℕ, zero, suc, ◌%◌, ◌<◌, ◌≤◌, Bool, true, false, not, nat_eq, nat_lt, ◌&&◌, ◌==◌, T, List, [], ◌∷◌, length, slice_get, get_or, Option, Some, None, is_some, refl}
-use Rattle.std.proofs.Common.{ap, ◌∙◌, if◌then◌else◌, arith}
-use Rattle.std.specs.Ordering.{nat_cmp}
-use Rattle.std.specs.List.{filter}
-use Rattle.std.specs.FinMap.{find, is_sorted}
-use Rattle.std.proofs.lemmas.Bool.Decides.{nat_tests}
-use Rattle.mm_word.specs.declared.word.Word.{Word}
-use Rattle.mm_word.specs.declared.word.Cell.{Cell}
-use Rattle.mm_word.specs.declared.word.Pre.{Pre}
-use Rattle.mm_word.specs.declared.word.Post.{Post}
+use Rattle.std.proofs.Common.{◌≡◌, ◌≢◌, ℕ, zero, suc, ◌%◌, ◌<◌, ◌≤◌, Bool, true, false, not, nat_eq, nat_lt, ◌&&◌, ◌==◌}
+use Rattle.std.proofs.Common.{T, List, [], ◌∷◌, length, slice_get, get_or, Option, Some, None, is_some, refl, ap, ◌∙◌}
+use Rattle.std.proofs.{Common.{if◌then◌else◌, arith}, lemmas.Bool.Decides.nat_tests}
+use Rattle.std.specs.{Ordering.nat_cmp, List.filter, FinMap.{find, is_sorted}}
+use Rattle.mm_word.specs.declared.word.{Word.Word, Cell.Cell, Pre.Pre, Post.Post}
+use Rattle.mm_model.specs.Memory.{Memory, page_of, is_mapped, cell_at, can_map, put_cell, map_page, unmap_page}
+use Rattle.mm_model.specs.Memory.{zero_cell, passes, full_after, IsPaged}
+use Rattle.mm_mem.specs.Answers.{loaded, stored, put_where, set_where, after_load, after_store, after_map, after_unmap}
+use Rattle.mm_mem.specs.Laws.{RefusalsChangeNothing, LoadsSetOneBit, StoresWriteOneCell, AccessesKeepPages, MapsOnePage}
+use Rattle.mm_mem.specs.Laws.{UnmapsOnePage, RemovedPagesComeBackEmpty, FramesStay, CallsKeepPaged, ContentsAreThePages}
+use Rattle.mm_mem.{specs.Places.IsAt, proofs.Places.{held, found_at}}
 use Rattle.mm_word.specs.declared.word.Post.TheVariants as posts
-use Rattle.mm_model.specs.Memory.{Memory, page_of, is_mapped, cell_at, can_map, put_cell, map_page, unmap_page, zero_cell, passes, full_after, IsPaged}
 use Rattle.mm_model.proofs.Memories as cells
 use Rattle.mm_mem.specs.declared.answer.Loaded.TheVariants as loads
 use Rattle.mm_mem.specs.declared.answer.Stored.TheVariants as stores
-use Rattle.mm_mem.specs.Answers.{loaded, stored, put_where, set_where, after_load, after_store, after_map, after_unmap}
-use Rattle.mm_mem.specs.Laws.{RefusalsChangeNothing, LoadsSetOneBit, StoresWriteOneCell, AccessesKeepPages, MapsOnePage, UnmapsOnePage, RemovedPagesComeBackEmpty, FramesStay, CallsKeepPaged}
-use Rattle.mm_mem.specs.Laws.{ContentsAreThePages}
-use Rattle.mm_mem.proofs.Places.{held, found_at}
-use Rattle.mm_mem.specs.Places.{IsAt}
 
 -- accesses
 

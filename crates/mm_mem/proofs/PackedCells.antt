@@ -1,22 +1,16 @@
 -- Cells that are packed, and read again.
-use Rattle.std.proofs.Common.{◌≡◌, ◌≢◌, ℕ, ◌+◌, ◌*◌, ◌%◌, ◌^◌, ◌<◌, Bool, true, false, List, [], ◌∷◌, ◌++◌, zero, suc, length, map, take, get_or, set, refl, sym, ap}
-use Rattle.std.proofs.Common.{subst, ◌∙◌, ⊎_elim, arith}
-use Rattle.std.specs.List.{AllByRecursion}
-use Rattle.std.specs.Int.RustNames.{bit_or}
-use Rattle.std.proofs.lemmas.Nat.{or_shifted, or_comm, pow_below}
-use Rattle.std.proofs.lemmas.Bool.{cases_eq}
-use Rattle.std.proofs.lemmas.List.{length-take-le, length-map, length-set}
-use Rattle.std.proofs.lemmas.List.{get_or-set_same, get_or-set_other, get_or-map, map_more}
+use Rattle.std.proofs.Common.{◌≡◌, ◌≢◌, ℕ, ◌+◌, ◌*◌, ◌%◌, ◌^◌, ◌<◌, Bool, true, false, List, [], ◌∷◌, ◌++◌, zero, suc}
+use Rattle.std.proofs.Common.{length, map, take, get_or, set, refl, sym, ap, subst, ◌∙◌, ⊎_elim, arith}
+use Rattle.std.proofs.lemmas.{Nat.{or_shifted, or_comm, pow_below}, Bool.cases_eq}
+use Rattle.std.proofs.lemmas.List.{length-take-le, length-map, length-set, get_or-set_same, get_or-set_other}
+use Rattle.std.proofs.lemmas.List.{get_or-map, map_more}
 use Rattle.std.proofs.lemmas.List.FromFn.{length-map-range_with_len, get_or-map-range_with_len, fill_by_all}
+use Rattle.std.specs.{List.AllByRecursion, Int.RustNames.bit_or}
 use mir.Val.{bool_byte}
-use Rattle.mm_word.specs.declared.word.Word.{Word}
-use Rattle.mm_word.specs.declared.word.Word.TheVariants.{Int, Ptr}
-use Rattle.mm_word.specs.declared.word.Cell.{Cell}
-use Rattle.mm_word.specs.Pointer.{SpellsPointer}
+use Rattle.mm_word.specs.{declared.word.{Word.{Word, TheVariants.{Int, Ptr}}, Cell.Cell}, Pointer.SpellsPointer}
 use Rattle.mm_word.specs.Word.{IsWord, word_bits, is_pointer}
 use Rattle.mm_word.proofs.Packing.{pointer_of-bits_of, SpellsPointer-bits_of}
-use Rattle.mm_model.specs.Flags.{one_if, number_of_flags, in_mask}
-use Rattle.mm_model.specs.Memory.{zero_cell}
+use Rattle.mm_model.specs.{Flags.{one_if, number_of_flags, in_mask}, Memory.zero_cell}
 use Rattle.mm_model.proofs.Bytes.Apart.{number_of_flags-below, flag-get}
 use Rattle.mm_mem.specs.Packed.{word_of, cell_from, cell_of_block, block_of, IsPackedBlock}
 use Rattle.mm_mem.specs.Unpacked.{words_of, tags_of, fulls_of}

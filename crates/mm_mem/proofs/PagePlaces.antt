@@ -1,12 +1,11 @@
 -- The cells of a mapped page, and pages by their places in the list.
-use Rattle.std.proofs.Common.{◌≡◌, ℕ, zero, suc, ◌+◌, ◌*◌, ◌%◌, ◌<◌, ◌^◌, true, List, [], ◌∷◌, length, map, Option, Some, None, slice_get, slice_index_or, refl, ap, ◌∙◌, arith}
+use Rattle.std.proofs.Common.{◌≡◌, ℕ, zero, suc, ◌+◌, ◌*◌, ◌%◌, ◌<◌, ◌^◌, true, List, [], ◌∷◌, length, map, Option}
+use Rattle.std.proofs.Common.{Some, None, slice_get, slice_index_or, refl, ap, ◌∙◌, arith}
 use Rattle.std.specs.Option.{is_some}
 use Rattle.mm_word.specs.declared.word.Cell.{Cell}
-use Rattle.mm_model.specs.Memory.{Memory, page_of, place_of, page_at, is_mapped, cell_in, cell_at, zero_cell, IsPage, IsPaged}
-use Rattle.mm_model.specs.Report.{cells_or_zero}
-use Rattle.mm_model.proofs.Memories.{page_whole, cell_at-aligned}
-use Rattle.mm_mem.specs.Places.{IsAt}
-use Rattle.mm_mem.proofs.Flats.{mapped_here}
+use Rattle.mm_model.specs.Memory.{Memory, page_of, place_of, page_at, is_mapped, cell_in, cell_at, zero_cell, IsPage}
+use Rattle.mm_model.{specs.{Memory.IsPaged, Report.cells_or_zero}, proofs.Memories.{page_whole, cell_at-aligned}}
+use Rattle.mm_mem.{specs.Places.IsAt, proofs.Flats.mapped_here}
 
 pub got : {X : Type 0} (xs : List X) (i : ℕ) (d : X) → i < length xs → slice_get xs i ≡ Some (slice_index_or xs i d)
 got [] i d h = absurd (omega arith)

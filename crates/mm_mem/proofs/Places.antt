@@ -1,13 +1,10 @@
 -- Entries at a place, or about a gap, of a list whose numbers rise.
-use Rattle.std.proofs.Common.{IsTrue, subst, ◌≡◌, ℕ, zero, suc, ◌<◌, Bool, not, T, List, [], ◌∷◌, length, get_or, set, None, Some, Result, Ok, Err, IfOk, IfErr, refl, sym, ap, arith, ◌==◌}
+use Rattle.std.proofs.Common.{IsTrue, subst, ◌≡◌, ℕ, zero, suc, ◌<◌, Bool, not, T, List, [], ◌∷◌, length, get_or, set}
+use Rattle.std.proofs.Common.{None, Some, Result, Ok, Err, IfOk, IfErr, refl, sym, ap, arith, ◌==◌}
+use Rattle.std.proofs.lemmas.{Cmp.ranked, Bool.Decides.nat_tests, List.Sorted.IsNonDecreasingBy-from_default}
 use Rattle.std.specs.Ordering.{nat_cmp, ordering_index}
-use Rattle.std.specs.List.{insert, remove, filter}
-use Rattle.std.specs.List.Sorted.{IsSearchInRange, IsBinarySearchResult, IsNonDecreasingBy}
-use Rattle.std.specs.FinMap.{find, put, is_sorted}
-use Rattle.std.specs.FinMap.Entries.{below_all}
-use Rattle.std.proofs.lemmas.Cmp.{ranked}
-use Rattle.std.proofs.lemmas.Bool.Decides.{nat_tests}
-use Rattle.std.proofs.lemmas.List.Sorted.{IsNonDecreasingBy-from_default}
+use Rattle.std.specs.List.{insert, remove, filter, Sorted.{IsSearchInRange, IsBinarySearchResult, IsNonDecreasingBy}}
+use Rattle.std.specs.FinMap.{find, put, is_sorted, Entries.below_all}
 use Rattle.mm_mem.specs.Places.{IsAt, IsGap}
 
 pub held : (b : Bool) → IsTrue b → T b

@@ -1,20 +1,12 @@
 -- What the calls of a memory answer, what they leave, and the uses that they add.
 use Rattle.std.specs.Prelude.{ℕ, if◌then◌else◌, List, [], ◌∷◌, Option, Some, None}
-use Rattle.mm_word.specs.declared.word.Word.{Word}
-use Rattle.mm_word.specs.declared.word.Cell.{Cell}
-use Rattle.mm_word.specs.declared.word.Pre.{Pre}
-use Rattle.mm_word.specs.declared.word.Pre.TheVariants.{Any}
-use Rattle.mm_word.specs.declared.word.Post.{Post}
+use Rattle.mm_word.specs.declared.word.{Word.Word, Cell.Cell, Pre.{Pre, TheVariants.Any}, Post.Post}
 use Rattle.mm_word.specs.Access.{AccessValue}
-use Rattle.mm_mem.specs.declared.answer.Loaded.{Loaded}
-use Rattle.mm_mem.specs.declared.answer.Loaded.TheVariants as loads
-use Rattle.mm_mem.specs.declared.answer.Stored.{Stored}
-use Rattle.mm_mem.specs.declared.answer.Stored.TheVariants as stores
+use Rattle.mm_mem.specs.declared.answer.{Loaded.Loaded, Stored.Stored}
 use Rattle.mm_model.specs.Memory.{Memory, cell_at, put_cell, is_mapped, can_map, map_page, unmap_page, passes}
-use Rattle.mm_model.specs.Memory.{full_after}
-use Rattle.mm_model.specs.Uses.{Use, use_at}
-use Rattle.mm_model.specs.Effect.{set_by}
-use Rattle.mm_model.specs.Turn.{removal_use, with_cell}
+use Rattle.mm_model.specs.{Memory.full_after, Uses.{Use, use_at}, Effect.set_by, Turn.{removal_use, with_cell}}
+use Rattle.mm_mem.specs.declared.answer.Loaded.TheVariants as loads
+use Rattle.mm_mem.specs.declared.answer.Stored.TheVariants as stores
 
 -- 1. Answers, from the cell that an access finds.
 

@@ -1,10 +1,8 @@
 -- Blocks of eight cells, in the cells of a page and in a memory. The number of a block is its address divided by 64.
-use Rattle.std.specs.Prelude.{ℕ, ◌+◌, ◌*◌, ◌%◌, List, ◌++◌, take, drop, Option, None, Some}
-use Rattle.std.specs.Ordering.{nat_cmp}
+use Rattle.std.specs.{Prelude.{ℕ, ◌+◌, ◌*◌, ◌%◌, List, ◌++◌, take, drop, Option, None, Some}, Ordering.nat_cmp}
 use Rattle.std.specs.FinMap.{put}
 use Rattle.mm_word.specs.declared.word.Cell.{Cell}
-use Rattle.mm_model.specs.Memory.{Memory, page_at}
-use Rattle.mm_model.specs.Counted.{page_of_block}
+use Rattle.mm_model.specs.{Memory.{Memory, page_at}, Counted.page_of_block}
 
 -- the index of a block among those of its page
 abbrev pub place_of_block : ℕ → ℕ

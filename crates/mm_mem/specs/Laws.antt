@@ -1,16 +1,12 @@
 -- What each memory keeps, whatever is asked of it.
 use Rattle.std.specs.Prelude.{◌≡◌, ◌≢◌, ◌↔◌, ℕ, ◌%◌, ◌^◌, ◌<◌, IsTrue, true, false, List, length, slice_get, Some, None}
-use Rattle.std.specs.Ordering.{nat_cmp}
-use Rattle.std.specs.FinMap.{is_sorted}
-use Rattle.mm_word.specs.declared.word.Word.{Word}
-use Rattle.mm_word.specs.declared.word.Cell.{Cell}
-use Rattle.mm_word.specs.declared.word.Pre.{Pre}
-use Rattle.mm_word.specs.declared.word.Post.{Post}
+use Rattle.std.specs.{Ordering.nat_cmp, FinMap.is_sorted}
+use Rattle.mm_word.specs.declared.word.{Word.Word, Cell.Cell, Pre.Pre, Post.Post}
 use Rattle.mm_model.specs.Memory.{Memory, page_of, page_at, is_mapped, cell_at, can_map, zero_cell, passes, full_after}
 use Rattle.mm_model.specs.Memory.{IsPaged}
+use Rattle.mm_mem.specs.Answers.{loaded, stored, after_load, after_store, after_map, after_unmap}
 use Rattle.mm_mem.specs.declared.answer.Loaded.TheVariants as loads
 use Rattle.mm_mem.specs.declared.answer.Stored.TheVariants as stores
-use Rattle.mm_mem.specs.Answers.{loaded, stored, after_load, after_store, after_map, after_unmap}
 
 -- a load that gives no word, and a store that is not done, leave the memory as it was
 pub record RefusalsChangeNothing : Type 0 where

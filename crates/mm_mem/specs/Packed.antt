@@ -1,11 +1,8 @@
 -- Packed cells: the 64 bits of each word, and two bytes for eight cells. A bit of the first byte, the tags, says
 -- whether a cell holds a pointer, and a bit of the second whether it is full; the lowest bit is for the first cell.
-use Rattle.std.specs.Prelude.{◌≡◌, ℕ, ◌<◌, Bool, true, if◌then◌else◌, List, length, map}
-use Rattle.std.specs.Prelude.{slice_index}
+use Rattle.std.specs.Prelude.{◌≡◌, ℕ, ◌<◌, Bool, true, if◌then◌else◌, List, length, map, slice_index}
 use Rattle.std.specs.List.{range_with_len}
-use Rattle.mm_word.specs.declared.word.Word.{Word}
-use Rattle.mm_word.specs.declared.word.Word.TheVariants.{Int, Ptr}
-use Rattle.mm_word.specs.declared.word.Cell.{Cell}
+use Rattle.mm_word.specs.declared.word.{Word.{Word, TheVariants.{Int, Ptr}}, Cell.Cell}
 use Rattle.mm_word.specs.Pointer.{pointer_of, SpellsPointer}
 use Rattle.mm_model.specs.Flags.{in_mask}
 

@@ -1,16 +1,12 @@
 -- A packed block is made again from its cells.
-use Rattle.std.specs.Prelude.{◌≡◌, ℕ, ◌<◌, Bool, true, false, List, length, map, refl}
-use Rattle.std.specs.List.{range_with_len}
+use Rattle.std.specs.{Prelude.{◌≡◌, ℕ, ◌<◌, Bool, true, false, List, length, map, refl}, List.range_with_len}
 use Rattle.std.proofs.Common.{sym, ap, ◌∙◌, arith, get_or}
 use Rattle.std.proofs.lemmas.List.{length-map, get_or-map, get_or_default, same_lists}
 use Rattle.std.proofs.lemmas.List.FromFn.{length-map-range_with_len, get_or-map-range_with_len}
-use Rattle.mm_word.specs.declared.word.Cell.{Cell}
-use Rattle.mm_word.specs.Pointer.{SpellsPointer}
-use Rattle.mm_word.specs.PointerBits.{bits_of-pointer_of}
+use Rattle.mm_word.specs.{declared.word.Cell.Cell, Pointer.SpellsPointer, PointerBits.bits_of-pointer_of}
 use Rattle.mm_word.specs.Word.{word_bits, is_pointer}
 use Rattle.mm_model.specs.Flags.{number_of_flags, in_mask}
-use Rattle.mm_model.proofs.Bytes.Bitmaps.{number_of_bits}
-use Rattle.mm_model.proofs.Bytes.Ranges.{map-map, map-same}
+use Rattle.mm_model.proofs.Bytes.{Bitmaps.number_of_bits, Ranges.{map-map, map-same}}
 use Rattle.mm_mem.specs.declared.block.Block.TheInside.{Inside}
 use Rattle.mm_mem.specs.Packed.{word_of, cell_of_block, block_of, IsPackedBlock}
 

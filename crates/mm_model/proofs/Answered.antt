@@ -1,6 +1,5 @@
 -- Answers of functions that may run out of memory.
-use Rattle.std.proofs.Common.{◌≡◌, Option, None, Result, Ok, Err, sym, subst}
-use Rattle.std.specs.Prelude.{IfOk, IsOkUnless}
+use Rattle.std.{proofs.Common.{◌≡◌, Option, None, Result, Ok, Err, sym, subst}, specs.Prelude.{IfOk, IsOkUnless}}
 use Rattle.mm_model.specs.Answers.{ValueOrFault}
 
 -- what is made where there is no fault, unless the answer is an error that is allowed

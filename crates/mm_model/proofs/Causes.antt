@@ -1,35 +1,26 @@
 -- What each cycle comes to, exactly, and what a fault changes.
-use Rattle.std.proofs.Common.{◌≡◌, ◌≢◌, ℕ, ◌<◌, ◌↔◌, inl, inr, Bool, true, false, eq-eqb}
-use Rattle.std.proofs.Common.{if◌then◌else◌, List, [], ◌∷◌, ◌++◌, Option, Some, None, refl, sym, ap, ◌∙◌, subst, arith}
-use Rattle.std.proofs.Common.{append-nil}
-use Rattle.std.specs.Prelude.{is_some, slice_get, IfSome}
-use Rattle.std.specs.List.{AllByRecursion}
+use Rattle.std.proofs.Common.{◌≡◌, ◌≢◌, ℕ, ◌<◌, ◌↔◌, inl, inr, Bool, true, false, eq-eqb, if◌then◌else◌, List, [], ◌∷◌}
+use Rattle.std.proofs.Common.{◌++◌, Option, Some, None, refl, sym, ap, ◌∙◌, subst, arith, append-nil}
 use Rattle.std.proofs.lemmas.Bool.{cases_eq, ne_eqb}
+use Rattle.std.specs.{Prelude.{is_some, slice_get, IfSome}, List.AllByRecursion}
 use Rattle.mm_word.specs.declared.cause.Cause.{Cause}
-use Rattle.mm_word.specs.declared.cause.Cause.TheVariants as cause
-use Rattle.mm_model.specs.declared.slot.SlotState.{SlotState}
-use Rattle.mm_model.specs.declared.slot.SlotState.TheVariants.{Running, Waiting, Halted}
-use Rattle.mm_model.specs.declared.slot.Pending.{Pending}
+use Rattle.mm_model.specs.declared.slot.{SlotState.{SlotState, TheVariants.{Running, Waiting, Halted}}, Pending.Pending}
 use Rattle.mm_model.specs.declared.event.Event.{Event}
-use Rattle.mm_model.specs.declared.step.Tick.{Tick}
-use Rattle.mm_model.specs.declared.step.Tick.TheVariants.{Idle, Blocked, Did, Faulted, Delivered}
-use Rattle.mm_model.specs.Memory.{Memory}
-use Rattle.mm_model.specs.Slot.{Slot}
-use Rattle.mm_model.specs.State.{Core, State, slot_at, queue_at, put_slot, put_queue}
-use Rattle.mm_model.specs.Image.{Image}
-use Rattle.mm_model.specs.Spelling.{IsOther, IsImage}
+use Rattle.mm_model.specs.declared.step.Tick.{Tick, TheVariants.{Idle, Blocked, Did, Faulted, Delivered}}
+use Rattle.mm_model.specs.{Memory.Memory, Slot.Slot, State.{Core, State, slot_at, queue_at, put_slot, put_queue}}
+use Rattle.mm_model.specs.{Image.Image, Spelling.{IsOther, IsImage}}
 use Rattle.mm_model.specs.Fits.{slots_of, waits_for, IsSlot, IsFormed, IsState, Fits, IsCore}
-use Rattle.mm_model.specs.Turn.{Turned, is_sync, is_handler, stood, event_of, core_faulted, tick_faulted, faulted, started, idle, turn}
-use Rattle.mm_model.specs.Run.{turn_of, state_of, after}
-use Rattle.mm_model.specs.Tests.{Stop, first_stop}
-use Rattle.mm_model.specs.Tests.Stop.{Fault, Deliver, Block}
-use Rattle.mm_model.specs.Outcomes.{Runs, IsPort, IsIdle, Delivers, StopsAt, Waits, Blocks, Faults, Completes, state_faulted, FaultChanges}
-use Rattle.mm_model.proofs.CoreRows.{each_map, slot_at-number, slot_at-put_same, slot_at-put_other, queue_at-put_slot, slot_at-put_queue, queue_at-put_same, queue_at-put_other, slot_has, other_at}
-use Rattle.mm_model.proofs.CoreSteps.{Fitting}
-use Rattle.mm_model.proofs.Fitted.{fitting_of}
-use Rattle.mm_model.proofs.Shortness.{queued_at}
+use Rattle.mm_model.specs.Turn.{Turned, is_sync, is_handler, stood, event_of, core_faulted, tick_faulted, faulted}
+use Rattle.mm_model.specs.{Turn.{started, idle, turn}, Run.{turn_of, state_of, after}}
+use Rattle.mm_model.specs.Tests.{Stop, first_stop, Stop.{Fault, Deliver, Block}}
+use Rattle.mm_model.specs.Outcomes.{Runs, IsPort, IsIdle, Delivers, StopsAt, Waits, Blocks, Faults, Completes}
+use Rattle.mm_model.specs.Outcomes.{state_faulted, FaultChanges}
+use Rattle.mm_model.proofs.CoreRows.{each_map, slot_at-number, slot_at-put_same, slot_at-put_other, queue_at-put_slot}
+use Rattle.mm_model.proofs.CoreRows.{slot_at-put_queue, queue_at-put_same, queue_at-put_other, slot_has, other_at}
+use Rattle.mm_model.proofs.{CoreSteps.Fitting, Fitted.fitting_of, Shortness.queued_at}
 use Rattle.mm_model.proofs.TurnShapes.{NamesNone, same_slot, turn_runs, turn_by}
 use Rattle.mm_model.proofs.Stops.{Orphan, FaultedTurn, Stands, turn_stops}
+use Rattle.mm_word.specs.declared.cause.Cause.TheVariants as cause
 
 -- 1. What is needed of a core: slots have other numbers than ports, and the slot of a queued event and a slot's handler are there.
 

@@ -1,17 +1,12 @@
 -- What stands where in a core after a slot, a queue or an output was put.
 use Rattle.std.proofs.Common.{◌≡◌, ◌≢◌, ℕ, zero, suc, ◌+◌, ◌<◌, ◌≤◌, inl, inr, Bool, true, false, ◌||◌, nat_eq}
 use Rattle.std.proofs.Common.{if◌then◌else◌, List, [], ◌∷◌, ◌++◌, length, map, Option, Some, None, refl, sym, ap, ◌∙◌}
-use Rattle.std.proofs.Common.{subst, arith, eq-eqb, slice_index_or, slice_set}
+use Rattle.std.proofs.{Common.{subst, arith, eq-eqb, slice_index_or, slice_set}, lemmas.Bool.{cases_eq, ne_eqb}}
 use Rattle.std.specs.Prelude.{option_map, Contains, slice_index}
-use Rattle.std.specs.List.{AllByRecursion, list_any}
-use Rattle.std.specs.List.Sorted.{IsStrictlyIncreasing}
-use Rattle.std.proofs.lemmas.Bool.{cases_eq, ne_eqb}
-use Rattle.mm_model.specs.declared.event.Event.{Event}
-use Rattle.mm_model.specs.Slot.{Slot}
-use Rattle.mm_model.specs.State.{ThreadRow, Core, row_in, slot_of, queue_of, slot_at, queue_at, at_number, put_slot, put_queue}
-use Rattle.mm_model.specs.Image.{slot_limit}
-use Rattle.mm_model.specs.Groups.{has_group}
-use Rattle.mm_model.specs.Spelling.{numbers_of, IsOther}
+use Rattle.std.specs.List.{AllByRecursion, list_any, Sorted.IsStrictlyIncreasing}
+use Rattle.mm_model.specs.{declared.event.Event.Event, Slot.Slot}
+use Rattle.mm_model.specs.State.{ThreadRow, Core, row_in, slot_of, queue_of, slot_at, queue_at, at_number, put_slot}
+use Rattle.mm_model.specs.{State.put_queue, Image.slot_limit, Groups.has_group, Spelling.{numbers_of, IsOther}}
 use Rattle.mm_model.specs.Fits.{slots_of, identity_of, IsOfVersion}
 
 -- 1. Lists.

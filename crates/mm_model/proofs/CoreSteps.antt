@@ -2,27 +2,19 @@
 -- and where a byte is put out.
 use Rattle.std.proofs.Common.{◌≡◌, ◌≢◌, ℕ, ◌+◌, ◌≤◌, inl, inr, Bool, true, false, nat_eq, if◌then◌else◌, List, [], ◌∷◌}
 use Rattle.std.proofs.Common.{◌++◌, length, map, Option, Some, None, refl, sym, ap, ◌∙◌, subst, arith, eq-eqb, eqb-true}
-use Rattle.std.proofs.Common.{slice_index_or, length-set, get_or-set_other}
-use Rattle.std.specs.Prelude.{IfSome}
-use Rattle.std.specs.List.{AllByRecursion}
-use Rattle.std.proofs.lemmas.Bool.{cases_eq, ne_eqb}
-use Rattle.mm_model.specs.declared.event.Event.{Event}
-use Rattle.mm_model.specs.Flags.{one_if}
-use Rattle.mm_model.specs.Slot.{Slot}
+use Rattle.std.proofs.{Common.{slice_index_or, length-set, get_or-set_other}, lemmas.Bool.{cases_eq, ne_eqb}}
+use Rattle.std.specs.{Prelude.IfSome, List.AllByRecursion}
+use Rattle.mm_model.specs.{declared.event.Event.Event, Flags.one_if, Slot.Slot}
 use Rattle.mm_model.specs.State.{Core, slot_at, queue_at, put_slot, put_queue, output_of, put_output}
-use Rattle.mm_model.specs.Image.{output_limit}
-use Rattle.mm_model.specs.Groups.{has_group}
-use Rattle.mm_model.specs.Spelling.{IsOther}
-use Rattle.mm_model.specs.Turn.{is_handler, is_taken}
+use Rattle.mm_model.specs.{Image.output_limit, Groups.has_group, Spelling.IsOther, Turn.{is_handler, is_taken}}
 use Rattle.mm_model.specs.Fits.{is_waiting, waits_for, events_of, slots_of, identity_of, IsSlot, IsFormed, LoadsMatch}
-use Rattle.mm_model.specs.Fits.{WaitsForSome, Matches, IsAtSlot, EventsAreAtSlots, LoadsAreConsistent, TakenBySome, IsConsistent}
-use Rattle.mm_model.specs.Fits.{HandlersAreOthers}
+use Rattle.mm_model.specs.Fits.{WaitsForSome, Matches, IsAtSlot, EventsAreAtSlots, LoadsAreConsistent, TakenBySome}
+use Rattle.mm_model.specs.Fits.{IsConsistent, HandlersAreOthers}
 use Rattle.mm_model.proofs.CoreRows.{each_map, each_both, each_push, each_set, slot_at-number, slot_at-put_same}
 use Rattle.mm_model.proofs.CoreRows.{slot_at-put_other, queue_at-put_slot, AfterPut, put_slot-cases, slot_at-put_queue}
 use Rattle.mm_model.proofs.CoreRows.{queue_at-put_same, queue_at-put_other, slots_of-put_queue, Rises, each_slot}
 use Rattle.mm_model.proofs.CoreRows.{slot_has, other_at, other_in, identities_of, rises_by, has_group_by, stays_by}
-use Rattle.mm_model.proofs.CoreRows.{identities_of-put_slot}
-use Rattle.mm_model.proofs.SlotSteps.{GoesOn}
+use Rattle.mm_model.proofs.{CoreRows.identities_of-put_slot, SlotSteps.GoesOn}
 
 -- 1. Events in a queue.
 

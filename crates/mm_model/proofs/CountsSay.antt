@@ -1,11 +1,11 @@
 -- What a hit is, as a fact about the list.
-use Rattle.std.proofs.Common.{◌≡◌, ◌≢◌, ℕ, ◌==◌, Bool, true, false, ◌&&◌, ◌||◌, if◌then◌else◌, List, [], ◌∷◌, ◌++◌, Option, None, Some, refl, sym, ap, subst, arith, ◌∙◌, inl, inr}
-use Rattle.std.proofs.lemmas.Bool.{cases_eq, or_cases, and_parts}
-use Rattle.std.proofs.lemmas.Bool.Decides.{nat_tests}
+use Rattle.std.proofs.Common.{◌≡◌, ◌≢◌, ℕ, ◌==◌, Bool, true, false, ◌&&◌, ◌||◌, if◌then◌else◌, List, [], ◌∷◌, ◌++◌}
+use Rattle.std.proofs.Common.{Option, None, Some, refl, sym, ap, subst, arith, ◌∙◌, inl, inr}
+use Rattle.std.proofs.lemmas.Bool.{cases_eq, or_cases, and_parts, Decides.nat_tests}
 use Rattle.mm_word.specs.declared.perm.Kind.{Kind}
 use Rattle.mm_model.specs.Uses.{Use, Accessed, Removed}
-use Rattle.mm_model.specs.Counted.{latest, written, writes, outside_page, is_block, is_hit, block_of, line_of, page_of_block}
-use Rattle.mm_model.specs.CountFacts.{NoneWithLine, NotRemoved, LatestWas, WroteSinceMiss}
+use Rattle.mm_model.specs.Counted.{latest, written, writes, outside_page, is_block, is_hit, block_of, line_of}
+use Rattle.mm_model.specs.{Counted.page_of_block, CountFacts.{NoneWithLine, NotRemoved, LatestWas, WroteSinceMiss}}
 
 later_access : {line block : ℕ} {us : List Use} (kind : Kind) (addr : ℕ) (done : Bool) → line_of (block_of addr) ≢ line
     → LatestWas line block us → LatestWas line block (Accessed kind addr true done ∷ us)

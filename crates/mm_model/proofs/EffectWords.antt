@@ -2,65 +2,47 @@
 use Rattle.std.proofs.Common.{◌≡◌, ℕ, zero, suc, ◌+◌, ◌*◌, ◌<◌, ◌≤◌, ◌^◌, ◌%◌, Bool, true, false, cond, ◌&&◌, ◌==◌}
 use Rattle.std.proofs.Common.{nat_lt, if◌then◌else◌, List, [], ◌∷◌, length, Option, Some, None, Result, Ok, Err, refl}
 use Rattle.std.proofs.Common.{ap, ◌∙◌, subst, arith, ltb-true, ℤ, pos, negsuc, ◌*ℤ◌, ◌+ℤ◌, slice_set, slice_get}
-use Rattle.std.proofs.Common.{slice_index_or, IfOk, FitsSigned, lit<, unwrap_or}
-use Rattle.std.specs.Int.{w32, w64, cast_unsigned, cast_signed}
-use Rattle.std.specs.List.{AllByRecursion}
-use Rattle.std.specs.Ordering.{nat_cmp, eq_by_cmp}
+use Rattle.std.proofs.{Common.{slice_index_or, IfOk, FitsSigned, lit<, unwrap_or}, lemmas.Int.ints}
+use Rattle.std.specs.{Int.{w32, w64, cast_unsigned, cast_signed}, List.AllByRecursion, Ordering.{nat_cmp, eq_by_cmp}}
 use Rattle.std.specs.FinMap.{find}
-use Rattle.std.proofs.lemmas.Int.{ints}
-use Rattle.mm_word.specs.declared.perm.Perm.{Perm}
-use Rattle.mm_word.specs.declared.perm.Kind.TheVariants.{Store}
-use Rattle.mm_word.specs.declared.cause.Cause.{Cause}
-use Rattle.mm_word.specs.declared.cause.Cause.TheVariants as cause
-use Rattle.mm_word.specs.declared.word.Pre.{Pre}
-use Rattle.mm_word.specs.declared.word.Post.{Post}
-use Rattle.mm_word.specs.declared.word.Post.TheVariants as posts
-use Rattle.mm_word.specs.declared.word.Word.{Word}
-use Rattle.mm_word.specs.declared.word.Word.TheVariants.{Int, Ptr}
-use Rattle.mm_word.specs.declared.word.Cell.{Cell}
-use Rattle.mm_word.specs.Access.{AccessValue, check_result}
-use Rattle.mm_word.specs.Cause.{number_of}
-use Rattle.mm_word.specs.Perm.{can_fetch, can_move}
-use Rattle.mm_word.specs.Pointer.{Pointer, IsWellFormed, moved_to, lea_result, leab_result, restrict_result, subseg_result, setptr_result, next_result, enter_result}
+use Rattle.mm_word.specs.declared.{perm.{Perm.Perm, Kind.TheVariants.Store}, cause.Cause.Cause}
+use Rattle.mm_word.specs.declared.word.{Pre.Pre, Post.Post, Word.{Word, TheVariants.{Int, Ptr}}, Cell.Cell}
+use Rattle.mm_word.specs.{Access.{AccessValue, check_result}, Cause.number_of, Perm.{can_fetch, can_move}}
+use Rattle.mm_word.specs.Pointer.{Pointer, IsWellFormed, moved_to, lea_result, leab_result, restrict_result}
+use Rattle.mm_word.specs.Pointer.{subseg_result, setptr_result, next_result, enter_result}
 use Rattle.mm_word.specs.Word.{IsWord, word_bits, is_pointer}
-use Rattle.mm_word.proofs.Packing.{code_of-in_range}
-use Rattle.mm_word.proofs.Below.{IsBelow-well_formed}
-use Rattle.mm_word.proofs.Results.{lea_result-IsBelow, leab_result-IsBelow, restrict_result-IsBelow, subseg_result-IsBelow, next_result-IsBelow, enter_result-well_formed, setptr_result-well_formed}
-use Rattle.mm_isa.specs.declared.instr.DivZero.{DivZero}
-use Rattle.mm_isa.specs.declared.instr.How.{How}
-use Rattle.mm_isa.specs.declared.instr.How.TheVariants.{Retry, Skip, Kill}
+use Rattle.mm_word.proofs.{Packing.code_of-in_range, Below.IsBelow-well_formed}
+use Rattle.mm_word.proofs.Results.{lea_result-IsBelow, leab_result-IsBelow, restrict_result-IsBelow}
+use Rattle.mm_word.proofs.Results.{subseg_result-IsBelow, next_result-IsBelow, enter_result-well_formed}
+use Rattle.mm_word.proofs.Results.{setptr_result-well_formed}
+use Rattle.mm_isa.specs.declared.instr.{DivZero.DivZero, How.{How, TheVariants.{Retry, Skip, Kill}}}
 use Rattle.mm_isa.specs.declared.instr.Instr.{Instr}
 use Rattle.mm_isa.specs.declared.instr.Instr.TheVariants.{Halt, Nop, Ldi, Ldhi, Mov, Isptr, Eqw, Out, SelfSlot, Alu}
 use Rattle.mm_isa.specs.declared.instr.Instr.TheVariants.{Addi, Lea, Leai, Leab, Restrict, Subseg, Setptr, Ld, St, Br}
 use Rattle.mm_isa.specs.declared.instr.Instr.TheVariants.{Bz, Bnz, Jmp, Jal, Lip, Trap, Evt, Resume, Rreg, Wreg, Map}
 use Rattle.mm_isa.specs.declared.instr.Instr.TheVariants.{Unmap}
-use Rattle.mm_isa.specs.Alu.{alu_result}
-use Rattle.mm_isa.specs.declared.operand.Operand.{Operand}
-use Rattle.mm_isa.specs.declared.operand.Operand.TheVariants.{Imm, Distance, RegisterNumber}
-use Rattle.mm_isa.specs.Table.{operation_of, IsInRange, IsInstr}
-use Rattle.mm_isa.proofs.Operands.{number_fits}
-use Rattle.mm_isa.proofs.Packing.{cast_below}
-use Rattle.mm_isa.proofs.Arithmetics.{alu_result-fits}
-use Rattle.mm_model.specs.declared.slot.Pending.{Pending}
-use Rattle.mm_model.specs.declared.event.Event.{Event}
+use Rattle.mm_isa.specs.declared.operand.Operand.{Operand, TheVariants.{Imm, Distance, RegisterNumber}}
+use Rattle.mm_isa.specs.{Alu.alu_result, Table.{operation_of, IsInRange, IsInstr}}
+use Rattle.mm_isa.proofs.{Operands.number_fits, Packing.cast_below, Arithmetics.alu_result-fits}
+use Rattle.mm_model.specs.declared.{slot.Pending.Pending, event.Event.Event}
 use Rattle.mm_model.specs.Memory.{Memory, page_of, place_of, page_at, cell_in, cell_at, is_mapped, can_map, passes}
 use Rattle.mm_model.specs.Slot.{Slot, register, is_empty}
 use Rattle.mm_model.specs.State.{ThreadRow, Core, row_in, slot_of, queue_of, slot_at, queue_at, output_of}
-use Rattle.mm_model.specs.Image.{output_limit}
-use Rattle.mm_model.specs.Spelling.{HoldsWords}
-use Rattle.mm_model.specs.Operands.{addr_operand, value_operand, word_a, word_b, first, field_a, field_b, imm_in, field_imm}
-use Rattle.mm_model.specs.Ask.{ask, is_privileged, load_kind, reaching}
-use Rattle.mm_model.specs.Ask.Ask.{Refuse, MapPage, UnmapPage}
+use Rattle.mm_model.specs.{Image.output_limit, Spelling.HoldsWords}
+use Rattle.mm_model.specs.Operands.{addr_operand, value_operand, word_a, word_b, first, field_a, field_b, imm_in}
+use Rattle.mm_model.specs.Operands.{field_imm}
+use Rattle.mm_model.specs.Ask.{ask, is_privileged, load_kind, reaching, Ask.{Refuse, MapPage, UnmapPage}}
 use Rattle.mm_model.specs.Effect.{Reply, Change, Pages, Effect, effect, advanced, plain, moved_on, sets, sets_pointer}
 use Rattle.mm_model.specs.Effect.{sets_number, if_pointer, test, same_word, high_and_low, puts_out, set_by, loaded}
 use Rattle.mm_model.specs.Effect.{stored, at_distance, branches, jumps, links, takes, resumed_by, resumes, delivers}
 use Rattle.mm_model.specs.Effect.{delivered, reads_of, writes_of, maps, unmaps}
-use Rattle.mm_model.specs.Effect.Reply.{Fine, Refused, Got, Paged, Took, Served}
-use Rattle.mm_model.specs.Effect.Pages.{Keep, Add, Remove}
+use Rattle.mm_model.specs.Effect.{Reply.{Fine, Refused, Got, Paged, Took, Served}, Pages.{Keep, Add, Remove}}
 use Rattle.mm_model.specs.Effect.Effect.{Fault, Block, Deliver, Do}
 use Rattle.mm_model.specs.Turn.{reply, reached, event_reply, first_event, served, is_taken, is_handler}
 use Rattle.mm_model.specs.Fits.{IsSlot, IsFormed, SlotHoldsWords, EventHoldsWords, RowHoldsWords}
 use Rattle.mm_model.proofs.CoreRows.{each_set, slot_at-number, slot_has}
+use Rattle.mm_word.specs.declared.cause.Cause.TheVariants as cause
+use Rattle.mm_word.specs.declared.word.Post.TheVariants as posts
 
 -- 1. What an effect has to be.
 

@@ -1,13 +1,9 @@
 -- What a state has that fits an image.
-use Rattle.std.proofs.Common.{◌≡◌, map, sym, ap, ◌∙◌}
-use Rattle.std.specs.List.{AllByRecursion}
-use Rattle.mm_model.specs.Memory.{IsPaged}
-use Rattle.mm_model.specs.State.{Core, State}
-use Rattle.mm_model.specs.Image.{Image, start}
-use Rattle.mm_model.specs.Spelling.{IsImage}
-use Rattle.mm_model.specs.Fits.{slots_of, identity_of, IsState, Fits, IsConsistent, IsOfVersion, HandlersAreOthers, IsCore}
-use Rattle.mm_model.proofs.CoreRows.{of_version_by, identities_of}
-use Rattle.mm_model.proofs.CoreSteps.{Fitting, handlers_by}
+use Rattle.std.{proofs.Common.{◌≡◌, map, sym, ap, ◌∙◌}, specs.List.AllByRecursion}
+use Rattle.mm_model.specs.{Memory.IsPaged, State.{Core, State}, Image.{Image, start}, Spelling.IsImage}
+use Rattle.mm_model.specs.Fits.{slots_of, identity_of, IsState, Fits, IsConsistent, IsOfVersion, HandlersAreOthers}
+use Rattle.mm_model.specs.Fits.{IsCore}
+use Rattle.mm_model.proofs.{CoreRows.{of_version_by, identities_of}, CoreSteps.{Fitting, handlers_by}}
 use Rattle.mm_model.proofs.Starts.{start_slots, start_core}
 
 -- each slot's handler is another slot

@@ -1,7 +1,6 @@
 -- The flags of a number.
 use Rattle.std.proofs.Common.{◌≡◌, ℕ, zero, suc, ◌+◌, ◌/◌, ◌%◌, ◌^◌, ◌<◌, false, bit_and, sym, ◌∙◌, ap, arith}
-use Rattle.std.specs.Prelude.{◌==◌, slice_index_or}
-use Rattle.std.proofs.lemmas.Nat.{shr-shr, and_mask}
+use Rattle.std.{proofs.lemmas.Nat.{shr-shr, and_mask}, specs.Prelude.{◌==◌, slice_index_or}}
 use Rattle.mm_model.specs.Flags.{flags}
 
 one_on : (r : ℕ) → 1 + r ≡ suc r

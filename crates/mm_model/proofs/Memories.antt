@@ -2,19 +2,15 @@
 use Rattle.std.proofs.Common.{◌≡◌, ℕ, zero, suc, ◌+◌, ◌%◌, ◌^◌, ◌<◌, ◌≤◌, ◌⊎◌, inl, inr, Bool, true, false, cond, not}
 use Rattle.std.proofs.Common.{nat_eq, nat_lt, List, [], ◌∷◌, replicate, slice_get, slice_set, Option, Some, None}
 use Rattle.std.proofs.Common.{is_some, refl, sym, ap, subst, ◌∙◌, arith, eqb-true, eq-eqb, if◌then◌else◌, ◌==◌, ◌&&◌}
-use Rattle.std.proofs.Common.{length, length-set, T}
-use Rattle.std.specs.Prelude.{IsTrue}
-use Rattle.std.specs.List.{filter, AllByRecursion}
-use Rattle.std.specs.Ordering.{nat_cmp}
+use Rattle.std.proofs.{Common.{length, length-set, T}, lemmas.{Cmp.nat_cmp_total, Bool.{ne_eqb, Decides.nat_tests}}}
+use Rattle.std.specs.{Prelude.IsTrue, List.{filter, AllByRecursion}, Ordering.nat_cmp}
 use Rattle.std.specs.declared.cmp.Ordering.TheVariants.{Less, Equal, Greater}
 use Rattle.std.specs.FinMap.{find, put, is_sorted, nat_cmp-IsAntisymmetric}
 use Rattle.std.specs.FinMap.Entries.{by_order, find-put, find-where_key, is_sorted-put, is_sorted-where_key, length-put}
 use Rattle.std.specs.Cmp.{unsigned_tied}
-use Rattle.std.proofs.lemmas.Cmp.{nat_cmp_total}
-use Rattle.std.proofs.lemmas.Bool.Decides.{nat_tests}
-use Rattle.std.proofs.lemmas.Bool.{ne_eqb}
 use Rattle.mm_word.specs.declared.word.Cell.{Cell}
-use Rattle.mm_model.specs.Memory.{Memory, page_at, is_mapped, cell_at, put_cell, put_in, cell_in, can_map, map_page, unmap_page, page_of, place_of, zero_cell, zero_page, IsPage, ArePages, IsPaged}
+use Rattle.mm_model.specs.Memory.{Memory, page_at, is_mapped, cell_at, put_cell, put_in, cell_in, can_map, map_page}
+use Rattle.mm_model.specs.Memory.{unmap_page, page_of, place_of, zero_cell, zero_page, IsPage, ArePages, IsPaged}
 
 -- one cell of a list of cells
 

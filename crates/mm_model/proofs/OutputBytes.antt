@@ -1,12 +1,8 @@
 -- What a group has put out are bytes, in each state of a run.
 use Rattle.std.proofs.Common.{ℕ, zero, suc, ◌<◌, ◌∷◌, ◌++◌, List, [], replicate, slice_index_or, sym, subst}
 use Rattle.std.specs.List.{AllByRecursion}
-use Rattle.mm_model.specs.State.{Core, State, output_of}
-use Rattle.mm_model.specs.Image.{Image, start}
-use Rattle.mm_model.specs.Run.{after, run}
-use Rattle.mm_model.specs.Turn.{turn}
-use Rattle.mm_model.proofs.CoreRows.{each_push, each_set}
-use Rattle.mm_model.proofs.TurnChanges.{OutputMoves, turn_changes}
+use Rattle.mm_model.specs.{State.{Core, State, output_of}, Image.{Image, start}, Run.{after, run}, Turn.turn}
+use Rattle.mm_model.proofs.{CoreRows.{each_push, each_set}, TurnChanges.{OutputMoves, turn_changes}}
 
 abbrev pub AreBytes : List ℕ → Type 0
 AreBytes bytes = AllByRecursion (λ b. b < 256) bytes

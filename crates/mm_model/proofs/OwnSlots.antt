@@ -1,13 +1,10 @@
 -- The slots of some groups are those of an image, where their handlers are among them.
-use Rattle.std.proofs.Common.{◌≡◌, ℕ, zero, suc, ◌+◌, ◌<◌, ◌≤◌, inl, inr, Bool, true, List, [], ◌∷◌, length, Option, Some, None, refl, sym, ap, ◌∙◌, subst, arith}
+use Rattle.std.proofs.Common.{◌≡◌, ℕ, zero, suc, ◌+◌, ◌<◌, ◌≤◌, inl, inr, Bool, true, List, [], ◌∷◌, length, Option}
+use Rattle.std.proofs.Common.{Some, None, refl, sym, ap, ◌∙◌, subst, arith}
+use Rattle.std.proofs.lemmas.{Bool.cases_Bool, List.Elements.{recursion_from_All, All-contains_itself}}
 use Rattle.std.specs.Prelude.{Contains, IfSome, slice_index}
-use Rattle.std.specs.List.{AllByRecursion, filter}
-use Rattle.std.specs.List.Sorted.{IsStrictlyIncreasing}
-use Rattle.std.proofs.lemmas.Bool.{cases_Bool}
-use Rattle.std.proofs.lemmas.List.Elements.{recursion_from_All, All-contains_itself}
-use Rattle.mm_model.specs.Memory.{Memory, IsPaged}
-use Rattle.mm_model.specs.Slot.{Slot}
-use Rattle.mm_model.specs.Image.{Image, slot_limit}
+use Rattle.std.specs.List.{AllByRecursion, filter, Sorted.IsStrictlyIncreasing}
+use Rattle.mm_model.specs.{Memory.{Memory, IsPaged}, Slot.Slot, Image.{Image, slot_limit}}
 use Rattle.mm_model.specs.Groups.{own_slots, HasSlot, HandlersStayInside}
 use Rattle.mm_model.specs.Spelling.{numbers_of, IsOther, IsFresh, HoldsWords, IsImage}
 use Rattle.mm_model.proofs.CoreRows.{each_map, each_both, above_first, rest_rises, numbers_above}

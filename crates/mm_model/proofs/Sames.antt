@@ -1,14 +1,9 @@
 -- Words, bits and cells that are tested to be the same are the same.
 use Rattle.std.proofs.Common.{◌≡◌, Bool, true, false, ◌&&◌, refl, sym, ap, eqb-true, eq-eqb}
 use Rattle.std.proofs.lemmas.Bool.{and_parts, and_from}
-use Rattle.mm_word.specs.declared.word.Word.{Word}
-use Rattle.mm_word.specs.declared.word.Word.TheVariants.{Int, Ptr}
-use Rattle.mm_word.specs.declared.word.Cell.{Cell}
-use Rattle.mm_word.specs.Pointer.{Pointer, IsWellFormed, bits_of}
-use Rattle.mm_word.specs.Word.{IsWord}
-use Rattle.mm_word.proofs.Packing.{bits_of-injective}
-use Rattle.mm_model.specs.Effect.{same_word}
-use Rattle.mm_model.specs.Report.{same_bit, same_cell}
+use Rattle.mm_word.specs.declared.word.{Word.{Word, TheVariants.{Int, Ptr}}, Cell.Cell}
+use Rattle.mm_word.{specs.{Pointer.{Pointer, IsWellFormed, bits_of}, Word.IsWord}, proofs.Packing.bits_of-injective}
+use Rattle.mm_model.specs.{Effect.same_word, Report.{same_bit, same_cell}}
 
 pub words_same : (a b : Word) → IsWord a → IsWord b → same_word a b ≡ true → a ≡ b
 words_same (Int a) (Int b) h k e = ap Int (eqb-true a b e)

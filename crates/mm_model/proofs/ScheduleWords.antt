@@ -1,11 +1,9 @@
 -- A word of a schedule says one item, so that schedules are texts of a grammar.
-use Rattle.std.proofs.Common.{◌≡◌, ◌≢◌, ℕ, ◌+◌, ◌<◌, ◌≤◌, ◌^◌, ◌⊎◌, inl, inr, List, [], ◌∷◌, ◌++◌, replicate, decimal, refl, sym, ap, ◌∙◌, subst, arith}
+use Rattle.std.proofs.Common.{◌≡◌, ◌≢◌, ℕ, ◌+◌, ◌<◌, ◌≤◌, ◌^◌, ◌⊎◌, inl, inr, List, [], ◌∷◌, ◌++◌, replicate, decimal}
+use Rattle.std.proofs.Common.{refl, sym, ap, ◌∙◌, subst, arith}
+use Rattle.std.proofs.lemmas.{Fmt.{decimal_by_steps, decimal_injective}, List.length-append}
 use Rattle.std.specs.List.{AllByRecursion}
-use Rattle.std.proofs.lemmas.Fmt.{decimal_by_steps, decimal_injective}
-use Rattle.std.proofs.lemmas.List.{length-append}
-use Rattle.mm_model.specs.Words.{IsGrammar}
-use Rattle.mm_model.specs.Schedule.{IsItem, SaysItems, FitsLimit}
-use Rattle.mm_model.proofs.CoreRows.{each_push}
+use Rattle.mm_model.{specs.{Words.IsGrammar, Schedule.{IsItem, SaysItems, FitsLimit}}, proofs.CoreRows.each_push}
 
 abbrev NoStar : List ℕ → Type 0
 NoStar bytes = AllByRecursion (λ b. b ≢ 42) bytes

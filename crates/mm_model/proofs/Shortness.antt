@@ -1,17 +1,12 @@
 -- Queues and lists of pending loads are short: no two of their items are of one slot, or of one register.
-use Rattle.std.proofs.Common.{◌≡◌, ◌≢◌, ℕ, zero, suc, ◌+◌, ◌<◌, ◌≤◌, inl, inr, true, false, nat_eq, if◌then◌else◌, List, [], ◌∷◌, length, Option, Some, None, refl, sym, ap, ◌∙◌, arith, eq-eqb}
-use Rattle.std.specs.List.{AllByRecursion}
-use Rattle.std.proofs.lemmas.Bool.{cases_eq, ne_eqb}
-use Rattle.mm_model.proofs.OneIf.{at_most_one}
-use Rattle.mm_model.specs.declared.slot.Pending.{Pending}
-use Rattle.mm_model.specs.declared.event.Event.{Event}
-use Rattle.mm_model.specs.Flags.{one_if}
-use Rattle.mm_model.specs.Slot.{Slot, is_empty}
+use Rattle.std.proofs.Common.{◌≡◌, ◌≢◌, ℕ, zero, suc, ◌+◌, ◌<◌, ◌≤◌, inl, inr, true, false, nat_eq, if◌then◌else◌, List}
+use Rattle.std.proofs.Common.{[], ◌∷◌, length, Option, Some, None, refl, sym, ap, ◌∙◌, arith, eq-eqb}
+use Rattle.std.{proofs.lemmas.Bool.{cases_eq, ne_eqb}, specs.List.AllByRecursion}
+use Rattle.mm_model.proofs.{OneIf.at_most_one, CoreRows.{each_map, slot_at-number, slot_has}, SlotSteps.empty_within}
+use Rattle.mm_model.proofs.CoreSteps.{some_true}
+use Rattle.mm_model.specs.{declared.{slot.Pending.Pending, event.Event.Event}, Flags.one_if, Slot.{Slot, is_empty}}
 use Rattle.mm_model.specs.State.{Core, slot_at, queue_at}
 use Rattle.mm_model.specs.Fits.{loads_for, events_of, waits_for, IsSlot, IsFormed, LoadsMatch, Matches}
-use Rattle.mm_model.proofs.CoreRows.{each_map, slot_at-number, slot_has}
-use Rattle.mm_model.proofs.SlotSteps.{empty_within}
-use Rattle.mm_model.proofs.CoreSteps.{some_true}
 
 -- 1. A list whose keys are below a bound, and each of them at most once.
 

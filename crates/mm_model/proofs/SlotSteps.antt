@@ -2,19 +2,11 @@
 use Rattle.std.proofs.Common.{◌≡◌, ◌≢◌, ℕ, zero, suc, ◌+◌, ◌<◌, inl, inr, Bool, true, false, nat_eq, if◌then◌else◌}
 use Rattle.std.proofs.Common.{List, [], ◌∷◌, ◌++◌, length, Some, refl, sym, ap, ◌∙◌, arith, eq-eqb, slice_set}
 use Rattle.std.proofs.Common.{slice_index_or, length-set, get_or-set_same, get_or-set_other}
-use Rattle.std.specs.List.{AllByRecursion}
-use Rattle.std.proofs.lemmas.Bool.{cases_eq, ne_eqb}
-use Rattle.mm_word.specs.declared.word.Word.{Word}
-use Rattle.mm_word.specs.declared.word.Word.TheVariants.{Int}
-use Rattle.mm_word.specs.Perm.{can_fetch}
-use Rattle.mm_word.specs.Pointer.{Pointer}
-use Rattle.mm_model.specs.declared.slot.SlotState.{SlotState}
-use Rattle.mm_model.specs.declared.slot.Pending.{Pending}
-use Rattle.mm_model.specs.Flags.{one_if}
-use Rattle.mm_model.specs.Slot.{Slot, register, is_empty}
-use Rattle.mm_model.specs.Effect.{delivers, delivered}
-use Rattle.mm_model.specs.Turn.{put_all, stood, with_issue}
-use Rattle.mm_model.specs.Fits.{loads_for, IsSlot, LoadsMatch, LoadsAreConsistent}
+use Rattle.std.{proofs.lemmas.Bool.{cases_eq, ne_eqb}, specs.List.AllByRecursion}
+use Rattle.mm_word.specs.{declared.word.Word.{Word, TheVariants.Int}, Perm.can_fetch, Pointer.Pointer}
+use Rattle.mm_model.specs.{declared.slot.{SlotState.SlotState, Pending.Pending}, Flags.one_if}
+use Rattle.mm_model.specs.{Slot.{Slot, register, is_empty}, Effect.{delivers, delivered}}
+use Rattle.mm_model.specs.{Turn.{put_all, stood, with_issue}, Fits.{loads_for, IsSlot, LoadsMatch, LoadsAreConsistent}}
 
 -- 1. Flags and pending loads.
 

@@ -1,24 +1,17 @@
 -- The machine's start is a state, fits its image, and keeps what the types keep.
 use Rattle.std.proofs.Common.{◌≡◌, ℕ, zero, suc, ◌≤◌, Bool, true, false, nat_eq, if◌then◌else◌, List, [], ◌∷◌, length}
 use Rattle.std.proofs.Common.{map, replicate, Option, Some, None, refl, sym, ap, ◌∙◌, subst, arith, slice_index_or}
-use Rattle.std.specs.Prelude.{IfSome}
-use Rattle.std.specs.List.{AllByRecursion}
-use Rattle.std.specs.List.Sorted.{IsStrictlyIncreasing}
-use Rattle.mm_model.specs.declared.slot.SlotState.{SlotState}
-use Rattle.mm_model.specs.declared.slot.SlotState.TheVariants.{Running, Waiting, Taken, Halted}
-use Rattle.mm_model.specs.declared.slot.Pending.{Pending}
-use Rattle.mm_model.specs.Flags.{one_if}
-use Rattle.mm_model.specs.Slot.{Slot, is_empty}
+use Rattle.std.specs.{Prelude.IfSome, List.{AllByRecursion, Sorted.IsStrictlyIncreasing}}
+use Rattle.mm_model.specs.declared.slot.SlotState.{SlotState, TheVariants.{Running, Waiting, Taken, Halted}}
+use Rattle.mm_model.specs.{declared.slot.Pending.Pending, Flags.one_if, Slot.{Slot, is_empty}}
 use Rattle.mm_model.specs.State.{ThreadRow, row_in, slot_of, queue_of, slot_at, queue_at, output_of}
 use Rattle.mm_model.specs.Image.{Image, slot_in, slot_limit, output_limit, start}
-use Rattle.mm_model.specs.Spelling.{Begins, numbers_of, IsOther, IsFresh, IsImage}
-use Rattle.mm_model.specs.Turn.{is_taken}
+use Rattle.mm_model.specs.{Spelling.{Begins, numbers_of, IsOther, IsFresh, IsImage}, Turn.is_taken}
 use Rattle.mm_model.specs.Fits.{loads_for, is_waiting, waits_for, events_of, slots_of, identity_of, SlotHoldsWords}
 use Rattle.mm_model.specs.Fits.{RowHoldsWords, IsSlot, IsFormed, IsState, LoadsMatch, WaitsForSome, Matches, Fits}
-use Rattle.mm_model.specs.Fits.{IsAtSlot, LoadsAreConsistent, TakenBySome, IsConsistent, IsOfVersion, HandlersAreOthers, IsCore}
-use Rattle.mm_model.specs.Fits.{TurnsWithin}
-use Rattle.mm_model.proofs.CoreRows.{each_map, slot_limit-few, slot_has}
-use Rattle.mm_model.proofs.CoreSteps.{waits_for-rests}
+use Rattle.mm_model.specs.Fits.{IsAtSlot, LoadsAreConsistent, TakenBySome, IsConsistent, IsOfVersion, HandlersAreOthers}
+use Rattle.mm_model.specs.Fits.{IsCore, TurnsWithin}
+use Rattle.mm_model.proofs.{CoreRows.{each_map, slot_limit-few, slot_has}, CoreSteps.waits_for-rests}
 
 -- a slot with no event
 abbrev alone : Slot → ThreadRow

@@ -1,47 +1,31 @@
 -- A turn keeps a state one, keeps it fitting its image, and keeps what the types keep of it.
 use Rattle.std.proofs.Common.{◌≡◌, ℕ, zero, suc, ◌+◌, ◌≤◌, Bool, true, false, nat_eq, if◌then◌else◌, List, [], ◌∷◌}
-use Rattle.std.proofs.Common.{◌++◌, length, map, Option, Some, None, refl, ap, ◌∙◌, arith, slice_set, cond}
-use Rattle.std.proofs.Common.{replicate, not, lit<}
-use Rattle.std.specs.List.{AllByRecursion, filter}
-use Rattle.std.specs.Ordering.{nat_cmp}
-use Rattle.std.specs.declared.cmp.Ordering.TheVariants.{Less, Equal, Greater}
-use Rattle.std.specs.FinMap.{put}
-use Rattle.std.specs.FinMap.Entries.{by_order}
-use Rattle.mm_word.specs.declared.cause.Cause.{Cause}
-use Rattle.mm_word.specs.declared.word.Word.{Word}
-use Rattle.mm_word.specs.declared.word.Word.TheVariants.{Int}
-use Rattle.mm_word.specs.declared.word.Cell.{Cell}
-use Rattle.mm_word.specs.Access.{AccessValue}
-use Rattle.mm_word.specs.Word.{IsWord}
-use Rattle.mm_isa.specs.declared.instr.Instr.{Instr}
-use Rattle.mm_isa.specs.Table.{IsInstr}
-use Rattle.mm_model.specs.declared.slot.SlotState.{SlotState}
-use Rattle.mm_model.specs.declared.slot.SlotState.TheVariants.{Running, Waiting, Halted}
-use Rattle.mm_model.specs.declared.slot.Pending.{Pending}
+use Rattle.std.proofs.Common.{◌++◌, length, map, Option, Some, None, refl, ap, ◌∙◌, arith, slice_set, cond, replicate}
+use Rattle.std.proofs.Common.{not, lit<}
+use Rattle.std.specs.{List.{AllByRecursion, filter}, Ordering.nat_cmp}
+use Rattle.std.specs.{declared.cmp.Ordering.TheVariants.{Less, Equal, Greater}, FinMap.{put, Entries.by_order}}
+use Rattle.mm_word.specs.declared.{cause.Cause.Cause, word.{Word.{Word, TheVariants.Int}, Cell.Cell}}
+use Rattle.mm_word.specs.{Access.AccessValue, Word.IsWord}
+use Rattle.mm_isa.specs.{declared.instr.Instr.Instr, Table.IsInstr}
+use Rattle.mm_model.specs.declared.slot.{SlotState.{SlotState, TheVariants.{Running, Waiting, Halted}}, Pending.Pending}
 use Rattle.mm_model.specs.declared.event.Event.{Event}
-use Rattle.mm_model.specs.Memory.{Memory, page_of, place_of, page_at, put_in, put_cell, map_page, unmap_page, can_map, zero_cell, zero_page, ArePages}
-use Rattle.mm_model.specs.Uses.{Use}
-use Rattle.mm_model.specs.Slot.{Slot}
+use Rattle.mm_model.specs.Memory.{Memory, page_of, place_of, page_at, put_in, put_cell, map_page, unmap_page, can_map}
+use Rattle.mm_model.specs.{Memory.{zero_cell, zero_page, ArePages}, Uses.Use, Slot.Slot}
 use Rattle.mm_model.specs.State.{ThreadRow, Core, State, queue_at, at_number, put_slot, put_queue, put_output}
-use Rattle.mm_model.specs.Image.{Image}
-use Rattle.mm_model.specs.Spelling.{HoldsWords, IsImage}
-use Rattle.mm_model.specs.Operands.{addr_operand, value_operand}
-use Rattle.mm_model.specs.Ask.{ask}
+use Rattle.mm_model.specs.{Image.Image, Spelling.{HoldsWords, IsImage}, Operands.{addr_operand, value_operand}, Ask.ask}
 use Rattle.mm_model.specs.Effect.{Change, Pages, Effect, effect, delivered}
-use Rattle.mm_model.specs.Effect.Pages.{Keep, Add, Remove}
-use Rattle.mm_model.specs.Effect.Effect.{Fault, Block, Deliver, Do}
+use Rattle.mm_model.specs.Effect.{Pages.{Keep, Add, Remove}, Effect.{Fault, Block, Deliver, Do}}
 use Rattle.mm_model.specs.Turn.{Turned, reply, put_all, state_after, with_issue, slot_after, with_other, with_queue}
 use Rattle.mm_model.specs.Turn.{with_out, with_cell, with_pages, core_after, memory_after, stood, is_sync, event_of}
 use Rattle.mm_model.specs.Turn.{core_faulted, faulted, touch_of, asked_use, blocked, ended, executed, idle, turn}
 use Rattle.mm_model.specs.Run.{after}
 use Rattle.mm_model.specs.Fits.{SlotHoldsWords, EventHoldsWords, RowHoldsWords, IsFormed, IsState, Fits, IsConsistent}
-use Rattle.mm_model.proofs.Memories.{put_frames, map_frames, unmap_frames, put_pages, put_count, map_pages, map_fitting, unmap_pages, unmap_count}
-use Rattle.mm_model.proofs.CoreRows.{each_set, each_push}
+use Rattle.mm_model.proofs.Memories.{put_frames, map_frames, unmap_frames, put_pages, put_count, map_pages, map_fitting}
+use Rattle.mm_model.proofs.{Memories.{unmap_pages, unmap_count}, CoreRows.{each_set, each_push}}
 use Rattle.mm_model.proofs.EffectWords.{page_words, IssueWords, CellWords, PagesFit, QueueWords, OtherWords}
 use Rattle.mm_model.proofs.EffectWords.{ChangeWords, EffectWords, slot_words, queue_words, delivered_words}
 use Rattle.mm_model.proofs.EffectWords.{addr_operand-fits, value_operand-fits, effect_words}
-use Rattle.mm_model.proofs.Fitted.{fitting_of}
-use Rattle.mm_model.proofs.TurnKeeps.{turn_keeps}
+use Rattle.mm_model.proofs.{Fitted.fitting_of, TurnKeeps.turn_keeps}
 use Rattle.mm_model.proofs.TurnShapes.{fetch_uses, fetch_use, started_one, turn_by}
 
 -- 1. Words of rows.

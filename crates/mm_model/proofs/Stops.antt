@@ -3,43 +3,28 @@ use Rattle.std.proofs.Common.{◌≡◌, ℕ, ◌+◌, ◌%◌, ◌^◌, Bool, t
 use Rattle.std.proofs.Common.{negsuc, ◌+ℤ◌, List, [], ◌∷◌, ◌++◌, map, Option, Some, None, Result, Ok, Err, ◌⊎◌, inl}
 use Rattle.std.proofs.Common.{inr, refl, sym, ap, subst, ◌/◌, ◌*ℤ◌, slice_set}
 use Rattle.std.specs.Prelude.{is_some, option_map, option_and_then}
-use Rattle.mm_word.specs.declared.perm.Perm.{Perm}
-use Rattle.mm_word.specs.declared.perm.Kind.{Kind}
-use Rattle.mm_word.specs.declared.perm.Kind.TheVariants.{Fetch, Store}
-use Rattle.mm_word.specs.declared.cause.Cause.{Cause}
-use Rattle.mm_word.specs.declared.cause.Cause.TheVariants as cause
-use Rattle.mm_word.specs.declared.word.Pre.{Pre}
-use Rattle.mm_word.specs.declared.word.Pre.TheVariants.{Any}
-use Rattle.mm_word.specs.declared.word.Post.{Post}
-use Rattle.mm_word.specs.declared.word.Word.{Word}
-use Rattle.mm_word.specs.declared.word.Word.TheVariants.{Int, Ptr}
+use Rattle.mm_word.specs.declared.{perm.{Perm.Perm, Kind.{Kind, TheVariants.{Fetch, Store}}}, cause.Cause.Cause}
+use Rattle.mm_word.specs.declared.word.{Pre.{Pre, TheVariants.Any}, Post.Post, Word.{Word, TheVariants.{Int, Ptr}}}
 use Rattle.mm_word.specs.declared.word.Cell.{Cell}
-use Rattle.mm_word.specs.Access.{AccessValue, check_result, touch_at, holds_word_at, is_aligned}
-use Rattle.mm_word.specs.Cause.{first_failing}
+use Rattle.mm_word.specs.{Access.{AccessValue, check_result, touch_at, holds_word_at, is_aligned}, Cause.first_failing}
 use Rattle.mm_word.specs.Perm.{perm_of, can_become, can_move, can_fetch, allows, execute_form}
 use Rattle.mm_word.specs.Pointer.{Pointer, in_segment, holds_word, spells_pointer, pointer_of, base_of, moved_to}
 use Rattle.mm_word.specs.Pointer.{lea_result, leab_result, restrict_result, subseg_result, restricted_to, next_result}
 use Rattle.mm_word.specs.Pointer.{enter_result}
-use Rattle.mm_isa.specs.declared.instr.AluOp.{AluOp}
-use Rattle.mm_isa.specs.declared.instr.AluOp.TheVariants.{Divu, Remu}
-use Rattle.mm_isa.specs.declared.instr.How.{How}
+use Rattle.mm_isa.specs.declared.instr.{AluOp.{AluOp, TheVariants.{Divu, Remu}}, How.How}
 use Rattle.mm_isa.specs.declared.instr.Instr.{Instr}
-use Rattle.mm_isa.specs.declared.instr.Instr.TheVariants.{Out, Alu, Lea, Leai, Leab, Restrict, Subseg, Setptr, Ld, St, Br, Bz, Bnz, Jmp, Jal, Lip, Trap, Evt, Resume, Rreg, Wreg, Map, Unmap}
-use Rattle.mm_isa.specs.Alu.{divides, div_zero, alu_result}
-use Rattle.mm_model.specs.declared.event.Event.{Event}
-use Rattle.mm_model.specs.declared.step.Tick.TheVariants.{Blocked, Did}
-use Rattle.mm_model.specs.Memory.{Memory, cell_at, can_map, is_mapped, passes}
-use Rattle.mm_model.specs.Slot.{Slot, register, is_empty}
-use Rattle.mm_model.specs.State.{Core, slot_at, queue_at}
-use Rattle.mm_model.specs.Uses.{Use, Accessed}
+use Rattle.mm_isa.specs.declared.instr.Instr.TheVariants.{Out, Alu, Lea, Leai, Leab, Restrict, Subseg, Setptr, Ld, St}
+use Rattle.mm_isa.specs.declared.instr.Instr.TheVariants.{Br, Bz, Bnz, Jmp, Jal, Lip, Trap, Evt, Resume, Rreg, Wreg}
+use Rattle.mm_isa.specs.{declared.instr.Instr.TheVariants.{Map, Unmap}, Alu.{divides, div_zero, alu_result}}
+use Rattle.mm_model.specs.declared.{event.Event.Event, step.Tick.TheVariants.{Blocked, Did}}
+use Rattle.mm_model.specs.{Memory.{Memory, cell_at, can_map, is_mapped, passes}, Slot.{Slot, register, is_empty}}
+use Rattle.mm_model.specs.{State.{Core, slot_at, queue_at}, Uses.{Use, Accessed}}
 use Rattle.mm_model.specs.Operands.{lacks, addr_operand, value_operand}
-use Rattle.mm_model.specs.Ask.{ask, is_privileged, load_kind, reaching}
-use Rattle.mm_model.specs.Ask.Ask.{Refuse, MapPage, UnmapPage}
+use Rattle.mm_model.specs.Ask.{ask, is_privileged, load_kind, reaching, Ask.{Refuse, MapPage, UnmapPage}}
 use Rattle.mm_model.specs.Effect.{Reply, Effect, effect, plain, sets, sets_pointer, sets_number, if_pointer, puts_out}
 use Rattle.mm_model.specs.Effect.{loaded, stored, at_distance, branches, jumps, links, takes, resumes, delivered}
 use Rattle.mm_model.specs.Effect.{reads_of, writes_of, maps, unmaps}
-use Rattle.mm_model.specs.Effect.Reply.{Fine, Refused, Got, Paged, Served}
-use Rattle.mm_model.specs.Effect.Effect.{Fault, Block, Deliver, Do}
+use Rattle.mm_model.specs.Effect.{Reply.{Fine, Refused, Got, Paged, Served}, Effect.{Fault, Block, Deliver, Do}}
 use Rattle.mm_model.specs.Turn.{Turned, reply, reached, first_event, event_reply, served, is_taken, is_handler, faulted}
 use Rattle.mm_model.specs.Turn.{blocked, ended, executed, issued, decoded, instr_in, fetched, aimed, started, asked_use}
 use Rattle.mm_model.specs.Turn.{touch_of}
@@ -47,6 +32,7 @@ use Rattle.mm_model.specs.Tests.{Stop, fault_test, cell_at_sum, cell_tests, reac
 use Rattle.mm_model.specs.Tests.{pointer_tests, in_segment_at, move_tests, restrict_tests, distance_tests, can_jump}
 use Rattle.mm_model.specs.Tests.{has_room, has_event, serves, serve_tests, tests, instr_at, instr_tests, first_stop}
 use Rattle.mm_model.proofs.EffectWords.{executable_moves}
+use Rattle.mm_word.specs.declared.cause.Cause.TheVariants as cause
 
 -- 1. What an effect is where the first test that fails is this one.
 

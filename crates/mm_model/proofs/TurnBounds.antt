@@ -1,28 +1,18 @@
 -- Only the running slot that an item names takes a turn, so no slot takes more turns than there are cycles.
-use Rattle.std.proofs.Common.{◌≡◌, ℕ, ◌+◌, ◌≤◌, ◌⊎◌, inl, inr, Bool, true, false, if◌then◌else◌, List, [], ◌∷◌, ◌++◌, Option, Some, None, refl, sym, ap, ◌∙◌, subst, arith}
-use Rattle.mm_word.specs.declared.word.Word.TheVariants.{Int}
-use Rattle.mm_word.specs.Access.{AccessValue}
+use Rattle.std.proofs.Common.{◌≡◌, ℕ, ◌+◌, ◌≤◌, ◌⊎◌, inl, inr, Bool, true, false, if◌then◌else◌, List, [], ◌∷◌, ◌++◌}
+use Rattle.std.proofs.Common.{Option, Some, None, refl, sym, ap, ◌∙◌, subst, arith}
+use Rattle.mm_word.specs.{declared.word.Word.TheVariants.Int, Access.AccessValue}
 use Rattle.mm_isa.specs.declared.instr.Instr.{Instr}
-use Rattle.mm_model.specs.declared.slot.SlotState.TheVariants.{Running, Waiting, Halted}
-use Rattle.mm_model.specs.declared.event.Event.{Event}
-use Rattle.mm_model.specs.Memory.{Memory}
-use Rattle.mm_model.specs.Uses.{Use}
-use Rattle.mm_model.specs.Slot.{Slot}
+use Rattle.mm_model.specs.declared.{slot.SlotState.TheVariants.{Running, Waiting, Halted}, event.Event.Event}
+use Rattle.mm_model.specs.{Memory.Memory, Uses.Use, Slot.Slot}
 use Rattle.mm_model.specs.State.{Core, State, slot_at, queue_at, put_slot, put_queue, put_output}
-use Rattle.mm_model.specs.Operands.{addr_operand, value_operand}
-use Rattle.mm_model.specs.Ask.{ask}
-use Rattle.mm_model.specs.Effect.{Change, Effect, effect, delivered}
-use Rattle.mm_model.specs.Effect.Effect.{Fault, Block, Deliver, Do}
+use Rattle.mm_model.specs.{Operands.{addr_operand, value_operand}, Ask.ask}
+use Rattle.mm_model.specs.Effect.{Change, Effect, effect, delivered, Effect.{Fault, Block, Deliver, Do}}
 use Rattle.mm_model.specs.Turn.{Turned, reply, slot_after, with_other, with_queue, with_out, core_after, stood, is_sync}
 use Rattle.mm_model.specs.Turn.{event_of, core_faulted, faulted, touch_of, asked_use, blocked, ended, executed, idle}
-use Rattle.mm_model.specs.Turn.{is_running, turn}
-use Rattle.mm_model.specs.Run.{after}
-use Rattle.mm_model.specs.Fits.{IsFormed, Matches, TurnsWithin}
-use Rattle.mm_model.specs.Outcomes.{Runs}
+use Rattle.mm_model.specs.{Turn.{is_running, turn}, Run.after, Fits.{IsFormed, Matches, TurnsWithin}, Outcomes.Runs}
 use Rattle.mm_model.proofs.CoreRows.{slot_at-number, AfterPut, put_slot-cases, slot_at-put_queue, each_slot, slot_has}
-use Rattle.mm_model.proofs.SlotSteps.{delivered_from}
-use Rattle.mm_model.proofs.CoreSteps.{Replaces}
-use Rattle.mm_model.proofs.EffectSteps.{Moves, ChangeKeeps, EffectKeeps}
+use Rattle.mm_model.proofs.{SlotSteps.delivered_from, CoreSteps.Replaces, EffectSteps.{Moves, ChangeKeeps, EffectKeeps}}
 use Rattle.mm_model.proofs.TurnKeeps.{turn_keeps, row_keeps, still_there, event_waited, changed_from}
 use Rattle.mm_model.proofs.TurnShapes.{fetch_use, started_one, turn_by}
 

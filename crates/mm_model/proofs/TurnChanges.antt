@@ -1,57 +1,37 @@
 -- What a turn changes besides slots and queues: one cell at the word of its writing access, or one page; one byte of one output.
 use Rattle.std.proofs.Common.{◌≡◌, ◌⊎◌, inl, inr, ℕ, ◌%◌, ◌^◌, ◌<◌, Bool, true, false, ◌&&◌, ◌==◌, nat_lt}
-use Rattle.std.proofs.Common.{if◌then◌else◌, List, [], ◌∷◌, ◌++◌, length, Option, Some, None, Result, Ok, Err}
-use Rattle.std.proofs.Common.{refl, sym, ap, ◌∙◌, subst, arith}
-use Rattle.std.specs.Prelude.{slice_set, slice_index_or}
-use Rattle.mm_word.specs.declared.perm.Kind.TheVariants.{Store}
-use Rattle.mm_word.specs.declared.cause.Cause.{Cause}
-use Rattle.mm_word.specs.declared.cause.Cause.TheVariants as cause
-use Rattle.mm_word.specs.declared.word.Pre.{Pre}
-use Rattle.mm_word.specs.declared.word.Post.{Post}
-use Rattle.mm_word.specs.declared.word.Post.TheVariants as posts
-use Rattle.mm_word.specs.declared.word.Word.{Word}
-use Rattle.mm_word.specs.declared.word.Word.TheVariants.{Int, Ptr}
-use Rattle.mm_word.specs.declared.word.Cell.{Cell}
-use Rattle.mm_word.specs.Access.{AccessValue, check_result}
-use Rattle.mm_word.specs.Word.{word_bits}
-use Rattle.mm_word.proofs.Checked.{kind_by}
-use Rattle.std.specs.Prelude.{IfOk}
-use Rattle.mm_word.specs.Pointer.{Pointer, lea_result, leab_result, restrict_result, subseg_result, setptr_result, next_result, enter_result}
-use Rattle.std.specs.Int.{w64, cast_signed}
-use Rattle.mm_isa.specs.declared.instr.DivZero.{DivZero}
-use Rattle.mm_isa.specs.declared.instr.How.{How}
+use Rattle.std.proofs.Common.{if◌then◌else◌, List, [], ◌∷◌, ◌++◌, length, Option, Some, None, Result, Ok, Err, refl}
+use Rattle.std.proofs.Common.{sym, ap, ◌∙◌, subst, arith}
+use Rattle.std.specs.{Prelude.{slice_set, slice_index_or, IfOk}, Int.{w64, cast_signed}}
+use Rattle.mm_word.specs.declared.{perm.Kind.TheVariants.Store, cause.Cause.Cause}
+use Rattle.mm_word.specs.declared.word.{Pre.Pre, Post.Post, Word.{Word, TheVariants.{Int, Ptr}}, Cell.Cell}
+use Rattle.mm_word.specs.{Access.{AccessValue, check_result}, Word.word_bits}
+use Rattle.mm_word.specs.Pointer.{Pointer, lea_result, leab_result, restrict_result, subseg_result, setptr_result}
+use Rattle.mm_word.{specs.Pointer.{next_result, enter_result}, proofs.Checked.kind_by}
+use Rattle.mm_isa.specs.declared.instr.{DivZero.DivZero, How.How}
 use Rattle.mm_isa.specs.declared.instr.Instr.{Instr}
-use Rattle.mm_isa.specs.declared.instr.Instr.TheVariants.{Out, Alu}
-use Rattle.mm_isa.specs.declared.instr.Instr.TheVariants.{Lea, Leai, Leab, Restrict, Subseg, Setptr, Ld, St, Br}
-use Rattle.mm_isa.specs.declared.instr.Instr.TheVariants.{Bz, Bnz, Jmp, Jal, Lip, Trap, Evt, Resume, Rreg, Wreg, Map}
-use Rattle.mm_isa.specs.declared.instr.Instr.TheVariants.{Unmap}
-use Rattle.mm_isa.specs.Alu.{alu_result}
-use Rattle.mm_model.specs.declared.slot.SlotState.TheVariants.{Running, Halted}
-use Rattle.mm_model.specs.declared.event.Event.{Event}
-use Rattle.mm_model.specs.Memory.{Memory, cell_at, put_cell, is_mapped, can_map, map_page, unmap_page, passes, full_after}
-use Rattle.mm_model.specs.Uses.{Use}
-use Rattle.mm_model.specs.Slot.{Slot, register, is_empty}
-use Rattle.mm_model.specs.State.{Core, put_slot, put_queue, output_of, put_output}
-use Rattle.mm_model.specs.Image.{output_limit}
+use Rattle.mm_isa.specs.declared.instr.Instr.TheVariants.{Out, Alu, Lea, Leai, Leab, Restrict, Subseg, Setptr, Ld, St}
+use Rattle.mm_isa.specs.declared.instr.Instr.TheVariants.{Br, Bz, Bnz, Jmp, Jal, Lip, Trap, Evt, Resume, Rreg, Wreg}
+use Rattle.mm_isa.specs.{declared.instr.Instr.TheVariants.{Map, Unmap}, Alu.alu_result}
+use Rattle.mm_model.specs.declared.{slot.SlotState.TheVariants.{Running, Halted}, event.Event.Event}
+use Rattle.mm_model.specs.Memory.{Memory, cell_at, put_cell, is_mapped, can_map, map_page, unmap_page, passes}
+use Rattle.mm_model.specs.{Memory.full_after, Uses.Use, Slot.{Slot, register, is_empty}}
+use Rattle.mm_model.specs.{State.{Core, put_slot, put_queue, output_of, put_output}, Image.output_limit}
 use Rattle.mm_model.specs.Operands.{addr_operand, value_operand}
-use Rattle.mm_model.specs.Ask.{Ask, ask, is_privileged, load_kind, reaching}
-use Rattle.mm_model.specs.Ask.Ask.{Refuse, Reach, MapPage, UnmapPage}
+use Rattle.mm_model.specs.Ask.{Ask, ask, is_privileged, load_kind, reaching, Ask.{Refuse, Reach, MapPage, UnmapPage}}
 use Rattle.mm_model.specs.Effect.{Reply, Change, Effect, effect, delivered, sets, sets_pointer, sets_number, if_pointer}
 use Rattle.mm_model.specs.Effect.{puts_out, set_by, loads, loaded, stored, at_distance, branches, jumps, links, takes}
 use Rattle.mm_model.specs.Effect.{resumes, reads_of, writes_of, maps, unmaps, plain}
-use Rattle.mm_model.specs.Effect.Reply.{Fine, Refused, Got, Paged, Took, Served}
-use Rattle.mm_model.specs.Effect.Pages.{Keep, Add, Remove}
+use Rattle.mm_model.specs.Effect.{Reply.{Fine, Refused, Got, Paged, Took, Served}, Pages.{Keep, Add, Remove}}
 use Rattle.mm_model.specs.Effect.Effect.{Fault, Block, Deliver, Do}
 use Rattle.mm_model.specs.Turn.{Turned, reached, reply, slot_after, with_other, with_queue, with_out, with_cell}
-use Rattle.mm_model.specs.Turn.{with_pages, core_after, memory_after, stood, is_sync, event_of}
-use Rattle.mm_model.specs.Turn.{core_faulted, faulted, touch_of, asked_use, blocked, ended, executed}
-use Rattle.mm_model.specs.Turn.{idle}
-use Rattle.mm_model.specs.Turn.{turn}
-use Rattle.mm_model.specs.Counted.{writes}
-use Rattle.mm_model.specs.Fits.{identity_of}
-use Rattle.mm_model.proofs.SlotSteps.{delivered_from}
-use Rattle.mm_model.proofs.TurnKeeps.{changed_from}
+use Rattle.mm_model.specs.Turn.{with_pages, core_after, memory_after, stood, is_sync, event_of, core_faulted, faulted}
+use Rattle.mm_model.specs.Turn.{touch_of, asked_use, blocked, ended, executed, idle, turn}
+use Rattle.mm_model.specs.{Counted.writes, Fits.identity_of}
+use Rattle.mm_model.proofs.{SlotSteps.delivered_from, TurnKeeps.changed_from}
 use Rattle.mm_model.proofs.TurnShapes.{fetch_uses, fetch_use, started_one, turn_by}
+use Rattle.mm_word.specs.declared.cause.Cause.TheVariants as cause
+use Rattle.mm_word.specs.declared.word.Post.TheVariants as posts
 
 -- 1. Most instructions change neither cells nor pages nor outputs.
 

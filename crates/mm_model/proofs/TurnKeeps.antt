@@ -1,41 +1,30 @@
 -- A turn keeps what a core is, what matches in it, and what the types keep of it.
-use Rattle.std.proofs.Common.{flat_map, ◌≡◌, ℕ, ◌+◌, ◌<◌, ◌≤◌, Bool, true, false, ◌&&◌, ◌||◌, nat_eq}
-use Rattle.std.proofs.Common.{if◌then◌else◌, List, [], ◌∷◌, ◌++◌, length, Option, Some, None, refl, sym, ap, ◌∙◌, subst}
-use Rattle.std.proofs.Common.{arith, eq-eqb, slice_set, slice_index_or, get_or-set_same, length-append}
+use Rattle.std.proofs.Common.{flat_map, ◌≡◌, ℕ, ◌+◌, ◌<◌, ◌≤◌, Bool, true, false, ◌&&◌, ◌||◌, nat_eq, if◌then◌else◌}
+use Rattle.std.proofs.Common.{List, [], ◌∷◌, ◌++◌, length, Option, Some, None, refl, sym, ap, ◌∙◌, subst, arith, eq-eqb}
+use Rattle.std.proofs.{Common.{slice_set, slice_index_or, get_or-set_same, length-append}, lemmas.Bool.or_right}
 use Rattle.std.specs.List.{AllByRecursion, list_any}
-use Rattle.std.proofs.lemmas.Bool.{or_right}
-use Rattle.mm_word.specs.declared.cause.Cause.{Cause}
-use Rattle.mm_word.specs.declared.word.Word.{Word}
-use Rattle.mm_word.specs.declared.word.Word.TheVariants.{Int}
-use Rattle.mm_word.specs.Access.{AccessValue}
+use Rattle.mm_word.specs.{declared.{cause.Cause.Cause, word.Word.{Word, TheVariants.Int}}, Access.AccessValue}
 use Rattle.mm_word.specs.Perm.{can_fetch}
-use Rattle.mm_isa.specs.declared.instr.Instr.{Instr}
-use Rattle.mm_isa.specs.declared.operand.Operand.{Operand}
-use Rattle.mm_isa.specs.declared.operand.Operand.TheVariants.{Rd, EvtRd}
+use Rattle.mm_isa.specs.declared.{instr.Instr.Instr, operand.Operand.{Operand, TheVariants.{Rd, EvtRd}}}
 use Rattle.mm_isa.specs.Table.{operation_of, IsInRange, IsInstr}
-use Rattle.mm_model.specs.declared.slot.SlotState.{SlotState}
-use Rattle.mm_model.specs.declared.slot.SlotState.TheVariants.{Running, Waiting, Halted}
-use Rattle.mm_model.specs.declared.slot.Pending.{Pending}
-use Rattle.mm_model.specs.declared.event.Event.{Event}
-use Rattle.mm_model.specs.Memory.{Memory}
-use Rattle.mm_model.specs.Uses.{Use}
-use Rattle.mm_model.specs.Slot.{Slot, register, is_empty}
-use Rattle.mm_model.specs.State.{Core, slot_at, put_slot, put_queue, output_of, put_output}
-use Rattle.mm_model.specs.Image.{output_limit}
+use Rattle.mm_model.specs.declared.slot.{SlotState.{SlotState, TheVariants.{Running, Waiting, Halted}}, Pending.Pending}
+use Rattle.mm_model.specs.{declared.event.Event.Event, Memory.Memory, Uses.Use, Slot.{Slot, register, is_empty}}
+use Rattle.mm_model.specs.{State.{Core, slot_at, put_slot, put_queue, output_of, put_output}, Image.output_limit}
 use Rattle.mm_model.specs.Groups.{has_group}
 use Rattle.mm_model.specs.Operands.{addr_operand, value_operand, field_a, field_b, rd_in, fields_d, field_empty, lacks}
-use Rattle.mm_model.specs.Ask.{ask}
-use Rattle.mm_model.specs.Effect.{Change, Effect, effect, delivered}
-use Rattle.mm_model.specs.Effect.Effect.{Fault, Block, Deliver, Do}
+use Rattle.mm_model.specs.{Ask.ask, Effect.{Change, Effect, effect, delivered, Effect.{Fault, Block, Deliver, Do}}}
 use Rattle.mm_model.specs.Turn.{Turned, reply, put_all, state_after, with_issue, slot_after, with_other, with_queue}
 use Rattle.mm_model.specs.Turn.{with_out, core_after, stood, is_sync, event_of, core_faulted, faulted, touch_of}
 use Rattle.mm_model.specs.Turn.{asked_use, blocked, ended, executed, idle, arrives, is_running, is_taken, turn}
 use Rattle.mm_model.specs.Fits.{is_waiting, identity_of, slots_of, IsSlot, IsFormed, Matches, IsCore}
-use Rattle.mm_model.proofs.CoreRows.{slot_at-put_other, slot_at-put_queue, put_queue-put_slot, slot_has}
-use Rattle.mm_model.proofs.CoreRows.{slot_contained, each_contained, each_map, of_version_by, has_group_by, stays_by}
-use Rattle.mm_model.proofs.SlotSteps.{GoesOn, goes_then, slot_stands, slot_stood, slot_put_all, slot_issued, slot_delivered, delivered_from}
-use Rattle.mm_model.proofs.CoreSteps.{Fitting, Keeps, keeps_self, keeps_then, Replaces, put_keeps, puts_keep, wait_keeps, waited, take_keeps, out_keeps}
-use Rattle.mm_model.proofs.EffectSteps.{OtherKeeps, EventTaken, Moves, IssueKeeps, OutKeeps, ChangeKeeps, EffectKeeps, running_waits_not, waiting_runs_not, effect_keeps}
+use Rattle.mm_model.proofs.CoreRows.{slot_at-put_other, slot_at-put_queue, put_queue-put_slot, slot_has, slot_contained}
+use Rattle.mm_model.proofs.CoreRows.{each_contained, each_map, of_version_by, has_group_by, stays_by}
+use Rattle.mm_model.proofs.SlotSteps.{GoesOn, goes_then, slot_stands, slot_stood, slot_put_all, slot_issued}
+use Rattle.mm_model.proofs.SlotSteps.{slot_delivered, delivered_from}
+use Rattle.mm_model.proofs.CoreSteps.{Fitting, Keeps, keeps_self, keeps_then, Replaces, put_keeps, puts_keep}
+use Rattle.mm_model.proofs.CoreSteps.{wait_keeps, waited, take_keeps, out_keeps}
+use Rattle.mm_model.proofs.EffectSteps.{OtherKeeps, EventTaken, Moves, IssueKeeps, OutKeeps, ChangeKeeps, EffectKeeps}
+use Rattle.mm_model.proofs.EffectSteps.{running_waits_not, waiting_runs_not, effect_keeps}
 use Rattle.mm_model.proofs.TurnShapes.{fetch_uses, fetch_use, started_one, turn_by}
 
 -- 1. The registers that an instruction names for its results.

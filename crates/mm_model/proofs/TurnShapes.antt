@@ -1,28 +1,17 @@
 -- The shapes that a turn can have, each with its instruction and the uses that it makes.
-use Rattle.std.proofs.Common.{◌≡◌, ℕ, ◌-◌, ◌≤◌, Bool, true, false, ◌&&◌, nat_le, if◌then◌else◌, pos, List, [], ◌∷◌, Option}
-use Rattle.std.proofs.Common.{Some, None, Result, Ok, Err, refl, sym, ap, subst, ◌∙◌, arith, leb-true, leb-false}
-use Rattle.std.specs.Prelude.{IfSome, slice_get, option_map}
+use Rattle.std.proofs.Common.{◌≡◌, ℕ, ◌-◌, ◌≤◌, Bool, true, false, ◌&&◌, nat_le, if◌then◌else◌, pos, List, [], ◌∷◌}
+use Rattle.std.proofs.Common.{Option, Some, None, Result, Ok, Err, refl, sym, ap, subst, ◌∙◌, arith, leb-true}
+use Rattle.std.{proofs.Common.leb-false, specs.Prelude.{IfSome, slice_get, option_map}}
 use Rattle.mm_word.specs.declared.perm.Kind.TheVariants.{Fetch}
-use Rattle.mm_word.specs.declared.cause.Cause.{Cause}
-use Rattle.mm_word.specs.declared.cause.Cause.TheVariants.{Bounds, NoPage, Illegal}
-use Rattle.mm_word.specs.declared.word.Word.{Word}
-use Rattle.mm_word.specs.declared.word.Word.TheVariants.{Int, Ptr}
-use Rattle.mm_word.specs.declared.word.Cell.{Cell}
-use Rattle.mm_word.specs.Access.{AccessValue, check_result}
-use Rattle.mm_word.specs.Pointer.{Pointer}
-use Rattle.mm_isa.specs.declared.instr.Instr.{Instr}
-use Rattle.mm_isa.specs.Table.{IsInstr}
-use Rattle.mm_isa.proofs.Spelling.{instr_of-spelled}
-use Rattle.mm_model.specs.declared.slot.Pending.{Pending}
-use Rattle.mm_model.specs.Memory.{Memory, cell_at}
-use Rattle.mm_model.specs.Uses.{Use, Accessed}
-use Rattle.mm_model.specs.Slot.{Slot}
-use Rattle.mm_model.specs.State.{Core, slot_at}
-use Rattle.mm_model.specs.Operands.{lacks}
-use Rattle.mm_model.specs.Effect.{delivered}
-use Rattle.mm_model.specs.Turn.{Turned, faulted, blocked, executed, issued, decoded, instr_in, fetched, aimed, started, idle, arrives, port_of, taken_by_port, taken_by, is_running, turn}
-use Rattle.mm_model.specs.Outcomes.{Runs, IsPort}
-use Rattle.mm_model.proofs.CoreRows.{slot_at-number}
+use Rattle.mm_word.specs.declared.cause.Cause.{Cause, TheVariants.{Bounds, NoPage, Illegal}}
+use Rattle.mm_word.specs.declared.word.{Word.{Word, TheVariants.{Int, Ptr}}, Cell.Cell}
+use Rattle.mm_word.specs.{Access.{AccessValue, check_result}, Pointer.Pointer}
+use Rattle.mm_isa.{specs.{declared.instr.Instr.Instr, Table.IsInstr}, proofs.Spelling.instr_of-spelled}
+use Rattle.mm_model.specs.{declared.slot.Pending.Pending, Memory.{Memory, cell_at}, Uses.{Use, Accessed}, Slot.Slot}
+use Rattle.mm_model.specs.{State.{Core, slot_at}, Operands.lacks, Effect.delivered}
+use Rattle.mm_model.specs.Turn.{Turned, faulted, blocked, executed, issued, decoded, instr_in, fetched, aimed, started}
+use Rattle.mm_model.specs.Turn.{idle, arrives, port_of, taken_by_port, taken_by, is_running, turn}
+use Rattle.mm_model.{specs.Outcomes.{Runs, IsPort}, proofs.CoreRows.slot_at-number}
 
 -- 1. The instruction that a turn fetches.
 

@@ -1,7 +1,7 @@
 -- A text of words means one list at most, has a fault at one place at most, and never both.
-use Rattle.std.proofs.Common.{◌≡◌, ℕ, ◌⊎◌, inl, inr, List, [], ◌∷◌, ◌++◌, refl, sym, ap, ◌∙◌, subst, append_assoc, append-nil}
-use Rattle.mm_model.specs.Words.{runs_of, Lists, TextMeans, TextFaultsAt, IsGrammar}
-use Rattle.mm_model.specs.Words.Lists.{no_word, word}
+use Rattle.std.proofs.Common.{◌≡◌, ℕ, ◌⊎◌, inl, inr, List, [], ◌∷◌, ◌++◌, refl, sym, ap, ◌∙◌, subst, append_assoc}
+use Rattle.std.proofs.Common.{append-nil}
+use Rattle.mm_model.specs.Words.{runs_of, Lists, TextMeans, TextFaultsAt, IsGrammar, Lists.{no_word, word}}
 
 abbrev pub Runs : Type 0
 Runs = List (ℕ × List ℕ)

@@ -1,21 +1,10 @@
 -- The audit's text.
 use Rattle.std.specs.Prelude.{◌≡◌, ◌↔◌, ℕ, ◌<◌, ◌≤◌, Bool, true, false, List, [], ◌∷◌, ◌++◌, Contains, zip, drop, codes}
-use Rattle.std.specs.Prelude.{decimal, Option, Some, None}
-use Rattle.std.specs.List.{flat_map, AllByRecursion}
-use Rattle.mm_word.specs.Perm.{can_load, can_store}
-use Rattle.mm_word.specs.Pointer.{Pointer, InSegment, base_of}
-use Rattle.mm_word.specs.declared.perm.Perm.{Perm}
-use Rattle.mm_model.specs.declared.word_use.WordUse.{WordUse}
-use Rattle.mm_model.specs.declared.word_use.WordUse.TheVariants.{Touch, Write}
-use Rattle.mm_model.specs.Digits.{hex}
-use Rattle.mm_model.specs.Lines.{newline}
-use Rattle.mm_model.specs.Slot.{Slot}
-use Rattle.mm_model.specs.Image.{Image, start}
-use Rattle.mm_model.specs.Groups.{among}
-use Rattle.mm_model.specs.Report.{groups_of}
-use Rattle.mm_model.specs.Reach.{Entries, Grants, CanWrite, Privileged}
-use Rattle.mm_model.specs.Reach.Entries.{All}
-use Rattle.mm_model.specs.Worlds.{Touchable, Apart}
+use Rattle.std.specs.{Prelude.{decimal, Option, Some, None}, List.{flat_map, AllByRecursion}}
+use Rattle.mm_word.specs.{Perm.{can_load, can_store}, Pointer.{Pointer, InSegment, base_of}, declared.perm.Perm.Perm}
+use Rattle.mm_model.specs.{declared.word_use.WordUse.{WordUse, TheVariants.{Touch, Write}}, Digits.hex, Lines.newline}
+use Rattle.mm_model.specs.{Slot.Slot, Image.{Image, start}, Groups.among, Report.groups_of}
+use Rattle.mm_model.specs.{Reach.{Entries, Grants, CanWrite, Privileged, Entries.All}, Worlds.{Touchable, Apart}}
 
 -- 1. Segments.
 

@@ -1,6 +1,5 @@
 -- What bytes say: numbers and bits.
-use Rattle.std.specs.Prelude.{ℕ, ◌+◌, ◌*◌, ◌/◌, ◌%◌, ◌^◌, ◌<◌, Bool, ◌==◌, List, take, drop, slice_index}
-use Rattle.std.specs.List.{fold}
+use Rattle.std.specs.{Prelude.{ℕ, ◌+◌, ◌*◌, ◌/◌, ◌%◌, ◌^◌, ◌<◌, Bool, ◌==◌, List, take, drop, slice_index}, List.fold}
 
 -- each number of the list is a byte
 abbrev pub IsBytes : List ℕ → Type 0

@@ -1,9 +1,7 @@
 -- The counts of a list of uses, said as facts about the list. The latest use is first.
-use Rattle.std.specs.Prelude.{◌≡◌, ℕ, Bool, true, false, List, [], ◌∷◌, ◌++◌}
-use Rattle.std.proofs.Common.{◌≢◌}
+use Rattle.std.{specs.Prelude.{◌≡◌, ℕ, Bool, true, false, List, [], ◌∷◌, ◌++◌}, proofs.Common.◌≢◌}
 use Rattle.mm_word.specs.declared.perm.Kind.{Kind}
-use Rattle.mm_model.specs.Uses.{Use, Accessed, Removed}
-use Rattle.mm_model.specs.Counted.{block_of, line_of, page_of_block, is_hit, writes}
+use Rattle.mm_model.specs.{Uses.{Use, Accessed, Removed}, Counted.{block_of, line_of, page_of_block, is_hit, writes}}
 
 -- no counted access has this line index
 abbrev pub NoneWithLine : ℕ → List Use → Type 0

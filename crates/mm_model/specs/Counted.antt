@@ -1,11 +1,8 @@
 -- The counts of a list of uses. In each list here the latest use is first.
 use Rattle.std.specs.Prelude.{ℕ, ◌+◌, ◌/◌, ◌%◌, ◌==◌, Bool, true, false, not, ◌&&◌, ◌||◌, if◌then◌else◌, List, [], ◌∷◌}
 use Rattle.std.specs.Prelude.{◌++◌, reverse, take, Option, None, Some, is_some}
-use Rattle.mm_word.specs.declared.perm.Kind.{Kind}
-use Rattle.mm_word.specs.declared.perm.Kind.TheVariants.{Fetch, Load, LoadSet, Store}
-use Rattle.mm_model.specs.Flags.{one_if}
-use Rattle.mm_model.specs.Uses.{Use, Accessed, Removed}
-use Rattle.mm_model.specs.declared.counts.Counts.{Counts}
+use Rattle.mm_word.specs.declared.perm.Kind.{Kind, TheVariants.{Fetch, Load, LoadSet, Store}}
+use Rattle.mm_model.specs.{Flags.one_if, Uses.{Use, Accessed, Removed}, declared.counts.Counts.Counts}
 
 abbrev pub block_of : ℕ → ℕ
 block_of addr = addr / 64

@@ -1,6 +1,5 @@
 -- Numbers in hexadecimal digits.
-use Rattle.std.specs.Prelude.{ℕ, ◌/◌, ◌%◌, suc, zero, List, [], ◌∷◌, ◌++◌, false}
-use Rattle.std.specs.Fmt.{digit_glyph}
+use Rattle.std.specs.{Prelude.{ℕ, ◌/◌, ◌%◌, suc, zero, List, [], ◌∷◌, ◌++◌, false}, Fmt.digit_glyph}
 
 -- the k last hexadecimal digits of n, in lower case: those of n / 16, one fewer, and then n's last digit
 unfoldable pub hex : ℕ → ℕ → List ℕ

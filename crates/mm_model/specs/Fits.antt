@@ -1,24 +1,12 @@
 -- What a state is, when it fits an image, and what else the types of a machine keep.
 use Rattle.std.specs.Prelude.{◌≡◌, ◌≢◌, ℕ, ◌+◌, ◌<◌, ◌≤◌, Bool, true, false, ◌==◌, if◌then◌else◌, List, [], ◌∷◌, map}
-use Rattle.std.specs.Prelude.{length, Option, None, Some, IfSome}
-use Rattle.std.specs.List.{AllByRecursion}
-use Rattle.std.specs.List.Sorted.{IsStrictlyIncreasing}
-use Rattle.mm_word.specs.Perm.{can_fetch}
-use Rattle.mm_word.specs.Pointer.{IsWellFormed}
-use Rattle.mm_word.specs.Word.{IsWord}
-use Rattle.mm_word.specs.declared.word.Word.TheVariants.{Int}
-use Rattle.mm_model.specs.declared.slot.SlotState.{SlotState}
-use Rattle.mm_model.specs.declared.slot.SlotState.TheVariants.{Waiting}
-use Rattle.mm_model.specs.declared.slot.Pending.{Pending}
-use Rattle.mm_model.specs.declared.event.Event.{Event}
-use Rattle.mm_model.specs.Flags.{one_if}
-use Rattle.mm_model.specs.Memory.{ArePages}
-use Rattle.mm_model.specs.Slot.{Slot, register, is_empty}
+use Rattle.std.specs.{Prelude.{length, Option, None, Some, IfSome}, List.{AllByRecursion, Sorted.IsStrictlyIncreasing}}
+use Rattle.mm_word.specs.{Perm.can_fetch, Pointer.IsWellFormed, Word.IsWord, declared.word.Word.TheVariants.Int}
+use Rattle.mm_model.specs.declared.slot.{SlotState.{SlotState, TheVariants.Waiting}, Pending.Pending}
+use Rattle.mm_model.specs.{declared.event.Event.Event, Flags.one_if, Memory.ArePages, Slot.{Slot, register, is_empty}}
 use Rattle.mm_model.specs.State.{ThreadRow, Core, State, slot_at, queue_at, output_of}
-use Rattle.mm_model.specs.Image.{Image, slot_limit, output_limit}
-use Rattle.mm_model.specs.Groups.{has_group}
-use Rattle.mm_model.specs.Spelling.{numbers_of, IsOther, HoldsWords}
-use Rattle.mm_model.specs.Turn.{is_handler, is_taken}
+use Rattle.mm_model.specs.{Image.{Image, slot_limit, output_limit}, Groups.has_group}
+use Rattle.mm_model.specs.{Spelling.{numbers_of, IsOther, HoldsWords}, Turn.{is_handler, is_taken}}
 
 -- 1. What a state is at all, whatever the image.
 

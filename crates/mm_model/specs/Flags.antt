@@ -1,6 +1,5 @@
 -- Flags as numbers, and numbers as lists of flags, the lowest bit first.
-use Rattle.std.specs.Prelude.{ℕ, zero, suc, ◌+◌, ◌*◌, ◌/◌, ◌%◌, ◌==◌, Bool, if◌then◌else◌, List, [], ◌∷◌}
-use Rattle.std.specs.Int.{bit_at}
+use Rattle.std.specs.{Prelude.{ℕ, zero, suc, ◌+◌, ◌*◌, ◌/◌, ◌%◌, ◌==◌, Bool, if◌then◌else◌, List, [], ◌∷◌}, Int.bit_at}
 
 abbrev pub one_if : Bool → ℕ
 one_if b = if b then 1 else 0

@@ -1,8 +1,6 @@
 -- Sets of groups.
-use Rattle.std.specs.Prelude.{◌≡◌, ℕ, Bool, true, false, ◌==◌, List, Contains, Some}
-use Rattle.std.specs.List.{list_any, filter}
-use Rattle.mm_model.specs.Slot.{Slot}
-use Rattle.mm_model.specs.Image.{Image}
+use Rattle.std.specs.{Prelude.{◌≡◌, ℕ, Bool, true, false, ◌==◌, List, Contains, Some}, List.{list_any, filter}}
+use Rattle.mm_model.specs.{Slot.Slot, Image.Image}
 
 -- the group is one of the list
 abbrev pub among : List ℕ → ℕ → Bool

@@ -1,8 +1,6 @@
 -- What an image means: slots, memory, a version and a mode.
 use Rattle.std.specs.Prelude.{ℕ, Bool, false, ◌==◌, if◌then◌else◌, List, [], ◌∷◌, map, replicate, Option, Some, None}
-use Rattle.mm_model.specs.Memory.{Memory}
-use Rattle.mm_model.specs.Slot.{Slot}
-use Rattle.mm_model.specs.State.{State}
+use Rattle.mm_model.specs.{Memory.Memory, Slot.Slot, State.State}
 
 pub record Image : Type 0 where
   pub version : ℕ

@@ -1,17 +1,10 @@
 -- The lines of slots, cells and pages.
 use Rattle.std.specs.Prelude.{ℕ, zero, suc, ◌+◌, ◌/◌, Bool, true, false, ◌==◌, if◌then◌else◌, List, [], ◌∷◌, ◌++◌}
-use Rattle.std.specs.Prelude.{length, take, drop, codes, decimal, Some, None}
-use Rattle.std.specs.List.{flat_map, range_with_len}
-use Rattle.mm_word.specs.declared.word.Word.{Word}
-use Rattle.mm_word.specs.declared.word.Word.TheVariants.{Int, Ptr}
-use Rattle.mm_word.specs.declared.word.Cell.{Cell}
-use Rattle.mm_word.specs.Cause.{number_of}
+use Rattle.std.specs.{Prelude.{length, take, drop, codes, decimal, Some, None}, List.{flat_map, range_with_len}}
+use Rattle.mm_word.specs.{declared.word.{Word.{Word, TheVariants.{Int, Ptr}}, Cell.Cell}, Cause.number_of}
 use Rattle.mm_word.specs.Word.{word_bits}
-use Rattle.mm_model.specs.declared.slot.SlotState.{SlotState}
-use Rattle.mm_model.specs.declared.slot.SlotState.TheVariants.{Running, Waiting, Taken, Halted}
-use Rattle.mm_model.specs.declared.slot.Pending.{Pending}
-use Rattle.mm_model.specs.Digits.{hex}
-use Rattle.mm_model.specs.Slot.{Slot, register, is_empty}
+use Rattle.mm_model.specs.declared.slot.SlotState.{SlotState, TheVariants.{Running, Waiting, Taken, Halted}}
+use Rattle.mm_model.specs.{declared.slot.Pending.Pending, Digits.hex, Slot.{Slot, register, is_empty}}
 
 abbrev pub newline : List ℕ
 newline = 10 ∷ []

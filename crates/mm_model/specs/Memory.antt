@@ -1,15 +1,9 @@
 -- A flat memory: whole pages of cells by their numbers, and the number of frames for pages.
 use Rattle.std.specs.Prelude.{◌≡◌, ℕ, ◌/◌, ◌%◌, ◌^◌, ◌<◌, ◌≤◌, Bool, true, false, not, ◌&&◌, ◌==◌, nat_lt}
 use Rattle.std.specs.Prelude.{if◌then◌else◌, IsTrue, List, length, replicate, slice_get, slice_set, Option, None, Some}
-use Rattle.std.specs.Prelude.{is_some}
-use Rattle.std.specs.List.{filter, AllByRecursion}
-use Rattle.std.specs.Ordering.{nat_cmp}
-use Rattle.std.specs.FinMap.{find, put, is_sorted}
-use Rattle.mm_word.specs.declared.word.Word.TheVariants.{Int}
-use Rattle.mm_word.specs.declared.word.Cell.{Cell}
-use Rattle.mm_word.specs.declared.word.Pre.{Pre}
+use Rattle.std.specs.{Prelude.is_some, List.{filter, AllByRecursion}, Ordering.nat_cmp, FinMap.{find, put, is_sorted}}
+use Rattle.mm_word.specs.declared.word.{Word.TheVariants.Int, Cell.Cell, Pre.Pre, Post.Post}
 use Rattle.mm_word.specs.declared.word.Pre.TheVariants as pres
-use Rattle.mm_word.specs.declared.word.Post.{Post}
 use Rattle.mm_word.specs.declared.word.Post.TheVariants as posts
 
 pub record Memory : Type 0 where

@@ -1,10 +1,7 @@
 -- Which registers and which number an instruction's operands name.
 use Rattle.std.specs.Prelude.{ℕ, ◌+◌, Bool, false, ◌||◌, List, [], ◌∷◌, flat_map, Option, Some, None, unwrap_or, ℤ, pos}
-use Rattle.std.specs.List.{list_any}
-use Rattle.std.specs.Option.{option_or}
-use Rattle.std.specs.Int.{w64, cast_unsigned}
-use Rattle.mm_word.specs.declared.word.Word.{Word}
-use Rattle.mm_word.specs.declared.word.Word.TheVariants.{Int}
+use Rattle.std.specs.{List.list_any, Option.option_or, Int.{w64, cast_unsigned}}
+use Rattle.mm_word.specs.declared.word.Word.{Word, TheVariants.Int}
 use Rattle.mm_isa.specs.declared.instr.Instr.{Instr}
 use Rattle.mm_isa.specs.declared.operand.Operand.{Operand}
 use Rattle.mm_isa.specs.declared.operand.Operand.TheVariants.{Rd, EvtRd, Ra, Rb, Imm, Distance, RegisterNumber}

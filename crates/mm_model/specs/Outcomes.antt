@@ -1,17 +1,10 @@
 -- What each cycle comes to, exactly, and what a fault changes.
 use Rattle.std.specs.Prelude.{◌≡◌, ◌≢◌, ℕ, ◌+◌, true, if◌then◌else◌, List, [], ◌∷◌, ◌++◌, slice_get, Option, Some, None}
-use Rattle.mm_word.specs.declared.cause.Cause.{Cause}
-use Rattle.mm_word.specs.declared.cause.Cause.TheVariants.{Sync}
-use Rattle.mm_model.specs.declared.slot.SlotState.{SlotState}
-use Rattle.mm_model.specs.declared.slot.SlotState.TheVariants.{Running, Waiting, Halted}
-use Rattle.mm_model.specs.declared.slot.Pending.{Pending}
-use Rattle.mm_model.specs.declared.event.Event.{Event}
-use Rattle.mm_model.specs.Memory.{Memory}
-use Rattle.mm_model.specs.Slot.{Slot}
-use Rattle.mm_model.specs.State.{Core, State, slot_at, queue_at}
+use Rattle.mm_word.specs.declared.cause.Cause.{Cause, TheVariants.Sync}
+use Rattle.mm_model.specs.declared.slot.{SlotState.{SlotState, TheVariants.{Running, Waiting, Halted}}, Pending.Pending}
+use Rattle.mm_model.specs.{declared.event.Event.Event, Memory.Memory, Slot.Slot, State.{Core, State, slot_at, queue_at}}
 use Rattle.mm_model.specs.Turn.{is_running, is_handler, is_sync, stood}
-use Rattle.mm_model.specs.Tests.{first_stop}
-use Rattle.mm_model.specs.Tests.Stop.{Fault, Deliver, Block}
+use Rattle.mm_model.specs.Tests.{first_stop, Stop.{Fault, Deliver, Block}}
 
 -- 1. The item of a cycle.
 

@@ -1,13 +1,8 @@
 -- What a group is granted, and what it can touch and write by it.
 use Rattle.std.specs.Prelude.{◌≡◌, ℕ, ◌%◌, ◌⊎◌, true, List, Contains, Some}
-use Rattle.mm_word.specs.declared.perm.Perm.TheVariants.{Xp, Eu, Ep}
-use Rattle.mm_word.specs.declared.word.Word.TheVariants.{Ptr}
-use Rattle.mm_word.specs.declared.word.Cell.{Cell}
-use Rattle.mm_word.specs.Perm.{can_load, can_store}
-use Rattle.mm_word.specs.Pointer.{Pointer, IsWellFormed, Covers, IsBelow, enter_result}
-use Rattle.mm_model.specs.Memory.{cell_at}
-use Rattle.mm_model.specs.Slot.{Slot}
-use Rattle.mm_model.specs.Image.{Image}
+use Rattle.mm_word.specs.declared.{perm.Perm.TheVariants.{Xp, Eu, Ep}, word.{Word.TheVariants.Ptr, Cell.Cell}}
+use Rattle.mm_word.specs.{Perm.{can_load, can_store}, Pointer.{Pointer, IsWellFormed, Covers, IsBelow, enter_result}}
+use Rattle.mm_model.specs.{Memory.cell_at, Slot.Slot, Image.Image}
 
 -- the entries that may be made: all, or those that a list has, each a group and the enter pointer
 -- that it enters

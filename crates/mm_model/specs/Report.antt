@@ -1,19 +1,11 @@
 -- The report of a state against an image.
 use Rattle.std.specs.Prelude.{ℕ, ◌+◌, ◌*◌, Bool, true, false, not, ◌&&◌, ◌==◌, if◌then◌else◌, List, [], ◌∷◌, ◌++◌}
 use Rattle.std.specs.Prelude.{length, codes, decimal, Option, Some, None}
-use Rattle.std.specs.List.{flat_map, filter, fold, list_any, range_with_len}
-use Rattle.std.specs.Ordering.{nat_cmp}
-use Rattle.std.specs.FinMap.{put}
+use Rattle.std.specs.{List.{flat_map, filter, fold, list_any, range_with_len}, Ordering.nat_cmp, FinMap.put}
 use Rattle.mm_word.specs.declared.word.Cell.{Cell}
-use Rattle.mm_model.specs.declared.counts.Counts.{Counts}
-use Rattle.mm_model.specs.Digits.{hex}
-use Rattle.mm_model.specs.Memory.{Memory, page_at, is_mapped, zero_page}
-use Rattle.mm_model.specs.Effect.{same_word}
-use Rattle.mm_model.specs.State.{ThreadRow, Core, State, output_of}
-use Rattle.mm_model.specs.Uses.{Use}
-use Rattle.mm_model.specs.Image.{Image, start}
-use Rattle.mm_model.specs.Run.{run, uses}
-use Rattle.mm_model.specs.Lines.{newline, slot_lines, output_lines, cell_line}
+use Rattle.mm_model.specs.{declared.counts.Counts.Counts, Digits.hex, Memory.{Memory, page_at, is_mapped, zero_page}}
+use Rattle.mm_model.specs.{Effect.same_word, State.{ThreadRow, Core, State, output_of}, Uses.Use, Image.{Image, start}}
+use Rattle.mm_model.specs.{Run.{run, uses}, Lines.{newline, slot_lines, output_lines, cell_line}}
 
 -- 1. The count of cycles.
 abbrev pub cycles_line : ℕ → List ℕ

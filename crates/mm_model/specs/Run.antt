@@ -1,11 +1,7 @@
 -- Cycles, runs and round robin.
 use Rattle.std.specs.Prelude.{ℕ, zero, suc, ◌+◌, Bool, true, nat_lt, if◌then◌else◌, List, [], ◌∷◌, ◌++◌, Option, Some}
-use Rattle.std.specs.Prelude.{None}
-use Rattle.std.specs.Option.{option_or}
-use Rattle.mm_model.specs.declared.step.Step.{Step}
-use Rattle.mm_model.specs.Uses.{Use}
-use Rattle.mm_model.specs.State.{State, ThreadRow}
-use Rattle.mm_model.specs.Turn.{Turned, turn, is_running}
+use Rattle.std.specs.{Prelude.None, Option.option_or}
+use Rattle.mm_model.specs.{declared.step.Step.Step, Uses.Use, State.{State, ThreadRow}, Turn.{Turned, turn, is_running}}
 
 -- the turn of the cycle that names an item
 abbrev pub turn_of : State → ℕ → Turned

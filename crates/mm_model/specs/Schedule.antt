@@ -1,10 +1,7 @@
 -- Schedules: what a text means, where its fault is, and restriction to groups.
-use Rattle.std.specs.Prelude.{◌≡◌, ℕ, ◌-◌, ◌≤◌, ◌⊎◌, Bool, false, ◌||◌, ◌&&◌, nat_le, List, ◌∷◌, ◌++◌, length}
-use Rattle.std.specs.Prelude.{take, replicate, decimal, Option, Some, None}
-use Rattle.std.specs.List.{filter}
-use Rattle.mm_model.specs.Slot.{Slot}
-use Rattle.mm_model.specs.Image.{Image, slot_in}
-use Rattle.mm_model.specs.Words.{TextMeans, TextFaultsAt}
+use Rattle.std.specs.Prelude.{◌≡◌, ℕ, ◌-◌, ◌≤◌, ◌⊎◌, Bool, false, ◌||◌, ◌&&◌, nat_le, List, ◌∷◌, ◌++◌, length, take}
+use Rattle.std.specs.{Prelude.{replicate, decimal, Option, Some, None}, List.filter}
+use Rattle.mm_model.specs.{Slot.Slot, Image.{Image, slot_in}, Words.{TextMeans, TextFaultsAt}}
 
 -- the most items of a schedule or of a net
 abbrev pub item_limit : ℕ

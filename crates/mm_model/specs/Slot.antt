@@ -1,10 +1,7 @@
 -- Slots, as contracts see them.
 use Rattle.std.specs.Prelude.{ℕ, Bool, false, List, slice_index_or, Option}
-use Rattle.mm_word.specs.declared.word.Word.{Word}
-use Rattle.mm_word.specs.declared.word.Word.TheVariants.{Int}
-use Rattle.mm_word.specs.Pointer.{Pointer}
-use Rattle.mm_model.specs.declared.slot.SlotState.{SlotState}
-use Rattle.mm_model.specs.declared.slot.Pending.{Pending}
+use Rattle.mm_word.specs.{declared.word.Word.{Word, TheVariants.Int}, Pointer.Pointer}
+use Rattle.mm_model.specs.declared.slot.{SlotState.SlotState, Pending.Pending}
 
 pub record Slot : Type 0 where
   pub number : ℕ

@@ -1,19 +1,10 @@
 -- What an image is, and the numbers that its file has for parts of it.
-use Rattle.std.specs.Prelude.{◌≡◌, ◌≢◌, ℕ, zero, suc, ◌<◌, ◌≤◌, Bool, true, false, not, ◌||◌, ◌==◌}
-use Rattle.std.specs.Prelude.{if◌then◌else◌, List}
+use Rattle.std.specs.Prelude.{◌≡◌, ◌≢◌, ℕ, zero, suc, ◌<◌, ◌≤◌, Bool, true, false, not, ◌||◌, ◌==◌, if◌then◌else◌, List}
 use Rattle.std.specs.Prelude.{[], ◌∷◌, map, length, take, drop, Option, Some, None, IfSome, ◌⊎◌}
-use Rattle.std.specs.List.{list_any, AllByRecursion}
-use Rattle.std.specs.List.Sorted.{IsStrictlyIncreasing}
-use Rattle.mm_word.specs.Perm.{can_fetch}
-use Rattle.mm_word.specs.Pointer.{IsWellFormed}
-use Rattle.mm_word.specs.Word.{IsWord}
-use Rattle.mm_word.specs.declared.word.Cell.{Cell}
-use Rattle.mm_model.specs.declared.slot.SlotState.{SlotState}
-use Rattle.mm_model.specs.declared.slot.SlotState.TheVariants.{Running, Halted}
-use Rattle.mm_model.specs.Flags.{number_of_flags}
-use Rattle.mm_model.specs.Memory.{IsPaged}
-use Rattle.mm_model.specs.Slot.{Slot}
-use Rattle.mm_model.specs.Image.{Image, slot_limit, frame_limit, none_empty}
+use Rattle.std.specs.List.{list_any, AllByRecursion, Sorted.IsStrictlyIncreasing}
+use Rattle.mm_word.specs.{Perm.can_fetch, Pointer.IsWellFormed, Word.IsWord, declared.word.Cell.Cell}
+use Rattle.mm_model.specs.{declared.slot.SlotState.{SlotState, TheVariants.{Running, Halted}}, Flags.number_of_flags}
+use Rattle.mm_model.specs.{Memory.IsPaged, Slot.Slot, Image.{Image, slot_limit, frame_limit, none_empty}}
 
 -- 1. What an image has to be.
 

@@ -1,9 +1,7 @@
 -- The state of a machine.
 use Rattle.std.specs.Prelude.{ℕ, Bool, ◌==◌, if◌then◌else◌, List, [], ◌∷◌, map, slice_set, slice_index_or, Option, Some}
 use Rattle.std.specs.Prelude.{None}
-use Rattle.mm_model.specs.declared.event.Event.{Event}
-use Rattle.mm_model.specs.Memory.{Memory}
-use Rattle.mm_model.specs.Slot.{Slot}
+use Rattle.mm_model.specs.{declared.event.Event.Event, Memory.Memory, Slot.Slot}
 
 -- a slot, and the events that it has still to handle, oldest first
 pub record ThreadRow : Type 0 where

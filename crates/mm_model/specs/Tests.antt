@@ -2,34 +2,19 @@
 use Rattle.std.specs.Prelude.{ℕ, ◌+◌, ◌^◌, Bool, true, false, not, ◌&&◌, ◌==◌, nat_lt, is_some, if◌then◌else◌, ℤ, pos}
 use Rattle.std.specs.Prelude.{negsuc, ◌+ℤ◌, ◌*ℤ◌, List, [], ◌∷◌, ◌++◌, map, length, Option, Some, None, option_and_then}
 use Rattle.std.specs.Int.{w64, cast_signed}
-use Rattle.mm_word.specs.declared.perm.Perm.{Perm}
-use Rattle.mm_word.specs.declared.perm.Kind.{Kind}
-use Rattle.mm_word.specs.declared.perm.Kind.TheVariants.{Fetch, Store}
-use Rattle.mm_word.specs.declared.cause.Cause.{Cause}
-use Rattle.mm_word.specs.declared.cause.Cause.TheVariants as cause
-use Rattle.mm_word.specs.declared.word.Pre.{Pre}
-use Rattle.mm_word.specs.declared.word.Pre.TheVariants.{Any}
-use Rattle.mm_word.specs.declared.word.Word.{Word}
-use Rattle.mm_word.specs.declared.word.Word.TheVariants.{Int, Ptr}
-use Rattle.mm_word.specs.declared.word.Cell.{Cell}
-use Rattle.mm_word.specs.Access.{access_tests}
-use Rattle.mm_word.specs.Cause.{first_failing}
-use Rattle.mm_word.specs.Perm.{perm_of, can_become, can_move, execute_form}
-use Rattle.mm_word.specs.Pointer.{Pointer, in_segment, spells_pointer, base_of}
-use Rattle.mm_word.specs.Word.{word_bits}
+use Rattle.mm_word.specs.declared.{perm.{Perm.Perm, Kind.{Kind, TheVariants.{Fetch, Store}}}, cause.Cause.Cause}
+use Rattle.mm_word.specs.declared.word.{Pre.{Pre, TheVariants.Any}, Word.{Word, TheVariants.{Int, Ptr}}, Cell.Cell}
+use Rattle.mm_word.specs.{Access.access_tests, Cause.first_failing, Perm.{perm_of, can_become, can_move, execute_form}}
+use Rattle.mm_word.specs.{Pointer.{Pointer, in_segment, spells_pointer, base_of}, Word.word_bits}
 use Rattle.mm_isa.specs.declared.instr.Instr.{Instr}
 use Rattle.mm_isa.specs.declared.instr.Instr.TheVariants.{Out, Alu, Lea, Leai, Leab, Restrict, Subseg, Setptr, Ld, St}
 use Rattle.mm_isa.specs.declared.instr.Instr.TheVariants.{Br, Bz, Bnz, Jmp, Jal, Lip, Trap, Evt, Resume, Rreg, Wreg}
-use Rattle.mm_isa.specs.declared.instr.Instr.TheVariants.{Map, Unmap}
-use Rattle.mm_isa.specs.Alu.{divides}
-use Rattle.mm_model.specs.declared.event.Event.{Event}
-use Rattle.mm_model.specs.Memory.{Memory, cell_at, passes}
-use Rattle.mm_model.specs.Slot.{Slot, register, is_empty}
-use Rattle.mm_model.specs.State.{Core, slot_at, queue_at, output_of}
-use Rattle.mm_model.specs.Image.{output_limit}
-use Rattle.mm_model.specs.Operands.{lacks}
-use Rattle.mm_model.specs.Ask.{is_privileged, load_kind}
+use Rattle.mm_isa.specs.{declared.instr.Instr.TheVariants.{Map, Unmap}, Alu.divides}
+use Rattle.mm_model.specs.{declared.event.Event.Event, Memory.{Memory, cell_at, passes}}
+use Rattle.mm_model.specs.{Slot.{Slot, register, is_empty}, State.{Core, slot_at, queue_at, output_of}}
+use Rattle.mm_model.specs.{Image.output_limit, Operands.lacks, Ask.{is_privileged, load_kind}}
 use Rattle.mm_model.specs.Turn.{is_taken, is_handler, instr_in}
+use Rattle.mm_word.specs.declared.cause.Cause.TheVariants as cause
 
 -- what a failed test leads to
 pub data Stop : Type 0 where

@@ -1,20 +1,10 @@
 -- The trace of a run, and what it touches and enters.
 use Rattle.std.specs.Prelude.{ℕ, Bool, true, List, [], ◌∷◌, ◌++◌, if◌then◌else◌, codes, decimal, Option, Some, None}
 use Rattle.std.specs.Option.{option_to_list}
-use Rattle.mm_word.specs.declared.perm.Kind.{Kind}
-use Rattle.mm_word.specs.declared.perm.Kind.TheVariants.{Fetch, Load, LoadSet, Store}
-use Rattle.mm_word.specs.declared.word.Word.TheVariants.{Ptr}
-use Rattle.mm_word.specs.Access.{AccessValue}
-use Rattle.mm_word.specs.Cause.{number_of}
-use Rattle.mm_word.specs.Pointer.{Pointer}
-use Rattle.mm_model.specs.declared.step.Step.{Step}
-use Rattle.mm_model.specs.declared.step.Tick.{Tick}
-use Rattle.mm_model.specs.declared.step.Tick.TheVariants.{Idle, Blocked, Did, Faulted, Delivered}
-use Rattle.mm_model.specs.Digits.{hex}
-use Rattle.mm_model.specs.Lines.{newline, word_text}
-use Rattle.mm_model.specs.Slot.{Slot}
-use Rattle.mm_model.specs.State.{State, slot_at}
-use Rattle.mm_model.specs.Turn.{Turned}
+use Rattle.mm_word.specs.declared.perm.Kind.{Kind, TheVariants.{Fetch, Load, LoadSet, Store}}
+use Rattle.mm_word.specs.{declared.word.Word.TheVariants.Ptr, Access.AccessValue, Cause.number_of, Pointer.Pointer}
+use Rattle.mm_model.specs.declared.step.{Step.Step, Tick.{Tick, TheVariants.{Idle, Blocked, Did, Faulted, Delivered}}}
+use Rattle.mm_model.specs.{Digits.hex, Lines.{newline, word_text}, Slot.Slot, State.{State, slot_at}, Turn.Turned}
 use Rattle.mm_model.specs.Run.{turn_of, after}
 
 -- 1. The lines.

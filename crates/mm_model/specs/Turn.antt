@@ -2,33 +2,20 @@
 use Rattle.std.specs.Prelude.{ℕ, ◌+◌, ◌-◌, Bool, true, false, ◌&&◌, ◌==◌, nat_lt, nat_le, if◌then◌else◌, pos, List, []}
 use Rattle.std.specs.Prelude.{◌∷◌, ◌++◌, slice_set, length, Option, Some, None, Result, Ok, Err}
 use Rattle.mm_word.specs.declared.perm.Kind.TheVariants.{Fetch}
-use Rattle.mm_word.specs.declared.cause.Cause.{Cause}
-use Rattle.mm_word.specs.declared.cause.Cause.TheVariants.{Bounds, NoPage, Sync, Illegal, NoSlot, OutFull}
-use Rattle.mm_word.specs.declared.word.Pre.{Pre}
-use Rattle.mm_word.specs.declared.word.Word.{Word}
-use Rattle.mm_word.specs.declared.word.Word.TheVariants.{Int, Ptr}
-use Rattle.mm_word.specs.declared.word.Cell.{Cell}
+use Rattle.mm_word.specs.declared.cause.Cause.{Cause, TheVariants.{Bounds, NoPage, Sync, Illegal, NoSlot, OutFull}}
+use Rattle.mm_word.specs.declared.word.{Pre.Pre, Word.{Word, TheVariants.{Int, Ptr}}, Cell.Cell}
 use Rattle.mm_word.specs.Access.{AccessValue, check_result}
-use Rattle.mm_isa.specs.declared.instr.Instr.{Instr}
-use Rattle.mm_isa.specs.Decode.{instr_of}
-use Rattle.mm_model.specs.declared.slot.SlotState.{SlotState}
-use Rattle.mm_model.specs.declared.slot.SlotState.TheVariants.{Running, Waiting, Taken, Halted}
-use Rattle.mm_model.specs.declared.slot.Pending.{Pending}
-use Rattle.mm_model.specs.declared.event.Event.{Event}
-use Rattle.mm_model.specs.declared.step.Step.{Step}
-use Rattle.mm_model.specs.declared.step.Tick.{Tick}
-use Rattle.mm_model.specs.declared.step.Tick.TheVariants.{Idle, Blocked, Did, Faulted, Delivered}
+use Rattle.mm_isa.specs.{declared.instr.Instr.Instr, Decode.instr_of}
+use Rattle.mm_model.specs.declared.slot.SlotState.{SlotState, TheVariants.{Running, Waiting, Taken, Halted}}
+use Rattle.mm_model.specs.declared.{slot.Pending.Pending, event.Event.Event}
+use Rattle.mm_model.specs.declared.step.{Step.Step, Tick.{Tick, TheVariants.{Idle, Blocked, Did, Faulted, Delivered}}}
 use Rattle.mm_model.specs.Memory.{Memory, cell_at, put_cell, is_mapped, can_map, map_page, unmap_page, passes}
-use Rattle.mm_model.specs.Uses.{Use, Accessed, Removed, use_at}
-use Rattle.mm_model.specs.Slot.{Slot}
+use Rattle.mm_model.specs.{Uses.{Use, Accessed, Removed, use_at}, Slot.Slot}
 use Rattle.mm_model.specs.State.{Core, slot_at, put_slot, queue_at, put_queue, output_of, put_output}
-use Rattle.mm_model.specs.Image.{output_limit}
-use Rattle.mm_model.specs.Operands.{addr_operand, value_operand, lacks}
-use Rattle.mm_model.specs.Ask.{Ask, ask}
-use Rattle.mm_model.specs.Ask.Ask.{Nothing, Refuse, Reach, MapPage, UnmapPage, NextEvent, Room, Serve}
+use Rattle.mm_model.specs.{Image.output_limit, Operands.{addr_operand, value_operand, lacks}}
+use Rattle.mm_model.specs.Ask.{Ask, ask, Ask.{Nothing, Refuse, Reach, MapPage, UnmapPage, NextEvent, Room, Serve}}
 use Rattle.mm_model.specs.Effect.{Reply, Change, Pages, Effect, effect, delivered}
-use Rattle.mm_model.specs.Effect.Reply.{Fine, Refused, Got, Paged, NoEvent, Took, Served}
-use Rattle.mm_model.specs.Effect.Pages.{Keep, Add, Remove}
+use Rattle.mm_model.specs.Effect.{Reply.{Fine, Refused, Got, Paged, NoEvent, Took, Served}, Pages.{Keep, Add, Remove}}
 use Rattle.mm_model.specs.Effect.Effect.{Fault, Block, Deliver, Do}
 
 -- what a turn leaves, its step, and what it asks of memory, in order

@@ -1,15 +1,8 @@
 -- What the types of slots and pages keep.
-use Rattle.std.specs.Prelude.{◌≡◌, ℕ, Bool, true, List, length}
-use Rattle.std.specs.List.{AllByRecursion}
-use Rattle.mm_word.specs.declared.word.Word.{Word}
-use Rattle.mm_word.specs.declared.word.Cell.{Cell}
-use Rattle.mm_word.specs.Perm.{can_fetch}
-use Rattle.mm_word.specs.Pointer.{Pointer, IsWellFormed}
+use Rattle.std.specs.{Prelude.{◌≡◌, ℕ, Bool, true, List, length}, List.AllByRecursion}
+use Rattle.mm_word.specs.{declared.word.{Word.Word, Cell.Cell}, Perm.can_fetch, Pointer.{Pointer, IsWellFormed}}
 use Rattle.mm_word.specs.Word.{IsWord}
-use Rattle.mm_model.specs.declared.slot.Pending.{Pending}
-use Rattle.mm_model.specs.Memory.{IsPage}
-use Rattle.mm_model.specs.Slot.{Slot}
-use Rattle.mm_model.specs.Spelling.{HoldsWords}
+use Rattle.mm_model.specs.{declared.slot.Pending.Pending, Memory.IsPage, Slot.Slot, Spelling.HoldsWords}
 
 -- an instruction pointer, registers, flags and pending loads that a slot can have
 pub record AreSlotParts (ip : Pointer) (regs : List Word) (empty : List Bool) (pending : List Pending) : Type 0 where

@@ -1,9 +1,7 @@
 -- What a machine asks of its memory.
 use Rattle.std.specs.Prelude.{◌≡◌, ℕ, ◌+◌, Bool, true, false, List, [], ◌∷◌, ◌++◌, Option, Some, None}
 use Rattle.std.proofs.Common.{subst, append_assoc, sym, append-nil, arith}
-use Rattle.mm_word.specs.declared.perm.Kind.{Kind}
-use Rattle.mm_word.specs.declared.word.Pre.{Pre}
-use Rattle.mm_word.specs.declared.word.Cell.{Cell}
+use Rattle.mm_word.specs.declared.{perm.Kind.Kind, word.{Pre.Pre, Cell.Cell}}
 use Rattle.mm_model.specs.Memory.{passes}
 
 pub data Use : Type 0 where

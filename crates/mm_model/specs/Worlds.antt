@@ -1,18 +1,10 @@
 -- Groups that are apart if some entries may be made, and what groups see of a run.
-use Rattle.std.specs.Prelude.{◌≡◌, ℕ, Bool, true, false, List, Contains, Some}
-use Rattle.std.specs.List.{flat_map, filter}
+use Rattle.std.specs.{Prelude.{◌≡◌, ℕ, Bool, true, false, List, Contains, Some}, List.{flat_map, filter}}
 use Rattle.mm_word.specs.declared.word.Cell.{Cell}
-use Rattle.mm_model.specs.Memory.{Memory, page_of, cell_at, is_mapped, zero_cell, IsPaged}
-use Rattle.mm_model.specs.Slot.{Slot}
-use Rattle.mm_model.specs.State.{Core, State}
-use Rattle.mm_model.specs.Image.{Image, start}
-use Rattle.mm_model.specs.Groups.{own_slots}
-use Rattle.mm_model.specs.Report.{section, groups_of, changes}
-use Rattle.mm_model.specs.Turn.{Turned}
-use Rattle.mm_model.specs.Run.{run}
-use Rattle.mm_model.specs.Trace.{group_in, traced}
-use Rattle.mm_model.specs.Reach.{Entries, CanTouch, CanWrite, Privileged}
-use Rattle.mm_model.specs.Reach.Entries.{All}
+use Rattle.mm_model.specs.{Memory.{Memory, page_of, cell_at, is_mapped, zero_cell, IsPaged}, Slot.Slot}
+use Rattle.mm_model.specs.{State.{Core, State}, Image.{Image, start}, Groups.own_slots}
+use Rattle.mm_model.specs.{Report.{section, groups_of, changes}, Turn.Turned, Run.run, Trace.{group_in, traced}}
+use Rattle.mm_model.specs.Reach.{Entries, CanTouch, CanWrite, Privileged, Entries.All}
 
 -- one of the groups can touch the word
 pub record Touchable (i : Image) (e : Entries) (c : ℕ → Bool) (w : ℕ) : Type 0 where

@@ -1,25 +1,20 @@
 -- What a link does at an item, exactly: it takes, puts, or changes nothing.
 use Rattle.std.proofs.Common.{◌≡◌, ℕ, Bool, true, false, ◌==◌, if◌then◌else◌, List, [], ◌∷◌, ◌++◌, length, slice_get}
 use Rattle.std.proofs.Common.{slice_set, Option, Some, None, refl, sym, ap, ◌∙◌, subst, eqb-true, eq-eqb}
-use Rattle.mm_net.proofs.ListPlaces.{set_found}
-use Rattle.mm_word.specs.declared.word.Pre.TheVariants.{Full, Empty}
-use Rattle.mm_word.specs.declared.word.Post.TheVariants as leaves
-use Rattle.mm_word.specs.declared.word.Word.{Word}
-use Rattle.mm_word.specs.declared.word.Word.TheVariants.{Int}
-use Rattle.mm_word.specs.declared.word.Cell.{Cell}
-use Rattle.mm_word.specs.Word.{word_bits}
-use Rattle.mm_model.specs.Memory.{cell_at}
-use Rattle.mm_model.specs.State.{State}
-use Rattle.mm_model.proofs.Memories.{aligned, get_set_same, get_set_other, put_frames, cell_at-put_same, cell_at-put_other}
-use Rattle.mm_mem.specs.Answers.{put_where, set_where}
-use Rattle.mm_net.specs.declared.link.Link.{Link}
-use Rattle.mm_net.specs.declared.item.NetItem.TheVariants.{Send, Carry}
+use Rattle.mm_net.proofs.{ListPlaces.set_found, PortCalls.replaced, Steps.{take_cases, put_cases}}
+use Rattle.mm_net.specs.declared.{link.Link.Link, item.NetItem.TheVariants.{Send, Carry}}
 use Rattle.mm_net.specs.declared.tick.NetTick.TheVariants.{Idle, Sent, Arrived}
 use Rattle.mm_net.specs.Nets.{Carried, NetState, NetStep, with_both, bits_in, with_sent, sent_tick, takes_at, takes}
 use Rattle.mm_net.specs.Nets.{due, is_free, with_arrived, arrived_tick, puts_at, puts_of, puts, net_step, net_after}
-use Rattle.mm_net.specs.Moves.{IdleStep, StaysIdle, ChangesOneCell, ChangesOneEnd, CanTake, Took, CanPut, Put, LinksActExactly}
-use Rattle.mm_net.proofs.PortCalls.{replaced}
-use Rattle.mm_net.proofs.Steps.{take_cases, put_cases}
+use Rattle.mm_net.specs.Moves.{IdleStep, StaysIdle, ChangesOneCell, ChangesOneEnd, CanTake, Took, CanPut, Put}
+use Rattle.mm_net.specs.Moves.{LinksActExactly}
+use Rattle.mm_word.specs.declared.word.{Pre.TheVariants.{Full, Empty}, Word.{Word, TheVariants.Int}, Cell.Cell}
+use Rattle.mm_word.specs.Word.{word_bits}
+use Rattle.mm_model.specs.{Memory.cell_at, State.State}
+use Rattle.mm_model.proofs.Memories.{aligned, get_set_same, get_set_other, put_frames, cell_at-put_same}
+use Rattle.mm_model.proofs.Memories.{cell_at-put_other}
+use Rattle.mm_mem.specs.Answers.{put_where, set_where}
+use Rattle.mm_word.specs.declared.word.Post.TheVariants as leaves
 
 -- 1. Steps of links where all that a link needs is there.
 

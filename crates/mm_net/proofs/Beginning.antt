@@ -1,22 +1,15 @@
 -- A net at its start.
-use Rattle.std.proofs.Common.{◌≡◌, ℕ, zero, suc, ◌≤◌, List, [], ◌∷◌, length, map, slice_get, Some, refl, sym, ap, ◌∙◌, subst, arith}
+use Rattle.std.proofs.Common.{◌≡◌, ℕ, zero, suc, ◌≤◌, List, [], ◌∷◌, length, map, slice_get, Some, refl, sym, ap, ◌∙◌}
+use Rattle.std.proofs.Common.{subst, arith}
+use Rattle.std.proofs.lemmas.{List.length-map, Option.{same_Some, slice_get_within, get_or_from_slice_get}}
 use Rattle.std.specs.List.{All}
-use Rattle.std.proofs.lemmas.List.{length-map}
-use Rattle.std.proofs.lemmas.Option.{same_Some, slice_get_within, get_or_from_slice_get}
 use Rattle.mm_mem.specs.declared.memory.Memory.{Ghosts}
-use Rattle.mm_model.specs.State.{State}
-use Rattle.mm_model.specs.Image.{Image, start}
-use Rattle.mm_model.specs.Run.{run, uses}
-use Rattle.mm_machine.specs.declared.machine.Machine.{Machine}
-use Rattle.mm_machine.specs.Machine.{state_of, StandsTo}
-use Rattle.mm_net.specs.declared.link.Link.{Link}
-use Rattle.mm_net.specs.declared.net.Net.{Net}
-use Rattle.mm_net.specs.Nets.{nothing_carried, net_run, net_uses}
-use Rattle.mm_net.specs.Wires.{Wired, link_list, carried_list}
-use Rattle.mm_net.specs.Kept.{AreWithin, AreWired}
+use Rattle.mm_model.specs.{State.State, Image.{Image, start}, Run.{run, uses}}
+use Rattle.mm_machine.specs.{declared.machine.Machine.Machine, Machine.{state_of, StandsTo}}
+use Rattle.mm_net.specs.{declared.{link.Link.Link, net.Net.Net}, Nets.{nothing_carried, net_run, net_uses}}
+use Rattle.mm_net.specs.{Wires.{Wired, link_list, carried_list}, Kept.{AreWithin, AreWired}}
 use Rattle.mm_net.specs.Net.{links_of, IsUnused, HasNodes, AllStart, StandsFor}
-use Rattle.mm_net.proofs.ListPlaces.{map_at}
-use Rattle.mm_net.proofs.Stepping.{link_by, same_net}
+use Rattle.mm_net.proofs.{ListPlaces.map_at, Stepping.{link_by, same_net}}
 
 -- what is true of each element is true of the one at a place
 each_at : {A : Type 0} (P : A → Type 0) (xs : List A) (k : ℕ) (x : A) → All P xs → slice_get xs k ≡ Some x → P x

@@ -1,23 +1,16 @@
 -- Two nets that are alike to groups of their nodes: in what the groups see, and at both ends of their links.
-use Rattle.std.proofs.Common.{◌≡◌, ℕ, zero, suc, ◌⊎◌, inl, inr, Bool, List, [], ◌∷◌, length, map, slice_get, slice_set, Option, Some, None, option_map, refl, sym, ap, ◌∙◌, subst, arith}
+use Rattle.std.proofs.Common.{◌≡◌, ℕ, zero, suc, ◌⊎◌, inl, inr, Bool, List, [], ◌∷◌, length, map, slice_get, slice_set}
+use Rattle.std.proofs.Common.{Option, Some, None, option_map, refl, sym, ap, ◌∙◌, subst, arith}
+use Rattle.std.proofs.lemmas.{Bool.cases_eq, Option.{slice_get-map, slice_get_within, get_or_from_slice_get}}
 use Rattle.std.specs.Prelude.{Contains, IsSomeAnd}
-use Rattle.std.proofs.lemmas.Bool.{cases_eq}
-use Rattle.std.proofs.lemmas.Option.{slice_get-map, slice_get_within, get_or_from_slice_get}
-use Rattle.mm_model.specs.Memory.{cell_at}
-use Rattle.mm_model.specs.State.{State}
-use Rattle.mm_model.specs.Image.{Image, start}
-use Rattle.mm_model.specs.Spelling.{IsImage}
-use Rattle.mm_model.specs.Reach.{Entries as entries}
-use Rattle.mm_model.specs.Worlds.{Touchable}
+use Rattle.mm_model.specs.{Memory.cell_at, State.State, Image.{Image, start}, Spelling.IsImage}
+use Rattle.mm_model.specs.{Reach.{Entries as entries}, Worlds.Touchable}
 use Rattle.mm_model.proofs.Memories.{get_set_same, get_set_other}
-use Rattle.mm_laws.specs.Isolated.{AgreeApart, Worlds}
-use Rattle.mm_laws.proofs.AlikeWorlds.{touchable_other}
-use Rattle.mm_laws.proofs.TwoLists.{start_worlds}
+use Rattle.mm_laws.{specs.Isolated.{AgreeApart, Worlds}, proofs.{AlikeWorlds.touchable_other, TwoLists.start_worlds}}
 use Rattle.mm_net.specs.declared.link.Link.{Link}
 use Rattle.mm_net.specs.Nets.{Carried, NetState, nothing_carried, net_start, with_node, with_both}
 use Rattle.mm_net.specs.Isolated.{TouchedAt, IsLinkOf, IsUnwritten, NetApart, HaveSameCell, NetsAgreeApart}
-use Rattle.mm_net.proofs.Nodes.{EachAt, each_put, each_mapped, each_from_all}
-use Rattle.mm_net.proofs.CarriedFits.{SentFits}
+use Rattle.mm_net.proofs.{Nodes.{EachAt, each_put, each_mapped, each_from_all}, CarriedFits.SentFits}
 use Rattle.mm_net.proofs.LinkEnds.{IsEndOf, take_end, put_end, same_link}
 
 -- 1. Places of lists.

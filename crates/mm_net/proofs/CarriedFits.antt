@@ -1,6 +1,6 @@
 -- What links carry fits 64 bits.
-use Rattle.std.proofs.Common.{◌≡◌, ℕ, zero, suc, ◌^◌, ◌<◌, Bool, true, false, ◌==◌, if◌then◌else◌, List, [], ◌∷◌, length, slice_get, Option, Some, None, refl, subst}
-use Rattle.std.specs.List.{AllByRecursion}
+use Rattle.std.proofs.Common.{◌≡◌, ℕ, zero, suc, ◌^◌, ◌<◌, Bool, true, false, ◌==◌, if◌then◌else◌, List, [], ◌∷◌}
+use Rattle.std.{proofs.Common.{length, slice_get, Option, Some, None, refl, subst}, specs.List.AllByRecursion}
 use Rattle.mm_model.proofs.CoreRows.{each_push}
 use Rattle.mm_net.specs.Nets.{Carried, with_sent, due, with_arrived}
 

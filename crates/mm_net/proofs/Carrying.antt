@@ -2,19 +2,13 @@
 use Rattle.std.proofs.Common.{◌≡◌, ◌⊎◌, inl, inr, ℕ, ◌+◌, ◌<◌, ◌≤◌, Bool, true, false, not, eqb, if◌then◌else◌, List}
 use Rattle.std.proofs.Common.{[], ◌∷◌, ◌++◌, length, take, slice_get, Option, Some, None, refl, sym, ap, ◌∙◌, subst}
 use Rattle.std.proofs.Common.{arith}
-use Rattle.std.proofs.lemmas.List.{take_more, length-take-le}
-use Rattle.std.proofs.lemmas.Option.{slice_get_within, get_or_from_slice_get}
+use Rattle.std.proofs.lemmas.{List.{take_more, length-take-le}, Option.{slice_get_within, get_or_from_slice_get}}
 use Rattle.std.proofs.lemmas.Bool.{eqb-true}
-use Rattle.mm_word.specs.declared.word.Word.{Word}
-use Rattle.mm_word.specs.declared.word.Cell.{Cell}
-use Rattle.mm_word.specs.declared.word.Pre.TheVariants.{Full, Empty}
-use Rattle.mm_word.specs.Word.{word_bits}
-use Rattle.mm_mem.specs.declared.answer.Loaded.{Loaded}
-use Rattle.mm_mem.specs.declared.answer.Loaded.TheVariants as loads
-use Rattle.mm_mem.specs.declared.answer.Stored.{Stored}
-use Rattle.mm_mem.specs.declared.answer.Stored.TheVariants as stores
-use Rattle.mm_mem.specs.Answers.{loaded, stored}
+use Rattle.mm_word.specs.{declared.word.{Word.Word, Cell.Cell, Pre.TheVariants.{Full, Empty}}, Word.word_bits}
+use Rattle.mm_mem.specs.{declared.answer.{Loaded.Loaded, Stored.Stored}, Answers.{loaded, stored}}
 use Rattle.mm_net.specs.Nets.{Carried, due, with_arrived, bits_in, is_free}
+use Rattle.mm_mem.specs.declared.answer.Loaded.TheVariants as loads
+use Rattle.mm_mem.specs.declared.answer.Stored.TheVariants as stores
 
 -- 1. An integer that is due.
 

@@ -1,20 +1,12 @@
 -- Whether links keep their rules with one more.
-use Rattle.std.proofs.Common.{◌≡◌, ℕ, zero, suc, ◌+◌, ◌<◌, inl, inr, Bool, true, false, not, ◌==◌, ◌&&◌}
-use Rattle.std.proofs.Common.{List, [], ◌∷◌, ◌++◌, length, get_or, refl, sym, ap, ◌∙◌, subst, arith, append_assoc}
-use Rattle.std.proofs.Math.ListN.{get_or-append}
-use Rattle.std.proofs.Math.Seq.{get_or-append_seam}
-use Rattle.std.proofs.lemmas.List.{length-append, get_or-append-add}
-use Rattle.std.proofs.lemmas.Bool.Decides.{nat_tests}
-use Rattle.std.proofs.lemmas.List.Elements.{All-push}
-use Rattle.std.proofs.lemmas.List.Quantifiers.{all_pairs_push}
-use Rattle.std.specs.List.{AllPairs, list_any}
-use Rattle.std.proofs.lemmas.Bool.{or_cases, or_parts}
+use Rattle.std.proofs.Common.{◌≡◌, ℕ, zero, suc, ◌+◌, ◌<◌, inl, inr, Bool, true, false, not, ◌==◌, ◌&&◌, List, [], ◌∷◌}
+use Rattle.std.proofs.Common.{◌++◌, length, get_or, refl, sym, ap, ◌∙◌, subst, arith, append_assoc}
+use Rattle.std.proofs.Math.{ListN.get_or-append, Seq.get_or-append_seam}
+use Rattle.std.proofs.lemmas.List.{length-append, get_or-append-add, Elements.All-push, Quantifiers.all_pairs_push}
+use Rattle.std.{proofs.lemmas.Bool.{or_cases, or_parts, Decides.nat_tests}, specs.List.{AllPairs, list_any}}
 use Rattle.mm_sched.proofs.Numbers.{below_or}
-use Rattle.mm_net.specs.declared.link.Link.{Link}
-use Rattle.mm_net.specs.Marks.{has_end}
-use Rattle.mm_net.specs.Links.{IsLink, ends, AreLinks}
-use Rattle.mm_net.proofs.Parts.{true_false, same_byte}
-use Rattle.mm_net.proofs.LinkWords.{ends_both}
+use Rattle.mm_net.specs.{declared.link.Link.Link, Marks.has_end, Links.{IsLink, ends, AreLinks}}
+use Rattle.mm_net.proofs.{Parts.{true_false, same_byte}, LinkWords.ends_both}
 
 abbrev Apart : List (ℕ × ℕ) → Type 0
 Apart es = AllPairs (λ x y. x ≡ y → ⊥) es

@@ -1,16 +1,11 @@
 -- What a word of a text of events says.
-use Rattle.std.proofs.Common.{◌≡◌, ℕ, ◌+◌, ◌<◌, ◌≤◌, ◌⊎◌, inl, inr, false, List, ◌∷◌, ◌++◌, length, replicate, decimal, refl, sym, ap, ◌∙◌, subst, arith}
-use Rattle.std.proofs.Math.ListN.{get_or-append}
-use Rattle.std.proofs.lemmas.Fmt.{decimal_injective}
-use Rattle.std.proofs.lemmas.List.{length-append, length-replicate}
-use Rattle.mm_model.specs.Schedule.{IsItem, item_limit}
-use Rattle.mm_model.proofs.ScheduleWords.{item_unique}
-use Rattle.mm_net.specs.declared.item.NetItem.{NetItem}
-use Rattle.mm_net.specs.declared.item.NetItem.TheVariants.{Turn, Send, Carry}
-use Rattle.mm_net.specs.Marks.{has}
+use Rattle.std.proofs.Common.{◌≡◌, ℕ, ◌+◌, ◌<◌, ◌≤◌, ◌⊎◌, inl, inr, false, List, ◌∷◌, ◌++◌, length, replicate, decimal}
+use Rattle.std.proofs.{Common.{refl, sym, ap, ◌∙◌, subst, arith}, Math.ListN.get_or-append}
+use Rattle.std.proofs.lemmas.{Fmt.decimal_injective, List.{length-append, length-replicate}}
+use Rattle.mm_model.{specs.{Schedule.{IsItem, item_limit}, Words.IsGrammar}, proofs.ScheduleWords.item_unique}
+use Rattle.mm_net.specs.{declared.item.NetItem.{NetItem, TheVariants.{Turn, Send, Carry}}, Marks.has}
 use Rattle.mm_net.specs.Events.{IsEvent, Spells, Says, AreEvents}
 use Rattle.mm_net.proofs.Parts.{lacks_both, lacks_more, lacking, lacking_first, split_unique, digits_lack}
-use Rattle.mm_model.specs.Words.{IsGrammar}
 
 digits_without : (m n : ℕ) → (m < 48) ⊎ (57 < m) → n ≤ 1000000 → has m (decimal n) ≡ false
 digits_without m n h le = digits_lack m n (λ digit. elim h [ inl low ↦ omega arith | inr high ↦ omega arith ]) (omega arith)

@@ -1,12 +1,9 @@
 -- The links and nodes that a step finds.
-use Rattle.std.proofs.Common.{◌≡◌, ℕ, ◌<◌, length, get_or, slice_get, vec_len, Option, Some, None, IsSome, refl, sym, subst}
-use Rattle.std.proofs.lemmas.Option.{slice_get_read}
+use Rattle.std.proofs.Common.{◌≡◌, ℕ, ◌<◌, length, get_or, slice_get, vec_len, Option, Some, None, IsSome, refl, sym}
+use Rattle.std.proofs.{Common.subst, lemmas.Option.slice_get_read}
 use Rattle.mm_mem.specs.declared.memory.Memory.{Ghosts}
 use Rattle.mm_machine.specs.declared.machine.Machine.{Machine}
-use Rattle.mm_net.specs.declared.link.Link.{Link}
-use Rattle.mm_net.specs.declared.net.Net.{Net}
-use Rattle.mm_net.specs.Wires.{Wired}
-use Rattle.mm_net.proofs.ListPlaces.{found, not_found}
+use Rattle.mm_net.{specs.{declared.{link.Link.Link, net.Net.Net}, Wires.Wired}, proofs.ListPlaces.{found, not_found}}
 
 module _ {M : Type 0} {memory : Ghosts M} where
   pub wire_found : {R : Type 0} (net : Net M memory) (l : ℕ) (o : Option R) (r : R) (w : Wired) → (IsSome o → l < vec_len net.wires) → o ≡ Some r

@@ -1,24 +1,15 @@
 -- What the nodes of a net hold is granted by their own images, and what the links carry fits 64 bits.
-use Rattle.std.proofs.Common.{◌≡◌, ◌≢◌, ℕ, inl, inr, if◌then◌else◌, List, [], ◌∷◌, ◌++◌, slice_get, Option, Some, None, refl, sym, ap, ◌∙◌, subst, append_assoc, append-nil, eq-eqb}
-use Rattle.std.specs.List.{All}
-use Rattle.std.proofs.lemmas.Bool.{cases_eq, ne_eqb}
+use Rattle.std.proofs.Common.{◌≡◌, ◌≢◌, ℕ, inl, inr, if◌then◌else◌, List, [], ◌∷◌, ◌++◌, slice_get, Option, Some, None}
+use Rattle.std.proofs.Common.{refl, sym, ap, ◌∙◌, subst, append_assoc, append-nil, eq-eqb}
+use Rattle.std.{proofs.lemmas.Bool.{cases_eq, ne_eqb}, specs.List.All}
 use Rattle.mm_word.specs.Pointer.{Pointer}
-use Rattle.mm_model.specs.Memory.{cell_at}
-use Rattle.mm_model.specs.State.{State}
-use Rattle.mm_model.specs.Image.{Image, start}
-use Rattle.mm_model.specs.Spelling.{IsImage}
-use Rattle.mm_model.specs.Run.{turn_of, after}
-use Rattle.mm_model.specs.Trace.{done_entry}
-use Rattle.mm_model.specs.Reach.{Entries}
-use Rattle.mm_model.specs.Reach.Entries.{All as AnyEntry, These}
+use Rattle.mm_model.specs.{Memory.cell_at, State.State, Image.{Image, start}, Spelling.IsImage, Run.{turn_of, after}}
+use Rattle.mm_model.specs.{Trace.done_entry, Reach.{Entries, Entries.{All as AnyEntry, These}}}
 use Rattle.mm_model.proofs.Starts.{start_state, start_fits}
-use Rattle.mm_laws.specs.Granted.{with_entries}
-use Rattle.mm_laws.proofs.GrantedRuns.{start_granted}
-use Rattle.mm_laws.proofs.GrantedTurns.{step_granted}
-use Rattle.mm_net.specs.declared.link.Link.{Link}
-use Rattle.mm_net.specs.declared.item.NetItem.{NetItem}
-use Rattle.mm_net.specs.declared.item.NetItem.TheVariants.{Turn, Send, Carry}
-use Rattle.mm_net.specs.Nets.{Carried, NetState, nothing_carried, net_start, bits_in, with_sent, taken_from, due, is_free, with_arrived, put_into, with_node, with_both, net_after, net_run}
+use Rattle.mm_laws.{specs.Granted.with_entries, proofs.{GrantedRuns.start_granted, GrantedTurns.step_granted}}
+use Rattle.mm_net.specs.declared.{link.Link.Link, item.NetItem.{NetItem, TheVariants.{Turn, Send, Carry}}}
+use Rattle.mm_net.specs.Nets.{Carried, NetState, nothing_carried, net_start, bits_in, with_sent, taken_from, due}
+use Rattle.mm_net.specs.Nets.{is_free, with_arrived, put_into, with_node, with_both, net_after, net_run}
 use Rattle.mm_net.specs.Granted.{entry_at, net_entries, GrantedNode}
 use Rattle.mm_net.proofs.Nodes.{EachAt, set_cases, each_put, each_mapped, each_from_all}
 use Rattle.mm_net.proofs.CarriedFits.{SentFits, sent_fits, due_fits, arrived_fits}

@@ -1,10 +1,8 @@
 -- Each list of items has one list of the groups' items among them.
 use Rattle.std.proofs.Common.{◌≡◌, ℕ, Bool, List, [], ◌∷◌, refl, ap}
 use Rattle.mm_model.specs.Image.{Image}
-use Rattle.mm_net.specs.declared.link.Link.{Link}
-use Rattle.mm_net.specs.declared.item.NetItem.{NetItem}
-use Rattle.mm_net.specs.Isolated.{AreItemsOf, ItemsAreOne}
-use Rattle.mm_net.specs.Isolated.AreItemsOf.{no_item, kept, left_out}
+use Rattle.mm_net.specs.declared.{link.Link.Link, item.NetItem.NetItem}
+use Rattle.mm_net.specs.Isolated.{AreItemsOf, ItemsAreOne, AreItemsOf.{no_item, kept, left_out}}
 
 items_one : (images : List Image) (links : List Link) (c : ℕ → ℕ → Bool) (all own other : List NetItem) → AreItemsOf images links c all own → AreItemsOf images links c all other → own ≡ other
 items_one images links c all own other no_item no_item = refl

@@ -1,24 +1,16 @@
 -- Steps of which nothing comes.
-use Rattle.std.proofs.Common.{◌≡◌, ◌↔◌, ℕ, ◌+◌, Bool, true, false, List, [], ◌∷◌, ◌++◌, length, map, slice_get, slice_set, Option, Some, None, refl, sym, ap, ◌∙◌, subst, arith}
-use Rattle.std.proofs.lemmas.List.{length_push}
-use Rattle.std.proofs.lemmas.Option.{same_Some}
+use Rattle.std.proofs.Common.{◌≡◌, ◌↔◌, ℕ, ◌+◌, Bool, true, false, List, [], ◌∷◌, ◌++◌, length, map, slice_get}
+use Rattle.std.proofs.Common.{slice_set, Option, Some, None, refl, sym, ap, ◌∙◌, subst, arith}
+use Rattle.std.proofs.lemmas.{List.length_push, Option.same_Some}
 use Rattle.mm_mem.specs.declared.memory.Memory.{Ghosts}
-use Rattle.mm_model.specs.declared.step.Step.{Step}
+use Rattle.mm_model.specs.{declared.step.Step.Step, Memory.cell_at, State.State, Outcomes.IsIdle}
+use Rattle.mm_machine.specs.{declared.machine.Machine.Machine, Machine.state_of}
+use Rattle.mm_net.specs.declared.{link.Link.Link, item.NetItem.{NetItem, TheVariants.{Send, Carry}}}
+use Rattle.mm_net.specs.declared.{tick.NetTick.{NetTick, TheVariants.{Idle, Turned, Sent, Arrived}}, net.Net.Net}
+use Rattle.mm_net.specs.Nets.{Carried, NetState, takes, takes_at, bits_in, with_sent, sent_tick, puts, puts_of, puts_at}
+use Rattle.mm_net.specs.Nets.{due, is_free, with_arrived, arrived_tick, net_step, net_after}
+use Rattle.mm_net.{specs.Net.{net_of, links_of, Steps, ComesToNothing}, proofs.ListPlaces.{set_here, set_found, map_at}}
 use Rattle.mm_model.specs.declared.step.Tick.TheVariants as ticks
-use Rattle.mm_model.specs.Memory.{cell_at}
-use Rattle.mm_model.specs.State.{State}
-use Rattle.mm_model.specs.Outcomes.{IsIdle}
-use Rattle.mm_machine.specs.declared.machine.Machine.{Machine}
-use Rattle.mm_machine.specs.Machine.{state_of}
-use Rattle.mm_net.specs.declared.link.Link.{Link}
-use Rattle.mm_net.specs.declared.item.NetItem.{NetItem}
-use Rattle.mm_net.specs.declared.item.NetItem.TheVariants.{Send, Carry}
-use Rattle.mm_net.specs.declared.tick.NetTick.{NetTick}
-use Rattle.mm_net.specs.declared.tick.NetTick.TheVariants.{Idle, Turned, Sent, Arrived}
-use Rattle.mm_net.specs.declared.net.Net.{Net}
-use Rattle.mm_net.specs.Nets.{Carried, NetState, takes, takes_at, bits_in, with_sent, sent_tick, puts, puts_of, puts_at, due, is_free, with_arrived, arrived_tick, net_step, net_after}
-use Rattle.mm_net.specs.Net.{net_of, links_of, Steps, ComesToNothing}
-use Rattle.mm_net.proofs.ListPlaces.{set_here, set_found, map_at}
 
 -- 1. Links.
 

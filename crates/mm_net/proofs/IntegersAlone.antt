@@ -1,14 +1,9 @@
 -- What a link changes of a node.
 use Rattle.std.proofs.Common.{◌≡◌, ℕ, inl, inr, List, slice_get, slice_set, Option, Some, sym, ap, ◌∙◌, subst}
 use Rattle.mm_model.specs.State.{State}
-use Rattle.mm_net.specs.declared.link.Link.{Link}
-use Rattle.mm_net.specs.declared.item.NetItem.{NetItem}
-use Rattle.mm_net.specs.declared.item.NetItem.TheVariants.{Turn, Send, Carry}
-use Rattle.mm_net.specs.Nets.{NetState, taken_from, put_into, net_after}
-use Rattle.mm_net.specs.Granted.{IsOfALink, OnlyIntegersEnter}
-use Rattle.mm_net.proofs.Nodes.{set_cases}
-use Rattle.mm_net.proofs.PortCalls.{only_self, taken_only, put_only}
-use Rattle.mm_net.proofs.Steps.{after_take, after_put}
+use Rattle.mm_net.specs.declared.{link.Link.Link, item.NetItem.{NetItem, TheVariants.{Turn, Send, Carry}}}
+use Rattle.mm_net.specs.{Nets.{NetState, taken_from, put_into, net_after}, Granted.{IsOfALink, OnlyIntegersEnter}}
+use Rattle.mm_net.proofs.{Nodes.set_cases, PortCalls.{only_self, taken_only, put_only}, Steps.{after_take, after_put}}
 
 module _ (nodes : List State) (n : ℕ) (before : State) (at : slice_get nodes n ≡ Some before) where
   same_node : (later : State) → slice_get nodes n ≡ Some later → OnlyIntegersEnter before later

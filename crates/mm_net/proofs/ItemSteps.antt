@@ -1,22 +1,16 @@
 -- Alike nets stay alike: where both take an item of the groups, and where one takes an item outside them.
-use Rattle.std.proofs.Common.{◌≡◌, ℕ, ◌^◌, ◌<◌, inl, inr, Bool, true, false, List, slice_get, Option, Some, None, refl, sym, ◌∙◌, subst}
-use Rattle.std.specs.Prelude.{IsSomeAnd}
-use Rattle.std.proofs.lemmas.Bool.{cases_Bool}
-use Rattle.mm_model.specs.Memory.{cell_at}
-use Rattle.mm_model.specs.Image.{Image}
-use Rattle.mm_model.specs.Schedule.{is_kept}
-use Rattle.mm_model.specs.Run.{after}
-use Rattle.mm_model.specs.Reach.{Entries as entries}
+use Rattle.std.proofs.Common.{◌≡◌, ℕ, ◌^◌, ◌<◌, inl, inr, Bool, true, false, List, slice_get, Option, Some, None, refl}
+use Rattle.std.{proofs.{Common.{sym, ◌∙◌, subst}, lemmas.Bool.cases_Bool}, specs.Prelude.IsSomeAnd}
+use Rattle.mm_model.specs.{Memory.cell_at, Image.Image, Schedule.is_kept, Run.after, Reach.{Entries as entries}}
 use Rattle.mm_model.specs.Worlds.{Touchable}
-use Rattle.mm_net.specs.declared.link.Link.{Link}
-use Rattle.mm_net.specs.declared.item.NetItem.{NetItem}
-use Rattle.mm_net.specs.declared.item.NetItem.TheVariants.{Turn, Send, Carry}
-use Rattle.mm_net.specs.Nets.{Carried, NetState, turns, bits_in, with_sent, taken_from, takes_at, takes, due, is_free, with_arrived, put_into, puts_at, puts_of, puts, with_both, net_step, net_after}
+use Rattle.mm_net.specs.declared.{link.Link.Link, item.NetItem.{NetItem, TheVariants.{Turn, Send, Carry}}}
+use Rattle.mm_net.specs.Nets.{Carried, NetState, turns, bits_in, with_sent, taken_from, takes_at, takes, due, is_free}
+use Rattle.mm_net.specs.Nets.{with_arrived, put_into, puts_at, puts_of, puts, with_both, net_step, net_after}
 use Rattle.mm_net.specs.Isolated.{IsLinkOf, IsItemOf, NetsAgreeApart}
-use Rattle.mm_net.proofs.CarriedFits.{SentFits, sent_fits, arrived_fits, due_fits}
-use Rattle.mm_net.proofs.PortCalls.{taken_fits}
+use Rattle.mm_net.proofs.{CarriedFits.{SentFits, sent_fits, arrived_fits, due_fits}, PortCalls.taken_fits}
 use Rattle.mm_net.proofs.LinkEnds.{take_end, put_end}
-use Rattle.mm_net.proofs.BothNets.{OwnEnd, NodesHere, NodesAt, Both, and_at, and_there, not_own, turn_both, turn_one, link_both, link_one}
+use Rattle.mm_net.proofs.BothNets.{OwnEnd, NodesHere, NodesAt, Both, and_at, and_there, not_own, turn_both, turn_one}
+use Rattle.mm_net.proofs.BothNets.{link_both, link_one}
 use Rattle.mm_net.proofs.NodeSteps.{alike_turns, alike_turn, alike_takes, alike_puts, alike_take, alike_put}
 
 module _ (images others : List Image) (links : List Link) (c : ℕ → ℕ → Bool) (g : NetsAgreeApart images others links c) (s t : NetState) (both : Both images others links c s t) where

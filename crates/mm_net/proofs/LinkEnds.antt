@@ -1,10 +1,7 @@
 -- Where the ends of a link stand among all ends, and that no end is of two links.
-use Rattle.std.proofs.Common.{◌≡◌, ℕ, zero, suc, ◌+◌, ◌*◌, ◌<◌, ◌⊎◌, inl, inr, List, [], ◌∷◌, length, get_or, slice_get, Some, refl, sym, ap, ◌∙◌, arith}
-use Rattle.std.specs.List.{AllPairs}
-use Rattle.std.proofs.lemmas.Bool.{cases_order}
-use Rattle.mm_net.specs.declared.link.Link.{Link}
-use Rattle.mm_net.specs.Links.{ends}
-use Rattle.mm_net.proofs.Ends.{pair}
+use Rattle.std.proofs.Common.{◌≡◌, ℕ, zero, suc, ◌+◌, ◌*◌, ◌<◌, ◌⊎◌, inl, inr, List, [], ◌∷◌, length, get_or, slice_get}
+use Rattle.std.{proofs.{Common.{Some, refl, sym, ap, ◌∙◌, arith}, lemmas.Bool.cases_order}, specs.List.AllPairs}
+use Rattle.mm_net.{specs.{declared.link.Link.Link, Links.ends}, proofs.Ends.pair}
 
 -- the end of this node and word is one of the link of a number
 pub record IsEndOf (links : List Link) (l n w : ℕ) : Type 0 where

@@ -1,11 +1,8 @@
 -- What a word of a text of links says.
 use Rattle.std.proofs.Common.{◌≡◌, ℕ, false, List, [], ◌∷◌, ◌++◌, decimal, refl, sym, ap, ◌∙◌, subst, arith}
-use Rattle.std.proofs.Math.ListN.{get_or-append}
-use Rattle.std.proofs.lemmas.Fmt.{decimal_injective}
-use Rattle.std.proofs.lemmas.List.{length-append}
+use Rattle.std.proofs.{Math.ListN.get_or-append, lemmas.{Fmt.decimal_injective, List.length-append}}
 use Rattle.std.specs.List.{AllPairs}
-use Rattle.mm_net.specs.declared.link.Link.{Link}
-use Rattle.mm_net.specs.Marks.{has}
+use Rattle.mm_net.specs.{declared.link.Link.Link, Marks.has}
 use Rattle.mm_net.specs.Links.{IsEnd, IsLink, end_text, link_text, ends, Says, AreLinks}
 use Rattle.mm_net.proofs.Parts.{lacks_both, lacks_more, split_unique, digits_lack}
 use Rattle.mm_model.specs.Words.{IsGrammar}

@@ -1,19 +1,13 @@
 -- A net keeps what is true of it.
-use Rattle.std.proofs.Common.{◌≡◌, ℕ, ◌+◌, ◌<◌, ◌≤◌, Bool, true, false, eqb, List, length, slice_get, slice_set, Some, sum_by, refl, sym, ap, ◌∙◌, subst, arith, length-set}
-use Rattle.std.proofs.lemmas.Option.{slice_get_within, get_or_from_slice_get}
-use Rattle.std.proofs.lemmas.List.Sums.{get_or-le-sum_by}
+use Rattle.std.proofs.Common.{◌≡◌, ℕ, ◌+◌, ◌<◌, ◌≤◌, Bool, true, false, eqb, List, length, slice_get, slice_set, Some}
+use Rattle.std.proofs.Common.{sum_by, refl, sym, ap, ◌∙◌, subst, arith, length-set}
+use Rattle.std.proofs.lemmas.{Option.{slice_get_within, get_or_from_slice_get}, List.Sums.get_or-le-sum_by}
 use Rattle.std.proofs.lemmas.Bool.{eqb-true}
-use Rattle.mm_model.proofs.Memories.{get_set_other}
+use Rattle.mm_model.{proofs.Memories.get_set_other, specs.{State.State, Run.after}}
 use Rattle.mm_mem.specs.declared.memory.Memory.{Ghosts}
-use Rattle.mm_model.specs.State.{State}
-use Rattle.mm_model.specs.Run.{after}
-use Rattle.mm_machine.specs.declared.machine.Machine.{Machine}
-use Rattle.mm_machine.specs.Machine.{state_of, ports_used}
-use Rattle.mm_net.specs.declared.net.Net.{Net}
-use Rattle.mm_net.specs.Nets.{Carried, taken_from, put_into}
-use Rattle.mm_net.specs.Wires.{Wired}
-use Rattle.mm_net.specs.Kept.{AreWithin, AreWired}
-use Rattle.mm_net.proofs.ListPlaces.{set_same, unequal}
+use Rattle.mm_machine.specs.{declared.machine.Machine.Machine, Machine.{state_of, ports_used}}
+use Rattle.mm_net.specs.{declared.net.Net.Net, Nets.{Carried, taken_from, put_into}, Wires.Wired}
+use Rattle.mm_net.{specs.Kept.{AreWithin, AreWired}, proofs.ListPlaces.{set_same, unequal}}
 
 -- what is true of each element is true of each once one is set of which it is true
 set_each : {A : Type 0} (P : A → Type 0) (xs : List A) (i : ℕ) (x y : A) → slice_get xs i ≡ Some x → P y → ((k : ℕ) (z : A) → slice_get xs k ≡ Some z → P z)

@@ -1,20 +1,14 @@
 -- A net goes on with the run that it stands for.
-use Rattle.std.proofs.Common.{◌≡◌, ℕ, List, [], ◌∷◌, ◌++◌, length, get_or, slice_get, Option, Some, None, refl, sym, ap, ◌∙◌, subst, arith, append_assoc, append-nil, length-set}
-use Rattle.std.proofs.lemmas.List.{length-map}
-use Rattle.std.proofs.lemmas.Option.{slice_get_within, slice_get-get_or}
+use Rattle.std.proofs.Common.{◌≡◌, ℕ, List, [], ◌∷◌, ◌++◌, length, get_or, slice_get, Option, Some, None, refl, sym, ap}
+use Rattle.std.proofs.Common.{◌∙◌, subst, arith, append_assoc, append-nil, length-set}
+use Rattle.std.proofs.lemmas.{List.length-map, Option.{slice_get_within, slice_get-get_or}}
 use Rattle.mm_mem.specs.declared.memory.Memory.{Ghosts}
-use Rattle.mm_model.specs.State.{State}
-use Rattle.mm_model.specs.Image.{Image}
-use Rattle.mm_model.specs.Uses.{Use}
-use Rattle.mm_model.specs.Run.{after}
-use Rattle.mm_machine.specs.declared.machine.Machine.{Machine}
-use Rattle.mm_machine.specs.Machine.{state_of, StandsTo}
-use Rattle.mm_net.specs.declared.link.Link.{Link}
-use Rattle.mm_net.specs.declared.item.NetItem.{NetItem}
-use Rattle.mm_net.specs.declared.tick.NetTick.{NetTick}
-use Rattle.mm_net.specs.declared.net.Net.{Net}
-use Rattle.mm_net.specs.declared.item.NetItem.TheVariants.{Turn, Send, Carry}
-use Rattle.mm_net.specs.Nets.{NetState, Carried, net_start, turns, takes, takes_at, taken_from, puts, puts_of, puts_at, put_into, due, net_step, net_after, net_run, asked_of, net_uses}
+use Rattle.mm_model.specs.{State.State, Image.Image, Uses.Use, Run.after}
+use Rattle.mm_machine.specs.{declared.machine.Machine.Machine, Machine.{state_of, StandsTo}}
+use Rattle.mm_net.specs.declared.{link.Link.Link, item.NetItem.{NetItem, TheVariants.{Turn, Send, Carry}}}
+use Rattle.mm_net.specs.declared.{tick.NetTick.NetTick, net.Net.Net}
+use Rattle.mm_net.specs.Nets.{NetState, Carried, net_start, turns, takes, takes_at, taken_from, puts, puts_of, puts_at}
+use Rattle.mm_net.specs.Nets.{put_into, due, net_step, net_after, net_run, asked_of, net_uses}
 use Rattle.mm_net.specs.Net.{net_of, links_of, node_in, Steps, StandsFor}
 
 -- one item more

@@ -1,33 +1,18 @@
 -- Alike nodes stay alike: after a turn of theirs, and after a link took or put there.
-use Rattle.std.proofs.Common.{◌≡◌, ℕ, ◌^◌, ◌<◌, ◌⊎◌, inl, inr, Bool, true, false, not, List, Option, Some, None, slice_get, if◌then◌else◌, refl, sym, ap, ◌∙◌, subst}
-use Rattle.std.proofs.lemmas.Bool.{cases_eq, cases_Bool}
-use Rattle.mm_word.specs.declared.word.Pre.TheVariants.{Full, Empty}
-use Rattle.mm_word.specs.declared.word.Post.TheVariants as leaves
-use Rattle.mm_word.specs.declared.word.Word.TheVariants.{Int}
-use Rattle.mm_word.specs.declared.word.Cell.{Cell}
+use Rattle.std.proofs.Common.{◌≡◌, ℕ, ◌^◌, ◌<◌, ◌⊎◌, inl, inr, Bool, true, false, not, List, Option, Some, None}
+use Rattle.std.proofs.{Common.{slice_get, if◌then◌else◌, refl, sym, ap, ◌∙◌, subst}, lemmas.Bool.{cases_eq, cases_Bool}}
+use Rattle.mm_word.specs.declared.word.{Pre.TheVariants.{Full, Empty}, Word.TheVariants.Int, Cell.Cell}
 use Rattle.mm_word.proofs.Rights.{can_store-loads}
-use Rattle.mm_model.specs.Memory.{Memory, cell_at, put_cell}
-use Rattle.mm_model.specs.State.{State}
-use Rattle.mm_model.specs.Image.{Image}
-use Rattle.mm_model.specs.Effect.{set_by}
-use Rattle.mm_model.specs.Turn.{with_cell}
-use Rattle.mm_model.specs.Schedule.{is_kept}
-use Rattle.mm_model.specs.Run.{turn_of, after}
-use Rattle.mm_model.specs.Trace.{group_in}
-use Rattle.mm_model.specs.Reach.{CanWrite, Entries as entries}
-use Rattle.mm_model.specs.Worlds.{Touchable}
-use Rattle.mm_model.proofs.Memories.{aligned, cell_at-put_same, cell_at-put_other}
-use Rattle.mm_laws.specs.Granted.{StepGranted}
-use Rattle.mm_laws.specs.Isolated.{AgreeApart}
-use Rattle.mm_laws.proofs.GrantedTurns.{step_granted}
-use Rattle.mm_laws.proofs.AlikeWorlds.{touchable_back}
-use Rattle.mm_laws.proofs.TwoRuns.{worlds_go_on}
+use Rattle.mm_model.specs.{Memory.{Memory, cell_at, put_cell}, State.State, Image.Image, Effect.set_by, Turn.with_cell}
+use Rattle.mm_model.specs.{Schedule.is_kept, Run.{turn_of, after}, Trace.group_in, Reach.{CanWrite, Entries as entries}}
+use Rattle.mm_model.{specs.Worlds.Touchable, proofs.Memories.{aligned, cell_at-put_same, cell_at-put_other}}
+use Rattle.mm_laws.specs.{Granted.StepGranted, Isolated.AgreeApart}
+use Rattle.mm_laws.proofs.{GrantedTurns.step_granted, AlikeWorlds.touchable_back, TwoRuns.worlds_go_on}
 use Rattle.mm_mem.specs.Answers.{put_where, set_where}
-use Rattle.mm_net.specs.declared.link.Link.{Link}
-use Rattle.mm_net.specs.Nets.{taken_from, put_into}
-use Rattle.mm_net.specs.Isolated.{NetsAgreeApart}
+use Rattle.mm_net.specs.{declared.link.Link.Link, Nets.{taken_from, put_into}, Isolated.NetsAgreeApart}
 use Rattle.mm_net.proofs.PortCalls.{NodeGranted, taken_by, put_by, taken_granted, put_granted}
 use Rattle.mm_net.proofs.BothNets.{OwnEnd, AlikeAt, unwritten, agree_at, end_other}
+use Rattle.mm_word.specs.declared.word.Post.TheVariants as leaves
 
 -- 1. Cells after a take and a put.
 

@@ -1,7 +1,7 @@
 -- What stands at each place of a list, as of nodes or of links, and after an element of it was put.
-use Rattle.std.proofs.Common.{◌≡◌, ◌≢◌, ℕ, zero, suc, ◌⊎◌, inl, inr, List, [], ◌∷◌, map, slice_get, slice_set, Some, refl, sym, ap, subst, arith}
-use Rattle.std.specs.List.{All, AllByRecursion}
-use Rattle.std.proofs.lemmas.List.Elements.{All-from_recursion, recursion_from_All}
+use Rattle.std.proofs.Common.{◌≡◌, ◌≢◌, ℕ, zero, suc, ◌⊎◌, inl, inr, List, [], ◌∷◌, map, slice_get, slice_set, Some}
+use Rattle.std.proofs.Common.{refl, sym, ap, subst, arith}
+use Rattle.std.{proofs.lemmas.List.Elements.{All-from_recursion, recursion_from_All}, specs.List.{All, AllByRecursion}}
 
 -- P holds of each element and its place
 abbrev pub EachAt : {A : Type 0} → (ℕ → A → Type 0) → List A → Type 0

@@ -1,12 +1,11 @@
 -- What arrived by a link stays a front part of what it sent.
-use Rattle.std.proofs.Common.{◌≡◌, ℕ, Bool, true, false, ◌==◌, if◌then◌else◌, List, [], ◌∷◌, ◌++◌, length, slice_get, Option, Some, None, refl, sym, ap, ◌∙◌, append_assoc, eqb-true}
+use Rattle.std.proofs.Common.{◌≡◌, ℕ, Bool, true, false, ◌==◌, if◌then◌else◌, List, [], ◌∷◌, ◌++◌, length, slice_get}
+use Rattle.std.proofs.Common.{Option, Some, None, refl, sym, ap, ◌∙◌, append_assoc, eqb-true}
 use Rattle.std.specs.List.{All}
 use Rattle.mm_model.specs.Image.{Image}
-use Rattle.mm_net.specs.declared.link.Link.{Link}
-use Rattle.mm_net.specs.declared.item.NetItem.{NetItem}
-use Rattle.mm_net.specs.declared.item.NetItem.TheVariants.{Turn, Send, Carry}
-use Rattle.mm_net.specs.Nets.{Carried, NetState, nothing_carried, net_start, with_sent, due, with_arrived, net_after, net_run}
-use Rattle.mm_net.specs.InOrder.{IsInOrder}
+use Rattle.mm_net.specs.declared.{link.Link.Link, item.NetItem.{NetItem, TheVariants.{Turn, Send, Carry}}}
+use Rattle.mm_net.specs.Nets.{Carried, NetState, nothing_carried, net_start, with_sent, due, with_arrived, net_after}
+use Rattle.mm_net.specs.{Nets.net_run, InOrder.IsInOrder}
 use Rattle.mm_net.proofs.Nodes.{EachAt, each_put, each_mapped, all_from_each}
 use Rattle.mm_net.proofs.Steps.{after_turn, after_take, after_put, after_run}
 

@@ -1,16 +1,12 @@
 -- In a net without links each node runs its own items.
-use Rattle.std.proofs.Common.{◌≡◌, ◌≢◌, ℕ, inl, inr, Bool, true, false, ◌==◌, if◌then◌else◌, List, [], ◌∷◌, ◌++◌, slice_get, Option, Some, None, option_map, refl, sym, ap, ◌∙◌, subst, eq-eqb, ne_eqb}
-use Rattle.std.proofs.lemmas.Bool.{cases_eq}
-use Rattle.std.proofs.lemmas.Option.{slice_get-map}
-use Rattle.mm_model.specs.State.{State}
-use Rattle.mm_model.specs.Uses.{Use}
-use Rattle.mm_model.specs.Image.{Image, start}
-use Rattle.mm_model.specs.Run.{turn_of, after, run, uses}
+use Rattle.std.proofs.Common.{◌≡◌, ◌≢◌, ℕ, inl, inr, Bool, true, false, ◌==◌, if◌then◌else◌, List, [], ◌∷◌, ◌++◌}
+use Rattle.std.proofs.Common.{slice_get, Option, Some, None, option_map, refl, sym, ap, ◌∙◌, subst, eq-eqb, ne_eqb}
+use Rattle.std.proofs.lemmas.{Bool.cases_eq, Option.slice_get-map}
+use Rattle.mm_model.specs.{State.State, Uses.Use, Image.{Image, start}, Run.{turn_of, after, run, uses}}
 use Rattle.mm_model.proofs.Memories.{get_set_same, get_set_other}
-use Rattle.mm_net.specs.declared.item.NetItem.{NetItem}
-use Rattle.mm_net.specs.declared.item.NetItem.TheVariants.{Turn, Send, Carry}
-use Rattle.mm_net.specs.Nets.{NetState, NetStep, net_start, idles, turns, net_step, net_after, net_run, asked_of, net_uses}
-use Rattle.mm_net.specs.Moves.{item_of, items_of, RunsAlone}
+use Rattle.mm_net.specs.declared.item.NetItem.{NetItem, TheVariants.{Turn, Send, Carry}}
+use Rattle.mm_net.specs.Nets.{NetState, NetStep, net_start, idles, turns, net_step, net_after, net_run, asked_of}
+use Rattle.mm_net.specs.{Nets.net_uses, Moves.{item_of, items_of, RunsAlone}}
 
 -- A node after a step, and what the step asked of it: its run goes on from there.
 record GoesOn (n : ℕ) (node : State) (item : NetItem) (t : NetStep) : Type 0 where

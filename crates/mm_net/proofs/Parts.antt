@@ -1,9 +1,7 @@
 -- The parts of a word at a byte that stands nowhere before.
-use Rattle.std.proofs.Common.{◌≡◌, ℕ, ◌+◌, ◌%◌, ◌<◌, ◌≤◌, ◌^◌, Bool, true, false, ◌==◌, List, [], ◌∷◌, ◌++◌, decimal, refl, ap, ◌∙◌, subst, arith}
-use Rattle.std.proofs.lemmas.Fmt.{decimal_by_steps}
-use Rattle.std.proofs.lemmas.Bool.Decides.{nat_tests}
-use Rattle.std.proofs.Math.Bool.{or-true}
-use Rattle.std.proofs.lemmas.Bool.{or_parts}
+use Rattle.std.proofs.Common.{◌≡◌, ℕ, ◌+◌, ◌%◌, ◌<◌, ◌≤◌, ◌^◌, Bool, true, false, ◌==◌, List, [], ◌∷◌, ◌++◌, decimal}
+use Rattle.std.proofs.Common.{refl, ap, ◌∙◌, subst, arith}
+use Rattle.std.proofs.{lemmas.{Fmt.decimal_by_steps, Bool.{or_parts, Decides.nat_tests}}, Math.Bool.or-true}
 use Rattle.mm_net.specs.Marks.{has}
 
 pub true_false : {b : Bool} → b ≡ true → b ≡ false → ⊥

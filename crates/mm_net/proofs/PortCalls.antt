@@ -1,26 +1,17 @@
 -- A link takes at a word of a node, or puts an integer there: what that leaves is a state again that fits its image, whose words are granted
 -- as before, and no pointer enters it.
-use Rattle.std.proofs.Common.{◌≡◌, ℕ, ◌%◌, ◌^◌, ◌<◌, ◌⊎◌, inl, inr, Bool, true, false, not, Option, Some, None, if◌then◌else◌, refl, sym, ap, ◌∙◌, subst}
-use Rattle.std.proofs.lemmas.Bool.{cases_eq}
-use Rattle.mm_word.specs.declared.word.Pre.TheVariants.{Full, Empty}
-use Rattle.mm_word.specs.declared.word.Post.TheVariants as leaves
-use Rattle.mm_word.specs.declared.word.Word.TheVariants.{Int}
-use Rattle.mm_word.specs.declared.word.Cell.{Cell}
+use Rattle.std.proofs.Common.{◌≡◌, ℕ, ◌%◌, ◌^◌, ◌<◌, ◌⊎◌, inl, inr, Bool, true, false, not, Option, Some, None}
+use Rattle.std.proofs.{Common.{if◌then◌else◌, refl, sym, ap, ◌∙◌, subst}, lemmas.Bool.cases_eq}
+use Rattle.mm_word.specs.declared.word.{Pre.TheVariants.{Full, Empty}, Word.TheVariants.Int, Cell.Cell}
 use Rattle.mm_word.specs.Word.{IsWord, word_bits}
-use Rattle.mm_model.specs.Memory.{cell_at, put_cell}
-use Rattle.mm_model.specs.State.{State}
-use Rattle.mm_model.specs.Image.{Image}
-use Rattle.mm_model.specs.Effect.{set_by}
-use Rattle.mm_model.specs.Turn.{with_cell}
-use Rattle.mm_model.specs.Fits.{IsState, Fits}
-use Rattle.mm_model.specs.Reach.{Entries}
+use Rattle.mm_model.specs.{Memory.{cell_at, put_cell}, State.State, Image.Image, Effect.set_by, Turn.with_cell}
+use Rattle.mm_model.specs.{Fits.{IsState, Fits}, Reach.Entries}
 use Rattle.mm_model.proofs.Memories.{aligned, put_cases, put_frames, cell_at-put_same, cell_at-put_other}
-use Rattle.mm_model.proofs.EffectWords.{bits_fit, cell_words}
-use Rattle.mm_model.proofs.StateKeeps.{cell_keeps}
+use Rattle.mm_model.proofs.{EffectWords.{bits_fit, cell_words}, StateKeeps.cell_keeps}
 use Rattle.mm_laws.specs.Granted.{CellGranted, WordsGranted}
 use Rattle.mm_mem.specs.Answers.{put_where, set_where}
-use Rattle.mm_net.specs.Nets.{bits_in, taken_from, put_into}
-use Rattle.mm_net.specs.Granted.{IsEmptied, IsFilled, OnlyIntegersEnter}
+use Rattle.mm_net.specs.{Nets.{bits_in, taken_from, put_into}, Granted.{IsEmptied, IsFilled, OnlyIntegersEnter}}
+use Rattle.mm_word.specs.declared.word.Post.TheVariants as leaves
 
 -- a state that fits its image, and whose words are granted under the entries
 pub record NodeGranted (i : Image) (e : Entries) (s : State) : Type 0 where

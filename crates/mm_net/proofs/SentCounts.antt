@@ -1,14 +1,12 @@
 -- How many integers the links of a net took.
-use Rattle.std.proofs.Common.{◌≡◌, ℕ, ◌+◌, ◌≤◌, Bool, true, false, List, [], ◌∷◌, length, map, get_or, slice_get, slice_set, sum_by, Option, Some, None, refl, ap, arith}
-use Rattle.std.proofs.lemmas.List.{length_push}
-use Rattle.std.proofs.lemmas.List.Sums.{sum_by-set, sum_by-cons}
+use Rattle.std.proofs.Common.{◌≡◌, ℕ, ◌+◌, ◌≤◌, Bool, true, false, List, [], ◌∷◌, length, map, get_or, slice_get}
+use Rattle.std.proofs.Common.{slice_set, sum_by, Option, Some, None, refl, ap, arith}
+use Rattle.std.proofs.lemmas.List.{length_push, Sums.{sum_by-set, sum_by-cons}}
 use Rattle.std.proofs.lemmas.Option.{slice_get_within, get_or_from_slice_get}
-use Rattle.mm_model.specs.Memory.{cell_at}
-use Rattle.mm_model.specs.State.{State}
-use Rattle.mm_net.specs.declared.link.Link.{Link}
-use Rattle.mm_net.specs.declared.item.NetItem.{NetItem}
-use Rattle.mm_net.specs.declared.item.NetItem.TheVariants.{Turn, Send, Carry}
-use Rattle.mm_net.specs.Nets.{Carried, NetState, nothing_carried, turns, takes, takes_at, bits_in, with_sent, puts, puts_of, puts_at, due, is_free, with_arrived, net_step, net_after, net_run}
+use Rattle.mm_model.specs.{Memory.cell_at, State.State}
+use Rattle.mm_net.specs.declared.{link.Link.Link, item.NetItem.{NetItem, TheVariants.{Turn, Send, Carry}}}
+use Rattle.mm_net.specs.Nets.{Carried, NetState, nothing_carried, turns, takes, takes_at, bits_in, with_sent, puts}
+use Rattle.mm_net.specs.Nets.{puts_of, puts_at, due, is_free, with_arrived, net_step, net_after, net_run}
 use Rattle.mm_net.specs.Net.{sent_count}
 
 -- how many integers an item sends at most

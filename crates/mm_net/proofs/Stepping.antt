@@ -1,36 +1,21 @@
 -- What a step of a net leaves, by what its node and its link come to.
-use Rattle.std.proofs.Common.{◌≡◌, ℕ, zero, suc, ◌+◌, Bool, true, false, eqb, if◌then◌else◌, List, [], ◌∷◌, map, slice_get, slice_set, Option, Some, None, refl, sym, ap, ◌∙◌, subst}
-use Rattle.std.proofs.lemmas.List.{map-set}
-use Rattle.std.proofs.lemmas.Option.{same_Some}
-use Rattle.std.proofs.lemmas.Bool.{eqb-true}
-use Rattle.mm_word.specs.declared.perm.Kind.{Kind}
-use Rattle.mm_word.specs.declared.perm.Kind.TheVariants.{LoadSet, Store}
-use Rattle.mm_word.specs.Access.{AccessValue}
-use Rattle.mm_word.specs.declared.word.Pre.TheVariants.{Full, Empty}
-use Rattle.mm_word.specs.declared.word.Cell.{Cell}
-use Rattle.mm_mem.specs.declared.memory.Memory.{Ghosts}
-use Rattle.mm_mem.specs.Answers.{access_uses}
-use Rattle.mm_model.specs.declared.step.Step.{Step}
-use Rattle.mm_model.specs.declared.step.Tick.{Tick}
-use Rattle.mm_model.specs.declared.step.Tick.TheVariants as ticks
-use Rattle.mm_model.specs.Memory.{cell_at}
-use Rattle.mm_model.specs.State.{State}
-use Rattle.mm_model.specs.Uses.{Use, use_at, takes_none}
-use Rattle.mm_model.specs.Run.{turn_of, after}
-use Rattle.mm_machine.specs.declared.machine.Machine.{Machine}
-use Rattle.mm_machine.specs.Machine.{state_of, Takes}
-use Rattle.mm_net.specs.declared.link.Link.{Link}
-use Rattle.mm_net.specs.declared.item.NetItem.{NetItem}
-use Rattle.mm_net.specs.declared.item.NetItem.TheVariants.{Turn, Send, Carry}
-use Rattle.mm_net.specs.declared.tick.NetTick.{NetTick}
-use Rattle.mm_net.specs.declared.tick.NetTick.TheVariants.{Idle, Turned}
-use Rattle.mm_net.specs.declared.net.Net.{Net}
+use Rattle.std.proofs.Common.{◌≡◌, ℕ, zero, suc, ◌+◌, Bool, true, false, eqb, if◌then◌else◌, List, [], ◌∷◌, map}
+use Rattle.std.proofs.Common.{slice_get, slice_set, Option, Some, None, refl, sym, ap, ◌∙◌, subst}
+use Rattle.std.proofs.lemmas.{List.map-set, Option.same_Some, Bool.eqb-true}
+use Rattle.mm_word.specs.declared.perm.Kind.{Kind, TheVariants.{LoadSet, Store}}
+use Rattle.mm_word.specs.{declared.word.{Pre.TheVariants.{Full, Empty}, Cell.Cell}, Access.AccessValue}
+use Rattle.mm_mem.specs.{declared.memory.Memory.Ghosts, Answers.access_uses}
+use Rattle.mm_model.specs.{declared.step.{Step.Step, Tick.Tick}, Memory.cell_at, State.State}
+use Rattle.mm_model.specs.{Uses.{Use, use_at, takes_none}, Run.{turn_of, after}}
+use Rattle.mm_machine.specs.{declared.machine.Machine.Machine, Machine.{state_of, Takes}}
+use Rattle.mm_net.specs.declared.{link.Link.Link, item.NetItem.{NetItem, TheVariants.{Turn, Send, Carry}}}
+use Rattle.mm_net.specs.declared.{tick.NetTick.{NetTick, TheVariants.{Idle, Turned}}, net.Net.Net}
 use Rattle.mm_net.specs.Nets.{Carried, NetState, NetStep, idles, turns, turn_tick, takes, takes_at, bits_in, with_sent}
 use Rattle.mm_net.specs.Nets.{sent_tick, taken_from, puts, puts_of, puts_at, due, is_free, with_arrived, arrived_tick}
-use Rattle.mm_net.specs.Nets.{put_into, net_step, net_after, asked_of}
-use Rattle.mm_net.specs.Wires.{Wired, Reaches}
+use Rattle.mm_net.specs.{Nets.{put_into, net_step, net_after, asked_of}, Wires.{Wired, Reaches}}
 use Rattle.mm_net.specs.Net.{net_of, links_of, room_of, steps_of, NodesTake, Steps}
 use Rattle.mm_net.proofs.ListPlaces.{set_same, set_other, map_at, unequal}
+use Rattle.mm_model.specs.declared.step.Tick.TheVariants as ticks
 
 abbrev pub carried_by : Wired → Carried
 carried_by w = w.carried

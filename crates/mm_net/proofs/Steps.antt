@@ -1,11 +1,7 @@
 -- What a step leaves of a net, by cases: the net as it was, or what a turn, a take or a put leaves.
 use Rattle.std.proofs.Common.{◌≡◌, ℕ, List, [], ◌∷◌, slice_get, Option, Some, None, refl}
-use Rattle.mm_model.specs.Memory.{cell_at}
-use Rattle.mm_model.specs.State.{State}
-use Rattle.mm_model.specs.Run.{after}
-use Rattle.mm_net.specs.declared.link.Link.{Link}
-use Rattle.mm_net.specs.declared.item.NetItem.{NetItem}
-use Rattle.mm_net.specs.declared.item.NetItem.TheVariants.{Turn, Send, Carry}
+use Rattle.mm_model.specs.{Memory.cell_at, State.State, Run.after}
+use Rattle.mm_net.specs.declared.{link.Link.Link, item.NetItem.{NetItem, TheVariants.{Turn, Send, Carry}}}
 use Rattle.mm_net.specs.Nets.{Carried, NetState, NetStep, idles, with_node, with_both, turns, bits_in, with_sent}
 use Rattle.mm_net.specs.Nets.{taken_from, takes_at, takes, due, is_free, with_arrived, put_into, puts_at, puts_of, puts}
 use Rattle.mm_net.specs.Nets.{net_step, net_after, net_run}

@@ -2,16 +2,12 @@
 use Rattle.std.proofs.Common.{◌≡◌, ◌≢◌, ℕ, inl, inr, Bool, true, false, ◌==◌, if◌then◌else◌, List, [], ◌∷◌, ◌++◌}
 use Rattle.std.proofs.Common.{slice_get, slice_set, Option, Some, None, refl, sym, ap, ◌∙◌, subst, append_assoc}
 use Rattle.std.proofs.Common.{append-nil, eq-eqb, ne_eqb}
-use Rattle.mm_model.specs.Memory.{cell_at}
-use Rattle.mm_model.specs.State.{State}
-use Rattle.mm_model.specs.Image.{Image}
-use Rattle.mm_net.specs.declared.link.Link.{Link}
-use Rattle.mm_net.specs.declared.item.NetItem.{NetItem}
-use Rattle.mm_net.specs.declared.item.NetItem.TheVariants.{Turn, Send, Carry}
-use Rattle.mm_net.specs.Nets.{Carried, NetState, NetStep, nothing_carried, net_start, turns, bits_in, with_sent, sent_tick, is_free, with_arrived, arrived_tick, net_step, net_after, net_run}
+use Rattle.mm_model.specs.{Memory.cell_at, State.State, Image.Image}
+use Rattle.mm_net.specs.declared.{link.Link.Link, item.NetItem.{NetItem, TheVariants.{Turn, Send, Carry}}}
+use Rattle.mm_net.specs.Nets.{Carried, NetState, NetStep, nothing_carried, net_start, turns, bits_in, with_sent}
+use Rattle.mm_net.specs.Nets.{sent_tick, is_free, with_arrived, arrived_tick, net_step, net_after, net_run}
 use Rattle.mm_net.specs.Moves.{told_sent, told_arrived, told, IsTold}
-use Rattle.mm_net.proofs.Nodes.{set_cases, each_mapped}
-use Rattle.mm_net.proofs.Steps.{take_cases, put_cases}
+use Rattle.mm_net.proofs.{Nodes.{set_cases, each_mapped}, Steps.{take_cases, put_cases}}
 
 -- what a link carried before, to which these integers were added
 record Adds (l : ℕ) (s : NetState) (carried : Carried) (sent arrived : List ℕ) : Type 0 where

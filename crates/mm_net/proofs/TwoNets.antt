@@ -1,16 +1,11 @@
 -- Two runs of nets: each is alike to the run of the groups' items alone, and so they are alike.
 use Rattle.std.proofs.Common.{◌≡◌, ℕ, Bool, List, [], ◌∷◌, slice_get, Option, Some, refl, sym, ◌∙◌, subst}
-use Rattle.mm_model.specs.State.{State}
-use Rattle.mm_model.specs.Image.{Image}
-use Rattle.mm_model.specs.Worlds.{Agree}
-use Rattle.mm_laws.specs.Isolated.{Alike as AlikeStates, AgreeApart}
-use Rattle.mm_laws.proofs.AlikeWorlds.{touchable_other}
-use Rattle.mm_net.specs.declared.link.Link.{Link}
-use Rattle.mm_net.specs.declared.item.NetItem.{NetItem}
+use Rattle.mm_model.specs.{State.State, Image.Image, Worlds.Agree}
+use Rattle.mm_laws.{specs.{Isolated.{Alike as AlikeStates, AgreeApart}}, proofs.AlikeWorlds.touchable_other}
+use Rattle.mm_net.specs.declared.{link.Link.Link, item.NetItem.NetItem}
 use Rattle.mm_net.specs.Nets.{NetState, net_start, net_after, net_run}
 use Rattle.mm_net.specs.Isolated.{AreItemsOf, HaveSameCell, NetsAgreeApart, AlikeNodes, AlikeNets, NetWorlds}
-use Rattle.mm_net.proofs.BothNets.{NodesAt, Both, agree_at, link_other, start_both}
-use Rattle.mm_net.proofs.ItemSteps.{both_step, one_step}
+use Rattle.mm_net.proofs.{BothNets.{NodesAt, Both, agree_at, link_other, start_both}, ItemSteps.{both_step, one_step}}
 
 run_none : (links : List Link) (s : NetState) → net_run links s [] ≡ s
 unfolding net_run

@@ -1,10 +1,8 @@
 -- Links that are put to work one by one.
 use Rattle.std.proofs.Common.{◌≡◌, ℕ, ◌+◌, ◌<◌, List, [], ◌∷◌, ◌++◌, length, map, take, get_or, sym, ap, ◌∙◌}
 use Rattle.std.proofs.lemmas.List.{map_push, map_more, take_more}
-use Rattle.mm_net.specs.declared.link.Link.{Link}
-use Rattle.mm_net.specs.Nets.{Carried, nothing_carried}
-use Rattle.mm_net.specs.Wires.{Wired, link_list, carried_list}
-use Rattle.mm_net.proofs.Stepping.{link_by, carried_by}
+use Rattle.mm_net.specs.{declared.link.Link.Link, Nets.{Carried, nothing_carried}}
+use Rattle.mm_net.{specs.Wires.{Wired, link_list, carried_list}, proofs.Stepping.{link_by, carried_by}}
 
 abbrev none_by : Link → Carried
 none_by link = nothing_carried

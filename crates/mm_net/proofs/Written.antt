@@ -1,25 +1,15 @@
 -- Texts of lists that are written item by item.
-use Rattle.std.proofs.Common.{◌≡◌, ℕ, zero, suc, ◌+◌, ◌<◌, ◌≤◌, List, [], ◌∷◌, ◌++◌, length, take, drop, get_or, slice_get, Option, Some, option_copied, Bor, Result, Ok, Err, IsErr}
-use Rattle.std.proofs.Common.{refl, sym, ap, ◌∙◌, arith, cond}
-use Rattle.std.specs.List.{flat_map, enumerate_from, zip}
-use Rattle.std.specs.Prelude.{◌==◌}
+use Rattle.std.proofs.Common.{◌≡◌, ℕ, zero, suc, ◌+◌, ◌<◌, ◌≤◌, List, [], ◌∷◌, ◌++◌, length, take, drop, get_or}
+use Rattle.std.proofs.Common.{slice_get, Option, Some, option_copied, Bor, Result, Ok, Err, IsErr, refl, sym, ap, ◌∙◌}
+use Rattle.std.proofs.Common.{arith, cond}
 use Rattle.std.proofs.lemmas.Bool.{ne_eqb, eq-eqb}
-use Rattle.std.specs.Result.{IsErrAnd}
-use Rattle.std.proofs.lemmas.List.{take-append-drop, take_all}
-use Rattle.std.proofs.lemmas.List.FromFn.{length-enumerate_from, get_or-enumerate_from}
-use Rattle.std.proofs.lemmas.Option.{get_or_from_slice_get}
-use Rattle.std.proofs.lemmas.Slice.Zip.{get_or-zip, length-zip}
-use Rattle.std.proofs.lemmas.Grind.{flat_map-append}
-use Rattle.mm_io.specs.Sinks.{Writes}
-use Rattle.mm_io.proofs.Known.{writes_then, writes_same, writes_cut, append_known-[]}
+use Rattle.std.proofs.lemmas.List.{take-append-drop, take_all, FromFn.{length-enumerate_from, get_or-enumerate_from}}
+use Rattle.std.proofs.lemmas.{Option.get_or_from_slice_get, Slice.Zip.{get_or-zip, length-zip}, Grind.flat_map-append}
+use Rattle.std.specs.{List.{flat_map, enumerate_from, zip}, Prelude.◌==◌, Result.IsErrAnd}
+use Rattle.mm_io.{specs.Sinks.Writes, proofs.Known.{writes_then, writes_same, writes_cut, append_known-[]}}
 use Rattle.mm_text.proofs.Appending.{lines_more}
-use Rattle.mm_model.specs.declared.counts.Counts.{Counts}
-use Rattle.mm_model.specs.Uses.{Use}
-use Rattle.mm_model.specs.State.{State}
-use Rattle.mm_model.specs.Image.{Image}
-use Rattle.mm_net.specs.declared.link.Link.{Link}
-use Rattle.mm_net.specs.declared.item.NetItem.{NetItem}
-use Rattle.mm_net.specs.Nets.{NetState, net_start, net_run, net_uses}
+use Rattle.mm_model.specs.{declared.counts.Counts.Counts, Uses.Use, State.State, Image.Image}
+use Rattle.mm_net.specs.{declared.{link.Link.Link, item.NetItem.NetItem}, Nets.{NetState, net_start, net_run, net_uses}}
 use Rattle.mm_net.specs.Texts.{node_text, nodes_text, link_lines, net_text}
 
 -- nothing was written yet

@@ -1,8 +1,7 @@
 -- Errors of texts of links and of events.
 use Rattle.mm_sched.specs.declared.text.SchedError.{SchedError}
+use Rattle.mm_net.specs.declared.fault.NetError.{NetError, TheVariants.{Fault, NoMemory}}
 use Rattle.mm_sched.specs.declared.text.SchedError.TheVariants as words
-use Rattle.mm_net.specs.declared.fault.NetError.{NetError}
-use Rattle.mm_net.specs.declared.fault.NetError.TheVariants.{Fault, NoMemory}
 
 -- the error of a text of words, as one of links or of events
 abbrev pub net_error : SchedError → NetError

@@ -1,10 +1,7 @@
 -- Events of a net, and the text of events.
-use Rattle.std.specs.Prelude.{◌≡◌, ℕ, ◌≤◌, List, ◌∷◌, ◌++◌, length, replicate, decimal}
-use Rattle.std.specs.List.{All}
-use Rattle.mm_model.specs.Schedule.{item_limit, IsItem}
-use Rattle.mm_model.specs.Words.{TextMeans, TextFaultsAt}
-use Rattle.mm_net.specs.declared.item.NetItem.{NetItem}
-use Rattle.mm_net.specs.declared.item.NetItem.TheVariants.{Turn, Send, Carry}
+use Rattle.std.specs.{Prelude.{◌≡◌, ℕ, ◌≤◌, List, ◌∷◌, ◌++◌, length, replicate, decimal}, List.All}
+use Rattle.mm_model.specs.{Schedule.{item_limit, IsItem}, Words.{TextMeans, TextFaultsAt}}
+use Rattle.mm_net.specs.declared.item.NetItem.{NetItem, TheVariants.{Turn, Send, Carry}}
 
 -- the numbers of an item are in range
 abbrev pub IsEvent : NetItem → Type 0

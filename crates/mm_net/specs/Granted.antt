@@ -1,23 +1,11 @@
 -- All that the nodes of a net reach is granted by their own images.
 use Rattle.std.specs.Prelude.{◌≡◌, ◌⊎◌, ℕ, true, false, ◌==◌, if◌then◌else◌, List, [], ◌∷◌, ◌++◌, slice_get, Option}
-use Rattle.std.specs.Prelude.{Some}
-use Rattle.std.specs.List.{All}
-use Rattle.mm_word.specs.Pointer.{Pointer}
-use Rattle.mm_word.specs.declared.word.Word.{Word}
-use Rattle.mm_word.specs.declared.word.Word.TheVariants.{Int}
-use Rattle.mm_model.specs.Memory.{Memory, cell_at}
-use Rattle.mm_model.specs.State.{State}
-use Rattle.mm_model.specs.Image.{Image}
-use Rattle.mm_model.specs.Spelling.{IsImage}
-use Rattle.mm_model.specs.Run.{turn_of}
-use Rattle.mm_model.specs.Trace.{done_entry}
-use Rattle.mm_model.specs.Fits.{IsState, Fits}
-use Rattle.mm_model.specs.Reach.{Entries}
-use Rattle.mm_model.specs.Reach.Entries.{These}
+use Rattle.std.specs.{Prelude.Some, List.All}
+use Rattle.mm_word.specs.{Pointer.Pointer, declared.word.Word.{Word, TheVariants.Int}}
+use Rattle.mm_model.specs.{Memory.{Memory, cell_at}, State.State, Image.Image, Spelling.IsImage, Run.turn_of}
+use Rattle.mm_model.specs.{Trace.done_entry, Fits.{IsState, Fits}, Reach.{Entries, Entries.These}}
 use Rattle.mm_laws.specs.Granted.{RunGranted}
-use Rattle.mm_net.specs.declared.link.Link.{Link}
-use Rattle.mm_net.specs.declared.item.NetItem.{NetItem}
-use Rattle.mm_net.specs.declared.item.NetItem.TheVariants.{Turn, Send, Carry}
+use Rattle.mm_net.specs.declared.{link.Link.Link, item.NetItem.{NetItem, TheVariants.{Turn, Send, Carry}}}
 use Rattle.mm_net.specs.Nets.{NetState, net_start, net_after, net_run}
 
 -- 1. Turns.

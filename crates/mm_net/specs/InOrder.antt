@@ -1,10 +1,7 @@
 -- The order in which integers arrive by a link.
-use Rattle.std.specs.Prelude.{◌≡◌, ℕ, List, ◌++◌}
-use Rattle.std.specs.List.{All}
+use Rattle.std.specs.{Prelude.{◌≡◌, ℕ, List, ◌++◌}, List.All}
 use Rattle.mm_model.specs.Image.{Image}
-use Rattle.mm_net.specs.declared.link.Link.{Link}
-use Rattle.mm_net.specs.declared.item.NetItem.{NetItem}
-use Rattle.mm_net.specs.Nets.{Carried, net_start, net_run}
+use Rattle.mm_net.specs.{declared.{link.Link.Link, item.NetItem.NetItem}, Nets.{Carried, net_start, net_run}}
 
 -- the integers that arrived are a prefix of those that were sent: each arrived at most once, and in order
 pub record IsInOrder (carried : Carried) : Type 0 where

@@ -1,20 +1,11 @@
 -- Groups of a net's nodes that stand apart cannot tell what the others do.
 use Rattle.std.specs.Prelude.{◌≡◌, ◌⊎◌, ℕ, Bool, true, false, List, [], ◌∷◌, Contains, length, slice_get, Option, Some}
-use Rattle.std.specs.Prelude.{IsSomeAnd}
-use Rattle.std.specs.List.{All}
-use Rattle.mm_model.specs.Memory.{cell_at}
-use Rattle.mm_model.specs.State.{State}
-use Rattle.mm_model.specs.Image.{Image}
-use Rattle.mm_model.specs.Spelling.{IsImage}
-use Rattle.mm_model.specs.Schedule.{is_kept}
-use Rattle.mm_model.specs.Reach.{CanWrite, Entries as entries}
-use Rattle.mm_model.specs.Worlds.{Touchable, Apart, Agree}
+use Rattle.std.specs.{Prelude.IsSomeAnd, List.All}
+use Rattle.mm_model.specs.{Memory.cell_at, State.State, Image.Image, Spelling.IsImage, Schedule.is_kept}
+use Rattle.mm_model.specs.{Reach.{CanWrite, Entries as entries}, Worlds.{Touchable, Apart, Agree}}
 use Rattle.mm_laws.specs.Isolated.{Alike}
-use Rattle.mm_net.specs.declared.link.Link.{Link}
-use Rattle.mm_net.specs.declared.item.NetItem.{NetItem}
-use Rattle.mm_net.specs.declared.item.NetItem.TheVariants.{Turn, Send, Carry}
-use Rattle.mm_net.specs.Links.{AreLinks}
-use Rattle.mm_net.specs.Nets.{NetState, net_start, net_run}
+use Rattle.mm_net.specs.declared.{link.Link.Link, item.NetItem.{NetItem, TheVariants.{Turn, Send, Carry}}}
+use Rattle.mm_net.specs.{Links.AreLinks, Nets.{NetState, net_start, net_run}}
 
 -- A set of groups of nodes is a test `c` of a node and a group; `c n` is the set of its groups at node n.
 

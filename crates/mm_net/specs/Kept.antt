@@ -1,8 +1,7 @@
 -- What is true of a net at every moment.
 use Rattle.std.specs.Prelude.{◌≡◌, ℕ, ◌<◌, ◌≤◌, List, slice_get, Some}
 use Rattle.mm_mem.specs.declared.memory.Memory.{Ghosts}
-use Rattle.mm_machine.specs.declared.machine.Machine.{Machine}
-use Rattle.mm_machine.specs.Machine.{state_of, ports_used}
+use Rattle.mm_machine.specs.{declared.machine.Machine.Machine, Machine.{state_of, ports_used}}
 use Rattle.mm_net.specs.Wires.{Wired}
 
 module _ {M : Type 0} {memory : Ghosts M} where

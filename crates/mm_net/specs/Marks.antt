@@ -1,6 +1,5 @@
 -- Tests of words and links for the readers of texts.
-use Rattle.std.specs.Prelude.{ℕ, Bool, ◌&&◌, ◌||◌, ◌==◌, List}
-use Rattle.std.specs.List.{list_any}
+use Rattle.std.specs.{Prelude.{ℕ, Bool, ◌&&◌, ◌||◌, ◌==◌, List}, List.list_any}
 use Rattle.mm_net.specs.declared.link.Link.{Link}
 
 -- the word has the byte

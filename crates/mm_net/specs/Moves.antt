@@ -1,18 +1,10 @@
 -- What the items of a net do, said without the model's functions.
 use Rattle.std.specs.Prelude.{◌≡◌, ◌≢◌, ◌↔◌, ℕ, true, false, ◌==◌, if◌then◌else◌, List, [], ◌∷◌, ◌++◌, length}
 use Rattle.std.specs.Prelude.{slice_get, Some}
-use Rattle.mm_word.specs.declared.word.Word.{Word}
-use Rattle.mm_word.specs.declared.word.Word.TheVariants.{Int}
-use Rattle.mm_word.specs.Word.{word_bits}
-use Rattle.mm_model.specs.Memory.{Memory, cell_at}
-use Rattle.mm_model.specs.State.{State}
-use Rattle.mm_model.specs.Image.{Image, start}
-use Rattle.mm_model.specs.Run.{run, uses}
-use Rattle.mm_net.specs.declared.link.Link.{Link}
-use Rattle.mm_net.specs.declared.item.NetItem.{NetItem}
-use Rattle.mm_net.specs.declared.item.NetItem.TheVariants.{Turn, Send, Carry}
-use Rattle.mm_net.specs.declared.tick.NetTick.{NetTick}
-use Rattle.mm_net.specs.declared.tick.NetTick.TheVariants.{Idle, Sent, Arrived}
+use Rattle.mm_word.specs.{declared.word.Word.{Word, TheVariants.Int}, Word.word_bits}
+use Rattle.mm_model.specs.{Memory.{Memory, cell_at}, State.State, Image.{Image, start}, Run.{run, uses}}
+use Rattle.mm_net.specs.declared.{link.Link.Link, item.NetItem.{NetItem, TheVariants.{Turn, Send, Carry}}}
+use Rattle.mm_net.specs.declared.tick.NetTick.{NetTick, TheVariants.{Idle, Sent, Arrived}}
 use Rattle.mm_net.specs.Nets.{Carried, NetState, NetStep, net_start, net_step, net_after, net_run, net_uses}
 
 -- 1. Links.

@@ -1,22 +1,13 @@
 -- What contracts see of a net, and the runs that it stands for.
-use Rattle.std.specs.Prelude.{◌≡◌, ℕ, ◌+◌, ◌<◌, List, [], map, length, slice_get, Option, Some}
-use Rattle.std.specs.List.{AllZip, sum_by}
+use Rattle.std.specs.{Prelude.{◌≡◌, ℕ, ◌+◌, ◌<◌, List, [], map, length, slice_get, Option, Some}, List.{AllZip, sum_by}}
 use Rattle.mm_mem.specs.declared.memory.Memory.{Ghosts}
-use Rattle.mm_model.specs.Uses.{Use}
-use Rattle.mm_model.specs.State.{State}
-use Rattle.mm_model.specs.Image.{Image}
-use Rattle.mm_model.specs.Outcomes.{IsIdle}
-use Rattle.mm_machine.specs.declared.machine.Machine.{Machine}
-use Rattle.mm_machine.specs.Machine.{state_of, ports_used, StandsTo, Takes}
-use Rattle.mm_machine.specs.Machine as machine
-use Rattle.mm_net.specs.declared.link.Link.{Link}
-use Rattle.mm_net.specs.declared.item.NetItem.{NetItem}
-use Rattle.mm_net.specs.declared.item.NetItem.TheVariants.{Turn, Send, Carry}
-use Rattle.mm_net.specs.declared.tick.NetTick.{NetTick}
-use Rattle.mm_net.specs.declared.net.Net.{Net}
+use Rattle.mm_model.specs.{Uses.Use, State.State, Image.Image, Outcomes.IsIdle}
+use Rattle.mm_machine.specs.{declared.machine.Machine.Machine, Machine.{state_of, ports_used, StandsTo, Takes}}
+use Rattle.mm_net.specs.declared.{link.Link.Link, item.NetItem.{NetItem, TheVariants.{Turn, Send, Carry}}}
+use Rattle.mm_net.specs.declared.{tick.NetTick.NetTick, net.Net.Net}
 use Rattle.mm_net.specs.Nets.{Carried, NetState, NetStep, nothing_carried, net_start, net_step, net_after, net_run}
-use Rattle.mm_net.specs.Nets.{asked_of, net_uses}
-use Rattle.mm_net.specs.Wires.{link_list, carried_list}
+use Rattle.mm_net.specs.{Nets.{asked_of, net_uses}, Wires.{link_list, carried_list}}
+use Rattle.mm_machine.specs.Machine as machine
 
 module _ {M : Type 0} {memory : Ghosts M} where
   -- 1. The value of a net.

@@ -2,25 +2,15 @@
 use Rattle.std.specs.Prelude.{ℕ, Bool, true, false, not, ◌==◌, if◌then◌else◌, List, [], ◌∷◌, ◌++◌, map, length}
 use Rattle.std.specs.Prelude.{slice_get, slice_set, Option, Some, None}
 use Rattle.mm_word.specs.declared.perm.Kind.TheVariants.{LoadSet, Store}
-use Rattle.mm_word.specs.declared.word.Pre.TheVariants.{Full, Empty}
-use Rattle.mm_word.specs.declared.word.Post.TheVariants as leaves
-use Rattle.mm_word.specs.declared.word.Word.TheVariants.{Int}
-use Rattle.mm_word.specs.declared.word.Cell.{Cell}
+use Rattle.mm_word.specs.declared.word.{Pre.TheVariants.{Full, Empty}, Word.TheVariants.Int, Cell.Cell}
 use Rattle.mm_word.specs.Word.{word_bits}
-use Rattle.mm_model.specs.declared.step.Step.{Step}
-use Rattle.mm_model.specs.declared.step.Tick.{Tick}
-use Rattle.mm_model.specs.declared.step.Tick.TheVariants as ticks
-use Rattle.mm_model.specs.Memory.{cell_at}
-use Rattle.mm_model.specs.Uses.{Use, use_at}
-use Rattle.mm_model.specs.State.{State}
-use Rattle.mm_model.specs.Image.{Image, start}
-use Rattle.mm_model.specs.Run.{turn_of, after}
+use Rattle.mm_model.specs.{declared.step.{Step.Step, Tick.Tick}, Memory.cell_at, Uses.{Use, use_at}, State.State}
+use Rattle.mm_model.specs.{Image.{Image, start}, Run.{turn_of, after}}
 use Rattle.mm_mem.specs.Answers.{after_load, after_store}
-use Rattle.mm_net.specs.declared.link.Link.{Link}
-use Rattle.mm_net.specs.declared.item.NetItem.{NetItem}
-use Rattle.mm_net.specs.declared.item.NetItem.TheVariants.{Turn, Send, Carry}
-use Rattle.mm_net.specs.declared.tick.NetTick.{NetTick}
-use Rattle.mm_net.specs.declared.tick.NetTick.TheVariants.{Idle, Turned, Sent, Arrived}
+use Rattle.mm_net.specs.declared.{link.Link.Link, item.NetItem.{NetItem, TheVariants.{Turn, Send, Carry}}}
+use Rattle.mm_net.specs.declared.tick.NetTick.{NetTick, TheVariants.{Idle, Turned, Sent, Arrived}}
+use Rattle.mm_word.specs.declared.word.Post.TheVariants as leaves
+use Rattle.mm_model.specs.declared.step.Tick.TheVariants as ticks
 
 -- 1. States.
 

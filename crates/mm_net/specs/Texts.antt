@@ -1,15 +1,8 @@
 -- The text of a net: the report of each node, and the counts of each link.
-use Rattle.std.specs.Prelude.{ℕ, List, ◌++◌, length, codes, decimal, Option}
-use Rattle.std.specs.List.{flat_map, enumerate_from, zip}
-use Rattle.mm_model.specs.declared.counts.Counts.{Counts}
-use Rattle.mm_model.specs.Uses.{Use}
-use Rattle.mm_model.specs.State.{State}
-use Rattle.mm_model.specs.Image.{Image}
-use Rattle.mm_model.specs.Lines.{newline}
+use Rattle.std.specs.{Prelude.{ℕ, List, ◌++◌, length, codes, decimal, Option}, List.{flat_map, enumerate_from, zip}}
+use Rattle.mm_model.specs.{declared.counts.Counts.Counts, Uses.Use, State.State, Image.Image, Lines.newline}
 use Rattle.mm_model.specs.Report.{report}
-use Rattle.mm_net.specs.declared.link.Link.{Link}
-use Rattle.mm_net.specs.declared.item.NetItem.{NetItem}
-use Rattle.mm_net.specs.Nets.{Carried, net_start, net_run, net_uses}
+use Rattle.mm_net.specs.{declared.{link.Link.Link, item.NetItem.NetItem}, Nets.{Carried, net_start, net_run, net_uses}}
 
 -- the text of a node: its number, and the report of its state against its image
 abbrev pub node_text : ℕ → Image → State → Option Counts → List ℕ

@@ -1,11 +1,8 @@
 -- The links of a net with what they carried, and with the accesses by which they take and put.
 use Rattle.std.specs.Prelude.{◌≡◌, ℕ, ◌≤◌, List, map}
-use Rattle.mm_word.specs.declared.perm.Kind.{Kind}
-use Rattle.mm_word.specs.declared.perm.Kind.TheVariants.{LoadSet, Store}
-use Rattle.mm_word.specs.Access.{AccessValue}
+use Rattle.mm_word.specs.{declared.perm.Kind.{Kind, TheVariants.{LoadSet, Store}}, Access.AccessValue}
 use Rattle.mm_model.specs.Schedule.{item_limit}
-use Rattle.mm_net.specs.declared.link.Link.{Link}
-use Rattle.mm_net.specs.Nets.{Carried}
+use Rattle.mm_net.specs.{declared.link.Link.Link, Nets.Carried}
 
 -- a link, what it carried, and the count of integers that it has room for
 pub record Wired : Type 0 where

@@ -16,7 +16,7 @@ use mm_image::Image;
 use mm_io::{Sink, WriteFault};
 use mm_machine::Machine;
 use mm_mem::{Inspect, Memory};
-use mm_text::{TextBuffer, Piece, write_pieces};
+use mm_text::{Piece, TextBuffer, write_pieces};
 
 /// Writes the text of a net against the images of its nodes: for each node, ascending, a line `node N` and the node's
 /// report; then for each link, ascending, a line `link L sent N arrived M`. After a [`WriteFault`] the sink has taken a

@@ -1,10 +1,9 @@
 -- Lists in which each element stands before the next, as loops test it.
-use Rattle.std.proofs.Common.{◌≡◌, ℕ, zero, suc, ◌+◌, ◌-◌, ◌<◌, ◌≤◌, true, false, List, [], ◌∷◌, length, get_or, map, refl, sym, ap, ◌∙◌, arith, inl, inr}
+use Rattle.std.proofs.Common.{◌≡◌, ℕ, zero, suc, ◌+◌, ◌-◌, ◌<◌, ◌≤◌, true, false, List, [], ◌∷◌, length, get_or, map}
+use Rattle.std.proofs.Common.{refl, sym, ap, ◌∙◌, arith, inl, inr}
+use Rattle.std.proofs.lemmas.{Bool.{cases_lt, and_parts, and_from, false_from_ne_true}, List.{get_or-map, length-map}}
 use Rattle.std.specs.List.Sorted.{IsStrictlyIncreasing}
-use Rattle.std.proofs.lemmas.Bool.{cases_lt, and_parts, and_from, false_from_ne_true}
-use Rattle.std.proofs.lemmas.List.{get_or-map, length-map}
-use Rattle.mm_object.specs.Names.{is_before}
-use Rattle.mm_object.specs.Objects.{ascend}
+use Rattle.mm_object.specs.{Names.is_before, Objects.ascend}
 
 -- 1. Numbers.
 

@@ -1,11 +1,8 @@
 -- Names among others.
-use Rattle.std.proofs.Common.{◌≡◌, ℕ, suc, ◌+◌, ◌-◌, ◌<◌, ◌≤◌, Bool, true, false, not, List, [], ◌∷◌, length, get_or, take, refl, sym, ap, ◌∙◌, arith, bytes_eq}
-use Rattle.std.specs.List.{list_any}
-use Rattle.std.proofs.lemmas.List.Folds.{list_any_at, list_any_more}
-use Rattle.std.proofs.lemmas.Bool.{or_from}
-use Rattle.mm_object.specs.Names.{is_before}
-use Rattle.mm_object.specs.Objects.{Segment, is_among, names_of}
-use Rattle.mm_object.specs.Format.{is_late}
+use Rattle.std.proofs.Common.{◌≡◌, ℕ, suc, ◌+◌, ◌-◌, ◌<◌, ◌≤◌, Bool, true, false, not, List, [], ◌∷◌, length, get_or}
+use Rattle.std.proofs.Common.{take, refl, sym, ap, ◌∙◌, arith, bytes_eq}
+use Rattle.std.{proofs.lemmas.{List.Folds.{list_any_at, list_any_more}, Bool.or_from}, specs.List.list_any}
+use Rattle.mm_object.specs.{Names.is_before, Objects.{Segment, is_among, names_of}, Format.is_late}
 use Rattle.mm_object.proofs.Bools.{any-map, whole_any}
 
 -- a segment has the name

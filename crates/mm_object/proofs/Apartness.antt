@@ -1,9 +1,8 @@
 -- Names of which each is another one.
 use Rattle.std.proofs.Common.{◌≡◌, ℕ, true, false, not, List, [], ◌∷◌, ◌++◌, refl, sym, ap, ◌∙◌, bytes_eq}
-use Rattle.std.proofs.lemmas.List.Folds.{list_any-append}
-use Rattle.mm_object.specs.Objects.{Segment, is_among, are_apart, names_of}
-use Rattle.std.proofs.lemmas.Slice.Eq.{bytes_eq-Decides}
+use Rattle.std.proofs.lemmas.{List.Folds.list_any-append, Slice.Eq.bytes_eq-Decides}
 use Rattle.std.proofs.lemmas.Bool.{or_parts, and_parts, and_from, not-true, false_from_ne_true, or_from}
+use Rattle.mm_object.specs.Objects.{Segment, is_among, are_apart, names_of}
 
 pub turn : (a b : List ℕ) → bytes_eq a b ≡ false → bytes_eq b a ≡ false
 turn a b other = false_from_ne_true (bytes_eq b a) (λ same.

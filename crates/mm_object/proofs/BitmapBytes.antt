@@ -1,22 +1,16 @@
 -- Bitmaps whose last byte may be less than full.
-use Rattle.std.proofs.Common.{◌≡◌, ◌≢◌, ℕ, zero, suc, ◌+◌, ◌*◌, ◌/◌, ◌%◌, ◌^◌, ◌<◌, ◌≤◌, Bool, true, false, not, List, [], ◌∷◌, length, get_or, take, drop, map, refl, sym, ap, ◌∙◌, arith, inl, inr}
-use Rattle.std.specs.Prelude.{◌==◌, ◌&&◌, nat_le}
-use Rattle.std.specs.List.{range_with_len}
-use Rattle.std.proofs.lemmas.Bool.{cases_eq}
-use Rattle.std.proofs.lemmas.Bool.Decides.{nat_tests}
-use Rattle.std.proofs.lemmas.List.{take_all, take-take, drop-take, drop-drop, length-take, length-drop, get_or-take, get_or-drop}
+use Rattle.std.proofs.Common.{◌≡◌, ◌≢◌, ℕ, zero, suc, ◌+◌, ◌*◌, ◌/◌, ◌%◌, ◌^◌, ◌<◌, ◌≤◌, Bool, true, false, not, List}
+use Rattle.std.proofs.Common.{[], ◌∷◌, length, get_or, take, drop, map, refl, sym, ap, ◌∙◌, arith, inl, inr}
+use Rattle.std.proofs.lemmas.Bool.{cases_eq, Decides.nat_tests}
+use Rattle.std.proofs.lemmas.List.{take_all, take-take, drop-take, drop-drop, length-take, length-drop, get_or-take}
+use Rattle.std.proofs.lemmas.List.{get_or-drop}
 use Rattle.std.proofs.lemmas.List.FromFn.{length-map-range_with_len, take-map-range_with_len}
-use Rattle.mm_model.specs.Flags.{number_of_flags}
-use Rattle.mm_model.specs.Spelling.{bitmap}
-use Rattle.mm_model.specs.Bytes.{number_at, bit_at}
-use Rattle.mm_model.proofs.Bytes.Numbers.{field_1}
-use Rattle.mm_model.proofs.Bytes.Parts.{IsBytes, part, join_at, one_byte}
-use Rattle.mm_model.proofs.Bytes.Ranges.{map-same, map-shift, drop-range}
-use Rattle.mm_model.proofs.Bytes.Bitmaps.{number_of_bits, bitmap-part}
-use Rattle.mm_model.proofs.Bytes.Clean.{is_below}
-use Rattle.mm_model.proofs.Bytes.Apart.{number_of_flags-below, flag-get}
-use Rattle.mm_object.specs.Format.{has_unused_bit}
-use Rattle.mm_object.proofs.Written.{bitmap_more}
+use Rattle.std.specs.{Prelude.{◌==◌, ◌&&◌, nat_le}, List.range_with_len}
+use Rattle.mm_model.specs.{Flags.number_of_flags, Spelling.bitmap, Bytes.{number_at, bit_at}}
+use Rattle.mm_model.proofs.Bytes.{Numbers.field_1, Parts.{IsBytes, part, join_at, one_byte}}
+use Rattle.mm_model.proofs.Bytes.{Ranges.{map-same, map-shift, drop-range}, Bitmaps.{number_of_bits, bitmap-part}}
+use Rattle.mm_model.proofs.Bytes.{Clean.is_below, Apart.{number_of_flags-below, flag-get}}
+use Rattle.mm_object.{specs.Format.has_unused_bit, proofs.Written.bitmap_more}
 
 -- as many flags as the bytes hold
 bitmap-take : (q : ℕ) (fs : List Bool) → bitmap q fs ≡ bitmap q (take (8 * q) fs)

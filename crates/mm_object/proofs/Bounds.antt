@@ -1,13 +1,8 @@
 -- How large the numbers of an object are.
-use Rattle.std.proofs.Common.{◌≡◌, ℕ, zero, suc, ◌+◌, ◌-◌, ◌^◌, ◌<◌, ◌≤◌, true, List, [], ◌∷◌, length, Option, Some, None}
-use Rattle.std.proofs.Common.{refl, subst, arith}
-use Rattle.std.specs.Prelude.{slice_get, IfSome}
-use Rattle.std.specs.List.{AllByRecursion}
-use Rattle.std.proofs.lemmas.Bool.{ltb-true, and_parts}
-use Rattle.std.proofs.Math.Nat.{pow-le-pow_right}
-use Rattle.mm_object.specs.declared.item.Item.{Item}
-use Rattle.mm_object.specs.declared.target.Target.{Target}
-use Rattle.mm_object.specs.declared.target.Reloc.{Reloc}
+use Rattle.std.proofs.Common.{◌≡◌, ℕ, zero, suc, ◌+◌, ◌-◌, ◌^◌, ◌<◌, ◌≤◌, true, List, [], ◌∷◌, length, Option, Some}
+use Rattle.std.proofs.{Common.{None, refl, subst, arith}, lemmas.Bool.{ltb-true, and_parts}, Math.Nat.pow-le-pow_right}
+use Rattle.std.specs.{Prelude.{slice_get, IfSome}, List.AllByRecursion}
+use Rattle.mm_object.specs.declared.{item.Item.Item, target.{Target.Target, Reloc.Reloc}}
 use Rattle.mm_object.specs.Objects.{Segment, IsSegment, is_within, is_target, is_zero, item_of, is_reloc}
 
 pub pow_up : (i j : ℕ) → i ≤ j → 2 ^ i ≤ 2 ^ j

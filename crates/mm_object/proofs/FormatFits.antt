@@ -1,42 +1,29 @@
 -- What fits the format of an object's file is an object, and each object fits it.
-use Rattle.std.proofs.Common.{◌≡◌, ℕ, zero, suc, ◌+◌, ◌-◌, ◌/◌, ◌^◌, ◌<◌, ◌≤◌, Bool, true, false, not, cond}
-use Rattle.std.proofs.Common.{List, [], ◌∷◌, ◌++◌, length, take, drop, map, Option, Some, None, refl, sym, ap, subst, ◌∙◌}
-use Rattle.std.proofs.Common.{arith, append_assoc, append-nil}
-use Rattle.std.specs.Prelude.{◌==◌, is_some, unwrap_or}
-use Rattle.std.specs.List.{list_any, list_all, AllByRecursion}
-use Rattle.std.proofs.lemmas.Bool.{leb-true, ltb-true, le-leb, or_parts, not-false, ltb-false, and_parts, and_from, le-ltb, or_from}
-use Rattle.std.proofs.lemmas.Bool.Decides.{nat_tests}
-use Rattle.std.proofs.lemmas.List.{length-map, length-take, take_all, get_or_default}
-use Rattle.mm_word.specs.declared.perm.Perm.{Perm}
-use Rattle.mm_word.specs.declared.perm.Perm.TheVariants.{Key}
+use Rattle.std.proofs.Common.{◌≡◌, ℕ, zero, suc, ◌+◌, ◌-◌, ◌/◌, ◌^◌, ◌<◌, ◌≤◌, Bool, true, false, not, cond, List, []}
+use Rattle.std.proofs.Common.{◌∷◌, ◌++◌, length, take, drop, map, Option, Some, None, refl, sym, ap, subst, ◌∙◌, arith}
+use Rattle.std.proofs.Common.{append_assoc, append-nil}
+use Rattle.std.proofs.lemmas.Bool.{leb-true, ltb-true, le-leb, or_parts, not-false, ltb-false, and_parts, and_from}
+use Rattle.std.proofs.lemmas.Bool.{le-ltb, or_from}
+use Rattle.std.proofs.lemmas.{Bool.Decides.nat_tests, List.{length-map, length-take, take_all, get_or_default}}
+use Rattle.std.specs.{Prelude.{◌==◌, is_some, unwrap_or}, List.{list_any, list_all, AllByRecursion}}
+use Rattle.mm_word.specs.declared.perm.Perm.{Perm, TheVariants.Key}
 use Rattle.mm_word.proofs.Packing.{perm_of-code_of, code_of-in_range}
-use Rattle.mm_model.specs.Bytes.{IsBytes, bit_at}
-use Rattle.mm_model.specs.Spelling.{bitmap, handler_byte}
-use Rattle.mm_model.proofs.Bytes.Apart.{number_of_flags-below}
-use Rattle.mm_model.proofs.Bytes.Ranges.{range-list}
-use Rattle.mm_format.specs.Formats.{each, times, cons, first_late}
-use Rattle.mm_format.specs.Images.{mask, flags_of, bits_in}
+use Rattle.mm_model.specs.{Bytes.{IsBytes, bit_at}, Spelling.{bitmap, handler_byte}, Limits.word_limit}
+use Rattle.mm_model.proofs.Bytes.{Apart.number_of_flags-below, Ranges.range-list}
+use Rattle.mm_format.specs.{Formats.{each, times, cons, first_late}, Images.{mask, flags_of, bits_in}}
 use Rattle.mm_format.proofs.ImagesFit.{fits_mask, Rise, rises, rise_all, long_bitmap, not_zero}
-use Rattle.mm_object.specs.declared.item.Item.{Item}
-use Rattle.mm_object.specs.declared.target.Target.{Target}
-use Rattle.mm_object.specs.declared.target.Reloc.{Reloc}
-use Rattle.mm_object.specs.declared.thread.Value.{Value}
-use Rattle.mm_object.specs.declared.thread.Value.TheVariants.{Int, Ptr}
-use Rattle.mm_object.specs.declared.thread.Thread.{Thread}
+use Rattle.mm_object.specs.declared.{item.Item.Item, target.{Target.Target, Reloc.Reloc}}
+use Rattle.mm_object.specs.declared.thread.{Value.{Value, TheVariants.{Int, Ptr}}, Thread.Thread}
 use Rattle.mm_object.specs.Names.{is_name, has_form, is_before}
-use Rattle.mm_object.specs.Objects.{Segment, Object, IsSegment, IsNumber, IsObject, least_log, greatest_log}
-use Rattle.mm_object.specs.Objects.{words_of, names_of, is_among, are_apart, ascend, is_target, is_reloc, place_of}
-use Rattle.mm_object.specs.Objects.{is_value, is_handler, is_thread, targets_of}
-use Rattle.mm_object.specs.Format.{is_tagged}
-use Rattle.mm_object.specs.Format.{push, header_row, name_fields, name_row, is_late, external_row, bits_row, item_row}
-use Rattle.mm_object.specs.Format.{log_row, count_row, segment_row, perm_row, target_row, reloc_fields}
+use Rattle.mm_object.specs.Objects.{Segment, Object, IsSegment, IsNumber, IsObject, least_log, greatest_log, words_of}
+use Rattle.mm_object.specs.Objects.{names_of, is_among, are_apart, ascend, is_target, is_reloc, place_of, is_value}
+use Rattle.mm_object.specs.Objects.{is_handler, is_thread, targets_of}
+use Rattle.mm_object.specs.Format.{is_tagged, push, header_row, name_fields, name_row, is_late, external_row, bits_row}
+use Rattle.mm_object.specs.Format.{item_row, log_row, count_row, segment_row, perm_row, target_row, reloc_fields}
 use Rattle.mm_object.specs.Format.{good_reloc, reloc_row, integer_row, pointer_row, value_row, thread_fields}
 use Rattle.mm_object.specs.Format.{good_thread, thread_row, is_unused, use_tests, pointers_row, object}
-use Rattle.mm_object.proofs.Apartness.{apart-push, apart-before, names-push}
-use Rattle.mm_object.proofs.BitmapBytes.{bit_is, none_unused_is}
-use Rattle.mm_object.proofs.Bounds.{pow_up, target_small, reloc_small}
-use Rattle.mm_object.proofs.FormatIs.{no_late}
-use Rattle.mm_model.specs.Limits.{word_limit}
+use Rattle.mm_object.proofs.{Apartness.{apart-push, apart-before, names-push}, BitmapBytes.{bit_is, none_unused_is}}
+use Rattle.mm_object.proofs.{Bounds.{pow_up, target_small, reloc_small}, FormatIs.no_late}
 
 -- 1. Names.
 

@@ -1,39 +1,24 @@
 -- The object's file is a format.
-use Rattle.std.proofs.Common.{◌≡◌, ℕ, ◌+◌, ◌*◌, ◌-◌, ◌/◌, ◌≤◌, Bool, true, false, cond, List, [], ◌∷◌, ◌++◌, length, map}
-use Rattle.std.proofs.Common.{Option, Some, None, refl, sym, ap, ◌∙◌, arith, eqb-true, append-nil, length-append}
-use Rattle.std.specs.Prelude.{◌==◌, codes, is_some, unwrap_or}
-use Rattle.std.specs.Int.{w16, w32, to_be_bytes}
-use Rattle.std.proofs.lemmas.Bool.Decides.{nat_tests}
-use Rattle.std.proofs.lemmas.List.{length-map, take_all}
-use Rattle.std.proofs.lemmas.Bool.{not-false}
-use Rattle.mm_word.specs.declared.perm.Perm.TheVariants.{Key}
-use Rattle.mm_word.specs.Perm.{code_of, perm_of}
-use Rattle.mm_word.specs.PointerBits.{code_of-perm_of}
-use Rattle.mm_model.specs.Flags.{number_of_flags}
-use Rattle.mm_model.specs.Bytes.{IsBytes}
-use Rattle.mm_model.specs.Spelling.{bitmap, handler_byte}
-use Rattle.mm_format.specs.Formats.{Format, IsFormat, byte, u16, u32, raw, each, cons}
+use Rattle.std.proofs.Common.{◌≡◌, ℕ, ◌+◌, ◌*◌, ◌-◌, ◌/◌, ◌≤◌, Bool, true, false, cond, List, [], ◌∷◌, ◌++◌, length}
+use Rattle.std.proofs.Common.{map, Option, Some, None, refl, sym, ap, ◌∙◌, arith, eqb-true, append-nil, length-append}
+use Rattle.std.proofs.lemmas.{Bool.{not-false, Decides.nat_tests}, List.{length-map, take_all}}
+use Rattle.std.specs.{Prelude.{◌==◌, codes, is_some, unwrap_or}, Int.{w16, w32, to_be_bytes}}
+use Rattle.mm_word.specs.{declared.perm.Perm.TheVariants.Key, Perm.{code_of, perm_of}, PointerBits.code_of-perm_of}
+use Rattle.mm_model.specs.{Flags.number_of_flags, Bytes.IsBytes, Spelling.{bitmap, handler_byte}}
+use Rattle.mm_format.specs.Formats.{Format, IsFormat, byte, u16, u32, raw, each, cons, Parsed.Got}
 use Rattle.mm_format.specs.Images.{mask, flags_of, bits_in}
 use Rattle.mm_format.proofs.Formats.{byte_is, u16_is, u32_is, u64_is, text_is, raw_is, test_is, literal_is}
-use Rattle.mm_format.specs.Formats.Parsed.{Got}
 use Rattle.mm_format.proofs.Formats.{literal_read, then_is, done_is, ends_within}
 use Rattle.mm_format.proofs.Images.{mask_is, bits_count, handler_again}
 use Rattle.mm_format.proofs.Lists.{each_is, times_is, times_long, late_is}
-use Rattle.mm_object.specs.declared.header.Header.{Header}
-use Rattle.mm_object.specs.declared.item.Item.{Item}
-use Rattle.mm_object.specs.declared.target.Target.{Target}
-use Rattle.mm_object.specs.declared.target.Reloc.{Reloc}
-use Rattle.mm_object.specs.declared.thread.Value.{Value}
-use Rattle.mm_object.specs.declared.thread.Thread.{Thread}
-use Rattle.mm_object.specs.Objects.{Segment, Object, place_of}
-use Rattle.mm_object.specs.Format.{is_tagged}
-use Rattle.mm_object.specs.Format.{push, header_row, name_fields, name_row, external_row, has_unused_bit, unused_bit}
-use Rattle.mm_object.specs.Format.{bits_row, item_row, log_row, count_row, segment_row, perm_row}
+use Rattle.mm_object.specs.declared.{header.Header.Header, item.Item.Item, target.{Target.Target, Reloc.Reloc}}
+use Rattle.mm_object.specs.{declared.thread.{Value.Value, Thread.Thread}, Objects.{Segment, Object, place_of}}
+use Rattle.mm_object.specs.Format.{is_tagged, push, header_row, name_fields, name_row, external_row, has_unused_bit}
+use Rattle.mm_object.specs.Format.{unused_bit, bits_row, item_row, log_row, count_row, segment_row, perm_row}
 use Rattle.mm_object.specs.Format.{target_row, reloc_fields, good_reloc, reloc_row, number_in, perm_in, target_in}
-use Rattle.mm_object.specs.Format.{integer_row, pointer_row, value_row, thread_fields, good_thread, thread_row, Pointers}
-use Rattle.mm_object.specs.Format.{pointers_row, uses_in, header_in, pointers_in, object}
-use Rattle.mm_object.proofs.BitmapBytes.{bits_part}
-use Rattle.mm_object.proofs.Framed.{framed_is}
+use Rattle.mm_object.specs.Format.{integer_row, pointer_row, value_row, thread_fields, good_thread, thread_row}
+use Rattle.mm_object.specs.Format.{Pointers, pointers_row, uses_in, header_in, pointers_in, object}
+use Rattle.mm_object.proofs.{BitmapBytes.bits_part, Framed.framed_is}
 
 -- what is read at a place ends within the bytes
 pub read_within : {A : Type 0} {f : Format A} → IsFormat f → (bytes : List ℕ) → IsBytes bytes → (at : ℕ) (a : A) (next : ℕ)

@@ -1,23 +1,18 @@
 -- The laws of objects' files, by their format.
-use Rattle.std.proofs.Common.{◌≡◌, ℕ, ◌+◌, List, [], ◌++◌, length, None, refl, sym, ap, ◌∙◌}
-use Rattle.std.proofs.Common.{append_assoc, append-nil}
+use Rattle.std.proofs.Common.{◌≡◌, ℕ, ◌+◌, List, [], ◌++◌, length, None, refl, sym, ap, ◌∙◌, append_assoc, append-nil}
 use Rattle.std.specs.List.{flat_map}
 use Rattle.mm_model.specs.Bytes.{IsBytes}
-use Rattle.mm_format.specs.Formats.{file, fault_in}
-use Rattle.mm_format.specs.Formats.Parsed.{Got}
+use Rattle.mm_format.specs.Formats.{file, fault_in, Parsed.Got}
 use Rattle.mm_format.specs.declared.reader.ReadError.{ReadError, TheVariants.{Fault, NoMemory}}
 use Rattle.mm_format.specs.Reading.{fault_named_by}
-use Rattle.mm_format.proofs.Files.{spelled_by, read_whole, same_value, clean_got}
-use Rattle.mm_format.proofs.Lists.{times_spell}
-use Rattle.mm_object.specs.declared.fault.ObjectFault.{ObjectFault}
-use Rattle.mm_object.specs.Answers.{number_of, from_read_error}
+use Rattle.mm_format.proofs.{Files.{spelled_by, read_whole, same_value, clean_got}, Lists.times_spell}
+use Rattle.mm_object.specs.{declared.fault.ObjectFault.ObjectFault, Answers.{number_of, from_read_error}}
 use Rattle.mm_object.specs.Faults.{fault_of, object_fault}
-use Rattle.mm_object.specs.Format.{push, header_row, external_row, segment_row, count_row, good_reloc, reloc_row, good_thread}
-use Rattle.mm_object.specs.Format.{thread_row, pointers_row, header_in, object, segment_record, name_record, reloc_record}
-use Rattle.mm_object.specs.Format.{thread_record, spelling, Spells}
+use Rattle.mm_object.specs.Format.{push, header_row, external_row, segment_row, count_row, good_reloc, reloc_row}
+use Rattle.mm_object.specs.Format.{good_thread, thread_row, pointers_row, header_in, object, segment_record}
+use Rattle.mm_object.specs.Format.{name_record, reloc_record, thread_record, spelling, Spells}
 use Rattle.mm_object.specs.Objects.{Object, place_of}
-use Rattle.mm_object.proofs.FormatFits.{object_fits, fits_object}
-use Rattle.mm_object.proofs.FormatIs.{object_is}
+use Rattle.mm_object.proofs.{FormatFits.{object_fits, fits_object}, FormatIs.object_is}
 
 -- 1. The spelling.
 

@@ -1,22 +1,16 @@
 -- The relocation of a word, as a search by halving finds it among those that rise.
 use Rattle.std.proofs.Common.{◌≡◌, ◌≢◌, ℕ, zero, suc, ◌+◌, ◌*◌, ◌^◌, ◌<◌, ◌≤◌, Bool, true, false, if◌then◌else◌, List}
 use Rattle.std.proofs.Common.{[], ◌∷◌, map, length, get_or, slice_get, Some, None, refl, sym, ap, ◌∙◌, arith, inl, inr}
-use Rattle.std.specs.Prelude.{find, ◌==◌, ◌&&◌}
-use Rattle.std.specs.List.{HoldsAt, list_all}
-use Rattle.std.specs.List.Sorted.{IsStrictlyIncreasing, IsNonDecreasingBy, IsPartitionPoint}
-use Rattle.std.specs.Ordering.{nat_cmp, ordering_index}
-use Rattle.std.specs.declared.cmp.Ordering.TheVariants.{Less, Equal, Greater}
-use Rattle.std.proofs.lemmas.Bool.{cases_lt, and_parts, false_from_ne_true, eqb-true}
-use Rattle.std.proofs.lemmas.Bool.Decides.{nat_tests}
+use Rattle.std.proofs.lemmas.Bool.{cases_lt, and_parts, false_from_ne_true, eqb-true, Decides.nat_tests}
 use Rattle.std.proofs.lemmas.Cmp.{ranked, nat_cmp_total}
-use Rattle.std.proofs.lemmas.List.{get_or-map, length-map}
-use Rattle.std.proofs.lemmas.List.Kept.{AllPairs-from_increasing}
-use Rattle.std.proofs.lemmas.List.Sorted.{searchable_from_sorted}
-use Rattle.mm_object.specs.declared.target.Reloc.{Reloc}
-use Rattle.mm_word.specs.declared.perm.Perm.TheVariants.{Key}
-use Rattle.mm_object.specs.declared.item.Item.{Item}
+use Rattle.std.proofs.lemmas.List.{get_or-map, length-map, Kept.AllPairs-from_increasing, Sorted.searchable_from_sorted}
+use Rattle.std.specs.Prelude.{find, ◌==◌, ◌&&◌}
+use Rattle.std.specs.List.{HoldsAt, list_all, Sorted.{IsStrictlyIncreasing, IsNonDecreasingBy, IsPartitionPoint}}
+use Rattle.std.specs.{Ordering.{nat_cmp, ordering_index}, declared.cmp.Ordering.TheVariants.{Less, Equal, Greater}}
+use Rattle.mm_object.specs.declared.{target.Reloc.Reloc, item.Item.Item}
 use Rattle.mm_object.specs.Objects.{Segment, place_of, words_of, is_reloc, is_zero, item_of, is_target}
 use Rattle.mm_object.specs.Lookups.{is_at, HaveSmallWords}
+use Rattle.mm_word.specs.declared.perm.Perm.TheVariants.{Key}
 use Rattle.mm_model.specs.Limits.{word_limit}
 
 -- 1. The first item that passes a test.

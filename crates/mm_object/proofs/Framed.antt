@@ -1,10 +1,7 @@
 -- A record that has to be whole before it is tested.
 use Rattle.std.proofs.Common.{◌≡◌, ℕ, List, length, ap, ◌∙◌}
-use Rattle.mm_format.specs.declared.reader.ReadError.{ReadError}
-use Rattle.mm_format.specs.declared.reader.ReadError.TheVariants.{Fault, NoMemory}
-use Rattle.mm_format.specs.Formats.{Parsed, Format, IsFormat, text, after}
-use Rattle.mm_format.specs.Formats.Parsed.{Got, Bad}
-use Rattle.mm_format.specs.Reading.{FailsOr}
+use Rattle.mm_format.specs.declared.reader.ReadError.{ReadError, TheVariants.{Fault, NoMemory}}
+use Rattle.mm_format.specs.{Formats.{Parsed, Format, IsFormat, text, after, Parsed.{Got, Bad}}, Reading.FailsOr}
 use Rattle.mm_format.proofs.Formats.{after_got, text_is}
 use Rattle.mm_object.specs.Format.{renamed, framed}
 

@@ -1,17 +1,12 @@
 -- Names in a set of keys.
-use Rattle.std.proofs.Common.{◌≡◌, ℕ, ◌+◌, ◌<◌, Bool, true, false, ◌||◌, List, [], ◌∷◌, length, get_or, take, refl, sym, ap, ◌∙◌, bytes_eq}
-use Rattle.std.specs.declared.cmp.Ordering.{Ordering}
-use Rattle.std.specs.declared.cmp.Ordering.TheVariants.{Less, Equal, Greater}
-use Rattle.std.specs.Ordering.{nat_cmp, match_ordering, is_eq}
-use Rattle.std.specs.Cmp.Lexicographic.{slice_cmp}
-use Rattle.std.specs.BTreeSet.{insert_key}
+use Rattle.std.proofs.Common.{◌≡◌, ℕ, ◌+◌, ◌<◌, Bool, true, false, ◌||◌, List, [], ◌∷◌, length, get_or, take, refl, sym}
+use Rattle.std.proofs.Common.{ap, ◌∙◌, bytes_eq}
+use Rattle.std.proofs.lemmas.{Map.Text.is_eq-slice_cmp, List.Folds.list_any_more, Slice.Eq.bytes_eq-Decides}
+use Rattle.std.specs.declared.cmp.Ordering.{Ordering, TheVariants.{Less, Equal, Greater}}
+use Rattle.std.specs.{Ordering.{nat_cmp, match_ordering, is_eq}, Cmp.Lexicographic.slice_cmp, BTreeSet.insert_key}
 use Rattle.std.specs.List.{list_any}
-use Rattle.std.proofs.lemmas.Map.Text.{is_eq-slice_cmp}
-use Rattle.std.proofs.lemmas.List.Folds.{list_any_more}
 use denote.Ref.{Bor}
-use Rattle.mm_object.specs.Objects.{Segment, is_among, names_of}
-use Rattle.mm_object.specs.Steps.{key_names, AreTheSame}
-use Rattle.std.proofs.lemmas.Slice.Eq.{bytes_eq-Decides}
+use Rattle.mm_object.specs.{Objects.{Segment, is_among, names_of}, Steps.{key_names, AreTheSame}}
 use Rattle.mm_object.proofs.Among.{has_name, among-names}
 
 abbrev order_of : Bor (List ℕ) → Bor (List ℕ) → Ordering

@@ -1,10 +1,9 @@
 -- What is in a list, and what holds of each item.
 use Rattle.std.proofs.Common.{◌≡◌, ◌⊎◌, ℕ, zero, suc, ◌+◌, ◌<◌, ◌≤◌, Bool, true, false, cond, List, [], ◌∷◌, ◌++◌, map}
-use Rattle.std.proofs.Common.{length, get_or, take, drop, replicate, find, Some, None, refl, sym, ap, ◌∙◌}
-use Rattle.std.proofs.Common.{subst, inl, inr, arith}
+use Rattle.std.proofs.Common.{length, get_or, take, drop, replicate, find, Some, None, refl, sym, ap, ◌∙◌, subst, inl}
+use Rattle.std.proofs.{Common.{inr, arith}, lemmas.Bool.{cases_lt, or_parts, cond-true, and_parts}}
 use Rattle.std.specs.Prelude.{Contains, ◌||◌}
 use Rattle.std.specs.List.{flat_map, filter, list_any, list_all, range_with_len, AllByRecursion}
-use Rattle.std.proofs.lemmas.Bool.{cases_lt, or_parts, cond-true, and_parts}
 -- names by which crates above know them
 pub use Rattle.mm_model.proofs.CoreRows.{into_map as each_map}
 

@@ -1,11 +1,8 @@
 -- What loops that push, and late tests, read.
 use Rattle.std.proofs.Common.{◌≡◌, ℕ, ◌-◌, true, List, [], Option, Some, None, ap, ◌∙◌, arith}
-use Rattle.mm_format.specs.declared.reader.ReadError.{ReadError}
-use Rattle.mm_format.specs.declared.reader.ReadError.TheVariants.{Fault, NoMemory}
-use Rattle.mm_format.specs.Formats.{Parsed, Format, Late, after, answer, first_late, times}
-use Rattle.mm_format.specs.Formats.Parsed.{Got, Bad}
-use Rattle.mm_format.specs.Reading.{FailsOr}
-use Rattle.mm_format.proofs.Loops.{prefixed, nothing_before}
+use Rattle.mm_format.specs.declared.reader.ReadError.{ReadError, TheVariants.{Fault, NoMemory}}
+use Rattle.mm_format.specs.Formats.{Parsed, Format, Late, after, answer, first_late, times, Parsed.{Got, Bad}}
+use Rattle.mm_format.{specs.Reading.FailsOr, proofs.Loops.{prefixed, nothing_before}}
 use Rattle.mm_object.specs.Format.{push}
 
 -- nothing is pushed yet

@@ -1,10 +1,9 @@
 -- The numbers of the faults of object files, and the errors of a reader.
 use Rattle.std.specs.Prelude.{ℕ}
 use Rattle.mm_format.specs.declared.reader.ReadError.{ReadError}
+use Rattle.mm_object.specs.declared.fault.{ObjectFault.ObjectFault, ObjectError.ObjectError}
 use Rattle.mm_format.specs.declared.reader.ReadError.TheVariants as reading
-use Rattle.mm_object.specs.declared.fault.ObjectFault.{ObjectFault}
 use Rattle.mm_object.specs.declared.fault.ObjectFault.TheVariants as faults
-use Rattle.mm_object.specs.declared.fault.ObjectError.{ObjectError}
 use Rattle.mm_object.specs.declared.fault.ObjectError.TheVariants as errors
 
 abbrev pub number_of : ObjectFault → ℕ

@@ -1,10 +1,8 @@
 -- The first fault of an object's file, and the fault that an error names.
 use Rattle.std.specs.Prelude.{ℕ, List, Option, Some, None}
 use Rattle.mm_format.specs.Formats.{file, fault_in}
-use Rattle.mm_object.specs.declared.fault.ObjectError.{ObjectError}
+use Rattle.mm_object.specs.{declared.fault.ObjectError.ObjectError, Answers.number_of, Format.object}
 use Rattle.mm_object.specs.declared.fault.ObjectError.TheVariants as errors
-use Rattle.mm_object.specs.Answers.{number_of}
-use Rattle.mm_object.specs.Format.{object}
 
 -- the number and the place of the first fault, if there is one
 unfoldable pub object_fault : List ℕ → Option (ℕ × ℕ)

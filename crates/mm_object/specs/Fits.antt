@@ -1,14 +1,9 @@
 -- An object as its parts make it, and what each part has to be.
 use Rattle.std.specs.Prelude.{◌≡◌, ℕ, ◌+◌, ◌<◌, ◌≤◌, Bool, true, false, ◌==◌, List, map, length, slice_index_or}
-use Rattle.std.specs.List.{list_any, list_all, AllByRecursion}
-use Rattle.std.specs.List.Sorted.{IsStrictlyIncreasing}
-use Rattle.mm_object.specs.declared.target.Target.{Target}
-use Rattle.mm_object.specs.declared.target.Reloc.{Reloc}
-use Rattle.mm_object.specs.declared.thread.Thread.{Thread}
-use Rattle.mm_object.specs.Names.{is_name}
-use Rattle.mm_object.specs.Objects.{Segment, Object, IsSegment, IsNumber, external_limit}
-use Rattle.mm_object.specs.Objects.{thread_limit, words_of, names_of, is_among, are_apart, ascend}
-use Rattle.mm_object.specs.Objects.{is_reloc, place_of, is_thread, targets_of}
+use Rattle.std.specs.List.{list_any, list_all, AllByRecursion, Sorted.IsStrictlyIncreasing}
+use Rattle.mm_object.specs.{declared.{target.{Target.Target, Reloc.Reloc}, thread.Thread.Thread}, Names.is_name}
+use Rattle.mm_object.specs.Objects.{Segment, Object, IsSegment, IsNumber, external_limit, thread_limit, words_of}
+use Rattle.mm_object.specs.Objects.{names_of, is_among, are_apart, ascend, is_reloc, place_of, is_thread, targets_of}
 use Rattle.mm_model.specs.Limits.{segment_limit, word_limit, reloc_limit}
 
 -- the object of these parts

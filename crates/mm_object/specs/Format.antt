@@ -13,28 +13,16 @@
 use Rattle.std.specs.Prelude.{◌≡◌, ℕ, ◌+◌, ◌-◌, ◌/◌, ◌%◌, ◌^◌, Bool, true, false, not, ◌&&◌, ◌||◌, ◌==◌, nat_lt, nat_le}
 use Rattle.std.specs.Prelude.{if◌then◌else◌, List, [], ◌∷◌, ◌++◌, map, length, codes, is_some, unwrap_or, Some, None}
 use Rattle.std.specs.List.{list_any}
-use Rattle.mm_word.specs.declared.perm.Perm.{Perm}
-use Rattle.mm_word.specs.declared.perm.Perm.TheVariants.{Key}
-use Rattle.mm_word.specs.Perm.{code_of, perm_of}
-use Rattle.mm_model.specs.Bytes.{number_at}
-use Rattle.mm_model.specs.Spelling.{bitmap, handler_byte}
+use Rattle.mm_word.specs.{declared.perm.Perm.{Perm, TheVariants.Key}, Perm.{code_of, perm_of}}
+use Rattle.mm_model.specs.{Bytes.number_at, Spelling.{bitmap, handler_byte}, Limits.{segment_limit, word_limit}}
 use Rattle.mm_format.specs.Formats.{Parsed, Format, Late, byte, u16, u32, u64, text, raw, test, literal, part, after}
-use Rattle.mm_format.specs.Formats.{done, ◌>>=◌, each, times, late}
-use Rattle.mm_format.specs.Images.{mask, bits_in}
-use Rattle.mm_object.specs.declared.header.Header.{Header}
-use Rattle.mm_object.specs.declared.item.Item.{Item}
-use Rattle.mm_object.specs.declared.target.Target.{Target}
-use Rattle.mm_object.specs.declared.target.Reloc.{Reloc}
-use Rattle.mm_object.specs.declared.thread.Value.{Value}
-use Rattle.mm_object.specs.declared.thread.Value.TheVariants.{Int, Ptr}
-use Rattle.mm_object.specs.declared.thread.Thread.{Thread}
+use Rattle.mm_format.specs.{Formats.{done, ◌>>=◌, each, times, late}, Images.{mask, bits_in}}
+use Rattle.mm_object.specs.declared.{header.Header.Header, item.Item.Item, target.{Target.Target, Reloc.Reloc}}
+use Rattle.mm_object.specs.declared.thread.{Value.{Value, TheVariants.{Int, Ptr}}, Thread.Thread}
 use Rattle.mm_object.specs.Names.{has_form, is_before}
-use Rattle.mm_object.specs.Objects.{Segment, Object, IsObject, external_limit, thread_limit, spare_limit}
-use Rattle.mm_object.specs.Objects.{least_log, greatest_log, words_of, names_of, is_among, is_reloc}
-use Rattle.mm_object.specs.Objects.{place_of}
-use Rattle.mm_object.specs.Objects.{is_thread, targets_of}
-use Rattle.mm_object.specs.Fits.{object_from}
-use Rattle.mm_model.specs.Limits.{segment_limit, word_limit}
+use Rattle.mm_object.specs.Objects.{Segment, Object, IsObject, external_limit, thread_limit, spare_limit, least_log}
+use Rattle.mm_object.specs.Objects.{greatest_log, words_of, names_of, is_among, is_reloc, place_of, is_thread}
+use Rattle.mm_object.specs.{Objects.targets_of, Fits.object_from}
 
 -- 1. Records.
 

@@ -1,9 +1,7 @@
 -- Laws of object files.
 use Rattle.std.specs.Prelude.{◌≡◌, ◌↔◌, ℕ, List, None}
 use Rattle.mm_model.specs.Bytes.{IsBytes}
-use Rattle.mm_object.specs.Objects.{Object, IsObject}
-use Rattle.mm_object.specs.Faults.{object_fault}
-use Rattle.mm_object.specs.Format.{spelling, Spells}
+use Rattle.mm_object.specs.{Objects.{Object, IsObject}, Faults.object_fault, Format.{spelling, Spells}}
 
 -- bytes have no fault exactly if they spell an object
 abbrev pub ObjectsHaveNoFault : Type 0

@@ -1,9 +1,7 @@
 -- The names of an object's targets, and the relocations of its words.
 use Rattle.std.specs.Prelude.{ℕ, ◌^◌, ◌<◌, Bool, ◌&&◌, ◌==◌, List, [], ◌++◌, find, slice_index_or, Option}
 use Rattle.std.specs.List.{AllByRecursion}
-use Rattle.mm_object.specs.declared.target.Target.{Target}
-use Rattle.mm_object.specs.declared.target.Reloc.{Reloc}
-use Rattle.mm_object.specs.Objects.{Object, names_of}
+use Rattle.mm_object.specs.{declared.target.{Target.Target, Reloc.Reloc}, Objects.{Object, names_of}}
 
 -- the names of an object's targets: those of its segments and, after them, its externals
 abbrev pub target_names : Object → List (List ℕ)

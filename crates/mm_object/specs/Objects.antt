@@ -1,17 +1,11 @@
 -- What an object is: segments of words, names that it uses and does not define, words that become pointers when it is
 -- placed, and threads.
 use Rattle.std.specs.Prelude.{◌≡◌, ℕ, ◌+◌, ◌*◌, ◌-◌, ◌^◌, ◌<◌, ◌≤◌, Bool, true, false, not, ◌&&◌, ◌==◌, nat_lt, List}
-use Rattle.std.specs.Prelude.{[], ◌∷◌, ◌++◌, map, length, slice_get, Option, Some, None}
-use Rattle.std.specs.Str.{bytes_eq}
-use Rattle.std.specs.List.{flat_map, list_any, list_all, AllByRecursion}
-use Rattle.std.specs.List.Sorted.{IsStrictlyIncreasing}
+use Rattle.std.specs.{Prelude.{[], ◌∷◌, ◌++◌, map, length, slice_get, Option, Some, None}, Str.bytes_eq}
+use Rattle.std.specs.List.{flat_map, list_any, list_all, AllByRecursion, Sorted.IsStrictlyIncreasing}
 use Rattle.mm_word.specs.Perm.{can_fetch}
-use Rattle.mm_object.specs.declared.item.Item.{Item}
-use Rattle.mm_object.specs.declared.target.Target.{Target}
-use Rattle.mm_object.specs.declared.target.Reloc.{Reloc}
-use Rattle.mm_object.specs.declared.thread.Value.{Value}
-use Rattle.mm_object.specs.declared.thread.Value.TheVariants.{Int, Ptr}
-use Rattle.mm_object.specs.declared.thread.Thread.{Thread}
+use Rattle.mm_object.specs.declared.{item.Item.Item, target.{Target.Target, Reloc.Reloc}}
+use Rattle.mm_object.specs.declared.thread.{Value.{Value, TheVariants.{Int, Ptr}}, Thread.Thread}
 use Rattle.mm_object.specs.Names.{is_name, is_before}
 use Rattle.mm_model.specs.Limits.{segment_limit, word_limit, reloc_limit}
 

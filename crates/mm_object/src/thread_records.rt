@@ -16,7 +16,7 @@ use crate::thread::{Thread, Value};
 use crate::threads::is_thread;
 use crate::writing::NO_HANDLER;
 use mm_format::{
-    ReadError, Reader, Records, Elements, failed, is_set, read_records, read_array, refuse_if,
+    Elements, ReadError, Reader, Records, failed, is_set, read_array, read_records, refuse_if,
 };
 use std::alloc::Global;
 

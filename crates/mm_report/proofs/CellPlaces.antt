@@ -1,21 +1,14 @@
 -- Where the cells of a page are, and their lines place by place.
-use Rattle.std.proofs.Common.{◌≡◌, ℕ, suc, ◌+◌, ◌*◌, ◌<◌, Bool, true, false, cond, if◌then◌else◌, is_eq}
-use Rattle.std.proofs.Common.{List, [], ◌∷◌, ◌++◌, length, map, Option, Some, None, slice_get, slice_index_or, refl}
-use Rattle.std.proofs.Common.{sym, ap, ◌∙◌, arith}
-use Rattle.std.specs.List.{flat_map, range_with_len, AllByRecursion}
-use Rattle.std.specs.Prelude.{IsTrue}
-use Rattle.std.specs.Ordering.{nat_cmp}
+use Rattle.std.proofs.Common.{◌≡◌, ℕ, suc, ◌+◌, ◌*◌, ◌<◌, Bool, true, false, cond, if◌then◌else◌, is_eq, List, [], ◌∷◌}
+use Rattle.std.proofs.Common.{◌++◌, length, map, Option, Some, None, slice_get, slice_index_or, refl, sym, ap, ◌∙◌}
+use Rattle.std.proofs.{Common.arith, lemmas.{Grind.flat_map-append, List.{get_or-replicate, length-replicate}}}
+use Rattle.std.specs.{List.{flat_map, range_with_len, AllByRecursion}, Prelude.IsTrue, Ordering.nat_cmp}
 use Rattle.std.specs.FinMap.{is_sorted, find}
-use Rattle.std.proofs.lemmas.Grind.{flat_map-append}
-use Rattle.std.proofs.lemmas.List.{get_or-replicate, length-replicate}
 use Rattle.mm_word.specs.declared.word.Cell.{Cell}
-use Rattle.mm_model.specs.Memory.{Memory, page_at, zero_cell, zero_page, IsPage, IsPaged}
-use Rattle.mm_model.specs.Lines.{cell_line}
+use Rattle.mm_model.specs.{Memory.{Memory, page_at, zero_cell, zero_page, IsPage, IsPaged}, Lines.cell_line}
 use Rattle.mm_model.specs.Report.{same_cell, changes_from, cells_or_zero}
 use Rattle.mm_mem.specs.Places.{IsAt}
-use Rattle.mm_mem.proofs.Places.{held, found_at}
-use Rattle.mm_mem.proofs.Flats.{page_here}
-use Rattle.mm_mem.proofs.PagePlaces.{any_default, at_place}
+use Rattle.mm_mem.proofs.{Places.{held, found_at}, Flats.page_here, PagePlaces.{any_default, at_place}}
 use Rattle.mm_report.specs.Changes.{change_line, line_at, contents, cells_of, lines_of, changes_of}
 
 first_line : (same : Bool) (w : ℕ) (c : Cell) (rest : List (ℕ × Cell)) → lines_of ((if same then [] else (w, c) ∷ []) ++ rest) ≡ (if same then [] else cell_line w c) ++ lines_of rest

@@ -1,12 +1,9 @@
 -- The slots of a group among all slots, and the groups that have a slot among all groups.
-use Rattle.std.proofs.Common.{◌≡◌, ℕ, zero, suc, ◌+◌, ◌<◌, ◌==◌, Bool, true, false, ◌||◌, if◌then◌else◌, List, [], ◌∷◌, ◌++◌, length, map, take, get_or, Some, slice_get, refl, ap, ◌∙◌}
-use Rattle.std.proofs.lemmas.List.Folds.{list_any_more}
-use Rattle.std.proofs.lemmas.Option.{get_or_from_slice_get}
+use Rattle.std.proofs.Common.{◌≡◌, ℕ, zero, suc, ◌+◌, ◌<◌, ◌==◌, Bool, true, false, ◌||◌, if◌then◌else◌, List, [], ◌∷◌}
+use Rattle.std.proofs.Common.{◌++◌, length, map, take, get_or, Some, slice_get, refl, ap, ◌∙◌}
+use Rattle.std.proofs.lemmas.{List.Folds.list_any_more, Option.get_or_from_slice_get}
 use Rattle.std.specs.List.{flat_map, filter, list_any}
-use Rattle.mm_model.specs.State.{ThreadRow, Core}
-use Rattle.mm_model.specs.Fits.{slots_of}
-use Rattle.mm_model.specs.Lines.{slot_lines}
-use Rattle.mm_model.specs.Report.{is_of}
+use Rattle.mm_model.specs.{State.{ThreadRow, Core}, Fits.slots_of, Lines.slot_lines, Report.is_of}
 use Rattle.mm_report.specs.Groups.{member_text}
 
 -- the texts of the items that pass a test, item by item

@@ -1,10 +1,7 @@
 -- The report, from its parts.
 use Rattle.std.proofs.Common.{◌≡◌, ℕ, List, ◌++◌, Option, refl}
 use Rattle.mm_word.specs.declared.word.Cell.{Cell}
-use Rattle.mm_model.specs.declared.counts.Counts.{Counts}
-use Rattle.mm_model.specs.Memory.{Memory}
-use Rattle.mm_model.specs.State.{State}
-use Rattle.mm_model.specs.Image.{Image}
+use Rattle.mm_model.specs.{declared.counts.Counts.Counts, Memory.Memory, State.State, Image.Image}
 use Rattle.mm_model.specs.Report.{cycles_line, sections, page_lines, cell_lines, count_line, report}
 use Rattle.mm_report.specs.Changes.{contents}
 

@@ -2,25 +2,16 @@
 use Rattle.std.proofs.Common.{◌≡◌, ℕ, zero, suc, ◌+◌, ◌*◌, ◌<◌, ◌≤◌, ◌==◌, nat_eq, min, Bool, true, false, ◌&&◌}
 use Rattle.std.proofs.Common.{if◌then◌else◌, List, [], ◌∷◌, ◌++◌, fold, drop, length, Option, Some, None, is_some, inl}
 use Rattle.std.proofs.Common.{inr, ◌⊎◌, ◌^◌, slice_get, slice_index_or, refl, sym, ap, ◌∙◌, subst, arith, T}
-use Rattle.std.specs.Prelude.{IsTrue, MatchOption}
-use Rattle.std.specs.Option.{option_eq}
-use Rattle.std.specs.List.{flat_map, AllByRecursion}
-use Rattle.std.specs.Ordering.{nat_cmp, is_lt}
-use Rattle.std.specs.declared.cmp.Ordering.{Ordering}
-use Rattle.std.specs.declared.cmp.Ordering.TheVariants.{Less, Equal, Greater}
-use Rattle.std.specs.FinMap.{is_sorted, put}
-use Rattle.std.specs.FinMap.Entries.{by_order, below_all}
 use Rattle.std.proofs.lemmas.Bool.Decides.{nat_tests}
+use Rattle.std.specs.{Prelude.{IsTrue, MatchOption}, Option.option_eq, List.{flat_map, AllByRecursion}}
+use Rattle.std.specs.{Ordering.{nat_cmp, is_lt}, declared.cmp.Ordering.{Ordering, TheVariants.{Less, Equal, Greater}}}
+use Rattle.std.specs.FinMap.{is_sorted, put, Entries.{by_order, below_all}}
 use Rattle.mm_word.specs.declared.word.Cell.{Cell}
 use Rattle.mm_text.specs.Appends.{Buffered, Appends}
 use Rattle.mm_model.specs.Memory.{Memory, page_of, page_at, cell_at, is_mapped, zero_cell, IsPage, IsPaged}
 use Rattle.mm_model.specs.Report.{page_change, page_lines, pages_of}
-use Rattle.mm_mem.specs.Places.{IsAt}
-use Rattle.mm_mem.proofs.Places.{held, found_at}
-use Rattle.mm_mem.proofs.Flats.{no_cell}
-use Rattle.mm_mem.proofs.PagePlaces.{cell_there}
-use Rattle.mm_report.specs.Changes.{contents, cells_of}
-use Rattle.mm_report.specs.Pages.{numbers, first, lesser, behind}
+use Rattle.mm_mem.{specs.Places.IsAt, proofs.{Places.{held, found_at}, Flats.no_cell, PagePlaces.cell_there}}
+use Rattle.mm_report.specs.{Changes.{contents, cells_of}, Pages.{numbers, first, lesser, behind}}
 
 -- 1. Orders of numbers.
 

@@ -1,9 +1,7 @@
 -- The lines of changes in memory, cell by cell.
-use Rattle.std.specs.Prelude.{ℕ, ◌+◌, ◌*◌, if◌then◌else◌, List, [], slice_index_or}
-use Rattle.std.specs.List.{flat_map}
+use Rattle.std.specs.{Prelude.{ℕ, ◌+◌, ◌*◌, if◌then◌else◌, List, [], slice_index_or}, List.flat_map}
 use Rattle.mm_word.specs.declared.word.Cell.{Cell}
-use Rattle.mm_model.specs.Memory.{Memory, zero_cell, page_at}
-use Rattle.mm_model.specs.Lines.{cell_line}
+use Rattle.mm_model.specs.{Memory.{Memory, zero_cell, page_at}, Lines.cell_line}
 use Rattle.mm_model.specs.Report.{same_cell, changes_from, cells_or_zero}
 
 -- the line of a cell that has changed

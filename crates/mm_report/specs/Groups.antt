@@ -1,10 +1,6 @@
 -- The lines of the slots of a group, and the sections of groups.
-use Rattle.std.specs.Prelude.{ℕ, ◌==◌, if◌then◌else◌, List, []}
-use Rattle.std.specs.List.{list_any}
-use Rattle.mm_model.specs.Slot.{Slot}
-use Rattle.mm_model.specs.State.{Core}
-use Rattle.mm_model.specs.Lines.{slot_lines}
-use Rattle.mm_model.specs.Report.{is_of, section}
+use Rattle.std.specs.{Prelude.{ℕ, ◌==◌, if◌then◌else◌, List, []}, List.list_any}
+use Rattle.mm_model.specs.{Slot.Slot, State.Core, Lines.slot_lines, Report.{is_of, section}}
 
 -- the lines of a slot, if it is of the group
 abbrev pub member_text : ℕ → Slot → List ℕ

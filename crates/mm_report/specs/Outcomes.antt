@@ -1,8 +1,7 @@
 -- The outcome of a turn in a trace.
 use Rattle.std.specs.Prelude.{ℕ, List, [], ◌++◌, codes, decimal}
 use Rattle.mm_word.specs.Cause.{number_of}
-use Rattle.mm_model.specs.declared.step.Tick.{Tick}
-use Rattle.mm_model.specs.declared.step.Tick.TheVariants.{Idle, Blocked, Did, Faulted, Delivered}
+use Rattle.mm_model.specs.declared.step.Tick.{Tick, TheVariants.{Idle, Blocked, Did, Faulted, Delivered}}
 
 abbrev pub outcome_text : Tick → List ℕ
 outcome_text Did = codes "did"

@@ -5,7 +5,7 @@ ghost use Rattle.mm_model.specs.Report.{count_line};
 
 use mm_io::Sink;
 use mm_model::Counts;
-use mm_text::{TextBuffer, Piece};
+use mm_text::{Piece, TextBuffer};
 
 /// Appends the line of the counts of a memory, if it counts.
 pub fn put_counts<O: Sink>(text: &mut TextBuffer, out: &mut O, counts: Option<Counts>)

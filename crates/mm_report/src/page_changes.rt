@@ -14,7 +14,7 @@ use crate::cells::find_page;
 use mm_io::Sink;
 use mm_mem::Inspect;
 use mm_model::Page;
-use mm_text::{TextBuffer, Piece};
+use mm_text::{Piece, TextBuffer};
 
 /// Appends the line of a page that was mapped or removed.
 fn put_page_change<O: Sink>(text: &mut TextBuffer, out: &mut O, number: u64, now: bool, was: bool)

@@ -12,7 +12,7 @@ use mm_io::Sink;
 use mm_machine::Machine;
 use mm_mem::Memory;
 use mm_model::Slot;
-use mm_text::{TextBuffer, Piece, put_output, put_slot};
+use mm_text::{Piece, TextBuffer, put_output, put_slot};
 
 /// The count of groups that there can be.
 const GROUPS: u8 = 64;

@@ -8,7 +8,7 @@ ghost use Rattle.mm_report.specs.Outcomes.{outcome_text};
 
 use mm_io::{Sink, WriteFault};
 use mm_model::{Step, Tick};
-use mm_text::{TextBuffer, Piece, put_word};
+use mm_text::{Piece, TextBuffer, put_word};
 use mm_word::{Access, GuardedPtr, Kind, Word};
 
 /// Writes the line of a cycle in a trace:

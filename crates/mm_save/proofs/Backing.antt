@@ -1,13 +1,10 @@
 -- What the code of a recorder does to a line.
 use Rattle.std.proofs.Common.{◌≡◌, ℕ, ◌-◌, ◌≤◌, true, List, Option, Some, None, refl, sym, ap, ap₂, subst, ◌∙◌, arith}
-use Rattle.std.specs.Prelude.{min, slice_get, IsSomeAnd}
-use Rattle.std.specs.Int.{abs_diff}
-use Rattle.std.proofs.lemmas.Bool.Decides.{nat_tests}
-use Rattle.std.proofs.lemmas.Option.{slice_get_within, get_or_from_slice_get}
+use Rattle.std.proofs.lemmas.{Bool.Decides.nat_tests, Option.{slice_get_within, get_or_from_slice_get}}
+use Rattle.std.specs.{Prelude.{min, slice_get, IsSomeAnd}, Int.abs_diff}
 use Rattle.mm_model.specs.Image.{Image}
 use Rattle.mm_machine.specs.Validity.{IsValid}
-use Rattle.mm_debug.specs.declared.session.Go.TheVariants.{More}
-use Rattle.mm_debug.specs.Commands.{command_of}
+use Rattle.mm_debug.specs.{declared.session.Go.TheVariants.More, Commands.command_of}
 use Rattle.mm_debug.specs.Session.{Session, total_of, stepped, Answer, answer_to}
 use Rattle.mm_debug.specs.Standing.{Point, CanGo, StandsFor, gone, total_at}
 use Rattle.mm_save.specs.Recorder.{Recalls, is_far, began_at, back_of, back_text, answer_back, gone_back, recalled}

@@ -2,15 +2,12 @@
 use Rattle.std.proofs.Common.{◌≡◌, ℕ, List, [], ◌∷◌, refl, sym, ap, ◌∙◌, subst}
 use Rattle.mm_mem.specs.declared.memory.Memory.{Ghosts}
 use Rattle.mm_model.specs.Image.{Image}
-use Rattle.mm_debug.specs.declared.session.Go.{Go}
-use Rattle.mm_debug.specs.declared.session.Go.TheVariants.{More, Quit}
-use Rattle.mm_debug.specs.Session.{Session, total_of}
-use Rattle.mm_debug.specs.Dialogues.{IsAnswer, Carried}
-use Rattle.mm_debug.specs.Dialogues.Carried.{all, quit, more}
+use Rattle.mm_debug.specs.{declared.session.Go.{Go, TheVariants.{More, Quit}}, Session.{Session, total_of}}
+use Rattle.mm_debug.specs.Dialogues.{IsAnswer, Carried, Carried.{all, quit, more}}
 use Rattle.mm_debug.proofs.Dialogues.{IsDialogue, is_dialogue}
 use Rattle.mm_save.specs.declared.recorder.Recorder.{Recorder}
-use Rattle.mm_save.specs.Recorder.{Recording, Recalls, recalled, recollection, AreKept, totals_after, totals_before, Handled}
-use Rattle.mm_save.specs.Shown.{recording_of}
+use Rattle.mm_save.specs.Recorder.{Recording, Recalls, recalled, recollection, AreKept, totals_after, totals_before}
+use Rattle.mm_save.specs.{Recorder.Handled, Shown.recording_of}
 
 -- the same answer, of a session that began as another did
 began_so : (r : Recording) (first : Session) (line reply : List ℕ) (s : Session) (next : Go) → r.first ≡ first

@@ -1,29 +1,17 @@
 -- What a recorder keeps of its session: it is where as many cycles lead as its total says, and so was each kept state.
-use Rattle.std.proofs.Common.{◌≡◌, ℕ, zero, suc, ◌+◌, ◌-◌, ◌≤◌, inl, inr, List, [], ◌∷◌, ◌++◌, length, get_or, Option, Some, None, refl, sym, ap, ◌∙◌, arith}
-use Rattle.std.proofs.lemmas.Bool.{cases_lt}
-use Rattle.std.proofs.lemmas.List.Elements.{All-append, All-cons, All-drop, All-nil}
+use Rattle.std.proofs.Common.{◌≡◌, ℕ, zero, suc, ◌+◌, ◌-◌, ◌≤◌, inl, inr, List, [], ◌∷◌, ◌++◌, length, get_or, Option}
+use Rattle.std.proofs.Common.{Some, None, refl, sym, ap, ◌∙◌, arith}
+use Rattle.std.proofs.lemmas.{Bool.cases_lt, List.Elements.{All-append, All-cons, All-drop, All-nil}}
 use Rattle.std.proofs.Math.Logic.{∥∥₁_map}
 use Rattle.circular_buffer.specs.Buffer.{keep_last}
-use Rattle.mm_model.specs.State.{State}
-use Rattle.mm_model.specs.Image.{Image}
-use Rattle.mm_model.specs.Run.{after, run}
-use Rattle.mm_machine.specs.Validity.{IsValid}
-use Rattle.mm_machine.specs.Snapshot.{restored}
-use Rattle.mm_machine.proofs.Keeping.{valid_core}
-use Rattle.mm_machine.proofs.Returning.{put_back}
-use Rattle.mm_debug.specs.declared.command.Command.{Command}
-use Rattle.mm_debug.specs.declared.command.Command.TheVariants.{Step}
+use Rattle.mm_model.specs.{State.State, Image.Image, Run.{after, run}}
+use Rattle.mm_machine.{specs.{Validity.IsValid, Snapshot.restored}, proofs.{Keeping.valid_core, Returning.put_back}}
+use Rattle.mm_debug.specs.declared.command.Command.{Command, TheVariants.Step}
 use Rattle.mm_debug.specs.Session.{Session, total_of, next_item, issued, then_stepped, stepped, answer}
-use Rattle.mm_debug.specs.Standing.{Point, CanGo, IsPointOf, StandsFor, gone, total_at}
-use Rattle.mm_debug.specs.Laws.{StepsUpTo}
-use Rattle.mm_debug.proofs.AnswersKeep.{Keeps, answer_keeps, stepped_keeps}
-use Rattle.mm_debug.proofs.AnyRuns.{run_goes_on}
-use Rattle.mm_debug.proofs.Going.{answer_goes}
-use Rattle.mm_debug.proofs.Standing.{stepped_stands}
-use Rattle.mm_debug.proofs.StepCounts.{steps_issue}
-use Rattle.mm_debug.proofs.Stepping.{stepped_ends, stepped_none}
-use Rattle.mm_save.specs.Recorder.{bare, began_at, with_state}
-use Rattle.mm_save.specs.Recorded.{IsOnTheWay, Remembers}
+use Rattle.mm_debug.specs.{Standing.{Point, CanGo, IsPointOf, StandsFor, gone, total_at}, Laws.StepsUpTo}
+use Rattle.mm_debug.proofs.{AnswersKeep.{Keeps, answer_keeps, stepped_keeps}, AnyRuns.run_goes_on, Going.answer_goes}
+use Rattle.mm_debug.proofs.{Standing.stepped_stands, StepCounts.steps_issue, Stepping.{stepped_ends, stepped_none}}
+use Rattle.mm_save.specs.{Recorder.{bare, began_at, with_state}, Recorded.{IsOnTheWay, Remembers}}
 
 -- 1. Cycles.
 

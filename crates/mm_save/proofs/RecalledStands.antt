@@ -1,19 +1,16 @@
 -- A session that goes back goes on standing for an image, whatever it answers.
 use Rattle.std.proofs.Common.{◌≡◌, ℕ, ◌-◌, ◌≤◌, List, [], ◌∷◌, Option, Some, None, refl, sym, ap, subst, ◌∙◌}
 use Rattle.std.specs.Prelude.{min}
-use Rattle.mm_model.specs.Image.{Image, start}
-use Rattle.mm_model.specs.Run.{run}
+use Rattle.mm_model.specs.{Image.{Image, start}, Run.run}
 use Rattle.mm_sched.specs.declared.schedule.Order.{Order}
-use Rattle.mm_debug.specs.declared.command.Command.{Command}
-use Rattle.mm_debug.specs.Commands.{command_of}
+use Rattle.mm_debug.specs.{declared.command.Command.Command, Commands.command_of}
 use Rattle.mm_debug.specs.Session.{Session, total_of, begun, stepped, answer}
-use Rattle.mm_machine.specs.Validity.{IsValid}
 use Rattle.mm_debug.specs.Standing.{Point, StandsFor, IsPointOf, GoesOnAfter, run_items, gone, total_at}
-use Rattle.mm_debug.proofs.Dialogues.{keeps}
-use Rattle.mm_debug.proofs.LinesStand.{answer_order}
+use Rattle.mm_debug.proofs.{Dialogues.keeps, LinesStand.answer_order}
 use Rattle.mm_debug.proofs.Standing.{begun_stands, answer_stands, stepped_stands}
-use Rattle.mm_save.specs.Recorder.{Recalls, back_of, bare, began_at, with_state, gone_back, answer_back, recalled, recollection}
-use Rattle.mm_save.specs.Recorded.{IsOnTheWay, Remembers, recording_by}
+use Rattle.mm_machine.specs.Validity.{IsValid}
+use Rattle.mm_save.specs.Recorder.{Recalls, back_of, bare, began_at, with_state, gone_back, answer_back, recalled}
+use Rattle.mm_save.specs.{Recorder.recollection, Recorded.{IsOnTheWay, Remembers, recording_by}}
 use Rattle.mm_save.specs.Laws.{IsInRun, GoingBackChangesNoRun, after_lines}
 use Rattle.mm_save.proofs.Recalled.{stepped_own, answer_first, back_first, back_stands, point_here, went_back}
 

@@ -1,12 +1,9 @@
 -- The totals of the points in a ring.
 use Rattle.std.proofs.Common.{◌≡◌, ℕ, ◌-◌, List, [], ◌∷◌, ◌++◌, length, drop, map, Option, Some, None, sym, ap, ◌∙◌}
-use Rattle.std.specs.Prelude.{slice_get, unwrap_or}
-use Rattle.std.specs.Option.{option_map}
-use Rattle.std.proofs.lemmas.List.{drop-map, length-map, map-append}
-use Rattle.std.proofs.lemmas.Option.{slice_get-map}
+use Rattle.std.proofs.lemmas.{List.{drop-map, length-map, map-append}, Option.slice_get-map}
+use Rattle.std.specs.{Prelude.{slice_get, unwrap_or}, Option.option_map}
 use Rattle.circular_buffer.specs.Buffer.{keep_last, last_item}
-use Rattle.mm_debug.specs.Session.{Session, total_of}
-use Rattle.mm_debug.specs.Standing.{Point, IsPointOf, total_at}
+use Rattle.mm_debug.specs.{Session.{Session, total_of}, Standing.{Point, IsPointOf, total_at}}
 use Rattle.mm_save.specs.Recorder.{newest}
 
 -- the last so many of them are those of the last so many points

@@ -1,10 +1,8 @@
 -- A law of sessions that go back.
 use Rattle.std.specs.Prelude.{◌≡◌, ℕ, List, [], ◌∷◌}
-use Rattle.mm_model.specs.Image.{Image, start}
-use Rattle.mm_model.specs.Run.{run}
+use Rattle.mm_model.specs.{Image.{Image, start}, Run.run}
 use Rattle.mm_sched.specs.declared.schedule.Order.{Order}
-use Rattle.mm_debug.specs.Session.{Session, begun, total_of}
-use Rattle.mm_debug.specs.Standing.{run_items}
+use Rattle.mm_debug.specs.{Session.{Session, begun, total_of}, Standing.run_items}
 use Rattle.mm_save.specs.Recorder.{recalled, recollection}
 
 -- the session after lines, each of which is carried out, also those after a `quit`

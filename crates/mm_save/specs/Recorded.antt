@@ -1,8 +1,6 @@
 -- What a recorder keeps.
-use Rattle.std.specs.Prelude.{◌≡◌, List, map}
-use Rattle.std.specs.List.{All}
-use Rattle.mm_debug.specs.Session.{Session, total_of, stepped}
-use Rattle.mm_debug.specs.Standing.{Point, CanGo, total_at}
+use Rattle.std.specs.{Prelude.{◌≡◌, List, map}, List.All}
+use Rattle.mm_debug.specs.{Session.{Session, total_of, stepped}, Standing.{Point, CanGo, total_at}}
 use Rattle.mm_save.specs.Recorder.{Recording, began_at, bare}
 
 -- a recorder by its parts: a session, the state at its start, and the states in the ring, the oldest first

@@ -1,16 +1,12 @@
 -- Sessions that can go back: their answers, and the states that they keep.
 use Rattle.std.specs.Prelude.{◌≡◌, ◌⊎◌, ℕ, ◌+◌, ◌-◌, Bool, true, false, ◌||◌, nat_le, min, if◌then◌else◌, List, [], ◌∷◌}
-use Rattle.std.specs.Prelude.{◌++◌, codes, decimal, Option, Some, None, unwrap_or}
-use Rattle.std.specs.Str.{bytes_eq}
+use Rattle.std.specs.{Prelude.{◌++◌, codes, decimal, Option, Some, None, unwrap_or}, Str.bytes_eq}
 use Rattle.circular_buffer.specs.Buffer.{keep_last, last_item}
-use Rattle.mm_model.specs.Image.{Image}
-use Rattle.mm_model.specs.Lines.{newline}
+use Rattle.mm_model.specs.{Image.Image, Lines.newline}
 use Rattle.mm_machine.specs.Snapshot.{restored}
 use Rattle.mm_debug.specs.Commands.{tokens, number_of, is_count, lines_of}
 use Rattle.mm_debug.specs.Session.{Session, total_of, stepped, Answer, replies, answer_to, Dialogue, dialogue_by}
-use Rattle.mm_debug.specs.Dialogues.{IsAnswer}
-use Rattle.mm_debug.specs.Standing.{Point, StandsFor}
-use Rattle.mm_debug.specs.declared.session.Go.{Go}
+use Rattle.mm_debug.specs.{Dialogues.IsAnswer, Standing.{Point, StandsFor}, declared.session.Go.Go}
 use Rattle.mm_debug.specs.declared.session.Go.TheVariants as go
 
 -- 1. Lines that go back.

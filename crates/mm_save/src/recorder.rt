@@ -13,7 +13,7 @@ use mm_debug::{Go, LineHandler, Point, Session, handle_lines, number, take_token
 use mm_io::{Sink, WriteFault};
 use mm_mem::{Memory, Reset};
 use mm_model::CYCLE_LIMIT;
-use mm_text::{TextBuffer, Piece};
+use mm_text::{Piece, TextBuffer};
 use mm_word::NoMemory;
 use std::alloc::Global;
 

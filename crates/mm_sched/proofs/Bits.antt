@@ -1,9 +1,8 @@
 -- The least bit of a mask that is set, and the least above a number.
-use Rattle.std.proofs.Common.{◌≡◌, ◌∙◌, ◌⊎◌, inl, inr, ℕ, ◌+◌, ◌*◌, ◌-◌, ◌/◌, ◌%◌, ◌<◌, ◌≤◌, ◌^◌, nat_lt, refl, sym, ap, subst, arith, w64, pow-add}
-use Rattle.std.specs.Int.{bit_at, trailing_zeros}
-use Rattle.std.proofs.lemmas.Nat.Bits.{bit_at-trailing_zeros, bit_at_above, bit_at-zero}
-use Rattle.std.proofs.Math.Nat.{div-div-eq-div-mul, div-le_self}
-use Rattle.std.proofs.lemmas.Bool.Decides.{nat_tests}
+use Rattle.std.proofs.Common.{◌≡◌, ◌∙◌, ◌⊎◌, inl, inr, ℕ, ◌+◌, ◌*◌, ◌-◌, ◌/◌, ◌%◌, ◌<◌, ◌≤◌, ◌^◌, nat_lt, refl, sym, ap}
+use Rattle.std.proofs.Common.{subst, arith, w64, pow-add}
+use Rattle.std.proofs.lemmas.{Nat.Bits.{bit_at-trailing_zeros, bit_at_above, bit_at-zero}, Bool.Decides.nat_tests}
+use Rattle.std.{proofs.Math.Nat.{div-div-eq-div-mul, div-le_self}, specs.Int.{bit_at, trailing_zeros}}
 use Rattle.mm_sched.specs.Following.{IsLeastBit, NoBitAbove}
 use Rattle.mm_model.specs.Run.{any_number}
 

@@ -1,15 +1,14 @@
 -- The number with which a text begins: one, and no less than what its first digits say.
-use Rattle.std.proofs.Common.{◌≡◌, ℕ, zero, suc, ◌+◌, ◌-◌, ◌*◌, ◌<◌, ◌≤◌, ◌^◌, ◌⊎◌, inl, inr, append-nil, List, [], ◌∷◌, ◌++◌, length, drop, take, get_or, decimal, refl, sym, ap, ◌∙◌, subst, arith}
-use Rattle.std.specs.Char.{IsAsciiDigit, IsNotAsciiDigit}
-use Rattle.std.specs.Int.{IsInRange}
-use Rattle.std.specs.Str.Parse.{digits_value}
-use Rattle.std.proofs.lemmas.Fmt.{decimal_injective, decimal_digit, decimal_nonempty, first_decimal, digits_decimal, digits_value-decimal, decimal-digits_value}
-use Rattle.std.proofs.lemmas.Int.Digits.{digits_value_more}
-use Rattle.std.proofs.lemmas.List.{length-append, length-take-le, take-append-le, take-append-drop, get_or-take, drop_more, take_rest}
+use Rattle.std.proofs.Common.{◌≡◌, ℕ, zero, suc, ◌+◌, ◌-◌, ◌*◌, ◌<◌, ◌≤◌, ◌^◌, ◌⊎◌, inl, inr, append-nil, List, [], ◌∷◌}
+use Rattle.std.proofs.Common.{◌++◌, length, drop, take, get_or, decimal, refl, sym, ap, ◌∙◌, subst, arith}
+use Rattle.std.proofs.lemmas.Fmt.{decimal_injective, decimal_digit, decimal_nonempty, first_decimal, digits_decimal}
+use Rattle.std.proofs.lemmas.{Fmt.{digits_value-decimal, decimal-digits_value}, Int.Digits.digits_value_more}
+use Rattle.std.proofs.lemmas.List.{length-append, length-take-le, take-append-le, take-append-drop, get_or-take}
+use Rattle.std.proofs.lemmas.List.{drop_more, take_rest}
 use Rattle.std.proofs.lemmas.Str.{digit_value_digit}
 use Rattle.std.proofs.lemmas.Str.Parse.{IsNumeralModel, numerals_by_value, tells_by_index, digits_value-take-le}
-use Rattle.std.proofs.Math.ListN.{get_or-append, drop_of_length-le}
-use Rattle.std.proofs.Math.Seq.{get_or-append_seam}
+use Rattle.std.proofs.Math.{ListN.{get_or-append, drop_of_length-le}, Seq.get_or-append_seam}
+use Rattle.std.specs.{Char.{IsAsciiDigit, IsNotAsciiDigit}, Int.IsInRange, Str.Parse.digits_value}
 use Rattle.mm_model.specs.Schedule.{IsItem, item_limit}
 use Rattle.mm_sched.specs.Numbers.{NoDigitFirst, Begins, IsCount}
 

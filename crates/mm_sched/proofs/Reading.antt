@@ -1,8 +1,7 @@
 -- A text of words that is read to a place.
-use Rattle.std.proofs.Common.{◌≡◌, ℕ, ◌≤◌, false, List, [], ◌∷◌, ◌++◌, length, refl, sym, ap, ◌∙◌, subst, append_assoc, append-nil}
-use Rattle.std.proofs.Math.ListN.{drop_of_length-le}
-use Rattle.mm_model.specs.Words.{runs_of, Lists, TextMeans, TextFaultsAt}
-use Rattle.mm_model.specs.Words.Lists.{no_word}
+use Rattle.std.proofs.Common.{◌≡◌, ℕ, ◌≤◌, false, List, [], ◌∷◌, ◌++◌, length, refl, sym, ap, ◌∙◌, subst, append_assoc}
+use Rattle.std.proofs.{Common.append-nil, Math.ListN.drop_of_length-le}
+use Rattle.mm_model.specs.Words.{runs_of, Lists, TextMeans, TextFaultsAt, Lists.no_word}
 use Rattle.mm_model.proofs.WordTexts.{Runs, lists_more}
 use Rattle.mm_sched.specs.Places.{runs_in}
 

@@ -1,18 +1,12 @@
 -- The next slot of a mask is the next running slot.
-use Rattle.std.proofs.Common.{◌≡◌, ℕ, ◌<◌, inl, inr, Bool, true, false, nat_lt, ◌==◌, if◌then◌else◌, List, [], ◌∷◌, map, Option, Some, None, refl, sym, ap, ◌∙◌, arith}
-use Rattle.std.specs.List.{AllByRecursion}
-use Rattle.std.specs.List.Sorted.{IsStrictlyIncreasing}
-use Rattle.std.specs.Int.{bit_at}
-use Rattle.std.proofs.lemmas.Nat.Bits.{bit_at-zero}
-use Rattle.std.proofs.lemmas.Bool.Decides.{nat_tests}
-use Rattle.std.proofs.lemmas.Bool.{cases_eq}
-use Rattle.mm_model.specs.State.{ThreadRow, Core, slot_at, row_in, slot_of}
-use Rattle.mm_model.specs.Spelling.{numbers_of}
-use Rattle.mm_model.specs.Turn.{is_running}
+use Rattle.std.proofs.Common.{◌≡◌, ℕ, ◌<◌, inl, inr, Bool, true, false, nat_lt, ◌==◌, if◌then◌else◌, List, [], ◌∷◌, map}
+use Rattle.std.proofs.Common.{Option, Some, None, refl, sym, ap, ◌∙◌, arith}
+use Rattle.std.proofs.lemmas.{Nat.Bits.bit_at-zero, Bool.{cases_eq, Decides.nat_tests}}
+use Rattle.std.specs.{List.{AllByRecursion, Sorted.IsStrictlyIncreasing}, Int.bit_at}
+use Rattle.mm_model.specs.{State.{ThreadRow, Core, slot_at, row_in, slot_of}, Spelling.numbers_of, Turn.is_running}
 use Rattle.mm_model.specs.Run.{first_running, any_number, next_running}
 use Rattle.mm_model.proofs.CoreRows.{above_first, rest_rises, Rises}
-use Rattle.mm_sched.specs.Shown.{runs, Shows}
-use Rattle.mm_sched.specs.Following.{IsLeastBit, IsNextBit}
+use Rattle.mm_sched.specs.{Shown.{runs, Shows}, Following.{IsLeastBit, IsNextBit}}
 
 abbrev numbers : List ThreadRow → List ℕ
 numbers rows = numbers_of (map (λ (row : ThreadRow). row.slot) rows)

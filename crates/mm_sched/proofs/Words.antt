@@ -1,13 +1,10 @@
 -- How the runs of a text begin and end.
 use Rattle.std.proofs.Common.{◌≡◌, ℕ, zero, suc, ◌+◌, ◌-◌, ◌<◌, ◌≤◌, ◌⊎◌, inl, inr, Bool, true, false, not, cond, ◌&&◌}
 use Rattle.std.proofs.Common.{◌||◌, ◌==◌, List, [], ◌∷◌, length, drop, slice_index_or, slice_range, refl, sym, ap, ◌∙◌}
-use Rattle.std.proofs.Common.{subst, arith}
-use Rattle.std.proofs.lemmas.List.{drop_more}
+use Rattle.std.proofs.{Common.{subst, arith}, lemmas.{List.drop_more, Bool.Decides.nat_tests}}
 use Rattle.std.proofs.Math.ListN.{drop_of_length-le}
-use Rattle.std.proofs.lemmas.Bool.Decides.{nat_tests}
-use Rattle.mm_sched.proofs.Numbers.{below_or}
+use Rattle.mm_sched.{proofs.Numbers.below_or, specs.Places.{runs_in, is_word_byte}}
 use Rattle.mm_model.specs.Words.{is_blank, uncommented, joined, runs_from}
-use Rattle.mm_sched.specs.Places.{runs_in, is_word_byte}
 
 pub record WordByte (b : ℕ) : Type 0 where
   pub no_newline : (b == 10) ≡ false

@@ -1,6 +1,5 @@
 -- The next of a set of numbers, cyclically.
-use Rattle.std.specs.Prelude.{◌≡◌, ◌⊎◌, ℕ, ◌<◌, Bool, true, nat_lt, Option, Some, None}
-use Rattle.std.specs.Int.{bit_at}
+use Rattle.std.specs.{Prelude.{◌≡◌, ◌⊎◌, ℕ, ◌<◌, Bool, true, nat_lt, Option, Some, None}, Int.bit_at}
 use Rattle.mm_model.specs.Run.{any_number}
 
 -- n is the least number that passes a test and whose bit is set

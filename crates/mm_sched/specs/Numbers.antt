@@ -1,6 +1,5 @@
 -- The number with which a text begins.
-use Rattle.std.specs.Prelude.{◌≡◌, ◌≤◌, ◌⊎◌, ℕ, List, [], ◌∷◌, ◌++◌, decimal}
-use Rattle.std.specs.Char.{IsAsciiDigit}
+use Rattle.std.specs.{Prelude.{◌≡◌, ◌≤◌, ◌⊎◌, ℕ, List, [], ◌∷◌, ◌++◌, decimal}, Char.IsAsciiDigit}
 use Rattle.mm_model.specs.Schedule.{item_limit}
 
 -- the list does not begin with a decimal digit

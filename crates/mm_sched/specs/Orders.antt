@@ -1,8 +1,6 @@
 -- The order in which cycles are issued.
 use Rattle.std.specs.Prelude.{ℕ, List, slice_get, Option, Some, None}
-use Rattle.mm_model.specs.State.{State}
-use Rattle.mm_model.specs.Run.{robin_from, next_running, last_item}
-use Rattle.mm_model.specs.Schedule.{first_items}
+use Rattle.mm_model.specs.{State.State, Run.{robin_from, next_running, last_item}, Schedule.first_items}
 use Rattle.mm_sched.specs.declared.schedule.Order.{Order}
 use Rattle.mm_sched.specs.declared.schedule.Order.TheVariants as order
 

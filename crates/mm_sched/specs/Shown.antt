@@ -1,9 +1,6 @@
 -- A mask that shows which slots run.
-use Rattle.std.specs.Prelude.{◌≡◌, ◌↔◌, ℕ, Bool, true, false, Option, Some, None}
-use Rattle.std.specs.Int.{bit_at}
-use Rattle.mm_model.specs.Slot.{Slot}
-use Rattle.mm_model.specs.State.{Core, slot_at}
-use Rattle.mm_model.specs.Turn.{is_running}
+use Rattle.std.specs.{Prelude.{◌≡◌, ◌↔◌, ℕ, Bool, true, false, Option, Some, None}, Int.bit_at}
+use Rattle.mm_model.specs.{Slot.Slot, State.{Core, slot_at}, Turn.is_running}
 
 abbrev pub runs : Option Slot → Bool
 runs None = false

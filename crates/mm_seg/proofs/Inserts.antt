@@ -1,11 +1,9 @@
 -- One segment put in place of those that lie in it.
 use Rattle.std.proofs.Math.Nat.{mul-le-mul_right, mul_assoc}
-use Rattle.std.specs.List.{Contains, slice_index_or}
-use Rattle.std.proofs.lemmas.List.{get_or-drop, get_or_default}
-use Rattle.std.proofs.lemmas.List.Elements.{Contains-get_or}
+use Rattle.std.proofs.lemmas.{List.{get_or-drop, get_or_default, Elements.Contains-get_or}, Bool.cases_lt}
 use Rattle.std.proofs.Common.{◌≡◌, ℕ, zero, suc, ◌+◌, ◌-◌, ◌*◌, ◌/◌, ◌^◌, ◌<◌, ◌≤◌, ◌⊎◌, inl, inr, List, [], ◌∷◌, ◌++◌}
 use Rattle.std.proofs.Common.{length, take, drop, refl, sym, ap, ◌∙◌, subst, arith, pow_pos, pow-add, length-drop}
-use Rattle.std.proofs.lemmas.Bool.{cases_lt}
+use Rattle.std.specs.List.{Contains, slice_index_or}
 use Rattle.mm_seg.specs.Segments.{IsSet, IsSegment, LiesIn, SomeHolds, IsMaximal, EndsBy, BeginsBy, segment_at, end_of}
 
 abbrev put : List (ℕ × ℕ) → ℕ → ℕ → ℕ × ℕ → List (ℕ × ℕ)

@@ -1,9 +1,7 @@
 -- One insert after others, and what the set covers.
-use Rattle.std.proofs.Common.{ℕ, inl, inr, List, [], ◌∷◌, sym, subst, arith}
-use Rattle.std.specs.List.{Contains}
+use Rattle.std.{proofs.Common.{ℕ, inl, inr, List, [], ◌∷◌, sym, subst, arith}, specs.List.Contains}
 use Rattle.mm_seg.specs.Segments.{SomeHolds, IsMaximal, segment_at}
-use Rattle.mm_seg.specs.Laws.{HoldsAllInserts, CoversAllInserts}
-use Rattle.mm_seg.specs.Laws.Inserts.{none, one_more}
+use Rattle.mm_seg.specs.Laws.{HoldsAllInserts, CoversAllInserts, Inserts.{none, one_more}}
 use Rattle.mm_seg.proofs.Inserts.{at_in, in_at, in_first, in_rest, in_cases}
 
 pub maximal_none : IsMaximal [] []

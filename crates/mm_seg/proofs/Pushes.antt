@@ -1,10 +1,8 @@
 -- A set with one segment more at its end.
-use Rattle.std.proofs.Common.{◌≡◌, ℕ, ◌+◌, ◌<◌, inl, inr, List, [], ◌∷◌, ◌++◌, length, length-append, refl, sym, subst, arith}
-use Rattle.std.proofs.lemmas.List.{get_or_append_left, get_or_push}
-use Rattle.std.specs.List.{Contains}
+use Rattle.std.proofs.Common.{◌≡◌, ℕ, ◌+◌, ◌<◌, inl, inr, List, [], ◌∷◌, ◌++◌, length, length-append, refl, sym, subst}
+use Rattle.std.{proofs.{Common.arith, lemmas.List.{get_or_append_left, get_or_push}}, specs.List.Contains}
 use Rattle.mm_seg.specs.Segments.{IsSet, IsSegment, IsBehind, IsMaximal, LiesIn, segment_at}
-use Rattle.mm_seg.proofs.Inserts.{at_in, in_at, in_first, in_rest, in_cases}
-use Rattle.mm_seg.proofs.Searches.{same_or_below}
+use Rattle.mm_seg.proofs.{Inserts.{at_in, in_at, in_first, in_rest, in_cases}, Searches.same_or_below}
 
 module _ (xs : List (ℕ × ℕ)) (s : ℕ × ℕ) where
   pub pushed_last : (k : ℕ) → k ≡ length xs → segment_at (xs ++ s ∷ []) k ≡ s

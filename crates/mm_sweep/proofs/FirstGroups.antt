@@ -1,11 +1,8 @@
 -- The first group that is privileged is the least.
 use Rattle.std.proofs.Common.{◌≡◌, ℕ, ◌+◌, ◌<◌, ◌↔◌, inl, inr, Bool, true, false, IsTrue, below_more}
 use Rattle.std.proofs.lemmas.Bool.{both_ways, cases_lt}
-use Rattle.mm_model.specs.Image.{Image}
-use Rattle.mm_model.specs.Reach.{Privileged}
-use Rattle.mm_model.specs.Reach.Entries.{All}
-use Rattle.mm_audit.specs.Surveys.{SurveyValue, Surveys}
-use Rattle.mm_audit.proofs.Granted.{granted-small}
+use Rattle.mm_model.specs.{Image.Image, Reach.{Privileged, Entries.All}}
+use Rattle.mm_audit.{specs.Surveys.{SurveyValue, Surveys}, proofs.Granted.granted-small}
 use Rattle.mm_sweep.specs.Refusals.{FirstPrivileged, NonePrivileged}
 
 -- none of the first groups is privileged

@@ -1,15 +1,10 @@
 -- The first slot whose instruction pointer meets the range is the least.
-use Rattle.std.proofs.Common.{◌≡◌, ℕ, zero, suc, ◌<◌, ◌≤◌, inl, inr, true, false, List, [], ◌∷◌, length, get_or, refl, sym, ap, ◌∙◌, subst, arith}
-use Rattle.std.specs.Prelude.{Contains}
-use Rattle.std.proofs.lemmas.Bool.{both_ways, cases_lt}
-use Rattle.std.specs.List.Sorted.{IsStrictlyIncreasing}
-use Rattle.mm_model.specs.Slot.{Slot}
-use Rattle.mm_model.specs.Image.{Image}
-use Rattle.mm_model.specs.Spelling.{IsImage, numbers_of}
-use Rattle.mm_model.proofs.CoreRows.{each_contained}
-use Rattle.mm_model.proofs.OwnSlots.{Ascends, ascends}
-use Rattle.mm_sweep.specs.Swept.{meets}
-use Rattle.mm_sweep.specs.Refusals.{IsHeld, FirstHeld}
+use Rattle.std.proofs.Common.{◌≡◌, ℕ, zero, suc, ◌<◌, ◌≤◌, inl, inr, true, false, List, [], ◌∷◌, length, get_or, refl}
+use Rattle.std.proofs.{Common.{sym, ap, ◌∙◌, subst, arith}, lemmas.Bool.{both_ways, cases_lt}}
+use Rattle.std.specs.{Prelude.Contains, List.Sorted.IsStrictlyIncreasing}
+use Rattle.mm_model.specs.{Slot.Slot, Image.Image, Spelling.{IsImage, numbers_of}}
+use Rattle.mm_model.proofs.{CoreRows.each_contained, OwnSlots.{Ascends, ascends}}
+use Rattle.mm_sweep.specs.{Swept.meets, Refusals.{IsHeld, FirstHeld}}
 
 -- the slots of a list rise
 not_less : (slots : List Slot) → Ascends slots → (j k : ℕ) (s t : Slot) → j ≤ k → k < length slots → get_or slots j s ≡ s → get_or slots k t ≡ t → s.number ≤ t.number

@@ -1,13 +1,12 @@
 -- The lines of places one after the other.
-use Rattle.std.proofs.Common.{◌≡◌, ℕ, suc, ◌+◌, ◌*◌, ◌<◌, true, List, [], ◌∷◌, ◌++◌, length, take, get_or, codes, if◌then◌else◌, sym, ap, ◌∙◌, arith, append_assoc}
-use Rattle.std.specs.List.{flat_map}
-use Rattle.std.proofs.lemmas.List.{append-nil, take_more, length-take}
-use Rattle.mm_word.specs.declared.word.Word.{Word}
-use Rattle.mm_word.specs.declared.word.Cell.{Cell}
-use Rattle.mm_model.specs.Slot.{Slot}
-use Rattle.mm_model.specs.Lines.{word_text, newline}
+use Rattle.std.proofs.Common.{◌≡◌, ℕ, suc, ◌+◌, ◌*◌, ◌<◌, true, List, [], ◌∷◌, ◌++◌, length, take, get_or, codes}
+use Rattle.std.proofs.Common.{if◌then◌else◌, sym, ap, ◌∙◌, arith, append_assoc}
+use Rattle.std.{proofs.lemmas.List.{append-nil, take_more, length-take}, specs.List.flat_map}
+use Rattle.mm_word.specs.declared.word.{Word.Word, Cell.Cell}
+use Rattle.mm_model.specs.{Slot.Slot, Lines.{word_text, newline}}
 use Rattle.mm_sweep.specs.Swept.{word_meets}
-use Rattle.mm_sweep.specs.Holders.{holder_line, register_place, cell_place, register_holders, cell_holders, slot_holders, page_holders}
+use Rattle.mm_sweep.specs.Holders.{holder_line, register_place, cell_place, register_holders, cell_holders}
+use Rattle.mm_sweep.specs.Holders.{slot_holders, page_holders}
 
 -- a line of its pieces
 pub whole_line : (range : ℕ × ℕ) (place : List ℕ) (word : Word) → word_meets range word ≡ true → place ++ codes " " ++ word_text word ++ newline ≡ holder_line range place word

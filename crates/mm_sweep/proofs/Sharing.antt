@@ -1,12 +1,11 @@
 -- A pointer's segment meets a range exactly where they share an address.
-use Rattle.std.proofs.Common.{◌≡◌, ℕ, ◌+◌, ◌-◌, ◌*◌, ◌/◌, ◌%◌, ◌^◌, ◌<◌, ◌≤◌, ◌↔◌, inl, inr, true, false, nat_lt, sym, ap, ◌∙◌, subst, arith}
+use Rattle.std.proofs.Common.{◌≡◌, ℕ, ◌+◌, ◌-◌, ◌*◌, ◌/◌, ◌%◌, ◌^◌, ◌<◌, ◌≤◌, ◌↔◌, inl, inr, true, false, nat_lt, sym}
+use Rattle.std.proofs.Common.{ap, ◌∙◌, subst, arith}
 use Rattle.std.proofs.lemmas.Bool.{and_parts, and_from, cases_lt, both_ways, false_from_ne_true, ltb-true, lt-ltb}
-use Rattle.std.proofs.lemmas.Bool.Decides.{nat_tests}
-use Rattle.std.proofs.lemmas.Nat.{pow_pos, shr_split, shr_high, mod_below}
+use Rattle.std.proofs.lemmas.{Bool.Decides.nat_tests, Nat.{pow_pos, shr_split, shr_high, mod_below}}
 use Rattle.mm_word.specs.Pointer.{Pointer, InSegment, Covers, base_of}
 use Rattle.mm_seg.specs.Segments.{end_of}
-use Rattle.mm_sweep.specs.Swept.{InRange, meets}
-use Rattle.mm_sweep.specs.Laws.{SharesAddress}
+use Rattle.mm_sweep.specs.{Swept.{InRange, meets}, Laws.SharesAddress}
 
 -- the addresses of a segment are those from its base on, as many as it has bytes
 

@@ -1,31 +1,16 @@
 -- What is granted in a swept image was granted before, and does not meet the range.
-use Rattle.std.proofs.Common.{◌≡◌, ℕ, inl, inr, Bool, false, List, map, Option, Some, None, Result, Ok, Err, refl, sym, ap, ◌∙◌, subst}
-use Rattle.std.specs.Prelude.{Contains, IfOk}
-use Rattle.std.specs.List.{AllByRecursion}
-use Rattle.std.specs.Option.{option_map}
-use Rattle.std.proofs.lemmas.Bool.{false_from_ne_true}
-use Rattle.mm_word.specs.declared.perm.Perm.{Perm}
-use Rattle.mm_word.specs.declared.word.Word.{Word}
-use Rattle.mm_word.specs.declared.word.Word.TheVariants.{Ptr}
-use Rattle.mm_word.specs.declared.word.Cell.{Cell}
-use Rattle.mm_word.specs.Access.{AccessValue}
-use Rattle.mm_word.specs.Perm.{execute_form}
-use Rattle.mm_word.specs.Pointer.{Pointer, IsBelow, enter_result}
-use Rattle.mm_model.specs.Slot.{Slot}
-use Rattle.mm_model.specs.Image.{Image}
-use Rattle.mm_model.specs.Reach.{Entries, Grants, Serves, CanTouch, CanWrite}
-use Rattle.mm_model.specs.Reach.Entries.{All, These}
-use Rattle.mm_model.specs.Reach.Grants.{below}
-use Rattle.mm_model.specs.Worlds.{Apart}
-use Rattle.mm_model.proofs.CoreRows.{each_map}
-use Rattle.mm_laws.specs.Grants.{AllGrantMost}
-use Rattle.mm_laws.specs.Granted.{TouchGranted}
-use Rattle.mm_sweep.specs.Swept.{InRange, meets, swept_word, swept_slot, swept}
-use Rattle.mm_sweep.specs.Refusals.{CanSweep}
-use Rattle.mm_sweep.specs.declared.sweeping.SweepError.{SweepError}
-use Rattle.mm_sweep.specs.Laws.{Revokes, SweepingRevokes}
-use Rattle.mm_sweep.proofs.Sharing.{inside_free, covers_none}
-use Rattle.mm_sweep.proofs.SweptWords.{From, from_map, kept_word, cell_was}
+use Rattle.std.proofs.Common.{◌≡◌, ℕ, inl, inr, Bool, false, List, map, Option, Some, None, Result, Ok, Err, refl, sym}
+use Rattle.std.proofs.{Common.{ap, ◌∙◌, subst}, lemmas.Bool.false_from_ne_true}
+use Rattle.std.specs.{Prelude.{Contains, IfOk}, List.AllByRecursion, Option.option_map}
+use Rattle.mm_word.specs.{declared.{perm.Perm.Perm, word.{Word.{Word, TheVariants.Ptr}, Cell.Cell}}, Access.AccessValue}
+use Rattle.mm_word.specs.{Perm.execute_form, Pointer.{Pointer, IsBelow, enter_result}}
+use Rattle.mm_model.specs.{Slot.Slot, Image.Image}
+use Rattle.mm_model.specs.Reach.{Entries, Grants, Serves, CanTouch, CanWrite, Entries.{All, These}, Grants.below}
+use Rattle.mm_model.{specs.Worlds.Apart, proofs.CoreRows.each_map}
+use Rattle.mm_laws.specs.{Grants.AllGrantMost, Granted.TouchGranted}
+use Rattle.mm_sweep.specs.{Swept.{InRange, meets, swept_word, swept_slot, swept}, Refusals.CanSweep}
+use Rattle.mm_sweep.specs.{declared.sweeping.SweepError.SweepError, Laws.{Revokes, SweepingRevokes}}
+use Rattle.mm_sweep.proofs.{Sharing.{inside_free, covers_none}, SweptWords.{From, from_map, kept_word, cell_was}}
 
 -- 1. The rules.
 

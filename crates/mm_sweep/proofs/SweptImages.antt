@@ -1,19 +1,10 @@
 -- A swept image is an image.
-use Rattle.std.proofs.Common.{◌≡◌, ℕ, Bool, true, false, ◌&&◌, if◌then◌else◌, List, [], ◌∷◌, map, Option, Some, None, refl, sym, ap, ◌∙◌, subst, arith}
-use Rattle.std.specs.Prelude.{IfSome}
-use Rattle.std.specs.List.{AllByRecursion}
-use Rattle.std.specs.List.Sorted.{IsStrictlyIncreasing}
-use Rattle.std.specs.Ordering.{nat_cmp, is_lt}
-use Rattle.std.specs.FinMap.{is_sorted}
-use Rattle.std.specs.FinMap.Entries.{below_all}
-use Rattle.std.proofs.lemmas.List.{length-map}
-use Rattle.mm_word.specs.declared.word.Word.{Word}
-use Rattle.mm_word.specs.declared.word.Word.TheVariants.{Int, Ptr}
-use Rattle.mm_word.specs.declared.word.Cell.{Cell}
-use Rattle.mm_word.specs.Word.{IsWord}
-use Rattle.mm_model.specs.Memory.{Memory, IsPage, IsPaged}
-use Rattle.mm_model.specs.Slot.{Slot}
-use Rattle.mm_model.specs.Image.{Image, slot_limit}
+use Rattle.std.proofs.Common.{◌≡◌, ℕ, Bool, true, false, ◌&&◌, if◌then◌else◌, List, [], ◌∷◌, map, Option, Some, None}
+use Rattle.std.proofs.{Common.{refl, sym, ap, ◌∙◌, subst, arith}, lemmas.List.length-map}
+use Rattle.std.specs.{Prelude.IfSome, List.{AllByRecursion, Sorted.IsStrictlyIncreasing}, Ordering.{nat_cmp, is_lt}}
+use Rattle.std.specs.FinMap.{is_sorted, Entries.below_all}
+use Rattle.mm_word.specs.{declared.word.{Word.{Word, TheVariants.{Int, Ptr}}, Cell.Cell}, Word.IsWord}
+use Rattle.mm_model.specs.{Memory.{Memory, IsPage, IsPaged}, Slot.Slot, Image.{Image, slot_limit}}
 use Rattle.mm_model.specs.Spelling.{numbers_of, IsOther, IsFresh, HoldsWords, IsImage}
 use Rattle.mm_image.specs.Images.{image_from}
 use Rattle.mm_sweep.specs.Swept.{meets, swept_word, swept_slot, swept_cell, swept_page, swept_memory, swept}

@@ -1,16 +1,9 @@
 -- What stands in a swept image stood in the image before.
 use Rattle.std.proofs.Common.{◌≡◌, ℕ, zero, suc, ◌+◌, ◌%◌, ◌<◌, ◌≤◌, Bool, true, false, cond, is_eq, ◌==◌}
 use Rattle.std.proofs.Common.{if◌then◌else◌, List, [], ◌∷◌, length, map, get_or, slice_set, Option, Some, None, refl}
-use Rattle.std.proofs.Common.{sym, ap, ◌∙◌, subst, arith}
-use Rattle.std.specs.Prelude.{Contains}
-use Rattle.std.specs.Option.{option_map}
-use Rattle.std.specs.Ordering.{nat_cmp}
-use Rattle.std.specs.FinMap.{find}
-use Rattle.std.proofs.lemmas.Option.{slice_get-map}
-use Rattle.mm_word.specs.declared.word.Word.{Word}
-use Rattle.mm_word.specs.declared.word.Word.TheVariants.{Int, Ptr}
-use Rattle.mm_word.specs.declared.word.Cell.{Cell}
-use Rattle.mm_word.specs.Pointer.{Pointer}
+use Rattle.std.proofs.{Common.{sym, ap, ◌∙◌, subst, arith}, lemmas.Option.slice_get-map}
+use Rattle.std.specs.{Prelude.Contains, Option.option_map, Ordering.nat_cmp, FinMap.find}
+use Rattle.mm_word.specs.{declared.word.{Word.{Word, TheVariants.{Int, Ptr}}, Cell.Cell}, Pointer.Pointer}
 use Rattle.mm_model.specs.Memory.{Memory, cell_at, cell_in, page_at, page_of, place_of}
 use Rattle.mm_sweep.specs.Swept.{meets, swept_word, swept_cell, swept_page, swept_memory}
 

@@ -1,8 +1,7 @@
 -- The texts of the places that hold pointers.
 use Rattle.std.specs.Prelude.{ℕ, List}
-use Rattle.mm_sweep.specs.declared.holding.Holder.{Holder}
+use Rattle.mm_sweep.specs.{declared.holding.Holder.Holder, Holders.{ip_place, register_place, cell_place}}
 use Rattle.mm_sweep.specs.declared.holding.Holder.TheVariants as holders
-use Rattle.mm_sweep.specs.Holders.{ip_place, register_place, cell_place}
 
 -- the beginning of the line of a place
 abbrev pub holder_text : Holder → List ℕ

@@ -1,13 +1,7 @@
 -- The text of the holders of pointers whose segments meet a range.
-use Rattle.std.specs.Prelude.{ℕ, ◌+◌, ◌*◌, if◌then◌else◌, List, [], ◌∷◌, ◌++◌, codes, decimal}
-use Rattle.std.specs.List.{flat_map}
-use Rattle.mm_word.specs.declared.word.Word.{Word}
-use Rattle.mm_word.specs.declared.word.Word.TheVariants.{Ptr}
-use Rattle.mm_word.specs.declared.word.Cell.{Cell}
-use Rattle.mm_model.specs.Digits.{hex}
-use Rattle.mm_model.specs.Lines.{newline, word_text}
-use Rattle.mm_model.specs.Slot.{Slot}
-use Rattle.mm_model.specs.Image.{Image}
+use Rattle.std.specs.{Prelude.{ℕ, ◌+◌, ◌*◌, if◌then◌else◌, List, [], ◌∷◌, ◌++◌, codes, decimal}, List.flat_map}
+use Rattle.mm_word.specs.declared.word.{Word.{Word, TheVariants.Ptr}, Cell.Cell}
+use Rattle.mm_model.specs.{Digits.hex, Lines.{newline, word_text}, Slot.Slot, Image.Image}
 use Rattle.mm_sweep.specs.Swept.{word_meets}
 
 -- the line of a place and the pointer there, if its segment meets the range

@@ -1,17 +1,10 @@
 -- What holds of swept images.
-use Rattle.std.specs.Prelude.{◌≡◌, ◌↔◌, ℕ, Bool, true, List}
-use Rattle.std.specs.List.{AllByRecursion}
-use Rattle.mm_word.specs.Access.{AccessValue}
-use Rattle.mm_word.specs.Pointer.{Pointer, InSegment}
+use Rattle.std.specs.{Prelude.{◌≡◌, ◌↔◌, ℕ, Bool, true, List}, List.AllByRecursion}
+use Rattle.mm_word.specs.{Access.AccessValue, Pointer.{Pointer, InSegment}}
 use Rattle.mm_seg.specs.Segments.{IsSegment}
-use Rattle.mm_model.specs.Image.{Image, start}
-use Rattle.mm_model.specs.Spelling.{IsImage}
-use Rattle.mm_model.specs.Run.{run, turn_of}
-use Rattle.mm_model.specs.Trace.{touches}
-use Rattle.mm_model.specs.Reach.{Entries, CanTouch, CanWrite}
-use Rattle.mm_model.specs.Worlds.{Apart}
-use Rattle.mm_sweep.specs.Swept.{InRange, meets, swept}
-use Rattle.mm_sweep.specs.Refusals.{CanSweep}
+use Rattle.mm_model.specs.{Image.{Image, start}, Spelling.IsImage, Run.{run, turn_of}, Trace.touches}
+use Rattle.mm_model.specs.{Reach.{Entries, CanTouch, CanWrite}, Worlds.Apart}
+use Rattle.mm_sweep.specs.{Swept.{InRange, meets, swept}, Refusals.CanSweep}
 
 -- 1. What it means to meet a range.
 

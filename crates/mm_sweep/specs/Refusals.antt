@@ -1,11 +1,7 @@
 -- Why an image cannot be swept.
 use Rattle.std.specs.Prelude.{◌≡◌, ℕ, ◌≤◌, true, Contains}
-use Rattle.mm_model.specs.Slot.{Slot}
-use Rattle.mm_model.specs.Image.{Image}
-use Rattle.mm_model.specs.Reach.{Privileged}
-use Rattle.mm_model.specs.Reach.Entries.{All}
-use Rattle.mm_sweep.specs.Swept.{meets}
-use Rattle.mm_sweep.specs.declared.sweeping.SweepError.{SweepError}
+use Rattle.mm_model.specs.{Slot.Slot, Image.Image, Reach.{Privileged, Entries.All}}
+use Rattle.mm_sweep.specs.{Swept.meets, declared.sweeping.SweepError.SweepError}
 use Rattle.mm_sweep.specs.declared.sweeping.SweepError.TheVariants as errors
 
 -- the slot of this number, also if it is halted, has an instruction pointer whose segment meets the range

@@ -1,14 +1,9 @@
 -- A swept image: none of its registers and cells holds a pointer whose segment meets a range of addresses. A range is a
 -- segment of at least a word, given by its base and the logarithm of its length.
 use Rattle.std.specs.Prelude.{ℕ, ◌≤◌, ◌<◌, Bool, false, ◌&&◌, nat_lt, if◌then◌else◌, List, map}
-use Rattle.mm_word.specs.declared.word.Word.{Word}
-use Rattle.mm_word.specs.declared.word.Word.TheVariants.{Int, Ptr}
-use Rattle.mm_word.specs.declared.word.Cell.{Cell}
-use Rattle.mm_word.specs.Pointer.{Pointer, base_of}
+use Rattle.mm_word.specs.{declared.word.{Word.{Word, TheVariants.{Int, Ptr}}, Cell.Cell}, Pointer.{Pointer, base_of}}
 use Rattle.mm_seg.specs.Segments.{end_of}
-use Rattle.mm_model.specs.Memory.{Memory}
-use Rattle.mm_model.specs.Slot.{Slot}
-use Rattle.mm_model.specs.Image.{Image}
+use Rattle.mm_model.specs.{Memory.Memory, Slot.Slot, Image.Image}
 
 -- an address of the range
 abbrev pub InRange : ℕ × ℕ → ℕ → Type 0

@@ -11,7 +11,7 @@ use crate::meeting::Range;
 use mm_image::Image;
 use mm_io::{Sink, WriteFault};
 use mm_model::{Page, Slot};
-use mm_text::{TextBuffer, Piece, put_word};
+use mm_text::{Piece, TextBuffer, put_word};
 use mm_word::Word;
 
 /// A place that holds a pointer.
@@ -95,7 +95,13 @@ fn put_cells<O: Sink>(text: &mut TextBuffer, out: &mut O, range: &Range, page: &
 }
 
 /// Appends the line of a place, if it holds a pointer whose segment meets the range.
-fn put_holder<O: Sink>(text: &mut TextBuffer, out: &mut O, range: &Range, holder: Holder, word: Word)
+fn put_holder<O: Sink>(
+    text: &mut TextBuffer,
+    out: &mut O,
+    range: &Range,
+    holder: Holder,
+    word: Word,
+)
     ensures { Appends O.taken O.faults out.old out.new text.old text.new
         (holder_line range.now (holder_text holder) word) }
 {

@@ -1,11 +1,9 @@
 -- Texts that are gathered one after the other.
-use Rattle.std.proofs.Common.{◌≡◌, ℕ, ◌+◌, ◌≤◌, ◌<◌, Bool, true, false, List, [], ◌∷◌, ◌++◌, length, take, get_or, Option, Ok, Err, Result, sym, ◌∙◌, ap, arith, append_assoc, fold}
-use Rattle.std.proofs.lemmas.List.{append-nil, take_more}
-use Rattle.std.proofs.lemmas.Grind.{flat_map-append}
-use Rattle.std.specs.List.{flat_map}
-use Rattle.std.specs.Io.KnownBytes.{append_known}
-use Rattle.mm_io.specs.Sinks.{TookPart, Writes}
-use Rattle.mm_io.proofs.Known.{append_known-++, TookPart-more}
+use Rattle.std.proofs.Common.{◌≡◌, ℕ, ◌+◌, ◌≤◌, ◌<◌, Bool, true, false, List, [], ◌∷◌, ◌++◌, length, take, get_or}
+use Rattle.std.proofs.Common.{Option, Ok, Err, Result, sym, ◌∙◌, ap, arith, append_assoc, fold}
+use Rattle.std.proofs.lemmas.{List.{append-nil, take_more}, Grind.flat_map-append}
+use Rattle.std.specs.{List.flat_map, Io.KnownBytes.append_known}
+use Rattle.mm_io.{specs.Sinks.{TookPart, Writes}, proofs.Known.{append_known-++, TookPart-more}}
 use Rattle.mm_text.specs.Appends.{Buffered, Appends, Became, Finishes, Finished, nothing}
 
 -- part of a text that was handed over before, and part of what follows

@@ -1,6 +1,6 @@
 -- Digits that are written from the last one on.
-use Rattle.std.proofs.Common.{◌≡◌, ℕ, ◌+◌, ◌-◌, ◌<◌, ◌/◌, ◌%◌, suc, zero, List, [], ◌∷◌, length, drop, set, ◌++◌, append_assoc, refl, arith, length-append, codes, false}
-use Rattle.std.proofs.lemmas.List.{drop-set}
+use Rattle.std.proofs.Common.{◌≡◌, ℕ, ◌+◌, ◌-◌, ◌<◌, ◌/◌, ◌%◌, suc, zero, List, [], ◌∷◌, length, drop, set, ◌++◌}
+use Rattle.std.proofs.{Common.{append_assoc, refl, arith, length-append, codes, false}, lemmas.List.drop-set}
 use Rattle.std.specs.Fmt.{digit_glyph}
 use Rattle.mm_model.specs.Digits.{hex}
 

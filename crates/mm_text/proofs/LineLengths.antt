@@ -1,7 +1,5 @@
 -- How long what is put into a line is.
-use Rattle.std.proofs.Common.{ℕ, ◌<◌, ◌≤◌, length, decimal, arith}
-use Rattle.std.proofs.lemmas.Fmt.{length-decimal-le}
-use Rattle.std.proofs.lemmas.Grind.{common_steps}
+use Rattle.std.proofs.{Common.{ℕ, ◌<◌, ◌≤◌, length, decimal, arith}, lemmas.{Fmt.length-decimal-le, Grind.common_steps}}
 use Rattle.mm_text.proofs.HexDigits.{length-hex}
 
 pub length-decimal_byte : (n : ℕ) → n < 256 → length (decimal n) ≤ 3

@@ -1,7 +1,6 @@
 -- Output, row by row.
-use Rattle.std.proofs.Common.{◌≡◌, ℕ, suc, ◌+◌, ◌/◌, ◌<◌, List, ◌++◌, length, take, drop, sym, ap, ◌∙◌, arith, length-drop}
-use Rattle.std.specs.Prelude.{min}
-use Rattle.std.proofs.lemmas.List.{take_min, drop_min}
+use Rattle.std.proofs.Common.{◌≡◌, ℕ, suc, ◌+◌, ◌/◌, ◌<◌, List, ◌++◌, length, take, drop, sym, ap, ◌∙◌, arith}
+use Rattle.std.{proofs.{Common.length-drop, lemmas.List.{take_min, drop_min}}, specs.Prelude.min}
 use Rattle.mm_model.specs.Lines.{output_lines, output_rows, output_row}
 
 -- a row of up to 32 bytes, and the rows of the others

@@ -1,8 +1,7 @@
 -- What gathering a text leaves in a sink and in the text buffer.
 use Rattle.std.specs.Prelude.{◌≡◌, ℕ, ◌≤◌, Bool, true, false, List, [], ◌++◌, Option, Result, IsErr}
 use Rattle.std.specs.Io.KnownBytes.{append_known}
-use Rattle.mm_io.specs.Files.{Rose}
-use Rattle.mm_io.specs.Sinks.{TookPart, Writes}
+use Rattle.mm_io.specs.{Files.Rose, Sinks.{TookPart, Writes}}
 
 -- a text buffer: the bytes that are kept, and whether a write has failed
 pub record Buffered : Type 0 where

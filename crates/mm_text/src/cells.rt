@@ -4,8 +4,8 @@ ghost use Rattle.std.specs.Prelude.{◌++◌};
 ghost use Rattle.mm_text.specs.Appends.{Appends};
 ghost use Rattle.mm_model.specs.Lines.{cell_line, full_text, newline};
 
-use crate::text_buffer::TextBuffer;
 use crate::piece::Piece;
+use crate::text_buffer::TextBuffer;
 use crate::words::put_word;
 use mm_io::Sink;
 use mm_word::Cell;

@@ -8,18 +8,18 @@
 
 mod cells;
 mod cycles;
-mod text_buffer;
 mod line;
 mod output;
 mod piece;
 mod slots;
+mod text_buffer;
 mod words;
 
 pub use cells::put_cell;
 pub use cycles::put_cycles;
-pub use text_buffer::{TextBuffer, write_pieces};
 pub use line::Line;
 pub use output::put_output;
 pub use piece::Piece;
 pub use slots::{put_numbers, put_slot, put_state, slot_lines};
+pub use text_buffer::{TextBuffer, write_pieces};
 pub use words::put_word;

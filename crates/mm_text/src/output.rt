@@ -3,8 +3,8 @@
 ghost use Rattle.mm_text.specs.Appends.{Appends};
 ghost use Rattle.mm_model.specs.Lines.{output_lines, output_row, bytes_text};
 
-use crate::text_buffer::TextBuffer;
 use crate::piece::Piece;
+use crate::text_buffer::TextBuffer;
 use mm_io::Sink;
 
 /// The most bytes on a line.

@@ -7,8 +7,8 @@ ghost use Rattle.mm_text.specs.Appends.{Appends};
 ghost use Rattle.mm_model.specs.Lines.{slot_lines as slot_lines_of, slot_line, numbers_text, state_text, past_text};
 ghost use Rattle.mm_model.specs.Lines.{register_lines, register_line, word_line, is_zero as is_zero_word, pending_line};
 
-use crate::text_buffer::TextBuffer;
 use crate::piece::Piece;
+use crate::text_buffer::TextBuffer;
 use crate::words::put_word;
 use mm_io::{Sink, WriteFault};
 use mm_model::{Pending, Slot, SlotState};

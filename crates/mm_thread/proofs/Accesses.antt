@@ -1,35 +1,22 @@
 -- What the rows that ask for memory leave.
-use Rattle.std.proofs.Common.{◌≡◌, ℕ, ◌+◌, ◌<◌, ◌^◌, Bool, true, false, cond, ltb, List, [], ◌∷◌, length, Option, Some, None, Result, Ok, Err, refl, sym, ap, subst, ◌∙◌, arith, ℤ}
-use Rattle.mm_word.specs.declared.cause.Cause.{Cause}
-use Rattle.mm_word.specs.declared.cause.Cause.TheVariants.{Bounds, Sync, Priv}
-use Rattle.mm_word.specs.declared.word.Pre.{Pre}
-use Rattle.mm_word.specs.declared.word.Post.{Post}
-use Rattle.mm_word.specs.declared.word.Word.{Word}
-use Rattle.mm_word.specs.declared.word.Word.TheVariants.{Int}
-use Rattle.mm_word.specs.declared.word.Cell.{Cell}
-use Rattle.mm_word.specs.Word.{word_bits}
-use Rattle.mm_word.specs.Access.{AccessValue}
-use Rattle.mm_isa.specs.declared.instr.Instr.{Instr}
-use Rattle.mm_isa.specs.declared.instr.Instr.TheVariants.{Out, Ld, St, Evt, Resume, Rreg, Wreg, Map, Unmap}
+use Rattle.std.proofs.Common.{◌≡◌, ℕ, ◌+◌, ◌<◌, ◌^◌, Bool, true, false, cond, ltb, List, [], ◌∷◌, length, Option, Some}
+use Rattle.std.proofs.Common.{None, Result, Ok, Err, refl, sym, ap, subst, ◌∙◌, arith, ℤ}
+use Rattle.mm_word.specs.declared.cause.Cause.{Cause, TheVariants.{Bounds, Sync, Priv}}
+use Rattle.mm_word.specs.declared.word.{Pre.Pre, Post.Post, Word.{Word, TheVariants.Int}, Cell.Cell}
+use Rattle.mm_word.specs.{Word.word_bits, Access.AccessValue}
+use Rattle.mm_isa.specs.declared.instr.Instr.{Instr, TheVariants.{Out, Ld, St, Evt, Resume, Rreg, Wreg, Map, Unmap}}
 use Rattle.mm_isa.specs.declared.instr.How.{How}
-use Rattle.mm_model.specs.Memory.{Memory, passes}
-use Rattle.mm_model.specs.Slot.{Slot, register, is_empty}
-use Rattle.mm_model.specs.Operands.{lacks}
-use Rattle.mm_model.specs.State.{Core, slot_at}
-use Rattle.mm_model.specs.Uses.{Use, accesses, TakesUses, takes_none}
-use Rattle.mm_model.specs.Ask.{Ask, ask, is_privileged, page_asked}
-use Rattle.mm_model.specs.Ask.Ask.{Refuse}
+use Rattle.mm_model.specs.{Memory.{Memory, passes}, Slot.{Slot, register, is_empty}, Operands.lacks}
+use Rattle.mm_model.specs.{State.{Core, slot_at}, Uses.{Use, accesses, TakesUses, takes_none}}
+use Rattle.mm_model.specs.Ask.{Ask, ask, is_privileged, page_asked, Ask.Refuse}
 use Rattle.mm_model.specs.Effect.{Effect, effect, plain, loads, loaded, stored, maps, unmaps, set_by, test}
 use Rattle.mm_model.specs.Effect.Reply.{Refused, Paged}
 use Rattle.mm_model.specs.Turn.{reply, reached, removal_use, touch_of, asked_use, slot_after, core_after, memory_after}
-use Rattle.mm_mem.specs.Answers.{loaded as loaded_answer, stored as stored_answer, set_where, put_where}
-use Rattle.mm_thread.specs.declared.completion.Completion.{Completion}
-use Rattle.mm_thread.specs.declared.completion.Completion.TheVariants.{Did}
-use Rattle.mm_thread.specs.declared.completion.Retired.{Retired}
-use Rattle.mm_thread.specs.Ends.{is_alone}
-use Rattle.mm_thread.specs.SlotIndices.{slot_in, with_slot}
-use Rattle.mm_thread.specs.Execution.{Leaves, effect_in, Executes, core_loaded, completion_loaded, core_stored, completion_stored, page_named}
-use Rattle.mm_thread.specs.Tables.{AreNumbered}
+use Rattle.mm_mem.specs.{Answers.{loaded as loaded_answer, stored as stored_answer, set_where, put_where}}
+use Rattle.mm_thread.specs.declared.completion.{Completion.{Completion, TheVariants.Did}, Retired.Retired}
+use Rattle.mm_thread.specs.{Ends.is_alone, SlotIndices.{slot_in, with_slot}}
+use Rattle.mm_thread.specs.Execution.{Leaves, effect_in, Executes, core_loaded, completion_loaded, core_stored}
+use Rattle.mm_thread.specs.{Execution.{completion_stored, page_named}, Tables.AreNumbered}
 use Rattle.mm_thread.proofs.SlotUpdates.{own_put}
 
 -- 1. An instruction by what it asks.

@@ -1,24 +1,18 @@
 -- How a core is put back part by part.
 use Rattle.std.proofs.Common.{◌≡◌, ◌≢◌, ℕ, ◌+◌, ◌<◌, ◌≤◌, ◌⊎◌, inl, inr, Bool, true, false, cond, eqb, List, [], ◌∷◌}
 use Rattle.std.proofs.Common.{◌++◌, length, map, take, drop, get_or, set, replicate, Option, Some, None, refl, sym, ap}
-use Rattle.std.proofs.Common.{subst, ◌∙◌, arith}
-use Rattle.std.specs.Prelude.{IfSome}
-use Rattle.std.specs.List.{AllByRecursion}
-use Rattle.std.proofs.Math.Seq.{get_or-append_seam}
+use Rattle.std.proofs.{Common.{subst, ◌∙◌, arith}, Math.Seq.get_or-append_seam}
 use Rattle.std.proofs.lemmas.Bool.{cases_eq, eq-eqb, ne_eqb}
-use Rattle.std.proofs.lemmas.List.{set_at, drop_more, take_more, length-append, length-map, length-take-le, map_push, append_assoc, replicate_more, length-replicate}
-use Rattle.mm_model.specs.declared.event.Event.{Event}
-use Rattle.mm_model.specs.Slot.{Slot}
-use Rattle.mm_model.specs.State.{ThreadRow, Core, row_in, slot_of, queue_of, slot_at, queue_at, output_of, at_number, put_queue}
-use Rattle.mm_model.specs.Fits.{slots_of, IsCore}
-use Rattle.mm_model.proofs.CoreRows.{each_map, slots_found}
-use Rattle.mm_model.proofs.Shortness.{queue_short}
-use Rattle.mm_thread.specs.Output.{Output}
-use Rattle.mm_thread.specs.SlotIndices.{row_alone, slot_in, queue_in, with_queue_in}
-use Rattle.mm_thread.specs.Tables.{AreNumbered}
-use Rattle.mm_thread.specs.Parts.{events_for, row_with, core_of}
-use Rattle.mm_thread.proofs.Cores.{output_short}
-use Rattle.mm_thread.proofs.Index.{row_found, queue_found, put_queue-at}
+use Rattle.std.proofs.lemmas.List.{set_at, drop_more, take_more, length-append, length-map, length-take-le, map_push}
+use Rattle.std.proofs.lemmas.List.{append_assoc, replicate_more, length-replicate}
+use Rattle.std.specs.{Prelude.IfSome, List.AllByRecursion}
+use Rattle.mm_model.specs.{declared.event.Event.Event, Slot.Slot}
+use Rattle.mm_model.specs.State.{ThreadRow, Core, row_in, slot_of, queue_of, slot_at, queue_at, output_of, at_number}
+use Rattle.mm_model.specs.{State.put_queue, Fits.{slots_of, IsCore}}
+use Rattle.mm_model.proofs.{CoreRows.{each_map, slots_found}, Shortness.queue_short}
+use Rattle.mm_thread.specs.{Output.Output, SlotIndices.{row_alone, slot_in, queue_in, with_queue_in}}
+use Rattle.mm_thread.specs.{Tables.AreNumbered, Parts.{events_for, row_with, core_of}}
+use Rattle.mm_thread.proofs.{Cores.output_short, Index.{row_found, queue_found, put_queue-at}}
 
 -- 1. One event.
 

@@ -1,27 +1,21 @@
 -- What a turn relies on of a core.
-use Rattle.std.proofs.Common.{◌≡◌, ◌≢◌, ℕ, ◌<◌, ◌≤◌, true, false, cond, eqb, List, [], ◌∷◌, ◌++◌, length, get_or, Some, None, refl, sym, ap, subst, ◌∙◌, arith, inl, inr}
-use Rattle.std.specs.Prelude.{IfSome, slice_index}
-use Rattle.std.specs.List.{AllByRecursion}
+use Rattle.std.proofs.Common.{◌≡◌, ◌≢◌, ℕ, ◌<◌, ◌≤◌, true, false, cond, eqb, List, [], ◌∷◌, ◌++◌, length, get_or, Some}
+use Rattle.std.proofs.Common.{None, refl, sym, ap, subst, ◌∙◌, arith, inl, inr}
 use Rattle.std.proofs.lemmas.Bool.{cases_eq, cases_lt}
 use Rattle.std.proofs.lemmas.List.{length-set, get_or-set_same, get_or-set_other, get_or_past}
-use Rattle.mm_model.specs.declared.slot.SlotState.TheVariants.{Running, Waiting, Halted}
-use Rattle.mm_model.specs.declared.slot.Pending.{Pending}
-use Rattle.mm_model.specs.declared.event.Event.{Event}
-use Rattle.mm_model.specs.Slot.{Slot, is_empty}
-use Rattle.mm_model.specs.Image.{output_limit}
+use Rattle.std.specs.{Prelude.{IfSome, slice_index}, List.AllByRecursion}
+use Rattle.mm_model.specs.declared.slot.{SlotState.TheVariants.{Running, Waiting, Halted}, Pending.Pending}
+use Rattle.mm_model.specs.{declared.event.Event.Event, Slot.{Slot, is_empty}, Image.output_limit}
 use Rattle.mm_model.specs.State.{ThreadRow, Core, slot_at, queue_at, output_of, put_queue}
 use Rattle.mm_model.specs.Turn.{stood, core_faulted, is_running, is_sync}
-use Rattle.mm_model.specs.Fits.{waits_for, slots_of, IsSlot, LoadsMatch, IsOfVersion, IsCore}
-use Rattle.mm_model.specs.Spelling.{IsOther}
-use Rattle.mm_model.proofs.CoreRows.{each_get, slot_has, other_at}
-use Rattle.mm_model.proofs.CoreSteps.{waits_for-rests}
+use Rattle.mm_model.specs.{Fits.{waits_for, slots_of, IsSlot, LoadsMatch, IsOfVersion, IsCore}, Spelling.IsOther}
+use Rattle.mm_model.proofs.{CoreRows.{each_get, slot_has, other_at}, CoreSteps.waits_for-rests}
 use Rattle.mm_model.proofs.EffectSteps.{running_waits_not}
-use Rattle.mm_model.proofs.Shortness as short
 use Rattle.mm_thread.specs.SlotIndices.{no_row, row_at, slot_in, queue_in, with_row, with_slot, with_queue_in}
 use Rattle.mm_thread.specs.Tables.{AreNumbered}
 use Rattle.mm_thread.proofs.Index.{slot_found, queue_found, put_slot-at, put_queue-at, numbers-with_row, number-get}
-use Rattle.mm_thread.proofs.RowIndex.{apart_in}
-use Rattle.mm_thread.proofs.RunningSlots.{numbered_set}
+use Rattle.mm_thread.proofs.{RowIndex.apart_in, RunningSlots.numbered_set}
+use Rattle.mm_model.proofs.Shortness as short
 
 -- 1. A row in the place of one.
 

@@ -1,12 +1,11 @@
 -- A flag of a number that is set or cleared.
-use Rattle.std.proofs.Common.{◌≡◌, ◌≢◌, ℕ, ◌*◌, ◌%◌, ◌^◌, ◌<◌, Bool, true, false, eqb, get_or, set, length, sym, ap, ◌∙◌, arith, inl, inr, bit_and, bit_or}
-use Rattle.std.specs.Int.{w16, bit_not, bit_at}
+use Rattle.std.proofs.Common.{◌≡◌, ◌≢◌, ℕ, ◌*◌, ◌%◌, ◌^◌, ◌<◌, Bool, true, false, eqb, get_or, set, length, sym, ap}
+use Rattle.std.proofs.Common.{◌∙◌, arith, inl, inr, bit_and, bit_or}
 use Rattle.std.proofs.lemmas.Bool.{cases_eq}
 use Rattle.std.proofs.lemmas.List.{same_lists, get_or-set_same, get_or-set_other, get_or_default, length-set}
 use Rattle.std.proofs.lemmas.Nat.Bits.{bit_at_set_same, bit_at_set_other, bit_at_clear_same, bit_at_clear_other}
-use Rattle.mm_model.proofs.Bytes.Bitmaps.{length-flags}
-use Rattle.mm_model.specs.Flags.{flags}
-use Rattle.mm_model.proofs.FlagLists.{flags-get}
+use Rattle.std.specs.Int.{w16, bit_not, bit_at}
+use Rattle.mm_model.{proofs.{Bytes.Bitmaps.length-flags, FlagLists.flags-get}, specs.Flags.flags}
 
 -- the flags of m are those of n, but for flag r
 pub flags-one : (k m n r : ℕ) (b : Bool) → r < k → eqb (bit_at m r) 1 ≡ b → ((i : ℕ) → i < k → i ≢ r → bit_at m i ≡ bit_at n i) → flags k m ≡ set (flags k n) r b

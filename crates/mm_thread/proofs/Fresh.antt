@@ -1,15 +1,9 @@
 -- A core whose slots are an image's.
 use Rattle.std.proofs.Common.{◌≡◌, ℕ, zero, suc, false, List, [], map, replicate, refl, sym, ap, ◌∙◌, subst}
-use Rattle.std.specs.List.{AllByRecursion}
-use Rattle.std.specs.List.Sorted.{IsStrictlyIncreasing}
-use Rattle.mm_model.specs.Slot.{Slot}
-use Rattle.mm_model.specs.State.{ThreadRow, Core}
-use Rattle.mm_model.specs.Image.{Image, start}
-use Rattle.mm_model.specs.Spelling.{numbers_of, IsFresh}
-use Rattle.mm_model.specs.Fits.{IsCore}
-use Rattle.mm_model.proofs.Starts.{start_core}
-use Rattle.mm_thread.specs.SlotIndices.{row_alone}
-use Rattle.mm_thread.proofs.Sound.{version_whole}
+use Rattle.std.specs.List.{AllByRecursion, Sorted.IsStrictlyIncreasing}
+use Rattle.mm_model.specs.{Slot.Slot, State.{ThreadRow, Core}, Image.{Image, start}, Spelling.{numbers_of, IsFresh}}
+use Rattle.mm_model.{specs.Fits.IsCore, proofs.Starts.start_core}
+use Rattle.mm_thread.{specs.SlotIndices.row_alone, proofs.Sound.version_whole}
 
 pub each_nothing : (n : ℕ) → AllByRecursion (λ (bytes : List ℕ). bytes ≡ []) (replicate n [])
 each_nothing zero = tt

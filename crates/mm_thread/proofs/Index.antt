@@ -1,13 +1,12 @@
 -- Slots found by their numbers, where each row has a number of its own.
-use Rattle.std.proofs.Common.{◌≡◌, ◌≢◌, ℕ, zero, suc, ◌<◌, ◌≤◌, List, [], ◌∷◌, length, map, get_or, set, slice_index, Some, None, refl, sym, ap, ◌∙◌, arith}
-use Rattle.std.proofs.lemmas.List.{length-map, get_or-map, map-set, set-get_or}
-use Rattle.std.proofs.lemmas.Bool.{eq-eqb, ne_eqb}
-use Rattle.mm_model.specs.declared.event.Event.{Event}
-use Rattle.mm_model.specs.Slot.{Slot}
-use Rattle.mm_model.specs.State.{ThreadRow, Core, row_in, slot_of, queue_of, slot_at, queue_at, at_number, put_slot, put_queue}
-use Rattle.mm_model.specs.Fits.{slots_of}
-use Rattle.mm_thread.specs.SlotIndices.{no_row, row_at, slot_in, queue_in, with_row, with_slot, with_queue_in, numbers_in}
-use Rattle.mm_thread.specs.Tables.{AreNumbered, IsIndex}
+use Rattle.std.proofs.Common.{◌≡◌, ◌≢◌, ℕ, zero, suc, ◌<◌, ◌≤◌, List, [], ◌∷◌, length, map, get_or, set, slice_index}
+use Rattle.std.proofs.Common.{Some, None, refl, sym, ap, ◌∙◌, arith}
+use Rattle.std.proofs.lemmas.{List.{length-map, get_or-map, map-set, set-get_or}, Bool.{eq-eqb, ne_eqb}}
+use Rattle.mm_model.specs.{declared.event.Event.Event, Slot.Slot}
+use Rattle.mm_model.specs.State.{ThreadRow, Core, row_in, slot_of, queue_of, slot_at, queue_at, at_number, put_slot}
+use Rattle.mm_model.specs.{State.put_queue, Fits.slots_of}
+use Rattle.mm_thread.specs.SlotIndices.{no_row, row_at, slot_in, queue_in, with_row, with_slot, with_queue_in}
+use Rattle.mm_thread.specs.{SlotIndices.numbers_in, Tables.{AreNumbered, IsIndex}}
 
 abbrev number_at : List ThreadRow → ℕ → ℕ
 number_at rows k = (get_or rows k no_row).slot.number

@@ -1,27 +1,15 @@
 -- The turns of items.
-use Rattle.std.proofs.Common.{◌≡◌, ℕ, ◌-◌, ◌<◌, ◌≤◌, ◌^◌, Bool, true, false, cond, leb, List, [], ◌∷◌, length, Option, Some, None, refl, sym, ap, subst, ◌∙◌, arith}
-use Rattle.std.specs.Prelude.{IfSome}
-use Rattle.std.specs.List.{AllByRecursion}
-use Rattle.std.proofs.lemmas.List.{set-get_or}
-use Rattle.std.proofs.lemmas.Bool.Decides.{nat_tests}
-use Rattle.mm_model.specs.declared.slot.Pending.{Pending}
-use Rattle.mm_model.specs.declared.step.Step.{Step}
-use Rattle.mm_model.specs.declared.step.Tick.{Tick}
-use Rattle.mm_model.specs.declared.step.Tick.TheVariants.{Idle, Delivered}
-use Rattle.mm_model.specs.Memory.{Memory}
-use Rattle.mm_model.specs.Slot.{Slot}
-use Rattle.mm_model.specs.State.{ThreadRow, Core, slot_at}
-use Rattle.mm_model.specs.Uses.{Use, accesses, TakesUses, takes_none}
-use Rattle.mm_model.specs.Effect.{delivered, delivers}
+use Rattle.std.proofs.Common.{◌≡◌, ℕ, ◌-◌, ◌<◌, ◌≤◌, ◌^◌, Bool, true, false, cond, leb, List, [], ◌∷◌, length, Option}
+use Rattle.std.proofs.Common.{Some, None, refl, sym, ap, subst, ◌∙◌, arith}
+use Rattle.std.{proofs.lemmas.{List.set-get_or, Bool.Decides.nat_tests}, specs.{Prelude.IfSome, List.AllByRecursion}}
+use Rattle.mm_model.specs.declared.{slot.Pending.Pending, step.{Step.Step, Tick.{Tick, TheVariants.{Idle, Delivered}}}}
+use Rattle.mm_model.specs.{Memory.Memory, Slot.Slot, State.{ThreadRow, Core, slot_at}}
+use Rattle.mm_model.specs.{Uses.{Use, accesses, TakesUses, takes_none}, Effect.{delivered, delivers}}
 use Rattle.mm_model.specs.Turn.{Turned, idle, arrives, port_of, taken_by, taken_by_port, turn, started, is_running}
-use Rattle.mm_model.specs.Fits.{IsCore, slots_of}
-use Rattle.mm_model.proofs.CoreRows.{slot_has}
-use Rattle.mm_model.proofs.SlotSteps.{delivered_from}
+use Rattle.mm_model.{specs.Fits.{IsCore, slots_of}, proofs.{CoreRows.slot_has, SlotSteps.delivered_from}}
 use Rattle.mm_thread.specs.SlotIndices.{no_row, slot_in, with_slot, first_register}
-use Rattle.mm_thread.specs.Execution.{CanTurn, TakesTurn, AsksNothing}
-use Rattle.mm_thread.specs.Tables.{AreNumbered}
-use Rattle.mm_thread.proofs.RowIndex.{apart_in}
-use Rattle.mm_thread.proofs.Index.{slot_found, put_slot-at}
+use Rattle.mm_thread.specs.{Execution.{CanTurn, TakesTurn, AsksNothing}, Tables.AreNumbered}
+use Rattle.mm_thread.proofs.{RowIndex.apart_in, Index.{slot_found, put_slot-at}}
 
 abbrev pub step_of : Tick → ℕ → Step
 step_of tick n = record { tick = tick; slot = n; fetched = None; touched = None; entered = None }

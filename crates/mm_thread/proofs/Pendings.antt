@@ -1,11 +1,7 @@
 -- The oldest of the pending loads.
 use Rattle.std.proofs.Common.{◌≡◌, ◌<◌, false, eqb, List, [], ◌∷◌, length, get_or, set, refl, sym, subst, arith}
-use Rattle.std.specs.Prelude.{remove}
-use Rattle.std.specs.List.{AllByRecursion}
-use Rattle.std.proofs.lemmas.Bool.Decides.{nat_tests}
-use Rattle.mm_model.specs.declared.slot.Pending.{Pending}
-use Rattle.mm_model.specs.Slot.{Slot}
-use Rattle.mm_model.specs.Effect.{delivers}
+use Rattle.std.{proofs.lemmas.Bool.Decides.nat_tests, specs.{Prelude.remove, List.AllByRecursion}}
+use Rattle.mm_model.specs.{declared.slot.Pending.Pending, Slot.Slot, Effect.delivers}
 
 pub delivers-first : (s : Slot) (ps : List Pending) (p : Pending) → eqb (length ps) 0 ≡ false → p ≡ get_or ps 0 p
     → delivers s ps ≡ record s { regs = set s.regs p.reg p.word; empty = set s.empty p.reg false; pending = remove ps 0 }

@@ -1,14 +1,10 @@
 -- Pointers that a slot goes on at, and words made of two halves.
-use Rattle.std.proofs.Common.{◌≡◌, ℕ, ◌+◌, ◌*◌, ◌%◌, ◌^◌, ◌<◌, true, bit_or, refl, arith, ℤ, pos, ◌+ℤ◌, subst, Option, Result, Ok}
-use Rattle.std.proofs.lemmas.Nat.{or_shifted}
+use Rattle.std.proofs.Common.{◌≡◌, ℕ, ◌+◌, ◌*◌, ◌%◌, ◌^◌, ◌<◌, true, bit_or, refl, arith, ℤ, pos, ◌+ℤ◌, subst, Option}
+use Rattle.std.proofs.{Common.{Result, Ok}, lemmas.Nat.or_shifted}
 use Rattle.mm_model.proofs.EffectWords.{executable_moves}
-use Rattle.mm_word.specs.Perm.{can_fetch}
-use Rattle.mm_word.specs.Pointer.{Pointer, moved_to, lea_result}
-use Rattle.mm_word.specs.declared.cause.Cause.{Cause}
-use Rattle.mm_word.specs.declared.word.Word.{Word}
-use Rattle.mm_word.specs.declared.word.Word.TheVariants.{Int, Ptr}
-use Rattle.mm_model.specs.Slot.{Slot, register}
-use Rattle.mm_model.specs.Effect.{sets_pointer, if_pointer}
+use Rattle.mm_model.specs.{Slot.{Slot, register}, Effect.{sets_pointer, if_pointer}}
+use Rattle.mm_word.specs.{Perm.can_fetch, Pointer.{Pointer, moved_to, lea_result}}
+use Rattle.mm_word.specs.declared.{cause.Cause.Cause, word.Word.{Word, TheVariants.{Int, Ptr}}}
 use Rattle.mm_thread.specs.Ends.{EndsAlone, pointer_in}
 
 pub lea_result-code : (p : Pointer) (by : ℤ) → can_fetch p.perm ≡ true → lea_result p by ≡ moved_to p (pos p.addr +ℤ by)

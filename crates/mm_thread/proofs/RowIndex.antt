@@ -1,15 +1,13 @@
 -- The index of places as it is made.
-use Rattle.std.proofs.Common.{◌≡◌, ◌≢◌, ℕ, zero, suc, ◌+◌, ◌<◌, ◌≤◌, ◌⊎◌, inl, inr, List, length, set, replicate, slice_index, sym, ap, ◌∙◌, arith}
-use Rattle.std.specs.List.{AllByRecursion}
-use Rattle.std.specs.List.Sorted.{IsStrictlyIncreasing}
+use Rattle.std.proofs.Common.{◌≡◌, ◌≢◌, ℕ, zero, suc, ◌+◌, ◌<◌, ◌≤◌, ◌⊎◌, inl, inr, List, length, set, replicate}
+use Rattle.std.proofs.Common.{slice_index, sym, ap, ◌∙◌, arith}
 use Rattle.std.proofs.lemmas.Bool.{cases_eq}
-use Rattle.std.proofs.lemmas.List.{get_or-set_same, get_or-set_other, get_or-replicate, get_or-map, length-set, length-map, length-replicate}
-use Rattle.mm_model.specs.Slot.{Slot}
-use Rattle.mm_model.specs.State.{ThreadRow, Core}
-use Rattle.mm_model.specs.Fits.{slots_of, IsSlot, IsCore}
+use Rattle.std.proofs.lemmas.List.{get_or-set_same, get_or-set_other, get_or-replicate, get_or-map, length-set}
+use Rattle.std.proofs.lemmas.List.{length-map, length-replicate}
+use Rattle.std.specs.List.{AllByRecursion, Sorted.IsStrictlyIncreasing}
+use Rattle.mm_model.specs.{Slot.Slot, State.{ThreadRow, Core}, Fits.{slots_of, IsSlot, IsCore}}
 use Rattle.mm_model.proofs.CoreRows.{each_get, each_map}
-use Rattle.mm_thread.specs.Tables.{slot_of_row, AreNumbered, IsIndex}
-use Rattle.mm_thread.specs.SlotIndices.{no_row, slot_in, numbers_in}
+use Rattle.mm_thread.specs.{Tables.{slot_of_row, AreNumbered, IsIndex}, SlotIndices.{no_row, slot_in, numbers_in}}
 use Rattle.mm_thread.proofs.Index.{length-numbers, number-get}
 
 -- where numbers rise, an earlier one is less than a later one

@@ -2,27 +2,19 @@
 use Rattle.std.proofs.Common.{◌≡◌, ◌≢◌, ℕ, zero, suc, ◌*◌, ◌%◌, ◌^◌, ◌<◌, ◌↔◌, ◌⊎◌, Bool, true, false, List, [], ◌∷◌}
 use Rattle.std.proofs.Common.{length, get_or, set, bit_or, bit_and, Option, Some, None, Result, refl, sym, ap, ◌∙◌}
 use Rattle.std.proofs.Common.{arith, inl, inr}
-use Rattle.std.specs.Prelude.{IsSomeAnd, slice_index}
-use Rattle.std.specs.Int.{IsBitSet, bit_at, bit_not, w64}
 use Rattle.std.proofs.lemmas.Bool.{cases_eq, cases_lt}
 use Rattle.std.proofs.lemmas.List.{get_or-set_same, get_or-set_other, get_or_default, length-set}
 use Rattle.std.proofs.lemmas.Nat.{pow_pos}
-use Rattle.std.proofs.lemmas.Nat.Bits.{and_pow, bit_at_above, bit_at_set_same, bit_at_set_other, bit_at_clear_same, bit_at_clear_other}
-use Rattle.mm_word.specs.declared.cause.Cause.{Cause}
-use Rattle.mm_word.specs.Pointer.{Pointer}
-use Rattle.mm_isa.specs.declared.instr.How.{How}
-use Rattle.mm_isa.specs.declared.instr.How.TheVariants.{Retry, Skip, Kill}
-use Rattle.mm_model.specs.declared.slot.SlotState.{SlotState}
-use Rattle.mm_model.specs.declared.slot.SlotState.TheVariants.{Running, Waiting, Taken, Halted}
-use Rattle.mm_model.specs.Slot.{Slot}
-use Rattle.mm_model.specs.State.{ThreadRow, Core, slot_of, slot_at}
-use Rattle.mm_model.specs.Effect.{Change, Effect, resumed_by}
-use Rattle.mm_model.specs.Effect.Effect.{Fault, Block, Deliver, Do}
-use Rattle.mm_model.specs.Turn.{is_running, slot_after}
-use Rattle.mm_model.specs.Flags.{one_if}
-use Rattle.mm_model.proofs.TurnKeeps.{changed_from}
-use Rattle.mm_thread.specs.Ends.{EndsAlone}
-use Rattle.mm_thread.specs.SlotIndices.{no_row}
+use Rattle.std.proofs.lemmas.Nat.Bits.{and_pow, bit_at_above, bit_at_set_same, bit_at_set_other, bit_at_clear_same}
+use Rattle.std.proofs.lemmas.Nat.Bits.{bit_at_clear_other}
+use Rattle.std.specs.{Prelude.{IsSomeAnd, slice_index}, Int.{IsBitSet, bit_at, bit_not, w64}}
+use Rattle.mm_word.specs.{declared.cause.Cause.Cause, Pointer.Pointer}
+use Rattle.mm_isa.specs.declared.instr.How.{How, TheVariants.{Retry, Skip, Kill}}
+use Rattle.mm_model.specs.declared.slot.SlotState.{SlotState, TheVariants.{Running, Waiting, Taken, Halted}}
+use Rattle.mm_model.specs.{Slot.Slot, State.{ThreadRow, Core, slot_of, slot_at}}
+use Rattle.mm_model.specs.Effect.{Change, Effect, resumed_by, Effect.{Fault, Block, Deliver, Do}}
+use Rattle.mm_model.{specs.{Turn.{is_running, slot_after}, Flags.one_if}, proofs.TurnKeeps.changed_from}
+use Rattle.mm_thread.specs.{Ends.EndsAlone, SlotIndices.no_row}
 use Rattle.mm_thread.specs.Tables.{slot_of_row, AreNumbered, HasRunners, IsNoted, IsIndex, AreKnown}
 use Rattle.mm_thread.proofs.Index.{row_in-none, row_in-alone}
 

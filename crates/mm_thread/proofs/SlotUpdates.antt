@@ -1,42 +1,26 @@
 -- What the rows that ask for slots and outputs leave.
-use Rattle.std.proofs.Common.{◌≡◌, ◌≢◌, ℕ, ◌%◌, ◌<◌, Bool, true, false, cond, List, [], ◌∷◌, ◌++◌, length, set, drop, Option, Some, None, Result, Ok, Err, refl, sym, ap, subst, ◌∙◌, arith}
-use Rattle.std.specs.Prelude.{nat_lt, ◌&&◌, slice_get}
-use Rattle.std.specs.List.{AllByRecursion}
-use Rattle.std.proofs.lemmas.List.{set-get_or}
-use Rattle.mm_thread.proofs.RunningSlots.{resumed_number}
-use Rattle.mm_word.specs.declared.cause.Cause.{Cause}
-use Rattle.mm_word.specs.declared.cause.Cause.TheVariants.{NoSlot, OutFull}
-use Rattle.mm_word.specs.Word.{word_bits}
-use Rattle.mm_word.specs.Pointer.{Pointer}
-use Rattle.mm_isa.specs.declared.instr.How.{How}
-use Rattle.mm_isa.specs.declared.instr.Instr.{Instr}
-use Rattle.mm_isa.specs.declared.instr.Instr.TheVariants.{Out, Ld, St, Evt, Resume, Rreg, Wreg, Map, Unmap}
-use Rattle.mm_model.specs.declared.slot.SlotState.{SlotState}
-use Rattle.mm_model.specs.declared.slot.SlotState.TheVariants.{Running, Waiting, Taken, Halted}
-use Rattle.mm_model.specs.declared.event.Event.{Event}
-use Rattle.mm_model.specs.Memory.{Memory}
-use Rattle.mm_model.specs.Slot.{Slot, register, is_empty}
-use Rattle.mm_model.specs.State.{ThreadRow, Core, slot_at, put_slot, put_queue, output_of, put_output}
-use Rattle.mm_model.specs.Image.{output_limit}
-use Rattle.mm_model.specs.Ask.{Ask, ask}
-use Rattle.mm_model.specs.Ask.Ask.{Nothing}
-use Rattle.mm_model.specs.Effect.{Change, Effect, effect, plain, resumed_by, delivered}
-use Rattle.mm_model.specs.Effect.Reply.{Fine, Refused, Served}
-use Rattle.mm_model.specs.Effect.Effect.{Fault, Block, Deliver, Do}
-use Rattle.mm_model.specs.Turn.{reply, served, is_handler, is_taken, is_running, slot_after, core_after, memory_after, with_out, with_queue, with_other, with_cell, with_pages}
-use Rattle.mm_model.specs.Fits.{is_waiting, IsCore}
-use Rattle.mm_model.proofs.CoreSteps.{queued_waits}
-use Rattle.mm_model.proofs.SlotSteps.{delivered_from}
-use Rattle.mm_model.proofs.TurnKeeps.{changed_from}
-use Rattle.mm_thread.specs.declared.completion.Completion.{Completion}
-use Rattle.mm_thread.specs.declared.completion.Completion.TheVariants.{Did, Blocked, Faulted}
-use Rattle.mm_thread.specs.Ends.{is_alone, alone, EndsAlone}
-use Rattle.mm_thread.specs.SlotIndices.{no_row, row_at, slot_in, queue_in, with_slot, with_queue_in, event_writes}
-use Rattle.mm_thread.specs.Tables.{AreNumbered}
-use Rattle.mm_thread.specs.Execution.{Leaves, effect_in}
-use Rattle.mm_thread.proofs.Index.{slot_found, queue_found, put_slot-at, put_queue-at}
+use Rattle.std.proofs.Common.{◌≡◌, ◌≢◌, ℕ, ◌%◌, ◌<◌, Bool, true, false, cond, List, [], ◌∷◌, ◌++◌, length, set, drop}
+use Rattle.std.proofs.Common.{Option, Some, None, Result, Ok, Err, refl, sym, ap, subst, ◌∙◌, arith}
+use Rattle.std.{proofs.lemmas.List.set-get_or, specs.{Prelude.{nat_lt, ◌&&◌, slice_get}, List.AllByRecursion}}
+use Rattle.mm_thread.proofs.{RunningSlots.resumed_number, Index.{slot_found, queue_found, put_slot-at, put_queue-at}}
 use Rattle.mm_thread.proofs.RowIndex.{apart_in}
 use Rattle.mm_thread.proofs.Cores.{slot_in-other, queue_in-slot, apart-with_slot, number-with_slot, length-with_row}
+use Rattle.mm_thread.specs.declared.completion.Completion.{Completion, TheVariants.{Did, Blocked, Faulted}}
+use Rattle.mm_thread.specs.Ends.{is_alone, alone, EndsAlone}
+use Rattle.mm_thread.specs.SlotIndices.{no_row, row_at, slot_in, queue_in, with_slot, with_queue_in, event_writes}
+use Rattle.mm_thread.specs.{Tables.AreNumbered, Execution.{Leaves, effect_in}}
+use Rattle.mm_word.specs.{declared.cause.Cause.{Cause, TheVariants.{NoSlot, OutFull}}, Word.word_bits, Pointer.Pointer}
+use Rattle.mm_isa.specs.declared.instr.How.{How}
+use Rattle.mm_isa.specs.declared.instr.Instr.{Instr, TheVariants.{Out, Ld, St, Evt, Resume, Rreg, Wreg, Map, Unmap}}
+use Rattle.mm_model.specs.declared.slot.SlotState.{SlotState, TheVariants.{Running, Waiting, Taken, Halted}}
+use Rattle.mm_model.specs.{declared.event.Event.Event, Memory.Memory, Slot.{Slot, register, is_empty}}
+use Rattle.mm_model.specs.State.{ThreadRow, Core, slot_at, put_slot, put_queue, output_of, put_output}
+use Rattle.mm_model.specs.{Image.output_limit, Ask.{Ask, ask, Ask.Nothing}}
+use Rattle.mm_model.specs.Effect.{Change, Effect, effect, plain, resumed_by, delivered}
+use Rattle.mm_model.specs.Effect.{Reply.{Fine, Refused, Served}, Effect.{Fault, Block, Deliver, Do}}
+use Rattle.mm_model.specs.Turn.{reply, served, is_handler, is_taken, is_running, slot_after, core_after, memory_after}
+use Rattle.mm_model.specs.{Turn.{with_out, with_queue, with_other, with_cell, with_pages}, Fits.{is_waiting, IsCore}}
+use Rattle.mm_model.proofs.{CoreSteps.queued_waits, SlotSteps.delivered_from, TurnKeeps.changed_from}
 
 -- 1. An instruction that asks nothing.
 

@@ -1,16 +1,11 @@
 -- A core stays whole.
-use Rattle.std.proofs.Common.{◌≡◌, ℕ, ◌≤◌, Bool, List, [], ◌∷◌, length, map, Option, Some, None, refl, sym, ap, subst, arith}
-use Rattle.std.specs.List.{AllByRecursion}
-use Rattle.std.proofs.lemmas.List.{get_or_past}
-use Rattle.mm_model.specs.Memory.{Memory}
-use Rattle.mm_model.specs.Slot.{Slot}
+use Rattle.std.proofs.Common.{◌≡◌, ℕ, ◌≤◌, Bool, List, [], ◌∷◌, length, map, Option, Some, None, refl, sym, ap, subst}
+use Rattle.std.{proofs.{Common.arith, lemmas.List.get_or_past}, specs.List.AllByRecursion}
+use Rattle.mm_model.specs.{Memory.Memory, Slot.Slot}
 use Rattle.mm_model.specs.State.{ThreadRow, Core, row_in, slot_of, queue_of, slot_at, queue_at, output_of}
-use Rattle.mm_model.specs.Image.{output_limit}
-use Rattle.mm_model.specs.Spelling.{numbers_of}
-use Rattle.mm_model.specs.Fits.{identity_of, slots_of, LoadsAreConsistent, IsCore}
-use Rattle.mm_model.specs.Turn.{turn}
-use Rattle.mm_model.proofs.CoreRows.{each_map, each_both}
-use Rattle.mm_model.proofs.TurnKeeps.{core_keeps}
+use Rattle.mm_model.specs.{Image.output_limit, Spelling.numbers_of}
+use Rattle.mm_model.specs.{Fits.{identity_of, slots_of, LoadsAreConsistent, IsCore}, Turn.turn}
+use Rattle.mm_model.proofs.{CoreRows.{each_map, each_both}, TurnKeeps.core_keeps}
 
 numbers-identities : (slots : List Slot) → map (λ (i : ℕ × ℕ × Option ℕ). i.0) (map identity_of slots) ≡ numbers_of slots
 numbers-identities [] = refl

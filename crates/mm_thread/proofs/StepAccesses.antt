@@ -1,25 +1,13 @@
 -- A step tells exactly the accesses that its turn made.
-use Rattle.std.proofs.Common.{◌≡◌, ℕ, ◌≤◌, Bool, true, false, List, [], ◌∷◌, ◌++◌, Option, Some, None, refl, sym, ap, subst, arith}
-use Rattle.mm_word.specs.declared.perm.Kind.{Kind}
-use Rattle.mm_word.specs.declared.cause.Cause.{Cause}
-use Rattle.mm_word.specs.declared.word.Pre.{Pre}
-use Rattle.mm_word.specs.declared.word.Word.{Word}
-use Rattle.mm_word.specs.declared.word.Word.TheVariants.{Int}
-use Rattle.mm_word.specs.declared.word.Cell.{Cell}
-use Rattle.mm_word.specs.Access.{AccessValue}
+use Rattle.std.proofs.Common.{◌≡◌, ℕ, ◌≤◌, Bool, true, false, List, [], ◌∷◌, ◌++◌, Option, Some, None, refl, sym, ap}
+use Rattle.std.proofs.Common.{subst, arith}
+use Rattle.mm_word.specs.declared.{perm.Kind.Kind, cause.Cause.Cause}
+use Rattle.mm_word.specs.{declared.word.{Pre.Pre, Word.{Word, TheVariants.Int}, Cell.Cell}, Access.AccessValue}
 use Rattle.mm_isa.specs.declared.instr.Instr.{Instr}
-use Rattle.mm_model.specs.Memory.{Memory, cell_at, is_mapped}
-use Rattle.mm_model.specs.Slot.{Slot}
-use Rattle.mm_model.specs.State.{Core}
-use Rattle.mm_model.specs.Uses.{Use, use_at, accesses}
-use Rattle.mm_model.specs.Ask.{Ask, ask}
-use Rattle.mm_model.specs.Ask.Ask.{Reach, UnmapPage}
-use Rattle.mm_model.specs.Effect.{Effect, delivered}
-use Rattle.mm_model.specs.Effect.Effect.{Fault, Block, Deliver, Do}
-use Rattle.mm_model.specs.Fits.{IsCore}
-use Rattle.mm_model.specs.Turn.{Turned, removal_use, asked_use, touch_of, faulted, blocked, ended, executed}
-use Rattle.mm_model.specs.Turn.{idle}
-use Rattle.mm_model.specs.Turn.{turn}
+use Rattle.mm_model.specs.{Memory.{Memory, cell_at, is_mapped}, Slot.Slot, State.Core, Uses.{Use, use_at, accesses}}
+use Rattle.mm_model.specs.Ask.{Ask, ask, Ask.{Reach, UnmapPage}}
+use Rattle.mm_model.specs.{Effect.{Effect, delivered, Effect.{Fault, Block, Deliver, Do}}, Fits.IsCore}
+use Rattle.mm_model.specs.Turn.{Turned, removal_use, asked_use, touch_of, faulted, blocked, ended, executed, idle, turn}
 use Rattle.mm_model.specs.declared.step.Step.{Step}
 use Rattle.mm_model.proofs.TurnShapes.{fetch_uses, fetch_use, started_one, turn_by}
 use Rattle.mm_model.proofs.Causes.{EndsExactly, core_orderly, ends_exactly}

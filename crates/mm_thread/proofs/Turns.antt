@@ -1,38 +1,26 @@
 -- How the parts of a turn make it.
-use Rattle.std.proofs.Common.{◌≡◌, ℕ, ◌+◌, ◌<◌, ◌^◌, Bool, true, false, cond, eqb, eqb-true, List, [], ◌∷◌, length, map, Option, Some, None, Ok, Err, refl, sym, ap, subst, ◌∙◌, arith, pos}
-use Rattle.std.specs.Prelude.{◌&&◌, slice_index}
-use Rattle.std.proofs.lemmas.List.{set-set, length-map}
-use Rattle.mm_word.specs.declared.perm.Kind.TheVariants.{Fetch}
-use Rattle.mm_word.specs.declared.cause.Cause.{Cause}
-use Rattle.mm_word.specs.declared.cause.Cause.TheVariants.{Bounds}
-use Rattle.mm_word.specs.declared.word.Word.{Word}
-use Rattle.mm_word.specs.declared.word.Word.TheVariants.{Int, Ptr}
-use Rattle.mm_word.specs.declared.word.Cell.{Cell}
+use Rattle.std.proofs.Common.{◌≡◌, ℕ, ◌+◌, ◌<◌, ◌^◌, Bool, true, false, cond, eqb, eqb-true, List, [], ◌∷◌, length, map}
+use Rattle.std.proofs.Common.{Option, Some, None, Ok, Err, refl, sym, ap, subst, ◌∙◌, arith, pos}
+use Rattle.std.{proofs.lemmas.List.{set-set, length-map}, specs.Prelude.{◌&&◌, slice_index}}
+use Rattle.mm_word.specs.declared.{perm.Kind.TheVariants.Fetch, cause.Cause.{Cause, TheVariants.Bounds}}
+use Rattle.mm_word.specs.declared.word.{Word.{Word, TheVariants.{Int, Ptr}}, Cell.Cell}
 use Rattle.mm_word.specs.Access.{AccessValue, check_result}
 use Rattle.mm_isa.specs.declared.instr.Instr.{Instr}
-use Rattle.mm_model.specs.declared.slot.SlotState.TheVariants.{Running}
-use Rattle.mm_model.specs.declared.step.Step.{Step}
-use Rattle.mm_model.specs.declared.step.Tick.TheVariants.{Blocked}
-use Rattle.mm_model.specs.Memory.{Memory, cell_at}
-use Rattle.mm_model.specs.Slot.{Slot}
-use Rattle.mm_model.specs.State.{ThreadRow, Core, slot_at, at_number, put_slot}
+use Rattle.mm_model.specs.declared.{slot.SlotState.TheVariants.Running, step.{Step.Step, Tick.TheVariants.Blocked}}
+use Rattle.mm_model.specs.{Memory.{Memory, cell_at}, Slot.Slot, State.{ThreadRow, Core, slot_at, at_number, put_slot}}
 use Rattle.mm_model.specs.Uses.{Use, accesses, accesses-append, TakesUses, takes_both}
-use Rattle.mm_model.specs.Operands.{addr_operand, value_operand, lacks}
-use Rattle.mm_model.specs.Ask.{ask}
-use Rattle.mm_model.specs.Effect.{Effect, delivered}
-use Rattle.mm_model.specs.Effect.Effect.{Fault, Block, Deliver, Do}
-use Rattle.mm_model.specs.Turn.{Turned, stood, core_faulted, event_of, tick_faulted, faulted, blocked, ended, executed, issued, fetched, aimed, started, touch_of, asked_use}
-use Rattle.mm_model.proofs.SlotSteps.{delivered_from}
-use Rattle.mm_mem.specs.Answers.{fetched as fetched_answer}
-use Rattle.mm_thread.specs.declared.completion.Completion.{Completion}
-use Rattle.mm_thread.specs.declared.completion.Completion.TheVariants as completions
-use Rattle.mm_thread.specs.declared.completion.Retired.{Retired}
+use Rattle.mm_model.specs.{Operands.{addr_operand, value_operand, lacks}, Ask.ask}
+use Rattle.mm_model.specs.Effect.{Effect, delivered, Effect.{Fault, Block, Deliver, Do}}
+use Rattle.mm_model.specs.Turn.{Turned, stood, core_faulted, event_of, tick_faulted, faulted, blocked, ended, executed}
+use Rattle.mm_model.{specs.Turn.{issued, fetched, aimed, started, touch_of, asked_use}, proofs.SlotSteps.delivered_from}
+use Rattle.mm_mem.specs.{Answers.{fetched as fetched_answer}}
+use Rattle.mm_thread.specs.declared.completion.{Completion.Completion, Retired.Retired}
 use Rattle.mm_thread.specs.SlotIndices.{row_at, slot_in, with_row, with_slot, numbers_in}
 use Rattle.mm_thread.specs.Execution.{CanTurn, CanEnd, Leaves, effect_in, Executes, TakesTurn, core_ended, step_ended}
 use Rattle.mm_thread.specs.Tables.{AreNumbered}
-use Rattle.mm_thread.proofs.RowIndex.{apart_in}
-use Rattle.mm_thread.proofs.Index.{slot_found, put_slot-at, number-get, apart_by}
+use Rattle.mm_thread.proofs.{RowIndex.apart_in, Index.{slot_found, put_slot-at, number-get, apart_by}}
 use Rattle.mm_thread.proofs.Cores.{queue_in-slot, slot_in-same}
+use Rattle.mm_thread.specs.declared.completion.Completion.TheVariants as completions
 
 -- 1. A slot that is put in a core.
 

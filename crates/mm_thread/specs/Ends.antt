@@ -1,17 +1,9 @@
 -- What an instruction that concerns its slot alone leaves.
 use Rattle.std.specs.Prelude.{◌≡◌, Bool, true, false, Option, None, Result, Ok, Err}
-use Rattle.mm_word.specs.declared.cause.Cause.{Cause}
-use Rattle.mm_word.specs.declared.cause.Cause.TheVariants.{NotPointer}
-use Rattle.mm_word.specs.declared.word.Word.{Word}
-use Rattle.mm_word.specs.declared.word.Word.TheVariants.{Int, Ptr}
-use Rattle.mm_word.specs.Pointer.{Pointer}
-use Rattle.mm_isa.specs.declared.instr.Instr.{Instr}
-use Rattle.mm_isa.specs.declared.instr.Instr.TheVariants.{Out, Ld, St, Evt, Resume, Rreg, Wreg, Map, Unmap}
-use Rattle.mm_model.specs.Slot.{Slot}
-use Rattle.mm_model.specs.Effect.{Change, Effect}
-use Rattle.mm_model.specs.Effect.Pages.{Keep}
-use Rattle.mm_model.specs.Effect.Effect.{Fault, Do}
-use Rattle.mm_model.specs.Turn.{slot_after}
+use Rattle.mm_word.specs.declared.cause.Cause.{Cause, TheVariants.NotPointer}
+use Rattle.mm_word.specs.{declared.word.Word.{Word, TheVariants.{Int, Ptr}}, Pointer.Pointer}
+use Rattle.mm_isa.specs.declared.instr.Instr.{Instr, TheVariants.{Out, Ld, St, Evt, Resume, Rreg, Wreg, Map, Unmap}}
+use Rattle.mm_model.specs.{Slot.Slot, Effect.{Change, Effect, Pages.Keep, Effect.{Fault, Do}}, Turn.slot_after}
 
 -- the instructions that concern their slot alone
 abbrev pub is_alone : Instr → Bool

@@ -1,33 +1,22 @@
 -- What the execution of an instruction leaves of the machine before its turn is ended.
 use Rattle.std.specs.Prelude.{◌≡◌, ℕ, ◌+◌, ◌<◌, ◌^◌, true, List, [], length, nat_lt, if◌then◌else◌, Option, None}
 use Rattle.std.specs.Prelude.{Result, Ok, Err}
-use Rattle.mm_word.specs.declared.cause.Cause.{Cause}
-use Rattle.mm_word.specs.declared.cause.Cause.TheVariants.{Bounds, NoPage, Sync, Priv}
-use Rattle.mm_word.specs.Word.{word_bits}
+use Rattle.mm_word.specs.{declared.cause.Cause.{Cause, TheVariants.{Bounds, NoPage, Sync, Priv}}, Word.word_bits}
 use Rattle.mm_word.specs.Access.{AccessValue}
 use Rattle.mm_isa.specs.declared.instr.Instr.{Instr}
 use Rattle.mm_model.specs.declared.slot.SlotState.TheVariants.{Running}
-use Rattle.mm_model.specs.declared.step.Step.{Step}
-use Rattle.mm_model.specs.declared.step.Tick.TheVariants.{Did, Blocked}
-use Rattle.mm_model.specs.Memory.{Memory}
-use Rattle.mm_model.specs.Slot.{Slot, register}
-use Rattle.mm_model.specs.State.{Core, slot_at, put_slot}
-use Rattle.mm_model.specs.Uses.{Use, accesses, TakesUses}
-use Rattle.mm_model.specs.Operands.{addr_operand, value_operand}
-use Rattle.mm_model.specs.Ask.{ask, is_privileged}
-use Rattle.mm_model.specs.Effect.{Effect, effect, plain, loads}
-use Rattle.mm_model.specs.Effect.Effect.{Fault, Block, Deliver, Do}
+use Rattle.mm_model.specs.{declared.step.{Step.Step, Tick.TheVariants.{Did, Blocked}}, Memory.Memory}
+use Rattle.mm_model.specs.{Slot.{Slot, register}, State.{Core, slot_at, put_slot}, Uses.{Use, accesses, TakesUses}}
+use Rattle.mm_model.specs.{Operands.{addr_operand, value_operand}, Ask.{ask, is_privileged}}
+use Rattle.mm_model.specs.Effect.{Effect, effect, plain, loads, Effect.{Fault, Block, Deliver, Do}}
 use Rattle.mm_model.specs.Turn.{Turned, core_after, memory_after, reply, touch_of, asked_use, is_running, stood}
-use Rattle.mm_model.specs.Turn.{slot_after, core_faulted, event_of, tick_faulted}
-use Rattle.mm_model.specs.Fits.{IsCore}
-use Rattle.mm_mem.specs.declared.answer.Loaded.{Loaded}
-use Rattle.mm_mem.specs.declared.answer.Loaded.TheVariants as loads_as
-use Rattle.mm_mem.specs.declared.answer.Stored.{Stored}
-use Rattle.mm_mem.specs.declared.answer.Stored.TheVariants as stores_as
-use Rattle.mm_thread.specs.declared.completion.Completion.{Completion}
-use Rattle.mm_thread.specs.declared.completion.Completion.TheVariants as completions
-use Rattle.mm_thread.specs.declared.completion.Retired.{Retired}
+use Rattle.mm_model.specs.{Turn.{slot_after, core_faulted, event_of, tick_faulted}, Fits.IsCore}
+use Rattle.mm_mem.specs.declared.answer.{Loaded.Loaded, Stored.Stored}
+use Rattle.mm_thread.specs.declared.completion.{Completion.Completion, Retired.Retired}
 use Rattle.mm_thread.specs.SlotIndices.{slot_in, with_slot}
+use Rattle.mm_mem.specs.declared.answer.Loaded.TheVariants as loads_as
+use Rattle.mm_mem.specs.declared.answer.Stored.TheVariants as stores_as
+use Rattle.mm_thread.specs.declared.completion.Completion.TheVariants as completions
 
 -- 1. A slot that takes a turn.
 

@@ -1,9 +1,7 @@
 -- A core by its parts: slots, events and outputs.
 use Rattle.std.specs.Prelude.{◌≡◌, ℕ, Bool, ◌==◌, if◌then◌else◌, List, [], ◌∷◌, map, replicate, slice_set}
 use Rattle.std.specs.List.{AllByRecursion}
-use Rattle.mm_model.specs.declared.event.Event.{Event}
-use Rattle.mm_model.specs.Slot.{Slot}
-use Rattle.mm_model.specs.State.{ThreadRow, Core, output_of}
+use Rattle.mm_model.specs.{declared.event.Event.Event, Slot.Slot, State.{ThreadRow, Core, output_of}}
 use Rattle.mm_model.specs.Fits.{identity_of, slots_of, IsCore}
 use Rattle.mm_thread.specs.Output.{Output}
 

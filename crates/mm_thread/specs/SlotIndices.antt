@@ -1,16 +1,9 @@
 -- Slots by their indices in the table of rows.
 use Rattle.std.specs.Prelude.{ℕ, ◌+◌, ◌*◌, false, List, [], ◌∷◌, slice_set, slice_index_or, Option, None, Some}
-use Rattle.mm_word.specs.declared.perm.Perm.TheVariants.{Xu}
+use Rattle.mm_word.specs.declared.{perm.Perm.TheVariants.Xu, word.Word.{Word, TheVariants.{Int, Ptr}}}
 use Rattle.mm_word.specs.Cause.{number_of}
-use Rattle.mm_word.specs.declared.word.Word.{Word}
-use Rattle.mm_word.specs.declared.word.Word.TheVariants.{Int, Ptr}
-use Rattle.mm_model.specs.declared.slot.SlotState.TheVariants.{Running}
-use Rattle.mm_model.specs.declared.event.Event.{Event}
-use Rattle.mm_model.specs.declared.slot.Pending.{Pending}
-use Rattle.mm_model.specs.Slot.{Slot}
-use Rattle.mm_model.specs.State.{ThreadRow, Core}
-use Rattle.mm_model.specs.Spelling.{numbers_of}
-use Rattle.mm_model.specs.Fits.{slots_of}
+use Rattle.mm_model.specs.declared.{slot.{SlotState.TheVariants.Running, Pending.Pending}, event.Event.Event}
+use Rattle.mm_model.specs.{Slot.Slot, State.{ThreadRow, Core}, Spelling.numbers_of, Fits.slots_of}
 
 -- the slot past the end of the table
 abbrev pub no_slot : Slot

@@ -1,9 +1,7 @@
 -- The accesses that a step tells, and those that were made.
 use Rattle.std.specs.Prelude.{ℕ, List, [], ◌∷◌, ◌++◌, Option, Some, None}
-use Rattle.mm_word.specs.declared.perm.Kind.{Kind}
-use Rattle.mm_word.specs.Access.{AccessValue}
-use Rattle.mm_model.specs.declared.step.Step.{Step}
-use Rattle.mm_model.specs.Uses.{Use, Accessed, Removed}
+use Rattle.mm_word.specs.{declared.perm.Kind.Kind, Access.AccessValue}
+use Rattle.mm_model.specs.{declared.step.Step.Step, Uses.{Use, Accessed, Removed}}
 
 -- the accesses among uses, each with its kind and its word
 abbrev pub accesses_in : List Use → List (Kind × ℕ)

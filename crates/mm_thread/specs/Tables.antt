@@ -1,11 +1,7 @@
 -- What the table of rows keeps beside its rows: the set of running slots as bits, and the indices of slots, both by
 -- number.
-use Rattle.std.specs.Prelude.{◌≡◌, ◌≢◌, ℕ, ◌<◌, List, length, slice_index, slice_index_or}
-use Rattle.std.specs.Int.{bit_at}
-use Rattle.mm_model.specs.Slot.{Slot}
-use Rattle.mm_model.specs.State.{ThreadRow}
-use Rattle.mm_model.specs.Turn.{is_running}
-use Rattle.mm_model.specs.Flags.{one_if}
+use Rattle.std.specs.{Prelude.{◌≡◌, ◌≢◌, ℕ, ◌<◌, List, length, slice_index, slice_index_or}, Int.bit_at}
+use Rattle.mm_model.specs.{Slot.Slot, State.ThreadRow, Turn.is_running, Flags.one_if}
 use Rattle.mm_thread.specs.SlotIndices.{no_row}
 
 abbrev pub slot_of_row : List ThreadRow → ℕ → Slot

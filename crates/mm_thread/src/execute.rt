@@ -5,8 +5,8 @@ ghost use Rattle.mm_model.specs.Operands.{lacks};
 ghost use Rattle.mm_thread.specs.SlotIndices.{slot_in};
 ghost use Rattle.mm_thread.specs.Execution.{CanTurn, Executes};
 
-use crate::memory_ops::{MemoryOperand, load, map, store, unmap, untouched};
 use crate::completion::Retired;
+use crate::memory_ops::{MemoryOperand, load, map, store, unmap, untouched};
 use crate::slot_ops::{go_alone, next_event, put_out, read_register, resume, write_register};
 use crate::tables::Tables;
 use mm_isa::Instr;
@@ -66,7 +66,9 @@ pub(crate) fn execute<M: Memory>(
         Instr::Evt { rd } => untouched(next_event(tables, slot_index, *rd)),
         Instr::Resume { ra, how } => untouched(resume(tables, slot_index, *ra, *how)),
         Instr::Rreg { rd, ra, reg } => untouched(read_register(tables, slot_index, *rd, *ra, *reg)),
-        Instr::Wreg { ra, rb, reg } => untouched(write_register(tables, slot_index, *ra, *rb, *reg)),
+        Instr::Wreg { ra, rb, reg } => untouched(write_register(
+            tables, slot_index, *ra, *rb, *reg,
+        )),
         Instr::Map { rd, ra } => map(tables, slot_index, mem, *rd, *ra),
         Instr::Unmap { rd, ra } => unmap(tables, slot_index, mem, *rd, *ra),
         _ => untouched(go_alone(tables, slot_index, instr)),

@@ -18,6 +18,7 @@
 
 mod build;
 mod carry_out;
+mod completion;
 mod execute;
 mod fault;
 mod group_output;
@@ -25,7 +26,6 @@ mod item;
 mod local_ops;
 mod memory_ops;
 mod operands;
-mod completion;
 mod output;
 mod queue;
 mod restore;

@@ -10,8 +10,8 @@ ghost use Rattle.mm_thread.specs.SlotIndices.{slot_in};
 ghost use Rattle.mm_thread.specs.Execution.{CanTurn, Executes, core_loaded, completion_loaded, core_stored};
 ghost use Rattle.mm_thread.specs.Execution.{completion_stored, page_named};
 
-use crate::local_ops::{flag, is_privileged};
 use crate::completion::{Completion, Retired};
+use crate::local_ops::{flag, is_privileged};
 use crate::slot::word_of;
 use crate::tables::Tables;
 use mm_isa::{Instr, Reg};
@@ -45,7 +45,12 @@ pub(crate) fn load<M: Memory>(
     ensures { Executes M.meaning M.uses M.stands tables.old (slot_in tables.old slot_index)
         (Instr.Ld rd at.base at.pre at.post at.offset) mem.old mem.new tables.new result }
 {
-    match reach(tables.slot(slot_index), at.base, at.offset, load_kind(at.post)) {
+    match reach(
+        tables.slot(slot_index),
+        at.base,
+        at.offset,
+        load_kind(at.post),
+    ) {
         Err(cause) => untouched(Completion::Faulted(cause)),
         Ok(access) => {
             let loaded = mem.load(&access, at.pre, at.post);

@@ -8,10 +8,10 @@ ghost use Rattle.mm_model.specs.Turn.{issued, fetched, started, instr_in, core_f
 ghost use Rattle.mm_thread.specs.SlotIndices.{slot_in};
 ghost use Rattle.mm_thread.specs.Execution.{CanTurn, CanEnd, TakesTurn, core_ended, step_ended};
 
+use crate::completion::{Completion, Retired};
 use crate::execute::execute;
 use crate::fault::fault;
 use crate::operands::{addr_operand, lacks, value_operand};
-use crate::completion::{Completion, Retired};
 use crate::tables::Tables;
 use mm_isa::{Instr, read};
 use mm_mem::Memory;
@@ -64,7 +64,13 @@ fn fail_fetch(
 }
 
 /// Goes on with the turn from the fetch.
-fn fetch<M: Memory>(tables: &mut Tables, slot_index: usize, mem: &mut M, access: Access, step: &mut Step)
+fn fetch<M: Memory>(
+    tables: &mut Tables,
+    slot_index: usize,
+    mem: &mut M,
+    access: Access,
+    step: &mut Step,
+)
     requires can { CanTurn tables.old slot_index }
     requires room { M.uses mem.old < 2 ^ 61 }
     requires kind { access.kind ≡ Kind.Fetch }
@@ -141,7 +147,10 @@ fn end(tables: &mut Tables, slot_index: usize, instr: &Instr, retired: Retired, 
     ensures step { step.new
         ≡ step_ended step.old.slot (slot_in tables.old slot_index) step.old.fetched retired.touched retired.completion }
 {
-    let Retired { completion, touched } = retired;
+    let Retired {
+        completion,
+        touched,
+    } = retired;
     step.touched = touched;
     step.entered = None;
     match completion {

@@ -110,7 +110,11 @@ impl Tables {
             return None;
         }
         let slot_index = self.index[number as usize] as usize;
-        if slot_index < count { Some(slot_index) } else { None }
+        if slot_index < count {
+            Some(slot_index)
+        } else {
+            None
+        }
     }
 
     /// The slot at `slot_index`.

@@ -1,13 +1,10 @@
 -- Texts, objects and images, one after the other.
 use Rattle.std.proofs.Common.{◌≡◌, ℕ, List, [], ◌∷◌, refl, sym, ◌∙◌, subst}
-use Rattle.mm_model.specs.Image.{Image}
+use Rattle.mm_model.specs.{Image.Image, Report.report_after}
 use Rattle.mm_object.specs.Objects.{Object}
 use Rattle.mm_link.specs.Linked.{Linked}
-use Rattle.mm_top.specs.Orders.{AreIssued}
-use Rattle.mm_model.specs.Report.{report_after}
-use Rattle.mm_top.specs.TextToRun.{AssembleAll, RunsTexts, TextsAreRun}
+use Rattle.mm_top.{specs.{Orders.AreIssued, TextToRun.{AssembleAll, RunsTexts, TextsAreRun}}, proofs.Once.same_objects}
 use Rattle.mm_load.proofs.KindsOnce.{one_object, one_spelled}
-use Rattle.mm_top.proofs.Once.{same_objects}
 
 -- what is read from the files is what was written to them
 same_values : (texts : List (List ℕ)) (objects : List Object) (files : List (List ℕ)) (values : List Object) → AssembleAll texts objects files values → values ≡ objects

@@ -1,9 +1,6 @@
 -- A report with a count line is one without it, and the line behind.
 use Rattle.std.proofs.Common.{◌≡◌, ℕ, List, ◌++◌, Some, None, sym, ap, append-nil}
-use Rattle.mm_model.specs.declared.counts.Counts.{Counts}
-use Rattle.mm_model.specs.State.{State}
-use Rattle.mm_model.specs.Image.{Image, start}
-use Rattle.mm_model.specs.Run.{run, uses}
+use Rattle.mm_model.specs.{declared.counts.Counts.Counts, State.State, Image.{Image, start}, Run.{run, uses}}
 use Rattle.mm_model.specs.Counted.{counts_of}
 use Rattle.mm_model.specs.Report.{report, count_line, cycles_line, sections, page_lines, cell_lines}
 use Rattle.mm_top.specs.Memories.{CountsStandBehind}

@@ -1,34 +1,16 @@
 -- The headline, from what the answer to the words says.
-use Rattle.std.proofs.Common.{◌≡◌, ℕ, Bool, List, [], ◌∷◌, ◌++◌, Option, sym, subst}
-use Rattle.std.specs.Io.KnownBytes.{append_known}
-use Rattle.mm_model.specs.declared.counts.Counts.{Counts}
-use Rattle.mm_model.specs.Uses.{Use}
-use Rattle.mm_model.specs.Groups.{HasSlot}
-use Rattle.mm_model.specs.Image.{Image, start}
-use Rattle.mm_model.specs.Reach.Entries.{All}
-use Rattle.mm_model.specs.Report.{report_after}
-use Rattle.mm_model.specs.Run.{uses}
-use Rattle.mm_model.specs.Spelling.{IsImage}
-use Rattle.mm_model.specs.State.{State}
-use Rattle.mm_model.specs.Trace.{trace as trace_of}
-use Rattle.mm_model.specs.Worlds.{Apart}
-use Rattle.mm_laws.specs.Runs.{Isolates}
-use Rattle.mm_laws.proofs.WholeRuns.{runs_reach, runs_isolate}
-use Rattle.mm_load.specs.declared.status.Status.{Status}
-use Rattle.mm_load.specs.declared.status.Status.TheVariants.{Done}
-use Rattle.mm_load.specs.Files.{FilesAccepted}
+use Rattle.std.{proofs.Common.{◌≡◌, ℕ, Bool, List, [], ◌∷◌, ◌++◌, Option, sym, subst}, specs.Io.KnownBytes.append_known}
+use Rattle.mm_model.specs.{declared.counts.Counts.Counts, Uses.Use, Groups.HasSlot, Image.{Image, start}}
+use Rattle.mm_model.specs.{Reach.Entries.All, Report.report_after, Run.uses, Spelling.IsImage, State.State}
+use Rattle.mm_model.specs.{Trace.{trace as trace_of}, Worlds.Apart}
+use Rattle.mm_laws.{specs.Runs.Isolates, proofs.WholeRuns.{runs_reach, runs_isolate}}
+use Rattle.mm_load.specs.{declared.status.Status.{Status, TheVariants.Done}, Files.FilesAccepted}
 use Rattle.mm_load.specs.Kinds.{Value, an_image}
-use Rattle.mm_cli.specs.Table.{Row, Matches, files_of}
-use Rattle.mm_log.proofs.Logs.{logs_replay}
-use Rattle.mm_top.specs.Commands.{run, trace, log}
-use Rattle.mm_top.specs.Answers.{Answers, Call, RowComesTo, write}
-use Rattle.mm_top.specs.Headline.{RunIsProved, LogIsProved, no_turns}
-use Rattle.mm_top.specs.Orders.{AreIssued}
-use Rattle.mm_log.specs.Log.{log_text}
-use Rattle.mm_top.proofs.TracedSections.{traces_isolate}
-use Rattle.mm_top.proofs.LoggedSections.{logs_isolate}
-use Rattle.mm_top.proofs.Verdicts.{done}
-use Rattle.mm_cli.proofs.Rows.{one_row}
+use Rattle.mm_cli.{specs.Table.{Row, Matches, files_of}, proofs.Rows.one_row}
+use Rattle.mm_log.{proofs.Logs.logs_replay, specs.Log.log_text}
+use Rattle.mm_top.specs.{Commands.{run, trace, log}, Answers.{Answers, Call, RowComesTo, write}}
+use Rattle.mm_top.specs.{Headline.{RunIsProved, LogIsProved, no_turns}, Orders.AreIssued}
+use Rattle.mm_top.proofs.{TracedSections.traces_isolate, LoggedSections.logs_isolate, Verdicts.done}
 
 -- 1. What is proved of a command, from what its row comes to.
 

@@ -1,21 +1,15 @@
 -- A row that reads standard input behind its files.
-use Rattle.std.proofs.Common.{◌≡◌, ℕ, inl, inr, List, [], ◌∷◌, ◌++◌, Option, None, Some, true, false, Result, Ok, Err, refl, sym, subst}
-use Rattle.std.specs.Option.{IsSome}
-use Rattle.std.specs.Result.{IsErrAnd, OnOk}
+use Rattle.std.proofs.Common.{◌≡◌, ℕ, inl, inr, List, [], ◌∷◌, ◌++◌, Option, None, Some, true, false, Result, Ok, Err}
+use Rattle.std.{proofs.Common.{refl, sym, subst}, specs.{Option.IsSome, Result.{IsErrAnd, OnOk}}}
 use Rattle.mm_io.specs.Files.{Rose}
-use Rattle.mm_model.specs.declared.counts.Counts.{Counts}
-use Rattle.mm_model.specs.Uses.{Use}
-use Rattle.mm_load.specs.declared.status.Status.TheVariants.{Done}
-use Rattle.mm_load.specs.declared.status.CommandError.{CommandError}
-use Rattle.mm_load.specs.declared.status.CommandError.TheVariants as stop
-use Rattle.mm_cli.specs.declared.table.Kind.{Kind}
-use Rattle.mm_load.specs.Kinds.{Value}
-use Rattle.mm_load.specs.Files.{Reading, Drawing, DrawnBehind, FilesRead, FilesAccepted, FilesRefused, FilesFailed, InputRead, InputRefused, InputsAccepted, InputsRefused, InputsFailed, Stops}
-use Rattle.mm_cli.specs.Table.{Row, Matches, files_of, input_of}
-use Rattle.mm_top.specs.Commands.{Yields}
-use Rattle.mm_top.specs.Answers.{Call, call, Writing, EndsWith, RowEnds, status_of}
+use Rattle.mm_model.specs.{declared.counts.Counts.Counts, Uses.Use}
+use Rattle.mm_load.specs.{declared.status.{Status.TheVariants.Done, CommandError.CommandError}, Kinds.Value}
+use Rattle.mm_load.specs.Files.{Reading, Drawing, DrawnBehind, FilesRead, FilesAccepted, FilesRefused, FilesFailed}
+use Rattle.mm_load.specs.Files.{InputRead, InputRefused, InputsAccepted, InputsRefused, InputsFailed, Stops}
 use Rattle.mm_load.proofs.Reading.{stops_first}
-use Rattle.mm_cli.proofs.Rows.{one_row}
+use Rattle.mm_cli.{specs.{declared.table.Kind.Kind, Table.{Row, Matches, files_of, input_of}}, proofs.Rows.one_row}
+use Rattle.mm_top.specs.{Commands.Yields, Answers.{Call, call, Writing, EndsWith, RowEnds, status_of}}
+use Rattle.mm_load.specs.declared.status.CommandError.TheVariants as stop
 
 -- 1. Files, and standard input behind them.
 

@@ -1,24 +1,15 @@
 -- What an order issues.
 use Rattle.std.proofs.Common.{◌≡◌, ℕ, ◌≤◌, List, [], length, Option, None, refl, ap, ◌∙◌, subst}
 use Rattle.mm_mem.specs.declared.memory.Memory.{Ghosts}
-use Rattle.mm_model.specs.State.{State}
-use Rattle.mm_model.specs.Image.{Image, start}
-use Rattle.mm_machine.specs.declared.machine.Machine.{Machine}
-use Rattle.mm_machine.specs.Machine.{state_of, StandsFor}
-use Rattle.mm_sched.specs.declared.schedule.Order.{Order}
-use Rattle.mm_sched.specs.declared.schedule.Order.TheVariants as order
-use Rattle.mm_sched.specs.Orders.{items_of, items_from, last_from}
-use Rattle.mm_model.specs.Spelling.{IsImage}
-use Rattle.mm_machine.specs.Snapshot.{Parts, IsSnapshotOf}
-use Rattle.mm_checkpoint.specs.{Checkpoints.saved_of, Format.spelling}
-use Rattle.mm_checkpoint.proofs.Forms.{have_forms}
-use Rattle.mm_machine.specs.Going.{WentOn}
+use Rattle.mm_model.specs.{State.State, Image.{Image, start}, Spelling.IsImage}
+use Rattle.mm_machine.specs.{declared.machine.Machine.Machine, Machine.{state_of, StandsFor}}
+use Rattle.mm_machine.specs.{Snapshot.{Parts, IsSnapshotOf}, Going.WentOn}
+use Rattle.mm_machine.proofs.{Rounds.{robin_length, first_length}, Went.went_from_start}
+use Rattle.mm_sched.specs.{declared.schedule.Order.Order, Orders.{items_of, items_from, last_from}}
+use Rattle.mm_checkpoint.{specs.{Checkpoints.saved_of, Format.spelling}, proofs.Forms.have_forms}
 use Rattle.mm_load.specs.Kinds.{values_of}
-use Rattle.mm_top.specs.Saving.{last_issued, saved_after}
-use Rattle.mm_top.specs.Orders.{AreIssuedFrom}
-use Rattle.mm_top.proofs.Reported.{start_state}
-use Rattle.mm_machine.proofs.Rounds.{robin_length, first_length}
-use Rattle.mm_machine.proofs.Went.{went_from_start}
+use Rattle.mm_top.{specs.{Saving.{last_issued, saved_after}, Orders.AreIssuedFrom}, proofs.Reported.start_state}
+use Rattle.mm_sched.specs.declared.schedule.Order.TheVariants as order
 
 -- behind no slot an order issues its items from the start on
 pub items_from_start : (o : Order) (s : State) (count : ℕ) → items_from o s None count ≡ items_of o s count

@@ -1,25 +1,14 @@
 -- Nets of images: links whose nodes are there, machines at their start, and room for what is sent.
 use Rattle.std.proofs.Common.{◌≡◌, ℕ, ◌+◌, ◌<◌, ◌≤◌, inl, inr, List, [], ◌∷◌, ◌++◌, length, get_or, take, drop, cond}
 use Rattle.std.proofs.Common.{slice_get, Option, Some, Result, Ok, Err, refl, sym, ap, ◌∙◌, subst, arith, append_assoc}
-use Rattle.std.specs.Prelude.{IsSomeAnd, IfOk}
-use Rattle.std.specs.List.{All, AllZip, count_by}
-use Rattle.std.proofs.lemmas.Bool.{cases_lt}
-use Rattle.std.proofs.lemmas.List.{take_more}
-use Rattle.std.proofs.lemmas.List.Sums.{sum_by-drop_more}
-use Rattle.std.proofs.lemmas.Option.{slice_get-get_or}
-use Rattle.std.proofs.lemmas.Slice.Zip.{AllZip-long}
+use Rattle.std.proofs.lemmas.{Bool.cases_lt, List.{take_more, Sums.sum_by-drop_more}, Option.slice_get-get_or}
+use Rattle.std.{proofs.lemmas.Slice.Zip.AllZip-long, specs.{Prelude.{IsSomeAnd, IfOk}, List.{All, AllZip, count_by}}}
 use Rattle.mm_mem.specs.declared.memory.Memory.{Ghosts}
-use Rattle.mm_model.specs.State.{State}
-use Rattle.mm_model.specs.Image.{Image, start}
-use Rattle.mm_machine.specs.declared.machine.Machine.{Machine}
-use Rattle.mm_machine.specs.Machine.{state_of, ports_used, StandsFor}
-use Rattle.mm_net.specs.declared.link.Link.{Link}
-use Rattle.mm_net.specs.declared.item.NetItem.{NetItem}
-use Rattle.mm_net.specs.declared.item.NetItem.TheVariants.{Turn, Send, Carry}
-use Rattle.mm_net.specs.Nets.{NetState, net_after}
-use Rattle.mm_net.specs.Net.{HasNodes, AllStart, IsUnused, sent_count}
-use Rattle.mm_net.proofs.NetRuns.{after_count}
-use Rattle.mm_net.proofs.SentCounts.{sends, after_sent}
+use Rattle.mm_model.specs.{State.State, Image.{Image, start}}
+use Rattle.mm_machine.specs.{declared.machine.Machine.Machine, Machine.{state_of, ports_used, StandsFor}}
+use Rattle.mm_net.specs.declared.{link.Link.Link, item.NetItem.{NetItem, TheVariants.{Turn, Send, Carry}}}
+use Rattle.mm_net.specs.{Nets.{NetState, net_after}, Net.{HasNodes, AllStart, IsUnused, sent_count}}
+use Rattle.mm_net.proofs.{NetRuns.after_count, SentCounts.{sends, after_sent}}
 use Rattle.mm_top.specs.Nodes.{NoneLacking, is_send}
 
 -- 1. Links.

@@ -1,21 +1,14 @@
 -- What groups see of what `log` writes: whole lines stand before the report.
-use Rattle.std.proofs.Common.{ℕ, inl, inr, Bool, true, false, List, [], ◌∷◌, ◌++◌, Option, codes, decimal, refl, sym, append_assoc}
+use Rattle.std.proofs.Common.{ℕ, inl, inr, Bool, true, false, List, [], ◌∷◌, ◌++◌, Option, codes, decimal, refl, sym}
+use Rattle.std.proofs.Common.{append_assoc}
 use Rattle.mm_word.specs.declared.word.Word.TheVariants.{Ptr}
-use Rattle.mm_model.specs.declared.counts.Counts.{Counts}
-use Rattle.mm_model.specs.Digits.{hex}
-use Rattle.mm_model.specs.Lines.{newline, cell_line, word_text, state_text, full_text}
-use Rattle.mm_model.specs.Image.{Image, start}
-use Rattle.mm_model.specs.Groups.{HasSlot}
-use Rattle.mm_model.specs.Run.{run}
-use Rattle.mm_model.specs.Report.{report}
-use Rattle.mm_model.specs.Spelling.{IsImage}
-use Rattle.mm_model.specs.Reach.Entries.{All}
-use Rattle.mm_model.specs.Worlds.{Apart}
-use Rattle.mm_laws.specs.Runs.{EndsALine, AreLinesOf, Isolates}
-use Rattle.mm_laws.proofs.WholeRuns.{runs_isolate}
+use Rattle.mm_model.specs.{declared.counts.Counts.Counts, Digits.hex}
+use Rattle.mm_model.specs.{Lines.{newline, cell_line, word_text, state_text, full_text}, Image.{Image, start}}
+use Rattle.mm_model.specs.{Groups.HasSlot, Run.run, Report.report, Spelling.IsImage, Reach.Entries.All, Worlds.Apart}
+use Rattle.mm_laws.{specs.Runs.{EndsALine, AreLinesOf, Isolates}, proofs.WholeRuns.runs_isolate}
 use Rattle.mm_log.specs.Lines.{Line, line_text, event_text, register_text}
-use Rattle.mm_log.specs.Lines.Line.{Traced, Points, Enters, Holds, Empties, Issues, Queues, Reads, Puts, Maps, Removes, Sets}
-use Rattle.mm_log.specs.Log.{log, log_text, text_of}
+use Rattle.mm_log.specs.Lines.Line.{Traced, Points, Enters, Holds, Empties, Issues, Queues, Reads, Puts, Maps, Removes}
+use Rattle.mm_log.specs.{Lines.Line.Sets, Log.{log, log_text, text_of}}
 use Rattle.mm_top.proofs.TracedSections.{both, step_ends, later}
 
 literal_ends : (a b : List ℕ) → EndsALine (a ++ (b ++ newline))

@@ -1,9 +1,7 @@
 -- An image as version 2 is an image.
 use Rattle.std.proofs.Common.{◌≡◌, ℕ, ◌≤◌, ◌⊎◌, inl, inr, Bool, refl, sym, subst, arith}
 use Rattle.mm_machine.proofs.Starting.{at_most_64, widened}
-use Rattle.mm_model.specs.Image.{Image, slot_limit, frame_limit}
-use Rattle.mm_model.specs.Spelling.{IsImage, IsFresh}
-use Rattle.mm_model.specs.Worlds.{migrated}
+use Rattle.mm_model.specs.{Image.{Image, slot_limit, frame_limit}, Spelling.{IsImage, IsFresh}, Worlds.migrated}
 use Rattle.mm_model.proofs.CoreRows.{each_map}
 
 more_frames : (version : ℕ) → (version ≡ 1) ⊎ (version ≡ 2) → frame_limit version ≤ 4096

@@ -1,13 +1,10 @@
 -- Files that are read by the names that words say.
 use Rattle.std.proofs.Common.{◌≡◌, ℕ, List, [], ◌∷◌, map, Option, Result, String, sym, ap, ◌∙◌, subst}
 use Rattle.std.specs.declared.alloc.Global.{Global}
-use Rattle.mm_cli.specs.declared.table.Kind.{Kind}
-use Rattle.mm_cli.specs.declared.table.Kind.TheVariants.{Schedule as schedule_file}
+use Rattle.mm_cli.specs.declared.{table.{Kind.{Kind, TheVariants.{Schedule as schedule_file}}}}
 use Rattle.mm_cli.specs.Words.{file_word, files_in, optional, texts}
-use Rattle.mm_load.specs.declared.status.CommandError.{CommandError}
-use Rattle.mm_load.specs.Kinds.{Value}
-use Rattle.mm_load.specs.Files.{Reading, FilesRead, files_named}
-use Rattle.mm_load.proofs.Several.{files_in_words}
+use Rattle.mm_load.specs.{declared.status.CommandError.CommandError, Kinds.Value}
+use Rattle.mm_load.{specs.Files.{Reading, FilesRead, files_named}, proofs.Several.files_in_words}
 
 -- one file
 pub named : {T : Type 0} {r : Reading} {before : List Value} {kind : Kind} {values : T → List Value} {result : Result T CommandError}

@@ -1,33 +1,25 @@
 -- Words whose inputs are told come to one thing: a text, or one refusal.
-use Rattle.std.proofs.Common.{◌≡◌, ℕ, ◌⊎◌, inl, inr, Bool, List, [], ◌∷◌, map, length, true, false, Option, None, Some, Result, Ok, Err, refl, sym, ap, ◌∙◌, subst, arith}
-use Rattle.mm_model.specs.declared.counts.Counts.{Counts}
-use Rattle.mm_model.specs.Uses.{Use}
-use Rattle.mm_model.specs.Image.{Image}
+use Rattle.std.proofs.Common.{◌≡◌, ℕ, ◌⊎◌, inl, inr, Bool, List, [], ◌∷◌, map, length, true, false, Option, None, Some}
+use Rattle.std.proofs.Common.{Result, Ok, Err, refl, sym, ap, ◌∙◌, subst, arith}
+use Rattle.mm_model.specs.{declared.counts.Counts.Counts, Uses.Use, Image.Image, Groups.among}
 use Rattle.mm_object.specs.Objects.{Object}
-use Rattle.mm_link.specs.declared.fault.LinkFault.{LinkFault}
-use Rattle.mm_link.specs.Faults.{link_fault}
-use Rattle.mm_model.specs.Groups.{among}
+use Rattle.mm_link.specs.{declared.fault.LinkFault.LinkFault, Faults.link_fault}
 use Rattle.mm_audit.specs.Refusals.{StandAlone}
 use Rattle.mm_sweep.specs.Refusals.{CanSweep}
-use Rattle.mm_load.specs.declared.status.Refusal.{Refusal}
-use Rattle.mm_load.specs.declared.status.Refusal.TheVariants as refusal
-use Rattle.mm_load.specs.declared.status.Status.{Status}
-use Rattle.mm_load.specs.declared.status.Status.TheVariants.{Done, NoMemory}
+use Rattle.mm_load.specs.declared.status.{Refusal.Refusal, Status.{Status, TheVariants.{Done, NoMemory}}}
 use Rattle.mm_load.specs.declared.status.CommandError.{CommandError}
-use Rattle.mm_load.specs.declared.status.CommandError.TheVariants as stop
-use Rattle.mm_top.specs.Groups.{GroupsRefused}
-use Rattle.mm_net.specs.declared.link.Link.{Link}
 use Rattle.mm_load.specs.Kinds.{Value, an_image, a_list, an_object, a_links, an_events}
-use Rattle.mm_top.specs.Nodes.{LacksNode, NoneLacking, JoinRefused}
-use Rattle.mm_top.specs.Ranges.{SweepRefused}
-use Rattle.mm_cli.specs.declared.table.Command.{Command}
-use Rattle.mm_cli.specs.declared.table.Command.TheVariants as commands
-use Rattle.mm_cli.specs.Words.{Word, groups_word, number_word, range_word}
-use Rattle.mm_cli.specs.Table.{Row, files_of, input_of}
-use Rattle.mm_top.specs.Commands.{Declines, DeclinesAt, Yields, YieldsAt, LinkRefused, IsLinked}
-use Rattle.mm_top.specs.Answers.{Answers, Call, RowComesTo, HasToRefuse, ToldToRefuse, NothingFails, RefusedUnless, RowEnds, refuse, write, status_of}
-use Rattle.mm_cli.proofs.Rows.{one_row}
 use Rattle.mm_load.proofs.Told.{inputs_values, inputs_once, told_inputs_refusal, told_inputs_once}
+use Rattle.mm_top.specs.{Groups.GroupsRefused, Nodes.{LacksNode, NoneLacking, JoinRefused}, Ranges.SweepRefused}
+use Rattle.mm_top.specs.Commands.{Declines, DeclinesAt, Yields, YieldsAt, LinkRefused, IsLinked}
+use Rattle.mm_top.specs.Answers.{Answers, Call, RowComesTo, HasToRefuse, ToldToRefuse, NothingFails, RefusedUnless}
+use Rattle.mm_top.specs.Answers.{RowEnds, refuse, write, status_of}
+use Rattle.mm_net.specs.declared.link.Link.{Link}
+use Rattle.mm_cli.specs.{declared.table.Command.Command, Words.{Word, groups_word, number_word, range_word}}
+use Rattle.mm_cli.{specs.Table.{Row, files_of, input_of}, proofs.Rows.one_row}
+use Rattle.mm_load.specs.declared.status.Refusal.TheVariants as refusal
+use Rattle.mm_load.specs.declared.status.CommandError.TheVariants as stop
+use Rattle.mm_cli.specs.declared.table.Command.TheVariants as commands
 
 -- 1. Groups stand alone, or have one refusal.
 

@@ -1,19 +1,12 @@
 -- Which items the members of an image keep.
-use Rattle.std.proofs.Common.{◌≡◌, ℕ, zero, suc, ◌+◌, inl, inr, Bool, true, false, ◌==◌, if◌then◌else◌, List, [], ◌∷◌, ◌++◌, refl, sym, ap, ◌∙◌, subst, arith, eqb-true, eq-eqb}
-use Rattle.std.specs.Prelude.{Contains}
-use Rattle.std.specs.List.{filter, list_any}
-use Rattle.std.proofs.lemmas.Bool.{or_cases, or_left, or_right}
-use Rattle.std.proofs.lemmas.List.Elements.{filter_agree}
-use Rattle.std.proofs.lemmas.List.Folds.{list_any-append}
-use Rattle.mm_model.specs.Slot.{Slot}
-use Rattle.mm_model.specs.Image.{Image}
-use Rattle.mm_model.specs.Groups.{own_slots, HasSlotAt}
-use Rattle.mm_model.specs.Spelling.{IsImage}
-use Rattle.mm_model.specs.Schedule.{is_kept, only}
-use Rattle.mm_model.specs.Worlds.{alone}
+use Rattle.std.proofs.Common.{◌≡◌, ℕ, zero, suc, ◌+◌, inl, inr, Bool, true, false, ◌==◌, if◌then◌else◌, List, [], ◌∷◌}
+use Rattle.std.proofs.Common.{◌++◌, refl, sym, ap, ◌∙◌, subst, arith, eqb-true, eq-eqb}
+use Rattle.std.proofs.lemmas.{Bool.{or_cases, or_left, or_right}, List.{Elements.filter_agree, Folds.list_any-append}}
+use Rattle.std.specs.{Prelude.Contains, List.{filter, list_any}}
+use Rattle.mm_model.specs.{Slot.Slot, Image.Image, Groups.{own_slots, HasSlotAt}, Spelling.IsImage}
+use Rattle.mm_model.specs.{Schedule.{is_kept, only}, Worlds.alone}
 use Rattle.mm_model.proofs.Filters.{contained_filter, filter_contained}
-use Rattle.mm_laws.specs.Restrictions.{Belongs}
-use Rattle.mm_laws.proofs.Restricting.{kept_belongs, belongs_kept}
+use Rattle.mm_laws.{specs.Restrictions.Belongs, proofs.Restricting.{kept_belongs, belongs_kept}}
 use Rattle.mm_top.specs.Groups.{named, members_of}
 
 -- 1. A number is among the members exactly where the item belongs to the groups.

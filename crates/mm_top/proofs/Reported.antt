@@ -1,31 +1,18 @@
 -- How a command that writes a text ends.
 use Rattle.std.proofs.Common.{◌≡◌, ℕ, List, [], Option, Result, Ok, Err, refl, sym, ap, ◌∙◌, subst}
 use Rattle.std.specs.Result.{IsErrAnd}
-use Rattle.mm_io.specs.declared.write.WriteFault.{WriteFault}
-use Rattle.mm_io.specs.Sinks.{Writes}
-use Rattle.mm_io.proofs.Known.{writes_same}
+use Rattle.mm_io.{specs.{declared.write.WriteFault.WriteFault, Sinks.Writes}, proofs.Known.writes_same}
 use Rattle.mm_mem.specs.declared.memory.Memory.{Ghosts}
-use Rattle.mm_model.specs.declared.counts.Counts.{Counts}
-use Rattle.mm_model.specs.Uses.{Use}
-use Rattle.mm_model.specs.State.{State}
-use Rattle.mm_model.specs.Image.{Image, start}
-use Rattle.mm_model.specs.Run.{run, uses}
+use Rattle.mm_model.specs.{declared.counts.Counts.Counts, Uses.Use, State.State, Image.{Image, start}, Run.{run, uses}}
 use Rattle.mm_model.specs.Report.{report, report_after}
-use Rattle.mm_machine.specs.declared.machine.Machine.{Machine}
-use Rattle.mm_machine.specs.Machine.{state_of, StandsTo, StandsFor}
-use Rattle.mm_sched.specs.declared.schedule.Order.{Order}
-use Rattle.mm_sched.specs.declared.schedule.Order.TheVariants as order
-use Rattle.mm_sched.specs.Orders.{items_of}
-use Rattle.mm_debug.specs.Session as session
+use Rattle.mm_machine.specs.{declared.machine.Machine.Machine, Machine.{state_of, StandsTo, StandsFor}}
+use Rattle.mm_sched.specs.{declared.schedule.Order.Order, Orders.items_of}
 use Rattle.mm_save.specs.Recorder.{bare, recorded}
-use Rattle.mm_load.specs.declared.status.Refusal.{Refusal}
-use Rattle.mm_load.specs.declared.status.CommandError.{CommandError}
+use Rattle.mm_load.specs.{declared.status.{Refusal.Refusal, CommandError.CommandError}, Kinds.values_of, Stops.end_of}
+use Rattle.mm_top.specs.{Orders.AreIssued, Commands.replies_to, Answers.{Ends, EndsWith, Writing, writing}}
+use Rattle.mm_sched.specs.declared.schedule.Order.TheVariants as order
+use Rattle.mm_debug.specs.Session as session
 use Rattle.mm_load.specs.declared.status.CommandError.TheVariants as stop
-use Rattle.mm_load.specs.Kinds.{values_of}
-use Rattle.mm_top.specs.Orders.{AreIssued}
-use Rattle.mm_top.specs.Commands.{replies_to}
-use Rattle.mm_load.specs.Stops.{end_of}
-use Rattle.mm_top.specs.Answers.{Ends, EndsWith, Writing, writing}
 
 module _ {M : Type 0} {memory : Ghosts M} where
   -- no cycle so far

@@ -3,17 +3,12 @@ use Rattle.std.proofs.Common.{◌≡◌, inl, inr, ℕ, List, [], ◌++◌, Opti
 use Rattle.std.specs.Result.{IsErrAnd}
 use Rattle.mm_word.specs.Adding.{adds_none}
 use Rattle.mm_io.specs.Files.{PieceRead}
-use Rattle.mm_load.specs.declared.status.Refusal.{Refusal}
-use Rattle.mm_load.specs.declared.status.CommandError.{CommandError}
+use Rattle.mm_load.specs.{declared.status.{Refusal.Refusal, CommandError.CommandError}, Kinds.Value}
+use Rattle.mm_load.specs.Files.{Reading, reading, FilesAccepted, FilesRefused, FilesFailed, FilesRead, AsksFiles}
+use Rattle.mm_load.{specs.Files.{ReadsWhole, Stops}, proofs.Reading.{stops_first, asks_of_all}}
+use Rattle.mm_cli.specs.{declared.table.Kind.Kind, Words.{files_in, groups_word, optional}, Table.{Row, files_of}}
+use Rattle.mm_top.specs.{Commands.Declines, Answers.{CommandEnds, Ends, EndsWith, Writing}}
 use Rattle.mm_load.specs.declared.status.CommandError.TheVariants as stop
-use Rattle.mm_cli.specs.declared.table.Kind.{Kind}
-use Rattle.mm_load.specs.Kinds.{Value}
-use Rattle.mm_load.specs.Files.{Reading, reading, FilesAccepted, FilesRefused, FilesFailed, FilesRead, AsksFiles, ReadsWhole, Stops}
-use Rattle.mm_load.proofs.Reading.{stops_first, asks_of_all}
-use Rattle.mm_cli.specs.Words.{files_in, groups_word, optional}
-use Rattle.mm_cli.specs.Table.{Row, files_of}
-use Rattle.mm_top.specs.Commands.{Declines}
-use Rattle.mm_top.specs.Answers.{CommandEnds, Ends, EndsWith, Writing}
 
 -- the reading of its files stops
 stopped : (files : Reading) (out : Writing) (Text : Row → List Value → List ℕ → Type 0) (row : Row) (s : CommandError)

@@ -1,10 +1,6 @@
 -- A machine of an image can be put back to a checkpoint of it.
-use Rattle.std.proofs.Common.{ℕ, ◌≤◌, length, sym, ◌∙◌, subst}
-use Rattle.std.specs.Prelude.{Option}
-use Rattle.std.specs.List.{AllByRecursion}
-use Rattle.mm_model.specs.Image.{Image, start, output_limit}
-use Rattle.mm_model.specs.Spelling.{IsImage}
-use Rattle.mm_model.proofs.Starts.{start_fits}
+use Rattle.std.{proofs.Common.{ℕ, ◌≤◌, length, sym, ◌∙◌, subst}, specs.{Prelude.Option, List.AllByRecursion}}
+use Rattle.mm_model.{specs.{Image.{Image, start, output_limit}, Spelling.IsImage}, proofs.Starts.start_fits}
 use Rattle.mm_thread.specs.Output.{Output}
 use Rattle.mm_machine.specs.Snapshot.{Parts, CanRestore}
 use Rattle.mm_checkpoint.specs.Checkpoints.{IsCheckpoint}

@@ -1,37 +1,23 @@
 -- What is saved of a run is a checkpoint of its image, and goes on as the whole run.
-use Rattle.std.proofs.Common.{◌≡◌, ℕ, zero, suc, ◌+◌, ◌<◌, ◌≤◌, Bool, true, false, List, [], ◌∷◌, ◌++◌, length, map, Option, Some, None, refl, sym, ap, ◌∙◌, subst, arith}
-use Rattle.std.specs.Prelude.{IfSome, if◌then◌else◌}
-use Rattle.std.specs.List.{AllByRecursion}
-use Rattle.std.specs.Option.{option_or}
-use Rattle.mm_model.specs.State.{ThreadRow, State}
-use Rattle.mm_model.specs.Image.{Image, start}
-use Rattle.mm_model.specs.Bytes.{IsBytes}
-use Rattle.mm_model.specs.Uses.{Use}
-use Rattle.mm_model.specs.declared.counts.Counts.{Counts}
-use Rattle.mm_model.specs.Turn.{is_running}
-use Rattle.mm_model.specs.Run.{after, run, uses, next_running, first_running, then_issued, any_number, robin_from, last_item}
-use Rattle.mm_model.specs.Report.{report}
-use Rattle.mm_model.specs.Spelling.{IsImage}
-use Rattle.mm_model.specs.Fits.{IsSlot}
-use Rattle.mm_machine.specs.Validity.{IsValid}
-use Rattle.mm_machine.specs.Snapshot.{Parts, restored}
-use Rattle.mm_machine.proofs.Keeping.{valid_start, valid_after}
-use Rattle.mm_machine.proofs.Returning.{put_back}
-use Rattle.mm_checkpoint.specs.{Checkpoints.{Saved, saved_of}, Format.Saves}
-use Rattle.mm_checkpoint.specs.States.{saved_form}
-use Rattle.mm_checkpoint.specs.Laws.{IsSavedState}
-use Rattle.mm_checkpoint.proofs.CheckpointBytes.{checkpoints_are_short}
-use Rattle.mm_checkpoint.proofs.Forms.{have_forms, of_form}
-use Rattle.mm_checkpoint.proofs.RunCheckpoints.{runs_have_checkpoints}
-use Rattle.mm_checkpoint.proofs.SpelledLaws.{are_one}
+use Rattle.std.proofs.Common.{◌≡◌, ℕ, zero, suc, ◌+◌, ◌<◌, ◌≤◌, Bool, true, false, List, [], ◌∷◌, ◌++◌, length, map}
+use Rattle.std.proofs.Common.{Option, Some, None, refl, sym, ap, ◌∙◌, subst, arith}
+use Rattle.std.specs.{Prelude.{IfSome, if◌then◌else◌}, List.AllByRecursion, Option.option_or}
+use Rattle.mm_model.specs.{State.{ThreadRow, State}, Image.{Image, start}, Bytes.IsBytes, Uses.Use}
+use Rattle.mm_model.specs.{declared.counts.Counts.Counts, Turn.is_running}
+use Rattle.mm_model.specs.Run.{after, run, uses, next_running, first_running, then_issued, any_number, robin_from}
+use Rattle.mm_model.specs.{Run.last_item, Report.report, Spelling.IsImage, Fits.IsSlot}
+use Rattle.mm_machine.specs.{Validity.IsValid, Snapshot.{Parts, restored}}
+use Rattle.mm_machine.proofs.{Keeping.{valid_start, valid_after}, Returning.put_back}
+use Rattle.mm_machine.proofs.Rounds.{robin_length, first_length}
+use Rattle.mm_checkpoint.specs.{Checkpoints.{Saved, saved_of}, Format.Saves, States.saved_form, Laws.IsSavedState}
+use Rattle.mm_checkpoint.proofs.{CheckpointBytes.checkpoints_are_short, Forms.{have_forms, of_form}}
+use Rattle.mm_checkpoint.proofs.{RunCheckpoints.runs_have_checkpoints, SpelledLaws.are_one}
+use Rattle.mm_cli.specs.{declared.{table.{Kind.{TheVariants.{Checkpoint as checkpoint_file}}}}}
+use Rattle.mm_load.specs.Kinds.{Value, an_image, a_list, a_checkpoint, Accepts}
+use Rattle.mm_top.specs.{Orders.{AreIssued, AreIssuedFrom}, Saving.{last_issued, HasState, Continues}}
+use Rattle.mm_top.specs.SaveToRun.{IsOneRun, SavesGoOn}
 use Rattle.mm_checkpoint.proofs.GoesOn as whole
 use Rattle.mm_checkpoint.proofs.RobinOn as robin
-use Rattle.mm_cli.specs.declared.table.Kind.TheVariants.{Checkpoint as checkpoint_file}
-use Rattle.mm_load.specs.Kinds.{Value, an_image, a_list, a_checkpoint, Accepts}
-use Rattle.mm_top.specs.Orders.{AreIssued, AreIssuedFrom}
-use Rattle.mm_top.specs.Saving.{last_issued, HasState, Continues}
-use Rattle.mm_top.specs.SaveToRun.{IsOneRun, SavesGoOn}
-use Rattle.mm_machine.proofs.Rounds.{robin_length, first_length}
 
 -- 1. The slots that round robin issues have one of 64 numbers.
 

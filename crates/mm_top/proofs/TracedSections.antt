@@ -1,22 +1,14 @@
 -- What groups see of what `trace` writes: whole lines stand before the report.
-use Rattle.std.proofs.Common.{ℕ, inl, inr, Bool, true, List, [], ◌∷◌, ◌++◌, Option, codes, decimal, refl, sym, ap, ◌∙◌, subst, append_assoc, append-nil}
+use Rattle.std.proofs.Common.{ℕ, inl, inr, Bool, true, List, [], ◌∷◌, ◌++◌, Option, codes, decimal, refl, sym, ap, ◌∙◌}
+use Rattle.std.proofs.Common.{subst, append_assoc, append-nil}
 use Rattle.mm_word.specs.Cause.{number_of}
 use Rattle.mm_model.specs.declared.counts.Counts.{Counts}
-use Rattle.mm_model.specs.declared.step.Step.{Step}
-use Rattle.mm_model.specs.declared.step.Tick.{Tick}
-use Rattle.mm_model.specs.declared.step.Tick.TheVariants.{Idle, Blocked, Did, Faulted, Delivered}
-use Rattle.mm_model.specs.Lines.{newline, cell_line}
-use Rattle.mm_model.specs.State.{State}
-use Rattle.mm_model.specs.Image.{Image, start}
-use Rattle.mm_model.specs.Groups.{HasSlot}
-use Rattle.mm_model.specs.Run.{turn_of, after, run}
-use Rattle.mm_model.specs.Report.{report}
-use Rattle.mm_model.specs.Spelling.{IsImage}
+use Rattle.mm_model.specs.declared.step.{Step.Step, Tick.{Tick, TheVariants.{Idle, Blocked, Did, Faulted, Delivered}}}
+use Rattle.mm_model.specs.{Lines.{newline, cell_line}, State.State, Image.{Image, start}, Groups.HasSlot}
+use Rattle.mm_model.specs.{Run.{turn_of, after, run}, Report.report, Spelling.IsImage}
 use Rattle.mm_model.specs.Trace.{touch_text, enter_text, turn_line, step_line, trace_line, traced, trace}
-use Rattle.mm_model.specs.Reach.Entries.{All}
-use Rattle.mm_model.specs.Worlds.{Apart}
-use Rattle.mm_laws.specs.Runs.{EndsALine, AreLinesOf, IsLineOf, Isolates}
-use Rattle.mm_laws.proofs.WholeRuns.{runs_isolate}
+use Rattle.mm_model.specs.{Reach.Entries.All, Worlds.Apart}
+use Rattle.mm_laws.{specs.Runs.{EndsALine, AreLinesOf, IsLineOf, Isolates}, proofs.WholeRuns.runs_isolate}
 
 -- 1. The lines of a trace are whole.
 

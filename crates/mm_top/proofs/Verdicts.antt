@@ -1,20 +1,14 @@
 -- What the clauses of the top call say, from what the answer to the words says.
-use Rattle.std.proofs.Common.{◌≡◌, ◌↔◌, ℕ, List, [], Option, Result, Ok, Err, inl, inr, refl, sym, ap, ◌∙◌, subst, append-nil}
-use Rattle.std.specs.Result.{OnOk}
-use Rattle.std.specs.Io.KnownBytes.{append_known}
-use Rattle.mm_io.specs.Files.{Rose}
-use Rattle.mm_io.specs.Sinks.{TookPart, Writes}
-use Rattle.mm_io.proofs.Known.{writes_none}
+use Rattle.std.proofs.Common.{◌≡◌, ◌↔◌, ℕ, List, [], Option, Result, Ok, Err, inl, inr, refl, sym, ap, ◌∙◌, subst}
+use Rattle.std.{proofs.Common.append-nil, specs.{Result.OnOk, Io.KnownBytes.append_known}}
+use Rattle.mm_io.{specs.{Files.Rose, Sinks.{TookPart, Writes}}, proofs.Known.writes_none}
 use Rattle.mm_load.specs.declared.status.Refusal.{Refusal}
 use Rattle.mm_load.specs.declared.status.Status.{Status}
 use Rattle.mm_load.specs.declared.status.Status.TheVariants.{Done, Usage, Refused, ReadFault, WriteFault, NoMemory}
-use Rattle.mm_load.specs.declared.status.CommandError.{CommandError}
-use Rattle.mm_load.specs.declared.status.CommandError.TheVariants as stop
-use Rattle.mm_load.specs.Files.{AsksFiles, ReadsWhole}
-use Rattle.mm_cli.specs.Table.{Row, Matches, InNoRow, files_of}
-use Rattle.mm_load.specs.Lines.{line_of}
+use Rattle.mm_load.specs.{declared.status.CommandError.CommandError, Files.{AsksFiles, ReadsWhole}, Lines.line_of}
+use Rattle.mm_cli.{specs.Table.{Row, Matches, InNoRow, files_of}, proofs.Rows.one_row}
 use Rattle.mm_top.specs.Answers.{Answers, Call, ComesTo, ReadFailed, RowEnds, TookLine, refuse, write, status_of}
-use Rattle.mm_cli.proofs.Rows.{one_row}
+use Rattle.mm_load.specs.declared.status.CommandError.TheVariants as stop
 
 -- 1. A status other than that of usage, and the end of the command that it comes from.
 

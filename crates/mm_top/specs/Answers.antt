@@ -1,20 +1,16 @@
 -- What a call answers, and why.
-use Rattle.std.specs.Prelude.{◌≡◌, ◌⊎◌, ℕ, List, [], Option, Result, Ok, Err, OnOk, ⊤}
-use Rattle.std.specs.Io.KnownBytes.{append_known}
-use Rattle.mm_io.specs.Files.{Rose}
-use Rattle.mm_io.specs.Sinks.{TookPart}
-use Rattle.mm_model.specs.declared.counts.Counts.{Counts}
-use Rattle.mm_model.specs.Uses.{Use}
+use Rattle.std.specs.{Prelude.{◌≡◌, ◌⊎◌, ℕ, List, [], Option, Result, Ok, Err, OnOk, ⊤}, Io.KnownBytes.append_known}
+use Rattle.mm_io.specs.{Files.Rose, Sinks.TookPart}
+use Rattle.mm_model.specs.{declared.counts.Counts.Counts, Uses.Use}
 use Rattle.mm_load.specs.declared.status.Refusal.{Refusal}
 use Rattle.mm_load.specs.declared.status.Status.{Status}
 use Rattle.mm_load.specs.declared.status.Status.TheVariants.{Done, Usage, Refused, ReadFault, WriteFault, NoMemory}
-use Rattle.mm_load.specs.declared.status.CommandError.{CommandError}
-use Rattle.mm_load.specs.declared.status.CommandError.TheVariants as stop
-use Rattle.mm_load.specs.Kinds.{Value}
+use Rattle.mm_load.specs.{declared.status.CommandError.CommandError, Kinds.Value}
 use Rattle.mm_load.specs.Files.{Reading, Drawing, FilesAccepted, FilesRefused, FilesFailed, AsksFiles, InputsAccepted}
 use Rattle.mm_load.specs.Files.{InputsRefused, InputsFailed, InputsTold, ReadsWhole, ToldInputsRefused}
 use Rattle.mm_cli.specs.Table.{Row, files_of, input_of, Matches, InNoRow}
 use Rattle.mm_top.specs.Commands.{Declines, Yields}
+use Rattle.mm_load.specs.declared.status.CommandError.TheVariants as stop
 
 -- 1. What words come to.
 

@@ -1,32 +1,17 @@
 -- What each command comes to, given its words and the values of its inputs.
 use Rattle.std.specs.Prelude.{◌≡◌, ℕ, Bool, List, [], ◌∷◌, ◌++◌, map, length, take, Option, None, Some}
-use Rattle.mm_model.specs.declared.counts.Counts.{Counts}
-use Rattle.mm_model.specs.Uses.{Use}
-use Rattle.mm_model.specs.Image as model
-use Rattle.mm_model.specs.Groups.{among}
-use Rattle.mm_model.specs.Run as machine
-use Rattle.mm_model.specs.Trace as lines
-use Rattle.mm_model.specs.Schedule.{first_items, only}
-use Rattle.mm_model.specs.Worlds.{Extracts, alone, migrated}
+use Rattle.mm_model.specs.{declared.counts.Counts.Counts, Uses.Use, Groups.among, Schedule.{first_items, only}}
+use Rattle.mm_model.specs.{Worlds.{Extracts, alone, migrated}, Audit.IsAudit, Report.report_after}
 use Rattle.mm_format.specs.Images.{Spells}
-use Rattle.mm_object.specs.Objects.{Object}
-use Rattle.mm_object.specs.Format.{Spells as SpellsObject}
-use Rattle.mm_link.specs.declared.fault.LinkFault.{LinkFault}
-use Rattle.mm_link.specs.Faults.{link_fault}
-use Rattle.mm_link.specs.Linked.{Linked}
+use Rattle.mm_object.specs.{Objects.Object, Format.{Spells as SpellsObject}}
+use Rattle.mm_link.specs.{declared.fault.LinkFault.LinkFault, Faults.link_fault, Linked.Linked}
 use Rattle.mm_disasm.specs.Canonical.{canonical}
-use Rattle.mm_gen.specs.Generated.{generated}
-use Rattle.mm_gen.specs.Summary.{summary}
-use Rattle.mm_sweep.specs.Swept.{swept}
-use Rattle.mm_sweep.specs.Refusals.{CanSweep}
-use Rattle.mm_sweep.specs.Holders as holding
-use Rattle.mm_model.specs.Audit.{IsAudit}
-use Rattle.mm_model.specs.Report.{report_after}
+use Rattle.mm_gen.specs.{Generated.generated, Summary.summary}
+use Rattle.mm_sweep.specs.{Swept.swept, Refusals.CanSweep}
 use Rattle.mm_audit.specs.Refusals.{StandAlone}
 use Rattle.mm_explore.specs.Texts.{Explores}
 use Rattle.mm_why.specs.Text.{SaysWhy}
 use Rattle.mm_sched.specs.declared.schedule.Order.{Order}
-use Rattle.mm_debug.specs.Session as session
 use Rattle.mm_log.specs.Log.{log_text}
 use Rattle.mm_save.specs.Recorder.{recorded}
 use Rattle.mm_cli.specs.declared.table.Command.{Command}
@@ -35,20 +20,20 @@ use Rattle.mm_cli.specs.declared.table.Command.TheVariants.{Debug, Gen, Soak, Mi
 use Rattle.mm_cli.specs.declared.table.Command.TheVariants.{Net, Explore, Why}
 use Rattle.mm_cli.specs.declared.table.Kind.TheVariants.{Image as image_file, Schedule as schedule_file}
 use Rattle.mm_cli.specs.declared.table.Kind.TheVariants.{Source as source_file, Object as object_file}
-use Rattle.mm_cli.specs.declared.table.Kind.TheVariants.{Checkpoint as checkpoint_file}
-use Rattle.mm_cli.specs.Words.{Word, file_word, number_word, groups_word, mode_word, range_word, use_word}
-use Rattle.mm_cli.specs.Words.{optional}
+use Rattle.mm_cli.specs.{declared.table.Kind.TheVariants.Checkpoint as checkpoint_file}
+use Rattle.mm_cli.specs.Words.{Word, file_word, number_word, groups_word, mode_word, range_word, use_word, optional}
 use Rattle.mm_cli.specs.Table.{Row}
 use Rattle.mm_load.specs.declared.status.Refusal.{Refusal}
-use Rattle.mm_load.specs.declared.status.Refusal.TheVariants as refusal
+use Rattle.mm_load.specs.Kinds.{Value, an_image, a_list, an_object, a_checkpoint, a_links, an_events, a_text, values_of}
 use Rattle.mm_net.specs.Texts.{net_text}
-use Rattle.mm_load.specs.Kinds.{Value, an_image, a_list, an_object, a_checkpoint, a_links, an_events, a_text}
-use Rattle.mm_load.specs.Kinds.{values_of}
-use Rattle.mm_top.specs.Orders.{AreIssued}
-use Rattle.mm_top.specs.Groups.{GroupsRefused}
-use Rattle.mm_top.specs.Ranges.{SweepRefused}
-use Rattle.mm_top.specs.Nodes.{NoneLacking, JoinRefused}
+use Rattle.mm_top.specs.{Orders.AreIssued, Groups.GroupsRefused, Ranges.SweepRefused, Nodes.{NoneLacking, JoinRefused}}
 use Rattle.mm_top.specs.Saving.{last_issued, saved_after, Continues}
+use Rattle.mm_model.specs.Image as model
+use Rattle.mm_model.specs.Run as machine
+use Rattle.mm_model.specs.Trace as lines
+use Rattle.mm_sweep.specs.Holders as holding
+use Rattle.mm_debug.specs.Session as session
+use Rattle.mm_load.specs.declared.status.Refusal.TheVariants as refusal
 
 -- 1. What is written and refused.
 

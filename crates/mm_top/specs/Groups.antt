@@ -1,11 +1,9 @@
 -- Groups that are extracted from an image.
 use Rattle.std.specs.Prelude.{ℕ, ◌+◌, Bool, if◌then◌else◌, List, [], ◌++◌, map}
-use Rattle.mm_model.specs.Slot.{Slot}
-use Rattle.mm_model.specs.Image.{Image}
-use Rattle.mm_audit.specs.declared.refusals.Refused.TheVariants as refused
+use Rattle.mm_model.specs.{Slot.Slot, Image.Image}
 use Rattle.mm_audit.specs.Refusals.{IsRefused}
-use Rattle.mm_load.specs.declared.status.Refusal.{Refusal}
-use Rattle.mm_load.specs.declared.status.Refusal.TheVariants.{NoGroup, Crosses}
+use Rattle.mm_load.specs.declared.status.Refusal.{Refusal, TheVariants.{NoGroup, Crosses}}
+use Rattle.mm_audit.specs.declared.refusals.Refused.TheVariants as refused
 
 -- why the groups are refused: they have no slot; or else one of their slots has its handler outside of the groups, and
 -- this is the least such slot

@@ -1,21 +1,12 @@
 -- The headline: what is proved of every run, trace and log that is done.
 use Rattle.std.specs.Prelude.{◌≡◌, ◌++◌, ◌∷◌, [], ℕ, Bool, List, Option}
-use Rattle.mm_model.specs.declared.counts.Counts.{Counts}
-use Rattle.mm_model.specs.Uses.{Use}
-use Rattle.mm_model.specs.Image.{Image, start}
-use Rattle.mm_model.specs.State.{State}
-use Rattle.mm_model.specs.Groups.{HasSlot}
-use Rattle.mm_model.specs.Reach.Entries.{All}
-use Rattle.mm_model.specs.Worlds.{Apart}
-use Rattle.mm_model.specs.Report.{report_after}
+use Rattle.mm_model.specs.{declared.counts.Counts.Counts, Uses.Use, Image.{Image, start}, State.State, Groups.HasSlot}
+use Rattle.mm_model.specs.{Reach.Entries.All, Worlds.Apart, Report.report_after}
 use Rattle.mm_laws.specs.Runs.{Reaches, Isolates}
 use Rattle.mm_cli.specs.Table.{Row, files_of}
-use Rattle.mm_load.specs.Kinds.{Value, an_image}
-use Rattle.mm_load.specs.Files.{FilesAccepted}
-use Rattle.mm_log.specs.Log.{log_text}
-use Rattle.mm_log.specs.Laws.{Replays}
-use Rattle.mm_top.specs.Commands.{log}
-use Rattle.mm_top.specs.Orders.{AreIssued}
+use Rattle.mm_load.specs.{Kinds.{Value, an_image}, Files.FilesAccepted}
+use Rattle.mm_log.specs.{Log.log_text, Laws.Replays}
+use Rattle.mm_top.specs.{Commands.log, Orders.AreIssued}
 
 -- What a command that is done did, if it runs an image and writes a report. `turns` is the text that it writes before
 -- the report, of the state at the start and the items that are issued.

@@ -1,10 +1,6 @@
 -- What the memory that a command runs over adds to its report.
 use Rattle.std.specs.Prelude.{◌≡◌, ℕ, List, ◌++◌, Option, Some}
-use Rattle.mm_model.specs.declared.counts.Counts.{Counts}
-use Rattle.mm_model.specs.Uses.{Use}
-use Rattle.mm_model.specs.Counted.{counts_of}
-use Rattle.mm_model.specs.Image.{Image, start}
-use Rattle.mm_model.specs.Run.{uses}
+use Rattle.mm_model.specs.{declared.counts.Counts.Counts, Uses.Use, Counted.counts_of, Image.{Image, start}, Run.uses}
 use Rattle.mm_model.specs.Report.{count_line, report_after}
 
 -- for every list of items, the report over the one memory is the report over the other, followed by the count line of

@@ -1,11 +1,7 @@
 -- Nets whose links name nodes, and events by which links take.
 use Rattle.std.specs.Prelude.{ℕ, ◌≤◌, Bool, true, false, List, slice_get, IsSomeAnd}
-use Rattle.mm_net.specs.declared.link.Link.{Link}
-use Rattle.mm_net.specs.declared.item.NetItem.{NetItem}
-use Rattle.mm_net.specs.declared.item.NetItem.TheVariants.{Send}
-use Rattle.mm_net.specs.Net.{HasNodes}
-use Rattle.mm_load.specs.declared.status.Refusal.{Refusal}
-use Rattle.mm_load.specs.declared.status.Refusal.TheVariants.{NoNode}
+use Rattle.mm_net.specs.{declared.{link.Link.Link, item.NetItem.{NetItem, TheVariants.Send}}, Net.HasNodes}
+use Rattle.mm_load.specs.declared.status.Refusal.{Refusal, TheVariants.NoNode}
 
 -- the link with this number names a node that is not there, given the number of nodes
 abbrev pub LacksNode : List Link → (count : ℕ) → ℕ → Type 0

@@ -1,9 +1,6 @@
 -- The items that are issued, given the schedule's file, if there is one.
 use Rattle.std.specs.Prelude.{◌≡◌, ℕ, List, [], ◌∷◌, Option, None}
-use Rattle.mm_model.specs.Image.{Image, start}
-use Rattle.mm_model.specs.State.{State}
-use Rattle.mm_model.specs.Run.{robin_from}
-use Rattle.mm_model.specs.Schedule.{first_items}
+use Rattle.mm_model.specs.{Image.{Image, start}, State.State, Run.robin_from, Schedule.first_items}
 use Rattle.mm_load.specs.Kinds.{Value, a_list}
 
 -- the items that are issued from a state on: up to `cycles` cycles of round robin, after the slot that it issued last;

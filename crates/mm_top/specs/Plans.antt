@@ -1,13 +1,9 @@
 -- What `run`, `trace`, `log` and `save` are given, and what a `trace` and a `log` tell of each cycle.
 use Rattle.std.specs.Prelude.{ℕ, List}
-use Rattle.mm_model.specs.Image.{start}
-use Rattle.mm_model.specs.State.{State}
-use Rattle.mm_model.specs.Trace.{trace}
+use Rattle.mm_model.specs.{Image.start, State.State, Trace.trace}
 use Rattle.mm_log.specs.Log.{log_text}
 use Rattle.mm_sched.specs.Orders.{items_of}
-use Rattle.mm_top.specs.declared.plan.Plan.{Plan}
-use Rattle.mm_top.specs.declared.detail.TraceDetail.{TraceDetail}
-use Rattle.mm_top.specs.declared.detail.TraceDetail.TheVariants.{Turn, Changes}
+use Rattle.mm_top.specs.declared.{plan.Plan.Plan, detail.TraceDetail.{TraceDetail, TheVariants.{Turn, Changes}}}
 
 -- the items that a plan issues
 abbrev pub items_planned : Plan → List ℕ

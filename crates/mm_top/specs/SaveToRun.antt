@@ -1,20 +1,12 @@
 -- From a run to its checkpoint and on: what `save` and `continue` do one after the other.
 use Rattle.std.specs.Prelude.{◌≡◌, ℕ, ◌+◌, ◌≤◌, List, [], ◌∷◌, ◌++◌, length, Option, None}
-use Rattle.mm_model.specs.declared.counts.Counts.{Counts}
-use Rattle.mm_model.specs.Limits.{cycle_limit}
-use Rattle.mm_model.specs.Uses.{Use}
-use Rattle.mm_model.specs.Image.{Image, start}
-use Rattle.mm_model.specs.Bytes.{IsBytes}
-use Rattle.mm_model.specs.Run.{run, uses, robin_from}
-use Rattle.mm_model.specs.Schedule.{first_items}
-use Rattle.mm_model.specs.Report.{report}
+use Rattle.mm_model.specs.{declared.counts.Counts.Counts, Limits.cycle_limit, Uses.Use, Image.{Image, start}}
+use Rattle.mm_model.specs.{Bytes.IsBytes, Run.{run, uses, robin_from}, Schedule.first_items, Report.report}
 use Rattle.mm_model.specs.Spelling.{IsImage}
 use Rattle.mm_checkpoint.specs.Checkpoints.{Saved}
-use Rattle.mm_cli.specs.declared.table.Kind.TheVariants.{Checkpoint as checkpoint_file}
+use Rattle.mm_cli.specs.{declared.{table.{Kind.{TheVariants.{Checkpoint as checkpoint_file}}}}}
 use Rattle.mm_load.specs.Kinds.{Value, an_image, a_list, a_checkpoint, limit_of, Accepts}
-use Rattle.mm_top.specs.Orders.{AreIssued}
-use Rattle.mm_top.specs.Saving.{last_issued}
-use Rattle.mm_top.specs.Commands.{save, continue, Yields}
+use Rattle.mm_top.specs.{Orders.AreIssued, Saving.last_issued, Commands.{save, continue, Yields}}
 
 -- What `continue` writes after up to `b` further cycles from what `save` wrote.
 pub record IsOneRun (tells : List Use → Option Counts) (i : Image) (a b : ℕ) (lists more : List Value) (text : List ℕ) :

@@ -1,14 +1,9 @@
 -- Runs that are saved, and go on.
 use Rattle.std.specs.Prelude.{◌≡◌, ℕ, List, [], ◌∷◌, Option, None}
-use Rattle.mm_model.specs.declared.counts.Counts.{Counts}
-use Rattle.mm_model.specs.Uses.{Use}
-use Rattle.mm_model.specs.Image.{Image, start}
-use Rattle.mm_model.specs.State.{State}
-use Rattle.mm_model.specs.Run.{run, last_item}
-use Rattle.mm_model.specs.Report.{further_report}
+use Rattle.mm_model.specs.{declared.counts.Counts.Counts, Uses.Use, Image.{Image, start}, State.State}
+use Rattle.mm_model.specs.{Run.{run, last_item}, Report.further_report}
 use Rattle.mm_machine.specs.Snapshot.{IsAlike}
-use Rattle.mm_checkpoint.specs.{Checkpoints.Saved, Format.spelling}
-use Rattle.mm_checkpoint.specs.States.{saved_form}
+use Rattle.mm_checkpoint.specs.{Checkpoints.Saved, Format.spelling, States.saved_form}
 use Rattle.mm_load.specs.Kinds.{Value}
 use Rattle.mm_top.specs.Orders.{AreIssuedFrom}
 

@@ -1,10 +1,10 @@
 -- Why a command stops, given what the auditor and the sweeper answer.
 use Rattle.mm_audit.specs.declared.extracting.ExtractError.{ExtractError}
-use Rattle.mm_audit.specs.declared.extracting.ExtractError.TheVariants as extracting
 use Rattle.mm_sweep.specs.declared.sweeping.SweepError.{SweepError}
-use Rattle.mm_sweep.specs.declared.sweeping.SweepError.TheVariants as sweeping
 use Rattle.mm_load.specs.declared.status.Refusal.TheVariants.{NoGroup, Crosses, Held, Privileged}
 use Rattle.mm_load.specs.declared.status.CommandError.{CommandError}
+use Rattle.mm_audit.specs.declared.extracting.ExtractError.TheVariants as extracting
+use Rattle.mm_sweep.specs.declared.sweeping.SweepError.TheVariants as sweeping
 use Rattle.mm_load.specs.declared.status.CommandError.TheVariants as stop
 
 -- why a command stops if groups cannot be extracted

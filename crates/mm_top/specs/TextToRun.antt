@@ -1,16 +1,12 @@
 -- From texts to a run: what `asm`, `link` and `run` do one after the other.
 use Rattle.std.specs.Prelude.{◌≡◌, ℕ, List, [], ◌∷◌, map, Option, ⊤}
-use Rattle.mm_model.specs.declared.counts.Counts.{Counts}
-use Rattle.mm_model.specs.Uses.{Use}
-use Rattle.mm_model.specs.Image.{Image}
+use Rattle.mm_model.specs.{declared.counts.Counts.Counts, Uses.Use, Image.Image, Report.report_after}
 use Rattle.mm_object.specs.Objects.{Object}
 use Rattle.mm_link.specs.Linked.{Linked, image_of}
 use Rattle.mm_cli.specs.declared.table.Kind.TheVariants.{Source as source_file, Object as object_file}
-use Rattle.mm_cli.specs.declared.table.Kind.TheVariants.{Image as image_file}
+use Rattle.mm_cli.{specs.declared.table.Kind.TheVariants.Image as image_file}
 use Rattle.mm_load.specs.Kinds.{Value, an_image, an_object, Accepts}
-use Rattle.mm_top.specs.Commands.{asm, link, run, Yields, YieldsAlone}
-use Rattle.mm_model.specs.Report.{report_after}
-use Rattle.mm_top.specs.Orders.{AreIssued}
+use Rattle.mm_top.specs.{Commands.{asm, link, run, Yields, YieldsAlone}, Orders.AreIssued}
 
 -- The text means an object, `asm` wrote a file of it, and a value is read from the file.
 pub record Assembles (text : List ℕ) (o : Object) (file : List ℕ) (v : Object) : Type 0 where

@@ -22,7 +22,12 @@ pub fn generate<O: Sink>(alloc: Global, words: &[Word<'_>], out: &mut O) -> Resu
 }
 
 /// Writes the spelling of the image that is generated from a number, with `size` slots.
-fn write_generated<O: Sink>(alloc: Global, number: u64, size: u8, out: &mut O) -> Result<(), CommandError>
+fn write_generated<O: Sink>(
+    alloc: Global,
+    number: u64,
+    size: u8,
+    out: &mut O,
+) -> Result<(), CommandError>
     requires some { 1 ≤ size }
     requires few { size ≤ 16 }
     ensures { EndsWith (writing O.taken O.faults out.old out.new) (λ text. Spells text (generated number size)) result }

@@ -13,7 +13,7 @@ ghost use Rattle.mm_top.specs.Answers.{CommandEnds, EndsWith, writing};
 
 use mm_audit::{Entries, Survey, survey};
 use mm_audit_text::{write_audit, write_audit_of};
-use mm_cli::{Command, Word, optional_groups_at, name_at};
+use mm_cli::{Command, Word, name_at, optional_groups_at};
 use mm_image::Image;
 use mm_io::{Files, Sink, WriteFault};
 use mm_load::{CommandError, load_file};

@@ -31,7 +31,12 @@ pub fn holders<F: Files, O: Sink>(
 }
 
 /// Writes the holders of pointers whose segments meet a range.
-fn write_holders<O: Sink>(image: &Image, base: u64, log: u8, out: &mut O) -> Result<(), CommandError>
+fn write_holders<O: Sink>(
+    image: &Image,
+    base: u64,
+    log: u8,
+    out: &mut O,
+) -> Result<(), CommandError>
     requires { IsRange base log }
     ensures { EndsWith (writing O.taken O.faults out.old out.new) (λ text. text ≡ holders (base, log) image.now)
         result }

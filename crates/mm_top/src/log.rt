@@ -5,8 +5,8 @@ ghost use Rattle.mm_cli.specs.Arguments.{HasArguments, row};
 ghost use Rattle.mm_top.specs.Commands.{Yields};
 ghost use Rattle.mm_top.specs.Answers.{CommandEnds, writing};
 
-use crate::plan::load_plan;
 use crate::detail::{TraceDetail, write_detail};
+use crate::plan::load_plan;
 use mm_cli::{Command, Word};
 use mm_io::{Files, Sink};
 use mm_load::CommandError;

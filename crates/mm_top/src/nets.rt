@@ -17,7 +17,7 @@ use crate::boot::boot;
 use mm_cli::{Command, Word, name_at, names_at, number_at};
 use mm_image::Image;
 use mm_io::{Files, Sink};
-use mm_load::{Refusal, CommandError, ended, load_file, load_images};
+use mm_load::{CommandError, Refusal, ended, load_file, load_images};
 use mm_machine::Machine;
 use mm_mem::{Boot, Memory};
 use mm_net::{Events, Link, Links, Net, NetItem, report};

@@ -9,7 +9,7 @@ ghost use Rattle.mm_load.specs.Kinds.{an_image, values_of};
 ghost use Rattle.mm_top.specs.Orders.{AreIssued};
 ghost use Rattle.mm_top.specs.Plans.{items_planned};
 
-use mm_cli::{Command, Word, name_at, optional_name_at, number_at};
+use mm_cli::{Command, Word, name_at, number_at, optional_name_at};
 use mm_image::Image;
 use mm_io::Files;
 use mm_load::{CommandError, load_file, load_order};
@@ -25,7 +25,11 @@ pub struct Plan {
 }
 
 /// Reads what the words `IMAGE CYCLES [SCHEDULE]` name, as those of `run` do.
-pub fn load_plan<F: Files>(alloc: Global, words: &[Word<'_>], files: &mut F) -> Result<Plan, CommandError>
+pub fn load_plan<F: Files>(
+    alloc: Global,
+    words: &[Word<'_>],
+    files: &mut F,
+) -> Result<Plan, CommandError>
     requires { HasArguments Command.Run words.now }
     ensures read { FilesRead (reading F.held F.faults F.asked files.old files.new) []
         (files_of (row Command.Run words.now)) (λ p. an_image p.image ∷ values_of p.order) result }

@@ -12,7 +12,7 @@ ghost use Rattle.mm_top.specs.Answers.{CommandEnds, EndsWith, writing};
 
 use crate::boot::boot;
 use crate::cycles::issue;
-use mm_cli::{Command, Word, name_at, optional_name_at, number_at};
+use mm_cli::{Command, Word, name_at, number_at, optional_name_at};
 use mm_image::Image;
 use mm_io::{Files, Sink};
 use mm_load::{Checkpoint, CommandError, ended, load_checkpoint, load_file, load_order};

@@ -36,7 +36,11 @@ pub fn save<M: Boot, F: Files, O: Sink>(
 }
 
 /// Writes the checkpoint of a plan's run.
-fn write_saved<M: Boot, O: Sink>(alloc: Global, plan: &Plan, out: &mut O) -> Result<(), CommandError>
+fn write_saved<M: Boot, O: Sink>(
+    alloc: Global,
+    plan: &Plan,
+    out: &mut O,
+) -> Result<(), CommandError>
     requires { plan.now.cycles ≤ cycle_limit }
     ensures { let items = items_planned plan.now in
         EndsWith (writing O.taken O.faults out.old out.new)

@@ -16,7 +16,11 @@ use mm_mem::Boot;
 use std::alloc::Global;
 
 /// `soak NUMBER SIZE CYCLES`
-pub fn soak<M: Boot, O: Sink>(alloc: Global, words: &[Word<'_>], out: &mut O) -> Result<(), CommandError>
+pub fn soak<M: Boot, O: Sink>(
+    alloc: Global,
+    words: &[Word<'_>],
+    out: &mut O,
+) -> Result<(), CommandError>
     requires { HasArguments Command.Soak words.now }
     ensures { EndsWith (writing O.taken O.faults out.old out.new) (Yields M.tells (row Command.Soak words.now) [])
         result }

@@ -4,7 +4,7 @@ ghost use Rattle.std.specs.Prelude.{◌≡◌};
 ghost use Rattle.mm_top.specs.Stops.{stop_of_extract, stop_of_sweep};
 
 use mm_audit::ExtractError;
-use mm_load::{Refusal, CommandError};
+use mm_load::{CommandError, Refusal};
 use mm_sweep::SweepError;
 
 /// Why the command stops if groups cannot be extracted.

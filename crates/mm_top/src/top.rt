@@ -38,7 +38,7 @@ use crate::trace::trace;
 use crate::why::why;
 use mm_cli::{Command, Word, read_words};
 use mm_io::{Files, Sink, Source};
-use mm_load::{Refusal, Status, CommandError, write_line};
+use mm_load::{CommandError, Refusal, Status, write_line};
 use mm_mem::{Boot, Reset};
 use std::alloc::Global;
 

@@ -1,19 +1,15 @@
 -- What is read of a cached memory.
-use Rattle.std.proofs.Common.{◌≡◌, ℕ, ◌%◌, ◌<◌, ◌==◌, Bool, true, false, if◌then◌else◌, List, [], ◌∷◌, zero, suc, length, Option, None, Some, is_some, slice_get, refl, sym, ap, arith, ◌∙◌}
+use Rattle.std.proofs.Common.{◌≡◌, ℕ, ◌%◌, ◌<◌, ◌==◌, Bool, true, false, if◌then◌else◌, List, [], ◌∷◌, zero, suc}
+use Rattle.std.proofs.Common.{length, Option, None, Some, is_some, slice_get, refl, sym, ap, arith, ◌∙◌}
 use Rattle.std.specs.Option.{IfNone}
 use Rattle.mm_word.specs.declared.word.Cell.{Cell}
 use Rattle.mm_model.specs.Memory.{Memory, IsPaged, page_at, is_mapped, cell_at, cell_in, page_of, place_of}
-use Rattle.mm_model.specs.Counted.{block_of, line_of, page_of_block}
-use Rattle.mm_model.proofs.Memories.{cell_at-aligned, page_whole}
+use Rattle.mm_model.{specs.Counted.{block_of, line_of, page_of_block}, proofs.Memories.{cell_at-aligned, page_whole}}
 use Rattle.mm_mem.proofs.Flats.{no_cell}
-use Rattle.mm_frames.specs.Framed.{frame_of, memory_of}
-use Rattle.mm_frames.proofs.Framed.{has_frame_is_mapped}
+use Rattle.mm_frames.{specs.Framed.{frame_of, memory_of}, proofs.Framed.has_frame_is_mapped}
 use Rattle.mm_cache.specs.declared.line.CacheLine.{CacheLine}
-use Rattle.mm_cache.specs.Lines.{AreLines, line_in, is_in, hits, cell_in_line, cell_of, place_in_block}
-use Rattle.mm_cache.specs.Over.{over}
-use Rattle.mm_cache.proofs.Laid.{mapped_over}
-use Rattle.mm_cache.proofs.Blocks.{page_there}
-use Rattle.mm_cache.proofs.ReadCells.{line_hit, cell_hit, reads_are_over}
+use Rattle.mm_cache.specs.{Lines.{AreLines, line_in, is_in, hits, cell_in_line, cell_of, place_in_block}, Over.over}
+use Rattle.mm_cache.proofs.{Laid.mapped_over, Blocks.page_there, ReadCells.{line_hit, cell_hit, reads_are_over}}
 use Rattle.mm_vmem.specs.Cached.{Cached, IsCached, meaning}
 
 -- 1. Lines.

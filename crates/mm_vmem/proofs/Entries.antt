@@ -1,16 +1,14 @@
 -- The entries of the buffer, and their pages.
-use Rattle.std.proofs.Common.{◌≡◌, ℕ, zero, suc, ◌+◌, ◌<◌, ◌≤◌, ◌==◌, Bool, true, false, cond, if◌then◌else◌, List, [], ◌∷◌, take, drop, length, get_or, set, ◌++◌, inl, inr, Option, None, Some}
-use Rattle.std.proofs.Common.{is_some, nat_lt, refl, sym, ap, subst, arith, ◌∙◌, eqb-true, eq-eqb}
+use Rattle.std.proofs.Common.{◌≡◌, ℕ, zero, suc, ◌+◌, ◌<◌, ◌≤◌, ◌==◌, Bool, true, false, cond, if◌then◌else◌, List, []}
+use Rattle.std.proofs.Common.{◌∷◌, take, drop, length, get_or, set, ◌++◌, inl, inr, Option, None, Some, is_some, nat_lt}
+use Rattle.std.proofs.Common.{refl, sym, ap, subst, arith, ◌∙◌, eqb-true, eq-eqb}
+use Rattle.std.proofs.lemmas.{Bool.{cases_lt, Decides.nat_tests}, Grind.drop_more_same}
+use Rattle.std.proofs.lemmas.List.{take-map, take_at, take_more, take_more_set, get_or-drop, drop-set-lt, set_split}
+use Rattle.std.proofs.lemmas.List.{append_assoc, length_push, get_or_default}
+use Rattle.std.proofs.lemmas.List.{Quantifiers.position-Some, Sums.fails_before_first}
 use Rattle.std.specs.List.{AllByRecursion, remove, refill, position, position_or_len}
-use Rattle.std.proofs.lemmas.Bool.{cases_lt}
-use Rattle.std.proofs.lemmas.Grind.{drop_more_same}
-use Rattle.std.proofs.lemmas.Bool.Decides.{nat_tests}
-use Rattle.std.proofs.lemmas.List.{take-map, take_at, take_more, take_more_set, get_or-drop, drop-set-lt, set_split, append_assoc, length_push, get_or_default}
-use Rattle.std.proofs.lemmas.List.Quantifiers.{position-Some}
-use Rattle.std.proofs.lemmas.List.Sums.{fails_before_first}
 use Rattle.mm_model.specs.Counted.{has, without}
-use Rattle.mm_vmem.specs.Stands.{IsDistinct, moved}
-use Rattle.mm_vmem.specs.declared.tlb.Entry.{Entry}
+use Rattle.mm_vmem.specs.{Stands.{IsDistinct, moved}, declared.tlb.Entry.Entry}
 use Rattle.mm_vmem.specs.Entries.{pages_in, frame_in, entries_without, after_look_up, AreEntries}
 use Rattle.mm_vmem.proofs.Recents.{distinct_moved}
 

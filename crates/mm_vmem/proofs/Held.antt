@@ -1,23 +1,16 @@
 -- What a cached memory holds while its parts change.
-use Rattle.std.proofs.Common.{◌≡◌, ℕ, zero, suc, ◌+◌, ◌-◌, ◌*◌, ◌/◌, ◌%◌, ◌<◌, ◌≤◌, Bool, true, false, if◌then◌else◌, List, [], ◌∷◌, length, Option, None, Some, is_some, refl, sym, ap, subst, arith}
-use Rattle.std.proofs.Common.{◌∙◌, eq-eqb}
-use Rattle.std.specs.Prelude.{slice_set}
-use Rattle.std.specs.List.{AllByRecursion}
-use Rattle.std.specs.Ordering.{nat_cmp}
-use Rattle.std.specs.FinMap.{find}
+use Rattle.std.proofs.Common.{◌≡◌, ℕ, zero, suc, ◌+◌, ◌-◌, ◌*◌, ◌/◌, ◌%◌, ◌<◌, ◌≤◌, Bool, true, false, if◌then◌else◌}
+use Rattle.std.proofs.Common.{List, [], ◌∷◌, length, Option, None, Some, is_some, refl, sym, ap, subst, arith, ◌∙◌}
+use Rattle.std.{proofs.Common.eq-eqb, specs.{Prelude.slice_set, List.AllByRecursion, Ordering.nat_cmp, FinMap.find}}
 use Rattle.mm_word.specs.declared.word.Cell.{Cell}
-use Rattle.mm_model.specs.Memory.{Memory, is_mapped}
-use Rattle.mm_model.specs.declared.counts.Counts.{Counts}
+use Rattle.mm_model.specs.{Memory.{Memory, is_mapped}, declared.counts.Counts.Counts}
 use Rattle.mm_model.specs.Counted.{line_of, page_of_block, page_of_old}
 use Rattle.mm_mem.specs.Blocks.{block_in, block_of_page, block_at, put_block, place_of_block}
 use Rattle.mm_frames.specs.Framed.{Framed, frame_of, memory_of, cells_in, written}
 use Rattle.mm_frames.proofs.Framed.{page_in_frame, has_frame_is_mapped, frame_of-written, memory_of-read}
-use Rattle.mm_cache.specs.declared.line.CacheLine.{CacheLine}
-use Rattle.mm_cache.specs.Lines.{line_in, is_in, hits, dirty_in, filled, emptied}
-use Rattle.mm_cache.specs.Over.{over}
-use Rattle.mm_cache.specs.Laws.{Cover}
-use Rattle.mm_cache.proofs.Placed.{line_emptied, line_set_same}
-use Rattle.mm_cache.proofs.FillLines.{fills_are_over, clean_lines_go}
+use Rattle.mm_cache.specs.{declared.line.CacheLine.CacheLine, Lines.{line_in, is_in, hits, dirty_in, filled, emptied}}
+use Rattle.mm_cache.specs.{Over.over, Laws.Cover}
+use Rattle.mm_cache.proofs.{Placed.{line_emptied, line_set_same}, FillLines.{fills_are_over, clean_lines_go}}
 use Rattle.mm_cache.proofs.WriteBack.{lines_are_written_back}
 use Rattle.mm_vmem.specs.declared.tlb.Entry.{Entry}
 use Rattle.mm_vmem.specs.Stands.{state_at, state_has, sought, after_looks, moved, next_numbers}

@@ -1,14 +1,15 @@
 -- The line_states of lines, and what an access makes of them.
-use Rattle.std.proofs.Common.{◌≡◌, ℕ, zero, suc, ◌+◌, ◌<◌, ◌/◌, ◌%◌, ◌==◌, Bool, true, false, not, ◌&&◌, ◌||◌, if◌then◌else◌, List, [], ◌∷◌, replicate, Option, None, Some, is_some, slice_get}
-use Rattle.std.proofs.Common.{refl, sym, ap, arith, ◌∙◌, eqb-true}
-use Rattle.std.specs.Prelude.{slice_set}
+use Rattle.std.proofs.Common.{◌≡◌, ℕ, zero, suc, ◌+◌, ◌<◌, ◌/◌, ◌%◌, ◌==◌, Bool, true, false, not, ◌&&◌, ◌||◌}
+use Rattle.std.proofs.Common.{if◌then◌else◌, List, [], ◌∷◌, replicate, Option, None, Some, is_some, slice_get, refl}
+use Rattle.std.{proofs.Common.{sym, ap, arith, ◌∙◌, eqb-true}, specs.Prelude.slice_set}
 use Rattle.mm_word.specs.declared.word.Cell.{Cell}
-use Rattle.mm_model.specs.declared.counts.Counts.{Counts}
-use Rattle.mm_model.specs.Flags.{one_if}
+use Rattle.mm_model.specs.{declared.counts.Counts.Counts, Flags.one_if}
 use Rattle.mm_model.specs.Counted.{block_of, line_of, page_of_block, page_of_old}
 use Rattle.mm_cache.specs.declared.line.CacheLine.{CacheLine}
-use Rattle.mm_cache.specs.Lines.{line_in, is_in, hits, dirty_in, line_with, with_cell, filled, emptied, without_page, line_without as line_left}
-use Rattle.mm_vmem.specs.Stands.{LineState, state_at, state_has, next_state, back_of, sought, after_looks, found_in, missed_in, next_numbers, lines_without, line_without}
+use Rattle.mm_cache.specs.Lines.{line_in, is_in, hits, dirty_in, line_with, with_cell, filled, emptied, without_page}
+use Rattle.mm_cache.{specs.Lines.line_without as line_left}
+use Rattle.mm_vmem.specs.Stands.{LineState, state_at, state_has, next_state, back_of, sought, after_looks, found_in}
+use Rattle.mm_vmem.specs.Stands.{missed_in, next_numbers, lines_without, line_without}
 use Rattle.mm_vmem.specs.Cached.{line_state, line_states, looked, gone_back}
 
 -- 1. The line_states of changed lines.

@@ -1,7 +1,8 @@
 -- A cached memory whose pages change, or whose contents are set.
-use Rattle.std.proofs.Common.{◌≡◌, ℕ, ◌^◌, ◌<◌, Bool, true, false, List, [], ◌∷◌, map, replicate, Option, None, Some, is_some, refl, sym, ap, subst, arith, ◌∙◌}
-use Rattle.std.specs.Prelude.{IfSome, IfNone}
-use Rattle.mm_vmem.proofs.Entries.{none_of}
+use Rattle.std.proofs.Common.{◌≡◌, ℕ, ◌^◌, ◌<◌, Bool, true, false, List, [], ◌∷◌, map, replicate, Option, None, Some}
+use Rattle.std.{proofs.Common.{is_some, refl, sym, ap, subst, arith, ◌∙◌}, specs.Prelude.{IfSome, IfNone}}
+use Rattle.mm_vmem.proofs.{Entries.none_of, Held.AreRight}
+use Rattle.mm_vmem.specs.{declared.tlb.Entry.Entry, Cached.{Cached, IsCached, AreFew}}
 use Rattle.mm_word.specs.declared.word.Cell.{Cell}
 use Rattle.mm_model.specs.Memory.{Memory, IsPaged, is_mapped, can_map, map_page, unmap_page}
 use Rattle.mm_model.proofs.Memories.{can_map-facts}
@@ -9,14 +10,8 @@ use Rattle.mm_mem.specs.Answers.{after_map, after_unmap}
 use Rattle.mm_mem.proofs.Flats.{map_refused, map_done, unmap_refused, unmap_done}
 use Rattle.mm_frames.specs.Framed.{Framed, frame_of, memory_of, seated, without}
 use Rattle.mm_frames.proofs.Framed.{has_frame_is_mapped, frame_of-seated_other, frame_of-without_other}
-use Rattle.mm_cache.specs.declared.line.CacheLine.{CacheLine}
-use Rattle.mm_cache.specs.Lines.{without_page}
-use Rattle.mm_cache.specs.Over.{over, lay}
-use Rattle.mm_cache.specs.Laws.{Cover}
+use Rattle.mm_cache.specs.{declared.line.CacheLine.CacheLine, Lines.without_page, Over.{over, lay}, Laws.Cover}
 use Rattle.mm_cache.proofs.MapPages.{pages_are_over, empty_lines_are_over}
-use Rattle.mm_vmem.specs.declared.tlb.Entry.{Entry}
-use Rattle.mm_vmem.specs.Cached.{Cached, IsCached, AreFew}
-use Rattle.mm_vmem.proofs.Held.{AreRight}
 
 -- the same memory over other frames, which count their blocks themselves
 abbrev pub with_frames : Cached → Framed → Cached

@@ -1,6 +1,6 @@
 -- The buffer is the first entries of the distinct pages.
-use Rattle.std.proofs.Common.{◌≡◌, ℕ, zero, suc, ◌==◌, Bool, true, false, if◌then◌else◌, List, [], ◌∷◌, take, refl, sym, ap, subst, ◌∙◌, inl, inr}
-use Rattle.std.proofs.lemmas.Bool.{cases_eq, eq-eqb, ne_eqb}
+use Rattle.std.proofs.Common.{◌≡◌, ℕ, zero, suc, ◌==◌, Bool, true, false, if◌then◌else◌, List, [], ◌∷◌, take, refl, sym}
+use Rattle.std.proofs.{Common.{ap, subst, ◌∙◌, inl, inr}, lemmas.Bool.{cases_eq, eq-eqb, ne_eqb}}
 use Rattle.mm_model.specs.Counted.{has, without, distinct}
 use Rattle.mm_vmem.specs.Stands.{IsDistinct}
 

@@ -1,19 +1,17 @@
 -- One more use.
-use Rattle.std.proofs.Common.{◌≡◌, ◌≢◌, ℕ, zero, suc, ◌+◌, ◌<◌, ◌==◌, Bool, true, false, not, ◌&&◌, ◌||◌, if◌then◌else◌, List, [], ◌∷◌, ◌++◌, reverse, take, set, Option, None, Some, slice_get}
-use Rattle.std.proofs.Common.{is_some, refl, sym, ap, subst, arith, ◌∙◌, ◌⊎◌, inl, inr}
-use Rattle.std.proofs.lemmas.Bool.{cases_eq, ne_eqb}
-use Rattle.std.proofs.lemmas.Bool.Decides.{nat_tests}
-use Rattle.std.proofs.lemmas.List.{reverse-append}
+use Rattle.std.proofs.Common.{◌≡◌, ◌≢◌, ℕ, zero, suc, ◌+◌, ◌<◌, ◌==◌, Bool, true, false, not, ◌&&◌, ◌||◌, if◌then◌else◌}
+use Rattle.std.proofs.Common.{List, [], ◌∷◌, ◌++◌, reverse, take, set, Option, None, Some, slice_get, is_some, refl}
+use Rattle.std.proofs.Common.{sym, ap, subst, arith, ◌∙◌, ◌⊎◌, inl, inr}
+use Rattle.std.proofs.lemmas.{Bool.{cases_eq, ne_eqb, Decides.nat_tests}, List.reverse-append}
 use Rattle.std.specs.Prelude.{slice_set}
 use Rattle.mm_word.specs.declared.perm.Kind.{Kind}
-use Rattle.mm_model.specs.Uses.{Use, Accessed, Removed, accesses-append}
-use Rattle.mm_model.specs.declared.counts.Counts.{Counts}
-use Rattle.mm_model.specs.Counted.{latest, written, recent, numbers, page_of_block, block_of, line_of, outside_page, has, distinct, is_block, is_hit, given_back, written_back, looked_up, look_ups}
-use Rattle.mm_model.specs.Counted.{buffer_hits, buffer_misses, page_of_old, writes}
-use Rattle.mm_model.specs.Flags.{one_if}
-use Rattle.mm_vmem.specs.Stands.{LineState, state_with, line_after, line_without, Stands, moved, flat_line, state_at, state_has, back_of, next_state, sought, after_looks, found_in, missed_in}
-use Rattle.mm_vmem.specs.Stands.{next_numbers, lines_without}
-use Rattle.mm_vmem.proofs.Recents.{move_first}
+use Rattle.mm_model.specs.{Uses.{Use, Accessed, Removed, accesses-append}, declared.counts.Counts.Counts}
+use Rattle.mm_model.specs.Counted.{latest, written, recent, numbers, page_of_block, block_of, line_of, outside_page}
+use Rattle.mm_model.specs.Counted.{has, distinct, is_block, is_hit, given_back, written_back, looked_up, look_ups}
+use Rattle.mm_model.specs.{Counted.{buffer_hits, buffer_misses, page_of_old, writes}, Flags.one_if}
+use Rattle.mm_vmem.specs.Stands.{LineState, state_with, line_after, line_without, Stands, moved, flat_line, state_at}
+use Rattle.mm_vmem.specs.Stands.{state_has, back_of, next_state, sought, after_looks, found_in, missed_in, next_numbers}
+use Rattle.mm_vmem.{specs.Stands.lines_without, proofs.Recents.move_first}
 
 snoc : (us : List Use) (u : Use) → u ∷ reverse us ≡ reverse (us ++ u ∷ [])
 snoc us u = sym (reverse-append us (u ∷ []))

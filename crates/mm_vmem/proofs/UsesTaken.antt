@@ -1,19 +1,16 @@
 -- The lists of uses to which a cached memory stands, after a part of a call.
-use Rattle.std.proofs.Common.{◌≡◌, ℕ, ◌+◌, Bool, true, false, ◌&&◌, List, [], ◌∷◌, ◌++◌, Option, None, Some, is_some, replicate, slice_get, refl, sym, ap, subst, ◌∙◌}
+use Rattle.std.proofs.Common.{◌≡◌, ℕ, ◌+◌, Bool, true, false, ◌&&◌, List, [], ◌∷◌, ◌++◌, Option, None, Some, is_some}
+use Rattle.std.proofs.Common.{replicate, slice_get, refl, sym, ap, subst, ◌∙◌}
 use Rattle.std.specs.Prelude.{slice_set, IfSome, IfNone}
-use Rattle.mm_word.specs.declared.perm.Kind.{Kind}
-use Rattle.mm_word.specs.declared.word.Cell.{Cell}
-use Rattle.mm_model.specs.Uses.{Use, Accessed, Removed}
-use Rattle.mm_model.specs.Counted.{block_of, line_of, writes}
-use Rattle.mm_cache.specs.declared.line.CacheLine.{CacheLine}
-use Rattle.mm_cache.specs.Lines.{hits, with_cell, without_page}
+use Rattle.mm_word.specs.declared.{perm.Kind.Kind, word.Cell.Cell}
+use Rattle.mm_model.specs.{Uses.{Use, Accessed, Removed}, Counted.{block_of, line_of, writes}}
+use Rattle.mm_cache.specs.{declared.line.CacheLine.CacheLine, Lines.{hits, with_cell, without_page}}
 use Rattle.mm_vmem.specs.Stands.{LineState, state_at, state_has, sought, after_looks, next_numbers}
-use Rattle.mm_frames.specs.Framed.{Framed}
-use Rattle.mm_vmem.specs.declared.tlb.Entry.{Entry}
-use Rattle.mm_vmem.specs.Entries.{pages_in}
-use Rattle.mm_vmem.specs.Cached.{Cached, StandsTo, line_states}
+use Rattle.mm_vmem.specs.{declared.tlb.Entry.Entry, Entries.pages_in, Cached.{Cached, StandsTo, line_states}}
 use Rattle.mm_vmem.proofs.Steps.{stands_counted, stands_no_page, stands_removed, stands_marked, stands_none}
-use Rattle.mm_vmem.proofs.LineStates.{tag_hits, lines_there, sought_there, numbers_there, tag_brought, tags_written, tags_without, tags_empty, same_counts}
+use Rattle.mm_vmem.proofs.LineStates.{tag_hits, lines_there, sought_there, numbers_there, tag_brought, tags_written}
+use Rattle.mm_vmem.proofs.LineStates.{tags_without, tags_empty, same_counts}
+use Rattle.mm_frames.specs.Framed.{Framed}
 
 abbrev tag_here : Cached → ℕ → Option LineState
 tag_here m w = state_at (line_states m.lines) (line_of (block_of w))

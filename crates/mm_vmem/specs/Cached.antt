@@ -1,18 +1,10 @@
 -- What a cached memory holds, and what it means.
-use Rattle.std.specs.Prelude.{◌≡◌, ℕ, ◌+◌, ◌*◌, ◌≤◌, not, List, map, Option, None, Some}
-use Rattle.std.specs.List.{AllByRecursion}
-use Rattle.mm_model.specs.Memory.{Memory}
-use Rattle.mm_model.specs.Uses.{Use}
-use Rattle.mm_model.specs.Flags.{one_if}
-use Rattle.mm_model.specs.Counted.{counts_of, line_of, page_of_block, has}
+use Rattle.std.specs.{Prelude.{◌≡◌, ℕ, ◌+◌, ◌*◌, ◌≤◌, not, List, map, Option, None, Some}, List.AllByRecursion}
+use Rattle.mm_model.specs.{Memory.Memory, Uses.Use, Flags.one_if, Counted.{counts_of, line_of, page_of_block, has}}
 use Rattle.mm_model.specs.declared.counts.Counts.{Counts}
 use Rattle.mm_frames.specs.Framed.{Framed, frame_of, memory_of}
-use Rattle.mm_cache.specs.declared.line.CacheLine.{CacheLine}
-use Rattle.mm_cache.specs.Over.{over}
-use Rattle.mm_cache.specs.Laws.{Cover}
-use Rattle.mm_vmem.specs.declared.tlb.Entry.{Entry}
-use Rattle.mm_vmem.specs.declared.vmem.Tally.{Tally}
-use Rattle.mm_vmem.specs.Stands.{LineState, Stands, state_at, back_of}
+use Rattle.mm_cache.specs.{declared.line.CacheLine.CacheLine, Over.over, Laws.Cover}
+use Rattle.mm_vmem.specs.{declared.{tlb.Entry.Entry, vmem.Tally.Tally}, Stands.{LineState, Stands, state_at, back_of}}
 use Rattle.mm_vmem.specs.Entries.{pages_in}
 
 -- 1. What a cached memory is.

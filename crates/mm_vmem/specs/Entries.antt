@@ -1,7 +1,6 @@
 -- The entries of the translation buffer, the last used first.
 use Rattle.std.specs.Prelude.{ℕ, ◌==◌, ◌≤◌, if◌then◌else◌, List, [], ◌∷◌, map, take, length, Option, None, Some}
-use Rattle.mm_vmem.specs.declared.tlb.Entry.{Entry}
-use Rattle.mm_vmem.specs.Stands.{IsDistinct}
+use Rattle.mm_vmem.specs.{declared.tlb.Entry.Entry, Stands.IsDistinct}
 
 -- the pages of these entries
 abbrev pub pages_in : List Entry → List ℕ

@@ -1,9 +1,7 @@
 -- When lines, a buffer and numbers are what a list of uses says.
 use Rattle.std.specs.Prelude.{◌≡◌, ℕ, ◌+◌, ◌<◌, ◌==◌, Bool, false, not, ◌&&◌, ◌||◌, if◌then◌else◌, List, [], ◌∷◌}
 use Rattle.std.specs.Prelude.{reverse, take, slice_get, Option, None, Some, is_some}
-use Rattle.mm_model.specs.Uses.{Use, accesses}
-use Rattle.mm_model.specs.declared.counts.Counts.{Counts}
-use Rattle.mm_model.specs.Flags.{one_if}
+use Rattle.mm_model.specs.{Uses.{Use, accesses}, declared.counts.Counts.Counts, Flags.one_if}
 use Rattle.mm_model.specs.Counted.{latest, written, recent, numbers, page_of_block, has, without, given_back}
 use Rattle.mm_model.specs.Counted.{page_of_old}
 

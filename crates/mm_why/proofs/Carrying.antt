@@ -1,16 +1,11 @@
 -- Lines of nodes at or above others, and words that two pointers share.
 use Rattle.std.proofs.Common.{◌≡◌, ℕ, ◌+◌, ◌%◌, ◌<◌, ◌≤◌, ◌⊎◌, inl, inr, Bool, true, List, [], ◌∷◌, ◌++◌, length}
 use Rattle.std.proofs.Common.{slice_index, Option, Some, None, MatchOption, refl, sym, ap, ◌∙◌, subst, arith, pow_pos}
-use Rattle.std.proofs.lemmas.Bool.{cases_lt}
-use Rattle.std.proofs.lemmas.List.{get_or_push, get_or_append_left, length_push}
-use Rattle.mm_word.specs.Pointer.{Pointer, InSegment, Covers, base_of}
-use Rattle.mm_word.proofs.Segments.{segment_widens}
+use Rattle.std.proofs.lemmas.{Bool.cases_lt, List.{get_or_push, get_or_append_left, length_push}}
+use Rattle.mm_word.{specs.Pointer.{Pointer, InSegment, Covers, base_of}, proofs.Segments.segment_widens}
 use Rattle.mm_model.specs.Reach.{LoadsAt, StoresAt}
-use Rattle.mm_flow.specs.declared.node.Right.{Right}
-use Rattle.mm_flow.specs.declared.node.Right.TheVariants.{Load, Store}
-use Rattle.mm_flow.specs.Edges.{right_at}
-use Rattle.mm_flow.specs.Sharing.{Up}
-use Rattle.mm_flow.specs.Sharing.Up.{here, over}
+use Rattle.mm_flow.specs.{declared.node.Right.{Right, TheVariants.{Load, Store}}, Edges.right_at}
+use Rattle.mm_flow.specs.Sharing.{Up, Up.{here, over}}
 use Rattle.mm_graph.specs.declared.graph.Graph.{Graph}
 use Rattle.mm_graph.proofs.Bounds.{of_words, in_covers, loads_test, loads_then, stores_test, stores_then}
 use Rattle.mm_why.specs.Searches.{place_at}

@@ -3,17 +3,14 @@ use Rattle.std.proofs.Common.{◌≡◌, ℕ, zero, suc, ◌-◌, ◌<◌, ◌�
 use Rattle.std.specs.Int.{bit_at}
 use Rattle.mm_model.specs.Image.{Image}
 use Rattle.mm_flow.specs.Edges.{SharingEdges, enters_at}
-use Rattle.mm_flow.specs.Flow.{Has, Flows}
-use Rattle.mm_flow.specs.Flow.Flows.{from as flows_from, along as flows_along, through as flows_through}
+use Rattle.mm_flow.specs.Flow.{Has, Flows, Flows.{from as flows_from, along as flows_along, through as flows_through}}
 use Rattle.mm_flow.specs.Reached.{Reached}
-use Rattle.mm_flow.specs.Reached.Reached.{from as reached_from, along as reached_along, through as reached_through, linked as reached_linked, shared as reached_shared, by_maker as reached_by_maker}
+use Rattle.mm_flow.specs.Reached.Reached.{from as reached_from, along as reached_along, through as reached_through}
+use Rattle.mm_flow.specs.Reached.Reached.{linked as reached_linked, shared as reached_shared}
+use Rattle.mm_flow.{specs.Reached.Reached.by_maker as reached_by_maker}
 use Rattle.mm_graph.specs.declared.graph.Graph.{Graph}
-use Rattle.mm_why.specs.declared.rounds.Rounds.{Rounds}
-use Rattle.mm_why.specs.Rounds.{Hands, HandsOn, round_at}
-use Rattle.mm_why.specs.Rounds.Hands.{linked, met}
-use Rattle.mm_why.specs.Graphs.{edges_of}
-use Rattle.mm_why.specs.Giving.{Meets, IsContext}
-use Rattle.mm_why.specs.Giving.Meets.{by_words, by_maker}
+use Rattle.mm_why.specs.{declared.rounds.Rounds.Rounds, Rounds.{Hands, HandsOn, round_at, Hands.{linked, met}}}
+use Rattle.mm_why.specs.{Graphs.edges_of, Giving.{Meets, IsContext, Meets.{by_words, by_maker}}}
 
 abbrev sharing_of : Graph → SharingEdges
 sharing_of g = record { nodes = g.nodes.items; parents = g.parents.items; links = g.links }

@@ -2,58 +2,38 @@
 use Rattle.std.proofs.Common.{◌≡◌, ℕ, zero, suc, ◌+◌, ◌-◌, ◌%◌, ◌^◌, ◌<◌, ◌≤◌, ◌⊎◌, ◌↔◌, inl, inr, Bool, true, false}
 use Rattle.std.proofs.Common.{◌==◌, ◌&&◌, IsTrue, List, length, slice_index, replicate, map, bit_and, bit_or, Option}
 use Rattle.std.proofs.Common.{Some, None, refl, sym, ap, ◌∙◌, subst, arith, eqb-true, eq-eqb, add-zero}
-use Rattle.std.specs.Int.{bit_at}
-use Rattle.std.proofs.lemmas.Bool.{cases_lt, and_parts, and_from}
-use Rattle.std.proofs.lemmas.Grind.{common_steps}
-use Rattle.std.proofs.lemmas.Nat.{and_le_r}
-use Rattle.std.proofs.lemmas.Nat.Bits.{bit_at-lt, bit_at_ones}
-use Rattle.std.proofs.lemmas.List.{get_or-replicate, get_or_past, get_or-map, length-map}
-use Rattle.mm_word.proofs.Checked.{Covers-holds_word}
-use Rattle.mm_word.specs.Perm.{allows}
-use Rattle.mm_word.specs.Pointer.{Pointer, InSegment, Covers, holds_word, IsBelow}
-use Rattle.mm_word.proofs.Below.{holds_word-Covers}
-use Rattle.mm_model.specs.Image.{Image}
-use Rattle.mm_model.specs.Flags.{in_mask}
-use Rattle.mm_model.specs.Reach.{LoadsAt, StoresAt}
-use Rattle.mm_model.specs.Reach.Entries.{All}
-use Rattle.mm_flow.specs.declared.node.Right.{Right}
-use Rattle.mm_flow.specs.declared.node.Right.TheVariants.{Load, Make}
+use Rattle.std.proofs.lemmas.{Bool.{cases_lt, and_parts, and_from}, Grind.common_steps}
+use Rattle.std.proofs.lemmas.Nat.{and_le_r, Bits.{bit_at-lt, bit_at_ones}}
+use Rattle.std.{proofs.lemmas.List.{get_or-replicate, get_or_past, get_or-map, length-map}, specs.Int.bit_at}
+use Rattle.mm_word.proofs.{Checked.Covers-holds_word, Below.holds_word-Covers}
+use Rattle.mm_word.specs.{Perm.allows, Pointer.{Pointer, InSegment, Covers, holds_word, IsBelow}}
+use Rattle.mm_model.specs.{Image.Image, Flags.in_mask, Reach.{LoadsAt, StoresAt, Entries.All}}
+use Rattle.mm_model.specs.declared.word_use.WordUse.{WordUse}
+use Rattle.mm_flow.specs.declared.node.Right.{Right, TheVariants.{Load, Make}}
 use Rattle.mm_flow.specs.Edges.{Edges, SharingEdges, no_node, entry_at, enters_at, right_at}
 use Rattle.mm_flow.specs.Flow.{Has, Flows, IsFlow}
 use Rattle.mm_flow.specs.Flow.Flows.{from as flows_from, along as flows_along, through as flows_through}
 use Rattle.mm_flow.specs.Sharing.{kept_mark}
 use Rattle.mm_flow.specs.Reached.{HasSome, Shares, AreSharingEdges, Reached, IsReach}
 use Rattle.mm_flow.specs.Reached.Shares.{linked as shares_linked, shared as shares_shared, by_maker as shares_by_maker}
-use Rattle.mm_flow.specs.Reached.Reached.{from as reached_from, along as reached_along, through as reached_through, linked as reached_linked, shared as reached_shared, by_maker as reached_by_maker}
+use Rattle.mm_flow.specs.Reached.Reached.{from as reached_from, along as reached_along, through as reached_through}
+use Rattle.mm_flow.specs.Reached.Reached.{linked as reached_linked, shared as reached_shared}
+use Rattle.mm_flow.{specs.Reached.Reached.by_maker as reached_by_maker}
 use Rattle.mm_flow.proofs.Bits.{or_left, or_right, or_cases, and_both, both_bits, zero_bit}
 use Rattle.mm_flow.proofs.SharedMarks.{kept_then, then_kept}
-use Rattle.mm_graph.specs.declared.canonical_ptr.CanonicalPtr.{CanonicalPtr}
-use Rattle.mm_graph.specs.declared.graph.Graph.{Graph}
-use Rattle.mm_graph.specs.Key.{key_at, pointer_at, entry_key, is_entry}
-use Rattle.mm_graph.specs.Nodes.{AreLinked}
-use Rattle.mm_graph.specs.Marked.{node_pointer}
-use Rattle.mm_graph.specs.GraphOf.{Marked}
-use Rattle.mm_graph.specs.Summary.{IsExact, SomeLoads, SomeStores}
-use Rattle.mm_graph.proofs.Graphs.{exact_marks}
-use Rattle.mm_graph.proofs.Segments.{below-loads, below-stores}
-use Rattle.mm_why.specs.declared.line.Line.{Line}
-use Rattle.mm_why.specs.declared.rounds.Rounds.{Rounds}
-use Rattle.mm_model.specs.declared.word_use.WordUse.{WordUse}
-use Rattle.mm_model.specs.declared.word_use.WordUse.TheVariants as uses
-use Rattle.mm_why.specs.declared.uses.Owner.{Owner}
+use Rattle.mm_graph.specs.declared.{canonical_ptr.CanonicalPtr.CanonicalPtr, graph.Graph.Graph}
+use Rattle.mm_graph.specs.{Key.{key_at, pointer_at, entry_key, is_entry}, Nodes.AreLinked, Marked.node_pointer}
+use Rattle.mm_graph.specs.{GraphOf.Marked, Summary.{IsExact, SomeLoads, SomeStores}}
+use Rattle.mm_graph.proofs.{Graphs.exact_marks, Segments.{below-loads, below-stores}}
+use Rattle.mm_why.specs.declared.{line.Line.Line, rounds.Rounds.Rounds, uses.Owner.Owner}
 use Rattle.mm_why.specs.Derivations.{line_at, Says, EachFollows, NoneTwice, IsDerivation, GivesUse, IsGranted, Derives}
-use Rattle.mm_why.specs.Traces.{IsTrace}
-use Rattle.mm_why.specs.Rounds.{AreRounds, round_at}
-use Rattle.mm_why.specs.Graphs.{IsGraph, edges_of}
-use Rattle.mm_why.specs.Works.{IsSearched, ReachesRight}
-use Rattle.mm_why.specs.Giving.{Meets, IsContext}
-use Rattle.mm_why.specs.Giving.Meets.{by_words, by_maker}
+use Rattle.mm_why.specs.{Traces.IsTrace, Rounds.{AreRounds, round_at}, Graphs.{IsGraph, edges_of}}
+use Rattle.mm_why.specs.{Works.{IsSearched, ReachesRight}, Giving.{Meets, IsContext, Meets.{by_words, by_maker}}}
 use Rattle.mm_why.specs.Owning.{asked, can_use, CanUse, IsOwner, NoOwner, IsUsable}
 use Rattle.mm_why.specs.Answers.{ReachesUse, Owns, IsSharing, IsGiver, GivesAt}
-use Rattle.mm_why.proofs.Pruning.{same_or_before}
-use Rattle.mm_why.proofs.GraphFacts.{nodes_len}
-use Rattle.mm_why.proofs.Giving.{is_graph, below_node}
+use Rattle.mm_why.proofs.{Pruning.same_or_before, GraphFacts.nodes_len, Giving.{is_graph, below_node}}
 use Rattle.mm_why.proofs.Coming.{came, owned}
+use Rattle.mm_model.specs.declared.word_use.WordUse.TheVariants as uses
 
 -- 1. Uses and the pointers that give them.
 

@@ -1,35 +1,18 @@
 -- Pointers that come from group to group.
-use Rattle.std.proofs.Common.{◌≡◌, ℕ, ◌+◌, ◌<◌, ◌⊎◌, inl, inr, true, List, length, slice_index_or, Option, Some, None, MatchOption, refl, sym, ap, ◌∙◌, subst, arith}
-use Rattle.std.proofs.lemmas.List.{get_or_default}
-use Rattle.mm_word.specs.declared.perm.Perm.TheVariants.{Xp}
-use Rattle.mm_word.specs.Perm.{can_become}
-use Rattle.mm_word.specs.Pointer.{Pointer, IsBelow}
-use Rattle.mm_model.specs.Slot.{Slot}
-use Rattle.mm_model.specs.Image.{Image}
-use Rattle.mm_flow.specs.declared.node.Right.{Right}
-use Rattle.mm_flow.specs.declared.node.Right.TheVariants.{Load, Make}
-use Rattle.mm_flow.specs.Edges.{right_at}
-use Rattle.mm_graph.specs.declared.graph.Graph.{Graph}
-use Rattle.mm_graph.specs.Key.{key_at}
-use Rattle.mm_graph.specs.Marked.{node_pointer}
-use Rattle.mm_graph.specs.GraphOf.{IsGraphOf, CommonWord}
-use Rattle.mm_graph.proofs.Assembly.{graph}
-use Rattle.mm_graph.proofs.Representatives.{stands_from, stands_below}
-use Rattle.mm_graph.proofs.Segments.{below-loads, below-stores, never_xp}
-use Rattle.mm_graph.proofs.Summaries.{whole_fits, whole_covers}
-use Rattle.mm_model.specs.Reach.Entries.{All}
-use Rattle.mm_why.specs.declared.line.Line.{Line}
-use Rattle.mm_why.specs.declared.line.Rule.TheVariants as rules
-use Rattle.mm_why.specs.declared.work.Work.{Work}
-use Rattle.mm_why.specs.Derivations.{line_at, Says, Follows}
-use Rattle.mm_why.specs.Searches.{AtNode}
-use Rattle.mm_why.specs.Graphs.{IsGraph, edges_of}
-use Rattle.mm_why.specs.Carrying.{IsPair, NoPair, IsWith}
+use Rattle.std.proofs.Common.{◌≡◌, ℕ, ◌+◌, ◌<◌, ◌⊎◌, inl, inr, true, List, length, slice_index_or, Option, Some, None}
+use Rattle.std.proofs.{Common.{MatchOption, refl, sym, ap, ◌∙◌, subst, arith}, lemmas.List.get_or_default}
+use Rattle.mm_word.specs.{declared.perm.Perm.TheVariants.Xp, Perm.can_become, Pointer.{Pointer, IsBelow}}
+use Rattle.mm_model.specs.{Slot.Slot, Image.Image, Reach.Entries.All}
+use Rattle.mm_flow.specs.{declared.node.Right.{Right, TheVariants.{Load, Make}}, Edges.right_at}
+use Rattle.mm_graph.specs.{declared.graph.Graph.Graph, Key.key_at, Marked.node_pointer, GraphOf.{IsGraphOf, CommonWord}}
+use Rattle.mm_graph.proofs.{Assembly.graph, Representatives.{stands_from, stands_below}}
+use Rattle.mm_graph.proofs.{Segments.{below-loads, below-stores, never_xp}, Summaries.{whole_fits, whole_covers}}
+use Rattle.mm_why.specs.{declared.{line.Line.Line, work.Work.Work}, Derivations.{line_at, Says, Follows}}
+use Rattle.mm_why.specs.{Searches.AtNode, Graphs.{IsGraph, edges_of}, Carrying.{IsPair, NoPair, IsWith}}
 use Rattle.mm_why.specs.Works.{IsSearched, GoesOn, ReachesRight, HasRightAt, whole_pointer}
 use Rattle.mm_why.specs.Giving.{MeetsAt, Meets, AreCarriers, CarryBetween, JoinedBy, JoinedAt}
-use Rattle.mm_why.specs.Giving.Meets.{by_words, by_maker}
-use Rattle.mm_why.proofs.Pruning.{same_or_before}
-use Rattle.mm_why.proofs.GraphFacts.{nodes_len}
+use Rattle.mm_why.{specs.Giving.Meets.{by_words, by_maker}, proofs.{Pruning.same_or_before, GraphFacts.nodes_len}}
+use Rattle.mm_why.specs.declared.line.Rule.TheVariants as rules
 
 module _ (i : Image) (g : Graph) (h : IsGraph i g) where
   pub is_graph : IsGraphOf i All (node_pointer g.keys.items) (edges_of g) (record { nodes = g.nodes.items; parents = g.parents.items; links = g.links }) g.start.items

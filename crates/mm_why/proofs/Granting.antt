@@ -1,21 +1,14 @@
 -- Each line of a derivation is granted.
-use Rattle.std.proofs.Common.{◌≡◌, ℕ, zero, suc, ◌<◌, ◌≤◌, inl, inr, List, length, slice_index_or, arith, subst, sym, ◌∙◌}
+use Rattle.std.proofs.Common.{◌≡◌, ℕ, zero, suc, ◌<◌, ◌≤◌, inl, inr, List, length, slice_index_or, arith, subst, sym}
+use Rattle.std.proofs.{Common.◌∙◌, lemmas.{Bool.cases_lt, List.{get_or_past, Elements.Contains-get_or}}}
 use Rattle.std.specs.List.{Contains}
-use Rattle.std.proofs.lemmas.Bool.{cases_lt}
-use Rattle.std.proofs.lemmas.List.{get_or_past}
-use Rattle.std.proofs.lemmas.List.Elements.{Contains-get_or}
-use Rattle.mm_word.specs.declared.word.Word.{Word}
-use Rattle.mm_word.specs.declared.word.Word.TheVariants.{Int, Ptr}
-use Rattle.mm_word.specs.Pointer.{Pointer}
-use Rattle.mm_model.specs.Slot.{Slot, register}
-use Rattle.mm_model.specs.Image.{Image}
+use Rattle.mm_word.specs.{declared.word.Word.{Word, TheVariants.{Int, Ptr}}, Pointer.Pointer}
+use Rattle.mm_model.specs.{Slot.{Slot, register}, Image.Image}
 use Rattle.mm_model.specs.Reach.{Grants}
 use Rattle.mm_model.specs.Reach.Grants.{in_register, runs_by, in_cell, below, passed, entered, served, made}
 use Rattle.mm_model.specs.Reach.Entries.{All}
-use Rattle.mm_why.specs.declared.line.Line.{Line}
-use Rattle.mm_why.specs.declared.line.Rule.{Rule}
+use Rattle.mm_why.specs.{declared.line.{Line.Line, Rule.Rule}, Derivations.{Says, line_at, Follows, EachFollows}}
 use Rattle.mm_why.specs.declared.line.Rule.TheVariants as rules
-use Rattle.mm_why.specs.Derivations.{Says, line_at, Follows, EachFollows}
 
 -- a pointer that a register is said to have stands among the registers
 holds_pointer : (words : List Word) (r : ℕ) (p : Pointer) → slice_index_or words r (Int 0) ≡ Ptr p → Contains words (Ptr p)

@@ -3,40 +3,26 @@ use Rattle.std.proofs.Common.{◌≡◌, ◌≢◌, ℕ, ◌+◌, ◌%◌, ◌^�
 use Rattle.std.proofs.Common.{List, length, slice_index, slice_index_or, get_or, Option, Some, None, refl, sym, ap, ◌∙◌}
 use Rattle.std.proofs.Common.{subst, arith}
 use Rattle.std.proofs.lemmas.Bool.{cases_lt}
-use Rattle.std.proofs.lemmas.List.{get_or_past}
+use Rattle.std.proofs.lemmas.List.{get_or_past, Elements.{Contains-get_or, All-from_recursion, All-contains}}
 use Rattle.std.specs.List.{Contains, AllByRecursion}
-use Rattle.std.proofs.lemmas.List.Elements.{Contains-get_or, All-from_recursion, All-contains}
 use Rattle.mm_word.proofs.Results.{enter_result-well_formed}
-use Rattle.mm_word.specs.declared.perm.Perm.{Perm}
-use Rattle.mm_word.specs.declared.perm.Perm.TheVariants.{Ro, Rw, Xu, Xp, Eu, Ep, Key as KeyPerm}
-use Rattle.mm_word.specs.declared.word.Word.{Word}
-use Rattle.mm_word.specs.declared.word.Word.TheVariants.{Int, Ptr}
-use Rattle.mm_word.specs.declared.word.Cell.{Cell}
-use Rattle.mm_word.specs.Perm.{can_move}
-use Rattle.mm_word.specs.Pointer.{Pointer, IsWellFormed, IsBelow, base_of, enter_result}
-use Rattle.mm_model.specs.Memory.{cell_at}
-use Rattle.mm_word.specs.Word.{IsWord}
-use Rattle.mm_model.specs.Slot.{Slot}
-use Rattle.mm_model.specs.Image.{Image, slot_limit}
-use Rattle.mm_model.specs.Spelling.{IsImage, IsFresh}
+use Rattle.mm_word.specs.declared.perm.{Perm.{Perm, TheVariants.{Ro, Rw, Xu, Xp, Eu, Ep, Key as KeyPerm}}}
+use Rattle.mm_word.specs.{declared.word.{Word.{Word, TheVariants.{Int, Ptr}}, Cell.Cell}, Perm.can_move}
+use Rattle.mm_word.specs.{Pointer.{Pointer, IsWellFormed, IsBelow, base_of, enter_result}, Word.IsWord}
+use Rattle.mm_model.specs.{Memory.cell_at, Slot.Slot, Image.{Image, slot_limit}, Spelling.{IsImage, IsFresh}}
 use Rattle.mm_model.specs.Reach.{LoadsAt}
 use Rattle.mm_flow.specs.Edges.{node_at}
-use Rattle.mm_graph.specs.declared.canonical_ptr.CanonicalPtr.{CanonicalPtr}
-use Rattle.mm_graph.specs.declared.graph.Graph.{Graph}
-use Rattle.mm_graph.specs.Key.{IsKey, IsRising, key_at, no_key, pointer_at, standing_for, standing_key, word_key, entry_key, loads_words, is_entry}
-use Rattle.mm_graph.specs.Found.{page_keys}
-use Rattle.mm_graph.specs.Nodes.{IsNode, nothing, found_word}
-use Rattle.mm_graph.proofs.Cells.{held}
-use Rattle.mm_graph.proofs.CellWords.{well_formed}
+use Rattle.mm_graph.specs.declared.{canonical_ptr.CanonicalPtr.CanonicalPtr, graph.Graph.Graph}
+use Rattle.mm_graph.specs.Key.{IsKey, IsRising, key_at, no_key, pointer_at, standing_for, standing_key, word_key}
+use Rattle.mm_graph.specs.{Key.{entry_key, loads_words, is_entry}, Found.page_keys, Nodes.{IsNode, nothing, found_word}}
+use Rattle.mm_graph.proofs.{Cells.held, CellWords.well_formed}
 use Rattle.mm_graph.proofs.Representatives.{stands_from, stands-pointer, stands_below, entry_from}
-use Rattle.mm_graph.proofs.Bounds.{in_covers, loads_then, entry_then}
-use Rattle.mm_graph.proofs.Segments.{below-loads}
-use Rattle.mm_why.specs.declared.line.Rule.TheVariants as rules
+use Rattle.mm_graph.proofs.{Bounds.{in_covers, loads_then, entry_then}, Segments.below-loads}
 use Rattle.mm_why.specs.Derivations.{line_at, Follows}
 use Rattle.mm_why.specs.Searches.{Stage, place_at, IsPlaced, AtNode, Searching, Advances, IsSlotOf}
 use Rattle.mm_why.specs.Graphs.{IsGraph, IsFound, CellsPlaced}
-use Rattle.mm_why.proofs.Pruning.{same_or_before}
-use Rattle.mm_why.proofs.Searching.{advances_same, advances_trans, stays_placed}
+use Rattle.mm_why.proofs.{Pruning.same_or_before, Searching.{advances_same, advances_trans, stays_placed}}
+use Rattle.mm_why.specs.declared.line.Rule.TheVariants as rules
 
 no_both : (v : Perm) → can_move v ≡ true → is_entry v ≡ true → ⊥
 no_both Ro m h = cc

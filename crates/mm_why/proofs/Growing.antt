@@ -1,15 +1,12 @@
 -- A list of lines that follow grows by lines that follow.
-use Rattle.std.proofs.Common.{◌≡◌, ℕ, ◌<◌, ◌≤◌, ◌⊎◌, inl, inr, List, [], ◌∷◌, ◌++◌, length, refl, sym, ap, ◌∙◌, subst, arith}
-use Rattle.std.proofs.lemmas.List.{get_or_push, get_or_append_left, length_push}
+use Rattle.std.proofs.Common.{◌≡◌, ℕ, ◌<◌, ◌≤◌, ◌⊎◌, inl, inr, List, [], ◌∷◌, ◌++◌, length, refl, sym, ap, ◌∙◌, subst}
+use Rattle.std.proofs.{Common.arith, lemmas.List.{get_or_push, get_or_append_left, length_push}}
 use Rattle.mm_word.specs.Pointer.{Pointer}
 use Rattle.mm_model.specs.Image.{Image}
-use Rattle.mm_why.specs.declared.line.Line.{Line}
-use Rattle.mm_why.specs.declared.line.Rule.{Rule}
-use Rattle.mm_why.specs.declared.line.Rule.TheVariants as rules
+use Rattle.mm_why.specs.declared.line.{Line.Line, Rule.Rule}
 use Rattle.mm_why.specs.Derivations.{line_at, no_line, Names, Says, Follows, LineFollows, EachFollows, NoneTwice}
-use Rattle.mm_why.specs.Pruning.{NameEarlier}
-use Rattle.mm_why.specs.Traces.{Extends, IsFresh, Adds}
-use Rattle.mm_why.proofs.Pruning.{same_or_before}
+use Rattle.mm_why.{specs.{Pruning.NameEarlier, Traces.{Extends, IsFresh, Adds}}, proofs.Pruning.same_or_before}
+use Rattle.mm_why.specs.declared.line.Rule.TheVariants as rules
 
 -- what follows names earlier lines only
 names_earlier : (i : Image) (lines : List Line) (top g : ℕ) (p : Pointer) (r : Rule) (j : ℕ) → Follows i lines top g p r → Names r j → j < top

@@ -1,22 +1,14 @@
 -- How one group hands a pointer to another.
 use Rattle.std.proofs.Common.{◌≡◌, ℕ, ◌+◌, ◌-◌, ◌<◌, ◌⊎◌, inl, inr, List, length, refl, sym, subst, arith}
-use Rattle.std.specs.List.{Contains}
-use Rattle.std.proofs.lemmas.List.Elements.{Contains-get_or, at_from_Contains}
+use Rattle.std.{proofs.lemmas.List.Elements.{Contains-get_or, at_from_Contains}, specs.List.Contains}
 use Rattle.mm_word.specs.Pointer.{Pointer}
-use Rattle.mm_model.specs.Slot.{Slot}
-use Rattle.mm_model.specs.Image.{Image}
-use Rattle.mm_model.specs.Reach.{LoadsAt, StoresAt}
+use Rattle.mm_model.specs.{Slot.Slot, Image.Image, Reach.{LoadsAt, StoresAt}}
 use Rattle.mm_flow.specs.Flow.{Has}
-use Rattle.mm_graph.specs.declared.graph.Graph.{Graph}
-use Rattle.mm_graph.specs.Nodes.{IsLinks}
-use Rattle.mm_why.specs.declared.line.Line.{Line}
-use Rattle.mm_why.specs.declared.line.Rule.TheVariants as rules
-use Rattle.mm_why.specs.declared.work.Work.{Work}
-use Rattle.mm_why.specs.Derivations.{Says, Follows}
-use Rattle.mm_why.specs.Rounds.{HandsOn, round_at, AreRounds}
-use Rattle.mm_why.specs.Works.{GoesOn}
-use Rattle.mm_why.specs.Giving.{HasLine, JoinedAt}
+use Rattle.mm_graph.specs.{declared.graph.Graph.Graph, Nodes.IsLinks}
+use Rattle.mm_why.specs.{declared.{line.Line.Line, work.Work.Work}, Derivations.{Says, Follows}}
+use Rattle.mm_why.specs.{Rounds.{HandsOn, round_at, AreRounds}, Works.GoesOn, Giving.{HasLine, JoinedAt}}
 use Rattle.mm_why.proofs.Working.{says_on}
+use Rattle.mm_why.specs.declared.line.Rule.TheVariants as rules
 
 -- the round before stands before the same end
 pub sooner : (round top : ℕ) → round < top → round - 1 < top

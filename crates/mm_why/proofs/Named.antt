@@ -1,8 +1,7 @@
 -- The lines that a rule names.
 use Rattle.std.proofs.Common.{◌≡◌, ℕ, inl, inr, refl, sym, subst}
-use Rattle.mm_why.specs.declared.line.Rule.{Rule}
+use Rattle.mm_why.specs.{declared.line.Rule.Rule, Derivations.Names}
 use Rattle.mm_why.specs.declared.line.Rule.TheVariants as rules
-use Rattle.mm_why.specs.Derivations.{Names}
 
 named : (k : ℕ) (r : Rule) {s : Rule} → r ≡ s → Names s k → Names r k
 named k r e h = subst (λ v. Names v k) (sym e) h

@@ -1,11 +1,9 @@
 -- The earliest line that can be used.
-use Rattle.std.proofs.Common.{◌≡◌, ℕ, ◌+◌, ◌<◌, ◌⊎◌, inl, inr, List, Option, Some, None, MatchOption, refl, sym, ap, ◌∙◌, subst, arith}
-use Rattle.mm_why.specs.declared.line.Line.{Line}
-use Rattle.mm_model.specs.declared.word_use.WordUse.{WordUse}
-use Rattle.mm_why.specs.Searches.{place_at}
-use Rattle.mm_why.specs.Carrying.{IsOneOf}
-use Rattle.mm_why.specs.Owning.{IsUsable, UsableAt}
+use Rattle.std.proofs.Common.{◌≡◌, ℕ, ◌+◌, ◌<◌, ◌⊎◌, inl, inr, List, Option, Some, None, MatchOption, refl, sym, ap}
+use Rattle.std.proofs.Common.{◌∙◌, subst, arith}
+use Rattle.mm_why.specs.{declared.line.Line.Line, Searches.place_at, Carrying.IsOneOf, Owning.{IsUsable, UsableAt}}
 use Rattle.mm_why.proofs.Pruning.{same_or_before}
+use Rattle.mm_model.specs.declared.word_use.WordUse.{WordUse}
 
 module _ (lines : List Line) (places : List (Option ℕ)) (how : WordUse) (word k : ℕ) where
   pub usable_more : (best own result : Option ℕ) → MatchOption best ((t : ℕ) → IsUsable lines places how word k t → ⊥) (IsUsable lines places how word k)

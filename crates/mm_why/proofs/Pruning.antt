@@ -1,14 +1,16 @@
 -- Of a derivation's lines those that the last one needs are a derivation.
-use Rattle.std.proofs.Common.{◌≡◌, ℕ, ◌+◌, ◌-◌, ◌<◌, ◌≤◌, ◌⊎◌, inl, inr, Bool, false, List, [], ◌∷◌, ◌++◌, length, take, get_or, slice_set, refl, sym, ap, ◌∙◌, subst, arith}
+use Rattle.std.proofs.Common.{◌≡◌, ℕ, ◌+◌, ◌-◌, ◌<◌, ◌≤◌, ◌⊎◌, inl, inr, Bool, false, List, [], ◌∷◌, ◌++◌, length, take}
+use Rattle.std.proofs.Common.{get_or, slice_set, refl, sym, ap, ◌∙◌, subst, arith}
 use Rattle.std.proofs.lemmas.Bool.{cases_lt}
+use Rattle.std.proofs.lemmas.List.{get_or_default, get_or_past, get_or-set_same, get_or-set_other, get_or_push}
+use Rattle.std.proofs.lemmas.List.{get_or_append_left, length_push, length-set, take_at}
 use Rattle.mm_word.specs.Pointer.{Pointer}
 use Rattle.mm_model.specs.Image.{Image}
-use Rattle.mm_why.specs.declared.line.Line.{Line}
-use Rattle.mm_why.specs.declared.line.Rule.{Rule}
-use Rattle.mm_why.specs.declared.line.Rule.TheVariants as rules
-use Rattle.std.proofs.lemmas.List.{get_or_default, get_or_past, get_or-set_same, get_or-set_other, get_or_push, get_or_append_left, length_push, length-set, take_at}
-use Rattle.mm_why.specs.Derivations.{line_at, no_line, Names, Says, Follows, LineFollows, EachFollows, NoneTwice, IsNamed, IsDerivation}
+use Rattle.mm_why.specs.declared.line.{Line.Line, Rule.Rule}
+use Rattle.mm_why.specs.Derivations.{line_at, no_line, Names, Says, Follows, LineFollows, EachFollows, NoneTwice}
+use Rattle.mm_why.specs.Derivations.{IsNamed, IsDerivation}
 use Rattle.mm_why.specs.Pruning.{NameEarlier, IsNeeded, AddsNamed, NeededBy, Needs, moved, moved_line, AreKept}
+use Rattle.mm_why.specs.declared.line.Rule.TheVariants as rules
 
 -- the line that was read at an index
 pub same_line : (lines : List Line) (k : ℕ) (line : Line) → k < length lines → line ≡ get_or lines k line → line ≡ line_at lines k

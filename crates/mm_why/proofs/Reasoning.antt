@@ -1,10 +1,7 @@
 -- Reasons in a round.
-use Rattle.std.proofs.Common.{◌≡◌, ℕ, ◌<◌, List, slice_index, ap, ◌∙◌}
-use Rattle.std.specs.Int.{bit_at}
+use Rattle.std.{proofs.Common.{◌≡◌, ℕ, ◌<◌, List, slice_index, ap, ◌∙◌}, specs.Int.bit_at}
 use Rattle.mm_flow.specs.Flow.{Has}
-use Rattle.mm_why.specs.Rounds.{Hands, HandsOn}
-use Rattle.mm_why.specs.Rounds.Hands.{linked, met}
-use Rattle.mm_why.specs.Reasons.{NoMeeting}
+use Rattle.mm_why.specs.{Rounds.{Hands, HandsOn, Hands.{linked, met}}, Reasons.NoMeeting}
 
 pub no_reason : (links meets now : List ℕ) (owner to mask : ℕ) → mask ≡ slice_index now owner
     → ((k : ℕ) → k < 64 → bit_at mask k ≡ 1 → Has links k to → ⊥)

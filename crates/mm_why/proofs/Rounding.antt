@@ -1,17 +1,14 @@
 -- Rounds in which all that groups have comes to others.
-use Rattle.std.proofs.Common.{◌≡◌, ℕ, ◌+◌, ◌-◌, ◌<◌, ◌≤◌, ◌⊎◌, ◌↔◌, inl, inr, Bool, false, IsTrue, nat_lt, List, [], ◌∷◌, ◌++◌, length, slice_index, replicate, refl, sym, ap, ◌∙◌, subst, arith}
-use Rattle.std.specs.Int.{bit_at}
-use Rattle.std.proofs.lemmas.Bool.{cases_lt}
+use Rattle.std.proofs.Common.{◌≡◌, ℕ, ◌+◌, ◌-◌, ◌<◌, ◌≤◌, ◌⊎◌, ◌↔◌, inl, inr, Bool, false, IsTrue, nat_lt, List, []}
+use Rattle.std.proofs.Common.{◌∷◌, ◌++◌, length, slice_index, replicate, refl, sym, ap, ◌∙◌, subst, arith}
+use Rattle.std.proofs.lemmas.Bool.{cases_lt, Decides.nat_tests}
 use Rattle.std.proofs.lemmas.List.{get_or-replicate, get_or_past, get_or_push, get_or_append_left, length_push}
-use Rattle.mm_flow.specs.Flow.{Has, Within}
-use Rattle.mm_flow.specs.Sharing.{AddsEdges, SharedBy, PropagatesShared}
+use Rattle.std.specs.Int.{bit_at}
+use Rattle.mm_flow.specs.{Flow.{Has, Within}, Sharing.{AddsEdges, SharedBy, PropagatesShared}}
+use Rattle.mm_flow.proofs.{Walks.at_one, Bits.zero_bit}
 use Rattle.mm_graph.proofs.OneBits.{with_bit, with_bit-only, with_bit-keeps, with_bit-there, with_bit-length}
-use Rattle.mm_flow.proofs.Walks.{at_one}
-use Rattle.mm_flow.proofs.Bits.{zero_bit}
-use Rattle.std.proofs.lemmas.Bool.Decides.{nat_tests}
 use Rattle.mm_why.specs.Rounds.{IsHanding, HandsOn, IsStep, round_at, FirstRounds, AreRounds, HandingSoFar, OwnSoFar}
-use Rattle.mm_why.specs.Rounds.Hands.{met}
-use Rattle.mm_why.proofs.Pruning.{same_or_before}
+use Rattle.mm_why.{specs.Rounds.Hands.met, proofs.Pruning.same_or_before}
 
 not_below : (g : ℕ) → 64 ≤ g → IsTrue (nat_lt g 64) → ⊥
 not_below g le h = grind (arith, nat_tests)

@@ -1,24 +1,17 @@
 -- A finished search has a line for each node that its group reaches along edges.
-use Rattle.std.proofs.Common.{◌≡◌, ℕ, ◌+◌, ◌<◌, ◌⊎◌, inl, inr, List, [], length, slice_index_or, replicate, Option, Some, None, sym, ap, ◌∙◌, subst, arith}
+use Rattle.std.proofs.Common.{◌≡◌, ℕ, ◌+◌, ◌<◌, ◌⊎◌, inl, inr, List, [], length, slice_index_or, replicate, Option}
+use Rattle.std.proofs.Common.{Some, None, sym, ap, ◌∙◌, subst, arith}
+use Rattle.std.proofs.lemmas.{Bool.cases_lt, List.{get_or-replicate, get_or_past, get_or_default, length-replicate}}
 use Rattle.std.specs.Int.{bit_at}
-use Rattle.std.proofs.lemmas.Bool.{cases_lt}
-use Rattle.std.proofs.lemmas.List.{get_or-replicate, get_or_past, get_or_default, length-replicate}
 use Rattle.mm_word.specs.declared.word.Word.TheVariants.{Int, Ptr}
-use Rattle.mm_model.specs.Slot.{Slot}
-use Rattle.mm_model.specs.Image.{Image}
-use Rattle.mm_flow.specs.Flow.{Has, Flows}
-use Rattle.mm_flow.specs.Flow.Flows.{from, along, through}
-use Rattle.mm_flow.proofs.Bits.{zero_bit}
-use Rattle.mm_graph.specs.declared.canonical_ptr.CanonicalPtr.{CanonicalPtr}
-use Rattle.mm_graph.specs.declared.graph.Graph.{Graph}
-use Rattle.mm_graph.specs.Key.{standing_key, word_key}
-use Rattle.mm_graph.proofs.Slots.{seed_from}
-use Rattle.mm_why.specs.declared.line.Line.{Line}
-use Rattle.mm_why.specs.Traces.{IsTrace}
+use Rattle.mm_model.specs.{Slot.Slot, Image.Image}
+use Rattle.mm_flow.{specs.Flow.{Has, Flows, Flows.{from, along, through}}, proofs.Bits.zero_bit}
+use Rattle.mm_graph.specs.declared.{canonical_ptr.CanonicalPtr.CanonicalPtr, graph.Graph.Graph}
+use Rattle.mm_graph.{specs.Key.{standing_key, word_key}, proofs.Slots.seed_from}
+use Rattle.mm_why.specs.{declared.line.Line.Line, Traces.IsTrace}
 use Rattle.mm_why.specs.Searches.{Stage, place_at, IsPlaced, Searching, Advances, SlotPlaced, IsClosed}
 use Rattle.mm_why.specs.Graphs.{IsGraph, SlotsPlaced, HasNoLine, edges_of, IsSearch}
-use Rattle.mm_why.proofs.Pruning.{same_or_before}
-use Rattle.mm_why.proofs.Searching.{advances_trans, stays_placed}
+use Rattle.mm_why.proofs.{Pruning.same_or_before, Searching.{advances_trans, stays_placed}}
 
 -- slots
 

@@ -3,24 +3,18 @@ use Rattle.std.proofs.Common.{◌≡◌, ◌≢◌, ℕ, zero, suc, ◌+◌, ◌
 use Rattle.std.proofs.Common.{slice_index, slice_index_or, slice_set, Option, Some, None, refl, sym, ap, ◌∙◌, subst}
 use Rattle.std.proofs.Common.{arith}
 use Rattle.std.proofs.lemmas.Bool.{cases_lt}
-use Rattle.std.proofs.lemmas.List.{get_or_default, get_or-set_same, get_or-set_other, get_or_push, get_or_append_left, length_push, length-set}
-use Rattle.mm_word.specs.declared.word.Word.{Word}
-use Rattle.mm_word.specs.declared.word.Word.TheVariants.{Int, Ptr}
-use Rattle.mm_word.specs.Pointer.{Pointer, IsWellFormed}
-use Rattle.mm_model.specs.Slot.{Slot, register}
-use Rattle.mm_model.specs.Image.{Image}
-use Rattle.mm_flow.specs.declared.node.Node.{Node}
-use Rattle.mm_flow.specs.Edges.{node_at}
+use Rattle.std.proofs.lemmas.List.{get_or_default, get_or-set_same, get_or-set_other, get_or_push, get_or_append_left}
+use Rattle.std.proofs.lemmas.List.{length_push, length-set}
+use Rattle.mm_word.specs.{declared.word.Word.{Word, TheVariants.{Int, Ptr}}, Pointer.{Pointer, IsWellFormed}}
+use Rattle.mm_model.specs.{Slot.{Slot, register}, Image.Image}
+use Rattle.mm_flow.specs.{declared.node.Node.Node, Edges.node_at}
 use Rattle.mm_graph.specs.declared.canonical_ptr.CanonicalPtr.{CanonicalPtr}
-use Rattle.mm_graph.specs.Key.{IsRising, key_at, standing_key, word_key}
-use Rattle.mm_graph.proofs.Rising.{same_place}
-use Rattle.mm_why.specs.declared.line.Line.{Line}
+use Rattle.mm_graph.{specs.Key.{IsRising, key_at, standing_key, word_key}, proofs.Rising.same_place}
+use Rattle.mm_why.specs.{declared.line.Line.Line, Derivations.{line_at, LineFollows}, Traces.{IsFresh, Adds}}
+use Rattle.mm_why.specs.Searches.{Stage, place_at, IsPlaced, room, AtNode, Searching, Further, Advances, HeldBy}
+use Rattle.mm_why.specs.Searches.{WordPlaced, IsSlotOf, HasWords, RegistersPlaced, SlotPlaced, IsClosed, Expanding}
+use Rattle.mm_why.proofs.{Growing.{adds, extends_trans, extends_same}, Pruning.same_or_before}
 use Rattle.mm_why.specs.declared.line.Rule.TheVariants as rules
-use Rattle.mm_why.specs.Derivations.{line_at, LineFollows}
-use Rattle.mm_why.specs.Traces.{IsFresh, Adds}
-use Rattle.mm_why.specs.Searches.{Stage, place_at, IsPlaced, room, AtNode, Searching, Further, Advances, HeldBy, WordPlaced, IsSlotOf, HasWords, RegistersPlaced, SlotPlaced, IsClosed, Expanding}
-use Rattle.mm_why.proofs.Growing.{adds, extends_trans, extends_same}
-use Rattle.mm_why.proofs.Pruning.{same_or_before}
 
 -- two nodes that stand for one pointer are one
 one_node : (keys : List CanonicalPtr) (j k : ℕ) (p q : Pointer) → IsRising keys → AtNode keys j p → AtNode keys k q → p ≡ q → j ≡ k

@@ -1,11 +1,9 @@
 -- The texts of lines that are written one after the other.
-use Rattle.std.proofs.Common.{◌≡◌, ℕ, ◌+◌, ◌<◌, List, [], ◌∷◌, ◌++◌, length, take, get_or, Option, refl, sym, ap, ◌∙◌, append_assoc, append-nil, arith, codes, decimal}
-use Rattle.std.specs.Fmt.{digits}
-use Rattle.std.proofs.lemmas.List.{take_more, length-take-le}
-use Rattle.mm_text.specs.Appends.{Buffered, Appends}
-use Rattle.mm_text.proofs.Appending.{appends_then, appends_same}
-use Rattle.mm_why.specs.declared.line.Line.{Line}
-use Rattle.mm_why.specs.Text.{line_text, lines_text}
+use Rattle.std.proofs.Common.{◌≡◌, ℕ, ◌+◌, ◌<◌, List, [], ◌∷◌, ◌++◌, length, take, get_or, Option, refl, sym, ap, ◌∙◌}
+use Rattle.std.proofs.Common.{append_assoc, append-nil, arith, codes, decimal}
+use Rattle.std.{proofs.lemmas.List.{take_more, length-take-le}, specs.Fmt.digits}
+use Rattle.mm_text.{specs.Appends.{Buffered, Appends}, proofs.Appending.{appends_then, appends_same}}
+use Rattle.mm_why.specs.{declared.line.Line.Line, Text.{line_text, lines_text}}
 
 -- 1. What is gathered after a text.
 

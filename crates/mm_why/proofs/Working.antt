@@ -1,22 +1,14 @@
 -- The work goes on.
-use Rattle.std.proofs.Common.{◌≡◌, ◌≢◌, ℕ, ◌<◌, ◌≤◌, ◌⊎◌, inl, inr, List, length, slice_set, Option, Some, None, refl, sym, ap, ◌∙◌, subst, arith}
-use Rattle.std.proofs.lemmas.Bool.{cases_lt}
-use Rattle.std.proofs.lemmas.List.{get_or-set_same, get_or-set_other, length-set}
+use Rattle.std.proofs.Common.{◌≡◌, ◌≢◌, ℕ, ◌<◌, ◌≤◌, ◌⊎◌, inl, inr, List, length, slice_set, Option, Some, None, refl}
+use Rattle.std.proofs.Common.{sym, ap, ◌∙◌, subst, arith}
+use Rattle.std.proofs.lemmas.{Bool.cases_lt, List.{get_or-set_same, get_or-set_other, length-set}}
 use Rattle.mm_word.specs.Pointer.{Pointer}
 use Rattle.mm_model.specs.Image.{Image}
 use Rattle.mm_graph.specs.declared.graph.Graph.{Graph}
-use Rattle.mm_why.specs.declared.line.Line.{Line}
-use Rattle.mm_why.specs.declared.search.Search.{Search}
-use Rattle.mm_why.specs.declared.work.Work.{Work}
-use Rattle.mm_why.specs.Derivations.{line_at, Says, Follows}
-use Rattle.mm_why.specs.Traces.{Extends, Adds}
-use Rattle.mm_why.specs.Searches.{AtNode}
-use Rattle.mm_why.specs.Graphs.{HasNoLine, IsSearch}
-use Rattle.mm_why.specs.Works.{search_at, IsKnown, IsSearched, IsWork, GoesOn}
-use Rattle.mm_why.proofs.Growing.{extends_trans}
-use Rattle.mm_why.proofs.Pruning.{same_or_before}
-use Rattle.mm_why.proofs.Searching.{Which, which}
-use Rattle.mm_why.proofs.Searching.Which.{same, other}
+use Rattle.mm_why.specs.declared.{line.Line.Line, search.Search.Search, work.Work.Work}
+use Rattle.mm_why.specs.{Derivations.{line_at, Says, Follows}, Traces.{Extends, Adds}, Searches.AtNode}
+use Rattle.mm_why.specs.{Graphs.{HasNoLine, IsSearch}, Works.{search_at, IsKnown, IsSearched, IsWork, GoesOn}}
+use Rattle.mm_why.proofs.{Growing.extends_trans, Pruning.same_or_before, Searching.{Which, which, Which.{same, other}}}
 
 pub goes_nowhere : (i : Image) (g : Graph) (w : Work) → IsWork i g w → GoesOn i g w w
 goes_nowhere i g w is = record { work = is; lines = record { len = omega arith; same = λ k lt. refl }; known = λ h k. k }

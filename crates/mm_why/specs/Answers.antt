@@ -1,19 +1,11 @@
 -- Groups that have a use of a word of their own, and what is found before a derivation is made.
 use Rattle.std.specs.Prelude.{◌≡◌, ℕ, ◌<◌, ◌⊎◌, List, length, replicate}
-use Rattle.mm_flow.specs.declared.node.Right.TheVariants.{Make}
-use Rattle.mm_flow.specs.Flow.{Has, Flows}
-use Rattle.mm_flow.specs.Reached.{AreSharingEdges}
-use Rattle.mm_graph.specs.declared.graph.Graph.{Graph}
-use Rattle.mm_graph.specs.Marked.{node_pointer}
-use Rattle.mm_why.specs.declared.line.Line.{Line}
-use Rattle.mm_why.specs.declared.rounds.Rounds.{Rounds}
+use Rattle.mm_flow.specs.{declared.node.Right.TheVariants.Make, Flow.{Has, Flows}, Reached.AreSharingEdges}
+use Rattle.mm_graph.specs.{declared.graph.Graph.Graph, Marked.node_pointer}
+use Rattle.mm_why.specs.declared.{line.Line.Line, rounds.Rounds.Rounds, uses.Owner.Owner}
+use Rattle.mm_why.specs.{Derivations.{line_at, GivesUse}, Rounds.{AreRounds, round_at}, Graphs.edges_of}
+use Rattle.mm_why.specs.{Works.ReachesRight, Owning.CanUse}
 use Rattle.mm_model.specs.declared.word_use.WordUse.{WordUse}
-use Rattle.mm_why.specs.declared.uses.Owner.{Owner}
-use Rattle.mm_why.specs.Derivations.{line_at, GivesUse}
-use Rattle.mm_why.specs.Rounds.{AreRounds, round_at}
-use Rattle.mm_why.specs.Graphs.{edges_of}
-use Rattle.mm_why.specs.Works.{ReachesRight}
-use Rattle.mm_why.specs.Owning.{CanUse}
 
 -- the group reaches a node along edges whose pointer can be used
 pub record ReachesUse (g : Graph) (group : ℕ) (how : WordUse) (word : ℕ) : Type 0 where

@@ -1,9 +1,6 @@
 -- Lines of nodes at or above others that have a right.
 use Rattle.std.specs.Prelude.{◌≡◌, ℕ, ◌<◌, ◌≤◌, ◌⊎◌, Bool, true, List, length, Option, Some, None}
-use Rattle.mm_flow.specs.declared.node.Right.{Right}
-use Rattle.mm_flow.specs.declared.node.Right.TheVariants.{Load, Store}
-use Rattle.mm_flow.specs.Edges.{right_at}
-use Rattle.mm_flow.specs.Sharing.{Up}
+use Rattle.mm_flow.specs.{declared.node.Right.{Right, TheVariants.{Load, Store}}, Edges.right_at, Sharing.Up}
 use Rattle.mm_graph.specs.declared.graph.Graph.{Graph}
 use Rattle.mm_why.specs.Searches.{place_at}
 

@@ -1,18 +1,12 @@
 -- Derivations: lists of lines, each of which follows from the image and from earlier lines.
 use Rattle.std.specs.Prelude.{◌≡◌, ℕ, ◌+◌, ◌-◌, ◌<◌, ◌⊎◌, List, length, slice_index_or, Contains, Some}
-use Rattle.mm_word.specs.declared.perm.Perm.TheVariants.{Xp, Eu, Ep, Key}
-use Rattle.mm_word.specs.declared.word.Word.TheVariants.{Ptr}
-use Rattle.mm_word.specs.declared.word.Cell.{Cell}
+use Rattle.mm_word.specs.declared.{perm.Perm.TheVariants.{Xp, Eu, Ep, Key}, word.{Word.TheVariants.Ptr, Cell.Cell}}
 use Rattle.mm_word.specs.Pointer.{Pointer, IsWellFormed, IsBelow, enter_result}
-use Rattle.mm_model.specs.Memory.{cell_at}
-use Rattle.mm_model.specs.Slot.{Slot, register}
-use Rattle.mm_model.specs.Image.{Image}
-use Rattle.mm_model.specs.Reach.{Grants, CanTouch, CanWrite, LoadsAt, StoresAt, Serves}
-use Rattle.mm_model.specs.Reach.Entries.{All}
-use Rattle.mm_why.specs.declared.line.Line.{Line}
-use Rattle.mm_why.specs.declared.line.Rule.{Rule}
-use Rattle.mm_why.specs.declared.line.Rule.TheVariants as rules
+use Rattle.mm_model.specs.{Memory.cell_at, Slot.{Slot, register}, Image.Image}
+use Rattle.mm_model.specs.Reach.{Grants, CanTouch, CanWrite, LoadsAt, StoresAt, Serves, Entries.All}
 use Rattle.mm_model.specs.declared.word_use.WordUse.{WordUse}
+use Rattle.mm_why.specs.declared.line.{Line.Line, Rule.Rule}
+use Rattle.mm_why.specs.declared.line.Rule.TheVariants as rules
 use Rattle.mm_model.specs.declared.word_use.WordUse.TheVariants as uses
 
 -- the line past the end of a list

@@ -1,20 +1,12 @@
 -- Groups that meet by what each has of its own, and pointers that come from group to group.
 use Rattle.std.specs.Prelude.{◌≡◌, ℕ, ◌<◌, ◌⊎◌, true, List, length, slice_index_or, Some}
 use Rattle.mm_word.specs.Pointer.{Pointer}
-use Rattle.mm_model.specs.Slot.{Slot}
-use Rattle.mm_model.specs.Image.{Image}
-use Rattle.mm_flow.specs.declared.node.Right.TheVariants.{Load, Store, Make}
-use Rattle.mm_flow.specs.Edges.{right_at}
-use Rattle.mm_flow.specs.Flow.{Has, Flows}
+use Rattle.mm_model.specs.{Slot.Slot, Image.Image}
+use Rattle.mm_flow.specs.{declared.node.Right.TheVariants.{Load, Store, Make}, Edges.right_at, Flow.{Has, Flows}}
 use Rattle.mm_flow.specs.Sharing.{Up}
-use Rattle.mm_graph.specs.declared.graph.Graph.{Graph}
-use Rattle.mm_graph.specs.GraphOf.{CommonWord}
-use Rattle.mm_why.specs.declared.line.Line.{Line}
-use Rattle.mm_why.specs.declared.rounds.Rounds.{Rounds}
-use Rattle.mm_why.specs.Derivations.{line_at, Says}
-use Rattle.mm_why.specs.Rounds.{AreRounds}
-use Rattle.mm_why.specs.Graphs.{IsGraph, edges_of}
-use Rattle.mm_why.specs.Works.{ReachesRight}
+use Rattle.mm_graph.specs.{declared.graph.Graph.Graph, GraphOf.CommonWord}
+use Rattle.mm_why.specs.{declared.{line.Line.Line, rounds.Rounds.Rounds}, Derivations.{line_at, Says}, Rounds.AreRounds}
+use Rattle.mm_why.specs.{Graphs.{IsGraph, edges_of}, Works.ReachesRight}
 
 -- at a node below two that the groups reach the first group can store where the second can load
 pub record MeetsAt (g : Graph) (h t : ℕ) : Type 0 where

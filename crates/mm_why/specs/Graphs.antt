@@ -1,24 +1,11 @@
 -- The graph of an image, and what its parts say of pointers.
 use Rattle.std.specs.Prelude.{◌≡◌, ℕ, ◌%◌, ◌<◌, ◌≤◌, List, slice_index, slice_index_or, length, Option, Some}
-use Rattle.mm_word.specs.declared.word.Word.TheVariants.{Ptr}
-use Rattle.mm_word.specs.declared.word.Cell.{Cell}
-use Rattle.mm_word.specs.Pointer.{Pointer}
-use Rattle.mm_model.specs.Memory.{cell_at}
-use Rattle.mm_model.specs.Image.{Image}
-use Rattle.mm_model.specs.Spelling.{IsImage}
-use Rattle.mm_model.specs.Reach.Entries.{All}
-use Rattle.mm_graph.specs.declared.graph.Graph.{Graph}
-use Rattle.mm_graph.specs.Found.{page_keys}
-use Rattle.mm_graph.specs.Nodes.{found_word}
-use Rattle.mm_graph.specs.Parts.{IsBuilt}
-use Rattle.mm_flow.specs.Edges.{node_at}
-use Rattle.mm_flow.specs.Edges.{Edges}
-use Rattle.mm_flow.specs.Flow.{Flows}
-use Rattle.mm_graph.specs.declared.canonical_ptr.CanonicalPtr.{CanonicalPtr}
-use Rattle.mm_model.specs.Slot.{Slot}
-use Rattle.mm_why.specs.declared.line.Line.{Line}
-use Rattle.mm_why.specs.Derivations.{line_at}
-use Rattle.mm_why.specs.Traces.{IsTrace, Extends}
+use Rattle.mm_word.specs.{declared.word.{Word.TheVariants.Ptr, Cell.Cell}, Pointer.Pointer}
+use Rattle.mm_model.specs.{Memory.cell_at, Image.Image, Spelling.IsImage, Reach.Entries.All, Slot.Slot}
+use Rattle.mm_graph.specs.{declared.{graph.Graph.Graph, canonical_ptr.CanonicalPtr.CanonicalPtr}, Found.page_keys}
+use Rattle.mm_graph.specs.{Nodes.found_word, Parts.IsBuilt}
+use Rattle.mm_flow.specs.{Edges.{node_at, Edges}, Flow.Flows}
+use Rattle.mm_why.specs.{declared.line.Line.Line, Derivations.line_at, Traces.{IsTrace, Extends}}
 use Rattle.mm_why.specs.Searches.{Stage, place_at, AtNode, Advances, IsPlaced, SlotPlaced}
 
 pub record IsGraph (i : Image) (g : Graph) : Type 0 where

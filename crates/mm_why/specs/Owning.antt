@@ -1,18 +1,12 @@
 -- Which pointers give a use of a word, and which groups have one of their own.
-use Rattle.std.specs.Prelude.{◌≡◌, ℕ, ◌<◌, Bool, true, ◌&&◌, List, length, Option, Some, None}
-use Rattle.std.specs.Int.{bit_at}
-use Rattle.mm_word.specs.declared.perm.Kind.{Kind}
-use Rattle.mm_word.specs.declared.perm.Kind.TheVariants as kinds
-use Rattle.mm_word.specs.Perm.{allows}
-use Rattle.mm_word.specs.Pointer.{Pointer, Covers, holds_word}
+use Rattle.std.specs.{Prelude.{◌≡◌, ℕ, ◌<◌, Bool, true, ◌&&◌, List, length, Option, Some, None}, Int.bit_at}
+use Rattle.mm_word.specs.{declared.perm.Kind.Kind, Perm.allows, Pointer.{Pointer, Covers, holds_word}}
 use Rattle.mm_flow.specs.Flow.{Has}
-use Rattle.mm_why.specs.declared.line.Line.{Line}
-use Rattle.mm_model.specs.declared.word_use.WordUse.{WordUse}
-use Rattle.mm_model.specs.declared.word_use.WordUse.TheVariants as uses
-use Rattle.mm_why.specs.declared.uses.Owner.{Owner}
-use Rattle.mm_why.specs.Derivations.{line_at}
-use Rattle.mm_why.specs.Searches.{place_at}
+use Rattle.mm_why.specs.{declared.{line.Line.Line, uses.Owner.Owner}, Derivations.line_at, Searches.place_at}
 use Rattle.mm_why.specs.Rounds.{round_at}
+use Rattle.mm_model.specs.declared.word_use.WordUse.{WordUse}
+use Rattle.mm_word.specs.declared.perm.Kind.TheVariants as kinds
+use Rattle.mm_model.specs.declared.word_use.WordUse.TheVariants as uses
 
 -- what a pointer has to permit
 abbrev pub asked : WordUse → Kind

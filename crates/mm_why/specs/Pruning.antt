@@ -1,9 +1,7 @@
 -- The lines that a line needs, and where they stand once all others are left out.
 use Rattle.std.specs.Prelude.{◌≡◌, ℕ, ◌+◌, ◌<◌, ◌≤◌, ◌⊎◌, Bool, true, false, List, length, slice_index, slice_index_or}
-use Rattle.mm_why.specs.declared.line.Line.{Line}
-use Rattle.mm_why.specs.declared.line.Rule.{Rule}
+use Rattle.mm_why.specs.{declared.line.{Line.Line, Rule.Rule}, Derivations.{line_at, Names}}
 use Rattle.mm_why.specs.declared.line.Rule.TheVariants as rules
-use Rattle.mm_why.specs.Derivations.{line_at, Names}
 
 -- each line names earlier lines only
 abbrev pub NameEarlier : List Line → Type 0

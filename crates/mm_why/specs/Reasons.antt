@@ -1,10 +1,8 @@
 -- Why all that a group has comes to another in a round.
-use Rattle.std.specs.Prelude.{◌≡◌, ℕ, ◌<◌, List}
-use Rattle.std.specs.Int.{bit_at}
+use Rattle.std.specs.{Prelude.{◌≡◌, ℕ, ◌<◌, List}, Int.bit_at}
 use Rattle.mm_flow.specs.Flow.{Has}
-use Rattle.mm_why.specs.declared.reasons.Hand.{Hand}
+use Rattle.mm_why.specs.declared.reasons.{Hand.Hand, Reason.Reason}
 use Rattle.mm_why.specs.declared.reasons.Hand.TheVariants as hands
-use Rattle.mm_why.specs.declared.reasons.Reason.{Reason}
 
 -- the group is one of the mask, and has the other in the table
 pub record IsFirstIn (mask : ℕ) (table : List ℕ) (to k : ℕ) : Type 0 where

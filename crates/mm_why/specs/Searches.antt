@@ -2,19 +2,11 @@
 -- found.
 use Rattle.std.specs.Prelude.{◌≡◌, ℕ, suc, ◌+◌, ◌<◌, ◌≤◌, ◌≢◌, List, [], ◌∷◌, length, slice_index, slice_index_or}
 use Rattle.std.specs.Prelude.{Contains, Option, Some, None}
-use Rattle.mm_word.specs.declared.word.Word.{Word}
-use Rattle.mm_word.specs.declared.word.Word.TheVariants.{Int, Ptr}
-use Rattle.mm_word.specs.Pointer.{Pointer, IsWellFormed}
-use Rattle.mm_model.specs.Slot.{Slot}
-use Rattle.mm_model.specs.Image.{Image}
-use Rattle.mm_flow.specs.declared.node.Node.{Node}
-use Rattle.mm_flow.specs.Edges.{node_at}
-use Rattle.mm_graph.specs.declared.canonical_ptr.CanonicalPtr.{CanonicalPtr}
-use Rattle.mm_graph.specs.Key.{key_at, standing_key, word_key}
-use Rattle.mm_why.specs.declared.line.Rule.{Rule}
-use Rattle.mm_why.specs.declared.line.Line.{Line}
-use Rattle.mm_why.specs.declared.search.Search.{Search}
-use Rattle.mm_why.specs.Derivations.{line_at, Follows}
+use Rattle.mm_word.specs.{declared.word.Word.{Word, TheVariants.{Int, Ptr}}, Pointer.{Pointer, IsWellFormed}}
+use Rattle.mm_model.specs.{Slot.Slot, Image.Image}
+use Rattle.mm_flow.specs.{declared.node.Node.Node, Edges.node_at}
+use Rattle.mm_graph.specs.{declared.canonical_ptr.CanonicalPtr.CanonicalPtr, Key.{key_at, standing_key, word_key}}
+use Rattle.mm_why.specs.{declared.{line.{Rule.Rule, Line.Line}, search.Search.Search}, Derivations.{line_at, Follows}}
 use Rattle.mm_why.specs.Traces.{IsTrace, Extends}
 
 pub record Stage : Type 0 where

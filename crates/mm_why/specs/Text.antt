@@ -1,15 +1,9 @@
 -- The text of a derivation.
-use Rattle.std.specs.Prelude.{◌≡◌, ℕ, ◌+◌, ◌⊎◌, List, [], ◌∷◌, ◌++◌, codes, decimal, Option, Some, None}
-use Rattle.std.specs.Borrow.{Bor}
+use Rattle.std.specs.{Prelude.{◌≡◌, ℕ, ◌+◌, ◌⊎◌, List, [], ◌∷◌, ◌++◌, codes, decimal, Option, Some, None}, Borrow.Bor}
 use Rattle.mm_word.specs.declared.word.Word.TheVariants.{Ptr}
-use Rattle.mm_model.specs.Digits.{hex}
-use Rattle.mm_model.specs.Image.{Image}
-use Rattle.mm_model.specs.Lines.{newline, word_text}
-use Rattle.mm_why.specs.declared.line.Line.{Line}
-use Rattle.mm_why.specs.declared.line.Rule.{Rule}
+use Rattle.mm_model.specs.{Digits.hex, Image.Image, Lines.{newline, word_text}, declared.word_use.WordUse.WordUse}
+use Rattle.mm_why.specs.{declared.line.{Line.Line, Rule.Rule}, Derivations.{IsGranted, Derives}}
 use Rattle.mm_why.specs.declared.line.Rule.TheVariants as rules
-use Rattle.mm_model.specs.declared.word_use.WordUse.{WordUse}
-use Rattle.mm_why.specs.Derivations.{IsGranted, Derives}
 
 -- the number of the line at an index: lines are counted from 1 on
 abbrev pub number_text : ℕ → List ℕ

@@ -2,8 +2,7 @@
 use Rattle.std.specs.Prelude.{◌≡◌, ℕ, ◌+◌, ◌<◌, ◌≤◌, List, length}
 use Rattle.mm_word.specs.Pointer.{Pointer}
 use Rattle.mm_model.specs.Image.{Image}
-use Rattle.mm_why.specs.declared.line.Line.{Line}
-use Rattle.mm_why.specs.Derivations.{line_at, Says, LineFollows, EachFollows, NoneTwice}
+use Rattle.mm_why.specs.{declared.line.Line.Line, Derivations.{line_at, Says, LineFollows, EachFollows, NoneTwice}}
 
 -- each line follows, and none stands twice
 pub record IsTrace (i : Image) (lines : List Line) : Type 0 where

@@ -1,19 +1,11 @@
 -- The lines so far, and which groups were searched.
 use Rattle.std.specs.Prelude.{◌≡◌, ℕ, ◌<◌, true, List, length, slice_index_or, Option, Some, None}
-use Rattle.mm_word.specs.declared.perm.Perm.TheVariants.{Rw}
-use Rattle.mm_word.specs.Pointer.{Pointer}
+use Rattle.mm_word.specs.{declared.perm.Perm.TheVariants.Rw, Pointer.Pointer}
 use Rattle.mm_model.specs.Image.{Image}
-use Rattle.mm_flow.specs.declared.node.Right.{Right}
-use Rattle.mm_flow.specs.Edges.{right_at}
-use Rattle.mm_flow.specs.Flow.{Flows}
+use Rattle.mm_flow.specs.{declared.node.Right.Right, Edges.right_at, Flow.Flows}
 use Rattle.mm_graph.specs.declared.graph.Graph.{Graph}
-use Rattle.mm_why.specs.declared.line.Line.{Line}
-use Rattle.mm_why.specs.declared.search.Search.{Search}
-use Rattle.mm_why.specs.declared.work.Work.{Work}
-use Rattle.mm_why.specs.Derivations.{line_at}
-use Rattle.mm_why.specs.Traces.{IsTrace, Extends}
-use Rattle.mm_why.specs.Searches.{place_at, IsPlaced, AtNode}
-use Rattle.mm_why.specs.Graphs.{edges_of}
+use Rattle.mm_why.specs.{declared.{line.Line.Line, search.Search.Search, work.Work.Work}, Derivations.line_at}
+use Rattle.mm_why.specs.{Traces.{IsTrace, Extends}, Searches.{place_at, IsPlaced, AtNode}, Graphs.edges_of}
 
 abbrev pub search_at : List (Option Search) → ℕ → Option Search
 search_at searches h = slice_index_or searches h None

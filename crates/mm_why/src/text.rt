@@ -8,7 +8,7 @@ ghost use Rattle.mm_why.specs.Text.{line_text, lines_text, number_text, rule_tex
 
 use crate::line::{Line, Rule};
 use mm_io::{Sink, WriteFault};
-use mm_text::{TextBuffer, Piece, put_word};
+use mm_text::{Piece, TextBuffer, put_word};
 use mm_word::Word;
 
 /// The number of the line past the last index.

@@ -1,8 +1,9 @@
 -- Each cause has a number of its own, from 1 to the last one.
-use Rattle.std.proofs.Common.{◌≡◌, ℕ, zero, suc, ◌+◌, ◌<◌, ◌≤◌, true, nat_eq, List, [], ◌∷◌, length, Some, refl, sym, ap, ◌∙◌, arith, eqb-true}
-use Rattle.std.specs.Prelude.{slice_get, unwrap_or}
+use Rattle.std.proofs.Common.{◌≡◌, ℕ, zero, suc, ◌+◌, ◌<◌, ◌≤◌, true, nat_eq, List, [], ◌∷◌, length, Some, refl, sym}
+use Rattle.std.{proofs.Common.{ap, ◌∙◌, arith, eqb-true}, specs.Prelude.{slice_get, unwrap_or}}
 use Rattle.mm_word.specs.declared.cause.Cause.{Cause}
-use Rattle.mm_word.specs.declared.cause.Cause.TheVariants.{NotPointer, Perm, Bounds, Align, NoPage, Sync, Illegal, Priv, DivZero, Malformed, Trap, NoSlot, OutFull}
+use Rattle.mm_word.specs.declared.cause.Cause.TheVariants.{NotPointer, Perm, Bounds, Align, NoPage, Sync, Illegal, Priv}
+use Rattle.mm_word.specs.declared.cause.Cause.TheVariants.{DivZero, Malformed, Trap, NoSlot, OutFull}
 use Rattle.mm_word.specs.Cause.{number_of, causes, cause_of}
 
 -- 1. From a cause to its number and back.

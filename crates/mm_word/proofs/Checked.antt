@@ -1,19 +1,13 @@
 -- What the result of a check tells.
 use Rattle.std.proofs.Common.{◌≡◌, ◌≢◌, ◌↔◌, ℕ, ◌+◌, ◌%◌, refl, sym, ap, ◌∙◌, subst, add-zero, true, false, Option}
 use Rattle.std.proofs.Common.{None, Some, Result, Ok, Err, OnOk, IfOk, IfErr, pos, negsuc, ◌+ℤ◌, [], ◌∷◌, arith}
-use Rattle.std.specs.Prelude.{ℤ, if◌then◌else◌}
-use Rattle.std.proofs.lemmas.Grind.{common_steps}
-use Rattle.mm_word.specs.declared.perm.Kind.{Kind}
-use Rattle.mm_word.specs.declared.cause.Cause.{Cause}
-use Rattle.mm_word.specs.declared.cause.Cause.TheVariants as cause
-use Rattle.mm_word.specs.declared.word.Word.{Word}
-use Rattle.mm_word.specs.declared.word.Word.TheVariants.{Int, Ptr}
-use Rattle.mm_word.specs.Cause.{first_failing}
-use Rattle.mm_word.specs.Word.{IsPointerAnd}
-use Rattle.mm_word.specs.Perm.{allows}
+use Rattle.std.{proofs.lemmas.Grind.common_steps, specs.Prelude.{ℤ, if◌then◌else◌}}
+use Rattle.mm_word.specs.declared.{perm.Kind.Kind, cause.Cause.Cause, word.Word.{Word, TheVariants.{Int, Ptr}}}
+use Rattle.mm_word.specs.{Cause.first_failing, Word.IsPointerAnd, Perm.allows}
 use Rattle.mm_word.specs.Pointer.{Pointer, InSegment, Covers, holds_word}
-use Rattle.mm_word.specs.Access.{AccessValue, touch_at, check_result, first_fault, holds_word_at, is_aligned, IsUncovered, IsMisaligned}
-use Rattle.mm_word.proofs.Below.{holds_word-Covers}
+use Rattle.mm_word.specs.Access.{AccessValue, touch_at, check_result, first_fault, holds_word_at, is_aligned}
+use Rattle.mm_word.{specs.Access.{IsUncovered, IsMisaligned}, proofs.Below.holds_word-Covers}
+use Rattle.mm_word.specs.declared.cause.Cause.TheVariants as cause
 
 -- the result at an exact sum
 abbrev result_at : Pointer → ℤ → Kind → Result AccessValue Cause

@@ -1,17 +1,10 @@
-use Rattle.std.proofs.Common.{◌≡◌, ℕ, ◌%◌, ◌<◌, true, arith, add-zero}
+use Rattle.std.proofs.{Common.{◌≡◌, ℕ, ◌%◌, ◌<◌, true, arith, add-zero}, lemmas.Grind.common_steps}
 use Rattle.std.specs.Prelude.{ℤ, pos, negsuc, ◌+ℤ◌, Ok, Some}
-use Rattle.std.proofs.lemmas.Grind.{common_steps}
-use Rattle.mm_word.specs.declared.perm.Kind.{Kind}
-use Rattle.mm_word.specs.declared.word.Word.{Word}
-use Rattle.mm_word.specs.declared.word.Word.TheVariants.{Int, Ptr}
-use Rattle.mm_word.specs.Perm.{can_move, allows}
+use Rattle.mm_word.specs.{declared.{perm.Kind.Kind, word.Word.{Word, TheVariants.{Int, Ptr}}}, Perm.{can_move, allows}}
 use Rattle.mm_word.specs.Pointer.{Pointer, IsWellFormed, InSegment, Covers, holds_word, moved_to, lea_result}
 use Rattle.mm_word.specs.Pointer.{leab_result, restrict_result, subseg_result, setptr_result, next_result, enter_result}
-use Rattle.mm_word.specs.Pointer.{IsBelow}
-use Rattle.mm_word.specs.Word.{IsWord}
-use Rattle.mm_word.specs.Access.{AccessValue, IsGranted, touch_at, check_result}
-use Rattle.mm_word.proofs.Segments.{segment_below}
-use Rattle.mm_word.proofs.Below.{IsBelow-shorter, holds_word-Covers}
+use Rattle.mm_word.specs.{Pointer.IsBelow, Word.IsWord, Access.{AccessValue, IsGranted, touch_at, check_result}}
+use Rattle.mm_word.proofs.{Segments.segment_below, Below.{IsBelow-shorter, holds_word-Covers}}
 
 -- a pointer moved in its segment is below
 moved_to-IsBelow : (p q : Pointer) (z : ℤ) → can_move p.perm ≡ true → moved_to p z ≡ Ok q → IsBelow q p

@@ -1,6 +1,5 @@
 use Rattle.std.proofs.Common.{◌≡◌, true, arith}
-use Rattle.mm_word.specs.declared.perm.Perm.{Perm}
-use Rattle.mm_word.specs.Perm.{can_become, can_load, can_store, can_fetch}
+use Rattle.mm_word.specs.{declared.perm.Perm.Perm, Perm.{can_become, can_load, can_store, can_fetch}}
 
 -- what two restrictions give, one may give
 pub can_become-trans : (p q r : Perm) → can_become p q ≡ true → can_become q r ≡ true → can_become p r ≡ true

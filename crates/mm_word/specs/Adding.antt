@@ -1,6 +1,5 @@
 -- Lists that belong to a value, such as the calls that were made of it, and how they grow.
-use Rattle.std.specs.Prelude.{List, [], ◌++◌}
-use Rattle.std.proofs.Common.{subst, append_assoc, sym, append-nil}
+use Rattle.std.{specs.Prelude.{List, [], ◌++◌}, proofs.Common.{subst, append_assoc, sym, append-nil}}
 
 -- whichever list belongs to old, that list with `more` appended belongs to new
 pub record Adds {S A : Type 0} (stands : S → List A → Type 0) (old new : S) (more : List A) : Type 0 where

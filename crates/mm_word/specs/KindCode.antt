@@ -1,9 +1,6 @@
 -- The kind of an access is found again from its code.
-use Rattle.std.specs.Prelude.{◌≡◌, ℕ, ◌<◌}
-use Rattle.std.proofs.Common.{arith, ap}
-use Rattle.std.proofs.lemmas.Bool.Decides.{nat_tests}
-use Rattle.mm_word.specs.declared.access.Access.TheInside.{Inside}
-use Rattle.mm_word.specs.Access.{IsGranted, kind_code, kind_of}
+use Rattle.std.{specs.Prelude.{◌≡◌, ℕ, ◌<◌}, proofs.{Common.{arith, ap}, lemmas.Bool.Decides.nat_tests}}
+use Rattle.mm_word.specs.{declared.access.Access.TheInside.Inside, Access.{IsGranted, kind_code, kind_of}}
 
 pub kind_again : (n : ℕ) → n < 4 → kind_code (kind_of n) ≡ n
 kind_again n small = grind (arith, nat_tests)

@@ -1,13 +1,10 @@
 -- What holds of every pointer, permission and segment.
 use Rattle.std.specs.Prelude.{◌≡◌, ℕ, ◌≤◌, ◌<◌, true, ℤ, Ok, Some}
-use Rattle.mm_word.specs.declared.perm.Perm.{Perm}
-use Rattle.mm_word.specs.declared.perm.Kind.{Kind}
-use Rattle.mm_word.specs.declared.word.Word.{Word}
+use Rattle.mm_word.specs.declared.{perm.{Perm.Perm, Kind.Kind}, word.Word.Word}
 use Rattle.mm_word.specs.Perm.{can_become, can_load, can_store, can_fetch}
 use Rattle.mm_word.specs.Pointer.{Pointer, IsWellFormed, bits_of, InSegment, Covers, lea_result, leab_result}
 use Rattle.mm_word.specs.Pointer.{restrict_result, subseg_result, setptr_result, next_result, enter_result, IsBelow}
-use Rattle.mm_word.specs.Word.{IsWord}
-use Rattle.mm_word.specs.Access.{AccessValue, IsGranted, check_result}
+use Rattle.mm_word.specs.{Word.IsWord, Access.{AccessValue, IsGranted, check_result}}
 
 -- what two restrictions give, one restriction may give
 abbrev pub RestrictionIsTransitive : Type 0

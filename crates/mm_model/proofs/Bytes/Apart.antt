@@ -1,15 +1,13 @@
 -- The parts of a text that the bytes have.
-use Rattle.std.proofs.Common.{[], ◌≡◌, ℕ, zero, suc, ◌+◌, ◌*◌, ◌/◌, ◌%◌, ◌^◌, ◌<◌, Bool, true, false, cond, List, ◌∷◌, ◌++◌, length, get_or, take, drop, refl, sym, ap, ◌∙◌, arith}
-use Rattle.std.specs.Prelude.{◌==◌}
-use Rattle.std.specs.Int.{w16, w32, w64, to_be_bytes, from_be_bytes}
+use Rattle.std.proofs.Common.{[], ◌≡◌, ℕ, zero, suc, ◌+◌, ◌*◌, ◌/◌, ◌%◌, ◌^◌, ◌<◌, Bool, true, false, cond, List, ◌∷◌}
+use Rattle.std.proofs.Common.{◌++◌, length, get_or, take, drop, refl, sym, ap, ◌∙◌, arith}
 use Rattle.std.proofs.lemmas.Bool.Decides.{nat_tests}
-use Rattle.std.proofs.lemmas.List.{take_at, drop_at, take-take, drop-take, drop-drop, get_or-take, get_or-drop, length-take, length-drop}
-use Rattle.std.proofs.lemmas.Nat.{from_be_bytes-to_be_bytes_2, from_be_bytes-to_be_bytes_4, from_be_bytes-to_be_bytes_8, shr-shr}
-use Rattle.mm_model.specs.Flags.{number_of_flags}
-use Rattle.mm_model.specs.Spelling.{bitmap}
-use Rattle.mm_model.specs.Bytes.{number_at, bit_at}
-use Rattle.mm_model.proofs.Bytes.Parts.{part}
-use Rattle.mm_model.proofs.Bytes.Numbers.{number_is_2, number_is_4, number_is_8}
+use Rattle.std.proofs.lemmas.List.{take_at, drop_at, take-take, drop-take, drop-drop, get_or-take, get_or-drop}
+use Rattle.std.proofs.lemmas.List.{length-take, length-drop}
+use Rattle.std.proofs.lemmas.Nat.{from_be_bytes-to_be_bytes_2, from_be_bytes-to_be_bytes_4, from_be_bytes-to_be_bytes_8}
+use Rattle.std.{proofs.lemmas.Nat.shr-shr, specs.{Prelude.◌==◌, Int.{w16, w32, w64, to_be_bytes, from_be_bytes}}}
+use Rattle.mm_model.specs.{Flags.number_of_flags, Spelling.bitmap, Bytes.{number_at, bit_at}}
+use Rattle.mm_model.proofs.Bytes.{Parts.part, Numbers.{number_is_2, number_is_4, number_is_8}}
 
 module _ (bytes : List ℕ) where
   -- 1. A text in two parts.

@@ -1,15 +1,12 @@
 -- Bitmaps: flags and the bytes that hold them.
-use Rattle.std.proofs.Common.{◌≡◌, ℕ, zero, suc, ◌+◌, ◌*◌, ◌/◌, ◌%◌, ◌^◌, ◌<◌, ◌≤◌, Bool, false, cond, List, [], ◌∷◌, length, get_or, take, drop, map, refl, sym, ap, ◌∙◌, arith, inl, inr}
-use Rattle.std.specs.Prelude.{◌==◌}
-use Rattle.std.specs.List.{range_with_len}
-use Rattle.std.proofs.lemmas.Bool.{cases_eq}
-use Rattle.std.proofs.lemmas.Bool.Decides.{nat_tests}
+use Rattle.std.proofs.Common.{◌≡◌, ℕ, zero, suc, ◌+◌, ◌*◌, ◌/◌, ◌%◌, ◌^◌, ◌<◌, ◌≤◌, Bool, false, cond, List, [], ◌∷◌}
+use Rattle.std.proofs.Common.{length, get_or, take, drop, map, refl, sym, ap, ◌∙◌, arith, inl, inr}
+use Rattle.std.proofs.lemmas.Bool.{cases_eq, Decides.nat_tests}
 use Rattle.std.proofs.lemmas.List.{same_lists}
 use Rattle.std.proofs.lemmas.List.FromFn.{length-map-range_with_len, get_or-map-range_with_len, take-map-range_with_len}
-use Rattle.mm_model.specs.Flags.{flags, number_of_flags}
-use Rattle.mm_model.specs.Spelling.{bitmap}
+use Rattle.std.specs.{Prelude.◌==◌, List.range_with_len}
+use Rattle.mm_model.specs.{Flags.{flags, number_of_flags}, Spelling.bitmap, Bytes.{number_at, bit_at}}
 use Rattle.mm_model.proofs.FlagLists.{flags-get}
-use Rattle.mm_model.specs.Bytes.{number_at, bit_at}
 use Rattle.mm_model.proofs.Bytes.Ranges.{map-same, map-shift, drop-range}
 use Rattle.mm_model.proofs.Bytes.Parts.{IsBytes, part, join_at, one_byte, below_8}
 

@@ -1,9 +1,8 @@
 -- A handler without a fault is another slot.
-use Rattle.std.proofs.Common.{[], ◌≡◌, ℕ, suc, Bool, true, false, not, List, ◌∷◌, Option, Some, None, refl, sym, ap, ◌∙◌, arith, eqb-true}
+use Rattle.std.proofs.Common.{[], ◌≡◌, ℕ, suc, Bool, true, false, not, List, ◌∷◌, Option, Some, None, refl, sym, ap}
+use Rattle.std.proofs.{Common.{◌∙◌, arith, eqb-true}, lemmas.Bool.{or_parts, not-false, eqb-false}}
 use Rattle.std.specs.Prelude.{◌==◌, ◌||◌, IfSome, Contains}
-use Rattle.std.proofs.lemmas.Bool.{or_parts, not-false, eqb-false}
-use Rattle.mm_model.specs.Slot.{Slot}
-use Rattle.mm_model.specs.Spelling.{IsOther, has_number}
+use Rattle.mm_model.specs.{Slot.Slot, Spelling.{IsOther, has_number}}
 
 abbrev Has : ℕ → List Slot → Type 0
 Has h slots = (s : Slot) × Contains slots s × (s.number ≡ h)

@@ -1,10 +1,7 @@
 -- Pointers that bits spell.
 use Rattle.std.proofs.Common.{◌≡◌, ℕ, ◌/◌, ◌^◌, ◌≤◌, true, arith}
-use Rattle.std.specs.Prelude.{is_some}
-use Rattle.std.proofs.lemmas.Bool.{leb-true, and_parts}
-use Rattle.std.proofs.lemmas.Bool.Decides.{nat_tests}
-use Rattle.mm_word.specs.Perm.{perm_of}
-use Rattle.mm_word.specs.Pointer.{IsWellFormed, SpellsPointer, spells_pointer, pointer_of, bits_of}
+use Rattle.std.{proofs.lemmas.Bool.{leb-true, and_parts, Decides.nat_tests}, specs.Prelude.is_some}
+use Rattle.mm_word.specs.{Perm.perm_of, Pointer.{IsWellFormed, SpellsPointer, spells_pointer, pointer_of, bits_of}}
 use Rattle.mm_word.specs.PointerBits.{bits_of-pointer_of}
 
 codes_known : (code : ℕ) → is_some (perm_of code) ≡ true → (1 ≤ code) × (code ≤ 7)

@@ -1,8 +1,6 @@
 -- The numbers that bytes spell.
 use Rattle.std.proofs.Common.{◌≡◌, ℕ, ◌+◌, ◌*◌, ◌<◌, List, [], ◌∷◌, length, get_or, take, refl, ap, ◌∙◌, arith}
-use Rattle.std.specs.List.{fold}
-use Rattle.std.specs.Int.{w16, w32, w64, from_be_bytes}
-use Rattle.std.proofs.lemmas.List.{drop_more}
+use Rattle.std.{proofs.lemmas.List.drop_more, specs.{List.fold, Int.{w16, w32, w64, from_be_bytes}}}
 use Rattle.mm_model.specs.Bytes.{number_at}
 
 -- 1. Lists of known length.

@@ -1,12 +1,11 @@
 -- Parts of bytes: so many from a place on.
-use Rattle.std.proofs.Common.{[], ◌≡◌, ℕ, ◌+◌, ◌^◌, ◌<◌, ◌≤◌, List, ◌∷◌, ◌++◌, length, take, drop, sym, ap, ◌∙◌, arith, inl, inr}
-use Rattle.std.specs.Int.{w16, w32, w64, to_be_bytes}
-use Rattle.std.proofs.Math.Seq.{take-add}
+use Rattle.std.proofs.Common.{[], ◌≡◌, ℕ, ◌+◌, ◌^◌, ◌<◌, ◌≤◌, List, ◌∷◌, ◌++◌, length, take, drop, sym, ap, ◌∙◌, arith}
+use Rattle.std.proofs.{Common.{inl, inr}, Math.Seq.take-add}
 use Rattle.std.proofs.lemmas.Bool.{cases_lt}
-use Rattle.std.proofs.lemmas.List.{drop-drop, drop_more, length-take, length-drop, get_or-take, get_or-drop, get_or_past}
-use Rattle.std.proofs.lemmas.Nat.{be_bytes_2, be_bytes_4, be_bytes_8}
-use Rattle.mm_model.specs.Bytes.{number_at}
-use Rattle.mm_model.proofs.Bytes.Numbers.{number_is_2, number_is_4, number_is_8, field_1}
+use Rattle.std.proofs.lemmas.List.{drop-drop, drop_more, length-take, length-drop, get_or-take, get_or-drop}
+use Rattle.std.proofs.lemmas.{List.get_or_past, Nat.{be_bytes_2, be_bytes_4, be_bytes_8}}
+use Rattle.std.specs.Int.{w16, w32, w64, to_be_bytes}
+use Rattle.mm_model.{specs.Bytes.number_at, proofs.Bytes.Numbers.{number_is_2, number_is_4, number_is_8, field_1}}
 pub use Rattle.mm_model.specs.Bytes.{IsBytes}
 
 abbrev pub part : List ℕ → ℕ → ℕ → List ℕ

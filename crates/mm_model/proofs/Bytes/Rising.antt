@@ -1,12 +1,8 @@
 -- Pages whose numbers rise from a least one on, as a finite map has them.
 use Rattle.std.proofs.Common.{◌≡◌, ℕ, ◌+◌, ◌<◌, ◌≤◌, true, List, [], ◌∷◌, refl, arith}
-use Rattle.std.specs.Prelude.{IsTrue}
-use Rattle.std.specs.Ordering.{nat_cmp, is_lt}
-use Rattle.std.specs.FinMap.{is_sorted}
-use Rattle.std.specs.FinMap.Entries.{below_all}
+use Rattle.std.proofs.lemmas.Bool.{and_parts, and_from, Decides.nat_tests}
+use Rattle.std.specs.{Prelude.IsTrue, Ordering.{nat_cmp, is_lt}, FinMap.{is_sorted, Entries.below_all}}
 use Rattle.std.specs.List.{AllByRecursion}
-use Rattle.std.proofs.lemmas.Bool.Decides.{nat_tests}
-use Rattle.std.proofs.lemmas.Bool.{and_parts, and_from}
 -- names by which crates above know them
 pub use Rattle.std.proofs.lemmas.Bool.{and_parts as both, and_from as and_true}
 

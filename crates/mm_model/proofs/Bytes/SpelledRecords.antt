@@ -1,10 +1,7 @@
 -- Tests that hold, and pointers whose bits spell them.
 use Rattle.std.proofs.Common.{◌≡◌, ℕ, ◌/◌, ◌^◌, ◌<◌, ◌≤◌, true, false, arith}
-use Rattle.std.specs.Prelude.{nat_le, is_some}
-use Rattle.std.proofs.lemmas.Bool.{le-leb, and_from}
-use Rattle.std.proofs.lemmas.Bool.Decides.{nat_tests}
-use Rattle.mm_word.specs.Perm.{perm_of}
-use Rattle.mm_word.specs.Pointer.{Pointer, IsWellFormed, spells_pointer, bits_of}
+use Rattle.std.{proofs.lemmas.Bool.{le-leb, and_from, Decides.nat_tests}, specs.Prelude.{nat_le, is_some}}
+use Rattle.mm_word.specs.{Perm.perm_of, Pointer.{Pointer, IsWellFormed, spells_pointer, bits_of}}
 use Rattle.mm_word.proofs.Packing.{SpellsPointer-bits_of}
 -- names by which crates above know them
 pub use Rattle.std.proofs.lemmas.Bool.{le-ltb as not_lt}

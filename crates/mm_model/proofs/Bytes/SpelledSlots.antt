@@ -1,11 +1,9 @@
 -- Slots of an image, and their handlers.
-use Rattle.std.proofs.Common.{◌≡◌, ℕ, zero, suc, ◌<◌, ◌≤◌, Bool, true, false, not, List, [], ◌∷◌, length, get_or, Option, Some, None, refl, ap, ◌∙◌, arith, eq-eqb}
-use Rattle.std.specs.Prelude.{◌==◌, ◌||◌, IfSome}
-use Rattle.std.specs.List.{AllByRecursion}
-use Rattle.std.proofs.lemmas.List.Folds.{list_any_at}
-use Rattle.std.proofs.lemmas.Bool.{ne_eqb}
-use Rattle.mm_model.specs.Slot.{Slot}
-use Rattle.mm_model.specs.Spelling.{IsOther, IsFresh, has_number}
+use Rattle.std.proofs.Common.{◌≡◌, ℕ, zero, suc, ◌<◌, ◌≤◌, Bool, true, false, not, List, [], ◌∷◌, length, get_or}
+use Rattle.std.proofs.Common.{Option, Some, None, refl, ap, ◌∙◌, arith, eq-eqb}
+use Rattle.std.proofs.lemmas.{List.Folds.list_any_at, Bool.ne_eqb}
+use Rattle.std.specs.{Prelude.{◌==◌, ◌||◌, IfSome}, List.AllByRecursion}
+use Rattle.mm_model.specs.{Slot.Slot, Spelling.{IsOther, IsFresh, has_number}}
 
 -- 1. One of a list.
 

@@ -1,10 +1,9 @@
 use Rattle.std.proofs.Common.{map}
 use Rattle.mm_draft.specs.Laws.{failure_pair, least}
-use Rattle.mm_asm.specs.Meaning.{object_of}
-use Rattle.mm_asm.specs.Faults.{late_failures}
-use Rattle.mm_asm.proofs.Bounded.{drafts_are_bounded}
-use Rattle.mm_asm.proofs.LateSources.{draft_small, early_small}
-use Rattle.mm_asm.proofs.LateAnswers.{first_late, fault_is, first_is, is_meant, is_again, early_is, early_first, early_again}
+use Rattle.mm_asm.specs.{Meaning.object_of, Faults.late_failures}
+use Rattle.mm_asm.proofs.{Bounded.drafts_are_bounded, LateSources.{draft_small, early_small}}
+use Rattle.mm_asm.proofs.LateAnswers.{first_late, fault_is, first_is, is_meant, is_again, early_is, early_first}
+use Rattle.mm_asm.proofs.LateAnswers.{early_again}
 use Rattle.mm_asm.proofs.assembling.assemble.Goals as goal
 
 pub assemble_draft-requires : goal.assemble_draft-requires

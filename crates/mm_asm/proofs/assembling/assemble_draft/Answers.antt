@@ -1,18 +1,13 @@
 use Rattle.std.proofs.Common.{Option, map, ap, ◌∙◌, sym, subst}
 use Rattle.mm_model.proofs.Answered.{gives_value}
 use Rattle.mm_draft.specs.Laws.{Pair, failure_pair, least}
-use Rattle.mm_asm.specs.Meaning.{object_of}
-use Rattle.mm_asm.specs.declared.fault.AsmError.TheVariants.{NoMemory}
-use Rattle.mm_asm.specs.Faults.{late_failures}
+use Rattle.mm_asm.specs.{Meaning.object_of, declared.fault.AsmError.TheVariants.NoMemory, Faults.late_failures}
 use Rattle.mm_asm.specs.Answers.{Fails, pair_of_first}
-use Rattle.mm_asm.proofs.MeantObjects.{object_is}
-use Rattle.mm_asm.proofs.LateFirsts.{met_late}
-use Rattle.mm_asm.proofs.LateSources.{late_place}
-use Rattle.mm_asm.proofs.LateTargets.{pointers_fit, threads_fit}
-use Rattle.mm_asm.proofs.LateWords.{segments_fit, externals_named}
+use Rattle.mm_asm.proofs.{MeantObjects.object_is, LateFirsts.met_late, LateSources.late_place}
+use Rattle.mm_asm.proofs.{LateTargets.{pointers_fit, threads_fit}, LateWords.{segments_fit, externals_named}}
 use Rattle.mm_asm.proofs.LateAnswers.{none_late}
-use Rattle.mm_asm.proofs.assembling.assemble_draft.Goals as goal
 use Rattle.mm_object.specs.Steps.{key_names}
+use Rattle.mm_asm.proofs.assembling.assemble_draft.Goals as goal
 
 pub returns-in-Some : goal.returns-in-Some
 returns-in-Some c =

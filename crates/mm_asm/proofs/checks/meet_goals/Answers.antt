@@ -1,13 +1,7 @@
-use Rattle.std.proofs.Common.{◌≡◌, List, ap, ◌∙◌, sym, subst}
-use Rattle.std.specs.List.{flat_map}
-use Rattle.std.proofs.lemmas.List.{take_all}
-use Rattle.mm_draft.specs.declared.segment.Word.{Word}
-use Rattle.mm_draft.specs.Drafts.{Segment}
-use Rattle.mm_asm.specs.Answers.{Meets}
-use Rattle.mm_asm.specs.Faults.{word_failures}
-use Rattle.mm_asm.proofs.Built.{numbered}
-use Rattle.mm_asm.proofs.BuiltNumbered.{goals_in, goals_are}
-use Rattle.mm_asm.proofs.LateFirsts.{met_next}
+use Rattle.std.{proofs.{Common.{◌≡◌, List, ap, ◌∙◌, sym, subst}, lemmas.List.take_all}, specs.List.flat_map}
+use Rattle.mm_draft.specs.{declared.segment.Word.Word, Drafts.Segment}
+use Rattle.mm_asm.specs.{Answers.Meets, Faults.word_failures}
+use Rattle.mm_asm.proofs.{Built.numbered, BuiltNumbered.{goals_in, goals_are}, LateFirsts.met_next}
 use Rattle.mm_asm.proofs.checks.meet_goals.Goals as goal
 
 pub loop-number-preserved : goal.loop-number-preserved

@@ -1,5 +1,4 @@
-use Rattle.mm_asm.specs.Faults.{word_failures}
-use Rattle.mm_asm.proofs.LateFirsts.{met_more}
+use Rattle.mm_asm.{specs.Faults.word_failures, proofs.LateFirsts.met_more}
 use Rattle.mm_asm.proofs.checks.meet_goals_in.Goals as goal
 
 pub loop-word-preserved : goal.loop-word-preserved

@@ -1,7 +1,5 @@
-use Rattle.std.proofs.Common.{take}
-use Rattle.std.specs.List.{flat_map}
-use Rattle.mm_asm.specs.Answers.{Meets}
-use Rattle.mm_asm.specs.Faults.{word_failures}
+use Rattle.std.{proofs.Common.take, specs.List.flat_map}
+use Rattle.mm_asm.specs.{Answers.Meets, Faults.word_failures}
 use Rattle.mm_asm.proofs.checks.meet_goals_in.Given as goal
 
 abbrev pub invariant-loop-word : goal.invariant-loop-word

@@ -1,5 +1,4 @@
-use Rattle.mm_asm.specs.Faults.{use_failures}
-use Rattle.mm_asm.proofs.LateFirsts.{met_more}
+use Rattle.mm_asm.{specs.Faults.use_failures, proofs.LateFirsts.met_more}
 use Rattle.mm_asm.proofs.checks.meet_targets.Goals as goal
 
 pub loop-u-preserved : goal.loop-u-preserved

@@ -1,7 +1,5 @@
-use Rattle.std.proofs.Common.{take}
-use Rattle.std.specs.List.{flat_map}
-use Rattle.mm_asm.specs.Answers.{Meets}
-use Rattle.mm_asm.specs.Faults.{use_failures}
+use Rattle.std.{proofs.Common.take, specs.List.flat_map}
+use Rattle.mm_asm.specs.{Answers.Meets, Faults.use_failures}
 use Rattle.mm_asm.proofs.checks.meet_targets.Given as goal
 
 abbrev pub invariant-loop-u : goal.invariant-loop-u

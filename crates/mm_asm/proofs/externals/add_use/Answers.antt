@@ -1,12 +1,8 @@
 use Rattle.std.proofs.Common.{◌≡◌, false, is_some, ap, ◌∙◌, sym, subst}
-use Rattle.mm_draft.specs.Drafts.{place_of}
-use Rattle.mm_asm.specs.Names.{Use, name_of}
+use Rattle.mm_draft.specs.{Drafts.place_of, Faults.fault_if}
+use Rattle.mm_asm.specs.{Names.{Use, name_of}, Faults.in_source, Answers.Meets}
+use Rattle.mm_asm.proofs.{BuiltNames.{limit_is, absent_is}, FirstSeen.added}
 use Rattle.mm_line.specs.declared.fault.Fault.TheVariants.{Limit}
-use Rattle.mm_draft.specs.Faults.{fault_if}
-use Rattle.mm_asm.specs.Faults.{in_source}
-use Rattle.mm_asm.specs.Answers.{Meets}
-use Rattle.mm_asm.proofs.BuiltNames.{limit_is, absent_is}
-use Rattle.mm_asm.proofs.FirstSeen.{added}
 use Rattle.mm_asm.proofs.externals.add_use.Goals as goal
 
 pub returns-clause-names : goal.returns-clause-names

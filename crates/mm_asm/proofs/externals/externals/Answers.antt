@@ -1,7 +1,5 @@
 use Rattle.std.proofs.Common.{[]}
-use Rattle.mm_asm.specs.Names.{externals_with}
-use Rattle.mm_asm.proofs.ExternalNames.{externals_rise}
-use Rattle.mm_asm.proofs.FirstSeen.{sorted_is}
+use Rattle.mm_asm.{specs.Names.externals_with, proofs.{ExternalNames.externals_rise, FirstSeen.sorted_is}}
 use Rattle.mm_asm.proofs.externals.externals.Goals as goal
 
 pub returns-clause-names : goal.returns-clause-names

@@ -1,11 +1,9 @@
 use Rattle.std.proofs.Common.{[], take, refl, sym, subst}
-use Rattle.mm_asm.specs.Names.{HasEach, externals_with, with_use}
-use Rattle.mm_asm.specs.Answers.{Meets}
-use Rattle.mm_asm.proofs.BuiltNames.{with_more, limits_met}
-use Rattle.mm_asm.proofs.ExternalNames.{externals_rise}
+use Rattle.mm_asm.specs.{Names.{HasEach, externals_with, with_use}, Answers.Meets}
+use Rattle.mm_asm.proofs.{BuiltNames.{with_more, limits_met}, ExternalNames.externals_rise}
 use Rattle.mm_asm.proofs.FirstSeen.{seen_more, limit_alike}
-use Rattle.mm_asm.proofs.externals.first_seen.Goals as goal
 use Rattle.mm_object.specs.Steps.{key_names}
+use Rattle.mm_asm.proofs.externals.first_seen.Goals as goal
 
 pub loop-u-preserved : goal.loop-u-preserved
 loop-u-preserved c =

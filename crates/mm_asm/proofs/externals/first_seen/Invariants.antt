@@ -1,9 +1,7 @@
 use Rattle.std.proofs.Common.{[], take}
-use Rattle.mm_asm.specs.Answers.{Meets}
-use Rattle.mm_asm.specs.Names.{HasEach, externals_with}
-use Rattle.mm_asm.specs.Faults.{limit_failures}
-use Rattle.mm_asm.proofs.externals.first_seen.Given as goal
+use Rattle.mm_asm.specs.{Answers.Meets, Names.{HasEach, externals_with}, Faults.limit_failures}
 use Rattle.mm_object.specs.Steps.{key_names}
+use Rattle.mm_asm.proofs.externals.first_seen.Given as goal
 
 abbrev pub invariant-loop-u : goal.invariant-loop-u
 invariant-loop-u l = record {

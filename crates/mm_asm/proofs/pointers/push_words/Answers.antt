@@ -1,7 +1,5 @@
-use Rattle.std.proofs.Common.{◌++◌, ap, ◌∙◌, sym}
-use Rattle.std.proofs.lemmas.List.{take_all}
-use Rattle.mm_asm.proofs.Built.{numbered, numbered_pushed}
-use Rattle.mm_asm.proofs.BuiltNumbered.{reloc_at, words_are}
+use Rattle.std.proofs.{Common.{◌++◌, ap, ◌∙◌, sym}, lemmas.List.take_all}
+use Rattle.mm_asm.proofs.{Built.{numbered, numbered_pushed}, BuiltNumbered.{reloc_at, words_are}}
 use Rattle.mm_asm.proofs.pointers.push_words.Goals as goal
 
 pub loop-k-preserved : goal.loop-k-preserved

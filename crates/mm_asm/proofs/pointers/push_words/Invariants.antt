@@ -1,6 +1,5 @@
 use Rattle.std.proofs.Common.{◌≡◌, ◌++◌, take}
-use Rattle.mm_asm.proofs.Built.{numbered}
-use Rattle.mm_asm.proofs.BuiltNumbered.{reloc_at}
+use Rattle.mm_asm.proofs.{Built.numbered, BuiltNumbered.reloc_at}
 use Rattle.mm_asm.proofs.pointers.push_words.Given as goal
 
 abbrev pub invariant-loop-k : goal.invariant-loop-k

@@ -1,10 +1,7 @@
-use Rattle.std.proofs.Common.{◌≡◌, ◌++◌, List, ap, ◌∙◌, sym}
-use Rattle.std.proofs.lemmas.List.{take_all}
-use Rattle.mm_draft.specs.declared.segment.Word.{Word}
-use Rattle.mm_draft.specs.Drafts.{Segment}
+use Rattle.std.proofs.{Common.{◌≡◌, ◌++◌, List, ap, ◌∙◌, sym}, lemmas.List.take_all}
+use Rattle.mm_draft.specs.{declared.segment.Word.Word, Drafts.Segment}
 use Rattle.mm_asm.specs.Meaning.{words_relocs}
-use Rattle.mm_asm.proofs.Built.{numbered, numbered_appended}
-use Rattle.mm_asm.proofs.BuiltNumbered.{relocs_in, segments_are}
+use Rattle.mm_asm.proofs.{Built.{numbered, numbered_appended}, BuiltNumbered.{relocs_in, segments_are}}
 use Rattle.mm_asm.proofs.pointers.relocs_of.Goals as goal
 
 pub loop-number-preserved : goal.loop-number-preserved

@@ -1,6 +1,5 @@
 use Rattle.std.proofs.Common.{◌≡◌, take}
-use Rattle.mm_asm.proofs.Built.{numbered}
-use Rattle.mm_asm.proofs.BuiltNumbered.{relocs_in}
+use Rattle.mm_asm.proofs.{Built.numbered, BuiltNumbered.relocs_in}
 use Rattle.mm_asm.proofs.pointers.relocs_of.Given as goal
 
 abbrev pub invariant-loop-number : goal.invariant-loop-number

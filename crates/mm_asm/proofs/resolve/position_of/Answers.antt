@@ -1,8 +1,5 @@
-use Rattle.std.proofs.Common.{List, ℕ, rules}
-use Rattle.std.specs.declared.cmp.Ordering.{Ordering}
-use Rattle.std.specs.Ordering.{nat_cmp}
-use Rattle.std.specs.Cmp.Lexicographic.{slice_cmp}
-use Rattle.std.proofs.lemmas.Fn.{always_returns_same}
+use Rattle.std.proofs.{Common.{List, ℕ, rules}, lemmas.Fn.always_returns_same}
+use Rattle.std.specs.{declared.cmp.Ordering.Ordering, Ordering.nat_cmp, Cmp.Lexicographic.slice_cmp}
 use Rattle.mm_asm.proofs.BuiltNames.{place_is, is_found}
 use Rattle.mm_asm.proofs.resolve.position_of.Goals as goal
 

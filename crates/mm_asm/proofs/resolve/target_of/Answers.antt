@@ -2,9 +2,7 @@ use Rattle.std.proofs.Common.{[], length, ap, ◌∙◌, sym, arith}
 use Rattle.mm_draft.specs.Drafts.{place_of}
 use Rattle.mm_object.specs.Objects.{ascend, is_among}
 use Rattle.mm_asm.specs.Names.{externals_of, uses_of, position_of}
-use Rattle.mm_asm.proofs.Order.{rising_ascends}
-use Rattle.mm_asm.proofs.ExternalNames.{externals_rise}
-use Rattle.mm_asm.proofs.LateTargets.{here_fits, elsewhere_fits}
+use Rattle.mm_asm.proofs.{Order.rising_ascends, ExternalNames.externals_rise, LateTargets.{here_fits, elsewhere_fits}}
 use Rattle.mm_asm.proofs.resolve.target_of.Goals as goal
 
 pub position_of-external-requires-clause-up : goal.position_of-external-requires-clause-up

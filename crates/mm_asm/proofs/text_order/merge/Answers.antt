@@ -1,9 +1,7 @@
-use Rattle.std.proofs.Common.{arith}
+use Rattle.std.proofs.Common.{arith, ◌≤◌, ◌⊎◌, ◌++◌, length, take, drop, ◌-◌, inl, inr, ap, ◌∙◌}
 use Rattle.std.proofs.lemmas.Grind.{common_steps}
-use Rattle.std.proofs.Common.{◌≤◌, ◌⊎◌, ◌++◌, length, take, drop, ◌-◌, inl, inr, ap, ◌∙◌}
-use Rattle.mm_asm.proofs.BuiltUses.{merged_rest}
+use Rattle.mm_asm.proofs.{BuiltUses.merged_rest, text_order.merge.Goals.{then-loop-i-test+else-j-ys, else-loop-i-test}}
 use Rattle.mm_asm.proofs.text_order.merge.Goals as goal
-use Rattle.mm_asm.proofs.text_order.merge.Goals.{then-loop-i-test+else-j-ys, else-loop-i-test}
 
 pub returns-clause-uses : goal.returns-clause-uses
 returns-clause-uses c =

@@ -1,9 +1,6 @@
-use Rattle.std.proofs.Common.{ℕ, ◌++◌, ◌∷◌, [], List, ap, ◌∙◌, sym}
-use Rattle.std.proofs.lemmas.List.{take_all}
+use Rattle.std.proofs.{Common.{ℕ, ◌++◌, ◌∷◌, [], List, ap, ◌∙◌, sym}, lemmas.List.take_all}
 use Rattle.mm_object.specs.declared.item.Item.{Item}
-use Rattle.mm_asm.proofs.Built.{numbered, numbered_appended}
-use Rattle.mm_asm.proofs.BuiltNumbered.{item_at, items_are}
-use Rattle.mm_asm.proofs.LateWords.{fits_at}
+use Rattle.mm_asm.proofs.{Built.{numbered, numbered_appended}, BuiltNumbered.{item_at, items_are}, LateWords.fits_at}
 use Rattle.mm_asm.proofs.words.items_of.Goals as goal
 
 pub loop-k-preserved : goal.loop-k-preserved

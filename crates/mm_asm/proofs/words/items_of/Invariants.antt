@@ -1,6 +1,5 @@
 use Rattle.std.proofs.Common.{◌≡◌, take}
-use Rattle.mm_asm.proofs.Built.{numbered}
-use Rattle.mm_asm.proofs.BuiltNumbered.{item_at}
+use Rattle.mm_asm.proofs.{Built.numbered, BuiltNumbered.item_at}
 use Rattle.mm_asm.proofs.words.items_of.Given as goal
 
 abbrev pub invariant-loop-k : goal.invariant-loop-k

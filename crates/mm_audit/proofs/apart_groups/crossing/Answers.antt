@@ -1,8 +1,8 @@
 use Rattle.std.proofs.Common.{◌≡◌, ◌+◌, ◌∙◌, Bool, true, false, sym, subst}
 use Rattle.mm_model.specs.Groups.{among}
 use Rattle.mm_audit.proofs.Crossings.{Best, cross_more, cross_skip}
-use Rattle.mm_audit.proofs.apart_groups.crossing.Goals as goal
 use Rattle.mm_audit.proofs.apart_groups.crossing.Goals.{then-crosses, else-crosses}
+use Rattle.mm_audit.proofs.apart_groups.crossing.Goals as goal
 
 pub loop-k-preserved : goal.loop-k-preserved
 loop-k-preserved c = elim c.if-crosses.branch [

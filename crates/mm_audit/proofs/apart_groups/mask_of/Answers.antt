@@ -1,8 +1,8 @@
 use Rattle.std.proofs.Common.{◌∙◌, sym}
 use Rattle.mm_model.specs.Groups.{among}
 use Rattle.mm_audit.proofs.Crossings.{mask_more, mask_skip}
-use Rattle.mm_audit.proofs.apart_groups.mask_of.Goals as goal
 use Rattle.mm_audit.proofs.apart_groups.mask_of.Goals.{then-is_inside, else-is_inside}
+use Rattle.mm_audit.proofs.apart_groups.mask_of.Goals as goal
 
 pub loop-g-preserved : goal.loop-g-preserved
 loop-g-preserved c = elim c.if-is_inside.branch [

@@ -1,5 +1,4 @@
-use Rattle.std.proofs.Common.{◌≡◌, ℕ, ◌<◌, ◌↔◌, true}
-use Rattle.std.specs.Int.{bit_at}
+use Rattle.std.{proofs.Common.{◌≡◌, ℕ, ◌<◌, ◌↔◌, true}, specs.Int.bit_at}
 use Rattle.mm_model.specs.Groups.{among}
 use Rattle.mm_audit.proofs.apart_groups.mask_of.Given as goal
 

@@ -1,8 +1,5 @@
 use Rattle.std.proofs.Common.{◌∙◌, refl, sym, ap, subst}
-use Rattle.mm_model.specs.Groups.{among, own_slots}
-use Rattle.mm_model.specs.Spelling.{IsImage}
-use Rattle.mm_model.specs.Worlds.{Extracts}
-use Rattle.mm_model.specs.Reach.Entries.{All}
+use Rattle.mm_model.specs.{Groups.{among, own_slots}, Spelling.IsImage, Worlds.Extracts, Reach.Entries.All}
 use Rattle.mm_model.proofs.OwnSlots.{own_image}
 use Rattle.mm_audit.specs.Own.{is_covered, kept_pages}
 use Rattle.mm_audit.proofs.OwnPages.{kept_paged, kept_holds, extracts, same_image}

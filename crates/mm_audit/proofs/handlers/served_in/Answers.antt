@@ -1,8 +1,5 @@
-use Rattle.std.proofs.Common.{[], ap, ◌∙◌}
-use Rattle.std.specs.List.{flat_map}
-use Rattle.std.proofs.lemmas.List.{take_all}
-use Rattle.mm_audit.specs.Serving.{served_by}
-use Rattle.mm_audit.proofs.Servers.{part_more}
+use Rattle.std.{proofs.{Common.{[], ap, ◌∙◌}, lemmas.List.take_all}, specs.List.flat_map}
+use Rattle.mm_audit.{specs.Serving.served_by, proofs.Servers.part_more}
 use Rattle.mm_audit.proofs.handlers.served_in.Goals as goal
 
 pub loop-s-preserved : goal.loop-s-preserved

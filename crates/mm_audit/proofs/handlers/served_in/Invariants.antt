@@ -1,5 +1,4 @@
-use Rattle.std.proofs.Common.{◌≡◌, take}
-use Rattle.std.specs.List.{flat_map}
+use Rattle.std.{proofs.Common.{◌≡◌, take}, specs.List.flat_map}
 use Rattle.mm_audit.specs.Serving.{served_by}
 use Rattle.mm_audit.proofs.handlers.served_in.Given as goal
 

@@ -1,8 +1,6 @@
-use Rattle.std.proofs.Common.{◌∙◌, ◌*◌, ◌++◌, ◌∷◌, [], Bool, length, take, sym, ap}
-use Rattle.std.proofs.lemmas.List.{take_all}
+use Rattle.std.proofs.{Common.{◌∙◌, ◌*◌, ◌++◌, ◌∷◌, [], Bool, length, take, sym, ap}, lemmas.List.take_all}
 use Rattle.mm_word.specs.declared.word.Cell.{Cell}
-use Rattle.mm_audit.specs.Own.{is_covered, kept_cell, kept_cells}
-use Rattle.mm_audit.proofs.OwnPages.{kept_more, kept_length}
+use Rattle.mm_audit.{specs.Own.{is_covered, kept_cell, kept_cells}, proofs.OwnPages.{kept_more, kept_length}}
 use Rattle.mm_audit.proofs.kept_parts.cells_of.Goals as goal
 
 pub loop-cell_index-preserved : goal.loop-cell_index-preserved

@@ -1,6 +1,5 @@
 use Rattle.std.proofs.Common.{◌∙◌, sym, arith, below_more}
-use Rattle.mm_audit.specs.Own.{is_covered}
-use Rattle.mm_audit.proofs.OwnPages.{has_then, has_none}
+use Rattle.mm_audit.{specs.Own.is_covered, proofs.OwnPages.{has_then, has_none}}
 use Rattle.mm_audit.proofs.kept_parts.has_word.Goals as goal
 
 pub returns-then-covers : goal.returns-then-covers

@@ -1,10 +1,9 @@
-use Rattle.std.proofs.Common.{◌≡◌, ◌∙◌, ◌++◌, ◌∷◌, [], ℕ, List, take, sym, ap}
-use Rattle.std.proofs.lemmas.List.{take_more}
+use Rattle.std.proofs.{Common.{◌≡◌, ◌∙◌, ◌++◌, ◌∷◌, [], ℕ, List, take, sym, ap}, lemmas.List.take_more}
 use Rattle.mm_word.specs.declared.word.Cell.{Cell}
 use Rattle.mm_audit.specs.Own.{is_covered, has_word, kept_pages}
 use Rattle.mm_audit.proofs.OwnPages.{kept_page_in, kept_page_out}
-use Rattle.mm_audit.proofs.kept_parts.pages_of.Goals as goal
 use Rattle.mm_audit.proofs.kept_parts.pages_of.Goals.{then-has_word+in_ok-own+in_ok-push, else-has_word}
+use Rattle.mm_audit.proofs.kept_parts.pages_of.Goals as goal
 
 pub loop-page-preserved : goal.loop-page-preserved
 loop-page-preserved c =

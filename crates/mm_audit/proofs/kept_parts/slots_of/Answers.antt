@@ -1,11 +1,7 @@
-use Rattle.std.proofs.Common.{◌≡◌, ◌∙◌, ◌++◌, ◌∷◌, [], take, sym, ap}
-use Rattle.std.specs.List.{filter}
-use Rattle.std.proofs.lemmas.List.{take_more}
-use Rattle.mm_model.specs.Slot.{Slot}
-use Rattle.mm_model.specs.Groups.{among}
-use Rattle.mm_model.proofs.Filters.{filter_last_in, filter_last_out}
-use Rattle.mm_audit.proofs.kept_parts.slots_of.Goals as goal
+use Rattle.std.{proofs.{Common.{◌≡◌, ◌∙◌, ◌++◌, ◌∷◌, [], take, sym, ap}, lemmas.List.take_more}, specs.List.filter}
+use Rattle.mm_model.{specs.{Slot.Slot, Groups.among}, proofs.Filters.{filter_last_in, filter_last_out}}
 use Rattle.mm_audit.proofs.kept_parts.slots_of.Goals.{then-is_inside+in_ok-push, else-is_inside}
+use Rattle.mm_audit.proofs.kept_parts.slots_of.Goals as goal
 
 pub loop-slot-preserved : goal.loop-slot-preserved
 loop-slot-preserved c =

@@ -1,15 +1,10 @@
 use Rattle.std.proofs.Common.{◌≡◌, ◌+◌, List, length, sym, ap, ◌∙◌, subst, arith}
-use Rattle.std.specs.Int.{bit_at}
-use Rattle.std.proofs.lemmas.Nat.Bits.{bit_at-zero}
-use Rattle.std.proofs.lemmas.List.{with_items_is}
-use Rattle.mm_audit.specs.Spans.{base_at}
-use Rattle.mm_audit.specs.Opening.{AreOpen}
-use Rattle.mm_audit.specs.declared.shared_words.Meets.{Meets}
+use Rattle.std.{proofs.lemmas.{Nat.Bits.bit_at-zero, List.with_items_is}, specs.Int.bit_at}
+use Rattle.mm_audit.specs.{Spans.base_at, Opening.AreOpen, declared.shared_words.Meets.Meets}
 use Rattle.mm_audit.specs.Meeting.{HaveMet, HasWord, NotesAll}
-use Rattle.mm_audit.proofs.Opens.{none_open, open_later}
-use Rattle.mm_audit.proofs.Meetings.{none_met, met_skip, met_more, noted_all}
-use Rattle.mm_audit.proofs.least_shared.least_words.Goals as goal
+use Rattle.mm_audit.proofs.{Opens.{none_open, open_later}, Meetings.{none_met, met_skip, met_more, noted_all}}
 use Rattle.mm_audit.proofs.least_shared.least_words.Goals.{then-now-last, else-now-last+else-now-last-2}
+use Rattle.mm_audit.proofs.least_shared.least_words.Goals as goal
 
 pub enter-requires-clause-open : goal.enter-requires-clause-open
 enter-requires-clause-open c = c.loop-k.invariant.stack (base_at c.args.spans.now c.loop-k.k) (λ n lt. c.requires.rise n c.loop-k.k lt c.loop-k-test.true)

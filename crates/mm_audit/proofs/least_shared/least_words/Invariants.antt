@@ -1,8 +1,5 @@
-use Rattle.std.proofs.Common.{◌≡◌, ℕ, ◌<◌, ◌≤◌}
-use Rattle.std.specs.Int.{bit_at}
-use Rattle.mm_audit.specs.Spans.{base_at}
-use Rattle.mm_audit.specs.Opening.{AreOpen}
-use Rattle.mm_audit.specs.Meeting.{HaveMet, HasWord}
+use Rattle.std.{proofs.Common.{◌≡◌, ℕ, ◌<◌, ◌≤◌}, specs.Int.bit_at}
+use Rattle.mm_audit.specs.{Spans.base_at, Opening.AreOpen, Meeting.{HaveMet, HasWord}}
 use Rattle.mm_audit.proofs.least_shared.least_words.Given as goal
 
 abbrev pub invariant-loop-k : goal.invariant-loop-k

@@ -1,7 +1,5 @@
-use Rattle.std.proofs.Common.{subst}
-use Rattle.std.proofs.Math.Nat.{le_antisymm}
-use Rattle.mm_audit.specs.Meeting.{AreNoRows}
-use Rattle.mm_audit.proofs.EmptyRows.{empty_more}
+use Rattle.std.proofs.{Common.subst, Math.Nat.le_antisymm}
+use Rattle.mm_audit.{specs.Meeting.AreNoRows, proofs.EmptyRows.empty_more}
 use Rattle.mm_audit.proofs.least_shared.no_rows.Goals as goal
 
 pub loop-preserved : goal.loop-preserved

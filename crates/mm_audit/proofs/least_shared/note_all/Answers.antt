@@ -1,7 +1,7 @@
 use Rattle.mm_flow.proofs.Bits.{bit_set, bit_clear}
 use Rattle.mm_audit.proofs.Meetings.{note_skip, note_more}
-use Rattle.mm_audit.proofs.least_shared.note_all.Goals as goal
 use Rattle.mm_audit.proofs.least_shared.note_all.Goals.{then-now-h-eq1, else-now-h-eq1}
+use Rattle.mm_audit.proofs.least_shared.note_all.Goals as goal
 
 pub loop-h-preserved : goal.loop-h-preserved
 loop-h-preserved c =

@@ -1,5 +1,4 @@
-use Rattle.std.proofs.Common.{arith}
-use Rattle.std.proofs.lemmas.Grind.{common_steps}
+use Rattle.std.proofs.{Common.arith, lemmas.Grind.common_steps}
 use Rattle.mm_audit.proofs.open_spans.close.Goals as goal
 
 pub loop-stack-preserved : goal.loop-stack-preserved

@@ -1,7 +1,5 @@
 use Rattle.std.proofs.Common.{rules, ◌+◌, subst}
-use Rattle.mm_audit.specs.Spans.{base_at}
-use Rattle.mm_audit.specs.Opening.{AreOpen, IsLast}
-use Rattle.mm_audit.proofs.Opens.{open_users, still_open}
+use Rattle.mm_audit.{specs.{Spans.base_at, Opening.{AreOpen, IsLast}}, proofs.Opens.{open_users, still_open}}
 use Rattle.mm_audit.proofs.open_spans.enter.Goals as goal
 
 pub returns-clause-open : goal.returns-clause-open

@@ -1,10 +1,9 @@
 use Rattle.std.proofs.Common.{◌≡◌, ◌+◌, ◌*◌, ◌%◌, ◌^◌, ◌<◌, ◌∙◌, ◌++◌, [], ◌∷◌, bit_or, take, sym, ap, subst}
 use Rattle.std.proofs.lemmas.List.{take_more}
-use Rattle.mm_model.specs.Slot.{Slot}
-use Rattle.mm_model.specs.Groups.{among}
+use Rattle.mm_model.specs.{Slot.Slot, Groups.among}
 use Rattle.mm_audit.proofs.Leaving.{IsNumbers, no_numbers, numbers_more, numbers_skip}
-use Rattle.mm_audit.proofs.refusals.numbers_inside.Goals as goal
 use Rattle.mm_audit.proofs.refusals.numbers_inside.Goals.{then-is_inside, else-is_inside}
+use Rattle.mm_audit.proofs.refusals.numbers_inside.Goals as goal
 
 pub loop-slot-init : goal.loop-slot-init
 loop-slot-init c = no_numbers (among c.args.groups.now)

@@ -1,7 +1,5 @@
-use Rattle.std.proofs.Common.{◌≡◌, ◌∙◌, true, false, Some, None, sym, ap, subst}
-use Rattle.std.specs.List.{list_any}
-use Rattle.mm_model.specs.Slot.{Slot}
-use Rattle.mm_model.specs.Groups.{among}
+use Rattle.std.{proofs.Common.{◌≡◌, ◌∙◌, true, false, Some, None, sym, ap, subst}, specs.List.list_any}
+use Rattle.mm_model.specs.{Slot.Slot, Groups.among}
 use Rattle.mm_audit.specs.Inside.{first_leaving}
 use Rattle.mm_audit.proofs.Leaving.{IsNumbers, all_stay, first_crosses, no_group, some_group}
 use Rattle.mm_audit.proofs.refusals.refusal.Goals as goal

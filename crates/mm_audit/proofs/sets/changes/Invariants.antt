@@ -1,5 +1,4 @@
-use Rattle.std.proofs.Common.{◌≡◌, ℕ, ◌+◌}
-use Rattle.std.specs.Int.{bit_at}
+use Rattle.std.{proofs.Common.{◌≡◌, ℕ, ◌+◌}, specs.Int.bit_at}
 use Rattle.mm_audit.specs.GroupSets.{SameUsers}
 use Rattle.mm_audit.proofs.sets.changes.Given as goal
 

@@ -1,12 +1,10 @@
 use Rattle.std.proofs.Common.{◌≡◌, ◌-◌, ◌+◌, ◌^◌, sym, ap, ◌∙◌, subst, arith}
-use Rattle.mm_audit.specs.Walks.{outermost}
-use Rattle.mm_audit.specs.Audits.{set_of}
-use Rattle.mm_audit.specs.GroupSets.{AreGroupSets}
-use Rattle.mm_audit.proofs.Bits.{clear_bit}
-use Rattle.mm_audit.proofs.Collecting.{sets_more, same_set}
+use Rattle.mm_audit.specs.{Walks.outermost, Audits.set_of, GroupSets.AreGroupSets}
+use Rattle.mm_audit.proofs.{Bits.clear_bit, Collecting.{sets_more, same_set}}
+use Rattle.mm_audit.proofs.sets.group_sets.Goals.{then-g-gt0+then-changed-g-eq0+in_ok-push_same}
+use Rattle.mm_audit.proofs.sets.group_sets.Goals.{else-g-gt0+in_ok-set+in_ok-push}
 use Rattle.mm_graph.proofs.OneBits.{one_bit}
 use Rattle.mm_audit.proofs.sets.group_sets.Goals as goal
-use Rattle.mm_audit.proofs.sets.group_sets.Goals.{then-g-gt0+then-changed-g-eq0+in_ok-push_same, else-g-gt0+in_ok-set+in_ok-push}
 
 pub loop-g-preserved : goal.loop-g-preserved
 loop-g-preserved c =

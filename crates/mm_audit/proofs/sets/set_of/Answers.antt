@@ -1,8 +1,5 @@
-use Rattle.std.proofs.Common.{arith}
-use Rattle.std.proofs.lemmas.Grind.{common_steps}
-use Rattle.std.proofs.Common.{◌++◌, ap, ◌∙◌}
-use Rattle.mm_audit.proofs.Collecting.{next_segment, next_behind}
-use Rattle.mm_audit.proofs.Outermost.{outermost_set}
+use Rattle.std.proofs.{Common.{arith, ◌++◌, ap, ◌∙◌}, lemmas.Grind.common_steps}
+use Rattle.mm_audit.proofs.{Collecting.{next_segment, next_behind}, Outermost.outermost_set}
 use Rattle.mm_audit.proofs.sets.set_of.Goals as goal
 
 pub push-requires-clause-segment : goal.push-requires-clause-segment

@@ -1,8 +1,5 @@
 use Rattle.std.proofs.Common.{◌∙◌, refl, sym, ap, subst}
-use Rattle.mm_model.specs.Groups.{among, own_slots}
-use Rattle.mm_model.specs.Spelling.{IsImage}
-use Rattle.mm_model.specs.Worlds.{alone}
-use Rattle.mm_model.proofs.OwnSlots.{own_image}
+use Rattle.mm_model.{specs.{Groups.{among, own_slots}, Spelling.IsImage, Worlds.alone}, proofs.OwnSlots.own_image}
 use Rattle.mm_audit.proofs.OwnPages.{same_image}
 use Rattle.mm_audit.proofs.solo.with_slots.Goals as goal
 

@@ -1,8 +1,6 @@
-use Rattle.std.proofs.Common.{subst}
-use Rattle.std.proofs.Math.Nat.{le_antisymm}
+use Rattle.std.proofs.{Common.subst, Math.Nat.le_antisymm}
 use Rattle.mm_graph.specs.Key.{no_key}
-use Rattle.mm_audit.specs.Marks.{Added, SpansOf}
-use Rattle.mm_audit.proofs.Spanning.{spans_first, spans_more}
+use Rattle.mm_audit.{specs.Marks.{Added, SpansOf}, proofs.Spanning.{spans_first, spans_more}}
 use Rattle.mm_audit.proofs.spans.spans_of.Goals as goal
 
 pub loop-k-init : goal.loop-k-init

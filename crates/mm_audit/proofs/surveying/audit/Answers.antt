@@ -1,9 +1,7 @@
 use Rattle.std.proofs.Common.{sym, subst}
 use Rattle.mm_graph.specs.Masks.{meaning}
 use Rattle.mm_model.specs.declared.word_use.WordUse.TheVariants.{Touch, Write}
-use Rattle.mm_audit.specs.GroupSets.{AreGroupSets}
-use Rattle.mm_audit.specs.Surveys.{Surveys}
-use Rattle.mm_audit.proofs.AuditSets.{audits}
+use Rattle.mm_audit.{specs.{GroupSets.AreGroupSets, Surveys.Surveys}, proofs.AuditSets.audits}
 use Rattle.mm_audit.proofs.surveying.audit.Goals as goal
 
 pub returns : goal.returns

@@ -1,7 +1,5 @@
-use Rattle.std.proofs.Common.{length, sym, ap, ◌∙◌, subst}
-use Rattle.std.specs.List.{All}
-use Rattle.mm_graph.specs.Key.{IsKey, IsRising}
-use Rattle.mm_graph.specs.Masks.{meaning}
+use Rattle.std.{proofs.Common.{length, sym, ap, ◌∙◌, subst}, specs.List.All}
+use Rattle.mm_graph.specs.{Key.{IsKey, IsRising}, Masks.meaning}
 use Rattle.mm_audit.proofs.MarkedSpans.{are_privileged, are_spans}
 use Rattle.mm_audit.proofs.surveying.granted_in.Goals as goal
 

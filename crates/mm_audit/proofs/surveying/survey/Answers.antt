@@ -1,8 +1,6 @@
 use Rattle.std.proofs.Common.{length, ap, ◌∙◌, subst}
 use Rattle.mm_graph.specs.Masks.{meaning}
-use Rattle.mm_audit.specs.Serving.{served_of}
-use Rattle.mm_audit.specs.Meeting.{HaveMet}
-use Rattle.mm_audit.proofs.LeastTable.{least_table}
+use Rattle.mm_audit.{specs.{Serving.served_of, Meeting.HaveMet}, proofs.LeastTable.least_table}
 use Rattle.mm_audit.proofs.surveying.survey.Goals as goal
 
 pub returns : goal.returns

@@ -1,8 +1,6 @@
 use Rattle.std.proofs.Common.{◌∙◌, sym, ap, subst}
 use Rattle.mm_model.specs.declared.word_use.WordUse.TheVariants.{Touch}
-use Rattle.mm_audit.specs.Own.{CoversTouched}
-use Rattle.mm_audit.specs.Walks.{outermost}
-use Rattle.mm_audit.proofs.Touches.{covers_touched}
+use Rattle.mm_audit.{specs.{Own.CoversTouched, Walks.outermost}, proofs.Touches.covers_touched}
 use Rattle.mm_audit.proofs.touched_words.touched_by.Goals as goal
 
 pub returns : goal.returns

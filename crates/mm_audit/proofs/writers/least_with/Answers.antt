@@ -1,8 +1,8 @@
 use Rattle.std.proofs.Common.{◌+◌, sym, subst}
 use Rattle.mm_flow.proofs.Bits.{bit_set, bit_clear}
 use Rattle.mm_audit.proofs.Rows.{Best, best_skip, best_more}
-use Rattle.mm_audit.proofs.writers.least_with.Goals as goal
 use Rattle.mm_audit.proofs.writers.least_with.Goals.{then-shared-g-eq1, else-shared-g-eq1}
+use Rattle.mm_audit.proofs.writers.least_with.Goals as goal
 
 pub loop-g-preserved : goal.loop-g-preserved
 loop-g-preserved c =

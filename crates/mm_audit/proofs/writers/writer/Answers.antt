@@ -1,7 +1,6 @@
-use Rattle.mm_audit.proofs.Bits.{set_bit}
-use Rattle.mm_audit.proofs.Rows.{rows_more}
-use Rattle.mm_audit.proofs.writers.writer.Goals as goal
+use Rattle.mm_audit.proofs.{Bits.set_bit, Rows.rows_more}
 use Rattle.mm_audit.proofs.writers.writer.Goals.{then-inside-h-eq0+in_default, else-inside-h-eq0}
+use Rattle.mm_audit.proofs.writers.writer.Goals as goal
 
 pub loop-h-preserved : goal.loop-h-preserved
 loop-h-preserved c =

@@ -1,6 +1,5 @@
 use Rattle.std.proofs.Common.{ℕ, ◌<◌}
-use Rattle.mm_audit.specs.Meeting.{row_at}
-use Rattle.mm_audit.specs.Writers.{NoneWith, IsOutside}
+use Rattle.mm_audit.specs.{Meeting.row_at, Writers.{NoneWith, IsOutside}}
 use Rattle.mm_audit.proofs.writers.writer.Given as goal
 
 abbrev pub invariant-loop-h : goal.invariant-loop-h

@@ -1,7 +1,5 @@
-use Rattle.std.proofs.Common.{◌++◌, refl}
-use Rattle.std.specs.List.{flat_map}
-use Rattle.mm_model.specs.declared.word_use.WordUse.TheVariants.{Touch, Write}
-use Rattle.mm_model.specs.Reach.Entries.{All}
+use Rattle.std.{proofs.Common.{◌++◌, refl}, specs.List.flat_map}
+use Rattle.mm_model.specs.{declared.word_use.WordUse.TheVariants.{Touch, Write}, Reach.Entries.All}
 use Rattle.mm_model.specs.Audit.{kind_line, segment_line}
 use Rattle.mm_text.proofs.Appending.{appends_then}
 use Rattle.mm_audit_text.proofs.groups.put_group.Goals as goal

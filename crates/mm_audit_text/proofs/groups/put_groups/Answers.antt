@@ -1,5 +1,4 @@
-use Rattle.std.proofs.Common.{rules, ◌++◌, [], subst, sym, arith, take}
-use Rattle.std.specs.List.{filter, range_with_len}
+use Rattle.std.{proofs.Common.{rules, ◌++◌, [], subst, sym, arith, take}, specs.List.{filter, range_with_len}}
 use Rattle.mm_model.specs.Groups.{has_group}
 use Rattle.mm_text.proofs.Appending.{appends_then}
 use Rattle.mm_audit_text.specs.Parts.{IsPart, if_present}

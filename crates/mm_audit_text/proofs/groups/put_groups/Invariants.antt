@@ -1,8 +1,6 @@
-use Rattle.std.proofs.Common.{ℕ, List, take}
-use Rattle.std.specs.List.{filter, range_with_len}
-use Rattle.mm_model.specs.Groups.{has_group}
+use Rattle.std.{proofs.Common.{ℕ, List, take}, specs.List.{filter, range_with_len}}
+use Rattle.mm_model.specs.{Groups.has_group, Reach.Entries.All}
 use Rattle.mm_text.specs.Appends.{Appends}
-use Rattle.mm_model.specs.Reach.Entries.{All}
 use Rattle.mm_audit.specs.Surveys.{Surveys}
 use Rattle.mm_audit_text.specs.Parts.{IsPart}
 use Rattle.mm_audit_text.proofs.groups.put_groups.Given as goal

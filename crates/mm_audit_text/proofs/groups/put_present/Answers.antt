@@ -1,6 +1,5 @@
 use Rattle.std.proofs.Common.{rules, ◌≡◌, ℕ, ap, ◌∙◌, ◌++◌, [], Bool, List, sym}
-use Rattle.mm_model.specs.Slot.{Slot}
-use Rattle.mm_model.specs.Groups.{has_group}
+use Rattle.mm_model.specs.{Slot.Slot, Groups.has_group}
 use Rattle.mm_text.proofs.Appending.{appends_then}
 use Rattle.mm_audit_text.proofs.Presence.{one_part, one_alone, no_part}
 use Rattle.mm_audit_text.proofs.groups.put_present.Goals as goal

@@ -1,6 +1,5 @@
 use Rattle.std.proofs.Common.{refl}
-use Rattle.mm_model.specs.Reach.Entries.{All}
-use Rattle.mm_model.specs.Audit.{apart_line}
+use Rattle.mm_model.specs.{Reach.Entries.All, Audit.apart_line}
 use Rattle.mm_audit.specs.Crossing.{verdict_of}
 use Rattle.mm_audit_text.proofs.lines.put_apart.Goals as goal
 

@@ -1,7 +1,6 @@
 use Rattle.std.proofs.Common.{◌-◌, length, take, drop, arith}
 use Rattle.mm_text.proofs.Appending.{appends_more, appends_then, appends_same}
-use Rattle.mm_audit_text.specs.Parts.{further}
-use Rattle.mm_audit_text.proofs.Presence.{all_numbers}
+use Rattle.mm_audit_text.{specs.Parts.further, proofs.Presence.all_numbers}
 use Rattle.mm_audit_text.proofs.lines.put_numbers.Goals as goal
 
 pub loop-group-preserved : goal.loop-group-preserved

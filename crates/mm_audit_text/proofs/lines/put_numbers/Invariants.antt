@@ -1,5 +1,4 @@
-use Rattle.std.proofs.Common.{take}
-use Rattle.std.specs.List.{flat_map}
+use Rattle.std.{proofs.Common.take, specs.List.flat_map}
 use Rattle.mm_text.specs.Appends.{Appends}
 use Rattle.mm_audit_text.specs.Parts.{further}
 use Rattle.mm_audit_text.proofs.lines.put_numbers.Given as goal

@@ -1,6 +1,5 @@
 use Rattle.std.proofs.Common.{rules, ◌≡◌, ◌∷◌, ◌++◌, [], List, ℕ, ap, refl, sym, ◌∙◌, append_assoc, append-nil}
-use Rattle.std.specs.List.{flat_map}
-use Rattle.std.proofs.lemmas.Grind.{flat_map-append}
+use Rattle.std.{proofs.lemmas.Grind.flat_map-append, specs.List.flat_map}
 use Rattle.mm_model.specs.Audit.{segment_line}
 use Rattle.mm_text.proofs.Appending.{appends_then, appends_same}
 use Rattle.mm_audit_text.proofs.lines.put_segments.Goals as goal

@@ -1,5 +1,4 @@
-use Rattle.std.proofs.Common.{◌≡◌, ℕ, ◌++◌, List, length}
-use Rattle.std.specs.List.{flat_map}
+use Rattle.std.{proofs.Common.{◌≡◌, ℕ, ◌++◌, List, length}, specs.List.flat_map}
 use Rattle.mm_model.specs.Audit.{segment_line}
 use Rattle.mm_text.specs.Appends.{Appends}
 use Rattle.mm_audit_text.proofs.lines.put_segments.Given as goal

@@ -1,5 +1,4 @@
-use Rattle.mm_cache.proofs.ReadCells.{reads_are_over}
-use Rattle.mm_cache.proofs.WriteCells.{writes_are_over}
+use Rattle.mm_cache.proofs.{ReadCells.reads_are_over, WriteCells.writes_are_over}
 use Rattle.mm_cache.proofs.laws.cells_are_over.Goals as goal
 
 pub returns-clause-reads : goal.returns-clause-reads

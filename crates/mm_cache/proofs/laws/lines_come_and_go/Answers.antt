@@ -1,5 +1,4 @@
-use Rattle.mm_cache.proofs.FillLines.{fills_are_over, clean_lines_go}
-use Rattle.mm_cache.proofs.WriteBack.{lines_are_written_back}
+use Rattle.mm_cache.proofs.{FillLines.{fills_are_over, clean_lines_go}, WriteBack.lines_are_written_back}
 use Rattle.mm_cache.proofs.MapPages.{empty_lines_are_over}
 use Rattle.mm_cache.proofs.laws.lines_come_and_go.Goals as goal
 

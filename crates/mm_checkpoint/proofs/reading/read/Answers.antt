@@ -3,8 +3,8 @@ use Rattle.mm_model.specs.Bytes.{IsBytes}
 use Rattle.mm_machine.specs.Snapshot.{Parts, parts_of}
 use Rattle.mm_checkpoint.specs.{Checkpoints.saved_of, Format.Saves}
 use Rattle.mm_checkpoint.proofs.SpelledLaws.{told_fault, told_first, told_memory}
-use Rattle.mm_format.proofs.Files.{same_value}
 use Rattle.mm_checkpoint.proofs.FormatWhole.{are_saved, spelled_said}
+use Rattle.mm_format.proofs.Files.{same_value}
 use Rattle.mm_checkpoint.proofs.reading.read.Goals as goal
 
 pub returns-in_err-parts-clause-again : goal.returns-in_err-parts-clause-again

@@ -1,5 +1,6 @@
-use Rattle.std.proofs.Common.{◌≡◌, ℕ, zero, suc, ◌/◌, ◌%◌, ◌^◌, ◌<◌, Bool, false, List, [], ◌∷◌, get_or, length}
-use Rattle.std.{proofs.Common.{refl, ap, ◌∙◌, arith}, specs.Prelude.◌==◌}
+use Rattle.std.specs.Prelude.{◌==◌}
+use Rattle.std.proofs.Common.{◌≡◌, ℕ, zero, suc, ◌/◌, ◌%◌, ◌^◌, ◌<◌, Bool, false, List, [], ◌∷◌, get_or, length, refl}
+use Rattle.std.proofs.Common.{ap, ◌∙◌, arith}
 use Rattle.mm_model.{specs.Flags.flags, proofs.FlagLists.flags-get}
 use Rattle.mm_format.{specs.{Formats.{each, sixteen}, Images.flags_of}, proofs.Loops.each_sixteen}
 use Rattle.mm_checkpoint.specs.Format.{beside, register}

@@ -1,5 +1,4 @@
-use Rattle.std.proofs.Common.{arith}
-use Rattle.std.proofs.lemmas.Grind.{common_steps}
+use Rattle.std.proofs.{Common.arith, lemmas.Grind.common_steps}
 use Rattle.mm_checkpoint.proofs.writing.length_of.Goals as goal
 
 pub loop-output-preserved : goal.loop-output-preserved

@@ -1,4 +1,4 @@
-use Rattle.std.{proofs.Common.{◌≡◌, ◌^◌, ◌<◌, rules, sym, ap, ◌∙◌, append_assoc}}
+use Rattle.std.proofs.Common.{◌≡◌, ◌^◌, ◌<◌, rules, sym, ap, ◌∙◌, append_assoc}
 use Rattle.mm_model.{specs.{Slot.Slot, Flags.number_of_flags}, proofs.Bytes.Bitmaps.number_of_flags-flags}
 use Rattle.mm_checkpoint.proofs.writing.put_registers.Goals as goal
 

@@ -2,8 +2,7 @@ use Rattle.std.proofs.Common.{◌≡◌, ◌≢◌, ℕ, Option, Some, None, Bor
 use Rattle.std.specs.{Prelude.IfSome, Int.{w64, to_be_bytes}, Option.{unwrap_or, option_map, option_copied}}
 use Rattle.mm_word.specs.Pointer.{bits_of}
 use Rattle.mm_model.specs.{declared.event.Event.Event, Slot.Slot}
-use Rattle.mm_checkpoint.specs.declared.writing.QueuedEvent.{QueuedEvent}
-use Rattle.mm_checkpoint.specs.Checkpoints.{event_of, place_in, place_byte}
+use Rattle.mm_checkpoint.specs.{declared.writing.QueuedEvent.QueuedEvent, Checkpoints.{event_of, place_in, place_byte}}
 use Rattle.mm_checkpoint.proofs.{Owns.place_matches, Spelled.{event_back, place_back, record_spelled}}
 use Rattle.mm_checkpoint.proofs.writing.put_slot.Goals as goal
 

@@ -1,7 +1,5 @@
 use Rattle.std.proofs.Common.{◌≡◌, ◌<◌, ℕ, decimal, sym, ◌∙◌, subst, arith}
-use Rattle.std.specs.List.{AllByRecursion}
-use Rattle.std.proofs.lemmas.Fmt.{decimal_injective}
-use Rattle.std.proofs.lemmas.Bool.{both_ways}
+use Rattle.std.{proofs.lemmas.{Fmt.decimal_injective, Bool.both_ways}, specs.List.AllByRecursion}
 use Rattle.mm_cli.proofs.GroupWords.{room_for}
 use Rattle.mm_cli.proofs.groups.push_group.Goals as goal
 

@@ -1,5 +1,4 @@
-use Rattle.std.proofs.Common.{◌≡◌, ◌≤◌, ◌++◌, length, map, decimal}
-use Rattle.std.specs.List.{slice_split}
+use Rattle.std.{proofs.Common.{◌≡◌, ◌≤◌, ◌++◌, length, map, decimal}, specs.List.slice_split}
 use Rattle.mm_cli.specs.GroupList.{AreSoFar, is_comma}
 use Rattle.mm_cli.proofs.groups.read_groups.Given as goal
 

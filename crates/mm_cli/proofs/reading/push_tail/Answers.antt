@@ -1,11 +1,10 @@
 use Rattle.std.proofs.Common.{◌≡◌, ◌∷◌, [], List, map, inl, inr, sym, ap, append-nil, ◌∙◌, subst, refl}
-use Rattle.mm_cli.specs.declared.table.Tail.{Tail}
-use Rattle.mm_cli.specs.declared.table.Tail.TheVariants.{Repeated, Optional}
-use Rattle.mm_cli.specs.declared.words.Word.{Word as Read}
-use Rattle.mm_cli.specs.declared.words.Word.TheVariants as read
+use Rattle.mm_cli.specs.declared.{table.Tail.{Tail, TheVariants.{Repeated, Optional}}, words.{Word.{Word as Read}}}
 use Rattle.mm_cli.specs.Words.{AreOfTail, Word as Spoken, words_of, FitsTail, file_word, spoken, texts, spelled}
 use Rattle.mm_cli.proofs.RowWords.{some_words, one_left, several_said, several_none}
-use Rattle.mm_cli.proofs.reading.push_tail.Goals.{then-is_empty-via-then-is_empty, then-is_empty-via-else-is_empty+then-words-most}
+use Rattle.mm_cli.proofs.reading.push_tail.Goals.{then-is_empty-via-then-is_empty}
+use Rattle.mm_cli.proofs.reading.push_tail.Goals.{then-is_empty-via-else-is_empty+then-words-most}
+use Rattle.mm_cli.specs.declared.words.Word.TheVariants as read
 use Rattle.mm_cli.proofs.reading.push_tail.Goals as goal
 
 pub returns-then-is_empty-clause-none : goal.returns-then-is_empty-clause-none

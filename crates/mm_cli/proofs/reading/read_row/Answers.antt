@@ -1,8 +1,8 @@
 use Rattle.std.proofs.Common.{◌≡◌, ◌++◌, [], List, length, refl, sym, ap, ◌∙◌, subst, arith}
-use Rattle.mm_cli.specs.declared.table.Tail.TheVariants.{Nothing}
-use Rattle.mm_cli.specs.declared.words.Word.{Word as Read}
+use Rattle.mm_cli.specs.declared.{table.Tail.TheVariants.Nothing, words.{Word.{Word as Read}}}
 use Rattle.mm_cli.specs.Words.{AreOfRow, Word as Spoken, spoken, texts}
-use Rattle.mm_cli.proofs.RowWords.{ReadSoFar, read_none, read_more, read_no_more, read_no_tail, read_all, spoken_more, spoken_both, formed_more, formed_all}
+use Rattle.mm_cli.proofs.RowWords.{ReadSoFar, read_none, read_more, read_no_more, read_no_tail, read_all, spoken_more}
+use Rattle.mm_cli.proofs.RowWords.{spoken_both, formed_more, formed_all}
 use Rattle.mm_cli.proofs.reading.read_row.Goals as goal
 
 pub loop-parameter-init : goal.loop-parameter-init

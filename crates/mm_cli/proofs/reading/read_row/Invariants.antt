@@ -1,7 +1,6 @@
 use Rattle.std.proofs.Common.{◌≡◌, take}
 use Rattle.arrayvec.specs.ArrayVec.{array_vec_len}
-use Rattle.mm_cli.specs.Words.{AreOfRow, spoken, texts}
-use Rattle.mm_cli.specs.declared.table.Tail.TheVariants.{Nothing}
+use Rattle.mm_cli.specs.{Words.{AreOfRow, spoken, texts}, declared.table.Tail.TheVariants.Nothing}
 use Rattle.mm_cli.proofs.RowWords.{ReadSoFar}
 use Rattle.mm_cli.proofs.reading.read_row.Given as goal
 

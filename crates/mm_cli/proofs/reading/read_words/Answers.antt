@@ -1,6 +1,5 @@
 use Rattle.std.proofs.Common.{List, ◌∙◌, subst, arith}
-use Rattle.mm_cli.specs.Words.{Word as Spoken, spoken, texts}
-use Rattle.mm_cli.specs.Table.{Matches, table_row}
+use Rattle.mm_cli.specs.{Words.{Word as Spoken, spoken, texts}, Table.{Matches, table_row}}
 use Rattle.mm_cli.proofs.Rows.{first_and_rest, no_rest_of, asks_for, room_for_words, as_said}
 use Rattle.mm_cli.proofs.reading.read_words.Goals as goal
 

@@ -1,5 +1,4 @@
-use Rattle.std.proofs.Common.{◌≡◌, ◌%◌, ℕ, sym, ◌∙◌, subst, arith}
-use Rattle.std.proofs.lemmas.Fmt.{decimal_injective}
+use Rattle.std.proofs.{Common.{◌≡◌, ◌%◌, ℕ, sym, ◌∙◌, subst, arith}, lemmas.Fmt.decimal_injective}
 use Rattle.mm_cli.proofs.words.read_address.Goals as goal
 
 pub returns-then-address-ne0 : goal.returns-then-address-ne0

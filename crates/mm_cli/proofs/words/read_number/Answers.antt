@@ -1,5 +1,4 @@
-use Rattle.std.proofs.Common.{◌≡◌, sym, ◌∙◌, arith}
-use Rattle.std.proofs.lemmas.Fmt.{decimal_injective}
+use Rattle.std.proofs.{Common.{◌≡◌, sym, ◌∙◌, arith}, lemmas.Fmt.decimal_injective}
 use Rattle.mm_cli.proofs.words.read_number.Goals as goal
 
 pub returns-then-number-least : goal.returns-then-number-least

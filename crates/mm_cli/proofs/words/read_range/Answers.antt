@@ -1,6 +1,5 @@
 use Rattle.std.proofs.Common.{◌≡◌, ◌%◌, ◌^◌, ◌*◌, ℕ, sym, subst, ◌∙◌, arith}
-use Rattle.std.proofs.lemmas.Fmt.{decimal_injective}
-use Rattle.std.proofs.lemmas.Nat.{one_shl}
+use Rattle.std.proofs.lemmas.{Fmt.decimal_injective, Nat.one_shl}
 use Rattle.mm_cli.proofs.words.read_range.Goals as goal
 
 pub returns-then-base-log-ne0 : goal.returns-then-base-log-ne0

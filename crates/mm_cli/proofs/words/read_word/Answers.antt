@@ -1,7 +1,7 @@
 use Rattle.std.proofs.Common.{◌∷◌, [], ℕ, List, refl, sym, ap, ◌∙◌, subst}
 use Rattle.mm_cli.specs.declared.table.Parameter.{Parameter}
-use Rattle.mm_cli.specs.declared.words.Word.TheVariants as read
 use Rattle.mm_cli.specs.Words.{file_word, number_word, groups_word, mode_word, use_word, FitsParameter, IsOfParameter}
+use Rattle.mm_cli.specs.declared.words.Word.TheVariants as read
 use Rattle.mm_cli.proofs.words.read_word.Goals as goal
 
 pub returns-in-File : goal.returns-in-File

@@ -1,7 +1,6 @@
 use Rattle.std.proofs.Common.{◌==◌, rules, tests}
+use Rattle.std.proofs.lemmas.Iterator.{YieldsList-from_slice, Search.position_from_yields_List}
 use Prim.Native.Char.{code}
-use Rattle.std.proofs.lemmas.Iterator.{YieldsList-from_slice}
-use Rattle.std.proofs.lemmas.Iterator.Search.{position_from_yields_List}
 use Rattle.mm_debug.proofs.InputLines.{none_found, found_at}
 use Rattle.mm_debug.proofs.command.first_line.Goals as goal
 

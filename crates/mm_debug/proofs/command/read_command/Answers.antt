@@ -1,8 +1,7 @@
 use Rattle.std.proofs.Common.{[], refl, ap, ap₂, ◌∙◌}
 use Rattle.mm_debug.specs.Commands.{with_one, with_two}
-use Rattle.mm_debug.proofs.Asked.{Taken, none, some, asks}
+use Rattle.mm_debug.proofs.{Asked.{Taken, none, some, asks}, command.read_command.Goals.After-take_token-4}
 use Rattle.mm_debug.proofs.command.read_command.Goals as goal
-use Rattle.mm_debug.proofs.command.read_command.Goals.{After-take_token-4}
 
 word : (c : After-take_token-4) → Taken c.args.line.now c.take_token.result.0.now c.take_token.result.1.now
 word c = record { tokens_are = c.take_token.ensures.token; end = c.take_token.ensures.end }

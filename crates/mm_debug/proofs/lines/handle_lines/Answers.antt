@@ -1,10 +1,7 @@
-use Rattle.std.proofs.Common.{◌≡◌, [], ◌++◌, length, arith, rules}
-use Rattle.std.proofs.lemmas.Bool.Decides.{nat_tests}
+use Rattle.std.proofs.{Common.{◌≡◌, [], ◌++◌, length, arith, rules}, lemmas.Bool.Decides.nat_tests}
 use Rattle.mm_text.proofs.Appending.{appends_then}
-use Rattle.mm_debug.specs.declared.session.Go.TheVariants.{More, Quit}
-use Rattle.mm_debug.specs.Commands.{lines_of}
-use Rattle.mm_debug.proofs.Dialogues.{no_text, goes_on, ends_at, ends}
-use Rattle.mm_debug.proofs.InputLines.{no_lines}
+use Rattle.mm_debug.specs.{declared.session.Go.TheVariants.{More, Quit}, Commands.lines_of}
+use Rattle.mm_debug.proofs.{Dialogues.{no_text, goes_on, ends_at, ends}, InputLines.no_lines}
 use Rattle.mm_debug.proofs.lines.handle_lines.Goals as goal
 
 pub loop-rest-init : goal.loop-rest-init

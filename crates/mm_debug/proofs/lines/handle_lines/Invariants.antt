@@ -1,7 +1,6 @@
 use Rattle.std.proofs.Common.{List, ℕ, length}
 use Rattle.mm_text.specs.Appends.{Appends}
-use Rattle.mm_debug.specs.Commands.{lines_of}
-use Rattle.mm_debug.proofs.Dialogues.{GoesOn}
+use Rattle.mm_debug.{specs.Commands.lines_of, proofs.Dialogues.GoesOn}
 use Rattle.mm_debug.proofs.lines.handle_lines.Given as goal
 
 -- what is gathered so far was replied to the lines that are carried out

@@ -1,6 +1,5 @@
 use Rattle.std.proofs.Common.{◌≡◌, ◌+◌, ◌*◌, ◌<◌, ℕ, List, get_or, ap, arith}
-use Rattle.std.proofs.lemmas.List.{take_all}
-use Rattle.std.proofs.lemmas.List.FromFn.{get_or-range_with_len, length-range_with_len}
+use Rattle.std.proofs.lemmas.List.{take_all, FromFn.{get_or-range_with_len, length-range_with_len}}
 use Rattle.std.specs.List.{flat_map, range_with_len}
 use Rattle.mm_model.specs.Memory.{Memory, cell_at}
 use Rattle.mm_text.proofs.Appending.{appends_item, appends_same}

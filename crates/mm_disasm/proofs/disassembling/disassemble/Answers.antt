@@ -1,7 +1,6 @@
 use Rattle.std.proofs.Common.{ℕ, ◌++◌, List, length, sym, ap, ◌∙◌, subst, arith}
 use Rattle.std.specs.List.{flat_map, list_all, AllByRecursion}
-use Rattle.mm_object.specs.declared.thread.Thread.{Thread}
-use Rattle.mm_object.specs.Objects.{Segment, IsSegment, is_thread}
+use Rattle.mm_object.specs.{declared.thread.Thread.Thread, Objects.{Segment, IsSegment, is_thread}}
 use Rattle.mm_text.proofs.Appending.{appends_then, appends_same, buffered_writes}
 use Rattle.mm_disasm.specs.Canonical.{spare_line, segments_text, thread_text, canonical}
 use Rattle.mm_disasm.proofs.disassembling.disassemble.Goals as goal

@@ -1,6 +1,5 @@
 use Rattle.std.proofs.Common.{Option, ap, ◌∙◌}
-use Rattle.mm_isa.specs.declared.instr.Instr.{Instr}
-use Rattle.mm_isa.specs.Table.{Operation}
+use Rattle.mm_isa.specs.{declared.instr.Instr.Instr, Table.Operation}
 use Rattle.mm_text.proofs.Appending.{appends_same}
 use Rattle.mm_disasm.specs.Canonical.{operation_text, bits_text, integer_text}
 use Rattle.mm_disasm.proofs.instructions.put_integer.Goals as goal

@@ -1,7 +1,6 @@
 use Rattle.std.proofs.Common.{◌-◌, length, take, drop, arith}
 use Rattle.mm_text.proofs.Appending.{appends_item, appends_then, appends_same}
-use Rattle.mm_disasm.specs.Canonical.{further_text}
-use Rattle.mm_disasm.proofs.Operands.{all_operands}
+use Rattle.mm_disasm.{specs.Canonical.further_text, proofs.Operands.all_operands}
 use Rattle.mm_disasm.proofs.instructions.put_operands.Goals as goal
 
 pub loop-operand-preserved : goal.loop-operand-preserved

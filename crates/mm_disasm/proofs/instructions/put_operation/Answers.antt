@@ -1,6 +1,5 @@
 use Rattle.std.proofs.Common.{List, ◌++◌, ap, ◌∙◌}
-use Rattle.mm_isa.specs.declared.operand.Operand.{Operand}
-use Rattle.mm_isa.specs.Table.{Operation}
+use Rattle.mm_isa.specs.{declared.operand.Operand.Operand, Table.Operation}
 use Rattle.mm_text.proofs.Appending.{appends_then, appends_same}
 use Rattle.mm_disasm.specs.Canonical.{operands_text, operation_text}
 use Rattle.mm_disasm.proofs.instructions.put_operation.Goals as goal

@@ -1,5 +1,4 @@
-use Rattle.mm_disasm.proofs.CanonicalLaws.{canonical_texts_differ}
-use Rattle.mm_disasm.proofs.Lengths.{canonical_texts_are_sources}
+use Rattle.mm_disasm.proofs.{CanonicalLaws.canonical_texts_differ, Lengths.canonical_texts_are_sources}
 use Rattle.mm_disasm.proofs.Spoken.{canonical_texts_mean_their_objects}
 use Rattle.mm_disasm.proofs.laws.canonical_texts_mean_their_objects.Goals as goal
 

@@ -1,6 +1,4 @@
-use Rattle.std.proofs.Common.{◌∙◌, ap, w32}
-use Rattle.std.specs.Fmt.{signed_decimal}
-use Rattle.std.proofs.lemmas.Int.{to_z-of_z}
+use Rattle.std.{proofs.{Common.{◌∙◌, ap, w32}, lemmas.Int.to_z-of_z}, specs.Fmt.signed_decimal}
 use Rattle.mm_text.proofs.Appending.{appends_same}
 use Rattle.mm_disasm.proofs.numbers.put_signed.Goals as goal
 

@@ -1,9 +1,7 @@
 use Rattle.std.proofs.Common.{◌≡◌, ℕ, List, length, ap, ◌∙◌, arith}
-use Rattle.mm_object.specs.declared.item.Item.{Item}
-use Rattle.mm_object.specs.Objects.{Segment}
+use Rattle.mm_object.specs.{declared.item.Item.Item, Objects.Segment}
 use Rattle.mm_text.proofs.Appending.{appends_then, appends_same}
-use Rattle.mm_disasm.specs.Canonical.{words_text, segment_text}
-use Rattle.mm_disasm.proofs.Targets.{few_items}
+use Rattle.mm_disasm.{specs.Canonical.{words_text, segment_text}, proofs.Targets.few_items}
 use Rattle.mm_disasm.proofs.segments.put_segment.Goals as goal
 
 pub put_words-requires-clause-few : goal.put_words-requires-clause-few

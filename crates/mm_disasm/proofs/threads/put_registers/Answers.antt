@@ -1,6 +1,5 @@
 use Rattle.std.proofs.Common.{length}
-use Rattle.mm_object.specs.Objects.{is_value}
-use Rattle.mm_object.proofs.Bools.{all_at}
+use Rattle.mm_object.{specs.Objects.is_value, proofs.Bools.all_at}
 use Rattle.mm_disasm.specs.Canonical.{register_line}
 use Rattle.mm_disasm.proofs.Numbering.{appends_numbered, appends_all, registers_numbered}
 use Rattle.mm_disasm.proofs.threads.put_registers.Goals as goal

@@ -1,7 +1,6 @@
 use Rattle.std.proofs.Common.{length}
 use Rattle.mm_text.proofs.Appending.{appends_then}
-use Rattle.mm_disasm.specs.Canonical.{thread_text}
-use Rattle.mm_disasm.proofs.Targets.{thread_parts}
+use Rattle.mm_disasm.{specs.Canonical.thread_text, proofs.Targets.thread_parts}
 use Rattle.mm_disasm.proofs.threads.put_thread.Goals as goal
 
 pub put_thread_line-requires : goal.put_thread_line-requires

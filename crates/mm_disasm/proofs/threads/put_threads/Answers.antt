@@ -1,6 +1,5 @@
 use Rattle.std.proofs.Common.{length}
-use Rattle.mm_object.specs.Objects.{is_thread}
-use Rattle.mm_object.proofs.Bools.{all_at}
+use Rattle.mm_object.{specs.Objects.is_thread, proofs.Bools.all_at}
 use Rattle.mm_text.proofs.Appending.{appends_more}
 use Rattle.mm_disasm.specs.Canonical.{thread_text}
 use Rattle.mm_disasm.proofs.threads.put_threads.Goals as goal

@@ -1,8 +1,7 @@
 use Rattle.std.proofs.Common.{Option, ap}
 use Rattle.mm_object.specs.declared.target.Reloc.{Reloc}
 use Rattle.mm_text.proofs.Appending.{appends_then, appends_same}
-use Rattle.mm_disasm.specs.Canonical.{word_by}
-use Rattle.mm_disasm.proofs.Targets.{reloc_target}
+use Rattle.mm_disasm.{specs.Canonical.word_by, proofs.Targets.reloc_target}
 use Rattle.mm_disasm.proofs.words.put_content.Goals as goal
 
 pub put_pointer-requires : goal.put_pointer-requires

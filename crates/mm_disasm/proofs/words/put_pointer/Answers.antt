@@ -1,7 +1,6 @@
 use Rattle.std.proofs.Common.{ℕ, List, ◌++◌, length, codes, ap, ◌∙◌}
 use Rattle.mm_text.proofs.Appending.{appends_then, appends_same}
-use Rattle.mm_disasm.specs.Canonical.{perm_text, short_hex, pointer_text}
-use Rattle.mm_disasm.proofs.Targets.{index_inside}
+use Rattle.mm_disasm.{specs.Canonical.{perm_text, short_hex, pointer_text}, proofs.Targets.index_inside}
 use Rattle.mm_disasm.proofs.words.put_pointer.Goals as goal
 
 pub target_name-requires : goal.target_name-requires

@@ -1,5 +1,4 @@
-use Rattle.mm_disasm.specs.Canonical.{word_line}
-use Rattle.mm_disasm.proofs.Numbering.{appends_numbered, appends_all, words_numbered}
+use Rattle.mm_disasm.{specs.Canonical.word_line, proofs.Numbering.{appends_numbered, appends_all, words_numbered}}
 use Rattle.mm_disasm.proofs.words.put_words.Goals as goal
 
 pub loop-k-preserved : goal.loop-k-preserved

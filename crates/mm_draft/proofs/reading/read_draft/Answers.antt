@@ -1,10 +1,8 @@
 use Rattle.std.proofs.Common.{ap, eqb, length, rules}
-use Rattle.std.proofs.lemmas.List.{length_push}
-use Rattle.std.proofs.lemmas.Result.{err_from_is_err_and}
-use Rattle.std.proofs.lemmas.Iterator.Consumers.{YieldsList-from_enumerate, YieldsList-at, YieldsList-turn, YieldsList-end}
-use Rattle.std.proofs.lemmas.Iterator.Splits.{YieldsList-from_slice_split}
-use Rattle.mm_draft.specs.Faults.{lines_of, lines_from, draft_of}
-use Rattle.mm_draft.proofs.Lines.{at_turn, text_err, text_ok, text_end}
+use Rattle.std.proofs.lemmas.{List.length_push, Result.err_from_is_err_and}
+use Rattle.std.proofs.lemmas.Iterator.Consumers.{YieldsList-from_enumerate, YieldsList-at, YieldsList-turn}
+use Rattle.std.proofs.lemmas.Iterator.{Consumers.YieldsList-end, Splits.YieldsList-from_slice_split}
+use Rattle.mm_draft.{specs.Faults.{lines_of, lines_from, draft_of}, proofs.Lines.{at_turn, text_err, text_ok, text_end}}
 use Rattle.mm_draft.proofs.reading.read_draft.Goals as goal
 
 pub loop-number-init : goal.loop-number-init

@@ -1,9 +1,6 @@
-use Rattle.std.proofs.Common.{ℕ, rules, ◌∙◌, ap}
-use Rattle.std.proofs.lemmas.List.Sorted.{answers_always}
+use Rattle.std.proofs.{Common.{ℕ, rules, ◌∙◌, ap}, lemmas.List.Sorted.answers_always}
 use Rattle.mm_word.specs.declared.word.Cell.{Cell}
-use Rattle.mm_explore.specs.Edits.{with_entry}
-use Rattle.mm_explore.proofs.CellLists.{noted_there, noted_gap}
-use Rattle.mm_explore.proofs.Putting.{more_ok}
+use Rattle.mm_explore.{specs.Edits.with_entry, proofs.{CellLists.{noted_there, noted_gap}, Putting.more_ok}}
 use Rattle.mm_explore.proofs.changed.note.Goals as goal
 
 pub returns-in-Ok : goal.returns-in-Ok

@@ -1,8 +1,6 @@
-use Rattle.std.proofs.Common.{ℕ, List, ◌++◌, ◌*◌, ◌∙◌, ap, take, append_assoc}
-use Rattle.std.specs.List.{flat_map}
+use Rattle.std.{proofs.Common.{ℕ, List, ◌++◌, ◌*◌, ◌∙◌, ap, take, append_assoc}, specs.List.flat_map}
 use Rattle.mm_word.specs.declared.word.Cell.{Cell}
-use Rattle.mm_model.specs.Memory.{page_at}
-use Rattle.mm_model.specs.Report.{cells_or_zero, changes_from}
+use Rattle.mm_model.specs.{Memory.page_at, Report.{cells_or_zero, changes_from}}
 use Rattle.mm_explore.proofs.LookThrough.{page_changes, number_low, number_mapped, page_more}
 use Rattle.mm_explore.proofs.changed.put_changed.Goals as goal
 

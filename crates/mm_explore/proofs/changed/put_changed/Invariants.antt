@@ -1,5 +1,4 @@
-use Rattle.std.proofs.Common.{◌≡◌, ◌++◌, take}
-use Rattle.std.specs.List.{flat_map}
+use Rattle.std.{proofs.Common.{◌≡◌, ◌++◌, take}, specs.List.flat_map}
 use Rattle.mm_explore.proofs.LookThrough.{page_changes}
 use Rattle.mm_explore.proofs.changed.put_changed.Given as goal
 

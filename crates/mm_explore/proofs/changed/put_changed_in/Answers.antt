@@ -1,9 +1,7 @@
 use Rattle.std.proofs.Common.{ℕ, List, ◌++◌, ◌*◌, ◌+◌, ◌∙◌, ap, take, append_assoc, arith}
 use Rattle.mm_word.specs.declared.word.Cell.{Cell}
-use Rattle.mm_model.specs.Memory.{page_at}
-use Rattle.mm_model.specs.Report.{cells_or_zero, changes_from}
-use Rattle.mm_explore.specs.Edits.{entry}
-use Rattle.mm_explore.proofs.LookThrough.{looked, looked_all}
+use Rattle.mm_model.specs.{Memory.page_at, Report.{cells_or_zero, changes_from}}
+use Rattle.mm_explore.{specs.Edits.entry, proofs.LookThrough.{looked, looked_all}}
 use Rattle.mm_explore.proofs.changed.put_changed_in.Goals as goal
 
 pub loop-index-preserved : goal.loop-index-preserved

@@ -1,5 +1,4 @@
-use Rattle.std.proofs.Common.{◌≡◌, List, ◌∙◌, map, length, sym, ap}
-use Rattle.std.proofs.lemmas.List.{length-map}
+use Rattle.std.proofs.{Common.{◌≡◌, List, ◌∙◌, map, length, sym, ap}, lemmas.List.length-map}
 use Rattle.mm_model.specs.Slot.{Slot}
 use Rattle.mm_thread.specs.Output.{Output}
 use Rattle.mm_explore.proofs.Tallies.{form_joined}

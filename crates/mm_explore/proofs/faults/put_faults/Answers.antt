@@ -1,13 +1,7 @@
 use Rattle.std.proofs.Common.{◌≡◌, ℕ, ◌-◌, List, ◌++◌, length, ◌∙◌, take, ap, sym, append_assoc, arith}
-use Rattle.std.specs.List.{flat_map}
-use Rattle.std.specs.BTreeMap.{get}
-use Rattle.std.proofs.lemmas.List.{take_all}
-use Rattle.std.proofs.lemmas.List.FromFn.{length-range_with_len}
+use Rattle.std.{proofs.lemmas.List.{take_all, FromFn.length-range_with_len}, specs.{List.flat_map, BTreeMap.get}}
 use Rattle.mm_word.specs.Cause.{cause_numbers}
-use Rattle.mm_explore.specs.Noting.{fault_found}
-use Rattle.mm_explore.specs.Results.{fault_found_lines}
-use Rattle.mm_explore.specs.Words.{order}
-use Rattle.mm_explore.proofs.LeftOver.{range_more}
+use Rattle.mm_explore.{specs.{Noting.fault_found, Results.fault_found_lines, Words.order}, proofs.LeftOver.range_more}
 use Rattle.mm_explore.proofs.faults.put_faults.Goals as goal
 
 pub loop-cause-preserved : goal.loop-cause-preserved

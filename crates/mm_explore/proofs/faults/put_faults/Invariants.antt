@@ -1,10 +1,6 @@
-use Rattle.std.proofs.Common.{◌≡◌, ◌-◌, ◌++◌, take}
-use Rattle.std.specs.List.{flat_map}
-use Rattle.std.specs.BTreeMap.{get}
+use Rattle.std.{proofs.Common.{◌≡◌, ◌-◌, ◌++◌, take}, specs.{List.flat_map, BTreeMap.get}}
 use Rattle.mm_word.specs.Cause.{cause_numbers}
-use Rattle.mm_explore.specs.Noting.{fault_found}
-use Rattle.mm_explore.specs.Results.{fault_found_lines}
-use Rattle.mm_explore.specs.Words.{order}
+use Rattle.mm_explore.specs.{Noting.fault_found, Results.fault_found_lines, Words.order}
 use Rattle.mm_explore.proofs.faults.put_faults.Given as goal
 
 abbrev pub invariant-loop-cause : goal.invariant-loop-cause

@@ -1,7 +1,6 @@
 use Rattle.std.proofs.Common.{◌++◌, ◌∙◌, [], ◌∷◌, List, ap, take, length, arith}
 use Rattle.mm_word.specs.declared.word.Cell.{Cell}
-use Rattle.mm_model.specs.Memory.{page_at}
-use Rattle.mm_model.specs.Report.{cells_or_zero}
+use Rattle.mm_model.specs.{Memory.page_at, Report.cells_or_zero}
 use Rattle.mm_explore.proofs.Resets.{one_more, whole, long}
 use Rattle.mm_explore.proofs.held.base_page.Goals as goal
 

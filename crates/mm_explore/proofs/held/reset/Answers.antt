@@ -1,11 +1,8 @@
 use Rattle.std.proofs.Common.{◌≡◌, ◌∙◌, length, sym, ap, arith}
-use Rattle.std.specs.Option.{option_map}
-use Rattle.std.specs.Ordering.{nat_cmp}
-use Rattle.std.specs.FinMap.{is_sorted}
+use Rattle.std.specs.{Option.option_map, Ordering.nat_cmp, FinMap.is_sorted}
 use Rattle.mm_model.specs.Memory.{Memory}
 use Rattle.mm_machine.specs.Snapshot.{page_numbers}
-use Rattle.mm_explore.specs.Assembled.{base_memory}
-use Rattle.mm_explore.specs.Kept.{listed}
+use Rattle.mm_explore.specs.{Assembled.base_memory, Kept.listed}
 use Rattle.mm_explore.proofs.Resets.{base_itself, base_of, given_low, given_order, given_fit}
 use Rattle.mm_explore.proofs.held.reset.Goals as goal
 

@@ -1,8 +1,7 @@
 use Rattle.std.proofs.Common.{◌≡◌, sym, ap, ◌∙◌}
 use Rattle.mm_word.specs.declared.word.Pre.TheVariants.{Any}
 use Rattle.mm_mem.specs.Answers.{after_store}
-use Rattle.mm_explore.proofs.MemoryPut.{post_of, stores}
-use Rattle.mm_explore.proofs.memory_put.put_at.Goals.{then-cell, else-cell}
+use Rattle.mm_explore.proofs.{MemoryPut.{post_of, stores}, memory_put.put_at.Goals.{then-cell, else-cell}}
 use Rattle.mm_explore.proofs.memory_put.put_at.Goals as goal
 
 pub returns-clause-memory : goal.returns-clause-memory

@@ -1,7 +1,6 @@
 use Rattle.std.proofs.Common.{◌≡◌, ◌+◌, map, take}
 use Rattle.mm_model.specs.Memory.{IsPaged}
-use Rattle.mm_explore.specs.Assembled.{put_cells}
-use Rattle.mm_explore.specs.Edits.{as_base}
+use Rattle.mm_explore.specs.{Assembled.put_cells, Edits.as_base}
 use Rattle.mm_explore.proofs.memory_put.put_base.Given as goal
 
 abbrev pub invariant-loop-i : goal.invariant-loop-i

@@ -1,10 +1,8 @@
 use Rattle.std.proofs.Common.{ℕ, List, ◌-◌, ◌∙◌, sym, ap, refl, map, take, drop, length, subst}
 use Rattle.mm_word.specs.declared.word.Cell.{Cell}
 use Rattle.mm_model.specs.Memory.{Memory, IsPaged}
-use Rattle.mm_explore.specs.Assembled.{put_cells}
-use Rattle.mm_explore.specs.Edits.{as_base}
-use Rattle.mm_explore.proofs.Assembling.{put_paged_all}
-use Rattle.mm_explore.proofs.MemoryOver.{over_right, in_three, behind_is}
+use Rattle.mm_explore.specs.{Assembled.put_cells, Edits.as_base}
+use Rattle.mm_explore.proofs.{Assembling.put_paged_all, MemoryOver.{over_right, in_three, behind_is}}
 use Rattle.mm_explore.proofs.memory_put.put_over.Goals as goal
 
 pub put_listed-requires-clause-paged : goal.put_listed-requires-clause-paged

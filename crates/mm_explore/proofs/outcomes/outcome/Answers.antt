@@ -1,7 +1,5 @@
-use Rattle.std.proofs.Common.{[], map, ◌++◌, ◌==◌, ap, ◌∙◌}
-use Rattle.std.proofs.lemmas.Option.{slice_get_within}
-use Rattle.mm_explore.specs.Kept.{first_number}
-use Rattle.mm_explore.specs.Findings.{outcome_at}
+use Rattle.std.proofs.{Common.{[], map, ◌++◌, ◌==◌, ap, ◌∙◌}, lemmas.Option.slice_get_within}
+use Rattle.mm_explore.specs.{Kept.first_number, Findings.outcome_at}
 use Rattle.mm_explore.proofs.EndTexts.{parts_read_at, held_slots, held_outputs, ended_of, lines_are, numbered}
 use Rattle.mm_explore.proofs.ResultTexts.{at_index}
 use Rattle.mm_explore.proofs.outcomes.outcome.Goals as goal

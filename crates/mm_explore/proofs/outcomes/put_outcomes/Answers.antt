@@ -1,10 +1,6 @@
-use Rattle.std.proofs.Common.{sym, subst}
-use Rattle.std.specs.List.{flat_map}
-use Rattle.std.specs.Map.Iter.{deref_pair}
-use Rattle.std.proofs.lemmas.Map.Iter.{rest_more, rest_all}
-use Rattle.mm_explore.specs.Noting.{IsEnd}
-use Rattle.mm_explore.specs.Results.{outcome_found_lines}
-use Rattle.mm_explore.specs.Texts.{outcome_lines}
+use Rattle.std.proofs.{Common.{sym, subst}, lemmas.Map.Iter.{rest_more, rest_all}}
+use Rattle.std.specs.{List.flat_map, Map.Iter.deref_pair}
+use Rattle.mm_explore.specs.{Noting.IsEnd, Results.outcome_found_lines, Texts.outcome_lines}
 use Rattle.mm_explore.proofs.LeftOver.{left_next, left_more, left_none}
 use Rattle.mm_explore.proofs.outcomes.put_outcomes.Goals as goal
 

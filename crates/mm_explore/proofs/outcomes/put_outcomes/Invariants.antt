@@ -1,9 +1,5 @@
-use Rattle.std.proofs.Common.{ℕ, List}
-use Rattle.std.specs.List.{AllZip, flat_map}
-use Rattle.mm_explore.specs.Noting.{IsEnd}
-use Rattle.mm_explore.specs.Results.{outcome_found_lines}
-use Rattle.mm_explore.specs.Texts.{outcome_lines}
-use Rattle.mm_explore.proofs.LeftOver.{LeftOver}
+use Rattle.std.{proofs.Common.{ℕ, List}, specs.List.{AllZip, flat_map}}
+use Rattle.mm_explore.{specs.{Noting.IsEnd, Results.outcome_found_lines, Texts.outcome_lines}, proofs.LeftOver.LeftOver}
 use Rattle.mm_explore.proofs.outcomes.put_outcomes.Given as goal
 
 -- the lines so far and those of the ends that are left are the lines of all ends

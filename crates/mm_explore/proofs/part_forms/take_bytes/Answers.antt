@@ -1,6 +1,5 @@
 use Rattle.std.proofs.Common.{ℕ, List, ◌%◌, refl, ap, ◌∙◌}
-use Rattle.mm_explore.specs.Kept.{first_number, behind, bytes_by}
-use Rattle.mm_explore.proofs.Taking.{items_more, items_rest}
+use Rattle.mm_explore.{specs.Kept.{first_number, behind, bytes_by}, proofs.Taking.{items_more, items_rest}}
 use Rattle.mm_explore.proofs.part_forms.take_bytes.Goals as goal
 
 abbrev one : List ℕ → ℕ × List ℕ

@@ -1,6 +1,5 @@
 use Rattle.std.proofs.Common.{◌≤◌, ap, ◌∙◌, length, arith}
-use Rattle.mm_explore.specs.Kept.{first_number, behind}
-use Rattle.mm_explore.proofs.Taking.{cells_more}
+use Rattle.mm_explore.{specs.Kept.{first_number, behind}, proofs.Taking.cells_more}
 use Rattle.mm_explore.proofs.part_forms.take_cells.Goals as goal
 
 pub loop-reader-preserved : goal.loop-reader-preserved

@@ -1,6 +1,5 @@
 use Rattle.std.proofs.Common.{refl, ◌∙◌}
-use Rattle.mm_explore.specs.Kept.{event_from, events_by}
-use Rattle.mm_explore.proofs.Taking.{items_more, items_rest}
+use Rattle.mm_explore.{specs.Kept.{event_from, events_by}, proofs.Taking.{items_more, items_rest}}
 use Rattle.mm_explore.proofs.part_forms.take_events.Goals as goal
 
 pub loop-k-preserved : goal.loop-k-preserved

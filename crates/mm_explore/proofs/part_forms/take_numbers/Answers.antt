@@ -1,6 +1,5 @@
 use Rattle.std.proofs.Common.{ℕ, List, refl, ◌∙◌}
-use Rattle.mm_explore.specs.Kept.{first_number, behind, numbers_by}
-use Rattle.mm_explore.proofs.Taking.{items_more, items_rest}
+use Rattle.mm_explore.{specs.Kept.{first_number, behind, numbers_by}, proofs.Taking.{items_more, items_rest}}
 use Rattle.mm_explore.proofs.part_forms.take_numbers.Goals as goal
 
 abbrev one : List ℕ → ℕ × List ℕ

@@ -1,12 +1,8 @@
-use Rattle.std.proofs.Common.{◌≡◌, ◌++◌, ◌∙◌, ap, List}
-use Rattle.std.specs.Option.{option_map}
-use Rattle.mm_model.specs.Image.{start}
-use Rattle.mm_model.specs.Report.{groups_of}
+use Rattle.std.{proofs.Common.{◌≡◌, ◌++◌, ◌∙◌, ap, List}, specs.Option.option_map}
+use Rattle.mm_model.specs.{Image.start, Report.groups_of, Slot.Slot}
 use Rattle.mm_machine.specs.Snapshot.{page_numbers}
-use Rattle.mm_model.specs.Slot.{Slot}
 use Rattle.mm_thread.specs.Output.{Output}
-use Rattle.mm_explore.specs.Kept.{slots_from, outputs_from, listed}
-use Rattle.mm_explore.proofs.PartForms.{parts_made}
+use Rattle.mm_explore.{specs.Kept.{slots_from, outputs_from, listed}, proofs.PartForms.parts_made}
 use Rattle.mm_explore.proofs.parts.take_parts.Goals as goal
 
 pub returns : goal.returns

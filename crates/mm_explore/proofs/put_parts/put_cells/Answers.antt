@@ -1,6 +1,4 @@
-use Rattle.std.proofs.Common.{ℕ, ◌<◌, ◌^◌, sym, subst}
-use Rattle.std.specs.Prelude.{Contains}
-use Rattle.std.proofs.lemmas.List.Elements.{Contains-get_or}
+use Rattle.std.{proofs.{Common.{ℕ, ◌<◌, ◌^◌, sym, subst}, lemmas.List.Elements.Contains-get_or}, specs.Prelude.Contains}
 use Rattle.mm_word.specs.declared.word.Cell.{Cell}
 use Rattle.mm_explore.proofs.Members.{all_at}
 use Rattle.mm_explore.proofs.put_parts.put_cells.Goals as goal

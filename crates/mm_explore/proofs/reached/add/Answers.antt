@@ -1,7 +1,5 @@
-use Rattle.std.proofs.Common.{◌++◌, ◌∷◌, [], sym, ap, ◌∙◌, subst}
-use Rattle.std.specs.BTreeSet.{insert_key}
-use Rattle.mm_explore.specs.Words.{order, AreKept}
-use Rattle.mm_explore.proofs.WordKeys.{kept_more}
+use Rattle.std.{proofs.Common.{◌++◌, ◌∷◌, [], sym, ap, ◌∙◌, subst}, specs.BTreeSet.insert_key}
+use Rattle.mm_explore.{specs.Words.{order, AreKept}, proofs.WordKeys.kept_more}
 use Rattle.mm_explore.proofs.reached.add.Goals as goal
 
 pub returns : goal.returns

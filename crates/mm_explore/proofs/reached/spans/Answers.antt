@@ -1,9 +1,6 @@
-use Rattle.std.proofs.Common.{◌≡◌, ◌++◌, [], None, List, ℕ, ap, ◌∙◌, sym, subst}
-use Rattle.std.specs.Prelude.{Contains}
-use Rattle.std.specs.Map.Iter.{deref}
-use Rattle.std.proofs.lemmas.Map.Iter.{rest_all}
-use Rattle.mm_explore.specs.Findings.{AreSpans}
-use Rattle.mm_explore.specs.Words.{words_in, spans_after}
+use Rattle.std.proofs.{Common.{◌≡◌, ◌++◌, [], None, List, ℕ, ap, ◌∙◌, sym, subst}, lemmas.Map.Iter.rest_all}
+use Rattle.std.specs.{Prelude.Contains, Map.Iter.deref}
+use Rattle.mm_explore.specs.{Findings.AreSpans, Words.{words_in, spans_after}}
 use Rattle.mm_explore.proofs.Spans.{spans_are, spans_alike}
 use Rattle.mm_explore.proofs.WordKeys.{words_up, words_aligned, word_of_key, key_of_word}
 use Rattle.mm_explore.proofs.reached.spans.Goals as goal

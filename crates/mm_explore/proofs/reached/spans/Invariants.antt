@@ -1,8 +1,5 @@
-use Rattle.std.proofs.Common.{◌≡◌, ◌++◌, ◌≤◌, ◌^◌, None}
-use Rattle.std.specs.Prelude.{IfSome}
-use Rattle.std.specs.List.{AllByRecursion}
-use Rattle.mm_explore.specs.Findings.{word_in}
-use Rattle.mm_explore.specs.Words.{IsWordKey, words_in, spans_after}
+use Rattle.std.{proofs.Common.{◌≡◌, ◌++◌, ◌≤◌, ◌^◌, None}, specs.{Prelude.IfSome, List.AllByRecursion}}
+use Rattle.mm_explore.specs.{Findings.word_in, Words.{IsWordKey, words_in, spans_after}}
 use Rattle.mm_explore.proofs.reached.spans.Given as goal
 
 -- the runs so far and those of the words that are left are those of all words

@@ -1,6 +1,5 @@
 use Rattle.std.proofs.Common.{◌∙◌, subst}
-use Rattle.mm_explore.specs.Finds.{Finds}
-use Rattle.mm_explore.proofs.Steps.{searched}
+use Rattle.mm_explore.{specs.Finds.Finds, proofs.Steps.searched}
 use Rattle.mm_explore.proofs.search.explore.Goals as goal
 
 pub returns : goal.returns

@@ -1,5 +1,4 @@
-use Rattle.std.proofs.Common.{take}
-use Rattle.std.specs.List.{AllByRecursion}
+use Rattle.std.{proofs.Common.take, specs.List.AllByRecursion}
 use Rattle.mm_word.specs.Word.{IsWord}
 use Rattle.mm_model.specs.declared.slot.Pending.{Pending}
 use Rattle.mm_explore.proofs.slot_form.hold_loads.Given as goal

@@ -1,8 +1,7 @@
 use Rattle.std.proofs.Common.{◌/◌, ◌%◌, List, [], ap, ◌∙◌}
 use Rattle.mm_word.specs.declared.word.Word.{Word}
 use Rattle.mm_model.specs.Slot.{Slot}
-use Rattle.mm_explore.specs.Kept.{register_flags, words_from}
-use Rattle.mm_explore.proofs.Taking.{registers_read, registers_left}
+use Rattle.mm_explore.{specs.Kept.{register_flags, words_from}, proofs.Taking.{registers_read, registers_left}}
 use Rattle.mm_explore.proofs.slot_form.take_registers.Goals as goal
 
 pub returns-clause-words : goal.returns-clause-words

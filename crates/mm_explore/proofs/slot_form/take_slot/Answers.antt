@@ -1,8 +1,7 @@
 use Rattle.std.proofs.Common.{◌/◌, ◌%◌, List, ap, sym, ◌∙◌}
 use Rattle.mm_word.specs.declared.word.Word.{Word}
 use Rattle.mm_model.specs.Slot.{Slot}
-use Rattle.mm_explore.specs.Kept.{register_flags, words_from, slot_from}
-use Rattle.mm_explore.proofs.Taking.{slot_taken}
+use Rattle.mm_explore.{specs.Kept.{register_flags, words_from, slot_from}, proofs.Taking.slot_taken}
 use Rattle.mm_explore.proofs.slot_form.take_slot.Goals as goal
 
 pub returns-clause-slot : goal.returns-clause-slot

@@ -1,5 +1,4 @@
-use Rattle.std.proofs.Common.{◌≡◌, ◌==◌, ◌+◌, drop}
-use Rattle.std.specs.List.{prefix_len}
+use Rattle.std.{proofs.Common.{◌≡◌, ◌==◌, ◌+◌, drop}, specs.List.prefix_len}
 use Rattle.mm_explore.proofs.text.leading.Given as goal
 
 abbrev pub invariant-loop-at : goal.invariant-loop-at

@@ -1,8 +1,7 @@
 use Rattle.std.proofs.Common.{◌++◌, ◌∙◌, codes, decimal, ap}
 use Rattle.mm_model.specs.Lines.{newline}
 use Rattle.mm_text.proofs.Appending.{appends_then, appends_same}
-use Rattle.mm_explore.specs.Results.{fault_found_lines}
-use Rattle.mm_explore.specs.Texts.{by_line}
+use Rattle.mm_explore.specs.{Results.fault_found_lines, Texts.by_line}
 use Rattle.mm_explore.proofs.text.put_fault.Goals as goal
 
 pub returns : goal.returns

@@ -1,9 +1,7 @@
-use Rattle.std.proofs.Common.{◌++◌, ◌∙◌, codes, decimal, ap}
-use Rattle.std.specs.List.{flat_map}
+use Rattle.std.{proofs.Common.{◌++◌, ◌∙◌, codes, decimal, ap}, specs.List.flat_map}
 use Rattle.mm_model.specs.Lines.{newline}
 use Rattle.mm_text.proofs.Appending.{appends_then, appends_same}
-use Rattle.mm_explore.specs.Results.{GroupFound}
-use Rattle.mm_explore.specs.Texts.{reached_lines, word_line}
+use Rattle.mm_explore.specs.{Results.GroupFound, Texts.{reached_lines, word_line}}
 use Rattle.mm_explore.proofs.text.put_group.Goals as goal
 
 pub returns : goal.returns

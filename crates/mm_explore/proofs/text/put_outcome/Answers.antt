@@ -1,8 +1,6 @@
-use Rattle.std.proofs.Common.{◌++◌, ◌∙◌, codes, decimal, ap}
-use Rattle.std.specs.List.{flat_map}
+use Rattle.std.{proofs.Common.{◌++◌, ◌∙◌, codes, decimal, ap}, specs.List.flat_map}
 use Rattle.mm_text.proofs.Appending.{appends_then, appends_same}
-use Rattle.mm_explore.specs.Results.{state_found_line, output_text, outcome_found_lines}
-use Rattle.mm_explore.specs.Texts.{by_line, end_text}
+use Rattle.mm_explore.specs.{Results.{state_found_line, output_text, outcome_found_lines}, Texts.{by_line, end_text}}
 use Rattle.mm_explore.proofs.text.put_outcome.Goals as goal
 
 pub returns : goal.returns

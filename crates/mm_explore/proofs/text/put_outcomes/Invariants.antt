@@ -1,5 +1,4 @@
-use Rattle.std.proofs.Common.{take}
-use Rattle.std.specs.List.{flat_map}
+use Rattle.std.{proofs.Common.take, specs.List.flat_map}
 use Rattle.mm_text.specs.Appends.{Appends}
 use Rattle.mm_explore.specs.Results.{outcome_found_lines}
 use Rattle.mm_explore.proofs.text.put_outcomes.Given as goal

@@ -1,6 +1,5 @@
 use Rattle.std.proofs.Common.{◌++◌, ◌∙◌, length, ap}
-use Rattle.mm_model.specs.Lines.{output_lines}
-use Rattle.mm_model.specs.Report.{group_line}
+use Rattle.mm_model.specs.{Lines.output_lines, Report.group_line}
 use Rattle.mm_text.proofs.Appending.{appends_then, appends_same}
 use Rattle.mm_explore.specs.Results.{output_text}
 use Rattle.mm_explore.proofs.text.put_output_text.Goals as goal

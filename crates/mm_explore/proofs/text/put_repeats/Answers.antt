@@ -1,10 +1,7 @@
-use Rattle.std.proofs.Common.{◌≡◌, ◌+◌, ◌++◌, ◌∙◌, refl, sym, ap, append_assoc, append-nil, drop, length, arith, get_or, length-drop}
-use Rattle.std.specs.List.{flat_map}
-use Rattle.std.proofs.lemmas.List.{drop_all}
+use Rattle.std.proofs.Common.{◌≡◌, ◌+◌, ◌++◌, ◌∙◌, refl, sym, ap, append_assoc, append-nil, drop, length, arith, get_or}
+use Rattle.std.{proofs.{Common.length-drop, lemmas.List.drop_all}, specs.List.flat_map}
 use Rattle.mm_text.proofs.Appending.{appends_then, appends_same}
-use Rattle.mm_explore.specs.Repeats.{leading}
-use Rattle.mm_explore.specs.Texts.{repeats_of, repeat_text}
-use Rattle.mm_explore.proofs.Repeats.{repeat, repeats_more}
+use Rattle.mm_explore.{specs.{Repeats.leading, Texts.{repeats_of, repeat_text}}, proofs.Repeats.{repeat, repeats_more}}
 use Rattle.mm_explore.proofs.text.put_repeats.Goals as goal
 
 pub loop-at-preserved : goal.loop-at-preserved

@@ -1,5 +1,4 @@
-use Rattle.std.proofs.Common.{◌≡◌, ◌-◌, ◌≤◌, ℕ, List, ◌++◌, drop, length}
-use Rattle.std.specs.List.{flat_map}
+use Rattle.std.{proofs.Common.{◌≡◌, ◌-◌, ◌≤◌, ℕ, List, ◌++◌, drop, length}, specs.List.flat_map}
 use Rattle.mm_text.specs.Appends.{Appends}
 use Rattle.mm_explore.specs.Texts.{repeats_of, repeat_text}
 use Rattle.mm_explore.proofs.text.put_repeats.Given as goal

@@ -1,5 +1,4 @@
-use Rattle.std.proofs.Common.{take}
-use Rattle.std.specs.List.{flat_map}
+use Rattle.std.{proofs.Common.take, specs.List.flat_map}
 use Rattle.mm_text.specs.Appends.{Appends}
 use Rattle.mm_explore.specs.Texts.{word_line}
 use Rattle.mm_explore.proofs.text.put_spans.Given as goal

@@ -1,5 +1,4 @@
-use Rattle.std.proofs.Common.{◌++◌, ◌∙◌, codes, decimal, ap}
-use Rattle.std.specs.List.{flat_map}
+use Rattle.std.{proofs.Common.{◌++◌, ◌∙◌, codes, decimal, ap}, specs.List.flat_map}
 use Rattle.mm_text.proofs.Appending.{appends_then, appends_same, buffered_writes}
 use Rattle.mm_explore.specs.Results.{explored_text, group_found_lines, fault_found_lines, outcome_found_lines}
 use Rattle.mm_explore.specs.Texts.{extent_text}

@@ -1,6 +1,5 @@
 use Rattle.std.proofs.Common.{arith, subst}
-use Rattle.mm_flow.specs.Work.{Flowing}
-use Rattle.mm_flow.specs.Graph.{edges_of}
+use Rattle.mm_flow.specs.{Work.Flowing, Graph.edges_of}
 use Rattle.mm_flow.proofs.Steps.{flowing_start, flowing_step, flowing_end, working_taken}
 use Rattle.mm_flow.proofs.flow.flow.Goals as goal
 

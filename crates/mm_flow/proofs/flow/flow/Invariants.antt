@@ -1,7 +1,5 @@
 use Rattle.std.proofs.Common.{◌+◌, ◌*◌, ◌^◌, length}
-use Rattle.mm_flow.specs.Flow.{room}
-use Rattle.mm_flow.specs.Work.{Flowing}
-use Rattle.mm_flow.specs.Graph.{edges_of}
+use Rattle.mm_flow.specs.{Flow.room, Work.Flowing, Graph.edges_of}
 use Rattle.mm_flow.proofs.flow.flow.Given as goal
 
 abbrev pub invariant-loop-k : goal.invariant-loop-k

@@ -1,9 +1,10 @@
-use Rattle.std.proofs.Common.{◌≡◌, ℕ, ◌+◌, ◌<◌, ◌⊎◌, List, [], ◌∷◌, ◌++◌, slice_index, arith, inl, inr, sym, ◌∙◌, ap, subst}
+use Rattle.std.proofs.Common.{◌≡◌, ℕ, ◌+◌, ◌<◌, ◌⊎◌, List, [], ◌∷◌, ◌++◌, slice_index, arith, inl, inr, sym, ◌∙◌, ap}
+use Rattle.std.proofs.Common.{subst}
 use Rattle.mm_seg.proofs.Searches.{same_or_below}
 use Rattle.mm_flow.specs.Work.{IsIn}
 use Rattle.mm_flow.proofs.Masks.{in_push_left, in_push_last, in_push_cases}
-use Rattle.mm_flow.proofs.flow.marked_nodes.Goals as goal
 use Rattle.mm_flow.proofs.flow.marked_nodes.Goals.{then-marks-k-ne0+in_ok-push_back, else-marks-k-ne0}
+use Rattle.mm_flow.proofs.flow.marked_nodes.Goals as goal
 
 module _ (marks xs : List ℕ) (k : ℕ) (below : (n : ℕ) → IsIn n xs → n < k) (all : (n : ℕ) → n < k → IsIn n xs ⊎ (slice_index marks n ≡ 0)) where
   listed : ((n : ℕ) → IsIn n (xs ++ k ∷ []) → n < k + 1) × ((n : ℕ) → n < k + 1 → IsIn n (xs ++ k ∷ []) ⊎ (slice_index marks n ≡ 0))

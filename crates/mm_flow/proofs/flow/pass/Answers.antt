@@ -1,6 +1,5 @@
 use Rattle.std.proofs.Common.{arith}
-use Rattle.mm_flow.specs.Graph.{edges_of}
-use Rattle.mm_flow.specs.Work.{worklist_of}
+use Rattle.mm_flow.specs.{Graph.edges_of, Work.worklist_of}
 use Rattle.mm_flow.proofs.Walks.{on_way, walking_more, walking_marks, walking_working}
 use Rattle.mm_flow.proofs.flow.pass.Goals as goal
 

@@ -1,6 +1,5 @@
 use Rattle.std.proofs.Common.{◌-◌}
-use Rattle.mm_flow.specs.Work.{Walking, pass_of, way_of, worklist_of}
-use Rattle.mm_flow.specs.Graph.{edges_of}
+use Rattle.mm_flow.specs.{Work.{Walking, pass_of, way_of, worklist_of}, Graph.edges_of}
 use Rattle.mm_flow.proofs.flow.pass.Given as goal
 
 abbrev pub invariant-loop-walk : goal.invariant-loop-walk

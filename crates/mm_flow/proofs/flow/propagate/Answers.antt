@@ -1,5 +1,6 @@
 use Rattle.std.proofs.Common.{◌<◌, ◌^◌, slice_index, arith}
-use Rattle.mm_flow.proofs.Masks.{propagated_kept, propagated_silent, propagated_moved, stays_kept, stays_covered, stays_waiting, stays_moved}
+use Rattle.mm_flow.proofs.Masks.{propagated_kept, propagated_silent, propagated_moved, stays_kept, stays_covered}
+use Rattle.mm_flow.proofs.Masks.{stays_waiting, stays_moved}
 use Rattle.mm_flow.proofs.flow.propagate.Goals as goal
 
 pub returns-then-new-old-clause-marks : goal.returns-then-new-old-clause-marks

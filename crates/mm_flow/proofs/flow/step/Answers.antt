@@ -1,6 +1,5 @@
 use Rattle.std.proofs.Common.{arith}
-use Rattle.mm_flow.specs.Graph.{edges_of}
-use Rattle.mm_flow.proofs.Walks.{walking_start}
+use Rattle.mm_flow.{specs.Graph.edges_of, proofs.Walks.walking_start}
 use Rattle.mm_flow.proofs.flow.step.Goals as goal
 
 pub pass-requires-clause-start : goal.pass-requires-clause-start

@@ -1,6 +1,5 @@
 use Rattle.std.proofs.Common.{◌≤◌, arith, refl, ◌∙◌}
-use Rattle.mm_flow.proofs.Masks.{propagated_more}
-use Rattle.mm_flow.proofs.Walks.{propagated_none}
+use Rattle.mm_flow.proofs.{Masks.propagated_more, Walks.propagated_none}
 use Rattle.mm_flow.proofs.flow.visit.Goals as goal
 
 pub loop-j-init : goal.loop-j-init

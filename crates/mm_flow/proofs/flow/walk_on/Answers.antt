@@ -1,6 +1,5 @@
 use Rattle.std.proofs.Common.{◌<◌, length, arith}
-use Rattle.mm_flow.specs.Graph.{edges_of}
-use Rattle.mm_flow.proofs.Walks.{walked_marked, walked_by}
+use Rattle.mm_flow.{specs.Graph.edges_of, proofs.Walks.{walked_marked, walked_by}}
 use Rattle.mm_flow.proofs.flow.walk_on.Goals as goal
 
 pub returns-then-not-has_propagated : goal.returns-then-not-has_propagated

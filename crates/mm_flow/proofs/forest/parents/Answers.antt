@@ -1,9 +1,7 @@
 use Rattle.std.proofs.Common.{◌≡◌, ◌++◌, ◌∷◌, [], List, ℕ, arith, subst, sym}
-use Rattle.mm_flow.proofs.SharedMarks.{push_length}
-use Rattle.mm_flow.specs.Forest.{IsForest, Climbed}
-use Rattle.mm_flow.proofs.Ups.{forest_first, forest_climbed}
+use Rattle.mm_flow.proofs.{SharedMarks.push_length, Ups.{forest_first, forest_climbed}}
+use Rattle.mm_flow.{proofs.forest.parents.Goals.{then-k-eq0, else-k-eq0}, specs.Forest.{IsForest, Climbed}}
 use Rattle.mm_flow.proofs.forest.parents.Goals as goal
-use Rattle.mm_flow.proofs.forest.parents.Goals.{then-k-eq0, else-k-eq0}
 
 along : (ends xs ys : List ℕ) (from x none r s : ℕ) → ys ≡ xs → s ≡ r → Climbed ends ys from x none r → Climbed ends xs from x none s
 along ends xs ys from x none r s e f c = subst (Climbed ends xs from x none) (sym f) (subst (λ z. Climbed ends z from x none r) e c)

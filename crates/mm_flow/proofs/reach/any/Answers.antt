@@ -1,6 +1,5 @@
 use Rattle.std.proofs.Common.{arith}
-use Rattle.mm_flow.specs.Edges.{right_at}
-use Rattle.mm_flow.proofs.Kept.{none_before, one_more, all_before}
+use Rattle.mm_flow.{specs.Edges.right_at, proofs.Kept.{none_before, one_more, all_before}}
 use Rattle.mm_flow.proofs.reach.any.Goals as goal
 
 pub loop-k-init : goal.loop-k-init

@@ -1,7 +1,5 @@
-use Rattle.std.proofs.Common.{◌≡◌, ℕ, ◌↔◌}
-use Rattle.std.specs.Int.{bit_at}
-use Rattle.mm_flow.specs.Edges.{right_at}
-use Rattle.mm_flow.proofs.Kept.{SomeBefore}
+use Rattle.std.{proofs.Common.{◌≡◌, ℕ, ◌↔◌}, specs.Int.bit_at}
+use Rattle.mm_flow.{specs.Edges.right_at, proofs.Kept.SomeBefore}
 use Rattle.mm_flow.proofs.reach.any.Given as goal
 
 abbrev pub invariant-loop-k : goal.invariant-loop-k

@@ -1,7 +1,5 @@
-use Rattle.std.proofs.Common.{◌≡◌, ℕ, ◌<◌}
-use Rattle.std.specs.Int.{bit_at}
-use Rattle.mm_flow.specs.Flow.{Has}
-use Rattle.mm_flow.specs.Reached.{SharingSoFar}
+use Rattle.std.{proofs.Common.{◌≡◌, ℕ, ◌<◌}, specs.Int.bit_at}
+use Rattle.mm_flow.specs.{Flow.Has, Reached.SharingSoFar}
 use Rattle.mm_flow.proofs.reach.fill.Given as goal
 
 abbrev pub invariant-loop-m : goal.invariant-loop-m

@@ -1,5 +1,4 @@
-use Rattle.mm_flow.proofs.Walks.{ready_still}
-use Rattle.mm_flow.proofs.Saturation.{saturating_start, saturating_more, reach_end}
+use Rattle.mm_flow.proofs.{Walks.ready_still, Saturation.{saturating_start, saturating_more, reach_end}}
 use Rattle.mm_flow.proofs.reach.until_saturated.Goals as goal
 
 pub loop-sharing-init : goal.loop-sharing-init

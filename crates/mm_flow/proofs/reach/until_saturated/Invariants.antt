@@ -1,8 +1,5 @@
 use Rattle.std.proofs.Common.{◌^◌}
-use Rattle.mm_flow.specs.Flow.{room}
-use Rattle.mm_flow.specs.Work.{IsReady}
-use Rattle.mm_flow.specs.Graph.{edges_of}
-use Rattle.mm_flow.specs.Reached.{Saturating}
+use Rattle.mm_flow.specs.{Flow.room, Work.IsReady, Graph.edges_of, Reached.Saturating}
 use Rattle.mm_flow.proofs.reach.until_saturated.Given as goal
 
 abbrev pub invariant-loop-sharing : goal.invariant-loop-sharing

@@ -1,8 +1,8 @@
 use Rattle.std.proofs.Common.{◌≡◌, ◌∙◌, ◌≤◌, ◌<◌, ◌⊎◌, inl, inr, slice_index, ap, bit_or, arith}
 use Rattle.mm_flow.specs.Edges.{right_at}
 use Rattle.mm_flow.proofs.SharedMarks.{above_more, same_default, push_length}
-use Rattle.mm_flow.proofs.sharing.marks_above.Goals as goal
 use Rattle.mm_flow.proofs.sharing.marks_above.Goals.{then-up-k, else-up-k}
+use Rattle.mm_flow.proofs.sharing.marks_above.Goals as goal
 
 pub loop-k-preserved : goal.loop-k-preserved
 loop-k-preserved c =

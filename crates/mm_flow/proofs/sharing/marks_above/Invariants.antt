@@ -1,6 +1,5 @@
 use Rattle.std.proofs.Common.{◌≡◌, length}
-use Rattle.mm_flow.specs.Edges.{right_at}
-use Rattle.mm_flow.specs.Sharing.{AreMarksAbove}
+use Rattle.mm_flow.specs.{Edges.right_at, Sharing.AreMarksAbove}
 use Rattle.mm_flow.proofs.sharing.marks_above.Given as goal
 
 abbrev pub invariant-loop-k : goal.invariant-loop-k

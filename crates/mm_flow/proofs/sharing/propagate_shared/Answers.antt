@@ -1,7 +1,7 @@
 use Rattle.std.proofs.Common.{◌<◌, ◌^◌, length, slice_index, arith}
 use Rattle.mm_flow.proofs.SharedMarks.{shared_write, shared_keep}
-use Rattle.mm_flow.proofs.sharing.propagate_shared.Goals as goal
 use Rattle.mm_flow.proofs.sharing.propagate_shared.Goals.{then-new-old, else-new-old}
+use Rattle.mm_flow.proofs.sharing.propagate_shared.Goals as goal
 
 pub loop-k-preserved : goal.loop-k-preserved
 loop-k-preserved c =

@@ -1,5 +1,4 @@
-use Rattle.std.proofs.Common.{◌≡◌, ℕ, ◌↔◌}
-use Rattle.std.specs.Int.{bit_at}
+use Rattle.std.{proofs.Common.{◌≡◌, ℕ, ◌↔◌}, specs.Int.bit_at}
 use Rattle.mm_flow.specs.Sharing.{SharedBy, PropagatingShared}
 use Rattle.mm_flow.proofs.sharing.propagate_shared.Given as goal
 

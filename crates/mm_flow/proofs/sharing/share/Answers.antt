@@ -1,8 +1,7 @@
 use Rattle.std.proofs.Common.{◌<◌, length, arith}
-use Rattle.mm_flow.proofs.Bits.{bit_set, bit_clear}
-use Rattle.mm_flow.proofs.SharedMarks.{edges_more, edges_skip}
-use Rattle.mm_flow.proofs.sharing.share.Goals as goal
+use Rattle.mm_flow.proofs.{Bits.{bit_set, bit_clear}, SharedMarks.{edges_more, edges_skip}}
 use Rattle.mm_flow.proofs.sharing.share.Goals.{then-from-h-eq1, else-from-h-eq1}
+use Rattle.mm_flow.proofs.sharing.share.Goals as goal
 
 pub loop-h-preserved : goal.loop-h-preserved
 loop-h-preserved c =

@@ -1,7 +1,6 @@
-use Rattle.mm_flow.proofs.Bits.{bit_set, bit_clear}
-use Rattle.mm_flow.proofs.SharedMarks.{shared_more, shared_skip}
-use Rattle.mm_flow.proofs.sharing.shared_by.Goals as goal
+use Rattle.mm_flow.proofs.{Bits.{bit_set, bit_clear}, SharedMarks.{shared_more, shared_skip}}
 use Rattle.mm_flow.proofs.sharing.shared_by.Goals.{then-mask-h-eq1, else-mask-h-eq1}
+use Rattle.mm_flow.proofs.sharing.shared_by.Goals as goal
 
 pub loop-h-preserved : goal.loop-h-preserved
 loop-h-preserved c g =

@@ -1,11 +1,7 @@
 use Rattle.std.proofs.Common.{◌+◌, take, refl, ap, subst, ◌∙◌, arith, length-set}
-use Rattle.std.specs.List.{AllByRecursion}
-use Rattle.std.proofs.lemmas.Result.{err_from_is_err_and}
-use Rattle.std.proofs.lemmas.List.{take_more_set, take_all}
+use Rattle.std.{proofs.lemmas.{Result.err_from_is_err_and, List.{take_more_set, take_all}}, specs.List.AllByRecursion}
 use Rattle.mm_model.proofs.CoreRows.{each_push}
-use Rattle.mm_format.specs.Formats.{sixteen}
-use Rattle.mm_format.specs.Formats.Parsed.{Got}
-use Rattle.mm_format.proofs.Loops.{runs_begin, runs_more, runs_stop, runs_read}
+use Rattle.mm_format.{specs.Formats.{sixteen, Parsed.Got}, proofs.Loops.{runs_begin, runs_more, runs_stop, runs_read}}
 use Rattle.mm_format.proofs.elements.read_array.Goals as goal
 
 pub loop-index-init : goal.loop-index-init

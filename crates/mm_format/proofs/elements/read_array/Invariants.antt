@@ -1,7 +1,5 @@
-use Rattle.std.proofs.Common.{◌≡◌, ◌+◌, ◌-◌, take, length}
-use Rattle.std.specs.List.{AllByRecursion}
-use Rattle.mm_format.specs.Formats.{runs, sixteen}
-use Rattle.mm_format.proofs.Loops.{prefixed}
+use Rattle.std.{proofs.Common.{◌≡◌, ◌+◌, ◌-◌, take, length}, specs.List.AllByRecursion}
+use Rattle.mm_format.{specs.Formats.{runs, sixteen}, proofs.Loops.prefixed}
 use Rattle.mm_format.proofs.elements.read_array.Given as goal
 
 abbrev pub invariant-loop-index : goal.invariant-loop-index

@@ -1,6 +1,6 @@
 use Rattle.std.proofs.Common.{◌≡◌, ℕ, Bool, true, false, cond, nat_lt, length, Some, None, refl, ap, ◌∙◌}
-use Rattle.mm_format.specs.Formats.{Parsed, after, fault_in, Parsed.{Got, Bad}}
-use Rattle.mm_format.specs.{Headers.header, Images.{slots, pages, image, image_fault}}
+use Rattle.mm_format.specs.{Formats.{Parsed, after, fault_in, Parsed.{Got, Bad}}, Headers.header}
+use Rattle.mm_format.specs.Images.{slots, pages, image, image_fault}
 use Rattle.mm_format.proofs.laws.faults_come_in_order.Goals as goal
 
 -- a fault of the first part is that of both

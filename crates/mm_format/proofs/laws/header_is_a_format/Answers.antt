@@ -1,6 +1,4 @@
-use Rattle.mm_format.specs.Headers.{header}
-use Rattle.mm_format.proofs.Files.{round_trips, one_to_one}
-use Rattle.mm_format.proofs.Headers.{header_is}
+use Rattle.mm_format.{specs.Headers.header, proofs.{Files.{round_trips, one_to_one}, Headers.header_is}}
 use Rattle.mm_format.proofs.laws.header_is_a_format.Goals as goal
 
 pub returns-clause-format : goal.returns-clause-format

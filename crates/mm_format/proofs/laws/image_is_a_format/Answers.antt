@@ -1,7 +1,5 @@
 use Rattle.mm_format.specs.Images.{image}
-use Rattle.mm_format.proofs.Files.{round_trips, one_to_one}
-use Rattle.mm_format.proofs.Images.{image_is}
-use Rattle.mm_format.proofs.ImagesFit.{image_fits, fits_image}
+use Rattle.mm_format.proofs.{Files.{round_trips, one_to_one}, Images.image_is, ImagesFit.{image_fits, fits_image}}
 use Rattle.mm_format.proofs.laws.image_is_a_format.Goals as goal
 
 pub returns-clause-format : goal.returns-clause-format

@@ -1,5 +1,4 @@
-use Rattle.std.proofs.Common.{◌+◌, refl, ap, ◌∙◌}
-use Rattle.std.proofs.lemmas.Result.{err_from_is_err_and}
+use Rattle.std.proofs.{Common.{◌+◌, refl, ap, ◌∙◌}, lemmas.Result.err_from_is_err_and}
 use Rattle.mm_format.proofs.Loops.{runs_begin, runs_more, runs_stop, runs_read}
 use Rattle.mm_format.proofs.records.read_records.Goals as goal
 

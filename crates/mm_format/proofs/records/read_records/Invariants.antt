@@ -1,6 +1,5 @@
 use Rattle.std.proofs.Common.{◌≡◌, ◌-◌, vec_len}
-use Rattle.mm_format.specs.Formats.{runs}
-use Rattle.mm_format.proofs.Loops.{prefixed}
+use Rattle.mm_format.{specs.Formats.runs, proofs.Loops.prefixed}
 use Rattle.mm_format.proofs.records.read_records.Given as goal
 
 abbrev pub invariant-loop : goal.invariant-loop

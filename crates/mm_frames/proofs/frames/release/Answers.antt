@@ -1,7 +1,6 @@
 use Rattle.std.proofs.Common.{◌≡◌, ◌+◌, ◌-◌, nat_lt, ap, ◌∙◌, arith}
 use Rattle.mm_model.specs.Flags.{one_if}
-use Rattle.mm_frames.specs.Framed.{times}
-use Rattle.mm_frames.proofs.Counts.{times_push, below_more}
+use Rattle.mm_frames.{specs.Framed.times, proofs.Counts.{times_push, below_more}}
 use Rattle.mm_frames.proofs.frames.release.Goals as goal
 
 pub loop-frame-preserved : goal.loop-frame-preserved

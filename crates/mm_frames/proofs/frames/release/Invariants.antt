@@ -1,5 +1,4 @@
-use Rattle.std.proofs.Common.{◌≡◌, ℕ, ◌+◌, ◌≤◌, nat_lt, vec_len}
-use Rattle.std.specs.Vec.{vec_capacity}
+use Rattle.std.{proofs.Common.{◌≡◌, ℕ, ◌+◌, ◌≤◌, nat_lt, vec_len}, specs.Vec.vec_capacity}
 use Rattle.mm_model.specs.Flags.{one_if}
 use Rattle.mm_frames.specs.Framed.{times}
 use Rattle.mm_frames.proofs.frames.release.Given as goal

@@ -2,9 +2,7 @@ use Rattle.std.proofs.Common.{◌≡◌, ◌<◌, ℕ, List, [], ◌∷◌, ◌+
 use Rattle.std.proofs.lemmas.List.{take_all}
 use Rattle.mm_word.specs.declared.word.Cell.{Cell}
 use Rattle.mm_frames.specs.Framed.{memory_of, rows_with}
-use Rattle.mm_frames.proofs.Rows.{paired}
-use Rattle.mm_frames.proofs.Counts.{with_push, below_more}
-use Rattle.mm_frames.proofs.Seating.{seat_more, whole_more}
+use Rattle.mm_frames.proofs.{Rows.paired, Counts.{with_push, below_more}, Seating.{seat_more, whole_more}}
 use Rattle.mm_frames.proofs.frames.seat.Goals as goal
 
 pub loop-i-preserved : goal.loop-i-preserved

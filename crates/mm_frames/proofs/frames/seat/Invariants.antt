@@ -1,10 +1,7 @@
 use Rattle.std.proofs.Common.{◌≡◌, ℕ, ◌≤◌, nat_lt, [], take, slice_index_or, vec_len}
-use Rattle.std.specs.Vec.{vec_capacity}
-use Rattle.std.specs.List.{AllByRecursion}
-use Rattle.mm_model.specs.Flags.{one_if}
-use Rattle.mm_model.specs.Memory.{IsPage}
-use Rattle.mm_frames.specs.Framed.{rows_with}
-use Rattle.mm_frames.proofs.Rows.{paired}
+use Rattle.std.specs.{Vec.vec_capacity, List.AllByRecursion}
+use Rattle.mm_model.specs.{Flags.one_if, Memory.IsPage}
+use Rattle.mm_frames.{specs.Framed.rows_with, proofs.Rows.paired}
 use Rattle.mm_frames.proofs.frames.seat.Given as goal
 
 abbrev pub invariant-loop-i : goal.invariant-loop-i

@@ -1,5 +1,4 @@
-use Rattle.std.proofs.Common.{◌≡◌, ◌≤◌, vec_len}
-use Rattle.std.specs.Vec.{vec_capacity}
+use Rattle.std.{proofs.Common.{◌≡◌, ◌≤◌, vec_len}, specs.Vec.vec_capacity}
 use Rattle.mm_frames.proofs.frames.zeros.Given as goal
 
 abbrev pub invariant-loop : goal.invariant-loop

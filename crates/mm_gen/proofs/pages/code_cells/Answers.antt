@@ -1,8 +1,6 @@
-use Rattle.std.proofs.Common.{◌++◌, List, map, replicate, ap, ◌∙◌, arith}
-use Rattle.std.proofs.lemmas.List.{take_all}
+use Rattle.std.proofs.{Common.{◌++◌, List, map, replicate, ap, ◌∙◌, arith}, lemmas.List.take_all}
 use Rattle.mm_word.specs.declared.word.Cell.{Cell}
-use Rattle.mm_isa.specs.Table.{spelling}
-use Rattle.mm_isa.specs.declared.instr.Instr.{Instr}
+use Rattle.mm_isa.specs.{Table.spelling, declared.instr.Instr.Instr}
 use Rattle.mm_model.specs.Memory.{zero_cell}
 use Rattle.mm_gen.specs.Generated.{full_cell, loop, code_cells}
 use Rattle.mm_gen.proofs.pages.code_cells.Goals as goal

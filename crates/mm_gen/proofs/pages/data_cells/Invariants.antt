@@ -1,6 +1,5 @@
 use Rattle.std.proofs.Common.{◌≡◌}
-use Rattle.mm_gen.specs.Generated.{nth_number}
-use Rattle.mm_gen.specs.Steps.{cells_behind}
+use Rattle.mm_gen.specs.{Generated.nth_number, Steps.cells_behind}
 use Rattle.mm_gen.proofs.pages.data_cells.Given as goal
 
 abbrev pub invariant-loop : goal.invariant-loop

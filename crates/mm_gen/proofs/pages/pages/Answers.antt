@@ -1,9 +1,7 @@
 use Rattle.std.proofs.Common.{◌≡◌, ℕ, ◌+◌, ◌*◌, List, ◌++◌, ap, sym, ◌∙◌, arith}
 use Rattle.mm_word.specs.declared.word.Cell.{Cell}
-use Rattle.mm_gen.specs.Generated.{nth_number}
-use Rattle.mm_gen.specs.Steps.{pages_behind}
-use Rattle.mm_gen.proofs.Numbers.{nth_number-none, nth_number-add}
-use Rattle.mm_gen.proofs.PageLists.{pages_more}
+use Rattle.mm_gen.specs.{Generated.nth_number, Steps.pages_behind}
+use Rattle.mm_gen.proofs.{Numbers.{nth_number-none, nth_number-add}, PageLists.pages_more}
 use Rattle.mm_gen.proofs.pages.pages.Goals as goal
 
 pub loop-slot-init : goal.loop-slot-init

@@ -1,5 +1,4 @@
-use Rattle.std.proofs.Common.{◌≡◌, ◌*◌}
-use Rattle.std.specs.List.{flat_map, range_with_len}
+use Rattle.std.{proofs.Common.{◌≡◌, ◌*◌}, specs.List.{flat_map, range_with_len}}
 use Rattle.mm_gen.specs.Generated.{nth_number, slot_pages}
 use Rattle.mm_gen.proofs.pages.pages.Given as goal
 

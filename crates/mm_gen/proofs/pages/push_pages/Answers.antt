@@ -1,6 +1,5 @@
 use Rattle.std.proofs.Common.{length, ap, arith, ◌∙◌}
-use Rattle.mm_gen.proofs.Numbers.{length-cells_behind}
-use Rattle.mm_gen.proofs.PageLists.{length-code_cells, two_pages}
+use Rattle.mm_gen.proofs.{Numbers.length-cells_behind, PageLists.{length-code_cells, two_pages}}
 use Rattle.mm_gen.proofs.pages.push_pages.Goals as goal
 
 pub of-requires : goal.of-requires

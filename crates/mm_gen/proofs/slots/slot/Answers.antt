@@ -1,11 +1,6 @@
 use Rattle.std.proofs.Common.{◌≡◌, ℕ, false, List, [], ◌∷◌, replicate, None, refl, ap, ◌∙◌}
-use Rattle.mm_word.specs.declared.perm.Perm.TheVariants.{Rw, Xu}
-use Rattle.mm_word.specs.declared.word.Word.TheVariants.{Int, Ptr}
-use Rattle.mm_word.specs.Pointer.{Pointer}
-use Rattle.mm_model.specs.declared.slot.SlotState.TheVariants.{Running}
-use Rattle.mm_model.specs.declared.slot.Pending.{Pending}
-use Rattle.mm_model.specs.Flags.{flags}
-use Rattle.mm_model.specs.Slot.{Slot}
+use Rattle.mm_word.specs.{declared.{perm.Perm.TheVariants.{Rw, Xu}, word.Word.TheVariants.{Int, Ptr}}, Pointer.Pointer}
+use Rattle.mm_model.specs.{declared.slot.{SlotState.TheVariants.Running, Pending.Pending}, Flags.flags, Slot.Slot}
 use Rattle.mm_gen.specs.Generated.{code_page, data_page, page_pointer, slot_at}
 use Rattle.mm_gen.proofs.slots.slot.Goals as goal
 

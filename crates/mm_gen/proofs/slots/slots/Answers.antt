@@ -1,5 +1,4 @@
-use Rattle.std.proofs.Common.{arith}
-use Rattle.std.proofs.lemmas.List.FromFn.{map-range_with_len_more}
+use Rattle.std.proofs.{Common.arith, lemmas.List.FromFn.map-range_with_len_more}
 use Rattle.mm_gen.specs.Generated.{slot_at}
 use Rattle.mm_gen.proofs.slots.slots.Goals as goal
 

@@ -1,5 +1,4 @@
-use Rattle.std.proofs.Common.{◌≡◌, map}
-use Rattle.std.specs.List.{range_with_len}
+use Rattle.std.{proofs.Common.{◌≡◌, map}, specs.List.range_with_len}
 use Rattle.mm_gen.specs.Generated.{slot_at}
 use Rattle.mm_gen.proofs.slots.slots.Given as goal
 

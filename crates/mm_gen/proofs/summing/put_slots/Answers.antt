@@ -1,11 +1,8 @@
-use Rattle.std.proofs.Common.{◌<◌, ◌∙◌, length, ap, sym, arith}
-use Rattle.std.proofs.lemmas.List.{take_all}
-use Rattle.std.proofs.lemmas.Option.{get_or_from_slice_get}
+use Rattle.std.proofs.{Common.{◌<◌, ◌∙◌, length, ap, sym, arith}, lemmas.{List.take_all, Option.get_or_from_slice_get}}
 use Rattle.std.specs.List.{flat_map}
 use Rattle.mm_model.specs.Fits.{slots_of}
 use Rattle.mm_text.proofs.Appending.{appends_item, appends_same}
-use Rattle.mm_gen.specs.Summary.{slot_summary}
-use Rattle.mm_gen.proofs.SlotTexts.{slot_texts}
+use Rattle.mm_gen.{specs.Summary.slot_summary, proofs.SlotTexts.slot_texts}
 use Rattle.mm_gen.proofs.summing.put_slots.Goals as goal
 
 pub loop-i-preserved : goal.loop-i-preserved

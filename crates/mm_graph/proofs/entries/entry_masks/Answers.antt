@@ -1,8 +1,7 @@
 use Rattle.std.proofs.Common.{◌≡◌, ◌-◌, ◌^◌, length, replicate, rules, sym, subst}
-use Rattle.mm_model.specs.Reach.Entries.{All as AnyEntry}
+use Rattle.mm_model.specs.{Reach.{Entries.{All as AnyEntry}}}
 use Rattle.mm_word.specs.PointerBits.{bits_of-pointer_of}
-use Rattle.mm_graph.specs.Masks.{IsEntryMasks, meaning}
-use Rattle.mm_graph.proofs.EntryMasks.{any_masks, list_masks}
+use Rattle.mm_graph.{specs.Masks.{IsEntryMasks, meaning}, proofs.EntryMasks.{any_masks, list_masks}}
 use Rattle.mm_graph.proofs.entries.entry_masks.Goals as goal
 
 pub returns-in_ok-masks-in-All : goal.returns-in_ok-masks-in-All

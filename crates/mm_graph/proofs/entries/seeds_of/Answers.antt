@@ -1,7 +1,5 @@
 use Rattle.std.proofs.Common.{refl, subst}
-use Rattle.mm_graph.specs.declared.seed.Seed.{Seed}
-use Rattle.mm_graph.specs.Masks.{IsEntrySeed}
-use Rattle.mm_graph.proofs.EntryMasks.{zip_more}
+use Rattle.mm_graph.{specs.{declared.seed.Seed.Seed, Masks.IsEntrySeed}, proofs.EntryMasks.zip_more}
 use Rattle.mm_graph.proofs.entries.seeds_of.Goals as goal
 
 pub loop-entry-preserved : goal.loop-entry-preserved

@@ -1,5 +1,4 @@
-use Rattle.std.proofs.Common.{take}
-use Rattle.std.specs.List.{AllZip}
+use Rattle.std.{proofs.Common.take, specs.List.AllZip}
 use Rattle.mm_graph.specs.Masks.{IsEntrySeed}
 use Rattle.mm_graph.proofs.entries.seeds_of.Given as goal
 

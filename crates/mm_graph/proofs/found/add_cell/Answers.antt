@@ -1,6 +1,5 @@
 use Rattle.std.proofs.lemmas.List.Elements.{All-push}
-use Rattle.mm_graph.specs.declared.found.Found.{Found}
-use Rattle.mm_graph.specs.Key.{IsKey}
+use Rattle.mm_graph.specs.{declared.found.Found.Found, Key.IsKey}
 use Rattle.mm_graph.proofs.found.add_cell.Goals as goal
 
 pub returns-in_ok-push-clause-keys : goal.returns-in_ok-push-clause-keys

@@ -1,8 +1,6 @@
 use Rattle.std.proofs.Common.{◌+◌, ◌*◌, ◌++◌, take, ◌∙◌, sym, ap}
 use Rattle.mm_word.specs.declared.word.Cell.{Cell}
-use Rattle.mm_graph.specs.Key.{word_key}
-use Rattle.mm_graph.specs.Found.{found_at, cell_keys}
-use Rattle.mm_graph.proofs.Lists.{cell_keys-more, grown}
+use Rattle.mm_graph.{specs.{Key.word_key, Found.{found_at, cell_keys}}, proofs.Lists.{cell_keys-more, grown}}
 use Rattle.mm_graph.proofs.found.add_page.Goals as goal
 
 pub loop-k-preserved : goal.loop-k-preserved

@@ -1,7 +1,5 @@
-use Rattle.std.proofs.Common.{◌≡◌, ◌*◌, ◌++◌, take}
-use Rattle.std.specs.List.{All}
-use Rattle.mm_graph.specs.Key.{IsKey}
-use Rattle.mm_graph.specs.Found.{cell_keys}
+use Rattle.std.{proofs.Common.{◌≡◌, ◌*◌, ◌++◌, take}, specs.List.All}
+use Rattle.mm_graph.specs.{Key.IsKey, Found.cell_keys}
 use Rattle.mm_graph.proofs.found.add_page.Given as goal
 
 abbrev pub invariant-loop-k : goal.invariant-loop-k

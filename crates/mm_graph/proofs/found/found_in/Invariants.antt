@@ -1,7 +1,5 @@
-use Rattle.std.proofs.Common.{◌≡◌, take}
-use Rattle.std.specs.List.{All}
-use Rattle.mm_graph.specs.Key.{IsKey}
-use Rattle.mm_graph.specs.Found.{page_keys}
+use Rattle.std.{proofs.Common.{◌≡◌, take}, specs.List.All}
+use Rattle.mm_graph.specs.{Key.IsKey, Found.page_keys}
 use Rattle.mm_graph.proofs.found.found_in.Given as goal
 
 abbrev pub invariant-loop-page : goal.invariant-loop-page

@@ -1,7 +1,5 @@
 use Rattle.std.proofs.Common.{◌≡◌, length, sym, subst, arith}
-use Rattle.mm_graph.specs.Masks.{meaning}
-use Rattle.mm_graph.specs.Marked.{IsMarked}
-use Rattle.mm_graph.proofs.Conclusion.{marked_all, whole}
+use Rattle.mm_graph.{specs.{Masks.meaning, Marked.IsMarked}, proofs.Conclusion.{marked_all, whole}}
 use Rattle.mm_graph.proofs.graph.marked.Goals as goal
 
 pub returns : goal.returns

@@ -1,6 +1,5 @@
 use Rattle.std.proofs.Common.{sym, subst}
-use Rattle.mm_graph.specs.Nodes.{IsAscending}
-use Rattle.mm_graph.proofs.Cells.{ascending}
+use Rattle.mm_graph.{specs.Nodes.IsAscending, proofs.Cells.ascending}
 use Rattle.mm_graph.proofs.graph.nodes_in.Goals as goal
 
 pub nodes_of-requires-clause-found : goal.nodes_of-requires-clause-found

@@ -1,10 +1,6 @@
 use Rattle.std.proofs.Common.{◌≡◌, ◌∙◌, ap, sym, get_or, ◌++◌, take, length, subst, ◌<◌}
-use Rattle.std.specs.Option.{option_to_list}
-use Rattle.std.specs.List.{filter_map}
-use Rattle.std.proofs.lemmas.List.{get_or_append_left}
-use Rattle.mm_graph.specs.Key.{entry_key}
-use Rattle.mm_graph.proofs.Lists.{grown}
-use Rattle.mm_graph.proofs.KeyLists.{filter_map-more}
+use Rattle.std.{proofs.lemmas.List.get_or_append_left, specs.{Option.option_to_list, List.filter_map}}
+use Rattle.mm_graph.{specs.Key.entry_key, proofs.{Lists.grown, KeyLists.filter_map-more}}
 use Rattle.mm_graph.proofs.keys.add_entries.Goals as goal
 
 pub loop-k-preserved : goal.loop-k-preserved

@@ -1,5 +1,4 @@
-use Rattle.std.proofs.Common.{◌≡◌, ◌++◌, take, length}
-use Rattle.std.specs.List.{filter_map}
+use Rattle.std.{proofs.Common.{◌≡◌, ◌++◌, take, length}, specs.List.filter_map}
 use Rattle.mm_graph.specs.Key.{entry_key}
 use Rattle.mm_graph.proofs.keys.add_entries.Given as goal
 

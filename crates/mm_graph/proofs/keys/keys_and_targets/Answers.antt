@@ -1,6 +1,5 @@
 use Rattle.mm_graph.specs.Placed.{all_keys_of}
-use Rattle.mm_graph.proofs.EntryKeys.{entry_is_key}
-use Rattle.mm_graph.proofs.KeyLists.{keys_made, targets_made}
+use Rattle.mm_graph.proofs.{EntryKeys.entry_is_key, KeyLists.{keys_made, targets_made}}
 use Rattle.mm_graph.proofs.Places.{same_through, placed_there}
 use Rattle.mm_graph.proofs.keys.keys_and_targets.Goals as goal
 

@@ -1,5 +1,4 @@
-use Rattle.std.proofs.Common.{subst, ◌↔◌}
-use Rattle.std.specs.List.{Contains}
+use Rattle.std.{proofs.Common.{subst, ◌↔◌}, specs.List.Contains}
 use Rattle.mm_graph.proofs.keys.keys_of.Goals as goal
 
 pub returns-clause-same : goal.returns-clause-same

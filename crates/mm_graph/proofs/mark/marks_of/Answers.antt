@@ -1,6 +1,5 @@
 use Rattle.std.proofs.Common.{◌≡◌, length, replicate, rules, sym, ◌∙◌, subst, arith}
-use Rattle.mm_graph.specs.Nodes.{IsMarks}
-use Rattle.mm_graph.proofs.Marking.{marks_start}
+use Rattle.mm_graph.{specs.Nodes.IsMarks, proofs.Marking.marks_start}
 use Rattle.mm_graph.proofs.mark.marks_of.Goals as goal
 
 pub mark_all-requires-clause-none : goal.mark_all-requires-clause-none

@@ -1,8 +1,6 @@
-use Rattle.std.proofs.Common.{◌≡◌, ◌<◌, ◌++◌, ◌∷◌, [], ℕ, List, length, slice_index, ◌+◌, ◌∙◌, sym, ap, subst, inl, inr, arith}
-use Rattle.std.proofs.lemmas.List.{get_or_append_left, get_or_push, length_push}
-use Rattle.mm_flow.proofs.Masks.{below_cases}
-use Rattle.mm_flow.specs.declared.node.Node.{Node}
-use Rattle.mm_flow.specs.Edges.{node_at, no_node}
+use Rattle.std.proofs.Common.{◌≡◌, ◌<◌, ◌++◌, ◌∷◌, [], ℕ, List, length, slice_index, ◌+◌, ◌∙◌, sym, ap, subst, inl, inr}
+use Rattle.std.proofs.{Common.arith, lemmas.List.{get_or_append_left, get_or_push, length_push}}
+use Rattle.mm_flow.{proofs.Masks.below_cases, specs.{declared.node.Node.Node, Edges.{node_at, no_node}}}
 use Rattle.mm_graph.specs.Nodes.{IsNode}
 use Rattle.mm_graph.proofs.nodes.nodes_of.Goals as goal
 

@@ -1,5 +1,4 @@
-use Rattle.mm_graph.specs.Key.{no_key}
-use Rattle.mm_graph.proofs.Rising.{same_from_equal, not_there}
+use Rattle.mm_graph.{specs.Key.no_key, proofs.Rising.{same_from_equal, not_there}}
 use Rattle.mm_graph.proofs.order.find.Goals as goal
 
 pub returns-in-Ok : goal.returns-in-Ok

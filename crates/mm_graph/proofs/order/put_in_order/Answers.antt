@@ -1,9 +1,7 @@
 use Rattle.std.proofs.lemmas.List.Filters.{dedup_is}
 use Rattle.std.proofs.lemmas.List.Kept.{IsStrictlySortedBy-dedup, Contains-dedup, Contains-from_dedup}
-use Rattle.std.proofs.lemmas.List.Sorted.{Contains-permutation, IsPermutation-sym}
-use Rattle.std.proofs.lemmas.Map.Keys.{Less-from_sorted}
-use Rattle.mm_graph.specs.Key.{key_cmp, key_eq, no_key}
-use Rattle.mm_graph.proofs.Rising.{key_total, key_ties, key_equiv, same_key}
+use Rattle.std.proofs.lemmas.{List.Sorted.{Contains-permutation, IsPermutation-sym}, Map.Keys.Less-from_sorted}
+use Rattle.mm_graph.{specs.Key.{key_cmp, key_eq, no_key}, proofs.Rising.{key_total, key_ties, key_equiv, same_key}}
 use Rattle.mm_graph.proofs.order.put_in_order.Goals as goal
 
 pub returns-clause-rising : goal.returns-clause-rising

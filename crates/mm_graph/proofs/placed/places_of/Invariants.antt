@@ -1,6 +1,5 @@
 use Rattle.std.proofs.Common.{◌≡◌, ℕ, ◌<◌, length}
-use Rattle.mm_graph.specs.Key.{key_at}
-use Rattle.mm_graph.specs.Placed.{placed_at}
+use Rattle.mm_graph.specs.{Key.key_at, Placed.placed_at}
 use Rattle.mm_graph.proofs.placed.places_of.Given as goal
 
 abbrev pub invariant-loop-index : goal.invariant-loop-index

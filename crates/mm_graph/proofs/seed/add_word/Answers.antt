@@ -1,6 +1,5 @@
 use Rattle.std.proofs.lemmas.List.Elements.{All-push}
-use Rattle.mm_graph.specs.declared.seed.Seed.{Seed}
-use Rattle.mm_graph.specs.Key.{IsKey}
+use Rattle.mm_graph.specs.{declared.seed.Seed.Seed, Key.IsKey}
 use Rattle.mm_graph.proofs.seed.add_word.Goals as goal
 
 pub returns-in_ok-push-clause-keys : goal.returns-in_ok-push-clause-keys

@@ -1,8 +1,6 @@
 use Rattle.std.proofs.Common.{◌++◌, ◌∙◌, sym, ap, take}
 use Rattle.mm_word.specs.declared.word.Word.{Word}
-use Rattle.mm_graph.specs.Key.{word_key}
-use Rattle.mm_graph.specs.Found.{seed_at, word_seeds}
-use Rattle.mm_graph.proofs.Lists.{word_seeds-more, grown}
+use Rattle.mm_graph.{specs.{Key.word_key, Found.{seed_at, word_seeds}}, proofs.Lists.{word_seeds-more, grown}}
 use Rattle.mm_graph.proofs.seed.add_words.Goals as goal
 
 pub loop-k-preserved : goal.loop-k-preserved

@@ -1,7 +1,5 @@
-use Rattle.std.proofs.Common.{◌≡◌, ◌++◌, take}
-use Rattle.std.specs.List.{All}
-use Rattle.mm_graph.specs.Key.{IsKey}
-use Rattle.mm_graph.specs.Found.{word_seeds}
+use Rattle.std.{proofs.Common.{◌≡◌, ◌++◌, take}, specs.List.All}
+use Rattle.mm_graph.specs.{Key.IsKey, Found.word_seeds}
 use Rattle.mm_graph.proofs.seed.add_words.Given as goal
 
 abbrev pub invariant-loop-k : goal.invariant-loop-k

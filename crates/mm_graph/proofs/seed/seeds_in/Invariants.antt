@@ -1,7 +1,5 @@
-use Rattle.std.proofs.Common.{◌≡◌, take}
-use Rattle.std.specs.List.{All}
-use Rattle.mm_graph.specs.Key.{IsKey}
-use Rattle.mm_graph.specs.Found.{seeds_of}
+use Rattle.std.{proofs.Common.{◌≡◌, take}, specs.List.All}
+use Rattle.mm_graph.specs.{Key.IsKey, Found.seeds_of}
 use Rattle.mm_graph.proofs.seed.seeds_in.Given as goal
 
 abbrev pub invariant-loop-slot : goal.invariant-loop-slot

@@ -1,8 +1,7 @@
-use Rattle.std.proofs.Common.{◌∙◌, arith}
-use Rattle.std.proofs.lemmas.List.Elements.{Contains-get_or}
+use Rattle.std.proofs.{Common.{◌∙◌, arith}, lemmas.List.Elements.Contains-get_or}
 use Rattle.mm_graph.proofs.Places.{filled_write, filled_skip, filled_end, nowhere}
-use Rattle.mm_graph.proofs.targets.fill_targets.Goals as goal
 use Rattle.mm_graph.proofs.targets.fill_targets.Goals.{then-index-targets, else-index-targets}
+use Rattle.mm_graph.proofs.targets.fill_targets.Goals as goal
 
 pub near-at-requires-clause-there : goal.near-at-requires-clause-there
 near-at-requires-clause-there c = c.requires.there _ (Contains-get_or c.args.placed.now c.loop-k.k nowhere c.loop-k-test.true)

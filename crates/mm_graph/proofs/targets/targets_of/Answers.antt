@@ -1,5 +1,4 @@
-use Rattle.std.proofs.Common.{◌≡◌, length, sym, subst, arith}
-use Rattle.std.proofs.lemmas.List.{take_at}
+use Rattle.std.proofs.{Common.{◌≡◌, length, sym, subst, arith}, lemmas.List.take_at}
 use Rattle.mm_graph.specs.Placed.{HasTargets}
 use Rattle.mm_graph.proofs.targets.targets_of.Goals as goal
 

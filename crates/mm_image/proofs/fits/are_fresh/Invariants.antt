@@ -1,5 +1,4 @@
-use Rattle.std.proofs.Common.{take}
-use Rattle.std.specs.List.{AllByRecursion}
+use Rattle.std.{proofs.Common.take, specs.List.AllByRecursion}
 use Rattle.mm_model.specs.Spelling.{IsFresh}
 use Rattle.mm_image.proofs.fits.are_fresh.Given as goal
 

@@ -1,13 +1,10 @@
 use Rattle.std.proofs.Common.{sym, ap, subst, ◌∙◌, arith}
-use Rattle.mm_model.specs.Slot.{Slot}
-use Rattle.mm_model.specs.Spelling.{Begins}
-use Rattle.mm_model.specs.Typed.{IsTypedSlot}
-use Rattle.mm_model.proofs.Bytes.CleanRecords.{handler_is_other}
-use Rattle.mm_model.proofs.Bytes.SpelledSlots.{handler_good}
-use Rattle.mm_image.proofs.fits.is_fresh.Goals as goal
+use Rattle.mm_model.specs.{Slot.Slot, Spelling.Begins, Typed.IsTypedSlot}
+use Rattle.mm_model.proofs.Bytes.{CleanRecords.handler_is_other, SpelledSlots.handler_good}
 use Rattle.mm_image.proofs.fits.is_fresh.Goals.{then-slot-limit-via-then-slot-limit}
 use Rattle.mm_image.proofs.fits.is_fresh.Goals.{then-slot-limit-via-else-slot-limit+then-slot-limit-2}
 use Rattle.mm_image.proofs.fits.is_fresh.Goals.{then-slot-limit-via-else-slot-limit+else-slot-limit-2+then-is_bad_handler}
+use Rattle.mm_image.proofs.fits.is_fresh.Goals as goal
 
 pub returns-then-slot-limit : goal.returns-then-slot-limit
 returns-then-slot-limit c = λ slots holds.

@@ -1,5 +1,4 @@
-use Rattle.std.proofs.Common.{ℕ, List, rules}
-use Rattle.std.proofs.lemmas.List.Sorted.{answers_always}
+use Rattle.std.proofs.{Common.{ℕ, List, rules}, lemmas.List.Sorted.answers_always}
 use Rattle.mm_word.specs.declared.word.Cell.{Cell}
 use Rattle.mm_image.proofs.SortedPages.{found_at, not_found}
 use Rattle.mm_image.proofs.image.page_of.Goals as goal

@@ -1,6 +1,5 @@
 use Rattle.std.proofs.Common.{refl}
-use Rattle.mm_format.specs.Images.{spelling}
-use Rattle.mm_format.proofs.ImagesWhole.{spelled_one}
+use Rattle.mm_format.{specs.Images.spelling, proofs.ImagesWhole.spelled_one}
 use Rattle.mm_image.proofs.laws.spelling_is_one_to_one.Goals as goal
 
 pub returns-clause-one : goal.returns-clause-one

@@ -1,7 +1,5 @@
-use Rattle.std.proofs.Common.{◌≡◌, ◌+◌, ◌/◌, ◌%◌, ◌^◌, sym, ap, ◌∙◌, arith}
-use Rattle.std.specs.Prelude.{◌==◌}
-use Rattle.mm_model.specs.Bytes.{number_at}
-use Rattle.mm_model.proofs.Bytes.Numbers.{field_1}
+use Rattle.std.{proofs.Common.{◌≡◌, ◌+◌, ◌/◌, ◌%◌, ◌^◌, sym, ap, ◌∙◌, arith}, specs.Prelude.◌==◌}
+use Rattle.mm_model.{specs.Bytes.number_at, proofs.Bytes.Numbers.field_1}
 use Rattle.mm_image.proofs.pages.bit.Goals as goal
 
 pub returns : goal.returns

@@ -1,13 +1,8 @@
-use Rattle.std.proofs.Common.{◌≡◌, ℕ, ◌+◌, ◌<◌, Bool, false, List, [], ◌∷◌, ◌++◌, length, map, get_or, take, refl}
-use Rattle.std.proofs.Common.{sym, ap, subst, ◌∙◌, arith}
-use Rattle.std.proofs.lemmas.Result.{err_from_is_err_and}
-use Rattle.std.proofs.lemmas.List.{take_all}
+use Rattle.std.proofs.Common.{◌≡◌, ℕ, ◌+◌, ◌<◌, Bool, false, List, [], ◌∷◌, ◌++◌, length, map, get_or, take, refl, sym}
+use Rattle.std.proofs.{Common.{ap, subst, ◌∙◌, arith}, lemmas.{Result.err_from_is_err_and, List.take_all}}
 use Rattle.mm_word.specs.declared.word.Cell.{Cell}
-use Rattle.mm_format.specs.Formats.Parsed.{Got}
-use Rattle.mm_format.specs.Images.{word, bits_in}
-use Rattle.mm_format.specs.Reading.{FailsOr}
-use Rattle.mm_format.proofs.Images.{bits_count, bits_item}
-use Rattle.mm_format.proofs.Loops.{each_more, each_stop, each_read, fails_so}
+use Rattle.mm_format.specs.{Formats.Parsed.Got, Images.{word, bits_in}, Reading.FailsOr}
+use Rattle.mm_format.proofs.{Images.{bits_count, bits_item}, Loops.{each_more, each_stop, each_read, fails_so}}
 use Rattle.mm_image.specs.Faults.{number_of}
 use Rattle.mm_image.proofs.pages.read_cells.Goals as goal
 

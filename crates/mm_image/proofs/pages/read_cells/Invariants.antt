@@ -1,8 +1,6 @@
 use Rattle.std.proofs.Common.{◌≡◌, map, take, drop, vec_len}
 use Rattle.mm_word.specs.declared.word.Cell.{Cell}
-use Rattle.mm_format.specs.Formats.{each}
-use Rattle.mm_format.specs.Images.{word, bits_in}
-use Rattle.mm_format.proofs.Loops.{prefixed}
+use Rattle.mm_format.{specs.{Formats.each, Images.{word, bits_in}}, proofs.Loops.prefixed}
 use Rattle.mm_image.proofs.pages.read_cells.Given as goal
 
 abbrev pub invariant-loop-index : goal.invariant-loop-index

@@ -1,6 +1,5 @@
 use Rattle.std.proofs.Common.{◌+◌, ℕ, refl, ◌∙◌}
-use Rattle.mm_format.specs.Images.{page}
-use Rattle.mm_format.proofs.Loops.{times_runs, runs_told}
+use Rattle.mm_format.{specs.Images.page, proofs.Loops.{times_runs, runs_told}}
 use Rattle.mm_image.specs.declared.pages.PageRecords.{PageRecords}
 use Rattle.mm_image.proofs.pages.read_pages.Goals as goal
 

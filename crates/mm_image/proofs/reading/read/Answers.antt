@@ -1,7 +1,7 @@
 use Rattle.std.proofs.{Common.{◌≡◌, refl, arith}, lemmas.Result.err_from_is_err_and}
-use Rattle.mm_format.specs.{declared.reader.ReadError.{ReadError, TheVariants.{Fault, NoMemory}}, Reading.fault_named_by}
+use Rattle.mm_format.specs.declared.reader.ReadError.{ReadError, TheVariants.{Fault, NoMemory}}
+use Rattle.mm_format.specs.{Reading.fault_named_by, Images.image_fault}
 use Rattle.mm_format.proofs.{Files.{answers_ok, answers_err}, ImagesWhole.{read_spells, spelled_read}}
-use Rattle.mm_format.specs.Images.{image_fault}
 use Rattle.mm_image.specs.{declared.fault.ImageFault.ImageFault, Faults.{number_of, from_read_error, fault_of}}
 use Rattle.mm_image.proofs.reading.read.Goals as goal
 

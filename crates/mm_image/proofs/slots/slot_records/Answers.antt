@@ -1,8 +1,7 @@
 use Rattle.std.proofs.Common.{◌+◌, ℕ, refl, ◌∙◌}
 use Rattle.mm_model.specs.Image.{slot_limit}
 use Rattle.mm_image.specs.declared.slots.SlotRecords.{SlotRecords}
-use Rattle.mm_format.specs.Images.{slot}
-use Rattle.mm_format.proofs.Loops.{times_runs, runs_told}
+use Rattle.mm_format.{specs.Images.slot, proofs.Loops.{times_runs, runs_told}}
 use Rattle.mm_image.proofs.slots.slot_records.Goals as goal
 
 pub returns-clause-read : goal.returns-clause-read

@@ -1,13 +1,7 @@
-use Rattle.std.proofs.Common.{◌≡◌, ℕ, ◌+◌, ◌*◌, ◌<◌, Bool, true, cond, Option, Some, List, drop, length, get_or, sym, ap}
-use Rattle.std.proofs.Common.{subst, ◌∙◌}
-use Rattle.std.proofs.lemmas.List.{drop_more, drop_all}
-use Rattle.std.proofs.lemmas.Result.{err_from_is_err_and}
-use Rattle.mm_model.specs.Slot.{Slot}
-use Rattle.mm_model.specs.Spelling.{is_bad_handler}
-use Rattle.mm_format.specs.Formats.{answer, first_late}
-use Rattle.mm_format.specs.Formats.Parsed.{Got, Bad}
-use Rattle.mm_format.specs.Images.{handler_tests}
-use Rattle.mm_format.specs.Reading.{FailsOr}
+use Rattle.std.proofs.Common.{◌≡◌, ℕ, ◌+◌, ◌*◌, ◌<◌, Bool, true, cond, Option, Some, List, drop, length, get_or, sym}
+use Rattle.std.proofs.{Common.{ap, subst, ◌∙◌}, lemmas.{List.{drop_more, drop_all}, Result.err_from_is_err_and}}
+use Rattle.mm_model.specs.{Slot.Slot, Spelling.is_bad_handler}
+use Rattle.mm_format.specs.{Formats.{answer, first_late, Parsed.{Got, Bad}}, Images.handler_tests, Reading.FailsOr}
 use Rattle.mm_format.proofs.Loops.{late_stop}
 use Rattle.mm_image.specs.Faults.{number_of}
 use Rattle.mm_image.proofs.slots.test_handlers.Goals as goal

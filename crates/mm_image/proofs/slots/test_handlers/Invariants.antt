@@ -1,6 +1,5 @@
 use Rattle.std.proofs.Common.{◌≡◌, drop}
-use Rattle.mm_format.specs.Formats.{first_late}
-use Rattle.mm_format.specs.Images.{handler_tests}
+use Rattle.mm_format.specs.{Formats.first_late, Images.handler_tests}
 use Rattle.mm_image.proofs.slots.test_handlers.Given as goal
 
 abbrev pub invariant-loop-k : goal.invariant-loop-k

@@ -1,6 +1,7 @@
-use Rattle.std.proofs.{Common.{◌++◌, List, ℕ, Bool, map, sym, ap, ◌∙◌, arith}, lemmas.{Grind.common_steps, List.{length-map, take_all}}}
+use Rattle.std.proofs.Common.{◌++◌, List, ℕ, Bool, map, sym, ap, ◌∙◌, arith}
+use Rattle.std.proofs.lemmas.{Grind.common_steps, List.{length-map, take_all}}
 use Rattle.std.specs.{List.flat_map, Int.{w64, to_be_bytes}}
-use Rattle.mm_word.specs.{declared.{word.{Word.Word, Cell.Cell}}, Word.{word_bits, is_pointer}}
+use Rattle.mm_word.specs.{declared.word.{Word.Word, Cell.Cell}, Word.{word_bits, is_pointer}}
 use Rattle.mm_format.proofs.ImagesWhole.{words_spelled}
 use Rattle.mm_image.proofs.writing.put_cells.Goals as goal
 

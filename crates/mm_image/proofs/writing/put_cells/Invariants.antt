@@ -1,7 +1,5 @@
-use Rattle.std.proofs.Common.{◌≡◌, ◌++◌, take, map}
-use Rattle.mm_word.specs.declared.word.Cell.{Cell}
-use Rattle.std.specs.{List.{flat_map}, Int.{w64, to_be_bytes}}
-use Rattle.mm_word.specs.Word.{word_bits}
+use Rattle.std.{proofs.Common.{◌≡◌, ◌++◌, take, map}, specs.{List.flat_map, Int.{w64, to_be_bytes}}}
+use Rattle.mm_word.specs.{declared.word.Cell.Cell, Word.word_bits}
 use Rattle.mm_image.proofs.writing.put_cells.Given as goal
 
 abbrev pub invariant-loop-cell : goal.invariant-loop-cell

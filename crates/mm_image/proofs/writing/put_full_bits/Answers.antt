@@ -1,7 +1,6 @@
 use Rattle.std.proofs.Common.{◌≡◌, ℕ, ◌+◌, ◌*◌, ◌-◌, ◌∷◌, ◌++◌, [], Bool, List, map, sym, ap, ◌∙◌, arith}
 use Rattle.mm_word.specs.declared.word.Cell.{Cell}
-use Rattle.mm_model.specs.Flags.{number_of_flags}
-use Rattle.mm_model.specs.Spelling.{bitmap}
+use Rattle.mm_model.specs.{Flags.number_of_flags, Spelling.bitmap}
 use Rattle.mm_image.proofs.Written.{both_written, bitmap_more, flags_of_part}
 use Rattle.mm_image.proofs.writing.put_full_bits.Goals as goal
 

@@ -1,5 +1,4 @@
-use Rattle.std.proofs.Common.{◌≡◌, Bool, true, false, refl, append_assoc}
-use Rattle.std.specs.Int.{from_bool}
+use Rattle.std.{proofs.Common.{◌≡◌, Bool, true, false, refl, append_assoc}, specs.Int.from_bool}
 use Rattle.mm_model.specs.Spelling.{mode_of}
 use Rattle.mm_format.specs.Headers.{header}
 use Rattle.mm_image.proofs.writing.put_header.Goals as goal

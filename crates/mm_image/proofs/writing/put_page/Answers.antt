@@ -1,9 +1,7 @@
-use Rattle.std.proofs.Common.{◌++◌, ℕ, List, map, sym, ap, ◌∙◌}
-use Rattle.std.specs.Int.{w64, to_be_bytes}
-use Rattle.mm_word.specs.{declared.{word.{Cell.Cell}}, Word.{is_pointer}}
+use Rattle.std.{proofs.Common.{◌++◌, ℕ, List, map, sym, ap, ◌∙◌}, specs.Int.{w64, to_be_bytes}}
+use Rattle.mm_word.specs.{declared.word.Cell.Cell, Word.is_pointer}
 use Rattle.mm_model.specs.Spelling.{bitmap}
-use Rattle.mm_format.specs.{Formats.{each}, Images.{word}}
-use Rattle.mm_format.proofs.ImagesWhole.{page_spelled}
+use Rattle.mm_format.{specs.{Formats.each, Images.word}, proofs.ImagesWhole.page_spelled}
 use Rattle.mm_image.proofs.Written.{both_written}
 use Rattle.mm_image.proofs.writing.put_page.Goals as goal
 

@@ -1,8 +1,6 @@
 use Rattle.std.proofs.Common.{◌≡◌, ℕ, ◌+◌, ◌*◌, ◌-◌, ◌∷◌, ◌++◌, [], Bool, List, map, sym, ap, ◌∙◌, arith}
-use Rattle.mm_word.specs.declared.word.Cell.{Cell}
-use Rattle.mm_word.specs.Word.{is_pointer}
-use Rattle.mm_model.specs.Flags.{number_of_flags}
-use Rattle.mm_model.specs.Spelling.{bitmap}
+use Rattle.mm_word.specs.{declared.word.Cell.Cell, Word.is_pointer}
+use Rattle.mm_model.specs.{Flags.number_of_flags, Spelling.bitmap}
 use Rattle.mm_image.proofs.Written.{both_written, bitmap_more, flags_of_part}
 use Rattle.mm_image.proofs.writing.put_tags.Goals as goal
 

@@ -1,6 +1,5 @@
 use Rattle.std.proofs.Common.{◌≡◌, ◌++◌, map}
-use Rattle.mm_word.specs.declared.word.Cell.{Cell}
-use Rattle.mm_word.specs.Word.{is_pointer}
+use Rattle.mm_word.specs.{declared.word.Cell.Cell, Word.is_pointer}
 use Rattle.mm_model.specs.Spelling.{bitmap}
 use Rattle.mm_image.proofs.writing.put_tags.Given as goal
 

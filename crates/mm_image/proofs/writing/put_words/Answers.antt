@@ -1,4 +1,5 @@
-use Rattle.std.proofs.{Common.{◌++◌, List, ℕ, map, sym, ap, ◌∙◌, arith}, lemmas.{Grind.common_steps, List.{length-map, take_all}}}
+use Rattle.std.proofs.Common.{◌++◌, List, ℕ, map, sym, ap, ◌∙◌, arith}
+use Rattle.std.proofs.lemmas.{Grind.common_steps, List.{length-map, take_all}}
 use Rattle.std.specs.{List.flat_map, Int.{w64, to_be_bytes}}
 use Rattle.mm_word.specs.{declared.word.Word.Word, Word.{word_bits, is_pointer}}
 use Rattle.mm_format.proofs.ImagesWhole.{words_spelled}

@@ -1,5 +1,4 @@
-use Rattle.std.proofs.Common.{◌≡◌, ◌++◌, take}
-use Rattle.std.specs.{List.{flat_map}, Int.{w64, to_be_bytes}}
+use Rattle.std.{proofs.Common.{◌≡◌, ◌++◌, take}, specs.{List.flat_map, Int.{w64, to_be_bytes}}}
 use Rattle.mm_word.specs.Word.{word_bits}
 use Rattle.mm_image.proofs.writing.put_words.Given as goal
 

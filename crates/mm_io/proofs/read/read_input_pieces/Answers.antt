@@ -1,6 +1,5 @@
 use Rattle.std.proofs.Common.{rules, ◌≡◌, ◌++◌, ◌∙◌, take, length, ap, arith, length-append}
-use Rattle.std.proofs.lemmas.List.{length-take-le}
-use Rattle.std.specs.Io.KnownBytes.{prepend_known}
+use Rattle.std.{proofs.lemmas.List.length-take-le, specs.Io.KnownBytes.prepend_known}
 use Rattle.mm_io.proofs.Reading.{left_longer, drawn_more, prepend-++}
 use Rattle.mm_io.proofs.read.read_input_pieces.Goals as goal
 

@@ -1,5 +1,4 @@
-use Rattle.std.proofs.Common.{◌≡◌, ◌≤◌, length, ◌+◌, ◌-◌}
-use Rattle.std.specs.Io.KnownBytes.{prepend_known}
+use Rattle.std.{proofs.Common.{◌≡◌, ◌≤◌, length, ◌+◌, ◌-◌}, specs.Io.KnownBytes.prepend_known}
 use Rattle.mm_io.proofs.read.read_input_pieces.Given as goal
 
 abbrev pub invariant-loop-bytes : goal.invariant-loop-bytes

@@ -1,5 +1,4 @@
-use Rattle.std.proofs.Common.{rules, ◌≡◌, length, arith, ◌∙◌, refl}
-use Rattle.std.proofs.lemmas.Grind.{common_steps}
+use Rattle.std.proofs.{Common.{rules, ◌≡◌, length, arith, ◌∙◌, refl}, lemmas.Grind.common_steps}
 use Rattle.mm_io.specs.Files.{ReadsAt}
 use Rattle.mm_io.proofs.Asking.{front_again, front_only, front_ends, front_beyond, same_room}
 use Rattle.mm_io.proofs.Reading.{Begins-++, Begins-longer, reads_same}

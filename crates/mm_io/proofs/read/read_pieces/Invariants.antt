@@ -1,7 +1,5 @@
 use Rattle.std.proofs.Common.{◌≡◌, ◌≤◌, length, ◌+◌, ◌-◌}
-use Rattle.mm_io.specs.Files.{NoneFell}
-use Rattle.mm_io.proofs.Asking.{AsksFront}
-use Rattle.mm_io.proofs.Reading.{Begins}
+use Rattle.mm_io.{specs.Files.NoneFell, proofs.{Asking.AsksFront, Reading.Begins}}
 use Rattle.mm_io.proofs.read.read_pieces.Given as goal
 
 abbrev pub invariant-loop-bytes : goal.invariant-loop-bytes

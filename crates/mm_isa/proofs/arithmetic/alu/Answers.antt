@@ -1,5 +1,4 @@
-use Rattle.std.proofs.Common.{arith}
-use Rattle.std.proofs.lemmas.Nat.{or_lt, xor_lt}
+use Rattle.std.proofs.{Common.arith, lemmas.Nat.{or_lt, xor_lt}}
 use Rattle.mm_isa.proofs.arithmetic.alu.Goals as goal
 
 pub returns-in-Or-clause-fits : goal.returns-in-Or-clause-fits

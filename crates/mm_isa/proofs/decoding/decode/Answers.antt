@@ -1,6 +1,5 @@
 use Rattle.std.proofs.Common.{rules, ◌≡◌, ◌≢◌, None, Some}
-use Rattle.mm_isa.specs.Table.{spelling}
-use Rattle.mm_isa.specs.Decode.{fields_in, row_of, instr_of}
+use Rattle.mm_isa.specs.{Table.spelling, Decode.{fields_in, row_of, instr_of}}
 use Rattle.mm_isa.proofs.Spelling.{instr_of-no_row, instr_of-other, instr_of-none}
 use Rattle.mm_isa.proofs.decoding.decode.Goals as goal
 

@@ -1,7 +1,5 @@
 use Rattle.std.proofs.Common.{rules, ◌≡◌, ap, ◌∙◌}
-use Rattle.mm_isa.specs.Table.{spelling, IsInstr}
-use Rattle.mm_isa.specs.Decode.{instr_of}
-use Rattle.mm_isa.proofs.Spelling.{instr_of-spelling}
+use Rattle.mm_isa.{specs.{Table.{spelling, IsInstr}, Decode.instr_of}, proofs.Spelling.instr_of-spelling}
 use Rattle.mm_isa.proofs.encoding.encode.Goals as goal
 
 pub returns-clause-again : goal.returns-clause-again

@@ -1,10 +1,9 @@
 use Rattle.std.proofs.Common.{rules, ◌≡◌, ℕ, Some, None, ap, sym, ◌∙◌, subst, arith}
 use borrow.Author.Count.{below_more}
-use Rattle.mm_isa.specs.Table.{unused}
-use Rattle.mm_isa.specs.Decode.{row_of, operation_named}
-use Rattle.mm_isa.proofs.Forms.{NamesOther, name_read, name_not_read, operation_named-name, operation_named-none, no_instr_named}
+use Rattle.mm_isa.specs.{Table.unused, Decode.{row_of, operation_named}}
+use Rattle.mm_isa.proofs.Forms.{NamesOther, name_read, name_not_read, operation_named-name, operation_named-none}
+use Rattle.mm_isa.proofs.{Forms.no_instr_named, form.operation_named.Goals.{in-Some+else-is_named, in_default}}
 use Rattle.mm_isa.proofs.form.operation_named.Goals as goal
-use Rattle.mm_isa.proofs.form.operation_named.Goals.{in-Some+else-is_named, in_default}
 
 pub returns-then-is_named-clause-value : goal.returns-then-is_named-clause-value
 returns-then-is_named-clause-value c =

@@ -1,6 +1,5 @@
 use Rattle.std.proofs.Common.{refl}
-use Rattle.mm_isa.specs.Table.{packed}
-use Rattle.mm_isa.specs.Decode.{fields_in, rows, row_of, instr_of}
+use Rattle.mm_isa.specs.{Table.packed, Decode.{fields_in, rows, row_of, instr_of}}
 use Rattle.mm_isa.proofs.laws.worked_words.Goals as goal
 
 pub returns-clause-halt : goal.returns-clause-halt

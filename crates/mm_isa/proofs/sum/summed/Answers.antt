@@ -1,8 +1,6 @@
 use Rattle.std.proofs.Common.{ap, ◌∙◌}
-use Rattle.mm_isa.specs.Decode.{instr_of}
-use Rattle.mm_isa.specs.declared.sum.Sum.{Sum}
-use Rattle.mm_isa.proofs.Spelling.{instr_of-spelling}
-use Rattle.mm_isa.proofs.Sums.{sum_is_spelling}
+use Rattle.mm_isa.specs.{Decode.instr_of, declared.sum.Sum.Sum}
+use Rattle.mm_isa.proofs.{Spelling.instr_of-spelling, Sums.sum_is_spelling}
 use Rattle.mm_isa.proofs.sum.summed.Goals as goal
 
 pub returns-clause-value : goal.returns-clause-value

@@ -1,8 +1,5 @@
-use Rattle.mm_model.specs.Report.{changes}
-use Rattle.mm_model.specs.Reach.Entries.{All}
-use Rattle.mm_model.specs.Worlds.{Touchable}
-use Rattle.mm_laws.proofs.CellTexts.{lines_are_one, lines_are_some, lines_are_same}
-use Rattle.mm_laws.proofs.WholeRuns.{cells_written}
+use Rattle.mm_model.specs.{Report.changes, Reach.Entries.All, Worlds.Touchable}
+use Rattle.mm_laws.proofs.{CellTexts.{lines_are_one, lines_are_some, lines_are_same}, WholeRuns.cells_written}
 use Rattle.mm_laws.proofs.cell_lines.cell_lines_are_texts.Goals as goal
 
 pub returns : goal.returns

@@ -1,5 +1,4 @@
-use Rattle.mm_model.proofs.WordTexts.{means_unique, never_both, fault_unique}
-use Rattle.mm_model.proofs.ScheduleWords.{schedule_grammar}
+use Rattle.mm_model.proofs.{WordTexts.{means_unique, never_both, fault_unique}, ScheduleWords.schedule_grammar}
 use Rattle.mm_laws.proofs.Texts.{always_one}
 use Rattle.mm_laws.proofs.schedules.texts_mean_or_fault.Goals as goal
 

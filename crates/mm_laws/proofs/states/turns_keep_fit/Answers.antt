@@ -1,5 +1,4 @@
-use Rattle.mm_model.proofs.StateKeeps.{after_state, after_fits, after_kept}
-use Rattle.mm_model.proofs.TurnBounds.{after_within}
+use Rattle.mm_model.proofs.{StateKeeps.{after_state, after_fits, after_kept}, TurnBounds.after_within}
 use Rattle.mm_laws.proofs.RunStates.{takes_turn}
 use Rattle.mm_laws.proofs.states.turns_keep_fit.Goals as goal
 

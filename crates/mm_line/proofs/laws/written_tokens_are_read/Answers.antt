@@ -1,4 +1,5 @@
-use Rattle.mm_line.proofs.Written.{blank_read, comma_read, colon_read, plus_read, name_read, directive_read, decimal_read, negative_read, hexadecimal_read}
+use Rattle.mm_line.proofs.Written.{blank_read, comma_read, colon_read, plus_read, name_read, directive_read}
+use Rattle.mm_line.proofs.Written.{decimal_read, negative_read, hexadecimal_read}
 use Rattle.mm_line.proofs.laws.written_tokens_are_read.Goals as goal
 
 pub returns-clause-blank : goal.returns-clause-blank

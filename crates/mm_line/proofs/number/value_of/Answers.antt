@@ -1,5 +1,4 @@
-use Rattle.std.proofs.Common.{◌≡◌, ◌<◌, ◌≤◌, ◌+◌, ◌*◌, ◌^◌, ◌∙◌, sym, get_or, arith}
-use Rattle.std.specs.Char.{digit_value}
+use Rattle.std.{proofs.Common.{◌≡◌, ◌<◌, ◌≤◌, ◌+◌, ◌*◌, ◌^◌, ◌∙◌, sym, get_or, arith}, specs.Char.digit_value}
 use Rattle.mm_line.proofs.Numbers.{past, whole}
 use Rattle.mm_line.proofs.number.value_of.Goals as goal
 

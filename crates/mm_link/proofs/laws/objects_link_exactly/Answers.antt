@@ -1,5 +1,4 @@
-use Rattle.mm_link.proofs.Acceptance.{objects_link_exactly}
-use Rattle.mm_link.proofs.Imaged.{linked_objects_are_images}
+use Rattle.mm_link.proofs.{Acceptance.objects_link_exactly, Imaged.linked_objects_are_images}
 use Rattle.mm_link.proofs.laws.objects_link_exactly.Goals as goal
 
 pub returns-clause-images : goal.returns-clause-images

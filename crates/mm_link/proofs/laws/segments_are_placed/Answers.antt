@@ -1,6 +1,5 @@
 use Rattle.mm_link.proofs.Falling.{all_segments_are_placed, lengths_fall, segments_are_aligned, segments_are_disjoint}
-use Rattle.mm_link.proofs.Mapped.{segments_are_found}
-use Rattle.mm_link.proofs.Tied.{ties_stand_as_given}
+use Rattle.mm_link.proofs.{Mapped.segments_are_found, Tied.ties_stand_as_given}
 use Rattle.mm_link.proofs.laws.segments_are_placed.Goals as goal
 
 pub returns-clause-all : goal.returns-clause-all

@@ -1,9 +1,5 @@
-use Rattle.std.proofs.Common.{List, ap, sym, ◌∙◌, subst}
-use Rattle.std.proofs.lemmas.Result.{err_from_is_err_and}
-use Rattle.mm_link.specs.Placing.{Site}
-use Rattle.mm_link.specs.Answers.{Fails}
-use Rattle.mm_link.specs.Faults.{unknown_names, outsides}
-use Rattle.mm_link.specs.Steps.{Passes}
+use Rattle.std.proofs.{Common.{List, ap, sym, ◌∙◌, subst}, lemmas.Result.err_from_is_err_and}
+use Rattle.mm_link.specs.{Placing.Site, Answers.Fails, Faults.{unknown_names, outsides}, Steps.Passes}
 use Rattle.mm_link.proofs.LinkResults.{fails_known, fails_slots, after_four}
 use Rattle.mm_link.proofs.linking.check_objects.Goals as goal
 

@@ -1,8 +1,6 @@
 use Rattle.std.proofs.lemmas.Result.{err_from_is_err_and}
 use Rattle.mm_model.proofs.Answered.{gives_value}
-use Rattle.mm_link.specs.Answers.{Fails}
-use Rattle.mm_link.specs.Faults.{link_fault}
-use Rattle.mm_link.specs.declared.fault.LinkError.TheVariants.{NoMemory}
+use Rattle.mm_link.specs.{Answers.Fails, Faults.link_fault, declared.fault.LinkError.TheVariants.NoMemory}
 use Rattle.mm_link.specs.Linked.{image_of}
 use Rattle.mm_link.proofs.Imaged.{linked_is_image}
 use Rattle.mm_link.proofs.LinkResults.{fails_five, fails_large, no_fault, order_few, order_apart, sites_are, few_pages}

@@ -1,7 +1,5 @@
-use Rattle.std.proofs.Common.{◌*◌, ◌≤◌, List, length, sym, ap, ◌∙◌, subst}
-use Rattle.std.proofs.lemmas.Result.{err_from_is_err_and}
-use Rattle.mm_link.specs.Placing.{Part, by_length}
-use Rattle.mm_link.proofs.LinkResults.{apart_is, fails_apart}
+use Rattle.std.proofs.{Common.{◌*◌, ◌≤◌, List, length, sym, ap, ◌∙◌, subst}, lemmas.Result.err_from_is_err_and}
+use Rattle.mm_link.{specs.Placing.{Part, by_length}, proofs.LinkResults.{apart_is, fails_apart}}
 use Rattle.mm_link.proofs.linking.image_or_fault.Goals as goal
 
 pub returns-in_err-check_apart : goal.returns-in_err-check_apart

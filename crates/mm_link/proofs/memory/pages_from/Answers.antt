@@ -1,9 +1,7 @@
 use Rattle.std.proofs.Common.{ℕ, ◌+◌, ◌++◌, List, take, ap, ◌∙◌}
 use Rattle.mm_word.specs.declared.word.Cell.{Cell}
 use Rattle.mm_model.specs.Memory.{zero_cell, zero_page}
-use Rattle.mm_link.specs.Linked.{pages_from, first_page}
-use Rattle.mm_link.proofs.Lists.{whole_rest}
-use Rattle.mm_link.proofs.Cells.{beyond, page_more}
+use Rattle.mm_link.{specs.Linked.{pages_from, first_page}, proofs.{Lists.whole_rest, Cells.{beyond, page_more}}}
 use Rattle.mm_link.proofs.memory.pages_from.Goals as goal
 
 pub loop-number-preserved : goal.loop-number-preserved

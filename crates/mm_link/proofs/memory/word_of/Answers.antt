@@ -1,5 +1,4 @@
-use Rattle.std.proofs.Common.{ℕ, ap, sym, ◌∙◌}
-use Rattle.std.specs.Option.{option_map}
+use Rattle.std.{proofs.Common.{ℕ, ap, sym, ◌∙◌}, specs.Option.option_map}
 use Rattle.mm_object.specs.declared.target.Reloc.{Reloc}
 use Rattle.mm_link.proofs.Targets.{found_target}
 use Rattle.mm_link.proofs.memory.word_of.Goals as goal

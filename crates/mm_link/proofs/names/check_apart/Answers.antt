@@ -1,7 +1,5 @@
-use Rattle.std.proofs.Common.{List, ℕ, Some, ap, sym, ◌∙◌}
-use Rattle.std.specs.Option.{option_map}
-use Rattle.mm_link.specs.declared.fault.LinkFault.TheVariants.{Twice}
-use Rattle.mm_link.proofs.Again.{name_here, name_next}
+use Rattle.std.{proofs.Common.{List, ℕ, Some, ap, sym, ◌∙◌}, specs.Option.option_map}
+use Rattle.mm_link.{specs.declared.fault.LinkFault.TheVariants.Twice, proofs.Again.{name_here, name_next}}
 use Rattle.mm_link.proofs.names.check_apart.Goals as goal
 
 pub returns-then-not-branch : goal.returns-then-not-branch

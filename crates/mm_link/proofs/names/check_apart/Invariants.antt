@@ -1,7 +1,5 @@
 use Rattle.std.proofs.Common.{◌≡◌, [], drop}
-use Rattle.mm_link.specs.Faults.{first_again}
-use Rattle.mm_link.specs.Steps.{part_names}
-use Rattle.mm_link.proofs.Again.{before_of}
+use Rattle.mm_link.{specs.{Faults.first_again, Steps.part_names}, proofs.Again.before_of}
 use Rattle.mm_link.proofs.names.check_apart.Given as goal
 
 abbrev pub invariant-loop-part : goal.invariant-loop-part

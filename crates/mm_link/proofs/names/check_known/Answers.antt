@@ -1,10 +1,7 @@
-use Rattle.std.proofs.Common.{List, ℕ, ap, sym, ◌∙◌, subst}
-use Rattle.std.proofs.lemmas.Result.{err_from_is_err_and}
+use Rattle.std.proofs.{Common.{List, ℕ, ap, sym, ◌∙◌, subst}, lemmas.Result.err_from_is_err_and}
 use Rattle.mm_object.specs.Objects.{Object}
-use Rattle.mm_link.specs.Answers.{Fails}
-use Rattle.mm_link.specs.Faults.{unknown_among, unknown_names}
-use Rattle.mm_link.proofs.Firsts.{onward, failing}
-use Rattle.mm_link.proofs.Known.{unknown-cons}
+use Rattle.mm_link.specs.{Answers.Fails, Faults.{unknown_among, unknown_names}}
+use Rattle.mm_link.proofs.{Firsts.{onward, failing}, Known.unknown-cons}
 use Rattle.mm_link.proofs.names.check_known.Goals as goal
 
 pub loop-object-preserved : goal.loop-object-preserved

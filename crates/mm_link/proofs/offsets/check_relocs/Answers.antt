@@ -1,5 +1,4 @@
-use Rattle.std.proofs.Common.{arith}
-use Rattle.std.proofs.lemmas.Grind.{common_steps}
+use Rattle.std.proofs.{Common.arith, lemmas.Grind.common_steps}
 use Rattle.mm_link.proofs.Targets.{reloc_target}
 use Rattle.mm_link.proofs.offsets.check_relocs.Goals as goal
 

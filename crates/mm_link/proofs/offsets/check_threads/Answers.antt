@@ -1,12 +1,7 @@
-use Rattle.std.proofs.Common.{arith}
-use Rattle.std.proofs.lemmas.Grind.{common_steps}
-use Rattle.std.proofs.Common.{List, subst}
+use Rattle.std.proofs.{Common.{arith, List, subst}, lemmas.{Grind.common_steps, Result.err_from_is_err_and}}
 use Rattle.std.specs.List.{flat_map}
-use Rattle.std.proofs.lemmas.Result.{err_from_is_err_and}
 use Rattle.mm_object.specs.declared.thread.Thread.{Thread}
-use Rattle.mm_link.specs.Answers.{Fails}
-use Rattle.mm_link.specs.Steps.{outside, thread_targets}
-use Rattle.mm_link.proofs.Targets.{failing_at}
+use Rattle.mm_link.{specs.{Answers.Fails, Steps.{outside, thread_targets}}, proofs.Targets.failing_at}
 use Rattle.mm_link.proofs.offsets.check_threads.Goals as goal
 
 pub returns-in_err-check_thread : goal.returns-in_err-check_thread

@@ -1,5 +1,4 @@
-use Rattle.std.proofs.Common.{◌≡◌, drop}
-use Rattle.std.specs.List.{flat_map}
+use Rattle.std.{proofs.Common.{◌≡◌, drop}, specs.List.flat_map}
 use Rattle.mm_link.specs.Steps.{outside, thread_targets}
 use Rattle.mm_link.proofs.offsets.check_threads.Given as goal
 

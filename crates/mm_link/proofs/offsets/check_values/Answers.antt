@@ -1,8 +1,5 @@
-use Rattle.std.proofs.Common.{arith}
-use Rattle.std.proofs.lemmas.Grind.{common_steps}
-use Rattle.std.proofs.Common.{length}
-use Rattle.mm_object.specs.Objects.{is_value}
-use Rattle.mm_object.proofs.Bools.{all_at}
+use Rattle.std.proofs.{Common.{arith, length}, lemmas.Grind.common_steps}
+use Rattle.mm_object.{specs.Objects.is_value, proofs.Bools.all_at}
 use Rattle.mm_link.proofs.offsets.check_values.Goals as goal
 
 pub check_value-requires : goal.check_value-requires

@@ -1,6 +1,5 @@
 use Rattle.std.proofs.Common.{ap, ◌∙◌, arith}
-use Rattle.mm_link.specs.Placing.{site_in, sites_from, origin}
-use Rattle.mm_link.proofs.Places.{not_yet, names_more, placed_next}
+use Rattle.mm_link.{specs.Placing.{site_in, sites_from, origin}, proofs.Places.{not_yet, names_more, placed_next}}
 use Rattle.mm_link.proofs.sites.sites_of.Goals as goal
 
 pub push-requires-clause-new : goal.push-requires-clause-new

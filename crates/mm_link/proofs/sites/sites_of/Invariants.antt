@@ -1,7 +1,5 @@
 use Rattle.std.proofs.Common.{◌≡◌, ◌++◌, ◌+◌, ◌*◌, ◌^◌, ◌≤◌, drop, take}
-use Rattle.mm_link.specs.Placing.{sites_from, origin}
-use Rattle.mm_link.specs.Steps.{part_names}
-use Rattle.mm_link.proofs.Places.{site_names}
+use Rattle.mm_link.{specs.{Placing.{sites_from, origin}, Steps.part_names}, proofs.Places.site_names}
 use Rattle.mm_link.proofs.sites.sites_of.Given as goal
 
 abbrev pub invariant-loop-part : goal.invariant-loop-part

@@ -1,7 +1,5 @@
-use Rattle.std.proofs.Common.{sym, ◌∙◌}
-use Rattle.std.specs.Prelude.{find}
-use Rattle.mm_link.specs.Faults.{slot_numbers, is_unhandled}
-use Rattle.mm_link.proofs.Lists.{find_next}
+use Rattle.std.{proofs.Common.{sym, ◌∙◌}, specs.Prelude.find}
+use Rattle.mm_link.{specs.Faults.{slot_numbers, is_unhandled}, proofs.Lists.find_next}
 use Rattle.mm_link.proofs.threads.check_handlers.Goals as goal
 
 pub loop-slot-preserved : goal.loop-slot-preserved

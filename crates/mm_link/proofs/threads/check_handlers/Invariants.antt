@@ -1,6 +1,4 @@
-use Rattle.std.proofs.Common.{◌≡◌, ◌-◌}
-use Rattle.std.specs.Prelude.{find}
-use Rattle.std.specs.List.{range_with_len}
+use Rattle.std.{proofs.Common.{◌≡◌, ◌-◌}, specs.{Prelude.find, List.range_with_len}}
 use Rattle.mm_link.specs.Faults.{slot_numbers, is_unhandled}
 use Rattle.mm_link.proofs.threads.check_handlers.Given as goal
 

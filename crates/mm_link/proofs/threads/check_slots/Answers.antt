@@ -1,9 +1,6 @@
-use Rattle.std.proofs.Common.{◌≡◌, ℕ, ◌<◌, ◌≤◌, true, false, length, ap, arith}
-use Rattle.std.specs.Prelude.{find, nat_lt}
-use Rattle.std.specs.Option.{option_map}
-use Rattle.std.proofs.lemmas.Bool.Decides.{nat_tests}
-use Rattle.mm_link.specs.declared.fault.LinkFault.TheVariants.{SlotTwice}
-use Rattle.mm_link.specs.Faults.{threads_of, with_slot, slot_numbers}
+use Rattle.std.proofs.{Common.{◌≡◌, ℕ, ◌<◌, ◌≤◌, true, false, length, ap, arith}, lemmas.Bool.Decides.nat_tests}
+use Rattle.std.specs.{Prelude.{find, nat_lt}, Option.option_map}
+use Rattle.mm_link.specs.{declared.fault.LinkFault.TheVariants.SlotTwice, Faults.{threads_of, with_slot, slot_numbers}}
 use Rattle.mm_link.proofs.Lists.{find_here, find_next, find_none}
 use Rattle.mm_link.proofs.threads.check_slots.Goals as goal
 

@@ -1,6 +1,4 @@
-use Rattle.std.proofs.Common.{◌≡◌, ◌-◌, length}
-use Rattle.std.specs.Prelude.{find, nat_lt}
-use Rattle.std.specs.List.{range_with_len}
+use Rattle.std.{proofs.Common.{◌≡◌, ◌-◌, length}, specs.{Prelude.{find, nat_lt}, List.range_with_len}}
 use Rattle.mm_link.specs.Faults.{threads_of, with_slot, slot_numbers}
 use Rattle.mm_link.proofs.threads.check_slots.Given as goal
 

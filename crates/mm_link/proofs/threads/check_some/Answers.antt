@@ -1,8 +1,6 @@
-use Rattle.std.proofs.Common.{◌≡◌, false, List, [], ◌∷◌, ◌++◌, length, None, refl, sym, ap, ◌∙◌}
-use Rattle.std.specs.Prelude.{◌==◌}
+use Rattle.std.{proofs.Common.{◌≡◌, false, List, [], ◌∷◌, ◌++◌, length, None, refl, sym, ap, ◌∙◌}, specs.Prelude.◌==◌}
 use Rattle.mm_object.specs.declared.thread.Thread.{Thread}
-use Rattle.mm_link.specs.Faults.{no_thread, no_thread_of}
-use Rattle.mm_link.proofs.Lists.{at_item}
+use Rattle.mm_link.{specs.Faults.{no_thread, no_thread_of}, proofs.Lists.at_item}
 use Rattle.mm_link.proofs.threads.check_some.Goals as goal
 
 some_here : (threads rest : List Thread) → (length threads == 0) ≡ false → no_thread_of (threads ++ rest) ≡ None

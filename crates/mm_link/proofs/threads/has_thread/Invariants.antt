@@ -1,6 +1,5 @@
 use Rattle.std.proofs.Common.{◌≡◌, drop}
-use Rattle.mm_link.specs.Faults.{threads_of}
-use Rattle.mm_link.specs.Steps.{has_slot}
+use Rattle.mm_link.specs.{Faults.threads_of, Steps.has_slot}
 use Rattle.mm_link.proofs.threads.has_thread.Given as goal
 
 abbrev pub invariant-loop-object : goal.invariant-loop-object

@@ -1,9 +1,7 @@
-use Rattle.std.proofs.Common.{◌≡◌, ◌+◌, ◌++◌, ◌∷◌, [], ℕ, List, length, map, Err, Ok, refl, ◌∙◌, subst, arith, length-append}
-use Rattle.std.proofs.lemmas.List.{length-map}
-use Rattle.std.proofs.lemmas.Result.{err_from_is_err_and}
+use Rattle.std.proofs.Common.{◌≡◌, ◌+◌, ◌++◌, ◌∷◌, [], ℕ, List, length, map, Err, Ok, refl, ◌∙◌, subst, arith}
+use Rattle.std.proofs.{Common.length-append, lemmas.{List.length-map, Result.err_from_is_err_and}}
 use Rattle.mm_word.specs.Adding.{adds_both}
-use Rattle.mm_load.specs.Files.{FilesRead, reading}
-use Rattle.mm_load.proofs.Several.{value_more, value_stops, values_asked}
+use Rattle.mm_load.{specs.Files.{FilesRead, reading}, proofs.Several.{value_more, value_stops, values_asked}}
 use Rattle.mm_load.proofs.each.load_each.Goals as goal
 
 pub loop-at-preserved : goal.loop-at-preserved
@@ -44,16 +42,16 @@ returns-in_err-push-clause-read g c before counted =
     (λ x. g.T.FromFile.meaning x ∷ []) (Ok c.in_ok-one.one) in
     let p = err_from_is_err_and c.from_residual-in_err-push.result c.from_residual-in_err-push.ensures.1 in
     rw (p.1, p.2) (
-        record {
-          accepted = tt;
-          stopped = tt;
-          whole = tt;
-          asked = values_asked g.T.FromFile.of_kind g.T.FromFile.meaning c.args.names.now c.loop-at.at
-              c.index-names-at.result loaded _ _ c.loop-at-test.true c.index-names-at.is
-              (c.loop-at.invariant.read before counted)
-              (subst P c.as_str.ensures.value (c.in_ok-one.ensures.read (before ++ map g.T.FromFile.meaning loaded) number))
-              (record { kept = c.loop-at.invariant.kept; counts = refl; later = c.loop-at.invariant.later; asked = λ names more one two. adds_both one two });
-        }
+    record {
+      accepted = tt;
+      stopped = tt;
+      whole = tt;
+      asked = values_asked g.T.FromFile.of_kind g.T.FromFile.meaning c.args.names.now c.loop-at.at
+          c.index-names-at.result loaded _ _ c.loop-at-test.true c.index-names-at.is
+          (c.loop-at.invariant.read before counted)
+          (subst P c.as_str.ensures.value (c.in_ok-one.ensures.read (before ++ map g.T.FromFile.meaning loaded) number))
+          (record { kept = c.loop-at.invariant.kept; counts = refl; later = c.loop-at.invariant.later; asked = λ names more one two. adds_both one two });
+    }
     )
 
 pub returns-in_err-one-clause-read : goal.returns-in_err-one-clause-read

@@ -1,8 +1,6 @@
 use Rattle.std.proofs.Common.{◌≡◌, ◌+◌, List, length, map, take, Ok}
 use Rattle.mm_io.specs.Files.{NoneFell}
-use Rattle.mm_load.specs.Kinds.{Value}
-use Rattle.mm_load.specs.Files.{FilesRead, reading}
-use Rattle.mm_load.specs.Files.{files_named}
+use Rattle.mm_load.specs.{Kinds.Value, Files.{FilesRead, reading, files_named}}
 use Rattle.mm_load.proofs.each.load_each.Given as goal
 
 -- the first so many were read, and their values stand in the list

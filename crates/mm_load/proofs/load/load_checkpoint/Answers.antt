@@ -1,9 +1,6 @@
 use Rattle.std.proofs.Common.{◌≡◌, ℕ, List, Some, Err, refl, ap, ◌∙◌, subst}
-use Rattle.mm_checkpoint.specs.Faults.{save_fault}
-use Rattle.mm_checkpoint.specs.declared.fault.SaveError.{SaveError}
-use Rattle.mm_checkpoint.specs.Checkpoints.{saved_of}
-use Rattle.mm_load.specs.Kinds.{a_checkpoint}
-use Rattle.mm_load.specs.declared.load.Checkpoint.{Checkpoint}
+use Rattle.mm_checkpoint.specs.{Faults.save_fault, declared.fault.SaveError.SaveError, Checkpoints.saved_of}
+use Rattle.mm_load.specs.{Kinds.a_checkpoint, declared.load.Checkpoint.Checkpoint}
 use Rattle.mm_load.proofs.Reading.{accepted_file, refused_file}
 use Rattle.mm_load.proofs.load.load_checkpoint.Goals as goal
 

@@ -1,9 +1,7 @@
 use Rattle.std.proofs.Common.{◌≡◌, ℕ, List, Some, Err, refl, ap, ◌∙◌, subst}
 use Rattle.mm_line.specs.Faults.{number_of}
-use Rattle.mm_asm.specs.declared.fault.AsmError.{AsmError}
-use Rattle.mm_asm.specs.Faults.{first_fault}
-use Rattle.mm_load.specs.Kinds.{an_object}
-use Rattle.mm_load.proofs.Reading.{accepted_file, refused_file}
+use Rattle.mm_asm.specs.{declared.fault.AsmError.AsmError, Faults.first_fault}
+use Rattle.mm_load.{specs.Kinds.an_object, proofs.Reading.{accepted_file, refused_file}}
 use Rattle.mm_load.proofs.load.load_source.Goals as goal
 
 pub returns-in-Err-Fault : goal.returns-in-Err-Fault

@@ -2,9 +2,7 @@ use Rattle.std.proofs.Common.{[], ◌∷◌}
 use Rattle.mm_model.specs.declared.slot.SlotState.TheVariants.{Taken}
 use Rattle.mm_text.proofs.Appending.{appends_then, appends_same}
 use Rattle.mm_machine.specs.Machine.{state_of}
-use Rattle.mm_log.specs.Lines.Line.{Enters}
-use Rattle.mm_log.specs.Seen.{seen_of}
-use Rattle.mm_log.proofs.Told.{order_text}
+use Rattle.mm_log.{specs.{Lines.Line.Enters, Seen.seen_of}, proofs.Told.order_text}
 use Rattle.mm_log.proofs.after.put_both.Goals as goal
 
 pub returns : goal.returns

@@ -1,8 +1,6 @@
-use Rattle.std.proofs.Common.{get_or}
-use Rattle.std.proofs.lemmas.List.{get_or_default}
+use Rattle.std.proofs.{Common.get_or, lemmas.List.get_or_default}
 use Rattle.mm_text.proofs.Appending.{appends_item}
-use Rattle.mm_log.specs.Lines.{line_text}
-use Rattle.mm_log.specs.Lines.Line.{Puts}
+use Rattle.mm_log.specs.Lines.{line_text, Line.Puts}
 use Rattle.mm_log.proofs.after.put_bytes.Goals as goal
 
 pub loop-byte-preserved : goal.loop-byte-preserved

@@ -1,8 +1,6 @@
-use Rattle.std.proofs.Common.{take}
-use Rattle.std.specs.List.{flat_map}
+use Rattle.std.{proofs.Common.take, specs.List.flat_map}
 use Rattle.mm_text.specs.Appends.{Appends}
-use Rattle.mm_log.specs.Lines.{line_text}
-use Rattle.mm_log.specs.Lines.Line.{Puts}
+use Rattle.mm_log.specs.Lines.{line_text, Line.Puts}
 use Rattle.mm_log.proofs.after.put_bytes.Given as goal
 
 abbrev pub invariant-loop-byte : goal.invariant-loop-byte

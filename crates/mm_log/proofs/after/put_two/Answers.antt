@@ -1,7 +1,6 @@
 use Rattle.mm_text.proofs.Appending.{appends_then, appends_same}
 use Rattle.mm_machine.specs.Machine.{state_of}
-use Rattle.mm_log.specs.Seen.{seen_of}
-use Rattle.mm_log.proofs.Told.{order_text}
+use Rattle.mm_log.{specs.Seen.seen_of, proofs.Told.order_text}
 use Rattle.mm_log.proofs.after.put_two.Goals as goal
 
 pub returns : goal.returns

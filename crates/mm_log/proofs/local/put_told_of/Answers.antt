@@ -1,8 +1,6 @@
 use Rattle.std.proofs.Common.{sym, Some}
 use Rattle.mm_text.proofs.Appending.{appends_then, appends_same}
-use Rattle.mm_log.specs.Seen.{queued_by}
-use Rattle.mm_log.specs.Local.{slot_left}
-use Rattle.mm_log.proofs.Told.{text_append}
+use Rattle.mm_log.{specs.{Seen.queued_by, Local.slot_left}, proofs.Told.text_append}
 use Rattle.mm_log.proofs.local.put_told_of.Goals as goal
 
 pub returns : goal.returns

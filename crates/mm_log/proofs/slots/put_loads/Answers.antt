@@ -1,6 +1,5 @@
 use Rattle.mm_text.proofs.Appending.{appends_item}
-use Rattle.mm_log.specs.Lines.{line_text}
-use Rattle.mm_log.specs.Lines.Line.{Issues}
+use Rattle.mm_log.specs.Lines.{line_text, Line.Issues}
 use Rattle.mm_log.proofs.slots.put_loads.Goals as goal
 
 pub loop-load-preserved : goal.loop-load-preserved

@@ -1,10 +1,7 @@
-use Rattle.std.proofs.Common.{◌≡◌, ◌<◌, get_or, ap, arith}
-use Rattle.std.proofs.lemmas.List.{take_all}
-use Rattle.std.proofs.lemmas.List.FromFn.{get_or-range_with_len}
+use Rattle.std.proofs.{Common.{◌≡◌, ◌<◌, get_or, ap, arith}, lemmas.List.{take_all, FromFn.get_or-range_with_len}}
 use Rattle.std.specs.List.{flat_map, range_with_len}
 use Rattle.mm_text.proofs.Appending.{appends_item, appends_same}
-use Rattle.mm_log.specs.Changes.{register_changes}
-use Rattle.mm_log.specs.Log.{text_of}
+use Rattle.mm_log.specs.{Changes.register_changes, Log.text_of}
 use Rattle.mm_log.proofs.slots.put_register_changes.Goals as goal
 
 pub loop-register-preserved : goal.loop-register-preserved

@@ -1,8 +1,6 @@
-use Rattle.std.proofs.Common.{take}
-use Rattle.std.specs.List.{flat_map, range_with_len}
+use Rattle.std.{proofs.Common.take, specs.List.{flat_map, range_with_len}}
 use Rattle.mm_text.specs.Appends.{Appends}
-use Rattle.mm_log.specs.Changes.{register_changes}
-use Rattle.mm_log.specs.Log.{text_of}
+use Rattle.mm_log.specs.{Changes.register_changes, Log.text_of}
 use Rattle.mm_log.proofs.slots.put_register_changes.Given as goal
 
 abbrev pub invariant-loop-register : goal.invariant-loop-register

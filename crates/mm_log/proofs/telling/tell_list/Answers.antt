@@ -1,12 +1,9 @@
-use Rattle.std.proofs.Common.{◌+◌, ◌≡◌, ◌++◌, ◌∷◌, [], ℕ, List, take, get_or, refl, sym, subst, ap, ◌∙◌, arith, append-nil}
-use Rattle.std.proofs.lemmas.List.{take_more}
-use Rattle.mm_model.specs.State.{State}
-use Rattle.mm_model.specs.Run.{run}
-use Rattle.mm_log.specs.Telling.{text_of_run}
+use Rattle.std.proofs.Common.{◌+◌, ◌≡◌, ◌++◌, ◌∷◌, [], ℕ, List, take, get_or, refl, sym, subst, ap, ◌∙◌, arith}
+use Rattle.std.proofs.{Common.append-nil, lemmas.List.take_more}
+use Rattle.mm_model.specs.{State.State, Run.run}
+use Rattle.mm_log.{specs.Telling.text_of_run, proofs.ToldRuns.{state_more, lines_more, no_state, no_lines}}
 use Rattle.mm_text.proofs.Appending.{appends_then, appends_same}
-use Rattle.mm_machine.specs.Machine.{state_of, StandsFor}
-use Rattle.mm_machine.proofs.Rounds.{after_cycles, one_item_more}
-use Rattle.mm_log.proofs.ToldRuns.{state_more, lines_more, no_state, no_lines}
+use Rattle.mm_machine.{specs.Machine.{state_of, StandsFor}, proofs.Rounds.{after_cycles, one_item_more}}
 use Rattle.mm_log.proofs.telling.tell_list.Goals as goal
 
 pub loop-item-init : goal.loop-item-init

@@ -1,6 +1,5 @@
 use Rattle.std.proofs.Common.{◌≡◌, ℕ, ◌+◌, ◌-◌, ◌≤◌, ◌^◌, List, ◌++◌, length, take}
-use Rattle.mm_model.specs.Image.{Image}
-use Rattle.mm_model.specs.Run.{run}
+use Rattle.mm_model.specs.{Image.Image, Run.run}
 use Rattle.mm_log.specs.Telling.{text_of_run}
 use Rattle.mm_text.specs.Appends.{Appends}
 use Rattle.mm_machine.specs.Machine.{state_of, StandsFor}

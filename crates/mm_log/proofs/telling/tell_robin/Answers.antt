@@ -1,12 +1,11 @@
-use Rattle.std.proofs.Common.{◌≡◌, ◌+◌, ◌-◌, ◌++◌, ◌∷◌, [], ℕ, List, Option, None, Some, sym, subst, ap, ◌∙◌, arith, append-nil}
-use Rattle.mm_model.specs.State.{State}
-use Rattle.mm_model.specs.Run.{next_running, robin_from}
-use Rattle.mm_log.specs.Telling.{text_of_run}
+use Rattle.std.proofs.Common.{◌≡◌, ◌+◌, ◌-◌, ◌++◌, ◌∷◌, [], ℕ, List, Option, None, Some, sym, subst, ap, ◌∙◌, arith}
+use Rattle.std.proofs.Common.{append-nil}
+use Rattle.mm_model.specs.{State.State, Run.{next_running, robin_from}}
+use Rattle.mm_log.{specs.Telling.text_of_run, proofs.ToldRuns.{state_more, lines_more, no_state, no_lines}}
 use Rattle.mm_text.proofs.Appending.{appends_then, appends_same}
 use Rattle.mm_machine.specs.Machine.{state_of, StandsFor}
 use Rattle.mm_machine.proofs.Rounds.{after_cycles, one_more, robin_step, robin_over, robin_ends, robin_done}
 use Rattle.mm_machine.proofs.Running.{next_is, none_is, zero_of}
-use Rattle.mm_log.proofs.ToldRuns.{state_more, lines_more, no_state, no_lines}
 use Rattle.mm_log.proofs.telling.tell_robin.Goals as goal
 
 begins : (s : State) (last : Option ℕ) (count : ℕ) → last ≡ None → [] ++ robin_from s last (count - 0) ≡ robin_from s None count

@@ -1,6 +1,5 @@
 use Rattle.std.proofs.Common.{◌≡◌, ℕ, ◌+◌, ◌-◌, ◌≤◌, ◌^◌, List, ◌++◌, None}
-use Rattle.mm_model.specs.Image.{Image}
-use Rattle.mm_model.specs.Run.{run, robin_from}
+use Rattle.mm_model.specs.{Image.Image, Run.{run, robin_from}}
 use Rattle.mm_log.specs.Telling.{text_of_run}
 use Rattle.mm_text.specs.Appends.{Appends}
 use Rattle.mm_machine.specs.Machine.{state_of, StandsFor}

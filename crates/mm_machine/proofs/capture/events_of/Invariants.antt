@@ -1,5 +1,4 @@
-use Rattle.std.proofs.Common.{◌≡◌, take}
-use Rattle.std.specs.List.{flat_map}
+use Rattle.std.{proofs.Common.{◌≡◌, take}, specs.List.flat_map}
 use Rattle.mm_model.specs.Fits.{slots_of}
 use Rattle.mm_machine.specs.Snapshot.{queued_at}
 use Rattle.mm_machine.proofs.capture.events_of.Given as goal

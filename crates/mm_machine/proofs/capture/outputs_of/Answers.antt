@@ -1,8 +1,8 @@
 use Rattle.std.proofs.Common.{subst, sym, ap, ◌∙◌}
 use Rattle.mm_machine.specs.Capture.{OutputsBelow}
 use Rattle.mm_machine.proofs.Collecting.{output_more, output_not}
-use Rattle.mm_machine.proofs.capture.outputs_of.Goals as goal
 use Rattle.mm_machine.proofs.capture.outputs_of.Goals.{then-is_group_of+in_ok-output_copy+in_ok-push, else-is_group_of}
+use Rattle.mm_machine.proofs.capture.outputs_of.Goals as goal
 
 pub loop-group-preserved : goal.loop-group-preserved
 loop-group-preserved c =

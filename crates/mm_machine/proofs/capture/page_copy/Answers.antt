@@ -1,5 +1,4 @@
-use Rattle.std.proofs.Common.{ℕ, ◌<◌, ◌∙◌, List, length, sym, ap, subst, arith}
-use Rattle.std.proofs.lemmas.List.{take_more, take_all}
+use Rattle.std.proofs.{Common.{ℕ, ◌<◌, ◌∙◌, List, length, sym, ap, subst, arith}, lemmas.List.{take_more, take_all}}
 use Rattle.mm_word.specs.declared.word.Cell.{Cell}
 use Rattle.mm_model.specs.Memory.{zero_cell, IsPage}
 use Rattle.mm_machine.specs.Capture.{cells_of}

@@ -1,10 +1,8 @@
-use Rattle.std.proofs.Common.{ℕ, ◌<◌, List, length, arith}
-use Rattle.std.proofs.lemmas.List.{take_more}
+use Rattle.std.proofs.{Common.{ℕ, ◌<◌, List, length, arith}, lemmas.List.take_more}
 use Rattle.mm_word.specs.declared.word.Cell.{Cell}
 use Rattle.mm_model.specs.Memory.{Memory}
-use Rattle.mm_machine.specs.Capture.{cells_of}
+use Rattle.mm_machine.{specs.Capture.cells_of, proofs.Collecting.place_page}
 use Rattle.mm_mem.proofs.PagePlaces.{place_mapped, place_number}
-use Rattle.mm_machine.proofs.Collecting.{place_page}
 use Rattle.mm_machine.proofs.capture.pages_of.Goals as goal
 
 pub page_copy-requires-clause-number : goal.page_copy-requires-clause-number

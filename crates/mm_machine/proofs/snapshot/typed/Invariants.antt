@@ -1,5 +1,4 @@
-use Rattle.std.proofs.Common.{take}
-use Rattle.std.specs.List.{AllByRecursion}
+use Rattle.std.{proofs.Common.take, specs.List.AllByRecursion}
 use Rattle.mm_machine.specs.Snapshot.{IsTypedEvent}
 use Rattle.mm_machine.proofs.snapshot.typed.Given as goal
 

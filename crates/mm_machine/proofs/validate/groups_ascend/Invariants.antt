@@ -1,5 +1,4 @@
-use Rattle.mm_machine.specs.Snapshot.{groups_of}
-use Rattle.mm_machine.proofs.Rising.{RiseBelow}
+use Rattle.mm_machine.{specs.Snapshot.groups_of, proofs.Rising.RiseBelow}
 use Rattle.mm_machine.proofs.validate.groups_ascend.Given as goal
 
 abbrev pub invariant-loop-k : goal.invariant-loop-k

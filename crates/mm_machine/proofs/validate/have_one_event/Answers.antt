@@ -1,5 +1,4 @@
-use Rattle.mm_machine.specs.Snapshot.{HasOneEvent}
-use Rattle.mm_machine.proofs.Rising.{all_at, all_more}
+use Rattle.mm_machine.{specs.Snapshot.HasOneEvent, proofs.Rising.{all_at, all_more}}
 use Rattle.mm_machine.proofs.validate.have_one_event.Goals as goal
 
 pub loop-slot-preserved : goal.loop-slot-preserved

@@ -1,5 +1,4 @@
-use Rattle.std.proofs.Common.{take}
-use Rattle.std.specs.List.{AllByRecursion}
+use Rattle.std.{proofs.Common.take, specs.List.AllByRecursion}
 use Rattle.mm_machine.specs.Snapshot.{HasOneEvent}
 use Rattle.mm_machine.proofs.validate.have_one_event.Given as goal
 

@@ -1,7 +1,5 @@
-use Rattle.std.proofs.Common.{◌≡◌, ◌<◌, ◌∙◌, List, length, sym, ap, subst}
-use Rattle.std.specs.List.{AllByRecursion}
-use Rattle.mm_model.specs.declared.slot.Pending.{Pending}
-use Rattle.mm_model.specs.Slot.{Slot}
+use Rattle.std.{proofs.Common.{◌≡◌, ◌<◌, ◌∙◌, List, length, sym, ap, subst}, specs.List.AllByRecursion}
+use Rattle.mm_model.specs.{declared.slot.Pending.Pending, Slot.Slot}
 use Rattle.mm_machine.proofs.Pendings.{sixteen_flags, pending_all, pending_small}
 use Rattle.mm_machine.proofs.validate.is_pending.Goals as goal
 

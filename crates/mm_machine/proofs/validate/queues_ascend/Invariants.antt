@@ -1,5 +1,4 @@
-use Rattle.mm_machine.specs.Snapshot.{queues_of}
-use Rattle.mm_machine.proofs.Rising.{NoneFallsBelow}
+use Rattle.mm_machine.{specs.Snapshot.queues_of, proofs.Rising.NoneFallsBelow}
 use Rattle.mm_machine.proofs.validate.queues_ascend.Given as goal
 
 abbrev pub invariant-loop-k : goal.invariant-loop-k

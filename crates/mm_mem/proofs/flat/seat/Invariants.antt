@@ -1,6 +1,4 @@
-use Rattle.std.proofs.Common.{◌≡◌, ◌+◌, ◌≤◌, take, vec_len}
-use Rattle.std.specs.Vec.{vec_capacity}
-use Rattle.std.specs.List.{AllByRecursion}
+use Rattle.std.{proofs.Common.{◌≡◌, ◌+◌, ◌≤◌, take, vec_len}, specs.{Vec.vec_capacity, List.AllByRecursion}}
 use Rattle.mm_model.specs.Memory.{IsPage}
 use Rattle.mm_mem.proofs.flat.seat.Given as goal
 

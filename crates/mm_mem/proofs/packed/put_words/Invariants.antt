@@ -1,6 +1,5 @@
 use Rattle.std.proofs.Common.{◌≡◌, take}
-use Rattle.mm_mem.specs.Unpacked.{words_of}
-use Rattle.mm_mem.proofs.PackedCells.{HoldWords}
+use Rattle.mm_mem.{specs.Unpacked.words_of, proofs.PackedCells.HoldWords}
 use Rattle.mm_mem.proofs.packed.put_words.Given as goal
 
 abbrev pub invariant-loop-i : goal.invariant-loop-i

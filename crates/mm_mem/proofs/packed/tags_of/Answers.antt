@@ -1,5 +1,4 @@
-use Rattle.mm_word.specs.declared.word.Cell.{Cell}
-use Rattle.mm_word.specs.Word.{is_pointer}
+use Rattle.mm_word.specs.{declared.word.Cell.Cell, Word.is_pointer}
 use Rattle.mm_mem.proofs.PackedCells.{byte_more}
 use Rattle.mm_mem.proofs.packed.tags_of.Goals as goal
 

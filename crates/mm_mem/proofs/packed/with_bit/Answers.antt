@@ -1,6 +1,6 @@
 use Rattle.std.proofs.Common.{sym, ap, ◌∙◌, w8}
-use Rattle.std.specs.Prelude.{◌==◌}
 use Rattle.std.proofs.lemmas.Nat.Bits.{bit_at_set_same, bit_at_set_other, bit_at_clear_same, bit_at_clear_other}
+use Rattle.std.specs.Prelude.{◌==◌}
 use Rattle.mm_mem.proofs.packed.with_bit.Goals as goal
 
 pub returns-then-bit-clause-own : goal.returns-then-bit-clause-own

@@ -1,5 +1,4 @@
-use Rattle.std.proofs.Common.{rules}
-use Rattle.std.proofs.lemmas.List.Sorted.{answers_always}
+use Rattle.std.proofs.{Common.rules, lemmas.List.Sorted.answers_always}
 use Rattle.mm_mem.proofs.Places.{held, searched}
 use Rattle.mm_mem.proofs.search.search.Goals as goal
 

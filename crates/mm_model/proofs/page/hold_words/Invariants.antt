@@ -1,7 +1,5 @@
-use Rattle.std.proofs.Common.{take}
-use Rattle.std.specs.List.{AllByRecursion}
-use Rattle.mm_word.specs.declared.word.Cell.{Cell}
-use Rattle.mm_word.specs.Word.{IsWord}
+use Rattle.std.{proofs.Common.take, specs.List.AllByRecursion}
+use Rattle.mm_word.specs.{declared.word.Cell.Cell, Word.IsWord}
 use Rattle.mm_model.proofs.page.hold_words.Given as goal
 
 abbrev pub invariant-loop-cell : goal.invariant-loop-cell

@@ -1,10 +1,7 @@
-use Rattle.std.proofs.Common.{◌≡◌, ◌∙◌, inl, inr, Ok, Err, ap}
-use Rattle.std.proofs.lemmas.Result.{err_from_is_err_and}
+use Rattle.std.proofs.{Common.{◌≡◌, ◌∙◌, inl, inr, Ok, Err, ap}, lemmas.Result.err_from_is_err_and}
+use Rattle.mm_net.specs.{declared.fault.NetError.TheVariants.Fault, Errors.net_error}
+use Rattle.mm_net.proofs.{Errors.fault_of, EventWords.events_grammar}
 use Rattle.mm_sched.specs.declared.text.SchedError.TheVariants as words
-use Rattle.mm_net.specs.declared.fault.NetError.TheVariants.{Fault}
-use Rattle.mm_net.specs.Errors.{net_error}
-use Rattle.mm_net.proofs.Errors.{fault_of}
-use Rattle.mm_net.proofs.EventWords.{events_grammar}
 use Rattle.mm_net.proofs.events.read_events.Goals as goal
 
 pub read_items-requires : goal.read_items-requires

@@ -1,7 +1,5 @@
-use Rattle.std.proofs.Common.{◌≡◌, ◌∙◌, ℕ, ◌≤◌, ◌%◌, refl, sym, arith}
-use Rattle.std.proofs.lemmas.Fmt.{decimal_injective}
-use Rattle.mm_net.specs.Links.{IsEnd}
-use Rattle.mm_net.proofs.LinkWords.{dot_unique}
+use Rattle.std.proofs.{Common.{◌≡◌, ◌∙◌, ℕ, ◌≤◌, ◌%◌, refl, sym, arith}, lemmas.Fmt.decimal_injective}
+use Rattle.mm_net.{specs.Links.IsEnd, proofs.LinkWords.dot_unique}
 use Rattle.mm_net.proofs.link_words.end.Goals as goal
 
 last_word : (node address : ℕ) → IsEnd node address → address ≤ 18014398509481976

@@ -1,8 +1,8 @@
 use Rattle.std.proofs.Common.{◌∙◌, [], ◌∷◌, ◌++◌, sym, arith}
 use Rattle.mm_net.specs.Links.{AreLinks}
 use Rattle.mm_net.proofs.Ends.{one_more, own_end, same_ends, ends_same, taken, put_there, says_not, never}
-use Rattle.mm_net.proofs.links.fits.Goals as goal
 use Rattle.mm_net.proofs.links.fits.Goals.{else-more-via-then-more+else-more-2, else-more-via-else-more}
+use Rattle.mm_net.proofs.links.fits.Goals as goal
 
 pub returns-then-more-2 : goal.returns-then-more-2
 returns-then-more-2 c = never (AreLinks (c.args.links.now ++ c.args.more ∷ [])) (own_end c.args.links.now c.args.more (same_ends c.args.more c.if-more.true c.if-more-2.true))

@@ -1,8 +1,6 @@
 use Rattle.std.proofs.Common.{◌++◌, sym, refl}
 use Rattle.mm_io.proofs.Known.{writes_then, writes_same, writes_cut}
-use Rattle.mm_net.specs.Nets.{net_start, net_uses}
-use Rattle.mm_net.specs.Net.{net_of, links_of}
-use Rattle.mm_net.specs.Texts.{link_lines, nodes_text, net_text}
+use Rattle.mm_net.specs.{Nets.{net_start, net_uses}, Net.{net_of, links_of}, Texts.{link_lines, nodes_text, net_text}}
 use Rattle.mm_net.proofs.Written.{is_an_error, text_is}
 use Rattle.mm_net.proofs.net_text.report.Goals as goal
 

@@ -1,13 +1,9 @@
 use Rattle.std.proofs.Common.{◌≡◌, ◌<◌, length, get_or, slice_get, Some, sym, ap, arith}
+use Rattle.std.proofs.lemmas.{List.{length-map, take_all}, Option.{slice_get-get_or, get_or_from_slice_get}}
 use Rattle.std.specs.List.{flat_map, enumerate_from}
-use Rattle.std.proofs.lemmas.List.{length-map, take_all}
-use Rattle.std.proofs.lemmas.Option.{slice_get-get_or, get_or_from_slice_get}
 use Rattle.mm_text.proofs.Appending.{appends_item, appends_same, buffered_writes}
-use Rattle.mm_net.specs.Nets.{Carried, nothing_carried}
-use Rattle.mm_net.specs.Net.{net_of}
-use Rattle.mm_net.specs.Texts.{link_line}
-use Rattle.mm_net.proofs.Stepping.{link_by, carried_by}
-use Rattle.mm_net.proofs.Written.{placed, places_count}
+use Rattle.mm_net.specs.{Nets.{Carried, nothing_carried}, Net.net_of, Texts.link_line}
+use Rattle.mm_net.proofs.{Stepping.{link_by, carried_by}, Written.{placed, places_count}}
 use Rattle.mm_net.proofs.net_text.write_links.Goals as goal
 
 pub loop-link-preserved : goal.loop-link-preserved

@@ -1,8 +1,6 @@
-use Rattle.std.proofs.Common.{take}
-use Rattle.std.specs.List.{flat_map, enumerate_from}
+use Rattle.std.{proofs.Common.take, specs.List.{flat_map, enumerate_from}}
 use Rattle.mm_text.specs.Appends.{Appends}
-use Rattle.mm_net.specs.Net.{net_of}
-use Rattle.mm_net.specs.Texts.{link_line}
+use Rattle.mm_net.specs.{Net.net_of, Texts.link_line}
 use Rattle.mm_net.proofs.net_text.write_links.Given as goal
 
 -- the lines of the links so far are gathered

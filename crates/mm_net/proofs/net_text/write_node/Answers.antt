@@ -2,8 +2,7 @@ use Rattle.std.proofs.Common.{None, refl}
 use Rattle.mm_io.proofs.Known.{writes_then, writes_cut}
 use Rattle.mm_model.specs.Report.{report}
 use Rattle.mm_machine.specs.Machine.{state_of}
-use Rattle.mm_net.specs.Texts.{node_text}
-use Rattle.mm_net.proofs.Written.{is_an_error}
+use Rattle.mm_net.{specs.Texts.node_text, proofs.Written.is_an_error}
 use Rattle.mm_net.proofs.net_text.write_node.Goals as goal
 
 pub returns-in_err-write_pieces-clause-text : goal.returns-in_err-write_pieces-clause-text

@@ -1,11 +1,9 @@
-use Rattle.std.proofs.Common.{None, Some, Ok, arith}
-use Rattle.std.specs.List.{enumerate_from, zip}
+use Rattle.std.{proofs.Common.{None, Some, Ok, arith}, specs.List.{enumerate_from, zip}}
 use Rattle.mm_machine.specs.Machine.{state_of}
-use Rattle.mm_net.specs.Net.{net_of, node_in}
-use Rattle.mm_net.specs.Texts.{node_text}
+use Rattle.mm_net.specs.{Net.{net_of, node_in}, Texts.node_text}
 use Rattle.mm_net.proofs.ListPlaces.{map_at}
-use Rattle.mm_net.proofs.Written.{looked_up, writes_nothing, writes_item, writes_all, writes_stop, is_an_error, is_item, item_count}
-use Rattle.mm_net.proofs.Written.{with_counts, counted_before, counted_now}
+use Rattle.mm_net.proofs.Written.{looked_up, writes_nothing, writes_item, writes_all, writes_stop, is_an_error, is_item}
+use Rattle.mm_net.proofs.Written.{item_count, with_counts, counted_before, counted_now}
 use Rattle.mm_net.proofs.net_text.write_nodes.Goals as goal
 
 pub loop-n-init : goal.loop-n-init

@@ -1,11 +1,7 @@
-use Rattle.std.proofs.Common.{ℕ, List, take, Option, Ok}
-use Rattle.std.specs.List.{flat_map, enumerate_from, zip}
-use Rattle.mm_io.specs.declared.write.WriteFault.{WriteFault}
-use Rattle.mm_io.specs.Sinks.{Writes}
-use Rattle.mm_model.specs.declared.counts.Counts.{Counts}
-use Rattle.mm_model.specs.Uses.{Use}
-use Rattle.mm_net.specs.Net.{net_of, NodesStandTo}
-use Rattle.mm_net.specs.Texts.{node_text}
+use Rattle.std.{proofs.Common.{ℕ, List, take, Option, Ok}, specs.List.{flat_map, enumerate_from, zip}}
+use Rattle.mm_io.specs.{declared.write.WriteFault.WriteFault, Sinks.Writes}
+use Rattle.mm_model.specs.{declared.counts.Counts.Counts, Uses.Use}
+use Rattle.mm_net.specs.{Net.{net_of, NodesStandTo}, Texts.node_text}
 use Rattle.mm_net.proofs.net_text.write_nodes.Given as goal
 
 -- the reports of the nodes so far are written

@@ -1,7 +1,5 @@
-use Rattle.std.proofs.Common.{◌≤◌}
-use Rattle.std.proofs.lemmas.List.Elements.{All-push}
-use Rattle.mm_net.specs.Wires.{Wired}
-use Rattle.mm_net.proofs.Wiring.{links_more, carried_more}
+use Rattle.std.proofs.{Common.◌≤◌, lemmas.List.Elements.All-push}
+use Rattle.mm_net.{specs.Wires.Wired, proofs.Wiring.{links_more, carried_more}}
 use Rattle.mm_net.proofs.wire.wires_of.Goals as goal
 
 pub loop-link-preserved : goal.loop-link-preserved

@@ -1,8 +1,5 @@
-use Rattle.std.proofs.Common.{◌≡◌, ◌≤◌, map, take}
-use Rattle.std.specs.List.{All}
-use Rattle.mm_net.specs.declared.link.Link.{Link}
-use Rattle.mm_net.specs.Nets.{nothing_carried}
-use Rattle.mm_net.specs.Wires.{Wired, link_list, carried_list}
+use Rattle.std.{proofs.Common.{◌≡◌, ◌≤◌, map, take}, specs.List.All}
+use Rattle.mm_net.specs.{declared.link.Link.Link, Nets.nothing_carried, Wires.{Wired, link_list, carried_list}}
 use Rattle.mm_net.proofs.wire.wires_of.Given as goal
 
 -- so far the links are those that were gone over, and each has its room

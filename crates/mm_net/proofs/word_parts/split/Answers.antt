@@ -1,5 +1,4 @@
-use Rattle.std.proofs.Common.{arith}
-use Rattle.std.proofs.lemmas.Grind.{common_steps}
+use Rattle.std.proofs.{Common.arith, lemmas.Grind.common_steps}
 use Rattle.mm_net.proofs.word_parts.split.Goals as goal
 
 pub loop-at-preserved : goal.loop-at-preserved

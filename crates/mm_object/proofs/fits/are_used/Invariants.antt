@@ -1,6 +1,4 @@
-use Rattle.std.proofs.Common.{◌≡◌, ℕ, ◌<◌, true}
-use Rattle.std.specs.Prelude.{slice_index_or}
-use Rattle.std.proofs.Common.{false}
+use Rattle.std.{proofs.Common.{◌≡◌, ℕ, ◌<◌, true, false}, specs.Prelude.slice_index_or}
 use Rattle.mm_object.proofs.fits.are_used.Given as goal
 
 abbrev pub invariant-loop-k : goal.invariant-loop-k

@@ -1,7 +1,5 @@
 use Rattle.std.proofs.Common.{ap, ◌∙◌}
-use Rattle.mm_object.specs.Objects.{is_among}
-use Rattle.mm_object.specs.Steps.{key_names}
-use Rattle.mm_object.proofs.Keys.{contained}
+use Rattle.mm_object.{specs.{Objects.is_among, Steps.key_names}, proofs.Keys.contained}
 use Rattle.mm_object.proofs.known.is_known.Goals as goal
 
 pub returns : goal.returns

@@ -1,6 +1,5 @@
 use Rattle.std.proofs.Common.{ap, ◌∙◌}
-use Rattle.mm_object.specs.Objects.{Segment}
-use Rattle.mm_object.proofs.Keys.{segment_known}
+use Rattle.mm_object.{specs.Objects.Segment, proofs.Keys.segment_known}
 use Rattle.mm_object.proofs.known.known_names.Goals as goal
 
 pub loop-segment-preserved : goal.loop-segment-preserved

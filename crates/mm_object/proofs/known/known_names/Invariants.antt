@@ -1,6 +1,5 @@
 use Rattle.std.proofs.Common.{take}
-use Rattle.mm_object.specs.Objects.{names_of}
-use Rattle.mm_object.specs.Steps.{key_names, AreTheSame}
+use Rattle.mm_object.specs.{Objects.names_of, Steps.{key_names, AreTheSame}}
 use Rattle.mm_object.proofs.known.known_names.Given as goal
 
 abbrev pub invariant-loop-segment : goal.invariant-loop-segment

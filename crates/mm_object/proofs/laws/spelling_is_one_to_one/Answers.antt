@@ -1,6 +1,5 @@
 use Rattle.std.proofs.Common.{refl}
-use Rattle.mm_object.specs.Format.{spelling}
-use Rattle.mm_object.proofs.FormatWhole.{spelled_one}
+use Rattle.mm_object.{specs.Format.spelling, proofs.FormatWhole.spelled_one}
 use Rattle.mm_object.proofs.laws.spelling_is_one_to_one.Goals as goal
 
 pub returns-clause-one : goal.returns-clause-one

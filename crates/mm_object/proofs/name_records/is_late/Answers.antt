@@ -1,6 +1,5 @@
 use Rattle.std.proofs.Common.{List, ℕ, not, ap, ◌∙◌}
-use Rattle.mm_object.specs.Names.{is_before}
-use Rattle.mm_object.proofs.Among.{is_late-last}
+use Rattle.mm_object.{specs.Names.is_before, proofs.Among.is_late-last}
 use Rattle.mm_object.proofs.name_records.is_late.Goals as goal
 
 pub returns-in-len1-up : goal.returns-in-len1-up

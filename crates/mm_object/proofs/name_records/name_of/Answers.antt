@@ -1,6 +1,6 @@
 use Rattle.std.proofs.Common.{◌≡◌, ℕ, ◌≤◌, true, false, List, length, Option, Some, None}
-use Rattle.std.specs.Option.{SomeIff, MatchOption}
 use Rattle.std.proofs.lemmas.Bool.{le-leb, and_parts, and_from, false_from_ne_true}
+use Rattle.std.specs.Option.{SomeIff, MatchOption}
 use Rattle.mm_object.specs.Names.{has_form, is_name}
 use Rattle.mm_object.proofs.name_records.name_of.Goals as goal
 

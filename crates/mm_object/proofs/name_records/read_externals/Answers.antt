@@ -1,11 +1,7 @@
-use Rattle.std.proofs.Common.{◌≡◌, ℕ, ◌+◌, List, refl, ap, subst, ◌∙◌, arith}
-use Rattle.std.proofs.lemmas.Result.{err_from_is_err_and}
-use Rattle.mm_format.specs.Formats.Parsed.{Got}
-use Rattle.mm_format.specs.Reading.{FailsOr}
+use Rattle.std.proofs.{Common.{◌≡◌, ℕ, ◌+◌, List, refl, ap, subst, ◌∙◌, arith}, lemmas.Result.err_from_is_err_and}
+use Rattle.mm_format.specs.{Formats.Parsed.Got, Reading.FailsOr}
 use Rattle.mm_format.proofs.Loops.{times_more, times_stop, times_read, fails_so}
-use Rattle.mm_object.specs.Answers.{number_of}
-use Rattle.mm_object.specs.Format.{external_row, push}
-use Rattle.mm_object.proofs.Readings.{push_begin}
+use Rattle.mm_object.{specs.{Answers.number_of, Format.{external_row, push}}, proofs.Readings.push_begin}
 use Rattle.mm_object.proofs.name_records.read_externals.Goals as goal
 
 pub loop-init : goal.loop-init

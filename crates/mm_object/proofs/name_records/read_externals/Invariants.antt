@@ -1,6 +1,5 @@
 use Rattle.std.proofs.Common.{◌≡◌, ◌-◌, [], vec_len}
-use Rattle.mm_format.specs.Formats.{times}
-use Rattle.mm_format.proofs.Loops.{prefixed}
+use Rattle.mm_format.{specs.Formats.times, proofs.Loops.prefixed}
 use Rattle.mm_object.specs.Format.{external_row, push}
 use Rattle.mm_object.proofs.name_records.read_externals.Given as goal
 

@@ -1,7 +1,5 @@
-use Rattle.std.proofs.Common.{rules, sym}
-use Rattle.std.proofs.lemmas.List.Sorted.{answers_always}
-use Rattle.mm_object.specs.Objects.{place_of}
-use Rattle.mm_object.proofs.Found.{found_reloc, missed_reloc}
+use Rattle.std.proofs.{Common.{rules, sym}, lemmas.List.Sorted.answers_always}
+use Rattle.mm_object.{specs.Objects.place_of, proofs.Found.{found_reloc, missed_reloc}}
 use Rattle.mm_object.proofs.object.reloc_in.Goals as goal
 
 -- the closure gives a relocation's place

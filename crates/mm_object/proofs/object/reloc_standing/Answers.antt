@@ -1,7 +1,6 @@
 use Rattle.std.proofs.Common.{get_or, arith}
 use Rattle.mm_word.specs.declared.perm.Perm.TheVariants.{Ro}
-use Rattle.mm_object.specs.declared.target.Reloc.{Reloc}
-use Rattle.mm_object.proofs.Found.{standing, found_at}
+use Rattle.mm_object.{specs.declared.target.Reloc.Reloc, proofs.Found.{standing, found_at}}
 use Rattle.mm_object.proofs.object.reloc_standing.Goals as goal
 
 pub returns-then-reloc-word-clause-reloc : goal.returns-then-reloc-word-clause-reloc

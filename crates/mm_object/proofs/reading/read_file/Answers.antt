@@ -1,6 +1,5 @@
 use Rattle.std.proofs.Common.{cond, ltb, length, ap, ◌∙◌, arith}
-use Rattle.mm_format.specs.Formats.{after}
-use Rattle.mm_format.specs.Formats.Parsed.{Got, Bad}
+use Rattle.mm_format.specs.Formats.{after, Parsed.{Got, Bad}}
 use Rattle.mm_object.proofs.reading.read_file.Goals as goal
 
 pub read_object-requires-clause-bytes : goal.read_object-requires-clause-bytes

@@ -1,8 +1,7 @@
 use Rattle.std.proofs.Common.{[], rules}
 use Rattle.mm_format.proofs.Lists.{times_is}
 use Rattle.mm_object.specs.Format.{segment_row, push, object}
-use Rattle.mm_object.proofs.FormatFits.{object_fits}
-use Rattle.mm_object.proofs.FormatIs.{header_is, segment_is, object_is, read_within}
+use Rattle.mm_object.proofs.{FormatFits.object_fits, FormatIs.{header_is, segment_is, object_is, read_within}}
 use Rattle.mm_object.proofs.reading.read_object.Goals as goal
 
 pub read_used-requires-clause-start : goal.read_used-requires-clause-start

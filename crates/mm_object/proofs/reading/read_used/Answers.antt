@@ -1,6 +1,5 @@
 use Rattle.std.proofs.lemmas.Result.{err_from_is_err_and}
-use Rattle.mm_object.specs.Answers.{number_of}
-use Rattle.mm_object.specs.Format.{pointers_from, pointers_row, uses_in}
+use Rattle.mm_object.specs.{Answers.number_of, Format.{pointers_from, pointers_row, uses_in}}
 use Rattle.mm_object.proofs.Readings.{late_refused}
 use Rattle.mm_object.proofs.reading.read_used.Goals as goal
 

@@ -1,14 +1,8 @@
 use Rattle.std.proofs.Common.{◌≡◌, ℕ, ◌+◌, ◌<◌, Bool, true, false, not, cond, List, ◌∷◌, Option, Some, drop, length}
 use Rattle.std.proofs.Common.{get_or, sym, ap, subst, ◌∙◌, arith}
-use Rattle.std.proofs.lemmas.List.{drop_more, drop_all}
-use Rattle.std.proofs.lemmas.Result.{err_from_is_err_and}
-use Rattle.mm_format.specs.Formats.{answer, first_late}
-use Rattle.mm_format.specs.Formats.Parsed.{Got, Bad}
-use Rattle.mm_format.specs.Reading.{FailsOr}
-use Rattle.mm_format.proofs.Loops.{late_stop}
-use Rattle.mm_object.specs.declared.target.Target.{Target}
-use Rattle.mm_object.specs.Answers.{number_of}
-use Rattle.mm_object.specs.Format.{is_unused, use_tests}
+use Rattle.std.proofs.lemmas.{List.{drop_more, drop_all}, Result.err_from_is_err_and}
+use Rattle.mm_format.{specs.{Formats.{answer, first_late, Parsed.{Got, Bad}}, Reading.FailsOr}, proofs.Loops.late_stop}
+use Rattle.mm_object.specs.{declared.target.Target.Target, Answers.number_of, Format.{is_unused, use_tests}}
 use Rattle.mm_object.specs.Objects.{targets_of}
 use Rattle.mm_object.proofs.reading.test_uses.Goals as goal
 

@@ -1,7 +1,6 @@
 use Rattle.std.proofs.Common.{◌≡◌, ◌+◌, ◌*◌, ◌≤◌, drop}
 use Rattle.mm_format.specs.Formats.{first_late}
-use Rattle.mm_object.specs.Format.{use_tests}
-use Rattle.mm_object.specs.Objects.{targets_of}
+use Rattle.mm_object.specs.{Format.use_tests, Objects.targets_of}
 use Rattle.mm_object.proofs.reading.test_uses.Given as goal
 
 abbrev pub invariant-loop-k : goal.invariant-loop-k

@@ -1,6 +1,4 @@
-use Rattle.mm_object.specs.Answers.{number_of}
-use Rattle.mm_object.specs.Format.{good_reloc}
-use Rattle.mm_object.proofs.Framed.{framed_got, framed_bad}
+use Rattle.mm_object.{specs.{Answers.number_of, Format.good_reloc}, proofs.Framed.{framed_got, framed_bad}}
 use Rattle.mm_object.proofs.reloc_records.read_reloc.Goals as goal
 
 pub returns-in-Ok : goal.returns-in-Ok

@@ -1,8 +1,6 @@
 use Rattle.std.proofs.Common.{ℕ, ◌+◌, refl, ◌∙◌}
 use Rattle.mm_format.proofs.Loops.{times_runs, runs_told}
-use Rattle.mm_object.specs.declared.reloc_records.RelocRecords.{RelocRecords}
-use Rattle.mm_object.specs.Format.{reloc_row}
-use Rattle.mm_object.specs.Objects.{place_of}
+use Rattle.mm_object.specs.{declared.reloc_records.RelocRecords.RelocRecords, Format.reloc_row, Objects.place_of}
 use Rattle.mm_object.proofs.reloc_records.read_relocs.Goals as goal
 
 pub returns : goal.returns

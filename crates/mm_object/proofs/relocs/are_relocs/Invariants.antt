@@ -1,5 +1,4 @@
-use Rattle.std.proofs.Common.{◌≡◌, true, take}
-use Rattle.std.specs.List.{list_all}
+use Rattle.std.{proofs.Common.{◌≡◌, true, take}, specs.List.list_all}
 use Rattle.mm_object.specs.Objects.{is_reloc}
 use Rattle.mm_object.proofs.relocs.are_relocs.Given as goal
 

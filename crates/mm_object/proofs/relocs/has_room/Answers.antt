@@ -1,6 +1,4 @@
-use Rattle.std.proofs.Common.{◌^◌, ◌≤◌, sym, ◌∙◌, arith}
-use Rattle.std.proofs.Math.Nat.{pow-le-pow_right}
-use Rattle.std.proofs.lemmas.Bool.{lt-ltb, le-leb}
+use Rattle.std.proofs.{Common.{◌^◌, ◌≤◌, sym, ◌∙◌, arith}, Math.Nat.pow-le-pow_right, lemmas.Bool.{lt-ltb, le-leb}}
 use Rattle.mm_object.proofs.relocs.has_room.Goals as goal
 
 pub returns-then-log-ge32 : goal.returns-then-log-ge32

@@ -1,5 +1,4 @@
-use Rattle.mm_object.specs.Objects.{place_of}
-use Rattle.mm_object.proofs.Adjacent.{keys_go_on, keys_fall}
+use Rattle.mm_object.{specs.Objects.place_of, proofs.Adjacent.{keys_go_on, keys_fall}}
 use Rattle.mm_object.proofs.relocs.in_order.Goals as goal
 
 pub returns-then-place_of : goal.returns-then-place_of

@@ -1,12 +1,7 @@
-use Rattle.std.proofs.Common.{◌≡◌, ◌+◌, false, ap, subst, ◌∙◌, arith}
-use Rattle.std.proofs.lemmas.Result.{err_from_is_err_and}
-use Rattle.mm_format.specs.Formats.Parsed.{Got}
-use Rattle.mm_format.specs.Reading.{FailsOr}
-use Rattle.mm_format.specs.Images.{bits_in}
-use Rattle.mm_format.proofs.Images.{bits_count, bits_item}
-use Rattle.mm_format.proofs.Loops.{each_more, each_stop, each_read, fails_so}
-use Rattle.mm_object.specs.Answers.{number_of}
-use Rattle.mm_object.specs.Format.{item_row}
+use Rattle.std.proofs.{Common.{◌≡◌, ◌+◌, false, ap, subst, ◌∙◌, arith}, lemmas.Result.err_from_is_err_and}
+use Rattle.mm_format.specs.{Formats.Parsed.Got, Reading.FailsOr, Images.bits_in}
+use Rattle.mm_format.proofs.{Images.{bits_count, bits_item}, Loops.{each_more, each_stop, each_read, fails_so}}
+use Rattle.mm_object.specs.{Answers.number_of, Format.item_row}
 use Rattle.mm_object.proofs.segment_records.read_items.Goals as goal
 
 pub returns-in_err-item-clause-read : goal.returns-in_err-item-clause-read

@@ -1,7 +1,5 @@
 use Rattle.std.proofs.Common.{◌≡◌, drop, vec_len}
-use Rattle.mm_format.specs.Formats.{each}
-use Rattle.mm_format.specs.Images.{bits_in}
-use Rattle.mm_format.proofs.Loops.{prefixed}
+use Rattle.mm_format.{specs.{Formats.each, Images.bits_in}, proofs.Loops.prefixed}
 use Rattle.mm_object.specs.Format.{item_row}
 use Rattle.mm_object.proofs.segment_records.read_items.Given as goal
 

@@ -1,13 +1,8 @@
 use Rattle.std.proofs.Common.{◌≡◌, ◌+◌, List, length, refl, sym, ap, subst, ◌∙◌, arith}
 use Rattle.std.proofs.lemmas.Result.{err_from_is_err_and}
-use Rattle.mm_format.specs.Formats.Parsed.{Got}
-use Rattle.mm_format.specs.Reading.{FailsOr}
-use Rattle.mm_format.proofs.Loops.{times_more, times_stop, times_read}
-use Rattle.mm_object.specs.Answers.{number_of}
-use Rattle.mm_object.specs.Format.{segment_row, push}
-use Rattle.mm_object.specs.Objects.{Segment, words_of}
-use Rattle.mm_object.proofs.FormatFits.{words_of-push}
-use Rattle.mm_object.proofs.Readings.{push_begin}
+use Rattle.mm_format.{specs.{Formats.Parsed.Got, Reading.FailsOr}, proofs.Loops.{times_more, times_stop, times_read}}
+use Rattle.mm_object.specs.{Answers.number_of, Format.{segment_row, push}, Objects.{Segment, words_of}}
+use Rattle.mm_object.proofs.{FormatFits.words_of-push, Readings.push_begin}
 use Rattle.mm_object.proofs.segment_records.read_segments.Goals as goal
 
 pub loop-init : goal.loop-init

@@ -1,8 +1,6 @@
 use Rattle.std.proofs.Common.{◌≡◌, ◌-◌, ◌≤◌, [], vec_len}
-use Rattle.mm_format.specs.Formats.{times}
-use Rattle.mm_format.proofs.Loops.{prefixed}
-use Rattle.mm_object.specs.Format.{segment_row, push}
-use Rattle.mm_object.specs.Objects.{words_of}
+use Rattle.mm_format.{specs.Formats.times, proofs.Loops.prefixed}
+use Rattle.mm_object.specs.{Format.{segment_row, push}, Objects.words_of}
 use Rattle.mm_object.proofs.segment_records.read_segments.Given as goal
 
 abbrev pub invariant-loop : goal.invariant-loop

@@ -1,5 +1,4 @@
-use Rattle.std.proofs.Common.{arith}
-use Rattle.std.proofs.lemmas.Grind.{common_steps}
+use Rattle.std.proofs.{Common.arith, lemmas.Grind.common_steps}
 use Rattle.mm_object.proofs.segments.are_segments.Goals as goal
 
 pub loop-segment-preserved : goal.loop-segment-preserved

@@ -1,5 +1,4 @@
-use Rattle.std.proofs.Common.{take}
-use Rattle.std.specs.List.{AllByRecursion}
+use Rattle.std.{proofs.Common.take, specs.List.AllByRecursion}
 use Rattle.mm_object.specs.Objects.{IsSegment}
 use Rattle.mm_object.proofs.segments.are_segments.Given as goal
 

@@ -1,7 +1,5 @@
-use Rattle.std.proofs.Common.{◌≡◌, ◌-◌, ℕ, List, [], get_or, sym, ap, ◌∙◌, arith}
-use Rattle.std.proofs.lemmas.List.{get_or_default}
-use Rattle.mm_object.specs.Names.{is_before}
-use Rattle.mm_object.proofs.Adjacent.{names_go_on, names_fall, names_end}
+use Rattle.std.proofs.{Common.{◌≡◌, ◌-◌, ℕ, List, [], get_or, sym, ap, ◌∙◌, arith}, lemmas.List.get_or_default}
+use Rattle.mm_object.{specs.Names.is_before, proofs.Adjacent.{names_go_on, names_fall, names_end}}
 use Rattle.mm_object.proofs.segments.ascend.Goals as goal
 
 pub returns-then-not-is_before : goal.returns-then-not-is_before

@@ -1,5 +1,4 @@
-use Rattle.std.proofs.Common.{◌≡◌, ℕ, List, false, take}
-use Rattle.std.specs.List.{list_any}
+use Rattle.std.{proofs.Common.{◌≡◌, ℕ, List, false, take}, specs.List.list_any}
 use Rattle.mm_object.specs.Objects.{is_among, names_of}
 use Rattle.mm_object.proofs.segments.has_any.Given as goal
 

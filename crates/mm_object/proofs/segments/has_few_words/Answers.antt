@@ -1,6 +1,5 @@
 use Rattle.std.proofs.Common.{◌+◌, length, ap, arith}
-use Rattle.mm_object.specs.Objects.{Segment}
-use Rattle.mm_object.proofs.Totals.{words_of-more, words_of-take}
+use Rattle.mm_object.{specs.Objects.Segment, proofs.Totals.{words_of-more, words_of-take}}
 use Rattle.mm_object.proofs.segments.has_few_words.Goals as goal
 
 pub returns-then-len-words : goal.returns-then-len-words

@@ -1,6 +1,5 @@
 use Rattle.std.proofs.Common.{sym, ap, ◌∙◌, bytes_eq}
-use Rattle.mm_object.specs.Objects.{Segment}
-use Rattle.mm_object.proofs.Among.{is_found, not_yet, not_found}
+use Rattle.mm_object.{specs.Objects.Segment, proofs.Among.{is_found, not_yet, not_found}}
 use Rattle.mm_object.proofs.segments.has_name.Goals as goal
 
 pub returns-then-is_same : goal.returns-then-is_same

@@ -1,5 +1,4 @@
-use Rattle.std.proofs.Common.{◌<◌, ◌^◌, take}
-use Rattle.std.specs.List.{AllByRecursion}
+use Rattle.std.{proofs.Common.{◌<◌, ◌^◌, take}, specs.List.AllByRecursion}
 use Rattle.mm_object.specs.declared.item.Item.{Item}
 use Rattle.mm_object.proofs.segments.hold_words.Given as goal
 

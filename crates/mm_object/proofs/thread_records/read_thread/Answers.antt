@@ -1,6 +1,4 @@
-use Rattle.mm_object.specs.Answers.{number_of}
-use Rattle.mm_object.specs.Format.{good_thread}
-use Rattle.mm_object.proofs.Framed.{framed_got, framed_bad}
+use Rattle.mm_object.{specs.{Answers.number_of, Format.good_thread}, proofs.Framed.{framed_got, framed_bad}}
 use Rattle.mm_object.proofs.thread_records.read_thread.Goals as goal
 
 pub returns-in-Ok-clause-read : goal.returns-in-Ok-clause-read

@@ -1,7 +1,6 @@
 use Rattle.std.proofs.Common.{ℕ, ◌+◌, refl, ◌∙◌}
 use Rattle.mm_format.proofs.Loops.{times_runs, runs_told}
-use Rattle.mm_object.specs.declared.thread_records.ThreadRecords.{ThreadRecords}
-use Rattle.mm_object.specs.Format.{thread_row}
+use Rattle.mm_object.specs.{declared.thread_records.ThreadRecords.ThreadRecords, Format.thread_row}
 use Rattle.mm_object.proofs.thread_records.read_threads.Goals as goal
 
 pub returns : goal.returns

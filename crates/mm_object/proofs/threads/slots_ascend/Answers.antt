@@ -1,6 +1,5 @@
 use Rattle.std.proofs.Common.{refl}
-use Rattle.mm_object.specs.declared.thread.Thread.{Thread}
-use Rattle.mm_object.proofs.Adjacent.{keys_go_on, keys_fall}
+use Rattle.mm_object.{specs.declared.thread.Thread.Thread, proofs.Adjacent.{keys_go_on, keys_fall}}
 use Rattle.mm_object.proofs.threads.slots_ascend.Goals as goal
 
 pub returns-then-threads-k : goal.returns-then-threads-k

@@ -1,6 +1,5 @@
 use Rattle.std.proofs.Common.{map}
-use Rattle.mm_object.specs.declared.thread.Thread.{Thread}
-use Rattle.mm_object.proofs.Adjacent.{AscendBelow}
+use Rattle.mm_object.{specs.declared.thread.Thread.Thread, proofs.Adjacent.AscendBelow}
 use Rattle.mm_object.proofs.threads.slots_ascend.Given as goal
 
 abbrev pub invariant-loop-k : goal.invariant-loop-k

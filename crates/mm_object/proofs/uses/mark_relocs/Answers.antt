@@ -1,10 +1,6 @@
-use Rattle.std.proofs.Common.{◌++◌, ◌∷◌, [], List, take, map, sym, ap, subst, ◌∙◌, append_assoc}
-use Rattle.std.proofs.lemmas.List.{take_all}
-use Rattle.mm_object.specs.declared.target.Reloc.{Reloc}
-use Rattle.mm_object.specs.declared.target.Target.{Target}
-use Rattle.mm_object.specs.Fits.{HoldsUses}
-use Rattle.mm_object.proofs.Bools.{map-more}
-use Rattle.mm_object.proofs.Used.{no_more}
+use Rattle.std.proofs.{Common.{◌++◌, ◌∷◌, [], List, take, map, sym, ap, subst, ◌∙◌, append_assoc}, lemmas.List.take_all}
+use Rattle.mm_object.specs.{declared.target.{Reloc.Reloc, Target.Target}, Fits.HoldsUses}
+use Rattle.mm_object.proofs.{Bools.map-more, Used.no_more}
 use Rattle.mm_object.proofs.uses.mark_relocs.Goals as goal
 
 pub loop-reloc-init : goal.loop-reloc-init

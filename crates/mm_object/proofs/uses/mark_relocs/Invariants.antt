@@ -1,7 +1,5 @@
 use Rattle.std.proofs.Common.{◌++◌, List, map, take}
-use Rattle.mm_object.specs.declared.target.Reloc.{Reloc}
-use Rattle.mm_object.specs.declared.target.Target.{Target}
-use Rattle.mm_object.specs.Fits.{HoldsUses}
+use Rattle.mm_object.specs.{declared.target.{Reloc.Reloc, Target.Target}, Fits.HoldsUses}
 use Rattle.mm_object.proofs.uses.mark_relocs.Given as goal
 
 abbrev pub invariant-loop-reloc : goal.invariant-loop-reloc

@@ -1,7 +1,5 @@
-use Rattle.std.proofs.Common.{◌++◌, ◌∷◌, [], subst, append_assoc}
-use Rattle.std.specs.List.{flat_map}
-use Rattle.mm_object.specs.Objects.{value_targets}
-use Rattle.mm_object.specs.Fits.{HoldsUses}
+use Rattle.std.{proofs.Common.{◌++◌, ◌∷◌, [], subst, append_assoc}, specs.List.flat_map}
+use Rattle.mm_object.specs.{Objects.value_targets, Fits.HoldsUses}
 use Rattle.mm_object.proofs.uses.mark_thread.Goals as goal
 
 pub returns : goal.returns

@@ -1,11 +1,7 @@
-use Rattle.std.proofs.Common.{◌++◌, List, take, sym, ap, subst, ◌∙◌, append_assoc}
+use Rattle.std.proofs.{Common.{◌++◌, List, take, sym, ap, subst, ◌∙◌, append_assoc}, lemmas.List.take_all}
 use Rattle.std.specs.List.{flat_map}
-use Rattle.std.proofs.lemmas.List.{take_all}
-use Rattle.mm_object.specs.declared.thread.Value.{Value}
-use Rattle.mm_object.specs.Objects.{value_targets}
-use Rattle.mm_object.specs.Fits.{HoldsUses}
-use Rattle.mm_object.proofs.Bools.{flat_map-more}
-use Rattle.mm_object.proofs.Used.{no_more}
+use Rattle.mm_object.specs.{declared.thread.Value.Value, Objects.value_targets, Fits.HoldsUses}
+use Rattle.mm_object.proofs.{Bools.flat_map-more, Used.no_more}
 use Rattle.mm_object.proofs.uses.mark_values.Goals as goal
 
 pub loop-value-init : goal.loop-value-init

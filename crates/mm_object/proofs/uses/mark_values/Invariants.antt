@@ -1,8 +1,5 @@
-use Rattle.std.proofs.Common.{◌++◌, List, take}
-use Rattle.std.specs.List.{flat_map}
-use Rattle.mm_object.specs.declared.target.Target.{Target}
-use Rattle.mm_object.specs.Objects.{value_targets}
-use Rattle.mm_object.specs.Fits.{HoldsUses}
+use Rattle.std.{proofs.Common.{◌++◌, List, take}, specs.List.flat_map}
+use Rattle.mm_object.specs.{declared.target.Target.Target, Objects.value_targets, Fits.HoldsUses}
 use Rattle.mm_object.proofs.uses.mark_values.Given as goal
 
 abbrev pub invariant-loop-value : goal.invariant-loop-value

@@ -1,12 +1,6 @@
-use Rattle.std.proofs.Common.{◌++◌, ◌∷◌, [], List, take, map, sym, ap, subst, ◌∙◌, append_assoc}
-use Rattle.std.specs.List.{flat_map}
-use Rattle.mm_object.specs.declared.target.Reloc.{Reloc}
-use Rattle.mm_object.specs.declared.target.Target.{Target}
-use Rattle.mm_object.specs.declared.thread.Thread.{Thread}
-use Rattle.mm_object.specs.Objects.{value_targets}
-use Rattle.mm_object.specs.Fits.{HoldsUses}
-use Rattle.mm_object.proofs.Bools.{flat_map-more}
-use Rattle.mm_object.proofs.Used.{none_yet, no_more}
+use Rattle.std.{proofs.Common.{◌++◌, ◌∷◌, [], List, take, map, sym, ap, subst, ◌∙◌, append_assoc}, specs.List.flat_map}
+use Rattle.mm_object.specs.{declared.{target.{Reloc.Reloc, Target.Target}, thread.Thread.Thread}, Objects.value_targets}
+use Rattle.mm_object.{specs.Fits.HoldsUses, proofs.{Bools.flat_map-more, Used.{none_yet, no_more}}}
 use Rattle.mm_object.proofs.uses.uses.Goals as goal
 
 targets : Thread → List Target

@@ -1,9 +1,5 @@
-use Rattle.std.proofs.Common.{◌++◌, ◌∷◌, take, map}
-use Rattle.std.specs.List.{flat_map}
-use Rattle.mm_object.specs.declared.target.Reloc.{Reloc}
-use Rattle.mm_object.specs.declared.thread.Thread.{Thread}
-use Rattle.mm_object.specs.Objects.{value_targets}
-use Rattle.mm_object.specs.Fits.{HoldsUses}
+use Rattle.std.{proofs.Common.{◌++◌, ◌∷◌, take, map}, specs.List.flat_map}
+use Rattle.mm_object.specs.{declared.{target.Reloc.Reloc, thread.Thread.Thread}, Objects.value_targets, Fits.HoldsUses}
 use Rattle.mm_object.proofs.uses.uses.Given as goal
 
 abbrev pub invariant-loop-thread : goal.invariant-loop-thread

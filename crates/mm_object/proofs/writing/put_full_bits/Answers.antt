@@ -1,8 +1,6 @@
 use Rattle.std.proofs.Common.{ℕ, ◌*◌, ◌-◌, ◌∷◌, ◌++◌, [], Bool, List, map, sym, ap, ◌∙◌, arith}
-use Rattle.mm_object.specs.declared.item.Item.{Item}
-use Rattle.mm_model.specs.Flags.{number_of_flags}
-use Rattle.mm_model.specs.Spelling.{bitmap}
-use Rattle.mm_object.proofs.Written.{both_written, bitmap_more, flags_of_part}
+use Rattle.mm_object.{specs.declared.item.Item.Item, proofs.Written.{both_written, bitmap_more, flags_of_part}}
+use Rattle.mm_model.specs.{Flags.number_of_flags, Spelling.bitmap}
 use Rattle.mm_object.proofs.writing.put_full_bits.Goals as goal
 
 pub loop-k-preserved : goal.loop-k-preserved

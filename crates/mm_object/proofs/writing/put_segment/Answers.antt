@@ -2,8 +2,7 @@ use Rattle.std.proofs.Common.{◌≡◌, ◌++◌, ◌∷◌, [], ◌+◌, ◌/�
 use Rattle.std.specs.Int.{w32, to_be_bytes}
 use Rattle.mm_model.specs.Spelling.{bitmap}
 use Rattle.mm_format.specs.Formats.{each}
-use Rattle.mm_object.specs.declared.item.Item.{Item}
-use Rattle.mm_object.specs.Objects.{Segment}
+use Rattle.mm_object.specs.{declared.item.Item.Item, Objects.Segment}
 use Rattle.mm_object.specs.Format.{segment_row, log_row, count_row, bits_row, item_row, name_record}
 use Rattle.mm_object.proofs.Written.{both_written}
 use Rattle.mm_object.proofs.writing.put_segment.Goals as goal

@@ -1,8 +1,7 @@
 use Rattle.std.proofs.{Common.{◌++◌, List, ℕ, sym, ap, ◌∙◌, arith}, lemmas.{Grind.common_steps, List.take_all}}
 use Rattle.std.specs.List.{flat_map}
 use Rattle.mm_format.proofs.Lists.{each_own}
-use Rattle.mm_object.specs.declared.thread.Value.{Value}
-use Rattle.mm_object.specs.Format.{value_row, is_tagged}
+use Rattle.mm_object.specs.{declared.thread.Value.Value, Format.{value_row, is_tagged}}
 use Rattle.mm_object.proofs.writing.put_values.Goals as goal
 
 pub loop-value-preserved : goal.loop-value-preserved

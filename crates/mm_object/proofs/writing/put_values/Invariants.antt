@@ -1,5 +1,4 @@
-use Rattle.std.proofs.Common.{◌≡◌, ◌++◌, take}
-use Rattle.std.specs.List.{flat_map}
+use Rattle.std.{proofs.Common.{◌≡◌, ◌++◌, take}, specs.List.flat_map}
 use Rattle.mm_object.specs.Format.{value_row, is_tagged}
 use Rattle.mm_object.proofs.writing.put_values.Given as goal
 

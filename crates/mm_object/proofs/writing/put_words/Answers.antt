@@ -1,8 +1,7 @@
-use Rattle.std.proofs.{Common.{◌++◌, List, ℕ, sym, ap, ◌∙◌}, lemmas.{List.take_all}}
+use Rattle.std.proofs.{Common.{◌++◌, List, ℕ, sym, ap, ◌∙◌}, lemmas.List.take_all}
 use Rattle.std.specs.{List.flat_map, Int.{w64, to_be_bytes}}
 use Rattle.mm_format.proofs.Lists.{each_own}
-use Rattle.mm_object.specs.declared.item.Item.{Item}
-use Rattle.mm_object.specs.Format.{item_row}
+use Rattle.mm_object.specs.{declared.item.Item.Item, Format.item_row}
 use Rattle.mm_object.proofs.writing.put_words.Goals as goal
 
 pub returns : goal.returns

@@ -1,6 +1,4 @@
-use Rattle.std.proofs.Common.{◌≡◌, ◌++◌, take}
-use Rattle.std.specs.List.{flat_map}
-use Rattle.std.specs.Int.{w64, to_be_bytes}
+use Rattle.std.{proofs.Common.{◌≡◌, ◌++◌, take}, specs.{List.flat_map, Int.{w64, to_be_bytes}}}
 use Rattle.mm_object.specs.declared.item.Item.{Item}
 use Rattle.mm_object.proofs.writing.put_words.Given as goal
 

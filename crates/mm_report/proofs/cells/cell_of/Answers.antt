@@ -2,10 +2,8 @@ use Rattle.std.proofs.Common.{◌≡◌, ◌∙◌, ℕ, List, Option, None, sym
 use Rattle.std.specs.Option.{MatchOption}
 use Rattle.mm_word.specs.declared.word.Cell.{Cell}
 use Rattle.mm_model.specs.Memory.{page_at, zero_cell}
-use Rattle.mm_mem.specs.Places.{IsAt}
-use Rattle.mm_report.specs.Changes.{contents, cells_of}
-use Rattle.mm_mem.proofs.PagePlaces.{any_default}
-use Rattle.mm_report.proofs.CellPlaces.{zero_there, cells_here, cells_nowhere}
+use Rattle.mm_mem.{specs.Places.IsAt, proofs.PagePlaces.any_default}
+use Rattle.mm_report.{specs.Changes.{contents, cells_of}, proofs.CellPlaces.{zero_there, cells_here, cells_nowhere}}
 use Rattle.mm_report.proofs.cells.cell_of.Goals as goal
 
 pub returns-in-Some : goal.returns-in-Some

@@ -1,11 +1,8 @@
 use Rattle.std.proofs.Common.{◌≡◌, ℕ, List, Option, Result, Ok, Err, None, sym, rules, subst}
-use Rattle.std.specs.Option.{MatchOption}
-use Rattle.std.specs.Result.{result_ok, IfOk, IfErr}
-use Rattle.std.proofs.lemmas.List.Sorted.{answers_always}
+use Rattle.std.{proofs.lemmas.List.Sorted.answers_always, specs.{Option.MatchOption, Result.{result_ok, IfOk, IfErr}}}
 use Rattle.mm_word.specs.declared.word.Cell.{Cell}
 use Rattle.mm_model.specs.Memory.{page_at}
-use Rattle.mm_mem.specs.Places.{IsAt, IsGap}
-use Rattle.mm_mem.proofs.Places.{held, searched, absent_in_gap}
+use Rattle.mm_mem.{specs.Places.{IsAt, IsGap}, proofs.Places.{held, searched, absent_in_gap}}
 use Rattle.mm_report.specs.Changes.{contents}
 use Rattle.mm_report.proofs.cells.find_page.Goals as goal
 

@@ -1,12 +1,10 @@
-use Rattle.std.proofs.Common.{List, ℕ, ap, ◌∙◌, arith}
-use Rattle.std.proofs.lemmas.List.{take_all}
-use Rattle.std.specs.List.{flat_map}
+use Rattle.std.{proofs.{Common.{List, ℕ, ap, ◌∙◌, arith}, lemmas.List.take_all}, specs.List.flat_map}
 use Rattle.mm_word.specs.declared.word.Cell.{Cell}
 use Rattle.mm_model.specs.Memory.{Memory, zero_page}
 use Rattle.mm_text.proofs.Appending.{appends_more, appends_same}
 use Rattle.mm_report.specs.Changes.{contents, lines_of}
-use Rattle.mm_mem.proofs.PagePlaces.{place_number, place_mapped}
 use Rattle.mm_report.proofs.CellPlaces.{page_changes, changes_here, lines_of_pages}
+use Rattle.mm_mem.proofs.PagePlaces.{place_number, place_mapped}
 use Rattle.mm_report.proofs.cells.put_cells.Goals as goal
 
 pub put_page_cells-requires-clause-number : goal.put_page_cells-requires-clause-number

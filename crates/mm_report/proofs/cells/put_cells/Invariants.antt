@@ -1,8 +1,6 @@
-use Rattle.std.proofs.Common.{take}
-use Rattle.std.specs.List.{flat_map}
+use Rattle.std.{proofs.Common.take, specs.List.flat_map}
 use Rattle.mm_text.specs.Appends.{Appends}
-use Rattle.mm_report.specs.Changes.{contents, lines_of}
-use Rattle.mm_report.proofs.CellPlaces.{page_changes}
+use Rattle.mm_report.{specs.Changes.{contents, lines_of}, proofs.CellPlaces.page_changes}
 use Rattle.mm_report.proofs.cells.put_cells.Given as goal
 
 abbrev pub invariant-loop-i : goal.invariant-loop-i

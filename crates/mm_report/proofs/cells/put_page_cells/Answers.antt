@@ -1,13 +1,11 @@
 use Rattle.std.proofs.Common.{◌≡◌, ◌∙◌, ◌<◌, ◌*◌, ◌+◌, ℕ, List, get_or, sym, ap, arith}
-use Rattle.std.proofs.lemmas.List.{take_all}
-use Rattle.std.proofs.lemmas.List.FromFn.{get_or-range_with_len}
-use Rattle.std.specs.List.{flat_map, range_with_len}
+use Rattle.std.{proofs.lemmas.List.{take_all, FromFn.get_or-range_with_len}, specs.List.{flat_map, range_with_len}}
 use Rattle.mm_word.specs.declared.word.Cell.{Cell}
 use Rattle.mm_model.specs.Memory.{Memory, zero_cell}
 use Rattle.mm_text.proofs.Appending.{appends_item, appends_same}
 use Rattle.mm_report.specs.Changes.{change_line, contents, cells_of, line_at}
-use Rattle.mm_mem.proofs.PagePlaces.{page_is}
 use Rattle.mm_report.proofs.CellPlaces.{lines_by_place, was_whole}
+use Rattle.mm_mem.proofs.PagePlaces.{page_is}
 use Rattle.mm_report.proofs.cells.put_page_cells.Goals as goal
 
 pub loop-index-preserved : goal.loop-index-preserved

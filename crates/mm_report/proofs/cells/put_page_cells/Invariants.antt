@@ -1,5 +1,4 @@
-use Rattle.std.proofs.Common.{◌*◌, take}
-use Rattle.std.specs.List.{flat_map, range_with_len}
+use Rattle.std.{proofs.Common.{◌*◌, take}, specs.List.{flat_map, range_with_len}}
 use Rattle.mm_text.specs.Appends.{Appends}
 use Rattle.mm_report.specs.Changes.{contents, cells_of, line_at}
 use Rattle.mm_report.proofs.cells.put_page_cells.Given as goal

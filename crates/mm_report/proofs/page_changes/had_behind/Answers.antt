@@ -1,6 +1,5 @@
 use Rattle.std.proofs.Common.{◌≡◌, ◌∙◌, ◌<◌, Some, sym, arith, length, drop}
-use Rattle.mm_report.specs.Pages.{numbers, first}
-use Rattle.mm_report.proofs.Unions.{rest_behind, inside, length_numbers, equal_says}
+use Rattle.mm_report.{specs.Pages.{numbers, first}, proofs.Unions.{rest_behind, inside, length_numbers, equal_says}}
 use Rattle.mm_report.proofs.page_changes.had_behind.Goals as goal
 
 here : (c : goal.Then-eq) → first (drop c.args.j (numbers c.args.pages.now)) ≡ Some c.args.number

@@ -1,7 +1,5 @@
-use Rattle.std.proofs.Common.{◌∙◌, ◌<◌, List, ℕ, ◌+◌, ◌^◌, sym, subst, refl, arith, length}
-use Rattle.std.specs.Option.{IsSome}
-use Rattle.mm_report.specs.Pages.{numbers}
-use Rattle.mm_report.proofs.Unions.{rest_behind, inside, length_numbers, equal_says}
+use Rattle.std.{proofs.Common.{◌∙◌, ◌<◌, List, ℕ, ◌+◌, ◌^◌, sym, subst, refl, arith, length}, specs.Option.IsSome}
+use Rattle.mm_report.{specs.Pages.numbers, proofs.Unions.{rest_behind, inside, length_numbers, equal_says}}
 use Rattle.mm_report.proofs.page_changes.mapped_behind.Goals as goal
 
 pub overflow_add-result : goal.overflow_add-result

@@ -1,10 +1,9 @@
-use Rattle.std.proofs.Common.{◌≡◌, ◌∙◌, ◌++◌, ◌+◌, ◌<◌, Bool, List, [], ℕ, Option, Some, None, rules, sym, ap, arith, length, drop, append_assoc, append-nil}
+use Rattle.std.proofs.Common.{◌≡◌, ◌∙◌, ◌++◌, ◌+◌, ◌<◌, Bool, List, [], ℕ, Option, Some, None, rules, sym, ap, arith}
+use Rattle.std.proofs.Common.{length, drop, append_assoc, append-nil}
 use Rattle.mm_word.specs.declared.word.Cell.{Cell}
-use Rattle.mm_model.specs.Report.{page_change}
-use Rattle.mm_model.specs.Memory.{Memory, is_mapped}
+use Rattle.mm_model.specs.{Report.page_change, Memory.{Memory, is_mapped}}
 use Rattle.mm_text.proofs.Appending.{appends_then, appends_same}
-use Rattle.mm_report.specs.Changes.{contents}
-use Rattle.mm_report.specs.Pages.{numbers, first, lesser, behind}
+use Rattle.mm_report.specs.{Changes.contents, Pages.{numbers, first, lesser, behind}}
 use Rattle.mm_report.proofs.Unions.{lines_of, change_at, all_lines, no_lines, one_line, shorter, small_number}
 use Rattle.mm_report.proofs.page_changes.put_pages.Goals as goal
 

@@ -1,7 +1,5 @@
 use Rattle.std.proofs.Common.{◌+◌, drop, length}
-use Rattle.mm_report.specs.Changes.{contents}
-use Rattle.mm_report.specs.Pages.{numbers}
-use Rattle.mm_report.proofs.Unions.{Written}
+use Rattle.mm_report.{specs.{Changes.contents, Pages.numbers}, proofs.Unions.Written}
 use Rattle.mm_report.proofs.page_changes.put_pages.Given as goal
 
 abbrev pub invariant-loop-number : goal.invariant-loop-number

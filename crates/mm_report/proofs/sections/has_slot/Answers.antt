@@ -1,10 +1,7 @@
 use Rattle.std.proofs.Common.{◌≡◌, ℕ, ◌<◌, ◌==◌, ◌∙◌, false, true, ap, sym, length, arith}
+use Rattle.std.proofs.lemmas.{List.take_all, Bool.Decides.nat_tests, Map.Keys.any_passes_from_place}
 use Rattle.std.specs.List.{list_any}
-use Rattle.std.proofs.lemmas.List.{take_all}
-use Rattle.std.proofs.lemmas.Bool.Decides.{nat_tests}
-use Rattle.std.proofs.lemmas.Map.Keys.{any_passes_from_place}
-use Rattle.mm_model.specs.Slot.{Slot}
-use Rattle.mm_model.specs.Fits.{slots_of}
+use Rattle.mm_model.specs.{Slot.Slot, Fits.slots_of}
 use Rattle.mm_report.proofs.Members.{none_more, any_slot}
 use Rattle.mm_report.proofs.sections.has_slot.Goals as goal
 

@@ -1,5 +1,4 @@
-use Rattle.std.proofs.Common.{◌≡◌, ◌==◌, false, take}
-use Rattle.std.specs.List.{list_any}
+use Rattle.std.{proofs.Common.{◌≡◌, ◌==◌, false, take}, specs.List.list_any}
 use Rattle.mm_model.specs.Fits.{slots_of}
 use Rattle.mm_report.proofs.sections.has_slot.Given as goal
 

@@ -1,6 +1,5 @@
 use Rattle.std.proofs.Common.{◌++◌, List, ℕ, ap, length}
-use Rattle.mm_model.specs.Lines.{output_lines}
-use Rattle.mm_model.specs.Report.{group_line, section}
+use Rattle.mm_model.specs.{Lines.output_lines, Report.{group_line, section}}
 use Rattle.mm_text.proofs.Appending.{appends_then, appends_same}
 use Rattle.mm_report.proofs.sections.put_section.Goals as goal
 

@@ -1,11 +1,8 @@
-use Rattle.std.proofs.Common.{◌≡◌, ◌<◌, ◌∙◌, get_or, ap, arith}
-use Rattle.std.proofs.lemmas.List.{take_all}
-use Rattle.std.proofs.lemmas.List.FromFn.{get_or-range_with_len}
+use Rattle.std.proofs.{Common.{◌≡◌, ◌<◌, ◌∙◌, get_or, ap, arith}, lemmas.List.{take_all, FromFn.get_or-range_with_len}}
 use Rattle.std.specs.List.{flat_map, list_any, range_with_len}
 use Rattle.mm_model.specs.Report.{is_of, section}
 use Rattle.mm_text.proofs.Appending.{appends_item, appends_same}
-use Rattle.mm_report.specs.Groups.{group_text}
-use Rattle.mm_report.proofs.Members.{passed_texts}
+use Rattle.mm_report.{specs.Groups.group_text, proofs.Members.passed_texts}
 use Rattle.mm_report.proofs.sections.put_sections.Goals as goal
 
 pub loop-group-preserved : goal.loop-group-preserved

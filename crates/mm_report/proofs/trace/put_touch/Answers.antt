@@ -1,7 +1,6 @@
 use Rattle.std.proofs.Common.{◌∙◌, ◌++◌, sym, ap, ℕ}
 use Rattle.mm_word.specs.declared.perm.Kind.{Kind}
-use Rattle.mm_model.specs.Digits.{hex}
-use Rattle.mm_model.specs.Trace.{kind_text, touch_text}
+use Rattle.mm_model.specs.{Digits.hex, Trace.{kind_text, touch_text}}
 use Rattle.mm_text.proofs.Appending.{appends_then, appends_same}
 use Rattle.mm_report.proofs.trace.put_touch.Goals as goal
 

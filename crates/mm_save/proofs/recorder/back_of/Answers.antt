@@ -3,10 +3,10 @@ use Rattle.std.specs.Str.{bytes_eq}
 use Rattle.mm_debug.proofs.Asked.{Taken, none, some}
 use Rattle.mm_save.specs.Recorder.{count_of}
 use Rattle.mm_save.proofs.Backwards.{asks_back}
-use Rattle.mm_save.proofs.recorder.back_of.Goals as goal
 use Rattle.mm_save.proofs.recorder.back_of.Goals.{After-take_token-3, then-is_empty-via-then-is_empty}
 use Rattle.mm_save.proofs.recorder.back_of.Goals.{then-is_empty-via-else-is_empty+then-is_empty-2}
 use Rattle.mm_save.proofs.recorder.back_of.Goals.{then-is_empty-via-else-is_empty+else-is_empty-2+then-not-is_empty}
+use Rattle.mm_save.proofs.recorder.back_of.Goals as goal
 
 word : (c : After-take_token-3) → Taken c.args.line.now c.take_token.result.0.now c.take_token.result.1.now
 word c = record { tokens_are = c.take_token.ensures.token; end = c.take_token.ensures.end }

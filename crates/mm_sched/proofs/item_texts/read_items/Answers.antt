@@ -1,11 +1,9 @@
 use Rattle.std.proofs.Common.{◌≡◌, ◌∙◌, ℕ, Bool, Err, inl, slice_range, subst, ap, arith}
-use Rattle.mm_model.specs.Words.{TextFaultsAt, AddsWord}
-use Rattle.mm_model.proofs.WordTexts.{means_unique, never_both, fault_unique}
+use Rattle.mm_model.{specs.Words.{TextFaultsAt, AddsWord}, proofs.WordTexts.{means_unique, never_both, fault_unique}}
 use Rattle.mm_sched.specs.declared.text.SchedError.TheVariants.{Fault}
 use Rattle.mm_sched.proofs.Reading.{read_none, read_more, read_fault, read_all}
-use Rattle.mm_sched.proofs.item_texts.read_items.Given.{Over}
+use Rattle.mm_sched.proofs.item_texts.read_items.{Given.Over, Goals.After-drop-items-then-not-added}
 use Rattle.mm_sched.proofs.item_texts.read_items.Goals as goal
-use Rattle.mm_sched.proofs.item_texts.read_items.Goals.{After-drop-items-then-not-added}
 
 pub loop-at-init : goal.loop-at-init
 loop-at-init g c = record {

@@ -1,6 +1,5 @@
 use Rattle.std.proofs.Common.{◌≤◌, length, ◌-◌, ◌<◌, ◌≡◌, true, slice_index_or}
-use Rattle.mm_sched.specs.Places.{is_word_byte}
-use Rattle.mm_sched.proofs.Reading.{IsRead}
+use Rattle.mm_sched.{specs.Places.is_word_byte, proofs.Reading.IsRead}
 use Rattle.mm_sched.proofs.item_texts.read_items.Given as goal
 
 abbrev pub invariant-loop-at : goal.invariant-loop-at

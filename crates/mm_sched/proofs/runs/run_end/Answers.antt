@@ -1,7 +1,8 @@
 use Rattle.std.proofs.Common.{◌≡◌, ◌∙◌, inl, inr, sym, refl, arith, slice_index_or, length}
 use Rattle.mm_sched.proofs.Words.{run_between, all_none, all_more, is_word, no_word}
+use Rattle.mm_sched.proofs.runs.run_end.Goals.{then-is_blank-via-then-is_blank}
+use Rattle.mm_sched.proofs.runs.run_end.Goals.{then-is_blank-via-else-is_blank+then-b-eq35}
 use Rattle.mm_sched.proofs.runs.run_end.Goals as goal
-use Rattle.mm_sched.proofs.runs.run_end.Goals.{then-is_blank-via-then-is_blank, then-is_blank-via-else-is_blank+then-b-eq35}
 
 pub loop-at-init : goal.loop-at-init
 loop-at-init c = all_none c.args.bytes.now c.args.from c.requires.begins

@@ -1,5 +1,4 @@
-use Rattle.std.proofs.Common.{◌≡◌, ◌≤◌, ◌==◌, length, take}
-use Rattle.std.specs.List.{filter, list_any}
+use Rattle.std.{proofs.Common.{◌≡◌, ◌≤◌, ◌==◌, length, take}, specs.List.{filter, list_any}}
 use Rattle.mm_sched.proofs.schedule.only.Given as goal
 
 abbrev pub invariant-loop-item : goal.invariant-loop-item

@@ -1,5 +1,4 @@
-use Rattle.std.proofs.Common.{◌∙◌, inl, inr, Ok, Err, ap}
-use Rattle.std.proofs.lemmas.Result.{err_from_is_err_and}
+use Rattle.std.proofs.{Common.{◌∙◌, inl, inr, Ok, Err, ap}, lemmas.Result.err_from_is_err_and}
 use Rattle.mm_model.proofs.ScheduleWords.{schedule_grammar}
 use Rattle.mm_sched.proofs.text.parse.Goals as goal
 

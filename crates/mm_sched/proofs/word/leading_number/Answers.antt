@@ -1,14 +1,13 @@
-use Rattle.std.proofs.Common.{◌≡◌, ◌+◌, ◌-◌, ◌*◌, ◌<◌, ◌≤◌, inl, inr, ℕ, take, drop, length, get_or, arith, subst, sym, ◌∙◌}
-use Rattle.std.specs.Char.{IsAsciiDigit}
-use Rattle.std.specs.Str.Parse.{digits_value}
-use Rattle.std.proofs.lemmas.List.{take_rest}
-use Rattle.std.proofs.lemmas.Bool.Decides.{nat_tests}
-use Rattle.mm_sched.proofs.Numbers.{EndsAt, at_least, first_digit, no_leading_zero, digits_more, value_more, begins_with, not_digit}
-use Rattle.mm_sched.proofs.word.leading_number.Goals as goal
+use Rattle.std.proofs.Common.{◌≡◌, ◌+◌, ◌-◌, ◌*◌, ◌<◌, ◌≤◌, inl, inr, ℕ, take, drop, length, get_or, arith, subst, sym}
+use Rattle.std.proofs.{Common.◌∙◌, lemmas.{List.take_rest, Bool.Decides.nat_tests}}
+use Rattle.std.specs.{Char.IsAsciiDigit, Str.Parse.digits_value}
+use Rattle.mm_sched.proofs.Numbers.{EndsAt, at_least, first_digit, no_leading_zero, digits_more, value_more}
+use Rattle.mm_sched.proofs.Numbers.{begins_with, not_digit}
 use Rattle.mm_sched.proofs.word.leading_number.Goals.{then-loop-end-test+else-is_ascii_digit, else-loop-end-test}
 use Rattle.mm_sched.proofs.word.leading_number.Goals.{then-end-eq0-via-then-end-eq0}
 use Rattle.mm_sched.proofs.word.leading_number.Goals.{then-end-eq0-via-else-end-eq0+then-text-eq48, then-end-gt1}
 use Rattle.mm_sched.proofs.word.leading_number.Goals.{else-end-gt1}
+use Rattle.mm_sched.proofs.word.leading_number.Goals as goal
 
 pub returns-in_err-number-clause-none : goal.returns-in_err-number-clause-none
 returns-in_err-number-clause-none c _ n rest le begins =

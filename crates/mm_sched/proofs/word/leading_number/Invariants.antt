@@ -1,5 +1,4 @@
-use Rattle.std.proofs.Common.{◌≡◌, ◌≤◌, ◌-◌, length, take}
-use Rattle.std.specs.Str.Parse.{digits_value}
+use Rattle.std.{proofs.Common.{◌≡◌, ◌≤◌, ◌-◌, length, take}, specs.Str.Parse.digits_value}
 use Rattle.mm_sched.proofs.Numbers.{DigitsTo}
 use Rattle.mm_sched.proofs.word.leading_number.Given as goal
 

@@ -1,5 +1,4 @@
-use Rattle.std.proofs.Common.{◌≡◌, [], length, refl, ap, arith}
-use Rattle.std.proofs.lemmas.Bool.Decides.{nat_tests}
+use Rattle.std.proofs.{Common.{◌≡◌, [], length, refl, ap, arith}, lemmas.Bool.Decides.nat_tests}
 use Rattle.mm_sched.proofs.Numbers.{begins_whole, begins_unique, whole_begins}
 use Rattle.mm_sched.proofs.word.number.Goals as goal
 

@@ -1,8 +1,9 @@
 use Rattle.std.proofs.Common.{◌≤◌, ◌⊎◌, inl, inr, arith}
 use Rattle.mm_seg.specs.Segments.{segment_at, end_of}
 use Rattle.mm_seg.proofs.Commons.{least_here, pass_left, pass_right, none_left, some_in}
+use Rattle.mm_seg.proofs.meet.least.Goals.{then-x-y, else-x-y, else-x-y_end-via-then-x-y_end+else-y-x_end}
+use Rattle.mm_seg.proofs.meet.least.Goals.{else-x-y_end-via-else-x-y_end}
 use Rattle.mm_seg.proofs.meet.least.Goals as goal
-use Rattle.mm_seg.proofs.meet.least.Goals.{then-x-y, else-x-y, else-x-y_end-via-then-x-y_end+else-y-x_end, else-x-y_end-via-else-x-y_end}
 
 pub returns-then-y-x_end : goal.returns-then-y-x_end
 returns-then-y-x_end c =

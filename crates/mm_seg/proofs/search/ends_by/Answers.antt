@@ -1,6 +1,5 @@
 use Rattle.std.proofs.Common.{◌+◌, ◌-◌, ◌/◌, ◌<◌, ◌≤◌, length, arith}
-use Rattle.mm_seg.specs.Segments.{end_of, segment_at}
-use Rattle.mm_seg.proofs.Searches.{ends_low, ends_high}
+use Rattle.mm_seg.{specs.Segments.{end_of, segment_at}, proofs.Searches.{ends_low, ends_high}}
 use Rattle.mm_seg.proofs.search.ends_by.Goals as goal
 
 pub loop-lo-preserved-then-end-a : goal.loop-lo-preserved-then-end-a

@@ -1,7 +1,6 @@
 use Rattle.std.proofs.Common.{◌∙◌, sym}
 use Rattle.mm_text.proofs.Appending.{appends_then, appends_same}
-use Rattle.mm_sweep.specs.HolderTexts.{holder_text}
-use Rattle.mm_sweep.proofs.HolderLines.{whole_line}
+use Rattle.mm_sweep.{specs.HolderTexts.holder_text, proofs.HolderLines.whole_line}
 use Rattle.mm_sweep.proofs.holding.put_holder.Goals as goal
 
 pub returns-then-meets_word : goal.returns-then-meets_word

@@ -1,5 +1,4 @@
-use Rattle.std.proofs.Common.{take}
-use Rattle.std.specs.List.{flat_map}
+use Rattle.std.{proofs.Common.take, specs.List.flat_map}
 use Rattle.mm_text.specs.Appends.{Appends}
 use Rattle.mm_sweep.specs.Holders.{page_holders}
 use Rattle.mm_sweep.proofs.holding.put_pages.Given as goal

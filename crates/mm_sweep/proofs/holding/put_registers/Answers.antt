@@ -2,8 +2,7 @@ use Rattle.std.proofs.Common.{◌≡◌, ◌∙◌, ℕ, ◌<◌, List, length, 
 use Rattle.mm_word.specs.declared.word.Word.{Word}
 use Rattle.mm_model.specs.Slot.{Slot}
 use Rattle.mm_text.proofs.Appending.{appends_then, appends_same}
-use Rattle.mm_sweep.specs.Holders.{holder_line, register_place}
-use Rattle.mm_sweep.proofs.HolderLines.{registers_more}
+use Rattle.mm_sweep.{specs.Holders.{holder_line, register_place}, proofs.HolderLines.registers_more}
 use Rattle.mm_sweep.proofs.holding.put_registers.Goals as goal
 
 pub loop-number-preserved : goal.loop-number-preserved

@@ -1,10 +1,5 @@
-use Rattle.mm_model.specs.Image.{start}
-use Rattle.mm_model.specs.Reach.Entries.{These}
-use Rattle.mm_model.specs.Run.{turn_of, run}
-use Rattle.mm_model.specs.Trace.{touches, group_in, entries}
-use Rattle.mm_sweep.specs.Swept.{swept}
-use Rattle.mm_sweep.proofs.SweptGrants.{touches_free}
-use Rattle.mm_sweep.proofs.SweptImages.{swept_is_image}
+use Rattle.mm_model.specs.{Image.start, Reach.Entries.These, Run.{turn_of, run}, Trace.{touches, group_in, entries}}
+use Rattle.mm_sweep.{specs.Swept.swept, proofs.{SweptGrants.touches_free, SweptImages.swept_is_image}}
 use Rattle.mm_sweep.proofs.laws.swept_silent.Goals as goal
 
 pub returns : goal.returns

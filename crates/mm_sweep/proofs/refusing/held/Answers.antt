@@ -1,7 +1,6 @@
 use Rattle.std.proofs.Common.{◌∙◌, sym, ap, subst}
 use Rattle.mm_model.specs.Slot.{Slot}
-use Rattle.mm_sweep.specs.Refusals.{FirstHeld}
-use Rattle.mm_sweep.proofs.FirstSlots.{first_held}
+use Rattle.mm_sweep.{specs.Refusals.FirstHeld, proofs.FirstSlots.first_held}
 use Rattle.mm_sweep.proofs.refusing.held.Goals as goal
 
 pub returns-then-is_held : goal.returns-then-is_held

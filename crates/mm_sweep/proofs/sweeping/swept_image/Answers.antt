@@ -1,8 +1,7 @@
 use Rattle.std.proofs.Common.{◌∙◌, map, sym, ap, subst}
 use Rattle.mm_audit.proofs.OwnPages.{same_image}
 use Rattle.mm_model.specs.Spelling.{IsImage}
-use Rattle.mm_sweep.specs.Swept.{swept_slot, swept_page}
-use Rattle.mm_sweep.proofs.SweptImages.{swept_is_image}
+use Rattle.mm_sweep.{specs.Swept.{swept_slot, swept_page}, proofs.SweptImages.swept_is_image}
 use Rattle.mm_sweep.proofs.sweeping.swept_image.Goals as goal
 
 pub of-requires : goal.of-requires

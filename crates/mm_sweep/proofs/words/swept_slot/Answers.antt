@@ -1,8 +1,7 @@
 use Rattle.std.proofs.Common.{◌≡◌, ◌∙◌, ◌<◌, List, length, get_or, slice_set, sym, ap, subst, arith}
 use Rattle.mm_word.specs.declared.word.Word.{Word}
 use Rattle.mm_model.specs.Slot.{Slot}
-use Rattle.mm_sweep.specs.Swept.{swept_word}
-use Rattle.mm_sweep.proofs.SweptWords.{swept_upto, one_more, all_swept}
+use Rattle.mm_sweep.{specs.Swept.swept_word, proofs.SweptWords.{swept_upto, one_more, all_swept}}
 use Rattle.mm_sweep.proofs.words.swept_slot.Goals as goal
 
 pub loop-number-preserved : goal.loop-number-preserved

@@ -1,6 +1,5 @@
 use Rattle.std.proofs.Common.{ap, ◌∙◌}
-use Rattle.mm_model.specs.Image.{start}
-use Rattle.mm_model.specs.State.{State}
+use Rattle.mm_model.specs.{Image.start, State.State}
 use Rattle.mm_debug.specs.Session.{total_of}
 use Rattle.mm_tests.proofs.recorders.recorder.Goals as goal
 

@@ -1,6 +1,5 @@
 use Rattle.std.proofs.Common.{codes, sym, append_assoc, ◌++◌}
-use Rattle.mm_model.specs.Digits.{hex}
-use Rattle.mm_model.specs.Lines.{word_text, full_text, newline}
+use Rattle.mm_model.specs.{Digits.hex, Lines.{word_text, full_text, newline}}
 use Rattle.mm_text.proofs.Appending.{appends_then, appends_same}
 use Rattle.mm_text.proofs.cells.put_cell.Goals as goal
 

@@ -1,7 +1,6 @@
 use Rattle.std.proofs.Common.{◌++◌, ◌∙◌, ap, append_assoc, length, ◌<◌, rules}
 use Rattle.mm_model.specs.Lines.{output_lines, output_row}
-use Rattle.mm_text.proofs.Appending.{appends_then}
-use Rattle.mm_text.proofs.OutputRows.{output_lines-step}
+use Rattle.mm_text.proofs.{Appending.appends_then, OutputRows.output_lines-step}
 use Rattle.mm_text.proofs.output.put_output.Goals as goal
 
 pub loop-rest-preserved : goal.loop-rest-preserved

@@ -1,5 +1,4 @@
-use Rattle.mm_text.proofs.Appending.{appends_same}
-use Rattle.mm_text.proofs.RegisterLines.{empty_line}
+use Rattle.mm_text.proofs.{Appending.appends_same, RegisterLines.empty_line}
 use Rattle.mm_text.proofs.slots.put_register.Goals as goal
 
 pub returns-then-is_empty : goal.returns-then-is_empty

@@ -1,6 +1,5 @@
 use Rattle.std.proofs.Common.{rules}
-use Rattle.mm_text.proofs.Appending.{appends_then, appends_same}
-use Rattle.mm_text.proofs.RegisterLines.{some_line}
+use Rattle.mm_text.proofs.{Appending.{appends_then, appends_same}, RegisterLines.some_line}
 use Rattle.mm_text.proofs.slots.put_register_word.Goals as goal
 
 pub returns-then-not-is_zero : goal.returns-then-not-is_zero

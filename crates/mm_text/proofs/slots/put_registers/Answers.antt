@@ -1,6 +1,4 @@
-use Rattle.std.proofs.Common.{◌≡◌, ◌<◌, get_or, ap, arith}
-use Rattle.std.proofs.lemmas.List.{take_all}
-use Rattle.std.proofs.lemmas.List.FromFn.{get_or-range_with_len}
+use Rattle.std.proofs.{Common.{◌≡◌, ◌<◌, get_or, ap, arith}, lemmas.List.{take_all, FromFn.get_or-range_with_len}}
 use Rattle.std.specs.List.{flat_map, range_with_len}
 use Rattle.mm_model.specs.Lines.{register_line}
 use Rattle.mm_text.proofs.Appending.{appends_item, appends_same}

@@ -1,5 +1,4 @@
-use Rattle.std.proofs.Common.{take}
-use Rattle.std.specs.List.{flat_map, range_with_len}
+use Rattle.std.{proofs.Common.take, specs.List.{flat_map, range_with_len}}
 use Rattle.mm_text.specs.Appends.{Appends}
 use Rattle.mm_model.specs.Lines.{register_line}
 use Rattle.mm_text.proofs.slots.put_registers.Given as goal

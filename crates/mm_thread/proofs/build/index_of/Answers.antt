@@ -1,7 +1,6 @@
 use Rattle.std.proofs.Common.{◌≡◌, ℕ, ◌+◌, set, sym, ap, ◌∙◌, arith, subst}
 use Rattle.mm_thread.specs.Tables.{slot_of_row}
-use Rattle.mm_thread.proofs.RowIndex.{IsIndexBelow, index_none, index_more, index_all}
-use Rattle.mm_thread.proofs.RunningSlots.{slot_there}
+use Rattle.mm_thread.proofs.{RowIndex.{IsIndexBelow, index_none, index_more, index_all}, RunningSlots.slot_there}
 use Rattle.mm_thread.proofs.build.index_of.Goals as goal
 
 pub loop-i-init : goal.loop-i-init

@@ -1,5 +1,4 @@
-use Rattle.std.proofs.Common.{arith}
-use Rattle.std.proofs.lemmas.Grind.{common_steps}
+use Rattle.std.proofs.{Common.arith, lemmas.Grind.common_steps}
 use Rattle.mm_thread.proofs.build.rows_of.Goals as goal
 
 pub loop-slot-preserved : goal.loop-slot-preserved

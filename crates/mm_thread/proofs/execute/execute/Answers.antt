@@ -1,12 +1,9 @@
 use Rattle.std.proofs.Common.{refl}
 use Rattle.mm_word.specs.Word.{word_bits}
 use Rattle.mm_isa.specs.declared.instr.Instr.TheVariants.{Out, Evt, Resume, Rreg, Wreg}
-use Rattle.mm_model.specs.Slot.{register}
-use Rattle.mm_model.specs.Ask.{ask}
-use Rattle.mm_model.specs.Ask.Ask.{Nothing, NextEvent, Room, Serve}
+use Rattle.mm_model.specs.{Slot.register, Ask.{ask, Ask.{Nothing, NextEvent, Room, Serve}}}
 use Rattle.mm_thread.specs.SlotIndices.{slot_in}
-use Rattle.mm_thread.proofs.SlotUpdates.{asks_nothing}
-use Rattle.mm_thread.proofs.Accesses.{executes_untouched, is_alone-others}
+use Rattle.mm_thread.proofs.{SlotUpdates.asks_nothing, Accesses.{executes_untouched, is_alone-others}}
 use Rattle.mm_thread.proofs.execute.execute.Goals as goal
 
 pub returns-in-Out : goal.returns-in-Out

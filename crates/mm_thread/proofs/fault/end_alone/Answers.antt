@@ -1,10 +1,8 @@
 use Rattle.std.proofs.Common.{ap, sym, ◌∙◌, Some}
 use Rattle.mm_word.specs.declared.cause.Cause.{Cause}
-use Rattle.mm_model.specs.declared.slot.SlotState.TheVariants.{Halted}
-use Rattle.mm_model.specs.Turn.{is_sync, stood}
+use Rattle.mm_model.specs.{declared.slot.SlotState.TheVariants.Halted, Turn.{is_sync, stood}}
 use Rattle.mm_thread.specs.SlotIndices.{slot_in, with_slot}
-use Rattle.mm_thread.proofs.Cores.{faulted-waits, faulted-halts}
-use Rattle.mm_thread.proofs.RowIndex.{apart_in}
+use Rattle.mm_thread.proofs.{Cores.{faulted-waits, faulted-halts}, RowIndex.apart_in}
 use Rattle.mm_thread.proofs.fault.end_alone.Goals as goal
 
 pub returns-then-is_sync-clause-core : goal.returns-then-is_sync-clause-core

@@ -1,6 +1,5 @@
 use Rattle.std.proofs.Common.{◌≡◌, ℕ, Option, Some, None, refl, sym, ap, ◌∙◌}
-use Rattle.mm_model.specs.Slot.{Slot}
-use Rattle.mm_model.specs.Turn.{core_faulted, event_of}
+use Rattle.mm_model.specs.{Slot.Slot, Turn.{core_faulted, event_of}}
 use Rattle.mm_thread.specs.SlotIndices.{slot_in}
 use Rattle.mm_thread.proofs.fault.fault.Goals as goal
 

@@ -1,10 +1,7 @@
 use Rattle.std.proofs.Common.{◌++◌, [], ◌∷◌, length, arith, sym, ap, ◌∙◌}
-use Rattle.mm_model.specs.declared.slot.SlotState.TheVariants.{Waiting}
-use Rattle.mm_model.specs.State.{Core, slot_at}
-use Rattle.mm_model.specs.Turn.{stood}
+use Rattle.mm_model.specs.{declared.slot.SlotState.TheVariants.Waiting, State.{Core, slot_at}, Turn.stood}
 use Rattle.mm_thread.specs.SlotIndices.{slot_in, queue_in, with_queue_in}
-use Rattle.mm_thread.proofs.Cores.{handler_there, queue_room, queue_in-slot, faulted-handled}
-use Rattle.mm_thread.proofs.RowIndex.{apart_in}
+use Rattle.mm_thread.proofs.{Cores.{handler_there, queue_room, queue_in-slot, faulted-handled}, RowIndex.apart_in}
 use Rattle.mm_thread.proofs.fault.wait_for.Goals as goal
 
 pub unreachable-requires : goal.unreachable-requires

@@ -1,10 +1,7 @@
 use Rattle.std.proofs.Common.{◌≡◌, ◌<◌, Some, length, ap, sym, ◌∙◌, arith}
-use Rattle.mm_model.specs.State.{slot_at}
-use Rattle.mm_model.specs.Turn.{port_of}
+use Rattle.mm_model.specs.{State.slot_at, Turn.port_of}
 use Rattle.mm_thread.specs.SlotIndices.{slot_in}
-use Rattle.mm_thread.proofs.Index.{slot_found}
-use Rattle.mm_thread.proofs.RowIndex.{apart_in}
-use Rattle.mm_thread.proofs.Items.{port-slot, if_some_both}
+use Rattle.mm_thread.proofs.{Index.slot_found, RowIndex.apart_in, Items.{port-slot, if_some_both}}
 use Rattle.mm_thread.proofs.item.port_of.Goals as goal
 
 pub returns-then-item-ge128-clause-port : goal.returns-then-item-ge128-clause-port

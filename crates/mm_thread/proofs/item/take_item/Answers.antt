@@ -1,10 +1,7 @@
 use Rattle.std.proofs.Common.{sym, ap, ◌∙◌}
-use Rattle.mm_model.specs.Slot.{Slot}
-use Rattle.mm_model.specs.State.{slot_at}
-use Rattle.mm_model.specs.Turn.{is_running}
+use Rattle.mm_model.specs.{Slot.Slot, State.slot_at, Turn.is_running}
 use Rattle.mm_thread.specs.SlotIndices.{slot_in}
-use Rattle.mm_thread.proofs.Index.{slot_found}
-use Rattle.mm_thread.proofs.RowIndex.{apart_in}
+use Rattle.mm_thread.proofs.{Index.slot_found, RowIndex.apart_in}
 use Rattle.mm_thread.proofs.Items.{nothing_gives, idles, can_turn, turn-none, turn-running, turn-resting}
 use Rattle.mm_thread.proofs.item.take_item.Goals as goal
 

@@ -1,10 +1,9 @@
 use Rattle.std.proofs.Common.{◌≡◌, ap, sym, ◌∙◌}
 use Rattle.mm_model.specs.Slot.{Slot}
-use Rattle.mm_thread.proofs.Cores.{registers_small}
-use Rattle.mm_thread.proofs.RowIndex.{apart_in}
+use Rattle.mm_thread.proofs.{Cores.registers_small, RowIndex.apart_in}
 use Rattle.mm_thread.proofs.Items.{port_idles, port_delivers, arrival, step_of}
-use Rattle.mm_thread.proofs.item.take_port.Goals as goal
 use Rattle.mm_thread.proofs.item.take_port.Goals.{in-Some-deliver, in-None}
+use Rattle.mm_thread.proofs.item.take_port.Goals as goal
 
 pub returns-in_default : goal.returns-in_default
 returns-in_default c = λ m. port_idles c.args.tables.now m c.args.item c.write_step.new.step c.in_default.ensures.none c.write_step.ensures

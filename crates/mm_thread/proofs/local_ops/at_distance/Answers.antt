@@ -1,9 +1,6 @@
-use Rattle.std.proofs.Common.{◌≡◌, pos, ap, ◌∙◌, arith, rules}
-use Rattle.std.specs.Prelude.{◌*ℤ◌, FitsSigned}
-use Rattle.std.specs.Int.{w32, w64}
-use Rattle.std.proofs.lemmas.Int.{to_z-of_z, ints}
-use Rattle.mm_model.specs.Slot.{Slot}
-use Rattle.mm_model.specs.Effect.{at_distance}
+use Rattle.std.proofs.{Common.{◌≡◌, pos, ap, ◌∙◌, arith, rules}, lemmas.Int.{to_z-of_z, ints}}
+use Rattle.std.specs.{Prelude.{◌*ℤ◌, FitsSigned}, Int.{w32, w64}}
+use Rattle.mm_model.specs.{Slot.Slot, Effect.at_distance}
 use Rattle.mm_thread.proofs.Pointers.{lea_result-code}
 use Rattle.mm_thread.proofs.local_ops.at_distance.Goals as goal
 

@@ -1,7 +1,5 @@
-use Rattle.std.proofs.Common.{ℕ, ◌+◌, ◌*◌, ◌%◌, ap, ◌∙◌, arith, rules}
-use Rattle.std.specs.Prelude.{FitsSigned}
-use Rattle.std.specs.Int.{w32, cast_unsigned}
-use Rattle.std.proofs.lemmas.Int.{to_z-of_z}
+use Rattle.std.proofs.{Common.{ℕ, ◌+◌, ◌*◌, ◌%◌, ap, ◌∙◌, arith, rules}, lemmas.Int.to_z-of_z}
+use Rattle.std.specs.{Prelude.FitsSigned, Int.{w32, cast_unsigned}}
 use Rattle.mm_thread.proofs.Pointers.{or_halves}
 use Rattle.mm_thread.proofs.local_ops.high_and_low.Goals as goal
 

@@ -1,6 +1,5 @@
 use Rattle.std.proofs.Common.{Ok, refl, sym, ap, ◌∙◌}
-use Rattle.mm_model.specs.Effect.{plain}
-use Rattle.mm_model.specs.Turn.{slot_after}
+use Rattle.mm_model.specs.{Effect.plain, Turn.slot_after}
 use Rattle.mm_thread.proofs.local_ops.jump.Goals as goal
 
 pub returns-in-Some : goal.returns-in-Some

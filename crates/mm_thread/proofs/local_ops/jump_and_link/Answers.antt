@@ -1,8 +1,6 @@
 use Rattle.std.proofs.Common.{Ok, refl, sym, ap, ◌∙◌}
-use Rattle.mm_model.specs.Slot.{Slot}
+use Rattle.mm_model.specs.{Slot.Slot, Effect.plain, Turn.slot_after}
 use Rattle.mm_word.specs.Pointer.{next_result}
-use Rattle.mm_model.specs.Effect.{plain}
-use Rattle.mm_model.specs.Turn.{slot_after}
 use Rattle.mm_thread.proofs.local_ops.jump_and_link.Goals as goal
 
 pub returns-in-Some-next : goal.returns-in-Some-next

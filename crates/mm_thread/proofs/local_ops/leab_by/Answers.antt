@@ -1,11 +1,7 @@
-use Rattle.std.proofs.Common.{rules, ap, ◌∙◌}
-use Rattle.std.specs.Prelude.{FitsSigned}
-use Rattle.std.specs.Int.{cast_signed, w64}
-use Rattle.std.proofs.lemmas.Int.{to_z-of_z}
-use Rattle.mm_word.specs.Word.{word_bits}
-use Rattle.mm_word.specs.Pointer.{leab_result}
-use Rattle.mm_model.specs.Slot.{register}
-use Rattle.mm_model.specs.Effect.{effect}
+use Rattle.std.proofs.{Common.{rules, ap, ◌∙◌}, lemmas.Int.to_z-of_z}
+use Rattle.std.specs.{Prelude.FitsSigned, Int.{cast_signed, w64}}
+use Rattle.mm_word.specs.{Word.word_bits, Pointer.leab_result}
+use Rattle.mm_model.specs.{Slot.register, Effect.effect}
 use Rattle.mm_thread.proofs.Pointers.{through_pointer}
 use Rattle.mm_thread.proofs.local_ops.leab_by.Goals as goal
 

@@ -1,8 +1,6 @@
 use Rattle.std.proofs.Common.{ap, ◌∙◌}
-use Rattle.mm_word.specs.Word.{word_bits}
-use Rattle.mm_word.specs.Pointer.{restrict_result}
-use Rattle.mm_model.specs.Slot.{register}
-use Rattle.mm_model.specs.Effect.{effect}
+use Rattle.mm_word.specs.{Word.word_bits, Pointer.restrict_result}
+use Rattle.mm_model.specs.{Slot.register, Effect.effect}
 use Rattle.mm_thread.proofs.Pointers.{through_pointer}
 use Rattle.mm_thread.proofs.local_ops.restrict_to.Goals as goal
 

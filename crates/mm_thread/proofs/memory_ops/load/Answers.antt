@@ -1,24 +1,13 @@
 use Rattle.std.proofs.Common.{◌≡◌, ℕ, ◌+◌, Bool, false, Result, refl, sym, ap, ◌∙◌, rules, arith}
-use Rattle.std.specs.Prelude.{FitsSigned, ◌&&◌}
-use Rattle.std.specs.Int.{w32}
-use Rattle.std.proofs.lemmas.Int.{to_z-of_z}
-use Rattle.mm_mem.proofs.Counted.{one}
-use Rattle.mm_word.specs.declared.cause.Cause.{Cause}
-use Rattle.mm_word.specs.Access.{AccessValue}
+use Rattle.std.{proofs.lemmas.Int.to_z-of_z, specs.{Prelude.{FitsSigned, ◌&&◌}, Int.w32}}
+use Rattle.mm_mem.{proofs.Counted.one, specs.Answers.loaded}
+use Rattle.mm_word.specs.{declared.cause.Cause.Cause, Access.AccessValue}
 use Rattle.mm_isa.specs.declared.instr.Instr.TheVariants.{Ld}
-use Rattle.mm_model.specs.Memory.{Memory, cell_at}
-use Rattle.mm_model.specs.Operands.{lacks}
-use Rattle.mm_model.specs.Ask.{ask, reaching}
-use Rattle.mm_model.specs.Ask.Ask.{Refuse, Reach}
-use Rattle.mm_model.specs.Effect.{effect}
-use Rattle.mm_model.specs.Turn.{reply}
-use Rattle.mm_model.specs.Uses.{takes_none}
-use Rattle.mm_thread.specs.SlotIndices.{slot_in}
-use Rattle.mm_thread.specs.Execution.{core_loaded, completion_loaded}
+use Rattle.mm_model.specs.{Memory.{Memory, cell_at}, Operands.lacks, Ask.{ask, reaching, Ask.{Refuse, Reach}}}
+use Rattle.mm_model.specs.{Effect.effect, Turn.reply, Uses.takes_none}
+use Rattle.mm_thread.specs.{SlotIndices.slot_in, Execution.{core_loaded, completion_loaded}}
 use Rattle.mm_thread.specs.declared.completion.Retired.{Retired}
-use Rattle.mm_mem.specs.Answers.{loaded}
-use Rattle.mm_thread.proofs.Cores.{pending_room}
-use Rattle.mm_thread.proofs.Accesses.{executes_by, load_leaves, free_destination, leaves_all}
+use Rattle.mm_thread.proofs.{Cores.pending_room, Accesses.{executes_by, load_leaves, free_destination, leaves_all}}
 use Rattle.mm_thread.proofs.RowIndex.{apart_in}
 use Rattle.mm_thread.proofs.memory_ops.load.Goals as goal
 

@@ -1,17 +1,10 @@
 use Rattle.std.proofs.Common.{◌≡◌, ℕ, [], ◌∷◌, None, Ok, Err, refl, sym, ap, ◌∙◌, arith}
 use Rattle.mm_word.specs.declared.word.Word.TheVariants.{Int}
 use Rattle.mm_isa.specs.declared.instr.Instr.TheVariants.{Map}
-use Rattle.mm_model.specs.Memory.{Memory, can_map}
-use Rattle.mm_model.specs.Slot.{Slot}
-use Rattle.mm_model.specs.Ask.{ask}
-use Rattle.mm_model.specs.Ask.Ask.{Refuse, MapPage}
-use Rattle.mm_model.specs.Effect.{effect, plain, test}
-use Rattle.mm_model.specs.Turn.{reply, slot_after}
-use Rattle.mm_model.specs.Uses.{takes_none}
-use Rattle.mm_thread.specs.SlotIndices.{slot_in, with_slot}
-use Rattle.mm_thread.specs.Execution.{page_named}
-use Rattle.mm_thread.specs.declared.completion.Completion.TheVariants.{Did}
-use Rattle.mm_thread.specs.declared.completion.Retired.{Retired}
+use Rattle.mm_model.specs.{Memory.{Memory, can_map}, Slot.Slot, Ask.{ask, Ask.{Refuse, MapPage}}}
+use Rattle.mm_model.specs.{Effect.{effect, plain, test}, Turn.{reply, slot_after}, Uses.takes_none}
+use Rattle.mm_thread.specs.{SlotIndices.{slot_in, with_slot}, Execution.page_named}
+use Rattle.mm_thread.specs.declared.completion.{Completion.TheVariants.Did, Retired.Retired}
 use Rattle.mm_thread.proofs.Accesses.{executes_by, map_leaves, leaves_all, page_ask, page_asked-named}
 use Rattle.mm_thread.proofs.RowIndex.{apart_in}
 use Rattle.mm_thread.proofs.memory_ops.map.Goals as goal

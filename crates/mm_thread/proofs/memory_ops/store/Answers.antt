@@ -1,27 +1,13 @@
-use Rattle.std.proofs.Common.{◌≡◌, ℕ, ◌+◌, Result, refl, sym, ap, ◌∙◌, rules, arith}
-use Rattle.std.specs.Prelude.{FitsSigned}
-use Rattle.std.specs.Int.{w32}
-use Rattle.std.proofs.lemmas.Int.{to_z-of_z}
-use Rattle.mm_mem.proofs.Counted.{one}
-use Rattle.mm_word.specs.declared.cause.Cause.{Cause}
-use Rattle.mm_word.specs.declared.word.Word.{Word}
-use Rattle.mm_word.specs.Access.{AccessValue}
+use Rattle.std.proofs.{Common.{◌≡◌, ℕ, ◌+◌, Result, refl, sym, ap, ◌∙◌, rules, arith}, lemmas.Int.to_z-of_z}
+use Rattle.std.specs.{Prelude.FitsSigned, Int.w32}
+use Rattle.mm_mem.{proofs.Counted.one, specs.Answers.{stored, put_where}}
+use Rattle.mm_word.specs.{declared.{cause.Cause.Cause, word.{Word.Word, Cell.Cell}}, Access.AccessValue}
 use Rattle.mm_isa.specs.declared.instr.Instr.TheVariants.{St}
-use Rattle.mm_model.specs.Memory.{Memory, cell_at}
-use Rattle.mm_model.specs.Slot.{Slot, register}
-use Rattle.mm_model.specs.Ask.{ask, reaching}
-use Rattle.mm_model.specs.Ask.Ask.{Refuse, Reach}
-use Rattle.mm_model.specs.Effect.{effect}
-use Rattle.mm_model.specs.Turn.{reply}
-use Rattle.mm_model.specs.Uses.{takes_none}
-use Rattle.mm_thread.specs.SlotIndices.{slot_in}
-use Rattle.mm_thread.specs.Execution.{core_stored, completion_stored}
+use Rattle.mm_model.specs.{Memory.{Memory, cell_at, full_after}, Slot.{Slot, register}}
+use Rattle.mm_model.specs.{Ask.{ask, reaching, Ask.{Refuse, Reach}}, Effect.effect, Turn.reply, Uses.takes_none}
+use Rattle.mm_thread.specs.{SlotIndices.slot_in, Execution.{core_stored, completion_stored}}
 use Rattle.mm_thread.specs.declared.completion.Retired.{Retired}
-use Rattle.mm_mem.specs.Answers.{stored, put_where}
-use Rattle.mm_word.specs.declared.word.Cell.{Cell}
-use Rattle.mm_model.specs.Memory.{full_after}
-use Rattle.mm_thread.proofs.Accesses.{executes_by, store_leaves, leaves_all}
-use Rattle.mm_thread.proofs.RowIndex.{apart_in}
+use Rattle.mm_thread.proofs.{Accesses.{executes_by, store_leaves, leaves_all}, RowIndex.apart_in}
 use Rattle.mm_thread.proofs.memory_ops.store.Goals as goal
 
 pub returns-in-Err : goal.returns-in-Err

@@ -1,15 +1,10 @@
-use Rattle.std.proofs.Common.{◌≡◌, ◌≤◌, ◌<◌, ◌+◌, ℕ, List, [], ◌∷◌, ◌++◌, map, take, drop, length, sym, ap, subst, ◌∙◌, arith}
-use Rattle.std.specs.Prelude.{IfSome}
-use Rattle.std.specs.List.{AllByRecursion}
-use Rattle.std.proofs.lemmas.List.{take_more, take-append-drop}
-use Rattle.mm_model.specs.declared.event.Event.{Event}
-use Rattle.mm_model.specs.Slot.{Slot}
-use Rattle.mm_model.specs.State.{Core, ThreadRow, row_in, queue_at, put_queue}
-use Rattle.mm_model.specs.Spelling.{numbers_of}
-use Rattle.mm_model.specs.Fits.{slots_of}
+use Rattle.std.proofs.Common.{◌≡◌, ◌≤◌, ◌<◌, ◌+◌, ℕ, List, [], ◌∷◌, ◌++◌, map, take, drop, length, sym, ap, subst, ◌∙◌}
+use Rattle.std.proofs.{Common.arith, lemmas.List.{take_more, take-append-drop}}
+use Rattle.std.specs.{Prelude.IfSome, List.AllByRecursion}
+use Rattle.mm_model.specs.{declared.event.Event.Event, Slot.Slot, State.{Core, ThreadRow, row_in, queue_at, put_queue}}
+use Rattle.mm_model.specs.{Spelling.numbers_of, Fits.slots_of}
 use Rattle.mm_thread.specs.Parts.{events_for, row_with}
-use Rattle.mm_thread.proofs.Index.{apart_by}
-use Rattle.mm_thread.proofs.Assigned.{event_more, event_room, slots-with}
+use Rattle.mm_thread.proofs.{Index.apart_by, Assigned.{event_more, event_room, slots-with}}
 use Rattle.mm_thread.proofs.restore.put_events.Goals as goal
 
 pub put_event-requires-clause-apart : goal.put_event-requires-clause-apart

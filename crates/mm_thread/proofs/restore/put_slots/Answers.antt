@@ -1,11 +1,8 @@
 use Rattle.std.proofs.Common.{List, ◌++◌, map, take, drop, set, sym, ap, ◌∙◌, arith}
-use Rattle.std.specs.Prelude.{ℕ, slice_index}
-use Rattle.std.proofs.lemmas.List.{get_or-map, length-map, length-take-le}
-use Rattle.mm_model.specs.Slot.{Slot}
-use Rattle.mm_model.specs.State.{Core, ThreadRow}
+use Rattle.std.{proofs.lemmas.List.{get_or-map, length-map, length-take-le}, specs.Prelude.{ℕ, slice_index}}
+use Rattle.mm_model.specs.{Slot.Slot, State.{Core, ThreadRow}}
 use Rattle.mm_thread.specs.SlotIndices.{no_row, row_alone, slot_in, with_row}
-use Rattle.mm_thread.proofs.Index.{number-get}
-use Rattle.mm_thread.proofs.Assigned.{front_more, front_next}
+use Rattle.mm_thread.proofs.{Index.number-get, Assigned.{front_more, front_next}}
 use Rattle.mm_thread.proofs.restore.put_slots.Goals as goal
 
 pub set_row-requires-clause-number : goal.set_row-requires-clause-number

@@ -1,11 +1,6 @@
-use Rattle.std.proofs.Common.{◌<◌, sym, ap, ◌∙◌}
-use Rattle.std.specs.List.{AllByRecursion}
-use Rattle.mm_model.specs.declared.slot.Pending.{Pending}
-use Rattle.mm_model.specs.Flags.{flags}
-use Rattle.mm_model.specs.Slot.{Slot}
-use Rattle.mm_model.specs.Effect.{delivered}
-use Rattle.mm_thread.proofs.FlagSets.{flags_clear16}
-use Rattle.mm_thread.proofs.Pendings.{delivers-first, first_small}
+use Rattle.std.{proofs.Common.{◌<◌, sym, ap, ◌∙◌}, specs.List.AllByRecursion}
+use Rattle.mm_model.specs.{declared.slot.Pending.Pending, Flags.flags, Slot.Slot, Effect.delivered}
+use Rattle.mm_thread.proofs.{FlagSets.flags_clear16, Pendings.{delivers-first, first_small}}
 use Rattle.mm_thread.proofs.slot.deliver.Goals as goal
 
 pub returns-clause-slot : goal.returns-clause-slot

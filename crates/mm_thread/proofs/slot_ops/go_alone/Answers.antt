@@ -1,6 +1,5 @@
 use Rattle.std.proofs.Common.{Ok, Err}
-use Rattle.mm_thread.proofs.SlotUpdates.{alone_leaves}
-use Rattle.mm_thread.proofs.RowIndex.{apart_in}
+use Rattle.mm_thread.proofs.{SlotUpdates.alone_leaves, RowIndex.apart_in}
 use Rattle.mm_thread.proofs.slot_ops.go_alone.Goals as goal
 
 pub returns-in-Ok : goal.returns-in-Ok

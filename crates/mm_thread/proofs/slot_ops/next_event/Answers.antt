@@ -1,16 +1,10 @@
-use Rattle.std.proofs.Common.{◌≡◌, drop, List, ap, sym, ◌∙◌}
-use Rattle.std.specs.Prelude.{slice_get}
-use Rattle.mm_model.specs.declared.slot.SlotState.TheVariants.{Taken}
-use Rattle.mm_model.specs.declared.event.Event.{Event}
-use Rattle.mm_model.specs.Slot.{Slot}
-use Rattle.mm_model.specs.State.{Core, slot_at}
-use Rattle.mm_model.specs.Effect.{plain}
-use Rattle.mm_model.specs.Turn.{slot_after, is_running}
+use Rattle.std.{proofs.Common.{◌≡◌, drop, List, ap, sym, ◌∙◌}, specs.Prelude.slice_get}
+use Rattle.mm_model.specs.{declared.{slot.SlotState.TheVariants.Taken, event.Event.Event}, Slot.Slot}
+use Rattle.mm_model.specs.{State.{Core, slot_at}, Effect.plain, Turn.{slot_after, is_running}}
 use Rattle.mm_thread.specs.SlotIndices.{slot_in, queue_in, with_slot, with_queue_in, event_writes}
-use Rattle.mm_thread.proofs.Index.{slot_found}
-use Rattle.mm_thread.proofs.Cores.{slot_in-other}
-use Rattle.mm_thread.proofs.SlotUpdates.{no_event, no_slot_of_event, takes_event, event_differs, goes_after, leaves_at, none_first, some_first}
-use Rattle.mm_thread.proofs.RowIndex.{apart_in}
+use Rattle.mm_thread.proofs.{Index.slot_found, Cores.slot_in-other}
+use Rattle.mm_thread.proofs.SlotUpdates.{no_event, no_slot_of_event, takes_event, event_differs, goes_after, leaves_at}
+use Rattle.mm_thread.proofs.{SlotUpdates.{none_first, some_first}, RowIndex.apart_in}
 use Rattle.mm_thread.proofs.slot_ops.next_event.Goals as goal
 
 pub returns-in_default : goal.returns-in_default

@@ -1,13 +1,9 @@
 use Rattle.std.proofs.Common.{◌≡◌, ◌%◌, ℕ, ltb, [], ◌∷◌, ◌++◌, length, sym, ap, ◌∙◌, arith, ltb-true}
 use Rattle.mm_word.specs.Word.{word_bits}
-use Rattle.mm_model.specs.Slot.{Slot, register}
-use Rattle.mm_model.specs.State.{Core, output_of, put_output}
-use Rattle.mm_model.specs.Image.{output_limit}
-use Rattle.mm_model.specs.Effect.{plain}
+use Rattle.mm_model.specs.{Slot.{Slot, register}, State.{Core, output_of, put_output}, Image.output_limit, Effect.plain}
 use Rattle.mm_model.specs.Turn.{slot_after}
 use Rattle.mm_thread.specs.SlotIndices.{slot_in, with_slot}
-use Rattle.mm_thread.proofs.Cores.{group_small, byte_limit}
-use Rattle.mm_thread.proofs.SlotUpdates.{room_left, no_room_left, leaves_at}
+use Rattle.mm_thread.proofs.{Cores.{group_small, byte_limit}, SlotUpdates.{room_left, no_room_left, leaves_at}}
 use Rattle.mm_thread.proofs.RowIndex.{apart_in}
 use Rattle.mm_thread.proofs.slot_ops.put_out.Goals as goal
 

@@ -1,11 +1,8 @@
 use Rattle.std.proofs.Common.{[], ◌∷◌, sym, ap, ◌∙◌}
 use Rattle.mm_word.specs.declared.word.Word.{Word}
-use Rattle.mm_model.specs.Slot.{Slot, register}
-use Rattle.mm_model.specs.Effect.{plain, delivered}
-use Rattle.mm_model.specs.Turn.{slot_after}
+use Rattle.mm_model.specs.{Slot.{Slot, register}, Effect.{plain, delivered}, Turn.slot_after}
 use Rattle.mm_thread.specs.SlotIndices.{slot_in, with_slot}
-use Rattle.mm_thread.proofs.Cores.{registers_small}
-use Rattle.mm_thread.proofs.SlotUpdates.{read_refused, read_waits, read_reads, leaves_at}
+use Rattle.mm_thread.proofs.{Cores.registers_small, SlotUpdates.{read_refused, read_waits, read_reads, leaves_at}}
 use Rattle.mm_thread.proofs.RowIndex.{apart_in}
 use Rattle.mm_thread.proofs.slot_ops.read_register.Goals as goal
 

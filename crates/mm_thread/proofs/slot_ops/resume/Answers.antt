@@ -1,9 +1,6 @@
-use Rattle.mm_model.specs.Slot.{Slot}
-use Rattle.mm_model.specs.Effect.{plain, resumed_by}
-use Rattle.mm_model.specs.Turn.{slot_after}
+use Rattle.mm_model.specs.{Slot.Slot, Effect.{plain, resumed_by}, Turn.slot_after}
 use Rattle.mm_thread.specs.SlotIndices.{slot_in, with_slot}
-use Rattle.mm_thread.proofs.SlotUpdates.{resume_refused, resume_serves, goes_after, leaves_at}
-use Rattle.mm_thread.proofs.RowIndex.{apart_in}
+use Rattle.mm_thread.proofs.{SlotUpdates.{resume_refused, resume_serves, goes_after, leaves_at}, RowIndex.apart_in}
 use Rattle.mm_thread.proofs.slot_ops.resume.Goals as goal
 
 pub returns-in_default : goal.returns-in_default

@@ -1,14 +1,12 @@
 use Rattle.std.proofs.Common.{◌≡◌, ℕ, sym, ap, ◌∙◌}
 use Rattle.mm_word.specs.Word.{word_bits}
-use Rattle.mm_model.specs.Slot.{Slot, register}
-use Rattle.mm_model.specs.State.{slot_at}
-use Rattle.mm_model.specs.Turn.{is_handler, is_taken}
+use Rattle.mm_model.specs.{Slot.{Slot, register}, State.slot_at, Turn.{is_handler, is_taken}}
 use Rattle.mm_thread.specs.SlotIndices.{slot_in}
-use Rattle.mm_thread.proofs.Index.{slot_found}
-use Rattle.mm_thread.proofs.SlotUpdates.{served-is, served-unhandled, served-untaken}
+use Rattle.mm_thread.proofs.{Index.slot_found, SlotUpdates.{served-is, served-unhandled, served-untaken}}
 use Rattle.mm_thread.proofs.RowIndex.{apart_in}
+use Rattle.mm_thread.proofs.slot_ops.served.Goals.{else-is_handled_by-via-then-is_handled_by+else-is_taken}
+use Rattle.mm_thread.proofs.slot_ops.served.Goals.{else-is_handled_by-via-else-is_handled_by}
 use Rattle.mm_thread.proofs.slot_ops.served.Goals as goal
-use Rattle.mm_thread.proofs.slot_ops.served.Goals.{else-is_handled_by-via-then-is_handled_by+else-is_taken, else-is_handled_by-via-else-is_handled_by}
 
 pub returns-then-is_taken-clause-served : goal.returns-then-is_taken-clause-served
 returns-then-is_taken-clause-served c =

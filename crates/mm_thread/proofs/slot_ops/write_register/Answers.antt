@@ -1,8 +1,6 @@
 use Rattle.std.proofs.Common.{set, sym, ap, ◌∙◌}
 use Rattle.mm_word.specs.declared.word.Word.{Word}
-use Rattle.mm_model.specs.Slot.{Slot, register}
-use Rattle.mm_model.specs.Effect.{plain, delivered}
-use Rattle.mm_model.specs.Turn.{slot_after}
+use Rattle.mm_model.specs.{Slot.{Slot, register}, Effect.{plain, delivered}, Turn.slot_after}
 use Rattle.mm_thread.specs.SlotIndices.{slot_in, with_slot}
 use Rattle.mm_thread.proofs.Cores.{registers_small}
 use Rattle.mm_thread.proofs.SlotUpdates.{write_refused, write_waits, write_writes, goes_after, leaves_at}

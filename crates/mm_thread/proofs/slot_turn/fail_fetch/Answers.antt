@@ -1,7 +1,5 @@
 use Rattle.std.proofs.Common.{ℕ, None, ap, ◌∙◌}
-use Rattle.mm_model.specs.Slot.{Slot}
-use Rattle.mm_model.specs.declared.step.Tick.{Tick}
-use Rattle.mm_model.specs.Turn.{tick_faulted}
+use Rattle.mm_model.specs.{Slot.Slot, declared.step.Tick.Tick, Turn.tick_faulted}
 use Rattle.mm_thread.specs.SlotIndices.{slot_in}
 use Rattle.mm_thread.proofs.slot_turn.fail_fetch.Goals as goal
 

@@ -1,10 +1,7 @@
 use Rattle.std.proofs.Common.{◌≡◌, [], ◌∷◌, true, false, Some, None, sym, ap, ◌∙◌}
 use Rattle.mm_word.specs.declared.cause.Cause.TheVariants.{NoPage, Illegal}
-use Rattle.mm_model.specs.Memory.{Memory, cell_at}
-use Rattle.mm_model.specs.Uses.{Accessed}
-use Rattle.mm_model.specs.Turn.{instr_in}
-use Rattle.mm_thread.specs.SlotIndices.{slot_in}
-use Rattle.mm_thread.proofs.Turns.{faults_give, fetched-none, fetched-some}
+use Rattle.mm_model.specs.{Memory.{Memory, cell_at}, Uses.Accessed, Turn.instr_in}
+use Rattle.mm_thread.{specs.SlotIndices.slot_in, proofs.Turns.{faults_give, fetched-none, fetched-some}}
 use Rattle.mm_thread.proofs.slot_turn.fetch.Goals as goal
 
 pub returns-in_default : goal.returns-in_default

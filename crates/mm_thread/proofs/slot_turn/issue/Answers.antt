@@ -1,9 +1,7 @@
 use Rattle.std.proofs.Common.{ℕ, Some, sym, ap, ◌∙◌}
 use Rattle.mm_model.specs.Slot.{Slot}
-use Rattle.mm_thread.specs.SlotIndices.{slot_in}
-use Rattle.mm_thread.specs.Execution.{step_ended}
-use Rattle.mm_thread.proofs.Cores.{registers_small}
-use Rattle.mm_thread.proofs.Turns.{can_end, issued_gives, issued_waits, turns-delivered}
+use Rattle.mm_thread.specs.{SlotIndices.slot_in, Execution.step_ended}
+use Rattle.mm_thread.proofs.{Cores.registers_small, Turns.{can_end, issued_gives, issued_waits, turns-delivered}}
 use Rattle.mm_thread.proofs.slot_turn.issue.Goals as goal
 
 pub deliver-register-requires-clause-registers : goal.deliver-register-requires-clause-registers

@@ -1,10 +1,7 @@
 use Rattle.std.proofs.Common.{◌≡◌, [], true, false, None, Ok, Err, sym, ap, ◌∙◌, refl, arith, pos}
-use Rattle.mm_word.specs.declared.cause.Cause.TheVariants.{Bounds}
-use Rattle.mm_word.specs.declared.perm.Kind.TheVariants.{Fetch}
-use Rattle.mm_word.specs.declared.word.Word.TheVariants.{Ptr}
-use Rattle.mm_word.specs.Access.{check_result}
-use Rattle.mm_model.specs.Slot.{Slot}
-use Rattle.mm_model.specs.Uses.{takes_none}
+use Rattle.mm_word.specs.declared.{cause.Cause.TheVariants.Bounds, perm.Kind.TheVariants.Fetch}
+use Rattle.mm_word.specs.{declared.word.Word.TheVariants.Ptr, Access.check_result}
+use Rattle.mm_model.specs.{Slot.Slot, Uses.takes_none}
 use Rattle.mm_thread.specs.SlotIndices.{slot_in}
 use Rattle.mm_thread.proofs.Turns.{faults_give, starts_past, starts_unfetched, starts_fetched}
 use Rattle.mm_thread.proofs.slot_turn.start.Goals as goal

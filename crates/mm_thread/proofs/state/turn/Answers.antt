@@ -1,6 +1,5 @@
 use Rattle.std.proofs.Common.{refl, sym, ap, ◌∙◌}
-use Rattle.mm_thread.specs.StepAccesses.{accesses_shown}
-use Rattle.mm_thread.proofs.StepAccesses.{turn_ends, turn_exact}
+use Rattle.mm_thread.{specs.StepAccesses.accesses_shown, proofs.StepAccesses.{turn_ends, turn_exact}}
 use Rattle.mm_thread.proofs.state.turn.Goals as goal
 
 pub returns-clause-idle : goal.returns-clause-idle

@@ -1,5 +1,4 @@
-use Rattle.mm_thread.proofs.Sound.{turn_whole}
-use Rattle.mm_thread.proofs.StepAccesses.{turn_exact}
+use Rattle.mm_thread.proofs.{Sound.turn_whole, StepAccesses.turn_exact}
 use Rattle.mm_thread.proofs.state.turn_into.Goals as goal
 
 pub invariant_of-core : goal.invariant_of-core

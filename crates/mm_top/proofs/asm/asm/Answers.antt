@@ -1,6 +1,5 @@
 use Rattle.std.proofs.Common.{[], refl}
-use Rattle.mm_top.proofs.Rows.{row_stops, row_ends}
-use Rattle.mm_top.proofs.NamedFiles.{named}
+use Rattle.mm_top.proofs.{Rows.{row_stops, row_ends}, NamedFiles.named}
 use Rattle.mm_top.proofs.asm.asm.Goals as goal
 
 pub returns-in_err-object : goal.returns-in_err-object

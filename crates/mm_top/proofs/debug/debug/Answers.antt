@@ -1,14 +1,9 @@
 use Rattle.std.proofs.Common.{◌≡◌, ℕ, List, [], ◌∷◌, inr, refl, sym, append-nil, subst}
 use Rattle.mm_word.specs.Adding.{Adds, adds_both}
-use Rattle.mm_cli.specs.declared.table.Command.TheVariants.{Debug}
-use Rattle.mm_cli.specs.declared.table.Kind.TheVariants.{Text as text_input}
-use Rattle.mm_load.specs.Kinds.{an_image}
-use Rattle.mm_load.specs.Files.{drawing}
-use Rattle.mm_load.specs.Kinds.{values_of}
+use Rattle.mm_cli.specs.declared.{table.{Command.TheVariants.Debug, Kind.{TheVariants.{Text as text_input}}}}
 use Rattle.mm_cli.specs.Arguments.{row}
-use Rattle.mm_top.specs.Commands.{replies_to}
-use Rattle.mm_top.specs.Answers.{writing}
-use Rattle.mm_load.proofs.Reading.{files_then, asks_of_all}
+use Rattle.mm_load.{specs.{Kinds.{an_image, values_of}, Files.drawing}, proofs.Reading.{files_then, asks_of_all}}
+use Rattle.mm_top.specs.{Commands.replies_to, Answers.writing}
 use Rattle.mm_top.proofs.Inputs.{files_stop, input_stops, row_stopped, row_writes, whole_read}
 use Rattle.mm_top.proofs.NamedFiles.{named, schedule_named}
 use Rattle.mm_top.proofs.debug.debug.Goals as goal

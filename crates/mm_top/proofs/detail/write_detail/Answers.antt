@@ -1,10 +1,8 @@
 use Rattle.std.proofs.Common.{◌++◌, [], Err, refl, sym, ap, subst, arith}
 use Rattle.mm_io.proofs.Known.{writes_then, writes_same, writes_cut}
-use Rattle.mm_model.specs.Image.{start}
-use Rattle.mm_model.specs.State.{State}
+use Rattle.mm_model.specs.{Image.start, State.State, Report.report_after}
 use Rattle.mm_machine.specs.Machine.{StandsFor}
 use Rattle.mm_sched.specs.Orders.{items_of}
-use Rattle.mm_model.specs.Report.{report_after}
 use Rattle.mm_top.specs.Plans.{items_planned, detail_text}
 use Rattle.mm_top.proofs.Reported.{start_cycles, start_state, reported, ends_written, ends_cut}
 use Rattle.mm_top.proofs.detail.write_detail.Goals as goal

@@ -1,8 +1,6 @@
 use Rattle.std.proofs.Common.{◌≡◌, [], refl}
-use Rattle.mm_top.proofs.Reported.{ends_written}
-use Rattle.mm_top.proofs.Rows.{row_stops, row_ends}
+use Rattle.mm_top.proofs.{Reported.ends_written, Rows.{row_stops, row_ends}, NamedFiles.named}
 use Rattle.mm_disasm.specs.Canonical.{canonical}
-use Rattle.mm_top.proofs.NamedFiles.{named}
 use Rattle.mm_top.proofs.dis.dis.Goals as goal
 
 pub returns-in_err-object : goal.returns-in_err-object

@@ -1,7 +1,6 @@
 use Rattle.std.proofs.Common.{ℕ, [], refl, subst, arith}
 use Rattle.mm_explore.specs.Texts.{Explores}
-use Rattle.mm_top.proofs.Rows.{row_stops, row_ends}
-use Rattle.mm_top.proofs.NamedFiles.{named}
+use Rattle.mm_top.proofs.{Rows.{row_stops, row_ends}, NamedFiles.named}
 use Rattle.mm_top.proofs.explore.explore.Goals as goal
 
 pub returns-in_err-image : goal.returns-in_err-image

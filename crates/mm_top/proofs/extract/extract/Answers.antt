@@ -1,10 +1,8 @@
 use Rattle.std.proofs.Common.{ℕ, List, [], refl, subst}
 use Rattle.mm_model.specs.Groups.{among}
 use Rattle.mm_audit.specs.Refusals.{StandAlone}
-use Rattle.mm_top.specs.Groups.{GroupsRefused}
-use Rattle.mm_top.specs.Commands.{IsExtract}
-use Rattle.mm_top.proofs.Rows.{row_stops, row_ends}
-use Rattle.mm_top.proofs.NamedFiles.{named}
+use Rattle.mm_top.specs.{Groups.GroupsRefused, Commands.IsExtract}
+use Rattle.mm_top.proofs.{Rows.{row_stops, row_ends}, NamedFiles.named}
 use Rattle.mm_top.proofs.extract.extract.Goals as goal
 
 pub returns-in_err-image : goal.returns-in_err-image

@@ -1,15 +1,9 @@
 use Rattle.std.proofs.Common.{ℕ, List, [], ◌∷◌, slice_get, Option, None, Some, refl, ap, subst}
-use Rattle.mm_model.specs.Image.{Image}
-use Rattle.mm_model.specs.Audit.{IsAudit}
-use Rattle.mm_cli.specs.declared.table.Command.TheVariants.{Grants}
-use Rattle.mm_cli.specs.Words.{Word, file_word, groups_word, optional}
-use Rattle.mm_cli.specs.Arguments.{name_of, optional_groups_of}
+use Rattle.mm_model.specs.{Image.Image, Audit.IsAudit}
+use Rattle.mm_cli.specs.declared.{table.{Command.TheVariants.Grants, Kind.{Kind, TheVariants.{Image as image_file}}}}
+use Rattle.mm_cli.specs.{Words.{Word, file_word, groups_word, optional}, Arguments.{name_of, optional_groups_of}}
 use Rattle.mm_load.specs.Kinds.{an_image}
-use Rattle.mm_top.specs.Commands.{YieldsAloneAt}
-use Rattle.mm_cli.specs.declared.table.Kind.{Kind}
-use Rattle.mm_cli.specs.declared.table.Kind.TheVariants.{Image as image_file}
-use Rattle.mm_top.proofs.Rows.{row_stops, row_ends, groups_files}
-use Rattle.mm_top.proofs.NamedFiles.{named}
+use Rattle.mm_top.{specs.Commands.YieldsAloneAt, proofs.{Rows.{row_stops, row_ends, groups_files}, NamedFiles.named}}
 use Rattle.mm_top.proofs.grants.grants.Goals as goal
 
 audited : (name : Word) (i : Image) (text : List ℕ) (groups : Option (List ℕ)) → IsAudit i groups text

@@ -1,11 +1,10 @@
 use Rattle.std.proofs.Common.{◌≤◌, List, [], length, String, refl, sym, ap, append-nil, subst, arith}
 use Rattle.std.specs.declared.alloc.Global.{Global}
 use Rattle.mm_object.specs.Objects.{Object}
-use Rattle.mm_cli.specs.declared.table.Kind.TheVariants.{Object as object_file}
+use Rattle.mm_cli.specs.{declared.{table.{Kind.{TheVariants.{Object as object_file}}}}}
 use Rattle.mm_cli.proofs.ArgumentWords.{named_few}
 use Rattle.mm_top.specs.Commands.{IsLinked, LinkRefused}
-use Rattle.mm_top.proofs.Rows.{row_stops, row_ends}
-use Rattle.mm_top.proofs.NamedFiles.{several_named}
+use Rattle.mm_top.proofs.{Rows.{row_stops, row_ends}, NamedFiles.several_named}
 use Rattle.mm_top.proofs.link.link.Goals as goal
 
 pub load_objects-requires-clause-few : goal.load_objects-requires-clause-few

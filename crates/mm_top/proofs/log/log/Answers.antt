@@ -1,6 +1,5 @@
 use Rattle.std.proofs.Common.{[], refl, sym, append-nil}
-use Rattle.mm_top.specs.Plans.{items_planned}
-use Rattle.mm_top.proofs.Rows.{row_stops, row_ends}
+use Rattle.mm_top.{specs.Plans.items_planned, proofs.Rows.{row_stops, row_ends}}
 use Rattle.mm_top.proofs.log.log.Goals as goal
 
 pub load_plan-requires : goal.load_plan-requires

@@ -1,8 +1,7 @@
 use Rattle.std.proofs.Common.{Bool, [], refl, subst}
 use Rattle.mm_format.specs.Images.{Spells}
 use Rattle.mm_model.specs.Worlds.{migrated}
-use Rattle.mm_top.proofs.Rows.{row_stops, row_ends}
-use Rattle.mm_top.proofs.NamedFiles.{named}
+use Rattle.mm_top.proofs.{Rows.{row_stops, row_ends}, NamedFiles.named}
 use Rattle.mm_top.proofs.migrate.migrate.Goals as goal
 
 pub returns-in_err-image : goal.returns-in_err-image

@@ -1,5 +1,4 @@
-use Rattle.std.proofs.Common.{[], subst}
-use Rattle.std.proofs.lemmas.List.Elements.{All-push}
+use Rattle.std.proofs.{Common.{[], subst}, lemmas.List.Elements.All-push}
 use Rattle.mm_model.specs.Image.{Image}
 use Rattle.mm_machine.specs.Machine.{StandsFor}
 use Rattle.mm_net.specs.Net.{IsUnused}

@@ -1,5 +1,4 @@
-use Rattle.std.proofs.Common.{take}
-use Rattle.std.specs.List.{All}
+use Rattle.std.{proofs.Common.take, specs.List.All}
 use Rattle.mm_net.specs.Net.{AllStart, IsUnused}
 use Rattle.mm_top.proofs.nets.boot_nodes.Given as goal
 

@@ -1,6 +1,5 @@
 use Rattle.std.proofs.Common.{List, ◌∙◌, subst, arith}
-use Rattle.mm_net.specs.declared.item.NetItem.{NetItem}
-use Rattle.mm_net.specs.Net.{net_of, StandsFor}
+use Rattle.mm_net.specs.{declared.item.NetItem.NetItem, Net.{net_of, StandsFor}}
 use Rattle.mm_top.proofs.Joined.{room_behind, one_event_more, same_nodes}
 use Rattle.mm_top.proofs.nets.issue_items.Goals as goal
 

@@ -1,17 +1,14 @@
-use Rattle.std.proofs.Common.{◌≡◌, ℕ, ◌≤◌, List, [], ◌∷◌, length, take, slice_get, String, Ok, refl, sym, ap, ◌∙◌, subst, arith, append-nil}
-use Rattle.std.specs.declared.alloc.Global.{Global}
+use Rattle.std.proofs.Common.{◌≡◌, ℕ, ◌≤◌, List, [], ◌∷◌, length, take, slice_get, String, Ok, refl, sym, ap, ◌∙◌}
+use Rattle.std.{proofs.Common.{subst, arith, append-nil}, specs.declared.alloc.Global.Global}
 use Rattle.mm_word.specs.Adding.{adds_both}
 use Rattle.mm_model.specs.Image.{Image}
 use Rattle.mm_net.specs.Texts.{net_text}
 use Rattle.mm_top.specs.Nodes.{NoneLacking, JoinRefused}
-use Rattle.mm_cli.specs.declared.table.Kind.TheVariants.{Links as links_file, Events as events_file, Image as image_file}
-use Rattle.mm_cli.specs.Arguments.{name_of}
+use Rattle.mm_top.proofs.{Rows.{row_stops, row_ends}, NamedFiles.{named, several_named}}
+use Rattle.mm_cli.specs.declared.table.Kind.TheVariants.{Links as links_file, Events as events_file}
+use Rattle.mm_cli.specs.{declared.table.Kind.TheVariants.Image as image_file, Arguments.name_of}
 use Rattle.mm_cli.proofs.ArgumentWords.{named_few}
-use Rattle.mm_load.specs.Kinds.{a_links, an_events}
-use Rattle.mm_load.specs.Files.{FilesRead, reading}
-use Rattle.mm_load.proofs.Reading.{files_then}
-use Rattle.mm_top.proofs.Rows.{row_stops, row_ends}
-use Rattle.mm_top.proofs.NamedFiles.{named, several_named}
+use Rattle.mm_load.{specs.{Kinds.{a_links, an_events}, Files.{FilesRead, reading}}, proofs.Reading.files_then}
 use Rattle.mm_top.proofs.nets.run_net.Goals as goal
 
 pub returns-in_err-links : goal.returns-in_err-links

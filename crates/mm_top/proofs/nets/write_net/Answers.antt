@@ -1,17 +1,11 @@
 use Rattle.std.proofs.Common.{◌≡◌, ℕ, List, [], length, take, refl, sym, ap, ◌∙◌, subst, arith}
-use Rattle.std.specs.List.{All}
-use Rattle.std.proofs.lemmas.List.{length-map, take_min}
+use Rattle.std.{proofs.lemmas.List.{length-map, take_min}, specs.List.All}
 use Rattle.mm_io.proofs.Known.{writes_same}
 use Rattle.mm_machine.specs.Machine.{state_of}
-use Rattle.mm_net.specs.declared.link.Link.{Link}
-use Rattle.mm_net.specs.declared.item.NetItem.{NetItem}
-use Rattle.mm_net.specs.Nets.{NetState}
-use Rattle.mm_net.specs.Net.{HasNodes, net_of, links_of, sent_count, StandsFor}
-use Rattle.mm_net.specs.Texts.{net_text}
+use Rattle.mm_net.specs.{declared.{link.Link.Link, item.NetItem.NetItem}, Nets.NetState}
+use Rattle.mm_net.specs.{Net.{HasNodes, net_of, links_of, sent_count, StandsFor}, Texts.net_text}
 use Rattle.mm_net.proofs.SentCounts.{begun_sent}
-use Rattle.mm_top.specs.Nodes.{NoneLacking}
-use Rattle.mm_top.proofs.Joined.{all_joined, as_many}
-use Rattle.mm_top.proofs.Reported.{ends_written}
+use Rattle.mm_top.{specs.Nodes.NoneLacking, proofs.{Joined.{all_joined, as_many}, Reported.ends_written}}
 use Rattle.mm_top.proofs.nets.write_net.Goals as goal
 
 pub new-requires-clause-some : goal.new-requires-clause-some

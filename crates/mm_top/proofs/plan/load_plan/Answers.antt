@@ -1,10 +1,7 @@
 use Rattle.std.proofs.Common.{[], ◌∷◌, refl, sym, append-nil, arith}
 use Rattle.mm_word.specs.Adding.{adds_both}
-use Rattle.mm_load.specs.Kinds.{an_image}
-use Rattle.mm_load.proofs.Reading.{files_then}
-use Rattle.mm_top.proofs.Reported.{issued_for}
-use Rattle.mm_top.proofs.Rows.{reading_stops, reading_ends}
-use Rattle.mm_top.proofs.NamedFiles.{named, schedule_named}
+use Rattle.mm_load.{specs.Kinds.an_image, proofs.Reading.files_then}
+use Rattle.mm_top.proofs.{Reported.issued_for, Rows.{reading_stops, reading_ends}, NamedFiles.{named, schedule_named}}
 use Rattle.mm_top.proofs.plan.load_plan.Goals as goal
 
 pub returns-in_err-image-clause-read : goal.returns-in_err-image-clause-read

@@ -1,14 +1,11 @@
 use Rattle.std.proofs.Common.{ℕ, [], ◌∷◌, slice_get, Ok, refl, sym, ◌∙◌, subst, arith, append-nil}
 use Rattle.mm_word.specs.Adding.{adds_both}
 use Rattle.mm_checkpoint.specs.Checkpoints.{saved_of}
-use Rattle.mm_cli.specs.declared.table.Kind.TheVariants.{Image as image_file, Checkpoint as checkpoint_file}
+use Rattle.mm_cli.specs.declared.{table.{Kind.{TheVariants.{Image as image_file, Checkpoint as checkpoint_file}}}}
 use Rattle.mm_cli.specs.Arguments.{name_of}
-use Rattle.mm_load.specs.Kinds.{an_image, a_checkpoint, values_of}
-use Rattle.mm_top.specs.Saving.{Continues}
-use Rattle.mm_load.specs.Files.{FilesRead, reading}
+use Rattle.mm_load.specs.{Kinds.{an_image, a_checkpoint, values_of}, Files.{FilesRead, reading}}
 use Rattle.mm_load.proofs.Reading.{files_then}
-use Rattle.mm_top.proofs.Rows.{row_stops, row_ends}
-use Rattle.mm_top.proofs.NamedFiles.{named, schedule_named}
+use Rattle.mm_top.{specs.Saving.Continues, proofs.{Rows.{row_stops, row_ends}, NamedFiles.{named, schedule_named}}}
 use Rattle.mm_top.proofs.resume.resume.Goals as goal
 
 pub returns-in_err-image : goal.returns-in_err-image

@@ -1,20 +1,11 @@
-use Rattle.std.proofs.Common.{◌≡◌, [], refl, sym, ap, ◌∙◌, subst, arith}
-use Rattle.std.proofs.Math.Logic.{∥∥₁_map}
+use Rattle.std.proofs.{Common.{◌≡◌, [], refl, sym, ap, ◌∙◌, subst, arith}, Math.Logic.∥∥₁_map}
 use Rattle.mm_io.proofs.Known.{writes_same}
-use Rattle.mm_model.specs.Image.{start}
-use Rattle.mm_model.specs.State.{State}
-use Rattle.mm_model.specs.Run.{uses}
-use Rattle.mm_model.specs.Report.{report}
-use Rattle.mm_machine.specs.Machine.{state_of}
-use Rattle.mm_machine.specs.Snapshot.{Parts, CanRestore, restored}
-use Rattle.mm_machine.proofs.Keeping.{valid_core}
-use Rattle.mm_checkpoint.specs.Checkpoints.{saved_of}
-use Rattle.mm_checkpoint.proofs.Forms.{have_form}
+use Rattle.mm_model.specs.{Image.start, State.State, Run.uses, Report.report}
+use Rattle.mm_machine.{specs.{Machine.state_of, Snapshot.{Parts, CanRestore, restored}}, proofs.Keeping.valid_core}
+use Rattle.mm_checkpoint.{specs.Checkpoints.saved_of, proofs.Forms.have_form}
 use Rattle.mm_top.specs.Saving.{HasState}
+use Rattle.mm_top.proofs.{Issued.further, Reported.{start_state, ends_written}, SavedForms.can_begin}
 use Rattle.mm_sched.specs.Orders.{items_from}
-use Rattle.mm_top.proofs.Issued.{further}
-use Rattle.mm_top.proofs.Reported.{start_state, ends_written}
-use Rattle.mm_top.proofs.SavedForms.{can_begin}
 use Rattle.mm_top.proofs.resume.write_resumed.Goals as goal
 
 pub restore-requires : goal.restore-requires

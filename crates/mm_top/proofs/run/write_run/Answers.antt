@@ -1,8 +1,7 @@
 use Rattle.std.proofs.Common.{refl, arith}
 use Rattle.mm_machine.specs.Machine.{StandsFor}
 use Rattle.mm_top.specs.Plans.{items_planned}
-use Rattle.mm_top.proofs.Reported.{start_cycles, reported, ends_written}
-use Rattle.mm_top.proofs.Issued.{issued_from_start}
+use Rattle.mm_top.proofs.{Reported.{start_cycles, reported, ends_written}, Issued.issued_from_start}
 use Rattle.mm_top.proofs.run.write_run.Goals as goal
 
 pub issue-requires-clause-few : goal.issue-requires-clause-few

@@ -1,12 +1,9 @@
 use Rattle.std.proofs.Common.{◌∙◌, subst, arith}
-use Rattle.mm_model.specs.Image.{start}
-use Rattle.mm_model.specs.State.{State}
-use Rattle.mm_machine.specs.Machine.{StandsFor}
-use Rattle.mm_machine.specs.Snapshot.{IsSnapshotOf, IsTyped}
+use Rattle.mm_model.specs.{Image.start, State.State}
+use Rattle.mm_machine.specs.{Machine.StandsFor, Snapshot.{IsSnapshotOf, IsTyped}}
 use Rattle.mm_checkpoint.proofs.Reached.{snapshots}
 use Rattle.mm_top.specs.Plans.{items_planned}
-use Rattle.mm_top.proofs.Reported.{start_cycles, ends_cut}
-use Rattle.mm_top.proofs.Issued.{issued_from_start, few_items, saved_from_start}
+use Rattle.mm_top.proofs.{Reported.{start_cycles, ends_cut}, Issued.{issued_from_start, few_items, saved_from_start}}
 use Rattle.mm_top.proofs.save.write_saved.Goals as goal
 
 pub issue-last-requires-clause-few : goal.issue-last-requires-clause-few

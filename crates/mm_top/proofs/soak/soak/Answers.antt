@@ -1,7 +1,6 @@
 use Rattle.std.proofs.Common.{ℕ, slice_get, ap, ◌∙◌, arith}
 use Rattle.mm_cli.specs.Arguments.{number_of}
-use Rattle.mm_top.specs.Commands.{soaked}
-use Rattle.mm_top.proofs.Reported.{ends_as}
+use Rattle.mm_top.{specs.Commands.soaked, proofs.Reported.ends_as}
 use Rattle.mm_top.proofs.soak.soak.Goals as goal
 
 pub write_soaked-requires-clause-some : goal.write_soaked-requires-clause-some

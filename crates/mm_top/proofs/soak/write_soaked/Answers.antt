@@ -1,13 +1,10 @@
 use Rattle.std.proofs.Common.{[], None, refl, ap, subst, arith}
 use Rattle.mm_io.proofs.Known.{writes_same}
-use Rattle.mm_model.specs.Image.{Image, start}
-use Rattle.mm_model.specs.Run.{robin_from}
+use Rattle.mm_model.specs.{Image.{Image, start}, Run.robin_from}
 use Rattle.mm_machine.specs.Machine.{StandsFor}
+use Rattle.mm_gen.specs.{Generated.generated, Summary.summary}
+use Rattle.mm_top.proofs.{Reported.{start_cycles, ends_written}, Issued.issued_from_start}
 use Rattle.mm_sched.specs.declared.schedule.Order.TheVariants as order
-use Rattle.mm_gen.specs.Generated.{generated}
-use Rattle.mm_gen.specs.Summary.{summary}
-use Rattle.mm_top.proofs.Reported.{start_cycles, ends_written}
-use Rattle.mm_top.proofs.Issued.{issued_from_start}
 use Rattle.mm_top.proofs.soak.write_soaked.Goals as goal
 
 pub round_robin-requires-clause-few : goal.round_robin-requires-clause-few

@@ -3,12 +3,9 @@ use Rattle.mm_word.specs.Adding.{adds_both}
 use Rattle.mm_model.specs.Groups.{among}
 use Rattle.mm_audit.specs.Refusals.{StandAlone}
 use Rattle.mm_cli.specs.Arguments.{groups_of}
-use Rattle.mm_load.specs.Kinds.{an_image}
-use Rattle.mm_top.specs.Groups.{GroupsRefused}
-use Rattle.mm_top.specs.Commands.{own_report}
-use Rattle.mm_load.proofs.Reading.{files_then}
-use Rattle.mm_top.proofs.Rows.{row_stops, row_ends}
-use Rattle.mm_top.proofs.NamedFiles.{named}
+use Rattle.mm_load.{specs.Kinds.an_image, proofs.Reading.files_then}
+use Rattle.mm_top.specs.{Groups.GroupsRefused, Commands.own_report}
+use Rattle.mm_top.proofs.{Rows.{row_stops, row_ends}, NamedFiles.named}
 use Rattle.mm_top.proofs.solo.solo.Goals as goal
 
 pub returns-in_err-image : goal.returns-in_err-image

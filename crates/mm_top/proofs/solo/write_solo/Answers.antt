@@ -1,16 +1,10 @@
-use Rattle.std.proofs.Common.{◌≡◌, ◌==◌, ℕ, List, take, ap, ◌∙◌, subst, arith}
-use Rattle.std.specs.List.{filter, list_any}
-use Rattle.mm_model.specs.Image.{Image}
-use Rattle.mm_model.specs.Groups.{among}
-use Rattle.mm_model.specs.Spelling.{IsImage}
+use Rattle.std.{proofs.Common.{◌≡◌, ◌==◌, ℕ, List, take, ap, ◌∙◌, subst, arith}, specs.List.{filter, list_any}}
+use Rattle.mm_model.specs.{Image.Image, Groups.among, Spelling.IsImage, Report.report_after}
+use Rattle.mm_machine.{specs.Machine.StandsFor, proofs.Went.went_from_start}
+use Rattle.mm_top.specs.Groups.{members_of}
+use Rattle.mm_top.proofs.{Reported.{start_cycles, reported, ends_written}, OwnItems.members_keep}
 use Rattle.mm_model.specs.Schedule as schedule
 use Rattle.mm_model.specs.Worlds as worlds
-use Rattle.mm_machine.specs.Machine.{StandsFor}
-use Rattle.mm_top.specs.Groups.{members_of}
-use Rattle.mm_model.specs.Report.{report_after}
-use Rattle.mm_top.proofs.Reported.{start_cycles, reported, ends_written}
-use Rattle.mm_machine.proofs.Went.{went_from_start}
-use Rattle.mm_top.proofs.OwnItems.{members_keep}
 use Rattle.mm_top.proofs.solo.write_solo.Goals as goal
 
 pub follow-requires : goal.follow-requires

@@ -1,12 +1,9 @@
 use Rattle.std.proofs.Common.{ℕ, List, [], refl, sym, subst}
 use Rattle.mm_format.specs.Images.{Spells}
 use Rattle.mm_model.specs.Image.{Image}
-use Rattle.mm_sweep.specs.Swept.{swept}
-use Rattle.mm_sweep.specs.Refusals.{CanSweep}
+use Rattle.mm_sweep.specs.{Swept.swept, Refusals.CanSweep}
 use Rattle.mm_cli.specs.Words.{IsRange}
-use Rattle.mm_top.specs.Ranges.{SweepRefused}
-use Rattle.mm_top.proofs.Rows.{row_stops, row_ends}
-use Rattle.mm_top.proofs.NamedFiles.{named}
+use Rattle.mm_top.{specs.Ranges.SweepRefused, proofs.{Rows.{row_stops, row_ends}, NamedFiles.named}}
 use Rattle.mm_top.proofs.sweep.sweep.Goals as goal
 
 abbrev IsSwept : Image → List ℕ → ℕ × ℕ → Type 0

@@ -1,8 +1,6 @@
 use Rattle.std.proofs.Common.{refl}
-use Rattle.mm_top.specs.Commands.{Yields}
-use Rattle.mm_top.proofs.Rows.{row_alone}
-use Rattle.mm_cli.specs.declared.table.Command.TheVariants.{Gen, Soak}
-use Rattle.mm_cli.specs.Arguments.{row}
+use Rattle.mm_top.{specs.Commands.Yields, proofs.Rows.row_alone}
+use Rattle.mm_cli.specs.{declared.table.Command.TheVariants.{Gen, Soak}, Arguments.row}
 use Rattle.mm_top.proofs.top.by_command.Goals as goal
 
 pub returns-in-Grants-clause-ends : goal.returns-in-Grants-clause-ends

@@ -1,8 +1,5 @@
 use Rattle.std.proofs.Common.{◌≡◌, List, inr, sym, ◌∙◌, subst}
-use Rattle.mm_cli.specs.declared.words.Word.{Word as Read}
-use Rattle.mm_cli.specs.Words.{texts}
-use Rattle.mm_cli.specs.Table.{Matches}
-use Rattle.mm_cli.specs.Arguments.{row}
+use Rattle.mm_cli.specs.{declared.{words.{Word.{Word as Read}}}, Words.texts, Table.Matches, Arguments.row}
 use Rattle.mm_cli.proofs.Rows.{fits_of}
 use Rattle.mm_top.proofs.Inputs.{drawn_behind, read_whole}
 use Rattle.mm_top.proofs.top.by_row.Goals as goal

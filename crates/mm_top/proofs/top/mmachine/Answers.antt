@@ -1,5 +1,4 @@
-use Rattle.mm_top.proofs.Once.{complete, refuses}
-use Rattle.mm_top.proofs.Verdicts.{usage, refused, asks, whole, done, part, line}
+use Rattle.mm_top.proofs.{Once.{complete, refuses}, Verdicts.{usage, refused, asks, whole, done, part, line}}
 use Rattle.mm_top.proofs.Headlines.{run_headline, trace_headline, log_headline}
 use Rattle.mm_top.proofs.top.mmachine.Goals as goal
 

@@ -1,10 +1,6 @@
-use Rattle.std.proofs.Common.{◌≡◌, ℕ, List, Option, None, Some, inl, inr, refl, ap, subst}
-use Rattle.std.specs.Prelude.{MatchOption}
-use Rattle.mm_model.specs.Image.{Image}
-use Rattle.mm_why.specs.declared.line.Line.{Line}
-use Rattle.mm_model.specs.declared.word_use.WordUse.{WordUse}
-use Rattle.mm_why.specs.Derivations.{Derives, IsGranted}
-use Rattle.mm_why.specs.Text.{lines_text, SpellsDerivation}
+use Rattle.std.{proofs.Common.{◌≡◌, ℕ, List, Option, None, Some, inl, inr, refl, ap, subst}, specs.Prelude.MatchOption}
+use Rattle.mm_model.specs.{Image.Image, declared.word_use.WordUse.WordUse}
+use Rattle.mm_why.specs.{declared.line.Line.Line, Derivations.{Derives, IsGranted}, Text.{lines_text, SpellsDerivation}}
 use Rattle.mm_top.proofs.Reported.{ends_written}
 use Rattle.mm_top.proofs.why.write_reason.Goals as goal
 

@@ -1,8 +1,8 @@
 use Rattle.std.proofs.Common.{◌≡◌, ◌<◌, ℕ, List, false, length, refl, arith}
 use Rattle.mm_model.specs.Counted.{has}
-use Rattle.mm_vmem.specs.declared.tlb.Entry.{Entry}
-use Rattle.mm_vmem.specs.Entries.{pages_in}
-use Rattle.mm_vmem.proofs.Entries.{IsFirst, has_first, absent_entries, its_first, not_here, moves_on, rest_stays, moved_down, none_more, no_entry}
+use Rattle.mm_vmem.specs.{declared.tlb.Entry.Entry, Entries.pages_in}
+use Rattle.mm_vmem.proofs.Entries.{IsFirst, has_first, absent_entries, its_first, not_here, moves_on, rest_stays}
+use Rattle.mm_vmem.proofs.Entries.{moved_down, none_more, no_entry}
 use Rattle.mm_vmem.proofs.tlb.move_down.Goals as goal
 
 within : (i n m : ℕ) → i < n → m ≡ n → i < m

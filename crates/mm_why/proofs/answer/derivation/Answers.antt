@@ -1,9 +1,6 @@
 use Rattle.std.proofs.Common.{◌<◌, List, length, sym, subst}
-use Rattle.mm_why.specs.declared.line.Line.{Line}
-use Rattle.mm_why.specs.Derivations.{GivesUse}
-use Rattle.mm_why.specs.Pruning.{NameEarlier}
-use Rattle.mm_why.proofs.Deciding.{derives}
-use Rattle.mm_why.proofs.Growing.{each_earlier}
+use Rattle.mm_why.specs.{declared.line.Line.Line, Derivations.GivesUse, Pruning.NameEarlier}
+use Rattle.mm_why.proofs.{Deciding.derives, Growing.each_earlier}
 use Rattle.mm_why.proofs.answer.derivation.Goals as goal
 
 pub know-requires-clause-group : goal.know-requires-clause-group

@@ -1,6 +1,5 @@
 use Rattle.std.proofs.Common.{sym, subst}
-use Rattle.mm_why.specs.Works.{IsSearched}
-use Rattle.mm_why.proofs.Deciding.{usable_gives, only_maker}
+use Rattle.mm_why.{specs.Works.IsSearched, proofs.Deciding.{usable_gives, only_maker}}
 use Rattle.mm_why.proofs.answer.own_line.Goals as goal
 
 pub earliest-requires : goal.earliest-requires

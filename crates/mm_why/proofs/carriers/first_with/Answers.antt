@@ -1,6 +1,5 @@
 use Rattle.std.proofs.Common.{◌≡◌, ℕ, length, MatchOption, subst, rules}
-use Rattle.mm_why.specs.Carrying.{IsWith}
-use Rattle.mm_why.proofs.Carrying.{with_more}
+use Rattle.mm_why.{specs.Carrying.IsWith, proofs.Carrying.with_more}
 use Rattle.mm_why.proofs.carriers.first_with.Goals as goal
 
 pub loop-k-preserved : goal.loop-k-preserved

@@ -1,8 +1,6 @@
-use Rattle.std.proofs.Common.{◌+◌, length, sym, ap, ◌∙◌, subst}
-use Rattle.std.proofs.lemmas.List.{length_push}
+use Rattle.std.proofs.{Common.{◌+◌, length, sym, ap, ◌∙◌, subst}, lemmas.List.length_push}
 use Rattle.mm_flow.specs.Edges.{right_at}
-use Rattle.mm_why.specs.Carrying.{AreNearest, IsOver}
-use Rattle.mm_why.proofs.Carrying.{nearest_more}
+use Rattle.mm_why.{specs.Carrying.{AreNearest, IsOver}, proofs.Carrying.nearest_more}
 use Rattle.mm_why.proofs.carriers.nearest.Goals as goal
 
 pub loop-k-preserved : goal.loop-k-preserved

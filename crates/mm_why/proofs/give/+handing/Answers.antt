@@ -1,10 +1,7 @@
 use Rattle.std.proofs.Common.{ℕ, ◌+◌, ◌-◌, ◌*◌, ◌<◌, List, length, refl, subst, arith}
 use Rattle.mm_flow.specs.Flow.{Has}
 use Rattle.mm_model.specs.Slot.{Slot}
-use Rattle.mm_why.specs.declared.line.Line.{Line}
-use Rattle.mm_why.specs.Derivations.{Says}
-use Rattle.mm_why.specs.Rounds.{round_at}
-use Rattle.mm_why.specs.Reasons.{IsHand, IsMeeting}
+use Rattle.mm_why.specs.{declared.line.Line.Line, Derivations.Says, Rounds.round_at, Reasons.{IsHand, IsMeeting}}
 use Rattle.mm_why.specs.Giving.{HasLine, JoinedAt}
 use Rattle.mm_why.proofs.Working.{goes_nowhere, goes_trans, says_on}
 use Rattle.mm_why.proofs.Handing.{sooner, handed_on, linked_join, served_by, passes, line_on}

@@ -1,6 +1,5 @@
 use Rattle.std.proofs.Common.{ℕ, MatchOption, subst}
-use Rattle.mm_why.specs.Giving.{MeetsAt, AreCarriers}
-use Rattle.mm_why.proofs.Giving.{maker_of, lines_carry, maker_carries}
+use Rattle.mm_why.{specs.Giving.{MeetsAt, AreCarriers}, proofs.Giving.{maker_of, lines_carry, maker_carries}}
 use Rattle.mm_why.proofs.give.carried_by.Goals as goal
 
 pub own_first-load-requires-clause-some : goal.own_first-load-requires-clause-some

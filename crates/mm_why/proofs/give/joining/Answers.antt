@@ -1,6 +1,5 @@
 use Rattle.std.proofs.Common.{ℕ, sym, subst, arith}
-use Rattle.mm_why.specs.Giving.{JoinedAt}
-use Rattle.mm_why.proofs.Giving.{joined_more}
+use Rattle.mm_why.{specs.Giving.JoinedAt, proofs.Giving.joined_more}
 use Rattle.mm_why.proofs.give.joining.Goals as goal
 
 pub loop-k-preserved : goal.loop-k-preserved

@@ -1,6 +1,5 @@
 use Rattle.std.proofs.Common.{sym, subst}
-use Rattle.mm_why.specs.Works.{IsSearched}
-use Rattle.mm_why.proofs.Giving.{with_right, no_right}
+use Rattle.mm_why.{specs.Works.IsSearched, proofs.Giving.{with_right, no_right}}
 use Rattle.mm_why.proofs.give.own_first.Goals as goal
 
 pub unreachable-requires : goal.unreachable-requires

@@ -1,6 +1,5 @@
 use Rattle.std.proofs.Common.{sym, subst}
-use Rattle.mm_why.specs.Works.{IsSearched}
-use Rattle.mm_why.specs.Giving.{MeetsAt, AreCarriers}
+use Rattle.mm_why.specs.{Works.IsSearched, Giving.{MeetsAt, AreCarriers}}
 use Rattle.mm_why.proofs.Giving.{pair_carries, no_pair_meets, pair_all}
 use Rattle.mm_why.proofs.give.own_places.Goals as goal
 

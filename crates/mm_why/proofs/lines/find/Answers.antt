@@ -1,6 +1,5 @@
 use Rattle.std.proofs.Common.{inl, inr, refl, sym, ap, ◌∙◌}
-use Rattle.mm_why.specs.Derivations.{line_at}
-use Rattle.mm_why.proofs.Pruning.{same_line, same_or_before}
+use Rattle.mm_why.{specs.Derivations.line_at, proofs.Pruning.{same_line, same_or_before}}
 use Rattle.mm_why.proofs.lines.find.Goals as goal
 
 pub returns-then-grants : goal.returns-then-grants

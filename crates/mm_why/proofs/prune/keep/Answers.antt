@@ -1,7 +1,5 @@
-use Rattle.std.proofs.Common.{◌<◌, length, sym, ◌∙◌, subst, arith, rules}
-use Rattle.std.proofs.lemmas.List.{length-set}
-use Rattle.mm_why.specs.Derivations.{Names}
-use Rattle.mm_why.proofs.Pruning.{keeps_as, skips, same_line}
+use Rattle.std.proofs.{Common.{◌<◌, length, sym, ◌∙◌, subst, arith, rules}, lemmas.List.length-set}
+use Rattle.mm_why.{specs.Derivations.Names, proofs.Pruning.{keeps_as, skips, same_line}}
 use Rattle.mm_why.proofs.prune.keep.Goals as goal
 
 pub returns-then-not-needed-k : goal.returns-then-not-needed-k

@@ -1,8 +1,5 @@
-use Rattle.std.proofs.Common.{◌+◌, sym, subst, ◌∙◌}
-use Rattle.std.proofs.Math.Nat.{le_antisymm}
-use Rattle.std.proofs.lemmas.List.{with_items_is}
-use Rattle.mm_why.specs.Pruning.{AreKept}
-use Rattle.mm_why.proofs.Pruning.{none_kept}
+use Rattle.std.proofs.{Common.{◌+◌, sym, subst, ◌∙◌}, Math.Nat.le_antisymm, lemmas.List.with_items_is}
+use Rattle.mm_why.{specs.Pruning.AreKept, proofs.Pruning.none_kept}
 use Rattle.mm_why.proofs.prune.kept.Goals as goal
 
 pub loop-k-init : goal.loop-k-init

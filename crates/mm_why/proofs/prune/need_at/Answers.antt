@@ -1,7 +1,5 @@
 use Rattle.std.proofs.Common.{◌<◌, length, subst, arith}
-use Rattle.mm_why.specs.Derivations.{Names}
-use Rattle.mm_why.specs.Pruning.{AddsNamed}
-use Rattle.mm_why.proofs.Pruning.{step_needs, same_line}
+use Rattle.mm_why.{specs.{Derivations.Names, Pruning.AddsNamed}, proofs.Pruning.{step_needs, same_line}}
 use Rattle.mm_why.proofs.prune.need_at.Goals as goal
 
 pub need-requires : goal.need-requires

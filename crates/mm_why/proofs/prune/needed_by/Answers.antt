@@ -1,6 +1,5 @@
 use Rattle.std.proofs.Common.{◌≡◌, ◌+◌, ◌-◌, sym, subst, arith}
-use Rattle.mm_why.specs.Pruning.{Needs}
-use Rattle.mm_why.proofs.Pruning.{whole}
+use Rattle.mm_why.{specs.Pruning.Needs, proofs.Pruning.whole}
 use Rattle.mm_why.proofs.prune.needed_by.Goals as goal
 
 pub loop-k-preserved : goal.loop-k-preserved

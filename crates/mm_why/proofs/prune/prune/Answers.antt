@@ -1,6 +1,5 @@
 use Rattle.std.proofs.Common.{subst}
-use Rattle.mm_why.specs.Pruning.{HaveKept}
-use Rattle.mm_why.proofs.Pruning.{derivation, last_line}
+use Rattle.mm_why.{specs.Pruning.HaveKept, proofs.Pruning.{derivation, last_line}}
 use Rattle.mm_why.proofs.prune.prune.Goals as goal
 
 pub returns-clause-derivation : goal.returns-clause-derivation

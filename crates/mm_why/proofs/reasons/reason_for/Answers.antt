@@ -1,7 +1,5 @@
-use Rattle.std.proofs.Common.{◌≡◌, [], ◌∙◌, refl, subst}
-use Rattle.std.proofs.lemmas.List.{get_or_default}
-use Rattle.mm_why.specs.Rounds.{HandsOn, round_at}
-use Rattle.mm_why.proofs.Reasoning.{no_reason}
+use Rattle.std.proofs.{Common.{◌≡◌, [], ◌∙◌, refl, subst}, lemmas.List.get_or_default}
+use Rattle.mm_why.{specs.Rounds.{HandsOn, round_at}, proofs.Reasoning.no_reason}
 use Rattle.mm_why.proofs.reasons.reason_for.Goals as goal
 
 pub returns-in-None : goal.returns-in-None

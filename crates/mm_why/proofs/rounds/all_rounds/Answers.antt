@@ -1,6 +1,5 @@
 use Rattle.std.proofs.Common.{sym, subst, ◌++◌, ◌∷◌, []}
-use Rattle.mm_why.specs.Rounds.{AreRounds, FirstRounds}
-use Rattle.mm_why.proofs.Rounding.{step_more, rounds_end}
+use Rattle.mm_why.{specs.Rounds.{AreRounds, FirstRounds}, proofs.Rounding.{step_more, rounds_end}}
 use Rattle.mm_why.proofs.rounds.all_rounds.Goals as goal
 
 pub returns-then-not-propagate_shared-clause-rounds : goal.returns-then-not-propagate_shared-clause-rounds

@@ -1,6 +1,4 @@
-use Rattle.std.proofs.Common.{◌≡◌, arith}
-use Rattle.std.specs.Int.{bit_at}
-use Rattle.std.proofs.lemmas.Nat.Bits.{bit_at_above}
+use Rattle.std.{proofs.{Common.{◌≡◌, arith}, lemmas.Nat.Bits.bit_at_above}, specs.Int.bit_at}
 use Rattle.mm_why.proofs.Rounding.{no_group}
 use Rattle.mm_why.proofs.rounds.has.Goals as goal
 

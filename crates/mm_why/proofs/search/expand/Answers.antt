@@ -1,7 +1,6 @@
 use Rattle.std.proofs.Common.{◌≡◌, Some, sym, ◌∙◌}
 use Rattle.mm_flow.specs.Edges.{node_at}
-use Rattle.mm_why.specs.Searches.{stage_of, place_at}
-use Rattle.mm_why.proofs.Searching.{advances_trans, stays_placed}
+use Rattle.mm_why.{specs.Searches.{stage_of, place_at}, proofs.Searching.{advances_trans, stays_placed}}
 use Rattle.mm_why.proofs.search.expand.Goals as goal
 
 pub reach_entry-requires-clause-by : goal.reach_entry-requires-clause-by

@@ -1,6 +1,5 @@
 use Rattle.std.proofs.Common.{sym, subst, rules}
-use Rattle.mm_why.specs.Searches.{stage_of, IsPlaced, IsClosed}
-use Rattle.mm_why.proofs.Searching.{expand_more, expand_end}
+use Rattle.mm_why.{specs.Searches.{stage_of, IsPlaced, IsClosed}, proofs.Searching.{expand_more, expand_end}}
 use Rattle.mm_why.proofs.search.expand_all.Goals as goal
 
 pub expand-requires-clause-placed : goal.expand-requires-clause-placed

@@ -1,7 +1,6 @@
 use Rattle.std.proofs.Common.{◌≡◌, ◌%◌, sym, ap, ◌∙◌, subst}
 use Rattle.mm_model.specs.Memory.{cell_at}
-use Rattle.mm_why.specs.Graphs.{IsFound}
-use Rattle.mm_why.proofs.GraphFacts.{found_at, never_none, found_pointer, same_pointer}
+use Rattle.mm_why.{specs.Graphs.IsFound, proofs.GraphFacts.{found_at, never_none, found_pointer, same_pointer}}
 use Rattle.mm_why.proofs.search.pointer_at.Goals as goal
 
 pub cell-requires : goal.cell-requires

@@ -1,6 +1,5 @@
 use Rattle.std.proofs.Common.{refl}
-use Rattle.mm_why.specs.Searches.{stage_of}
-use Rattle.mm_why.proofs.Searching.{placed_as, placed_before}
+use Rattle.mm_why.{specs.Searches.stage_of, proofs.Searching.{placed_as, placed_before}}
 use Rattle.mm_why.proofs.search.reach.Goals as goal
 
 pub returns-then-is_placed-clause-reached : goal.returns-then-is_placed-clause-reached

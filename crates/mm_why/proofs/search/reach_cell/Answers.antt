@@ -1,9 +1,7 @@
 use Rattle.std.proofs.Common.{length, slice_index, sym, subst, refl}
+use Rattle.mm_why.specs.{Derivations.Follows, Searches.{stage_of, AtNode, IsPlaced}}
+use Rattle.mm_why.proofs.{Searching.placed_before, GraphFacts.{rising, cell_now}}
 use Rattle.mm_why.specs.declared.line.Rule.TheVariants as rules
-use Rattle.mm_why.specs.Derivations.{Follows}
-use Rattle.mm_why.specs.Searches.{stage_of, AtNode, IsPlaced}
-use Rattle.mm_why.proofs.Searching.{placed_before}
-use Rattle.mm_why.proofs.GraphFacts.{rising, cell_now}
 use Rattle.mm_why.proofs.search.reach_cell.Goals as goal
 
 pub returns-then-is_placed-clause-placed : goal.returns-then-is_placed-clause-placed

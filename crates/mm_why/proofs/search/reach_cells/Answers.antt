@@ -1,8 +1,6 @@
 use Rattle.std.proofs.Common.{◌≡◌, ◌<◌, ◌≤◌, ap, subst, arith}
 use Rattle.mm_flow.specs.Edges.{node_at}
-use Rattle.mm_why.specs.Searches.{stage_of}
-use Rattle.mm_why.specs.Graphs.{CellsPlaced}
-use Rattle.mm_why.proofs.GraphFacts.{order, cells_more}
+use Rattle.mm_why.{specs.{Searches.stage_of, Graphs.CellsPlaced}, proofs.GraphFacts.{order, cells_more}}
 use Rattle.mm_why.proofs.search.reach_cells.Goals as goal
 
 pub loop-k-preserved : goal.loop-k-preserved

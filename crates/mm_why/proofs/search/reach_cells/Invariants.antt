@@ -1,6 +1,5 @@
 use Rattle.std.proofs.Common.{◌≡◌, length, Some}
-use Rattle.mm_why.specs.Searches.{stage_of, place_at, Searching}
-use Rattle.mm_why.specs.Graphs.{CellsPlaced}
+use Rattle.mm_why.specs.{Searches.{stage_of, place_at, Searching}, Graphs.CellsPlaced}
 use Rattle.mm_why.proofs.search.reach_cells.Given as goal
 
 abbrev pub invariant-loop-k : goal.invariant-loop-k

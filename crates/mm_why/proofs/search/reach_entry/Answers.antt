@@ -1,10 +1,8 @@
 use Rattle.std.proofs.Common.{◌≡◌, ◌≢◌, Some, sym, ap, ◌∙◌, subst}
 use Rattle.mm_word.specs.Pointer.{enter_result}
 use Rattle.mm_flow.specs.Edges.{node_at}
-use Rattle.mm_why.specs.Derivations.{line_at}
-use Rattle.mm_why.specs.Searches.{stage_of, AtNode, IsPlaced}
-use Rattle.mm_why.proofs.Searching.{advances_same}
-use Rattle.mm_why.proofs.GraphFacts.{rising, entry_follows, entry_never}
+use Rattle.mm_why.specs.{Derivations.line_at, Searches.{stage_of, AtNode, IsPlaced}}
+use Rattle.mm_why.proofs.{Searching.advances_same, GraphFacts.{rising, entry_follows, entry_never}}
 use Rattle.mm_why.proofs.search.reach_entry.Goals as goal
 
 pub returns-in_ok-reach-in-Some-clause-placed : goal.returns-in_ok-reach-in-Some-clause-placed

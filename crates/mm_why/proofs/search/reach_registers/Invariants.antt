@@ -1,6 +1,5 @@
 use Rattle.std.proofs.Common.{◌≡◌, length}
-use Rattle.mm_model.specs.Image.{Image}
-use Rattle.mm_model.specs.Slot.{Slot}
+use Rattle.mm_model.specs.{Image.Image, Slot.Slot}
 use Rattle.mm_why.specs.Searches.{stage_of, Searching, IsSlotOf, HasWords, RegistersPlaced}
 use Rattle.mm_why.proofs.search.reach_registers.Given as goal
 

@@ -1,6 +1,5 @@
 use Rattle.std.proofs.Common.{refl, subst}
-use Rattle.mm_model.specs.Slot.{Slot}
-use Rattle.mm_model.specs.Image.{Image}
+use Rattle.mm_model.specs.{Slot.Slot, Image.Image}
 use Rattle.mm_why.specs.Searches.{stage_of, IsSlotOf, Searching, Advances, SlotPlaced}
 use Rattle.mm_why.proofs.Searching.{slot_done, ip_held}
 use Rattle.mm_why.proofs.search.reach_slot.Goals as goal

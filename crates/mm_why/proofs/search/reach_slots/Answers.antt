@@ -1,7 +1,5 @@
 use Rattle.std.proofs.Common.{◌≡◌, ◌<◌, length, slice_index_or, sym, ap, ◌∙◌, subst}
-use Rattle.mm_why.specs.Searches.{stage_of}
-use Rattle.mm_why.proofs.GraphFacts.{slot_of}
-use Rattle.mm_why.proofs.Searched.{slots_more}
+use Rattle.mm_why.{specs.Searches.stage_of, proofs.{GraphFacts.slot_of, Searched.slots_more}}
 use Rattle.mm_why.proofs.search.reach_slots.Goals as goal
 
 pub loop-k-preserved : goal.loop-k-preserved

@@ -1,5 +1,4 @@
-use Rattle.mm_why.specs.Searches.{stage_of}
-use Rattle.mm_why.specs.Graphs.{SlotsPlaced}
+use Rattle.mm_why.specs.{Searches.stage_of, Graphs.SlotsPlaced}
 use Rattle.mm_why.proofs.search.reach_slots.Given as goal
 
 abbrev pub invariant-loop-k : goal.invariant-loop-k

@@ -1,6 +1,5 @@
 use Rattle.std.proofs.Common.{◌≡◌, length, replicate, None, sym, ap, ◌∙◌, subst, rules}
-use Rattle.mm_why.specs.Searches.{stage_of, Searching}
-use Rattle.mm_why.specs.Graphs.{SlotsPlaced}
+use Rattle.mm_why.specs.{Searches.{stage_of, Searching}, Graphs.SlotsPlaced}
 use Rattle.mm_why.proofs.Searched.{nothing_found, search_done}
 use Rattle.mm_why.proofs.search.search_group.Goals as goal
 

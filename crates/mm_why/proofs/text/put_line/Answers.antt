@@ -1,7 +1,6 @@
 use Rattle.std.proofs.Common.{codes, decimal}
 use Rattle.mm_text.proofs.Appending.{appends_then}
-use Rattle.mm_why.specs.Text.{number_text}
-use Rattle.mm_why.proofs.Texts.{appends_words}
+use Rattle.mm_why.{specs.Text.number_text, proofs.Texts.appends_words}
 use Rattle.mm_why.proofs.text.put_line.Goals as goal
 
 pub returns : goal.returns

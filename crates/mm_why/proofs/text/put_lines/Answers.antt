@@ -1,8 +1,6 @@
-use Rattle.std.proofs.Common.{rules, ap, sym, arith}
-use Rattle.std.proofs.lemmas.List.{take_all}
+use Rattle.std.proofs.{Common.{rules, ap, sym, arith}, lemmas.List.take_all}
 use Rattle.mm_text.proofs.Appending.{appends_then, appends_same}
-use Rattle.mm_why.specs.Text.{lines_text}
-use Rattle.mm_why.proofs.Texts.{appends_none, lines_text-more}
+use Rattle.mm_why.{specs.Text.lines_text, proofs.Texts.{appends_none, lines_text-more}}
 use Rattle.mm_why.proofs.text.put_lines.Goals as goal
 
 pub loop-k-init : goal.loop-k-init

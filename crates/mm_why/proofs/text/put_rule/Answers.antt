@@ -1,8 +1,7 @@
 use Rattle.std.proofs.Common.{◌++◌, codes, decimal, sym, ap}
 use Rattle.mm_model.specs.Digits.{hex}
 use Rattle.mm_text.proofs.Appending.{appends_same}
-use Rattle.mm_why.specs.Text.{number_text, rule_text}
-use Rattle.mm_why.proofs.Texts.{appends_word}
+use Rattle.mm_why.{specs.Text.{number_text, rule_text}, proofs.Texts.appends_word}
 use Rattle.mm_why.proofs.text.put_rule.Goals as goal
 
 pub returns-in-Register : goal.returns-in-Register

@@ -1,6 +1,5 @@
 use Rattle.std.proofs.Common.{◌≡◌, ℕ, length, MatchOption, subst, rules}
-use Rattle.mm_why.specs.Owning.{IsUsable}
-use Rattle.mm_why.proofs.Owning.{usable_more}
+use Rattle.mm_why.{specs.Owning.IsUsable, proofs.Owning.usable_more}
 use Rattle.mm_why.proofs.uses.earliest.Goals as goal
 
 pub loop-k-preserved : goal.loop-k-preserved

@@ -1,5 +1,4 @@
-use Rattle.std.proofs.Common.{◌≡◌, ℕ, ◌↔◌}
-use Rattle.std.specs.Int.{bit_at}
+use Rattle.std.{proofs.Common.{◌≡◌, ℕ, ◌↔◌}, specs.Int.bit_at}
 use Rattle.mm_flow.proofs.Kept.{SomeBefore}
 use Rattle.mm_graph.specs.Marked.{node_pointer}
 use Rattle.mm_why.specs.Owning.{can_use}

@@ -1,5 +1,4 @@
-use Rattle.std.proofs.Common.{◌≡◌, ℕ, ◌<◌}
-use Rattle.std.specs.Int.{bit_at}
+use Rattle.std.{proofs.Common.{◌≡◌, ℕ, ◌<◌}, specs.Int.bit_at}
 use Rattle.mm_flow.specs.Flow.{Has}
 use Rattle.mm_why.proofs.uses.owner_in.Given as goal
 

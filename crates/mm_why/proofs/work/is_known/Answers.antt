@@ -1,5 +1,4 @@
-use Rattle.std.proofs.Common.{None, sym, ◌∙◌}
-use Rattle.std.proofs.lemmas.List.{get_or_default}
+use Rattle.std.proofs.{Common.{None, sym, ◌∙◌}, lemmas.List.get_or_default}
 use Rattle.mm_why.proofs.work.is_known.Goals as goal
 
 pub returns-in-Some-clause-known : goal.returns-in-Some-clause-known

@@ -1,6 +1,5 @@
 use Rattle.std.proofs.Common.{rules, ℕ, ◌<◌, ◌+◌, arith, add-zero}
-use Rattle.mm_word.specs.Pointer.{InSegment}
-use Rattle.mm_word.proofs.Segments.{segment_below}
+use Rattle.mm_word.{specs.Pointer.InSegment, proofs.Segments.segment_below}
 use Rattle.mm_word.proofs.access.checked.Goals as goal
 
 pub invariant_of-result : goal.invariant_of-result

@@ -1,5 +1,4 @@
-use Rattle.mm_word.proofs.Below.{IsBelow-well_formed}
-use Rattle.mm_word.proofs.Results.{enter_result-well_formed, setptr_result-well_formed}
+use Rattle.mm_word.proofs.{Below.IsBelow-well_formed, Results.{enter_result-well_formed, setptr_result-well_formed}}
 use Rattle.mm_word.proofs.laws.pointers_stay_well_formed.Goals as goal
 
 pub returns-clause-below : goal.returns-clause-below

@@ -1,4 +1,5 @@
-use Rattle.mm_word.proofs.Results.{lea_result-IsBelow, leab_result-IsBelow, restrict_result-IsBelow, subseg_result-IsBelow, next_result-IsBelow}
+use Rattle.mm_word.proofs.Results.{lea_result-IsBelow, leab_result-IsBelow, restrict_result-IsBelow}
+use Rattle.mm_word.proofs.Results.{subseg_result-IsBelow, next_result-IsBelow}
 use Rattle.mm_word.proofs.laws.results_are_below.Goals as goal
 
 pub returns : goal.returns

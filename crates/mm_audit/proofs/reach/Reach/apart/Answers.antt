@@ -1,6 +1,5 @@
 use Rattle.std.proofs.Common.{sym, ◌∙◌, subst}
-use Rattle.mm_audit.specs.Audits.{Audits}
-use Rattle.mm_audit.specs.Surveys.{IsLeastTable}
+use Rattle.mm_audit.specs.{Audits.Audits, Surveys.IsLeastTable}
 use Rattle.mm_audit.proofs.reach.Reach.apart.Goals as goal
 
 pub returns : goal.returns

@@ -1,10 +1,7 @@
 use Rattle.std.proofs.Common.{sym, ap, ◌∙◌, subst}
 use Rattle.mm_word.specs.Perm.{can_store}
-use Rattle.mm_model.specs.Audit.{MaximalSegments}
-use Rattle.mm_model.specs.declared.word_use.WordUse.TheVariants.{Write}
-use Rattle.mm_audit.specs.Surveys.{Surveys}
-use Rattle.mm_audit.specs.Walks.{outermost}
-use Rattle.mm_audit.proofs.GroupSegments.{segments_of}
+use Rattle.mm_model.specs.{Audit.MaximalSegments, declared.word_use.WordUse.TheVariants.Write}
+use Rattle.mm_audit.{specs.{Surveys.Surveys, Walks.outermost}, proofs.GroupSegments.segments_of}
 use Rattle.mm_audit.proofs.surveys.Survey.written.Goals as goal
 
 pub returns : goal.returns

@@ -1,8 +1,8 @@
 use Rattle.std.proofs.Common.{ap, arith}
 use Rattle.mm_cache.specs.declared.lines.Lines.TheInside.{Inside}
 use Rattle.mm_cache.proofs.DropPage.{step_gone, step_kept, index_in}
-use Rattle.mm_cache.proofs.lines.Lines.drop_page.Goals as goal
 use Rattle.mm_cache.proofs.lines.Lines.drop_page.Goals.{then-has_page, else-has_page}
+use Rattle.mm_cache.proofs.lines.Lines.drop_page.Goals as goal
 
 pub loop-i-preserved : goal.loop-i-preserved
 loop-i-preserved c = elim c.if-has_page.branch [

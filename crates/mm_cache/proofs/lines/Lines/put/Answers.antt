@@ -2,8 +2,7 @@ use Rattle.std.proofs.Common.{◌≡◌, ◌<◌, ℕ, List, Option, length, sym
 use Rattle.mm_model.specs.Counted.{block_of, line_of}
 use Rattle.mm_cache.specs.declared.line.CacheLine.{CacheLine}
 use Rattle.mm_cache.specs.Lines.{AreLines, line_in, line_with, is_in, hits, with_cell}
-use Rattle.mm_cache.proofs.DropPage.{index_in}
-use Rattle.mm_cache.proofs.Placed.{lines_written}
+use Rattle.mm_cache.proofs.{DropPage.index_in, Placed.lines_written}
 use Rattle.mm_cache.proofs.lines.Lines.put.Goals as goal
 
 -- the index is that of the word's block

@@ -1,6 +1,5 @@
 use Rattle.std.proofs.Common.{ℕ, false, get_or, sym, ap, ◌∙◌}
-use Rattle.mm_debug.proofs.Kept.{answered, break_searched}
-use Rattle.mm_debug.proofs.Spots.{none_at}
+use Rattle.mm_debug.proofs.{Kept.{answered, break_searched}, Spots.none_at}
 use Rattle.mm_debug.proofs.breakpoints.Breaks.contains.Goals as goal
 
 pub returns : goal.returns

@@ -1,5 +1,4 @@
-use Rattle.std.proofs.Common.{arith}
-use Rattle.std.specs.List.Sorted.{IsStrictlySortedBy}
+use Rattle.std.{proofs.Common.arith, specs.List.Sorted.IsStrictlySortedBy}
 use Rattle.mm_debug.proofs.breakpoints.Breaks.new.Goals as goal
 
 pub invariant_of-result : goal.invariant_of-result

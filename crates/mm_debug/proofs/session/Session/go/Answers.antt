@@ -1,8 +1,6 @@
 use Rattle.std.proofs.Common.{◌≡◌, sym, subst}
 use Rattle.mm_machine.specs.Machine.{state_of}
-use Rattle.mm_debug.specs.Session.{Session}
-use Rattle.mm_debug.specs.Shown.{session_of}
-use Rattle.mm_debug.specs.Standing.{Point, PointStandsFor, CanGo}
+use Rattle.mm_debug.specs.{Session.Session, Shown.session_of, Standing.{Point, PointStandsFor, CanGo}}
 use Rattle.mm_debug.proofs.Points.{gone_stands}
 use Rattle.mm_debug.proofs.session.Session.go.Goals as goal
 

@@ -1,7 +1,6 @@
 use Rattle.std.proofs.Common.{ap, arith}
 use Rattle.mm_model.specs.State.{State}
-use Rattle.mm_debug.specs.Shown.{session_of}
-use Rattle.mm_debug.proofs.Stepping.{item_below_limit, robin_small, issued_total}
+use Rattle.mm_debug.{specs.Shown.session_of, proofs.Stepping.{item_below_limit, robin_small, issued_total}}
 use Rattle.mm_debug.proofs.session.Session.issue.Goals as goal
 
 pub after-self-requires : goal.after-self-requires

@@ -1,10 +1,7 @@
 use Rattle.std.proofs.Common.{sym, subst}
 use Rattle.mm_text.proofs.Appending.{appends_same, buffered_writes}
-use Rattle.mm_debug.specs.Commands.{lines_of}
-use Rattle.mm_debug.specs.Shown.{session_of}
-use Rattle.mm_debug.specs.Standing.{StandsFor}
-use Rattle.mm_debug.proofs.Standing.{dialogue_stands}
-use Rattle.mm_debug.proofs.Going.{input_goes, sessions_said}
+use Rattle.mm_debug.specs.{Commands.lines_of, Shown.session_of, Standing.StandsFor}
+use Rattle.mm_debug.proofs.{Standing.dialogue_stands, Going.{input_goes, sessions_said}}
 use Rattle.mm_debug.proofs.session.Session.lines.Goals as goal
 
 pub returns-clause-session : goal.returns-clause-session

@@ -1,11 +1,9 @@
-use Rattle.std.proofs.Common.{◌≡◌, ℕ, ◌<◌, ◌≤◌, ltb, List, length, get_or, slice_get, Option, None, Some, is_some, IfSome, option_copied, refl, sym, ap, ◌∙◌, arith, Bor}
-use Rattle.std.proofs.lemmas.Bool.Decides.{nat_tests}
-use Rattle.std.proofs.lemmas.Option.{slice_get_past, slice_get_read}
-use Rattle.mm_debug.specs.Session.{total_of}
+use Rattle.std.proofs.Common.{◌≡◌, ℕ, ◌<◌, ◌≤◌, ltb, List, length, get_or, slice_get, Option, None, Some, is_some}
+use Rattle.std.proofs.Common.{IfSome, option_copied, refl, sym, ap, ◌∙◌, arith, Bor}
+use Rattle.std.proofs.lemmas.{Bool.Decides.nat_tests, Option.{slice_get_past, slice_get_read}}
+use Rattle.mm_debug.{specs.{Session.total_of, Shown.session_of}, proofs.Stepping.{limit_ends, item_of_order}}
 use Rattle.mm_sched.specs.Orders.{item_in}
-use Rattle.mm_debug.specs.Shown.{session_of}
 use Rattle.mm_machine.proofs.Running.{peeked}
-use Rattle.mm_debug.proofs.Stepping.{limit_ends, item_of_order}
 use Rattle.mm_debug.proofs.session.Session.next_item.Goals as goal
 
 pub returns-then-total-ge-CYCLE_LIMIT : goal.returns-then-total-ge-CYCLE_LIMIT

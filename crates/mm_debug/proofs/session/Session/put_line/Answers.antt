@@ -1,12 +1,9 @@
 use Rattle.std.proofs.Common.{sym, ap, ◌∙◌, arith}
 use Rattle.mm_text.proofs.Appending.{appends_same}
-use Rattle.mm_debug.specs.declared.command.Command.TheVariants.{Step, Run}
-use Rattle.mm_debug.specs.Session.{total_of, answer}
+use Rattle.mm_debug.specs.{declared.command.Command.TheVariants.{Step, Run}, Session.{total_of, answer}}
 use Rattle.mm_debug.specs.Shown.{session_of}
-use Rattle.mm_debug.proofs.MemoryLines.{words_aligned, words_within}
-use Rattle.mm_debug.proofs.Standing.{stepped_stands, ran_stands}
-use Rattle.mm_debug.proofs.StepCounts.{steps_issue}
-use Rattle.mm_debug.proofs.Going.{answer_goes}
+use Rattle.mm_debug.proofs.{MemoryLines.{words_aligned, words_within}, Standing.{stepped_stands, ran_stands}}
+use Rattle.mm_debug.proofs.{StepCounts.steps_issue, Going.answer_goes}
 use Rattle.mm_debug.proofs.session.Session.put_line.Goals as goal
 
 pub overflow_sub-total : goal.overflow_sub-total

@@ -1,11 +1,11 @@
-use Rattle.std.proofs.Common.{◌≡◌, ◌+◌, ◌-◌, true, false, ◌&&◌, None, Some, sym, ap, ◌∙◌, arith}
-use Rattle.std.proofs.lemmas.Bool.{and_left}
+use Rattle.std.proofs.{Common.{◌≡◌, ◌+◌, ◌-◌, true, false, ◌&&◌, None, Some, sym, ap, ◌∙◌, arith}, lemmas.Bool.and_left}
+use Rattle.mm_debug.specs.{Session.{Session, stops_before, stopped, run_from}, Shown.session_of}
+use Rattle.mm_debug.proofs.Runs.{run_begins, run_over, run_ends, run_breaks, run_watches, run_goes, passes_later}
+use Rattle.mm_debug.proofs.Runs.{seen_after}
+use Rattle.mm_debug.proofs.session.Session.run.Goals.{else-begun-via-then-begun+else-stops_before}
+use Rattle.mm_debug.proofs.session.Session.run.Goals.{else-begun-via-else-begun}
 use Rattle.mm_debug.specs.declared.stop.StopReason.TheVariants as stop
-use Rattle.mm_debug.specs.Session.{Session, stops_before, stopped, run_from}
-use Rattle.mm_debug.specs.Shown.{session_of}
-use Rattle.mm_debug.proofs.Runs.{run_begins, run_over, run_ends, run_breaks, run_watches, run_goes, passes_later, seen_after}
 use Rattle.mm_debug.proofs.session.Session.run.Goals as goal
-use Rattle.mm_debug.proofs.session.Session.run.Goals.{else-begun-via-then-begun+else-stops_before, else-begun-via-else-begun}
 
 pub loop-init : goal.loop-init
 loop-init g c = run_begins (session_of c.args.self.now) c.cycles-counter.result c.cycles-counter.ensures

@@ -1,6 +1,5 @@
 use Rattle.std.proofs.Common.{◌≡◌, ◌-◌}
-use Rattle.mm_debug.specs.Session.{run_from, ran}
-use Rattle.mm_debug.specs.Shown.{session_of}
+use Rattle.mm_debug.specs.{Session.{run_from, ran}, Shown.session_of}
 use Rattle.mm_debug.proofs.session.Session.run.Given as goal
 
 -- the run from here stops where the whole of it does

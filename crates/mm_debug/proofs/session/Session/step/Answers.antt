@@ -1,6 +1,5 @@
 use Rattle.std.proofs.Common.{◌+◌, ◌-◌, sym, ap, ◌∙◌, arith}
-use Rattle.mm_debug.specs.Session.{Session, next_item, stepped}
-use Rattle.mm_debug.specs.Shown.{session_of}
+use Rattle.mm_debug.specs.{Session.{Session, next_item, stepped}, Shown.session_of}
 use Rattle.mm_debug.proofs.Stepping.{stepped_none, stepped_ends, stepped_goes}
 use Rattle.mm_debug.proofs.session.Session.step.Goals as goal
 

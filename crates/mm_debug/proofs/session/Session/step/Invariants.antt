@@ -1,6 +1,5 @@
 use Rattle.std.proofs.Common.{◌≡◌, ◌-◌}
-use Rattle.mm_debug.specs.Session.{stepped}
-use Rattle.mm_debug.specs.Shown.{session_of}
+use Rattle.mm_debug.specs.{Session.stepped, Shown.session_of}
 use Rattle.mm_debug.proofs.session.Session.step.Given as goal
 
 -- the cycles that are left lead where all of them do

@@ -1,6 +1,5 @@
 use Rattle.std.proofs.Common.{refl}
-use Rattle.mm_debug.specs.Session.{answer_to}
-use Rattle.mm_debug.specs.Shown.{session_of}
+use Rattle.mm_debug.specs.{Session.answer_to, Shown.session_of}
 use Rattle.mm_debug.proofs.session.SessionLineHandler.handle_line.Goals as goal
 
 pub returns : goal.returns

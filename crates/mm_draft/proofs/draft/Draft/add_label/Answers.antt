@@ -1,8 +1,6 @@
 use Rattle.std.proofs.Common.{◌≡◌, ◌-◌, ◌∙◌, ap, None, length, arith}
-use Rattle.mm_draft.specs.Drafts.{Draft, place_in, place_of}
-use Rattle.mm_draft.specs.Counts.{entries_of}
-use Rattle.mm_draft.proofs.Names.{inserted}
-use Rattle.mm_draft.proofs.Steps.{label_step}
+use Rattle.mm_draft.specs.{Drafts.{Draft, place_in, place_of}, Counts.entries_of}
+use Rattle.mm_draft.proofs.{Names.inserted, Steps.label_step}
 use Rattle.mm_draft.proofs.draft.Draft.add_label.Goals as goal
 
 pub returns : goal.returns

@@ -1,7 +1,5 @@
 use Rattle.std.proofs.Common.{◌≡◌, refl, Some}
-use Rattle.mm_draft.specs.Drafts.{last, with_register}
-use Rattle.mm_draft.proofs.Lasts.{last_read, set_last}
-use Rattle.mm_draft.proofs.Steps.{threads_step}
+use Rattle.mm_draft.{specs.Drafts.{last, with_register}, proofs.{Lasts.{last_read, set_last}, Steps.threads_step}}
 use Rattle.mm_draft.proofs.draft.Draft.add_register.Goals as goal
 
 pub returns : goal.returns

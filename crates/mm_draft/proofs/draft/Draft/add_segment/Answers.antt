@@ -1,8 +1,6 @@
 use Rattle.std.proofs.Common.{◌≡◌, ◌∙◌, ap, None}
-use Rattle.mm_draft.specs.Drafts.{Draft, place_in, place_of}
-use Rattle.mm_draft.specs.Counts.{entries_of}
-use Rattle.mm_draft.proofs.Names.{inserted}
-use Rattle.mm_draft.proofs.Steps.{segment_step, counts_begin}
+use Rattle.mm_draft.specs.{Drafts.{Draft, place_in, place_of}, Counts.entries_of}
+use Rattle.mm_draft.proofs.{Names.inserted, Steps.{segment_step, counts_begin}}
 use Rattle.mm_draft.proofs.draft.Draft.add_segment.Goals as goal
 
 pub invariant_of-self-2 : goal.invariant_of-self-2

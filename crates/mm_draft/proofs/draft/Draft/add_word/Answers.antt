@@ -1,7 +1,6 @@
 use Rattle.std.proofs.Common.{◌≡◌, refl, [], ◌∷◌, Some, arith}
 use Rattle.mm_draft.specs.Drafts.{last, with_words}
-use Rattle.mm_draft.proofs.Lasts.{last_read, set_last}
-use Rattle.mm_draft.proofs.Steps.{counts_more, segments_step}
+use Rattle.mm_draft.proofs.{Lasts.{last_read, set_last}, Steps.{counts_more, segments_step}}
 use Rattle.mm_draft.proofs.draft.Draft.add_word.Goals as goal
 
 pub invariant_of-self-2 : goal.invariant_of-self-2

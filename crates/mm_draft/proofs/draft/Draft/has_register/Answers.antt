@@ -1,7 +1,5 @@
 use Rattle.std.proofs.Common.{◌∙◌, ap, sym}
-use Rattle.mm_draft.specs.Drafts.{Draft, last}
-use Rattle.mm_draft.specs.Faults.{has_register}
-use Rattle.mm_draft.proofs.Lasts.{last_is}
+use Rattle.mm_draft.{specs.{Drafts.{Draft, last}, Faults.has_register}, proofs.Lasts.last_is}
 use Rattle.mm_draft.proofs.draft.Draft.has_register.Goals as goal
 
 pub returns-in-Some : goal.returns-in-Some

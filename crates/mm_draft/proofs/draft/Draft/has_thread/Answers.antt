@@ -1,7 +1,5 @@
-use Rattle.std.proofs.Common.{◌∙◌, ap, sym, not, is_some}
-use Rattle.std.specs.Prelude.{◌==◌}
-use Rattle.mm_draft.specs.Drafts.{Draft, last}
-use Rattle.mm_draft.proofs.Lasts.{has_last}
+use Rattle.std.{proofs.Common.{◌∙◌, ap, sym, not, is_some}, specs.Prelude.◌==◌}
+use Rattle.mm_draft.{specs.Drafts.{Draft, last}, proofs.Lasts.has_last}
 use Rattle.mm_draft.proofs.draft.Draft.has_thread.Goals as goal
 
 pub returns : goal.returns

@@ -1,6 +1,5 @@
 use Rattle.std.proofs.Common.{◌∙◌, ap}
-use Rattle.mm_draft.specs.Drafts.{Draft, place_of}
-use Rattle.mm_draft.proofs.Names.{found}
+use Rattle.mm_draft.{specs.Drafts.{Draft, place_of}, proofs.Names.found}
 use Rattle.mm_draft.proofs.draft.Draft.place_of.Goals as goal
 
 pub returns : goal.returns

@@ -1,11 +1,7 @@
-use Rattle.std.proofs.Common.{sym, subst, length}
-use Rattle.std.proofs.lemmas.Result.{err_from_is_err_and}
-use Rattle.mm_line.specs.declared.line.Line.{Line}
-use Rattle.mm_line.specs.Ranges.{IsOptionalBody, NamesItsClaim}
-use Rattle.mm_line.proofs.Claims.{line_claims}
-use Rattle.mm_line.proofs.StatementRanges.{line_is}
-use Rattle.mm_draft.specs.Seen.{Leaves}
-use Rattle.mm_draft.proofs.Lines.{label_err, goes}
+use Rattle.std.proofs.{Common.{sym, subst, length}, lemmas.Result.err_from_is_err_and}
+use Rattle.mm_line.specs.{declared.line.Line.Line, Ranges.{IsOptionalBody, NamesItsClaim}}
+use Rattle.mm_line.proofs.{Claims.line_claims, StatementRanges.line_is}
+use Rattle.mm_draft.{specs.Seen.Leaves, proofs.Lines.{label_err, goes}}
 use Rattle.mm_draft.proofs.draft.Draft.read_line.Goals as goal
 
 pub returns-in_err-read_label : goal.returns-in_err-read_label

@@ -1,13 +1,10 @@
-use Rattle.std.proofs.Common.{◌≡◌, ◌+◌, ◌∙◌, ap, sym, length}
-use Rattle.std.specs.Prelude.{nat_lt, ◌||◌}
+use Rattle.std.{proofs.Common.{◌≡◌, ◌+◌, ◌∙◌, ap, sym, length}, specs.Prelude.{nat_lt, ◌||◌}}
 use Rattle.mm_line.specs.declared.fault.Fault.TheVariants.{Full, Limit}
 use Rattle.mm_draft.specs.Drafts.{Segment, Draft, last, words_of, pointers_of}
-use Rattle.mm_draft.specs.Faults.{first_of, fault_if, words_faults, room_of}
-use Rattle.mm_draft.specs.Seen.{first_of_both}
-use Rattle.mm_draft.proofs.Lasts.{last_is}
-use Rattle.mm_draft.proofs.Firsts.{first_of_append}
-use Rattle.mm_draft.proofs.draft.Draft.words_fault.Goals as goal
+use Rattle.mm_draft.specs.{Faults.{first_of, fault_if, words_faults, room_of}, Seen.first_of_both}
+use Rattle.mm_draft.proofs.{Lasts.last_is, Firsts.first_of_append}
 use Rattle.mm_model.specs.Limits.{word_limit, reloc_limit}
+use Rattle.mm_draft.proofs.draft.Draft.words_fault.Goals as goal
 
 pub returns-in-Some : goal.returns-in-Some
 returns-in-Some c =

@@ -1,6 +1,5 @@
 use Rattle.std.proofs.Common.{◌∙◌, ap, sym, length}
-use Rattle.mm_draft.specs.Drafts.{Segment, Draft, last, words_so_far}
-use Rattle.mm_draft.proofs.Lasts.{last_is}
+use Rattle.mm_draft.{specs.Drafts.{Segment, Draft, last, words_so_far}, proofs.Lasts.last_is}
 use Rattle.mm_draft.proofs.draft.Draft.words_so_far.Goals as goal
 
 pub returns-in-Some : goal.returns-in-Some

@@ -1,15 +1,10 @@
 use Rattle.std.proofs.Common.{ℕ, List, [], ◌≡◌, ◌∙◌, ◌^◌, ◌<◌, map, sym, ap, subst, arith}
-use Rattle.std.specs.List.{AllByRecursion}
-use Rattle.std.specs.List.Sorted.{IsStrictlyIncreasing}
-use Rattle.mm_model.specs.Fits.{slots_of, IsOfVersion}
-use Rattle.mm_model.specs.Memory.{Memory}
-use Rattle.mm_model.specs.Slot.{Slot}
-use Rattle.mm_model.specs.Spelling.{numbers_of, IsFresh}
+use Rattle.std.specs.List.{AllByRecursion, Sorted.IsStrictlyIncreasing}
+use Rattle.mm_model.specs.{Fits.{slots_of, IsOfVersion}, Memory.Memory, Slot.Slot, Spelling.{numbers_of, IsFresh}}
 use Rattle.mm_model.specs.State.{Core}
 use Rattle.mm_machine.proofs.Starting.{fresh_slots, no_output}
 use Rattle.mm_thread.specs.SlotIndices.{row_alone}
-use Rattle.mm_explore.specs.Holds.{IsHolding}
-use Rattle.mm_explore.proofs.Standing.{each_fresh, start_made, begun, first_memory}
+use Rattle.mm_explore.{specs.Holds.IsHolding, proofs.Standing.{each_fresh, start_made, begun, first_memory}}
 use Rattle.mm_explore.proofs.bench.Bench.new.Goals as goal
 
 pub new-requires-clause-rising : goal.new-requires-clause-rising

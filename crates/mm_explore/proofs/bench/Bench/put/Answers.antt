@@ -1,16 +1,9 @@
-use Rattle.std.proofs.Common.{ℕ, List, ◌≡◌, ◌∙◌, sym, subst}
-use Rattle.std.specs.Option.{option_map}
+use Rattle.std.{proofs.Common.{ℕ, List, ◌≡◌, ◌∙◌, sym, subst}, specs.Option.option_map}
 use Rattle.mm_word.specs.declared.word.Cell.{Cell}
-use Rattle.mm_model.specs.declared.event.Event.{Event}
-use Rattle.mm_model.specs.Image.{start}
-use Rattle.mm_model.specs.Run.{run}
-use Rattle.mm_model.specs.Slot.{Slot}
-use Rattle.mm_thread.specs.Output.{Output}
-use Rattle.mm_thread.specs.Parts.{core_of, AreParts}
-use Rattle.mm_explore.specs.Configurations.{uncounted}
-use Rattle.mm_explore.specs.Holds.{AreListed}
-use Rattle.mm_explore.proofs.KeptRuns.{runs_state_of}
-use Rattle.mm_explore.proofs.Putting.{more_ok}
+use Rattle.mm_model.specs.{declared.event.Event.Event, Image.start, Run.run, Slot.Slot}
+use Rattle.mm_thread.specs.{Output.Output, Parts.{core_of, AreParts}}
+use Rattle.mm_explore.specs.{Configurations.uncounted, Holds.AreListed}
+use Rattle.mm_explore.proofs.{KeptRuns.runs_state_of, Putting.more_ok}
 use Rattle.mm_explore.proofs.Standing.{memory_of, listed_of, parts_given, core_given, core_like, standing_at, turns_few}
 use Rattle.mm_explore.proofs.bench.Bench.put.Goals as goal
 

@@ -1,20 +1,11 @@
-use Rattle.std.proofs.Common.{ℕ, List, Option, Some, None, ◌≡◌, ◌∙◌, ◌++◌, ◌%◌, ◌^◌, ◌<◌, false, length, map, nat_eq, sym, ap, subst}
-use Rattle.std.specs.Prelude.{IfSome}
-use Rattle.std.specs.Option.{option_map}
+use Rattle.std.proofs.Common.{ℕ, List, Option, Some, None, ◌≡◌, ◌∙◌, ◌++◌, ◌%◌, ◌^◌, ◌<◌, false, length, map, nat_eq}
+use Rattle.std.{proofs.Common.{sym, ap, subst}, specs.{Prelude.IfSome, Option.option_map}}
 use lib.Pointwise.{pointwise}
 use Rattle.mm_word.specs.declared.word.Cell.{Cell}
-use Rattle.mm_model.specs.Fits.{slots_of}
-use Rattle.mm_model.specs.Image.{start}
-use Rattle.mm_model.specs.Memory.{Memory}
-use Rattle.mm_model.specs.Run.{run}
-use Rattle.mm_model.specs.Slot.{Slot}
-use Rattle.mm_model.proofs.CoreRows.{each_map}
+use Rattle.mm_model.{specs.{Fits.slots_of, Image.start, Memory.Memory, Run.run, Slot.Slot}, proofs.CoreRows.each_map}
 use Rattle.mm_machine.specs.Snapshot.{queued, page_numbers}
-use Rattle.mm_explore.specs.Holds.{AreListed, numbers_in}
-use Rattle.mm_explore.specs.Kept.{core_output}
-use Rattle.mm_explore.proofs.CellLists.{listed_at_words}
-use Rattle.mm_explore.proofs.KeptRuns.{runs_state_of}
-use Rattle.mm_explore.proofs.Putting.{more_ok, numbers_put}
+use Rattle.mm_explore.specs.{Holds.{AreListed, numbers_in}, Kept.core_output}
+use Rattle.mm_explore.proofs.{CellLists.listed_at_words, KeptRuns.runs_state_of, Putting.{more_ok, numbers_put}}
 use Rattle.mm_explore.proofs.Standing.{memory_of, as_many, few_slots, numbers_kept}
 use Rattle.mm_explore.proofs.bench.Bench.put_numbers.Goals as goal
 

@@ -1,14 +1,12 @@
 use Rattle.std.proofs.Common.{◌++◌, ◌∙◌, map, zip, refl, sym, ap, subst}
-use Rattle.std.specs.List.{AllByRecursion, AllZip, flat_map}
-use Rattle.std.specs.BTreeMap.{get}
+use Rattle.std.specs.{List.{AllByRecursion, AllZip, flat_map}, BTreeMap.get}
 use Rattle.mm_word.specs.Cause.{cause_numbers}
 use Rattle.mm_model.specs.Slot.{Slot}
-use Rattle.mm_explore.specs.Findings.{IsReached, explored_turns, firsts}
-use Rattle.mm_explore.specs.Noting.{first_in, fault_found}
+use Rattle.mm_explore.specs.{Findings.{IsReached, explored_turns, firsts}, Noting.{first_in, fault_found}}
 use Rattle.mm_explore.specs.Results.{GroupFound, group_found_lines, fault_found_lines, outcome_found_lines}
-use Rattle.mm_explore.specs.Texts.{Exploration, reached_lines, outcome_lines}
-use Rattle.mm_explore.specs.Words.{order}
-use Rattle.mm_explore.proofs.ResultTexts.{groups_reached, groups_numbered, groups_each, groups_text, faults_text, origin_inside, results_text}
+use Rattle.mm_explore.specs.{Texts.{Exploration, reached_lines, outcome_lines}, Words.order}
+use Rattle.mm_explore.proofs.ResultTexts.{groups_reached, groups_numbered, groups_each, groups_text, faults_text}
+use Rattle.mm_explore.proofs.ResultTexts.{origin_inside, results_text}
 use Rattle.mm_explore.proofs.findings.Findings.explored.Goals as goal
 
 pub list_faults-requires : goal.list_faults-requires

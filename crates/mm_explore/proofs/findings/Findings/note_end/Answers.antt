@@ -1,6 +1,5 @@
 use Rattle.std.proofs.Common.{◌∙◌}
-use Rattle.mm_explore.proofs.Notes.{both_ok, ended_next, room_is}
-use Rattle.mm_explore.proofs.EndTexts.{key_is}
+use Rattle.mm_explore.proofs.{Notes.{both_ok, ended_next, room_is}, EndTexts.key_is}
 use Rattle.mm_explore.proofs.findings.Findings.note_end.Goals as goal
 
 pub count_end-requires : goal.count_end-requires

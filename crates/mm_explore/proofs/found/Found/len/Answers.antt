@@ -1,6 +1,5 @@
 use Rattle.std.proofs.Common.{[], ◌∷◌, length, ap, arith}
-use Rattle.mm_explore.specs.FoundLists.{FoundList}
-use Rattle.mm_explore.proofs.FoundForms.{length_spelled}
+use Rattle.mm_explore.{specs.FoundLists.FoundList, proofs.FoundForms.length_spelled}
 use Rattle.mm_explore.proofs.found.Found.len.Goals as goal
 
 pub returns-clause-count : goal.returns-clause-count

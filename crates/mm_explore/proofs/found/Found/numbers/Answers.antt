@@ -1,5 +1,4 @@
-use Rattle.std.proofs.Common.{length, sym, arith, ap, ◌∙◌, slice_index_or}
-use Rattle.std.specs.Prelude.{Some}
+use Rattle.std.{proofs.Common.{length, sym, arith, ap, ◌∙◌, slice_index_or}, specs.Prelude.Some}
 use Rattle.mm_explore.proofs.FoundForms.{within_keys, form_at}
 use Rattle.mm_explore.proofs.found.Found.numbers.Goals as goal
 

@@ -1,6 +1,5 @@
 use Rattle.std.proofs.Common.{◌≡◌, ◌<◌, length}
-use Rattle.mm_explore.specs.FoundLists.{schedule_with}
-use Rattle.mm_explore.proofs.FoundForms.{before_items}
+use Rattle.mm_explore.{specs.FoundLists.schedule_with, proofs.FoundForms.before_items}
 use Rattle.mm_explore.proofs.found.Found.schedule.Given as goal
 
 abbrev pub invariant-loop-at : goal.invariant-loop-at

@@ -1,10 +1,7 @@
 use Rattle.std.proofs.Common.{◌∙◌, sym, ap, subst, Option}
 use Rattle.mm_word.specs.declared.word.Cell.{Cell}
-use Rattle.mm_explore.specs.Edits.{noted}
-use Rattle.mm_explore.specs.Holds.{IsMoved, numbers_in}
-use Rattle.mm_explore.proofs.CellLists.{listed_order}
-use Rattle.mm_explore.proofs.Listings.{noted_listed, same_listed}
-use Rattle.mm_explore.proofs.Putting.{more_ok}
+use Rattle.mm_explore.specs.{Edits.noted, Holds.{IsMoved, numbers_in}}
+use Rattle.mm_explore.proofs.{CellLists.listed_order, Listings.{noted_listed, same_listed}, Putting.more_ok}
 use Rattle.mm_explore.proofs.held.Held.note_word.Goals as goal
 
 pub note-requires : goal.note-requires

@@ -1,7 +1,6 @@
 use Rattle.std.proofs.Common.{sym, subst}
 use Rattle.mm_model.specs.Memory.{IsPaged}
-use Rattle.mm_explore.proofs.CellLists.{listed_at_words}
-use Rattle.mm_explore.proofs.Resets.{made_anew, base_is_paged}
+use Rattle.mm_explore.proofs.{CellLists.listed_at_words, Resets.{made_anew, base_is_paged}}
 use Rattle.mm_explore.proofs.held.Held.put_anew.Goals as goal
 
 pub put_listed-requires-clause-words : goal.put_listed-requires-clause-words

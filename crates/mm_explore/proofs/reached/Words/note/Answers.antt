@@ -1,6 +1,5 @@
 use Rattle.std.proofs.Common.{◌++◌, true, false, sym, ◌∙◌, subst}
-use Rattle.mm_explore.specs.Words.{AreKept}
-use Rattle.mm_explore.proofs.WordKeys.{passed_all, passed_if, none_kept}
+use Rattle.mm_explore.{specs.Words.AreKept, proofs.WordKeys.{passed_all, passed_if, none_kept}}
 use Rattle.mm_explore.proofs.reached.Words.note.Goals as goal
 
 pub returns-in_ok-add-2-clause-touched : goal.returns-in_ok-add-2-clause-touched

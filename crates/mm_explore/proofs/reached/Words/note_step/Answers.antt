@@ -1,12 +1,8 @@
-use Rattle.std.proofs.Common.{◌++◌, subst}
-use Rattle.std.specs.List.{flat_map}
-use Rattle.std.specs.Option.{option_to_list}
-use Rattle.mm_explore.specs.Findings.{any_kind}
-use Rattle.mm_explore.specs.Words.{AreKept, passed_words}
-use Rattle.mm_explore.proofs.Putting.{more_ok}
-use Rattle.mm_explore.proofs.WordKeys.{step_joined}
-use Rattle.mm_explore.proofs.reached.Words.note_step.Goals as goal
+use Rattle.std.{proofs.Common.{◌++◌, subst}, specs.{List.flat_map, Option.option_to_list}}
+use Rattle.mm_explore.specs.{Findings.any_kind, Words.{AreKept, passed_words}}
+use Rattle.mm_explore.proofs.{Putting.more_ok, WordKeys.step_joined}
 use Rattle.mm_model.specs.Counted.{writes}
+use Rattle.mm_explore.proofs.reached.Words.note_step.Goals as goal
 
 pub returns-clause-touched : goal.returns-clause-touched
 returns-clause-touched c =

@@ -1,10 +1,7 @@
 use Rattle.std.proofs.Common.{◌≡◌, ◌∙◌, ◌+◌, [], sym, ap, subst, length, take, ℕ, arith}
-use Rattle.std.specs.Prelude.{◌==◌, Some, slice_get}
-use Rattle.std.specs.Vec.{vec_len}
-use Rattle.mm_explore.specs.Findings.{IsFinal}
-use Rattle.mm_explore.specs.Searching.{IsBefore, node_schedule, turns_before, AllStay}
-use Rattle.mm_explore.proofs.Notings.{ended_skip}
-use Rattle.mm_explore.proofs.Putting.{more_ok}
+use Rattle.std.specs.{Prelude.{◌==◌, Some, slice_get}, Vec.vec_len}
+use Rattle.mm_explore.specs.{Findings.IsFinal, Searching.{IsBefore, node_schedule, turns_before, AllStay}}
+use Rattle.mm_explore.proofs.{Notings.ended_skip, Putting.more_ok}
 use Rattle.mm_explore.proofs.Steps.{get_inside, final_so, none_so, both_ok, all_made}
 use Rattle.mm_explore.proofs.search.Search.expand.Goals as goal
 

@@ -1,9 +1,7 @@
 use Rattle.std.proofs.Common.{[], refl, arith}
-use Rattle.mm_explore.specs.Benches.{IsAtConfiguration}
-use Rattle.mm_explore.specs.Findings.{Extension}
+use Rattle.mm_explore.specs.{Benches.IsAtConfiguration, Findings.Extension}
 use Rattle.mm_explore.specs.Searching.{node_schedule, turns_before, turns_from}
-use Rattle.mm_explore.proofs.Putting.{more_ok}
-use Rattle.mm_explore.proofs.Steps.{moved_by, stays_by, item_is, list_few, if_more, get_inside}
+use Rattle.mm_explore.proofs.{Putting.more_ok, Steps.{moved_by, stays_by, item_is, list_few, if_more, get_inside}}
 use Rattle.mm_explore.proofs.search.Search.make.Goals as goal
 
 pub overflow_cast-origin : goal.overflow_cast-origin

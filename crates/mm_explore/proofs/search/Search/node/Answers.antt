@@ -1,8 +1,6 @@
-use Rattle.std.proofs.Common.{◌∙◌, [], sym, ap, subst, ◌<◌, slice_index_or}
-use Rattle.std.specs.List.{AllByRecursion}
+use Rattle.std.{proofs.Common.{◌∙◌, [], sym, ap, subst, ◌<◌, slice_index_or}, specs.List.AllByRecursion}
 use Rattle.mm_model.specs.Slot.{Slot}
-use Rattle.mm_explore.specs.MoveLists.{moves_in}
-use Rattle.mm_explore.proofs.Steps.{parts_so, small_so, moves_so}
+use Rattle.mm_explore.{specs.MoveLists.moves_in, proofs.Steps.{parts_so, small_so, moves_so}}
 use Rattle.mm_explore.proofs.search.Search.node.Goals as goal
 
 pub moves_of-requires : goal.moves_of-requires

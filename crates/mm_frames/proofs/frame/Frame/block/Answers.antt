@@ -1,5 +1,4 @@
-use Rattle.std.proofs.Common.{◌≡◌, List, [], get_or, length, ap, ◌∙◌, arith}
-use Rattle.std.proofs.lemmas.List.{get_or_default}
+use Rattle.std.proofs.{Common.{◌≡◌, List, [], get_or, length, ap, ◌∙◌, arith}, lemmas.List.get_or_default}
 use Rattle.mm_word.specs.declared.word.Cell.{Cell}
 use Rattle.mm_mem.specs.Blocks.{block_in}
 use Rattle.mm_frames.proofs.Cells.{block_read, eight_at}

@@ -1,5 +1,4 @@
-use Rattle.std.proofs.Common.{◌≡◌, ◌*◌, ◌+◌, List, length, sym, ◌∙◌, ap, arith, take}
-use Rattle.std.proofs.lemmas.List.{take_all}
+use Rattle.std.proofs.{Common.{◌≡◌, ◌*◌, ◌+◌, List, length, sym, ◌∙◌, ap, arith, take}, lemmas.List.take_all}
 use Rattle.mm_word.specs.declared.word.Cell.{Cell}
 use Rattle.mm_frames.proofs.Cells.{eight_of_page, front_more, whole_with_block}
 use Rattle.mm_frames.proofs.frame.Frame.copy.Goals as goal

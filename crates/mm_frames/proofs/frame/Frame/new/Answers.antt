@@ -1,8 +1,7 @@
 use Rattle.std.proofs.Common.{◌≡◌, List, replicate, rules, ap, ◌∙◌}
 use Rattle.mm_word.specs.declared.word.Cell.{Cell}
 use Rattle.mm_model.specs.Memory.{zero_cell}
-use Rattle.mm_frames.specs.Cells.{cells_of}
-use Rattle.mm_frames.proofs.Cells.{zero_frame}
+use Rattle.mm_frames.{specs.Cells.cells_of, proofs.Cells.zero_frame}
 use Rattle.mm_frames.proofs.frame.Frame.new.Goals as goal
 
 all_zero : (c : goal.In_ok-blocks) → c.in_ok-blocks.blocks.items ≡ replicate 64 (replicate 8 zero_cell)

@@ -1,10 +1,7 @@
 use Rattle.std.proofs.Common.{ℕ, List, IsTrue, Some, IfOk, IfErr, sym, ap, subst, ◌∙◌}
-use Rattle.std.specs.Ordering.{nat_cmp}
-use Rattle.std.specs.FinMap.{is_sorted}
+use Rattle.std.specs.{Ordering.nat_cmp, FinMap.is_sorted}
 use Rattle.mm_mem.specs.Places.{IsAt, IsGap}
-use Rattle.mm_frames.specs.Framed.{Framed, frame_of}
-use Rattle.mm_frames.proofs.Framed.{rows_rise}
-use Rattle.mm_frames.proofs.Kept.{frame_at, gap_from, place_from}
+use Rattle.mm_frames.{specs.Framed.{Framed, frame_of}, proofs.{Framed.rows_rise, Kept.{frame_at, gap_from, place_from}}}
 use Rattle.mm_frames.proofs.frames.Frames.frame_of.Goals as goal
 
 pub search-requires : goal.search-requires

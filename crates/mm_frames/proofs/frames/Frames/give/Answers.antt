@@ -1,11 +1,8 @@
 use Rattle.std.proofs.Common.{◌≡◌, ℕ, List, [], ◌∷◌, ◌++◌, IsTrue, true, sym, ap, subst, ◌∙◌, arith}
-use Rattle.std.specs.Ordering.{nat_cmp}
-use Rattle.std.specs.FinMap.{is_sorted}
+use Rattle.std.specs.{Ordering.nat_cmp, FinMap.is_sorted}
 use Rattle.mm_model.specs.Memory.{is_mapped}
-use Rattle.mm_mem.specs.Answers.{after_unmap}
-use Rattle.mm_mem.specs.Places.{IsAt, IsGap}
-use Rattle.mm_mem.proofs.Places.{held, remove_at}
-use Rattle.mm_mem.proofs.Flats.{unmap_refused, unmap_done}
+use Rattle.mm_mem.specs.{Answers.after_unmap, Places.{IsAt, IsGap}}
+use Rattle.mm_mem.proofs.{Places.{held, remove_at}, Flats.{unmap_refused, unmap_done}}
 use Rattle.mm_frames.specs.Framed.{Framed, IsFramed, memory_of, without}
 use Rattle.mm_frames.proofs.Framed.{rows_rise, memory_of-without}
 use Rattle.mm_frames.proofs.Kept.{is_mapped_at, not_mapped_in, without_absent, kept_without}

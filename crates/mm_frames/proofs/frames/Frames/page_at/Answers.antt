@@ -1,9 +1,7 @@
 use Rattle.std.proofs.Common.{◌<◌, ℕ, map, length, Some, refl, sym, ap, ◌∙◌, arith, slice_get}
-use Rattle.std.specs.Option.{option_map}
-use Rattle.std.proofs.lemmas.Option.{slice_get-map, slice_get_read}
+use Rattle.std.{proofs.lemmas.Option.{slice_get-map, slice_get_read}, specs.Option.option_map}
 use Rattle.mm_frames.specs.Framed.{Framed, memory_of, cells_in}
-use Rattle.mm_frames.proofs.Framed.{pages_are, pages_length}
-use Rattle.mm_frames.proofs.Rows.{numbers_paired}
+use Rattle.mm_frames.proofs.{Framed.{pages_are, pages_length}, Rows.numbers_paired}
 use Rattle.mm_frames.proofs.frames.Frames.page_at.Goals as goal
 
 within : (c : goal.After-self) → c.args.i < length c.self.inside.rows.items

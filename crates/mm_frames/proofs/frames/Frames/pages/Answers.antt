@@ -1,6 +1,5 @@
 use Rattle.std.proofs.Common.{sym, ap, ◌∙◌, length}
-use Rattle.mm_frames.specs.Framed.{Framed, memory_of}
-use Rattle.mm_frames.proofs.Framed.{pages_length}
+use Rattle.mm_frames.{specs.Framed.{Framed, memory_of}, proofs.Framed.pages_length}
 use Rattle.mm_frames.proofs.frames.Frames.pages.Goals as goal
 
 pub returns-clause-count : goal.returns-clause-count

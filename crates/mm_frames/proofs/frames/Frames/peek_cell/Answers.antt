@@ -1,8 +1,6 @@
-use Rattle.std.proofs.Common.{List, [], sym, ap, subst, ◌∙◌, arith, slice_get}
-use Rattle.std.proofs.lemmas.List.{get_or_default}
+use Rattle.std.proofs.{Common.{List, [], sym, ap, subst, ◌∙◌, arith, slice_get}, lemmas.List.get_or_default}
 use Rattle.mm_word.specs.declared.word.Cell.{Cell}
-use Rattle.mm_frames.specs.Framed.{Framed, IsOccupied, cells_in}
-use Rattle.mm_frames.proofs.Framed.{occupied_in_range, cell_in_frame}
+use Rattle.mm_frames.{specs.Framed.{Framed, IsOccupied, cells_in}, proofs.Framed.{occupied_in_range, cell_in_frame}}
 use Rattle.mm_frames.proofs.frames.Frames.peek_cell.Goals as goal
 
 pub index-requires : goal.index-requires

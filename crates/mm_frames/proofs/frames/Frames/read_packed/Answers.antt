@@ -1,10 +1,7 @@
-use Rattle.std.proofs.Common.{◌+◌, List, [], sym, ap, subst, ◌∙◌, arith}
-use Rattle.std.proofs.lemmas.List.{get_or_default}
+use Rattle.std.proofs.{Common.{◌+◌, List, [], sym, ap, subst, ◌∙◌, arith}, lemmas.List.get_or_default}
 use Rattle.mm_word.specs.declared.word.Cell.{Cell}
-use Rattle.mm_frames.specs.Framed.{Framed, IsOccupied, cells_in}
+use Rattle.mm_frames.{specs.Framed.{Framed, IsOccupied, cells_in}, proofs.{Framed.occupied_in_range, Kept.kept_read}}
 use Rattle.mm_mem.specs.Blocks.{block_in}
-use Rattle.mm_frames.proofs.Framed.{occupied_in_range}
-use Rattle.mm_frames.proofs.Kept.{kept_read}
 use Rattle.mm_frames.proofs.frames.Frames.read_packed.Goals as goal
 
 pub index-requires : goal.index-requires

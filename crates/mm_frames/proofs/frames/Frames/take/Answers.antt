@@ -1,17 +1,15 @@
-use Rattle.std.proofs.Common.{◌≡◌, ◌≤◌, ℕ, List, [], ◌∷◌, IsTrue, true, false, is_some, length, set, IfOk, IfErr, sym, ap, subst, ◌∙◌, arith}
-use Rattle.std.specs.Ordering.{nat_cmp}
-use Rattle.std.specs.FinMap.{is_sorted}
-use Rattle.std.proofs.lemmas.List.{length-append}
+use Rattle.std.proofs.Common.{◌≡◌, ◌≤◌, ℕ, List, [], ◌∷◌, IsTrue, true, false, is_some, length, set, IfOk, IfErr, sym}
+use Rattle.std.proofs.{Common.{ap, subst, ◌∙◌, arith}, lemmas.List.length-append}
+use Rattle.std.specs.{Ordering.nat_cmp, FinMap.is_sorted}
 use Rattle.mm_word.specs.declared.word.Cell.{Cell}
 use Rattle.mm_model.specs.Memory.{can_map}
-use Rattle.mm_mem.specs.Answers.{after_map}
-use Rattle.mm_mem.specs.Places.{IsAt, IsGap}
-use Rattle.mm_mem.proofs.Places.{insert_in_gap}
-use Rattle.mm_mem.proofs.Flats.{map_refused, map_done}
+use Rattle.mm_mem.specs.{Answers.after_map, Places.{IsAt, IsGap}}
+use Rattle.mm_mem.proofs.{Places.insert_in_gap, Flats.{map_refused, map_done}}
 use Rattle.mm_frames.specs.Framed.{Framed, IsFramed, IsFree, memory_of, seated, times}
 use Rattle.mm_frames.proofs.Counts.{last_stands}
 use Rattle.mm_frames.proofs.Framed.{rows_rise, memory_of-seated, free_in_range, free_has_no_row, free_is_free}
-use Rattle.mm_frames.proofs.Kept.{mapped_from, gap_place_from, cannot_map_mapped, cannot_map_full, can_map_in, kept_seated}
+use Rattle.mm_frames.proofs.Kept.{mapped_from, gap_place_from, cannot_map_mapped, cannot_map_full, can_map_in}
+use Rattle.mm_frames.proofs.Kept.{kept_seated}
 use Rattle.mm_frames.proofs.frames.Frames.take.Goals as goal
 
 pub search-requires : goal.search-requires

@@ -1,10 +1,9 @@
-use Rattle.std.proofs.Common.{◌≡◌, ℕ, ◌+◌, ◌*◌, List, [], sym, ap, subst, ◌∙◌, arith, set}
-use Rattle.std.proofs.lemmas.List.{get_or_default}
+use Rattle.std.proofs.{Common.{◌≡◌, ℕ, ◌+◌, ◌*◌, List, [], sym, ap, subst, ◌∙◌, arith, set}, lemmas.List.get_or_default}
 use Rattle.mm_word.specs.declared.word.Cell.{Cell}
 use Rattle.mm_frames.specs.Framed.{Framed, IsFramed, IsOccupied, frame_of, memory_of, written}
-use Rattle.mm_mem.specs.Blocks.{with_block, put_block}
 use Rattle.mm_frames.proofs.Framed.{occupied_in_range, rows_rise, frame_in_range, one_page, memory_of-written}
 use Rattle.mm_frames.proofs.Kept.{kept_written}
+use Rattle.mm_mem.specs.Blocks.{with_block, put_block}
 use Rattle.mm_frames.proofs.frames.Frames.write_packed.Goals as goal
 
 pub index_mut-requires : goal.index_mut-requires

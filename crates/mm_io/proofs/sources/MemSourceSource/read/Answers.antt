@@ -1,7 +1,5 @@
-use Rattle.std.proofs.Common.{◌-◌, Some, length, drop, ap, sym, ◌∙◌, arith, length-drop}
-use Rattle.std.proofs.lemmas.List.{length-take}
-use Rattle.mm_io.specs.Memory.{MemorySource}
-use Rattle.mm_io.proofs.Reading.{source_step}
+use Rattle.std.proofs.{Common.{◌-◌, Some, length, drop, ap, sym, ◌∙◌, arith, length-drop}, lemmas.List.length-take}
+use Rattle.mm_io.{specs.Memory.MemorySource, proofs.Reading.source_step}
 use Rattle.mm_io.proofs.sources.MemSourceSource.read.Goals as goal
 
 pub returns-clause-bytes : goal.returns-clause-bytes

@@ -1,5 +1,4 @@
-use Rattle.std.proofs.Common.{◌-◌, Some, length, drop, ap, sym, ◌∙◌, arith, length-drop}
-use Rattle.std.proofs.lemmas.List.{length-take}
+use Rattle.std.proofs.{Common.{◌-◌, Some, length, drop, ap, sym, ◌∙◌, arith, length-drop}, lemmas.List.length-take}
 use Rattle.mm_io.proofs.Reading.{source_step}
 use Rattle.mm_io.proofs.sure.SureSourceSource.read.Goals as goal
 

@@ -1,6 +1,5 @@
 use Rattle.std.proofs.Common.{◌∙◌, rules}
-use Rattle.mm_isa.specs.Table.{FitInWord}
-use Rattle.mm_isa.proofs.Packing.{joined_is_packed}
+use Rattle.mm_isa.{specs.Table.FitInWord, proofs.Packing.joined_is_packed}
 use Rattle.mm_isa.proofs.fields.Fields.word.Goals as goal
 
 pub returns-clause-value : goal.returns-clause-value

@@ -1,8 +1,5 @@
-use Rattle.std.proofs.Common.{◌∙◌, List, ap}
-use Rattle.std.specs.Option.{option_map}
-use Rattle.mm_link.specs.Placing.{Site, site_in}
-use Rattle.mm_link.specs.Steps.{place_of}
-use Rattle.mm_link.proofs.Places.{found}
+use Rattle.std.{proofs.Common.{◌∙◌, List, ap}, specs.Option.option_map}
+use Rattle.mm_link.{specs.{Placing.{Site, site_in}, Steps.place_of}, proofs.Places.found}
 use Rattle.mm_link.proofs.sites.Sites.get.Goals as goal
 
 pub returns-clause-place : goal.returns-clause-place

@@ -1,8 +1,5 @@
-use Rattle.std.proofs.Common.{◌≡◌, ◌∷◌, [], ◌++◌, None, List, ap, sym, ◌∙◌, subst}
-use Rattle.std.specs.List.{AllByRecursion}
-use Rattle.mm_link.specs.Placing.{Site, site_in}
-use Rattle.mm_link.specs.Steps.{entries_of, FitsSite}
-use Rattle.mm_link.proofs.Places.{inserted, fits_push}
+use Rattle.std.{proofs.Common.{◌≡◌, ◌∷◌, [], ◌++◌, None, List, ap, sym, ◌∙◌, subst}, specs.List.AllByRecursion}
+use Rattle.mm_link.{specs.{Placing.{Site, site_in}, Steps.{entries_of, FitsSite}}, proofs.Places.{inserted, fits_push}}
 use Rattle.mm_link.proofs.sites.Sites.push.Goals as goal
 
 pub invariant_of-self-2 : goal.invariant_of-self-2

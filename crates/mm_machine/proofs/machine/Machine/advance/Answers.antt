@@ -1,7 +1,6 @@
 use Rattle.std.proofs.Common.{arith}
 use Rattle.mm_model.specs.State.{State}
-use Rattle.mm_machine.specs.Machine.{state_of}
-use Rattle.mm_machine.proofs.Keeping.{few_turns, goes_on, state_made}
+use Rattle.mm_machine.{specs.Machine.state_of, proofs.Keeping.{few_turns, goes_on, state_made}}
 use Rattle.mm_machine.proofs.machine.Machine.advance.Goals as goal
 
 pub turn_into-requires-clause-turns : goal.turn_into-requires-clause-turns

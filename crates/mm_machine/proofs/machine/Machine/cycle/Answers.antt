@@ -1,8 +1,6 @@
 use Rattle.std.proofs.Common.{refl}
 use Rattle.mm_machine.specs.Machine.{state_of}
-use Rattle.mm_machine.proofs.Keeping.{fault_changed, exactly}
-use Rattle.mm_machine.proofs.Went.{went_stands}
-use Rattle.mm_machine.proofs.Issuing.{one_more_of}
+use Rattle.mm_machine.proofs.{Keeping.{fault_changed, exactly}, Went.went_stands, Issuing.one_more_of}
 use Rattle.mm_machine.proofs.machine.Machine.cycle.Goals as goal
 
 pub returns-clause-state : goal.returns-clause-state

@@ -1,9 +1,7 @@
-use Rattle.std.proofs.Common.{ℕ, Option, refl, sym, ap, ◌∙◌, arith}
-use Rattle.std.specs.Option.{option_or}
+use Rattle.std.{proofs.Common.{ℕ, Option, refl, sym, ap, ◌∙◌, arith}, specs.Option.option_or}
 use Rattle.mm_model.specs.State.{State}
 use Rattle.mm_machine.specs.Machine.{state_of}
-use Rattle.mm_machine.proofs.Rounds.{after_cycles}
-use Rattle.mm_machine.proofs.Issuing.{begins, cycle_more, cycle_step, ends, stops}
+use Rattle.mm_machine.proofs.{Rounds.after_cycles, Issuing.{begins, cycle_more, cycle_step, ends, stops}}
 use Rattle.mm_machine.proofs.machine.Machine.issue.Goals as goal
 
 pub loop-at-init : goal.loop-at-init

@@ -1,7 +1,5 @@
-use Rattle.std.proofs.Common.{◌≡◌, ◌+◌, ◌-◌, ◌<◌, ◌≤◌, ◌^◌, length}
-use Rattle.std.specs.Prelude.{IfSome}
-use Rattle.mm_machine.specs.Machine.{state_of, ports_used}
-use Rattle.mm_machine.proofs.Issuing.{IsAt, IsStepOf}
+use Rattle.std.{proofs.Common.{◌≡◌, ◌+◌, ◌-◌, ◌<◌, ◌≤◌, ◌^◌, length}, specs.Prelude.IfSome}
+use Rattle.mm_machine.{specs.Machine.{state_of, ports_used}, proofs.Issuing.{IsAt, IsStepOf}}
 use Rattle.mm_machine.proofs.machine.Machine.issue.Given as goal
 
 -- the count of cycles that were issued, and where the loop is

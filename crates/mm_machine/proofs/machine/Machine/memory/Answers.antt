@@ -1,5 +1,4 @@
-use Rattle.mm_machine.specs.Machine.{state_of}
-use Rattle.mm_machine.proofs.Keeping.{memory_paged}
+use Rattle.mm_machine.{specs.Machine.state_of, proofs.Keeping.memory_paged}
 use Rattle.mm_machine.proofs.machine.Machine.memory.Goals as goal
 
 pub returns-clause-paged : goal.returns-clause-paged

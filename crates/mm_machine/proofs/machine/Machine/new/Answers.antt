@@ -1,13 +1,10 @@
 use Rattle.std.proofs.Common.{◌≡◌, ◌∙◌, [], List, sym, subst, arith}
-use Rattle.std.specs.List.{AllByRecursion}
-use Rattle.std.specs.List.Sorted.{IsStrictlyIncreasing}
-use Rattle.mm_model.specs.Slot.{Slot}
-use Rattle.mm_model.specs.Image.{start}
-use Rattle.mm_model.specs.Run.{run, uses}
-use Rattle.mm_model.specs.Spelling.{numbers_of, IsFresh}
+use Rattle.std.specs.List.{AllByRecursion, Sorted.IsStrictlyIncreasing}
+use Rattle.mm_model.specs.{Slot.Slot, Image.start, Run.{run, uses}, Spelling.{numbers_of, IsFresh}}
 use Rattle.mm_machine.specs.Validity.{IsValid}
 use Rattle.mm_machine.proofs.Keeping.{valid_start}
-use Rattle.mm_machine.proofs.Starting.{fresh_slots, within, none_pending, no_output, start_made, rows_made, versioned_rows}
+use Rattle.mm_machine.proofs.Starting.{fresh_slots, within, none_pending, no_output, start_made, rows_made}
+use Rattle.mm_machine.proofs.Starting.{versioned_rows}
 use Rattle.mm_machine.proofs.machine.Machine.new.Goals as goal
 
 pub new-requires-clause-rising : goal.new-requires-clause-rising

@@ -1,8 +1,6 @@
-use Rattle.std.proofs.Common.{◌≡◌, ℕ, ◌∙◌, sym, ap, refl, None, Option}
-use Rattle.std.specs.Option.{option_or}
+use Rattle.std.{proofs.Common.{◌≡◌, ℕ, ◌∙◌, sym, ap, refl, None, Option}, specs.Option.option_or}
 use Rattle.mm_model.specs.Run.{next_running}
-use Rattle.mm_machine.specs.Machine.{state_of}
-use Rattle.mm_machine.proofs.Running.{peeked}
+use Rattle.mm_machine.{specs.Machine.state_of, proofs.Running.peeked}
 use Rattle.mm_machine.proofs.machine.Machine.next_item.Goals as goal
 
 pub returns-in_err-next-clause-robin : goal.returns-in_err-next-clause-robin

@@ -1,6 +1,5 @@
 use Rattle.std.proofs.Common.{arith}
-use Rattle.mm_machine.specs.Machine.{state_of}
-use Rattle.mm_machine.proofs.Ports.{valid_taken}
+use Rattle.mm_machine.{specs.Machine.state_of, proofs.Ports.valid_taken}
 use Rattle.mm_machine.proofs.machine.Machine.port_take.Goals as goal
 
 pub invariant_of-self : goal.invariant_of-self

@@ -1,15 +1,10 @@
 use Rattle.std.proofs.Common.{◌≡◌, ℕ, List, [], arith, subst, sym}
-use Rattle.std.specs.Prelude.{IsTrue}
-use Rattle.std.specs.Ordering.{nat_cmp}
-use Rattle.std.specs.FinMap.{is_sorted}
+use Rattle.std.specs.{Prelude.IsTrue, Ordering.nat_cmp, FinMap.is_sorted}
 use Rattle.mm_word.specs.declared.word.Cell.{Cell}
 use Rattle.mm_model.specs.State.{State}
-use Rattle.mm_machine.specs.Machine.{state_of}
-use Rattle.mm_machine.specs.Snapshot.{Parts}
-use Rattle.mm_machine.proofs.Restoring.{pages_sorted, restored_valid, parts_read, state_read}
-use Rattle.mm_machine.proofs.Returning.{put_back}
-use Rattle.mm_machine.proofs.Restorable.{can_restored}
-use Rattle.mm_machine.proofs.Shown.{shown_back}
+use Rattle.mm_machine.specs.{Machine.state_of, Snapshot.Parts}
+use Rattle.mm_machine.proofs.{Restoring.{pages_sorted, restored_valid, parts_read, state_read}, Returning.put_back}
+use Rattle.mm_machine.proofs.{Restorable.can_restored, Shown.shown_back}
 use Rattle.mm_machine.proofs.machine.Machine.restore.Goals as goal
 
 pub assign-requires : goal.assign-requires

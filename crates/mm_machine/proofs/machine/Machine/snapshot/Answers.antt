@@ -1,11 +1,7 @@
 use Rattle.std.proofs.Common.{List, refl, sym, subst}
 use Rattle.mm_model.specs.Slot.{Slot}
-use Rattle.mm_machine.specs.Machine.{state_of}
-use Rattle.mm_machine.specs.Capture.{OutputsBelow}
-use Rattle.mm_machine.specs.Snapshot.{IsSnapshotOf}
-use Rattle.mm_machine.proofs.Keeping.{memory_paged}
-use Rattle.mm_machine.proofs.Copied.{copied_rules}
-use Rattle.mm_machine.proofs.Restorable.{can_own}
+use Rattle.mm_machine.specs.{Machine.state_of, Capture.OutputsBelow, Snapshot.IsSnapshotOf}
+use Rattle.mm_machine.proofs.{Keeping.memory_paged, Copied.copied_rules, Restorable.can_own}
 use Rattle.mm_machine.proofs.machine.Machine.snapshot.Goals as goal
 
 pub pages_of-requires : goal.pages_of-requires

@@ -1,12 +1,9 @@
 use Rattle.std.proofs.Common.{◌<◌, Bool, List, get_or, sym, ap, ◌∙◌, arith, Some, slice_get, length}
 use Rattle.std.proofs.lemmas.Option.{slice_get-get_or}
-use Rattle.mm_word.specs.declared.word.Word.{Word}
-use Rattle.mm_word.specs.declared.word.Cell.{Cell}
-use Rattle.mm_model.specs.Memory.{zero_cell}
-use Rattle.mm_mem.specs.Packed.{word_of, block_of}
-use Rattle.mm_mem.proofs.PackedCells.{get_or-block_of, length-block_of}
+use Rattle.mm_word.specs.declared.word.{Word.Word, Cell.Cell}
+use Rattle.mm_model.specs.{Memory.zero_cell, Flags.in_mask}
+use Rattle.mm_mem.{specs.Packed.{word_of, block_of}, proofs.PackedCells.{get_or-block_of, length-block_of}}
 use Rattle.mm_mem.proofs.block.Block.cell.Goals as goal
-use Rattle.mm_model.specs.Flags.{in_mask}
 
 pub returns-clause-cell : goal.returns-clause-cell
 returns-clause-cell c =

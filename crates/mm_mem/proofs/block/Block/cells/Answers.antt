@@ -1,5 +1,4 @@
-use Rattle.std.proofs.Common.{◌≡◌, length, sym, ◌∙◌, arith}
-use Rattle.std.proofs.lemmas.List.{get_or_default, same_lists}
+use Rattle.std.proofs.{Common.{◌≡◌, length, sym, ◌∙◌, arith}, lemmas.List.{get_or_default, same_lists}}
 use Rattle.mm_model.specs.Memory.{zero_cell}
 use Rattle.mm_mem.proofs.block.Block.cells.Goals as goal
 

@@ -1,6 +1,5 @@
 use Rattle.std.proofs.Common.{ℕ, List, sym, subst, ap, ◌∙◌}
-use Rattle.mm_mem.specs.Packed.{block_of, IsPackedBlock}
-use Rattle.mm_mem.specs.Unpacked.{words_of, tags_of}
+use Rattle.mm_mem.specs.{Packed.{block_of, IsPackedBlock}, Unpacked.{words_of, tags_of}}
 use Rattle.mm_mem.proofs.PackedCells.{block_packed, packed_is}
 use Rattle.mm_mem.proofs.block.Block.of.Goals as goal
 

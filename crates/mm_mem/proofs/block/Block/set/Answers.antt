@@ -1,7 +1,6 @@
 use Rattle.std.proofs.Common.{ℕ, List, set, sym, ap, subst, ◌∙◌}
 use Rattle.mm_word.specs.declared.word.Cell.{Cell}
-use Rattle.mm_mem.specs.Packed.{block_of, IsPackedBlock}
-use Rattle.mm_mem.proofs.PackedCells.{cell_set, set_is}
+use Rattle.mm_mem.{specs.Packed.{block_of, IsPackedBlock}, proofs.PackedCells.{cell_set, set_is}}
 use Rattle.mm_mem.proofs.block.Block.set.Goals as goal
 
 pub invariant_of-self : goal.invariant_of-self

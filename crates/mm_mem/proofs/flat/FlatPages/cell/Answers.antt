@@ -1,7 +1,6 @@
 use Rattle.std.proofs.Common.{sym, ap, subst, ◌∙◌, slice_get}
 use Rattle.mm_model.specs.Memory.{Memory, page_of, cell_at}
-use Rattle.mm_mem.specs.Places.{IsAt}
-use Rattle.mm_mem.proofs.Flats.{flat, cell_here}
+use Rattle.mm_mem.{specs.Places.IsAt, proofs.Flats.{flat, cell_here}}
 use Rattle.mm_mem.proofs.flat.FlatPages.cell.Goals as goal
 
 pub returns : goal.returns

@@ -1,8 +1,6 @@
-use Rattle.std.proofs.Common.{ℕ, ◌≡◌, None, IfErr, subst}
-use Rattle.std.specs.Option.{IfNone}
+use Rattle.std.{proofs.Common.{ℕ, ◌≡◌, None, IfErr, subst}, specs.Option.IfNone}
 use Rattle.mm_model.specs.Memory.{Memory, page_of, cell_at}
-use Rattle.mm_mem.specs.Places.{IsGap}
-use Rattle.mm_mem.proofs.Flats.{Pages, flat, absent_unless}
+use Rattle.mm_mem.{specs.Places.IsGap, proofs.Flats.{Pages, flat, absent_unless}}
 use Rattle.mm_mem.proofs.flat.FlatPages.find.Goals as goal
 
 pub returns-clause-absent : goal.returns-clause-absent

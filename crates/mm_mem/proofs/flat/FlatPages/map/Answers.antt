@@ -1,10 +1,8 @@
-use Rattle.std.proofs.Common.{sym, ap, subst, ◌∙◌, ◌≡◌, length, arith, true, false}
-use Rattle.std.specs.List.{insert}
-use Rattle.mm_model.specs.Memory.{can_map, map_page}
-use Rattle.mm_model.proofs.Memories.{map_paged}
-use Rattle.mm_mem.specs.Answers.{after_map}
-use Rattle.mm_mem.specs.Places.{IsAt, IsGap}
-use Rattle.mm_mem.proofs.Flats.{Pages, flat, cannot_map_again, cannot_map_full, can_map_here, map_refused, map_done, map_here, same_paged}
+use Rattle.std.{proofs.Common.{sym, ap, subst, ◌∙◌, ◌≡◌, length, arith, true, false}, specs.List.insert}
+use Rattle.mm_model.{specs.Memory.{can_map, map_page}, proofs.Memories.map_paged}
+use Rattle.mm_mem.specs.{Answers.after_map, Places.{IsAt, IsGap}}
+use Rattle.mm_mem.proofs.Flats.{Pages, flat, cannot_map_again, cannot_map_full, can_map_here, map_refused, map_done}
+use Rattle.mm_mem.proofs.Flats.{map_here, same_paged}
 use Rattle.mm_mem.proofs.flat.FlatPages.map.Goals as goal
 
 -- it is mapped already

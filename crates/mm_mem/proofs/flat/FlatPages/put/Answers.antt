@@ -1,8 +1,6 @@
 use Rattle.std.proofs.Common.{sym, ap, subst, ◌∙◌, ℕ, set, slice_set, ◌≡◌}
-use Rattle.mm_model.specs.Memory.{Memory, page_of, put_cell}
-use Rattle.mm_model.proofs.Memories.{put_paged}
-use Rattle.mm_mem.specs.Places.{IsAt}
-use Rattle.mm_mem.proofs.Flats.{flat, put_here, same_paged}
+use Rattle.mm_model.{specs.Memory.{Memory, page_of, put_cell}, proofs.Memories.put_paged}
+use Rattle.mm_mem.{specs.Places.IsAt, proofs.Flats.{flat, put_here, same_paged}}
 use Rattle.mm_mem.proofs.flat.FlatPages.put.Goals as goal
 
 made : (c : goal.After-self-1) → flat (set c.self.inside.pages.items c.args.i c.put.new.self) c.self.inside.frames ≡ put_cell

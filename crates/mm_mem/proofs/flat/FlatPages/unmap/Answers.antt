@@ -1,8 +1,6 @@
 use Rattle.std.proofs.Common.{sym, ap, subst, ◌∙◌, ◌≡◌, arith, true, false}
-use Rattle.mm_model.specs.Memory.{is_mapped, unmap_page}
-use Rattle.mm_model.proofs.Memories.{unmap_paged}
-use Rattle.mm_mem.specs.Answers.{after_unmap}
-use Rattle.mm_mem.specs.Places.{IsAt, IsGap}
+use Rattle.mm_model.{specs.Memory.{is_mapped, unmap_page}, proofs.Memories.unmap_paged}
+use Rattle.mm_mem.specs.{Answers.after_unmap, Places.{IsAt, IsGap}}
 use Rattle.mm_mem.proofs.Flats.{Pages, flat, mapped_here, not_mapped, unmap_refused, unmap_done, unmap_here, same_paged}
 use Rattle.mm_mem.proofs.flat.FlatPages.unmap.Goals as goal
 

@@ -1,5 +1,4 @@
-use Rattle.std.proofs.Common.{arith}
-use Rattle.std.proofs.lemmas.Grind.{common_steps}
+use Rattle.std.proofs.{Common.arith, lemmas.Grind.common_steps}
 use Rattle.mm_model.proofs.page.Page.copies.Goals as goal
 
 pub loop-page-preserved : goal.loop-page-preserved

@@ -1,7 +1,5 @@
-use Rattle.std.proofs.Common.{take}
-use Rattle.std.specs.List.{AllByRecursion}
-use Rattle.mm_model.specs.Memory.{IsPage}
-use Rattle.mm_model.specs.Spelling.{HoldsWords}
+use Rattle.std.{proofs.Common.take, specs.List.AllByRecursion}
+use Rattle.mm_model.specs.{Memory.IsPage, Spelling.HoldsWords}
 use Rattle.mm_model.proofs.page.Page.typed.Given as goal
 
 -- of the pages so far

@@ -1,5 +1,4 @@
-use Rattle.std.proofs.Common.{take}
-use Rattle.std.specs.List.{AllByRecursion}
+use Rattle.std.{proofs.Common.take, specs.List.AllByRecursion}
 use Rattle.mm_model.specs.Typed.{IsTypedSlot}
 use Rattle.mm_model.proofs.slot.Slot.typed.Given as goal
 

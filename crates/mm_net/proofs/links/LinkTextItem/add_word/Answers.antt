@@ -1,8 +1,6 @@
 use Rattle.std.proofs.Common.{[], ◌∷◌, ◌++◌, List, refl, sym, subst}
-use Rattle.mm_net.specs.declared.link.Link.{Link}
-use Rattle.mm_net.specs.Links.{AreLinks}
-use Rattle.mm_net.proofs.Parts.{true_false}
-use Rattle.mm_net.proofs.LinkWords.{says_link, says_only}
+use Rattle.mm_net.specs.{declared.link.Link.Link, Links.AreLinks}
+use Rattle.mm_net.proofs.{Parts.true_false, LinkWords.{says_link, says_only}}
 use Rattle.mm_net.proofs.links.LinkTextItem.add_word.Goals as goal
 
 pub returns-in_default : goal.returns-in_default

@@ -2,10 +2,8 @@ use Rattle.std.proofs.Common.{◌≡◌, true, false, refl, sym, ap, ◌∙◌, 
 use Rattle.mm_model.specs.Memory.{cell_at}
 use Rattle.mm_machine.specs.Machine.{state_of}
 use Rattle.mm_net.specs.Nets.{is_free, with_arrived, arrived_tick}
-use Rattle.mm_net.proofs.ListPlaces.{set_found}
-use Rattle.mm_net.proofs.Finding.{wire_found, no_wire, to_inside, node_at}
-use Rattle.mm_net.proofs.Stepping.{carries, no_carry, not_due}
-use Rattle.mm_net.proofs.NetKeeping.{put_within, both_wired}
+use Rattle.mm_net.proofs.{ListPlaces.set_found, Finding.{wire_found, no_wire, to_inside, node_at}}
+use Rattle.mm_net.proofs.{Stepping.{carries, no_carry, not_due}, NetKeeping.{put_within, both_wired}}
 use Rattle.mm_net.proofs.Carrying.{some_left, put, put_nothing, not_done}
 use Rattle.mm_net.proofs.net.Net.carry.Goals as goal
 

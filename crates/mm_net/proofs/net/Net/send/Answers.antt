@@ -2,10 +2,8 @@ use Rattle.std.proofs.Common.{◌≡◌, ℕ, Some, None, refl, sym, ap, ◌∙�
 use Rattle.mm_model.specs.Memory.{cell_at}
 use Rattle.mm_machine.specs.Machine.{state_of}
 use Rattle.mm_net.specs.Nets.{bits_in, with_sent, sent_tick}
-use Rattle.mm_net.proofs.ListPlaces.{map_at}
-use Rattle.mm_net.proofs.Finding.{wire_found, no_wire, from_inside, node_at}
-use Rattle.mm_net.proofs.Stepping.{carried_by, sends, no_send}
-use Rattle.mm_net.proofs.NetKeeping.{take_within, both_wired, room_left}
+use Rattle.mm_net.proofs.{ListPlaces.map_at, Finding.{wire_found, no_wire, from_inside, node_at}}
+use Rattle.mm_net.proofs.{Stepping.{carried_by, sends, no_send}, NetKeeping.{take_within, both_wired, room_left}}
 use Rattle.mm_net.proofs.Carrying.{took, took_nothing, neither}
 use Rattle.mm_net.proofs.net.Net.send.Goals as goal
 

@@ -1,5 +1,4 @@
-use Rattle.mm_net.proofs.NetRuns.{goes_on_with}
-use Rattle.mm_net.proofs.IdleSteps.{send_nothing, carry_nothing}
+use Rattle.mm_net.proofs.{NetRuns.goes_on_with, IdleSteps.{send_nothing, carry_nothing}}
 use Rattle.mm_net.proofs.net.Net.step.Goals as goal
 
 pub returns-in-Turn-clause-runs : goal.returns-in-Turn-clause-runs

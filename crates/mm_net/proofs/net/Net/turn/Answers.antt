@@ -1,11 +1,8 @@
 use Rattle.std.proofs.Common.{refl, ap, ◌∙◌, arith, length-set}
-use Rattle.mm_machine.proofs.Rounds.{after_cycles}
+use Rattle.mm_machine.{proofs.Rounds.after_cycles, specs.Machine.state_of}
 use Rattle.mm_model.specs.State.{State}
-use Rattle.mm_machine.specs.Machine.{state_of}
-use Rattle.mm_net.proofs.Finding.{node_found, no_node}
-use Rattle.mm_net.proofs.Stepping.{turn_steps, no_turn, idle_tick, turned_tick}
-use Rattle.mm_net.proofs.NetKeeping.{within_set, nodes_wired}
-use Rattle.mm_net.proofs.IdleSteps.{some_turn}
+use Rattle.mm_net.proofs.{Finding.{node_found, no_node}, Stepping.{turn_steps, no_turn, idle_tick, turned_tick}}
+use Rattle.mm_net.proofs.{NetKeeping.{within_set, nodes_wired}, IdleSteps.some_turn}
 use Rattle.mm_net.proofs.net.Net.turn.Goals as goal
 
 pub returns-in_default-clause-step : goal.returns-in_default-clause-step

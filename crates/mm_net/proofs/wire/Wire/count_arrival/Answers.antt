@@ -1,7 +1,5 @@
 use Rattle.std.proofs.Common.{true, ap, ◌∙◌}
-use Rattle.mm_net.specs.Nets.{due, with_arrived}
-use Rattle.mm_net.specs.Wires.{Wired}
-use Rattle.mm_net.proofs.Carrying.{one_more}
+use Rattle.mm_net.{specs.{Nets.{due, with_arrived}, Wires.Wired}, proofs.Carrying.one_more}
 use Rattle.mm_net.proofs.wire.Wire.count_arrival.Goals as goal
 
 pub returns-clause-carried : goal.returns-clause-carried

@@ -1,6 +1,5 @@
 use Rattle.std.proofs.Common.{sym, subst}
-use Rattle.mm_object.specs.Lookups.{HaveSmallWords}
-use Rattle.mm_object.proofs.Found.{small_words}
+use Rattle.mm_object.{specs.Lookups.HaveSmallWords, proofs.Found.small_words}
 use Rattle.mm_object.proofs.object.Object.reloc_near.Goals as goal
 
 pub reloc_in-requires-clause-small : goal.reloc_in-requires-clause-small

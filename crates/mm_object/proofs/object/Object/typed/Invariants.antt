@@ -1,5 +1,4 @@
-use Rattle.std.proofs.Common.{take}
-use Rattle.std.specs.List.{AllByRecursion}
+use Rattle.std.{proofs.Common.take, specs.List.AllByRecursion}
 use Rattle.mm_object.specs.Objects.{IsObject}
 use Rattle.mm_object.proofs.object.Object.typed.Given as goal
 

@@ -1,10 +1,8 @@
 use Rattle.std.proofs.Common.{◌-◌, ◌≤◌, sym, ap₂, subst}
-use Rattle.mm_debug.specs.Shown.{session_of}
-use Rattle.mm_debug.specs.Standing.{total_at}
+use Rattle.mm_debug.specs.{Shown.session_of, Standing.total_at}
 use Rattle.mm_save.proofs.Backing.{WentBack, on_way_at, early_at, went, went_home}
-use Rattle.mm_save.proofs.recorder.Recorder.go_back.Given.{Over}
+use Rattle.mm_save.proofs.recorder.Recorder.go_back.{Given.Over, Goals.{After-step, After-step-in-None}}
 use Rattle.mm_save.proofs.recorder.Recorder.go_back.Goals as goal
-use Rattle.mm_save.proofs.recorder.Recorder.go_back.Goals.{After-step, After-step-in-None}
 
 -- it went to a state of the ring
 kept : (g : Over) (c : After-step g) → WentBack (session_of c.args.self.now.session) c.args.self.now.start c.args.self.now.ring.items c.args.count (session_of c.step.new.self)

@@ -1,14 +1,11 @@
-use Rattle.std.proofs.Common.{◌≡◌, ℕ, ◌++◌, [], ◌∷◌, map, inl, ◌≤◌, true, false, option_copied, sym, ap, ap₂, subst, ◌∙◌, arith}
-use Rattle.std.proofs.lemmas.Bool.Decides.{nat_tests}
+use Rattle.std.proofs.Common.{◌≡◌, ℕ, ◌++◌, [], ◌∷◌, map, inl, ◌≤◌, true, false, option_copied, sym, ap, ap₂, subst}
+use Rattle.std.proofs.{Common.{◌∙◌, arith}, lemmas.Bool.Decides.nat_tests}
 use Rattle.circular_buffer.specs.Buffer.{Buffer, keep_last}
-use Rattle.mm_debug.specs.Shown.{session_of}
-use Rattle.mm_debug.specs.Standing.{Point, total_at}
+use Rattle.mm_debug.specs.{Shown.session_of, Standing.{Point, total_at}}
 use Rattle.mm_save.specs.Recorder.{newest, is_far}
-use Rattle.mm_save.proofs.Backing.{far_apart}
-use Rattle.mm_save.proofs.Recalled.{keeps_point}
-use Rattle.mm_save.proofs.RingTotals.{kept_totals, newest_some, newest_none}
-use Rattle.mm_save.proofs.recorder.Recorder.keep.Goals as goal
+use Rattle.mm_save.proofs.{Backing.far_apart, Recalled.keeps_point, RingTotals.{kept_totals, newest_some, newest_none}}
 use Rattle.mm_save.proofs.recorder.Recorder.keep.Goals.{in-Some, in-None}
+use Rattle.mm_save.proofs.recorder.Recorder.keep.Goals as goal
 
 pub invariant_of-self : goal.invariant_of-self
 invariant_of-self g c =

@@ -1,5 +1,4 @@
-use Rattle.std.proofs.Common.{◌≤◌}
-use Rattle.std.specs.Prelude.{IfSome, IsSomeAnd, slice_get}
+use Rattle.std.{proofs.Common.◌≤◌, specs.Prelude.{IfSome, IsSomeAnd, slice_get}}
 use Rattle.mm_debug.specs.Standing.{total_at}
 use Rattle.mm_save.proofs.recorder.Recorder.latest.Given as goal
 

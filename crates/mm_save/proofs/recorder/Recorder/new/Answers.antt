@@ -1,8 +1,7 @@
 use Rattle.std.proofs.Common.{ap}
 use Rattle.circular_buffer.specs.Buffer.{Buffer}
 use Rattle.mm_debug.specs.Shown.{session_of}
-use Rattle.mm_save.proofs.Recalled.{begins_with, point_here}
-use Rattle.mm_save.proofs.RecalledStands.{begins_recalls}
+use Rattle.mm_save.proofs.{Recalled.{begins_with, point_here}, RecalledStands.begins_recalls}
 use Rattle.mm_save.proofs.recorder.Recorder.new.Goals as goal
 
 pub invariant_of-result : goal.invariant_of-result

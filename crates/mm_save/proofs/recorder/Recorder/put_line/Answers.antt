@@ -1,16 +1,12 @@
-use Rattle.std.proofs.Common.{◌≡◌, None, sym, ap, ◌∙◌, subst}
-use Rattle.std.specs.Prelude.{min}
+use Rattle.std.{proofs.Common.{◌≡◌, None, sym, ap, ◌∙◌, subst}, specs.Prelude.min}
 use Rattle.mm_text.proofs.Appending.{appends_same}
-use Rattle.mm_debug.specs.Commands.{command_of}
-use Rattle.mm_debug.specs.Session.{Session, Answer, total_of}
-use Rattle.mm_debug.specs.Shown.{session_of}
-use Rattle.mm_save.specs.Recorder.{began_at, back_of}
-use Rattle.mm_save.specs.Recorded.{Remembers}
+use Rattle.mm_debug.specs.{Commands.command_of, Session.{Session, Answer, total_of}, Shown.session_of}
+use Rattle.mm_save.specs.{Recorder.{began_at, back_of}, Recorded.Remembers}
 use Rattle.mm_save.proofs.Recalled.{answer_remembers}
-use Rattle.mm_save.proofs.Backing.{StaysSo, plainly, plain_first, plain_recalls, back_session, back_reply, back_more, back_lowers}
-use Rattle.mm_save.proofs.recorder.Recorder.put_line.Given.{Over}
+use Rattle.mm_save.proofs.Backing.{StaysSo, plainly, plain_first, plain_recalls, back_session, back_reply, back_more}
+use Rattle.mm_save.proofs.Backing.{back_lowers}
+use Rattle.mm_save.proofs.recorder.Recorder.put_line.{Given.Over, Goals.{After-keep, After-min-count}}
 use Rattle.mm_save.proofs.recorder.Recorder.put_line.Goals as goal
-use Rattle.mm_save.proofs.recorder.Recorder.put_line.Goals.{After-keep, After-min-count}
 
 stays : (g : Over) (c : After-keep g)
     → StaysSo (session_of c.keep.new.self.session) (session_of c.args.self.now.session) c.keep.new.self.start (began_at (session_of c.args.self.now.session) c.args.self.now.start)

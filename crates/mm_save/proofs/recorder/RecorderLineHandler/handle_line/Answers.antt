@@ -1,6 +1,5 @@
 use Rattle.std.proofs.Common.{refl}
-use Rattle.mm_save.specs.Recorder.{recalled}
-use Rattle.mm_save.specs.Shown.{recording_of}
+use Rattle.mm_save.specs.{Recorder.recalled, Shown.recording_of}
 use Rattle.mm_save.proofs.recorder.RecorderLineHandler.handle_line.Goals as goal
 
 pub returns : goal.returns

@@ -2,8 +2,8 @@ use Rattle.std.proofs.Common.{◌∙◌, inl, inr, ℕ, ◌+◌, ◌/◌, ◌^�
 use Rattle.std.specs.Int.{trailing_zeros}
 use Rattle.mm_sched.specs.Following.{IsNextBit}
 use Rattle.mm_sched.proofs.Bits.{least_set, least_above, none_above}
-use Rattle.mm_sched.proofs.robin.Robin.peek.Goals as goal
 use Rattle.mm_sched.proofs.robin.Robin.peek.Goals.{in-Some+else-above-ne0, in_default}
+use Rattle.mm_sched.proofs.robin.Robin.peek.Goals as goal
 
 pub returns-then-above-ne0-clause-next : goal.returns-then-above-ne0-clause-next
 returns-then-above-ne0-clause-next c =

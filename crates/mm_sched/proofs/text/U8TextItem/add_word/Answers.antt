@@ -1,7 +1,6 @@
 use Rattle.std.proofs.Common.{ℕ, ◌+◌, ◌≤◌, List, length, replicate, refl, sym, subst, arith}
 use Rattle.std.proofs.lemmas.List.{length-append, length-replicate}
-use Rattle.mm_model.specs.Schedule.{item_limit, FitsLimit}
-use Rattle.mm_model.proofs.ScheduleWords.{says_copies, too_many}
+use Rattle.mm_model.{specs.Schedule.{item_limit, FitsLimit}, proofs.ScheduleWords.{says_copies, too_many}}
 use Rattle.mm_sched.proofs.text.U8TextItem.add_word.Goals as goal
 
 pub returns-in_default : goal.returns-in_default

@@ -1,6 +1,5 @@
 use Rattle.std.proofs.Common.{rules, ◌≡◌, ℕ, Bool, true, false, if◌then◌else◌, List, [], ◌∷◌, ◌++◌, sym, subst}
-use Rattle.mm_seg.specs.Segments.{IsSet, IsSegment, IsBehind, IsMaximal}
-use Rattle.mm_seg.proofs.Pushes.{pushed_set, pushed_maximal}
+use Rattle.mm_seg.{specs.Segments.{IsSet, IsSegment, IsBehind, IsMaximal}, proofs.Pushes.{pushed_set, pushed_maximal}}
 use Rattle.mm_seg.proofs.set.SegSet.push.Goals as goal
 
 -- whether or not there was room

@@ -1,5 +1,4 @@
-use Rattle.std.proofs.Common.{◌+◌, ◌-◌, arith, ◌∙◌}
-use Rattle.std.proofs.Math.ListN.{length-set}
+use Rattle.std.proofs.{Common.{◌+◌, ◌-◌, arith, ◌∙◌}, Math.ListN.length-set}
 use Rattle.mm_text.proofs.HexDigits.{hex_step, hex_done}
 use Rattle.mm_text.proofs.line.Line.put_hex.Goals as goal
 

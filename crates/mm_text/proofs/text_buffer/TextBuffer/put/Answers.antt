@@ -1,8 +1,5 @@
-use Rattle.std.proofs.Common.{[], ap, sym, ◌∙◌, arith}
-use Rattle.std.proofs.lemmas.List.{take_all}
-use Rattle.std.specs.List.{flat_map}
-use Rattle.mm_text.specs.Pieces.{piece_text}
-use Rattle.mm_text.proofs.Appending.{appends_more, appends_same, fold-texts}
+use Rattle.std.{proofs.{Common.{[], ap, sym, ◌∙◌, arith}, lemmas.List.take_all}, specs.List.flat_map}
+use Rattle.mm_text.{specs.Pieces.piece_text, proofs.Appending.{appends_more, appends_same, fold-texts}}
 use Rattle.mm_text.proofs.text_buffer.TextBuffer.put.Goals as goal
 
 pub loop-piece-preserved : goal.loop-piece-preserved

@@ -1,7 +1,5 @@
-use Rattle.std.proofs.Common.{take}
-use Rattle.std.specs.List.{flat_map}
-use Rattle.mm_text.specs.Appends.{Appends}
-use Rattle.mm_text.specs.Pieces.{piece_text}
+use Rattle.std.{proofs.Common.take, specs.List.flat_map}
+use Rattle.mm_text.specs.{Appends.Appends, Pieces.piece_text}
 use Rattle.mm_text.proofs.text_buffer.TextBuffer.put.Given as goal
 
 abbrev pub invariant-loop-piece : goal.invariant-loop-piece

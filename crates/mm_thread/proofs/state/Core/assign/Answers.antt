@@ -1,15 +1,9 @@
-use Rattle.std.proofs.Common.{◌≤◌, List, [], map, replicate, sym, ap, subst, ◌∙◌}
-use Rattle.std.specs.List.{AllByRecursion}
+use Rattle.std.{proofs.Common.{◌≤◌, List, [], map, replicate, sym, ap, subst, ◌∙◌}, specs.List.AllByRecursion}
 use Rattle.mm_model.proofs.CoreRows.{numbers_by}
-use Rattle.mm_model.specs.Slot.{Slot}
-use Rattle.mm_model.specs.State.{Core}
-use Rattle.mm_model.specs.Spelling.{numbers_of}
-use Rattle.mm_model.specs.Fits.{slots_of, IsCore}
+use Rattle.mm_model.specs.{Slot.Slot, State.Core, Spelling.numbers_of, Fits.{slots_of, IsCore}}
 use Rattle.mm_thread.specs.SlotIndices.{row_alone, numbers_in}
 use Rattle.mm_thread.specs.Parts.{events_for, row_with, outputs_with, core_of, AreParts}
-use Rattle.mm_thread.proofs.Assigned.{slots-alone, parts_room, parts_short}
-use Rattle.mm_thread.proofs.Index.{apart_by}
-use Rattle.mm_thread.proofs.RowIndex.{apart_in}
+use Rattle.mm_thread.proofs.{Assigned.{slots-alone, parts_room, parts_short}, Index.apart_by, RowIndex.apart_in}
 use Rattle.mm_thread.proofs.state.Core.assign.Goals as goal
 
 pub put_slots-requires-clause-numbers : goal.put_slots-requires-clause-numbers

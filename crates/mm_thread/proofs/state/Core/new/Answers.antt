@@ -1,8 +1,6 @@
 use Rattle.std.proofs.Common.{false, refl}
-use Rattle.mm_model.specs.State.{Core}
-use Rattle.mm_model.specs.Fits.{IsCore}
-use Rattle.mm_thread.proofs.Fresh.{fresh_core}
-use Rattle.mm_thread.proofs.RowIndex.{apart_in, few_rows, small_numbers}
+use Rattle.mm_model.specs.{State.Core, Fits.IsCore}
+use Rattle.mm_thread.proofs.{Fresh.fresh_core, RowIndex.{apart_in, few_rows, small_numbers}}
 use Rattle.mm_thread.proofs.state.Core.new.Goals as goal
 
 pub new-tables-requires-clause-apart : goal.new-tables-requires-clause-apart

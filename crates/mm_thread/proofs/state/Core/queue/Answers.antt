@@ -1,8 +1,6 @@
 use Rattle.std.proofs.Common.{sym, ap, ◌∙◌}
 use Rattle.mm_model.specs.State.{Core, slot_at, queue_at}
-use Rattle.mm_thread.proofs.RowIndex.{apart_in}
-use Rattle.mm_thread.proofs.Index.{queue_found}
-use Rattle.mm_thread.proofs.Sound.{queue-none}
+use Rattle.mm_thread.proofs.{RowIndex.apart_in, Index.queue_found, Sound.queue-none}
 use Rattle.mm_thread.proofs.state.Core.queue.Goals as goal
 
 pub returns-in-Some : goal.returns-in-Some

@@ -1,8 +1,6 @@
 use Rattle.std.proofs.Common.{Some, sym, ap, ◌∙◌}
-use Rattle.mm_model.specs.Slot.{Slot}
-use Rattle.mm_model.specs.State.{Core, slot_at}
-use Rattle.mm_thread.proofs.RowIndex.{apart_in}
-use Rattle.mm_thread.proofs.Index.{slot_found}
+use Rattle.mm_model.specs.{Slot.Slot, State.{Core, slot_at}}
+use Rattle.mm_thread.proofs.{RowIndex.apart_in, Index.slot_found}
 use Rattle.mm_thread.proofs.state.Core.slot.Goals as goal
 
 pub returns-in-Some : goal.returns-in-Some

@@ -1,6 +1,5 @@
 use Rattle.std.proofs.Common.{◌<◌, length, ap, ◌∙◌, arith}
-use Rattle.mm_model.specs.Slot.{Slot}
-use Rattle.mm_model.specs.State.{Core}
+use Rattle.mm_model.specs.{Slot.Slot, State.Core}
 use Rattle.mm_thread.proofs.RunningSlots.{slot_there, known_kept}
 use Rattle.mm_thread.proofs.tables.Tables.push_event.Goals as goal
 

@@ -1,8 +1,6 @@
 use Rattle.std.proofs.Common.{◌<◌, length, sym, ap, ◌∙◌, arith}
-use Rattle.mm_model.specs.Slot.{Slot}
-use Rattle.mm_model.specs.State.{Core}
-use Rattle.mm_thread.specs.SlotIndices.{slot_in}
-use Rattle.mm_thread.proofs.RunningSlots.{known_set}
+use Rattle.mm_model.specs.{Slot.Slot, State.Core}
+use Rattle.mm_thread.{specs.SlotIndices.slot_in, proofs.RunningSlots.known_set}
 use Rattle.mm_thread.proofs.tables.Tables.set_row.Goals as goal
 
 pub invariant_of-self : goal.invariant_of-self

@@ -1,11 +1,6 @@
-use Rattle.std.proofs.Common.{◌<◌, length, ap, ◌∙◌, arith}
-use Rattle.std.specs.Int.{bit_at}
-use Rattle.mm_model.specs.Flags.{one_if}
-use Rattle.mm_model.specs.Turn.{is_running}
-use Rattle.mm_model.specs.Slot.{Slot}
-use Rattle.mm_model.specs.State.{Core}
-use Rattle.mm_thread.specs.SlotIndices.{slot_in}
-use Rattle.mm_thread.proofs.RunningSlots.{after_number, slot_there, known_set}
+use Rattle.std.{proofs.Common.{◌<◌, length, ap, ◌∙◌, arith}, specs.Int.bit_at}
+use Rattle.mm_model.specs.{Flags.one_if, Turn.is_running, Slot.Slot, State.Core}
+use Rattle.mm_thread.{specs.SlotIndices.slot_in, proofs.RunningSlots.{after_number, slot_there, known_set}}
 use Rattle.mm_thread.proofs.tables.Tables.sets.Goals as goal
 
 pub keep_running-self-inside-requires-clause-small : goal.keep_running-self-inside-requires-clause-small

@@ -1,6 +1,5 @@
 use Rattle.std.proofs.Common.{sym, ap, ◌∙◌}
-use Rattle.mm_vmem.specs.Entries.{frame_in}
-use Rattle.mm_vmem.proofs.Entries.{first_place, frame_first, no_frame}
+use Rattle.mm_vmem.{specs.Entries.frame_in, proofs.Entries.{first_place, frame_first, no_frame}}
 use Rattle.mm_vmem.proofs.tlb.Tlb.find.Goals as goal
 
 pub returns-in_err-i : goal.returns-in_err-i

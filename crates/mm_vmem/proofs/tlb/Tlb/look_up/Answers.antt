@@ -1,9 +1,7 @@
-use Rattle.std.proofs.Common.{◌≡◌, ◌<◌, ◌≤◌, ◌∷◌, [], ◌++◌, List, Bool, true, false, length, refl, sym, subst, ap, ◌∙◌, arith, eqb-true, eq-eqb}
-use Rattle.std.specs.Prelude.{◌==◌}
-use Rattle.std.specs.List.{refill}
+use Rattle.std.proofs.Common.{◌≡◌, ◌<◌, ◌≤◌, ◌∷◌, [], ◌++◌, List, Bool, true, false, length, refl, sym, subst, ap, ◌∙◌}
+use Rattle.std.{proofs.Common.{arith, eqb-true, eq-eqb}, specs.{Prelude.◌==◌, List.refill}}
 use Rattle.mm_model.specs.Counted.{has}
-use Rattle.mm_vmem.specs.Entries.{AreEntries, pages_in, entries_without, after_look_up}
-use Rattle.mm_vmem.specs.declared.tlb.Entry.{Entry}
+use Rattle.mm_vmem.specs.{Entries.{AreEntries, pages_in, entries_without, after_look_up}, declared.tlb.Entry.Entry}
 use Rattle.mm_vmem.proofs.Entries.{entries_entered, refilled, after_found, after_full, after_room}
 use Rattle.mm_vmem.proofs.tlb.Tlb.look_up.Goals as goal
 

@@ -1,6 +1,5 @@
 use Rattle.std.proofs.Common.{◌+◌, refl, ap, ◌∙◌}
-use Rattle.mm_vmem.specs.contracts.vmem.VMem.{the_view}
-use Rattle.mm_vmem.specs.Cached.{Cached}
+use Rattle.mm_vmem.specs.{contracts.vmem.VMem.the_view, Cached.Cached}
 use Rattle.mm_vmem.proofs.Held.{bring_held, bring_meaning, bring_there, bring_lines, bring_entries, bring_numbers}
 use Rattle.mm_vmem.proofs.vmem.VMem.bring.Goals as goal
 

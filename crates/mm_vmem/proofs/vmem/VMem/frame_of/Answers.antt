@@ -1,7 +1,6 @@
 use Rattle.std.proofs.Common.{sym, ap, ◌∙◌}
 use Rattle.mm_frames.specs.Framed.{frame_of}
-use Rattle.mm_vmem.specs.Cached.{Cached}
-use Rattle.mm_vmem.proofs.Entries.{frame_right}
+use Rattle.mm_vmem.{specs.Cached.Cached, proofs.Entries.frame_right}
 use Rattle.mm_vmem.proofs.vmem.VMem.frame_of.Goals as goal
 
 pub returns-in-Some : goal.returns-in-Some

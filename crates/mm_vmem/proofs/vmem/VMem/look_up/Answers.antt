@@ -1,7 +1,6 @@
 use Rattle.std.proofs.Common.{◌≡◌, ◌+◌, ◌*◌, ◌<◌, Some, sym, subst, arith}
 use Rattle.mm_frames.specs.Framed.{frame_of}
-use Rattle.mm_vmem.specs.Cached.{Cached}
-use Rattle.mm_vmem.proofs.Held.{right_entered}
+use Rattle.mm_vmem.{specs.Cached.Cached, proofs.Held.right_entered}
 use Rattle.mm_vmem.proofs.vmem.VMem.look_up.Goals as goal
 
 pub invariant_of-self : goal.invariant_of-self

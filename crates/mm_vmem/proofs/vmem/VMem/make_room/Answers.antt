@@ -1,12 +1,10 @@
 use Rattle.std.proofs.Common.{◌+◌, ◌%◌, ◌<◌, List, Option, refl, sym, subst, ◌∙◌, arith}
 use Rattle.mm_frames.specs.Framed.{memory_of}
-use Rattle.mm_cache.specs.declared.line.CacheLine.{CacheLine}
-use Rattle.mm_cache.specs.Lines.{line_in}
-use Rattle.mm_cache.specs.Laws.{Cover}
+use Rattle.mm_cache.specs.{declared.line.CacheLine.CacheLine, Lines.line_in, Laws.Cover}
 use Rattle.mm_cache.proofs.FillLines.{clean_lines_go}
-use Rattle.mm_vmem.specs.contracts.vmem.VMem.{the_view}
-use Rattle.mm_vmem.specs.Cached.{Cached}
-use Rattle.mm_vmem.proofs.Held.{line_has_frame, dirty_line, room_meaning, room_entries, room_numbers, back_held, back_meaning, back_entries, back_numbers}
+use Rattle.mm_vmem.specs.{contracts.vmem.VMem.the_view, Cached.Cached}
+use Rattle.mm_vmem.proofs.Held.{line_has_frame, dirty_line, room_meaning, room_entries, room_numbers, back_held}
+use Rattle.mm_vmem.proofs.Held.{back_meaning, back_entries, back_numbers}
 use Rattle.mm_vmem.proofs.vmem.VMem.make_room.Goals as goal
 
 pub invariant_of-self : goal.invariant_of-self

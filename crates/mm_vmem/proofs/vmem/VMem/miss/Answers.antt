@@ -1,12 +1,10 @@
 use Rattle.std.proofs.Common.{◌≡◌, true, sym, ap, ◌∙◌}
-use Rattle.mm_model.specs.Memory.{cell_at}
-use Rattle.mm_model.specs.Counted.{block_of}
+use Rattle.mm_model.specs.{Memory.cell_at, Counted.block_of}
 use Rattle.mm_cache.specs.Lines.{hits}
-use Rattle.mm_vmem.specs.contracts.vmem.VMem.{the_view}
-use Rattle.mm_vmem.specs.Cached.{Cached, meaning}
+use Rattle.mm_vmem.specs.{contracts.vmem.VMem.the_view, Cached.{Cached, meaning}}
 use Rattle.mm_vmem.proofs.CellsRead.{hit_has_cell, no_frame_no_cell, read_there, never_none}
-use Rattle.mm_vmem.proofs.vmem.VMem.miss.Goals as goal
 use Rattle.mm_vmem.proofs.vmem.VMem.miss.Goals.{After-cell}
+use Rattle.mm_vmem.proofs.vmem.VMem.miss.Goals as goal
 
 there : (c : After-cell) → hits c.self.inside.lines (block_of c.args.word) ≡ true
 there c = ap (λ (m : Cached). hits m.lines (block_of c.args.word)) c.self.view_is ∙ c.bring.ensures.there

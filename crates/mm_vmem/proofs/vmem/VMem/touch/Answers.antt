@@ -1,14 +1,9 @@
 use Rattle.std.proofs.Common.{◌≡◌, ℕ, ◌+◌, true, false, [], ◌∷◌, ◌++◌, sym, ap, subst, ◌∙◌, arith}
-use Rattle.mm_model.specs.Memory.{cell_at}
-use Rattle.mm_model.specs.Uses.{Accessed}
-use Rattle.mm_model.specs.Counted.{block_of}
+use Rattle.mm_model.specs.{Memory.cell_at, Uses.Accessed, Counted.block_of}
 use Rattle.mm_frames.specs.Framed.{memory_of}
-use Rattle.mm_cache.specs.Lines.{hits}
-use Rattle.mm_cache.specs.Over.{over}
-use Rattle.mm_vmem.specs.contracts.vmem.VMem.{the_view}
-use Rattle.mm_vmem.specs.Cached.{Cached, meaning, StandsTo}
-use Rattle.mm_vmem.proofs.CellsRead.{cell_is_hit, no_cell_no_hit, read_there}
-use Rattle.mm_vmem.proofs.UsesTaken.{stands_hit, stands_miss}
+use Rattle.mm_cache.specs.{Lines.hits, Over.over}
+use Rattle.mm_vmem.specs.{contracts.vmem.VMem.the_view, Cached.{Cached, meaning, StandsTo}}
+use Rattle.mm_vmem.proofs.{CellsRead.{cell_is_hit, no_cell_no_hit, read_there}, UsesTaken.{stands_hit, stands_miss}}
 use Rattle.mm_vmem.proofs.vmem.VMem.touch.Goals as goal
 
 pub returns-in-Some-clause-answer : goal.returns-in-Some-clause-answer

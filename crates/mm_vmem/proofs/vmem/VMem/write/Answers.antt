@@ -1,15 +1,9 @@
 use Rattle.std.proofs.Common.{true, List, [], ◌∷◌, ◌++◌, Option, sym, ap, subst, ◌∙◌}
-use Rattle.mm_model.specs.Memory.{put_cell}
-use Rattle.mm_model.specs.Uses.{Accessed}
-use Rattle.mm_model.specs.Counted.{block_of}
+use Rattle.mm_model.specs.{Memory.put_cell, Uses.Accessed, Counted.block_of}
 use Rattle.mm_frames.specs.Framed.{memory_of}
-use Rattle.mm_cache.specs.declared.line.CacheLine.{CacheLine}
-use Rattle.mm_cache.specs.Lines.{hits, with_cell}
-use Rattle.mm_cache.specs.Over.{over}
-use Rattle.mm_cache.specs.Laws.{Cover}
+use Rattle.mm_cache.specs.{declared.line.CacheLine.CacheLine, Lines.{hits, with_cell}, Over.over, Laws.Cover}
 use Rattle.mm_cache.proofs.WriteCells.{writes_are_over}
-use Rattle.mm_vmem.specs.Cached.{Cached, meaning, StandsTo}
-use Rattle.mm_vmem.proofs.UsesTaken.{stands_written}
+use Rattle.mm_vmem.{specs.Cached.{Cached, meaning, StandsTo}, proofs.UsesTaken.stands_written}
 use Rattle.mm_vmem.proofs.vmem.VMem.write.Goals as goal
 
 pub invariant_of-self : goal.invariant_of-self

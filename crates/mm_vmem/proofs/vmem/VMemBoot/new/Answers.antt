@@ -1,8 +1,6 @@
 use Rattle.std.proofs.Common.{sym, subst, ◌∙◌}
 use Rattle.mm_model.specs.Memory.{IsPaged}
-use Rattle.mm_vmem.specs.Cached.{meaning}
-use Rattle.mm_vmem.proofs.PageChanges.{new_held, new_meaning}
-use Rattle.mm_vmem.proofs.UsesTaken.{stands_new}
+use Rattle.mm_vmem.{specs.Cached.meaning, proofs.{PageChanges.{new_held, new_meaning}, UsesTaken.stands_new}}
 use Rattle.mm_vmem.proofs.vmem.VMemBoot.new.Goals as goal
 
 pub invariant_of-result : goal.invariant_of-result

@@ -1,10 +1,8 @@
 use Rattle.std.proofs.Common.{◌≡◌, ℕ, ◌<◌, List, map, length, Some, slice_get, sym, ap, subst, ◌∙◌}
 use Rattle.mm_word.specs.declared.word.Cell.{Cell}
 use Rattle.mm_frames.specs.Framed.{memory_of}
-use Rattle.mm_cache.specs.Over.{over}
-use Rattle.mm_cache.proofs.Laid.{over_count}
-use Rattle.mm_vmem.specs.Cached.{Cached, meaning}
-use Rattle.mm_vmem.proofs.PageChanges.{numbers_over}
+use Rattle.mm_cache.{specs.Over.over, proofs.Laid.over_count}
+use Rattle.mm_vmem.{specs.Cached.{Cached, meaning}, proofs.PageChanges.numbers_over}
 use Rattle.mm_vmem.proofs.vmem.VMemInspect.page_at.Goals as goal
 
 pub page_at-requires : goal.page_at-requires

@@ -1,8 +1,7 @@
 use Rattle.std.proofs.Common.{length, sym, ap, subst, ◌∙◌}
 use Rattle.mm_model.specs.Memory.{IsPaged}
 use Rattle.mm_frames.specs.Framed.{memory_of}
-use Rattle.mm_cache.specs.Over.{over}
-use Rattle.mm_cache.proofs.Laid.{over_count, over_paged}
+use Rattle.mm_cache.{specs.Over.over, proofs.Laid.{over_count, over_paged}}
 use Rattle.mm_vmem.specs.Cached.{Cached, meaning}
 use Rattle.mm_vmem.proofs.vmem.VMemInspect.pages.Goals as goal
 

@@ -1,11 +1,8 @@
 use Rattle.std.proofs.Common.{◌/◌, List, Option, sym, ap, ◌∙◌}
 use Rattle.mm_word.specs.declared.word.Cell.{Cell}
-use Rattle.mm_model.specs.Memory.{cell_at, cell_in, place_of}
-use Rattle.mm_model.proofs.Memories.{cell_at-aligned}
-use Rattle.mm_frames.specs.Framed.{frame_of, memory_of}
-use Rattle.mm_frames.proofs.Framed.{page_in_frame}
-use Rattle.mm_vmem.specs.contracts.vmem.VMem.{the_view}
-use Rattle.mm_vmem.specs.Cached.{Cached, meaning}
+use Rattle.mm_model.{specs.Memory.{cell_at, cell_in, place_of}, proofs.Memories.cell_at-aligned}
+use Rattle.mm_frames.{specs.Framed.{frame_of, memory_of}, proofs.Framed.page_in_frame}
+use Rattle.mm_vmem.specs.{contracts.vmem.VMem.the_view, Cached.{Cached, meaning}}
 use Rattle.mm_vmem.proofs.CellsRead.{same_page, cell_is_hit, no_cell_no_hit, no_frame_no_cell, read_there, read_missing}
 use Rattle.mm_vmem.proofs.vmem.VMemInspect.peek.Goals as goal
 

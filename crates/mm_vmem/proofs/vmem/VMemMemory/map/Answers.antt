@@ -2,10 +2,8 @@ use Rattle.std.proofs.Common.{sym, ap, ◌∙◌}
 use Rattle.mm_model.specs.Memory.{can_map}
 use Rattle.mm_mem.specs.Answers.{after_map}
 use Rattle.mm_frames.specs.Framed.{memory_of}
-use Rattle.mm_cache.specs.Over.{over}
-use Rattle.mm_cache.proofs.MapPages.{pages_are_over}
-use Rattle.mm_vmem.specs.contracts.vmem.VMem.{the_view}
-use Rattle.mm_vmem.specs.Cached.{Cached, meaning}
+use Rattle.mm_cache.{specs.Over.over, proofs.MapPages.pages_are_over}
+use Rattle.mm_vmem.specs.{contracts.vmem.VMem.the_view, Cached.{Cached, meaning}}
 use Rattle.mm_vmem.proofs.PageChanges.{map_held, map_meaning}
 use Rattle.mm_vmem.proofs.vmem.VMemMemory.map.Goals as goal
 

@@ -1,14 +1,9 @@
 use Rattle.std.proofs.Common.{◌≡◌, Bool, true, false, List, ◌++◌, sym, ap, subst, ◌∙◌, append-nil}
-use Rattle.mm_model.specs.Memory.{is_mapped}
-use Rattle.mm_model.specs.Uses.{Use}
-use Rattle.mm_model.specs.Turn.{removal_use}
+use Rattle.mm_model.specs.{Memory.is_mapped, Uses.Use, Turn.removal_use}
 use Rattle.mm_mem.specs.Answers.{after_unmap}
 use Rattle.mm_frames.specs.Framed.{Framed, memory_of}
-use Rattle.mm_cache.specs.Lines.{without_page}
-use Rattle.mm_cache.specs.Over.{over}
-use Rattle.mm_cache.proofs.MapPages.{pages_are_over}
-use Rattle.mm_vmem.specs.contracts.vmem.VMem.{the_view}
-use Rattle.mm_vmem.specs.Cached.{Cached, meaning, StandsTo}
+use Rattle.mm_cache.{specs.{Lines.without_page, Over.over}, proofs.MapPages.pages_are_over}
+use Rattle.mm_vmem.specs.{contracts.vmem.VMem.the_view, Cached.{Cached, meaning, StandsTo}}
 use Rattle.mm_vmem.proofs.PageChanges.{with_frames, unmap_held, refused_held, unmap_meaning, refused_meaning}
 use Rattle.mm_vmem.proofs.UsesTaken.{stands_page_removed, stands_same}
 use Rattle.mm_vmem.proofs.vmem.VMemMemory.unmap.Goals as goal

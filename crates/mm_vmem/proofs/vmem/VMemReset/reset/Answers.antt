@@ -1,12 +1,8 @@
 use Rattle.std.proofs.Common.{◌≡◌, ℕ, ◌≤◌, length, sym, ap, subst, ◌∙◌}
 use Rattle.mm_model.specs.Memory.{Memory, IsPaged}
-use Rattle.mm_frames.specs.Framed.{memory_of}
-use Rattle.mm_frames.proofs.Framed.{frames_are}
-use Rattle.mm_cache.specs.Over.{over}
-use Rattle.mm_cache.proofs.Laid.{over_frames}
-use Rattle.mm_vmem.specs.Cached.{Cached, meaning}
-use Rattle.mm_vmem.proofs.PageChanges.{new_held, new_meaning}
-use Rattle.mm_vmem.proofs.UsesTaken.{stands_new}
+use Rattle.mm_frames.{specs.Framed.memory_of, proofs.Framed.frames_are}
+use Rattle.mm_cache.{specs.Over.over, proofs.Laid.over_frames}
+use Rattle.mm_vmem.{specs.Cached.{Cached, meaning}, proofs.{PageChanges.{new_held, new_meaning}, UsesTaken.stands_new}}
 use Rattle.mm_vmem.proofs.vmem.VMemReset.reset.Goals as goal
 
 -- as many frames as there are
