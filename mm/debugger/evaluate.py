@@ -5,7 +5,7 @@ from __future__ import annotations
 import re
 from typing import Optional
 
-from mm.debugger.arithmetic import Leaf, number_in, tree_of, value_in
+from mm.debugger.arithmetic import BITS, Leaf, number_in, tree_of, value_in
 from mm.debugger.cexpressions import c_thing, word_of
 from mm.debugger.session import Session
 from mm.machine.words import ADDRESS_LIMIT, Word
@@ -164,12 +164,22 @@ class Values:
 
 def value_of(text: str, session: Session) -> Word:
     """The word that a person means: an expression, or a value of `word_named`."""
+    return sized_value(text, session)[0]
+
+
+def sized_value(text: str, session: Session) -> tuple[Word, int]:
+    """The word that a person means, and of how many bits it is: those of a variable of C by its type."""
     if ":" in text or printed_address(text.strip()) is not None:
-        return word_named(text, session)  # A line of a file, or an address as reports print it.
+        return word_named(text, session), BITS  # A line of a file, or an address as reports print it.
     tree = tree_of(text)
-    if isinstance(tree, Leaf) and not tree.text.startswith("'"):
-        return word_named(tree.text, session)
-    return value_in(tree, Values(session))
+    if not isinstance(tree, Leaf) or tree.text.startswith("'"):
+        return value_in(tree, Values(session)), BITS
+    values = session.values
+    thing = c_thing(tree.text, values) if values and not tree.text.startswith("&") else None
+    if thing is None or not thing.type:
+        return word_named(tree.text, session), BITS
+    word = Values(session).word(tree.text)
+    return word, BITS if word.tagged else thing.bits or 8 * min(thing.kind.size, BITS // 8) or BITS
 
 
 def word_named(text: str, session: Session) -> Word:
