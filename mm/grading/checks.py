@@ -171,12 +171,20 @@ def word(program: Program, name: str, value: str) -> Optional[str]:
     return None if is_so else f"{name} is {Speller(program.built.symbols).word(cell.word)}"
 
 
+def _no_group(program: Program, groups: tuple[str, ...]) -> Optional[str]:
+    """What is said if a group is not there: the audit would say of it that it stands apart."""
+    missing = [group for group in groups if number_in(group) not in program.built.image.groups]
+    return f"there is no group {missing[0]}" if missing else None
+
+
 def apart(program: Program, *groups: str) -> Optional[str]:
-    return None if program.apart(",".join(groups)) else "the audit says that they do not"
+    is_so = program.apart(",".join(groups))
+    return _no_group(program, groups) or (None if is_so else "the audit says that they do not")
 
 
 def shares(program: Program, *groups: str) -> Optional[str]:
-    return "the audit says that they stand apart" if program.apart(",".join(groups)) else None
+    is_so = not program.apart(",".join(groups))
+    return _no_group(program, groups) or (None if is_so else "the audit says that they stand apart")
 
 
 def _no_source(program: Program) -> Optional[str]:
