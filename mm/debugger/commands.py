@@ -39,6 +39,7 @@ class Debugger:
         self.todo = list(halt.point.commands) if halt.point else []
         if self.todo and self.todo[0] == SILENT:
             del self.todo[0]
+            yield from self.show.trouble(halt)
             return
         yield from self.show.stop(halt)
         for text in self.displays:

@@ -214,6 +214,19 @@ class MorePoints(unittest.TestCase):
         self.assertIn("r1 = 3 ", out)
         self.assertIn("is no", self.session("break again if (r1) == (3"))
 
+    def test_a_condition_that_cannot_be_reckoned(self):
+        """It is neither so nor not so: the run stops there and says why."""
+        out = self.session("break again+8 if 6/(3-r1) == 6", "continue", "p r1", "continue", "p r1")
+        first, second = out.split("(mm) continue\n")[1:3]
+        self.assertIn("break 1: again+8\n", first)
+        self.assertNotIn("cannot be reckoned", first)
+        self.assertIn("r1 = 2 ", first)
+        self.assertIn("break 1: again+8\n`if 6/(3-r1) == 6` cannot be reckoned here: this divides by zero\n", second)
+        self.assertIn("r1 = 3 ", second)
+        out = self.session("break again+8 if r1 == 5 || *(r1*0) == 2", "commands", "silent", "end", "continue", "p r1")
+        self.assertIn("cannot be reckoned here: no page is at", out)
+        self.assertIn("r1 = 1 ", out)
+
     def test_ignored(self):
         out = self.session("break again+8", "ignore 1 4", "continue", "p r1", "info breakpoints")
         self.assertIn("(goes on 4 more times)", out)
