@@ -14,6 +14,7 @@ from unittest import mock
 
 from mm.cc.clang import as_file, text_of
 from mm.console import Console
+from mm.main import Ended, _catch_signals
 from mm.outfile import write_whole
 from mm.shown import shown, visible
 from mm.status import Status, Stop
@@ -283,6 +284,18 @@ class Outputs(unittest.TestCase):
                 with self.assertRaises(ProcessLookupError):
                     os.kill(child, 0)
 
+    def test_a_second_signal_changes_nothing(self):
+        """`timeout` sends one to the process and one to its group: the second comes while the first ends the command."""
+        before = _catch_signals()
+        try:
+            with self.assertRaises(Ended):
+                signal.raise_signal(signal.SIGTERM)
+            signal.raise_signal(signal.SIGTERM)
+            signal.raise_signal(signal.SIGHUP)
+        finally:
+            for number, handler in before.items():
+                signal.signal(number, handler)
+
     def started(self, path):
         for _ in range(200):
             if os.path.isfile(path) and os.path.getsize(path):
@@ -310,7 +323,7 @@ class Starts(unittest.TestCase):
             self.assertEqual((ended.returncode, ended.stdout, ended.stderr.strip()), (130, b"", b""))
 
     def imported(self, *words):
-        said = "import sys; from mm.main import main; main(sys.argv[1:]); print(*sys.modules, sep='\\n', file=sys.stderr)"
+        said = "import sys; from mm.main import Ended, _catch_signals, main; main(sys.argv[1:]); print(*sys.modules, sep='\\n', file=sys.stderr)"
         ended = subprocess.run([sys.executable, "-c", said, *words], cwd=path_of(), capture_output=True, text=True, check=False)
         return set(ended.stderr.split())
 
