@@ -21,6 +21,7 @@ from mm.views.listing import map_lines
 
 Lines = Iterable[str]
 MOST_WORDS = 512
+MOST_DIGITS = 18
 SILENT = "silent"
 
 
@@ -208,6 +209,8 @@ def _examine(debugger: Debugger, rest: str) -> Lines:
     form, text = (rest[1:].partition(" ")[0], rest[1:].partition(" ")[2]) if rest.startswith("/") else ("", rest)
     digits = "".join(letter for letter in form if letter.isdigit())
     address, length = span(text or "ip", debugger.session)
+    if len(digits) > MOST_DIGITS or not digits.isascii():
+        raise Wrong(f"1 to {MOST_WORDS} words can be shown")
     count = int(digits) if digits else max(1, min(length // 8, 16))
     if not 0 < count <= MOST_WORDS:
         raise Wrong(f"1 to {MOST_WORDS} words can be shown")

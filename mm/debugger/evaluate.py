@@ -14,9 +14,9 @@ from mm.names.numbers import number_of, printed_address
 from mm.views.cvalues import CThing
 from mm.words import MOST_CYCLES
 
-REGISTER = re.compile(r"\$?r(\d+)")
+REGISTER = re.compile(r"\$?r([0-9]{1,18})")
 OFFSET = re.compile(r"(\$?r\d+|\$?ip|\$pc)\s*([+-]\s*\w+)?")
-SLOT = re.compile(r"(.*?)\s*\b(?:if\s+)?(?:slot|thread)\s+(\d+)")
+SLOT = re.compile(r"(.*?)\s*\b(?:if\s+)?(?:slot|thread)\s+([0-9]{1,18})")
 SOME_LINES = 100_000
 
 

@@ -14,12 +14,14 @@ from mm.names.nearby import lines_nearby
 MARK = ";@ "
 BLOCK = re.compile(r"(L|P_)\d+")
 LABEL = re.compile(r"([A-Za-z_]\w*):")
-FRAME = re.compile(r"frame back (-|\d+) caller (at|by) (\d+)")
-OBJECT = re.compile(r"(?:local|global) (\S+) (\d+) at (\d+)(?: log (\d+))?(?: type (\d+))?(?: in (\d+))?")
-LINE = re.compile(r"line (.*):(\d+)(?: in (\d+))?")
-FUNCTION = re.compile(r"function (\S+) at (.*):(\d+)")
-INLINED = re.compile(r"inlined (\d+) (\S+) at (.*):(\d+)(?: in (\d+))?")
-VARIABLE = re.compile(r"var (\S+) (\d+) (\S+)(?: in (\d+))?")
+# No number of theirs has more digits.
+NUMBER = "([0-9]{1,18})"
+FRAME = re.compile(rf"frame back (-|[0-9]{{1,18}}) caller (at|by) {NUMBER}")
+OBJECT = re.compile(rf"(?:local|global) (\S+) {NUMBER} at {NUMBER}(?: log {NUMBER})?(?: type {NUMBER})?(?: in {NUMBER})?")
+LINE = re.compile(rf"line (.*):{NUMBER}(?: in {NUMBER})?")
+FUNCTION = re.compile(rf"function (\S+) at (.*):{NUMBER}")
+INLINED = re.compile(rf"inlined {NUMBER} (\S+) at (.*):{NUMBER}(?: in {NUMBER})?")
+VARIABLE = re.compile(rf"var (\S+) {NUMBER} (\S+)(?: in {NUMBER})?")
 NOWHERE = "-"
 # What gives a function a stack pointer of its own, and what leaves it.
 MOVES = re.compile(r"leai r15, r15, -\d+|mov r15, r12")
