@@ -107,7 +107,12 @@ class Grade(unittest.TestCase):
         self.assertIn("there is no exercise `9.1`", ended.err)
 
     def test_lines_that_are_none(self):
-        for text, why in (("shines 0", "`shines` is nothing"), ("faults 0", "the form `faults SLOT FAULT`"), ("", "nothing")):
+        for text, why in (
+            ("without mull", "sheet.txt:1: `mull` is no operation; do you mean `mul"), ("says 0\nuses st|shift", "sheet.txt:2: `shift` is no operation"),
+            ("cycles x\ncycles 5\nsays 0", "sheet.txt:2: there is a line `cycles` already"),
+            ("schedule 0\nschedule 1\nsays 0", "there is a line `schedule` already"),
+            ("shines 0", "`shines` is nothing"), ("faults 0", "the form `faults SLOT FAULT`"), ("", "nothing"),
+        ):
             with self.assertRaises(Stop) as stop:
                 read_sheet("sheet.txt", text)
             self.assertIn(why, stop.exception.lines[0])
