@@ -183,7 +183,7 @@ def sized_value(text: str, session: Session) -> tuple[Word, int]:
 
 
 def word_named(text: str, session: Session) -> Word:
-    """A register, the word at a name, a name's address with `&`, or a number; a great number means the word at that address."""
+    """A register, the word at a name, a name's address with `&`, a number, or the word at an address as reports print it."""
     text = text.strip()
     if text.startswith("**"):
         return Values(session).at(number_in(word_named(text[1:], session)))
@@ -196,8 +196,8 @@ def word_named(text: str, session: Session) -> Word:
         if found:
             return found
     number = number_of(text) if printed_address(text) is None else None
-    if number is not None and number < SOME_LINES:
-        return Word(number & (1 << 64) - 1)
+    if number is not None:
+        return Word(number & (1 << BITS) - 1)
     address = span(text.lstrip("*"), session)[0]
     cell = session.memory.cell(address & ~7)
     if cell is None:
