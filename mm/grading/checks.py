@@ -3,6 +3,7 @@
 from __future__ import annotations
 
 import re
+import warnings
 from dataclasses import dataclass
 from functools import cached_property
 from typing import Callable, Optional
@@ -108,8 +109,11 @@ def became(slot: SlotState) -> str:
 
 def says(program: Program, group: str, text: str = "") -> Optional[str]:
     try:
-        wanted = text.encode("latin-1").decode("unicode_escape").encode("latin-1")
-    except UnicodeError:
+        with warnings.catch_warnings():
+            # Of a `\` before another letter Python only warns.
+            warnings.simplefilter("error")
+            wanted = text.encode("latin-1").decode("unicode_escape").encode("latin-1")
+    except (UnicodeError, Warning):
         raise WrongLine(f"`{text}` is no text of bytes: letters, and \\n, \\\\ or \\x41 for others") from None
     found = program.report.outputs.get(number_in(group))
     if found is None:

@@ -161,6 +161,13 @@ class Sessions(unittest.TestCase):
         self.assertIn('group 1  "AB"', said[8])
         self.assertIn("* slot", said[9])
 
+    def test_memory_in_forms_that_are_none(self):
+        said = self.session(["x/-1 box", "x/\u0663 box", "x/2x box", "watch -8"], "examples/counter.asm")
+        self.assertIn("write how many words", said[0])
+        self.assertIn("write how many words", said[1])
+        self.assertIn("  box ", said[2])
+        self.assertIn("-0x8 is no address", said[3])
+
     def test_schedule_with_idle_cycles(self):
         said = self.session(["s", "s 2", "back", "goto 7", "s"], "examples/counter.asm", "--turns", "9 0 9 1*5")
         self.assertIn("cycle 1\n", said[0])

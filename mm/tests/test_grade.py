@@ -101,6 +101,12 @@ class Grade(unittest.TestCase):
                     self.assertIn(f"  no   {line}\n       {why}\n" if why else f"  yes  {line}\n", ended.out)
         self.assertIn("there is no group 2", mm("grade", "7.2", "docs/course/apart.asm").out)
 
+    def test_a_text_that_is_none(self):
+        with folder() as room:
+            ended = mm("grade", write(room, "sheet.txt", "says 0 \\q"), "examples/hello.asm")
+        self.assertEqual((ended.status, ended.out), (2, ""))
+        self.assertIn("sheet.txt:1: `\\q` is no text of bytes", ended.err)
+
     def test_words_that_are_none(self):
         ended = mm("grade", "9.1", "examples/hello.asm")
         self.assertEqual(ended.status, 1)
