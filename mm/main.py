@@ -80,7 +80,14 @@ def _open_streams() -> None:
 
 
 def _raise_ended(number: int, _: Optional[FrameType]) -> None:
+    """Ends the command. A second signal changes nothing: `timeout` sends it to the process and then to its group."""
+    for name in ENDING:
+        signal.signal(getattr(signal, name), _already_ending)
     raise Ended(number)
+
+
+def _already_ending(number: int, _: Optional[FrameType]) -> None:
+    """What a signal does after the first: nothing."""
 
 
 def _catch_signals() -> dict[int, Any]:

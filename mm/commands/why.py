@@ -13,6 +13,8 @@ def run(console: Console) -> int:
     *names, group, word, kind = console.words
     built = console.build(names)
     ask = asked(group, word, kind, built.symbols)
+    if ask.group not in built.image.groups:
+        console.tell(f"mm: note: no thread is in group {ask.group}")
     text = console.ask(["why", built.path, *ask.words], [built.file]).text
     place, granted = built.symbols.show(ask.address), text != NO
     console.write([answer(ask.group, place, ask.kind, granted, console.style)])

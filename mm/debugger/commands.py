@@ -2,6 +2,7 @@
 
 from __future__ import annotations
 
+import re
 from dataclasses import dataclass
 from typing import Callable, Iterable, Iterator, Optional
 
@@ -21,6 +22,8 @@ from mm.views.listing import map_lines
 
 Lines = Iterable[str]
 MOST_WORDS = 512
+MOST_DIGITS = 18
+EXAMINED = re.compile("([0-9]*)[a-z]*")
 SILENT = "silent"
 
 
@@ -39,6 +42,7 @@ class Debugger:
         self.todo = list(halt.point.commands) if halt.point else []
         if self.todo and self.todo[0] == SILENT:
             del self.todo[0]
+            yield from self.show.trouble(halt)
             return
         yield from self.show.stop(halt)
         for text in self.displays:
@@ -205,8 +209,13 @@ def _slot(debugger: Debugger, rest: str) -> Lines:
 def _examine(debugger: Debugger, rest: str) -> Lines:
     """`x/8 box`, `x/4i door`."""
     form, text = (rest[1:].partition(" ")[0], rest[1:].partition(" ")[2]) if rest.startswith("/") else ("", rest)
-    digits = "".join(letter for letter in form if letter.isdigit())
+    match = EXAMINED.fullmatch(form)
+    if match is None:
+        raise Wrong("write how many words, and i for instructions: `x/8 box`, `x/4i door`")
+    digits = match[1]
     address, length = span(text or "ip", debugger.session)
+    if len(digits) > MOST_DIGITS:
+        raise Wrong(f"1 to {MOST_WORDS} words can be shown")
     count = int(digits) if digits else max(1, min(length // 8, 16))
     if not 0 < count <= MOST_WORDS:
         raise Wrong(f"1 to {MOST_WORDS} words can be shown")

@@ -23,11 +23,19 @@ class Condition:
     tree: Tree
 
     def holds(self, session: Session) -> bool:
-        """Whether it is so at the moment of a session. What has no value there is not so."""
+        """Whether it is so at the moment of a session, or cannot be reckoned there: then the run stops, as it does in gdb."""
         try:
             return number_in(value_in(self.tree, Values(session))) != 0
         except NoAddress:
-            return False
+            return True
+
+    def trouble(self, session: Session) -> str:
+        """Why it cannot be reckoned at the moment of a session; nothing if it can."""
+        try:
+            value_in(self.tree, Values(session))
+        except NoAddress as error:
+            return f"`if {self.text}` cannot be reckoned here: {error}"
+        return ""
 
     def check(self, session: Session) -> None:
         """Raises a name that nothing has. A register may have no value yet, and a variable of C no place."""

@@ -5,7 +5,7 @@ from __future__ import annotations
 import re
 from typing import Optional
 
-from mm.debugger.arithmetic import Leaf, number_in, tree_of, value_in
+from mm.debugger.arithmetic import BITS, Leaf, number_in, tree_of, value_in
 from mm.debugger.cexpressions import c_thing, word_of
 from mm.debugger.session import Session
 from mm.machine.words import ADDRESS_LIMIT, Word
@@ -14,9 +14,9 @@ from mm.names.numbers import number_of, printed_address
 from mm.views.cvalues import CThing
 from mm.words import MOST_CYCLES
 
-REGISTER = re.compile(r"\$?r(\d+)")
+REGISTER = re.compile(r"\$?r([0-9]{1,18})")
 OFFSET = re.compile(r"(\$?r\d+|\$?ip|\$pc)\s*([+-]\s*\w+)?")
-SLOT = re.compile(r"(.*?)\s*\b(?:if\s+)?(?:slot|thread)\s+(\d+)")
+SLOT = re.compile(r"(.*?)\s*\b(?:if\s+)?(?:slot|thread)\s+([0-9]{1,18})")
 SOME_LINES = 100_000
 
 
@@ -164,16 +164,26 @@ class Values:
 
 def value_of(text: str, session: Session) -> Word:
     """The word that a person means: an expression, or a value of `word_named`."""
+    return sized_value(text, session)[0]
+
+
+def sized_value(text: str, session: Session) -> tuple[Word, int]:
+    """The word that a person means, and of how many bits it is: those of a variable of C by its type."""
     if ":" in text or printed_address(text.strip()) is not None:
-        return word_named(text, session)  # A line of a file, or an address as reports print it.
+        return word_named(text, session), BITS  # A line of a file, or an address as reports print it.
     tree = tree_of(text)
-    if isinstance(tree, Leaf) and not tree.text.startswith("'"):
-        return word_named(tree.text, session)
-    return value_in(tree, Values(session))
+    if not isinstance(tree, Leaf) or tree.text.startswith("'"):
+        return value_in(tree, Values(session)), BITS
+    values = session.values
+    thing = c_thing(tree.text, values) if values and not tree.text.startswith("&") else None
+    if thing is None or not thing.type:
+        return word_named(tree.text, session), BITS
+    word = Values(session).word(tree.text)
+    return word, BITS if word.tagged else thing.bits or 8 * min(thing.kind.size, BITS // 8) or BITS
 
 
 def word_named(text: str, session: Session) -> Word:
-    """A register, the word at a name, a name's address with `&`, or a number; a great number means the word at that address."""
+    """A register, the word at a name, a name's address with `&`, a number, or the word at an address as reports print it."""
     text = text.strip()
     if text.startswith("**"):
         return Values(session).at(number_in(word_named(text[1:], session)))
@@ -186,8 +196,8 @@ def word_named(text: str, session: Session) -> Word:
         if found:
             return found
     number = number_of(text) if printed_address(text) is None else None
-    if number is not None and number < SOME_LINES:
-        return Word(number & (1 << 64) - 1)
+    if number is not None:
+        return Word(number & (1 << BITS) - 1)
     address = span(text.lstrip("*"), session)[0]
     cell = session.memory.cell(address & ~7)
     if cell is None:

@@ -6,7 +6,7 @@ import re
 from typing import TYPE_CHECKING, Iterable
 
 from mm.debugger.arithmetic import number_in
-from mm.debugger.evaluate import span, value_of
+from mm.debugger.evaluate import sized_value, span
 from mm.debugger.of_c import value_text
 from mm.debugger.stops import Wrong
 from mm.names.expressions import NoAddress
@@ -22,6 +22,7 @@ ESCAPED = re.compile(r"\\(n|t|\\|\"|.)")
 DIRECTIVE = re.compile(r"%(%|0?\d{0,3}(?:l|ll|h|hh|z)?[diuxXoc])")
 QUOTED = re.compile(r'"((?:[^"\\]|\\.)*)"\s*(?:,(.*))?')
 MASK = (1 << 64) - 1
+INT_BITS = 32
 
 
 def said_of(text: str, debugger: Debugger) -> str:
@@ -35,13 +36,15 @@ def said_of(text: str, debugger: Debugger) -> str:
     session = debugger.session
     if form == "i":
         return debugger.show.place(span(what, session)[0])
-    word = value_of(what, session)
-    bits, number = word.bits, number_in(word)
+    word, width = sized_value(what, session)
+    bits, number = word.bits & (1 << width) - 1, number_in(word)
     if form == "a":
-        return f"0x{number & MASK:x} <{session.symbols.show(number)}>" if number >= 0 else f"0x{number & MASK:x}"
+        return f"0x{number & MASK:x} <{session.symbols.show(number)}>" if number >= 0 else f"0x{bits:x}"
     if form == "c":
         return f"{number} '{chr(number)}'" if 32 <= number < 127 else str(number)
-    forms = {"x": f"0x{bits:x}", "d": str(word.signed), "u": str(bits), "o": f"0{bits:o}", "t": f"{bits:b}", "z": f"0x{bits:016x}"}
+    signed = bits - (bits >> width - 1 << width)
+    digits = -(-width // 4)
+    forms = {"x": f"0x{bits:x}", "d": str(signed), "u": str(bits), "o": f"0{bits:o}", "t": f"{bits:b}", "z": f"0x{bits:0{digits}x}"}
     if form not in forms:
         raise Wrong(f"there is no form /{form}: {FORMS}")
     return forms[form]
@@ -91,9 +94,10 @@ def printf(debugger: Debugger, rest: str) -> Lines:
 
 
 def _formed(form: str, text: str, debugger: Debugger) -> str:
-    word = value_of(text, debugger.session)
+    """A value by a directive. One of less than 32 bits is written as an int, as C has it."""
+    word, bits = sized_value(text, debugger.session)
     kind, width = form[-1], re.match(r"\d*", form)
-    number = word.signed if kind in "di" else word.bits
+    number = word.signed if kind in "di" else word.bits & (1 << max(bits, INT_BITS)) - 1
     if kind == "c":
         return chr(number & 0xFF)
     said = f"{number:{kind if kind in 'xXo' else 'd'}}"

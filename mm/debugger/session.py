@@ -33,6 +33,8 @@ class Halt:
     ended: bool = False
     # The cycle of the turn.
     cycle: int = 0
+    # Why the condition of the point could not be reckoned.
+    trouble: str = ""
 
 
 class Session:
@@ -132,7 +134,8 @@ class Session:
         point.hits += 1
         if point.once:
             self.points.remove(point)
-        return Halt(point, None if point.kind.before else turn, cycle=cycle)
+        trouble = point.condition.trouble(self) if point.condition else ""
+        return Halt(point, None if point.kind.before else turn, cycle=cycle, trouble=trouble)
 
     def _met(self, cycle: int, turn: Turn) -> Optional[Point]:
         """The point that a turn meets. A break is met once by a slot that waits at it."""

@@ -87,6 +87,11 @@ class Show:
         else:
             yield self.style.good(f"{point.kind.title} {point.number}")
 
+    def trouble(self, halt: Halt) -> Iterator[str]:
+        """That the condition of the point could not be reckoned, with the reason."""
+        if halt.trouble:
+            yield self.style.warn(halt.trouble)
+
     @property
     def memory_before(self) -> Memory:
         """The memory before the last cycle."""
@@ -121,6 +126,7 @@ class Show:
         session = self.session
         current, turn = session.current, session.next_turn
         yield from self.reason(halt)
+        yield from self.trouble(halt)
         yield from self.did(halt)
         ended = turn is None
         yield f"{self.style.soft(f'cycle {session.total}')}{', the end of the run (`run` begins again, `back` goes back)' if ended else ''}"

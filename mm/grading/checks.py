@@ -3,6 +3,7 @@
 from __future__ import annotations
 
 import re
+import warnings
 from dataclasses import dataclass
 from functools import cached_property
 from typing import Callable, Optional
@@ -108,8 +109,11 @@ def became(slot: SlotState) -> str:
 
 def says(program: Program, group: str, text: str = "") -> Optional[str]:
     try:
-        wanted = text.encode("latin-1").decode("unicode_escape").encode("latin-1")
-    except UnicodeError:
+        with warnings.catch_warnings():
+            # Of a `\` before another letter Python only warns.
+            warnings.simplefilter("error")
+            wanted = text.encode("latin-1").decode("unicode_escape").encode("latin-1")
+    except (UnicodeError, Warning):
         raise WrongLine(f"`{text}` is no text of bytes: letters, and \\n, \\\\ or \\x41 for others") from None
     found = program.report.outputs.get(number_in(group))
     if found is None:
@@ -171,12 +175,20 @@ def word(program: Program, name: str, value: str) -> Optional[str]:
     return None if is_so else f"{name} is {Speller(program.built.symbols).word(cell.word)}"
 
 
+def _no_group(program: Program, groups: tuple[str, ...]) -> Optional[str]:
+    """What is said if a group is not there: the audit would say of it that it stands apart."""
+    missing = [group for group in groups if number_in(group) not in program.built.image.groups]
+    return f"there is no group {missing[0]}" if missing else None
+
+
 def apart(program: Program, *groups: str) -> Optional[str]:
-    return None if program.apart(",".join(groups)) else "the audit says that they do not"
+    is_so = program.apart(",".join(groups))
+    return _no_group(program, groups) or (None if is_so else "the audit says that they do not")
 
 
 def shares(program: Program, *groups: str) -> Optional[str]:
-    return "the audit says that they stand apart" if program.apart(",".join(groups)) else None
+    is_so = not program.apart(",".join(groups))
+    return _no_group(program, groups) or (None if is_so else "the audit says that they stand apart")
 
 
 def _no_source(program: Program) -> Optional[str]:

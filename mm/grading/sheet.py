@@ -5,6 +5,8 @@ from __future__ import annotations
 from dataclasses import dataclass, field
 from typing import Optional
 
+from mm.machine.isa import OPERATIONS
+from mm.names.expressions import nearest
 from mm.status import Status, Stop
 
 # What may stand on a line, with its operands as a message writes them.
@@ -25,6 +27,8 @@ FORMS = {
     "never": "never stuck | never faults",
 }
 SETTINGS = ("cycles", "schedule")
+# Those whose operands are operations, with `|` between some.
+OF_OPERATIONS = ("uses", "without")
 
 
 @dataclass(frozen=True)
@@ -75,6 +79,12 @@ def read_sheet(name: str, text: str) -> Sheet:
         rest = line.split(None, 2 if kind in ("says", "matches") else -1)[1:]
         if not _fits(kind, len(rest)):
             raise wrong(name, number, f"this line has the form `{FORMS[kind]}`")
+        unknown = [each for word in rest for each in word.split("|") if each not in OPERATIONS] if kind in OF_OPERATIONS else []
+        if unknown:
+            near = nearest(unknown[0], list(OPERATIONS))
+            raise wrong(name, number, f"`{unknown[0]}` is no operation" + (f"; do you mean `{near}`?" if near else ""))
+        if kind in SETTINGS and getattr(sheet, kind) is not None:
+            raise wrong(name, number, f"there is a line `{kind}` already")
         if kind in SETTINGS:
             setattr(sheet, kind, " ".join(rest))
         else:

@@ -20,7 +20,7 @@ def indent_of(line: str, width: int) -> int:
 def columns() -> int:
     """How wide the terminal is; very wide if there is none."""
     said = os.environ.get("COLUMNS", "")
-    if said.isdigit() and int(said):
+    if re.fullmatch("[0-9]{1,9}", said) and int(said):
         return int(said)
     try:
         return os.get_terminal_size(sys.__stdout__.fileno()).columns or WIDEST if sys.__stdout__ else WIDEST

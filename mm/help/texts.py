@@ -2,6 +2,7 @@
 
 from __future__ import annotations
 
+import re
 from typing import Callable, Iterator, Optional
 
 from mm.help.overview import command_lines
@@ -11,6 +12,10 @@ from mm.machine.isa import OPERATIONS, Kind
 from mm.machine.words import BY_SHORT
 from mm.source.wants import DIRECTIVES
 from mm.table import ALIASES, BY_NAME
+
+# The number of a fault.
+NUMBER = re.compile("[0-9]{1,9}")
+
 
 def operation_lines(name: str) -> Iterator[str]:
     operation = OPERATIONS[name]
@@ -112,7 +117,7 @@ def topic_lines(topic: str) -> Optional[Iterator[str]]:
     """The text of a topic, or none if it is none. A command comes before an operation of the same name."""
     word = topic.lower()
     name = ALIASES.get(word, word)
-    cause = Cause.of_number(int(word)) if word.isdigit() else Cause.of_title(word)
+    cause = Cause.of_number(int(word)) if NUMBER.fullmatch(word) else Cause.of_title(word)
     if name in BY_NAME:
         return command_lines(BY_NAME[name])
     if word in OPERATIONS:

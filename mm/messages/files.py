@@ -122,7 +122,7 @@ def _better_item(word: str) -> Optional[str]:
         return f"numbers have no leading zero: {word.lstrip('0') or '0'}"
     if word.lower().startswith(("s", "t")) and word[1:].isdigit():
         return f"write only the number of a slot: {word[1:]}"
-    return "a slot is a number" if word.endswith("*0") else None
+    return "after `*` stands how many turns: 1 or more" if word.endswith("*0") else None
 
 
 def _schedule(file: NamedFile, refusal: Refusal) -> Diagnostic:

@@ -9,16 +9,19 @@ from dataclasses import dataclass, field
 from typing import Callable, Iterator, Optional
 
 from mm.names.ctypes import CTypes
+from mm.names.nearby import lines_nearby
 
 MARK = ";@ "
 BLOCK = re.compile(r"(L|P_)\d+")
 LABEL = re.compile(r"([A-Za-z_]\w*):")
-FRAME = re.compile(r"frame back (-|\d+) caller (at|by) (\d+)")
-OBJECT = re.compile(r"(?:local|global) (\S+) (\d+) at (\d+)(?: log (\d+))?(?: type (\d+))?(?: in (\d+))?")
-LINE = re.compile(r"line (.*):(\d+)(?: in (\d+))?")
-FUNCTION = re.compile(r"function (\S+) at (.*):(\d+)")
-INLINED = re.compile(r"inlined (\d+) (\S+) at (.*):(\d+)(?: in (\d+))?")
-VARIABLE = re.compile(r"var (\S+) (\d+) (\S+)(?: in (\d+))?")
+# No number of theirs has more digits.
+NUMBER = "([0-9]{1,18})"
+FRAME = re.compile(rf"frame back (-|[0-9]{{1,18}}) caller (at|by) {NUMBER}")
+OBJECT = re.compile(rf"(?:local|global) (\S+) {NUMBER} at {NUMBER}(?: log {NUMBER})?(?: type {NUMBER})?(?: in {NUMBER})?")
+LINE = re.compile(rf"line (.*):{NUMBER}(?: in {NUMBER})?")
+FUNCTION = re.compile(rf"function (\S+) at (.*):{NUMBER}")
+INLINED = re.compile(rf"inlined {NUMBER} (\S+) at (.*):{NUMBER}(?: in {NUMBER})?")
+VARIABLE = re.compile(rf"var (\S+) {NUMBER} (\S+)(?: in {NUMBER})?")
 NOWHERE = "-"
 # What gives a function a stack pointer of its own, and what leaves it.
 MOVES = re.compile(r"leai r15, r15, -\d+|mov r15, r12")
@@ -31,23 +34,20 @@ MOST_FRAMES = 100
 @dataclass(frozen=True)
 class CLine:
     """A line of a file of C, and the function that it is of: 0 for that in which it stands, else one that was put into
-    that."""
+    that. `source` is the path of the source that names it."""
 
     path: str
     line: int
     inner: int = field(default=0, compare=False)
+    source: str = field(default="", compare=False)
 
     def __str__(self) -> str:
         return f"{self.path}:{self.line}"
 
     @property
     def file(self) -> list[str]:
-        """The lines of the file, where it is still there."""
-        try:
-            with open(self.path, encoding="utf-8", errors="replace") as file:
-                return file.read().splitlines()
-        except OSError:
-            return []
+        """The lines of the file, where it is still there and near enough to the source."""
+        return lines_nearby(self.path, self.source)
 
     @property
     def text(self) -> str:
@@ -135,9 +135,10 @@ class CFunction:
 
 
 class CNotes:
-    """The notes of a source, by its lines."""
+    """The notes of a source, by its lines; with the path of the source."""
 
-    def __init__(self, lines: list[str]) -> None:
+    def __init__(self, lines: list[str], path: str = "") -> None:
+        self.path = path
         self.starts: list[int] = []
         self.lines: list[Optional[CLine]] = []
         self.function_starts: list[int] = []
@@ -173,7 +174,7 @@ class CNotes:
     def _note(self, note: str, number: int, segment: str) -> None:
         line, made = LINE.fullmatch(note), OBJECT.fullmatch(note)
         if line:
-            self._mark(number, CLine(line[1], int(line[2]), int(line[3] or 0)))
+            self._mark(number, CLine(line[1], int(line[2]), int(line[3] or 0), self.path))
         elif note.startswith("type "):
             self.types.add(note.split()[1:])
         elif made and note.startswith("global"):
@@ -181,19 +182,18 @@ class CNotes:
         elif self.functions:
             self._of_function(self.functions[-1], note, number)
 
-    @staticmethod
-    def _of_function(function: CFunction, note: str, number: int) -> None:
+    def _of_function(self, function: CFunction, note: str, number: int) -> None:
         begins, frame, made = FUNCTION.fullmatch(note), FRAME.fullmatch(note), OBJECT.fullmatch(note)
         inlined, variable = INLINED.fullmatch(note), VARIABLE.fullmatch(note)
         if begins:
-            function.name, function.begins = begins[1], CLine(begins[2], int(begins[3]))
+            function.name, function.begins = begins[1], CLine(begins[2], int(begins[3]), 0, self.path)
         elif frame:
             function.back = None if frame[1] == "-" else int(frame[1])
             function.caller = (frame[2], int(frame[3]))
         elif made:
             function.objects.append(_object(made))
         elif inlined:
-            call = CLine(inlined[3], int(inlined[4]), int(inlined[5] or 0))
+            call = CLine(inlined[3], int(inlined[4]), int(inlined[5] or 0), self.path)
             function.inlined[int(inlined[1])] = CInlined(inlined[2], call)
         elif variable:
             found = CVariable(variable[1], int(variable[2]), variable[3], int(variable[4] or 0))

@@ -10,7 +10,7 @@ from mm.names.numbers import hexadecimal, is_of_two_kinds, number_of, printed_ad
 from mm.names.symbols import Symbol, Symbols
 
 NAMED = re.compile(r"([A-Za-z_][A-Za-z0-9_.]*)(?:\s*([+-])\s*(\w+))?")
-LINE = re.compile(r"(.*):(\d+)")
+LINE = re.compile(r"(.*):([0-9]{1,18})")
 # A longer name is none that was meant to be another.
 LONGEST_NEAR = 64
 

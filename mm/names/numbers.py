@@ -40,7 +40,7 @@ def is_of_two_kinds(text: str) -> bool:
 
 
 def hexadecimal(address: int) -> str:
-    return f"0x{address:x}"
+    return f"{address:#x}"
 
 
 def counted(count: int, what: str) -> str:

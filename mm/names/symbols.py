@@ -10,6 +10,7 @@ from typing import TYPE_CHECKING, Optional, Sequence
 from mm.formats.object import Object, Segment
 from mm.machine.isa import OPERATIONS
 from mm.names.layout import Placed
+from mm.names.numbers import hexadecimal
 from mm.source.text import SourceSegment, SourceText
 from mm.source.tokens import readable
 
@@ -131,7 +132,7 @@ class Symbols:
 
     def show(self, address: int) -> str:
         """The name of an address, or the number if it has none."""
-        return self.name(address) or f"0x{address:x}"
+        return self.name(address) or hexadecimal(address)
 
     def origin(self, address: int) -> Optional[Origin]:
         """The line that made the word at an address."""

@@ -167,5 +167,5 @@ def read_source(path: str, data: bytes) -> SourceText:
     if any(NOTE in said for said in text.lines):
         from mm.names.clines import CNotes
 
-        text.notes = CNotes(text.lines)
+        text.notes = CNotes(text.lines, path)
     return text

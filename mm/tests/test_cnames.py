@@ -3,12 +3,14 @@ is needed: the stored sources of the examples are taken."""
 
 import os
 import re
+import subprocess
+import sys
 import unittest
 
 from mm.names.clines import CNotes
 from mm.names.ctypes import CTypes
 from mm.machine.program import CHECKOUT
-from mm.tests.support import mm, needs_log, needs_program, read
+from mm.tests.support import folder, mm, needs_log, needs_program, path_of, read, write
 from mm.tests.test_cc import MODULE, source
 from mm.tests.test_debugger import answers
 from mm.tests.test_view import data_of
@@ -91,6 +93,56 @@ class Notes(unittest.TestCase):
                 self.assertEqual(unseen, 0 if made.size % 8 == 0 or made.size < 16 else -made.size % 8, (name, made))
                 seen += 1
         self.assertGreater(seen, 50)
+
+
+NAMES_A_FILE = """.segment main 5
+;@ function main at NAME:1
+;@ line NAME:2
+  ldi r1, 65
+  out r1
+  halt
+.thread 0 0 none xu main
+"""
+
+
+@needs_program
+class NamedFiles(unittest.TestCase):
+    """A comment of a source can name any file: only what stands beside the source, or below the current folder, is read."""
+
+    def listed(self, path, room):
+        with open(os.path.join(room, "a.asm"), "w", encoding="utf-8") as file:
+            file.write(NAMES_A_FILE.replace("NAME", path))
+        words = [sys.executable, path_of("bin", "mm"), "debug", os.path.join(room, "a.asm")]
+        ended = subprocess.run(words, input="list\n", capture_output=True, text=True, check=False, timeout=60, cwd=CHECKOUT)
+        self.assertEqual((ended.returncode, ended.stderr), (0, ""))
+        return ended.stdout
+
+    def test_beside_and_below(self):
+        with folder() as room, folder() as other:
+            os.mkdir(os.path.join(room, "inner"))
+            for place in (room, os.path.join(room, "inner")):
+                self.assertIn("=>    2  two", self.listed(write(place, "a.c", "one\ntwo\n"), room))
+            self.assertIn("=>    2  ", self.listed("examples/c/say.h", room))
+            self.assertNotIn("two", self.listed(write(other, "a.c", "one\ntwo\n"), room))
+            os.symlink(os.path.join(other, "a.c"), os.path.join(room, "link.c"))
+            self.assertNotIn("two", self.listed(os.path.join(room, "link.c"), room))
+            self.assertNotIn("two", self.listed(os.path.join(room, "..", os.path.basename(other), "a.c"), room))
+            self.assertNotIn("root", self.listed("/etc/passwd", room))
+
+    @unittest.skipUnless(hasattr(os, "mkfifo"), "there are no pipes with names")
+    def test_pipes_devices_and_long_files(self):
+        with folder() as room:
+            pipe, long = os.path.join(room, "pipe"), os.path.join(room, "long.c")
+            os.mkfifo(pipe)
+            with open(long, "wb") as file:
+                file.write(b"one\ntwo\n")
+                file.truncate((1 << 22) + 1)
+            for path in (pipe, long, room, "/dev/zero", os.path.join(room, "none")):
+                self.assertIn("ldi r1, 65", self.listed(path, room))
+            write(room, "p.asm", NAMES_A_FILE.replace("NAME", pipe))
+            words = [sys.executable, path_of("bin", "mm"), "view", os.path.join(room, "p.asm")]
+            ended = subprocess.run(words, capture_output=True, text=True, check=False, timeout=60, cwd=CHECKOUT)
+            self.assertEqual((ended.returncode, ended.stderr), (0, ""))
 
 
 @needs_program

@@ -161,6 +161,13 @@ class Sessions(unittest.TestCase):
         self.assertIn('group 1  "AB"', said[8])
         self.assertIn("* slot", said[9])
 
+    def test_memory_in_forms_that_are_none(self):
+        said = self.session(["x/-1 box", "x/\u0663 box", "x/2x box", "watch -8"], "examples/counter.asm")
+        self.assertIn("write how many words", said[0])
+        self.assertIn("write how many words", said[1])
+        self.assertIn("  box ", said[2])
+        self.assertIn("-0x8 is no address", said[3])
+
     def test_schedule_with_idle_cycles(self):
         said = self.session(["s", "s 2", "back", "goto 7", "s"], "examples/counter.asm", "--turns", "9 0 9 1*5")
         self.assertIn("cycle 1\n", said[0])
@@ -213,6 +220,19 @@ class MorePoints(unittest.TestCase):
         out = self.session("break again+8 if ((r1 == 3))", "continue", "p r1")
         self.assertIn("r1 = 3 ", out)
         self.assertIn("is no", self.session("break again if (r1) == (3"))
+
+    def test_a_condition_that_cannot_be_reckoned(self):
+        """It is neither so nor not so: the run stops there and says why."""
+        out = self.session("break again+8 if 6/(3-r1) == 6", "continue", "p r1", "continue", "p r1")
+        first, second = out.split("(mm) continue\n")[1:3]
+        self.assertIn("break 1: again+8\n", first)
+        self.assertNotIn("cannot be reckoned", first)
+        self.assertIn("r1 = 2 ", first)
+        self.assertIn("break 1: again+8\n`if 6/(3-r1) == 6` cannot be reckoned here: this divides by zero\n", second)
+        self.assertIn("r1 = 3 ", second)
+        out = self.session("break again+8 if r1 == 5 || *(r1*0) == 2", "commands", "silent", "end", "continue", "p r1")
+        self.assertIn("cannot be reckoned here: no page is at", out)
+        self.assertIn("r1 = 1 ", out)
 
     def test_ignored(self):
         out = self.session("break again+8", "ignore 1 4", "continue", "p r1", "info breakpoints")

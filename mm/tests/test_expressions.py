@@ -5,8 +5,44 @@ import unittest
 from unittest import mock
 
 from mm.debugger.commands import Debugger
-from mm.tests.support import mm, needs_program
+from mm.tests.support import folder, mm, needs_program, write
 from mm.tests.test_debugger import answers
+
+
+# What the translator of C tells of two globals, of two variables that are in a register and a constant, and of an array.
+OF_C = """.segment text 6
+;@ type 1 base i4 int
+;@ type 2 base i1 signed char
+;@ type 3 base u1 unsigned char
+;@ type 4 base u4 unsigned int
+;@ type 5 struct 8 item cents:0:1 kind:32:2 letter:40:3 bits:48:4:3
+;@ type 6 base i8 long
+;@ type 7 array 2 1
+f:
+;@ function f at c.c:1
+;@ line c.c:2
+  ldi r1, -5
+;@ var i 1 r1
+;@ var k 1 7
+  nop
+  halt
+.segment g 3
+;@ global count 4 at 4 type 1
+  .int 0xfffffffd00000000
+.segment b 3
+;@ global box 8 at 0 type 5
+  .int 0x0005c8fefffffff8
+.segment w 3
+;@ global wide 8 at 0 type 6
+  .int -1
+.segment row 3
+;@ global row 8 at 0 type 7
+  .int 0x0000000200000001
+.segment stack 6
+  .fill 8
+.thread 0 0 none xu f
+.reg 15 ptr rw stack
+"""
 
 
 @needs_program
@@ -20,6 +56,7 @@ class Expressions(unittest.TestCase):
         ("$r2*10", "10 "), ("(r3)", "2 "), ("&box == r1", "1 "), ("&box + 8", "1048840 0x100108"), ("(box) + 5", "5 "), ("box+8", "0 "),
         ("*(r1 + 8) + 4", "4 "), ("*r1 + 4", "4 "), ("r1", "rw 2^3 box "), ("$pc + 8", "1048712 0x100088"), ("1 << 63 >> 63", "-1 "),
         ("00000000100100", "0 "), ("9223372036854775807 + 1", "-9223372036854775808 "),
+        ("0x100100", "1048832 0x100100 "), ("9223372036854775807", "9223372036854775807 "), ("0xffffffffffffffff", "-1 "), ("*0x100108", "0 "), ("5", "5 "),
     )
     WRONG = (
         ("(1 + 2", "a `)` is missing"), ("1 + 2)", "goes on after `1 + 2`"), ("1 2", "goes on after `1`"), ("1 +", "a value is missing at the end"),
@@ -64,6 +101,22 @@ class Expressions(unittest.TestCase):
         self.assertIn("say what", said[11])
         self.assertIn("\n/i $pc = prod+8  examples/counter.asm:6:  addi r2, r2, 1\n/x r2 * 16 = 0x10", said[14])
         self.assertEqual(said[15], "  1  /i $pc\n  2  /x r2 * 16")
+
+    def test_forms_of_variables_of_c(self):
+        """In each form the value that `print` gives, in as many bits as the variable has."""
+        lines = ["b f+8", "c"]
+        lines += ["p count", "p/d count", "p/x count", "p/u count", "p/z count", "p/a count", "p/d box.cents", "p/x (box.kind)", "p/c box.kind",
+            "p/o box.bits", "p/t box.bits", "p/d i", "p/x i", "p/d k", "p/x wide", "p/x row[1]", "p/x box", "p/d count + 0", "display/d count",
+            'printf "%d %x %u %d %c %lx\\n", count, box.kind, box.letter, i, 72, wide', "p/d &count"]
+        with folder() as room:
+            said = self.answers_of(*lines, program=write(room, "c.asm", OF_C))[2:]
+        self.assertEqual(said[:15], ["count = -3   (int)", "count = -3", "count = 0xfffffffd", "count = 4294967293", "count = 0xfffffffd", "count = 0xfffffffd",
+            "box.cents = -8", "(box.kind) = 0xfe", "box.kind = -2", "box.bits = 05", "box.bits = 101", "i = -5", "i = 0xfffffffb", "k = 7",
+            "wide = 0xffffffffffffffff"])
+        self.assertEqual(said[15], "row[1] = 0x2")
+        self.assertIn("is no number, but struct item", said[16])
+        self.assertEqual(said[17:20], ["count + 0 = -3", "count = -3", "-3 fffffffe 200 -5 H ffffffffffffffff"])
+        self.assertRegex(said[20], r"^&count = 10\d{5}$")
 
     def test_long_expressions(self):
         """In a time that grows with their length, and without a fault of `mm`."""

@@ -11,7 +11,7 @@ from mm.grading.checks import CHECKS, said
 from mm.grading.sheet import FORMS, SETTINGS, read_sheet
 from mm.machine.program import CHECKOUT
 from mm.status import Stop
-from mm.tests.support import mm, path_of, read
+from mm.tests.support import folder, mm, path_of, read, write
 
 GRADE = os.path.join(CHECKOUT, "docs", "course", "grade")
 ANSWERS = {
@@ -81,13 +81,44 @@ class Grade(unittest.TestCase):
                 self.assertEqual(ended.status, 1)
                 self.assertIn(why, ended.out)
 
+    def test_a_group_that_is_not_there(self):
+        """The audit says of it that it stands apart, and that is no answer."""
+        alone, both = ".segment a 3\n  halt\n.thread 0 0 none xu a\n", "docs/course/apart.asm"
+        with folder() as room:
+            one = write(room, "one.asm", alone)
+            for line, program, why in (
+                ("apart 0", one, None),
+                ("apart 1", one, "there is no group 1"),
+                ("apart 0 0x1", one, "there is no group 0x1"),
+                ("shares 2", one, "there is no group 2"),
+                ("apart 0", both, None),
+                ("apart 0 7", both, "there is no group 7"),
+                ("shares 0 7", both, "there is no group 7"),
+            ):
+                with self.subTest(line):
+                    ended = mm("grade", write(room, "sheet.txt", line), program)
+                    self.assertEqual(ended.status, int(why is not None))
+                    self.assertIn(f"  no   {line}\n       {why}\n" if why else f"  yes  {line}\n", ended.out)
+        self.assertIn("there is no group 2", mm("grade", "7.2", "docs/course/apart.asm").out)
+
+    def test_a_text_that_is_none(self):
+        with folder() as room:
+            ended = mm("grade", write(room, "sheet.txt", "says 0 \\q"), "examples/hello.asm")
+        self.assertEqual((ended.status, ended.out), (2, ""))
+        self.assertIn("sheet.txt:1: `\\q` is no text of bytes", ended.err)
+
     def test_words_that_are_none(self):
         ended = mm("grade", "9.1", "examples/hello.asm")
         self.assertEqual(ended.status, 1)
         self.assertIn("there is no exercise `9.1`", ended.err)
 
     def test_lines_that_are_none(self):
-        for text, why in (("shines 0", "`shines` is nothing"), ("faults 0", "the form `faults SLOT FAULT`"), ("", "nothing")):
+        for text, why in (
+            ("without mull", "sheet.txt:1: `mull` is no operation; do you mean `mul"), ("says 0\nuses st|shift", "sheet.txt:2: `shift` is no operation"),
+            ("cycles x\ncycles 5\nsays 0", "sheet.txt:2: there is a line `cycles` already"),
+            ("schedule 0\nschedule 1\nsays 0", "there is a line `schedule` already"),
+            ("shines 0", "`shines` is nothing"), ("faults 0", "the form `faults SLOT FAULT`"), ("", "nothing"),
+        ):
             with self.assertRaises(Stop) as stop:
                 read_sheet("sheet.txt", text)
             self.assertIn(why, stop.exception.lines[0])

@@ -14,6 +14,7 @@ from unittest import mock
 
 from mm.cc.clang import as_file, text_of
 from mm.console import Console
+from mm.main import Ended, _catch_signals
 from mm.outfile import write_whole
 from mm.shown import shown, visible
 from mm.status import Status, Stop
@@ -200,6 +201,26 @@ class Streams(unittest.TestCase):
         self.assertEqual(ended.returncode, 3)
         self.assertIn(b"x.asm: error: cannot be read", ended.stderr)
 
+    def test_numbers_of_many_digits(self):
+        """Python reads none of more than 4300: they are refused as others are."""
+        nines, rule = "9" * 4400, "1 group 0 p2100000000100080 register 0 %s\n"
+        with folder() as room:
+            source = write(room, "p.asm", GOOD + f";@ line p.c:{nines}\n;@ global x 8 at {nines}\n")
+            ended = mm("debug", source, lines=f"x/{nines} a\nbreak p.asm:{nines}\np r{nines}\nb a slot {nines}\nb a if r{nines} == 1\np 1\n")
+            self.assertEqual((ended.status, ended.err), (0, ""))
+            self.assertIn("1 = 1 ", ended.out)
+            self.assertIn("1 to 512 words can be shown", ended.out)
+            self.assertEqual(mm("why", source, "0", f"p.asm:{nines}", "touch").status, Status.USAGE)
+            image = os.path.join(room, "p.img")
+            self.assertEqual(mm("link", source, "-o", image).status, 0)
+            for line in (rule % nines, rule.replace("1", nines, 1) % "0", (rule % "0").replace("group 0", f"group {nines}")):
+                ended = mm("check-why", image, "0", "0x100080", "write", lines=line)
+                self.assertNotIn("should not happen", ended.err)
+                self.assertNotIn(ended.status, (0, Status.OWN_FAULT))
+        self.assertEqual(mm("help", nines).status, Status.USAGE)
+        with mock.patch.dict(os.environ, {"COLUMNS": nines}):
+            self.assertEqual(mm("help").status, 0)
+
     def test_an_expression_without_an_end(self):
         with folder() as room:
             source = write(room, "p.asm", GOOD)
@@ -292,6 +313,18 @@ class Outputs(unittest.TestCase):
             time.sleep(0.05)
         return False
 
+    def test_a_second_signal_changes_nothing(self):
+        """`timeout` sends one to the process and one to its group: the second comes while the first ends the command."""
+        before = _catch_signals()
+        try:
+            with self.assertRaises(Ended):
+                signal.raise_signal(signal.SIGTERM)
+            signal.raise_signal(signal.SIGTERM)
+            signal.raise_signal(signal.SIGHUP)
+        finally:
+            for number, handler in before.items():
+                signal.signal(number, handler)
+
     def started(self, path):
         for _ in range(200):
             if os.path.isfile(path) and os.path.getsize(path):
@@ -319,7 +352,7 @@ class Starts(unittest.TestCase):
             self.assertEqual((ended.returncode, ended.stdout, ended.stderr.strip()), (130, b"", b""))
 
     def imported(self, *words):
-        said = "import sys; from mm.main import main; main(sys.argv[1:]); print(*sys.modules, sep='\\n', file=sys.stderr)"
+        said = "import sys; from mm.main import Ended, _catch_signals, main; main(sys.argv[1:]); print(*sys.modules, sep='\\n', file=sys.stderr)"
         ended = subprocess.run([sys.executable, "-c", said, *words], cwd=path_of(), capture_output=True, text=True, check=False)
         return set(ended.stderr.split())
 

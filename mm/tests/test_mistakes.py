@@ -134,6 +134,9 @@ class Files(unittest.TestCase):
             self.assertIn("no thread: 9, 16", mm(command, "examples/counter.asm", "--turns", "0 16 9 1").err)
             self.assertIn("--turns has no turns", mm(command, "examples/counter.asm", "--turns", "# none").err)
             self.assertEqual(mm(command, "examples/counter.asm", "-s", "examples/counter.schedule").err, "")
+        self.assertIn("after `*` stands how many turns", mm("run", "examples/counter.asm", "--turns", "1*0").err)
+        self.assertIn("no thread is in group 9", mm("why", "examples/counter.asm", "9", "count", "touch").err)
+        self.assertEqual("", mm("why", "examples/counter.asm", "1", "count", "touch").err)
         self.assertIn("no thread is in group 9", mm("audit", "examples/counter.asm", "--groups", "0,9").err)
         self.assertEqual(mm("audit", "examples/counter.asm", "--groups", "0,1").err, "")
 

@@ -7,7 +7,8 @@ from dataclasses import dataclass
 
 from mm.machine.words import Pointer
 
-NUMBER = r"(0|[1-9][0-9]*)"
+# No number of a derivation has more digits.
+NUMBER = r"(0|[1-9][0-9]{0,19})"
 POINTER = r"p([0-9a-f]{16})"
 ADDRESS = r"([0-9a-f]{14})"
 # The whole text where the word is not granted.
