@@ -24,9 +24,10 @@ producer_main:
   ;@ var i 1 0
   ldi r7, 0
 L2:
-  ;@ line examples/c/producer.c:12
+  ;@ line examples/c/producer.c:11
   ;@ var i 1 r7
   and r0, r7, r8
+  ;@ line examples/c/producer.c:12
   shl r4, r0, r8
   addi r1, r7, 9
   ldi r13, -8

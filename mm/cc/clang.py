@@ -22,7 +22,8 @@ LIBRARY = os.path.join(HERE, "runtime")
 # A target whose pointers have 64 bits, whose structures are always in memory, and which has no vectors.
 TARGET = ("-target", "wasm64-unknown-unknown", "-S", "-emit-llvm", "-o", "-", "-fno-vectorize", "-fno-slp-vectorize",
           "-fno-exceptions", "-fvisibility=default")
-FRONT = ("-nostdlibinc", "-isystem", INCLUDE)
+# An overflow of an `int` that C does not define wraps around, so that each `int` has a value of its type.
+FRONT = ("-nostdlibinc", "-isystem", INCLUDE, "-fwrapv")
 # Clang is asked twice: for its text as it is before it is optimised, and to optimise that.
 AS_WRITTEN = ("-Xclang", "-disable-llvm-passes")
 OPTIMISED = ("-x", "ir", "-", "-w", "-Qunused-arguments")

@@ -122,6 +122,12 @@ int main(void) { long r; int i; __int128 w; unsigned __int128 u; signed char c;
          __builtin_sub_overflow((unsigned __int128)most, (unsigned __int128)all, &u), __builtin_add_overflow(most, -1l, &r),
          __builtin_add_overflow((int)most, (short)-200, &c) | __builtin_add_overflow(most, 0l, &i)); return 0; }
 """),
+    "overflows of an int": ("843014659 3 0 281004886, -2147483648 -2147483648 -1073741824 -8 -1073741824 1, 48 -59 -82\n", """#include <stdio.h>
+static volatile int start = 2147483647, one = 1; static const char *volatile word = "bird";
+int main(void) { int h = 216; for (const char *s = word; *s; s++) h = (h ^ (unsigned char)*s) * 16777619;
+  int n = start + one; long wide = n; printf("%d %d %d %d, %d %ld %d %d %d %d, ", h, h % 8, h < 0, h / 3, n, wide, n / 2, n % 10, n >> 1, n < 0);
+  int seed = start; for (int i = 0; i < 3; i++) { seed = seed * 1103515245 + 12345; printf("%d%c", seed % 100, i < 2 ? ' ' : '\\n'); } return 0; }
+"""),
     "structures that the optimiser cuts into parts": (
         "1 uno 6 3, a ab 3 b; 1 one 5 9, a aa 2 y; 2 two 0 0, b bb 4 c; 3 three 1 2, c cc 1 x; 5 u v 20 5; 6 s t 2 30; "
         "1 uno 6 3, a ab 3 b; 2 uno 6 2, b ab 3 q; 2 uno 7 2, b ab 4 q; ", CUT),
