@@ -14,7 +14,8 @@ MARK = ";@ "
 BLOCK = re.compile(r"(L|P_)\d+")
 LABEL = re.compile(r"([A-Za-z_]\w*):")
 FRAME = re.compile(r"frame back (-|\d+) caller (at|by) (\d+)")
-OBJECT = re.compile(r"(?:local|global) (\S+) (\d+) at (\d+)(?: log (\d+))?(?: type (\d+))?(?: in (\d+))?")
+OBJECT = re.compile(r"(?:local|global) (\S+) (\d+) at (\d+)(?: log (\d+))?(?: type (\d+))?(?: in (\d+))?(?: constant)?")
+UNNAMED = re.compile(r"unnamed at (\d+)(?: constant)?")
 LINE = re.compile(r"line (.*):(\d+)(?: in (\d+))?")
 FUNCTION = re.compile(r"function (\S+) at (.*):(\d+)")
 INLINED = re.compile(r"inlined (\d+) (\S+) at (.*):(\d+)(?: in (\d+))?")
@@ -143,6 +144,10 @@ class CNotes:
         self.function_starts: list[int] = []
         self.functions: list[CFunction] = []
         self.globals: dict[str, CObject] = {}
+        # Where the object of a segment begins that has no name in C, such as a string constant; and the segments whose
+        # objects are constant.
+        self.unnamed: dict[str, int] = {}
+        self.constant: set[str] = set()
         self.types = CTypes()
         # The lines that leave a function: its frame is gone there.
         self.returns: set[int] = set()
@@ -171,13 +176,17 @@ class CNotes:
         self.lines.append(line)
 
     def _note(self, note: str, number: int, segment: str) -> None:
-        line, made = LINE.fullmatch(note), OBJECT.fullmatch(note)
+        line, made, unnamed = LINE.fullmatch(note), OBJECT.fullmatch(note), UNNAMED.fullmatch(note)
+        if (unnamed or made) and segment and note.endswith(" constant"):
+            self.constant.add(segment)
         if line:
             self._mark(number, CLine(line[1], int(line[2]), int(line[3] or 0)))
         elif note.startswith("type "):
             self.types.add(note.split()[1:])
         elif made and note.startswith("global"):
             self.globals[segment] = _object(made)
+        elif unnamed:
+            self.unnamed[segment] = int(unnamed[1])
         elif self.functions:
             self._of_function(self.functions[-1], note, number)
 

@@ -222,6 +222,15 @@ int main(void) { struct node *list = 0; long n = 0, sum = 0;
     if (i & 1) b->next = list, b->v = 1, list = b; else { struct node *c = hide(malloc(16)); free(b); free(c); } free(p); }
   for (; list; list = list->next) n++, sum += list->v; printf("%ld %d %ld", n, hide(malloc(3000)) == 0, sum); return 0; }
 """
+# A string constant that is turned around, where the optimiser knows which one it is.
+REVERSED = """#include <string.h>
+
+static void reverse(char *s) {
+  for (char *p = s, *q = s + strlen(s) - 1; p < q; p++, q--) { char c = *p;
+    *p = *q;
+    *q = c; } }
+int main(void) { char *word = "desserts"; reverse(word); return word[0]; }
+"""
 # Programs that are refused, and what is said of them.
 REFUSED = {
     "no input": (["{room}/a.c:2:25: error: `getchar`, which nothing defines, is left out in `main`",
@@ -293,6 +302,14 @@ class Programs(unittest.TestCase):
             ended = mm("debug", path, lines="continue\nwhere\n")
         self.assertIn(f"#0  leaf  {room}/a.c:3:", ended.out)
         self.assertIn(f"#1  main  {room}/a.c:4:", ended.out)
+
+    def test_pointers_to_string_constants_have_their_place_and_permission(self):
+        with folder() as room:
+            path = write(room, "a.c", REVERSED)
+            ended = mm("debug", path, lines="break 5\ncontinue\ninfo locals\nprint *p\n")
+        for line in ('  p = ro 2^4 _str+7 "desserts"', '  q = ro 2^4 _str+14 "s"', '  s = ro 2^4 _str+7 "desserts"',
+                     "*p = 100 'd'   (char)"):
+            self.assertIn(line, ended.out, ended.err)
 
     def test_random_programs(self):
         for seed in (11, 12):
