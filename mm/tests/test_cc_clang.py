@@ -291,6 +291,13 @@ class Programs(unittest.TestCase):
             for line in wanted:
                 self.assertIn(line.format(room=room), ended.err, title)
 
+    def test_a_variable_without_a_value_is_warned_of(self):
+        ended, room = self.ran("static void unused(void) { }\nint main(void)\n{\n    int count;\n    return count;\n}\n", "1")
+        self.assertIn(f"{room}/a.c:5:12: warning: variable 'count' is uninitialized when used here", ended.err)
+        self.assertNotIn("unused", ended.err)
+        ended, _ = self.ran("int main(void)\n{\n    int count;\n    return count;\n}\n", "1", "--clang", "-Wno-uninitialized")
+        self.assertEqual(ended.err, "")
+
     def test_what_nothing_calls_is_noted(self):
         ended, room = self.ran("double f(double x) { return x; }\nint main(void) { return 0; }\n", "0")
         self.assertEqual(ended.status, 0, ended.err)
