@@ -231,6 +231,18 @@ static void reverse(char *s) {
     *q = c; } }
 int main(void) { char *word = "desserts"; reverse(word); return word[0]; }
 """
+# Variables of one name in two functions, of which the inner one has no place any more when its call is carried out.
+SAME_NAME = """#include <stdio.h>
+struct value { int kind; long number; };
+static __attribute__((noinline)) void show(const struct value *v, const struct value *other) {
+    if (other[1].kind) printf("%s\\n", (const char *)v->number);
+}
+int main(void) {
+    struct value v[2] = {{1, 11}, {2, 22}}, w[2] = {{4, 44}, {3, 333}};
+    show(&v[1], w);
+    return 0;
+}
+"""
 # Programs that are refused, and what is said of them.
 REFUSED = {
     "no input": (["{room}/a.c:2:25: error: `getchar`, which nothing defines, is left out in `main`",
@@ -317,6 +329,15 @@ class Programs(unittest.TestCase):
         for line in ('  p = ro 2^4 _str+7 "desserts"', '  q = ro 2^4 _str+14 "s"', '  s = ro 2^4 _str+7 "desserts"',
                      "*p = 100 'd'   (char)"):
             self.assertIn(line, ended.out, ended.err)
+
+    def test_whose_a_variable_is(self):
+        with folder() as room:
+            path = write(room, "a.c", SAME_NAME)
+            ended = mm("debug", path, lines="break 4\ncontinue\nprint v->number\nprint w[1].kind\ncontinue\nprint v->number\nprint w[1]\n")
+        for line in ("v->number = 22   (long)", "w[1].kind = 3   (int, w of main)", "`v` of show has no place here",
+                     "w[1] = {kind = 3, number = 333}   (struct value, w of main)"):
+            self.assertIn(line, ended.out, ended.err)
+        self.assertNotIn("= 11   (long", ended.out)
 
     def test_random_programs(self):
         for seed in (11, 12):
