@@ -183,6 +183,14 @@ int main(void)
     "a null pointer": ("fault 1 NotPointer at {room}/a.c:2: a null pointer", "0", """volatile long *volatile p;
 int main(void) { return *p; }
 """),
+    "a null function": ("fault 1 NotPointer at {room}/a.c:3: a call of a null pointer", "0", """typedef void action(void);
+action *volatile table[3];
+int main(void) { table[1](); return 0; }
+"""),
+    "a text that is none": ("fault 1 NotPointer at {room}/a.c:3, in printf: ", "1", """#include <stdio.h>
+volatile long number = 1234567;
+int main(void) { printf("%s is the text, of %d\\n", (char *)number, 3); return 0; }
+"""),
     "before a block": ("byte -57 of a block of malloc, which has 72 bytes from there on", "1", """#include <stdlib.h>
 """ + HIDE + """int main(void) { char *p = hide(malloc(72)); p[zero - 57] = 1; hide(p); return 0; }
 """),

@@ -64,8 +64,17 @@ class CView:
             what = self.gave_up(at)
         inner = next(self.frames(), None)
         of_library = inner is not None and inner.line is None and not inner.function.begins and not full
-        within = f", in {inner.name}" if inner is not None and of_library else ""
+        within = f", in {self.called()}" if inner is not None and of_library else ""
         return f"fault {cause.number} {cause.title} at {line}{within}: {what or cause.meaning}"
+
+    def called(self) -> str:
+        """The function of the library that the program called, which may have called others."""
+        name = ""
+        for frame in self.frames():
+            if frame.line is not None:
+                break
+            name = frame.name
+        return name
 
     def full_stack(self, at: Refusal) -> Optional[str]:
         """A function, or an array whose length is known at the run alone, for which the stack has no room."""
@@ -90,6 +99,8 @@ class CView:
         """A pointer that became a number as it left its object, by its bits."""
         word = at.word("ra")
         if not word.tagged and word.bits < NULL_PAGE:
+            if not word.bits and at.name in ("jal", "jmp"):
+                return "a call of a null pointer"
             return "a null pointer" if not word.bits else f"a null pointer, and {counted(word.bits, 'byte')} on"
         spelled = Pointer.of_bits(word.bits) if not word.tagged and word.bits else None
         if spelled is None or at.instruction is None:
