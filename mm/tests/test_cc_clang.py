@@ -291,7 +291,10 @@ class Programs(unittest.TestCase):
             text = GONE + use + '\n  printf("%ld\\n", seen); return 0; }\n'
             for level in "02":
                 ended, _ = self.ran(text, level, "--quarantine", "0")
-                self.assertRegex(ended.out, r"by fault 1 NotPointer at .*its block of malloc was freed", f"{title} at -O{level}: {ended.err}")
+                self.assertRegex(ended.out, r"by fault 1 NotPointer at \S*( in memcpy)?: its block of malloc was freed  ", f"{title} at -O{level}: {ended.err}")
+        text = GONE + 'struct node *volatile end = a + 1; seen = end[-1].v[2]; return seen; }\n'
+        ended, _ = self.ran(text, "1", "--quarantine", "0")
+        self.assertIn("which is now a number: it left its object (one past the end is outside)", ended.out)
         ended, room = self.ran(STOPPED["a second free"][2], "0", "--quarantine", "0")
         self.assertIn(STOPPED["a second free"][0].format(room=room), ended.out)
 

@@ -5,7 +5,7 @@ from __future__ import annotations
 from typing import TYPE_CHECKING, Iterator, Optional
 
 from mm.machine.causes import Cause
-from mm.machine.words import Pointer
+from mm.machine.words import Permission, Pointer
 from mm.names.numbers import counted
 from mm.outputs.report import SlotState
 from mm.outputs.trace import Turn
@@ -105,18 +105,19 @@ class CView:
         spelled = Pointer.of_bits(word.bits) if not word.tagged and word.bits else None
         if spelled is None or at.instruction is None:
             return None
+        if self.is_swept(spelled):
+            return "its block of malloc was freed"
         before = self.symbols.region(spelled.address - 1)
         told = self.symbols.c_global(before) if before is not None and before.log == spelled.log else None
         whose = f" {told.name}" if told and before and before.end == spelled.base else ""
-        freed = "its block of malloc was freed, it" if self.is_swept(spelled) else "it"
-        return (f"these are the bits of a pointer, which is now a number: {freed} left its object{whose} (one past the end "
+        return (f"these are the bits of a pointer, which is now a number: it left its object{whose} (one past the end "
                 "is outside), was computed with, or was copied in pieces")
 
     def is_swept(self, pointer: Pointer) -> bool:
-        """Whether it is to a block of malloc, and pointers to blocks that were freed are taken away."""
+        """Whether it was to a block of malloc that was freed: the library makes the bits of a key of such a pointer."""
         heap = self.symbols.region(pointer.base)
         return (heap is not None and heap.name.endswith("heap") and heap.log > pointer.log
-                and bool(self.symbols.named(f"{heap.name}_roots")))
+                and pointer.permission is Permission.KEY and bool(self.symbols.named(f"{heap.name}_roots")))
 
     def meant(self, at: Refusal) -> Optional[str]:
         """The byte that was meant, of the object that the pointer is to."""
