@@ -256,6 +256,9 @@ REFUSED = {
     "no input": (["{room}/a.c:2:25: error: `getchar`, which nothing defines, is left out in `main`",
                   "    the machine has no input: put what the program reads into an array or a string"],
                  "#include <stdio.h>\nint main(void) { return getchar(); }\n"),
+    "a function of another file": (["{room}/a.c:2:25: error: `summary`, which nothing defines, is left out in `main`",
+                                    "    if another file defines it, name that too: `mm cc {room}/a.c FILE.c > SOURCE.asm`"],
+                                   "long summary(int n);\nint main(void) { return summary(3); }\n"),
     "floating point": (["{room}/a.c:1:58: error: floating point is left out in `area`"],
                        "static int area(int r) { volatile int d; d = (int)(3.1 * r); return d; }\n"
                        "int main(int n, char **v) { return area(n) > 3; }\n"),
@@ -320,6 +323,19 @@ class Programs(unittest.TestCase):
         self.assertNotIn("unused", ended.err)
         ended, _ = self.ran("int main(void)\n{\n    int count;\n    return count;\n}\n", "1", "--clang", "-Wno-uninitialized")
         self.assertEqual(ended.err, "")
+
+    def test_a_declaration_that_another_file_contradicts(self):
+        with folder() as room:
+            texts = {"a.c": "long report(const char *title, const int *counts);\nlong plain();\nlong right(char c, ...);\n"
+                            "int main(void) { int n = 0;\n    return report(\"n\", &n) + plain(1, 2) + right(3, 4); }\n",
+                     "b.c": "long report(int n, const int *counts, const char *title) { return counts[n] + *title; }\n"
+                            "long plain(int a, int b) { return a + b; }\nlong right(char c, ...) { return c; }\n"}
+            paths = [write(room, name, text) for name, text in texts.items()]
+            ended = mm("cc", *paths)
+            self.assertEqual((ended.status, ended.err.splitlines()[0]), (0, (
+                f"{paths[0]}:5:12: warning: `long report(pointer, pointer)` is used here, and {paths[1]}:1 defines "
+                "`long report(int, pointer, pointer)`")))
+            self.assertEqual(len(ended.err.splitlines()), 2, ended.err)
 
     def test_what_nothing_calls_is_noted(self):
         ended, room = self.ran("double f(double x) { return x; }\nint main(void) { return 0; }\n", "0")
