@@ -191,6 +191,20 @@ int main(void) { table[1](); return 0; }
 volatile long number = 1234567;
 int main(void) { printf("%s is the text, of %d\\n", (char *)number, 3); return 0; }
 """),
+    "an element before a block": (
+        "fault 3 Bounds at {room}/a.c:6: t->slots[-3], byte -24 of a block of malloc, which has 64 bytes from there on", "1", """#include <stdlib.h>
+struct table { long size; long *slots; };
+volatile int at;
+static __attribute__((noinline)) long find(struct table *t, int at, int more)
+{
+    while (!t->slots[at]) t->slots[at] = 1, at -= more;
+    return t->size;
+}
+int main(void) { struct table t = {8, calloc(8, 8)}; return find(&t, at, 3); }
+"""),
+    "an element of a block": ("fault 3 Bounds at {room}/a.c:2: v[6], byte 24 of a block of malloc, which has 24 bytes from there on", "0", """#include <stdlib.h>
+int main(void) { int *v = malloc(6 * sizeof *v); for (int i = 0; i <= 6; i++) v[i] = i; return v[3]; }
+"""),
     "before a block": ("byte -57 of a block of malloc, which has 72 bytes from there on", "1", """#include <stdlib.h>
 """ + HIDE + """int main(void) { char *p = hide(malloc(72)); p[zero - 57] = 1; hide(p); return 0; }
 """),

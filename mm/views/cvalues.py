@@ -68,6 +68,32 @@ class CValues:
             if made.inner == inner and made.type:
                 yield made.name, CThing(frame.notes.types, made.type, frame.stack + made.at)
 
+    def pointers(self) -> Iterator[tuple[str, CThing]]:
+        """The pointers that the function here can name shortly: its variables and globals, and members of what these
+        are or point to."""
+        for name, thing in [*self.locals(), *self.globals()]:
+            kind = thing.kind
+            if kind.kind == "pointer":
+                yield name, thing
+                word = self.word(thing)
+                if word is None or word.pointer is None:
+                    continue
+                thing, name = CThing(thing.types, kind.inner, word.pointer.address), f"{name}->"
+            else:
+                name += "."
+            if thing.kind.kind == "struct":
+                inner = ((part.name, self.member(thing, part)) for part in thing.kind.fields)
+                yield from ((f"{name}{part}", found) for part, found in inner if found.kind.kind == "pointer")
+
+    def globals(self) -> Iterator[tuple[str, CThing]]:
+        """The globals of the program that runs here."""
+        here = self.slot.ip.pointer
+        own = self.speller.symbols.region(here.address) if here else None
+        for region in self.speller.symbols.regions:
+            made = self.speller.symbols.c_global(region)
+            if made is not None and own and region.source is own.source and region.source and region.source.notes:
+                yield made.name, CThing(region.source.notes.types, made.type, region.base + made.at)
+
     @property
     def innermost(self) -> Optional[str]:
         """The innermost function of the program's own, which is not of the library."""

@@ -168,4 +168,18 @@ class CView:
         if region is None or not region.name.endswith("heap") or region.log <= pointer.log:
             return None
         by, size = target - pointer.address, pointer.end - pointer.address
-        return f"byte {by} of a block of malloc, which has {counted(size, 'byte')} from there on"
+        element = self.element(pointer, by)
+        return (f"{f'{element}, ' if element else ''}byte {by} of a block of malloc, which has "
+                f"{counted(size, 'byte')} from there on")
+
+    def element(self, pointer: Pointer, by: int) -> Optional[str]:
+        """`ring[8]` or `t->slots[-5]`, if a variable that has a place now, or a member of what one points to, holds the
+        pointer, and an element begins so many bytes from there on."""
+        from mm.views.cvalues import CValues
+
+        values = CValues(self.slot, self.memory, self.speller)
+        for name, thing in values.pointers():
+            word, size = values.word(thing), thing.types.size(thing.kind.inner)
+            if word is not None and word.pointer == pointer and size and by % size == 0:
+                return f"{name}[{by // size}]"
+        return None
