@@ -1664,12 +1664,15 @@ P_10: .ptr rw stdout+0
 P_11: .ptr ro _str_3+4
 P_12: .ptr rw errno+4
 .segment _str 4
+  ;@ unnamed at 1 constant
   .int 0x202a2036203a7800
   .int 0x2934202b203328
 .segment _str_1 4
+  ;@ unnamed at 1 constant
   .int 0x202f2078203a7900
   .int 0x303031202d2035
 .segment _str_2 5
+  ;@ unnamed at 11 constant
   .fill 1
   .int 0x7828203a7a000000
   .int 0x202a202979202b20
@@ -1683,7 +1686,7 @@ P_12: .ptr rw errno+4
 .segment top 3
   ;@ global top 4 at 4 type 3
 .segment operations 5
-  ;@ global operations 32 at 0 type 12
+  ;@ global operations 32 at 0 type 12 constant
   .ptr xu add
   .ptr xu sub
   .ptr xu mul
@@ -1696,6 +1699,7 @@ P_12: .ptr rw errno+4
   ;@ global stdout 8 at 0
   .ptr rw files+8
 .segment _str_3 3
+  ;@ unnamed at 4 constant
   .int 0x203d2000000000
 .segment errno 3
   ;@ global errno 4 at 4

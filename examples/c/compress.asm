@@ -864,7 +864,7 @@ P_4: .ptr ro _str+1
 P_5: .ptr ro _str_2+0
 P_6: .ptr ro _str_1+9
 .segment c_text 8
-  ;@ global text 179 at 72 type 10
+  ;@ global text 179 at 72 type 10 constant
   .fill 9
   .int 0x65746e696f702061
   .int 0x2061207361682072
@@ -897,14 +897,17 @@ P_6: .ptr ro _str_1+9
   ;@ global stdout 8 at 0
   .ptr rw files+8
 .segment _str 4
+  ;@ unnamed at 1 constant
   .int 0x2073657479622000
   .int 0x20656d6f636562
 .segment _str_1 5
+  ;@ unnamed at 9 constant
   .fill 1
   .int 0x6320646e61202c00
   .int 0x6b63616220656d6f
   .int 0xa656c6f687720
 .segment _str_2 4
+  ;@ unnamed at 0 constant
   .int 0x726120646e61202c
   .int 0xa74736f6c2065
 .segment files 4

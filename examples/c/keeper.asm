@@ -510,19 +510,24 @@ P_5: .ptr ro keeper__str_4+1
   ;@ global stdout 8 at 0
   .ptr rw keeper_files+8
 .segment keeper__str 3
+  ;@ unnamed at 2 constant
   .int 0x20746f6c730000
 .segment keeper__str_3 4
+  ;@ unnamed at 4 constant
   .int 0x7361682000000000
   .int 0x20746c75616620
 .segment keeper__str_4 4
+  ;@ unnamed at 1 constant
   .int 0x7369207469203a00
   .int 0xa6465646e6520
 .segment keeper__str_1 5
+  ;@ unnamed at 0 constant
   .int 0x7365646976696420
   .int 0x6f72657a20796220
   .int 0x692031207962203a
   .int 0xa64616574736e
 .segment keeper__str_2 5
+  ;@ unnamed at 12 constant
   .fill 1
   .int 0x6c61632000000000
   .int 0x67207469203a736c

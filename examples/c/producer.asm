@@ -87,6 +87,7 @@ P_1: .ptr ro producer__str+9
   .empty .int 0
   .empty .int 0
 .segment producer__str 5
+  ;@ unnamed at 9 constant
   .fill 1
   .int 0x6465647261756700
   .int 0x7265746e696f7020

@@ -2728,25 +2728,33 @@ P_9: .ptr ro _str_7+7
   ;@ global seed 4 at 4 type 11
   .int 0x303900000000
 .segment _str_1 4
+  ;@ unnamed at 5 constant
   .int 0x6c6c610000000000
   .int 0xa656b696c6120
 .segment _str 4
+  ;@ unnamed at 5 constant
   .int 0x6669640000000000
   .int 0xa746e65726566
 .segment stdout 3
   ;@ global stdout 8 at 0
   .ptr rw files+8
 .segment _str_2 3
+  ;@ unnamed at 0 constant
   .int 0x72656c6b63654b
 .segment _str_3 3
+  ;@ unnamed at 1 constant
   .int 0x72657472614300
 .segment _str_4 3
+  ;@ unnamed at 2 constant
   .int 0x796c6c61440000
 .segment _str_5 3
+  ;@ unnamed at 2 constant
   .int 0x6f6c6c69460000
 .segment _str_6 3
+  ;@ unnamed at 4 constant
   .int 0x65654c00000000
 .segment _str_7 4
+  ;@ unnamed at 7 constant
   .int 0x4700000000000000
   .int 0x68636976657275
 .segment files 4

@@ -1322,36 +1322,45 @@ P_8: .ptr ro _str_6+4
 P_9: .ptr ro _str_9+2
 P_10: .ptr ro _str_8+2
 .segment __const_main_room 5
-  ;@ global room 32 at 0
+  ;@ global room 32 at 0 constant
   .int 0x64656472617567
 .segment _str 4
+  ;@ unnamed at 7 constant
   .int 0x2000000000000000
   .int 0x7265746e696f70
 .segment stdout 3
   ;@ global stdout 8 at 0
   .ptr rw files+8
 .segment _str_1 3
+  ;@ unnamed at 2 constant
   .int 0x746e696f700000
 .segment _str_2 4
+  ;@ unnamed at 2 constant
   .int 0x6120736168200000
   .int 0xa746e696f7020
 .segment _str_3 4
+  ;@ unnamed at 5 constant
   .int 0x6168200000000000
   .int 0xa656e6f6e2073
 .segment _str_6 4
+  ;@ unnamed at 4 constant
   .int 0x7469772000000000
   .int 0xa7a2074756f68
 .segment _str_5 4
+  ;@ unnamed at 7 constant
   .int 0x2000000000000000
   .int 0xa7a2068746977
 .segment _str_7 5
+  ;@ unnamed at 1 constant
   .int 0x202c6e616d204100
   .int 0x202c6e616c702061
   .int 0x3a6c616e61632061
   .int 0x616d616e615020
 .segment _str_9 3
+  ;@ unnamed at 2 constant
   .int 0xa656e6f6e0000
 .segment _str_8 4
+  ;@ unnamed at 2 constant
   .int 0x696c617020610000
   .int 0xa656d6f72646e
 .segment files 4

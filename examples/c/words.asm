@@ -1945,7 +1945,7 @@ P_10: .ptr rw next+0
 P_11: .ptr rw used+0
 P_12: .ptr rw strtok_rest+0
 .segment __const_main_text 7
-  ;@ global text 79 at 48
+  ;@ global text 79 at 48 constant
   .fill 6
   .int 0x65746e696f702061
   .int 0x732061206f742072
@@ -1958,16 +1958,22 @@ P_12: .ptr rw strtok_rest+0
   .int 0x7020612073692067
   .int 0x7265746e696f
 .segment _str 3
+  ;@ unnamed at 6 constant
   .int 0x20000000000000
 .segment _str_1 3
+  ;@ unnamed at 6 constant
   .int 0x61000000000000
 .segment _str_2 3
+  ;@ unnamed at 0 constant
   .int 0x7265746e696f70
 .segment _str_3 3
+  ;@ unnamed at 3 constant
   .int 0x64726f77000000
 .segment _str_4 3
+  ;@ unnamed at 4 constant
   .int 0x67617400000000
 .segment _str_5 3
+  ;@ unnamed at 4 constant
   .int 0x79656b00000000
 .segment stdout 3
   ;@ global stdout 8 at 0

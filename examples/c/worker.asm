@@ -217,6 +217,7 @@ P_2: .ptr ro worker__str_1+4
   .int 0x1e
   .int 0x28
 .segment worker__str_1 4
+  ;@ unnamed at 4 constant
   .int 0x6576656e00000000
   .int 0xa646961732072
 .segment worker_files 4
