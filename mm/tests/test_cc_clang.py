@@ -17,6 +17,7 @@ from mm.cc.options import Options
 from mm.machine.program import find_program
 from mm.status import Stop
 from mm.tests.support import folder, mm, needs_program, write
+from mm.tests.test_view import data_of
 
 VERSIONS = [name for name in ("clang", *(f"clang-{number}" for number in clang.VERSIONS)) if shutil.which(name)]
 needs_clang = unittest.skipUnless(VERSIONS, "there is no Clang")
@@ -370,6 +371,10 @@ class Programs(unittest.TestCase):
         for line in ('  p = ro 2^4 _str+7 "desserts"', '  q = ro 2^4 _str+14 "s"', '  s = ro 2^4 _str+7 "desserts"',
                      "*p = 100 'd'   (char)"):
             self.assertIn(line, ended.out, ended.err)
+        with folder() as room:
+            names = data_of(mm("view", write(room, "a.c", REVERSED)).out)["names"]["c"]
+        words = {where.split("+")[0] for state in names["states"] for name, where, _ in state if name == "s"}
+        self.assertTrue(any(where.startswith("p110000") and where.endswith("7") for where in words), words)
 
     def test_whose_a_variable_is(self):
         with folder() as room:

@@ -154,10 +154,8 @@ class CValues:
             at, _, log = rest.partition(":")
             return Word(Pointer(Permission.RW, int(log), frame.stack + int(at)).bits, True)
         if kind == "@":
-            region, made = self.speller.symbols.c_region(rest, notes), notes.globals.get(rest)
-            at_global = made.at if made else notes.unnamed.get(rest, 0)
-            permission = Permission.RO if rest in notes.constant else Permission.RW
-            return Word(Pointer(permission, region.log, region.base + at_global).bits, True) if region else None
+            pointer = self.speller.symbols.c_pointer(rest, notes)
+            return Word(pointer.bits, True) if pointer else None
         return Word(int(text) & WORD_MASK)
 
     @staticmethod
