@@ -27,16 +27,15 @@ ben_main:
   st r15, r10, 40, any, keep
   st r15, r11, 48, any, keep
   st r15, r14, 56, any, keep
-  leai r8, r15, 104
+  leai r10, r15, 104
   ldi r14, 5
-  subseg r8, r8, r14
+  subseg r10, r10, r14
   leai r12, r15, 136
   ldi r14, 5
   subseg r12, r12, r14
   st r15, r12, 0, any, keep
-  ldi r9, 10
-  ldi r11, 3
-  ldi r10, -8
+  ldi r11, 10
+  ldi r9, 32
   ;@ line examples/c/ben.c:10
   lip r13, P_0
   ld r13, r13, 0, any, keep
@@ -62,9 +61,9 @@ ben_main:
   ldi r13, 0
   lts r1, r0, r13
   mov r7, r2
-  bnz r1, L21
+  bnz r1, L23
   mov r7, r0
-L21:
+L23:
   ;@ line examples/c/say.h:16 in 1
   ;@ var rest 4 r7 in 1
   ldi r13, 0
@@ -81,19 +80,23 @@ L3:
 L4:
   ;@ line examples/c/say.h:20 in 1
   ;@ var length 3 r1 in 1
-  divu r5, r7, r9
-  mul r0, r5, r9
+  divu r5, r7, r11
+  mul r0, r5, r11
   sub r0, r7, r0
   ;@ line examples/c/say.h:19 in 1
   ldi r13, 48
   or r4, r0, r13
-  addi r6, r1, 1
-  ;@ var length 3 r6 in 1
+  addi r8, r1, 1
+  shl r0, r8, r9
+  sar r6, r0, r9
+  ;@ var length 3 r8 in 1
   addi r1, r1, 8
-  and r0, r1, r10
+  ldi r13, -8
+  and r0, r1, r13
   ld r12, r15, 0, any, keep
   leab r3, r12, r0
-  shl r2, r1, r11
+  ldi r13, 3
+  shl r2, r1, r13
   ld r1, r3, 0, any, keep
   shr r0, r1, r2
   xor r0, r0, r4
@@ -103,9 +106,10 @@ L4:
   xor r0, r1, r0
   st r3, r0, 0, any, keep
   ;@ var rest 4 r5 in 1
-  ltu r0, r7, r9
+  ltu r0, r7, r11
   bnz r0, L5
 L16:
+  ;@ var length 3 r6 in 1
   mov r1, r6
   ;@ var length 3 - in 1
   mov r7, r5
@@ -113,21 +117,22 @@ L16:
   br L4
 L5:
   ;@ line examples/c/say.h:21 in 1
-  ;@ var length 3 r6 in 1
-  ldi r13, 32
-  shl r0, r6, r13
-  ;@ var length 3 - in 1
-  ldi r13, 32
-  sar r7, r0, r13
+  ;@ var length 3 r8 in 1
+  bz r6, L7
 L6:
   ;@ line examples/c/say.h:22 in 1
-  ;@ var length 3 r7 in 1
-  addi r7, r7, -1
+  addi r8, r8, -1
+  ;@ var length 3 - in 1
+  shl r0, r8, r9
+  sar r7, r0, r9
+  ;@ var length 3 r8 in 1
   addi r1, r7, 8
-  and r0, r1, r10
+  ldi r13, -8
+  and r0, r1, r13
   ld r12, r15, 0, any, keep
   leab r0, r12, r0
-  shl r1, r1, r11
+  ldi r13, 3
+  shl r1, r1, r13
   ld r0, r0, 0, any, keep
   shr r0, r0, r1
   ldi r13, 56
@@ -145,7 +150,8 @@ L7:
   st r15, r12, 72, any, keep
   ;@ var key 1 -
   ;@ var by 2 -8
-  st r15, r10, 0, any, keep
+  ldi r12, -8
+  st r15, r12, 0, any, keep
   ;@ line examples/c/ben.c:14
   br L9
 L8:
@@ -166,7 +172,7 @@ L9:
   lip r12, P_3
   ld r12, r12, 0, any, keep
   ld r1, r12, 0, any, keep
-  ldi r0, 32
+  mov r0, r9
   lip r14, 2
   br ben_fputc
   ;@ line examples/c/ben.c:16
@@ -184,9 +190,9 @@ L9:
   ldi r13, 0
   lts r1, r0, r13
   mov r7, r2
-  bnz r1, L22
+  bnz r1, L24
   mov r7, r0
-L22:
+L24:
   ;@ line examples/c/say.h:16 in 3
   ;@ var rest 4 r7 in 3
   ldi r13, 0
@@ -203,18 +209,22 @@ L11:
 L12:
   ;@ line examples/c/say.h:20 in 3
   ;@ var length 3 r1 in 3
-  divu r5, r7, r9
-  mul r0, r5, r9
+  divu r5, r7, r11
+  mul r0, r5, r11
   sub r0, r7, r0
   ;@ line examples/c/say.h:19 in 3
   ldi r13, 48
   or r4, r0, r13
-  addi r6, r1, 1
-  ;@ var length 3 r6 in 3
+  addi r8, r1, 1
+  shl r0, r8, r9
+  sar r6, r0, r9
+  ;@ var length 3 r8 in 3
   addi r1, r1, 8
-  and r0, r1, r10
-  leab r3, r8, r0
-  shl r2, r1, r11
+  ldi r13, -8
+  and r0, r1, r13
+  leab r3, r10, r0
+  ldi r13, 3
+  shl r2, r1, r13
   ld r1, r3, 0, any, keep
   shr r0, r1, r2
   xor r0, r0, r4
@@ -224,9 +234,10 @@ L12:
   xor r0, r1, r0
   st r3, r0, 0, any, keep
   ;@ var rest 4 r5 in 3
-  ltu r0, r7, r9
+  ltu r0, r7, r11
   bnz r0, L13
-L18:
+L19:
+  ;@ var length 3 r6 in 3
   mov r1, r6
   ;@ var length 3 - in 3
   mov r7, r5
@@ -234,20 +245,21 @@ L18:
   br L12
 L13:
   ;@ line examples/c/say.h:21 in 3
-  ;@ var length 3 r6 in 3
-  ldi r13, 32
-  shl r0, r6, r13
-  ;@ var length 3 - in 3
-  ldi r13, 32
-  sar r7, r0, r13
+  ;@ var length 3 r8 in 3
+  bz r6, L15
 L14:
   ;@ line examples/c/say.h:22 in 3
-  ;@ var length 3 r7 in 3
-  addi r7, r7, -1
+  addi r8, r8, -1
+  ;@ var length 3 - in 3
+  shl r0, r8, r9
+  sar r7, r0, r9
+  ;@ var length 3 r8 in 3
   addi r1, r7, 8
-  and r0, r1, r10
-  leab r0, r8, r0
-  shl r1, r1, r11
+  ldi r13, -8
+  and r0, r1, r13
+  leab r0, r10, r0
+  ldi r13, 3
+  shl r1, r1, r13
   ld r0, r0, 0, any, keep
   shr r0, r0, r1
   ldi r13, 56
@@ -262,16 +274,13 @@ L15:
   ;@ line examples/c/ben.c:14
   ;@ var length 3 - in 3
   ld r12, r15, 0, any, keep
-  addi r1, r12, 8
-  ;@ var by 2 r1
+  addi r12, r12, 8
+  st r15, r12, 0, any, keep
   ld r12, r15, 0, any, keep
-  ldi r13, 1
-  lts r0, r12, r13
-  bz r0, L8
-L20:
-  st r15, r1, 0, any, keep
-  ;@ var by 2 -
-  br L9
+  ldi r13, 9
+  ltu r0, r12, r13
+  bnz r0, L9
+  br L8
 ben_fputc:
   ;@ frame back - caller by 0
   out r0

@@ -59,9 +59,9 @@ line:
   st r15, r12, 0, any, keep
   lip r4, P_3
   ld r4, r4, 0, any, keep
-  lip r9, P_4
-  ld r9, r9, 0, any, keep
-  ldi r8, 32
+  lip r8, P_4
+  ld r8, r8, 0, any, keep
+  ldi r9, 32
   lip r11, P_5
   ld r11, r11, 0, any, keep
   lip r7, P_6
@@ -72,13 +72,13 @@ line:
   ;@ var text 1 r3
   st r4, r3, 0, any, keep
   ;@ line examples/c/calculator.c:99
-  ld r0, r9, -4, any, keep
-  shl r0, r0, r8
-  shr r1, r0, r8
+  ld r0, r8, -4, any, keep
+  shl r0, r0, r9
+  shr r1, r0, r9
   ldi r12, 0
-  shl r0, r12, r8
+  shl r0, r12, r9
   or r0, r1, r0
-  st r9, r0, -4, any, keep
+  st r8, r0, -4, any, keep
   ;@ line examples/c/calculator.c:100
   ldi r13, 7
   and r0, r3, r13
@@ -99,14 +99,14 @@ line:
   ldi r13, 3
   add r2, r3, r13
   isptr r0, r3
-  bz r0, L18
+  bz r0, L19
   ldi r0, 54
   shr r0, r3, r0
   xor r1, r2, r3
   shr r1, r1, r0
-  bnz r1, L18
+  bnz r1, L19
   lea r2, r3, r13
-L18:
+L19:
   ;@ var text 1 -
   st r4, r2, 0, any, keep
   ;@ line examples/c/calculator.c:102
@@ -119,15 +119,17 @@ L18:
   ;@ line examples/c/calculator.c:22 in 1
   ;@ var code 4 2 in 1
   ;@ var operand 5 s8 in 1
-  ld r0, r9, -4, any, keep
-  sar r3, r0, r8
-  addi r4, r3, 1
-  ld r0, r9, -4, any, keep
-  shl r0, r0, r8
-  shr r1, r0, r8
-  shl r0, r4, r8
+  ld r0, r8, -4, any, keep
+  sar r3, r0, r9
+  addi r2, r3, 1
+  shl r0, r2, r9
+  sar r4, r0, r9
+  ld r0, r8, -4, any, keep
+  shl r0, r0, r9
+  shr r1, r0, r9
+  shl r0, r2, r9
   or r0, r1, r0
-  st r9, r0, -4, any, keep
+  st r8, r0, -4, any, keep
   ldi r13, 4
   shl r2, r3, r13
   lea r0, r11, r2
@@ -150,12 +152,12 @@ L18:
   ;@ var code 4 7 in 2
   ;@ var operand 5 0 in 2
   addi r2, r3, 2
-  ld r0, r9, -4, any, keep
-  shl r0, r0, r8
-  shr r1, r0, r8
-  shl r0, r2, r8
+  ld r0, r8, -4, any, keep
+  shl r0, r0, r9
+  shr r1, r0, r9
+  shl r0, r2, r9
   or r0, r1, r0
-  st r9, r0, -4, any, keep
+  st r8, r0, -4, any, keep
   ldi r13, 4
   shl r2, r4, r13
   lea r0, r11, r2
@@ -175,37 +177,37 @@ L18:
   ldi r13, 0
   st r0, r13, 0, any, keep
   ;@ var now 6 @program in 3
-  ldi r9, 0
+  ldi r8, 0
 L3:
   ;@ line examples/c/calculator.c:77 in 3
-  ;@ var now 6 @program+r9 in 3
-  lea r0, r11, r9
+  ;@ var now 6 @program+r8 in 3
+  lea r0, r11, r8
   ld r0, r0, 0, any, keep
-  shl r0, r0, r8
-  sar r2, r0, r8
-  bz r2, L4
+  shl r0, r0, r9
+  sar r3, r0, r9
+  bz r3, L4
   ldi r13, 1
-  eq r0, r2, r13
+  eq r0, r3, r13
   bnz r0, L5
   ldi r13, 2
-  eq r0, r2, r13
+  eq r0, r3, r13
   bnz r0, L6
   ldi r13, 7
-  eq r0, r2, r13
+  eq r0, r3, r13
   bnz r0, L9
   br L7
 L4:
   ;@ line examples/c/calculator.c:79 in 3
-  addi r0, r9, 8
+  addi r0, r8, 8
   lea r0, r11, r0
   ld r4, r0, 0, any, keep
   ld r0, r7, -4, any, keep
-  sar r3, r0, r8
+  sar r3, r0, r9
   addi r2, r3, 1
   ld r0, r7, -4, any, keep
-  shl r0, r0, r8
-  shr r1, r0, r8
-  shl r0, r2, r8
+  shl r0, r0, r9
+  shr r1, r0, r9
+  shl r0, r2, r9
   or r0, r1, r0
   st r7, r0, -4, any, keep
   ldi r13, 3
@@ -216,7 +218,7 @@ L4:
   br L8
 L5:
   ;@ line examples/c/calculator.c:82 in 3
-  addi r0, r9, 8
+  addi r0, r8, 8
   lea r0, r11, r0
   ld r0, r0, 0, any, keep
   ldi r13, 3
@@ -226,12 +228,12 @@ L5:
   lea r0, r12, r0
   ld r4, r0, 0, any, keep
   ld r0, r7, -4, any, keep
-  sar r3, r0, r8
+  sar r3, r0, r9
   addi r2, r3, 1
   ld r0, r7, -4, any, keep
-  shl r0, r0, r8
-  shr r1, r0, r8
-  shl r0, r2, r8
+  shl r0, r0, r9
+  shr r1, r0, r9
+  shl r0, r2, r9
   or r0, r1, r0
   st r7, r0, -4, any, keep
   ldi r13, 3
@@ -243,19 +245,21 @@ L5:
 L6:
   ;@ line examples/c/calculator.c:85 in 3
   ld r0, r7, -4, any, keep
-  sar r0, r0, r8
+  shr r0, r0, r9
   addi r2, r0, -1
+  shl r0, r2, r9
+  sar r3, r0, r9
   ld r0, r7, -4, any, keep
-  shl r0, r0, r8
-  shr r1, r0, r8
-  shl r0, r2, r8
+  shl r0, r0, r9
+  shr r1, r0, r9
+  shl r0, r2, r9
   or r0, r1, r0
   st r7, r0, -4, any, keep
   ldi r13, 3
-  shl r0, r2, r13
+  shl r0, r3, r13
   lea r0, r10, r0
   ld r1, r0, 0, any, keep
-  addi r0, r9, 8
+  addi r0, r8, 8
   lea r0, r11, r0
   ld r0, r0, 0, any, keep
   ldi r13, 3
@@ -269,16 +273,18 @@ L6:
 L7:
   ;@ line examples/c/calculator.c:90 in 3
   ld r0, r7, -4, any, keep
-  sar r4, r0, r8
-  addi r5, r4, -1
+  shr r4, r0, r9
+  addi r2, r4, -1
+  shl r0, r2, r9
+  sar r5, r0, r9
   ld r0, r7, -4, any, keep
-  shl r0, r0, r8
-  shr r1, r0, r8
-  shl r0, r5, r8
+  shl r0, r0, r9
+  shr r1, r0, r9
+  shl r0, r2, r9
   or r0, r1, r0
   st r7, r0, -4, any, keep
   ;@ line examples/c/calculator.c:91 in 3
-  addi r0, r2, -3
+  addi r0, r3, -3
   ldi r13, 0
   ldhi r13, 4294967295
   and r0, r0, r13
@@ -289,6 +295,8 @@ L7:
   lea r0, r12, r0
   ld r3, r0, 0, any, keep
   addi r0, r4, -2
+  shl r0, r0, r9
+  sar r0, r0, r9
   ldi r13, 3
   shl r0, r0, r13
   lea r0, r10, r0
@@ -302,15 +310,17 @@ L7:
   jal r14, r13
   mov r1, r0
   ld r0, r7, -4, any, keep
-  sar r0, r0, r8
+  shr r0, r0, r9
   addi r0, r0, -1
+  shl r0, r0, r9
+  sar r0, r0, r9
   ldi r13, 3
   shl r0, r0, r13
   lea r0, r10, r0
   st r0, r1, 0, any, keep
 L8:
-  ;@ var now 6 @program+r9+16 in 3
-  addi r9, r9, 16
+  ;@ var now 6 @program+r8+16 in 3
+  addi r8, r8, 16
   ;@ line examples/c/calculator.c:76 in 3
   br L3
 L9:
@@ -348,9 +358,9 @@ L9:
   ldi r13, 0
   lts r1, r0, r13
   mov r7, r2
-  bnz r1, L19
+  bnz r1, L20
   mov r7, r0
-L19:
+L20:
   ;@ line examples/c/say.h:16 in 5
   ;@ var rest 8 r7 in 5
   ldi r13, 0
@@ -375,8 +385,10 @@ L12:
   ;@ line examples/c/say.h:19 in 5
   ldi r13, 48
   or r4, r0, r13
-  addi r6, r1, 1
-  ;@ var length 3 r6 in 5
+  addi r8, r1, 1
+  shl r0, r8, r9
+  sar r6, r0, r9
+  ;@ var length 3 r8 in 5
   addi r1, r1, 8
   ldi r13, -8
   and r0, r1, r13
@@ -397,6 +409,7 @@ L12:
   ltu r0, r7, r13
   bnz r0, L13
 L16:
+  ;@ var length 3 r6 in 5
   mov r1, r6
   ;@ var length 3 - in 5
   mov r7, r5
@@ -404,14 +417,15 @@ L16:
   br L12
 L13:
   ;@ line examples/c/say.h:21 in 5
-  ;@ var length 3 r6 in 5
-  shl r0, r6, r8
-  ;@ var length 3 - in 5
-  sar r7, r0, r8
+  ;@ var length 3 r8 in 5
+  bz r6, L15
 L14:
   ;@ line examples/c/say.h:22 in 5
-  ;@ var length 3 r7 in 5
-  addi r7, r7, -1
+  addi r8, r8, -1
+  ;@ var length 3 - in 5
+  shl r0, r8, r9
+  sar r7, r0, r9
+  ;@ var length 3 r8 in 5
   addi r1, r7, 8
   ldi r13, -8
   and r0, r1, r13
@@ -458,18 +472,18 @@ fwrite:
   ldi r8, 7
   ldi r3, 56
   mul r4, r9, r1
-  bz r4, L21
-L23:
+  bz r4, L22
+L24:
   mov r2, r6
-  br L22
-L21:
+  br L23
+L22:
   mov r0, r9
   ld r7, r15, 0, any, keep
   ld r8, r15, 8, any, keep
   ld r9, r15, 16, any, keep
   leai r15, r15, 24
   jmp r14
-L22:
+L23:
   lea r1, r5, r2
   and r0, r1, r8
   sub r0, r6, r0
@@ -482,8 +496,8 @@ L22:
   out r0
   addi r2, r2, 1
   eq r0, r2, r4
-  bnz r0, L21
-  br L22
+  bnz r0, L22
+  br L23
 putchar:
   ;@ frame back - caller by 0
   out r0
@@ -516,7 +530,7 @@ sum:
   ;@ line examples/c/calculator.c:49 in 1
   lip r14, 2
   br factor
-L27:
+L28:
   ;@ line examples/c/calculator.c:27 in 2
   ld r5, r8, 0, any, keep
   ldi r13, 7
@@ -532,22 +546,22 @@ L27:
   ldi r13, 255
   and r0, r1, r13
   eq r0, r0, r11
-  bz r0, L29
-L44:
+  bz r0, L30
+L45:
   mov r4, r10
-L28:
+L29:
   ;@ line examples/c/calculator.c:28 in 2
   addi r3, r4, 1
   add r2, r5, r3
   isptr r0, r5
-  bz r0, L56
+  bz r0, L57
   ldi r0, 54
   shr r0, r5, r0
   xor r1, r2, r5
   shr r1, r1, r0
-  bnz r1, L56
+  bnz r1, L57
   lea r2, r5, r3
-L56:
+L57:
   st r8, r2, 0, any, keep
   ;@ line examples/c/calculator.c:27 in 2
   addi r0, r4, 1
@@ -565,16 +579,16 @@ L56:
   ldi r13, 255
   and r0, r1, r13
   eq r0, r0, r11
-  bz r0, L29
-L46:
+  bz r0, L30
+L47:
   addi r4, r4, 1
-  br L28
-L29:
+  br L29
+L30:
   ;@ line examples/c/calculator.c:50 in 1
   ldi r13, 42
   eq r0, r1, r13
-  bnz r0, L31
-L30:
+  bnz r0, L32
+L31:
   ld r1, r8, 0, any, keep
   ldi r13, 7
   and r0, r1, r13
@@ -588,21 +602,21 @@ L30:
   and r0, r0, r13
   ldi r13, 47
   eq r0, r0, r13
-  bz r0, L32
-L31:
+  bz r0, L33
+L32:
   ;@ line examples/c/calculator.c:51 in 1
   ld r3, r8, 0, any, keep
   ldi r13, 1
   add r2, r3, r13
   isptr r0, r3
-  bz r0, L57
+  bz r0, L58
   ldi r0, 54
   shr r0, r3, r0
   xor r1, r2, r3
   shr r1, r1, r0
-  bnz r1, L57
+  bnz r1, L58
   lea r2, r3, r13
-L57:
+L58:
   st r8, r2, 0, any, keep
   ldi r13, 7
   and r0, r3, r13
@@ -617,9 +631,9 @@ L57:
   ldi r13, 42
   eq r0, r0, r13
   ldi r7, 5
-  bnz r0, L58
+  bnz r0, L59
   ldi r7, 6
-L58:
+L59:
   ;@ line examples/c/calculator.c:52 in 1
   ;@ var code 4 r7 in 1
   lip r14, 2
@@ -667,8 +681,8 @@ L58:
   lea r0, r12, r0
   st r0, r10, 0, any, keep
   ;@ line examples/c/calculator.c:50 in 1
-  br L27
-L32:
+  br L28
+L33:
   ;@ line examples/c/calculator.c:27 in 4
   ;@ var operand 5 - in 3
   ld r5, r8, 0, any, keep
@@ -685,22 +699,22 @@ L32:
   ldi r13, 255
   and r0, r1, r13
   eq r0, r0, r11
-  bz r0, L34
-L48:
+  bz r0, L35
+L49:
   mov r4, r10
-L33:
+L34:
   ;@ line examples/c/calculator.c:28 in 4
   addi r3, r4, 1
   add r2, r5, r3
   isptr r0, r5
-  bz r0, L59
+  bz r0, L60
   ldi r0, 54
   shr r0, r5, r0
   xor r1, r2, r5
   shr r1, r1, r0
-  bnz r1, L59
+  bnz r1, L60
   lea r2, r5, r3
-L59:
+L60:
   st r8, r2, 0, any, keep
   ;@ line examples/c/calculator.c:27 in 4
   addi r0, r4, 1
@@ -718,16 +732,16 @@ L59:
   ldi r13, 255
   and r0, r1, r13
   eq r0, r0, r11
-  bz r0, L34
-L50:
+  bz r0, L35
+L51:
   addi r4, r4, 1
-  br L33
-L34:
+  br L34
+L35:
   ;@ line examples/c/calculator.c:60
   ldi r13, 43
   eq r0, r1, r13
-  bnz r0, L36
-L35:
+  bnz r0, L37
+L36:
   ld r1, r8, 0, any, keep
   ldi r13, 7
   and r0, r1, r13
@@ -741,21 +755,21 @@ L35:
   and r0, r0, r13
   ldi r13, 45
   eq r0, r0, r13
-  bz r0, L43
-L36:
+  bz r0, L44
+L37:
   ;@ line examples/c/calculator.c:61
   ld r3, r8, 0, any, keep
   ldi r13, 1
   add r2, r3, r13
   isptr r0, r3
-  bz r0, L60
+  bz r0, L61
   ldi r0, 54
   shr r0, r3, r0
   xor r1, r2, r3
   shr r1, r1, r0
-  bnz r1, L60
+  bnz r1, L61
   lea r2, r3, r13
-L60:
+L61:
   st r8, r2, 0, any, keep
   ldi r13, 7
   and r0, r3, r13
@@ -771,7 +785,7 @@ L60:
   ;@ line examples/c/calculator.c:49 in 5
   lip r14, 2
   br factor
-L37:
+L38:
   ;@ line examples/c/calculator.c:27 in 6
   ld r5, r8, 0, any, keep
   ldi r13, 7
@@ -787,22 +801,22 @@ L37:
   ldi r13, 255
   and r0, r1, r13
   eq r0, r0, r11
-  bz r0, L39
-L52:
+  bz r0, L40
+L53:
   mov r4, r10
-L38:
+L39:
   ;@ line examples/c/calculator.c:28 in 6
   addi r3, r4, 1
   add r2, r5, r3
   isptr r0, r5
-  bz r0, L61
+  bz r0, L62
   ldi r0, 54
   shr r0, r5, r0
   xor r1, r2, r5
   shr r1, r1, r0
-  bnz r1, L61
+  bnz r1, L62
   lea r2, r5, r3
-L61:
+L62:
   st r8, r2, 0, any, keep
   ;@ line examples/c/calculator.c:27 in 6
   addi r0, r4, 1
@@ -820,16 +834,16 @@ L61:
   ldi r13, 255
   and r0, r1, r13
   eq r0, r0, r11
-  bz r0, L39
-L54:
+  bz r0, L40
+L55:
   addi r4, r4, 1
-  br L38
-L39:
+  br L39
+L40:
   ;@ line examples/c/calculator.c:50 in 5
   ldi r13, 42
   eq r0, r1, r13
-  bnz r0, L41
-L40:
+  bnz r0, L42
+L41:
   ld r1, r8, 0, any, keep
   ldi r13, 7
   and r0, r1, r13
@@ -843,21 +857,21 @@ L40:
   and r0, r0, r13
   ldi r13, 47
   eq r0, r0, r13
-  bz r0, L42
-L41:
+  bz r0, L43
+L42:
   ;@ line examples/c/calculator.c:51 in 5
   ld r3, r8, 0, any, keep
   ldi r13, 1
   add r2, r3, r13
   isptr r0, r3
-  bz r0, L62
+  bz r0, L63
   ldi r0, 54
   shr r0, r3, r0
   xor r1, r2, r3
   shr r1, r1, r0
-  bnz r1, L62
+  bnz r1, L63
   lea r2, r3, r13
-L62:
+L63:
   st r8, r2, 0, any, keep
   ldi r13, 7
   and r0, r3, r13
@@ -872,9 +886,9 @@ L62:
   ldi r13, 42
   eq r0, r0, r13
   ldi r7, 5
-  bnz r0, L63
+  bnz r0, L64
   ldi r7, 6
-L63:
+L64:
   ;@ line examples/c/calculator.c:52 in 5
   ;@ var code 4 r7 in 5
   lip r14, 2
@@ -922,17 +936,17 @@ L63:
   lea r0, r12, r0
   st r0, r10, 0, any, keep
   ;@ line examples/c/calculator.c:50 in 5
-  br L37
-L42:
+  br L38
+L43:
   ;@ line examples/c/calculator.c:61
   ;@ var operand 5 - in 7
   ld r12, r15, 0, any, keep
   ldi r13, 43
   eq r0, r12, r13
   ldi r4, 3
-  bnz r0, L64
+  bnz r0, L65
   ldi r4, 4
-L64:
+L65:
   ;@ line examples/c/calculator.c:22 in 8
   ;@ var code 4 r4 in 8
   ;@ var operand 5 0 in 8
@@ -975,8 +989,8 @@ L64:
   lea r0, r12, r0
   st r0, r10, 0, any, keep
   ;@ line examples/c/calculator.c:60
-  br L32
-L43:
+  br L33
+L44:
   ;@ line examples/c/calculator.c:65
   ;@ var operand 5 - in 8
   ld r7, r15, 8, any, keep
@@ -1020,22 +1034,22 @@ factor:
   sar r1, r0, r6
   and r0, r1, r8
   eq r0, r0, r9
-  bz r0, L67
-L73:
+  bz r0, L68
+L74:
   ldi r4, 0
-L66:
+L67:
   ;@ line examples/c/calculator.c:28 in 1
   addi r3, r4, 1
   add r2, r5, r3
   isptr r0, r5
-  bz r0, L77
+  bz r0, L78
   ldi r0, 54
   shr r0, r5, r0
   xor r1, r2, r5
   shr r1, r1, r0
-  bnz r1, L77
+  bnz r1, L78
   lea r2, r5, r3
-L77:
+L78:
   st r7, r2, 0, any, keep
   ;@ line examples/c/calculator.c:27 in 1
   addi r0, r4, 1
@@ -1051,35 +1065,18 @@ L77:
   sar r1, r0, r6
   and r0, r1, r8
   eq r0, r0, r9
-  bz r0, L67
-L75:
+  bz r0, L68
+L76:
   addi r4, r4, 1
-  br L66
-L67:
+  br L67
+L68:
   ld r3, r7, 0, any, keep
   ;@ line examples/c/calculator.c:36
   ldi r13, 40
   eq r0, r1, r13
-  bz r0, L69
-L68:
+  bz r0, L70
+L69:
   ;@ line examples/c/calculator.c:37
-  ldi r13, 1
-  add r2, r3, r13
-  isptr r0, r3
-  bz r0, L78
-  ldi r0, 54
-  shr r0, r3, r0
-  xor r1, r2, r3
-  shr r1, r1, r0
-  bnz r1, L78
-  lea r2, r3, r13
-L78:
-  st r7, r2, 0, any, keep
-  ;@ line examples/c/calculator.c:38
-  lip r14, 2
-  br sum
-  ;@ line examples/c/calculator.c:39
-  ld r3, r7, 0, any, keep
   ldi r13, 1
   add r2, r3, r13
   isptr r0, r3
@@ -1092,9 +1089,26 @@ L78:
   lea r2, r3, r13
 L79:
   st r7, r2, 0, any, keep
+  ;@ line examples/c/calculator.c:38
+  lip r14, 2
+  br sum
+  ;@ line examples/c/calculator.c:39
+  ld r3, r7, 0, any, keep
+  ldi r13, 1
+  add r2, r3, r13
+  isptr r0, r3
+  bz r0, L80
+  ldi r0, 54
+  shr r0, r3, r0
+  xor r1, r2, r3
+  shr r1, r1, r0
+  bnz r1, L80
+  lea r2, r3, r13
+L80:
+  st r7, r2, 0, any, keep
   ;@ line examples/c/calculator.c:40
-  br L72
-L69:
+  br L73
+L70:
   and r0, r3, r10
   ldi r12, 0
   sub r0, r12, r0
@@ -1107,8 +1121,8 @@ L69:
   addi r0, r0, -48
   ldi r13, 10
   ltu r0, r0, r13
-  bz r0, L71
-L70:
+  bz r0, L72
+L71:
   ;@ line examples/c/calculator.c:41
   mov r0, r3
   mov r1, r7
@@ -1159,21 +1173,21 @@ L70:
   st r0, r4, 0, any, keep
   ;@ line examples/c/calculator.c:42
   ;@ var operand 5 - in 2
-  br L72
-L71:
+  br L73
+L72:
   ;@ line examples/c/calculator.c:43
   ;@ var code 4 - in 2
   ldi r13, 1
   add r2, r3, r13
   isptr r0, r3
-  bz r0, L80
+  bz r0, L81
   ldi r0, 54
   shr r0, r3, r0
   xor r1, r2, r3
   shr r1, r1, r0
-  bnz r1, L80
+  bnz r1, L81
   lea r2, r3, r13
-L80:
+L81:
   st r7, r2, 0, any, keep
   and r0, r3, r10
   ldi r12, 0
@@ -1226,7 +1240,7 @@ L80:
   ld r12, r12, 0, any, keep
   lea r0, r12, r0
   st r0, r4, 0, any, keep
-L72:
+L73:
   ;@ line examples/c/calculator.c:45
   ;@ var code 4 - in 3
   ;@ var operand 5 - in 3
@@ -1262,13 +1276,13 @@ strtol:
   br number_in
   ld r0, r15, 40, any, keep
   sar r0, r0, r7
-  bz r0, L83
-L82:
+  bz r0, L84
+L83:
   ld r0, r15, 40, any, keep
   shl r0, r0, r7
   sar r2, r0, r7
-  br L84
-L83:
+  br L85
+L84:
   ld r1, r15, 32, any, keep
   ld r0, r15, 40, any, keep
   shl r0, r0, r7
@@ -1277,8 +1291,8 @@ L83:
   ldhi r13, 4294967295
   add r0, r2, r13
   ltu r0, r0, r1
-  bz r0, L85
-L84:
+  bz r0, L86
+L85:
   lip r12, P_12
   ld r12, r12, 0, any, keep
   ld r0, r12, -4, any, keep
@@ -1292,18 +1306,18 @@ L84:
   st r12, r0, -4, any, keep
   ldi r0, -2147483648
   ldhi r0, 0
-  bnz r2, L86
+  bnz r2, L87
   ldi r0, 2147483647
   ldhi r0, 4294967295
-L88:
-  br L86
-L85:
+L89:
+  br L87
+L86:
   ldi r12, 0
   sub r0, r12, r1
-  bnz r2, L86
+  bnz r2, L87
   mov r0, r1
-L89:
-L86:
+L90:
+L87:
   ld r7, r15, 8, any, keep
   ld r14, r15, 16, any, keep
   ld r15, r15, 24, any, keep
@@ -1330,11 +1344,11 @@ number_in:
   st r11, r8, 0, any, keep
   st r11, r8, 8, any, keep
   ld r12, r15, 8, any, keep
-  bz r12, L92
-L91:
+  bz r12, L93
+L92:
   ld r12, r15, 8, any, keep
   st r12, r10, 0, any, keep
-L92:
+L93:
   ld r12, r15, 0, any, keep
   ldi r13, 1
   eq r1, r12, r13
@@ -1342,11 +1356,11 @@ L92:
   ld r13, r15, 0, any, keep
   ltu r0, r12, r13
   or r0, r0, r1
-  bnz r0, L93
-L111:
+  bnz r0, L94
+L112:
   mov r4, r8
-  br L94
-L93:
+  br L95
+L94:
   ld r0, r2, -4, any, keep
   shl r0, r0, r9
   shr r1, r0, r9
@@ -1354,8 +1368,8 @@ L93:
   shl r0, r12, r9
   or r0, r1, r0
   st r2, r0, -4, any, keep
-  br L110
-L94:
+  br L111
+L95:
   lea r1, r10, r4
   ldi r13, 7
   and r0, r1, r13
@@ -1375,21 +1389,21 @@ L94:
   ltu r0, r0, r6
   and r0, r1, r0
   addi r7, r4, 1
-  bnz r0, L95
-L112:
-  mov r4, r7
-  br L94
-L95:
-  ldi r13, 43
-  eq r0, r3, r13
-  bnz r0, L96
-  ldi r13, 45
-  eq r0, r3, r13
   bnz r0, L96
 L113:
-  mov r7, r4
-  br L97
+  mov r4, r7
+  br L95
 L96:
+  ldi r13, 43
+  eq r0, r3, r13
+  bnz r0, L97
+  ldi r13, 45
+  eq r0, r3, r13
+  bnz r0, L97
+L114:
+  mov r7, r4
+  br L98
+L97:
   ldi r13, 45
   eq r0, r2, r13
   ld r1, r11, 8, any, keep
@@ -1410,14 +1424,14 @@ L96:
   shr r0, r0, r1
   shl r0, r0, r5
   sar r3, r0, r5
-L97:
+L98:
   ldi r13, 48
   eq r0, r3, r13
-  bnz r0, L98
-L114:
+  bnz r0, L99
+L115:
   ldi r0, 10
-  br L100
-L98:
+  br L101
+L99:
   addi r0, r7, 1
   lea r1, r10, r0
   ldi r13, 7
@@ -1434,11 +1448,11 @@ L98:
   and r0, r0, r13
   ldi r13, 88
   eq r0, r0, r13
-  bnz r0, L99
-L115:
+  bnz r0, L100
+L116:
   ldi r0, 8
-  br L100
-L99:
+  br L101
+L100:
   addi r3, r7, 2
   lea r1, r10, r3
   ldi r13, 7
@@ -1465,24 +1479,24 @@ L99:
   and r0, r12, r13
   eq r0, r0, r8
   and r0, r0, r1
-  bnz r0, L116
-L117:
+  bnz r0, L117
+L118:
   ldi r0, 8
-  br L100
-L116:
+  br L101
+L117:
   mov r7, r3
   ldi r6, 16
-  br L101
-L100:
+  br L102
+L101:
   ld r12, r15, 0, any, keep
   ld r6, r15, 0, any, keep
-  bnz r12, L101
+  bnz r12, L102
   mov r6, r0
-L125:
-L101:
+L126:
+L102:
   mov r4, r8
   mov r5, r7
-L102:
+L103:
   lea r1, r10, r5
   ldi r13, 7
   and r0, r1, r13
@@ -1497,8 +1511,8 @@ L102:
   addi r3, r1, -48
   ldi r12, 9
   ltu r0, r12, r3
-  bz r0, L104
-L103:
+  bz r0, L105
+L104:
   ldi r13, 223
   and r0, r1, r13
   addi r2, r0, -91
@@ -1507,66 +1521,66 @@ L103:
   ldi r13, -26
   ltu r0, r2, r13
   ldi r3, 99
-  bnz r0, L104
+  bnz r0, L105
   mov r3, r1
-L126:
-L104:
-  lts r0, r3, r6
-  bz r0, L108
+L127:
 L105:
+  lts r0, r3, r6
+  bz r0, L109
+L106:
   ldi r13, -1
   xor r0, r3, r13
   divu r0, r0, r6
   ltu r0, r0, r4
-  bz r0, L107
-L106:
+  bz r0, L108
+L107:
   leai r2, r11, 12
   ldi r13, 1
   ldi r14, 4
   and r0, r2, r14
-  bnz r0, L127
+  bnz r0, L128
   ld r0, r2, 0, any, keep
   xor r1, r0, r13
   shl r1, r1, r9
   shr r1, r1, r9
   xor r0, r0, r1
   st r2, r0, 0, any, keep
-  br L107
-L127:
+  br L108
+L128:
   ld r0, r2, -4, any, keep
   shl r0, r0, r9
   shr r0, r0, r9
   shl r1, r13, r9
   or r0, r0, r1
   st r2, r0, -4, any, keep
-L128:
-L107:
+L129:
+L108:
   mul r0, r4, r6
   add r4, r0, r3
   st r11, r4, 0, any, keep
   addi r5, r5, 1
-  br L102
-L108:
+  br L103
+L109:
   eq r0, r5, r7
   ld r12, r15, 8, any, keep
-  bnz r12, L129
+  bnz r12, L130
   ldi r0, 1
-L129:
-  bnz r0, L110
-L109:
+L130:
+  bnz r0, L111
+L110:
   add r2, r10, r5
   isptr r0, r10
-  bz r0, L130
+  bz r0, L131
   ldi r0, 54
   shr r0, r10, r0
   xor r1, r2, r10
   shr r1, r1, r0
-  bnz r1, L130
+  bnz r1, L131
   lea r2, r10, r5
-L130:
+L131:
   ld r12, r15, 8, any, keep
   st r12, r2, 0, any, keep
-L110:
+L111:
   ld r7, r15, 16, any, keep
   ld r8, r15, 24, any, keep
   ld r9, r15, 32, any, keep
@@ -1583,13 +1597,13 @@ div_:
   ;@ line examples/c/calculator.c:70
   ;@ var a 5 r0
   ;@ var b 5 r3
-  bnz r3, L132
-L134:
+  bnz r3, L133
+L135:
   ;@ var a 5 -
   ;@ var b 5 -
   ldi r0, 0
-  br L133
-L132:
+  br L134
+L133:
   ;@ var a 5 r0
   ;@ var b 5 r3
   sar r2, r0, r1
@@ -1604,7 +1618,7 @@ L132:
   xor r1, r2, r1
   xor r0, r0, r1
   sub r0, r0, r1
-L133:
+L134:
   jmp r14
 mul:
   ;@ function mul at examples/c/calculator.c:69
@@ -1650,12 +1664,15 @@ P_10: .ptr rw stdout+0
 P_11: .ptr ro _str_3+4
 P_12: .ptr rw errno+4
 .segment _str 4
+  ;@ unnamed at 1 constant
   .int 0x202a2036203a7800
   .int 0x2934202b203328
 .segment _str_1 4
+  ;@ unnamed at 1 constant
   .int 0x202f2078203a7900
   .int 0x303031202d2035
 .segment _str_2 5
+  ;@ unnamed at 11 constant
   .fill 1
   .int 0x7828203a7a000000
   .int 0x202a202979202b20
@@ -1669,7 +1686,7 @@ P_12: .ptr rw errno+4
 .segment top 3
   ;@ global top 4 at 4 type 3
 .segment operations 5
-  ;@ global operations 32 at 0 type 12
+  ;@ global operations 32 at 0 type 12 constant
   .ptr xu add
   .ptr xu sub
   .ptr xu mul
@@ -1682,6 +1699,7 @@ P_12: .ptr rw errno+4
   ;@ global stdout 8 at 0
   .ptr rw files+8
 .segment _str_3 3
+  ;@ unnamed at 4 constant
   .int 0x203d2000000000
 .segment errno 3
   ;@ global errno 4 at 4

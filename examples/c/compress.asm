@@ -13,78 +13,76 @@ main:
   ;@ inlined 4 say at examples/c/compress.c:56
   ;@ inlined 5 say_number at examples/c/compress.c:57
   ;@ inlined 6 say at examples/c/compress.c:58
-  ;@ frame back 80 caller at 88
-  ;@ local digits 20 at 104 log 5 type 9 in 5
-  ;@ local digits 20 at 136 log 5 type 9 in 3
+  ;@ frame back 88 caller at 96
+  ;@ local digits 20 at 136 log 5 type 9 in 5
+  ;@ local digits 20 at 168 log 5 type 9 in 3
   ldi r13, 31
   and r13, r15, r13
-  ldi r12, -160
+  ldi r12, -192
   sub r13, r12, r13
   lea r12, r15, r13
-  st r12, r15, 88, any, keep
+  st r12, r15, 96, any, keep
   mov r15, r12
-  st r15, r7, 40, any, keep
-  st r15, r8, 48, any, keep
-  st r15, r9, 56, any, keep
-  st r15, r10, 64, any, keep
-  st r15, r11, 72, any, keep
-  st r15, r14, 80, any, keep
-  leai r12, r15, 104
-  ldi r14, 5
-  subseg r12, r12, r14
-  st r15, r12, 32, any, keep
+  st r15, r7, 48, any, keep
+  st r15, r8, 56, any, keep
+  st r15, r9, 64, any, keep
+  st r15, r10, 72, any, keep
+  st r15, r11, 80, any, keep
+  st r15, r14, 88, any, keep
   leai r12, r15, 136
   ldi r14, 5
   subseg r12, r12, r14
-  st r15, r12, 24, any, keep
-  lip r8, P_0
-  ld r8, r8, 0, any, keep
-  ldi r10, 250
+  st r15, r12, 40, any, keep
+  leai r12, r15, 168
+  ldi r14, 5
+  subseg r12, r12, r14
+  st r15, r12, 32, any, keep
+  ldi r8, 32
+  lip r9, P_0
+  ld r9, r9, 0, any, keep
+  ldi r11, 250
   ;@ var from 1 @c_text in 1
   ;@ var size 3 178 in 1
   ;@ var at 3 0 in 1
   ;@ var made 3 0 in 1
   ldi r12, 0
-  st r15, r12, 16, any, keep
-  ldi r11, 0
+  st r15, r12, 24, any, keep
+  ldi r12, 0
+  st r15, r12, 0, any, keep
 L2:
   ;@ line examples/c/compress.c:17 in 1
-  ;@ var made 3 s16 in 1
-  ;@ var at 3 r11 in 1
+  ;@ var made 3 s24 in 1
+  ;@ var at 3 s0 in 1
   ;@ var back 3 1 in 1
   ;@ var where 3 0 in 1
   ;@ var best 3 0 in 1
   ldi r12, 0
-  lts r0, r12, r11
+  ld r13, r15, 0, any, keep
+  lts r0, r12, r13
   bnz r0, L3
-L35:
+L34:
+  ldi r3, 0
   ldi r2, 0
-  ldi r1, 0
   br L5
 L3:
+  ld r12, r15, 0, any, keep
   ldi r13, 178
-  lts r1, r11, r13
-  ldi r0, 178
-  bnz r1, L54
-  mov r0, r11
-L54:
-  sub r0, r0, r11
-  ldi r13, 32
-  shl r0, r0, r13
-  ldi r13, 32
-  sar r7, r0, r13
-  ldi r13, 178
-  lts r1, r11, r13
+  lts r1, r12, r13
   ldi r0, 178
   bnz r1, L55
-  mov r0, r11
+  ld r0, r15, 0, any, keep
 L55:
-  sub r6, r0, r11
-  addi r1, r11, -1
-  ldi r13, 32
-  shl r0, r1, r13
-  ldi r13, 32
-  sar r0, r0, r13
+  ld r13, r15, 0, any, keep
+  sub r1, r0, r13
+  shl r0, r1, r8
+  sar r7, r0, r8
+  ldi r13, 0
+  ldhi r13, 4294967295
+  and r6, r1, r13
+  ld r12, r15, 0, any, keep
+  addi r1, r12, -1
+  shl r0, r1, r8
+  sar r0, r0, r8
   ldi r13, 0
   ldhi r13, 4294967295
   and r0, r1, r13
@@ -93,16 +91,18 @@ L55:
   bnz r1, L56
   ldi r0, 254
 L56:
-  addi r12, r0, 2
-  st r15, r12, 8, any, keep
+  shl r0, r0, r8
+  sar r0, r0, r8
+  addi r12, r0, 1
+  st r15, r12, 16, any, keep
   ldi r5, 1
   ldi r12, 0
-  st r15, r12, 0, any, keep
-  ldi r9, 0
+  st r15, r12, 8, any, keep
+  ldi r10, 0
 L4:
   ;@ var back 3 r5 in 1
-  ;@ var where 3 s0 in 1
-  ;@ var best 3 r9 in 1
+  ;@ var where 3 s8 in 1
+  ;@ var best 3 r10 in 1
   ;@ var same 3 0 in 1
   ldi r3, 0
   ;@ line examples/c/compress.c:19 in 1
@@ -114,28 +114,31 @@ L5:
   ;@ var best 3 - in 1
   ;@ var same 3 - in 1
   ldi r12, 3
-  lts r0, r12, r2
+  lts r0, r12, r3
   bnz r0, L11
   br L12
 L6:
   ;@ line examples/c/compress.c:19 in 1
   ;@ var back 3 r5 in 1
-  ;@ var where 3 s0 in 1
-  ;@ var best 3 r9 in 1
+  ;@ var where 3 s8 in 1
+  ;@ var best 3 r10 in 1
   ;@ var same 3 r3 in 1
-  add r2, r3, r11
+  ld r12, r15, 0, any, keep
+  add r2, r12, r3
+  shl r0, r2, r8
+  sar r1, r0, r8
   eq r0, r3, r6
   bz r0, L7
-L36:
+L35:
   ;@ var same 3 - in 1
   mov r0, r7
   br L10
 L7:
   ;@ var same 3 r3 in 1
-  addi r1, r2, 72
+  addi r1, r1, 72
   ldi r13, -8
   and r0, r1, r13
-  leab r0, r8, r0
+  leab r0, r9, r0
   ldi r13, 3
   shl r1, r1, r13
   ld r0, r0, 0, any, keep
@@ -143,10 +146,12 @@ L7:
   ldi r13, 255
   and r4, r0, r13
   sub r0, r2, r5
+  shl r0, r0, r8
+  sar r0, r0, r8
   addi r1, r0, 72
   ldi r13, -8
   and r0, r1, r13
-  leab r0, r8, r0
+  leab r0, r9, r0
   ldi r13, 3
   shl r1, r1, r13
   ld r0, r0, 0, any, keep
@@ -159,176 +164,202 @@ L8:
   ;@ line examples/c/compress.c:20 in 1
   addi r3, r3, 1
   ;@ line examples/c/compress.c:19 in 1
-  eq r0, r3, r10
+  eq r0, r3, r11
   bz r0, L6
-L37:
+L36:
   ;@ var same 3 - in 1
-  mov r0, r10
+  mov r0, r11
   br L10
 L9:
   ;@ var same 3 r3 in 1
-  ldi r13, 32
-  shl r0, r3, r13
+  shl r0, r3, r8
   ;@ var same 3 - in 1
-  ldi r13, 32
-  sar r0, r0, r13
+  sar r0, r0, r8
 L10:
   ;@ line examples/c/compress.c:21 in 1
-  lts r1, r9, r0
-  mov r2, r0
+  lts r1, r10, r0
+  mov r3, r0
   bnz r1, L57
-  mov r2, r9
+  mov r3, r10
 L57:
-  lts r0, r9, r0
+  lts r0, r10, r0
   ;@ var best 3 - in 1
-  mov r1, r5
+  mov r2, r5
   bnz r0, L58
-  ld r1, r15, 0, any, keep
+  ld r2, r15, 8, any, keep
 L58:
   ;@ line examples/c/compress.c:17 in 1
-  ;@ var best 3 r2 in 1
-  ;@ var where 3 r1 in 1
-  addi r5, r5, 1
-  ld r13, r15, 8, any, keep
+  ;@ var best 3 r3 in 1
+  ;@ var where 3 r2 in 1
+  addi r1, r5, 1
+  ;@ var back 3 r1 in 1
+  ld r13, r15, 16, any, keep
   eq r0, r5, r13
   bnz r0, L5
-L40:
+L39:
+  mov r5, r1
   ;@ var back 3 - in 1
-  st r15, r1, 0, any, keep
+  st r15, r2, 8, any, keep
   ;@ var where 3 - in 1
-  mov r9, r2
+  mov r10, r3
   ;@ var best 3 - in 1
   br L4
 L11:
   ;@ line examples/c/compress.c:25 in 1
-  ld r12, r15, 16, any, keep
-  addi r6, r12, 1
-  ;@ var made 3 r6 in 1
-  ld r12, r15, 16, any, keep
+  ld r12, r15, 24, any, keep
+  addi r0, r12, 1
+  shl r0, r0, r8
+  sar r7, r0, r8
+  ;@ var made 3 r7 in 1
+  ld r12, r15, 24, any, keep
   ldi r13, -8
   and r0, r12, r13
   lip r12, P_1
   ld r12, r12, 0, any, keep
   leab r5, r12, r0
-  ld r12, r15, 16, any, keep
+  ld r12, r15, 24, any, keep
   ldi r13, 3
   shl r4, r12, r13
-  ld r3, r5, 0, any, keep
-  shr r0, r3, r4
+  ld r1, r5, 0, any, keep
+  shr r0, r1, r4
   ldi r13, 0
   xor r0, r0, r13
   ldi r13, 255
   and r0, r0, r13
   shl r0, r0, r4
-  xor r0, r3, r0
+  xor r0, r1, r0
   st r5, r0, 0, any, keep
   ;@ line examples/c/compress.c:26 in 1
-  ld r12, r15, 16, any, keep
-  addi r12, r12, 2
-  st r15, r12, 0, any, keep
-  ;@ var made 3 s0 in 1
+  ld r12, r15, 24, any, keep
+  addi r0, r12, 2
+  shl r0, r0, r8
+  sar r6, r0, r8
+  ;@ var made 3 r6 in 1
   ldi r13, -8
-  and r0, r6, r13
+  and r0, r7, r13
   lip r12, P_1
   ld r12, r12, 0, any, keep
   leab r5, r12, r0
   ldi r13, 3
-  shl r4, r6, r13
-  ld r3, r5, 0, any, keep
-  shr r0, r3, r4
-  xor r0, r0, r1
+  shl r4, r7, r13
+  ld r1, r5, 0, any, keep
+  shr r0, r1, r4
+  xor r0, r0, r2
   ldi r13, 255
   and r0, r0, r13
   shl r0, r0, r4
-  xor r0, r3, r0
+  xor r0, r1, r0
   st r5, r0, 0, any, keep
   ;@ var at 3 - in 1
   ;@ var made 3 - in 1
-  mov r4, r2
+  mov r4, r3
   ;@ line examples/c/compress.c:29 in 1
   br L13
 L12:
   ;@ line examples/c/compress.c:30 in 1
-  ;@ var made 3 s16 in 1
-  ;@ var at 3 r11+1 in 1
-  addi r1, r11, 72
+  ;@ var made 3 s24 in 1
+  ;@ var at 3 s0+1 in 1
+  ld r12, r15, 0, any, keep
+  addi r1, r12, 72
   ldi r13, -8
   and r0, r1, r13
-  leab r0, r8, r0
+  leab r0, r9, r0
   ldi r13, 3
   shl r1, r1, r13
   ld r0, r0, 0, any, keep
   shr r4, r0, r1
-  ;@ var made 3 s16+1 in 1
-  ld r12, r15, 16, any, keep
-  st r15, r12, 0, any, keep
+  ;@ var made 3 s24+1 in 1
+  ld r6, r15, 24, any, keep
   ;@ var made 3 - in 1
-  ldi r2, 1
+  ldi r3, 1
 L13:
   ;@ var at 3 - in 1
-  ld r12, r15, 0, any, keep
-  ldi r13, -8
-  and r0, r12, r13
-  lip r12, P_1
-  ld r12, r12, 0, any, keep
-  leab r5, r12, r0
-  ld r12, r15, 0, any, keep
-  ldi r13, 3
-  shl r3, r12, r13
-  ld r1, r5, 0, any, keep
-  shr r0, r1, r3
-  xor r0, r0, r4
-  ldi r13, 255
-  and r0, r0, r13
-  shl r0, r0, r3
-  xor r0, r1, r0
-  st r5, r0, 0, any, keep
-  ld r12, r15, 0, any, keep
-  addi r12, r12, 1
-  st r15, r12, 16, any, keep
-  add r11, r2, r11
-  ;@ line examples/c/compress.c:15 in 1
-  ;@ var made 3 s16 in 1
-  ;@ var at 3 r11 in 1
-  ldi r13, 178
-  lts r0, r11, r13
-  bnz r0, L2
-L14:
-  ;@ line examples/c/compress.c:39 in 2
-  ;@ var at 3 - in 1
-  ;@ var size 3 s16
-  ;@ var size 3 s16 in 2
-  ;@ var to 4 @unpacked in 2
-  ;@ var made 3 0 in 2
-  ;@ var at 3 0 in 2
-  ldi r12, -1
-  ld r13, r15, 0, any, keep
-  lts r0, r12, r13
-  bnz r0, L42
-L43:
-  ldi r7, 0
-  br L23
-L42:
-  ldi r6, 0
-  ldi r7, 0
-L15:
-  ;@ line examples/c/compress.c:40 in 2
-  ;@ var at 3 r6 in 2
-  ;@ var made 3 r7 in 2
   ldi r13, -8
   and r0, r6, r13
   lip r12, P_1
   ld r12, r12, 0, any, keep
+  leab r5, r12, r0
+  ldi r13, 3
+  shl r2, r6, r13
+  ld r1, r5, 0, any, keep
+  shr r0, r1, r2
+  xor r0, r0, r4
+  ldi r13, 255
+  and r0, r0, r13
+  shl r0, r0, r2
+  xor r0, r1, r0
+  st r5, r0, 0, any, keep
+  addi r0, r6, 1
+  shl r0, r0, r8
+  sar r12, r0, r8
+  st r15, r12, 24, any, keep
+  ld r13, r15, 0, any, keep
+  add r0, r3, r13
+  shl r0, r0, r8
+  sar r12, r0, r8
+  st r15, r12, 0, any, keep
+  ;@ line examples/c/compress.c:15 in 1
+  ;@ var made 3 s24 in 1
+  ;@ var at 3 s0 in 1
+  ld r12, r15, 0, any, keep
+  ldi r13, 178
+  lts r0, r12, r13
+  bnz r0, L2
+L14:
+  ;@ line examples/c/compress.c:39 in 2
+  ;@ var at 3 - in 1
+  ;@ var size 3 s24
+  ;@ var size 3 s24 in 2
+  ;@ var to 4 @unpacked in 2
+  ;@ var made 3 0 in 2
+  ;@ var at 3 0 in 2
+  ldi r13, 2147483647
+  ltu r0, r6, r13
+  bnz r0, L41
+L42:
+  ldi r7, 0
+  br L22
+L41:
+  ldi r5, 0
+  ldi r7, 0
+L15:
+  ;@ line examples/c/compress.c:40 in 2
+  ;@ var at 3 r5 in 2
+  ;@ var made 3 r7 in 2
+  ldi r13, -8
+  and r0, r5, r13
+  lip r12, P_1
+  ld r12, r12, 0, any, keep
   leab r0, r12, r0
   ldi r13, 3
-  shl r1, r6, r13
+  shl r1, r5, r13
   ld r0, r0, 0, any, keep
   shr r0, r0, r1
   ldi r13, 255
   and r4, r0, r13
   bnz r4, L18
 L16:
-  addi r1, r6, 2
+  addi r0, r5, 2
+  shl r0, r0, r8
+  sar r1, r0, r8
+  ldi r13, -8
+  and r0, r1, r13
+  lip r12, P_1
+  ld r12, r12, 0, any, keep
+  leab r0, r12, r0
+  ldi r13, 3
+  shl r1, r1, r13
+  ld r0, r0, 0, any, keep
+  shr r0, r0, r1
+  ldi r13, 255
+  and r2, r0, r13
+  ;@ line examples/c/compress.c:44 in 2
+  ;@ var i 3 0 in 2
+  bz r2, L20
+L17:
+  addi r0, r5, 1
+  shl r0, r0, r8
+  sar r1, r0, r8
   ldi r13, -8
   and r0, r1, r13
   lip r12, P_1
@@ -340,32 +371,24 @@ L16:
   shr r0, r0, r1
   ldi r13, 255
   and r10, r0, r13
-  ;@ line examples/c/compress.c:44 in 2
-  ;@ var i 3 0 in 2
-  bz r10, L21
-L17:
-  addi r1, r6, 1
-  ldi r13, -8
-  and r0, r1, r13
-  lip r12, P_1
-  ld r12, r12, 0, any, keep
-  leab r0, r12, r0
-  ldi r13, 3
-  shl r1, r1, r13
-  ld r0, r0, 0, any, keep
-  shr r0, r0, r1
-  ldi r13, 255
-  and r9, r0, r13
+  add r0, r7, r2
+  shl r0, r0, r8
+  sar r6, r0, r8
   ;@ var made 3 - in 2
-  ldi r5, 0
-  br L22
+  br L21
 L18:
   ;@ line examples/c/compress.c:41 in 2
   ;@ var i 3 - in 2
   ;@ var made 3 r7 in 2
-  addi r6, r6, 1
-  addi r5, r7, 1
-  ;@ var made 3 r5 in 2
+  addi r0, r5, 1
+  ;@ var at 3 - in 2
+  shl r0, r0, r8
+  sar r5, r0, r8
+  ;@ var at 3 r5 in 2
+  addi r0, r7, 1
+  shl r0, r0, r8
+  sar r6, r0, r8
+  ;@ var made 3 r6 in 2
   addi r1, r7, 72
   ldi r13, -8
   and r0, r1, r13
@@ -382,32 +405,30 @@ L18:
   shl r0, r0, r2
   xor r0, r1, r0
   st r3, r0, 0, any, keep
-  mov r7, r5
+  mov r7, r6
 L19:
   ;@ line examples/c/compress.c:39 in 2
   ;@ var made 3 r7 in 2
-  ld r12, r15, 0, any, keep
-  lts r0, r12, r6
-  bnz r0, L23
-  br L15
+  ld r13, r15, 24, any, keep
+  lts r0, r5, r13
+  bnz r0, L15
+  br L22
 L20:
   ;@ line examples/c/compress.c:46 in 2
-  ldi r13, 32
-  shl r0, r7, r13
   ;@ var made 3 - in 2
-  ldi r13, 32
-  sar r7, r0, r13
-L21:
-  addi r6, r6, 3
-  ;@ line examples/c/compress.c:39 in 2
+  addi r0, r5, 3
   ;@ var at 3 - in 2
+  shl r0, r0, r8
+  sar r5, r0, r8
+  ;@ line examples/c/compress.c:39 in 2
   br L19
-L22:
+L21:
   ;@ line examples/c/compress.c:45 in 2
-  ;@ var at 3 r6 in 2
-  ;@ var i 3 r5 in 2
+  ;@ var at 3 r5 in 2
   ;@ var made 3 r7 in 2
-  sub r0, r7, r9
+  sub r0, r7, r10
+  shl r0, r0, r8
+  sar r0, r0, r8
   addi r1, r0, 72
   ldi r13, -8
   and r0, r1, r13
@@ -435,14 +456,16 @@ L22:
   xor r0, r1, r0
   st r3, r0, 0, any, keep
   ;@ line examples/c/compress.c:44 in 2
-  addi r5, r5, 1
-  addi r7, r7, 1
-  eq r0, r5, r10
+  addi r0, r7, 1
+  ;@ var made 3 - in 2
+  shl r0, r0, r8
+  sar r7, r0, r8
+  ;@ var made 3 r7 in 2
+  eq r0, r7, r6
   bnz r0, L20
-  br L22
-L23:
+  br L21
+L22:
   ;@ var at 3 - in 2
-  ;@ var i 3 - in 2
   ;@ var made 3 - in 2
   ;@ var back 3 r7
   ;@ var number 5 178 in 3
@@ -450,7 +473,7 @@ L23:
   ;@ var rest 6 178 in 3
   ldi r2, 0
   ldi r1, 178
-L24:
+L23:
   ;@ line examples/c/say.h:20 in 3
   ;@ var rest 6 r1 in 3
   ;@ var length 3 r2 in 3
@@ -468,7 +491,7 @@ L24:
   addi r1, r2, 8
   ldi r13, -8
   and r0, r1, r13
-  ld r12, r15, 24, any, keep
+  ld r12, r15, 32, any, keep
   leab r3, r12, r0
   ldi r13, 3
   shl r2, r1, r13
@@ -489,17 +512,17 @@ L49:
   ;@ var length 3 - in 3
   mov r1, r6
   ;@ var rest 6 - in 3
-  br L24
+  br L23
 L48:
-  ldi r9, 3
-L25:
+  ldi r10, 3
+L24:
   ;@ line examples/c/say.h:22 in 3
-  ;@ var length 3 r9 in 3
-  addi r9, r9, -1
-  addi r1, r9, 8
+  ;@ var length 3 r10 in 3
+  addi r10, r10, -1
+  addi r1, r10, 8
   ldi r13, -8
   and r0, r1, r13
-  ld r12, r15, 24, any, keep
+  ld r12, r15, 32, any, keep
   leab r0, r12, r0
   ldi r13, 3
   shl r1, r1, r13
@@ -512,8 +535,8 @@ L25:
   lip r14, 2
   br putchar
   ;@ line examples/c/say.h:21 in 3
-  bnz r9, L25
-L26:
+  bnz r10, L24
+L25:
   ;@ line examples/c/say.h:8 in 4
   ;@ var length 3 - in 3
   ;@ var text 7 @_str in 4
@@ -527,52 +550,54 @@ L26:
   lip r14, 2
   br fwrite
   ;@ line examples/c/say.h:15 in 5
-  ;@ var number 5 s16 in 5
+  ;@ var number 5 s24 in 5
   ;@ var length 3 0 in 5
   ldi r12, 0
-  ld r13, r15, 16, any, keep
+  ld r13, r15, 24, any, keep
   sub r1, r12, r13
-  ld r12, r15, 0, any, keep
-  ldi r13, -1
+  ld r12, r15, 24, any, keep
+  ldi r13, 0
   lts r0, r12, r13
-  mov r9, r1
+  mov r10, r1
   bnz r0, L59
-  ld r9, r15, 16, any, keep
+  ld r10, r15, 24, any, keep
 L59:
   ;@ line examples/c/say.h:16 in 5
+  ;@ var rest 6 r10 in 5
+  ld r12, r15, 24, any, keep
+  ldi r13, 0
+  lts r0, r12, r13
   ;@ var made 3 - in 1
   ;@ var size 3 -
   ;@ var size 3 - in 2
   ;@ var number 5 - in 5
-  ;@ var rest 6 r9 in 5
-  ld r12, r15, 0, any, keep
-  ldi r13, -1
-  lts r0, r12, r13
-  bz r0, L28
-L27:
+  bz r0, L27
+L26:
   ;@ line examples/c/say.h:17 in 5
   ldi r0, 45
   lip r14, 2
   br putchar
-L28:
+L27:
   ldi r1, 0
-L29:
+L28:
   ;@ line examples/c/say.h:20 in 5
   ;@ var length 3 r1 in 5
   ldi r13, 10
-  divu r5, r9, r13
+  divu r5, r10, r13
   ldi r13, 10
   mul r0, r5, r13
-  sub r0, r9, r0
+  sub r0, r10, r0
   ;@ line examples/c/say.h:19 in 5
   ldi r13, 48
   or r4, r0, r13
-  addi r6, r1, 1
-  ;@ var length 3 r6 in 5
+  addi r11, r1, 1
+  shl r0, r11, r8
+  sar r6, r0, r8
+  ;@ var length 3 r11 in 5
   addi r1, r1, 8
   ldi r13, -8
   and r0, r1, r13
-  ld r12, r15, 32, any, keep
+  ld r12, r15, 40, any, keep
   leab r3, r12, r0
   ldi r13, 3
   shl r2, r1, r13
@@ -586,30 +611,30 @@ L29:
   st r3, r0, 0, any, keep
   ;@ var rest 6 r5 in 5
   ldi r13, 10
-  ltu r0, r9, r13
-  bnz r0, L30
+  ltu r0, r10, r13
+  bnz r0, L29
 L51:
+  ;@ var length 3 r6 in 5
   mov r1, r6
   ;@ var length 3 - in 5
-  mov r9, r5
+  mov r10, r5
   ;@ var rest 6 - in 5
-  br L29
-L30:
+  br L28
+L29:
   ;@ line examples/c/say.h:21 in 5
-  ;@ var length 3 r6 in 5
-  ldi r13, 32
-  shl r0, r6, r13
-  ;@ var length 3 - in 5
-  ldi r13, 32
-  sar r9, r0, r13
-L31:
+  ;@ var length 3 r11 in 5
+  bz r6, L31
+L30:
   ;@ line examples/c/say.h:22 in 5
-  ;@ var length 3 r9 in 5
-  addi r9, r9, -1
-  addi r1, r9, 8
+  addi r11, r11, -1
+  ;@ var length 3 - in 5
+  shl r0, r11, r8
+  sar r10, r0, r8
+  ;@ var length 3 r11 in 5
+  addi r1, r10, 8
   ldi r13, -8
   and r0, r1, r13
-  ld r12, r15, 32, any, keep
+  ld r12, r15, 40, any, keep
   leab r0, r12, r0
   ldi r13, 3
   shl r1, r1, r13
@@ -622,21 +647,21 @@ L31:
   lip r14, 2
   br putchar
   ;@ line examples/c/say.h:21 in 5
-  bnz r9, L31
-L32:
+  bnz r10, L30
+L31:
   ;@ line examples/c/compress.c:58
   ;@ var length 3 - in 5
   ldi r13, 178
   eq r0, r7, r13
   ;@ var back 3 -
-  bnz r0, L33
-L53:
+  bnz r0, L32
+L54:
   ldi r5, 0
   lip r4, P_5
   ld r4, r4, 0, any, keep
-  br L34
-L33:
-  mov r0, r8
+  br L33
+L32:
+  mov r0, r9
   lip r1, P_2
   ld r1, r1, 0, any, keep
   ldi r2, 178
@@ -649,7 +674,7 @@ L33:
   ld r4, r4, 0, any, keep
 L60:
   ldi r5, 0
-L34:
+L33:
   ;@ line examples/c/say.h:8 in 6
   ;@ var text 7 r4+r5 in 6
   lip r12, P_3
@@ -672,13 +697,13 @@ L61:
   br fputs
   ;@ line examples/c/compress.c:59
   ldi r0, 0
-  ld r7, r15, 40, any, keep
-  ld r8, r15, 48, any, keep
-  ld r9, r15, 56, any, keep
-  ld r10, r15, 64, any, keep
-  ld r11, r15, 72, any, keep
-  ld r14, r15, 80, any, keep
-  ld r15, r15, 88, any, keep
+  ld r7, r15, 48, any, keep
+  ld r8, r15, 56, any, keep
+  ld r9, r15, 64, any, keep
+  ld r10, r15, 72, any, keep
+  ld r11, r15, 80, any, keep
+  ld r14, r15, 88, any, keep
+  ld r15, r15, 96, any, keep
   jmp r14
 fputs:
   ;@ frame back - caller by 16
@@ -839,7 +864,7 @@ P_4: .ptr ro _str+1
 P_5: .ptr ro _str_2+0
 P_6: .ptr ro _str_1+9
 .segment c_text 8
-  ;@ global text 179 at 72 type 10
+  ;@ global text 179 at 72 type 10 constant
   .fill 9
   .int 0x65746e696f702061
   .int 0x2061207361682072
@@ -872,14 +897,17 @@ P_6: .ptr ro _str_1+9
   ;@ global stdout 8 at 0
   .ptr rw files+8
 .segment _str 4
+  ;@ unnamed at 1 constant
   .int 0x2073657479622000
   .int 0x20656d6f636562
 .segment _str_1 5
+  ;@ unnamed at 9 constant
   .fill 1
   .int 0x6320646e61202c00
   .int 0x6b63616220656d6f
   .int 0xa656c6f687720
 .segment _str_2 4
+  ;@ unnamed at 0 constant
   .int 0x726120646e61202c
   .int 0xa74736f6c2065
 .segment files 4

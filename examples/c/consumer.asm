@@ -1,4 +1,4 @@
-.segment consumer_text 9
+.segment consumer_text 10
 start:
   ldi r0, 1
   ldi r1, 0
@@ -15,14 +15,14 @@ consumer_main:
   st r15, r10, 24, any, keep
   st r15, r11, 32, any, keep
   st r15, r14, 40, any, keep
-  lip r8, P_0
-  ld r8, r8, 0, any, keep
-  ldi r9, 32
-  ldi r10, 3
-  ldi r11, 54
+  lip r9, P_0
+  ld r9, r9, 0, any, keep
+  ldi r8, 32
+  ldi r10, 63
+  ldi r11, 4
   ;@ line examples/c/consumer.c:10
   ;@ var i 1 0
-  mov r0, r8
+  mov r0, r9
   lip r14, 2
   br consumer_mm_take
   ;@ line examples/c/consumer.c:11
@@ -34,23 +34,34 @@ L4:
 L2:
   ;@ line examples/c/consumer.c:13
   ;@ var i 1 r7
-  shl r0, r0, r9
-  sar r0, r0, r9
+  shl r0, r0, r8
+  sar r0, r0, r8
   lip r14, 2
   br consumer_putchar
   ;@ line examples/c/consumer.c:9
   addi r7, r7, 1
+  ;@ var i 1 -
+  shl r0, r7, r8
+  sar r0, r0, r8
   ;@ line examples/c/consumer.c:10
-  and r0, r7, r10
-  shl r3, r0, r10
-  add r2, r8, r3
-  isptr r0, r8
+  ;@ var i 1 r7
+  sar r1, r0, r10
+  xor r0, r0, r1
+  sub r0, r0, r1
+  remu r0, r0, r11
+  xor r0, r0, r1
+  sub r0, r0, r1
+  ldi r13, 3
+  shl r3, r0, r13
+  add r2, r9, r3
+  isptr r0, r9
   bz r0, L6
-  shr r0, r8, r11
-  xor r1, r2, r8
+  ldi r0, 54
+  shr r0, r9, r0
+  xor r1, r2, r9
   shr r1, r1, r0
   bnz r1, L6
-  lea r2, r8, r3
+  lea r2, r9, r3
 L6:
   mov r0, r2
   lip r14, 2

@@ -24,12 +24,11 @@ guest_main:
   st r15, r10, 32, any, keep
   st r15, r11, 40, any, keep
   st r15, r14, 48, any, keep
-  leai r8, r15, 72
+  leai r10, r15, 72
   ldi r14, 5
-  subseg r8, r8, r14
-  ldi r9, 10
-  ldi r10, 3
-  ldi r11, -8
+  subseg r10, r10, r14
+  ldi r11, 10
+  ldi r9, 32
   ;@ var i 1 0
   ldi r12, 0
   st r15, r12, 0, any, keep
@@ -61,9 +60,9 @@ L3:
   ldi r13, 0
   lts r1, r0, r13
   mov r7, r2
-  bnz r1, L13
+  bnz r1, L14
   mov r7, r0
-L13:
+L14:
   ;@ line examples/c/say.h:16 in 1
   ;@ var rest 3 r7 in 1
   ldi r13, 0
@@ -80,18 +79,22 @@ L5:
 L6:
   ;@ line examples/c/say.h:20 in 1
   ;@ var length 1 r1 in 1
-  divu r5, r7, r9
-  mul r0, r5, r9
+  divu r5, r7, r11
+  mul r0, r5, r11
   sub r0, r7, r0
   ;@ line examples/c/say.h:19 in 1
   ldi r13, 48
   or r4, r0, r13
-  addi r6, r1, 1
-  ;@ var length 1 r6 in 1
+  addi r8, r1, 1
+  shl r0, r8, r9
+  sar r6, r0, r9
+  ;@ var length 1 r8 in 1
   addi r1, r1, 8
-  and r0, r1, r11
-  leab r3, r8, r0
-  shl r2, r1, r10
+  ldi r13, -8
+  and r0, r1, r13
+  leab r3, r10, r0
+  ldi r13, 3
+  shl r2, r1, r13
   ld r1, r3, 0, any, keep
   shr r0, r1, r2
   xor r0, r0, r4
@@ -101,9 +104,10 @@ L6:
   xor r0, r1, r0
   st r3, r0, 0, any, keep
   ;@ var rest 3 r5 in 1
-  ltu r0, r7, r9
+  ltu r0, r7, r11
   bnz r0, L7
 L10:
+  ;@ var length 1 r6 in 1
   mov r1, r6
   ;@ var length 1 - in 1
   mov r7, r5
@@ -111,20 +115,21 @@ L10:
   br L6
 L7:
   ;@ line examples/c/say.h:21 in 1
-  ;@ var length 1 r6 in 1
-  ldi r13, 32
-  shl r0, r6, r13
-  ;@ var length 1 - in 1
-  ldi r13, 32
-  sar r7, r0, r13
+  ;@ var length 1 r8 in 1
+  bz r6, L9
 L8:
   ;@ line examples/c/say.h:22 in 1
-  ;@ var length 1 r7 in 1
-  addi r7, r7, -1
+  addi r8, r8, -1
+  ;@ var length 1 - in 1
+  shl r0, r8, r9
+  sar r7, r0, r9
+  ;@ var length 1 r8 in 1
   addi r1, r7, 8
-  and r0, r1, r11
-  leab r0, r8, r0
-  shl r1, r1, r10
+  ldi r13, -8
+  and r0, r1, r13
+  leab r0, r10, r0
+  ldi r13, 3
+  shl r1, r1, r13
   ld r0, r0, 0, any, keep
   shr r0, r0, r1
   ldi r13, 56
@@ -141,7 +146,7 @@ L9:
   lip r12, P_1
   ld r12, r12, 0, any, keep
   ld r1, r12, 0, any, keep
-  ldi r0, 32
+  mov r0, r9
   lip r14, 2
   br guest_fputc
   ;@ line examples/c/guest.c:9
@@ -149,7 +154,8 @@ L9:
   addi r12, r12, 1
   st r15, r12, 0, any, keep
   ld r12, r15, 0, any, keep
-  eq r0, r12, r10
+  ldi r13, 3
+  eq r0, r12, r13
   bnz r0, L2
   br L3
 guest_fputc:

@@ -44,8 +44,8 @@ keeper_main:
   ldi r14, 5
   subseg r12, r12, r14
   st r15, r12, 16, any, keep
-  ldi r10, 10
-  ldi r11, 56
+  ldi r11, 10
+  ldi r10, 32
 L2:
   ;@ line examples/c/keeper.c:45
   ld r0, r15, 16, any, keep
@@ -78,9 +78,9 @@ L2:
   ldi r13, 0
   lts r0, r8, r13
   mov r7, r1
-  bnz r0, L21
+  bnz r0, L23
   ld r7, r15, 0, any, keep
-L21:
+L23:
   ;@ line examples/c/say.h:16 in 3
   ;@ var rest 8 r7 in 3
   ldi r13, 0
@@ -96,14 +96,16 @@ L4:
 L5:
   ;@ line examples/c/say.h:20 in 3
   ;@ var length 7 r1 in 3
-  divu r5, r7, r10
-  mul r0, r5, r10
+  divu r5, r7, r11
+  mul r0, r5, r11
   sub r0, r7, r0
   ;@ line examples/c/say.h:19 in 3
   ldi r13, 48
   or r4, r0, r13
-  addi r6, r1, 1
-  ;@ var length 7 r6 in 3
+  addi r8, r1, 1
+  shl r0, r8, r10
+  sar r6, r0, r10
+  ;@ var length 7 r8 in 3
   addi r1, r1, 8
   ldi r13, -8
   and r0, r1, r13
@@ -119,9 +121,10 @@ L5:
   xor r0, r1, r0
   st r3, r0, 0, any, keep
   ;@ var rest 8 r5 in 3
-  ltu r0, r7, r10
+  ltu r0, r7, r11
   bnz r0, L6
 L17:
+  ;@ var length 7 r6 in 3
   mov r1, r6
   ;@ var length 7 - in 3
   mov r7, r5
@@ -129,16 +132,15 @@ L17:
   br L5
 L6:
   ;@ line examples/c/say.h:21 in 3
-  ;@ var length 7 r6 in 3
-  ldi r13, 32
-  shl r0, r6, r13
-  ;@ var length 7 - in 3
-  ldi r13, 32
-  sar r7, r0, r13
+  ;@ var length 7 r8 in 3
+  bz r6, L8
 L7:
   ;@ line examples/c/say.h:22 in 3
-  ;@ var length 7 r7 in 3
-  addi r7, r7, -1
+  addi r8, r8, -1
+  ;@ var length 7 - in 3
+  shl r0, r8, r10
+  sar r7, r0, r10
+  ;@ var length 7 r8 in 3
   addi r1, r7, 8
   ldi r13, -8
   and r0, r1, r13
@@ -147,8 +149,10 @@ L7:
   shl r1, r1, r13
   ld r0, r0, 0, any, keep
   shr r0, r0, r1
-  shl r0, r0, r11
-  sar r0, r0, r11
+  ldi r13, 56
+  shl r0, r0, r13
+  ldi r13, 56
+  sar r0, r0, r13
   lip r14, 2
   br keeper_putchar
   ;@ line examples/c/say.h:21 in 3
@@ -157,8 +161,10 @@ L8:
   ;@ line examples/c/keeper.c:22 in 1
   ;@ var length 7 - in 3
   ld r0, r15, 160, any, keep
-  shl r0, r0, r11
-  sar r1, r0, r11
+  ldi r13, 56
+  shl r0, r0, r13
+  ldi r13, 56
+  sar r1, r0, r13
   ldi r13, 9
   eq r0, r1, r13
   bnz r0, L9
@@ -243,14 +249,16 @@ L13:
   ;@ line examples/c/say.h:20 in 8
   ;@ var number 3 - in 8
   ;@ var length 7 r1 in 8
-  divu r6, r5, r10
-  mul r0, r6, r10
+  divu r6, r5, r11
+  mul r0, r6, r11
   sub r0, r5, r0
   ;@ line examples/c/say.h:19 in 8
   ldi r13, 48
   or r4, r0, r13
-  addi r7, r1, 1
-  ;@ var length 7 r7 in 8
+  addi r8, r1, 1
+  shl r0, r8, r10
+  sar r7, r0, r10
+  ;@ var length 7 r8 in 8
   addi r1, r1, 8
   ldi r13, -8
   and r0, r1, r13
@@ -267,9 +275,10 @@ L13:
   xor r0, r1, r0
   st r3, r0, 0, any, keep
   ;@ var rest 8 r6 in 8
-  ltu r0, r5, r10
+  ltu r0, r5, r11
   bnz r0, L14
-L19:
+L20:
+  ;@ var length 7 r7 in 8
   mov r1, r7
   ;@ var length 7 - in 8
   mov r5, r6
@@ -277,16 +286,15 @@ L19:
   br L13
 L14:
   ;@ line examples/c/say.h:21 in 8
-  ;@ var length 7 r7 in 8
-  ldi r13, 32
-  shl r0, r7, r13
-  ;@ var length 7 - in 8
-  ldi r13, 32
-  sar r7, r0, r13
+  ;@ var length 7 r8 in 8
+  bz r7, L16
 L15:
   ;@ line examples/c/say.h:22 in 8
-  ;@ var length 7 r7 in 8
-  addi r7, r7, -1
+  addi r8, r8, -1
+  ;@ var length 7 - in 8
+  shl r0, r8, r10
+  sar r7, r0, r10
+  ;@ var length 7 r8 in 8
   addi r1, r7, 8
   ldi r13, -8
   and r0, r1, r13
@@ -296,8 +304,10 @@ L15:
   shl r1, r1, r13
   ld r0, r0, 0, any, keep
   shr r0, r0, r1
-  shl r0, r0, r11
-  sar r0, r0, r11
+  ldi r13, 56
+  shl r0, r0, r13
+  ldi r13, 56
+  sar r0, r0, r13
   lip r14, 2
   br keeper_putchar
   ;@ line examples/c/say.h:21 in 8
@@ -337,15 +347,13 @@ keeper_mm_set_register:
   mov r3, r1
   ldi r13, 16
   ltu r1, r3, r13
-  bz r1, L39
+  bz r1, L41
   ldi r13, 3
   shl r1, r3, r13
-  lip r12, L40
+  lip r12, L42
   lea r12, r12, r1
   jmp r12
-L40:
-  br L23
-  br L24
+L42:
   br L25
   br L26
   br L27
@@ -360,72 +368,74 @@ L40:
   br L36
   br L37
   br L38
-L23:
-  wreg r0, r2, 0
   br L39
-L24:
-  wreg r0, r2, 1
-  br L39
+  br L40
 L25:
-  wreg r0, r2, 2
-  br L39
+  wreg r0, r2, 0
+  br L41
 L26:
-  wreg r0, r2, 3
-  br L39
+  wreg r0, r2, 1
+  br L41
 L27:
-  wreg r0, r2, 4
-  br L39
+  wreg r0, r2, 2
+  br L41
 L28:
-  wreg r0, r2, 5
-  br L39
+  wreg r0, r2, 3
+  br L41
 L29:
-  wreg r0, r2, 6
-  br L39
+  wreg r0, r2, 4
+  br L41
 L30:
-  wreg r0, r2, 7
-  br L39
+  wreg r0, r2, 5
+  br L41
 L31:
-  wreg r0, r2, 8
-  br L39
+  wreg r0, r2, 6
+  br L41
 L32:
-  wreg r0, r2, 9
-  br L39
+  wreg r0, r2, 7
+  br L41
 L33:
-  wreg r0, r2, 10
-  br L39
+  wreg r0, r2, 8
+  br L41
 L34:
-  wreg r0, r2, 11
-  br L39
+  wreg r0, r2, 9
+  br L41
 L35:
-  wreg r0, r2, 12
-  br L39
+  wreg r0, r2, 10
+  br L41
 L36:
-  wreg r0, r2, 13
-  br L39
+  wreg r0, r2, 11
+  br L41
 L37:
-  wreg r0, r2, 14
-  br L39
+  wreg r0, r2, 12
+  br L41
 L38:
-  wreg r0, r2, 15
+  wreg r0, r2, 13
+  br L41
 L39:
+  wreg r0, r2, 14
+  br L41
+L40:
+  wreg r0, r2, 15
+L41:
   jmp r14
 keeper_mm_resume:
   ;@ frame back - caller by 0
   mov r2, r0
-  bz r1, L42
+  bz r1, L44
   ldi r13, 1
   eq r0, r1, r13
-  bnz r0, L43
-  br L44
-L42:
-  resume r2, retry
-  br L45
-L43:
-  resume r2, skip
-  br L45
+  bnz r0, L45
+  br L46
 L44:
-  resume r2, kill
+  resume r2, retry
+  br L47
 L45:
+  resume r2, skip
+  br L47
+L46:
+  resume r2, kill
+L47:
   jmp r14
 keeper_putchar:
   ;@ frame back - caller by 0
@@ -447,18 +457,18 @@ keeper_fwrite:
   ldi r8, 7
   ldi r3, 56
   mul r4, r9, r1
-  bz r4, L48
-L50:
+  bz r4, L50
+L52:
   mov r2, r6
-  br L49
-L48:
+  br L51
+L50:
   mov r0, r9
   ld r7, r15, 0, any, keep
   ld r8, r15, 8, any, keep
   ld r9, r15, 16, any, keep
   leai r15, r15, 24
   jmp r14
-L49:
+L51:
   lea r1, r5, r2
   and r0, r1, r8
   sub r0, r6, r0
@@ -471,8 +481,8 @@ L49:
   out r0
   addi r2, r2, 1
   eq r0, r2, r4
-  bnz r0, L48
-  br L49
+  bnz r0, L50
+  br L51
 keeper___mm_event:
   mov r12, r0
   evt r0
@@ -500,19 +510,24 @@ P_5: .ptr ro keeper__str_4+1
   ;@ global stdout 8 at 0
   .ptr rw keeper_files+8
 .segment keeper__str 3
+  ;@ unnamed at 2 constant
   .int 0x20746f6c730000
 .segment keeper__str_3 4
+  ;@ unnamed at 4 constant
   .int 0x7361682000000000
   .int 0x20746c75616620
 .segment keeper__str_4 4
+  ;@ unnamed at 1 constant
   .int 0x7369207469203a00
   .int 0xa6465646e6520
 .segment keeper__str_1 5
+  ;@ unnamed at 0 constant
   .int 0x7365646976696420
   .int 0x6f72657a20796220
   .int 0x692031207962203a
   .int 0xa64616574736e
 .segment keeper__str_2 5
+  ;@ unnamed at 12 constant
   .fill 1
   .int 0x6c61632000000000
   .int 0x67207469203a736c

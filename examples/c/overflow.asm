@@ -213,21 +213,25 @@ P_6: .ptr ro _str_3+6
 .segment name 3
   ;@ global name 8 at 0 type 4
 .segment _str 3
+  ;@ unnamed at 1 constant
   .int 0x72657472614300
 .segment allowed 3
   ;@ global allowed 8 at 0 type 5
 .segment _str_2 5
+  ;@ unnamed at 11 constant
   .fill 1
   .int 0x6420656874000000
   .int 0x7961747320726f6f
   .int 0xa747568732073
 .segment _str_1 4
+  ;@ unnamed at 0 constant
   .int 0x726f6f6420656874
   .int 0xa736e65706f20
 .segment stdout 3
   ;@ global stdout 8 at 0
   .ptr rw files+8
 .segment _str_3 4
+  ;@ unnamed at 6 constant
   .int 0x4141000000000000
   .int 0x1414141414141
 .segment files 4

@@ -24,9 +24,10 @@ producer_main:
   ;@ var i 1 0
   ldi r7, 0
 L2:
-  ;@ line examples/c/producer.c:12
+  ;@ line examples/c/producer.c:11
   ;@ var i 1 r7
   and r0, r7, r8
+  ;@ line examples/c/producer.c:12
   shl r4, r0, r8
   addi r1, r7, 9
   ldi r13, -8
@@ -86,6 +87,7 @@ P_1: .ptr ro producer__str+9
   .empty .int 0
   .empty .int 0
 .segment producer__str 5
+  ;@ unnamed at 9 constant
   .fill 1
   .int 0x6465647261756700
   .int 0x7265746e696f7020

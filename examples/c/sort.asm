@@ -12,7 +12,7 @@ main:
   ;@ inlined 3 say_number at examples/c/sort.c:63
   ;@ inlined 4 say at examples/c/sort.c:66
   ;@ inlined 5 say at examples/c/sort.c:70
-  ;@ frame back 80 caller at 88
+  ;@ frame back 72 caller at 80
   ;@ local digits 20 at 104 log 5 type 6 in 3
   ;@ local first 96 at 288 log 7 type 7
   ;@ local second 96 at 416 log 7 type 7
@@ -24,20 +24,20 @@ main:
   ldi r12, -768
   sub r13, r12, r13
   lea r12, r15, r13
-  st r12, r15, 88, any, keep
+  st r12, r15, 80, any, keep
   mov r15, r12
-  st r15, r7, 40, any, keep
-  st r15, r8, 48, any, keep
-  st r15, r9, 56, any, keep
-  st r15, r10, 64, any, keep
-  st r15, r11, 72, any, keep
-  st r15, r14, 80, any, keep
-  leai r9, r15, 104
+  st r15, r7, 32, any, keep
+  st r15, r8, 40, any, keep
+  st r15, r9, 48, any, keep
+  st r15, r10, 56, any, keep
+  st r15, r11, 64, any, keep
+  st r15, r14, 72, any, keep
+  leai r11, r15, 104
   ldi r14, 5
-  subseg r9, r9, r14
-  leai r8, r15, 288
+  subseg r11, r11, r14
+  leai r10, r15, 288
   ldi r14, 7
-  subseg r8, r8, r14
+  subseg r10, r10, r14
   leai r12, r15, 416
   ldi r14, 7
   subseg r12, r12, r14
@@ -49,23 +49,22 @@ main:
   leai r12, r15, 672
   ldi r14, 7
   subseg r12, r12, r14
-  st r15, r12, 32, any, keep
+  st r15, r12, 0, any, keep
   leai r12, r15, 144
   ldi r14, 6
   subseg r12, r12, r14
   st r15, r12, 24, any, keep
+  ldi r9, 32
   ldi r6, 1103515245
   ldi r7, 0
   ldhi r7, 4294967295
-  ldi r11, 2
-  ldi r10, 4
+  ldi r8, 16
   ;@ line examples/c/sort.c:56
   ;@ var i 1 0
   lip r12, P_0
   ld r12, r12, 0, any, keep
   ld r0, r12, -4, any, keep
-  ldi r13, 32
-  shr r5, r0, r13
+  shr r5, r0, r9
   ldi r4, 0
   ;@ line examples/c/sort.c:57
   br L8
@@ -74,81 +73,76 @@ L2:
   lip r12, P_0
   ld r12, r12, 0, any, keep
   ld r0, r12, -4, any, keep
-  ldi r13, 32
-  shl r0, r0, r13
-  ldi r13, 32
-  shr r1, r0, r13
-  ldi r13, 32
-  shl r0, r5, r13
+  shl r0, r0, r9
+  shr r1, r0, r9
+  shl r0, r5, r9
   or r0, r1, r0
   lip r12, P_0
   ld r12, r12, 0, any, keep
   st r12, r0, -4, any, keep
-  ldi r12, 1
-  st r15, r12, 0, any, keep
+  ldi r8, 1
 L3:
   ;@ line examples/c/sort.c:19 in 1
-  ;@ var i 1 s0 in 1
-  ld r12, r15, 0, any, keep
-  shl r0, r12, r11
-  lea r0, r8, r0
-  and r6, r0, r10
-  bnz r6, L31
+  ;@ var i 1 r8 in 1
+  ldi r13, 2
+  shl r0, r8, r13
+  lea r0, r10, r0
+  ldi r14, 4
+  and r6, r0, r14
+  bnz r6, L32
   ld r6, r0, 0, any, keep
-  ldi r14, 32
-  shl r6, r6, r14
-  br L32
-L31:
-  ld r6, r0, -4, any, keep
+  shl r6, r6, r9
+  br L33
 L32:
-  ldi r14, 32
-  sar r6, r6, r14
+  ld r6, r0, -4, any, keep
+L33:
+  sar r6, r6, r9
   ;@ var x 1 r6 in 1
-  ;@ var j 1 s0 in 1
-  ld r4, r15, 0, any, keep
+  ;@ var j 1 r8 in 1
+  mov r4, r8
 L4:
   ;@ line examples/c/sort.c:20 in 1
   ;@ var j 1 r4 in 1
   addi r5, r4, -1
   and r0, r5, r7
-  shl r0, r0, r11
-  lea r0, r8, r0
-  and r3, r0, r10
-  bnz r3, L33
+  ldi r13, 2
+  shl r0, r0, r13
+  lea r0, r10, r0
+  ldi r14, 4
+  and r3, r0, r14
+  bnz r3, L34
   ld r3, r0, 0, any, keep
-  ldi r14, 32
-  shl r3, r3, r14
-  br L34
-L33:
-  ld r3, r0, -4, any, keep
+  shl r3, r3, r9
+  br L35
 L34:
-  ldi r14, 32
-  sar r3, r3, r14
+  ld r3, r0, -4, any, keep
+L35:
+  sar r3, r3, r9
   lts r0, r6, r3
   bz r0, L6
 L5:
   ;@ line examples/c/sort.c:21 in 1
-  shl r0, r4, r11
-  lea r2, r8, r0
-  and r0, r2, r10
-  bnz r0, L35
+  ldi r13, 2
+  shl r0, r4, r13
+  lea r2, r10, r0
+  ldi r14, 4
+  and r0, r2, r14
+  bnz r0, L36
   ld r0, r2, 0, any, keep
   xor r1, r0, r3
-  ldi r14, 32
-  shl r1, r1, r14
-  shr r1, r1, r14
+  shl r1, r1, r9
+  shr r1, r1, r9
   xor r0, r0, r1
   st r2, r0, 0, any, keep
-  br L36
-L35:
+  br L37
+L36:
   ld r0, r2, -4, any, keep
-  ldi r14, 32
-  shl r0, r0, r14
-  shr r0, r0, r14
-  shl r1, r3, r14
+  shl r0, r0, r9
+  shr r0, r0, r9
+  shl r1, r3, r9
   or r0, r0, r1
   st r2, r0, -4, any, keep
-L36:
+L37:
   ;@ line examples/c/sort.c:20 in 1
   ;@ var j 1 r5 in 1
   ldi r12, 1
@@ -165,53 +159,48 @@ L23:
   br L4
 L6:
   ;@ line examples/c/sort.c:22 in 1
-  ldi r13, 32
-  shl r0, r4, r13
-  ldi r13, 32
-  sar r0, r0, r13
-  shl r0, r0, r11
-  lea r2, r8, r0
-  and r0, r2, r10
-  bnz r0, L37
+  shl r0, r4, r9
+  sar r0, r0, r9
+  ldi r13, 2
+  shl r0, r0, r13
+  lea r2, r10, r0
+  ldi r14, 4
+  and r0, r2, r14
+  bnz r0, L38
   ld r0, r2, 0, any, keep
   xor r1, r0, r6
-  ldi r14, 32
-  shl r1, r1, r14
-  shr r1, r1, r14
+  shl r1, r1, r9
+  shr r1, r1, r9
   xor r0, r0, r1
   st r2, r0, 0, any, keep
-  br L38
-L37:
+  br L39
+L38:
   ld r0, r2, -4, any, keep
-  ldi r14, 32
-  shl r0, r0, r14
-  shr r0, r0, r14
-  shl r1, r6, r14
+  shl r0, r0, r9
+  shr r0, r0, r9
+  shl r1, r6, r9
   or r0, r0, r1
   st r2, r0, -4, any, keep
-L38:
+L39:
   ;@ line examples/c/sort.c:18 in 1
   ;@ var x 1 - in 1
-  ld r12, r15, 0, any, keep
-  addi r12, r12, 1
-  st r15, r12, 0, any, keep
-  ld r12, r15, 0, any, keep
+  addi r8, r8, 1
   ldi r13, 24
-  eq r0, r12, r13
+  eq r0, r8, r13
   bz r0, L3
 L7:
   ;@ line examples/c/sort.c:60
   ;@ var i 1 - in 1
   ld r0, r15, 8, any, keep
-  ld r1, r15, 32, any, keep
+  ld r1, r15, 0, any, keep
   ldi r2, 0
   ldi r3, 24
   lip r14, 2
   br by_merging
   ;@ line examples/c/sort.c:61
-  mov r2, r10
   ld r0, r15, 16, any, keep
   ldi r1, 24
+  ldi r2, 4
   lip r3, compare
   lip r14, 2
   br qsort
@@ -227,76 +216,75 @@ L8:
   addi r5, r0, 12345
   and r0, r5, r7
   ;@ line examples/c/sort.c:13 in 2
-  ldi r13, 16
-  shr r0, r0, r13
+  shr r0, r0, r8
   ldi r13, 1000
   remu r3, r0, r13
   ;@ line examples/c/sort.c:58
-  shl r0, r4, r11
+  ldi r13, 2
+  shl r0, r4, r13
   ld r12, r15, 16, any, keep
   lea r2, r12, r0
-  and r0, r2, r10
-  bnz r0, L39
+  ldi r14, 4
+  and r0, r2, r14
+  bnz r0, L40
   ld r0, r2, 0, any, keep
   xor r1, r0, r3
-  ldi r14, 32
-  shl r1, r1, r14
-  shr r1, r1, r14
+  shl r1, r1, r9
+  shr r1, r1, r9
   xor r0, r0, r1
   st r2, r0, 0, any, keep
-  br L40
-L39:
+  br L41
+L40:
   ld r0, r2, -4, any, keep
-  ldi r14, 32
-  shl r0, r0, r14
-  shr r0, r0, r14
-  shl r1, r3, r14
+  shl r0, r0, r9
+  shr r0, r0, r9
+  shl r1, r3, r9
   or r0, r0, r1
   st r2, r0, -4, any, keep
-L40:
-  shl r0, r4, r11
+L41:
+  ldi r13, 2
+  shl r0, r4, r13
   ld r12, r15, 8, any, keep
   lea r2, r12, r0
-  and r0, r2, r10
-  bnz r0, L41
+  ldi r14, 4
+  and r0, r2, r14
+  bnz r0, L42
   ld r0, r2, 0, any, keep
   xor r1, r0, r3
-  ldi r14, 32
-  shl r1, r1, r14
-  shr r1, r1, r14
+  shl r1, r1, r9
+  shr r1, r1, r9
   xor r0, r0, r1
   st r2, r0, 0, any, keep
-  br L42
-L41:
-  ld r0, r2, -4, any, keep
-  ldi r14, 32
-  shl r0, r0, r14
-  shr r0, r0, r14
-  shl r1, r3, r14
-  or r0, r0, r1
-  st r2, r0, -4, any, keep
+  br L43
 L42:
-  shl r0, r4, r11
-  lea r2, r8, r0
-  and r0, r2, r10
-  bnz r0, L43
-  ld r0, r2, 0, any, keep
-  xor r1, r0, r3
-  ldi r14, 32
-  shl r1, r1, r14
-  shr r1, r1, r14
-  xor r0, r0, r1
-  st r2, r0, 0, any, keep
-  br L44
-L43:
   ld r0, r2, -4, any, keep
-  ldi r14, 32
-  shl r0, r0, r14
-  shr r0, r0, r14
-  shl r1, r3, r14
+  shl r0, r0, r9
+  shr r0, r0, r9
+  shl r1, r3, r9
   or r0, r0, r1
   st r2, r0, -4, any, keep
+L43:
+  ldi r13, 2
+  shl r0, r4, r13
+  lea r2, r10, r0
+  ldi r14, 4
+  and r0, r2, r14
+  bnz r0, L44
+  ld r0, r2, 0, any, keep
+  xor r1, r0, r3
+  shl r1, r1, r9
+  shr r1, r1, r9
+  xor r0, r0, r1
+  st r2, r0, 0, any, keep
+  br L45
 L44:
+  ld r0, r2, -4, any, keep
+  shl r0, r0, r9
+  shr r0, r0, r9
+  shl r1, r3, r9
+  or r0, r0, r1
+  st r2, r0, -4, any, keep
+L45:
   ;@ line examples/c/sort.c:57
   addi r4, r4, 1
   ldi r13, 24
@@ -306,13 +294,13 @@ L44:
 L9:
   ;@ line examples/c/sort.c:66
   ;@ var i 1 -
-  mov r0, r8
+  mov r0, r10
   ld r1, r15, 8, any, keep
   ldi r2, 96
   lip r14, 2
   br memcmp
   bz r0, L17
-L29:
+L30:
   ldi r3, 0
   lip r2, P_1
   ld r2, r2, 0, any, keep
@@ -321,19 +309,19 @@ L10:
   ;@ line examples/c/sort.c:63
   ;@ var i 1 s0
   ld r12, r15, 0, any, keep
-  shl r0, r12, r11
-  lea r1, r8, r0
-  and r0, r1, r10
-  bnz r0, L45
+  ldi r13, 2
+  shl r0, r12, r13
+  lea r1, r10, r0
+  ldi r14, 4
+  and r0, r1, r14
+  bnz r0, L46
   ld r0, r1, 0, any, keep
-  ldi r14, 32
-  shl r0, r0, r14
-  br L46
-L45:
-  ld r0, r1, -4, any, keep
+  shl r0, r0, r9
+  br L47
 L46:
-  ldi r14, 32
-  sar r0, r0, r14
+  ld r0, r1, -4, any, keep
+L47:
+  sar r0, r0, r9
   ;@ line examples/c/say.h:15 in 3
   ;@ var number 2 r0 in 3
   ;@ var length 1 0 in 3
@@ -342,9 +330,9 @@ L46:
   ldi r13, 0
   lts r1, r0, r13
   mov r7, r2
-  bnz r1, L47
+  bnz r1, L48
   mov r7, r0
-L47:
+L48:
   ;@ line examples/c/say.h:16 in 3
   ;@ var rest 3 r7 in 3
   ldi r13, 0
@@ -369,12 +357,14 @@ L13:
   ;@ line examples/c/say.h:19 in 3
   ldi r13, 48
   or r4, r0, r13
-  addi r6, r1, 1
-  ;@ var length 1 r6 in 3
+  addi r8, r1, 1
+  shl r0, r8, r9
+  sar r6, r0, r9
+  ;@ var length 1 r8 in 3
   addi r1, r1, 8
   ldi r13, -8
   and r0, r1, r13
-  leab r3, r9, r0
+  leab r3, r11, r0
   ldi r13, 3
   shl r2, r1, r13
   ld r1, r3, 0, any, keep
@@ -390,6 +380,7 @@ L13:
   ltu r0, r7, r13
   bnz r0, L14
 L26:
+  ;@ var length 1 r6 in 3
   mov r1, r6
   ;@ var length 1 - in 3
   mov r7, r5
@@ -397,20 +388,19 @@ L26:
   br L13
 L14:
   ;@ line examples/c/say.h:21 in 3
-  ;@ var length 1 r6 in 3
-  ldi r13, 32
-  shl r0, r6, r13
-  ;@ var length 1 - in 3
-  ldi r13, 32
-  sar r7, r0, r13
+  ;@ var length 1 r8 in 3
+  bz r6, L16
 L15:
   ;@ line examples/c/say.h:22 in 3
-  ;@ var length 1 r7 in 3
-  addi r7, r7, -1
+  addi r8, r8, -1
+  ;@ var length 1 - in 3
+  shl r0, r8, r9
+  sar r7, r0, r9
+  ;@ var length 1 r8 in 3
   addi r1, r7, 8
   ldi r13, -8
   and r0, r1, r13
-  leab r0, r9, r0
+  leab r0, r11, r0
   ldi r13, 3
   shl r1, r1, r13
   ld r0, r0, 0, any, keep
@@ -430,12 +420,12 @@ L16:
   addi r7, r12, 1
   ld r12, r15, 0, any, keep
   ldi r13, 23
-  eq r1, r12, r13
+  ltu r1, r12, r13
   ;@ var i 1 -
+  mov r0, r9
+  bnz r1, L49
   ldi r0, 10
-  bnz r1, L48
-  ldi r0, 32
-L48:
+L49:
   lip r14, 2
   br putchar
   ;@ line examples/c/sort.c:62
@@ -443,23 +433,23 @@ L48:
   ldi r13, 24
   eq r0, r7, r13
   bnz r0, L9
-L28:
+L29:
   st r15, r7, 0, any, keep
   ;@ var i 1 -
   br L10
 L17:
   ;@ line examples/c/sort.c:66
-  mov r0, r8
+  mov r0, r10
   ld r1, r15, 16, any, keep
   ldi r2, 96
   lip r14, 2
   br memcmp
   lip r2, P_1
   ld r2, r2, 0, any, keep
-  bnz r0, L49
+  bnz r0, L50
   lip r2, P_2
   ld r2, r2, 0, any, keep
-L49:
+L50:
   ldi r3, 0
 L18:
   ;@ line examples/c/say.h:8 in 4
@@ -469,14 +459,14 @@ L18:
   ld r5, r12, 0, any, keep
   add r4, r2, r3
   isptr r0, r2
-  bz r0, L50
+  bz r0, L51
   ldi r0, 54
   shr r0, r2, r0
   xor r1, r4, r2
   shr r1, r1, r0
-  bnz r1, L50
+  bnz r1, L51
   lea r4, r2, r3
-L50:
+L51:
   ;@ var text 4 - in 4
   mov r0, r4
   mov r3, r5
@@ -530,13 +520,13 @@ L19:
   ;@ line examples/c/sort.c:73
   ;@ var i 1 -
   ldi r0, 0
-  ld r7, r15, 40, any, keep
-  ld r8, r15, 48, any, keep
-  ld r9, r15, 56, any, keep
-  ld r10, r15, 64, any, keep
-  ld r11, r15, 72, any, keep
-  ld r14, r15, 80, any, keep
-  ld r15, r15, 88, any, keep
+  ld r7, r15, 32, any, keep
+  ld r8, r15, 40, any, keep
+  ld r9, r15, 48, any, keep
+  ld r10, r15, 56, any, keep
+  ld r11, r15, 64, any, keep
+  ld r14, r15, 72, any, keep
+  ld r15, r15, 80, any, keep
   jmp r14
 L20:
   ;@ line examples/c/sort.c:70
@@ -558,9 +548,9 @@ L20:
   ldi r13, 5
   eq r1, r7, r13
   ldi r0, 10
-  bnz r1, L51
-  ldi r0, 32
-L51:
+  bnz r1, L52
+  mov r0, r9
+L52:
   lip r14, 2
   br putchar
   ;@ line examples/c/sort.c:69
@@ -589,17 +579,17 @@ fputs:
   shl r0, r0, r3
   sar r1, r0, r3
   and r0, r1, r8
-  bz r0, L53
-L55:
+  bz r0, L54
+L56:
   mov r2, r4
-  br L54
-L53:
+  br L55
+L54:
   mov r0, r4
   ld r7, r15, 0, any, keep
   ld r8, r15, 8, any, keep
   leai r15, r15, 16
   jmp r14
-L54:
+L55:
   out r1
   addi r2, r2, 1
   lea r1, r5, r2
@@ -612,8 +602,8 @@ L54:
   shl r0, r0, r3
   sar r1, r0, r3
   and r0, r1, r8
-  bz r0, L53
-  br L54
+  bz r0, L54
+  br L55
 compare_names:
   ;@ function compare_names at examples/c/sort.c:49
   ;@ frame back 0 caller by 8
@@ -648,7 +638,7 @@ strcmp:
   ldi r8, -1
   ldi r9, 1
   mov r3, r4
-L59:
+L60:
   lea r1, r10, r3
   and r0, r1, r6
   sub r0, r4, r0
@@ -666,24 +656,24 @@ L59:
   shr r0, r0, r1
   and r1, r0, r7
   eq r0, r2, r1
-  bnz r0, L61
-L60:
+  bnz r0, L62
+L61:
   ltu r0, r2, r1
   mov r1, r8
-  bnz r0, L62
+  bnz r0, L63
   mov r1, r9
-L65:
-  br L62
-L61:
+L66:
+  br L63
+L62:
   addi r3, r3, 1
   eq r0, r3, r8
-  bnz r2, L66
+  bnz r2, L67
   mov r0, r9
-L66:
-  bz r0, L59
-L63:
+L67:
+  bz r0, L60
+L64:
   mov r1, r4
-L62:
+L63:
   mov r0, r1
   ld r7, r15, 0, any, keep
   ld r8, r15, 8, any, keep
@@ -706,18 +696,18 @@ fwrite:
   ldi r8, 7
   ldi r3, 56
   mul r4, r9, r1
-  bz r4, L68
-L70:
+  bz r4, L69
+L71:
   mov r2, r6
-  br L69
-L68:
+  br L70
+L69:
   mov r0, r9
   ld r7, r15, 0, any, keep
   ld r8, r15, 8, any, keep
   ld r9, r15, 16, any, keep
   leai r15, r15, 24
   jmp r14
-L69:
+L70:
   lea r1, r5, r2
   and r0, r1, r8
   sub r0, r6, r0
@@ -730,8 +720,8 @@ L69:
   out r0
   addi r2, r2, 1
   eq r0, r2, r4
-  bnz r0, L68
-  br L69
+  bnz r0, L69
+  br L70
 memcmp:
   ;@ frame back - caller by 32
   leai r15, r15, -32
@@ -746,20 +736,20 @@ memcmp:
   ldi r4, 0
   ldi r6, 7
   ldi r7, 255
-  bz r8, L77
-L78:
-  mov r2, r4
-  br L74
-L77:
-  mov r0, r4
-  br L76
-L73:
-  eq r0, r2, r8
-  bz r0, L74
+  bz r8, L78
 L79:
+  mov r2, r4
+  br L75
+L78:
   mov r0, r4
-  br L76
+  br L77
 L74:
+  eq r0, r2, r8
+  bz r0, L75
+L80:
+  mov r0, r4
+  br L77
+L75:
   lea r1, r9, r2
   and r0, r1, r6
   sub r0, r4, r0
@@ -778,14 +768,14 @@ L74:
   and r1, r0, r7
   addi r2, r2, 1
   eq r0, r3, r1
-  bnz r0, L73
-L75:
+  bnz r0, L74
+L76:
   ltu r1, r3, r1
   ldi r0, -1
-  bnz r1, L76
+  bnz r1, L77
   ldi r0, 1
-L81:
-L76:
+L82:
+L77:
   ld r7, r15, 0, any, keep
   ld r8, r15, 8, any, keep
   ld r9, r15, 16, any, keep
@@ -816,8 +806,8 @@ qsort:
   ld r12, r15, 56, any, keep
   ldi r13, 2
   ltu r0, r12, r13
-  bnz r0, L100
-L84:
+  bnz r0, L101
+L85:
   ld r12, r15, 56, any, keep
   ldi r13, 1
   shr r12, r12, r13
@@ -829,13 +819,13 @@ L84:
   ld r12, r15, 16, any, keep
   and r12, r12, r11
   st r15, r12, 24, any, keep
-  br L87
-L85:
+  br L88
+L86:
   ldi r12, 1
   ld r13, r15, 56, any, keep
   ltu r0, r12, r13
-  bz r0, L100
-L86:
+  bz r0, L101
+L87:
   ld r12, r15, 16, any, keep
   ldi r13, 8
   ltu r12, r12, r13
@@ -846,8 +836,8 @@ L86:
   ld r12, r15, 16, any, keep
   and r12, r12, r11
   st r15, r12, 40, any, keep
-  br L101
-L87:
+  br L102
+L88:
   ld r12, r15, 72, any, keep
   addi r12, r12, -1
   st r15, r12, 72, any, keep
@@ -858,54 +848,54 @@ L87:
   or r9, r1, r13
   ld r13, r15, 56, any, keep
   ltu r0, r9, r13
-  bz r0, L99
-L121:
+  bz r0, L100
+L122:
   ld r12, r15, 72, any, keep
   st r15, r12, 0, any, keep
-L88:
+L89:
   addi r7, r1, 2
   ld r13, r15, 56, any, keep
   ltu r0, r7, r13
-  bnz r0, L89
-L122:
+  bnz r0, L90
+L123:
   st r15, r9, 40, any, keep
-  br L90
-L89:
+  br L91
+L90:
   ld r13, r15, 16, any, keep
   mul r2, r9, r13
   ld r13, r15, 16, any, keep
   mul r4, r7, r13
   add r3, r8, r2
   isptr r0, r8
-  bz r0, L159
+  bz r0, L160
   ldi r0, 54
   shr r0, r8, r0
   xor r1, r3, r8
   shr r1, r1, r0
-  bnz r1, L159
+  bnz r1, L160
   lea r3, r8, r2
-L159:
+L160:
   add r2, r8, r4
   isptr r0, r8
-  bz r0, L160
+  bz r0, L161
   ldi r0, 54
   shr r0, r8, r0
   xor r1, r2, r8
   shr r1, r1, r0
-  bnz r1, L160
+  bnz r1, L161
   lea r2, r8, r4
-L160:
+L161:
   ld r13, r15, 64, any, keep
   mov r0, r3
   mov r1, r2
   jal r14, r13
   lts r0, r0, r10
   mov r13, r7
-  bnz r0, L161
+  bnz r0, L162
   mov r13, r9
-L161:
+L162:
   st r15, r13, 40, any, keep
-L90:
+L91:
   ld r12, r15, 0, any, keep
   ld r13, r15, 16, any, keep
   mul r12, r12, r13
@@ -917,33 +907,33 @@ L90:
   ld r13, r15, 8, any, keep
   add r3, r8, r13
   isptr r0, r8
-  bz r0, L162
+  bz r0, L163
   ldi r0, 54
   shr r0, r8, r0
   xor r1, r3, r8
   shr r1, r1, r0
-  bnz r1, L162
+  bnz r1, L163
   lea r3, r8, r13
-L162:
+L163:
   ld r13, r15, 0, any, keep
   add r2, r8, r13
   isptr r0, r8
-  bz r0, L163
+  bz r0, L164
   ldi r0, 54
   shr r0, r8, r0
   xor r1, r2, r8
   shr r1, r1, r0
-  bnz r1, L163
+  bnz r1, L164
   lea r2, r8, r13
-L163:
+L164:
   ld r13, r15, 64, any, keep
   mov r0, r3
   mov r1, r2
   jal r14, r13
   ldi r12, -1
   lts r0, r12, r0
-  bnz r0, L99
-L91:
+  bnz r0, L100
+L92:
   ld r13, r15, 8, any, keep
   add r1, r8, r13
   ld r13, r15, 0, any, keep
@@ -955,15 +945,15 @@ L91:
   eq r0, r0, r10
   ld r12, r15, 48, any, keep
   or r0, r12, r0
-  bnz r0, L123
-L124:
+  bnz r0, L124
+L125:
   ldi r7, 8
   mov r2, r10
-  br L92
-L123:
-  mov r7, r10
   br L93
-L92:
+L124:
+  mov r7, r10
+  br L94
+L93:
   ld r12, r15, 8, any, keep
   add r3, r12, r2
   lea r0, r8, r3
@@ -979,26 +969,26 @@ L92:
   addi r1, r7, 8
   ld r12, r15, 16, any, keep
   ltu r0, r12, r1
-  bnz r0, L93
-L126:
+  bnz r0, L94
+L127:
   mov r2, r7
   mov r7, r1
-  br L92
-L93:
+  br L93
+L94:
   ld r13, r15, 16, any, keep
   ltu r0, r7, r13
-  bz r0, L98
-L94:
+  bz r0, L99
+L95:
   ldi r13, -1
   xor r0, r7, r13
   ld r13, r15, 16, any, keep
   add r12, r0, r13
   st r15, r12, 32, any, keep
   ld r12, r15, 24, any, keep
-  bz r12, L96
-L128:
+  bz r12, L97
+L129:
   mov r6, r10
-L95:
+L96:
   ld r12, r15, 8, any, keep
   add r2, r12, r7
   lea r1, r8, r2
@@ -1051,12 +1041,12 @@ L95:
   addi r6, r6, 1
   ld r13, r15, 24, any, keep
   eq r0, r6, r13
-  bz r0, L95
-L96:
+  bz r0, L96
+L97:
   ld r12, r15, 32, any, keep
   ltu r0, r12, r11
-  bnz r0, L98
-L97:
+  bnz r0, L99
+L98:
   ld r12, r15, 8, any, keep
   add r2, r12, r7
   lea r1, r8, r2
@@ -1255,8 +1245,8 @@ L97:
   addi r7, r7, 4
   ld r13, r15, 16, any, keep
   eq r0, r7, r13
-  bz r0, L97
-L98:
+  bz r0, L98
+L99:
   ld r12, r15, 40, any, keep
   ldi r13, 1
   shl r1, r12, r13
@@ -1264,16 +1254,16 @@ L98:
   or r9, r1, r13
   ld r13, r15, 56, any, keep
   ltu r0, r9, r13
-  bz r0, L99
-L133:
+  bz r0, L100
+L134:
   ld r12, r15, 40, any, keep
   st r15, r12, 0, any, keep
-  br L88
-L99:
-  ld r12, r15, 72, any, keep
-  bz r12, L85
-  br L87
+  br L89
 L100:
+  ld r12, r15, 72, any, keep
+  bz r12, L86
+  br L88
+L101:
   ld r7, r15, 80, any, keep
   ld r8, r15, 88, any, keep
   ld r9, r15, 96, any, keep
@@ -1282,7 +1272,7 @@ L100:
   ld r14, r15, 120, any, keep
   leai r15, r15, 128
   jmp r14
-L101:
+L102:
   ld r12, r15, 56, any, keep
   addi r12, r12, -1
   st r15, r12, 56, any, keep
@@ -1299,15 +1289,15 @@ L101:
   eq r0, r0, r10
   ld r12, r15, 72, any, keep
   or r0, r12, r0
-  bnz r0, L135
-L136:
+  bnz r0, L136
+L137:
   ldi r7, 8
   mov r3, r10
-  br L102
-L135:
-  mov r7, r10
   br L103
-L102:
+L136:
+  mov r7, r10
+  br L104
+L103:
   lea r0, r8, r3
   ld r4, r0, 0, any, keep
   ld r12, r15, 0, any, keep
@@ -1321,26 +1311,26 @@ L102:
   addi r1, r7, 8
   ld r12, r15, 16, any, keep
   ltu r0, r12, r1
-  bnz r0, L103
-L138:
+  bnz r0, L104
+L139:
   mov r3, r7
   mov r7, r1
-  br L102
-L103:
+  br L103
+L104:
   ld r13, r15, 16, any, keep
   ltu r0, r7, r13
-  bz r0, L108
-L104:
+  bz r0, L109
+L105:
   ldi r13, -1
   xor r0, r7, r13
   ld r13, r15, 16, any, keep
   add r12, r0, r13
   st r15, r12, 8, any, keep
   ld r12, r15, 48, any, keep
-  bz r12, L106
-L140:
+  bz r12, L107
+L141:
   mov r6, r10
-L105:
+L106:
   lea r1, r8, r7
   ldi r13, 7
   and r0, r1, r13
@@ -1391,12 +1381,12 @@ L105:
   addi r6, r6, 1
   ld r13, r15, 48, any, keep
   eq r0, r6, r13
-  bz r0, L105
-L106:
+  bz r0, L106
+L107:
   ld r12, r15, 8, any, keep
   ltu r0, r12, r11
-  bnz r0, L108
-L107:
+  bnz r0, L109
+L108:
   lea r1, r8, r7
   ldi r13, 7
   and r0, r1, r13
@@ -1587,60 +1577,60 @@ L107:
   addi r7, r7, 4
   ld r13, r15, 16, any, keep
   eq r0, r7, r13
-  bz r0, L107
-L108:
+  bz r0, L108
+L109:
   ldi r12, 1
   ld r13, r15, 56, any, keep
   ltu r0, r12, r13
-  bz r0, L100
-L145:
+  bz r0, L101
+L146:
   ldi r9, 1
   mov r1, r10
   st r15, r10, 0, any, keep
-L109:
+L110:
   addi r7, r1, 2
   ld r13, r15, 56, any, keep
   ltu r0, r7, r13
-  bnz r0, L110
-L146:
+  bnz r0, L111
+L147:
   st r15, r9, 32, any, keep
-  br L111
-L110:
+  br L112
+L111:
   ld r13, r15, 16, any, keep
   mul r2, r9, r13
   ld r13, r15, 16, any, keep
   mul r4, r7, r13
   add r3, r8, r2
   isptr r0, r8
-  bz r0, L164
+  bz r0, L165
   ldi r0, 54
   shr r0, r8, r0
   xor r1, r3, r8
   shr r1, r1, r0
-  bnz r1, L164
+  bnz r1, L165
   lea r3, r8, r2
-L164:
+L165:
   add r2, r8, r4
   isptr r0, r8
-  bz r0, L165
+  bz r0, L166
   ldi r0, 54
   shr r0, r8, r0
   xor r1, r2, r8
   shr r1, r1, r0
-  bnz r1, L165
+  bnz r1, L166
   lea r2, r8, r4
-L165:
+L166:
   ld r13, r15, 64, any, keep
   mov r0, r3
   mov r1, r2
   jal r14, r13
   lts r0, r0, r10
   mov r13, r7
-  bnz r0, L166
+  bnz r0, L167
   mov r13, r9
-L166:
+L167:
   st r15, r13, 32, any, keep
-L111:
+L112:
   ld r12, r15, 0, any, keep
   ld r13, r15, 16, any, keep
   mul r12, r12, r13
@@ -1652,33 +1642,33 @@ L111:
   ld r13, r15, 8, any, keep
   add r3, r8, r13
   isptr r0, r8
-  bz r0, L167
+  bz r0, L168
   ldi r0, 54
   shr r0, r8, r0
   xor r1, r3, r8
   shr r1, r1, r0
-  bnz r1, L167
+  bnz r1, L168
   lea r3, r8, r13
-L167:
+L168:
   ld r13, r15, 0, any, keep
   add r2, r8, r13
   isptr r0, r8
-  bz r0, L168
+  bz r0, L169
   ldi r0, 54
   shr r0, r8, r0
   xor r1, r2, r8
   shr r1, r1, r0
-  bnz r1, L168
+  bnz r1, L169
   lea r2, r8, r13
-L168:
+L169:
   ld r13, r15, 64, any, keep
   mov r0, r3
   mov r1, r2
   jal r14, r13
   ldi r12, -1
   lts r0, r12, r0
-  bnz r0, L120
-L112:
+  bnz r0, L121
+L113:
   ld r13, r15, 8, any, keep
   add r1, r8, r13
   ld r13, r15, 0, any, keep
@@ -1690,15 +1680,15 @@ L112:
   eq r0, r0, r10
   ld r12, r15, 72, any, keep
   or r0, r12, r0
-  bnz r0, L147
-L148:
+  bnz r0, L148
+L149:
   ldi r7, 8
   mov r2, r10
-  br L113
-L147:
-  mov r7, r10
   br L114
-L113:
+L148:
+  mov r7, r10
+  br L115
+L114:
   ld r12, r15, 8, any, keep
   add r3, r12, r2
   lea r0, r8, r3
@@ -1714,26 +1704,26 @@ L113:
   addi r1, r7, 8
   ld r12, r15, 16, any, keep
   ltu r0, r12, r1
-  bnz r0, L114
-L150:
+  bnz r0, L115
+L151:
   mov r2, r7
   mov r7, r1
-  br L113
-L114:
+  br L114
+L115:
   ld r13, r15, 16, any, keep
   ltu r0, r7, r13
-  bz r0, L119
-L115:
+  bz r0, L120
+L116:
   ldi r13, -1
   xor r0, r7, r13
   ld r13, r15, 16, any, keep
   add r12, r0, r13
   st r15, r12, 24, any, keep
   ld r12, r15, 40, any, keep
-  bz r12, L117
-L152:
+  bz r12, L118
+L153:
   mov r6, r10
-L116:
+L117:
   ld r12, r15, 8, any, keep
   add r2, r12, r7
   lea r1, r8, r2
@@ -1786,12 +1776,12 @@ L116:
   addi r6, r6, 1
   ld r13, r15, 40, any, keep
   eq r0, r6, r13
-  bz r0, L116
-L117:
+  bz r0, L117
+L118:
   ld r12, r15, 24, any, keep
   ltu r0, r12, r11
-  bnz r0, L119
-L118:
+  bnz r0, L120
+L119:
   ld r12, r15, 8, any, keep
   add r2, r12, r7
   lea r1, r8, r2
@@ -1990,8 +1980,8 @@ L118:
   addi r7, r7, 4
   ld r13, r15, 16, any, keep
   eq r0, r7, r13
-  bz r0, L118
-L119:
+  bz r0, L119
+L120:
   ld r12, r15, 32, any, keep
   ldi r13, 1
   shl r1, r12, r13
@@ -1999,47 +1989,47 @@ L119:
   or r9, r1, r13
   ld r13, r15, 56, any, keep
   ltu r0, r9, r13
-  bz r0, L120
-L157:
+  bz r0, L121
+L158:
   ld r12, r15, 32, any, keep
   st r15, r12, 0, any, keep
-  br L109
-L120:
+  br L110
+L121:
   ldi r12, 1
   ld r13, r15, 56, any, keep
   ltu r0, r12, r13
-  bnz r0, L101
-  br L100
+  bnz r0, L102
+  br L101
 compare:
   ;@ function compare at examples/c/sort.c:44
   ;@ frame back - caller by 0
   mov r2, r1
-  ldi r3, 4
-  ldi r4, 32
+  ldi r4, 4
+  ldi r3, 32
   ;@ line examples/c/sort.c:46
   ;@ var a 9 r0
   ;@ var b 9 r2
-  and r1, r0, r3
-  bnz r1, L170
+  and r1, r0, r4
+  bnz r1, L171
   ld r1, r0, 0, any, keep
-  shl r1, r1, r4
-  br L171
-L170:
-  ld r1, r0, -4, any, keep
+  br L172
 L171:
-  sar r1, r1, r4
-  ;@ var a 9 -
-  and r0, r2, r3
-  bnz r0, L172
-  ld r0, r2, 0, any, keep
-  shl r0, r0, r4
-  br L173
+  ld r1, r0, -4, any, keep
+  shr r1, r1, r3
 L172:
-  ld r0, r2, -4, any, keep
+  ;@ var a 9 -
+  and r0, r2, r4
+  bnz r0, L173
+  ld r0, r2, 0, any, keep
+  br L174
 L173:
-  sar r0, r0, r4
+  ld r0, r2, -4, any, keep
+  shr r0, r0, r3
+L174:
   ;@ var b 9 -
   sub r0, r1, r0
+  shl r0, r0, r3
+  sar r0, r0, r3
   jmp r14
 by_merging:
   ;@ function by_merging at examples/c/sort.c:34
@@ -2056,9 +2046,9 @@ by_merging:
   st r15, r3, 0, any, keep
   mov r11, r0
   mov r7, r2
-  ldi r8, 2
-  ldi r9, 4
-  ldi r10, 32
+  ldi r8, 32
+  ldi r9, 2
+  ldi r10, 4
   ldi r13, 0
   ldhi r13, 4294967295
   and r12, r7, r13
@@ -2069,20 +2059,24 @@ by_merging:
   ;@ var from 1 r7
   ;@ var to 1 s0
   ld r12, r15, 0, any, keep
-  sub r12, r12, r7
+  sub r0, r12, r7
+  shl r0, r0, r8
+  sar r12, r0, r8
   st r15, r12, 24, any, keep
   ld r12, r15, 24, any, keep
-  lts r0, r12, r8
-  bnz r0, L184
-L175:
+  lts r0, r12, r9
+  bnz r0, L185
+L176:
   ;@ line examples/c/sort.c:38
   ld r12, r15, 0, any, keep
   add r0, r12, r7
+  shl r0, r0, r8
+  sar r0, r0, r8
   ldi r13, 63
   sar r1, r0, r13
   xor r0, r0, r1
   sub r0, r0, r1
-  divu r0, r0, r8
+  divu r0, r0, r9
   xor r0, r0, r1
   sub r12, r0, r1
   st r15, r12, 8, any, keep
@@ -2112,11 +2106,11 @@ L175:
   ;@ var k 1 r7 in 1
   ld r13, r15, 0, any, keep
   lts r0, r7, r13
-  bz r0, L183
-L176:
+  bz r0, L184
+L177:
   mov r6, r7
   ld r3, r15, 8, any, keep
-L177:
+L178:
   ;@ line examples/c/sort.c:30 in 1
   ;@ var from 1 s32
   ;@ var from 1 s32 in 1
@@ -2124,133 +2118,137 @@ L177:
   ;@ var j 1 r3 in 1
   ld r13, r15, 8, any, keep
   lts r0, r7, r13
-  bz r0, L181
-L178:
+  bz r0, L182
+L179:
   ld r13, r15, 0, any, keep
   lts r0, r3, r13
-  bz r0, L180
-L179:
-  shl r0, r7, r8
-  lea r0, r11, r0
-  and r2, r0, r9
-  bnz r2, L186
-  ld r2, r0, 0, any, keep
-  shl r2, r2, r10
-  br L187
-L186:
-  ld r2, r0, -4, any, keep
-L187:
-  sar r2, r2, r10
-  shl r0, r3, r8
-  lea r1, r11, r0
-  and r0, r1, r9
-  bnz r0, L188
-  ld r0, r1, 0, any, keep
-  shl r0, r0, r10
-  br L189
-L188:
-  ld r0, r1, -4, any, keep
-L189:
-  sar r0, r0, r10
-  lts r0, r0, r2
-  bnz r0, L181
+  bz r0, L181
 L180:
-  addi r5, r7, 1
+  shl r0, r7, r9
+  lea r0, r11, r0
+  and r2, r0, r10
+  bnz r2, L187
+  ld r2, r0, 0, any, keep
+  shl r2, r2, r8
+  br L188
+L187:
+  ld r2, r0, -4, any, keep
+L188:
+  sar r2, r2, r8
+  shl r0, r3, r9
+  lea r1, r11, r0
+  and r0, r1, r10
+  bnz r0, L189
+  ld r0, r1, 0, any, keep
+  shl r0, r0, r8
+  br L190
+L189:
+  ld r0, r1, -4, any, keep
+L190:
+  sar r0, r0, r8
+  lts r0, r0, r2
+  bnz r0, L182
+L181:
+  addi r0, r7, 1
+  shl r0, r0, r8
+  sar r5, r0, r8
   ;@ var i 1 - in 1
   mov r4, r3
   ;@ var j 1 - in 1
   mov r3, r7
-  br L182
-L181:
+  br L183
+L182:
   ;@ var i 1 r7 in 1
   ;@ var j 1 r3 in 1
-  addi r4, r3, 1
+  addi r0, r3, 1
+  shl r0, r0, r8
+  sar r4, r0, r8
   ;@ var j 1 r4 in 1
   mov r5, r7
-L182:
+L183:
   ;@ var i 1 - in 1
   ;@ var j 1 - in 1
-  shl r0, r3, r8
+  shl r0, r3, r9
   lea r0, r11, r0
-  and r3, r0, r9
-  bnz r3, L190
+  and r3, r0, r10
+  bnz r3, L191
   ld r3, r0, 0, any, keep
-  br L191
-L190:
-  ld r3, r0, -4, any, keep
-  shr r3, r3, r10
+  br L192
 L191:
+  ld r3, r0, -4, any, keep
+  shr r3, r3, r8
+L192:
   ;@ var j 1 r4 in 1
   ;@ var i 1 r5 in 1
-  shl r0, r6, r8
+  shl r0, r6, r9
   ld r12, r15, 16, any, keep
   lea r2, r12, r0
-  and r0, r2, r9
-  bnz r0, L192
+  and r0, r2, r10
+  bnz r0, L193
   ld r0, r2, 0, any, keep
   xor r1, r0, r3
-  shl r1, r1, r10
-  shr r1, r1, r10
+  shl r1, r1, r8
+  shr r1, r1, r8
   xor r0, r0, r1
   st r2, r0, 0, any, keep
-  br L193
-L192:
+  br L194
+L193:
   ld r0, r2, -4, any, keep
-  shl r0, r0, r10
-  shr r0, r0, r10
-  shl r1, r3, r10
+  shl r0, r0, r8
+  shr r0, r0, r8
+  shl r1, r3, r8
   or r0, r0, r1
   st r2, r0, -4, any, keep
-L193:
+L194:
   ;@ line examples/c/sort.c:29 in 1
   addi r6, r6, 1
   ld r13, r15, 0, any, keep
   eq r0, r6, r13
-  bnz r0, L183
-L185:
+  bnz r0, L184
+L186:
   ;@ var k 1 - in 1
   mov r3, r4
   ;@ var j 1 - in 1
   mov r7, r5
   ;@ var i 1 - in 1
-  br L177
-L183:
+  br L178
+L184:
   ;@ line examples/c/sort.c:31 in 1
   ;@ var to 1 -
   ;@ var middle 1 -
   ;@ var middle 1 - in 1
   ;@ var to 1 - in 1
   ld r12, r15, 32, any, keep
-  shl r5, r12, r8
+  shl r5, r12, r9
   ld r12, r15, 32, any, keep
-  shl r2, r12, r8
+  shl r2, r12, r9
   ;@ var from 1 -
   ;@ var from 1 - in 1
   ld r12, r15, 24, any, keep
-  shl r4, r12, r8
+  shl r4, r12, r9
   ld r12, r15, 16, any, keep
   add r3, r12, r2
   isptr r0, r12
-  bz r0, L194
+  bz r0, L195
   ldi r0, 54
   shr r0, r12, r0
   xor r1, r3, r12
   shr r1, r1, r0
-  bnz r1, L194
+  bnz r1, L195
   lea r3, r12, r2
-L194:
+L195:
   ;@ var room 10 -
   ;@ var room 10 - in 1
   add r2, r11, r5
   isptr r0, r11
-  bz r0, L195
+  bz r0, L196
   ldi r0, 54
   shr r0, r11, r0
   xor r1, r2, r11
   shr r1, r1, r0
-  bnz r1, L195
+  bnz r1, L196
   lea r2, r11, r5
-L195:
+L196:
   ;@ var a 10 -
   ;@ var a 10 - in 1
   mov r0, r2
@@ -2258,7 +2256,7 @@ L195:
   mov r2, r4
   lip r14, 2
   br memcpy
-L184:
+L185:
   ;@ line examples/c/sort.c:42
   ld r7, r15, 40, any, keep
   ld r8, r15, 48, any, keep
@@ -2287,21 +2285,21 @@ memcpy:
   ld r12, r15, 0, any, keep
   xor r0, r12, r11
   and r0, r0, r8
-  bz r0, L197
-L222:
-  mov r6, r9
-  br L216
-L197:
-  ld r12, r15, 8, any, keep
-  bnz r12, L198
+  bz r0, L198
 L223:
-  mov r4, r9
-  br L214
+  mov r6, r9
+  br L217
 L198:
+  ld r12, r15, 8, any, keep
+  bnz r12, L199
+L224:
+  mov r4, r9
+  br L215
+L199:
   sub r0, r9, r11
   and r4, r0, r8
-  bz r4, L214
-L199:
+  bz r4, L215
+L200:
   ld r12, r15, 0, any, keep
   and r0, r12, r8
   sub r0, r9, r0
@@ -2325,14 +2323,14 @@ L199:
   st r3, r0, 0, any, keep
   ld r12, r15, 8, any, keep
   eq r0, r12, r6
-  bz r0, L200
-L225:
+  bz r0, L201
+L226:
   ld r4, r15, 8, any, keep
-  br L214
-L200:
-  eq r0, r4, r6
-  bnz r0, L214
+  br L215
 L201:
+  eq r0, r4, r6
+  bnz r0, L215
+L202:
   ld r12, r15, 0, any, keep
   leai r1, r12, 1
   and r0, r1, r8
@@ -2356,14 +2354,14 @@ L201:
   st r3, r0, 0, any, keep
   ld r12, r15, 8, any, keep
   eq r0, r12, r7
-  bz r0, L202
-L227:
+  bz r0, L203
+L228:
   ld r4, r15, 8, any, keep
-  br L214
-L202:
-  eq r0, r4, r7
-  bnz r0, L214
+  br L215
 L203:
+  eq r0, r4, r7
+  bnz r0, L215
+L204:
   ld r12, r15, 0, any, keep
   leai r1, r12, 2
   and r0, r1, r8
@@ -2387,14 +2385,14 @@ L203:
   st r3, r0, 0, any, keep
   ld r12, r15, 8, any, keep
   eq r0, r12, r10
-  bz r0, L204
-L229:
+  bz r0, L205
+L230:
   ld r4, r15, 8, any, keep
-  br L214
-L204:
-  eq r0, r4, r10
-  bnz r0, L214
+  br L215
 L205:
+  eq r0, r4, r10
+  bnz r0, L215
+L206:
   ld r12, r15, 0, any, keep
   leai r1, r12, 3
   and r0, r1, r8
@@ -2419,15 +2417,15 @@ L205:
   ld r12, r15, 8, any, keep
   ldi r13, 4
   eq r0, r12, r13
-  bz r0, L206
-L231:
+  bz r0, L207
+L232:
   ld r4, r15, 8, any, keep
-  br L214
-L206:
+  br L215
+L207:
   ldi r13, 4
   eq r0, r4, r13
-  bnz r0, L214
-L207:
+  bnz r0, L215
+L208:
   ld r12, r15, 0, any, keep
   leai r1, r12, 4
   and r0, r1, r8
@@ -2452,15 +2450,15 @@ L207:
   ld r12, r15, 8, any, keep
   ldi r13, 5
   eq r0, r12, r13
-  bz r0, L208
-L233:
+  bz r0, L209
+L234:
   ld r4, r15, 8, any, keep
-  br L214
-L208:
+  br L215
+L209:
   ldi r13, 5
   eq r0, r4, r13
-  bnz r0, L214
-L209:
+  bnz r0, L215
+L210:
   ld r12, r15, 0, any, keep
   leai r1, r12, 5
   and r0, r1, r8
@@ -2485,15 +2483,15 @@ L209:
   ld r12, r15, 8, any, keep
   ldi r13, 6
   eq r0, r12, r13
-  bz r0, L210
-L235:
+  bz r0, L211
+L236:
   ld r4, r15, 8, any, keep
-  br L214
-L210:
+  br L215
+L211:
   ldi r13, 6
   eq r0, r4, r13
-  bnz r0, L214
-L211:
+  bnz r0, L215
+L212:
   ld r12, r15, 0, any, keep
   leai r1, r12, 6
   and r0, r1, r8
@@ -2517,14 +2515,14 @@ L211:
   st r3, r0, 0, any, keep
   ld r12, r15, 8, any, keep
   eq r0, r12, r8
-  bz r0, L212
-L237:
+  bz r0, L213
+L238:
   ld r4, r15, 8, any, keep
-  br L214
-L212:
-  eq r0, r4, r8
-  bnz r0, L214
+  br L215
 L213:
+  eq r0, r4, r8
+  bnz r0, L215
+L214:
   ld r12, r15, 0, any, keep
   leai r1, r12, 7
   and r0, r1, r8
@@ -2547,15 +2545,15 @@ L213:
   xor r0, r1, r0
   st r3, r0, 0, any, keep
   ld r4, r15, 8, any, keep
-L214:
+L215:
   addi r6, r4, 8
   ld r12, r15, 8, any, keep
   ltu r0, r12, r6
-  bz r0, L215
-L239:
+  bz r0, L216
+L240:
   mov r6, r4
-  br L216
-L215:
+  br L217
+L216:
   ld r12, r15, 0, any, keep
   lea r0, r12, r4
   ld r1, r0, 0, any, keep
@@ -2564,16 +2562,16 @@ L215:
   addi r1, r6, 8
   ld r12, r15, 8, any, keep
   ltu r0, r12, r1
-  bnz r0, L216
-L242:
+  bnz r0, L217
+L243:
   mov r4, r6
   mov r6, r1
-  br L215
-L216:
+  br L216
+L217:
   ld r13, r15, 8, any, keep
   ltu r0, r6, r13
-  bz r0, L221
-L217:
+  bz r0, L222
+L218:
   ld r12, r15, 8, any, keep
   sub r1, r12, r6
   ldi r13, -1
@@ -2582,10 +2580,10 @@ L217:
   add r12, r0, r13
   st r15, r12, 16, any, keep
   and r7, r1, r10
-  bz r7, L219
-L244:
+  bz r7, L220
+L245:
   mov r5, r9
-L218:
+L219:
   ld r12, r15, 0, any, keep
   lea r1, r12, r6
   and r0, r1, r8
@@ -2610,12 +2608,12 @@ L218:
   addi r6, r6, 1
   addi r5, r5, 1
   eq r0, r5, r7
-  bz r0, L218
-L219:
+  bz r0, L219
+L220:
   ld r12, r15, 16, any, keep
   ltu r0, r12, r10
-  bnz r0, L221
-L220:
+  bnz r0, L222
+L221:
   ld r12, r15, 0, any, keep
   lea r1, r12, r6
   and r0, r1, r8
@@ -2706,8 +2704,8 @@ L220:
   addi r6, r6, 4
   ld r13, r15, 8, any, keep
   eq r0, r6, r13
-  bz r0, L220
-L221:
+  bz r0, L221
+L222:
   mov r0, r11
   ld r7, r15, 24, any, keep
   ld r8, r15, 32, any, keep
@@ -2730,25 +2728,33 @@ P_9: .ptr ro _str_7+7
   ;@ global seed 4 at 4 type 11
   .int 0x303900000000
 .segment _str_1 4
+  ;@ unnamed at 5 constant
   .int 0x6c6c610000000000
   .int 0xa656b696c6120
 .segment _str 4
+  ;@ unnamed at 5 constant
   .int 0x6669640000000000
   .int 0xa746e65726566
 .segment stdout 3
   ;@ global stdout 8 at 0
   .ptr rw files+8
 .segment _str_2 3
+  ;@ unnamed at 0 constant
   .int 0x72656c6b63654b
 .segment _str_3 3
+  ;@ unnamed at 1 constant
   .int 0x72657472614300
 .segment _str_4 3
+  ;@ unnamed at 2 constant
   .int 0x796c6c61440000
 .segment _str_5 3
+  ;@ unnamed at 2 constant
   .int 0x6f6c6c69460000
 .segment _str_6 3
+  ;@ unnamed at 4 constant
   .int 0x65654c00000000
 .segment _str_7 4
+  ;@ unnamed at 7 constant
   .int 0x4700000000000000
   .int 0x68636976657275
 .segment files 4

@@ -19,36 +19,37 @@ main:
   ;@ inlined 10 say_number at examples/c/strings.c:40
   ;@ inlined 11 say_number at examples/c/strings.c:41
   ;@ inlined 12 say at examples/c/strings.c:42
-  ;@ frame back 48 caller at 56
-  ;@ local letters 32 at 64 log 5 type 7 in 8
-  ;@ local digits 20 at 104 log 5 type 8 in 6
-  ;@ local room 32 at 128 log 5 type 7
+  ;@ frame back 56 caller at 64
+  ;@ local letters 32 at 96 log 5 type 7 in 8
+  ;@ local digits 20 at 136 log 5 type 8 in 6
+  ;@ local room 32 at 160 log 5 type 7
   ldi r13, 31
   and r13, r15, r13
-  ldi r12, -160
+  ldi r12, -192
   sub r13, r12, r13
   lea r12, r15, r13
-  st r12, r15, 56, any, keep
+  st r12, r15, 64, any, keep
   mov r15, r12
-  st r15, r7, 8, any, keep
-  st r15, r8, 16, any, keep
-  st r15, r9, 24, any, keep
-  st r15, r10, 32, any, keep
-  st r15, r11, 40, any, keep
-  st r15, r14, 48, any, keep
-  leai r12, r15, 64
+  st r15, r7, 16, any, keep
+  st r15, r8, 24, any, keep
+  st r15, r9, 32, any, keep
+  st r15, r10, 40, any, keep
+  st r15, r11, 48, any, keep
+  st r15, r14, 56, any, keep
+  leai r12, r15, 96
   ldi r14, 5
   subseg r12, r12, r14
   st r15, r12, 0, any, keep
-  leai r9, r15, 104
+  leai r12, r15, 136
+  ldi r14, 5
+  subseg r12, r12, r14
+  st r15, r12, 8, any, keep
+  leai r9, r15, 160
   ldi r14, 5
   subseg r9, r9, r14
-  leai r8, r15, 128
-  ldi r14, 5
-  subseg r8, r8, r14
   lip r0, P_0
   ld r0, r0, 0, any, keep
-  ldi r11, 3
+  ldi r11, 32
   lip r10, P_1
   ld r10, r10, 0, any, keep
   ;@ line examples/c/strings.c:30
@@ -56,25 +57,25 @@ main:
   ld r2, r0, 8, any, keep
   ld r1, r0, 16, any, keep
   ld r0, r0, 24, any, keep
-  st r15, r3, 128, any, keep
-  st r15, r2, 136, any, keep
-  st r15, r1, 144, any, keep
-  st r15, r0, 152, any, keep
+  st r15, r3, 160, any, keep
+  st r15, r2, 168, any, keep
+  st r15, r1, 176, any, keep
+  st r15, r0, 184, any, keep
   ;@ line examples/c/strings.c:31
-  mov r0, r8
+  mov r0, r9
   lip r14, 2
   br strlen
   mov r3, r0
-  add r2, r8, r3
-  isptr r0, r8
-  bz r0, L29
+  add r2, r9, r3
+  isptr r0, r9
+  bz r0, L30
   ldi r0, 54
-  shr r0, r8, r0
-  xor r1, r2, r8
+  shr r0, r9, r0
+  xor r1, r2, r9
   shr r1, r1, r0
-  bnz r1, L29
-  lea r2, r8, r3
-L29:
+  bnz r1, L30
+  lea r2, r9, r3
+L30:
   mov r0, r2
   lip r1, P_2
   ld r1, r1, 0, any, keep
@@ -82,28 +83,28 @@ L29:
   lip r14, 2
   br memcpy
   ;@ line examples/c/say.h:8 in 1
-  ;@ var text 1 f128:5 in 1
+  ;@ var text 1 f160:5 in 1
   lip r12, P_3
   ld r12, r12, 0, any, keep
   ld r1, r12, 0, any, keep
-  mov r0, r8
+  mov r0, r9
   lip r14, 2
   br fputs
   ;@ line examples/c/strings.c:33
-  mov r0, r8
+  mov r0, r9
   lip r1, P_4
   ld r1, r1, 0, any, keep
   lip r14, 2
   br strstr
   mov r1, r0
-  addi r0, r8, 8
+  addi r0, r9, 8
   eq r0, r1, r0
   lip r4, P_5
   ld r4, r4, 0, any, keep
-  bnz r0, L30
+  bnz r0, L31
   lip r4, P_6
   ld r4, r4, 0, any, keep
-L30:
+L31:
   ;@ line examples/c/say.h:8 in 2
   ;@ var text 1 r4+0 in 2
   lip r12, P_3
@@ -112,30 +113,30 @@ L30:
   ldi r13, 0
   add r2, r4, r13
   isptr r0, r4
-  bz r0, L31
+  bz r0, L32
   ldi r0, 54
   shr r0, r4, r0
   xor r1, r2, r4
   shr r1, r1, r0
-  bnz r1, L31
+  bnz r1, L32
   lea r2, r4, r13
-L31:
+L32:
   ;@ var text 1 - in 2
   mov r0, r2
   mov r1, r3
   lip r14, 2
   br fputs
   ;@ line examples/c/strings.c:8 in 3
-  ;@ var text 3 f128:5 in 3
-  ;@ var first 3 f128:5 in 3
-  mov r0, r8
+  ;@ var text 3 f160:5 in 3
+  ;@ var first 3 f160:5 in 3
+  mov r0, r9
   lip r14, 2
   br strlen
   mov r1, r0
-  ;@ var last 3 f128:5+r1+-1 in 3
-  add r0, r8, r1
+  ;@ var last 3 f160:5+r1+-1 in 3
+  add r0, r9, r1
   addi r0, r0, -1
-  ltu r0, r8, r0
+  ltu r0, r9, r0
   bz r0, L3
 L19:
   addi r6, r1, -1
@@ -143,25 +144,28 @@ L19:
   ldi r5, 0
 L2:
   ;@ line examples/c/strings.c:9 in 3
-  ;@ var first 3 f128:5+r5 in 3
+  ;@ var first 3 f160:5+r5 in 3
   ldi r13, -8
   and r0, r5, r13
-  leab r0, r8, r0
-  shl r1, r5, r11
+  leab r0, r9, r0
+  ldi r13, 3
+  shl r1, r5, r13
   ld r0, r0, 0, any, keep
   shr r7, r0, r1
   ;@ line examples/c/strings.c:10 in 3
   ;@ var kept 2 r7 in 3
   ldi r13, -8
   and r0, r6, r13
-  leab r0, r8, r0
-  shl r1, r6, r11
+  leab r0, r9, r0
+  ldi r13, 3
+  shl r1, r6, r13
   ld r0, r0, 0, any, keep
   shr r4, r0, r1
   ldi r13, -8
   and r0, r5, r13
-  leab r3, r8, r0
-  shl r2, r5, r11
+  leab r3, r9, r0
+  ldi r13, 3
+  shl r2, r5, r13
   ld r1, r3, 0, any, keep
   shr r0, r1, r2
   xor r0, r0, r4
@@ -173,8 +177,9 @@ L2:
   ;@ line examples/c/strings.c:11 in 3
   ldi r13, -8
   and r0, r6, r13
-  leab r3, r8, r0
-  shl r2, r6, r11
+  leab r3, r9, r0
+  ldi r13, 3
+  shl r2, r6, r13
   ld r1, r3, 0, any, keep
   shr r0, r1, r2
   xor r0, r0, r7
@@ -185,11 +190,11 @@ L2:
   xor r0, r1, r0
   st r3, r0, 0, any, keep
   ;@ line examples/c/strings.c:8 in 3
-  ;@ var first 3 f128:5+r5+1 in 3
-  ;@ var last 3 f128:5+r6+-1 in 3
-  add r0, r8, r5
+  ;@ var first 3 f160:5+r5+1 in 3
+  ;@ var last 3 f160:5+r6+-1 in 3
+  add r0, r9, r5
   addi r1, r0, 1
-  add r0, r8, r6
+  add r0, r9, r6
   addi r0, r0, -1
   ltu r0, r1, r0
   bz r0, L3
@@ -197,17 +202,17 @@ L20:
   addi r6, r6, -1
   ;@ var last 3 - in 3
   addi r5, r5, 1
-  ;@ var last 3 f128:5+r6+-1 in 3
+  ;@ var last 3 f160:5+r6+-1 in 3
   br L2
 L3:
   ;@ line examples/c/say.h:8 in 4
   ;@ var last 3 - in 3
   ;@ var first 3 - in 3
-  ;@ var text 1 f128:5 in 4
+  ;@ var text 1 f160:5 in 4
   lip r12, P_3
   ld r12, r12, 0, any, keep
   ld r1, r12, 0, any, keep
-  mov r0, r8
+  mov r0, r9
   lip r14, 2
   br fputs
   ;@ line examples/c/say.h:8 in 5
@@ -218,7 +223,7 @@ L3:
   lip r14, 2
   br fputc
   ;@ line examples/c/strings.c:37
-  mov r0, r8
+  mov r0, r9
   lip r14, 2
   br strlen
   ;@ line examples/c/say.h:15 in 6
@@ -229,9 +234,9 @@ L3:
   ldi r13, 0
   lts r1, r0, r13
   mov r7, r2
-  bnz r1, L32
+  bnz r1, L33
   mov r7, r0
-L32:
+L33:
   ;@ line examples/c/say.h:16 in 6
   ;@ var rest 6 r7 in 6
   ldi r13, 0
@@ -256,13 +261,17 @@ L6:
   ;@ line examples/c/say.h:19 in 6
   ldi r13, 48
   or r4, r0, r13
-  addi r6, r1, 1
-  ;@ var length 5 r6 in 6
+  addi r8, r1, 1
+  shl r0, r8, r11
+  sar r6, r0, r11
+  ;@ var length 5 r8 in 6
   addi r1, r1, 8
   ldi r13, -8
   and r0, r1, r13
-  leab r3, r9, r0
-  shl r2, r1, r11
+  ld r12, r15, 8, any, keep
+  leab r3, r12, r0
+  ldi r13, 3
+  shl r2, r1, r13
   ld r1, r3, 0, any, keep
   shr r0, r1, r2
   xor r0, r0, r4
@@ -276,6 +285,7 @@ L6:
   ltu r0, r7, r13
   bnz r0, L7
 L21:
+  ;@ var length 5 r6 in 6
   mov r1, r6
   ;@ var length 5 - in 6
   mov r7, r5
@@ -283,21 +293,22 @@ L21:
   br L6
 L7:
   ;@ line examples/c/say.h:21 in 6
-  ;@ var length 5 r6 in 6
-  ldi r13, 32
-  shl r0, r6, r13
-  ;@ var length 5 - in 6
-  ldi r13, 32
-  sar r7, r0, r13
+  ;@ var length 5 r8 in 6
+  bz r6, L9
 L8:
   ;@ line examples/c/say.h:22 in 6
-  ;@ var length 5 r7 in 6
-  addi r7, r7, -1
+  addi r8, r8, -1
+  ;@ var length 5 - in 6
+  shl r0, r8, r11
+  sar r7, r0, r11
+  ;@ var length 5 r8 in 6
   addi r1, r7, 8
   ldi r13, -8
   and r0, r1, r13
-  leab r0, r9, r0
-  shl r1, r1, r11
+  ld r12, r15, 8, any, keep
+  leab r0, r12, r0
+  ldi r13, 3
+  shl r1, r1, r13
   ld r0, r0, 0, any, keep
   shr r0, r0, r1
   ldi r13, 56
@@ -311,16 +322,16 @@ L8:
 L9:
   ;@ line examples/c/strings.c:38
   ;@ var length 5 - in 6
-  mov r0, r8
+  mov r0, r9
   ldi r1, 122
   lip r14, 2
   br strchr
   lip r4, P_7
   ld r4, r4, 0, any, keep
-  bnz r0, L33
+  bnz r0, L34
   lip r4, P_8
   ld r4, r4, 0, any, keep
-L33:
+L34:
   ;@ line examples/c/say.h:8 in 7
   ;@ var text 1 r4+0 in 7
   lip r12, P_3
@@ -329,14 +340,14 @@ L33:
   ldi r13, 0
   add r2, r4, r13
   isptr r0, r4
-  bz r0, L34
+  bz r0, L35
   ldi r0, 54
   shr r0, r4, r0
   xor r1, r2, r4
   shr r1, r1, r0
-  bnz r1, L34
+  bnz r1, L35
   lea r2, r4, r13
-L34:
+L35:
   ;@ var text 1 - in 7
   mov r0, r2
   mov r1, r3
@@ -359,44 +370,35 @@ L10:
   ldi r13, 2
   divu r0, r0, r13
   xor r0, r0, r1
-  sub r4, r0, r1
-  ldi r13, 0
-  ldhi r13, 4294967295
-  and r6, r4, r13
+  sub r6, r0, r1
   ;@ line examples/c/strings.c:22 in 8
   ;@ var i 5 0 in 8
   ldi r12, 1
-  lts r0, r12, r5
-  bz r0, L18
+  lts r2, r12, r5
+  bz r2, L18
 L11:
   ;@ line examples/c/strings.c:23 in 8
-  ld r0, r15, 64, any, keep
+  ld r0, r15, 96, any, keep
   ldi r13, 255
-  and r2, r0, r13
+  and r3, r0, r13
   addi r0, r5, -1
-  ldi r13, 32
-  shl r0, r0, r13
-  ldi r13, 32
-  sar r1, r0, r13
+  shl r0, r0, r11
+  sar r1, r0, r11
   ldi r13, -8
   and r0, r1, r13
   ld r12, r15, 0, any, keep
   leab r0, r12, r0
-  shl r1, r1, r11
+  ldi r13, 3
+  shl r1, r1, r13
   ld r0, r0, 0, any, keep
   shr r0, r0, r1
   ldi r13, 255
   and r0, r0, r13
   ;@ var i 5 1 in 8
-  eq r0, r2, r0
-  bnz r0, L26
+  eq r0, r3, r0
+  bz r0, L18
 L27:
-  ;@ var n 5 - in 8
-  ldi r0, 1
-  br L18
-L26:
-  ;@ var n 5 r5 in 8
-  ldi r2, 1
+  ldi r3, 1
   br L15
 L12:
   ;@ line examples/c/strings.c:20 in 8
@@ -407,7 +409,7 @@ L12:
   lip r14, 2
   br isalpha
   bnz r0, L13
-L23:
+L24:
   mov r5, r7
   ;@ var n 5 - in 8
   br L14
@@ -418,13 +420,16 @@ L13:
   lip r14, 2
   br tolower
   mov r4, r0
-  addi r5, r7, 1
+  addi r0, r7, 1
+  shl r0, r0, r11
+  sar r5, r0, r11
   ;@ var n 5 r5 in 8
   ldi r13, -8
   and r0, r7, r13
   ld r12, r15, 0, any, keep
   leab r3, r12, r0
-  shl r2, r7, r11
+  ldi r13, 3
+  shl r2, r7, r13
   ld r1, r3, 0, any, keep
   shr r0, r1, r2
   xor r0, r0, r4
@@ -440,7 +445,8 @@ L14:
   ldi r13, -8
   and r0, r1, r13
   leab r0, r10, r0
-  shl r1, r1, r11
+  ldi r13, 3
+  shl r1, r1, r13
   ld r0, r0, 0, any, keep
   shr r0, r0, r1
   ldi r13, 255
@@ -450,7 +456,7 @@ L14:
   addi r0, r10, 30
   eq r0, r1, r0
   bnz r0, L10
-L24:
+L25:
   addi r9, r9, 1
   ;@ var text 1 - in 8
   mov r7, r5
@@ -461,58 +467,60 @@ L15:
   ;@ line examples/c/strings.c:22 in 8
   ;@ var text 1 - in 8
   ;@ var n 5 r5 in 8
-  ;@ var i 5 r2 in 8
-  eq r0, r2, r6
+  ;@ var i 5 r3 in 8
+  eq r0, r3, r6
   bnz r0, L17
 L16:
   ;@ line examples/c/strings.c:23 in 8
   ldi r13, -8
-  and r0, r2, r13
+  and r0, r3, r13
   ld r12, r15, 0, any, keep
   leab r0, r12, r0
-  shl r1, r2, r11
+  ldi r13, 3
+  shl r1, r3, r13
   ld r0, r0, 0, any, keep
   shr r0, r0, r1
   ldi r13, 255
-  and r3, r0, r13
+  and r4, r0, r13
   ldi r13, -1
-  xor r0, r2, r13
+  xor r0, r3, r13
   add r0, r5, r0
-  ldi r13, 32
-  shl r0, r0, r13
-  ldi r13, 32
-  sar r1, r0, r13
+  shl r0, r0, r11
+  sar r1, r0, r11
   ldi r13, -8
   and r0, r1, r13
   ld r12, r15, 0, any, keep
   leab r0, r12, r0
-  shl r1, r1, r11
+  ldi r13, 3
+  shl r1, r1, r13
   ld r0, r0, 0, any, keep
   shr r0, r0, r1
   ldi r13, 255
-  and r0, r0, r13
+  and r2, r0, r13
   ;@ line examples/c/strings.c:22 in 8
-  addi r1, r2, 1
+  addi r0, r3, 1
+  shl r0, r0, r11
+  sar r1, r0, r11
   ;@ line examples/c/strings.c:23 in 8
   ;@ var i 5 r1 in 8
-  eq r0, r3, r0
+  eq r0, r4, r2
   bz r0, L17
-L28:
-  mov r2, r1
+L29:
+  mov r3, r1
   ;@ var i 5 - in 8
   br L15
 L17:
   ;@ line examples/c/strings.c:22 in 8
   ;@ var n 5 - in 8
-  lts r0, r2, r4
+  lts r2, r3, r6
 L18:
   ;@ line examples/c/strings.c:39
   lip r4, P_9
   ld r4, r4, 0, any, keep
-  bnz r0, L35
+  bnz r2, L36
   lip r4, P_10
   ld r4, r4, 0, any, keep
-L35:
+L36:
   ;@ line examples/c/say.h:8 in 9
   ;@ var text 1 r4+0 in 9
   lip r12, P_3
@@ -521,14 +529,14 @@ L35:
   ldi r13, 0
   add r2, r4, r13
   isptr r0, r4
-  bz r0, L36
+  bz r0, L37
   ldi r0, 54
   shr r0, r4, r0
   xor r1, r2, r4
   shr r1, r1, r0
-  bnz r1, L36
+  bnz r1, L37
   lea r2, r4, r13
-L36:
+L37:
   ;@ var text 1 - in 9
   mov r0, r2
   mov r1, r3
@@ -561,28 +569,30 @@ L36:
   br fputc
   ;@ line examples/c/strings.c:43
   ldi r0, 0
-  ld r7, r15, 8, any, keep
-  ld r8, r15, 16, any, keep
-  ld r9, r15, 24, any, keep
-  ld r10, r15, 32, any, keep
-  ld r11, r15, 40, any, keep
-  ld r14, r15, 48, any, keep
-  ld r15, r15, 56, any, keep
+  ld r7, r15, 16, any, keep
+  ld r8, r15, 24, any, keep
+  ld r9, r15, 32, any, keep
+  ld r10, r15, 40, any, keep
+  ld r11, r15, 48, any, keep
+  ld r14, r15, 56, any, keep
+  ld r15, r15, 64, any, keep
   jmp r14
 tolower:
   ;@ frame back - caller by 0
   mov r3, r0
-  ldi r1, 32
+  ldi r2, 32
   addi r0, r3, -91
-  shl r0, r0, r1
-  sar r0, r0, r1
-  addi r2, r3, 32
+  shl r0, r0, r2
+  sar r1, r0, r2
+  addi r0, r3, 32
+  shl r0, r0, r2
+  sar r2, r0, r2
   ldi r13, -26
-  ltu r1, r0, r13
+  ltu r1, r1, r13
   mov r0, r3
-  bnz r1, L38
+  bnz r1, L39
   mov r0, r2
-L38:
+L39:
   jmp r14
 isalpha:
   ;@ frame back - caller by 0
@@ -620,14 +630,14 @@ strchr:
   shl r0, r0, r3
   sar r1, r0, r3
   eq r0, r5, r1
-  bnz r0, L44
-L45:
-  mov r2, r6
-  br L42
-L44:
+  bnz r0, L45
+L46:
   mov r2, r6
   br L43
-L41:
+L45:
+  mov r2, r6
+  br L44
+L42:
   lea r1, r4, r2
   and r0, r1, r8
   sub r0, r6, r0
@@ -638,24 +648,24 @@ L41:
   shl r0, r0, r3
   sar r1, r0, r3
   eq r0, r5, r1
-  bnz r0, L43
-L42:
+  bnz r0, L44
+L43:
   addi r2, r2, 1
-  bnz r1, L41
-L46:
+  bnz r1, L42
+L47:
   mov r2, r6
   mov r4, r6
-L43:
+L44:
   add r3, r4, r2
   isptr r0, r4
-  bz r0, L49
+  bz r0, L50
   ldi r0, 54
   shr r0, r4, r0
   xor r1, r3, r4
   shr r1, r1, r0
-  bnz r1, L49
+  bnz r1, L50
   lea r3, r4, r2
-L49:
+L50:
   mov r0, r3
   ld r7, r15, 0, any, keep
   ld r8, r15, 8, any, keep
@@ -688,7 +698,7 @@ strstr:
   ldi r6, 7
   ldi r7, 255
   mov r9, r4
-L53:
+L54:
   lea r1, r11, r9
   and r0, r1, r6
   sub r0, r4, r0
@@ -698,24 +708,24 @@ L53:
   shr r0, r0, r1
   and r0, r0, r7
   addi r1, r9, 1
-  bz r0, L54
-L61:
+  bz r0, L55
+L62:
   mov r9, r1
-  br L53
-L54:
-  bz r9, L62
-L63:
+  br L54
+L55:
+  bz r9, L63
+L64:
   mov r8, r4
   st r15, r4, 0, any, keep
-  br L56
-L62:
+  br L57
+L63:
   mov r8, r4
-  br L60
-L55:
-  ld r8, r15, 0, any, keep
+  br L61
 L56:
-  mov r2, r4
+  ld r8, r15, 0, any, keep
 L57:
+  mov r2, r4
+L58:
   add r0, r8, r2
   lea r1, r10, r0
   and r0, r1, r6
@@ -734,16 +744,16 @@ L57:
   shr r0, r0, r1
   and r0, r0, r7
   eq r0, r3, r0
-  bz r0, L59
-L58:
+  bz r0, L60
+L59:
   addi r2, r2, 1
   eq r0, r2, r9
-  bnz r3, L67
+  bnz r3, L68
   ldi r0, 1
-L67:
-  bnz r0, L60
-  br L57
-L59:
+L68:
+  bnz r0, L61
+  br L58
+L60:
   lea r1, r10, r8
   and r0, r1, r6
   sub r0, r4, r0
@@ -755,21 +765,21 @@ L59:
   ld r12, r15, 0, any, keep
   addi r12, r12, 1
   st r15, r12, 0, any, keep
-  bnz r0, L55
-L66:
+  bnz r0, L56
+L67:
   mov r8, r4
   mov r10, r4
-L60:
+L61:
   add r2, r10, r8
   isptr r0, r10
-  bz r0, L68
+  bz r0, L69
   ldi r0, 54
   shr r0, r10, r0
   xor r1, r2, r10
   shr r1, r1, r0
-  bnz r1, L68
+  bnz r1, L69
   lea r2, r10, r8
-L68:
+L69:
   mov r0, r2
   ld r7, r15, 8, any, keep
   ld r8, r15, 16, any, keep
@@ -798,17 +808,17 @@ fputs:
   shl r0, r0, r3
   sar r1, r0, r3
   and r0, r1, r8
-  bz r0, L70
-L72:
+  bz r0, L71
+L73:
   mov r2, r4
-  br L71
-L70:
+  br L72
+L71:
   mov r0, r4
   ld r7, r15, 0, any, keep
   ld r8, r15, 8, any, keep
   leai r15, r15, 16
   jmp r14
-L71:
+L72:
   out r1
   addi r2, r2, 1
   lea r1, r5, r2
@@ -821,8 +831,8 @@ L71:
   shl r0, r0, r3
   sar r1, r0, r3
   and r0, r1, r8
-  bz r0, L70
-  br L71
+  bz r0, L71
+  br L72
 memcpy:
   ;@ frame back - caller by 64
   leai r15, r15, -64
@@ -842,21 +852,21 @@ memcpy:
   ld r12, r15, 0, any, keep
   xor r0, r12, r11
   and r0, r0, r8
-  bz r0, L75
-L100:
-  mov r6, r9
-  br L94
-L75:
-  ld r12, r15, 8, any, keep
-  bnz r12, L76
+  bz r0, L76
 L101:
-  mov r4, r9
-  br L92
+  mov r6, r9
+  br L95
 L76:
+  ld r12, r15, 8, any, keep
+  bnz r12, L77
+L102:
+  mov r4, r9
+  br L93
+L77:
   sub r0, r9, r11
   and r4, r0, r8
-  bz r4, L92
-L77:
+  bz r4, L93
+L78:
   ld r12, r15, 0, any, keep
   and r0, r12, r8
   sub r0, r9, r0
@@ -880,14 +890,14 @@ L77:
   st r3, r0, 0, any, keep
   ld r12, r15, 8, any, keep
   eq r0, r12, r6
-  bz r0, L78
-L103:
+  bz r0, L79
+L104:
   ld r4, r15, 8, any, keep
-  br L92
-L78:
-  eq r0, r4, r6
-  bnz r0, L92
+  br L93
 L79:
+  eq r0, r4, r6
+  bnz r0, L93
+L80:
   ld r12, r15, 0, any, keep
   leai r1, r12, 1
   and r0, r1, r8
@@ -911,14 +921,14 @@ L79:
   st r3, r0, 0, any, keep
   ld r12, r15, 8, any, keep
   eq r0, r12, r7
-  bz r0, L80
-L105:
+  bz r0, L81
+L106:
   ld r4, r15, 8, any, keep
-  br L92
-L80:
-  eq r0, r4, r7
-  bnz r0, L92
+  br L93
 L81:
+  eq r0, r4, r7
+  bnz r0, L93
+L82:
   ld r12, r15, 0, any, keep
   leai r1, r12, 2
   and r0, r1, r8
@@ -942,14 +952,14 @@ L81:
   st r3, r0, 0, any, keep
   ld r12, r15, 8, any, keep
   eq r0, r12, r10
-  bz r0, L82
-L107:
+  bz r0, L83
+L108:
   ld r4, r15, 8, any, keep
-  br L92
-L82:
-  eq r0, r4, r10
-  bnz r0, L92
+  br L93
 L83:
+  eq r0, r4, r10
+  bnz r0, L93
+L84:
   ld r12, r15, 0, any, keep
   leai r1, r12, 3
   and r0, r1, r8
@@ -974,15 +984,15 @@ L83:
   ld r12, r15, 8, any, keep
   ldi r13, 4
   eq r0, r12, r13
-  bz r0, L84
-L109:
+  bz r0, L85
+L110:
   ld r4, r15, 8, any, keep
-  br L92
-L84:
+  br L93
+L85:
   ldi r13, 4
   eq r0, r4, r13
-  bnz r0, L92
-L85:
+  bnz r0, L93
+L86:
   ld r12, r15, 0, any, keep
   leai r1, r12, 4
   and r0, r1, r8
@@ -1007,15 +1017,15 @@ L85:
   ld r12, r15, 8, any, keep
   ldi r13, 5
   eq r0, r12, r13
-  bz r0, L86
-L111:
+  bz r0, L87
+L112:
   ld r4, r15, 8, any, keep
-  br L92
-L86:
+  br L93
+L87:
   ldi r13, 5
   eq r0, r4, r13
-  bnz r0, L92
-L87:
+  bnz r0, L93
+L88:
   ld r12, r15, 0, any, keep
   leai r1, r12, 5
   and r0, r1, r8
@@ -1040,15 +1050,15 @@ L87:
   ld r12, r15, 8, any, keep
   ldi r13, 6
   eq r0, r12, r13
-  bz r0, L88
-L113:
+  bz r0, L89
+L114:
   ld r4, r15, 8, any, keep
-  br L92
-L88:
+  br L93
+L89:
   ldi r13, 6
   eq r0, r4, r13
-  bnz r0, L92
-L89:
+  bnz r0, L93
+L90:
   ld r12, r15, 0, any, keep
   leai r1, r12, 6
   and r0, r1, r8
@@ -1072,14 +1082,14 @@ L89:
   st r3, r0, 0, any, keep
   ld r12, r15, 8, any, keep
   eq r0, r12, r8
-  bz r0, L90
-L115:
+  bz r0, L91
+L116:
   ld r4, r15, 8, any, keep
-  br L92
-L90:
-  eq r0, r4, r8
-  bnz r0, L92
+  br L93
 L91:
+  eq r0, r4, r8
+  bnz r0, L93
+L92:
   ld r12, r15, 0, any, keep
   leai r1, r12, 7
   and r0, r1, r8
@@ -1102,15 +1112,15 @@ L91:
   xor r0, r1, r0
   st r3, r0, 0, any, keep
   ld r4, r15, 8, any, keep
-L92:
+L93:
   addi r6, r4, 8
   ld r12, r15, 8, any, keep
   ltu r0, r12, r6
-  bz r0, L93
-L117:
+  bz r0, L94
+L118:
   mov r6, r4
-  br L94
-L93:
+  br L95
+L94:
   ld r12, r15, 0, any, keep
   lea r0, r12, r4
   ld r1, r0, 0, any, keep
@@ -1119,16 +1129,16 @@ L93:
   addi r1, r6, 8
   ld r12, r15, 8, any, keep
   ltu r0, r12, r1
-  bnz r0, L94
-L120:
+  bnz r0, L95
+L121:
   mov r4, r6
   mov r6, r1
-  br L93
-L94:
+  br L94
+L95:
   ld r13, r15, 8, any, keep
   ltu r0, r6, r13
-  bz r0, L99
-L95:
+  bz r0, L100
+L96:
   ld r12, r15, 8, any, keep
   sub r1, r12, r6
   ldi r13, -1
@@ -1137,10 +1147,10 @@ L95:
   add r12, r0, r13
   st r15, r12, 16, any, keep
   and r7, r1, r10
-  bz r7, L97
-L122:
+  bz r7, L98
+L123:
   mov r5, r9
-L96:
+L97:
   ld r12, r15, 0, any, keep
   lea r1, r12, r6
   and r0, r1, r8
@@ -1165,12 +1175,12 @@ L96:
   addi r6, r6, 1
   addi r5, r5, 1
   eq r0, r5, r7
-  bz r0, L96
-L97:
+  bz r0, L97
+L98:
   ld r12, r15, 16, any, keep
   ltu r0, r12, r10
-  bnz r0, L99
-L98:
+  bnz r0, L100
+L99:
   ld r12, r15, 0, any, keep
   lea r1, r12, r6
   and r0, r1, r8
@@ -1261,8 +1271,8 @@ L98:
   addi r6, r6, 4
   ld r13, r15, 8, any, keep
   eq r0, r6, r13
-  bz r0, L98
-L99:
+  bz r0, L99
+L100:
   mov r0, r11
   ld r7, r15, 24, any, keep
   ld r8, r15, 32, any, keep
@@ -1281,7 +1291,7 @@ strlen:
   ldi r6, 7
   ldi r7, 255
   mov r2, r4
-L128:
+L129:
   lea r1, r3, r2
   and r0, r1, r6
   sub r0, r4, r0
@@ -1291,11 +1301,11 @@ L128:
   shr r0, r0, r1
   and r0, r0, r7
   addi r1, r2, 1
-  bz r0, L129
-L130:
+  bz r0, L130
+L131:
   mov r2, r1
-  br L128
-L129:
+  br L129
+L130:
   mov r0, r2
   ld r7, r15, 0, any, keep
   leai r15, r15, 8
@@ -1312,36 +1322,45 @@ P_8: .ptr ro _str_6+4
 P_9: .ptr ro _str_9+2
 P_10: .ptr ro _str_8+2
 .segment __const_main_room 5
-  ;@ global room 32 at 0
+  ;@ global room 32 at 0 constant
   .int 0x64656472617567
 .segment _str 4
+  ;@ unnamed at 7 constant
   .int 0x2000000000000000
   .int 0x7265746e696f70
 .segment stdout 3
   ;@ global stdout 8 at 0
   .ptr rw files+8
 .segment _str_1 3
+  ;@ unnamed at 2 constant
   .int 0x746e696f700000
 .segment _str_2 4
+  ;@ unnamed at 2 constant
   .int 0x6120736168200000
   .int 0xa746e696f7020
 .segment _str_3 4
+  ;@ unnamed at 5 constant
   .int 0x6168200000000000
   .int 0xa656e6f6e2073
 .segment _str_6 4
+  ;@ unnamed at 4 constant
   .int 0x7469772000000000
   .int 0xa7a2074756f68
 .segment _str_5 4
+  ;@ unnamed at 7 constant
   .int 0x2000000000000000
   .int 0xa7a2068746977
 .segment _str_7 5
+  ;@ unnamed at 1 constant
   .int 0x202c6e616d204100
   .int 0x202c6e616c702061
   .int 0x3a6c616e61632061
   .int 0x616d616e615020
 .segment _str_9 3
+  ;@ unnamed at 2 constant
   .int 0xa656e6f6e0000
 .segment _str_8 4
+  ;@ unnamed at 2 constant
   .int 0x696c617020610000
   .int 0xa656d6f72646e
 .segment files 4

@@ -24,12 +24,12 @@ thief_main:
   st r15, r10, 24, any, keep
   st r15, r11, 32, any, keep
   st r15, r14, 40, any, keep
-  leai r9, r15, 72
+  leai r11, r15, 72
   ldi r14, 5
-  subseg r9, r9, r14
-  ldi r8, 10
-  ldi r10, 3
-  ldi r11, -8
+  subseg r11, r11, r14
+  ldi r8, 0
+  ldi r9, 10
+  ldi r10, 32
   ;@ line examples/c/thief.c:9
   lip r13, P_0
   ld r13, r13, 0, any, keep
@@ -37,18 +37,15 @@ thief_main:
   ;@ line examples/c/say.h:15 in 1
   ;@ var number 1 r0 in 1
   ;@ var length 2 0 in 1
-  ldi r12, 0
-  sub r2, r12, r0
-  ldi r13, 0
-  lts r1, r0, r13
+  sub r2, r8, r0
+  lts r1, r0, r8
   mov r7, r2
-  bnz r1, L10
+  bnz r1, L11
   mov r7, r0
-L10:
+L11:
   ;@ line examples/c/say.h:16 in 1
   ;@ var rest 3 r7 in 1
-  ldi r13, 0
-  lts r0, r0, r13
+  lts r0, r0, r8
   ;@ var number 1 - in 1
   bz r0, L3
 L2:
@@ -57,22 +54,26 @@ L2:
   lip r14, 2
   br thief_putchar
 L3:
-  ldi r1, 0
+  mov r1, r8
 L4:
   ;@ line examples/c/say.h:20 in 1
   ;@ var length 2 r1 in 1
-  divu r5, r7, r8
-  mul r0, r5, r8
+  divu r5, r7, r9
+  mul r0, r5, r9
   sub r0, r7, r0
   ;@ line examples/c/say.h:19 in 1
   ldi r13, 48
   or r4, r0, r13
-  addi r6, r1, 1
-  ;@ var length 2 r6 in 1
+  addi r8, r1, 1
+  shl r0, r8, r10
+  sar r6, r0, r10
+  ;@ var length 2 r8 in 1
   addi r1, r1, 8
-  and r0, r1, r11
-  leab r3, r9, r0
-  shl r2, r1, r10
+  ldi r13, -8
+  and r0, r1, r13
+  leab r3, r11, r0
+  ldi r13, 3
+  shl r2, r1, r13
   ld r1, r3, 0, any, keep
   shr r0, r1, r2
   xor r0, r0, r4
@@ -82,9 +83,10 @@ L4:
   xor r0, r1, r0
   st r3, r0, 0, any, keep
   ;@ var rest 3 r5 in 1
-  ltu r0, r7, r8
+  ltu r0, r7, r9
   bnz r0, L5
 L8:
+  ;@ var length 2 r6 in 1
   mov r1, r6
   ;@ var length 2 - in 1
   mov r7, r5
@@ -92,20 +94,21 @@ L8:
   br L4
 L5:
   ;@ line examples/c/say.h:21 in 1
-  ;@ var length 2 r6 in 1
-  ldi r13, 32
-  shl r0, r6, r13
-  ;@ var length 2 - in 1
-  ldi r13, 32
-  sar r7, r0, r13
+  ;@ var length 2 r8 in 1
+  bz r6, L7
 L6:
   ;@ line examples/c/say.h:22 in 1
-  ;@ var length 2 r7 in 1
-  addi r7, r7, -1
+  addi r8, r8, -1
+  ;@ var length 2 - in 1
+  shl r0, r8, r10
+  sar r7, r0, r10
+  ;@ var length 2 r8 in 1
   addi r1, r7, 8
-  and r0, r1, r11
-  leab r0, r9, r0
-  shl r1, r1, r10
+  ldi r13, -8
+  and r0, r1, r13
+  leab r0, r11, r0
+  ldi r13, 3
+  shl r1, r1, r13
   ld r0, r0, 0, any, keep
   shr r0, r0, r1
   ldi r13, 56
@@ -122,17 +125,15 @@ L7:
   lip r12, P_1
   ld r12, r12, 0, any, keep
   ld r1, r12, 0, any, keep
-  ldi r0, 32
+  mov r0, r10
   lip r14, 2
   br thief_fputc
   ;@ line examples/c/thief.c:12
   lip r12, P_0
   ld r12, r12, 0, any, keep
   ld r0, r12, 0, any, keep
-  ldi r13, 32
-  shl r0, r0, r13
-  ldi r13, 32
-  sar r0, r0, r13
+  shl r0, r0, r10
+  sar r0, r0, r10
   ld r7, r15, 0, any, keep
   ld r8, r15, 8, any, keep
   ld r9, r15, 16, any, keep

@@ -27,9 +27,9 @@ main:
   st r15, r10, 40, any, keep
   st r15, r11, 48, any, keep
   st r15, r14, 56, any, keep
-  leai r8, r15, 104
+  leai r10, r15, 104
   ldi r14, 5
-  subseg r8, r8, r14
+  subseg r10, r10, r14
   leai r12, r15, 304
   ldi r14, 7
   subseg r12, r12, r14
@@ -40,10 +40,11 @@ main:
   st r15, r12, 8, any, keep
   lip r7, P_0
   ld r7, r7, 0, any, keep
-  ldi r10, 10
-  ldi r11, -8
-  lip r9, P_1
-  ld r9, r9, 0, any, keep
+  ldi r8, 0
+  ldhi r8, 4294967295
+  ldi r9, 32
+  lip r11, P_1
+  ld r11, r11, 0, any, keep
   ;@ line examples/c/words.c:50
   ld r0, r15, 0, any, keep
   lip r1, P_2
@@ -103,9 +104,7 @@ L3:
   addi r0, r0, 1
   ld r1, r2, 16, any, keep
   xor r0, r1, r0
-  ldi r13, 0
-  ldhi r13, 4294967295
-  and r0, r0, r13
+  and r0, r0, r8
   xor r0, r1, r0
   st r2, r0, 16, any, keep
   ;@ line examples/c/words.c:51
@@ -119,18 +118,18 @@ L3:
 L4:
   ;@ line examples/c/words.c:54
   ;@ var word 1 -
-  ;@ var i 3 r10 in 1
+  ;@ var i 3 r9 in 1
   ldi r13, 3
-  shl r8, r10, r13
+  shl r8, r9, r13
   ;@ line examples/c/words.c:40 in 1
-  lea r0, r9, r8
+  lea r0, r11, r8
   ld r7, r0, 0, any, keep
   bz r7, L6
 L5:
   ;@ line examples/c/words.c:42 in 1
   ;@ var gone 4 r7 in 1
   ld r1, r7, 0, any, keep
-  lea r0, r9, r8
+  lea r0, r11, r8
   st r0, r1, 0, any, keep
   ;@ line examples/c/words.c:43 in 1
   ld r0, r7, 8, any, keep
@@ -142,14 +141,14 @@ L5:
   br free
   ;@ line examples/c/words.c:40 in 1
   ;@ var gone 4 - in 1
-  lea r0, r9, r8
+  lea r0, r11, r8
   ld r7, r0, 0, any, keep
   bnz r7, L5
 L6:
   ;@ line examples/c/words.c:39 in 1
-  addi r10, r10, 1
+  addi r9, r9, 1
   ldi r13, 16
-  eq r0, r10, r13
+  eq r0, r9, r13
   bz r0, L4
 L7:
   ;@ line examples/c/words.c:61
@@ -181,7 +180,7 @@ L8:
   lip r14, 2
   br fputs
   ;@ line examples/c/words.c:56
-  ldi r0, 32
+  mov r0, r9
   lip r14, 2
   br putchar
   ;@ line examples/c/words.c:57
@@ -190,10 +189,8 @@ L8:
   br find
   ;@ var text 6 - in 2
   ld r0, r0, 16, any, keep
-  ldi r13, 32
-  shl r0, r0, r13
-  ldi r13, 32
-  sar r0, r0, r13
+  shl r0, r0, r9
+  sar r0, r0, r9
   ;@ line examples/c/say.h:15 in 3
   ;@ var number 7 r0 in 3
   ;@ var length 3 0 in 3
@@ -202,9 +199,9 @@ L8:
   ldi r13, 0
   lts r1, r0, r13
   mov r7, r2
-  bnz r1, L24
+  bnz r1, L25
   mov r7, r0
-L24:
+L25:
   ;@ line examples/c/say.h:16 in 3
   ;@ var rest 8 r7 in 3
   ldi r13, 0
@@ -221,17 +218,22 @@ L10:
 L11:
   ;@ line examples/c/say.h:20 in 3
   ;@ var length 3 r1 in 3
-  divu r5, r7, r10
-  mul r0, r5, r10
+  ldi r13, 10
+  divu r5, r7, r13
+  ldi r13, 10
+  mul r0, r5, r13
   sub r0, r7, r0
   ;@ line examples/c/say.h:19 in 3
   ldi r13, 48
   or r4, r0, r13
-  addi r6, r1, 1
-  ;@ var length 3 r6 in 3
+  addi r8, r1, 1
+  shl r0, r8, r9
+  sar r6, r0, r9
+  ;@ var length 3 r8 in 3
   addi r1, r1, 8
-  and r0, r1, r11
-  leab r3, r8, r0
+  ldi r13, -8
+  and r0, r1, r13
+  leab r3, r10, r0
   ldi r13, 3
   shl r2, r1, r13
   ld r1, r3, 0, any, keep
@@ -243,9 +245,11 @@ L11:
   xor r0, r1, r0
   st r3, r0, 0, any, keep
   ;@ var rest 8 r5 in 3
-  ltu r0, r7, r10
+  ldi r13, 10
+  ltu r0, r7, r13
   bnz r0, L12
 L17:
+  ;@ var length 3 r6 in 3
   mov r1, r6
   ;@ var length 3 - in 3
   mov r7, r5
@@ -253,19 +257,19 @@ L17:
   br L11
 L12:
   ;@ line examples/c/say.h:21 in 3
-  ;@ var length 3 r6 in 3
-  ldi r13, 32
-  shl r0, r6, r13
-  ;@ var length 3 - in 3
-  ldi r13, 32
-  sar r7, r0, r13
+  ;@ var length 3 r8 in 3
+  bz r6, L14
 L13:
   ;@ line examples/c/say.h:22 in 3
-  ;@ var length 3 r7 in 3
-  addi r7, r7, -1
+  addi r8, r8, -1
+  ;@ var length 3 - in 3
+  shl r0, r8, r9
+  sar r7, r0, r9
+  ;@ var length 3 r8 in 3
   addi r1, r7, 8
-  and r0, r1, r11
-  leab r0, r8, r0
+  ldi r13, -8
+  and r0, r1, r13
+  leab r0, r10, r0
   ldi r13, 3
   shl r1, r1, r13
   ld r0, r0, 0, any, keep
@@ -281,7 +285,7 @@ L13:
 L14:
   ;@ line examples/c/words.c:58
   ;@ var length 3 - in 3
-  mov r0, r10
+  ldi r0, 10
   lip r14, 2
   br putchar
   ;@ line examples/c/words.c:54
@@ -292,9 +296,9 @@ L14:
   ldi r13, 5
   eq r0, r12, r13
   bz r0, L8
-L19:
+L20:
   ;@ var i 3 -
-  ldi r10, 0
+  ldi r9, 0
   br L4
 free:
   ;@ frame back 32 caller by 40
@@ -312,8 +316,8 @@ free:
   ldi r8, 54
   ldi r6, 63
   ldi r5, 1
-  bz r2, L30
-L26:
+  bz r2, L31
+L27:
   and r1, r2, r0
   and r0, r3, r0
   sub r1, r1, r0
@@ -340,9 +344,9 @@ L26:
   ldi r13, 64
   ltu r1, r0, r13
   mov r0, r5
-  bnz r1, L32
+  bnz r1, L33
   mov r0, r2
-L32:
+L33:
   add r0, r4, r0
   ldi r13, 3
   shl r2, r0, r13
@@ -351,17 +355,17 @@ L32:
   addi r0, r0, -3
   shl r0, r5, r0
   ltu r0, r7, r0
-  bz r0, L28
-L27:
+  bz r0, L29
+L28:
   lea r0, r3, r2
   ld r1, r0, 0, any, keep
   and r0, r1, r9
-  bnz r0, L29
-L28:
+  bnz r0, L30
+L29:
   trap 8
   lea r0, r3, r2
   ld r1, r0, 0, any, keep
-L29:
+L30:
   xor r1, r1, r9
   lea r0, r3, r2
   st r0, r1, 0, any, keep
@@ -371,7 +375,7 @@ L29:
   mov r1, r10
   lip r14, 2
   br change
-L30:
+L31:
   ld r7, r15, 0, any, keep
   ld r8, r15, 8, any, keep
   ld r9, r15, 16, any, keep
@@ -393,9 +397,9 @@ change:
   xor r1, r0, r3
   ldi r13, 64
   ltu r0, r5, r13
-  bnz r0, L38
+  bnz r0, L39
   mov r1, r3
-L38:
+L39:
   ldi r13, 63
   and r0, r2, r13
   shl r6, r1, r0
@@ -406,12 +410,12 @@ L38:
   ldi r13, 6
   shr r5, r0, r13
   ltu r0, r5, r3
-  bz r0, L35
-L34:
+  bz r0, L36
+L35:
   ld r7, r15, 0, any, keep
   leai r15, r15, 8
   jmp r14
-L35:
+L36:
   shl r2, r3, r7
   lea r0, r4, r2
   ld r0, r0, 0, any, keep
@@ -420,10 +424,10 @@ L35:
   st r0, r1, 0, any, keep
   addi r1, r3, 1
   eq r0, r3, r5
-  bnz r0, L34
-L37:
+  bnz r0, L35
+L38:
   mov r3, r1
-  br L35
+  br L36
 putchar:
   ;@ frame back - caller by 0
   out r0
@@ -450,17 +454,17 @@ fputs:
   shl r0, r0, r3
   sar r1, r0, r3
   and r0, r1, r8
-  bz r0, L41
-L43:
+  bz r0, L42
+L44:
   mov r2, r4
-  br L42
-L41:
+  br L43
+L42:
   mov r0, r4
   ld r7, r15, 0, any, keep
   ld r8, r15, 8, any, keep
   leai r15, r15, 16
   jmp r14
-L42:
+L43:
   out r1
   addi r2, r2, 1
   lea r1, r5, r2
@@ -473,8 +477,8 @@ L42:
   shl r0, r0, r3
   sar r1, r0, r3
   and r0, r1, r8
-  bz r0, L41
-  br L42
+  bz r0, L42
+  br L43
 find:
   ;@ function find at examples/c/words.c:24
   ;@ inlined 1 hash at examples/c/words.c:26
@@ -505,15 +509,15 @@ find:
   ld r0, r0, 0, any, keep
   shr r0, r0, r1
   and r0, r0, r5
-  bz r0, L54
-L55:
+  bz r0, L55
+L56:
   ldi r3, -2128831035
   mov r2, r11
-  br L46
-L54:
+  br L47
+L55:
   ldi r0, 5
-  br L48
-L46:
+  br L49
+L47:
   ;@ line examples/c/words.c:20 in 1
   ;@ var h 12 r3 in 1
   ;@ var word 6 r9+r2 in 1
@@ -532,18 +536,18 @@ L46:
   ld r0, r0, 0, any, keep
   shr r0, r0, r1
   and r0, r0, r5
-  bz r0, L47
-L56:
+  bz r0, L48
+L57:
   addi r2, r2, 1
   ;@ var h 12 - in 1
-  br L46
-L47:
+  br L47
+L48:
   ;@ line examples/c/words.c:21 in 1
   ;@ var word 6 - in 1
   ;@ var h 12 r3 in 1
   ldi r13, 15
   and r0, r3, r13
-L48:
+L49:
   ;@ line examples/c/words.c:26
   ;@ var h 12 - in 1
   shl r10, r0, r6
@@ -551,32 +555,32 @@ L48:
   ;@ var place 13 @chains+r10
   lea r0, r8, r10
   ld r7, r0, 0, any, keep
-  bnz r7, L49
-L57:
+  bnz r7, L50
+L58:
   ;@ var place 13 -
   st r15, r8, 0, any, keep
-  br L52
-L49:
+  br L53
+L50:
   ;@ line examples/c/words.c:28
   ld r0, r7, 8, any, keep
   mov r1, r9
   lip r14, 2
   br strcmp
-  bz r0, L53
-L50:
+  bz r0, L54
+L51:
   ;@ line examples/c/words.c:27
   ;@ var place 13 r7
   ld r0, r7, 0, any, keep
-  bz r0, L51
-L60:
+  bz r0, L52
+L61:
   ;@ var place 13 -
   mov r7, r0
   ;@ var place 13 r7
-  br L49
-L51:
+  br L50
+L52:
   mov r10, r11
   st r15, r7, 0, any, keep
-L52:
+L53:
   ;@ line examples/c/words.c:30
   ;@ var place 13 -
   ldi r0, 24
@@ -612,7 +616,7 @@ L52:
   ld r12, r15, 0, any, keep
   lea r0, r12, r10
   st r0, r7, 0, any, keep
-L53:
+L54:
   ;@ line examples/c/words.c:35
   ;@ var made 4 -
   mov r0, r7
@@ -639,7 +643,7 @@ strcpy:
   ldi r8, 7
   ldi r10, 255
   mov r5, r6
-L62:
+L63:
   lea r1, r9, r5
   and r0, r1, r8
   sub r0, r6, r0
@@ -668,11 +672,11 @@ L62:
   ld r0, r0, 0, any, keep
   shr r0, r0, r1
   and r0, r0, r10
-  bz r0, L63
-L64:
+  bz r0, L64
+L65:
   mov r5, r2
-  br L62
-L63:
+  br L63
+L64:
   mov r0, r11
   ld r7, r15, 0, any, keep
   ld r8, r15, 8, any, keep
@@ -691,7 +695,7 @@ strlen:
   ldi r6, 7
   ldi r7, 255
   mov r2, r4
-L66:
+L67:
   lea r1, r3, r2
   and r0, r1, r6
   sub r0, r4, r0
@@ -701,11 +705,11 @@ L66:
   shr r0, r0, r1
   and r0, r0, r7
   addi r1, r2, 1
-  bz r0, L67
-L68:
+  bz r0, L68
+L69:
   mov r2, r1
-  br L66
-L67:
+  br L67
+L68:
   mov r0, r2
   ld r7, r15, 0, any, keep
   leai r15, r15, 8
@@ -727,8 +731,8 @@ malloc:
   lip r12, P_10
   ld r12, r12, 0, any, keep
   ld r0, r12, 0, any, keep
-  bnz r0, L73
-L70:
+  bnz r0, L74
+L71:
   ldi r13, 54
   shr r0, r11, r13
   ldi r13, 63
@@ -748,9 +752,9 @@ L70:
   ldi r13, 64
   ltu r1, r0, r13
   ldi r0, 1
-  bnz r1, L86
+  bnz r1, L87
   mov r0, r2
-L86:
+L87:
   ldi r13, 1
   shl r0, r0, r13
   lip r12, P_10
@@ -775,9 +779,9 @@ L86:
   ldi r13, 64
   ltu r1, r0, r13
   ldi r0, 1
-  bnz r1, L87
+  bnz r1, L88
   mov r0, r2
-L87:
+L88:
   ldi r13, 1
   shl r1, r0, r13
   ldi r13, 54
@@ -788,15 +792,15 @@ L87:
   ldi r12, 1
   shl r0, r12, r0
   ltu r0, r1, r0
-  bnz r0, L72
-L71:
+  bnz r0, L73
+L72:
   lip r12, P_10
   ld r12, r12, 0, any, keep
   st r12, r9, 0, any, keep
   mov r4, r9
   mov r8, r9
-  br L80
-L72:
+  br L81
+L73:
   ldi r13, 54
   shr r0, r11, r13
   ldi r13, 63
@@ -816,25 +820,25 @@ L72:
   ldi r13, 64
   ltu r1, r0, r13
   ldi r0, 1
-  bnz r1, L88
+  bnz r1, L89
   mov r0, r2
-L88:
+L89:
   ldi r13, 1
   shl r1, r0, r13
   mov r0, r9
   lip r14, 2
   br change
-L73:
+L74:
   addi r0, r7, 7
   ldi r13, -8
   and r0, r0, r13
   mov r13, r0
-  bnz r7, L89
+  bnz r7, L90
   ldi r13, 8
-L89:
+L90:
   st r15, r13, 16, any, keep
   mov r8, r10
-L74:
+L75:
   ldi r12, 1
   shl r12, r12, r8
   st r15, r12, 8, any, keep
@@ -842,16 +846,16 @@ L74:
   ld r12, r15, 8, any, keep
   ld r13, r15, 16, any, keep
   ltu r0, r12, r13
-  bz r0, L75
-L81:
+  bz r0, L76
+L82:
   mov r8, r1
-  br L74
-L75:
+  br L75
+L76:
   ldi r13, 54
   shr r0, r11, r13
   ldi r13, 63
   and r0, r0, r13
-  ltu r2, r8, r0
+  lts r2, r8, r0
   ldi r13, 54
   shr r0, r11, r13
   ldi r13, 63
@@ -863,15 +867,15 @@ L75:
   ld r13, r15, 16, any, keep
   ltu r1, r0, r13
   mov r0, r9
-  bnz r1, L90
+  bnz r1, L91
   mov r0, r2
-L90:
-  bnz r0, L76
-L82:
+L91:
+  bnz r0, L77
+L83:
   mov r4, r9
   mov r8, r9
-  br L80
-L76:
+  br L81
+L77:
   addi r0, r8, -3
   ldi r12, 1
   shl r7, r12, r0
@@ -888,12 +892,12 @@ L76:
   shl r0, r12, r0
   ld r12, r15, 0, any, keep
   eq r0, r12, r0
-  bz r0, L77
-L83:
+  bz r0, L78
+L84:
   mov r4, r9
   mov r8, r9
-  br L80
-L77:
+  br L81
+L78:
   ld r12, r15, 0, any, keep
   shl r0, r12, r10
   leab r0, r11, r0
@@ -903,11 +907,11 @@ L77:
   ld r0, r12, 0, any, keep
   ld r12, r15, 0, any, keep
   ltu r0, r12, r0
-  bz r0, L78
-L84:
+  bz r0, L79
+L85:
   mov r1, r9
-  br L79
-L78:
+  br L80
+L79:
   mov r1, r7
   ld r0, r15, 0, any, keep
   lip r14, 2
@@ -921,9 +925,9 @@ L78:
   ld r12, r12, 0, any, keep
   ld r1, r12, 0, any, keep
   ltu r2, r1, r0
-  bnz r2, L91
+  bnz r2, L92
   mov r0, r1
-L91:
+L92:
   lip r12, P_11
   ld r12, r12, 0, any, keep
   st r12, r0, 0, any, keep
@@ -964,9 +968,9 @@ L91:
   ldi r13, 64
   ltu r1, r0, r13
   ldi r0, 1
-  bnz r1, L92
+  bnz r1, L93
   mov r0, r2
-L92:
+L93:
   add r0, r3, r0
   shl r2, r0, r10
   lea r0, r11, r2
@@ -974,26 +978,26 @@ L92:
   or r1, r0, r5
   lea r0, r11, r2
   st r0, r1, 0, any, keep
-  br L80
-L79:
+  br L81
+L80:
   shl r0, r1, r10
   lea r0, r8, r0
   st r0, r9, 0, any, keep
   addi r1, r1, 1
   ltu r0, r1, r7
-  bnz r0, L79
-  br L78
-L80:
+  bnz r0, L80
+  br L79
+L81:
   add r2, r8, r4
   isptr r0, r8
-  bz r0, L93
+  bz r0, L94
   ldi r0, 54
   shr r0, r8, r0
   xor r1, r2, r8
   shr r1, r1, r0
-  bnz r1, L93
+  bnz r1, L94
   lea r2, r8, r4
-L93:
+L94:
   mov r0, r2
   ld r7, r15, 24, any, keep
   ld r8, r15, 32, any, keep
@@ -1036,7 +1040,7 @@ find_2:
   add r12, r12, r0
   st r15, r12, 8, any, keep
   ldi r8, 0
-L95:
+L96:
   ld r13, r15, 0, any, keep
   add r1, r10, r13
   ldi r13, 54
@@ -1047,18 +1051,18 @@ L95:
   shl r0, r12, r0
   ltu r0, r0, r1
   ldi r7, 0
-  bnz r0, L110
+  bnz r0, L111
   mov r7, r10
-L110:
+L111:
   and r0, r7, r11
   ldi r13, 0
   eq r1, r0, r13
   ld r12, r15, 0, any, keep
   ldi r13, 64
   ltu r0, r12, r13
-  bnz r0, L111
+  bnz r0, L112
   ldi r1, 0
-L111:
+L112:
   ldi r13, 54
   shr r0, r9, r13
   and r0, r0, r11
@@ -1066,11 +1070,11 @@ L111:
   ldi r12, 1
   shl r0, r12, r0
   ltu r0, r7, r0
-  bnz r1, L112
+  bnz r1, L113
   ldi r0, 0
-L112:
-  bz r0, L98
-L96:
+L113:
+  bz r0, L99
+L97:
   ldi r13, 6
   shr r0, r7, r13
   ldi r13, 3
@@ -1079,8 +1083,8 @@ L96:
   ld r0, r0, 0, any, keep
   ldi r13, -1
   eq r0, r0, r13
-  bz r0, L98
-L97:
+  bz r0, L99
+L98:
   addi r7, r7, 64
   addi r8, r8, 64
   ldi r13, 54
@@ -1090,8 +1094,8 @@ L97:
   ldi r12, 1
   shl r0, r12, r0
   ltu r0, r7, r0
-  bnz r0, L96
-L98:
+  bnz r0, L97
+L99:
   ld r13, r15, 0, any, keep
   add r10, r7, r13
   ldi r13, 54
@@ -1101,27 +1105,27 @@ L98:
   ldi r12, 1
   shl r0, r12, r0
   ltu r0, r0, r10
-  bnz r0, L100
-L99:
+  bnz r0, L101
+L100:
   mov r0, r7
   ld r1, r15, 0, any, keep
   lip r14, 2
   br is_free
-  bnz r0, L101
-L100:
+  bnz r0, L102
+L101:
   ld r13, r15, 0, any, keep
   add r8, r8, r13
   ld r12, r15, 8, any, keep
   ltu r0, r12, r8
-  bz r0, L95
-L108:
+  bz r0, L96
+L109:
   ldi r13, 54
   shr r0, r9, r13
   and r0, r0, r11
   addi r0, r0, -3
   ldi r12, 1
   shl r7, r12, r0
-L101:
+L102:
   mov r0, r7
   ld r7, r15, 16, any, keep
   ld r8, r15, 24, any, keep
@@ -1145,9 +1149,9 @@ is_free:
   xor r1, r0, r2
   ldi r13, 64
   ltu r0, r6, r13
-  bnz r0, L123
+  bnz r0, L124
   mov r1, r2
-L123:
+L124:
   ldi r13, 63
   and r0, r4, r13
   shl r5, r1, r0
@@ -1158,37 +1162,37 @@ L123:
   ldi r13, 6
   shr r4, r0, r13
   ltu r0, r4, r2
-  bz r0, L114
-L119:
+  bz r0, L115
+L120:
   ldi r0, 1
-  br L118
-L114:
+  br L119
+L115:
   shl r0, r2, r7
   lea r0, r3, r0
   ld r0, r0, 0, any, keep
   and r0, r0, r5
-  bz r0, L115
-L121:
+  bz r0, L116
+L122:
   ldi r0, 0
-  br L118
-L115:
+  br L119
+L116:
   addi r1, r2, 1
   eq r0, r2, r4
-  bnz r0, L117
-L116:
+  bnz r0, L118
+L117:
   shl r0, r1, r7
   lea r0, r3, r0
   ld r0, r0, 0, any, keep
   and r0, r0, r5
-  bnz r0, L117
-L122:
+  bnz r0, L118
+L123:
   mov r2, r1
-  br L115
-L117:
+  br L116
+L118:
   ltu r0, r2, r4
   ldi r13, 0
   eq r0, r0, r13
-L118:
+L119:
   ld r7, r15, 0, any, keep
   leai r15, r15, 8
   jmp r14
@@ -1209,7 +1213,7 @@ strcmp:
   ldi r8, -1
   ldi r9, 1
   mov r3, r4
-L125:
+L126:
   lea r1, r10, r3
   and r0, r1, r6
   sub r0, r4, r0
@@ -1227,24 +1231,24 @@ L125:
   shr r0, r0, r1
   and r1, r0, r7
   eq r0, r2, r1
-  bnz r0, L127
-L126:
+  bnz r0, L128
+L127:
   ltu r0, r2, r1
   mov r1, r8
-  bnz r0, L128
+  bnz r0, L129
   mov r1, r9
-L131:
-  br L128
-L127:
+L132:
+  br L129
+L128:
   addi r3, r3, 1
   eq r0, r3, r8
-  bnz r2, L132
+  bnz r2, L133
   mov r0, r9
-L132:
-  bz r0, L125
-L129:
+L133:
+  bz r0, L126
+L130:
   mov r1, r4
-L128:
+L129:
   mov r0, r1
   ld r7, r15, 0, any, keep
   ld r8, r15, 8, any, keep
@@ -1268,19 +1272,19 @@ strtok:
   ldi r8, 7
   ldi r4, 56
   ld r12, r15, 0, any, keep
-  bnz r12, L135
-L134:
+  bnz r12, L136
+L135:
   lip r12, P_12
   ld r12, r12, 0, any, keep
   ld r12, r12, 0, any, keep
   st r15, r12, 0, any, keep
   ld r12, r15, 0, any, keep
-  bnz r12, L135
-L152:
+  bnz r12, L136
+L153:
   mov r10, r7
   st r15, r7, 0, any, keep
-  br L150
-L135:
+  br L151
+L136:
   ld r12, r15, 0, any, keep
   and r0, r12, r8
   sub r0, r7, r0
@@ -1294,14 +1298,14 @@ L135:
   sar r5, r0, r4
   ldi r13, 255
   and r0, r5, r13
-  bnz r0, L136
-L154:
+  bnz r0, L137
+L155:
   mov r3, r7
   mov r4, r7
   mov r10, r7
   st r15, r7, 0, any, keep
-  br L149
-L136:
+  br L150
+L137:
   and r0, r6, r8
   sub r0, r7, r0
   lea r0, r6, r0
@@ -1311,14 +1315,14 @@ L136:
   shl r0, r0, r4
   sar r3, r0, r4
   mov r10, r7
-L137:
+L138:
   eq r0, r5, r3
-  bnz r0, L140
-L155:
+  bnz r0, L141
+L156:
   mov r1, r3
   mov r2, r7
-  br L139
-L138:
+  br L140
+L139:
   lea r1, r6, r2
   and r0, r1, r8
   sub r0, r7, r0
@@ -1329,12 +1333,12 @@ L138:
   shl r0, r0, r4
   sar r1, r0, r4
   eq r0, r5, r1
-  bnz r0, L140
-L139:
-  addi r2, r2, 1
-  bz r1, L141
-  br L138
+  bnz r0, L141
 L140:
+  addi r2, r2, 1
+  bz r1, L142
+  br L139
+L141:
   addi r10, r10, 1
   ld r12, r15, 0, any, keep
   lea r1, r12, r10
@@ -1348,22 +1352,22 @@ L140:
   sar r5, r0, r4
   ldi r13, 255
   and r0, r5, r13
-  bnz r0, L137
-L165:
+  bnz r0, L138
+L166:
   mov r3, r7
   mov r4, r7
   mov r10, r7
   st r15, r7, 0, any, keep
-  br L149
-L141:
-  bnz r5, L142
-L156:
-  mov r3, r7
-  mov r4, r7
-  mov r10, r7
-  st r15, r7, 0, any, keep
-  br L149
+  br L150
 L142:
+  bnz r5, L143
+L157:
+  mov r3, r7
+  mov r4, r7
+  mov r10, r7
+  st r15, r7, 0, any, keep
+  br L150
+L143:
   and r0, r6, r8
   sub r0, r7, r0
   lea r0, r6, r0
@@ -1373,14 +1377,14 @@ L142:
   shl r0, r0, r4
   sar r11, r0, r4
   mov r3, r7
-L143:
+L144:
   eq r0, r5, r11
-  bnz r0, L147
-L158:
+  bnz r0, L148
+L159:
   mov r1, r11
   mov r2, r7
-  br L145
-L144:
+  br L146
+L145:
   lea r1, r6, r2
   and r0, r1, r8
   sub r0, r7, r0
@@ -1391,11 +1395,11 @@ L144:
   shl r0, r0, r4
   sar r1, r0, r4
   eq r0, r5, r1
-  bnz r0, L147
-L145:
-  addi r2, r2, 1
-  bnz r1, L144
+  bnz r0, L148
 L146:
+  addi r2, r2, 1
+  bnz r1, L145
+L147:
   addi r3, r3, 1
   add r0, r10, r3
   ld r12, r15, 0, any, keep
@@ -1410,8 +1414,8 @@ L146:
   sar r5, r0, r4
   ldi r13, 255
   and r0, r5, r13
-  bnz r0, L143
-L147:
+  bnz r0, L144
+L148:
   add r4, r10, r3
   ld r12, r15, 0, any, keep
   lea r1, r12, r4
@@ -1423,12 +1427,12 @@ L147:
   shr r0, r0, r1
   ldi r13, 255
   and r0, r0, r13
-  bnz r0, L148
-L163:
+  bnz r0, L149
+L164:
   mov r3, r7
   mov r4, r7
-  br L149
-L148:
+  br L150
+L149:
   ld r12, r15, 0, any, keep
   lea r1, r12, r4
   and r0, r1, r8
@@ -1445,32 +1449,32 @@ L148:
   st r3, r0, 0, any, keep
   addi r3, r4, 1
   ld r4, r15, 0, any, keep
-L149:
+L150:
   add r2, r4, r3
   isptr r0, r4
-  bz r0, L167
+  bz r0, L168
   ldi r0, 54
   shr r0, r4, r0
   xor r1, r2, r4
   shr r1, r1, r0
-  bnz r1, L167
+  bnz r1, L168
   lea r2, r4, r3
-L167:
+L168:
   lip r12, P_12
   ld r12, r12, 0, any, keep
   st r12, r2, 0, any, keep
-L150:
+L151:
   ld r12, r15, 0, any, keep
   add r2, r12, r10
   isptr r0, r12
-  bz r0, L168
+  bz r0, L169
   ldi r0, 54
   shr r0, r12, r0
   xor r1, r2, r12
   shr r1, r1, r0
-  bnz r1, L168
+  bnz r1, L169
   lea r2, r12, r10
-L168:
+L169:
   mov r0, r2
   ld r7, r15, 8, any, keep
   ld r8, r15, 16, any, keep
@@ -1498,21 +1502,21 @@ memcpy:
   ld r12, r15, 0, any, keep
   xor r0, r12, r11
   and r0, r0, r8
-  bz r0, L170
-L195:
-  mov r6, r9
-  br L189
-L170:
-  ld r12, r15, 8, any, keep
-  bnz r12, L171
+  bz r0, L171
 L196:
-  mov r4, r9
-  br L187
+  mov r6, r9
+  br L190
 L171:
+  ld r12, r15, 8, any, keep
+  bnz r12, L172
+L197:
+  mov r4, r9
+  br L188
+L172:
   sub r0, r9, r11
   and r4, r0, r8
-  bz r4, L187
-L172:
+  bz r4, L188
+L173:
   ld r12, r15, 0, any, keep
   and r0, r12, r8
   sub r0, r9, r0
@@ -1536,14 +1540,14 @@ L172:
   st r3, r0, 0, any, keep
   ld r12, r15, 8, any, keep
   eq r0, r12, r6
-  bz r0, L173
-L198:
+  bz r0, L174
+L199:
   ld r4, r15, 8, any, keep
-  br L187
-L173:
-  eq r0, r4, r6
-  bnz r0, L187
+  br L188
 L174:
+  eq r0, r4, r6
+  bnz r0, L188
+L175:
   ld r12, r15, 0, any, keep
   leai r1, r12, 1
   and r0, r1, r8
@@ -1567,14 +1571,14 @@ L174:
   st r3, r0, 0, any, keep
   ld r12, r15, 8, any, keep
   eq r0, r12, r7
-  bz r0, L175
-L200:
+  bz r0, L176
+L201:
   ld r4, r15, 8, any, keep
-  br L187
-L175:
-  eq r0, r4, r7
-  bnz r0, L187
+  br L188
 L176:
+  eq r0, r4, r7
+  bnz r0, L188
+L177:
   ld r12, r15, 0, any, keep
   leai r1, r12, 2
   and r0, r1, r8
@@ -1598,14 +1602,14 @@ L176:
   st r3, r0, 0, any, keep
   ld r12, r15, 8, any, keep
   eq r0, r12, r10
-  bz r0, L177
-L202:
+  bz r0, L178
+L203:
   ld r4, r15, 8, any, keep
-  br L187
-L177:
-  eq r0, r4, r10
-  bnz r0, L187
+  br L188
 L178:
+  eq r0, r4, r10
+  bnz r0, L188
+L179:
   ld r12, r15, 0, any, keep
   leai r1, r12, 3
   and r0, r1, r8
@@ -1630,15 +1634,15 @@ L178:
   ld r12, r15, 8, any, keep
   ldi r13, 4
   eq r0, r12, r13
-  bz r0, L179
-L204:
+  bz r0, L180
+L205:
   ld r4, r15, 8, any, keep
-  br L187
-L179:
+  br L188
+L180:
   ldi r13, 4
   eq r0, r4, r13
-  bnz r0, L187
-L180:
+  bnz r0, L188
+L181:
   ld r12, r15, 0, any, keep
   leai r1, r12, 4
   and r0, r1, r8
@@ -1663,15 +1667,15 @@ L180:
   ld r12, r15, 8, any, keep
   ldi r13, 5
   eq r0, r12, r13
-  bz r0, L181
-L206:
+  bz r0, L182
+L207:
   ld r4, r15, 8, any, keep
-  br L187
-L181:
+  br L188
+L182:
   ldi r13, 5
   eq r0, r4, r13
-  bnz r0, L187
-L182:
+  bnz r0, L188
+L183:
   ld r12, r15, 0, any, keep
   leai r1, r12, 5
   and r0, r1, r8
@@ -1696,15 +1700,15 @@ L182:
   ld r12, r15, 8, any, keep
   ldi r13, 6
   eq r0, r12, r13
-  bz r0, L183
-L208:
+  bz r0, L184
+L209:
   ld r4, r15, 8, any, keep
-  br L187
-L183:
+  br L188
+L184:
   ldi r13, 6
   eq r0, r4, r13
-  bnz r0, L187
-L184:
+  bnz r0, L188
+L185:
   ld r12, r15, 0, any, keep
   leai r1, r12, 6
   and r0, r1, r8
@@ -1728,14 +1732,14 @@ L184:
   st r3, r0, 0, any, keep
   ld r12, r15, 8, any, keep
   eq r0, r12, r8
-  bz r0, L185
-L210:
+  bz r0, L186
+L211:
   ld r4, r15, 8, any, keep
-  br L187
-L185:
-  eq r0, r4, r8
-  bnz r0, L187
+  br L188
 L186:
+  eq r0, r4, r8
+  bnz r0, L188
+L187:
   ld r12, r15, 0, any, keep
   leai r1, r12, 7
   and r0, r1, r8
@@ -1758,15 +1762,15 @@ L186:
   xor r0, r1, r0
   st r3, r0, 0, any, keep
   ld r4, r15, 8, any, keep
-L187:
+L188:
   addi r6, r4, 8
   ld r12, r15, 8, any, keep
   ltu r0, r12, r6
-  bz r0, L188
-L212:
+  bz r0, L189
+L213:
   mov r6, r4
-  br L189
-L188:
+  br L190
+L189:
   ld r12, r15, 0, any, keep
   lea r0, r12, r4
   ld r1, r0, 0, any, keep
@@ -1775,16 +1779,16 @@ L188:
   addi r1, r6, 8
   ld r12, r15, 8, any, keep
   ltu r0, r12, r1
-  bnz r0, L189
-L215:
+  bnz r0, L190
+L216:
   mov r4, r6
   mov r6, r1
-  br L188
-L189:
+  br L189
+L190:
   ld r13, r15, 8, any, keep
   ltu r0, r6, r13
-  bz r0, L194
-L190:
+  bz r0, L195
+L191:
   ld r12, r15, 8, any, keep
   sub r1, r12, r6
   ldi r13, -1
@@ -1793,10 +1797,10 @@ L190:
   add r12, r0, r13
   st r15, r12, 16, any, keep
   and r7, r1, r10
-  bz r7, L192
-L217:
+  bz r7, L193
+L218:
   mov r5, r9
-L191:
+L192:
   ld r12, r15, 0, any, keep
   lea r1, r12, r6
   and r0, r1, r8
@@ -1821,12 +1825,12 @@ L191:
   addi r6, r6, 1
   addi r5, r5, 1
   eq r0, r5, r7
-  bz r0, L191
-L192:
+  bz r0, L192
+L193:
   ld r12, r15, 16, any, keep
   ltu r0, r12, r10
-  bnz r0, L194
-L193:
+  bnz r0, L195
+L194:
   ld r12, r15, 0, any, keep
   lea r1, r12, r6
   and r0, r1, r8
@@ -1917,8 +1921,8 @@ L193:
   addi r6, r6, 4
   ld r13, r15, 8, any, keep
   eq r0, r6, r13
-  bz r0, L193
-L194:
+  bz r0, L194
+L195:
   mov r0, r11
   ld r7, r15, 24, any, keep
   ld r8, r15, 32, any, keep
@@ -1941,7 +1945,7 @@ P_10: .ptr rw next+0
 P_11: .ptr rw used+0
 P_12: .ptr rw strtok_rest+0
 .segment __const_main_text 7
-  ;@ global text 79 at 48
+  ;@ global text 79 at 48 constant
   .fill 6
   .int 0x65746e696f702061
   .int 0x732061206f742072
@@ -1954,16 +1958,22 @@ P_12: .ptr rw strtok_rest+0
   .int 0x7020612073692067
   .int 0x7265746e696f
 .segment _str 3
+  ;@ unnamed at 6 constant
   .int 0x20000000000000
 .segment _str_1 3
+  ;@ unnamed at 6 constant
   .int 0x61000000000000
 .segment _str_2 3
+  ;@ unnamed at 0 constant
   .int 0x7265746e696f70
 .segment _str_3 3
+  ;@ unnamed at 3 constant
   .int 0x64726f77000000
 .segment _str_4 3
+  ;@ unnamed at 4 constant
   .int 0x67617400000000
 .segment _str_5 3
+  ;@ unnamed at 4 constant
   .int 0x79656b00000000
 .segment stdout 3
   ;@ global stdout 8 at 0

@@ -27,13 +27,12 @@ worker_main:
   st r15, r10, 24, any, keep
   st r15, r11, 32, any, keep
   st r15, r14, 40, any, keep
-  leai r8, r15, 104
+  leai r9, r15, 104
   ldi r14, 5
-  subseg r8, r8, r14
+  subseg r9, r9, r14
   ldi r1, 0
-  ldi r9, 10
-  ldi r10, -8
-  ldi r11, 56
+  ldi r11, 10
+  ldi r10, 32
   ;@ line examples/c/worker.c:11
   st r15, r1, 56, any, keep
   ;@ line examples/c/worker.c:12
@@ -47,17 +46,20 @@ L2:
   ;@ line examples/c/say.h:20 in 1
   ;@ var rest 3 r5 in 1
   ;@ var length 2 r1 in 1
-  divu r6, r5, r9
-  mul r0, r6, r9
+  divu r6, r5, r11
+  mul r0, r6, r11
   sub r0, r5, r0
   ;@ line examples/c/say.h:19 in 1
   ldi r13, 48
   or r4, r0, r13
-  addi r7, r1, 1
-  ;@ var length 2 r7 in 1
+  addi r8, r1, 1
+  shl r0, r8, r10
+  sar r7, r0, r10
+  ;@ var length 2 r8 in 1
   addi r1, r1, 8
-  and r0, r1, r10
-  leab r3, r8, r0
+  ldi r13, -8
+  and r0, r1, r13
+  leab r3, r9, r0
   ldi r13, 3
   shl r2, r1, r13
   ld r1, r3, 0, any, keep
@@ -69,9 +71,10 @@ L2:
   xor r0, r1, r0
   st r3, r0, 0, any, keep
   ;@ var rest 3 r6 in 1
-  ltu r0, r5, r9
+  ltu r0, r5, r11
   bnz r0, L3
 L6:
+  ;@ var length 2 r7 in 1
   mov r1, r7
   ;@ var length 2 - in 1
   mov r5, r6
@@ -79,25 +82,27 @@ L6:
   br L2
 L3:
   ;@ line examples/c/say.h:21 in 1
-  ;@ var length 2 r7 in 1
-  ldi r13, 32
-  shl r0, r7, r13
-  ;@ var length 2 - in 1
-  ldi r13, 32
-  sar r7, r0, r13
+  ;@ var length 2 r8 in 1
+  bz r7, L5
 L4:
   ;@ line examples/c/say.h:22 in 1
-  ;@ var length 2 r7 in 1
-  addi r7, r7, -1
+  addi r8, r8, -1
+  ;@ var length 2 - in 1
+  shl r0, r8, r10
+  sar r7, r0, r10
+  ;@ var length 2 r8 in 1
   addi r1, r7, 8
-  and r0, r1, r10
-  leab r0, r8, r0
+  ldi r13, -8
+  and r0, r1, r13
+  leab r0, r9, r0
   ldi r13, 3
   shl r1, r1, r13
   ld r0, r0, 0, any, keep
   shr r0, r0, r1
-  shl r0, r0, r11
-  sar r0, r0, r11
+  ldi r13, 56
+  shl r0, r0, r13
+  ldi r13, 56
+  sar r0, r0, r13
   lip r14, 2
   br worker_putchar
   ;@ line examples/c/say.h:21 in 1
@@ -108,7 +113,7 @@ L5:
   lip r12, P_0
   ld r12, r12, 0, any, keep
   ld r1, r12, 0, any, keep
-  mov r0, r9
+  mov r0, r11
   lip r14, 2
   br worker_fputc
   ;@ line examples/c/worker.c:15
@@ -137,10 +142,8 @@ L5:
   lip r12, P_1
   ld r12, r12, 0, any, keep
   ld r0, r12, 0, any, keep
-  ldi r13, 32
-  shl r0, r0, r13
-  ldi r13, 32
-  sar r0, r0, r13
+  shl r0, r0, r10
+  sar r0, r0, r10
   ld r7, r15, 0, any, keep
   ld r8, r15, 8, any, keep
   ld r9, r15, 16, any, keep
@@ -163,18 +166,18 @@ worker_fwrite:
   ldi r8, 7
   ldi r3, 56
   mul r4, r9, r1
-  bz r4, L9
-L11:
+  bz r4, L10
+L12:
   mov r2, r6
-  br L10
-L9:
+  br L11
+L10:
   mov r0, r9
   ld r7, r15, 0, any, keep
   ld r8, r15, 8, any, keep
   ld r9, r15, 16, any, keep
   leai r15, r15, 24
   jmp r14
-L10:
+L11:
   lea r1, r5, r2
   and r0, r1, r8
   sub r0, r6, r0
@@ -187,8 +190,8 @@ L10:
   out r0
   addi r2, r2, 1
   eq r0, r2, r4
-  bnz r0, L9
-  br L10
+  bnz r0, L10
+  br L11
 worker_fputc:
   ;@ frame back - caller by 0
   out r0
@@ -214,6 +217,7 @@ P_2: .ptr ro worker__str_1+4
   .int 0x1e
   .int 0x28
 .segment worker__str_1 4
+  ;@ unnamed at 4 constant
   .int 0x6576656e00000000
   .int 0xa646961732072
 .segment worker_files 4

@@ -22,7 +22,10 @@ LIBRARY = os.path.join(HERE, "runtime")
 # A target whose pointers have 64 bits, whose structures are always in memory, and which has no vectors.
 TARGET = ("-target", "wasm64-unknown-unknown", "-S", "-emit-llvm", "-o", "-", "-fno-vectorize", "-fno-slp-vectorize",
           "-fno-exceptions", "-fvisibility=default")
-FRONT = ("-nostdlibinc", "-isystem", INCLUDE)
+# An overflow of an `int` that C does not define wraps around, so that each `int` has a value of its type.
+FRONT = ("-nostdlibinc", "-isystem", INCLUDE, "-fwrapv")
+# What Clang warns of: that a variable is used before it has a value, and the like. What nothing uses is no mistake.
+WARNINGS = ("-Wall", "-Wno-unused")
 # Clang is asked twice: for its text as it is before it is optimised, and to optimise that.
 AS_WRITTEN = ("-Xclang", "-disable-llvm-passes")
 OPTIMISED = ("-x", "ir", "-", "-w", "-Qunused-arguments")
@@ -92,7 +95,7 @@ def text_of(path: str, level: str = "1", more: Sequence[str] = (), lines: bool =
     """LLVM's text of a file, with its lines and the names of its locals where these are wanted."""
     names = ["-fno-discard-value-names"] if lines else []
     full = as_file(path)
-    front = [*FRONT, *_told_as(path, full), "-g", *names, f"-O{level}", *more, *([] if level == "0" else AS_WRITTEN)]
+    front = [*FRONT, *(WARNINGS if lines else ()), *_told_as(path, full), "-g", *names, f"-O{level}", *more, *([] if level == "0" else AS_WRITTEN)]
     text = lowered(_run([*front, full], warns=lines), lines)
     if level == "0":
         return text

@@ -25,7 +25,7 @@ def source_of(paths: Sequence[str], options: Options) -> str:
     except Failure as failure:
         raise Stop(Status.REFUSED, *str(failure).splitlines()) from None
     if options.lines:
-        for note in program.notes():
+        for note in [*program.contradicted.values(), *program.notes()]:
             print(note, file=sys.stderr)
     return source
 

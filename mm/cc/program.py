@@ -12,7 +12,7 @@ from mm.cc.control import Translator
 from mm.cc.ctypes import Types
 from mm.cc.data import Place, Words
 from mm.cc.failures import INSTEAD, INSTEAD_OF, Failure, Failures
-from mm.cc.ir import POINTER, ArrayType, BlockAddress, Function, Global, GlobalObject, IntType, Module, Number, Parts
+from mm.cc.ir import POINTER, ArrayType, BlockAddress, Function, Global, GlobalObject, IntType, Module, Number, Parts, Type
 from mm.cc.lines import FunctionNotes
 from mm.cc.modulenames import ASSEMBLER, DOOR, EMPTY, SHARED, ModuleNames, Segment
 from mm.cc.options import Options
@@ -29,6 +29,8 @@ MOST_LOG = 20
 RESERVED = re.compile(r"r\d+|L\d+|P_.*|none|int|ptr|start|stack|text|heap")
 # A door's segment: where it is entered, and its length.
 DOOR_ENTRY, DOOR_LOG = 16, 9
+# How C calls integers, by their bits.
+WIDTHS = {1: "bool", 8: "char", 16: "short", 32: "int", 64: "long", 128: "__int128"}
 MAINS = ("main", "__main_argc_argv", "__main_void", "__original_main")
 
 
@@ -50,6 +52,8 @@ class Program:
         self.pool: dict[str, str] = {}
         self.counter = 0
         self.undefined: dict[str, Failure] = {}
+        # Calls of functions that another file defines with other parameters, or another result.
+        self.contradicted: dict[tuple[int, str], str] = {}
         # What is being translated, for what is found wrong there.
         self.current: Optional[tuple[ModuleNames, Translator]] = None
         self.types = Types()
@@ -108,6 +112,8 @@ class Program:
             if name not in ASSEMBLER:
                 self._undefined(name)
             home = None
+        elif home is not module:
+            self._compare(module, home, name)
         key = (id(home), name)
         found = self.labels.get(key)
         if found is None:
@@ -119,6 +125,21 @@ class Program:
                 block.lines = [Line(*_split(line), None, None) for line in ASSEMBLER[name]]
                 self.texts.append([block])
         return found
+
+    def _compare(self, module: Module, home: Module, name: str) -> None:
+        """Notes a function that a file declares otherwise than another one defines it, and where the first uses it."""
+        here, there = module.functions.get(name), home.functions[name]
+        if here is None or self.current is None or here.variadic and not here.parameters or (id(module), name) in self.contradicted:
+            return
+        own, defined = _signature(here), _signature(there)
+        begins = self.names[id(home)].lines.of_function(there.debug)
+        if own == defined or not begins:
+            return
+        names, translator = self.current
+        _, place = self._where(names, translator.function, translator.line)
+        self.contradicted[id(module), name] = (
+            f"{place or module.name}: warning: `{own}` is used here, and {begins} defines `{defined}`\n"
+            "    put its declaration into a header, and include that in both files")
 
     def want_global(self, module: Module, name: str) -> Segment:
         home = self.home(module, name)
@@ -213,7 +234,12 @@ class Program:
         if self.current is not None:
             names, translator = self.current
             where, place = self._where(names, translator.function, translator.line)
-        self.undefined[name] = Failure(where, f"`{name}`, which nothing defines,", place, INSTEAD.get(name, ""))
+        self.undefined[name] = Failure(where, f"`{name}`, which nothing defines,", place, INSTEAD.get(name, self._elsewhere(name)))
+
+    def _elsewhere(self, name: str) -> str:
+        """What can be done for a name that another file may define."""
+        paths = " ".join(module.name for module in self.modules[:-1])
+        return f"if another file defines it, name that too: `mm cc {paths} FILE.c > SOURCE.asm`" if paths else ""
 
     def _where(self, names: ModuleNames, function: Function, location: Optional[str]) -> tuple[str, Optional[str]]:
         """The file and the function of a place in C, and the place; without a location, where the function begins."""
@@ -337,6 +363,16 @@ class Program:
         if 0 <= at < 1 << found.known.log:
             return f"{permission} {found.name}+{at}", None
         return f"{permission} {found.name}+{found.known.place}", place.by
+
+
+def _signature(function: Function) -> str:
+    """A function's parameters and its result, in words of C."""
+    given = [_in_c(parameter.type) for parameter in function.parameters] + ["..."] * function.variadic
+    return f"{_in_c(function.result)} {function.name}({', '.join(given)})"
+
+
+def _in_c(type_: Type) -> str:
+    return WIDTHS.get(type_.bits, str(type_)) if isinstance(type_, IntType) else str(type_)
 
 
 def public_name(name: str) -> str:

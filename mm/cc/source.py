@@ -194,8 +194,10 @@ class SourceWriter:
         lines = [f".segment {segment.name} {segment.known.log}"]
         if not segment.made.internal or not segment.made.name.startswith("."):
             name, type_ = self.program.names[id(segment.module)].told(segment.made)
-            said = f" type {type_}" if type_ else ""
+            said = (f" type {type_}" if type_ else "") + ("" if segment.writable else " constant")
             lines.append(f"  {MARK} global {name} {segment.size} at {segment.known.place}{said}")
+        elif segment.known.place or not segment.writable:
+            lines.append(f"  {MARK} unnamed at {segment.known.place}{'' if segment.writable else ' constant'}")
         if segment.made.name.startswith(EMPTY):
             return lines + ["  .empty .int 0"] * (1 << segment.known.log - 3)
         zeros = 0

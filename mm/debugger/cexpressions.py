@@ -83,9 +83,9 @@ class CExpression:
             self.want(")")
         else:
             name = self.next()
-            found = self.values.named(name)
-            if found is None and self.values.is_elsewhere(name):
-                raise NoAddress(f"`{name}` has no place here: it is not there yet, or not needed any more")
+            found, whose = self.values.found(name)
+            if found is None and whose is not None:
+                raise NoAddress(f"`{name}` of {whose} has no place here: it is not there yet, or not needed any more")
         while found is not None and self.token in ("[", ".", "->"):
             sign = self.next()
             if sign == "[":
@@ -136,6 +136,13 @@ def c_thing(text: str, values: CValues) -> Optional[CThing]:
         if first and (values.named(first[0]) or values.is_elsewhere(first[0])):
             raise
         return None
+
+
+def whose_is(text: str, values: CValues) -> str:
+    """`, v of main` if the first name of an expression is a variable of another function than that whose line it is."""
+    first = re.search(r"[A-Za-z_]\w*", text)
+    whose = values.found(first[0])[1] if first else None
+    return f", {first[0]} of {whose}" if first and whose is not None and whose != values.innermost else ""
 
 
 def word_of(thing: CThing, values: CValues) -> Word:

@@ -5,7 +5,7 @@ from __future__ import annotations
 from typing import TYPE_CHECKING, Callable, Iterable, Optional
 
 from mm.debugger.arithmetic import reckons
-from mm.debugger.cexpressions import c_thing
+from mm.debugger.cexpressions import c_thing, whose_is
 from mm.debugger.evaluate import count_of, value_of
 from mm.debugger.session import Halt
 from mm.outputs.trace import Turn
@@ -20,7 +20,8 @@ def c_text(text: str, debugger: Debugger) -> Optional[str]:
     thing = c_thing(text, values) if values and not text.startswith("&") else None
     if thing is None or values is None:
         return None
-    return f"{values.spell(thing)}   ({thing.types.title(thing.type)})" if thing.type else values.spell(thing)
+    whose = whose_is(text, values)
+    return f"{values.spell(thing)}   ({thing.types.title(thing.type)}{whose})" if thing.type else values.spell(thing)
 
 
 def value_text(text: str, debugger: Debugger) -> str:

@@ -17,7 +17,8 @@ LABEL = re.compile(r"([A-Za-z_]\w*):")
 # No number of theirs has more digits.
 NUMBER = "([0-9]{1,18})"
 FRAME = re.compile(rf"frame back (-|[0-9]{{1,18}}) caller (at|by) {NUMBER}")
-OBJECT = re.compile(rf"(?:local|global) (\S+) {NUMBER} at {NUMBER}(?: log {NUMBER})?(?: type {NUMBER})?(?: in {NUMBER})?")
+OBJECT = re.compile(rf"(?:local|global) (\S+) {NUMBER} at {NUMBER}(?: log {NUMBER})?(?: type {NUMBER})?(?: in {NUMBER})?(?: constant)?")
+UNNAMED = re.compile(rf"unnamed at {NUMBER}(?: constant)?")
 LINE = re.compile(rf"line (.*):{NUMBER}(?: in {NUMBER})?")
 FUNCTION = re.compile(rf"function (\S+) at (.*):{NUMBER}")
 INLINED = re.compile(rf"inlined {NUMBER} (\S+) at (.*):{NUMBER}(?: in {NUMBER})?")
@@ -144,6 +145,10 @@ class CNotes:
         self.function_starts: list[int] = []
         self.functions: list[CFunction] = []
         self.globals: dict[str, CObject] = {}
+        # Where the object of a segment begins that has no name in C, such as a string constant; and the segments whose
+        # objects are constant.
+        self.unnamed: dict[str, int] = {}
+        self.constant: set[str] = set()
         self.types = CTypes()
         # The lines that leave a function: its frame is gone there.
         self.returns: set[int] = set()
@@ -172,13 +177,17 @@ class CNotes:
         self.lines.append(line)
 
     def _note(self, note: str, number: int, segment: str) -> None:
-        line, made = LINE.fullmatch(note), OBJECT.fullmatch(note)
+        line, made, unnamed = LINE.fullmatch(note), OBJECT.fullmatch(note), UNNAMED.fullmatch(note)
+        if (unnamed or made) and segment and note.endswith(" constant"):
+            self.constant.add(segment)
         if line:
             self._mark(number, CLine(line[1], int(line[2]), int(line[3] or 0), self.path))
         elif note.startswith("type "):
             self.types.add(note.split()[1:])
         elif made and note.startswith("global"):
             self.globals[segment] = _object(made)
+        elif unnamed:
+            self.unnamed[segment] = int(unnamed[1])
         elif self.functions:
             self._of_function(self.functions[-1], note, number)
 

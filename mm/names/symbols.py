@@ -9,6 +9,7 @@ from typing import TYPE_CHECKING, Optional, Sequence
 
 from mm.formats.object import Object, Segment
 from mm.machine.isa import OPERATIONS
+from mm.machine.words import Permission, Pointer
 from mm.names.layout import Placed
 from mm.names.numbers import hexadecimal
 from mm.source.text import SourceSegment, SourceText
@@ -175,6 +176,14 @@ class Symbols:
         """The segment of a global by its name in a source; another source may have one of the same name."""
         named = (region for region in self.regions if region.name == name and region.source)
         return next((region for region in named if region.source and region.source.notes is notes), None)
+
+    def c_pointer(self, name: str, notes: CNotes) -> Optional[Pointer]:
+        """The pointer to the object of a segment: of a global, or of one that has no name in C."""
+        region, made = self.c_region(name, notes), notes.globals.get(name)
+        if region is None:
+            return None
+        permission = Permission.RO if name in notes.constant else Permission.RW
+        return Pointer(permission, region.log, region.base + (made.at if made else notes.unnamed.get(name, 0)))
 
     def c_paths(self) -> list[str]:
         """The files of C that code comes from."""

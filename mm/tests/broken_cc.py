@@ -44,7 +44,8 @@ BROKEN = (
     ("mm/cc/allocation.py", "if at < len(calls) and calls[at] + 1 < end:", "if False:", VALUES),
     # Pointers to freed blocks.
     ("mm/cc/source.py", 'f"  .ptr rw {each.name}" for each', 'f"  .ptr rw {each.name}" for each in () for each', CLANG),
-    ("mm/cc/runtime/allocate.c", "*(number *)at = bits_of(*at) + none;", ";", CLANG),
+    ("mm/cc/runtime/allocate.c", "*(number *)at = (bits_of(*at) | 7ul << 60) + none;", ";", CLANG),
+    ("mm/cc/runtime/allocate.c", "(bits_of(*at) | 7ul << 60) + none;", "bits_of(*at) + none;", CLANG),
     ("mm/cc/runtime/allocate.c", "let_go(), at = find(count);", ";", CLANG),
     ("mm/cc/runtime/allocate.c", "__mm_heap[word] ^= maps[word];", "", CLANG),
     ("mm/cc/forms.py", "return [form for form in (SIGNED, ZEROED) if form in wanted]", "return list(wanted)", CLANG),
@@ -52,6 +53,11 @@ BROKEN = (
     ("mm/cc/checked.py", 'self.emit("check", None, register, second)', "pass", VALUES),
     ("mm/cc/cache.py", "if hashlib.sha256(said).hexdigest().encode() != last:", "if False:", CLANG),
     ("mm/cc/clang.py", "return os.path.abspath(path)", "return path", "mm.tests.test_holds.Clang"),
+    ("mm/cc/clang.py", 'INCLUDE, "-fwrapv")', "INCLUDE)", CLANG),
+    ("mm/cc/clang.py", "*(WARNINGS if lines else ()), ", "", CLANG),
+    ("mm/cc/program.py", "if own == defined or not begins:", "if True:", CLANG),
+    ("mm/cc/program.py", "INSTEAD.get(name, self._elsewhere(name)))", 'INSTEAD.get(name, ""))', CLANG),
+    ("mm/cc/source.py", "elif segment.known.place or not segment.writable:", "elif False:", CLANG),
     ("mm/cc/lines.py", "return os.path.join(own, near)", "return near", CLANG),
     ("mm/cc/program.py", 'if module.assembler:', 'if False:', CC),
 )

@@ -17,6 +17,7 @@ from mm.cc.options import Options
 from mm.machine.program import find_program
 from mm.status import Stop
 from mm.tests.support import folder, mm, needs_program, write
+from mm.tests.test_view import data_of
 
 VERSIONS = [name for name in ("clang", *(f"clang-{number}" for number in clang.VERSIONS)) if shutil.which(name)]
 needs_clang = unittest.skipUnless(VERSIONS, "there is no Clang")
@@ -122,6 +123,12 @@ int main(void) { long r; int i; __int128 w; unsigned __int128 u; signed char c;
          __builtin_sub_overflow((unsigned __int128)most, (unsigned __int128)all, &u), __builtin_add_overflow(most, -1l, &r),
          __builtin_add_overflow((int)most, (short)-200, &c) | __builtin_add_overflow(most, 0l, &i)); return 0; }
 """),
+    "overflows of an int": ("843014659 3 0 281004886, -2147483648 -2147483648 -1073741824 -8 -1073741824 1, 48 -59 -82\n", """#include <stdio.h>
+static volatile int start = 2147483647, one = 1; static const char *volatile word = "bird";
+int main(void) { int h = 216; for (const char *s = word; *s; s++) h = (h ^ (unsigned char)*s) * 16777619;
+  int n = start + one; long wide = n; printf("%d %d %d %d, %d %ld %d %d %d %d, ", h, h % 8, h < 0, h / 3, n, wide, n / 2, n % 10, n >> 1, n < 0);
+  int seed = start; for (int i = 0; i < 3; i++) { seed = seed * 1103515245 + 12345; printf("%d%c", seed % 100, i < 2 ? ' ' : '\\n'); } return 0; }
+"""),
     "structures that the optimiser cuts into parts": (
         "1 uno 6 3, a ab 3 b; 1 one 5 9, a aa 2 y; 2 two 0 0, b bb 4 c; 3 three 1 2, c cc 1 x; 5 u v 20 5; 6 s t 2 30; "
         "1 uno 6 3, a ab 3 b; 2 uno 6 2, b ab 3 q; 2 uno 7 2, b ab 4 q; ", CUT),
@@ -177,6 +184,28 @@ int main(void)
     "a null pointer": ("fault 1 NotPointer at {room}/a.c:2: a null pointer", "0", """volatile long *volatile p;
 int main(void) { return *p; }
 """),
+    "a null function": ("fault 1 NotPointer at {room}/a.c:3: a call of a null pointer", "0", """typedef void action(void);
+action *volatile table[3];
+int main(void) { table[1](); return 0; }
+"""),
+    "a text that is none": ("fault 1 NotPointer at {room}/a.c:3, in printf: ", "1", """#include <stdio.h>
+volatile long number = 1234567;
+int main(void) { printf("%s is the text, of %d\\n", (char *)number, 3); return 0; }
+"""),
+    "an element before a block": (
+        "fault 3 Bounds at {room}/a.c:6: t->slots[-3], byte -24 of a block of malloc, which has 64 bytes from there on", "1", """#include <stdlib.h>
+struct table { long size; long *slots; };
+volatile int at;
+static __attribute__((noinline)) long find(struct table *t, int at, int more)
+{
+    while (!t->slots[at]) t->slots[at] = 1, at -= more;
+    return t->size;
+}
+int main(void) { struct table t = {8, calloc(8, 8)}; return find(&t, at, 3); }
+"""),
+    "an element of a block": ("fault 3 Bounds at {room}/a.c:2: v[6], byte 24 of a block of malloc, which has 24 bytes from there on", "0", """#include <stdlib.h>
+int main(void) { int *v = malloc(6 * sizeof *v); for (int i = 0; i <= 6; i++) v[i] = i; return v[3]; }
+"""),
     "before a block": ("byte -57 of a block of malloc, which has 72 bytes from there on", "1", """#include <stdlib.h>
 """ + HIDE + """int main(void) { char *p = hide(malloc(72)); p[zero - 57] = 1; hide(p); return 0; }
 """),
@@ -216,11 +245,35 @@ int main(void) { struct node *list = 0; long n = 0, sum = 0;
     if (i & 1) b->next = list, b->v = 1, list = b; else { struct node *c = hide(malloc(16)); free(b); free(c); } free(p); }
   for (; list; list = list->next) n++, sum += list->v; printf("%ld %d %ld", n, hide(malloc(3000)) == 0, sum); return 0; }
 """
+# A string constant that is turned around, where the optimiser knows which one it is.
+REVERSED = """#include <string.h>
+
+static void reverse(char *s) {
+  for (char *p = s, *q = s + strlen(s) - 1; p < q; p++, q--) { char c = *p;
+    *p = *q;
+    *q = c; } }
+int main(void) { char *word = "desserts"; reverse(word); return word[0]; }
+"""
+# Variables of one name in two functions, of which the inner one has no place any more when its call is carried out.
+SAME_NAME = """#include <stdio.h>
+struct value { int kind; long number; };
+static __attribute__((noinline)) void show(const struct value *v, const struct value *other) {
+    if (other[1].kind) printf("%s\\n", (const char *)v->number);
+}
+int main(void) {
+    struct value v[2] = {{1, 11}, {2, 22}}, w[2] = {{4, 44}, {3, 333}};
+    show(&v[1], w);
+    return 0;
+}
+"""
 # Programs that are refused, and what is said of them.
 REFUSED = {
     "no input": (["{room}/a.c:2:25: error: `getchar`, which nothing defines, is left out in `main`",
                   "    the machine has no input: put what the program reads into an array or a string"],
                  "#include <stdio.h>\nint main(void) { return getchar(); }\n"),
+    "a function of another file": (["{room}/a.c:2:25: error: `summary`, which nothing defines, is left out in `main`",
+                                    "    if another file defines it, name that too: `mm cc {room}/a.c FILE.c > SOURCE.asm`"],
+                                   "long summary(int n);\nint main(void) { return summary(3); }\n"),
     "floating point": (["{room}/a.c:1:58: error: floating point is left out in `area`"],
                        "static int area(int r) { volatile int d; d = (int)(3.1 * r); return d; }\n"
                        "int main(int n, char **v) { return area(n) > 3; }\n"),
@@ -256,7 +309,10 @@ class Programs(unittest.TestCase):
             text = GONE + use + '\n  printf("%ld\\n", seen); return 0; }\n'
             for level in "02":
                 ended, _ = self.ran(text, level, "--quarantine", "0")
-                self.assertRegex(ended.out, r"by fault 1 NotPointer at .*its block of malloc was freed", f"{title} at -O{level}: {ended.err}")
+                self.assertRegex(ended.out, r"by fault 1 NotPointer at \S*( in memcpy)?: its block of malloc was freed  ", f"{title} at -O{level}: {ended.err}")
+        text = GONE + 'struct node *volatile end = a + 1; seen = end[-1].v[2]; return seen; }\n'
+        ended, _ = self.ran(text, "1", "--quarantine", "0")
+        self.assertIn("which is now a number: it left its object (one past the end is outside)", ended.out)
         ended, room = self.ran(STOPPED["a second free"][2], "0", "--quarantine", "0")
         self.assertIn(STOPPED["a second free"][0].format(room=room), ended.out)
 
@@ -276,6 +332,26 @@ class Programs(unittest.TestCase):
             for line in wanted:
                 self.assertIn(line.format(room=room), ended.err, title)
 
+    def test_a_variable_without_a_value_is_warned_of(self):
+        ended, room = self.ran("static void unused(void) { }\nint main(void)\n{\n    int count;\n    return count;\n}\n", "1")
+        self.assertIn(f"{room}/a.c:5:12: warning: variable 'count' is uninitialized when used here", ended.err)
+        self.assertNotIn("unused", ended.err)
+        ended, _ = self.ran("int main(void)\n{\n    int count;\n    return count;\n}\n", "1", "--clang", "-Wno-uninitialized")
+        self.assertEqual(ended.err, "")
+
+    def test_a_declaration_that_another_file_contradicts(self):
+        with folder() as room:
+            texts = {"a.c": "long report(const char *title, const int *counts);\nlong plain();\nlong right(char c, ...);\n"
+                            "int main(void) { int n = 0;\n    return report(\"n\", &n) + plain(1, 2) + right(3, 4); }\n",
+                     "b.c": "long report(int n, const int *counts, const char *title) { return counts[n] + *title; }\n"
+                            "long plain(int a, int b) { return a + b; }\nlong right(char c, ...) { return c; }\n"}
+            paths = [write(room, name, text) for name, text in texts.items()]
+            ended = mm("cc", *paths)
+            self.assertEqual((ended.status, ended.err.splitlines()[0]), (0, (
+                f"{paths[0]}:5:12: warning: `long report(pointer, pointer)` is used here, and {paths[1]}:1 defines "
+                "`long report(int, pointer, pointer)`")))
+            self.assertEqual(len(ended.err.splitlines()), 2, ended.err)
+
     def test_what_nothing_calls_is_noted(self):
         ended, room = self.ran("double f(double x) { return x; }\nint main(void) { return 0; }\n", "0")
         self.assertEqual(ended.status, 0, ended.err)
@@ -287,6 +363,27 @@ class Programs(unittest.TestCase):
             ended = mm("debug", path, lines="continue\nwhere\n")
         self.assertIn(f"#0  leaf  {room}/a.c:3:", ended.out)
         self.assertIn(f"#1  main  {room}/a.c:4:", ended.out)
+
+    def test_pointers_to_string_constants_have_their_place_and_permission(self):
+        with folder() as room:
+            path = write(room, "a.c", REVERSED)
+            ended = mm("debug", path, lines="break 5\ncontinue\ninfo locals\nprint *p\n")
+        for line in ('  p = ro 2^4 _str+7 "desserts"', '  q = ro 2^4 _str+14 "s"', '  s = ro 2^4 _str+7 "desserts"',
+                     "*p = 100 'd'   (char)"):
+            self.assertIn(line, ended.out, ended.err)
+        with folder() as room:
+            names = data_of(mm("view", write(room, "a.c", REVERSED)).out)["names"]["c"]
+        words = {where.split("+")[0] for state in names["states"] for name, where, _ in state if name == "s"}
+        self.assertTrue(any(where.startswith("p110000") and where.endswith("7") for where in words), words)
+
+    def test_whose_a_variable_is(self):
+        with folder() as room:
+            path = write(room, "a.c", SAME_NAME)
+            ended = mm("debug", path, lines="break 4\ncontinue\nprint v->number\nprint w[1].kind\ncontinue\nprint v->number\nprint w[1]\n")
+        for line in ("v->number = 22   (long)", "w[1].kind = 3   (int, w of main)", "`v` of show has no place here",
+                     "w[1] = {kind = 3, number = 333}   (struct value, w of main)"):
+            self.assertIn(line, ended.out, ended.err)
+        self.assertNotIn("= 11   (long", ended.out)
 
     def test_random_programs(self):
         for seed in (11, 12):

@@ -9,7 +9,7 @@ from __future__ import annotations
 
 from typing import Any, Iterator, Optional
 
-from mm.machine.words import Permission, Pointer, Word
+from mm.machine.words import Word
 from mm.names.clines import CFunction, CLine, CNotes
 from mm.names.ctypes import CType, CTypes
 from mm.names.symbols import Region, Symbols
@@ -89,10 +89,8 @@ class CData:
         return star + "+".join(found)
 
     def _global(self, name: str, notes: CNotes) -> str:
-        region, made = self.symbols.c_region(name, notes), notes.globals.get(name)
-        if region is None:
-            return NOWHERE
-        return str(Word(Pointer(Permission.RW, region.log, region.base + (made.at if made else 0)).bits, True))
+        pointer = self.symbols.c_pointer(name, notes)
+        return str(Word(pointer.bits, True)) if pointer else NOWHERE
 
     def _type(self, number: int, types: CTypes) -> int:
         found = leaves(number, types)[:MOST_LEAVES]

@@ -49,16 +49,55 @@ class CValues:
     def named(self, name: str) -> Optional[CThing]:
         """A variable of the function that is carried out, or of one that it was put into, an object of one that waits
         for it, or a global."""
-        inners = [line.inner for line in self.frames[0].lines()] if self.frames else []
-        for inner in inners or [0]:
-            for thing_name, thing in self.locals(inner):
-                if thing_name == name:
-                    return thing
-        for frame in self.frames:
-            for made in frame.function.objects:
-                if made.name == name:
-                    return CThing(frame.notes.types, made.type, frame.stack + made.at)
-        return self.global_(name)
+        return self.found(name)[0]
+
+    def found(self, name: str) -> tuple[Optional[CThing], Optional[str]]:
+        """The same, and the function that it is of; the function alone if the variable of that name has no place."""
+        for depth, frame in enumerate(self.frames):
+            for inner in [line.inner for line in frame.lines()] or [0]:
+                here = self.locals(inner) if depth == 0 else self.objects(frame, inner)
+                thing = next((thing for thing_name, thing in here if thing_name == name), None)
+                if thing is not None or any(each.name == name and each.inner == inner for _, each in frame.function.variables):
+                    return thing, frame.function.inner_name(inner)
+        return self.global_(name), None
+
+    @staticmethod
+    def objects(frame: CFrame, inner: int) -> Iterator[tuple[str, CThing]]:
+        """The objects in a frame that are variables of a function that has its code there."""
+        for made in frame.function.objects:
+            if made.inner == inner and made.type:
+                yield made.name, CThing(frame.notes.types, made.type, frame.stack + made.at)
+
+    def pointers(self) -> Iterator[tuple[str, CThing]]:
+        """The pointers that the function here can name shortly: its variables and globals, and members of what these
+        are or point to."""
+        for name, thing in [*self.locals(), *self.globals()]:
+            kind = thing.kind
+            if kind.kind == "pointer":
+                yield name, thing
+                word = self.word(thing)
+                if word is None or word.pointer is None:
+                    continue
+                thing, name = CThing(thing.types, kind.inner, word.pointer.address), f"{name}->"
+            else:
+                name += "."
+            if thing.kind.kind == "struct":
+                inner = ((part.name, self.member(thing, part)) for part in thing.kind.fields)
+                yield from ((f"{name}{part}", found) for part, found in inner if found.kind.kind == "pointer")
+
+    def globals(self) -> Iterator[tuple[str, CThing]]:
+        """The globals of the program that runs here."""
+        here = self.slot.ip.pointer
+        own = self.speller.symbols.region(here.address) if here else None
+        for region in self.speller.symbols.regions:
+            made = self.speller.symbols.c_global(region)
+            if made is not None and own and region.source is own.source and region.source and region.source.notes:
+                yield made.name, CThing(region.source.notes.types, made.type, region.base + made.at)
+
+    @property
+    def innermost(self) -> Optional[str]:
+        """The innermost function of the program's own, which is not of the library."""
+        return next((frame.name for frame in self.frames if frame.line is not None), None)
 
     def global_(self, name: str) -> Optional[CThing]:
         here = self.slot.ip.pointer
@@ -77,17 +116,16 @@ class CValues:
         if frame is None:
             return
         inner = of if of is not None else frame.line.inner if frame.line else 0
-        for made in frame.function.objects:
-            if made.inner == inner and made.type:
-                yield made.name, CThing(frame.notes.types, made.type, frame.stack + made.at)
+        yield from self.objects(frame, inner)
         for variable in frame.function.variables_at(frame.number):
             thing = self.thing(variable, frame, frame.notes) if variable.inner == inner else None
             if thing is not None:
                 yield variable.name, thing
 
     def is_elsewhere(self, name: str) -> bool:
-        """Whether a name is a variable of the function, which is nowhere at this moment."""
-        return any(variable.name == name for frame in self.frames[:1] for _, variable in frame.function.variables)
+        """Whether a name is a variable of one of the functions, which is nowhere at this moment."""
+        thing, whose = self.found(name)
+        return thing is None and whose is not None
 
     # Places
 
@@ -116,9 +154,8 @@ class CValues:
             at, _, log = rest.partition(":")
             return Word(Pointer(Permission.RW, int(log), frame.stack + int(at)).bits, True)
         if kind == "@":
-            region, made = self.speller.symbols.c_region(rest, notes), notes.globals.get(rest)
-            at_global = made.at if made else 0
-            return Word(Pointer(Permission.RW, region.log, region.base + at_global).bits, True) if region else None
+            pointer = self.speller.symbols.c_pointer(rest, notes)
+            return Word(pointer.bits, True) if pointer else None
         return Word(int(text) & WORD_MASK)
 
     @staticmethod

@@ -5,7 +5,7 @@ from __future__ import annotations
 from typing import TYPE_CHECKING, Iterator, Optional
 
 from mm.machine.causes import Cause
-from mm.machine.words import Pointer
+from mm.machine.words import Permission, Pointer
 from mm.names.numbers import counted
 from mm.outputs.report import SlotState
 from mm.outputs.trace import Turn
@@ -64,8 +64,17 @@ class CView:
             what = self.gave_up(at)
         inner = next(self.frames(), None)
         of_library = inner is not None and inner.line is None and not inner.function.begins and not full
-        within = f", in {inner.name}" if inner is not None and of_library else ""
+        within = f", in {self.called()}" if inner is not None and of_library else ""
         return f"fault {cause.number} {cause.title} at {line}{within}: {what or cause.meaning}"
+
+    def called(self) -> str:
+        """The function of the library that the program called, which may have called others."""
+        name = ""
+        for frame in self.frames():
+            if frame.line is not None:
+                break
+            name = frame.name
+        return name
 
     def full_stack(self, at: Refusal) -> Optional[str]:
         """A function, or an array whose length is known at the run alone, for which the stack has no room."""
@@ -90,22 +99,25 @@ class CView:
         """A pointer that became a number as it left its object, by its bits."""
         word = at.word("ra")
         if not word.tagged and word.bits < NULL_PAGE:
+            if not word.bits and at.name in ("jal", "jmp"):
+                return "a call of a null pointer"
             return "a null pointer" if not word.bits else f"a null pointer, and {counted(word.bits, 'byte')} on"
         spelled = Pointer.of_bits(word.bits) if not word.tagged and word.bits else None
         if spelled is None or at.instruction is None:
             return None
+        if self.is_swept(spelled):
+            return "its block of malloc was freed"
         before = self.symbols.region(spelled.address - 1)
         told = self.symbols.c_global(before) if before is not None and before.log == spelled.log else None
         whose = f" {told.name}" if told and before and before.end == spelled.base else ""
-        freed = "its block of malloc was freed, it" if self.is_swept(spelled) else "it"
-        return (f"these are the bits of a pointer, which is now a number: {freed} left its object{whose} (one past the end "
+        return (f"these are the bits of a pointer, which is now a number: it left its object{whose} (one past the end "
                 "is outside), was computed with, or was copied in pieces")
 
     def is_swept(self, pointer: Pointer) -> bool:
-        """Whether it is to a block of malloc, and pointers to blocks that were freed are taken away."""
+        """Whether it was to a block of malloc that was freed: the library makes the bits of a key of such a pointer."""
         heap = self.symbols.region(pointer.base)
         return (heap is not None and heap.name.endswith("heap") and heap.log > pointer.log
-                and bool(self.symbols.named(f"{heap.name}_roots")))
+                and pointer.permission is Permission.KEY and bool(self.symbols.named(f"{heap.name}_roots")))
 
     def meant(self, at: Refusal) -> Optional[str]:
         """The byte that was meant, of the object that the pointer is to."""
@@ -156,4 +168,18 @@ class CView:
         if region is None or not region.name.endswith("heap") or region.log <= pointer.log:
             return None
         by, size = target - pointer.address, pointer.end - pointer.address
-        return f"byte {by} of a block of malloc, which has {counted(size, 'byte')} from there on"
+        element = self.element(pointer, by)
+        return (f"{f'{element}, ' if element else ''}byte {by} of a block of malloc, which has "
+                f"{counted(size, 'byte')} from there on")
+
+    def element(self, pointer: Pointer, by: int) -> Optional[str]:
+        """`ring[8]` or `t->slots[-5]`, if a variable that has a place now, or a member of what one points to, holds the
+        pointer, and an element begins so many bytes from there on."""
+        from mm.views.cvalues import CValues
+
+        values = CValues(self.slot, self.memory, self.speller)
+        for name, thing in values.pointers():
+            word, size = values.word(thing), thing.types.size(thing.kind.inner)
+            if word is not None and word.pointer == pointer and size and by % size == 0:
+                return f"{name}[{by // size}]"
+        return None

@@ -4,7 +4,7 @@
    only after the rest of the heap was, and cleared.
 
    With QUARANTINE it is held back first, in a third map, until more bytes than that are. Then every pointer to such a
-   block, wherever the program has one, becomes a number. */
+   block, wherever the program has one, becomes a number: that of a key, by which `mm` knows why it is one. */
 
 #include <setjmp.h>
 
@@ -96,7 +96,7 @@ static FAR void sweep(void **words, size_t count)
         if (__mm_op_isptr(*at)) {
             size_t place = place_in(*at);
             if (place < most && 8ul << log_in(*at) < 64 * most && maps[place / WORDS_A_BIT] >> place % WORDS_A_BIT & 1)
-                *(number *)at = bits_of(*at) + none;
+                *(number *)at = (bits_of(*at) | 7ul << 60) + none;
         }
 }
 
