@@ -34,5 +34,35 @@ class Logs(unittest.TestCase):
             self.assertIn("make: logs NAME.log of an earlier run are there: 1", tool("make", made, "lea-by-none")[2])
 
 
+class Choice(unittest.TestCase):
+    def test_operations(self):
+        with folder() as made:
+            self.assertEqual(tool("make", "--operations", "bnz", made, "bnz-*")[0], 0)
+            names = {name for name in os.listdir(made) if name.endswith(".img")}
+            self.assertIn("bnz-to-the-first-word.img", names)
+            self.assertNotIn("bnz-back.img", names)
+            self.assertIn("`foo`", tool("make", "--operations", "halt,foo", made)[2])
+            wanted = f"{len(names)} cases, {len(names)} differ"
+            said = tool("check", "--operations", "bnz", "--only", "bnz-*", "--logs", made)[1]
+            self.assertEqual(said.splitlines()[-1], wanted)
+
+    def test_no_case_is_so(self):
+        with folder() as made:
+            there = os.path.join(made, "there")
+            self.assertEqual(tool("make", there, "nothing-like-*"), (2, "", "make: no case is so\n"))
+            self.assertFalse(os.path.exists(there))
+            self.assertEqual(tool("check", "--logs", made, "--only", "nothing-like-*")[0], 2)
+
+    def test_help(self):
+        for name in ("make", "check", "coverage"):
+            status, said, complained = tool(name, "--help")
+            self.assertEqual((status, complained), (0, ""), name)
+            self.assertIn("usage: conformance/", said)
+
+    def test_a_folder_that_is_not_there(self):
+        status, _, complained = tool("coverage", "--logs", path_of("no-such-folder"))
+        self.assertEqual((status, complained.count("\n")), (2, 1))
+
+
 if __name__ == "__main__":
     unittest.main()
