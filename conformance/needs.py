@@ -2,10 +2,10 @@
 
 from differs import TURNS, fetched, report_at
 from mm.formats.image import read_image
+from mm.lockstep.code import operations_in
 from mm.log.changes import read_change
 from mm.log.read import Step
 from mm.log.replay import Machine
-from mm.machine.isa import OPERATIONS
 from mm.outputs.trace import read_turn
 
 
@@ -33,12 +33,3 @@ def with_these_alone(cases, logs, text):
         for theme, case in cases
         if case.name in logs and operations_of(case, logs[case.name][1]) <= names
     ]
-
-
-def operations_in(text):
-    """The operations of a text; ValueError if it has another name."""
-    names = set(text.replace(" ", "").split(","))
-    unknown = sorted(names - set(OPERATIONS))
-    if unknown:
-        raise ValueError(f"there is no operation `{unknown[0]}`")
-    return names

@@ -317,6 +317,23 @@ class Command(unittest.TestCase):
         self.assertEqual((status, out.splitlines()[0].split(",")[0]), (0, "5 cases"))
         self.assertEqual(len([line for line in out.splitlines() if line.startswith("|")]), 2 + len(OPERATIONS) + 2)
 
+    def test_some_operations_alone(self):
+        few = "ldi,add,lea,ld,st,bnz"
+        status, out, _ = lockstep("--tally", "--count", "12", "--operations", few, "--plain")
+        came = {line.split(" ")[1] for line in out.splitlines() if line.startswith("| ") and line.strip("| -") and
+            any(character.isdigit() for character in line.partition(" | ")[2])}
+        self.assertEqual(status, 0)
+        self.assertTrue({"ldi", "ld"} <= came <= {"(fetch)", *few.split(",")}, came)
+        with folder() as room:
+            words = ["--count", "3", "--operations", few]
+            self.assertEqual(lockstep("--write", room, *words)[0], 0)
+            for name in ("1-0", "1-1", "1-2"):
+                files = [os.path.join(room, f"{name}.{kind}") for kind in ("img", "schedule")]
+                write(room, f"{name}.log", find_program().run(["log", files[0], "1000000", files[1]]).text)
+            self.assertEqual(lockstep("--logs", room, *words)[0], 0)
+        for wrong in (["--operations", "ldi,foo"], ["--operations", "ldi", "--image", "x"], ["--plain", "--image", "x"]):
+            self.assertEqual(lockstep(*wrong, "true", "{image}")[0], 2, wrong)
+
     def test_write(self):
         with folder() as room:
             self.assertEqual(lockstep("--write", room, "--first", "3", "--count", "2")[0], 0)
