@@ -8,7 +8,7 @@ import os
 import signal
 import sys
 from dataclasses import dataclass, field, replace
-from typing import Callable, Iterator, Optional, Sequence, TypeVar
+from typing import Any, Callable, Iterator, Optional, Sequence, TypeVar
 
 from mm.formats.hex import write_parts
 from mm.formats.image import read_image
@@ -40,6 +40,7 @@ class Came:
     turns: int = 0
     lines: list[str] = field(default_factory=list)
     cannot: str = ""
+    more: dict[str, Any] = field(default_factory=dict)
 
 
 class Work:
@@ -104,18 +105,23 @@ class Work:
                 found = pair.run(case, case.items, files)
                 came = Came(case.name, pair.turns)
                 if found:
-                    came.lines = self.difference(pair, case, found, files)
+                    came.lines, came.more = self.difference(pair, case, found, files)
             except CannotRun as error:
                 return Came(case.name, cannot=str(error))
         return came
 
-    def difference(self, pair: Pair, case: Case, found: Difference, files: Room) -> list[str]:
-        """The report of a difference, after it was made small."""
-        items, note = case.items, counted(len(case.items), "item")
+    def difference(
+        self, pair: Pair, case: Case, found: Difference, files: Room
+    ) -> tuple[list[str], dict[str, Any]]:
+        """The report of a difference, after it was made small, and what JSON has of it."""
+        items, note, of_run = case.items, counted(len(case.items), "item"), found.same + 1
         if not (self.options.follow or self.options.whole):
             case, items, found, note = self.small(pair, case, found, files)
         machine = None if self.options.follow else machine_of(self.model, case, items, found, files)
-        return report(case, items, found, note, kept(self.options.keep, case, items), machine)
+        image, schedule = names = kept(self.options.keep, case, items)
+        more = {"turn": found.same + 1, "turn_of_run": of_run, "wanted": found.model or [], "came": found.other or []}
+        lines = report(case, items, found, note, names, machine)
+        return lines, {**more, "image": image, "schedule": schedule}
 
     def small(
         self, pair: Pair, case: Case, found: Difference, files: Room
@@ -205,7 +211,7 @@ def compare_cases(options: argparse.Namespace) -> int:
             print(f"lockstep: {came.cannot}", file=sys.stderr)
             return NOT_RUN
         turns += came.turns
-        results.add(Result("random" if options.image is None else "image", came.name, came.lines))
+        results.add(Result("random" if options.image is None else "image", came.name, came.lines, more=came.more))
         if came.lines:
             print("\n".join(came.lines), flush=True)
             if not options.all:

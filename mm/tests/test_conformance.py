@@ -1,5 +1,6 @@
 """The suite's tools, as a designer uses them: `conformance/make`, `check` and `coverage`."""
 
+import json
 import os
 import subprocess
 import unittest
@@ -24,6 +25,23 @@ class Logs(unittest.TestCase):
                 self.assertEqual((status, said.splitlines()[-1]), (1, "1 cases, 1 differs"))
                 self.assertIn("its log cannot be read", said)
                 self.assertTrue(tool("coverage", "--logs", made)[1].startswith("0 logs."))
+
+    def test_a_difference_for_other_programs(self):
+        with folder() as made:
+            tool("make", made, "lea-by-none")
+            lines = read(made, "lea-by-none.wanted").splitlines()
+            turn = next(line for line in lines if line.startswith("t "))
+            said = os.path.join(made, "said.json")
+            for came, log in ((["VCD info: x"], ["VCD info: x", *lines]), ([], [])):
+                write(made, "lea-by-none.log", "".join(f"{line}\n" for line in log))
+                out = tool("check", "--json", said, "--logs", made, "--only", "lea-by-none")[1]
+                self.assertEqual("--skip-lines TEXT" in out, bool(came), out)
+                row = json.loads(read(said))["results"][0]
+                self.assertEqual((row["line"], row["wanted"], row["came"]), (1, [turn], came))
+                self.assertNotIn("more", row)
+            write(made, "lea-by-none.log", read(made, "lea-by-none.wanted"))
+            self.assertEqual(tool("check", "--json", said, "--logs", made, "--only", "lea-by-none")[0], 0)
+            self.assertEqual(json.loads(read(said))["results"][0]["told"], [])
 
     def test_a_log_of_ones_own(self):
         with folder() as made:
