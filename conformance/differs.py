@@ -8,7 +8,7 @@ from mm.log.replay import Machine
 from mm.machine.isa import decode
 from mm.outputs.trace import read_turn
 
-TURNS = ("t ", "m ")
+TURNS, NO_MORE = ("t ", "m "), "no more lines"
 
 
 def first_difference(log, text, counts, skipped=()):
@@ -40,26 +40,40 @@ def told(case, log, at, came, in_full):
         return [head]
     return [
         head,
-        f"  wanted  {for_people(wanted_at(lines, at, came))}",
-        f"  came    {'no more lines' if came is None else for_people(came)}",
+        f"  wanted  {wanted_at(lines, at, came)}",
+        f"  came    {NO_MORE if came is None else for_people(came)}",
         *around(case, lines, at, came),
     ]
+
+
+def keys_of(log, at, came):
+    """What JSON has of a difference: its line and turn, counted from 1, and what each side has there."""
+    if at is None:
+        return {}
+    lines = log.splitlines()
+    end = report_at(lines)
+    place = turn_line(lines, at, came)
+    turn = sum(line.startswith(TURNS) for line in lines[: place + 1]) if place < end else None
+    return {"line": at + 1, "turn": turn, "wanted": lines[at : at + 1], "came": [] if came is None else [came]}
 
 
 def wanted_at(lines, at, came):
     """The line of a place of a stored log; at its report, if another line of a turn came, that no more are wanted."""
     if at >= len(lines):
-        return "no more lines"
+        return NO_MORE
     more = at == report_at(lines) and came is not None and not came.startswith("cycles ")
-    return "no more lines of turns" if more else lines[at]
+    return f"{NO_MORE} of turns" if more else for_people(lines[at])
+
+
+def turn_line(lines, at, came):
+    """A place in the turn that a place of a log is in: a change more is in the turn before."""
+    is_change = came and not came.startswith((*TURNS, "cycles "))
+    return at - 1 if is_change and (at == report_at(lines) or lines[at : at + 1] and lines[at].startswith(TURNS)) else at
 
 
 def around(case, lines, at, came):
     """The turn that a place of a log is in, its instruction with the registers that it names, and the turn before."""
-    end = report_at(lines)
-    is_change = came and not came.startswith((*TURNS, "cycles "))
-    if is_change and (at == end or lines[at : at + 1] and lines[at].startswith(TURNS)):
-        at -= 1  # a change more in the turn before
+    end, at = report_at(lines), turn_line(lines, at, came)
     starts = [place for place in range(min(at + 1, end)) if lines[place].startswith(TURNS)]
     if at >= end or not starts:
         return ["  in the report, after all turns are as they should be" if at >= end else "  before any turn"]

@@ -3,10 +3,11 @@
 from __future__ import annotations
 
 from dataclasses import dataclass
+from typing import AbstractSet
 
 from mm.formats.image import PAGE_BYTES, Image, Slot, image_bytes, page_of
 from mm.formats.schedule import PORT, Schedule
-from mm.lockstep.code import Coder
+from mm.lockstep.code import ALL, Coder
 from mm.lockstep.dice import Dice
 from mm.lockstep.world import CODE, DATA, GATE, LOADING, TABLE, Area, World
 from mm.machine.words import Cell, Permission, Pointer, Word
@@ -46,14 +47,14 @@ def items_of(schedule: Schedule) -> tuple[int, ...]:
 class Maker:
     """Makes the case of a number."""
 
-    def __init__(self, seed: int, number: int) -> None:
+    def __init__(self, seed: int, number: int, names: AbstractSet[str], plain: bool) -> None:
         self.name = f"{seed}-{number}"
         self.dice = dice = Dice(f"lockstep {seed} {number}")
         self.version = 1 if dice.chance(38) else 2
-        self.split = self.version == 2 and dice.chance(72)
+        self.split = self.version == 2 and dice.chance(72) and not plain
         self.floods = dice.below(FLOOD_OF) == 0
         self.world = World(dice)
-        self.coder = Coder(self.world)
+        self.coder = Coder(self.world, names)
         most = 16 if self.version == 1 else 64
         counts = [(1, 3), (2, 14), (3, 22), (4, 22), (5, 14), (8, 8), (dice.between(2, most), 4), (most, 1)]
         count = dice.weighed(counts)
@@ -76,10 +77,10 @@ class Maker:
         self.workers = floods + workers
         self.privileged = {area: dice.chance(45) for area in kernels}
         for area, privileged in self.privileged.items():
-            world.put(area, coder.kernel(area.words, privileged), 4)
+            world.put(area, coder.fitting(coder.kernel(area.words, privileged)), 4)
         for areas, make in ((workers, coder.worker), (gates, coder.gate), (floods, coder.flood)):
             for area in areas:
-                world.put(area, make(area.words), 4)
+                world.put(area, coder.fitting(make(area.words)), 4)
         for area in data:
             world.put(area, world.words(area.words, 12), 18)
         for area in tables:
@@ -121,6 +122,8 @@ class Maker:
         return next((number for number in self.numbers if number not in self.kernels), self.numbers[0])
 
     def handler(self, number: int) -> int | None:
+        if "evt" not in self.coder.names:
+            return None
         others = [kernel for kernel in self.kernels if kernel != number]
         if others and self.dice.chance(30 if number in self.kernels else 84):
             return self.dice.one(others)
@@ -174,6 +177,6 @@ class Maker:
         return Case(self.name, image_bytes(image), self.items())
 
 
-def case_of(seed: int, number: int) -> Case:
-    """The case of a number under a seed."""
-    return Maker(seed, number).make()
+def case_of(seed: int, number: int, names: AbstractSet[str] = ALL, plain: bool = False) -> Case:
+    """The case of a number under a seed. Its code has no operations but the named ones; its data may spell others."""
+    return Maker(seed, number, names, plain).make()

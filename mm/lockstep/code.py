@@ -6,10 +6,10 @@ data."""
 
 from __future__ import annotations
 
-from typing import Callable
+from typing import AbstractSet, Callable
 
 from mm.lockstep.world import World
-from mm.machine.isa import OPERATIONS, Instruction, Kind, encode
+from mm.machine.isa import OPERATIONS, Instruction, Kind, decode, encode
 from mm.machine.words import Word
 
 INTEGERS, POINTERS, JUMPS = (0, 1, 2, 3, 4, 7), (8, 9, 10, 11, 14, 15), (5, 6, 11)
@@ -38,13 +38,26 @@ OFFSETS = [
 # Numbers that suit the last operand of an operation: permissions, lengths and distances.
 SUITABLE = {"restrict": range(9), "subseg": range(14), "lea": range(-16, 72, 8), "leab": range(0, 72, 8)}
 FAR = [1 << 31, (1 << 31) - 1, 0xFFFFFFFF - 63, 64, 100, 511, 512]
+ALL = frozenset(OPERATIONS)
+
+
+def operations_in(text: str) -> frozenset[str]:
+    """The operations of a text, names between commas; ValueError if it has another name."""
+    names = frozenset(text.replace(" ", "").split(","))
+    unknown = sorted(names - ALL)
+    if unknown:
+        raise ValueError(f"there is no operation `{unknown[0]}`")
+    return names
 
 
 class Coder:
-    """Makes words of code for a world."""
+    """Makes words of code for a world, with some of the operations or all."""
 
-    def __init__(self, world: World) -> None:
-        self.world, self.dice = world, world.dice
+    def __init__(self, world: World, names: AbstractSet[str] = ALL) -> None:
+        self.world, self.dice, self.names = world, world.dice, names
+        self.weights = [(name, often) for name, often in WEIGHTS if name in names]
+        if not any(often for _, often in self.weights):
+            self.weights = [(name, 1) for name, _ in self.weights]
         # The register that was loaded last: in a split machine it has to be waited for.
         self.loaded = 8
         self.values: dict[Kind, Callable[[str], int]] = {
@@ -87,14 +100,29 @@ class Coder:
 
     def instruction(self) -> Word:
         """An instruction; often one that loads a pointer from a table, so that registers have some."""
-        if self.dice.chance(7):
+        if self.dice.chance(7) and "ld" in self.names:
             return self.spell("ld", self.dice.between(8, 11), TABLE_REGISTER, 8 * self.dice.below(8), 0, 0)
         # A slot that handles no faults waits for ever at `evt`, so that is seldom met.
-        name = "evt" if self.dice.below(6000) == 0 else self.dice.weighed(WEIGHTS)
+        seldom = self.dice.below(6000) == 0 and "evt" in self.names
+        name = "evt" if seldom else self.dice.weighed(self.weights)
         values = [self.values[kind](name) for kind in OPERATIONS[name].operands]
         if name == "ld":
             self.loaded = values[0]
         return self.spell(name, *values)
+
+    def fitting(self, words: list[Word]) -> list[Word]:
+        """Words of code with the instructions of other operations replaced."""
+        return [word if self.fits(word) else self.instruction() for word in words]
+
+    def fits(self, word: Word) -> bool:
+        found = None if word.tagged else decode(word.bits)
+        return found is None or found.name in self.names
+
+    def back(self, words: int) -> Word:
+        """A branch back by some words: one that is always taken, or mostly."""
+        if "br" in self.names or "bnz" not in self.names:
+            return self.spell("br", -words)
+        return self.spell("bnz", 15, -words)
 
     def junk(self) -> Word:
         """A word that is hardly an instruction: another bit of one, a pointer, or anything."""
@@ -128,7 +156,7 @@ class Coder:
     def worker(self, words: int) -> list[Word]:
         """Instructions, mostly in a loop. A call in the last word has no place to come back to."""
         code = self.lines(words)
-        again, call = self.spell("br", 1 - words), self.spell("jal", 6, self.register((5, 5, *POINTERS)))
+        again, call = self.back(words - 1), self.spell("jal", 6, self.register((5, 5, *POINTERS)))
         code[-1] = self.dice.weighed([(again, 90), (call, 5), (code[-1], 5)])
         return code
 
@@ -172,7 +200,7 @@ class Coder:
         code = [self.spell("ldi", 4, 8)]
         while len(code) + 14 < words:
             code += self.service(pages)
-        code.append(self.spell("br", 1 - len(code)))
+        code.append(self.back(len(code) - 1))
         return code + self.lines(words - len(code))
 
     def gate(self, words: int) -> list[Word]:

@@ -9,6 +9,8 @@ from mm.machine.causes import Cause
 
 # What no line of a log begins with: a comment or a time of a testbench, and what simulators say of themselves.
 SKIPPED = ("#", "-", "%")
+# What each line of a log begins with: of a turn, a change, and the report.
+HEADS = frozenset("t m ip state r load event taken out page cell cycles group o slot pending counts".split())
 # Where a line has the number of a fault.
 FAULTS = (
     re.compile(r"t \d+ \d+ faulted (\d+)"),
@@ -34,6 +36,8 @@ def for_people(line: str) -> str:
     """A line with the name of its fault, and with what the eye does not see."""
     cause, seen = fault_of(line), line.rstrip()
     notes = [cause.title] if cause else []
+    if line.partition(" ")[0] not in HEADS and seen:
+        notes.append("no line of a log: --skip-lines TEXT skips lines that begin so")
     if seen != line:
         notes.append(f"trailing blank{'s' if len(line) - len(seen) > 1 else ''}")
     return f"{seen}    ({', '.join(notes)})" if notes else line

@@ -7,19 +7,20 @@ import multiprocessing
 import os
 import signal
 import sys
-from dataclasses import dataclass, field
-from typing import Callable, Iterator, Optional, Sequence, TypeVar
+from dataclasses import dataclass, field, replace
+from typing import Any, Callable, Iterator, Optional, Sequence, TypeVar
 
 from mm.formats.hex import write_parts
 from mm.formats.image import read_image
 from mm.formats.schedule import read_schedule
 from mm.lockstep.case import Case, case_of, items_of, schedule_text
+from mm.lockstep.code import ALL
 from mm.lockstep.compare import Difference, Pair, item_of, turns_of
 from mm.lockstep.options import read_options
 from mm.lockstep.programs import CYCLES, IMAGE, SCHEDULE, CannotRun, Command, Room, room
 from mm.lockstep.results import Result, Results
 from mm.lockstep.shrink import Shrinker
-from mm.lockstep.tally import Tally
+from mm.lockstep.tally import Tally, instruction_of
 from mm.lockstep.tell import kept, machine_and_items, machine_of, report
 from mm.log.read import LogReader, NoLog
 from mm.log.replay import Machine
@@ -39,6 +40,7 @@ class Came:
     turns: int = 0
     lines: list[str] = field(default_factory=list)
     cannot: str = ""
+    more: dict[str, Any] = field(default_factory=dict)
 
 
 class Work:
@@ -61,11 +63,28 @@ class Work:
 
     def case(self, number: int) -> Case:
         if self.options.image is None:
-            return case_of(self.options.seed, number)
+            names = self.options.operations
+            case = case_of(self.options.seed, number, names or ALL, self.options.plain)
+            return replace(case, items=self.within(case)) if names else case
         with open(self.options.image, "rb") as file:
             image = file.read()
         name = os.path.splitext(os.path.basename(self.options.image))[0]
         return Case(name, image, self.items()[: self.options.cycles])
+
+    def within(self, case: Case) -> tuple[int, ...]:
+        """The items of a case, up to the first turn whose instruction is of an operation that is not asked for."""
+        machine, items = Machine(read_image(case.image)), []
+        with room() as files:
+            image = files.file("case.img", case.image)
+            schedule = files.file("case.schedule", schedule_text(case.items).encode("ascii"))
+            with self.model.run(image, len(case.items), schedule) as running:
+                for step in LogReader(running.lines).steps():
+                    instruction = None if step.turn.delivered is not None else instruction_of(machine, step)
+                    if instruction and instruction.name not in self.options.operations:
+                        return tuple(items)
+                    machine.carry_out(step)
+                    items.append(step.item)
+        return case.items
 
     def items(self) -> tuple[int, ...]:
         """The schedule of a given image: its own, or what the model does in round robin."""
@@ -86,18 +105,23 @@ class Work:
                 found = pair.run(case, case.items, files)
                 came = Came(case.name, pair.turns)
                 if found:
-                    came.lines = self.difference(pair, case, found, files)
+                    came.lines, came.more = self.difference(pair, case, found, files)
             except CannotRun as error:
                 return Came(case.name, cannot=str(error))
         return came
 
-    def difference(self, pair: Pair, case: Case, found: Difference, files: Room) -> list[str]:
-        """The report of a difference, after it was made small."""
-        items, note = case.items, counted(len(case.items), "item")
+    def difference(
+        self, pair: Pair, case: Case, found: Difference, files: Room
+    ) -> tuple[list[str], dict[str, Any]]:
+        """The report of a difference, after it was made small, and what JSON has of it."""
+        items, note, of_run = case.items, counted(len(case.items), "item"), found.same + 1
         if not (self.options.follow or self.options.whole):
             case, items, found, note = self.small(pair, case, found, files)
         machine = None if self.options.follow else machine_of(self.model, case, items, found, files)
-        return report(case, items, found, note, kept(self.options.keep, case, items), machine)
+        image, schedule = names = kept(self.options.keep, case, items)
+        more = {"turn": found.same + 1, "turn_of_run": of_run, "wanted": found.model or [], "came": found.other or []}
+        lines = report(case, items, found, note, names, machine)
+        return lines, {**more, "image": image, "schedule": schedule}
 
     def small(
         self, pair: Pair, case: Case, found: Difference, files: Room
@@ -106,7 +130,9 @@ class Work:
         else the same image with fewer items; and then with less in it."""
 
         def attempt(image: bytes, items: tuple[int, ...]) -> Optional[Difference]:
-            return pair.run(Case(case.name, image, items), items, files)
+            tried = Case(case.name, image, items)
+            found = pair.run(tried, items, files)
+            return None if found and self.options.operations and self.within(tried) is not items else found
 
         shrinker = Shrinker(attempt, case.image, case.items, found, self.options.tries)
         late = shrinker.from_state(lambda turns: machine_and_items(self.model, case, turns, files))
@@ -152,9 +178,10 @@ def each(options: argparse.Namespace, work: Callable[[int], Made]) -> Iterator[M
 def write_cases(options: argparse.Namespace) -> int:
     """The images and schedules of the cases as files, and a list of them."""
     os.makedirs(options.write, exist_ok=True)
+    work = Work(options) if options.operations else None
     lines = []
     for number in numbers_of(options):
-        case = case_of(options.seed, number)
+        case = work.case(number) if work else case_of(options.seed, number, plain=options.plain)
         lines.append(f"{case.name} {len(case.items)} {case.name}.schedule\n")
         if options.hex:
             write_parts(read_image(case.image), os.path.join(options.write, case.name))
@@ -184,7 +211,7 @@ def compare_cases(options: argparse.Namespace) -> int:
             print(f"lockstep: {came.cannot}", file=sys.stderr)
             return NOT_RUN
         turns += came.turns
-        results.add(Result("random" if options.image is None else "image", came.name, came.lines))
+        results.add(Result("random" if options.image is None else "image", came.name, came.lines, more=came.more))
         if came.lines:
             print("\n".join(came.lines), flush=True)
             if not options.all:

@@ -7,6 +7,7 @@ import sys
 from typing import Sequence
 
 from mm.formats.schedule import MOST
+from mm.lockstep.code import operations_in
 from mm.lockstep.programs import IMAGE
 
 ABOUT = """\
@@ -34,6 +35,8 @@ def parser() -> argparse.ArgumentParser:
     add("--seed", type=int, default=1, metavar="N", help="another row of cases; else 1")
     add("--first", type=int, default=0, metavar="N", help="the number of the first case; else 0")
     add("--count", type=int, default=100, metavar="N", help="how many cases; else 100")
+    add("--operations", metavar="LIST", help="cases that carry out these operations alone: halt,ldi,add")
+    add("--plain", action="store_true", help="cases without split machines")
     add("--jobs", type=int, default=1, metavar="N", help="how many cases at a time; else 1")
     add("--all", action="store_true", help="go on after a difference, and tell which cases differ")
     add("--whole", action="store_true", help="leave the image and the schedule of a difference as they are")
@@ -71,6 +74,13 @@ def read_options(given: Sequence[str]) -> argparse.Namespace:
         made.error(f"no word of the command has {IMAGE}")
     if options.schedule and not options.image:
         made.error("--schedule belongs to --image")
+    if options.image and (options.plain or options.operations is not None):
+        made.error("--operations and --plain belong to random cases")
+    if options.operations is not None:
+        try:
+            options.operations = operations_in(options.operations)
+        except ValueError as error:
+            made.error(str(error))
     if min(options.jobs, options.seconds) < 1 or min(options.count, options.first, options.tries) < 0:
         made.error("a number is out of its range")
     if not 0 <= options.cycles <= MOST:

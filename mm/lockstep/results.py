@@ -7,7 +7,7 @@ import sys
 import time
 from collections import Counter
 from dataclasses import asdict, dataclass, field
-from typing import Optional
+from typing import Any, Optional
 from xml.sax.saxutils import escape, quoteattr
 
 EVERY_SECONDS = 5.0
@@ -15,16 +15,24 @@ EVERY_SECONDS = 5.0
 
 @dataclass
 class Result:
-    """What came of a case: nothing told if it is the same."""
+    """What came of a case: nothing told if it is the same. `more` has keys of its own in JSON: turn, wanted, came."""
 
     theme: str
     case: str
     told: list[str] = field(default_factory=list)
     seconds: float = 0.0
+    more: dict[str, Any] = field(default_factory=dict)
 
     @property
     def differs(self) -> bool:
         return bool(self.told)
+
+    @property
+    def keys(self) -> dict[str, Any]:
+        """What JSON has of it."""
+        found = asdict(self)
+        more = found.pop("more")
+        return {**found, **more}
 
 
 @dataclass
@@ -63,7 +71,7 @@ class Results:
     def json(self) -> str:
         themes = {theme: {"cases": count, "differ": differ} for theme, count, differ in self.by_theme()}
         whole = {"cases": len(self.rows), "differ": self.differing, "themes": themes}
-        return json.dumps({**whole, "results": [asdict(row) for row in self.rows]}, indent=1) + "\n"
+        return json.dumps({**whole, "results": [row.keys for row in self.rows]}, indent=1) + "\n"
 
     def junit(self) -> str:
         lines = ['<?xml version="1.0" encoding="UTF-8"?>', "<testsuites>"]

@@ -145,6 +145,8 @@ class Told(unittest.TestCase):
             ("ip 0 p1 ", "ip 0 p1    (trailing blank)"),
             ("t 0 3 faulted 3 \t", "t 0 3 faulted 3    (Bounds, trailing blanks)"),
             ("r 0 3 i3", "r 0 3 i3"),
+            ("", ""),
+            ("VCD info: y", "VCD info: y    (no line of a log: --skip-lines TEXT skips lines that begin so)"),
         ):
             self.assertEqual(for_people(line), shown)
 
@@ -152,7 +154,10 @@ class Told(unittest.TestCase):
         results = Results("suite", 3)
         for theme, case, told in (("a", "one", []), ("a", "two", ["two: line 1 <differs>"]), ("b", "three", [])):
             results.add(Result(theme, case, told))
+        results.rows[1].more = {"turn": 3, "wanted": ["x"], "came": []}
         self.assertEqual(results.by_theme(), [("a", 2, 1), ("b", 1, 0)])
+        rows = json.loads(results.json())["results"]
+        self.assertEqual([(row.get("turn"), row.get("came")) for row in rows], [(None, None), (3, []), (None, None)])
         self.assertEqual(json.loads(results.json())["themes"], {"a": {"cases": 2, "differ": 1}, "b": {"cases": 1, "differ": 0}})
         suites = ElementTree.fromstring(results.junit()).findall("testsuite")
         self.assertEqual([suite.get("failures") for suite in suites], ["1", "0"])
@@ -267,9 +272,15 @@ class Command(unittest.TestCase):
     def test_a_report_of_a_difference(self):
         with folder() as room:
             other = self.spoiled(room, "| sed s/i0000000000000042/i0000000000000043/")
-            words = ["--keep", room, "--image", path_of("examples", "counter.img"), other, *PLACES]
+            said = os.path.join(room, "said.json")
+            words = ["--keep", room, "--json", said, "--image", path_of("examples", "counter.img"), other, *PLACES]
             status, out, _ = lockstep(*words)
             self.assertEqual(status, 1)
+            row = json.loads(read(said))["results"][0]
+            self.assertEqual((row["turn"], row["image"]), (1, os.path.join(room, "lockstep-counter.img")))
+            self.assertIn("r 1 2 i0000000000000042", row["wanted"])
+            self.assertIn("r 1 2 i0000000000000043", row["came"])
+            self.assertGreater(row["turn_of_run"], 1)
             for line in ("addi r2, r2, 64", "reads     r2  i0000000000000002  2", "> r 1 2 i0000000000000042"):
                 self.assertIn(line, out)
             kept = os.path.join(room, "lockstep-counter.")
@@ -316,6 +327,23 @@ class Command(unittest.TestCase):
         status, out, _ = lockstep("--tally", "--count", "5")
         self.assertEqual((status, out.splitlines()[0].split(",")[0]), (0, "5 cases"))
         self.assertEqual(len([line for line in out.splitlines() if line.startswith("|")]), 2 + len(OPERATIONS) + 2)
+
+    def test_some_operations_alone(self):
+        few = "ldi,add,lea,ld,st,bnz"
+        status, out, _ = lockstep("--tally", "--count", "12", "--operations", few, "--plain")
+        came = {line.split(" ")[1] for line in out.splitlines() if line.startswith("| ") and line.strip("| -") and
+            any(character.isdigit() for character in line.partition(" | ")[2])}
+        self.assertEqual(status, 0)
+        self.assertTrue({"ldi", "ld"} <= came <= {"(fetch)", *few.split(",")}, came)
+        with folder() as room:
+            words = ["--count", "3", "--operations", few]
+            self.assertEqual(lockstep("--write", room, *words)[0], 0)
+            for name in ("1-0", "1-1", "1-2"):
+                files = [os.path.join(room, f"{name}.{kind}") for kind in ("img", "schedule")]
+                write(room, f"{name}.log", find_program().run(["log", files[0], "1000000", files[1]]).text)
+            self.assertEqual(lockstep("--logs", room, *words)[0], 0)
+        for wrong in (["--operations", "ldi,foo"], ["--operations", "ldi", "--image", "x"], ["--plain", "--image", "x"]):
+            self.assertEqual(lockstep(*wrong, "true", "{image}")[0], 2, wrong)
 
     def test_write(self):
         with folder() as room:
