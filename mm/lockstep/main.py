@@ -73,7 +73,8 @@ class Work:
 
     def within(self, case: Case) -> tuple[int, ...]:
         """The items of a case, up to the first turn whose instruction is of an operation that is not asked for."""
-        machine, items = Machine(read_image(case.image)), []
+        machine = Machine(read_image(case.image))
+        items: list[int] = []
         with room() as files:
             image = files.file("case.img", case.image)
             schedule = files.file("case.schedule", schedule_text(case.items).encode("ascii"))
