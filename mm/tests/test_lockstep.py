@@ -22,7 +22,6 @@ from mm.lockstep.results import Result, Results
 from mm.lockstep.shorten import Shortener
 from mm.lockstep.shrink import Shrinker, image_of, kind_of
 from mm.lockstep.tally import Tally
-from mm.lockstep.vectors import units, vectors
 from mm.lockstep.world import World
 from mm.log.read import read_log
 from mm.log.replay import Machine
@@ -350,29 +349,6 @@ class Command(unittest.TestCase):
             self.assertEqual(lockstep("--write", room, "--first", "3", "--count", "2")[0], 0)
             self.assertEqual(sorted(os.listdir(room)), ["1-3.img", "1-3.schedule", "1-4.img", "1-4.schedule", "cases"])
             self.assertEqual(case_of(1, 4).image, read_bytes(room, "1-4.img"))
-
-
-@needs_log
-class Vectors(unittest.TestCase):
-    def test_lea(self):
-        found = list(vectors(find_program(), "lea", 200))
-        self.assertEqual(len(found), 200)
-        for vector in found:
-            pointer = vector.a.pointer
-            distance = vector.b.bits - (1 << 64 if vector.b.bits >> 63 else 0)
-            if not vector.fault:
-                self.assertEqual(vector.result.pointer.address, pointer.address + distance)
-                self.assertEqual(vector.result.pointer.base, pointer.base)
-            elif vector.fault == 1:
-                self.assertIsNone(pointer if vector.a.tagged else None)
-        self.assertEqual({vector.fault for vector in found}, {0, 1, 2, 3})
-
-    def test_each_unit(self):
-        for name in units():
-            found = list(vectors(find_program(), name, 70))
-            self.assertEqual(len(found), 70)
-            self.assertTrue(any(not vector.fault for vector in found), name)
-            self.assertRegex(found[0].line, "^[01][0-9a-f]{16} [01][0-9a-f]{16} [0-9a-f] [01][0-9a-f]{16}$")
 
 
 class Folder(unittest.TestCase):
