@@ -21,7 +21,7 @@ use Rattle.mm_kernel.specs.Threads.{form_in, has_open_words, is_kernel_slot, is_
 use Rattle.mm_kernel.specs.{Threads.own_thread, Facts.{take_up, Fact.HasEvent}}
 use Rattle.mm_kernel.specs.Derived.{Derived, Keeps, Derived.begins_in_slot}
 use Rattle.mm_kernel.specs.Variants.{IsShared, is_caller, IsAnyCaller, IsVariantSlot, Variant}
-use Rattle.mm_kernel.specs.Laws.{IsSegment, SlotShares, EventShares, is_of_kernel, ServedByOthers, RowKept, StateKept}
+use Rattle.mm_kernel.specs.Laws.{SlotShares, EventShares, is_of_kernel, ServedByOthers, RowKept, StateKept}
 use Rattle.mm_kernel.proofs.Values.{Fits, shared_int, public_shared, holds_stands, holds_exactly, Public}
 use Rattle.mm_kernel.proofs.Ups.{Up, Free, Bound, up_cases, each_in, each_from}
 use Rattle.mm_kernel.proofs.Slots.{guards, Match, free_form, HeldFor, StoppedOk, SlotOkAs}
@@ -161,11 +161,11 @@ module _ (i j : Image) (kept : List Segment) (img : IsImage i) (jmg : IsImage j)
     }
 
 -- a kernel that keeps its segments keeps them in every run of every variant
-pub kernels_keep : (i j : Image) (kept : List Segment) (items : List ℕ) → IsImage i → IsImage j → AllByRecursion IsSegment kept → Keeps i kept → Variant i kept j
+pub kernels_keep : (i j : Image) (kept : List Segment) (items : List ℕ) → IsImage i → IsImage j → Keeps i kept → Variant i kept j
     → StateKept i kept j (run (start j) items)
-kernels_keep i j kept items img jmg segs ks v = state_kept i j kept img jmg ks v (run (start j) items) (run_holds i j kept img jmg ks v items (start j) (start_holds i j kept img jmg ks v))
+kernels_keep i j kept items img jmg ks v = state_kept i j kept img jmg ks v (run (start j) items) (run_holds i j kept img jmg ks v items (start j) (start_holds i j kept img jmg ks v))
 
--- 3. An image that keeps its segments is a variant of itself.
+-- 2. An image that keeps its segments is a variant of itself.
 
 executable : (p : Perm) → can_fetch p ≡ true → runs_privileged p ≡ false → p ≡ Xu
 executable Ro e u = cc

@@ -1,5 +1,5 @@
 -- A kernel that keeps its segments keeps them in every run of every variant.
-use Rattle.std.specs.Prelude.{◌≡◌, ℕ, ◌%◌, ◌^◌, ◌<◌, ◌≤◌, true, false, Bool, List, Option, Some, None}
+use Rattle.std.specs.Prelude.{◌≡◌, ℕ, true, false, Bool, List, Option, Some, None}
 use Rattle.std.specs.List.{AllByRecursion}
 use Rattle.mm_word.specs.{declared.word.{Word.{Word, TheVariants.Ptr}, Cell.Cell}, Access.AccessValue}
 use Rattle.mm_model.specs.declared.slot.{SlotState.{SlotState, TheVariants.{Running, Halted}}, Pending.Pending}
@@ -9,16 +9,7 @@ use Rattle.mm_kernel.specs.{Segments.{Segment, is_kept, is_fixed}, declared.{for
 use Rattle.mm_kernel.specs.{Forms.Stands, Threads.is_kernel, Facts.Fact.{HasThread, HasForm}}
 use Rattle.mm_kernel.specs.{Derived.{Derived, IsCode, Keeps}, Variants.{IsShared, Variant}}
 
--- 1. Which segments can be kept.
-
--- an aligned segment of at least a word
-pub record IsSegment (seg : Segment) : Type 0 where
-  pub word : 3 ≤ seg.1
-  pub size : seg.1 ≤ 54
-  pub aligned : seg.0 % 2 ^ seg.1 ≡ 0
-  pub below : seg.0 < 2 ^ 54
-
--- 2. What no caller gets.
+-- 1. What no caller gets.
 
 -- the accesses of a turn that fetches a code word of the kernel may be on kept words, and no others
 abbrev pub FetchesCode : Image → List Segment → Turned → Type 0
@@ -69,12 +60,12 @@ pub record StateKept (i : Image) (kept : List Segment) (j : Image) (s : State) :
   pub fixed_cells : (w : ℕ) (c : Cell) → cell_at i.memory w ≡ Some c → is_fixed i w ≡ true
       → cell_at s.memory w ≡ cell_at j.memory w
 
--- 3. The law.
+-- 2. The law.
 
 -- A kernel that keeps its segments keeps them after every list of items, in every variant of its image.
 abbrev pub KernelsKeep : Type 0
 KernelsKeep = (i j : Image) (kept : List Segment) (items : List ℕ) → IsImage i → IsImage j
-    → AllByRecursion IsSegment kept → Keeps i kept → Variant i kept j → StateKept i kept j (run (start j) items)
+    → Keeps i kept → Variant i kept j → StateKept i kept j (run (start j) items)
 
 -- An image that keeps its segments is a variant of itself.
 abbrev pub KeepersAreVariants : Type 0

@@ -28,10 +28,7 @@ pub enum Form {
 fn with_perm(p: GuardedPtr, perm: Perm) -> GuardedPtr
     ensures { result ≡ record p { perm = perm } }
 {
-    match GuardedPtr::new(perm, p.log(), p.addr()) {
-        Some(q) => q,
-        None => unreachable!(),
-    }
+    GuardedPtr::of(perm, p.log(), p.addr())
 }
 
 impl Form {
