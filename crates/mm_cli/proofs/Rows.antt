@@ -98,7 +98,8 @@ first_and_rest (w ∷ words) word some is =
     ∙ ap (λ (xs : List (String Global)). string_bytes word ∷ texts xs) (sym (take_all (length (w ∷ words) - 1) words (omega arith)))
 
 -- nor where the rest is not that of the row that the first names
-pub no_rest_of : (words : List (List ℕ)) (name : List ℕ) (rest : List (List ℕ)) (number : ℕ) (table_row : TableRow) → words ≡ name ∷ rest → slice_get table number ≡ Some table_row → table_row.name ≡ name
+pub no_rest_of : (words : List (List ℕ)) (name : List ℕ) (rest : List (List ℕ)) (number : ℕ) (table_row : TableRow) → words ≡ name ∷ rest → slice_get table number ≡ Some table_row
+    → table_row.name ≡ name
     → ((arguments : List Word) → FitsRow table_row.parameters table_row.tail arguments → rest ≢ spelled arguments) → InNoRow words
 no_rest_of words name rest number table_row are at named none row asks =
     let same : asks.in_table.table_row.name ≡ name = cc (asks.arguments, are) in
@@ -106,7 +107,8 @@ no_rest_of words name rest number table_row are at named none row asks =
     let spells : rest ≡ spelled row.words = cc (asks.arguments, are) in
     none row.words (subst (λ (l : TableRow). FitsRow l.parameters l.tail row.words) one asks.in_table.fits) spells
 
-pub asks_for : (words : List (List ℕ)) (name : List ℕ) (rest : List (List ℕ)) (number : ℕ) (table_row : TableRow) (arguments : List Word) → words ≡ name ∷ rest → slice_get table number ≡ Some table_row
+pub asks_for : (words : List (List ℕ)) (name : List ℕ) (rest : List (List ℕ)) (number : ℕ) (table_row : TableRow) (arguments : List Word) → words ≡ name ∷ rest
+    → slice_get table number ≡ Some table_row
     → table_row.name ≡ name → FitsRow table_row.parameters table_row.tail arguments → rest ≡ spelled arguments → Matches words (record { command = table_row.command; words = arguments })
 asks_for words name rest number table_row arguments are at named fits spells = record {
   in_table = record { number = number; table_row = table_row; at = at; command = refl; fits = fits };

@@ -125,7 +125,8 @@ module _ (i : Image) (s : Session) (p : Point) (kept : ∥ IsValid s.state ∥�
 abbrev at_point : Session → Point → State → Session
 at_point s p state = record s { last = p.last; state = state }
 
-pub gone_stands : (i : Image) (s : Session) (p : Point) (u : State) → u ≡ restored s.state p.snapshot → IsSnapshotOf u p.snapshot → ∥ IsValid s.state ∥₁ → ∥ IsValid u ∥₁ → CanRestore s.state p.snapshot
+pub gone_stands : (i : Image) (s : Session) (p : Point) (u : State) → u ≡ restored s.state p.snapshot → IsSnapshotOf u p.snapshot → ∥ IsValid s.state ∥₁ → ∥ IsValid u ∥₁
+    → CanRestore s.state p.snapshot
     → StandsFor i s → PointStandsFor i s.order p → StandsFor i (at_point s p u)
 gone_stands i s p u made shown before now can stands point = record {
   state = went i s p before stands point can u made shown now ∙ ap (λ n. run (start i) (run_items i s.order n)) shown.cycles;

@@ -203,7 +203,8 @@ module _ (watches : List ℕ) where
       cell_sees a pre (Some c) = bit_sees a c (passes pre c.full)
 
       -- an instruction that reaches for a cell
-      reaches_cell : (r : Result AccessValue Cause) (pre : Pre) → Sees (ended core m s i f (touch_of (reaching r pre)) (u ∷ asked_use m (reaching r pre)) (does (reply core m s.number (reaching r pre))))
+      reaches_cell : (r : Result AccessValue Cause) (pre : Pre) → Sees (ended core m s i f (touch_of (reaching r pre)) (u ∷ asked_use m (reaching r pre))
+          (does (reply core m s.number (reaching r pre))))
       unfolding reply
       reaches_cell (Err c) pre = untouched_sees core m s i f (u ∷ []) quiet_alone (does (Refused c))
       reaches_cell (Ok a) pre = cell_sees a pre (cell_at m a.addr)

@@ -3,3 +3,4 @@ pub mod Headers
 pub mod Images
 pub mod Reading
 pub mod Laws
+pub mod Parts

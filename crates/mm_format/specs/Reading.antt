@@ -12,6 +12,8 @@ FailsOr wants number read NoMemory = wants
 abbrev pub Fails : {K A : Type 0} → (K → ℕ) → Parsed A → ReadError K → Type 0
 Fails number read e = FailsOr (Unit {0}) number read e
 
+-- What a function returned is the outcome of a reading: the value, whose view it has, and where the next field begins, or
+-- the fault. With `wants` empty it never returned that memory ran out.
 abbrev pub GivesOr : {K X A : Type 0} → (wants : Type 0) → (K → ℕ) → (X → A) → Parsed A → (next : ℕ)
     → Result X (ReadError K) → Type 0
 GivesOr wants number view read next (Ok x) = read ≡ Parsed.Got (view x) next

@@ -6,6 +6,7 @@ ghost use Rattle.mm_format.specs.Formats.{IsFormat, RoundTrips, IsOneToOne};
 ghost use Rattle.mm_format.specs.Headers.{header};
 ghost use Rattle.mm_format.specs.Images.{image};
 ghost use Rattle.mm_format.specs.Laws.{FaultsComeInOrder, ImagesFit};
+ghost use Rattle.mm_format.specs.Parts.{PartsComeInOrder};
 
 /// The first fault of an image file is that of the first of its parts that has one: header, records of slots, their
 /// handlers, pages; and else it is a byte too many.
@@ -26,4 +27,9 @@ pub fn image_is_a_format()
     ensures round_trip { RoundTrips image }
     ensures one_to_one { IsOneToOne image }
     ensures fits { ImagesFit }
+{}
+
+/// The bytes of an image are those of its header, of the records of its slots and of its pages, one after the other.
+pub fn parts_come_in_order()
+    ensures { PartsComeInOrder }
 {}

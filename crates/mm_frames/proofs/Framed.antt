@@ -41,7 +41,8 @@ pub page_in_frame : (f : Framed) (page frame : ℕ) → frame_of f page ≡ Some
 page_in_frame f page frame h = page_at_is f page ∙ ap (option_map (cells_in f)) h
 
 -- a block of the page is that of the frame
-pub block_in_frame : (f : Framed) (page frame block_index : ℕ) → frame_of f page ≡ Some frame → block_index < 64 → block_at (memory_of f) (page * 64 + block_index) ≡ Some (block_in (cells_in f frame) block_index)
+pub block_in_frame : (f : Framed) (page frame block_index : ℕ) → frame_of f page ≡ Some frame → block_index < 64
+    → block_at (memory_of f) (page * 64 + block_index) ≡ Some (block_in (cells_in f frame) block_index)
 block_in_frame f page frame block_index h within =
     let block : ℕ = page * 64 + block_index in
     let its_page : page_of_block block ≡ page = omega arith in

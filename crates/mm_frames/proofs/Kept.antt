@@ -115,7 +115,8 @@ kept_seated f rest page frame i h gap small =
           omega (arith, added, h.once n, times_push n frame rest) ∙ ap (λ k. one_if (nat_lt n k)) (sym same);
     }
 
-pub kept_written : (f : Framed) (free : List ℕ) (frame block_index : ℕ) (new : List Cell) → IsFramed f free → IsOccupied f frame → block_index < 64 → length new ≡ 8 → IsFramed (written f frame block_index new) free
+pub kept_written : (f : Framed) (free : List ℕ) (frame block_index : ℕ) (new : List Cell) → IsFramed f free → IsOccupied f frame → block_index < 64 → length new ≡ 8
+    → IsFramed (written f frame block_index new) free
 kept_written f free frame block_index new h occupied within eight =
     let page = occupied.page in
     let same = length-set f.cells frame _ in

@@ -333,7 +333,8 @@ module _ (i : Image) (kept : List Segment) (core : Core) (m : Memory) (k : Machi
       held p e = (subst (λ (y : Form). Fits i kept y v) e h).holds
 
       -- an exact pointer, by the result of its check
-      exactly_by : (r : Result AccessValue Cause) → check_result v imm kind ≡ r → (Alls (kernel.loaded_by i kept t x rd pre r) → Follows i kept t (kernel.fault t x)) → Follows i kept t (kernel.fault t x)
+      exactly_by : (r : Result AccessValue Cause) → check_result v imm kind ≡ r → (Alls (kernel.loaded_by i kept t x rd pre r) → Follows i kept t (kernel.fault t x))
+          → Follows i kept t (kernel.fault t x)
       exactly_by r e f2 = load_faults x rd f imm pre kind
           (λ p is g. f2 (subst (λ y. Alls (kernel.loaded_by i kept t x rd pre y)) (ap (λ (y : Word). check_result y imm kind) (sym (held p is)) ∙ e) g)) all
 
@@ -446,7 +447,8 @@ module _ (i : Image) (kept : List Segment) (core : Core) (m : Memory) (k : Machi
       held : (p : Pointer) → f ≡ Exactly p → u ≡ Ptr p
       held p e = (subst (λ (y : Form). Fits i kept y u) e h).holds
 
-      exactly_by : (r : Result AccessValue Cause) → check_result u imm Store ≡ r → (Alls (kernel.stored_by i kept t x rb pre r) → Follows i kept t (kernel.fault t x)) → Follows i kept t (kernel.fault t x)
+      exactly_by : (r : Result AccessValue Cause) → check_result u imm Store ≡ r → (Alls (kernel.stored_by i kept t x rb pre r) → Follows i kept t (kernel.fault t x))
+          → Follows i kept t (kernel.fault t x)
       exactly_by r e f2 = store_faults x rb f imm pre
           (λ p is g. f2 (subst (λ y. Alls (kernel.stored_by i kept t x rb pre y)) (ap (λ (y : Word). check_result y imm Store) (sym (held p is)) ∙ e) g)) all
 

@@ -248,7 +248,8 @@ module _ (i : Image) (kept : List Segment) (ks : Keeps i kept) (core : Core) (m 
       fetches = record { on = r.acts.matches.past ∙ on; access = f; checked = ap (λ (p : Pointer). check_result (Ptr p) (pos 0) Fetch) r.acts.matches.ip ∙ e; at = refl };
     }
 
-    uses_of : (f : AccessValue) (to : Option AccessValue) → s.past ≡ false → check_result (Ptr s.ip) (pos 0) Fetch ≡ Ok f → (Free i kept t → IfSome to (λ (y : AccessValue). is_kept kept y.addr ≡ false))
+    uses_of : (f : AccessValue) (to : Option AccessValue) → s.past ≡ false → check_result (Ptr s.ip) (pos 0) Fetch ≡ Ok f
+        → (Free i kept t → IfSome to (λ (y : AccessValue). is_kept kept y.addr ≡ false))
         → UsesOk (Some f) to
     uses_of f to on e touched = by r.kind
       where
@@ -286,7 +287,8 @@ module _ (i : Image) (kept : List Segment) (ks : Keeps i kept) (core : Core) (m 
         by (inl free) = inl free
         by (inr b) = f b
 
-    fetches : Bound i kept t → s.past ≡ false → (f : AccessValue) → check_result (Ptr s.ip) (pos 0) Fetch ≡ Ok f → (o : Option Cell) → cell_at i.memory f.addr ≡ o → Alls (kernel.fetched i kept t f.addr o)
+    fetches : Bound i kept t → s.past ≡ false → (f : AccessValue) → check_result (Ptr s.ip) (pos 0) Fetch ≡ Ok f → (o : Option Cell) → cell_at i.memory f.addr ≡ o
+        → Alls (kernel.fetched i kept t f.addr o)
     fetches b on f e o at = subst (λ y. Alls (kernel.fetched i kept t f.addr y)) at (subst (λ y. Alls (kernel.aimed i kept t y)) e (aims b on))
 
     missing : Bound i kept t → s.past ≡ false → (f : AccessValue) → check_result (Ptr s.ip) (pos 0) Fetch ≡ Ok f → cell_at m f.addr ≡ None → Follows i kept t kernel.early_fault
@@ -296,7 +298,8 @@ module _ (i : Image) (kept : List Segment) (ks : Keeps i kept) (core : Core) (m 
         by None at g = g.0
         by (Some d) at g = let back = k.cells.back f.addr d at in let is = back.1 in absurd (cc)
 
-    decodes : Bound i kept t → s.past ≡ false → (f : AccessValue) → check_result (Ptr s.ip) (pos 0) Fetch ≡ Ok f → (c : Cell) → cell_at m f.addr ≡ Some c → Alls (kernel.decoded i kept t (instr_in c.word))
+    decodes : Bound i kept t → s.past ≡ false → (f : AccessValue) → check_result (Ptr s.ip) (pos 0) Fetch ≡ Ok f → (c : Cell) → cell_at m f.addr ≡ Some c
+        → Alls (kernel.decoded i kept t (instr_in c.word))
     decodes b on f e c at =
         let there = k.cells.there f.addr c at in
         by (is_fixed i f.addr) there.0 refl there.1 (fetches b on f e (Some there.0) there.1)
@@ -340,7 +343,8 @@ module _ (i : Image) (kept : List Segment) (ks : Keeps i kept) (core : Core) (m 
         ended_ok x f (touch_of (ask x s)) (u ∷ asked_use m (ask x s)) (effect core.split x s (reply core m s.number (ask x s))) rd
         (effect_ok i kept core m k s t r.acts ks x h rd all) (uses_of f (touch_of (ask x s)) on e (λ free. touch_free free x rd))
 
-    issued_ok : (f : AccessValue) (u : Use) (x : Instr) → s.past ≡ false → check_result (Ptr s.ip) (pos 0) Fetch ≡ Ok f → IsInstr x → Alls (kernel.outcomes_of i kept t x) → TurnOk (issued core m s f u x)
+    issued_ok : (f : AccessValue) (u : Use) (x : Instr) → s.past ≡ false → check_result (Ptr s.ip) (pos 0) Fetch ≡ Ok f → IsInstr x → Alls (kernel.outcomes_of i kept t x)
+        → TurnOk (issued core m s f u x)
     unfolding issued
     issued_ok f u x on e h all = by (core.split && lacks x s) refl
       where

@@ -115,7 +115,8 @@ module _ (v : ℕ) (core : Core) (m : Memory) where
   room_page a false d h = tt
 
   -- where there is no room, the turn faults
-  out_full : (s : Slot) (f : AccessValue) (u : Use) (ra : ℕ) → nat_lt (length (output_of core s.group)) (output_limit core.version) ≡ false → (executed core m s f u (Out ra)).step.tick ≡ Faulted OutFull
+  out_full : (s : Slot) (f : AccessValue) (u : Use) (ra : ℕ) → nat_lt (length (output_of core s.group)) (output_limit core.version) ≡ false
+      → (executed core m s f u (Out ra)).step.tick ≡ Faulted OutFull
   unfolding executed ask reply effect ended faulted
   out_full s f u ra full =
       ap (λ (b : Bool). (ended core m s (Out ra) f None (u ∷ []) (puts_out s (word_bits (register s ra) % 256) (if b then Fine else Refused OutFull))).step.tick) full ∙ full_tick s.handler

@@ -21,7 +21,8 @@ pub data Way (core : Core) (m : Memory) (n : ℕ) (t : Turned) : Type 0 where
   arrives_at : (s : Slot) (p : Pending) (rest : List Pending) → slot_at core n ≡ None → nat_le 128 n ≡ true
       → slot_at core (n - 128) ≡ Some s → s.pending ≡ p ∷ rest → t ≡ arrives core m s (p ∷ rest) → Way core m n t
   -- the turn faults
-  faults : (s : Slot) (c : Cause) (f u : Option AccessValue) (us : List Use) → Runs core n s → t ≡ faulted core m s c (address_told (comes_to m s) s) (value_told (comes_to m s) s) f u us → Way core m n t
+  faults : (s : Slot) (c : Cause) (f u : Option AccessValue) (us : List Use) → Runs core n s → t ≡ faulted core m s c (address_told (comes_to m s) s) (value_told (comes_to m s) s) f u us
+      → Way core m n t
   -- the slot waits; a load of its own may be delivered
   waits : (s x : Slot) (f : AccessValue) (u : Option AccessValue) (us : List Use) → Runs core n s → (x ≡ s) ⊎ (x ≡ delivered s) → t ≡ blocked core m x f u us → Way core m n t
   -- or a load of a slot that it serves

@@ -199,7 +199,8 @@ module _ (core : Core) (h : IsFormed core) (s : Slot) (at : slot_at core s.numbe
   got_keeps rd post a c false mode free small = record { runs = own_advances; writes = (free, tt); issue = tt; moves = Moves.keeps_all refl refl; room = tt }
   got_keeps rd post a c true mode free small = record { runs = own_advances; writes = (free, tt); issue = (mode, small, refl); moves = Moves.keeps_all refl refl; room = tt }
 
-  load_keeps : (rd : ℕ) (post : Post) (pre : Pre) (m : Memory) (r : Result AccessValue Cause) → Free rd → rd < 16 → EffectKeeps core s (loaded core.split s rd post (reply core m s.number (reaching r pre)))
+  load_keeps : (rd : ℕ) (post : Post) (pre : Pre) (m : Memory) (r : Result AccessValue Cause) → Free rd → rd < 16
+      → EffectKeeps core s (loaded core.split s rd post (reply core m s.number (reaching r pre)))
   unfolding reply
   load_keeps rd post pre m (Err c) free small = tt
   load_keeps rd post pre m (Ok a) free small = by (cell_at m a.addr)

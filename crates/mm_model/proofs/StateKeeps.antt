@@ -183,7 +183,8 @@ module _ (core : Core) (m : Memory) (h : IsFormed core) (rows : AllByRecursion R
         (event_of s c a v) s.handler rows own (record { ip = own.ip; address = fits_a; value = fits_v });
   }
 
-  ended_words : (s : Slot) (i : Instr) (f : AccessValue) (t : Option AccessValue) (us : List Use) (x : Effect) → SlotHoldsWords s → IsInstr i → EffectWords m x → TurnWords m (ended core m s i f t us x)
+  ended_words : (s : Slot) (i : Instr) (f : AccessValue) (t : Option AccessValue) (us : List Use) (x : Effect) → SlotHoldsWords s → IsInstr i → EffectWords m x
+      → TurnWords m (ended core m s i f t us x)
   unfolding ended blocked
   ended_words s i f t us (Fault c) own instr k = fault_words s c (addr_operand i s) (value_operand i s) (Some f) t us
       own (addr_operand-fits i s own.registers) (value_operand-fits i s instr own.registers)

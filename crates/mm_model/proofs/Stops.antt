@@ -131,7 +131,8 @@ module _ (core : Core) (m : Memory) (s : Slot) where
   moves : (rd : ℕ) (p : Pointer) (z : ℤ) → Comes core s.number (first_failing (move_tests p z)) (sets_pointer s rd (if can_move p.perm then moved_to p z else Err cause.Perm))
   moves rd p z = by (can_move p.perm)
     where
-      by : (b : Bool) → Comes core s.number (first_failing ((b, Stop.Fault cause.Perm) ∷ (in_segment_at p z, Stop.Fault cause.Bounds) ∷ [])) (sets_pointer s rd (if b then moved_to p z else Err cause.Perm))
+      by : (b : Bool) → Comes core s.number (first_failing ((b, Stop.Fault cause.Perm) ∷ (in_segment_at p z, Stop.Fault cause.Bounds) ∷ []))
+          (sets_pointer s rd (if b then moved_to p z else Err cause.Perm))
       by true = inside p z (sets_pointer s rd) (λ q. tt) (λ c. refl)
       by false = refl
 
@@ -140,7 +141,8 @@ module _ (core : Core) (m : Memory) (s : Slot) where
   restricts rd p None = refl
   restricts rd p (Some to) = by (can_become p.perm to)
     where
-      by : (b : Bool) → Comes core s.number (first_failing ((true, Stop.Fault cause.Malformed) ∷ (b, Stop.Fault cause.Perm) ∷ [])) (sets_pointer s rd (if b then Ok (record p { perm = to }) else Err cause.Perm))
+      by : (b : Bool) → Comes core s.number (first_failing ((true, Stop.Fault cause.Malformed) ∷ (b, Stop.Fault cause.Perm) ∷ []))
+          (sets_pointer s rd (if b then Ok (record p { perm = to }) else Err cause.Perm))
       by true = tt
       by false = refl
 
@@ -192,7 +194,8 @@ module _ (core : Core) (m : Memory) (s : Slot) where
   links_stop moved rd p (Some perm) = by (can_move s.ip.perm) (in_segment s.ip (s.ip.addr + 8)) moved
     where
       by : (a b : Bool) → a ≡ true
-          → Comes core s.number (first_failing ((b, Stop.Fault cause.Bounds) ∷ [])) (links s rd p (Some (record p { perm = perm })) (if a && b then Some (record s.ip { addr = s.ip.addr + 8 }) else None))
+          → Comes core s.number (first_failing ((b, Stop.Fault cause.Bounds) ∷ [])) (links s rd p (Some (record p { perm = perm }))
+              (if a && b then Some (record s.ip { addr = s.ip.addr + 8 }) else None))
       by true true is = tt
       by true false is = refl
       by false b is = cc
@@ -288,7 +291,8 @@ module _ (core : Core) (m : Memory) (s : Slot) where
       (λ p. restrict_tests p (perm_of (bits_in s rb))) (λ p. sets_pointer s rd (restrict_result p (bits_in s rb)))
       (λ p. restricts rd p (perm_of (bits_in s rb)))
   effect_stops moved (Subseg rd ra rb) =
-      through_stops (register s ra) (λ p. (can_move p.perm, Stop.Fault cause.Perm) ∷ (nat_lt (bits_in s rb) p.log, Stop.Fault cause.Bounds) ∷ []) (λ p. sets_pointer s rd (subseg_result p (bits_in s rb)))
+      through_stops (register s ra) (λ p. (can_move p.perm, Stop.Fault cause.Perm) ∷ (nat_lt (bits_in s rb) p.log, Stop.Fault cause.Bounds) ∷ [])
+          (λ p. sets_pointer s rd (subseg_result p (bits_in s rb)))
       (λ p. shortens rd p (bits_in s rb) (can_move p.perm) (nat_lt (bits_in s rb) p.log))
   effect_stops moved (Setptr rd ra) = spells rd (bits_in s ra) (is_privileged s.ip.perm) (spells_pointer (bits_in s ra))
   effect_stops moved (Ld rd ra pre post imm) =
@@ -385,7 +389,8 @@ module _ (core : Core) (m : Memory) (s : Slot) where
       whole a false moved = early cause.Bounds
 
       sum : (z : ℤ) → can_move s.ip.perm ≡ true
-          → Stands core m s (first_failing ((holds_word_at s.ip z, Stop.Fault cause.Bounds) ∷ (is_aligned z, Stop.Fault cause.Align) ∷ behind (cell_at_sum m z))) (aimed core m s (touch_at s.ip z Fetch))
+          → Stands core m s (first_failing ((holds_word_at s.ip z, Stop.Fault cause.Bounds) ∷ (is_aligned z, Stop.Fault cause.Align) ∷ behind (cell_at_sum m z)))
+              (aimed core m s (touch_at s.ip z Fetch))
       sum (pos a) moved = whole a (holds_word s.ip a) moved
       sum (negsuc a) moved = early cause.Bounds
 

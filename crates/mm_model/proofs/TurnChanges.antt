@@ -275,7 +275,8 @@ module _ (core : Core) (m : Memory) where
     split = ap (λ (x : Core). x.split) is ∙ e.split;
   }
 
-  does_changes : (s : Slot) (i : Instr) (f : AccessValue) (t : Option AccessValue) (us : List Use) (c : Change) → SmallOut c.out → MemoryMoves m (memory_after m c) t → Changes (ended core m s i f t us (Do c))
+  does_changes : (s : Slot) (i : Instr) (f : AccessValue) (t : Option AccessValue) (us : List Use) (c : Change) → SmallOut c.out → MemoryMoves m (memory_after m c) t
+      → Changes (ended core m s i f t us (Do c))
   unfolding core_after
   does_changes s i f t us c small moves =
       did_changes (with_queue (put_slot (with_other core c.other) (slot_after s c)) s.number c.queue)
@@ -321,7 +322,8 @@ module _ (core : Core) (m : Memory) where
       by true = let k = load_change split s rd post a c e in does_changes s i f (Some a) us (record (loads split s rd c.word) { cell = set_by post a.addr c }) k.0 k.1
       by false = quiet_changes s i f (Some a) us (Fault cause.Sync) tt
 
-  loads_changes : (split : Bool) (s : Slot) (i : Instr) (f : AccessValue) (u : Use) (rd : ℕ) (post : Post) (pre : Pre) (r : Result AccessValue Cause) → IfOk r (λ (a : AccessValue). a.kind ≡ load_kind post)
+  loads_changes : (split : Bool) (s : Slot) (i : Instr) (f : AccessValue) (u : Use) (rd : ℕ) (post : Post) (pre : Pre) (r : Result AccessValue Cause)
+      → IfOk r (λ (a : AccessValue). a.kind ≡ load_kind post)
       → Changes (ended core m s i f (touch_of (reaching r pre)) (u ∷ asked_use m (reaching r pre)) (loaded split s rd post (reply core m s.number (reaching r pre))))
   unfolding reply
   loads_changes split s i f u rd post pre (Err c) h = quiet_changes s i f None (u ∷ []) (Fault c) tt

@@ -14,7 +14,8 @@ order_of a b = slice_cmp nat_cmp a.now b.now
 
 pub contained : (keys : List (Bor (List ℕ))) (name : List ℕ) → list_any (λ (k : Bor (List ℕ)). is_eq (slice_cmp nat_cmp name k.now)) keys ≡ is_among name (key_names keys)
 contained [] name = refl
-contained (x ∷ keys) name = ap (λ b. b || list_any (λ (k : Bor (List ℕ)). is_eq (slice_cmp nat_cmp name k.now)) keys) (is_eq-slice_cmp name x.now) ∙ ap (λ b. bytes_eq name x.now || b) (contained keys name)
+contained (x ∷ keys) name = ap (λ b. b || list_any (λ (k : Bor (List ℕ)). is_eq (slice_cmp nat_cmp name k.now)) keys) (is_eq-slice_cmp name x.now)
+    ∙ ap (λ b. bytes_eq name x.now || b) (contained keys name)
 
 pub twice : (a b : Bool) → (a || b) ≡ (a || (a || b))
 twice true b = refl

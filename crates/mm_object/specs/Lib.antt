@@ -7,3 +7,4 @@ pub mod Answers
 pub mod Fits
 pub mod Steps
 pub mod Lookups
+pub mod Parts

@@ -136,7 +136,8 @@ module _ (most : AllGrantMost) (range : ℕ × ℕ) (i : Image) (can : CanSweep 
   touch_free : (e : Entries) (g : ℕ) (t : AccessValue) → TouchGranted (swept range i) e g t → ¬ (InRange range t.addr)
   touch_free e g t granted within = let old = before e granted.granted in covers_none range granted.by t.addr old.free granted.covers within
 
-  pub touches_free : (e : Entries) (g : ℕ) (touches : List AccessValue) → AllByRecursion (TouchGranted (swept range i) e g) touches → AllByRecursion (λ (t : AccessValue). ¬ (InRange range t.addr)) touches
+  pub touches_free : (e : Entries) (g : ℕ) (touches : List AccessValue) → AllByRecursion (TouchGranted (swept range i) e g) touches
+      → AllByRecursion (λ (t : AccessValue). ¬ (InRange range t.addr)) touches
   touches_free e g touches h = each_map (TouchGranted (swept range i) e g) (λ (t : AccessValue). ¬ (InRange range t.addr)) (touch_free e g) touches h
 
 -- so does the answer of a call that sweeps

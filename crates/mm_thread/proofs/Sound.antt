@@ -24,7 +24,8 @@ split_whole core on none old = record {
   matched = record { events = old.matched.events; waiting = old.matched.waiting; loads = old.matched.loads };
   kept = record {
     in_place = old.kept.in_place;
-    loads = each_both (LoadsAreConsistent core.split) (λ (s : Slot). s.pending ≡ []) (LoadsAreConsistent on) (λ s is empty. record { zero = is.zero; mode = λ _. empty }) (slots_of core) old.kept.loads none;
+    loads = each_both (LoadsAreConsistent core.split) (λ (s : Slot). s.pending ≡ []) (LoadsAreConsistent on) (λ s is empty. record { zero = is.zero; mode = λ _. empty })
+        (slots_of core) old.kept.loads none;
     taken = old.kept.taken;
     within = old.kept.within;
     silent = old.kept.silent;

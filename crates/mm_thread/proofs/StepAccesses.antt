@@ -17,17 +17,20 @@ pub record IsExact (t : Turned) : Type 0 where
   pub exact : accesses_in t.uses ≡ accesses_shown t.step
   pub few : accesses t.uses ≤ 2
 
-exact_faulted : (core : Core) (m : Memory) (s : Slot) (c : Cause) (a v : Word) (f touched : Option AccessValue) (us : List Use) → accesses_in us ≡ access_shown f ++ access_shown touched → accesses us ≤ 2
+exact_faulted : (core : Core) (m : Memory) (s : Slot) (c : Cause) (a v : Word) (f touched : Option AccessValue) (us : List Use) → accesses_in us ≡ access_shown f ++ access_shown touched
+    → accesses us ≤ 2
     → IsExact (faulted core m s c a v f touched us)
 unfolding faulted
 exact_faulted core m s c a v f touched us exact few = record { exact = exact; few = few }
 
-exact_blocked : (core : Core) (m : Memory) (s : Slot) (f : AccessValue) (touched : Option AccessValue) (us : List Use) → accesses_in us ≡ access_shown (Some f) ++ access_shown touched → accesses us ≤ 2
+exact_blocked : (core : Core) (m : Memory) (s : Slot) (f : AccessValue) (touched : Option AccessValue) (us : List Use) → accesses_in us ≡ access_shown (Some f) ++ access_shown touched
+    → accesses us ≤ 2
     → IsExact (blocked core m s f touched us)
 unfolding blocked
 exact_blocked core m s f touched us exact few = record { exact = exact; few = few }
 
-exact_ended : (core : Core) (m : Memory) (s : Slot) (i : Instr) (f : AccessValue) (touched : Option AccessValue) (us : List Use) → accesses_in us ≡ access_shown (Some f) ++ access_shown touched → accesses us ≤ 2
+exact_ended : (core : Core) (m : Memory) (s : Slot) (i : Instr) (f : AccessValue) (touched : Option AccessValue) (us : List Use)
+    → accesses_in us ≡ access_shown (Some f) ++ access_shown touched → accesses us ≤ 2
     → (e : Effect) → IsExact (ended core m s i f touched us e)
 unfolding ended
 exact_ended core m s i f touched us exact few (Fault c) = exact_faulted core m s c _ _ (Some f) touched us exact few

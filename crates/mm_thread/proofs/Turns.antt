@@ -124,7 +124,8 @@ module _ (core : Core) (p : ℕ) (can : CanTurn core p) (m : Memory) where
       core_is = core_is ∙ ap (core_ended i core1 (slot_in core1 p) p) h.completion_is
           ∙ ap (λ (k : Core). core_faulted k (slot_in k p) (event_of (slot_in k p) c (addr_operand i (slot_in k p)) (value_operand i (slot_in k p))) (slot_in k p).handler) h.core_is;
       memory_is = h.memory_is;
-      step_is = step_is ∙ ap (step_ended s.number (slot_in core1 p) (Some f) touched) h.completion_is ∙ ap (λ (k : Core). step_ended s.number (slot_in k p) (Some f) touched (completions.Faulted c)) h.core_is;
+      step_is = step_is ∙ ap (step_ended s.number (slot_in core1 p) (Some f) touched) h.completion_is
+          ∙ ap (λ (k : Core). step_ended s.number (slot_in k p) (Some f) touched (completions.Faulted c)) h.core_is;
     }
     ended_so Block h = record {
       core_is = core_is ∙ ap (core_ended i core1 (slot_in core1 p) p) h.completion_is ∙ ap (λ (k : Core). with_slot k p (stood (slot_in k p) Running)) h.core_is
@@ -133,7 +134,8 @@ module _ (core : Core) (p : ℕ) (can : CanTurn core p) (m : Memory) where
       step_is = step_is ∙ ap (step_ended s.number (slot_in core1 p) (Some f) touched) h.completion_is;
     }
     ended_so (Deliver other) h = record {
-      core_is = core_is ∙ ap (core_ended i core1 (slot_in core1 p) p) h.completion_is ∙ waits_on other core1 h.core_is (h.stays h.completion_is) ∙ ap (λ (k : Core). put_slot k (stood s Running)) h.core_is;
+      core_is = core_is ∙ ap (core_ended i core1 (slot_in core1 p) p) h.completion_is ∙ waits_on other core1 h.core_is (h.stays h.completion_is)
+          ∙ ap (λ (k : Core). put_slot k (stood s Running)) h.core_is;
       memory_is = h.memory_is;
       step_is = step_is ∙ ap (step_ended s.number (slot_in core1 p) (Some f) touched) h.completion_is;
     }
