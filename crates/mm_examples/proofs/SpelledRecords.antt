@@ -1,11 +1,19 @@
 -- Bytes of records of images and objects, computed.
 use Rattle.std.proofs.Common.{refl}
-use Rattle.mm_format.specs.{Formats.cons, Images.{mask, bits, word, ip, slot, page}}
+use Rattle.mm_format.specs.{Formats.cons, Headers.header, Images.{mask, bits, word, ip, slot, page}}
 use Rattle.mm_object.specs.Format.{name_fields, name_row, bits_row, item_row, log_row, count_row, segment_row, perm_row}
 use Rattle.mm_object.specs.Format.{target_row, reloc_fields, good_reloc, integer_row, pointer_row, thread_fields}
-use Rattle.mm_object.specs.Format.{good_thread}
-use Rattle.mm_examples.specs.WorkedRecords.{SpellsSlots, SpellsPages}
-use Rattle.mm_examples.specs.WorkedObjects.{SpellsSegments, SpellsRelocations, SpellsThreads}
+use Rattle.mm_object.specs.Format.{good_thread, header_row}
+use Rattle.mm_examples.specs.WorkedRecords.{SpellsImageHeaders, SpellsSlots, SpellsPages}
+use Rattle.mm_examples.specs.WorkedObjects.{SpellsObjectHeaders, SpellsSegments, SpellsRelocations, SpellsThreads}
+
+pub spells_image_headers : SpellsImageHeaders
+unfolding cons header
+spells_image_headers = refl
+
+pub spells_object_headers : SpellsObjectHeaders
+unfolding cons header_row
+spells_object_headers = refl
 
 pub spells_slots : SpellsSlots
 unfolding cons mask word ip slot

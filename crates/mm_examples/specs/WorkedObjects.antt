@@ -2,7 +2,7 @@
 use Rattle.std.specs.Prelude.{◌≡◌, ℕ, List, [], ◌∷◌, ◌++◌, take, slice_set, replicate, codes, Some, None, true, false}
 use Rattle.mm_word.specs.declared.perm.Perm.TheVariants.{Ro, Rw, Xu, Xp}
 use Rattle.mm_object.specs.declared.thread.Value.TheVariants.{Int, Ptr}
-use Rattle.mm_object.specs.{Format.{segment_record, reloc_record, thread_record}, Faults.object_fault}
+use Rattle.mm_object.specs.{Format.{header_row, segment_record, reloc_record, thread_record}, Faults.object_fault}
 
 -- the bytes of an object: a segment `a` of one word, an external `x`, and a relocation that makes the word a pointer
 -- to it
@@ -42,6 +42,12 @@ UsesAreLate =
 
 -- The bytes of records: each field of a record has a value of its own, so a table that had two of them in the other
 -- order would spell other bytes.
+
+-- counts of segments, externals, relocations and threads, spare frames
+abbrev pub SpellsObjectHeaders : Type 0
+SpellsObjectHeaders =
+    header_row.spell (record { segments = 3; externals = 4; relocs = 0x506; threads = 7; spare = 8 })
+    ≡ codes "MMO1" ++ (0 ∷ 1 ∷ 0 ∷ 3 ∷ 0 ∷ 4 ∷ 5 ∷ 6 ∷ 0 ∷ 7 ∷ 0 ∷ 8 ∷ [])
 
 -- name, logarithm of the length, count of words, full bits, words
 abbrev pub SpellsSegments : Type 0

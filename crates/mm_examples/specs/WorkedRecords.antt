@@ -1,9 +1,9 @@
 -- Worked examples of the bytes of an image's records: each field of a record has a value of its own, so a table that
 -- had two of them in the other order would spell other bytes.
-use Rattle.std.specs.Prelude.{◌≡◌, ℕ, false, List, [], ◌∷◌, ◌++◌, replicate, Some, None}
+use Rattle.std.specs.Prelude.{◌≡◌, ℕ, true, false, List, [], ◌∷◌, ◌++◌, replicate, codes, Some, None}
 use Rattle.mm_word.specs.declared.{word.Word.TheVariants.{Int, Ptr}, perm.Perm.TheVariants.{Xu, Xp}}
 use Rattle.mm_model.specs.{declared.slot.SlotState.TheVariants.Halted, Slot.Slot, Image.none_empty}
-use Rattle.mm_format.specs.Images.{slot_record, page_record}
+use Rattle.mm_format.specs.{Headers.header, Images.{slot_record, page_record}}
 use Rattle.mm_examples.specs.Images.{pointer, full_int}
 
 -- the bytes of the pointer p3300000000100008
@@ -24,6 +24,12 @@ halted_slot = record {
   empty = none_empty;
   pending = [];
 }
+
+-- version, count of slots, frames, count of pages, mode
+abbrev pub SpellsImageHeaders : Type 0
+SpellsImageHeaders =
+    header.spell (record { version = 2; slots = 3; frames = 0x405; pages = 6; split = true })
+    ≡ codes "MMI1" ++ (0 ∷ 2 ∷ 0 ∷ 3 ∷ 4 ∷ 5 ∷ 0 ∷ 6 ∷ 0 ∷ 0 ∷ 0 ∷ 1 ∷ [])
 
 -- number, group, handler, state, instruction pointer, tags, registers
 abbrev pub SpellsSlots : Type 0

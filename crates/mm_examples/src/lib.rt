@@ -15,8 +15,8 @@ ghost use Rattle.mm_examples.specs.WorkedSchedules.{CountsTooMany, ListsTooMany,
 ghost use Rattle.mm_examples.specs.WorkedSchedules.{KeepsOneGroup, KeepsIdleItems, KeepsPorts, RobinBeginsLate};
 ghost use Rattle.mm_examples.specs.WorkedCommands.{TableIsWrittenOut};
 ghost use Rattle.mm_examples.specs.WorkedObjects.{FirstObjectFaults, UsesAreLate, SpellsSegments};
-ghost use Rattle.mm_examples.specs.WorkedObjects.{SpellsRelocations, SpellsThreads};
-ghost use Rattle.mm_examples.specs.WorkedRecords.{SpellsSlots, SpellsPages};
+ghost use Rattle.mm_examples.specs.WorkedObjects.{SpellsObjectHeaders, SpellsRelocations, SpellsThreads};
+ghost use Rattle.mm_examples.specs.WorkedRecords.{SpellsImageHeaders, SpellsSlots, SpellsPages};
 ghost use Rattle.mm_examples.specs.WorkedCheckpoints.{SpellsHeaders, SpellsWaitingSlots, SpellsHaltedSlots};
 ghost use Rattle.mm_examples.specs.WorkedCheckpoints.{SpellsOutputsAndLoads, SavesAFault, SavesOutputsAndPages};
 ghost use Rattle.mm_examples.specs.WorkedCheckpoints.{FirstFaultsOfHeaders, FirstFaultsOfSlots};
@@ -105,9 +105,11 @@ pub fn bytes_of_images()
     ensures handlers_are_late { HandlersAreLate }
 {}
 
-/// Examples of the bytes of records of images and objects.
-#[tactic(auto, using(crate::proofs::SpelledRecords::spells_slots, crate::proofs::SpelledRecords::spells_pages, crate::proofs::SpelledRecords::spells_segments, crate::proofs::SpelledRecords::spells_relocations, crate::proofs::SpelledRecords::spells_threads))]
+/// Examples of the bytes of headers and records of images and objects.
+#[tactic(auto, using(crate::proofs::SpelledRecords::spells_image_headers, crate::proofs::SpelledRecords::spells_object_headers, crate::proofs::SpelledRecords::spells_slots, crate::proofs::SpelledRecords::spells_pages, crate::proofs::SpelledRecords::spells_segments, crate::proofs::SpelledRecords::spells_relocations, crate::proofs::SpelledRecords::spells_threads))]
 pub fn bytes_of_records()
+    ensures image_headers { SpellsImageHeaders }
+    ensures object_headers { SpellsObjectHeaders }
     ensures slots { SpellsSlots }
     ensures pages { SpellsPages }
     ensures segments { SpellsSegments }
