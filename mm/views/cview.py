@@ -9,25 +9,26 @@ from mm.machine.words import Permission, Pointer
 from mm.names.numbers import counted
 from mm.outputs.report import SlotState
 from mm.outputs.trace import Turn
-from mm.views.spell import Memory, Speller
+from mm.views.spell import Memory, Speller, integer
 from mm.views.why import Refusal, turn_of
 
 if TYPE_CHECKING:
+    from mm.log.lost import Find, Lost
     from mm.names.clines import CFrame, CLine
 
 LINK_REGISTER, STACK_REGISTER = 14, 15
 NULL_PAGE = 4096
-# The traps of programs in C, by their numbers.
-TRAPS = {1: "`__builtin_trap`", 2: "a place that C says is never reached", 6: "`abort`",
-         7: "the translator's second reckoning differs: the translator is wrong",
-         8: "`free` of what is no block of malloc, or was freed before"}
+# What is carried out before `main`.
+START = "start"
+# The heap of `malloc`, and the bytes for which it had no room; no heap has more than 2^MOST_HEAP bytes.
+HEAP, REFUSED, MOST_HEAP = "__mm_heap", "__mm_refused", 19
 
 
 class CView:
     """What a slot does, if it runs a program of C."""
 
-    def __init__(self, slot: SlotState, memory: Memory, speller: Speller) -> None:
-        self.slot, self.memory, self.speller = slot, memory, speller
+    def __init__(self, slot: SlotState, memory: Memory, speller: Speller, find: Optional[Find] = None) -> None:
+        self.slot, self.memory, self.speller, self.find = slot, memory, speller, find
         self.symbols = speller.symbols
 
     def frames(self) -> Iterator[CFrame]:
@@ -62,6 +63,10 @@ class CView:
             what = self.left_object(at)
         if cause is Cause.TRAP:
             what = self.gave_up(at)
+        if cause is Cause.PERM:
+            from mm.views.crights import forbidden
+
+            what = forbidden(at)
         inner = next(self.frames(), None)
         of_library = inner is not None and inner.line is None and not inner.function.begins and not full
         within = f", in {self.called()}" if inner is not None and of_library else ""
@@ -92,26 +97,59 @@ class CView:
 
     def gave_up(self, at: Refusal) -> Optional[str]:
         """What a trap of the translator or of the library says."""
-        instruction = at.instruction
-        return TRAPS.get(instruction.value("imm")) if instruction is not None and instruction.name == "trap" else None
+        from mm.views.ctraps import trap_said
+
+        return trap_said(at.instruction.value("imm")) if at.instruction is not None and at.name == "trap" else None
 
     def left_object(self, at: Refusal) -> Optional[str]:
         """A pointer that became a number as it left its object, by its bits."""
         word = at.word("ra")
-        if not word.tagged and word.bits < NULL_PAGE:
-            if not word.bits and at.name in ("jal", "jmp"):
-                return "a call of a null pointer"
-            return "a null pointer" if not word.bits else f"a null pointer, and {counted(word.bits, 'byte')} on"
-        spelled = Pointer.of_bits(word.bits) if not word.tagged and word.bits else None
-        if spelled is None or at.instruction is None:
+        if at.instruction is None or word.tagged:
             return None
+        called = "a call of " if at.name in ("jal", "jmp") else ""
+        if word.bits < NULL_PAGE:
+            further = f", and {counted(word.bits, 'byte')} on" if word.bits else ""
+            return f"{called}a null pointer{further}{'' if called else self.without_room()}"
+        spelled = Pointer.of_bits(word.bits)
+        if spelled is None:
+            return f"{called}{integer(word)}, which is a number and no pointer"
         if self.is_swept(spelled):
             return "its block of malloc was freed"
+        found = self.find(at.instruction.value("ra")) if self.find is not None else None
+        if found is not None:
+            return f"these are the bits of a pointer, which is now a number: {self.lost(found, spelled)}"
         before = self.symbols.region(spelled.address - 1)
         told = self.symbols.c_global(before) if before is not None and before.log == spelled.log else None
         whose = f" {told.name}" if told and before and before.end == spelled.base else ""
         return (f"these are the bits of a pointer, which is now a number: it left its object{whose} (one past the end "
                 "is outside), was computed with, or was copied in pieces")
+
+    def without_room(self) -> str:
+        """That `malloc` had no room before: a null pointer may be its answer."""
+        ip = self.slot.ip.pointer
+        own = self.symbols.region(ip.address) if ip is not None else None
+        ours = [region for region in self.symbols.regions if own is not None and region.source is own.source]
+        known = {made.name: region for region in ours for made in [self.symbols.c_global(region)] if made is not None}
+        cell = self.memory.cell(known[REFUSED].base) if REFUSED in known and HEAP in known else None
+        if cell is None or not cell.word.bits:
+            return ""
+        # The segment of a block is a power of two, and shorter than the heap.
+        log = max(known[HEAP].log, (cell.word.bits - 1).bit_length()) + 1
+        more = f": `--heap {log}` makes its heap larger" if log <= MOST_HEAP else ", which no heap has"
+        return f"; before, `malloc` had no room for {counted(cell.word.bits, 'byte')}{more}"
+
+    def lost(self, found: Lost, spelled: Pointer) -> str:
+        """How a pointer became a number, and where."""
+        line, function, pointer = self.symbols.c_line(found.place), self.symbols.c_function(found.place), found.pointer
+        place = f" at {line}" if line else f" in {function.name}" if function and function.label != START else ""
+        if pointer is None:
+            return f"it was copied in pieces{place}"
+        if pointer.base == spelled.base or (pointer.permission, pointer.log) != (spelled.permission, spelled.log):
+            return f"it was computed with{place}"
+        region = self.symbols.region(pointer.base)
+        whole = region is not None and (region.base, region.log) == (pointer.base, pointer.log)
+        made = self.symbols.c_global(region) if region and whole else None
+        return f"it left its object{f' {made.name}' if made else ''}{place} (one past the end is outside)"
 
     def is_swept(self, pointer: Pointer) -> bool:
         """Whether it was to a block of malloc that was freed: the library makes the bits of a key of such a pointer."""
