@@ -2,14 +2,13 @@
 
 from __future__ import annotations
 
-from typing import Iterator, Optional
+from typing import TYPE_CHECKING, Iterator, Optional
 
 from mm.debugger.cexpressions import c_thing
 from mm.debugger.points import PointKind
 from mm.debugger.session import Halt, Session
 from mm.machine.causes import Cause
 from mm.machine.words import Cell, Word
-from mm.names.clines import CLine
 from mm.names.numbers import counted
 from mm.outputs.report import SlotState
 from mm.source.tokens import readable
@@ -20,6 +19,9 @@ from mm.views.spell import Memory, bytes_as_text
 from mm.views.style import Style
 from mm.views.trace import TraceView
 from mm.views.waiting import what_for
+
+if TYPE_CHECKING:
+    from mm.names.clines import CLine
 
 AROUND = 5
 # The states of a slot after a fault, which are told by verbs of their own.

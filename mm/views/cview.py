@@ -18,6 +18,8 @@ if TYPE_CHECKING:
 
 LINK_REGISTER, STACK_REGISTER = 14, 15
 NULL_PAGE = 4096
+# So many calls of a function that have not returned are told when the stack is full.
+MANY_CALLS = 20
 # What is carried out before `main`.
 START = "start"
 # The heap of `malloc`, and the bytes for which it had no room; no heap has more than 2^MOST_HEAP bytes.
@@ -92,8 +94,10 @@ class CView:
         inner = next(self.frames(), None)
         name = inner.name if inner else "a function"
         left = pointer.address - pointer.base
+        calls = sum(frame.name == name for frame in self.frames())
+        again = f" (at least {calls} calls of {name} are open)" if calls > MANY_CALLS else ""
         return (f"the stack is full: {name} has no room for its variables in the {left} bytes that are left of "
-                f"{1 << pointer.log}; `--stack {pointer.log + 1}` makes it larger")
+                f"{1 << pointer.log}; `--stack {pointer.log + 1}` makes it larger{again}")
 
     def gave_up(self, at: Refusal) -> Optional[str]:
         """What a trap of the translator or of the library says."""
