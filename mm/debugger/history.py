@@ -8,7 +8,7 @@ from typing import Iterator, Optional
 
 from mm.build import Built
 from mm.console import Console, Order
-from mm.log.lost import Find, finder
+from mm.log.past import Past
 from mm.outputs.report import Report, read_report
 from mm.outputs.trace import Turn, cycles_of, item_of, read_turn, split_trace
 from mm.views.waiting import waiting
@@ -44,9 +44,9 @@ class History:
             self.states[total] = read_report(answer.text.splitlines())
         return self.states[total]
 
-    def finder(self, cycle: int, slot: int) -> Find:
-        """What looks for the place where the number in a register of a slot was made, up to a cycle."""
-        return finder(self.console.program, [self.built.path, str(cycle), *self.order.words], self.built.image, slot)
+    def past(self, cycle: int, slot: int) -> Past:
+        """The run up to a cycle, in which a slot faults."""
+        return Past(self.console.program, [self.built.path, str(cycle), *self.order.words], self.built.image, slot)
 
     @property
     def last(self) -> int:

@@ -78,7 +78,7 @@ class Session:
     def fault_at(self, cycle: int, turn: Turn) -> Optional[FaultSaid]:
         """What is said of a turn that faulted."""
         report, built = self.history.report(cycle), self.built
-        return said_at(report, turn.slot, turn, built.image, self.speller, self.history.finder(cycle, turn.slot))
+        return said_at(report, turn.slot, turn, built.image, self.speller, self.history.past(cycle, turn.slot))
 
     @property
     def current(self) -> Optional[SlotState]:

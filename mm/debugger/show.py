@@ -79,8 +79,8 @@ class Show:
             cause = Cause.of_number(halt.turn.fault)
             slot = self.session.report.slot(halt.turn.slot)
             if cause and slot:
-                find = self.session.history.finder(halt.cycle, slot.number)
-                said = said_of(cause, slot, halt.turn, self.session.memory, self.session.speller, find)
+                past = self.session.history.past(halt.cycle, slot.number)
+                said = said_of(cause, slot, halt.turn, self.session.memory, self.session.speller, past)
                 yield self.style.bad(said.of_c or f"fault {cause.number} {cause.title}: {cause.meaning}")
                 yield from (f"  {line}" for line in said.why)
         elif point.kind.before:

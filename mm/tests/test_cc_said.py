@@ -2,7 +2,7 @@
 
 import unittest
 
-from mm.log.lost import Lost as Found, lost
+from mm.log.past import Lost as Found, cut_out, lost
 from mm.machine.isa import OPERATIONS, Instruction
 from mm.machine.words import Permission, Pointer, Word
 from mm.tests.cc_sources import LOST, NESTED, SANITIZED
@@ -52,6 +52,17 @@ class Lost(unittest.TestCase):
         low, high = Word(whole.bits & 0xFFFFFFFF), Word(whole.bits >> 60 << 60)
         known = ((0, "ldi 1, 1", f"r 0 1 {low}"), (0, "shl 2, 4, 5", f"r 0 2 {high}"))
         self.assertEqual(self.found(*known, (0, "or 3, 1, 2", f"r 0 3 {whole}")), Found(24, None))
+
+    def test_when_a_segment_was_cut_out(self):
+        block = Word(Pointer(Permission.RW, 4, 0x140).bits, True)
+        code = {8: "subseg", 16: "mov", 24: "st"}
+        turns = ["t 1 1 did fetch 00000000000008", f"r 1 2 {block}", "t 0 1 did fetch 00000000000008", f"r 0 2 {Word(self.POINTER.bits, True)}",
+                 "t 1 2 did fetch 00000000000010", f"r 1 3 {block}", "m 1 4", "r 1 4 i0", "t 0 2 did fetch 00000000000018", "ip 0 p0"]
+        log = "\n".join(["cut", *turns, "cycles 9", ""]).encode()
+        made = lambda place: Instruction(OPERATIONS[code[place]], (0,) * len(OPERATIONS[code[place]].operands))  # noqa: E731
+        self.assertEqual(cut_out(log, made, Pointer(Permission.RO, 4, 0x148)), (1, 4))
+        self.assertEqual(cut_out(log, made, self.POINTER), (0, 3))
+        self.assertIsNone(cut_out(log, made, Pointer(Permission.RW, 4, 0x150)))
 
     def test_a_line_that_is_cut(self):
         number = Word(self.POINTER.bits)
@@ -139,6 +150,17 @@ class Programs(unittest.TestCase):
             wanted, text = LOST["a mark"]
             said = mm("debug", write(room, "a.c", text), lines="continue\nwhere\n").out
         self.assertEqual(said.count(f"which is now a number: {wanted.format(room=room)}"), 3, said)
+
+    def test_where_a_block_was_handed_out(self):
+        text = ("#include <stdlib.h>\n#include <string.h>\nstatic __attribute__((noinline)) char *room(long n)\n{ char *none = malloc(n);\n"
+                "  free(none); return calloc(n, 1);\n}\nint main(void) { char *volatile other = room(40), *volatile name = room(24), *volatile third = strdup(\"third\");\n"
+                "  strcpy(name, \"twenty-four letters here\"); return *third + *other; }\n")
+        for words in (("-O0",), ("-O1",), ("-O2", "--quarantine", "100")):
+            ended, room = self.ran(text, *words)
+            said = f"at {room}/a.c:8, in strcpy: byte 24 of a block of malloc, which has 24 bytes from there on, handed out at {room}/a.c:5  ("
+            self.assertIn(said, ended.out, f"{words}: {ended.err}")
+            ended, room = self.ran(text, *words, "--turns", "0*100000")
+            self.assertIn("which has 24 bytes from there on  (", ended.out, f"{words}: {ended.err}")
 
     def test_plain_and_json(self):
         ended = mm("run", "--plain", "--json", "examples/hello.asm")

@@ -13,7 +13,7 @@ from mm.views.spell import Memory, Speller, integer
 from mm.views.why import Refusal, turn_of
 
 if TYPE_CHECKING:
-    from mm.log.lost import Find, Lost
+    from mm.log.past import Lost, Past
     from mm.names.clines import CFrame, CLine
 
 LINK_REGISTER, STACK_REGISTER = 14, 15
@@ -29,8 +29,8 @@ HEAP, REFUSED, MOST_HEAP = "__mm_heap", "__mm_refused", 19
 class CView:
     """What a slot does, if it runs a program of C."""
 
-    def __init__(self, slot: SlotState, memory: Memory, speller: Speller, find: Optional[Find] = None) -> None:
-        self.slot, self.memory, self.speller, self.find = slot, memory, speller, find
+    def __init__(self, slot: SlotState, memory: Memory, speller: Speller, past: Optional[Past] = None) -> None:
+        self.slot, self.memory, self.speller, self.past = slot, memory, speller, past
         self.symbols = speller.symbols
 
     def frames(self) -> Iterator[CFrame]:
@@ -119,7 +119,7 @@ class CView:
             return f"{called}{integer(word)}, which is a number and no pointer"
         if self.is_swept(spelled):
             return "its block of malloc was freed"
-        found = self.find(at.instruction.value("ra")) if self.find is not None else None
+        found = self.past.lost(at.instruction.value("ra")) if self.past is not None else None
         if found is not None:
             return f"these are the bits of a pointer, which is now a number: {self.lost(found, spelled)}"
         before = self.symbols.region(spelled.address - 1)
@@ -212,7 +212,13 @@ class CView:
         by, size = target - pointer.address, pointer.end - pointer.address
         element = self.element(pointer, by)
         return (f"{f'{element}, ' if element else ''}byte {by} of a block of malloc, which has "
-                f"{counted(size, 'byte')} from there on")
+                f"{counted(size, 'byte')} from there on{self.handed_out(pointer)}")
+
+    def handed_out(self, pointer: Pointer) -> str:
+        """The line of C that called for a block of `malloc`."""
+        then = self.past.when_cut_out(pointer) if self.past is not None else None
+        line = CView(*then, self.speller).line() if then is not None else None
+        return f", handed out at {line}" if line else ""
 
     def element(self, pointer: Pointer, by: int) -> Optional[str]:
         """`ring[8]` or `t->slots[-5]`, if a variable that has a place now, or a member of what one points to, holds the

@@ -14,21 +14,21 @@ from mm.views.spell import Memory, Speller
 from mm.views.why import turn_of, why
 
 if TYPE_CHECKING:
-    from mm.log.lost import Find
+    from mm.log.past import Past
 
 ReportAt = Callable[[int], Report]
 BEFORE = "this came before the checkpoint: its run is not looked at here"
 
 
 def said_of(
-    cause: Cause, slot: SlotState, turn: Turn, memory: Memory, speller: Speller, find: Optional[Find] = None
+    cause: Cause, slot: SlotState, turn: Turn, memory: Memory, speller: Speller, past: Optional[Past] = None
 ) -> FaultSaid:
-    """A fault, with the slot and the memory as they were in its turn. `find` looks where a pointer became a number."""
-    return FaultSaid(CView(slot, memory, speller, find).fault(cause, turn), why(cause, slot, turn, memory, speller))
+    """A fault, with the slot and the memory as they were in its turn. `past` is the run up to it."""
+    return FaultSaid(CView(slot, memory, speller, past).fault(cause, turn), why(cause, slot, turn, memory, speller))
 
 
 def said_at(
-    report: Report, number: int, turn: Optional[Turn], image: Image, speller: Speller, find: Optional[Find] = None
+    report: Report, number: int, turn: Optional[Turn], image: Image, speller: Speller, past: Optional[Past] = None
 ) -> Optional[FaultSaid]:
     """The fault of a slot, by the report right after its turn; without the line of the trace by what it must have said."""
     slot = report.slot(number)
@@ -37,7 +37,7 @@ def said_at(
     if slot is None or cause is None:
         return None
     memory = Memory.after(image, report)
-    return said_of(cause, slot, turn or turn_of(cause, slot, memory), memory, speller, find)
+    return said_of(cause, slot, turn or turn_of(cause, slot, memory), memory, speller, past)
 
 
 def stopped(report: Report) -> list[int]:

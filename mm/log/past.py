@@ -1,4 +1,5 @@
-"""Where a pointer became a number: the turn whose operation left its tag out, found backwards in the log of a run."""
+"""What came before a fault, found backwards in the log of a run: where a pointer became a number, and when a segment
+was cut out of another one."""
 
 from __future__ import annotations
 
@@ -10,6 +11,7 @@ from mm.machine.isa import Instruction
 from mm.machine.memory import Memory
 from mm.machine.program import Program
 from mm.machine.words import Pointer, Word
+from mm.outputs.report import SlotState, read_report
 from mm.outputs.trace import Turn, read_turn
 
 # So much of the end of a log is looked at, and so many turns of it that only hand the word on.
@@ -23,14 +25,11 @@ Code = Callable[[int], Optional[Instruction]]
 
 @dataclass(frozen=True)
 class Lost:
-    """The place of the instruction that made the number, and the pointer that it made it of; none if it put the number
-    together from pieces."""
+    """The place of the instruction that made the number, and the pointer of which it did: none if it put the
+    number together from pieces."""
 
     place: int
     pointer: Optional[Pointer]
-
-
-Find = Callable[[int], Optional[Lost]]
 
 
 def lines_of(log: bytes) -> list[str]:
@@ -96,11 +95,52 @@ def lost(log: bytes, code: Code, slot: int, register: int) -> Optional[Lost]:
     return None
 
 
-def finder(program: Program, words: Sequence[str], image: Image, slot: int) -> Find:
-    """What looks for the place where the number in a register of a slot was made, in a run up to its fault. `words` are
-    the image, the cycles and the schedule."""
-    code = Memory(image).instruction
-    return lambda register: lost(program.tail(["log", *words], MOST_BYTES), code, slot, register)
+def cut_out(log: bytes, code: Code, pointer: Pointer) -> Optional[tuple[int, int]]:
+    """The slot that cut the segment of a pointer out of another one, and how many turns there were after that, at the
+    end of a log; none if that is not in it."""
+    back, ago = _Back(lines_of(log), code), 0
+    for at in range(len(back.lines) - 1, -1, -1):
+        line = back.lines[at]
+        ago += line.startswith(("t ", "m "))
+        found = Word.parse(line.split()[3]).pointer if line.startswith("r ") and " p" in line else None
+        if found is None or (found.log, found.base) != (pointer.log, pointer.base):
+            continue
+        _, turn, made = back.turn(at)
+        if turn is not None and made is not None and made.name == "subseg":
+            return turn.slot, ago
+    return None
+
+
+class Past:
+    """A run up to the fault of a slot: its log is asked for once that is needed."""
+
+    def __init__(self, program: Program, words: Sequence[str], image: Image, slot: int) -> None:
+        """`words` are the path of the image, the cycles and, if there is one, the path of the schedule."""
+        self.program, self.words, self.image, self.slot = program, words, image, slot
+        self.code = Memory(image).instruction
+        self._log: Optional[bytes] = None
+
+    @property
+    def log(self) -> bytes:
+        if self._log is None:
+            self._log = self.program.tail(["log", *self.words], MOST_BYTES)
+        return self._log
+
+    def lost(self, register: int) -> Optional[Lost]:
+        """Where the number in a register was made."""
+        return lost(self.log, self.code, self.slot, register)
+
+    def when_cut_out(self, pointer: Pointer) -> Optional[tuple[SlotState, Memory]]:
+        """The slot and the memory right after the segment of a pointer was cut out. In a run with a schedule the cycle
+        of that is not looked for."""
+        path, cycles, *schedule = self.words
+        found = cut_out(self.log, self.code, pointer) if not schedule else None
+        if found is None:
+            return None
+        slot, ago = found
+        report = read_report(self.program.run(["run", path, str(int(cycles) - ago)]).text.splitlines())
+        there = report.slot(slot)
+        return (there, Memory.after(self.image, report)) if there is not None else None
 
 
 def _is_of(word: Word, wanted: Word) -> bool:
