@@ -154,7 +154,7 @@ class Programs(unittest.TestCase):
     def test_where_a_block_was_handed_out(self):
         text = ("#include <stdlib.h>\n#include <string.h>\nstatic __attribute__((noinline)) char *room(long n)\n{ char *none = malloc(n);\n"
                 "  free(none); return calloc(n, 1);\n}\nint main(void) { char *volatile other = room(40), *volatile name = room(24), *volatile third = strdup(\"third\");\n"
-                "  strcpy(name, \"twenty-four letters here\"); return *third + *other; }\n")
+                "  char *volatile text = \"twenty-four letters here\"; strcpy(name, text); return *third + *other; }\n")
         for words in (("-O0",), ("-O1",), ("-O2", "--quarantine", "100")):
             ended, room = self.ran(text, *words)
             said = f"at {room}/a.c:8, in strcpy: byte 24 of a block of malloc, which has 24 bytes from there on, handed out at {room}/a.c:5  ("
