@@ -353,8 +353,8 @@ NESTED = """static volatile int seven = 7; static int leaf(long *v, int n)
     v[3 + n] = 1; return n + (int)v[0];
 }
 static __attribute__((noinline)) int middle(long *w, int n)
-{ long v[3] = {40, 41, w[0] - 28};
-    return leaf(v, n + 5) + (int)v[1]; }
+{ long v[3] = {40, 41, w[0] - 28}; int a = seven, b = seven + 1, c = seven + 2, d = seven + 3, e = seven + 4, f = seven + 5;
+    return leaf(v, n + 5) + (int)v[1] + n * a - b * c - d * e * f; }
 int main(void)
 {
     long v[3] = {70, 71, 72}; int n = seven;

@@ -115,7 +115,7 @@ class Programs(unittest.TestCase):
         with folder() as room:
             path = write(room, "a.c", NESTED)
             lines = ["continue", "where", "frame", "print n", "up", "frame", "info locals", "print n", "print v[1]", "list", "up",
-                     "print v[1]", "print n", "up", "down 2", "print n", "down", "frame 1", "print n", "frame 9", "back", "frame"]
+                     "print v[1]", "print v[2]", "up", "down 2", "print n", "down", "frame 1", "print n", "frame 9", "back", "frame"]
             said = mm("debug", "-O0", path, lines="\n".join(lines) + "\n").out.split("(mm) ")[1:]
             inner = mm("debug", "-O1", path, lines="frame\nup\nbreak 3\ncontinue\nup\nprint v[1]\nprint n\n").out.split("(mm) ")[1:]
         places = [f"  #{number}  {name}  {path}:{line}: " for number, (name, line) in enumerate((("leaf", 3), ("middle", 7), ("main", 11)))]
@@ -126,10 +126,10 @@ class Programs(unittest.TestCase):
         self.assertEqual(answers[3], "n = 9   (int)\n")
         self.assertTrue(answers[4].startswith(places[1]) and answers[5].startswith(places[1]), answers[4] + answers[5])
         self.assertIn("  n = 4\n", answers[6])
-        self.assertIn("  v = {40, 41, 42}\n", answers[6])
-        self.assertEqual((answers[7], answers[8]), ("n = 4   (int)\n", "v[1] = 41   (long)\n"))
+        self.assertIn("  v = {40 '(', 41 ')', 42 '*'}\n", answers[6])
+        self.assertEqual((answers[7], answers[8]), ("n = 4   (int)\n", "v[1] = 41 ')'   (long)\n"))
         self.assertIn("=>    7      return leaf(v, n + 5)", answers[9])
-        self.assertEqual((answers[11], answers[12]), ("v[1] = 71   (long)\n", "n = 7   (int)\n"))
+        self.assertEqual((answers[11], answers[12]), ("v[1] = 71 'G'   (long)\n", "v[2] = 72 'H'   (long)\n"))
         self.assertEqual(answers[13], "there is no call 3: `where` lists them, 0 to 2\n")
         self.assertTrue(answers[14].startswith(places[0]), answers[14])
         self.assertEqual((answers[15], answers[16]), ("n = 9   (int)\n", "this is the innermost function\n"))
@@ -138,7 +138,7 @@ class Programs(unittest.TestCase):
         self.assertTrue(answers[21].startswith("  #0  "), answers[21])
         self.assertEqual([part.partition("\n")[2] for part in inner[:2]], ["no function of C is being carried out here\n"] * 2)
         self.assertIn(places[1], inner[4])
-        self.assertIn("v[1] = 41   (long)\n", inner[5])
+        self.assertIn("v[1] = 41 ')'   (long)\n", inner[5])
 
     def test_where_a_pointer_became_a_number(self):
         for title, (wanted, text) in LOST.items():
