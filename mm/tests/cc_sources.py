@@ -192,7 +192,7 @@ int main(void) { int *row = malloc(8), *volatile none = 0; row[0] = 1; return *n
   *s = 'D'; }
 int main(void) { turn("desserts"); return 0; }
 """),
-    "a long string constant": ('a store into the string constant "one\\n two three four five six seven eight n" .., which is read-only', "0",
+    "a long string constant": ('a store into the string constant "one\\n two three four five six seven eight" .., which is read-only', "0",
                                """char *volatile s = "one\\n two three four five six seven eight nine ten";
 int main(void) { s[20] = 0; return 0; }
 """),
@@ -304,7 +304,7 @@ REFUSED = {
     "a function of another file": (["{room}/a.c:2:25: error: `summary` is used in `main`, and nothing defines it",
                                     "    if another file defines `summary`, name that too: `mm cc {room}/a.c FILE.c > SOURCE.asm`"],
                                    "long summary(int n);\nint main(void) { return summary(3); }\n"),
-    "a typing error": (["{room}/a.c:2:18: error: `strlem` is used in `main`, and nothing defines it",
+    "a typing error": (["{room}/a.c:2:25: error: `strlem` is used in `main`, and nothing defines it",
                         "    do you mean `strlen`? Or if another file defines `strlem`, name that too: `mm cc {room}/a.c"],
                        "int strlem(const char *s);\nint main(void) { return strlem(\"text\"); }\n"),
     "floating point": (["{room}/a.c:1:58: error: floating point is left out in `area`"],

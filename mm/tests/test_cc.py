@@ -218,7 +218,7 @@ class Told(unittest.TestCase):
     def test_what_is_left_out(self):
         with self.assertRaisesRegex(Failure, "main: floating point is left out"):
             source("define i32 @main() {\n  %x = fadd double 1.0, 2.0\n  %y = fptosi double %x to i32\n  ret i32 %y\n}")
-        with self.assertRaisesRegex(Failure, "`missing` is used in `.*`, and nothing defines it"):
+        with self.assertRaisesRegex(Failure, "main: `missing` is used, and nothing defines it"):
             source("declare i32 @missing()\ndefine i32 @main() {\n  %x = call i32 @missing()\n  ret i32 %x\n}")
 
     def test_assembler_text_outside_of_functions(self):
