@@ -94,6 +94,14 @@ class Console:
         for line in lines:
             self.out.write(shown(line, self.style.colours) + "\n")
 
+    def write_bytes(self, data: bytes) -> None:
+        """Bytes as they are; on a terminal what could command it is spelled out."""
+        if self.out.isatty():
+            self.out.write(shown(data.decode("utf-8", "replace")))
+            return
+        self.out.flush()
+        self.out.buffer.write(data)
+
     def write_json(self, form: dict[str, Any]) -> None:
         """Writes a form: a line for each key, and for each item of a list."""
         import json

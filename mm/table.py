@@ -40,6 +40,7 @@ SCHEDULE = Option("--schedule", "take the order of turns from a file; default: r
 TURNS = Option("--turns", "take the order of turns from here, such as '0 1*5'", "ITEMS", "-t")
 GROUPS = Option("--groups", "ask about these groups together, such as 0,1", "LIST", "-g")
 JSON = Option("--json", "write JSON, in the form of docs/JSON.md")
+PLAIN = Option("--plain", "write what the program puts out, as it is; faults go to the standard error")
 OUTPUT = Option("--output", "write to this file", "FILE", "-o")
 FROM = Option("--from", "the first cycle to show; default: 1", "N")
 AUDIT = Option("--audit", "also show which group can read and write what")
@@ -61,7 +62,7 @@ EXERCISES = "EXERCISE is lab-1 to lab-5 for a task of the first lab, 1.1 to 8.2 
 
 # fmt: off
 COMMANDS = (
-    Command("run", FILES, "run sources, objects or an image, and show what came of it", (*RUNNING, JSON, *C)),
+    Command("run", FILES, "run sources, objects or an image, and show what came of it", (*RUNNING, JSON, PLAIN, *C)),
     Command("debug", FILES, "step through a run, forwards and back, with names and source lines", (SCHEDULE, TURNS, NAMES, *C)),
     Command("trace", FILES, "show what each turn did, with its instruction and names", (*RUNNING, JSON, *C)),
     Command("view", FILES, "make a page for any browser, to step through a run turn by turn", (*RUNNING, FROM, AUDIT, OUTPUT, *C)),
@@ -75,10 +76,10 @@ COMMANDS = (
     Command("holders", "FILE.. RANGE", "say who holds a pointer into a range (`mm help ranges`)", (NAMES, *C), least=2, module="ranges"),
     Command("sweep", "FILE.. RANGE", "make an image in which nobody has a pointer into a range", (OUTPUT, NAMES, *C), least=2, module="ranges"),
     Command("extract", "FILE.. GROUPS", "make an image of some groups and what they can touch", (OUTPUT, *C), least=2, module="make"),
-    Command("solo", "FILE.. GROUPS", "run some groups without the others, under their part of a schedule", (*RUNNING, JSON, *C), least=2, module="run"),
+    Command("solo", "FILE.. GROUPS", "run some groups without the others, under their part of a schedule", (*RUNNING, JSON, PLAIN, *C), least=2, module="run"),
     Command("net", "LINKS EVENTS FILE..", "run several machines side by side, with links between them", (CYCLES,), least=3),
     Command("save", FILES, "run, and write a checkpoint of the state then", (CYCLES, SCHEDULE, TURNS, OUTPUT, *C), module="make"),
-    Command("continue", "FILE.. CHECKPOINT", "continue a run from a checkpoint", (*RUNNING, JSON, *C), least=2, module="run"),
+    Command("continue", "FILE.. CHECKPOINT", "continue a run from a checkpoint", (*RUNNING, JSON, PLAIN, *C), least=2, module="run"),
     Command("cc", "FILE.c..", "translate a program in C to a source (docs/C.md)", (*C, SLOT, PREFIX, OUTPUT)),
     Command("asm", "SOURCE", "make an object of a source", (OUTPUT,), most=1, module="make"),
     Command("link", FILES, "make an image of sources and objects", (OUTPUT, *C), module="make"),

@@ -25,7 +25,8 @@ _mm() {
     if [[ $word == -* ]]; then
         local options='--help'
         case $command in
-            run | trace | solo | continue) options="$options --cycles --schedule --turns --names --json --optimise --heap --stack --quarantine --clang" ;;
+            run | solo | continue) options="$options --cycles --schedule --turns --names --json --plain --optimise --heap --stack --quarantine --clang" ;;
+            trace) options="$options --cycles --schedule --turns --names --json --optimise --heap --stack --quarantine --clang" ;;
             view) options="$options --cycles --schedule --turns --names --from --audit --output --optimise --heap --stack --quarantine --clang" ;;
             vcd) options="$options --cycles --schedule --turns --names --from --output --optimise --heap --stack --quarantine --clang" ;;
             debug) options="$options --schedule --turns --names --optimise --heap --stack --quarantine --clang" ;;

@@ -715,15 +715,15 @@ L68:
   leai r15, r15, 8
   jmp r14
 malloc:
-  ;@ frame back 64 caller by 72
-  leai r15, r15, -72
-  st r15, r7, 24, any, keep
-  st r15, r8, 32, any, keep
-  st r15, r9, 40, any, keep
-  st r15, r10, 48, any, keep
-  st r15, r11, 56, any, keep
-  st r15, r14, 64, any, keep
-  mov r7, r0
+  ;@ frame back 72 caller by 80
+  leai r15, r15, -80
+  st r15, r7, 32, any, keep
+  st r15, r8, 40, any, keep
+  st r15, r9, 48, any, keep
+  st r15, r10, 56, any, keep
+  st r15, r11, 64, any, keep
+  st r15, r14, 72, any, keep
+  st r15, r0, 24, any, keep
   lip r11, P_9
   ld r11, r11, 0, any, keep
   ldi r9, 0
@@ -797,9 +797,12 @@ L72:
   lip r12, P_10
   ld r12, r12, 0, any, keep
   st r12, r9, 0, any, keep
+  ld r0, r15, 24, any, keep
+  lip r14, 2
+  br refuse
   mov r4, r9
   mov r8, r9
-  br L81
+  br L83
 L73:
   ldi r13, 54
   shr r0, r11, r13
@@ -829,33 +832,6 @@ L89:
   lip r14, 2
   br change
 L74:
-  addi r0, r7, 7
-  ldi r13, -8
-  and r0, r0, r13
-  mov r13, r0
-  bnz r7, L90
-  ldi r13, 8
-L90:
-  st r15, r13, 16, any, keep
-  mov r8, r10
-L75:
-  ldi r12, 1
-  shl r12, r12, r8
-  st r15, r12, 8, any, keep
-  addi r1, r8, 1
-  ld r12, r15, 8, any, keep
-  ld r13, r15, 16, any, keep
-  ltu r0, r12, r13
-  bz r0, L76
-L82:
-  mov r8, r1
-  br L75
-L76:
-  ldi r13, 54
-  shr r0, r11, r13
-  ldi r13, 63
-  and r0, r0, r13
-  lts r2, r8, r0
   ldi r13, 54
   shr r0, r11, r13
   ldi r13, 63
@@ -863,19 +839,43 @@ L76:
   addi r0, r0, -3
   ldi r12, 1
   shl r0, r12, r0
-  shl r0, r0, r10
-  ld r13, r15, 16, any, keep
-  ltu r1, r0, r13
-  mov r0, r9
-  bnz r1, L91
-  mov r0, r2
-L91:
-  bnz r0, L77
-L83:
+  ldi r13, 2
+  shl r0, r0, r13
+  ld r13, r15, 24, any, keep
+  ltu r0, r0, r13
+  bz r0, L76
+L75:
+  ld r0, r15, 24, any, keep
+  lip r14, 2
+  br refuse
   mov r4, r9
   mov r8, r9
-  br L81
+  br L83
+L76:
+  ld r12, r15, 24, any, keep
+  addi r0, r12, 7
+  ldi r13, -8
+  and r0, r0, r13
+  ld r12, r15, 24, any, keep
+  mov r13, r0
+  bnz r12, L90
+  ldi r13, 8
+L90:
+  st r15, r13, 16, any, keep
+  mov r8, r10
 L77:
+  ldi r12, 1
+  shl r12, r12, r8
+  st r15, r12, 8, any, keep
+  addi r1, r8, 1
+  ld r12, r15, 8, any, keep
+  ld r13, r15, 16, any, keep
+  ltu r0, r12, r13
+  bz r0, L78
+L84:
+  mov r8, r1
+  br L77
+L78:
   addi r0, r8, -3
   ldi r12, 1
   shl r7, r12, r0
@@ -892,12 +892,15 @@ L77:
   shl r0, r12, r0
   ld r12, r15, 0, any, keep
   eq r0, r12, r0
-  bz r0, L78
-L84:
+  bz r0, L80
+L79:
+  ld r0, r15, 24, any, keep
+  lip r14, 2
+  br refuse
   mov r4, r9
   mov r8, r9
-  br L81
-L78:
+  br L83
+L80:
   ld r12, r15, 0, any, keep
   shl r0, r12, r10
   leab r0, r11, r0
@@ -907,11 +910,11 @@ L78:
   ld r0, r12, 0, any, keep
   ld r12, r15, 0, any, keep
   ltu r0, r12, r0
-  bz r0, L79
+  bz r0, L81
 L85:
   mov r1, r9
-  br L80
-L79:
+  br L82
+L81:
   mov r1, r7
   ld r0, r15, 0, any, keep
   lip r14, 2
@@ -925,9 +928,9 @@ L79:
   ld r12, r12, 0, any, keep
   ld r1, r12, 0, any, keep
   ltu r2, r1, r0
-  bnz r2, L92
+  bnz r2, L91
   mov r0, r1
-L92:
+L91:
   lip r12, P_11
   ld r12, r12, 0, any, keep
   st r12, r0, 0, any, keep
@@ -968,9 +971,9 @@ L92:
   ldi r13, 64
   ltu r1, r0, r13
   ldi r0, 1
-  bnz r1, L93
+  bnz r1, L92
   mov r0, r2
-L93:
+L92:
   add r0, r3, r0
   shl r2, r0, r10
   lea r0, r11, r2
@@ -978,34 +981,34 @@ L93:
   or r1, r0, r5
   lea r0, r11, r2
   st r0, r1, 0, any, keep
-  br L81
-L80:
+  br L83
+L82:
   shl r0, r1, r10
   lea r0, r8, r0
   st r0, r9, 0, any, keep
   addi r1, r1, 1
   ltu r0, r1, r7
-  bnz r0, L80
-  br L79
-L81:
+  bnz r0, L82
+  br L81
+L83:
   add r2, r8, r4
   isptr r0, r8
-  bz r0, L94
+  bz r0, L93
   ldi r0, 54
   shr r0, r8, r0
   xor r1, r2, r8
   shr r1, r1, r0
-  bnz r1, L94
+  bnz r1, L93
   lea r2, r8, r4
-L94:
+L93:
   mov r0, r2
-  ld r7, r15, 24, any, keep
-  ld r8, r15, 32, any, keep
-  ld r9, r15, 40, any, keep
-  ld r10, r15, 48, any, keep
-  ld r11, r15, 56, any, keep
-  ld r14, r15, 64, any, keep
-  leai r15, r15, 72
+  ld r7, r15, 32, any, keep
+  ld r8, r15, 40, any, keep
+  ld r9, r15, 48, any, keep
+  ld r10, r15, 56, any, keep
+  ld r11, r15, 64, any, keep
+  ld r14, r15, 72, any, keep
+  leai r15, r15, 80
   jmp r14
 find_2:
   ;@ frame back 56 caller by 64
@@ -1040,7 +1043,7 @@ find_2:
   add r12, r12, r0
   st r15, r12, 8, any, keep
   ldi r8, 0
-L96:
+L95:
   ld r13, r15, 0, any, keep
   add r1, r10, r13
   ldi r13, 54
@@ -1051,18 +1054,18 @@ L96:
   shl r0, r12, r0
   ltu r0, r0, r1
   ldi r7, 0
-  bnz r0, L111
+  bnz r0, L110
   mov r7, r10
-L111:
+L110:
   and r0, r7, r11
   ldi r13, 0
   eq r1, r0, r13
   ld r12, r15, 0, any, keep
   ldi r13, 64
   ltu r0, r12, r13
-  bnz r0, L112
+  bnz r0, L111
   ldi r1, 0
-L112:
+L111:
   ldi r13, 54
   shr r0, r9, r13
   and r0, r0, r11
@@ -1070,11 +1073,11 @@ L112:
   ldi r12, 1
   shl r0, r12, r0
   ltu r0, r7, r0
-  bnz r1, L113
+  bnz r1, L112
   ldi r0, 0
-L113:
-  bz r0, L99
-L97:
+L112:
+  bz r0, L98
+L96:
   ldi r13, 6
   shr r0, r7, r13
   ldi r13, 3
@@ -1083,8 +1086,8 @@ L97:
   ld r0, r0, 0, any, keep
   ldi r13, -1
   eq r0, r0, r13
-  bz r0, L99
-L98:
+  bz r0, L98
+L97:
   addi r7, r7, 64
   addi r8, r8, 64
   ldi r13, 54
@@ -1094,8 +1097,8 @@ L98:
   ldi r12, 1
   shl r0, r12, r0
   ltu r0, r7, r0
-  bnz r0, L97
-L99:
+  bnz r0, L96
+L98:
   ld r13, r15, 0, any, keep
   add r10, r7, r13
   ldi r13, 54
@@ -1105,27 +1108,27 @@ L99:
   ldi r12, 1
   shl r0, r12, r0
   ltu r0, r0, r10
-  bnz r0, L101
-L100:
+  bnz r0, L100
+L99:
   mov r0, r7
   ld r1, r15, 0, any, keep
   lip r14, 2
   br is_free
-  bnz r0, L102
-L101:
+  bnz r0, L101
+L100:
   ld r13, r15, 0, any, keep
   add r8, r8, r13
   ld r12, r15, 8, any, keep
   ltu r0, r12, r8
-  bz r0, L96
-L109:
+  bz r0, L95
+L108:
   ldi r13, 54
   shr r0, r9, r13
   and r0, r0, r11
   addi r0, r0, -3
   ldi r12, 1
   shl r7, r12, r0
-L102:
+L101:
   mov r0, r7
   ld r7, r15, 16, any, keep
   ld r8, r15, 24, any, keep
@@ -1149,9 +1152,9 @@ is_free:
   xor r1, r0, r2
   ldi r13, 64
   ltu r0, r6, r13
-  bnz r0, L124
+  bnz r0, L123
   mov r1, r2
-L124:
+L123:
   ldi r13, 63
   and r0, r4, r13
   shl r5, r1, r0
@@ -1162,39 +1165,45 @@ L124:
   ldi r13, 6
   shr r4, r0, r13
   ltu r0, r4, r2
-  bz r0, L115
-L120:
+  bz r0, L114
+L119:
   ldi r0, 1
-  br L119
-L115:
+  br L118
+L114:
   shl r0, r2, r7
   lea r0, r3, r0
   ld r0, r0, 0, any, keep
   and r0, r0, r5
-  bz r0, L116
-L122:
+  bz r0, L115
+L121:
   ldi r0, 0
-  br L119
-L116:
+  br L118
+L115:
   addi r1, r2, 1
   eq r0, r2, r4
-  bnz r0, L118
-L117:
+  bnz r0, L117
+L116:
   shl r0, r1, r7
   lea r0, r3, r0
   ld r0, r0, 0, any, keep
   and r0, r0, r5
-  bnz r0, L118
-L123:
+  bnz r0, L117
+L122:
   mov r2, r1
-  br L116
-L118:
+  br L115
+L117:
   ltu r0, r2, r4
   ldi r13, 0
   eq r0, r0, r13
-L119:
+L118:
   ld r7, r15, 0, any, keep
   leai r15, r15, 8
+  jmp r14
+refuse:
+  ;@ frame back - caller by 0
+  lip r12, P_12
+  ld r12, r12, 0, any, keep
+  st r12, r0, 0, any, keep
   jmp r14
 strcmp:
   ;@ frame back - caller by 40
@@ -1267,24 +1276,32 @@ strtok:
   st r15, r11, 40, any, keep
   st r15, r0, 0, any, keep
   mov r6, r1
-  ldi r9, 3
   ldi r7, 0
+  ldi r9, 3
   ldi r8, 7
-  ldi r4, 56
+  ldi r5, 56
   ld r12, r15, 0, any, keep
-  bnz r12, L136
+  bz r12, L136
 L135:
-  lip r12, P_12
+  lip r12, P_13
+  ld r12, r12, 0, any, keep
+  st r12, r7, 0, any, keep
+  br L137
+L136:
+  lip r12, P_13
   ld r12, r12, 0, any, keep
   ld r12, r12, 0, any, keep
   st r15, r12, 0, any, keep
+  lip r12, P_13
+  ld r12, r12, 0, any, keep
+  st r12, r7, 0, any, keep
   ld r12, r15, 0, any, keep
-  bnz r12, L136
-L153:
+  bnz r12, L137
+L151:
   mov r10, r7
   st r15, r7, 0, any, keep
-  br L151
-L136:
+  br L150
+L137:
   ld r12, r15, 0, any, keep
   and r0, r12, r8
   sub r0, r7, r0
@@ -1294,35 +1311,33 @@ L136:
   shl r1, r12, r9
   ld r0, r0, 0, any, keep
   shr r0, r0, r1
-  shl r0, r0, r4
-  sar r5, r0, r4
+  shl r0, r0, r5
+  sar r4, r0, r5
   ldi r13, 255
-  and r0, r5, r13
-  bnz r0, L137
-L155:
-  mov r3, r7
-  mov r4, r7
+  and r0, r4, r13
+  bnz r0, L138
+L153:
   mov r10, r7
   st r15, r7, 0, any, keep
   br L150
-L137:
+L138:
   and r0, r6, r8
   sub r0, r7, r0
   lea r0, r6, r0
   shl r1, r6, r9
   ld r0, r0, 0, any, keep
   shr r0, r0, r1
-  shl r0, r0, r4
-  sar r3, r0, r4
+  shl r0, r0, r5
+  sar r11, r0, r5
   mov r10, r7
-L138:
-  eq r0, r5, r3
-  bnz r0, L141
-L156:
-  mov r1, r3
-  mov r2, r7
-  br L140
 L139:
+  eq r0, r4, r11
+  bnz r0, L142
+L154:
+  mov r1, r11
+  mov r2, r7
+  br L141
+L140:
   lea r1, r6, r2
   and r0, r1, r8
   sub r0, r7, r0
@@ -1330,15 +1345,15 @@ L139:
   shl r1, r1, r9
   ld r0, r0, 0, any, keep
   shr r0, r0, r1
-  shl r0, r0, r4
-  sar r1, r0, r4
-  eq r0, r5, r1
-  bnz r0, L141
-L140:
-  addi r2, r2, 1
-  bz r1, L142
-  br L139
+  shl r0, r0, r5
+  sar r1, r0, r5
+  eq r0, r4, r1
+  bnz r0, L142
 L141:
+  addi r2, r2, 1
+  bz r1, L143
+  br L140
+L142:
   addi r10, r10, 1
   ld r12, r15, 0, any, keep
   lea r1, r12, r10
@@ -1348,39 +1363,28 @@ L141:
   shl r1, r1, r9
   ld r0, r0, 0, any, keep
   shr r0, r0, r1
-  shl r0, r0, r4
-  sar r5, r0, r4
+  shl r0, r0, r5
+  sar r4, r0, r5
   ldi r13, 255
-  and r0, r5, r13
-  bnz r0, L138
-L166:
-  mov r3, r7
-  mov r4, r7
-  mov r10, r7
-  st r15, r7, 0, any, keep
-  br L150
-L142:
-  bnz r5, L143
-L157:
-  mov r3, r7
-  mov r4, r7
+  and r0, r4, r13
+  bnz r0, L139
+L165:
   mov r10, r7
   st r15, r7, 0, any, keep
   br L150
 L143:
-  and r0, r6, r8
-  sub r0, r7, r0
-  lea r0, r6, r0
-  shl r1, r6, r9
-  ld r0, r0, 0, any, keep
-  shr r0, r0, r1
-  shl r0, r0, r4
-  sar r11, r0, r4
+  bz r4, L155
+L156:
   mov r3, r7
+  br L144
+L155:
+  mov r10, r7
+  st r15, r7, 0, any, keep
+  br L150
 L144:
-  eq r0, r5, r11
+  eq r0, r4, r11
   bnz r0, L148
-L159:
+L158:
   mov r1, r11
   mov r2, r7
   br L146
@@ -1392,9 +1396,9 @@ L145:
   shl r1, r1, r9
   ld r0, r0, 0, any, keep
   shr r0, r0, r1
-  shl r0, r0, r4
-  sar r1, r0, r4
-  eq r0, r5, r1
+  shl r0, r0, r5
+  sar r1, r0, r5
+  eq r0, r4, r1
   bnz r0, L148
 L146:
   addi r2, r2, 1
@@ -1410,10 +1414,10 @@ L147:
   shl r1, r1, r9
   ld r0, r0, 0, any, keep
   shr r0, r0, r1
-  shl r0, r0, r4
-  sar r5, r0, r4
+  shl r0, r0, r5
+  sar r4, r0, r5
   ldi r13, 255
-  and r0, r5, r13
+  and r0, r4, r13
   bnz r0, L144
 L148:
   add r4, r10, r3
@@ -1427,11 +1431,7 @@ L148:
   shr r0, r0, r1
   ldi r13, 255
   and r0, r0, r13
-  bnz r0, L149
-L164:
-  mov r3, r7
-  mov r4, r7
-  br L150
+  bz r0, L150
 L149:
   ld r12, r15, 0, any, keep
   lea r1, r12, r4
@@ -1448,33 +1448,32 @@ L149:
   xor r0, r1, r0
   st r3, r0, 0, any, keep
   addi r3, r4, 1
-  ld r4, r15, 0, any, keep
-L150:
-  add r2, r4, r3
-  isptr r0, r4
-  bz r0, L168
-  ldi r0, 54
-  shr r0, r4, r0
-  xor r1, r2, r4
-  shr r1, r1, r0
-  bnz r1, L168
-  lea r2, r4, r3
-L168:
-  lip r12, P_12
-  ld r12, r12, 0, any, keep
-  st r12, r2, 0, any, keep
-L151:
   ld r12, r15, 0, any, keep
-  add r2, r12, r10
+  add r2, r12, r3
   isptr r0, r12
-  bz r0, L169
+  bz r0, L167
   ldi r0, 54
   shr r0, r12, r0
   xor r1, r2, r12
   shr r1, r1, r0
-  bnz r1, L169
+  bnz r1, L167
+  lea r2, r12, r3
+L167:
+  lip r12, P_13
+  ld r12, r12, 0, any, keep
+  st r12, r2, 0, any, keep
+L150:
+  ld r12, r15, 0, any, keep
+  add r2, r12, r10
+  isptr r0, r12
+  bz r0, L168
+  ldi r0, 54
+  shr r0, r12, r0
+  xor r1, r2, r12
+  shr r1, r1, r0
+  bnz r1, L168
   lea r2, r12, r10
-L169:
+L168:
   mov r0, r2
   ld r7, r15, 8, any, keep
   ld r8, r15, 16, any, keep
@@ -1502,21 +1501,21 @@ memcpy:
   ld r12, r15, 0, any, keep
   xor r0, r12, r11
   and r0, r0, r8
-  bz r0, L171
-L196:
+  bz r0, L170
+L195:
   mov r6, r9
-  br L190
-L171:
+  br L189
+L170:
   ld r12, r15, 8, any, keep
-  bnz r12, L172
-L197:
+  bnz r12, L171
+L196:
   mov r4, r9
-  br L188
-L172:
+  br L187
+L171:
   sub r0, r9, r11
   and r4, r0, r8
-  bz r4, L188
-L173:
+  bz r4, L187
+L172:
   ld r12, r15, 0, any, keep
   and r0, r12, r8
   sub r0, r9, r0
@@ -1540,14 +1539,14 @@ L173:
   st r3, r0, 0, any, keep
   ld r12, r15, 8, any, keep
   eq r0, r12, r6
-  bz r0, L174
-L199:
+  bz r0, L173
+L198:
   ld r4, r15, 8, any, keep
-  br L188
-L174:
+  br L187
+L173:
   eq r0, r4, r6
-  bnz r0, L188
-L175:
+  bnz r0, L187
+L174:
   ld r12, r15, 0, any, keep
   leai r1, r12, 1
   and r0, r1, r8
@@ -1571,14 +1570,14 @@ L175:
   st r3, r0, 0, any, keep
   ld r12, r15, 8, any, keep
   eq r0, r12, r7
-  bz r0, L176
-L201:
+  bz r0, L175
+L200:
   ld r4, r15, 8, any, keep
-  br L188
-L176:
+  br L187
+L175:
   eq r0, r4, r7
-  bnz r0, L188
-L177:
+  bnz r0, L187
+L176:
   ld r12, r15, 0, any, keep
   leai r1, r12, 2
   and r0, r1, r8
@@ -1602,14 +1601,14 @@ L177:
   st r3, r0, 0, any, keep
   ld r12, r15, 8, any, keep
   eq r0, r12, r10
-  bz r0, L178
-L203:
+  bz r0, L177
+L202:
   ld r4, r15, 8, any, keep
-  br L188
-L178:
+  br L187
+L177:
   eq r0, r4, r10
-  bnz r0, L188
-L179:
+  bnz r0, L187
+L178:
   ld r12, r15, 0, any, keep
   leai r1, r12, 3
   and r0, r1, r8
@@ -1634,15 +1633,15 @@ L179:
   ld r12, r15, 8, any, keep
   ldi r13, 4
   eq r0, r12, r13
-  bz r0, L180
-L205:
+  bz r0, L179
+L204:
   ld r4, r15, 8, any, keep
-  br L188
-L180:
+  br L187
+L179:
   ldi r13, 4
   eq r0, r4, r13
-  bnz r0, L188
-L181:
+  bnz r0, L187
+L180:
   ld r12, r15, 0, any, keep
   leai r1, r12, 4
   and r0, r1, r8
@@ -1667,15 +1666,15 @@ L181:
   ld r12, r15, 8, any, keep
   ldi r13, 5
   eq r0, r12, r13
-  bz r0, L182
-L207:
+  bz r0, L181
+L206:
   ld r4, r15, 8, any, keep
-  br L188
-L182:
+  br L187
+L181:
   ldi r13, 5
   eq r0, r4, r13
-  bnz r0, L188
-L183:
+  bnz r0, L187
+L182:
   ld r12, r15, 0, any, keep
   leai r1, r12, 5
   and r0, r1, r8
@@ -1700,15 +1699,15 @@ L183:
   ld r12, r15, 8, any, keep
   ldi r13, 6
   eq r0, r12, r13
-  bz r0, L184
-L209:
+  bz r0, L183
+L208:
   ld r4, r15, 8, any, keep
-  br L188
-L184:
+  br L187
+L183:
   ldi r13, 6
   eq r0, r4, r13
-  bnz r0, L188
-L185:
+  bnz r0, L187
+L184:
   ld r12, r15, 0, any, keep
   leai r1, r12, 6
   and r0, r1, r8
@@ -1732,14 +1731,14 @@ L185:
   st r3, r0, 0, any, keep
   ld r12, r15, 8, any, keep
   eq r0, r12, r8
-  bz r0, L186
-L211:
+  bz r0, L185
+L210:
   ld r4, r15, 8, any, keep
-  br L188
-L186:
+  br L187
+L185:
   eq r0, r4, r8
-  bnz r0, L188
-L187:
+  bnz r0, L187
+L186:
   ld r12, r15, 0, any, keep
   leai r1, r12, 7
   and r0, r1, r8
@@ -1762,15 +1761,15 @@ L187:
   xor r0, r1, r0
   st r3, r0, 0, any, keep
   ld r4, r15, 8, any, keep
-L188:
+L187:
   addi r6, r4, 8
   ld r12, r15, 8, any, keep
   ltu r0, r12, r6
-  bz r0, L189
-L213:
+  bz r0, L188
+L212:
   mov r6, r4
-  br L190
-L189:
+  br L189
+L188:
   ld r12, r15, 0, any, keep
   lea r0, r12, r4
   ld r1, r0, 0, any, keep
@@ -1779,16 +1778,16 @@ L189:
   addi r1, r6, 8
   ld r12, r15, 8, any, keep
   ltu r0, r12, r1
-  bnz r0, L190
-L216:
+  bnz r0, L189
+L215:
   mov r4, r6
   mov r6, r1
-  br L189
-L190:
+  br L188
+L189:
   ld r13, r15, 8, any, keep
   ltu r0, r6, r13
-  bz r0, L195
-L191:
+  bz r0, L194
+L190:
   ld r12, r15, 8, any, keep
   sub r1, r12, r6
   ldi r13, -1
@@ -1797,10 +1796,10 @@ L191:
   add r12, r0, r13
   st r15, r12, 16, any, keep
   and r7, r1, r10
-  bz r7, L193
-L218:
+  bz r7, L192
+L217:
   mov r5, r9
-L192:
+L191:
   ld r12, r15, 0, any, keep
   lea r1, r12, r6
   and r0, r1, r8
@@ -1825,12 +1824,12 @@ L192:
   addi r6, r6, 1
   addi r5, r5, 1
   eq r0, r5, r7
-  bz r0, L192
-L193:
+  bz r0, L191
+L192:
   ld r12, r15, 16, any, keep
   ltu r0, r12, r10
-  bnz r0, L195
-L194:
+  bnz r0, L194
+L193:
   ld r12, r15, 0, any, keep
   lea r1, r12, r6
   and r0, r1, r8
@@ -1921,8 +1920,8 @@ L194:
   addi r6, r6, 4
   ld r13, r15, 8, any, keep
   eq r0, r6, r13
-  bz r0, L194
-L195:
+  bz r0, L193
+L194:
   mov r0, r11
   ld r7, r15, 24, any, keep
   ld r8, r15, 32, any, keep
@@ -1943,7 +1942,8 @@ P_8: .ptr rw stdout+0
 P_9: .ptr rw heap+0
 P_10: .ptr rw next+0
 P_11: .ptr rw used+0
-P_12: .ptr rw strtok_rest+0
+P_12: .ptr rw __mm_refused+0
+P_13: .ptr rw strtok_rest+0
 .segment __const_main_text 7
   ;@ global text 79 at 48 constant
   .fill 6
@@ -1986,6 +1986,8 @@ P_12: .ptr rw strtok_rest+0
   ;@ global next 8 at 0
 .segment used 3
   ;@ global used 8 at 0
+.segment __mm_refused 3
+  ;@ global __mm_refused 8 at 0
 .segment strtok_rest 3
   ;@ global rest 8 at 0
 .segment files 4

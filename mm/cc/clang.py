@@ -26,6 +26,11 @@ TARGET = ("-target", "wasm64-unknown-unknown", "-S", "-emit-llvm", "-o", "-", "-
 FRONT = ("-nostdlibinc", "-isystem", INCLUDE, "-fwrapv")
 # What Clang warns of: that a variable is used before it has a value, and the like. What nothing uses is no mistake.
 WARNINGS = ("-Wall", "-Wno-unused")
+# What a sanitizer finds becomes a trap. Clang would join the traps of a function if it were to optimise, and their
+# lines would be lost.
+SANITIZE, TRAPPED = "-fsanitize=", ("-fsanitize-trap=all", "-O0", "-Xclang", "-disable-O0-optnone")
+# With one of these no overflow wraps around, since that would be no mistake.
+OF_OVERFLOW = {"undefined", "signed-integer-overflow", "integer", "all"}
 # Clang is asked twice: for its text as it is before it is optimised, and to optimise that.
 AS_WRITTEN = ("-Xclang", "-disable-llvm-passes")
 OPTIMISED = ("-x", "ir", "-", "-w", "-Qunused-arguments")
@@ -95,13 +100,20 @@ def text_of(path: str, level: str = "1", more: Sequence[str] = (), lines: bool =
     """LLVM's text of a file, with its lines and the names of its locals where these are wanted."""
     names = ["-fno-discard-value-names"] if lines else []
     full = as_file(path)
-    front = [*FRONT, *(WARNINGS if lines else ()), *_told_as(path, full), "-g", *names, f"-O{level}", *more, *([] if level == "0" else AS_WRITTEN)]
+    front = [*FRONT, *(WARNINGS if lines else ()), *_told_as(path, full), "-g", *names, f"-O{level}",
+             *_sanitized(more), *more, *([] if level == "0" else AS_WRITTEN)]
     text = lowered(_run([*front, full], warns=lines), lines)
     if level == "0":
         return text
     optimised = _run([*names, f"-O{level}", *more, *OPTIMISED], text)
     # What is made of loops takes its lines from what is said of these.
     return optimised if lines else "\n".join(without_debug(optimised.splitlines())) + "\n"
+
+
+def _sanitized(more: Sequence[str]) -> list[str]:
+    """The words of Clang that go before those that were given, if these ask for a sanitizer."""
+    asked = {kind for word in more if word.startswith(SANITIZE) for kind in word[len(SANITIZE):].split(",")}
+    return [*(["-fno-wrapv"] if asked & OF_OVERFLOW else []), *(TRAPPED if asked else ())]
 
 
 def _told_as(path: str, full: str) -> list[str]:

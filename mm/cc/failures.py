@@ -38,13 +38,31 @@ class Failure(Exception):
     place: Optional[str] = None
     instead: str = ""
 
-    def __str__(self) -> str:
+    @property
+    def inside(self) -> str:
         name = self.where.rpartition(": ")[2]
-        inside = f" in `{name}`" if ": " in self.where else ""
-        said = f"{self.place}: error: {self.why} is left out{inside}"
-        if not self.place:
-            said = f"mm: {self.where}: {self.why} is left out"
+        return f" in `{name}`" if ": " in self.where else ""
+
+    def what(self, inside: str) -> str:
+        """What is wrong, and in which function."""
+        return f"{self.why} is left out{inside}"
+
+    def __str__(self) -> str:
+        said = f"{self.place}: error: {self.what(self.inside)}" if self.place else f"mm: {self.where}: {self.what('')}"
         return f"{said}\n    {self.instead}" if self.instead else said
+
+    @property
+    def note(self) -> str:
+        """The same of a function that nothing calls."""
+        said = self.what(f"{self.inside}, which nothing calls")
+        return f"{self.place}: note: {said}" if self.place else f"mm: {self.where}: {said}"
+
+
+class Missing(Failure):
+    """A name that nothing defines."""
+
+    def what(self, inside: str) -> str:
+        return f"{self.why} is used{inside}, and nothing defines it"
 
 
 class Failures(Failure):

@@ -17,6 +17,8 @@ RUNTIME = {"llvm.memcpy": "memcpy", "llvm.memmove": "memmove", "llvm.memset": "m
 OF_TYPE = re.compile(r"[ip]\d+|p\d+i\d+|sat|v\d+\w*|with|overflow")
 WORD = 8
 MOST_WORDS_INLINE = 16
+# The traps of what a sanitizer finds have numbers from here on, by its kind.
+SANITIZER = 64
 
 
 class Intrinsics(Operations):
@@ -101,6 +103,10 @@ class Intrinsics(Operations):
         self.emit("trap", number=1)
 
     _debugtrap = _trap
+
+    def _ubsantrap(self, made: Instruction) -> None:
+        kind = self.value_of(made, 0)
+        self.emit("trap", number=SANITIZER + (kind.number & 255 if isinstance(kind, Number) else 0))
 
     def _ptrmask(self, made: Instruction) -> None:
         assert made.name is not None

@@ -11,7 +11,7 @@ from mm.cc.code import Code, log_of, place_in
 from mm.cc.control import Translator
 from mm.cc.ctypes import Types
 from mm.cc.data import Place, Words
-from mm.cc.failures import INSTEAD, INSTEAD_OF, Failure, Failures
+from mm.cc.failures import INSTEAD, INSTEAD_OF, Failure, Failures, Missing
 from mm.cc.ir import POINTER, ArrayType, BlockAddress, Function, Global, GlobalObject, IntType, Module, Number, Parts, Type
 from mm.cc.lines import FunctionNotes
 from mm.cc.modulenames import ASSEMBLER, DOOR, EMPTY, SHARED, ModuleNames, Segment
@@ -22,6 +22,8 @@ from mm.cc.text import Line, TextBlock
 from mm.cc.untranslated import Untranslated
 
 MOST_NAME = 31
+# How near a name must be to one that nothing defines, to be what may have been meant.
+NEAR = 0.8
 HEAP = "__mm_heap"
 # A pointer to each segment in which a program can have pointers, where the library is to find these.
 ROOTS, ROOTS_LOG = "__mm_roots", 11
@@ -234,12 +236,18 @@ class Program:
         if self.current is not None:
             names, translator = self.current
             where, place = self._where(names, translator.function, translator.line)
-        self.undefined[name] = Failure(where, f"`{name}`, which nothing defines,", place, INSTEAD.get(name, self._elsewhere(name)))
+        self.undefined[name] = Missing(where, f"`{name}`", place, INSTEAD.get(name, self._elsewhere(name)))
 
     def _elsewhere(self, name: str) -> str:
-        """What can be done for a name that another file may define."""
+        """What can be done for a name that may be a typing error, or that another file may define."""
+        from difflib import get_close_matches
+
+        near = get_close_matches(name, [known for known in self.public if not known.startswith("_")], 1, NEAR)
         paths = " ".join(module.name for module in self.modules[:-1])
-        return f"if another file defines it, name that too: `mm cc {paths} FILE.c > SOURCE.asm`" if paths else ""
+        said = [f"do you mean `{near[0]}`?"] if near else []
+        if paths:
+            said.append(f"if another file defines `{name}`, name that too: `mm cc {paths} FILE.c > SOURCE.asm`")
+        return " Or ".join(said)
 
     def _where(self, names: ModuleNames, function: Function, location: Optional[str]) -> tuple[str, Optional[str]]:
         """The file and the function of a place in C, and the place; without a location, where the function begins."""
@@ -281,8 +289,7 @@ class Program:
                 try:
                     self._translated(module, name)
                 except Failure as failure:
-                    said = str(failure).splitlines()[0].replace(": error: ", ": note: ", 1)
-                    yield f"{said}, which nothing calls"
+                    yield failure.note
 
     def _function(self, module: Module, name: str) -> None:
         names, function = self.names[id(module)], module.functions[name]

@@ -14,7 +14,7 @@ from mm.formats.kinds import FileKind
 from mm.named import NamedFile
 from mm.outputs.report import Report, read_report
 from mm.status import Refused, Status, usage
-from mm.table import CYCLES, JSON
+from mm.table import CYCLES, JSON, PLAIN
 from mm.views.report import ReportView
 from mm.views.spell import Memory, Speller
 from mm.words import MOST_CYCLES, cycles_of, groups_of
@@ -25,6 +25,9 @@ REPORTS_KEPT = 64
 def show(console: Console, built: Built, run: Run, order: str) -> int:
     """Writes a report, for people or as JSON."""
     memory = Memory.after(built.image, run.report)
+    if console.said.has(PLAIN):
+        style = console.err_style
+        return _plain(console, ReportView(run.report, memory, Speller(built.symbols), style, run.waits, run.faults))
     if console.said.has(JSON):
         from mm.views.data import ReportForm
 
@@ -32,6 +35,17 @@ def show(console: Console, built: Built, run: Run, order: str) -> int:
     else:
         view = ReportView(run.report, memory, Speller(built.symbols), console.style, run.waits, run.faults)
         console.write(view.lines(order))
+    return Status.DONE
+
+
+def _plain(console: Console, view: ReportView) -> int:
+    """What the groups have put out, one after the other; why a slot has not halted goes to the standard error."""
+    report = view.report
+    console.write_bytes(b"".join(report.outputs[group] for group in report.groups))
+    for slot in report.slots:
+        if slot.state != "halted":
+            console.tell(f"mm: slot {slot.number} {view.state(slot)}", *[f"    {line}" for line in view.place(slot)])
+    console.tell(*[f"mm: {line}" for line in view.verdict() if line])
     return Status.DONE
 
 
@@ -147,4 +161,6 @@ COMMANDS = {"run": _run, "solo": _solo, "continue": _continue}
 
 
 def run(console: Console) -> int:
+    if console.said.has(PLAIN) and console.said.has(JSON):
+        raise usage("mm: --plain and --json exclude each other")
     return COMMANDS[console.name](console)

@@ -93,12 +93,14 @@ class Runner:
         found: dict[int, FaultSaid] = {}
         if not any(slot.fault for slot in report.slots):
             return found
+        from mm.log.past import Past
         from mm.views.faults import said_at
         from mm.views.spell import Speller
 
         speller = Speller(self.built.symbols)
         for cycle, turn in self.last_faults(report):
-            said = said_at(self.report(cycle), turn.slot, turn, self.built.image, speller)
+            past = Past(self.console.program, self.words("log", cycle)[1:], self.built.image, turn.slot)
+            said = said_at(self.report(cycle), turn.slot, turn, self.built.image, speller, past)
             if said:
                 found[turn.slot] = said
         return found

@@ -8,7 +8,7 @@ from typing import Callable, Iterable, Iterator, Optional
 
 from mm.debugger.conditions import condition_in
 from mm.debugger.evaluate import count_of, place_of, slot_of, span
-from mm.debugger.of_c import by_lines, c_text, local_lines
+from mm.debugger.of_c import by_lines, c_text, call_lines, choose, local_lines
 from mm.debugger.points import PointKind
 from mm.debugger.printing import display, echo, print_value, printf, shown_at_stop
 from mm.debugger.session import Halt, Session
@@ -224,15 +224,18 @@ def _examine(debugger: Debugger, rest: str) -> Lines:
 
 def _list(debugger: Debugger, rest: str) -> Lines:
     session = debugger.session
-    slot = session.current
+    slot, values = session.current, session.values
     ip = slot.ip.pointer if slot else None
+    line = values.calls[values.depth][3] if values and values.depth and not rest else None
+    if line and line.file:
+        return debugger.show.of_c(line)
     address = place_of(rest, session)[0] if rest else ip.address if ip else 0
     return debugger.show.source(address)
 
 
 def _where(debugger: Debugger, rest: str) -> Lines:
     yield from debugger.show.stop(Halt())
-    yield from debugger.show.calls()
+    yield from call_lines(debugger)
 
 
 def _output(debugger: Debugger, rest: str) -> Lines:
@@ -327,7 +330,10 @@ ENTRIES = (
     Entry(("undisplay",), "[N]", "show a value no more at stops, or none", "", undisplay),
     Entry(("x",), "/N[i] PLACE", "N words of memory, with i as instructions; a register means where it points", "value", _examine),
     Entry(("list", "l"), "[PLACE]", "the source around this slot's place, or around another place", "place", _list),
-    Entry(("where", "bt", "backtrace", "frame"), "", "where the run is; in C also the functions that wait", "", _where),
+    Entry(("where", "bt", "backtrace"), "", "where the run is; in C also the functions that wait", "", _where),
+    Entry(("up",), "[N]", "in C: look at the function that called this one", "", lambda debugger, rest: choose(debugger, rest, 1)),
+    Entry(("down",), "[N]", "in C: back to the function that was called", "", lambda debugger, rest: choose(debugger, rest, -1)),
+    Entry(("frame", "f"), "[N]", "in C: look at the function with this number in `where`; without one tell which it is", "", lambda debugger, rest: choose(debugger, rest, 0)),
     Entry(("output", "o"), "", "what each group has put out", "", _output),
     Entry(("info", "i"), "WHAT", ", ".join(INFO), "info", _info),
     Entry(("help", "h"), "[WHAT]", "this list, a command or an operation", "help", _help),

@@ -8,6 +8,7 @@ from typing import Iterator, Optional
 
 from mm.build import Built
 from mm.console import Console, Order
+from mm.log.past import Past
 from mm.outputs.report import Report, read_report
 from mm.outputs.trace import Turn, cycles_of, item_of, read_turn, split_trace
 from mm.views.waiting import waiting
@@ -42,6 +43,10 @@ class History:
                 self.states.pop(next(iter(self.states)))
             self.states[total] = read_report(answer.text.splitlines())
         return self.states[total]
+
+    def past(self, cycle: int, slot: int) -> Past:
+        """The run up to a cycle, in which a slot faults."""
+        return Past(self.console.program, [self.built.path, str(cycle), *self.order.words], self.built.image, slot)
 
     @property
     def last(self) -> int:

@@ -8,6 +8,7 @@ from mm.debugger.arithmetic import reckons
 from mm.debugger.cexpressions import c_thing, whose_is
 from mm.debugger.evaluate import count_of, value_of
 from mm.debugger.session import Halt
+from mm.names.expressions import NoAddress
 from mm.outputs.trace import Turn
 
 if TYPE_CHECKING:
@@ -37,7 +38,32 @@ def local_lines(debugger: Debugger) -> list[str]:
         return []
     found = {name: values.spell(thing) for name, thing in reversed(list(values.locals()))}
     lines = [f"  {name} = {said}" for name, said in sorted(found.items())]
-    return lines or [f"no variable of {values.frames[0].name} has a place here"]
+    whose = values.calls[values.depth][2] if values.calls else values.frames[0].name
+    return lines or [f"no variable of {whose} has a place here"]
+
+
+def call_lines(debugger: Debugger, number: Optional[int] = None) -> Iterable[str]:
+    """The functions of C that are being carried out, the innermost first, or one of them."""
+    values, style = debugger.session.values, debugger.show.style
+    for place, (_, _, name, line) in enumerate(values.calls if values else []):
+        if number is None or place == number:
+            yield f"  #{place}  {name}" + (f"  {style.soft(str(line) + ':')}  {line.text}" if line else "")
+
+
+def choose(debugger: Debugger, rest: str, way: int) -> Iterable[str]:
+    """Looks at another function that is being carried out: the one of a number, or so many calls further out or in."""
+    session = debugger.session
+    values = session.values
+    last = len(values.calls) - 1 if values else -1
+    if last < 0:
+        raise NoAddress("no function of C is being carried out here")
+    here = values.depth if values else 0
+    wanted = here + way * count_of(rest) if way else count_of(rest, 0) if rest else here
+    if not 0 <= wanted <= last:
+        raise NoAddress(f"there is no call {wanted}: `where` lists them, 0 to {last}" if wanted >= 0 or not way else
+                        "this is the innermost function")
+    session.choose(wanted)
+    yield from call_lines(debugger, wanted)
 
 
 def by_lines(debugger: Debugger, rest: str, over: bool) -> Iterable[str]:

@@ -47,6 +47,8 @@ class Session:
         self.speller = Speller(built.symbols)
         self.total = 0
         self.slot = built.image.slots[0].number
+        # The function of C that was chosen to be looked at, as so many calls out, and the moment and the slot of that.
+        self.chosen = (0, 0, 0)
         self.points = [Point(0, PointKind.FAULT, "")]
         self.made = 0
 
@@ -68,10 +70,15 @@ class Session:
         found = {}
         for slot in stopped(self.report):
             met = self.history.fault_of(self.total, slot)
-            said = said_at(self.history.report(met[0]), slot, met[1], self.built.image, self.speller) if met else None
+            said = self.fault_at(*met) if met else None
             if said:
                 found[slot] = said
         return found
+
+    def fault_at(self, cycle: int, turn: Turn) -> Optional[FaultSaid]:
+        """What is said of a turn that faulted."""
+        report, built = self.history.report(cycle), self.built
+        return said_at(report, turn.slot, turn, built.image, self.speller, self.history.past(cycle, turn.slot))
 
     @property
     def current(self) -> Optional[SlotState]:
@@ -79,9 +86,19 @@ class Session:
 
     @property
     def values(self) -> Optional[CValues]:
-        """The variables of C that the current slot's code can see."""
+        """The variables of C that the current slot's code can see, from the function that was chosen here."""
         slot = self.current
-        return CValues(slot, self.memory, self.speller) if slot else None
+        return CValues(slot, self.memory, self.speller, self.depth) if slot else None
+
+    @property
+    def depth(self) -> int:
+        """How many calls out the function is that is looked at: none after each move."""
+        number, *there = self.chosen
+        return number if there == [self.total, self.slot] else 0
+
+    def choose(self, number: int) -> None:
+        """Looks at another function of C that is being carried out."""
+        self.chosen = (number, self.total, self.slot)
 
     @property
     def last_turn(self) -> Optional[Turn]:

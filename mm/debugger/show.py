@@ -2,7 +2,7 @@
 
 from __future__ import annotations
 
-from typing import Iterator, Optional
+from typing import TYPE_CHECKING, Iterator, Optional
 
 from mm.debugger.cexpressions import c_thing
 from mm.debugger.points import PointKind
@@ -19,6 +19,9 @@ from mm.views.spell import Memory, bytes_as_text
 from mm.views.style import Style
 from mm.views.trace import TraceView
 from mm.views.waiting import what_for
+
+if TYPE_CHECKING:
+    from mm.names.clines import CLine
 
 AROUND = 5
 # The states of a slot after a fault, which are told by verbs of their own.
@@ -76,7 +79,8 @@ class Show:
             cause = Cause.of_number(halt.turn.fault)
             slot = self.session.report.slot(halt.turn.slot)
             if cause and slot:
-                said = said_of(cause, slot, halt.turn, self.session.memory, self.session.speller)
+                past = self.session.history.past(halt.cycle, slot.number)
+                said = said_of(cause, slot, halt.turn, self.session.memory, self.session.speller, past)
                 yield self.style.bad(said.of_c or f"fault {cause.number} {cause.title}: {cause.meaning}")
                 yield from (f"  {line}" for line in said.why)
         elif point.kind.before:
@@ -195,8 +199,7 @@ class Show:
         """The source around the line of an address, that in C where it is there, or the instructions around it."""
         of_c = self.session.symbols.c_line(address)
         if of_c and of_c.file:
-            yield str(of_c)
-            yield from self.lines(of_c.file, of_c.line, of_c.line)
+            yield from self.of_c(of_c)
             return
         origin = self.session.symbols.origin(address)
         region = self.session.symbols.region(address)
@@ -206,12 +209,10 @@ class Show:
         first = max(address - 8 * AROUND, region.base if region else 0)
         yield from self.memory(first, 2 * AROUND + 1, True)
 
-    def calls(self) -> Iterator[str]:
-        """The functions of C that are being carried out, the innermost first."""
-        values = self.session.values
-        found = [call for frame in (values.frames if values else []) for call in frame.calls()]
-        for number, (name, line) in enumerate(found):
-            yield f"  #{number}  {name}" + (f"  {self.style.soft(str(line) + ':')}  {line.text}" if line else "")
+    def of_c(self, line: CLine) -> Iterator[str]:
+        """The C around a line."""
+        yield str(line)
+        yield from self.lines(line.file, line.line, line.line)
 
     def lines(self, lines: list[str], middle: int, marked: Optional[int]) -> Iterator[str]:
         for number in range(max(1, middle - AROUND), min(len(lines), middle + AROUND) + 1):

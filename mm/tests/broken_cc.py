@@ -1,7 +1,7 @@
 """Broken lines of `mm/cc`, each of which the tests must notice: a path, the text of a line, what is put into its place,
 and the module of tests that notices it."""
 
-VALUES, CLANG, CC = "mm.tests.test_cc_values", "mm.tests.test_cc_clang", "mm.tests.test_cc"
+VALUES, CLANG, CC, SAID = (f"mm.tests.test_cc{part}" for part in ("_values", "_clang", "", "_said"))
 BROKEN = (
     # Numbers.
     ("mm/cc/arithmetic.py", 'op, (a, b) = "lts" if op == "ltu" else op, distances', "a, b = distances", VALUES),
@@ -55,6 +55,13 @@ BROKEN = (
     ("mm/cc/clang.py", "return os.path.abspath(path)", "return path", "mm.tests.test_holds.Clang"),
     ("mm/cc/clang.py", 'INCLUDE, "-fwrapv")', "INCLUDE)", CLANG),
     ("mm/cc/clang.py", "*(WARNINGS if lines else ()), ", "", CLANG),
+    ("mm/cc/clang.py", '*(["-fno-wrapv"] if asked & OF_OVERFLOW else []), ', "", SAID),
+    ("mm/cc/clang.py", '"-O0", "-Xclang", "-disable-O0-optnone")', ")", SAID),
+    ("mm/cc/intrinsics.py", "number=SANITIZER + (", "number=SANITIZER + 0 * (", SAID),
+    ("mm/cc/runtime/allocate.c", "if (wanted > heap_words() * 4)", "if (0)", CLANG),
+    ("mm/cc/runtime/allocate.c", "__mm_refused = size;", "", CLANG),
+    ("mm/cc/runtime/string.c", "*rest = text + length + 1;", "", CLANG),
+    ("mm/cc/program.py", 'said = [f"do you mean `{near[0]}`?"] if near else []', "said = []", CLANG),
     ("mm/cc/program.py", "if own == defined or not begins:", "if True:", CLANG),
     ("mm/cc/program.py", "INSTEAD.get(name, self._elsewhere(name)))", 'INSTEAD.get(name, ""))', CLANG),
     ("mm/cc/source.py", "elif segment.known.place or not segment.writable:", "elif False:", CLANG),

@@ -96,6 +96,18 @@ static void of(const char *text) { errno = 0; long v = strtol(text, 0, 0); print
 int main(void) { of("99999999999999999999"); of("-9223372036854775809"); errno = 0; uint64_t u = strtoul("18446744073709551616", 0, 10);
   printf("%" PRIu64 " %d, ", u, errno); of(" +077"); errno = 0; strtol("1", 0, 1); printf("%d\\n", errno); return 0; }
 """),
+    "texts taken apart": ("a:1:2,b:3,|x y|", """#include <stdio.h>
+#include <string.h>
+int main(void) { char text[] = ";a=1,2;;b=3;", other[] = " x  y"; char *outer = 0, *inner;
+  for (char *part = strtok_r(text, ";", &outer); part; part = strtok_r(0, ";", &outer)) {
+    printf("%s", strtok_r(part, "=", &inner)); for (char *n; (n = strtok_r(0, ",", &inner));) printf(":%s", n); printf(","); }
+  printf("|%s ", strtok(other, " ")); printf("%s|", strtok(0, " ")); if (strtok(0, " ") || strtok_r(0, ";", &outer)) printf("more"); return 0; }
+"""),
+    "sizes that no heap has": ("1 1 1 1 1\n", """#include <stdio.h>
+#include <stdlib.h>
+""" + HIDE + """int main(void) { printf("%d %d %d %d ", hide(malloc(zero - 1)) == 0, hide(malloc(zero - 1000)) == 0, hide(malloc(~0ul >> 1)) == 0, hide(calloc(zero - 1, 1)) == 0);
+  char *p = hide(malloc(32000)); p[31999] = 1; printf("%d\\n", p[31999]); return 0; }
+"""),
     "overflows of all widths": ("1 1 0 1 1 0 1\n", """#include <stdio.h>
 volatile long most = 0x7fffffffffffffff; volatile unsigned long all = ~0ul;
 int main(void) { long r; int i; __int128 w; unsigned __int128 u; signed char c;
@@ -164,6 +176,43 @@ int main(void)
 """),
     "a null pointer": ("fault 1 NotPointer at {room}/a.c:2: a null pointer", "0", """volatile long *volatile p;
 int main(void) { return *p; }
+"""),
+    "malloc without room": ("fault 1 NotPointer at {room}/a.c:2: a null pointer; before, `malloc` had no room for 80000 bytes: `--heap 18` makes its heap larger",
+                            "0", """#include <stdlib.h>
+int main(void) { int *row = malloc(20000 * sizeof *row); row[0] = 1; return row[0]; }
+"""),
+    "malloc of more than there is": ("a null pointer; before, `malloc` had no room for 800000 bytes, which no heap has", "1", """#include <stdlib.h>
+""" + HIDE + """int main(void) { free(hide(malloc(9))); long *row = hide(malloc(800000 + zero)); row[zero + 1] = 1; return row[0]; }
+"""),
+    "a null pointer after malloc": ("NotPointer at {room}/a.c:2: a null pointer  ", "0", """#include <stdlib.h>
+int main(void) { int *row = malloc(8), *volatile none = 0; row[0] = 1; return *none; }
+"""),
+    "a string constant": ('fault 2 Perm at {room}/a.c:2: a store into the string constant "desserts", which is read-only', "0",
+                          """static __attribute__((noinline)) void turn(char *s) {
+  *s = 'D'; }
+int main(void) { turn("desserts"); return 0; }
+"""),
+    "a long string constant": ('a store into the string constant "one\\n two three four five six seven eight" .., which is read-only', "0",
+                               """char *volatile s = "one\\n two three four five six seven eight nine ten";
+int main(void) { s[20] = 0; return 0; }
+"""),
+    "a constant without a name": ("a store into a constant, which is read-only", "0", """static const long *volatile p = (const long[]){1, 2, 3};
+int main(void) { ((long *)p)[1] = 3; return 0; }
+"""),
+    "a constant": ("fault 2 Perm at {room}/a.c:2: a store into `table`, which is constant", "1", """static const int table[5] = {1, 2, 3, 4, 5}; const int *volatile p = table;
+int main(void) { ((int *)p)[3] = 7; return 0; }
+"""),
+    "code": ("fault 2 Perm at {room}/a.c:2: a store into the code of `leaf`", "1", """static __attribute__((noinline)) int leaf(int n) { return n + 1; } int (*volatile f)(int) = leaf;
+int main(void) { *(long *)f = 7; return f(2); }
+"""),
+    "a call of data": ("fault 2 Perm at {room}/a.c:2: a call of `numbers`, which is no function", "1", """static long numbers[8]; long *volatile f = numbers;
+int main(void) { numbers[2] = 5; ((void (*)(void))f)(); return numbers[2]; }
+"""),
+    "a call of a number": ("fault 1 NotPointer at {room}/a.c:2: a call of 1234567 0x12d687, which is a number and no pointer", "1", """volatile long number = 1234567;
+int main(void) { ((void (*)(void))number)(); return 0; }
+"""),
+    "a number": ("fault 1 NotPointer at {room}/a.c:2: 1234567 0x12d687, which is a number and no pointer", "1", """volatile int number = 1234567;
+int main(void) { return *(long *)(long)number; }
 """),
     "a null function": ("fault 1 NotPointer at {room}/a.c:3: a call of a null pointer", "0", """typedef void action(void);
 action *volatile table[3];
@@ -249,12 +298,15 @@ int main(void) {
 """
 # Programs that are refused, and what is said of them.
 REFUSED = {
-    "no input": (["{room}/a.c:2:25: error: `getchar`, which nothing defines, is left out in `main`",
+    "no input": (["{room}/a.c:2:25: error: `getchar` is used in `main`, and nothing defines it",
                   "    the machine has no input: put what the program reads into an array or a string"],
                  "#include <stdio.h>\nint main(void) { return getchar(); }\n"),
-    "a function of another file": (["{room}/a.c:2:25: error: `summary`, which nothing defines, is left out in `main`",
-                                    "    if another file defines it, name that too: `mm cc {room}/a.c FILE.c > SOURCE.asm`"],
+    "a function of another file": (["{room}/a.c:2:25: error: `summary` is used in `main`, and nothing defines it",
+                                    "    if another file defines `summary`, name that too: `mm cc {room}/a.c FILE.c > SOURCE.asm`"],
                                    "long summary(int n);\nint main(void) { return summary(3); }\n"),
+    "a typing error": (["{room}/a.c:2:25: error: `strlem` is used in `main`, and nothing defines it",
+                        "    do you mean `strlen`? Or if another file defines `strlem`, name that too: `mm cc {room}/a.c"],
+                       "int strlem(const char *s);\nint main(void) { return strlem(\"text\"); }\n"),
     "floating point": (["{room}/a.c:1:58: error: floating point is left out in `area`"],
                        "static int area(int r) { volatile int d; d = (int)(3.1 * r); return d; }\n"
                        "int main(int n, char **v) { return area(n) > 3; }\n"),
@@ -263,4 +315,82 @@ REFUSED = {
     "many segments": (["mm: the program: more than 256 segments: it has "],
                       "#include <stdio.h>\n" + "".join(f"volatile int g{at};\n" for at in range(260)) + "int main(void) { return "
                       + " + ".join(f"g{at}" for at in range(260)) + "; }\n"),
+}
+# What a sanitizer of Clang finds: the line, and what it is.
+SANITIZED = {
+    "a sum": (4, "an overflow of a sum", """#include <stdio.h>
+volatile int big = 2147483647, one = 1;
+static __attribute__((noinline)) int next(int n) { return n - one + one - one + one; }
+int main(void) { int n = next(big) + one;
+  printf("%d", n); return 0; }
+"""),
+    "a product after a sum": (3, "an overflow of a product", """volatile int big = 65536, few = 3;
+int main(void) { int n = big + few;
+  n = n * big;
+  n = n + few; return n & 1; }
+"""),
+    "a shift": (3, "a shift by more than the bits of the number, or by less than 0", """volatile int one = 1, many = 40;
+int main(void) {
+  return one << many; }
+"""),
+    "a division": (2, "a division by zero, or one that overflows", """volatile int least = -2147483647 - 1, minus = -1;
+int main(void) { return least / minus; }
+"""),
+    "a row of a matrix": (3, "an index outside of its array", """int rows[4][6]; volatile int at = 7;
+int main(void) { rows[1][2] = 1;
+  rows[2][at] = 2; return rows[3][1]; }
+"""),
+    "a null pointer": (2, "an access by a null pointer, or at no multiple of the alignment", """int *volatile none;
+int main(void) { return *none; }
+"""),
+    "a negation": (2, "an overflow of a negation", """volatile int least = -2147483647 - 1;
+int main(void) { return -least; }
+"""),
+}
+# Functions that call each other, with variables of the same names.
+NESTED = """static volatile int seven = 7; static int leaf(long *v, int n)
+{
+    v[3 + n] = 1; return n + (int)v[0];
+}
+static __attribute__((noinline)) int middle(long *w, int n)
+{ long v[3] = {40, 41, w[0] - 28}; int a = seven, b = seven + 1, c = seven + 2, d = seven + 3, e = seven + 4, f = seven + 5;
+    return leaf(v, n + 5) + (int)v[1] + n * a - b * c - d * e * f; }
+int main(void)
+{
+    long v[3] = {70, 71, 72}; int n = seven;
+    return middle(v, n - 3) + (int)v[2];
+}
+"""
+# Pointers that became numbers before they are used: how, and where.
+LOST = {
+    "a mark": ("it was computed with at {room}/a.c:3", """#include <stdint.h>
+struct node { uintptr_t next; long value; };
+static __attribute__((noinline)) void link(struct node *a, struct node *b) { a->next = (uintptr_t)b | 1; }
+static __attribute__((noinline)) long second(struct node *a) { return ((struct node *)(a->next & -2ul))->value; }
+static struct node nodes[2] = {{0, 1}, {0, 2}};
+int main(void) { link(nodes, nodes + 1);
+  return second(nodes); }
+"""),
+    "one past the end": ("it left its object room at {room}/a.c:2 (one past the end is outside)", """static int room[64]; static int *sp;
+static __attribute__((noinline)) void begin(int n) { sp = room + n; }
+static __attribute__((noinline)) void push(int x) { *--sp = x; }
+int main(void) { begin(64); push(1); return 0; }
+"""),
+    "an element of a local": ("it left its object at {room}/a.c:3 (one past the end is outside)", """volatile long two = 2;
+static __attribute__((noinline)) long last(long *end) { return end[-1]; }
+static __attribute__((noinline)) long of(long *a) { return last(a + two); }
+int main(void) { long a[2] = {two, 3}; return of(a); }
+"""),
+    "bytes": ("it was copied in pieces at {room}/a.c:3", """volatile int eight = 8; static long x = 5; static long *volatile from = &x, *volatile to;
+static __attribute__((noinline)) void copy(volatile char *to, volatile char *from) {
+  for (int i = 0; i < eight; i++) to[i] = from[i];
+}
+int main(void) { copy((volatile char *)&to, (volatile char *)&from);
+  return *to; }
+"""),
+    "a copy in the library": ("it was copied in pieces in memcpy", """#include <string.h>
+volatile long eight = 8; static long x = 5; static long *from = &x; static char room[24]; static long *volatile to;
+int main(void) { memcpy(room + 1, &from, eight); memcpy((void *)&to, room + 1, eight);
+  return *to; }
+"""),
 }

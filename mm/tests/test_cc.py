@@ -218,7 +218,7 @@ class Told(unittest.TestCase):
     def test_what_is_left_out(self):
         with self.assertRaisesRegex(Failure, "main: floating point is left out"):
             source("define i32 @main() {\n  %x = fadd double 1.0, 2.0\n  %y = fptosi double %x to i32\n  ret i32 %y\n}")
-        with self.assertRaisesRegex(Failure, "`missing`, which nothing defines"):
+        with self.assertRaisesRegex(Failure, "main: `missing` is used, and nothing defines it"):
             source("declare i32 @missing()\ndefine i32 @main() {\n  %x = call i32 @missing()\n  ret i32 %x\n}")
 
     def test_assembler_text_outside_of_functions(self):
@@ -228,7 +228,7 @@ class Told(unittest.TestCase):
 
     def test_places_of_what_is_left_out(self):
         text = MODULE.replace("%b = mul i32 %a, %n", "%b = call i32 @missing(i32 %a)").replace("  @SAID@\n", "")
-        with self.assertRaisesRegex(Failure, r"a.c:5:2: error: `missing`, which nothing defines, is left out in `main`"):
+        with self.assertRaisesRegex(Failure, r"a.c:5:2: error: `missing` is used in `main`, and nothing defines it"):
             source(text + "declare i32 @missing(i32)\n")
         said = "a.c:5:2: error: floating point is left out in `main`\n    count in integers"
         with self.assertRaisesRegex(Failure, said):

@@ -2,6 +2,7 @@
 
 from __future__ import annotations
 
+import re
 from dataclasses import dataclass
 from typing import Iterator, Optional
 
@@ -13,6 +14,7 @@ from mm.views.cview import CView
 from mm.views.spell import Memory, Speller, bytes_as_text, integer
 
 MOST_ELEMENTS = 32
+IN_REGISTER = re.compile(r"(^|[*+])r\d")
 WORD = 8
 
 
@@ -37,12 +39,16 @@ class CThing:
 
 
 class CValues:
-    """The variables that the code of a slot can see."""
+    """The variables that the code of a slot can see, as the function sees them that is so many calls out."""
 
-    def __init__(self, slot: SlotState, memory: Memory, speller: Speller) -> None:
-        self.slot, self.memory, self.speller = slot, memory, speller
+    def __init__(self, slot: SlotState, memory: Memory, speller: Speller, depth: int = 0) -> None:
+        self.slot, self.memory, self.speller, self.depth = slot, memory, speller, depth
         self.view = CView(slot, memory, speller)
         self.frames = list(self.view.frames())
+        # Each function that is being carried out, by its frame and its number there, with the line where it stands: the
+        # innermost first. Several may have one frame.
+        self.calls = [(frame, line.inner if line else 0, name, line)
+                      for frame in self.frames for name, line in frame.calls()]
 
     # Names
 
@@ -53,12 +59,11 @@ class CValues:
 
     def found(self, name: str) -> tuple[Optional[CThing], Optional[str]]:
         """The same, and the function that it is of; the function alone if the variable of that name has no place."""
-        for depth, frame in enumerate(self.frames):
-            for inner in [line.inner for line in frame.lines()] or [0]:
-                here = self.locals(inner) if depth == 0 else self.objects(frame, inner)
-                thing = next((thing for thing_name, thing in here if thing_name == name), None)
-                if thing is not None or any(each.name == name and each.inner == inner for _, each in frame.function.variables):
-                    return thing, frame.function.inner_name(inner)
+        for frame, inner, whose, _ in self.calls[self.depth:]:
+            thing = next((thing for thing_name, thing in self.variables(frame, inner) if thing_name == name), None)
+            theirs = (each.name for _, each in frame.function.variables if each.inner == inner)
+            if thing is not None or name in theirs:
+                return thing, whose
         return self.global_(name), None
 
     @staticmethod
@@ -96,8 +101,8 @@ class CValues:
 
     @property
     def innermost(self) -> Optional[str]:
-        """The innermost function of the program's own, which is not of the library."""
-        return next((frame.name for frame in self.frames if frame.line is not None), None)
+        """The innermost function of the program's own, which is not of the library; or the one that was chosen."""
+        return next((name for _, _, name, line in self.calls[self.depth:] if self.depth or line is not None), None)
 
     def global_(self, name: str) -> Optional[CThing]:
         here = self.slot.ip.pointer
@@ -109,18 +114,19 @@ class CValues:
                 return CThing(region.source.notes.types, made.type, region.base + made.at)
         return None
 
-    def locals(self, of: Optional[int] = None) -> Iterator[tuple[str, CThing]]:
-        """The variables of the function in whose line the slot stands, that have a place now; or of one that has its
-        code there too."""
-        frame = self.frames[0] if self.frames else None
-        if frame is None:
-            return
-        inner = of if of is not None else frame.line.inner if frame.line else 0
+    def locals(self) -> Iterator[tuple[str, CThing]]:
+        """The variables of the function in whose line the slot stands, or of the chosen one, that have a place now."""
+        for frame, inner, _, _ in self.calls[self.depth : self.depth + 1]:
+            yield from self.variables(frame, inner)
+
+    def variables(self, frame: CFrame, inner: int) -> Iterator[tuple[str, CThing]]:
+        """The variables of a function that have a place now. Registers are those of the innermost frame."""
         yield from self.objects(frame, inner)
         for variable in frame.function.variables_at(frame.number):
-            thing = self.thing(variable, frame, frame.notes) if variable.inner == inner else None
-            if thing is not None:
-                yield variable.name, thing
+            if variable.inner == inner and (frame is self.frames[0] or not IN_REGISTER.search(variable.where)):
+                thing = self.thing(variable, frame, frame.notes)
+                if thing is not None:
+                    yield variable.name, thing
 
     def is_elsewhere(self, name: str) -> bool:
         """Whether a name is a variable of one of the functions, which is nowhere at this moment."""

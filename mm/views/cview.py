@@ -9,25 +9,28 @@ from mm.machine.words import Permission, Pointer
 from mm.names.numbers import counted
 from mm.outputs.report import SlotState
 from mm.outputs.trace import Turn
-from mm.views.spell import Memory, Speller
+from mm.views.spell import Memory, Speller, integer
 from mm.views.why import Refusal, turn_of
 
 if TYPE_CHECKING:
+    from mm.log.past import Lost, Past
     from mm.names.clines import CFrame, CLine
 
 LINK_REGISTER, STACK_REGISTER = 14, 15
 NULL_PAGE = 4096
-# The traps of programs in C, by their numbers.
-TRAPS = {1: "`__builtin_trap`", 2: "a place that C says is never reached", 6: "`abort`",
-         7: "the translator's second reckoning differs: the translator is wrong",
-         8: "`free` of what is no block of malloc, or was freed before"}
+# So many calls of a function that have not returned are told when the stack is full.
+MANY_CALLS = 20
+# What is carried out before `main`.
+START = "start"
+# The heap of `malloc`, and the bytes for which it had no room; no heap has more than 2^MOST_HEAP bytes.
+HEAP, REFUSED, MOST_HEAP = "__mm_heap", "__mm_refused", 19
 
 
 class CView:
     """What a slot does, if it runs a program of C."""
 
-    def __init__(self, slot: SlotState, memory: Memory, speller: Speller) -> None:
-        self.slot, self.memory, self.speller = slot, memory, speller
+    def __init__(self, slot: SlotState, memory: Memory, speller: Speller, past: Optional[Past] = None) -> None:
+        self.slot, self.memory, self.speller, self.past = slot, memory, speller, past
         self.symbols = speller.symbols
 
     def frames(self) -> Iterator[CFrame]:
@@ -62,6 +65,10 @@ class CView:
             what = self.left_object(at)
         if cause is Cause.TRAP:
             what = self.gave_up(at)
+        if cause is Cause.PERM:
+            from mm.views.crights import forbidden
+
+            what = forbidden(at)
         inner = next(self.frames(), None)
         of_library = inner is not None and inner.line is None and not inner.function.begins and not full
         within = f", in {self.called()}" if inner is not None and of_library else ""
@@ -87,31 +94,66 @@ class CView:
         inner = next(self.frames(), None)
         name = inner.name if inner else "a function"
         left = pointer.address - pointer.base
+        calls = sum(frame.name == name for frame in self.frames())
+        again = f" (at least {calls} calls of {name} are open)" if calls > MANY_CALLS else ""
         return (f"the stack is full: {name} has no room for its variables in the {left} bytes that are left of "
-                f"{1 << pointer.log}; `--stack {pointer.log + 1}` makes it larger")
+                f"{1 << pointer.log}; `--stack {pointer.log + 1}` makes it larger{again}")
 
     def gave_up(self, at: Refusal) -> Optional[str]:
         """What a trap of the translator or of the library says."""
-        instruction = at.instruction
-        return TRAPS.get(instruction.value("imm")) if instruction is not None and instruction.name == "trap" else None
+        from mm.views.ctraps import trap_said
+
+        return trap_said(at.instruction.value("imm")) if at.instruction is not None and at.name == "trap" else None
 
     def left_object(self, at: Refusal) -> Optional[str]:
         """A pointer that became a number as it left its object, by its bits."""
         word = at.word("ra")
-        if not word.tagged and word.bits < NULL_PAGE:
-            if not word.bits and at.name in ("jal", "jmp"):
-                return "a call of a null pointer"
-            return "a null pointer" if not word.bits else f"a null pointer, and {counted(word.bits, 'byte')} on"
-        spelled = Pointer.of_bits(word.bits) if not word.tagged and word.bits else None
-        if spelled is None or at.instruction is None:
+        if at.instruction is None or word.tagged:
             return None
+        called = "a call of " if at.name in ("jal", "jmp") else ""
+        if word.bits < NULL_PAGE:
+            further = f", and {counted(word.bits, 'byte')} on" if word.bits else ""
+            return f"{called}a null pointer{further}{'' if called else self.without_room()}"
+        spelled = Pointer.of_bits(word.bits)
+        if spelled is None:
+            return f"{called}{integer(word)}, which is a number and no pointer"
         if self.is_swept(spelled):
             return "its block of malloc was freed"
+        found = self.past.lost(at.instruction.value("ra")) if self.past is not None else None
+        if found is not None:
+            return f"these are the bits of a pointer, which is now a number: {self.lost(found, spelled)}"
         before = self.symbols.region(spelled.address - 1)
         told = self.symbols.c_global(before) if before is not None and before.log == spelled.log else None
         whose = f" {told.name}" if told and before and before.end == spelled.base else ""
         return (f"these are the bits of a pointer, which is now a number: it left its object{whose} (one past the end "
                 "is outside), was computed with, or was copied in pieces")
+
+    def without_room(self) -> str:
+        """That `malloc` had no room before: a null pointer may be its answer."""
+        ip = self.slot.ip.pointer
+        own = self.symbols.region(ip.address) if ip is not None else None
+        ours = [region for region in self.symbols.regions if own is not None and region.source is own.source]
+        known = {made.name: region for region in ours for made in [self.symbols.c_global(region)] if made is not None}
+        cell = self.memory.cell(known[REFUSED].base) if REFUSED in known and HEAP in known else None
+        if cell is None or not cell.word.bits:
+            return ""
+        # The segment of a block is a power of two, and shorter than the heap.
+        log = max(known[HEAP].log, (cell.word.bits - 1).bit_length()) + 1
+        more = f": `--heap {log}` makes its heap larger" if log <= MOST_HEAP else ", which no heap has"
+        return f"; before, `malloc` had no room for {counted(cell.word.bits, 'byte')}{more}"
+
+    def lost(self, found: Lost, spelled: Pointer) -> str:
+        """How a pointer became a number, and where."""
+        line, function, pointer = self.symbols.c_line(found.place), self.symbols.c_function(found.place), found.pointer
+        place = f" at {line}" if line else f" in {function.name}" if function and function.label != START else ""
+        if pointer is None:
+            return f"it was copied in pieces{place}"
+        if pointer.base == spelled.base or (pointer.permission, pointer.log) != (spelled.permission, spelled.log):
+            return f"it was computed with{place}"
+        region = self.symbols.region(pointer.base)
+        whole = region is not None and (region.base, region.log) == (pointer.base, pointer.log)
+        made = self.symbols.c_global(region) if region and whole else None
+        return f"it left its object{f' {made.name}' if made else ''}{place} (one past the end is outside)"
 
     def is_swept(self, pointer: Pointer) -> bool:
         """Whether it was to a block of malloc that was freed: the library makes the bits of a key of such a pointer."""
@@ -170,7 +212,13 @@ class CView:
         by, size = target - pointer.address, pointer.end - pointer.address
         element = self.element(pointer, by)
         return (f"{f'{element}, ' if element else ''}byte {by} of a block of malloc, which has "
-                f"{counted(size, 'byte')} from there on")
+                f"{counted(size, 'byte')} from there on{self.handed_out(pointer)}")
+
+    def handed_out(self, pointer: Pointer) -> str:
+        """The line of C that called for a block of `malloc`."""
+        then = self.past.when_cut_out(pointer) if self.past is not None else None
+        line = CView(*then, self.speller).line() if then is not None else None
+        return f", handed out at {line}" if line else ""
 
     def element(self, pointer: Pointer, by: int) -> Optional[str]:
         """`ring[8]` or `t->slots[-5]`, if a variable that has a place now, or a member of what one points to, holds the

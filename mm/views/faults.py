@@ -2,7 +2,7 @@
 
 from __future__ import annotations
 
-from typing import Callable, Optional
+from typing import TYPE_CHECKING, Callable, Optional
 
 from mm.formats.image import Image
 from mm.machine.causes import Cause
@@ -13,16 +13,23 @@ from mm.views.said import FaultSaid
 from mm.views.spell import Memory, Speller
 from mm.views.why import turn_of, why
 
+if TYPE_CHECKING:
+    from mm.log.past import Past
+
 ReportAt = Callable[[int], Report]
 BEFORE = "this came before the checkpoint: its run is not looked at here"
 
 
-def said_of(cause: Cause, slot: SlotState, turn: Turn, memory: Memory, speller: Speller) -> FaultSaid:
-    """A fault, with the slot and the memory as they were in its turn."""
-    return FaultSaid(CView(slot, memory, speller).fault(cause, turn), why(cause, slot, turn, memory, speller))
+def said_of(
+    cause: Cause, slot: SlotState, turn: Turn, memory: Memory, speller: Speller, past: Optional[Past] = None
+) -> FaultSaid:
+    """A fault, with the slot and the memory as they were in its turn. `past` is the run up to it."""
+    return FaultSaid(CView(slot, memory, speller, past).fault(cause, turn), why(cause, slot, turn, memory, speller))
 
 
-def said_at(report: Report, number: int, turn: Optional[Turn], image: Image, speller: Speller) -> Optional[FaultSaid]:
+def said_at(
+    report: Report, number: int, turn: Optional[Turn], image: Image, speller: Speller, past: Optional[Past] = None
+) -> Optional[FaultSaid]:
     """The fault of a slot, by the report right after its turn; without the line of the trace by what it must have said."""
     slot = report.slot(number)
     fault = turn.fault if turn else slot.fault if slot else None
@@ -30,7 +37,7 @@ def said_at(report: Report, number: int, turn: Optional[Turn], image: Image, spe
     if slot is None or cause is None:
         return None
     memory = Memory.after(image, report)
-    return said_of(cause, slot, turn or turn_of(cause, slot, memory), memory, speller)
+    return said_of(cause, slot, turn or turn_of(cause, slot, memory), memory, speller, past)
 
 
 def stopped(report: Report) -> list[int]:

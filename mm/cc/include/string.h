@@ -25,6 +25,7 @@ size_t strspn(const char *, const char *);
 size_t strcspn(const char *, const char *);
 char *strpbrk(const char *, const char *);
 char *strtok(char *, const char *);
+char *strtok_r(char *, const char *, char **);
 char *strdup(const char *);
 char *strerror(int);
 #endif

@@ -19,6 +19,8 @@ static size_t held;
 /* Functions of their own, and loops that are not unrolled: the text is short rather than fast. */
 #define FAR __attribute__((noinline))
 static size_t next, used;
+/* The bytes for which there was no room, the last time: `mm` tells of them where a null pointer is used. */
+size_t __mm_refused;
 
 static long log_in(const void *pointer)
 {
@@ -128,25 +130,31 @@ static FAR void let_go(void)
 }
 #endif
 
-void *malloc(size_t size)
+static FAR void *refuse(size_t size)
+{
+    __mm_refused = size;
+    return 0;
+}
+
+void *malloc(size_t wanted)
 {
     if (!next) {
         next = MAPS * map_words();
         if (next >= heap_words())
-            return next = 0, (void *)0;
+            return next = 0, refuse(wanted);
         change(0, 0, next);
     }
-    size = size ? size + 7 & -8ul : 8;
+    if (wanted > heap_words() * 4)
+        return refuse(wanted);
+    size_t size = wanted ? wanted + 7 & -8ul : 8;
     long log = __mm_log_of(size);
-    if (size > heap_words() * 8 || log >= log_in(__mm_heap))
-        return 0;
     size_t count = 1ul << log - 3, at = find(count);
 #ifdef QUARANTINE
     if (at == heap_words() && held)
         let_go(), at = find(count);
 #endif
     if (at == heap_words())
-        return 0;
+        return refuse(wanted);
     number *block = __mm_op_subseg(__mm_op_leab(__mm_heap, at * 8), log);
 #pragma nounroll
     for (size_t word = 0; at < used && word < count; word++)

@@ -147,24 +147,28 @@ char *strpbrk(const char *text, const char *set)
     return text[at] ? (char *)text + at : 0;
 }
 
+char *strtok_r(char *text, const char *set, char **rest)
+{
+    if (!text)
+        text = *rest;
+    *rest = 0;
+    if (!text)
+        return 0;
+    text += strspn(text, set);
+    if (!*text)
+        return 0;
+    size_t length = strcspn(text, set);
+    if (text[length]) {
+        text[length] = 0;
+        *rest = text + length + 1;
+    }
+    return text;
+}
+
 char *strtok(char *text, const char *set)
 {
     static char *rest;
-    if (text)
-        rest = text;
-    if (!rest)
-        return 0;
-    rest += strspn(rest, set);
-    if (!*rest)
-        return rest = 0;
-    char *found = rest;
-    size_t length = strcspn(found, set);
-    if (found[length]) {
-        found[length] = 0;
-        rest = found + length + 1;
-    } else
-        rest = 0;
-    return found;
+    return strtok_r(text, set, &rest);
 }
 
 int isdigit(int c) { return c >= '0' && c <= '9'; }
