@@ -75,7 +75,9 @@ class Built:
 
     @property
     def file(self) -> NamedFile:
-        return NamedFile(self.name, self.data)
+        threads = {thread.slot: unit.name for unit in self.units for thread in unit.made.threads}
+        parts = tuple(dict.fromkeys(unit.name for unit in self.units)) if len(self.units) > 1 else ()
+        return NamedFile(self.name, self.data, parts=parts, threads=threads if parts else {})
 
 
 def read_file(name: str) -> bytes:
@@ -353,7 +355,7 @@ def give_names(built: Built, units: Sequence[Unit]) -> None:
         for unit in units
         if unit.misread
     ]
-    built.placed, built.symbols = placed, symbols_of(placed, [unit.source for unit in units])
+    built.placed, built.symbols = placed, symbols_of(placed, [unit.source for unit in units], wrong)
     if wrong:
         total = sum(len(item.segment.words) for item in placed)
         built.notes.append(

@@ -149,6 +149,9 @@ class CNotes:
         # objects are constant.
         self.unnamed: dict[str, int] = {}
         self.constant: set[str] = set()
+        # The segments whose objects are the first values of variables of functions: they have the names of these, and no
+        # types.
+        self.first_values: set[str] = set()
         self.types = CTypes()
         # The lines that leave a function: its frame is gone there.
         self.returns: set[int] = set()
@@ -186,6 +189,8 @@ class CNotes:
             self.types.add(note.split()[1:])
         elif made and note.startswith("global"):
             self.globals[segment] = _object(made)
+            if segment in self.constant and not self.globals[segment].type:
+                self.first_values.add(segment)
         elif unnamed:
             self.unnamed[segment] = int(unnamed[1])
         elif self.functions:
