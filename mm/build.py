@@ -3,7 +3,6 @@
 from __future__ import annotations
 
 import os
-from dataclasses import dataclass, field
 from typing import TYPE_CHECKING, Optional, Sequence
 
 from mm.formats.image import Image, read_image
@@ -14,6 +13,7 @@ from mm.machine.program import Answer, Program
 from mm.named import NamedFile
 from mm.names.layout import Placed, differences, place
 from mm.names.symbols import Symbols, fits, symbols_of
+from mm.records import dataclass, field
 from mm.room import Room
 from mm.source.text import SourceText, read_source
 from mm.status import SIGNALLED, Refused, Status, Stop

@@ -5,13 +5,13 @@ from __future__ import annotations
 import os
 import re
 import sys
-from dataclasses import replace
 from typing import Sequence
 
 from mm.cc.clang import library, module_of
 from mm.cc.options import Options
 from mm.cc.program import Failure, Program
 from mm.cc.source import write_source
+from mm.records import replace
 from mm.shown import shown
 from mm.status import Status, Stop
 

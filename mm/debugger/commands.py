@@ -3,7 +3,6 @@
 from __future__ import annotations
 
 import re
-from dataclasses import dataclass
 from typing import Callable, Iterable, Iterator, Optional
 
 from mm.debugger.conditions import condition_in
@@ -19,6 +18,7 @@ from mm.machine.isa import OPERATIONS
 from mm.machine.words import Pointer
 from mm.names.expressions import nearest
 from mm.outputs.trace import Turn
+from mm.records import dataclass
 from mm.views.listing import map_lines
 
 Lines = Iterable[str]

@@ -5,11 +5,11 @@ from __future__ import annotations
 
 import bisect
 import re
-from dataclasses import dataclass, field
 from typing import Callable, Iterator, Optional
 
 from mm.names.ctypes import CTypes
 from mm.names.nearby import lines_nearby
+from mm.records import dataclass, field
 
 MARK = ";@ "
 BLOCK = re.compile(r"(L|P_)\d+")

@@ -4,7 +4,6 @@ from __future__ import annotations
 
 import bisect
 from collections import Counter
-from dataclasses import dataclass
 from typing import TYPE_CHECKING, Optional, Sequence
 
 from mm.formats.object import Object, Segment
@@ -12,6 +11,7 @@ from mm.machine.isa import OPERATIONS
 from mm.machine.words import Permission, Pointer
 from mm.names.layout import Placed
 from mm.names.numbers import hexadecimal
+from mm.records import dataclass
 from mm.source.text import SourceSegment, SourceText
 from mm.source.tokens import readable
 

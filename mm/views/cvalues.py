@@ -2,13 +2,13 @@
 
 from __future__ import annotations
 
-from dataclasses import dataclass
 from typing import Iterator, Optional
 
 from mm.machine.words import WORD_MASK, Permission, Pointer, Word
 from mm.names.clines import CFrame, CNotes, CVariable
 from mm.names.ctypes import CField, CType, CTypes
 from mm.outputs.report import SlotState
+from mm.records import dataclass
 from mm.views.cview import CView
 from mm.views.spell import Memory, Speller, bytes_as_text, integer
 
