@@ -327,6 +327,17 @@ class Outputs(unittest.TestCase):
             for number, handler in before.items():
                 signal.signal(number, handler)
 
+    def test_a_signal_between_two_steps(self):
+        """It is the end of the command too where nothing is begun yet, and where all is done."""
+        class Numbers(dict):
+            def __iter__(self):
+                raise Ended(signal.SIGTERM)
+
+        for given in ({"side_effect": Ended(signal.SIGTERM)}, {"return_value": Numbers()}):
+            with mock.patch("mm.main._catch_signals", **given), mock.patch("mm.console.Console.close") as close:
+                self.assertEqual(mm("help").status, 128 + signal.SIGTERM)
+            close.assert_called()
+
     def started(self, path):
         for _ in range(200):
             if os.path.isfile(path) and os.path.getsize(path):
