@@ -3,6 +3,7 @@ forty of them, and most of its time went there."""
 
 from __future__ import annotations
 
+import sys
 from operator import attrgetter
 from typing import TYPE_CHECKING
 
@@ -34,7 +35,8 @@ else:
 
     def _record(cls, frozen):
         fields = dict(getattr(cls, FIELDS, {}))
-        for name in cls.__dict__.get("__annotations__", {}):
+        own = cls.__dict__.get("__annotations__") or (cls.__annotations__ if sys.version_info >= (3, 14) else {})
+        for name in own:
             said = cls.__dict__.get(name, NOTHING)
             fields[name] = said if isinstance(said, Field) else Field(said, None, True)
             if said is fields[name] and said.default is not NOTHING:
