@@ -177,7 +177,7 @@ class Labels(unittest.TestCase):
 
     def test_places_and_conditions(self):
         said = self.answers_of("b r3 if r3 == -77", "c", "b r2", "run", "watch &r4", "watch r4")
-        self.assertIn("1: break r3 at r3 if r3 == -77", said[0])
+        self.assertIn("1: break at r3 if r3 == -77, ", said[0])
         self.assertIn("break 1: r3\n", said[1])
         self.assertIn("slot 0 is at r3", said[1])
         self.assertIn("break 2: r2\n", said[3])
