@@ -91,7 +91,7 @@ class Running(unittest.TestCase):
             self.assertNotIn("other.asm:2", ended.out)
             self.assertIsNone(json.loads(mm("run", image, "--names", other, "--json").out)["slots"][0]["source"])
             said = mm("debug", image, "--names", other, lines="list\nlist 3\n").out
-        self.assertIn("(mm) list\n  a     trap 7\n", said)
+        self.assertRegex(said, r"\(mm\) list\n  a +trap 7\n  a\+8 +nop\n")
         self.assertIn("=>    3   nop\n", said)
 
     def test_waiting_for_ever(self):
