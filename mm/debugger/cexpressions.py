@@ -148,8 +148,7 @@ def no_place(text: str, symbols: Symbols, values: Optional[CValues]) -> str:
     thing = values.named(name) if values is not None else None
     if thing is not None and thing.address is None:
         return f"`{name}` is in no memory: it is in a register, or is a constant"
-    owners = {made.inner_name(each.inner) for known in notes for made in known.functions
-              for each in [*made.objects, *(variable for _, variable in made.variables)] if each.name == name}
+    owners = {owner for known in notes for made in known.functions for owner in made.owners(name)}
     if owners:
         return f"`{name}` of {' and '.join(sorted(owners))} has no place here, where no such function is carried out"
     for path, line in symbols.c_files().items():

@@ -123,6 +123,12 @@ class CFunction:
         found = self.inlined.get(inner)
         return found.name if found else self.name
 
+    def owners(self, name: str) -> set[str]:
+        """The functions with their code here that have a variable of a name."""
+        inner = [made.inner for made in self.objects if made.name == name]
+        inner += [made.inner for _, made in self.variables if made.name == name]
+        return {self.inner_name(number) for number in inner}
+
     def variables_at(self, number: int) -> list[CVariable]:
         """The variables that are somewhere at a line of the source."""
         known: dict[tuple[str, int], CVariable] = {}
