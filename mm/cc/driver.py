@@ -27,7 +27,7 @@ def source_of(paths: Sequence[str], options: Options) -> str:
         raise Stop(Status.REFUSED, *str(failure).splitlines()) from None
     if options.lines:
         for note in [*program.contradicted.values(), *program.notes()]:
-            print(shown(note), file=sys.stderr)
+            print(*map(shown, note.splitlines()), sep="\n", file=sys.stderr)
     return source
 
 
