@@ -3,7 +3,6 @@
 from __future__ import annotations
 
 import os
-from dataclasses import dataclass, field
 from typing import TYPE_CHECKING, Optional, Sequence
 
 from mm.formats.image import Image, read_image
@@ -14,6 +13,7 @@ from mm.machine.program import Answer, Program
 from mm.named import NamedFile
 from mm.names.layout import Placed, differences, place
 from mm.names.symbols import Symbols, fits, symbols_of
+from mm.records import dataclass, field
 from mm.room import Room
 from mm.source.text import SourceText, read_source
 from mm.status import SIGNALLED, Refused, Status, Stop
@@ -75,7 +75,9 @@ class Built:
 
     @property
     def file(self) -> NamedFile:
-        return NamedFile(self.name, self.data)
+        threads = {thread.slot: unit.name for unit in self.units for thread in unit.made.threads}
+        parts = tuple(dict.fromkeys(unit.name for unit in self.units)) if len(self.units) > 1 else ()
+        return NamedFile(self.name, self.data, parts=parts, threads=threads if parts else {})
 
 
 def read_file(name: str) -> bytes:
@@ -353,7 +355,7 @@ def give_names(built: Built, units: Sequence[Unit]) -> None:
         for unit in units
         if unit.misread
     ]
-    built.placed, built.symbols = placed, symbols_of(placed, [unit.source for unit in units])
+    built.placed, built.symbols = placed, symbols_of(placed, [unit.source for unit in units], wrong)
     if wrong:
         total = sum(len(item.segment.words) for item in placed)
         built.notes.append(

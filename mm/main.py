@@ -133,17 +133,26 @@ def _guarded(console: Console, given: Sequence[str]) -> int:
 
 
 def main(given: Sequence[str]) -> int:
-    """Does what words say. The exit status is that of the `mmachine` that was run, or one of `Status`."""
+    """Does what words say. The exit status is that of the `mmachine` that was run, or one of `Status`. A signal may come between any
+    two steps, also of the beginning and of the end."""
     _open_streams()
-    before = _catch_signals()
     console = Console(Words())
+    try:
+        return _to_end(console, given)
+    except Ended as ended:
+        return SIGNALLED + ended.number
+    finally:
+        console.close()
+
+
+def _to_end(console: Console, given: Sequence[str]) -> int:
+    """Carries out words; signals that end the process end the command."""
+    before = _catch_signals()
     try:
         return _guarded(console, given)
     except KeyboardInterrupt:
         console.tell("")
         return SIGNALLED + signal.SIGINT
-    except Ended as ended:
-        return SIGNALLED + ended.number
     except Exception as error:
         return own_fault(console, error)
     finally:

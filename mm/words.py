@@ -3,10 +3,10 @@
 from __future__ import annotations
 
 import os
-from dataclasses import dataclass, field
 from typing import Optional, Sequence
 
 from mm.names.numbers import number_of
+from mm.records import dataclass, field
 from mm.status import usage
 from mm.table import ALIASES, BY_NAME, GLOBAL_OPTIONS, Command, Option
 

@@ -12,6 +12,7 @@ from mm.cc import cache
 from mm.cc.alignment import lowered, without_debug
 from mm.cc.ir import Module
 from mm.cc.parse import read_module
+from mm.shown import shown
 from mm.status import Status, Stop
 
 VARIABLE = "MM_CLANG"
@@ -84,7 +85,7 @@ def _run(words: Sequence[str], text: Optional[str] = None, warns: bool = False) 
     if ended.returncode:
         raise NoC(Status.REFUSED, *said.splitlines())
     if said and warns:
-        print(said, file=sys.stderr)
+        print(*map(shown, said.splitlines()), sep="\n", file=sys.stderr)
     return ended.stdout.decode("utf-8", "surrogateescape")
 
 

@@ -5,13 +5,14 @@ from __future__ import annotations
 import os
 import re
 import sys
-from dataclasses import replace
 from typing import Sequence
 
 from mm.cc.clang import library, module_of
 from mm.cc.options import Options
 from mm.cc.program import Failure, Program
 from mm.cc.source import write_source
+from mm.records import replace
+from mm.shown import shown
 from mm.status import Status, Stop
 
 
@@ -26,7 +27,7 @@ def source_of(paths: Sequence[str], options: Options) -> str:
         raise Stop(Status.REFUSED, *str(failure).splitlines()) from None
     if options.lines:
         for note in [*program.contradicted.values(), *program.notes()]:
-            print(note, file=sys.stderr)
+            print(*map(shown, note.splitlines()), sep="\n", file=sys.stderr)
     return source
 
 

@@ -2,10 +2,10 @@
 
 from __future__ import annotations
 
-from dataclasses import dataclass, field
 from typing import Optional
 
 from mm.names.numbers import number_of
+from mm.records import dataclass, field
 from mm.status import usage
 from mm.table import CLANG, HEAP, LEVEL, PREFIX, QUARANTINE, SLOT, STACK, Option
 from mm.words import Words

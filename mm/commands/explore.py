@@ -2,7 +2,6 @@
 
 from __future__ import annotations
 
-from dataclasses import replace
 from typing import Optional
 
 from mm.build import Built
@@ -14,6 +13,7 @@ from mm.names.numbers import number_of
 from mm.outputs.exploration import Exploration, read_exploration
 from mm.outputs.report import Report, read_report
 from mm.outputs.trace import Turn, read_turn
+from mm.records import replace
 from mm.status import Status, usage
 from mm.table import STATES
 from mm.views.exploration import ExplorationView, Places

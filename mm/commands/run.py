@@ -2,7 +2,6 @@
 
 from __future__ import annotations
 
-from dataclasses import replace
 from functools import lru_cache
 from itertools import groupby, takewhile
 
@@ -13,6 +12,7 @@ from mm.formats.image import Image, image_bytes
 from mm.formats.kinds import FileKind
 from mm.named import NamedFile
 from mm.outputs.report import Report, read_report
+from mm.records import replace
 from mm.status import Refused, Status, usage
 from mm.table import CYCLES, JSON, PLAIN
 from mm.views.report import ReportView

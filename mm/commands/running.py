@@ -2,13 +2,13 @@
 
 from __future__ import annotations
 
-from dataclasses import dataclass, field
 from typing import TYPE_CHECKING, Optional
 
 from mm.build import Built
 from mm.console import Console, Order
 from mm.named import NamedFile
 from mm.outputs.report import Report, read_report
+from mm.records import dataclass, field
 from mm.views.said import FaultSaid
 from mm.words import MOST_CYCLES
 

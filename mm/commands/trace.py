@@ -2,7 +2,6 @@
 
 from __future__ import annotations
 
-from dataclasses import dataclass, field
 
 from mm.build import Built
 from mm.commands.running import FIRST_LOOK
@@ -12,6 +11,7 @@ from mm.log.taken import opened
 from mm.machine.causes import Cause
 from mm.outputs.report import Report
 from mm.outputs.trace import Turn
+from mm.records import dataclass, field
 from mm.status import Status
 from mm.table import CYCLES, JSON
 from mm.views.data import FORM, ReportForm, TurnForms

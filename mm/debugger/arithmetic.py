@@ -5,12 +5,12 @@ from __future__ import annotations
 
 import operator
 import re
-from dataclasses import dataclass
 from typing import Callable, Iterator, Optional, Protocol, Union
 
 from mm.machine.words import WORD_MASK, Word
 from mm.names.expressions import NoAddress
 from mm.names.numbers import number_of
+from mm.records import dataclass
 
 
 class Reader(Protocol):

@@ -8,6 +8,7 @@ from typing import Optional
 from mm.debugger.arithmetic import tree_of, value_in
 from mm.machine.words import Word
 from mm.names.expressions import NoAddress
+from mm.names.symbols import Symbols
 from mm.views.cvalues import CThing, CValues
 
 TOKEN = re.compile(r"\s*([A-Za-z_]\w*|0[xX][0-9a-fA-F]+|\d+|->|<<|>>|[][.*&()]|[-+/%|^~])")
@@ -136,6 +137,25 @@ def c_thing(text: str, values: CValues) -> Optional[CThing]:
         if first and (values.named(first[0]) or values.is_elsewhere(first[0])):
             raise
         return None
+
+
+def no_place(text: str, symbols: Symbols, values: Optional[CValues]) -> str:
+    """Why the first name of a text has no place, if it is one of C alone; else nothing."""
+    first = re.search(r"[A-Za-z_]\w*", text)
+    if not first or symbols.named(first[0]):
+        return ""
+    name, notes = first[0], symbols.all_notes()
+    thing = values.named(name) if values is not None else None
+    if thing is not None and thing.address is None:
+        return f"`{name}` is in no memory: it is in a register, or is a constant"
+    owners = {owner for known in notes for made in known.functions for owner in made.owners(name)}
+    if owners:
+        return f"`{name}` of {' and '.join(sorted(owners))} has no place here, where no such function is carried out"
+    for path, line in symbols.c_files().items():
+        if any(re.search(rf"\b{name}\b", written) for written in line.file):
+            return (f"`{name}` is in {path}, but has no place: its value was put into the code that uses it, "
+                    "or it is no variable")
+    return ""
 
 
 def whose_is(text: str, values: CValues) -> str:

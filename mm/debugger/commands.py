@@ -3,11 +3,11 @@
 from __future__ import annotations
 
 import re
-from dataclasses import dataclass
 from typing import Callable, Iterable, Iterator, Optional
 
 from mm.debugger.conditions import condition_in
-from mm.debugger.evaluate import count_of, place_of, slot_of, span
+from mm.debugger.evaluate import count_of, lines_at, place_of, slot_of, span
+from mm.debugger.forms import FORMS, LETTERS
 from mm.debugger.of_c import by_lines, c_text, call_lines, choose, local_lines
 from mm.debugger.points import PointKind
 from mm.debugger.printing import display, echo, print_value, printf, shown_at_stop
@@ -18,12 +18,13 @@ from mm.machine.isa import OPERATIONS
 from mm.machine.words import Pointer
 from mm.names.expressions import nearest
 from mm.outputs.trace import Turn
+from mm.records import dataclass
 from mm.views.listing import map_lines
 
 Lines = Iterable[str]
 MOST_WORDS = 512
 MOST_DIGITS = 18
-EXAMINED = re.compile("([0-9]*)[a-z]*")
+EXAMINED = re.compile(f"([0-9]*)g?([i{LETTERS}]?)g?")
 SILENT = "silent"
 
 
@@ -69,6 +70,8 @@ def _back(debugger: Debugger, rest: str) -> Lines:
 
 
 def _goto(debugger: Debugger, rest: str) -> Lines:
+    if not rest:
+        raise Wrong("say to which cycle: `goto 36`; `start` goes to the start")
     return debugger.stop(debugger.session.go(count_of(rest, 0)))
 
 
@@ -207,11 +210,12 @@ def _slot(debugger: Debugger, rest: str) -> Lines:
 
 
 def _examine(debugger: Debugger, rest: str) -> Lines:
-    """`x/8 box`, `x/4i door`."""
+    """`x/8 box`, `x/4i door`, `x/2x box`."""
     form, text = (rest[1:].partition(" ")[0], rest[1:].partition(" ")[2]) if rest.startswith("/") else ("", rest)
     match = EXAMINED.fullmatch(form)
     if match is None:
-        raise Wrong("write how many words, and i for instructions: `x/8 box`, `x/4i door`")
+        raise Wrong("write how many words, and in which form: `x/8 box`, `x/4i door`, `x/2x box`. "
+                    f"The forms are {FORMS}")
     digits = match[1]
     address, length = span(text or "ip", debugger.session)
     if len(digits) > MOST_DIGITS:
@@ -219,7 +223,7 @@ def _examine(debugger: Debugger, rest: str) -> Lines:
     count = int(digits) if digits else max(1, min(length // 8, 16))
     if not 0 < count <= MOST_WORDS:
         raise Wrong(f"1 to {MOST_WORDS} words can be shown")
-    return debugger.show.memory(address & ~7, count, "i" in form)
+    return debugger.show.memory(address & ~7, count, match[2])
 
 
 def _list(debugger: Debugger, rest: str) -> Lines:
@@ -229,6 +233,9 @@ def _list(debugger: Debugger, rest: str) -> Lines:
     line = values.calls[values.depth][3] if values and values.depth and not rest else None
     if line and line.file:
         return debugger.show.of_c(line)
+    named = lines_at(rest, session) if rest else None
+    if named:
+        return debugger.show.listed(*named)
     address = place_of(rest, session)[0] if rest else ip.address if ip else 0
     return debugger.show.source(address)
 
@@ -326,9 +333,9 @@ ENTRIES = (
     Entry(("regs", "registers"), "[S]", "the registers of a slot", "", _registers),
     Entry(("slot", "thread", "t"), "[S]", "look at another slot", "", _slot),
     Entry(("print", "p", "inspect"), "WHAT", "a register (r5, ip), the word at a name, with & its address; a variable of C: i, a[2], p->x; (r1+2)*3; p/x r1", "value", print_value),
-    Entry(("display",), "[WHAT]", "the same at each stop; nothing ends it", "value", display),
+    Entry(("display",), "[WHAT]", "the same at each stop; alone it shows all of these now", "value", display),
     Entry(("undisplay",), "[N]", "show a value no more at stops, or none", "", undisplay),
-    Entry(("x",), "/N[i] PLACE", "N words of memory, with i as instructions; a register means where it points", "value", _examine),
+    Entry(("x",), "/N[i] PLACE", "N words of memory, with i as instructions, x in hexadecimal; a register means where it points", "value", _examine),
     Entry(("list", "l"), "[PLACE]", "the source around this slot's place, or around another place", "place", _list),
     Entry(("where", "bt", "backtrace"), "", "where the run is; in C also the functions that wait", "", _where),
     Entry(("up",), "[N]", "in C: look at the function that called this one", "", lambda debugger, rest: choose(debugger, rest, 1)),

@@ -3,13 +3,13 @@
 from __future__ import annotations
 
 import re
-from dataclasses import dataclass
 from typing import Optional
 
 from mm.debugger.arithmetic import COMPARISONS, LOGICAL, Sign, Tree, leaves, number_in, tree_of, value_in
 from mm.debugger.evaluate import Empty, Values
 from mm.debugger.session import Session
 from mm.names.expressions import NoAddress
+from mm.records import dataclass
 
 # `if slot 1` is a slot.
 IF = re.compile(r"(.*?)\s*\bif\s+(?!(?:slot|thread)\s+\d+$)(.+)")

@@ -6,16 +6,17 @@ import re
 from typing import Optional
 
 from mm.debugger.arithmetic import BITS, Leaf, number_in, tree_of, value_in
-from mm.debugger.cexpressions import c_thing, word_of
+from mm.debugger.cexpressions import c_thing, no_place, word_of
 from mm.debugger.session import Session
 from mm.machine.words import ADDRESS_LIMIT, Word
 from mm.names.expressions import NoAddress, address_of, span_of
-from mm.names.numbers import number_of, printed_address
+from mm.names.numbers import counted, number_of, printed_address
 from mm.views.cvalues import CThing
 from mm.words import MOST_CYCLES
 
 REGISTER = re.compile(r"\$?r([0-9]{1,18})")
 OFFSET = re.compile(r"(\$?r\d+|\$?ip|\$pc)\s*([+-]\s*\w+)?")
+OF_MACHINE = re.compile(r"\$.*|r(?:[0-9]|1[0-5])|ip")
 SLOT = re.compile(r"(.*?)\s*\b(?:if\s+)?(?:slot|thread)\s+([0-9]{1,18})")
 SOME_LINES = 100_000
 
@@ -44,6 +45,19 @@ def slot_of(text: str, session: Session) -> tuple[str, Optional[int]]:
     return match[1], int(match[2])
 
 
+def of_register(text: str, session: Session) -> Optional[re.Match[str]]:
+    """A register and what is added to it. That of the machine comes before a label of its name, which `&` names."""
+    match = OFFSET.fullmatch(text)
+    if match is None or not OF_MACHINE.fullmatch(match[1]) and session.symbols.named(match[1]):
+        return None
+    return match
+
+
+def hides_label(text: str, session: Session) -> bool:
+    """Whether a label has the name of a register that a text names."""
+    return OF_MACHINE.fullmatch(text) is not None and bool(session.symbols.named(text))
+
+
 def _register(text: str, session: Session) -> Optional[Word]:
     """A register of the current slot, or its instruction pointer."""
     slot = session.current
@@ -66,14 +80,26 @@ def span(text: str, session: Session) -> tuple[int, int]:
     of_c = _c_span(text.strip().lstrip("&"), session)
     if of_c:
         return of_c
-    match = OFFSET.fullmatch(text.strip())
-    if not match or session.symbols.named(text.strip()):
-        return span_of(text, session.symbols)
+    match = of_register(text.strip(), session)
+    if not match:
+        return _span_of(text, session)
     word = _register(match[1], session)
     pointer = word.pointer if word else None
     if pointer is None:
-        raise NoAddress(f"{match[1]} is no pointer: it is {session.speller.register(word)}")
+        label = f"; the label is `&{match[1]}`" if hides_label(match[1], session) else ""
+        raise NoAddress(f"{match[1]} is no pointer: it is {session.speller.register(word)}{label}")
     return pointer.address + (number_of(match[2].replace(" ", "").lstrip("+")) or 0 if match[2] else 0), 8
+
+
+def _span_of(text: str, session: Session) -> tuple[int, int]:
+    """The address of a name or a number. Of a name of C that has none it is told why."""
+    try:
+        return span_of(text, session.symbols)
+    except NoAddress:
+        why = no_place(text, session.symbols, session.values)
+        if why:
+            raise NoAddress(why) from None
+        raise
 
 
 def _c_span(text: str, session: Session) -> Optional[tuple[int, int]]:
@@ -90,10 +116,14 @@ def place_of(text: str, session: Session) -> tuple[int, int]:
     """A place of the code: a name, a line of the source of this slot, or an address. A segment that begins with a pointer is meant whole."""
     if not text:
         raise NoAddress("say where: a name as `door`, a line as 7 or counter.asm:20, or an address as 0x1000c8")
-    number = number_of(text) if printed_address(text) is None else None
-    if number is not None and 0 < number < SOME_LINES:
-        return session_line(number, session), 8
-    address, length = span(text, session)
+    number, line = number_of(text) if printed_address(text) is None else None, line_number(text)
+    if line is not None and 0 < line < SOME_LINES:
+        return session_line(line, session), 8
+    if number is not None and (number % 8 or line == 0):
+        raise NoAddress(f"`{text}` is no line, of 1 to {SOME_LINES - 1}, and no address of an instruction, "
+                        "which is a multiple of 8")
+    # A place of the code that has the name of a register is the label.
+    address, length = span(f"&{text}" if hides_label(text, session) else text, session)
     cell = session.memory.cell(address)
     symbol = next(iter(session.symbols.named(text)), None)
     whole = symbol is not None and symbol.segment and cell is not None and cell.word.tagged
@@ -102,13 +132,34 @@ def place_of(text: str, session: Session) -> tuple[int, int]:
 
 def session_line(number: int, session: Session) -> int:
     """The address of a line of the source that this slot runs, of that in C if there is one."""
+    return address_of(f"{_path_here(number, session)}:{number}", session.symbols)
+
+
+def _path_here(number: int, session: Session) -> str:
+    """The source that this slot runs, that in C if there is one; a line of it is wanted."""
     slot = session.current
     ip = slot.ip.pointer if slot else None
     region = session.symbols.region(ip.address) if ip else None
     if region is None or region.source is None:
         raise NoAddress(f"line {number} of which source? Say FILE:{number}")
-    path = c_path(session) or region.source.path
-    return address_of(f"{path}:{number}", session.symbols)
+    return c_path(session) or region.source.path
+
+
+def line_number(text: str) -> Optional[int]:
+    """The number that decimal digits are, as a line is written."""
+    return number_of(text) if text.isascii() and text.isdigit() and printed_address(text) is None else None
+
+
+def lines_at(text: str, session: Session) -> Optional[tuple[str, list[str], int]]:
+    """A source, its lines and the number of one of them, if a text names a line: also one from which no word comes."""
+    path, _, digits = text.rpartition(":")
+    number = line_number(digits)
+    if number is None or not 0 < number < SOME_LINES:
+        return None
+    path, lines = session.symbols.source_lines(path or _path_here(number, session))
+    if lines and number > len(lines):
+        raise NoAddress(f"{path} has {counted(len(lines), 'line')}")
+    return (path, lines, number) if lines else None
 
 
 def c_path(session: Session) -> Optional[str]:
@@ -149,7 +200,7 @@ class Values:
     def place(self, text: str) -> Optional[Word]:
         """The word at a name and an offset. A register, or a variable of C, is a value, to which a number is added."""
         name, offset = re.split(r"\s*[+-]\s*", text, maxsplit=1)
-        if OFFSET.fullmatch(name) and not self.session.symbols.named(name) or self._thing(name):
+        if of_register(name, self.session) or self._thing(name):
             return None
         found = word_named(text, self.session)
         if (number_of(offset) or 0) % 8:
@@ -190,8 +241,8 @@ def word_named(text: str, session: Session) -> Word:
     if text.startswith("&"):
         thing = c_thing(text[1:], session.values) if session.values else None
         at = thing.address if thing is not None else None
-        return Word(at if at is not None else address_of(text, session.symbols))
-    if OFFSET.fullmatch(text) and not session.symbols.named(text):
+        return Word(at if at is not None else _span_of(text, session)[0])
+    if of_register(text, session):
         found = _register(text, session) if "+" not in text and "-" not in text else None
         if found:
             return found

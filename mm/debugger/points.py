@@ -3,11 +3,11 @@
 from __future__ import annotations
 
 import re
-from dataclasses import dataclass
 from enum import Enum
 from typing import TYPE_CHECKING, Iterable, Optional
 
 from mm.outputs.trace import Turn
+from mm.records import dataclass
 
 if TYPE_CHECKING:
     from mm.debugger.conditions import Condition

@@ -5,9 +5,9 @@ from __future__ import annotations
 import re
 from typing import TYPE_CHECKING, Iterable
 
-from mm.debugger.arithmetic import number_in
-from mm.debugger.evaluate import sized_value, span
-from mm.debugger.of_c import value_text
+from mm.debugger.evaluate import hides_label, sized_value, span
+from mm.debugger.forms import FORMS, in_form
+from mm.debugger.of_c import c_text, value_text
 from mm.debugger.stops import Wrong
 from mm.names.expressions import NoAddress
 from mm.names.numbers import counted
@@ -17,11 +17,9 @@ if TYPE_CHECKING:
 
 Lines = Iterable[str]
 FORMED = re.compile(r"/(\w*)\s+(\S.*)")
-FORMS = "/x, /d, /u, /o, /t (binary), /c (a letter), /a (an address), /i (an instruction)"
 ESCAPED = re.compile(r"\\(n|t|\\|\"|.)")
 DIRECTIVE = re.compile(r"%(%|0?\d{0,3}(?:l|ll|h|hh|z)?[diuxXoc])")
 QUOTED = re.compile(r'"((?:[^"\\]|\\.)*)"\s*(?:,(.*))?')
-MASK = (1 << 64) - 1
 INT_BITS = 32
 
 
@@ -36,31 +34,25 @@ def said_of(text: str, debugger: Debugger) -> str:
     session = debugger.session
     if form == "i":
         return debugger.show.place(span(what, session)[0])
-    word, width = sized_value(what, session)
-    bits, number = word.bits & (1 << width) - 1, number_in(word)
-    if form == "a":
-        return f"0x{number & MASK:x} <{session.symbols.show(number)}>" if number >= 0 else f"0x{bits:x}"
-    if form == "c":
-        return f"{number} '{chr(number)}'" if 32 <= number < 127 else str(number)
-    signed = bits - (bits >> width - 1 << width)
-    digits = -(-width // 4)
-    forms = {"x": f"0x{bits:x}", "d": str(signed), "u": str(bits), "o": f"0{bits:o}", "t": f"{bits:b}", "z": f"0x{bits:0{digits}x}"}
-    if form not in forms:
+    said = in_form(form, *sized_value(what, session), session.symbols)
+    if said is None:
         raise Wrong(f"there is no form /{form}: {FORMS}")
-    return forms[form]
+    return said
 
 
 def print_value(debugger: Debugger, rest: str) -> Lines:
     if not rest:
         raise Wrong("say what: `p r5`, `p count`, `p &box`, `p (1+2)*3`, `p/x r1`; in C `p i`, `p name[3]`, `p list->next`")
     formed = FORMED.fullmatch(rest)
-    yield f"{formed[2] if formed else rest} = {said_of(rest, debugger)}"
+    what = formed[2] if formed else rest
+    yield f"{what} = {said_of(rest, debugger)}"
+    if hides_label(what, debugger.session) and c_text(what, debugger) is None:
+        yield f"`{what}` is the register; the label of this name is `&{what}`, and its word `*&{what}`"
 
 
 def display(debugger: Debugger, rest: str) -> Lines:
     if not rest:
-        debugger.displays.clear()
-        yield "no values are shown at stops any more"
+        yield from (shown_at_stop(text, debugger) for text in debugger.displays)
         return
     yield from print_value(debugger, rest)
     debugger.displays.append(rest)

@@ -3,7 +3,6 @@
 from __future__ import annotations
 
 import re
-from dataclasses import dataclass
 from typing import TYPE_CHECKING, Callable, Optional
 
 from mm.build import Built
@@ -13,6 +12,7 @@ from mm.debugger.points import Point, PointKind, pattern_of
 from mm.names.symbols import Symbols
 from mm.outputs.report import Report, SlotState
 from mm.outputs.trace import Turn
+from mm.records import dataclass
 from mm.views.cvalues import CValues
 from mm.views.faults import said_at, stopped
 from mm.views.spell import Memory, Speller

@@ -2,9 +2,11 @@
 
 from __future__ import annotations
 
-from typing import TYPE_CHECKING, Iterator, Optional
+from typing import TYPE_CHECKING, Callable, Iterator, Optional
 
+from mm.debugger.arithmetic import BITS
 from mm.debugger.cexpressions import c_thing
+from mm.debugger.forms import in_form
 from mm.debugger.points import PointKind
 from mm.debugger.session import Halt, Session
 from mm.machine.causes import Cause
@@ -120,10 +122,11 @@ class Show:
             return f"  {name} is {self.cell(after)}"
         return f"  {name} was {self.cell(before)}, and is {self.cell(after)}"
 
-    def cell(self, cell: Optional[Cell]) -> str:
+    def cell(self, cell: Optional[Cell], form: str = "") -> str:
         if cell is None:
             return "on no page"
-        return self.session.speller.word(cell.word) + ("" if cell.full else " (empty)")
+        said = in_form(form, cell.word, BITS, self.session.symbols) if form else None
+        return (said or self.session.speller.word(cell.word)) + ("" if cell.full else " (empty)")
 
     def stop(self, halt: Halt) -> Iterator[str]:
         """All that is told after a move: the cycle, the turn, the reason, where the slot stands, and who is next."""
@@ -177,13 +180,13 @@ class Show:
             more = f" .. {len(data) - BYTES_SHOWN} more bytes" if len(data) > BYTES_SHOWN else ""
             yield f"group {group}  {bytes_as_text(data[:BYTES_SHOWN])}{more}"
 
-    def memory(self, address: int, count: int, code: bool) -> Iterator[str]:
-        """Words from an address on."""
+    def memory(self, address: int, count: int, form: str = "") -> Iterator[str]:
+        """Words from an address on: as they are best read, as instructions, or in a form."""
         memory, session = self.session.memory, self.session
         rows = [(session.symbols.show(at), at) for at in range(address, address + 8 * count, 8)]
         width = max(len(name) for name, _ in rows)
         for name, at in rows:
-            said = session.speller.at(memory, at) if code else self.cell(memory.cell(at))
+            said = session.speller.at(memory, at) if form == "i" else self.cell(memory.cell(at), form)
             yield f"  {self.style.name(name.ljust(width))}  {said}"
 
     def word(self, word: Word) -> str:
@@ -204,17 +207,26 @@ class Show:
         origin = self.session.symbols.origin(address)
         region = self.session.symbols.region(address)
         if origin and region and region.source:
-            yield from self.lines(region.source.lines, origin.line, origin.line)
+            yield from self.lines(region.source.lines, origin.line, origin.line, readable)
             return
         first = max(address - 8 * AROUND, region.base if region else 0)
-        yield from self.memory(first, 2 * AROUND + 1, True)
+        yield from self.memory(first, 2 * AROUND + 1, "i")
+
+    def listed(self, path: str, lines: list[str], number: int) -> Iterator[str]:
+        """The source around a line."""
+        if path in self.session.symbols.c_paths():
+            yield f"{path}:{number}"
+        yield from self.lines(lines, number, number)
 
     def of_c(self, line: CLine) -> Iterator[str]:
         """The C around a line."""
         yield str(line)
         yield from self.lines(line.file, line.line, line.line)
 
-    def lines(self, lines: list[str], middle: int, marked: Optional[int]) -> Iterator[str]:
+    def lines(
+        self, lines: list[str], middle: int, marked: Optional[int], read: Callable[[str], str] = str
+    ) -> Iterator[str]:
+        """Lines around one of them, of which each is read in a way."""
         for number in range(max(1, middle - AROUND), min(len(lines), middle + AROUND) + 1):
             mark = "=>" if number == marked else "  "
-            yield f"{mark} {number:>4}  {readable(lines[number - 1]).rstrip()}"
+            yield f"{mark} {number:>4}  {read(lines[number - 1]).rstrip()}"

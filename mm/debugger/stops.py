@@ -14,6 +14,8 @@ if TYPE_CHECKING:
     from mm.debugger.commands import Debugger
 
 Lines = Iterable[str]
+# The names of `run`: it comes to the stop again whose lines it is among.
+BEGIN_AGAIN = ("r", "ru", "run")
 RANGE = re.compile(r"(\d{1,6})(?:-(\d{1,6}))?")
 
 
@@ -50,6 +52,9 @@ def commands(debugger: Debugger, rest: str) -> Lines:
             raise Wrong("lines of `commands` have no `commands` among them: nothing is changed")
         if word:
             lines.append(line.strip())
+    if any(line.split()[0] in BEGIN_AGAIN for line in lines):
+        raise Wrong("lines of `commands` have no `run` among them, which comes to the same stop again and again: "
+                    "nothing is changed")
     for point in points:
         point.commands = tuple(lines)
         yield f"{point.number}: {point}" + (f", then {counted(len(lines), 'line')}" if lines else ", and no lines")

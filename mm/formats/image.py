@@ -2,11 +2,11 @@
 
 from __future__ import annotations
 
-from dataclasses import dataclass
 from typing import Iterator, Mapping, Optional
 
 from mm.formats.bytesreader import BytesReader, bit_of
 from mm.machine.words import Cell, Pointer, Word
+from mm.records import dataclass
 
 PAGE_BYTES, PAGE_WORDS = 4096, 512
 NO_HANDLER = 255

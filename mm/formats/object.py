@@ -2,11 +2,11 @@
 
 from __future__ import annotations
 
-from dataclasses import dataclass
 from typing import Optional
 
 from mm.formats.bytesreader import BytesReader, bit_of
 from mm.machine.words import Permission
+from mm.records import dataclass
 
 
 @dataclass(frozen=True)

@@ -3,8 +3,9 @@
 from __future__ import annotations
 
 import re
-from dataclasses import dataclass
 from typing import Iterator
+
+from mm.records import dataclass
 
 ITEM = re.compile(rb"(0|[1-9][0-9]{0,2})(?:\*([1-9][0-9]{0,6}))?")
 RUN = re.compile(rb"#[^\n]*|[^ \t\r\n#]+")

@@ -6,7 +6,6 @@ their way, output, `past`) is left out, and whether the two programs still diffe
 from __future__ import annotations
 
 from collections import Counter
-from dataclasses import dataclass, replace
 from typing import Callable, Iterator, Optional, Sequence, TypeVar
 
 from mm.formats.image import PAGE_BYTES, PAGE_WORDS, Image, Slot, image_bytes, page_of, read_image
@@ -15,6 +14,7 @@ from mm.lockstep.shorten import Items, Shortener
 from mm.log.replay import Machine, SlotNow
 from mm.machine.words import ZERO, Cell
 from mm.names.numbers import counted
+from mm.records import dataclass, replace
 
 Thing = TypeVar("Thing")
 # Runs both programs on an image and items.

@@ -2,12 +2,12 @@
 
 from __future__ import annotations
 
-from dataclasses import dataclass
 from typing import Iterable, Iterator, Optional
 
 from mm.log.changes import READERS, Change
 from mm.outputs.report import Report, read_report
 from mm.outputs.trace import Turn, read_turn
+from mm.records import dataclass
 
 
 @dataclass(frozen=True)

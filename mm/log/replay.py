@@ -3,7 +3,6 @@
 from __future__ import annotations
 
 from collections import deque
-from dataclasses import dataclass, field
 from typing import Callable, Optional
 
 from mm.formats.image import Image, Slot
@@ -22,6 +21,7 @@ from mm.log.read import Step
 from mm.machine.memory import Memory
 from mm.machine.words import ZERO, Cell, Word
 from mm.outputs.report import Report, SlotState
+from mm.records import dataclass, field
 
 
 @dataclass

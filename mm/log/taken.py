@@ -3,7 +3,6 @@
 from __future__ import annotations
 
 import contextlib
-from dataclasses import dataclass, field
 from itertools import islice
 from typing import Iterator, Optional
 
@@ -13,6 +12,7 @@ from mm.log.read import LogReader, Step
 from mm.log.replay import Machine
 from mm.outputs.report import Report
 from mm.outputs.trace import numbered
+from mm.records import dataclass, field
 from mm.status import Status, Stop
 from mm.table import FROM
 from mm.words import MOST_CYCLES, Words, cycles_of

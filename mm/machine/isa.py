@@ -4,10 +4,11 @@ docs/INSTRUCTIONS.md has the table for readers; a test compares the two."""
 
 from __future__ import annotations
 
-from dataclasses import dataclass
 from enum import Enum
 from functools import lru_cache
 from typing import Callable, Optional
+
+from mm.records import dataclass
 
 
 class Kind(Enum):

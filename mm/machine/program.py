@@ -5,9 +5,9 @@ from __future__ import annotations
 import contextlib
 import os
 import subprocess
-from dataclasses import dataclass
 from typing import Iterator, Optional, Sequence
 
+from mm.records import dataclass
 from mm.status import Status, Stop
 
 VARIABLE = "MMACHINE"

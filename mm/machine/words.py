@@ -2,9 +2,10 @@
 
 from __future__ import annotations
 
-from dataclasses import dataclass
 from enum import Enum
 from typing import Optional
+
+from mm.records import dataclass
 
 ADDRESS_BITS = 54
 ADDRESS_LIMIT = 1 << ADDRESS_BITS

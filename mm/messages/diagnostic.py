@@ -2,9 +2,9 @@
 
 from __future__ import annotations
 
-from dataclasses import dataclass, field
 from typing import Optional
 
+from mm.records import dataclass, field
 from mm.shown import visible
 from mm.source.tokens import readable
 from mm.views.style import Style

@@ -11,6 +11,7 @@ from mm.messages.diagnostic import Diagnostic
 from mm.named import NamedFile
 from mm.names.numbers import counted
 from mm.outputs.refusal import Refusal, RefusalKind
+from mm.source.tokens import readable
 
 IMAGE_FAULTS = {
     1: ("the file ends within a field", "it was cut, or has not been written to its end: make it again"),
@@ -106,7 +107,7 @@ def _text(file: NamedFile, refusal: Refusal, what: str, hint: str) -> Diagnostic
     word = next((word for at, word in words_of(file.data) if at == offset), b"").decode("latin-1")
     return Diagnostic(
         file.name,
-        f"`{word[:40]}` is no item of {what}, or one too many",
+        f"`{readable(word)[:40]}` is no item of {what}, or one too many",
         line,
         column,
         text,
@@ -153,8 +154,8 @@ OF_FILES: dict[RefusalKind, Callable[[NamedFile, Refusal], Diagnostic]] = {
 }
 
 
-def _of_command(refusal: Refusal, subject: str) -> Diagnostic:
-    kind = refusal.kind
+def _of_command(refusal: Refusal, file: Optional[NamedFile]) -> Diagnostic:
+    kind, subject = refusal.kind, file.of_slot(refusal.numbers.get("slot")) if file else "mmachine"
     if kind is RefusalKind.NO_GROUP:
         return Diagnostic(subject, "no slot is of one of these groups", hints=["`mm audit` lists the groups"])
     if kind is RefusalKind.CROSSES:
@@ -198,4 +199,4 @@ def explain_files(refusal: Refusal, files: Sequence[NamedFile]) -> Diagnostic:
     number = refusal.numbers.get("file", 1)
     if told and 0 < number <= len(files):
         return told(files[number - 1], refusal)
-    return _of_command(refusal, files[0].name if files else "mmachine")
+    return _of_command(refusal, files[0] if files else None)

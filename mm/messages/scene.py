@@ -2,7 +2,8 @@
 
 from __future__ import annotations
 
-from dataclasses import dataclass
+from mm.records import dataclass
+
 
 
 @dataclass(frozen=True)

@@ -5,11 +5,11 @@ from __future__ import annotations
 
 import bisect
 import re
-from dataclasses import dataclass, field
 from typing import Callable, Iterator, Optional
 
 from mm.names.ctypes import CTypes
 from mm.names.nearby import lines_nearby
+from mm.records import dataclass, field
 
 MARK = ";@ "
 BLOCK = re.compile(r"(L|P_)\d+")
@@ -123,6 +123,12 @@ class CFunction:
         found = self.inlined.get(inner)
         return found.name if found else self.name
 
+    def owners(self, name: str) -> set[str]:
+        """The functions with their code here that have a variable of a name."""
+        inner = [made.inner for made in self.objects if made.name == name]
+        inner += [made.inner for _, made in self.variables if made.name == name]
+        return {self.inner_name(number) for number in inner}
+
     def variables_at(self, number: int) -> list[CVariable]:
         """The variables that are somewhere at a line of the source."""
         known: dict[tuple[str, int], CVariable] = {}
@@ -149,6 +155,9 @@ class CNotes:
         # objects are constant.
         self.unnamed: dict[str, int] = {}
         self.constant: set[str] = set()
+        # The segments whose objects are the first values of variables of functions: they have the names of these, and no
+        # types.
+        self.first_values: set[str] = set()
         self.types = CTypes()
         # The lines that leave a function: its frame is gone there.
         self.returns: set[int] = set()
@@ -186,6 +195,8 @@ class CNotes:
             self.types.add(note.split()[1:])
         elif made and note.startswith("global"):
             self.globals[segment] = _object(made)
+            if segment in self.constant and not self.globals[segment].type:
+                self.first_values.add(segment)
         elif unnamed:
             self.unnamed[segment] = int(unnamed[1])
         elif self.functions:

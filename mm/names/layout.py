@@ -2,12 +2,12 @@
 
 from __future__ import annotations
 
-from dataclasses import dataclass
 from typing import Iterator, Optional, Sequence
 
 from mm.formats.image import Image
 from mm.formats.object import Object, Relocation, Segment
 from mm.machine.words import Cell, Pointer, Word
+from mm.records import dataclass
 
 FIRST_ADDRESS = 0x100000
 

@@ -4,7 +4,6 @@ from __future__ import annotations
 
 import bisect
 from collections import Counter
-from dataclasses import dataclass
 from typing import TYPE_CHECKING, Optional, Sequence
 
 from mm.formats.object import Object, Segment
@@ -12,6 +11,7 @@ from mm.machine.isa import OPERATIONS
 from mm.machine.words import Permission, Pointer
 from mm.names.layout import Placed
 from mm.names.numbers import hexadecimal
+from mm.records import dataclass
 from mm.source.text import SourceSegment, SourceText
 from mm.source.tokens import readable
 
@@ -49,7 +49,8 @@ class Symbol:
 
 @dataclass(frozen=True)
 class Region:
-    """A placed segment, with its words and the text that it comes from, if there is one."""
+    """A placed segment, with its words and the text that it comes from, if there is one. `differ` are the addresses of words that
+    the image has otherwise: no line made these."""
 
     name: str
     base: int
@@ -57,6 +58,7 @@ class Region:
     words: int
     source: Optional[SourceText]
     index: int
+    differ: frozenset[int] = frozenset()
 
     @property
     def end(self) -> int:
@@ -64,7 +66,7 @@ class Region:
 
     def line_of(self, address: int) -> Optional[int]:
         """The line that made the word at an address."""
-        if self.source is None:
+        if self.source is None or address & ~7 in self.differ:
             return None
         run = self.source.segments[self.index].run_at((address - self.base) // 8)
         return run.line if run else None
@@ -172,6 +174,11 @@ class Symbols:
         """The global that a segment is."""
         return region.source.notes.globals.get(region.name) if region.source and region.source.notes else None
 
+    def c_named(self, region: Region) -> Optional[CObject]:
+        """The global that a segment is, if a program can name it."""
+        notes = region.source.notes if region.source else None
+        return self.c_global(region) if notes and region.name not in notes.first_values else None
+
     def c_region(self, name: str, notes: CNotes) -> Optional[Region]:
         """The segment of a global by its name in a source; another source may have one of the same name."""
         named = (region for region in self.regions if region.name == name and region.source)
@@ -185,11 +192,30 @@ class Symbols:
         permission = Permission.RO if name in notes.constant else Permission.RW
         return Pointer(permission, region.log, region.base + (made.at if made else notes.unnamed.get(name, 0)))
 
-    def c_paths(self) -> list[str]:
-        """The files of C that code comes from."""
+    def all_notes(self) -> list[CNotes]:
+        """The comments of the translator of C in all sources."""
         notes = {id(region.source.notes): region.source.notes for region in self.regions
                  if region.source and region.source.notes}
-        return sorted({line.path for each in notes.values() for line in each.lines if line is not None})
+        return list(notes.values())
+
+    def c_files(self) -> dict[str, CLine]:
+        """The files of C that code comes from, each with one of its lines."""
+        return {line.path: line for each in self.all_notes() for line in each.lines if line is not None}
+
+    def c_paths(self) -> list[str]:
+        return sorted(self.c_files())
+
+    def source_lines(self, path: str) -> tuple[str, list[str]]:
+        """The whole name and the lines of a source, or of a file of C, of which the end of the name may be said; no lines
+        if it is none, may be several, or cannot be read."""
+        sources = {region.source.path: region.source for region in self.regions if region.source}
+        of_c = self.c_files()
+        known = [*sources, *of_c]
+        meant = [path] if path in known else [each for each in known if each.endswith("/" + path)]
+        if len(meant) != 1:
+            return path, []
+        whole = meant[0]
+        return whole, of_c[whole].file if whole in of_c else [readable(line) for line in sources[whole].lines]
 
     def place_of_c_line(self, path: str, line: int) -> Optional[int]:
         """The address of the first word of a line of C, or of the next one that has code."""
@@ -220,12 +246,10 @@ class Symbols:
 
     def _labels_of_c(self, name: str) -> set[str]:
         """The labels of functions, and the segments of globals, that have a name in C alone."""
-        notes = {id(region.source.notes): region.source.notes for region in self.regions
-                 if region.source and region.source.notes}
-        functions = [made for each in notes.values() for made in each.functions]
-        labels = {made.label for made in functions if made.name == name and made.begins}
-        globals_ = [item for each in notes.values() for item in each.globals.items()]
-        return labels | {segment for segment, made in globals_ if made.name == name}
+        notes = self.all_notes()
+        labels = {made.label for each in notes for made in each.functions if made.name == name and made.begins}
+        return labels | {segment for each in notes for segment, made in each.globals.items()
+                         if made.name == name and segment not in each.first_values}
 
     def place_of_line(self, path: str, line: int) -> Optional[int]:
         """The address of the first word that a line of a source makes, or the next line that makes one."""
@@ -262,13 +286,14 @@ def _symbols_of(region: Region) -> list[Symbol]:
     return found
 
 
-def symbols_of(placed: Sequence[Placed], sources: Sequence[Optional[SourceText]]) -> Symbols:
-    """The names of placed segments; of each unit its source, if there is one that fits."""
-    return Symbols(
-        [
-            Region(
-                item.segment.name, item.base, item.segment.log, len(item.segment.words), sources[item.unit], item.index
-            )
-            for item in placed
-        ]
-    )
+def symbols_of(
+    placed: Sequence[Placed], sources: Sequence[Optional[SourceText]], differ: Sequence[int] = ()
+) -> Symbols:
+    """The names of placed segments; of each unit its source, if there is one that fits, and where the image differs from it."""
+    wrong = frozenset(differ)
+    return Symbols([_region(item, sources[item.unit], wrong) for item in placed])
+
+
+def _region(item: Placed, source: Optional[SourceText], differ: frozenset[int]) -> Region:
+    segment = item.segment
+    return Region(segment.name, item.base, segment.log, len(segment.words), source, item.index, differ)

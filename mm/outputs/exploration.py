@@ -2,9 +2,9 @@
 
 from __future__ import annotations
 
-from dataclasses import dataclass, field
 
 from mm.outputs.report import state_of, state_text
+from mm.records import dataclass, field
 
 
 @dataclass

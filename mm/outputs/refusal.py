@@ -3,9 +3,10 @@
 from __future__ import annotations
 
 import re
-from dataclasses import dataclass
 from enum import Enum
 from typing import Optional
+
+from mm.records import dataclass
 
 
 class RefusalKind(Enum):

@@ -2,10 +2,10 @@
 
 from __future__ import annotations
 
-from dataclasses import dataclass, field
 from typing import Iterable, Optional
 
 from mm.machine.words import Cell, Word
+from mm.records import dataclass, field
 
 
 @dataclass

@@ -3,13 +3,13 @@
 from __future__ import annotations
 
 import re
-from dataclasses import dataclass
 from itertools import tee
 from typing import Iterable, Iterator, Optional, Protocol, TypeVar
 
 from mm.formats.schedule import PORT, Schedule
 from mm.machine.words import Word
 from mm.outputs.report import Report, read_report
+from mm.records import dataclass
 
 TURN = re.compile(
     r"t (\d+) (\d+) (did|blocked|faulted (\d+))(?: fetch ([0-9a-f]{14}))?(?: (load|loadset|store) ([0-9a-f]{14}))?(?: enter (p[0-9a-f]{16}))?"

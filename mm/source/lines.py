@@ -2,9 +2,9 @@
 
 from __future__ import annotations
 
-from dataclasses import dataclass, field
 from typing import Callable, NoReturn, Optional
 
+from mm.records import dataclass, field
 from mm.source import wants
 from mm.source.tokens import LONG_LINE, Token, TokenKind, tokens_of
 from mm.source.wants import DIRECTIVES, OPERANDS, Want

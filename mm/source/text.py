@@ -4,9 +4,9 @@ from __future__ import annotations
 
 import bisect
 import re
-from dataclasses import dataclass, field
 from typing import TYPE_CHECKING, Optional
 
+from mm.records import dataclass, field
 from mm.source import wants
 from mm.source.lines import WORD_DIRECTIVES, Line, read_line
 from mm.source.tokens import TokenKind

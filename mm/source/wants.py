@@ -2,12 +2,12 @@
 
 from __future__ import annotations
 
-from dataclasses import dataclass
 from enum import Enum
 from typing import Optional
 
 from mm.machine.isa import OPERATIONS, Kind
 from mm.machine.words import BY_SHORT
+from mm.records import dataclass
 from mm.source.tokens import Token, TokenKind
 
 LONGEST_NAME = 31

@@ -79,6 +79,21 @@ class Running(unittest.TestCase):
             self.assertEqual(named.err, "")
             self.assertIn("words differ", mm("run", path, "--names", "examples/kernel.asm").err)
 
+    def test_lines_of_another_source(self):
+        """Where the image has another word than the source makes, its line is not shown."""
+        source = ".segment a 5\n trap 7\n nop\n halt\n.thread 0 0 none xu a\n"
+        with folder() as room:
+            image, other = os.path.join(room, "k.img"), write(room, "other.asm", source.replace("trap 7", "divu r1, r1, r2"))
+            self.assertEqual(mm("link", write(room, "one.asm", source), "-o", image).status, 0)
+            ended = mm("run", image, "--names", other)
+            self.assertIn("1 of 3 words differ, the first at a", ended.err)
+            self.assertIn("trap 7, and the slot has no handler", ended.out)
+            self.assertNotIn("other.asm:2", ended.out)
+            self.assertIsNone(json.loads(mm("run", image, "--names", other, "--json").out)["slots"][0]["source"])
+            said = mm("debug", image, "--names", other, lines="list\nlist 3\n").out
+        self.assertRegex(said, r"\(mm\) list\n  a +trap 7\n  a\+8 +nop\n")
+        self.assertIn("=>    3   nop\n", said)
+
     def test_waiting_for_ever(self):
         with folder() as room:
             out = mm("run", write(room, "d.asm", DEADLOCK)).out

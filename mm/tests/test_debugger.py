@@ -162,11 +162,40 @@ class Sessions(unittest.TestCase):
         self.assertIn("* slot", said[9])
 
     def test_memory_in_forms_that_are_none(self):
-        said = self.session(["x/-1 box", "x/\u0663 box", "x/2x box", "watch -8"], "examples/counter.asm")
-        self.assertIn("write how many words", said[0])
-        self.assertIn("write how many words", said[1])
-        self.assertIn("  box ", said[2])
-        self.assertIn("-0x8 is no address", said[3])
+        said = self.session(["x/-1 box", "x/\u0663 box", "x/2q box", "x/2w box", "watch -8"], "examples/counter.asm")
+        for answer in said[:4]:
+            self.assertIn("write how many words, and in which form", answer)
+        self.assertIn("-0x8 is no address", said[4])
+
+    def test_memory_in_forms(self):
+        said = self.session(["goto 36", "x/2x box", "x/d count", "x/2gx &gate", "x/a r5", "x/zg count"], "examples/counter.asm")
+        self.assertEqual(said[1], "  box    0x2 (empty)\n  count  0x2")
+        self.assertEqual(said[2], "  count  2")
+        self.assertIn("  gate  0x20c0000000100108\n  door  0x", said[3])
+        self.assertEqual(said[5], "  count  0x0000000000000002")
+
+    def test_lists(self):
+        """Any line of a source, also one from which no word comes."""
+        said = self.session(["list 38", "list 30", "list counter.asm:32", "list 13", "list 39", "list 0", "list other.asm:3", "list gate"],
+            "examples/counter.asm")
+        self.assertEqual(said[0].splitlines()[-1], "=>   38  .reg 5 ptr eu door")
+        self.assertEqual(len(said[0].splitlines()), 6)
+        self.assertIn("=>   30    .int 0\n     31  .thread 0", said[1])
+        self.assertIn("=>   32  .reg 1 ptr rw box\n", said[2])
+        self.assertIn("=>   13    out r2\n", said[3])
+        self.assertIn("examples/counter.asm has 38 lines", said[4])
+        self.assertIn("`0` is no line", said[5])
+        self.assertIn("there is no source `other.asm`", said[6])
+        self.assertIn("=>   19    .ptr rw count\n", said[7])
+
+    def test_places_that_are_none(self):
+        said = self.session(["break 0", "break 2000000001", "until 0x100003", "break 0x100008", "goto", "info b"], "examples/counter.asm")
+        self.assertIn("`0` is no line, of 1 to 99999, and no address of an instruction", said[0])
+        self.assertIn("`2000000001` is no line", said[1])
+        self.assertIn("`0x100003` is no line", said[2])
+        self.assertIn("1: break 0x100008 at ", said[3])
+        self.assertIn("say to which cycle", said[4])
+        self.assertEqual(len(said[5].splitlines()), 2)
 
     def test_schedule_with_idle_cycles(self):
         said = self.session(["s", "s 2", "back", "goto 7", "s"], "examples/counter.asm", "--turns", "9 0 9 1*5")
@@ -259,6 +288,11 @@ class MorePoints(unittest.TestCase):
         self.assertIn("  1  $pc", out)
         self.assertIn("$pc = xu 2^6 a+8", out)
         self.assertIn("there is no display 4", out)
+
+    def test_displays_alone(self):
+        """They are shown, and stay."""
+        out = self.session("display r1", "display nope", "display r2", "display", "info display")
+        self.assertIn("(mm) display\nr1 = 0   (0x0)\nr2 = 0   (0x0)\n(mm) info display\n  1  r1\n  2  r2\n", out)
 
     def test_an_interrupt_stops_where_the_run_is(self):
         """By a point whose condition is interrupted at its thousandth look."""

@@ -1,13 +1,13 @@
 """`mm why` and its picture: each rule in words, by a text made by hand, and the answers of the program."""
 
 import unittest
-from dataclasses import replace
 from xml.etree import ElementTree
 
 from mm.machine.program import find_program
 from mm.names.symbols import Region, Symbols
 from mm.pictures import why
 from mm.pictures.why import arrows_of
+from mm.records import replace
 from mm.status import Status
 from mm.tests.support import mm, needs_why, path_of
 from mm.views.derivation import REASONS, DerivationView, answer

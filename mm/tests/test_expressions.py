@@ -136,6 +136,55 @@ class Expressions(unittest.TestCase):
         self.assertIn("`nope`", said[5])
 
 
+# Labels that have names of registers: of code, of data, and one of a number that no register has.
+LABELS = """.segment a 6
+  ldi r3, -77
+r2: nop
+r3: nop
+  halt
+.segment d 4
+r4: .int 7
+r16: .int 8
+.thread 0 0 none xu a
+.reg 1 ptr rw d
+"""
+
+
+@needs_program
+class Labels(unittest.TestCase):
+    """A register comes before a label of its name, but where a place of the code is meant."""
+
+    def answers_of(self, *lines):
+        with folder() as room:
+            ended = mm("debug", write(room, "l.asm", LABELS), lines="\n".join(lines) + "\n")
+        self.assertEqual((ended.status, ended.err), (0, ""))
+        return [said for _, said in answers(ended)]
+
+    def test_values(self):
+        said = self.answers_of("step", "p r3", "p $r3", "p &r3", "p *&r4", "p r4", "p r3 + 1", "p r16", "p/x r3", "x r4", "x &r4", "p r1", "p r17")
+        self.assertEqual(said[1], "r3 = -77   (0xffffffffffffffb3)\n`r3` is the register; the label of this name is `&r3`, and its word `*&r3`")
+        self.assertEqual(said[2], "$r3 = -77   (0xffffffffffffffb3)")
+        self.assertEqual(said[3], "&r3 = 1048592 0x100010")
+        self.assertEqual(said[4], "*&r4 = 7   (0x7)")
+        self.assertEqual(said[5].splitlines()[0], "r4 = 0   (0x0)")
+        self.assertEqual(said[6], "r3 + 1 = -76   (0xffffffffffffffb4)")
+        self.assertEqual(said[7], "r16 = 8   (0x8)")
+        self.assertIn("r3 = 0xffffffffffffffb3\n`r3` is the register", said[8])
+        self.assertEqual(said[9], "r4 is no pointer: it is 0; the label is `&r4`")
+        self.assertIn("7", said[10])
+        self.assertNotIn("is the register", said[11])
+        self.assertIn("there is no register r17", said[12])
+
+    def test_places_and_conditions(self):
+        said = self.answers_of("b r3 if r3 == -77", "c", "b r2", "run", "watch &r4", "watch r4")
+        self.assertIn("1: break at r3 if r3 == -77, ", said[0])
+        self.assertIn("break 1: r3\n", said[1])
+        self.assertIn("slot 0 is at r3", said[1])
+        self.assertIn("break 2: r2\n", said[3])
+        self.assertIn("watch &r4, now 7", said[4])
+        self.assertIn("the label is `&r4`", said[5])
+
+
 @needs_program
 class Commands(unittest.TestCase):
     """Lines that are carried out after a stop."""
@@ -181,6 +230,13 @@ class Commands(unittest.TestCase):
         self.assertIn("there is no break or watch that lines could be carried out at", out)
         self.assertIn("nothing is changed\n(mm) p 2\n2 = 2 ", out)
         self.assertNotIn("       p 1", out)
+
+    def test_lines_that_would_begin_again(self):
+        for word in ("run", "r"):
+            out = self.out("b door", "commands", "p r2", word, "end", "c", "info b")
+            self.assertIn("no `run` among them", out)
+            self.assertNotIn("r2 =", out)
+            self.assertIn("break 1: door", out)
 
     def test_an_end_that_is_missing(self):
         self.assertIn("1: break door, then 1 line", self.out("b door", "commands", "p r2"))

@@ -48,6 +48,7 @@ def shell(line, room):
 class Shown(unittest.TestCase):
     def test_control_bytes_are_shown(self):
         self.assertEqual(visible("a\033]0;x\007b\tc\u202ed\x9b"), "a<U+001B>]0;x<U+0007>b\tc<U+202E>d<U+009B>")
+        self.assertEqual(visible("a\nb\r\udcff\u00ff"), "a<U+000A>b<U+000D>\\xff\u00ff")
         self.assertEqual(shown("\033[1mx\033[0m"), "<U+001B>[1mx<U+001B>[0m")
         self.assertEqual(shown("\033[1mx\033[0m\033[2J", True), "\033[1mx\033[0m<U+001B>[2J")
         style = Style(True)
@@ -61,7 +62,8 @@ class Shown(unittest.TestCase):
             self.assertIn("out r1 <U+001B>]0;x<U+0007>", ended.err)
             listed = mm("debug", write(room, "q.asm", GOOD.replace("65", "65 ; \033[2J")), lines="list\nquit\n").out
             self.assertIn("; <U+001B>[2J", listed)
-            self.assertIn("\\r".replace("\\r", "<U+000D>.asm"), mm("run", os.path.join(room, "no\r.asm")).err)
+            self.assertIn("no<U+000A><U+000D>\\xff.asm: error:", mm("run", os.path.join(room, "no\n\r\udcff.asm")).err)
+            self.assertIn("a<U+000A>b\\xff.asm:4: halt", mm("run", write(room, "a\nb\udcff.asm", GOOD)).out)
 
 
 @needs_program
@@ -324,6 +326,17 @@ class Outputs(unittest.TestCase):
         finally:
             for number, handler in before.items():
                 signal.signal(number, handler)
+
+    def test_a_signal_between_two_steps(self):
+        """It is the end of the command too where nothing is begun yet, and where all is done."""
+        class Numbers(dict):
+            def __iter__(self):
+                raise Ended(signal.SIGTERM)
+
+        for given in ({"side_effect": Ended(signal.SIGTERM)}, {"return_value": Numbers()}):
+            with mock.patch("mm.main._catch_signals", **given), mock.patch("mm.console.Console.close") as close:
+                self.assertEqual(mm("help").status, 128 + signal.SIGTERM)
+            close.assert_called()
 
     def started(self, path):
         for _ in range(200):

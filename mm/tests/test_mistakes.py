@@ -119,6 +119,7 @@ class Files(unittest.TestCase):
             ("0, 1", "no commas"),
             ("07", "no leading zero: 7"),
             ("s1", "write only the number of a slot: 1"),
+            ("\u0661", "`\u0661` is no item of a schedule"),
         ):
             err = self.refused(2, "run", "examples/counter.asm", "--turns", text)
             self.assertIn("--turns:1:", err)
@@ -181,6 +182,16 @@ class Files(unittest.TestCase):
             three = write(room, "three.asm", ".segment data 4\n .int 1\n")
             self.assertIn("two segments have the name `data`", self.refused(2, "run", two, three))
             self.assertIn(f"{two} is given twice", self.refused(2, "run", two, two))
+
+    def test_of_two_files_that_one_is_named_whose_slot_is_meant(self):
+        with folder() as room:
+            one = write(room, "one.asm", ".segment one 4\n halt\n.thread 0 0 none xu one\n")
+            two = write(room, "two.asm", ".segment two 4\n halt\n.thread 3 1 0 xu two\n")
+            for words in (("solo", one, two, "1"), ("extract", one, two, "1")):
+                self.assertIn(f"{two}: error: slot 3 has its handler in a group", self.refused(2, *words))
+            self.assertIn(f"{two}: error: slot 3 runs by a pointer", self.refused(2, "sweep", one, two, "two"))
+            self.assertIn(f"{one}: error: slot 0 runs by a pointer", self.refused(2, "sweep", one, two, "one"))
+            self.assertIn(f"{one}, {two}: error: no slot is of one", self.refused(2, "extract", one, two, "9"))
 
     def test_groups_and_ranges(self):
         self.assertIn("no slot is of one of these groups", self.refused(2, "extract", "examples/hello.asm", "5"))

@@ -25,6 +25,7 @@ ROWS = [
     (2, code("jmp r1"), "r1 is rw 2^4 box", "a jump needs a pointer that executes"),
     (2, code("leai r7, r4, 8"), "r4 is key 2^4 box", "cannot be moved"),
     (3, code("ld r7, r1, 16, any, keep"), "the access is at lone", "it reaches all 16 bytes of box, and no further"),
+    (3, code("ldi r6, 2", "subseg r7, r1, r6", "ld r8, r7, 0, any, keep"), "the access is to the 8 bytes from box on", "it reaches 4 bytes from box on, and no further"),
     (3, code("leai r7, r1, 16"), "+16 bytes would lead to lone", "not even just past its end"),
     (3, code("leab r7, r1, r5", "leab r7, r1, r5", "ldi r5, -8", "leab r7, r1, r5"), "-8 bytes from its base", "no pointer points outside"),
     (3, code("subseg r7, r1, r5"), "2^9 bytes is not shorter than its 2^4", ""),

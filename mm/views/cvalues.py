@@ -3,13 +3,13 @@
 from __future__ import annotations
 
 import re
-from dataclasses import dataclass
 from typing import Iterator, Optional
 
 from mm.machine.words import WORD_MASK, Permission, Pointer, Word
 from mm.names.clines import CFrame, CNotes, CVariable
 from mm.names.ctypes import CField, CType, CTypes
 from mm.outputs.report import SlotState
+from mm.records import dataclass
 from mm.views.cview import CView
 from mm.views.spell import Memory, Speller, bytes_as_text, integer
 
@@ -64,7 +64,7 @@ class CValues:
             theirs = (each.name for _, each in frame.function.variables if each.inner == inner)
             if thing is not None or name in theirs:
                 return thing, whose
-        return self.global_(name), None
+        return self.global_(name) or self.constant(name), None
 
     @staticmethod
     def objects(frame: CFrame, inner: int) -> Iterator[tuple[str, CThing]]:
@@ -95,7 +95,7 @@ class CValues:
         here = self.slot.ip.pointer
         own = self.speller.symbols.region(here.address) if here else None
         for region in self.speller.symbols.regions:
-            made = self.speller.symbols.c_global(region)
+            made = self.speller.symbols.c_named(region)
             if made is not None and own and region.source is own.source and region.source and region.source.notes:
                 yield made.name, CThing(region.source.notes.types, made.type, region.base + made.at)
 
@@ -109,9 +109,19 @@ class CValues:
         own = self.speller.symbols.region(here.address) if here else None
         regions = sorted(self.speller.symbols.regions, key=lambda region: not own or region.source is not own.source)
         for region in regions:
-            made = self.speller.symbols.c_global(region)
+            made = self.speller.symbols.c_named(region)
             if made is not None and made.name == name and region.source and region.source.notes:
                 return CThing(region.source.notes.types, made.type, region.base + made.at)
+        return None
+
+    def constant(self, name: str) -> Optional[CThing]:
+        """A constant of an enumeration of the program that runs here."""
+        here = self.slot.ip.pointer
+        notes = self.speller.symbols.c_notes(here.address) if here else None
+        for number, kind in notes[0].types.types.items() if notes else ():
+            for value, constant in kind.values.items():
+                if constant == name:
+                    return CThing(notes[0].types, number, value=Word(value & WORD_MASK)) if notes else None
         return None
 
     def locals(self) -> Iterator[tuple[str, CThing]]:

@@ -3,8 +3,9 @@
 from __future__ import annotations
 
 import os
-from dataclasses import dataclass
 from typing import TextIO
+
+from mm.records import dataclass
 
 
 @dataclass(frozen=True)

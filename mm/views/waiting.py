@@ -2,7 +2,6 @@
 
 from __future__ import annotations
 
-from dataclasses import dataclass
 from typing import Callable, Iterable, Iterator, Optional
 
 from mm.formats.image import Image
@@ -10,6 +9,7 @@ from mm.machine.isa import Instruction
 from mm.machine.words import Word
 from mm.outputs.report import Report, SlotState
 from mm.outputs.trace import Turn
+from mm.records import dataclass
 from mm.views.spell import Memory, Speller
 
 ENOUGH = 2

@@ -142,8 +142,9 @@ def _bounds(at: Refusal) -> list[str]:
             f"the thread runs by {at.speller.pointer(at.ip)}, which reaches {at.reach(at.ip)}",
         ]
     if at.is_access and at.pointer:
+        where = f"to the 8 bytes from {show(at.address)} on" if at.pointer.covers(at.address) else f"at {show(at.address)}"
         return [
-            f"{at.spelled('ra')}, and the access is at {show(at.address)}",
+            f"{at.spelled('ra')}, and the access is {where}",
             f"it reaches {at.reach(at.pointer)}, and no further",
         ]
     if at.name in ("lea", "leai", "leab") and at.pointer:

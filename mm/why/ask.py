@@ -2,13 +2,13 @@
 
 from __future__ import annotations
 
-from dataclasses import dataclass
 from typing import Optional
 
 from mm.machine.words import ADDRESS_LIMIT, WORD_BYTES
 from mm.names.expressions import NoAddress, address_of
 from mm.names.numbers import number_of
 from mm.names.symbols import Symbols
+from mm.records import dataclass
 from mm.status import usage
 from mm.why.check import KINDS
 from mm.words import MOST_GROUP

@@ -3,9 +3,9 @@
 from __future__ import annotations
 
 import re
-from dataclasses import dataclass
 
 from mm.machine.words import Pointer
+from mm.records import dataclass
 
 # No number of a derivation has more digits.
 NUMBER = r"(0|[1-9][0-9]{0,19})"

@@ -2,11 +2,11 @@
 
 from __future__ import annotations
 
-from dataclasses import dataclass
 
 from mm.formats.image import PAGE_BYTES, Image, Slot, image_bytes, page_of
 from mm.lockstep.dice import Dice
 from mm.machine.words import WORD_BYTES, Cell, Permission, Pointer, Word
+from mm.records import dataclass
 
 FIRST_PAGE, PAGES = 0x100, 2
 REGISTERS = 16

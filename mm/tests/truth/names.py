@@ -17,6 +17,8 @@ class Names:
         self.segments: dict[str, tuple[int, int, int]] = {}
         self.labels: dict[str, tuple[int, int]] = {}
         self.lines: dict[int, int] = {}
+        # How many bytes each name covers: a label those up to the next one, or to the end of the words.
+        self.lengths: dict[str, int] = {}
         made: list[dict[str, Any]] = []
         for at, line in enumerate((source or "").split("\n"), 1):
             code = line.split(";")[0]
@@ -36,6 +38,10 @@ class Names:
             self.segments[segment["name"]] = (base, segment["log"], segment["line"])
             self.labels.update({name: (base + 8 * place, line) for name, place, line in segment["labels"]})
             self.lines.update({base + 8 * place: line for place, line in enumerate(segment["lines"])})
+            placed = sorted((place, line, name) for name, place, line in segment["labels"])
+            ends = [*(place for place, _, _ in placed[1:]), len(segment["lines"])]
+            self.lengths.update({name: 8 * max(1, end - place) for (place, _, name), end in zip(placed, ends)})
+            self.lengths[segment["name"]] = 1 << segment["log"]
             base += 1 << segment["log"]
 
     def address(self, text: str) -> Optional[int]:

@@ -162,6 +162,8 @@ def symbols(case: Case, form: Any, out: str) -> None:
     wanted += [(address, name, "label", line) for name, (address, line) in names.labels.items() if names.has(address)]
     told = [(int(each["address"], 16), each["name"], each["kind"], each["source"]["line"]) for each in form["symbols"]]
     case.check("symbols", sorted(told) == sorted(wanted), (told, wanted))
+    lengths = {each["name"]: each["length"] for each in form["symbols"]}
+    case.check("symbols lengths", lengths == {name: names.lengths[name] for _, name, _, _ in wanted}, (lengths, names.lengths))
     rows = [line.split() for line in out.splitlines()[1:]]
     shown = sorted((int(row[0], 16), row[3]) for row in rows)
     case.check("symbols text", shown == sorted((address, name) for address, name, _, _ in wanted), (out, wanted))

@@ -23,6 +23,8 @@ LINES = [
     ("map r{any}, r6", 4), ("unmap r{any}, r6", 4), ("map r{any}, r11", 2), ("unmap r{any}, r11", 3),
     ("trap {number}", 1), ("self r{any}", 1), ("isptr r{any}, r{pointer}", 1), ("halt", 1), (".int {number}", 1),
 ]
+# How many words full code has. No instruction of the table makes more than three.
+FULL, FULL_LOG = 16, 7
 HANDLER = "again: evt r4\n resume r5, {how}\n br again"
 
 
@@ -43,9 +45,10 @@ class Program:
 
 @dataclass
 class Writer:
-    """Writes a random source."""
+    """Writes a random source. `full` has code up to the last word of its segment, so that threads run past the end."""
 
     dice: Dice
+    full: bool = False
     lines: list[str] = field(default_factory=list)
 
     def instruction(self, labels: list[str], words: int) -> str:
@@ -62,7 +65,16 @@ class Writer:
                 found = found.replace(f"{{{name}}}", str(choose()), 1)
         return found
 
+    def full_code(self, slot: int) -> None:
+        labels = [f"s{slot}l0"]
+        made = [self.instruction(labels, FULL) for _ in range(self.dice.between(1, 4))]
+        words = "\n".join(made).count("\n") + 1
+        self.lines += [f".segment code{slot} {FULL_LOG}", f"{labels[0]}: {made[0]}", *(f" {each}" for each in made[1:])]
+        self.lines += [" nop"] * (FULL - words)
+
     def code(self, slot: int) -> None:
+        if self.full:
+            return self.full_code(slot)
         dice, count = self.dice, self.dice.between(5, 18)
         log = 12 if dice.chance(30) else 8 if count < 10 else 9
         labels = [f"s{slot}l{place}" for place in range(0, count, 3)]
@@ -115,7 +127,7 @@ def program_of(seed: int, number: int) -> Program:
     """The program of a number: three of five are sources."""
     dice = Dice(f"truth {seed} {number}")
     if number % 5 < 3:
-        source, split = Writer(dice).text(), dice.chance(25)
+        source, split = Writer(dice, full=number % 5 == 1).text(), dice.chance(25)
         slots = list(range(source.count("\n.thread ")))
         items = items_for(dice, slots, split) if dice.chance(45) else None
         return Program(f"{seed}-{number}", source, None, split, items)

@@ -238,6 +238,9 @@ class Case:
         wanted = turn.access if turn.outcome != ["blocked"] else None
         found = access and (access[1], self.names.address(access[2]))
         check("row access", found == (wanted and (KINDS[wanted[0]], wanted[1])), (row, turn.line))
+        enters = re.search(r"(?:^|; )enters (\S+ 2\^\d+ \S+)$", did)
+        right = self.names.is_word(enters[1], turn.enters) if enters and turn.enters else not enters and not turn.enters
+        check("row enters", right, (row, turn.line))
         if turn.access and turn.outcome == ["blocked"]:
             waits = re.match(rf"waits for {PLACE}", did)
             check("row waits", waits and self.names.address(waits[1]) == turn.access[1], (row, turn.line))
