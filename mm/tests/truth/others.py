@@ -79,6 +79,11 @@ def audit_text(case: Case, out: str, text: str) -> None:
             case.check("audit handler", f"slot {words[3]} and its handler" in said[2], (words, said[2]))
 
 
+NUMBER = re.compile(r"[0-9a-f]{14}|\d+")
+# In what order the numbers of some rules of a derivation are told.
+ORDERS = {"register": (1, 0), "passed": (1, 0, 2, 3), "served": (1, 0)}
+
+
 def why_text(case: Case, out: str, text: str, group: int, address: int, kind: str) -> None:
     """A derivation in words: its first line, and of each line the number, the group, the pointer and the numbers of the rule."""
     lines = out.splitlines()
@@ -93,10 +98,21 @@ def why_text(case: Case, out: str, text: str, group: int, address: int, kind: st
         said = re.match(r" +(\d+)  group (\d+) +((?:ro|rw|xu|xp|eu|ep|key) 2\^\d+ \S+) +(.*)$", line)
         right = said and (said[1], said[2]) == (words[0], words[2]) and case.names.is_word(said[3], words[3])
         case.check("why line", right, (line, row))
-        wanted = {int(each, 16) if len(each) == 14 else int(each) for each in words[5:] if re.fullmatch(r"[0-9a-f]{14}|\d+", each)}
-        places = {case.names.address(each) for each in re.findall(PLACE, said[4] if said else "")}
-        numbers = set(map(int, re.findall(r"(?<![\w+])r?(\d+)", said[4] if said else "")))
-        case.check("why rule", wanted <= places | numbers, (line, row))
+        case.check("why rule", said and numbers_in(case, said[4]) == numbers_of(words, rows), (line, row))
+
+
+def numbers_of(words: list[str], rows: list[str]) -> list[int]:
+    """The numbers of a rule in the order in which it is told, after the group of the line that gives."""
+    numbers = [int(each, 16) if len(each) == 14 else int(each) for each in words[5:] if NUMBER.fullmatch(each)]
+    giver = [int(rows[numbers[1] - 1].split()[2])] if words[4] in ("passed", "served") else []
+    return giver + [numbers[at] for at in ORDERS.get(words[4], range(len(numbers)))]
+
+
+def numbers_in(case: Case, text: str) -> list[int]:
+    """The numbers, registers and places of a text."""
+    found = [case.names.address(each) if not re.fullmatch(r"r?\d+", each) else int(each.lstrip("r"))
+             for each in re.findall(r"\w+(?:\+\d+)?", text)]
+    return [each for each in found if each is not None]
 
 
 def explore_text(case: Case, out: str, text: str) -> None:
