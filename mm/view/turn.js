@@ -91,7 +91,7 @@ function showTurn(place, before, now) {
   pane.replaceChildren(...[
     el("h2", { id: "turn-title" }, title),
     el("p", { class: "what" }, el("code", {}, turnText(turn, before))),
-    el("p", { class: "where" }, el("span", { class: "swatch", style: `--tint:var(--tint-${code.tint})`,
+    el("p", { class: "where" }, el("span", { class: `swatch ${code.kind}`, style: `--tint:var(--tint-${code.tint})`,
       "aria-hidden": "true" }), `in ${codeText(code)}, `, placeText(turn)),
     ofC ? el("p", { class: "where" }, cText(ofC)) : null,
     turn.fault ? el("div", { class: "fault" },
