@@ -61,7 +61,8 @@ class Client {
     this.found = vscode.languages.createDiagnosticCollection("mm");
     this.things = [this.found];
     this.process = spawn(program, ["lsp"], { stdio: ["pipe", "pipe", "ignore"] });
-    this.process.on("error", (error) => this.over(`mm lsp cannot be started: ${error.message}. The setting mmachine.mm says where mm is.`));
+    this.process.on("error", (error) =>
+      this.over(`mm lsp cannot be started: ${error.message}. The setting mmachine.mm says where mm is.`));
     this.process.on("exit", () => this.over());
     this.process.stdin.on("error", () => this.over());
     const frames = new Frames((form) => this.take(form));
@@ -110,7 +111,8 @@ class Client {
   }
 
   at(document, position) {
-    return { textDocument: { uri: document.uri.toString() }, position: { line: position.line, character: position.character } };
+    return { textDocument: { uri: document.uri.toString() }, position: { line: position.line,
+      character: position.character } };
   }
 
   async start() {
@@ -122,8 +124,10 @@ class Client {
       uri: document.uri.toString(), languageId: LANGUAGE, version: document.version, text: document.getText() } } });
     this.things.push(
       workspace.onDidOpenTextDocument(open),
-      workspace.onDidChangeTextDocument(({ document }) => ours(document) && this.send({ method: "textDocument/didChange",
-        params: { textDocument: { uri: document.uri.toString(), version: document.version }, contentChanges: [{ text: document.getText() }] } })),
+      workspace.onDidChangeTextDocument(({ document }) => ours(document)
+        && this.send({ method: "textDocument/didChange",
+        params: { textDocument: { uri: document.uri.toString(), version: document.version },
+          contentChanges: [{ text: document.getText() }] } })),
       workspace.onDidCloseTextDocument((document) => ours(document) && this.send({ method: "textDocument/didClose",
         params: { textDocument: { uri: document.uri.toString() } } })),
       languages.registerHoverProvider(selector, { provideHover: async (document, position) => {
@@ -137,7 +141,8 @@ class Client {
       languages.registerReferenceProvider(selector, { provideReferences: async (document, position) =>
         ((await this.ask("textDocument/references", this.at(document, position))) || []).map(locationOf) }),
       languages.registerDocumentSymbolProvider(selector, { provideDocumentSymbols: async (document) =>
-        ((await this.ask("textDocument/documentSymbol", { textDocument: { uri: document.uri.toString() } })) || []).map(symbolOf) }),
+        ((await this.ask("textDocument/documentSymbol", { textDocument: { uri: document.uri.toString() } }))
+          || []).map(symbolOf) }),
       languages.registerCompletionItemProvider(selector, { provideCompletionItems: async (document, position) =>
         ((await this.ask("textDocument/completion", this.at(document, position))) || []).map(itemOf) }, "."),
     );

@@ -59,8 +59,8 @@ function cyclesAsked() {
   return said && Number.isInteger(number) && number >= 0 ? number : null;
 }
 
-// Runs the sources, and shows the run where it is looked at; `place` is where the cursor goes, or where it was.
-async function run(place = null, cycles = cyclesAsked()) {
+// Runs the sources, and shows the run; `place` is where the cursor goes.
+async function run(place = "end", cycles = cyclesAsked()) {
   const number = ++asking.number;
   busy("runs …");
   const answer = await ask("run", { cycles });

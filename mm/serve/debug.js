@@ -1,16 +1,15 @@
-// The run in its frame, which is the page that `mm view` makes; and the debugger, which moves the cursor of that page. What
-// a turn did was written by the program: nothing is worked out here.
+// The run in its frame, which is the page that `mm view` makes; and the debugger, which moves the cursor of that page.
+// What a turn did was written by the program: nothing is worked out here.
 
 const frame = () => byId("frame");
-const view = { ready: false, size: 0,
+const view = { ready: false, stale: false, size: 0,
   // The frame measures itself when it is shown.
   draw() { if (frame().contentWindow.layOut) frame().contentWindow.layOut(); } };
 const inFrame = () => frame().contentWindow;
 
-// Puts a page into the frame, and its cursor to a place, or to where it was in the run before.
+// Puts a page into the frame, and its cursor to the end of the run or to a place.
 async function showView(page, place) {
-  const before = view.ready ? inFrame().shown.cursor.place : 0;
-  view.ready = false;
+  view.ready = view.stale = false;
   frame().hidden = results.pane !== "view";
   byId("pane").hidden = results.pane === "view";
   await new Promise((done) => {
@@ -28,7 +27,7 @@ async function showView(page, place) {
     const line = event.target.closest("#lines li[data-line]");
     if (line) moved();
   });
-  inside.goTo(place === "end" ? TURNS.length : Math.min(before, TURNS.length));
+  inside.goTo(place === "end" ? TURNS.length : place);
   moved();
 }
 
@@ -42,7 +41,7 @@ const ipOf = (slot) => Number(BigInt(`0x${slot.ip.slice(1)}`) & ((1n << 54n) - 1
 
 // The line of the turn at the cursor, and the lines at which slots stand.
 function moved() {
-  if (!view.ready) return;
+  if (!view.ready || view.stale) return;
   const { TURNS, cursor, machineAt } = inFrame().shown, { place } = cursor, stands = new Map();
   const turn = place ? TURNS[place - 1] : null;
   for (const slot of machineAt(place).slots.values()) {
@@ -56,8 +55,8 @@ function moved() {
   if (state.now && state.now.file === file().name) reveal(state.now.line);
 }
 
-// Whether a turn is one at which the run stops: of a line with a break, or one that faults. A slot that waits at its line
-// meets a break once.
+// Whether a turn is one at which the run stops: of a line with a break, or one that faults. A slot that waits at its
+// line meets a break once.
 function stops(at) {
   const { TURNS } = inFrame().shown, turn = TURNS[at - 1];
   if (turn.fault) return true;
@@ -96,10 +95,10 @@ const STEPS = {
   here: () => search(1, ofCaret),
 };
 
-// Moves the run; one that was not run yet is run first.
+// Moves the run; sources that were not run yet as they are now are run first.
 async function step(name) {
-  if (!view.ready || state.now === undefined) await run();
-  if (!view.ready) return;
+  if (!view.ready || view.stale) await run(0);
+  if (!view.ready || view.stale) return;
   if (results.pane !== "view") choosePane("view");
   inFrame().goTo(STEPS[name]());
   if (name === "here" || name === "resume" || name === "reverse") showSide("right");
@@ -107,7 +106,8 @@ async function step(name) {
 
 // The order of turns: a click on a slot gives it the next turn, and runs the program so far.
 function showTurns() {
-  byId("next-turn").replaceChildren("next turn: ", ...state.slots.map((slot) => el("button", { type: "button", "data-slot": slot },
+  byId("next-turn").replaceChildren("next turn: ", ...state.slots.map((slot) => el("button", { type: "button",
+    "data-slot": slot },
     `slot ${slot}`)));
   if (document.activeElement !== byId("turns")) byId("turns").value = state.turns;
   const count = itemsOf(state.turns).length;

@@ -1,9 +1,13 @@
-// The editor: a text field, and below it the same text in colours, with mistakes, breaks and the line where the run stands.
+// The editor: a text field, and below it the same text in colours, with mistakes, breaks and the line where the run
+// stands.
 
 const TOKEN = /(;.*)|(\.[A-Za-z_]\w*)|([A-Za-z_]\w*)(\s*:(?!:))?|(-?(?:0x[0-9A-Fa-f]+|[0-9]+)\b)|([ \t]+)|([,:+])|(.)/g;
-const C_TOKEN = /(\/\/.*|\/\*.*?\*\/)|("(?:\\.|[^"\\])*"?|'(?:\\.|[^'\\])*'?)|([A-Za-z_]\w*)|(\b(?:0[xX][0-9A-Fa-f]+|[0-9]+)\b)|([^"'/\w]+|.)/g;
-const C_WORDS = new Set(("auto break case char const continue default do double else enum extern float for goto if inline int long"
-  + " register return short signed sizeof static struct switch typedef union unsigned void volatile while").split(" "));
+const C_PARTS = [/(\/\/.*|\/\*.*?\*\/)/, /("(?:\\.|[^"\\])*"?|'(?:\\.|[^'\\])*'?)/, /([A-Za-z_]\w*)/,
+  /(\b(?:0[xX][0-9A-Fa-f]+|[0-9]+)\b)/, /([^"'/\w]+|.)/];
+const C_TOKEN = new RegExp(C_PARTS.map(({ source }) => source).join("|"), "g");
+const C_WORDS = new Set(("auto break case char const continue default do double else enum extern float for goto if"
+  + " inline int long register return short signed sizeof static struct switch typedef union unsigned void volatile"
+  + " while").split(" "));
 const WORD = /[.]?[A-Za-z_]\w*$/, REST = /^\w*/;
 const inC = (name) => name.endsWith(".c");
 
@@ -31,7 +35,8 @@ function inkOf(line, names) {
     else if (directive) kind = directives[directive] ? "dir" : "bad";
     else if (name && colon !== undefined) kind = "lab";
     else if (name && head) kind = Object.hasOwn(operations, name) ? "op" : "bad";
-    else if (name) kind = names.has(name) ? "use" : Object.hasOwn(permissions, name) || choices.includes(name) ? "dir" : "";
+    else if (name) kind = names.has(name) ? "use" : Object.hasOwn(permissions, name) || choices.includes(name) ? "dir"
+      : "";
     else if (number) kind = "num";
     else if (other) kind = "bad";
     if ((name && colon === undefined) || (directive && directive !== ".empty")) head = false;
@@ -42,7 +47,8 @@ function inkOf(line, names) {
 
 function inkOfC(line) {
   return [...line.matchAll(C_TOKEN)].map(([text, comment, string, name, number]) => spanOf(
-    comment || line.trimStart().startsWith("#") ? "com" : string ? "dir" : name && C_WORDS.has(name) ? "op" : number ? "num" : "", text));
+    comment || line.trimStart().startsWith("#") ? "com" : string ? "dir" : name && C_WORDS.has(name) ? "op" : number
+      ? "num" : "", text));
 }
 
 const ink = { lines: [], names: "", c: false };
@@ -68,7 +74,8 @@ function showGutter() {
   while (gutter.children.length > count) gutter.lastChild.remove();
   while (gutter.children.length < count) {
     const line = gutter.children.length + 1;
-    gutter.append(el("button", { type: "button", tabindex: -1, "data-line": line }, el("span", { class: "stands" }), `${line}`));
+    gutter.append(el("button", { type: "button", tabindex: -1, "data-line": line }, el("span", { class: "stands" }),
+      `${line}`));
   }
   [...gutter.children].forEach((button, at) => {
     const line = at + 1, isBreak = breaks.has(line);
@@ -108,17 +115,23 @@ const caretLine = () => linesOf(byId("text").value.slice(0, byId("text").selecti
 
 // Mistakes below their text, what is said of them beside and below it, and where the run stands.
 function showMarks() {
-  const here = caretLine(), under = [], over = [], lines = ink.lines, top = (line) => `calc(.3rem + ${line - 1} * var(--line))`;
-  if (state.now && state.now.file === file().name) under.push(el("div", { class: "now", style: `top:${top(state.now.line)}` }));
+  const here = caretLine(), under = [], over = [], lines = ink.lines, top = (line) =>
+    `calc(.3rem + ${line - 1} * var(--line))`;
+  if (state.now && state.now.file === file().name) under.push(el("div", { class: "now",
+    style: `top:${top(state.now.line)}` }));
   for (const fault of state.faults.filter((each) => each.file === file().name)) {
-    const line = lines[fault.line - 1] || "", from = columnIn(line, fault.from), to = Math.max(from + 1, columnIn(line, fault.to));
-    under.push(el("div", { class: "wrong", style: `top:${top(fault.line)};left:calc(.6ch + ${from}ch);width:${to - from}ch` }));
+    const line = lines[fault.line - 1] || "", from = columnIn(line, fault.from), to = Math.max(from + 1, columnIn(line,
+      fault.to));
+    under.push(el("div", { class: "wrong",
+      style: `top:${top(fault.line)};left:calc(.6ch + ${from}ch);width:${to - from}ch` }));
     if (fault.line === here && document.activeElement === byId("text")) {
-      over.push(el("div", { class: "said", style: `top:${top(fault.line + 1)};left:calc(.6ch + ${Math.min(from, 24)}ch)` },
+      over.push(el("div", { class: "said",
+        style: `top:${top(fault.line + 1)};left:calc(.6ch + ${Math.min(from, 24)}ch)` },
         fault.message, fault.hints.map((hint) => el("div", {}, `→ ${hint}`))));
     } else {
       const end = columnIn(line, line.length) + 2;
-      over.push(el("div", { class: "short", style: `top:${top(fault.line)};left:calc(.6ch + ${end}ch)` }, fault.message));
+      over.push(el("div", { class: "short", style: `top:${top(fault.line)};left:calc(.6ch + ${end}ch)` },
+        fault.message));
     }
   }
   byId("under").replaceChildren(...under);
@@ -128,7 +141,8 @@ function showMarks() {
 function showMistakes() {
   byId("mistakes").replaceChildren(...state.faults.map((fault) => el("li", {},
     el("button", { type: "button", "data-file": fault.file, "data-line": fault.line, "data-letter": fault.from },
-      `${fault.file}:${fault.line}: ${fault.message}`, fault.hints.map((hint) => el("span", { class: "hint" }, `→ ${hint}`))))));
+      `${fault.file}:${fault.line}: ${fault.message}`, fault.hints.map((hint) => el("span", { class: "hint" },
+        `→ ${hint}`))))));
   byId("files").querySelectorAll("[role=tab]").forEach((tab, at) => {
     tab.classList.toggle("wrong", state.faults.some((fault) => fault.file === state.files[at].name));
   });
@@ -138,6 +152,7 @@ function showMistakes() {
 function fit() {
   const widest = ink.lines.reduce((most, line) => Math.max(most, columnIn(line, line.length)), 0);
   byId("paper").style.minWidth = `${widest + 4}ch`;
+  byId("text").scrollTop = byId("text").scrollLeft = 0;
 }
 
 function showText() {
@@ -164,12 +179,16 @@ function wordAt() {
 // What there is to say of the word at the caret.
 function explain() {
   if (inC(file().name)) return byId("explains").replaceChildren();
-  const { word, line } = wordAt(), { operations, directives, permissions } = about.words, comment = line.includes(";");
-  const names = allNames(), first = !/[A-Za-z_.]/.test(line.replace(/^\s*[A-Za-z_]\w*\s*:/, "").slice(0, -word.length || undefined));
+  const { begun, word, line } = wordAt(), { operations, directives, permissions } = about.words,
+    comment = line.includes(";");
+  const names = allNames(), first = !/[A-Za-z_.]/.test(line.replace(/^\s*[A-Za-z_]\w*\s*:/, "").slice(0, -begun.length
+    || undefined));
   let said = [];
-  const row = Object.hasOwn(operations, word) ? operations[word] : Object.hasOwn(directives, word) ? directives[word] : null;
+  const row = Object.hasOwn(operations, word) ? operations[word] : Object.hasOwn(directives, word) ? directives[word]
+    : null;
   if (comment || !word) said = [];
-  else if (row && (first || !names.has(word))) said = [el("code", {}, row[0]), `: ${row[1]}. For example `, el("code", {}, row[2])];
+  else if (row && (first || !names.has(word))) said = [el("code", {}, row[0]), `: ${row[1]}. For example `, el("code",
+    {}, row[2])];
   else if (names.has(word)) said = [el("code", {}, word), `: stands in line ${names.get(word)}`];
   else if (Object.hasOwn(permissions, word)) said = [el("code", {}, word), `: ${permissions[word]}`];
   byId("explains").replaceChildren(...said);
@@ -209,7 +228,8 @@ function showOffers(asked) {
   box.replaceChildren(...list.map(([name, says], at) => el("li", { role: "option", id: `offer-${at}`, "data-at": at,
     "aria-selected": `${at === offered.at}` }, el("b", {}, name), el("span", {}, says))));
   box.hidden = false;
-  const left = field.left + (columnIn(line, line.length - begun.length) + .6) * wide, top = field.top + caretLine() * high;
+  const left = field.left + (columnIn(line, line.length - begun.length) + .6) * wide, top = field.top
+    + caretLine() * high;
   box.style.left = `${Math.max(4, Math.min(left, innerWidth - box.offsetWidth - 4))}px`;
   box.style.top = `${top + box.offsetHeight < innerHeight ? top : top - high - box.offsetHeight}px`;
 }
@@ -261,7 +281,8 @@ function onEditorKey(event) {
     return hideOffers();
   }
   if (event.key === "Enter" && !event.shiftKey) {
-    const before = field.value.slice(0, field.selectionStart), set = /^[ \t]*/.exec(before.slice(before.lastIndexOf("\n") + 1))[0];
+    const before = field.value.slice(0, field.selectionStart),
+      set = /^[ \t]*/.exec(before.slice(before.lastIndexOf("\n") + 1))[0];
     event.preventDefault();
     insert(`\n${set}`);
   }
@@ -286,6 +307,8 @@ function edited() {
   state.faults = state.faults.filter((fault) => fault.file !== file().name
     || linesOf(after)[fault.line - 1] === linesOf(before)[fault.line - 1]);
   state.now = state.stands = null;
+  view.stale = true;
+  results.stale = new Set(Object.keys(results.panes));
   keep();
   showInk();
   showMistakes();
@@ -300,7 +323,8 @@ function goToLine(name, line, letter = 0) {
   if (at < 0) return;
   if (at !== state.at) chooseFile(at);
   showSide("left");
-  const field = byId("text"), lines = linesOf(field.value), start = lines.slice(0, line - 1).reduce((sum, each) => sum + each.length + 1, 0);
+  const field = byId("text"), lines = linesOf(field.value), start = lines.slice(0, line - 1).reduce((sum, each) => sum
+    + each.length + 1, 0);
   field.focus();
   field.setSelectionRange(start + letter, start + letter);
   reveal(line);
@@ -312,7 +336,8 @@ function reveal(line) {
   const box = byId("editor"), item = byId("ink").children[line - 1];
   if (!item) return;
   const top = item.offsetTop, high = item.offsetHeight;
-  if (top < box.scrollTop + high || top > box.scrollTop + box.clientHeight - 3 * high) box.scrollTop = top - box.clientHeight / 2.5;
+  if (top < box.scrollTop + high || top > box.scrollTop
+    + box.clientHeight - 3 * high) box.scrollTop = top - box.clientHeight / 2.5;
 }
 
 function caretMoved() {

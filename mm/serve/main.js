@@ -61,8 +61,10 @@ function openDialog(title, parts) {
 }
 
 function openHelp() {
-  openDialog("Keys", [el("table", {}, el("tbody", {}, KEYS.map(([key, says]) => el("tr", {}, el("th", { scope: "row" }, el("kbd", {}, key)),
-    el("td", {}, says))))), el("p", {}, "A click on the number of a line sets a break there. The run has keys of its own: press ? there.")]);
+  openDialog("Keys", [el("table", {}, el("tbody", {}, KEYS.map(([key, says]) => el("tr", {}, el("th", { scope: "row" },
+    el("kbd", {}, key)),
+    el("td", {}, says))))), el("p", {},
+      "A click on the number of a line sets a break there. The run has keys of its own: press ? there.")]);
 }
 
 function showAll() {
@@ -73,7 +75,7 @@ function showAll() {
   byId("exercises").value = state.exercise || "";
   Object.assign(results, { report: null, panes: {}, marks: null, stale: new Set() });
   Object.assign(state, { now: null, stands: null, faults: [], slots: [] });
-  view.ready = false;
+  Object.assign(view, { ready: false, stale: false });
   frame().srcdoc = "";
   showMistakes();
   showPaneTabs();
@@ -94,8 +96,10 @@ function onTabKey(event) {
 }
 
 const CLICKS = {
-  run: () => run(), grade, open: () => byId("chosen").click(), save: saveFile, link: showLink, add: addFile, rename: renameFile,
-  remove: removeFile, smaller: () => setSize(-1), larger: () => setSize(1), keys: openHelp, "to-left": () => showSide("left"),
+  run: () => run(), grade, open: () => byId("chosen").click(), save: saveFile, link: showLink, add: addFile,
+    rename: renameFile,
+  remove: removeFile, smaller: () => setSize(-1), larger: () => setSize(1), keys: openHelp, "to-left": () =>
+    showSide("left"),
   "to-right": () => showSide("right"), "no-turns": () => setTurns(""),
   "undo-turn": () => setTurns(textOf(itemsOf(state.turns).slice(0, -1))),
 };
@@ -124,6 +128,7 @@ function onClick(event) {
 function listen() {
   const field = byId("text");
   document.addEventListener("click", onClick);
+  byId("offers").addEventListener("pointerdown", (event) => event.preventDefault());
   document.addEventListener("keydown", onKey);
   field.addEventListener("input", edited);
   field.addEventListener("keydown", onEditorKey);
@@ -133,7 +138,8 @@ function listen() {
   byId("examples").addEventListener("change", (event) => { takeExample(event.target.value); event.target.value = ""; });
   byId("lessons").addEventListener("change", (event) => { openLesson(event.target.value); event.target.value = ""; });
   byId("exercises").addEventListener("change", (event) => chooseExercise(event.target.value));
-  byId("chosen").addEventListener("change", async (event) => { await openFiles([...event.target.files]); event.target.value = ""; });
+  byId("chosen").addEventListener("change", async (event) => { await openFiles([...event.target.files]);
+    event.target.value = ""; });
   byId("level").addEventListener("change", (event) => { state.level = event.target.value; keep(); });
   byId("turns").addEventListener("change", () => setTurns(byId("turns").value.trim()));
   for (const id of ["files", "panes"]) byId(id).addEventListener("keydown", onTabKey);

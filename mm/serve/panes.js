@@ -35,14 +35,16 @@ function showPane() {
   byId("pane").replaceChildren(...(shown ? shown() : commandPane(pane)));
 }
 
-const reportPane = () => [el("pre", { tabindex: 0 }, results.report ? results.report.join("\n") : "Nothing was run yet.")];
+const reportPane = () => [el("pre", { tabindex: 0 }, results.report ? results.report.join("\n")
+  : "Nothing was run yet.")];
 
 // A pane of a command: its words if it wants some, its lines, its picture, and schedules to run.
 function commandPane(command) {
   const [, title, says, wants] = about.panes.find(([name]) => name === command), made = results.panes[command];
   const parts = [el("h3", {}, title), el("p", { class: "soft" }, `${says}, by mm ${command}`)];
   if (wants) {
-    const field = el("input", { type: "text", id: "pane-words", value: (results.words[command] || []).join(" "), spellcheck: "false",
+    const field = el("input", { type: "text", id: "pane-words", value: (results.words[command] || []).join(" "),
+      spellcheck: "false",
       placeholder: wants, "aria-label": wants });
     const form = el("form", { class: "bar" }, field, el("button", { type: "submit" }, "Ask"));
     form.addEventListener("submit", (event) => {
@@ -61,13 +63,16 @@ function commandPane(command) {
 
 function answerPane(made) {
   const parts = [];
-  if (made.faults) parts.push(el("p", {}, made.faults.length ? "There is a mistake: see the source." : (made.stopped || []).join(" ")));
+  if (made.faults) parts.push(el("p", {}, made.faults.length ? "There is a mistake: see the source." : (made.stopped
+    || []).join(" ")));
   if (made.refused) parts.push(el("p", { class: "notes" }, made.refused));
   if (made.schedules && made.schedules.length) {
     parts.push(el("ul", { class: "findings" }, made.schedules.map(([kind, number, turns, said]) => el("li", {},
-      el("button", { type: "button", "data-turns": turns }, "Run this"), ` ${kind}${number}: ${said || "nothing is put out"}`))));
+      el("button", { type: "button", "data-turns": turns }, "Run this"),
+        ` ${kind}${number}: ${said || "nothing is put out"}`))));
   }
-  if (made.picture) parts.push(el("img", { src: `data:image/svg+xml;charset=utf-8,${encodeURIComponent(made.picture)}`, alt: "A picture of the same" }));
+  if (made.picture) parts.push(el("img", { src: `data:image/svg+xml;charset=utf-8,${encodeURIComponent(made.picture)}`,
+    alt: "A picture of the same" }));
   if (made.lines) parts.push(el("pre", { tabindex: 0 }, [...made.lines, ...(made.notes || [])].join("\n")));
   return parts;
 }
@@ -76,7 +81,8 @@ async function askPane(command) {
   if (asking.pane === command) return;
   asking.pane = command;
   busy("asks …");
-  const answer = await ask(command, { words: results.words[command] || [], cycles: command === "trace" ? cyclesAsked() : null });
+  const answer = await ask(command, { words: results.words[command] || [], cycles: command === "trace" ? cyclesAsked()
+    : null });
   asking.pane = null;
   busy("");
   if (!answer) return;
@@ -90,17 +96,21 @@ function lessonPane() {
   const box = el("div", { class: "lesson" });
   box.innerHTML = results.lesson.html; // Our own page: the server has escaped all text of it.
   const { example } = results.lesson;
-  return [example ? el("p", {}, el("button", { type: "button", "data-example": example }, `Take ${example} into the editor`)) : null,
+  return [example ? el("p", {}, el("button", { type: "button", "data-example": example },
+    `Take ${example} into the editor`)) : null,
     box].filter(Boolean);
 }
 
 function exercisePane() {
-  const exercise = about.shelf.exercises.find(({ name }) => name === state.exercise), box = el("div", { class: "lesson" });
+  const exercise = about.shelf.exercises.find(({ name }) => name === state.exercise), box = el("div",
+    { class: "lesson" });
   box.innerHTML = exercise.html; // Our own page, as above.
   const { marks } = results, rows = marks ? marks.marks : exercise.asks.map((text) => [text, undefined]);
   return [el("h3", {}, exercise.title),
-    marks ? el("p", {}, el("strong", {}, `${marks.right} of ${marks.marks.length}`)) : el("p", { class: "soft" }, "This is looked at:"),
-    el("ul", { class: "marks" }, rows.map(([text, why]) => el("li", { class: why === undefined ? null : why === null ? "yes" : "no" },
+    marks ? el("p", {}, el("strong", {}, `${marks.right} of ${marks.marks.length}`)) : el("p", { class: "soft" },
+      "This is looked at:"),
+    el("ul", { class: "marks" }, rows.map(([text, why]) => el("li", { class: why === undefined ? null : why === null
+      ? "yes" : "no" },
       why === undefined ? null : el("b", {}, why === null ? "yes" : "no"), text, why ? el("div", {}, why) : null))),
     el("p", {}, el("button", { type: "button", class: "main", "data-grade": "1" }, "Grade")), box];
 }

@@ -5,10 +5,12 @@ const option = (value, text) => el("option", { value }, text);
 function fillShelf() {
   const { examples, c, lessons, exercises } = about.shelf;
   const group = (label, options) => (options.length ? el("optgroup", { label }, options) : null);
-  byId("examples").replaceChildren(option("", "Example …"), ...[group("Assembly", examples.map(({ name, title }) => option(name, `${name}: ${title}`))),
+  byId("examples").replaceChildren(option("", "Example …"), ...[group("Assembly", examples.map(({ name, title }) =>
+    option(name, `${name}: ${title}`))),
     group("C", c.map(({ name, title }) => option(name, `${name}: ${title}`)))].filter(Boolean));
   byId("lessons").replaceChildren(option("", "Lesson …"), ...lessons.map(({ number, title }) => option(number, title)));
-  byId("exercises").replaceChildren(option("", "Exercise …"), ...exercises.map(({ name, title }) => option(name, `${name}: ${title}`)));
+  byId("exercises").replaceChildren(option("", "Exercise …"), ...exercises.map(({ name, title }) => option(name,
+    `${name}: ${title}`)));
   byId("exercises").value = state.exercise || "";
   byId("lessons").hidden = !lessons.length;
   byId("exercises").hidden = !exercises.length;
@@ -43,7 +45,8 @@ function chooseExercise(name) {
 }
 
 function showTabs() {
-  byId("files").replaceChildren(...state.files.map(({ name }, at) => el("button", { type: "button", role: "tab", "data-at": at,
+  byId("files").replaceChildren(...state.files.map(({ name }, at) => el("button", { type: "button", role: "tab",
+    "data-at": at,
     "aria-selected": `${at === state.at}`, "aria-controls": "editor", tabindex: at === state.at ? 0 : -1 }, name)));
   byId("remove").disabled = state.files.length < 2;
   byId("add").disabled = state.files.length >= about.limits.sources;
@@ -69,21 +72,26 @@ function askFor(title, says, text) {
   field.value = text;
   box.showModal();
   field.select();
-  return new Promise((done) => box.addEventListener("close", () => done(box.returnValue ? field.value.trim() : null), { once: true }));
+  return new Promise((done) => box.addEventListener("close", () => done(box.returnValue ? field.value.trim() : null),
+    { once: true }));
 }
 
 // A name for a source that no other has; null where it is none.
 function nameFor(said, but = -1) {
   const name = /\.(asm|c)$/.test(said) ? said : `${said}.asm`;
-  if (!NAME.test(name)) return busy(`${name} is no name of a source: letters, digits, _ and -, and .asm or .c at its end`, true), null;
+  if (!NAME.test(name)) {
+    return busy(`${name} is no name of a source: letters, digits, _ and -, and .asm or .c at its end`, true), null;
+  }
   if (inC(name) && !about.limits.c) return busy("C is off on this server", true), null;
-  if (state.files.some((each, at) => each.name === name && at !== but)) return busy(`there is a source ${name} already`, true), null;
+  if (state.files.some((each, at) => each.name === name
+    && at !== but)) return busy(`there is a source ${name} already`, true), null;
   busy("");
   return name;
 }
 
 async function addFile() {
-  const said = await askFor("A source more", "Its name", `part${state.files.length + 1}.asm`), name = said && nameFor(said);
+  const said = await askFor("A source more", "Its name", `part${state.files.length + 1}.asm`), name = said
+    && nameFor(said);
   if (!name) return;
   state.files.push({ name, text: "" });
   chooseFile(state.files.length - 1);
@@ -108,7 +116,8 @@ function removeFile() {
 }
 
 function saveFile() {
-  const made = el("a", { href: URL.createObjectURL(new Blob([file().text], { type: "text/plain" })), download: file().name });
+  const made = el("a", { href: URL.createObjectURL(new Blob([file().text], { type: "text/plain" })),
+    download: file().name });
   made.click();
   setTimeout(() => URL.revokeObjectURL(made.href), 1000);
 }
@@ -117,7 +126,8 @@ function saveFile() {
 async function openFiles(chosen) {
   const opened = [];
   for (const each of chosen) {
-    const name = nameFor(each.name.replace(/\.txt$/, ".asm").replace(/[^A-Za-z0-9_. -]/g, "_"), state.files.findIndex((one) => one.name === each.name));
+    const name = nameFor(each.name.replace(/\.txt$/, ".asm").replace(/[^A-Za-z0-9_. -]/g, "_"),
+      state.files.findIndex((one) => one.name === each.name));
     if (!name) continue;
     if (each.size > about.limits.bytes) {
       busy(`${each.name} has ${each.size} bytes, and the limit here is ${about.limits.bytes}`, true);
@@ -138,7 +148,8 @@ async function openFiles(chosen) {
 
 async function showLink() {
   const hash = await linkOf(), long = hash.length > LONGEST_LINK;
-  const said = el("pre", { tabindex: 0 }, long ? "" : location.href.split("#")[0] + hash), copy = el("button", { type: "button" }, "Copy");
+  const said = el("pre", { tabindex: 0 }, long ? "" : location.href.split("#")[0] + hash), copy = el("button",
+    { type: "button" }, "Copy");
   copy.addEventListener("click", async () => {
     try {
       await navigator.clipboard.writeText(said.textContent);

@@ -1,5 +1,5 @@
-// What the page works on: sources, breaks, the order of turns, an exercise. It is kept in this browser from one visit to
-// the next.
+// What the page works on: sources, breaks, the order of turns, an exercise. It is kept in this browser from one visit
+// to the next.
 "use strict";
 
 const root = document.documentElement;
@@ -18,7 +18,8 @@ function el(tag, attributes, ...children) {
 // What the server tells when the page opens: examples, lessons, exercises, words, panes and limits.
 let about = null;
 const KEPT = "workbench of mm";
-const state = { files: [{ name: "mine.asm", text: "" }], at: 0, turns: "", breaks: {}, exercise: null, slots: [], faults: [],
+const state = { files: [{ name: "mine.asm", text: "" }], at: 0, turns: "", breaks: {}, exercise: null, slots: [],
+  faults: [],
   level: "0" };
 
 const file = () => state.files[state.at];
@@ -76,7 +77,8 @@ const fromLetters = (text) => Uint8Array.from(atob(text.replaceAll("-", "+").rep
 const LONGEST_LINK = 32_000;
 
 async function linkOf() {
-  const { files, turns, exercise } = state, bytes = new TextEncoder().encode(JSON.stringify({ files, turns, exercise }));
+  const { files, turns, exercise } = state, bytes = new TextEncoder().encode(JSON.stringify({ files, turns,
+    exercise }));
   const short = window.CompressionStream ? await packed(bytes, new CompressionStream("deflate-raw")) : null;
   return short ? `#z${toLetters(short)}` : `#p${toLetters(bytes)}`;
 }

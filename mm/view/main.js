@@ -74,7 +74,8 @@ const ofLine = (source, line) => (turn) => {
 };
 
 function jumpInLine(way) {
-  const turn = cursor.place ? TURNS[cursor.place - 1] : null, from = turn && turn.fetch >= 0 ? lineAt(turn.fetch) : null;
+  const turn = cursor.place ? TURNS[cursor.place - 1] : null, from = turn && turn.fetch >= 0 ? lineAt(turn.fetch)
+    : null;
   if (from) jump(ofLine(from.source, from.line), way);
 }
 
@@ -136,7 +137,8 @@ const KEYS = [
 
 // Lane keys and Page keys move the page itself unless the timeline has the focus.
 const ONLY_ON_TIMELINE = new Set(["ArrowUp", "ArrowDown", "PageUp", "PageDown"]);
-const inField = (target) => target.matches("input:not([type='checkbox']), select, textarea") || target.closest("dialog");
+const inField = (target) => target.matches("input:not([type='checkbox']), select, textarea")
+  || target.closest("dialog");
 let letters = true;
 
 function onKey(event) {
@@ -160,7 +162,8 @@ function openHelp() {
     el("table", {}, el("tbody", {}, KEYS.map(([, shown, says]) => el("tr", {},
       el("th", { scope: "row" }, el("kbd", {}, shown)), el("td", {}, says))))),
     el("p", {},
-      "With Shift, a letter goes back. Click on a word to take it apart, and on a line of the source to go to its turns. ",
+      "With Shift, a letter goes back. Click on a word to take it apart, ",
+      "and on a line of the source to go to its turns. ",
       "Lanes and pages move while the timeline has the focus."),
     el("p", {}, el("label", {}, box, " letters work everywhere, and not on the timeline alone")), close);
   help.showModal();
@@ -259,7 +262,8 @@ function begin() {
     if (go) (ACTIONS[go.dataset.go] || (() => jump(JUMPS[go.dataset.go], event.shiftKey ? -1 : 1)))();
     if (word) toggle(word);
     const line = event.target.closest("#lines li[data-line]");
-    if (line && !getSelection().toString()) jump(ofLine(source.shown, Number(line.dataset.line)), event.shiftKey ? -1 : 1);
+    if (line && !getSelection().toString()) jump(ofLine(source.shown, Number(line.dataset.line)), event.shiftKey ? -1
+      : 1);
   });
   byId("cycle").min = RUN.first - 1;
   byId("cycle").max = RUN.last;

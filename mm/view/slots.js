@@ -91,7 +91,8 @@ const partsRow = (word, across) => el("tr", { class: "parts" }, el("td", { colsp
 const EVER = new Map(RUN.start.slots.map(({ slot, registers }) => [slot,
   new Set(registers.flatMap((word, at) => (word === ZERO ? [] : [at])))]));
 for (const { changes } of TURNS) {
-  for (const [kind, slot, register, word] of changes) if (kind === REGISTER && word !== ZERO) EVER.get(slot).add(register);
+  for (const [kind, slot, register, word] of changes) if (kind === REGISTER
+    && word !== ZERO) EVER.get(slot).add(register);
 }
 
 function registerRows(slot, before, zeros) {

@@ -70,7 +70,8 @@ function originOf(address) {
 
 // How integers are written: as `mm run` does, or to one base alone.
 const numbers = { base: "" };
-const BASES = { 16: (bits) => hex(bits), 10: (bits) => `${BigInt.asIntN(64, bits)}`, 2: (bits) => `0b${bits.toString(2)}` };
+const BASES = { 16: (bits) => hex(bits), 10: (bits) => `${BigInt.asIntN(64, bits)}`, 2: (bits) =>
+  `0b${bits.toString(2)}` };
 
 function integerText(word) {
   const bits = bitsOf(word), signed = BigInt.asIntN(64, bits);
