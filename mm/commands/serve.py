@@ -104,8 +104,13 @@ async def until_signal() -> int:
     answer, and asyncio would keep it there."""
     loop = asyncio.get_running_loop()
     ended: asyncio.Future[int] = loop.create_future()
+
+    def end(number: int) -> None:
+        if not ended.done():
+            ended.set_result(number)
+
     for number in (signal.SIGINT, signal.SIGTERM, signal.SIGHUP):
-        loop.add_signal_handler(number, lambda number=number: ended.done() or ended.set_result(number))
+        loop.add_signal_handler(number, end, number)
     return await ended
 
 

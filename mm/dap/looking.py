@@ -78,9 +78,10 @@ class Looker:
     # Scopes and variables
 
     def scopes(self, frame: int) -> list[Json]:
-        slot = self.session.report.slot((frame - 1) // MOST_DEPTH)
-        if slot is None:
+        found = self.session.report.slot((frame - 1) // MOST_DEPTH)
+        if found is None:
             return []
+        slot = found
         rows = [("Registers", lambda: list(self.registers(slot)), "registers")]
         values = CValues(slot, self.session.memory, self.session.speller)
         if values.frames and (frame - 1) % MOST_DEPTH == 0:
@@ -113,10 +114,13 @@ class Looker:
 
     def regions(self) -> Iterator[Json]:
         """The segments, each with its words."""
+
+        def parts(region: Region) -> Callable[[], list[Json]]:
+            return lambda: list(self.words(region))
+
         for region in self.session.symbols.regions:
             yield {"name": region.name, "value": f"2^{region.log} bytes at {hexadecimal(region.base)}",
-                   "variablesReference": self.refer(lambda region=region: list(self.words(region))),
-                   "memoryReference": hexadecimal(region.base)}
+                   "variablesReference": self.refer(parts(region)), "memoryReference": hexadecimal(region.base)}
 
     def words(self, region: Region) -> Iterator[Json]:
         memory, symbols = self.session.memory, self.session.symbols
@@ -155,7 +159,7 @@ class Looker:
         for place in range(first, first + min(count, MOST_ROWS)):
             at = (address & ~7) + 8 * place
             cell = memory.cell(at) if at >= 0 else None
-            row = {"address": hexadecimal(max(0, at)), "instruction": self.session.speller.at(memory, at) if cell
+            row: Json = {"address": hexadecimal(max(0, at)), "instruction": self.session.speller.at(memory, at) if cell
                 else "no page"}
             if cell:
                 row.update(instructionBytes=f"{cell.word.bits:016x}", symbol=self.session.symbols.show(at))

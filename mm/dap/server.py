@@ -166,18 +166,18 @@ class Server:
         """The breaks of a source, in place of those that it had."""
         path = os.path.realpath(given["source"]["path"])
         self._drop(path)
-        return {"breakpoints": [self._set(path, lambda row=row: self._at_line(path, row))
-            for row in given.get("breakpoints", [])]}
+        rows = given.get("breakpoints", [])
+        return {"breakpoints": [self._set(path, lambda row: self._at_line(path, row), row) for row in rows]}
 
     def _drop(self, owner: str) -> None:
         for point in self.points.pop(owner, []):
             if point in self.session.points:
                 self.session.points.remove(point)
 
-    def _set(self, owner: str, make: Callable[[], tuple[Point, Json]]) -> Json:
+    def _set(self, owner: str, make: Callable[[Json], tuple[Point, Json]], row: Json) -> Json:
         """A point, or why there is none."""
         try:
-            point, more = make()
+            point, more = make(row)
         except (NoAddress, Wrong) as why:
             return {"verified": False, "message": str(why)}
         self.points.setdefault(owner, []).append(point)
@@ -209,7 +209,7 @@ class Server:
             address, length = place_of(row["name"], self.session)
             return self._break(row["name"], self.session.symbols.c_body(address) or address, length, row), {}
 
-        return {"breakpoints": [self._set("functions", lambda row=row: make(row)) for row in given["breakpoints"]]}
+        return {"breakpoints": [self._set("functions", make, row) for row in given["breakpoints"]]}
 
     def set_faults(self, given: Json) -> None:
         """Whether the run stops at faults, and at entries."""
@@ -233,7 +233,7 @@ class Server:
             address, length = span(row["dataId"], self.session)
             return self.session.add(ACCESSES[row.get("accessType", "write")], row["dataId"], address & ~7, length), {}
 
-        return {"breakpoints": [self._set("words", lambda row=row: make(row)) for row in given["breakpoints"]]}
+        return {"breakpoints": [self._set("words", make, row) for row in given["breakpoints"]]}
 
     # Moving
 

@@ -209,7 +209,8 @@ class Server:
                 for place in words.uses(document.read, found[1].text)]
 
     def symbols(self, params: Json) -> Json:
-        document, made = self.document(params), []
+        document = self.document(params)
+        made: list[Json] = []
         for name, kind, place, end in words.symbols(document.read):
             whole = {"start": {"line": place.line - 1, "character": 0},
                      "end": {"line": end - 1, "character": letters(document.read.line(end),
