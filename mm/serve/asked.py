@@ -137,7 +137,8 @@ def refuse_files(name: str, text: str) -> None:
                 403,
             )
         if line.lstrip().startswith("#") and not DIRECTIVE.fullmatch(line):
-            raise NotAllowed(f"{name}: `{line.strip()[:40]}` is not taken here: it may name a file", 403)
+            said = line.split('"')[0].strip()[:20]
+            raise NotAllowed(f"{name}: `{said}` is not taken here: it may name a file", 403)
     if "??" in joined or "%:" in joined or HIDDEN.search(joined):
         said = "`??`, `%:`, and `#` after a comment in its line, are not taken here: they may hide a file"
         raise NotAllowed(f"{name}: {said}", 403)

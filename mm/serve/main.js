@@ -119,6 +119,7 @@ function onClick(event) {
   else if (turns !== undefined) setTurns(turns);
   else if (example) takeExample(example);
   else if (target.dataset.grade) grade();
+  else if (target.dataset.start) takeStart();
   else if (lesson) {
     event.preventDefault();
     openLesson(lesson);

@@ -112,5 +112,6 @@ function exercisePane() {
     el("ul", { class: "marks" }, rows.map(([text, why]) => el("li", { class: why === undefined ? null : why === null
       ? "yes" : "no" },
       why === undefined ? null : el("b", {}, why === null ? "yes" : "no"), text, why ? el("div", {}, why) : null))),
-    el("p", {}, el("button", { type: "button", class: "main", "data-grade": "1" }, "Grade")), box];
+    el("p", { class: "row" }, el("button", { type: "button", class: "main", "data-grade": "1" }, "Grade"),
+      exercise.start ? el("button", { type: "button", "data-start": "1" }, "Take its beginning into the editor") : null), box];
 }

@@ -74,7 +74,7 @@ def schedules(desk: Desk, limits: Limits) -> list[Json]:
     words = ["explore", desk.built.path, str(min(limits.states, 100_000))]
     found = read_exploration(desk.ask(words, [desk.built.file]).text)
     ends = [
-        ["the outcome " if each.ended else "stuck: outcome ", number, each.schedule, "; ".join(each.told)]
+        ["outcome " if each.ended else "stuck: outcome ", number, each.schedule, "; ".join(each.told)]
         for number, each in enumerate(found.outcomes, 1)
     ]
     return [["fault ", cause, turns, f"slot {slot}"] for slot, cause, turns in found.faults] + ends

@@ -44,6 +44,15 @@ function chooseExercise(name) {
   if (state.exercise) showSide("right");
 }
 
+// The program from which an exercise begins, in place of what is in the editor.
+function takeStart() {
+  const { name, start } = about.shelf.exercises.find((each) => each.name === state.exercise);
+  takeProgram([{ name: `${name.replace(".", "_")}.asm`, text: start }], "", name);
+  say("the beginning of the exercise is in the editor");
+  showSide("left");
+  byId("text").focus();
+}
+
 function showTabs() {
   byId("files").replaceChildren(...state.files.map(({ name }, at) => el("button", { type: "button", role: "tab",
     "data-at": at,

@@ -26,6 +26,8 @@ BEGIN = """\
 LESSON = re.compile(r"([1-9][0-9]?)-[\w-]+\.md")
 EXERCISE = re.compile(r"^\*\*(\d)\. .*?(?=^\*\*\d\. |^<details>|^Before: |^## |\Z)", re.M | re.S)
 TASK = re.compile(r"^## (\d)\. .*?(?=^## |\Z)", re.M | re.S)
+FENCED = re.compile(r"^```asm[^\n]*\n(.*?)^```", re.M | re.S)
+COPIED = re.compile(r"^\$ cp ((?:examples|docs/course)/[\w/]+\.asm) ", re.M)
 BESIDE = re.compile(r'^#include "([\w.]+)"\n', re.M)
 # What a header begins with so that it is taken once.
 OPENED = re.compile(r"^#pragma once\n", re.M)
@@ -128,12 +130,22 @@ def _task(name: str) -> Optional[str]:
     return next((found[0] for found in pattern.finditer(text) if found[1] == number), None)
 
 
+def _start(text: str) -> str:
+    """The program from which an exercise begins: one in its text, or a file that it says to copy."""
+    within, copied = FENCED.search(text), COPIED.search(text)
+    if within:
+        return within[1]
+    path = os.path.join(CHECKOUT, copied[1]) if copied else ""
+    return read(path) if os.path.isfile(path) else ""
+
+
 def graded() -> list[Json]:
     """The exercises that have a grade, with their text and what is looked at."""
     found = []
     for name in exercises() if os.path.isdir(COURSE) else []:
         sheet, text = sheet_of(name), _task(name)
         found.append({"name": name, "title": sheet.title or name, "html": html_of(text) if text else "",
+            "start": _start(text or ""),
             "asks": [line.text for line in sheet.expectations]})
     return sorted(found, key=lambda each: [int(part) if part.isdigit() else -1 for part in re.split(r"[.-]",
         each["name"])])

@@ -48,6 +48,7 @@ class Served:
         parts = urlsplit(found[1])
         self.url, self.port, self.path = found[1], parts.port or 0, parts.path
         self.host = f"{parts.hostname}:{self.port}"
+        self.open_to_all = "--host" in words
 
     def __enter__(self) -> Served:
         return self

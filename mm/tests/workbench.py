@@ -16,7 +16,7 @@ SECONDS = 30
 WIDTHS = ((1400, 900), (1920, 1080), (1024, 768), (768, 1024), (390, 844), (320, 640))
 PHONE = 500
 NAMED = ("button", "textbox", "combobox", "tab", "link", "spinbutton")
-LANDMARKS = ("main", "banner", "navigation")
+LANDMARKS = ("main", "banner")
 BAD = """\
 .segment main 6
   ldi r1, 72
@@ -41,7 +41,7 @@ ANSWERS = os.path.join("docs", "course", "answers")
 OVERLAPS = """(() => [...document.querySelectorAll('button, select, input')].filter((it) => {
   const box = it.getBoundingClientRect();
   return it.checkVisibility() && box.width && (box.right > innerWidth + 1 || box.left < -1)
-    && !it.closest('#editor, #offers, .skip');
+    && !it.closest('#editor, #offers, .skip, #panes');
 }).map((it) => it.id || it.textContent))()"""
 
 
@@ -77,16 +77,15 @@ class Bench:
     def until(self, script: str, what: str) -> bool:
         """Waits until something is so; what is never so is wrong."""
         self.steps += 1
-        end = time.monotonic() + SECONDS
+        end, why = time.monotonic() + SECONDS, ""
         while time.monotonic() < end:
             try:
                 if self.run(f"Boolean({script})"):
                     return True
             except Failed as error:
-                if "navigat" not in str(error) and "context" not in str(error) and "undefined" not in str(error):
-                    raise
+                why = f" ({error})"  # The page, or its frame, may just be another one.
             time.sleep(0.03)
-        self.fail(f"this never comes: {what}")
+        self.fail(f"this never comes: {what}{why}")
         return False
 
     def same(self, what: str, got: Any, wanted: Any) -> None:
@@ -311,6 +310,7 @@ class Bench:
 
 def two_at_once(one: Bench, other: Bench) -> None:
     """Two browsers at once: each has its own program, and a link brings one's to the other."""
+    one.run("state.turns = ''; showTurns(); 1")
     one.type(LOOP)
     other.type(BAD.replace("outt", "out"))
     for bench in (one, other):
