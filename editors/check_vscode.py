@@ -55,7 +55,7 @@ OTHERS = ["section .text\nglobal _start\n", "; a thread\n.code\nmov ax, 1\n", ".
 # texts it takes for ours; how it debugs; and what its client gives the editor of a source, if there is a server to ask.
 NODE = """
 const Module = require("module");
-const [, path, expressions, texts, mm, source] = process.argv;
+const { path, expressions, texts, mm, source } = JSON.parse(require("fs").readFileSync(process.argv[1], "utf8"));
 const kept = { tasks: null, adapter: null, configured: null, opened: [], claimed: [], found: [], providers: {} };
 const gone = { dispose() {} };
 const provide = (name) => (selector, provider) => { kept.providers[name] = provider; return gone; };
@@ -94,7 +94,7 @@ Module._load = (name, ...rest) => (name === "vscode" ? vscode : load(name, ...re
 const context = { subscriptions: [] }, extension = require(path);
 extension.activate(context);
 const own = new vscode.Task({ type: "mm", command: "audit", words: ["a.asm", "--groups", "0"] }, 2, "own", "mm");
-for (const text of JSON.parse(expressions)) new RegExp(text);
+for (const text of expressions) new RegExp(text);
 const document = (languageId) => ({ languageId, version: 1, fileName: "/a/b.asm", uri: { toString: () => "file:///a/b.asm" }, getText: () => source });
 const until = async (test) => { for (let at = 0; at < 500 && !test(); at++) await new Promise((done) => setTimeout(done, 20)); };
 (async () => {
@@ -113,7 +113,7 @@ const until = async (test) => { for (let at = 0; at < 500 && !test(); at++) awai
     said.completion = (await kept.providers.completion.provideCompletionItems(...at(2, 4))).map((it) => it.label).slice(0, 3);
     await Promise.all(context.subscriptions.map((it) => it.dispose()));
   }
-  console.log(JSON.stringify({ tasks: [...kept.tasks.provideTasks(), kept.tasks.resolveTask(own)], ours: JSON.parse(texts).map(extension.isOurs),
+  console.log(JSON.stringify({ tasks: [...kept.tasks.provideTasks(), kept.tasks.resolveTask(own)], ours: texts.map(extension.isOurs),
     adapter: kept.adapter.createDebugAdapterDescriptor(), configured: kept.configured.resolveDebugConfiguration(null, { type: "mm", request: "launch" }), said }));
 })();
 """
@@ -231,9 +231,13 @@ def sources():
 def check_extension(expect, about, expressions, mm):
     """The extension in node: its tasks, which texts are ours, how it debugs, and its client with the real server."""
     ours = sources()
-    words = ["node", "-e", NODE, os.path.join(FOLDER, "extension.js"), json.dumps(expressions), json.dumps([*ours, *OTHERS]),
-        mm, CLIENT_SOURCE]
-    ended = subprocess.run(words, capture_output=True, text=True, check=False, timeout=60)
+    given = {"path": os.path.join(FOLDER, "extension.js"), "expressions": expressions, "texts": [*ours, *OTHERS], "mm": mm,
+        "source": CLIENT_SOURCE}
+    with tempfile.NamedTemporaryFile("w", suffix=".json", encoding="utf-8") as file:
+        json.dump(given, file)
+        file.flush()
+        words = ["node", "-e", NODE, file.name]
+        ended = subprocess.run(words, capture_output=True, text=True, check=False, timeout=60)
     expect("vscode: node", (ended.returncode, ended.stderr), (0, ""))
     if ended.returncode:
         return
@@ -244,8 +248,8 @@ def check_extension(expect, about, expressions, mm):
     expect("vscode: what is debugged", shown["configured"], {"type": "mm", "request": "launch", "program": "${file}"})
     wanted = {"claimed": ["mmachine-asm"]}
     if mm:
-        wanted.update(found=[[3, "expected the end of the line, and found `,`"]], hover="ldi rd, NUMBER", definition=3, references=2,
-            symbols=[["main", 1]], completion=["ldi", "ldhi", "lea"])
+        wanted.update(found=[[3, "expected the end of the line, found the sign `,`"]], hover="ldi rd, NUMBER", definition=3, references=2,
+            symbols=[["main", 1]], completion=["ldi", "ldhi", "ld"])
     expect("vscode: what the client gives", shown["said"], wanted)
 
 

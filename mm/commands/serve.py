@@ -16,6 +16,7 @@ from mm.names.numbers import number_of
 from mm.serve.asked import NAME
 from mm.serve.limits import ONE_PERSON, Limits, for_class
 from mm.serve.page import files_of
+from mm.serve.shelf import lessons
 from mm.serve.server import OURS, Server, address, addresses_of_host, new_token
 from mm.status import SIGNALLED, Status, Stop, usage
 from mm.table import HOST, LESSON, PORT, TOKEN, WITH_C
@@ -118,6 +119,10 @@ def run(console: Console) -> int:
     host = console.said.value(HOST) or HERE
     port = _number(console.said.value(PORT), "--port", 65_535, USUAL_PORT)
     lesson = _number(console.said.value(LESSON), "--lesson", 99, 0)
+    there = [each["number"] for each in lessons()]
+    if lesson and lesson not in there:
+        raise usage(f"mm: serve: there is no lesson {lesson}: {there[0]} to {there[-1]}" if there else
+                    "mm: serve: this `mm` has no lessons beside it")
     token = console.said.value(TOKEN) or new_token()
     if not WORD.fullmatch(token):
         raise usage("mm: serve: --token is a word of 4 to 64 letters, digits and `-`")

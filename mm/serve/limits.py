@@ -35,6 +35,11 @@ class Limits:
 ONE_PERSON = Limits()
 
 
+def processors() -> int:
+    """How many processors this process may use."""
+    return len(os.sched_getaffinity(0)) if hasattr(os, "sched_getaffinity") else os.cpu_count() or 2
+
+
 def for_class(c: bool) -> Limits:
     """The limits where strangers ask: small ones, as many requests at once as there are processors, and C only if
     that was asked for."""
@@ -47,7 +52,7 @@ def for_class(c: bool) -> Limits:
         cycles=100_000,
         turns=5_000,
         states=20_000,
-        at_once=max(2, os.cpu_count() or 2),
+        at_once=max(2, processors()),
         waiting=64,
         patience=20,
         connections=256,

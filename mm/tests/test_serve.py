@@ -218,7 +218,7 @@ class Whole(unittest.TestCase):
             self.assertEqual("\n".join(found.form["report"]) + "\n", report)
             self.assertIn('id="run">', found.form["view"])
             bad = served.do({"do": "check", "files": program("ldi r1\n")}).form
-            self.assertEqual([(fault["line"], fault["from"]) for fault in bad["faults"]], [(1, 0)])
+            self.assertEqual([(fault["line"], fault["from"]) for fault in bad["faults"]], [(1, 5)])
             audit = served.do({"do": "audit", "files": program(OK)}).form
             self.assertIn("group 0 (slot 0)", audit["lines"][0])
             self.assertTrue(audit["picture"].startswith("<svg"))

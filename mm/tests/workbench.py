@@ -1,4 +1,5 @@
-"""The page of `mm serve`, used in a browser as a reader uses it: he types, mends, runs, steps, breaks, grades and looks."""
+"""The page of `mm serve`, used in a browser as a reader uses it: he types, mends, runs, steps, breaks, grades and
+looks."""
 
 from __future__ import annotations
 
