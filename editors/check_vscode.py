@@ -52,24 +52,28 @@ LINES = [
 # Sources of other assemblers, which are not claimed.
 OTHERS = ["section .text\nglobal _start\n", "; a thread\n.code\nmov ax, 1\n", ".segment\n", "x: .byte 1\n"]
 # Stands in the place of Visual Studio Code. It writes down the tasks that the extension offers, and one of a user; which
-# texts it takes for ours; how it debugs; and what its client gives the editor of a source, if there is a server to ask.
+# texts it takes for ours; how it debugs; and what its client gives the editor of a source, if there is a server.
 NODE = """
 const Module = require("module");
 const { path, expressions, texts, mm, source } = JSON.parse(require("fs").readFileSync(process.argv[1], "utf8"));
 const kept = { tasks: null, adapter: null, configured: null, opened: [], claimed: [], found: [], providers: {} };
 const gone = { dispose() {} };
 const provide = (name) => (selector, provider) => { kept.providers[name] = provider; return gone; };
-const plain = (name, ...fields) => class { constructor(...given) { fields.forEach((field, at) => { this[field] = given[at]; }); } };
+const plain = (name, ...fields) => class { constructor(...given) { fields.forEach((field,
+  at) => { this[field] = given[at]; }); } };
 const vscode = {
   ProcessExecution: plain("ProcessExecution", "process", "args"),
   Task: plain("Task", "definition", "scope", "name", "source", "execution", "matchers"),
-  Position: plain("Position", "line", "character"), Range: plain("Range", "start", "end"), Hover: plain("Hover", "contents", "range"),
+  Position: plain("Position", "line", "character"), Range: plain("Range", "start", "end"), Hover: plain("Hover",
+    "contents", "range"),
   MarkdownString: plain("MarkdownString", "value"), Location: plain("Location", "uri", "range"),
-  Diagnostic: plain("Diagnostic", "range", "message", "severity"), CompletionItem: plain("CompletionItem", "label", "kind"),
+  Diagnostic: plain("Diagnostic", "range", "message", "severity"), CompletionItem: plain("CompletionItem", "label",
+    "kind"),
   DocumentSymbol: plain("DocumentSymbol", "name", "detail", "kind", "range", "selectionRange"),
   DebugAdapterExecutable: plain("DebugAdapterExecutable", "command", "args"),
   Uri: { parse: (text) => ({ toString: () => text }) },
-  TaskScope: { Workspace: 2 }, TaskGroup: { Build: "build" }, TaskRevealKind: { Always: 1 }, SymbolKind: { Namespace: 2, Constant: 13 },
+  TaskScope: { Workspace: 2 }, TaskGroup: { Build: "build" }, TaskRevealKind: { Always: 1 },
+    SymbolKind: { Namespace: 2, Constant: 13 },
   CompletionItemKind: { Keyword: 13 }, DiagnosticSeverity: { Error: 0 },
   workspace: {
     getConfiguration: () => ({ get: (name) => (name === "mm" && mm ? mm : undefined) }),
@@ -78,8 +82,10 @@ const vscode = {
   },
   languages: {
     setTextDocumentLanguage: (document, id) => { kept.claimed.push(id); },
-    createDiagnosticCollection: () => ({ set: (uri, list) => kept.found.push(list.map(({ message, range }) => [range.start.line, message.split("\\n")[0]])), ...gone }),
-    registerHoverProvider: provide("hover"), registerDefinitionProvider: provide("definition"), registerReferenceProvider: provide("references"),
+    createDiagnosticCollection: () => ({ set: (uri, list) => kept.found.push(list.map(({ message,
+      range }) => [range.start.line, message.split("\\n")[0]])), ...gone }),
+    registerHoverProvider: provide("hover"), registerDefinitionProvider: provide("definition"),
+      registerReferenceProvider: provide("references"),
     registerDocumentSymbolProvider: provide("symbols"), registerCompletionItemProvider: provide("completion"),
   },
   debug: {
@@ -95,8 +101,10 @@ const context = { subscriptions: [] }, extension = require(path);
 extension.activate(context);
 const own = new vscode.Task({ type: "mm", command: "audit", words: ["a.asm", "--groups", "0"] }, 2, "own", "mm");
 for (const text of expressions) new RegExp(text);
-const document = (languageId) => ({ languageId, version: 1, fileName: "/a/b.asm", uri: { toString: () => "file:///a/b.asm" }, getText: () => source });
-const until = async (test) => { for (let at = 0; at < 500 && !test(); at++) await new Promise((done) => setTimeout(done, 20)); };
+const document = (languageId) => ({ languageId, version: 1, fileName: "/a/b.asm",
+  uri: { toString: () => "file:///a/b.asm" }, getText: () => source });
+const until = async (test) => { for (let at = 0; at < 500 && !test(); at++) await new Promise((done) =>
+  setTimeout(done, 20)); };
 (async () => {
   kept.opened.forEach((act) => act(document("plaintext")));
   const said = { claimed: kept.claimed };
@@ -109,12 +117,16 @@ const until = async (test) => { for (let at = 0; at < 500 && !test(); at++) awai
     said.hover = (await kept.providers.hover.provideHover(...at(2, 3))).contents.value.split("\\n")[1];
     said.definition = (await kept.providers.definition.provideDefinition(...at(4, 12))).range.start.line;
     said.references = (await kept.providers.references.provideReferences(...at(4, 12))).length;
-    said.symbols = (await kept.providers.symbols.provideDocumentSymbols(document("mmachine-asm"))).map((it) => [it.name, it.children.length]);
-    said.completion = (await kept.providers.completion.provideCompletionItems(...at(2, 4))).map((it) => it.label).slice(0, 3);
+    said.symbols = (await kept.providers.symbols.provideDocumentSymbols(document("mmachine-asm"))).map((it) =>
+      [it.name, it.children.length]);
+    said.completion = (await kept.providers.completion.provideCompletionItems(...at(2,
+      4))).map((it) => it.label).slice(0, 3);
     await Promise.all(context.subscriptions.map((it) => it.dispose()));
   }
-  console.log(JSON.stringify({ tasks: [...kept.tasks.provideTasks(), kept.tasks.resolveTask(own)], ours: texts.map(extension.isOurs),
-    adapter: kept.adapter.createDebugAdapterDescriptor(), configured: kept.configured.resolveDebugConfiguration(null, { type: "mm", request: "launch" }), said }));
+  console.log(JSON.stringify({ tasks: [...kept.tasks.provideTasks(), kept.tasks.resolveTask(own)],
+    ours: texts.map(extension.isOurs),
+    adapter: kept.adapter.createDebugAdapterDescriptor(), configured: kept.configured.resolveDebugConfiguration(null,
+      { type: "mm", request: "launch" }), said }));
 })();
 """
 # A source for the client, and what it says of it.
@@ -231,7 +243,8 @@ def sources():
 def check_extension(expect, about, expressions, mm):
     """The extension in node: its tasks, which texts are ours, how it debugs, and its client with the real server."""
     ours = sources()
-    given = {"path": os.path.join(FOLDER, "extension.js"), "expressions": expressions, "texts": [*ours, *OTHERS], "mm": mm,
+    given = {"path": os.path.join(FOLDER, "extension.js"), "expressions": expressions, "texts": [*ours, *OTHERS],
+      "mm": mm,
         "source": CLIENT_SOURCE}
     with tempfile.NamedTemporaryFile("w", suffix=".json", encoding="utf-8") as file:
         json.dump(given, file)
@@ -243,12 +256,14 @@ def check_extension(expect, about, expressions, mm):
         return
     shown = json.loads(ended.stdout)
     check_tasks(expect, about, shown["tasks"], mm or "mm")
-    expect("vscode: texts that are ours", (len(ours) > 20, shown["ours"]), (True, [True] * len(ours) + [False] * len(OTHERS)))
+    expect("vscode: texts that are ours", (len(ours) > 20, shown["ours"]), (True,
+      [True] * len(ours) + [False] * len(OTHERS)))
     expect("vscode: the adapter", shown["adapter"], {"command": mm or "mm", "args": ["dap"]})
     expect("vscode: what is debugged", shown["configured"], {"type": "mm", "request": "launch", "program": "${file}"})
     wanted = {"claimed": ["mmachine-asm"]}
     if mm:
-        wanted.update(found=[[3, "expected the end of the line, found the sign `,`"]], hover="ldi rd, NUMBER", definition=3, references=2,
+        wanted.update(found=[[3, "expected the end of the line, found the sign `,`"]], hover="ldi rd, NUMBER",
+          definition=3, references=2,
             symbols=[["main", 1]], completion=["ldi", "ldhi", "ld"])
     expect("vscode: what the client gives", shown["said"], wanted)
 
@@ -263,7 +278,8 @@ def check_tasks(expect, about, tasks, mm):
     matchers = {f"${matcher['name']}" for matcher in about["problemMatchers"]}
     expect("vscode: matchers", {name for task in tasks for name in task["matchers"]}, matchers)
     debuggers = about["debuggers"]
-    expect("vscode: the debugger", [(each["type"], each["languages"]) for each in debuggers], [("mm", ["mmachine-asm"])])
+    expect("vscode: the debugger", [(each["type"], each["languages"]) for each in debuggers], [("mm",
+      ["mmachine-asm"])])
 
 
 def check_vsix(expect, package):
