@@ -6,10 +6,11 @@ from __future__ import annotations
 import io
 import json
 import os
+import shutil
 import subprocess
 import sys
 from itertools import zip_longest
-from typing import Any, Iterator, Sequence
+from typing import Any, Iterator, Optional, Sequence
 
 from mm.lsp.frames import read_message, write_message
 from mm.machine.program import CHECKOUT
@@ -61,6 +62,32 @@ def differences(name: str) -> list[str]:
     pairs = zip_longest(came, rows(lines, "<"))
     found = [f"{name}: {is_so} in place of {wanted}" for is_so, wanted in pairs if is_so != wanted]
     return found + ([f"{name}: it ends with status {status}"] if status else [])
+
+
+# What Neovim's client is given by `mm lsp`, as sessions/neovim.lua writes it.
+BY_NEOVIM = """\
+mistake 3 6 10 there is no operation `outt` / hint: do you mean `out`?
+mended
+hover ldi rd, NUMBER
+definition 3
+references 2
+symbols 1
+offer ldi
+offer ldhi
+offer ld
+""".splitlines()
+
+
+def by_neovim() -> Optional[list[str]]:
+    """What Neovim is given otherwise; none where there is no Neovim."""
+    program = os.environ.get("NVIM_FOR_TESTS") or shutil.which("nvim")
+    if program is None:
+        return None
+    words = [program, "--headless", "-u", "NONE", "-i", "NONE", "-n", "-c", f"luafile {FOLDER}/neovim.lua"]
+    env = {**os.environ, "MM_FOR_TESTS": os.path.join(CHECKOUT, "bin", "mm")}
+    ended = subprocess.run(words, capture_output=True, text=True, env=env, timeout=SECONDS, check=False)
+    pairs = zip_longest(ended.stdout.splitlines(), BY_NEOVIM)
+    return [f"neovim: {is_so!r} in place of {wanted!r}" for is_so, wanted in pairs if is_so != wanted]
 
 
 def record(name: str) -> None:
