@@ -13,6 +13,7 @@ from mm.build import read_file
 from mm.console import Console
 from mm.limits import TEXT_LIMIT
 from mm.names.numbers import number_of
+from mm.serve import deeds
 from mm.serve.asked import NAME
 from mm.serve.limits import ONE_PERSON, Limits, for_class
 from mm.serve.page import files_of
@@ -128,6 +129,7 @@ def run(console: Console) -> int:
         raise usage("mm: serve: --token is a word of 4 to 64 letters, digits and `-`")
     limits = with_c(limits_of(console, host))
     files = files_of(console.program, limits, {"files": given(console), "lesson": lesson})
+    deeds.prepare()
     server = Server(console.program, limits, token, files, is_local(host))
     try:
         return asyncio.run(_serve(console, server, host, port))

@@ -2,6 +2,8 @@
 
 from __future__ import annotations
 
+import gc
+import importlib
 import json
 import os
 from typing import Any, Callable
@@ -20,6 +22,7 @@ from mm.serve.asked import Asked, NotAllowed
 from mm.serve.console import Desk
 from mm.serve.limits import Limits
 from mm.status import Refused, Stop
+from mm.table import BY_NAME
 from mm.view.data import window_form
 from mm.view.page import page_of
 from mm.views.report import ReportView
@@ -95,6 +98,18 @@ def grade(desk: Desk, limits: Limits) -> Json:
         "marks": [[mark.expectation.text, mark.why_not] for mark in found],
         "right": sum(mark.why_not is None for mark in found),
     }
+
+
+# Modules that a request may need, which are read once in the server and not in each process.
+NEEDED = ("difflib", "mm.messages.files", "mm.messages.links", "mm.messages.sources", "mm.outputs.refusal", "mm.source.mend",
+    "mm.views.faults", "mm.views.waiting")
+
+
+def prepare() -> None:
+    """Reads what requests need, and has the garbage collector leave it alone in the processes that are forked."""
+    for name in (*NEEDED, *(BY_NAME[pane.command].home for pane in panes.there())):
+        importlib.import_module(name)
+    gc.freeze()
 
 
 DEEDS: dict[str, Callable[[Desk, Limits], Json]] = {"check": check, "run": run, "grade": grade}
