@@ -279,6 +279,14 @@ class Bench:
         if -1 in places or places != sorted(places):
             self.fail(f"Tab leads to {order}")
 
+    def show(self) -> None:
+        """The counter at its gate, with a break there, as pictures have it."""
+        self.run("results.lesson = null; chooseExercise(''); 1")
+        self.choose("examples", "counter.asm")
+        self.press_run()
+        self.run("toggleBreak(21); step('start').then(() => step('resume')); 1")
+        self.browser.drawn()
+
     def sizes(self, pictures: Optional[str]) -> None:
         """In windows of all sizes, light and dark, nothing is wider than the window."""
         self.run("document.activeElement.blur(); 1")
@@ -337,10 +345,7 @@ def look(path: str, pictures: Optional[str]) -> tuple[int, list[str]]:
         two_at_once(bench, other)
         bench.names()
         bench.tab_order()
-        bench.choose("examples", "counter.asm")
-        bench.press_run()
-        bench.run("toggleBreak(21); step('start').then(() => step('resume')); 1")
-        bench.browser.drawn()
+        bench.show()
         bench.sizes(pictures)
         for each in (bench, other):
             each.quiet()
