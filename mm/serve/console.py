@@ -12,7 +12,7 @@ from typing import Optional, Sequence
 from mm.build import Built, Unit, Workshop
 from mm.cc.options import Options
 from mm.console import Console, Order
-from mm.machine.program import Program
+from mm.machine.program import Answer, Program
 from mm.named import NamedFile
 from mm.serve.asked import Asked, Source
 from mm.status import Status, Stop
@@ -33,7 +33,10 @@ class Desk(Console):
         self.out, self.err = io.StringIO(), io.StringIO()
         self.style = self.err_style = Style()
         self.notes: list[str] = []
+        # How many configurations an exploration looks at.
+        self.states = 0
         self._built: Optional[Built] = None
+        self.answers: dict[tuple[str, ...], Answer] = {}
         # The files of sources in C, with the names that the page has for them.
         self.stored: dict[str, str] = {}
 
@@ -101,6 +104,15 @@ class Desk(Console):
             return Order()
         data = self.asked.turns.encode()
         return Order(NamedFile(ORDER_NAME, data), self.shop.keep(data, ".schedule"))
+
+    def ask(self, words: list[str], files: list[NamedFile], lines: Optional[bytes] = None) -> Answer:
+        """An answer of `mmachine`, which is asked once for the same."""
+        key = tuple(words)
+        if lines is not None:
+            return super().ask(words, files, lines)
+        if key not in self.answers:
+            self.answers[key] = super().ask(words, files)
+        return self.answers[key]
 
     def tell(self, *lines: str) -> None:
         self.notes += lines

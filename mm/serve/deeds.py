@@ -101,7 +101,8 @@ def grade(desk: Desk, limits: Limits) -> Json:
 
 
 # Modules that a request may need, which are read once in the server and not in each process.
-NEEDED = ("difflib", "mm.messages.files", "mm.messages.links", "mm.messages.sources", "mm.outputs.refusal", "mm.source.mend",
+NEEDED = ("difflib", "mm.messages.files", "mm.messages.links", "mm.messages.sources", "mm.outputs.refusal",
+    "mm.source.mend",
     "mm.views.faults", "mm.views.waiting")
 
 

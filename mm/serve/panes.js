@@ -55,7 +55,7 @@ function commandPane(command) {
     parts.push(form);
   }
   if (!made || results.stale.has(command)) {
-    if (!wants || (results.words[command] || []).length) setTimeout(() => askPane(command));
+    if (!wants || wants.startsWith("[") || (results.words[command] || []).length) setTimeout(() => askPane(command));
     return parts;
   }
   return [...parts, ...answerPane(made)];
