@@ -49,29 +49,94 @@ LINES = [
     ("    3 |   ld r2, 8(r1)", None),
     ("    hint: the offset has a place of its own: 1:2: error: none", None),
 ]
-# Stands in the place of Visual Studio Code, and writes down the tasks that the extension offers, and one of a user.
+# Sources of other assemblers, which are not claimed.
+OTHERS = ["section .text\nglobal _start\n", "; a thread\n.code\nmov ax, 1\n", ".segment\n", "x: .byte 1\n"]
+# Stands in the place of Visual Studio Code. It writes down the tasks that the extension offers, and one of a user; which
+# texts it takes for ours; how it debugs; and what its client gives the editor of a source, if there is a server.
 NODE = """
 const Module = require("module");
-let provider;
-class ProcessExecution { constructor(process, args) { this.process = process; this.args = args; } }
-class Task {
-  constructor(definition, scope, name, source, execution, matchers) {
-    Object.assign(this, { definition, name, source, execution, matchers });
-  }
-}
+const { path, expressions, texts, mm, source } = JSON.parse(require("fs").readFileSync(process.argv[1], "utf8"));
+const kept = { tasks: null, adapter: null, configured: null, opened: [], claimed: [], found: [], providers: {} };
+const gone = { dispose() {} };
+const provide = (name) => (selector, provider) => { kept.providers[name] = provider; return gone; };
+const plain = (name, ...fields) => class { constructor(...given) { fields.forEach((field,
+  at) => { this[field] = given[at]; }); } };
 const vscode = {
-  ProcessExecution, Task,
+  ProcessExecution: plain("ProcessExecution", "process", "args"),
+  Task: plain("Task", "definition", "scope", "name", "source", "execution", "matchers"),
+  Position: plain("Position", "line", "character"), Range: plain("Range", "start", "end"), Hover: plain("Hover",
+    "contents", "range"),
+  MarkdownString: plain("MarkdownString", "value"), Location: plain("Location", "uri", "range"),
+  Diagnostic: plain("Diagnostic", "range", "message", "severity"), CompletionItem: plain("CompletionItem", "label",
+    "kind"),
+  DocumentSymbol: plain("DocumentSymbol", "name", "detail", "kind", "range", "selectionRange"),
+  DebugAdapterExecutable: plain("DebugAdapterExecutable", "command", "args"),
+  Uri: { parse: (text) => ({ toString: () => text }) },
   TaskScope: { Workspace: 2 }, TaskGroup: { Build: "build" }, TaskRevealKind: { Always: 1 },
-  workspace: { getConfiguration: () => ({ get: () => undefined }) },
-  tasks: { registerTaskProvider: (type, given) => { provider = given; return { dispose() {} }; } },
+    SymbolKind: { Namespace: 2, Constant: 13 },
+  CompletionItemKind: { Keyword: 13 }, DiagnosticSeverity: { Error: 0 },
+  workspace: {
+    getConfiguration: () => ({ get: (name) => (name === "mm" && mm ? mm : undefined) }),
+    onDidOpenTextDocument: (act) => { kept.opened.push(act); return gone; },
+    onDidChangeTextDocument: () => gone, onDidCloseTextDocument: () => gone, textDocuments: [],
+  },
+  languages: {
+    setTextDocumentLanguage: (document, id) => { kept.claimed.push(id); },
+    createDiagnosticCollection: () => ({ set: (uri, list) => kept.found.push(list.map(({ message,
+      range }) => [range.start.line, message.split("\\n")[0]])), ...gone }),
+    registerHoverProvider: provide("hover"), registerDefinitionProvider: provide("definition"),
+      registerReferenceProvider: provide("references"),
+    registerDocumentSymbolProvider: provide("symbols"), registerCompletionItemProvider: provide("completion"),
+  },
+  debug: {
+    registerDebugAdapterDescriptorFactory: (type, given) => { kept.adapter = given; return gone; },
+    registerDebugConfigurationProvider: (type, given) => { kept.configured = given; return gone; },
+  },
+  tasks: { registerTaskProvider: (type, given) => { kept.tasks = given; return gone; } },
+  window: { showWarningMessage: (text) => { throw new Error(text); } },
 };
 const load = Module._load;
 Module._load = (name, ...rest) => (name === "vscode" ? vscode : load(name, ...rest));
-const context = { subscriptions: [] };
-require(process.argv[1]).activate(context);
-const own = new Task({ type: "mm", command: "audit", words: ["a.asm", "--groups", "0"] }, 2, "own", "mm");
-for (const text of JSON.parse(process.argv[2])) new RegExp(text);
-console.log(JSON.stringify([...provider.provideTasks(), provider.resolveTask(own)]));
+const context = { subscriptions: [] }, extension = require(path);
+extension.activate(context);
+const own = new vscode.Task({ type: "mm", command: "audit", words: ["a.asm", "--groups", "0"] }, 2, "own", "mm");
+for (const text of expressions) new RegExp(text);
+const document = (languageId) => ({ languageId, version: 1, fileName: "/a/b.asm",
+  uri: { toString: () => "file:///a/b.asm" }, getText: () => source });
+const until = async (test) => { for (let at = 0; at < 500 && !test(); at++) await new Promise((done) =>
+  setTimeout(done, 20)); };
+(async () => {
+  kept.opened.forEach((act) => act(document("plaintext")));
+  const said = { claimed: kept.claimed };
+  if (mm) {
+    vscode.workspace.textDocuments.push(document("mmachine-asm"));
+    kept.opened.forEach((act) => act(document("mmachine-asm")));
+    await until(() => kept.found.length && kept.providers.completion);
+    said.found = kept.found[0];
+    const at = (line, character) => [document("mmachine-asm"), { line, character }];
+    said.hover = (await kept.providers.hover.provideHover(...at(2, 3))).contents.value.split("\\n")[1];
+    said.definition = (await kept.providers.definition.provideDefinition(...at(4, 12))).range.start.line;
+    said.references = (await kept.providers.references.provideReferences(...at(4, 12))).length;
+    said.symbols = (await kept.providers.symbols.provideDocumentSymbols(document("mmachine-asm"))).map((it) =>
+      [it.name, it.children.length]);
+    said.completion = (await kept.providers.completion.provideCompletionItems(...at(2,
+      4))).map((it) => it.label).slice(0, 3);
+    await Promise.all(context.subscriptions.map((it) => it.dispose()));
+  }
+  console.log(JSON.stringify({ tasks: [...kept.tasks.provideTasks(), kept.tasks.resolveTask(own)],
+    ours: texts.map(extension.isOurs),
+    adapter: kept.adapter.createDebugAdapterDescriptor(), configured: kept.configured.resolveDebugConfiguration(null,
+      { type: "mm", request: "launch" }), said }));
+})();
+"""
+# A source for the client, and what it says of it.
+CLIENT_SOURCE = """; a source
+.segment main 6
+  ldi r1, 65
+loop: out r1, 2
+  bnz r1, loop
+  halt
+.thread 0 0 none xu main
 """
 
 
@@ -81,10 +146,8 @@ def read_json(name):
 
 
 def check_language(expect, language, configuration):
-    """Each source of ours is one by its name, and comments and words are those of the language."""
-    names = [name for pattern in SOURCES for name in glob.glob(os.path.join(TOP, pattern))]
-    others = [name for name in names if os.path.splitext(name)[1] not in language["extensions"]]
-    expect("vscode: sources that are not known by their names", (len(names) > 20, others), (True, []))
+    """No name of a file makes it ours, and comments and words are those of the language."""
+    expect("vscode: names that are claimed", language.get("extensions"), None)
     for line, wanted in FIRST_LINES:
         expect(f"vscode: first line {line!r}", bool(re.search(language["firstLine"], line)), wanted)
     comment = configuration["comments"]["lineComment"]
@@ -168,19 +231,55 @@ def regular_expressions(value, name=""):
     return [value] if name in ("regexp", "match", "firstLine", "wordPattern") else []
 
 
-def check_tasks(expect, about, expressions):
-    """The tasks, by node: which are offered, what they run, and that their matchers are there."""
-    words = ["node", "-e", NODE, os.path.join(FOLDER, "extension.js"), json.dumps(expressions)]
-    ended = subprocess.run(words, capture_output=True, text=True, check=False)
+def sources():
+    """The texts of our sources."""
+    found = []
+    for name in sorted(name for pattern in SOURCES for name in glob.glob(os.path.join(TOP, pattern))):
+        with open(name, encoding="utf-8") as file:
+            found.append(file.read())
+    return found
+
+
+def check_extension(expect, about, expressions, mm):
+    """The extension in node: its tasks, which texts are ours, how it debugs, and its client with the real server."""
+    ours = sources()
+    given = {"path": os.path.join(FOLDER, "extension.js"), "expressions": expressions, "texts": [*ours, *OTHERS],
+      "mm": mm,
+        "source": CLIENT_SOURCE}
+    with tempfile.NamedTemporaryFile("w", suffix=".json", encoding="utf-8") as file:
+        json.dump(given, file)
+        file.flush()
+        words = ["node", "-e", NODE, file.name]
+        ended = subprocess.run(words, capture_output=True, text=True, check=False, timeout=60)
     expect("vscode: node", (ended.returncode, ended.stderr), (0, ""))
-    tasks = json.loads(ended.stdout) if ended.returncode == 0 else []
+    if ended.returncode:
+        return
+    shown = json.loads(ended.stdout)
+    check_tasks(expect, about, shown["tasks"], mm or "mm")
+    expect("vscode: texts that are ours", (len(ours) > 20, shown["ours"]), (True,
+      [True] * len(ours) + [False] * len(OTHERS)))
+    expect("vscode: the adapter", shown["adapter"], {"command": mm or "mm", "args": ["dap"]})
+    expect("vscode: what is debugged", shown["configured"], {"type": "mm", "request": "launch", "program": "${file}"})
+    wanted = {"claimed": ["mmachine-asm"]}
+    if mm:
+        wanted.update(found=[[3, "expected the end of the line, found the sign `,`"]], hover="ldi rd, NUMBER",
+          definition=3, references=2,
+            symbols=[["main", 1]], completion=["ldi", "ldhi", "ld"])
+    expect("vscode: what the client gives", shown["said"], wanted)
+
+
+def check_tasks(expect, about, tasks, mm):
+    """Which tasks are offered, what they run, and that their matchers are there."""
     offered = [[command, "${file}"] for command in ("run", "debug", "trace", "audit", "explore")]
     ran = [(task["execution"]["process"], task["execution"]["args"]) for task in tasks]
     own = ["audit", "a.asm", "--groups", "0"]
-    expect("vscode: what tasks run", ran, [("mm", words) for words in [*offered, own]])
+    expect("vscode: what tasks run", ran, [(mm, words) for words in [*offered, own]])
     expect("vscode: tasks of Build", [task["name"] for task in tasks if task.get("group")], ["run this file"])
     matchers = {f"${matcher['name']}" for matcher in about["problemMatchers"]}
     expect("vscode: matchers", {name for task in tasks for name in task["matchers"]}, matchers)
+    debuggers = about["debuggers"]
+    expect("vscode: the debugger", [(each["type"], each["languages"]) for each in debuggers], [("mm",
+      ["mmachine-asm"])])
 
 
 def check_vsix(expect, package):
@@ -196,7 +295,7 @@ def check_vsix(expect, package):
     contributes = package["contributes"]
     files = [package["main"], contributes["languages"][0]["configuration"]]
     files += [contributes[kind][0]["path"] for kind in ("grammars", "snippets")]
-    needed = {"package.json", "README.md", *(path[2:] for path in files)}
+    needed = {"package.json", "README.md", "client.js", *(path[2:] for path in files)}
     expect("vscode: files of the .vsix", {f"extension/{path}" for path in needed} - names, set())
 
 
@@ -228,15 +327,16 @@ def check(expect):
     check_snippets(expect, read_json(about["snippets"][0]["path"]))
     check_lines(expect, patterns)
     check_vsix(expect, package)
-    left_out = []
+    left_out, mm = [], ""
     try:
         find_program()
         check_messages(expect, patterns)
+        mm = os.path.join(TOP, "bin", "mm")
     except Stop:
         left_out.append("mmachine")
     if shutil.which("node"):
         expressions = regular_expressions([about, configuration, read_json("mmachine-asm.tmLanguage.json")])
-        check_tasks(expect, about, expressions)
+        check_extension(expect, about, expressions, mm)
     else:
         left_out.append("node")
     return left_out

@@ -57,6 +57,11 @@ PREFIX = Option("--prefix", "what the names of the program's segments begin with
 STATES = Option("--states", "how many configurations are looked at, 1 to 1000000; else 100000", "N")
 PART = Option("--part", "memory, frames, pages, slots, or all for a testbench; default: memory (docs/HARDWARE.md)", "NAME")
 COUNT = Option("--count", "how many; default: 256", "N")
+PORT = Option("--port", "the port of the server, 0 for any that is free; default: 8017", "N")
+HOST = Option("--host", "the address to listen at; default: 127.0.0.1, which only this computer reaches", "A")
+LESSON = Option("--lesson", "open this lesson of the course, 1 to 11", "N")
+TOKEN = Option("--token", "the word in the address of the page; default: a new one each time", "WORD")
+WITH_C = Option("--c", "take programs in C from other computers too (docs/SERVE.md)")
 RUNNING = (CYCLES, SCHEDULE, TURNS, NAMES)
 FILES = "FILE.."
 EXERCISES = "EXERCISE is lab-1 to lab-5 for a task of the first lab, 1.1 to 8.2 or 10.1 to 11.2 for an exercise of a lesson, or a file of your own (docs/course/GRADING.md)."
@@ -67,6 +72,7 @@ COMMANDS = (
     Command("debug", FILES, "step through a run, forwards and back, with names and source lines", (SCHEDULE, TURNS, NAMES, *C)),
     Command("trace", FILES, "show what each turn did, with its instruction and names", (*RUNNING, JSON, *C)),
     Command("view", FILES, "make a page for any browser, to step through a run turn by turn", (*RUNNING, FROM, AUDIT, OUTPUT, *C)),
+    Command("serve", "[FILE..]", "edit, run and look at programs in a browser, alone or with a class", (PORT, HOST, LESSON, TOKEN, WITH_C), least=0),
     Command("vcd", FILES, "make waves of a run, for GTKWave and other viewers", (*RUNNING, FROM, OUTPUT, *C)),
     Command("symbols", FILES, "list segments and labels with their addresses", (NAMES, JSON, *C)),
     Command("dis", "FILE", "show an image or an object word by word: address, word, instruction and name", (NAMES,), most=1),
@@ -88,6 +94,8 @@ COMMANDS = (
     Command("hex", FILES, "write an image for Verilog's $readmemh: its memory, its frames with their pages, or its slots", (PART, OUTPUT, *C)),
     Command("vectors", "OPERATION", "write operands and results of an operation, for a unit by itself (docs/HARDWARE.md)", (COUNT, OUTPUT), most=1),
     Command("grade", "EXERCISE FILE..", "check a program against what an exercise of the course asks for", (*C,), least=2, more=EXERCISES),
+    Command("lsp", "", "be a language server for an editor, on the standard streams", least=0, most=0),
+    Command("dap", "", "be a debug adapter for an editor, on the standard streams", least=0, most=0),
     Command("gen", "NUMBER SIZE", "make an image from a number", (OUTPUT,), least=2, most=2, module="make"),
     Command("soak", "NUMBER SIZE", "run that image, and write a summary", (CYCLES,), least=2, most=2, module="make"),
     Command("help", "[TOPIC]", "explain a command, an operation, a fault or another topic", (), least=0),

@@ -33,6 +33,7 @@ STATUSES, FAULTS, ANSWERS, PIECES, LOG = ".ci/statuses", ".ci/faults", ".ci/answ
 WHY, EXPLORE, LIMITS, HOSTILE, CONFORMANCE = ".ci/why", ".ci/explore", ".ci/limits", "tools/hostile", ".ci/conformance"
 MM, PICTURES, VIEW, PAGES = ".ci/mm", "docs/pictures/build", "docs/view/build", "examples/check"
 TRUTH, C, HARDWARE, EDITORS, BROWSER = ".ci/truth", ".ci/c", ".ci/hardware", "editors/check", ".ci/view"
+SERVE = ".ci/serve"
 
 # Each body: what it does wrong, the script that has to notice, what it does; and words for that script, with
 # which it is enough.
@@ -186,6 +187,9 @@ BODIES = [
     ("a page's trace has a turn fewer", BROWSER, '[ "$1" != trace ] || { ran "$@"; text "1d"; told; }'),
     ("a page's report has another register", BROWSER,
      '[ "$1" != run ] || { ran "$@"; text "s/^r 2 i.*/r 2 i0000000000000000/"; told; }'),
+    ("an editor is told of another register", SERVE,
+     '[ "$1" != run ] || { ran "$@"; text "s/^r 2 i.*/r 2 i0000000000000000/"; told; }', "sessions"),
+    ("an editor is told of no mistakes", SERVE, '[ "$1" != asm ] || { ran "$@"; : >"$room/diag"; told; }', "sessions"),
     ("a trace has no entries", PAGES, '[ "$1" != trace ] || { ran "$@"; text "s/ enter .*//"; told; }'),
     # Memory.
     *((f"{command} has no memory for an image of more than 1 MB", LIMITS,

@@ -2,7 +2,7 @@
 
 _mm() {
     local word=${COMP_WORDS[COMP_CWORD]} before=${COMP_WORDS[COMP_CWORD-1]} command='' at
-    local commands='run debug trace view vcd symbols dis audit why check-why explore holders sweep extract solo net save continue cc asm link migrate hex vectors grade gen soak help'
+    local commands='run debug trace view serve vcd symbols dis audit why check-why explore holders sweep extract solo net save continue cc asm link migrate hex vectors grade lsp dap gen soak help'
     COMPREPLY=()
     for ((at = 1; at < COMP_CWORD; at++)); do
         case ${COMP_WORDS[at]} in
@@ -17,6 +17,7 @@ _mm() {
         --cycles | --states | --turns | --groups | --from | -n | -t | -g) return ;;
         --optimise | -O) COMPREPLY=($(compgen -W '0 1 2 3 s' -- "$word")); return ;;
         --heap | --stack | --quarantine | --clang | --slot | --prefix) return ;;
+        --port | --host | --lesson | --token) return ;;
     esac
     if [ -z "$command" ]; then
         COMPREPLY=($(compgen -W "$commands --program --help --version" -- "$word"))
@@ -28,6 +29,7 @@ _mm() {
             run | solo | continue) options="$options --cycles --schedule --turns --names --json --plain --optimise --heap --stack --quarantine --clang" ;;
             trace) options="$options --cycles --schedule --turns --names --json --optimise --heap --stack --quarantine --clang" ;;
             view) options="$options --cycles --schedule --turns --names --from --audit --output --optimise --heap --stack --quarantine --clang" ;;
+            serve) options="$options --port --host --lesson --token --c" ;;
             vcd) options="$options --cycles --schedule --turns --names --from --output --optimise --heap --stack --quarantine --clang" ;;
             debug) options="$options --schedule --turns --names --optimise --heap --stack --quarantine --clang" ;;
             symbols) options="$options --names --json --optimise --heap --stack --quarantine --clang" ;;
@@ -50,7 +52,7 @@ _mm() {
     fi
     case $command in
         help) COMPREPLY=($(compgen -W "$commands sources pointers schedules names ranges waiting idioms nets statuses json operations directives faults letters debugger" -- "$word")) ;;
-        gen | soak) ;;
+        gen | soak | lsp | dap) ;;
         *)
             [ "$command" = migrate ] && COMPREPLY=($(compgen -W 'plain split' -- "$word"))
             [ "$command" = why ] || [ "$command" = check-why ] && COMPREPLY=($(compgen -W 'touch write' -- "$word"))

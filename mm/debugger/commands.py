@@ -80,7 +80,7 @@ def _next(debugger: Debugger, rest: str) -> Lines:
     session = debugger.session
     halt = Halt()
     for _ in range(count_of(rest)):
-        halt = session.follow(_over_call(debugger))
+        halt = session.follow(over_call(debugger))
         if halt.point or halt.ended:
             break
     return debugger.stop(halt)
@@ -95,7 +95,7 @@ def _here(debugger: Debugger) -> Pointer:
     return pointer
 
 
-def _over_call(debugger: Debugger) -> Callable[[Turn], bool]:
+def over_call(debugger: Debugger) -> Callable[[Turn], bool]:
     """What the next turn of the current slot is: that after the way back, if it stands at a call."""
     here = _here(debugger)
     instruction = debugger.session.memory.instruction(here.address)

@@ -71,13 +71,13 @@ def by_lines(debugger: Debugger, rest: str, over: bool) -> Iterable[str]:
     session = debugger.session
     halt = Halt()
     for _ in range(count_of(rest)):
-        halt = session.follow(_other_line(debugger, over))
+        halt = session.follow(other_line(debugger, over))
         if halt.point or halt.ended:
             break
     return debugger.stop(halt)
 
 
-def _other_line(debugger: Debugger, over: bool) -> Callable[[Turn], bool]:
+def other_line(debugger: Debugger, over: bool) -> Callable[[Turn], bool]:
     """Whether a turn begins another line than that of now: of any function, or of one that is being carried out."""
     symbols, values = debugger.session.symbols, debugger.session.values
     frames = values.frames if values else []

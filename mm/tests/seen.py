@@ -91,7 +91,7 @@ class Seen:
         slot = next((slot for slot in report.slots if turn and slot.number == turn.slot), None)
         if slot is None:
             return
-        values = CValues(slot, Memory(self.image, report.cells), self.speller)
+        values = CValues(slot, Memory.after(self.image, report), self.speller)
         if not values.frames:
             return
         known = values.locals() if values.frames[0].line else ()
@@ -169,13 +169,10 @@ class Seen:
         return {self.speller.word(cell.word), self.speller.at(memory, address)}
 
     def _cells(self, report: Report) -> Iterator[str]:
-        memory = Memory(self.image, report.cells)
+        memory = Memory.after(self.image, report)
         shown = {address: (bit, text) for address, bit, text in self.shown["cells"]}
-        gone = {page for page, new in report.pages if not new}
         for address in sorted({*shown, *report.cells}):
-            cell = None if address >> 12 in gone else memory.cell(address)
-            if cell is None and any(page == address >> 12 for page, new in report.pages if new):
-                cell = Cell()
+            cell = memory.cell(address)
             bit, text = shown.get(address, ("", "no row"))
             wanted = "" if cell is None else "● full" if cell.full else "○ empty"
             if bit != wanted or text not in self._texts(memory, address, cell):

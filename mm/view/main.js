@@ -24,6 +24,7 @@ function render() {
   showMemory(place, now);
   tellPlace(place, before);
   root.dataset.place = place;
+  window.dispatchEvent(new Event("moved"));
 }
 
 function tellPlace(place, before) {
@@ -64,6 +65,18 @@ function jump(test, way = 1) {
   const all = TURNS.map((turn, at) => at + 1).filter((at) => test(TURNS[at - 1]));
   if (all.length) goTo(way > 0 ? all[0] : all[all.length - 1]);
   else byId("said").textContent = "There is none";
+}
+
+// To the next turn of a line of a source; a click on a line leads there too.
+const ofLine = (source, line) => (turn) => {
+  const from = turn.fetch >= 0 ? lineAt(turn.fetch) : null;
+  return Boolean(from) && from.source === source && from.line === line;
+};
+
+function jumpInLine(way) {
+  const turn = cursor.place ? TURNS[cursor.place - 1] : null, from = turn && turn.fetch >= 0 ? lineAt(turn.fetch)
+    : null;
+  if (from) jump(ofLine(from.source, from.line), way);
 }
 
 // To the nearest turn of the lane above or below.
@@ -115,6 +128,7 @@ const KEYS = [
   ["e", "e", "the next entry of a gate", () => jump(JUMPS.entry), () => jump(JUMPS.entry, -1)],
   ["b", "b", "the next blocked turn", () => jump(JUMPS.blocked), () => jump(JUMPS.blocked, -1)],
   ["a", "a", "the next access of the chosen word", () => jump(JUMPS.access), () => jump(JUMPS.access, -1)],
+  ["l", "l", "the next turn of this turn's line", () => jumpInLine(1), () => jumpInLine(-1)],
   [" ", "Space", "play, and stop", play],
   ["+", "+", "larger boxes", ACTIONS.in],
   ["-", "−", "smaller boxes", ACTIONS.out],
@@ -123,7 +137,8 @@ const KEYS = [
 
 // Lane keys and Page keys move the page itself unless the timeline has the focus.
 const ONLY_ON_TIMELINE = new Set(["ArrowUp", "ArrowDown", "PageUp", "PageDown"]);
-const inField = (target) => target.matches("input, select, textarea, #lines, .scroll") || target.closest("dialog");
+const inField = (target) => target.matches("input:not([type='checkbox']), select, textarea")
+  || target.closest("dialog");
 let letters = true;
 
 function onKey(event) {
@@ -131,7 +146,7 @@ function onKey(event) {
   const { key } = event, row = KEYS.find(([name]) => name === key || name === key.toLowerCase());
   if (!row || (ONLY_ON_TIMELINE.has(key) && document.activeElement !== byId("timeline"))) return;
   if (!letters && key.length === 1 && event.target !== byId("timeline")) return;
-  if (key === " " && event.target.matches("button, summary")) return;
+  if (key === " " && event.target.matches("button, summary, input")) return;
   event.preventDefault();
   const [, , , plain, shifted] = row;
   (event.shiftKey && shifted && key !== "?" ? shifted : plain)();
@@ -147,7 +162,8 @@ function openHelp() {
     el("table", {}, el("tbody", {}, KEYS.map(([, shown, says]) => el("tr", {},
       el("th", { scope: "row" }, el("kbd", {}, shown)), el("td", {}, says))))),
     el("p", {},
-      "With Shift, a letter goes back. Click on a word to take it apart. ",
+      "With Shift, a letter goes back. Click on a word to take it apart, ",
+      "and on a line of the source to go to its turns. ",
       "Lanes and pages move while the timeline has the focus."),
     el("p", {}, el("label", {}, box, " letters work everywhere, and not on the timeline alone")), close);
   help.showModal();
@@ -245,12 +261,16 @@ function begin() {
     const go = event.target.closest("[data-go]"), word = event.target.closest(".word");
     if (go) (ACTIONS[go.dataset.go] || (() => jump(JUMPS[go.dataset.go], event.shiftKey ? -1 : 1)))();
     if (word) toggle(word);
+    const line = event.target.closest("#lines li[data-line]");
+    if (line && !getSelection().toString()) jump(ofLine(source.shown, Number(line.dataset.line)), event.shiftKey ? -1
+      : 1);
   });
   byId("cycle").min = RUN.first - 1;
   byId("cycle").max = RUN.last;
   byId("cycle").addEventListener("change", () => goTo(placeOf(Number(byId("cycle").value))));
   byId("word").addEventListener("change", switchJumps);
   byId("zeros").addEventListener("change", render);
+  byId("base").addEventListener("change", chooseBase);
   byId("smaller").addEventListener("click", () => setSize(-1));
   byId("larger").addEventListener("click", () => setSize(1));
   byId("keys").addEventListener("click", openHelp);
@@ -261,4 +281,13 @@ function begin() {
   matchMedia("(prefers-color-scheme: dark)").addEventListener("change", () => setTheme(root.dataset.theme || null));
 }
 
+// Chooses how integers are written, in registers and in memory.
+function chooseBase() {
+  numbers.base = byId("base").value;
+  for (const entry of memory.rows.values()) entry.word = undefined;
+  render();
+}
+
 begin();
+// For a page around this one.
+window.shown = { RUN, TURNS, cursor, lineAt, originOf, ofLine, machineAt };

@@ -66,7 +66,7 @@ function partRows({ region, page, addresses }) {
 function partTitle({ region, page }, code) {
   const tint = code ? `--tint:var(--tint-${code.tint})` : null;
   const what = code ? { code: ", code", gate: ", a gate", kernel: ", privileged code" }[code.kind] : "";
-  return [el("span", { class: "swatch", style: tint, "aria-hidden": "true" }),
+  return [el("span", { class: code ? swatchClass(code) : "swatch", style: tint, "aria-hidden": "true" }),
     el("strong", {}, region ? region.name : `page ${hex(page)}`),
     el("span", { class: "soft" }, region ? ` ${bytesText(region.log)} at ${hex(region.base)}${what}`
       : ` at ${hex(page * PAGE_BYTES)}`),

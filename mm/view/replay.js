@@ -96,6 +96,8 @@ const GROUP = new Map(RUN.start.slots.map(({ slot, group }) => [slot, group]));
 // The segments in which slots ran, in the order in which they first come, each with its tint and what it is: code, a
 // gate or the kernel.
 const CODE = new Map();
+// The order in which tints are given out: two blues come as far from each other as they can.
+const TINTS = [0, 1, 2, 3, 6, 5, 7, 4];
 const codeKey = (pointer) => `${pointer.base}/${pointer.log}`;
 (function findCode() {
   const entered = new Set();
@@ -113,7 +115,8 @@ const codeKey = (pointer) => `${pointer.base}/${pointer.log}`;
       const region = regionAt(Number(pointer.base));
       const whole = region && region.base === Number(pointer.base) && region.log === pointer.log;
       CODE.set(key, {
-        tint: CODE.size % 8,
+        tint: TINTS[CODE.size % 8],
+        late: CODE.size > 3,
         name: whole ? region.name : `${showAddress(pointer.base)} 2^${pointer.log}`,
         base: Number(pointer.base),
         end: Number(pointer.end),

@@ -87,6 +87,14 @@ function toggle(button) {
 
 const partsRow = (word, across) => el("tr", { class: "parts" }, el("td", { colspan: across }, partsOf(word)));
 
+// The registers of each slot that are not 0 at some time of the run: they keep their rows while they are.
+const EVER = new Map(RUN.start.slots.map(({ slot, registers }) => [slot,
+  new Set(registers.flatMap((word, at) => (word === ZERO ? [] : [at])))]));
+for (const { changes } of TURNS) {
+  for (const [kind, slot, register, word] of changes) if (kind === REGISTER
+    && word !== ZERO) EVER.get(slot).add(register);
+}
+
 function registerRows(slot, before, zeros) {
   const rows = [];
   const add = (name, word, changed, more, mark = "changed") => {
@@ -101,7 +109,7 @@ function registerRows(slot, before, zeros) {
     : null, jumped ? "changed" : "moved");
   slot.registers.forEach((word, at) => {
     const changed = before && before.registers[at] !== word;
-    if (zeros || word !== ZERO || changed) add(`r${at}`, word, changed);
+    if (zeros || changed || EVER.get(slot.slot).has(at)) add(`r${at}`, word, changed);
   });
   return rows;
 }

@@ -45,9 +45,11 @@ function boxPath(pen, x, y, width, height) {
   pen.closePath();
 }
 
-// Gates have a beam below their top and the kernel has stripes, so that neither is told by its tint alone.
-function drawKind(pen, kind, x, y, width, height) {
+// Gates have a beam below their top, privileged code has stripes, and segments from the fifth on have a foot, so that
+// none is told by its tint alone.
+function drawKind(pen, { kind, late }, x, y, width, height) {
   pen.fillStyle = pen.strokeStyle = colours["on-tint"];
+  if (late) pen.fillRect(x + width * 0.25, y + height - Math.min(5, height / 5), width * 0.5, Math.min(3, height / 8));
   if (kind === "gate") pen.fillRect(x, y + Math.min(4, height / 6), width, Math.min(3, height / 8));
   if (kind !== "kernel" || width < 5) return;
   pen.save();
@@ -111,7 +113,7 @@ function drawOutcome(pen, outcome, code, x, y, width, height) {
   }
   boxPath(pen, x, y, width, height);
   pen.fill();
-  drawKind(pen, code.kind, x, y, width, height);
+  drawKind(pen, code, x, y, width, height);
 }
 
 const MARKS = { load: "l", loadset: "b", store: "s" };

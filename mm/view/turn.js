@@ -14,6 +14,9 @@ function turnText(turn, before) {
   return cell ? `no instruction: ${wordText(cell[0])}` : "no page is here";
 }
 
+// The marks of a segment's swatch, as those of its boxes.
+const swatchClass = (code) => `swatch ${code.kind}${code.late ? " late" : ""}`;
+
 // What a blocked turn waits for.
 function waitText(turn, before) {
   const instruction = turnInstruction(turn, before);
@@ -91,7 +94,7 @@ function showTurn(place, before, now) {
   pane.replaceChildren(...[
     el("h2", { id: "turn-title" }, title),
     el("p", { class: "what" }, el("code", {}, turnText(turn, before))),
-    el("p", { class: "where" }, el("span", { class: "swatch", style: `--tint:var(--tint-${code.tint})`,
+    el("p", { class: "where" }, el("span", { class: swatchClass(code), style: `--tint:var(--tint-${code.tint})`,
       "aria-hidden": "true" }), `in ${codeText(code)}, `, placeText(turn)),
     ofC ? el("p", { class: "where" }, cText(ofC)) : null,
     turn.fault ? el("div", { class: "fault" },

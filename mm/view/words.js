@@ -68,8 +68,14 @@ function originOf(address) {
   return line ? { source: region.source, line } : null;
 }
 
+// How integers are written: as `mm run` does, or to one base alone.
+const numbers = { base: "" };
+const BASES = { 16: (bits) => hex(bits), 10: (bits) => `${BigInt.asIntN(64, bits)}`, 2: (bits) =>
+  `0b${bits.toString(2)}` };
+
 function integerText(word) {
   const bits = bitsOf(word), signed = BigInt.asIntN(64, bits);
+  if (numbers.base) return BASES[numbers.base](bits);
   if (-65536n < signed && signed < 65536n) {
     return bits >= 32n && bits < 127n ? `${signed} '${String.fromCharCode(Number(bits))}'` : `${signed}`;
   }
