@@ -265,7 +265,12 @@ class Workshop:
         datas = [read_file(name) for name in names]
         refuse_nets(names, datas)
         refuse_schedules(names, datas)
-        datas = self._translated(names, datas)
+        translated = self._translated(names, datas)
+        named = [name + ".asm" if name.endswith(C_SUFFIX) else name for name in names]
+        return self.build_of(named, translated, others)
+
+    def build_of(self, names: Sequence[str], datas: Sequence[bytes], others: Sequence[str] = ()) -> Built:
+        """The image of files that were read: no file is opened but `others`, and a source beside an image."""
         kinds = [FileKind.of(data) for data in datas]
         if FileKind.IMAGE in kinds:
             if len(names) > 1:
@@ -285,8 +290,7 @@ class Workshop:
                     )
                 ],
             )
-        named = [name + ".asm" if name.endswith(C_SUFFIX) else name for name in names]
-        return self.link([self.unit(name, data) for name, data in zip(named, datas)])
+        return self.link([self.unit(name, data) for name, data in zip(names, datas)])
 
     def _translated(self, names: Sequence[str], datas: list[bytes]) -> list[bytes]:
         """The files, those of C as sources: each is a program of its own, in the next slot if it has a `main`."""

@@ -55,9 +55,12 @@ PREFIX = Option("--prefix", "what the names of the program's segments begin with
 STATES = Option("--states", "how many configurations are looked at, 1 to 1000000; else 100000", "N")
 PART = Option("--part", "memory, frames, pages, slots, or all for a testbench; default: memory (docs/HARDWARE.md)", "NAME")
 COUNT = Option("--count", "how many; default: 256", "N")
+CSV = Option("--csv", "write CSV: a row for each answer")
+FEEDBACK = Option("--feedback", "also write what each student is shown into a file of this folder", "FOLDER")
+CHECK = Option("--check", "try the exercise itself with the answers and fakes that it names")
 RUNNING = (CYCLES, SCHEDULE, TURNS, NAMES)
 FILES = "FILE.."
-EXERCISES = "EXERCISE is lab-1 to lab-5 for a task of the first lab, 1.1 to 8.2 or 10.1 to 11.2 for an exercise of a lesson, or a file of your own (docs/course/GRADING.md)."
+EXERCISES = "FILE may be a folder that has a folder or a file for each student. EXERCISE is lab-1 to lab-5 for a task of the first lab, 1.1 to 8.2 or 10.1 to 11.2 for an exercise of a lesson, or a file of your own (docs/course/GRADING.md)."
 
 # fmt: off
 COMMANDS = (
@@ -85,7 +88,7 @@ COMMANDS = (
     Command("migrate", "FILE.. MODE", "make an image of version 2, in which loads answer at once (plain) or later (split)", (OUTPUT, *C), least=2, module="make"),
     Command("hex", FILES, "write an image for Verilog's $readmemh: its memory, its frames with their pages, or its slots", (PART, OUTPUT, *C)),
     Command("vectors", "OPERATION", "write operands and results of an operation, for a unit by itself (docs/HARDWARE.md)", (COUNT, OUTPUT), most=1),
-    Command("grade", "EXERCISE FILE..", "check a program against what an exercise of the course asks for", (*C,), least=2, more=EXERCISES),
+    Command("grade", "EXERCISE FILE..", "check a program, or a folder of them, against what an exercise of the course asks for", (JSON, CSV, FEEDBACK, CHECK, *C), more=EXERCISES),
     Command("gen", "NUMBER SIZE", "make an image from a number", (OUTPUT,), least=2, most=2, module="make"),
     Command("soak", "NUMBER SIZE", "run that image, and write a summary", (CYCLES,), least=2, most=2, module="make"),
     Command("help", "[TOPIC]", "explain a command, an operation, a fault or another topic", (), least=0),
