@@ -15,7 +15,8 @@ from mm.named import NamedFile
 from mm.names.layout import Placed, differences, place
 from mm.names.symbols import Symbols, fits, symbols_of
 from mm.room import Room
-from mm.source.text import SourceText, read_source
+from mm.source.letters import plain
+from mm.source.text import SourceText, lines_of, read_source
 from mm.status import SIGNALLED, Refused, Status, Stop
 
 # Messages are imported where there is something to tell.
@@ -160,7 +161,7 @@ class Workshop:
                     )
                 ],
             )
-        answer = self.program.run(["asm", self.keep(data, ".asm")])
+        answer = self.program.run(["asm", self.keep(plain(data).data, ".asm")])
         if answer.status:
             raise self._source_refused(name, data, answer)
         made, source = read_object(answer.out), read_source(name, data)
@@ -181,15 +182,15 @@ class Workshop:
         from mm.messages.sources import explain
         from mm.source.mend import Mender
 
-        source = read_source(name, data)
-        mender = Mender(source.lines)
+        source, given = read_source(name, data), plain(data)
+        mender = Mender(lines_of(given.data))
         found: list[Diagnostic] = []
         seen: set[tuple[int, int, int]] = set()
         fault, line, column = refusal["fault"], refusal["line"], refusal["column"]
         most = MOST_FOUND if len(data) <= LONG_SOURCE else MOST_ERRORS
         while len(found) < most and (fault, line, column) not in seen:
             seen.add((fault, line, column))
-            told = explain(source, fault, line, column)
+            told = explain(source, fault, given.line(line), column)
             found += [told] if told.name not in mender.dropped else []
             next_one = self._next_fault(mender, fault, line, column)
             if next_one is None:

@@ -41,7 +41,7 @@ OTHER_OPERATIONS = {
 OTHER_DIRECTIVES = {
     ".word .dword .quad .long .dw .dq .dd .half .short .octa .data4": "a word is `.int NUMBER`",
     ".byte .db": "memory has only words of 64 bits: write `.int NUMBER` for each",
-    ".string .ascii .asciz .str .asciiz": "there are no strings: each letter is a word, as `.int 72` for H (`mm help letters` has the numbers)",
+    ".string .asciz .str": "a text is `.asciiz \"Hello\"`, with a word for each letter and 0 after them, or `.ascii \"Hello\"` without the 0",
     ".space .skip .zero .res .bss .comm": "words that hold 0 are made by `.fill COUNT`",
     ".text .data .section .code .rodata .seg": "code and data are begun by `.segment NAME L`, with 2^L bytes",
     ".global .globl .extern .export .import .public": "segments are known to other sources by their names, without a directive; labels are not",

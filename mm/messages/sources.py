@@ -13,6 +13,7 @@ from mm.names.expressions import nearest
 from mm.names.numbers import counted
 from mm.outputs.refusal import Refusal
 from mm.source import wants
+from mm.source.letters import without_letters
 from mm.source.lines import Line, read_line
 from mm.source.tokens import LONG_LINE, Token, TokenKind, cut, readable, token_at, tokens_of
 from mm.source.text import SourceSegment, SourceText, read_source
@@ -36,7 +37,8 @@ class Explained:
 
     def __init__(self, source: SourceText, number: int, column: int) -> None:
         self.source, self.number, self.column = source, number, column
-        self.said = source.line(number)
+        self.written = source.line(number)
+        self.said = without_letters(self.written)
         self.line: Line = read_line(self.said)
         self.token = self._token()
         self.head = self._head()
@@ -239,7 +241,7 @@ def explain(source: SourceText, fault: int, number: int, column: int) -> Diagnos
     if hint is None and fault <= 4:
         hint = at.usage() or "`mm help sources` shows what a source looks like"
     name = at.token.text if fault == LABEL and at.token else None
-    return Diagnostic(source.path, message, number, column, at.said, [hint] if hint else [], name=name)
+    return Diagnostic(source.path, message, number, column, at.written, [hint] if hint else [], name=name)
 
 
 def explain_refusal(path: str, data: bytes, refusal: Refusal) -> Diagnostic:
