@@ -152,7 +152,7 @@ class Workshop:
                 [
                     _diagnostic(
                         name,
-                        "this is no text, no image and no object",
+                        "this is neither a text nor an image nor an object",
                         hints=[
                             "it is a text in UTF-16: save it as UTF-8"
                             if data.startswith(UTF_16)
@@ -236,7 +236,7 @@ class Workshop:
                 return self.assemble(name, data)
         except Refused:
             pass
-        said = "the file is empty" if not data else "this is no image, no object and no source"
+        said = "the file is empty" if not data else "this is neither an image nor an object nor a source"
         hints = ["an image is what `mm link FILE.. -o IMAGE` writes, an object what `mm asm SOURCE -o OBJECT` writes"]
         raise Refused(Status.REFUSED, [_diagnostic(name, said, hints=hints)])
 
@@ -346,7 +346,7 @@ def refuse_schedules(names: Sequence[str], datas: Sequence[bytes]) -> None:
     for name, data in zip(names, datas):
         if name.endswith(".schedule") and FileKind.of(data) is FileKind.TEXT:
             hint = f"the order of turns is said by an option: `--schedule {name}`"
-            raise Refused(Status.USAGE, [_diagnostic(name, "this is a schedule, and no program", hints=[hint])])
+            raise Refused(Status.USAGE, [_diagnostic(name, "this is a schedule, not a program", hints=[hint])])
 
 
 def give_names(built: Built, units: Sequence[Unit]) -> None:

@@ -73,7 +73,7 @@ COMMANDS = (
     Command("dis", "FILE", "show an image or an object word by word: address, word, instruction and name", (NAMES,), most=1),
     Command("audit", FILES, "say what each group can read and write, whatever its code does", (GROUPS, NAMES, JSON, *C)),
     Command("explore", FILES, "say what a program can do under any schedule, with a shortest one for each finding", (STATES, NAMES, *C)),
-    Command("why", "FILE.. GROUP WORD KIND", "by what way a group can touch or write a word: the pointers, one after the other", (NAMES, *C), least=4),
+    Command("why", "FILE.. GROUP WORD KIND", "how a group can touch or write a word: the pointers, one after the other", (NAMES, *C), least=4),
     Command("check-why", "IMAGE GROUP WORD KIND", "check a derivation of `mmachine why`, given on the standard input", least=4, most=4, module="check_why"),
     Command("holders", "FILE.. RANGE", "say who holds a pointer into a range (`mm help ranges`)", (NAMES, *C), least=2, module="ranges"),
     Command("sweep", "FILE.. RANGE", "make an image in which nobody has a pointer into a range", (OUTPUT, NAMES, *C), least=2, module="ranges"),

@@ -249,7 +249,7 @@ INFO: dict[str, tuple[str, Callable[[Debugger, str], Lines]]] = {
     ),
     "locals": ("variables of C; else registers", lambda debugger, rest: local_lines(debugger) or _registers(debugger, rest)),
     "display": ("values that are shown at stops", displays),
-    "output": ("what each group has put out", _output),
+    "output": ("what each group has printed", _output),
     "line": ("where this slot is", _where),
 }
 INFO_NAMES = {
@@ -328,7 +328,7 @@ ENTRIES = (
     Entry(("x",), "/N[i] PLACE", "N words of memory, with i as instructions; a register means where it points", "value", _examine),
     Entry(("list", "l"), "[PLACE]", "the source around this slot's place, or around another place", "place", _list),
     Entry(("where", "bt", "backtrace", "frame"), "", "where the run is; in C also the functions that wait", "", _where),
-    Entry(("output", "o"), "", "what each group has put out", "", _output),
+    Entry(("output", "o"), "", "what each group has printed", "", _output),
     Entry(("info", "i"), "WHAT", ", ".join(INFO), "info", _info),
     Entry(("help", "h"), "[WHAT]", "this list, a command or an operation", "help", _help),
     Entry(("quit", "q", "exit"), "", "the end", "", _quit),

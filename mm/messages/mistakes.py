@@ -69,7 +69,7 @@ def _offset_in_brackets(scene: Scene) -> Optional[str]:
         match[2].lower(),
     )
     if scene.head == "leai":
-        return f"it is written `leai r2, {pointer}, {offset}`"
+        return f"write `leai r2, {pointer}, {offset}`"
     if scene.head in OPERANDS and scene.head not in ("ld", "st"):
         return None
     if scene.head == "st":
@@ -247,7 +247,7 @@ def _name_as_operand(scene: Scene) -> Optional[str]:
         return f"`jal` wants a register with a pointer: first `lip r5, {scene.found}`, if it is in the same segment, and then `jal r6, r5`"
     if scene.head in ("bz", "bnz"):
         return None
-    return f"a name is no operand of `{scene.head}`: a pointer to `{scene.found}` comes from `.reg 5 ptr rw {scene.found}` after the `.thread`, or, if it is in the same segment, by `lip r5, {scene.found}`"
+    return f"a name is not an operand of `{scene.head}`: a pointer to `{scene.found}` comes from `.reg 5 ptr rw {scene.found}` after the `.thread`, or, if it is in the same segment, by `lip r5, {scene.found}`"
 
 
 def _label(scene: Scene) -> Optional[str]:

@@ -33,7 +33,7 @@ OTHER_OPERATIONS = {
     "push pop": "there is no stack of the machine's own: keep a pointer to one in a register, store with `st`, and move it with `leai` (mm help idioms)",
     "hlt exit stop quit end break": "a thread ends by `halt`",
     "syscall ecall svc swi int": "a service is called by `jal r6, r5` through an enter pointer, or asked of a handler by `trap 1`",
-    "print putc putchar puts write": "a letter is put out by `out r1`, one at a time",
+    "print putc putchar puts write": "a letter is printed by `out r1`, one at a time; examples/text/print.asm prints texts and numbers",
     "noop": "it is called `nop`",
     "cas swap xchg lock ll sc amoadd": "threads are kept in turn by the synchronisation bit: `ld r2, r1, 0, full, empty` takes the word, `st r1, r2, 0, empty, full` gives it back",
 }

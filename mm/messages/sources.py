@@ -80,14 +80,14 @@ class Explained:
         """How the statement is written."""
         operation, directive = OPERATIONS.get(self.head), DIRECTIVES.get(self.head)
         if operation:
-            return f"it is written `{operation.usage}`, as `{operation.example}`"
-        return f"it is written `{directive.usage}`, as `{directive.example}`" if directive else None
+            return f"usage: `{operation.usage}`, as in `{operation.example}`"
+        return f"usage: `{directive.usage}`, as in `{directive.example}`" if directive else None
 
 
 def _bad_byte(at: Explained) -> str:
     letter = readable(at.said[at.column - 1 :])[:1]
     shown = f"`{letter}`" if letter.isprintable() and not letter.isspace() else f"U+{ord(letter):04X}"
-    return f"{shown} begins nothing that a source can have"
+    return f"{shown} cannot stand in a source"
 
 
 def _syntax(at: Explained) -> str:
@@ -119,7 +119,7 @@ def _range(at: Explained) -> str:
 
 
 def _label(at: Explained) -> str:
-    return f"`{at.text}` is no label of this segment"
+    return f"`{at.text}` is not a label of this segment"
 
 
 def _twice(at: Explained) -> str:

@@ -114,7 +114,7 @@ MISTAKES = [
     line("  .empty", "2:9", "too early", "`.empty .int 0`"),
     line("  ld r2, r1, 0, Full, Empty", "2:17", "found `Full`", "small letters: `full`"),
     line("  ld r2, r1, r3, any, keep", "2:14", "found the name `r3`", "`lea r4, r1, r3`"),
-    line("  bnz r2, r3", "2:11", "`r3` is no label", "`jmp r3`"),
+    line("  bnz r2, r3", "2:11", "`r3` is not a label", "`jmp r3`"),
     line("  ldi r, 5", "2:7", "found the name `r`", "r0 to r15"),
     line("  ldi r02, 5", "2:7", "found the name `r02`", "`r2`"),
     line("  ldi r2, +5", "2:11", "found the sign `+`", "no plus sign"),

@@ -166,7 +166,7 @@ class Sessions(unittest.TestCase):
         self.assertIn("write how many words", said[0])
         self.assertIn("write how many words", said[1])
         self.assertIn("  box ", said[2])
-        self.assertIn("-0x8 is no address", said[3])
+        self.assertIn("-0x8 is not an address", said[3])
 
     def test_schedule_with_idle_cycles(self):
         said = self.session(["s", "s 2", "back", "goto 7", "s"], "examples/counter.asm", "--turns", "9 0 9 1*5")

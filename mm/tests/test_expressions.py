@@ -62,7 +62,7 @@ class Expressions(unittest.TestCase):
         ("(1 + 2", "a `)` is missing"), ("1 + 2)", "goes on after `1 + 2`"), ("1 2", "goes on after `1`"), ("1 +", "a value is missing at the end"),
         ("+ & 3", "only a name"), ("5 / 0", "divides by zero"), ("5 % 0", "divides by zero"), ("1 << 64", "0 to 63"), ("r2 = 5", "never changed"),
         ("count+1", "`(count)`"), ("nope + 1", "no label or segment `nope`"), ("r16 + 1", "no register r16"), ("**r1", "no page is at 0x0"),
-        ("(1 + 2) ? 3", "`?` begins nothing"), ("box[1]", "no address"), ("&", "only a name"), ("1" * 101 + " + 1", "no address"),
+        ("(1 + 2) ? 3", "`?` cannot stand"), ("box[1]", "not an address"), ("&", "only a name"), ("1" * 101 + " + 1", "not an address"),
     )
 
     def answers_of(self, *lines, program="examples/counter.asm"):

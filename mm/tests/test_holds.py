@@ -1,5 +1,5 @@
 """That `mm` holds: names that are options for others, lines of megabytes, streams that are closed, files that are outputs and inputs,
-signals, and a program that is no `mmachine`."""
+signals, and a program that is not `mmachine`."""
 
 import json
 import os
@@ -130,7 +130,7 @@ class Grades(unittest.TestCase):
             made = os.path.join(room, "answer.asm")
             mm("asm", source, "-o", made)
             self.assertIn("0 of 2", mm("grade", sheet, made).out)
-            self.assertIn("answer.asm is no source, so its operations are not looked at", mm("grade", sheet, made).out)
+            self.assertIn("answer.asm is not a source, so its operations are not looked at", mm("grade", sheet, made).out)
             mm("link", source, "-o", made)
             self.assertIn("0 of 2", mm("grade", sheet, made).out)
 
@@ -232,7 +232,7 @@ class Streams(unittest.TestCase):
         with folder() as room:
             ended = mm("--program", "/bin/echo", "run", write(room, "p.asm", GOOD))
         self.assertEqual(ended.status, Status.OWN_FAULT)
-        self.assertIn("names is no `mmachine`", ended.err)
+        self.assertIn("names is not `mmachine`", ended.err)
 
     def test_a_program_that_a_signal_ends(self):
         with folder() as room:

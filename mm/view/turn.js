@@ -39,7 +39,7 @@ function deeds(turn, before) {
   for (const [kind, a, b, c] of turn.changes) {
     if (kind === OUT) {
       const letter = b >= 32 && b < 127 ? ` '${String.fromCharCode(b)}'` : "";
-      said.push(`puts out ${b}${letter} for group ${a}`);
+      said.push(`prints ${b}${letter} for group ${a}`);
     }
     else if (kind === LOAD) said.push(`a load of r${b} is on its way: ${wordText(c)}`);
     else if (kind === EVENT) said.push(`${causeText(c)} goes to the queue of slot ${a}`);

@@ -20,7 +20,7 @@ NULL_PAGE = 4096
 # The traps of programs in C, by their numbers.
 TRAPS = {1: "`__builtin_trap`", 2: "a place that C says is never reached", 6: "`abort`",
          7: "the translator's second reckoning differs: the translator is wrong",
-         8: "`free` of what is no block of malloc, or was freed before"}
+         8: "`free` of what is not a block of malloc, or was freed before"}
 
 
 class CView:
