@@ -149,7 +149,7 @@ function openHelp() {
     el("p", {},
       "With Shift, a letter goes back. Click on a word to take it apart. ",
       "Lanes and pages move while the timeline has the focus."),
-    el("p", {}, el("label", {}, box, " letters work everywhere, and not on the timeline alone")), close);
+    el("p", {}, el("label", {}, box, " letter keys work anywhere on the page")), close);
   help.showModal();
 }
 

@@ -100,7 +100,7 @@ function showTurn(place, before, now) {
     turn.outcome === "blocked" ? el("p", { class: "waits" }, `Blocked: ${waitText(turn, before)}.`) : null,
     el("ul", {}, deeds(turn, before).map((said) => el("li", {}, said))),
     rows.length ? el("table", { class: "changes" }, el("caption", { class: "unseen" }, "What this turn changed"),
-      el("thead", {}, el("tr", {}, ["changed", "it was", "it is"].map((text) => el("th", { scope: "col" }, text)))),
+      el("thead", {}, el("tr", {}, ["changed", "before", "after"].map((text) => el("th", { scope: "col" }, text)))),
       el("tbody", {}, rows.map(([what, was, is]) => el("tr", {}, el("th", { scope: "row" }, what),
         el("td", { class: "mono" }, was), el("td", { class: "mono" }, is)))))
       : el("p", { class: "soft" }, turn.fault ? "No register and no word changed." : ""),
