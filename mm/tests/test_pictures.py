@@ -83,7 +83,7 @@ class Drawn(unittest.TestCase):
         for place in re.findall(r"^(\d{10}) 00000 n", pdf, re.M):
             self.assertRegex(pdf[int(place) :], r"\A\d+ 0 obj\n")
         length = int(re.search(r"/Length (\d+)", pdf)[1])
-        self.assertEqual(len(pdf.split("stream\n")[1].split("\nendstream")[0]), length)
+        self.assertEqual(len(pdf.split(">>\nstream\n")[1].split("\nendstream")[0]), length)
 
     def test_small_letters_are_refused(self):
         self.assertRaises(AssertionError, Picture("a title").text, 20, 20, "too small", SMALLEST - 1)
