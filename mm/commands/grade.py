@@ -82,8 +82,8 @@ def _write_feedback(grader: Grader, place: str, found: Sequence[Graded]) -> None
         os.makedirs(place, exist_ok=True)
         for graded in found:
             text = "".join(shown(line) + "\n" for line in feedback(grader.sheet, grader.name, graded))
-            with open(os.path.join(place, f"{graded.name}.txt"), "w", encoding="utf-8", errors="backslashreplace") as file:
-                file.write(text)
+            with open(os.path.join(place, f"{graded.name}.txt"), "wb") as file:
+                file.write(text.encode("utf-8", "backslashreplace"))
     except OSError as error:
         raise Stop(Status.WRITE_FAULT, f"mm: {place}: cannot be written: {error.strerror}") from None
 

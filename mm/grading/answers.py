@@ -130,6 +130,8 @@ def _names_in(sheet: Sheet, folder: str) -> list[str]:
     found = [name for name in there if name.endswith(tuple(SUFFIXES[kind] for kind in sheet.takes))]
     if len(found) != 1:
         wanted = " or ".join(SUFFIXES[kind] for kind in sheet.takes)
-        said = f"there are {len(found)} files with the suffix {wanted}" if found else f"there is no file with the suffix {wanted}"
-        raise Refusal(said + (": the sheet can say which one by a line `file NAME`" if found else ""))
+        if not found:
+            raise Refusal(f"there is no file with the suffix {wanted}")
+        said = f"there are {len(found)} files with the suffix {wanted}"
+        raise Refusal(f"{said}: the exercise can say which one by a line `file NAME`")
     return found

@@ -1,4 +1,5 @@
-"""The lines of an exercise that look at the end of a run, at the audit and at the outcomes. Each gives what is not so."""
+"""The lines of an exercise that look at the end of a run, at the audit and at the outcomes. Each gives what is not
+so."""
 
 from __future__ import annotations
 

@@ -1,4 +1,5 @@
-"""The lines of an exercise that look at what a run did, by its log: what is only written and never carried out is not done."""
+"""The lines of an exercise that look at what a run did, by its log: what is only written, and never carried out, does
+not count."""
 
 from __future__ import annotations
 
@@ -27,7 +28,8 @@ def executes(program: Program, slot: str, *operations: str) -> Optional[str]:
         wanted, found = number_in(most or "1"), sum(counts[name] for name in names.split("|"))
         if found < wanted:
             said = names.replace("|", " or ")
-            return f"{_who(slot)} {_did(slot)} {said}" if not found else f"it carries out {said} {counted(found, 'time')}"
+            only = f"it carries out {said} {counted(found, 'time')}"
+            return only if found else f"{_who(slot)} {_did(slot)} {said}"
     return None
 
 
@@ -79,7 +81,8 @@ def _accesses(program: Program, slot: str, name: str, kinds: tuple[str, ...]) ->
 
 
 def stores(program: Program, slot: str, name: str) -> Optional[str]:
-    return None if _accesses(program, slot, name, ("store",)) else f"{_who(slot)} {'stores' if slot == 'any' else 'does not store'} there"
+    stored = "stores" if slot == "any" else "does not store"
+    return None if _accesses(program, slot, name, ("store",)) else f"{_who(slot)} {stored} there"
 
 
 def loads(program: Program, slot: str, name: str) -> Optional[str]:
@@ -88,7 +91,8 @@ def loads(program: Program, slot: str, name: str) -> Optional[str]:
 
 def empties(program: Program, slot: str, name: str) -> Optional[str]:
     """A load that changes the word's bit, as one that takes a lock."""
-    return None if _accesses(program, slot, name, ("loadset",)) else f"slot {slot} never takes the word there by its bit"
+    is_so = _accesses(program, slot, name, ("loadset",))
+    return None if is_so else f"slot {slot} never takes the word there by its bit"
 
 
 def _entries(program: Program, slot: str) -> list[int]:

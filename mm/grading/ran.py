@@ -67,7 +67,8 @@ def take(ran: Ran, machine: Machine, step: Step) -> None:
         ran.hold(slot, word)
     if turn.outcome == "faulted" and name:
         ran.stopped[turn.slot] = name
-    if name is None or turn.fetch is None or not (turn.outcome == "did" or (name == "trap" and turn.outcome == "faulted")):
+    carried_out = turn.outcome == "did" or (name == "trap" and turn.outcome == "faulted")
+    if name is None or turn.fetch is None or not carried_out:
         return
     results = tuple(word for slot, word in words if slot == turn.slot and word is not None)
     ran.done.append(Done(turn.slot, name, turn.fetch, turn.access, turn.address, results, turn.entered))

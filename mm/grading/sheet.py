@@ -156,7 +156,8 @@ class _Reader:
         kind = line.split()[0]
         if kind not in FORMS:
             near = nearest(kind, list(FORMS))
-            raise self.refuse(number, f"unknown line `{kind}`" + (f"; do you mean `{near}`?" if near else f": {', '.join(FORMS)}"))
+            meant = f"; do you mean `{near}`?" if near else f": {', '.join(FORMS)}"
+            raise self.refuse(number, f"unknown line `{kind}`{meant}")
         rest = tuple(line.split(None, 2 if kind in OF_TEXT else -1)[1:])
         if not _fits(kind, len(rest)):
             raise self.refuse(number, f"this line has the form `{FORMS[kind]}`")
@@ -172,7 +173,8 @@ class _Reader:
         unknown = [name for name in operations_in(rest[first:last]) if name not in OPERATIONS]
         if unknown:
             near = nearest(unknown[0], list(OPERATIONS))
-            raise self.refuse(number, f"unknown operation `{unknown[0]}`" + (f"; do you mean `{near}`?" if near else ""))
+            meant = f"; do you mean `{near}`?" if near else ""
+            raise self.refuse(number, f"unknown operation `{unknown[0]}`{meant}")
 
     def setting(self, line: Expectation) -> None:
         sheet, case, words = self.sheet, self.sheet.cases[-1], line.words

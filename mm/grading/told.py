@@ -42,7 +42,8 @@ def table(sheet: Sheet, name: str, all_graded: Sequence[Graded]) -> Iterator[str
         yield f"  {visible(graded.name):<{width}}  {said}{more}"
     right = sum(not graded.refused and graded.points == len(graded.lines) for graded in all_graded)
     refused = sum(bool(graded.refused) for graded in all_graded)
-    yield f"{len(all_graded)} answers: {right} have all points, {len(all_graded) - right - refused} some, {refused} refused"
+    some = len(all_graded) - right - refused
+    yield f"{len(all_graded)} answers: {right} with all points, {some} without, {refused} refused"
 
 
 def _cell(text: str) -> str:

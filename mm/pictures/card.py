@@ -19,8 +19,9 @@ TITLE = "The M-Machine in assembly language"
 WIDE, HIGH, MARGIN, SIZE, LINE, ADVANCE = 595, 842, 26, 6.1, 9.9, 0.6
 HEADING, USAGE, EFFECT = 8.5, 25, 108
 NOTES = (
-    "Registers r0 to r15 hold integers or pointers; r0 is one like the others. N: a number, decimal or 0x.., or a letter 'A'.",
-    "PRE: what the word's bit must be (any, full, empty). POST: what it becomes (keep, full, empty). HOW: retry, skip, kill.",
+    "Registers r0 to r15 hold integers or pointers; r0 is one like the others. N: a number, decimal or 0x.., or 'A'.",
+    "PRE: what the word's bit must be (any, full, empty). POST: what it becomes (keep, full, empty). HOW: retry, skip or"
+    " kill.",
     "Words have 8 bytes, addresses count bytes. A call: jal r6, r5; back: jmp r6. A comment begins with ;",
 )
 
@@ -64,8 +65,8 @@ class Card:
             for x, y, size, bold, text in self.texts
         ]
         head = (
-            f'<svg xmlns="http://www.w3.org/2000/svg" width="{2 * WIDE}" height="{2 * HIGH}" viewBox="0 0 {WIDE} {HIGH}" '
-            f'font-family="{FONT}" role="img">'
+            f'<svg xmlns="http://www.w3.org/2000/svg" width="{2 * WIDE}" height="{2 * HIGH}" '
+            f'viewBox="0 0 {WIDE} {HIGH}" font-family="{FONT}" role="img">'
         )
         ground = f'<rect class="f-ground" width="{WIDE}" height="{HIGH}"/>'
         return "\n".join([head, f"<title>{TITLE}</title>", _style(), ground, *shapes, *texts, "</svg>", ""])
@@ -74,7 +75,8 @@ class Card:
         """The page as PDF, with Courier, which each reader has."""
         grey = [f"0.94 g {number(x)} {number(HIGH - y - LINE)} {number(wide)} {LINE} re f" for y, x, wide in self.bands]
         texts = [
-            f"BT /{'B' if bold else 'R'} {number(size)} Tf 1 0 0 1 {number(x)} {number(HIGH - y)} Tm ({_in_pdf(text)}) Tj ET"
+            f"BT /{'B' if bold else 'R'} {number(size)} Tf 1 0 0 1 {number(x)} {number(HIGH - y)} Tm "
+            f"({_in_pdf(text)}) Tj ET"
             for x, y, size, bold, text in self.texts
         ]
         content = "\n".join([*grey, "0 g", *texts]).encode("latin-1")

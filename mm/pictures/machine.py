@@ -1,4 +1,5 @@
-"""The whole machine in one picture: slots in groups, words that both reach, a gate, a handler, the frames and the cache."""
+"""The whole machine in one picture: slots in groups, words that both reach, a gate, a handler, the frames and the
+cache."""
 
 from __future__ import annotations
 
@@ -6,6 +7,17 @@ from mm.pictures.svg import Picture
 
 WIDE, HIGH = 132, 74
 LEFT, RIGHT = 24, 324
+
+TAKE_TURNS = (
+    "Up to 64 slots, each with one thread, take turns in the order of a schedule. Groups are sets of threads that belong"
+    " together, and each has an output."
+)
+ARROWS = (
+    "An arrow from a slot into memory is a pointer in one of its registers. Nobody reaches a word without one: slot 2"
+    " gets at the account only through the gate's code. Slot 1 is the handler of slot 0: it hears of that slot's faults."
+)
+CACHE = ["cache and translation buffer", "only its counts show in a report"]
+FRAMES = ["frames: 256 in version 1, 4096 in version 2", "each holds a page of 512 words"]
 
 
 def _slots(picture: Picture, top: float) -> None:
@@ -33,7 +45,7 @@ def _memory(picture: Picture, top: float) -> None:
 
 def draw() -> Picture:
     picture = Picture("The whole machine")
-    picture.paragraph("Up to 64 slots, each with one thread, take turns in the order of a schedule. Groups are sets of threads that belong together, and each has an output.", 13, "soft")
+    picture.paragraph(TAKE_TURNS, 13, "soft")
     top = picture.down + 28
     _slots(picture, top)
     low = top + HIGH + 52
@@ -44,9 +56,9 @@ def draw() -> Picture:
     picture.text(386, top + HIGH + 34, "enter (eu)", 13, "accent", bold=True)
     below = low + 138 + 40
     picture.arrow(240, low + 138, 240, below)
-    picture.box(18, below, 444, 48, ["cache and translation buffer", "only its counts show in a report"], "field", 14)
+    picture.box(18, below, 444, 48, CACHE, "field", 14)
     picture.arrow(240, below + 48, 240, below + 84)
-    picture.box(18, below + 84, 444, 48, ["frames: 256 in version 1, 4096 in version 2", "each holds a page of 512 words"], "field", 14)
+    picture.box(18, below + 84, 444, 48, FRAMES, "field", 14)
     picture.down = below + 84 + 48 + 16
-    picture.paragraph("An arrow from a slot into memory is a pointer in one of its registers. Nobody reaches a word without one: slot 2 gets at the account only through the gate's code. Slot 1 is the handler of slot 0: it hears of that slot's faults.", 13)
+    picture.paragraph(ARROWS, 13)
     return picture

@@ -1,7 +1,8 @@
-"""Letters in a source: `'A'` for a number, and `.ascii "Hi"` and `.asciiz "Hi"` for lines `.int`. They are forms of `mm` alone.
+"""Letters in a source: `'A'` for a number, and `.ascii "Hi"` and `.asciiz "Hi"` for lines `.int`. They are forms of
+`mm` alone.
 
 `mmachine asm` is given the source without them. A letter becomes its number, with blanks up to the same width, so that
-columns stay. A text becomes a line for each of its letters, and each of these lines knows the line that it comes from."""
+columns stay. A text becomes a line for each of its letters, and of each of these lines it is known from which it comes."""
 
 from __future__ import annotations
 
@@ -20,9 +21,13 @@ TEXT = re.compile(
 )
 LETTER = re.compile(rf"{ESCAPE}|.", re.S)
 TEXT_DIRECTIVES = {
-    ".ascii": Directive('.ascii "TEXT"', '.ascii "Hello"', "a word for each letter of the text; \\n, \\t, \\0, \\\\, \\\" and \\x41 stand for others"),
+    ".ascii": Directive(
+        '.ascii "TEXT"',
+        '.ascii "Hello"',
+        "a word for each letter of the text; \\n, \\t, \\0, \\\\, \\\" and \\x41 stand for others",
+    ),
     ".asciiz": Directive('.asciiz "TEXT"', '.asciiz "Hello"', "the same, and after them a word that holds 0"),
-}  # fmt: skip
+}
 # What a source that has none of these forms does not have.
 MARK, TEXT_MARK = b"'", b".ascii"
 

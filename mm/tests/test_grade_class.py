@@ -95,7 +95,7 @@ class Class(unittest.TestCase):
             "  ann   2 of 2\n", "  ben   0 of 2  says 0 A; halts 0\n", "  cem   refused  answer.asm:1:1: error: ",
             "  dora  refused  there are 2 files with the suffix .asm: ", "  eve   refused  this is a link: ",
             "  fay   refused  this is a link: ", "  gil   refused  this is a pipe or a device",
-            "  =hal  0 of 2", "8 answers: 1 have all points, 2 some, 5 refused\n",
+            "  =hal  0 of 2", "8 answers: 1 with all points, 2 without, 5 refused\n",
         ):  # fmt: skip
             self.assertIn(line, out)
         told = read(self.room, "told", "ben.txt")
