@@ -345,7 +345,7 @@ def refuse_schedules(names: Sequence[str], datas: Sequence[bytes]) -> None:
     """Refuses a schedule where a program is wanted."""
     for name, data in zip(names, datas):
         if name.endswith(".schedule") and FileKind.of(data) is FileKind.TEXT:
-            hint = f"the order of turns is said by an option: `--schedule {name}`"
+            hint = f"give the order of turns by an option: `--schedule {name}`"
             raise Refused(Status.USAGE, [_diagnostic(name, "this is a schedule, not a program", hints=[hint])])
 
 

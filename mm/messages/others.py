@@ -47,8 +47,8 @@ OTHER_DIRECTIVES = {
     ".global .globl .extern .export .import .public": "segments are known to other sources by their names, without a directive; labels are not",
     ".org .align .balign .p2align": "places are chosen by the linker: segments by falling length, from 0x100000 on (`mm symbols FILE` lists them)",
     ".equ .set .define .const": "there are no constants: write the number, or keep it in a word by `.int`",
-    ".start .entry .main": "where a thread begins is said by `.thread 0 0 none xu NAME`",
-    ".register .regs": "what a register begins with is said by `.reg 1 int 5` or `.reg 1 ptr rw NAME` after the `.thread`",
+    ".start .entry .main": "`.thread 0 0 none xu NAME` says where a thread begins",
+    ".register .regs": "`.reg 1 int 5` or `.reg 1 ptr rw NAME` after the `.thread` says what a register begins with",
     ".pointer .addr .ref": "a pointer in memory is `.ptr PERMISSION NAME`, as `.ptr rw box`",
     ".macro .endm .include .if .endif": "there are no macros, and a source includes no other: give `mm run` several sources, and share segments by their names",
 }
