@@ -126,11 +126,12 @@ class Clang(unittest.TestCase):
 class Grades(unittest.TestCase):
     def test_an_object_has_no_operations_to_look_at(self):
         with folder() as room:
-            sheet, source = write(room, "s.txt", "without out\nuses halt\n"), write(room, "p.asm", GOOD)
+            sheet = write(room, "s.txt", "takes object image\nwithout out\nuses halt\n")
+            source = write(room, "p.asm", GOOD)
             made = os.path.join(room, "answer.asm")
             mm("asm", source, "-o", made)
             self.assertIn("0 of 2", mm("grade", sheet, made).out)
-            self.assertIn("answer.asm is not a source, so its operations are not looked at", mm("grade", sheet, made).out)
+            self.assertIn("answer.asm is not a source, so its operations are not known", mm("grade", sheet, made).out)
             mm("link", source, "-o", made)
             self.assertIn("0 of 2", mm("grade", sheet, made).out)
 
