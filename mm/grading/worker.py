@@ -24,7 +24,7 @@ from mm.status import Refused, Status, Stop
 
 # What an answer may take: seconds of processor of each process, seconds of the clock for all of it, bytes of memory, and
 # bytes of a file that is written.
-SECONDS, CLOCK, MEMORY, FILE = 30, 60, 4 << 30, 64 << 20
+SECONDS, CLOCK, MEMORY, FILE = 60, 120, 4 << 30, 64 << 20
 START = "import sys; sys.path.insert(0, sys.argv[1]); from mm.grading.worker import main; main()"
 # What the process has of the surroundings.
 KEPT = ("PATH", "LANG", "LC_ALL", "MM_CLANG", "LD_LIBRARY_PATH")
@@ -96,7 +96,7 @@ def _ask(request: bytes, room: str) -> dict[str, Any] | str:
         said: dict[str, Any] = json.loads(out)
         return said
     except ValueError:
-        return f"it takes more than {MEMORY >> 30} GiB of memory, or this should not happen"
+        return f"it could not be graded: the process that grades it ended with {process.returncode}"
 
 
 def _end(process: subprocess.Popen[bytes]) -> None:
