@@ -31,7 +31,7 @@ class Grader:
         path = name if os.path.isfile(name) else os.path.join(FOLDER, f"{name}.txt")
         if not os.path.isfile(path):
             raise usage(f"mm: grade: there is no exercise `{name}`: {', '.join(exercises())}, or a file of your own")
-        self.console, self.name = console, name
+        self.console, self.name = console, os.path.splitext(os.path.basename(path))[0]
         self.text = read_file(path).decode("utf-8", "replace")
         self.sheet: Sheet = read_sheet(os.path.relpath(path), self.text, os.path.dirname(path))
 

@@ -11,7 +11,7 @@ from mm.grading.checks import OF_THE_END, Check
 from mm.grading.doings import OF_A_RUN
 from mm.grading.parts import OF_PARTS, other_inputs
 from mm.grading.program import NotSo, Program, WrongLine
-from mm.grading.sheet import CONDITIONS, HIDDEN, Case, Expectation, Sheet, wrong
+from mm.grading.sheet import HIDDEN, Case, Expectation, Sheet, wrong
 
 CHECKS: dict[str, Check] = {**OF_THE_END, **OF_A_RUN, **OF_PARTS}
 NOTHING_DONE = "this counts once something else of the exercise is done"
@@ -47,7 +47,7 @@ def marks(console: Console, built: Built, sheet: Sheet) -> list[Mark]:
     program = Program(console, other_inputs(console, built, shown), sheet, shown)
     found = [mark(program, line) for line in shown.expectations]
     found += [_of_case(console, built, sheet, case) for case in others]
-    if any(one.right and one.expectation.kind not in CONDITIONS for one in found):
+    if any(one.right and not one.expectation.is_condition for one in found):
         return found
     return [Mark(one.expectation, NOTHING_DONE) if one.right else one for one in found]
 

@@ -114,8 +114,12 @@ class Program:
 
     def given(self, name: str) -> Unit:
         """A source that the sheet names, assembled."""
-        with open(self.sheet.path(name), "rb") as file:
-            return self.console.workshop.unit(name, file.read())
+        try:
+            with open(self.sheet.path(name), "rb") as file:
+                data = file.read()
+        except OSError as error:
+            raise WrongLine(f"{name} cannot be read: {error.strerror}") from None
+        return self.console.workshop.unit(name, data)
 
 
 def number_in(text: str) -> int:

@@ -10,9 +10,9 @@ from mm.build import Built
 from mm.console import Console, Order
 from mm.log.changes import RegisterSet
 from mm.log.read import Step
-from mm.log.replay import Machine
+from mm.log.replay import Machine, SlotNow
 from mm.log.taken import opened
-from mm.machine.isa import BY_NUMBER
+from mm.machine.isa import Instruction, Kind
 from mm.machine.words import Word
 
 
@@ -49,29 +49,31 @@ class Ran:
             (self.pointers if word.tagged else self.integers)[slot].add(word.bits)
 
 
-def operation_at(machine: Machine, address: int) -> Optional[str]:
-    """The operation of the instruction at an address, as memory is now."""
-    cell = machine.cell(address)
-    if cell is None or cell.word.tagged:
-        return None
-    operation = BY_NUMBER.get(cell.word.bits >> 56)
-    return operation.name if operation else None
-
-
 def take(ran: Ran, machine: Machine, step: Step) -> None:
-    """Takes a turn into account, before the machine carries it out. A `trap` is carried out by its fault."""
+    """Lets the machine carry out a turn, and takes it into account. A `trap` is carried out by its fault."""
     turn = step.turn
-    name = operation_at(machine, turn.fetch) if turn.fetch is not None else None
-    words = [(change.slot, change.word) for change in step.changes if isinstance(change, RegisterSet)]
-    for slot, word in words:
-        ran.hold(slot, word)
-    if turn.outcome == "faulted" and name:
-        ran.stopped[turn.slot] = name
-    carried_out = turn.outcome == "did" or (name == "trap" and turn.outcome == "faulted")
-    if name is None or turn.fetch is None or not carried_out:
+    instruction = machine.memory.instruction(turn.fetch) if turn.fetch is not None else None
+    machine.carry_out(step)
+    for change in step.changes:
+        if isinstance(change, RegisterSet):
+            ran.hold(change.slot, change.word)
+    if instruction is None or turn.fetch is None:
         return
-    results = tuple(word for slot, word in words if slot == turn.slot and word is not None)
-    ran.done.append(Done(turn.slot, name, turn.fetch, turn.access, turn.address, results, turn.entered))
+    if turn.outcome == "faulted":
+        ran.stopped[turn.slot] = instruction.name
+    if turn.outcome == "did" or (turn.outcome == "faulted" and instruction.name == "trap"):
+        results = results_of(instruction, machine.slots[turn.slot])
+        done = Done(turn.slot, instruction.name, turn.fetch, turn.access, turn.address, results, turn.entered)
+        ran.done.append(done)
+
+
+def results_of(instruction: Instruction, slot: SlotNow) -> tuple[Word, ...]:
+    """The words that an instruction has left in registers: the log names only those that are others than before."""
+    if not instruction.has("rd"):
+        return ()
+    first = instruction.value("rd")
+    count = 4 if Kind.RD4 in instruction.operation.operands else 1
+    return tuple(word for word in slot.registers[first : first + count] if word is not None)
 
 
 def what_ran(console: Console, built: Built, order: Order, cycles: int) -> Ran:
@@ -83,5 +85,4 @@ def what_ran(console: Console, built: Built, order: Order, cycles: int) -> Ran:
     with opened(console, built, order, cycles) as (_, steps):
         for _, step in steps:
             take(ran, machine, step)
-            machine.carry_out(step)
     return ran

@@ -8,6 +8,7 @@ from typing import Optional
 
 from mm.machine.isa import OPERATIONS
 from mm.names.expressions import nearest
+from mm.names.numbers import number_of
 from mm.status import Status, Stop
 
 # What may stand on a line, with its operands as a message writes them: first what is said of all runs, then of one run,
@@ -65,9 +66,7 @@ HIDDEN = "hidden"
 FORMS = {**OF_SHEET, **OF_RUN, HIDDEN: "hidden TITLE", **EXPECTED}
 SETTINGS = (*OF_SHEET, *OF_RUN, HIDDEN)
 # Lines that an empty program meets too. They count if something else of the exercise is done.
-CONDITIONS = frozenset(
-    "halts apart cannot never without given starts slots lacks alike clears".split()
-)
+CONDITIONS = frozenset("halts apart cannot never outcomes without given starts slots lacks alike clears".split())
 # Those of whose operands some are operations, with `|` between some and `*N` after some: the place of the first, of the
 # last.
 OF_OPERATIONS = {"uses": (0, None), "without": (0, None), "executes": (1, None), "repeats": (1, 2), "gives": (1, 2),
@@ -85,6 +84,13 @@ class Expectation:
     words: tuple[str, ...]
     text: str
     number: int = 0
+
+    @property
+    def is_condition(self) -> bool:
+        """Whether an empty program meets it too: its groups print nothing, and its registers hold 0."""
+        nothing = self.kind == "says" and len(self.words) == 1
+        zero = self.kind in ("register", "word") and number_of(self.words[-1]) == 0
+        return self.kind in CONDITIONS or nothing or zero
 
 
 @dataclass

@@ -28,8 +28,8 @@ SECONDS, CLOCK, MEMORY, FILE = 60, 120, 4 << 30, 64 << 20
 START = "import sys; sys.path.insert(0, sys.argv[1]); from mm.grading.worker import main; main()"
 # What the process has of the surroundings.
 KEPT = ("PATH", "LANG", "LC_ALL", "MM_CLANG", "LD_LIBRARY_PATH")
-# The folder in which Clang finds the answer. It is on no machine.
-ANSWER_FOLDER = "/answer"
+# The folder of the process's own folder that has an answer in C.
+ANSWER_FOLDER = "answer"
 
 
 @dataclass(frozen=True)
@@ -142,22 +142,25 @@ def _translated(console: Any, name: str, data: bytes) -> bytes:
     from mm.cc.clang import INCLUDE
     from mm.cc.driver import source_of
 
-    base = os.path.basename(name)
-    real = console.workshop.keep(data, ".c")
-    folders = {ANSWER_FOLDER: {base: real}}
+    place = os.path.join(os.getcwd(), ANSWER_FOLDER)
+    os.makedirs(place, exist_ok=True)
+    path = os.path.join(place, os.path.basename(name))
+    with open(path, "wb") as file:
+        file.write(data)
+    folders = {place: {os.path.basename(name): path}}
     for top in (INCLUDE, os.path.join(_resources(), "include")):
         for folder, _, names in os.walk(top):
-            folders[folder] = {each: os.path.join(folder, each) for each in names}
+            folders[os.path.abspath(folder)] = {each: os.path.join(folder, each) for each in names}
     roots = [
         {"name": folder, "type": "directory", "contents": [
             {"name": each, "type": "file", "external-contents": path} for each, path in files.items()]}
         for folder, files in folders.items()
     ]  # fmt: skip
     overlay = {"version": 0, "case-sensitive": "true", "fallthrough": False, "roots": roots}
-    path = console.workshop.keep(json.dumps(overlay).encode(), ".yaml")
+    there = console.workshop.keep(json.dumps(overlay).encode(), ".yaml")
     options = console.workshop.options
-    flags = [*options.flags, "-ivfsoverlay", path, "-fno-modules"]
-    source: str = source_of([f"{ANSWER_FOLDER}/{base}"], replace(options, flags=flags, lines=False))
+    flags = [*options.flags, "-ivfsoverlay", there, "-fno-modules"]
+    source: str = source_of([path], replace(options, flags=flags, lines=False))
     return source.encode("latin-1", "replace")
 
 
@@ -207,7 +210,7 @@ def _lines_of(stop: Stop) -> list[str]:
 
 def _without_folders(lines: list[str]) -> list[str]:
     """Lines without the folders of this process and of this machine."""
-    for folder in (f"{ANSWER_FOLDER}/", f"{os.getcwd()}/", f"{CHECKOUT}/"):
+    for folder in (f"{os.getcwd()}/{ANSWER_FOLDER}/", f"{os.getcwd()}/", f"{CHECKOUT}/"):
         lines = [line.replace(folder, "") for line in lines]
     return lines
 
