@@ -33,7 +33,7 @@ again: out r1
   halt
 .thread 0 0 none xu main
 """),
-    ("lab-2", "the first digit comes before the loop", """.segment main 6
+    ("lab-2", "the first digit comes before the loop", """.segment main 7
   ldi r1, 53
   out r1
   ldi r2, 4

@@ -60,7 +60,7 @@ class Sheets(unittest.TestCase):
     def test_a_sheet_that_its_own_fake_passes_is_told(self):
         with folder() as room:
             write(room, "a.asm", ".segment a 3\n  halt\n.thread 0 0 none xu a\n")
-            sheet = write(room, "sheet.txt", "says 0\nhalts 0\nanswer a.asm\nfake a.asm\n")
+            sheet = write(room, "sheet.txt", "matches 0 .*\nhalts 0\nanswer a.asm\nfake a.asm\n")
             ended = mm("grade", sheet, "--check")
             self.assertEqual(ended.status, 1)
             self.assertIn("  yes  answer a.asm: 2 of 2\n  no   fake a.asm: 2 of 2\n", ended.out)
