@@ -87,7 +87,7 @@ class Expressions(unittest.TestCase):
         self.assertEqual(said[2:7], ["i = 3   (int)", "i + 1 = 4   (0x4)", "-i = -3   (0xfffffffffffffffd)", "name[i - 1] = 114 'r'   (char)",
             "name[1] + 1 = 98 'b'   (0x62)"])
         self.assertIn("write `name[1]` for an element", said[7])
-        self.assertIn("is no number, but char[8]", said[8])
+        self.assertIn("is not a number, but char[8]", said[8])
         self.assertIn("67 'C'", said[9])
         self.assertIn("= 137 ", said[10])
 
@@ -114,7 +114,7 @@ class Expressions(unittest.TestCase):
             "box.cents = -8", "(box.kind) = 0xfe", "box.kind = -2", "box.bits = 05", "box.bits = 101", "i = -5", "i = 0xfffffffb", "k = 7",
             "wide = 0xffffffffffffffff"])
         self.assertEqual(said[15], "row[1] = 0x2")
-        self.assertIn("is no number, but struct item", said[16])
+        self.assertIn("is not a number, but struct item", said[16])
         self.assertEqual(said[17:20], ["count + 0 = -3", "count = -3", "-3 fffffffe 200 -5 H ffffffffffffffff"])
         self.assertRegex(said[20], r"^&count = 10\d{5}$")
 

@@ -160,7 +160,7 @@ class Streams(unittest.TestCase):
             ended = shell("cp p.asm \"$(printf '\\377').asm\"; mm view \"$(printf '\\377').asm\" -o v.html; mm run p.asm -t \"$(printf '\\377')\"", room)
             self.assertEqual(ended.returncode, 2)
             self.assertNotIn(b"Traceback", ended.stderr)
-            self.assertIn(b"is no item of a schedule", ended.stderr)
+            self.assertIn(b"is not an item of a schedule", ended.stderr)
             self.assertTrue(os.path.getsize(os.path.join(room, "v.html")) > 10_000)
 
     def test_names_that_are_no_text_in_json(self):

@@ -190,7 +190,7 @@ class Files(unittest.TestCase):
         self.assertIn("do you mean `box`?", self.refused(1, "holders", "examples/letterbox.asm", "bx"))
         self.assertIn("one word, the last: `box,3`", self.refused(1, "holders", "examples/letterbox.asm", "box", "3"))
         self.assertIn("begins at a multiple", self.refused(1, "holders", "examples/letterbox.asm", "box,12"))
-        self.assertIn("no checkpoint", self.refused(2, "continue", "examples/hello.asm", "examples/hello.asm"))
+        self.assertIn("not a checkpoint", self.refused(2, "continue", "examples/hello.asm", "examples/hello.asm"))
 
     def test_nets(self):
         with folder() as room:
@@ -215,7 +215,7 @@ class Files(unittest.TestCase):
         self.assertIn(
             "has no option --cycle; do you mean --cycles?", self.refused(1, "run", "examples/hello.asm", "--cycle", "5")
         )
-        self.assertIn("no number of cycles", self.refused(1, "run", "examples/hello.asm", "--cycles", "many"))
+        self.assertIn("not a number of cycles", self.refused(1, "run", "examples/hello.asm", "--cycles", "many"))
         self.assertIn("as `mm run examples/hello.asm`", self.refused(1, "examples/hello.asm"))
         self.assertIn("missing FILE", self.refused(1, "run"))
         self.assertIn("no program of that name", self.refused(127, "--program", "nowhere", "run", "examples/hello.asm"))
