@@ -3,7 +3,7 @@
 from __future__ import annotations
 
 from dataclasses import replace
-from typing import Optional
+from typing import Iterator, Optional
 
 from mm.build import Built
 from mm.console import Console
@@ -85,13 +85,37 @@ def slots(program: Program, *numbers: str) -> Optional[str]:
 
 
 def lacks(program: Program, number: str, name: str) -> Optional[str]:
-    """A thread does not begin with a pointer by which it could load from a place, or store there."""
+    """A thread has no pointer by which it could load from a place, or store there: neither in a register, nor in memory
+    that it can load without entering a gate."""
     begin, end = program.span(name)
-    for place, word in enumerate(_slot(program, number).registers):
-        pointer = word.pointer
-        if pointer and pointer.permission in DATA and overlaps(pointer, begin, end):
-            return f"r{place} of slot {number} begins with a pointer to it"
+    for pointer in _held(program.built.image, _slot(program, number)):
+        if pointer.permission in DATA and overlaps(pointer, begin, end):
+            return f"slot {number} begins with a pointer to it, or can load one"
     return None
+
+
+def _held(image: Image, slot: Slot) -> set[Pointer]:
+    """The pointers with which a thread begins, and those that it can load through them."""
+    todo = [slot.ip, *filter(None, (word.pointer for word in slot.registers))]
+    held: set[Pointer] = set()
+    while todo:
+        pointer = todo.pop()
+        if pointer not in held and pointer.permission.loads:
+            todo += _pointers_in(image, pointer.base, pointer.end)
+        held.add(pointer)
+    return held
+
+
+def _pointers_in(image: Image, begin: int, end: int) -> Iterator[Pointer]:
+    """The pointers in the words of a range."""
+    for number, page in image.pages.items():
+        first = number * PAGE_BYTES
+        if first + PAGE_BYTES <= begin or end <= first or not any(page.tags):
+            continue
+        for place in range(max(begin - first, 0) // 8, min(end - first, PAGE_BYTES) // 8):
+            pointer = page.cell(place).word.pointer
+            if pointer:
+                yield pointer
 
 
 def alike(program: Program, number: str, name: str, other: str, of_other: str) -> Optional[str]:
