@@ -53,7 +53,9 @@ def marks(console: Console, built: Built, sheet: Sheet) -> list[Mark]:
     hidden = [_of_case(console, built, sheet, case) for case in others]
     failed = {_key(line) for _, lines in hidden for line in lines}
     found = [mark(program, line) for line in shown.expectations]
-    found = [Mark(one.expectation, ONLY_HERE) if one.right and _key(one.expectation) in failed else one for one in found]
+    found = [
+        Mark(one.expectation, ONLY_HERE) if one.right and _key(one.expectation) in failed else one for one in found
+    ]
     found += [one for one, _ in hidden]
     if any(one.right and not one.expectation.is_condition for one in found):
         return found

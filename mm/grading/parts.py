@@ -192,7 +192,7 @@ def _in_register(built: Built, image: Image, line: Expectation) -> Image:
 
 
 def _word_of(before: Word, words: tuple[str, ...]) -> Word:
-    """An integer, or a pointer into the segment of the one that was there: its permission, and how far into the segment."""
+    """An integer, or a pointer into the segment of the one that was there: its permission, and how far into it."""
     if len(words) == 1:
         return Word(number_in(words[0]) % 2**64)
     permission, pointer = BY_SHORT.get(words[0]), before.pointer

@@ -18,8 +18,8 @@ from mm.machine.words import Word
 
 @dataclass(frozen=True)
 class Done:
-    """An instruction that a slot carried out: its operation and place, the access that it made, the words that it left in
-    registers of its slot, and the enter pointer that it went through."""
+    """An instruction that a slot carried out: its operation and place, the access that it made, the words that it left
+    in registers of its slot, and the enter pointer that it went through."""
 
     slot: int
     operation: str

@@ -95,8 +95,8 @@ class Expectation:
 
 @dataclass
 class Case:
-    """A run of the program: what is other in it than in the program itself, and what is expected of it. The first one is
-    shown line by line; each other one has a title, and counts as one line."""
+    """A run of the program: what is other in it than in the program itself, and what is expected of it. The first one
+    is shown line by line; each other one has a title, and counts as one line."""
 
     title: str = ""
     cycles: Optional[str] = None

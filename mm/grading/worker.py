@@ -22,8 +22,8 @@ from mm.grading.sheet import Sheet
 from mm.machine.program import CHECKOUT
 from mm.status import Refused, Status, Stop
 
-# What an answer may take: seconds of processor of each process, seconds of the clock for all of it, bytes of memory, and
-# bytes of a file that is written.
+# What an answer may take: seconds of processor of each process, seconds of the clock for all of it, bytes of memory,
+# and bytes of a file that is written.
 SECONDS, CLOCK, MEMORY, FILE = 60, 120, 4 << 30, 64 << 20
 START = "import sys; sys.path.insert(0, sys.argv[1]); from mm.grading.worker import main; main()"
 # What the process has of the surroundings.

@@ -123,7 +123,7 @@ class Grade(unittest.TestCase):
         self.assertNotIn("r3 9", ended.out)
 
     def test_an_empty_program_gets_nothing(self):
-        """Not even for what it meets without doing anything: a line that every program meets counts if something is done."""
+        """Not even for what it meets without doing anything: such a line counts if something else is done."""
         for name in ("lab-1", "lab-2", "lab-3", "1.1", "2.1", "3.1", "5.1", "5.2", "6.1", "7.2", "8.1", "10.1", "11.1"):
             with self.subTest(name):
                 out = mm("grade", name, "docs/course/fakes/nothing.asm").out

@@ -1,5 +1,5 @@
-"""`mm grade` with answers of people whom nobody trusts: files that are none, that never end, that want to see the machine,
-and a whole class at once."""
+"""`mm grade` with answers of people whom nobody trusts: files that are none, that never end, that want to see the
+machine, and a whole class at once."""
 
 import csv
 import io
@@ -64,7 +64,8 @@ class Class(unittest.TestCase):
         self.assertIn("it takes more than 0.01 seconds", ended.err)
 
     def test_long_words_cost_little(self):
-        for text in (f".segment main 6\n  {'a' * 16_000}\n", f"{'x' * 20_000}: nop\n{'y' * 20_000}: nop\n", ".int " * 9_000):
+        long = f".segment main 6\n  {'a' * 16_000}\n"
+        for text in (long, f"{'x' * 20_000}: nop\n{'y' * 20_000}: nop\n", ".int " * 9_000):
             said = self.refused(write(self.room, "long.asm", text), "long.asm:")
             self.assertLess(len(said), 4_000)
 
