@@ -75,8 +75,9 @@ class Texts(unittest.TestCase):
 
     def test_reports_of_pages(self):
         found = 0
-        for name in ("INSTALL", "FORMATS", "LINKING", "CACHE", "CHECKPOINTS", "COMMANDS", "REVOCATION"):
-            for text in re.findall(r"^(cycles \d+\n(?:(?!cycles |```).*\n)*?counts .*)$", read("docs", f"{name}.md"), re.M):
+        pages = ["INSTALL", "FORMATS", "LINKING", "CACHE", "CHECKPOINTS", "COMMANDS", "course/1-tagged-words"]
+        for page in (read("docs", *f"{name}.md".split("/")) for name in pages):
+            for text in re.findall(r"^(cycles \d+\n(?:(?!cycles |```).*\n)*?counts .*)$", page, re.M):
                 report = read_report(line for line in text.splitlines() if line != "...")
                 self.assertTrue(report.slots and report.counts, text)
                 found += 1
