@@ -41,7 +41,7 @@ def _files_and_range(console: Console) -> tuple[list[str], str]:
     if len(names) > 1 and number_of(text) is not None and not os.path.exists(names[-1]):
         raise usage(
             f"mm: {console.name}: a range is one word, the last: `{names[-1]},{text}`",
-            "    `mm help ranges` says more",
+            "    `mm help ranges` explains them",
         )
     return names, text
 

@@ -179,7 +179,7 @@ def _set_watch(kind: PointKind) -> Callable[[Debugger, str], Lines]:
         rest, condition = condition_in(rest, debugger.session)
         place, slot = slot_of(rest, debugger.session)
         if not place:
-            raise Wrong(f"say which word: `{kind.title} count`, `{kind.title} box+8`, `{kind.title} 0x100100`")
+            raise Wrong(f"missing word: `{kind.title} count`, `{kind.title} box+8`, `{kind.title} 0x100100`")
         address, length = span(place, debugger.session)
         point = debugger.session.add(kind, place, address & ~7, length, slot, condition=condition)
         now = debugger.show.cell(debugger.session.memory.cell(point.address)) if length == 8 else f"{length // 8} words"

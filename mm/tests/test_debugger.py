@@ -51,7 +51,7 @@ class Sessions(unittest.TestCase):
             ["watch", "brk door", "set r1 5", "info breaks", "info regs", "b door slot 1", "foo", "p &box", "p r2"],
             "examples/counter.asm",
         )
-        self.assertIn("say which word: `watch count`", said[0])
+        self.assertIn("missing word: `watch count`", said[0])
         self.assertIn("do you mean `break`?", said[1])
         self.assertIn("never changed", said[2])
         self.assertIn("0  fault", said[3])

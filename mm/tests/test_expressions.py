@@ -98,7 +98,7 @@ class Expressions(unittest.TestCase):
             "r1 + 8 = 0x100108 <count>", "1 = 0x0000000000000001"])
         self.assertIn("prod  examples/counter.asm:5:  loop: st r1, r2, 0, empty, full", said[9])
         self.assertIn("there is no form /q: /x, ", said[10])
-        self.assertIn("say what", said[11])
+        self.assertIn("missing expression", said[11])
         self.assertIn("\n/i $pc = prod+8  examples/counter.asm:6:  addi r2, r2, 1\n/x r2 * 16 = 0x10", said[14])
         self.assertEqual(said[15], "  1  /i $pc\n  2  /x r2 * 16")
 
