@@ -41,7 +41,7 @@ BAD_SOURCE = """; three mistakes
   MOV r1, r2
   nop $
 """
-BAD_FAULTS = [(3, 10, "expected a register"), (4, 3, "there is no operation `MOV`"), (5, 7, "`$` begins nothing")]
+BAD_FAULTS = [(3, 10, "expected a register"), (4, 3, "there is no operation `MOV`"), (5, 7, "`$` cannot stand")]
 # Lines of other tools of `mm`, and the place in them.
 LINES = [
     ("/tmp/a b/x.c:1:27: error: use of undeclared identifier 'y'", ("/tmp/a b/x.c", "1", "27", "error")),

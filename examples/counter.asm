@@ -1,5 +1,5 @@
-; A producer stores numbers into a box. A consumer takes each number, puts it out as a letter, and calls a gate, which
-; counts the calls. Of the gate the consumer has only an enter pointer to the door, and it has no handler that could
+; A producer stores numbers into a box. A consumer takes each number, prints it as a letter, and calls a gate, which
+; counts the calls. All the consumer has of the gate is an enter pointer to the door, and it has no handler that could
 ; look behind the door. So it can neither touch the count nor enter the gate at another place.
 .segment prod 6
 loop: st r1, r2, 0, empty, full

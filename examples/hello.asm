@@ -1,4 +1,4 @@
-; The smallest program that says something: one thread puts the letter A out and halts.
+; The smallest program that says something: one thread prints the letter A and halts.
 .segment hello 12
   ldi r1, 65
   out r1

@@ -1,7 +1,7 @@
 ; A mailbox with a state of its own. A writer holds an enter pointer to one gate, a reader to another one. Both gates
 ; lead to the mailbox, and neither thread can touch it on its own. A letter is an integer: a pointer is refused, so that
 ; no right goes from one side to the other. The doors hold the pointers and cannot fault. The code after them can, if r6
-; is no way back, and so it is in a segment that holds no pointer.
+; is not a way back, and so it is in a segment that holds no pointer.
 .segment code 9
 put: isptr r8, r1         ; r7 leads to the mailbox, r6 back
   bnz r8, refused

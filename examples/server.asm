@@ -1,5 +1,5 @@
-; A server of faults. Slots 1 and 2 have slot 0 as their handler: each of their faults is an event in its queue. It puts
-; out the letter in register 1 at a trap, mends a division by zero for another try, and ends the slot at other faults.
+; A server of faults. Slots 1 and 2 have slot 0 as their handler: each of their faults is an event in its queue. It prints
+; the letter in register 1 at a trap, mends a division by zero for another try, and ends the slot at other faults.
 .segment serve 8
 next: evt r4              ; r4 is the cause + 256 * the slot, r5 its instruction pointer, r6 and r7 the operands
   ldi r1, 255

@@ -1,7 +1,7 @@
 ; A gate that tests what it is handed. It writes the number of the call into a word of the caller's. The caller names
 ; the word by a pointer in r1. The gate looks at it before it uses it: it has to be a pointer that reads and writes, to
 ; at least a whole word. Each caller has a door of its own, and behind it a count of its own. The code that they share
-; can fault, if the word has no page or r6 is no way back. So it is in a segment that holds no pointer.
+; can fault, if the word has no page or r6 is not a way back. So it is in a segment that holds no pointer.
 .segment teller 8
   isptr r8, r1            ; r7 leads to the number of calls, r1 to the caller's word, r6 back
   bz r8, refused          ; an integer

@@ -15,7 +15,8 @@ from mm.names.layout import Placed, differences, place
 from mm.names.symbols import Symbols, fits, symbols_of
 from mm.records import dataclass, field
 from mm.room import Room
-from mm.source.text import SourceText, read_source
+from mm.source.letters import plain
+from mm.source.text import SourceText, lines_of, read_source
 from mm.status import SIGNALLED, Refused, Status, Stop
 
 # Messages are imported where there is something to tell.
@@ -153,7 +154,7 @@ class Workshop:
                 [
                     _diagnostic(
                         name,
-                        "this is no text, no image and no object",
+                        "this is neither a text nor an image nor an object",
                         hints=[
                             "it is a text in UTF-16: save it as UTF-8"
                             if data.startswith(UTF_16)
@@ -162,7 +163,7 @@ class Workshop:
                     )
                 ],
             )
-        answer = self.program.run(["asm", self.keep(data, ".asm")])
+        answer = self.program.run(["asm", self.keep(plain(data).data, ".asm")])
         if answer.status:
             raise self._source_refused(name, data, answer)
         made, source = read_object(answer.out), read_source(name, data)
@@ -183,15 +184,15 @@ class Workshop:
         from mm.messages.sources import explain
         from mm.source.mend import Mender
 
-        source = read_source(name, data)
-        mender = Mender(source.lines)
+        source, given = read_source(name, data), plain(data)
+        mender = Mender(lines_of(given.data))
         found: list[Diagnostic] = []
         seen: set[tuple[int, int, int]] = set()
         fault, line, column = refusal["fault"], refusal["line"], refusal["column"]
         most = MOST_FOUND if len(data) <= LONG_SOURCE else MOST_ERRORS
         while len(found) < most and (fault, line, column) not in seen:
             seen.add((fault, line, column))
-            told = explain(source, fault, line, column)
+            told = explain(source, fault, given.line(line), column)
             found += [told] if told.name not in mender.dropped else []
             next_one = self._next_fault(mender, fault, line, column)
             if next_one is None:
@@ -237,7 +238,7 @@ class Workshop:
                 return self.assemble(name, data)
         except Refused:
             pass
-        said = "the file is empty" if not data else "this is no image, no object and no source"
+        said = "the file is empty" if not data else "this is neither an image nor an object nor a source"
         hints = ["an image is what `mm link FILE.. -o IMAGE` writes, an object what `mm asm SOURCE -o OBJECT` writes"]
         raise Refused(Status.REFUSED, [_diagnostic(name, said, hints=hints)])
 
@@ -267,7 +268,12 @@ class Workshop:
         datas = [read_file(name) for name in names]
         refuse_nets(names, datas)
         refuse_schedules(names, datas)
-        datas = self._translated(names, datas)
+        translated = self._translated(names, datas)
+        named = [name + ".asm" if name.endswith(C_SUFFIX) else name for name in names]
+        return self.build_of(named, translated, others)
+
+    def build_of(self, names: Sequence[str], datas: Sequence[bytes], others: Sequence[str] = ()) -> Built:
+        """The image of files that were read: no file is opened but `others`, and a source beside an image."""
         kinds = [FileKind.of(data) for data in datas]
         if FileKind.IMAGE in kinds:
             if len(names) > 1:
@@ -287,8 +293,7 @@ class Workshop:
                     )
                 ],
             )
-        named = [name + ".asm" if name.endswith(C_SUFFIX) else name for name in names]
-        return self.link([self.unit(name, data) for name, data in zip(named, datas)])
+        return self.link([self.unit(name, data) for name, data in zip(names, datas)])
 
     def _translated(self, names: Sequence[str], datas: list[bytes]) -> list[bytes]:
         """The files, those of C as sources: each is a program of its own, in the next slot if it has a `main`."""
@@ -342,8 +347,8 @@ def refuse_schedules(names: Sequence[str], datas: Sequence[bytes]) -> None:
     """Refuses a schedule where a program is wanted."""
     for name, data in zip(names, datas):
         if name.endswith(".schedule") and FileKind.of(data) is FileKind.TEXT:
-            hint = f"the order of turns is said by an option: `--schedule {name}`"
-            raise Refused(Status.USAGE, [_diagnostic(name, "this is a schedule, and no program", hints=[hint])])
+            hint = f"give the order of turns by an option: `--schedule {name}`"
+            raise Refused(Status.USAGE, [_diagnostic(name, "this is a schedule, not a program", hints=[hint])])
 
 
 def give_names(built: Built, units: Sequence[Unit]) -> None:

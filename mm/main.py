@@ -43,7 +43,7 @@ def carry_out(console: Console) -> int:
         return _help(console, said)
     if said.command is None:
         _help(console, said)
-        raise usage("mm: say what to do")
+        raise usage("mm: missing command")
     check_count(said)
     return int(importlib.import_module(said.command.home).run(console))
 
@@ -108,7 +108,7 @@ def own_fault(console: Console, error: BaseException) -> int:
     where = f"{os.path.basename(trace.tb_frame.f_code.co_filename)}:{trace.tb_lineno}" if trace else "?"
     console.tell(
         f"mm: this should not happen: {type(error).__name__} at {where}: {str(error)[:200]}",
-        "    Either `mm` has a fault, or what --program or $MMACHINE names is no `mmachine`.",
+        "    Either `mm` has a fault, or what --program or $MMACHINE names is not `mmachine`.",
         f"    To report it, give these lines, the command with its files, and what it says with {TRACEBACK}=1 before it.",
     )
     return Status.OWN_FAULT

@@ -62,9 +62,12 @@ HOST = Option("--host", "the address to listen at; default: 127.0.0.1, which onl
 LESSON = Option("--lesson", "open this lesson of the course, 1 to 11", "N")
 TOKEN = Option("--token", "the word in the address of the page; default: a new one each time", "WORD")
 WITH_C = Option("--c", "take programs in C from other computers too (docs/SERVE.md)")
+CSV = Option("--csv", "write CSV: a row for each answer")
+FEEDBACK = Option("--feedback", "also write what each student is shown into a file of this folder", "FOLDER")
+CHECK = Option("--check", "try the exercise itself with the answers and fakes that it names")
 RUNNING = (CYCLES, SCHEDULE, TURNS, NAMES)
 FILES = "FILE.."
-EXERCISES = "EXERCISE is lab-1 to lab-5 for a task of the first lab, 1.1 to 8.2 or 10.1 to 11.2 for an exercise of a lesson, or a file of your own (docs/course/GRADING.md)."
+EXERCISES = "FILE may be a folder that has a folder or a file for each student. EXERCISE is lab-1 to lab-5 for a task of the first lab, 1.1 to 8.2 or 10.1 to 11.2 for an exercise of a lesson, or a file of your own (docs/course/GRADING.md)."
 
 # fmt: off
 COMMANDS = (
@@ -78,7 +81,7 @@ COMMANDS = (
     Command("dis", "FILE", "show an image or an object word by word: address, word, instruction and name", (NAMES,), most=1),
     Command("audit", FILES, "say what each group can read and write, whatever its code does", (GROUPS, NAMES, JSON, *C)),
     Command("explore", FILES, "say what a program can do under any schedule, with a shortest one for each finding", (STATES, NAMES, *C)),
-    Command("why", "FILE.. GROUP WORD KIND", "by what way a group can touch or write a word: the pointers, one after the other", (NAMES, *C), least=4),
+    Command("why", "FILE.. GROUP WORD KIND", "how a group can touch or write a word: the pointers, one after the other", (NAMES, *C), least=4),
     Command("check-why", "IMAGE GROUP WORD KIND", "check a derivation of `mmachine why`, given on the standard input", least=4, most=4, module="check_why"),
     Command("holders", "FILE.. RANGE", "say who holds a pointer into a range (`mm help ranges`)", (NAMES, *C), least=2, module="ranges"),
     Command("sweep", "FILE.. RANGE", "make an image in which nobody has a pointer into a range", (OUTPUT, NAMES, *C), least=2, module="ranges"),
@@ -93,7 +96,7 @@ COMMANDS = (
     Command("migrate", "FILE.. MODE", "make an image of version 2, in which loads answer at once (plain) or later (split)", (OUTPUT, *C), least=2, module="make"),
     Command("hex", FILES, "write an image for Verilog's $readmemh: its memory, its frames with their pages, or its slots", (PART, OUTPUT, *C)),
     Command("vectors", "OPERATION", "write operands and results of an operation, for a unit by itself (docs/HARDWARE.md)", (COUNT, OUTPUT), most=1),
-    Command("grade", "EXERCISE FILE..", "check a program against what an exercise of the course asks for", (*C,), least=2, more=EXERCISES),
+    Command("grade", "EXERCISE FILE..", "check a program, or a folder of them, against what an exercise of the course asks for", (JSON, CSV, FEEDBACK, CHECK, *C), more=EXERCISES),
     Command("lsp", "", "be a language server for an editor, on the standard streams", least=0, most=0),
     Command("dap", "", "be a debug adapter for an editor, on the standard streams", least=0, most=0),
     Command("gen", "NUMBER SIZE", "make an image from a number", (OUTPUT,), least=2, most=2, module="make"),

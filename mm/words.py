@@ -48,7 +48,7 @@ def _near(name: str, names: list[str]) -> list[str]:
 def _command(name: str) -> Command:
     found = BY_NAME.get(ALIASES.get(name, name))
     if found is None and os.path.exists(name):
-        raise usage(f"mm: say what to do with {name}, as `mm run {name}`", "    `mm help` lists the commands")
+        raise usage(f"mm: missing command before {name}, as `mm run {name}`", "    `mm help` lists the commands")
     if found is None:
         near = _near(name, [*BY_NAME, *ALIASES])
         raise usage(
@@ -99,16 +99,19 @@ def _take_option(said: Words, word: str, rest: list[str]) -> None:
 
 def check_count(said: Words) -> None:
     """Refuses a command with too few or too many words."""
-    command = said.command
-    if command and not command.least <= len(said.words) <= (
-        command.most if command.most is not None else len(said.words)
-    ):
-        what = "too few words" if len(said.words) < command.least else "too many words"
-        raise usage(
-            f"mm: {command.name}: there are {what} ({len(said.words)})",
-            f"    it is written: mm {command.name} {command.operands}",
-            f"    `mm help {command.name}` says more",
-        )
+    command, count = said.command, len(said.words)
+    if command is None or command.least <= count <= (count if command.most is None else command.most):
+        return
+    operands = command.operands.replace("..", "").split()
+    if count < command.least:
+        what = f"missing {' and '.join(operands[count:])}"
+    else:
+        what = f"unexpected `{said.words[command.most or 0]}`"
+    raise usage(
+        f"mm: {command.name}: {what}",
+        f"    usage: mm {command.name} {command.operands}",
+        f"    `mm help {command.name}` explains it",
+    )
 
 
 def groups_of(text: str) -> str:
@@ -116,7 +119,7 @@ def groups_of(text: str) -> str:
     numbers = {number_of(part.strip()) for part in text.split(",")}
     known = sorted(number for number in numbers if number is not None and 0 <= number <= MOST_GROUP)
     if len(known) < len(numbers):
-        raise usage(f"mm: `{text}` are no groups: numbers 0 to {MOST_GROUP} with commas between, as 0 or 0,2")
+        raise usage(f"mm: `{text}` is not a list of groups: numbers 0 to {MOST_GROUP} with commas between, as 0 or 0,2")
     return ",".join(map(str, known))
 
 
@@ -126,5 +129,5 @@ def cycles_of(text: Optional[str]) -> Optional[int]:
         return None
     number = number_of(text)
     if number is None or not 0 <= number <= MOST_CYCLES:
-        raise usage(f"mm: `{text}` is no number of cycles: 0 to {MOST_CYCLES}")
+        raise usage(f"mm: `{text}` is not a number of cycles: 0 to {MOST_CYCLES}")
     return number

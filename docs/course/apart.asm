@@ -1,4 +1,4 @@
-; Two groups run the same code, each on a word of its own: each counts up, and puts out the count as a letter.
+; Two groups run the same code, each on a word of its own: each counts up, and prints the count as a letter.
 .segment code 6
 again: ld r2, r1, 0, any, keep
   addi r2, r2, 1

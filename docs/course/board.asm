@@ -1,5 +1,5 @@
-; A writer copies four letters from a text to a board, and then fills the word ready. A reader waits for that, puts the
-; letters out, and stores into the word done how many bytes they take. Its pointer to done lies after the letters.
+; A writer copies four letters from a text to a board, and then fills the word ready. A reader waits for that, prints the
+; letters, and stores into the word done how many bytes they take. Its pointer to done lies after the letters.
 .segment writer 7
 copy: leab r5, r1, r3     ; r3 bytes into the text
   ld r6, r5, 0, any, keep

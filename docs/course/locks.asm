@@ -1,4 +1,4 @@
-; Two threads take two words each, put out a letter, and give the words back.
+; Two threads take two words each, print a letter, and give the words back.
 .segment code 6
   ld r3, r1, 0, full, empty
   ld r4, r2, 0, full, empty

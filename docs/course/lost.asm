@@ -1,11 +1,11 @@
-; Two clients hand letters to a handler by a trap: each has three words, and integer 0 is no letter. The handler puts
-; the letters out. One of the clients does not come to its end.
+; Two clients hand letters to a handler by a trap: each has three words, and integer 0 is not a letter. The handler prints
+; the letters. One of the clients does not come to its end.
 .segment serve 7
 next: evt r4              ; r4 is the cause + 256 * the slot
   ldi r1, 8
   shr r3, r4, r1          ; the slot
   rreg r2, r3, 1          ; its letter
-  bz r2, next             ; it is no letter
+  bz r2, next             ; it is not a letter
   out r2
   resume r3, skip
   br next

@@ -1,4 +1,4 @@
-; One thread puts out h and i, another one an exclamation mark. In which orders can the three letters come?
+; One thread prints h and i, another one an exclamation mark. In which orders can the three letters come?
 .segment greets 5
   out r1
   out r2

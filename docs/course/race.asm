@@ -1,4 +1,4 @@
-; Two threads run the same code on the same word: each adds 1 to it, and puts out the sum as a letter.
+; Two threads run the same code on the same word: each adds 1 to it, and prints the sum as a letter.
 .segment code 6
   ld r2, r1, 0, any, keep
   addi r2, r2, 1

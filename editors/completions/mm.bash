@@ -37,7 +37,7 @@ _mm() {
             hex) options="$options --part --output --optimise --heap --stack --quarantine --clang" ;;
             vectors) options="$options --count --output" ;;
             explore) options="$options --states --names --optimise --heap --stack --quarantine --clang" ;;
-            grade) options="$options --optimise --heap --stack --quarantine --clang" ;;
+            grade) options="$options --json --csv --feedback --check --optimise --heap --stack --quarantine --clang" ;;
             dis) options="$options --names" ;;
             holders | why) options="$options --names --optimise --heap --stack --quarantine --clang" ;;
             audit) options="$options --groups --names --json --optimise --heap --stack --quarantine --clang" ;;

@@ -28,7 +28,7 @@ def check(module: Module, function: Function) -> None:
     given = isinstance(result, (PointerType, VoidType)) or isinstance(result, IntType) and result.bits <= 64
     if not words or not given or len(types) > ARGUMENTS or function.variadic:
         raise Failure(f"{module.name}: {function.name}",
-                      "a door with more than six arguments, or one that is no number and no pointer,")
+                      "a door with more than six arguments, or one that is neither a number nor a pointer,")
 
 
 def stub(function: Function, label: str, turn: str) -> list[str]:

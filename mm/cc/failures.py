@@ -7,7 +7,7 @@ from typing import Optional
 
 # What can be done in the place of what is not there: of functions of C's library, and of what is left out.
 NO_INPUT = "the machine has no input: put what the program reads into an array or a string"
-NO_FILES = "the machine has no files: print with `printf`, which puts out, and keep data in arrays"
+NO_FILES = "the machine has no files: print with `printf`, and keep data in arrays"
 NO_CLOCK = "the machine has no clock: its time is its cycles, which the report shows"
 NO_FLOATS = "count in integers: in hundredths, or as a numerator and a denominator"
 INSTEAD = {

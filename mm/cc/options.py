@@ -38,14 +38,14 @@ def _number(said: Words, option: Option, low: int, high: int, default: int) -> i
         return default
     number = number_of(text)
     if number is None or not low <= number <= high:
-        raise usage(f"mm: {option.name}: `{text}` is no number from {low} to {high}")
+        raise usage(f"mm: {option.name}: `{text}` is not a number from {low} to {high}")
     return number
 
 
 def options_of(said: Words) -> Options:
     level: Optional[str] = said.value(LEVEL)
     if level is not None and level not in LEVELS:
-        raise usage(f"mm: {LEVEL.name}: `{level}` is no level: {', '.join(LEVELS)}")
+        raise usage(f"mm: {LEVEL.name}: `{level}` is not a level: {', '.join(LEVELS)}")
     return Options(
         level or "1",
         said.all(CLANG),

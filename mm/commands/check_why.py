@@ -19,9 +19,9 @@ def _image(name: str) -> Image:
     try:
         return read_image(read_file(name))
     except CutShort:
-        raise Stop(Status.REFUSED, f"mm: {name} is no image: it is cut short") from None
+        raise Stop(Status.REFUSED, f"mm: {name} is not an image: it is cut short") from None
     except ValueError as error:
-        raise Stop(Status.REFUSED, f"mm: {name} is no image: {error}") from None
+        raise Stop(Status.REFUSED, f"mm: {name} is not an image: {error}") from None
 
 
 def run(console: Console) -> int:

@@ -4,14 +4,17 @@ from __future__ import annotations
 
 import glob
 import os
-import stat
+from typing import Iterator, Sequence
 
 from mm.build import read_file
 from mm.console import Console
-from mm.grading.checks import Program, marks
+from mm.grading.answers import Answer, answers_in, one_answer
 from mm.grading.sheet import Sheet, read_sheet
+from mm.grading.told import as_csv, as_form, feedback, table
+from mm.grading.worker import Graded, grade
 from mm.machine.program import CHECKOUT
-from mm.status import Refused, Status, usage
+from mm.status import Status, Stop, usage
+from mm.table import C, CHECK, CSV, FEEDBACK, JSON
 
 FOLDER = os.path.join(CHECKOUT, "docs", "course", "grade")
 
@@ -21,38 +24,106 @@ def exercises() -> list[str]:
     return sorted(os.path.basename(path)[:-4] for path in glob.glob(os.path.join(FOLDER, "*.txt")))
 
 
-def sheet_of(name: str) -> Sheet:
-    """The exercise of a name, or that of a file."""
-    path = name if os.path.isfile(name) else os.path.join(FOLDER, f"{name}.txt")
-    if not os.path.isfile(path):
-        raise usage(f"mm: grade: there is no exercise `{name}`: {', '.join(exercises())}, or a file of your own")
-    return read_sheet(os.path.relpath(path), read_file(path).decode("utf-8", "replace"))
+class Grader:
+    """An exercise, and what grades answers to it."""
+
+    def __init__(self, console: Console, name: str) -> None:
+        path = name if os.path.isfile(name) else os.path.join(FOLDER, f"{name}.txt")
+        if not os.path.isfile(path):
+            raise usage(f"mm: grade: there is no exercise `{name}`: {', '.join(exercises())}, or a file of your own")
+        self.console, self.name = console, os.path.splitext(os.path.basename(path))[0]
+        self.text = read_file(path).decode("utf-8", "replace")
+        self.sheet: Sheet = read_sheet(os.path.relpath(path), self.text, os.path.dirname(path))
+
+    def of(self, answer: Answer) -> Graded:
+        said = self.console.said
+        options = {option.name: said.all(option) for option in C if said.has(option)}
+        return grade(self.sheet, self.text, answer, self.console.program.path, options)
+
+    def file(self, name: str) -> Graded:
+        """The marks of a file that the sheet names."""
+        return self.of(one_answer(self.sheet, [self.sheet.path(name)]))
 
 
-def refuse_unusual(names: list[str]) -> None:
-    """Refuses an answer that is a pipe or a device: to read it might never end."""
-    for name in names:
-        try:
-            mode = os.stat(name).st_mode
-        except OSError:
-            continue  # That is told when it is read.
-        if not stat.S_ISREG(mode) and not stat.S_ISDIR(mode):
-            from mm.messages.diagnostic import Diagnostic
+def _one(console: Console, grader: Grader, files: Sequence[str]) -> int:
+    """Grades the answer that files make."""
+    graded = grader.of(one_answer(grader.sheet, files))
+    if console.said.has(JSON):
+        console.write_json(as_form(grader.sheet, grader.name, [graded]))
+    elif console.said.has(CSV):
+        console.out.write(as_csv(grader.sheet, [graded]))
+    elif graded.refused:
+        raise Stop(graded.status, *graded.refused)
+    else:
+        console.write(feedback(grader.sheet, grader.name, graded))
+    return graded.status or (Status.DONE if graded.points == len(graded.lines) else Status.USAGE)
 
-            hint = "an answer is a file that can be read again: copy it into one, and grade that"
-            raise Refused(Status.REFUSED, [Diagnostic(name, "is a pipe or a device, and no file", hints=[hint])])
+
+def _all(console: Console, grader: Grader, folder: str) -> int:
+    """Grades the answers of a folder."""
+    found = [grader.of(answer) for answer in answers_in(grader.sheet, folder)]
+    place = console.said.value(FEEDBACK)
+    if place is not None:
+        _write_feedback(grader, place, found)
+    if console.said.has(JSON):
+        console.write_json(as_form(grader.sheet, grader.name, found))
+    elif console.said.has(CSV):
+        console.out.write(as_csv(grader.sheet, found))
+    else:
+        console.write(table(grader.sheet, grader.name, found))
+    return Status.DONE
+
+
+def _write_feedback(grader: Grader, place: str, found: Sequence[Graded]) -> None:
+    """Writes what each student is shown into a file of the student's name."""
+    from mm.shown import shown
+
+    try:
+        os.makedirs(place, exist_ok=True)
+        for graded in found:
+            text = "".join(shown(line) + "\n" for line in feedback(grader.sheet, grader.name, graded))
+            with open(os.path.join(place, f"{graded.name}.txt"), "wb") as file:
+                file.write(text.encode("utf-8", "backslashreplace"))
+    except OSError as error:
+        raise Stop(Status.WRITE_FAULT, f"mm: {place}: cannot be written: {error.strerror}") from None
+
+
+def _tried(grader: Grader) -> Iterator[tuple[str, bool]]:
+    """Each answer and each fake of a sheet, with whether it gets what it should."""
+    for name in grader.sheet.answers:
+        graded = grader.file(name)
+        full = not graded.refused and graded.points == len(graded.lines)
+        yield f"answer {name}: " + _points(graded), full
+    for name in grader.sheet.fakes:
+        graded = grader.file(name)
+        full = not graded.refused and graded.points == len(graded.lines)
+        yield f"fake {name}: " + _points(graded), not full
+
+
+def _points(graded: Graded) -> str:
+    return f"refused: {graded.refused[0]}" if graded.refused else f"{graded.points} of {len(graded.lines)}"
+
+
+def _check(console: Console, grader: Grader) -> int:
+    """Tries a sheet: each answer that it names must have all points, and no fake may."""
+    if not grader.sheet.answers:
+        raise usage(f"mm: grade: {grader.sheet.name} names no answer by which it can be checked: write `answer FILE`")
+    good = True
+    for line, is_so in _tried(grader):
+        console.write([f"  {'yes' if is_so else 'no '}  {line}"])
+        good = good and is_so
+    return Status.DONE if good else Status.USAGE
 
 
 def run(console: Console) -> int:
     name, *files = console.words
-    sheet = sheet_of(name)
-    refuse_unusual(files)
-    found = marks(Program(console, console.build(files), sheet))
-    right = [mark for mark in found if mark.why_not is None]
-    console.write([f"{name}: {sheet.title}" if sheet.title else name])
-    for mark in found:
-        console.write([f"  {'yes' if mark.why_not is None else 'no '}  {mark.expectation.text}"])
-        if mark.why_not is not None:
-            console.write([f"       {mark.why_not}"])
-    console.write([f"{len(right)} of {len(found)}"])
-    return Status.DONE if len(right) == len(found) else Status.USAGE
+    grader = Grader(console, name)
+    if console.said.has(CHECK):
+        if files:
+            raise usage("mm: grade: --check takes an exercise alone: mm grade EXERCISE --check")
+        return _check(console, grader)
+    if not files:
+        raise usage("mm: grade: missing FILE", "    usage: mm grade EXERCISE FILE..")
+    if len(files) == 1 and os.path.isdir(files[0]):
+        return _all(console, grader, files[0])
+    return _one(console, grader, files)

@@ -16,7 +16,7 @@ def run(console: Console) -> int:
     if part == ALL:
         return _all(console)
     if part not in PARTS:
-        raise usage(f"mm: hex: `{part}` is no part of an image: {', '.join([*PARTS, ALL])}")
+        raise usage(f"mm: hex: `{part}` is not a part of an image: {', '.join([*PARTS, ALL])}")
     lines = PARTS[part](console.build(console.words).image)
     if console.said.value(OUTPUT) is not None:
         return console.put(text_of(lines).encode("ascii"))

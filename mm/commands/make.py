@@ -29,7 +29,7 @@ def _extract(console: Console) -> int:
 def _migrate(console: Console) -> int:
     *names, mode = console.words
     if mode not in MODES:
-        raise usage(f"mm: migrate: `{mode}` is no mode: plain (loads answer at once) or split (they answer later)")
+        raise usage(f"mm: migrate: `{mode}` is not a mode: plain (loads answer at once) or split (they answer later)")
     built = console.build(names)
     return console.put(console.ask(["migrate", built.path, mode], [built.file]).out)
 

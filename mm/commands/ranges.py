@@ -25,7 +25,7 @@ def range_of(text: str, built: Built) -> tuple[int, int]:
     segment = any(symbol.segment for symbol in built.symbols.named(place))
     log = number_of(length) if comma else (size - 1).bit_length() if segment else WORD_LOG
     if log is None or not 3 <= log <= LONGEST:
-        raise usage(f"mm: `{length}` is no logarithm of a length: 3 to {LONGEST}, as 3 for a word of 2^3 bytes")
+        raise usage(f"mm: `{length}` is not a logarithm of a length: 3 to {LONGEST}, as 3 for a word of 2^3 bytes")
     if address & (1 << log) - 1:
         base = address >> log << log
         raise usage(
@@ -41,7 +41,7 @@ def _files_and_range(console: Console) -> tuple[list[str], str]:
     if len(names) > 1 and number_of(text) is not None and not os.path.exists(names[-1]):
         raise usage(
             f"mm: {console.name}: a range is one word, the last: `{names[-1]},{text}`",
-            "    `mm help ranges` says more",
+            "    `mm help ranges` explains them",
         )
     return names, text
 

@@ -145,7 +145,7 @@ def _refuse_another(console: Console, built: Built, checkpoint: str, begun: Repo
     others = [address for address in begun.cells if not any(base <= address < end for base, end in spans)]
     if others or begun.pages:
         place = built.symbols.show(min(others)) if others else f"page 0x{begun.pages[0][0]:x}"
-        said = f"this is no checkpoint of {built.name}: it differs at {place}, which no run of it can change"
+        said = f"this is not a checkpoint of {built.name}: it differs at {place}, which no run of it can change"
         raise Refused(Status.REFUSED, [Diagnostic(checkpoint, said)])
 
 

@@ -18,7 +18,7 @@ def run(console: Console) -> int:
     said = console.said.value(COUNT)
     count = USUAL if said is None else number_of(said)
     if count is None or not 1 <= count <= MOST:
-        raise usage(f"mm: vectors: `{said}` is no count: 1 to {MOST}")
+        raise usage(f"mm: vectors: `{said}` is not a count: 1 to {MOST}")
     lines = (f"{vector.line}\n" for vector in vectors(console.program, name, count))
     if console.said.value(OUTPUT) is not None:
         return console.put("".join(lines).encode("ascii"))

@@ -1,4 +1,4 @@
-"""`mm why`: by what way a group is granted a word."""
+"""`mm why`: how a group is granted a word."""
 
 from __future__ import annotations
 

@@ -110,7 +110,7 @@ class _Parser:
             if match is None and text[at:].lstrip().startswith("="):
                 raise NoAddress(f"`{text}`: a run is looked at and never changed; `==` compares")
             if match is None or match.lastgroup is None:
-                raise NoAddress(f"`{text}`: `{text[at:].strip()[:1]}` begins nothing that an expression can have")
+                raise NoAddress(f"`{text}`: `{text[at:].strip()[:1]}` cannot stand in an expression")
             self.tokens.append((match.lastgroup, match[match.lastgroup]))
             self.places.append(match.span(match.lastgroup))
             at = match.end()
@@ -123,7 +123,7 @@ class _Parser:
 
     def want(self, sign: str) -> None:
         if self.sign != sign:
-            raise NoAddress(f"`{self.text}` is no expression: a `{sign}` is missing")
+            raise NoAddress(f"`{self.text}` is not an expression: a `{sign}` is missing")
         self.at += 1
 
     def whole(self) -> Tree:

@@ -23,11 +23,11 @@ class _Index:
     def word(self, text: str) -> Word:
         thing = c_thing(text, self.values)
         if thing is None:
-            raise NoAddress(f"`{self.text}`: the index is no number and no variable")
+            raise NoAddress(f"`{self.text}`: the index is neither a number nor a variable")
         return word_of(thing, self.values)
 
     def at(self, address: int) -> Word:
-        raise NoAddress(f"`{self.text}`: the index is no number and no variable")
+        raise NoAddress(f"`{self.text}`: the index is neither a number nor a variable")
 
     def place(self, text: str) -> Optional[Word]:
         return None
@@ -46,7 +46,7 @@ class CExpression:
         while at < len(text.rstrip()):
             match = TOKEN.match(text, at)
             if match is None:
-                raise NoAddress(f"`{text}` is no expression of names, members (a.b, p->b), elements (a[1]) and `*`")
+                raise NoAddress(f"`{text}` is not an expression of names, members (a.b, p->b), elements (a[1]) and `*`")
             self.tokens.append(match[1])
             at = match.end()
         self.at = 0
@@ -106,7 +106,7 @@ class CExpression:
     def element(self, thing: CThing, index: int) -> CThing:
         kind = thing.kind
         if kind.kind not in ("array", "pointer"):
-            raise NoAddress(f"`{self.text}`: {thing.types.title(thing.type)} is no array and no pointer")
+            raise NoAddress(f"`{self.text}`: {thing.types.title(thing.type)} is neither an array nor a pointer")
         start = thing.address
         if kind.kind == "pointer":
             word = self.values.word(thing)

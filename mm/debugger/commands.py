@@ -182,7 +182,7 @@ def _set_watch(kind: PointKind) -> Callable[[Debugger, str], Lines]:
         rest, condition = condition_in(rest, debugger.session)
         place, slot = slot_of(rest, debugger.session)
         if not place:
-            raise Wrong(f"say which word: `{kind.title} count`, `{kind.title} box+8`, `{kind.title} 0x100100`")
+            raise Wrong(f"missing word: `{kind.title} count`, `{kind.title} box+8`, `{kind.title} 0x100100`")
         address, length = span(place, debugger.session)
         point = debugger.session.add(kind, place, address & ~7, length, slot, condition=condition)
         now = debugger.show.cell(debugger.session.memory.cell(point.address)) if length == 8 else f"{length // 8} words"
@@ -259,7 +259,7 @@ INFO: dict[str, tuple[str, Callable[[Debugger, str], Lines]]] = {
     ),
     "locals": ("variables of C; else registers", lambda debugger, rest: local_lines(debugger) or _registers(debugger, rest)),
     "display": ("values that are shown at stops", displays),
-    "output": ("what each group has put out", _output),
+    "output": ("what each group has printed", _output),
     "line": ("where this slot is", _where),
 }
 INFO_NAMES = {
@@ -341,7 +341,7 @@ ENTRIES = (
     Entry(("up",), "[N]", "in C: look at the function that called this one", "", lambda debugger, rest: choose(debugger, rest, 1)),
     Entry(("down",), "[N]", "in C: back to the function that was called", "", lambda debugger, rest: choose(debugger, rest, -1)),
     Entry(("frame", "f"), "[N]", "in C: look at the function with this number in `where`; without one tell which it is", "", lambda debugger, rest: choose(debugger, rest, 0)),
-    Entry(("output", "o"), "", "what each group has put out", "", _output),
+    Entry(("output", "o"), "", "what each group has printed", "", _output),
     Entry(("info", "i"), "WHAT", ", ".join(INFO), "info", _info),
     Entry(("help", "h"), "[WHAT]", "this list, a command or an operation", "help", _help),
     Entry(("quit", "q", "exit"), "", "the end", "", _quit),

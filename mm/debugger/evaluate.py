@@ -31,7 +31,7 @@ def count_of(text: str, least: int = 1) -> int:
         return 1
     number = number_of(text)
     if number is None or not least <= number <= MOST_CYCLES:
-        raise NoAddress(f"`{text}` is no number here: {least} to {MOST_CYCLES}")
+        raise NoAddress(f"`{text}` is not a number here: {least} to {MOST_CYCLES}")
     return number
 
 
@@ -87,7 +87,7 @@ def span(text: str, session: Session) -> tuple[int, int]:
     pointer = word.pointer if word else None
     if pointer is None:
         label = f"; the label is `&{match[1]}`" if hides_label(match[1], session) else ""
-        raise NoAddress(f"{match[1]} is no pointer: it is {session.speller.register(word)}{label}")
+        raise NoAddress(f"{match[1]} is not a pointer: it is {session.speller.register(word)}{label}")
     return pointer.address + (number_of(match[2].replace(" ", "").lstrip("+")) or 0 if match[2] else 0), 8
 
 
@@ -188,7 +188,7 @@ class Values:
         if thing is None or values is None:
             return word_named(text, self.session)
         if thing.kind.kind in ("array", "struct", "union"):
-            raise NoAddress(f"`{text}` is no number, but {thing.types.title(thing.type)}")
+            raise NoAddress(f"`{text}` is not a number, but {thing.types.title(thing.type)}")
         return word_of(thing, values)
 
     def at(self, address: int) -> Word:

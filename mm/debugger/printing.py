@@ -28,7 +28,7 @@ def said_of(text: str, debugger: Debugger) -> str:
     formed = FORMED.fullmatch(text)
     if not formed:
         if text.startswith("/"):
-            raise Wrong(f"say what: `p/x r1`. The forms are {FORMS}")
+            raise Wrong(f"missing expression: `p/x r1`. The forms are {FORMS}")
         return value_text(text, debugger)
     form, what = formed.groups()
     session = debugger.session
@@ -42,7 +42,7 @@ def said_of(text: str, debugger: Debugger) -> str:
 
 def print_value(debugger: Debugger, rest: str) -> Lines:
     if not rest:
-        raise Wrong("say what: `p r5`, `p count`, `p &box`, `p (1+2)*3`, `p/x r1`; in C `p i`, `p name[3]`, `p list->next`")
+        raise Wrong("missing expression: `p r5`, `p count`, `p &box`, `p (1+2)*3`, `p/x r1`; in C `p i`, `p name[3]`, `p list->next`")
     formed = FORMED.fullmatch(rest)
     what = formed[2] if formed else rest
     yield f"{what} = {said_of(rest, debugger)}"

@@ -76,7 +76,7 @@ def _slot(reader: BytesReader) -> Slot:
     mask = reader.number(2)
     registers = tuple(Word(reader.number(8), bool(mask >> register & 1)) for register in range(16))
     if ip is None:
-        raise ValueError("an instruction pointer is no pointer")
+        raise ValueError("an instruction pointer is not a pointer")
     return Slot(number, group, None if handler == NO_HANDLER else handler, state == 1, ip, registers)
 
 
@@ -84,7 +84,7 @@ def read_image(data: bytes) -> Image:
     """The image that bytes spell. `mmachine` has accepted them before: only what would mislead a reader is tested."""
     reader = BytesReader(data)
     if reader.take(4) != b"MMI1":
-        raise ValueError("this is no image")
+        raise ValueError("this is not an image")
     version, slots, frames, pages = (reader.number(2) for _ in range(4))
     split = reader.number(4) == 1
     found = tuple(_slot(reader) for _ in range(slots))

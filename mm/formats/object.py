@@ -83,7 +83,7 @@ def _thread(reader: BytesReader, names: list[str]) -> Thread:
 def _permission(code: int) -> Permission:
     found = Permission.of_code(code)
     if found is None:
-        raise ValueError("a permission is none")
+        raise ValueError("a permission is not one")
     return found
 
 
@@ -91,7 +91,7 @@ def read_object(data: bytes) -> Object:
     """The object that bytes spell, which `mmachine` has made or accepted."""
     reader = BytesReader(data)
     if reader.take(4) != b"MMO1":
-        raise ValueError("this is no object")
+        raise ValueError("this is not an object")
     _, segments, externals, relocations, threads, spare = (reader.number(2) for _ in range(6))
     raw = [_segment(reader) for _ in range(segments)]
     others = tuple(reader.name() for _ in range(externals))

@@ -56,6 +56,6 @@ def read_schedule(data: bytes) -> Schedule:
     for _, word in words_of(data):
         item = ITEM.fullmatch(word)
         if item is None:
-            raise ValueError("a word of the schedule is no item")
+            raise ValueError("a word of the schedule is not an item")
         runs.append((int(item[1]), int(item[2] or 1)))
     return Schedule(tuple(runs))

@@ -1,100 +1,31 @@
-"""Whether a program is as an exercise expects it, line by line."""
+"""The lines of an exercise that look at the end of a run, at the audit and at the outcomes. Each gives what is not
+so."""
 
 from __future__ import annotations
 
 import re
 import warnings
-from dataclasses import dataclass
-from functools import cached_property
 from typing import Callable, Optional
 
-from mm.build import Built
-from mm.console import Console, Order
-from mm.grading.sheet import Expectation, Sheet, wrong
+from mm.grading.program import NotSo, Program, WrongLine, number_in, overlaps, register_in
 from mm.machine.causes import Cause
-from mm.machine.words import Word
-from mm.named import NamedFile
-from mm.names.expressions import NoAddress, address_of
-from mm.names.numbers import counted, number_of
-from mm.outputs.audit import read_audit
-from mm.outputs.exploration import Exploration, read_exploration
-from mm.outputs.report import Report, SlotState, read_report
-from mm.views.spell import Memory, Speller, bytes_as_text
-from mm.words import cycles_of, groups_of
+from mm.machine.words import Permission, Word
+from mm.names.numbers import counted
+from mm.outputs.exploration import Exploration
+from mm.outputs.report import SlotState
+from mm.views.spell import bytes_as_text
 
-CYCLES, STATES = 100_000, 100_000
+Check = Callable[..., Optional[str]]
 BYTES_SHOWN = 40
-REGISTERS = 16
-
-
-@dataclass(frozen=True)
-class Mark:
-    """A line of an exercise, and what is so in its place; nothing if it is as it should be."""
-
-    expectation: Expectation
-    why_not: Optional[str]
-
-
-class Program:
-    """A program that is looked at: it is run, audited and explored if a line asks for it."""
-
-    def __init__(self, console: Console, built: Built, sheet: Sheet) -> None:
-        self.console, self.built, self.sheet = console, built, sheet
-
-    @cached_property
-    def report(self) -> Report:
-        cycles = cycles_of(self.sheet.cycles)
-        words = ["run", self.built.path, str(CYCLES if cycles is None else cycles)]
-        order = Order()
-        if self.sheet.schedule is not None:
-            file = NamedFile("schedule", self.sheet.schedule.encode())
-            order = Order(file, self.console.workshop.keep(file.data, ".schedule"))
-        answer = self.console.ask([*words, *order.words], [self.built.file, *order.files])
-        return read_report(answer.text.splitlines())
-
-    @cached_property
-    def exploration(self) -> Exploration:
-        return read_exploration(self.console.ask(["explore", self.built.path, str(STATES)], [self.built.file]).text)
-
-    def slot(self, number: str) -> Optional[SlotState]:
-        return self.report.slot(number_in(number))
-
-    def apart(self, groups: str) -> bool:
-        answer = self.console.ask(["grants", self.built.path, groups_of(groups)], [self.built.file])
-        return read_audit(answer.text).aparts[-1].apart
-
-    @cached_property
-    def operations(self) -> set[str]:
-        """The operations of the sources."""
-        texts = [unit.source for unit in self.built.units if unit.source]
-        return {run.head for text in texts for segment in text.segments for run in segment.runs}
-
-    @property
-    def unread(self) -> Optional[str]:
-        """A file of which there is no source, so that nothing can be said of its operations."""
-        names = [unit.name for unit in self.built.units if unit.source is None]
-        if not self.built.units:
-            names = [self.built.name]
-        return names[0] if names else None
-
-
-class WrongLine(Exception):
-    """A line of a sheet that cannot be looked at, with the reason."""
-
-
-def number_in(text: str) -> int:
-    number = number_of(text)
-    if number is None:
-        raise WrongLine(f"`{text}` is no number")
-    return number
+REACHES = ("touch", "write")
 
 
 def said(data: bytes) -> str:
-    """What a group says, in words, and no more of it than fits in a line."""
+    """What a group prints, and no more of it than fits in a line."""
     if not data:
-        return "it says nothing"
+        return "it prints nothing"
     more = len(data) - BYTES_SHOWN
-    return f"it says {bytes_as_text(data[:BYTES_SHOWN])}" + (f" and {counted(more, 'more byte')}" if more > 0 else "")
+    return f"it prints {bytes_as_text(data[:BYTES_SHOWN])}" + (f" and {counted(more, 'more byte')}" if more > 0 else "")
 
 
 def became(slot: SlotState) -> str:
@@ -107,72 +38,109 @@ def became(slot: SlotState) -> str:
     return f"slot {slot.number} was stopped by fault {slot.fault}{title}"
 
 
-def says(program: Program, group: str, text: str = "") -> Optional[str]:
+def _bytes_of(text: str) -> bytes:
     try:
         with warnings.catch_warnings():
             # Of a `\` before another letter Python only warns.
             warnings.simplefilter("error")
-            wanted = text.encode("latin-1").decode("unicode_escape").encode("latin-1")
+            return text.encode("latin-1").decode("unicode_escape").encode("latin-1")
     except (UnicodeError, Warning):
-        raise WrongLine(f"`{text}` is no text of bytes: letters, and \\n, \\\\ or \\x41 for others") from None
+        raise WrongLine(f"`{text}` is not a text of bytes: letters, and \\n, \\\\ or \\x41 for others") from None
+
+
+def _output(program: Program, group: str) -> bytes:
     found = program.report.outputs.get(number_in(group))
     if found is None:
-        return f"there is no group {group}"
+        raise NotSo(f"there is no group {group}")
+    return found
+
+
+def says(program: Program, group: str, text: str = "") -> Optional[str]:
+    wanted, found = _bytes_of(text), _output(program, group)
     return None if found == wanted else said(found)
 
 
+def differs(program: Program, group: str, text: str = "") -> Optional[str]:
+    unwanted, found = _bytes_of(text), _output(program, group)
+    return None if found and found != unwanted else said(found)
+
+
 def matches(program: Program, group: str, pattern: str) -> Optional[str]:
-    found = program.report.outputs.get(number_in(group))
-    if found is None:
-        return f"there is no group {group}"
+    found = _output(program, group)
     try:
         return None if re.fullmatch(pattern.encode("latin-1"), found) else said(found)
     except (re.error, UnicodeEncodeError):
-        raise WrongLine(f"`{pattern}` is no pattern") from None
+        raise WrongLine(f"`{pattern}` is not a pattern") from None
 
 
 def halts(program: Program, *slots: str) -> Optional[str]:
     for number in slots:
         slot = program.slot(number)
-        if slot is None:
-            return f"there is no slot {number}"
         if slot.state != "halted":
             return became(slot)
     return None
 
 
-def faults(program: Program, number: str, fault: str) -> Optional[str]:
-    slot, cause = program.slot(number), Cause.of_title(fault)
-    if cause is None and number_of(fault) is None:
-        raise WrongLine(f"`{fault}` is no fault: {', '.join(cause.title for cause in Cause)}, or a number")
-    wanted = cause.number if cause else number_in(fault)
-    if slot is None:
-        return f"there is no slot {number}"
-    return None if slot.fault == wanted else became(slot)
+def faults(program: Program, number: str, fault: str, operation: str = "") -> Optional[str]:
+    cause = Cause.of_title(fault) or Cause.of_number(number_in(fault) if fault.isdigit() else 0)
+    if cause is None:
+        raise WrongLine(f"`{fault}` is not a fault: {', '.join(cause.title for cause in Cause)}, or a number")
+    slot = program.slot(number)
+    if slot.fault != cause.number:
+        return became(slot)
+    found = program.ran.stopped.get(slot.number)
+    at = f"{became(slot).partition(':')[0]}, but at {f'a `{found}`' if found else 'no instruction'}"
+    return None if not operation or found in operation.split("|") else at
+
+
+def stops(program: Program, number: str, value: str) -> Optional[str]:
+    slot = program.slot(number)
+    if value == "past":
+        return None if slot.past else f"slot {number} is not past the end of its segment"
+    pointer = slot.ip.pointer
+    cell = program.memory.cell(pointer.address) if pointer else None
+    if cell is None:
+        return f"there is no word at which slot {number} stands"
+    return None if is_value(cell.word, value) else f"slot {number} stands at {program.speller.word(cell.word)}"
+
+
+def together(program: Program, *slots: str) -> Optional[str]:
+    places = {program.slot(number).ip.bits for number in slots}
+    return None if len(places) == 1 else "these slots stand at different instructions"
+
+
+def is_value(word: Word, value: str) -> bool:
+    """Whether a word is an integer that is said, or of the kind that is said."""
+    if value in ("pointer", "integer"):
+        return word.tagged == (value == "pointer")
+    return word == Word(number_in(value) % 2**64)
 
 
 def register(program: Program, number: str, name: str, value: str) -> Optional[str]:
+    found = program.slot(number).register(register_in(name))
+    is_so = found is not None and is_value(found, value)
+    return None if is_so else f"{name} is {program.speller.register(found)}"
+
+
+def fields(program: Program, number: str, *names: str) -> Optional[str]:
     slot = program.slot(number)
-    if slot is None:
-        return f"there is no slot {number}"
-    place = number_of(name[1:]) if name.startswith("r") else None
-    if place is None or not 0 <= place < REGISTERS:
-        raise WrongLine(f"`{name}` is no register: r0 to r15")
-    found = slot.register(place)
-    speller = Speller(program.built.symbols)
-    return None if found == Word(number_in(value) % 2**64) else f"{name} is {speller.register(found)}"
+    *places, given = map(register_in, names)
+    image = program.built.image.slot(slot.number)
+    pointer = image.registers[given].pointer if image else None
+    if pointer is None:
+        return f"{names[3]} does not begin with a pointer"
+    wanted = (pointer.permission.code, pointer.log, pointer.address)
+    for name, place, value in zip(names, places, wanted):
+        if slot.register(place) != Word(value):
+            return f"{name} is {program.speller.register(slot.register(place))}"
+    return None
 
 
 def word(program: Program, name: str, value: str) -> Optional[str]:
-    try:
-        address = address_of(name, program.built.symbols)
-    except NoAddress as no:
-        return str(no)
-    cell = Memory.after(program.built.image, program.report).cell(address)
+    cell = program.memory.cell(program.address(name))
     if cell is None:
         return f"there is no memory at {name}"
-    is_so = cell.word == Word(number_in(value) % 2**64)
-    return None if is_so else f"{name} is {Speller(program.built.symbols).word(cell.word)}"
+    return None if is_value(cell.word, value) else f"{name} is {program.speller.word(cell.word)}"
 
 
 def _no_group(program: Program, groups: tuple[str, ...]) -> Optional[str]:
@@ -182,32 +150,64 @@ def _no_group(program: Program, groups: tuple[str, ...]) -> Optional[str]:
 
 
 def apart(program: Program, *groups: str) -> Optional[str]:
-    is_so = program.apart(",".join(groups))
+    is_so = program.audit(",".join(groups)).aparts[-1].apart
     return _no_group(program, groups) or (None if is_so else "the audit says that they do not")
 
 
 def shares(program: Program, *groups: str) -> Optional[str]:
-    is_so = not program.apart(",".join(groups))
+    is_so = not program.audit(",".join(groups)).aparts[-1].apart
     return _no_group(program, groups) or (None if is_so else "the audit says that they stand apart")
+
+
+def _reaches(program: Program, group: str, kind: str, name: str) -> bool:
+    """Whether the audit grants a group all bytes of a name."""
+    if kind not in REACHES:
+        raise WrongLine(f"`{kind}` is not a kind of access: touch or write")
+    missing = _no_group(program, (group,))
+    if missing:
+        raise NotSo(missing)
+    begin, end = program.span(name)
+    reach = next(reach for reach in program.audit().reaches if reach.group == number_in(group))
+    spans = reach.touch if kind == "touch" else reach.write
+    return any(base <= begin and end <= base + (1 << log) for base, log in spans)
+
+
+def can(program: Program, group: str, kind: str, name: str) -> Optional[str]:
+    return None if _reaches(program, group, kind, name) else "the audit says that it cannot"
+
+
+def cannot(program: Program, group: str, kind: str, name: str) -> Optional[str]:
+    return "the audit says that it can" if _reaches(program, group, kind, name) else None
+
+
+def own(program: Program, group: str) -> Optional[str]:
+    """A thread of the group begins with a pointer to data that no other group can touch."""
+    missing = _no_group(program, (group,))
+    if missing:
+        return missing
+    number = number_in(group)
+    others = [span for reach in program.audit().reaches if reach.group != number for span in reach.touch]
+    held = [word.pointer for slot in program.built.image.slots if slot.group == number for word in slot.registers]
+    for pointer in held:
+        is_data = pointer and pointer.permission in (Permission.RO, Permission.RW)
+        if pointer and is_data and not any(overlaps(pointer, base, base + (1 << log)) for base, log in others):
+            return None
+    return f"group {group} begins with no pointer to data of its own"
 
 
 def _no_source(program: Program) -> Optional[str]:
     """What is said where the operations of a program are not known."""
-    return f"{program.unread} is no source, so its operations are not looked at" if program.unread else None
+    return f"{program.unread} is not a source, so its operations are not known" if program.unread else None
 
 
 def uses(program: Program, *operations: str) -> Optional[str]:
-    if program.unread:
-        return _no_source(program)
     missing = [names for names in operations if program.operations.isdisjoint(names.split("|"))]
-    return f"there is no {missing[0].replace('|', ' and no ')}" if missing else None
+    return _no_source(program) or (f"there is no {missing[0].replace('|', ' and no ')}" if missing else None)
 
 
 def without(program: Program, *operations: str) -> Optional[str]:
-    if program.unread:
-        return _no_source(program)
     there = [name for name in operations if name in program.operations]
-    return f"there is a {there[0]}" if there else None
+    return _no_source(program) or (f"there is a {there[0]}" if there else None)
 
 
 def all_looked_at(found: Exploration) -> Optional[str]:
@@ -231,34 +231,12 @@ def never(program: Program, what: str) -> Optional[str]:
         title = Cause.of_number(cause)
         return f"slot {slot} has fault {cause}{f' {title.title}' if title else ''}, under the schedule {schedule}"
     if what not in ("stuck", "faults"):
-        raise WrongLine(f"`never {what}` is nothing that is looked at: never stuck, or never faults")
+        raise WrongLine(f"unknown line `never {what}`: never stuck, or never faults")
     return all_looked_at(found)
 
 
-CHECKS: dict[str, Callable[..., Optional[str]]] = {
-    "says": says,
-    "matches": matches,
-    "halts": halts,
-    "faults": faults,
-    "register": register,
-    "word": word,
-    "apart": apart,
-    "shares": shares,
-    "uses": uses,
-    "without": without,
-    "outcomes": outcomes,
-    "never": never,
-}
-
-
-def marks(program: Program) -> list[Mark]:
-    """Each line of the exercise, with what is not so."""
-    return [Mark(line, mark(program, line)) for line in program.sheet.expectations]
-
-
-def mark(program: Program, line: Expectation) -> Optional[str]:
-    """What is not so of a line."""
-    try:
-        return CHECKS[line.kind](program, *line.words)
-    except WrongLine as why:
-        raise wrong(program.sheet.name, line.number, str(why)) from None
+OF_THE_END: dict[str, Check] = {
+    "says": says, "differs": differs, "matches": matches, "halts": halts, "faults": faults, "stops": stops,
+    "together": together, "register": register, "fields": fields, "word": word, "apart": apart, "shares": shares,
+    "can": can, "cannot": cannot, "own": own, "uses": uses, "without": without, "outcomes": outcomes, "never": never,
+}  # fmt: skip

@@ -10,9 +10,11 @@ from mm.help.topics import TOPICS
 from mm.machine.causes import Cause
 from mm.machine.isa import OPERATIONS, Kind
 from mm.machine.words import BY_SHORT
-from mm.source.wants import DIRECTIVES
+from mm.source.letters import TEXT_DIRECTIVES
+from mm.source.wants import DIRECTIVES as OF_MMACHINE
 from mm.table import ALIASES, BY_NAME
 
+DIRECTIVES = {**OF_MMACHINE, **TEXT_DIRECTIVES}
 # The number of a fault.
 NUMBER = re.compile("[0-9]{1,9}")
 
@@ -47,6 +49,7 @@ def directives() -> Iterator[str]:
     for directive in DIRECTIVES.values():
         yield f"  {directive.usage}"
         yield f"      {directive.meaning}; for example: {directive.example}"
+    yield "`.ascii` and `.asciiz` are forms of `mm`: `mmachine asm` is given a line `.int` for each letter."
 
 
 def directive_lines(name: str) -> Iterator[str]:
@@ -77,7 +80,7 @@ def letters() -> Iterator[str]:
         yield "  ".join(
             f"{code:>3} {chr(code) if code > 32 else 'blank'}".ljust(9) for code in codes[row::rows]
         ).rstrip()
-    yield "10 ends a line."
+    yield "10 ends a line. In a source write 'A' for 65 and '\\n' for 10, or a text by `.ascii` or `.asciiz` (`mm help .ascii`)."
 
 
 def debugger() -> Iterator[str]:

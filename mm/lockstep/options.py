@@ -32,7 +32,7 @@ def parser() -> argparse.ArgumentParser:
         formatter_class=argparse.RawDescriptionHelpFormatter,
     )
     add = found.add_argument
-    add("--seed", type=int, default=1, metavar="N", help="another row of cases; else 1")
+    add("--seed", type=int, default=1, metavar="N", help="another series of cases; default: 1")
     add("--first", type=int, default=0, metavar="N", help="the number of the first case; else 0")
     add("--count", type=int, default=100, metavar="N", help="how many cases; else 100")
     add("--operations", metavar="LIST", help="cases that carry out these operations alone: halt,ldi,add")

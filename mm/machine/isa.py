@@ -97,7 +97,7 @@ _ROWS = [
     (0x04, "mov", "rd ra", "", "rd = ra, with its tag", "mov r2, r1"),
     (0x05, "isptr", "rd ra", "", "rd = 1 if ra is a pointer, else 0", "isptr r2, r1"),
     (0x06, "eqw", "rd ra rb", "", "rd = 1 if ra and rb have the same tag and bits, else 0", "eqw r3, r1, r2"),
-    (0x07, "out", "ra", "OutFull", "puts out the low byte of ra", "out r1"),
+    (0x07, "out", "ra", "OutFull", "prints the low byte of ra", "out r1"),
     (0x08, "self", "rd", "", "rd = the slot's own number", "self r1"),
     (0x10, "add", "rd ra rb", "", "rd = ra + rb", "add r3, r1, r2"),
     (0x11, "sub", "rd ra rb", "", "rd = ra - rb", "sub r3, r1, r2"),

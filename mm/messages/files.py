@@ -15,7 +15,7 @@ from mm.source.tokens import readable
 
 IMAGE_FAULTS = {
     1: ("the file ends within a field", "it was cut, or has not been written to its end: make it again"),
-    2: ("this is no image", "an image is what `mm link` writes; sources and objects can be given to `mm` as they are"),
+    2: ("this is not an image", "an image is what `mm link` writes; sources and objects can be given to `mm` as they are"),
     3: ("the version is neither 1 nor 2", "the image is of another program, or spoiled"),
     4: (
         "the number of slots or the mode is out of range",
@@ -26,13 +26,13 @@ IMAGE_FAULTS = {
         "slots ascend, each number once, up to 15 (version 2: 63)",
     ),
     6: ("a group is out of range", "groups are 0 to 15 (version 2: 63)"),
-    7: ("a handler is no other slot of the image", "a handler is 255 for none, or the number of another slot"),
+    7: ("a handler is not another slot of the image", "a handler is 255 for none, or the number of another slot"),
     8: ("a slot's state is neither running (0) nor halted (1)", ""),
     9: (
         "a word is marked as a pointer and spells none",
         "its permission is not 1 to 7, or the logarithm of its length is above 54",
     ),
-    10: ("an instruction pointer is none that executes", "it is execute-user or execute-privileged"),
+    10: ("an instruction pointer does not execute", "it is execute-user or execute-privileged"),
     11: (
         "a page's number is out of range or not above the one before",
         "a page's number is its address divided by 4096",
@@ -45,7 +45,7 @@ IMAGE_FAULTS = {
 }
 OBJECT_FAULTS = {
     1: ("the file ends within a field", "it was cut, or has not been written to its end: make it again"),
-    2: ("this is no object", "an object is what `mm asm` writes"),
+    2: ("this is not an object", "an object is what `mm asm` writes"),
     3: ("the version is not 1", "the object is of another program, or spoiled"),
     4: ("a number of the header is out of its range", ""),
     5: ("a name is bad, repeated, out of its order or unused", ""),
@@ -72,7 +72,7 @@ def _object(file: NamedFile, refusal: Refusal) -> Diagnostic:
 
 
 def _checkpoint(file: NamedFile, refusal: Refusal) -> Diagnostic:
-    said = "this is no checkpoint of the image"
+    said = "this is not a checkpoint of the image"
     return _binary(
         file,
         refusal,
@@ -107,7 +107,7 @@ def _text(file: NamedFile, refusal: Refusal, what: str, hint: str) -> Diagnostic
     word = next((word for at, word in words_of(file.data) if at == offset), b"").decode("latin-1")
     return Diagnostic(
         file.name,
-        f"`{readable(word)[:40]}` is no item of {what}, or one too many",
+        f"`{readable(word)[:40]}` is not an item of {what}, or one too many",
         line,
         column,
         text,

@@ -77,7 +77,7 @@ def _undefined(link: Link, name: str) -> list[Diagnostic]:
     ]
     found = []
     for missing in dict.fromkeys(names):
-        message, hint = f"`{missing}` is no label here and no segment of any file", _undefined_hint(link, missing)
+        message, hint = f"`{missing}` is neither a label here nor a segment of any file", _undefined_hint(link, missing)
         places = [link.at(source, use.line, use.column, message, [hint]) for source, use in link.uses(missing)]
         found += places[:1] or [link.whole(message, [hint])]
     return found
@@ -124,7 +124,7 @@ def _handler(link: Link, name: str) -> list[Diagnostic]:
     message = (
         f"the thread in slot {name} has a handler in slot {waits}, and no thread is there"
         if waits is not None
-        else f"the handler of slot {name} is no thread"
+        else f"the handler of slot {name} is not a thread"
     )
     hints = ["write a thread for that slot, or `none` for no handler"]
     return [

@@ -9,6 +9,7 @@ from mm.machine.isa import OPERATIONS
 from mm.messages.directives import DIRECTIVE_MISTAKES
 from mm.messages.others import DIRECTIVE_HINTS, OPERATION_HINTS
 from mm.messages.scene import Scene
+from mm.source.letters import TEXT_DIRECTIVES
 from mm.source.tokens import BEYOND, value_of_digits
 from mm.source.wants import DIRECTIVES, OPERANDS
 
@@ -68,7 +69,7 @@ def _offset_in_brackets(scene: Scene) -> Optional[str]:
         match[2].lower(),
     )
     if scene.head == "leai":
-        return f"it is written `leai r2, {pointer}, {offset}`"
+        return f"write `leai r2, {pointer}, {offset}`"
     if scene.head in OPERANDS and scene.head not in ("ld", "st"):
         return None
     if scene.head == "st":
@@ -89,11 +90,15 @@ def _register_name(scene: Scene) -> Optional[str]:
 
 
 def _quotes(scene: Scene) -> Optional[str]:
-    match = re.search(r"'(.)'|\"(.)", scene.code)
-    if scene.fault == 1 and match and match.start() + 1 <= scene.column <= match.end() + 1:
-        letter = match[1] or match[2]
-        return f"letters are written as numbers: {ord(letter)} for {letter} (`mm help letters` has all)"
-    return None
+    """Letters in quotes that are not as they must be."""
+    if scene.head in TEXT_DIRECTIVES and scene.fault == 3:
+        return "a text stands between double quotes, with \\n, \\\" or \\x41 for other letters: `.ascii \"Hello\\n\"`"
+    match = re.search(r"'(.*?)(?:'|$)|\"(.)", scene.code)
+    if scene.fault != 1 or match is None or not match.start() + 1 <= scene.column <= match.end() + 1:
+        return None
+    if match[2]:
+        return "a text has a directive of its own: `.ascii \"Hello\"`, with a word for each letter; one letter is `'A'`"
+    return "one letter stands between single quotes, as `'A'` or `'\\n'`; a text has a directive of its own: `.ascii \"Hello\"`"
 
 
 def _marks(scene: Scene) -> Optional[str]:
@@ -242,7 +247,7 @@ def _name_as_operand(scene: Scene) -> Optional[str]:
         return f"`jal` wants a register with a pointer: first `lip r5, {scene.found}`, if it is in the same segment, and then `jal r6, r5`"
     if scene.head in ("bz", "bnz"):
         return None
-    return f"a name is no operand of `{scene.head}`: a pointer to `{scene.found}` comes from `.reg 5 ptr rw {scene.found}` after the `.thread`, or, if it is in the same segment, by `lip r5, {scene.found}`"
+    return f"a name is not an operand of `{scene.head}`: a pointer to `{scene.found}` comes from `.reg 5 ptr rw {scene.found}` after the `.thread`, or, if it is in the same segment, by `lip r5, {scene.found}`"
 
 
 def _label(scene: Scene) -> Optional[str]:

@@ -33,7 +33,7 @@ OTHER_OPERATIONS = {
     "push pop": "there is no stack of the machine's own: keep a pointer to one in a register, store with `st`, and move it with `leai` (mm help idioms)",
     "hlt exit stop quit end break": "a thread ends by `halt`",
     "syscall ecall svc swi int": "a service is called by `jal r6, r5` through an enter pointer, or asked of a handler by `trap 1`",
-    "print putc putchar puts write": "a letter is put out by `out r1`, one at a time",
+    "print putc putchar puts write": "a letter is printed by `out r1`, one at a time; examples/text/print.asm prints texts and numbers",
     "noop": "it is called `nop`",
     "cas swap xchg lock ll sc amoadd": "threads are kept in turn by the synchronisation bit: `ld r2, r1, 0, full, empty` takes the word, `st r1, r2, 0, empty, full` gives it back",
 }
@@ -41,14 +41,14 @@ OTHER_OPERATIONS = {
 OTHER_DIRECTIVES = {
     ".word .dword .quad .long .dw .dq .dd .half .short .octa .data4": "a word is `.int NUMBER`",
     ".byte .db": "memory has only words of 64 bits: write `.int NUMBER` for each",
-    ".string .ascii .asciz .str .asciiz": "there are no strings: each letter is a word, as `.int 72` for H (`mm help letters` has the numbers)",
+    ".string .asciz .str": "a text is `.asciiz \"Hello\"`, with a word for each letter and 0 after them, or `.ascii \"Hello\"` without the 0",
     ".space .skip .zero .res .bss .comm": "words that hold 0 are made by `.fill COUNT`",
     ".text .data .section .code .rodata .seg": "code and data are begun by `.segment NAME L`, with 2^L bytes",
     ".global .globl .extern .export .import .public": "segments are known to other sources by their names, without a directive; labels are not",
     ".org .align .balign .p2align": "places are chosen by the linker: segments by falling length, from 0x100000 on (`mm symbols FILE` lists them)",
     ".equ .set .define .const": "there are no constants: write the number, or keep it in a word by `.int`",
-    ".start .entry .main": "where a thread begins is said by `.thread 0 0 none xu NAME`",
-    ".register .regs": "what a register begins with is said by `.reg 1 int 5` or `.reg 1 ptr rw NAME` after the `.thread`",
+    ".start .entry .main": "`.thread 0 0 none xu NAME` says where a thread begins",
+    ".register .regs": "`.reg 1 int 5` or `.reg 1 ptr rw NAME` after the `.thread` says what a register begins with",
     ".pointer .addr .ref": "a pointer in memory is `.ptr PERMISSION NAME`, as `.ptr rw box`",
     ".macro .endm .include .if .endif": "there are no macros, and a source includes no other: give `mm run` several sources, and share segments by their names",
 }

@@ -13,6 +13,7 @@ from mm.names.expressions import nearest
 from mm.names.numbers import counted
 from mm.outputs.refusal import Refusal
 from mm.source import wants
+from mm.source.letters import without_letters
 from mm.source.lines import Line, read_line
 from mm.source.tokens import LONG_LINE, Token, TokenKind, cut, readable, token_at, tokens_of
 from mm.source.text import SourceSegment, SourceText, read_source
@@ -36,7 +37,8 @@ class Explained:
 
     def __init__(self, source: SourceText, number: int, column: int) -> None:
         self.source, self.number, self.column = source, number, column
-        self.said = source.line(number)
+        self.written = source.line(number)
+        self.said = without_letters(self.written)
         self.line: Line = read_line(self.said)
         self.token = self._token()
         self.head = self._head()
@@ -78,14 +80,14 @@ class Explained:
         """How the statement is written."""
         operation, directive = OPERATIONS.get(self.head), DIRECTIVES.get(self.head)
         if operation:
-            return f"it is written `{operation.usage}`, as `{operation.example}`"
-        return f"it is written `{directive.usage}`, as `{directive.example}`" if directive else None
+            return f"usage: `{operation.usage}`, as in `{operation.example}`"
+        return f"usage: `{directive.usage}`, as in `{directive.example}`" if directive else None
 
 
 def _bad_byte(at: Explained) -> str:
     letter = readable(at.said[at.column - 1 :])[:1]
     shown = f"`{letter}`" if letter.isprintable() and not letter.isspace() else f"U+{ord(letter):04X}"
-    return f"{shown} begins nothing that a source can have"
+    return f"{shown} cannot stand in a source"
 
 
 def _syntax(at: Explained) -> str:
@@ -117,7 +119,7 @@ def _range(at: Explained) -> str:
 
 
 def _label(at: Explained) -> str:
-    return f"`{at.text}` is no label of this segment"
+    return f"`{at.text}` is not a label of this segment"
 
 
 def _twice(at: Explained) -> str:
@@ -239,7 +241,7 @@ def explain(source: SourceText, fault: int, number: int, column: int) -> Diagnos
     if hint is None and fault <= 4:
         hint = at.usage() or "`mm help sources` shows what a source looks like"
     name = at.token.text if fault == LABEL and at.token else None
-    return Diagnostic(source.path, message, number, column, at.said, [hint] if hint else [], name=name)
+    return Diagnostic(source.path, message, number, column, at.written, [hint] if hint else [], name=name)
 
 
 def explain_refusal(path: str, data: bytes, refusal: Refusal) -> Diagnostic:

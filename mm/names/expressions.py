@@ -88,12 +88,12 @@ def span_of(text: str, symbols: Symbols) -> tuple[int, int]:
         symbol = _symbol(match[1], symbols)
         by = number_of(match[3]) if match[3] else 0
         if by is None:
-            raise NoAddress(f"`{match[3]}` is no number")
+            raise NoAddress(f"`{match[3]}` is not a number")
         address, length = symbol.address + (-by if match[2] == "-" else by), 8 if match[2] else symbol.length
     else:
-        raise NoAddress(f"`{text}` is no address: write a name, a name and an offset as box+8, or a number as 0x100100")
+        raise NoAddress(f"`{text}` is not an address: write a name, a name and an offset as box+8, or a number as 0x100100")
     if not 0 <= address < ADDRESS_LIMIT:
-        raise NoAddress(f"{hexadecimal(address)} is no address: addresses are below 2^54")
+        raise NoAddress(f"{hexadecimal(address)} is not an address: addresses are below 2^54")
     return address, length
 
 

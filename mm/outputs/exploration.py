@@ -30,7 +30,7 @@ class Outcome:
         """The slots and the outputs as lines for people."""
         slots = [f"slot {number} {state}" for number, state in self.states.items()]
         texts = [
-            f'group {group} says "{data.decode("latin-1").encode("unicode_escape").decode()}"'
+            f'group {group} prints "{data.decode("latin-1").encode("unicode_escape").decode()}"'
             for group, data in self.outputs.items()
             if data
         ]

@@ -5,7 +5,7 @@ from __future__ import annotations
 import argparse
 import os
 import sys
-from typing import Callable, Optional, Sequence
+from typing import Callable, Optional, Protocol, Sequence
 
 from mm.build import Built, Workshop, read_file, refused
 from mm.commands.net import LINK, numeric
@@ -18,13 +18,19 @@ from mm.names.symbols import Symbols
 from mm.outputs.audit import Audit, read_audit
 from mm.outputs.report import Report, read_report
 from mm.outputs.trace import Turn, numbered, read_turn, split_trace
-from mm.pictures import audit, gate, image, net, permissions, pointer, reach, states, sweep, trace, tree, why
+from mm.pictures import audit, card, gate, image, machine, net, permissions, pointer, reach, states, sweep, trace, tree, why
 from mm.pictures.svg import Picture
 from mm.status import Refused, Stop, usage
 from mm.views.derivation import DONE
 from mm.views.style import Style
 from mm.why.ask import asked
 from mm.why.lines import NO, read_lines
+
+
+class Drawing(Protocol):
+    """Something that is drawn: a picture, or the card."""
+
+    def svg(self) -> str: ...
 
 
 class Studio:
@@ -153,7 +159,7 @@ def _pointer(studio: Studio) -> Picture:
     return pointer.draw(Word.parse(text), symbols)
 
 
-KINDS: dict[str, tuple[int, Callable[[Studio], Picture]]] = {
+KINDS: dict[str, tuple[int, Callable[[Studio], Drawing]]] = {
     "trace": (1, _trace),
     "audit": (1, _audit),
     "audits": (2, _audits),
@@ -167,6 +173,8 @@ KINDS: dict[str, tuple[int, Callable[[Studio], Picture]]] = {
     "permissions": (0, lambda _: permissions.draw()),
     "tree": (0, lambda _: tree.draw()),
     "states": (0, lambda _: states.draw()),
+    "machine": (0, lambda _: machine.draw()),
+    "card": (0, lambda _: card.draw()),
 }
 
 

@@ -61,7 +61,7 @@ def draw_segment(picture: Picture, pointer: Pointer, symbols: Symbols) -> None:
 def draw(word: Word, symbols: Symbols) -> Picture:
     pointer = word.pointer
     if pointer is None:
-        raise ValueError("this is no pointer")
+        raise ValueError("this is not a pointer")
     picture = Picture("The 64 bits of a pointer")
     picture.paragraph("The same bits without the tag are a number that nobody can use as a pointer.", 13, "soft")
     picture.down += 4

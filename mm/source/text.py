@@ -8,6 +8,7 @@ from typing import TYPE_CHECKING, Optional
 
 from mm.records import dataclass, field
 from mm.source import wants
+from mm.source.letters import head_of, letters_of, without_letters
 from mm.source.lines import WORD_DIRECTIVES, Line, read_line
 from mm.source.tokens import TokenKind
 from mm.source.wants import DIRECTIVES, OPERANDS
@@ -152,14 +153,18 @@ def lines_of(data: bytes) -> list[str]:
 def read_source(path: str, data: bytes) -> SourceText:
     """What a source says, as far as its lines can be read by themselves."""
     text = SourceText(path, lines_of(data))
-    for number, said in enumerate(text.lines, 1):
+    for number, written in enumerate(text.lines, 1):
+        said = without_letters(written)
         beginning = BEGINNING.match(said)
         label, head = beginning.groups() if beginning else (None, None)
         if label and text.segments and label not in text.labels:
             place = text.segments[-1].words
             text.labels[label] = Label(label, len(text.segments) - 1, place, number, said.index(label) + 1)
+        letters = letters_of(said) if head and head.startswith(".ascii") else None
         if head in WORDS and text.segments:
             text.segments[-1].add(1, number, head)
+        elif letters is not None and text.segments:
+            text.segments[-1].add(len(letters), number, head_of(said))
         elif head and text.segments and head not in DIRECTIVES:
             text.segments[-1].unknown += 1
         if head in DIRECTIVES and head != ".int":

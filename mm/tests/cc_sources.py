@@ -164,7 +164,7 @@ static int *sp = room + 64;
 static __attribute__((noinline)) void push(int x) { *--sp = x; }
 int main(void) { push(1); return 0; }
 """),
-    "a second free": ("fault 11 Trap at {room}/a.c:7, in free: `free` of what is no block of malloc, or was freed before", "0",
+    "a second free": ("fault 11 Trap at {room}/a.c:7, in free: `free` of what is not a block of malloc, or was freed before", "0",
                       """#include <stdlib.h>
 int main(void)
 {

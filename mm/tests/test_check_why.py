@@ -142,7 +142,7 @@ class Derivations(unittest.TestCase):
             with open(name, "wb") as file:
                 file.write(IMAGE[:100])
             ended = mm("check-why", name, "0", "0", "touch", lines=hello)
-            self.assertEqual((ended.status, ended.err), (Status.REFUSED, f"mm: {name} is no image: it is cut short\n"))
+            self.assertEqual((ended.status, ended.err), (Status.REFUSED, f"mm: {name} is not an image: it is cut short\n"))
 
 
 if __name__ == "__main__":

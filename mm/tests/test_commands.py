@@ -253,7 +253,7 @@ class Looking(unittest.TestCase):
             mm("audit", "examples/kernel.asm", "--groups", "0x1,0,1").out,
             mm("audit", "examples/kernel.asm", "--groups", "0,1").out,
         )
-        self.assertIn("are no groups", mm("audit", "examples/kernel.asm", "--groups", "a").err)
+        self.assertIn("is not a list of groups", mm("audit", "examples/kernel.asm", "--groups", "a").err)
         form = json.loads(mm("audit", "examples/kernel.asm", "--json").out)
         self.assertEqual([apart["apart"] for apart in form["apart"]], [True, True])
 

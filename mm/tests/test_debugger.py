@@ -51,7 +51,7 @@ class Sessions(unittest.TestCase):
             ["watch", "brk door", "set r1 5", "info breaks", "info regs", "b door slot 1", "foo", "p &box", "p r2"],
             "examples/counter.asm",
         )
-        self.assertIn("say which word: `watch count`", said[0])
+        self.assertIn("missing word: `watch count`", said[0])
         self.assertIn("do you mean `break`?", said[1])
         self.assertIn("never changed", said[2])
         self.assertIn("0  fault", said[3])
@@ -165,7 +165,7 @@ class Sessions(unittest.TestCase):
         said = self.session(["x/-1 box", "x/\u0663 box", "x/2q box", "x/2w box", "watch -8"], "examples/counter.asm")
         for answer in said[:4]:
             self.assertIn("write how many words, and in which form", answer)
-        self.assertIn("-0x8 is no address", said[4])
+        self.assertIn("-0x8 is not an address", said[4])
 
     def test_memory_in_forms(self):
         said = self.session(["goto 36", "x/2x box", "x/d count", "x/2gx &gate", "x/a r5", "x/zg count"], "examples/counter.asm")

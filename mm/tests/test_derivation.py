@@ -99,9 +99,9 @@ class Asking(unittest.TestCase):
 
     def test_words(self):
         for words, said in (
-            (("64", "count", "write"), "`64` is no group: 0 to 63"),
+            (("64", "count", "write"), "`64` is not a group: 0 to 63"),
             (("0", "cuont", "write"), "do you mean `count`"),
-            (("0", "count+4", "write"), "`count+4` is no address of a word"),
+            (("0", "count+4", "write"), "`count+4` is not an address of a word"),
             (("0", "count", "jump"), "`jump` is neither touch (or read) nor write"),
         ):
             ended = mm("why", "examples/counter.asm", *words)

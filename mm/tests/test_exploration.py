@@ -52,7 +52,7 @@ class Exploration(unittest.TestCase):
             "slot 1 can be stopped by fault 3 Bounds: the address is outside the pointer's segment",
             "  under the schedule 0 1*4",
             "outcome 1: it ends",
-            '  group 0 says "AB\\n"',
+            '  group 0 prints "AB\\n"',
             "outcome 2: it is stuck: slots run, and nothing changes any more",
             "  under the schedule without turns",
         ):
@@ -61,7 +61,7 @@ class Exploration(unittest.TestCase):
     def test_names_and_ends(self):
         ended = mm("explore", "docs/course/race.asm")
         self.assertEqual((ended.status, ended.err), (0, ""))
-        for line in ("these are all", "touches code and the 4 words after it", 'says "AB"', 'says "AA"'):
+        for line in ("these are all", "touches code and the 4 words after it", 'prints "AB"', 'prints "AA"'):
             self.assertIn(line, ended.out)
 
     def test_places_of_faults(self):

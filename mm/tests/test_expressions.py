@@ -62,7 +62,7 @@ class Expressions(unittest.TestCase):
         ("(1 + 2", "a `)` is missing"), ("1 + 2)", "goes on after `1 + 2`"), ("1 2", "goes on after `1`"), ("1 +", "a value is missing at the end"),
         ("+ & 3", "only a name"), ("5 / 0", "divides by zero"), ("5 % 0", "divides by zero"), ("1 << 64", "0 to 63"), ("r2 = 5", "never changed"),
         ("count+1", "`(count)`"), ("nope + 1", "no label or segment `nope`"), ("r16 + 1", "no register r16"), ("**r1", "no page is at 0x0"),
-        ("(1 + 2) ? 3", "`?` begins nothing"), ("box[1]", "no address"), ("&", "only a name"), ("1" * 101 + " + 1", "no address"),
+        ("(1 + 2) ? 3", "`?` cannot stand"), ("box[1]", "not an address"), ("&", "only a name"), ("1" * 101 + " + 1", "not an address"),
     )
 
     def answers_of(self, *lines, program="examples/counter.asm"):
@@ -87,7 +87,7 @@ class Expressions(unittest.TestCase):
         self.assertEqual(said[2:7], ["i = 3   (int)", "i + 1 = 4   (0x4)", "-i = -3   (0xfffffffffffffffd)", "name[i - 1] = 114 'r'   (char)",
             "name[1] + 1 = 98 'b'   (0x62)"])
         self.assertIn("write `name[1]` for an element", said[7])
-        self.assertIn("is no number, but char[8]", said[8])
+        self.assertIn("is not a number, but char[8]", said[8])
         self.assertIn("67 'C'", said[9])
         self.assertIn("= 137 ", said[10])
 
@@ -98,7 +98,7 @@ class Expressions(unittest.TestCase):
             "r1 + 8 = 0x100108 <count>", "1 = 0x0000000000000001"])
         self.assertIn("prod  examples/counter.asm:5:  loop: st r1, r2, 0, empty, full", said[9])
         self.assertIn("there is no form /q: /x, ", said[10])
-        self.assertIn("say what", said[11])
+        self.assertIn("missing expression", said[11])
         self.assertIn("\n/i $pc = prod+8  examples/counter.asm:6:  addi r2, r2, 1\n/x r2 * 16 = 0x10", said[14])
         self.assertEqual(said[15], "  1  /i $pc\n  2  /x r2 * 16")
 
@@ -114,7 +114,7 @@ class Expressions(unittest.TestCase):
             "box.cents = -8", "(box.kind) = 0xfe", "box.kind = -2", "box.bits = 05", "box.bits = 101", "i = -5", "i = 0xfffffffb", "k = 7",
             "wide = 0xffffffffffffffff"])
         self.assertEqual(said[15], "row[1] = 0x2")
-        self.assertIn("is no number, but struct item", said[16])
+        self.assertIn("is not a number, but struct item", said[16])
         self.assertEqual(said[17:20], ["count + 0 = -3", "count = -3", "-3 fffffffe 200 -5 H ffffffffffffffff"])
         self.assertRegex(said[20], r"^&count = 10\d{5}$")
 

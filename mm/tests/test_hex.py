@@ -100,7 +100,7 @@ class Command(unittest.TestCase):
     def test_refused(self):
         ended = mm("hex", "examples/hello.img", "--part", "words")
         self.assertEqual((ended.status, ended.out), (1, ""))
-        self.assertIn("`words` is no part", ended.err)
+        self.assertIn("`words` is not a part", ended.err)
 
 
 if __name__ == "__main__":

@@ -1,5 +1,5 @@
 """That `mm` holds: names that are options for others, lines of megabytes, streams that are closed, files that are outputs and inputs,
-signals, and a program that is no `mmachine`."""
+signals, and a program that is not `mmachine`."""
 
 import json
 import os
@@ -128,11 +128,12 @@ class Clang(unittest.TestCase):
 class Grades(unittest.TestCase):
     def test_an_object_has_no_operations_to_look_at(self):
         with folder() as room:
-            sheet, source = write(room, "s.txt", "without out\nuses halt\n"), write(room, "p.asm", GOOD)
+            sheet = write(room, "s.txt", "takes object image\nwithout out\nuses halt\n")
+            source = write(room, "p.asm", GOOD)
             made = os.path.join(room, "answer.asm")
             mm("asm", source, "-o", made)
             self.assertIn("0 of 2", mm("grade", sheet, made).out)
-            self.assertIn("answer.asm is no source, so its operations are not looked at", mm("grade", sheet, made).out)
+            self.assertIn("answer.asm is not a source, so its operations are not known", mm("grade", sheet, made).out)
             mm("link", source, "-o", made)
             self.assertIn("0 of 2", mm("grade", sheet, made).out)
 
@@ -161,7 +162,7 @@ class Streams(unittest.TestCase):
             ended = shell("cp p.asm \"$(printf '\\377').asm\"; mm view \"$(printf '\\377').asm\" -o v.html; mm run p.asm -t \"$(printf '\\377')\"", room)
             self.assertEqual(ended.returncode, 2)
             self.assertNotIn(b"Traceback", ended.stderr)
-            self.assertIn(b"is no item of a schedule", ended.stderr)
+            self.assertIn(b"is not an item of a schedule", ended.stderr)
             self.assertTrue(os.path.getsize(os.path.join(room, "v.html")) > 10_000)
 
     def test_names_that_are_no_text_in_json(self):
@@ -234,7 +235,7 @@ class Streams(unittest.TestCase):
         with folder() as room:
             ended = mm("--program", "/bin/echo", "run", write(room, "p.asm", GOOD))
         self.assertEqual(ended.status, Status.OWN_FAULT)
-        self.assertIn("names is no `mmachine`", ended.err)
+        self.assertIn("names is not `mmachine`", ended.err)
 
     def test_a_program_that_a_signal_ends(self):
         with folder() as room:

@@ -109,9 +109,18 @@ class Operations(unittest.TestCase):
         ):
             self.assertIsNone(decode(bits), hex(bits))
 
-    def test_words_of_a_page(self):
-        for word, text in re.findall(r"\| `([0-9a-f]{16})` \| `([^`]+)` \|", read("examples", "counter.md")):
-            self.assertEqual(decode(int(word, 16)).text(), text)
+    def test_words_of_an_image(self):
+        """The consumer of the counter, the producer, and its gate, word by word."""
+        for word, text in (
+            (0x3021060000000000, "ld r2, r1, 0, full, empty"), (0x1E22000000000040, "addi r2, r2, 64"),
+            (0x0702000000000000, "out r2"), (0x4465000000000000, "jal r6, r5"),
+            (0x1E330000FFFFFFFF, "addi r3, r3, -1"), (0x42030000FFFFFFFB, "bnz r3, -5"),
+            (0x0000000000000000, "halt"), (0x3101290000000000, "st r1, r2, 0, empty, full"),
+            (0x45700000FFFFFFFF, "lip r7, -1"), (0x3077000000000000, "ld r7, r7, 0, any, keep"),
+            (0x3107800000000000, "st r7, r8, 0, any, keep"), (0x0270000000000000, "ldi r7, 0"),
+            (0x4306000000000000, "jmp r6"),
+        ):  # fmt: skip
+            self.assertEqual(decode(word).text(), text)
 
     def test_image(self):
         image = read_image(read_bytes("examples", "counter.img"))

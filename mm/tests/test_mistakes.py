@@ -68,7 +68,7 @@ class Mistakes(unittest.TestCase):
         with folder() as room:
             path = write(room, "mine.asm", ".segment main 8\n  br nowhere\n" + "  li r1, 5\n" * 24)
             err = mm("asm", path).err
-        self.assertTrue(err.startswith(f"{path}:2:6: error: `nowhere` is no label of this segment\n"), err)
+        self.assertTrue(err.startswith(f"{path}:2:6: error: `nowhere` is not a label of this segment\n"), err)
         self.assertEqual(err.count(": error: "), 20)
         self.assertIn(f"{path}:21:3: error: ", err)
         self.assertIn("mm: 20 of 25 errors are shown", err)
@@ -159,11 +159,11 @@ class Files(unittest.TestCase):
             self.assertIn("bad.img: error: the file ends within a field", self.refused(2, "run", path))
             with open(path, "wb") as file:
                 file.write(bytes(64))
-            self.assertIn("no image, no object and no source", self.refused(2, "run", path))
+            self.assertIn("neither an image nor an object nor a source", self.refused(2, "run", path))
             self.assertIn("the file is empty", self.refused(2, "run", write(room, "none.img", "")))
-            self.assertIn("no image, no object and no source", self.refused(2, "run", write(room, "some.obj", "some")))
+            self.assertIn("neither an image nor an object nor a source", self.refused(2, "run", write(room, "some.obj", "some")))
             path = write(room, "bad.asm", "\0")
-            self.assertIn("no text, no image and no object", self.refused(2, "run", path))
+            self.assertIn("neither a text nor an image nor an object", self.refused(2, "run", path))
             with open(path, "wb") as file:
                 file.write(HEAD_ONE.encode("utf-16"))
             self.assertIn("save it as UTF-8", self.refused(2, "run", path))
@@ -201,7 +201,7 @@ class Files(unittest.TestCase):
         self.assertIn("do you mean `box`?", self.refused(1, "holders", "examples/letterbox.asm", "bx"))
         self.assertIn("one word, the last: `box,3`", self.refused(1, "holders", "examples/letterbox.asm", "box", "3"))
         self.assertIn("begins at a multiple", self.refused(1, "holders", "examples/letterbox.asm", "box,12"))
-        self.assertIn("no checkpoint", self.refused(2, "continue", "examples/hello.asm", "examples/hello.asm"))
+        self.assertIn("not a checkpoint", self.refused(2, "continue", "examples/hello.asm", "examples/hello.asm"))
 
     def test_nets(self):
         with folder() as room:
@@ -212,12 +212,12 @@ class Files(unittest.TestCase):
             write(room, "my.links", "0.sent>1.got\n")
             write(room, "my.events", "0:0*7 go\n")
             self.assertIn(
-                f"{events}:1:7: error: `go` is no item of events",
+                f"{events}:1:7: error: `go` is not an item of events",
                 self.refused(2, "net", links, events, "examples/ask.asm", "examples/answer.asm"),
             )
             write(room, "my.links", "0.sent>1.got zero\n")
             self.assertIn(
-                f"{links}:1:14: error: `zero` is no item of links",
+                f"{links}:1:14: error: `zero` is not an item of links",
                 self.refused(2, "net", links, events, "examples/ask.asm", "examples/answer.asm"),
             )
 
@@ -226,9 +226,9 @@ class Files(unittest.TestCase):
         self.assertIn(
             "has no option --cycle; do you mean --cycles?", self.refused(1, "run", "examples/hello.asm", "--cycle", "5")
         )
-        self.assertIn("no number of cycles", self.refused(1, "run", "examples/hello.asm", "--cycles", "many"))
+        self.assertIn("not a number of cycles", self.refused(1, "run", "examples/hello.asm", "--cycles", "many"))
         self.assertIn("as `mm run examples/hello.asm`", self.refused(1, "examples/hello.asm"))
-        self.assertIn("too few words", self.refused(1, "run"))
+        self.assertIn("missing FILE", self.refused(1, "run"))
         self.assertIn("no program of that name", self.refused(127, "--program", "nowhere", "run", "examples/hello.asm"))
 
 

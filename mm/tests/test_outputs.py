@@ -75,10 +75,11 @@ class Texts(unittest.TestCase):
 
     def test_reports_of_pages(self):
         found = 0
-        for page in ("docs/INSTALL", "examples/counter", "examples/kernel", "examples/faults"):
-            for text in re.findall(r"^(cycles \d+\n(?:.*\n)*?counts .*)$", read(f"{page}.md"), re.M):
-                report = read_report(text.splitlines())
-                self.assertTrue(report.slots and report.counts)
+        pages = ["INSTALL", "FORMATS", "LINKING", "CACHE", "CHECKPOINTS", "COMMANDS", "course/1-tagged-words"]
+        for page in (read("docs", *f"{name}.md".split("/")) for name in pages):
+            for text in re.findall(r"^(cycles \d+\n(?:(?!cycles |```).*\n)*?counts .*)$", page, re.M):
+                report = read_report(line for line in text.splitlines() if line != "...")
+                self.assertTrue(report.slots and report.counts, text)
                 found += 1
         self.assertGreater(found, 4)
 

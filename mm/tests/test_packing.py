@@ -195,7 +195,7 @@ class Platform(unittest.TestCase):
 
 
 @needs_program
-@unittest.skipUnless(has_git(), "this is no checkout of git")
+@unittest.skipUnless(has_git(), "this is not a checkout of git")
 class Packages(unittest.TestCase):
     @classmethod
     def setUpClass(cls):

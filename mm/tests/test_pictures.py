@@ -6,9 +6,13 @@ from xml.etree import ElementTree
 
 from mm.machine.words import BY_SHORT, Word
 from mm.names.symbols import Symbols
-from mm.pictures import permissions, pointer, states, tree
+from mm.machine.causes import Cause
+from mm.machine.isa import OPERATIONS
+from mm.pictures import card, machine, permissions, pointer, states, tree
 from mm.pictures.make import KINDS, drawn
 from mm.pictures.svg import COLOURS, SHOWN, SMALLEST, WIDTH, Picture
+from mm.source.letters import TEXT_DIRECTIVES
+from mm.source.wants import DIRECTIVES
 from mm.status import Stop
 from mm.tests.support import needs_program, needs_why, path_of, read
 from mm.tests.test_view import DEUTAN, PLAIN, PROTAN, contrast, distance
@@ -56,6 +60,30 @@ class Drawn(unittest.TestCase):
         for state in ("running", "waiting", "taken", "halted", "evt by", "resume kill"):
             self.assertIn(state, text)
         self.assertEqual(self.look(tree.draw().svg()).count("2^"), 1 + 2 + 4 + 1)
+
+    def test_the_machine(self):
+        text = self.look(machine.draw().svg())
+        for said in ("slot 2", "group 1", "enter (eu)", "account", "cache and translation buffer"):
+            self.assertIn(said, text)
+
+    def test_the_card_has_all_of_the_tables(self):
+        """As SVG and as PDF, on a page."""
+        made = card.draw()
+        svg, pdf = made.svg(), made.pdf().decode("latin-1")
+        texts = [text for _, text in texts_of(svg)]
+        shown = [found.replace("\\\\", "\\").replace("\\(", "(").replace("\\)", ")") for found in re.findall(r"Tm \((.*)\) Tj", pdf)]
+        self.assertEqual(texts, shown)
+        words = set(" ".join(texts).split())
+        for table in (OPERATIONS, DIRECTIVES, TEXT_DIRECTIVES, BY_SHORT, [cause.title for cause in Cause]):
+            self.assertLessEqual(set(table), words)
+        for name, operation in OPERATIONS.items():
+            self.assertIn(operation.effect, texts, name)
+        begin = int(pdf.split("startxref\n")[1].split()[0])
+        self.assertTrue(pdf[begin:].startswith("xref\n"))
+        for place in re.findall(r"^(\d{10}) 00000 n", pdf, re.M):
+            self.assertRegex(pdf[int(place) :], r"\A\d+ 0 obj\n")
+        length = int(re.search(r"/Length (\d+)", pdf)[1])
+        self.assertEqual(len(pdf.split(">>\nstream\n")[1].split("\nendstream")[0]), length)
 
     def test_small_letters_are_refused(self):
         self.assertRaises(AssertionError, Picture("a title").text, 20, 20, "too small", SMALLEST - 1)

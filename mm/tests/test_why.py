@@ -42,7 +42,7 @@ ROWS = [
     (10, code("setptr r6, r5").replace("none xu", "none xp"), "the bits 0x9 of r5 do not spell a pointer", ""),
     (11, code("trap 7"), "trap 7, and the slot has no handler", ""),
     (12, code("resume r5, skip"), "r5 is 9", "whose event it has read with `evt`"),
-    (13, code("out r5", "br -1"), "the group has put out 4096 bytes", "mm migrate"),
+    (13, code("out r5", "br -1"), "the group has printed 4096 bytes", "mm migrate"),
 ]
 # fmt: on
 

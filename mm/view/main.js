@@ -165,7 +165,7 @@ function openHelp() {
       "With Shift, a letter goes back. Click on a word to take it apart, ",
       "and on a line of the source to go to its turns. ",
       "Lanes and pages move while the timeline has the focus."),
-    el("p", {}, el("label", {}, box, " letters work everywhere, and not on the timeline alone")), close);
+    el("p", {}, el("label", {}, box, " letter keys work anywhere on the page")), close);
   help.showModal();
 }
 

@@ -8,7 +8,7 @@ const TURNS = RUN.steps.map(([cycle, slot, number, outcome, fault, fetch, access
   cycle, slot, number, outcome: OUTCOMES[outcome], fault, fetch, access: ACCESSES[access], address, entered, changes,
 }));
 
-// The bytes that each group had put out before the page, and puts out on it.
+// The bytes that each group had printed before the page, and prints on it.
 const BYTES = new Map(RUN.start.outputs.map(([group, text]) => [group,
   (text.match(/../g) || []).map((byte) => parseInt(byte, 16))]));
 
@@ -68,7 +68,7 @@ class Machine {
   }
 }
 
-// Goes through the run once: frames, the bytes put out, where each turn ran, and the machine at the end.
+// Goes through the run once: frames, the bytes printed, where each turn ran, and the machine at the end.
 const FRAMES = [];
 const RAN = new Array(TURNS.length);
 (function goThrough() {

@@ -323,6 +323,6 @@ function buildLegend() {
   if (has((turn) => turn.access === "load")) said.push(["l", "load"]);
   if (has((turn) => turn.access === "loadset")) said.push(["b", "load that sets the bit"]);
   if (has((turn) => turn.access === "store")) said.push(["s", "store"]);
-  if (has((turn) => turn.changes.some(([kind]) => kind === OUT))) said.push(["“A”", "puts out this letter"]);
+  if (has((turn) => turn.changes.some(([kind]) => kind === OUT))) said.push(["“A”", "prints this letter"]);
   list.append(...said.map(([mark, text]) => el("li", {}, el("b", {}, mark), text)));
 }

@@ -42,7 +42,7 @@ function deeds(turn, before) {
   for (const [kind, a, b, c] of turn.changes) {
     if (kind === OUT) {
       const letter = b >= 32 && b < 127 ? ` '${String.fromCharCode(b)}'` : "";
-      said.push(`puts out ${b}${letter} for group ${a}`);
+      said.push(`prints ${b}${letter} for group ${a}`);
     }
     else if (kind === LOAD) said.push(`a load of r${b} is on its way: ${wordText(c)}`);
     else if (kind === EVENT) said.push(`${causeText(c)} goes to the queue of slot ${a}`);
@@ -103,7 +103,7 @@ function showTurn(place, before, now) {
     turn.outcome === "blocked" ? el("p", { class: "waits" }, `Blocked: ${waitText(turn, before)}.`) : null,
     el("ul", {}, deeds(turn, before).map((said) => el("li", {}, said))),
     rows.length ? el("table", { class: "changes" }, el("caption", { class: "unseen" }, "What this turn changed"),
-      el("thead", {}, el("tr", {}, ["changed", "it was", "it is"].map((text) => el("th", { scope: "col" }, text)))),
+      el("thead", {}, el("tr", {}, ["changed", "before", "after"].map((text) => el("th", { scope: "col" }, text)))),
       el("tbody", {}, rows.map(([what, was, is]) => el("tr", {}, el("th", { scope: "row" }, what),
         el("td", { class: "mono" }, was), el("td", { class: "mono" }, is)))))
       : el("p", { class: "soft" }, turn.fault ? "No register and no word changed." : ""),

@@ -7,7 +7,7 @@ from typing import Optional
 # The traps of the translator and of its library.
 TRAPS = {1: "`__builtin_trap`", 2: "a place that C says is never reached", 6: "`abort`",
          7: "the translator's second reckoning differs: the translator is wrong",
-         8: "`free` of what is no block of malloc, or was freed before"}
+         8: "`free` of what is not a block of malloc, or was freed before"}
 # Those of what a sanitizer of Clang finds begin here, in Clang's order of what it can find.
 SANITIZER = 64
 FOUND = {

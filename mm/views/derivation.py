@@ -1,4 +1,4 @@
-"""Derivations with names: by what way a group is granted a word."""
+"""Derivations with names: how a group is granted a word."""
 
 from __future__ import annotations
 

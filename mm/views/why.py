@@ -239,7 +239,7 @@ def _no_slot(at: Refusal) -> list[str]:
 def _out_full(at: Refusal) -> list[str]:
     image = at.memory.image
     more = " (`mm migrate FILE plain` gives 65536)" if image.version == 1 else ""
-    return [f"the group has put out {image.output_limit} bytes, which is the limit{more}"]
+    return [f"the group has printed {image.output_limit} bytes, which is the limit{more}"]
 
 
 REASONS: dict[Cause, Callable[[Refusal], list[str]]] = {

@@ -39,7 +39,7 @@ def _address(word: str, symbols: Optional[Symbols]) -> int:
     except NoAddress as error:
         raise usage(f"mm: {error}") from None
     if found is None or not 0 <= found < ADDRESS_LIMIT or found % WORD_BYTES:
-        raise usage(f"mm: `{word}` is no address of a word: a multiple of {WORD_BYTES} below 2^54")
+        raise usage(f"mm: `{word}` is not an address of a word: a multiple of {WORD_BYTES} below 2^54")
     return found
 
 
@@ -47,7 +47,7 @@ def asked(group: str, word: str, kind: str, symbols: Optional[Symbols] = None) -
     """What words ask. With symbols the word may be told by a name, and the kind as people say it."""
     number = number_of(group)
     if number is None or not 0 <= number <= MOST_GROUP:
-        raise usage(f"mm: `{group}` is no group: 0 to {MOST_GROUP}")
+        raise usage(f"mm: `{group}` is not a group: 0 to {MOST_GROUP}")
     address = _address(word, symbols)
     kind = kind if symbols is None else OTHER_NAMES.get(kind, kind)
     if kind not in KINDS:

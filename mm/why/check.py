@@ -41,7 +41,7 @@ class Checker:
         for line in self.lines:
             for number in line.names:
                 if not 1 <= number < line.number:
-                    raise WrongLine(line.number, f"{number} is no earlier line")
+                    raise WrongLine(line.number, f"{number} is not an earlier line")
             why = RULES[line.rule](self, line, *line.numbers)
             if why:
                 raise WrongLine(line.number, why)
@@ -112,7 +112,7 @@ class Checker:
 
     def made(self, line: Line, by: int) -> Optional[str]:
         right = self.line(by).group == line.group and self.line(by).pointer.permission is Permission.XP
-        return None if right else f"line {by} is no execute-privileged pointer of group {line.group}"
+        return None if right else f"line {by} is not an execute-privileged pointer of group {line.group}"
 
 
 RULES: dict[str, Callable[..., Optional[str]]] = {

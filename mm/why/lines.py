@@ -55,7 +55,7 @@ def _rule(number: int, text: str) -> tuple[str, tuple[int, ...]]:
     name = text.split(" ")[0]
     found = RULES[name][0].fullmatch(text) if name in RULES else None
     if found is None:
-        raise WrongLine(number, f"`{text}` is no rule")
+        raise WrongLine(number, f"`{text}` is not a rule")
     bases = [16 if name in ("cell", "passed") and place == 0 else 10 for place in range(len(found.groups()))]
     return name, tuple(int(digits, base) for digits, base in zip(found.groups(), bases))
 
@@ -68,11 +68,11 @@ def read_lines(text: str) -> list[Line]:
     for number, written in enumerate(text.split("\n")[:-1], 1):
         found = LINE.fullmatch(written)
         if found is None:
-            raise WrongLine(number, f"`{written}` is no line of a derivation")
+            raise WrongLine(number, f"`{written}` is not a line of a derivation")
         if int(found[1]) != number:
             raise WrongLine(number, f"its number is {found[1]}")
         pointer = Pointer.of_bits(int(found[3], 16))
         if pointer is None:
-            raise WrongLine(number, f"p{found[3]} is no pointer")
+            raise WrongLine(number, f"p{found[3]} is not a pointer")
         lines.append(Line(number, int(found[2]), pointer, *_rule(number, found[4])))
     return lines

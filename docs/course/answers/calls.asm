@@ -1,4 +1,4 @@
-; Two system calls: trap 1 puts out the letter in r1, and trap 2 doubles r1. Any other fault ends the slot.
+; Two system calls: trap 1 prints the letter in r1, and trap 2 doubles r1. Any other fault ends the slot.
 .segment serve 8
 next: evt r4              ; r7 is the number after `trap`
   ldi r1, 8

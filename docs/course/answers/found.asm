@@ -4,7 +4,7 @@ next: evt r4              ; r4 is the cause + 256 * the slot
   ldi r1, 8
   shr r3, r4, r1          ; the slot
   rreg r2, r3, 1          ; its letter
-  bz r2, on               ; it is no letter
+  bz r2, on               ; it is not a letter
   out r2
 on: resume r3, skip
   br next

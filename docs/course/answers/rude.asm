@@ -1,4 +1,4 @@
-; In group 1 one thread puts out letters without end, and the other makes up a pointer to group 0's word.
+; In group 1 one thread prints letters without end, and the other makes up a pointer to group 0's word.
 .segment code 6
 again: ld r2, r1, 0, any, keep
   addi r2, r2, 1

@@ -1,4 +1,4 @@
-; Group 0 puts out the word that it shares with group 1, and group 1 changes it.
+; Group 0 prints the word that it shares with group 1, and group 1 changes it.
 .segment says 5
   ld r2, r1, 0, any, keep
   out r2

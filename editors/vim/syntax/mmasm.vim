@@ -16,6 +16,7 @@ syntax match mmasmName /\h\w*/
 syntax match mmasmCondition /\%(any\|full\|empty\|keep\|retry\|skip\|kill\)\w\@!/
 syntax match mmasmRegister /r\%(1[0-5]\|\d\)\w\@!/
 syntax match mmasmNumber /0x\x\+\|-\?\d\+/
+syntax match mmasmNumber /'\%(\\x\x\x\|\\.\|[^'\\]\)'/
 syntax match mmasmSign /[,:+]/
 syntax match mmasmComment /;.*/ contains=mmasmTodo,@Spell
 syntax keyword mmasmTodo contained TODO FIXME XXX
@@ -38,6 +39,8 @@ syntax match mmasmOperation /\%(jmp\|jal\)\w\@!/ contained
 syntax match mmasmOperation /\%(trap\|evt\|resume\|rreg\|wreg\|map\|unmap\)\w\@!/ contained
 
 syntax match mmasmDirective /\.\%(spare\|int\|fill\)\w\@!/ contained
+syntax match mmasmDirective /\.asciiz\?\w\@!/ contained nextgroup=mmasmText skipwhite
+syntax match mmasmText /"\%(\\.\|[^"\\]\)*"/ contained
 syntax match mmasmEmpty /\.empty\w\@!/ contained nextgroup=mmasmUnknown,mmasmOperation,mmasmBranch,mmasmBranchIf,mmasmWord,mmasmPtr skipwhite
 syntax match mmasmWord /\.int\w\@!/ contained
 
@@ -66,6 +69,7 @@ syntax match mmasmPointer /ptr\w\@!/ contained nextgroup=mmasmPermission skipwhi
 syntax match mmasmLabel /\h\w*\ze\s*:/ contained nextgroup=mmasmColon skipwhite
 
 highlight default link mmasmComment Comment
+highlight default link mmasmText String
 highlight default link mmasmTodo Todo
 highlight default link mmasmLabel Label
 highlight default link mmasmColon Delimiter

@@ -1,4 +1,4 @@
-/* Output: each byte is put out by one operation. */
+/* Output: each byte is printed by one operation. */
 
 typedef struct __mm_file {
     int number;

@@ -1,0 +1,33 @@
+; A handler that prints the five letters that it knows, and lets everybody go on.
+.segment serve 8
+  ldi r9, 72
+  out r9
+  ldi r9, 79
+  out r9
+  ldi r9, 105
+  out r9
+  ldi r9, 33
+  out r9
+  ldi r9, 75
+  out r9
+next: evt r4
+  ldi r1, 8
+  shr r3, r4, r1
+  resume r3, skip
+  br next
+.segment client 6
+  trap 1
+  mov r1, r2
+  trap 1
+  mov r1, r3
+  trap 1
+  halt
+.thread 0 0 none xu serve
+.thread 1 1 0 xu client
+.reg 1 int 72             ; H
+.reg 2 int 105            ; i
+.reg 3 int 33             ; !
+.thread 2 1 0 xu client
+.reg 1 int 79             ; O
+.reg 2 int 0
+.reg 3 int 75             ; K

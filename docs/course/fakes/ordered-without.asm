@@ -1,0 +1,20 @@
+; Nobody takes a word: each thread loads and stores as it likes.
+.segment code 6
+  ld r3, r1, 0, any, keep
+  ld r4, r2, 0, any, keep
+  out r5
+  st r2, r4, 0, any, keep
+  st r1, r3, 0, any, keep
+  halt
+.segment left 3
+  .int 0
+.segment right 3
+  .int 0
+.thread 0 0 none xu code
+.reg 1 ptr rw left
+.reg 2 ptr rw right
+.reg 5 int 65
+.thread 1 0 none xu code
+.reg 1 ptr rw right
+.reg 2 ptr rw left
+.reg 5 int 66

@@ -1,0 +1,20 @@
+; A gate that compares, and gives everybody the number all the same.
+.segment gate 7
+ticket: .ptr key office
+number: .int 42
+door: lip r7, ticket
+  ld r8, r7, 0, any, keep
+  eqw r8, r8, r2
+  ld r1, r7, 8, any, keep
+  ldi r7, 0
+  jmp r6
+.segment caller 4
+  jal r6, r5
+  halt
+.segment office 3
+.thread 0 0 none xu caller
+.reg 2 ptr key office
+.reg 5 ptr eu door
+.thread 1 1 none xu caller
+.reg 2 int 0x70c0000000100090
+.reg 5 ptr eu door

@@ -1,0 +1,117 @@
+"""The lines of an exercise that look at what a run did, by its log: what is only written, and never carried out, does
+not count."""
+
+from __future__ import annotations
+
+from collections import Counter
+from typing import Optional
+
+from mm.grading.checks import Check, is_value
+from mm.grading.program import Program, number_in, overlaps, slot_in
+from mm.grading.ran import Done
+from mm.machine.words import Pointer
+from mm.names.numbers import counted
+
+
+def _who(slot: str) -> str:
+    return "no slot" if slot == "any" else f"slot {slot}"
+
+
+def _did(slot: str) -> str:
+    return "carries out" if slot == "any" else "does not carry out"
+
+
+def executes(program: Program, slot: str, *operations: str) -> Optional[str]:
+    counts = Counter(done.operation for done in program.ran.of(slot_in(slot)))
+    for word in operations:
+        names, _, most = word.partition("*")
+        wanted, found = number_in(most or "1"), sum(counts[name] for name in names.split("|"))
+        if found < wanted:
+            said = names.replace("|", " or ")
+            only = f"it carries out {said} {counted(found, 'time')}"
+            return only if found else f"{_who(slot)} {_did(slot)} {said}"
+    return None
+
+
+def repeats(program: Program, slot: str, operation: str, number: str) -> Optional[str]:
+    names = operation.split("|")
+    counts = Counter(done.place for done in program.ran.of(slot_in(slot)) if done.operation in names)
+    most = max(counts.values(), default=0)
+    said = operation.replace("|", " or ")
+    return None if most >= number_in(number) else f"no {said} of it is carried out more than {counted(most, 'time')}"
+
+
+def _results(program: Program, slot: str, operation: str) -> list[Done]:
+    names = operation.split("|")
+    return [done for done in program.ran.of(slot_in(slot)) if done.operation in names and done.results]
+
+
+def gives(program: Program, slot: str, operation: str, value: str) -> Optional[str]:
+    found = _results(program, slot, operation)
+    if not found:
+        return f"{_who(slot)} {_did(slot)} {operation}"
+    is_so = any(is_value(word, value) for done in found for word in done.results)
+    return None if is_so else f"no {operation} gives this"
+
+
+def twins(program: Program, slot: str, operation: str) -> Optional[str]:
+    words = [word for done in _results(program, slot, operation) for word in done.results]
+    pointers = {word.bits for word in words if word.tagged}
+    is_so = any(word.bits in pointers for word in words if not word.tagged)
+    return None if is_so else f"no {operation} gives a pointer, while another gives the integer with the same bits"
+
+
+def loses(program: Program, slot: str) -> Optional[str]:
+    number = number_in(slot)
+    is_so = program.ran.pointers[number] & program.ran.integers[number]
+    return None if is_so else f"slot {slot} never holds the bits of a pointer of its own without the tag"
+
+
+def forges(program: Program, slot: str, name: str) -> Optional[str]:
+    begin, end = program.span(name)
+    made = map(Pointer.of_bits, program.ran.integers[number_in(slot)])
+    is_so = any(pointer and overlaps(pointer, begin, end) for pointer in made)
+    return None if is_so else f"slot {slot} never holds the bits of a pointer to {name}"
+
+
+def _accesses(program: Program, slot: str, name: str, kinds: tuple[str, ...]) -> bool:
+    begin, end = program.span(name)
+    ours = (done for done in program.ran.of(slot_in(slot)) if done.access in kinds)
+    return any(done.address is not None and begin <= done.address < end for done in ours)
+
+
+def stores(program: Program, slot: str, name: str) -> Optional[str]:
+    stored = "stores" if slot == "any" else "does not store"
+    return None if _accesses(program, slot, name, ("store",)) else f"{_who(slot)} {stored} there"
+
+
+def loads(program: Program, slot: str, name: str) -> Optional[str]:
+    return None if _accesses(program, slot, name, ("load", "loadset")) else f"slot {slot} does not load from there"
+
+
+def empties(program: Program, slot: str, name: str) -> Optional[str]:
+    """A load that changes the word's bit, as one that takes a lock."""
+    is_so = _accesses(program, slot, name, ("loadset",))
+    return None if is_so else f"slot {slot} never takes the word there by its bit"
+
+
+def _entries(program: Program, slot: str) -> list[int]:
+    entered = [done.entered.pointer for done in program.ran.of(slot_in(slot)) if done.entered]
+    return [pointer.address for pointer in entered if pointer]
+
+
+def enters(program: Program, slot: str, name: str, number: str) -> Optional[str]:
+    address = program.address(name)
+    found = sum(entry == address for entry in _entries(program, slot))
+    return None if found == number_in(number) else f"slot {slot} enters there {counted(found, 'time')}"
+
+
+def doors(program: Program, slot: str, number: str) -> Optional[str]:
+    found = len(set(_entries(program, slot)))
+    return None if found >= number_in(number) else f"slot {slot} enters by {counted(found, 'enter pointer')}"
+
+
+OF_A_RUN: dict[str, Check] = {
+    "executes": executes, "repeats": repeats, "gives": gives, "twins": twins, "loses": loses, "forges": forges,
+    "stores": stores, "loads": loads, "empties": empties, "enters": enters, "doors": doors,
+}  # fmt: skip
