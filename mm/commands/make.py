@@ -43,7 +43,7 @@ def _save(console: Console) -> int:
 def _number(text: str, what: str, low: int, high: int) -> str:
     number = number_of(text)
     if number is None or not low <= number <= high:
-        raise usage(f"mm: `{text}` is no {what}: {low} to {high}")
+        raise usage(f"mm: `{text}` is not a {what}: {low} to {high}")
     return str(number)
 
 

@@ -154,7 +154,7 @@ def no_place(text: str, symbols: Symbols, values: Optional[CValues]) -> str:
     for path, line in symbols.c_files().items():
         if any(re.search(rf"\b{name}\b", written) for written in line.file):
             return (f"`{name}` is in {path}, but has no place: its value was put into the code that uses it, "
-                    "or it is no variable")
+                    "or it is not a variable")
     return ""
 
 

@@ -120,7 +120,7 @@ def place_of(text: str, session: Session) -> tuple[int, int]:
     if line is not None and 0 < line < SOME_LINES:
         return session_line(line, session), 8
     if number is not None and (number % 8 or line == 0):
-        raise NoAddress(f"`{text}` is no line, of 1 to {SOME_LINES - 1}, and no address of an instruction, "
+        raise NoAddress(f"`{text}` is not a line, of 1 to {SOME_LINES - 1}, and not the address of an instruction, "
                         "which is a multiple of 8")
     # A place of the code that has the name of a register is the label.
     address, length = span(f"&{text}" if hides_label(text, session) else text, session)

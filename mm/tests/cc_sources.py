@@ -205,7 +205,7 @@ int main(void) { ((int *)p)[3] = 7; return 0; }
     "code": ("fault 2 Perm at {room}/a.c:2: a store into the code of `leaf`", "1", """static __attribute__((noinline)) int leaf(int n) { return n + 1; } int (*volatile f)(int) = leaf;
 int main(void) { *(long *)f = 7; return f(2); }
 """),
-    "a call of data": ("fault 2 Perm at {room}/a.c:2: a call of `numbers`, which is no function", "1", """static long numbers[8]; long *volatile f = numbers;
+    "a call of data": ("fault 2 Perm at {room}/a.c:2: a call of `numbers`, which is not a function", "1", """static long numbers[8]; long *volatile f = numbers;
 int main(void) { numbers[2] = 5; ((void (*)(void))f)(); return numbers[2]; }
 """),
     "a call of a number": ("fault 1 NotPointer at {room}/a.c:2: a call of 1234567 0x12d687, which is a number and no pointer", "1", """volatile long number = 1234567;

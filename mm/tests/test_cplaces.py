@@ -70,7 +70,7 @@ class Places(unittest.TestCase):
             self.assertIn(f"`{name}` is in no memory: it is in a register, or is a constant", answer)
         for name, answer in (("gone", said[5]), ("LIMIT", said[6]), ("colour", said[8])):
             self.assertEqual(answer, f"`{name}` is in c.c, but has no place: its value was put into the code that uses "
-                                     "it, or it is no variable")
+                                     "it, or it is not a variable")
         self.assertIn("there is no label or segment `nowhere`", said[7])
 
     def test_constants_of_enumerations(self):

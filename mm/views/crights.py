@@ -20,7 +20,7 @@ def forbidden(at: Refusal) -> Optional[str]:
         return None
     if at.name in ("jal", "jmp"):
         made = at.speller.symbols.c_global(region)
-        return f"a call of {f'`{made.name}`' if made and _is_whole(pointer, region) else 'data'}, which is no function"
+        return f"a call of {f'`{made.name}`' if made and _is_whole(pointer, region) else 'data'}, which is not a function"
     if at.name != "st":
         return None
     function = at.speller.symbols.c_function(pointer.address) if pointer.permission.executes else None
