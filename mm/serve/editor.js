@@ -25,7 +25,7 @@ const allNames = () => new Map(state.files.filter(({ name }) => !inC(name)).flat
 
 const spanOf = (kind, text) => (kind ? el("span", { class: kind }, text) : text);
 
-// A line of assembly in colours. The first name that is no label is an operation.
+// A line of assembly in colours. The first name that is not a label is an operation.
 function inkOf(line, names) {
   const { operations, directives, permissions, choices } = about.words, made = [];
   let head = true;

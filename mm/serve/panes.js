@@ -69,7 +69,7 @@ function answerPane(made) {
   if (made.schedules && made.schedules.length) {
     parts.push(el("ul", { class: "findings" }, made.schedules.map(([kind, number, turns, said]) => el("li", {},
       el("button", { type: "button", "data-turns": turns }, "Run this"),
-        ` ${kind}${number}: ${said || "nothing is put out"}`))));
+        ` ${kind}${number}: ${said || "nothing is printed"}`))));
   }
   if (made.picture) parts.push(el("img", { src: `data:image/svg+xml;charset=utf-8,${encodeURIComponent(made.picture)}`,
     alt: "A picture of the same" }));

@@ -89,7 +89,7 @@ function askFor(title, says, text) {
 function nameFor(said, but = -1) {
   const name = /\.(asm|c)$/.test(said) ? said : `${said}.asm`;
   if (!NAME.test(name)) {
-    return busy(`${name} is no name of a source: letters, digits, _ and -, and .asm or .c at its end`, true), null;
+    return busy(`${name} is not a name of a source: letters, digits, _ and -, and .asm or .c at its end`, true), null;
   }
   if (inC(name) && !about.limits.c) return busy("C is off on this server", true), null;
   if (state.files.some((each, at) => each.name === name
