@@ -24,6 +24,12 @@ def exercises() -> list[str]:
     return sorted(os.path.basename(path)[:-4] for path in glob.glob(os.path.join(FOLDER, "*.txt")))
 
 
+def sheet_of(name: str) -> Sheet:
+    """What an exercise of the course asks for."""
+    path = os.path.join(FOLDER, f"{name}.txt")
+    return read_sheet(os.path.relpath(path), read_file(path).decode("utf-8", "replace"), FOLDER)
+
+
 class Grader:
     """An exercise, and what grades answers to it."""
 

@@ -12,8 +12,7 @@ from mm.build import Workshop
 from mm.commands.grade import exercises, sheet_of
 from mm.commands.running import Runner
 from mm.editing.faults import Fault, faults_of, of_clang
-from mm.grading.checks import Program as Graded
-from mm.grading.checks import marks
+from mm.grading.marks import marks
 from mm.log.taken import take_window
 from mm.machine.program import CHECKOUT, Program
 from mm.outputs.audit import read_audit
@@ -92,11 +91,11 @@ def grade(desk: Desk, limits: Limits) -> Json:
     if name not in exercises():
         raise NotAllowed("there is no such exercise", 404)
     sheet = sheet_of(name)
-    found = marks(Graded(desk, desk.built, sheet))
+    found = marks(desk, desk.built, sheet)
     return {
         "title": sheet.title or name,
         "marks": [[mark.expectation.text, mark.why_not] for mark in found],
-        "right": sum(mark.why_not is None for mark in found),
+        "right": sum(mark.right for mark in found),
     }
 
 
