@@ -30,6 +30,8 @@ class History:
         self.cycles: list[int] = []
         self.asked = 0
         self.states: dict[int, Report] = {}
+        # The one that was looked at last.
+        self.pasts: dict[tuple[int, int], Past] = {}
         self.files = [built.file, *order.files]
         self.end: Optional[int] = None
         # Whether the run ends here since each slot that runs waits, and nothing can change that.
@@ -46,7 +48,10 @@ class History:
 
     def past(self, cycle: int, slot: int) -> Past:
         """The run up to a cycle, in which a slot faults."""
-        return Past(self.console.program, [self.built.path, str(cycle), *self.order.words], self.built.image, slot)
+        if (cycle, slot) not in self.pasts:
+            words = [self.built.path, str(cycle), *self.order.words]
+            self.pasts = {(cycle, slot): Past(self.console.program, words, self.built.image, slot)}
+        return self.pasts[cycle, slot]
 
     @property
     def last(self) -> int:

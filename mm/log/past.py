@@ -119,6 +119,9 @@ class Past:
         self.program, self.words, self.image, self.slot = program, words, image, slot
         self.code = Memory(image).instruction
         self._log: Optional[bytes] = None
+        # What was found already.
+        self._lost: dict[int, Optional[Lost]] = {}
+        self._cut_out: dict[Pointer, Optional[tuple[SlotState, Memory]]] = {}
 
     @property
     def log(self) -> bytes:
@@ -128,11 +131,18 @@ class Past:
 
     def lost(self, register: int) -> Optional[Lost]:
         """Where the number in a register was made."""
-        return lost(self.log, self.code, self.slot, register)
+        if register not in self._lost:
+            self._lost[register] = lost(self.log, self.code, self.slot, register)
+        return self._lost[register]
 
     def when_cut_out(self, pointer: Pointer) -> Optional[tuple[SlotState, Memory]]:
         """The slot and the memory right after the segment of a pointer was cut out. In a run with a schedule the cycle
         of that is not looked for."""
+        if pointer not in self._cut_out:
+            self._cut_out[pointer] = self._find_cut_out(pointer)
+        return self._cut_out[pointer]
+
+    def _find_cut_out(self, pointer: Pointer) -> Optional[tuple[SlotState, Memory]]:
         path, cycles, *schedule = self.words
         found = cut_out(self.log, self.code, pointer) if not schedule else None
         if found is None:
