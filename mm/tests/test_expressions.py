@@ -233,7 +233,7 @@ class Commands(unittest.TestCase):
 
     def test_lines_that_would_begin_again(self):
         for word in ("run", "r"):
-            out = self.out("b door", "commands", "p r2", word, "end", "c", "info b")
+            out = self.out("tb door", "commands", "p r2", word, "end", "c", "info b")
             self.assertIn("no `run` among them", out)
             self.assertNotIn("r2 =", out)
             self.assertIn("break 1: door", out)

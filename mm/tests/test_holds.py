@@ -83,10 +83,11 @@ class LongLines(unittest.TestCase):
 
     def test_a_long_line_is_shown_around_the_place(self):
         with folder() as room:
-            err = mm("run", write(room, "p.asm", ".segment a 6\n ldi r1," + " " * 5000 + "r2, r3\n")).err
+            err = mm("run", write(room, "p.asm", ".segment a 6\n ldi r1," + " " * 5000 + "r2, r3 ; " + "x" * 5000 + "\n")).err
         lines = err.splitlines()
         self.assertLess(len(lines[1]), 300)
         self.assertEqual(lines[1][lines[2].index("^")], "r")
+        self.assertRegex(lines[1], r"^ +2 \| \.\. .*x \.\.$")
 
 
 class Clang(unittest.TestCase):

@@ -13,6 +13,7 @@ from mm.outputs.report import Report, SlotState, read_report
 from mm.outputs.trace import numbered, read_turn, split_trace
 from mm.source.text import read_source
 from mm.tests.support import read
+from mm.views.data import word_form
 from mm.views.spell import Speller, bytes_as_text, integer
 from mm.views.waiting import waiting
 
@@ -141,6 +142,14 @@ class Names(unittest.TestCase):
             [integer(Word(bits)) for bits in (65, 0, (1 << 64) - 1, 1 << 20)], ["65 'A'", "0", "-1", "1048576 0x100000"]
         )
         self.assertEqual(bytes_as_text(b'a"\n\x00'), '"a\\"\\n\\x00"')
+
+    def test_words_of_json(self):
+        """An integer is there as a number if each reader of JSON has it exactly."""
+        numbers = {5: 5, (1 << 64) - 3: -3, (1 << 53) - 1: (1 << 53) - 1, 1 << 53: None, (1 << 64) - (1 << 53): None}
+        for bits, number in numbers.items():
+            form = word_form(Word(bits), Symbols()) or {}
+            self.assertEqual((form["tagged"], form["bits"], form.get("integer")), (False, f"0x{bits:016x}", number))
+        self.assertIsNone(word_form(None, Symbols()))
 
 
 class Waits(unittest.TestCase):

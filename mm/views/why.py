@@ -22,9 +22,8 @@ class Refusal:
     def __init__(self, cause: Cause, slot: SlotState, turn: Turn, memory: Memory, speller: Speller) -> None:
         self.cause, self.slot, self.turn, self.memory, self.speller = cause, slot, turn, memory, speller
         self.ip = slot.ip.pointer or Pointer(Permission.XU, 0, 0)
-        # Whether the fetch itself was refused: by one of its tests, or since there is no page.
-        self.no_fetch = turn.fetch is None or (cause is Cause.NO_PAGE and turn.access is None)
-        self.instruction: Optional[Instruction] = None if self.no_fetch else memory.instruction(self.ip.address)
+        # A test of the fetch itself may have refused it; where no page is there is no instruction either.
+        self.instruction: Optional[Instruction] = None if turn.fetch is None else memory.instruction(self.ip.address)
 
     @property
     def name(self) -> str:

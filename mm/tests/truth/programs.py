@@ -25,6 +25,8 @@ LINES = [
 ]
 # How many words full code has. No instruction of the table makes more than three.
 FULL, FULL_LOG = 16, 7
+# How often a loud program puts out eight bytes at first. A line of a report has 32.
+LOUD = 10
 HANDLER = "again: evt r4\n resume r5, {how}\n br again"
 
 
@@ -45,10 +47,12 @@ class Program:
 
 @dataclass
 class Writer:
-    """Writes a random source. `full` has code up to the last word of its segment, so that threads run past the end."""
+    """Writes a random source. `full` has code up to the last word of its segment, so that threads run past the end; `loud` begins
+    with a loop that puts out more bytes than a line of a report has."""
 
     dice: Dice
     full: bool = False
+    loud: bool = False
     lines: list[str] = field(default_factory=list)
 
     def instruction(self, labels: list[str], words: int) -> str:
@@ -76,9 +80,11 @@ class Writer:
         if self.full:
             return self.full_code(slot)
         dice, count = self.dice, self.dice.between(5, 18)
-        log = 12 if dice.chance(30) else 8 if count < 10 else 9
+        log = 12 if dice.chance(30) else 8 if count < 10 and not self.loud else 9
         labels = [f"s{slot}l{place}" for place in range(0, count, 3)]
         self.lines.append(f".segment code{slot} {log}")
+        if self.loud and slot == 0:
+            self.lines += [f" ldi r12, {LOUD}", "loud: out r12", *[" out r12"] * 7, " addi r12, r12, -1", " bnz r12, loud"]
         for place in range(count):
             label = f"{labels[place // 3]}: " if place % 3 == 0 else " "
             self.lines.append(label + self.instruction(labels, count))
@@ -127,7 +133,7 @@ def program_of(seed: int, number: int) -> Program:
     """The program of a number: three of five are sources."""
     dice = Dice(f"truth {seed} {number}")
     if number % 5 < 3:
-        source, split = Writer(dice, full=number % 5 == 1).text(), dice.chance(25)
+        source, split = Writer(dice, number % 5 == 1, number % 5 == 2).text(), dice.chance(25)
         slots = list(range(source.count("\n.thread ")))
         items = items_for(dice, slots, split) if dice.chance(45) else None
         return Program(f"{seed}-{number}", source, None, split, items)

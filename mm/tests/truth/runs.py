@@ -128,6 +128,10 @@ class Case:
         first = re.match(r"(\d+) cycles?, ", lines[0])
         check(f"{kind} cycles", first and int(first[1]) == report.cycles, lines[0])
         self.outputs(kind, out, report)
+        pages = re.search(r"^pages\n((?:  .*\n)*)", out, re.M)
+        told = re.findall(r"^  0x([0-9a-f]+)  (mapped|removed) by the run$", pages[1] if pages else "", re.M)
+        changes = [(int(address, 16) >> 12, {"mapped": "new", "removed": "gone"}[how]) for address, how in told]
+        check(f"{kind} pages", changes == report.pages, (pages and pages[0], report.pages))
         shown = re.search(r"^memory that has changed\n((?:  .*\n)*)", out, re.M)
         rows = [row for row in (shown[1] if shown else "").splitlines() if not row.startswith("  .. and ")]
         wanted = sorted(report.cells)[:CELLS_SHOWN]
