@@ -133,7 +133,7 @@ def refuse_files(name: str, text: str) -> None:
         found = NAMES_A_FILE.search(line)
         if found:
             raise NotAllowed(
-                f"{name}: `{found[0]}` may stand only in lines such as `#include <stdio.h>`: no other file is read here",
+                f"{name}: `{found[0]}` may stand only in lines such as `#include <stdio.h>`: no other file is read",
                 403,
             )
         if line.lstrip().startswith("#") and not DIRECTIVE.fullmatch(line):

@@ -7,14 +7,24 @@ const view = { ready: false, stale: false, size: 0,
   draw() { if (frame().contentWindow.layOut) frame().contentWindow.layOut(); } };
 const inFrame = () => frame().contentWindow;
 
+// A frame in place of the one before, of which nothing can come any more: a page that still loads there would be taken
+// for this one.
+function newFrame(page) {
+  const made = el("iframe", { id: "frame", title: "The run, turn by turn", hidden: true });
+  if (page) made.srcdoc = page;
+  frame().replaceWith(made);
+  return made;
+}
+
 // Puts a page into the frame, and its cursor to the end of the run or to a place.
 async function showView(page, place) {
   view.ready = view.stale = false;
-  frame().hidden = results.pane !== "view";
+  const made = newFrame(page);
+  made.hidden = results.pane !== "view";
   byId("pane").hidden = results.pane === "view";
   await new Promise((done) => {
-    frame().addEventListener("load", done, { once: true });
-    frame().srcdoc = page;
+    const look = () => (made.contentWindow && made.contentWindow.shown ? done() : setTimeout(look, 5));
+    look();
   });
   view.ready = true;
   const inside = inFrame(), { TURNS } = inside.shown;

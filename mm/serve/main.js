@@ -76,7 +76,7 @@ function showAll() {
   Object.assign(results, { report: null, panes: {}, marks: null, stale: new Set() });
   Object.assign(state, { now: null, stands: null, faults: [], slots: [] });
   Object.assign(view, { ready: false, stale: false });
-  frame().srcdoc = "";
+  newFrame(null);
   showMistakes();
   showPaneTabs();
   showPane();

@@ -239,11 +239,11 @@ class Bench:
         self.same("the schedule of a finding", self.run("state.turns"), turns)
         self.same("the cursor at its end", self.place, self.run("inFrame().shown.TURNS.length"))
         self.run("document.getElementById('order').open = true; results.report = null; setTurns(''); 1")
-        self.until("results.report", "round robin")
+        self.until("results.report && view.ready", "round robin")
         for slot in (1, 1, 0):
             self.run("results.report = null; 1")
             self.click(f"#next-turn [data-slot='{slot}']")
-            self.until("results.report", "a turn by a click")
+            self.until("results.report && view.ready", "a turn by a click")
         made = self.run("[state.turns, inFrame().shown.TURNS.map(({ slot }) => slot)]")
         self.same("turns by clicks", made, ["1*2 0", [1, 1, 0]])
         self.click("[data-pane='why']")
@@ -325,7 +325,7 @@ def two_at_once(one: Bench, other: Bench) -> None:
     for bench in (one, other):
         bench.run("results.report = null; run(); 1")
     for bench, said in ((one, 'output "321"'), (other, 'output "H"')):
-        bench.until("results.report", "a run in two browsers")
+        bench.until("results.report && view.ready", "a run in two browsers")
         bench.same("the run in two browsers", bench.run(f"results.report.join(' ').includes({json.dumps(said)})"), True)
     other.open(one.served.url + one.run("linkOf()"))
     other.same("the program of a link", other.run("file().text"), LOOP)
