@@ -174,7 +174,7 @@ pub formed_more : (parameters : List Parameter) (at : ℕ) (d : Parameter) (read
 formed_more parameters at d read more r inside are one also =
     subst (λ (rs : List Read). AreOfRow (take (at + 1) parameters) Nothing rs) (sym also)
     (subst (λ (ps : List Parameter). AreOfRow ps Nothing (read ++ r ∷ [])) (sym (take_more parameters at d inside))
-        (one_more IsOfParameter (take at parameters) (get_or parameters at d) read r are one))
+    (one_more IsOfParameter (take at parameters) (get_or parameters at d) read r are one))
 
 pub formed_all : (parameters : List Parameter) (tail : Tail) (at : ℕ) (read more all : List Read) → length parameters ≤ at
     → AreOfRow (take at parameters) Nothing read → AreOfTail tail more → all ≡ read ++ more

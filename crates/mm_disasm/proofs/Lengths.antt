@@ -199,8 +199,13 @@ module _ (o : Object) (is : IsObject o) where
   unfolding word_line
   word_length segment k item =
       let by : List ℕ = word_by o (reloc_at o segment k) item.bits in
-      omega (arith, mark_length item.full, content_length (reloc_at o segment k) item.bits (λ r e. relocated o segment k r is e), length-append (mark_text item.full) by, length-append
-          (mark_text item.full ++ by) newline)
+      omega (
+        arith,
+        mark_length item.full,
+        content_length (reloc_at o segment k) item.bits (λ r e. relocated o segment k r is e),
+        length-append (mark_text item.full) by,
+        length-append (mark_text item.full ++ by) newline,
+      )
 
   words_length : (segment k : ℕ) (items : List Item) → length (words_text o segment k items) ≤ 56 * length items
   words_length segment k [] = omega arith
@@ -312,8 +317,13 @@ module _ (o : Object) (is : IsObject o) where
       let numbers = and_parts (nat_lt t.slot 16) (nat_lt t.group 16) handlers.0 in
       let slot : t.slot < 16 = grind (arith, nat_tests, numbers.0) in
       let group : t.group < 16 = grind (arith, nat_tests, numbers.1) in
-      omega (arith, whole, thread_line_length t slot group handlers.1 (known o t.target is aims.1), registers_length 0 t.regs (omega (arith, whole)) all.1, length-append (thread_line o t)
-          (registers_text o 0 t.regs))
+      omega (
+        arith,
+        whole,
+        thread_line_length t slot group handlers.1 (known o t.target is aims.1),
+        registers_length 0 t.regs (omega (arith, whole)) all.1,
+        length-append (thread_line o t) (registers_text o 0 t.regs),
+      )
 
   threads_length : (threads : List Thread) → list_all (is_thread o.segments (length o.externals)) threads ≡ true → AllByRecursion (λ (t : Thread). length t.regs ≡ 16) threads →
       length (flat_map (thread_text o) threads) ≤ 959 * length threads

@@ -52,7 +52,7 @@ event_read x ns h =
     let addr = word_read e.addr_op tail h.words.address in
     let value = word_read e.value_op ns h.words.value in
     let made : Word × List ℕ → (ℕ × Event) × List ℕ = λ a. event_made (x.0 % 256) (e.slot % 256) (unwrap_or (cause_of (number_of e.cause)) NotPointer) (pointer_or_key (bits_of e.ip)) a.0
-        (word_from a.1) in
+    (word_from a.1) in
     ap (λ l. made (word_from l)) (append_assoc (word_form e.addr_op) (word_form e.value_op) ns)
     ∙ ap made addr
     ∙ (λ j. event_made (queue j) (slot j) (cause j) (ip j) e.addr_op (value j))

@@ -195,7 +195,7 @@ module _ (core : Core) (m : Memory) (s : Slot) where
     where
       by : (a b : Bool) → a ≡ true
           → Comes core s.number (first_failing ((b, Stop.Fault cause.Bounds) ∷ [])) (links s rd p (Some (record p { perm = perm }))
-              (if a && b then Some (record s.ip { addr = s.ip.addr + 8 }) else None))
+          (if a && b then Some (record s.ip { addr = s.ip.addr + 8 }) else None))
       by true true is = tt
       by true false is = refl
       by false b is = cc
@@ -292,7 +292,7 @@ module _ (core : Core) (m : Memory) (s : Slot) where
       (λ p. restricts rd p (perm_of (bits_in s rb)))
   effect_stops moved (Subseg rd ra rb) =
       through_stops (register s ra) (λ p. (can_move p.perm, Stop.Fault cause.Perm) ∷ (nat_lt (bits_in s rb) p.log, Stop.Fault cause.Bounds) ∷ [])
-          (λ p. sets_pointer s rd (subseg_result p (bits_in s rb)))
+      (λ p. sets_pointer s rd (subseg_result p (bits_in s rb)))
       (λ p. shortens rd p (bits_in s rb) (can_move p.perm) (nat_lt (bits_in s rb) p.log))
   effect_stops moved (Setptr rd ra) = spells rd (bits_in s ra) (is_privileged s.ip.perm) (spells_pointer (bits_in s ra))
   effect_stops moved (Ld rd ra pre post imm) =
@@ -390,7 +390,7 @@ module _ (core : Core) (m : Memory) (s : Slot) where
 
       sum : (z : ℤ) → can_move s.ip.perm ≡ true
           → Stands core m s (first_failing ((holds_word_at s.ip z, Stop.Fault cause.Bounds) ∷ (is_aligned z, Stop.Fault cause.Align) ∷ behind (cell_at_sum m z)))
-              (aimed core m s (touch_at s.ip z Fetch))
+          (aimed core m s (touch_at s.ip z Fetch))
       sum (pos a) moved = whole a (holds_word s.ip a) moved
       sum (negsuc a) moved = early cause.Bounds
 

@@ -77,7 +77,7 @@ is_due carried k bits next integer = ap (λ (b : Bool). if b then slice_get carr
 both_back : (s : NetState) (n l : ℕ) (node : State) (carried : Carried) → slice_get s.nodes n ≡ Some node → slice_get s.links l ≡ Some carried → with_both s n node l carried ≡ s
 both_back s n l node carried is has =
     ap (λ nodes. record { nodes = nodes; links = slice_set s.links l carried }) (set_found s.nodes n node is)
-        ∙ ap (λ links. record { nodes = s.nodes; links = links }) (set_found s.links l carried has)
+    ∙ ap (λ links. record { nodes = s.nodes; links = links }) (set_found s.links l carried has)
 
 replaced_one : (node : State) (w : ℕ) (c old : Cell) → cell_at node.memory w ≡ Some old → ChangesOneCell node (replaced node w c) w
 replaced_one node w c old is = record {

@@ -271,8 +271,12 @@ module _ (core : Core) (apart : AreNumbered core.rows) (p : ℕ) (within : p < l
 -- 6. The same facts at values that are equal to these.
 
 pub leaves_at : (core : Core) (m : Memory) (s : Slot) (e : Effect) (k core' : Core) (o : Completion) → Leaves core m s e k m o → core' ≡ k → Leaves core m s e core' m o
-leaves_at core m s e k core' o h same = record { core_is = same ∙ h.core_is; memory_is = h.memory_is; completion_is = h.completion_is; stays = λ e. ap
-    (λ (x : Core). slot_at x s.number) same ∙ h.stays e }
+leaves_at core m s e k core' o h same = record {
+  core_is = same ∙ h.core_is;
+  memory_is = h.memory_is;
+  completion_is = h.completion_is;
+  stays = λ e. ap (λ (x : Core). slot_at x s.number) same ∙ h.stays e;
+}
 
 -- a change of the slot at p after one of the slot at q
 pub goes_after : (core : Core) (q p : ℕ) (o : Slot) (f : Slot → Slot) → q ≢ p → (k k' : Core) → k ≡ with_slot core q o

@@ -15,12 +15,12 @@ loop-cell_index-preserved c =
 pub returns-clause-whole : goal.returns-clause-whole
 returns-clause-whole c =
     ap length (c.loop-cell_index.invariant ∙ ap (kept_cells (is_covered c.args.set.now) (c.number-base.result * 4096))
-        (take_all c.loop-cell_index.cell_index c.cells-cells.result.now c.loop-cell_index-test.false))
+    (take_all c.loop-cell_index.cell_index c.cells-cells.result.now c.loop-cell_index-test.false))
     ∙ kept_length (is_covered c.args.set.now) (c.number-base.result * 4096) c.cells-cells.result.now ∙ c.cells-cells.ensures.whole
 
 pub returns-clause-cells : goal.returns-clause-cells
 returns-clause-cells c =
     let covered = is_covered c.args.set.now in
     c.loop-cell_index.invariant ∙ ap (kept_cells covered (c.number-base.result * 4096)) (take_all c.loop-cell_index.cell_index c.cells-cells.result.now c.loop-cell_index-test.false
-        ∙ c.cells-cells.ensures.cells)
+    ∙ c.cells-cells.ensures.cells)
     ∙ ap (λ n. kept_cells covered (n * 4096) c.args.page.now.1) c.number-base.ensures.number

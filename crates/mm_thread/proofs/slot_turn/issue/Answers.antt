@@ -33,5 +33,5 @@ returns g c = λ before u first same counted.
     let number = ap (λ (x : Slot). x.number) (c.behind-tables.view_is ∙ c.slot.ensures) in
     issued_gives g.M.Memory.meaning g.M.Memory.uses g.M.Memory.stands a.tables.now a.slot_index c.requires.can a.access u a.instr before a.mem.now first same counted
     (sym c.must_wait.ensures ∙ c.if-must_wait.false) c.execute-retired.new.mem c.execute-retired.new.tables c.end.new.tables c.execute-retired.result c.end.new.step
-        c.execute-retired.ensures c.end.ensures.core
+    c.execute-retired.ensures c.end.ensures.core
     (c.end.ensures.step ∙ ap (λ (n : ℕ). step_ended n (slot_in c.execute-retired.new.tables a.slot_index) (Some a.access) c.execute-retired.result.touched c.execute-retired.result.completion) number)

@@ -25,4 +25,4 @@ invariant_of-self c =
     let within : c.args.slot_index < length rows = omega (arith, ap (λ (k : Core). length k.rows) c.self.view_is) in
     let here = slot_there rows c.args.slot_index within _ _ (c.row.view_is ∙ c.index_mut-row.ensures.value) in
     known_set rows c.args.slot_index within _ (ap (λ (s : Slot). s.number) c.sets.ensures ∙ after_number _ _ ∙ ap (λ (s : Slot). s.number) here) _ _ _ c.self.invariant
-        c.keep_running-self-inside.ensures
+    c.keep_running-self-inside.ensures
