@@ -4,7 +4,7 @@ use Rattle.std.proofs.{Common.{string_bytes, refl, sym, ap, ◌∙◌, append-ni
 use Rattle.std.specs.declared.alloc.Global.{Global}
 use Rattle.mm_cli.specs.declared.table.Kind.{Kind}
 use Rattle.mm_cli.specs.declared.table.Parameter.{Parameter}
-use Rattle.mm_cli.specs.declared.table.Parameter.TheVariants.{File, Number, Groups, Mode, Range, Address, Use}
+use Rattle.mm_cli.specs.declared.table.Parameter.TheVariants.{File, Number, Groups, Segments, Mode, Range, Address, Use}
 use Rattle.mm_cli.specs.declared.table.Tail.{Tail, TheVariants.{Nothing, Optional, Repeated}}
 use Rattle.mm_cli.specs.declared.words.{Word.{Word as Read}}
 use Rattle.mm_cli.specs.Words.{Word, file_word, spoken, texts, words_of, FitsTail, IsOfParameter, AreOfTail, AreOfRow}
@@ -15,10 +15,11 @@ word_said : (parameter : Parameter) (word : Read) → IsOfParameter parameter wo
 word_said (File kind) (read.File other name) same = ap (λ (k : Kind). file_word k name.now ∷ []) same
 word_said (Number least most) (read.Number n) fits = refl
 word_said Groups (read.Groups groups) fits = refl
+word_said Segments (read.Segments segments) fits = refl
 word_said Mode (read.Mode split) fits = refl
 word_said Range (read.Range base log) fits = refl
 word_said Address (read.Number n) fits = refl
-word_said Use (read.Use write) fits = refl
+word_said Use (read.Use how) fits = refl
 word_said parameter word is = absurd is
 
 none_said : (parameter : Parameter) → [] ≡ tail_arguments (Optional parameter) None
@@ -30,10 +31,11 @@ one_said : (parameter : Parameter) (word : Read) → IsOfParameter parameter wor
 one_said (File kind) (read.File other name) same = ap (λ (k : Kind). file_word k name.now ∷ []) same
 one_said Groups (read.Groups groups) fits = refl
 one_said (Number least most) (read.Number n) fits = refl
+one_said Segments (read.Segments segments) fits = refl
 one_said Mode (read.Mode split) fits = refl
 one_said Range (read.Range base log) fits = refl
 one_said Address (read.Number n) fits = refl
-one_said Use (read.Use write) fits = refl
+one_said Use (read.Use how) fits = refl
 one_said parameter word is = absurd is
 
 last_said : (tail : Tail) (words : List Read) → AreOfTail tail words → spoken words ≡ tail_arguments tail (slice_get words 0)

@@ -6,11 +6,11 @@ use Rattle.std.proofs.lemmas.{List.{take_more, drop_more, take_all, drop_all, le
 use Rattle.std.specs.declared.alloc.Global.{Global}
 use Rattle.mm_cli.specs.declared.table.Kind.{Kind}
 use Rattle.mm_cli.specs.declared.table.Parameter.{Parameter}
-use Rattle.mm_cli.specs.declared.table.Parameter.TheVariants.{File, Number, Groups, Mode, Range, Address, Use}
+use Rattle.mm_cli.specs.declared.table.Parameter.TheVariants.{File, Number, Groups, Segments, Mode, Range, Address, Use}
 use Rattle.mm_cli.specs.declared.{table.Tail.{Tail, TheVariants.{Nothing, Repeated}}, words.{Word.{Word as Read}}}
-use Rattle.mm_cli.specs.Words.{Word, file_word, number_word, groups_word, mode_word, range_word, use_word, text_list}
-use Rattle.mm_cli.specs.Words.{spelled, spoken, texts, words_of, AreNone, FitInTurn, FitsParameter, FitsTail, FitsRow}
-use Rattle.mm_cli.specs.Words.{IsOfParameter, AreOfTail, AreOfRow}
+use Rattle.mm_cli.specs.Words.{Word, file_word, number_word, groups_word, segments_word, mode_word, range_word, use_word}
+use Rattle.mm_cli.specs.Words.{text_list, spelled, spoken, texts, words_of, AreNone, FitInTurn, FitsParameter, FitsTail}
+use Rattle.mm_cli.specs.Words.{FitsRow, IsOfParameter, AreOfTail, AreOfRow}
 
 -- 1. What is left after the words of one parameter.
 
@@ -28,6 +28,8 @@ same_after (Number least most) (number_word n) (number_word m) a b one two same 
 same_after (Number least most) (number_word n) w a b one two same = absurd two
 same_after Groups (groups_word gs) (groups_word hs) a b one two same = after_one _ _ a b same
 same_after Groups (groups_word gs) w a b one two same = absurd two
+same_after Segments (segments_word xs) (segments_word ys) a b one two same = after_one _ _ a b same
+same_after Segments (segments_word xs) w a b one two same = absurd two
 same_after Mode (mode_word c) (mode_word d) a b one two same = after_one _ _ a b same
 same_after Mode (mode_word c) w a b one two same = absurd two
 same_after Range (range_word n l) (range_word m k) a b one two same = after_two _ _ _ _ a b same

@@ -9,14 +9,14 @@ use denote.Enum.Declared.{tag_of}
 use Rattle.mm_cli.specs.contracts.table.Command.{the_type}
 use Rattle.mm_cli.specs.declared.table.Command.{Command}
 use Rattle.mm_cli.specs.declared.table.Parameter.{Parameter}
-use Rattle.mm_cli.specs.declared.table.Parameter.TheVariants.{File, Number, Groups, Mode, Range, Address, Use}
+use Rattle.mm_cli.specs.declared.table.Parameter.TheVariants.{File, Number, Groups, Segments, Mode, Range, Address, Use}
 use Rattle.mm_cli.specs.declared.table.Tail.{Tail, TheVariants.{Nothing, Optional, Repeated}}
 use Rattle.mm_cli.specs.declared.words.{Word.{Word as Read}}
-use Rattle.mm_cli.specs.Words.{AreOfRow, Word, file_word, number_word, groups_word, mode_word, range_word, use_word}
-use Rattle.mm_cli.specs.Words.{mode_text, text_list, FitsParameter, FitsTail, FitsRow, room, spelled, spoken, texts}
+use Rattle.mm_cli.specs.Words.{AreOfRow, Word, file_word, number_word, groups_word, segments_word, mode_word, range_word}
+use Rattle.mm_cli.specs.Words.{use_word, mode_text, text_list, FitsParameter, FitsTail, FitsRow, room, spelled, spoken, texts}
 use Rattle.mm_cli.specs.Table.{TableRow, Row, IsInTable, Matches, Fits, InNoRow, is_same, row_for, table}
 use Rattle.mm_cli.specs.Arguments.{arguments, arguments_by}
-use Rattle.mm_cli.proofs.{GroupWords.one_list, ArgumentWords.arguments_row, RowWords.{same_after, names_spelled}}
+use Rattle.mm_cli.proofs.{GroupWords.one_list, SegmentWords.{one_list as one_list_of_segments}, ArgumentWords.arguments_row, RowWords.{same_after, names_spelled}}
 use Rattle.mm_model.specs.{declared.word_use.WordUse.{WordUse, TheVariants.{Touch, Write}}, Audit.use_text}
 
 -- 1. What is seen of each row of a list.
@@ -213,6 +213,9 @@ one_word (Number least most) (number_word n) (number_word m) a b few one two sam
 one_word (Number least most) (number_word n) w a b few one two same = absurd two
 one_word Groups (groups_word gs) (groups_word hs) a b few one two same = ap (λ (xs : List ℕ). groups_word xs) (one_list gs hs one two (first_text _ _ a b same))
 one_word Groups (groups_word gs) w a b few one two same = absurd two
+one_word Segments (segments_word xs) (segments_word ys) a b few one two same =
+    ap (λ (zs : List (ℕ × ℕ)). segments_word zs) (one_list_of_segments xs ys one two (first_text _ _ a b same))
+one_word Segments (segments_word xs) w a b few one two same = absurd two
 one_word Mode (mode_word c) (mode_word d) a b few one two same = ap (λ (split : Bool). mode_word split) (one_mode c d (first_text _ _ a b same))
 one_word Mode (mode_word c) w a b few one two same = absurd two
 one_word Range (range_word n l) (range_word m k) a b few one two same =
@@ -231,6 +234,7 @@ not_empty : (w : Word) (ws : List Word) → spelled (w ∷ ws) ≡ [] → ⊥
 not_empty (file_word k n) ws none = absurd (cc)
 not_empty (number_word n) ws none = absurd (cc)
 not_empty (groups_word gs) ws none = absurd (cc)
+not_empty (segments_word xs) ws none = absurd (cc)
 not_empty (mode_word split) ws none = absurd (cc)
 not_empty (range_word b l) ws none = absurd (cc)
 not_empty (use_word how) ws none = absurd (cc)

@@ -4,11 +4,11 @@ use Rattle.std.specs.declared.alloc.Global.{Global}
 use Rattle.mm_model.specs.declared.word_use.WordUse.{WordUse, TheVariants.Touch}
 use Rattle.mm_cli.specs.declared.table.Command.{Command}
 use Rattle.mm_cli.specs.declared.table.Parameter.{Parameter}
-use Rattle.mm_cli.specs.declared.table.Parameter.TheVariants.{File, Number, Groups, Mode, Range, Address, Use}
+use Rattle.mm_cli.specs.declared.table.Parameter.TheVariants.{File, Number, Groups, Segments, Mode, Range, Address, Use}
 use Rattle.mm_cli.specs.declared.table.Tail.{Tail, TheVariants.{Nothing, Optional, Repeated}}
 use Rattle.mm_cli.specs.declared.words.{Word.{Word as Read}}
-use Rattle.mm_cli.specs.Words.{Word, file_word, number_word, groups_word, mode_word, range_word, use_word, optional}
-use Rattle.mm_cli.specs.{Words.texts, Table.{TableRow, Row, Fits, row_for}}
+use Rattle.mm_cli.specs.Words.{Word, file_word, number_word, groups_word, segments_word, mode_word, range_word}
+use Rattle.mm_cli.specs.{Words.{use_word, optional, texts}, Table.{TableRow, Row, Fits, row_for}}
 use Rattle.mm_cli.specs.declared.words.Word.TheVariants as read
 
 -- 1. What a word that was read says, if there is one.
@@ -37,6 +37,10 @@ abbrev pub optional_groups_of : Option Read → Option (List ℕ)
 optional_groups_of (Some (read.Groups groups)) = Some groups.items
 optional_groups_of _ = None
 
+abbrev pub segments_of : Option Read → List (ℕ × ℕ)
+segments_of (Some (read.Segments segments)) = segments.items
+segments_of _ = []
+
 abbrev pub mode_of : Option Read → Bool
 mode_of (Some (read.Mode split)) = split
 mode_of _ = false
@@ -56,6 +60,7 @@ abbrev pub argument_at : Parameter → Option Read → Word
 argument_at (File kind) word = file_word kind (name_of word)
 argument_at (Number least most) word = number_word (number_of word)
 argument_at Groups word = groups_word (groups_of word)
+argument_at Segments word = segments_word (segments_of word)
 argument_at Mode word = mode_word (mode_of word)
 argument_at Range word = range_word (range_of word).0 (range_of word).1
 argument_at Address word = number_word (number_of word)

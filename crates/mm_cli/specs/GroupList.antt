@@ -1,26 +1,23 @@
 -- Lists of groups as the command line writes them.
-use Rattle.std.specs.{Prelude.{ℕ, ◌<◌, ◌≤◌, Bool, ◌==◌, List, [], ◌∷◌, length, ⊤}, List.AllByRecursion}
+use Rattle.std.specs.{Prelude.{ℕ, ◌<◌, ◌≤◌, List, length}, List.AllByRecursion}
+use Rattle.mm_cli.specs.ItemList.{InOrder, AreInOrder, Follows}
 
--- each group is below those after it
-abbrev pub Ascends : List ℕ → Type 0
-Ascends [] = ⊤
-Ascends (g ∷ groups) = AllByRecursion (λ h. g < h) groups × Ascends groups
+abbrev pub IsGroup : ℕ → Type 0
+IsGroup g = g < 64
 
--- one or more groups, ascending, each below 64
+abbrev pub IsBelow : ℕ → ℕ → Type 0
+IsBelow g h = g < h
+
+-- one or more groups, each below those after it
 pub record AreGroups (groups : List ℕ) : Type 0 where
   pub some : 1 ≤ length groups
-  pub ascending : Ascends groups
-  pub few : AllByRecursion (λ g. g < 64) groups
+  pub ascending : InOrder IsBelow groups
+  pub few : AllByRecursion IsGroup groups
 
--- the groups that were read so far: ascending, each below 64
-pub record AreSoFar (groups : List ℕ) : Type 0 where
-  pub ascending : Ascends groups
-  pub few : AllByRecursion (λ g. g < 64) groups
+-- the groups that were read so far
+abbrev pub AreFirstGroups : List ℕ → Type 0
+AreFirstGroups groups = AreInOrder IsBelow IsGroup groups
 
--- the group is above each of the groups, and below 64
-pub record Follows (groups : List ℕ) (g : ℕ) : Type 0 where
-  pub above : AllByRecursion (λ h. h < g) groups
-  pub few : g < 64
-
-abbrev pub is_comma : ℕ → Bool
-is_comma b = b == 44
+-- a group after those that were read so far
+abbrev pub IsNextGroup : List ℕ → ℕ → Type 0
+IsNextGroup groups g = Follows IsBelow IsGroup groups g

@@ -1,12 +1,12 @@
 -- What words say, how it is written, and where it fits.
-use Rattle.std.specs.Prelude.{◌≡◌, ℕ, ◌%◌, ◌^◌, ◌-◌, ◌<◌, ◌≤◌, Bool, true, false, List, [], ◌∷◌, ◌++◌, map, length}
+use Rattle.std.specs.Prelude.{◌≡◌, ℕ, ◌≤◌, Bool, true, false, List, [], ◌∷◌, ◌++◌, map, length}
 use Rattle.std.specs.Prelude.{String, string_bytes, codes, decimal, Option, None, Some, IsSomeAnd, ⊤}
 use Rattle.std.specs.declared.alloc.Global.{Global}
 use Rattle.mm_model.specs.{declared.word_use.WordUse.WordUse, Audit.{groups_text, use_text}}
-use Rattle.mm_cli.specs.GroupList.{AreGroups}
+use Rattle.mm_cli.specs.{Ranges.{IsRange, IsWordAddress}, GroupList.AreGroups, SegmentList.{AreSegments, segments_text}}
 use Rattle.mm_cli.specs.declared.table.Kind.{Kind}
 use Rattle.mm_cli.specs.declared.table.Parameter.{Parameter}
-use Rattle.mm_cli.specs.declared.table.Parameter.TheVariants.{File, Number, Groups, Mode, Range, Address, Use}
+use Rattle.mm_cli.specs.declared.table.Parameter.TheVariants.{File, Number, Groups, Segments, Mode, Range, Address, Use}
 use Rattle.mm_cli.specs.declared.table.Tail.{Tail, TheVariants.{Nothing, Optional, Repeated}}
 use Rattle.mm_cli.specs.declared.words.{Word.{Word as Read}}
 use Rattle.mm_cli.specs.declared.words.Word.TheVariants as read
@@ -19,6 +19,8 @@ pub data Word : Type 0 where
   file_word : Kind → (name : List ℕ) → Word
   number_word : ℕ → Word
   groups_word : List ℕ → Word
+  -- of each segment its base and the logarithm of its length
+  segments_word : List (ℕ × ℕ) → Word
   -- a mode: whether loads are split
   mode_word : (split : Bool) → Word
   -- the base of a range of addresses and the logarithm of its length
@@ -34,6 +36,7 @@ abbrev pub text_list : Word → List (List ℕ)
 text_list (file_word kind name) = name ∷ []
 text_list (number_word n) = decimal n ∷ []
 text_list (groups_word groups) = groups_text groups ∷ []
+text_list (segments_word segments) = segments_text segments ∷ []
 text_list (mode_word split) = mode_text split ∷ []
 text_list (range_word base log) = decimal base ∷ decimal log ∷ []
 text_list (use_word how) = use_text how ∷ []
@@ -54,25 +57,19 @@ files_in [] = []
 files_in (file_word kind name ∷ words) = (name, kind) ∷ files_in words
 files_in (number_word n ∷ words) = files_in words
 files_in (groups_word groups ∷ words) = files_in words
+files_in (segments_word segments ∷ words) = files_in words
 files_in (mode_word split ∷ words) = files_in words
 files_in (range_word base log ∷ words) = files_in words
 files_in (use_word how ∷ words) = files_in words
 
 -- 2. Where words fit.
 
--- a range of `2 ^ log` addresses, at least a word, whose base is a multiple of its length
-abbrev pub IsRange : (base log : ℕ) → Type 0
-IsRange base log = (base ≤ 2 ^ 54 - 1) × (3 ≤ log) × (log ≤ 54) × (base % 2 ^ log ≡ 0)
-
--- the address of a word
-abbrev pub IsWordAddress : ℕ → Type 0
-IsWordAddress n = (n % 8 ≡ 0) × (n < 2 ^ 54)
-
 -- the word fits in the parameter
 abbrev pub FitsParameter : Parameter → Word → Type 0
 FitsParameter (File kind) (file_word other name) = other ≡ kind
 FitsParameter (Number least most) (number_word n) = (least ≤ n) × (n ≤ most)
 FitsParameter Groups (groups_word groups) = AreGroups groups
+FitsParameter Segments (segments_word segments) = AreSegments segments
 FitsParameter Mode (mode_word split) = ⊤
 FitsParameter Range (range_word base log) = IsRange base log
 FitsParameter Address (number_word n) = IsWordAddress n
@@ -120,6 +117,7 @@ word_of (read.File kind name) = Some (file_word kind name.now)
 word_of (read.Files kind names) = None
 word_of (read.Number n) = Some (number_word n)
 word_of (read.Groups groups) = Some (groups_word groups.items)
+word_of (read.Segments segments) = Some (segments_word segments.items)
 word_of (read.Mode split) = Some (mode_word split)
 word_of (read.Range base log) = Some (range_word base log)
 word_of (read.Use how) = Some (use_word how)

@@ -2,7 +2,7 @@
 ghost use Rattle.std.specs.Prelude.{◌≡◌, slice_get};
 ghost use Rattle.std.specs.Option.{option_map};
 ghost use Rattle.mm_cli.specs.Arguments.{name_of, optional_name_of, names_of, number_of, groups_of, optional_groups_of};
-ghost use Rattle.mm_cli.specs.Arguments.{mode_of, range_of, use_of};
+ghost use Rattle.mm_cli.specs.Arguments.{segments_of, mode_of, range_of, use_of};
 
 use crate::words::Word;
 use mm_model::WordUse;
@@ -64,6 +64,16 @@ pub fn optional_groups_at<'a>(words: &'a [Word<'_>], at: usize) -> Option<&'a [u
     match words.get(at) {
         Some(Word::Groups(groups)) => Some(groups.as_slice()),
         _ => None,
+    }
+}
+
+/// The segments that the word of a parameter says; none if it says none.
+pub fn segments_at<'a>(words: &'a [Word<'_>], at: usize) -> &'a [(u64, u8)]
+    ensures { result.now ≡ segments_of (slice_get words.now at) }
+{
+    match words.get(at) {
+        Some(Word::Segments(segments)) => segments.as_slice(),
+        _ => &[],
     }
 }
 

@@ -1,11 +1,13 @@
 //! Lists of groups as the command line writes them.
 
 ghost use Rattle.std.specs.Prelude.{◌≡◌, ◌≢◌, ◌++◌, ◌∷◌, [], ℕ, List, IsNone, IsSome, IsTrue, MatchOption, ◌<◌, ◌↔◌};
-ghost use Rattle.std.specs.Prelude.{decimal, position};
+ghost use Rattle.std.specs.Prelude.{decimal};
 ghost use Rattle.std.specs.List.{AllByRecursion};
 ghost use Rattle.mm_model.specs.Audit.{groups_text};
-ghost use Rattle.mm_cli.specs.GroupList.{Ascends, AreGroups, AreSoFar, Follows, is_comma};
+ghost use Rattle.mm_cli.specs.ItemList.{InOrder};
+ghost use Rattle.mm_cli.specs.GroupList.{AreGroups, AreFirstGroups, IsBelow, IsNextGroup};
 
+use crate::lists::index_of;
 use arrayvec::ArrayVec;
 use mm_sched::number;
 
@@ -19,7 +21,7 @@ pub fn read_groups(text: &[u8]) -> Option<ArrayVec<u8, 64>>
 {
     let mut groups = ArrayVec::new();
     let mut rest = text;
-    while let Some(at) = comma(rest) {
+    while let Some(at) = index_of(rest, b',') {
         push_group(&mut groups, &rest[..at])?;
         rest = &rest[at + 1..];
     }
@@ -27,19 +29,12 @@ pub fn read_groups(text: &[u8]) -> Option<ArrayVec<u8, 64>>
     Some(groups)
 }
 
-/// The index of the first comma, if there is one.
-fn comma(text: &[u8]) -> Option<usize>
-    ensures { result ≡ position is_comma text.now }
-{
-    text.iter().position(|b| *b == b',')
-}
-
 /// Reads a group and appends it, if it is above the groups in the list.
 fn push_group(groups: &mut ArrayVec<u8, 64>, word: &[u8]) -> Option<()>
-    requires { AreSoFar groups.old.items }
-    ensures some { IsSome result → (g : ℕ) × Follows groups.old.items g × (word.now ≡ decimal g)
+    requires { AreFirstGroups groups.old.items }
+    ensures some { IsSome result → (g : ℕ) × IsNextGroup groups.old.items g × (word.now ≡ decimal g)
         × (groups.new.items ≡ groups.old.items ++ g ∷ []) }
-    ensures none { IsNone result → (g : ℕ) → Follows groups.old.items g → word.now ≢ decimal g }
+    ensures none { IsNone result → (g : ℕ) → IsNextGroup groups.old.items g → word.now ≢ decimal g }
 {
     let group = number(word, MAX_GROUP)? as u8;
     if !is_above(groups.as_slice(), group) {
@@ -51,7 +46,7 @@ fn push_group(groups: &mut ArrayVec<u8, 64>, word: &[u8]) -> Option<()>
 
 /// Whether a group is above each of some ascending groups.
 fn is_above(groups: &[u8], group: u8) -> bool
-    requires { Ascends groups.now }
+    requires { InOrder IsBelow groups.now }
     ensures { IsTrue result ↔ AllByRecursion (λ h. h < group) groups.now }
 {
     match groups.last() {

@@ -3,13 +3,16 @@
 
 mod arguments;
 mod groups;
+mod lists;
+mod numbers;
 mod reading;
+mod segments;
 mod table;
 mod words;
 
 pub use arguments::{
     groups_at, mode_at, name_at, names_at, number_at, optional_groups_at, optional_name_at,
-    range_at, use_at,
+    range_at, segments_at, use_at,
 };
 pub use reading::{ParsedCommand, read_words};
 pub use table::{Command, Kind, Parameter, TABLE, TableRow, Tail};

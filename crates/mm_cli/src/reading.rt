@@ -53,7 +53,7 @@ fn row_named(name: &str) -> Option<&'static TableRow<'static>>
 
 /// The row with this number.
 fn row_at(number: usize) -> &'static TableRow<'static>
-    requires { number < 20 }
+    requires { number < 21 }
     ensures { slice_get table number ≡ Some (table_row result.now) }
 {
     &TABLE[number]

@@ -24,6 +24,7 @@ pub enum Command {
     Net,
     Explore,
     Why,
+    Keeps,
 }
 
 /// A kind of input.
@@ -50,6 +51,9 @@ pub enum Parameter {
     Number { least: u64, most: u64 },
     /// One or more groups, ascending, with single commas between them.
     Groups,
+    /// 1 to 64 segments with single commas between them: of each its base, a slash, and the logarithm of its length.
+    /// They ascend, and no two have an address in common.
+    Segments,
     /// `plain`, or `split` if loads are split.
     Mode,
     /// Two words: the base of a range of addresses and the logarithm of its length.
@@ -90,6 +94,8 @@ const EVENTS: Parameter = Parameter::File(Kind::Events);
 
 const GROUPS: Parameter = Parameter::Groups;
 
+const SEGMENTS: Parameter = Parameter::Segments;
+
 const MODE: Parameter = Parameter::Mode;
 
 const RANGE: Parameter = Parameter::Range;
@@ -113,6 +119,12 @@ const STATES: Parameter = Parameter::Number {
     most: STATE_LIMIT,
 };
 
+/// The most threads that are looked at.
+const THREADS: Parameter = Parameter::Number {
+    least: 1,
+    most: 1_000_000,
+};
+
 /// The number from which an image is generated.
 const SEED: Parameter = Parameter::Number {
     least: 0,
@@ -134,7 +146,7 @@ const NODES: Tail = Tail::Repeated {
 };
 
 /// The commands, each with its words.
-pub static TABLE: [TableRow<'static>; 20] = [
+pub static TABLE: [TableRow<'static>; 21] = [
     (
         "run",
         Command::Run,
@@ -188,6 +200,12 @@ pub static TABLE: [TableRow<'static>; 20] = [
         "why",
         Command::Why,
         &[IMAGE, GROUP, ADDRESS, USE],
+        Tail::Nothing,
+    ),
+    (
+        "keeps",
+        Command::Keeps,
+        &[IMAGE, THREADS, SEGMENTS],
         Tail::Nothing,
     ),
 ];

@@ -1,15 +1,17 @@
 //! What the words of the command line say.
-ghost use Rattle.std.specs.Prelude.{◌≡◌, ◌≢◌, ◌≤◌, ◌++◌, ◌∷◌, [], ℕ, Bool, List, MatchOption, decimal, string_bytes};
-ghost use Rattle.mm_cli.specs.Words.{Word as Spoken, FitsParameter, IsOfParameter, IsRange, IsWordAddress, range_word};
-ghost use Rattle.mm_cli.specs.Words.{mode_text, text_list, texts, words_of};
+ghost use Rattle.std.specs.Prelude.{◌≡◌, ◌≢◌, ◌++◌, ◌∷◌, [], ℕ, Bool, List, MatchOption, decimal, string_bytes};
+ghost use Rattle.mm_cli.specs.Ranges.{IsRange};
+ghost use Rattle.mm_cli.specs.Words.{Word as Spoken, FitsParameter, IsOfParameter, range_word, mode_text, text_list};
+ghost use Rattle.mm_cli.specs.Words.{texts, words_of};
 ghost use Rattle.mm_model.specs.Audit.{use_text};
 ghost use Rattle.mm_model.specs.declared.word_use.WordUse.{WordUse};
 
 use crate::groups::read_groups;
+use crate::numbers::{read_address, read_number, read_range};
+use crate::segments::read_segments;
 use crate::table::{Kind, Parameter};
 use arrayvec::ArrayVec;
 use mm_model::WordUse;
-use mm_sched::number;
 
 /// What is said by the word of a parameter, or by its words.
 #[derive(Drop)]
@@ -20,6 +22,8 @@ pub enum Word<'a> {
     Files { kind: Kind, names: &'a [String] },
     Number(u64),
     Groups(ArrayVec<u8, 64>),
+    /// Of each segment its base and the logarithm of its length.
+    Segments(ArrayVec<(u64, u8), 64>),
     Mode { split: bool },
     /// The base of a range of addresses and the logarithm of its length.
     Range { base: u64, log: u8 },
@@ -88,6 +92,7 @@ fn read_word(parameter: Parameter, word: &String) -> Option<Word<'_>>
             most,
         )?)),
         Parameter::Groups => Some(Word::Groups(read_groups(word.as_bytes())?)),
+        Parameter::Segments => Some(Word::Segments(read_segments(word.as_bytes())?)),
         Parameter::Mode => Some(Word::Mode {
             split: read_mode(word.as_str())?,
         }),
@@ -95,18 +100,6 @@ fn read_word(parameter: Parameter, word: &String) -> Option<Word<'_>>
         Parameter::Address => Some(Word::Number(read_address(word.as_bytes())?)),
         Parameter::Use => Some(Word::Use(read_use(word.as_str())?)),
     }
-}
-
-/// Reads a number from `least` to `most` in decimal digits.
-fn read_number(digits: &[u8], least: u64, most: u64) -> Option<u64>
-    ensures { MatchOption result ((n : ℕ) → least ≤ n → n ≤ most → digits.now ≢ decimal n)
-        (λ n. (digits.now ≡ decimal n) × (least ≤ n) × (n ≤ most)) }
-{
-    let number = number(digits, most)?;
-    if number < least {
-        return None;
-    }
-    Some(number)
 }
 
 /// Whether a mode's word says that loads are split.
@@ -130,42 +123,3 @@ fn read_use(word: &str) -> Option<WordUse>
         _ => None,
     }
 }
-
-/// Reads the address of a word: a multiple of 8 below 2^54.
-fn read_address(digits: &[u8]) -> Option<u64>
-    ensures { MatchOption result ((n : ℕ) → IsWordAddress n → digits.now ≢ decimal n)
-        (λ n. (digits.now ≡ decimal n) × IsWordAddress n) }
-{
-    let address = number(digits, MAX_ADDRESS)?;
-    if address % WORD_BYTES != 0 {
-        return None;
-    }
-    Some(address)
-}
-
-/// Reads the base of a range of addresses and the logarithm of its length, 3 to 54. The base is a multiple of the
-/// length.
-fn read_range(base: &[u8], log: &[u8]) -> Option<(u64, u8)>
-    ensures { MatchOption result
-        ((first width : ℕ) → IsRange first width → base.now ≡ decimal first → log.now ≢ decimal width)
-        (λ range. IsRange range.0 range.1 × (base.now ≡ decimal range.0) × (log.now ≡ decimal range.1)) }
-{
-    let base = number(base, MAX_ADDRESS)?;
-    let log = read_number(log, MIN_LOG, MAX_LOG)?;
-    if base % (1 << log) != 0 {
-        return None;
-    }
-    Some((base, log as u8))
-}
-
-/// The last address.
-const MAX_ADDRESS: u64 = (1 << 54) - 1;
-
-/// The length of a word.
-const WORD_BYTES: u64 = 8;
-
-/// The logarithm of the length of a word.
-const MIN_LOG: u64 = 3;
-
-/// The logarithm of the length of the address space.
-const MAX_LOG: u64 = 54;

@@ -3,7 +3,7 @@
 use Rattle.std.specs.Prelude.{◌≡◌, ℕ, List, [], ◌∷◌, codes}
 use Rattle.mm_cli.specs.declared.table.Command.{Command}
 use Rattle.mm_cli.specs.declared.table.Parameter.{Parameter}
-use Rattle.mm_cli.specs.declared.table.Parameter.TheVariants.{File, Number, Groups, Mode, Range, Address, Use}
+use Rattle.mm_cli.specs.declared.table.Parameter.TheVariants.{File, Number, Groups, Segments, Mode, Range, Address, Use}
 use Rattle.mm_cli.specs.declared.table.Tail.{Tail, TheVariants.{Nothing, Optional, Repeated}}
 use Rattle.mm_cli.specs.Table.{TableRow, table}
 use Rattle.mm_cli.specs.declared.table.Command.TheVariants as command
@@ -43,6 +43,7 @@ rows = row (codes "run") command.Run (image ∷ cycles ∷ []) perhaps_a_schedul
     ∷ row (codes "net") command.Net (File kind.Links ∷ File kind.Events ∷ cycles ∷ []) (Repeated kind.Image 8)
     ∷ row (codes "explore") command.Explore (image ∷ Number 1 1000000 ∷ []) Nothing
     ∷ row (codes "why") command.Why (image ∷ Number 0 63 ∷ Address ∷ Use ∷ []) Nothing
+    ∷ row (codes "keeps") command.Keeps (image ∷ Number 1 1000000 ∷ Segments ∷ []) Nothing
     ∷ []
 
 abbrev pub TableIsWrittenOut : Type 0

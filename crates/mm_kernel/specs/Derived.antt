@@ -27,6 +27,13 @@ abbrev pub first_form : (is_fixed : Bool) → Word → Form
 first_form false (Int bits) = Integer
 first_form _ w = exactly w
 
+-- the form that a kept word of the image's pages has from the start
+pub record HasFirst (i : Image) (kept : List Segment) (w : ℕ) (form : Form) : Type 0 where
+  pub cell : Cell
+  pub at : cell_at i.memory w ≡ Some cell
+  pub of_kept : is_kept kept w ≡ true
+  pub first : first_form (is_fixed i w) cell.word ≡ form
+
 -- a cell of the image: a kept word has a form, and any other is handed out
 abbrev pub cell_facts : Image → List Segment → ℕ → Word → List Fact
 cell_facts i kept w word =

@@ -5,5 +5,6 @@ pub mod Facts
 pub mod Operations
 pub mod Turns
 pub mod Derived
+pub mod Uses
 pub mod Variants
 pub mod Laws

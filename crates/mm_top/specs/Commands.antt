@@ -11,18 +11,20 @@ use Rattle.mm_sweep.specs.{Swept.swept, Refusals.CanSweep}
 use Rattle.mm_audit.specs.Refusals.{StandAlone}
 use Rattle.mm_explore.specs.Texts.{Explores}
 use Rattle.mm_why.specs.Text.{SaysWhy}
+use Rattle.mm_kernel.specs.Segments.{Segment}
+use Rattle.mm_keep_text.specs.Answers.{Says}
 use Rattle.mm_sched.specs.declared.schedule.Order.{Order}
 use Rattle.mm_log.specs.Log.{log_text}
 use Rattle.mm_save.specs.Recorder.{recorded}
 use Rattle.mm_cli.specs.declared.table.Command.{Command}
 use Rattle.mm_cli.specs.declared.table.Command.TheVariants.{Run, Trace, Log, Solo, Grants, Extract, Asm, Link, Dis}
 use Rattle.mm_cli.specs.declared.table.Command.TheVariants.{Debug, Gen, Soak, Migrate, Sweep, Holders, Save, Continue}
-use Rattle.mm_cli.specs.declared.table.Command.TheVariants.{Net, Explore, Why}
+use Rattle.mm_cli.specs.declared.table.Command.TheVariants.{Net, Explore, Why, Keeps}
 use Rattle.mm_cli.specs.declared.table.Kind.TheVariants.{Image as image_file, Schedule as schedule_file}
 use Rattle.mm_cli.specs.declared.table.Kind.TheVariants.{Source as source_file, Object as object_file}
 use Rattle.mm_cli.specs.{declared.table.Kind.TheVariants.Checkpoint as checkpoint_file}
-use Rattle.mm_cli.specs.Words.{Word, file_word, number_word, groups_word, mode_word, range_word, use_word, optional}
-use Rattle.mm_cli.specs.Table.{Row}
+use Rattle.mm_cli.specs.Words.{Word, file_word, number_word, groups_word, segments_word, mode_word, range_word}
+use Rattle.mm_cli.specs.{Words.{use_word, optional}, Table.Row}
 use Rattle.mm_load.specs.declared.status.Refusal.{Refusal}
 use Rattle.mm_load.specs.Kinds.{Value, an_image, a_list, an_object, a_checkpoint, a_links, an_events, a_text, values_of}
 use Rattle.mm_net.specs.Texts.{net_text}
@@ -99,6 +101,8 @@ YieldsAloneAt Holders (image ∷ range_word base log ∷ []) (an_image i ∷ [])
 YieldsAloneAt Explore (image ∷ number_word states ∷ []) (an_image i ∷ []) text = Explores i states text
 YieldsAloneAt Why (image ∷ number_word group ∷ number_word word ∷ use_word how ∷ []) (an_image i ∷ []) text =
     SaysWhy i how group word text
+YieldsAloneAt Keeps (image ∷ number_word threads ∷ segments_word kept ∷ []) (an_image i ∷ []) text =
+    Says i kept threads text
 YieldsAloneAt _ _ _ text = ⊥
 
 -- a command writes a text, given what the memory tells of uses
@@ -152,6 +156,12 @@ trace image cycles schedule = record { command = Trace; words = run_words image 
 
 abbrev pub log : (image : List ℕ) (cycles : ℕ) (schedule : Option (List ℕ)) → Row
 log image cycles schedule = record { command = Log; words = run_words image cycles schedule }
+
+abbrev pub keeps : (image : List ℕ) (threads : ℕ) (kept : List Segment) → Row
+keeps image threads kept = record {
+  command = Keeps;
+  words = file_word image_file image ∷ number_word threads ∷ segments_word kept ∷ [];
+}
 
 abbrev pub save : (image : List ℕ) (cycles : ℕ) (schedule : Option (List ℕ)) → Row
 save image cycles schedule = record { command = Save; words = run_words image cycles schedule }

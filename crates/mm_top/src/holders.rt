@@ -3,7 +3,7 @@
 ghost use Rattle.std.specs.Prelude.{◌≡◌};
 ghost use Rattle.mm_sweep.specs.Holders.{holders};
 ghost use Rattle.mm_load.specs.Files.{reading};
-ghost use Rattle.mm_cli.specs.Words.{IsRange};
+ghost use Rattle.mm_cli.specs.Ranges.{IsRange};
 ghost use Rattle.mm_cli.specs.Arguments.{HasArguments, row};
 ghost use Rattle.mm_top.specs.Commands.{YieldsAlone};
 ghost use Rattle.mm_top.specs.Answers.{CommandEnds, EndsWith, writing};

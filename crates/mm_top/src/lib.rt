@@ -8,7 +8,7 @@
 //! | the call: from words to a row, from a row to its command, and the answer | `top` |
 //! | commands that run an image | `run`, `trace`, `log`, `solo`, `debug`, `save`, `resume` (`continue`) |
 //! | commands that run several images, or a generated one | `nets` (`net`), `soak` |
-//! | commands that look at an image | `grants`, `why`, `holders`, `explore` |
+//! | commands that look at an image | `grants`, `why`, `holders`, `explore`, `keeps` |
 //! | commands that make an image of an image | `extract`, `sweep`, `migrate` |
 //! | commands that make an image, an object or a text | `generate` (`gen`), `asm`, `link`, `dis` |
 //! | what runs share: the machine, the plan, the cycles, a text of each | `boot`, `plan`, `cycles`, `detail` |
@@ -30,6 +30,7 @@ mod generate;
 mod grants;
 mod holders;
 mod images;
+mod keeps;
 mod laws;
 mod link;
 mod log;

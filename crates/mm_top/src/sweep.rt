@@ -5,7 +5,7 @@ ghost use Rattle.mm_sweep.specs.Swept.{swept};
 ghost use Rattle.mm_sweep.specs.Refusals.{CanSweep};
 ghost use Rattle.mm_load.specs.Files.{reading};
 ghost use Rattle.mm_top.specs.Ranges.{SweepRefused};
-ghost use Rattle.mm_cli.specs.Words.{IsRange};
+ghost use Rattle.mm_cli.specs.Ranges.{IsRange};
 ghost use Rattle.mm_cli.specs.Arguments.{HasArguments, row};
 ghost use Rattle.mm_top.specs.Commands.{YieldsAlone};
 ghost use Rattle.mm_top.specs.Answers.{CommandEnds, Ends, writing};

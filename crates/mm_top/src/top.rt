@@ -9,12 +9,13 @@ ghost use Rattle.mm_load.specs.Files.{AsksFiles, DrawnBehind, ReadsWhole, drawin
 ghost use Rattle.mm_cli.specs.Words.{texts};
 ghost use Rattle.mm_cli.specs.Table.{InNoRow, Matches, LeaveInput, Row, files_of, input_of};
 ghost use Rattle.mm_cli.specs.Arguments.{HasArguments, row};
-ghost use Rattle.mm_top.specs.Commands.{run, trace, log};
+ghost use Rattle.mm_top.specs.Commands.{run, trace, log, keeps};
 ghost use Rattle.mm_load.specs.Lines.{line_of};
 ghost use Rattle.mm_top.specs.Answers.{ComesTo, ReadFailed, WritesNothing, TookLine, NothingFails, HasToRefuse};
 ghost use Rattle.mm_top.specs.Answers.{RefusedUnless, RowEnds, Answers, call, writing, status_of, refuse, write};
 ghost use Rattle.mm_model.specs.Trace.{trace as trace_of};
-ghost use Rattle.mm_top.specs.Headline.{RunIsProved, LogIsProved, no_turns};
+ghost use Rattle.mm_kernel.specs.Segments.{Segment};
+ghost use Rattle.mm_top.specs.Headline.{RunIsProved, LogIsProved, KeepsIsProved, no_turns};
 
 use crate::asm::asm;
 use crate::debug::debug;
@@ -24,6 +25,7 @@ use crate::extract::extract;
 use crate::generate::generate;
 use crate::grants::grants;
 use crate::holders::holders;
+use crate::keeps::keeps;
 use crate::link::link;
 use crate::log::log;
 use crate::migrate::migrate;
@@ -108,6 +110,13 @@ pub fn mmachine<M: Boot + Reset, F: Files, I: Source, O: Sink, D: Sink>(
     ensures replay { result ≡ Status.Done → (image : List ℕ) (cycles : ℕ) (schedule : Option (List ℕ))
         → Matches (texts words.now) (log image cycles schedule)
         → (written : List ℕ) × LogIsProved M.tells (F.held files.old) image cycles schedule written
+        × (O.taken out.new ≡ append_known (O.taken out.old) written) }
+
+    // What a kernel keeps is proved of each `keeps` that is done: it writes the answer for the image and its kept
+    // segments. If the answer is yes, the kernel keeps them in every run of every variant of the image.
+    ensures keeps { result ≡ Status.Done → (image : List ℕ) (threads : ℕ) (kept : List Segment)
+        → Matches (texts words.now) (keeps image threads kept)
+        → (written : List ℕ) × KeepsIsProved (F.held files.old) image threads kept written
         × (O.taken out.new ≡ append_known (O.taken out.old) written) }
 
     // A refusal that has to come does come, unless a read failed or memory ran out. If nothing fails, the command is
@@ -196,6 +205,7 @@ fn by_command<M: Boot + Reset, F: Files, I: Source, O: Sink>(
         Command::Net => run_net::<M, F, O>(alloc, words, files, out),
         Command::Explore => explore(alloc, words, files, out),
         Command::Why => why(alloc, words, files, out),
+        Command::Keeps => keeps(alloc, words, files, out),
     }
 }
 

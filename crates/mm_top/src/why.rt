@@ -3,7 +3,7 @@
 ghost use Rattle.std.specs.Prelude.{◌<◌, Result};
 ghost use Rattle.mm_why.specs.Text.{SaysWhy};
 ghost use Rattle.mm_load.specs.Files.{reading};
-ghost use Rattle.mm_cli.specs.Words.{IsWordAddress};
+ghost use Rattle.mm_cli.specs.Ranges.{IsWordAddress};
 ghost use Rattle.mm_cli.specs.Arguments.{HasArguments, row};
 ghost use Rattle.mm_top.specs.Commands.{YieldsAlone};
 ghost use Rattle.mm_top.specs.Answers.{CommandEnds, EndsWith, writing};

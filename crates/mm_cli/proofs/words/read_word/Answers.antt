@@ -1,6 +1,7 @@
 use Rattle.std.proofs.Common.{◌∷◌, [], ℕ, List, refl, sym, ap, ◌∙◌, subst}
 use Rattle.mm_cli.specs.declared.table.Parameter.{Parameter}
-use Rattle.mm_cli.specs.Words.{file_word, number_word, groups_word, mode_word, use_word, FitsParameter, IsOfParameter}
+use Rattle.mm_cli.specs.Words.{file_word, number_word, groups_word, segments_word, mode_word, use_word, FitsParameter}
+use Rattle.mm_cli.specs.Words.{IsOfParameter}
 use Rattle.mm_cli.specs.declared.words.Word.TheVariants as read
 use Rattle.mm_cli.proofs.words.read_word.Goals as goal
 
@@ -40,6 +41,20 @@ returns-in_ok-read_groups-in-Groups c =
       fits,
       ap (λ (text : List ℕ). text ∷ [])
           (sym c.as_bytes-in-Groups.ensures.value ∙ argument.0),
+    )
+
+pub returns-in_ok-read_segments-in-Segments : goal.returns-in_ok-read_segments-in-Segments
+returns-in_ok-read_segments-in-Segments c =
+    let segments = c.in_ok-read_segments-in-Segments.field-0.items in
+    let argument = c.in_ok-read_segments-in-Segments.ensures in
+    let fits : FitsParameter c.args.parameter (segments_word segments) = subst (λ (parameter : Parameter). FitsParameter parameter (segments_word segments)) (sym c.in-Segments.is) argument.1 in (
+      segments_word segments,
+      subst (λ (parameter : Parameter). IsOfParameter parameter (read.Segments c.in_ok-read_segments-in-Segments.field-0))
+          (sym c.in-Segments.is) argument.1,
+      refl,
+      fits,
+      ap (λ (text : List ℕ). text ∷ [])
+          (sym c.as_bytes-in-Segments.ensures.value ∙ argument.0),
     )
 
 pub returns-in_ok-read_mode-in-Mode : goal.returns-in_ok-read_mode-in-Mode

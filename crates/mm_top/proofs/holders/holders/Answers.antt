@@ -1,5 +1,5 @@
 use Rattle.std.proofs.Common.{◌≡◌, ℕ, [], refl, sym, subst}
-use Rattle.mm_cli.specs.Words.{IsRange}
+use Rattle.mm_cli.specs.Ranges.{IsRange}
 use Rattle.mm_top.proofs.{Rows.{row_stops, row_ends}, NamedFiles.named}
 use Rattle.mm_sweep.specs.Holders.{holders}
 use Rattle.mm_top.proofs.holders.holders.Goals as goal

@@ -2,7 +2,7 @@ use Rattle.std.proofs.Common.{ℕ, List, [], refl, sym, subst}
 use Rattle.mm_format.specs.Images.{Spells}
 use Rattle.mm_model.specs.Image.{Image}
 use Rattle.mm_sweep.specs.{Swept.swept, Refusals.CanSweep}
-use Rattle.mm_cli.specs.Words.{IsRange}
+use Rattle.mm_cli.specs.Ranges.{IsRange}
 use Rattle.mm_top.{specs.Ranges.SweepRefused, proofs.{Rows.{row_stops, row_ends}, NamedFiles.named}}
 use Rattle.mm_top.proofs.sweep.sweep.Goals as goal
 

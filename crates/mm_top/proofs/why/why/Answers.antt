@@ -1,7 +1,7 @@
 use Rattle.std.proofs.Common.{◌≡◌, ℕ, List, [], slice_get, refl, sym, subst, arith}
 use Rattle.mm_model.specs.declared.word_use.WordUse.{WordUse}
 use Rattle.mm_why.specs.Text.{SaysWhy}
-use Rattle.mm_cli.specs.{Words.IsWordAddress, Arguments.{number_of, use_of}}
+use Rattle.mm_cli.specs.{Ranges.IsWordAddress, Arguments.{number_of, use_of}}
 use Rattle.mm_top.proofs.{Rows.{row_stops, row_ends}, NamedFiles.named}
 use Rattle.mm_top.proofs.why.why.Goals as goal
 

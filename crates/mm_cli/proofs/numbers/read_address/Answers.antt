@@ -1,5 +1,5 @@
 use Rattle.std.proofs.{Common.{◌≡◌, ◌%◌, ℕ, sym, ◌∙◌, subst, arith}, lemmas.Fmt.decimal_injective}
-use Rattle.mm_cli.proofs.words.read_address.Goals as goal
+use Rattle.mm_cli.proofs.numbers.read_address.Goals as goal
 
 pub returns-then-address-ne0 : goal.returns-then-address-ne0
 returns-then-address-ne0 c n is argument =

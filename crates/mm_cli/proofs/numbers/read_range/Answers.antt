@@ -1,6 +1,6 @@
 use Rattle.std.proofs.Common.{◌≡◌, ◌%◌, ◌^◌, ◌*◌, ℕ, sym, subst, ◌∙◌, arith}
 use Rattle.std.proofs.lemmas.{Fmt.decimal_injective, Nat.one_shl}
-use Rattle.mm_cli.proofs.words.read_range.Goals as goal
+use Rattle.mm_cli.proofs.numbers.read_range.Goals as goal
 
 pub returns-then-base-log-ne0 : goal.returns-then-base-log-ne0
 returns-then-base-log-ne0 c first width range begins long =

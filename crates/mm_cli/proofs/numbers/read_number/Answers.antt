@@ -1,5 +1,5 @@
 use Rattle.std.proofs.{Common.{◌≡◌, sym, ◌∙◌, arith}, lemmas.Fmt.decimal_injective}
-use Rattle.mm_cli.proofs.words.read_number.Goals as goal
+use Rattle.mm_cli.proofs.numbers.read_number.Goals as goal
 
 pub returns-then-number-least : goal.returns-then-number-least
 returns-then-number-least c n least most argument =

@@ -1,0 +1,10 @@
+mod Adding
+mod Claims
+mod Closes
+mod Closing
+mod Filled
+mod Flags
+mod Members
+mod Moving
+mod Same
+mod Writing

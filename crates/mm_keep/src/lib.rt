@@ -1,0 +1,18 @@
+//! The search for all that a kernel can come to, whatever its callers do.
+#![tactic(auto)]
+
+mod kernel;
+mod live;
+mod outcome_list;
+mod rows;
+mod search;
+mod segments;
+mod tables;
+mod thread;
+mod turn;
+
+pub use kernel::Kernel;
+pub use outcome_list::Outcomes;
+pub use search::Search;
+pub use tables::Tables;
+pub use turn::outcomes;

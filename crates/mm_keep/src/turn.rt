@@ -1,0 +1,907 @@
+//! What a turn of a thread can come to, instruction by instruction.
+#![tactic(auto, unfolding(mm_kernel::specs::Turns::fault, mm_kernel::specs::Turns::sets, mm_kernel::specs::Turns::moves, mm_kernel::specs::Turns::restricts, mm_kernel::specs::Turns::loads, mm_kernel::specs::Turns::stores, mm_kernel::specs::Turns::branches, mm_kernel::specs::Turns::jumps, mm_kernel::specs::Turns::tests_tag))]
+
+ghost use Rattle.std.specs.Prelude.{◌≡◌, ◌≤◌, ◌%◌, ◌+◌, ◌++◌, IfOk, Some, Ok, Err, length, map, true};
+ghost use Rattle.mm_word.specs.Access.{check_result};
+ghost use Rattle.mm_word.specs.Perm.{allows};
+ghost use Rattle.mm_model.specs.Ask.{load_kind};
+ghost use Rattle.mm_model.specs.Effect.{high_and_low};
+ghost use Rattle.mm_model.specs.Turn.{instr_in};
+ghost use Rattle.mm_kernel.specs.Forms.{exact_bits};
+ghost use Rattle.mm_kernel.specs.Threads.{form_in, going_to, stepped, with_form};
+ghost use Rattle.mm_kernel.specs.Operations.{alu_form, equal_form, high_form, leaves_code, may_name};
+ghost use Rattle.mm_kernel.specs.Turns.{at_distance, branched, branches, branches_if, computes, fault, fetched, jumped, jumps};
+ghost use Rattle.mm_kernel.specs.Turns.{links, loaded_at, loads, moved, moved_somewhere, moves, outcomes, outcomes_of};
+ghost use Rattle.mm_kernel.specs.Turns.{restricted, restricts, restricts_as, seen_as, sets, stored_at, stores};
+ghost use Rattle.mm_kernel.specs.Turns.{stores_outside, tests_tag, word_loaded, word_stored};
+ghost use Rattle.mm_keep.specs.Movings.{moved_by};
+
+use crate::kernel::Kernel;
+use crate::outcome_list::Outcomes;
+use crate::segments::{around, is_kept};
+use crate::thread::{form_at, going_to, stepped, with_event, with_form};
+use mm_isa::{AluOp, Instr, Reg, alu, decode};
+use mm_kernel::{Form, Leak, Outcome, Thread};
+use mm_model::is_same_word;
+use mm_word::{Cause, Cell, GuardedPtr, Kind, Perm, Post, Pre, Word, check, enter, lea, leab, next, subseg};
+
+const ZERO: Form = Form::Number(0);
+
+// 1. Operands.
+
+/// A number of an instruction, extended by its sign.
+fn bits_of(imm: i32) -> u64
+    ensures { result ≡ cast_unsigned w64 imm }
+{
+    i64::from(imm).cast_unsigned()
+}
+
+ghost use Rattle.std.specs.Int.{w64, cast_unsigned};
+
+/// The form in a register.
+fn form(t: &Thread, r: Reg) -> Form
+    ensures { result ≡ form_in t.now r }
+{
+    form_at(t, r.number())
+}
+
+/// A fault whose operands are a register and a number.
+fn fault_at(t: &Thread, ra: Reg, bits: u64) -> Outcome
+    ensures { result ≡ Faults (form_in t.now ra) (Number bits) }
+{
+    Outcome::Faults {
+        address: form(t, ra),
+        value: Form::Number(bits),
+    }
+}
+
+ghost use Rattle.mm_kernel.specs.declared.outcome.Outcome.TheVariants.{Faults, Goes, Leaves};
+ghost use Rattle.mm_kernel.specs.declared.form.Form.TheVariants.{Number};
+
+/// A fault whose operands are two registers.
+fn fault_with(t: &Thread, ra: Reg, rb: Reg) -> Outcome
+    ensures { result ≡ Faults (form_in t.now ra) (form_in t.now rb) }
+{
+    Outcome::Faults {
+        address: form(t, ra),
+        value: form(t, rb),
+    }
+}
+
+/// A fault whose operand is a number.
+fn fault_of(bits: u64) -> Outcome
+    ensures { result ≡ Faults (Number 0) (Number bits) }
+{
+    Outcome::Faults {
+        address: ZERO,
+        value: Form::Number(bits),
+    }
+}
+
+/// The turn faults at its instruction.
+fn fault(t: &Thread, instr: &Instr) -> Outcome
+    ensures { result ≡ fault t.now instr.now }
+{
+    match *instr {
+        Instr::Halt | Instr::Nop | Instr::SelfSlot { rd: _ } | Instr::Evt { rd: _ } => fault_of(0),
+        Instr::Ldi { rd: _, imm } => fault_of(bits_of(imm)),
+        Instr::Ldhi { rd: _, imm } => fault_of(bits_of(imm)),
+        Instr::Mov { rd: _, ra } => fault_at(t, ra, 0),
+        Instr::Isptr { rd: _, ra } => fault_at(t, ra, 0),
+        Instr::Eqw { rd: _, ra, rb } => fault_with(t, ra, rb),
+        Instr::Out { ra } => fault_at(t, ra, 0),
+        Instr::Alu { op: _, rd: _, ra, rb } => fault_with(t, ra, rb),
+        Instr::Addi { rd: _, ra, imm } => fault_at(t, ra, bits_of(imm)),
+        Instr::Lea { rd: _, ra, rb } => fault_with(t, ra, rb),
+        Instr::Leai { rd: _, ra, imm } => fault_at(t, ra, bits_of(imm)),
+        Instr::Leab { rd: _, ra, rb } => fault_with(t, ra, rb),
+        Instr::Restrict { rd: _, ra, rb } => fault_with(t, ra, rb),
+        Instr::Subseg { rd: _, ra, rb } => fault_with(t, ra, rb),
+        Instr::Setptr { rd: _, ra } => fault_at(t, ra, 0),
+        Instr::Ld { rd: _, ra, pre: _, post: _, imm } => fault_at(t, ra, bits_of(imm)),
+        Instr::St { ra, rb, pre: _, post: _, imm: _ } => fault_with(t, ra, rb),
+        Instr::Br { imm } => fault_of(bits_of(imm)),
+        Instr::Bz { ra, imm } => fault_at(t, ra, bits_of(imm)),
+        Instr::Bnz { ra, imm } => fault_at(t, ra, bits_of(imm)),
+        Instr::Jmp { ra } => fault_at(t, ra, 0),
+        Instr::Jal { rd: _, ra } => fault_at(t, ra, 0),
+        Instr::Lip { rd: _, imm } => fault_of(bits_of(imm)),
+        Instr::Trap { imm } => fault_of(bits_of(imm)),
+        Instr::Resume { ra, how: _ } => fault_at(t, ra, 0),
+        Instr::Rreg { rd: _, ra, reg } => fault_at(t, ra, u64::from(reg.number())),
+        Instr::Wreg { ra, rb, reg: _ } => fault_with(t, ra, rb),
+        Instr::Map { rd: _, ra } => fault_at(t, ra, 0),
+        Instr::Unmap { rd: _, ra } => fault_at(t, ra, 0),
+    }
+}
+
+/// The turn faults before it has an instruction.
+fn early_fault() -> Outcome
+    ensures { result ≡ Faults (Number 0) (Number 0) }
+{
+    Outcome::Faults {
+        address: ZERO,
+        value: ZERO,
+    }
+}
+
+/// A register gets a form, and the thread goes on.
+fn sets(t: &Thread, rd: Reg, form: Form) -> Outcome
+    ensures { result ≡ sets t.now rd form }
+{
+    Outcome::Goes(with_form(&stepped(t), rd.number(), form))
+}
+
+// 2. Pointers.
+
+fn moved(t: &Thread, instr: &Instr, rd: Reg, to: Result<GuardedPtr, Cause>) -> Outcomes
+    ensures { result ≡ moved t.now instr.now rd to }
+{
+    match to {
+        Ok(p) => Outcomes::one(sets(t, rd, Form::Pointer(p))),
+        Err(_) => Outcomes::one(fault(t, instr)),
+    }
+}
+
+/// A pointer of a known permission is moved or narrowed by an operand that is not known.
+fn moved_somewhere(t: &Thread, instr: &Instr, rd: Reg, perm: Perm, form: Form) -> Outcomes
+    ensures { result ≡ moved_somewhere t.now instr.now rd perm form }
+{
+    if perm.may_move() {
+        Outcomes::two(fault(t, instr), sets(t, rd, form))
+    } else {
+        Outcomes::one(fault(t, instr))
+    }
+}
+
+/// How an instruction moves or narrows a pointer.
+#[derive(Clone, Copy)]
+enum Moving {
+    /// By the bits of an operand, in bytes.
+    Lea,
+    /// By a number of the instruction, in bytes.
+    LeaBy(i32),
+    /// To a distance from the base of the segment.
+    Leab,
+    /// To a shorter segment.
+    Subseg,
+}
+
+/// A pointer that is moved or narrowed by bits.
+fn move_by(moving: Moving, p: GuardedPtr, bits: u64) -> Result<GuardedPtr, Cause>
+    ensures { result ≡ moved_by moving p bits }
+{
+    match moving {
+        Moving::Lea => lea(p, bits.cast_signed()),
+        Moving::LeaBy(imm) => lea(p, i64::from(imm)),
+        Moving::Leab => leab(p, bits.cast_signed()),
+        Moving::Subseg => subseg(p, bits),
+    }
+}
+
+fn pointer_moved(
+    kernel: &Kernel,
+    t: &Thread,
+    instr: &Instr,
+    rd: Reg,
+    p: GuardedPtr,
+    bits: Option<u64>,
+    moving: Moving,
+) -> Outcomes
+    ensures { result ≡ pointer_moved kernel.now.kept t.now instr.now rd p bits (moved_by moving) }
+{
+    match bits {
+        None => moved_somewhere(t, instr, rd, p.perm(), around(kernel.kept(), p)),
+        Some(bits) => moved(t, instr, rd, move_by(moving, p, bits)),
+    }
+}
+
+ghost use Rattle.mm_kernel.specs.Turns.{pointer_moved};
+
+/// A form is moved or narrowed by the bits of another.
+fn moves(
+    kernel: &Kernel,
+    t: &Thread,
+    instr: &Instr,
+    rd: Reg,
+    form: Form,
+    bits: Option<u64>,
+    moving: Moving,
+) -> Outcomes
+    ensures { result ≡ moves kernel.now.kept t.now instr.now rd form bits (moved_by moving) }
+{
+    match form {
+        Form::Number(_) => Outcomes::one(fault(t, instr)),
+        Form::Pointer(p) => pointer_moved(kernel, t, instr, rd, p, bits, moving),
+        Form::Integer => Outcomes::one(fault(t, instr)),
+        Form::Open(perm) => moved_somewhere(t, instr, rd, perm, Form::Open(perm)),
+        Form::Any => Outcomes::two(fault(t, instr), sets(t, rd, Form::Any)),
+        Form::Inside(p) => moved_somewhere(t, instr, rd, p.perm(), Form::Inside(p)),
+    }
+}
+
+// 3. Permissions.
+
+const PERMISSIONS: [Perm; 7] = [Perm::Ro, Perm::Rw, Perm::Xu, Perm::Xp, Perm::Eu, Perm::Ep, Perm::Key];
+
+/// Whether an operand may name a permission.
+fn may_name(bits: Option<u64>, perm: Perm) -> bool
+    ensures { result ≡ may_name bits perm }
+{
+    match bits {
+        None => true,
+        Some(bits) => bits == u64::from(perm.code()),
+    }
+}
+
+/// Appends what a form comes to with each of these permissions that it may become and that an operand may name.
+fn put_restricted(
+    out: &mut Outcomes,
+    t: &Thread,
+    rd: Reg,
+    form: &Form,
+    from: Perm,
+    bits: Option<u64>,
+    permissions: &[Perm],
+)
+    requires { length out.old + length permissions.now ≤ 8 }
+    ensures { out.new ≡ out.old ++ map (λ perm. sets t.now rd (with_permission form.now perm))
+        (filter (λ to. can_become from to && may_name bits to) permissions.now) }
+{
+    match permissions {
+        [] => (),
+        [to, rest @ ..] => {
+            if from.may_become(*to) && may_name(bits, *to) {
+                out.push(sets(t, rd, form.with_permission(*to)));
+            }
+            put_restricted(out, t, rd, form, from, bits, rest);
+        }
+    }
+}
+
+ghost use Rattle.std.specs.Prelude.{◌&&◌};
+ghost use Rattle.std.specs.List.{filter};
+ghost use Rattle.mm_word.specs.Perm.{can_become};
+ghost use Rattle.mm_kernel.specs.Operations.{choices, with_permission};
+
+/// A form gets each permission that its own may become and that an operand may name.
+#[tactic(auto, unfolding(mm_kernel::specs::Operations::choices))]
+fn restricted(t: &Thread, instr: &Instr, rd: Reg, a: &Form, b: &Form, from: Perm) -> Outcomes
+    ensures { result ≡ restricted t.now instr.now rd a.now b.now (choices from b.now) }
+{
+    let bits = b.exact_bits();
+    let mut out = Outcomes::none();
+    put_restricted(&mut out, t, rd, a, from, bits, &PERMISSIONS);
+    if bits.is_none() || out.is_empty() {
+        out.push(fault(t, instr));
+    }
+    out
+}
+
+/// A form gets other permissions.
+fn restricts(t: &Thread, instr: &Instr, rd: Reg, a: &Form, b: &Form) -> Outcomes
+    ensures { result ≡ restricts t.now instr.now rd a.now b.now }
+{
+    match *a {
+        Form::Number(_) => Outcomes::one(fault(t, instr)),
+        Form::Pointer(p) => restricted(t, instr, rd, a, b, p.perm()),
+        Form::Integer => Outcomes::one(fault(t, instr)),
+        Form::Open(perm) => restricted(t, instr, rd, a, b, perm),
+        Form::Any => Outcomes::two(fault(t, instr), sets(t, rd, Form::Any)),
+        Form::Inside(p) => restricted(t, instr, rd, a, b, p.perm()),
+    }
+}
+
+// 4. Memory.
+
+fn load_kind(post: Post) -> Kind
+    ensures { result ≡ load_kind post }
+{
+    match post {
+        Post::Keep => Kind::Load,
+        Post::Full => Kind::LoadSet,
+        Post::Empty => Kind::LoadSet,
+    }
+}
+
+fn word_loaded(kernel: &Kernel, t: &Thread, rd: Reg, word: u64, cell: Cell) -> Outcome
+    requires { word % 8 ≡ 0 }
+    ensures { result ≡ word_loaded kernel.now.image kernel.now.kept t.now rd word cell }
+{
+    if is_kept(kernel.kept(), word) {
+        Outcome::Loads {
+            part: (word, 3),
+            reg: rd.number(),
+            next: stepped(t),
+        }
+    } else if kernel.is_fixed(word) {
+        sets(t, rd, Form::of(cell.word))
+    } else {
+        sets(t, rd, Form::Any)
+    }
+}
+
+fn loaded_at(kernel: &Kernel, t: &Thread, instr: &Instr, rd: Reg, pre: Pre, word: u64) -> Outcomes
+    requires { word % 8 ≡ 0 }
+    ensures { result ≡ loaded_at kernel.now.image kernel.now.kept t.now instr.now rd pre word
+        (cell_at kernel.now.image.memory word) }
+{
+    match kernel.image().cell(word) {
+        None => Outcomes::one(fault(t, instr)),
+        Some(cell) => {
+            let loaded = word_loaded(kernel, t, rd, word, cell);
+            match pre {
+                Pre::Any => Outcomes::one(loaded),
+                _ => Outcomes::two(loaded, fault(t, instr)),
+            }
+        }
+    }
+}
+
+ghost use Rattle.mm_model.specs.Memory.{cell_at};
+ghost use Rattle.mm_kernel.specs.Turns.{loaded_by, stored_by};
+
+fn loaded_by(
+    kernel: &Kernel,
+    t: &Thread,
+    instr: &Instr,
+    rd: Reg,
+    pre: Pre,
+    through: GuardedPtr,
+    imm: i32,
+    kind: Kind,
+) -> Outcomes
+    ensures { result ≡ loaded_by kernel.now.image kernel.now.kept t.now instr.now rd pre
+        (check_result (Ptr through) imm kind) }
+{
+    match check(Word::Ptr(through), i64::from(imm), kind) {
+        Err(_) => Outcomes::one(fault(t, instr)),
+        Ok(access) => loaded_at(kernel, t, instr, rd, pre, access.addr()),
+    }
+}
+
+ghost use Rattle.mm_word.specs.declared.word.Word.TheVariants.{Ptr};
+
+/// A load, through a form.
+fn loads(
+    kernel: &Kernel,
+    t: &Thread,
+    instr: &Instr,
+    rd: Reg,
+    form: Form,
+    imm: i32,
+    pre: Pre,
+    kind: Kind,
+) -> Outcomes
+    ensures { result ≡ loads kernel.now.image kernel.now.kept t.now instr.now rd form imm pre kind }
+{
+    match form {
+        Form::Number(_) => Outcomes::one(fault(t, instr)),
+        Form::Pointer(p) => loaded_by(kernel, t, instr, rd, pre, p, imm, kind),
+        Form::Integer => Outcomes::one(fault(t, instr)),
+        Form::Open(perm) => {
+            if perm.permits(kind) {
+                Outcomes::two(fault(t, instr), sets(t, rd, Form::Any))
+            } else {
+                Outcomes::one(fault(t, instr))
+            }
+        }
+        Form::Any => Outcomes::two(fault(t, instr), sets(t, rd, Form::Any)),
+        Form::Inside(p) => {
+            if p.perm().permits(kind) {
+                let loaded = Outcome::Loads {
+                    part: (p.addr(), p.log()),
+                    reg: rd.number(),
+                    next: stepped(t),
+                };
+                Outcomes::two(fault(t, instr), loaded)
+            } else {
+                Outcomes::one(fault(t, instr))
+            }
+        }
+    }
+}
+
+/// A store outside of the kept words hands its word out.
+fn stores_outside(t: &Thread, rb: Reg) -> Outcome
+    ensures { result ≡ stores_outside t.now rb }
+{
+    let leak = Leak::Store {
+        at: t.ip.addr(),
+        reg: rb.number(),
+        form: form(t, rb),
+    };
+    Outcome::HandsOut {
+        form: form(t, rb),
+        leak,
+    }
+}
+
+fn word_stored(kernel: &Kernel, t: &Thread, rb: Reg, word: u64) -> Outcome
+    ensures { result ≡ word_stored kernel.now.kept t.now rb word }
+{
+    if is_kept(kernel.kept(), word) {
+        Outcome::Stores {
+            part: (word, 3),
+            form: form(t, rb).stored(),
+        }
+    } else {
+        stores_outside(t, rb)
+    }
+}
+
+fn stored_at(kernel: &Kernel, t: &Thread, instr: &Instr, rb: Reg, pre: Pre, word: u64) -> Outcomes
+    requires { word % 8 ≡ 0 }
+    ensures { result ≡ stored_at kernel.now.kept t.now instr.now rb pre word
+        (cell_at kernel.now.image.memory word) }
+{
+    match kernel.image().cell(word) {
+        None => Outcomes::one(fault(t, instr)),
+        Some(_) => {
+            let stored = word_stored(kernel, t, rb, word);
+            let on = Outcome::Goes(stepped(t));
+            match pre {
+                Pre::Any => Outcomes::two(stored, on),
+                _ => Outcomes::three(stored, on, fault(t, instr)),
+            }
+        }
+    }
+}
+
+fn stored_by(
+    kernel: &Kernel,
+    t: &Thread,
+    instr: &Instr,
+    rb: Reg,
+    pre: Pre,
+    through: GuardedPtr,
+    imm: i32,
+) -> Outcomes
+    ensures { result ≡ stored_by kernel.now.image kernel.now.kept t.now instr.now rb pre
+        (check_result (Ptr through) imm Store) }
+{
+    match check(Word::Ptr(through), i64::from(imm), Kind::Store) {
+        Err(_) => Outcomes::one(fault(t, instr)),
+        Ok(access) => stored_at(kernel, t, instr, rb, pre, access.addr()),
+    }
+}
+
+ghost use Rattle.mm_word.specs.declared.perm.Kind.TheVariants.{Fetch, Store};
+
+/// A store, through a form.
+fn stores(kernel: &Kernel, t: &Thread, instr: &Instr, through: Form, rb: Reg, imm: i32, pre: Pre) -> Outcomes
+    ensures { result ≡ stores kernel.now.image kernel.now.kept t.now instr.now through rb imm pre }
+{
+    match through {
+        Form::Number(_) => Outcomes::one(fault(t, instr)),
+        Form::Pointer(p) => stored_by(kernel, t, instr, rb, pre, p, imm),
+        Form::Integer => Outcomes::one(fault(t, instr)),
+        Form::Open(perm) => {
+            if perm.permits(Kind::Store) {
+                Outcomes::three(fault(t, instr), stores_outside(t, rb), Outcome::Goes(stepped(t)))
+            } else {
+                Outcomes::one(fault(t, instr))
+            }
+        }
+        Form::Any => Outcomes::three(fault(t, instr), stores_outside(t, rb), Outcome::Goes(stepped(t))),
+        Form::Inside(p) => {
+            if p.perm().permits(Kind::Store) {
+                let stored = Outcome::Stores {
+                    part: (p.addr(), p.log()),
+                    form: form(t, rb).stored(),
+                };
+                Outcomes::three(fault(t, instr), stored, Outcome::Goes(stepped(t)))
+            } else {
+                Outcomes::one(fault(t, instr))
+            }
+        }
+    }
+}
+
+// 5. Jumps.
+
+/// The pointer at a distance in words from the instruction.
+fn at_distance(t: &Thread, imm: i32) -> Result<GuardedPtr, Cause>
+    requires { allows t.now.ip.perm Fetch ≡ true }
+    ensures { result ≡ at_distance t.now imm }
+{
+    lea(t.ip, 8 * i64::from(imm))
+}
+
+fn branches(t: &Thread, instr: &Instr, imm: i32) -> Outcome
+    requires { allows t.now.ip.perm Fetch ≡ true }
+    ensures { result ≡ branches t.now instr.now imm }
+{
+    match at_distance(t, imm) {
+        Ok(ip) => Outcome::Goes(going_to(t, ip)),
+        Err(_) => fault(t, instr),
+    }
+}
+
+/// A branch that is taken if a form is that of 0 alone, or if it is not.
+fn branches_if(if_zero: bool, t: &Thread, instr: &Instr, bits: Option<u64>, imm: i32) -> Outcomes
+    requires { allows t.now.ip.perm Fetch ≡ true }
+    ensures { result ≡ branches_if if_zero t.now instr.now bits imm }
+{
+    match bits {
+        None => Outcomes::two(branches(t, instr, imm), Outcome::Goes(stepped(t))),
+        Some(bits) => {
+            if (bits == 0) == if_zero {
+                Outcomes::one(branches(t, instr, imm))
+            } else {
+                Outcomes::one(Outcome::Goes(stepped(t)))
+            }
+        }
+    }
+}
+
+fn jumped(t: &Thread, linked: &Thread, instr: &Instr, to: Option<GuardedPtr>) -> Outcomes
+    ensures { result ≡ jumped t.now linked.now instr.now to }
+{
+    match to {
+        None => Outcomes::one(fault(t, instr)),
+        Some(ip) => Outcomes::one(Outcome::Goes(going_to(linked, ip))),
+    }
+}
+
+/// A jump through a form; the thread goes on, or leaves, with its link.
+fn jumps(t: &Thread, linked: &Thread, instr: &Instr, ra: Reg, form: Form) -> Outcomes
+    ensures { result ≡ jumps t.now linked.now instr.now ra form }
+{
+    match form {
+        Form::Number(_) => Outcomes::one(fault(t, instr)),
+        Form::Pointer(p) => jumped(t, linked, instr, enter(p)),
+        Form::Integer => Outcomes::one(fault(t, instr)),
+        Form::Open(perm) => {
+            if perm.entered().is_some() {
+                Outcomes::one(Outcome::Leaves(*linked))
+            } else {
+                Outcomes::one(fault(t, instr))
+            }
+        }
+        Form::Any => Outcomes::two(fault(t, instr), Outcome::Leaves(*linked)),
+        Form::Inside(p) => {
+            if p.perm().entered().is_some() {
+                Outcomes::one(Outcome::Leaks(Leak::Enter {
+                    at: t.ip.addr(),
+                    reg: ra.number(),
+                    form: Form::Inside(p),
+                }))
+            } else {
+                Outcomes::one(fault(t, instr))
+            }
+        }
+    }
+}
+
+fn links(t: &Thread, instr: &Instr, rd: Reg, ra: Reg) -> Outcomes
+    ensures { result ≡ links t.now instr.now rd ra (next_result t.now.ip) }
+{
+    match next(t.ip) {
+        None => Outcomes::one(fault(t, instr)),
+        Some(back) => {
+            let linked = with_form(t, rd.number(), Form::Pointer(back));
+            jumps(t, &linked, instr, ra, form(t, ra))
+        }
+    }
+}
+
+ghost use Rattle.mm_word.specs.Pointer.{next_result};
+
+// 6. Tags and integers.
+
+fn seen_as(t: &Thread, rd: Reg, ra: Reg, form: Form, tag: u64) -> Outcome
+    ensures { result ≡ seen_as t.now rd ra form tag }
+{
+    let seen = with_form(&stepped(t), ra.number(), form);
+    Outcome::Goes(with_form(&seen, rd.number(), Form::Number(tag)))
+}
+
+/// The tag of a form that is not known is looked at: each kind of pointer goes on by itself.
+fn tests_tag(t: &Thread, rd: Reg, ra: Reg, form: Form) -> Outcomes
+    ensures { result ≡ tests_tag t.now rd ra form }
+{
+    match form {
+        Form::Number(_) => Outcomes::one(sets(t, rd, Form::Number(0))),
+        Form::Integer => Outcomes::one(sets(t, rd, Form::Number(0))),
+        Form::Any => {
+            let mut out = Outcomes::one(seen_as(t, rd, ra, Form::Integer, 0));
+            out.push(seen_as(t, rd, ra, Form::Open(Perm::Ro), 1));
+            out.push(seen_as(t, rd, ra, Form::Open(Perm::Rw), 1));
+            out.push(seen_as(t, rd, ra, Form::Open(Perm::Xu), 1));
+            out.push(seen_as(t, rd, ra, Form::Open(Perm::Eu), 1));
+            out.push(seen_as(t, rd, ra, Form::Open(Perm::Key), 1));
+            out
+        }
+        _ => Outcomes::one(sets(t, rd, Form::Number(1))),
+    }
+}
+
+/// Whether two words are equal in tag and bits, if both are known.
+#[tactic(auto, unfolding(mm_kernel::specs::Operations::equal_form))]
+fn equal(a: Form, b: Form) -> Form
+    ensures { result ≡ equal_form a b }
+{
+    match a.exact() {
+        Some(v) => match b.exact() {
+            Some(w) => Form::Number(is_same_word(v, w) as u64),
+            None => Form::Integer,
+        },
+        None => Form::Integer,
+    }
+}
+
+/// A word whose high half is the low half of `bits`, and whose low half is `imm`.
+fn high_and_low(bits: u64, imm: i32) -> u64
+    ensures { result ≡ high_and_low bits imm }
+{
+    bits << 32 | u64::from(imm.cast_unsigned())
+}
+
+#[tactic(auto, unfolding(mm_kernel::specs::Operations::high_form))]
+fn high(form: Form, imm: i32) -> Form
+    ensures { result ≡ high_form form imm }
+{
+    match form.exact_bits() {
+        Some(bits) => Form::Number(high_and_low(bits, imm)),
+        None => Form::Integer,
+    }
+}
+
+/// Whether the bits that are shifted out leave a pointer's permission.
+fn leaves_code(op: AluOp, bits: u64) -> bool
+    ensures { result ≡ leaves_code op bits }
+{
+    match op {
+        AluOp::Shr => bits % 64 == 60,
+        _ => false,
+    }
+}
+
+/// The result of an operation on bits.
+fn alu_exact(op: AluOp, a: u64, bits: u64) -> Form
+    ensures { result ≡ small_result (alu_result op a bits) }
+{
+    match alu(op, a, bits) {
+        Ok(number) => Form::small(number),
+        Err(_) => Form::Integer,
+    }
+}
+
+ghost use Rattle.mm_isa.specs.Alu.{alu_result, divides};
+ghost use Rattle.mm_kernel.specs.Operations.{small_result, alu_by};
+
+/// The result of an operation on a pointer that is not known, but for its permission.
+fn alu_code(op: AluOp, perm: Perm, bits: u64) -> Form
+    ensures { result ≡ (if leaves_code op bits then Number (code_of perm) else Integer) }
+{
+    if leaves_code(op, bits) {
+        Form::Number(u64::from(perm.code()))
+    } else {
+        Form::Integer
+    }
+}
+
+ghost use Rattle.std.specs.Prelude.{if◌then◌else◌};
+ghost use Rattle.mm_word.specs.Perm.{code_of};
+ghost use Rattle.mm_kernel.specs.declared.form.Form.TheVariants.{Integer};
+
+/// The result of an operation on a form and known bits.
+fn alu_by(op: AluOp, form: Form, bits: u64) -> Form
+    ensures { result ≡ alu_by op form bits }
+{
+    match form {
+        Form::Number(a) => alu_exact(op, a, bits),
+        Form::Pointer(p) => alu_exact(op, p.bits(), bits),
+        Form::Open(perm) => alu_code(op, perm, bits),
+        Form::Inside(p) => alu_code(op, p.perm(), bits),
+        _ => Form::Integer,
+    }
+}
+
+/// The result of an operation on two forms.
+#[tactic(auto, unfolding(mm_kernel::specs::Operations::alu_form))]
+fn alu_form(op: AluOp, a: Form, b: Form) -> Form
+    ensures { result ≡ alu_form op a b }
+{
+    match b.exact_bits() {
+        Some(bits) => alu_by(op, a, bits),
+        None => Form::Integer,
+    }
+}
+
+fn divides(op: AluOp) -> bool
+    ensures { result ≡ divides op }
+{
+    match op {
+        AluOp::Divu | AluOp::Remu => true,
+        _ => false,
+    }
+}
+
+/// A division can fault if its divisor may be 0, and has a result unless that is 0.
+fn computes(t: &Thread, instr: &Instr, divides: bool, rd: Reg, form: Form, divisor: Option<u64>) -> Outcomes
+    ensures { result ≡ computes t.now instr.now divides rd form divisor }
+{
+    if !divides {
+        return Outcomes::one(sets(t, rd, form));
+    }
+    match divisor {
+        None => Outcomes::two(fault(t, instr), sets(t, rd, form)),
+        Some(bits) => {
+            if bits == 0 {
+                Outcomes::one(fault(t, instr))
+            } else {
+                Outcomes::one(sets(t, rd, form))
+            }
+        }
+    }
+}
+
+// 7. The table of instructions.
+
+/// What an event that is read can come to.
+fn reads_event(t: &Thread, rd: u8) -> Outcomes
+    requires { rd ≤ 15 }
+    ensures { result ≡ Goes (with_event (stepped t.now) rd Any Any Any) ∷ TakesEvent rd (stepped t.now) ∷ [] }
+{
+    let next = stepped(t);
+    Outcomes::two(
+        Outcome::Goes(with_event(&next, rd, Form::Any, Form::Any, Form::Any)),
+        Outcome::TakesEvent { reg: rd, next },
+    )
+}
+
+ghost use Rattle.std.specs.Prelude.{◌∷◌, []};
+ghost use Rattle.mm_kernel.specs.declared.outcome.Outcome.TheVariants.{TakesEvent};
+ghost use Rattle.mm_kernel.specs.declared.form.Form.TheVariants.{Any};
+ghost use Rattle.mm_kernel.specs.Turns.{with_event};
+
+/// What a register that is put into a served slot can come to.
+fn gives(t: &Thread, instr: &Instr, rb: Reg, reg: Reg) -> Outcomes
+    ensures { result ≡ fault t.now instr.now ∷ Goes (stepped t.now)
+        ∷ HandsOut (form_in t.now rb) (Give t.now.ip.addr rb (form_in t.now rb)) ∷ WritesServed reg (form_in t.now rb) ∷ [] }
+{
+    let leak = Leak::Give {
+        at: t.ip.addr(),
+        reg: rb.number(),
+        form: form(t, rb),
+    };
+    let out = Outcome::HandsOut {
+        form: form(t, rb),
+        leak,
+    };
+    let written = Outcome::WritesServed {
+        reg: reg.number(),
+        form: form(t, rb),
+    };
+    Outcomes::four(fault(t, instr), Outcome::Goes(stepped(t)), out, written)
+}
+
+ghost use Rattle.mm_kernel.specs.declared.outcome.Outcome.TheVariants.{HandsOut, WritesServed};
+ghost use Rattle.mm_kernel.specs.declared.fact.Leak.TheVariants.{Give};
+
+/// What a turn of each instruction can come to.
+#[tactic(auto, unfolding(mm_kernel::specs::Turns::outcomes_of, mm_kernel::specs::Turns::branches))]
+fn carries_out(kernel: &Kernel, t: &Thread, instr: &Instr) -> Outcomes
+    requires { allows t.now.ip.perm Fetch ≡ true }
+    ensures { result ≡ outcomes_of kernel.now.image kernel.now.kept t.now instr.now }
+{
+    match *instr {
+        Instr::Halt => Outcomes::none(),
+        Instr::Nop => Outcomes::one(Outcome::Goes(stepped(t))),
+        Instr::Ldi { rd, imm } => Outcomes::one(sets(t, rd, Form::Number(bits_of(imm)))),
+        Instr::Ldhi { rd, imm } => Outcomes::one(sets(t, rd, high(form(t, rd), imm))),
+        Instr::Mov { rd, ra } => Outcomes::one(sets(t, rd, form(t, ra))),
+        Instr::Isptr { rd, ra } => tests_tag(t, rd, ra, form(t, ra)),
+        Instr::Eqw { rd, ra, rb } => Outcomes::one(sets(t, rd, equal(form(t, ra), form(t, rb)))),
+        Instr::Out { ra: _ } => Outcomes::two(fault(t, instr), Outcome::Goes(stepped(t))),
+        Instr::SelfSlot { rd } => Outcomes::one(sets(t, rd, Form::Integer)),
+        Instr::Alu { op, rd, ra, rb } => {
+            let f = alu_form(op, form(t, ra), form(t, rb));
+            computes(t, instr, divides(op), rd, f, form(t, rb).exact_bits())
+        }
+        Instr::Addi { rd, ra, imm } => {
+            let sum = alu_form(AluOp::Add, form(t, ra), Form::Number(bits_of(imm)));
+            Outcomes::one(sets(t, rd, sum))
+        }
+        Instr::Lea { rd, ra, rb } => moves(kernel, t, instr, rd, form(t, ra), form(t, rb).exact_bits(), Moving::Lea),
+        Instr::Leai { rd, ra, imm } => moves(kernel, t, instr, rd, form(t, ra), Some(0), Moving::LeaBy(imm)),
+        Instr::Leab { rd, ra, rb } => moves(kernel, t, instr, rd, form(t, ra), form(t, rb).exact_bits(), Moving::Leab),
+        Instr::Restrict { rd, ra, rb } => restricts(t, instr, rd, &form(t, ra), &form(t, rb)),
+        Instr::Subseg { rd, ra, rb } => {
+            moves(kernel, t, instr, rd, form(t, ra), form(t, rb).exact_bits(), Moving::Subseg)
+        }
+        Instr::Ld { rd, ra, pre, post, imm } => {
+            loads(kernel, t, instr, rd, form(t, ra), imm, pre, load_kind(post))
+        }
+        Instr::St { ra, rb, pre, post: _, imm } => stores(kernel, t, instr, form(t, ra), rb, imm, pre),
+        Instr::Br { imm } => Outcomes::one(branches(t, instr, imm)),
+        Instr::Bz { ra, imm } => branches_if(true, t, instr, form(t, ra).exact_bits(), imm),
+        Instr::Bnz { ra, imm } => branches_if(false, t, instr, form(t, ra).exact_bits(), imm),
+        Instr::Jmp { ra } => jumps(t, t, instr, ra, form(t, ra)),
+        Instr::Jal { rd, ra } => links(t, instr, rd, ra),
+        Instr::Lip { rd, imm } => moved(t, instr, rd, at_distance(t, imm)),
+        Instr::Evt { rd } => reads_event(t, rd.number()),
+        Instr::Resume { ra: _, how } => {
+            Outcomes::three(fault(t, instr), Outcome::Goes(stepped(t)), Outcome::Resumes(how))
+        }
+        Instr::Rreg { rd, ra: _, reg } => {
+            let read = Outcome::ReadsServed {
+                reg: rd.number(),
+                from: reg.number(),
+                next: stepped(t),
+            };
+            Outcomes::three(fault(t, instr), sets(t, rd, Form::Any), read)
+        }
+        Instr::Wreg { ra: _, rb, reg } => gives(t, instr, rb, reg),
+        Instr::Setptr { rd: _, ra: _ } => Outcomes::one(fault(t, instr)),
+        Instr::Trap { imm: _ } => Outcomes::one(fault(t, instr)),
+        Instr::Map { rd: _, ra: _ } => Outcomes::one(fault(t, instr)),
+        Instr::Unmap { rd: _, ra: _ } => Outcomes::one(fault(t, instr)),
+    }
+}
+
+// 8. The turn.
+
+/// The instruction in a word.
+fn instruction(word: Word) -> Option<Instr>
+    ensures { result ≡ instr_in word }
+{
+    match word {
+        Word::Int(bits) => decode(bits),
+        Word::Ptr(_) => None,
+    }
+}
+
+fn decoded(kernel: &Kernel, t: &Thread, word: Word) -> Outcomes
+    requires { allows t.now.ip.perm Fetch ≡ true }
+    ensures { result ≡ decoded kernel.now.image kernel.now.kept t.now (instr_in word) }
+{
+    match instruction(word) {
+        None => Outcomes::one(early_fault()),
+        Some(instr) => carries_out(kernel, t, &instr),
+    }
+}
+
+ghost use Rattle.mm_kernel.specs.Turns.{aimed, decoded};
+
+fn fetched(kernel: &Kernel, t: &Thread, word: u64) -> Outcomes
+    requires aligned { word % 8 ≡ 0 }
+    requires runs { allows t.now.ip.perm Fetch ≡ true }
+    ensures { result ≡ fetched kernel.now.image kernel.now.kept t.now word (cell_at kernel.now.image.memory word) }
+{
+    match kernel.image().cell(word) {
+        None => Outcomes::one(early_fault()),
+        Some(cell) => {
+            if kernel.is_fixed(word) {
+                decoded(kernel, t, cell.word)
+            } else {
+                Outcomes::one(Outcome::Leaks(Leak::Code { word }))
+            }
+        }
+    }
+}
+
+fn aimed(kernel: &Kernel, t: &Thread) -> Outcomes
+    ensures { result ≡ aimed kernel.now.image kernel.now.kept t.now (check_result (Ptr t.now.ip) (pos 0) Fetch) }
+{
+    match check(Word::Ptr(t.ip), 0, Kind::Fetch) {
+        Err(_) => Outcomes::one(early_fault()),
+        Ok(access) => fetched(kernel, t, access.addr()),
+    }
+}
+
+ghost use Rattle.std.specs.Prelude.{pos};
+
+/// What the turn of a thread can come to.
+#[tactic(auto, unfolding(mm_kernel::specs::Turns::outcomes))]
+pub fn outcomes(kernel: &Kernel, t: &Thread) -> Outcomes
+    ensures { result ≡ outcomes kernel.now.image kernel.now.kept t.now }
+{
+    if t.past {
+        Outcomes::one(early_fault())
+    } else {
+        aimed(kernel, t)
+    }
+}
