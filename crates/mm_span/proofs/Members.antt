@@ -5,7 +5,7 @@ use Rattle.std.proofs.lemmas.Bool.{cases_Bool, both_ways}
 use Rattle.std.proofs.lemmas.List.Elements.{Contains-append_left, Contains-append_right, Contains-append_cases}
 use Rattle.std.specs.Prelude.{Contains, IsSome, is_some, slice_index_or}
 use Rattle.std.specs.List.{AllByRecursion, filter, find, flat_map}
-use Rattle.mm_explore.specs.Pairs.{EachPair}
+use Rattle.mm_span.specs.Pairs.{EachPair}
 
 module _ {X : Type 0} where
   pub none_in : (x : X) → Contains [] x → ⊥

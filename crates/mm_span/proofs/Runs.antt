@@ -2,8 +2,8 @@
 use Rattle.std.proofs.Common.{◌≡◌, ◌⊎◌, inl, inr, ℕ, ◌+◌, ◌*◌, ◌%◌, ◌<◌, ◌≤◌, ◌==◌, Bool, true, false, if◌then◌else◌}
 use Rattle.std.proofs.Common.{List, [], ◌∷◌, Some, None, refl, sym, ap, ◌∙◌, subst, eqb-true, arith}
 use Rattle.std.{proofs.lemmas.Bool.{eqb-false, Decides.nat_tests}, specs.{Prelude.Contains, List.AllByRecursion}}
-use Rattle.mm_explore.specs.{Pairs.EachPair, Findings.{Span, word_in, InSpan, IsApart, AreSpans}, Words.spans_after}
-use Rattle.mm_explore.proofs.Members.{none_in, in_first, in_rest, in_cases, all_at, all_of}
+use Rattle.mm_span.specs.{Pairs.EachPair, Spans.{Span, word_in, InSpan, IsApart, AreSpans, spans_after}}
+use Rattle.mm_span.proofs.Members.{none_in, in_first, in_rest, in_cases, all_at, all_of}
 
 abbrev one_word : ℕ → Span
 one_word w = record { first = w; count = 1 }
