@@ -1,0 +1,8 @@
+mod Fours
+mod Sets
+mod Listing
+mod Uses
+mod HeldWords
+mod Ranges
+mod Ones
+mod Telling
