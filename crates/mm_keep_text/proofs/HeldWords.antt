@@ -1,16 +1,16 @@
 -- The kept words of pages, and the words that threads fetch.
 use Rattle.std.proofs.Common.{◌≡◌, ◌⊎◌, inl, inr, ℕ, ◌+◌, ◌*◌, ◌/◌, ◌%◌, ◌^◌, ◌<◌, Bool, true, false, if◌then◌else◌, List, [], ◌∷◌, ◌++◌}
-use Rattle.std.proofs.Common.{length, take, get_or, Option, Some, refl, sym, ap, ◌∙◌, subst, arith, eqb-true}
+use Rattle.std.proofs.Common.{length, take, get_or, Option, Some, None, is_some, refl, sym, ap, ◌∙◌, subst, arith, eqb-true, append-nil}
 use Rattle.std.proofs.lemmas.Bool.{cases_lt}
-use Rattle.std.specs.{Prelude.Contains, List.AllByRecursion, Ordering.{nat_cmp, eq_by_cmp}, Cmp.unsigned_tied}
+use Rattle.std.specs.{Prelude.Contains, List.{AllByRecursion, filter}, Ordering.{nat_cmp, eq_by_cmp}, Cmp.unsigned_tied}
 use Rattle.std.specs.{FinMap.find, BTreeSet.insert_key}
 use Rattle.mm_word.specs.declared.word.Cell.{Cell}
 use Rattle.mm_model.specs.{Memory.{cell_at, page_of, place_of, IsPaged}, Image.Image}
 use Rattle.mm_model.proofs.Memories.{aligned, page_of_cell, page_whole}
 use Rattle.mm_kernel.specs.{Segments.{Segment, is_kept}, declared.thread.Thread.Thread, Derived.Fetches}
-use Rattle.mm_span.specs.Spans.{IsWord}
-use Rattle.mm_span.proofs.Members.{none_in, in_first, in_rest, all_at, all_of}
-use Rattle.mm_keep_text.specs.Parts.{AreAll, IsHeld, IsHeldIn, InPages, SomeFetches}
+use Rattle.mm_span.specs.Spans.{Span, AreSpans, IsWord}
+use Rattle.mm_span.proofs.{Members.{none_in, in_first, in_rest, all_at, all_of, in_filter, filter_in}, Runs.spans_alike}
+use Rattle.mm_keep_text.specs.Parts.{AreAll, IsHeld, IsHeldIn, InPages, SomeFetches, covers, IsIn}
 use Rattle.mm_keep_text.proofs.Sets.{word_added, all_as, all_same, all_then, all_more, take_item, got_old, got_new, got_cases}
 
 -- 1. Kept words.
@@ -29,6 +29,10 @@ found_page (p ∷ ps) q cells h = at (eq_by_cmp nat_cmp q p.0) refl h (found_pag
     at false e f later = in_rest p ps (q, cells) (later f)
 
 module _ (i : Image) (kept : List Segment) where
+  pub held_by : (w : ℕ) (o : Option Cell) → o ≡ cell_at i.memory w → is_some o ≡ true → is_kept kept w ≡ true → IsHeld i kept w
+  held_by w None e some own = cc
+  held_by w (Some c) e some own = record { cell = c; at = sym e; of_kept = own }
+
   -- a word that is added
   pub held_added : (old : List ℕ) (w : ℕ) → IsHeld i kept w → AreAll (λ x. Contains old x ⊎ ((w ≡ x) × IsHeld i kept x)) (insert_key nat_cmp old w)
   held_added old w h =
@@ -132,3 +136,22 @@ fetches_more ts more t mid new is h k =
       | inr e ↦ inr (subst (λ u. Fetches u x) (sym e) r.fetches)
     ])
     h k
+
+-- 3. Covered words.
+
+-- no words are left after those so far
+pub covered_so_far : (parts : List Segment) (words left keys : List ℕ) → left ≡ [] → words ++ filter (covers parts) left ≡ filter (covers parts) keys
+    → words ≡ filter (covers parts) keys
+covered_so_far parts words left keys none whole = sym (append-nil words) ∙ ap (λ l. words ++ filter (covers parts) l) (sym none) ∙ whole
+
+pub covered_words : (parts : List Segment) (keys : List ℕ) → AllByRecursion IsWord keys → AllByRecursion IsWord (filter (covers parts) keys)
+covered_words parts keys h =
+    all_of IsWord (filter (covers parts) keys) (λ w there. all_at IsWord keys w h (filter_in (covers parts) keys w there).0)
+
+pub covered_are : (parts : List Segment) (words keys : List ℕ) → words ≡ filter (covers parts) keys → (spans : List Span) → AreSpans (Contains words) spans
+    → AreSpans (IsIn keys parts) spans
+covered_are parts words keys is spans h =
+    spans_alike (Contains words) (IsIn keys parts)
+    (λ w there. let one = filter_in (covers parts) keys w (subst (λ l. Contains l w) is there) in record { word = one.0; covered = one.1 })
+    (λ w k. subst (λ l. Contains l w) (sym is) (in_filter (covers parts) keys w k.word k.covered))
+    spans h

@@ -153,7 +153,7 @@ module _ (i : Image) (kept : List Segment) where
       omega (arith, short, many, few)
 
   not_user : is_user i ≡ false → is_user i ≡ true → ⊥
-  not_user no yes = let wrong : false ≡ true = sym no ∙ yes in cc
+  not_user off on = let wrong : false ≡ true = sym off ∙ on in cc
 
   text_one : (limit : ℕ) (a b : Answer) → IsAnswer i kept limit a → IsAnswer i kept limit b → answer_text a ≡ answer_text b
   text_one limit Privileged Privileged h k = refl

@@ -1,5 +1,5 @@
 -- The uses of one origin.
-use Rattle.std.proofs.Common.{◌≡◌, ℕ, ◌+◌, ◌<◌, ◌&&◌, Bool, true, false, not, List, map, refl, sym, ap, ◌∙◌, subst, arith}
+use Rattle.std.proofs.Common.{◌≡◌, ℕ, ◌+◌, ◌<◌, ◌&&◌, Bool, true, false, not, List, [], ◌++◌, map, refl, sym, ap, ◌∙◌, subst, arith, append-nil}
 use Rattle.std.proofs.lemmas.Bool.Decides.{nat_tests}
 use Rattle.std.specs.declared.ops.Bound.TheVariants.{Included, Excluded}
 use Rattle.std.specs.{Prelude.{Contains, ◌↔◌}, List.filter, Ordering.{nat_cmp, ordering_then, is_le}, BTreeMap.Range.range_contains}
@@ -37,3 +37,7 @@ parts_are o keys part = (
       subst (Contains keys) own passed.0,
   λ h. in_map part_in (filter (of_origin o) keys) (o, part) (in_filter (of_origin o) keys (o, part) h (to_origin o.0 o.1 part.0 part.1)),
 )
+
+-- no uses are left after the parts so far
+pub parts_left : (parts all : List Segment) (left : List Use) → left ≡ [] → parts ++ map part_in left ≡ all → parts ≡ all
+parts_left parts all left none whole = sym (append-nil parts) ∙ ap (λ l. parts ++ map part_in l) (sym none) ∙ whole

@@ -1,11 +1,11 @@
 -- Sets that grow key by key, and lists of which more is taken.
 use Rattle.std.proofs.Common.{◌≡◌, ◌⊎◌, inl, inr, ℕ, ◌+◌, ◌<◌, List, [], ◌∷◌, ◌++◌, length, take, get_or, Option, Some, slice_get, refl}
-use Rattle.std.proofs.Common.{sym, ap, ◌∙◌, subst}
+use Rattle.std.proofs.Common.{Result, Ok, Err, sym, ap, ◌∙◌, subst}
 use Rattle.std.proofs.lemmas.{Option.{slice_get_within, get_or_from_slice_get}, List.take_more}
 use Rattle.std.proofs.lemmas.List.Elements.{Contains-append_left, Contains-push, Contains-push_cases}
 use Rattle.std.proofs.lemmas.Map.Lookups.{CmpEqualImpliesEq, exact_pairs, exact_unsigned}
 use Rattle.std.specs.declared.cmp.Ordering.{Ordering, TheVariants.{Less, Equal, Greater}}
-use Rattle.std.specs.{Prelude.{Contains, ◌↔◌}, Ordering.{match_ordering, nat_cmp, ordering_then}, BTreeSet.insert_key}
+use Rattle.std.specs.{Prelude.{Contains, OnOk, ◌↔◌}, Ordering.{match_ordering, nat_cmp, ordering_then}, BTreeSet.insert_key}
 use Rattle.mm_span.proofs.Members.{none_in, in_first, in_rest, in_cases}
 use Rattle.mm_keep_text.specs.Parts.{AreAll, Use, order}
 
@@ -150,3 +150,9 @@ module _ {A : Type 0} (xs ys : List A) (x : A) (is : ys ≡ xs ++ x ∷ []) wher
 
   pub got_cases : (y : A) → Contains ys y → Contains xs y ⊎ (x ≡ y)
   got_cases y h = Contains-push_cases xs x y (subst (λ l. Contains l y) is h)
+
+-- 4. What holds at `Ok`.
+
+pub then_ok : {T E : Type 0} {P Q : Type 0} (r : Result T E) → (P → Q) → OnOk r P → OnOk r Q
+then_ok (Ok x) f h = f h
+then_ok (Err e) f h = tt

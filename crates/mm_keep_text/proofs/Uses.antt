@@ -8,8 +8,7 @@ use Rattle.mm_kernel.specs.Segments.{Segment, lies_in}
 use Rattle.mm_kernel.specs.declared.{form.Form.Form, outcome.Outcome.Outcome, thread.{Origin.Origin, Thread.Thread}}
 use Rattle.mm_kernel.specs.{Facts.Fact.HasThread, Turns.outcomes}
 use Rattle.mm_kernel.specs.{Derived.Fetches, Uses.{LoadsFrom, StoresTo, SetsBit, IsUsed, Reads, Writes}}
-use Rattle.mm_kernel.specs.Uses.Reads as reads
-use Rattle.mm_kernel.specs.Uses.Writes as writes
+use Rattle.mm_kernel.specs.Uses.{Reads.{fetched as word_fetched, loaded as word_loaded}, Writes.{stored as word_stored, set as word_set}}
 use Rattle.mm_keep.specs.{Claims.Tables, Searching.IsExact}
 use Rattle.mm_span.proofs.Members.{none_in, in_first, in_rest, in_cases}
 use Rattle.mm_keep_text.specs.Parts.{AreAll, origin_numbers, origin_from, Use, order, IsLoad, IsStore, SomeIs, IsFetch}
@@ -60,6 +59,23 @@ store_added old o part form x is =
     ])
     (use_added old (o, part))
 
+one_fetch : (t : Thread) (v w : ℕ) → Fetches t v → Fetches t w → v ≡ w
+one_fetch t v w a b = let x = a.checked in let y = b.checked in let m = a.at in let n = b.at in cc
+
+pub fetch_used : (old : List Use) (o : ℕ × ℕ) (t : Thread) (w : ℕ) → Fetches t w → w % 8 ≡ 0
+    → AreAll (λ (u : Use). Contains old u ⊎ ((u.0 ≡ o) × IsFetch t u.1)) (insert_key order old (o, (w, 3)))
+fetch_used old o t w f even =
+    all_as (λ u. Contains old u ⊎ ((o, (w, 3)) ≡ u)) (λ u. Contains old u ⊎ ((u.0 ≡ o) × IsFetch t u.1)) (insert_key order old (o, (w, 3)))
+    (λ u h. elim h [
+      | inl there ↦ inl there
+      | inr e ↦ inr (ap (λ (v : Use). v.0) (sym e), record { word = w; fetches = f; aligned = even; is = ap (λ (v : Use). v.1) (sym e) })
+    ])
+    (λ u h. elim h [
+      | inl there ↦ inl there
+      | inr own ↦ inr (same_use o (w, 3) u own.0 (ap (λ (v : ℕ). (v, 3)) (one_fetch t w own.1.word f own.1.fetches) ∙ sym own.1.is))
+    ])
+    (use_added old (o, (w, 3)))
+
 -- nothing is used in this way
 pub none_added : (P : Segment → Type 0) (old : List Use) (o : ℕ × ℕ) → ((part : Segment) → P part → ⊥)
     → AreAll (λ (u : Use). Contains old u ⊎ ((u.0 ≡ o) × P u.1)) old
@@ -89,6 +105,16 @@ outcome_more uses o old mid new os i x inside at h k =
       | inr e ↦ inr (r.0, subst (λ y. uses y u.1) (sym e) r.1.is)
     ])
     h k
+
+-- loads of a turn whose instruction sets bits
+pub settings : (P : Type 0) (old new : List Use) (o : ℕ × ℕ) (os : List Outcome) → P
+    → AreAll (λ (u : Use). Contains old u ⊎ ((u.0 ≡ o) × SomeIs IsLoad os u.1)) new
+    → AreAll (λ (u : Use). Contains old u ⊎ ((u.0 ≡ o) × P × SomeIs IsLoad os u.1)) new
+settings P old new o os p h =
+    all_as (λ (u : Use). Contains old u ⊎ ((u.0 ≡ o) × SomeIs IsLoad os u.1)) (λ (u : Use). Contains old u ⊎ ((u.0 ≡ o) × P × SomeIs IsLoad os u.1)) new
+    (λ u k. elim k [ inl there ↦ inl there | inr own ↦ inr (own.0, p, own.1) ])
+    (λ u k. elim k [ inl there ↦ inl there | inr own ↦ inr (own.0, own.2) ])
+    h
 
 -- 2. Turns.
 
@@ -183,22 +209,24 @@ pub record Covering (parts : List Segment) (w : ℕ) : Type 0 where
 
 covering : (parts : List Segment) (w : ℕ) → covers parts w ≡ true → Covering parts w
 covering [] w h = cc
-covering (part ∷ parts) w h = by (lies_in w part) refl h
+covering (part ∷ parts) w h = by (covering parts w) (lies_in w part) refl h
   where
-    by : (b : Bool) → lies_in w part ≡ b → (b || covers parts w) ≡ true → Covering (part ∷ parts) w
-    by true e later = record { part = part; inside = in_first part parts; lies = e }
-    by false e later =
-        let one = covering parts w later in
+    by : (covers parts w ≡ true → Covering parts w) → (b : Bool) → lies_in w part ≡ b → (b || covers parts w) ≡ true
+        → Covering (part ∷ parts) w
+    by rest true e later = record { part = part; inside = in_first part parts; lies = e }
+    by rest false e later =
+        let one = rest later in
         record { part = one.part; inside = in_rest part parts one.part one.inside; lies = one.lies }
 
 covered : (parts : List Segment) (part : Segment) (w : ℕ) → Contains parts part → lies_in w part ≡ true → covers parts w ≡ true
 covered [] part w there lies = absurd (none_in part there)
-covered (p ∷ parts) part w there lies = by (lies_in w p) refl (in_cases p parts part there)
+covered (p ∷ parts) part w there lies = by (λ later. covered parts part w later lies) (lies_in w p) refl (in_cases p parts part there)
   where
-    by : (b : Bool) → lies_in w p ≡ b → (p ≡ part) ⊎ Contains parts part → (b || covers parts w) ≡ true
-    by true e cases = refl
-    by false e (inl here) = let yes : lies_in w p ≡ true = ap (lies_in w) here ∙ lies in cc
-    by false e (inr later) = covered parts part w later lies
+    by : (Contains parts part → covers parts w ≡ true) → (b : Bool) → lies_in w p ≡ b → (p ≡ part) ⊎ Contains parts part
+        → (b || covers parts w) ≡ true
+    by rest true e cases = refl
+    by rest false e (inl here) = let yes : lies_in w p ≡ true = ap (lies_in w) here ∙ lies in cc
+    by rest false e (inr later) = rest later
 
 -- a use of a part is one of the words in it
 pub record Uses (i : Image) (kept : List Segment) (uses : Thread → Segment → Type 0) (of_word : Image → List Segment → Thread → ℕ → Type 0) : Type 0 where
@@ -248,20 +276,20 @@ reads_say i kept = record { to = to; back = back }
     to : (t : Thread) (part : Segment) (w : ℕ) → w % 8 ≡ 0 → ReadsPart i kept t part → lies_in w part ≡ true → Reads i kept t w
     to t part w even (fetched f) lies =
         let same = alone w f.word even f.aligned (ap (lies_in w) (sym f.is) ∙ lies) in
-        reads.fetched (subst (Fetches t) (sym same) f.fetches)
-    to t part w even (loaded l) lies = reads.loaded part l lies
+        word_fetched (subst (Fetches t) (sym same) f.fetches)
+    to t part w even (loaded l) lies = word_loaded part l lies
 
     back : (t : Thread) (w : ℕ) → w % 8 ≡ 0 → Reads i kept t w → (part : Segment) × ReadsPart i kept t part × (lies_in w part ≡ true)
-    back t w even (reads.fetched f) = ((w, 3), fetched (record { word = w; fetches = f; aligned = even; is = refl }), eq-eqb (w / 8) (w / 8) refl)
-    back t w even (reads.loaded part l lies) = (part, loaded l, lies)
+    back t w even (word_fetched f) = ((w, 3), fetched (record { word = w; fetches = f; aligned = even; is = refl }), eq-eqb (w / 8) (w / 8) refl)
+    back t w even (word_loaded part l lies) = (part, loaded l, lies)
 
 pub writes_say : (i : Image) (kept : List Segment) → Uses i kept (WritesPart i kept) Writes
 writes_say i kept = record { to = to; back = back }
   where
     to : (t : Thread) (part : Segment) (w : ℕ) → w % 8 ≡ 0 → WritesPart i kept t part → lies_in w part ≡ true → Writes i kept t w
-    to t part w even (stored s) lies = writes.stored part s lies
-    to t part w even (set s l) lies = writes.set part s l lies
+    to t part w even (stored s) lies = word_stored part s lies
+    to t part w even (set s l) lies = word_set part s l lies
 
     back : (t : Thread) (w : ℕ) → w % 8 ≡ 0 → Writes i kept t w → (part : Segment) × WritesPart i kept t part × (lies_in w part ≡ true)
-    back t w even (writes.stored part s lies) = (part, stored s, lies)
-    back t w even (writes.set part s l lies) = (part, set s l, lies)
+    back t w even (word_stored part s lies) = (part, stored s, lies)
+    back t w even (word_set part s l lies) = (part, set s l, lies)

@@ -116,10 +116,12 @@ fn party(
     let numbers = origin_numbers(&origin);
     let read = parts_of(alloc, &used.reads, numbers)?;
     let written = parts_of(alloc, &used.writes, numbers)?;
+    let reads = covered_spans(alloc, &used.words, &read)?;
+    let writes = covered_spans(alloc, &used.words, &written)?;
     Ok(Party {
         origin,
-        reads: covered_spans(alloc, &used.words, &read)?,
-        writes: covered_spans(alloc, &used.words, &written)?,
+        reads,
+        writes,
     })
 }
 
@@ -148,11 +150,15 @@ fn tell(alloc: Global, kernel: &Kernel, tables: &Tables) -> Result<Told, NoMemor
 {
     let doors = doors(alloc, tables)?;
     let origins = origins(alloc, kernel, &doors)?;
+    let parties = parties(alloc, kernel, tables, &origins)?;
+    let code = code_spans(alloc, tables)?;
+    let cells = cells(alloc, kernel, tables)?;
+    let leaks = leaks(alloc, tables)?;
     Ok(Told {
-        parties: parties(alloc, kernel, tables, &origins)?,
-        code: code_spans(alloc, tables)?,
-        cells: cells(alloc, kernel, tables)?,
-        leaks: leaks(alloc, tables)?,
+        parties,
+        code,
+        cells,
+        leaks,
     })
 }
 

@@ -73,11 +73,31 @@ pub(crate) fn leak_form(leak: &Leak) -> Form
 {
     match *leak {
         Leak::Cell { word: _, form } => form,
-        Leak::Jump { at: _, reg: _, form } => form,
-        Leak::Enter { at: _, reg: _, form } => form,
-        Leak::Store { at: _, reg: _, form } => form,
-        Leak::Give { at: _, reg: _, form } => form,
-        Leak::Fault { at: _, reg: _, form } => form,
+        Leak::Jump {
+            at: _,
+            reg: _,
+            form,
+        } => form,
+        Leak::Enter {
+            at: _,
+            reg: _,
+            form,
+        } => form,
+        Leak::Store {
+            at: _,
+            reg: _,
+            form,
+        } => form,
+        Leak::Give {
+            at: _,
+            reg: _,
+            form,
+        } => form,
+        Leak::Fault {
+            at: _,
+            reg: _,
+            form,
+        } => form,
         _ => Form::Number(0),
     }
 }

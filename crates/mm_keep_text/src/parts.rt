@@ -134,8 +134,9 @@ fn put_writes(uses: &mut Uses, kernel: &Kernel, t: &Thread) -> Result<(), NoMemo
 {
     let origin = origin_numbers(&t.origin);
     let all = outcomes(kernel, t);
-    put_settings(uses, kernel, origin, t, all.as_slice())?;
-    put_stores(uses, origin, all.as_slice())
+    let list = all.as_slice();
+    put_settings(uses, kernel, origin, t, list)?;
+    put_stores(uses, origin, list)
 }
 
 /// The parts that all threads read.

@@ -92,7 +92,7 @@ fn put_origin<O: Sink>(text: &mut TextBuffer, out: &mut O, origin: &Origin)
 {
     match *origin {
         Origin::Door(p) => put_pointer(text, out, "door ", p),
-        Origin::Slot(number) => text.put(out, &[Text("slot "), Decimal(u64::from(number))]),
+        Origin::Slot(number) => text.put(out, &[Text("slot "), Decimal(number as u64)]),
     }
 }
 
@@ -132,7 +132,7 @@ fn put_form<O: Sink>(text: &mut TextBuffer, out: &mut O, form: &Form)
         Form::Number(bits) => put_word(text, out, Word::Int(bits)),
         Form::Pointer(p) => put_word(text, out, Word::Ptr(p)),
         Form::Integer => text.put(out, &[Text("int")]),
-        Form::Open(perm) => text.put(out, &[Text("ptr "), Decimal(u64::from(perm.code()))]),
+        Form::Open(perm) => text.put(out, &[Text("ptr "), Decimal(perm.code() as u64)]),
         Form::Any => text.put(out, &[Text("any")]),
         Form::Inside(p) => put_inside(text, out, p),
     }
@@ -146,11 +146,11 @@ fn put_inside<O: Sink>(text: &mut TextBuffer, out: &mut O, p: GuardedPtr)
         out,
         &[
             Text("in "),
-            Decimal(u64::from(p.perm().code())),
+            Decimal(p.perm().code() as u64),
             Text(" "),
             HexAddress(p.addr()),
             Text(" "),
-            Decimal(u64::from(p.log())),
+            Decimal(p.log() as u64),
         ],
     );
 }
@@ -190,7 +190,7 @@ fn put_leak<O: Sink>(text: &mut TextBuffer, out: &mut O, leak: &Leak)
         Leak::Give { at, reg, form } => put_place(text, out, "give ", at, reg, &form),
         Leak::FaultPointer { at } => text.put(out, &[Text("fault "), HexAddress(at), Text(" ip")]),
         Leak::Fault { at, reg, form } => put_place(text, out, "fault ", at, reg, &form),
-        Leak::Loose { slot } => text.put(out, &[Text("loose "), Decimal(u64::from(slot))]),
+        Leak::Loose { slot } => text.put(out, &[Text("loose "), Decimal(slot as u64)]),
     }
 }
 
@@ -213,7 +213,7 @@ fn put_place<O: Sink>(text: &mut TextBuffer, out: &mut O, verb: &str, at: u64, r
             Text(verb),
             HexAddress(at),
             Text(" "),
-            Decimal(u64::from(reg)),
+            Decimal(reg as u64),
             Text(" "),
         ],
     );

@@ -90,10 +90,13 @@ fn put_fetched(words: &mut BTreeSet<u64>, t: &Thread) -> Result<(), NoMemory>
     ensures each { OnOk result (AreAll (λ w. Contains words.old.keys w ⊎ Fetches t.now w) words.new.keys) }
     ensures words { OnOk result (AllByRecursion IsWord words.old.keys → AllByRecursion IsWord words.new.keys) }
 {
-    if let Some(word) = fetched_word(t) {
-        words.insert(word)?;
+    match fetched_word(t) {
+        Some(word) => {
+            words.insert(word)?;
+            Ok(())
+        }
+        None => Ok(()),
     }
-    Ok(())
 }
 
 /// The words that threads fetch.
