@@ -97,3 +97,11 @@ slots_are kept (s ∷ slots) = by (is_kernel_slot kept s) (slots_are kept slots)
         ≡ map OfSlot (map number_of (cond b (s ∷ filter (is_kernel_slot kept) slots) (filter (is_kernel_slot kept) slots)))
     by true rest = ap (λ (l : List Origin). OfSlot s.number ∷ l) rest
     by false rest = rest
+
+-- one element more in both lists
+pub zip_push : {A B : Type 0} (R : A → B → Type 0) (xs : List A) (ys : List B) (x : A) (y : B) → AllZip R xs ys → R x y
+    → AllZip R (xs ++ x ∷ []) (ys ++ y ∷ [])
+zip_push R [] [] x y h r = (r, tt)
+zip_push R [] (b ∷ ys) x y h r = absurd h
+zip_push R (a ∷ xs) [] x y h r = absurd h
+zip_push R (a ∷ xs) (b ∷ ys) x y h r = (h.0, zip_push R xs ys x y h.1 r)
