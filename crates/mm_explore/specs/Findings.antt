@@ -8,7 +8,7 @@ use Rattle.mm_model.specs.declared.slot.SlotState.{SlotState, TheVariants.{Runni
 use Rattle.mm_model.specs.{declared.step.{Step.Step, Tick.{Tick, TheVariants.Faulted}}, State.{State, output_of}}
 use Rattle.mm_model.specs.{Image.{Image, start}, Turn.Turned, Run.{turn_of, run}, Trace.{touches, group_in}}
 use Rattle.mm_model.specs.{Report.{same_bit, groups_of}, Counted.writes}
-use Rattle.mm_span.specs.Pairs.{EachPair}
+use Rattle.mm_span.specs.Spans.{Span, AreSpans}
 use Rattle.mm_explore.specs.Configurations.{moves}
 use Rattle.mm_explore.specs.Explored.{leads_to}
 

@@ -6,7 +6,7 @@ use Rattle.mm_model.specs.{Digits.hex, Lines.{newline, state_text, output_lines}
 use Rattle.mm_model.specs.{Image.{Image, start}, Slot.Slot, Run.run, Report.{groups_of, group_line}}
 use Rattle.mm_explore.specs.Explored.{IsExplored, IsAll}
 use Rattle.mm_explore.specs.Findings.{Extension, extended, Reached, IsReached, first_fault, AreFinal, outcome_at}
-use Rattle.mm_span.specs.Spans.{Span}
+use Rattle.mm_span.specs.Spans.{span_line}
 use Rattle.mm_explore.specs.Findings.{firsts, count_like}
 
 -- 1. Schedules.

@@ -11,6 +11,7 @@ use Rattle.mm_kernel.specs.{Segments.{Segment, is_kept}, declared.thread.Thread.
 use Rattle.mm_span.specs.Spans.{Span, AreSpans, IsWord}
 use Rattle.mm_span.proofs.{Members.{none_in, in_first, in_rest, all_at, all_of, in_filter, filter_in}, Runs.spans_alike}
 use Rattle.mm_keep_text.specs.Parts.{AreAll, IsHeld, IsHeldIn, InPages, SomeFetches, covers, IsIn}
+use Rattle.mm_keep_text.proofs.Uses.{one_fetch}
 use Rattle.mm_keep_text.proofs.Sets.{word_added, all_as, all_same, all_then, all_more, take_item, got_old, got_new, got_cases}
 
 -- 1. Kept words.
@@ -41,12 +42,6 @@ module _ (i : Image) (kept : List Segment) where
       (λ x k. elim k [ inl there ↦ inl there | inr own ↦ inr own.0 ])
       (word_added old w)
 
-  pub held_not : (old : List ℕ) (w : ℕ) → (IsHeld i kept w → ⊥) → AreAll (λ x. Contains old x ⊎ ((w ≡ x) × IsHeld i kept x)) old
-  held_not old w none = all_same (λ x. (w ≡ x) × IsHeld i kept x) old (λ x h. none (subst (IsHeld i kept) (sym h.0) h.1))
-
-  pub no_place : (old : List ℕ) (page : ℕ) → AreAll (λ x. Contains old x ⊎ IsHeldIn i kept page 0 x) old
-  no_place old page = all_same (IsHeldIn i kept page 0) old (λ x h. let low = h.low in omega (arith, low))
-
   -- one place more
   pub place_more : (old mid new : List ℕ) (page k : ℕ) → AreAll (λ x. Contains old x ⊎ IsHeldIn i kept page k x) mid
       → AreAll (λ x. Contains mid x ⊎ ((page * 4096 + 8 * k ≡ x) × IsHeld i kept x)) new
@@ -63,9 +58,6 @@ module _ (i : Image) (kept : List Segment) where
             inr (ap (λ n. page * 4096 + 8 * n) (sym same) ∙ r.at, r.held)
       ])
       h more
-
-  pub no_page : AreAll (InPages i kept []) []
-  no_page = record { each = λ x. (λ there. absurd (none_in x there), λ h. absurd (none_in h.page h.inside)) }
 
   -- one page more
   pub page_more : (pages : List (ℕ × List Cell)) (n : ℕ) (page : ℕ × List Cell) (mid new : List ℕ) → n < length pages → page ≡ get_or pages n page
@@ -105,9 +97,6 @@ module _ (i : Image) (kept : List Segment) where
 
 -- 2. Fetched words.
 
-one_fetch : (t : Thread) (v w : ℕ) → Fetches t v → Fetches t w → v ≡ w
-one_fetch t v w a b = let x = a.checked in let y = b.checked in let m = a.at in let n = b.at in cc
-
 pub fetch_added : (t : Thread) (old : List ℕ) (w : ℕ) → Fetches t w → AreAll (λ x. Contains old x ⊎ Fetches t x) (insert_key nat_cmp old w)
 fetch_added t old w f =
     all_as (λ x. Contains old x ⊎ (w ≡ x)) (λ x. Contains old x ⊎ Fetches t x) (insert_key nat_cmp old w)
@@ -120,9 +109,6 @@ words_added old w h all = all_of IsWord (insert_key nat_cmp old w) (λ x there. 
   | inl before ↦ all_at IsWord old x all before
   | inr e ↦ subst IsWord e h
 ])
-
-pub no_fetches : AreAll (SomeFetches []) []
-no_fetches = record { each = λ x. (λ there. absurd (none_in x there), λ h. absurd (none_in h.thread h.inside)) }
 
 -- one thread more
 pub fetches_more : (ts more : List Thread) (t : Thread) (mid new : List ℕ) → more ≡ ts ++ t ∷ []

@@ -1,4 +1,3 @@
-mod Fours
 mod Sets
 mod Listing
 mod Uses

@@ -10,7 +10,7 @@ use Rattle.mm_kernel.specs.declared.thread.{Origin.{Origin, TheVariants.{Door, S
 use Rattle.mm_kernel.specs.{Facts.Fact.{HasThread, HasForm, HasDoor, HasLeak}, Derived.{HasFirst, IsCode}}
 use Rattle.mm_kernel.specs.Uses.{IsUsed, Reads, Writes, HasMore, HasAtMost}
 use Rattle.mm_kernel.specs.Threads.{is_kernel_slot}
-use Rattle.mm_keep.specs.{Claims.Tables, Kernels.Kernel, Searching.IsExact}
+use Rattle.mm_keep.specs.{Claims.Tables, Searching.IsExact}
 use Rattle.mm_span.specs.Spans.{Span, AreSpans}
 use Rattle.mm_span.proofs.Runs.{spans_alike}
 use Rattle.mm_keep_text.specs.declared.{finding.Used.Used, told.Answer.{Answer, TheVariants.{More, Found}}}
@@ -69,19 +69,6 @@ module _ (i : Image) (kept : List Segment) (tables : Tables) (exact : IsExact i 
     leaks_ascend = leaks_up;
     leaks = λ l. (λ h. exact.sound (HasLeak l) ((each_leak l).0 h), λ d. (each_leak l).1 (exact.whole (HasLeak l) d));
   }
-
-module _ (i : Image) (kept : List Segment) (limit : ℕ) (k : Kernel) (image : k.image ≡ i) (own : k.kept ≡ kept) (user : is_user i ≡ true) where
-  pub more_is : HasMore k.image k.kept limit → IsAnswer i kept limit More
-  more_is h = (user, subst (λ j. HasMore j kept limit) image (subst (λ s. HasMore k.image s limit) own h))
-
-  pub found_is : (tables : Tables) → IsExact k.image k.kept tables → length tables.threads ≤ limit → (told : Told) → IsTold k.image k.kept told
-      → IsAnswer i kept limit (Found told)
-  found_is tables exact few told h =
-      let most : HasAtMost k.image k.kept limit = record { threads = tables.threads; whole = λ t d. exact.whole (HasThread t) d; few = few } in (
-        user,
-        subst (λ j. HasAtMost j kept limit) image (subst (λ s. HasAtMost k.image s limit) own most),
-        subst (λ j. IsTold j kept told) image (subst (λ s. IsTold k.image s told) own h),
-      )
 
 abbrev number_of : Slot → ℕ
 number_of s = s.number

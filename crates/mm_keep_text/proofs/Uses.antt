@@ -59,7 +59,8 @@ store_added old o part form x is =
     ])
     (use_added old (o, part))
 
-one_fetch : (t : Thread) (v w : ℕ) → Fetches t v → Fetches t w → v ≡ w
+-- a turn fetches one word
+pub one_fetch : (t : Thread) (v w : ℕ) → Fetches t v → Fetches t w → v ≡ w
 one_fetch t v w a b = let x = a.checked in let y = b.checked in let m = a.at in let n = b.at in cc
 
 pub fetch_used : (old : List Use) (o : ℕ × ℕ) (t : Thread) (w : ℕ) → Fetches t w → w % 8 ≡ 0
@@ -80,13 +81,6 @@ fetch_used old o t w f even =
 pub none_added : (P : Segment → Type 0) (old : List Use) (o : ℕ × ℕ) → ((part : Segment) → P part → ⊥)
     → AreAll (λ (u : Use). Contains old u ⊎ ((u.0 ≡ o) × P u.1)) old
 none_added P old o none = all_same (λ (u : Use). (u.0 ≡ o) × P u.1) old (λ u h. none u.1 h.1)
-
-none_is : (uses : Outcome → Segment → Type 0) (part : Segment) → SomeIs uses [] part → ⊥
-none_is uses part h = none_in h.outcome h.inside
-
-pub no_outcome : (uses : Outcome → Segment → Type 0) (old : List Use) (o : ℕ × ℕ)
-    → AreAll (λ (u : Use). Contains old u ⊎ ((u.0 ≡ o) × SomeIs uses [] u.1)) old
-no_outcome uses old o = none_added (SomeIs uses []) old o (none_is uses)
 
 -- one outcome more
 pub outcome_more : (uses : Outcome → Segment → Type 0) (o : ℕ × ℕ) (old mid new : List Use) (os : List Outcome) (i : ℕ) (x : Outcome)
@@ -196,9 +190,6 @@ thread_more uses ts more t b c is h k =
       | inr e ↦ inr (subst (λ x. UsedBy uses x u) (sym e) r.used)
     ])
     h k
-
-pub no_threads : (uses : Thread → Segment → Type 0) → AreAll (SomeUses uses []) []
-no_threads uses = record { each = λ u. (λ there. absurd (none_in u there), λ h. absurd (none_in h.thread h.inside)) }
 
 -- 3. Words that parts cover.
 

@@ -3,7 +3,8 @@ use Rattle.std.specs.Prelude.{◌≡◌, ℕ, ◌+◌, ◌-◌, true, ◌==◌, 
 use Rattle.std.specs.{Ordering.{is_lt, nat_cmp}, Cmp.Lexicographic.slice_cmp}
 use Rattle.mm_word.specs.{declared.perm.Perm.TheVariants.Key, Perm.{code_of, perm_of}}
 use Rattle.mm_word.specs.Pointer.{Pointer as PointerValue, bits_of, pointer_of}
-use Rattle.mm_kernel.specs.declared.{form.Form.{Form, TheVariants.{Number, Pointer, Integer, Open, Any, Inside}}, fact.Leak.Leak}
+use Rattle.mm_kernel.specs.declared.form.Form.{Form, TheVariants.{Number, Pointer, Integer, Open, Any, Inside}}
+use Rattle.mm_kernel.specs.declared.fact.Leak.{Leak}
 use Rattle.mm_kernel.specs.declared.fact.Leak.TheVariants as leak
 use Rattle.mm_span.specs.Pairs.{EachPair}
 

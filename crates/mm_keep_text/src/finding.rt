@@ -10,7 +10,7 @@ ghost use Rattle.mm_keep_text.specs.Answers.{IsAnswer, IsParty, IsTold, kernel_s
 ghost use Rattle.mm_keep_text.specs.Used.{IsUsing, slot_origins};
 
 use crate::lists::{cells, doors, leaks};
-use crate::parts::{Uses, origin_numbers, parts_of, reads, writes};
+use crate::parts::{Uses, origin_numbers, parts_of, put_uses};
 use crate::told::{Answer, Party, Told};
 use crate::words::{code_spans, covered_spans, kept_words};
 use mm_image::Image;
@@ -94,10 +94,16 @@ struct Used {
 fn all_used(alloc: Global, kernel: &Kernel, tables: &Tables) -> Result<Used, NoMemory>
     ensures { IfOk result (λ used. IsUsing kernel.now.image kernel.now.kept tables.now.threads used) }
 {
+    let words = kept_words(alloc, kernel)?;
+    let mut reads = BTreeSet::new(alloc);
+    let mut writes = BTreeSet::new(alloc);
+    for k in 0..tables.threads() {
+        put_uses(&mut reads, &mut writes, kernel, &tables.thread(k))?;
+    }
     Ok(Used {
-        words: kept_words(alloc, kernel)?,
-        reads: reads(alloc, kernel, tables)?,
-        writes: writes(alloc, kernel, tables)?,
+        words,
+        reads,
+        writes,
     })
 }
 

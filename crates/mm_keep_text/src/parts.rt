@@ -2,11 +2,12 @@
 
 ghost use Rattle.std.specs.Prelude.{◌≡◌, ◌⊎◌, ◌<◌, ◌^◌, ◌↔◌, ℕ, IfOk, OnOk, Contains};
 ghost use Rattle.mm_kernel.specs.Segments.{Segment};
+ghost use Rattle.mm_kernel.specs.Turns.{outcomes};
 ghost use Rattle.mm_kernel.specs.Uses.{SetsBit};
-ghost use Rattle.mm_keep_text.specs.Parts.{AreAll, IsFetch, IsLoad, IsStore, ReadsPart, SomeIs, SomeUses, Use, UsedBy, WritesPart};
-ghost use Rattle.mm_keep_text.specs.Parts.{origin_from, origin_numbers};
+ghost use Rattle.mm_keep_text.specs.Parts.{AreAll, IsFetch, IsLoad, IsStore, ReadsPart, SomeIs, Use};
+ghost use Rattle.mm_keep_text.specs.Parts.{UsedBy, WritesPart, origin_from, origin_numbers};
 
-use mm_keep::{Kernel, Tables, fetched_word, outcomes, sets_bit};
+use mm_keep::{Kernel, fetched_word, outcomes, sets_bit};
 use mm_kernel::{Origin, Outcome, Part, Thread};
 use mm_word::NoMemory;
 use std::alloc::Global;
@@ -50,8 +51,8 @@ fn put_load(uses: &mut Uses, origin: OriginNumbers, outcome: &Outcome) -> Result
 
 /// Adds each part from which one of the outcomes loads.
 fn put_loads(uses: &mut Uses, origin: OriginNumbers, outcomes: &[Outcome]) -> Result<(), NoMemory>
-    ensures { OnOk result (AreAll (λ (u : Use). Contains uses.old.keys u ⊎ ((u.0 ≡ origin) × SomeIs IsLoad outcomes.now u.1))
-        uses.new.keys) }
+    ensures { OnOk result (AreAll (λ (u : Use). Contains uses.old.keys u
+        ⊎ ((u.0 ≡ origin) × SomeIs IsLoad outcomes.now u.1)) uses.new.keys) }
 {
     for outcome in outcomes {
         put_load(uses, origin, outcome)?;
@@ -75,8 +76,8 @@ fn put_store(uses: &mut Uses, origin: OriginNumbers, outcome: &Outcome) -> Resul
 
 /// Adds each part to which one of the outcomes stores.
 fn put_stores(uses: &mut Uses, origin: OriginNumbers, outcomes: &[Outcome]) -> Result<(), NoMemory>
-    ensures { OnOk result (AreAll (λ (u : Use). Contains uses.old.keys u ⊎ ((u.0 ≡ origin) × SomeIs IsStore outcomes.now u.1))
-        uses.new.keys) }
+    ensures { OnOk result (AreAll (λ (u : Use). Contains uses.old.keys u
+        ⊎ ((u.0 ≡ origin) × SomeIs IsStore outcomes.now u.1)) uses.new.keys) }
 {
     for outcome in outcomes {
         put_store(uses, origin, outcome)?;
@@ -99,14 +100,14 @@ fn put_fetch(uses: &mut Uses, origin: OriginNumbers, t: &Thread) -> Result<(), N
 }
 
 /// Adds the parts that the turn of a thread reads: the word that it fetches, and those from which it may load.
-fn put_reads(uses: &mut Uses, kernel: &Kernel, t: &Thread) -> Result<(), NoMemory>
+fn put_reads(uses: &mut Uses, kernel: &Kernel, t: &Thread, all: &[Outcome]) -> Result<(), NoMemory>
+    requires { all.now ≡ outcomes kernel.now.image kernel.now.kept t.now }
     ensures { OnOk result (AreAll (λ (u : Use). Contains uses.old.keys u
         ⊎ UsedBy (ReadsPart kernel.now.image kernel.now.kept) t.now u) uses.new.keys) }
 {
     let origin = origin_numbers(&t.origin);
-    let all = outcomes(kernel, t);
     put_fetch(uses, origin, t)?;
-    put_loads(uses, origin, all.as_slice())
+    put_loads(uses, origin, all)
 }
 
 /// Adds each part from which one of the outcomes loads, if the turn's instruction sets the bit of the word.
@@ -128,39 +129,32 @@ fn put_settings(
 }
 
 /// Adds the parts that the turn of a thread writes: those to which it may store, or from which it loads and sets bits.
-fn put_writes(uses: &mut Uses, kernel: &Kernel, t: &Thread) -> Result<(), NoMemory>
+fn put_writes(uses: &mut Uses, kernel: &Kernel, t: &Thread, all: &[Outcome]) -> Result<(), NoMemory>
+    requires { all.now ≡ outcomes kernel.now.image kernel.now.kept t.now }
     ensures { OnOk result (AreAll (λ (u : Use). Contains uses.old.keys u
         ⊎ UsedBy (WritesPart kernel.now.image kernel.now.kept) t.now u) uses.new.keys) }
 {
     let origin = origin_numbers(&t.origin);
+    put_settings(uses, kernel, origin, t, all)?;
+    put_stores(uses, origin, all)
+}
+
+/// Adds the parts that the turn of a thread reads, and those that it writes.
+pub(crate) fn put_uses(
+    reads: &mut Uses,
+    writes: &mut Uses,
+    kernel: &Kernel,
+    t: &Thread,
+) -> Result<(), NoMemory>
+    ensures reads { OnOk result (AreAll (λ (u : Use). Contains reads.old.keys u
+        ⊎ UsedBy (ReadsPart kernel.now.image kernel.now.kept) t.now u) reads.new.keys) }
+    ensures writes { OnOk result (AreAll (λ (u : Use). Contains writes.old.keys u
+        ⊎ UsedBy (WritesPart kernel.now.image kernel.now.kept) t.now u) writes.new.keys) }
+{
     let all = outcomes(kernel, t);
     let list = all.as_slice();
-    put_settings(uses, kernel, origin, t, list)?;
-    put_stores(uses, origin, list)
-}
-
-/// The parts that all threads read.
-pub(crate) fn reads(alloc: Global, kernel: &Kernel, tables: &Tables) -> Result<Uses, NoMemory>
-    ensures { IfOk result (λ uses. AreAll (SomeUses (ReadsPart kernel.now.image kernel.now.kept) tables.now.threads)
-        uses.keys) }
-{
-    let mut uses = BTreeSet::new(alloc);
-    for k in 0..tables.threads() {
-        put_reads(&mut uses, kernel, &tables.thread(k))?;
-    }
-    Ok(uses)
-}
-
-/// The parts that all threads write.
-pub(crate) fn writes(alloc: Global, kernel: &Kernel, tables: &Tables) -> Result<Uses, NoMemory>
-    ensures { IfOk result (λ uses. AreAll (SomeUses (WritesPart kernel.now.image kernel.now.kept) tables.now.threads)
-        uses.keys) }
-{
-    let mut uses = BTreeSet::new(alloc);
-    for k in 0..tables.threads() {
-        put_writes(&mut uses, kernel, &tables.thread(k))?;
-    }
-    Ok(uses)
+    put_reads(reads, kernel, t, list)?;
+    put_writes(writes, kernel, t, list)
 }
 
 /// The parts that the threads of an origin use.
@@ -170,7 +164,8 @@ pub(crate) fn parts_of(
     origin: OriginNumbers,
 ) -> Result<Vec<Part>, NoMemory>
     requires { origin.1 < 2 ^ 63 }
-    ensures { IfOk result (λ parts. (part : Segment) → Contains parts.items part ↔ Contains uses.now.keys (origin, part)) }
+    ensures { IfOk result (λ parts. (part : Segment)
+        → Contains parts.items part ↔ Contains uses.now.keys (origin, part)) }
 {
     let mut parts = Vec::new(alloc);
     let next = (origin.0, origin.1 + 1);

@@ -21,8 +21,8 @@ use mm_word::{GuardedPtr, Word};
 
 /// Writes what a kernel keeps:
 ///
-/// - `keeps privileged` if somebody has a pointer to privileged code, or `keeps more` if there are more threads than may
-///   be found, and no more lines;
+/// - `keeps privileged` if somebody has a pointer to privileged code, or `keeps more` if there are more threads than
+///   may be found, and no more lines;
 /// - else `keeps yes` if there is no leak, and `keeps no` if there is one;
 /// - for each door, ascending, `door POINTER`, and then for each slot of the kernel `slot S`, both followed by
 ///   `reads ADDRESS COUNT` for each run of kept words that a thread from there reads, and `writes ADDRESS COUNT` for

@@ -1,5 +1,5 @@
 use Rattle.std.proofs.Common.{◌≡◌, ◌++◌, ◌<◌, [], List, ℕ, ap, ◌∙◌, sym, subst, append-nil}
-use Rattle.std.{proofs.lemmas.Map.Iter.rest_all, specs.{Prelude.Contains, Map.Iter.deref, List.AllByRecursion}}
+use Rattle.std.{proofs.lemmas.{Map.Iter.rest_all, Result.IfOk-weaker}, specs.{Prelude.{Contains, IfOk}, Map.Iter.deref, List.AllByRecursion}}
 use Rattle.mm_span.specs.{Pairs.EachPair, Spans.{AreSpans, IsWord}}
 use Rattle.mm_span.proofs.Runs.{spans_alike}
 use Rattle.mm_explore.specs.Words.{words_in}
@@ -18,4 +18,12 @@ finish-requires c =
     }
 
 pub returns : goal.returns
-returns c = ?
+returns c =
+    let keys = c.args.words.now.keys in
+    let group = c.args.group in
+    let none : c.loop-key.key-iterator ≡ [] = rest_all deref c.loop-key.key-iterator c.next.new.self c.next.result c.in-None.is c.next.ensures.steps in
+    let whole = words_so_far group c.loop-key.spans c.loop-key.key-iterator keys none c.loop-key.invariant.whole in
+    let P : List ℕ → Type 0 = λ ws. IfOk c.finish.result (λ spans. AreSpans (Contains ws) spans.items) in
+    IfOk-weaker c.finish.result (λ spans. AreSpans (Contains (words_in group keys)) spans.items) (λ spans. AreSpans (λ word. Contains keys (group, word)) spans.items)
+    (λ spans h. spans_alike (Contains (words_in group keys)) (λ word. Contains keys (group, word)) (key_of_word group keys) (word_of_key group keys) spans.items h)
+    (subst P whole c.finish.ensures)

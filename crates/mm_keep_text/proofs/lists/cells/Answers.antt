@@ -30,7 +30,7 @@ loop-k-preserved c =
 pub returns-clause-ascend : goal.returns-clause-ascend
 returns-clause-ascend c =
     let some = items_from_collect c.collect.result c.collect.ensures.ran
-        (YieldsList-from_copied (YieldsList-at c.copied.ensures.source (YieldsList-from_rest (values_of c.loop-k.listed.entries) c.values.ensures.rest))) in
+    (YieldsList-from_copied (YieldsList-at c.copied.ensures.source (YieldsList-from_rest (values_of c.loop-k.listed.entries) c.values.ensures.rest))) in
     let items = rw c.in_ok-collect.was at some in
     let N : ℕ × Form → Type 0 = λ x. HasFirst c.args.kernel.now.image c.args.kernel.now.kept x.0 x.1 in
     listed_ascend cell_key cell_from (λ x. Contains (take c.loop-k.k c.args.tables.now.stored) x × (N x → ⊥)) c.loop-k.listed.entries c.in_ok-collect.field-0.items items
@@ -39,7 +39,7 @@ returns-clause-ascend c =
 pub returns-clause-each : goal.returns-clause-each
 returns-clause-each c =
     let some = items_from_collect c.collect.result c.collect.ensures.ran
-        (YieldsList-from_copied (YieldsList-at c.copied.ensures.source (YieldsList-from_rest (values_of c.loop-k.listed.entries) c.values.ensures.rest))) in
+    (YieldsList-from_copied (YieldsList-at c.copied.ensures.source (YieldsList-from_rest (values_of c.loop-k.listed.entries) c.values.ensures.rest))) in
     let items = rw c.in_ok-collect.was at some in
     let N : ℕ × Form → Type 0 = λ x. HasFirst c.args.kernel.now.image c.args.kernel.now.kept x.0 x.1 in
     let end = c.stored-k-end.ensures in

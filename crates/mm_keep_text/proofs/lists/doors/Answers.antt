@@ -14,14 +14,14 @@ loop-k-preserved c =
 pub returns-clause-ascend : goal.returns-clause-ascend
 returns-clause-ascend c =
     let some = items_from_collect c.collect.result c.collect.ensures.ran
-        (YieldsList-from_copied (YieldsList-at c.copied.ensures.source (YieldsList-from_rest (values_of c.loop-k.listed.entries) c.values.ensures.rest))) in
+    (YieldsList-from_copied (YieldsList-at c.copied.ensures.source (YieldsList-from_rest (values_of c.loop-k.listed.entries) c.values.ensures.rest))) in
     let items = rw c.in_ok-collect.was at some in
     listed_ascend pointer_key pointer_from (Contains (take c.loop-k.k c.args.tables.now.doors)) c.loop-k.listed.entries c.in_ok-collect.field-0.items items c.loop-k.invariant c.values.ensures.ordered
 
 pub returns-clause-each : goal.returns-clause-each
 returns-clause-each c =
     let some = items_from_collect c.collect.result c.collect.ensures.ran
-        (YieldsList-from_copied (YieldsList-at c.copied.ensures.source (YieldsList-from_rest (values_of c.loop-k.listed.entries) c.values.ensures.rest))) in
+    (YieldsList-from_copied (YieldsList-at c.copied.ensures.source (YieldsList-from_rest (values_of c.loop-k.listed.entries) c.values.ensures.rest))) in
     let items = rw c.in_ok-collect.was at some in
     let end = c.doors-k-end.ensures in
     let long : length c.args.tables.now.doors ≤ c.loop-k.k = omega (arith, end) in
