@@ -1,7 +1,7 @@
 -- The longest runs of the words for which something holds are determined.
 use Rattle.std.proofs.Common.{◌≡◌, ◌⊎◌, inl, inr, ℕ, zero, suc, ◌<◌, ◌≤◌, List, [], ◌∷◌, refl, sym, ap, ◌∙◌, subst, arith}
-use Rattle.std.specs.{Prelude.Contains, List.AllByRecursion}
-use Rattle.mm_span.specs.{Pairs.EachPair, Spans.{Span, word_in, IsApart, AreSpans}}
+use Rattle.std.specs.{List.AllByRecursion}
+use Rattle.mm_span.specs.{Spans.{Span, word_in, IsApart, AreSpans}}
 use Rattle.mm_span.proofs.Members.{none_in, in_cases, all_at}
 
 -- the order of two numbers
