@@ -24,7 +24,7 @@ use Rattle.mm_thread.specs.Parts.{events_for, row_with, outputs_with}
 use Rattle.mm_explore.specs.Configurations.{uncounted_slot, uncounted_row, configuration}
 use Rattle.mm_explore.specs.Kept.{output_part, parts_of}
 use Rattle.mm_explore.specs.Assembled.{base_page, base_memory, put_cells, assembled, IsStateOf}
-use Rattle.mm_explore.proofs.Members.{none_in, in_first, in_rest, in_cases, in_filter}
+use Rattle.mm_span.proofs.Members.{none_in, in_first, in_rest, in_cases, in_filter}
 
 -- 1. Rows.
 

@@ -3,7 +3,8 @@ use Rattle.std.{proofs.Common.{◌≡◌, inl, inr, ℕ, List, [], ◌∷◌, re
 use Rattle.mm_model.specs.{State.State, Image.{Image, start}, Run.{after, run}}
 use Rattle.mm_explore.specs.{Configurations.configuration, Schedules.Before, Explored.{leads_to, IsLeast, IsExplored}}
 use Rattle.mm_explore.specs.{Laws.GoOnAlike, Searching.{UpTo, Cover}}
-use Rattle.mm_explore.proofs.{Orders.{up_to_before, before_up_to, before_self, before_rec, more}, Members.all_at}
+use Rattle.mm_explore.proofs.Orders.{up_to_before, before_up_to, before_self, before_rec, more}
+use Rattle.mm_span.proofs.Members.{all_at}
 use Rattle.mm_explore.proofs.Goings.{configurations_go_on}
 
 -- 1. Runs with one item more.

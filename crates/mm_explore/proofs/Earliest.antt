@@ -2,13 +2,16 @@
 use Rattle.std.proofs.Common.{◌≡◌, inl, inr, ℕ, ◌<◌, Bool, true, List, [], ◌∷◌, Some, refl, sym, ap, ◌∙◌, subst}
 use Rattle.std.specs.{Prelude.Contains, List.flat_map}
 use Rattle.mm_model.specs.{Image.{Image, start}, Spelling.IsImage, Run.run}
-use Rattle.mm_explore.specs.{Pairs.EachPair, Configurations.moves, Schedules.Before, Explored.IsExplored}
+use Rattle.mm_span.specs.Pairs.{EachPair}
+use Rattle.mm_explore.specs.Configurations.{moves}
+use Rattle.mm_explore.specs.Schedules.{Before}
+use Rattle.mm_explore.specs.Explored.{IsExplored}
 use Rattle.mm_explore.specs.Findings.{Extension, extended, turn_at, extensions, explored_turns, has_fault, first_fault}
 use Rattle.mm_explore.specs.Findings.{IsFinal, AreFinal, firsts}
 use Rattle.mm_explore.specs.{Laws.{MeetsFault, MeetsOutcome, IsFirst, FindingsAreMet}, Searching.Cover}
 use Rattle.mm_explore.proofs.Orders.{before_self, before_up_to, up_to_before, before_front, up_to_both, before_both}
 use Rattle.mm_explore.proofs.Orders.{before_items}
-use Rattle.mm_explore.proofs.Members.{all_at, map_in, flat_in, pairs_both, pairs_map, first_found, found_in}
+use Rattle.mm_span.proofs.Members.{all_at, map_in, flat_in, pairs_both, pairs_map, first_found, found_in}
 use Rattle.mm_explore.proofs.{Goings.same_outcomes, Movings.runs_rise, Coverings.{covers, alike}}
 use Rattle.mm_explore.proofs.Finals.{final_in, is_final, finals_in_order, firsts_inside, first_earliest}
 use Rattle.mm_explore.proofs.FoundOnRuns.{faulting_moves, explores, final_alike}

@@ -6,11 +6,12 @@ use Rattle.std.specs.{Prelude.Contains, List.list_any}
 use lib.Pointwise.{pointwise, pointwise_decides}
 use Rattle.mm_model.proofs.Sames.{bits_same, bit_self}
 use Rattle.mm_model.specs.{declared.slot.SlotState.SlotState, Image.Image, Report.same_bit}
-use Rattle.mm_explore.specs.{Schedules.Before, Pairs.EachPair}
+use Rattle.mm_explore.specs.Schedules.{Before}
+use Rattle.mm_span.specs.Pairs.{EachPair}
 use Rattle.mm_explore.specs.Findings.{IsFinal, AreFinal, Outcome, outcome_at, state_number, same_state, same_outcome}
 use Rattle.mm_explore.specs.{Findings.{firsts_after, firsts}, Kept.state_at}
 use Rattle.mm_explore.proofs.{SlotForms.state_back, Orders.{before_self, before_through}}
-use Rattle.mm_explore.proofs.Members.{none_in, in_first, in_rest, in_cases, all_at, all_of}
+use Rattle.mm_span.proofs.Members.{none_in, in_first, in_rest, in_cases, all_at, all_of}
 
 -- 1. Outcomes that are tested to be the same are the same.
 

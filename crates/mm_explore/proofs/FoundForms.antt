@@ -5,7 +5,8 @@ use Rattle.std.proofs.Common.{append_assoc, length-append}
 use Rattle.std.proofs.lemmas.{Bool.{cases_Bool, both_ways, or_cases, or_parts}, List.{length-map, reverse-append}}
 use Rattle.std.specs.{Prelude.{Contains, Some, slice_get, if◌then◌else◌, Result, Ok, Err, OnOk}, List.list_any}
 use lib.Pointwise.{pointwise, pointwise_decides}
-use Rattle.mm_explore.proofs.{Finals.numbers_decide, Members.{none_in, in_first, in_rest, in_cases}}
+use Rattle.mm_explore.proofs.Finals.{numbers_decide}
+use Rattle.mm_span.proofs.Members.{none_in, in_first, in_rest, in_cases}
 use Rattle.mm_explore.specs.{declared.found.Origin.Origin, FoundLists.{FoundList, led_by, spelled, AreEarlier}}
 
 -- 1. What is kept.

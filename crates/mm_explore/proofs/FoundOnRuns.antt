@@ -8,7 +8,8 @@ use Rattle.mm_explore.specs.{Configurations.moves, Explored.{leads_to, IsLeast}}
 use Rattle.mm_explore.specs.Findings.{Extension, turn_at, extensions, explored_turns, any_kind, Reaches, has_fault}
 use Rattle.mm_explore.specs.Findings.{first_fault, IsFinal, AreFinal, outcome_at, firsts}
 use Rattle.mm_explore.specs.Laws.{GoesOnAlike, ExploredIsAll}
-use Rattle.mm_explore.proofs.{Members.{none_in, in_map, in_flat, all_at, finds_some}, Goings.same_outcomes}
+use Rattle.mm_span.proofs.Members.{none_in, in_map, in_flat, all_at, finds_some}
+use Rattle.mm_explore.proofs.Goings.{same_outcomes}
 use Rattle.mm_explore.proofs.{Movings.moves_or_idles, Coverings.{alike, leads_alike}, Orders.more}
 use Rattle.mm_explore.proofs.Finals.{final_in, first_of}
 

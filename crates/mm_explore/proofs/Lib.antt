@@ -1,6 +1,5 @@
 pub mod Uncounted
 pub mod Orders
-pub mod Members
 pub mod Goings
 pub mod Movings
 pub mod Coverings
@@ -34,7 +33,6 @@ pub mod Steps
 pub mod Notings
 pub mod Repeats
 pub mod WordKeys
-pub mod Spans
 pub mod Tallies
 pub mod EndTexts
 pub mod ResultTexts

@@ -12,7 +12,8 @@ use Rattle.mm_explore.specs.Results.{Results, GroupFound, group_found_lines, fau
 use Rattle.mm_explore.specs.Results.{explored_text}
 use Rattle.mm_explore.specs.Texts.{Exploration, exploration_text, reached_lines, faults_of, extent_text}
 use Rattle.mm_explore.specs.Words.{AreKept, IsGroupFound, passed_words, turn_words}
-use Rattle.mm_explore.proofs.{Members.{none_in, in_first, in_cases, in_flat, flat_in}, Spans.spans_alike}
+use Rattle.mm_span.proofs.Members.{none_in, in_first, in_cases, in_flat, flat_in}
+use Rattle.mm_span.proofs.Runs.{spans_alike}
 use Rattle.mm_explore.specs.Texts as texts
 
 -- 1. Words.

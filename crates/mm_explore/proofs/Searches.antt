@@ -5,13 +5,15 @@ use Rattle.std.proofs.lemmas.List.Elements.{Contains-append_left, Contains-appen
 use Rattle.std.proofs.lemmas.List.Elements.{Contains-push_cases}
 use Rattle.std.specs.{Prelude.Contains, List.{AllByRecursion, flat_map}}
 use Rattle.mm_model.{proofs.CoreRows.each_push, specs.{Image.{Image, start}, Spelling.IsImage, Run.run}}
-use Rattle.mm_explore.specs.{Pairs.EachPair, Configurations.moves, Schedules.Before}
+use Rattle.mm_span.specs.Pairs.{EachPair}
+use Rattle.mm_explore.specs.Configurations.{moves}
+use Rattle.mm_explore.specs.Schedules.{Before}
 use Rattle.mm_explore.specs.Explored.{leads_to, IsLeast, IsAll}
 use Rattle.mm_explore.specs.Findings.{Extension, extended, extensions, explored_turns}
 use Rattle.mm_explore.specs.Searching.{UpTo, Cover, Open, IsSearched}
 use Rattle.mm_explore.proofs.Orders.{before_self, before_through, before_cases, before_more, up_to_before, up_to_both}
 use Rattle.mm_explore.proofs.Orders.{up_to_through, nothing_before, before_rec, more, length_more}
-use Rattle.mm_explore.proofs.Members.{none_in, in_first, in_rest, in_cases, all_at, all_of, map_in, pairs_both}
+use Rattle.mm_span.proofs.Members.{none_in, in_first, in_rest, in_cases, all_at, all_of, map_in, pairs_both}
 use Rattle.mm_explore.proofs.{Movings.{moves_or_idles, idle_leads}, Coverings.{leads_alike, leads_more}}
 use Rattle.mm_explore.proofs.{FoundOnRuns.explores, Earliest.{Earlier, turns_in_order}}
 

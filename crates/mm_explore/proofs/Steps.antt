@@ -7,7 +7,8 @@ use Rattle.std.specs.List.{AllByRecursion, flat_map}
 use Rattle.mm_model.proofs.CoreRows.{each_push}
 use Rattle.mm_model.specs.{Fits.slots_of, Image.{Image, start}, Slot.Slot, Report.groups_of, Spelling.IsImage, Run.run}
 use Rattle.mm_explore.proofs.{FoundForms.map_push, Keepables.parts_again}
-use Rattle.mm_explore.proofs.{KeptRuns.{kept_alike, kept_apart, runs_state_of}, Members.{in_map, map_in, all_at}}
+use Rattle.mm_explore.proofs.KeptRuns.{kept_alike, kept_apart, runs_state_of}
+use Rattle.mm_span.proofs.Members.{in_map, map_in, all_at}
 use Rattle.mm_explore.proofs.{MoveForms.{moves_are, small_numbers}, Notings.{noted_more, ended_more}}
 use Rattle.mm_explore.proofs.Searches.{IsNew, search_begins, search_known, search_new, search_full, search_ends}
 use Rattle.mm_explore.specs.declared.found.{Looked.{Looked, TheVariants.{Known, New, Full}}, Origin.Origin}

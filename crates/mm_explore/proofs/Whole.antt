@@ -10,7 +10,9 @@ use Rattle.mm_model.{specs.Fits.IsCore, proofs.{CoreRows.each_map, Fitted.{core_
 use Rattle.mm_thread.specs.{Output.Output, Parts.{core_of, AreParts}}
 use Rattle.mm_explore.specs.Configurations.{uncounted_slot, uncounted_row, uncounted, configuration}
 use Rattle.mm_explore.specs.{Kept.{output_part, parts_of}, Assembled.{assembled, IsStateOf}}
-use Rattle.mm_explore.proofs.{Members.in_map, Uncounted.{uncounted_one, slot_at_so, queue_at_so}, Assembling.assembles}
+use Rattle.mm_span.proofs.Members.{in_map}
+use Rattle.mm_explore.proofs.Uncounted.{uncounted_one, slot_at_so, queue_at_so}
+use Rattle.mm_explore.proofs.Assembling.{assembles}
 
 -- 1. Slots with no counts.
 

@@ -1,5 +1,5 @@
 -- Words that are kept in order, each with its group.
-use Rattle.std.proofs.Common.{◌≡◌, ◌⊎◌, inl, inr, ℕ, ◌%◌, ◌<◌, ◌==◌, Bool, true, false, if◌then◌else◌, List, [], ◌∷◌}
+use Rattle.std.proofs.Common.{◌≡◌, ◌⊎◌, inl, inr, ℕ, ◌<◌, ◌==◌, Bool, true, false, if◌then◌else◌, List, [], ◌∷◌}
 use Rattle.std.proofs.Common.{◌++◌, Option, Some, refl, sym, ap, ◌∙◌, subst, eqb-true, eq-eqb, append_assoc, append-nil}
 use Rattle.std.proofs.lemmas.Map.{Keys.{sorted_head, sorted_tail}, Lookups.{exact_pairs, exact_unsigned}}
 use Rattle.std.proofs.lemmas.List.Elements.{Contains-append_left, Contains-push, Contains-push_cases}
@@ -8,8 +8,10 @@ use Rattle.std.specs.{Prelude.Contains, List.{AllByRecursion, flat_map, Sorted.I
 use Rattle.std.specs.declared.cmp.Ordering.{Ordering, TheVariants.{Less, Equal, Greater}}
 use Rattle.std.specs.{Ordering.{match_ordering, nat_cmp, ordering_then, MatchOrdering}, Cmp.{nat_cmp_is, ranks}}
 use Rattle.std.specs.{BTreeSet.insert_key, Option.option_to_list}
-use Rattle.mm_explore.specs.{Pairs.EachPair, Words.{order, AreKept, IsWordKey, words_in, passed_words, step_words}}
-use Rattle.mm_explore.{specs.Findings.any_kind, proofs.Members.{none_in, in_first, in_rest, in_cases, all_at, all_of}}
+use Rattle.mm_span.specs.{Pairs.EachPair, Spans.IsWord}
+use Rattle.mm_explore.specs.Words.{order, AreKept, IsWordKey, words_in, passed_words, step_words}
+use Rattle.mm_explore.specs.Findings.{any_kind}
+use Rattle.mm_span.proofs.Members.{none_in, in_first, in_rest, in_cases, all_at, all_of}
 use Rattle.mm_word.specs.{declared.perm.Kind.Kind, Access.AccessValue}
 use Rattle.mm_model.specs.{declared.step.Step.Step, Counted.writes}
 
@@ -101,9 +103,13 @@ key_of_word group (key ∷ keys) word h = by (key_of_word group keys word) (key.
     ]
     by rest false e there = in_rest key keys (group, word) (rest there)
 
-pub words_aligned : (group : ℕ) (keys : List (ℕ × ℕ)) → AllByRecursion IsWordKey keys → AllByRecursion (λ w. w % 8 ≡ 0) (words_in group keys)
-words_aligned group keys h =
-    all_of (λ w. w % 8 ≡ 0) (words_in group keys) (λ w there. (all_at IsWordKey keys (group, w) h (key_of_word group keys w there)).0)
+pub words_whole : (group : ℕ) (keys : List (ℕ × ℕ)) → AllByRecursion IsWordKey keys → AllByRecursion IsWord (words_in group keys)
+words_whole group keys h =
+    all_of IsWord (words_in group keys) (λ w there. all_at IsWordKey keys (group, w) h (key_of_word group keys w there))
+
+-- no keys are left after the words so far
+pub words_so_far : (group : ℕ) (words : List ℕ) (left keys : List (ℕ × ℕ)) → left ≡ [] → words ++ words_in group left ≡ words_in group keys → words ≡ words_in group keys
+words_so_far group words left keys none whole = sym (append-nil words) ∙ ap (λ l. words ++ words_in group l) (sym none) ∙ whole
 
 less_word : (key : ℕ × ℕ) (group w : ℕ) → key.0 ≡ group → order key (group, w) ≡ Less → key.1 < w
 less_word key group w same e =

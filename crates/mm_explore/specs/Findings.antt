@@ -8,7 +8,9 @@ use Rattle.mm_model.specs.declared.slot.SlotState.{SlotState, TheVariants.{Runni
 use Rattle.mm_model.specs.{declared.step.{Step.Step, Tick.{Tick, TheVariants.Faulted}}, State.{State, output_of}}
 use Rattle.mm_model.specs.{Image.{Image, start}, Turn.Turned, Run.{turn_of, run}, Trace.{touches, group_in}}
 use Rattle.mm_model.specs.{Report.{same_bit, groups_of}, Counted.writes}
-use Rattle.mm_explore.specs.{Pairs.EachPair, Configurations.moves, Explored.leads_to}
+use Rattle.mm_span.specs.Spans.{Span, AreSpans}
+use Rattle.mm_explore.specs.Configurations.{moves}
+use Rattle.mm_explore.specs.Explored.{leads_to}
 
 -- 1. The turns explored.
 
@@ -47,31 +49,6 @@ pub record Reaches (passes : Kind → Bool) (i : Image) (list : List (List ℕ))
   pub kind : passes access.kind ≡ true
   pub by : group_in (turn_at i turn) ≡ group
   pub at : access.addr ≡ word
-
--- a run of consecutive words: its first word and how many there are
-pub record Span : Type 0 where
-  pub first : ℕ
-  pub count : ℕ
-
--- the word at an index of a run
-abbrev pub word_in : Span → ℕ → ℕ
-word_in span k = span.first + 8 * k
-
-pub record InSpan (word : ℕ) (span : Span) : Type 0 where
-  pub index : ℕ
-  pub within : index < span.count
-  pub at : word_in span index ≡ word
-
--- a run ends before another begins, with at least a word between them
-abbrev pub IsApart : Span → Span → Type 0
-IsApart a b = word_in a a.count < b.first
-
--- the spans are the longest runs of words for which something holds, ascending
-pub record AreSpans (holds : ℕ → Type 0) (spans : List Span) : Type 0 where
-  pub some : AllByRecursion (λ span. 0 < span.count) spans
-  pub apart : EachPair IsApart spans
-  pub only : AllByRecursion (λ span. (k : ℕ) → k < span.count → holds (word_in span k)) spans
-  pub each : (word : ℕ) → holds word → (span : Span) × Contains spans span × InSpan word span
 
 -- what a group touched and what it wrote
 pub record Reached : Type 0 where

@@ -1,4 +1,3 @@
-pub mod Pairs
 pub mod Configurations
 pub mod Schedules
 pub mod Explored

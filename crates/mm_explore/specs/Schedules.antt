@@ -1,6 +1,6 @@
 -- The order of schedules, which are lists of items.
 use Rattle.std.specs.Prelude.{◌≡◌, ◌⊎◌, ℕ, ◌<◌, List, ◌∷◌, length}
-use Rattle.mm_explore.specs.Pairs.{EachPair}
+use Rattle.mm_span.specs.Pairs.{EachPair}
 
 -- at the first place where two schedules differ, this one has the lesser item
 abbrev pub IsLess : List ℕ → List ℕ → Type 0

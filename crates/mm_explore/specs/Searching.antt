@@ -6,7 +6,10 @@ use Rattle.mm_explore.specs.declared.found.{Looked.{Looked, TheVariants.{Known, 
 use Rattle.mm_explore.specs.{declared.search.{Node.Node, Search.Search}, Benches.{IsAtSomeConfiguration, ArePartsAt}}
 use Rattle.mm_explore.specs.{Configurations.moves, Explored.{leads_to, IsLeast, IsExplored, IsAll}}
 use Rattle.mm_explore.specs.Findings.{Extension, extended, extensions, explored_turns, IsFinal}
-use Rattle.mm_explore.specs.{FoundLists.{Holds, Looks}, Noting.{Noted, Ended}, Pairs.EachPair, Schedules.Before}
+use Rattle.mm_explore.specs.FoundLists.{Holds, Looks}
+use Rattle.mm_explore.specs.Noting.{Noted, Ended}
+use Rattle.mm_span.specs.Pairs.{EachPair}
+use Rattle.mm_explore.specs.Schedules.{Before}
 
 -- 1. The list that is found.
 

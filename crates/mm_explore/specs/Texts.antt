@@ -5,7 +5,8 @@ use Rattle.mm_word.specs.Cause.{cause_numbers}
 use Rattle.mm_model.specs.{Digits.hex, Lines.{newline, state_text, output_lines}, State.{ThreadRow, State, output_of}}
 use Rattle.mm_model.specs.{Image.{Image, start}, Slot.Slot, Run.run, Report.{groups_of, group_line}}
 use Rattle.mm_explore.specs.Explored.{IsExplored, IsAll}
-use Rattle.mm_explore.specs.Findings.{Extension, extended, Span, Reached, IsReached, first_fault, AreFinal, outcome_at}
+use Rattle.mm_explore.specs.Findings.{Extension, extended, Reached, IsReached, first_fault, AreFinal, outcome_at}
+use Rattle.mm_span.specs.Spans.{span_line}
 use Rattle.mm_explore.specs.Findings.{firsts, count_like}
 
 -- 1. Schedules.
@@ -38,13 +39,10 @@ by_line items = codes "by" ++ flat_map repeat_text (repeats_of items) ++ newline
 
 -- 2. The lines of words.
 
-abbrev pub word_line : List ℕ → Span → List ℕ
-word_line verb span = verb ++ hex 14 span.first ++ codes " " ++ decimal span.count ++ newline
-
 unfoldable pub reached_lines : ℕ → Reached → List ℕ
 reached_lines group r =
     codes "group " ++ decimal group ++ newline
-    ++ flat_map (word_line (codes "touched ")) r.touched ++ flat_map (word_line (codes "wrote ")) r.wrote
+    ++ flat_map (span_line (codes "touched ")) r.touched ++ flat_map (span_line (codes "wrote ")) r.wrote
 
 -- 3. The lines of faults.
 

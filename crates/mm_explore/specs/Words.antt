@@ -1,10 +1,12 @@
--- The words that groups touch and write, each with its group, and the runs of ascending words.
-use Rattle.std.specs.Prelude.{◌≡◌, ℕ, ◌+◌, ◌%◌, ◌^◌, ◌<◌, Bool, ◌==◌, if◌then◌else◌, List, [], ◌∷◌, Contains, Option}
-use Rattle.std.specs.{Prelude.{Some, None}, List.{AllByRecursion, flat_map}, Ordering.{nat_cmp, ordering_then}}
+-- The words that groups touch and write, each with its group.
+use Rattle.std.specs.Prelude.{◌≡◌, ℕ, Bool, ◌==◌, if◌then◌else◌, List, [], ◌∷◌, Contains}
+use Rattle.std.specs.{List.{AllByRecursion, flat_map}, Ordering.{nat_cmp, ordering_then}}
 use Rattle.std.specs.declared.cmp.Ordering.{Ordering}
 use Rattle.mm_word.specs.{declared.perm.Kind.Kind, Access.AccessValue}
 use Rattle.mm_model.specs.{declared.step.Step.Step, Image.Image, Trace.{touches, group_in}}
-use Rattle.mm_explore.specs.{Findings.{Span, word_in, AreSpans, Extension, turn_at}, Results.GroupFound}
+use Rattle.mm_span.specs.Spans.{AreSpans, IsWord}
+use Rattle.mm_explore.specs.Findings.{Extension, turn_at}
+use Rattle.mm_explore.specs.Results.{GroupFound}
 
 -- the order of groups and words
 abbrev pub order : ℕ × ℕ → ℕ × ℕ → Ordering
@@ -24,7 +26,7 @@ turn_words passes i x = step_words passes (group_in (turn_at i x)) (turn_at i x)
 
 -- a group and the address of a word
 abbrev pub IsWordKey : ℕ × ℕ → Type 0
-IsWordKey key = (key.1 % 8 ≡ 0) × (key.1 < 2 ^ 54)
+IsWordKey key = IsWord key.1
 
 -- the keys are these words, each of them once or more
 pub record AreKept (words keys : List (ℕ × ℕ)) : Type 0 where
@@ -42,12 +44,3 @@ pub record IsGroupFound (touched wrote : List (ℕ × ℕ)) (group : ℕ) (g : G
 abbrev pub words_in : ℕ → List (ℕ × ℕ) → List ℕ
 words_in group [] = []
 words_in group (key ∷ keys) = if key.0 == group then key.1 ∷ words_in group keys else words_in group keys
-
--- the runs of ascending words, after a last run that may go on
-abbrev pub spans_after : Option Span → List ℕ → List Span
-spans_after None [] = []
-spans_after (Some s) [] = s ∷ []
-spans_after None (w ∷ ws) = spans_after (Some (record { first = w; count = 1 })) ws
-spans_after (Some s) (w ∷ ws) =
-    if word_in s s.count == w then spans_after (Some (record { first = s.first; count = s.count + 1 })) ws
-    else s ∷ spans_after (Some (record { first = w; count = 1 })) ws

@@ -22,6 +22,7 @@ mod slot_form;
 mod text;
 
 pub use explored::{Explored, FaultFound, OutcomeFound};
-pub use reached::{GroupFound, Span};
+pub use mm_span::Span;
+pub use reached::GroupFound;
 pub use search::explore;
 pub use text::write_explored;

@@ -1,39 +1,21 @@
 //! The words that groups touched and wrote.
 
-ghost use Rattle.std.specs.Prelude.{◌≡◌, ℕ, ◌+◌, ◌≤◌, ◌^◌, ◌++◌, ◌∷◌, [], List, Contains};
-ghost use Rattle.std.specs.Prelude.{IfOk, OnOk, IfSome, Some};
+ghost use Rattle.std.specs.Prelude.{◌≡◌, ℕ, ◌++◌, ◌∷◌, [], List, Contains, IfOk, OnOk};
 ghost use Rattle.std.specs.List.{AllByRecursion, AllZip, flat_map};
 ghost use Rattle.std.specs.Option.{option_to_list};
-ghost use Rattle.mm_explore.specs.Findings.{AreSpans, any_kind, word_in};
+ghost use Rattle.mm_span.specs.Spans.{AreSpans};
+ghost use Rattle.mm_explore.specs.Findings.{any_kind};
 ghost use Rattle.mm_explore.specs.Results.{GroupFound as GroupValue};
 ghost use Rattle.mm_explore.specs.Words.{AreKept, IsGroupFound, IsWordKey};
-ghost use Rattle.mm_explore.specs.Words.{passed_words, step_words, words_in, spans_after};
+ghost use Rattle.mm_explore.specs.Words.{passed_words, step_words, words_in};
 ghost use Rattle.mm_model.specs.Counted.{writes};
 
 use mm_model::Step;
+use mm_span::{Span, SpanBuilder};
 use mm_word::{Access, Kind};
 use std::alloc::{AllocError, Global};
 use std::collections::BTreeSet;
 use std::marker::Model;
-
-/// A run of consecutive words.
-#[derive(Clone, Copy, PartialEq, Eq)]
-pub struct Span {
-    /// The address of the first word.
-    pub first: u64,
-    /// The count of words.
-    pub count: u64,
-}
-
-impl Model for Span {
-    ghost use Rattle.mm_explore.specs.Findings.{Span as SpanValue};
-
-    ghost Value = { SpanValue };
-
-    ghost view = { λ s. record { first = s.first; count = s.count } };
-
-    ghost inverse = { λ s. record { first = s.first; count = s.count } };
-}
 
 /// The words that groups touched and wrote, each with its group.
 #[derive(Drop)]
@@ -102,64 +84,16 @@ impl Words {
     }
 }
 
-/// The run of a word after the last run, which is appended if the word is not the next.
-fn go_on(spans: &mut Vec<Span>, last: Option<Span>, word: u64) -> Result<Span, AllocError>
-    requires room { IfSome last (λ s. word_in s s.count ≤ 2 ^ 54) }
-    requires word { word + 8 ≤ 2 ^ 54 }
-    ensures spans { IfOk result (λ s. (words : List ℕ) → spans.new.items ++ spans_after (Some s) words
-        ≡ spans.old.items ++ spans_after last (word ∷ words)) }
-    ensures room { IfOk result (λ s. word_in s s.count ≤ 2 ^ 54) }
-{
-    let Some(span) = last else {
-        return Ok(Span {
-            first: word,
-            count: 1,
-        });
-    };
-    if span.first + 8 * span.count == word {
-        return Ok(Span {
-            first: span.first,
-            count: span.count + 1,
-        });
-    }
-    spans.push(span)?;
-    Ok(Span {
-        first: word,
-        count: 1,
-    })
-}
-
-/// The last run after a key of some group; only a word of this group goes on.
-fn take_key(
-    spans: &mut Vec<Span>,
-    last: Option<Span>,
-    group: u8,
-    key: &(u8, u64),
-) -> Result<Option<Span>, AllocError>
-    requires room { IfSome last (λ s. word_in s s.count ≤ 2 ^ 54) }
-    requires key { IsWordKey key.now }
-    ensures spans { IfOk result (λ s. (keys : List (ℕ × ℕ)) → spans.new.items ++ spans_after s (words_in group keys)
-        ≡ spans.old.items ++ spans_after last (words_in group (key.now ∷ keys))) }
-    ensures room { IfOk result (λ s. IfSome s (λ s. word_in s s.count ≤ 2 ^ 54)) }
+/// Gives a key's word to a builder, if the key is of a group.
+fn take_key(spans: &mut SpanBuilder, group: u8, key: &(u8, u64)) -> Result<(), AllocError>
+    requires { IsWordKey key.now }
+    ensures { OnOk result ((keys : List (ℕ × ℕ)) → spans.new ++ words_in group keys
+        ≡ spans.old ++ words_in group (key.now ∷ keys)) }
 {
     if key.0 == group {
-        let span = go_on(spans, last, key.1)?;
-        return Ok(Some(span));
+        return spans.push(key.1);
     }
-    Ok(last)
-}
-
-/// Appends the last run, if there is one.
-fn close(spans: &mut Vec<Span>, last: Option<Span>) -> Result<(), AllocError>
-    ensures { OnOk result (spans.new.items ≡ spans.old.items ++ spans_after last []) }
-{
-    match last {
-        Some(span) => {
-            spans.push(span)?;
-            Ok(())
-        }
-        None => Ok(()),
-    }
+    Ok(())
 }
 
 /// The longest runs of the words of a group.
@@ -171,13 +105,11 @@ pub(crate) fn spans(
     requires { AllByRecursion IsWordKey words.now.keys }
     ensures { IfOk result (λ spans. AreSpans (λ word. Contains words.now.keys (group, word)) spans.items) }
 {
-    let mut spans = Vec::new(alloc);
-    let mut last = None;
+    let mut spans = SpanBuilder::new(alloc);
     for key in words.iter() {
-        last = take_key(&mut spans, last, group, key)?;
+        take_key(&mut spans, group, key)?;
     }
-    close(&mut spans, last)?;
-    Ok(spans)
+    spans.finish()
 }
 
 /// What a group touched and what it wrote: the longest runs of words, ascending.

@@ -7,13 +7,14 @@ ghost use Rattle.mm_text.specs.Appends.{Appends};
 ghost use Rattle.mm_explore.specs.Repeats.{leading as leading_of};
 ghost use Rattle.mm_explore.specs.Results.{explored_text, group_found_lines, fault_found_lines, outcome_found_lines};
 ghost use Rattle.mm_explore.specs.Results.{state_found_line, output_text};
-ghost use Rattle.mm_explore.specs.Texts.{by_line, end_text, extent_text, word_line};
+ghost use Rattle.mm_explore.specs.Texts.{by_line, end_text, extent_text};
 ghost use Rattle.mm_explore.specs.Texts.{repeats_of, repeat_text, count_text};
 
 use crate::explored::{Explored, FaultFound, OutcomeFound};
-use crate::reached::{GroupFound, Span};
+use crate::reached::GroupFound;
 use mm_io::{Sink, WriteFault};
 use mm_model::SlotState;
+use mm_span::put_spans;
 use mm_text::Piece::{Decimal, HexAddress, Text};
 use mm_text::{TextBuffer, put_output, put_state};
 use mm_thread::Output;
@@ -68,31 +69,6 @@ fn put_group<O: Sink>(text: &mut TextBuffer, out: &mut O, group: &GroupFound)
     text.put_number(out, "group ", group.group as u64, "\n");
     put_spans(text, out, "touched ", &group.touched);
     put_spans(text, out, "wrote ", &group.wrote);
-}
-
-/// Appends a line for each run of words, after `touched ` or `wrote `.
-fn put_spans<O: Sink>(text: &mut TextBuffer, out: &mut O, verb: &str, spans: &[Span])
-    ensures { Appends O.taken O.faults out.old out.new text.old text.new (flat_map (word_line verb.now) spans.now) }
-{
-    for span in spans {
-        put_span(text, out, verb, span);
-    }
-}
-
-/// Appends the line of a run of words: a verb, the address of the first, and their count.
-fn put_span<O: Sink>(text: &mut TextBuffer, out: &mut O, verb: &str, span: &Span)
-    ensures { Appends O.taken O.faults out.old out.new text.old text.new (word_line verb.now span.now) }
-{
-    text.put(
-        out,
-        &[
-            Text(verb),
-            HexAddress(span.first),
-            Text(" "),
-            Decimal(span.count),
-            Text("\n"),
-        ],
-    );
 }
 
 // 2. Faults.

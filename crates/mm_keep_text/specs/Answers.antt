@@ -10,22 +10,11 @@ use Rattle.mm_kernel.specs.declared.{fact.Leak.Leak, thread.Origin.{Origin, TheV
 use Rattle.mm_kernel.specs.declared.fact.Leak.TheVariants as leak
 use Rattle.mm_kernel.specs.{Threads.is_kernel_slot, Facts.Fact.{HasForm, HasDoor, HasLeak}}
 use Rattle.mm_kernel.specs.{Derived.{Derived, HasFirst, IsCode}, Uses.{IsUsed, Reads, Writes, HasMore, HasAtMost}}
-use Rattle.mm_span.specs.Spans.{Span, AreSpans, span_line}
-use Rattle.mm_keep_text.specs.Keys.{pointer_key, cell_key, leak_key, Ascend}
+use Rattle.mm_span.specs.Spans.{AreSpans, span_line}
+use Rattle.mm_keep_text.specs.declared.told.Answer.{Answer, TheVariants.{Privileged, More, Found}}
+use Rattle.mm_keep_text.specs.{Keys.{pointer_key, cell_key, leak_key, Ascend}, Told.{Party, Told}}
 
 -- 1. What is told.
-
--- an origin of threads, and the runs of kept words that its threads read and write
-pub record Party : Type 0 where
-  pub origin : Origin
-  pub reads : List Span
-  pub writes : List Span
-
-pub record Told : Type 0 where
-  pub parties : List Party
-  pub code : List Span
-  pub cells : List (ℕ × Form)
-  pub leaks : List Leak
 
 pub record IsParty (i : Image) (kept : List Segment) (origin : Origin) (p : Party) : Type 0 where
   pub origin_is : p.origin ≡ origin
@@ -67,20 +56,20 @@ form_text Any = codes "any"
 form_text (Inside p) =
     codes "in " ++ decimal (code_of p.perm) ++ codes " " ++ hex 14 p.addr ++ codes " " ++ decimal p.log
 
--- the form of a register at an instruction
-abbrev pub place_text : ℕ → ℕ → Form → List ℕ
-place_text at reg form = hex 14 at ++ codes " " ++ decimal reg ++ codes " " ++ form_text form
+-- what an instruction does, its address, a register, and its form
+abbrev pub place_text : List ℕ → ℕ → ℕ → Form → List ℕ
+place_text verb at reg form = verb ++ hex 14 at ++ codes " " ++ decimal reg ++ codes " " ++ form_text form
 
 abbrev pub leak_text : Leak → List ℕ
 leak_text (leak.Across p) = codes "across " ++ word_text (Ptr p)
 leak_text (leak.Cell word form) = codes "cell " ++ hex 14 word ++ codes " " ++ form_text form
 leak_text (leak.Code word) = codes "code " ++ hex 14 word
-leak_text (leak.Jump at reg form) = codes "jump " ++ place_text at reg form
-leak_text (leak.Enter at reg form) = codes "enter " ++ place_text at reg form
-leak_text (leak.Store at reg form) = codes "store " ++ place_text at reg form
-leak_text (leak.Give at reg form) = codes "give " ++ place_text at reg form
+leak_text (leak.Jump at reg form) = place_text (codes "jump ") at reg form
+leak_text (leak.Enter at reg form) = place_text (codes "enter ") at reg form
+leak_text (leak.Store at reg form) = place_text (codes "store ") at reg form
+leak_text (leak.Give at reg form) = place_text (codes "give ") at reg form
 leak_text (leak.FaultPointer at) = codes "fault " ++ hex 14 at ++ codes " ip"
-leak_text (leak.Fault at reg form) = codes "fault " ++ place_text at reg form
+leak_text (leak.Fault at reg form) = place_text (codes "fault ") at reg form
 leak_text (leak.Loose slot) = codes "loose " ++ decimal slot
 
 abbrev pub leak_line : Leak → List ℕ
@@ -108,11 +97,6 @@ told_text told =
     ++ flat_map cell_line told.cells ++ flat_map leak_line told.leaks
 
 -- 3. The answer.
-
-pub data Answer : Type 0 where
-  Privileged : Answer
-  More : Answer
-  Found : (told : Told) → Answer
 
 -- the answer for an image and its kept segments, if at most `limit` threads may be found
 abbrev pub IsAnswer : Image → List Segment → (limit : ℕ) → Answer → Type 0

@@ -1,6 +1,7 @@
 -- Runs of consecutive words.
-use Rattle.std.specs.Prelude.{◌≡◌, ℕ, ◌+◌, ◌*◌, ◌%◌, ◌^◌, ◌<◌, ◌==◌, if◌then◌else◌, List, [], ◌∷◌, ◌++◌, Contains}
-use Rattle.std.specs.{Prelude.{codes, decimal, Option, Some, None}, List.AllByRecursion}
+use Rattle.std.specs.Prelude.{◌≡◌, ℕ, zero, suc, ◌+◌, ◌*◌, ◌%◌, ◌^◌, ◌<◌, ◌≤◌, ◌==◌, if◌then◌else◌, List, [], ◌∷◌, ◌++◌}
+use Rattle.std.specs.Prelude.{Contains, codes, decimal, Option, Some, None, IfSome}
+use Rattle.std.specs.List.{AllByRecursion, flat_map}
 use Rattle.mm_model.specs.{Digits.hex, Lines.newline}
 use Rattle.mm_span.specs.Pairs.{EachPair}
 
@@ -37,6 +38,25 @@ spans_after None (w ∷ ws) = spans_after (Some (record { first = w; count = 1 }
 spans_after (Some s) (w ∷ ws) =
     if word_in s s.count == w then spans_after (Some (record { first = s.first; count = s.count + 1 })) ws
     else s ∷ spans_after (Some (record { first = w; count = 1 })) ws
+
+-- consecutive words: the first, and how many there are
+abbrev pub words_from : ℕ → ℕ → List ℕ
+words_from word zero = []
+words_from word (suc n) = word ∷ words_from (word + 8) n
+
+-- the words of a run
+abbrev pub words_of : Span → List ℕ
+words_of span = words_from span.first span.count
+
+-- the words of runs, and of a last one that may go on
+abbrev pub given : List Span → Option Span → List ℕ
+given spans None = flat_map words_of spans
+given spans (Some last) = flat_map words_of spans ++ words_of last
+
+-- runs, and a last one that may go on, are those of their words
+pub record IsBuilt (spans : List Span) (last : Option Span) : Type 0 where
+  pub room : IfSome last (λ s. word_in s s.count ≤ 2 ^ 54)
+  pub runs : (more : List ℕ) → spans ++ spans_after last more ≡ spans_after None (given spans last ++ more)
 
 -- the address of a word
 abbrev pub IsWord : ℕ → Type 0

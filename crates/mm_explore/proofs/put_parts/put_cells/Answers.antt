@@ -1,6 +1,6 @@
 use Rattle.std.{proofs.{Common.{ℕ, ◌<◌, ◌^◌, sym, subst}, lemmas.List.Elements.Contains-get_or}, specs.Prelude.Contains}
 use Rattle.mm_word.specs.declared.word.Cell.{Cell}
-use Rattle.mm_explore.proofs.Members.{all_at}
+use Rattle.mm_span.proofs.Members.{all_at}
 use Rattle.mm_explore.proofs.put_parts.put_cells.Goals as goal
 
 pub put_cell-requires : goal.put_cell-requires

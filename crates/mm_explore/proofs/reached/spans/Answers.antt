@@ -1,18 +1,29 @@
-use Rattle.std.proofs.{Common.{◌≡◌, ◌++◌, [], None, List, ℕ, ap, ◌∙◌, sym, subst}, lemmas.Map.Iter.rest_all}
-use Rattle.std.specs.{Prelude.Contains, Map.Iter.deref}
-use Rattle.mm_explore.specs.{Findings.AreSpans, Words.{words_in, spans_after}}
-use Rattle.mm_explore.proofs.Spans.{spans_are, spans_alike}
-use Rattle.mm_explore.proofs.WordKeys.{words_up, words_aligned, word_of_key, key_of_word}
+use Rattle.std.proofs.Common.{◌≡◌, ◌++◌, ◌<◌, [], List, ℕ, ap, ◌∙◌, sym, subst, append-nil}
+use Rattle.std.{proofs.lemmas.{Map.Iter.rest_all, Result.IfOk-weaker}, specs.{Prelude.{Contains, IfOk}, Map.Iter.deref, List.AllByRecursion}}
+use Rattle.mm_span.specs.{Pairs.EachPair, Spans.{AreSpans, IsWord}}
+use Rattle.mm_span.proofs.Runs.{spans_alike}
+use Rattle.mm_explore.specs.Words.{words_in}
+use Rattle.mm_explore.proofs.WordKeys.{words_up, words_whole, word_of_key, key_of_word, words_so_far}
 use Rattle.mm_explore.proofs.reached.spans.Goals as goal
+
+pub finish-requires : goal.finish-requires
+finish-requires c =
+    let keys = c.args.words.now.keys in
+    let group = c.args.group in
+    let none : c.loop-key.key-iterator ≡ [] = rest_all deref c.loop-key.key-iterator c.next.new.self c.next.result c.in-None.is c.next.ensures.steps in
+    let whole = words_so_far group c.loop-key.spans c.loop-key.key-iterator keys none c.loop-key.invariant.whole in
+    record {
+      ascending = subst (EachPair ◌<◌) (sym whole) (words_up group keys c.iter-key-items.ensures.ordered);
+      words = subst (AllByRecursion IsWord) (sym whole) (words_whole group keys c.requires);
+    }
 
 pub returns : goal.returns
 returns c =
     let keys = c.args.words.now.keys in
     let group = c.args.group in
-    let whole = spans_are (words_in group keys) (words_up group keys c.iter-key-items.ensures.ordered) (words_aligned group keys c.requires) in
     let none : c.loop-key.key-iterator ≡ [] = rest_all deref c.loop-key.key-iterator c.next.new.self c.next.result c.in-None.is c.next.ensures.steps in
-    let same = c.in_ok-close.ensures
-    ∙ ap (λ (l : List (ℕ × ℕ)). c.loop-key.spans.items ++ spans_after c.loop-key.last (words_in group l)) (sym none)
-    ∙ c.loop-key.invariant.spans in
-    subst (AreSpans (λ word. Contains keys (group, word))) (sym same)
-    (spans_alike (Contains (words_in group keys)) (λ word. Contains keys (group, word)) (key_of_word group keys) (word_of_key group keys) (spans_after None (words_in group keys)) whole)
+    let whole = words_so_far group c.loop-key.spans c.loop-key.key-iterator keys none c.loop-key.invariant.whole in
+    let P : List ℕ → Type 0 = λ ws. IfOk c.finish.result (λ spans. AreSpans (Contains ws) spans.items) in
+    IfOk-weaker c.finish.result (λ spans. AreSpans (Contains (words_in group keys)) spans.items) (λ spans. AreSpans (λ word. Contains keys (group, word)) spans.items)
+    (λ spans h. spans_alike (Contains (words_in group keys)) (λ word. Contains keys (group, word)) (key_of_word group keys) (word_of_key group keys) spans.items h)
+    (subst P whole c.finish.ensures)

@@ -1,0 +1,7 @@
+mod Sets
+mod Listing
+mod Uses
+mod HeldWords
+mod Ranges
+mod Ones
+mod Telling

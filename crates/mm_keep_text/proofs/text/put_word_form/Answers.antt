@@ -1,0 +1,5 @@
+use Rattle.mm_text.proofs.Appending.{appends_then}
+use Rattle.mm_keep_text.proofs.text.put_word_form.Goals as goal
+
+pub returns : goal.returns
+returns g c = appends_then c.put.ensures c.put_form.ensures

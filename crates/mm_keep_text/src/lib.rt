@@ -1,0 +1,15 @@
+//! What a kernel keeps, and its text.
+#![tactic(auto)]
+
+mod finding;
+mod keys;
+pub mod laws;
+mod lists;
+mod parts;
+mod text;
+mod told;
+mod words;
+
+pub use finding::keeps;
+pub use text::write_keeps;
+pub use told::{Answer, Party, Told};
