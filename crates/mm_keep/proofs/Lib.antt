@@ -4,7 +4,11 @@ mod Closes
 mod Closing
 mod Filled
 mod Flags
+mod Loops
+mod Meant
 mod Members
 mod Moving
+mod Rounds
 mod Same
+mod Words
 mod Writing

@@ -1,6 +1,9 @@
 //! The search for all that a kernel can come to, whatever its callers do.
 #![tactic(auto)]
 
+mod again;
+mod begin;
+mod follow;
 mod kernel;
 mod live;
 mod outcome_list;
@@ -13,6 +16,6 @@ mod turn;
 
 pub use kernel::Kernel;
 pub use outcome_list::Outcomes;
-pub use search::Search;
+pub use search::find;
 pub use tables::Tables;
 pub use turn::outcomes;
