@@ -74,6 +74,10 @@ module _ (i : Image) (kept : List Segment) where
     sound = λ s means. s;
   }
 
+  -- the same tables in other words
+  pub adds_from : (P : Claim → Type 0) (a was b : Tables) → a ≡ was → Adds i kept P a b → Adds i kept P was b
+  adds_from P a was b e h = subst (λ t. Adds i kept P t b) e h
+
   -- claims that are held already
   pub adds_held : (P : Claim → Type 0) (a : Tables) → ((claim : Claim) → P claim → Holds i kept a claim) → Adds i kept P a a
   adds_held P a held = record { grows = grows_same a; holds = held; sound = λ s means. s }

@@ -14,7 +14,7 @@ use mm_word::{GuardedPtr, next};
 pub fn form_at(t: &Thread, number: u8) -> Form
     ensures { result ≡ form_in t.now number }
 {
-    if number < 16 {
+    if usize::from(number) < t.forms.len() {
         t.forms[usize::from(number)]
     } else {
         Form::Number(0)
@@ -26,11 +26,11 @@ pub fn form_at(t: &Thread, number: u8) -> Form
 pub fn with_form(t: &Thread, number: u8, form: Form) -> Thread
     ensures { result ≡ with_form t.now number form }
 {
-    let mut t = *t;
-    if number < 16 {
-        t.forms[usize::from(number)] = form;
+    let mut after = *t;
+    if usize::from(number) < after.forms.len() {
+        after.forms[usize::from(number)] = form;
     }
-    t
+    after
 }
 
 /// The thread at its next instruction, or past its segment's end.
