@@ -2,9 +2,13 @@ mod Adding
 mod Claims
 mod Closes
 mod Closing
+mod Fetching
 mod Filled
 mod Flags
+mod Keyed
+mod Letting
 mod Members
 mod Moving
+mod Reading
 mod Same
 mod Writing

@@ -1,7 +1,7 @@
 //! A kernel: an image, with its kept segments.
 
-ghost use Rattle.std.specs.List.{filter, list_all, list_any};
-ghost use Rattle.std.specs.Prelude.{◌≡◌, ◌<◌, ◌%◌, ◌∷◌, ◌++◌, IfOk, OnOk, [], true, map};
+ghost use Rattle.std.specs.List.{list_all, list_any};
+ghost use Rattle.std.specs.Prelude.{◌≡◌, ◌%◌, ◌&&◌, IfOk, OnOk, map};
 ghost use Rattle.mm_word.specs.Perm.{can_store};
 ghost use Rattle.mm_model.specs.Slot.{Slot as SlotValue};
 ghost use Rattle.mm_model.specs.Turn.{is_handler, is_running};
@@ -93,15 +93,18 @@ fn is_served(slot: &Slot, number: u8) -> bool
     }
 }
 
+/// Whether one of the slots runs and has its handler in the slot of a number.
+fn serves_one(slots: &[Slot], number: u8) -> bool
+    ensures { result ≡ list_any (λ (s : SlotValue). is_running s.state && is_handler number s.handler) slots.now }
+{
+    slots.iter().any(|slot| runs(slot) && is_served(slot, number))
+}
+
 /// Whether a running slot has its handler in the slot of a number.
-#[tactic(auto, unfolding(mm_kernel::specs::Threads::serves_some))]
 fn serves_some(image: &Image, number: u8) -> bool
     ensures { result ≡ serves_some image.now number }
 {
-    image
-        .slots()
-        .iter()
-        .any(|slot| runs(slot) && is_served(slot, number))
+    serves_one(image.slots(), number)
 }
 
 /// For each number, whether it is that of a kernel slot.

@@ -1,6 +1,7 @@
 //! The search for all that a kernel can come to, whatever its callers do.
 #![tactic(auto)]
 
+mod integers;
 mod kernel;
 mod live;
 mod outcome_list;
@@ -10,9 +11,11 @@ mod segments;
 mod tables;
 mod thread;
 mod turn;
+mod uses;
 
 pub use kernel::Kernel;
 pub use outcome_list::Outcomes;
 pub use search::Search;
 pub use tables::Tables;
 pub use turn::outcomes;
+pub use uses::{fetched_word, sets_bit};
