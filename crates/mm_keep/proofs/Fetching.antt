@@ -1,5 +1,5 @@
 -- Which word a thread's turn fetches, and what its instruction does to the word that it loads.
-use Rattle.std.proofs.Common.{◌≡◌, ℕ, ◌↔◌, Bool, true, false, Option, Some, None, Result, Ok, Err, pos, refl, sym, ap, ◌∙◌, subst}
+use Rattle.std.proofs.Common.{◌≡◌, ℕ, ◌↔◌, true, false, Option, Some, None, Ok, Err, pos, refl, sym, ap, ◌∙◌}
 use Rattle.std.proofs.lemmas.{Bool.both_ways, Option.{none-some, same_Some}}
 use Rattle.mm_word.specs.declared.{cause.Cause.Cause, perm.Kind.TheVariants.Fetch, word.{Word.TheVariants.Ptr, Cell.Cell}}
 use Rattle.mm_word.specs.Access.{AccessValue, check_result}

@@ -1,5 +1,5 @@
 -- Flags that a loop sets, number by number, and a test of some of a list's elements.
-use Rattle.std.proofs.Common.{◌≡◌, ◌⊎◌, inl, inr, ℕ, zero, suc, ◌+◌, ◌<◌, Bool, false, List, [], ◌∷◌, length, set}
+use Rattle.std.proofs.Common.{◌≡◌, inl, inr, ℕ, zero, suc, ◌+◌, ◌<◌, Bool, false, List, [], ◌∷◌, length, set}
 use Rattle.std.proofs.Common.{get_or, refl, ap, ◌∙◌, subst, sym, arith, true, cond, ◌&&◌, ◌||◌}
 use Rattle.std.specs.List.{filter, list_any}
 use Rattle.mm_seg.proofs.Searches.{same_or_below}

@@ -1,5 +1,5 @@
 -- Rows of threads that are numbers of the threads which they give: none stands at two places, and no thread either.
-use Rattle.std.proofs.Common.{◌≡◌, ℕ, zero, suc, Bool, true, false, List, [], ◌∷◌, ◌++◌, map, Option, Some, refl, sym, ap}
+use Rattle.std.proofs.Common.{◌≡◌, ℕ, zero, suc, Bool, true, false, List, [], ◌∷◌, ◌++◌, map, Some, refl, sym, ap}
 use Rattle.std.proofs.Common.{◌∙◌, subst, inl, inr}
 use Rattle.std.proofs.lemmas.{Bool.{cases_Bool, both_ways}, Option.same_Some}
 use Rattle.std.specs.{Prelude.{slice_get, if◌then◌else◌}, List.{AllByRecursion, IsDistinct, list_any}}

@@ -1,5 +1,5 @@
 -- What is read at a place of a table.
-use Rattle.std.proofs.Common.{◌≡◌, ℕ, ◌<◌, List, map, length, get_or, Some, refl, sym, ap, ◌∙◌, subst, arith}
+use Rattle.std.proofs.Common.{◌≡◌, ℕ, ◌<◌, List, map, length, get_or, Some, sym, ap, ◌∙◌, subst, arith}
 use Rattle.std.proofs.lemmas.{List.length-map, Option.{slice_get-map, slice_get-get_or}}
 use Rattle.std.specs.Prelude.{slice_get, option_map}
 

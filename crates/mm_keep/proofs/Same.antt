@@ -6,7 +6,7 @@ use Rattle.std.specs.{Prelude.{Contains, if◌then◌else◌}, List.list_any}
 use lib.Pointwise.{pointwise, pointwise_decides}
 use Rattle.indexmap.{specs.IndexSet.insert_key, proofs.CallerLemmas.Contains-insert_key}
 use Rattle.mm_keep.specs.Claims.{Begins}
-use Rattle.mm_keep.proofs.{Claims.begins_same, Members.{in_map, map_in, in_first, in_cases, none_in}}
+use Rattle.mm_keep.proofs.{Claims.begins_same, Members.{in_map, in_cases, none_in}}
 
 -- 1. Tests that decide.
 

@@ -85,9 +85,10 @@ flag true = 1
 flag false = 0
 
 unfoldable pub numbers_of : Thread → Row
-numbers_of t =
-    (numbers_of_origin t.origin ∷ numbers_of_handler t.handler ∷ (bits_of t.ip ∷ flag t.past ∷ []) ∷ [],
-    map numbers_of_form t.forms)
+numbers_of t = (
+  numbers_of_origin t.origin ∷ numbers_of_handler t.handler ∷ (bits_of t.ip ∷ flag t.past ∷ []) ∷ [],
+  map numbers_of_form t.forms,
+)
 
 -- a row is the numbers of the thread that is read from it
 abbrev pub IsKey : Row → Type 0

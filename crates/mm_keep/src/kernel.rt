@@ -97,7 +97,9 @@ fn is_served(slot: &Slot, number: u8) -> bool
 fn serves_one(slots: &[Slot], number: u8) -> bool
     ensures { result ≡ list_any (λ (s : SlotValue). is_running s.state && is_handler number s.handler) slots.now }
 {
-    slots.iter().any(|slot| runs(slot) && is_served(slot, number))
+    slots
+        .iter()
+        .any(|slot| runs(slot) && is_served(slot, number))
 }
 
 /// Whether a running slot has its handler in the slot of a number.

@@ -4,6 +4,7 @@
 mod integers;
 mod kernel;
 mod live;
+mod operands;
 mod outcome_list;
 mod rows;
 mod search;

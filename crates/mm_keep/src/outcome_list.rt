@@ -101,4 +101,3 @@ impl Outcomes {
         &self.items[..self.len]
     }
 }
-

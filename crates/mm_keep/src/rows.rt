@@ -94,7 +94,11 @@ pub fn thread_numbers(t: &Thread) -> Row
     ensures is { result ≡ numbers_of t.now }
     ensures again { thread_of result ≡ t.now }
 {
-    let head = [origin_numbers(&t.origin), handler_numbers(t.handler), [bits(t.ip), flag(t.past)]];
+    let head = [
+        origin_numbers(&t.origin),
+        handler_numbers(t.handler),
+        [bits(t.ip), flag(t.past)],
+    ];
     (head, forms_numbers(&t.forms))
 }
 

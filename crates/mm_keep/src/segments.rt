@@ -116,4 +116,3 @@ pub fn around(kept: &[Part], p: GuardedPtr) -> Form
         Form::Open(p.perm())
     }
 }
-

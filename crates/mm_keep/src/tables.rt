@@ -11,8 +11,10 @@ ghost use Rattle.mm_keep.specs.Claims.{Adds, AddsFacts, Only, nothing, sizes_of}
 ghost use Rattle.mm_keep.specs.Claims.Claim.{SomeResumes, SomeWrites};
 
 use crate::kernel::Kernel;
-use crate::rows::{LeakRow, Pair, Row, bits, form, form_numbers, how, how_number, leak, leak_numbers, pointer};
-use crate::rows::{faulted_numbers, thread, thread_numbers};
+use crate::rows::{
+    LeakRow, Pair, Row, bits, faulted_numbers, form, form_numbers, how, how_number, leak,
+    leak_numbers, pointer, thread, thread_numbers,
+};
 use crate::segments::{is_door, is_open_form};
 use indexmap::IndexSet;
 use mm_isa::How;

@@ -1,9 +1,8 @@
 //! What a turn of a thread can come to, instruction by instruction.
 #![tactic(auto, unfolding(mm_kernel::specs::Turns::fault, mm_kernel::specs::Turns::sets, mm_kernel::specs::Turns::moves, mm_kernel::specs::Turns::restricts, mm_kernel::specs::Turns::loads, mm_kernel::specs::Turns::stores, mm_kernel::specs::Turns::branches, mm_kernel::specs::Turns::jumps, mm_kernel::specs::Turns::tests_tag))]
 
-ghost use Rattle.std.specs.Int.{w64, cast_unsigned};
 ghost use Rattle.std.specs.List.{filter};
-ghost use Rattle.std.specs.Prelude.{◌≡◌, ◌≤◌, ◌%◌, ◌+◌, ◌&&◌, ◌∷◌, ◌++◌, [], IfOk, Some, Ok, Err, length, map, pos, true};
+ghost use Rattle.std.specs.Prelude.{◌≡◌, ◌≤◌, ◌%◌, ◌+◌, ◌&&◌, ◌∷◌, ◌++◌, [], length, map, pos, true};
 ghost use Rattle.mm_word.specs.Access.{check_result};
 ghost use Rattle.mm_word.specs.Perm.{allows, can_become};
 ghost use Rattle.mm_word.specs.Pointer.{next_result};
@@ -12,7 +11,6 @@ ghost use Rattle.mm_word.specs.declared.word.Word.TheVariants.{Ptr};
 ghost use Rattle.mm_model.specs.Ask.{load_kind};
 ghost use Rattle.mm_model.specs.Memory.{cell_at};
 ghost use Rattle.mm_model.specs.Turn.{instr_in};
-ghost use Rattle.mm_kernel.specs.Forms.{exact_bits};
 ghost use Rattle.mm_kernel.specs.Operations.{choices, may_name, with_permission};
 ghost use Rattle.mm_kernel.specs.Threads.{form_in, going_to, stepped, with_form};
 ghost use Rattle.mm_kernel.specs.Turns.{at_distance, branched, branches, branches_if, computes, fault, fetched};
@@ -21,114 +19,24 @@ ghost use Rattle.mm_kernel.specs.Turns.{outcomes, outcomes_of, restricted, restr
 ghost use Rattle.mm_kernel.specs.Turns.{stored_at, stores, stores_outside, tests_tag, word_loaded, word_stored};
 ghost use Rattle.mm_kernel.specs.Turns.{pointer_moved, loaded_by, stored_by, with_event, aimed, decoded};
 ghost use Rattle.mm_kernel.specs.declared.fact.Leak.TheVariants.{Give};
-ghost use Rattle.mm_kernel.specs.declared.form.Form.TheVariants.{Number, Any};
-ghost use Rattle.mm_kernel.specs.declared.outcome.Outcome.TheVariants.{Faults, Goes, Leaves, TakesEvent, HandsOut};
+ghost use Rattle.mm_kernel.specs.declared.form.Form.TheVariants.{Any};
+ghost use Rattle.mm_kernel.specs.declared.outcome.Outcome.TheVariants.{Goes, HandsOut, TakesEvent};
 ghost use Rattle.mm_kernel.specs.declared.outcome.Outcome.TheVariants.{WritesServed};
 ghost use Rattle.mm_keep.specs.Movings.{moved_by};
 
 use crate::integers::{alu_form, divides, equal, high};
 use crate::kernel::Kernel;
+use crate::operands::{bits_of, early_fault, fault, form};
 use crate::outcome_list::Outcomes;
 use crate::segments::{around, is_kept};
-use crate::thread::{form_at, going_to, stepped, with_event, with_form};
+use crate::thread::{going_to, stepped, with_event, with_form};
 use mm_isa::{AluOp, Instr, Reg, decode};
 use mm_kernel::{Form, Leak, Outcome, Thread};
-use mm_word::{Cause, Cell, GuardedPtr, Kind, Perm, Post, Pre, Word, check, enter, lea, leab, next, subseg};
+use mm_word::{
+    Cause, Cell, GuardedPtr, Kind, Perm, Post, Pre, Word, check, enter, lea, leab, next, subseg,
+};
 
-const ZERO: Form = Form::Number(0);
-
-// 1. Operands.
-
-/// A number of an instruction, extended by its sign.
-fn bits_of(imm: i32) -> u64
-    ensures { result ≡ cast_unsigned w64 imm }
-{
-    i64::from(imm).cast_unsigned()
-}
-
-/// The form in a register.
-fn form(t: &Thread, r: Reg) -> Form
-    ensures { result ≡ form_in t.now r }
-{
-    form_at(t, r.number())
-}
-
-/// A fault whose operands are a register and a number.
-fn fault_at(t: &Thread, ra: Reg, bits: u64) -> Outcome
-    ensures { result ≡ Faults (form_in t.now ra) (Number bits) }
-{
-    Outcome::Faults {
-        address: form(t, ra),
-        value: Form::Number(bits),
-    }
-}
-
-/// A fault whose operands are two registers.
-fn fault_with(t: &Thread, ra: Reg, rb: Reg) -> Outcome
-    ensures { result ≡ Faults (form_in t.now ra) (form_in t.now rb) }
-{
-    Outcome::Faults {
-        address: form(t, ra),
-        value: form(t, rb),
-    }
-}
-
-/// A fault whose operand is a number.
-fn fault_of(bits: u64) -> Outcome
-    ensures { result ≡ Faults (Number 0) (Number bits) }
-{
-    Outcome::Faults {
-        address: ZERO,
-        value: Form::Number(bits),
-    }
-}
-
-/// The turn faults at its instruction.
-fn fault(t: &Thread, instr: &Instr) -> Outcome
-    ensures { result ≡ fault t.now instr.now }
-{
-    match *instr {
-        Instr::Halt | Instr::Nop | Instr::SelfSlot { rd: _ } | Instr::Evt { rd: _ } => fault_of(0),
-        Instr::Ldi { rd: _, imm } => fault_of(bits_of(imm)),
-        Instr::Ldhi { rd: _, imm } => fault_of(bits_of(imm)),
-        Instr::Mov { rd: _, ra } => fault_at(t, ra, 0),
-        Instr::Isptr { rd: _, ra } => fault_at(t, ra, 0),
-        Instr::Eqw { rd: _, ra, rb } => fault_with(t, ra, rb),
-        Instr::Out { ra } => fault_at(t, ra, 0),
-        Instr::Alu { op: _, rd: _, ra, rb } => fault_with(t, ra, rb),
-        Instr::Addi { rd: _, ra, imm } => fault_at(t, ra, bits_of(imm)),
-        Instr::Lea { rd: _, ra, rb } => fault_with(t, ra, rb),
-        Instr::Leai { rd: _, ra, imm } => fault_at(t, ra, bits_of(imm)),
-        Instr::Leab { rd: _, ra, rb } => fault_with(t, ra, rb),
-        Instr::Restrict { rd: _, ra, rb } => fault_with(t, ra, rb),
-        Instr::Subseg { rd: _, ra, rb } => fault_with(t, ra, rb),
-        Instr::Setptr { rd: _, ra } => fault_at(t, ra, 0),
-        Instr::Ld { rd: _, ra, pre: _, post: _, imm } => fault_at(t, ra, bits_of(imm)),
-        Instr::St { ra, rb, pre: _, post: _, imm: _ } => fault_with(t, ra, rb),
-        Instr::Br { imm } => fault_of(bits_of(imm)),
-        Instr::Bz { ra, imm } => fault_at(t, ra, bits_of(imm)),
-        Instr::Bnz { ra, imm } => fault_at(t, ra, bits_of(imm)),
-        Instr::Jmp { ra } => fault_at(t, ra, 0),
-        Instr::Jal { rd: _, ra } => fault_at(t, ra, 0),
-        Instr::Lip { rd: _, imm } => fault_of(bits_of(imm)),
-        Instr::Trap { imm } => fault_of(bits_of(imm)),
-        Instr::Resume { ra, how: _ } => fault_at(t, ra, 0),
-        Instr::Rreg { rd: _, ra, reg } => fault_at(t, ra, u64::from(reg.number())),
-        Instr::Wreg { ra, rb, reg: _ } => fault_with(t, ra, rb),
-        Instr::Map { rd: _, ra } => fault_at(t, ra, 0),
-        Instr::Unmap { rd: _, ra } => fault_at(t, ra, 0),
-    }
-}
-
-/// The turn faults before it has an instruction.
-fn early_fault() -> Outcome
-    ensures { result ≡ Faults (Number 0) (Number 0) }
-{
-    Outcome::Faults {
-        address: ZERO,
-        value: ZERO,
-    }
-}
+// 1. What most instructions come to.
 
 /// A register gets a form, and the thread goes on.
 fn sets(t: &Thread, rd: Reg, form: Form) -> Outcome
@@ -227,7 +135,15 @@ fn moves(
 
 // 3. Permissions.
 
-const PERMISSIONS: [Perm; 7] = [Perm::Ro, Perm::Rw, Perm::Xu, Perm::Xp, Perm::Eu, Perm::Ep, Perm::Key];
+const PERMISSIONS: [Perm; 7] = [
+    Perm::Ro,
+    Perm::Rw,
+    Perm::Xu,
+    Perm::Xp,
+    Perm::Eu,
+    Perm::Ep,
+    Perm::Key,
+];
 
 /// Whether an operand may name a permission.
 fn may_name(bits: Option<u64>, perm: Perm) -> bool
@@ -476,7 +392,15 @@ fn stored_by(
 }
 
 /// A store, through a form.
-fn stores(kernel: &Kernel, t: &Thread, instr: &Instr, through: Form, rb: Reg, imm: i32, pre: Pre) -> Outcomes
+fn stores(
+    kernel: &Kernel,
+    t: &Thread,
+    instr: &Instr,
+    through: Form,
+    rb: Reg,
+    imm: i32,
+    pre: Pre,
+) -> Outcomes
     ensures { result ≡ stores kernel.now.image kernel.now.kept t.now instr.now through rb imm pre }
 {
     match through {
@@ -485,12 +409,20 @@ fn stores(kernel: &Kernel, t: &Thread, instr: &Instr, through: Form, rb: Reg, im
         Form::Integer => Outcomes::one(fault(t, instr)),
         Form::Open(perm) => {
             if perm.permits(Kind::Store) {
-                Outcomes::three(fault(t, instr), stores_outside(t, rb), Outcome::Goes(stepped(t)))
+                Outcomes::three(
+                    fault(t, instr),
+                    stores_outside(t, rb),
+                    Outcome::Goes(stepped(t)),
+                )
             } else {
                 Outcomes::one(fault(t, instr))
             }
         }
-        Form::Any => Outcomes::three(fault(t, instr), stores_outside(t, rb), Outcome::Goes(stepped(t))),
+        Form::Any => Outcomes::three(
+            fault(t, instr),
+            stores_outside(t, rb),
+            Outcome::Goes(stepped(t)),
+        ),
         Form::Inside(p) => {
             if p.perm().permits(Kind::Store) {
                 let stored = Outcome::Stores {
@@ -627,7 +559,14 @@ fn tests_tag(t: &Thread, rd: Reg, ra: Reg, form: Form) -> Outcomes
 }
 
 /// A division can fault if its divisor may be 0, and has a result unless that is 0.
-fn computes(t: &Thread, instr: &Instr, divides: bool, rd: Reg, form: Form, divisor: Option<u64>) -> Outcomes
+fn computes(
+    t: &Thread,
+    instr: &Instr,
+    divides: bool,
+    rd: Reg,
+    form: Form,
+    divisor: Option<u64>,
+) -> Outcomes
     ensures { result ≡ computes t.now instr.now divides rd form divisor }
 {
     if !divides {
@@ -662,7 +601,8 @@ fn reads_event(t: &Thread, rd: u8) -> Outcomes
 /// What a register that is put into a served slot can come to.
 fn gives(t: &Thread, instr: &Instr, rb: Reg, reg: Reg) -> Outcomes
     ensures { result ≡ fault t.now instr.now ∷ Goes (stepped t.now)
-        ∷ HandsOut (form_in t.now rb) (Give t.now.ip.addr rb (form_in t.now rb)) ∷ WritesServed reg (form_in t.now rb) ∷ [] }
+        ∷ HandsOut (form_in t.now rb) (Give t.now.ip.addr rb (form_in t.now rb))
+        ∷ WritesServed reg (form_in t.now rb) ∷ [] }
 {
     let leak = Leak::Give {
         at: t.ip.addr(),
@@ -704,17 +644,59 @@ fn carries_out(kernel: &Kernel, t: &Thread, instr: &Instr) -> Outcomes
             let sum = alu_form(AluOp::Add, form(t, ra), Form::Number(bits_of(imm)));
             Outcomes::one(sets(t, rd, sum))
         }
-        Instr::Lea { rd, ra, rb } => moves(kernel, t, instr, rd, form(t, ra), form(t, rb).exact_bits(), Moving::Lea),
-        Instr::Leai { rd, ra, imm } => moves(kernel, t, instr, rd, form(t, ra), Some(0), Moving::LeaBy(imm)),
-        Instr::Leab { rd, ra, rb } => moves(kernel, t, instr, rd, form(t, ra), form(t, rb).exact_bits(), Moving::Leab),
+        Instr::Lea { rd, ra, rb } => moves(
+            kernel,
+            t,
+            instr,
+            rd,
+            form(t, ra),
+            form(t, rb).exact_bits(),
+            Moving::Lea,
+        ),
+        Instr::Leai { rd, ra, imm } => moves(
+            kernel,
+            t,
+            instr,
+            rd,
+            form(t, ra),
+            Some(0),
+            Moving::LeaBy(imm),
+        ),
+        Instr::Leab { rd, ra, rb } => moves(
+            kernel,
+            t,
+            instr,
+            rd,
+            form(t, ra),
+            form(t, rb).exact_bits(),
+            Moving::Leab,
+        ),
         Instr::Restrict { rd, ra, rb } => restricts(t, instr, rd, &form(t, ra), &form(t, rb)),
         Instr::Subseg { rd, ra, rb } => {
-            moves(kernel, t, instr, rd, form(t, ra), form(t, rb).exact_bits(), Moving::Subseg)
+            moves(
+                kernel,
+                t,
+                instr,
+                rd,
+                form(t, ra),
+                form(t, rb).exact_bits(),
+                Moving::Subseg,
+            )
         }
-        Instr::Ld { rd, ra, pre, post, imm } => {
-            loads(kernel, t, instr, rd, form(t, ra), imm, pre, load_kind(post))
-        }
-        Instr::St { ra, rb, pre, post: _, imm } => stores(kernel, t, instr, form(t, ra), rb, imm, pre),
+        Instr::Ld {
+            rd,
+            ra,
+            pre,
+            post,
+            imm,
+        } => { loads(kernel, t, instr, rd, form(t, ra), imm, pre, load_kind(post)) }
+        Instr::St {
+            ra,
+            rb,
+            pre,
+            post: _,
+            imm,
+        } => stores(kernel, t, instr, form(t, ra), rb, imm, pre),
         Instr::Br { imm } => Outcomes::one(branches(t, instr, imm)),
         Instr::Bz { ra, imm } => branches_if(true, t, instr, form(t, ra).exact_bits(), imm),
         Instr::Bnz { ra, imm } => branches_if(false, t, instr, form(t, ra).exact_bits(), imm),
@@ -723,7 +705,11 @@ fn carries_out(kernel: &Kernel, t: &Thread, instr: &Instr) -> Outcomes
         Instr::Lip { rd, imm } => moved(t, instr, rd, at_distance(t, imm)),
         Instr::Evt { rd } => reads_event(t, rd.number()),
         Instr::Resume { ra: _, how } => {
-            Outcomes::three(fault(t, instr), Outcome::Goes(stepped(t)), Outcome::Resumes(how))
+            Outcomes::three(
+                fault(t, instr),
+                Outcome::Goes(stepped(t)),
+                Outcome::Resumes(how),
+            )
         }
         Instr::Rreg { rd, ra: _, reg } => {
             let read = Outcome::ReadsServed {

@@ -29,7 +29,13 @@ fn is_setting(instr: &Instr) -> bool
     ensures { result ≡ sets_bit instr.now }
 {
     match *instr {
-        Instr::Ld { rd: _, ra: _, pre: _, post, imm: _ } => match post {
+        Instr::Ld {
+            rd: _,
+            ra: _,
+            pre: _,
+            post,
+            imm: _,
+        } => match post {
             Post::Keep => false,
             Post::Full => true,
             Post::Empty => true,

@@ -1,4 +1,4 @@
-use Rattle.std.proofs.Common.{◌≡◌, ◌↔◌, true, Some, None, sym, ap, ◌∙◌, subst}
+use Rattle.std.proofs.Common.{◌≡◌, ◌↔◌, true, Some, None, sym, subst}
 use Rattle.mm_model.specs.{Memory.cell_at, Turn.instr_in}
 use Rattle.mm_kernel.specs.Uses.{SetsBit}
 use Rattle.mm_keep.proofs.Fetching.{none_sets, no_page_sets, no_instr_sets, instr_sets}

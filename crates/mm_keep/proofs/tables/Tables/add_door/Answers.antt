@@ -9,5 +9,8 @@ pub returns : goal.returns
 returns c = λ i kept.
     let keys = c.self.inside.doors.keys in
     let now = c.insert.new.self.keys in
-    let put = inserted pointer_in nat_eq same_number keys now c.bits.result c.args.door c.in_ok-insert.ensures.keys c.bits.ensures.again in
-    adds_from i kept (Facts (HasDoor c.args.door ∷ [])) _ c.args.self.now _ c.self.view_is (adds_door i kept _ c.args.door (map pointer_in now) put)
+    let put = inserted pointer_in nat_eq same_number keys now c.bits.result
+    c.args.door c.in_ok-insert.ensures.keys
+    c.bits.ensures.again in
+    adds_from i kept (Facts (HasDoor c.args.door ∷ [])) _ c.args.self.now _ c.self.view_is
+    (adds_door i kept _ c.args.door (map pointer_in now) put)

@@ -9,5 +9,8 @@ pub returns : goal.returns
 returns c = λ i kept.
     let keys = c.self.inside.faulted.keys in
     let now = c.insert.new.self.keys in
-    let put = inserted slot_and_thread eq_faulted same_faulted keys now c.faulted_numbers.result (c.args.slot, c.args.t.now) c.in_ok-insert.ensures.keys c.faulted_numbers.ensures in
-    adds_from i kept (Facts (HasFaulted c.args.slot c.args.t.now ∷ [])) _ c.args.self.now _ c.self.view_is (adds_faulted i kept _ c.args.slot c.args.t.now (map slot_and_thread now) put)
+    let put = inserted slot_and_thread eq_faulted same_faulted keys now c.faulted_numbers.result
+    (c.args.slot, c.args.t.now) c.in_ok-insert.ensures.keys
+    c.faulted_numbers.ensures in
+    adds_from i kept (Facts (HasFaulted c.args.slot c.args.t.now ∷ [])) _ c.args.self.now _ c.self.view_is
+    (adds_faulted i kept _ c.args.slot c.args.t.now (map slot_and_thread now) put)

@@ -9,5 +9,8 @@ pub returns : goal.returns
 returns c = λ i kept.
     let keys = c.self.inside.stored.keys in
     let now = c.insert.new.self.keys in
-    let put = inserted word_and_form eq_stored same_stored keys now (c.args.word, c.form_numbers.result) (c.args.word, c.args.form.now) c.in_ok-insert.ensures.keys (λ j. (c.args.word, c.form_numbers.ensures.again j)) in
-    adds_from i kept (Facts (HasForm c.args.word c.args.form.now ∷ [])) _ c.args.self.now _ c.self.view_is (adds_form i kept _ c.args.word c.args.form.now (map word_and_form now) put)
+    let put = inserted word_and_form eq_stored same_stored keys now (c.args.word, c.form_numbers.result)
+    (c.args.word, c.args.form.now) c.in_ok-insert.ensures.keys
+    (λ j. (c.args.word, c.form_numbers.ensures.again j)) in
+    adds_from i kept (Facts (HasForm c.args.word c.args.form.now ∷ [])) _ c.args.self.now _ c.self.view_is
+    (adds_form i kept _ c.args.word c.args.form.now (map word_and_form now) put)

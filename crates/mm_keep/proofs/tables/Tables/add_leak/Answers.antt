@@ -9,5 +9,8 @@ pub returns : goal.returns
 returns c = λ i kept.
     let keys = c.self.inside.leaks.keys in
     let now = c.insert.new.self.keys in
-    let put = inserted leak_of eq_leak same_leak keys now c.leak_numbers.result c.args.leak.now c.in_ok-insert.ensures.keys c.leak_numbers.ensures in
-    adds_from i kept (Facts (HasLeak c.args.leak.now ∷ [])) _ c.args.self.now _ c.self.view_is (adds_leak i kept _ c.args.leak.now (map leak_of now) put)
+    let put = inserted leak_of eq_leak same_leak keys now c.leak_numbers.result
+    c.args.leak.now c.in_ok-insert.ensures.keys
+    c.leak_numbers.ensures in
+    adds_from i kept (Facts (HasLeak c.args.leak.now ∷ [])) _ c.args.self.now _ c.self.view_is
+    (adds_leak i kept _ c.args.leak.now (map leak_of now) put)

@@ -9,8 +9,11 @@ pub returns : goal.returns
 returns c = λ i kept.
     let keys = c.self.inside.threads.keys in
     let now = c.insert.new.self.keys in
-    let put = inserted thread_of eq_row same_row keys now c.thread_numbers.result c.args.t.now c.in_ok-insert.ensures.keys c.thread_numbers.ensures.again in
-    adds_from i kept (Facts (HasThread c.args.t.now ∷ [])) _ c.args.self.now _ c.self.view_is (adds_thread i kept _ c.args.t.now (map thread_of now) put)
+    let put = inserted thread_of eq_row same_row keys now c.thread_numbers.result
+    c.args.t.now c.in_ok-insert.ensures.keys
+    c.thread_numbers.ensures.again in
+    adds_from i kept (Facts (HasThread c.args.t.now ∷ [])) _ c.args.self.now _ c.self.view_is
+    (adds_thread i kept _ c.args.t.now (map thread_of now) put)
 
 pub invariant_of-self-2 : goal.invariant_of-self-2
 invariant_of-self-2 c =

@@ -1,4 +1,3 @@
-use Rattle.std.proofs.Common.{arith}
 use Rattle.mm_keep.proofs.Letting.{lets_all, lets_more}
 use Rattle.mm_keep.proofs.tables.Tables.let_all_out.Goals as goal
 
