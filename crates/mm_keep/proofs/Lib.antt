@@ -2,13 +2,14 @@ mod Adding
 mod Claims
 mod Closes
 mod Closing
+mod Fetching
 mod Filled
 mod Flags
-mod Loops
-mod Meant
+mod Keyed
+mod Letting
 mod Members
 mod Moving
-mod Rounds
+mod Reading
 mod Same
 mod Words
 mod Writing
