@@ -56,7 +56,14 @@ same_tables a b g e =
     let e7 = begins_whole a.resumes b.resumes g.resumes resumes in
     let e8 = begins_whole a.writes b.writes g.writes writes in
     λ j. record {
-      threads = e1 j; doors = e2 j; leaks = e3 j; stored = e4 j; events = e5 j; faulted = e6 j; resumes = e7 j; writes = e8 j;
+      threads = e1 j;
+      doors = e2 j;
+      leaks = e3 j;
+      stored = e4 j;
+      events = e5 j;
+      faulted = e6 j;
+      resumes = e7 j;
+      writes = e8 j;
     }
 
 -- 2. What the image begins with.
@@ -67,7 +74,8 @@ to_slot (OfSlot n) slot e = let same : n ≡ slot = cc in eq-eqb n slot same
 
 module _ (i : Image) (kept : List Segment) where
   across_in : (p : Pointer) → Contains (live_pointers i) p → reaches_across kept p ≡ true → Contains (begin_facts i kept) (HasLeak (Across p))
-  across_in p live over = Contains-append_left (flat_map (across_facts kept) (live_pointers i)) _ (HasLeak (Across p))
+  across_in p live over = Contains-append_left (flat_map (across_facts kept) (live_pointers i))
+      (flat_map (page_handed i kept) i.memory.pages ++ flat_map (slot_facts i kept) i.slots) (HasLeak (Across p))
       (in_flat (across_facts kept) (live_pointers i) p (HasLeak (Across p)) live
       (in_if (reaches_across kept p) (HasLeak (Across p) ∷ []) (HasLeak (Across p)) over (in_first (HasLeak (Across p)) [])))
 
@@ -95,8 +103,10 @@ module _ (i : Image) (kept : List Segment) where
   first_listed w f h =
       let form = first_form (is_fixed i w) h.cell.word in
       let p = page_with i.memory w h.cell h.at in
-      let here : Contains ((w, form) ∷ []) (w, f) = subst (λ g. Contains ((w, form) ∷ []) (w, g)) h.first (in_first (w, form) []) in
-      let there : Contains (first_in i kept w (Some h.cell)) (w, f) = in_if (is_kept kept w) ((w, form) ∷ []) (w, f) h.of_kept here in
+      let here : Contains {X = ℕ × Form} ((w, form) ∷ []) (w, f) =
+      subst (λ (g : Form). Contains {X = ℕ × Form} ((w, form) ∷ []) (w, g)) h.first (in_first {X = ℕ × Form} (w, form) []) in
+      let there : Contains (first_in i kept w (Some h.cell)) (w, f) =
+      in_if {X = ℕ × Form} (is_kept kept w) ((w, form) ∷ []) (w, f) h.of_kept here in
       in_flat (page_first i kept) i.memory.pages p.page (w, f) p.inside
       (in_flat (first_at i kept) (words_below p.page.0 512) w (w, f) p.has
       (subst (λ o. Contains (first_in i kept w o) (w, f)) (sym h.at) there))
@@ -113,24 +123,23 @@ module _ (i : Image) (kept : List Segment) where
 module _ (i : Image) (kept : List Segment) (tables : Tables)
     (begun : (fact : Fact) → Contains (begin_facts i kept) fact → HoldsFact i kept tables fact)
     (looked : (t : Thread) → Contains tables.threads t → (claim : Claim)
-        → SomeAtOnce i kept (firsts_in i kept) t (outcomes i kept t) claim → Holds i kept tables claim)
+    → SomeAtOnce i kept (firsts_in i kept) t (outcomes i kept t) claim → Holds i kept tables claim)
     (entered : (fact : Fact) → Contains (flat_map (enter_facts i kept (handlers_in i kept)) tables.doors) fact → HoldsFact i kept tables fact)
     (read : (t : Thread) → Contains tables.threads t → (o : Outcome) → Contains (outcomes i kept t) o → (fact : Fact)
-        → Contains (follows_from i kept tables t o) fact → HoldsFact i kept tables fact)
+    → Contains (follows_from i kept tables t o) fact → HoldsFact i kept tables fact)
     (went_on : (fact : Fact) → Contains (flat_map (goes_on_facts i kept tables) tables.faulted) fact → HoldsFact i kept tables fact) where
-
   cell_held : (w : ℕ) (c : Cell) → cell_at i.memory w ≡ Some c → (fact : Fact) → Contains (cell_facts i kept w c.word) fact → HoldsFact i kept tables fact
   cell_held w c at fact inside =
       let form = first_form (is_fixed i w) c.word in
       let hands = hand_out kept (exactly c.word) (InCell w (exactly c.word)) in
       elim (cases_Bool (is_kept kept w)) [
-        | inl yes ↦
-            let here : Contains (HasForm w form ∷ []) fact = subst (λ (b : Bool). Contains (if b then HasForm w form ∷ [] else hands) fact) yes inside in
-            let has : HoldsFact i kept tables (HasForm w form) = inl (record { cell = c; at = at; of_kept = yes; first = refl }) in
+        | inl on ↦
+            let here : Contains (HasForm w form ∷ []) fact = subst (λ (b : Bool). Contains (if b then HasForm w form ∷ [] else hands) fact) on inside in
+            let has : HoldsFact i kept tables (HasForm w form) = inl (record { cell = c; at = at; of_kept = on; first = refl }) in
             subst (HoldsFact i kept tables) (only_in (HasForm w form) fact here) has
-        | inr no ↦
-            let here : Contains hands fact = subst (λ (b : Bool). Contains (if b then HasForm w form ∷ [] else hands) fact) no inside in
-            let there : Contains (handed_in i kept w (Some c)) fact = subst (λ (b : Bool). Contains (if b then [] else hands) fact) (sym no) here in
+        | inr off ↦
+            let here : Contains hands fact = subst (λ (b : Bool). Contains (if b then HasForm w form ∷ [] else hands) fact) off inside in
+            let there : Contains (handed_in i kept w (Some c)) fact = subst (λ (b : Bool). Contains (if b then [] else hands) fact) (sym off) here in
             begun fact (handed_all i kept w c fact at (subst (λ o. Contains (handed_in i kept w o) fact) (sym at) there))
       ]
 

@@ -1,17 +1,17 @@
 -- What a loop over a list adds.
 use Rattle.std.proofs.Common.{◌≡◌, ◌⊎◌, inl, inr, ℕ, zero, suc, ◌+◌, ◌<◌, ◌≤◌, Bool, true, false, ◌||◌, List, [], ◌∷◌, ◌++◌, length, take}
-use Rattle.std.proofs.Common.{map, get_or, refl, sym, ap, ◌∙◌, subst, arith, append_assoc, length-append}
+use Rattle.std.proofs.Common.{map, get_or, refl, sym, ap, ◌∙◌, subst, arith, append_assoc, length-append, eq-eqb, ne_eqb}
 use Rattle.std.proofs.lemmas.List.{append-nil, flat_map_more, map-id, take_all, take_more}
 use Rattle.std.proofs.lemmas.{List.FromFn.map-range_with_len_more, Option.{slice_get_within, get_or_from_slice_get}}
 use Rattle.std.proofs.lemmas.List.Elements.{Contains-append_left, Contains-push, Contains-push_cases}
-use Rattle.std.specs.Prelude.{if◌then◌else◌, Contains, Some, slice_get}
+use Rattle.std.specs.Prelude.{if◌then◌else◌, ◌==◌, Contains, Some, slice_get}
 use Rattle.std.specs.List.{flat_map, list_any, range_with_len}
 use Rattle.mm_model.specs.Image.{Image}
 use Rattle.mm_kernel.specs.{Segments.Segment, Facts.Fact}
 use Rattle.mm_kernel.specs.declared.{form.Form.Form, outcome.Outcome.Outcome, thread.Thread.Thread}
 use Rattle.mm_keep.specs.Claims.{Claim, Tables, Begins, Adds, AddsFacts}
 use Rattle.mm_keep.specs.Searching.{FollowsAtOnce, SomeAtOnce}
-use Rattle.mm_keep.proofs.Claims.{adds_none, adds_then, facts_then}
+use Rattle.mm_keep.proofs.Claims.{adds_none, adds_then, facts_none, facts_then}
 use Rattle.mm_keep.proofs.Members.{none_in, in_cases}
 
 -- 1. Lists that have grown.
@@ -58,6 +58,7 @@ module _ {X : Type 0} (p : X → Bool) where
       first : (a b : Bool) → a ≡ true → (a || b) ≡ true
       first true b e = refl
       first false b e = cc
+
       rest : (a b : Bool) → b ≡ true → (a || b) ≡ true
       rest true b e = refl
       rest false b e = e
@@ -95,6 +96,10 @@ range_end n =
 
 -- 3. What is added.
 
+-- some image, for what is said of any
+pub some_image : Image
+some_image = record { version = 0; split = false; slots = []; memory = record { pages = []; frames = 0 } }
+
 module _ (i : Image) (kept : List Segment) where
   pub facts_same : (xs ys : List Fact) (a b : Tables) → xs ≡ ys → AddsFacts i kept xs a b → AddsFacts i kept ys a b
   facts_same xs ys a b e h = subst (λ l. AddsFacts i kept l a b) e h
@@ -104,6 +109,14 @@ module _ (i : Image) (kept : List Segment) where
       → AddsFacts i kept (if c then xs else ys) from to → AddsFacts i kept (if b then xs else ys) from to
   facts_at b c xs ys from to e h = subst (λ (d : Bool). AddsFacts i kept (if d then xs else ys) from to) (sym e) h
 
+  -- facts of two numbers that are the same, or not
+  pub facts_equal : (n m : ℕ) (xs : List Fact) (from to : Tables) → n ≡ m → AddsFacts i kept xs from to
+      → AddsFacts i kept (if n == m then xs else []) from to
+  facts_equal n m xs from to same h = facts_at (n == m) true xs [] from to (eq-eqb n m same) h
+
+  pub facts_other : (n m : ℕ) (xs : List Fact) (a : Tables) → (n ≡ m → ⊥) → AddsFacts i kept (if n == m then xs else []) a a
+  facts_other n m xs a other = facts_at (n == m) false xs [] a a (ne_eqb n m other) (facts_none i kept a)
+
   module _ {X : Type 0} (f : X → List Fact) where
     pub facts_more : (xs : List X) (k : ℕ) (x : X) (a b c : Tables) → k < length xs → x ≡ get_or xs k x
         → AddsFacts i kept (flat_map f (take k xs)) a b → AddsFacts i kept (f x) b c
@@ -111,6 +124,9 @@ module _ (i : Image) (kept : List Segment) where
     facts_more xs k x a b c lt is g h =
         facts_same (flat_map f (take k xs) ++ f x) (flat_map f (take (k + 1) xs)) a c (sym (flat_more f xs k x lt is))
         (facts_then i kept (flat_map f (take k xs)) (f x) a b c g h)
+
+    pub facts_single : (x : X) (a b : Tables) → AddsFacts i kept (f x) a b → AddsFacts i kept (flat_map f (x ∷ [])) a b
+    facts_single x a b h = facts_same (f x) (f x ++ []) a b (sym (append-nil (f x))) h
 
     pub facts_all : (xs : List X) (k : ℕ) (a b : Tables) → length xs ≤ k → AddsFacts i kept (flat_map f (take k xs)) a b
         → AddsFacts i kept (flat_map f xs) a b
@@ -138,6 +154,7 @@ module _ (i : Image) (kept : List Segment) where
       where
         whole : take (k + 1) os ≡ take k os ++ o ∷ []
         whole = take_more os k o lt ∙ ap (λ y. take k os ++ y ∷ []) (sym is)
+
         split : (claim : Claim) → SomeAtOnce i kept first t (take k os ++ o ∷ []) claim
             → SomeAtOnce i kept first t (take k os) claim ⊎ FollowsAtOnce i kept first t o claim
         split claim r = elim (Contains-push_cases (take k os) o r.outcome r.comes) [

@@ -7,19 +7,23 @@ use Rattle.std.proofs.lemmas.List.Elements.{Contains-append_left, Contains-appen
 use Rattle.std.specs.Prelude.{Contains, if◌then◌else◌, slice_get}
 use Rattle.std.specs.List.{flat_map, list_any}
 use Rattle.mm_model.specs.Image.{Image}
-use Rattle.mm_kernel.specs.{Segments.Segment, Uses.{AreDistinct, HasMore}}
+use Rattle.mm_word.specs.{Pointer.Pointer, declared.word.Cell.Cell}
+use Rattle.mm_model.specs.Slot.{Slot}
+use Rattle.mm_kernel.specs.{Segments.{Segment, live_pointers}, Uses.{AreDistinct, HasMore}}
 use Rattle.mm_kernel.specs.declared.{form.Form.Form, outcome.Outcome.Outcome, thread.{Handler.Handler, Thread.Thread}}
-use Rattle.mm_kernel.specs.{Facts.{Fact, Fact.{HasThread, HasFaulted}}, Turns.outcomes, Derived.Derived}
+use Rattle.mm_kernel.specs.{Facts.{Fact, Fact.{HasThread, HasForm, HasDoor, HasEvent, HasFaulted, HasLeak}}, Turns.outcomes, Derived.Derived}
 use Rattle.mm_keep.specs.declared.search.Search.{Search}
-use Rattle.mm_keep.specs.Claims.{Claim, Tables, Begins, Grows, Adds, AddsFacts, Holds, HoldsFact, IsSound, sizes_of}
-use Rattle.mm_keep.specs.Claims.Claim.{IsFact}
+use Rattle.mm_keep.specs.Claims.{Claim, Tables, Begins, Grows, Adds, AddsFacts, Holds, HoldsFact, IsSound, Means}
+use Rattle.mm_keep.specs.Claims.{nothing, sizes_of}
+use Rattle.mm_keep.specs.Claims.Claim.{IsFact, SomeResumes, SomeWrites}
+use Rattle.mm_keep.specs.Searching.{across_facts, page_handed, page_first, slot_facts, handler_in}
 use Rattle.mm_keep.specs.Searching.{handlers_in, begin_facts, firsts_in, loaded_facts, SomeAtOnce, taken_facts, read_facts}
 use Rattle.mm_keep.specs.Searching.{follows_from, again_of, again_facts, depends, noted, enter_facts, resumed_facts}
 use Rattle.mm_keep.specs.Searching.{written_facts, goes_on_facts, Derives, IsSearching, WentRound, IsExact}
-use Rattle.mm_keep.proofs.Claims.{begins_has, grows_same, grows_then, holds_on}
+use Rattle.mm_keep.proofs.Claims.{begins_has, grows_same, grows_then, holds_on, facts_then}
 use Rattle.mm_keep.proofs.Loops.{begins_get, begins_slice, begins_long, begins_within, get_in, read_in, some_passes, flat_more}
 use Rattle.mm_keep.proofs.Meant.{facts_mean, at_once_means, begun_means, enters_means, from_means, resumed_means, written_means}
-use Rattle.mm_keep.proofs.Meant.{only_in}
+use Rattle.mm_keep.proofs.Meant.{first_derived, only_in}
 use Rattle.mm_keep.proofs.{Members.{none_in, in_first, flat_in, in_flat}, Closing.{same_tables, exact}}
 use Rattle.mm_kernel.specs.declared.outcome.Outcome.TheVariants as outcome
 
@@ -162,8 +166,10 @@ module _ (i : Image) (kept : List Segment) where
     where
       is : x ≡ get_or a.faulted k x
       is = begins_get a.faulted b.faulted k x e.grows.faulted lt got
+
       inside : Contains a.faulted x
       inside = read_in a.faulted k x lt is
+
       holds : (fact : Fact) → Contains (goes_on_facts i kept a x) fact → HoldsFact i kept d fact
       holds fact here =
           elim (Contains-append_cases (flat_map (resumed_facts i kept x.0 x.1) a.resumes) (flat_map (written_facts x.0 x.1) a.writes) fact here) [
@@ -172,6 +178,7 @@ module _ (i : Image) (kept : List Segment) where
             | inr written ↦ w.holds (IsFact fact)
                 (flat_on (written_facts x.0 x.1) a.writes c.writes fact (grows_then a b c e.grows r.grows).writes written)
           ]
+
       sound : IsSound i kept a → IsSound i kept b → IsSound i kept d
       sound s sb =
           let has : Derived i kept (HasFaulted x.0 x.1) = s.means (IsFact (HasFaulted x.0 x.1)) inside in
@@ -188,21 +195,57 @@ module _ (i : Image) (kept : List Segment) where
     many = many;
   }
 
+  -- empty tables are sound: all that is held is the first forms of kept words
+  nothing_sound : IsSound i kept nothing
+  nothing_sound = record { means = means }
+    where
+      means : (claim : Claim) → Holds i kept nothing claim → Means i kept claim
+      means (IsFact (HasThread t)) h = absurd (none_in t h)
+      means (IsFact (HasForm w f)) (inl first) = first_derived i kept w f first
+      means (IsFact (HasForm w f)) (inr later) = absurd (none_in (w, f) later)
+      means (IsFact (HasDoor p)) h = absurd (none_in p h)
+      means (IsFact (HasEvent n e)) h = absurd (none_in (n, e) h)
+      means (IsFact (HasFaulted n t)) h = absurd (none_in (n, t) h)
+      means (IsFact (HasLeak l)) h = absurd (none_in l h)
+      means (SomeResumes n how) h = absurd (none_in (n, how) h)
+      means (SomeWrites n reg f) h = absurd (none_in (n, reg, f) h)
+
+  -- what the image begins with is there
+  begins : (a b c : Tables) → AddsFacts i kept (flat_map (across_facts kept) (live_pointers i)) nothing a
+      → AddsFacts i kept (flat_map (page_handed i kept) i.memory.pages) a b → AddsFacts i kept (flat_map (slot_facts i kept) i.slots) b c
+      → AddsFacts i kept (begin_facts i kept) nothing c
+  begins a b c g h k =
+      let pages = flat_map (page_handed i kept) i.memory.pages in
+      let slots = flat_map (slot_facts i kept) i.slots in
+      facts_then i kept (flat_map (across_facts kept) (live_pointers i)) (pages ++ slots) nothing a c g (facts_then i kept pages slots a b c h k)
+
   -- a search begins
-  pub begins_search : (s : Search) → s.handlers.items ≡ handlers_in i kept → s.first.items ≡ firsts_in i kept
-      → IsSound i kept s.tables → ((fact : Fact) → Contains (begin_facts i kept) fact → HoldsFact i kept s.tables fact)
+  pub begins_search : (s : Search) (was a b : Tables) (pointers : List Pointer) (pages : List (ℕ × List Cell)) (slots : List Slot)
+      (first : List (ℕ × Form)) (handlers : List Handler)
+      → was ≡ nothing → pointers ≡ live_pointers i → pages ≡ i.memory.pages → slots ≡ i.slots → first ≡ [] → handlers ≡ []
+      → AddsFacts i kept (flat_map (across_facts kept) pointers) was a → AddsFacts i kept (flat_map (page_handed i kept) pages) a b
+      → AddsFacts i kept (flat_map (slot_facts i kept) slots) b s.tables
+      → s.first.items ≡ first ++ flat_map (page_first i kept) pages → s.handlers.items ≡ handlers ++ flat_map (handler_in i kept) slots
       → s.looked ≡ 0 → s.readers.items ≡ [] → IsSearching i kept s
-  begins_search s handlers first sound begun none no_one = record {
-    handlers = handlers;
-    first = first;
-    sound = sound;
-    begun = begun;
-    room = omega (arith, none);
-    few = omega (arith, none);
-    looked = λ k t lt at claim follows. absurd (omega (arith, none, lt));
-    readers = λ k t lt at reads. absurd (omega (arith, none, lt));
-    inside = λ k has. absurd (none_in k (subst (λ l. Contains l k) no_one has));
-  }
+  begins_search s was a b pointers pages slots first handlers empty all_pointers all_pages all_slots no_first no_handler one two three firsts handled none no_one =
+      record {
+        handlers = handled ∙ ap (λ l. l ++ flat_map (handler_in i kept) slots) no_handler ∙ ap (flat_map (handler_in i kept)) all_slots;
+        first = firsts ∙ ap (λ l. l ++ flat_map (page_first i kept) pages) no_first ∙ ap (flat_map (page_first i kept)) all_pages;
+        sound = whole.sound nothing_sound (facts_mean i kept (begin_facts i kept) (begun_means i kept));
+        begun = λ fact inside. whole.holds (IsFact fact) inside;
+        room = omega (arith, none);
+        few = omega (arith, none);
+        looked = λ k t lt at claim follows. absurd (omega (arith, none, lt));
+        readers = λ k t lt at reads. absurd (omega (arith, none, lt));
+        inside = λ k has. absurd (none_in k (subst (λ l. Contains l k) no_one has));
+      }
+    where
+      whole : AddsFacts i kept (begin_facts i kept) nothing s.tables
+      whole = begins a b s.tables
+          (subst (λ t. AddsFacts i kept (flat_map (across_facts kept) (live_pointers i)) t a) empty
+          (subst (λ l. AddsFacts i kept (flat_map (across_facts kept) l) was a) all_pointers one))
+          (subst (λ l. AddsFacts i kept (flat_map (page_handed i kept) l) a b) all_pages two)
+          (subst (λ l. AddsFacts i kept (flat_map (slot_facts i kept) l) b s.tables) all_slots three)
 
   -- a search of which the tables have grown
   pub search_grows : (s : Search) (now : Tables) → IsSearching i kept s → Grows s.tables now → IsSound i kept now
@@ -242,12 +285,14 @@ module _ (i : Image) (kept : List Segment) where
     where
       back : (k : ℕ) (u : Thread) → k < t.looked → slice_get t.tables.threads k ≡ Some u → slice_get s.tables.threads k ≡ Some u
       back k u lt at = begins_back s.tables.threads t.tables.threads k u adds.grows.threads (omega (arith, lt, looked, next)) at
+
       same : (k : ℕ) (u : Thread) → s.looked ≤ k → k < t.looked → slice_get t.tables.threads k ≡ Some u → u ≡ thread
       same k u le lt at =
           let is : k ≡ s.looked = omega (arith, le, lt, looked) in
           let one : slice_get s.tables.threads s.looked ≡ Some u = subst (λ m. slice_get s.tables.threads m ≡ Some u) is (back k u lt at) in
           let two : ◌≡◌ {A = Option Thread} (Some u) (Some thread) = sym one ∙ got in
           cc
+
       seen : (k : ℕ) (u : Thread) → k < t.looked → slice_get t.tables.threads k ≡ Some u → (claim : Claim)
           → SomeAtOnce i kept t.first.items u (outcomes i kept u) claim → Holds i kept t.tables claim
       seen k u lt at claim follows =
@@ -256,6 +301,7 @@ module _ (i : Image) (kept : List Segment) where
             | inl less ↦ holds_on i kept s.tables t.tables adds.grows claim (h.looked k u less (back k u lt at) claim here)
             | inr more ↦ adds.holds claim (subst (λ v. SomeAtOnce i kept s.first.items v (outcomes i kept v) claim) (same k u more lt at) here)
           ]
+
       noted_all : (k : ℕ) (u : Thread) → k < t.looked → slice_get t.tables.threads k ≡ Some u → list_any depends (outcomes i kept u) ≡ true → Contains t.readers.items k
       noted_all k u lt at reads = subst (λ l. Contains l k) (sym readers) (elim (cases_lt k s.looked) [
         | inl less ↦ Contains-append_left s.readers.items (noted s.looked (outcomes i kept thread)) k (h.readers k u less (back k u lt at) reads)
@@ -265,6 +311,7 @@ module _ (i : Image) (kept : List Segment) where
             Contains-append_right s.readers.items (noted s.looked (outcomes i kept thread)) k
             (subst (λ (b : Bool). Contains (if b then s.looked ∷ [] else []) k) (sym on) (subst (λ m. Contains (s.looked ∷ []) m) is (in_first s.looked [])))
       ])
+
       within : (k : ℕ) → Contains t.readers.items k → k < length t.tables.threads
       within k has =
           let le = begins_long s.tables.threads t.tables.threads adds.grows.threads in
@@ -305,10 +352,13 @@ module _ (i : Image) (kept : List Segment) where
     where
       to_s : Grows old.tables s.tables
       to_s = grows_then old.tables a s.tables doors.grows (grows_then a b s.tables on.grows looks)
+
       from_b : Grows b new
       from_b = grows_then b s.tables new looks again.grows
+
       from_a : Grows a new
       from_a = grows_then a b new on.grows from_b
+
       reads : (k : ℕ) (fact : Fact) → Contains (again_facts i kept s.tables k) fact → HoldsFact i kept new fact
       reads k fact inside =
           let f = from_thread s.tables k fact inside in
@@ -329,8 +379,10 @@ module _ (i : Image) (kept : List Segment) where
     where
       same : new.tables ≡ old.tables
       same = same_tables old.tables new.tables went.grows sizes
+
       place : (t : Thread) (has : Contains new.tables.threads t) → slice_get new.tables.threads has.0 ≡ Some t
       place t has = slice_get_read new.tables.threads (length new.tables.threads) has.0 t refl has.1 (sym has.2)
+
       looked : (t : Thread) → Contains new.tables.threads t → (claim : Claim)
           → SomeAtOnce i kept (firsts_in i kept) t (outcomes i kept t) claim → Holds i kept new.tables claim
       looked t has claim follows =
@@ -339,6 +391,7 @@ module _ (i : Image) (kept : List Segment) where
           let lt = has.1 in
           h.looked has.0 t (omega (arith, many, le, lt)) (place t has) claim
           (subst (λ l. SomeAtOnce i kept l t (outcomes i kept t) claim) (sym h.first) follows)
+
       read : (t : Thread) → Contains new.tables.threads t → (o : Outcome) → Contains (outcomes i kept t) o → (fact : Fact)
           → Contains (follows_from i kept new.tables t o) fact → HoldsFact i kept new.tables fact
       read t has o comes fact inside =

@@ -1,14 +1,15 @@
 -- The words of pages.
 use Rattle.std.proofs.Common.{◌≡◌, ◌⊎◌, inl, inr, ℕ, zero, suc, ◌+◌, ◌*◌, ◌/◌, ◌%◌, ◌<◌, Bool, true, false, List, []}
-use Rattle.std.proofs.Common.{◌∷◌, ◌++◌, if◌then◌else◌, Some, refl, sym, ap, ◌∙◌, subst, arith, add-one, eqb-true, append_assoc}
-use Rattle.std.proofs.lemmas.{Bool.cases_lt, List.Elements.{Contains-append_left, Contains-append_right}}
+use Rattle.std.proofs.Common.{◌∷◌, ◌++◌, if◌then◌else◌, Some, None, refl, sym, ap, ◌∙◌, subst, arith, add-one, eqb-true, append_assoc}
+use Rattle.std.proofs.lemmas.{Bool.cases_lt, List.{append-nil, Elements.{Contains-append_left, Contains-append_right}}}
 use Rattle.std.specs.{Prelude.Contains, List.flat_map, Ordering.{nat_cmp, eq_by_cmp}, Cmp.unsigned_tied, FinMap.find}
 use Rattle.mm_word.specs.declared.word.Cell.{Cell}
 use Rattle.mm_model.specs.{Memory.{Memory, cell_at, page_at, page_of, place_of}, Image.Image}
 use Rattle.mm_model.proofs.Memories.{aligned, page_of_cell}
-use Rattle.mm_kernel.specs.{Segments.Segment, Facts.Fact}
-use Rattle.mm_keep.specs.{Claims.{Tables, AddsFacts}, Searching.words_below}
-use Rattle.mm_keep.proofs.{Claims.facts_then, Loops.{facts_same, flat_push}, Members.{in_first, in_rest}}
+use Rattle.mm_kernel.specs.{Segments.{Segment, is_kept, is_fixed}, Facts.{Fact, hand_out}, Forms.exactly, Derived.first_form}
+use Rattle.mm_kernel.specs.declared.{form.Form.Form, fact.Leak.TheVariants.{Cell as InCell}}
+use Rattle.mm_keep.specs.{Claims.{Tables, AddsFacts}, Searching.{words_below, first_in, first_at, handed_in, handed_at}}
+use Rattle.mm_keep.proofs.{Claims.{facts_none, facts_then}, Loops.{facts_at, facts_same, flat_push}, Members.{in_first, in_rest}}
 
 -- 1. The first words of a page.
 
@@ -46,7 +47,37 @@ adds_word i kept f page n a b c g h =
     facts_same i kept (flat_map f (words_below page n) ++ f (page * 4096 + 8 * n)) (flat_map f (words_below page (n + 1))) a c
     (sym (flat_words f page n)) (facts_then i kept (flat_map f (words_below page n)) (f (page * 4096 + 8 * n)) a b c g h)
 
--- 2. The word of each cell is one of a page's.
+-- 2. What a word begins with.
+
+module _ (i : Image) (kept : List Segment) (w : ℕ) where
+  pub handed_none : (a : Tables) → cell_at i.memory w ≡ None → AddsFacts i kept (handed_at i kept w) a a
+  handed_none a is = subst (λ o. AddsFacts i kept (handed_in i kept w o) a a) (sym is) (facts_none i kept a)
+
+  pub handed_kept : (c : Cell) (a : Tables) → cell_at i.memory w ≡ Some c → is_kept kept w ≡ true → AddsFacts i kept (handed_at i kept w) a a
+  handed_kept c a is on = subst (λ o. AddsFacts i kept (handed_in i kept w o) a a) (sym is)
+      (facts_at i kept (is_kept kept w) true [] (hand_out kept (exactly c.word) (InCell w (exactly c.word))) a a on (facts_none i kept a))
+
+  pub handed_other : (c : Cell) (a b : Tables) → cell_at i.memory w ≡ Some c → is_kept kept w ≡ false
+      → AddsFacts i kept (hand_out kept (exactly c.word) (InCell w (exactly c.word))) a b → AddsFacts i kept (handed_at i kept w) a b
+  handed_other c a b is off h = subst (λ o. AddsFacts i kept (handed_in i kept w o) a b) (sym is)
+      (facts_at i kept (is_kept kept w) false [] (hand_out kept (exactly c.word) (InCell w (exactly c.word))) a b off h)
+
+  pub first_none : (l : List (ℕ × Form)) → cell_at i.memory w ≡ None → l ≡ l ++ first_at i kept w
+  first_none l is = sym (ap (λ o. l ++ first_in i kept w o) is ∙ append-nil l)
+
+  first_by : (l : List (ℕ × Form)) (c : Cell) (b : Bool) → cell_at i.memory w ≡ Some c → is_kept kept w ≡ b
+      → l ++ first_at i kept w ≡ l ++ (if b then (w, first_form (is_fixed i w) c.word) ∷ [] else [])
+  first_by l c b is of = ap (λ o. l ++ first_in i kept w o) is
+      ∙ ap (λ (d : Bool). l ++ (if d then (w, first_form (is_fixed i w) c.word) ∷ [] else [])) of
+
+  pub first_kept : (l m : List (ℕ × Form)) (c : Cell) → cell_at i.memory w ≡ Some c → is_kept kept w ≡ true
+      → m ≡ l ++ (w, first_form (is_fixed i w) c.word) ∷ [] → m ≡ l ++ first_at i kept w
+  first_kept l m c is on e = e ∙ sym (first_by l c true is on)
+
+  pub first_other : (l : List (ℕ × Form)) (c : Cell) → cell_at i.memory w ≡ Some c → is_kept kept w ≡ false → l ≡ l ++ first_at i kept w
+  first_other l c is off = sym (first_by l c false is off ∙ append-nil l)
+
+-- 3. The word of each cell is one of a page's.
 
 found_page : (pages : List (ℕ × List Cell)) (q : ℕ) (cells : List Cell) → find nat_cmp q pages ≡ Some cells → Contains pages (q, cells)
 found_page [] q cells h = cc

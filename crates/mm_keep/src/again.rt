@@ -20,7 +20,13 @@ use mm_word::{GuardedPtr, NoMemory, enter};
 // 1. Threads that read what others leave.
 
 /// Takes up a thread that loads, with each form that was stored to a word that it may reach.
-fn load_stored(kernel: &Kernel, tables: &mut Tables, part: Part, reg: u8, next: &Thread) -> Result<(), NoMemory>
+fn load_stored(
+    kernel: &Kernel,
+    tables: &mut Tables,
+    part: Part,
+    reg: u8,
+    next: &Thread,
+) -> Result<(), NoMemory>
     ensures { OnOk result (AddsFacts kernel.now.image kernel.now.kept
         (flat_map (loaded_facts kernel.now.image kernel.now.kept part reg next.now) tables.old.stored) tables.old
         tables.new) }
@@ -42,11 +48,21 @@ fn comes_from(origin: &Origin, slot: u8) -> bool
     }
 }
 
+/// How many registers there are.
+fn registers(forms: &[Form; 16]) -> usize
+    ensures count { result ≡ length forms.now }
+    ensures sixteen { result ≡ 16 }
+{
+    forms.len()
+}
+
 /// A thread with the words of an event in four registers, from a register on.
 fn with_words(t: &Thread, reg: u8, words: &Handling) -> Thread
     ensures { result ≡ with_event t.now reg words.now.ip words.now.address words.now.value }
 {
-    if reg < 16 {
+    let at = usize::from(reg);
+    let count = registers(&t.forms);
+    if at < count {
         with_event(t, reg, words.ip, words.address, words.value)
     } else {
         *t
@@ -134,14 +150,21 @@ fn read_served(
 }
 
 /// Adds what follows from an outcome of a thread and from what others leave.
-fn follow_again(kernel: &Kernel, tables: &mut Tables, t: &Thread, outcome: &Outcome) -> Result<(), NoMemory>
+fn follow_again(
+    kernel: &Kernel,
+    tables: &mut Tables,
+    t: &Thread,
+    outcome: &Outcome,
+) -> Result<(), NoMemory>
     ensures { OnOk result (AddsFacts kernel.now.image kernel.now.kept
         (follows_from kernel.now.image kernel.now.kept tables.old t.now outcome.now) tables.old tables.new) }
 {
     match *outcome {
         Outcome::Loads { part, reg, next } => load_stored(kernel, tables, part, reg, &next),
         Outcome::TakesEvent { reg, next } => take_events(kernel, tables, &t.origin, reg, &next),
-        Outcome::ReadsServed { reg, from, next } => read_served(kernel, tables, &t.origin, reg, from, &next),
+        Outcome::ReadsServed { reg, from, next } => read_served(
+            kernel, tables, &t.origin, reg, from, &next,
+        ),
         _ => Ok(()),
     }
 }
@@ -177,7 +200,13 @@ fn resume_as(kernel: &Kernel, tables: &mut Tables, u: &Thread, how: How) -> Resu
 ghost use Rattle.mm_kernel.specs.Derived.{resumed};
 
 /// Takes up a faulted thread as a thread of a slot resumes what the slot serves, if it is that slot which serves it.
-fn resume_by(kernel: &Kernel, tables: &mut Tables, slot: u8, u: &Thread, done: (u8, How)) -> Result<(), NoMemory>
+fn resume_by(
+    kernel: &Kernel,
+    tables: &mut Tables,
+    slot: u8,
+    u: &Thread,
+    done: (u8, How),
+) -> Result<(), NoMemory>
     ensures { OnOk result (AddsFacts kernel.now.image kernel.now.kept
         (resumed_facts kernel.now.image kernel.now.kept slot u.now done) tables.old tables.new) }
 {
@@ -203,7 +232,12 @@ fn resume(kernel: &Kernel, tables: &mut Tables, slot: u8, u: &Thread) -> Result<
 }
 
 /// Adds a faulted thread with a form that a thread of a slot writes into a register, if it is that slot which serves it.
-fn write_by(tables: &mut Tables, slot: u8, u: &Thread, done: &(u8, u8, Form)) -> Result<(), NoMemory>
+fn write_by(
+    tables: &mut Tables,
+    slot: u8,
+    u: &Thread,
+    done: &(u8, u8, Form),
+) -> Result<(), NoMemory>
     ensures { OnOk result ((i : ImageValue) (kept : List Segment)
         → AddsFacts i kept (written_facts slot u.now done.now) tables.old tables.new) }
 {
@@ -265,7 +299,12 @@ fn enter_at(
 }
 
 /// Takes up the threads that enter a door, with each of these handlers.
-fn enter_door(kernel: &Kernel, tables: &mut Tables, door: GuardedPtr, handlers: &[Handler]) -> Result<(), NoMemory>
+fn enter_door(
+    kernel: &Kernel,
+    tables: &mut Tables,
+    door: GuardedPtr,
+    handlers: &[Handler],
+) -> Result<(), NoMemory>
     ensures { OnOk result (AddsFacts kernel.now.image kernel.now.kept
         (enter_facts kernel.now.image kernel.now.kept handlers.now door) tables.old tables.new) }
 {
@@ -276,7 +315,11 @@ fn enter_door(kernel: &Kernel, tables: &mut Tables, door: GuardedPtr, handlers: 
 }
 
 /// Takes up the threads that enter the doors, with each of these handlers.
-pub fn enter_doors(kernel: &Kernel, tables: &mut Tables, handlers: &[Handler]) -> Result<(), NoMemory>
+pub fn enter_doors(
+    kernel: &Kernel,
+    tables: &mut Tables,
+    handlers: &[Handler],
+) -> Result<(), NoMemory>
     ensures { OnOk result (AddsFacts kernel.now.image kernel.now.kept
         (flat_map (enter_facts kernel.now.image kernel.now.kept handlers.now) tables.old.doors) tables.old tables.new) }
 {

@@ -50,7 +50,11 @@ fn note_across(kernel: &Kernel, tables: &mut Tables, p: GuardedPtr) -> Result<()
 }
 
 /// Adds the leaks of the pointers that reach both kept words and others.
-pub fn begin_pointers(kernel: &Kernel, tables: &mut Tables, pointers: &[GuardedPtr]) -> Result<(), NoMemory>
+pub fn begin_pointers(
+    kernel: &Kernel,
+    tables: &mut Tables,
+    pointers: &[GuardedPtr],
+) -> Result<(), NoMemory>
     ensures { OnOk result (AddsFacts kernel.now.image kernel.now.kept
         (flat_map (across_facts kernel.now.kept) pointers.now) tables.old tables.new) }
 {
@@ -80,7 +84,12 @@ fn first_form(kernel: &Kernel, word: u64, held: Word) -> Form
 }
 
 /// Puts down the form of a kept word, or adds what any other word hands out.
-fn begin_word(kernel: &Kernel, tables: &mut Tables, first: &mut Vec<Held>, word: u64) -> Result<(), NoMemory>
+fn begin_word(
+    kernel: &Kernel,
+    tables: &mut Tables,
+    first: &mut Vec<Held>,
+    word: u64,
+) -> Result<(), NoMemory>
     requires { word % 8 ≡ 0 }
     ensures facts { OnOk result (AddsFacts kernel.now.image kernel.now.kept
         (handed_at kernel.now.image kernel.now.kept word) tables.old tables.new) }
@@ -94,11 +103,17 @@ fn begin_word(kernel: &Kernel, tables: &mut Tables, first: &mut Vec<Held>, word:
         return Ok(());
     }
     let form = Form::of(cell.word);
-    tables.hand_out(kernel, &form, &Leak::Cell { word, form })
+    let leak = Leak::Cell { word, form };
+    tables.hand_out(kernel, &form, &leak)
 }
 
 /// Puts down the forms of the kept words of a page, and adds what its other words hand out.
-fn begin_page(kernel: &Kernel, tables: &mut Tables, first: &mut Vec<Held>, page: &Page) -> Result<(), NoMemory>
+fn begin_page(
+    kernel: &Kernel,
+    tables: &mut Tables,
+    first: &mut Vec<Held>,
+    page: &Page,
+) -> Result<(), NoMemory>
     ensures facts { OnOk result (AddsFacts kernel.now.image kernel.now.kept
         (page_handed kernel.now.image kernel.now.kept page.now) tables.old tables.new) }
     ensures first { OnOk result (first.new.items

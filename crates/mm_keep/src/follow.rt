@@ -37,14 +37,13 @@ fn show_register(kernel: &Kernel, tables: &mut Tables, t: &Thread, reg: u8) -> R
     ensures { OnOk result (AddsFacts kernel.now.image kernel.now.kept (register_shown kernel.now.kept t.now reg)
         tables.old tables.new) }
 {
-    let form = form_at(t, reg);
-    if is_open_form(kernel.kept(), form) {
+    if is_open_form(kernel.kept(), form_at(t, reg)) {
         Ok(())
     } else {
         tables.add_leak(&Leak::Fault {
             at: t.ip.addr(),
             reg,
-            form,
+            form: form_at(t, reg),
         })
     }
 }
@@ -76,7 +75,13 @@ ghost use Rattle.mm_kernel.specs.Segments.{Segment};
 ghost use Rattle.mm_kernel.specs.Facts.Fact.{HasEvent, HasFaulted};
 
 /// Adds what follows from a fault.
-fn fault(kernel: &Kernel, tables: &mut Tables, t: &Thread, address: &Form, value: &Form) -> Result<(), NoMemory>
+fn fault(
+    kernel: &Kernel,
+    tables: &mut Tables,
+    t: &Thread,
+    address: &Form,
+    value: &Form,
+) -> Result<(), NoMemory>
     ensures { OnOk result (AddsFacts kernel.now.image kernel.now.kept
         (fault_facts kernel.now.kept t.now t.now.handler address.now value.now) tables.old tables.new) }
 {
@@ -175,7 +180,13 @@ fn store_to(tables: &mut Tables, word: u64, part: Part, form: &Form) -> Result<(
 ghost use Rattle.mm_kernel.specs.declared.form.Form.{Form as FormValue};
 
 /// Adds a form to each kept word that a store may reach.
-fn store(kernel: &Kernel, tables: &mut Tables, first: &[Held], part: Part, form: &Form) -> Result<(), NoMemory>
+fn store(
+    kernel: &Kernel,
+    tables: &mut Tables,
+    first: &[Held],
+    part: Part,
+    form: &Form,
+) -> Result<(), NoMemory>
     ensures { OnOk result (AddsFacts kernel.now.image kernel.now.kept
         (flat_map (stored_facts part form.now) first.now) tables.old tables.new) }
 {
@@ -230,7 +241,11 @@ fn follow(
         Outcome::Faults { address, value } => fault(kernel, tables, t, &address, &value),
         Outcome::TakesEvent { reg: _, next: _ } => Ok(()),
         Outcome::Resumes(how) => note_resumes(tables, &t.origin, how),
-        Outcome::ReadsServed { reg: _, from: _, next: _ } => Ok(()),
+        Outcome::ReadsServed {
+            reg: _,
+            from: _,
+            next: _,
+        } => Ok(()),
         Outcome::WritesServed { reg, form } => note_writes(tables, &t.origin, reg, &form),
     }
 }
@@ -257,9 +272,17 @@ fn depends(outcome: &Outcome) -> bool
     ensures { result ≡ depends outcome.now }
 {
     match *outcome {
-        Outcome::Loads { part: _, reg: _, next: _ } => true,
+        Outcome::Loads {
+            part: _,
+            reg: _,
+            next: _,
+        } => true,
         Outcome::TakesEvent { reg: _, next: _ } => true,
-        Outcome::ReadsServed { reg: _, from: _, next: _ } => true,
+        Outcome::ReadsServed {
+            reg: _,
+            from: _,
+            next: _,
+        } => true,
         _ => false,
     }
 }

@@ -1,6 +1,9 @@
 //! The search for all that a kernel can come to, whatever its callers do.
 #![tactic(auto)]
 
+mod again;
+mod begin;
+mod follow;
 mod integers;
 mod kernel;
 mod live;

@@ -44,7 +44,12 @@ fn note_reader(readers: &mut Vec<usize>, at: usize, outcomes: &[Outcome]) -> Res
 }
 
 /// Looks again at threads, and says whether there are no more of them than the limit.
-fn look_again_at(kernel: &Kernel, tables: &mut Tables, readers: &[usize], limit: usize) -> Result<bool, NoMemory>
+fn look_again_at(
+    kernel: &Kernel,
+    tables: &mut Tables,
+    readers: &[usize],
+    limit: usize,
+) -> Result<bool, NoMemory>
     requires sound { IsSound kernel.now.image kernel.now.kept tables.old }
     requires inside { (k : ℕ) → Contains readers.now k → k < length tables.old.threads }
     requires few { length tables.old.threads ≤ limit }
@@ -55,7 +60,8 @@ fn look_again_at(kernel: &Kernel, tables: &mut Tables, readers: &[usize], limit:
 {
     for at in readers {
         look_again(kernel, tables, *at)?;
-        if tables.threads() > limit {
+        let found = tables.threads();
+        if found > limit {
             return Ok(false);
         }
     }
@@ -114,7 +120,8 @@ impl Search {
         ensures more { IfOk result (λ few. few ≡ false → HasMore kernel.now.image kernel.now.kept self.new.limit) }
     {
         while self.looked < self.tables.threads() {
-            if self.tables.threads() > self.limit {
+            let found = self.tables.threads();
+            if found > self.limit {
                 return Ok(false);
             }
             self.look(kernel)?;
@@ -133,7 +140,8 @@ impl Search {
     {
         enter_doors(kernel, &mut self.tables, &self.handlers)?;
         go_on(kernel, &mut self.tables)?;
-        if !self.look_at_new(kernel)? {
+        let few = self.look_at_new(kernel)?;
+        if !few {
             return Ok(false);
         }
         look_again_at(kernel, &mut self.tables, &self.readers, self.limit)
@@ -148,10 +156,12 @@ impl Search {
     {
         for _ in 0..u64::MAX {
             let before = self.tables.size();
-            if !self.round(kernel)? {
+            let few = self.round(kernel)?;
+            if !few {
                 return Ok(false);
             }
-            if self.tables.size() == before {
+            let after = self.tables.size();
+            if after == before {
                 return Ok(true);
             }
         }
@@ -166,7 +176,8 @@ pub fn find(alloc: Global, kernel: &Kernel, limit: usize) -> Result<Option<Table
     ensures few { IfOk result (λ found. IfSome found (λ tables. length tables.threads ≤ limit)) }
 {
     let mut search = Search::new(alloc, kernel, limit)?;
-    if search.run(kernel)? {
+    let few = search.run(kernel)?;
+    if few {
         Ok(Some(search.tables))
     } else {
         Ok(None)
