@@ -1,9 +1,9 @@
 //! The search for all that a kernel can come to.
 
-ghost use Rattle.std.specs.Prelude.{◌≡◌, ◌+◌, ◌<◌, ◌≤◌, ◌++◌, true, false, IfOk, OnOk, Contains, ℕ, MatchOption, length};
+ghost use Rattle.std.specs.Prelude.{[], ◌≡◌, ◌+◌, ◌<◌, ◌≤◌, ◌++◌, true, false, IfOk, OnOk, Contains, ℕ, MatchOption, length};
 ghost use Rattle.std.specs.List.{flat_map};
 ghost use Rattle.mm_kernel.specs.Uses.{HasMore};
-ghost use Rattle.mm_keep.specs.Claims.{Grows, IsSound};
+ghost use Rattle.mm_keep.specs.Claims.{Grows, IsSound, nothing};
 ghost use Rattle.mm_keep.specs.Searching.{Derives, IsExact, IsSearching, WentRound, again_facts, noted};
 
 use crate::again::{enter_doors, go_on, look_again};
@@ -74,24 +74,47 @@ impl Search {
         ensures searching { IfOk result (λ s. IsSearching kernel.now.image kernel.now.kept s) }
         ensures limit { IfOk result (λ s. s.limit ≡ limit) }
     {
-        let mut tables = Tables::new(alloc);
-        let mut first = Vec::new(alloc);
-        let mut handlers = Vec::new(alloc);
-        let pointers = live_pointers(alloc, kernel.image())?;
-        begin_pointers(kernel, &mut tables, &pointers)?;
-        begin_pages(kernel, &mut tables, &mut first, kernel.image().pages())?;
-        begin_slots(kernel, &mut tables, &mut handlers, kernel.image().slots())?;
-        Ok(Search {
-            tables,
+        let mut search = Search {
+            tables: Tables::new(alloc),
             limit,
-            first,
-            handlers,
+            first: Vec::new(alloc),
+            handlers: Vec::new(alloc),
             looked: 0,
             readers: Vec::new(alloc),
-        })
+        };
+        search.begin(alloc, kernel)?;
+        Ok(search)
+    }
+
+    /// Takes up what the image begins with.
+    #[tactic(none)]
+    fn begin(&mut self, alloc: Global, kernel: &Kernel) -> Result<(), NoMemory>
+        requires tables { self.old.tables ≡ nothing }
+        requires first { self.old.first.items ≡ [] }
+        requires handlers { self.old.handlers.items ≡ [] }
+        requires looked { self.old.looked ≡ 0 }
+        requires readers { self.old.readers.items ≡ [] }
+        ensures searching { OnOk result (IsSearching kernel.now.image kernel.now.kept self.new) }
+        ensures limit { OnOk result (self.new.limit ≡ self.old.limit) }
+    {
+        let pointers = live_pointers(alloc, kernel.image())?;
+        begin_pointers(kernel, &mut self.tables, &pointers)?;
+        begin_pages(
+            kernel,
+            &mut self.tables,
+            &mut self.first,
+            kernel.image().pages(),
+        )?;
+        begin_slots(
+            kernel,
+            &mut self.tables,
+            &mut self.handlers,
+            kernel.image().slots(),
+        )
     }
 
     /// Looks at the next thread: adds what follows from its turn by itself.
+    #[tactic(none)]
     fn look(&mut self, kernel: &Kernel) -> Result<(), NoMemory>
         requires searching { IsSearching kernel.now.image kernel.now.kept self.old }
         requires next { self.old.looked < length self.old.tables.threads }
@@ -111,6 +134,7 @@ impl Search {
     }
 
     /// Looks at each thread that was not looked at, and says whether there are no more threads than the limit.
+    #[tactic(none)]
     fn look_at_new(&mut self, kernel: &Kernel) -> Result<bool, NoMemory>
         requires { IsSearching kernel.now.image kernel.now.kept self.old }
         ensures searching { OnOk result (IsSearching kernel.now.image kernel.now.kept self.new) }
@@ -130,6 +154,7 @@ impl Search {
     }
 
     /// Adds all that follows from what is there, and says whether there are no more threads than the limit.
+    #[tactic(none)]
     fn round(&mut self, kernel: &Kernel) -> Result<bool, NoMemory>
         requires { IsSearching kernel.now.image kernel.now.kept self.old }
         ensures searching { IfOk result (λ few. few ≡ true → IsSearching kernel.now.image kernel.now.kept self.new) }
@@ -148,6 +173,7 @@ impl Search {
     }
 
     /// Finds all, and says whether there are no more threads than the limit.
+    #[tactic(none)]
     fn run(&mut self, kernel: &Kernel) -> Result<bool, NoMemory>
         requires { IsSearching kernel.now.image kernel.now.kept self.old }
         ensures all { IfOk result (λ few. few ≡ true → IsExact kernel.now.image kernel.now.kept self.new.tables) }
@@ -170,6 +196,7 @@ impl Search {
 }
 
 /// Finds all that a kernel can come to, whatever its callers do, unless it has more threads than the limit.
+#[tactic(none)]
 pub fn find(alloc: Global, kernel: &Kernel, limit: usize) -> Result<Option<Tables>, NoMemory>
     ensures more { IfOk result (λ found. found ≡ None → HasMore kernel.now.image kernel.now.kept limit) }
     ensures all { IfOk result (λ found. IfSome found (IsExact kernel.now.image kernel.now.kept)) }

@@ -1,4 +1,5 @@
-use Rattle.std.proofs.Common.{◌<◌, length, arith}
+use Rattle.std.proofs.Common.{◌<◌, length, get_or, arith}
+use Rattle.std.proofs.lemmas.List.{get_or_default}
 use Rattle.mm_keep.specs.Searching.{again_facts}
 use Rattle.mm_keep.proofs.{Loops.{begins_within, read_in}, Rounds.{derives_all, derives_none, reader_more, has_more}}
 use Rattle.mm_keep.proofs.search.look_again_at.Goals as goal
@@ -7,8 +8,9 @@ pub look_again-requires : goal.look_again-requires
 look_again-requires c =
     let l = c.loop-at in
     let a = c.args.tables.now in
-    begins_within a.threads l.tables.threads c.at-item.result l.invariant.derives.grows.threads
-    (c.requires.inside c.at-item.result (read_in c.args.readers.now l.at-index c.at-item.result c.loop-at-test.true c.at-item.is))
+    let at = get_or c.args.readers.now l.at-index 0 in
+    begins_within a.threads l.tables.threads at l.invariant.derives.grows.threads
+    (c.requires.inside at (read_in c.args.readers.now l.at-index at c.loop-at-test.true (get_or_default c.args.readers.now l.at-index 0 at c.loop-at-test.true)))
 
 pub loop-at-init : goal.loop-at-init
 loop-at-init c =
@@ -17,9 +19,10 @@ loop-at-init c =
 pub loop-at-preserved : goal.loop-at-preserved
 loop-at-preserved c =
     let l = c.loop-at in
+    let at = get_or c.args.readers.now l.at-index 0 in
     record {
-      derives = reader_more c.args.kernel.now.image c.args.kernel.now.kept c.args.readers.now l.at-index c.at-item.result c.args.tables.now l.tables c.look_again.new.tables
-          c.loop-at-test.true c.at-item.is l.invariant.derives c.in_ok-look_again.ensures;
+      derives = reader_more c.args.kernel.now.image c.args.kernel.now.kept c.args.readers.now l.at-index at c.args.tables.now l.tables c.look_again.new.tables
+          c.loop-at-test.true (get_or_default c.args.readers.now l.at-index 0 at c.loop-at-test.true) l.invariant.derives c.in_ok-look_again.ensures;
       few = (let le = c.if-found-limit.false in let is = c.threads-found.ensures.count in omega (arith, le, is));
     }
 
