@@ -87,7 +87,6 @@ impl Search {
     }
 
     /// Takes up what the image begins with.
-    #[tactic(none)]
     fn begin(&mut self, alloc: Global, kernel: &Kernel) -> Result<(), NoMemory>
         requires tables { self.old.tables ≡ nothing }
         requires first { self.old.first.items ≡ [] }
@@ -110,11 +109,11 @@ impl Search {
             &mut self.tables,
             &mut self.handlers,
             kernel.image().slots(),
-        )
+        )?;
+        Ok(())
     }
 
     /// Looks at the next thread: adds what follows from its turn by itself.
-    #[tactic(none)]
     fn look(&mut self, kernel: &Kernel) -> Result<(), NoMemory>
         requires searching { IsSearching kernel.now.image kernel.now.kept self.old }
         requires next { self.old.looked < length self.old.tables.threads }
@@ -134,7 +133,6 @@ impl Search {
     }
 
     /// Looks at each thread that was not looked at, and says whether there are no more threads than the limit.
-    #[tactic(none)]
     fn look_at_new(&mut self, kernel: &Kernel) -> Result<bool, NoMemory>
         requires { IsSearching kernel.now.image kernel.now.kept self.old }
         ensures searching { OnOk result (IsSearching kernel.now.image kernel.now.kept self.new) }
@@ -153,8 +151,14 @@ impl Search {
         Ok(true)
     }
 
+    /// What was found.
+    fn into_tables(self) -> Tables
+        ensures { result ≡ self.tables }
+    {
+        self.tables
+    }
+
     /// Adds all that follows from what is there, and says whether there are no more threads than the limit.
-    #[tactic(none)]
     fn round(&mut self, kernel: &Kernel) -> Result<bool, NoMemory>
         requires { IsSearching kernel.now.image kernel.now.kept self.old }
         ensures searching { IfOk result (λ few. few ≡ true → IsSearching kernel.now.image kernel.now.kept self.new) }
@@ -173,7 +177,6 @@ impl Search {
     }
 
     /// Finds all, and says whether there are no more threads than the limit.
-    #[tactic(none)]
     fn run(&mut self, kernel: &Kernel) -> Result<bool, NoMemory>
         requires { IsSearching kernel.now.image kernel.now.kept self.old }
         ensures all { IfOk result (λ few. few ≡ true → IsExact kernel.now.image kernel.now.kept self.new.tables) }
@@ -205,7 +208,7 @@ pub fn find(alloc: Global, kernel: &Kernel, limit: usize) -> Result<Option<Table
     let mut search = Search::new(alloc, kernel, limit)?;
     let few = search.run(kernel)?;
     if few {
-        Ok(Some(search.tables))
+        Ok(Some(search.into_tables()))
     } else {
         Ok(None)
     }
