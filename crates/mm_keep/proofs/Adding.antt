@@ -1,12 +1,12 @@
 -- What is added to one table is added to all of them.
-use Rattle.std.{proofs.Common.{◌≡◌, ◌⊎◌, inl, inr, ℕ, List, [], ◌∷◌, refl, sym, ap, subst}, specs.Prelude.Contains}
+use Rattle.std.{proofs.Common.{inl, inr, ℕ, List, [], ◌∷◌, refl, sym, subst}}
 use Rattle.mm_word.specs.{Pointer.{Pointer as PointerValue}}
 use Rattle.mm_isa.specs.declared.instr.How.{How}
 use Rattle.mm_model.specs.Image.{Image}
 use Rattle.mm_kernel.specs.Segments.{Segment}
 use Rattle.mm_kernel.specs.declared.{fact.{Leak.Leak, Handling.Handling}, form.Form.Form, thread.Thread.Thread}
 use Rattle.mm_kernel.specs.Facts.{Fact, Fact.{HasThread, HasForm, HasDoor, HasEvent, HasFaulted, HasLeak}}
-use Rattle.mm_keep.specs.Claims.{Claim, Tables, Begins, Grows, Adds, AddsFacts, Facts, Holds, IsSound, Means, Only}
+use Rattle.mm_keep.specs.Claims.{Claim, Tables, Adds, AddsFacts, Facts, Holds, IsSound, Means, Only}
 use Rattle.mm_keep.specs.Claims.Claim.{IsFact, SomeResumes, SomeWrites}
 use Rattle.mm_keep.proofs.{Claims.begins_same, Members.{in_first, in_cases, none_in}, Same.Inserted}
 
@@ -55,7 +55,8 @@ module _ (i : Image) (kept : List Segment) (old : Tables) where
   }
 
   -- to the doors
-  door_sound : (p : PointerValue) (now : List (PointerValue)) → Inserted old.doors p now → IsSound i kept old → Means i kept (IsFact (HasDoor p)) → IsSound i kept (record old { doors = now })
+  door_sound : (p : PointerValue) (now : List (PointerValue)) → Inserted old.doors p now
+      → IsSound i kept old → Means i kept (IsFact (HasDoor p)) → IsSound i kept (record old { doors = now })
   door_sound p now put s m = record { means = sound }
     where
       sound : (claim : Claim) → Holds i kept (record old { doors = now }) claim → Means i kept claim
@@ -123,7 +124,8 @@ module _ (i : Image) (kept : List Segment) (old : Tables) where
   }
 
   -- to the stored
-  form_sound : (w : ℕ) (f : Form) (now : List (ℕ × Form)) → Inserted old.stored (w, f) now → IsSound i kept old → Means i kept (IsFact (HasForm w f)) → IsSound i kept (record old { stored = now })
+  form_sound : (w : ℕ) (f : Form) (now : List (ℕ × Form)) → Inserted old.stored (w, f) now
+      → IsSound i kept old → Means i kept (IsFact (HasForm w f)) → IsSound i kept (record old { stored = now })
   form_sound w f now put s m = record { means = sound }
     where
       sound : (claim : Claim) → Holds i kept (record old { stored = now }) claim → Means i kept claim
@@ -157,7 +159,8 @@ module _ (i : Image) (kept : List Segment) (old : Tables) where
   }
 
   -- to the events
-  event_sound : (h : ℕ) (e : Handling) (now : List (ℕ × Handling)) → Inserted old.events (h, e) now → IsSound i kept old → Means i kept (IsFact (HasEvent h e)) → IsSound i kept (record old { events = now })
+  event_sound : (h : ℕ) (e : Handling) (now : List (ℕ × Handling)) → Inserted old.events (h, e) now
+      → IsSound i kept old → Means i kept (IsFact (HasEvent h e)) → IsSound i kept (record old { events = now })
   event_sound h e now put s m = record { means = sound }
     where
       sound : (claim : Claim) → Holds i kept (record old { events = now }) claim → Means i kept claim
@@ -191,7 +194,8 @@ module _ (i : Image) (kept : List Segment) (old : Tables) where
   }
 
   -- to the faulted
-  faulted_sound : (h : ℕ) (t : Thread) (now : List (ℕ × Thread)) → Inserted old.faulted (h, t) now → IsSound i kept old → Means i kept (IsFact (HasFaulted h t)) → IsSound i kept (record old { faulted = now })
+  faulted_sound : (h : ℕ) (t : Thread) (now : List (ℕ × Thread)) → Inserted old.faulted (h, t) now
+      → IsSound i kept old → Means i kept (IsFact (HasFaulted h t)) → IsSound i kept (record old { faulted = now })
   faulted_sound h t now put s m = record { means = sound }
     where
       sound : (claim : Claim) → Holds i kept (record old { faulted = now }) claim → Means i kept claim
@@ -225,7 +229,8 @@ module _ (i : Image) (kept : List Segment) (old : Tables) where
   }
 
   -- to the resumes
-  resumes_sound : (h : ℕ) (w : How) (now : List (ℕ × How)) → Inserted old.resumes (h, w) now → IsSound i kept old → Means i kept (SomeResumes h w) → IsSound i kept (record old { resumes = now })
+  resumes_sound : (h : ℕ) (w : How) (now : List (ℕ × How)) → Inserted old.resumes (h, w) now
+      → IsSound i kept old → Means i kept (SomeResumes h w) → IsSound i kept (record old { resumes = now })
   resumes_sound h w now put s m = record { means = sound }
     where
       sound : (claim : Claim) → Holds i kept (record old { resumes = now }) claim → Means i kept claim
@@ -259,7 +264,8 @@ module _ (i : Image) (kept : List Segment) (old : Tables) where
   }
 
   -- to the writes
-  writes_sound : (h : ℕ) (r : ℕ) (f : Form) (now : List (ℕ × ℕ × Form)) → Inserted old.writes (h, r, f) now → IsSound i kept old → Means i kept (SomeWrites h r f) → IsSound i kept (record old { writes = now })
+  writes_sound : (h : ℕ) (r : ℕ) (f : Form) (now : List (ℕ × ℕ × Form)) → Inserted old.writes (h, r, f) now
+      → IsSound i kept old → Means i kept (SomeWrites h r f) → IsSound i kept (record old { writes = now })
   writes_sound h r f now put s m = record { means = sound }
     where
       sound : (claim : Claim) → Holds i kept (record old { writes = now }) claim → Means i kept claim

@@ -1,5 +1,5 @@
 -- Tables grow and stay sound.
-use Rattle.std.proofs.Common.{◌≡◌, ◌⊎◌, inl, inr, ℕ, List, [], ◌∷◌, ◌++◌, refl, sym, ap, ◌∙◌, subst, append_assoc}
+use Rattle.std.proofs.Common.{◌≡◌, ◌⊎◌, inl, inr, List, [], ◌++◌, sym, ap, ◌∙◌, subst, append_assoc}
 use Rattle.std.proofs.Common.{arith}
 use Rattle.std.proofs.lemmas.List.{append-nil}
 use Rattle.std.proofs.lemmas.List.Elements.{Contains-append_left, Contains-append_right, Contains-append_cases}
@@ -7,7 +7,7 @@ use Rattle.std.specs.Prelude.{Contains}
 use Rattle.mm_model.specs.Image.{Image}
 use Rattle.mm_kernel.specs.Segments.{Segment}
 use Rattle.mm_kernel.specs.Facts.{Fact, Fact.{HasThread, HasForm, HasDoor, HasEvent, HasFaulted, HasLeak}}
-use Rattle.mm_keep.specs.Claims.{Claim, Tables, Begins, Grows, Adds, AddsFacts, Facts, Holds, HoldsFact, IsSound, Means}
+use Rattle.mm_keep.specs.Claims.{Claim, Tables, Begins, Grows, Adds, AddsFacts, Facts, Holds, HoldsFact}
 use Rattle.mm_keep.specs.Claims.Claim.{IsFact, SomeResumes, SomeWrites}
 
 -- 1. Growth.
@@ -73,6 +73,10 @@ module _ (i : Image) (kept : List Segment) where
     holds = λ claim p. absurd (none claim p);
     sound = λ s means. s;
   }
+
+  -- the same tables in other words
+  pub adds_from : (P : Claim → Type 0) (a was b : Tables) → a ≡ was → Adds i kept P a b → Adds i kept P was b
+  adds_from P a was b e h = subst (λ t. Adds i kept P t b) e h
 
   -- claims that are held already
   pub adds_held : (P : Claim → Type 0) (a : Tables) → ((claim : Claim) → P claim → Holds i kept a claim) → Adds i kept P a a

@@ -2,11 +2,10 @@
 use Rattle.std.proofs.Common.{List}
 use Rattle.mm_model.specs.Image.{Image}
 use Rattle.mm_kernel.specs.Segments.{Segment}
-use Rattle.mm_kernel.specs.Facts.{Fact, Fact.{HasThread, HasForm, HasDoor, HasEvent, HasFaulted, HasLeak}}
+use Rattle.mm_kernel.specs.Facts.{Fact, Fact.{HasThread, HasForm, HasDoor, HasEvent, HasFaulted}}
 use Rattle.mm_kernel.specs.Derived.{Derived}
 use Rattle.mm_kernel.specs.Derived.Derived.{begins_in_cell, begins_in_slot, reaches, enters, turns, loads, stores}
-use Rattle.mm_kernel.specs.{Derived.Derived.{takes, resumes, reads_served, writes_served}, Threads.with_form}
-use Rattle.mm_kernel.specs.declared.fact.Leak.TheVariants.{Across}
+use Rattle.mm_kernel.specs.{Derived.Derived.{takes, resumes, reads_served, writes_served}}
 use Rattle.mm_keep.specs.{Claims.{Tables, HoldsFact}, Closed.IsClosed}
 
 pub holds_derived : (i : Image) (kept : List Segment) (tables : Tables) → IsClosed i kept tables → (fact : Fact) → Derived i kept fact → HoldsFact i kept tables fact

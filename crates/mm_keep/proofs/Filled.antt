@@ -2,7 +2,7 @@
 use Rattle.std.proofs.Common.{◌≡◌, ℕ, zero, suc, ◌+◌, ◌<◌, ◌≤◌, List, [], ◌∷◌, ◌++◌, map, length, take, set, get_or}
 use Rattle.std.proofs.Common.{refl, sym, ap, ◌∙◌, subst, arith, ◌/◌, ◌^◌, inl, inr, true, nat_eq, eq-eqb}
 use Rattle.std.proofs.Math.{Seq.{take-suc, take-suc-set}, Nat.div-eq_of_lt-le}
-use Rattle.std.proofs.lemmas.{List.length-map, Nat.pow_below, Bool.cases_lt}
+use Rattle.std.proofs.lemmas.{Nat.pow_below, Bool.cases_lt}
 
 map_push : {A B : Type 0} (f : A → B) (xs : List A) (x : A) → map f (xs ++ x ∷ []) ≡ map f xs ++ f x ∷ []
 map_push f [] x = refl

@@ -1,6 +1,7 @@
--- Flags that a loop sets, number by number.
-use Rattle.std.proofs.Common.{◌≡◌, ◌⊎◌, inl, inr, ℕ, zero, suc, ◌+◌, ◌<◌, Bool, false, List, [], ◌∷◌, length, set}
-use Rattle.std.proofs.Common.{get_or, refl, ap, ◌∙◌, subst, sym, arith}
+-- Flags that a loop sets, number by number, and a test of some of a list's elements.
+use Rattle.std.proofs.Common.{◌≡◌, inl, inr, ℕ, zero, suc, ◌+◌, ◌<◌, Bool, false, List, [], ◌∷◌, length, set}
+use Rattle.std.proofs.Common.{get_or, refl, ap, ◌∙◌, subst, sym, arith, true, cond, ◌&&◌, ◌||◌}
+use Rattle.std.specs.List.{filter, list_any}
 use Rattle.mm_seg.proofs.Searches.{same_or_below}
 use Rattle.mm_keep.specs.Kernels.{AreFlags}
 
@@ -23,3 +24,13 @@ flags_more test n flags b room is before = record {
     | inr same ↦ subst (λ k. get_or (set flags n b) k false ≡ test k) (sym same) (get_same flags n b room ∙ is)
   ];
 }
+
+module _ {X : Type 0} (p q : X → Bool) where
+  one_filtered : (b : Bool) (x : X) (ys : List X) → list_any q (cond b (x ∷ ys) ys) ≡ ((b && q x) || list_any q ys)
+  one_filtered true x ys = refl
+  one_filtered false x ys = refl
+
+  -- some element passes both tests if one that passes the first passes the second
+  pub any_filtered : (xs : List X) → list_any (λ x. p x && q x) xs ≡ list_any q (filter p xs)
+  any_filtered [] = refl
+  any_filtered (x ∷ xs) = ap (λ r. (p x && q x) || r) (any_filtered xs) ∙ sym (one_filtered (p x) x (filter p xs))

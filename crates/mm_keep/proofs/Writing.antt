@@ -1,13 +1,13 @@
 -- The words that pointers can write, and the segments that cover them.
-use Rattle.std.proofs.Common.{◌≡◌, ◌⊎◌, inl, inr, ℕ, zero, suc, ◌+◌, ◌-◌, ◌*◌, ◌/◌, ◌%◌, ◌^◌, ◌<◌, ◌≤◌, ◌↔◌, Bool, true}
+use Rattle.std.proofs.Common.{◌≡◌, ◌⊎◌, inl, inr, ℕ, zero, suc, ◌+◌, ◌-◌, ◌*◌, ◌/◌, ◌%◌, ◌^◌, ◌<◌, ◌≤◌, Bool, true}
 use Rattle.std.proofs.Common.{false, ◌&&◌, ◌||◌, List, [], ◌∷◌, length, take, get_or, refl, sym, ap, ◌∙◌, subst, arith}
 use Rattle.std.proofs.Common.{pow_pos, eq-eqb, eqb-true, Result, Ok, Err}
 use Rattle.std.proofs.Math.Nat.{div-mul-le_self, lt-div-mul-add, div-eq_of_lt-le}
-use Rattle.std.proofs.lemmas.{Bool.{cases_Bool, cases_lt, both_ways}, List.Folds.list_any_more}
-use Rattle.std.proofs.lemmas.Nat.{pow-add, pow_below, shl-shr, shr_split}
-use Rattle.std.specs.{Prelude.{Contains, OnOk}, List.list_any}
+use Rattle.std.proofs.lemmas.{Bool.{both_ways}, List.Folds.list_any_more}
+use Rattle.std.proofs.lemmas.Nat.{pow-add, shl-shr, shr_split}
+use Rattle.std.specs.{Prelude.{OnOk}, List.list_any}
 use Rattle.mm_word.specs.{Perm.can_store, Pointer.{Pointer, InSegment, IsWellFormed, base_of, in_segment, holds_word}}
-use Rattle.mm_seg.specs.Segments.{IsSegment, IsMaximal, Covered, SomeHolds, LiesIn, segment_at, end_of}
+use Rattle.mm_seg.specs.Segments.{IsSegment, IsMaximal, Covered, SomeHolds, segment_at, end_of}
 use Rattle.mm_seg.proofs.Inserts.{at_in, in_at, in_first, in_rest, in_cases}
 use Rattle.mm_kernel.specs.Segments.{may_write}
 use Rattle.mm_keep.specs.Kernels.{CoversWritten, WritesToo}
@@ -108,8 +108,10 @@ inserted p old new stores long m = record { covers = λ w even. (to w even, from
       | inr more ↦ let f = in_at old (segment_at new c.by) more in
           inl (record { by = f.at; at = (f.small, subst (λ (s : ℕ × ℕ). s.0 ≤ w) f.is c.at.1, subst (λ (s : ℕ × ℕ). w < end_of s) f.is c.at.2) })
     ]
+
     wider : (w : ℕ) (s : ℕ × ℕ) → SomeHolds new s → s.0 ≤ w → w < end_of s → Covered new w
     wider w s b lo hi = record { by = b.at; at = (b.small, let p = b.within.0 in omega arith, let p = b.within.1 in omega arith) }
+
     from : (w : ℕ) → w % 8 ≡ 0 → Covered old w ⊎ (may_write w p ≡ true) → Covered new w
     from w even (inl c) = wider w (segment_at old c.by) (m.holds (segment_at old c.by) (in_rest (segment_of p) (segment_at old c.by) old (at_in old c.by c.at.0))) c.at.1 c.at.2
     from w even (inr e) = let b = written_in p w e in wider w (segment_of p) (m.holds (segment_of p) (in_first (segment_of p) old)) b.1 b.2
@@ -151,11 +153,13 @@ more_written ps k p old new lt is before step = record { covers = λ w even. (to
   where
     more : (w : ℕ) → list_any (may_write w) (take (k + 1) ps) ≡ (list_any (may_write w) (take k ps) || may_write w p)
     more w = list_any_more (may_write w) ps k p lt ∙ ap (λ q. list_any (may_write w) (take k ps) || may_write w q) (sym is)
+
     to : (w : ℕ) → w % 8 ≡ 0 → list_any (may_write w) (take (k + 1) ps) ≡ true → Covered new w
     to w even e = elim (either (list_any (may_write w) (take k ps)) (may_write w p) (sym (more w) ∙ e)) [
       | inl early ↦ (step.covers w even).1 (inl ((before.covers w even).0 early))
       | inr here ↦ (step.covers w even).1 (inr here)
     ]
+
     from : (w : ℕ) → w % 8 ≡ 0 → Covered new w → list_any (may_write w) (take (k + 1) ps) ≡ true
     from w even c = elim ((step.covers w even).0 c) [
       | inl early ↦ more w ∙ left_true (list_any (may_write w) (take k ps)) (may_write w p) ((before.covers w even).1 early)

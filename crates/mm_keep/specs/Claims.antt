@@ -109,7 +109,14 @@ Only claim other = claim ≡ other
 -- empty tables
 abbrev pub nothing : Tables
 nothing = record {
-  threads = []; doors = []; leaks = []; stored = []; events = []; faulted = []; resumes = []; writes = [];
+  threads = [];
+  doors = [];
+  leaks = [];
+  stored = [];
+  events = [];
+  faulted = [];
+  resumes = [];
+  writes = [];
 }
 
 abbrev pub AddsFacts : Image → List Segment → List Fact → Tables → Tables → Type 0

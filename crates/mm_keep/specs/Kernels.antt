@@ -1,6 +1,6 @@
 -- What a kernel in memory says of its image.
-use Rattle.std.specs.Prelude.{◌≡◌, ◌⊎◌, ℕ, ◌%◌, ◌<◌, ◌≤◌, Bool, true, false, not, List, slice_index_or, ◌↔◌}
-use Rattle.std.specs.List.{AllByRecursion, list_any}
+use Rattle.std.specs.Prelude.{◌≡◌, ◌⊎◌, ℕ, ◌%◌, ◌<◌, Bool, true, false, List, slice_index_or, ◌↔◌}
+use Rattle.std.specs.List.{list_any}
 use Rattle.mm_model.specs.{Image.Image, Spelling.IsImage}
 use Rattle.mm_word.specs.Pointer.{Pointer}
 use Rattle.mm_seg.specs.Segments.{Covered}

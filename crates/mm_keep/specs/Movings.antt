@@ -1,5 +1,5 @@
 -- How an instruction moves or narrows a pointer by the bits of an operand.
-use Rattle.std.specs.{Prelude.{ℕ, ℤ, Result}, Int.{w64, cast_signed}}
+use Rattle.std.specs.{Prelude.{ℕ, Result}, Int.{w64, cast_signed}}
 use Rattle.mm_word.specs.{declared.cause.Cause.Cause, Pointer.{Pointer, lea_result, leab_result, subseg_result}}
 use Rattle.mm_keep.specs.declared.turn.Moving.{Moving, TheVariants.{Lea, LeaBy, Leab, Subseg}}
 

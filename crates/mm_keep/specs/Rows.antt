@@ -1,7 +1,7 @@
 -- Threads, forms, events and leaks as numbers: by these the tables of a search compare and hash them. Each is read from
 -- its numbers again.
 use Rattle.std.specs.Prelude.{ℕ, ◌*◌, ◌%◌, ◌^◌, Bool, true, false, ◌==◌, if◌then◌else◌, unwrap_or, ◌≡◌, List, [], ◌∷◌}
-use Rattle.std.specs.Prelude.{map, slice_index_or, slice_get, Contains, Some}
+use Rattle.std.specs.{Prelude.{map, slice_index_or}, List.AllByRecursion}
 use Rattle.mm_word.specs.{declared.perm.Perm.TheVariants.Key, Perm.{code_of, perm_of}}
 use Rattle.mm_word.specs.Pointer.{Pointer as PointerValue, bits_of, pointer_of, spells_pointer}
 use Rattle.mm_isa.specs.declared.instr.How.{How, TheVariants.{Retry, Skip, Kill}}
@@ -85,14 +85,17 @@ flag true = 1
 flag false = 0
 
 unfoldable pub numbers_of : Thread → Row
-numbers_of t =
-    (numbers_of_origin t.origin ∷ numbers_of_handler t.handler ∷ (bits_of t.ip ∷ flag t.past ∷ []) ∷ [],
-    map numbers_of_form t.forms)
+numbers_of t = (
+  numbers_of_origin t.origin ∷ numbers_of_handler t.handler ∷ (bits_of t.ip ∷ flag t.past ∷ []) ∷ [],
+  map numbers_of_form t.forms,
+)
 
--- rows of threads: each is the numbers of the thread that is read from it, and none stands at two places
+-- a row is the numbers of the thread that is read from it
+abbrev pub IsKey : Row → Type 0
+IsKey row = numbers_of (thread_of row) ≡ row
+
 pub record AreKeyed (rows : List Row) : Type 0 where
-  pub canonical : (row : Row) → Contains rows row → numbers_of (thread_of row) ≡ row
-  pub distinct : (j k : ℕ) (row : Row) → slice_get rows j ≡ Some row → slice_get rows k ≡ Some row → j ≡ k
+  pub each : AllByRecursion IsKey rows
 
 -- 3. The other rows.
 

@@ -1,7 +1,12 @@
 //! A kernel: an image, with its kept segments.
 
-ghost use Rattle.std.specs.Prelude.{◌≡◌, ◌<◌, ◌%◌, ◌∷◌, ◌++◌, IfOk, OnOk, [], true};
-ghost use Rattle.mm_kernel.specs.Segments.{is_fixed};
+ghost use Rattle.std.specs.List.{list_all, list_any};
+ghost use Rattle.std.specs.Prelude.{◌≡◌, ◌%◌, ◌&&◌, IfOk, OnOk, map};
+ghost use Rattle.mm_word.specs.Perm.{can_store};
+ghost use Rattle.mm_model.specs.Slot.{Slot as SlotValue};
+ghost use Rattle.mm_model.specs.Turn.{is_handler, is_running};
+ghost use Rattle.mm_kernel.specs.Forms.{is_open_form, exactly};
+ghost use Rattle.mm_kernel.specs.Segments.{is_fixed, is_open};
 ghost use Rattle.mm_kernel.specs.Threads.{handler_of, is_free, is_kernel, is_kernel_slot, own_thread, serves_some};
 ghost use Rattle.mm_kernel.specs.Threads.{has_open_words, thread_through};
 ghost use Rattle.mm_keep.specs.Kernels.{AreFlags, CoversWritten, WritesToo};
@@ -43,25 +48,15 @@ impl<'a> Model for Kernel<'a> {
 fn are_open(kept: &[Part], words: &[Word]) -> bool
     ensures { result ≡ list_all (is_open kept.now) words.now }
 {
-    match words {
-        [] => true,
-        [word, rest @ ..] => is_open(kept, *word) && are_open(kept, rest),
-    }
+    words.iter().all(|word| is_open(kept, *word))
 }
 
 /// Whether each word that each of these forms stands for is open.
 fn are_open_forms(kept: &[Part], forms: &[Form]) -> bool
     ensures { result ≡ list_all (is_open_form kept.now) forms.now }
 {
-    match forms {
-        [] => true,
-        [form, rest @ ..] => is_open_form(kept, *form) && are_open_forms(kept, rest),
-    }
+    forms.iter().all(|form| is_open_form(kept, *form))
 }
-
-ghost use Rattle.std.specs.List.{filter, list_all, list_any};
-ghost use Rattle.mm_kernel.specs.Forms.{is_open_form};
-ghost use Rattle.mm_kernel.specs.Segments.{is_open};
 
 /// Whether a slot has an open instruction pointer and open words alone.
 fn has_open_words(kept: &[Part], slot: &Slot) -> bool
@@ -100,27 +95,14 @@ fn is_served(slot: &Slot, number: u8) -> bool
 
 /// Whether one of the slots runs and has its handler in the slot of a number.
 fn serves_one(slots: &[Slot], number: u8) -> bool
-    ensures { result ≡ list_any (λ (s : SlotValue). is_handler number s.handler)
-        (filter (λ (s : SlotValue). is_running s.state) slots.now) }
+    ensures { result ≡ list_any (λ (s : SlotValue). is_running s.state && is_handler number s.handler) slots.now }
 {
-    match slots {
-        [] => false,
-        [slot, rest @ ..] => {
-            if runs(slot) {
-                is_served(slot, number) || serves_one(rest, number)
-            } else {
-                serves_one(rest, number)
-            }
-        }
-    }
+    slots
+        .iter()
+        .any(|slot| runs(slot) && is_served(slot, number))
 }
 
-ghost use Rattle.mm_model.specs.Slot.{Slot as SlotValue};
-
-ghost use Rattle.mm_model.specs.Turn.{is_handler, is_running};
-
 /// Whether a running slot has its handler in the slot of a number.
-#[tactic(auto, unfolding(mm_kernel::specs::Threads::serves_some))]
 fn serves_some(image: &Image, number: u8) -> bool
     ensures { result ≡ serves_some image.now number }
 {
@@ -128,7 +110,6 @@ fn serves_some(image: &Image, number: u8) -> bool
 }
 
 /// For each number, whether it is that of a kernel slot.
-#[tactic(auto, using(crate::proofs::Flags::flags_more))]
 fn kernel_flags(image: &Image, kept: &[Part]) -> [bool; 256]
     ensures { AreFlags (is_kernel image.now kept.now) 256 result }
 {
@@ -140,7 +121,6 @@ fn kernel_flags(image: &Image, kept: &[Part]) -> [bool; 256]
 }
 
 /// For each number, whether it is that of a slot that handles the faults of a running one.
-#[tactic(auto, using(crate::proofs::Flags::flags_more))]
 fn serving_flags(image: &Image) -> [bool; 256]
     ensures { AreFlags (serves_some image.now) 256 result }
 {
@@ -160,8 +140,6 @@ fn stores(p: GuardedPtr) -> bool
         _ => false,
     }
 }
-
-ghost use Rattle.mm_word.specs.Perm.{can_store};
 
 /// Notes what a pointer can write.
 #[tactic(auto, using(crate::proofs::Writing::skips_store, crate::proofs::Writing::skips_short, crate::proofs::Writing::inserted_ok, crate::proofs::Writing::pointer_segment))]
@@ -295,9 +273,6 @@ fn forms_of(words: &[Word; 16]) -> [Form; 16]
     }
     forms
 }
-
-ghost use Rattle.std.specs.Prelude.{map};
-ghost use Rattle.mm_kernel.specs.Forms.{exactly};
 
 /// The thread that comes through a door with any open words, in a slot with a handler.
 pub fn thread_through(door: GuardedPtr, ip: GuardedPtr, handler: Handler) -> Thread

@@ -1,8 +1,13 @@
 //! The search for all that a kernel can come to, whatever its callers do.
 #![tactic(auto)]
 
+mod again;
+mod begin;
+mod follow;
+mod integers;
 mod kernel;
 mod live;
+mod operands;
 mod outcome_list;
 mod rows;
 mod search;
@@ -10,9 +15,11 @@ mod segments;
 mod tables;
 mod thread;
 mod turn;
+mod uses;
 
 pub use kernel::Kernel;
 pub use outcome_list::Outcomes;
-pub use search::Search;
+pub use search::find;
 pub use tables::Tables;
 pub use turn::outcomes;
+pub use uses::{fetched_word, sets_bit};

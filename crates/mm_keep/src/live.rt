@@ -1,8 +1,8 @@
 //! The live pointers of an image.
 #![tactic(auto, unfolding(mm_kernel::specs::Segments::live_pointers))]
 
-ghost use Rattle.std.specs.Prelude.{◌≡◌, ◌++◌, IfOk, OnOk};
 ghost use Rattle.std.specs.List.{filter, flat_map};
+ghost use Rattle.std.specs.Prelude.{◌≡◌, ◌++◌, IfOk, OnOk};
 ghost use Rattle.mm_word.specs.declared.word.Cell.{Cell as CellValue};
 ghost use Rattle.mm_model.specs.Slot.{Slot as SlotValue};
 ghost use Rattle.mm_model.specs.Turn.{is_running};
@@ -37,13 +37,10 @@ fn put_word(out: &mut Vec<GuardedPtr>, word: Word) -> Result<(), AllocError>
 fn put_words(out: &mut Vec<GuardedPtr>, words: &[Word]) -> Result<(), AllocError>
     ensures { OnOk result (out.new.items ≡ out.old.items ++ flat_map pointers_in words.now) }
 {
-    match words {
-        [] => Ok(()),
-        [word, rest @ ..] => {
-            put_word(out, *word)?;
-            put_words(out, rest)
-        }
+    for word in words {
+        put_word(out, *word)?;
     }
+    Ok(())
 }
 
 /// Appends the pointers of a slot.
@@ -59,15 +56,12 @@ fn put_slots(out: &mut Vec<GuardedPtr>, slots: &[Slot]) -> Result<(), AllocError
     ensures { OnOk result (out.new.items ≡ out.old.items
         ++ flat_map slot_pointers (filter (λ (s : SlotValue). is_running s.state) slots.now)) }
 {
-    match slots {
-        [] => Ok(()),
-        [slot, rest @ ..] => {
-            if runs(slot) {
-                put_slot(out, slot)?;
-            }
-            put_slots(out, rest)
+    for slot in slots {
+        if runs(slot) {
+            put_slot(out, slot)?;
         }
     }
+    Ok(())
 }
 
 /// Appends the pointers in cells.
@@ -75,26 +69,20 @@ fn put_cells(out: &mut Vec<GuardedPtr>, cells: &[Cell]) -> Result<(), AllocError
     ensures { OnOk result (out.new.items ≡ out.old.items
         ++ flat_map (λ (c : CellValue). pointers_in c.word) cells.now) }
 {
-    match cells {
-        [] => Ok(()),
-        [cell, rest @ ..] => {
-            put_word(out, cell.word)?;
-            put_cells(out, rest)
-        }
+    for cell in cells {
+        put_word(out, cell.word)?;
     }
+    Ok(())
 }
 
 /// Appends the pointers in pages.
 fn put_pages(out: &mut Vec<GuardedPtr>, pages: &[Page]) -> Result<(), AllocError>
     ensures { OnOk result (out.new.items ≡ out.old.items ++ flat_map page_pointers pages.now) }
 {
-    match pages {
-        [] => Ok(()),
-        [page, rest @ ..] => {
-            put_cells(out, page.cells())?;
-            put_pages(out, rest)
-        }
+    for page in pages {
+        put_cells(out, page.cells())?;
     }
+    Ok(())
 }
 
 /// The live pointers: those that a running slot has, and those in cells.

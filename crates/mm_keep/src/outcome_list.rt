@@ -1,6 +1,7 @@
 //! Lists of what a turn can come to.
 
 ghost use Rattle.std.specs.Prelude.{◌≡◌, ◌<◌, ◌≤◌, ◌∷◌, ◌++◌, [], length};
+ghost use Rattle.mm_keep.specs.Lists.{is_none};
 
 use mm_isa::How;
 use mm_kernel::Outcome;
@@ -100,5 +101,3 @@ impl Outcomes {
         &self.items[..self.len]
     }
 }
-
-ghost use Rattle.mm_keep.specs.Lists.{is_none};

@@ -1,13 +1,14 @@
-//! Threads and forms as numbers, by which the tables compare and hash them.
+//! Threads, forms and leaks as numbers, by which the tables compare and hash them.
 #![tactic(auto, unfolding(crate::specs::Rows::thread_of, crate::specs::Rows::numbers_of))]
 
 ghost use Rattle.std.specs.Prelude.{◌≡◌, ◌==◌, map};
-ghost use Rattle.mm_keep.specs.Rows.{form_of, handler_by, numbers_of, numbers_of_form, numbers_of_handler, numbers_of_origin};
-ghost use Rattle.mm_keep.specs.Rows.{origin_by, pointer_in, thread_of, kind_in, value_in, flag};
-
 ghost use Rattle.mm_word.specs.Pointer.{bits_of};
+ghost use Rattle.mm_keep.specs.Rows.{flag, form_of, handler_by, how_by, kind_in, leak_of, numbers_of};
+ghost use Rattle.mm_keep.specs.Rows.{numbers_of_form, numbers_of_handler, numbers_of_origin, origin_by, pointer_in};
+ghost use Rattle.mm_keep.specs.Rows.{slot_and_thread, thread_of, value_in};
 
-use mm_kernel::{Form, Handler, Origin, Thread};
+use mm_isa::How;
+use mm_kernel::{Form, Handler, Leak, Origin, Thread};
 use mm_word::{GuardedPtr, Perm};
 
 /// A kind and a value.
@@ -15,6 +16,9 @@ pub type Pair = [u64; 2];
 
 /// A thread: its origin, its handler, and its instruction pointer with whether it is past; and its forms.
 pub type Row = ([Pair; 3], [Pair; 16]);
+
+/// A leak: its kind, its address, its register, and its form.
+pub type LeakRow = (u8, u64, u8, Pair);
 
 // 1. To numbers.
 
@@ -90,8 +94,49 @@ pub fn thread_numbers(t: &Thread) -> Row
     ensures is { result ≡ numbers_of t.now }
     ensures again { thread_of result ≡ t.now }
 {
-    let head = [origin_numbers(&t.origin), handler_numbers(t.handler), [bits(t.ip), flag(t.past)]];
+    let head = [
+        origin_numbers(&t.origin),
+        handler_numbers(t.handler),
+        [bits(t.ip), flag(t.past)],
+    ];
     (head, forms_numbers(&t.forms))
+}
+
+/// A leak as numbers.
+pub fn leak_numbers(leak: &Leak) -> LeakRow
+    ensures { leak_of result ≡ leak.now }
+{
+    match *leak {
+        Leak::Across { pointer } => (0, bits(pointer), 0, [0, 0]),
+        Leak::Cell { word, form } => (1, word, 0, form_numbers(&form)),
+        Leak::Code { word } => (2, word, 0, [0, 0]),
+        Leak::Jump { at, reg, form } => (3, at, reg, form_numbers(&form)),
+        Leak::Enter { at, reg, form } => (4, at, reg, form_numbers(&form)),
+        Leak::Store { at, reg, form } => (5, at, reg, form_numbers(&form)),
+        Leak::Give { at, reg, form } => (6, at, reg, form_numbers(&form)),
+        Leak::FaultPointer { at } => (7, at, 0, [0, 0]),
+        Leak::Fault { at, reg, form } => (8, at, reg, form_numbers(&form)),
+        Leak::Loose { slot } => (9, u64::from(slot), 0, [0, 0]),
+    }
+}
+
+/// A faulted thread of a slot as numbers.
+pub fn faulted_numbers(slot: u8, t: &Thread) -> (u8, [Pair; 3], [Pair; 16])
+    ensures { slot_and_thread result ≡ (slot, t.now) }
+{
+    let (head, forms) = thread_numbers(t);
+    (slot, head, forms)
+}
+
+/// How a thread resumes, as a number.
+pub fn how_number(how: How) -> u8
+    ensures { how_by result ≡ how }
+{
+    match how {
+        How::Retry => 0,
+        How::Skip => 1,
+        How::Kill => 2,
+    }
 }
 
 // 2. From numbers.
@@ -164,5 +209,41 @@ pub fn thread(head: &[Pair; 3], numbers: &[Pair; 16]) -> Thread
         ip: pointer(head[2][0]),
         past: head[2][1] == 1,
         forms: forms(numbers),
+    }
+}
+
+/// A way to resume, from its number.
+pub fn how(number: u8) -> How
+    ensures { result ≡ how_by number }
+{
+    match number {
+        0 => How::Retry,
+        1 => How::Skip,
+        _ => How::Kill,
+    }
+}
+
+/// The leak of numbers.
+pub fn leak(numbers: &LeakRow) -> Leak
+    ensures { result ≡ leak_of numbers.now }
+{
+    let at = numbers.1;
+    let reg = numbers.2;
+    let form = form(numbers.3);
+    match numbers.0 {
+        0 => Leak::Across {
+            pointer: pointer(at),
+        },
+        1 => Leak::Cell { word: at, form },
+        2 => Leak::Code { word: at },
+        3 => Leak::Jump { at, reg, form },
+        4 => Leak::Enter { at, reg, form },
+        5 => Leak::Store { at, reg, form },
+        6 => Leak::Give { at, reg, form },
+        7 => Leak::FaultPointer { at },
+        8 => Leak::Fault { at, reg, form },
+        _ => Leak::Loose {
+            slot: (at % 256) as u8,
+        },
     }
 }

@@ -2,9 +2,10 @@
 #![tactic(auto, unfolding(mm_kernel::specs::Segments::is_kept, mm_kernel::specs::Segments::meets, mm_kernel::specs::Segments::is_inside, mm_kernel::specs::Segments::is_open, mm_kernel::specs::Segments::is_door, mm_kernel::specs::Forms::is_open_form, mm_kernel::specs::Forms::around))]
 
 ghost use Rattle.std.specs.Prelude.{◌≡◌};
+ghost use Rattle.mm_word.specs.Pointer.{base_of};
 ghost use Rattle.mm_kernel.specs.Forms.{around, is_open_form};
-ghost use Rattle.mm_kernel.specs.Segments.{is_door, is_inside, is_kept, is_open, is_open_pointer, lies_in, lies_inside};
-ghost use Rattle.mm_kernel.specs.Segments.{meets, meets_segment};
+ghost use Rattle.mm_kernel.specs.Segments.{is_door, is_inside, is_kept, is_open, is_open_pointer, lies_in};
+ghost use Rattle.mm_kernel.specs.Segments.{lies_inside, meets, meets_segment};
 
 use mm_kernel::{Form, Part};
 use mm_word::{GuardedPtr, Perm, Word};
@@ -115,5 +116,3 @@ pub fn around(kept: &[Part], p: GuardedPtr) -> Form
         Form::Open(p.perm())
     }
 }
-
-ghost use Rattle.mm_word.specs.Pointer.{base_of};

@@ -1,17 +1,20 @@
 //! The tables of what was found, which only grow.
 
-ghost use Rattle.std.specs.Prelude.{◌≡◌, ◌∷◌, ◌++◌, [], ℕ, List, OnOk, length};
 ghost use Rattle.std.specs.List.{flat_map};
+ghost use Rattle.std.specs.Prelude.{◌≡◌, ◌<◌, ◌∷◌, [], ℕ, List, OnOk, Some, length, slice_get};
 ghost use Rattle.mm_model.specs.Image.{Image as ImageValue};
-ghost use Rattle.mm_kernel.specs.Segments.{Segment};
 ghost use Rattle.mm_kernel.specs.Facts.{hand_out, let_out, loose, take_up};
 ghost use Rattle.mm_kernel.specs.Facts.Fact.{HasThread, HasForm, HasDoor, HasEvent, HasFaulted, HasLeak};
+ghost use Rattle.mm_kernel.specs.Segments.{Segment};
 ghost use Rattle.mm_kernel.specs.Uses.{AreDistinct};
-ghost use Rattle.mm_keep.specs.Claims.{Adds, AddsFacts, Only};
+ghost use Rattle.mm_keep.specs.Claims.{Adds, AddsFacts, Only, nothing, sizes_of};
 ghost use Rattle.mm_keep.specs.Claims.Claim.{SomeResumes, SomeWrites};
 
 use crate::kernel::Kernel;
-use crate::rows::{Pair, Row, bits, form, form_numbers, pointer, thread, thread_numbers};
+use crate::rows::{
+    LeakRow, Pair, Row, bits, faulted_numbers, form, form_numbers, how, how_number, leak,
+    leak_numbers, pointer, thread, thread_numbers,
+};
 use crate::segments::{is_door, is_open_form};
 use indexmap::IndexSet;
 use mm_isa::How;
@@ -25,7 +28,7 @@ use std::marker::Model;
 pub struct Tables {
     threads: IndexSet<Row>,
     doors: IndexSet<u64>,
-    leaks: IndexSet<(u8, u64, u8, Pair)>,
+    leaks: IndexSet<LeakRow>,
     /// What kept words may hold, beside what they hold from the start.
     stored: IndexSet<(u64, Pair)>,
     events: IndexSet<(u8, Pair, Pair, Pair)>,
@@ -56,26 +59,6 @@ impl Model for Tables {
       writes = map slot_and_write t.writes.keys;
     } };
 }
-
-/// A leak as numbers.
-fn leak_numbers(leak: &Leak) -> (u8, u64, u8, Pair)
-    ensures { leak_of result ≡ leak.now }
-{
-    match *leak {
-        Leak::Across { pointer } => (0, bits(pointer), 0, [0, 0]),
-        Leak::Cell { word, form } => (1, word, 0, form_numbers(&form)),
-        Leak::Code { word } => (2, word, 0, [0, 0]),
-        Leak::Jump { at, reg, form } => (3, at, reg, form_numbers(&form)),
-        Leak::Enter { at, reg, form } => (4, at, reg, form_numbers(&form)),
-        Leak::Store { at, reg, form } => (5, at, reg, form_numbers(&form)),
-        Leak::Give { at, reg, form } => (6, at, reg, form_numbers(&form)),
-        Leak::FaultPointer { at } => (7, at, 0, [0, 0]),
-        Leak::Fault { at, reg, form } => (8, at, reg, form_numbers(&form)),
-        Leak::Loose { slot } => (9, u64::from(slot), 0, [0, 0]),
-    }
-}
-
-ghost use Rattle.mm_keep.specs.Rows.{leak_of};
 
 impl Tables {
     /// Empty tables.
@@ -126,15 +109,28 @@ impl Tables {
         pointer(self.doors.as_slice()[at])
     }
 
+    /// How many leaks there are.
+    pub fn leaks(&self) -> usize
+        ensures { result ≡ length self.now.leaks }
+    {
+        self.leaks.len()
+    }
+
+    /// The leak of an index.
+    pub fn leak(&self, at: usize) -> Leak
+        requires { at < length self.now.leaks }
+        ensures { slice_get self.now.leaks at ≡ Some result }
+    {
+        leak(&self.leaks.as_slice()[at])
+    }
+
     /// Adds a thread.
     pub fn add_thread(&mut self, t: &Thread) -> Result<(), NoMemory>
         ensures { OnOk result ((i : ImageValue) (kept : List Segment)
             → AddsFacts i kept (HasThread t.now ∷ []) self.old self.new) }
     {
-        match self.threads.insert(thread_numbers(t)) {
-            Ok(_) => Ok(()),
-            Err(_) => Err(NoMemory),
-        }
+        self.threads.insert(thread_numbers(t))?;
+        Ok(())
     }
 
     /// Adds a door.
@@ -142,10 +138,8 @@ impl Tables {
         ensures { OnOk result ((i : ImageValue) (kept : List Segment)
             → AddsFacts i kept (HasDoor door ∷ []) self.old self.new) }
     {
-        match self.doors.insert(bits(door)) {
-            Ok(_) => Ok(()),
-            Err(_) => Err(NoMemory),
-        }
+        self.doors.insert(bits(door))?;
+        Ok(())
     }
 
     /// Adds a leak.
@@ -153,10 +147,8 @@ impl Tables {
         ensures { OnOk result ((i : ImageValue) (kept : List Segment)
             → AddsFacts i kept (HasLeak leak.now ∷ []) self.old self.new) }
     {
-        match self.leaks.insert(leak_numbers(leak)) {
-            Ok(_) => Ok(()),
-            Err(_) => Err(NoMemory),
-        }
+        self.leaks.insert(leak_numbers(leak))?;
+        Ok(())
     }
 
     /// Adds a form of a kept word.
@@ -164,10 +156,8 @@ impl Tables {
         ensures { OnOk result ((i : ImageValue) (kept : List Segment)
             → AddsFacts i kept (HasForm word form.now ∷ []) self.old self.new) }
     {
-        match self.stored.insert((word, form_numbers(form))) {
-            Ok(_) => Ok(()),
-            Err(_) => Err(NoMemory),
-        }
+        self.stored.insert((word, form_numbers(form)))?;
+        Ok(())
     }
 
     /// Adds an event that a slot of the kernel handles.
@@ -181,10 +171,8 @@ impl Tables {
             form_numbers(&event.address),
             form_numbers(&event.value),
         );
-        match self.events.insert(row) {
-            Ok(_) => Ok(()),
-            Err(_) => Err(NoMemory),
-        }
+        self.events.insert(row)?;
+        Ok(())
     }
 
     /// Adds a faulted thread that a slot of the kernel handles.
@@ -192,10 +180,8 @@ impl Tables {
         ensures { OnOk result ((i : ImageValue) (kept : List Segment)
             → AddsFacts i kept (HasFaulted slot t.now ∷ []) self.old self.new) }
     {
-        match self.faulted.insert(faulted_numbers(slot, t)) {
-            Ok(_) => Ok(()),
-            Err(_) => Err(NoMemory),
-        }
+        self.faulted.insert(faulted_numbers(slot, t))?;
+        Ok(())
     }
 
     /// Adds that some thread of a slot resumes what the slot serves.
@@ -203,10 +189,8 @@ impl Tables {
         ensures { OnOk result ((i : ImageValue) (kept : List Segment)
             → Adds i kept (Only (SomeResumes slot how)) self.old self.new) }
     {
-        match self.resumes.insert((slot, how_number(how))) {
-            Ok(_) => Ok(()),
-            Err(_) => Err(NoMemory),
-        }
+        self.resumes.insert((slot, how_number(how)))?;
+        Ok(())
     }
 
     /// Adds that some thread of a slot writes a register of what the slot serves.
@@ -214,10 +198,8 @@ impl Tables {
         ensures { OnOk result ((i : ImageValue) (kept : List Segment)
             → Adds i kept (Only (SomeWrites slot reg form.now)) self.old self.new) }
     {
-        match self.writes.insert((slot, reg, form_numbers(form))) {
-            Ok(_) => Ok(()),
-            Err(_) => Err(NoMemory),
-        }
+        self.writes.insert((slot, reg, form_numbers(form)))?;
+        Ok(())
     }
 
     /// Lets out an open form: a door that it stands for can be entered.
@@ -252,18 +234,14 @@ impl Tables {
     }
 
     /// Lets out forms.
-    #[tactic(auto, using(crate::proofs::Claims::facts_none, crate::proofs::Claims::facts_then))]
     fn let_all_out(&mut self, kernel: &Kernel, forms: &[Form]) -> Result<(), NoMemory>
         ensures { OnOk result (AddsFacts kernel.now.image kernel.now.kept
             (flat_map (let_out kernel.now.kept) forms.now) self.old self.new) }
     {
-        match forms {
-            [] => Ok(()),
-            [form, rest @ ..] => {
-                self.let_out(kernel, form)?;
-                self.let_all_out(kernel, rest)
-            }
+        for form in forms {
+            self.let_out(kernel, form)?;
         }
+        Ok(())
     }
 
     /// Notes that a slot of the kernel comes to run any code, if it serves others.
@@ -296,33 +274,7 @@ impl Tables {
         self.let_all_out(kernel, &t.forms)?;
         self.loosen(kernel, &t.origin)
     }
-}
 
-ghost use Rattle.std.specs.Prelude.{◌<◌, Some, slice_get};
-ghost use Rattle.mm_keep.specs.Claims.{nothing};
-
-/// A faulted thread of a slot as numbers.
-fn faulted_numbers(slot: u8, t: &Thread) -> (u8, [Pair; 3], [Pair; 16])
-    ensures { slot_and_thread result ≡ (slot, t.now) }
-{
-    let (head, forms) = thread_numbers(t);
-    (slot, head, forms)
-}
-
-ghost use Rattle.mm_keep.specs.Rows.{slot_and_thread, how_by};
-
-/// How a thread resumes, as a number.
-fn how_number(how: How) -> u8
-    ensures { how_by result ≡ how }
-{
-    match how {
-        How::Retry => 0,
-        How::Skip => 1,
-        How::Kill => 2,
-    }
-}
-
-impl Tables {
     /// How many forms were stored.
     pub fn stored(&self) -> usize
         ensures { result ≡ length self.now.stored }
@@ -422,18 +374,5 @@ impl Tables {
             self.resumes.len(),
             self.writes.len(),
         ]
-    }
-}
-
-ghost use Rattle.mm_keep.specs.Claims.{sizes_of};
-
-/// A way to resume, from its number.
-fn how(number: u8) -> How
-    ensures { result ≡ how_by number }
-{
-    match number {
-        0 => How::Retry,
-        1 => How::Skip,
-        _ => How::Kill,
     }
 }

@@ -10,14 +10,13 @@ use mm_kernel::{Form, Thread};
 use mm_word::{GuardedPtr, next};
 
 /// The form in a register.
-#[tactic(auto, unfolding(mm_kernel::specs::Threads::form_in), using(crate::proofs::Filled::past_end))]
+#[tactic(auto, unfolding(mm_kernel::specs::Threads::form_in))]
 pub fn form_at(t: &Thread, number: u8) -> Form
     ensures { result ≡ form_in t.now number }
 {
-    if number < 16 {
-        t.forms[usize::from(number)]
-    } else {
-        Form::Number(0)
+    match t.forms.get(usize::from(number)) {
+        Some(form) => *form,
+        None => Form::Number(0),
     }
 }
 
@@ -26,11 +25,12 @@ pub fn form_at(t: &Thread, number: u8) -> Form
 pub fn with_form(t: &Thread, number: u8, form: Form) -> Thread
     ensures { result ≡ with_form t.now number form }
 {
-    let mut t = *t;
-    if number < 16 {
-        t.forms[usize::from(number)] = form;
+    let at = usize::from(number);
+    let mut after = *t;
+    if at < after.forms.as_slice().len() {
+        after.forms[at] = form;
     }
-    t
+    after
 }
 
 /// The thread at its next instruction, or past its segment's end.

@@ -1,129 +1,42 @@
 //! What a turn of a thread can come to, instruction by instruction.
 #![tactic(auto, unfolding(mm_kernel::specs::Turns::fault, mm_kernel::specs::Turns::sets, mm_kernel::specs::Turns::moves, mm_kernel::specs::Turns::restricts, mm_kernel::specs::Turns::loads, mm_kernel::specs::Turns::stores, mm_kernel::specs::Turns::branches, mm_kernel::specs::Turns::jumps, mm_kernel::specs::Turns::tests_tag))]
 
-ghost use Rattle.std.specs.Prelude.{◌≡◌, ◌≤◌, ◌%◌, ◌+◌, ◌++◌, IfOk, Some, Ok, Err, length, map, true};
+ghost use Rattle.std.specs.List.{filter};
+ghost use Rattle.std.specs.Prelude.{◌≡◌, ◌≤◌, ◌%◌, ◌+◌, ◌&&◌, ◌∷◌, ◌++◌, [], length, map, pos, true};
 ghost use Rattle.mm_word.specs.Access.{check_result};
-ghost use Rattle.mm_word.specs.Perm.{allows};
+ghost use Rattle.mm_word.specs.Perm.{allows, can_become};
+ghost use Rattle.mm_word.specs.Pointer.{next_result};
+ghost use Rattle.mm_word.specs.declared.perm.Kind.TheVariants.{Fetch, Store};
+ghost use Rattle.mm_word.specs.declared.word.Word.TheVariants.{Ptr};
 ghost use Rattle.mm_model.specs.Ask.{load_kind};
-ghost use Rattle.mm_model.specs.Effect.{high_and_low};
+ghost use Rattle.mm_model.specs.Memory.{cell_at};
 ghost use Rattle.mm_model.specs.Turn.{instr_in};
-ghost use Rattle.mm_kernel.specs.Forms.{exact_bits};
+ghost use Rattle.mm_kernel.specs.Operations.{choices, may_name, with_permission};
 ghost use Rattle.mm_kernel.specs.Threads.{form_in, going_to, stepped, with_form};
-ghost use Rattle.mm_kernel.specs.Operations.{alu_form, equal_form, high_form, leaves_code, may_name};
-ghost use Rattle.mm_kernel.specs.Turns.{at_distance, branched, branches, branches_if, computes, fault, fetched, jumped, jumps};
-ghost use Rattle.mm_kernel.specs.Turns.{links, loaded_at, loads, moved, moved_somewhere, moves, outcomes, outcomes_of};
-ghost use Rattle.mm_kernel.specs.Turns.{restricted, restricts, restricts_as, seen_as, sets, stored_at, stores};
-ghost use Rattle.mm_kernel.specs.Turns.{stores_outside, tests_tag, word_loaded, word_stored};
+ghost use Rattle.mm_kernel.specs.Turns.{at_distance, branched, branches, branches_if, computes, fault, fetched};
+ghost use Rattle.mm_kernel.specs.Turns.{jumped, jumps, links, loaded_at, loads, moved, moved_somewhere, moves};
+ghost use Rattle.mm_kernel.specs.Turns.{outcomes, outcomes_of, restricted, restricts, restricts_as, seen_as, sets};
+ghost use Rattle.mm_kernel.specs.Turns.{stored_at, stores, stores_outside, tests_tag, word_loaded, word_stored};
+ghost use Rattle.mm_kernel.specs.Turns.{pointer_moved, loaded_by, stored_by, with_event, aimed, decoded};
+ghost use Rattle.mm_kernel.specs.declared.fact.Leak.TheVariants.{Give};
+ghost use Rattle.mm_kernel.specs.declared.form.Form.TheVariants.{Any};
+ghost use Rattle.mm_kernel.specs.declared.outcome.Outcome.TheVariants.{Goes, HandsOut, TakesEvent};
+ghost use Rattle.mm_kernel.specs.declared.outcome.Outcome.TheVariants.{WritesServed};
 ghost use Rattle.mm_keep.specs.Movings.{moved_by};
 
+use crate::integers::{alu_form, divides, equal, high};
 use crate::kernel::Kernel;
+use crate::operands::{bits_of, early_fault, fault, form};
 use crate::outcome_list::Outcomes;
 use crate::segments::{around, is_kept};
-use crate::thread::{form_at, going_to, stepped, with_event, with_form};
-use mm_isa::{AluOp, Instr, Reg, alu, decode};
+use crate::thread::{going_to, stepped, with_event, with_form};
+use mm_isa::{AluOp, Instr, Reg, decode};
 use mm_kernel::{Form, Leak, Outcome, Thread};
-use mm_model::is_same_word;
-use mm_word::{Cause, Cell, GuardedPtr, Kind, Perm, Post, Pre, Word, check, enter, lea, leab, next, subseg};
+use mm_word::{
+    Cause, Cell, GuardedPtr, Kind, Perm, Post, Pre, Word, check, enter, lea, leab, next, subseg,
+};
 
-const ZERO: Form = Form::Number(0);
-
-// 1. Operands.
-
-/// A number of an instruction, extended by its sign.
-fn bits_of(imm: i32) -> u64
-    ensures { result ≡ cast_unsigned w64 imm }
-{
-    i64::from(imm).cast_unsigned()
-}
-
-ghost use Rattle.std.specs.Int.{w64, cast_unsigned};
-
-/// The form in a register.
-fn form(t: &Thread, r: Reg) -> Form
-    ensures { result ≡ form_in t.now r }
-{
-    form_at(t, r.number())
-}
-
-/// A fault whose operands are a register and a number.
-fn fault_at(t: &Thread, ra: Reg, bits: u64) -> Outcome
-    ensures { result ≡ Faults (form_in t.now ra) (Number bits) }
-{
-    Outcome::Faults {
-        address: form(t, ra),
-        value: Form::Number(bits),
-    }
-}
-
-ghost use Rattle.mm_kernel.specs.declared.outcome.Outcome.TheVariants.{Faults, Goes, Leaves};
-ghost use Rattle.mm_kernel.specs.declared.form.Form.TheVariants.{Number};
-
-/// A fault whose operands are two registers.
-fn fault_with(t: &Thread, ra: Reg, rb: Reg) -> Outcome
-    ensures { result ≡ Faults (form_in t.now ra) (form_in t.now rb) }
-{
-    Outcome::Faults {
-        address: form(t, ra),
-        value: form(t, rb),
-    }
-}
-
-/// A fault whose operand is a number.
-fn fault_of(bits: u64) -> Outcome
-    ensures { result ≡ Faults (Number 0) (Number bits) }
-{
-    Outcome::Faults {
-        address: ZERO,
-        value: Form::Number(bits),
-    }
-}
-
-/// The turn faults at its instruction.
-fn fault(t: &Thread, instr: &Instr) -> Outcome
-    ensures { result ≡ fault t.now instr.now }
-{
-    match *instr {
-        Instr::Halt | Instr::Nop | Instr::SelfSlot { rd: _ } | Instr::Evt { rd: _ } => fault_of(0),
-        Instr::Ldi { rd: _, imm } => fault_of(bits_of(imm)),
-        Instr::Ldhi { rd: _, imm } => fault_of(bits_of(imm)),
-        Instr::Mov { rd: _, ra } => fault_at(t, ra, 0),
-        Instr::Isptr { rd: _, ra } => fault_at(t, ra, 0),
-        Instr::Eqw { rd: _, ra, rb } => fault_with(t, ra, rb),
-        Instr::Out { ra } => fault_at(t, ra, 0),
-        Instr::Alu { op: _, rd: _, ra, rb } => fault_with(t, ra, rb),
-        Instr::Addi { rd: _, ra, imm } => fault_at(t, ra, bits_of(imm)),
-        Instr::Lea { rd: _, ra, rb } => fault_with(t, ra, rb),
-        Instr::Leai { rd: _, ra, imm } => fault_at(t, ra, bits_of(imm)),
-        Instr::Leab { rd: _, ra, rb } => fault_with(t, ra, rb),
-        Instr::Restrict { rd: _, ra, rb } => fault_with(t, ra, rb),
-        Instr::Subseg { rd: _, ra, rb } => fault_with(t, ra, rb),
-        Instr::Setptr { rd: _, ra } => fault_at(t, ra, 0),
-        Instr::Ld { rd: _, ra, pre: _, post: _, imm } => fault_at(t, ra, bits_of(imm)),
-        Instr::St { ra, rb, pre: _, post: _, imm: _ } => fault_with(t, ra, rb),
-        Instr::Br { imm } => fault_of(bits_of(imm)),
-        Instr::Bz { ra, imm } => fault_at(t, ra, bits_of(imm)),
-        Instr::Bnz { ra, imm } => fault_at(t, ra, bits_of(imm)),
-        Instr::Jmp { ra } => fault_at(t, ra, 0),
-        Instr::Jal { rd: _, ra } => fault_at(t, ra, 0),
-        Instr::Lip { rd: _, imm } => fault_of(bits_of(imm)),
-        Instr::Trap { imm } => fault_of(bits_of(imm)),
-        Instr::Resume { ra, how: _ } => fault_at(t, ra, 0),
-        Instr::Rreg { rd: _, ra, reg } => fault_at(t, ra, u64::from(reg.number())),
-        Instr::Wreg { ra, rb, reg: _ } => fault_with(t, ra, rb),
-        Instr::Map { rd: _, ra } => fault_at(t, ra, 0),
-        Instr::Unmap { rd: _, ra } => fault_at(t, ra, 0),
-    }
-}
-
-/// The turn faults before it has an instruction.
-fn early_fault() -> Outcome
-    ensures { result ≡ Faults (Number 0) (Number 0) }
-{
-    Outcome::Faults {
-        address: ZERO,
-        value: ZERO,
-    }
-}
+// 1. What most instructions come to.
 
 /// A register gets a form, and the thread goes on.
 fn sets(t: &Thread, rd: Reg, form: Form) -> Outcome
@@ -134,6 +47,7 @@ fn sets(t: &Thread, rd: Reg, form: Form) -> Outcome
 
 // 2. Pointers.
 
+/// What a pointer that is moved or narrowed can come to: itself in a register, or a fault.
 fn moved(t: &Thread, instr: &Instr, rd: Reg, to: Result<GuardedPtr, Cause>) -> Outcomes
     ensures { result ≡ moved t.now instr.now rd to }
 {
@@ -179,6 +93,7 @@ fn move_by(moving: Moving, p: GuardedPtr, bits: u64) -> Result<GuardedPtr, Cause
     }
 }
 
+/// A known pointer is moved or narrowed by bits, if these are known.
 fn pointer_moved(
     kernel: &Kernel,
     t: &Thread,
@@ -195,8 +110,6 @@ fn pointer_moved(
         Some(bits) => moved(t, instr, rd, move_by(moving, p, bits)),
     }
 }
-
-ghost use Rattle.mm_kernel.specs.Turns.{pointer_moved};
 
 /// A form is moved or narrowed by the bits of another.
 fn moves(
@@ -222,7 +135,15 @@ fn moves(
 
 // 3. Permissions.
 
-const PERMISSIONS: [Perm; 7] = [Perm::Ro, Perm::Rw, Perm::Xu, Perm::Xp, Perm::Eu, Perm::Ep, Perm::Key];
+const PERMISSIONS: [Perm; 7] = [
+    Perm::Ro,
+    Perm::Rw,
+    Perm::Xu,
+    Perm::Xp,
+    Perm::Eu,
+    Perm::Ep,
+    Perm::Key,
+];
 
 /// Whether an operand may name a permission.
 fn may_name(bits: Option<u64>, perm: Perm) -> bool
@@ -259,11 +180,6 @@ fn put_restricted(
     }
 }
 
-ghost use Rattle.std.specs.Prelude.{◌&&◌};
-ghost use Rattle.std.specs.List.{filter};
-ghost use Rattle.mm_word.specs.Perm.{can_become};
-ghost use Rattle.mm_kernel.specs.Operations.{choices, with_permission};
-
 /// A form gets each permission that its own may become and that an operand may name.
 #[tactic(auto, unfolding(mm_kernel::specs::Operations::choices))]
 fn restricted(t: &Thread, instr: &Instr, rd: Reg, a: &Form, b: &Form, from: Perm) -> Outcomes
@@ -294,6 +210,7 @@ fn restricts(t: &Thread, instr: &Instr, rd: Reg, a: &Form, b: &Form) -> Outcomes
 
 // 4. Memory.
 
+/// The kind of a load: with another post than keep it sets the synchronisation bit.
 fn load_kind(post: Post) -> Kind
     ensures { result ≡ load_kind post }
 {
@@ -304,6 +221,7 @@ fn load_kind(post: Post) -> Kind
     }
 }
 
+/// The thread goes on with what a word may hold, in a register.
 fn word_loaded(kernel: &Kernel, t: &Thread, rd: Reg, word: u64, cell: Cell) -> Outcome
     requires { word % 8 ≡ 0 }
     ensures { result ≡ word_loaded kernel.now.image kernel.now.kept t.now rd word cell }
@@ -321,6 +239,7 @@ fn word_loaded(kernel: &Kernel, t: &Thread, rd: Reg, word: u64, cell: Cell) -> O
     }
 }
 
+/// What a load from a word can come to.
 fn loaded_at(kernel: &Kernel, t: &Thread, instr: &Instr, rd: Reg, pre: Pre, word: u64) -> Outcomes
     requires { word % 8 ≡ 0 }
     ensures { result ≡ loaded_at kernel.now.image kernel.now.kept t.now instr.now rd pre word
@@ -338,9 +257,7 @@ fn loaded_at(kernel: &Kernel, t: &Thread, instr: &Instr, rd: Reg, pre: Pre, word
     }
 }
 
-ghost use Rattle.mm_model.specs.Memory.{cell_at};
-ghost use Rattle.mm_kernel.specs.Turns.{loaded_by, stored_by};
-
+/// What a load through a known pointer can come to.
 fn loaded_by(
     kernel: &Kernel,
     t: &Thread,
@@ -360,7 +277,12 @@ fn loaded_by(
     }
 }
 
-ghost use Rattle.mm_word.specs.declared.word.Word.TheVariants.{Ptr};
+/// What a load through an open pointer can come to: what is not kept may hold any open word.
+fn loads_open(t: &Thread, instr: &Instr, rd: Reg) -> Outcomes
+    ensures { result ≡ fault t.now instr.now ∷ sets t.now rd Any ∷ [] }
+{
+    Outcomes::two(fault(t, instr), sets(t, rd, Form::Any))
+}
 
 /// A load, through a form.
 fn loads(
@@ -381,12 +303,12 @@ fn loads(
         Form::Integer => Outcomes::one(fault(t, instr)),
         Form::Open(perm) => {
             if perm.permits(kind) {
-                Outcomes::two(fault(t, instr), sets(t, rd, Form::Any))
+                loads_open(t, instr, rd)
             } else {
                 Outcomes::one(fault(t, instr))
             }
         }
-        Form::Any => Outcomes::two(fault(t, instr), sets(t, rd, Form::Any)),
+        Form::Any => loads_open(t, instr, rd),
         Form::Inside(p) => {
             if p.perm().permits(kind) {
                 let loaded = Outcome::Loads {
@@ -417,6 +339,7 @@ fn stores_outside(t: &Thread, rb: Reg) -> Outcome
     }
 }
 
+/// A kept word gets what is stored; another word hands it out.
 fn word_stored(kernel: &Kernel, t: &Thread, rb: Reg, word: u64) -> Outcome
     ensures { result ≡ word_stored kernel.now.kept t.now rb word }
 {
@@ -430,6 +353,7 @@ fn word_stored(kernel: &Kernel, t: &Thread, rb: Reg, word: u64) -> Outcome
     }
 }
 
+/// What a store to a word can come to.
 fn stored_at(kernel: &Kernel, t: &Thread, instr: &Instr, rb: Reg, pre: Pre, word: u64) -> Outcomes
     requires { word % 8 ≡ 0 }
     ensures { result ≡ stored_at kernel.now.kept t.now instr.now rb pre word
@@ -448,6 +372,7 @@ fn stored_at(kernel: &Kernel, t: &Thread, instr: &Instr, rb: Reg, pre: Pre, word
     }
 }
 
+/// What a store through a known pointer can come to.
 fn stored_by(
     kernel: &Kernel,
     t: &Thread,
@@ -466,10 +391,16 @@ fn stored_by(
     }
 }
 
-ghost use Rattle.mm_word.specs.declared.perm.Kind.TheVariants.{Fetch, Store};
-
 /// A store, through a form.
-fn stores(kernel: &Kernel, t: &Thread, instr: &Instr, through: Form, rb: Reg, imm: i32, pre: Pre) -> Outcomes
+fn stores(
+    kernel: &Kernel,
+    t: &Thread,
+    instr: &Instr,
+    through: Form,
+    rb: Reg,
+    imm: i32,
+    pre: Pre,
+) -> Outcomes
     ensures { result ≡ stores kernel.now.image kernel.now.kept t.now instr.now through rb imm pre }
 {
     match through {
@@ -478,12 +409,20 @@ fn stores(kernel: &Kernel, t: &Thread, instr: &Instr, through: Form, rb: Reg, im
         Form::Integer => Outcomes::one(fault(t, instr)),
         Form::Open(perm) => {
             if perm.permits(Kind::Store) {
-                Outcomes::three(fault(t, instr), stores_outside(t, rb), Outcome::Goes(stepped(t)))
+                Outcomes::three(
+                    fault(t, instr),
+                    stores_outside(t, rb),
+                    Outcome::Goes(stepped(t)),
+                )
             } else {
                 Outcomes::one(fault(t, instr))
             }
         }
-        Form::Any => Outcomes::three(fault(t, instr), stores_outside(t, rb), Outcome::Goes(stepped(t))),
+        Form::Any => Outcomes::three(
+            fault(t, instr),
+            stores_outside(t, rb),
+            Outcome::Goes(stepped(t)),
+        ),
         Form::Inside(p) => {
             if p.perm().permits(Kind::Store) {
                 let stored = Outcome::Stores {
@@ -508,6 +447,7 @@ fn at_distance(t: &Thread, imm: i32) -> Result<GuardedPtr, Cause>
     lea(t.ip, 8 * i64::from(imm))
 }
 
+/// The thread goes on at a distance in words.
 fn branches(t: &Thread, instr: &Instr, imm: i32) -> Outcome
     requires { allows t.now.ip.perm Fetch ≡ true }
     ensures { result ≡ branches t.now instr.now imm }
@@ -535,6 +475,7 @@ fn branches_if(if_zero: bool, t: &Thread, instr: &Instr, bits: Option<u64>, imm:
     }
 }
 
+/// The thread goes on where a known pointer leads, or faults.
 fn jumped(t: &Thread, linked: &Thread, instr: &Instr, to: Option<GuardedPtr>) -> Outcomes
     ensures { result ≡ jumped t.now linked.now instr.now to }
 {
@@ -574,6 +515,7 @@ fn jumps(t: &Thread, linked: &Thread, instr: &Instr, ra: Reg, form: Form) -> Out
     }
 }
 
+/// A jump that keeps the way back in a register.
 fn links(t: &Thread, instr: &Instr, rd: Reg, ra: Reg) -> Outcomes
     ensures { result ≡ links t.now instr.now rd ra (next_result t.now.ip) }
 {
@@ -586,10 +528,9 @@ fn links(t: &Thread, instr: &Instr, rd: Reg, ra: Reg) -> Outcomes
     }
 }
 
-ghost use Rattle.mm_word.specs.Pointer.{next_result};
+// 6. Tags and divisions.
 
-// 6. Tags and integers.
-
+/// The thread goes on knowing a form and its tag.
 fn seen_as(t: &Thread, rd: Reg, ra: Reg, form: Form, tag: u64) -> Outcome
     ensures { result ≡ seen_as t.now rd ra form tag }
 {
@@ -617,110 +558,15 @@ fn tests_tag(t: &Thread, rd: Reg, ra: Reg, form: Form) -> Outcomes
     }
 }
 
-/// Whether two words are equal in tag and bits, if both are known.
-#[tactic(auto, unfolding(mm_kernel::specs::Operations::equal_form))]
-fn equal(a: Form, b: Form) -> Form
-    ensures { result ≡ equal_form a b }
-{
-    match a.exact() {
-        Some(v) => match b.exact() {
-            Some(w) => Form::Number(is_same_word(v, w) as u64),
-            None => Form::Integer,
-        },
-        None => Form::Integer,
-    }
-}
-
-/// A word whose high half is the low half of `bits`, and whose low half is `imm`.
-fn high_and_low(bits: u64, imm: i32) -> u64
-    ensures { result ≡ high_and_low bits imm }
-{
-    bits << 32 | u64::from(imm.cast_unsigned())
-}
-
-#[tactic(auto, unfolding(mm_kernel::specs::Operations::high_form))]
-fn high(form: Form, imm: i32) -> Form
-    ensures { result ≡ high_form form imm }
-{
-    match form.exact_bits() {
-        Some(bits) => Form::Number(high_and_low(bits, imm)),
-        None => Form::Integer,
-    }
-}
-
-/// Whether the bits that are shifted out leave a pointer's permission.
-fn leaves_code(op: AluOp, bits: u64) -> bool
-    ensures { result ≡ leaves_code op bits }
-{
-    match op {
-        AluOp::Shr => bits % 64 == 60,
-        _ => false,
-    }
-}
-
-/// The result of an operation on bits.
-fn alu_exact(op: AluOp, a: u64, bits: u64) -> Form
-    ensures { result ≡ small_result (alu_result op a bits) }
-{
-    match alu(op, a, bits) {
-        Ok(number) => Form::small(number),
-        Err(_) => Form::Integer,
-    }
-}
-
-ghost use Rattle.mm_isa.specs.Alu.{alu_result, divides};
-ghost use Rattle.mm_kernel.specs.Operations.{small_result, alu_by};
-
-/// The result of an operation on a pointer that is not known, but for its permission.
-fn alu_code(op: AluOp, perm: Perm, bits: u64) -> Form
-    ensures { result ≡ (if leaves_code op bits then Number (code_of perm) else Integer) }
-{
-    if leaves_code(op, bits) {
-        Form::Number(u64::from(perm.code()))
-    } else {
-        Form::Integer
-    }
-}
-
-ghost use Rattle.std.specs.Prelude.{if◌then◌else◌};
-ghost use Rattle.mm_word.specs.Perm.{code_of};
-ghost use Rattle.mm_kernel.specs.declared.form.Form.TheVariants.{Integer};
-
-/// The result of an operation on a form and known bits.
-fn alu_by(op: AluOp, form: Form, bits: u64) -> Form
-    ensures { result ≡ alu_by op form bits }
-{
-    match form {
-        Form::Number(a) => alu_exact(op, a, bits),
-        Form::Pointer(p) => alu_exact(op, p.bits(), bits),
-        Form::Open(perm) => alu_code(op, perm, bits),
-        Form::Inside(p) => alu_code(op, p.perm(), bits),
-        _ => Form::Integer,
-    }
-}
-
-/// The result of an operation on two forms.
-#[tactic(auto, unfolding(mm_kernel::specs::Operations::alu_form))]
-fn alu_form(op: AluOp, a: Form, b: Form) -> Form
-    ensures { result ≡ alu_form op a b }
-{
-    match b.exact_bits() {
-        Some(bits) => alu_by(op, a, bits),
-        None => Form::Integer,
-    }
-}
-
-fn divides(op: AluOp) -> bool
-    ensures { result ≡ divides op }
-{
-    match op {
-        AluOp::Divu | AluOp::Remu => true,
-        _ => false,
-    }
-}
-
 /// A division can fault if its divisor may be 0, and has a result unless that is 0.
-fn computes(t: &Thread, instr: &Instr, divides: bool, rd: Reg, form: Form, divisor: Option<u64>) -> Outcomes
+fn computes(
+    t: &Thread,
+    instr: &Instr,
+    divides: bool,
+    rd: Reg,
+    form: Form,
+    divisor: Option<u64>,
+) -> Outcomes
     ensures { result ≡ computes t.now instr.now divides rd form divisor }
 {
     if !divides {
@@ -752,15 +598,11 @@ fn reads_event(t: &Thread, rd: u8) -> Outcomes
     )
 }
 
-ghost use Rattle.std.specs.Prelude.{◌∷◌, []};
-ghost use Rattle.mm_kernel.specs.declared.outcome.Outcome.TheVariants.{TakesEvent};
-ghost use Rattle.mm_kernel.specs.declared.form.Form.TheVariants.{Any};
-ghost use Rattle.mm_kernel.specs.Turns.{with_event};
-
 /// What a register that is put into a served slot can come to.
 fn gives(t: &Thread, instr: &Instr, rb: Reg, reg: Reg) -> Outcomes
     ensures { result ≡ fault t.now instr.now ∷ Goes (stepped t.now)
-        ∷ HandsOut (form_in t.now rb) (Give t.now.ip.addr rb (form_in t.now rb)) ∷ WritesServed reg (form_in t.now rb) ∷ [] }
+        ∷ HandsOut (form_in t.now rb) (Give t.now.ip.addr rb (form_in t.now rb))
+        ∷ WritesServed reg (form_in t.now rb) ∷ [] }
 {
     let leak = Leak::Give {
         at: t.ip.addr(),
@@ -777,9 +619,6 @@ fn gives(t: &Thread, instr: &Instr, rb: Reg, reg: Reg) -> Outcomes
     };
     Outcomes::four(fault(t, instr), Outcome::Goes(stepped(t)), out, written)
 }
-
-ghost use Rattle.mm_kernel.specs.declared.outcome.Outcome.TheVariants.{HandsOut, WritesServed};
-ghost use Rattle.mm_kernel.specs.declared.fact.Leak.TheVariants.{Give};
 
 /// What a turn of each instruction can come to.
 #[tactic(auto, unfolding(mm_kernel::specs::Turns::outcomes_of, mm_kernel::specs::Turns::branches))]
@@ -805,17 +644,59 @@ fn carries_out(kernel: &Kernel, t: &Thread, instr: &Instr) -> Outcomes
             let sum = alu_form(AluOp::Add, form(t, ra), Form::Number(bits_of(imm)));
             Outcomes::one(sets(t, rd, sum))
         }
-        Instr::Lea { rd, ra, rb } => moves(kernel, t, instr, rd, form(t, ra), form(t, rb).exact_bits(), Moving::Lea),
-        Instr::Leai { rd, ra, imm } => moves(kernel, t, instr, rd, form(t, ra), Some(0), Moving::LeaBy(imm)),
-        Instr::Leab { rd, ra, rb } => moves(kernel, t, instr, rd, form(t, ra), form(t, rb).exact_bits(), Moving::Leab),
+        Instr::Lea { rd, ra, rb } => moves(
+            kernel,
+            t,
+            instr,
+            rd,
+            form(t, ra),
+            form(t, rb).exact_bits(),
+            Moving::Lea,
+        ),
+        Instr::Leai { rd, ra, imm } => moves(
+            kernel,
+            t,
+            instr,
+            rd,
+            form(t, ra),
+            Some(0),
+            Moving::LeaBy(imm),
+        ),
+        Instr::Leab { rd, ra, rb } => moves(
+            kernel,
+            t,
+            instr,
+            rd,
+            form(t, ra),
+            form(t, rb).exact_bits(),
+            Moving::Leab,
+        ),
         Instr::Restrict { rd, ra, rb } => restricts(t, instr, rd, &form(t, ra), &form(t, rb)),
         Instr::Subseg { rd, ra, rb } => {
-            moves(kernel, t, instr, rd, form(t, ra), form(t, rb).exact_bits(), Moving::Subseg)
+            moves(
+                kernel,
+                t,
+                instr,
+                rd,
+                form(t, ra),
+                form(t, rb).exact_bits(),
+                Moving::Subseg,
+            )
         }
-        Instr::Ld { rd, ra, pre, post, imm } => {
-            loads(kernel, t, instr, rd, form(t, ra), imm, pre, load_kind(post))
-        }
-        Instr::St { ra, rb, pre, post: _, imm } => stores(kernel, t, instr, form(t, ra), rb, imm, pre),
+        Instr::Ld {
+            rd,
+            ra,
+            pre,
+            post,
+            imm,
+        } => { loads(kernel, t, instr, rd, form(t, ra), imm, pre, load_kind(post)) }
+        Instr::St {
+            ra,
+            rb,
+            pre,
+            post: _,
+            imm,
+        } => stores(kernel, t, instr, form(t, ra), rb, imm, pre),
         Instr::Br { imm } => Outcomes::one(branches(t, instr, imm)),
         Instr::Bz { ra, imm } => branches_if(true, t, instr, form(t, ra).exact_bits(), imm),
         Instr::Bnz { ra, imm } => branches_if(false, t, instr, form(t, ra).exact_bits(), imm),
@@ -824,7 +705,11 @@ fn carries_out(kernel: &Kernel, t: &Thread, instr: &Instr) -> Outcomes
         Instr::Lip { rd, imm } => moved(t, instr, rd, at_distance(t, imm)),
         Instr::Evt { rd } => reads_event(t, rd.number()),
         Instr::Resume { ra: _, how } => {
-            Outcomes::three(fault(t, instr), Outcome::Goes(stepped(t)), Outcome::Resumes(how))
+            Outcomes::three(
+                fault(t, instr),
+                Outcome::Goes(stepped(t)),
+                Outcome::Resumes(how),
+            )
         }
         Instr::Rreg { rd, ra: _, reg } => {
             let read = Outcome::ReadsServed {
@@ -845,7 +730,7 @@ fn carries_out(kernel: &Kernel, t: &Thread, instr: &Instr) -> Outcomes
 // 8. The turn.
 
 /// The instruction in a word.
-fn instruction(word: Word) -> Option<Instr>
+pub fn instruction(word: Word) -> Option<Instr>
     ensures { result ≡ instr_in word }
 {
     match word {
@@ -854,6 +739,7 @@ fn instruction(word: Word) -> Option<Instr>
     }
 }
 
+/// What a turn with a word of code can come to.
 fn decoded(kernel: &Kernel, t: &Thread, word: Word) -> Outcomes
     requires { allows t.now.ip.perm Fetch ≡ true }
     ensures { result ≡ decoded kernel.now.image kernel.now.kept t.now (instr_in word) }
@@ -864,8 +750,7 @@ fn decoded(kernel: &Kernel, t: &Thread, word: Word) -> Outcomes
     }
 }
 
-ghost use Rattle.mm_kernel.specs.Turns.{aimed, decoded};
-
+/// What a turn that fetches a word can come to.
 fn fetched(kernel: &Kernel, t: &Thread, word: u64) -> Outcomes
     requires aligned { word % 8 ≡ 0 }
     requires runs { allows t.now.ip.perm Fetch ≡ true }
@@ -883,6 +768,7 @@ fn fetched(kernel: &Kernel, t: &Thread, word: u64) -> Outcomes
     }
 }
 
+/// What a turn that is not past can come to.
 fn aimed(kernel: &Kernel, t: &Thread) -> Outcomes
     ensures { result ≡ aimed kernel.now.image kernel.now.kept t.now (check_result (Ptr t.now.ip) (pos 0) Fetch) }
 {
@@ -891,8 +777,6 @@ fn aimed(kernel: &Kernel, t: &Thread) -> Outcomes
         Ok(access) => fetched(kernel, t, access.addr()),
     }
 }
-
-ghost use Rattle.std.specs.Prelude.{pos};
 
 /// What the turn of a thread can come to.
 #[tactic(auto, unfolding(mm_kernel::specs::Turns::outcomes))]

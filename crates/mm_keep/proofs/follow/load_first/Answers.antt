@@ -1,0 +1,18 @@
+use Rattle.mm_keep.proofs.{Claims.facts_none, Loops.{facts_more, facts_all}}
+use Rattle.mm_keep.specs.Searching.{loaded_facts}
+use Rattle.mm_keep.proofs.follow.load_first.Goals as goal
+
+pub loop-held-init : goal.loop-held-init
+loop-held-init c =
+    facts_none c.args.kernel.now.image c.args.kernel.now.kept c.args.tables.now
+
+pub loop-held-preserved : goal.loop-held-preserved
+loop-held-preserved c =
+    let l = c.loop-held in
+    facts_more c.args.kernel.now.image c.args.kernel.now.kept (loaded_facts c.args.kernel.now.image c.args.kernel.now.kept c.args.part c.args.reg c.args.next.now) c.args.first.now l.held-index c.held-item.result c.args.tables.now l.tables c.load.new.tables
+    c.loop-held-test.true c.held-item.is l.invariant c.in_ok-load.ensures
+
+pub returns : goal.returns
+returns c =
+    let l = c.loop-held in
+    facts_all c.args.kernel.now.image c.args.kernel.now.kept (loaded_facts c.args.kernel.now.image c.args.kernel.now.kept c.args.part c.args.reg c.args.next.now) c.args.first.now l.held-index c.args.tables.now l.tables c.loop-held-test.false l.invariant

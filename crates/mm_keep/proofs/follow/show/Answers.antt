@@ -1,0 +1,21 @@
+use Rattle.mm_keep.proofs.Loops.{facts_next}
+use Rattle.mm_kernel.specs.Derived.{register_shown}
+use Rattle.mm_keep.proofs.Claims.{facts_then}
+use Rattle.mm_keep.specs.Searching.{pointer_shown}
+use Rattle.std.proofs.Common.{◌≡◌, ℕ, List, subst, arith}
+use Rattle.std.specs.List.{flat_map, range_with_len}
+use Rattle.mm_keep.specs.Claims.{AddsFacts}
+use Rattle.mm_keep.proofs.follow.show.Goals as goal
+
+pub loop-reg-preserved : goal.loop-reg-preserved
+loop-reg-preserved c =
+    let l = c.loop-reg in
+    facts_next c.args.kernel.now.image c.args.kernel.now.kept (register_shown c.args.kernel.now.kept c.args.t.now) l.reg (c.show_pointer.new.tables) l.tables c.show_register.new.tables l.invariant c.in_ok-show_register.ensures
+
+pub returns : goal.returns
+returns c =
+    let l = c.loop-reg in
+    let end : l.reg ≡ 16 = (let lo = c.loop-reg-test.false in let hi = l.auto.reg-end in omega (arith, lo, hi)) in
+    let all = subst (λ (n : ℕ). AddsFacts c.args.kernel.now.image c.args.kernel.now.kept (flat_map (register_shown c.args.kernel.now.kept c.args.t.now) (range_with_len 0 n)) c.show_pointer.new.tables l.tables) end l.invariant in
+    facts_then c.args.kernel.now.image c.args.kernel.now.kept (pointer_shown c.args.kernel.now.kept c.args.t.now) (flat_map (register_shown c.args.kernel.now.kept c.args.t.now) (range_with_len 0 16)) c.args.tables.now c.show_pointer.new.tables l.tables
+    c.in_ok-show_pointer.ensures all

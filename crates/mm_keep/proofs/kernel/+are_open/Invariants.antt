@@ -1,5 +1,0 @@
-use Rattle.std.proofs.Common.{length}
-use Rattle.mm_keep.proofs.kernel.+are_open.Given as goal
-
-abbrev pub decreases-are_open : goal.decreases-are_open
-decreases-are_open l = length l.words.now
