@@ -67,7 +67,7 @@ pub fn begin_pointers(
 // 2. Cells.
 
 /// The form that a kept word has from the start.
-fn first_form(kernel: &Kernel, word: u64, held: Word) -> Form
+pub fn first_form(kernel: &Kernel, word: u64, held: Word) -> Form
     requires { word % 8 ≡ 0 }
     ensures { result ≡ first_form (is_fixed kernel.now.image word) held }
 {

@@ -66,7 +66,7 @@ fn has_open_words(kept: &[Part], slot: &Slot) -> bool
 }
 
 /// Whether a slot runs by a pointer that meets the kept segments, or with a word that is not open.
-fn is_kernel_slot(kept: &[Part], slot: &Slot) -> bool
+pub fn is_kernel_slot(kept: &[Part], slot: &Slot) -> bool
     ensures { result ≡ is_kernel_slot kept.now slot.now }
 {
     runs(slot) && !has_open_words(kept, slot)

@@ -17,9 +17,12 @@ mod thread;
 mod turn;
 mod uses;
 
-pub use kernel::Kernel;
+pub use begin::first_form;
+pub use kernel::{Kernel, is_kernel_slot};
+pub use live::live_pointers;
 pub use outcome_list::Outcomes;
 pub use search::find;
+pub use segments::{is_kept, lies_in};
 pub use tables::Tables;
 pub use turn::outcomes;
 pub use uses::{fetched_word, sets_bit};

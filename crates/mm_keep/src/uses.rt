@@ -1,6 +1,6 @@
 //! What the turn of a thread uses.
 
-ghost use Rattle.std.specs.Prelude.{◌≡◌, ◌%◌, ◌↔◌, ℕ, IfSome, Some, true};
+ghost use Rattle.std.specs.Prelude.{◌≡◌, ◌%◌, ◌^◌, ◌<◌, ◌↔◌, ℕ, IfSome, Some, true};
 ghost use Rattle.mm_kernel.specs.Derived.{Fetches};
 ghost use Rattle.mm_kernel.specs.Uses.{SetsBit, sets_bit};
 
@@ -14,6 +14,7 @@ use mm_word::{Kind, Post, Word, check};
 pub fn fetched_word(t: &Thread) -> Option<u64>
     ensures exact { (w : ℕ) → (result ≡ Some w) ↔ Fetches t.now w }
     ensures aligned { IfSome result (λ w. w % 8 ≡ 0) }
+    ensures below { IfSome result (λ w. w < 2 ^ 54) }
 {
     if t.past {
         return None;

@@ -3,5 +3,5 @@ mod Listing
 mod Uses
 mod HeldWords
 mod Ranges
-mod Ones
+pub mod Ones
 mod Telling
