@@ -7,7 +7,7 @@ pub returns-clause-searching : goal.returns-clause-searching
 returns-clause-searching c =
     let i = c.args.kernel.now.image in
     let s = c.args.self.now in
-    let pointers : c.deref.result.now ≡ live_pointers i = cc in
+    let pointers : c.deref.result.now ≡ live_pointers i = cc (c.in_ok-pointers.ensures) in
     let pages : c.pages.result.now ≡ i.memory.pages = cc in
     let slots : c.slots.result.now ≡ i.slots = cc in
     begins_search c.args.kernel.now.image c.args.kernel.now.kept _ s.tables c.begin_pointers.new.tables c.begin_pages.new.tables c.deref.result.now c.pages.result.now
