@@ -198,20 +198,30 @@ impl Search {
     }
 }
 
+impl Search {
+    /// What is found in the end, unless there are more threads than the limit.
+    fn found(mut self, kernel: &Kernel) -> Result<Option<Tables>, NoMemory>
+        requires { IsSearching kernel.now.image kernel.now.kept self }
+        ensures more { IfOk result (λ found. found ≡ None → HasMore kernel.now.image kernel.now.kept self.limit) }
+        ensures all { IfOk result (λ found. IfSome found (IsExact kernel.now.image kernel.now.kept)) }
+        ensures few { IfOk result (λ found. IfSome found (λ tables. length tables.threads ≤ self.limit)) }
+    {
+        let few = self.run(kernel)?;
+        if !few {
+            return Ok(None);
+        }
+        Ok(Some(self.into_tables()))
+    }
+}
+
 /// Finds all that a kernel can come to, whatever its callers do, unless it has more threads than the limit.
-#[tactic(none)]
 pub fn find(alloc: Global, kernel: &Kernel, limit: usize) -> Result<Option<Tables>, NoMemory>
     ensures more { IfOk result (λ found. found ≡ None → HasMore kernel.now.image kernel.now.kept limit) }
     ensures all { IfOk result (λ found. IfSome found (IsExact kernel.now.image kernel.now.kept)) }
     ensures few { IfOk result (λ found. IfSome found (λ tables. length tables.threads ≤ limit)) }
 {
-    let mut search = Search::new(alloc, kernel, limit)?;
-    let few = search.run(kernel)?;
-    if few {
-        Ok(Some(search.into_tables()))
-    } else {
-        Ok(None)
-    }
+    let search = Search::new(alloc, kernel, limit)?;
+    search.found(kernel)
 }
 
 ghost use Rattle.std.specs.Prelude.{None, IfSome};
