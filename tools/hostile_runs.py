@@ -57,6 +57,8 @@ explore examples/hello.img 100
 explore examples/letterbox.img 2000
 why examples/counter.img 0 1048576 touch
 why examples/kernel.img 0 1048576 write
+keeps examples/counter.img 10000 1048768/6,1048840/3
+keeps examples/kernel.img 10000 1048832/3
 extract examples/letterbox.img 1
 asm examples/counter.asm
 link {counter.obj}
@@ -86,6 +88,7 @@ solo {long.img} 0 50 {long.schedule}
 grants {long.img} 0
 explore {long.img} 5
 why {long.img} 0 1048576 touch
+keeps {long.img} 200 0/54
 extract {long.img} 0
 asm {long.asm}
 link {long.obj} {counter.obj}
@@ -108,6 +111,8 @@ run examples/hello.asm 10
 solo examples/letterbox.img 7 10 examples/letterbox.schedule
 explore examples/hello.img 0
 why examples/hello.img 0 12 touch
+keeps examples/hello.img 10 8/3,8/3
+keeps examples/hello.asm 10 8/3
 asm examples/hello.img
 link {counter.obj} {letterbox.obj} {letterbox.obj}
 dis examples/hello.img

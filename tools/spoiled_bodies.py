@@ -30,10 +30,10 @@ exec "$program" "$@"
 """
 
 STATUSES, FAULTS, ANSWERS, PIECES, LOG = ".ci/statuses", ".ci/faults", ".ci/answers", ".ci/pieces", ".ci/log"
-WHY, EXPLORE, LIMITS, HOSTILE, CONFORMANCE = ".ci/why", ".ci/explore", ".ci/limits", "tools/hostile", ".ci/conformance"
+WHY, EXPLORE, KEEPS, LIMITS, HOSTILE = ".ci/why", ".ci/explore", ".ci/keeps", ".ci/limits", "tools/hostile"
 MM, PICTURES, VIEW, PAGES = ".ci/mm", "docs/pictures/build", "docs/view/build", "examples/check"
 TRUTH, C, HARDWARE, EDITORS, BROWSER = ".ci/truth", ".ci/c", ".ci/hardware", "editors/check", ".ci/view"
-SERVE = ".ci/serve"
+SERVE, CONFORMANCE = ".ci/serve", ".ci/conformance"
 
 # Each body: what it does wrong, the script that has to notice, what it does; and words for that script, with
 # which it is enough.
@@ -148,6 +148,7 @@ BODIES = [
     ("debug has a register that is another one", LOG,
      '[ "$1" != debug ] || { ran "$@"; text "s/^r 1 i.*/r 1 i0000000000000000/"; told; }'),
     ("continue goes a cycle less", LOG, '[ "$1" != continue ] || set -- "$1" "$2" "$3" "$(($4 - 1))"'),
+    ("keeps looks at one thread fewer", ANSWERS, '[ "$1" != keeps ] || set -- "$1" "$2" "$(($3 - 1))" "$4"'),
     ("a derivation names the register after", WHY,
      '[ "$1" != why ] || { ran "$@"; text "s/register \\(.*\\) 5$/register \\1 6/"; told; }'),
     ("group 0 writes no word", WHY, '[ "$1-$3-$5" != why-0-write ] || { echo no; exit 0; }'),
@@ -158,6 +159,27 @@ BODIES = [
     ("an outcome has a turn more", EXPLORE, '[ "$1" != explore ] || { ran "$@"; text "\\$s/^by .*/& 0/"; told; }'),
     ("a written word is told as touched alone", EXPLORE,
      '[ "$1" != explore ] || { ran "$@"; text "/^wrote /d"; told; }'),
+    ("a kernel that leaks is kept", KEEPS,
+     '[ "$1" != keeps ] || { ran "$@"; text "1s/ no$/ yes/; /^leak /d"; told; }'),
+    ("a kernel that gives a pointer away at a fault is kept", KEEPS,
+     '[ "$1" != keeps ] || { ran "$@"; grep -q "^leak [^f]" "$room/out" || text "1s/ no$/ yes/; /^leak /d"; told; }'),
+    ("the first door of a kernel is left out", KEEPS,
+     '[ "$1" != keeps ] || { ran "$@"; text "0,/^door /{/^door /d}"; told; }'),
+    ("a cell of a kernel never gets a caller's word", KEEPS,
+     '[ "$1" != keeps ] || { ran "$@"; text "/^cell .* any$/d"; told; }'),
+    ("a form of a cell of a kernel is left out", KEEPS,
+     '[ "$1" != keeps ] || { ran "$@"; last=$(grep -n "^cell " "$room/out" | tail -n 1); '
+     '[ -z "$last" ] || text "${last%%:*}d"; told; }'),
+    ("a word that only a fetch uses is not read", KEEPS,
+     '[ "$1" != keeps ] || { ran "$@"; text "s/^\\(reads .*\\) 8$/\\1 7/"; told; }'),
+    ("a word that a kernel writes is told as read alone", KEEPS,
+     '[ "$1" != keeps ] || { ran "$@"; text "/^writes /d"; told; }'),
+    ("a kernel has a code word less", KEEPS,
+     '[ "$1" != keeps ] || { ran "$@"; text "s/^\\(code .*\\) 7$/\\1 6/"; told; }'),
+    ("another slot is the kernel's", KEEPS,
+     '[ "$1" != keeps ] || { ran "$@"; text "s/^slot 0$/slot 1/"; told; }'),
+    ("keeps drops the last of several segments", KEEPS,
+     'if [ "$1" = keeps ] && [ "${4%,*}" != "$4" ]; then set -- "$1" "$2" "$3" "${4%,*}"; fi'),
     ("a write is counted twice", CONFORMANCE, '[ "$1" != log ] || { ran "$@"; text "s/ writes 1$/ writes 2/"; told; }'),
     ("a fault of bounds is one of permission", CONFORMANCE,
      '[ "$1" != log ] || { ran "$@"; text "s/faulted 3/faulted 4/"; told; }'),
@@ -194,7 +216,7 @@ BODIES = [
     # Memory.
     *((f"{command} has no memory for an image of more than 1 MB", LIMITS,
        f'[ "$1" != {command} ] || [ "$(size "$2")" -le 1000000 ] || no_memory', "go_through")
-      for command in "run trace log solo grants extract debug migrate sweep holders save explore why continue".split()),
+      for command in "run trace log solo grants extract debug migrate sweep holders save explore why keeps continue".split()),
     *((f"{command} has no memory for an object of more than 2,000 relocations", LIMITS,
        f'[ "$1" != {command} ] || [ "$(size "$2")" -le 50000 ] || no_memory', "link_most")
       for command in ("link", "dis")),
