@@ -18,7 +18,7 @@ from mm.log.changes import CellSet, EventQueued, IpSet, LoadIssued, RegisterSet,
 from mm.log.read import Step
 from mm.log.replay import Machine, SlotNow
 from mm.machine.isa import decode
-from mm.machine.words import ADDRESS_LIMIT, Cell, Permission, Pointer, Word
+from mm.machine.words import Cell, Permission, Pointer, Word
 from mm.outputs.trace import Turn
 from mm.records import replace
 from mm.tests.kept import Answer, Broken, Form, Kernel, Segment, is_fixed
@@ -190,9 +190,11 @@ class Watch:
             raise Broken(f"{what} holds {word}, a door that is not told")
 
     def is_shown(self, slot: SlotNow) -> bool:
-        """Whether callers can see the registers of a slot."""
+        """Whether callers can see the registers of a slot. A slot of the kernel whose next fetch fails runs no code word."""
         if slot.state == "running":
-            return slot.ip.bits & ADDRESS_LIMIT - 1 not in self.answer.code
+            ip = slot.ip.pointer
+            fails = ip is not None and (ip.log < 3 or ip.address % 8) and self.kernel.meets(ip)
+            return ip is not None and ip.address not in self.answer.code and not fails
         return slot.state in ("waiting", "taken") and slot.handler not in self.kernel_slots
 
     def look_at(self, slot: SlotNow) -> None:
