@@ -38,7 +38,8 @@ def repeats(program: Program, slot: str, operation: str, number: str) -> Optiona
     counts = Counter(done.place for done in program.ran.of(slot_in(slot)) if done.operation in names)
     most = max(counts.values(), default=0)
     said = operation.replace("|", " or ")
-    return None if most >= number_in(number) else f"no {said} of it is carried out more than {counted(most, 'time')}"
+    why = f"none of its {said} is carried out more than {counted(most, 'time')}, and a loop does so again and again"
+    return None if most >= number_in(number) else why
 
 
 def _results(program: Program, slot: str, operation: str) -> list[Done]:

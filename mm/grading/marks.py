@@ -78,7 +78,7 @@ def _of_case(console: Console, built: Built, sheet: Sheet, case: Case) -> tuple[
     if not failed:
         return Mark(title, None), failed
     kinds = ", ".join(dict.fromkeys(_named(line) for line in failed))
-    return Mark(title, f"with inputs that are not shown here this is not so: {kinds}"), failed
+    return Mark(title, f"with other inputs, which are not shown, these lines are not right: {kinds}"), failed
 
 
 def _key(line: Expectation) -> tuple[str, ...]:
