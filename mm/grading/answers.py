@@ -95,7 +95,8 @@ def answers_in(sheet: Sheet, folder: str) -> list[Answer]:
         raise Stop(Status.READ_FAULT, f"mm: {folder}: cannot be read: {error.strerror}") from None
     answers = [_answer_of(sheet, folder, entry) for entry in entries]
     if not answers:
-        raise Stop(Status.USAGE, f"mm: {folder} is empty: it has a folder for each student, or a file for each")
+        why = f"there is nothing to grade in {folder}: put a folder or a file for each student there"
+        raise Stop(Status.USAGE, f"mm: {why}")
     return answers
 
 

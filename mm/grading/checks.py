@@ -7,9 +7,9 @@ import re
 import warnings
 from typing import Callable, Optional
 
-from mm.grading.program import NotSo, Program, WrongLine, number_in, overlaps, register_in
+from mm.grading.program import NotSo, Program, WrongLine, number_in, register_in
 from mm.machine.causes import Cause
-from mm.machine.words import Permission, Word
+from mm.machine.words import Word
 from mm.names.numbers import counted
 from mm.outputs.exploration import Exploration
 from mm.outputs.report import SlotState
@@ -88,7 +88,8 @@ def faults(program: Program, number: str, fault: str, operation: str = "") -> Op
     slot = program.slot(number)
     if slot.fault != cause.number:
         return became(slot)
-    found = program.ran.stopped.get(slot.number)
+    stopped = program.ran.stopped.get(slot.number)
+    found = stopped.operation if stopped else None
     at = f"{became(slot).partition(':')[0]}, but at {f'a `{found}`' if found else 'no instruction'}"
     return None if not operation or found in operation.split("|") else at
 
@@ -143,7 +144,7 @@ def word(program: Program, name: str, value: str) -> Optional[str]:
     return None if is_value(cell.word, value) else f"{name} is {program.speller.word(cell.word)}"
 
 
-def _no_group(program: Program, groups: tuple[str, ...]) -> Optional[str]:
+def no_group(program: Program, groups: tuple[str, ...]) -> Optional[str]:
     """What is said if a group is not there: the audit would say of it that it stands apart."""
     missing = [group for group in groups if number_in(group) not in program.built.image.groups]
     return f"there is no group {missing[0]}" if missing else None
@@ -151,19 +152,19 @@ def _no_group(program: Program, groups: tuple[str, ...]) -> Optional[str]:
 
 def apart(program: Program, *groups: str) -> Optional[str]:
     is_so = program.audit(",".join(groups)).aparts[-1].apart
-    return _no_group(program, groups) or (None if is_so else "the audit says that they do not")
+    return no_group(program, groups) or (None if is_so else "the audit says that they do not")
 
 
 def shares(program: Program, *groups: str) -> Optional[str]:
     is_so = not program.audit(",".join(groups)).aparts[-1].apart
-    return _no_group(program, groups) or (None if is_so else "the audit says that they stand apart")
+    return no_group(program, groups) or (None if is_so else "the audit says that they stand apart")
 
 
 def _reaches(program: Program, group: str, kind: str, name: str) -> bool:
     """Whether the audit grants a group all bytes of a name."""
     if kind not in REACHES:
         raise WrongLine(f"`{kind}` is not a kind of access: touch or write")
-    missing = _no_group(program, (group,))
+    missing = no_group(program, (group,))
     if missing:
         raise NotSo(missing)
     begin, end = program.span(name)
@@ -178,21 +179,6 @@ def can(program: Program, group: str, kind: str, name: str) -> Optional[str]:
 
 def cannot(program: Program, group: str, kind: str, name: str) -> Optional[str]:
     return "the audit says that it can" if _reaches(program, group, kind, name) else None
-
-
-def own(program: Program, group: str) -> Optional[str]:
-    """A thread of the group begins with a pointer to data that no other group can touch."""
-    missing = _no_group(program, (group,))
-    if missing:
-        return missing
-    number = number_in(group)
-    others = [span for reach in program.audit().reaches if reach.group != number for span in reach.touch]
-    held = [word.pointer for slot in program.built.image.slots if slot.group == number for word in slot.registers]
-    for pointer in held:
-        is_data = pointer and pointer.permission in (Permission.RO, Permission.RW)
-        if pointer and is_data and not any(overlaps(pointer, base, base + (1 << log)) for base, log in others):
-            return None
-    return f"group {group} begins with no pointer to data of its own"
 
 
 def _no_source(program: Program) -> Optional[str]:
@@ -238,5 +224,5 @@ def never(program: Program, what: str) -> Optional[str]:
 OF_THE_END: dict[str, Check] = {
     "says": says, "differs": differs, "matches": matches, "halts": halts, "faults": faults, "stops": stops,
     "together": together, "register": register, "fields": fields, "word": word, "apart": apart, "shares": shares,
-    "can": can, "cannot": cannot, "own": own, "uses": uses, "without": without, "outcomes": outcomes, "never": never,
+    "can": can, "cannot": cannot, "uses": uses, "without": without, "outcomes": outcomes, "never": never,
 }  # fmt: skip

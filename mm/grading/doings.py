@@ -38,7 +38,8 @@ def repeats(program: Program, slot: str, operation: str, number: str) -> Optiona
     counts = Counter(done.place for done in program.ran.of(slot_in(slot)) if done.operation in names)
     most = max(counts.values(), default=0)
     said = operation.replace("|", " or ")
-    return None if most >= number_in(number) else f"no {said} of it is carried out more than {counted(most, 'time')}"
+    why = f"none of its {said} is carried out more than {counted(most, 'time')}, and a loop does so again and again"
+    return None if most >= number_in(number) else why
 
 
 def _results(program: Program, slot: str, operation: str) -> list[Done]:
@@ -61,17 +62,27 @@ def twins(program: Program, slot: str, operation: str) -> Optional[str]:
     return None if is_so else f"no {operation} gives a pointer, while another gives the integer with the same bits"
 
 
+def _made_up(program: Program, slot: str) -> tuple[Optional[int], int]:
+    """The integer that a slot used as a pointer when it was stopped, and how many bytes from there on it used it."""
+    stopped = program.ran.stopped.get(number_in(slot))
+    if stopped is None or stopped.used is None or stopped.used.tagged:
+        return None, 0
+    return stopped.used.bits, stopped.offset
+
+
 def loses(program: Program, slot: str) -> Optional[str]:
-    number = number_in(slot)
-    is_so = program.ran.pointers[number] & program.ran.integers[number]
-    return None if is_so else f"slot {slot} never holds the bits of a pointer of its own without the tag"
+    is_so = _made_up(program, slot)[0] in program.ran.pointers[number_in(slot)]
+    why = f"when slot {slot} stops, what it uses as a pointer is not a pointer that it had, without the tag"
+    return None if is_so else why
 
 
 def forges(program: Program, slot: str, name: str) -> Optional[str]:
     begin, end = program.span(name)
-    made = map(Pointer.of_bits, program.ran.integers[number_in(slot)])
-    is_so = any(pointer and overlaps(pointer, begin, end) for pointer in made)
-    return None if is_so else f"slot {slot} never holds the bits of a pointer to {name}"
+    bits, offset = _made_up(program, slot)
+    pointer = Pointer.of_bits(bits) if bits is not None else None
+    is_so = pointer and (overlaps(pointer, begin, end) or begin <= pointer.address + offset < end)
+    why = f"when slot {slot} stops, what it uses as a pointer does not have the bits of a pointer to {name}"
+    return None if is_so else why
 
 
 def _accesses(program: Program, slot: str, name: str, kinds: tuple[str, ...]) -> bool:
@@ -111,7 +122,33 @@ def doors(program: Program, slot: str, number: str) -> Optional[str]:
     return None if found >= number_in(number) else f"slot {slot} enters by {counted(found, 'enter pointer')}"
 
 
+def hides(program: Program, slot: str, name: str) -> Optional[str]:
+    """Each call of a door leaves nothing in a register."""
+    address = program.address(name)
+    calls = [call for call in program.ran.calls if call.slot == number_in(slot) and call.door == address]
+    if not any(call.after for call in calls):
+        return f"slot {slot} {'does not come back from' if calls else 'never enters'} there"
+    for call in calls:
+        for place, word in call.left:
+            return f"after a call, r{place} is {program.speller.register(word)}"
+    return None
+
+
+def holds(program: Program, slot: str, *names: str) -> Optional[str]:
+    """At one moment a slot has made all these words empty, and none of them is full again."""
+    places, taken = {program.address(name) for name in names}, set()
+    for who, address, full in program.ran.bits:
+        if full or who != number_in(slot):
+            taken.discard(address)
+        elif address in places:
+            taken.add(address)
+        if taken == places:
+            return None
+    return f"slot {slot} never has all of them at once"
+
+
 OF_A_RUN: dict[str, Check] = {
     "executes": executes, "repeats": repeats, "gives": gives, "twins": twins, "loses": loses, "forges": forges,
     "stores": stores, "loads": loads, "empties": empties, "enters": enters, "doors": doors,
+    "hides": hides, "holds": holds,
 }  # fmt: skip

@@ -56,8 +56,11 @@ def marks(console: Console, built: Built, sheet: Sheet) -> list[Mark]:
     found = [
         Mark(one.expectation, ONLY_HERE) if one.right and _key(one.expectation) in failed else one for one in found
     ]
+    # Another run counts as something done only if it expects more than an empty program meets.
+    done = [one for (one, _), case in zip(hidden, others) if not case.is_condition]
+    done += [one for one in found if not one.expectation.is_condition]
     found += [one for one, _ in hidden]
-    if any(one.right and not one.expectation.is_condition for one in found):
+    if any(one.right for one in done):
         return found
     return [Mark(one.expectation, NOTHING_DONE) if one.right else one for one in found]
 
@@ -75,7 +78,7 @@ def _of_case(console: Console, built: Built, sheet: Sheet, case: Case) -> tuple[
     if not failed:
         return Mark(title, None), failed
     kinds = ", ".join(dict.fromkeys(_named(line) for line in failed))
-    return Mark(title, f"with inputs that are not shown here this is not so: {kinds}"), failed
+    return Mark(title, f"with other inputs, which are not shown, these lines are not right: {kinds}"), failed
 
 
 def _key(line: Expectation) -> tuple[str, ...]:

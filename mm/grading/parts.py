@@ -8,7 +8,7 @@ from mm.build import Built
 from mm.console import Console
 from mm.formats.image import PAGE_BYTES, Image, Page, Slot, image_bytes
 from mm.formats.object import Segment
-from mm.grading.checks import Check
+from mm.grading.checks import Check, no_group
 from mm.grading.program import NotSo, Program, WrongLine, number_in, overlaps, register_in
 from mm.grading.sheet import Case, Expectation
 from mm.machine.words import BY_SHORT, Permission, Pointer, Word
@@ -89,7 +89,7 @@ def lacks(program: Program, number: str, name: str) -> Optional[str]:
     that it can load without entering a gate."""
     begin, end = program.span(name)
     for pointer in _held(program.built.image, _slot(program, number)):
-        if pointer.permission in DATA and overlaps(pointer, begin, end):
+        if pointer.permission.loads and overlaps(pointer, begin, end):
             return f"slot {number} begins with a pointer to it, or can load one"
     return None
 
@@ -128,17 +128,39 @@ def alike(program: Program, number: str, name: str, other: str, of_other: str) -
 
 
 def clears(program: Program, number: str) -> Optional[str]:
-    """At the end a slot has no pointer to data that it did not have at the beginning."""
-    before = set(_slot(program, number).registers)
+    """At the end a slot can load through no register from a segment from which it could not load at the beginning, and
+    can store through none into one into which it could not store."""
+    before = _held(program.built.image, _slot(program, number))
     for place, word in sorted(program.slot(number).registers.items()):
-        pointer = word.pointer if word is not None and word not in before else None
-        if pointer and pointer.permission in DATA:
+        pointer = word.pointer if word is not None else None
+        if pointer and pointer.permission.loads and not any(_gives(one, pointer) for one in before):
             return f"r{place} of slot {number} is {program.speller.register(word)} at the end"
     return None
 
 
+def _gives(one: Pointer, other: Pointer) -> bool:
+    """Whether a pointer allows each load and each store that another allows."""
+    writes = other.permission is Permission.RW
+    allows = one.permission is Permission.RW if writes else one.permission.loads
+    return allows and one.base <= other.base and other.end <= one.end
+
+
+def own(program: Program, group: str) -> Optional[str]:
+    """A thread of the group begins with a pointer to data that no other group can touch, or can load one."""
+    missing = no_group(program, (group,))
+    if missing:
+        return missing
+    number, image = number_in(group), program.built.image
+    others = [span for reach in program.audit().reaches if reach.group != number for span in reach.touch]
+    for pointer in (one for slot in image.slots if slot.group == number for one in _held(image, slot)):
+        is_data = pointer.permission in DATA
+        if is_data and not any(overlaps(pointer, base, base + (1 << log)) for base, log in others):
+            return None
+    return f"group {group} has no pointer to data of its own"
+
+
 OF_PARTS: dict[str, Check] = {
-    "given": given, "starts": starts, "slots": slots, "lacks": lacks, "alike": alike, "clears": clears,
+    "given": given, "starts": starts, "slots": slots, "lacks": lacks, "alike": alike, "clears": clears, "own": own,
 }  # fmt: skip
 
 

@@ -8,12 +8,12 @@ from typing import Iterator, Optional
 
 from mm.build import Built
 from mm.console import Console, Order
-from mm.log.changes import RegisterSet
+from mm.log.changes import CellSet, RegisterSet
 from mm.log.read import Step
 from mm.log.replay import Machine, SlotNow
 from mm.log.taken import opened
 from mm.machine.isa import Instruction, Kind
-from mm.machine.words import Word
+from mm.machine.words import ZERO, Pointer, Word
 
 
 @dataclass(frozen=True)
@@ -30,37 +30,88 @@ class Done:
     entered: Optional[Word] = None
 
 
+@dataclass(frozen=True)
+class Stopped:
+    """An instruction that a fault stopped: its operation, the word in the register that it uses as a pointer, and how
+    many bytes from there on the instruction uses it."""
+
+    operation: str
+    used: Optional[Word] = None
+    offset: int = 0
+
+
+@dataclass
+class Call:
+    """A jump through an enter pointer: from which segment it came, and the registers before it and after the way back
+    to this segment. The register into which the jump itself put the way back does not count."""
+
+    slot: int
+    door: int
+    caller: Pointer
+    before: list[Optional[Word]]
+    kept: Optional[int]
+    after: Optional[list[Optional[Word]]] = None
+
+    @property
+    def left(self) -> Iterator[tuple[int, Word]]:
+        """What the call has left in registers: each word that was not there before, but for the integer 0."""
+        for place, (old, new) in enumerate(zip(self.before, self.after or [])):
+            if place != self.kept and new is not None and new not in (old, ZERO):
+                yield place, new
+
+
 @dataclass
 class Ran:
-    """A run: what was done, the operation at which each slot was stopped last, and the bits of pointers and of integers
-    that each slot held."""
+    """A run: what was done, where each slot was stopped last, the bits of the pointers that each slot held, the calls
+    through enter pointers, and which slot made which word full or empty."""
 
     done: list[Done] = field(default_factory=list)
-    stopped: dict[int, str] = field(default_factory=dict)
+    stopped: dict[int, Stopped] = field(default_factory=dict)
     pointers: dict[int, set[int]] = field(default_factory=lambda: defaultdict(set))
-    integers: dict[int, set[int]] = field(default_factory=lambda: defaultdict(set))
+    calls: list[Call] = field(default_factory=list)
+    bits: list[tuple[int, int, bool]] = field(default_factory=list)
 
     def of(self, slot: Optional[int]) -> Iterator[Done]:
         """What a slot did, or any slot."""
         return (done for done in self.done if slot is None or done.slot == slot)
 
     def hold(self, slot: int, word: Optional[Word]) -> None:
-        if word is not None:
-            (self.pointers if word.tagged else self.integers)[slot].add(word.bits)
+        if word is not None and word.tagged:
+            self.pointers[slot].add(word.bits)
+
+    def back(self, slot: SlotNow, place: int) -> None:
+        """Ends each call of a slot that is back in the segment it came from. A load that has not arrived counts."""
+        for call in self.calls:
+            if call.slot == slot.number and call.after is None and call.caller.covers(place):
+                call.after = list(slot.registers)
+                for register, word in slot.pending:
+                    call.after[register] = word
 
 
 def take(ran: Ran, machine: Machine, step: Step) -> None:
     """Lets the machine carry out a turn, and takes it into account. A `trap` is carried out by its fault."""
     turn = step.turn
     instruction = machine.memory.instruction(turn.fetch) if turn.fetch is not None else None
+    slot = machine.slots[turn.slot]
+    before, caller = list(slot.registers), slot.ip.pointer
+    if turn.fetch is not None:
+        ran.back(slot, turn.fetch)
     machine.carry_out(step)
     for change in step.changes:
         if isinstance(change, RegisterSet):
             ran.hold(change.slot, change.word)
+        elif isinstance(change, CellSet) and (change.cell.full or turn.access == "loadset"):
+            ran.bits.append((turn.slot, change.address, change.cell.full))
     if instruction is None or turn.fetch is None:
         return
     if turn.outcome == "faulted":
-        ran.stopped[turn.slot] = instruction.name
+        used = before[instruction.value("ra")] if instruction.has("ra") else None
+        offset = instruction.value("imm") if instruction.has("imm") else 0
+        ran.stopped[turn.slot] = Stopped(instruction.name, used, offset)
+    door = turn.entered.pointer if turn.entered else None
+    if door and caller:
+        kept = instruction.value("rd") if instruction.has("rd") else None
+        ran.calls.append(Call(turn.slot, door.address, caller, before, kept))
     if turn.outcome == "did" or (turn.outcome == "faulted" and instruction.name == "trap"):
         results = results_of(instruction, machine.slots[turn.slot])
         done = Done(turn.slot, instruction.name, turn.fetch, turn.access, turn.address, results, turn.entered)

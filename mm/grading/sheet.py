@@ -46,6 +46,8 @@ EXPECTED = {
     "empties": "empties SLOT NAME",
     "enters": "enters SLOT NAME N",
     "doors": "doors SLOT N",
+    "hides": "hides SLOT NAME",
+    "holds": "holds SLOT NAME..",
     "shares": "shares GROUP..",
     "can": "can GROUP KIND NAME",
     "own": "own GROUP",
@@ -104,6 +106,11 @@ class Case:
     puts: list[Expectation] = field(default_factory=list)
     expectations: list[Expectation] = field(default_factory=list)
     number: int = 1
+
+    @property
+    def is_condition(self) -> bool:
+        """Whether an empty program meets all of it too."""
+        return all(line.is_condition for line in self.expectations)
 
 
 @dataclass

@@ -9,12 +9,13 @@ from __future__ import annotations
 import base64
 import json
 import os
+import re
 import signal
 import subprocess
 import sys
 import tempfile
 from dataclasses import dataclass, field
-from typing import Any, Optional
+from typing import IO, Any, Optional
 
 from mm.cc import cache
 from mm.grading.answers import Answer
@@ -26,6 +27,8 @@ from mm.status import Refused, Status, Stop
 # What an answer may take: seconds of processor of each process, seconds of the clock for all of it, bytes of memory,
 # and bytes of a file that is written.
 SECONDS, CLOCK, MEMORY, FILE = 60, 120, 4 << 30, 64 << 20
+# How many bytes of its errors are looked at.
+SHOWN = 500
 START = "import sys; sys.path.insert(0, sys.argv[1]); from mm.grading.worker import main; main()"
 # What the process has of the surroundings.
 KEPT = ("PATH", "LANG", "LC_ALL", "MM_CLANG", "LD_LIBRARY_PATH")
@@ -81,23 +84,35 @@ def _ask(request: bytes, room: str) -> dict[str, Any] | str:
     told = {name: os.environ[name] for name in KEPT if name in os.environ}
     told[cache.VARIABLE] = cache.folder() or ""
     command = [sys.executable, "-I", "-c", START, CHECKOUT]
+    # A file, so that the limit of the process counts for what it writes there.
+    errors = tempfile.TemporaryFile()
     process = subprocess.Popen(
-        command, stdin=subprocess.PIPE, stdout=subprocess.PIPE, stderr=subprocess.DEVNULL, cwd=room,
+        command, stdin=subprocess.PIPE, stdout=subprocess.PIPE, stderr=errors, cwd=room,
         env={**told, "TMPDIR": room, "HOME": room}, start_new_session=True,
     )  # fmt: skip
     try:
         out, _ = process.communicate(request, timeout=CLOCK)
+        last = _last_line(errors)
     except subprocess.TimeoutExpired:
         return f"it takes more than {CLOCK} seconds"
     finally:
         _end(process)
+        errors.close()
     if process.returncode in (-signal.SIGXCPU, -signal.SIGKILL):
         return f"it takes more than {SECONDS} seconds of processor"
     try:
         said: dict[str, Any] = json.loads(out)
         return said
     except ValueError:
-        return f"it could not be graded: the process that grades it ended with {process.returncode}"
+        ended = f"the process that grades it ended with {process.returncode}{f': {last}' if last else ''}"
+        return f"it could not be graded, by a fault of `mm` and not of the answer: {ended}"
+
+
+def _last_line(errors: IO[bytes]) -> str:
+    """The last line of a file of errors, without the folders that it names."""
+    errors.seek(max(0, errors.seek(0, os.SEEK_END) - SHOWN))
+    lines = [line.strip() for line in errors.read().decode("utf-8", "replace").splitlines() if line.strip()]
+    return "".join(letter for letter in re.sub(r"\S*/", "", lines[-1]) if letter.isprintable()) if lines else ""
 
 
 def _end(process: subprocess.Popen[bytes]) -> None:

@@ -26,7 +26,7 @@ class Grade(unittest.TestCase):
             ("6.2", "docs/course/answers/doors.asm", "count is 2"),
             ("6.2", "examples/hello.asm", "there is no label or segment `count`"),
             ("lab-1", "examples/hello.asm", 'it prints "A"'),
-            ("lab-2", "examples/hello.asm", "no out of it is carried out more than 1 time"),
+            ("lab-2", "examples/hello.asm", "none of its out is carried out more than 1 time, and"),
             ("lab-4", "examples/hello.asm", "slot 0 has halted"),
             ("lab-5", "docs/course/lab/bank.asm", "it prints nothing"),
             ("lab-3", "examples/faults.asm", "slot 0 was stopped by fault 3 Bounds: "),
@@ -119,7 +119,7 @@ class Grade(unittest.TestCase):
         ended = mm("grade", "lab-3", "docs/course/fakes/lab3-constant.asm")
         self.assertIn("  no   the sum of other numbers\n       there is no label or segment `numbers`", ended.out)
         ended = mm("grade", "lab-3", "docs/course/fakes/lab3-idle.asm")
-        self.assertIn("with inputs that are not shown here this is not so: register 0 r3 ..\n", ended.out)
+        self.assertIn("with other inputs, which are not shown, these lines are not right: register 0 r3 ..\n", ended.out)
         self.assertNotIn("r3 9", ended.out)
 
     def test_an_empty_program_gets_nothing(self):

@@ -72,7 +72,8 @@ class Asked(unittest.TestCase):
         self.assertTrue(asked(for_class(True), files=program("int main(void) { return 0; }", "a.c")).sources[0].in_c)
 
     def test_no_file_is_named_in_c(self):
-        for form in (*INCLUDES, '#line 1 "{0}"', '# 1 "{0}"', '/* */ #line 1 "{0}"', '#/**/line 3 "{0}"'):
+        for form in (*INCLUDES, '#line 1 "{0}"', '# 1 "{0}"', '/* */ #line 1 "{0}"', '#/**/line 3 "{0}"',
+            '#if __has_include(<{0}>)'):
             with self.assertRaises(NotAllowed, msg=form):
                 refuse_files("a.c", form.format("/etc/passwd") + "\n")
         refuse_files("a.c",
@@ -224,7 +225,7 @@ class Whole(unittest.TestCase):
             self.assertTrue(audit["picture"].startswith("<svg"))
             graded = served.do({"do": "grade", "words": ["lab-2"], "files": program(read("docs", "course",
                 "answers", "lab2.asm"))}).form
-            self.assertEqual(graded["right"], 3)
+            self.assertEqual(graded["right"], len(graded["marks"]))
             self.assertEqual(served.request("/").status, 404)
             self.assertEqual(served.request(served.path + "../README.md").status, 404)
             self.assertEqual(served.request(served.path, Origin="http://evil").status, 403)
