@@ -3,7 +3,7 @@
 from __future__ import annotations
 
 import re
-from dataclasses import dataclass, replace
+from dataclasses import dataclass
 from typing import Iterable, Optional, Protocol
 
 from mm.cc.allocation import NEVER, Allocation
@@ -14,6 +14,7 @@ from mm.cc.lowering import Lowering, signed
 from mm.cc.pointers import Pointer
 from mm.cc.reading import Reader
 from mm.cc.untranslated import Untranslated
+from mm.records import replace
 
 # `call void @llvm.dbg.value(metadata i32 %i, metadata !44, metadata !DIExpression()), !dbg !51`, or since LLVM 19
 # `#dbg_value(i32 %i, !44, !DIExpression(), !51)`.

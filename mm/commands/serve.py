@@ -67,7 +67,7 @@ def limits_of(console: Console, host: str) -> Limits:
 
 def with_c(limits: Limits) -> Limits:
     """The same without C where there is no Clang. Where there is, its library is read now and not for each request."""
-    from dataclasses import replace
+    from mm.records import replace
 
     from mm.cc.clang import find_clang, library
 

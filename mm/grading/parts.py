@@ -2,7 +2,6 @@
 
 from __future__ import annotations
 
-from dataclasses import replace
 from typing import Iterator, Optional
 
 from mm.build import Built
@@ -15,6 +14,7 @@ from mm.grading.sheet import Case, Expectation
 from mm.machine.words import BY_SHORT, Permission, Pointer, Word
 from mm.names.expressions import NoAddress, address_of
 from mm.names.numbers import number_of
+from mm.records import replace
 
 DATA = (Permission.RO, Permission.RW)
 

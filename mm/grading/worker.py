@@ -13,13 +13,14 @@ import signal
 import subprocess
 import sys
 import tempfile
-from dataclasses import dataclass, field, replace
+from dataclasses import dataclass, field
 from typing import Any, Optional
 
 from mm.cc import cache
 from mm.grading.answers import Answer
 from mm.grading.sheet import Sheet
 from mm.machine.program import CHECKOUT
+from mm.records import replace
 from mm.status import Refused, Status, Stop
 
 # What an answer may take: seconds of processor of each process, seconds of the clock for all of it, bytes of memory,

@@ -7,7 +7,7 @@ import multiprocessing
 import os
 import signal
 import sys
-from dataclasses import dataclass, field, replace
+from dataclasses import dataclass, field
 from typing import Any, Callable, Iterator, Optional, Sequence, TypeVar
 
 from mm.formats.hex import write_parts
@@ -26,6 +26,7 @@ from mm.log.read import LogReader, NoLog
 from mm.log.replay import Machine
 from mm.machine.program import find_program
 from mm.names.numbers import counted
+from mm.records import replace
 from mm.status import Stop
 
 Made = TypeVar("Made")

@@ -85,6 +85,10 @@ define void @f() !dbg !9 {
   %b = alloca [20 x i8], align 16
   %c = alloca [2 x i128], align 16
   %d = alloca %struct.s, align 16
+  %e = alloca [2 x %struct.t], align 16
+  %g = alloca [20 x ptr], align 16
+    #dbg_declare(ptr %e, !10, !DIExpression(), !8)
+    #dbg_declare(ptr %g, !14, !DIExpression(), !8)
     #dbg_declare(ptr %a, !5, !DIExpression(), !8)
     #dbg_declare(ptr %b, !6, !DIExpression(), !8)
   store i32 1, ptr %a, align 16, !dbg !8
@@ -98,6 +102,13 @@ define void @f() !dbg !9 {
 !5 = !DILocalVariable(name: "a", type: !4)
 !6 = !DILocalVariable(name: "b", type: !4, align: 128)
 !7 = !DIBasicType(name: "char", size: 8)
+!10 = !DILocalVariable(name: "e", type: !11)
+!11 = !DICompositeType(tag: DW_TAG_array_type, baseType: !12, size: 256)
+!12 = !DIDerivedType(tag: DW_TAG_typedef, name: "t", baseType: !13)
+!13 = !DICompositeType(tag: DW_TAG_structure_type, name: "t", size: 128, align: 128)
+!14 = !DILocalVariable(name: "g", type: !15)
+!15 = !DICompositeType(tag: DW_TAG_array_type, baseType: !16, size: 1280)
+!16 = !DIDerivedType(tag: DW_TAG_pointer_type, baseType: !13, size: 64)
 """
 
 
@@ -106,7 +117,7 @@ class Alignments(unittest.TestCase):
         found = {line.split(" = ")[0].strip(): line.rpartition("align ")[2].split(",")[0]
                  for line in lowered(ALIGNED, True).splitlines() if " = " in line and "align " in line and line[0] != "!"}
         self.assertEqual(found, {"@plain": "8", "@asked": "16", "@other": "8", "%a": "8", "%b": "16", "%c": "16",
-                                 "%d": "16"})
+                                 "%d": "16", "%e": "16", "%g": "8"})
         self.assertIn("store i32 1, ptr %a, align 8", lowered(ALIGNED, True))
 
     def test_without_what_is_said_for_debuggers(self):

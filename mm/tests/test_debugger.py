@@ -184,15 +184,15 @@ class Sessions(unittest.TestCase):
         self.assertIn("=>   32  .reg 1 ptr rw box\n", said[2])
         self.assertIn("=>   13    out r2\n", said[3])
         self.assertIn("examples/counter.asm has 38 lines", said[4])
-        self.assertIn("`0` is no line", said[5])
+        self.assertIn("`0` is not a line", said[5])
         self.assertIn("there is no source `other.asm`", said[6])
         self.assertIn("=>   19    .ptr rw count\n", said[7])
 
     def test_places_that_are_none(self):
         said = self.session(["break 0", "break 2000000001", "until 0x100003", "break 0x100008", "goto", "info b"], "examples/counter.asm")
         self.assertIn("`0` is not a line, of 1 to 99999, and not the address of an instruction", said[0])
-        self.assertIn("`2000000001` is no line", said[1])
-        self.assertIn("`0x100003` is no line", said[2])
+        self.assertIn("`2000000001` is not a line", said[1])
+        self.assertIn("`0x100003` is not a line", said[2])
         self.assertIn("1: break 0x100008 at ", said[3])
         self.assertIn("say to which cycle", said[4])
         self.assertEqual(len(said[5].splitlines()), 2)

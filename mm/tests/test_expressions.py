@@ -170,7 +170,7 @@ class Labels(unittest.TestCase):
         self.assertEqual(said[6], "r3 + 1 = -76   (0xffffffffffffffb4)")
         self.assertEqual(said[7], "r16 = 8   (0x8)")
         self.assertIn("r3 = 0xffffffffffffffb3\n`r3` is the register", said[8])
-        self.assertEqual(said[9], "r4 is no pointer: it is 0; the label is `&r4`")
+        self.assertEqual(said[9], "r4 is not a pointer: it is 0; the label is `&r4`")
         self.assertIn("7", said[10])
         self.assertNotIn("is the register", said[11])
         self.assertIn("there is no register r17", said[12])

@@ -119,7 +119,7 @@ class Files(unittest.TestCase):
             ("0, 1", "no commas"),
             ("07", "no leading zero: 7"),
             ("s1", "write only the number of a slot: 1"),
-            ("\u0661", "`\u0661` is no item of a schedule"),
+            ("\u0661", "`\u0661` is not an item of a schedule"),
         ):
             err = self.refused(2, "run", "examples/counter.asm", "--turns", text)
             self.assertIn("--turns:1:", err)

@@ -158,7 +158,7 @@ def explored(case: Case, line: str) -> list[tuple[Any, ...]]:
         return [("outcome", "ended" if outcome[2] == "ends" else "stuck")]
     if line.startswith("  under the schedule "):
         return [("by", line[21:].replace("without turns", ""))]
-    slot, output = re.match(r"  slot (\d+) (.*)$", line), re.match(r'  group (\d+) says "(.*)"$', line)
+    slot, output = re.match(r"  slot (\d+) (.*)$", line), re.match(r'  group (\d+) prints "(.*)"$', line)
     if output:
         return [("o", output[1], output[2].encode().decode("unicode_escape").encode("latin-1").hex())]
     return [("slot", slot[1], slot[2])] if slot else []
