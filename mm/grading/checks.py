@@ -193,7 +193,11 @@ def uses(program: Program, *operations: str) -> Optional[str]:
 
 def without(program: Program, *operations: str) -> Optional[str]:
     there = [name for name in operations if name in program.operations]
-    return _no_source(program) or (f"there is a {there[0]}" if there else None)
+    # A word of the source can be an instruction, and is not seen there.
+    done = [name for name in operations if any(each.operation == name for each in program.ran.of(None))]
+    if there or done:
+        return f"there is a {there[0]}" if there else f"a {done[0]} was carried out"
+    return _no_source(program)
 
 
 def all_looked_at(found: Exploration) -> Optional[str]:

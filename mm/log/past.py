@@ -77,8 +77,8 @@ def lost(log: bytes, code: Code, slot: int, register: int) -> Optional[Lost]:
             return None
         slot = turn.slot
         if made.name == "ld":
-            # A load can change the bit of a word, and not the word.
-            start = f"cell {turn.address or 0:014x} " if start.startswith("r ") else start
+            # It gives a register the word of a cell, or changes the bit of one, and not the word.
+            start = f"cell {turn.address or 0:014x} "
         elif made.name in ("mov", "st"):
             start = f"r {slot} {made.value('rb' if made.name == 'st' else 'ra')} "
         elif made.name not in ARITHMETIC:

@@ -44,7 +44,8 @@ class Lost(unittest.TestCase):
         self.assertEqual(self.found(begin, (0, "add 3, 1, 2", f"r 0 3 {number}")), Found(16, self.POINTER))
         again = (0, "and 3, 7, 4", f"r 0 3 {pointer}".replace("p", "i"))
         self.assertEqual(self.found(theirs, marks, *through[:3], again), Found(16, self.POINTER))
-        for turns in (through, (begin,), (*through[:3], (0, "mov 3, 7", f"r 0 3 {Word(number.bits + 2)}")), ((0, "ldi 3, 5", f"r 0 3 {number}"),)):
+        other = (0, "mov 3, 7", f"r 0 3 {Word(number.bits + 2)}")
+        for turns in (through, (begin,), (theirs, marks, *through[:3], other), (*through[:3], (0, "mov 3, 7", f"r 0 3 {Word(number.bits + 2)}")), ((0, "ldi 3, 5", f"r 0 3 {number}"),)):
             self.assertIsNone(self.found(*turns), turns)
 
     def test_pieces(self):
