@@ -1,6 +1,6 @@
 //! What a kernel keeps, whatever its callers do.
 
-ghost use Rattle.std.specs.Prelude.{◌≡◌, ◌++◌, IfOk, OnOk, map};
+ghost use Rattle.std.specs.Prelude.{◌≡◌, ◌++◌, true, IfOk, OnOk, map};
 ghost use Rattle.std.specs.List.{AllZip, list_any};
 ghost use Rattle.mm_word.specs.Pointer.{Pointer as PointerValue};
 ghost use Rattle.mm_kernel.specs.Segments.{is_user, runs_privileged};
@@ -168,6 +168,25 @@ fn tell(alloc: Global, kernel: &Kernel, tables: &Tables) -> Result<Told, NoMemor
     })
 }
 
+/// What is told of a kernel, given all that was found of it.
+fn told_of(alloc: Global, kernel: &Kernel, tables: Tables) -> Result<Told, NoMemory>
+    requires { IsExact kernel.now.image kernel.now.kept tables }
+    ensures { IfOk result (λ told. IsTold kernel.now.image kernel.now.kept told) }
+{
+    tell(alloc, kernel, &tables)
+}
+
+/// What a kernel of an image without privileged code keeps, if it has at most so many threads.
+fn answer(alloc: Global, kernel: &Kernel, threads: u32) -> Result<Answer, NoMemory>
+    requires { is_user kernel.now.image ≡ true }
+    ensures { IfOk result (λ answer. IsAnswer kernel.now.image kernel.now.kept threads answer) }
+{
+    match find(alloc, kernel, threads as usize)? {
+        None => Ok(Answer::More),
+        Some(tables) => Ok(Answer::Found(told_of(alloc, kernel, tables)?)),
+    }
+}
+
 /// What the kernel of an image keeps, given its kept segments, if it has at most so many threads.
 ///
 /// The kept segments are each a base and the base-2 logarithm of a length.
@@ -178,8 +197,5 @@ pub fn keeps(alloc: Global, image: &Image, threads: u32, kept: &[Part]) -> Resul
         return Ok(Answer::Privileged);
     }
     let kernel = Kernel::new(alloc, image, kept)?;
-    match find(alloc, &kernel, threads as usize)? {
-        None => Ok(Answer::More),
-        Some(tables) => Ok(Answer::Found(tell(alloc, &kernel, &tables)?)),
-    }
+    answer(alloc, &kernel, threads)
 }
