@@ -70,12 +70,6 @@ module _ (i : Image) (kept : List Segment) (tables : Tables) (exact : IsExact i 
     leaks = λ l. (λ h. exact.sound (HasLeak l) ((each_leak l).0 h), λ d. (each_leak l).1 (exact.whole (HasLeak l) d));
   }
 
--- the answer for a kernel of which all was found
-pub found_is : (i : Image) (kept : List Segment) (limit : ℕ) (tables : Tables) → IsExact i kept tables → length tables.threads ≤ limit
-    → is_user i ≡ true → (told : Told) → IsTold i kept told → IsAnswer i kept limit (Found told)
-found_is i kept limit tables exact few user told h =
-    (user, record { threads = tables.threads; whole = λ t d. exact.whole (HasThread t) d; few = few }, h)
-
 abbrev number_of : Slot → ℕ
 number_of s = s.number
 
