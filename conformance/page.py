@@ -5,23 +5,37 @@ import statistics
 import textwrap
 from collections import Counter
 
-from planted import GROUPS, PLANTED, TOP, bugs, reasons
+from planted import GROUPS, TOP, bugs, reasons
 
 PAGE = os.path.join(TOP, "docs", "STRENGTH.md")
 BEGIN, END = "<!-- conformance/strength writes from here -->", "<!-- to here -->"
 WIDTH = 120
-HEADS = ("bug", "the suite", "case, or why not", "cases", "lockstep")
+HEADS = ("bug", "case, or why not", "cases", "lockstep")
 NOTHING = ("", "", "", "")
+FOUND = "FOUND"
+OTHERS = ("COUNTS", "SAME PROGRAM", "NOT FOUND", "NO PROGRAM")
 NONE_OF = "none of "
 
 
 def rows():
-    """The rows that stand on the page, of the bugs that were tried."""
+    """The rows that stand on the page, of the bugs that were tried, with what the suite found before the case."""
     if not os.path.isfile(PAGE):
         return {}
     with open(PAGE, encoding="utf-8") as lines:
         cells = [[cell.strip() for cell in line.split("|")[1:-1]] for line in lines if line.startswith("| ")]
-    return {row[0]: tuple(row[1:]) for row in cells if len(row) == len(HEADS) and "/" in row[0] and row[1]}
+    tried = [row for row in cells if len(row) == len(HEADS) and "/" in row[0] and row[1]]
+    return {row[0]: (*of_cell(row[1]), *row[2:]) for row in tried}
+
+
+def cell_of(result, case):
+    """A cell of the page: of a bug that is found its case alone, else the result before it."""
+    return case if result == FOUND else ": ".join(filter(None, (result, case)))
+
+
+def of_cell(cell):
+    """What cell_of says, as the result and the case."""
+    result, _, case = cell.partition(": ")
+    return (result, case) if result in OTHERS else (FOUND, cell)
 
 
 def row_of(name, results, why):
@@ -41,15 +55,17 @@ def lockstep_cell(row):
         return "-"
     if row["result"] == "COUNTS":
         return f"counts {row['place']}"
-    return str(row["place"]) if row["result"] == "FOUND" else f"{NONE_OF}{row['tried']}"
+    return str(row["place"]) if row["result"] == FOUND else f"{NONE_OF}{row['tried']}"
 
 
-def table(group, names, found):
-    """The table of a crate's bugs, or of those that were planted."""
-    title = f"Planted for this: {len(names)}" if group == PLANTED else f"{group}: {len(names)} wrong bodies"
-    lines = [f"### {title}", "", f"| {' | '.join(HEADS)} |", "|---|---|---|---|---|"]
-    for name in names:
-        lines.append(" ".join(f"| {' | '.join([name, *found[name]])} |".split()))
+def table(found):
+    """The table of the bugs, by their groups."""
+    lines = [f"| {' | '.join(HEADS)} |", "|---|---|---|---|"]
+    for group in GROUPS:
+        for name in found:
+            if name.startswith(f"{group}/"):
+                result, case, *more = found[name]
+                lines.append(" ".join(f"| {' | '.join([name, cell_of(result, case), *more])} |".split()))
     return [*lines, ""]
 
 
@@ -62,8 +78,8 @@ def totals(found):
     places = {name: int(row[3]) for name, row in found.items() if row[3].isdigit()}
     if not places:
         return
-    alone = [name for name in places if found[name][0] != "FOUND"]
-    missed = [name for name, row in found.items() if row[0] == "FOUND" and row[3] and name not in places]
+    alone = [name for name in places if found[name][0] != FOUND]
+    missed = [name for name, row in found.items() if row[0] == FOUND and row[3] and name not in places]
     half, last = statistics.median_low(places.values()), max(places.values())
     tried = max((int(row[3].removeprefix(NONE_OF)) for row in found.values() if row[3].startswith(NONE_OF)), default=0)
     said = f"Random cases find {len(places)} bugs, half of these within {half} cases, the last one after {last}."
@@ -81,9 +97,7 @@ def write(results):
     for name in bugs():
         row = row_of(name, results, why)
         found[name] = row if row[0] else before.get(name, NOTHING)
-    lines = [BEGIN, "", *totals(found), ""]
-    for group in GROUPS:
-        lines += table(group, [name for name in found if name.startswith(f"{group}/")], found)
+    lines = [BEGIN, "", *totals(found), "", *table(found)]
     with open(PAGE, encoding="utf-8") as file:
         text = file.read()
     if BEGIN not in text or END not in text:
