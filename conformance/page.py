@@ -24,7 +24,7 @@ def rows():
     with open(PAGE, encoding="utf-8") as lines:
         cells = [[cell.strip() for cell in line.split("|")[1:-1]] for line in lines if line.startswith("| ")]
     tried = [row for row in cells if len(row) == len(HEADS) and "/" in row[0] and row[1]]
-    return {row[0]: (*of_cell(row[1]), *row[2:]) for row in tried}
+    return {name: (*of_cell(row[1]), *row[2:]) for row in tried for name in row[0].split(", ")}
 
 
 def cell_of(result, case):
@@ -59,13 +59,15 @@ def lockstep_cell(row):
 
 
 def table(found):
-    """The table of the bugs, by their groups."""
+    """The table of the bugs, by their groups, those of a group with the same result in one row."""
     lines = [f"| {' | '.join(HEADS)} |", "|---|---|---|---|"]
     for group in GROUPS:
+        together = {}
         for name in found:
             if name.startswith(f"{group}/"):
-                result, case, *more = found[name]
-                lines.append(" ".join(f"| {' | '.join([name, cell_of(result, case), *more])} |".split()))
+                together.setdefault(found[name], []).append(name)
+        for (result, case, *more), names in together.items():
+            lines.append(" ".join(f"| {' | '.join([', '.join(names), cell_of(result, case), *more])} |".split()))
     return [*lines, ""]
 
 
