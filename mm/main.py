@@ -10,6 +10,7 @@ import sys
 from types import FrameType
 from typing import Any, Optional, Sequence
 
+from mm import inputs
 from mm.console import Console, show_stop
 from mm.status import SIGNALLED, Status, Stop, usage
 from mm.table import HELP, PROGRAM, VERSION
@@ -117,6 +118,7 @@ def own_fault(console: Console, error: BaseException) -> int:
 def _guarded(console: Console, given: Sequence[str]) -> int:
     """Carries out words, however that ends."""
     try:
+        inputs.forget()
         console.said = read_words(given)
         return _end(console, carry_out(console))
     except Stop as stop:
@@ -126,7 +128,7 @@ def _guarded(console: Console, given: Sequence[str]) -> int:
         return _gone()
     except OSError as error:
         console.tell(f"mm: {error.strerror or error}")
-        return Status.WRITE_FAULT
+        return _gone()
     except MemoryError:
         console.tell("mm: memory ran out")
         return Status.NO_MEMORY
