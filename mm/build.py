@@ -2,7 +2,9 @@
 
 from __future__ import annotations
 
+import errno
 import os
+import stat
 from typing import TYPE_CHECKING, Optional, Sequence
 
 from mm.formats.image import Image, read_image
@@ -86,6 +88,8 @@ def read_file(name: str) -> bytes:
     """The bytes of a file, or a message that names it."""
     try:
         with open(name, "rb") as file:
+            if name.endswith(C_SUFFIX) and not stat.S_ISREG(os.fstat(file.fileno()).st_mode):
+                raise OSError(errno.EINVAL, "it is not a usual file, and Clang reads it again", name)
             note_read(file.fileno())
             data = file.read(LONGEST_FILE + 1)
     except OSError as error:

@@ -17,6 +17,7 @@ from mm.table import HELP, PROGRAM, VERSION
 from mm.words import Words, check_count, read_words
 
 TRACEBACK = "MM_TRACEBACK"
+SPELLED = "backslashreplace"
 # What ends a process from outside: the folder of a command and the program that it runs go before.
 ENDING = ("SIGTERM", "SIGHUP")
 
@@ -75,9 +76,9 @@ def _open_streams() -> None:
         sys.stdout = open(os.open(os.devnull, os.O_RDONLY), "w", encoding="utf-8")
     if sys.stderr is None:
         sys.stderr = open(os.devnull, "w", encoding="utf-8")
-    for stream in (sys.stdout, sys.stderr):
+    for stream, errors in ((sys.stdin, "surrogateescape"), (sys.stdout, SPELLED), (sys.stderr, SPELLED)):
         if isinstance(stream, io.TextIOWrapper):
-            stream.reconfigure(errors="backslashreplace")
+            stream.reconfigure(errors=errors)
 
 
 def _raise_ended(number: int, _: Optional[FrameType]) -> None:

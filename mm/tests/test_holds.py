@@ -169,6 +169,30 @@ class Streams(unittest.TestCase):
                     ended = shell(line, room)
                     self.assertEqual((ended.returncode, b"Traceback" in ended.stderr), (status, False))
 
+    def test_input_that_is_no_text(self):
+        """In a locale whose input is strict."""
+        with folder() as room:
+            write(room, "p.asm", GOOD)
+            for line, status in (("mm debug p.asm", 0), ("mm check-why p.img 0 0x100000 touch", 2)):
+                with self.subTest(line):
+                    ended = shell(f"mm link p.asm -o p.img; export PYTHONIOENCODING=utf-8; printf 'p \\377\\n' | {line}", room)
+                    self.assertNotEqual(ended.returncode, Status.OWN_FAULT)
+                    self.assertNotIn(b"should not happen", ended.stderr)
+                    self.assertEqual(ended.returncode, status)
+
+    def test_a_pipe_is_no_source_in_c(self):
+        with folder() as room:
+            os.mkfifo(os.path.join(room, "x.c"))
+            ended = shell("(printf 'int main(void) { return 0; }' >x.c &) ; mm run x.c", room)
+            self.assertEqual(ended.returncode, 3)
+            self.assertIn(b"it is not a usual file", ended.stderr)
+
+    def test_cc_wants_c(self):
+        with folder() as room:
+            ended = mm("cc", write(room, "p.asm", GOOD))
+        self.assertEqual(ended.status, 1)
+        self.assertIn("is not a source in C", ended.err)
+
     def test_bytes_that_are_no_text(self):
         with folder() as room:
             write(room, "p.asm", GOOD)
