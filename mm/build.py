@@ -2,12 +2,15 @@
 
 from __future__ import annotations
 
+import errno
 import os
+import stat
 from typing import TYPE_CHECKING, Optional, Sequence
 
 from mm.formats.image import Image, read_image
 from mm.formats.kinds import FileKind, looks_binary
 from mm.formats.object import MOST_WORDS, Object, object_of_words, read_object
+from mm.inputs import note_read
 from mm.limits import IMAGE_LIMIT
 from mm.machine.program import Answer, Program
 from mm.named import NamedFile
@@ -85,6 +88,9 @@ def read_file(name: str) -> bytes:
     """The bytes of a file, or a message that names it."""
     try:
         with open(name, "rb") as file:
+            if name.endswith(C_SUFFIX) and not stat.S_ISREG(os.fstat(file.fileno()).st_mode):
+                raise OSError(errno.EINVAL, "it is not a usual file, and Clang reads it again", name)
+            note_read(file.fileno())
             data = file.read(LONGEST_FILE + 1)
     except OSError as error:
         raise Refused(
@@ -117,6 +123,8 @@ def _beside(name: str, error: OSError) -> list[str]:
     found = [one for one in meant if one in there]
     if found:
         return [f"there is {os.path.join(folder, found[0])}"]
+    if os.path.isabs(name):
+        return []
     try:
         return [f"names of files are looked up from the folder {os.getcwd()} on"]
     except OSError:

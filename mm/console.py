@@ -7,6 +7,7 @@ import os
 import sys
 from typing import TYPE_CHECKING, Any, Iterable, Optional
 
+from mm.inputs import is_same, was_read
 from mm.named import NamedFile
 from mm.shown import shown
 from mm.status import Refused, Status, Stop, usage
@@ -19,6 +20,9 @@ if TYPE_CHECKING:
     from mm.build import Built, Workshop
     from mm.formats.schedule import Schedule
     from mm.machine.program import Answer, Program
+
+# Sources in C, and what they include.
+OF_C = (".c", ".h")
 
 
 class Order:
@@ -97,7 +101,7 @@ class Console:
     def write_bytes(self, data: bytes) -> None:
         """Bytes as they are; on a terminal what could command it is spelled out."""
         if self.out.isatty():
-            self.out.write(shown(data.decode("utf-8", "replace")))
+            self.out.write("\n".join(map(shown, data.decode("utf-8", "replace").split("\n"))))
             return
         self.out.flush()
         self.out.buffer.write(data)
@@ -172,13 +176,22 @@ class Console:
         return answer
 
     def refuse_input(self, name: str) -> None:
-        """Refuses an output that is one of the files that were read."""
-        from mm.outfile import is_same
-
-        given = [*self.words, *self.said.all(NAMES), *self.said.all(SCHEDULE)]
-        same = next((word for word in given if os.path.isfile(word) and is_same(word, name)), None)
-        if same is not None:
+        """Refuses an output that is one of the files that were read, or that a C source may have included."""
+        if was_read(name) or (self._program is not None and is_same(self._program.path, name)):
             raise usage(f"mm: {name} is a file that is read here: give --output another name")
+        if name.endswith(OF_C) and os.path.exists(name) and any(word.endswith(OF_C) for word in self.words):
+            raise usage(f"mm: {name} is a file that a C source may include: give --output another name")
+
+    def write_file(self, name: str, data: bytes) -> None:
+        """Writes a file, whole or not at all, and says how long it is."""
+        from mm.outfile import write_whole
+
+        self.refuse_input(name)
+        try:
+            write_whole(name, data)
+        except OSError as error:
+            raise Stop(Status.WRITE_FAULT, f"mm: {name} cannot be written: {error.strerror}") from None
+        self.tell(f"{name}: {len(data)} bytes")
 
     def put(self, data: bytes) -> int:
         """Bytes for the file of --output, or for the standard output where that is no terminal."""
@@ -192,14 +205,7 @@ class Console:
             self.out.buffer.write(data)
             self.out.buffer.flush()
             return Status.DONE
-        from mm.outfile import write_whole
-
-        self.refuse_input(name)
-        try:
-            write_whole(name, data)
-        except OSError as error:
-            raise Stop(Status.WRITE_FAULT, f"mm: {name} cannot be written: {error.strerror}") from None
-        self.tell(f"{name}: {len(data)} bytes")
+        self.write_file(name, data)
         return Status.DONE
 
 

@@ -10,12 +10,14 @@ import sys
 from types import FrameType
 from typing import Any, Optional, Sequence
 
+from mm import inputs
 from mm.console import Console, show_stop
 from mm.status import SIGNALLED, Status, Stop, usage
 from mm.table import HELP, PROGRAM, VERSION
 from mm.words import Words, check_count, read_words
 
 TRACEBACK = "MM_TRACEBACK"
+SPELLED = "backslashreplace"
 # What ends a process from outside: the folder of a command and the program that it runs go before.
 ENDING = ("SIGTERM", "SIGHUP")
 
@@ -74,9 +76,9 @@ def _open_streams() -> None:
         sys.stdout = open(os.open(os.devnull, os.O_RDONLY), "w", encoding="utf-8")
     if sys.stderr is None:
         sys.stderr = open(os.devnull, "w", encoding="utf-8")
-    for stream in (sys.stdout, sys.stderr):
+    for stream, errors in ((sys.stdin, "surrogateescape"), (sys.stdout, SPELLED), (sys.stderr, SPELLED)):
         if isinstance(stream, io.TextIOWrapper):
-            stream.reconfigure(errors="backslashreplace")
+            stream.reconfigure(errors=errors)
 
 
 def _raise_ended(number: int, _: Optional[FrameType]) -> None:
@@ -117,6 +119,7 @@ def own_fault(console: Console, error: BaseException) -> int:
 def _guarded(console: Console, given: Sequence[str]) -> int:
     """Carries out words, however that ends."""
     try:
+        inputs.forget()
         console.said = read_words(given)
         return _end(console, carry_out(console))
     except Stop as stop:
@@ -126,7 +129,7 @@ def _guarded(console: Console, given: Sequence[str]) -> int:
         return _gone()
     except OSError as error:
         console.tell(f"mm: {error.strerror or error}")
-        return Status.WRITE_FAULT
+        return _gone()
     except MemoryError:
         console.tell("mm: memory ran out")
         return Status.NO_MEMORY

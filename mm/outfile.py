@@ -8,14 +8,6 @@ import stat
 import tempfile
 
 
-def is_same(one: str, other: str) -> bool:
-    """Whether two names are one file that is there."""
-    try:
-        return os.path.samefile(one, other)
-    except OSError:
-        return False
-
-
 def write_whole(name: str, data: bytes) -> None:
     """Writes a file beside its place, and then puts it there. What is no usual file is written as it is."""
     path = os.path.realpath(name)

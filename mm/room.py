@@ -11,24 +11,6 @@ FOLDERS = ("/tmp", "/var/tmp", "/usr/tmp", ".")
 TRIES = 100
 
 
-def _make() -> str:
-    """A new folder that nobody else can read."""
-    named = [folder for folder in map(os.environ.get, VARIABLES) if folder]
-    last = OSError(2, "there is no folder for files in between: set TMPDIR")
-    for folder in (*named, *FOLDERS):
-        for _ in range(TRIES):
-            path = os.path.join(os.path.abspath(folder), f"mm-{os.urandom(6).hex()}")
-            try:
-                os.mkdir(path, 0o700)
-                return path
-            except FileExistsError:
-                continue
-            except OSError as error:
-                last = error
-                break
-    raise last
-
-
 class Room:
     """The folder, and how many files were made in it. It is made with the first of them."""
 
@@ -36,9 +18,27 @@ class Room:
         self.made = 0
         self.path = ""
 
+    def _make(self) -> None:
+        """Makes the folder, which nobody else can read. Its path is known before, so that a signal in between leaves nothing."""
+        named = [folder for folder in map(os.environ.get, VARIABLES) if folder]
+        last = OSError(2, "there is no folder for files in between: set TMPDIR")
+        for folder in (*named, *FOLDERS):
+            for _ in range(TRIES):
+                self.path = os.path.join(os.path.abspath(folder), f"mm-{os.urandom(6).hex()}")
+                try:
+                    os.mkdir(self.path, 0o700)
+                    return
+                except FileExistsError:
+                    self.path = ""
+                except OSError as error:
+                    self.path, last = "", error
+                    break
+        raise last
+
     def keep(self, data: bytes, suffix: str) -> str:
         """A file with these bytes."""
-        self.path = self.path or _make()
+        if not self.path:
+            self._make()
         self.made += 1
         path = os.path.join(self.path, f"{self.made}{suffix}")
         with open(path, "wb") as file:

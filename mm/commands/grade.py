@@ -67,8 +67,10 @@ def _one(console: Console, grader: Grader, files: Sequence[str]) -> int:
 
 def _all(console: Console, grader: Grader, folder: str) -> int:
     """Grades the answers of a folder."""
-    found = [grader.of(answer) for answer in answers_in(grader.sheet, folder)]
     place = console.said.value(FEEDBACK)
+    if place is not None and os.path.commonpath([os.path.realpath(each) for each in (place, folder)]) == os.path.realpath(folder):
+        raise usage(f"mm: grade: {place} is in the folder of the answers: give --feedback another one")
+    found = [grader.of(answer) for answer in answers_in(grader.sheet, folder)]
     if place is not None:
         _write_feedback(grader, place, found)
     if console.said.has(JSON):
@@ -82,14 +84,17 @@ def _all(console: Console, grader: Grader, folder: str) -> int:
 
 def _write_feedback(grader: Grader, place: str, found: Sequence[Graded]) -> None:
     """Writes what each student is shown into a file of the student's name."""
+    from mm.outfile import write_whole
     from mm.shown import shown
 
     try:
         os.makedirs(place, exist_ok=True)
         for graded in found:
             text = "".join(shown(line) + "\n" for line in feedback(grader.sheet, grader.name, graded))
-            with open(os.path.join(place, f"{graded.name}.txt"), "wb") as file:
-                file.write(text.encode("utf-8", "backslashreplace"))
+            path = os.path.join(place, f"{graded.name}.txt")
+            if os.path.islink(path):
+                raise Stop(Status.WRITE_FAULT, f"mm: {path} is a link: feedback is written into files alone")
+            write_whole(path, text.encode("utf-8", "backslashreplace"))
     except OSError as error:
         raise Stop(Status.WRITE_FAULT, f"mm: {place}: cannot be written: {error.strerror}") from None
 
@@ -130,6 +135,10 @@ def run(console: Console) -> int:
         return _check(console, grader)
     if not files:
         raise usage("mm: grade: missing FILE", "    usage: mm grade EXERCISE FILE..")
+    if console.said.has(JSON) and console.said.has(CSV):
+        raise usage("mm: grade: give --json or --csv, not both")
     if len(files) == 1 and os.path.isdir(files[0]):
         return _all(console, grader, files[0])
+    if console.said.has(FEEDBACK):
+        raise usage("mm: grade: --feedback goes with a folder of answers")
     return _one(console, grader, files)

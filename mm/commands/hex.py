@@ -3,8 +3,8 @@
 from __future__ import annotations
 
 from mm.console import Console
-from mm.formats.hex import PARTS, TESTBENCH_PARTS, text_of, write_parts
-from mm.status import Status, Stop, usage
+from mm.formats.hex import PARTS, TESTBENCH_PARTS, testbench_files, text_of
+from mm.status import Status, usage
 from mm.table import OUTPUT, PART
 
 # The parts of a testbench, each in a file of its own.
@@ -29,9 +29,6 @@ def _all(console: Console) -> int:
     front = console.said.value(OUTPUT)
     if front is None:
         raise usage(f"mm: hex: --part {ALL} wants --output NAME, for NAME.{', NAME.'.join(TESTBENCH_PARTS)}")
-    image = console.build(console.words).image
-    try:
-        write_parts(image, front)
-    except OSError as error:
-        raise Stop(Status.WRITE_FAULT, f"mm: {error.filename} cannot be written: {error.strerror}") from None
+    for name, data in testbench_files(console.build(console.words).image, front):
+        console.write_file(name, data)
     return Status.DONE

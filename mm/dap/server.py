@@ -97,7 +97,9 @@ class Server:
             self.refuse(base, str(why))
         except Stop as stop:
             self.refuse(base, "\n".join(lines_of(stop)))
-        except (KeyError, TypeError, ValueError, IndexError, AttributeError):
+        except OSError as error:
+            self.refuse(base, f"{error.filename or command}: {error.strerror}")
+        except (KeyError, TypeError, ValueError, IndexError, AttributeError, OverflowError, RecursionError):
             self.refuse(base, f"{command}: the arguments are not those of the protocol")
         todo, self.after = self.after, []
         for act in todo:
@@ -146,6 +148,8 @@ class Server:
         self.after.append(lambda: self.event("initialized", {}))
 
     def configured(self, given: Json) -> None:
+        if self.looker is None:
+            raise NotDone("there is no program: launch one")
         if self.stop_first:
             self.after.append(lambda: self.stopped(Halt(), "entry"))
         else:
@@ -180,6 +184,8 @@ class Server:
             point, more = make(row)
         except (NoAddress, Wrong) as why:
             return {"verified": False, "message": str(why)}
+        except RecursionError:
+            return {"verified": False, "message": "this is nested too deep"}
         self.points.setdefault(owner, []).append(point)
         return {"id": point.number, "verified": True, **more}
 
@@ -213,10 +219,11 @@ class Server:
 
     def set_faults(self, given: Json) -> None:
         """Whether the run stops at faults, and at entries."""
+        wanted = [FILTERS[name] for name in given.get("filters", [])]
         points = self.session.points
         points[:] = [point for point in points if point.kind not in FILTERS.values()]
-        for name in given.get("filters", []):
-            self.session.add(FILTERS[name], "")
+        for kind in wanted:
+            self.session.add(kind, "")
 
     def word_info(self, given: Json) -> Json:
         name = str(given["name"])

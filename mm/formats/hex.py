@@ -83,11 +83,10 @@ def text_of(lines: Iterator[str]) -> str:
     return "".join(f"{line}\n" for line in lines)
 
 
-def write_parts(image: Image, front: str) -> None:
-    """Writes what a testbench of any image reads: FRONT.frames, FRONT.pages and FRONT.slots."""
+def testbench_files(image: Image, front: str) -> Iterator[tuple[str, bytes]]:
+    """What a testbench of any image reads: FRONT.frames, FRONT.pages and FRONT.slots, and what is in each."""
     for part in TESTBENCH_PARTS:
-        with open(f"{front}.{part}", "w", encoding="ascii") as file:
-            file.write(text_of(PARTS[part](image)))
+        yield f"{front}.{part}", text_of(PARTS[part](image)).encode("ascii")
 
 
 PARTS: dict[str, Callable[[Image], Iterator[str]]] = {

@@ -5,6 +5,7 @@ from __future__ import annotations
 import errno
 import os
 import stat
+from collections import Counter
 from dataclasses import dataclass, field
 from typing import Sequence
 
@@ -93,26 +94,34 @@ def answers_in(sheet: Sheet, folder: str) -> list[Answer]:
             entries = sorted((entry for entry in found if not entry.name.startswith(".")), key=lambda one: one.name)
     except OSError as error:
         raise Stop(Status.READ_FAULT, f"mm: {folder}: cannot be read: {error.strerror}") from None
-    answers = [_answer_of(sheet, folder, entry) for entry in entries]
+    stems = Counter(_stem(entry) for entry in entries)
+    answers = [
+        _answer_of(sheet, folder, entry, _stem(entry) if stems[_stem(entry)] == 1 else entry.name) for entry in entries
+    ]
     if not answers:
         why = f"there is nothing to grade in {folder}: put a folder or a file for each student there"
         raise Stop(Status.USAGE, f"mm: {why}")
     return answers
 
 
-def _answer_of(sheet: Sheet, folder: str, entry: os.DirEntry[str]) -> Answer:
+def _stem(entry: os.DirEntry[str]) -> str:
+    """The name of a student by an entry of a folder."""
+    return entry.name if entry.is_dir(follow_symlinks=False) else os.path.splitext(entry.name)[0]
+
+
+def _answer_of(sheet: Sheet, folder: str, entry: os.DirEntry[str], name: str) -> Answer:
     """The answer of an entry of a folder. Its files are named without the folders that lead to them."""
     is_folder = entry.is_dir(follow_symlinks=False)
-    answer = Answer(entry.name if is_folder else os.path.splitext(entry.name)[0])
+    answer = Answer(name)
     path = os.path.join(folder, entry.name)
     try:
         if entry.is_symlink():
             raise Refusal("this is a link: an answer is a file or a folder itself")
         place, names = (path, _names_in(sheet, path)) if is_folder else (folder, [entry.name])
-        for name in names:
-            data = read_answer(os.path.join(place, name))
-            refuse_kind(sheet, name, data)
-            answer.files.append((name, data))
+        for each in names:
+            data = read_answer(os.path.join(place, each))
+            refuse_kind(sheet, each, data)
+            answer.files.append((each, data))
     except Refusal as why:
         answer.files, answer.refused = [], str(why)
     return answer

@@ -109,7 +109,7 @@ class Server:
                 write_message(self.output, {"jsonrpc": "2.0", "id": number, "result": result})
         except Wrong as wrong:
             self.refuse(number, wrong.number, str(wrong))
-        except (KeyError, TypeError, ValueError, IndexError, AttributeError):
+        except (KeyError, TypeError, ValueError, IndexError, AttributeError, OverflowError, RecursionError):
             self.refuse(number, BAD_PARAMS, f"{method}: the parameters are not those of the protocol")
 
     def refuse(self, number: Json, code: int, why: str) -> None:

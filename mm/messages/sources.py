@@ -13,7 +13,7 @@ from mm.names.expressions import nearest
 from mm.names.numbers import counted
 from mm.outputs.refusal import Refusal
 from mm.source import wants
-from mm.source.letters import without_letters
+from mm.source.letters import TEXT_DIRECTIVES, without_letters
 from mm.source.lines import Line, read_line
 from mm.source.tokens import LONG_LINE, Token, TokenKind, cut, readable, token_at, tokens_of
 from mm.source.text import SourceSegment, SourceText, read_source
@@ -108,6 +108,8 @@ def _name(at: Explained) -> str:
         return f"`{text[:12]}..` has {count} letters, and a name has at most {wants.LONGEST_NAME}"
     if at.want is not None and at.want.choices:
         return f"expected {at.want.says}, found `{text}`"
+    if text in TEXT_DIRECTIVES:
+        return f"what stands after `{text}` is not a text"
     return f"there is no {'directive' if text.startswith('.') else 'operation'} `{text}`"
 
 
@@ -241,7 +243,7 @@ def explain(source: SourceText, fault: int, number: int, column: int) -> Diagnos
     if hint is None and fault <= 4:
         hint = at.usage() or "`mm help sources` shows what a source looks like"
     name = at.token.text if fault == LABEL and at.token else None
-    return Diagnostic(source.path, message, number, column, at.written, [hint] if hint else [], name=name)
+    return Diagnostic(source.path, message, number, column, at.written, [readable(hint)] if hint else [], name=name)
 
 
 def explain_refusal(path: str, data: bytes, refusal: Refusal) -> Diagnostic:

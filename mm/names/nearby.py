@@ -5,6 +5,8 @@ from __future__ import annotations
 import os
 import stat
 
+from mm.inputs import note_read
+
 # A longer file is none that a person wrote.
 LONGEST_NAMED = 1 << 22
 
@@ -26,6 +28,7 @@ def lines_nearby(path: str, source: str) -> list[str]:
             return []
         number = os.open(real, os.O_RDONLY | getattr(os, "O_NONBLOCK", 0) | getattr(os, "O_NOFOLLOW", 0))
         with os.fdopen(number, "rb") as file:
+            note_read(number)
             # It may have become another file since it was looked at.
             data = file.read(LONGEST_NAMED + 1) if stat.S_ISREG(os.fstat(number).st_mode) else b""
     except (OSError, ValueError):

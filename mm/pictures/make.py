@@ -148,7 +148,7 @@ def _why(studio: Studio) -> Picture:
 def _net(studio: Studio) -> Picture:
     links, *names = studio.names
     nodes = [studio.workshop.build([name]) for name in names]
-    found = [LINK.fullmatch(word.decode()) for _, word in words_of(numeric(read_file(links), nodes)[0])]
+    found = [LINK.fullmatch(word.decode()) for _, word in words_of(numeric(links, read_file(links), nodes)[0])]
     ends = [(int(one[1]), int(one[2]), int(one[3]), int(one[4])) for one in found if one]
     return net.draw([(_name(name), node) for name, node in zip(names, nodes)], ends, studio.title("A net of two nodes"))
 

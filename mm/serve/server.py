@@ -42,7 +42,7 @@ class Server:
     def __init__(self, program: Program, limits: Limits, token: str, files: Mapping[str, Answer], local: bool) -> None:
         self.program, self.limits, self.token, self.files, self.local = program, limits, token, files, local
         self.rooms = tempfile.mkdtemp(prefix="mm-serve-")
-        self.places = asyncio.Semaphore(limits.at_once)
+        self.places: asyncio.Semaphore  # Made in the loop that serves: before Python 3.10 it belongs to one.
         self.waiting = self.open = 0
         self.port = 0
 
@@ -51,6 +51,7 @@ class Server:
 
     async def listen(self, host: str, port: int) -> asyncio.AbstractServer:
         """Begins to listen; port 0 is any that is free."""
+        self.places = asyncio.Semaphore(self.limits.at_once)
         server = await asyncio.start_server(self.connected, host, port, limit=MOST_HEAD)
         self.port = server.sockets[0].getsockname()[1]
         return server

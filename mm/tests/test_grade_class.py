@@ -35,6 +35,32 @@ class Class(unittest.TestCase):
         self.assertIn(why, ended.stderr)
         return ended.stderr
 
+    def test_feedback_replaces_no_answer(self):
+        students = os.path.join(self.room, "students")
+        os.makedirs(os.path.join(students, "bob"))
+        write(students, "bob.asm", HALTS)
+        write(os.path.join(students, "bob"), "a.asm", HALTS)
+        write(students, "eve.txt", "mine")
+        for place in (students, os.path.join(students, "told")):
+            ended = mm("grade", self.sheet(), students, "--feedback", place)
+            self.assertEqual(ended.status, 1, ended.err)
+            self.assertIn("is in the folder of the answers", ended.err)
+        told = os.path.join(self.room, "told")
+        self.assertEqual(mm("grade", self.sheet(), students, "--feedback", told).status, 0)
+        self.assertEqual(sorted(os.listdir(told)), ["bob.asm.txt", "bob.txt", "eve.txt"])
+        names = [row["answer"] for row in json.loads(mm("grade", self.sheet(), students, "--json").out)["answers"]]
+        self.assertEqual(names, ["bob", "bob.asm", "eve"])
+        os.remove(os.path.join(told, "eve.txt"))
+        os.symlink(os.path.join(students, "eve.txt"), os.path.join(told, "eve.txt"))
+        self.assertIn("is a link", mm("grade", self.sheet(), students, "--feedback", told).err)
+        with open(os.path.join(students, "eve.txt"), encoding="utf-8") as file:
+            self.assertEqual(file.read(), "mine")
+
+    def test_words_that_do_not_go_together(self):
+        source = write(self.room, "a.asm", HALTS)
+        self.assertIn("not both", mm("grade", self.sheet(), source, "--json", "--csv").err)
+        self.assertIn("goes with a folder", mm("grade", self.sheet(), source, "--feedback", self.room).err)
+
     @unittest.skipUnless(hasattr(os, "mkfifo"), "there are no pipes with names")
     def test_a_pipe_a_device_and_a_link_are_no_answers(self):
         """To read one might never end, or lead anywhere."""

@@ -1,6 +1,7 @@
 """That `mm` holds: names that are options for others, lines of megabytes, streams that are closed, files that are outputs and inputs,
 signals, and a program that is not `mmachine`."""
 
+import io
 import json
 import os
 import shutil
@@ -54,6 +55,16 @@ class Shown(unittest.TestCase):
         style = Style(True)
         for mark in (style.strong, style.soft, style.good, style.bad, style.warn, style.name):
             self.assertEqual(shown(mark("x"), True), mark("x"))
+
+    def test_output_at_a_terminal_keeps_its_lines(self):
+        class Terminal(io.StringIO):
+            def isatty(self):
+                return True
+
+        console = Console(Words())
+        console.out = Terminal()
+        console.write_bytes(b"one\ntwo\t\033[2J\n")
+        self.assertEqual(console.out.getvalue(), "one\ntwo\t<U+001B>[2J\n")
 
     @needs_program
     def test_of_a_source_and_a_name(self):
@@ -152,10 +163,35 @@ class Streams(unittest.TestCase):
         with folder() as room:
             write(room, "p.asm", GOOD)
             for line, status in (("mm run p.asm >&-", 4), ("mm help >&-", 4), ("mm run p.asm 2>&-", 0), ("mm debug p.asm <&-", 0),
-                    ("mm run none.asm >&- 2>&-", 3), ("mm run p.asm >/dev/full", 4), ("mm link p.asm >&-", 4)):
+                    ("mm run none.asm >&- 2>&-", 3), ("mm run p.asm >/dev/full", 4), ("mm link p.asm >&-", 4), ("mm asm p.asm >&-", 4),
+                    ("mm vcd p.asm >&-", 4), ("mm lsp >&- </dev/null", 1)):
                 with self.subTest(line):
                     ended = shell(line, room)
                     self.assertEqual((ended.returncode, b"Traceback" in ended.stderr), (status, False))
+
+    def test_input_that_is_no_text(self):
+        """In a locale whose input is strict."""
+        with folder() as room:
+            write(room, "p.asm", GOOD)
+            for line, status in (("mm debug p.asm", 0), ("mm check-why p.img 0 0x100000 touch", 2)):
+                with self.subTest(line):
+                    ended = shell(f"mm link p.asm -o p.img; export PYTHONIOENCODING=utf-8; printf 'p \\377\\n' | {line}", room)
+                    self.assertNotEqual(ended.returncode, Status.OWN_FAULT)
+                    self.assertNotIn(b"should not happen", ended.stderr)
+                    self.assertEqual(ended.returncode, status)
+
+    def test_a_pipe_is_no_source_in_c(self):
+        with folder() as room:
+            os.mkfifo(os.path.join(room, "x.c"))
+            ended = shell("(printf 'int main(void) { return 0; }' >x.c &) ; mm run x.c", room)
+            self.assertEqual(ended.returncode, 3)
+            self.assertIn(b"it is not a usual file", ended.stderr)
+
+    def test_cc_wants_c(self):
+        with folder() as room:
+            ended = mm("cc", write(room, "p.asm", GOOD))
+        self.assertEqual(ended.status, 1)
+        self.assertIn("is not a source in C", ended.err)
 
     def test_bytes_that_are_no_text(self):
         with folder() as room:
@@ -267,6 +303,46 @@ class Outputs(unittest.TestCase):
                 self.assertIn("is a file that is read here", ended.err)
             with open(source, encoding="utf-8") as file:
                 self.assertEqual(file.read(), GOOD)
+
+    def test_what_else_is_read_is_no_output(self):
+        """The source that gave an image its names, a header, a part of a testbench that is a source."""
+        with folder() as room:
+            source = write(room, "q.asm", GOOD)
+            image = os.path.join(room, "q.img")
+            self.assertEqual(mm("link", source, "-o", image).status, 0)
+            frames = write(room, "a.frames", GOOD)
+            for words in (("view", image, "-o", source), ("migrate", image, "split", "-o", source),
+                          ("hex", frames, "--part", "all", "-o", os.path.join(room, "a"))):
+                with self.subTest(words[0]):
+                    ended = mm(*words)
+                    self.assertEqual(ended.status, 1, ended.err)
+                    self.assertIn("is a file that is read here", ended.err)
+            for name in (source, frames):
+                with open(name, encoding="utf-8") as file:
+                    self.assertEqual(file.read(), GOOD)
+
+    def test_a_file_of_c_is_no_output(self):
+        with folder() as room:
+            header, source = write(room, "h.h", "int f(void);\n"), write(room, "m.c", "int main(void) { return 0; }\n")
+            ended = mm("cc", source, "-o", header)
+            self.assertEqual(ended.status, 1, ended.err)
+            self.assertIn("a C source may include", ended.err)
+            with open(header, encoding="utf-8") as file:
+                self.assertEqual(file.read(), "int f(void);\n")
+
+    def test_the_program_is_no_output(self):
+        with folder() as room:
+            program = os.path.join(room, "mymm")
+            shutil.copy(os.environ["MMACHINE"] if "MMACHINE" in os.environ else path_of("crates", "mmachine", "out", "mmachine"), program)
+            ended = mm("link", write(room, "p.asm", GOOD), "-o", program, "--program", program)
+            self.assertEqual(ended.status, 1, ended.err)
+            self.assertIn("is a file that is read here", ended.err)
+
+    def test_parts_are_written_whole(self):
+        with folder() as room:
+            ended = mm("hex", write(room, "p.asm", GOOD), "--part", "all", "-o", os.path.join(room, "b"))
+            self.assertEqual(ended.status, 0, ended.err)
+            self.assertEqual(sorted(os.listdir(room)), ["b.frames", "b.pages", "b.slots", "p.asm"])
 
     def test_whole_or_not_at_all(self):
         with folder() as room:

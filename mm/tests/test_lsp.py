@@ -88,6 +88,34 @@ class Sessions(unittest.TestCase):
         self.assertEqual(Server(None, given, io.BytesIO()).loop(), 0)
 
     @needs_program
+    def test_a_debug_session_survives_what_is_wrong(self):
+        """Each request that cannot be done is refused, and the next one is answered."""
+        deep = "(" * 5000 + "1"
+        asked = [
+            ("initialize", {}), ("configurationDone", {}), ("launch", {"program": "examples/counter.asm", "cwd": "/no/such/folder"}),
+            ("launch", {"program": f"{recorded.TOP}/examples/counter.asm"}), ("evaluate", {"expression": deep, "context": "watch"}),
+            ("setExceptionBreakpoints", {"filters": ["fault"]}), ("setExceptionBreakpoints", {"filters": ["nothing of that name"]}),
+            ("setFunctionBreakpoints", {"breakpoints": [{"name": "door", "condition": deep}]}), ("stackTrace", {"threadId": 1e999}),
+            ("threads", {}), ("disconnect", {}),
+        ]
+        sent = [json.dumps({"seq": at + 1, "type": "request", "command": name, "arguments": given}) for at, (name, given) in enumerate(asked)]
+        status, back = recorded.play("dap", sent)
+        answers = {row["request_seq"]: row["success"] for row in map(json.loads, back) if row["type"] == "response"}
+        self.assertEqual(status, 0)
+        self.assertEqual([answers[at + 1] for at in range(len(asked))],
+            [True, False, False, True, False, True, False, True, False, True, True])
+
+    @needs_program
+    def test_a_place_without_end(self):
+        opened = {"textDocument": {"uri": "file:///a.asm", "languageId": "mm", "version": 1, "text": " nop\n"}}
+        asked = {"textDocument": {"uri": "file:///a.asm"}, "position": {"line": 1e999, "character": 0}}
+        rows = [{"id": 1, "method": "initialize", "params": {}}, {"method": "textDocument/didOpen", "params": opened},
+            {"id": 2, "method": "textDocument/hover", "params": asked}, {"id": 3, "method": "shutdown"}, {"method": "exit"}]
+        status, back = recorded.play("lsp", [json.dumps({"jsonrpc": "2.0", **row}) for row in rows])
+        self.assertEqual(status, 0)
+        self.assertEqual([("error" in row) for row in map(json.loads, back) if row.get("id") in (2, 3)], [True, False])
+
+    @needs_program
     def test_recorded(self):
         names = recorded.names()
         self.assertGreaterEqual(len(names), 4)

@@ -110,8 +110,15 @@ class Files(unittest.TestCase):
         self.assertIn("it is a folder: name a file in it, as examples/answer.asm", err)
         self.assertIn("there is examples/counter.asm", self.refused(3, "run", "examples/conuter.asm"))
         self.assertIn("looked up from the folder", self.refused(3, "run", "nofile.asm"))
+        self.assertNotIn("looked up from the folder", self.refused(3, "run", "/nofile.asm"))
         self.assertIn("`--cycles 100`", self.refused(3, "run", "examples/counter.asm", "100"))
         self.assertIn("nofile.c: error: cannot be read", self.refused(3, "cc", "nofile.c"))
+
+    def test_texts_and_letters(self):
+        with folder() as room:
+            said = self.refused(2, "run", write(room, "q.asm", ".segment a 5\n .ascii \"abc\n ldi r1 e\u0301 $\n.thread 0 0 none xu a\n"))
+        self.assertIn("what stands after `.ascii` is not a text", said)
+        self.assertIn("hint: operands have commas between: `ldi r1, e\u0301, $`", said)
 
     def test_schedules(self):
         for text, hint in (

@@ -180,9 +180,10 @@ class Waits(unittest.TestCase):
         self.assertEqual(self.waits(["t 0 1 blocked", "t 0 2 blocked"], set()), {})
 
     def test_split_machines_need_more(self):
-        lines = [f"t 0 {turn} blocked" for turn in range(20)]
-        self.assertEqual(self.waits(lines[:5], {0}, True), {0: (5, False)})
-        self.assertEqual(self.waits(lines, {0}, True), {0: (20, True)})
+        """A blocked turn may deliver one of 16 loads of its own, and `rreg` then one of 16 of the slot that it reads."""
+        lines = [f"t 0 {turn} blocked" for turn in range(40)]
+        self.assertEqual(self.waits(lines[:33], {0}, True), {0: (33, False)})
+        self.assertEqual(self.waits(lines, {0}, True), {0: (40, True)})
 
 
 if __name__ == "__main__":

@@ -224,7 +224,8 @@ function about() {
   const notes = [];
   if (!TURNS.length && RUN.first > 1) notes.push(`The run has no turn from cycle ${RUN.first} on.`);
   const whole = RUN.first === 1 && !RUN.stuck && !RUN.goes_on;
-  const shown = whole ? several(RUN.cycles, "cycle") : `cycles ${RUN.first} to ${RUN.last}`;
+  const some = TURNS.length ? `cycles ${RUN.first} to ${RUN.last}` : `after ${several(RUN.cycles, "cycle")}`;
+  const shown = whole ? several(RUN.cycles, "cycle") : some;
   const stuck = RUN.stuck ? "; nothing can change any more after that: each slot that runs waits" : "";
   byId("about").textContent = `${shown}, ${RUN.order}${stuck}`;
   if (RUN.goes_on) {

@@ -21,7 +21,8 @@ const swatchClass = (code) => `swatch ${code.kind}${code.late ? " late" : ""}`;
 function waitText(turn, before) {
   const instruction = turnInstruction(turn, before);
   const came = turn.changes.find(([kind]) => kind === REGISTER);
-  if (came) return `a register is needed whose load has not arrived; r${came[2]} has arrived meanwhile`;
+  const whose = came && came[1] !== turn.slot ? ` of slot ${came[1]}` : "";
+  if (came) return `a register is needed whose load has not arrived; r${came[2]}${whose} has arrived meanwhile`;
   if (!instruction || instruction.operation.name === "evt") return "it waits for a fault of a slot that it handles";
   const wanted = ["any", "full", "empty"][instruction.values.pre] || "as it is wanted";
   return turn.address >= 0 ? `it waits for ${showAddress(turn.address)} to be ${wanted}` : "it tries again";

@@ -40,9 +40,10 @@ class ReportView:
         style: Style,
         waits: Optional[Mapping[int, Waiting]] = None,
         faults: Optional[Mapping[int, FaultSaid]] = None,
+        of_net: bool = False,
     ) -> None:
         self.report, self.memory, self.speller, self.style = report, memory, speller, style
-        self.waits, self.faults = waits or {}, faults or {}
+        self.waits, self.faults, self.of_net = waits or {}, faults or {}, of_net
 
     def lines(self, order: str) -> list[str]:
         """The whole report. `order` says in what order slots took turns."""
@@ -169,12 +170,10 @@ class ReportView:
         arriving = any(slot.pending for slot in self.report.slots)
         going = [slot.number for slot in self.report.slots if slot.running]
         if not stuck and self.report.cycles == MOST_CYCLES and going:
-            return [
-                "",
-                self.style.warn(
-                    f"a run has at most {MOST_CYCLES} cycles: `mm save` and `mm continue` make a longer one of two"
-                ),
-            ]
+            most = f"a net has at most {MOST_CYCLES} events" if self.of_net else (
+                f"a run has at most {MOST_CYCLES} cycles: `mm save` and `mm continue` make a longer one of two"
+            )
+            return ["", self.style.warn(most)]
         if not stuck:
             return []
         return ["", self.style.warn(stuck_verdict(len(stuck), arriving))]

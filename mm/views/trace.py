@@ -8,6 +8,7 @@ from mm.views.spell import Memory, Speller
 from mm.views.style import Style
 
 ACCESSES = {"load": "loads", "loadset": "loads and sets the bit of", "store": "stores to"}
+TRIED = {"load": "tries to load", "loadset": "tries to load and to set the bit of", "store": "tries to store to"}
 
 
 class TraceView:
@@ -36,10 +37,11 @@ class TraceView:
         return f" for {self.speller.symbols.show(turn.address)}{wanted}"
 
     def effects(self, turn: Turn) -> list[str]:
-        """What a turn accessed and entered. One that was blocked has done neither."""
+        """What a turn accessed, or tried to, and what it entered. One that was blocked has done neither."""
         said = []
         if turn.access and turn.address is not None and turn.outcome != "blocked":
-            said.append(f"{ACCESSES[turn.access]} {self.speller.symbols.show(turn.address)}")
+            kinds = TRIED if turn.fault else ACCESSES
+            said.append(f"{kinds[turn.access]} {self.speller.symbols.show(turn.address)}")
         if turn.entered:
             said.append(f"enters {self.speller.word(turn.entered)}")
         return said

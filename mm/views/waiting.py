@@ -13,8 +13,9 @@ from mm.records import dataclass
 from mm.views.spell import Memory, Speller
 
 ENOUGH = 2
-# In a split machine a blocked turn may deliver one of at most 16 loads. After more blocked turns than that it waits for a bit or an event.
-ENOUGH_SPLIT = 18
+# In a split machine a blocked turn may deliver a load: one of 16 of its own, or of 16 of a slot that it handles. After more blocked
+# turns than that it waits for a bit or an event.
+ENOUGH_SPLIT = 34
 
 
 @dataclass(frozen=True)
@@ -81,17 +82,17 @@ def _turn_between(before: Report, after: Report, memory: Memory) -> Optional[Tur
             instruction = memory.instruction(old.ip.pointer.address) if old.ip.pointer else None
             stayed = (old.ip, old.past, old.state) == (new.ip, new.past, new.state)
             jumps = instruction is None or instruction.name in JUMPS
-            waits = stayed and (not jumps or (instruction is not None and _needs_a_load(old, instruction)))
+            waits = stayed and (not jumps or (instruction is not None and bool(needed_loads(old, instruction))))
             return Turn(old.number, new.turns, "blocked" if waits else "did")
         if old.pending != new.pending:
             return Turn(old.number, 0, "delivered", delivered=old.pending[0][0] if old.pending else 0)
     return None
 
 
-def _needs_a_load(slot: SlotState, instruction: Instruction) -> bool:
-    """Whether a register that an instruction names waits for its load."""
-    named = [kind.field for kind in instruction.operation.operands if kind.is_register]
-    return any(slot.register(instruction.value(field)) is None for field in named)
+def needed_loads(slot: SlotState, instruction: Instruction) -> list[int]:
+    """The registers that an instruction names and that wait for their loads."""
+    named = {instruction.value(kind.field) for kind in instruction.operation.operands if kind.is_register}
+    return sorted(number for number in named if slot.register(number) is None)
 
 
 def what_for(slot: SlotState, memory: Memory, speller: Speller) -> str:
@@ -103,6 +104,9 @@ def what_for(slot: SlotState, memory: Memory, speller: Speller) -> str:
     text = speller.instruction(instruction, ip.address)
     if instruction.name == "evt":
         return f"waiting at {text} for a fault of a slot that it handles"
+    missing = needed_loads(slot, instruction)
+    if missing:
+        return f"waiting at {text} for the load of {' and '.join(f'r{number}' for number in missing)}"
     if instruction.name in ("ld", "st"):
         return f"waiting at {text} for {_word(slot, instruction, speller)} to be {instruction.choice('pre')}"
     return f"waiting at {text}"

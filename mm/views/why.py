@@ -83,7 +83,8 @@ def _not_pointer(at: Refusal) -> list[str]:
 def _no_way(at: Refusal) -> str:
     """What was meant by a jump through an integer."""
     ra, rd = at.register("ra"), at.register("rd") if at.name == "jal" else ""
-    if rd and at.word("rd").pointer:
+    back = at.word("rd").pointer if rd else None
+    if back and (back.permission.executes or back.permission.enters):
         return f"{at.spelled('rd')}: the register for the way back comes first, do you mean `jal {ra}, {rd}`?"
     if at.name == "jal":
         return f"code of other segments comes by `.reg {ra[1:]} ptr xu NAME` (`eu` for a gate), that of this one by `lip {ra}, LABEL`"

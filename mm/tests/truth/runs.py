@@ -11,6 +11,8 @@ from mm.tests.truth.told import ADDRESS, ZERO, Image, Report, State, Turn, addre
 
 SLOT_KEYS = {"slot", "group", "turns", "state", "ip", "past", "registers", "pending", "fault", "waits", "instruction", "source"}
 KINDS = {"load": "loads", "loadset": "loads and sets the bit of", "store": "stores to"}
+TRIED = {"load": "tries to load", "loadset": "tries to load and to set the bit of", "store": "tries to store to"}
+ACCESSED = "|".join(sorted([*KINDS.values(), *TRIED.values()], key=len, reverse=True))
 BEGINNINGS = {"running": ("running", "waiting"), "waiting": ("has faulted",), "taken": ("has faulted",), "halted": ("halted",), "faulted": ("stopped",)}
 CELLS_SHOWN = 64
 
@@ -238,10 +240,11 @@ class Case:
         fault = re.search(r"fault (\d+) ", did + " ")
         check("row fault", (int(fault[1]) if fault else None) == turn.fault, (row, turn.line))
         check("row blocked", did.startswith("waits") == (turn.outcome == ["blocked"]), (row, turn.line))
-        access = re.search(rf"(?:^|; )(loads and sets the bit of|loads|stores to) {PLACE}", did)
+        access = re.search(rf"(?:^|; )({ACCESSED}) {PLACE}", did)
         wanted = turn.access if turn.outcome != ["blocked"] else None
         found = access and (access[1], self.names.address(access[2]))
-        check("row access", found == (wanted and (KINDS[wanted[0]], wanted[1])), (row, turn.line))
+        kinds = TRIED if turn.fault else KINDS
+        check("row access", found == (wanted and (kinds[wanted[0]], wanted[1])), (row, turn.line))
         enters = re.search(r"(?:^|; )enters (\S+ 2\^\d+ \S+)$", did)
         right = self.names.is_word(enters[1], turn.enters) if enters and turn.enters else not enters and not turn.enters
         check("row enters", right, (row, turn.line))
