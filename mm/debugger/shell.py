@@ -17,6 +17,8 @@ WRITES = ("echo ", "printf ")
 MOST_SAID = 400
 # No line of a person is longer, and one without an end is read by nobody.
 LONGEST_LINE = 1_000_000
+# So many lines of breaks are carried out after a line that was typed: two breaks may lead to each other for ever.
+MOST_OF_STOPS = 2000
 # What an empty line does not do again.
 ONCE = ("break", "tbreak", "watch", "rwatch", "awatch", "delete", "display", "undisplay", "condition", "ignore", "enable", "disable",
     "commands", "run")
@@ -104,8 +106,12 @@ class Shell:
     def answer_all(self, line: str) -> None:
         """Answers a line, and then the lines of the break or watch at which it stops. Those of the next stop take their place."""
         self.answer(line)
-        while self.debugger.todo and not self.debugger.over:
+        for _ in range(MOST_OF_STOPS):
+            if not self.debugger.todo or self.debugger.over:
+                return
             self.answer(self.debugger.todo.pop(0))
+        self.debugger.todo.clear()
+        self.console.write([self.console.style.warn(f"{MOST_OF_STOPS} lines of breaks were carried out after one line: the rest is left")])
 
     def answer(self, line: str) -> None:
         """Answers a line. After one that is wrong no others are carried out."""

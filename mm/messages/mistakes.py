@@ -6,12 +6,13 @@ import re
 from typing import Callable, Optional
 
 from mm.machine.isa import OPERATIONS
+from mm.machine.words import BY_SHORT
 from mm.messages.directives import DIRECTIVE_MISTAKES
 from mm.messages.others import DIRECTIVE_HINTS, OPERATION_HINTS
 from mm.messages.scene import Scene
 from mm.source.letters import TEXT_DIRECTIVES
 from mm.source.tokens import BEYOND, value_of_digits
-from mm.source.wants import DIRECTIVES, OPERANDS
+from mm.source.wants import DIRECTIVES, OPERANDS, Sort
 
 NAME = r"[A-Za-z_][A-Za-z0-9_]*"
 
@@ -181,7 +182,7 @@ def _two_operands(scene: Scene) -> Optional[str]:
         scene.fault == 2
         and not scene.found
         and len(parts) == 2
-        and len(operands) == 3
+        and [want.sort for want in operands] == [Sort.REGISTER] * 3
         and all(re.fullmatch(r"r\d+", part) for part in parts)
     ):
         return f"it takes three operands, the result first: `{scene.head} {parts[0]}, {parts[0]}, {parts[1]}`"
@@ -247,6 +248,8 @@ def _name_as_operand(scene: Scene) -> Optional[str]:
         return f"`jal` wants a register with a pointer: first `lip r5, {scene.found}`, if it is in the same segment, and then `jal r6, r5`"
     if scene.head in ("bz", "bnz"):
         return None
+    if scene.found in BY_SHORT:
+        return f"a permission is its number in a register: for `{scene.found}` first `ldi r5, {BY_SHORT[scene.found].code}`"
     return f"a name is not an operand of `{scene.head}`: a pointer to `{scene.found}` comes from `.reg 5 ptr rw {scene.found}` after the `.thread`, or, if it is in the same segment, by `lip r5, {scene.found}`"
 
 

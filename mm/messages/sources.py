@@ -108,8 +108,9 @@ def _name(at: Explained) -> str:
         return f"`{text[:12]}..` has {count} letters, and a name has at most {wants.LONGEST_NAME}"
     if at.want is not None and at.want.choices:
         return f"expected {at.want.says}, found `{text}`"
-    if text in TEXT_DIRECTIVES:
-        return f"what stands after `{text}` is not a text"
+    directive = text.rstrip("0123456789")  # A letter in quotes is a number here.
+    if directive in TEXT_DIRECTIVES:
+        return f"what stands after `{directive}` is not a text"
     return f"there is no {'directive' if text.startswith('.') else 'operation'} `{text}`"
 
 

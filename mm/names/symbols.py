@@ -106,8 +106,8 @@ class Symbols:
         self.label_names = self._label_names(labels)
 
     def _label_names(self, labels: Sequence[Symbol]) -> list[str]:
-        """The names of labels, with their segments where several have the same."""
-        counts = Counter(label.name for label in labels)
+        """The names of labels, with their segments where several have the same, or a segment has it."""
+        counts = Counter([*(label.name for label in labels), *(region.name for region in self.regions)])
         regions = [self.region(label.address) for label in labels]
         return [
             f"{region.name}.{label.name}" if region and counts[label.name] > 1 else label.name

@@ -37,6 +37,13 @@ class Sessions(unittest.TestCase):
         self.assertIn("rw 2^6 price   (read/write, all 64 bytes of record", register)
         self.assertIn("36 '$'", price)
 
+    def test_breaks_that_lead_to_each_other(self):
+        lines = ["b l", "commands", "continue", "end", "b m", "commands", "reverse", "end", "c", "quit"]
+        with folder() as room, mock.patch("mm.debugger.shell.MOST_OF_STOPS", 20):
+            source = write(room, "l.asm", ".segment a 5\nl: nop\nm: nop\n br l\n.thread 0 0 none xu a\n")
+            out = mm("debug", source, lines="\n".join(lines) + "\n").out
+        self.assertIn("20 lines of breaks were carried out after one line: the rest is left", out)
+
     def test_breaks(self):
         said = self.session(["b door", "c", "n", "n", "fin", "c", "info b", "d 1", "c"], "examples/counter.asm")
         self.assertIn("break at door, examples/counter.asm:20", said[0])

@@ -119,6 +119,15 @@ class Files(unittest.TestCase):
             said = self.refused(2, "run", write(room, "q.asm", ".segment a 5\n .ascii \"abc\n ldi r1 e\u0301 $\n.thread 0 0 none xu a\n"))
         self.assertIn("what stands after `.ascii` is not a text", said)
         self.assertIn("hint: operands have commas between: `ldi r1, e\u0301, $`", said)
+        with folder() as room:
+            said = self.refused(2, "run", write(room, "q.asm", ".segment a 5\n .asciiz'A'\n.thread 0 0 none xu a\n"))
+        self.assertIn("what stands after `.asciiz` is not a text", said)
+
+    def test_hints_that_can_be_written(self):
+        with folder() as room:
+            said = self.refused(2, "run", write(room, "q.asm", ".segment a 5\n rreg r1, r2\n restrict r1, r2, ro\n.thread 0 0 none xu a\n"))
+        self.assertNotIn("`rreg r1, r1, r2`", said)
+        self.assertIn("for `ro` first `ldi r5, 1`", said)
 
     def test_schedules(self):
         for text, hint in (

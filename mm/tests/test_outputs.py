@@ -133,6 +133,11 @@ class Names(unittest.TestCase):
         self.assertEqual(address_of("two.again", symbols), 0x2008)
         self.assertRaises(NoAddress, address_of, "again", symbols)
 
+    def test_a_label_and_a_segment_of_one_name(self):
+        symbols = symbols_of(".segment one 6\n halt\nbox: halt\n", ".segment box 6\n halt\n")
+        self.assertEqual([symbols.show(0x1008), symbols.show(0x2000)], ["one.box", "box"])
+        self.assertEqual(address_of("one.box", symbols), 0x1008)
+
     def test_words(self):
         speller = Speller(symbols_of(".segment box 3\n .int 0\n"))
         self.assertEqual(speller.word(Word(Pointer(Permission.RW, 3, 0x1000).bits, True)), "rw 2^3 box")
