@@ -52,7 +52,7 @@ def missing(console: Console, built: Built) -> Stop:
     )
 
 
-def asked(console: Console, built: Built, kept: Sequence[Segment], threads: int) -> Kept:
+def answer_of(console: Console, built: Built, kept: Sequence[Segment], threads: int) -> Kept:
     """What the program answers."""
     return read_keeps(console.ask(["keeps", built.path, str(threads), word_of(kept)], [built.file]).text)
 
@@ -64,7 +64,7 @@ def run(console: Console) -> int:
     if not words:
         raise missing(console, built)
     kept = kept_of(words, built.symbols)
-    found = asked(console, built, kept, threads)
+    found = answer_of(console, built, kept, threads)
     if console.said.has(JSON):
         console.write_json(KeptForm(built.image, built.symbols, kept, threads, found).form())
     else:
