@@ -41,4 +41,4 @@ def names_of(built: Built, segments: list[Segment]) -> list[str]:
 def asked_of(console: Console, segments: list[str]) -> str:
     """The command that asks whether segments are kept."""
     names = [word for name in console.said.all(NAMES) for word in (NAMES.name, name)]
-    return " ".join(map(quote, ["mm", "keeps", *console.words, *names, *segments]))
+    return " ".join(map(quote, ["mm", "keeps", *console.file_words, *names, *segments]))
