@@ -55,10 +55,11 @@ class KeptWords:
             at = to
 
     def _piece(self, first: int, count: int) -> str:
-        region = self.symbols.region(first)
-        whole = region is not None and first == region.base and first + 8 * count == region.end
-        name = self.symbols.show(first)
-        return name if whole or count == 1 else f"{name} ({counted(count, 'word')})"
+        """A run in one segment. The name of a segment alone is all of it, any other place alone is a word."""
+        region, name = self.symbols.region(first), self.symbols.show(first)
+        begins = region is not None and first == region.base
+        alone = first + 8 * count == region.end if region and begins else count == 1
+        return name if alone else f"{name} ({counted(count, 'word')})"
 
     def form(self, form: Form) -> str:
         """What words a form stands for."""

@@ -154,7 +154,7 @@ class LeakView:
 
     def fault(self, place: Place) -> tuple[str, list[str]]:
         instruction = self.instruction(place)
-        said = f"it can fault, and the caller's handler then gets ({self.handlers()})"
+        said = f"it can fault, and the caller's handler then gets{self.handlers()}"
         own = set(self.operands(instruction))
         mend = self.clear([number for number in sorted(place.registers) if number not in own])
         needed = [f"r{number}" for number in sorted(place.registers) if number in own]
@@ -210,7 +210,7 @@ class LeakView:
             if not slot.halted and slot.handler is not None and slot.handler not in self.kept.slots:
                 served.setdefault(slot.handler, []).append(str(slot.number))
         said = [f"slot {handler} for slot{'s' * (len(slots) > 1)} {listed(slots)}" for handler, slots in sorted(served.items())]
-        return ", ".join(said)
+        return f" ({', '.join(said)})" if said else ":"
 
     def is_stub(self, place: Place) -> bool:
         """Whether a place is in a door that `mm cc` made."""
