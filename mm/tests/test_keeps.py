@@ -12,14 +12,13 @@ from mm.names.symbols import Region, Symbols
 from mm.outputs.keeps import Form, form_of, read_keeps
 from mm.source.text import read_source
 from mm.status import Stop
-from mm.tests.support import folder, has, mm, needs_program, read, read_bytes, write
+from mm.tests.support import folder, mm, needs_program, read, read_bytes, write
 from mm.views.keeps import KeepsView, packed
 from mm.views.keptdata import KeptForm
 from mm.views.keptwords import KeptWords
 from mm.views.leaks import places_of
 from mm.views.style import Style
 
-needs_keeps = unittest.skipUnless(has("keeps", "1", "8/3"), "there is no built mmachine that has `keeps`")
 YES = """keeps yes
 door p51800000001000c8
 reads 000000001000c0 8
@@ -314,11 +313,10 @@ class Shut(unittest.TestCase):
             self.assertEqual([(data[at] >> 4, shut[at] >> 4, (data[at] ^ shut[at]) & 15) for at in differ], [(5, 7, 0)] * count)
             self.assertEqual((has_doors(image), has_doors(read_image(shut))), (count > 0, False))
 
+    @needs_program
     def test_cells(self):
         """A door in memory is shut, and the integer with its bits stays."""
         source = ".segment a 5\n .ptr eu a\n .int 0x5140000000100000\n .ptr rw a\n halt\n.thread 0 0 none xu a + 24\n"
-        if not has("run", "0"):
-            self.skipTest("there is no built mmachine")
         with folder() as room:
             path = os.path.join(room, "a.img")
             self.assertEqual(mm("link", write(room, "a.asm", source), "-o", path).status, 0)
@@ -326,90 +324,6 @@ class Shut(unittest.TestCase):
                 image = read_image(file.read())
         self.assertEqual([str(with_doors_shut(image).cell(0x100000 + 8 * at).word) for at in range(3)],
                          ["p7140000000100000", "i5140000000100000", "p2140000000100000"])
-
-
-@needs_program
-class Audits(unittest.TestCase):
-    def test_doors_shut(self):
-        ended = mm("audit", "--doors-shut", "examples/counter.asm")
-        self.assertEqual((ended.status, ended.err), (0, ""))
-        self.assertTrue(ended.out.startswith("with the doors shut: each enter pointer counts as a key"))
-        self.assertNotIn("count", ended.out.replace("counts", ""))
-        self.assertIn("  read and write  box     8 bytes  0x100100", ended.out)
-        kernel = json.loads(mm("audit", "--doors-shut", "--json", "examples/kernel.asm").out)
-        self.assertTrue(kernel["doors_shut"])
-        self.assertEqual([[each["name"] for each in group["touch"]] for group in kernel["groups"]], [["client_a"], ["client_b"]])
-        self.assertFalse(json.loads(mm("audit", "--json", "examples/kernel.asm").out)["doors_shut"])
-        self.assertIn("there is no enter pointer", mm("audit", "--doors-shut", "examples/hello.asm").err)
-
-    def test_the_hint(self):
-        out = mm("audit", "examples/counter.asm").out.splitlines()
-        self.assertEqual(out[-1], "  mm keeps examples/counter.asm gate count")
-        self.assertEqual(mm("audit", "examples/kernel.asm").out.splitlines()[-1],
-                         "  mm keeps examples/kernel.asm kernel gate_a gate_b credits_a credits_b")
-        self.assertNotIn("mm keeps", mm("audit", "examples/letterbox.asm").out)
-        self.assertNotIn("mm keeps", mm("audit", "--doors-shut", "examples/counter.asm").out)
-        named = mm("audit", "examples/counter.img", "--names", "examples/counter.asm").out.splitlines()
-        self.assertEqual(named[-1], "  mm keeps examples/counter.img --names examples/counter.asm gate count")
-
-
-@needs_keeps
-class Asked(unittest.TestCase):
-    def test_yes(self):
-        ended = mm("keeps", "examples/counter.asm", "count", "gate")
-        self.assertEqual((ended.status, ended.err), (0, ""))
-        self.assertTrue(ended.out.startswith("yes: the kernel keeps gate and count\n"))
-        self.assertEqual(ended.out, mm("keeps", "examples/counter.img", "1048768/6,1048840/3").out)
-
-    def test_no(self):
-        with folder() as room:
-            path = write(room, "leak.asm", read("examples", "counter.asm").replace("ldi r7, 0", "nop"))
-            ended = mm("keeps", path, "gate", "count")
-        self.assertEqual(ended.status, 0)
-        self.assertIn("leak.asm:26: jmp r6\n  it can leave the kernel with what no caller may hold\n    r7   rw 2^3 count\n"
-                      "  mend  clear r7 before it: `ldi r7, 0`", ended.out)
-
-    def test_a_handler(self):
-        with folder() as room:
-            path = write(room, "served.asm", read("examples", "kernel.asm").replace(".thread 0 0 none", ".thread 0 0 1"))
-            out = mm("keeps", path, "gate*", "credits*").out
-        self.assertIn("out r2\n  it can fault, and the caller's handler then gets (slot 1 for slot 0)\n"
-                      "    r7   rw 2^3 credits_a or rw 2^3 credits_b\n", out)
-
-    def test_threads(self):
-        words = ("keeps", "examples/scheduler.asm", "scheduler", "first", "second")
-        self.assertIn("more than 400 threads", mm(*words, "--threads", "400").out)
-        self.assertTrue(mm(*words).out.startswith("yes"))
-        self.assertEqual(mm(*words, "--threads", "0").status, 1)
-
-    def test_privileged(self):
-        self.assertIn("ip of slot 0  xp", mm("keeps", "examples/pager.asm", "*").out)
-
-    def test_words(self):
-        for words, part in (
-            (["examples/counter.asm"], "only doors lead to gate and count: `mm keeps examples/counter.asm gate count`"),
-            (["examples/letterbox.asm"], "missing SEGMENT"),
-            (["examples/counter.asm", "gate", "examples/kernel.asm"], "`examples/kernel.asm` is a file, and files come before"),
-            (["examples/counter.asm", "gaet"], "do you mean `gate`?"),
-        ):
-            ended = mm("keeps", *words)
-            self.assertEqual((ended.status, ended.out), (1, ""), words)
-            self.assertIn(part, ended.err)
-        self.assertEqual(mm("keeps", "nowhere.asm", "gate").status, 3)
-        self.assertEqual(mm("keeps").status, 1)
-
-    def test_on_a_page(self):
-        with folder() as room:
-            path = os.path.join(room, "a.html")
-            self.assertEqual(mm("view", "examples/counter.asm", "--keeps", "gate,count", "-o", path).status, 0)
-            with open(path, encoding="utf-8") as file:
-                page = file.read()
-            self.assertEqual(mm("view", "examples/counter.asm", "-o", path).status, 0)
-            with open(path, encoding="utf-8") as file:
-                plain = file.read()
-        self.assertIn("yes: the kernel keeps gate and count", page)
-        self.assertIn("buildKeeps();", page)
-        self.assertNotIn("buildKeeps", plain)
 
 
 if __name__ == "__main__":
