@@ -1,9 +1,9 @@
 -- The answer is determined by the image, its kept segments and the limit.
-use Rattle.std.proofs.Common.{◌≡◌, ◌⊎◌, inl, inr, ℕ, zero, suc, ◌<◌, ◌≤◌, true, false, List, [], ◌∷◌, ◌++◌, map, length}
+use Rattle.std.proofs.Common.{◌≡◌, ◌⊎◌, inl, inr, ℕ, zero, suc, ◌≤◌, true, false, List, [], ◌∷◌, ◌++◌, map, length}
 use Rattle.std.proofs.Common.{Option, Some, Result, Ok, Err, IfOk, slice_get, refl, sym, ap, ◌∙◌, subst, arith}
 use Rattle.std.proofs.lemmas.{Option.{slice_get_within, get_or_from_slice_get}, Cmp.nat_list_cmp_total}
 use Rattle.std.specs.declared.cmp.Ordering.{Ordering, TheVariants.{Less, Equal, Greater}}
-use Rattle.std.specs.{Prelude.{Contains, ◌↔◌}, List.{AllByRecursion, AllZip}, Ordering.{is_lt, nat_cmp}, Cmp.Lexicographic.slice_cmp}
+use Rattle.std.specs.{Prelude.{Contains}, List.{AllByRecursion, AllZip}, Ordering.{is_lt, nat_cmp}, Cmp.Lexicographic.slice_cmp}
 use Rattle.mm_model.specs.{Image.Image, Spelling.IsImage}
 use Rattle.mm_kernel.specs.Segments.{Segment, is_user}
 use Rattle.mm_kernel.specs.declared.thread.{Origin.{Origin, TheVariants.{Door, Slot as OfSlot}}}
