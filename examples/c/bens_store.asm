@@ -96,6 +96,12 @@ L5:
   ;@ var drawer 3 -
   ld r0, r0, 0, any, keep
 L6:
+  ldi r1, 0
+  ldi r2, 0
+  ldi r3, 0
+  ldi r4, 0
+  ldi r5, 0
+  ldi r6, 0
   ld r7, r15, 8, any, keep
   ld r8, r15, 16, any, keep
   ld r9, r15, 24, any, keep
@@ -224,6 +230,12 @@ L19:
   mov r0, r11
 L20:
   ;@ line examples/c/store.c:31
+  ldi r1, 0
+  ldi r2, 0
+  ldi r3, 0
+  ldi r4, 0
+  ldi r5, 0
+  ldi r6, 0
   ld r7, r15, 16, any, keep
   ld r8, r15, 24, any, keep
   ld r9, r15, 32, any, keep
@@ -284,6 +296,12 @@ L32:
   lip r14, 2
   br bens_store_mm_key
 L30:
+  ldi r1, 0
+  ldi r2, 0
+  ldi r3, 0
+  ldi r4, 0
+  ldi r5, 0
+  ldi r6, 0
   ld r14, r15, 0, any, keep
   ldi r12, 0
   st r15, r12, 0, any, keep

@@ -4,6 +4,7 @@ from __future__ import annotations
 
 from mm.cc.code import ARGUMENTS, FRAME, LINK, SCRATCH, SECOND, STACK, VARIADIC, Call, Op
 from mm.cc.emission import Emission, Source
+from mm.cc.modulenames import DOOR
 
 
 # So many words of a frame are cleared one by one; more of them in a loop.
@@ -72,6 +73,10 @@ class Calling(Emission):
         frame = self.frame
         self.moves([(number, self.source(register)) for number, register in enumerate(op.uses())])
         if self.wipes and frame.size:
+            if self.code.name.startswith(DOOR):
+                # What is cleared before the caller's registers come back makes no more cases of these (docs/KEEPS.md).
+                for register in range(len(op.uses()), VARIADIC + 1):
+                    self.put("ldi", f"r{register}", 0)
             self.leave_nothing()
             self.reg("jmp", LINK)
             return
