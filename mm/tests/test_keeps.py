@@ -10,6 +10,7 @@ from mm.machine.words import Permission, Pointer, Word
 from mm.names.kept import kept_of, word_of
 from mm.names.symbols import Region, Symbols
 from mm.outputs.keeps import Form, form_of, read_keeps
+from mm.records import replace
 from mm.source.text import read_source
 from mm.status import Stop
 from mm.tests.support import folder, mm, needs_program, read, read_bytes, write
@@ -268,6 +269,15 @@ class Said(unittest.TestCase):
         ):
             self.assertIn(part, text)
         self.assertIn("0x1000f8: jmp r6", "\n".join(said(NO, names=False)))
+
+    def test_handlers(self):
+        """Handlers that are callers are told, and one that is the kernel's is not."""
+        symbols, image = counter()
+        zero, one = image.slots
+        served = replace(image, slots=(replace(zero, handler=1), replace(one, handler=0)))
+        for text, who in ((NO, "(slot 0 for slot 1)"), (NO.replace("slot 1\n", ""), "(slot 0 for slot 1, slot 1 for slot 0)")):
+            lines = KeepsView(served, symbols, [(0x1000C0, 6)], Style()).lines(read_keeps(text.replace("reads 000000001000c0 2\n", "")), 9)
+            self.assertIn(f"  it can fault, and the caller's handler then gets {who}", list(lines))
 
     def test_what_is_not_known(self):
         more, most, privileged = said("keeps more\n"), said("keeps more\n", threads=1_000_000), said("keeps privileged\n")
