@@ -13,7 +13,7 @@ from mm.status import Status
 from mm.table import DOORS_SHUT, GROUPS, JSON
 from mm.views.audit import AuditView
 from mm.views.data import audit_form
-from mm.views.keptwords import listed
+from mm.views.keptwords import shortly
 from mm.words import groups_of
 
 SHUT = ("with the doors shut: each enter pointer counts as a key, by which nobody enters anything", "")
@@ -47,5 +47,5 @@ def hint(console: Console, built: Built, audit: Audit) -> Iterator[str]:
     behind = names_of(built, behind_doors(console, built, audit))
     if behind:
         yield ""
-        yield f"only doors lead to {listed(behind)}; an audit takes the code there for unknown, and this reads it:"
-        yield f"  {asked_of(console, behind)}"
+        yield f"only doors lead to {shortly(behind)}; an audit takes the code there for unknown, and this reads it:"
+        yield f"  {asked_of(console, built, behind)}"

@@ -22,7 +22,10 @@ def audit_of(console: Console, built: Built, shut: bool = False, groups: Optiona
 
 
 def behind_doors(console: Console, built: Built, audit: Audit) -> list[Segment]:
-    """The segments that groups can touch, but not with the doors shut: ascending, none of them in another."""
+    """The segments that groups can touch, but not with the doors shut: ascending, none of them in another. Who is privileged can
+    touch all, and then none is told."""
+    if any(reach.privileged for reach in audit.reaches):
+        return []
     shut = audit_of(console, built, True)
     without = {segment for reach in shut.reaches for segment in reach.touch}
     found: list[Segment] = []
@@ -38,7 +41,19 @@ def names_of(built: Built, segments: list[Segment]) -> list[str]:
     return [words.segment(*segment) for segment in segments]
 
 
-def asked_of(console: Console, segments: list[str]) -> str:
+def patterns_of(built: Built, names: list[str]) -> list[str]:
+    """The same segments in fewer words: `gate_*` in the place of all whose names begin so."""
+    found: list[str] = []
+    for name in names:
+        begin, under, _ = name.partition("_")
+        alike = [region.name for region in built.symbols.regions if region.name.startswith(begin + "_")]
+        word = f"{begin}_*" if under and len(alike) > 1 and set(alike) <= set(names) else name
+        if word not in found:
+            found.append(word)
+    return found
+
+
+def asked_of(console: Console, built: Built, segments: list[str]) -> str:
     """The command that asks whether segments are kept."""
     names = [word for name in console.said.all(NAMES) for word in (NAMES.name, name)]
-    return " ".join(map(quote, ["mm", "keeps", *console.file_words, *names, *segments]))
+    return " ".join(map(quote, ["mm", "keeps", *console.file_words, *names, *patterns_of(built, segments)]))

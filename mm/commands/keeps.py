@@ -14,7 +14,7 @@ from mm.status import Status, Stop, usage
 from mm.table import JSON, THREADS
 from mm.views.keeps import MOST_THREADS, KeepsView
 from mm.views.keptdata import KeptForm
-from mm.views.keptwords import listed
+from mm.views.keptwords import shortly
 
 USUAL = 100_000
 
@@ -47,7 +47,7 @@ def missing(console: Console, built: Built) -> Stop:
     behind = names_of(built, behind_doors(console, built, audit_of(console, built)))
     return usage(
         "mm: keeps: missing SEGMENT: what is to be kept",
-        *([f"    only doors lead to {listed(behind)}: `{asked_of(console, behind)}`"] if behind else []),
+        *([f"    only doors lead to {shortly(behind)}: `{asked_of(console, built, behind)}`"] if behind else []),
         "    `mm help keeps` says how segments are named",
     )
 

@@ -6,7 +6,7 @@ import importlib
 from dataclasses import dataclass
 from typing import Any, Callable, Optional
 
-from mm.commands.behind import audit_of, behind_doors, names_of
+from mm.commands.behind import audit_of, behind_doors, names_of, patterns_of
 from mm.commands.keeps import answer_of, files_and_segments, threads_of
 from mm.formats.schedule import read_schedule
 from mm.names.kept import kept_of
@@ -82,7 +82,8 @@ def _keeps(desk: Desk) -> Picture:
 
 def _behind(desk: Desk) -> list[str]:
     """The segments that only doors lead to."""
-    return names_of(desk.built, behind_doors(desk, desk.built, audit_of(desk, desk.built)))
+    behind = behind_doors(desk, desk.built, audit_of(desk, desk.built))
+    return patterns_of(desk.built, names_of(desk.built, behind))
 
 
 def _explored(desk: Desk) -> Optional[Picture]:

@@ -25,7 +25,12 @@ class Audits(unittest.TestCase):
         out = mm("audit", "examples/counter.asm").out.splitlines()
         self.assertEqual(out[-1], "  mm keeps examples/counter.asm gate count")
         self.assertEqual(mm("audit", "examples/kernel.asm").out.splitlines()[-1],
-                         "  mm keeps examples/kernel.asm kernel gate_a gate_b credits_a credits_b")
+                         "  mm keeps examples/kernel.asm kernel 'gate_*' 'credits_*'")
+        with folder() as room:
+            path = write(room, "privileged.asm", read("examples", "kernel.asm").replace("eu door_b", "ep door_b"))
+            self.assertNotIn("mm keeps", mm("audit", path).out)
+            path = write(room, "leak.asm", read("examples", "kernel.asm") + ".reg 4 ptr rw credits_a\n")
+            self.assertEqual(mm("audit", path).out.splitlines()[-1], f"  mm keeps {path} kernel 'gate_*' credits_b")
         self.assertNotIn("mm keeps", mm("audit", "examples/letterbox.asm").out)
         self.assertNotIn("mm keeps", mm("audit", "--doors-shut", "examples/counter.asm").out)
         named = mm("audit", "examples/counter.img", "--names", "examples/counter.asm").out.splitlines()
