@@ -77,11 +77,13 @@ class LeakView:
         return SAID[place.kind](self, place)
 
     def head(self, place: Place) -> list[str]:
-        """The line of C and of the source at a place, or the instruction there."""
+        """The line of C and of the source at a place, or the instruction there. What `mm cc` made of a door has no line of C."""
         if place.address is None or place.kind == "cell":
             return []
         line, origin = self.symbols.c_line(place.address), self.symbols.origin(place.address)
         of_c = [f"{self.style.strong(f'{line}:')} {line.text}"] if line else []
+        if origin and self.is_stub(place):
+            return [f"{self.style.strong(f'{self.symbols.show(place.address)}:')} {origin.code}"]
         if origin:
             return [*of_c, f"{self.style.strong(f'{origin}:')} {origin.code}"]
         text = self.words.speller.at(self.memory, place.address)
