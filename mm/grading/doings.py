@@ -90,7 +90,8 @@ def reloads(program: Program, slot: str, operation: str) -> Optional[str]:
         return f"{_who(slot)} {_has(slot)} {what}"
     asked = {done.operand for done in program.ran.of(slot_in(slot)) if done.operation in operation.split("|")}
     is_so = _are_twins(done for done in again if done.number in asked)
-    return None if is_so else f"{_who(slot)} {_did(slot)} {operation.replace('|', ' or ')} on each of the words it loads"
+    names = operation.replace("|", " or ")
+    return None if is_so else f"{_who(slot)} {_did(slot)} {names} on each of the words it loads"
 
 
 def _made_up(program: Program, slot: str) -> tuple[Optional[int], int]:

@@ -112,8 +112,8 @@ def told(case: Case) -> str:
 def _told(line: Expectation) -> str:
     if line.kind == "code":
         return f"`{line.words[2]}` of {line.words[1]} as the code of slot {line.words[0]}"
-    values = " ".join(_values(line))
-    return f"{values} in {line.words[1]} of slot {line.words[0]}" if is_of_register(line) else f"{values} in {line.words[0]}"
+    place = f"{line.words[1]} of slot {line.words[0]}" if is_of_register(line) else line.words[0]
+    return f"{' '.join(_values(line))} in {place}"
 
 
 def _values(line: Expectation) -> Iterator[str]:

@@ -1,4 +1,4 @@
-"""The line `keeps` of an exercise: whether a gate keeps its segments, whatever its callers do. Leaks are told in words."""
+"""The line `keeps` of an exercise: whether a gate keeps its segments, whatever its callers do; leaks are told in words."""
 
 from __future__ import annotations
 
@@ -57,7 +57,8 @@ def _entered(built: Built) -> Iterator[Pointer]:
     """The enter pointers of a program, in registers and in memory."""
     words = [word for slot in built.image.slots for word in slot.registers]
     words += [cell.word for _, cell in built.image.cells()]
-    return (pointer for pointer in (word.pointer for word in words if word.tagged) if pointer and pointer.permission.enters)
+    pointers = (word.pointer for word in words)
+    return (pointer for pointer in pointers if pointer and pointer.permission.enters)
 
 
 def told(leaks: Sequence[Leak], speller: Speller) -> str:

@@ -112,13 +112,10 @@ SETTINGS = tuple(kind for row in (*OF_SHEET, *OF_RUN) for kind in row.kinds)
 CONDITIONS = frozenset("halts apart cannot never outcomes without given starts slots lacks alike clears".split())
 CONDITION = "even an empty program can meet it, so it counts only if some other line is right"
 # What the word VALUE in a form stands for.
-VALUE_PUT = (
-    "VALUE is an integer, or is drawn for each grading: `65..90` from this range, `random` from all, `random*4` four times"
-)
-VALUE = (
-    "VALUE is an integer or, for any word of its kind, `integer`, `pointer`, a permission such as `ro`, or a length such as"
-    " `2^4`"
-)
+VALUE_PUT = "VALUE is an integer, or is drawn for each grading: `65..90` from this range, `random` from all, "
+VALUE_PUT += "`random*4` four times"
+VALUE = "VALUE is an integer or, for any word of its kind, `integer`, `pointer`, a permission such as `ro`, or a length "
+VALUE += "such as `2^4`"
 
 
 def line_lines(kind: str) -> Iterator[str]:

@@ -86,7 +86,7 @@ class Ran:
             self.pointers[slot].add(word.bits)
 
     def changed(self, step: Step) -> None:
-        """Takes into account what a turn changed: pointers that slots get, also from another slot, and bits of words."""
+        """Takes into account what a turn changed: pointers that slots get, also from other slots, and bits of words."""
         for change in step.changes:
             if isinstance(change, RegisterSet):
                 self.hold(change.slot, change.word)
@@ -96,7 +96,7 @@ class Ran:
                 self.bits.append((step.turn.slot, change.address, change.cell.full))
 
     def did(self, turn: Turn, place: int, instruction: Instruction, slot: SlotNow) -> None:
-        """Takes an instruction into account that was carried out. A word that is copied has the same maker as before."""
+        """Takes an instruction into account that was carried out. A word that is copied keeps its maker."""
         number, registers = len(self.done), registers_of(instruction)
         # The log names only those that are others than before.
         words = tuple(word for word in (slot.registers[register] for register in registers) if word is not None)
