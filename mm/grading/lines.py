@@ -109,7 +109,7 @@ for _each in ROWS:
         FORMS[_form.split()[0]] = (*FORMS.get(_form.split()[0], ()), _form)
 SETTINGS = tuple(kind for row in (*OF_SHEET, *OF_RUN) for kind in row.kinds)
 # Lines that an empty program meets too. They count if something else of the exercise is done.
-CONDITIONS = frozenset("halts apart cannot never outcomes without given starts slots lacks alike clears".split())
+CONDITIONS = frozenset("halts together apart cannot never outcomes without given starts slots lacks alike clears".split())
 CONDITION = "even an empty program can meet it, so it counts only if some other line is right"
 # What the word VALUE in a form stands for.
 VALUE_PUT = "VALUE is an integer, or is drawn for each grading: `65..90` from this range, `random` from all, "

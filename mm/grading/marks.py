@@ -81,8 +81,8 @@ class Grading:
     def program(self, built: Built, case: Case) -> Program:
         """A program under a run."""
 
-        def other(program: Built) -> Built:
-            return other_inputs(self.console, program, self.sheet, case)
+        def other(one: Built) -> Built:
+            return other_inputs(self.console, one, self.sheet, case)
 
         def official() -> Program:
             return Program(self.console, other(self.answer), self.sheet, case)
@@ -109,7 +109,8 @@ class Grading:
             except WrongLine as why:
                 raise wrong(self.sheet.name, case.number, str(why)) from None
             if failed:
-                why_not = self._drawn(case.drawn(self.seed, time), failed) if case.is_drawn else _not_shown(failed)
+                drawn = case.drawn(self.seed, time) if case.is_drawn else None
+                why_not = self._shown(drawn, failed) if drawn else _not_shown(failed)
                 return Mark(title, why_not), [one.expectation for one in failed]
         return Mark(title, None), []
 
@@ -117,7 +118,7 @@ class Grading:
         program = self.program(built, case)
         return [one for one in (mark(program, line) for line in case.expectations) if not one.right]
 
-    def _drawn(self, case: Case, failed: list[Mark]) -> str:
+    def _shown(self, case: Case, failed: list[Mark]) -> str:
         """What is told of a run with inputs that were drawn: all, since nobody knows them before."""
         lines = "; ".join(f"{one.expectation.text}: {one.why_not}" for one in failed)
         return f"with {told(case)} (`--seed {self.seed}`) this is not right: {lines}"
@@ -136,7 +137,7 @@ class Grading:
 
     @cached_property
     def of_start(self) -> list[Mark]:
-        return self.shown(self.start) if self.start else []
+        return self.shown(self.start) if self.start is not None else []
 
 
 def _not_shown(failed: list[Mark]) -> str:

@@ -100,6 +100,11 @@ class Lines(Room):
                 out = self.grade(f"cycles 3000\nuses halt|br|ld|st|isptr\n{line}\n", program).out
                 self.assertIn(f"  no   {line}\n       {why}" if why else f"  yes  {line}\n", out)
 
+    def test_inputs_of_the_run_that_is_shown(self):
+        self.assertEqual(self.marks("put word 77\nregister 0 r2 333\nhalts 0\n", SHOWS), "yy")
+        out = self.grade("put word 77\nregister 0 r2 333\nhalts 0\n", KEY.replace("word", "box")).out
+        self.assertEqual(out.count("there is no label or segment `word`, and the exercise asks for one"), 2)
+
     def test_a_number_of_no_entries_is_met_by_doing_nothing(self):
         self.assertEqual(self.marks("enters 0 any 0", KEY), "n")
 
