@@ -355,22 +355,6 @@ class Making(unittest.TestCase):
         return after.children_user - before.children_user + after.children_system - before.children_system
 
 
-@needs_program
-class Outputs(unittest.TestCase):
-    def test_a_long_output_is_cut(self):
-        """Its text as well as its bytes; `--plain` writes all of it."""
-        for number, shown in ((0, 250), (65, 1000)):
-            source = f".segment a 5\n  ldi r1, {number}\nx: out r1\n  br x\n.thread 0 0 none xu a\n"
-            with folder() as room:
-                path = write(room, "p.asm", source)
-                line = next(line for line in mm("run", path).out.splitlines() if line.startswith("group 0"))
-                self.assertEqual(len(mm("run", path, "--plain").data), 4096)
-            letter = "\\x00" if number == 0 else "A"
-            begin = f'group 0  output "{letter * shown}" .. {4096 - shown} more bytes  (4096 bytes: '
-            self.assertTrue(line.startswith(begin), line[:80])
-            self.assertTrue(line.endswith(" .. 4032 more)"), line[-80:])
-
-
 class Help(unittest.TestCase):
     def test_topics(self):
         for topic, text in (
