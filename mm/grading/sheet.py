@@ -19,7 +19,9 @@ from mm.status import Status, Stop
 OF_OPERATIONS = {"uses": (0, None), "without": (0, None), "executes": (1, None), "repeats": (1, 2), "gives": (1, 2),
                  "twins": (1, 2), "reloads": (1, 2), "runs": (1, None), "faults": (2, None)}  # fmt: skip
 # The place of the value that a line expects.
-OF_VALUES = {"register": 2, "word": 1, "gives": 2, "through": 1}
+OF_VALUES = {"register": 2, "word": 1, "gives": 2, "through": 1, "stops": 1}
+# What stands in the place of a value, and is none.
+PAST = {"stops": "past"}
 KINDS = ("asm", "c", "object", "image")
 # Lines whose last operand is a text that may have blanks.
 OF_TEXT = ("says", "matches", "differs")
@@ -178,7 +180,7 @@ class _Reader:
         put, of_register = values_put(line), is_of_register(line)
         # Before the offset of a pointer stands its permission.
         faults = [draws.not_put(word, of_register) for word in (put[-1:] if of_register else put)]
-        if line.kind in OF_VALUES:
+        if line.kind in OF_VALUES and line.words[-1] != PAST.get(line.kind):
             faults.append(not_a_value(line.words[OF_VALUES[line.kind]]))
         why = next(filter(None, faults), None)
         if why:

@@ -122,6 +122,7 @@ class Grade(unittest.TestCase):
             ("like register 0", "the form `like says GROUP | like letters GROUP | like register SLOT rN | like word"),
             ("like says 0", "sheet.txt:1: this line asks the first `answer`, and the exercise names none"),
             ("register 0 r1 pointers", "sheet.txt:1: `pointers` is not a number"),
+            ("stops 0 past\nstops 0 end", "sheet.txt:2: `end` is not a number"),
             ("put a 9..3\nsays 0", "sheet.txt:1: `9..3` has no numbers: the least comes first"),
             ("put a b\nsays 0", "`b` is not a number, nor a range as `65..90`, nor `random`"),
             ("put a pointer\nsays 0", "a pointer is drawn for a register alone"),

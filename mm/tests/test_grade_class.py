@@ -159,6 +159,15 @@ class Class(unittest.TestCase):
         self.assertEqual((ended.status, ended.err), (0, ""), ended.out)
 
     @needs_clang
+    def test_an_answer_in_c_is_compared_with_one_in_c(self):
+        source = "#include <stdio.h>\nint main(void) {{ putchar({}); return 0; }}\n"
+        write(self.room, "right.c", source.format("'A' + 1"))
+        sheet = self.sheet("takes c\nlike says 0\nanswer right.c\n")
+        self.assertEqual(mm("grade", sheet, write(self.room, "a.c", source.format(66))).status, 0)
+        ended = mm("grade", sheet, write(self.room, "a.c", source.format(67)))
+        self.assertIn('  no   like says 0\n       it prints "C", and in the answer it prints "B"\n', ended.out)
+
+    @needs_clang
     def test_lines_of_c_that_name_another_file_show_nothing_of_it(self):
         for more, status in (("", 1), ("int nonsense = ;\n", 2)):
             text = '#line 1 "/etc/passwd"\nint main(void) { int a[2]; a[1] = 0; return a[4000]; }\n' + more

@@ -19,6 +19,7 @@ A = ".segment a 7\n{}\n.thread 0 0 none xu a\n{}"
 WORD = ".segment word 3\n  .int 65\n"
 RW = ".reg 1 ptr rw word\n" + WORD
 PRINTS = A.format("  ldi r1, 65\nx: out r1\n  br x", "")
+AFTER = A.format("  ldi r1, 65\n  out r1\n  halt\n  nop\n  ldi r1, 66", "")
 IDLES = A.format("  ldi r1, 65\n  ldi r2, 20\nx: out r1\n  addi r2, r2, -1\n  bnz r2, x\ny: br y", "")
 SHOWS = A.format("  ld r2, r1, 0, any, keep\n  addi r2, r2, 256\n  st r1, r2, 0, any, keep\n  out r2\n  halt", RW)
 TELLS = A.format("  ldi r2, 66\n  out r2\n  st r1, r1, 0, any, keep\n  halt", RW)
@@ -37,6 +38,9 @@ HANDLES = A.format("  halt", ".thread 1 1 0 xu a\n")
 SHARES = A.format("  halt", RW) + ".thread 1 1 none xu a\n.reg 1 ptr ro word\n"
 # Of each line a program, and what is told of it, or nothing if it is right.
 LINES = (
+    ("executes 0 nop", AFTER, "slot 0 does not carry out nop"),
+    ("executes 0 ldi*2 nop|out", AFTER, "it carries out ldi 1 time"),
+    ("executes 0 ldi out|nop", AFTER, None),
     ("runs 0 out", PRINTS, None),
     ("runs 0 out", IDLES, "in the second half of the run slot 0 does not carry out out"),
     ("runs 0 br|bz", IDLES, None),
