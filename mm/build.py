@@ -109,7 +109,8 @@ def _beside(name: str, error: OSError) -> list[str]:
     if not isinstance(error, FileNotFoundError):
         return []
     if name.isdigit():
-        return [f"a number goes with an option: `--cycles {name}` for the cycles of a run, `--states {name}` for `mm explore`"]
+        options = f"`--cycles {name}` for the cycles of a run, `--states {name}` for `mm explore`"
+        return [f"a number goes with an option: {options}; several groups have commas between, as `--groups 0,{name}`"]
     folder, last = os.path.split(name)
     try:
         there = sorted(os.listdir(folder or "."))

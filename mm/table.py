@@ -68,6 +68,7 @@ WITH_C = Option("--c", "take programs in C from other computers too (docs/SERVE.
 CSV = Option("--csv", "write CSV: a row for each answer")
 FEEDBACK = Option("--feedback", "also write what each student is shown into a file of this folder", "FOLDER")
 CHECK = Option("--check", "try the exercise itself with the answers and fakes that it names")
+SEED = Option("--seed", "draw the inputs again that the feedback names with this number", "N")
 SEGMENTS = """\
 SEGMENT is what the kernel keeps: its code, its data, its gates.
     gate           a segment of the sources
@@ -76,7 +77,7 @@ SEGMENT is what the kernel keeps: its code, its data, its gates.
 Without SEGMENT it tells which segments only doors lead to. docs/KEEPS.md says what an answer is worth."""
 RUNNING = (CYCLES, SCHEDULE, TURNS, NAMES)
 FILES = "FILE.."
-EXERCISES = "FILE may be a folder that has a folder or a file for each student. EXERCISE is lab-1 to lab-5 for a task of the first lab, 1.1 to 8.2 or 10.1 to 11.2 for an exercise of a lesson, or a file of your own (docs/course/GRADING.md)."
+EXERCISES = "FILE may be a folder that has a folder or a file for each student. EXERCISE is lab-1 to lab-5 for a task of the first lab, 1.1 to 8.2 or 10.1 to 11.2 for an exercise of a lesson, or a file of your own (docs/course/GRADING.md). `mm help executes` explains the line `executes`, and so on for each kind of line."
 
 # fmt: off
 COMMANDS = (
@@ -106,7 +107,7 @@ COMMANDS = (
     Command("migrate", "FILE.. MODE", "make an image of version 2, in which loads answer at once (plain) or later (split)", (OUTPUT, *C), least=2, module="make"),
     Command("hex", FILES, "write an image for Verilog's $readmemh: its memory, its frames with their pages, or its slots", (PART, OUTPUT, *C)),
     Command("vectors", "OPERATION", "write operands and results of an operation, for a unit by itself (docs/HARDWARE.md)", (COUNT, OUTPUT), most=1),
-    Command("grade", "EXERCISE FILE..", "check a program, or a folder of them, against what an exercise of the course asks for", (JSON, CSV, FEEDBACK, CHECK, *C), more=EXERCISES),
+    Command("grade", "EXERCISE FILE..", "check a program, or a folder of them, against what an exercise of the course asks for", (JSON, CSV, FEEDBACK, CHECK, SEED, *C), more=EXERCISES),
     Command("lsp", "", "be a language server for an editor, on the standard streams", least=0, most=0),
     Command("dap", "", "be a debug adapter for an editor, on the standard streams", least=0, most=0),
     Command("gen", "NUMBER SIZE", "make an image from a number", (OUTPUT,), least=2, most=2, module="make"),

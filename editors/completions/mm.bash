@@ -14,7 +14,7 @@ _mm() {
     case $before in
         --program | --schedule | --names | --output | -s | -o) compopt -o default; return ;;
         --part) COMPREPLY=($(compgen -W 'memory frames pages slots all' -- "$word")); return ;;
-        --cycles | --states | --threads | --turns | --groups | --from | --keeps | -n | -t | -g) return ;;
+        --cycles | --states | --threads | --turns | --groups | --from | --keeps | --seed | -n | -t | -g) return ;;
         --optimise | -O) COMPREPLY=($(compgen -W '0 1 2 3 s' -- "$word")); return ;;
         --heap | --stack | --quarantine | --clang | --slot | --prefix) return ;;
         --port | --host | --lesson | --token) return ;;
@@ -37,7 +37,7 @@ _mm() {
             hex) options="$options --part --output --optimise --heap --stack --quarantine --clang" ;;
             vectors) options="$options --count --output" ;;
             explore) options="$options --states --names --optimise --heap --stack --quarantine --clang" ;;
-            grade) options="$options --json --csv --feedback --check --optimise --heap --stack --quarantine --clang" ;;
+            grade) options="$options --json --csv --feedback --check --seed --optimise --heap --stack --quarantine --clang" ;;
             dis) options="$options --names" ;;
             holders | why) options="$options --names --optimise --heap --stack --quarantine --clang" ;;
             audit) options="$options --groups --doors-shut --names --json --optimise --heap --stack --quarantine --clang" ;;

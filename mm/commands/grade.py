@@ -4,17 +4,19 @@ from __future__ import annotations
 
 import glob
 import os
-from typing import Iterator, Sequence
+from typing import Iterator, Optional, Sequence
 
 from mm.build import read_file
 from mm.console import Console
 from mm.grading.answers import Answer, answers_in, one_answer
+from mm.grading.draws import new_seed
 from mm.grading.sheet import Sheet, read_sheet
 from mm.grading.told import as_csv, as_form, feedback, table
 from mm.grading.worker import Graded, grade
 from mm.machine.program import CHECKOUT
+from mm.names.numbers import number_of
 from mm.status import Status, Stop, usage
-from mm.table import C, CHECK, CSV, FEEDBACK, JSON
+from mm.table import C, CHECK, CSV, FEEDBACK, JSON, SEED
 
 FOLDER = os.path.join(CHECKOUT, "docs", "course", "grade")
 
@@ -30,8 +32,16 @@ def sheet_of(name: str) -> Sheet:
     return read_sheet(os.path.relpath(path), read_file(path).decode("utf-8", "replace"), FOLDER)
 
 
+def seed_of(text: Optional[str]) -> int:
+    """The seed of --seed, or a new one."""
+    seed = new_seed() if text is None else number_of(text)
+    if seed is None or seed < 0:
+        raise usage(f"mm: `{text}` is not a seed: a number, as the feedback names it")
+    return seed
+
+
 class Grader:
-    """An exercise, and what grades answers to it."""
+    """An exercise, and what grades answers to it: all with the same inputs."""
 
     def __init__(self, console: Console, name: str) -> None:
         path = name if os.path.isfile(name) else os.path.join(FOLDER, f"{name}.txt")
@@ -40,11 +50,12 @@ class Grader:
         self.console, self.name = console, os.path.splitext(os.path.basename(path))[0]
         self.text = read_file(path).decode("utf-8", "replace")
         self.sheet: Sheet = read_sheet(os.path.relpath(path), self.text, os.path.dirname(path))
+        self.seed = seed_of(console.said.value(SEED))
 
     def of(self, answer: Answer) -> Graded:
         said = self.console.said
         options = {option.name: said.all(option) for option in C if said.has(option)}
-        return grade(self.sheet, self.text, answer, self.console.program.path, options)
+        return grade(self.sheet, self.text, answer, self.console.program.path, options, self.seed)
 
     def file(self, name: str) -> Graded:
         """The marks of a file that the sheet names."""
@@ -100,7 +111,7 @@ def _write_feedback(grader: Grader, place: str, found: Sequence[Graded]) -> None
 
 
 def _tried(grader: Grader) -> Iterator[tuple[str, bool]]:
-    """Each answer and each fake of a sheet, with whether it gets what it should."""
+    """Each answer and each fake of a sheet, and the source that it gives, with whether it gets what it should."""
     for name in grader.sheet.answers:
         graded = grader.file(name)
         full = not graded.refused and graded.points == len(graded.lines)
@@ -109,6 +120,9 @@ def _tried(grader: Grader) -> Iterator[tuple[str, bool]]:
         graded = grader.file(name)
         full = not graded.refused and graded.points == len(graded.lines)
         yield f"fake {name}: " + _points(graded), not full
+    if grader.sheet.start is not None:
+        graded = grader.file(grader.sheet.start)
+        yield f"from {grader.sheet.start}: " + _points(graded), not graded.refused and not graded.points
 
 
 def _points(graded: Graded) -> str:
@@ -116,7 +130,7 @@ def _points(graded: Graded) -> str:
 
 
 def _check(console: Console, grader: Grader) -> int:
-    """Tries a sheet: each answer that it names must have all points, and no fake may."""
+    """Tries a sheet: each answer that it names must have all points, no fake may, and what it gives must have none."""
     if not grader.sheet.answers:
         raise usage(f"mm: grade: {grader.sheet.name} names no answer by which it can be checked: write `answer FILE`")
     good = True

@@ -142,6 +142,5 @@ def _names_in(sheet: Sheet, folder: str) -> list[str]:
         wanted = " or ".join(SUFFIXES[kind] for kind in sheet.takes)
         if not found:
             raise Refusal(f"there is no file with the suffix {wanted}")
-        said = f"there are {len(found)} files with the suffix {wanted}"
-        raise Refusal(f"{said}: the exercise can say which one by a line `file NAME`")
+        raise Refusal(f"there are {len(found)} files with the suffix {wanted}: hand in one source")
     return found

@@ -8,6 +8,7 @@ import warnings
 from typing import Callable, Optional
 
 from mm.grading.program import NotSo, Program, WrongLine, number_in, register_in
+from mm.grading.values import is_value
 from mm.machine.causes import Cause
 from mm.machine.words import Word
 from mm.names.numbers import counted
@@ -28,10 +29,11 @@ def said(data: bytes) -> str:
     return f"it prints {bytes_as_text(data[:BYTES_SHOWN])}" + (f" and {counted(more, 'more byte')}" if more > 0 else "")
 
 
-def became(slot: SlotState) -> str:
+def became(program: Program, slot: SlotState) -> str:
     """What became of a slot, in words."""
     if not slot.fault:
-        words = {"running": "still runs", "halted": "has halted"}
+        still = f"still runs after {counted(program.report.cycles, 'cycle')}"
+        words = {"running": still, "halted": "has halted"}
         return f"slot {slot.number} {words.get(slot.state, f'is {slot.state}')}"
     cause = Cause.of_number(slot.fault)
     title = f" {cause.title}: {cause.meaning}" if cause else ""
@@ -48,7 +50,8 @@ def _bytes_of(text: str) -> bytes:
         raise WrongLine(f"`{text}` is not a text of bytes: letters, and \\n, \\\\ or \\x41 for others") from None
 
 
-def _output(program: Program, group: str) -> bytes:
+def output(program: Program, group: str) -> bytes:
+    """What a group has printed."""
     found = program.report.outputs.get(number_in(group))
     if found is None:
         raise NotSo(f"there is no group {group}")
@@ -56,17 +59,24 @@ def _output(program: Program, group: str) -> bytes:
 
 
 def says(program: Program, group: str, text: str = "") -> Optional[str]:
-    wanted, found = _bytes_of(text), _output(program, group)
+    wanted, found = _bytes_of(text), output(program, group)
     return None if found == wanted else said(found)
 
 
 def differs(program: Program, group: str, text: str = "") -> Optional[str]:
-    unwanted, found = _bytes_of(text), _output(program, group)
+    unwanted, found = _bytes_of(text), output(program, group)
     return None if found and found != unwanted else said(found)
 
 
+def shows(program: Program, group: str, name: str) -> Optional[str]:
+    """The last byte of an output is the low byte of a word, as it is at the end."""
+    data, found = output(program, group), program.cell(name).word
+    is_so = data[-1:] == bytes([found.bits & 0xFF])
+    return None if is_so else f"{said(data)}, and {name} is {program.speller.word(found)}"
+
+
 def matches(program: Program, group: str, pattern: str) -> Optional[str]:
-    found = _output(program, group)
+    found = output(program, group)
     try:
         return None if re.fullmatch(pattern.encode("latin-1"), found) else said(found)
     except (re.error, UnicodeEncodeError):
@@ -77,8 +87,20 @@ def halts(program: Program, *slots: str) -> Optional[str]:
     for number in slots:
         slot = program.slot(number)
         if slot.state != "halted":
-            return became(slot)
+            return became(program, slot)
     return None
+
+
+def runs(program: Program, number: str, *operations: str) -> Optional[str]:
+    """A slot still runs, and does not only wait or go round without doing what it should."""
+    slot = program.slot(number)
+    if slot.state != "running":
+        return became(program, slot)
+    done = list(program.ran.of(None))
+    late = {each.operation for each in done[len(done) // 2 :] if each.slot == slot.number}
+    missing = [names for names in operations if late.isdisjoint(names.split("|"))]
+    said = f"in the second half of the run slot {number} does not carry out"
+    return f"{said} {missing[0].replace('|', ' or ')}" if missing else None
 
 
 def faults(program: Program, number: str, fault: str, operation: str = "") -> Optional[str]:
@@ -87,10 +109,10 @@ def faults(program: Program, number: str, fault: str, operation: str = "") -> Op
         raise WrongLine(f"`{fault}` is not a fault: {', '.join(cause.title for cause in Cause)}, or a number")
     slot = program.slot(number)
     if slot.fault != cause.number:
-        return became(slot)
+        return became(program, slot)
     stopped = program.ran.stopped.get(slot.number)
     found = stopped.operation if stopped else None
-    at = f"{became(slot).partition(':')[0]}, but at {f'a `{found}`' if found else 'no instruction'}"
+    at = f"{became(program, slot).partition(':')[0]}, but at {f'a `{found}`' if found else 'no instruction'}"
     return None if not operation or found in operation.split("|") else at
 
 
@@ -108,13 +130,6 @@ def stops(program: Program, number: str, value: str) -> Optional[str]:
 def together(program: Program, *slots: str) -> Optional[str]:
     places = {program.slot(number).ip.bits for number in slots}
     return None if len(places) == 1 else "these slots stand at different instructions"
-
-
-def is_value(word: Word, value: str) -> bool:
-    """Whether a word is an integer that is said, or of the kind that is said."""
-    if value in ("pointer", "integer"):
-        return word.tagged == (value == "pointer")
-    return word == Word(number_in(value) % 2**64)
 
 
 def register(program: Program, number: str, name: str, value: str) -> Optional[str]:
@@ -138,10 +153,14 @@ def fields(program: Program, number: str, *names: str) -> Optional[str]:
 
 
 def word(program: Program, name: str, value: str) -> Optional[str]:
-    cell = program.memory.cell(program.address(name))
-    if cell is None:
-        return f"there is no memory at {name}"
-    return None if is_value(cell.word, value) else f"{name} is {program.speller.word(cell.word)}"
+    found = program.cell(name).word
+    return None if is_value(found, value) else f"{name} is {program.speller.word(found)}"
+
+
+def changes(program: Program, name: str) -> Optional[str]:
+    before, after = program.built.image.cell(program.address(name)), program.cell(name).word
+    is_so = before is None or before.word != after
+    return None if is_so else f"{name} is still {program.speller.word(after)}"
 
 
 def no_group(program: Program, groups: tuple[str, ...]) -> Optional[str]:
@@ -179,6 +198,23 @@ def can(program: Program, group: str, kind: str, name: str) -> Optional[str]:
 
 def cannot(program: Program, group: str, kind: str, name: str) -> Optional[str]:
     return "the audit says that it can" if _reaches(program, group, kind, name) else None
+
+
+def common(program: Program, group: str, other: str) -> Optional[str]:
+    """A word that a group can write, and another group can touch."""
+    missing = no_group(program, (group, other))
+    if missing:
+        return missing
+    reaches = {reach.group: reach for reach in program.audit().reaches}
+    written, touched = reaches[number_in(group)].write, reaches[number_in(other)].touch
+    is_so = any(meets(one, two) for one in written for two in touched)
+    return None if is_so else f"the audit says that group {group} can write nothing that group {other} can touch"
+
+
+def meets(one: tuple[int, int], other: tuple[int, int]) -> bool:
+    """Whether two segments of an audit have a byte in common."""
+    (base, log), (begin, of_other) = one, other
+    return base < begin + (1 << of_other) and begin < base + (1 << log)
 
 
 def _no_source(program: Program) -> Optional[str]:
@@ -226,7 +262,8 @@ def never(program: Program, what: str) -> Optional[str]:
 
 
 OF_THE_END: dict[str, Check] = {
-    "says": says, "differs": differs, "matches": matches, "halts": halts, "faults": faults, "stops": stops,
-    "together": together, "register": register, "fields": fields, "word": word, "apart": apart, "shares": shares,
-    "can": can, "cannot": cannot, "uses": uses, "without": without, "outcomes": outcomes, "never": never,
+    "says": says, "differs": differs, "matches": matches, "shows": shows, "halts": halts, "runs": runs,
+    "faults": faults, "stops": stops, "together": together, "register": register, "word": word, "changes": changes,
+    "fields": fields, "apart": apart, "shares": shares, "can": can, "cannot": cannot, "common": common, "uses": uses,
+    "without": without, "outcomes": outcomes, "never": never,
 }  # fmt: skip

@@ -4,11 +4,12 @@ not count."""
 from __future__ import annotations
 
 from collections import Counter
-from typing import Optional
+from typing import Iterable, Iterator, Optional
 
-from mm.grading.checks import Check, is_value
+from mm.grading.checks import Check
 from mm.grading.program import Program, number_in, overlaps, slot_in
 from mm.grading.ran import Done
+from mm.grading.values import is_value
 from mm.machine.words import Pointer
 from mm.names.numbers import counted
 
@@ -19,6 +20,10 @@ def _who(slot: str) -> str:
 
 def _did(slot: str) -> str:
     return "carries out" if slot == "any" else "does not carry out"
+
+
+def _has(slot: str) -> str:
+    return "has" if slot == "any" else "has not"
 
 
 def executes(program: Program, slot: str, *operations: str) -> Optional[str]:
@@ -56,10 +61,37 @@ def gives(program: Program, slot: str, operation: str, value: str) -> Optional[s
 
 
 def twins(program: Program, slot: str, operation: str) -> Optional[str]:
-    words = [word for done in _results(program, slot, operation) for word in done.results]
-    pointers = {word.bits for word in words if word.tagged}
-    is_so = any(word.bits in pointers for word in words if not word.tagged)
+    is_so = _are_twins(_results(program, slot, operation))
     return None if is_so else f"no {operation} gives a pointer, while another gives the integer with the same bits"
+
+
+def _are_twins(found: Iterable[Done]) -> bool:
+    """Whether instructions gave a pointer and the integer with the same bits."""
+    words = [word for done in found for word in done.results]
+    pointers = {word.bits for word in words if word.tagged}
+    return any(word.bits in pointers for word in words if not word.tagged)
+
+
+def _loaded_again(program: Program, slot: str) -> Iterator[Done]:
+    """The loads of a slot from places where it has stored before."""
+    stored: set[Optional[int]] = set()
+    for done in program.ran.of(slot_in(slot)):
+        if done.access == "store":
+            stored.add(done.address)
+        elif done.address in stored:
+            yield done
+
+
+def reloads(program: Program, slot: str, operation: str) -> Optional[str]:
+    """A pointer and its bits go through memory, and an operation then looks at each."""
+    again = list(_loaded_again(program, slot))
+    if not _are_twins(again):
+        what = "stored a pointer and the integer with the same bits, and loaded both from there"
+        return f"{_who(slot)} {_has(slot)} {what}"
+    asked = {done.operand for done in program.ran.of(slot_in(slot)) if done.operation in operation.split("|")}
+    is_so = _are_twins(done for done in again if done.number in asked)
+    names = operation.replace("|", " or ")
+    return None if is_so else f"{_who(slot)} {_did(slot)} {names} on each of the words it loads"
 
 
 def _made_up(program: Program, slot: str) -> tuple[Optional[int], int]:
@@ -68,6 +100,16 @@ def _made_up(program: Program, slot: str) -> tuple[Optional[int], int]:
     if stopped is None or stopped.used is None or stopped.used.tagged:
         return None, 0
     return stopped.used.bits, stopped.offset
+
+
+def through(program: Program, slot: str, value: str) -> Optional[str]:
+    """What the instruction that a fault stopped used as a pointer."""
+    stopped = program.ran.stopped.get(number_in(slot))
+    if stopped is None or stopped.used is None:
+        return f"no instruction with a pointer has stopped slot {slot}"
+    is_so = is_value(stopped.used, value)
+    found = program.speller.word(stopped.used)
+    return None if is_so else f"when slot {slot} stops, what it uses as a pointer is {found}"
 
 
 def loses(program: Program, slot: str) -> Optional[str]:
@@ -112,9 +154,11 @@ def _entries(program: Program, slot: str) -> list[int]:
 
 
 def enters(program: Program, slot: str, name: str, number: str) -> Optional[str]:
-    address = program.address(name)
-    found = sum(entry == address for entry in _entries(program, slot))
-    return None if found == number_in(number) else f"slot {slot} enters there {counted(found, 'time')}"
+    """How often a slot goes through an enter pointer: to a place, or to any."""
+    entries = _entries(program, slot)
+    found = len(entries) if name == "any" else entries.count(program.address(name))
+    where = "by any enter pointer" if name == "any" else "there"
+    return None if found == number_in(number) else f"slot {slot} enters {where} {counted(found, 'time')}"
 
 
 def doors(program: Program, slot: str, number: str) -> Optional[str]:
@@ -148,7 +192,7 @@ def holds(program: Program, slot: str, *names: str) -> Optional[str]:
 
 
 OF_A_RUN: dict[str, Check] = {
-    "executes": executes, "repeats": repeats, "gives": gives, "twins": twins, "loses": loses, "forges": forges,
-    "stores": stores, "loads": loads, "empties": empties, "enters": enters, "doors": doors,
-    "hides": hides, "holds": holds,
+    "executes": executes, "repeats": repeats, "gives": gives, "twins": twins, "reloads": reloads, "through": through,
+    "loses": loses, "forges": forges, "stores": stores, "loads": loads, "empties": empties, "enters": enters,
+    "doors": doors, "hides": hides, "holds": holds,
 }  # fmt: skip

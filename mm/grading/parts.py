@@ -1,20 +1,15 @@
-"""The parts of a program that an exercise gives, how its threads begin, and other inputs for a run of it."""
+"""The lines of an exercise that look at the parts of a program that were given, and at how its threads begin."""
 
 from __future__ import annotations
 
 from typing import Iterator, Optional
 
 from mm.build import Built
-from mm.console import Console
-from mm.formats.image import PAGE_BYTES, Image, Page, Slot, image_bytes
+from mm.formats.image import PAGE_BYTES, Image, Slot
 from mm.formats.object import Segment
 from mm.grading.checks import Check, no_group
 from mm.grading.program import NotSo, Program, WrongLine, number_in, overlaps, register_in
-from mm.grading.sheet import Case, Expectation
-from mm.machine.words import BY_SHORT, Permission, Pointer, Word
-from mm.names.expressions import NoAddress, address_of
-from mm.names.numbers import number_of
-from mm.records import replace
+from mm.machine.words import Permission, Pointer, Word
 
 DATA = (Permission.RO, Permission.RW)
 
@@ -162,67 +157,3 @@ def own(program: Program, group: str) -> Optional[str]:
 OF_PARTS: dict[str, Check] = {
     "given": given, "starts": starts, "slots": slots, "lacks": lacks, "alike": alike, "clears": clears, "own": own,
 }  # fmt: skip
-
-
-# Other inputs.
-
-
-def other_inputs(console: Console, built: Built, case: Case) -> Built:
-    """The program with the words of a run in the places that the sheet names."""
-    if not case.puts:
-        return built
-    image = built.image
-    for line in case.puts:
-        put = _in_register if number_of(line.words[0]) is not None else _in_memory
-        image = put(built, image, line)
-    data = image_bytes(image)
-    return replace(built, path=console.workshop.keep(data, ".img"), data=data, image=image, notes=[])
-
-
-def _in_memory(built: Built, image: Image, line: Expectation) -> Image:
-    name, *values = line.words
-    try:
-        address = address_of(name, built.symbols)
-    except NoAddress as no:
-        raise NotSo(str(no)) from None
-    pages = dict(image.pages)
-    for place, value in enumerate(values):
-        number, at = divmod(address + 8 * place, PAGE_BYTES)
-        if number not in pages:
-            raise NotSo(f"there is no memory at {name}")
-        pages[number] = _with_word(pages[number], at // 8, number_in(value) % 2**64)
-    return replace(image, pages=pages)
-
-
-def _with_word(page: Page, place: int, value: int) -> Page:
-    """A page with an integer in a place. Whether the word is full stays."""
-    tags = bytearray(page.tags)
-    tags[place >> 3] &= ~(1 << (place & 7)) & 0xFF
-    words = page.words[: 8 * place] + value.to_bytes(8, "big") + page.words[8 * place + 8 :]
-    return replace(page, tags=bytes(tags), words=words)
-
-
-def _in_register(built: Built, image: Image, line: Expectation) -> Image:
-    number, place = number_in(line.words[0]), register_in(line.words[1])
-    slot = image.slot(number)
-    if slot is None:
-        raise NotSo(f"there is no slot {number}")
-    word = _word_of(slot.registers[place], line.words[2:])
-    registers = (*slot.registers[:place], word, *slot.registers[place + 1 :])
-    others = tuple(replace(other, registers=registers) if other is slot else other for other in image.slots)
-    return replace(image, slots=others)
-
-
-def _word_of(before: Word, words: tuple[str, ...]) -> Word:
-    """An integer, or a pointer into the segment of the one that was there: its permission, and how far into it."""
-    if len(words) == 1:
-        return Word(number_in(words[0]) % 2**64)
-    permission, pointer = BY_SHORT.get(words[0]), before.pointer
-    if permission is None:
-        raise WrongLine(f"`{words[0]}` is not a permission: {', '.join(BY_SHORT)}")
-    if pointer is None:
-        raise NotSo("this register does not begin with a pointer")
-    address = pointer.base + number_in(words[1])
-    if not pointer.covers(address):
-        raise NotSo("the segment of this register's pointer is too short")
-    return Word(Pointer(permission, pointer.log, address).bits, True)

@@ -3,15 +3,15 @@
 from __future__ import annotations
 
 from functools import cached_property
-from typing import Optional
+from typing import Callable, Optional
 
 from mm.build import Built, Unit
 from mm.console import Console, Order
 from mm.grading.ran import Ran, what_ran
 from mm.grading.sheet import Case, Sheet
-from mm.machine.words import Pointer
+from mm.machine.words import Cell, Pointer
 from mm.named import NamedFile
-from mm.names.expressions import NoAddress, address_of, span_of
+from mm.names.expressions import NoAddress, span_of
 from mm.names.numbers import number_of
 from mm.outputs.audit import Audit, read_audit
 from mm.outputs.exploration import Exploration, read_exploration
@@ -34,9 +34,18 @@ class NotSo(Exception):
 class Program:
     """A program that is looked at."""
 
-    def __init__(self, console: Console, built: Built, sheet: Sheet, case: Optional[Case] = None) -> None:
-        self.console, self.built, self.sheet = console, built, sheet
-        self.case = case or sheet.cases[0]
+    def __init__(
+        self, console: Console, built: Built, sheet: Sheet, case: Case, official: Optional[Callable[[], Program]] = None
+    ) -> None:
+        self.console, self.built, self.sheet, self.case = console, built, sheet, case
+        self._official = official
+
+    @cached_property
+    def official(self) -> Program:
+        """The first answer of the sheet under the same run."""
+        if self._official is None:
+            raise WrongLine("there is no answer to compare with")
+        return self._official()
 
     @cached_property
     def cycles(self) -> int:
@@ -100,26 +109,45 @@ class Program:
 
     def span(self, name: str) -> tuple[int, int]:
         """The first address of a name, and the one after its last byte: a label is a word, a segment all its words."""
-        try:
-            begin, length = span_of(name, self.built.symbols)
-        except NoAddress as no:
-            raise NotSo(str(no)) from None
+        begin, length = span_in(self.built, name)
         return begin, begin + length
 
     def address(self, name: str) -> int:
-        try:
-            return address_of(name, self.built.symbols)
-        except NoAddress as no:
-            raise NotSo(str(no)) from None
+        return address_in(self.built, name)
+
+    def cell(self, name: str) -> Cell:
+        """The cell at a name, at the end of the run."""
+        cell = self.memory.cell(self.address(name))
+        if cell is None:
+            raise NotSo(f"there is no memory at {name}")
+        return cell
 
     def given(self, name: str) -> Unit:
         """A source that the sheet names, assembled."""
-        try:
-            with open(self.sheet.path(name), "rb") as file:
-                data = file.read()
-        except OSError as error:
-            raise WrongLine(f"{name} cannot be read: {error.strerror}") from None
-        return self.console.workshop.unit(name, data)
+        return unit_of(self.console, self.sheet, name)
+
+
+def span_in(built: Built, name: str) -> tuple[int, int]:
+    """The first address of a name of a program, and how many bytes it covers."""
+    try:
+        return span_of(name, built.symbols)
+    except NoAddress as no:
+        asked = ", and the exercise asks for one" if no.lists else ""
+        raise NotSo(f"{no.why}{no.near or asked}") from None
+
+
+def address_in(built: Built, name: str) -> int:
+    return span_in(built, name)[0]
+
+
+def unit_of(console: Console, sheet: Sheet, name: str) -> Unit:
+    """A source that a sheet names, assembled."""
+    try:
+        with open(sheet.path(name), "rb") as file:
+            data = file.read()
+    except OSError as error:
+        raise WrongLine(f"{name} cannot be read: {error.strerror}") from None
+    return console.workshop.unit(name, data)
 
 
 def number_in(text: str) -> int:

@@ -14,13 +14,16 @@ from mm.log.replay import Machine, SlotNow
 from mm.log.taken import opened
 from mm.machine.isa import Instruction, Kind
 from mm.machine.words import ZERO, Pointer, Word
+from mm.outputs.trace import Turn
 
 
 @dataclass(frozen=True)
 class Done:
     """An instruction that a slot carried out: its operation and place, the access that it made, the words that it left
-    in registers of its slot, and the enter pointer that it went through."""
+    in registers of its slot, and the enter pointer that it went through. `number` counts the instructions of all slots,
+    and `operand` is the number of the one that made the word in the operand `ra`."""
 
+    number: int
     slot: int
     operation: str
     place: int
@@ -28,6 +31,7 @@ class Done:
     address: Optional[int] = None
     results: tuple[Word, ...] = ()
     entered: Optional[Word] = None
+    operand: Optional[int] = None
 
 
 @dataclass(frozen=True)
@@ -63,13 +67,15 @@ class Call:
 @dataclass
 class Ran:
     """A run: what was done, where each slot was stopped last, the bits of the pointers that each slot held, the calls
-    through enter pointers, and which slot made which word full or empty."""
+    through enter pointers, which slot made which word full or empty, and the number of the instruction that made the
+    word in a register of a slot."""
 
     done: list[Done] = field(default_factory=list)
     stopped: dict[int, Stopped] = field(default_factory=dict)
     pointers: dict[int, set[int]] = field(default_factory=lambda: defaultdict(set))
     calls: list[Call] = field(default_factory=list)
     bits: list[tuple[int, int, bool]] = field(default_factory=list)
+    makers: dict[tuple[int, int], int] = field(default_factory=dict)
 
     def of(self, slot: Optional[int]) -> Iterator[Done]:
         """What a slot did, or any slot."""
@@ -78,6 +84,27 @@ class Ran:
     def hold(self, slot: int, word: Optional[Word]) -> None:
         if word is not None and word.tagged:
             self.pointers[slot].add(word.bits)
+
+    def changed(self, step: Step) -> None:
+        """Takes into account what a turn changed: pointers that slots get, also from other slots, and bits of words."""
+        for change in step.changes:
+            if isinstance(change, RegisterSet):
+                self.hold(change.slot, change.word)
+                if change.slot != step.turn.slot:
+                    self.makers.pop((change.slot, change.register), None)
+            elif isinstance(change, CellSet) and (change.cell.full or step.turn.access == "loadset"):
+                self.bits.append((step.turn.slot, change.address, change.cell.full))
+
+    def did(self, turn: Turn, place: int, instruction: Instruction, slot: SlotNow) -> None:
+        """Takes an instruction into account that was carried out. A word that is copied keeps its maker."""
+        number, registers = len(self.done), registers_of(instruction)
+        # The log names only those that are others than before.
+        words = tuple(word for word in (slot.registers[register] for register in registers) if word is not None)
+        operand = self.makers.get((slot.number, instruction.value("ra"))) if instruction.has("ra") else None
+        name, door = instruction.name, turn.entered
+        self.done.append(Done(number, slot.number, name, place, turn.access, turn.address, words, door, operand))
+        maker = operand if name == "mov" and operand is not None else number
+        self.makers.update({(slot.number, register): maker for register in registers})
 
     def back(self, slot: SlotNow, place: int) -> None:
         """Ends each call of a slot that is back in the segment it came from. A load that has not arrived counts."""
@@ -97,11 +124,7 @@ def take(ran: Ran, machine: Machine, step: Step) -> None:
     if turn.fetch is not None:
         ran.back(slot, turn.fetch)
     machine.carry_out(step)
-    for change in step.changes:
-        if isinstance(change, RegisterSet):
-            ran.hold(change.slot, change.word)
-        elif isinstance(change, CellSet) and (change.cell.full or turn.access == "loadset"):
-            ran.bits.append((turn.slot, change.address, change.cell.full))
+    ran.changed(step)
     if instruction is None or turn.fetch is None:
         return
     if turn.outcome == "faulted":
@@ -113,18 +136,15 @@ def take(ran: Ran, machine: Machine, step: Step) -> None:
         kept = instruction.value("rd") if instruction.has("rd") else None
         ran.calls.append(Call(turn.slot, door.address, caller, before, kept))
     if turn.outcome == "did" or (turn.outcome == "faulted" and instruction.name == "trap"):
-        results = results_of(instruction, machine.slots[turn.slot])
-        done = Done(turn.slot, instruction.name, turn.fetch, turn.access, turn.address, results, turn.entered)
-        ran.done.append(done)
+        ran.did(turn, turn.fetch, instruction, slot)
 
 
-def results_of(instruction: Instruction, slot: SlotNow) -> tuple[Word, ...]:
-    """The words that an instruction has left in registers: the log names only those that are others than before."""
+def registers_of(instruction: Instruction) -> range:
+    """The registers in which an instruction leaves words."""
     if not instruction.has("rd"):
-        return ()
+        return range(0)
     first = instruction.value("rd")
-    count = 4 if Kind.RD4 in instruction.operation.operands else 1
-    return tuple(word for word in slot.registers[first : first + count] if word is not None)
+    return range(first, first + (4 if Kind.RD4 in instruction.operation.operands else 1))
 
 
 def what_ran(console: Console, built: Built, order: Order, cycles: int) -> Ran:

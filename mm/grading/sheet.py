@@ -6,76 +6,28 @@ import os
 from dataclasses import dataclass, field
 from typing import Optional
 
+from mm.grading import draws
+from mm.grading.lines import CONDITIONS, FORMS, HIDDEN, OF_RUN, SETTINGS
+from mm.grading.values import not_a_value
 from mm.machine.isa import OPERATIONS
 from mm.names.expressions import nearest
 from mm.names.numbers import number_of
 from mm.status import Status, Stop
 
-# What may stand on a line, with its operands as a message writes them: first what is said of all runs, then of one run,
-# then what is expected.
-OF_SHEET = {
-    "takes": "takes asm | c | object | image ..",
-    "file": "file NAME",
-    "answer": "answer FILE..",
-    "fake": "fake FILE..",
-}
-OF_RUN = {
-    "cycles": "cycles N",
-    "schedule": "schedule ITEMS",
-    "put": "put NAME VALUE.. | put SLOT rN VALUE | put SLOT rN PERMISSION OFFSET",
-}
-EXPECTED = {
-    "says": "says GROUP TEXT",
-    "matches": "matches GROUP PATTERN",
-    "differs": "differs GROUP TEXT",
-    "halts": "halts SLOT..",
-    "faults": "faults SLOT FAULT | faults SLOT FAULT OPERATION",
-    "stops": "stops SLOT VALUE",
-    "together": "together SLOT..",
-    "register": "register SLOT rN VALUE",
-    "fields": "fields SLOT rN rN rN rN",
-    "word": "word NAME VALUE",
-    "executes": "executes SLOT OPERATION..",
-    "repeats": "repeats SLOT OPERATION N",
-    "gives": "gives SLOT OPERATION VALUE",
-    "twins": "twins SLOT OPERATION",
-    "loses": "loses SLOT",
-    "forges": "forges SLOT NAME",
-    "stores": "stores SLOT NAME",
-    "loads": "loads SLOT NAME",
-    "empties": "empties SLOT NAME",
-    "enters": "enters SLOT NAME N",
-    "doors": "doors SLOT N",
-    "hides": "hides SLOT NAME",
-    "holds": "holds SLOT NAME..",
-    "shares": "shares GROUP..",
-    "can": "can GROUP KIND NAME",
-    "own": "own GROUP",
-    "outcomes": "outcomes N",
-    "uses": "uses OPERATION..",
-    "apart": "apart GROUP..",
-    "cannot": "cannot GROUP KIND NAME",
-    "never": "never stuck | never faults",
-    "without": "without OPERATION..",
-    "given": "given FILE SEGMENT..",
-    "starts": "starts FILE SLOT..",
-    "slots": "slots SLOT..",
-    "lacks": "lacks SLOT NAME",
-    "alike": "alike SLOT rN SLOT rN",
-    "clears": "clears SLOT",
-}
-HIDDEN = "hidden"
-FORMS = {**OF_SHEET, **OF_RUN, HIDDEN: "hidden TITLE", **EXPECTED}
-SETTINGS = (*OF_SHEET, *OF_RUN, HIDDEN)
-# Lines that an empty program meets too. They count if something else of the exercise is done.
-CONDITIONS = frozenset("halts apart cannot never outcomes without given starts slots lacks alike clears".split())
 # Those of whose operands some are operations, with `|` between some and `*N` after some: the place of the first, of the
 # last.
 OF_OPERATIONS = {"uses": (0, None), "without": (0, None), "executes": (1, None), "repeats": (1, 2), "gives": (1, 2),
-                 "twins": (1, 2), "faults": (2, None)}  # fmt: skip
+                 "twins": (1, 2), "reloads": (1, 2), "runs": (1, None), "faults": (2, None)}  # fmt: skip
+# The place of the value that a line expects.
+OF_VALUES = {"register": 2, "word": 1, "gives": 2, "through": 1, "stops": 1}
+# What stands in the place of a value, and is none.
+PAST = {"stops": "past"}
 KINDS = ("asm", "c", "object", "image")
 # Lines whose last operand is a text that may have blanks.
 OF_TEXT = ("says", "matches", "differs")
+# Lines of a run that may stand there once, and lines of the exercise that name one file.
+ONCE = ("cycles", "schedule")
+OF_A_FILE = {"file": "file", "from": "start"}
 
 
 @dataclass(frozen=True)
@@ -91,7 +43,7 @@ class Expectation:
     def is_condition(self) -> bool:
         """Whether an empty program meets it too: its groups print nothing, and its registers hold 0."""
         nothing = self.kind == "says" and len(self.words) == 1
-        zero = self.kind in ("register", "word") and number_of(self.words[-1]) == 0
+        zero = self.kind in ("register", "word", "enters") and number_of(self.words[-1]) == 0
         return self.kind in CONDITIONS or nothing or zero
 
 
@@ -103,7 +55,7 @@ class Case:
     title: str = ""
     cycles: Optional[str] = None
     schedule: Optional[str] = None
-    puts: list[Expectation] = field(default_factory=list)
+    inputs: list[Expectation] = field(default_factory=list)
     expectations: list[Expectation] = field(default_factory=list)
     number: int = 1
 
@@ -111,6 +63,35 @@ class Case:
     def is_condition(self) -> bool:
         """Whether an empty program meets all of it too."""
         return all(line.is_condition for line in self.expectations)
+
+    @property
+    def is_drawn(self) -> bool:
+        """Whether some of its inputs are drawn."""
+        return any(draws.draw_in(word) for line in self.inputs for word in values_put(line))
+
+    def drawn(self, seed: int, time: int) -> Case:
+        """The same run with the inputs that a seed draws."""
+        dice = draws.Dice(seed, self.number, time)
+        inputs = [_with_values(line, dice.words(values_put(line))) for line in self.inputs]
+        return Case(self.title, self.cycles, self.schedule, inputs, self.expectations, self.number)
+
+
+def is_of_register(line: Expectation) -> bool:
+    """Whether a line `put` is about a register: it begins with the number of a slot."""
+    return line.kind == "put" and number_of(line.words[0]) is not None
+
+
+def values_put(line: Expectation) -> tuple[str, ...]:
+    """What a line puts into memory or into a register."""
+    if line.kind != "put":
+        return ()
+    return line.words[2:] if is_of_register(line) else line.words[1:]
+
+
+def _with_values(line: Expectation, found: tuple[str, ...]) -> Expectation:
+    """A line `put` with other values."""
+    begin = line.words[: len(line.words) - len(values_put(line))]
+    return Expectation(line.kind, (*begin, *found), line.text, line.number)
 
 
 @dataclass
@@ -122,6 +103,7 @@ class Sheet:
     folder: str = "."
     takes: tuple[str, ...] = ("asm",)
     file: Optional[str] = None
+    start: Optional[str] = None
     answers: list[str] = field(default_factory=list)
     fakes: list[str] = field(default_factory=list)
     cases: list[Case] = field(default_factory=lambda: [Case()])
@@ -140,15 +122,18 @@ def wrong(name: str, number: int, why: str) -> Stop:
     return Stop(Status.REFUSED, f"mm: {name}:{number}: {why}")
 
 
-def _fits(kind: str, count: int) -> bool:
-    """Whether a line of a kind has as many operands as one of its forms."""
-    return any(_fits_form(kind, form.split()[1:], count) for form in FORMS[kind].split(" | ")) or kind == "takes"
+def _fits(kind: str, words: tuple[str, ...]) -> bool:
+    """Whether a line has one of the forms of its kind."""
+    return any(_fits_form(kind, form.split()[1:], words) for form in FORMS[kind])
 
 
-def _fits_form(kind: str, form: list[str], count: int) -> bool:
-    many = any(word.endswith("..") for word in form) or kind in ("schedule", HIDDEN)
+def _fits_form(kind: str, form: list[str], words: tuple[str, ...]) -> bool:
+    many = form[-1].endswith("..") or kind in ("schedule", HIDDEN)
     # What a group prints may be nothing.
-    return count >= len(form) - (kind in ("says", "differs")) and (many or count <= len(form))
+    least = len(form) - (kind in ("says", "differs"))
+    # A word of small letters stands for itself.
+    alike = all(word == wanted for word, wanted in zip(words, form) if wanted.isalpha() and wanted.islower())
+    return alike and least <= len(words) and (many or len(words) <= len(form))
 
 
 def operations_in(words: tuple[str, ...]) -> list[str]:
@@ -172,42 +157,70 @@ class _Reader:
             meant = f"; do you mean `{near}`?" if near else f": {', '.join(FORMS)}"
             raise self.refuse(number, f"unknown line `{kind}`{meant}")
         rest = tuple(line.split(None, 2 if kind in OF_TEXT else -1)[1:])
-        if not _fits(kind, len(rest)):
-            raise self.refuse(number, f"this line has the form `{FORMS[kind]}`")
-        self.operations(kind, number, rest)
+        if not _fits(kind, rest):
+            raise self.refuse(number, f"this line has the form `{' | '.join(FORMS[kind])}`")
         found = Expectation(kind, rest, line.strip(), number)
+        self.operations(found)
+        self.values(found)
         if kind in SETTINGS:
             self.setting(found)
         else:
             self.sheet.cases[-1].expectations.append(found)
 
-    def operations(self, kind: str, number: int, rest: tuple[str, ...]) -> None:
-        first, last = OF_OPERATIONS.get(kind, (0, 0))
-        unknown = [name for name in operations_in(rest[first:last]) if name not in OPERATIONS]
+    def operations(self, line: Expectation) -> None:
+        first, last = OF_OPERATIONS.get(line.kind, (0, 0))
+        unknown = [name for name in operations_in(line.words[first:last]) if name not in OPERATIONS]
         if unknown:
             near = nearest(unknown[0], list(OPERATIONS))
             meant = f"; do you mean `{near}`?" if near else ""
-            raise self.refuse(number, f"unknown operation `{unknown[0]}`{meant}")
+            raise self.refuse(line.number, f"unknown operation `{unknown[0]}`{meant}")
+
+    def values(self, line: Expectation) -> None:
+        """Refuses a value that is none, of a line that expects it or puts it somewhere."""
+        put, of_register = values_put(line), is_of_register(line)
+        # Before the offset of a pointer stands its permission.
+        faults = [draws.not_put(word, of_register) for word in (put[-1:] if of_register else put)]
+        if line.kind in OF_VALUES and line.words[-1] != PAST.get(line.kind):
+            faults.append(not_a_value(line.words[OF_VALUES[line.kind]]))
+        why = next(filter(None, faults), None)
+        if why:
+            raise self.refuse(line.number, why)
 
     def setting(self, line: Expectation) -> None:
         sheet, case, words = self.sheet, self.sheet.cases[-1], line.words
         if line.kind == HIDDEN:
             sheet.cases.append(Case(" ".join(words), number=line.number))
-        elif line.kind == "put":
-            case.puts.append(line)
-        elif line.kind in OF_RUN:
+        elif line.kind in ONCE:
             if getattr(case, line.kind) is not None:
                 raise self.refuse(line.number, f"this run has a line `{line.kind}` already")
             setattr(case, line.kind, " ".join(words))
+        elif line.kind in OF_A_FILE:
+            if getattr(sheet, OF_A_FILE[line.kind]) is not None:
+                raise self.refuse(line.number, f"this exercise has a line `{line.kind}` already")
+            setattr(sheet, OF_A_FILE[line.kind], words[0])
         elif line.kind == "takes":
             other = next((word for word in words if word not in KINDS), None)
             if other is not None:
                 raise self.refuse(line.number, f"unknown kind of answer `{other}`: {', '.join(KINDS)}")
             sheet.takes = words
-        elif line.kind == "file":
-            sheet.file = words[0]
+        elif any(line.kind in row.kinds for row in OF_RUN):
+            case.inputs.append(line)
         else:
             (sheet.answers if line.kind == "answer" else sheet.fakes).extend(words)
+
+    def whole(self) -> Sheet:
+        """The sheet, once all its lines are read."""
+        drawn = next((line for line in self.sheet.cases[0].inputs if any(map(draws.draw_in, values_put(line)))), None)
+        if drawn:
+            raise self.refuse(drawn.number, "inputs are drawn for a `hidden` run")
+        for case in self.sheet.cases:
+            if not case.expectations:
+                run = f" of the run `{case.title}`" if case.title else ""
+                raise self.refuse(case.number, f"nothing is expected{run}")
+            like = next((line for line in case.expectations if line.kind == "like"), None)
+            if like and not self.sheet.answers:
+                raise self.refuse(like.number, "this line asks the first `answer`, and the exercise names none")
+        return self.sheet
 
 
 def read_sheet(name: str, text: str, folder: str = ".") -> Sheet:
@@ -218,7 +231,4 @@ def read_sheet(name: str, text: str, folder: str = ".") -> Sheet:
             reader.sheet.title = reader.sheet.title or line.lstrip("# ").strip()
         elif line.strip():
             reader.line(number, line)
-    empty = next((case for case in reader.sheet.cases if not case.expectations), None)
-    if empty is not None:
-        raise wrong(name, empty.number, f"nothing is expected{f' of the run `{empty.title}`' if empty.title else ''}")
-    return reader.sheet
+    return reader.whole()

@@ -26,6 +26,9 @@ def feedback(sheet: Sheet, name: str, graded: Graded) -> Iterator[str]:
         yield f"  {'yes' if line.right else 'no '}  {line.asked}"
         if not line.right:
             yield f"       {line.why}"
+    kinds = [asked.kind for asked, line in zip(sheet.expectations, graded.lines) if not line.right]
+    if kinds:
+        yield f"`mm help {kinds[0]}` explains a line `{kinds[0]}`"
     yield f"{graded.points} of {len(graded.lines)}"
 
 

@@ -59,8 +59,11 @@ class Graded:
         return sum(line.right for line in self.lines)
 
 
-def grade(sheet: Sheet, text: str, answer: Answer, program: str, options: dict[str, list[str]]) -> Graded:
-    """The marks of an answer. `text` is that of the sheet, `options` are the words of the command for C."""
+def grade(
+    sheet: Sheet, text: str, answer: Answer, program: str, options: dict[str, list[str]], seed: int
+) -> Graded:
+    """The marks of an answer. `text` is that of the sheet, `options` are the words of the command for C, and `seed`
+    draws inputs."""
     if answer.refused:
         return Graded(answer.name, refused=[answer.refused], status=Status.REFUSED)
     request = {
@@ -68,6 +71,7 @@ def grade(sheet: Sheet, text: str, answer: Answer, program: str, options: dict[s
         "files": [[name, base64.b64encode(data).decode()] for name, data in answer.files],
         "program": program,
         "options": options,
+        "seed": seed,
     }
     with tempfile.TemporaryDirectory(prefix="mm-") as room:
         said = _ask(json.dumps(request).encode(), room)
@@ -105,7 +109,8 @@ def _ask(request: bytes, room: str) -> dict[str, Any] | str:
         return said
     except ValueError:
         ended = f"the process that grades it ended with {process.returncode}{f': {last}' if last else ''}"
-        return f"it could not be graded, by a fault of `mm` and not of the answer: {ended}"
+        told_of = f"it could not be graded, by a fault of `mm` and not of the answer: {ended}"
+        return {"status": int(Status.OWN_FAULT), "lines": [told_of]}
 
 
 def _last_line(errors: IO[bytes]) -> str:
@@ -204,7 +209,7 @@ def _said(request: dict[str, Any]) -> dict[str, Any]:
         except Stop as stop:
             return {"status": int(stop.status), "lines": _without_folders(_lines_of(stop))}
         try:
-            found = marks(console, built, sheet)
+            found = marks(console, built, sheet, request["seed"])
         except Refused as stop:
             return {"status": int(stop.status), "lines": _without_folders(_lines_of(stop))}
         except Stop as stop:

@@ -32,7 +32,8 @@ def overview() -> Iterator[str]:
     yield ""
     yield from option_lines(GLOBAL_OPTIONS)
     yield ""
-    yield "`mm help TOPIC` explains a command, an operation (ld), a directive (.segment), a fault (3, Bounds), a permission (eu), and"
+    yield "`mm help TOPIC` explains a command, an operation (ld), a directive (.segment), a fault (3, Bounds), a permission (eu),"
+    yield "  a kind of line of an exercise (executes), and"
     yield "  " + ", ".join([*TOPICS, *MADE_TOPICS])
 
 

@@ -3,8 +3,10 @@
 from __future__ import annotations
 
 import re
+from itertools import chain
 from typing import Callable, Iterator, Optional
 
+from mm.grading.lines import FORMS, line_lines
 from mm.help.overview import command_lines
 from mm.help.topics import TOPICS
 from mm.machine.causes import Cause
@@ -117,7 +119,15 @@ MADE: dict[str, Callable[[], Iterator[str]]] = {
 
 
 def topic_lines(topic: str) -> Optional[Iterator[str]]:
-    """The text of a topic, or none if it is none. A command comes before an operation of the same name."""
+    """The text of a topic, or none if it is none. If it is a kind of line of an exercise too, that comes after it."""
+    found = _topic_lines(topic)
+    if topic not in FORMS:
+        return found
+    return line_lines(topic) if found is None else chain(found, [""], line_lines(topic))
+
+
+def _topic_lines(topic: str) -> Optional[Iterator[str]]:
+    """The text of a topic of the machine or of `mm`. A command comes before an operation of the same name."""
     word = topic.lower()
     name = ALIASES.get(word, word)
     cause = Cause.of_number(int(word)) if NUMBER.fullmatch(word) else Cause.of_title(word)
@@ -147,4 +157,5 @@ def all_topics() -> list[str]:
         *BY_SHORT,
         *TOPICS,
         *MADE,
+        *FORMS,
     ]

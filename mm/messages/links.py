@@ -70,7 +70,7 @@ def _undefined_hint(link: Link, name: str) -> str:
 
 
 def _undefined(link: Link, name: str) -> list[Diagnostic]:
-    """Each undefined name, the one that was told first."""
+    """Each undefined name, in the order of the files and of their lines."""
     known = {segment.name for _, made, _ in link.units for segment in made.segments}
     names = [name] + [
         other for _, made, _ in link.units for other in made.externals if other not in known and other != name
@@ -80,7 +80,8 @@ def _undefined(link: Link, name: str) -> list[Diagnostic]:
         message, hint = f"`{missing}` is neither a label here nor a segment of any file", _undefined_hint(link, missing)
         places = [link.at(source, use.line, use.column, message, [hint]) for source, use in link.uses(missing)]
         found += places[:1] or [link.whole(message, [hint])]
-    return found
+    paths = [source.path for source in link.sources]
+    return sorted(found, key=lambda one: (paths.index(one.path) if one.line else len(paths), one.line or 0))
 
 
 def _offset(link: Link, name: str) -> list[Diagnostic]:

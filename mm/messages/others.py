@@ -33,6 +33,7 @@ OTHER_OPERATIONS = {
     "push pop": "there is no stack of the machine's own: keep a pointer to one in a register, store with `st`, and move it with `leai` (mm help idioms)",
     "hlt exit stop quit end break": "a thread ends by `halt`",
     "syscall ecall svc swi int": "a service is called by `jal r6, r5` through an enter pointer, or asked of a handler by `trap 1`",
+    "in inp input read getc getchar scanf": "there is no input: what a program begins with is in its memory (`.int 5`) and in its registers (`.reg 1 int 5` after the `.thread`)",
     "print putc putchar puts write": "a letter is printed by `out r1`, one at a time; examples/text/print.asm prints texts and numbers",
     "noop": "it is called `nop`",
     "cas swap xchg lock ll sc amoadd": "threads are kept in turn by the synchronisation bit: `ld r2, r1, 0, full, empty` takes the word, `st r1, r2, 0, empty, full` gives it back",

@@ -16,7 +16,12 @@ LONGEST_NEAR = 64
 
 
 class NoAddress(Exception):
-    """A text that is no address, with the reason in words."""
+    """A text that is no address, with the reason in words. If it is a name that is not there, `near` is a question for
+    one that is, or empty, and `lists` says what lists the names."""
+
+    def __init__(self, why: str, near: str = "", lists: str = "") -> None:
+        super().__init__(why + (near or lists))
+        self.why, self.near, self.lists = why, near, lists
 
 
 def nearest(name: str, names: list[str]) -> Optional[str]:
@@ -44,8 +49,9 @@ def _symbol(name: str, symbols: Symbols) -> Symbol:
         )
     near = nearest(name, [symbol.name for symbol in symbols.symbols])
     raise NoAddress(
-        f"there is no label or segment `{name}`"
-        + (f"; do you mean `{near}`?" if near else "; `info symbols` and `mm symbols` list the names")
+        f"there is no label or segment `{name}`",
+        f"; do you mean `{near}`?" if near else "",
+        "; `info symbols` and `mm symbols` list the names",
     )
 
 

@@ -47,6 +47,7 @@ MISTAKES = [
     line("  beq r1, r2, main", "2:3", "`beq`", "`eq r3, r1, r2`"),
     line("  push r1", "2:3", "`push`", "mm help idioms"),
     line("  hlt", "2:3", "`hlt`", "`halt`"),
+    line("  in r1", "2:3", "`in`", "there is no input"),
     line("  lda r1", "2:3", "`lda`", "do you mean `ld"),
     line("  ld r2, r1", "2:12", "too early", "`ld r2, r1, 0, any, keep`"),
     line("  ld r2, r1, 8, any", "2:20", "too early", "`ld r2, r1, 8, any, keep`"),

@@ -1,14 +1,19 @@
 """`mm grade`: what is not so of an answer is told, and the text of an exercise is read as it must be."""
 
 import os
+import re
 import tempfile
 import unittest
 
+from mm.commands.grade import exercises
 from mm.grading.checks import said
+from mm.grading.lines import FORMS, SETTINGS, TABLES, VALUE, VALUE_PUT
 from mm.grading.marks import CHECKS
-from mm.grading.sheet import FORMS, SETTINGS, read_sheet
+from mm.grading.sheet import read_sheet
 from mm.status import Stop
 from mm.tests.support import folder, mm, needs_log, read, write
+
+HELLO = "examples/hello.asm"
 
 
 @needs_log
@@ -30,6 +35,9 @@ class Grade(unittest.TestCase):
             ("lab-4", "examples/hello.asm", "slot 0 has halted"),
             ("lab-5", "docs/course/lab/bank.asm", "it prints nothing"),
             ("lab-3", "examples/faults.asm", "slot 0 was stopped by fault 3 Bounds: "),
+            ("8.1", "docs/course/fakes/rude-ends.asm", "  no   runs 1 out\n       slot 1 has halted\n"),
+            ("lab-3", "docs/course/fakes/nothing.asm", "there is no label or segment `numbers`, and the exercise asks"),
+            ("10.1", "docs/course/locks.asm", "there is no label or segment `word`, and the exercise asks for one\n"),
         ):
             with self.subTest(name):
                 ended = mm("grade", name, program)
@@ -85,11 +93,13 @@ class Grade(unittest.TestCase):
             ("register 0 r1 one", "`one` is not a number"),
             ("can 0 read hello", "`read` is not a kind of access"),
             ("given ../nothing.asm hello", "../nothing.asm"),
+            ("through 0 r1", "`r1` is not a number"),
+            ("says 0 A\nhidden b\ncode 0 nothing.asm a\nsays 0 A", "nothing.asm cannot be read"),
         ):
             with self.subTest(line), folder() as room:
                 ended = mm("grade", write(room, "sheet.txt", f"# a sheet\n{line}"), "examples/hello.asm")
                 self.assertEqual((ended.status, ended.out), (2, ""))
-                self.assertIn(f"sheet.txt:2: {why}", ended.err)
+                self.assertRegex(ended.err, rf"sheet\.txt:[23]: {re.escape(why)}")
 
     def test_an_exercise_that_is_not_there(self):
         ended = mm("grade", "9.1", "examples/hello.asm")
@@ -108,6 +118,17 @@ class Grade(unittest.TestCase):
             ("hals 0", "unknown line `hals`; do you mean `halts`?"),
             ("faults 0", "the form `faults SLOT FAULT"),
             ("register 0 r1", "the form `register SLOT rN VALUE`"),
+            ("never mind", "the form `never stuck | never faults`"),
+            ("like register 0", "the form `like says GROUP | like letters GROUP | like register SLOT rN | like word"),
+            ("like says 0", "sheet.txt:1: this line asks the first `answer`, and the exercise names none"),
+            ("register 0 r1 pointers", "sheet.txt:1: `pointers` is not a number"),
+            ("stops 0 past\nstops 0 end", "sheet.txt:2: `end` is not a number"),
+            ("put a 9..3\nsays 0", "sheet.txt:1: `9..3` has no numbers: the least comes first"),
+            ("put a b\nsays 0", "`b` is not a number, nor a range as `65..90`, nor `random`"),
+            ("put a pointer\nsays 0", "a pointer is drawn for a register alone"),
+            ("put 0 r1 random*2\nsays 0", "`random*2` is several words, and a register has one"),
+            ("put a 1..3\nsays 0", "sheet.txt:1: inputs are drawn for a `hidden` run"),
+            ("from a.asm\nfrom b.asm\nsays 0", "sheet.txt:2: this exercise has a line `from` already"),
             ("", "nothing is expected"),
             ("says 0\nhidden more\nput a 1", "sheet.txt:2: nothing is expected of the run `more`"),
         ):
@@ -118,13 +139,15 @@ class Grade(unittest.TestCase):
     def test_a_hidden_run_does_not_say_its_inputs(self):
         ended = mm("grade", "lab-3", "docs/course/fakes/lab3-constant.asm")
         self.assertIn("  no   the sum of other numbers\n       there is no label or segment `numbers`", ended.out)
-        ended = mm("grade", "lab-3", "docs/course/fakes/lab3-idle.asm")
+        lines = "register 0 r3 100\nhidden other numbers\nput numbers 3 1 4 1\nregister 0 r3 9\n"
+        with folder() as room:
+            ended = mm("grade", write(room, "sheet.txt", lines), "docs/course/fakes/lab3-idle.asm")
         self.assertIn("with other inputs, which are not shown, these lines are not right: register 0 r3 ..\n", ended.out)
         self.assertNotIn("r3 9", ended.out)
 
     def test_an_empty_program_gets_nothing(self):
         """Not even for what it meets without doing anything: such a line counts if something else is done."""
-        for name in ("lab-1", "lab-2", "lab-3", "1.1", "2.1", "3.1", "5.1", "5.2", "6.1", "7.2", "8.1", "10.1", "11.1"):
+        for name in exercises():
             with self.subTest(name):
                 out = mm("grade", name, "docs/course/fakes/nothing.asm").out
                 self.assertRegex(out.splitlines()[-1], "^0 of ")
@@ -141,10 +164,30 @@ class Grade(unittest.TestCase):
         self.assertIn("missing FILE", ended.err)
 
     def test_each_line_is_looked_at_and_written_down(self):
-        self.assertEqual(set(CHECKS) | set(SETTINGS), set(FORMS))
+        """GRADING.md has the tables from which `mm help` is made, row by row."""
+        self.assertEqual((set(CHECKS) | set(SETTINGS), set(CHECKS) & set(SETTINGS)), (set(FORMS), set()))
         page = read("docs", "course", "GRADING.md")
-        for name in FORMS:
-            self.assertIn(f"`{name}", page)
+        for heading, rows in TABLES.items():
+            table = page.partition(f"\n| {heading} | ")[2].split("\n\n")[0].splitlines()
+            self.assertEqual(table[2:], [row.page for row in rows], heading)
+        flowing = " ".join(page.split())
+        self.assertIn(VALUE + ".", flowing)
+        self.assertIn(VALUE_PUT + ".", flowing)
+
+    def test_each_line_is_explained(self):
+        for kind, forms in FORMS.items():
+            ended = mm("help", kind)
+            self.assertEqual(ended.status, 0, kind)
+            for form in forms:
+                self.assertIn(form, " ".join(ended.out.split()))
+            self.assertIn("a line of an exercise", ended.out)
+        self.assertIn("it counts only if some other line is right", " ".join(mm("help", "lacks").out.split()))
+        self.assertNotIn("it counts only if some other line is right", " ".join(mm("help", "says").out.split()))
+        self.assertIn(VALUE_PUT, " ".join(mm("help", "put").out.split()))
+        self.assertIn("13  OutFull", mm("help", "faults").out)
+        self.assertIn("do you mean `repeats`?", mm("help", "repeat.s").err)
+        self.assertIn("`mm help matches` explains a line `matches`\n0 of 3\n", mm("grade", "lab-1", HELLO).out)
+        self.assertNotIn("mm help", mm("grade", "lab-1", "docs/course/answers/lab1.asm").out)
 
     def test_sheets_name_no_place_of_this_machine(self):
         for name in os.listdir("docs/course/grade"):

@@ -89,6 +89,26 @@ class Class(unittest.TestCase):
         self.assertEqual((ended.status, ended.out), (2, ""))
         self.assertIn("it takes more than 0.01 seconds", ended.err)
 
+    def test_a_fault_of_mm_is_told_as_one(self):
+        """With the last line of what the process told, which names no folder."""
+        dies = "raise ValueError('not /home/ann/x.py')"
+        with mock.patch.object(worker, "START", dies):
+            ended = mm("grade", self.sheet(), write(self.room, "a.asm", HALTS))
+            students = os.path.join(self.room, "students")
+            os.makedirs(os.path.join(students, "ann"))
+            write(os.path.join(students, "ann"), "a.asm", HALTS)
+            told = mm("grade", self.sheet(), students).out
+        said = "it could not be graded, by a fault of `mm` and not of the answer: the process that grades it ended with 1"
+        self.assertEqual((ended.status, ended.out, ended.err), (70, "", f"{said}: ValueError: not x.py\n"))
+        self.assertIn(f"  ann  refused  {said}: ValueError: not x.py", told)
+
+    def test_a_folder_without_answers(self):
+        empty = os.path.join(self.room, "students")
+        os.makedirs(empty)
+        ended = mm("grade", self.sheet(), empty)
+        self.assertEqual((ended.status, ended.out), (1, ""))
+        self.assertIn(f"there is nothing to grade in {empty}: put a folder or a file for each student there", ended.err)
+
     def test_long_words_cost_little(self):
         long = f".segment main 6\n  {'a' * 16_000}\n"
         for text in (long, f"{'x' * 20_000}: nop\n{'y' * 20_000}: nop\n", ".int " * 9_000):
@@ -125,6 +145,8 @@ class Class(unittest.TestCase):
             "  =hal  0 of 2", "8 answers: 1 with all points, 2 without, 5 refused\n",
         ):  # fmt: skip
             self.assertIn(line, out)
+        self.assertIn("the suffix .asm: hand in one source\n", read(self.room, "told", "dora.txt"))
+        self.assertNotIn("file NAME", read(self.room, "told", "dora.txt"))
         told = read(self.room, "told", "ben.txt")
         self.assertTrue(told.startswith("sheet: A letter\n"), told)
         self.assertIn("  no   says 0 A\n       it prints nothing\n", told)
@@ -161,6 +183,15 @@ class Class(unittest.TestCase):
         good = "#include <stdio.h>\n#include <stdint.h>\nint main(void) { putchar(65); return 0; }\n"
         ended = mm("grade", sheet, write(self.room, "a.c", good))
         self.assertEqual((ended.status, ended.err), (0, ""), ended.out)
+
+    @needs_clang
+    def test_an_answer_in_c_is_compared_with_one_in_c(self):
+        source = "#include <stdio.h>\nint main(void) {{ putchar({}); return 0; }}\n"
+        write(self.room, "right.c", source.format("'A' + 1"))
+        sheet = self.sheet("takes c\nlike says 0\nanswer right.c\n")
+        self.assertEqual(mm("grade", sheet, write(self.room, "a.c", source.format(66))).status, 0)
+        ended = mm("grade", sheet, write(self.room, "a.c", source.format(67)))
+        self.assertIn('  no   like says 0\n       it prints "C", and in the answer it prints "B"\n', ended.out)
 
     @needs_clang
     def test_lines_of_c_that_name_another_file_show_nothing_of_it(self):

@@ -2,32 +2,28 @@
 
 import glob
 import os
-import re
 import unittest
 
 from mm.grading.sheet import read_sheet
 from mm.machine.program import CHECKOUT
-from mm.tests.right import RIGHT
-from mm.tests.support import folder, mm, needs_log, read, write
+from mm.tests.support import folder, mm, needs_keeps, needs_log, read, write
 
 COURSE = os.path.join(CHECKOUT, "docs", "course")
+# Right answers that are not the official ones: other registers, names and ways. The name of each begins with its exercise.
+RIGHT = sorted(glob.glob(os.path.join(CHECKOUT, "mm", "tests", "right", "*.asm")))
 SHEETS = sorted(os.path.basename(path)[:-4] for path in glob.glob(os.path.join(COURSE, "grade", "*.txt")))
 EXERCISES = 25
 # What a review wrote without solving anything, by the names of today.
 REVIEWED = "lab2-unrolled lab3-constant lab4-jump lab5-constant lab5-owner taken-constant doors-constant ticket-empty"
 REVIEWED += " calls-constant round-before pairs-without"
-
-
-def filled(text: str) -> str:
-    """A source with the files of the course that it names: whole, or up to the line that begins a segment."""
-    def part(found: "re.Match[str]") -> str:
-        lines = read("docs", "course", *found[1].split("/"))
-        return lines if found[2] is None else lines.partition(f".segment {found[2]}")[0] + f".segment {found[2]} 6\n"
-
-    return re.sub(r"\{(\S+?)(?: (\w+))?\}", part, text)
+# Programs that know the results of some inputs.
+TABLES = {"lab-3": "lab3-table", "lab-5": "lab5-table", "2.1": "fields-two", "6.1": "calls-order", "8.2": "told-flag"}
+# Exercises that give no source to begin with.
+WITHOUT_START = ("lab-3",)
 
 
 @needs_log
+@needs_keeps
 class Sheets(unittest.TestCase):
     def test_each_sheet_is_passed_by_its_answer_and_by_no_fake(self):
         self.assertEqual(len(SHEETS), EXERCISES)
@@ -37,6 +33,7 @@ class Sheets(unittest.TestCase):
                 self.assertEqual((ended.status, ended.err), (0, ""), ended.out)
                 self.assertIn("  yes  answer ", ended.out)
                 self.assertGreaterEqual(ended.out.count("  yes  fake "), 2)
+                self.assertEqual("  yes  from " in ended.out, name not in WITHOUT_START)
 
     def test_each_sheet_is_tried_with_an_answer_of_the_page(self):
         answers = {os.path.basename(path) for path in glob.glob(os.path.join(COURSE, "answers", "*.asm"))}
@@ -50,12 +47,26 @@ class Sheets(unittest.TestCase):
         self.assertLessEqual({f"{name}.asm" for name in REVIEWED.split()}, fakes)
 
     def test_other_right_answers_get_all_points(self):
-        self.assertGreaterEqual(len(RIGHT), 10)
-        with folder() as room:
-            for name, what, text in RIGHT:
-                with self.subTest(name, what=what):
-                    ended = mm("grade", name, write(room, "right.asm", filled(text)))
-                    self.assertEqual((ended.status, ended.err), (0, ""), ended.out)
+        exercises = {os.path.basename(path).rpartition("-")[0] for path in RIGHT}
+        self.assertEqual(exercises, set(SHEETS))
+        for path in RIGHT:
+            name = os.path.basename(path).rpartition("-")[0]
+            with self.subTest(path):
+                ended = mm("grade", name, path)
+                self.assertEqual((ended.status, ended.err), (0, ""), ended.out)
+
+    def test_no_table_of_inputs_is_right(self):
+        """Whatever is drawn: each answer has all points, and no program that knows some inputs has them."""
+        for seed in range(2):
+            for name, fakes in TABLES.items():
+                with self.subTest(name, seed=seed):
+                    answer = self.sheet(name).answers[0]
+                    path = os.path.join(COURSE, "grade", answer)
+                    self.assertEqual(mm("grade", name, path, "--seed", str(seed)).status, 0)
+                    for fake in fakes.split():
+                        ended = mm("grade", name, os.path.join(COURSE, "fakes", f"{fake}.asm"), "--seed", str(seed))
+                        self.assertEqual(ended.status, 1)
+                        self.assertIn(f"`--seed {seed}`", ended.out)
 
     def test_a_sheet_that_its_own_fake_passes_is_told(self):
         with folder() as room:

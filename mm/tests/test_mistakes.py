@@ -112,6 +112,7 @@ class Files(unittest.TestCase):
         self.assertIn("looked up from the folder", self.refused(3, "run", "nofile.asm"))
         self.assertNotIn("looked up from the folder", self.refused(3, "run", "/nofile.asm"))
         self.assertIn("`--cycles 100`", self.refused(3, "run", "examples/counter.asm", "100"))
+        self.assertIn("`--groups 0,1`", self.refused(3, "audit", "examples/counter.asm", "--groups", "0", "1"))
         self.assertIn("nofile.c: error: cannot be read", self.refused(3, "cc", "nofile.c"))
 
     def test_texts_and_letters(self):
@@ -198,6 +199,15 @@ class Files(unittest.TestCase):
             three = write(room, "three.asm", ".segment data 4\n .int 1\n")
             self.assertIn("two segments have the name `data`", self.refused(2, "run", two, three))
             self.assertIn(f"{two} is given twice", self.refused(2, "run", two, two))
+
+    def test_names_that_are_missing_come_in_the_order_of_lines(self):
+        source = ".segment main 5\n  halt\n  .ptr ro early\n  .ptr ro middle\n.thread 0 0 none xu main\n.reg 1 ptr rw late\n"
+        with folder() as room:
+            one = write(room, "one.asm", source)
+            two = write(room, "two.asm", ".segment data 3\n  .ptr ro other\n")
+            err = self.refused(2, "run", one, two)
+        places = [line.split(": error")[0] for line in err.splitlines() if ": error: " in line]
+        self.assertEqual(places, [f"{one}:3:11", f"{one}:4:11", f"{one}:6:15", f"{two}:2:11"])
 
     def test_of_two_files_that_one_is_named_whose_slot_is_meant(self):
         with folder() as room:

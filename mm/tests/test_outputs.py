@@ -12,7 +12,7 @@ from mm.outputs.refusal import RefusalKind, read_refusal
 from mm.outputs.report import Report, SlotState, read_report
 from mm.outputs.trace import numbered, read_turn, split_trace
 from mm.source.text import read_source
-from mm.tests.support import read
+from mm.tests.support import folder, mm, needs_program, read, write
 from mm.views.data import word_form
 from mm.views.spell import Speller, bytes_as_text, integer
 from mm.views.waiting import waiting
@@ -189,6 +189,22 @@ class Waits(unittest.TestCase):
         lines = [f"t 0 {turn} blocked" for turn in range(40)]
         self.assertEqual(self.waits(lines[:33], {0}, True), {0: (33, False)})
         self.assertEqual(self.waits(lines, {0}, True), {0: (40, True)})
+
+
+@needs_program
+class Cut(unittest.TestCase):
+    def test_a_long_output_is_cut(self):
+        """Its text as well as its bytes; `--plain` writes all of it."""
+        for number, shown in ((0, 250), (65, 1000)):
+            source = f".segment a 5\n  ldi r1, {number}\nx: out r1\n  br x\n.thread 0 0 none xu a\n"
+            with folder() as room:
+                path = write(room, "p.asm", source)
+                line = next(line for line in mm("run", path).out.splitlines() if line.startswith("group 0"))
+                self.assertEqual(len(mm("run", path, "--plain").data), 4096)
+            letter = "\\x00" if number == 0 else "A"
+            begin = f'group 0  output "{letter * shown}" .. {4096 - shown} more bytes  (4096 bytes: '
+            self.assertTrue(line.startswith(begin), line[:80])
+            self.assertTrue(line.endswith(" .. 4032 more)"), line[-80:])
 
 
 if __name__ == "__main__":

@@ -8,7 +8,7 @@ from mm.machine.memory import BLANK
 from mm.machine.words import Cell
 from mm.names.numbers import counted
 from mm.outputs.report import Report, SlotState
-from mm.views.spell import Memory, Speller, bytes_as_text
+from mm.views.spell import Memory, Speller, bytes_as_text, fitting
 from mm.views.style import Style
 from mm.views.said import FaultSaid
 from mm.words import MOST_CYCLES
@@ -17,7 +17,8 @@ if TYPE_CHECKING:
     from mm.names.clines import CLine
     from mm.views.waiting import Waiting
 
-BYTES_SHOWN = 64
+# How much of an output is shown, in bytes and in letters, and how many cells. `--plain` writes all of an output.
+BYTES_SHOWN, LETTERS_SHOWN = 64, 1000
 CELLS_SHOWN = 64
 
 
@@ -61,9 +62,10 @@ class ReportView:
         head = self.style.strong(f"group {group}")
         if not data:
             return f"{head}  no output"
-        shown = data[:BYTES_SHOWN]
+        shown, most = data[:BYTES_SHOWN], fitting(data, LETTERS_SHOWN)
         more = f" .. {len(data) - BYTES_SHOWN} more" if len(data) > BYTES_SHOWN else ""
-        return f"{head}  output {bytes_as_text(data)}  ({counted(len(data), 'byte')}: {shown.hex(' ')}{more})"
+        text = bytes_as_text(data[:most]) + (f" .. {counted(len(data) - most, 'more byte')}" if len(data) > most else "")
+        return f"{head}  output {text}  ({counted(len(data), 'byte')}: {shown.hex(' ')}{more})"
 
     def slot(self, slot: SlotState) -> list[str]:
         """The state of a slot, the line where it stands, and its registers."""

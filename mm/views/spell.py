@@ -2,6 +2,7 @@
 
 from __future__ import annotations
 
+from itertools import accumulate, takewhile
 from typing import Optional
 
 from mm.machine.isa import Instruction
@@ -57,6 +58,12 @@ def integer(word: Word) -> str:
         letter = letter_of(word.bits)
         return f"{signed} '{letter}'" if letter else str(signed)
     return f"{signed} 0x{word.bits:x}"
+
+
+def fitting(data: bytes, most: int) -> int:
+    """How many of the first bytes have a text of so many letters at most."""
+    lengths = accumulate(len(bytes_as_text(bytes([byte]))) - 2 for byte in data)
+    return sum(1 for _ in takewhile(lambda length: length <= most, lengths))
 
 
 def bytes_as_text(data: bytes) -> str:

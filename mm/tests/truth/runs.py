@@ -147,10 +147,11 @@ class Case:
 
     def outputs(self, kind: str, out: str, report: Report) -> None:
         for group, data in report.outputs.items():
-            said = re.search(rf'^group {group}  (?:no output|output "(.*)"  \((\d+) bytes?: ([0-9a-f ]*)( \.\. \d+ more)?\))$', out, re.M)
+            said = re.search(rf'^group {group}  (?:no output|output "(.*?)"(?: \.\. (\d+) more bytes?)?  \((\d+) bytes?: ([0-9a-f ]*)( \.\. \d+ more)?\))$', out, re.M)
             text = (said[1] or "").encode().decode("unicode_escape").encode("latin-1").hex() if said else None
-            digits = (said[3] or "").replace(" ", "") if said else ""
-            right = text == data and data.startswith(digits) and (said is not None and (bool(said[4]) or digits == data))
+            digits = (said[4] or "").replace(" ", "") if said else ""
+            whole = said is not None and text is not None and len(text) // 2 + int(said[2] or 0) == len(data) // 2
+            right = whole and data.startswith(text) and data.startswith(digits) and (bool(said[5]) or digits == data)
             self.check(f"{kind} output", right, (said and said[0], data))
 
     def changed(self, kind: str, row: str, address: int, report: Report) -> None:

@@ -1,0 +1,28 @@
+; The handler enters another gate, which gives the pointer away.
+.segment gate 6
+own: .ptr rw count
+door: lip r7, own
+  ld r7, r7, 0, any, keep
+  ld r8, r7, 0, any, keep
+  addi r8, r8, 1
+  st r7, r8, 0, any, keep
+  trap 1
+.segment gift 5
+o2: .ptr rw count
+d2: lip r2, o2
+  ld r2, r2, 0, any, keep
+  jmp r6
+.segment handler 6
+  evt r4
+  jal r6, r9
+  ldi r3, 99
+  st r2, r3, 0, any, keep
+  halt
+.segment caller 3
+  jmp r5
+.segment count 3
+  .int 0
+.thread 0 0 1 xu caller
+.reg 5 ptr eu door
+.thread 1 0 none xu handler
+.reg 9 ptr eu d2

@@ -1,0 +1,13 @@
+; The word is stored whatever its bit is.
+.segment code 6
+  ld r2, r1, 0, full, empty
+  addi r2, r2, 1
+  out r2
+  st r1, r2, 0, any, full
+  halt
+.segment word 3
+  .int 64
+.thread 0 0 none xu code
+.reg 1 ptr rw word
+.thread 1 0 none xu code
+.reg 1 ptr rw word
