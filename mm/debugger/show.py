@@ -138,7 +138,7 @@ class Show:
         ended = turn is None
         yield f"{self.style.soft(f'cycle {session.total}')}{', the end of the run (`run` begins again, `back` goes back)' if ended else ''}"
         if ended and session.history.stuck:
-            yield stuck_verdict(1, any(slot.pending for slot in session.report.slots))
+            yield stuck_verdict(sum(slot.running for slot in session.report.slots), any(slot.pending for slot in session.report.slots))
             yield from (
                 f"  slot {slot.number} is {what_for(slot, session.memory, session.speller)}"
                 for slot in session.report.slots

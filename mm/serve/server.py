@@ -73,8 +73,8 @@ class Server:
         except BadRequest as bad:
             with contextlib.suppress(OSError, asyncio.TimeoutError):
                 await send(writer, text(bad.status, str(bad)))
-        except (OSError, asyncio.TimeoutError):
-            pass  # The other side has gone, or takes nothing.
+        except (OSError, asyncio.TimeoutError, asyncio.CancelledError):
+            pass  # The other side has gone, or takes nothing; or the server ends.
         finally:
             self.open -= 1
             writer.close()

@@ -4,7 +4,7 @@ import unittest
 
 from mm.names.symbols import Symbols
 from mm.outputs.exploration import read_exploration
-from mm.tests.support import mm
+from mm.tests.support import folder, mm, write
 from mm.views.exploration import ExplorationView
 
 TEXT = """explored 12 more
@@ -70,6 +70,14 @@ class Exploration(unittest.TestCase):
         self.assertIn("  examples/kernel.asm:32: ld r4, r5, -16, any, keep", out)
         out = mm("explore", "examples/server.asm").out
         self.assertIn("slot 1 can be stopped at polite by fault 11 Trap", out)
+
+    def test_a_slot_whose_handler_is_there(self):
+        """It is stopped until the handler resumes it; at the end it may still wait for that."""
+        with folder() as room:
+            out = mm("explore", write(room, "k.asm", ".segment a 4\n trap 1\n halt\n.segment b 3\n halt\n"
+                ".thread 0 0 1 xu a\n.thread 1 1 none xu b\n")).out
+        self.assertIn("slot 0 can be stopped at a by fault 11 Trap: a trap instruction, and slot 1 serves it", out)
+        self.assertIn("  slot 0 has faulted at a, and its handler has not looked yet", out)
         self.assertIn("  trap 1, which the handler has to answer", out)
 
     def test_what_stuck_slots_wait_for(self):

@@ -87,14 +87,7 @@ class ReportView:
         ip = slot.ip.pointer
         where = f"at {self.style.name(self.speller.symbols.show(ip.address))}" if ip else ""
         if slot.fault:
-            from mm.machine.causes import Cause
-
-            cause = Cause.of_number(slot.fault)
-            said = self.faults.get(slot.number)
-            if said and said.of_c:
-                return f"{self.style.bad('stopped')} {where} by {said.of_c}"
-            title = f"fault {slot.fault} {cause.title}: {cause.meaning}" if cause else f"fault {slot.fault}"
-            return f"{self.style.bad('stopped')} {where} by {title}"
+            return f"{self.style.bad('stopped')} {where} by {self.fault(slot)}"
         if slot.number in self.waits:
             from mm.views.waiting import what_for
 
@@ -107,6 +100,16 @@ class ReportView:
         }
         before, after = words.get(slot.state, (slot.state, ""))
         return f"{before} {where}{', past the end of its segment' if slot.past else ''}{after}"
+
+    def fault(self, slot: SlotState) -> str:
+        """The fault by which a slot was stopped, with its number, or as C has it."""
+        from mm.machine.causes import Cause
+
+        cause = Cause.of_number(slot.fault or 0)
+        said = self.faults.get(slot.number)
+        if said and said.of_c:
+            return said.of_c
+        return f"fault {slot.fault} {cause.title}: {cause.meaning}" if cause else f"fault {slot.fault}"
 
     def place(self, slot: SlotState) -> list[str]:
         """The instruction at which a slot stands, with the line that it comes from."""

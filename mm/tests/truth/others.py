@@ -164,10 +164,16 @@ def explored(case: Case, line: str) -> list[tuple[Any, ...]]:
     return [("slot", slot[1], slot[2])] if slot else []
 
 
+# What is said of a slot that its handler has to serve.
+FAULTED = {"waiting": "and its handler has not looked yet", "taken": "and its handler has it"}
+
+
 def is_outcome(said: tuple[Any, ...], wanted: tuple[Any, ...]) -> bool:
     """Whether a finding is the program's. A slot that runs where nothing changes any more may be said to wait."""
     if said == wanted:
         return True
+    if said[:2] == wanted[:2] and said[0] == "slot" and wanted[2] in FAULTED:
+        return bool(re.fullmatch(rf"has faulted at {PLACE}(, past the end of its segment)?, {FAULTED[wanted[2]]}", str(said[2])))
     return said[:2] == wanted[:2] and said[0] == "slot" and wanted[2] == "running" and str(said[2]).startswith("waiting")
 
 
