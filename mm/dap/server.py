@@ -7,6 +7,7 @@ from typing import Any, BinaryIO, Callable, Optional, Sequence
 
 from mm.console import Console
 from mm.dap.looking import Looker, source_of
+from mm.dap.offered import ACCESSES, CAN, FILTERS, REASONS
 from mm.debugger.commands import Debugger, carry_out, over_call
 from mm.debugger.conditions import condition_of
 from mm.debugger.evaluate import place_of, span
@@ -24,25 +25,6 @@ from mm.views.style import Style
 from mm.words import read_words
 
 Json = Any
-CAN = {
-    "supportsConfigurationDoneRequest": True,
-    "supportsFunctionBreakpoints": True,
-    "supportsConditionalBreakpoints": True,
-    "supportsDataBreakpoints": True,
-    "supportsEvaluateForHovers": True,
-    "supportsStepBack": True,
-    "supportsReadMemoryRequest": True,
-    "supportsDisassembleRequest": True,
-    "supportsRestartRequest": True,
-    "supportsTerminateRequest": True,
-    "exceptionBreakpointFilters": [
-        {"filter": "fault", "label": "Faults", "default": True},
-        {"filter": "entry", "label": "Entries of gates", "default": False},
-    ],
-}
-FILTERS = {"fault": PointKind.FAULT, "entry": PointKind.ENTRY}
-ACCESSES = {"read": PointKind.READ, "write": PointKind.WATCH, "readWrite": PointKind.ACCESS}
-REASONS = {PointKind.BREAK: "breakpoint", PointKind.FAULT: "exception", PointKind.ENTRY: "breakpoint"}
 
 
 class NotDone(Exception):
