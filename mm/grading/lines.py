@@ -102,11 +102,9 @@ TABLES = {
     "line about the program": OF_PROGRAM,
 }
 ROWS = tuple(row for rows in TABLES.values() for row in rows)
+KINDS = tuple(dict.fromkeys(kind for row in ROWS for kind in row.kinds))
 # What each kind of line may look like.
-FORMS: dict[str, tuple[str, ...]] = {}
-for _each in ROWS:
-    for _form in _each.forms:
-        FORMS[_form.split()[0]] = (*FORMS.get(_form.split()[0], ()), _form)
+FORMS = {kind: tuple(form for row in ROWS for form in row.forms if form.split()[0] == kind) for kind in KINDS}
 SETTINGS = tuple(kind for row in (*OF_SHEET, *OF_RUN) for kind in row.kinds)
 # Lines that an empty program meets too. They count if something else of the exercise is done.
 CONDITIONS = frozenset("halts together apart cannot never outcomes without given starts slots lacks alike clears".split())
