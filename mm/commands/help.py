@@ -4,18 +4,14 @@ from __future__ import annotations
 
 from mm.console import Console
 from mm.help.fold import fold
-from mm.help.overview import command_lines, overview
+from mm.help.overview import overview
 from mm.status import Status, usage
-from mm.table import BY_NAME
 
 
 def run_topic(console: Console, topic: str) -> int:
     """Writes the text of a topic, or the overview."""
     if not topic:
         console.write(fold(overview()))
-        return Status.DONE
-    if topic in BY_NAME:
-        console.write(fold(command_lines(BY_NAME[topic])))
         return Status.DONE
     from mm.help.texts import all_topics, topic_lines
     from mm.names.expressions import nearest

@@ -89,6 +89,13 @@ def testbench_files(image: Image, front: str) -> Iterator[tuple[str, bytes]]:
         yield f"{front}.{part}", text_of(PARTS[part](image)).encode("ascii")
 
 
+def write_parts(image: Image, front: str) -> None:
+    """Writes these files, for who makes folders of cases."""
+    for name, data in testbench_files(image, front):
+        with open(name, "wb") as file:
+            file.write(data)
+
+
 PARTS: dict[str, Callable[[Image], Iterator[str]]] = {
     "memory": _memory,
     "frames": _frames,

@@ -10,7 +10,7 @@ import sys
 from dataclasses import dataclass, field
 from typing import Any, Callable, Iterator, Optional, Sequence, TypeVar
 
-from mm.formats.hex import testbench_files
+from mm.formats.hex import write_parts
 from mm.formats.image import read_image
 from mm.formats.schedule import read_schedule
 from mm.lockstep.case import Case, case_of, items_of, schedule_text
@@ -186,9 +186,7 @@ def write_cases(options: argparse.Namespace) -> int:
         case = work.case(number) if work else case_of(options.seed, number, plain=options.plain)
         lines.append(f"{case.name} {len(case.items)} {case.name}.schedule\n")
         if options.hex:
-            for name, data in testbench_files(read_image(case.image), os.path.join(options.write, case.name)):
-                with open(name, "wb") as file:
-                    file.write(data)
+            write_parts(read_image(case.image), os.path.join(options.write, case.name))
         with open(os.path.join(options.write, f"{case.name}.img"), "wb") as file:
             file.write(case.image)
         with open(os.path.join(options.write, f"{case.name}.schedule"), "w", encoding="ascii") as file:
