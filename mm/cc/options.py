@@ -2,6 +2,7 @@
 
 from __future__ import annotations
 
+import re
 from typing import Optional
 
 from mm.names.numbers import number_of
@@ -11,6 +12,8 @@ from mm.table import CLANG, HEAP, LEVEL, PREFIX, QUARANTINE, SLOT, STACK, Option
 from mm.words import Words
 
 LEVELS = ("0", "1", "2", "3", "s")
+# What a prefix may be, so that names with it are names.
+PREFIXES = "([A-Za-z_][A-Za-z0-9_]{0,11})?"
 
 
 @dataclass
@@ -46,11 +49,14 @@ def options_of(said: Words) -> Options:
     level: Optional[str] = said.value(LEVEL)
     if level is not None and level not in LEVELS:
         raise usage(f"mm: {LEVEL.name}: `{level}` is not a level: {', '.join(LEVELS)}")
+    prefix: str = said.value(PREFIX) or ""
+    if not re.fullmatch(PREFIXES, prefix):
+        raise usage(f"mm: {PREFIX.name}: `{prefix}` is not the beginning of a name: at most 12 letters, digits and `_`, no digit first")
     return Options(
         level or "1",
         said.all(CLANG),
         _number(said, SLOT, 0, 15, 0),
-        said.value(PREFIX) or "",
+        prefix,
         _number(said, STACK, 8, 20, 16),
         _number(said, HEAP, 4, 20, 16),
         quarantine=_number(said, QUARANTINE, 0, 1 << 20, 0) if said.value(QUARANTINE) is not None else None,

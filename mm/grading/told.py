@@ -79,7 +79,7 @@ def as_form(sheet: Sheet, name: str, all_graded: Sequence[Graded]) -> dict[str, 
     """The form of JSON."""
     answers = [
         {
-            "answer": graded.name,
+            "answer": visible(graded.name),
             "points": graded.points,
             "of": len(_asked(sheet)),
             "refused": "\n".join(graded.refused) or None,

@@ -56,6 +56,13 @@ class Class(unittest.TestCase):
         with open(os.path.join(students, "eve.txt"), encoding="utf-8") as file:
             self.assertEqual(file.read(), "mine")
 
+    def test_a_name_that_is_no_text(self):
+        students = os.path.join(self.room, "odd")
+        os.makedirs(students)
+        write(students, "\udcff.asm", HALTS)
+        form = json.loads(mm("grade", self.sheet(), students, "--json").out.encode("ascii"))
+        self.assertEqual([row["answer"] for row in form["answers"]], ["\\xff"])
+
     def test_words_that_do_not_go_together(self):
         source = write(self.room, "a.asm", HALTS)
         self.assertIn("not both", mm("grade", self.sheet(), source, "--json", "--csv").err)
