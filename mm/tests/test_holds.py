@@ -14,7 +14,6 @@ from unittest import mock
 
 from mm.cc.clang import as_file, text_of
 from mm.console import Console
-from mm.main import Ended, _catch_signals
 from mm.shown import shown, visible
 from mm.status import Status, Stop
 from mm.tests.support import folder, mm, needs_program, path_of, write

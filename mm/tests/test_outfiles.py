@@ -10,7 +10,6 @@ import time
 import unittest
 from unittest import mock
 
-from mm.console import Console
 from mm.main import Ended, _catch_signals
 from mm.outfile import write_whole
 from mm.tests.support import folder, mm, needs_program, path_of, write
