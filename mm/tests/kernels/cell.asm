@@ -1,0 +1,18 @@
+; The pointer to the count is in the box too, which is not kept.
+; keeps 1048576/6,1048664/3
+.segment gate 6
+  .ptr rw count
+door: lip r7, -1
+  ld r7, r7, 0, any, keep
+  ldi r7, 0
+  jmp r6
+.segment call 4
+  jal r6, r5
+  halt
+.segment box 3
+  .ptr rw count
+.segment count 3
+  .int 0
+.thread 0 0 none xu call
+.reg 1 ptr rw box
+.reg 5 ptr eu door

@@ -1,0 +1,20 @@
+; It goes on where a number of its caller leads in its own code.
+; keeps 1048576/6,1048664/3
+.segment gate 6
+  .ptr rw count
+door: lip r7, -1
+  ld r7, r7, 0, any, keep
+  lip r8, 0
+  leab r8, r8, r2
+  ldi r7, 0
+  jmp r8
+.segment call 4
+  jal r6, r5
+  halt
+.segment box 3
+  .int 0
+.segment count 3
+  .int 0
+.thread 0 0 none xu call
+.reg 1 ptr rw box
+.reg 5 ptr eu door
