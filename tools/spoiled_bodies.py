@@ -161,6 +161,11 @@ BODIES = [
      '[ "$1" != explore ] || { ran "$@"; text "/^wrote /d"; told; }'),
     ("a kernel that leaks is kept", KEEPS,
      '[ "$1" != keeps ] || { ran "$@"; text "1s/ no$/ yes/; /^leak /d"; told; }'),
+    ("a kernel keeps that stores, enters, runs what may change or goes loose", KEEPS,
+     '[ "$1" != keeps ] || { ran "$@"; text "/^leak \\(store\\|enter\\|code\\|loose\\)/d"; '
+     'grep -q "^leak" "$room/out" || text "1s/ no$/ yes/"; told; }'),
+    ("a kernel has no slot but one", KEEPS,
+     '[ "$1" != keeps ] || { ran "$@"; text "/^slot [1-9]/d"; told; }'),
     ("a kernel that gives a pointer away at a fault is kept", KEEPS,
      '[ "$1" != keeps ] || { ran "$@"; grep -q "^leak [^f]" "$room/out" || text "1s/ no$/ yes/; /^leak /d"; told; }'),
     ("the first door of a kernel is left out", KEEPS,
