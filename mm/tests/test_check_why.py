@@ -8,7 +8,7 @@ from mm.formats.image import read_image
 from mm.machine.words import Permission, Pointer
 from mm.status import Status
 from mm.tests.support import folder, mm
-from mm.why.check import check
+from mm.why.check import check, is_below
 from mm.why.lines import WrongLine, read_lines
 from mm.why.shortest import Grants
 
@@ -74,6 +74,11 @@ RIGHT = [
 ]
 # What is changed in a right text, what the question is, and the number of the line that is refused.
 WRONG = [
+    (GATE_LINES, "2 group 1", "2 group 0", 1, COUNT, "write", 2),
+    (GATE_LINES, "3 group 1", "3 group 0", 0, COUNT, "write", 3),
+    (MADE_LINES, "2 group 3", "2 group 0", 0, BOX, "write", 2),
+    (BELOW_LINES, "4 group 1", "4 group 0", 0, COUNT + 8, "touch", 4),
+    (BELOW_LINES, f"4 group 1 {text('ro', 3, COUNT + 8)} below 3", f"4 group 1 {text('ro', 3, DOOR)} below 1", 1, DOOR, "touch", 4),
     (SERVED_LINES, "register 1 2", "register 0 2", 2, COUNT, "touch", 1),
     (SERVED_LINES, "register 1 2", "register 1 3", 2, COUNT, "touch", 1),
     (SERVED_LINES, "entered 1", "entered 2", 2, COUNT, "touch", 2),
@@ -98,6 +103,20 @@ WRONG = [
     (MADE_LINES, "2 group", "3 group", 3, BOX, "write", 2),
     (MADE_LINES, " made 1\n", " made 1", 3, BOX, "write", 2),
 ]
+
+
+class Below(unittest.TestCase):
+    def test_what_nobody_moves(self):
+        """Of an enter pointer and of a key nothing else is made; of others what is shorter, inside and weaker."""
+        for short in ("eu", "ep", "key"):
+            whole = Pointer.of_bits(bits(short, 6, DOOR))
+            self.assertTrue(is_below(whole, whole))
+            for made in (bits(short, 3, DOOR), bits("key", 6, DOOR), bits(short, 6, DOOR + 8)):
+                self.assertEqual(is_below(Pointer.of_bits(made), whole), made == whole.bits)
+        box = Pointer.of_bits(bits("rw", 6, COUNT))
+        for short, log, address, right in (("rw", 3, COUNT + 8, True), ("ro", 6, COUNT, True), ("key", 3, COUNT, True),
+                ("xu", 6, COUNT, False), ("rw", 7, COUNT, False), ("rw", 3, COUNT + 64, False)):
+            self.assertEqual(is_below(Pointer.of_bits(bits(short, log, address)), box), right)
 
 
 class Derivations(unittest.TestCase):
