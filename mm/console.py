@@ -70,6 +70,11 @@ class Console:
         return self.said.words
 
     @property
+    def file_words(self) -> list[str]:
+        """The words of a command that takes files alone, as its user knows these."""
+        return self.words
+
+    @property
     def program(self) -> Program:
         if self._program is None:
             from mm.machine.program import find_program

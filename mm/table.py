@@ -54,6 +54,9 @@ CLANG = Option("--clang", "C: a word for Clang, such as -DSIZE=3; may be repeate
 C = (LEVEL, HEAP, STACK, QUARANTINE, CLANG)
 SLOT = Option("--slot", "the slot and the group of the program's thread, 0 to 15; default: 0", "N")
 PREFIX = Option("--prefix", "what the names of the program's segments begin with", "NAME")
+DOORS_SHUT = Option("--doors-shut", "take each enter pointer for a key: what is left if the code behind doors gives nothing away")
+THREADS = Option("--threads", "how many threads of the kernel are looked at, 1 to 1000000; default: 100000", "N")
+KEEPS = Option("--keeps", "also show whether a kernel keeps these segments, such as gate,count", "LIST")
 STATES = Option("--states", "how many configurations are looked at, 1 to 1000000; else 100000", "N")
 PART = Option("--part", "memory, frames, pages, slots, or all for a testbench; default: memory (docs/HARDWARE.md)", "NAME")
 COUNT = Option("--count", "how many; default: 256", "N")
@@ -65,6 +68,12 @@ WITH_C = Option("--c", "take programs in C from other computers too (docs/SERVE.
 CSV = Option("--csv", "write CSV: a row for each answer")
 FEEDBACK = Option("--feedback", "also write what each student is shown into a file of this folder", "FOLDER")
 CHECK = Option("--check", "try the exercise itself with the answers and fakes that it names")
+SEGMENTS = """\
+SEGMENT is what the kernel keeps: its code, its data, its gates.
+    gate           a segment of the sources
+    gate_*         each segment with such a name (in a shell between quotes)
+    0x100100/3     the 2^3 bytes at an address, or at a name
+Without SEGMENT it tells which segments only doors lead to. docs/KEEPS.md says what an answer is worth."""
 RUNNING = (CYCLES, SCHEDULE, TURNS, NAMES)
 FILES = "FILE.."
 EXERCISES = "FILE may be a folder that has a folder or a file for each student. EXERCISE is lab-1 to lab-5 for a task of the first lab, 1.1 to 8.2 or 10.1 to 11.2 for an exercise of a lesson, or a file of your own (docs/course/GRADING.md)."
@@ -74,12 +83,13 @@ COMMANDS = (
     Command("run", FILES, "run sources, objects or an image, and show what came of it", (*RUNNING, JSON, PLAIN, *C)),
     Command("debug", FILES, "step through a run, forwards and back, with names and source lines", (SCHEDULE, TURNS, NAMES, *C)),
     Command("trace", FILES, "show what each turn did, with its instruction and names", (*RUNNING, JSON, *C)),
-    Command("view", FILES, "make a page for any browser, to step through a run turn by turn", (*RUNNING, FROM, AUDIT, OUTPUT, *C)),
+    Command("view", FILES, "make a page for any browser, to step through a run turn by turn", (*RUNNING, FROM, AUDIT, KEEPS, OUTPUT, *C)),
     Command("serve", "[FILE..]", "edit, run and look at programs in a browser, alone or with a class", (PORT, HOST, LESSON, TOKEN, WITH_C), least=0),
     Command("vcd", FILES, "make waves of a run, for GTKWave and other viewers", (*RUNNING, FROM, OUTPUT, *C)),
     Command("symbols", FILES, "list segments and labels with their addresses", (NAMES, JSON, *C)),
     Command("dis", "FILE", "show an image or an object word by word: address, word, instruction and name", (NAMES,), most=1),
-    Command("audit", FILES, "say what each group can read and write, whatever its code does", (GROUPS, NAMES, JSON, *C)),
+    Command("audit", FILES, "say what each group can read and write, whatever its code does", (GROUPS, DOORS_SHUT, NAMES, JSON, *C)),
+    Command("keeps", "FILE.. SEGMENT..", "say whether a kernel keeps its segments, whatever code its callers run", (THREADS, NAMES, JSON, *C), more=SEGMENTS),
     Command("explore", FILES, "say what a program can do under any schedule, with a shortest one for each finding", (STATES, NAMES, *C)),
     Command("why", "FILE.. GROUP WORD KIND", "how a group can touch or write a word: the pointers, one after the other", (NAMES, *C), least=4),
     Command("check-why", "IMAGE GROUP WORD KIND", "check a derivation of `mmachine why`, given on the standard input", least=4, most=4, module="check_why"),

@@ -2,7 +2,7 @@
 
 _mm() {
     local word=${COMP_WORDS[COMP_CWORD]} before=${COMP_WORDS[COMP_CWORD-1]} command='' at
-    local commands='run debug trace view serve vcd symbols dis audit why check-why explore holders sweep extract solo net save continue cc asm link migrate hex vectors grade lsp dap gen soak help'
+    local commands='run debug trace view serve vcd symbols dis audit keeps why check-why explore holders sweep extract solo net save continue cc asm link migrate hex vectors grade lsp dap gen soak help'
     COMPREPLY=()
     for ((at = 1; at < COMP_CWORD; at++)); do
         case ${COMP_WORDS[at]} in
@@ -14,7 +14,7 @@ _mm() {
     case $before in
         --program | --schedule | --names | --output | -s | -o) compopt -o default; return ;;
         --part) COMPREPLY=($(compgen -W 'memory frames pages slots all' -- "$word")); return ;;
-        --cycles | --states | --turns | --groups | --from | -n | -t | -g) return ;;
+        --cycles | --states | --threads | --turns | --groups | --from | --keeps | -n | -t | -g) return ;;
         --optimise | -O) COMPREPLY=($(compgen -W '0 1 2 3 s' -- "$word")); return ;;
         --heap | --stack | --quarantine | --clang | --slot | --prefix) return ;;
         --port | --host | --lesson | --token) return ;;
@@ -28,7 +28,7 @@ _mm() {
         case $command in
             run | solo | continue) options="$options --cycles --schedule --turns --names --json --plain --optimise --heap --stack --quarantine --clang" ;;
             trace) options="$options --cycles --schedule --turns --names --json --optimise --heap --stack --quarantine --clang" ;;
-            view) options="$options --cycles --schedule --turns --names --from --audit --output --optimise --heap --stack --quarantine --clang" ;;
+            view) options="$options --cycles --schedule --turns --names --from --audit --keeps --output --optimise --heap --stack --quarantine --clang" ;;
             serve) options="$options --port --host --lesson --token --c" ;;
             vcd) options="$options --cycles --schedule --turns --names --from --output --optimise --heap --stack --quarantine --clang" ;;
             debug) options="$options --schedule --turns --names --optimise --heap --stack --quarantine --clang" ;;
@@ -40,7 +40,8 @@ _mm() {
             grade) options="$options --json --csv --feedback --check --optimise --heap --stack --quarantine --clang" ;;
             dis) options="$options --names" ;;
             holders | why) options="$options --names --optimise --heap --stack --quarantine --clang" ;;
-            audit) options="$options --groups --names --json --optimise --heap --stack --quarantine --clang" ;;
+            audit) options="$options --groups --doors-shut --names --json --optimise --heap --stack --quarantine --clang" ;;
+            keeps) options="$options --threads --names --json --optimise --heap --stack --quarantine --clang" ;;
             sweep) options="$options --output --names --optimise --heap --stack --quarantine --clang" ;;
             save) options="$options --cycles --schedule --turns --output --optimise --heap --stack --quarantine --clang" ;;
             extract | link | migrate) options="$options --output --optimise --heap --stack --quarantine --clang" ;;

@@ -96,12 +96,26 @@ L5:
   ;@ var drawer 3 -
   ld r0, r0, 0, any, keep
 L6:
+  ldi r1, 0
+  ldi r2, 0
+  ldi r3, 0
+  ldi r4, 0
+  ldi r5, 0
+  ldi r6, 0
   ld r7, r15, 8, any, keep
   ld r8, r15, 16, any, keep
   ld r9, r15, 24, any, keep
   ld r10, r15, 32, any, keep
   ld r11, r15, 40, any, keep
   ld r14, r15, 48, any, keep
+  ldi r12, 0
+  st r15, r12, 0, any, keep
+  st r15, r12, 8, any, keep
+  st r15, r12, 16, any, keep
+  st r15, r12, 24, any, keep
+  st r15, r12, 32, any, keep
+  st r15, r12, 40, any, keep
+  st r15, r12, 48, any, keep
   leai r15, r15, 56
   jmp r14
 store_mm_key:
@@ -207,20 +221,36 @@ L19:
   ;@ line examples/c/store.c:29
   ;@ var value 4 s8
   ;@ var drawer 3 r0+r8
+  ld r12, r15, 8, any, keep
+  addi r1, r12, 0
+  ;@ var value 4 -
   lea r0, r0, r8
   ;@ var drawer 3 -
-  ld r13, r15, 8, any, keep
-  st r0, r13, 0, any, keep
-  ;@ var value 4 -
+  st r0, r1, 0, any, keep
   mov r0, r11
 L20:
   ;@ line examples/c/store.c:31
+  ldi r1, 0
+  ldi r2, 0
+  ldi r3, 0
+  ldi r4, 0
+  ldi r5, 0
+  ldi r6, 0
   ld r7, r15, 16, any, keep
   ld r8, r15, 24, any, keep
   ld r9, r15, 32, any, keep
   ld r10, r15, 40, any, keep
   ld r11, r15, 48, any, keep
   ld r14, r15, 56, any, keep
+  ldi r12, 0
+  st r15, r12, 0, any, keep
+  st r15, r12, 8, any, keep
+  st r15, r12, 16, any, keep
+  st r15, r12, 24, any, keep
+  st r15, r12, 32, any, keep
+  st r15, r12, 40, any, keep
+  st r15, r12, 48, any, keep
+  st r15, r12, 56, any, keep
   leai r15, r15, 64
   jmp r14
 store_mm_door_open_drawer:
@@ -266,7 +296,15 @@ L32:
   lip r14, 2
   br store_mm_key
 L30:
+  ldi r1, 0
+  ldi r2, 0
+  ldi r3, 0
+  ldi r4, 0
+  ldi r5, 0
+  ldi r6, 0
   ld r14, r15, 0, any, keep
+  ldi r12, 0
+  st r15, r12, 0, any, keep
   leai r15, r15, 8
   jmp r14
 P_0: .ptr rw store_used+4

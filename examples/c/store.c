@@ -26,7 +26,7 @@ long put_in(void *key, long value)
     long *drawer = drawer_of(key);
     if (!drawer)
         return -1;
-    *drawer = value;
+    *drawer = mm_number(value);
     return 0;
 }
 

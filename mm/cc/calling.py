@@ -2,9 +2,13 @@
 
 from __future__ import annotations
 
-
 from mm.cc.code import ARGUMENTS, FRAME, LINK, SCRATCH, SECOND, STACK, VARIADIC, Call, Op
 from mm.cc.emission import Emission, Source
+from mm.cc.modulenames import DOOR
+
+
+# So many words of a frame are cleared one by one; more of them in a loop.
+MOST_WORDS_WIPED = 16
 
 
 class Calling(Emission):
@@ -68,6 +72,14 @@ class Calling(Emission):
     def _ret(self, op: Op) -> None:
         frame = self.frame
         self.moves([(number, self.source(register)) for number, register in enumerate(op.uses())])
+        if self.wipes and frame.size:
+            if self.code.name.startswith(DOOR):
+                # What is cleared before the caller's registers come back makes no more cases of these (docs/KEEPS.md).
+                for register in range(len(op.uses()), VARIADIC + 1):
+                    self.put("ldi", f"r{register}", 0)
+            self.leave_nothing()
+            self.reg("jmp", LINK)
+            return
         if self.code.dynamic:
             self.reg("mov", STACK, FRAME)
         for register, at in frame.saved.items():
@@ -77,6 +89,38 @@ class Calling(Emission):
         elif frame.size:
             self.put("leai", f"r{STACK}", f"r{STACK}", frame.size)
         self.reg("jmp", LINK)
+
+    def leave_nothing(self) -> None:
+        """Takes back what was saved, clears all of the frame from the stack pointer on, and gives it up."""
+        frame, base = self.frame, STACK
+        if self.code.dynamic:
+            base = SECOND
+            self.reg("mov", SECOND, FRAME)
+        for register, at in frame.saved.items():
+            self.load(register, base, at)
+        if frame.aligned:
+            self.load(VARIADIC, base, frame.old)
+        self.put("ldi", f"r{SCRATCH}", 0)
+        if self.code.dynamic or frame.size > 8 * MOST_WORDS_WIPED:
+            self.put("leai", f"r{SECOND}", f"r{base}", frame.size)
+            self.wipe_up_to(SECOND)
+        else:
+            for at in range(0, frame.size, 8):
+                self.store(STACK, SCRATCH, at)
+            if not frame.aligned:
+                self.put("leai", f"r{STACK}", f"r{STACK}", frame.size)
+        if frame.aligned:
+            self.reg("mov", STACK, VARIADIC)
+
+    def wipe_up_to(self, end: int) -> None:
+        """Clears words, at least one, until the stack pointer is where a register points. The scratch register is 0, and
+        is it again as long as this goes on."""
+        label = self.here()
+        self.mark(label)
+        self.store(STACK, SCRATCH, 0)
+        self.put("leai", f"r{STACK}", f"r{STACK}", 8)
+        self.reg("eq", SCRATCH, STACK, end)
+        self.put("bz", f"r{SCRATCH}", target=label)
 
     def _call(self, op: Op) -> None:
         call = op.extra

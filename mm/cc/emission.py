@@ -21,8 +21,10 @@ class Emission:
     """Writes the text of a function."""
 
     def __init__(self, code: Code, allocation: Allocation, link: bool, fresh: Callable[[], str],
-                 naming: Naming) -> None:
+                 naming: Naming, wipes: bool = False) -> None:
         self.code, self.allocation, self.link, self.here, self.naming = code, allocation, link, fresh, naming
+        # Whether a function leaves nothing in its frame.
+        self.wipes = wipes
         self.frame = Frame(code, allocation, link)
         self.base = FRAME if code.dynamic else STACK
         self.blocks: list[TextBlock] = []

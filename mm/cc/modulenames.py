@@ -31,6 +31,11 @@ ASSEMBLER["__mm_event"] = ["mov r12, r0", "evt r0", "st r12, r0, 0, any, keep", 
                            "st r12, r2, 16, any, keep", "st r12, r3, 24, any, keep", "jmp r14"]
 # The stack from here on, where pointers to blocks of `malloc` are looked for.
 ASSEMBLER["__mm_stack"] = ["mov r0, r15", "jmp r14"]
+# A jump out of functions that leave nothing in their frames: what it leaves behind is cleared.
+WIPING = {"longjmp": [*ASSEMBLER["longjmp"][:6], "ld r13, r0, 48, any, keep", *ASSEMBLER["longjmp"][7:-1],
+                      "eq r12, r15, r13", "bnz r12, 5", "st r15, r12, 0, any, keep", "leai r15, r15, 8",
+                      "eq r12, r15, r13", "bz r12, -3", "jmp r14"]}
+WIPING["_longjmp"] = WIPING["longjmp"]
 ASSEMBLER["_setjmp"] = ASSEMBLER["setjmp"]
 ASSEMBLER["_longjmp"] = ASSEMBLER["longjmp"]
 

@@ -65,6 +65,9 @@ class Operations(Calls):
             return self.op(op, self.word(arguments[0]), self.word(arguments[1]))
         if op in ("isptr", "mov"):
             return self.op(op, self.word(arguments[0]))
+        if op == "number":
+            # Arithmetic leaves the bits, and no tag.
+            return self.op("addi", self.word(arguments[0]))
         if op == "self":
             return self.op("self")
         if op.startswith("ld_"):

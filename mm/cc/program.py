@@ -14,7 +14,7 @@ from mm.cc.data import Place, Words
 from mm.cc.failures import INSTEAD, INSTEAD_OF, Failure, Failures, Missing
 from mm.cc.ir import POINTER, ArrayType, BlockAddress, Function, Global, GlobalObject, IntType, Module, Number, Parts, Type
 from mm.cc.lines import FunctionNotes
-from mm.cc.modulenames import ASSEMBLER, DOOR, EMPTY, SHARED, ModuleNames, Segment
+from mm.cc.modulenames import ASSEMBLER, DOOR, EMPTY, SHARED, WIPING, ModuleNames, Segment
 from mm.cc.options import Options
 from mm.cc.pointers import Known
 from mm.cc.sequences import emit
@@ -63,6 +63,8 @@ class Program:
         self.foreign: set[str] = set()
         for module in modules:
             self._publish(module)
+        # A program with doors lends its stack to one caller after the other: its functions leave nothing there.
+        self.wipes = any(name.startswith(DOOR) for name in self.public)
 
     def _publish(self, module: Module) -> None:
         for name, function in module.functions.items():
@@ -124,7 +126,8 @@ class Program:
                 self.work.append((home, name))
             elif name in ASSEMBLER:
                 block = TextBlock(found)
-                block.lines = [Line(*_split(line), None, None) for line in ASSEMBLER[name]]
+                lines = WIPING.get(name, ASSEMBLER[name]) if self.wipes else ASSEMBLER[name]
+                block.lines = [Line(*_split(line), None, None) for line in lines]
                 self.texts.append([block])
         return found
 
@@ -303,7 +306,7 @@ class Program:
         for block in code.blocks:
             for op in block.body:
                 op.line = notes.place(op.line)
-        blocks = emit(code, self.fresh, notes, addressed)
+        blocks = emit(code, self.fresh, notes, addressed, self.wipes)
         self._note(blocks, function, notes)
         self.texts.append(blocks)
 

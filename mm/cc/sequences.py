@@ -181,16 +181,25 @@ class Sequences(Calling):
 
     def _set_stack_pointer(self, op: Op) -> None:
         assert op.a is not None
-        self.bring(STACK, self.source(op.a))
+        if not self.wipes:
+            self.bring(STACK, self.source(op.a))
+            return
+        end = self.here()
+        self.bring(SECOND, self.source(op.a))
+        self.reg("eq", SCRATCH, STACK, SECOND)
+        self.put("bnz", f"r{SCRATCH}", target=end)
+        self.wipe_up_to(SECOND)
+        self.mark(end)
 
 
-def emit(code: Code, fresh: Callable[[], str], naming: Naming, addressed: Iterable[str] = ()) -> list[TextBlock]:
+def emit(code: Code, fresh: Callable[[], str], naming: Naming, addressed: Iterable[str] = (),
+         wipes: bool = False) -> list[TextBlock]:
     """The text of a function. The way back is saved where its register is needed for something else. `addressed` are
-    labels that data name."""
+    labels that data name, and `wipes` says whether the frame is cleared at the end."""
     allocation = Allocation(code)
     link = bool(code.objects) or any(op.name == "call" for block in code.blocks for op in block.body)
-    made = Sequences(code, allocation, link, fresh, naming)
+    made = Sequences(code, allocation, link, fresh, naming, wipes)
     blocks = made.text()
     if made.used_link and not link:
-        blocks = Sequences(code, allocation, True, fresh, naming).text()
+        blocks = Sequences(code, allocation, True, fresh, naming, wipes).text()
     return tidy(blocks, addressed)

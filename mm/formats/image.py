@@ -37,6 +37,12 @@ class Page:
         bits = int.from_bytes(self.words[place * 8 : place * 8 + 8], "big")
         return Cell(Word(bits, bit_of(self.tags, place)), bit_of(self.full, place))
 
+    def tagged(self) -> Iterator[int]:
+        """The places of its pointers."""
+        for at, bits in enumerate(self.tags):
+            if bits:
+                yield from (8 * at + bit for bit in range(8) if bits >> bit & 1)
+
 
 @dataclass(frozen=True)
 class Image:
@@ -57,6 +63,14 @@ class Image:
         for number, page in sorted(self.pages.items()):
             for place in range(PAGE_WORDS):
                 yield number * PAGE_BYTES + place * 8, page.cell(place)
+
+    def pointers(self) -> Iterator[tuple[int, Pointer]]:
+        """The pointers in memory, each with the address of its cell."""
+        for number, page in sorted(self.pages.items()):
+            for place in page.tagged():
+                pointer = page.cell(place).word.pointer
+                if pointer:
+                    yield number * PAGE_BYTES + place * 8, pointer
 
     def slot(self, number: int) -> Optional[Slot]:
         return next((slot for slot in self.slots if slot.number == number), None)

@@ -48,7 +48,7 @@ def command_lines(command: Command) -> Iterator[str]:
     yield f"{command.summary[0].upper()}{command.summary[1:]}."
     if command.more:
         yield ""
-        yield command.more
+        yield from command.more.splitlines()
     if command.options:
         yield ""
         yield from option_lines(command.options)

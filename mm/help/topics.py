@@ -181,7 +181,7 @@ JSON_TOPIC = Topic(
     "json",
     "output for programs",
     """\
-`--json` of run, solo, continue, trace, symbols, audit and grade writes one JSON value in a documented form: docs/JSON.md.""",
+`--json` of run, solo, continue, trace, symbols, audit, keeps and grade writes one JSON value in a documented form: docs/JSON.md.""",
 )
 
 TOPICS = {

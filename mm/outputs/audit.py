@@ -36,7 +36,8 @@ class Audit:
     aparts: list[Apart] = field(default_factory=list)
 
 
-def _apart(words: list[str]) -> Apart:
+def read_apart(words: list[str]) -> Apart:
+    """What the words of a line say of groups that stand apart, or not."""
     if words[2] == "writer":
         return Apart(words[1], False, writer=int(words[3]), word=int(words[5], 16))
     return Apart(words[1], words[2] == "yes", handler=int(words[3]) if words[2] == "handler" else None)
@@ -50,7 +51,7 @@ def read_audit(text: str) -> Audit:
         if words[0] == "group":
             audit.reaches.append(Reach(int(words[1]), words[2] == "privileged"))
         elif words[0] == "apart":
-            audit.aparts.append(_apart(words))
+            audit.aparts.append(read_apart(words))
         else:
             segments = audit.reaches[-1].touch if words[0] == "touch" else audit.reaches[-1].write
             segments.append((int(words[1], 16), int(words[2])))

@@ -8,17 +8,22 @@ import sys
 from typing import Callable, Optional, Protocol, Sequence
 
 from mm.build import Built, Workshop, read_file, refused
+from mm.commands.keeps import USUAL, files_and_segments
 from mm.commands.net import LINK, numeric
 from mm.commands.ranges import range_of
 from mm.formats.image import read_image
 from mm.formats.schedule import read_schedule, words_of
 from mm.machine.program import find_program
 from mm.machine.words import Word
+from mm.names.kept import kept_of, word_of
 from mm.names.symbols import Symbols
 from mm.outputs.audit import Audit, read_audit
+from mm.outputs.keeps import read_keeps
 from mm.outputs.report import Report, read_report
 from mm.outputs.trace import Turn, numbered, read_turn, split_trace
-from mm.pictures import audit, card, gate, image, machine, net, permissions, pointer, reach, states, sweep, trace, tree, why
+from mm.pictures import (
+    audit, card, gate, image, keeps, machine, net, permissions, pointer, reach, states, sweep, trace, tree, why,
+)
 from mm.pictures.svg import Picture
 from mm.status import Refused, Stop, usage
 from mm.views.derivation import DONE
@@ -145,6 +150,14 @@ def _why(studio: Studio) -> Picture:
     return why.draw([] if text == NO else read_lines(text), ask, built, title)
 
 
+def _keeps(studio: Studio) -> Picture:
+    names, segments = files_and_segments(studio.names)
+    built = studio.workshop.build(names)
+    kept = kept_of(segments, built.symbols)
+    found = read_keeps(studio.answer(built, "keeps", built.path, str(USUAL), word_of(kept)))
+    return keeps.draw(found, built, kept, studio.title(f"What the kernel of {_name(names[0])} keeps"))
+
+
 def _net(studio: Studio) -> Picture:
     links, *names = studio.names
     nodes = [studio.workshop.build([name]) for name in names]
@@ -167,6 +180,7 @@ KINDS: dict[str, tuple[int, Callable[[Studio], Drawing]]] = {
     "gate": (1, _gate),
     "reach": (1, _reach),
     "why": (4, _why),
+    "keeps": (2, _keeps),
     "sweep": (2, _sweep),
     "net": (2, _net),
     "pointer": (1, _pointer),

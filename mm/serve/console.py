@@ -51,6 +51,10 @@ class Desk(Console):
         return self._built
 
     @property
+    def file_words(self) -> list[str]:
+        return [source.name for source in self.asked.sources]
+
+    @property
     def folder(self) -> str:
         """The folder for files in between; empty where there is none."""
         return self.shop.room.path

@@ -87,6 +87,7 @@ async function askPane(command) {
   busy("");
   if (!answer) return;
   if (answer.faults && answer.faults.length) takeFaults(answer);
+  if (answer.words) results.words[command] = answer.words;
   results.panes[command] = answer;
   results.stale.delete(command);
   if (results.pane === command) showPane();

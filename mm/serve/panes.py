@@ -6,12 +6,16 @@ import importlib
 from dataclasses import dataclass
 from typing import Any, Callable, Optional
 
+from mm.commands.behind import audit_of, behind_doors, names_of, patterns_of
+from mm.commands.keeps import answer_of, files_and_segments, threads_of
 from mm.formats.schedule import read_schedule
+from mm.names.kept import kept_of
 from mm.outputs.audit import read_audit
 from mm.outputs.exploration import Exploration, read_exploration
 from mm.outputs.trace import numbered, read_turn, split_trace
 from mm.pictures import audit as audit_picture
 from mm.pictures import image as image_picture
+from mm.pictures import keeps as keeps_picture
 from mm.pictures import reach as reach_picture
 from mm.pictures import trace as trace_picture
 from mm.pictures.svg import Picture
@@ -29,19 +33,21 @@ MOST_STATES, MOST_DRAWN = 100_000, 120
 @dataclass(frozen=True)
 class Pane:
     """A pane: the command that it shows, what it is called, what it says in a line, its picture, and its options that
-    have the number of configurations as their value."""
+    have the number of configurations as their value. `guess` gives the words where none are said."""
 
     command: str
     title: str
     says: str
     picture: Optional[Callable[[Desk], Optional[Picture]]] = None
     options: tuple[str, ...] = ()
+    guess: Optional[Callable[[Desk], list[str]]] = None
 
     @property
     def wants(self) -> str:
         """The words that the command wants beside the sources, as its help writes them; in brackets if it does
-        without."""
-        return BY_NAME[self.command].operands.replace("FILE..", "").strip()
+        without, or if they can be guessed."""
+        words = BY_NAME[self.command].operands.replace("FILE..", "").strip()
+        return f"[{words}]" if self.guess else words
 
     @property
     def needs(self) -> bool:
@@ -65,6 +71,19 @@ def _image(desk: Desk) -> Picture:
 
 def _reach(desk: Desk) -> Picture:
     return reach_picture.draw(desk.built, "Who points to what at the start")
+
+
+def _keeps(desk: Desk) -> Picture:
+    _, words = files_and_segments(desk.words)
+    kept = kept_of(words, desk.built.symbols)
+    found = answer_of(desk, desk.built, kept, threads_of(desk))
+    return keeps_picture.draw(found, desk.built, kept, "What the kernel keeps")
+
+
+def _behind(desk: Desk) -> list[str]:
+    """The segments that only doors lead to."""
+    behind = behind_doors(desk, desk.built, audit_of(desk, desk.built))
+    return patterns_of(desk.built, names_of(desk.built, behind))
 
 
 def _explored(desk: Desk) -> Optional[Picture]:
@@ -92,7 +111,14 @@ PANES = (
         picture=_explored,
         options=("--states",),
     ),
-    Pane("keeps", "Keeps", "whether a kernel keeps what it holds, whatever code its callers run"),
+    Pane(
+        "keeps",
+        "Keeps",
+        "whether a kernel keeps segments, whatever code its callers run",
+        picture=_keeps,
+        options=("--threads",),
+        guess=_behind,
+    ),
     Pane("why", "Why", "by what way a group can touch or write a word"),
     Pane("holders", "Holders", "who holds a pointer into a range", picture=_reach),
     Pane("symbols", "Map", "where segments and labels are", picture=_image),
@@ -124,7 +150,7 @@ def shown(desk: Desk, limits: Limits) -> Json:
         raise NotAllowed("there is no such pane", 404)
     if pane.needs and not asked.words:
         return {"wants": pane.wants}
-    words = list(asked.words) if pane.wants else []
+    words = list(asked.words) or (pane.guess(desk) if pane.guess else []) if pane.wants else []
     cycles = ["--cycles", str(min(limits.turns, asked.cycles or limits.turns))] if pane.command == "trace" else []
     desk.states = min(limits.states, MOST_STATES)
     options = [word for option in pane.options for word in (option, str(desk.states))]
@@ -134,6 +160,7 @@ def shown(desk: Desk, limits: Limits) -> Json:
     return {
         "lines": desk.lines,
         "notes": desk.notes,
+        "words": words,
         "picture": picture.svg() if picture else None,
         "schedules": schedules(desk) if pane.command == "explore" else [],
     }

@@ -1,7 +1,7 @@
 """Broken lines of `mm/cc`, each of which the tests must notice: a path, the text of a line, what is put into its place,
 and the module of tests that notices it."""
 
-VALUES, CLANG, CC, SAID = (f"mm.tests.test_cc{part}" for part in ("_values", "_clang", "", "_said"))
+VALUES, CLANG, CC, SAID, DOORS = (f"mm.tests.test_cc{part}" for part in ("_values", "_clang", "", "_said", "_doors"))
 BROKEN = (
     # Numbers.
     ("mm/cc/arithmetic.py", 'op, (a, b) = "lts" if op == "ltu" else op, distances', "a, b = distances", VALUES),
@@ -49,6 +49,17 @@ BROKEN = (
     ("mm/cc/runtime/allocate.c", "let_go(), at = find(count);", ";", CLANG),
     ("mm/cc/runtime/allocate.c", "__mm_heap[word] ^= maps[word];", "", CLANG),
     ("mm/cc/forms.py", "return [form for form in (SIGNED, ZEROED) if form in wanted]", "return list(wanted)", CLANG),
+    # Doors.
+    ("mm/cc/calling.py", "for at in range(0, frame.size, 8):", "for at in range(0, frame.size - 8, 8):", DOORS),
+    ("mm/cc/calling.py", "self.store(STACK, SCRATCH, 0)", "pass", DOORS),
+    ("mm/cc/sequences.py", "        self.wipe_up_to(SECOND)\n        self.mark(end)",
+     "        self.bring(STACK, self.source(op.a))\n        self.mark(end)", DOORS),
+    ("mm/cc/program.py", "lines = WIPING.get(name, ASSEMBLER[name]) if self.wipes else ASSEMBLER[name]",
+     "lines = ASSEMBLER[name]", DOORS),
+    ("mm/cc/operations.py", 'return self.op("addi", self.word(arguments[0]))', "return self.word(arguments[0])", DOORS),
+    ("mm/cc/handed.py", "return not (isinstance(type_, IntType) and type_.bits >= INT_BITS)", "return True", DOORS),
+    ("mm/cc/handed.py", " or self.tested & set(self.chain(value)):", ":", DOORS),
+    ("mm/cc/handed.py", "self.results[key], self.changed = given, True", "pass", DOORS),
     # The second reckoning.
     ("mm/cc/checked.py", 'self.emit("check", None, register, second)', "pass", VALUES),
     ("mm/cc/cache.py", "if hashlib.sha256(said).hexdigest().encode() != last:", "if False:", CLANG),

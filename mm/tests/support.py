@@ -107,4 +107,5 @@ def has(command: str, *words: str) -> bool:
 
 
 needs_log = unittest.skipUnless(has("log", "0"), "there is no built mmachine that has `log`")
+needs_keeps = unittest.skipUnless(has("keeps", "1", "8/3"), "there is no built mmachine that has `keeps`")
 needs_why = unittest.skipUnless(has("why", "0", "0", "touch"), "there is no built mmachine that has `why`")

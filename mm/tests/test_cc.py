@@ -27,6 +27,7 @@ EXAMPLES = (
     (("gate", "guest", "thief"), {0: "2 3 4 ", 1: "1 "}),
     (("store", "ann", "ben"), {0: "1234", 1: "77 -1 -1 -1"}),
     (("anns_store", "ann_alone", "bens_store", "ben_alone"), {0: "1234", 1: "77 -1 -1 -1"}),
+    (("pool", "tenant", "squatter"), {0: "1234 0 -1", 1: "-1 -1 -1 a number"}),
     (("producer", "consumer"), {0: "", 1: "guarded pointers in C\n"}),
     (("worker", "keeper"), {0: "100\n", 1: "slot 0 divides by zero: by 1 instead\nslot 0 calls: it goes on\n"
                                            "slot 0 has fault 3: it is ended\n"}),

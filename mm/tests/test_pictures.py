@@ -4,17 +4,20 @@ import re
 import unittest
 from xml.etree import ElementTree
 
+from mm.build import Built
 from mm.machine.words import BY_SHORT, Word
 from mm.names.symbols import Symbols
 from mm.machine.causes import Cause
 from mm.machine.isa import OPERATIONS
-from mm.pictures import card, machine, permissions, pointer, states, tree
+from mm.outputs.keeps import read_keeps
+from mm.pictures import card, keeps, machine, permissions, pointer, states, tree
 from mm.pictures.make import KINDS, drawn
 from mm.pictures.svg import COLOURS, SHOWN, SMALLEST, WIDTH, Picture
 from mm.source.letters import TEXT_DIRECTIVES
 from mm.source.wants import DIRECTIVES
 from mm.status import Stop
-from mm.tests.support import needs_program, needs_why, path_of, read
+from mm.tests.support import needs_keeps, needs_program, needs_why, path_of, read
+from mm.tests.test_keeps import GROUPS, NO, YES, counter
 from mm.tests.test_view import DEUTAN, PLAIN, PROTAN, contrast, distance
 
 SPACE = "{http://www.w3.org/2000/svg}"
@@ -123,6 +126,27 @@ class Drawn(unittest.TestCase):
                     self.assertIn(each, text)
         self.assertRaises(Stop, drawn, ["what"], "")
         self.assertRaises(Stop, drawn, ["trace"], "")
+
+    def test_what_is_kept(self):
+        """A door is an arrow into the box, and a leak one out of it."""
+        symbols, image = counter()
+        built = Built("counter", "", b"", image, symbols)
+        for text, arrows, words in (
+            (YES, 1, ("kept: gate, count", "reads gate, count", "writes count", "g1")),
+            (YES + GROUPS, 1, ("g0", "Outside of the box", "cons", "box")),
+            (NO, 9, ("leak", "k.asm:26: jmp r6", "slot 1, the kernel's own", "may get to a caller")),
+            ("keeps more\n", 0, ("the kernel has more than",)),
+        ):
+            svg = keeps.draw(read_keeps(text), built, [(0x1000C0, 6), (0x100108, 3)], "A kernel").svg()
+            shown = self.look(svg)
+            self.assertEqual(svg.count("<polygon"), arrows)
+            for word in words:
+                self.assertIn(word, shown)
+
+    @needs_keeps
+    def test_what_the_counter_keeps(self):
+        text = self.look(drawn(["keeps", path_of("examples", "counter.asm"), "gate", "count"], ""))
+        self.assertIn("What the kernel of counter keeps", text)
 
     @needs_why
     def test_why(self):

@@ -24,7 +24,7 @@ class Written(unittest.TestCase):
             option.name for option in GLOBAL_OPTIONS
         }
         self.assertEqual(
-            {f"--{name}" for name in re.findall(r"^\.It Fl (?:\w , )?F?l?l? ?Fl (?:Fl )?([a-z]+)", page, re.M)}
+            {f"--{name}" for name in re.findall(r"^\.It Fl (?:\w , )?F?l?l? ?Fl (?:Fl )?([a-z-]+)", page, re.M)}
             - options,
             set(),
         )

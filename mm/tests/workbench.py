@@ -225,12 +225,16 @@ class Bench:
                   self.run("results.marks.marks.length"))
 
     def panes(self) -> None:
-        """The audit, each schedule with a run of it, and the order of turns by clicks."""
+        """The audit, what a kernel keeps, each schedule with a run of it, and the order of turns by clicks."""
         self.choose("examples", "counter.asm")
         self.click("[data-pane='audit']")
         self.until("document.querySelector('#pane pre') && document.querySelector('#pane img')", "the audit")
         if "apart" not in self.text("#pane pre"):
             self.fail(f"the audit says {self.text('#pane pre')[:80]!r}")
+        self.click("[data-pane='keeps']")
+        self.until("results.panes.keeps && document.querySelector('#pane img')", "what the kernel keeps")
+        self.same("what keeps says", self.text("#pane pre").split("\n")[0], "yes: the kernel keeps gate and count")
+        self.same("segments that only doors lead to", self.run("document.getElementById('pane-words').value"), "gate count")
         self.choose("examples", "race.asm")
         self.click("[data-pane='explore']")
         self.until("document.querySelector('#pane [data-turns]')", "schedules")

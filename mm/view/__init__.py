@@ -8,4 +8,5 @@
     replay.js  the machine after any turn, with key frames
     timeline.js, turn.js, slots.js, memory.js, others.js
                what is shown
+    keeps.js   what a kernel keeps, on the pages that show it
     main.js    the cursor, the keys and the buttons"""

@@ -199,8 +199,8 @@ def reasons(window: Window, symbols: Symbols) -> Json:
     return found
 
 
-def window_form(built: Built, window: Window, order: str, audit: Optional[Audit] = None) -> Json:
-    """All that a page shows of a run."""
+def window_form(built: Built, window: Window, order: str, audit: Optional[Audit] = None, keeps: Json = None) -> Json:
+    """All that a page shows of a run. `keeps` is what it shows of a kernel."""
     begin = machine_form(window.machine)
     return {
         "form": FORM,
@@ -218,4 +218,5 @@ def window_form(built: Built, window: Window, order: str, audit: Optional[Audit]
         "steps": [step_form(cycle, step) for cycle, step in window.steps],
         "why": reasons(window, built.symbols),
         "audit": audit_form(audit, built.symbols) if audit else None,
+        **({"keeps": keeps} if keeps else {}),
     }

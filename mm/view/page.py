@@ -24,12 +24,17 @@ def data_text(data: Any) -> str:
     return text.replace("<", "\\u003c").replace(">", "\\u003e").replace("&", "\\u0026")
 
 
+# What only some pages show: the key of their data, and the script.
+FURTHER = {"keeps": "keeps.js"}
+
+
 def page_of(data: Any) -> str:
     """The page that shows a run."""
+    further = [name for key, name in FURTHER.items() if data.get(key)]
     parts = {
         "title": html.escape(data["title"]),
         "style": part("view.css"),
-        "scripts": "\n".join(part(name) for name in SCRIPTS),
+        "scripts": "\n".join(part(name) for name in (*SCRIPTS, *further)),
         "data": data_text(data),
     }
     return MARK.sub(lambda mark: parts[mark[1]], part("page.html"))

@@ -2,7 +2,7 @@
 
 from __future__ import annotations
 
-from typing import Any, Mapping, Optional
+from typing import Any, Mapping, Optional, Sequence
 
 from mm.machine.causes import Cause
 from mm.machine.words import Cell, Word
@@ -187,7 +187,8 @@ def symbols_form(symbols: Symbols) -> Json:
     return {"form": FORM, "symbols": rows}
 
 
-def _apart_form(apart: Apart, symbols: Symbols) -> Json:
+def apart_form(apart: Apart, symbols: Symbols) -> Json:
+    """Whether groups stand apart, and if not, why."""
     form: Json = {
         "groups": [int(group) for group in apart.groups.split(",")],
         "apart": apart.apart,
@@ -200,19 +201,20 @@ def _apart_form(apart: Apart, symbols: Symbols) -> Json:
     return form
 
 
+def segments_form(segments: Sequence[tuple[int, int]], symbols: Symbols) -> list[Json]:
+    """Segments by their bases and the logarithms of their lengths."""
+    return [{**address_form(base, symbols), "log": log} for base, log in segments]
+
+
 def audit_form(audit: Audit, symbols: Symbols) -> Json:
     """An audit: what each group can reach, and which stand apart."""
-
-    def segments(found: list[tuple[int, int]]) -> list[Json]:
-        return [{**address_form(base, symbols), "log": log} for base, log in found]
-
     groups = [
         {
             "group": reach.group,
             "privileged": reach.privileged,
-            "touch": segments(reach.touch),
-            "write": segments(reach.write),
+            "touch": segments_form(reach.touch, symbols),
+            "write": segments_form(reach.write, symbols),
         }
         for reach in audit.reaches
     ]
-    return {"form": FORM, "groups": groups, "apart": [_apart_form(apart, symbols) for apart in audit.aparts]}
+    return {"form": FORM, "groups": groups, "apart": [apart_form(apart, symbols) for apart in audit.aparts]}

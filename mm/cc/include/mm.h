@@ -31,6 +31,10 @@ void *mm_key(const void *pointer);
 int mm_can_read(const void *pointer, size_t n);
 int mm_can_write(const void *pointer, size_t n);
 
+/* A number: the bits of a word, without the tag that would make it a pointer. A `long` that comes through a door may be a
+   pointer with all its rights. */
+#define mm_number(word) __mm_op_number((long)(word))
+
 /* Words by their synchronisation bits: taking waits until a word is full and leaves it empty, putting the other way
    round. */
 long mm_take(const void *word);
@@ -59,6 +63,7 @@ void *__mm_op_subseg(const void *pointer, long log);
 void *__mm_op_restrict(const void *pointer, long permission);
 void *__mm_op_leab(const void *pointer, long offset);
 long __mm_op_isptr(const void *pointer);
+long __mm_op_number(long word);
 long __mm_op_eqw(const void *pointer, const void *other);
 long __mm_op_self(void);
 void __mm_op_out(long byte);

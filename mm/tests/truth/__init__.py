@@ -7,4 +7,5 @@ time, by nothing of `mm` itself.
     facts     what was compared, and what was wrong
     runs      the facts of run, solo, continue and trace
     others    the facts of audit, why, check-why, explore, symbols and debug
+    kept      the facts of keeps, and of audits with the doors shut
     restated  what `mm` and its page say of the machine by themselves, against the program"""

@@ -1,0 +1,227 @@
+"""Doors of programs in C: their stack holds nothing of the last caller, and words that come through them are numbers if they are made so."""
+
+import json
+import re
+import unittest
+
+from mm.cc.handed import warnings
+from mm.cc.options import Options
+from mm.cc.parse import read_module
+from mm.cc.program import Program
+from mm.cc.source import write_source
+from mm.tests.support import folder, mm, needs_program, write
+from mm.tests.test_cc_clang import needs_clang
+
+# A door with a frame that is cleared word by word, one with a longer frame, and one with an array whose length is known at the run alone.
+# All call a function that has a frame too.
+FRAMES = """
+declare i64 @__mm_op_isptr(ptr)
+define i64 @mm_door_few(i64 %n, ptr %p) {
+  %t = alloca [4 x ptr], align 8
+  %a = getelementptr inbounds [4 x ptr], ptr %t, i64 0, i64 %n
+  store ptr %p, ptr %a, align 8
+  %w = call i64 @inner(ptr %a)
+  ret i64 %w
+}
+define i64 @mm_door_many(i64 %n, ptr %p) {
+  %t = alloca [40 x ptr], align 8
+  %a = getelementptr inbounds [40 x ptr], ptr %t, i64 0, i64 %n
+  store ptr %p, ptr %a, align 8
+  %w = call i64 @inner(ptr %a)
+  ret i64 %w
+}
+define i64 @mm_door_any(i64 %n, ptr %p) {
+  %t = alloca ptr, i64 %n, align 8
+  store ptr %p, ptr %t, align 8
+  %w = call i64 @inner(ptr %t)
+  ret i64 %w
+}
+define i64 @__mm_log_of(i64 %size) {
+  ret i64 6
+}
+define internal i64 @inner(ptr %q) {
+  %o = alloca ptr, align 8
+  %p = load ptr, ptr %q, align 8
+  store ptr %p, ptr %o, align 8
+  %w = call i64 @test(ptr %o)
+  ret i64 %w
+}
+define internal i64 @test(ptr %q) {
+  %p = load ptr, ptr %q, align 8
+  %w = call i64 @__mm_op_isptr(ptr %p)
+  ret i64 %w
+}
+"""
+CALLER = """.segment caller 5
+  jal r14, r5
+  halt
+.segment mine 3
+  .int 7
+.thread 0 0 none xu caller
+.reg 0 int 3
+.reg 1 ptr rw mine
+.reg 5 ptr eu door_{}+16
+.reg 7 ptr rw mine
+.reg 9 ptr ro mine
+"""
+STORES = """
+@kept = global i64 0
+@other = global [4 x i32] zeroinitializer
+declare i64 @mm_door_away(i64)
+declare i64 @__mm_op_number(i64)
+declare i64 @__mm_op_isptr(ptr)
+define void @mm_door_in(i64 %first, i64 %second, i32 %third) {
+  SAID
+  ret void
+}
+define internal void @keep(ptr %at, i64 %x) {
+  store i64 %x, ptr %at, align 8
+  ret void
+}
+define internal i64 @same(i64 %x) {
+  ret i64 %x
+}
+"""
+IN = "comes through the door `in`, and is stored as it came: it may be a pointer, with all its rights"
+# What a door does, and what is warned of.
+SAID = (
+    ("store i64 %first, ptr @kept", [f"`first` {IN}"]),
+    ("%a = add i64 %first, 1\n  store i64 %a, ptr @kept", []),
+    ("%a = call i64 @__mm_op_number(i64 %first)\n  store i64 %a, ptr @kept", []),
+    ("%a = select i1 true, i64 0, i64 %second\n  store i64 %a, ptr @kept", [f"`second` {IN}"]),
+    ("%a = sext i32 %third to i64\n  store i64 %a, ptr @kept", [f"`third` {IN}"]),
+    ("%a = zext i32 %third to i64\n  store i64 %a, ptr @kept", []),
+    ("%a = trunc i64 %first to i32\n  store i32 %a, ptr @other", []),
+    ("%a = alloca i64\n  store i64 %first, ptr %a\n  %b = load i64, ptr %a\n  store i64 %b, ptr @kept", [f"`first` {IN}"]),
+    ("%a = alloca i64\n  store i64 %first, ptr %a\n  %b = load i64, ptr @kept\n  store i64 %b, ptr @kept", []),
+    ("call void @keep(ptr @kept, i64 %second)", [f"`second` {IN}"]),
+    ("%a = call i64 @same(i64 %first)\n  store i64 %a, ptr @kept", [f"`first` {IN}"]),
+    ("%a = inttoptr i64 %first to ptr\n  %b = call i64 @__mm_op_isptr(ptr %a)\n  store i64 %first, ptr @kept", []),
+    ("%a = call i64 @mm_door_away(i64 %first)", []),
+    ("%a = call i64 @mm_door_away(i64 %first)\n  store i64 %a, ptr @kept",
+     ["what the door `away` gives is stored as it came: it may be a pointer, with all its rights"]),
+)
+RESIDUE = """#include <mm.h>
+#include <setjmp.h>
+long door(long n, void *p) MM_DOOR(door);
+static jmp_buf buf;
+static __attribute__((noinline)) long deep(long n, void *p)
+{
+    void *t[40];
+    for (int i = 0; i < 40; i++)
+        t[i] = p;
+    if (n == 3)
+        longjmp(buf, 1);
+    return t[n] == p;
+}
+long door(long n, void *p)
+{
+    if (setjmp(buf))
+        return 7;
+    for (int j = 0; j < 2; j++) {
+        void *t[n * 20];
+        for (long i = 0; i < n * 20; i++)
+            t[i] = p;
+        if (t[n] != p)
+            return 0;
+    }
+    void *t[n];
+    for (long i = 0; i < n; i++)
+        t[i] = p;
+    return deep(n, t[0]) + (t[n - 1] == p);
+}
+"""
+VISITOR = """#include <mm.h>
+long door(long n, void *p) MM_DOOR(door);
+static long here;
+int main(void)
+{
+    long a = door(5, &here), b = door(3, &here);
+    __mm_op_out(48 + a);
+    __mm_op_out(48 + b);
+    return 0;
+}
+"""
+# A door whose parameter goes from one client to another.
+HOLDS = """#include <mm.h>
+void put(long x) MM_DOOR(put);
+long get(void) MM_DOOR(get);
+static long word;
+void put(long x) { word = MADE; }
+long get(void) { return word; }
+"""
+HANDS = """#include <mm.h>
+void put(long x) MM_DOOR(put);
+long get(void) MM_DOOR(get);
+static long mine;
+int main(void) { put((long)&mine); long x = get(); __mm_op_out(48 + __mm_op_isptr((void *)x) + 2 * (x == (long)&mine)); return 0; }
+"""
+
+
+def program_of(text: str) -> Program:
+    return Program([read_module(text, "test")], Options())
+
+
+def left(form):
+    """The words of the stack of doors that are not as they were."""
+    return [cell["name"] for cell in form["cells"] if "door_stack" in (cell["name"] or "")]
+
+
+class Warned(unittest.TestCase):
+    def test_what_is_stored_as_it_came(self):
+        for text, wanted in SAID:
+            program = program_of(STORES.replace("SAID", text))
+            write_source(program, Options())
+            told = [line.splitlines() for line in warnings(program)]
+            self.assertEqual([lines[0] for lines in told], [f"test: warning: {line}" for line in wanted], text)
+            for lines, line in zip(told, wanted):
+                name = re.match("`(.*?)`", line)
+                self.assertEqual(lines[1], f"    `mm_number({name[1] if name else '..'})` makes a number of it")
+
+    def test_programs_without_doors(self):
+        program = program_of("@kept = global i64 0\ndefine i64 @main(i64 %a) {\n  store i64 %a, ptr @kept\n  ret i64 0\n}")
+        write_source(program, Options())
+        self.assertEqual(list(warnings(program)), [])
+
+
+@needs_program
+class Left(unittest.TestCase):
+    def test_frames(self):
+        source = write_source(program_of(FRAMES), Options())
+        with folder() as room:
+            kernel = write(room, "kernel.asm", source)
+            for door in ("few", "many", "any"):
+                ended = mm("run", "--json", kernel, write(room, "caller.asm", CALLER.format(door)))
+                form = json.loads(ended.out)
+                slot = form["slots"][0]
+                held = {name: word["name"] for name, word in slot["registers"].items() if word["tagged"] and name != "r14"}
+                self.assertEqual((slot["state"], slot["registers"]["r0"]["integer"], left(form)), ("halted", 1, []), door)
+                self.assertEqual(held, {"r7": "mine", "r9": "mine"}, door)
+
+    @needs_clang
+    def test_jumps_and_arrays(self):
+        with folder() as room:
+            paths = write(room, "kernel.c", RESIDUE), write(room, "visitor.c", VISITOR)
+            for level in "012":
+                form = json.loads(mm("run", "--json", f"-O{level}", *paths).out)
+                self.assertEqual((form["groups"][0]["output"]["text"], left(form)), ("27", []), level)
+
+    @needs_clang
+    def test_numbers(self):
+        with folder() as room:
+            hands = write(room, "hands.c", HANDS)
+            for made, shown, warned in (("x", "3", True), ("mm_number(x)", "2", False)):
+                ended = mm("run", write(room, "holds.c", HOLDS.replace("MADE", made)), hands)
+                self.assertIn(f'output "{shown}"', ended.out)
+                self.assertEqual("holds.c:5:25: warning: `x` comes through the door `put`" in ended.err, warned, ended.err)
+
+    @needs_clang
+    def test_what_the_library_stores(self):
+        text = HOLDS.replace("word = MADE", "mm_put(&word, x)")
+        with folder() as room:
+            ended = mm("cc", write(room, "holds.c", text))
+        self.assertIn("holds.c:5:20: warning: `x` comes through the door `put`, and is handed to `mm_put`, which stores it:", ended.err)
+
+
+if __name__ == "__main__":
+    unittest.main()
