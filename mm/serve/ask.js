@@ -1,6 +1,6 @@
 // What is asked of the server: mistakes while one types, runs, panes, grades.
 
-const asking = { number: 0, check: null, timer: null };
+const asking = { number: 0, check: null, timer: null, pane: null };
 
 const say = (text) => { byId("checked").textContent = text; };
 
@@ -61,7 +61,7 @@ function cyclesAsked() {
 
 // Runs the sources, and shows the run; `place` is where the cursor goes.
 async function run(place = "end", cycles = cyclesAsked()) {
-  const number = ++asking.number;
+  const number = ++asking.number, { version } = state;
   busy("runs …");
   const answer = await ask("run", { cycles });
   if (!answer || number !== asking.number) return;
@@ -76,7 +76,7 @@ async function run(place = "end", cycles = cyclesAsked()) {
   }
   takeSlots(answer.slots);
   results.report = [...answer.report, ...(answer.notes.length ? ["", ...answer.notes] : [])];
-  results.stale = new Set(Object.keys(results.panes));
+  Object.assign(results, { ranAt: version, orderEnds: answer.order_ends });
   await showView(answer.view, place);
   if (!["view", "report"].includes(results.pane)) choosePane("view");
   else showPane();
@@ -86,11 +86,12 @@ async function run(place = "end", cycles = cyclesAsked()) {
 async function grade() {
   if (!state.exercise) return;
   busy("grades …");
+  const { version } = state;
   const answer = await ask("grade", { words: [state.exercise] });
   busy(answer && answer.refused ? answer.refused : "", Boolean(answer && answer.refused));
   if (!answer || answer.refused) return;
   if (answer.faults) takeFaults(answer);
-  results.marks = answer.marks ? answer : null;
+  results.marks = answer.marks ? { ...answer, version } : null;
   if (!answer.marks) return busy((answer.stopped || []).join("\n") || "there is a mistake: see the source", true);
   choosePane("exercise");
   showSide("right");
