@@ -8,6 +8,7 @@ import os
 import time
 from typing import Any, Optional
 
+from mm.tests import stumbles
 from mm.tests.browser import Browser, Failed
 from mm.tests.serving import Served
 from mm.tests.support import mm, read
@@ -63,6 +64,8 @@ class Bench:
         self.browser, self.served = browser, served
         self.wrong: list[str] = []
         self.steps = 0
+        # The servers that the page may ask.
+        self.hosts = [served.host]
 
     def fail(self, said: str) -> None:
         self.wrong.append(said)
@@ -98,7 +101,8 @@ class Bench:
 
     def press(self, name: str, ctrl: bool = False, shift: bool = False) -> None:
         """A key with its modifiers."""
-        codes = {"F4": 115, "F6": 117, "F8": 119, "F9": 120, "F10": 121, "Enter": 13, "Tab": 9, "Escape": 27}
+        codes = {"F4": 115, "F6": 117, "F8": 119, "F9": 120, "F10": 121, "Enter": 13, "Tab": 9, "Escape": 27,
+            "ArrowDown": 40}
         for kind in ("rawKeyDown", "keyUp"):
             self.browser.call("Input.dispatchKeyEvent", type=kind, key=name, code=name,
                 windowsVirtualKeyCode=codes[name], modifiers=2 * ctrl + 8 * shift)
@@ -331,9 +335,9 @@ class Bench:
         """Nothing was said on the console, and nothing was asked for but this server."""
         for text in self.browser.complaints:
             self.fail(f"the console says: {text}")
-        begin = f"http://{self.served.host}/"
+        ours = tuple(f"http://{host}/" for host in self.hosts)
         for url in self.browser.asked:
-            if not url.startswith((begin, "data:", "blob:", "about:")):
+            if not url.startswith((*ours, "data:", "blob:", "about:")):
                 self.fail(f"it asks for {url}")
 
 
@@ -367,6 +371,7 @@ def look(path: str, pictures: Optional[str]) -> tuple[int, list[str]]:
         two_at_once(bench, other)
         bench.names()
         bench.tab_order()
+        stumbles.all_of(bench)
         bench.show()
         bench.sizes(pictures)
         for each in (bench, other):
