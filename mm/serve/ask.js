@@ -54,9 +54,14 @@ async function check() {
   takeSlots(answer.slots);
 }
 
+// How many cycles are asked for; null is all of them.
 function cyclesAsked() {
-  const said = byId("cycles").value.trim(), number = Number(said);
-  return said && Number.isInteger(number) && number >= 0 ? number : null;
+  const field = byId("cycles"), said = field.value.trim(), number = Number(said), most = about.limits.cycles;
+  if (!said && !field.validity.badInput) return null;
+  if (said && Number.isInteger(number) && number >= 0 && number <= most) return number;
+  field.value = "";
+  tell(`the cycles are a number from 0 to ${most}: all are run`);
+  return null;
 }
 
 // Runs the sources, and shows the run; `place` is where the cursor goes.
@@ -76,7 +81,7 @@ async function run(place = "end", cycles = cyclesAsked()) {
   }
   takeSlots(answer.slots);
   results.report = [...answer.report, ...(answer.notes.length ? ["", ...answer.notes] : [])];
-  Object.assign(results, { ranAt: version, orderEnds: answer.order_ends });
+  Object.assign(results, { ranAt: version, orderEnds: answer.order_ends, notes: answer.notes });
   await showView(answer.view, place);
   if (!["view", "report"].includes(results.pane)) choosePane("view");
   else showPane();

@@ -1,7 +1,7 @@
 // Questions, what is said for a moment, and what was here before: a program that somebody wrote is kept in this browser
 // when another takes its place, and can be brought back.
 
-const BEFORE = `${KEPT}: before`, MOST_BEFORE = 8, SAID_FOR = 6000;
+const BEFORE = `${KEPT}: before`, MOST_BEFORE = 8, SAID_FOR = 4500;
 let toldTimer = null;
 
 // Something said at the foot of the page, for some seconds.

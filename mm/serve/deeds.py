@@ -13,6 +13,7 @@ from mm.console import Order
 from mm.commands.grade import exercises, sheet_of
 from mm.commands.running import Runner
 from mm.editing.faults import Fault, faults_of, of_clang
+from mm.formats.schedule import PORT
 from mm.grading.marks import marks
 from mm.log.taken import has_more, take_window
 from mm.names.numbers import counted
@@ -76,6 +77,16 @@ def order_ends(order: Order, report: Report) -> str:
     return counted(report.cycles, "turn") if going and not has_more(report, order) else ""
 
 
+def note_idle(desk: Desk, order: Order, report: Report) -> None:
+    """Tells of turns of an order at which nothing was done."""
+    if order.schedule is None or order.schedule.length != report.cycles:
+        return
+    ports = sum(count for item, count in order.schedule.runs if item >= PORT)
+    idle = report.cycles - ports - sum(slot.turns for slot in report.slots)
+    if idle > 0:
+        desk.tell(f"{counted(idle, 'turn')} of the order did nothing: a slot had halted, or there is no such slot")
+
+
 def run(desk: Desk, limits: Limits) -> Json:
     """A run: its report, and the page that `mm view` makes of it."""
     asked, built, order = desk.asked, desk.built, desk.order()
@@ -85,6 +96,7 @@ def run(desk: Desk, limits: Limits) -> Json:
     window = take_window(desk, built, order, cycles, asked.first, limits.turns)
     audit = read_audit(desk.ask(["grants", built.path], [built.file]).text)
     desk.note_order(built, order)
+    note_idle(desk, order, whole.report)
     memory, speller = Memory.after(built.image, whole.report), Speller(built.symbols)
     view = ReportView(whole.report, memory, speller, desk.style, whole.waits, whole.faults)
     return {

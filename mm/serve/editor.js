@@ -129,8 +129,8 @@ const caretLine = () => linesOf(byId("text").value.slice(0, byId("text").selecti
 function showMarks() {
   const here = caretLine(), under = [], over = [], lines = ink.lines, top = (line) =>
     `top:calc(.3rem + ${line - 1} * var(--line))`;
-  const beside = (line, column, kind, ...said) => over.push(el("div", { class: "row",
-    style: `${top(line)};left:calc(.6ch + ${column}ch)` }, el("div", { class: kind }, said)));
+  const beside = (line, column, kind, ...said) => over.push(el("div", { class: `row of-${kind}`,
+    style: `${top(line)};left:calc(.6ch + ${column}ch)` }, el("div", { class: kind }, ...said)));
   for (const [kind, place] of [["at", state.done], ["now", state.now]]) {
     if (place && place.file === file().name) under.push(el("div", { class: kind, style: top(place.line) }));
   }

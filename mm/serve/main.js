@@ -73,7 +73,7 @@ function showAll() {
   showText();
   showTurns();
   showGrade();
-  Object.assign(results, { report: null, panes: {}, words: {}, marks: null, orderEnds: 0 });
+  Object.assign(results, { report: null, panes: {}, words: {}, marks: null, orderEnds: "", notes: [] });
   Object.assign(state, { now: null, done: null, stands: null, faults: [], slots: [] });
   view.ready = false;
   newFrame(null);

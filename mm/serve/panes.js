@@ -1,6 +1,6 @@
 // What came of it, in panes: the run, its report, what commands of `mm` say of the program, and the lesson or exercise.
 
-const results = { pane: "view", report: null, ranAt: 0, orderEnds: 0, panes: {}, words: {}, marks: null, lesson: null };
+const results = { pane: "view", report: null, ranAt: 0, orderEnds: "", notes: [], panes: {}, words: {}, marks: null, lesson: null };
 
 // All panes: name, title, and what it shows.
 function panesThere() {
@@ -38,7 +38,9 @@ function showNotices() {
     found.push([`The run ends here because your order of turns ends, after ${results.orderEnds}.`, "Round robin",
       () => setTurns("")]);
   }
+  if (!older && ran) found.push(...results.notes.map((note) => [note]));
   byId("notices").replaceChildren(...found.map(([text, label, act]) => {
+    if (!act) return el("p", { class: "notes" }, text);
     const button = el("button", { type: "button" }, label);
     button.addEventListener("click", act);
     return el("p", { class: "notes" }, text, " ", button);
@@ -198,5 +200,5 @@ function exercisePane() {
     el("p", { class: "row" }, el("button", { type: "button", class: "main", "data-grade": "1" }, "Grade"),
       exercise.start ? el("button", { type: "button", "data-start": "1" }, "Take its beginning into the editor") : null),
     el("p", { class: "soft" }, "Where the text names a command, the button of that name here does it: mm run is Run, mm grade"
-      + " is Grade. Copies and editors are not needed: you write at the left."), box];
+      + " is Grade, mm debug is step and back, and a click on a register takes its word apart. You write at the left."), box];
 }

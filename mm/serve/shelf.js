@@ -21,7 +21,7 @@ async function takeExample(name) {
   const found = [...about.shelf.examples, ...about.shelf.c].find((item) => item.name === name);
   if (!found || !(await mayReplace(name))) return;
   takeProgram(found.files, found.turns, state.exercise);
-  tell(`${name} is in the editor${found.turns ? "; its own order of turns is below Order of turns" : ""}`);
+  tell(`${name} is in the editor${found.turns ? ", in round robin: Order of turns offers its own order" : ""}`);
   showSide("left");
   byId("text").focus();
 }

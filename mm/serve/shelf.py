@@ -138,11 +138,11 @@ FOLDERS = re.compile(r"(?<![\w/])(?:[\w.]+/)+(?=[\w-]+\.\w+)")
 
 def meanings() -> dict[str, str]:
     """What each kind of line of an exercise asks for, as the page on grading says it."""
-    path, found = os.path.join(COURSE, "GRADING.md"), {}
+    path, found = os.path.join(COURSE, "GRADING.md"), dict[str, str]()
     for row in ROW.finditer(read(path)) if os.path.isfile(path) else ():
         form, meaning = (cell.strip() for cell in re.split(r"(?<!\\)\|", row[1])[:2])
-        for kind in re.findall(r"`(\w+)", form):
-            found[kind] = spans(meaning.replace("\\|", "|"))
+        for each in re.findall(r"`(\w[^`]*)`", form):
+            found.setdefault(each.split()[0], spans(f"`{each}`: {meaning}".replace("\\|", "|")))
     return found
 
 

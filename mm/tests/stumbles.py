@@ -45,6 +45,8 @@ def messages(bench: Bench) -> None:
         bench.fail(f"the message of line 42 is {off:.1f} lines off, and {room:.0f} from the end of its text")
     bench.caret(42)
     bench.until("document.querySelector('#over .said')", "hints at a line far down")
+    hints = bench.run("[...document.querySelectorAll('#over .said > div')].map((it) => it.textContent)")
+    bench.same("the hints", hints, ["→ do you mean `out`?"])
     _, _, below = bench.run(BESIDE.format(kind=".said", line=42))
     if not -0.1 < below < 0.5:
         bench.fail(f"the hints of line 42 are {below:.1f} lines below it")
@@ -144,6 +146,10 @@ def order(bench: Bench) -> None:
     bench.same("the run in its own order", bench.run("inFrame().shown.TURNS.length"), 6)
     if "your order of turns ends, after 6 turns" not in bench.text("#notices"):
         bench.fail(f"a run that ends with its order says {bench.text('#notices')!r}")
+    bench.run("results.report = null; setTurns('0*3 7'); 1")
+    bench.until("results.report && view.ready", "a turn of a slot that is not there")
+    if "did nothing" not in bench.text("#notices"):
+        bench.fail(f"a turn of a slot that is not there says {bench.text('#notices')!r}")
     bench.type(OWN)
     bench.same("the order after another program", bench.run("state.turns"), "")
     bench.press_run()
@@ -264,7 +270,7 @@ def exercises(bench: Bench) -> None:
     """A check has a word of explanation; a grade is marked when another program is there; a lesson has its pictures."""
     bench.choose("exercises", "lab-2")
     shown = bench.text("#pane")
-    for said, there in (("at least two of them", True), ("mm grade lab-2", False)):
+    for said, there in (("executes SLOT OPERATION..: the slot", True), ("mm grade lab-2", False)):
         bench.same(f"{said!r} in an exercise", said in shown, there)
     bench.same("the button that grades", bench.text("#grade"), "Grade lab-2")
     bench.click("#grade")
