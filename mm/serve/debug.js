@@ -77,8 +77,8 @@ function moved() {
   if (shown && shown.file === file().name) reveal(shown.line);
 }
 
-// Whether a run stops after so many turns: before the turn of a line with a break, or after one that faults. A slot that
-// waits at its line meets a break once.
+// Whether a run stops after so many turns: before the turn of a line with a break, or after one that faults. A slot
+// that waits at its line meets a break once.
 function stops(after) {
   const { TURNS } = inFrame().shown, next = TURNS[after], place = next ? placeOf(next.fetch) : null;
   if (after && TURNS[after - 1].fault) return true;
@@ -94,7 +94,7 @@ function waited(at) {
   return false;
 }
 
-// The next place, in a direction, that passes a test; the end or the start of the run where none does, and that is said.
+// The next place, in a direction, that passes a test; the end or the start of the run where none does, which is said.
 function search(way, test, none) {
   const { TURNS, cursor } = inFrame().shown;
   for (let at = cursor.place + way; at >= 0 && at <= TURNS.length; at += way) if (test(at)) return at;
@@ -115,8 +115,9 @@ function toCaret() {
   const { cursor } = inFrame().shown, line = caretLine(), turns = turnsOf(file().name, line);
   const found = turns.find((at) => at > cursor.place);
   if (found === undefined) {
-    tell(turns.length ? `line ${line} has no turn after this one: ◂ break and back lead to those before`
-      : carriedOut(line) ? `this run has no turn at line ${line}` : `line ${line} has no instruction: no turn is there`);
+    tell(turns.length ? `line ${line} has no turn after this one, but before it`
+      : carriedOut(line) ? `this run has no turn at line ${line}`
+        : `line ${line} has no instruction: no turn is there`);
   }
   return found ?? cursor.place;
 }

@@ -150,7 +150,8 @@ def _done(desk: Desk, limits: Limits) -> Json:
         return DEEDS.get(desk.asked.deed, panes.shown)(desk, limits)
     except Refused as refused:
         datas = {source.name: source.data for source in desk.asked.sources}
-        return {"faults": [fault_form(fault) for fault in faults_of(refused, datas)], "stopped": for_page(refused.lines)}
+        faults = [fault_form(fault) for fault in faults_of(refused, datas)]
+        return {"faults": faults, "stopped": for_page(refused.lines)}
     except NotAllowed as no:
         return {"refused": str(no)}
     except Stop as stop:

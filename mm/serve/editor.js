@@ -134,6 +134,7 @@ function showMarks() {
   for (const [kind, place] of [["at", state.done], ["now", state.now]]) {
     if (place && place.file === file().name) under.push(el("div", { class: kind, style: top(place.line) }));
   }
+  for (const { line } of leaksOf(file().name)) under.push(el("div", { class: "leak", style: top(line) }));
   for (const fault of state.faults.filter((each) => each.file === file().name)) {
     const line = lines[fault.line - 1] || "", from = columnIn(line, fault.from), to = Math.max(from + 1, columnIn(line,
       fault.to));

@@ -104,8 +104,8 @@ function onTabKey(event) {
 
 const CLICKS = {
   run: () => run(), grade, take: () => byId("examples").value && takeExample(byId("examples").value),
-  before: openBefore, "its-turns": () => setTurns(state.offered), "keys-of-run": openKeysOfRun, open: () => byId("chosen").click(), save: saveFile, link: showLink, add: addFile,
-    rename: renameFile,
+  before: openBefore, "its-turns": () => setTurns(state.offered), "keys-of-run": openKeysOfRun,
+  open: () => byId("chosen").click(), save: saveFile, link: showLink, add: addFile, rename: renameFile,
   remove: removeFile, smaller: () => setSize(-1), larger: () => setSize(1), keys: openHelp, "to-left": () =>
     showSide("left"),
   "to-right": () => showSide("right"), "no-turns": () => setTurns(""),

@@ -1,6 +1,7 @@
 // What came of it, in panes: the run, its report, what commands of `mm` say of the program, and the lesson or exercise.
 
-const results = { pane: "view", report: null, ranAt: 0, orderEnds: "", notes: [], panes: {}, words: {}, marks: null, lesson: null };
+const results = { pane: "view", report: null, ranAt: 0, orderEnds: "", notes: [], panes: {}, words: {}, marks: null,
+  lesson: null };
 
 // All panes: name, title, and what it shows.
 function panesThere() {
@@ -69,18 +70,28 @@ const LINE_OF = /^(\s*)([\w -]+?\.(?:asm|c)):(\d+)(?=:)/;
 // Lines as they are, but a line of a source here is a button that goes to it.
 function linked(lines) {
   return lines.flatMap((line) => {
-    const found = LINE_OF.exec(line), name = found && state.files.some((each) => each.name === found[2]) ? found[2] : null;
-    if (!name) return [`${line}\n`];
+    const found = LINE_OF.exec(line), name = found && found[2];
+    if (!state.files.some((each) => each.name === name)) return [`${line}\n`];
     return [found[1], el("button", { type: "button", class: "goto", "data-file": name, "data-line": found[3] },
       `${name}:${found[3]}`), `${line.slice(found[0].length)}\n`];
   });
 }
 
+// The lines of a source at which a kernel gives something away, as Keeps has said of this very program.
+function leaksOf(name) {
+  const made = results.panes.keeps, now = made && made.head && !made.good && made.version === state.version;
+  const found = now ? made.lines.map((line) => LINE_OF.exec(line)).filter(Boolean) : [];
+  return found.filter(([, , file]) => file === name).map(([, , , line]) => ({ line: Number(line) }));
+}
+
 // The groups of the threads here, as a question can name them.
 function groupsHere() {
-  const found = state.files.flatMap(({ text }) => [...text.matchAll(/^[^;\n]*\.thread\s+\d+\s+(\d+)/gm)].map((it) => it[1]));
+  const found = state.files.flatMap(({ text }) => [...text.matchAll(/^[^;\n]*\.thread\s+\d+\s+(\d+)/gm)])
+    .map(([, group]) => group);
   return [...new Set(found.length ? found : state.slots.map(String))].sort((a, b) => a - b);
 }
+
+const wordsIn = (text) => text.trim().split(/\s+/).filter(Boolean);
 
 // A field of a question: a list to choose from, or a line for a name, with the names there are.
 function fieldOf([label, choices], value, only) {
@@ -101,17 +112,17 @@ function questionOf(command, fields, example) {
     made.map(([, label]) => label), el("button", { type: "submit" }, "Ask"));
   form.addEventListener("submit", (event) => {
     event.preventDefault();
-    const words = made.flatMap(([field]) => field.value.trim().split(/\s+/).filter(Boolean)), guesses = isGuessed(command);
-    missing.textContent = words.length < fields.length && !guesses ? `Say a ${fields.find(([, kind]) => kind === "name")[0]}`
-      + ": choose one of the names below." : "";
+    const words = made.flatMap(([field]) => wordsIn(field.value)), [what] = fields.find(([, kind]) => kind === "name");
+    const few = words.length < fields.length && !isGuessed(command);
+    missing.textContent = few ? `Say a ${what}: choose one of the names below.` : "";
     if (missing.textContent) return line.focus();
     results.words[command] = words.length ? words : undefined;
     askPane(command);
   });
   const names = [...allNames().keys()].map((name) => el("button", { type: "button", "data-name": name }, name));
   names.forEach((button) => button.addEventListener("click", () => {
-    line.value = isGuessed(command) ? [...new Set([...line.value.split(/\s+/).filter(Boolean), button.dataset.name])].join(" ")
-      : button.dataset.name;
+    const { name } = button.dataset;
+    line.value = isGuessed(command) ? [...new Set([...wordsIn(line.value), name])].join(" ") : name;
     line.focus();
   }));
   return [form, missing, names.length ? el("p", { class: "names" }, "names here: ", names) : null,
@@ -150,8 +161,8 @@ function answerPane(made) {
   }
   const lines = [...(made.lines || []), ...(made.notes || [])], text = lines.length ? el("pre", { tabindex: 0 },
     linked(lines)) : null;
-  const picture = made.picture ? el("img", { src: `data:image/svg+xml;charset=utf-8,${encodeURIComponent(made.picture)}`,
-    alt: "A picture of the same" }) : null;
+  const picture = made.picture ? el("img", { alt: "A picture of the same",
+    src: `data:image/svg+xml;charset=utf-8,${encodeURIComponent(made.picture)}` }) : null;
   return [...parts, ...(made.head ? [text, picture] : [picture, text])].filter(Boolean);
 }
 
@@ -167,6 +178,7 @@ async function askPane(command) {
   if (!answer) return;
   if (answer.faults && answer.faults.length) takeFaults(answer);
   results.panes[command] = { ...answer, version };
+  if (command === "keeps") showMarks();
   if (results.pane === command) showPane();
 }
 
@@ -198,7 +210,8 @@ function exercisePane() {
       why === undefined ? null : el("b", {}, why === null ? "yes" : "no"), el("code", {}, text),
       why ? el("div", {}, why) : null, meaning(text)))),
     el("p", { class: "row" }, el("button", { type: "button", class: "main", "data-grade": "1" }, "Grade"),
-      exercise.start ? el("button", { type: "button", "data-start": "1" }, "Take its beginning into the editor") : null),
-    el("p", { class: "soft" }, "Where the text names a command, the button of that name here does it: mm run is Run, mm grade"
-      + " is Grade, mm debug is step and back, and a click on a register takes its word apart. You write at the left."), box];
+      exercise.start ? el("button", { type: "button", "data-start": "1" }, "Take its beginning into the editor")
+        : null),
+    el("p", { class: "soft" }, "Where the text names a command, a button does it here: mm run is Run, mm grade is Grade, mm"
+      + " debug is step and back, and a click on a register takes its word apart. You write at the left."), box];
 }

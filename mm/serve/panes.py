@@ -114,7 +114,7 @@ PANES = (
         options=("--threads",),
         guess=_behind,
         fields=(("segments", "name"),),
-        example="gate count asks whether a kernel keeps these two; with no name, those that only doors lead to are asked for",
+        example="gate count asks whether a kernel keeps these two; with no name, those that only doors lead to",
     ),
     Pane(
         "why",

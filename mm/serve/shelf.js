@@ -8,7 +8,8 @@ function fillShelf() {
   byId("examples").replaceChildren(option("", "Example …"), ...[group("Assembly", examples.map(({ name, title }) =>
     option(name, `${name}: ${title}`))),
     group("C", c.map(({ name, title }) => option(name, `${name}: ${title}`)))].filter(Boolean));
-  byId("lessons").replaceChildren(option("", "Lesson …"), ...lessons.map(({ number, title }) => option(number, title)));
+  byId("lessons").replaceChildren(option("", "Lesson …"), ...lessons.map(({ number, title }) => option(number,
+    title)));
   byId("before").hidden = !programsBefore().length;
   byId("exercises").replaceChildren(option("", "Exercise …"), ...exercises.map(({ name, title }) => option(name,
     `${name}: ${title}`)));

@@ -6,9 +6,11 @@ import re
 from typing import Iterable
 
 # Lines that tell how a command is typed, and the beginnings and ends of lines that do.
-TYPED = re.compile(r"^\s*(?:usage: mm |`mm help )|`info symbols`")
+TYPED = re.compile(r"^\s*(?:usage: mm |`mm help )")
 BEGINNING = re.compile(r"^mm: (?:(?:why|holders|keeps|audit|explore|symbols|trace|note): )?")
-END = re.compile(r": `mm save` and `mm continue` make a longer one of two$|; (?:`info symbols` and )?`mm symbols` list\w* the names$")
+END = re.compile(
+    r": `mm save` and `mm continue` make a longer one of two$|; `info symbols` and `mm symbols` list the names$"
+)
 
 
 def for_page(lines: Iterable[str]) -> list[str]:

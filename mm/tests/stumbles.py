@@ -32,7 +32,8 @@ CARET_SEEN = """(() => { const line = document.getElementById('ink').children[ca
   const box = document.getElementById('editor').getBoundingClientRect();
   return line.top >= box.top - 1 && line.bottom <= box.bottom + 1; })()"""
 TIMELINE = """(() => { const inside = frame().contentDocument.getElementById('timeline').getBoundingClientRect();
-  const there = frame().getBoundingClientRect(); return [inside.width > 100, there.top + inside.bottom <= innerHeight]; })()"""
+  const { top } = frame().getBoundingClientRect();
+  return [inside.width > 100, top + inside.bottom <= innerHeight]; })()"""
 
 
 def messages(bench: Bench) -> None:
@@ -114,7 +115,7 @@ def links(bench: Bench) -> None:
     bench.type(OWN + "; more\n")
     bench.same("the address after a letter", bench.run("location.hash"), "")
     bench.browser.call("Page.reload")
-    bench.until("document.documentElement.dataset.ready === '1' && file().text.endsWith('; more\\n')", "what was written")
+    bench.until("document.documentElement.dataset.ready === '1' && file().text.endsWith('; more\\n')", "what I wrote")
     bench.run("Object.defineProperty(navigator, 'clipboard', { value: undefined, configurable: true }); 1")
     bench.click("#link")
     bench.until("document.querySelector('#help pre')", "a link")
@@ -184,7 +185,6 @@ def projector(bench: Bench) -> None:
     bench.browser.size(1280, 720)
     bench.run("setSize(1); setSize(1); setSize(1); 1")
     bench.browser.drawn()
-    bench.run("document.getElementById('run').scrollIntoView({ block: 'nearest' }); 1")
     bench.same("Run in the window", bench.run("(({ top, bottom }) => top >= 0 && bottom <= innerHeight)"
         "(document.getElementById('run').getBoundingClientRect())"), True)
     bench.same("the timeline in the window", bench.run(TIMELINE), [True, True])
@@ -251,6 +251,7 @@ def keeps(bench: Bench) -> None:
     bench.until("document.querySelector('#pane .answer.no') && !document.querySelector('#notices button')", "a leak")
     bench.same("the answer is first", bench.run(
         "document.querySelector('#pane .answer').compareDocumentPosition(document.querySelector('#pane img')) & 4"), 4)
+    bench.same("the line of a leak in the source", bench.run("document.querySelectorAll('#under .leak').length"), 1)
     bench.click("#pane .goto")
     bench.same("the line of a leak", bench.run("linesOf(file().text)[caretLine() - 1].trim()"), "jmp r6")
     bench.run("window.scrollTo(0, 0); 1")
@@ -258,7 +259,7 @@ def keeps(bench: Bench) -> None:
     bench.click("[data-pane='audit']")
     bench.click("[data-pane='keeps']")
     bench.until("document.querySelector('#pane .answer')", "another kernel")
-    bench.same("the segments of another kernel", bench.run("document.getElementById('pane-words').value"), "gate account")
+    bench.same("segments of another kernel", bench.run("document.getElementById('pane-words').value"), "gate account")
     bench.example("hello.asm")
     bench.click("[data-pane='keeps']")
     bench.until("document.querySelector('#pane .notes')", "a program without doors")
@@ -299,7 +300,8 @@ def one_list_of_keys(bench: Bench) -> None:
     """There is one button Keys, and it leads to those of the run too."""
     bench.type(OWN)
     bench.press_run()
-    bench.same("a second button Keys", bench.run("frame().contentDocument.getElementById('keys').checkVisibility()"), False)
+    there = bench.run("frame().contentDocument.getElementById('keys').checkVisibility()")
+    bench.same("a second button Keys", there, False)
     bench.click("#keys")
     bench.click("#keys-of-run")
     bench.same("the keys of the run", bench.run("frame().contentDocument.getElementById('help').open"), True)

@@ -252,7 +252,8 @@ class Bench:
         self.click("[data-pane='keeps']")
         self.until("results.panes.keeps && document.querySelector('#pane img')", "what the kernel keeps")
         self.same("what keeps says", self.text("#pane .answer"), "yes: the kernel keeps gate and count")
-        self.same("segments that only doors lead to", self.run("document.getElementById('pane-words').value"), "gate count")
+        guessed = self.run("document.getElementById('pane-words').value")
+        self.same("segments that only doors lead to", guessed, "gate count")
         self.example("race.asm")
         self.click("[data-pane='explore']")
         self.until("document.querySelector('#pane [data-turns]')", "schedules")
@@ -308,6 +309,7 @@ class Bench:
         self.run("results.lesson = null; chooseExercise(''); 1")
         self.example("counter.asm")
         self.press_run()
+        self.run("document.getElementById('order').open = false; tell(''); 1")
         self.run("toggleBreak(21); step('start').then(() => step('resume')); 1")
         self.browser.drawn()
 
