@@ -140,7 +140,7 @@ class KeepsPicture:
         if more > 0:
             self.picture.paragraph(f"There are {more} more places with leaks.")
         if found.verdict == "yes":
-            self.picture.paragraph("Whatever code its callers run: nobody else uses these words, or gets a pointer into them.")
+            self.picture.paragraph("Whatever code its callers run: nobody else uses these words, or gets a pointer into them but to a door.")
         else:
             self.picture.paragraph("What a bold arrow carries out may get to a caller. Perhaps no program gets there.")
 

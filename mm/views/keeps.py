@@ -64,7 +64,7 @@ class KeepsView:
             own = counted(sum(count for _, count in found.code), "instruction")
             yield f"{self.style.good('yes')}: the kernel keeps {self.names}"
             yield f"  whatever code its callers run, and in whatever order: only its own code, {own}, uses these words,"
-            yield "  and nobody else gets a pointer into them"
+            yield "  and nobody else gets a pointer into them but to its doors (or a key, which does nothing)"
             return
         count = len(places_of(found.leaks))
         yield f"{self.style.bad('no')}: the kernel can give away what it keeps ({self.names}), at {counted(count, 'place')}"

@@ -186,7 +186,7 @@ class LeakView:
         region = self.symbols.region(place.address) if place.address is not None else None
         cells = [self.image.cell(at) for at in range(region.base, region.end, 8)] if region and region.log < 20 else []
         if region and not any(cell.word.tagged for cell in cells if cell):
-            return [f"do not keep {region.name}: it holds no pointer, and nobody can change it anyway"]
+            return [f"do not keep {region.name}: it holds no pointer, and nobody can change its code anyway"]
         return ["move what can fault into a segment without pointers, and do not keep that one"]
 
     @staticmethod
