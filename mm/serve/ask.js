@@ -66,7 +66,7 @@ function cyclesAsked() {
 
 // Runs the sources, and shows the run; `place` is where the cursor goes.
 async function run(place = "end", cycles = cyclesAsked()) {
-  const number = ++asking.number, { version } = state;
+  const number = ++asking.number, ranOf = subjectOf("view");
   busy("runs …");
   const answer = await ask("run", { cycles });
   if (!answer || number !== asking.number) return;
@@ -81,7 +81,7 @@ async function run(place = "end", cycles = cyclesAsked()) {
   }
   takeSlots(answer.slots);
   results.report = [...answer.report, ...(answer.notes.length ? ["", ...answer.notes] : [])];
-  Object.assign(results, { ranAt: version, orderEnds: answer.order_ends, notes: answer.notes });
+  Object.assign(results, { ranOf, orderEnds: answer.order_ends, notes: answer.notes });
   await showView(answer.view, place);
   if (!["view", "report"].includes(results.pane)) choosePane("view");
   else showPane();
@@ -91,12 +91,11 @@ async function run(place = "end", cycles = cyclesAsked()) {
 async function grade() {
   if (!state.exercise) return;
   busy("grades …");
-  const { version } = state;
-  const answer = await ask("grade", { words: [state.exercise] });
+  const of = subjectOf("exercise"), answer = await ask("grade", { words: [state.exercise] });
   busy(answer && answer.refused ? answer.refused : "", Boolean(answer && answer.refused));
   if (!answer || answer.refused) return;
   if (answer.faults) takeFaults(answer);
-  results.marks = answer.marks ? { ...answer, version } : null;
+  results.marks = answer.marks ? { ...answer, of } : null;
   if (!answer.marks) return busy((answer.stopped || []).join("\n") || "there is a mistake: see the source", true);
   choosePane("exercise");
   showSide("right");

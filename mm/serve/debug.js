@@ -4,10 +4,11 @@
 const frame = () => byId("frame");
 const view = { ready: false, size: 0,
   // Whether the run is of another program than that of the page.
-  get older() { return results.ranAt !== state.version; },
+  get older() { return results.ranOf !== subjectOf("view"); },
   // The frame measures itself when it is shown.
   draw() { if (frame().contentWindow.layOut) frame().contentWindow.layOut(); } };
 const inFrame = () => frame().contentWindow;
+const WIDE = matchMedia("(min-width: 54rem)");
 
 // A frame in place of the one before, of which nothing can come any more: a page that still loads there would be taken
 // for this one.
@@ -16,6 +17,11 @@ function newFrame(page) {
   if (page) made.srcdoc = page;
   frame().replaceWith(made);
   return made;
+}
+
+// Tells the page of a run that it is inside of this one, and whether the debugger's buttons stand in full above it.
+function sayInside() {
+  if (view.ready) inFrame().document.documentElement.dataset.inside = WIDE.matches ? "wide" : "narrow";
 }
 
 // Puts a page into the frame, and its cursor to the end of the run or to a place.
@@ -30,7 +36,7 @@ async function showView(page, place) {
   });
   view.ready = true;
   const inside = inFrame(), { TURNS } = inside.shown;
-  inside.document.documentElement.dataset.inside = "1";
+  sayInside();
   inside.setTheme(root.dataset.theme || null);
   if (view.size) inside.setSize(view.size);
   inside.addEventListener("moved", moved);
@@ -172,7 +178,6 @@ function textOf(items) {
 
 function setTurns(turns) {
   state.turns = turns;
-  state.version++;
   keep();
   showTurns();
   run("end", null);

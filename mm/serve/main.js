@@ -155,6 +155,7 @@ function listen() {
   byId("turns").addEventListener("change", () => setTurns(byId("turns").value.trim()));
   for (const id of ["files", "panes"]) byId(id).addEventListener("keydown", onTabKey);
   matchMedia("(prefers-color-scheme: dark)").addEventListener("change", () => setTheme(root.dataset.theme || null));
+  WIDE.addEventListener("change", sayInside);
   window.addEventListener("hashchange", openLink);
   new ResizeObserver(keepCaret).observe(byId("editor"));
 }

@@ -1,6 +1,6 @@
 // What came of it, in panes: the run, its report, what commands of `mm` say of the program, and the lesson or exercise.
 
-const results = { pane: "view", report: null, ranAt: 0, orderEnds: "", notes: [], panes: {}, words: {}, marks: null,
+const results = { pane: "view", report: null, ranOf: "", orderEnds: "", notes: [], panes: {}, words: {}, marks: null,
   lesson: null };
 
 // All panes: name, title, and what it shows.
@@ -25,10 +25,10 @@ function choosePane(name) {
 
 // Whether what a pane shows is about another program than that of the page, and what shows it anew.
 function olderPane() {
-  const { pane, marks, panes } = results, { version } = state;
+  const { pane, marks, panes } = results, isOlder = (made) => made && made.of !== subjectOf(pane);
   if (pane === "view" || pane === "report") return results.report && view.older ? ["Run", () => run()] : null;
-  if (pane === "exercise") return marks && marks.version !== version ? ["Grade", grade] : null;
-  return panes[pane] && panes[pane].version !== version ? ["Ask again", () => askPane(pane)] : null;
+  if (pane === "exercise") return isOlder(marks) ? ["Grade", grade] : null;
+  return isOlder(panes[pane]) ? ["Ask again", () => askPane(pane)] : null;
 }
 
 // What has to be said of all that a pane shows, each with a button.
@@ -79,7 +79,7 @@ function linked(lines) {
 
 // The lines of a source at which a kernel gives something away, as Keeps has said of this very program.
 function leaksOf(name) {
-  const made = results.panes.keeps, now = made && made.head && !made.good && made.version === state.version;
+  const made = results.panes.keeps, now = made && made.head && !made.good && made.of === subjectOf("keeps");
   const found = now ? made.lines.map((line) => LINE_OF.exec(line)).filter(Boolean) : [];
   return found.filter(([, , file]) => file === name).map(([, , , line]) => ({ line: Number(line) }));
 }
@@ -138,7 +138,7 @@ function commandPane(command) {
   const made = results.panes[command], ready = !fields.length || guessed || results.words[command];
   const parts = [el("h3", {}, title), el("p", { class: "soft" }, `${says}, by mm ${command}`),
     ...(fields.length ? questionOf(command, fields, example) : [])];
-  if ((!made || made.version !== state.version) && ready) setTimeout(() => askPane(command));
+  if ((!made || made.of !== subjectOf(command)) && ready) setTimeout(() => askPane(command));
   return made ? [...parts, ...answerPane(made)] : parts;
 }
 
@@ -169,7 +169,7 @@ function answerPane(made) {
 async function askPane(command) {
   if (asking.pane === command) return;
   asking.pane = command;
-  const { version } = state;
+  const of = subjectOf(command);
   busy("asks …");
   const answer = await ask(command, { words: results.words[command] || [], cycles: command === "trace" ? cyclesAsked()
     : null });
@@ -177,7 +177,7 @@ async function askPane(command) {
   busy("");
   if (!answer) return;
   if (answer.faults && answer.faults.length) takeFaults(answer);
-  results.panes[command] = { ...answer, version };
+  results.panes[command] = { ...answer, of };
   if (command === "keeps") showMarks();
   if (results.pane === command) showPane();
 }

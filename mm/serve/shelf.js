@@ -225,7 +225,7 @@ async function copied(said) {
 async function showLink() {
   const hash = await linkOf(), long = hash.length > LONGEST_LINK;
   const said = el("pre", { tabindex: 0 }, long ? "" : location.href.split("#")[0] + hash), copy = el("button",
-    { type: "button" }, "Copy");
+    { type: "button", "aria-live": "polite" }, "Copy");
   copy.addEventListener("click", async () => {
     copy.textContent = await copied(said) ? "Copied" : "Press Ctrl+C: the address is selected";
   });

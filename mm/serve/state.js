@@ -24,6 +24,9 @@ const KEPT = "workbench of mm";
 const state = { files: [{ name: "mine.asm", text: "" }], at: 0, turns: "", offered: "", breaks: {}, exercise: null,
   slots: [], faults: [], level: "0", base: {}, begun: "", version: 0 };
 
+// What an answer is about: the program, and for a run the order of turns.
+const subjectOf = (pane) => `${state.version} ${["view", "report", "trace"].includes(pane) ? state.turns : ""}`;
+
 const file = () => state.files[state.at];
 const linesOf = (text) => text.split("\n");
 const breaksOf = (name) => (state.breaks[name] = state.breaks[name] || []);
