@@ -208,7 +208,8 @@ function explain() {
     {}, row[2])];
   else if (names.has(word)) said = [el("code", {}, word), `: stands in line ${names.get(word)}`];
   else if (Object.hasOwn(permissions, word)) said = [el("code", {}, word), `: ${permissions[word]}`];
-  byId("explains").replaceChildren(...said);
+  byId("explains").replaceChildren(...(word || comment ? said : [el("button", { type: "button",
+    "data-does": "instructions" }, "All instructions")]));
 }
 
 const HEAD_OF_LINE = /^\s*(?:[A-Za-z_]\w*\s*:)?\s*(?:\.empty\s+)?(\.?[A-Za-z_]\w*)\s+(.*)$/;

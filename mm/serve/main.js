@@ -57,15 +57,17 @@ function openDialog(title, parts) {
   const box = byId("help"), close = el("button", { type: "button" }, "Close");
   close.addEventListener("click", () => box.close());
   box.replaceChildren(el("h2", { id: "help-title" }, title), ...parts, close);
-  box.showModal();
+  if (!box.open) box.showModal();
+  box.scrollTop = 0;
 }
 
 function openHelp() {
-  const inRun = el("p", {}, el("button", { type: "button", id: "keys-of-run" }, "Keys of the run"));
+  const inRun = el("button", { type: "button", id: "keys-of-run" }, "Keys of the run");
   openDialog("Keys", [el("table", {}, el("tbody", {}, KEYS.map(([key, says]) => el("tr", {}, el("th", { scope: "row" },
     el("kbd", {}, key)),
     el("td", {}, says))))), el("p", {}, "A click on the number of a line sets a break there."),
-  view.ready ? inRun : null].filter(Boolean));
+  el("p", {}, view.ready ? inRun : null, " ", el("button", { type: "button", "data-does": "instructions" },
+    "All instructions"))]);
 }
 
 function showAll() {
@@ -82,6 +84,19 @@ function showAll() {
   showPane();
   explain();
   checkSoon();
+}
+
+const WHAT = "A program is segments of words, and threads that run in them. A word has 64 bits and a tag, which says"
+  + " whether it is a pointer; no instruction makes a pointer out of a number. An instruction reaches memory only"
+  + " through a pointer, and only as far as that reaches. Lesson 1 begins with this.";
+
+// What the machine is, and each word that a line may begin with.
+function openInstructions() {
+  const rows = (table) => Object.values(table).map(([usage, says, example]) => el("tr", {}, el("th", { scope: "row" },
+    el("code", {}, usage)), el("td", {}, `${says}. For example `, el("code", {}, example))));
+  const { operations, directives } = about.words;
+  openDialog("Instructions", [el("p", {}, WHAT), el("table", { class: "instructions" }, el("tbody", {},
+    rows(operations), rows(directives)))]);
 }
 
 function openKeysOfRun() {
@@ -105,6 +120,7 @@ function onTabKey(event) {
 const CLICKS = {
   run: () => run(), grade, take: () => byId("examples").value && takeExample(byId("examples").value),
   before: openBefore, "its-turns": () => setTurns(state.offered), "keys-of-run": openKeysOfRun,
+  instructions: openInstructions,
   open: () => byId("chosen").click(), save: saveFile, link: showLink, add: addFile, rename: renameFile,
   remove: removeFile, smaller: () => setSize(-1), larger: () => setSize(1), keys: openHelp, "to-left": () =>
     showSide("left"),
@@ -116,7 +132,8 @@ function onClick(event) {
   const target = event.target.closest("button, li[data-at], a[data-lesson]");
   if (!target) return;
   const { at, pane, step: name, slot, line, turns, example, lesson, before } = target.dataset;
-  if (CLICKS[target.id]) CLICKS[target.id]();
+  const does = CLICKS[target.dataset.does || target.id];
+  if (does) does();
   else if (target.closest("#files")) chooseFile(Number(at));
   else if (target.closest("#offers")) acceptOffer(Number(at));
   else if (pane) choosePane(pane);

@@ -296,6 +296,17 @@ def offers(bench: Bench) -> None:
     bench.run("hideOffers(); 1")
 
 
+def instructions(bench: Bench) -> None:
+    """The page lists all instructions, and says what the machine is."""
+    bench.type("\n" + OWN)
+    bench.caret(1)
+    bench.click("#explains button")
+    said = bench.text("#help")
+    for wanted in ("bnz ra, LABEL", ".thread SLOT GROUP", "no instruction makes a pointer"):
+        bench.same(f"{wanted!r} in the list of instructions", wanted in said, True)
+    bench.run("document.getElementById('help').close(); 1")
+
+
 def one_list_of_keys(bench: Bench) -> None:
     """There is one button Keys, and it leads to those of the run too."""
     bench.type(OWN)
@@ -309,7 +320,7 @@ def one_list_of_keys(bench: Bench) -> None:
 
 
 STEPS = (messages, nothing_is_lost, tabs_and_files, links, begun_with_files, order, line_in_sight, projector, breaks,
-         answers, keeps, exercises, offers, one_list_of_keys)  # fmt: skip
+         answers, keeps, exercises, offers, instructions, one_list_of_keys)  # fmt: skip
 
 
 def all_of(bench: Bench) -> None:
