@@ -131,7 +131,7 @@ NEEDED = ("difflib", "mm.messages.files", "mm.messages.links", "mm.messages.sour
 
 def prepare() -> None:
     """Reads what requests need, and has the garbage collector leave it alone in the processes that are forked."""
-    for name in (*NEEDED, *(BY_NAME[pane.command].home for pane in panes.there())):
+    for name in (*NEEDED, *(BY_NAME[pane.command].home for pane in panes.PANES)):
         importlib.import_module(name)
     gc.freeze()
 
@@ -141,7 +141,7 @@ DEEDS: dict[str, Callable[[Desk, Limits], Json]] = {"check": check, "run": run, 
 
 def known(deed: str) -> bool:
     """Whether there is such a thing to ask for."""
-    return deed in DEEDS or any(pane.command == deed for pane in panes.there())
+    return deed in DEEDS or deed in panes.BY_COMMAND
 
 
 def _done(desk: Desk, limits: Limits) -> Json:

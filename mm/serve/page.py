@@ -9,8 +9,8 @@ import os
 import re
 from typing import Any, Mapping
 
-from mm.editing.words import CHOSEN
-from mm.machine.isa import OPERATIONS, Kind, Operation
+from mm.editing.words import CHOSEN, PLACES, wanted_of
+from mm.machine.isa import OPERATIONS
 from mm.machine.program import Program
 from mm.machine.words import BY_SHORT
 from mm.serve import panes
@@ -32,25 +32,11 @@ def file_of(name: str) -> str:
         return file.read()
 
 
-# What may stand after a directive, word by word: a kind, words to choose from, or nothing that could be offered.
-PLACES: Mapping[str, tuple[Json, ...]] = {
-    ".ptr": ("permission", "name"),
-    ".thread": ("", "", ("none",), ("xu", "xp"), "name"),
-    ".reg": ("", ("int", "ptr"), "permission", "name"),
-}
-
-
-def kinds_of(operation: Operation) -> list[Json]:
-    """What may stand in the place of each operand."""
-    return [list(kind.choices) or ("register" if kind.is_register else "name" if kind is Kind.PLACE else "")
-            for kind in operation.operands]
-
-
 def words() -> Json:
     """What the editor colours, explains and completes."""
     return {
         "operations": {
-            each.name: [each.usage, each.effect, each.example, kinds_of(each)] for each in OPERATIONS.values()
+            each.name: [each.usage, each.effect, each.example, wanted_of(each)] for each in OPERATIONS.values()
         },
         "places": PLACES,
         "directives": {name: [each.usage, each.meaning, each.example] for name, each in DIRECTIVES.items()},
@@ -65,7 +51,7 @@ def about(limits: Limits, begin: Json) -> Json:
         "begin": {**begin, "mark": hashlib.sha256(json.dumps(begin["files"]).encode()).hexdigest()},
         "limits": {"bytes": limits.bytes, "sources": limits.sources, "cycles": limits.cycles, "c": limits.c},
         "panes": [[each.command, each.title, each.says, each.fields, each.example, bool(each.guess)]
-            for each in panes.there()],
+            for each in panes.PANES],
         "words": words(),
         "shelf": shelf(limits.c),
     }

@@ -212,7 +212,7 @@ function exercisePane() {
     el("p", { class: "row" }, el("button", { type: "button", class: "main", "data-grade": "1" }, "Grade"),
       exercise.start ? el("button", { type: "button", "data-start": "1" }, "Take its beginning into the editor")
         : null),
-    el("p", { class: "soft" }, "Where the text names a command, a button does it here: mm run is Run, mm grade is Grade,"
-      + " mm debug is step and back, and a click on a register takes its word apart; Keys lists all instructions."),
+    el("p", { class: "soft" }, "Where the text names a command, a button does it here: mm run is Run, mm grade is"
+      + " Grade, mm debug is step and back, and a click on a register takes its word apart; Keys lists all instructions."),
     box];
 }

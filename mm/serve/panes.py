@@ -1,4 +1,4 @@
-"""What the page can ask of a program beside a run: a table of commands. A command that `mm` has not is left out."""
+"""What the page can ask of a program beside a run: a table of commands."""
 
 from __future__ import annotations
 
@@ -137,11 +137,6 @@ PANES = (
 BY_COMMAND = {pane.command: pane for pane in PANES}
 
 
-def there() -> list[Pane]:
-    """The panes whose command `mm` has."""
-    return [pane for pane in PANES if pane.command in BY_NAME]
-
-
 def schedules(desk: Desk) -> list[Json]:
     """Each schedule that an exploration has found, with what comes of it."""
     found = _exploration(desk)
@@ -177,7 +172,7 @@ def shown(desk: Desk, limits: Limits) -> Json:
     """What a pane shows: the lines of its command, its picture, and schedules to run."""
     asked = desk.asked
     pane = BY_COMMAND.get(asked.deed)
-    if pane is None or pane not in there():
+    if pane is None:
         raise NotAllowed("there is no such pane", 404)
     words = list(asked.words) or (pane.guess(desk) if pane.guess else []) if pane.fields else []
     if len(words) < len(pane.fields):

@@ -163,10 +163,8 @@ class Shelf(unittest.TestCase):
         self.assertIn("script-src 'self' 'sha256-", policy()["Content-Security-Policy"])
         self.assertNotIn("unsafe-inline", policy()["Content-Security-Policy"].split("style-src")[0])
 
-    def test_panes_are_those_whose_command_there_is(self):
-        self.assertEqual({pane.command for pane in panes.there()} - set(BY_NAME), set())
-        self.assertEqual([pane.command for pane in panes.PANES if pane.command in BY_NAME], [pane.command
-            for pane in panes.there()])
+    def test_panes_are_of_commands(self):
+        self.assertEqual({pane.command for pane in panes.PANES} - set(BY_NAME), set())
         self.assertTrue(known("audit") and known("run") and not known("serve") and not known("net"))
 
 
@@ -258,6 +256,18 @@ class Whole(unittest.TestCase):
             audit = served.do({"do": "audit", "files": program(OK)}).form
             self.assertIn("group 0 (slot 0)", audit["lines"][0])
             self.assertTrue(audit["picture"].startswith("<svg"))
+            self.assertEqual(audit["behind"], "")
+            counter = program(read("examples", "counter.asm"), "counter.asm")
+            audit = served.do({"do": "audit", "files": counter}).form
+            self.assertEqual((audit["behind"], [line for line in audit["lines"] if "mm keeps" in line]),
+                ("gate and count", []))
+            kept = served.do({"do": "keeps", "files": counter}).form
+            self.assertEqual((kept["head"], kept["good"], kept["words"]),
+                ("yes: the kernel keeps gate and count", True, ["gate", "count"]))
+            kept = served.do({"do": "keeps", "files": counter, "words": ["count"]}).form
+            self.assertEqual((kept["head"][:3], kept["good"], kept["words"]), ("no:", False, ["count"]))
+            self.assertIn("No segment is there", served.do({"do": "keeps", "files": program(OK)}).form["missing"])
+            self.assertIn("Say group, word and kind", served.do({"do": "why", "files": program(OK)}).form["missing"])
             graded = served.do({"do": "grade", "words": ["lab-2"], "files": program(read("docs", "course",
                 "answers", "lab2.asm"))}).form
             self.assertEqual(graded["right"], len(graded["marks"]))
