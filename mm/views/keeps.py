@@ -134,7 +134,7 @@ class KeepsView:
             return
         yield ""
         said = [(name, self.words.forms(forms)) for name, forms in self.together(cells)]
-        width = max(len(name) for name, _ in said)
+        width = max(len(name) for name in ("word", *(name for name, _ in said)))
         yield self.style.soft(f"{'word'.ljust(width)}  what can be there")
         for name, text in said[:MOST_CELLS]:
             yield f"{self.style.name(name.ljust(width))}  {text}"

@@ -3,7 +3,7 @@
 from __future__ import annotations
 
 import re
-from typing import Any, Iterator, Optional
+from typing import Any, Collection, Iterator, Optional
 
 from mm.tests.truth import others
 from mm.tests.truth.names import PERMISSIONS
@@ -113,8 +113,8 @@ def leak_words(leak: Any) -> list[str]:
 # In words
 
 
-def keeps_text(case: Case, out: str, text: str, kept: list[tuple[int, int]]) -> None:
-    """An answer in words."""
+def keeps_text(case: Case, out: str, text: str, kept: list[tuple[int, int]], changed: Collection[int] = ()) -> None:
+    """An answer in words. `changed` are the addresses of words that are not as the source has them: no line made these."""
     told, lines = Told(text), out.splitlines()
     head = re.match(HEADS[told.answer], lines[0])
     case.check("keeps head", head, (lines[0], text[:40]))
@@ -129,7 +129,7 @@ def keeps_text(case: Case, out: str, text: str, kept: list[tuple[int, int]]) -> 
         case.check("keeps instructions", own and int(own[1]) == sum(count for _, count in told.code), (out, told.code))
     else:
         case.check("keeps places", int(head[2]) == len(told.places), (lines[0], told.places))
-        leaks_text(case, out, told)
+        leaks_text(case, out, told, changed)
     blocks = out.split("\n\n")
     party_rows(case, told, next((block for block in blocks if re.match(r"(door|slot) +who has it +reads +writes$", block.split("\n")[0])), ""))
     word_rows(case, told, next((block for block in blocks if re.match(r"word +what can be there$", block.split("\n")[0])), ""))
@@ -229,14 +229,14 @@ def says(case: Case, text: str, form: list[str]) -> bool:
     return number or any(case.names.is_word(part, form[0]) for part in re.split(r", | or ", text))
 
 
-def leaks_text(case: Case, out: str, told: Told) -> None:
+def leaks_text(case: Case, out: str, told: Told, changed: Collection[int]) -> None:
     """Each place with its line, and what each register holds."""
     blocks = out.split("\n\n")[1 : 1 + len(told.places)]
     case.check("keeps leaks told", len(blocks) == len(told.places), (out, told.places))
     for block, leaks in zip(blocks, told.places.values()):
         kind, address = leaks[0][0], int(leaks[0][1], 16) if len(leaks[0][1]) == 14 else None
         if address is not None and kind != "cell":
-            case.check("keeps line", block.startswith(line_of(case, address)), (block, hex(address)))
+            case.check("keeps line", block.startswith(line_of(case, address, changed)), (block, hex(address)))
         rows = re.findall(r"^    (ip|r\d+) +(.*)$", block, re.M)
         wanted: dict[str, list[list[str]]] = {}
         for words in leaks:
@@ -250,9 +250,9 @@ def leaks_text(case: Case, out: str, told: Told) -> None:
             case.check("keeps loose", block.startswith(f"slot {leaks[0][1]} serves others"), block)
 
 
-def line_of(case: Case, address: int) -> str:
+def line_of(case: Case, address: int, changed: Collection[int]) -> str:
     """How the line about a word of code begins."""
-    line: Optional[int] = case.names.lines.get(address)
+    line: Optional[int] = case.names.lines.get(address) if address not in changed else None
     return f"{case.source}:{line}: " if line else f"0x{address:x}: "
 
 
