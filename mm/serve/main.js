@@ -87,7 +87,7 @@ function showAll() {
 }
 
 const WHAT = "A program is segments of words, and threads that run in them. A word has 64 bits and a tag, which says"
-  + " whether it is a pointer; no instruction makes a pointer out of a number. An instruction reaches memory only"
+  + " whether it is a pointer; only privileged code makes a pointer out of a number. An instruction reaches memory only"
   + " through a pointer, and only as far as that reaches. Lesson 1 begins with this.";
 
 // What the machine is, and each word that a line may begin with.

@@ -302,7 +302,7 @@ def instructions(bench: Bench) -> None:
     bench.caret(1)
     bench.click("#explains button")
     said = bench.text("#help")
-    for wanted in ("bnz ra, LABEL", ".thread SLOT GROUP", "no instruction makes a pointer"):
+    for wanted in ("bnz ra, LABEL", ".thread SLOT GROUP", "only privileged code makes a pointer"):
         bench.same(f"{wanted!r} in the list of instructions", wanted in said, True)
     bench.run("document.getElementById('help').close(); 1")
 
