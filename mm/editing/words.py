@@ -4,10 +4,10 @@ from __future__ import annotations
 
 import re
 from dataclasses import dataclass
-from typing import Iterable, Iterator, Optional
+from typing import Iterable, Iterator, Mapping, Optional, Union
 
 from mm.help.texts import topic_lines
-from mm.machine.isa import CHOICES, OPERATIONS
+from mm.machine.isa import CHOICES, OPERATIONS, Kind, Operation
 from mm.machine.words import BY_SHORT
 from mm.source.text import Label, SourceSegment, SourceText, Use
 from mm.source.tokens import LONG_LINE, Token, TokenKind, tokens_of
@@ -17,6 +17,15 @@ REGISTERS = tuple(f"r{number}" for number in range(16))
 CHOSEN = tuple(sorted({choice for choices in CHOICES.values() for choice in choices}))
 MOST_WORDS = 400
 BEGUN = re.compile(r"\.?\w*$")
+HEAD = re.compile(r"^[ \t]*(?:[A-Za-z_]\w*[ \t]*:)?[ \t]*(?:\.empty[ \t]+)?(\.?[A-Za-z_]\w*)[ \t]+(.*)$")
+# What may stand at a place: words to choose from, a `register`, a `permission`, a `name`, or nothing that can be offered.
+Wanted = Union[str, tuple[str, ...]]
+# The same of the words after a directive.
+PLACES: Mapping[str, tuple[Wanted, ...]] = {
+    ".ptr": ("permission", "name"),
+    ".thread": ("", "", ("none",), ("xu", "xp"), "name"),
+    ".reg": ("", ("int", "ptr"), "permission", "name"),
+}
 BEGINS = re.compile(r"^[ \t]*(?:[A-Za-z_]\w*[ \t]*:)?[ \t]*(?:\.empty[ \t]+)?[.\w]*$")
 
 
@@ -138,15 +147,37 @@ def begun(text: SourceText, line: int, column: int) -> str:
     return found[0] if found else ""
 
 
+def wanted_of(operation: Operation) -> list[Wanted]:
+    """What may stand in the place of each operand."""
+    return [kind.choices or ("register" if kind.is_register else "name" if kind is Kind.PLACE else "")
+            for kind in operation.operands]
+
+
+def wanted_at(before: str) -> Wanted:
+    """What may stand at the end of a line that is begun."""
+    head = HEAD.match(before)
+    if head is None:
+        return ""
+    name, rest = head.groups()
+    if name in OPERATIONS:
+        wanted, at = wanted_of(OPERATIONS[name]), rest.count(",")
+    else:
+        wanted, at = list(PLACES.get(name, ())), len(re.split(r"[ \t]+", rest)) - 1
+    return wanted[at] if at < len(wanted) else ""
+
+
 def offers(text: SourceText, line: int, column: int) -> list[Offer]:
-    """What may stand where a word ends at a column."""
+    """What may stand where a word ends at a column, and nothing else."""
     before = text.line(line)[: column - 1]
     if ";" in before:
         return []
     if BEGINS.match(before):
         return [*_operations(), *_directives()]
-    return [*_names(text), *_plain(REGISTERS, "register"), *_permissions(), *_plain((*CHOSEN, "none", "int", "ptr"),
-        "word")]
+    wanted = wanted_at(before)
+    if isinstance(wanted, tuple):
+        return list(_plain(wanted, "word"))
+    made = {"register": lambda: _plain(REGISTERS, "register"), "permission": _permissions, "name": lambda: _names(text)}
+    return list(made[wanted]()) if wanted else []
 
 
 def _operations() -> Iterable[Offer]:

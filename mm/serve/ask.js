@@ -1,6 +1,6 @@
 // What is asked of the server: mistakes while one types, runs, panes, grades.
 
-const asking = { number: 0, check: null, timer: null };
+const asking = { number: 0, check: null, timer: null, pane: null };
 
 const say = (text) => { byId("checked").textContent = text; };
 
@@ -54,14 +54,19 @@ async function check() {
   takeSlots(answer.slots);
 }
 
+// How many cycles are asked for; null is all of them.
 function cyclesAsked() {
-  const said = byId("cycles").value.trim(), number = Number(said);
-  return said && Number.isInteger(number) && number >= 0 ? number : null;
+  const field = byId("cycles"), said = field.value.trim(), number = Number(said), most = about.limits.cycles;
+  if (!said && !field.validity.badInput) return null;
+  if (said && Number.isInteger(number) && number >= 0 && number <= most) return number;
+  field.value = "";
+  tell(`the cycles are a number from 0 to ${most}: all are run`);
+  return null;
 }
 
 // Runs the sources, and shows the run; `place` is where the cursor goes.
 async function run(place = "end", cycles = cyclesAsked()) {
-  const number = ++asking.number;
+  const number = ++asking.number, ranOf = subjectOf("view");
   busy("runs …");
   const answer = await ask("run", { cycles });
   if (!answer || number !== asking.number) return;
@@ -76,7 +81,7 @@ async function run(place = "end", cycles = cyclesAsked()) {
   }
   takeSlots(answer.slots);
   results.report = [...answer.report, ...(answer.notes.length ? ["", ...answer.notes] : [])];
-  results.stale = new Set(Object.keys(results.panes));
+  Object.assign(results, { ranOf, orderEnds: answer.order_ends, notes: answer.notes });
   await showView(answer.view, place);
   if (!["view", "report"].includes(results.pane)) choosePane("view");
   else showPane();
@@ -86,11 +91,11 @@ async function run(place = "end", cycles = cyclesAsked()) {
 async function grade() {
   if (!state.exercise) return;
   busy("grades …");
-  const answer = await ask("grade", { words: [state.exercise] });
+  const of = subjectOf("exercise"), answer = await ask("grade", { words: [state.exercise] });
   busy(answer && answer.refused ? answer.refused : "", Boolean(answer && answer.refused));
   if (!answer || answer.refused) return;
   if (answer.faults) takeFaults(answer);
-  results.marks = answer.marks ? answer : null;
+  results.marks = answer.marks ? { ...answer, of } : null;
   if (!answer.marks) return busy((answer.stopped || []).join("\n") || "there is a mistake: see the source", true);
   choosePane("exercise");
   showSide("right");

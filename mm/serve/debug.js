@@ -2,10 +2,13 @@
 // What a turn did was written by the program: nothing is worked out here.
 
 const frame = () => byId("frame");
-const view = { ready: false, stale: false, size: 0,
+const view = { ready: false, size: 0,
+  // Whether the run is of another program than that of the page.
+  get older() { return results.ranOf !== subjectOf("view"); },
   // The frame measures itself when it is shown.
   draw() { if (frame().contentWindow.layOut) frame().contentWindow.layOut(); } };
 const inFrame = () => frame().contentWindow;
+const WIDE = matchMedia("(min-width: 54rem)");
 
 // A frame in place of the one before, of which nothing can come any more: a page that still loads there would be taken
 // for this one.
@@ -16,9 +19,14 @@ function newFrame(page) {
   return made;
 }
 
+// Tells the page of a run that it is inside of this one, and whether the debugger's buttons stand in full above it.
+function sayInside() {
+  if (view.ready) inFrame().document.documentElement.dataset.inside = WIDE.matches ? "wide" : "narrow";
+}
+
 // Puts a page into the frame, and its cursor to the end of the run or to a place.
 async function showView(page, place) {
-  view.ready = view.stale = false;
+  view.ready = false;
   const made = newFrame(page);
   made.hidden = results.pane !== "view";
   byId("pane").hidden = results.pane === "view";
@@ -28,7 +36,7 @@ async function showView(page, place) {
   });
   view.ready = true;
   const inside = inFrame(), { TURNS } = inside.shown;
-  inside.document.documentElement.dataset.inside = "1";
+  sayInside();
   inside.setTheme(root.dataset.theme || null);
   if (view.size) inside.setSize(view.size);
   inside.addEventListener("moved", moved);
@@ -49,29 +57,38 @@ function placeOf(address) {
 
 const ipOf = (slot) => Number(BigInt(`0x${slot.ip.slice(1)}`) & ((1n << 54n) - 1n));
 
-// The line of the turn at the cursor, and the lines at which slots stand.
+// What a turn is called, with its line if it has one here.
+function turnText(turn) {
+  const place = placeOf(turn.fetch);
+  return `cycle ${turn.cycle}, slot ${turn.slot}${place ? `, line ${place.line}` : ""}`;
+}
+
+// The line of the turn that comes next, that of the turn before, and the lines at which slots stand.
 function moved() {
-  if (!view.ready || view.stale) return;
+  if (!view.ready || view.older) return;
   const { TURNS, cursor, machineAt } = inFrame().shown, { place } = cursor, stands = new Map();
-  const turn = place ? TURNS[place - 1] : null;
+  const next = TURNS[place], turn = place ? TURNS[place - 1] : null;
   for (const slot of machineAt(place).slots.values()) {
     const at = slot.state === "halted" ? null : placeOf(ipOf(slot));
     if (at) stands.set(`${at.file}:${at.line}`, `${stands.get(`${at.file}:${at.line}`) || ""}s${slot.slot}`);
   }
-  state.now = turn ? placeOf(turn.fetch) : null;
+  state.done = turn ? placeOf(turn.fetch) : null;
+  state.now = next ? placeOf(next.fetch) : null;
   state.stands = stands;
+  byId("stand").textContent = [turn ? `done: ${turnText(turn)}` : "at the start", next ? `next: ${turnText(next)}`
+    : "this is the end"].join("; ");
   showGutter();
   showMarks();
-  if (state.now && state.now.file === file().name) reveal(state.now.line);
+  const shown = state.now || state.done;
+  if (shown && shown.file === file().name) reveal(shown.line);
 }
 
-// Whether a turn is one at which the run stops: of a line with a break, or one that faults. A slot that waits at its
-// line meets a break once.
-function stops(at) {
-  const { TURNS } = inFrame().shown, turn = TURNS[at - 1];
-  if (turn.fault) return true;
-  const place = placeOf(turn.fetch);
-  return Boolean(place) && breaksOf(place.file).includes(place.line) && !waited(at);
+// Whether a run stops after so many turns: before the turn of a line with a break, or after one that faults. A slot
+// that waits at its line meets a break once.
+function stops(after) {
+  const { TURNS } = inFrame().shown, next = TURNS[after], place = next ? placeOf(next.fetch) : null;
+  if (after && TURNS[after - 1].fault) return true;
+  return Boolean(place) && breaksOf(place.file).includes(place.line) && !waited(after + 1);
 }
 
 function waited(at) {
@@ -83,32 +100,48 @@ function waited(at) {
   return false;
 }
 
-// The next place, in a direction, that passes a test; the end or the start of the run where none does.
-function search(way, test) {
+// The next place, in a direction, that passes a test; the end or the start of the run where none does, which is said.
+function search(way, test, none) {
   const { TURNS, cursor } = inFrame().shown;
-  for (let at = cursor.place + way; at >= 1 && at <= TURNS.length; at += way) if (test(at)) return at;
+  for (let at = cursor.place + way; at >= 0 && at <= TURNS.length; at += way) if (test(at)) return at;
+  tell(none);
   return way > 0 ? TURNS.length : 0;
 }
 
-const ofCaret = (at) => {
-  const place = placeOf(inFrame().shown.TURNS[at - 1].fetch);
-  return Boolean(place) && place.file === file().name && place.line === caretLine();
-};
+// The turns of a line of a source, by their places.
+function turnsOf(name, line) {
+  return inFrame().shown.TURNS.flatMap(({ fetch }, at) => {
+    const place = placeOf(fetch);
+    return place && place.file === name && place.line === line ? [at] : [];
+  });
+}
+
+// The place before the next turn of the line where the caret is; where none comes any more, it stays.
+function toCaret() {
+  const { cursor } = inFrame().shown, line = caretLine(), turns = turnsOf(file().name, line);
+  const found = turns.find((at) => at > cursor.place);
+  if (found === undefined) {
+    tell(turns.length ? `line ${line} has no turn after this one, but before it`
+      : carriedOut(line) ? `this run has no turn at line ${line}`
+        : `line ${line} has no instruction: no turn is there`);
+  }
+  return found ?? cursor.place;
+}
 
 const STEPS = {
   start: () => 0,
   end: () => inFrame().shown.TURNS.length,
   step: () => inFrame().shown.cursor.place + 1,
   back: () => inFrame().shown.cursor.place - 1,
-  resume: () => search(1, stops),
-  reverse: () => search(-1, stops),
-  here: () => search(1, ofCaret),
+  resume: () => search(1, stops, "no break and no fault is met: this is the end"),
+  reverse: () => search(-1, stops, "no break and no fault is before this: this is the start"),
+  here: toCaret,
 };
 
 // Moves the run; sources that were not run yet as they are now are run first.
 async function step(name) {
-  if (!view.ready || view.stale) await run(0);
-  if (!view.ready || view.stale) return;
+  if (!view.ready || view.older) await run(0);
+  if (!view.ready || view.older) return;
   if (results.pane !== "view") choosePane("view");
   inFrame().goTo(STEPS[name]());
   if (name === "here" || name === "resume" || name === "reverse") showSide("right");
@@ -121,7 +154,9 @@ function showTurns() {
     `slot ${slot}`)));
   if (document.activeElement !== byId("turns")) byId("turns").value = state.turns;
   const count = itemsOf(state.turns).length;
-  byId("order-said").textContent = count ? `${count} turn${count === 1 ? "" : "s"} of your own` : "round robin";
+  const said = !count ? "round robin" : state.turns === state.offered ? "the program's own" : "your own";
+  byId("order-said").textContent = count ? `${said}, ${count} turn${count === 1 ? "" : "s"}` : said;
+  byId("its-turns").hidden = !state.offered || state.turns === state.offered;
 }
 
 // The items of a schedule one by one, `0*3` as three.

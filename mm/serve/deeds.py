@@ -9,17 +9,23 @@ import os
 from typing import Any, Callable
 
 from mm.build import Workshop
+from mm.console import Order
 from mm.commands.grade import exercises, sheet_of
 from mm.commands.running import Runner
 from mm.editing.faults import Fault, faults_of, of_clang
+from mm.formats.schedule import PORT
 from mm.grading.marks import marks
-from mm.log.taken import take_window
+from mm.log.taken import has_more, take_window
+from mm.names.numbers import counted
 from mm.machine.program import CHECKOUT, Program
 from mm.outputs.audit import read_audit
+from mm.outputs.report import Report
 from mm.serve import panes
 from mm.serve.asked import Asked, NotAllowed
 from mm.serve.console import Desk
 from mm.serve.limits import Limits
+from mm.serve.words import for_page
+from mm.serve.shelf import without_folders
 from mm.status import Refused, Stop
 from mm.table import BY_NAME
 from mm.view.data import window_form
@@ -65,6 +71,22 @@ def check(desk: Desk, limits: Limits) -> Json:
     return {"faults": [], "slots": [slot.number for slot in desk.built.image.slots]}
 
 
+def order_ends(order: Order, report: Report) -> str:
+    """After how many turns a run has ended because its order of turns has no more, and not its threads."""
+    going = order.schedule is not None and any(slot.running for slot in report.slots)
+    return counted(report.cycles, "turn") if going and not has_more(report, order) else ""
+
+
+def note_idle(desk: Desk, order: Order, report: Report) -> None:
+    """Tells of turns of an order at which nothing was done."""
+    if order.schedule is None or order.schedule.length != report.cycles:
+        return
+    ports = sum(count for item, count in order.schedule.runs if item >= PORT)
+    idle = report.cycles - ports - sum(slot.turns for slot in report.slots)
+    if idle > 0:
+        desk.tell(f"{counted(idle, 'turn')} of the order did nothing: a slot had halted, or there is no such slot")
+
+
 def run(desk: Desk, limits: Limits) -> Json:
     """A run: its report, and the page that `mm view` makes of it."""
     asked, built, order = desk.asked, desk.built, desk.order()
@@ -74,12 +96,14 @@ def run(desk: Desk, limits: Limits) -> Json:
     window = take_window(desk, built, order, cycles, asked.first, limits.turns)
     audit = read_audit(desk.ask(["grants", built.path], [built.file]).text)
     desk.note_order(built, order)
+    note_idle(desk, order, whole.report)
     memory, speller = Memory.after(built.image, whole.report), Speller(built.symbols)
     view = ReportView(whole.report, memory, speller, desk.style, whole.waits, whole.faults)
     return {
         "faults": [],
-        "report": list(view.lines(str(order))),
-        "notes": desk.notes,
+        "report": for_page(view.lines(str(order))),
+        "notes": for_page(desk.notes),
+        "order_ends": order_ends(order, whole.report),
         "slots": [slot.number for slot in built.image.slots],
         "view": page_of(window_form(built, window, str(order), audit)),
     }
@@ -94,7 +118,7 @@ def grade(desk: Desk, limits: Limits) -> Json:
     found = marks(desk, desk.built, sheet)
     return {
         "title": sheet.title or name,
-        "marks": [[mark.expectation.text, mark.why_not] for mark in found],
+        "marks": [[without_folders(mark.expectation.text), mark.why_not] for mark in found],
         "right": sum(mark.right for mark in found),
     }
 
@@ -107,7 +131,7 @@ NEEDED = ("difflib", "mm.messages.files", "mm.messages.links", "mm.messages.sour
 
 def prepare() -> None:
     """Reads what requests need, and has the garbage collector leave it alone in the processes that are forked."""
-    for name in (*NEEDED, *(BY_NAME[pane.command].home for pane in panes.there())):
+    for name in (*NEEDED, *(BY_NAME[pane.command].home for pane in panes.PANES)):
         importlib.import_module(name)
     gc.freeze()
 
@@ -117,7 +141,7 @@ DEEDS: dict[str, Callable[[Desk, Limits], Json]] = {"check": check, "run": run, 
 
 def known(deed: str) -> bool:
     """Whether there is such a thing to ask for."""
-    return deed in DEEDS or any(pane.command == deed for pane in panes.there())
+    return deed in DEEDS or deed in panes.BY_COMMAND
 
 
 def _done(desk: Desk, limits: Limits) -> Json:
@@ -126,12 +150,13 @@ def _done(desk: Desk, limits: Limits) -> Json:
         return DEEDS.get(desk.asked.deed, panes.shown)(desk, limits)
     except Refused as refused:
         datas = {source.name: source.data for source in desk.asked.sources}
-        return {"faults": [fault_form(fault) for fault in faults_of(refused, datas)], "stopped": list(refused.lines)}
+        faults = [fault_form(fault) for fault in faults_of(refused, datas)]
+        return {"faults": faults, "stopped": for_page(refused.lines)}
     except NotAllowed as no:
         return {"refused": str(no)}
     except Stop as stop:
         lines = list(stop.lines)[:MOST_LINES]
-        return {"faults": [fault_form(fault) for fault in of_clang(lines)], "stopped": lines}
+        return {"faults": [fault_form(fault) for fault in of_clang(lines)], "stopped": for_page(lines)}
 
 
 def carry_out(program: Program, asked: Asked, limits: Limits) -> str:

@@ -86,13 +86,24 @@ function showGutter() {
   });
 }
 
+// Whether a run can stop at a line: in C at any that is not empty, else at one with an operation.
+function carriedOut(line) {
+  const text = linesOf(file().text)[line - 1] || "";
+  if (inC(file().name)) return Boolean(text.trim());
+  const found = /^\s*(?:[A-Za-z_]\w*\s*:)?\s*(?:\.empty\s+)?([A-Za-z_]\w*)/.exec(text);
+  return Boolean(found) && Object.hasOwn(about.words.operations, found[1]);
+}
+
 function toggleBreak(line) {
   const lines = breaksOf(file().name), at = lines.indexOf(line);
+  if (at < 0 && !carriedOut(line)) return tell(`line ${line} has no instruction, so nothing stops there`);
   if (at < 0) lines.push(line);
   else lines.splice(at, 1);
   keep();
   showGutter();
-  say(at < 0 ? `break at line ${line}` : `no break at line ${line}`);
+  const never = at < 0 && view.ready && !view.older && !turnsOf(file().name, line).length;
+  if (never) tell(`the run that is shown has no turn at line ${line}`);
+  else say(at < 0 ? `break at line ${line}` : `no break at line ${line}`);
 }
 
 // Breaks stay with their lines where lines come or go before them.
@@ -113,26 +124,26 @@ function columnIn(line, letter) {
 
 const caretLine = () => linesOf(byId("text").value.slice(0, byId("text").selectionStart)).length;
 
-// Mistakes below their text, what is said of them beside and below it, and where the run stands.
+// Mistakes below their text, what is said of them beside and below it, the line that is carried out next, and the one
+// before. The outer elements have the letters of the source, by which the places are counted.
 function showMarks() {
   const here = caretLine(), under = [], over = [], lines = ink.lines, top = (line) =>
-    `calc(.3rem + ${line - 1} * var(--line))`;
-  if (state.now && state.now.file === file().name) under.push(el("div", { class: "now",
-    style: `top:${top(state.now.line)}` }));
+    `top:calc(.3rem + ${line - 1} * var(--line))`;
+  const beside = (line, column, kind, ...said) => over.push(el("div", { class: `row of-${kind}`,
+    style: `${top(line)};left:calc(.6ch + ${column}ch)` }, el("div", { class: kind }, ...said)));
+  for (const [kind, place] of [["at", state.done], ["now", state.now]]) {
+    if (place && place.file === file().name) under.push(el("div", { class: kind, style: top(place.line) }));
+  }
+  for (const { line } of leaksOf(file().name)) under.push(el("div", { class: "leak", style: top(line) }));
   for (const fault of state.faults.filter((each) => each.file === file().name)) {
     const line = lines[fault.line - 1] || "", from = columnIn(line, fault.from), to = Math.max(from + 1, columnIn(line,
       fault.to));
     under.push(el("div", { class: "wrong",
-      style: `top:${top(fault.line)};left:calc(.6ch + ${from}ch);width:${to - from}ch` }));
+      style: `${top(fault.line)};left:calc(.6ch + ${from}ch);width:${to - from}ch` }));
     if (fault.line === here && document.activeElement === byId("text")) {
-      over.push(el("div", { class: "said",
-        style: `top:${top(fault.line + 1)};left:calc(.6ch + ${Math.min(from, 24)}ch)` },
-        fault.message, fault.hints.map((hint) => el("div", {}, `→ ${hint}`))));
-    } else {
-      const end = columnIn(line, line.length) + 2;
-      over.push(el("div", { class: "short", style: `top:${top(fault.line)};left:calc(.6ch + ${end}ch)` },
-        fault.message));
-    }
+      beside(fault.line + 1, Math.min(from, 24), "said", fault.message, fault.hints.map((hint) => el("div", {},
+        `→ ${hint}`)));
+    } else beside(fault.line, columnIn(line, line.length) + 2, "short", fault.message);
   }
   byId("under").replaceChildren(...under);
   byId("over").replaceChildren(...over);
@@ -155,9 +166,15 @@ function fit() {
   byId("text").scrollTop = byId("text").scrollLeft = 0;
 }
 
+// Shows the text of the source; one that was not there before, from its beginning.
 function showText() {
-  byId("text").value = file().text;
-  byId("text").setAttribute("aria-label", `Source ${file().name}`);
+  const field = byId("text");
+  if (field.value !== file().text) {
+    field.value = file().text;
+    field.setSelectionRange(0, 0);
+    byId("editor").scrollTop = byId("editor").scrollLeft = 0;
+  }
+  field.setAttribute("aria-label", `Source ${file().name}`);
   showInk();
 }
 
@@ -191,22 +208,36 @@ function explain() {
     {}, row[2])];
   else if (names.has(word)) said = [el("code", {}, word), `: stands in line ${names.get(word)}`];
   else if (Object.hasOwn(permissions, word)) said = [el("code", {}, word), `: ${permissions[word]}`];
-  byId("explains").replaceChildren(...said);
+  byId("explains").replaceChildren(...(word || comment ? said : [el("button", { type: "button",
+    "data-does": "instructions" }, "All instructions")]));
 }
 
-// Words that may stand at the caret.
-function offersAt() {
-  const { begun, line } = wordAt(), { operations, directives, permissions, choices } = about.words;
+const HEAD_OF_LINE = /^\s*(?:[A-Za-z_]\w*\s*:)?\s*(?:\.empty\s+)?(\.?[A-Za-z_]\w*)\s+(.*)$/;
+
+// What kind of word stands at the end of a line that is begun: its head's operand of that place.
+function kindAt(line) {
+  const head = HEAD_OF_LINE.exec(line), { operations, places } = about.words;
+  if (!head) return null;
+  const [, name, rest] = head, isOperation = Object.hasOwn(operations, name);
+  const kinds = isOperation ? operations[name][3] : Object.hasOwn(places, name) ? places[name] : [];
+  return kinds[rest.split(isOperation ? "," : /\s+/).length - 1];
+}
+
+// The words of a kind, each with what there is to say of it.
+function wordsOf(kind) {
+  if (Array.isArray(kind)) return kind.map((name) => [name, ""]);
+  if (kind === "register") return Array.from({ length: 16 }, (_, number) => [`r${number}`, ""]);
+  if (kind === "permission") return Object.entries(about.words.permissions);
+  return kind === "name" ? [...allNames()].map(([name, number]) => [name, `line ${number}`]) : [];
+}
+
+// Words that may stand at the caret, and no others. Registers are offered only if somebody asks.
+function offersAt(asked) {
+  const { begun, line } = wordAt(), { operations, directives } = about.words;
   if (line.includes(";") || inC(file().name)) return [];
-  const first = /^\s*(?:[A-Za-z_]\w*\s*:)?\s*(?:\.empty\s+)?[.\w]*$/.test(line), found = [];
-  if (first) {
-    for (const [name, [usage, effect]] of Object.entries(operations)) found.push([name, `${usage}: ${effect}`]);
-    for (const [name, [usage, meaning]] of Object.entries(directives)) found.push([name, `${usage}: ${meaning}`]);
-  } else {
-    for (const [name, number] of allNames()) found.push([name, `line ${number}`]);
-    for (const [name, full] of Object.entries(permissions)) found.push([name, full]);
-    for (const name of choices) found.push([name, ""]);
-  }
+  const first = /^\s*(?:[A-Za-z_]\w*\s*:)?\s*(?:\.empty\s+)?[.\w]*$/.test(line), kind = first ? null : kindAt(line);
+  const found = first ? [operations, directives].flatMap((table) => Object.entries(table).map(([name, [usage, says]]) =>
+    [name, `${usage}: ${says}`])) : kind === "register" && !asked ? [] : wordsOf(kind);
   return found.filter(([name]) => name.startsWith(begun) && name !== begun).slice(0, 40);
 }
 
@@ -220,7 +251,7 @@ function hideOffers() {
 
 // Shows what may stand here, if it is asked for or two letters of it are there.
 function showOffers(asked) {
-  const list = wordAt().begun.length > 1 || asked ? offersAt() : [];
+  const list = wordAt().begun.length > 1 || asked ? offersAt(asked) : [];
   Object.assign(offered, { list, at: asked && list.length ? 0 : -1 });
   if (!list.length) return hideOffers();
   const { begun, line } = wordAt(), box = byId("offers"), field = byId("text").getBoundingClientRect();
@@ -304,17 +335,43 @@ function edited() {
   if (before === after) return;
   moveBreaks(before, after);
   file().text = after;
+  state.version++;
+  if (state.turns && isAnother(before, after)) {
+    state.turns = state.offered = "";
+    showTurns();
+    tell("another program: it runs in round robin again");
+  }
+  forgetLink();
   state.faults = state.faults.filter((fault) => fault.file !== file().name
     || linesOf(after)[fault.line - 1] === linesOf(before)[fault.line - 1]);
-  state.now = state.stands = null;
-  view.stale = true;
-  results.stale = new Set(Object.keys(results.panes));
+  state.now = state.done = state.stands = null;
   keep();
   showInk();
   showMistakes();
+  showNotices();
   showOffers(false);
   explain();
+  keepCaret();
   checkSoon();
+}
+
+// Whether next to nothing of a text is left in another: then it is another program.
+function isAnother(before, after) {
+  const lines = (text) => new Set(linesOf(text).map((line) => line.trim()).filter(Boolean)), had = lines(before);
+  const left = [...lines(after)].filter((line) => had.has(line)).length;
+  return had.size > 2 && left * 3 < had.size;
+}
+
+// The line where somebody types stays in sight, also if what is below the editor grows; and the beginning of the lines
+// does, as long as the caret is not far from it.
+function keepCaret() {
+  const box = byId("editor"), field = byId("text"), item = byId("ink").children[caretLine() - 1];
+  if (document.activeElement !== field || !item) return;
+  const top = item.offsetTop, high = item.offsetHeight, most = box.clientHeight - 2 * high;
+  if (top > box.scrollTop + most) box.scrollTop = top - Math.max(0, most);
+  else if (top < box.scrollTop) box.scrollTop = top;
+  const { line } = wordAt(), right = byId("gutter").offsetWidth + (columnIn(line, line.length) + 3) * letterWidth();
+  if (right < box.clientWidth) box.scrollLeft = 0;
 }
 
 // Goes to a place of a source.

@@ -7,7 +7,8 @@ import html
 import re
 from typing import Iterator, Optional
 
-SPANS = re.compile(r"`([^`\n]+)`|\*\*([^*]+)\*\*|!?\[([^\]]*)\]\(([^)]*)\)|\*([^*\n]+)\*")
+SPANS = re.compile(r"`([^`\n]+)`|\*\*([^*]+)\*\*|(!?)\[([^\]]*)\]\(([^)]*)\)|\*([^*\n]+)\*")
+PICTURE = re.compile(r"!\[([^\]]*)\]\(\.\./pictures/([\w-]+\.svg)\)")
 LESSON = re.compile(r"(\d{1,2})-[\w-]+\.md(?:#.*)?")
 ITEM = re.compile(r"(?:[-*]|\d+\.) +")
 FENCE = re.compile(r"```(\S*)")
@@ -23,13 +24,16 @@ def spans(text: str) -> str:
 
 
 def _span(found: re.Match[str]) -> str:
-    code, strong, said, to, slanted = found.groups()
+    code, strong, is_picture, said, to, slanted = found.groups()
     if code is not None:
         return f"<code>{html.escape(code)}</code>"
     if strong is not None:
         return f"<strong>{spans(strong)}</strong>"
     if slanted is not None:
         return f"<em>{html.escape(slanted)}</em>"
+    picture = PICTURE.fullmatch(found[0]) if is_picture else None
+    if picture:
+        return f'<img src="pictures/{picture[2]}" alt="{html.escape(said)}">'
     lesson = LESSON.fullmatch(to)
     if lesson:
         return f'<a href="#" data-lesson="{int(lesson[1])}">{spans(said)}</a>'

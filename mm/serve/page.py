@@ -9,21 +9,21 @@ import os
 import re
 from typing import Any, Mapping
 
-from mm.editing.words import CHOSEN
+from mm.editing.words import CHOSEN, PLACES, wanted_of
 from mm.machine.isa import OPERATIONS
 from mm.machine.program import Program
 from mm.machine.words import BY_SHORT
 from mm.serve import panes
 from mm.serve.http import Answer
 from mm.serve.limits import Limits
-from mm.serve.shelf import shelf
+from mm.serve.shelf import pictures, shelf
 from mm.source.wants import DIRECTIVES
 from mm.view.page import SCRIPTS as OF_VIEW
 from mm.view.page import part
 
 Json = Any
 FOLDER = os.path.dirname(os.path.abspath(__file__))
-SCRIPTS = ("state.js", "editor.js", "ask.js", "panes.js", "debug.js", "shelf.js", "main.js")
+SCRIPTS = ("state.js", "before.js", "editor.js", "ask.js", "panes.js", "debug.js", "shelf.js", "main.js")
 INLINE = re.compile(r"<script>(.*?)</script>", re.S)
 
 
@@ -35,7 +35,10 @@ def file_of(name: str) -> str:
 def words() -> Json:
     """What the editor colours, explains and completes."""
     return {
-        "operations": {each.name: [each.usage, each.effect, each.example] for each in OPERATIONS.values()},
+        "operations": {
+            each.name: [each.usage, each.effect, each.example, wanted_of(each)] for each in OPERATIONS.values()
+        },
+        "places": PLACES,
         "directives": {name: [each.usage, each.meaning, each.example] for name, each in DIRECTIVES.items()},
         "permissions": {short: each.full for short, each in BY_SHORT.items()},
         "choices": list(CHOSEN),
@@ -45,9 +48,10 @@ def words() -> Json:
 def about(limits: Limits, begin: Json) -> Json:
     """What the page is told when it opens."""
     return {
-        "begin": begin,
+        "begin": {**begin, "mark": hashlib.sha256(json.dumps(begin["files"]).encode()).hexdigest()},
         "limits": {"bytes": limits.bytes, "sources": limits.sources, "cycles": limits.cycles, "c": limits.c},
-        "panes": [[each.command, each.title, each.says, each.wants] for each in panes.there()],
+        "panes": [[each.command, each.title, each.says, each.fields, each.example, bool(each.guess)]
+            for each in panes.PANES],
         "words": words(),
         "shelf": shelf(limits.c),
     }
@@ -86,5 +90,6 @@ def files_of(program: Program, limits: Limits, begin: Json) -> dict[str, Answer]
         "page.js": ("text/javascript", "\n".join(file_of(name) for name in SCRIPTS)),
         "about.json": ("application/json", json.dumps(about(limits, begin))),
     }
+    made.update({f"pictures/{name}": ("image/svg+xml", text) for name, text in pictures().items()})
     return {name: Answer(200, f"{kind}; charset=utf-8", text.encode("utf-8", "replace"), policy() if not name else {})
             for name, (kind, text) in made.items()}

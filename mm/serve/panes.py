@@ -1,10 +1,10 @@
-"""What the page can ask of a program beside a run: a table of commands. A command that `mm` has not is left out."""
+"""What the page can ask of a program beside a run: a table of commands."""
 
 from __future__ import annotations
 
 import importlib
 from dataclasses import dataclass
-from typing import Any, Callable, Optional
+from typing import Any, Callable, Optional, Union
 
 from mm.commands.behind import audit_of, behind_doors, names_of, patterns_of
 from mm.commands.keeps import answer_of, files_and_segments, threads_of
@@ -22,9 +22,13 @@ from mm.pictures.svg import Picture
 from mm.serve.asked import NotAllowed
 from mm.serve.console import Desk
 from mm.serve.limits import Limits
+from mm.serve.words import for_page
 from mm.table import BY_NAME
+from mm.views.keptwords import listed
 
 Json = Any
+# A field of a question: what it is called, and the words to choose from, or `group`, or `name`.
+Field = tuple[str, Union[str, tuple[str, ...]]]
 FILE = "sources"
 # So many configurations are looked at, and so many turns are drawn, at most.
 MOST_STATES, MOST_DRAWN = 100_000, 120
@@ -33,7 +37,8 @@ MOST_STATES, MOST_DRAWN = 100_000, 120
 @dataclass(frozen=True)
 class Pane:
     """A pane: the command that it shows, what it is called, what it says in a line, its picture, and its options that
-    have the number of configurations as their value. `guess` gives the words where none are said."""
+    have the number of configurations as their value. `fields` are the words that it wants, with an example; `guess`
+    gives them where none are said."""
 
     command: str
     title: str
@@ -41,18 +46,8 @@ class Pane:
     picture: Optional[Callable[[Desk], Optional[Picture]]] = None
     options: tuple[str, ...] = ()
     guess: Optional[Callable[[Desk], list[str]]] = None
-
-    @property
-    def wants(self) -> str:
-        """The words that the command wants beside the sources, as its help writes them; in brackets if it does
-        without, or if they can be guessed."""
-        words = BY_NAME[self.command].operands.replace("FILE..", "").strip()
-        return f"[{words}]" if self.guess else words
-
-    @property
-    def needs(self) -> bool:
-        """Whether it cannot do without words."""
-        return bool(self.wants) and not self.wants.startswith("[")
+    fields: tuple[Field, ...] = ()
+    example: str = ""
 
 
 def _exploration(desk: Desk) -> Exploration:
@@ -118,18 +113,28 @@ PANES = (
         picture=_keeps,
         options=("--threads",),
         guess=_behind,
+        fields=(("segments", "name"),),
+        example="gate count asks whether a kernel keeps these two; with no name, those that only doors lead to",
     ),
-    Pane("why", "Why", "by what way a group can touch or write a word"),
-    Pane("holders", "Holders", "who holds a pointer into a range", picture=_reach),
+    Pane(
+        "why",
+        "Why",
+        "by what way a group can touch or write a word",
+        fields=(("group", "group"), ("word", "name"), ("kind", ("touch", "write"))),
+        example="1, count and write ask how group 1 can write count; touch is to read it",
+    ),
+    Pane(
+        "holders",
+        "Holders",
+        "who holds a pointer into a range",
+        picture=_reach,
+        fields=(("range", "name"),),
+        example="box asks for all of a segment, or the word of a label, and box,4 for 2^4 bytes from box on",
+    ),
     Pane("symbols", "Map", "where segments and labels are", picture=_image),
     Pane("trace", "Trace", "a line for each turn"),
 )
 BY_COMMAND = {pane.command: pane for pane in PANES}
-
-
-def there() -> list[Pane]:
-    """The panes whose command `mm` has."""
-    return [pane for pane in PANES if pane.command in BY_NAME]
 
 
 def schedules(desk: Desk) -> list[Json]:
@@ -142,24 +147,47 @@ def schedules(desk: Desk) -> list[Json]:
     return [["fault ", cause, turns, f"slot {slot}"] for slot, cause, turns in found.faults] + ends
 
 
+def _missing(desk: Desk, pane: Pane) -> str:
+    """Why a question cannot be asked yet."""
+    if pane.guess is None:
+        return f"Say {listed([label for label, _ in pane.fields])}: choose from what there is."
+    names = listed([region.name for region in desk.built.symbols.regions], "or")
+    return f"No segment is there to which only doors lead, so say what a kernel should keep: {names}."
+
+
+def _headed(lines: list[str]) -> Json:
+    """An answer that begins with its verdict."""
+    return {"head": lines[0], "good": lines[0].startswith("yes"), "lines": lines[1:]} if lines else {"lines": lines}
+
+
+def _behind_of(desk: Desk) -> Json:
+    """The lines of an audit, without those on what only doors lead to: the page has a button for that."""
+    lines = desk.lines
+    behind = lines[-1].startswith("  mm keeps ") if lines else False
+    names = lines[-2].partition("lead to ")[2].partition(";")[0] if behind else ""
+    return {"lines": for_page(lines[:-3] if behind else lines), "behind": names}
+
+
 def shown(desk: Desk, limits: Limits) -> Json:
     """What a pane shows: the lines of its command, its picture, and schedules to run."""
     asked = desk.asked
     pane = BY_COMMAND.get(asked.deed)
-    if pane is None or pane not in there():
+    if pane is None:
         raise NotAllowed("there is no such pane", 404)
-    if pane.needs and not asked.words:
-        return {"wants": pane.wants}
-    words = list(asked.words) or (pane.guess(desk) if pane.guess else []) if pane.wants else []
+    words = list(asked.words) or (pane.guess(desk) if pane.guess else []) if pane.fields else []
+    if len(words) < len(pane.fields):
+        return {"missing": _missing(desk, pane)}
     cycles = ["--cycles", str(min(limits.turns, asked.cycles or limits.turns))] if pane.command == "trace" else []
     desk.states = min(limits.states, MOST_STATES)
     options = [word for option in pane.options for word in (option, str(desk.states))]
     desk.say([pane.command, FILE, *options, *cycles, *words])
     importlib.import_module(BY_NAME[pane.command].home).run(desk)
     picture = pane.picture(desk) if pane.picture else None
+    lines = for_page(desk.lines)
     return {
-        "lines": desk.lines,
-        "notes": desk.notes,
+        **(_headed(lines) if pane.command == "keeps" else {"lines": lines}),
+        **(_behind_of(desk) if pane.command == "audit" else {}),
+        "notes": for_page(desk.notes),
         "words": words,
         "picture": picture.svg() if picture else None,
         "schedules": schedules(desk) if pane.command == "explore" else [],

@@ -9,7 +9,7 @@ from typing import Any, Iterator, Optional
 
 from mm.commands.grade import exercises, sheet_of
 from mm.machine.program import CHECKOUT
-from mm.serve.marked import html_of
+from mm.serve.marked import PICTURE, html_of, spans
 
 Json = Any
 COURSE = os.path.join(CHECKOUT, "docs", "course")
@@ -130,6 +130,37 @@ def _task(name: str) -> Optional[str]:
     return next((found[0] for found in pattern.finditer(text) if found[1] == number), None)
 
 
+# Commands of a terminal in a text: a block of them, and one in lines of its own.
+TYPED = re.compile(r"^```console\n(?:\$ (?:cp|mkdir) .*\n)+```\n|^(?:    mm .*\n)+", re.M)
+ROW = re.compile(r"^\| (`.*) \|$", re.M)
+FOLDERS = re.compile(r"(?<![\w/])(?:[\w.]+/)+(?=[\w-]+\.\w+)")
+
+
+def meanings() -> dict[str, str]:
+    """What each kind of line of an exercise asks for, as the page on grading says it."""
+    path, found = os.path.join(COURSE, "GRADING.md"), dict[str, str]()
+    for row in ROW.finditer(read(path)) if os.path.isfile(path) else ():
+        form, meaning = (cell.strip() for cell in re.split(r"(?<!\\)\|", row[1])[:2])
+        for each in re.findall(r"`(\w[^`]*)`", form):
+            found.setdefault(each.split()[0], spans(f"`{each}`: {meaning}".replace("\\|", "|")))
+    return found
+
+
+def without_folders(text: str) -> str:
+    """A line of an exercise in which files have no folders: the page has none."""
+    return FOLDERS.sub("", text)
+
+
+def pictures() -> dict[str, str]:
+    """The pictures that lessons show, by their names."""
+    folder = os.path.join(CHECKOUT, "docs", "pictures")
+    texts = [read(os.path.join(COURSE, name)) for name in (os.listdir(COURSE) if os.path.isdir(COURSE) else [])
+        if name.endswith(".md")]
+    names = {found[2] for text in texts for found in PICTURE.finditer(text)}
+    return {name: read(os.path.join(folder, name)) for name in sorted(names)
+        if os.path.isfile(os.path.join(folder, name))}
+
+
 def _start(text: str) -> str:
     """The program from which an exercise begins: one in its text, or a file that it says to copy."""
     within, copied = FENCED.search(text), COPIED.search(text)
@@ -141,12 +172,14 @@ def _start(text: str) -> str:
 
 def graded() -> list[Json]:
     """The exercises that have a grade, with their text and what is looked at."""
-    found = []
+    found, said = [], meanings()
     for name in exercises() if os.path.isdir(COURSE) else []:
         sheet, text = sheet_of(name), _task(name)
-        found.append({"name": name, "title": sheet.title or name, "html": html_of(text) if text else "",
+        found.append({"name": name, "title": sheet.title or name,
+            "html": html_of(TYPED.sub("", text)) if text else "",
             "start": _start(text or ""),
-            "asks": [line.text for line in sheet.expectations]})
+            "asks": [without_folders(line.text) for line in sheet.expectations],
+            "meanings": [said.get(line.kind, "") for line in sheet.expectations]})
     return sorted(found, key=lambda each: [int(part) if part.isdigit() else -1 for part in re.split(r"[.-]",
         each["name"])])
 

@@ -68,9 +68,15 @@ class Words(unittest.TestCase):
 
     def test_offers(self):
         begin = {offer.word for offer in words.offers(self.text, 4, 3)}
-        inside = {offer.word for offer in words.offers(self.text, 4, 11)}
         self.assertTrue({"ld", ".segment"} <= begin and "again" not in begin)
-        self.assertTrue({"again", "box", "r3", "rw", "full"} <= inside and "ld" not in inside)
+        for before, wanted in (("  bnz r2, ", ["again", "add", "main", "box"]), ("  ld r1, r2, 0, ", ["any", "full", "empty"]),
+            ("  ld r1, r2, 0, any, ", ["keep", "full", "empty"]), ("  ld r1, r2, ", []), ("x: add ", list(words.REGISTERS)),
+            (".thread 0 0 none ", ["xu", "xp"]), (".reg 1 ptr rw ", ["again", "add", "main", "box"]), (".int ", []),
+            (".reg 1 ", ["int", "ptr"]), (".segment ", []), (".thread 0 0 none xu main ", [])):
+            text = read_source("a.asm", SOURCE + before.encode())
+            found = words.offers(text, SOURCE.count(b"\n") + 1, len(before) + 1)
+            self.assertEqual([offer.word for offer in found], wanted, before)
+        self.assertIn("rw", {offer.word for offer in words.offers(read_source("a.asm", b".ptr "), 1, 6)})
         self.assertEqual(words.offers(self.text, 1, 9), [])
 
 

@@ -17,7 +17,8 @@ from mm.serve.limits import ONE_PERSON, Limits, for_class
 from mm.serve.marked import html_of
 from mm.serve.page import files_of, policy
 from mm.serve.server import Server
-from mm.serve.shelf import shelf
+from mm.serve.shelf import shelf, without_folders
+from mm.serve.words import for_page
 from mm.table import BY_NAME
 from mm.tests.hostile import INCLUDES, OK
 from mm.tests.serving import Served, program
@@ -129,6 +130,12 @@ class Shelf(unittest.TestCase):
         self.assertEqual([lesson["number"] for lesson in found["lessons"]], list(range(1, 12)))
         self.assertEqual(len(found["exercises"]), 25)
         self.assertEqual([each["name"] for each in found["exercises"] if not each["html"]], [])
+        lab2 = next(each for each in found["exercises"] if each["name"] == "lab-2")
+        self.assertEqual([bool(said) for said in lab2["meanings"]], [True] * len(lab2["asks"]))
+        self.assertNotIn("mm grade lab-2", lab2["html"])
+        self.assertEqual(without_folders("given ../lab/bank.asm gate account"), "given bank.asm gate account")
+        counter = next(each for each in found["examples"] if each["name"] == "counter.asm")
+        self.assertEqual(counter["turns"], "0 1*5")
         for item in found["c"]:
             for source in item["files"]:
                 refuse_files(source["name"], source["text"])
@@ -140,6 +147,8 @@ class Shelf(unittest.TestCase):
         self.assertIn('<code>&lt;i&gt;</code> <strong>s</strong> <a href="#" data-lesson="5">to</a> x', made)
         self.assertIn("<td><code>1|2</code></td><td>&lt;u&gt;</td>", made)
         self.assertNotIn("javascript", made)
+        shown = html_of("![a <b>](../pictures/gate.svg) ![c](../../x.svg)")
+        self.assertEqual(shown, '<p><img src="pictures/gate.svg" alt="a &lt;b&gt;"> c</p>')
 
     def test_the_pages_of_lessons_have_no_marks_left(self):
         for lesson in shelf(False)["lessons"]:
@@ -148,15 +157,39 @@ class Shelf(unittest.TestCase):
 
     def test_files(self):
         made = files_of(None, ONE_PERSON, {"files": [], "lesson": 0})
-        self.assertEqual(sorted(made), ["", "about.json", "page.css", "page.js"])
+        self.assertEqual(sorted(name for name in made if not name.startswith("pictures/")),
+            ["", "about.json", "page.css", "page.js"])
+        self.assertIn(b"<svg", made["pictures/gate.svg"].body)
         self.assertIn("script-src 'self' 'sha256-", policy()["Content-Security-Policy"])
         self.assertNotIn("unsafe-inline", policy()["Content-Security-Policy"].split("style-src")[0])
 
-    def test_panes_are_those_whose_command_there_is(self):
-        self.assertEqual({pane.command for pane in panes.there()} - set(BY_NAME), set())
-        self.assertEqual([pane.command for pane in panes.PANES if pane.command in BY_NAME], [pane.command
-            for pane in panes.there()])
+    def test_panes_are_of_commands(self):
+        self.assertEqual({pane.command for pane in panes.PANES} - set(BY_NAME), set())
         self.assertTrue(known("audit") and known("run") and not known("serve") and not known("net"))
+
+
+class ForPage(unittest.TestCase):
+    def test_what_is_typed_is_left_out(self):
+        told = ["mm: why: missing WORD and KIND", "    usage: mm why FILE.. GROUP WORD KIND", "    `mm help why` explains it"]
+        self.assertEqual(for_page(told), ["missing WORD and KIND"])
+        long = "a run has at most 1000000 cycles: `mm save` and `mm continue` make a longer one of two"
+        self.assertEqual(for_page([long, "mm: note: it is late", "3 cycles"]), ["a run has at most 1000000 cycles", "it is late",
+            "3 cycles"])
+
+    @needs_log
+    def test_turns_that_do_nothing_and_orders_that_end(self):
+        with Served() as served:
+            files = program(read("examples", "counter.asm"), "counter.asm")
+
+            def told(turns):
+                form = served.do({"do": "run", "files": files, "turns": turns}).form
+                return form["order_ends"], [note for note in form["notes"] if "did nothing" in note]
+
+            self.assertEqual(told(""), ("", []))
+            self.assertEqual(told("0 1*5"), ("6 turns", []))
+            self.assertEqual(told("0*3 5*2"), ("5 turns",
+                ["2 turns of the order did nothing: a slot had halted, or there is no such slot"]))
+            self.assertEqual(told("0 1 " * 40)[0], "")
 
 
 class Child(unittest.TestCase):
@@ -223,6 +256,18 @@ class Whole(unittest.TestCase):
             audit = served.do({"do": "audit", "files": program(OK)}).form
             self.assertIn("group 0 (slot 0)", audit["lines"][0])
             self.assertTrue(audit["picture"].startswith("<svg"))
+            self.assertEqual(audit["behind"], "")
+            counter = program(read("examples", "counter.asm"), "counter.asm")
+            audit = served.do({"do": "audit", "files": counter}).form
+            self.assertEqual((audit["behind"], [line for line in audit["lines"] if "mm keeps" in line]),
+                ("gate and count", []))
+            kept = served.do({"do": "keeps", "files": counter}).form
+            self.assertEqual((kept["head"], kept["good"], kept["words"]),
+                ("yes: the kernel keeps gate and count", True, ["gate", "count"]))
+            kept = served.do({"do": "keeps", "files": counter, "words": ["count"]}).form
+            self.assertEqual((kept["head"][:3], kept["good"], kept["words"]), ("no:", False, ["count"]))
+            self.assertIn("No segment is there", served.do({"do": "keeps", "files": program(OK)}).form["missing"])
+            self.assertIn("Say group, word and kind", served.do({"do": "why", "files": program(OK)}).form["missing"])
             graded = served.do({"do": "grade", "words": ["lab-2"], "files": program(read("docs", "course",
                 "answers", "lab2.asm"))}).form
             self.assertEqual(graded["right"], len(graded["marks"]))

@@ -8,6 +8,7 @@ import os
 import time
 from typing import Any, Optional
 
+from mm.tests import stumbles
 from mm.tests.browser import Browser, Failed
 from mm.tests.serving import Served
 from mm.tests.support import mm, read
@@ -63,6 +64,8 @@ class Bench:
         self.browser, self.served = browser, served
         self.wrong: list[str] = []
         self.steps = 0
+        # The servers that the page may ask.
+        self.hosts = [served.host]
 
     def fail(self, said: str) -> None:
         self.wrong.append(said)
@@ -98,7 +101,8 @@ class Bench:
 
     def press(self, name: str, ctrl: bool = False, shift: bool = False) -> None:
         """A key with its modifiers."""
-        codes = {"F4": 115, "F6": 117, "F8": 119, "F9": 120, "F10": 121, "Enter": 13, "Tab": 9, "Escape": 27}
+        codes = {"F4": 115, "F6": 117, "F8": 119, "F9": 120, "F10": 121, "Enter": 13, "Tab": 9, "Escape": 27,
+            "ArrowDown": 40}
         for kind in ("rawKeyDown", "keyUp"):
             self.browser.call("Input.dispatchKeyEvent", type=kind, key=name, code=name,
                 windowsVirtualKeyCode=codes[name], modifiers=2 * ctrl + 8 * shift)
@@ -131,6 +135,20 @@ class Bench:
             f" it.value = {json.dumps(value)};"
             " it.dispatchEvent(new Event('change', { bubbles: true })); return it.value; })()")
         self.browser.drawn()
+
+    def example(self, name: str) -> None:
+        """An example in the editor; what was written there before may go."""
+        self.choose("examples", name)
+        self.click("#take")
+        self.until(f"file().name === {json.dumps(name)} || document.getElementById('sure').open", "the example")
+        if self.run("document.getElementById('sure').open"):
+            self.answer("yes")
+        self.until(f"file().name === {json.dumps(name)}", "the example after the question")
+
+    def answer(self, value: str) -> None:
+        """An answer to a question of the page."""
+        self.until("document.getElementById('sure').open", "a question")
+        self.click(f"#sure button[value='{value}']")
 
     def press_run(self) -> None:
         self.run("results.report = null; 1")
@@ -177,24 +195,24 @@ class Bench:
         for _ in range(4):
             self.click("[data-step='resume']")
             places.append((self.place, self.line))
-        self.same("the turns of a break", places, [(4, 6), (8, 6), (12, 6), (15, 9)])
+        self.same("the turns before a break", places, [(3, 6), (7, 6), (11, 6), (15, None)])
         self.click("[data-step='reverse']")
-        self.same("the break before", (self.place, self.line), (12, 6))
+        self.same("the break before", (self.place, self.line), (11, 6))
         self.press("F10")
         self.press("F10")
         self.press("F10", shift=True)
-        self.same("two steps and one back", (self.place, self.line), (13, 7))
+        self.same("two steps and one back", (self.place, self.line), (12, 7))
         self.caret(5)
         self.press("F9")
         self.same("a break by its key", self.run("breaksOf('mine.asm')"), [6, 5])
         self.press("F8", shift=True)
         self.press("F8", shift=True)
-        self.same("the break before by its key", (self.place, self.line), (11, 5))
+        self.same("the break before by its key", (self.place, self.line), (10, 5))
         self.run("goToLine('mine.asm', 9); 1")
         self.click("[data-step='here']")
-        self.same("run to the cursor", (self.place, self.line), (15, 9))
+        self.same("run to the cursor", (self.place, self.line), (14, 9))
         self.run("inFrame().document.querySelector('#lines li[data-line=\"3\"]').click(); 1")
-        self.same("a click on a line of the page", (self.place, self.line), (1, 3))
+        self.same("a click on a line of the page", (self.place, self.run("state.done.line"), self.line), (1, 3, 4))
         self.type("; one more line\n" + LOOP)
         self.same("breaks move with their lines", sorted(self.run("breaksOf('mine.asm')")), [6, 7])
 
@@ -226,16 +244,17 @@ class Bench:
 
     def panes(self) -> None:
         """The audit, what a kernel keeps, each schedule with a run of it, and the order of turns by clicks."""
-        self.choose("examples", "counter.asm")
+        self.example("counter.asm")
         self.click("[data-pane='audit']")
         self.until("document.querySelector('#pane pre') && document.querySelector('#pane img')", "the audit")
         if "apart" not in self.text("#pane pre"):
             self.fail(f"the audit says {self.text('#pane pre')[:80]!r}")
         self.click("[data-pane='keeps']")
         self.until("results.panes.keeps && document.querySelector('#pane img')", "what the kernel keeps")
-        self.same("what keeps says", self.text("#pane pre").split("\n")[0], "yes: the kernel keeps gate and count")
-        self.same("segments that only doors lead to", self.run("document.getElementById('pane-words').value"), "gate count")
-        self.choose("examples", "race.asm")
+        self.same("what keeps says", self.text("#pane .answer"), "yes: the kernel keeps gate and count")
+        guessed = self.run("document.getElementById('pane-words').value")
+        self.same("segments that only doors lead to", guessed, "gate count")
+        self.example("race.asm")
         self.click("[data-pane='explore']")
         self.until("document.querySelector('#pane [data-turns]')", "schedules")
         turns = self.run("[...document.querySelectorAll('#pane [data-turns]')].pop().dataset.turns")
@@ -252,7 +271,8 @@ class Bench:
         made = self.run("[state.turns, inFrame().shown.TURNS.map(({ slot }) => slot)]")
         self.same("turns by clicks", made, ["1*2 0", [1, 1, 0]])
         self.click("[data-pane='why']")
-        self.run("document.getElementById('pane-words').value = '0 count write'; 1")
+        self.run("for (const [name, text] of [['group', '0'], ['word', 'count'], ['kind', 'write']])"
+            " document.getElementById(`pane-${name}`).value = text; 1")
         self.run("document.querySelector('#pane form').requestSubmit(); 1")
         self.until("results.panes.why", "why")
 
@@ -287,8 +307,9 @@ class Bench:
     def show(self) -> None:
         """The counter at its gate, with a break there, as pictures have it."""
         self.run("results.lesson = null; chooseExercise(''); 1")
-        self.choose("examples", "counter.asm")
+        self.example("counter.asm")
         self.press_run()
+        self.run("document.getElementById('order').open = false; tell(''); 1")
         self.run("toggleBreak(21); step('start').then(() => step('resume')); 1")
         self.browser.drawn()
 
@@ -316,9 +337,9 @@ class Bench:
         """Nothing was said on the console, and nothing was asked for but this server."""
         for text in self.browser.complaints:
             self.fail(f"the console says: {text}")
-        begin = f"http://{self.served.host}/"
+        ours = tuple(f"http://{host}/" for host in self.hosts)
         for url in self.browser.asked:
-            if not url.startswith((begin, "data:", "blob:", "about:")):
+            if not url.startswith((*ours, "data:", "blob:", "about:")):
                 self.fail(f"it asks for {url}")
 
 
@@ -333,6 +354,8 @@ def two_at_once(one: Bench, other: Bench) -> None:
         bench.until("results.report && view.ready", "a run in two browsers")
         bench.same("the run in two browsers", bench.run(f"results.report.join(' ').includes({json.dumps(said)})"), True)
     other.open(one.served.url + one.run("linkOf()"))
+    other.answer("yes")
+    other.until("location.hash && file().text.startsWith('; Puts out')", "the program of a link")
     other.same("the program of a link", other.run("file().text"), LOOP)
 
 
@@ -350,6 +373,7 @@ def look(path: str, pictures: Optional[str]) -> tuple[int, list[str]]:
         two_at_once(bench, other)
         bench.names()
         bench.tab_order()
+        stumbles.all_of(bench)
         bench.show()
         bench.sizes(pictures)
         for each in (bench, other):

@@ -230,9 +230,9 @@ function about() {
   byId("about").textContent = `${shown}, ${RUN.order}${stuck}`;
   if (RUN.goes_on) {
     notes.push(`The run goes on: this page shows ${several(TURNS.length, "turn")}, up to cycle ${RUN.last}.`,
-      `With --from ${RUN.last + 1} mm view shows the next.`);
+      el("span", { class: "alone" }, ` With --from ${RUN.last + 1} mm view shows the next.`));
   }
-  byId("notes").textContent = notes.join(" ");
+  byId("notes").replaceChildren(...notes);
   byId("notes").hidden = !notes.length;
   byId("of").textContent = `of ${RUN.first > 1 ? `${RUN.first} to ` : ""}${RUN.last}`;
 }
