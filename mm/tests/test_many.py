@@ -1,16 +1,17 @@
 """Answers with more rows, longer ranges and higher numbers than those of the examples."""
 
 import json
+import os
 import re
 import unittest
 from unittest import mock
 
 from mm.formats.hex import PARTS
-from mm.formats.image import Image, Slot
-from mm.machine.words import Permission, Pointer, Word
+from mm.formats.image import Image, Slot, image_bytes, page_of, read_image
+from mm.machine.words import Cell, Permission, Pointer, Word
 from mm.names.symbols import Region, Symbols
 from mm.outputs.audit import Reach
-from mm.tests.support import folder, mm, needs_log, needs_program, write
+from mm.tests.support import folder, mm, needs_log, needs_program, read_bytes, write
 from mm.tests.test_hex import read_hex
 from mm.tests.test_waves import Reader
 from mm.views.audit import NAMES_SHOWN, AuditView
@@ -76,31 +77,49 @@ class Holders(unittest.TestCase):
                         ended = mm(command, name, range_)
                         self.assertEqual((ended.status, ended.out), (1, ""), range_)
                         self.assertIn(f"mm: a range of 2^{log} bytes begins at a multiple of its length", ended.err)
-            self.assertIn("slot 0 r1   holds  rw 2^3 box", mm("holders", name, "0x100000,20").out)
             self.assertIn("nobody holds a pointer that meets", mm("holders", name, "0x200000,20").out)
+
+    def test_ranges_of_all_lengths(self):
+        """A register has a pointer into the range, and another one to before it, which it keeps."""
+        page = page_of(0x100, {0: Cell(Word(0))})
+        for log in range(3, 54):
+            begin = 1 << max(log, 21)
+            inside, before = (Pointer(Permission.RW, 3, place) for place in (begin + (1 << log) - 8, begin - 8))
+            registers = (Word(0), Word(inside.bits, True), Word(before.bits, True), *(Word(0),) * 13)
+            slot = Slot(0, 0, None, False, Pointer(Permission.XU, 3, 0x100000), registers)
+            with self.subTest(log), folder() as room:
+                name, swept = os.path.join(room, "one.img"), os.path.join(room, "swept.img")
+                with open(name, "wb") as file:
+                    file.write(image_bytes(Image(2, 1, False, (slot,), {page.number: page})))
+                range_ = f"0x{begin:x},{log}"
+                told = mm("holders", name, range_).out.splitlines()[1:]
+                self.assertEqual(told, [f"  slot 0 r1   holds  rw 2^3 0x{inside.address:x}"])
+                self.assertEqual(mm("sweep", name, range_, "-o", swept).status, 0)
+                self.assertIn("nobody holds a pointer that meets", mm("holders", swept, range_).out)
+                found = read_image(read_bytes(swept)).slots[0].registers
+                self.assertEqual((found[1].tagged, found[2]), (False, registers[2]))
 
 
 @needs_program
 class Net(unittest.TestCase):
-    def test_three_nodes_and_three_links(self):
-        with folder() as room:
-            nodes = [
-                write(room, f"{name}.asm", SENDS.format(first=first, count=1, each=0))
-                for name, first in (("one", 65), ("two", 66), ("three", 67))
-            ]
-            links = write(room, "ring.links", "0.sent>1.got\n1.sent>2.got\n2.sent>0.got\n")
-            events = write(room, "ring.events", "0:0*7 +0 1:0*7 +1 2:0*7 +2 1@0 2@0\n")
-            ended = mm("net", links, events, *nodes)
-        self.assertEqual((ended.status, ended.err), (0, ""))
-        reports = ended.out.split("node ")[1:]
-        self.assertEqual([report[0] for report in reports], ["0", "1", "2"])
-        for report, letter, got in zip(reports, "ABC", ("67 'C'", None, "66 'B'")):
-            self.assertIn(f'output "{letter}"', report)
-            self.assertEqual(re.findall(r"\n  got +(\d+ '.')", report), [got] if got else [])
-        self.assertEqual(
-            [line for line in ended.out.splitlines() if line.startswith("link ")],
-            ["link 0 sent 1 arrived 0", "link 1 sent 1 arrived 1", "link 2 sent 1 arrived 1"],
-        )
+    def test_rings(self):
+        """Of two to eight nodes. Each sends a letter to the next, and all letters but the first arrive."""
+        for count in range(2, 9):
+            with self.subTest(count), folder() as room:
+                nodes = [write(room, f"{node}.asm", SENDS.format(first=65 + node, count=1, each=0)) for node in range(count)]
+                links = " ".join(f"{node}.sent>{(node + 1) % count}.got" for node in range(count))
+                events = " ".join(f"{node}:0*7 +{node}" for node in range(count))
+                events += "".join(f" {link}@0" for link in range(1, count))
+                ended = mm("net", write(room, "a.links", links), write(room, "a.events", events), *nodes)
+                self.assertEqual((ended.status, ended.err), (0, ""))
+                reports = re.split(r"(?m)^node (\d)", ended.out)
+                self.assertEqual(reports[1::2], [str(node) for node in range(count)])
+                for node, report in enumerate(reports[2::2]):
+                    self.assertIn(f'output "{chr(65 + node)}"', report)
+                    got = [chr(65 + (node - 1) % count)] if node != 1 else []
+                    self.assertEqual(re.findall(r"\n  got +\d+ '(.)'", report), got)
+                told = [line for line in ended.out.splitlines() if line.startswith("link ")]
+                self.assertEqual(told, [f"link {link} sent 1 arrived {int(link > 0)}" for link in range(count)])
 
 
 class Audits(unittest.TestCase):

@@ -101,6 +101,16 @@ class Asked(unittest.TestCase):
         self.assertEqual((few.c, with_c.c, with_c.memory), (False, True, 8 << 30))
         self.assertEqual((with_c.seconds, with_c.states, with_c.cycles), (few.seconds, few.states, few.cycles))
         self.assertTrue(2 <= few.at_once <= max(2, os.cpu_count()))
+        page = read("docs", "SERVE.md")
+        for row in (
+            f"bytes of all sources together | {ONE_PERSON.bytes:,} | {few.bytes:,}",
+            f"sources | {ONE_PERSON.sources} | {few.sources}",
+            f"seconds for a request | {ONE_PERSON.seconds} | {few.seconds}",
+            f"memory for each process | {ONE_PERSON.memory >> 30} GiB | {few.memory >> 30} GiB, with C {with_c.memory >> 30} GiB",
+            f"cycles of a run | {ONE_PERSON.cycles:,} | {few.cycles:,}",
+            f"connections | {ONE_PERSON.connections} | {few.connections}",
+        ):
+            self.assertIn(f"\n| {row} |\n", page)
         with self.assertRaisesRegex(NotAllowed, "from 0 to 100000"):
             asked(few, cycles=100_001)
         self.assertEqual(asked(few, cycles=100_000).cycles, 100_000)
