@@ -1,7 +1,8 @@
 """Broken lines of `mm/cc`, each of which the tests must notice: a path, the text of a line, what is put into its place,
 and the module of tests that notices it."""
 
-VALUES, CLANG, CC, SAID, DOORS = (f"mm.tests.test_cc{part}" for part in ("_values", "_clang", "", "_said", "_doors"))
+VALUES, CLANG, CC, SAID, DOORS, LIBRARY = (
+    f"mm.tests.test_cc{part}" for part in ("_values", "_clang", "", "_said", "_doors", "_library"))
 BROKEN = (
     # Numbers.
     ("mm/cc/arithmetic.py", 'op, (a, b) = "lts" if op == "ltu" else op, distances', "a, b = distances", VALUES),
@@ -31,6 +32,28 @@ BROKEN = (
     ("mm/cc/sequences.py", "self.store(base, word, -4)", "self.store(base, word, 4)", VALUES),
     ("mm/cc/alignment.py", 'if "DW_TAG_pointer_type" in said or "!DISubrange(" in said or "!DIEnumerator(" in said:',
      "if True:", VALUES),
+    # The library.
+    ("mm/cc/runtime/string.c", "while (at < most && text[at])", "while (at <= most && text[at])", LIBRARY),
+    ("mm/cc/runtime/string.c", "return one < other ? -1 : 1;\n        if (!one)\n            break;",
+     "return one < other ? 1 : -1;\n        if (!one)\n            break;", LIBRARY),
+    ("mm/cc/runtime/string.c", "for (; at < size; at++)\n        to[at] = 0;\n", "", LIBRARY),
+    ("mm/cc/runtime/string.c", "return to + strnlen(to, size);", "return to + size;", LIBRARY),
+    ("mm/cc/runtime/string.c", "to[length + at] = 0;", "", LIBRARY),
+    ("mm/cc/runtime/string.c", "            found = (char *)text + at;", "            return (char *)text + at;", LIBRARY),
+    ("mm/cc/runtime/string.c", "return text[at] ? (char *)text + at : 0;", "return (char *)text + at;", LIBRARY),
+    ("mm/cc/runtime/string.c", "c >= 0 && c < ' ' || c == 127", "c >= 0 && c < ' '", LIBRARY),
+    ("mm/cc/runtime/string.c", "return c > ' ' && c < 127;", "return c >= ' ' && c < 127;", LIBRARY),
+    ("mm/cc/runtime/string.c", "return islower(c) ? c - 32 : c;", "return c & ~32;", LIBRARY),
+    ("mm/cc/runtime/string.c", "if (one != other)\n            return one < other ? -1 : 1;\n        if (!one)\n            return 0;", "return 1;", LIBRARY),
+    ("mm/cc/runtime/general.c", "at_exit[--at_exits]();", "at_exit[--at_exits](), --at_exits;", LIBRARY),
+    ("mm/cc/runtime/general.c", "if (at_exits == 32)", "if (at_exits == 16)", LIBRARY),
+    ("mm/cc/runtime/general.c", "return (ldiv_t){a / b, a % b};", "return (ldiv_t){a / b, (a < 0 ? -a : a) % b};", LIBRARY),
+    ("mm/cc/runtime/general.c", "return (div_t){a / b, a % b};", "return (div_t){a / b, (a < 0 ? -a : a) % b};", LIBRARY),
+    ("mm/cc/runtime/general.c", "intmax_t imaxabs(intmax_t x) { return x < 0 ? -x : x; }", "intmax_t imaxabs(intmax_t x) { return x; }", LIBRARY),
+    ("mm/cc/runtime/general.c", "base > 36", "base > 35", LIBRARY),
+    ("mm/cc/runtime/general.c", "(number)LONG_MAX + found.negative", "(number)LONG_MAX", LIBRARY),
+    ("mm/cc/runtime/general.c", "size_t low = 0, high = count;", "size_t low = 0, high = count > 8 ? 8 : count;", LIBRARY),
+    ("mm/cc/runtime/general.c", "low = middle + 1;", "low = middle + 2;", LIBRARY),
     # The ends of blocks, calls, and what is written.
     ("mm/cc/ends.py", "pairs = [(d, kept if a == first else a) for d, a in pairs]", "pairs = pairs[1:]", VALUES),
     ("mm/cc/ends.py", 'inside = self.op("ltu", at, self.constant(most - least + 1))', 'inside = self.op("ltu", at, self.constant(most - least))',

@@ -91,5 +91,76 @@ class Places(unittest.TestCase):
         self.assertIn("// \u2192 \u00e9", self.answers_of("b main+8", "c", "list")[2])
 
 
+# Globals of many types, whose words are as C lays them out.
+GLOBALS = """.segment text 5
+;@ type 1 base i4 int
+;@ type 2 base i1 char
+;@ type 3 base x4 float
+;@ type 4 base x8 double
+;@ type 5 array 6 2
+;@ type 6 array 40 1
+;@ type 7 array 32 1
+;@ type 8 struct 16 both part:0:3 whole:64:4
+;@ type 9 array 2 4
+main:
+;@ function main at FILE:3
+;@ line FILE:4
+  nop
+  halt
+.segment half 3
+;@ global half 4 at 0 type 3
+  .int 0x3fc00000
+.segment real 3
+;@ global real 8 at 0 type 4
+  .int 0x400921fb54442d18
+.segment both 4
+;@ global both 16 at 0 type 8
+  .int 0x123456783fc00000
+  .int 0x8000000000000001
+.segment reals 4
+;@ global reals 16 at 0 type 9
+  .int 0x3ff0000000000000
+  .int 0x4000000000000000
+.segment letters 3
+;@ global letters 6 at 0 type 5
+  .int 0x0000006300620061
+.segment many 8
+;@ global many 160 at 0 type 6
+  .int 0x0000000200000001
+  .fill 19
+.segment few 7
+;@ global few 128 at 0 type 7
+  .int 0x0000000400000003
+  .fill 15
+.thread 0 0 none xu main
+"""
+
+
+@needs_program
+class Values(unittest.TestCase):
+    def answers_of(self, *lines):
+        with folder() as room:
+            path = write(room, "c.c", FILE)
+            ended = mm("debug", write(room, "c.asm", GLOBALS.replace("FILE", path)), lines="\n".join(lines) + "\n")
+            self.assertEqual((ended.status, ended.err), (0, ""))
+        return [said for _, said in answers(ended)]
+
+    def test_floating_numbers_have_their_width(self):
+        self.assertEqual(self.answers_of("p half", "p real", "p both", "p reals"), [
+            "half = the bits 0x3fc00000   (float)",
+            "real = the bits 0x400921fb54442d18   (double)",
+            "both = {part = the bits 0x3fc00000, whole = the bits 0x8000000000000001}   (struct both)",
+            "reals = {the bits 0x3ff0000000000000, the bits 0x4000000000000000}   (double[2])",
+        ])
+
+    def test_texts_with_zeros(self):
+        self.assertEqual(self.answers_of("p letters"), ['letters = "a\\x00b\\x00c"   (char[6])'])
+
+    def test_arrays_that_are_cut_say_so(self):
+        zeros = ", 0" * 30
+        self.assertEqual(self.answers_of("p many", "p few"),
+                         [f"many = {{1, 2{zeros}, ..}}   (int[40])", f"few = {{3, 4{zeros}}}   (int[32])"])
+
+
 if __name__ == "__main__":
     unittest.main()

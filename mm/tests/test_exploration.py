@@ -84,6 +84,19 @@ class Exploration(unittest.TestCase):
         out = mm("explore", "docs/course/locks.asm").out
         self.assertIn("  slot 0 waiting at ld r4, r2, 0, full, empty for right to be full", out)
 
+    def test_what_slots_wait_for_at_each_end(self):
+        """Two threads print and then wait for ever: two ends, which differ in the order of what is printed."""
+        text = ".segment a 4\n out r5\n ld r3, r1, 0, full, empty\n.segment never 3\n .empty .int 0\n"
+        text += "".join(f".thread {slot} 0 none xu a\n.reg 1 ptr rw never\n.reg 5 int {65 + slot}\n" for slot in (0, 1))
+        with folder() as room:
+            out = mm("explore", write(room, "k.asm", text)).out
+        ends = out.split("\noutcome ")[1:]
+        self.assertEqual(len(ends), 2)
+        for end, printed in zip(ends, ("AB", "BA")):
+            for slot in (0, 1):
+                self.assertIn(f"  slot {slot} waiting at ld r3, r1, 0, full, empty for never to be full\n", end)
+            self.assertIn(f'group 0 prints "{printed}"', end)
+
     def test_states(self):
         self.assertIn("5 configurations, there are more", mm("explore", "docs/course/race.asm", "--states", "5").out)
         for number in ("0", "1000001", "many"):

@@ -80,6 +80,41 @@ class Asked(unittest.TestCase):
         refuse_files("a.c",
             '#include <stdio.h> // out\n # include <mm.h>\n#define LINE(a) #a\n#if 1\nchar *s = "#line";\n#endif\n')
 
+    def test_each_word_that_names_a_file_in_c(self):
+        """Whatever stands before and after it; a longer word is another."""
+        words = ("include", "include_next", "import", "embed", "incbin", "pragma", "_Pragma", "__has_include", "__has_embed",
+            "__pragma", "module")
+        for word in words:
+            for line in (f"{word} a;", f"# {word} 1", f"int {word};", f'asm(".{word} x");', f"  @{word}", f"/* {word} */"):
+                with self.assertRaises(NotAllowed, msg=line) as caught:
+                    refuse_files("a.c", f"int a;\n{line}\nint b;\n")
+                self.assertIn(f"`{word}` may stand only in lines such as", str(caught.exception))
+                self.assertEqual(caught.exception.status, 403)
+            refuse_files("a.c", f"int {'' if '__has' in word else f'{word}s, '}my_{word};\n")
+
+    def test_limits_of_a_class(self):
+        """Each is as SERVE.md says, and no greater than that of one person, but for how many may ask."""
+        few, with_c = for_class(False), for_class(True)
+        self.assertEqual((few.seconds, few.memory, few.file), (10, 1 << 30, 64 << 20))
+        self.assertEqual((few.cycles, few.turns, few.states), (100_000, 5_000, 20_000))
+        self.assertEqual((few.bytes, few.sources, few.waiting, few.patience, few.connections), (65_536, 8, 64, 20, 256))
+        self.assertEqual((few.c, with_c.c, with_c.memory), (False, True, 8 << 30))
+        self.assertEqual((with_c.seconds, with_c.states, with_c.cycles), (few.seconds, few.states, few.cycles))
+        self.assertTrue(2 <= few.at_once <= max(2, os.cpu_count()))
+        page = read("docs", "SERVE.md")
+        for row in (
+            f"bytes of all sources together | {ONE_PERSON.bytes:,} | {few.bytes:,}",
+            f"sources | {ONE_PERSON.sources} | {few.sources}",
+            f"seconds for a request | {ONE_PERSON.seconds} | {few.seconds}",
+            f"memory for each process | {ONE_PERSON.memory >> 30} GiB | {few.memory >> 30} GiB, with C {with_c.memory >> 30} GiB",
+            f"cycles of a run | {ONE_PERSON.cycles:,} | {few.cycles:,}",
+            f"connections | {ONE_PERSON.connections} | {few.connections}",
+        ):
+            self.assertIn(f"\n| {row} |\n", page)
+        with self.assertRaisesRegex(NotAllowed, "from 0 to 100000"):
+            asked(few, cycles=100_001)
+        self.assertEqual(asked(few, cycles=100_000).cycles, 100_000)
+
     def test_no_json(self):
         for body in (b"", b"[]", b"\xff", b"[" * 100_000, b'{"files": 1}', b'{"words": [1]}',
             b'{"words": ["--names"]}'):
@@ -121,6 +156,18 @@ class Http(unittest.TestCase):
                         {"Host": "127.0.0.1:1", "Sec_Fetch_Site": "cross-site"}, {"Host": "127.0.0.1:1",
                             "Origin": "http://127.0.0.1:2"}):
             self.assertNotEqual(why(**headers), "", headers)
+
+    def test_a_page_of_another_origin_may_only_lead_here(self):
+        """By a link, which is a GET; a form or a script of it may ask for nothing."""
+        server = Server(None, ONE_PERSON, "token", {}, True)
+        self.addCleanup(server.close)
+        for method in ("GET", "HEAD", "POST"):
+            for site in ("same-origin", "none", "same-site", "cross-site"):
+                for mode in ("navigate", "cors", "no-cors", "same-origin"):
+                    rows = f"Host: 127.0.0.1:8017\r\nSec-Fetch-Site: {site}\r\nSec-Fetch-Mode: {mode}"
+                    said = server.stranger(read_head(f"{method} / HTTP/1.1\r\n{rows}".encode()))
+                    right = site in ("same-origin", "none") or (method, mode) == ("GET", "navigate")
+                    self.assertEqual(said, "" if right else "the request comes from another page", (method, site, mode))
 
 
 class Shelf(unittest.TestCase):
