@@ -8,6 +8,7 @@ from unittest import mock
 
 from mm.formats.hex import PARTS
 from mm.formats.image import Image, Slot, image_bytes, page_of, read_image
+from mm.machine.program import find_program
 from mm.machine.words import Cell, Permission, Pointer, Word
 from mm.names.symbols import Region, Symbols
 from mm.outputs.audit import Reach
@@ -98,6 +99,24 @@ class Holders(unittest.TestCase):
                 self.assertIn("nobody holds a pointer that meets", mm("holders", swept, range_).out)
                 found = read_image(read_bytes(swept)).slots[0].registers
                 self.assertEqual((found[1].tagged, found[2]), (False, registers[2]))
+
+
+@needs_program
+class Runs(unittest.TestCase):
+    def test_as_many_cycles_as_are_asked_for(self):
+        """Of a program that never ends: numbers of one to seven digits."""
+        with folder() as room:
+            name = write(room, "loop.asm", ".segment a 3\nx: br x\n.thread 0 0 none xu a\n")
+            for count in (2, 9, 10, 99, 321, 4096, 54_321, 99_999, 100_000, 123_456, 200_000, 1_000_000):
+                form = json.loads(mm("run", name, "--cycles", str(count), "--json").out)
+                self.assertEqual((form["cycles"], form["slots"][0]["turns"]), (count, count))
+            lines = find_program().run(["log", self.image(room, name), "123456"]).text.splitlines()
+            self.assertEqual(sum(line.startswith("t ") for line in lines), 123_456)
+
+    def image(self, room, name):
+        made = os.path.join(room, "made.img")
+        self.assertEqual(mm("link", name, "-o", made).status, 0)
+        return made
 
 
 @needs_program
