@@ -99,7 +99,7 @@ class Exploration(unittest.TestCase):
 
     def test_states(self):
         self.assertIn("5 configurations, there are more", mm("explore", "docs/course/race.asm", "--states", "5").out)
-        for number in ("0", "1000001", "many"):
+        for number in ("0", "100000001", "many"):
             ended = mm("explore", "docs/course/race.asm", "--states", number)
             self.assertEqual(ended.status, 1)
-            self.assertIn("--states is a number from 1 to 1000000", ended.err)
+            self.assertIn("--states is a number from 1 to 100000000", ended.err)

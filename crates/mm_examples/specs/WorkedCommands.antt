@@ -41,7 +41,7 @@ rows = row (codes "run") command.Run (image ∷ cycles ∷ []) perhaps_a_schedul
     ∷ row (codes "save") command.Save (image ∷ cycles ∷ []) perhaps_a_schedule
     ∷ row (codes "continue") command.Continue (image ∷ File kind.Checkpoint ∷ cycles ∷ []) perhaps_a_schedule
     ∷ row (codes "net") command.Net (File kind.Links ∷ File kind.Events ∷ cycles ∷ []) (Repeated kind.Image 8)
-    ∷ row (codes "explore") command.Explore (image ∷ Number 1 1000000 ∷ []) Nothing
+    ∷ row (codes "explore") command.Explore (image ∷ Number 1 100000000 ∷ []) Nothing
     ∷ row (codes "why") command.Why (image ∷ Number 0 63 ∷ Address ∷ Use ∷ []) Nothing
     ∷ row (codes "keeps") command.Keeps (image ∷ Number 1 1000000 ∷ Segments ∷ []) Nothing
     ∷ []

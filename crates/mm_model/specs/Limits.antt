@@ -19,4 +19,4 @@ reloc_limit = 65535
 
 -- the most configurations that are looked at
 abbrev pub state_limit : ℕ
-state_limit = 1000000
+state_limit = 100000000

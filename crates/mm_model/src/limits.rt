@@ -17,7 +17,7 @@ pub const WORD_LIMIT: usize = 131_072;
 pub const RELOC_LIMIT: usize = 65_535;
 
 /// The most configurations that are looked at.
-pub const STATE_LIMIT: u64 = 1_000_000;
+pub const STATE_LIMIT: u64 = 100_000_000;
 
 /// The most bytes that a group may put out, in any version.
 pub const OUTPUT_LIMIT: usize = 65_536;
