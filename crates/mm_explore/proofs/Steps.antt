@@ -5,7 +5,7 @@ use Rattle.std.proofs.{Common.{append_assoc, append-nil, length-append}, Math.De
 use Rattle.std.specs.Prelude.{◌==◌, Contains, Some, slice_get, Result, Ok, Err, IfOk, OnOk}
 use Rattle.std.specs.List.{AllByRecursion, flat_map}
 use Rattle.mm_model.proofs.CoreRows.{each_push}
-use Rattle.mm_model.specs.{Fits.slots_of, Image.{Image, start}, Slot.Slot, Report.groups_of, Spelling.IsImage, Run.run}
+use Rattle.mm_model.specs.{Limits.state_limit, Fits.slots_of, Image.{Image, start}, Slot.Slot, Report.groups_of, Spelling.IsImage, Run.run}
 use Rattle.mm_explore.proofs.{FoundForms.map_push, Keepables.parts_again}
 use Rattle.mm_explore.proofs.KeptRuns.{kept_alike, kept_apart, runs_state_of}
 use Rattle.mm_span.proofs.Members.{in_map, map_in, all_at}
@@ -444,7 +444,7 @@ module _ (i : Image) (s : Search) (node : Node) (w : IsWithin i s node (length n
 
 -- 8. The start and the end.
 
-pub begins : (i : Image) (img : IsImage i) (limit : ℕ) → 1 ≤ limit → limit ≤ 1000000 → (numbers : List ℕ) → numbers ≡ kept i (run (start i) [])
+pub begins : (i : Image) (img : IsImage i) (limit : ℕ) → 1 ≤ limit → limit ≤ state_limit → (numbers : List ℕ) → numbers ≡ kept i (run (start i) [])
     → (s : Search) → s.found ≡ record { list = [] ∷ []; forms = numbers ∷ []; limit = limit } → s.all ≡ true
     → s.groups.items ≡ groups_of (start i).core → IsAtConfiguration i [] s.bench → ((list : List (List ℕ)) → Noted i list [] s.findings)
     → ((list : List (List ℕ)) → Ended i list [] s.findings) → IsBefore i s 0
