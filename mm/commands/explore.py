@@ -23,7 +23,7 @@ from mm.views.spell import Memory, Speller
 from mm.views.waiting import what_for
 from mm.words import MOST_CYCLES
 
-USUAL, MOST = 100_000, 1_000_000
+USUAL, MOST = 100_000, 100_000_000
 # So many faults and so many ends are told with their places: each is a run of its own.
 MOST_PLACES = 50
 WAITS = ("ld", "st", "evt")
