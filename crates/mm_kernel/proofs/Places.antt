@@ -24,8 +24,9 @@ use Rattle.mm_kernel.specs.declared.form.Form.TheVariants.{Number, Pointer as Ex
 use Rattle.mm_kernel.specs.declared.{outcome.Outcome.Outcome, thread.Thread.Thread}
 use Rattle.mm_kernel.specs.Forms.{PointsInside, exactly, exact_bits, stored_form}
 use Rattle.mm_kernel.specs.Threads.{form_in, with_form, stepped}
+use Rattle.mm_kernel.specs.Turns.{outcomes}
 use Rattle.mm_kernel.specs.{Operations.{choices, with_permission, permission_of, may_name}, Variants.IsShared, Derived.has_segment}
-use Rattle.mm_kernel.proofs.Owns.{Mode, World, IfPointer, each_pointer, party, Mine, Left, KeptFor}
+use Rattle.mm_kernel.proofs.Owns.{Mode, World, IfPointer, each_pointer, party, Only, Mine, Left, KeptFor}
 use Rattle.mm_kernel.proofs.Shares.{public_mine, exact_mine, hands_exact, leaves_in, keeps_for, loads_kept}
 use Rattle.mm_kernel.proofs.Segs.{Within, within_all, not_kept, meets_same, inside_kept, points_within, word_in_part}
 use Rattle.mm_kernel.proofs.Values.{Clean, CleanWord, open_outside, allows_loads, Holds, Fits, fits_as, fits_exactly}
@@ -59,12 +60,13 @@ pub record Through (w : Word) (kind : Kind) (t : AccessValue) : Type 0 where
   pub is : w ≡ Ptr t.ptr
   pub right : allows t.ptr.perm kind ≡ true
   pub granted : IsGranted t
+  pub of_kind : t.kind ≡ kind
 
 pub through : (w : Word) (by : ℤ) (kind : Kind) (t : AccessValue) → IsWord w → check_result w by kind ≡ Ok t → Through w kind t
 through w by kind t h e =
     let granted = check_result-IsGranted w by kind t h e in
     let is : t.kind ≡ kind = kind_by w by kind (Ok t) (sym e) in
-    record { is = pointer_by w by kind (Ok t) (sym e); right = ap (allows t.ptr.perm) (sym is) ∙ granted.right; granted = granted }
+    record { is = pointer_by w by kind (Ok t) (sym e); right = ap (allows t.ptr.perm) (sym is) ∙ granted.right; granted = granted; of_kind = is }
 
 pub touched_in : (t : AccessValue) → IsGranted t → InSegment t.ptr t.addr
 touched_in t h = let first : (t.addr + 0) / 2 ^ t.ptr.log ≡ t.ptr.addr / 2 ^ t.ptr.log = h.inside 0 (omega arith) in rw add-zero at first
@@ -575,3 +577,64 @@ module _ (i : Image) (kept : List Segment) (wd : World i kept) (md : Mode) (core
       by : (r : Result AccessValue Cause) → check_result u imm Store ≡ r → Eff x (stored s v post (reply core m s.number (reaching r pre)))
       by (Err c) e = exactly_by (Err c) e (λ g. g.0)
       by (Ok to) e = found to (cell_at m to.addr) e refl
+
+  -- 6. Which parts of the kept segments a turn uses.
+
+  pub record Part (o : Segment → Outcome) (w : ℕ) : Type 0 where
+    pub part : Segment
+    pub among : Only md (Contains (outcomes i kept t) (o part))
+    pub here : lies_in w part ≡ true
+
+  pub load_used : (x : Instr) (rd : ℕ) (f : Form) (v : Word) (imm : ℤ) (pre : Pre) (kind : Kind) (to : AccessValue) (c : Cell) → Fits i kept (Held i kept wd md t s) f v → Through v kind to
+      → check_result v imm kind ≡ Ok to → is_kept kept to.addr ≡ true
+      → cell_at i.memory to.addr ≡ Some c → Alls (kernel.loads i kept t x rd f imm pre kind) → Part (λ part. outcome.Loads part rd (stepped t)) to.addr
+  unfolding kernel.loads
+  load_used x rd (Number n) v imm pre kind to c h th e is at g = let a = h.holds in let b = th.is in absurd (cc)
+  load_used x rd Integer v imm pre kind to c h th e is at g = let a = h.holds in let b : is_pointer v ≡ true = ap is_pointer th.is in absurd (cc)
+  load_used x rd Any v imm pre kind to c h th e is at g =
+      let out = shared_unkept to (subst (IsShared i kept) th.is h.holds) (allows_loads to.ptr.perm kind th.right) th.granted in absurd (cc)
+  load_used x rd (Open perm) v imm pre kind to c h th e is at g =
+      let out = shared_unkept to (subst (IsShared i kept) th.is h.holds.1) (allows_loads to.ptr.perm kind th.right) th.granted in absurd (cc)
+  load_used x rd (Inside p) v imm pre kind to c h th e is at g =
+      let points : PointsInside p to.ptr = subst (λ (y : Word). IsPointerAnd y (PointsInside p)) th.is h.holds in
+      record {
+        part = (p.addr, p.log);
+        among = (loads_second (allows p.perm kind) x (outcome.Loads (p.addr, p.log) rd (stepped t)) (ap (λ (y : Perm). allows y kind) (sym points.perm) ∙ th.right) g).2;
+        here = word_in_part p to.ptr to.addr (points_within p to.ptr points) (touched_in to th.granted);
+      }
+  load_used x rd (Exactly p) v imm pre kind to c h th e is at g =
+      let ok : check_result (Ptr p) imm kind ≡ Ok to = ap (λ (y : Word). check_result y imm kind) (sym h.holds) ∙ e in
+      let g2 : Alls (kernel.loaded_at i kept t x rd pre to.addr (cell_at i.memory to.addr)) = subst (λ r. Alls (kernel.loaded_by i kept t x rd pre r)) ok g in
+      let g3 : Alls (kernel.loaded_at i kept t x rd pre to.addr (Some c)) = subst (λ o. Alls (kernel.loaded_at i kept t x rd pre to.addr o)) at g2 in
+      record {
+        part = (to.addr, 3);
+        among = (subst (λ b. Follows i kept wd md t (if b then outcome.Loads (to.addr, 3) rd (stepped t) else if is_fixed i to.addr then kernel.sets t rd (exactly c.word) else kernel.sets t rd Any)) is g3.0).2;
+        here = itself to.addr;
+      }
+
+  pub store_used : (x : Instr) (rb : ℕ) (f : Form) (u : Word) (imm : ℤ) (pre : Pre) (to : AccessValue) (c : Cell) → Fits i kept (Held i kept wd md t s) f u → Through u Store to
+      → check_result u imm Store ≡ Ok to → is_kept kept to.addr ≡ true
+      → cell_at i.memory to.addr ≡ Some c → Alls (kernel.stores i kept t x f rb imm pre) → Part (λ part. outcome.Stores part (stored_form (form_in t rb))) to.addr
+  unfolding kernel.stores
+  store_used x rb (Number n) u imm pre to c h th e is at g = let a = h.holds in let b = th.is in absurd (cc)
+  store_used x rb Integer u imm pre to c h th e is at g = let a = h.holds in let b : is_pointer u ≡ true = ap is_pointer th.is in absurd (cc)
+  store_used x rb Any u imm pre to c h th e is at g =
+      let out = shared_unkept to (subst (IsShared i kept) th.is h.holds) (allows_loads to.ptr.perm Store th.right) th.granted in absurd (cc)
+  store_used x rb (Open perm) u imm pre to c h th e is at g =
+      let out = shared_unkept to (subst (IsShared i kept) th.is h.holds.1) (allows_loads to.ptr.perm Store th.right) th.granted in absurd (cc)
+  store_used x rb (Inside p) u imm pre to c h th e is at g =
+      let points : PointsInside p to.ptr = subst (λ (y : Word). IsPointerAnd y (PointsInside p)) th.is h.holds in
+      record {
+        part = (p.addr, p.log);
+        among = (stores_tail (allows p.perm Store) x (outcome.Stores (p.addr, p.log) (stored_form (form_in t rb))) (ap (λ (y : Perm). allows y Store) (sym points.perm) ∙ th.right) g).0.2;
+        here = word_in_part p to.ptr to.addr (points_within p to.ptr points) (touched_in to th.granted);
+      }
+  store_used x rb (Exactly p) u imm pre to c h th e is at g =
+      let ok : check_result (Ptr p) imm Store ≡ Ok to = ap (λ (y : Word). check_result y imm Store) (sym h.holds) ∙ e in
+      let g2 : Alls (kernel.stored_at kept t x rb pre to.addr (cell_at i.memory to.addr)) = subst (λ r. Alls (kernel.stored_by i kept t x rb pre r)) ok g in
+      let g3 : Alls (kernel.stored_at kept t x rb pre to.addr (Some c)) = subst (λ o. Alls (kernel.stored_at kept t x rb pre to.addr o)) at g2 in
+      record {
+        part = (to.addr, 3);
+        among = (subst (λ b. Follows i kept wd md t (if b then outcome.Stores (to.addr, 3) (stored_form (form_in t rb)) else kernel.stores_outside t rb)) is g3.0).2;
+        here = itself to.addr;
+      }

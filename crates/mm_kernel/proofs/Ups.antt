@@ -134,6 +134,7 @@ Follows i kept wd md t (outcome.Loads part reg next) =
 Follows i kept wd md t (outcome.Stores part f) =
     Only md (Comes i kept t.origin (outcome.Stores part f))
     × ((w : ℕ) (c : Cell) → cell_at i.memory w ≡ Some c → is_kept kept w ≡ true → lies_in w part ≡ true → Derived i kept (HasForm w f))
+    × Only md (Contains (outcomes i kept t) (outcome.Stores part f))
 Follows i kept wd md t (outcome.HandsOut form leak) = Kernels md (Comes i kept t.origin (outcome.HandsOut form leak)) × Public i kept form
 Follows i kept wd md t (outcome.Leaves linked) =
     Kernels md (Comes i kept t.origin (outcome.Leaves linked)) × ((r : ℕ) → r < 16 → Public i kept (form_in linked r)) × AllByRecursion (Derived i kept) (loose i kept linked.origin)
@@ -199,7 +200,7 @@ module _ (i : Image) (kept : List Segment) (ks : Keeps i kept) where
     pub derived_follows : (o : Outcome) → Contains (outcomes i kept t) o → Follows i kept wd AsKernel t o
     derived_follows (outcome.Goes next) c = wd.rules.goes t next bound.derived c
     derived_follows (outcome.Loads part reg next) c = (comes (outcome.Loads part reg next) c, (λ w f held inside. wd.rules.loads t next part reg w f bound.derived c held inside), c)
-    derived_follows (outcome.Stores part f) c = (comes (outcome.Stores part f) c, (λ w cell at k inside. stores t part w cell f bound.derived c at k inside))
+    derived_follows (outcome.Stores part f) c = (comes (outcome.Stores part f) c, (λ w cell at k inside. stores t part w cell f bound.derived c at k inside), c)
     derived_follows (outcome.HandsOut form leak) c = (comes (outcome.HandsOut form leak) c, handed form leak (facts (outcome.HandsOut form leak) c))
     derived_follows (outcome.Leaves linked) c =
         let parts = each_split (Derived i kept) (flat_map (register_left kept linked) (range_with_len 0 16)) (loose i kept linked.origin) (facts (outcome.Leaves linked) c) in
