@@ -19,7 +19,7 @@ use Rattle.mm_kernel.specs.Derived.Derived.{begins_in_cell as by_cell, begins_in
 use Rattle.mm_kernel.specs.Derived.Derived.{enters as by_door, turns as by_turn, loads as by_load, stores as by_store}
 use Rattle.mm_kernel.specs.Derived.Derived.{takes as by_event, resumes as by_resume, reads_served as by_read}
 use Rattle.mm_kernel.specs.Derived.Derived.{writes_served as by_write}
-use Rattle.mm_kernel.proofs.Ups.{Up, each_from, each_join, each_flat}
+use Rattle.mm_kernel.proofs.{Owns.Up, Ups.{each_from, each_join, each_flat}}
 use Rattle.mm_confine.specs.Taken.{TakenUp}
 use Rattle.mm_confine.specs.Taken.TakenUp.{begins, enters, goes, loads, takes, resumes, reads_served}
 use Rattle.mm_kernel.specs.declared.outcome.Outcome.TheVariants as outcome

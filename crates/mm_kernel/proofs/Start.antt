@@ -206,7 +206,7 @@ module _ (i j : Image) (kept : List Segment) (img : IsImage i) (jmg : IsImage j)
   -- it begins as its own thread
   kernel_begins : (s : Slot) → Contains i.slots s → Contains j.slots s → is_kernel_slot kept s ≡ true → s.state ≡ Running → RunningOk i kept wd s
   unfolding form_in register
-  kernel_begins s c d ks e =
+  kernel_begins s c d kernel e =
       let among = running_in i s c e in
       let fresh = fresh_of i img s c in
       let spares = live_slot j Spares spared s (running_in j s d e) in
@@ -221,7 +221,7 @@ module _ (i j : Image) (kept : List Segment) (img : IsImage i) (jmg : IsImage j)
           ip = refl;
           past = sym fresh.past;
           handler = refl;
-          origin = (refl, kernel_is s c ks);
+          origin = (refl, kernel_is s c kernel);
           long = length-map s.regs exactly ∙ fresh.registers;
           clean = record { user = user.0; spares = spares.0 };
           mine = λ o. absurd (cc);
