@@ -13,7 +13,7 @@ use Rattle.mm_kernel.specs.Facts.{Fact, let_out, hand_out, loose, Fact.HasDoor}
 use Rattle.mm_kernel.specs.{Threads.{form_in, is_free}, Derived.{Derived, Keeps, outcome_facts, register_left}, Variants.IsShared}
 use Rattle.mm_kernel.proofs.Segs.{below_within, outside_within}
 use Rattle.mm_kernel.proofs.Values.{Public, shared_outside, open_outside, open_is_user, moves_loads}
-use Rattle.mm_kernel.proofs.Ups.{Free, Bound, up_cases, each_from, each_split, each_unflat, each_register, handed_out}
+use Rattle.mm_kernel.proofs.Ups.{Free, free_form, Bound, up_cases, each_from, each_split, each_unflat, each_register, handed_out}
 use Rattle.mm_kernel.proofs.{Places.{entered, entered_outside, entered_perm}, Start.cell_shared}
 use Rattle.mm_kernel.proofs.Runs.{caller_any}
 use Rattle.mm_confine.specs.Conduct.{GoesOn, GoesOn.{comes_free, leaves}, LetsOut, LetsOut.{by_going, by_hand}, ComesTo}

@@ -25,8 +25,8 @@ use Rattle.mm_kernel.specs.Variants.{IsShared, is_caller, IsAnyCaller, IsVariant
 use Rattle.mm_kernel.specs.Laws.{SlotShares, EventShares, is_of_kernel, ServedByOthers, RowKept, StateKept}
 use Rattle.mm_kernel.proofs.Owns.{Who, Who.Callers, Mode, Mode.{AsAnyone, AsKernel}, World, Up, IfPointer, Mine, Left}
 use Rattle.mm_kernel.proofs.{Owns.SeenBy, Values.{Fits, shared_int, public_shared, holds_stands, holds_exactly, Public}}
-use Rattle.mm_kernel.proofs.Ups.{Free, Bound, up_cases, Next, each_in, each_from}
-use Rattle.mm_kernel.proofs.Slots.{guards, Held, Match, free_form, Why, StoppedOk, SlotOkAs}
+use Rattle.mm_kernel.proofs.Ups.{Free, Bound, free_form, up_cases, Next, each_in, each_from}
+use Rattle.mm_kernel.proofs.Slots.{guards, Held, Match, Why, StoppedOk, SlotOkAs}
 use Rattle.mm_kernel.proofs.{Cores.{any_event, EventOk, RowOk, RowsOk, HeldIn, WordOkAs, MemOk}, Rows.Machine}
 use Rattle.mm_kernel.proofs.Turned.{TurnOk, turn_ok}
 use Rattle.mm_kernel.proofs.Start.{Begun, start_rows, start_cells, live_user, cell_shared}
@@ -108,11 +108,11 @@ module _ (i j : Image) (kept : List Segment) (img : IsImage i) (jmg : IsImage j)
     free_shares n of d t at free m = record {
       registers = each_index (IsShared i kept) of.regs (Int 0) (λ r lt. word r (is_empty of r) refl);
       pending = each_map (λ (p : Pending). Fits i kept (Held i kept wd d t of) (form_in t p.reg) p.word) (λ (p : Pending). IsShared i kept p.word)
-          (λ p f. public_shared i kept (form_in t p.reg) p.word (free_form i kept wd d t free p.reg) f.holds) of.pending m.pending;
+          (λ p f. public_shared i kept (form_in t p.reg) p.word (free_form i kept t free p.reg) f.holds) of.pending m.pending;
     }
       where
         word : (r : ℕ) (b : Bool) → is_empty of r ≡ b → IsShared i kept (register of r)
-        word r false e = public_shared i kept (form_in t r) (register of r) (free_form i kept wd d t free r) (m.registers r e).holds
+        word r false e = public_shared i kept (form_in t r) (register of r) (free_form i kept t free r) (m.registers r e).holds
         word r true e =
             let loads = slot_has (LoadsAreConsistent s.core.split) s.core n of h.keeps.loads at in
             subst (IsShared i kept) (sym (loads.zero r e)) (shared_int i kept 0)

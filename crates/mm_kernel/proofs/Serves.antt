@@ -26,8 +26,8 @@ use Rattle.mm_kernel.proofs.Owns.{Mode, Mode.{AsAnyone, AsKernel}, World, IfPoin
 use Rattle.mm_kernel.proofs.Owns.{Mine, Has, SeenBy}
 use Rattle.mm_kernel.proofs.Segs.{below_within, outside_within}
 use Rattle.mm_kernel.proofs.Values.{clean_below, Holds, Fits, fits_as, fits_integer, Public, public_fits}
-use Rattle.mm_kernel.proofs.{Ups.{Free, Next, Follows}, Anyone.advanced_below, Results.has_below}
-use Rattle.mm_kernel.proofs.Slots.{Sound, sound_write, guards, Held, Match, match_write, match_at, free_form, Came}
+use Rattle.mm_kernel.proofs.{Ups.{Free, free_form, Next, Follows}, Anyone.advanced_below, Results.has_below}
+use Rattle.mm_kernel.proofs.Slots.{Sound, sound_write, guards, Held, Match, match_write, match_at, Came}
 use Rattle.mm_kernel.proofs.Slots.{came_like, HeldFor, Why, StoppedOk, SlotOk, SlotOkAs, slot_delivered}
 use Rattle.mm_kernel.proofs.Shares.{public_mine, hands_exact, Server, Server.{of_kernel, of_callers}, server_of}
 use Rattle.mm_kernel.proofs.Shares.{takes_mine, read_mine, write_mine}
@@ -320,7 +320,7 @@ module _ (i : Image) (kept : List Segment) (wd : World i kept) (md : Mode) (core
           → Eff x (sets s rd w)
       got of h AsAnyone u w fits free mine held =
           sets_ok i kept wd md core m k s t a x rd Any w hd all.1.0
-          (public_fits i kept (Has i kept wd (party AsAnyone u.origin of.group) AsAnyone) (Held i kept wd md t s) (form_in u r) w (free_form i kept wd AsAnyone u free r)
+          (public_fits i kept (Has i kept wd (party AsAnyone u.origin of.group) AsAnyone) (Held i kept wd md t s) (form_in u r) w (free_form i kept u free r)
           (each_pointer (Has i kept wd (party AsAnyone u.origin of.group) AsAnyone (form_in u r)) (Held i kept wd md t s Any) (λ q k o. mine q (k tt)) w fits.mine) fits)
       got of h AsKernel u w fits why mine held =
           let d = held why in

@@ -21,8 +21,8 @@ use Rattle.mm_kernel.proofs.Owns.{Runs, Runs.{itself, through}, IsOf, IsOf.{with
 use Rattle.mm_kernel.proofs.Owns.{HandsOn, party, Kernels, Only, Mine, Has, Left, KeptFor, Seen}
 use Rattle.mm_kernel.proofs.Segs.{Within, outside_within}
 use Rattle.mm_kernel.proofs.Values.{open_as, Holds, Fits, fits_as, Public}
-use Rattle.mm_kernel.proofs.{Ups.{Free, Next}, Anyone.next_perm, Results.{owes_like, open_carries, own_of}}
-use Rattle.mm_kernel.proofs.Slots.{OriginOk, Held, Match, Came, free_form, form_same, form_other}
+use Rattle.mm_kernel.proofs.{Ups.{Free, free_form, Next}, Anyone.next_perm, Results.{owes_like, open_carries, own_of}}
+use Rattle.mm_kernel.proofs.Slots.{OriginOk, Held, Match, Came, form_same, form_other}
 use Rattle.mm_kernel.specs.declared.outcome.Outcome.TheVariants as outcome
 use Rattle.mm_kernel.specs.declared.fact.Leak.TheVariants as leak
 
@@ -212,7 +212,7 @@ module _ (i : Image) (kept : List Segment) (wd : World i kept) where
     pub freed_register : (r : ℕ) (w : Word) → r < 16 → Fits i kept (Held i kept wd AsKernel t s) (form_in t r) w → IfPointer w (Mine i kept wd (Callers s.group))
     freed_register r w lt h =
         each_pointer (Mine i kept wd (party AsKernel t.origin s.group)) (Mine i kept wd (Callers s.group)) (λ q k. mine_callers AsKernel t.origin s t q m.origin came going k) w
-        (public_mine (party AsKernel t.origin s.group) AsKernel (form_in t r) w (free_form i kept wd AsKernel t free r) h
+        (public_mine (party AsKernel t.origin s.group) AsKernel (form_in t r) w (free_form i kept t free r) h
         (λ q e o. exact_own t s m taken r q lt e o (λ d. wd.rules.lets_going (party AsKernel t.origin s.group) t.origin q t r (runs t s m taken) d going lt e)))
 
     pub freed_ip : runs_privileged t.ip.perm ≡ false → Mine i kept wd (Callers s.group) s.ip

@@ -225,10 +225,6 @@ module _ (i : Image) (kept : List Segment) (wd : World i kept) (md : Mode) where
       by AsKernel (Door d) h k = h.0
       by AsKernel (OfSlot m) h k = subst (λ x. guards i kept x ≡ false) h.0 (kernel m (guards i kept m) refl k)
 
-  pub free_form : (t : Thread) → Free i kept t → (r : ℕ) → Public i kept (form_in t r)
-  unfolding form_in
-  free_form t h r = each_or (Public i kept) t.forms r zero_form h.forms (public_number i kept 0)
-
   -- a word of anyone's thread
   abbrev pub Anys : Slot → Form → Pointer → Type 0
   Anys s = Has i kept wd (Callers s.group) AsAnyone

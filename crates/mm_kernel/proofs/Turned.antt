@@ -33,9 +33,9 @@ use Rattle.mm_kernel.proofs.Owns.{party, Kernels, Only, Mine, Seen, SeenBy}
 use Rattle.mm_kernel.proofs.Segs.{not_kept, inside_kept}
 use Rattle.mm_kernel.proofs.Values.{Fits, fits_as, shared_outside, fits_number, Public, public_fits, public_shared}
 use Rattle.mm_kernel.proofs.Values.{public_number, allows_loads, open_outside}
-use Rattle.mm_kernel.proofs.Ups.{Free, Bound, free_is, up_cases, Next, Faulty, Follows, ByHandler, all_follow}
+use Rattle.mm_kernel.proofs.Ups.{Free, Bound, free_is, free_form, up_cases, Next, Faulty, Follows, ByHandler, all_follow}
 use Rattle.mm_kernel.proofs.{Anyone.{anyone, anyone_free, anyone_follows}, Results.own_of}
-use Rattle.mm_kernel.proofs.Slots.{Sound, OriginOk, Held, Match, match_at, match_anyone, origin_guards, free_form, Came}
+use Rattle.mm_kernel.proofs.Slots.{Sound, OriginOk, Held, Match, match_at, match_anyone, origin_guards, Came}
 use Rattle.mm_kernel.proofs.Slots.{came_like, RunningOk, SlotOk, SlotOkAs, slot_delivered}
 use Rattle.mm_kernel.proofs.Shares.{ip_own, freed_register, freed_ip, seen_of}
 use Rattle.mm_kernel.proofs.Cores.{any_event, RowsOk, put_slot_ok, slot_ok, MemOk, change_rows, change_cells, FaultOk}
@@ -275,11 +275,11 @@ module _ (i : Image) (kept : List Segment) (wd : World i kept) (ks : Keeps i kep
 
     public_a : (o : Option ℕ) → Free i kept t → Public i kept (kernel.operand_a t o)
     public_a None free = public_number i kept 0
-    public_a (Some x) free = free_form i kept wd md t free x
+    public_a (Some x) free = free_form i kept t free x
 
     public_b : (o : Option ℕ) (imm : ℤ) → Free i kept t → Public i kept (kernel.operand_b t o imm)
     public_b None imm free = public_number i kept _
-    public_b (Some x) imm free = free_form i kept wd md t free x
+    public_b (Some x) imm free = free_form i kept t free x
 
     fits_a : (o : Option ℕ) → IfSome o (Ready s) → Fits i kept (Held i kept wd md t s) (kernel.operand_a t o) (word_a s o)
     fits_a None h = fits_number i kept (Held i kept wd md t s) 0
@@ -315,7 +315,7 @@ module _ (i : Image) (kept : List Segment) (wd : World i kept) (ks : Keeps i kep
         not_kept kept to.ptr to.addr (touched_in to th.granted) (open_outside kept to.ptr ptr.open_word (allows_loads to.ptr.perm kind th.right))
 
     shared_reg : Free i kept t → (x : ℕ) → Ready s x → IsShared i kept (register s x)
-    shared_reg free x h = public_shared i kept (form_in t x) (register s x) (free_form i kept wd md t free x) (reg i kept wd md core m k s t r.acts x h).holds
+    shared_reg free x h = public_shared i kept (form_in t x) (register s x) (free_form i kept t free x) (reg i kept wd md core m k s t r.acts x h).holds
 
     page_free : (P : AccessValue → Type 0) (a : Ask) (b c : Bool) → touch_of a ≡ None → IfSome (touch_of (if b then (if c then a else Ask.Refuse Bounds) else Ask.Refuse Priv)) P
     page_free P a true true none = subst (λ o. IfSome o P) (sym none) tt
@@ -656,7 +656,7 @@ module _ (i : Image) (kept : List Segment) (wd : World i kept) (ks : Keeps i kep
               at = at;
               came = h.came;
               next = any;
-              matches = match_anyone i kept wd d t s mt (free_form i kept wd d t free) (origin_guards i kept wd d ks t.origin s.number s.group mt.origin free.fast) own mine;
+              matches = match_anyone i kept wd d t s mt (free_form i kept t free) (origin_guards i kept wd d ks t.origin s.number s.group mt.origin free.fast) own mine;
               whole = any_whole t;
             };
             slot = whole;

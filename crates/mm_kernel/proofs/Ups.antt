@@ -5,7 +5,7 @@ use Rattle.std.proofs.lemmas.Bool.{and_parts, and_from, not-true, not_from_false
 use Rattle.std.proofs.lemmas.List.FromFn.{length-range_with_len, get_or-range_with_len}
 use Rattle.std.specs.{Prelude.Contains, List.{AllByRecursion, flat_map, list_all, range_with_len}}
 use Rattle.mm_word.specs.declared.word.Cell.{Cell}
-use Rattle.mm_model.{specs.{Memory.cell_at, Image.Image}, proofs.CoreRows.{each_map, each_get}}
+use Rattle.mm_model.{specs.{Memory.cell_at, Image.Image}, proofs.{CoreRows.{each_map, each_get}, EffectWords.each_or}}
 use Rattle.mm_kernel.specs.Segments.{Segment, lies_in, is_kept, meets}
 use Rattle.mm_kernel.specs.declared.fact.{Leak.{Leak, TheVariants.{Jump, FaultPointer, Fault}}, Handling.Handling}
 use Rattle.mm_kernel.specs.declared.{form.{Form.{Form, TheVariants.{Pointer as Exactly}}}, outcome.Outcome.Outcome}
@@ -18,7 +18,7 @@ use Rattle.mm_kernel.specs.Turns.{outcomes, with_event}
 use Rattle.mm_kernel.specs.Derived.{Derived, Keeps, outcome_facts, fault_facts, shown, register_shown, register_left}
 use Rattle.mm_kernel.specs.Derived.{resumed}
 use Rattle.mm_kernel.specs.Derived.Derived.{turns, stores, writes_served}
-use Rattle.mm_kernel.proofs.{Owns.{Mode, Mode.{AsAnyone, AsKernel}, World, Up, Comes, Kernels, Only}, Values.Public}
+use Rattle.mm_kernel.proofs.{Owns.{Mode, Mode.{AsAnyone, AsKernel}, World, Up, Comes, Kernels, Only}, Values.{Public, public_number}}
 use Rattle.mm_kernel.specs.declared.outcome.Outcome.TheVariants as outcome
 
 -- 1. Lists.
@@ -107,6 +107,10 @@ module _ (i : Image) (kept : List Segment) where
           let r = each_split (Derived i kept) (flat_map (let_out kept) t.forms) (loose i kept t.origin) k in
           inl (record { outside = not-true (meets kept t.ip) parts.0; forms = publics t.forms parts.1 r.0; fast = r.1 })
       by false e k = inr (record { not_free = e; derived = k.0 })
+
+  pub free_form : (t : Thread) → Free i kept t → (r : ℕ) → Public i kept (form_in t r)
+  unfolding form_in
+  free_form t h r = each_or (Public i kept) t.forms r zero_form h.forms (public_number i kept 0)
 
 -- 3. What follows from an outcome.
 
