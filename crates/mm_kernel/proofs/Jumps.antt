@@ -20,7 +20,7 @@ use Rattle.mm_kernel.specs.declared.form.Form.TheVariants.{Number, Pointer as Ex
 use Rattle.mm_kernel.specs.{declared.{outcome.Outcome.Outcome, thread.Thread.Thread}, Forms.{exact_bits, zero_form}}
 use Rattle.mm_kernel.specs.Threads.{form_in, with_form, stepped, going_to, handler_of, thread_through}
 use Rattle.mm_kernel.specs.{Facts.Fact.HasDoor, Derived.{Derived, Keeps}, Variants.IsShared}
-use Rattle.mm_kernel.proofs.Owns.{Who, Who.Callers, Mode, Mode.{AsAnyone, AsKernel}, World, GoesOn, IsPlain, IfPointer, party, Kernels, Mine, Has}
+use Rattle.mm_kernel.proofs.Owns.{Who, Who.Callers, Mode, Mode.{AsAnyone, AsKernel}, World, GoesOn, IsPlain, IfPointer, party, Kernels, falsely, Mine, Has}
 use Rattle.mm_kernel.proofs.Values.{Clean, clean_below, Holds, Fits, fits_as, Public, public_number}
 use Rattle.mm_kernel.proofs.{Ups.{Next, Follows}, Anyone.{anyone, anyone_free, distance_below}}
 use Rattle.mm_kernel.proofs.Slots.{guards, Held, Match, match_write, match_at, match_anyone, any_fits, origin_guards, Came}
@@ -49,7 +49,7 @@ unfolding is_door
 followed_mine i kept wd x AsAnyone n p to at e en has free =
     let out : meets kept p ≡ false = sym (entered_meets kept p to en) ∙ (ap (meets kept) (sym at) ∙ free.outside) in
     λ o. entered_mine i kept wd x p to en e (and_right (is_enter p.perm) (meets kept p) out) (has tt)
-followed_mine i kept wd x AsKernel n p to at e en has taken = λ o. absurd (cc)
+followed_mine i kept wd x AsKernel n p to at e en has taken = λ o. falsely o
 
 -- one of two statements, by a test
 abbrev pub Chosen : Type 0 → Type 0 → Bool → Type 0
@@ -214,7 +214,7 @@ module _ (i : Image) (kept : List Segment) (wd : World i kept) (md : Mode) (core
                 origin = (outs, own, door);
                 long = refl;
                 clean = ct;
-                mine = λ o. absurd (cc);
+                mine = λ o. falsely o;
                 registers = λ r ready. kerneled (form_in (anyone l) r) (register sl r)
                     (any_fits i kept wd md l sl ml.long r (register sl r) (public_all f.1 r) (λ lt. words r (register sl r) lt (ml.registers r ready)) (ml.registers r ready));
                 pending =

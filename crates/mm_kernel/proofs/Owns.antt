@@ -131,6 +131,9 @@ pub record World (i : Image) (kept : List Segment) : Type 1 where
 
 -- 3. Words.
 
+pub falsely : {A : Type 0} → false ≡ true → A
+falsely e = absurd (cc)
+
 abbrev pub IfPointer : Word → (Pointer → Type 0) → Type 0
 IfPointer (Int bits) P = Unit {0}
 IfPointer (Ptr p) P = P p

@@ -241,15 +241,15 @@ module _ (i : Image) (kept : List Segment) (wd : World i kept) (md : Mode) where
       past : 16 ≤ r → form_in (anyone t) r ≡ form_in t r
       past le = get_or_past (replicate 16 Any) r zero_form (omega arith) ∙ sym (none le)
 
-      zero : (v : Word) → v ≡ Int 0 → IfPointer v (Anys s zero_form)
-      zero v e = subst (λ (y : Word). IfPointer y (Anys s zero_form)) (sym e) tt
+      empty : (v : Word) → v ≡ Int 0 → IfPointer v (Anys s zero_form)
+      empty v e = subst (λ (y : Word). IfPointer y (Anys s zero_form)) (sym e) tt
 
       by : (r < 16) ⊎ (16 ≤ r) → Fits i kept (Anys s) (form_in (anyone t) r) w
       by (inl lt) = subst (λ x. Fits i kept (Anys s) x w) (sym (any_register t r lt))
           (public_fits i kept (Held i kept wd md t s) (Anys s) (form_in t r) w p (each_pointer (Mine i kept wd (Callers s.group)) (Anys s Any) (λ q m o. m) w (mine lt)) h)
       by (inr le) =
           let is : w ≡ Int 0 = (subst (λ x. Fits i kept (Held i kept wd md t s) x w) (none le) h).holds in
-          subst (λ x. Fits i kept (Anys s) x w) (sym (past le ∙ none le)) (record { holds = is; clean = h.clean; mine = zero w is })
+          subst (λ x. Fits i kept (Anys s) x w) (sym (past le ∙ none le)) (record { holds = is; clean = h.clean; mine = empty w is })
 
   pub match_anyone : (t : Thread) (s : Slot) → Match i kept wd md t s → ((r : ℕ) → Public i kept (form_in t r)) → guards i kept s.number ≡ false
       → Mine i kept wd (Callers s.group) s.ip

@@ -25,7 +25,7 @@ use Rattle.mm_kernel.specs.Facts.{hand_out, Fact.HasForm}
 use Rattle.mm_kernel.specs.Derived.{Derived, Keeps, first_form, cell_facts, Derived.begins_in_cell}
 use Rattle.mm_kernel.specs.Variants.{IsShared, IsAnyCaller, IsVariantSlot, stays, Variant}
 use Rattle.mm_kernel.proofs.Owns.{Who.{Callers, Alone}, Mode.{AsAnyone, AsKernel}, World, KernelOf, IfPointer, each_pointer}
-use Rattle.mm_kernel.proofs.Owns.{Mine, Has, Left, KeptFor}
+use Rattle.mm_kernel.proofs.Owns.{falsely, Mine, Has, Left, KeptFor}
 use Rattle.mm_kernel.proofs.Values.{CleanWord, open_is_user, Fits, fits_exactly, fits_any_int, fits_number}
 use Rattle.mm_kernel.proofs.Values.{public_shared, holds_exactly}
 use Rattle.mm_kernel.proofs.Serves.{any_contained}
@@ -201,7 +201,7 @@ module _ (i j : Image) (kept : List Segment) (img : IsImage i) (jmg : IsImage j)
   -- nothing is owed of an exact form
   none_owed : (M : Pointer → Type 0) (w : Word) → IfPointer w (λ (p : Pointer). carries (exactly w) ≡ true → M p)
   none_owed M (Int n) = tt
-  none_owed M (Ptr p) = λ o. absurd (cc)
+  none_owed M (Ptr p) = λ o. falsely o
 
   -- it begins as its own thread
   kernel_begins : (s : Slot) → Contains i.slots s → Contains j.slots s → is_kernel_slot kept s ≡ true → s.state ≡ Running → RunningOk i kept wd s
@@ -224,7 +224,7 @@ module _ (i j : Image) (kept : List Segment) (img : IsImage i) (jmg : IsImage j)
           origin = (refl, kernel_is s c kernel);
           long = length-map s.regs exactly ∙ fresh.registers;
           clean = record { user = user.0; spares = spares.0 };
-          mine = λ o. absurd (cc);
+          mine = λ o. falsely o;
           registers = λ r ready.
               subst (λ f. Fits i kept (Has i kept wd (Alone s.number) AsKernel) f (slice_index_or s.regs r (Int 0))) (sym (get_or-map exactly s.regs r (Int 0)))
               (fits_exactly i kept (Has i kept wd (Alone s.number) AsKernel) (slice_index_or s.regs r (Int 0)) (each_or (CleanWord i) s.regs r (Int 0) (cleans s c d e) tt)
@@ -358,8 +358,8 @@ module _ (i j : Image) (kept : List Segment) (img : IsImage i) (jmg : IsImage j)
   first_fits : (w : ℕ) (b : Bool) (v : Word) → CleanWord i v → Fits i kept (KeptFor i kept wd w) (first_form b v) v
   first_fits w true (Int n) h = record { holds = refl; clean = tt; mine = tt }
   first_fits w false (Int n) h = record { holds = refl; clean = tt; mine = tt }
-  first_fits w true (Ptr p) h = record { holds = refl; clean = h; mine = λ carried. absurd (cc) }
-  first_fits w false (Ptr p) h = record { holds = refl; clean = h; mine = λ carried. absurd (cc) }
+  first_fits w true (Ptr p) h = record { holds = refl; clean = h; mine = λ carried. falsely carried }
+  first_fits w false (Ptr p) h = record { holds = refl; clean = h; mine = λ carried. falsely carried }
 
   cell_begins : (w : ℕ) (c : Cell) → cell_at j.memory w ≡ Some c → WordOk i kept wd w c.word
   cell_begins w c at = by (is_kept kept w) (is_fixed i w) refl refl

@@ -29,7 +29,7 @@ use Rattle.mm_kernel.specs.{Facts.Fact.HasThread, Derived.{Derived, Keeps, IsCod
 use Rattle.mm_kernel.specs.{Variants.IsShared, Laws.KeptByCode}
 use Rattle.mm_kernel.specs.Uses.{sets_bit, SetsBit, LoadsFrom, Reads, Reads.{fetched, loaded}, Writes, Writes.{stored, set}}
 use Rattle.mm_kernel.proofs.Owns.{Who, Who.{Callers, Alone}, Mode, Mode.{AsAnyone, AsKernel}, World, IfPointer, each_pointer}
-use Rattle.mm_kernel.proofs.Owns.{party, Kernels, Only, Mine, Seen, SeenBy}
+use Rattle.mm_kernel.proofs.Owns.{falsely, party, Kernels, Only, Mine, Seen, SeenBy}
 use Rattle.mm_kernel.proofs.Segs.{not_kept, inside_kept}
 use Rattle.mm_kernel.proofs.Values.{Fits, fits_as, shared_outside, fits_number, Public, public_fits, public_shared}
 use Rattle.mm_kernel.proofs.Values.{public_number, allows_loads, open_outside}
@@ -243,7 +243,7 @@ module _ (i : Image) (kept : List Segment) (wd : World i kept) (ks : Keeps i kep
           record { came = came_like i kept wd s (stood s Waiting) refl r.acts.came; mode = AsKernel; thread = t; why = record { handler = h; is = e; kernel = is; derived = w.1 }; matches = stood_match AsKernel mt Waiting },
           record {
             event = record { ip = Exactly t.ip; address = fa; value = fv };
-            ip = record { holds = ap (λ (p : Pointer). Ptr p) (sym mt.ip); clean = mt.clean; mine = λ carried. absurd (cc) };
+            ip = record { holds = ap (λ (p : Pointer). Ptr p) (sym mt.ip); clean = mt.clean; mine = λ carried. falsely carried };
             address = fits_as i kept (Held i kept wd AsKernel t s) (SeenBy i kept wd h) fa a (λ q own carried. seen AsKernel h mt e is q (own carried)) ha;
             value = fits_as i kept (Held i kept wd AsKernel t s) (SeenBy i kept wd h) fv v (λ q own carried. seen AsKernel h mt e is q (own carried)) hv;
             from = inr (and_from (is_kernel i kept h) (serves_some i h) is (came_serves i kept wd s h r.acts.came e), w.0);
