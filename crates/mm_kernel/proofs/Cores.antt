@@ -64,8 +64,8 @@ module _ (i : Image) (kept : List Segment) (wd : World i kept) where
   put_queue_ok core n q h ok = rows_queue n q ok core.rows h
 
   pub slot_ok : (core : Core) → RowsOk core → (n : ℕ) (s : Slot) → slot_at core n ≡ Some s → SlotOk i kept wd s
-  slot_ok core h n s at = slot_has (SlotOk i kept) core n s
-      (into_map (SlotOk i kept) (λ (row : ThreadRow). row.slot) core.rows (each_map RowOk (λ (row : ThreadRow). SlotOk i kept wd row.slot) (λ row k. k.slot) core.rows h)) at
+  slot_ok core h n s at = slot_has (SlotOk i kept wd) core n s
+      (into_map (SlotOk i kept wd) (λ (row : ThreadRow). row.slot) core.rows (each_map RowOk (λ (row : ThreadRow). SlotOk i kept wd row.slot) (λ row k. k.slot) core.rows h)) at
 
   queue_in : (rows : List ThreadRow) (n : ℕ) → AllByRecursion RowOk rows → AllByRecursion (EventOk n) (queue_of (row_in rows n))
   queue_in [] n h = tt

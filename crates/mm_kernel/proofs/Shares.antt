@@ -290,13 +290,13 @@ module _ (i : Image) (kept : List Segment) (wd : World i kept) where
   keeps_for AsKernel o n g w f v c part ok comes at is inside h = each_pointer (Has i kept wd (party AsKernel o g) AsKernel f) (KeptFor i kept wd w (stored_form f)) one v h.mine
     where
       one : (q : Pointer) → Has i kept wd (party AsKernel o g) AsKernel f q → KeptFor i kept wd w (stored_form f) q
-      one q k = λ carried x to got reg next runs loads there. by (k (stored_carries f carried)) carried x to got reg next runs loads there
+      one q k = λ carried x to got reg next run loads there. by (k (stored_carries f carried)) carried x to got reg next run loads there
         where
           by : Mine i kept wd (party AsKernel o g) q → carries (stored_form f) ≡ true → (x : Who) (to : Origin) (got : Segment) (reg : ℕ) (next : Thread) → Runs i kept wd.Own x to
               → Comes i kept to (outcome.Loads got reg next) → lies_in w got ≡ true → Mine i kept wd x q
-          by (inl key) carried x to got reg next runs loads there = inl key
-          by (inr own) carried x to got reg next runs loads there =
-              inr (wd.rules.kept_for (party AsKernel o g) x o to q w c part (stored_form f) got reg next own (runs_origin o n g ok) at is comes carried inside loads there runs)
+          by (inl key) carried x to got reg next run loads there = inl key
+          by (inr own) carried x to got reg next run loads there =
+              inr (wd.rules.kept_for (party AsKernel o g) x o to q w c part (stored_form f) got reg next own (runs_origin o n g ok) at is comes carried inside loads there run)
 
   -- a word that is loaded from a kept word
   pub loads_kept : (md : Mode) (o : Origin) (n g w : ℕ) (f : Form) (v : Word) (part : Segment) (reg : ℕ) (next : Thread) → OriginOk i kept wd md o n g

@@ -181,10 +181,10 @@ module _ (i : Image) (kept : List Segment) (wd : World i kept) (ks : Keeps i kep
     runs : can_fetch s.ip.perm ≡ true
     runs = k.runs s.number s r.acts.at
 
-    pub record UsesOk (f t : Option AccessValue) : Type 0 where
-      pub code : FetchesOk f t
+    pub record UsesOk (f to : Option AccessValue) : Type 0 where
+      pub code : FetchesOk f to
       pub fetched : IfSome f (Touch i kept wd s)
-      pub touched : IfSome t (Touch i kept wd s)
+      pub touched : IfSome to (Touch i kept wd s)
 
     uses_kept : (u : Turned) (f to : Option AccessValue) → u.step.fetched ≡ f → u.step.touched ≡ to → UsesOk f to → AllByRecursion (KeptByCode i kept u) (touches u.step)
     uses_kept u f to fe te ok = fetches_kept u f to fe te ok.code
