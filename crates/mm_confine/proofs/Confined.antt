@@ -1,5 +1,5 @@
--- A kernel that keeps its segments confines each group: the one induction of `mm_kernel`, for what is granted.
-use Rattle.std.proofs.Common.{◌≡◌, ℕ, ◌⊎◌, inl, inr, Bool, true, false, ◌&&◌, ◌==◌, if◌then◌else◌, List, Option, refl, sym, ap}
+-- A kernel that keeps its segments confines each group: the one induction of `mm_kernel`, for what is 
+use Rattle.std.proofs.Common.{◌≡◌, ℕ, ◌⊎◌, inl, inr, Bool, true, false, ◌&&◌, ◌==◌, if◌then◌else◌, List, Option, Some, refl, sym, ap}
 use Rattle.std.proofs.Common.{◌∙◌, subst, eq-eqb, map}
 use Rattle.std.{proofs.lemmas.Bool.and_from, specs.{Prelude.Contains, List.AllByRecursion}}
 use Rattle.mm_word.specs.declared.perm.Kind.{Kind, TheVariants.{Fetch, Load, LoadSet, Store}}
@@ -23,14 +23,14 @@ use Rattle.mm_confine.specs.{Taken.{TakenUp, TakenUp.{begins, enters, goes, load
 use Rattle.mm_confine.specs.Conduct.{HandsOn, HandsOn.{exact, carried}, ComesTo, GoesOn, LetsOut.{by_going, by_hand}}
 use Rattle.mm_confine.specs.Conduct.{SeesServed.{takes_event, reads_register}}
 use Rattle.mm_confine.specs.Grants.{IsOf, Serves, Granted, Line.{Holds, Runs}}
-use Rattle.mm_confine.specs.Reach.{Reaches, Reaches.{by_callers, by_slot}, IsNamed, IsNamed.{door, slot}, UsesBy, IsReached}
+use Rattle.mm_confine.specs.Reach.{Reaches, Reaches.{by_callers, by_slot}, IsNamed, IsNamed.{door as names_door, slot as names_slot}, UsesBy, IsReached}
 use Rattle.mm_confine.specs.{Reach.{IsBehind, IsConfined}, Laws.TurnsAreConfined}
 use Rattle.mm_confine.proofs.Taken.{taken_derived}
-use Rattle.mm_confine.specs.Conduct.GoesOn as conduct
-use Rattle.mm_confine.specs.Conduct.HasExactly as has
-use Rattle.mm_kernel.proofs.Owns.GoesOn as kernel
-use Rattle.mm_confine.specs.Grants.IsOf as slots
-use Rattle.mm_confine.specs.Grants.Granted as granted
+use Rattle.mm_confine.specs.Conduct.{GoesOn.{comes_free as goes_free, leaves as goes_out}, HasExactly.{runs_by as has_ip, in_register as has_form}}
+use Rattle.mm_kernel.proofs.Owns.GoesOn.{comes_free, leaves}
+use Rattle.mm_confine.specs.Grants.{IsOf.{with_group as in_group, by_itself as alone}}
+use Rattle.mm_confine.specs.Grants.Granted.{runs_itself, runs_through, in_register, runs_by, in_cell, below, passed}
+use Rattle.mm_confine.specs.Grants.Granted.{entered, served, has_exactly, lets_out, kept_for, seen, given, freed}
 use Rattle.mm_kernel.specs.declared.outcome.Outcome.TheVariants as outcome
 
 -- 1. What is granted is held by the rules.
@@ -47,16 +47,16 @@ module _ (i : Image) (kept : List Segment) where
   comes from o c = record { thread = c.thread; derived = c.derived; origin = c.origin; comes = c.comes }
 
   going : (from : Origin) (t : Thread) → KernelGoesOn i kept (TakenUp i kept) from t → GoesOn i kept from t
-  going from t (kernel.comes_free up same free) = conduct.comes_free up same free
-  going from t (kernel.leaves c) = conduct.leaves (comes from (outcome.Leaves t) c)
+  going from t (comes_free up same free) = goes_free up same free
+  going from t (leaves c) = goes_out (comes from (outcome.Leaves t) c)
 
   runs : (x : Who) (from : Origin) → KernelRuns i kept Own x from → Granted i kept (Runs (party_of x) from)
-  runs x from (itself n e) = granted.runs_itself n e
-  runs x from (through g d own is) = granted.runs_through g d own is
+  runs x from (itself n e) = runs_itself n e
+  runs x from (through g d own is) = runs_through g d own is
 
   is_of : (s : Slot) (x : Who) → KernelIsOf i kept s x → IsOf i kept s (party_of x)
-  is_of s x with_group = slots.with_group
-  is_of s x (by_itself e) = slots.by_itself e
+  is_of s x with_group = in_group
+  is_of s x (by_itself e) = alone e
 
   serves : (n : ℕ) (x : Who) → ServedBy i kept n x → Serves i kept n (party_of x)
   serves n x h = record { of_kernel = h.of_kernel; served = h.served; one = h.one; handled = h.handled; party = is_of h.served x h.party }
@@ -78,27 +78,27 @@ module _ (i : Image) (kept : List Segment) where
       takes = λ t next h reg e d from c held. takes t next h reg e d from c held;
       resumes = λ t u next h how d from c held among. resumes t u h how d from c held among;
       reads = λ t u next h reg from d own c held. reads_served t u next h reg from d own c held;
-      below = λ x p q own b. granted.below (party_of x) p q own b;
-      entered = λ x p q own eu none e. granted.entered (party_of x) p q own eu none e;
-      passed = λ g x q p r w own by st has ld. granted.passed (Group g) (party_of x) q p r w own tt by st has ld;
+      below = λ x p q own b. below (party_of x) p q own b;
+      entered = λ x p q own eu none e. entered (party_of x) p q own eu none e;
+      passed = λ g x q p r w own by st has ld. passed (Group g) (party_of x) q p r w own tt by st has ld;
       stored = λ n x q p r w f at reg own c hands by st has ld.
-          granted.passed (KernelSlot n) (party_of x) q p r w own
+          passed (KernelSlot n) (party_of x) q p r w own
           (record { form = f; at = at; reg = reg; stores = comes (OfSlot n) (outcome.HandsOut f _) c; hands_on = hands_on q f hands }) by st has ld;
-      served_up = λ served server q one other handled none own.
-          granted.served served.group server.group q own (record { served = served; server = server; one = one; other = other; handled = handled; caller = none; groups = inr (refl, refl) });
-      served_down = λ served server q one other handled none own.
-          granted.served server.group served.group q own (record { served = served; server = server; one = one; other = other; handled = handled; caller = none; groups = inl (refl, refl) });
-      seen_event = λ n y q reg next own h c. granted.seen n (party_of y) q own (serves n y h) (takes_event reg next (comes (OfSlot n) (outcome.TakesEvent reg next) c));
+      served_up = λ from to q one other handled none own.
+          served from.group to.group q own (record { served = from; server = to; one = one; other = other; handled = handled; caller = none; groups = inr (refl, refl) });
+      served_down = λ from to q one other handled none own.
+          served to.group from.group q own (record { served = from; server = to; one = one; other = other; handled = handled; caller = none; groups = inl (refl, refl) });
+      seen_event = λ n y q reg next own h c. seen n (party_of y) q own (serves n y h) (takes_event reg next (comes (OfSlot n) (outcome.TakesEvent reg next) c));
       seen_register = λ n y q reg from next own h c.
-          granted.seen n (party_of y) q own (serves n y h) (reads_register reg from next (comes (OfSlot n) (outcome.ReadsServed reg from next) c));
+          seen n (party_of y) q own (serves n y h) (reads_register reg from next (comes (OfSlot n) (outcome.ReadsServed reg from next) c));
       given = λ n x q reg f own h c hands.
-          granted.given n (party_of x) q own (serves n x h) (record { form = f; reg = reg; writes = comes (OfSlot n) (outcome.WritesServed reg f) c; hands_on = hands_on q f hands });
-      exact_ip = λ x t run taken plain. granted.has_exactly (party_of x) t.origin t.ip t (runs x t.origin run) taken refl (has.runs_by refl) plain;
-      exact_register = λ x q t r run taken lt e plain. granted.has_exactly (party_of x) t.origin q t (runs x t.origin run) taken refl (has.in_register r lt e) plain;
-      lets_going = λ x from d t r run is goes_on lt e. granted.lets_out (party_of x) from d (runs x from run) is (by_going t r (going from t goes_on) lt e);
-      lets_hand = λ x from d l run is c. granted.lets_out (party_of x) from d (runs x from run) is (by_hand l (comes from (outcome.HandsOut (Exactly d) l) c));
+          given n (party_of x) q own (serves n x h) (record { form = f; reg = reg; writes = comes (OfSlot n) (outcome.WritesServed reg f) c; hands_on = hands_on q f hands });
+      exact_ip = λ x t run up plain. has_exactly (party_of x) t.origin t.ip t (runs x t.origin run) up refl (has_ip refl) plain;
+      exact_register = λ x q t r run taken lt e plain. has_exactly (party_of x) t.origin q t (runs x t.origin run) taken refl (has_form r lt e) plain;
+      lets_going = λ x from d t r run is goes_on lt e. lets_out (party_of x) from d (runs x from run) is (by_going t r (going from t goes_on) lt e);
+      lets_hand = λ x from d l run is c. lets_out (party_of x) from d (runs x from run) is (by_hand l (comes from (outcome.HandsOut (Exactly d) l) c));
       kept_for = λ y x from to q w c put f got reg next own run at is stores carries here loads there run2.
-          granted.kept_for (party_of y) (party_of x) from to q own (runs y from run)
+          kept_for (party_of y) (party_of x) from to q own (runs y from run)
           (record {
             word = w;
             cell = c;
@@ -115,7 +115,7 @@ module _ (i : Image) (kept : List Segment) where
             loads = comes to (outcome.Loads got reg next) loads;
             there = there;
           }) (runs x to run2);
-      freed = λ s q t among own goes_on. granted.freed s q t among own (going (OfSlot s.number) t goes_on);
+      freed = λ s q t among own goes_on. freed s q t among own (going (OfSlot s.number) t goes_on);
     };
   }
 
@@ -138,17 +138,17 @@ module _ (i : Image) (kept : List Segment) where
   begun : Begun i i kept granting
   begun = record {
     registers = λ u c run none. each_from (λ (w : Word). IfPointer w (Mine i kept granting (Callers u.group))) u.regs (λ w k. has_word u c (caller u c run none) w k);
-    ip = λ u c run none. inr (granted.runs_by u c (caller u c run none));
+    ip = λ u c run none. inr (runs_by u c (caller u c run none));
     cells = λ w c at out. left w c at out c.word refl;
   }
     where
       has_word : (u : Slot) → Contains i.slots u → is_caller kept u ≡ true → (w : Word) → Contains u.regs w → IfPointer w (Mine i kept granting (Callers u.group))
       has_word u c is (Int n) k = tt
-      has_word u c is (Ptr q) k = inr (granted.in_register u q c is k)
+      has_word u c is (Ptr q) k = inr (in_register u q c is k)
 
       left : (w : ℕ) (c : Cell) → cell_at i.memory w ≡ Some c → is_kept kept w ≡ false → (v : Word) → c.word ≡ v → IfPointer v (Left i kept granting w Any)
       left w c at out (Int n) e = tt
-      left w c at out (Ptr q) e = λ x r own ld. inr (granted.in_cell (party_of x) r q w c own ld out at e)
+      left w c at out (Ptr q) e = λ x r own ld. inr (in_cell (party_of x) r q w c own ld out at e)
 
   -- 3. What a turn uses.
 
@@ -172,11 +172,8 @@ module _ (i : Image) (kept : List Segment) where
             (subst (λ (k : ℕ). Granted i kept (Holds (KernelSlot k) a.ptr)) (sym number) (subst (λ (x : Who). Own x a.ptr) e r.owns))
 
     names : (slot : Slot) (o : Origin) → OriginOk i kept granting AsKernel o slot.number slot.group → IsNamed i kept slot.group o
-    names slot (Door d) ok = door d ok.2 ok.1
-    names slot (OfSlot m) ok = let k = ok.1 in subst (λ (y : ℕ). IsNamed i kept slot.group (OfSlot y)) k.number (slot_named k.slot k.among k.group k.kernel)
-      where
-        slot_named : (x : Slot) → Contains i.slots x → x.group ≡ slot.group → is_kernel_slot kept x ≡ true → IsNamed i kept slot.group (OfSlot x.number)
-        slot_named x c g e = IsNamed.slot x c g e
+    names slot (Door d) ok = names_door d ok.2 ok.1
+    names slot (OfSlot m) ok = let k = ok.1 in subst (λ (y : ℕ). IsNamed i kept slot.group (OfSlot y)) k.number (names_slot k.slot k.among k.group k.kernel)
 
     behind : (slot : Slot) (a : AccessValue) (c : Cell) → is_kept kept a.addr ≡ true → cell_at i.memory a.addr ≡ Some c → Behind i kept granting slot a → IsBehind i kept slot.group a
     behind slot a c is at b = record { origin = b.thread.origin; named = names slot b.thread.origin b.origin; used = by a.kind b.used }
@@ -198,7 +195,7 @@ module _ (i : Image) (kept : List Segment) where
       kept_words = λ is c at. behind u.slot a c is at (u.touch.kept_words is c at);
     })
 
-    pub turn_confined : AllByRecursion (IsConfined i kept (group_in (turn_of s n))) (touches (turn_of s n).step)
+    turn_confined : AllByRecursion (IsConfined i kept (group_in (turn_of s n))) (touches (turn_of s n).step)
     turn_confined = each_map (UsedBy i kept granting s.core (turn_of s n)) (IsConfined i kept (group_in (turn_of s n))) confined (touches (turn_of s n).step)
         (turns_ok i i kept img img ks v granting begun s h n).uses
 
