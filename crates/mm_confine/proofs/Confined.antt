@@ -1,17 +1,17 @@
--- A kernel that keeps its segments confines each group: the one induction of `mm_kernel`, for what is 
+-- A kernel that keeps its segments confines each group: the one induction of `mm_kernel`, for what is
 use Rattle.std.proofs.Common.{◌≡◌, ℕ, ◌⊎◌, inl, inr, Bool, true, false, ◌&&◌, ◌==◌, if◌then◌else◌, List, Option, Some, refl, sym, ap}
-use Rattle.std.proofs.Common.{◌∙◌, subst, eq-eqb, map}
+use Rattle.std.proofs.Common.{◌∙◌, subst, eq-eqb}
 use Rattle.std.{proofs.lemmas.Bool.and_from, specs.{Prelude.Contains, List.AllByRecursion}}
 use Rattle.mm_word.specs.declared.perm.Kind.{Kind, TheVariants.{Fetch, Load, LoadSet, Store}}
 use Rattle.mm_word.specs.{declared.word.{Word.{Word, TheVariants.{Int, Ptr}}, Cell.Cell}, Access.AccessValue, Pointer.Pointer}
 use Rattle.mm_model.specs.declared.slot.SlotState.TheVariants.{Running}
 use Rattle.mm_model.specs.{Memory.cell_at, Slot.Slot, State.{State, slot_at}, Image.{Image, start}, Spelling.IsImage}
-use Rattle.mm_model.specs.{Reach.LoadsAt, Turn.is_running, Run.{turn_of, after, run}, Trace.{touches, group_of, group_in}}
+use Rattle.mm_model.specs.{Turn.is_running, Run.{turn_of, after, run}, Trace.{touches, group_of, group_in}}
 use Rattle.mm_model.proofs.{CoreRows.{each_map, identities_of, stays_by}, Filters.filter_contained}
-use Rattle.mm_kernel.specs.Segments.{Segment, is_kept, is_door}
+use Rattle.mm_kernel.specs.Segments.{Segment, is_kept}
 use Rattle.mm_kernel.specs.declared.form.{Form.{Form, TheVariants.{Pointer as Exactly, Any}}}
 use Rattle.mm_kernel.specs.declared.{outcome.Outcome.Outcome, thread.{Origin.{Origin, TheVariants.{Door, Slot as OfSlot}}, Thread.Thread}}
-use Rattle.mm_kernel.specs.{Forms.carries, Threads.{is_kernel_slot, is_kernel}, Variants.{is_caller, Variant}, Derived.Keeps}
+use Rattle.mm_kernel.specs.{Threads.{is_kernel_slot, is_kernel}, Variants.{is_caller, Variant}, Derived.Keeps}
 use Rattle.mm_kernel.proofs.Owns.{Who, Who.{Callers, Alone}, Mode.AsKernel, World, Comes, GoesOn as KernelGoesOn}
 use Rattle.mm_kernel.proofs.Owns.{Runs as KernelRuns, Runs.{itself, through}, IsOf as KernelIsOf, IsOf.{with_group, by_itself}}
 use Rattle.mm_kernel.proofs.Owns.{ServedBy, HandsOn as KernelHandsOn, IfPointer, Mine, Left}
@@ -23,7 +23,7 @@ use Rattle.mm_confine.specs.{Taken.{TakenUp, TakenUp.{begins, enters, goes, load
 use Rattle.mm_confine.specs.Conduct.{HandsOn, HandsOn.{exact, carried}, ComesTo, GoesOn, LetsOut.{by_going, by_hand}}
 use Rattle.mm_confine.specs.Conduct.{SeesServed.{takes_event, reads_register}}
 use Rattle.mm_confine.specs.Grants.{IsOf, Serves, Granted, Line.{Holds, Runs}}
-use Rattle.mm_confine.specs.Reach.{Reaches, Reaches.{by_callers, by_slot}, IsNamed, IsNamed.{door as names_door, slot as names_slot}, UsesBy, IsReached}
+use Rattle.mm_confine.specs.Reach.{Reaches, Reaches.{by_callers, by_slot}, IsNamed, IsNamed.{door as names_door, slot as names_slot}, UsesBy}
 use Rattle.mm_confine.specs.{Reach.{IsBehind, IsConfined}, Laws.TurnsAreConfined}
 use Rattle.mm_confine.proofs.Taken.{taken_derived}
 use Rattle.mm_confine.specs.Conduct.{GoesOn.{comes_free as goes_free, leaves as goes_out}, HasExactly.{runs_by as has_ip, in_register as has_form}}

@@ -1,5 +1,5 @@
 -- Who holds which pointers, as the laws' one induction asks for it: what is to hold of any answer.
-use Rattle.std.specs.Prelude.{◌≡◌, ℕ, ◌<◌, ◌⊎◌, Bool, true, false, List, Contains, Some, pos}
+use Rattle.std.specs.Prelude.{◌≡◌, ℕ, ◌<◌, ◌⊎◌, true, false, List, Contains, Some}
 use Rattle.std.specs.List.{AllByRecursion}
 use Rattle.mm_word.specs.declared.perm.Perm.TheVariants.{Eu, Key}
 use Rattle.mm_word.specs.{declared.word.{Word.{Word, TheVariants.{Int, Ptr}}, Cell.Cell}, Pointer.{Pointer, IsBelow, enter_result}}

@@ -327,7 +327,7 @@ module _ (i : Image) (kept : List Segment) (wd : World i kept) (md : Mode) (core
       go : (r : Result Pointer Cause) → by p n ≡ r → EffectOk x (sets_pointer s rd r)
       go (Ok q) e =
           let al : All (kernel.moved t x rd (Ok q)) = subst (λ r. All (kernel.moved t x rd r)) e known in
-          sets_ok x rd (Exactly q) (Ptr q) hd al.0 
+          sets_ok x rd (Exactly q) (Ptr q) hd al.0
           (record {
             holds = refl;
             clean = clean_below i q p (mv p q e).below (subst (Clean i) same h.clean);

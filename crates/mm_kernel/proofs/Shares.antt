@@ -5,12 +5,12 @@ use Rattle.std.proofs.lemmas.Bool.{and_parts, and_right, cases_eq}
 use Rattle.std.specs.Prelude.{Contains}
 use Rattle.mm_word.specs.declared.perm.Perm.{Perm, TheVariants.{Ro, Rw, Xu, Xp, Eu, Ep, Key}}
 use Rattle.mm_word.specs.declared.word.Word.{Word, TheVariants.{Int, Ptr}}
-use Rattle.mm_word.specs.{Word.is_pointer, Perm.{can_move, can_fetch}, Pointer.{Pointer, in_segment, next_result}}
+use Rattle.mm_word.specs.{Perm.{can_move, can_fetch}, Pointer.{Pointer, in_segment, next_result}}
 use Rattle.mm_word.proofs.Results.{next_result-IsBelow}
 use Rattle.mm_word.specs.declared.word.Cell.{Cell}
 use Rattle.mm_model.{specs.{Memory.cell_at, Slot.Slot, Image.Image, Turn.is_running, Reach.{LoadsAt, StoresAt}}, proofs.Filters.filter_contained}
 use Rattle.mm_kernel.specs.Segments.{is_kept, lies_in}
-use Rattle.mm_kernel.specs.Segments.{Segment, meets, runs_privileged, is_enter, is_door, is_open, is_open_as, is_open_pointer}
+use Rattle.mm_kernel.specs.Segments.{Segment, meets, runs_privileged, is_enter, is_door, is_open_as, is_open_pointer}
 use Rattle.mm_kernel.specs.declared.form.Form.{Form}
 use Rattle.mm_kernel.specs.declared.form.Form.TheVariants.{Number, Pointer as Exactly, Integer, Open, Any, Inside}
 use Rattle.mm_kernel.specs.declared.fact.Leak.{Leak}

@@ -8,7 +8,7 @@ use Rattle.mm_word.specs.{declared.word.Word.{Word, TheVariants.Int}, Pointer.Po
 use Rattle.mm_model.specs.declared.slot.SlotState.{SlotState, TheVariants.{Running, Waiting, Taken, Halted}}
 use Rattle.mm_model.specs.{declared.slot.Pending.Pending, Slot.{Slot, register, is_empty}, Image.Image, Flags.one_if}
 use Rattle.mm_model.specs.{Fits.{loads_for, LoadsMatch, identity_of}, Effect.{delivers, delivered}, Turn.with_issue}
-use Rattle.mm_model.proofs.{CoreRows.{each_map, each_both, each_push}, EffectWords.each_or, CoreSteps.some_true}
+use Rattle.mm_model.proofs.{CoreRows.{each_map, each_both, each_push}, CoreSteps.some_true}
 use Rattle.mm_model.proofs.SlotSteps.{empty_within}
 use Rattle.mm_kernel.specs.Segments.{Segment, running_slots, is_door}
 use Rattle.mm_kernel.specs.declared.{fact.Leak.TheVariants.Loose, form.Form.{Form, TheVariants.{Pointer as Exactly, Any}}}
@@ -17,7 +17,7 @@ use Rattle.mm_kernel.specs.{Forms.zero_form, Threads.{form_in, with_form, handle
 use Rattle.mm_kernel.specs.{Facts.{loose, Fact.{HasFaulted, HasLeak}}, Derived.{Derived, Keeps}}
 use Rattle.mm_kernel.proofs.Owns.{Who.Callers, Mode, Mode.{AsAnyone, AsKernel}, World, KernelOf, party, IfPointer}
 use Rattle.mm_kernel.proofs.Owns.{each_pointer, Mine, Has}
-use Rattle.mm_kernel.proofs.{Values.{Clean, Fits, Public, public_fits, public_number}, Ups.{Free, Next}}
+use Rattle.mm_kernel.proofs.{Values.{Clean, Fits, Public, public_fits}, Ups.{Free, Next}}
 use Rattle.mm_kernel.proofs.Anyone.{anyone, any_register}
 
 -- 1. A slot of the machine: its registers and flags are sixteen, and its loads match.

@@ -208,8 +208,7 @@ module _ (i : Image) (kept : List Segment) (ks : Keeps i kept) where
     derived_follows (outcome.HandsOut form leak) c = (comes (outcome.HandsOut form leak) c, handed form leak (facts (outcome.HandsOut form leak) c))
     derived_follows (outcome.Leaves linked) c =
         let parts = each_split (Derived i kept) (flat_map (register_left kept linked) (range_with_len 0 16)) (loose i kept linked.origin) (facts (outcome.Leaves linked) c) in
-        let regs = each_unflat (Derived i kept) (register_left kept linked) (range_with_len 0 16) parts.0 in
-        (
+        let regs = each_unflat (Derived i kept) (register_left kept linked) (range_with_len 0 16) parts.0 in (
           comes (outcome.Leaves linked) c,
           (λ r lt. handed (form_in linked r) (Jump linked.ip.addr r (form_in linked r)) (each_register (λ (x : ℕ). AllByRecursion (Derived i kept) (register_left kept linked x)) regs r lt)),
           parts.1,
