@@ -1,6 +1,6 @@
 -- What follows from what a derived thread can come to, where no leak is derived.
 use Rattle.std.proofs.Common.{◌≡◌, ℕ, suc, ◌+◌, ◌<◌, ◌⊎◌, inl, inr, Bool, true, false, not, if◌then◌else◌, List, []}
-use Rattle.std.proofs.Common.{◌∷◌, ◌++◌, length, slice_index_or, Some, refl, sym, subst, arith}
+use Rattle.std.proofs.Common.{◌∷◌, ◌++◌, length, slice_index_or, Some, refl, subst, arith}
 use Rattle.std.proofs.lemmas.Bool.{and_parts, and_from, not-true, not_from_false}
 use Rattle.std.proofs.lemmas.List.FromFn.{length-range_with_len, get_or-range_with_len}
 use Rattle.std.specs.{Prelude.Contains, List.{AllByRecursion, flat_map, list_all, range_with_len}}
@@ -80,9 +80,6 @@ module _ (i : Image) (kept : List Segment) where
       let r = each_split (Derived i kept) (let_out kept f) (flat_map (let_out kept) fs) h in
       (record { open_form = parts.0; out = r.0 }, publics fs parts.1 r.1)
 
-  outs : (fs : List Form) → AllByRecursion (Public i kept) fs → AllByRecursion (Derived i kept) (flat_map (let_out kept) fs)
-  outs fs h = each_flat (Derived i kept) (let_out kept) fs (each_map (Public i kept) (λ (f : Form). AllByRecursion (Derived i kept) (let_out kept f)) (λ f p. p.out) fs h)
-
   opens : (fs : List Form) → AllByRecursion (Public i kept) fs → list_all (is_open_form kept) fs ≡ true
   opens [] h = refl
   opens (f ∷ fs) h = and_from (is_open_form kept f) (list_all (is_open_form kept) fs) h.0.open_form (opens fs h.1)
@@ -90,12 +87,6 @@ module _ (i : Image) (kept : List Segment) where
   pub free_is : (t : Thread) → Free i kept t → is_free kept t ≡ true
   unfolding is_free
   free_is t h = and_from (not (meets kept t.ip)) (list_all (is_open_form kept) t.forms) (not_from_false (meets kept t.ip) h.outside) (opens t.forms h.forms)
-
-  pub free_up : (t : Thread) → Free i kept t → Up i kept t
-  unfolding take_up
-  free_up t h =
-      subst (λ b. AllByRecursion (Derived i kept) (if b then flat_map (let_out kept) t.forms ++ loose i kept t.origin else HasThread t ∷ [])) (sym (free_is t h))
-      (each_join (Derived i kept) (flat_map (let_out kept) t.forms) (loose i kept t.origin) (outs t.forms h.forms) h.fast)
 
   pub up_cases : (t : Thread) → Up i kept t → Free i kept t ⊎ Bound i kept t
   unfolding take_up is_free
