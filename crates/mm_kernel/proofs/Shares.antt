@@ -203,7 +203,7 @@ module _ (i : Image) (kept : List Segment) (wd : World i kept) where
       each_pointer (Mine i kept wd (party md l.origin s.group)) (Mine i kept wd (Callers s.group)) (λ q k. mine_callers md l.origin s l q m.origin came going k) w
       (public_mine (party md l.origin s.group) md (form_in l r) w p h (left_exact md l s r m going lt plains))
 
-  -- A thread that is free at its turn.
+  -- 5. A thread that is free at its turn.
 
   module _ (t : Thread) (s : Slot) (m : Match i kept wd AsKernel t s) (taken : wd.Taken t) (came : Came i kept wd s) (free : Free i kept t) (is : is_free kept t ≡ true) where
     going : GoesOn i kept wd.Taken t.origin t
@@ -218,7 +218,7 @@ module _ (i : Image) (kept : List Segment) (wd : World i kept) where
     pub freed_ip : runs_privileged t.ip.perm ≡ false → Mine i kept wd (Callers s.group) s.ip
     freed_ip user = subst (Mine i kept wd (Callers s.group)) m.ip (inr (own_callers AsKernel t.origin s t t.ip m.origin came going (ip_own t s m taken free.outside user)))
 
-  -- 5. An exact pointer that is moved by what is not known, or used.
+  -- 6. An exact pointer that is moved by what is not known, or used.
 
   pub exact_mine : (md : Mode) (t : Thread) (s : Slot) (r : ℕ) (p : Pointer) → Match i kept wd md t s → Next i kept wd md t → r < 16 → form_in t r ≡ Exactly p
       → Fits i kept (Held i kept wd md t s) (Exactly p) (Ptr p) → meets kept p ≡ false → Mine i kept wd (party md t.origin s.group) p
@@ -236,7 +236,7 @@ module _ (i : Image) (kept : List Segment) (wd : World i kept) where
       by true is = λ o. h.mine (owes_like md (around_as p true) (Exactly p) (λ c. c) o)
       by false is = λ o. exact_mine md t s r p m n lt e h is
 
-  -- 6. Words that are stored and loaded.
+  -- 7. Words that are stored and loaded.
 
   is_key : (perm : Perm) → (perm ≡ Key) ⊎ (perm ≡ Key → ⊥)
   is_key Key = inl refl
@@ -305,7 +305,7 @@ module _ (i : Image) (kept : List Segment) (wd : World i kept) where
   loads_kept AsKernel o n g w f v part reg next ok comes inside h =
       fits_as i kept (KeptFor i kept wd w) (Has i kept wd (party AsKernel o g) AsKernel) f v (λ q k carried. k carried (party AsKernel o g) o part reg next (runs_origin o n g ok) comes inside) h
 
-  -- 7. Slots that serve, and slots that are served.
+  -- 8. Slots that serve, and slots that are served.
 
   -- whose thread runs in a slot that another has for its handler
   pub data Server (md : Mode) (o : Origin) (s : Slot) : Type 0 where

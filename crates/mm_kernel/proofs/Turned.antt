@@ -195,7 +195,7 @@ module _ (i : Image) (kept : List Segment) (wd : World i kept) (ks : Keeps i kep
     none_used : UsesOk None None
     none_used = record { code = nothing refl refl; fetched = tt; touched = tt }
 
-    -- 1. The slot stands still.
+    -- 2. The slot stands still.
 
     stood_match : (d : Mode) → Match i kept wd d t s → (state : SlotState) → Match i kept wd d t (stood s state)
     stood_match d h state = match_at i kept wd d t s t.ip s.ip t.past s.past (s.turns + 1) state h h.ip h.past h.clean h.mine
@@ -212,7 +212,7 @@ module _ (i : Image) (kept : List Segment) (wd : World i kept) (ks : Keeps i kep
       uses = uses_used (blocked mid m s f to us) (Some f) to refl refl refl uses;
     }
 
-    -- 2. Faults.
+    -- 3. Faults.
 
     -- the words of a fault, for its handler
     seen : (d : Mode) (h : ℕ) → Match i kept wd d t s → s.handler ≡ Some h → Kernels d (is_kernel i kept h ≡ true) → (q : Pointer) → Mine i kept wd (party d t.origin s.group) q → Seen i kept wd h q
@@ -271,7 +271,7 @@ module _ (i : Image) (kept : List Segment) (wd : World i kept) (ks : Keeps i kep
     early_ok c f us why uses = faulted_ok c (Int 0) (Int 0) zero_form zero_form f None us (fits_number i kept (Held i kept wd md t s) 0) (fits_number i kept (Held i kept wd md t s) 0) (λ x. public_number i kept 0)
         (λ x. public_number i kept 0) why uses
 
-    -- 3. An instruction.
+    -- 4. An instruction.
 
     public_a : (o : Option ℕ) → Free i kept t → Public i kept (kernel.operand_a t o)
     public_a None free = public_number i kept 0
@@ -304,7 +304,7 @@ module _ (i : Image) (kept : List Segment) (wd : World i kept) (ks : Keeps i kep
       uses = uses_used (ended core m s x f to us (Do c)) (Some f) to refl refl refl uses;
     }
 
-    -- 4. Accesses.
+    -- 5. Accesses.
 
     reach_free : (w : Word) (by : ℤ) (kind : Kind) (pre : Pre) (x : Result AccessValue Cause) → IsWord w → IsShared i kept w → check_result w by kind ≡ x
         → IfSome (touch_of (reaching x pre)) (λ (y : AccessValue). is_kept kept y.addr ≡ false)
@@ -418,7 +418,7 @@ module _ (i : Image) (kept : List Segment) (wd : World i kept) (ks : Keeps i kep
         by AsAnyone free = unkept (fetch_free f free e) (touched free)
         by AsKernel b = by_code f refl (fetch_code f b on e)
 
-    -- 5. The turn of a running slot.
+    -- 6. The turn of a running slot.
 
     abbrev Alls : List Outcome → Type 0
     Alls os = AllByRecursion (Follows i kept wd md t) os
@@ -634,7 +634,7 @@ module _ (i : Image) (kept : List Segment) (wd : World i kept) (ks : Keeps i kep
         by true e = early_ok Bounds None [] (past_follows e) none_used
         by false e = aimed_ok (check_result (Ptr s.ip) (pos 0) Fetch) e refl
 
-  -- 6. Any turn.
+  -- 7. Any turn.
 
   any_whole : (t : Thread) (x : ℕ) → WholeForm kept (form_in (anyone t) x)
   unfolding form_in
