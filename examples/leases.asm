@@ -98,9 +98,8 @@ polite_asks: trap 1
   trap 2                  ; gives the block back
   halt
 .segment clumsy 5
-clumsy_asks: trap 1
-  bz r3, clumsy_asks
-  jal r6, r5              ; puts a letter into the block
+  trap 1                  ; does not look whether it has got a block
+  jal r6, r5              ; puts a letter into it
   divu r3, r3, r0         ; and divides by zero
 .segment nosy 6
 nosy_asks: trap 1
