@@ -1,6 +1,6 @@
-; A keeper lends blocks of memory to three clients, and takes them back. A client asks for a block by `trap 1`, and gives
-; it back by `trap 2`. It never gets a pointer to the block: its door leads to a lease, a word with the pointer to its
-; block, and the keeper clears that word to take the block back. It does so too if the client faults, wherever that is.
+; A keeper lends blocks of memory to three clients, and takes them back. A client asks for a block by `trap 1`, and
+; gives it back by `trap 2`. It never gets a pointer to the block: its door leads to a lease, a word with the pointer to
+; its block. To take the block back, the keeper clears that word. It does so too if the client faults, wherever that is.
 .segment keeper 9
 next: evt r4              ; r4 is the cause + 256 * the slot, r7 the number of the trap
   ldi r1, 8

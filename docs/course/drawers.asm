@@ -1,5 +1,5 @@
-; Four drawers behind a gate. The clerk has the door `put`: the letter in r2 goes into drawer r1. The visitor has the door
-; `get`, which gives the letter of drawer r1 in r2. If there is no such drawer, a door does nothing. But the gate leaks.
+; Four drawers behind a gate. The clerk has the door `put`: the letter in r2 goes into drawer r1. The visitor has the
+; door `get`, which gives the letter of drawer r1 in r2. If there is no such drawer, a door does nothing. But it leaks.
 .segment gate 8
 own: .ptr rw drawers
 put: lip r7, own

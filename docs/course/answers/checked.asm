@@ -1,5 +1,5 @@
-; A cloakroom for one number, with two doors. The gate's pointers are in the segment of the doors. The code that can fault
-; is in another one, which holds no pointer, and clears its registers before it faults.
+; A cloakroom for one number, with two doors. The gate's pointers are in the segment of the doors. The code that can
+; fault is in another one, which holds no pointer, and clears its registers before it faults.
 .segment code 7
 leaves: isptr r8, r1      ; r7 leads to the hook, r6 is the way back
   bnz r8, refused
