@@ -62,7 +62,7 @@ PART = Option("--part", "memory, frames, pages, slots, or all for a testbench; d
 COUNT = Option("--count", "how many; default: 256", "N")
 PORT = Option("--port", "the port of the server, 0 for any that is free; default: 8017", "N")
 HOST = Option("--host", "the address to listen at; default: 127.0.0.1, which only this computer reaches", "A")
-LESSON = Option("--lesson", "open this lesson of the course, 1 to 11", "N")
+LESSON = Option("--lesson", "open this lesson of the course, 1 to 12", "N")
 TOKEN = Option("--token", "the word in the address of the page; default: a new one each time", "WORD")
 WITH_C = Option("--c", "take programs in C from other computers too (docs/SERVE.md)")
 CSV = Option("--csv", "write CSV: a row for each answer")
@@ -77,7 +77,7 @@ SEGMENT is what the kernel keeps: its code, its data, its gates.
 Without SEGMENT it tells which segments only doors lead to. docs/KEEPS.md says what an answer is worth."""
 RUNNING = (CYCLES, SCHEDULE, TURNS, NAMES)
 FILES = "FILE.."
-EXERCISES = "FILE may be a folder that has a folder or a file for each student. EXERCISE is lab-1 to lab-5 for a task of the first lab, 1.1 to 8.2 or 10.1 to 11.2 for an exercise of a lesson, or a file of your own (docs/course/GRADING.md). `mm help executes` explains the line `executes`, and so on for each kind of line."
+EXERCISES = "FILE may be a folder that has a folder or a file for each student. EXERCISE is lab-1 to lab-5 for a task of the first lab, 1.1 to 8.2 or 10.1 to 12.2 for an exercise of a lesson, or a file of your own (docs/course/GRADING.md). `mm help executes` explains the line `executes`, and so on for each kind of line."
 
 # fmt: off
 COMMANDS = (
