@@ -58,11 +58,11 @@ is_done OnPath = false
 is_done Passed = true
 is_done Closed = true
 
-pub record IsOnPath (s : Stage) (v : ℕ) : Type 0 where
-  pub mark : mark_of s v ≡ OnPath
+abbrev pub IsOnPath : Stage → ℕ → Type 0
+IsOnPath s v = mark_of s v ≡ OnPath
 
-pub record IsDone (s : Stage) (v : ℕ) : Type 0 where
-  pub mark : is_done (mark_of s v) ≡ true
+abbrev pub IsDone : Stage → ℕ → Type 0
+IsDone s v = is_done (mark_of s v) ≡ true
 
 -- what is told of a node with this mark and this number
 abbrev pub told_by : Mark → ℕ → Option ℕ
@@ -77,29 +77,25 @@ abbrev pub firsts_of : List Mark → List ℕ → List (Option ℕ)
 firsts_of (m ∷ marks) (n ∷ numbers) = told_by m n ∷ firsts_of marks numbers
 firsts_of _ _ = []
 
--- a node of the path is not in an earlier set than another
-pub record IsNotBefore (s : Stage) (u v : ℕ) : Type 0 where
-  pub each : (b : ℕ) → Contains s.bounds b → b ≤ number_of s u → b ≤ number_of s v
+-- a node of the path is in the set of another, or in a later one
+abbrev pub IsNotBefore : Stage → ℕ → ℕ → Type 0
+IsNotBefore s u v = (b : ℕ) → Contains s.bounds b → b ≤ number_of s u → b ≤ number_of s v
 
 -- a node of the path is in the last set
-pub record IsInLast (s : Stage) (v : ℕ) : Type 0 where
-  pub each : (b : ℕ) → Contains s.bounds b → b ≤ number_of s v
+abbrev pub IsInLast : Stage → ℕ → Type 0
+IsInLast s v = (b : ℕ) → Contains s.bounds b → b ≤ number_of s v
 
 -- a child that was looked at is done, or in the set of its parent or a later one
 abbrev pub IsLookedAt : Stage → ℕ → ℕ → Type 0
 IsLookedAt s u c = IsDone s c ⊎ (IsOnPath s c × IsNotBefore s u c)
 
--- a node that was met at a number
-pub record IsMetAt (s : Stage) (b : ℕ) : Type 0 where
-  pub node : ℕ
-  pub open : Contains s.open node
-  pub number : number_of s node ≡ b
+-- some open node has a number
+abbrev pub IsOpenAt : Stage → ℕ → Type 0
+IsOpenAt s b = (v : ℕ) × Contains s.open v × (number_of s v ≡ b)
 
--- the bound of a set in which a node is, or of an earlier one
-pub record IsWithin (s : Stage) (v : ℕ) : Type 0 where
-  pub bound : ℕ
-  pub inside : Contains s.bounds bound
-  pub below : bound ≤ number_of s v
+-- a node is in some set
+abbrev pub IsInSome : Stage → ℕ → Type 0
+IsInSome s v = (b : ℕ) × Contains s.bounds b × (b ≤ number_of s v)
 
 -- 2. What holds at every step.
 
@@ -119,8 +115,8 @@ pub record IsStage (g : List (List ℕ)) (s : Stage) : Type 0 where
   pub sets : EachPair (IsNotBefore s) s.finished
   pub known : (v : ℕ) → IsOnPath s v → Contains s.open v ⊎ Contains s.finished v
   pub bounds : EachPair ◌<◌ s.bounds
-  pub begun : (b : ℕ) → Contains s.bounds b → IsMetAt s b
-  pub within : (v : ℕ) → IsOnPath s v → IsWithin s v
+  pub begun : (b : ℕ) → Contains s.bounds b → IsOpenAt s b
+  pub within : (v : ℕ) → IsOnPath s v → IsInSome s v
   pub joined : (u v : ℕ) → IsOnPath s u → IsOnPath s v → IsNotBefore s u v → Leads g u v
   pub looked : (u c : ℕ) → IsOnPath s u → Contains (drop (left_of s u) (children g u)) c → IsLookedAt s u c
   pub done : (u c : ℕ) → IsDone s u → Contains (children g u) c → IsDone s c
@@ -134,7 +130,7 @@ pub record IsLater (old new : Stage) : Type 0 where
 -- 3. Steps.
 
 -- a node is met: it is open, and a set of its own at the end of the path
-unfoldable pub discovered : Stage → ℕ → Stage
+abbrev pub discovered : Stage → ℕ → Stage
 discovered s v = record s {
   marks = slice_set s.marks v OnPath;
   numbers = slice_set s.numbers v s.met;
@@ -157,9 +153,17 @@ abbrev pub marked : Stage → ℕ → Option ℕ → Stage
 marked s v first = record s { marks = slice_set s.marks v (mark_for first); numbers = numbers_for s.numbers v first }
 
 -- nodes are done, one after the other
+abbrev pub marks_after : List Mark → List ℕ → Option ℕ → List Mark
+marks_after marks [] first = marks
+marks_after marks (v ∷ nodes) first = marks_after (slice_set marks v (mark_for first)) nodes first
+
+abbrev pub numbers_after : List ℕ → List ℕ → Option ℕ → List ℕ
+numbers_after numbers [] first = numbers
+numbers_after numbers (v ∷ nodes) first = numbers_after (numbers_for numbers v first) nodes first
+
 abbrev pub marked_all : Stage → List ℕ → Option ℕ → Stage
-marked_all s [] first = s
-marked_all s (v ∷ nodes) first = marked_all (marked s v first) nodes first
+marked_all s nodes first =
+    record s { marks = marks_after s.marks nodes first; numbers = numbers_after s.numbers nodes first }
 
 -- the last node of the open ones
 pub record IsLastOpen (s : Stage) (v : ℕ) : Type 0 where
