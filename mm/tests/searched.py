@@ -4,7 +4,7 @@ never left, by components of the graph of moves."""
 from __future__ import annotations
 
 from dataclasses import dataclass
-from typing import Iterable, Optional
+from typing import Callable, Iterable, Optional
 
 from mm.formats.image import Image
 from mm.lockstep.case import schedule_text
@@ -70,6 +70,40 @@ class Search:
             at, item = self.origins[at]
             items.append(item)
         return tuple(reversed(items))
+
+    def at(self, items: Iterable[int]) -> int:
+        """The index of the configuration to which items lead."""
+        here = self.found[0]
+        for item in items:
+            if item in self.machine.moves(here):
+                here = self.machine.move(here, item)[1]
+        return self.known[here]
+
+    def way(self, begin: int, ends: Callable[[int], bool]) -> tuple[int, ...]:
+        """A least list of moves from one configuration to some other, for which something holds."""
+        came: dict[int, tuple[int, int]] = {begin: (begin, 0)}
+        queue = [begin]
+        for at in queue:
+            if at != begin and ends(at):
+                items = []
+                while at != begin:
+                    at, item = came[at]
+                    items.append(item)
+                return tuple(reversed(items))
+            for item, child in zip(self.machine.moves(self.found[at]), self.children[at]):
+                if child not in came:
+                    came[child] = (at, item)
+                    queue.append(child)
+        raise ValueError(f"no way leads on from configuration {begin}")
+
+    def round_of(self, begin: int, index: int) -> tuple[tuple[int, ...], tuple[int, ...]]:
+        """Moves after which a slot is another than it was, and moves after which all is as it was."""
+        slot = self.found[begin].threads[index]
+        away = self.way(begin, lambda at: self.found[at].threads[index] != slot)
+        here = self.found[begin]
+        for item in away:
+            here = self.machine.move(here, item)[1]
+        return away, self.way(self.known[here], lambda at: at == begin)
 
     # Ends.
 

@@ -21,7 +21,7 @@ ghost use Rattle.mm_explore.specs.Results.{fault_found_lines};
 ghost use Rattle.mm_explore.specs.Words.{order};
 
 use crate::bench::Made;
-use crate::ends::{Tally, count_end, outcome_key};
+use crate::ends::{End, Tally, count_end, outcome_key};
 use crate::explored::{Explored, FaultFound};
 use crate::faults::{note_fault, put_faults};
 use crate::found::{Found, Origin};
@@ -87,12 +87,11 @@ impl Findings {
         note_fault(&mut self.faults, &made.step, origin)
     }
 
-    /// Notes a final configuration, given its index, whether it has no move, and its parts.
+    /// Notes an end, given its parts.
     pub(crate) fn note_end(
         &mut self,
         alloc: Global,
-        at: u32,
-        ended: bool,
+        end: End,
         parts: &Parts,
     ) -> Result<(), AllocError>
         requires room { (i : ImageValue) × (list : List (List ℕ)) × (past : List (List ℕ)) × Ended i list past self.old
@@ -104,8 +103,8 @@ impl Findings {
             → ended ≡ are_none (moves (run (start i) t)) → ArePartsAt i t parts.now
             → Ended i list (past ++ t ∷ []) self.new) }
     {
-        let key = outcome_key(alloc, ended, parts)?;
-        count_end(&mut self.ends, key, at)
+        let key = outcome_key(alloc, end, parts)?;
+        count_end(&mut self.ends, key, end)
     }
 
     /// What was found in all. The groups are those that have a slot.

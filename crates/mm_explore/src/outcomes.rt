@@ -11,46 +11,35 @@ ghost use Rattle.mm_explore.specs.Noting.{IsEnd};
 ghost use Rattle.mm_explore.specs.Results.{outcome_found_lines};
 ghost use Rattle.mm_explore.specs.Texts.{outcome_lines};
 
-use crate::ends::Tally;
-use crate::explored::OutcomeFound;
+use crate::ends::{End, Tally, standing};
+use crate::explored::{OutcomeFound, Standing};
 use crate::found::Found;
 use crate::parts::{Parts, take_parts};
 use indexmap::IndexMap;
 use mm_image::Image;
-use mm_model::{Slot, SlotState};
+use mm_model::Slot;
 use std::alloc::{AllocError, Global};
 
-/// Whether the numbers of an outcome say that it has no move.
-fn has_ended(key: &[u64]) -> bool
-    ensures { result ≡ (first_number key.now == 1) }
-{
-    match key {
-        [first, ..] => *first == 1,
-        [] => false,
-    }
-}
-
-/// Appends the number and the state of each slot.
-fn put_states(out: &mut Vec<(u8, SlotState)>, slots: &[Slot]) -> Result<(), AllocError>
-    ensures { OnOk result (out.new.items ≡ out.old.items ++ map (λ s. (s.number, s.state)) slots.now) }
+/// Appends the number of each slot, and how it stands. The busy ones are set in a mask, the first in the lowest bit.
+fn put_slots(out: &mut Vec<(u8, Standing)>, slots: &[Slot], busy: u64) -> Result<(), AllocError>
+    ensures { OnOk result (out.new.items ≡ out.old.items
+        ++ zip (map (λ s. s.number) slots.now) (standings_of (flags (length slots.now) busy) slots.now)) }
 {
     match slots {
         [] => Ok(()),
         [slot, rest @ ..] => {
-            out.push((slot.number, slot.state))?;
-            put_states(out, rest)
+            out.push((slot.number, standing(busy % 2 == 1, slot.state)))?;
+            put_slots(out, rest, busy / 2)
         }
     }
 }
 
-/// The outcome of these numbers, given how many final configurations have it and the index of the first. The groups
-/// are those that have a slot.
+/// The outcome that so many ends have, given the first of them. The groups are those that have a slot.
 fn outcome(
     alloc: Global,
     img: &Image,
     groups: &[u8],
     found: &Found,
-    key: &[u64],
     tally: Tally,
 ) -> Result<OutcomeFound, AllocError>
     requires image { IsImage img.now }
@@ -61,16 +50,16 @@ fn outcome(
         → IsEnd img.now found.now.list finals t key.now tally
         → outcome_found_lines o ≡ outcome_lines img.now finals t) }
 {
-    let at = tally.first as usize;
-    let parts = take_parts(alloc, img, groups, found.numbers(at))?;
-    let mut states = Vec::new(alloc);
-    put_states(&mut states, &parts.slots)?;
-    let by = found.schedule(alloc, at, None)?;
+    let End { at, ending, busy } = tally.first;
+    let parts = take_parts(alloc, img, groups, found.numbers(at as usize))?;
+    let mut slots = Vec::new(alloc);
+    put_slots(&mut slots, &parts.slots, busy)?;
+    let by = found.schedule(alloc, at as usize, None)?;
     let Parts { outputs, .. } = parts;
     Ok(OutcomeFound {
         count: tally.count,
-        ended: has_ended(key),
-        states,
+        ending,
+        slots,
         outputs,
         by,
     })
@@ -95,8 +84,8 @@ pub(crate) fn put_outcomes(
         → flat_map outcome_found_lines out.new.items ≡ flat_map outcome_found_lines out.old.items
         ++ flat_map (outcome_lines img.now finals) ts) }
 {
-    for (key, tally) in ends.iter() {
-        let outcome = outcome(alloc, img, groups, found, key, *tally)?;
+    for (_, tally) in ends.iter() {
+        let outcome = outcome(alloc, img, groups, found, *tally)?;
         out.push(outcome)?;
     }
     Ok(())

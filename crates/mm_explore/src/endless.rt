@@ -1,0 +1,103 @@
+//! Sets of configurations that are never left, and their outcomes.
+
+use crate::ends::End;
+use crate::explored::Ending;
+use crate::parts::{take_parts, take_slots};
+use crate::reader::Reader;
+use crate::same_slots::differing;
+use crate::search::Search;
+use indexmap::IndexMap;
+use mm_endless::{ClosedSets, closed_sets};
+use mm_image::Image;
+use mm_model::Slot;
+use std::alloc::{AllocError, Global};
+
+/// The slots that change in each endless set, by the index of the first configuration of the set. Slots are set in a
+/// mask, the first in the lowest bit.
+type BusySlots = IndexMap<u32, u64>;
+
+/// Whether each child of a node is the node itself.
+fn stays(children: &[u32], node: u32) -> bool {
+    for child in children {
+        if *child != node {
+            return false;
+        }
+    }
+    true
+}
+
+/// Adds slots to those that change in a set.
+fn add(busy: &mut BusySlots, first: u32, slots: u64) -> Result<(), AllocError> {
+    let before = busy.get(&first).copied().unwrap_or(0);
+    busy.insert(first, before | slots)?;
+    Ok(())
+}
+
+impl Search {
+    /// Notes the outcome of each endless set, by the first configurations of the sets.
+    pub(crate) fn note_endless(&mut self, alloc: Global, img: &Image) -> Result<(), AllocError> {
+        let busy = self.busy_slots(alloc, img)?;
+        for (at, slots) in busy.iter() {
+            let parts = take_parts(alloc, img, &self.groups, self.found.numbers(*at as usize))?;
+            let end = End {
+                at: *at,
+                ending: Ending::Endless,
+                busy: *slots,
+            };
+            self.findings.note_end(alloc, end, &parts)?;
+        }
+        Ok(())
+    }
+
+    /// The slots that change in each endless set.
+    fn busy_slots(&self, alloc: Global, img: &Image) -> Result<BusySlots, AllocError> {
+        let sets = closed_sets(alloc, &self.graph)?;
+        let mut busy = IndexMap::new(alloc);
+        for at in 0..self.found.len() {
+            self.note_member(alloc, img, &sets, at, &mut busy)?;
+        }
+        Ok(busy)
+    }
+
+    /// Notes a configuration, if it is in an endless set: as its first, or with the slots that differ from those of the
+    /// first.
+    fn note_member(
+        &self,
+        alloc: Global,
+        img: &Image,
+        sets: &ClosedSets,
+        at: usize,
+        busy: &mut BusySlots,
+    ) -> Result<(), AllocError> {
+        match sets.first(at) {
+            None => Ok(()),
+            Some(first) if first as usize != at => {
+                let slots = self.changed_slots(alloc, img, first as usize, at)?;
+                add(busy, first, slots)
+            }
+            Some(first) if stays(self.graph.children(at), first) => Ok(()),
+            Some(first) => add(busy, first, 0),
+        }
+    }
+
+    /// The slots in which two configurations differ.
+    fn changed_slots(
+        &self,
+        alloc: Global,
+        img: &Image,
+        one: usize,
+        other: usize,
+    ) -> Result<u64, AllocError> {
+        let before = self.slots(alloc, img, one)?;
+        let after = self.slots(alloc, img, other)?;
+        Ok(differing(&before, &after))
+    }
+
+    /// The slots of a configuration.
+    fn slots(&self, alloc: Global, img: &Image, at: usize) -> Result<Vec<Slot>, AllocError> {
+        let mut reader = Reader::new(self.found.numbers(at));
+        let mut slots = Vec::new(alloc);
+        take_slots(&mut reader, img.slots(), &mut slots)?;
+        Ok(slots)
+    }
+}
