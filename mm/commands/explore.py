@@ -23,7 +23,7 @@ from mm.views.spell import Memory, Speller
 from mm.views.waiting import what_for
 from mm.words import MOST_CYCLES
 
-USUAL, MOST = 100_000, 1_000_000
+USUAL, MOST = 100_000, 100_000_000
 # So many faults and so many ends are told with their places: each is a run of its own.
 MOST_PLACES = 50
 WAITS = ("ld", "st", "evt")
@@ -54,15 +54,17 @@ def places_of(console: Console, built: Built, found: Exploration) -> Places:
     return places
 
 
-def tell_waits(console: Console, built: Built, found: Exploration) -> None:
-    """Puts what each slot waits for in place of `running` where a program is stuck."""
-    for outcome in [one for one in found.outcomes if not one.ended][:MOST_PLACES]:
+def waits_of(console: Console, built: Built, found: Exploration) -> dict[tuple[str, int], str]:
+    """What each slot waits for that waits for ever, by the schedule of its outcome."""
+    waits: dict[tuple[str, int], str] = {}
+    for outcome in [one for one in found.outcomes if one.waiting][:MOST_PLACES]:
         report, _ = run_under(console, built, outcome.schedule)
         memory, speller = Memory.after(built.image, report), Speller(built.symbols)
-        for slot in report.slots:
-            instruction = memory.instruction(slot.ip.pointer.address) if slot.running and slot.ip.pointer else None
+        for slot in [slot for slot in report.slots if slot.number in outcome.waiting]:
+            instruction = memory.instruction(slot.ip.pointer.address) if slot.ip.pointer else None
             if instruction and instruction.name in WAITS:
-                outcome.states[slot.number] = what_for(slot, memory, speller)
+                waits[outcome.schedule, slot.number] = what_for(slot, memory, speller)
+    return waits
 
 
 def run(console: Console) -> int:
@@ -73,6 +75,6 @@ def run(console: Console) -> int:
     built = console.build(console.words)
     text = console.ask(["explore", built.path, str(states)], [built.file]).text
     found = read_exploration(text)
-    tell_waits(console, built, found)
-    console.write(ExplorationView(built.symbols, places_of(console, built, found)).lines(found))
+    view = ExplorationView(built.symbols, places_of(console, built, found), waits_of(console, built, found))
+    console.write(view.lines(found))
     return Status.DONE
