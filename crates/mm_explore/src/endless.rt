@@ -1,5 +1,12 @@
 //! Sets of configurations that are never left, and their outcomes.
 
+ghost use Rattle.std.specs.Prelude.{◌≡◌, ℕ, ◌<◌, ◌↔◌, [], IfOk, OnOk, IsTrue, length, slice_get, Some};
+ghost use Rattle.std.specs.List.{AllByRecursion};
+ghost use Rattle.mm_model.specs.Report.{groups_of};
+ghost use Rattle.mm_model.specs.Image.{start};
+ghost use Rattle.mm_explore.specs.Findings.{explored_turns};
+ghost use Rattle.mm_explore.specs.Searching.{HasCome, HasEnds, AreBusySets};
+
 use crate::ends::End;
 use crate::explored::Ending;
 use crate::parts::{take_parts, take_slots};
@@ -17,7 +24,9 @@ use std::alloc::{AllocError, Global};
 type BusySlots = IndexMap<u32, u64>;
 
 /// Whether each child of a node is the node itself.
-fn stays(children: &[u32], node: u32) -> bool {
+fn stays(children: &[u32], node: u32) -> bool
+    ensures { IsTrue result ↔ AllByRecursion (λ child. child ≡ node) children.now }
+{
     for child in children {
         if *child != node {
             return false;
@@ -35,7 +44,14 @@ fn add(busy: &mut BusySlots, first: u32, slots: u64) -> Result<(), AllocError> {
 
 impl Search {
     /// Notes the outcome of each endless set, by the first configurations of the sets.
-    pub(crate) fn note_endless(&mut self, alloc: Global, img: &Image) -> Result<(), AllocError> {
+    pub(crate) fn note_endless(&mut self, alloc: Global, img: &Image) -> Result<(), AllocError>
+        requires come { HasCome img.now self.old (explored_turns img.now self.old.found.list) [] self.old.found.list }
+        requires all { IsTrue self.old.all }
+        ensures ends { OnOk result (HasEnds img.now self.new) }
+        ensures found { OnOk result (self.new.found ≡ self.old.found) }
+        ensures groups { OnOk result (self.new.groups ≡ self.old.groups) }
+        ensures all { OnOk result (IsTrue self.new.all) }
+    {
         let busy = self.busy_slots(alloc, img)?;
         for (at, slots) in busy.iter() {
             let parts = take_parts(alloc, img, &self.groups, self.found.numbers(*at as usize))?;
@@ -50,7 +66,11 @@ impl Search {
     }
 
     /// The slots that change in each endless set.
-    fn busy_slots(&self, alloc: Global, img: &Image) -> Result<BusySlots, AllocError> {
+    fn busy_slots(&self, alloc: Global, img: &Image) -> Result<BusySlots, AllocError>
+        requires come { HasCome img.now self.now (explored_turns img.now self.now.found.list) [] self.now.found.list }
+        requires all { IsTrue self.now.all }
+        ensures { IfOk result (λ busy. AreBusySets img.now self.now.found.list busy.entries) }
+    {
         let sets = closed_sets(alloc, &self.graph)?;
         let mut busy = IndexMap::new(alloc);
         for at in 0..self.found.len() {

@@ -1,15 +1,15 @@
 //! The outcomes that an exploration gives.
 
-ghost use Rattle.std.specs.Prelude.{◌≡◌, ℕ, ◌++◌, ◌==◌, List, IfOk, OnOk, map};
-ghost use Rattle.std.specs.List.{AllZip, flat_map};
+ghost use Rattle.std.specs.Prelude.{◌≡◌, ℕ, ◌++◌, List, IfOk, OnOk, length, map, zip};
+ghost use Rattle.std.specs.List.{AllZip};
+ghost use Rattle.mm_model.specs.Flags.{flags};
 ghost use Rattle.mm_model.specs.Image.{start};
 ghost use Rattle.mm_model.specs.Report.{groups_of};
 ghost use Rattle.mm_model.specs.Spelling.{IsImage};
+ghost use Rattle.mm_explore.specs.Finds.{outcome_found};
 ghost use Rattle.mm_explore.specs.FoundLists.{Holds};
-ghost use Rattle.mm_explore.specs.Kept.{first_number};
-ghost use Rattle.mm_explore.specs.Noting.{IsEnd};
-ghost use Rattle.mm_explore.specs.Results.{outcome_found_lines};
-ghost use Rattle.mm_explore.specs.Texts.{outcome_lines};
+ghost use Rattle.mm_explore.specs.Noting.{IsKeptEnd, standings_of};
+ghost use Rattle.mm_explore.specs.Outcomes.{End as EndValue, count_of};
 
 use crate::ends::{End, Tally, standing};
 use crate::explored::{OutcomeFound, Standing};
@@ -45,10 +45,11 @@ fn outcome(
     requires image { IsImage img.now }
     requires groups { groups.now ≡ groups_of (start img.now).core }
     requires held { Holds img.now found.now }
-    requires end { (finals : List (List ℕ)) × (t : List ℕ) × IsEnd img.now found.now.list finals t key.now tally }
-    ensures { IfOk result (λ o. (finals : List (List ℕ)) (t : List ℕ)
-        → IsEnd img.now found.now.list finals t key.now tally
-        → outcome_found_lines o ≡ outcome_lines img.now finals t) }
+    requires end { (ends : List EndValue) × (e : EndValue) × (key : List ℕ)
+        × IsKeptEnd img.now found.now.list ends e key tally }
+    ensures { IfOk result (λ o. (ends : List EndValue) (e : EndValue) (key : List ℕ)
+        → IsKeptEnd img.now found.now.list ends e key tally
+        → o ≡ outcome_found img.now (count_of ends e.outcome) e.outcome e.schedule) }
 {
     let End { at, ending, busy } = tally.first;
     let parts = take_parts(alloc, img, groups, found.numbers(at as usize))?;
@@ -77,12 +78,12 @@ pub(crate) fn put_outcomes(
     requires image { IsImage img.now }
     requires groups { groups.now ≡ groups_of (start img.now).core }
     requires held { Holds img.now found.now }
-    requires ends { (finals : List (List ℕ)) × (ts : List (List ℕ))
-        × AllZip (λ t end. IsEnd img.now found.now.list finals t end.0.items end.1) ts ends.now.entries }
-    ensures { OnOk result ((finals ts : List (List ℕ))
-        → AllZip (λ t end. IsEnd img.now found.now.list finals t end.0.items end.1) ts ends.now.entries
-        → flat_map outcome_found_lines out.new.items ≡ flat_map outcome_found_lines out.old.items
-        ++ flat_map (outcome_lines img.now finals) ts) }
+    requires ends { (all : List EndValue) × (some : List EndValue)
+        × AllZip (λ e entry. IsKeptEnd img.now found.now.list all e entry.0.items entry.1) some ends.now.entries }
+    ensures { OnOk result ((all some : List EndValue)
+        → AllZip (λ e entry. IsKeptEnd img.now found.now.list all e entry.0.items entry.1) some ends.now.entries
+        → out.new.items ≡ out.old.items
+        ++ map (λ e. outcome_found img.now (count_of all e.outcome) e.outcome e.schedule) some) }
 {
     for (_, tally) in ends.iter() {
         let outcome = outcome(alloc, img, groups, found, *tally)?;

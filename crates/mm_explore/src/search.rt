@@ -14,8 +14,8 @@ ghost use Rattle.mm_explore.specs.Findings.{explored_turns};
 ghost use Rattle.mm_explore.specs.Kept.{kept};
 ghost use Rattle.mm_explore.specs.MoveLists.{running_item, loaded_item, ports_in, moves_in};
 ghost use Rattle.mm_explore.specs.Finds.{Finds};
-ghost use Rattle.mm_explore.specs.Searching.{HasCome, IsBefore, IsNode, IsWithin, StaysBy, AllStay, node_schedule};
-ghost use Rattle.mm_explore.specs.Searching.{all_after as all_after_look, Met, KeptBy};
+ghost use Rattle.mm_explore.specs.Searching.{HasCome, IsBefore, IsNode, IsWithin, StaysBy, AllStay, node_schedule, Met};
+ghost use Rattle.mm_explore.specs.{Findings.are_none, Outcomes.ending_of};
 
 use crate::bench::{Bench, Made};
 use crate::ends::End;
@@ -299,10 +299,8 @@ impl Search {
         requires groups { self.old.groups.items ≡ groups_of (start img.now).core }
         requires some { IsAtSomeConfiguration img.now self.old.bench }
         requires from { origin.from < length self.old.found.list }
-        ensures met { OnOk result ((t : List ℕ) → IsAtConfiguration img.now t self.old.bench
-            → Met (kept img.now (run (start img.now) t)) origin self.old self.new) }
-        ensures stays { IfOk result (λ stays. (t : List ℕ) → IsAtConfiguration img.now t self.old.bench
-            → KeptBy stays self.old.found.forms origin.from (kept img.now (run (start img.now) t))) }
+        ensures { IfOk result (λ child. (t : List ℕ) → IsAtConfiguration img.now t self.old.bench
+            → Met (kept img.now (run (start img.now) t)) origin child self.old self.new) }
     {
         self.numbers.clear();
         self.bench
