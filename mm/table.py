@@ -54,7 +54,7 @@ CLANG = Option("--clang", "C: a word for Clang, such as -DSIZE=3; may be repeate
 C = (LEVEL, HEAP, STACK, QUARANTINE, CLANG)
 SLOT = Option("--slot", "the slot and the group of the program's thread, 0 to 15; default: 0", "N")
 PREFIX = Option("--prefix", "what the names of the program's segments begin with", "NAME")
-STATES = Option("--states", "how many configurations are looked at, 1 to 1000000; else 100000", "N")
+STATES = Option("--states", "how many configurations are looked at, 1 to 100000000; else 100000", "N")
 PART = Option("--part", "memory, frames, pages, slots, or all for a testbench; default: memory (docs/HARDWARE.md)", "NAME")
 COUNT = Option("--count", "how many; default: 256", "N")
 PORT = Option("--port", "the port of the server, 0 for any that is free; default: 8017", "N")
