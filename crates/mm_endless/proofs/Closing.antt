@@ -10,7 +10,7 @@ use Rattle.mm_endless.specs.declared.walk.Mark.{Mark, TheVariants.{Unmet, OnPath
 use Rattle.mm_endless.specs.{Graphs.{children, Leads, IsTold, IsRecurrent}, Stages.{Stage, mark_of, number_of, left_of, is_met, is_done}}
 use Rattle.mm_endless.specs.Stages.{IsOnPath, IsDone, IsNotBefore, IsInLast, IsLookedAt, IsOpenAt, IsInSome, IsStage, IsLater}
 use Rattle.mm_endless.specs.Stages.{told_of, told_by, mark_for, numbers_for, marks_after, numbers_after, marked_all, IsLastOpen}
-use Rattle.mm_endless.specs.Stages.{IsLastBelow, HasDone, IsFirstOf, IsTaken}
+use Rattle.mm_endless.specs.Stages.{IsLastBelow, HasDone, IsFirstOf}
 use Rattle.mm_endless.proofs.{Walking.{leads_trans, leads_edge, stays}, Discovering.pairs_weaken}
 use Rattle.mm_endless.proofs.{Marks.{path_inside, done_inside, not_both, Kind, kind_of}, Joining.{pairs_front, pairs_last, bounds_below}}
 
@@ -71,8 +71,8 @@ module _ (first : Option ℕ) where
       here : count_by is_met (slice_set marks v (mark_for first)) ≡ count_by is_met marks
       here =
           let e = sum_by-set (λ m. cond (is_met m) 1 0) marks v (mark_for first) Unmet at.0 in
-          let a : cond (is_met (slice_index_or marks v Unmet)) 1 0 ≡ 1 = ap (λ b. cond b 1 0) at.1 in
-          let b : cond (is_met (mark_for first)) 1 0 ≡ 1 = ap (λ b. cond b 1 0) (for_met first) in
+          let a : cond (is_met (slice_index_or marks v Unmet)) 1 0 ≡ 1 = ap {B = ℕ} (λ b. cond b 1 0) at.1 in
+          let b : cond (is_met (mark_for first)) 1 0 ≡ 1 = ap {B = ℕ} (λ b. cond b 1 0) (for_met first) in
           omega (arith, e, a, b)
 
       later : AreMet (slice_set marks v (mark_for first)) nodes
@@ -119,7 +119,7 @@ module _ (g : List (List ℕ)) (s : Stage) (k : IsStage g s) (u b : ℕ) (last :
     (inside : (v : ℕ) → Contains members v → b ≤ number_of s v) (before : IsLastBelow s b rest) (first : Option ℕ)
     (told : IsFirstOf g s members first) where
   abbrev t : Stage
-  t = record (marked_all s members first) { finished = rest; bounds = front; open = last.front }
+  t = record (marked_all s members first) { finished = rest; bounds = front; unfinished = last.front }
 
   bound_in : Contains s.bounds b
   bound_in = subst (λ l. Contains l b) (sym is) (Contains-push front b)
@@ -160,7 +160,7 @@ module _ (g : List (List ℕ)) (s : Stage) (k : IsStage g s) (u b : ℕ) (last :
     | inr m ↦ m
   ]
     where
-      in_finished : Contains s.open v ⊎ Contains s.finished v → Contains rest v ⊎ Contains members v
+      in_finished : Contains s.unfinished v ⊎ Contains s.finished v → Contains rest v ⊎ Contains members v
       in_finished (inr f) = Contains-append_cases rest members v (subst (λ l. Contains l v) split f)
       in_finished (inl o) = elim (Contains-push_cases last.front u v (subst (λ l. Contains l v) last.is o)) [
         | inl f ↦
@@ -242,7 +242,7 @@ module _ (g : List (List ℕ)) (s : Stage) (k : IsStage g s) (u b : ℕ) (last :
   bound_was : (x : ℕ) → Contains s.bounds x → Contains front x ⊎ (b ≡ x)
   bound_was x there = Contains-push_cases front b x (subst (λ l. Contains l x) is there)
 
-  open_stays : (v : ℕ) → Contains last.front v → Contains s.open v
+  open_stays : (v : ℕ) → Contains last.front v → Contains s.unfinished v
   open_stays v there = subst (λ l. Contains l v) (sym last.is) (Contains-append_left last.front (u ∷ []) v there)
 
   open_below : (v : ℕ) → Contains last.front v → number_of s v < b
@@ -318,7 +318,7 @@ module _ (g : List (List ℕ)) (s : Stage) (k : IsStage g s) (u b : ℕ) (last :
         subst (IsTold g v) (ap (λ n. told_by (mark_of s v) n) (sym (number_other v out)) ∙ ap (λ x. told_by x (number_of t v)) (sym (mark_other v out))) (k.right v was)
   ]
 
-  pub close_keeps : IsStage g (record (marked_all s members first) { finished = rest; bounds = front; open = last.front })
+  pub close_keeps : IsStage g (record (marked_all s members first) { finished = rest; bounds = front; unfinished = last.front })
   close_keeps = record {
     nodes = k.nodes;
     marks = marks_len first s.marks members ∙ k.marks;
@@ -413,7 +413,7 @@ module _ (g : List (List ℕ)) (s : Stage) (k : IsStage g s) (u b : ℕ) (last :
             ]
           ]
 
-  pub close_later : IsLater s (record (marked_all s members first) { finished = rest; bounds = front; open = last.front })
+  pub close_later : IsLater s (record (marked_all s members first) { finished = rest; bounds = front; unfinished = last.front })
   close_later = record { met = met_stays; done = done_stays }
     where
       met_stays : (v : ℕ) → is_met (mark_of s v) ≡ true → is_met (mark_of t v) ≡ true

@@ -132,8 +132,8 @@ module _ (g : List (List ℕ)) where
         let a = count_cons p z zs in
         let b = count_cons q z zs in
         elim (cases_Bool (p z)) [
-          | inl on ↦ let c = ap (λ x. cond x 1 0) on in let d = ap (λ x. cond x 1 0) (h z on) in omega (arith, rest, a, b, c, d)
-          | inr off ↦ let c = ap (λ x. cond x 1 0) off in omega (arith, rest, a, b, c)
+          | inl on ↦ let c = ap {B = ℕ} (λ x. cond x 1 0) on in let d = ap {B = ℕ} (λ x. cond x 1 0) (h z on) in omega (arith, rest, a, b, c, d)
+          | inr off ↦ let c = ap {B = ℕ} (λ x. cond x 1 0) off in omega (arith, rest, a, b, c)
         ]
       where
         count_cons : (r : ℕ → Bool) (x : ℕ) (xs : List ℕ) → count_by r (x ∷ xs) ≡ cond (r x) 1 0 + count_by r xs
@@ -147,36 +147,43 @@ module _ (g : List (List ℕ)) where
         elim (in_cases z zs x inside) [
           | inl e ↦
               let rest = less_or p q zs h in
-              let c : cond (p z) 1 0 ≡ 0 = ap (λ v. cond v 1 0) (subst (λ y. p y ≡ false) (sym e) off) in
-              let d : cond (q z) 1 0 ≡ 1 = ap (λ v. cond v 1 0) (subst (λ y. q y ≡ true) (sym e) on) in
+              let c : cond (p z) 1 0 ≡ 0 = ap {B = ℕ} (λ v. cond v 1 0) (subst (λ y. p y ≡ false) (sym e) off) in
+              let d : cond (q z) 1 0 ≡ 1 = ap {B = ℕ} (λ v. cond v 1 0) (subst (λ y. q y ≡ true) (sym e) on) in
               omega (arith, rest, a, b, c, d)
           | inr later ↦
               let rest = less p q zs x h later off on in
               elim (cases_Bool (p z)) [
-                | inl yes ↦ let c = ap (λ v. cond v 1 0) yes in let d = ap (λ v. cond v 1 0) (h z yes) in omega (arith, rest, a, b, c, d)
-                | inr no ↦ let c = ap (λ v. cond v 1 0) no in omega (arith, rest, a, b, c)
+                | inl on_z ↦ let c = ap {B = ℕ} (λ v. cond v 1 0) on_z in let d = ap {B = ℕ} (λ v. cond v 1 0) (h z on_z) in omega (arith, rest, a, b, c, d)
+                | inr off_z ↦ let c = ap {B = ℕ} (λ v. cond v 1 0) off_z in omega (arith, rest, a, b, c)
               ]
         ]
 
     abbrev Ends : ℕ → Type 0
     Ends a = (b : ℕ) × Leads g a b × IsRecurrent g b
 
+    led_inside : (a b : ℕ) → a < length g → Leads g a b → b < length g
+    led_inside a b inside l = stays g (λ x. x < length g) (λ x c lt edge. nodes x c edge) a b l inside
+
+    ends_here : (a : ℕ) → a < length g → ((b : ℕ) → Contains ys b → via ys a b ≡ true → via ys b a ≡ true) → Ends a
+    ends_here a inside back = (a, leads_self g a, λ b l. via_leads ys b a (back b (all b (led_inside a b inside l)) (leads_via a b l)))
+
+    fewer : (a b : ℕ) → a < length g → via ys a b ≡ true → via ys b a ≡ false → reach b < reach a
+    fewer a b inside on off =
+        less (via ys b) (via ys a) ys a (λ y h. leads_via a y (leads_trans g a b y (via_leads ys a b on) (via_leads ys b y h))) (all a inside) off (leads_via a a (leads_self g a))
+
     descend : (n a : ℕ) → a < length g → reach a ≤ n → Ends a
-    descend n a inside small = by n small (search_for a ys)
-      where
-        by : (m : ℕ) → reach a ≤ m → Search a ys → Ends a
-        by m le (Search.none back) = (a, leads_self g a, λ b l. via_leads ys b a (back b (all b (led_inside b l)) (leads_via a b l)))
-          where
-            led_inside : (b : ℕ) → Leads g a b → b < length g
-            led_inside b l = stays g (λ x. x < length g) (λ x c lt edge. nodes x c edge) a b l inside
-        by zero le (Search.found b there on off) =
-            let lt = less (via ys b) (via ys a) ys a (λ y h. leads_via a y (leads_trans g a b y (via_leads ys a b on) (via_leads ys b y h))) (all a inside) off (leads_via a a (leads_self g a)) in
-            absurd (omega (arith, lt, le))
-        by (suc m) le (Search.found b there on off) =
-            let lt = less (via ys b) (via ys a) ys a (λ y h. leads_via a y (leads_trans g a b y (via_leads ys a b on) (via_leads ys b y h))) (all a inside) off (leads_via a a (leads_self g a)) in
-            let to = via_leads ys a b on in
-            let r = descend m b (stays g (λ x. x < length g) (λ x c l edge. nodes x c edge) a b to inside) (omega (arith, lt, le)) in
-            (r.0, leads_trans g a b r.0 to r.1, r.2)
+    descend zero a inside small = elim (search_for a ys) [
+      | Search.none back ↦ ends_here a inside back
+      | Search.found b there on off ↦ let lt = fewer a b inside on off in absurd (omega (arith, lt, small))
+    ]
+    descend (suc n) a inside small = elim (search_for a ys) [
+      | Search.none back ↦ ends_here a inside back
+      | Search.found b there on off ↦
+          let lt = fewer a b inside on off in
+          let to = via_leads ys a b on in
+          let r = descend n b (led_inside a b inside to) (omega (arith, lt, small)) in
+          (r.0, leads_trans g a b r.0 to r.1, r.2)
+    ]
 
 pub walks_end : WalksEnd
 walks_end g a nodes inside = descend g ys all nodes (reach g ys all nodes a) a inside (omega arith)

@@ -65,12 +65,12 @@ module _ (g : List (List ℕ)) (s : Stage) (k : IsStage g s) (v : ℕ) (inside :
 
   done_was : (u : ℕ) → IsDone t u → IsDone s u
   done_was u d = elim (cases_eq u v) [
-    | inl e ↦ let x = ap is_done (sym (ap (mark_of t) e ∙ mark_v)) ∙ d in absurd (no x)
+    | inl e ↦ let x = ap is_done (sym (ap (mark_of t) e ∙ mark_v)) ∙ d in absurd (not_done x)
     | inr ne ↦ ap is_done (sym (mark_other u ne)) ∙ d
   ]
     where
-      no : is_done OnPath ≡ true → ⊥
-      no e = cc
+      not_done : is_done OnPath ≡ true → ⊥
+      not_done e = cc
 
   bound_below : (b : ℕ) → Contains s.bounds b → b < s.met
   bound_below b there =
@@ -104,7 +104,7 @@ module _ (g : List (List ℕ)) (s : Stage) (k : IsStage g s) (v : ℕ) (inside :
   counted : s.met + 1 ≡ count_by is_met (slice_set s.marks v OnPath)
   counted =
       let e = sum_by-set (λ m. cond (is_met m) 1 0) s.marks v OnPath Unmet in_marks in
-      let z : cond (is_met (mark_of s v)) 1 0 ≡ 0 = ap (λ m. cond (is_met m) 1 0) unmet in
+      let z : cond (is_met (mark_of s v)) 1 0 ≡ 0 = ap {B = ℕ} (λ m. cond (is_met m) 1 0) unmet in
       let n = k.met in
       omega (arith, e, z, n)
 
@@ -144,21 +144,21 @@ module _ (g : List (List ℕ)) (s : Stage) (k : IsStage g s) (v : ℕ) (inside :
         | inl e ↦ let x = k.whole v inside unmet in subst (λ w. left_of s w ≤ length (children g w)) (sym e) (omega (arith, x))
         | inr was ↦ k.few u was
       ];
-      opens = λ u there. elim (Contains-push_cases s.open v u there) [
+      opens = λ u there. elim (Contains-push_cases s.unfinished v u there) [
         | inl was ↦ path_stays u (k.opens u was)
         | inr e ↦ subst (IsOnPath t) e path_new
       ];
-      rising = pairs_push (λ u w. number_of t u < number_of t w) s.open v
-          (pairs_weaken (λ u w. number_of s u < number_of s w) (λ u w. number_of t u < number_of t w) s.open (λ u w left right lt.
+      rising = pairs_push (λ u w. number_of t u < number_of t w) s.unfinished v
+          (pairs_weaken (λ u w. number_of s u < number_of s w) (λ u w. number_of t u < number_of t w) s.unfinished (λ u w left right lt.
               let a = number_path u (k.opens u left) in let b = number_path w (k.opens w right) in omega (arith, a, b, lt)) k.rising)
           (λ u there. let low = k.below u (k.opens u there) in let a = number_path u (k.opens u there) in let b = number_v in omega (arith, low, a, b));
       finishes = λ u there. (path_stays u (k.finishes u there).0, (k.finishes u there).1);
       sets = pairs_weaken (IsNotBefore s) (IsNotBefore t) s.finished (λ u w left right n.
           before_stays u w (k.finishes u left).0 (k.finishes w right).0 n) k.sets;
       known = λ u h. elim (path_was u h) [
-        | inl e ↦ inl (subst (Contains (s.open ++ v ∷ [])) (sym e) (Contains-push s.open v))
+        | inl e ↦ inl (subst (Contains (s.unfinished ++ v ∷ [])) (sym e) (Contains-push s.unfinished v))
         | inr was ↦ elim (k.known u was) [
-          | inl o ↦ inl (Contains-append_left s.open (v ∷ []) u o)
+          | inl o ↦ inl (Contains-append_left s.unfinished (v ∷ []) u o)
           | inr f ↦ inr f
         ]
       ];
@@ -166,8 +166,8 @@ module _ (g : List (List ℕ)) (s : Stage) (k : IsStage g s) (v : ℕ) (inside :
       begun = λ b there. elim (Contains-push_cases s.bounds s.met b there) [
         | inl was ↦
             let m = k.begun b was in
-            (m.0, Contains-append_left s.open (v ∷ []) m.0 m.1, number_path m.0 (k.opens m.0 m.1) ∙ m.2)
-        | inr e ↦ (v, Contains-push s.open v, number_v ∙ e)
+            (m.0, Contains-append_left s.unfinished (v ∷ []) m.0 m.1, number_path m.0 (k.opens m.0 m.1) ∙ m.2)
+        | inr e ↦ (v, Contains-push s.unfinished v, number_v ∙ e)
       ];
       within = λ u h. elim (path_was u h) [
         | inl e ↦ (s.met, Contains-push s.bounds s.met, let x = ap (number_of t) e ∙ number_v in omega (arith, x))

@@ -6,7 +6,7 @@ use Rattle.mm_endless.specs.declared.walk.Mark.{Mark, TheVariants.{Unmet, OnPath
 use Rattle.mm_endless.specs.{Graphs.{AreClosedSets, IsTold}, Stages.{Stage, mark_of, number_of, IsOnPath, IsDone, IsStage, told_by, firsts_of}}
 use Rattle.mm_endless.proofs.Marks.{Kind, kind_of}
 
-firsts_len : (marks : List Mark) (numbers : List ℕ) → length marks ≡ length numbers → length (firsts_of marks numbers) ≡ length marks
+pub firsts_len : (marks : List Mark) (numbers : List ℕ) → length marks ≡ length numbers → length (firsts_of marks numbers) ≡ length marks
 firsts_len [] numbers e = refl
 firsts_len (m ∷ marks) [] e = absurd (omega (arith, e))
 firsts_len (m ∷ marks) (n ∷ numbers) e = ap suc (firsts_len marks numbers (omega (arith, e)))
@@ -18,14 +18,14 @@ first_at (m ∷ marks) [] k e lt = absurd (omega (arith, e))
 first_at (m ∷ marks) (n ∷ numbers) zero e lt = refl
 first_at (m ∷ marks) (n ∷ numbers) (suc k) e lt = first_at marks numbers k (omega (arith, e)) (omega (arith, lt))
 
-pub none_on_path : (g : List (List ℕ)) (s : Stage) → IsStage g s → s.open ≡ [] → (v : ℕ) → IsOnPath s v → ⊥
+pub none_on_path : (g : List (List ℕ)) (s : Stage) → IsStage g s → s.unfinished ≡ [] → (v : ℕ) → IsOnPath s v → ⊥
 none_on_path g s k none v h =
     let w = k.within v h in
     let m = k.begun w.0 w.1 in
     none_in m.0 (subst (λ l. Contains l m.0) none m.1)
 
 -- a node that was met is done, if no node is open
-pub met_done : (g : List (List ℕ)) (s : Stage) → IsStage g s → s.open ≡ [] → (v : ℕ) → (mark_of s v ≡ Unmet → ⊥) → IsDone s v
+pub met_done : (g : List (List ℕ)) (s : Stage) → IsStage g s → s.unfinished ≡ [] → (v : ℕ) → (mark_of s v ≡ Unmet → ⊥) → IsDone s v
 met_done g s k none v met = by (kind_of (mark_of s v))
   where
     by : Kind (mark_of s v) → IsDone s v

@@ -36,7 +36,7 @@ module _ (g : List (List ℕ)) (s : Stage) (k : IsStage g s) (u : ℕ) (last : I
   }
 
   -- A finished node whose number is no bound is taken from the open ones.
-  pub pop_keeps : Contains s.finished u → ((b : ℕ) → Contains s.bounds b → b ≢ number_of s u) → IsStage g (record s { open = last.front })
+  pub pop_keeps : Contains s.finished u → ((b : ℕ) → Contains s.bounds b → b ≢ number_of s u) → IsStage g (record s { unfinished = last.front })
   pop_keeps finished no_bound = record {
     nodes = k.nodes;
     marks = k.marks;
@@ -66,10 +66,10 @@ module _ (g : List (List ℕ)) (s : Stage) (k : IsStage g s) (u : ℕ) (last : I
     right = k.right;
   }
     where
-      front_in : (v : ℕ) → Contains last.front v → Contains s.open v
+      front_in : (v : ℕ) → Contains last.front v → Contains s.unfinished v
       front_in v there = subst (λ l. Contains l v) (sym last.is) (Contains-append_left last.front (u ∷ []) v there)
 
-      begun_in : (b : ℕ) → Contains s.bounds b → IsOpenAt (record s { open = last.front }) b
+      begun_in : (b : ℕ) → Contains s.bounds b → IsOpenAt (record s { unfinished = last.front }) b
       begun_in b inside =
           let m = k.begun b inside in
           elim (Contains-push_cases last.front u m.0 (subst (λ l. Contains l m.0) last.is m.1)) [

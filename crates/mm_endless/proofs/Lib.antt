@@ -1,5 +1,6 @@
 pub mod Walking
 pub mod Rows
+pub mod Lists
 pub mod Marks
 pub mod Discovering
 pub mod Joining

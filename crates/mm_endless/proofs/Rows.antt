@@ -74,3 +74,11 @@ ascend_from from (e ∷ ends) n m h le = (h.0, ascend_from e ends n m h.1 le)
 
 pub ascend_more : (xs ys ends : List ℕ) → Ascend 0 ends (length xs) → Ascend 0 (ends ++ (length xs + length ys) ∷ []) (length (xs ++ ys))
 ascend_more xs ys ends h = subst (Ascend 0 (ends ++ (length xs + length ys) ∷ [])) (sym (length-append xs ys)) (ascend_from 0 ends (length xs) (length xs + length ys) h (omega arith))
+
+pub begin_at : (ends : List ℕ) (k : ℕ) → (k ≡ 0 → ⊥) → begin_of ends k ≡ slice_index_or ends (k - 1) 0
+begin_at ends zero h = absurd (h refl)
+begin_at ends (suc k) h = ap (λ n. slice_index_or ends n 0) (let e : k ≡ suc k - 1 = omega arith in e)
+
+pub begin_none : (ends : List ℕ) (k : ℕ) → k ≡ 0 → begin_of ends k ≡ 0
+begin_none ends zero h = refl
+begin_none ends (suc k) h = absurd (omega (arith, h))

@@ -18,7 +18,7 @@ pub record Stage : Type 0 where
   -- how many children of each node, from the front, are still to be looked at
   pub left : List ℕ
   -- the nodes on the path of which children may be left, in the order in which they were met
-  pub open : List ℕ
+  pub unfinished : List ℕ
   -- the other nodes on the path
   pub finished : List ℕ
   -- the numbers at which the sets of the path begin
@@ -31,7 +31,7 @@ stage_of w = record {
   marks = w.marks.items;
   numbers = w.numbers.items;
   left = w.left.items;
-  open = w.open.items;
+  unfinished = w.unfinished.items;
   finished = w.finished.items;
   bounds = w.bounds.items;
   met = w.met;
@@ -91,7 +91,7 @@ IsLookedAt s u c = IsDone s c ⊎ (IsOnPath s c × IsNotBefore s u c)
 
 -- some open node has a number
 abbrev pub IsOpenAt : Stage → ℕ → Type 0
-IsOpenAt s b = (v : ℕ) × Contains s.open v × (number_of s v ≡ b)
+IsOpenAt s b = (v : ℕ) × Contains s.unfinished v × (number_of s v ≡ b)
 
 -- a node is in some set
 abbrev pub IsInSome : Stage → ℕ → Type 0
@@ -109,11 +109,11 @@ pub record IsStage (g : List (List ℕ)) (s : Stage) : Type 0 where
   -- of a node that was not met no child was looked at
   pub whole : (v : ℕ) → v < length g → mark_of s v ≡ Unmet → left_of s v ≡ length (children g v)
   pub few : (v : ℕ) → IsOnPath s v → left_of s v ≤ length (children g v)
-  pub opens : (v : ℕ) → Contains s.open v → IsOnPath s v
-  pub rising : EachPair (λ u v. number_of s u < number_of s v) s.open
+  pub opens : (v : ℕ) → Contains s.unfinished v → IsOnPath s v
+  pub rising : EachPair (λ u v. number_of s u < number_of s v) s.unfinished
   pub finishes : (v : ℕ) → Contains s.finished v → IsOnPath s v × (left_of s v ≡ 0)
   pub sets : EachPair (IsNotBefore s) s.finished
-  pub known : (v : ℕ) → IsOnPath s v → Contains s.open v ⊎ Contains s.finished v
+  pub known : (v : ℕ) → IsOnPath s v → Contains s.unfinished v ⊎ Contains s.finished v
   pub bounds : EachPair ◌<◌ s.bounds
   pub begun : (b : ℕ) → Contains s.bounds b → IsOpenAt s b
   pub within : (v : ℕ) → IsOnPath s v → IsInSome s v
@@ -134,7 +134,7 @@ abbrev pub discovered : Stage → ℕ → Stage
 discovered s v = record s {
   marks = slice_set s.marks v OnPath;
   numbers = slice_set s.numbers v s.met;
-  open = s.open ++ v ∷ [];
+  unfinished = s.unfinished ++ v ∷ [];
   bounds = s.bounds ++ s.met ∷ [];
   met = s.met + 1;
 }
@@ -168,7 +168,7 @@ marked_all s nodes first =
 -- the last node of the open ones
 pub record IsLastOpen (s : Stage) (v : ℕ) : Type 0 where
   pub front : List ℕ
-  pub is : s.open ≡ front ++ v ∷ []
+  pub is : s.unfinished ≡ front ++ v ∷ []
 
 -- the last open node leads to a node by an edge
 pub record IsChildOfLast (g : List (List ℕ)) (s : Stage) (c : ℕ) : Type 0 where
@@ -202,22 +202,21 @@ IsLastBelow s bound nodes = (front : List ℕ) (v : ℕ) → nodes ≡ front ++ 
 
 -- a set has a node with a child that is done; else the least of its nodes is given
 abbrev pub IsFirstOf : List (List ℕ) → Stage → List ℕ → Option ℕ → Type 0
-IsFirstOf g s members None = (v : ℕ) × Contains members v × HasDone s.marks (children g v) ⊎ (members ≡ [])
+IsFirstOf g s members None = ((v : ℕ) × Contains members v × HasDone s.marks (children g v)) ⊎ (members ≡ [])
 IsFirstOf g s members (Some f) =
     Contains members f × ((v : ℕ) → Contains members v → f ≤ v)
     × ((v c : ℕ) → Contains members v → Contains (children g v) c → IsDone s c → ⊥)
 
--- the finished nodes from a bound on are taken from the path: they are done
-pub record IsTaken (g : List (List ℕ)) (bound : ℕ) (old new : Stage) : Type 0 where
-  pub rest : List ℕ
-  pub members : List ℕ
-  pub split : old.finished ≡ rest ++ members
-  pub inside : (v : ℕ) → Contains members v → bound ≤ number_of old v
-  pub before : IsLastBelow old bound rest
-  pub first : Option ℕ
-  pub is : IsFirstOf g old members first
-  pub new_is : new ≡ record (marked_all old members first) { finished = rest }
+-- the last unfinished node is finished too, and it is the first of the last set: the set is done
+pub record IsSetDone (s : Stage) (v : ℕ) : Type 0 where
+  pub last : IsLastOpen s v
+  pub finished : Contains s.finished v
+  pub front : List ℕ
+  pub bound : s.bounds ≡ front ++ number_of s v ∷ []
+
+abbrev pub IsMet : Stage → ℕ → Type 0
+IsMet s v = is_met (mark_of s v) ≡ true
 
 -- how much there is still to do, at most
 abbrev pub work_left : Stage → ℕ
-work_left s = 2 * sum s.left + length s.open
+work_left s = 2 * sum s.left + length s.unfinished

@@ -2,11 +2,31 @@
 
 ghost use Rattle.std.specs.Prelude.{◌≡◌, ℕ, ◌<◌, ◌^◌, IfOk, None, length, slice_index_or};
 ghost use Rattle.mm_endless.specs.Graphs.{AreNodes, AreClosedSets, children};
+ghost use Rattle.mm_endless.specs.Stages.{told_by, firsts_of};
 
 use crate::graph::Graph;
 use crate::walk::{Mark, Walk};
 use std::alloc::{AllocError, Global};
 use std::marker::Model;
+
+/// What is told of a node with a mark and a number.
+fn told(mark: Mark, number: u32) -> Option<u32>
+    ensures { result ≡ told_by mark number }
+{
+    match mark {
+        Mark::Closed => Some(number),
+        Mark::Unmet | Mark::OnPath | Mark::Passed => None,
+    }
+}
+
+/// What is told of one of the nodes with these marks and numbers.
+fn first_at(marks: &[Mark], numbers: &[u32], node: usize) -> Option<u32>
+    requires node { node < length marks.now }
+    requires numbers { length marks.now ≡ length numbers.now }
+    ensures { result ≡ slice_index_or (firsts_of marks.now numbers.now) node None }
+{
+    told(marks[node], numbers[node])
+}
 
 /// For each node of a graph the least node of its closed set, if it is in one.
 #[derive(Drop)]
@@ -32,10 +52,7 @@ impl ClosedSets {
         requires { node < length self.now }
         ensures { result ≡ slice_index_or self.now node None }
     {
-        match self.marks[node] {
-            Mark::Closed => Some(self.numbers[node]),
-            Mark::Unmet | Mark::OnPath | Mark::Passed => None,
-        }
+        first_at(&self.marks, &self.numbers, node)
     }
 }
 

@@ -1,10 +1,30 @@
 //! Graphs, kept as one list of children.
 
-ghost use Rattle.std.specs.Prelude.{◌≡◌, ◌<◌, ◌++◌, ◌∷◌, [], OnOk, OnErr, length};
+ghost use Rattle.std.specs.Prelude.{◌≡◌, ◌<◌, ◌≤◌, ◌++◌, ◌∷◌, [], OnOk, OnErr, length, slice_index_or};
 ghost use Rattle.mm_endless.specs.Graphs.{children};
+ghost use Rattle.mm_endless.specs.Rows.{rows_from, begin_of, Ascend};
 
 use std::alloc::{AllocError, Global};
 use std::marker::Model;
+
+/// Where a row begins, given where each ends.
+fn begin(ends: &[usize], number: usize) -> usize
+    requires { number ≤ length ends.now }
+    ensures { result ≡ begin_of ends.now number }
+{
+    if number == 0 { 0 } else { ends[number - 1] }
+}
+
+/// One of the rows of a list, given where each ends.
+fn row<'a>(rows: &'a [u32], ends: &[usize], number: usize) -> &'a [u32]
+    requires number { number < length ends.now }
+    requires ends { Ascend 0 ends.now (length rows.now) }
+    ensures { result.now ≡ slice_index_or (rows_from rows.now 0 ends.now) number [] }
+{
+    let (front, _) = rows.split_at(ends[number]);
+    let (_, row) = front.split_at(begin(ends, number));
+    row
+}
 
 /// A graph of numbered nodes. Contracts see the list of the children of each.
 #[derive(Drop)]
@@ -58,19 +78,11 @@ impl Graph {
         self.ends.len()
     }
 
-    /// Whether there is no node.
-    pub fn is_empty(&self) -> bool
-        ensures { result ≡ true → self.now ≡ [] }
-    {
-        self.ends.is_empty()
-    }
-
     /// The children of a node.
     pub fn children(&self, node: usize) -> &[u32]
         requires { node < length self.now }
         ensures { result.now ≡ children self.now node }
     {
-        let from = if node == 0 { 0 } else { self.ends[node - 1] };
-        &self.children[from..self.ends[node]]
+        row(&self.children, &self.ends, node)
     }
 }

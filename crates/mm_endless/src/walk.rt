@@ -1,11 +1,11 @@
 //! A walk by depth over a graph.
 
-ghost use Rattle.std.specs.Prelude.{◌≡◌, ℕ, ◌+◌, ◌<◌, ◌≤◌, ◌^◌, ◌⊎◌, []};
+ghost use Rattle.std.specs.Prelude.{◌≡◌, ℕ, ◌+◌, ◌<◌, ◌≤◌, ◌^◌, ◌⊎◌, ◌++◌, ◌∷◌, []};
 ghost use Rattle.std.specs.Prelude.{OnOk, IfOk, List, Contains, Some, true, false, length, take, drop, slice_index_or};
 ghost use Rattle.mm_endless.specs.Graphs.{AreNodes, children};
 ghost use Rattle.mm_endless.specs.Stages.{stage_of, IsStage, IsLater, IsOnPath, IsDone, IsInLast, IsLastOpen};
-ghost use Rattle.mm_endless.specs.Stages.{IsChildOfLast, IsTaken, IsFirstOf, IsLastBelow, HasDone, IsLast, IsLeastOf};
-ghost use Rattle.mm_endless.specs.Stages.{discovered, marked, number_of, left_of, lesser_of, work_left};
+ghost use Rattle.mm_endless.specs.Stages.{IsChildOfLast, IsSetDone, IsFirstOf, IsLastBelow, IsMet, HasDone, IsLast, IsLeastOf};
+ghost use Rattle.mm_endless.specs.Stages.{discovered, marked, marked_all, number_of, left_of, lesser_of, work_left};
 ghost use Rattle.mm_endless.specs.Stages.{is_done as is_done_of};
 ghost use Rattle.mm_endless.specs.declared.walk.Mark.TheVariants.{Unmet};
 
@@ -35,7 +35,7 @@ pub(crate) struct Walk<'a> {
     /// How many children of each node are still to be looked at.
     left: Vec<u8>,
     /// The nodes on the path of which children may be left, in the order in which they were met.
-    open: Vec<u32>,
+    unfinished: Vec<u32>,
     /// The other nodes on the path.
     finished: Vec<u32>,
     /// The numbers at which the sets of the path begin.
@@ -53,6 +53,24 @@ fn last(numbers: &[u32]) -> Option<u32>
     match numbers {
         [] => None,
         [.., last] => Some(*last),
+    }
+}
+
+/// Takes the last number from a list.
+fn drop_last(numbers: &mut Vec<u32>)
+    ensures { (front : List ℕ) (n : ℕ) → numbers.old.items ≡ front ++ n ∷ [] → numbers.new.items ≡ front }
+{
+    numbers.pop();
+}
+
+/// Whether a number is the last of a list.
+fn is_last(numbers: &[u32], number: u32) -> bool
+    ensures yes { result ≡ true → (front : List ℕ) × (numbers.now ≡ front ++ number ∷ []) }
+    ensures no { result ≡ false → (front : List ℕ) → numbers.now ≡ front ++ number ∷ [] → ⊥ }
+{
+    match last(numbers) {
+        Some(last) => last == number,
+        None => false,
     }
 }
 
@@ -124,7 +142,7 @@ impl<'a> Walk<'a> {
         requires few { (a : ℕ) → length (children graph.now a) < 256 }
         ensures stage { IfOk result (λ w. IsStage graph.now (stage_of w)) }
         ensures graph { IfOk result (λ w. w.graph.now ≡ graph.now) }
-        ensures open { IfOk result (λ w. w.open.items ≡ []) }
+        ensures unfinished { IfOk result (λ w. w.unfinished.items ≡ []) }
     {
         let nodes = graph.len();
         Ok(Walk {
@@ -132,7 +150,7 @@ impl<'a> Walk<'a> {
             marks: vec![in alloc; Mark::Unmet; nodes]?,
             numbers: vec![in alloc; 0; nodes]?,
             left: counts(alloc, graph)?,
-            open: Vec::new(alloc),
+            unfinished: Vec::new(alloc),
             finished: Vec::new(alloc),
             bounds: Vec::new(alloc),
             met: 0,
@@ -144,20 +162,35 @@ impl<'a> Walk<'a> {
         requires stage { IsStage self.old.graph.now (stage_of self.old) }
         requires root { root < length self.old.graph.now }
         requires few { length self.old.graph.now < 2 ^ 32 }
-        requires open { self.old.open.items ≡ [] }
+        requires unfinished { self.old.unfinished.items ≡ [] }
         ensures stage { OnOk result (IsStage self.new.graph.now (stage_of self.new)) }
         ensures graph { OnOk result (self.new.graph.now ≡ self.old.graph.now) }
-        ensures open { OnOk result (self.new.open.items ≡ []) }
+        ensures unfinished { OnOk result (self.new.unfinished.items ≡ []) }
         ensures later { OnOk result (IsLater (stage_of self.old) (stage_of self.new)) }
         ensures done { OnOk result (IsDone (stage_of self.new) root) }
     {
-        if let Mark::Unmet = self.marks[root] {
-            self.discover(root)?;
-        }
-        while let Some(node) = last(&self.open) {
+        self.begin(root)?;
+        while let Some(node) = last(&self.unfinished) {
             self.step(node as usize)?;
         }
         Ok(())
+    }
+
+    /// Meets a node, if it was not met.
+    fn begin(&mut self, root: usize) -> Result<(), AllocError>
+        requires stage { IsStage self.old.graph.now (stage_of self.old) }
+        requires root { root < length self.old.graph.now }
+        requires few { length self.old.graph.now < 2 ^ 32 }
+        requires unfinished { self.old.unfinished.items ≡ [] }
+        ensures stage { OnOk result (IsStage self.new.graph.now (stage_of self.new)) }
+        ensures graph { OnOk result (self.new.graph.now ≡ self.old.graph.now) }
+        ensures later { OnOk result (IsLater (stage_of self.old) (stage_of self.new)) }
+        ensures met { OnOk result (IsMet (stage_of self.new) root) }
+    {
+        match self.marks[root] {
+            Mark::Unmet => self.discover(root),
+            Mark::OnPath | Mark::Passed | Mark::Closed => Ok(()),
+        }
     }
 
     /// Looks at a child of the last open node, or finishes the node if no child is left.
@@ -192,7 +225,7 @@ impl<'a> Walk<'a> {
         ensures path { OnOk result ((v : ℕ) → IsOnPath (stage_of self.old) v → IsOnPath (stage_of self.new) v) }
         ensures looked { OnOk result (IsDone (stage_of self.new) child
             ⊎ (IsOnPath (stage_of self.new) child × IsInLast (stage_of self.new) child)) }
-        ensures open { OnOk result (length self.new.open.items ≤ length self.old.open.items + 1) }
+        ensures unfinished { OnOk result (length self.new.unfinished.items ≤ length self.old.unfinished.items + 1) }
     {
         match self.marks[child] {
             Mark::Unmet => self.discover(child),
@@ -214,7 +247,7 @@ impl<'a> Walk<'a> {
         ensures graph { self.new.graph.now ≡ self.old.graph.now }
         ensures left { self.new.left ≡ self.old.left }
     {
-        self.open.push(node as u32)?;
+        self.unfinished.push(node as u32)?;
         self.bounds.push(self.met)?;
         self.marks[node] = Mark::OnPath;
         self.numbers[node] = self.met;
@@ -238,7 +271,7 @@ impl<'a> Walk<'a> {
             if bound <= number {
                 return;
             }
-            self.bounds.pop();
+            drop_last(&mut self.bounds);
         }
     }
 
@@ -252,35 +285,49 @@ impl<'a> Walk<'a> {
         ensures graph { OnOk result (self.new.graph.now ≡ self.old.graph.now) }
         ensures left { self.new.left ≡ self.old.left }
         ensures later { OnOk result (IsLater (stage_of self.old) (stage_of self.new)) }
-        ensures open { OnOk result (length self.new.open.items + 1 ≡ length self.old.open.items) }
+        ensures unfinished { OnOk result (length self.new.unfinished.items + 1 ≡ length self.old.unfinished.items) }
     {
         self.finished.push(node as u32)?;
-        if let Some(bound) = last(&self.bounds) {
-            if bound == self.numbers[node] {
-                self.bounds.pop();
-                self.close(bound);
-            }
+        if is_last(&self.bounds, self.numbers[node]) {
+            self.close(node);
+            Ok(())
+        } else {
+            drop_last(&mut self.unfinished);
+            Ok(())
         }
-        self.open.pop();
-        Ok(())
     }
 
-    /// Takes the set that begins at a bound from the path: its nodes, which are finished, are done.
-    fn close(&mut self, bound: u32)
-        requires nodes { (v : ℕ) → Contains self.old.finished.items v
-            → (v < length self.old.marks.items) × (v < length self.old.numbers.items) × (v < length self.old.graph.now) }
-        requires inside { AreNodes self.old.graph.now }
-        requires marks { length self.old.marks.items ≡ length self.old.graph.now }
-        ensures taken { IsTaken self.old.graph.now bound (stage_of self.old) (stage_of self.new) }
+    /// Takes the last set from the path, given its first node: the nodes of the set, which are finished, are done.
+    fn close(&mut self, node: usize)
+        requires stage { IsStage self.old.graph.now (stage_of self.old) }
+        requires set { IsSetDone (stage_of self.old) node }
+        ensures stage { IsStage self.new.graph.now (stage_of self.new) }
         ensures graph { self.new.graph.now ≡ self.old.graph.now }
         ensures left { self.new.left ≡ self.old.left }
+        ensures later { IsLater (stage_of self.old) (stage_of self.new) }
+        ensures unfinished { (front : List ℕ) (n : ℕ) → self.old.unfinished.items ≡ front ++ n ∷ []
+            → self.new.unfinished.items ≡ front }
     {
-        let from = self.begin_of(bound);
+        let from = self.begin_of(self.numbers[node]);
         let first = self.first_of(from);
-        for k in from..self.finished.len() {
-            self.mark(self.finished[k] as usize, first);
-        }
+        self.mark_from(from, first);
         self.finished.truncate(from);
+        drop_last(&mut self.bounds);
+        drop_last(&mut self.unfinished);
+    }
+
+    /// Marks the finished nodes from an index on as done.
+    fn mark_from(&mut self, from: usize, first: Option<u32>)
+        requires from { from ≤ length self.old.finished.items }
+        requires marks { (v : ℕ) → Contains self.old.finished.items v → v < length self.old.marks.items }
+        requires numbers { length self.old.numbers.items ≡ length self.old.marks.items }
+        ensures stage { stage_of self.new ≡ marked_all (stage_of self.old) (drop from self.old.finished.items) first }
+        ensures graph { self.new.graph.now ≡ self.old.graph.now }
+    {
+        for k in from..self.finished.len() {
+            let node = self.finished[k];
+            self.mark(node as usize, first);
+        }
     }
 
     /// The index of the first finished node of the set that begins at a bound, which is the last set.
@@ -318,7 +365,7 @@ impl<'a> Walk<'a> {
     fn mark(&mut self, node: usize, first: Option<u32>)
         requires marks { node < length self.old.marks.items }
         requires numbers { node < length self.old.numbers.items }
-        ensures { stage_of self.new ≡ marked (stage_of self.old) node first }
+        ensures stage { stage_of self.new ≡ marked (stage_of self.old) node first }
         ensures graph { self.new.graph.now ≡ self.old.graph.now }
     {
         match first {
