@@ -52,7 +52,8 @@ FinalsAreClosed = (i : Image) (t : List ℕ) → IsFinal i t → IsAlone i t
 
 -- the members of a closed set have one outcome
 abbrev pub OutcomesAreOfSets : Type 0
-OutcomesAreOfSets = (i : Image) (s t : List ℕ) (o : Outcome) → IsAtEnd i s → LeadsOn i s t → IsOutcome i s o → IsOutcome i t o
+OutcomesAreOfSets = (i : Image) (s t : List ℕ) (o : Outcome) → IsImage i → IsAtEnd i s → LeadsOn i s t → IsOutcome i s o
+    → IsOutcome i t o
 
 -- 3. Where all configurations are in a list, every run can go on into a closed set.
 
@@ -101,7 +102,8 @@ pub record IsRunFound (i : Image) (e : Results) (s : List ℕ) : Type 0 where
   pub goes_on : EndsOrTurns i s
 
 abbrev pub RunsAreFound : Type 0
-RunsAreFound = (i : Image) (limit : ℕ) (e : Results) → Finds i limit e → e.all ≡ true → (s : List ℕ) → IsRunFound i e s
+RunsAreFound = (i : Image) (limit : ℕ) (e : Results) → IsImage i → Finds i limit e → e.all ≡ true
+    → (s : List ℕ) → IsRunFound i e s
 
 -- the last turn of a schedule is one in which a slot has a fault
 pub record MeetsFault (i : Image) (slot cause : ℕ) (s : List ℕ) : Type 0 where

@@ -9,7 +9,7 @@ use Rattle.mm_model.specs.State.{State, output_of}
 use Rattle.mm_explore.specs.declared.explored.Ending.{Ending, TheVariants.{Ended, Stuck, Endless}}
 use Rattle.mm_explore.specs.declared.explored.Standing.{Standing, TheVariants.{Busy, In}}
 use Rattle.mm_explore.specs.{Closed.{IsEndless, IsFirstEndless}, Configurations.moves, Explored.leads_to}
-use Rattle.mm_explore.specs.{Findings.{IsFinal, are_none}, Schedules.Before}
+use Rattle.mm_explore.specs.{Findings.IsFinal, Schedules.Before}
 
 -- 1. The outcome of a set.
 
@@ -46,25 +46,14 @@ IsEnding i t Endless = IsEndless i t
 pub record IsOutcome (i : Image) (t : List ℕ) (o : Outcome) : Type 0 where
   pub ending : IsEnding i t o.ending
   pub slots : AreStanding i t 0 (slots_at i t) o.slots
-  pub outputs : o.outputs ≡ map (output_of (run (start i) t).core) (groups_of (run (start i) t).core)
+  pub outputs : o.outputs ≡ map (output_of (run (start i) t).core) (groups_of (start i).core)
 
--- 2. The outcome of a final configuration, in which no slot is busy.
-
+-- how a final configuration ends, given whether it has no move
 abbrev pub ending_of : Bool → Ending
 ending_of true = Ended
 ending_of false = Stuck
 
-unfoldable pub outcome_of : State → Outcome
-outcome_of s = record {
-  ending = ending_of (are_none (moves s));
-  slots = map (λ row. In row.slot.state) s.core.rows;
-  outputs = map (output_of s.core) (groups_of s.core);
-}
-
-abbrev pub outcome_at : Image → List ℕ → Outcome
-outcome_at i t = outcome_of (run (start i) t)
-
--- 3. Outcomes that are the same.
+-- 2. Outcomes that are the same.
 
 abbrev pub ending_number : Ending → ℕ
 ending_number Ended = 0
@@ -92,7 +81,7 @@ same_outcome a b =
     && (pointwise (λ x y. standing_number x == standing_number y) a.slots b.slots
     && pointwise (pointwise nat_eq) a.outputs b.outputs)
 
--- 4. What is told.
+-- 3. What is told.
 
 -- an end: the schedule that is told for it, and its outcome
 pub record End : Type 0 where
@@ -110,14 +99,19 @@ abbrev pub SelectsEndless : Bool → Image → List (List ℕ) → List (List �
 SelectsEndless true i list firsts = Selects (IsFirstEndless i) list firsts
 SelectsEndless false i list firsts = firsts ≡ []
 
--- the ends of a list: its final schedules, and after them, if it is all, the first schedules of endless sets
+-- the ends of schedules, with the outcome of each
+pub record AreEndsOf (i : Image) (schedules : List (List ℕ)) (ends : List End) : Type 0 where
+  pub schedules : map (λ (e : End). e.schedule) ends ≡ schedules
+  pub outcomes : AllByRecursion (λ (e : End). IsOutcome i e.schedule e.outcome) ends
+
+-- the ends of a list: those of its final schedules and, if it is all, after them those of the first schedules of endless
+-- sets
 pub record AreEnds (i : Image) (list : List (List ℕ)) (all : Bool) (ends : List End) : Type 0 where
   pub finals : List (List ℕ)
   pub final : Selects (IsFinal i) list finals
   pub firsts : List (List ℕ)
   pub endless : SelectsEndless all i list firsts
-  pub schedules : map (λ (e : End). e.schedule) ends ≡ finals ++ firsts
-  pub outcomes : AllByRecursion (λ (e : End). IsOutcome i e.schedule e.outcome) ends
+  pub are : AreEndsOf i (finals ++ firsts) ends
 
 abbrev pub has_outcome : Outcome → End → Bool
 has_outcome o e = same_outcome o e.outcome

@@ -1,6 +1,6 @@
 -- How far a search has come.
 use Rattle.std.specs.Prelude.{◌≡◌, ◌⊎◌, ℕ, ◌+◌, ◌^◌, ◌<◌, ◌≤◌, Bool, true, false, List, [], ◌∷◌, ◌++◌, length, take}
-use Rattle.std.specs.Prelude.{drop, map, Contains, Option, Some, None, slice_get, slice_index_or}
+use Rattle.std.specs.Prelude.{drop, Contains, Option, Some, None, slice_get, slice_index_or}
 use Rattle.std.specs.List.{AllByRecursion, AllZip, flat_map}
 use Rattle.mm_model.specs.{Image.{Image, start}, Report.groups_of, Run.run, Spelling.IsImage}
 use Rattle.mm_explore.specs.declared.found.{Looked.{Looked, TheVariants.{Known, New, Full}}, Origin.Origin}
@@ -8,10 +8,10 @@ use Rattle.mm_explore.specs.declared.{findings.Findings.Findings, search.{Node.N
 use Rattle.mm_explore.specs.Benches.{IsAtSomeConfiguration, ArePartsAt}
 use Rattle.mm_explore.specs.{Configurations.moves, Explored.{leads_to, IsLeast, IsExplored, IsAll}}
 use Rattle.mm_explore.specs.Findings.{Extension, extended, extensions, explored_turns, IsFinal}
-use Rattle.mm_explore.specs.{FoundLists.{FoundList, Holds, Looks}, Outcomes.{End, Selects, outcome_at, AreEnds, IsSteady, slots_at}}
+use Rattle.mm_explore.specs.{FoundLists.{FoundList, Holds, Looks}, Outcomes.{End, Selects, AreEndsOf, AreEnds, IsSteady, slots_at}}
 use Rattle.mm_explore.specs.Closed.{IsFirstEndless}
 use Rattle.mm_model.specs.Flags.{flags}
-use Rattle.mm_explore.specs.{Findings.are_none, Noting.{Noted, AreNoted}}
+use Rattle.mm_explore.specs.Noting.{Noted, AreNoted}
 use Rattle.mm_span.specs.Pairs.{EachPair}
 use Rattle.mm_explore.specs.Schedules.{Before}
 
@@ -70,14 +70,13 @@ AreChildren i list t row = AllZip (IsChild i list t) (moves (run (start i) t)) r
 abbrev pub IsGraph : Image → List (List ℕ) → List (List ℕ) → List (List ℕ) → Type 0
 IsGraph i list past rows = AllZip (AreChildren i list) past rows
 
-abbrev pub final_end : Image → List ℕ → End
-final_end i t = record { schedule = t; outcome = outcome_at i t }
-
 -- of the schedules that were gone through, those that are final were noted, in their order
 pub record Ended (i : Image) (list past : List (List ℕ)) (f : Findings) : Type 0 where
   pub finals : List (List ℕ)
   pub are : Selects (IsFinal i) past finals
-  pub noted : AreNoted i list (map (final_end i) finals) f
+  pub ends : List End
+  pub of : AreEndsOf i finals ends
+  pub noted : AreNoted i list ends f
 
 -- 3. What the code has.
 

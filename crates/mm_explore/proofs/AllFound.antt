@@ -1,20 +1,18 @@
--- What was noted of all turns explored and of all final schedules is what an exploration finds.
+-- What was noted of all turns explored is what an exploration finds.
 use Rattle.std.proofs.Common.{◌≡◌, inl, inr, ℕ, ◌<◌, Bool, true, false, if◌then◌else◌, List, [], ◌∷◌, ◌++◌, map, length}
-use Rattle.std.proofs.Common.{zip, zero, suc, codes, decimal, Option, Some, None, slice_get, refl, sym, subst}
+use Rattle.std.proofs.Common.{zip, zero, suc, codes, decimal, Option, Some, None, slice_get, refl, sym, ap, ◌∙◌, subst}
 use Rattle.std.proofs.lemmas.Option.{slice_get_within}
 use Rattle.std.specs.{Prelude.{Contains, IfSome, slice_index_or}, List.{AllByRecursion, AllZip, flat_map}}
 use Rattle.mm_word.specs.{Cause.cause_numbers, declared.perm.Kind.Kind, Access.AccessValue}
 use Rattle.mm_model.specs.{Image.{Image, start}, Report.groups_of, Slot.Slot, Trace.{touches, group_in}, Counted.writes}
 use Rattle.mm_explore.specs.declared.found.Origin.{Origin}
 use Rattle.mm_explore.specs.Findings.{Extension, turn_at, explored_turns, Reaches, IsReached, any_kind, first_fault}
-use Rattle.mm_explore.specs.{Findings.firsts, Noting.{IsFrom, fault_found}}
-use Rattle.mm_explore.specs.Results.{Results, GroupFound, group_found_lines, fault_found_lines, outcome_found_lines}
-use Rattle.mm_explore.specs.Results.{explored_text}
-use Rattle.mm_explore.specs.Texts.{Exploration, exploration_text, reached_lines, faults_of, extent_text}
+use Rattle.mm_explore.specs.Findings.{extended}
+use Rattle.mm_explore.specs.{Finds.{IsGroupOf, fault_of, faults_of}, Noting.{IsFrom, fault_kept}, FoundLists.led_by}
+use Rattle.mm_explore.specs.{Finds.{outcome_found, outcomes_of}, Outcomes.{End, firsts, count_of}, Results.{GroupFound, FaultFound, OutcomeFound}}
 use Rattle.mm_explore.specs.Words.{AreKept, IsGroupFound, passed_words, turn_words}
 use Rattle.mm_span.proofs.Members.{none_in, in_first, in_cases, in_flat, flat_in}
 use Rattle.mm_span.proofs.Runs.{spans_alike}
-use Rattle.mm_explore.specs.Texts as texts
 
 -- 1. Words.
 
@@ -76,36 +74,11 @@ module _ (i : Image) (list : List (List ℕ)) (touched wrote : List (ℕ × ℕ)
         (λ word r. all_wrote.each (group, word) (reached_in writes i list group word r)) g.reached.wrote h.writes;
   }
 
-  pub groups_reached : (groups : List ℕ) (gs : List GroupFound) → AllZip (IsGroupFound touched wrote) groups gs → AllZip (IsReached i list) groups (map (λ (g : GroupFound). g.reached) gs)
-  groups_reached [] [] h = tt
-  groups_reached [] (g ∷ gs) h = h
-  groups_reached (n ∷ groups) [] h = h
-  groups_reached (n ∷ groups) (g ∷ gs) h = (group_reached n g h.0, groups_reached groups gs h.1)
-
-  pub groups_each : (groups : List ℕ) (gs : List GroupFound) → AllZip (IsGroupFound touched wrote) groups gs → AllByRecursion (λ (g : GroupFound). IsReached i list g.group g.reached) gs
-  groups_each [] [] h = tt
-  groups_each [] (g ∷ gs) h = absurd h
-  groups_each (n ∷ groups) [] h = absurd h
-  groups_each (n ∷ groups) (g ∷ gs) h = (subst (λ k. IsReached i list k g.reached) (sym h.0.number) (group_reached n g h.0), groups_each groups gs h.1)
-
-pub groups_numbered : (touched wrote : List (ℕ × ℕ)) (groups : List ℕ) (gs : List GroupFound) → AllZip (IsGroupFound touched wrote) groups gs → map (λ (g : GroupFound). g.group) gs ≡ groups
-groups_numbered touched wrote [] [] h = refl
-groups_numbered touched wrote [] (g ∷ gs) h = absurd h
-groups_numbered touched wrote (n ∷ groups) [] h = absurd h
-groups_numbered touched wrote (n ∷ groups) (g ∷ gs) h =
-    let rest = groups_numbered touched wrote groups gs h.1 in
-    let number = h.0.number in
-    λ j. number j ∷ rest j
-
-pub groups_text : (touched wrote : List (ℕ × ℕ)) (groups : List ℕ) (gs : List GroupFound) → AllZip (IsGroupFound touched wrote) groups gs
-    → flat_map group_found_lines gs ≡ flat_map (λ x. reached_lines x.0 x.1) (zip groups (map (λ (g : GroupFound). g.reached) gs))
-groups_text touched wrote [] [] h = refl
-groups_text touched wrote [] (g ∷ gs) h = absurd h
-groups_text touched wrote (n ∷ groups) [] h = absurd h
-groups_text touched wrote (n ∷ groups) (g ∷ gs) h =
-    let rest = groups_text touched wrote groups gs h.1 in
-    let number = h.0.number in
-    λ j. reached_lines (number j) g.reached ++ rest j
+  pub groups_found : (groups : List ℕ) (gs : List GroupFound) → AllZip (IsGroupFound touched wrote) groups gs → AllZip (IsGroupOf i list) groups gs
+  groups_found [] [] h = tt
+  groups_found [] (g ∷ gs) h = h
+  groups_found (n ∷ groups) [] h = h
+  groups_found (n ∷ groups) (g ∷ gs) h = (record { group = h.0.number; reached = group_reached n g h.0 }, groups_found groups gs h.1)
 
 -- 2. Faults.
 
@@ -114,26 +87,27 @@ at_index [] k x d e = cc
 at_index (y ∷ xs) zero x d e = cc
 at_index (y ∷ xs) (suc k) x d e = at_index xs k x d e
 
-fault_text : (list : List (List ℕ)) (slot cause : ℕ) (x : Option Extension) (o : Option Origin) → IsFrom list x o → fault_found list slot cause o ≡ texts.fault_lines slot cause x
-unfolding fault_found_lines
-fault_text list slot cause None None h = refl
-fault_text list slot cause None (Some o) h = absurd h
-fault_text list slot cause (Some x) None h = absurd h
-fault_text list slot cause (Some x) (Some o) h =
+fault_found : (list : List (List ℕ)) (slot cause : ℕ) (x : Option Extension) (o : Option Origin) → IsFrom list x o → fault_kept list slot cause o ≡ fault_of slot cause x
+fault_found list slot cause None None h = refl
+fault_found list slot cause None (Some o) h = absurd h
+fault_found list slot cause (Some x) None h = absurd h
+fault_found list slot cause (Some x) (Some o) h =
     let schedule = at_index list o.from x.schedule [] h.schedule in
     let item = h.item in
-    λ j. codes "fault " ++ decimal slot ++ codes " " ++ decimal cause ++ Rattle.mm_model.specs.Lines.newline ++ texts.by_line (schedule j ++ item j ∷ [])
+    λ j. record { slot = slot; cause = cause; by = schedule j ++ item j ∷ [] } ∷ []
 
 flat_alike : {X Y : Type 0} (f g : X → List Y) → ((x : X) → f x ≡ g x) → (xs : List X) → flat_map f xs ≡ flat_map g xs
 flat_alike f g same [] = refl
 flat_alike f g same (x ∷ xs) = let rest = flat_alike f g same xs in let one = same x in λ j. one j ++ rest j
 
-pub faults_text : (i : Image) (list : List (List ℕ)) (kept : ℕ → ℕ → Option Origin) → ((slot cause : ℕ) → IsFrom list (first_fault i list slot cause) (kept slot cause)) → (slots : List Slot)
-    → flat_map (λ (s : Slot). flat_map (λ cause. fault_found list s.number cause (kept s.number cause)) cause_numbers) slots ≡ flat_map (faults_of i list) slots
-faults_text i list kept are slots =
-    flat_alike (λ (s : Slot). flat_map (λ cause. fault_found list s.number cause (kept s.number cause)) cause_numbers) (faults_of i list)
-    (λ s. flat_alike (λ cause. fault_found list s.number cause (kept s.number cause)) (λ cause. texts.fault_lines s.number cause (first_fault i list s.number cause))
-    (λ cause. fault_text list s.number cause (first_fault i list s.number cause) (kept s.number cause) (are s.number cause)) cause_numbers) slots
+pub faults_found : (i : Image) (list : List (List ℕ)) (kept : ℕ → ℕ → Option Origin) → ((slot cause : ℕ) → IsFrom list (first_fault i list slot cause) (kept slot cause))
+    → flat_map (λ (s : Slot). flat_map (λ cause. fault_kept list s.number cause (kept s.number cause)) cause_numbers) i.slots ≡ faults_of i list
+unfolding faults_of
+faults_found i list kept are =
+    flat_alike (λ (s : Slot). flat_map (λ cause. fault_kept list s.number cause (kept s.number cause)) cause_numbers)
+    (λ (s : Slot). flat_map (λ cause. fault_of s.number cause (first_fault i list s.number cause)) cause_numbers)
+    (λ s. flat_alike (λ cause. fault_kept list s.number cause (kept s.number cause)) (λ cause. fault_of s.number cause (first_fault i list s.number cause))
+    (λ cause. fault_found list s.number cause (first_fault i list s.number cause) (kept s.number cause) (are s.number cause)) cause_numbers) i.slots
 
 pub origin_inside : (list : List (List ℕ)) (x : Option Extension) (o : Option Origin) → IsFrom list x o → IfSome o (λ (o : Origin). o.from < length list)
 origin_inside list None None h = tt
@@ -141,22 +115,9 @@ origin_inside list None (Some o) h = absurd h
 origin_inside list (Some x) None h = tt
 origin_inside list (Some x) (Some o) h = slice_get_within list o.from x.schedule h.schedule
 
--- 3. The whole text.
+-- 3. Outcomes.
 
--- what was found is what an exploration finds
-pub record AreResults (i : Image) (x : Exploration) (e : Results) : Type 0 where
-  pub count : e.count ≡ length x.list
-  pub all : e.all ≡ x.all
-  pub groups : flat_map group_found_lines e.groups ≡ flat_map (λ y. reached_lines y.0 y.1) (zip (groups_of (start i).core) x.reached)
-  pub faults : flat_map fault_found_lines e.faults ≡ flat_map (faults_of i x.list) i.slots
-  pub outcomes : flat_map outcome_found_lines e.outcomes ≡ flat_map (texts.outcome_lines i x.finals) (firsts i x.finals)
-
-pub results_text : (i : Image) (x : Exploration) (e : Results) → AreResults i x e → explored_text e ≡ exploration_text i x
-unfolding explored_text exploration_text
-results_text i x e h =
-    let count = h.count in
-    let all = h.all in
-    let groups = h.groups in
-    let faults = h.faults in
-    let outcomes = h.outcomes in
-    λ j. codes "explored " ++ decimal (count j) ++ extent_text (all j) ++ groups j ++ faults j ++ outcomes j
+pub outcomes_are : (i : Image) (ends : List End) (out : List OutcomeFound) → out ≡ [] → (now : List OutcomeFound)
+    → now ≡ out ++ map (λ (e : End). outcome_found i (count_of ends e.outcome) e.outcome e.schedule) (firsts ends) → now ≡ outcomes_of i ends
+unfolding outcomes_of
+outcomes_are i ends out none now is = is ∙ ap (λ l. l ++ map (λ (e : End). outcome_found i (count_of ends e.outcome) e.outcome e.schedule) (firsts ends)) none
