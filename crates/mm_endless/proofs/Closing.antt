@@ -1,7 +1,7 @@
 -- The last set of the path is done.
-use Rattle.std.proofs.Common.{◌≡◌, ◌≢◌, ◌⊎◌, inl, inr, ℕ, zero, ◌+◌, ◌<◌, ◌≤◌, true, List, [], ◌∷◌, ◌++◌, length, drop, refl, sym}
+use Rattle.std.proofs.Common.{◌≡◌, ◌≢◌, ◌⊎◌, inl, inr, ℕ, zero, ◌+◌, ◌<◌, ◌≤◌, true, false, List, [], ◌∷◌, ◌++◌, length, drop, refl, sym}
 use Rattle.std.proofs.Common.{Option, Some, None, ap, ◌∙◌, subst, arith}
-use Rattle.std.proofs.lemmas.{Bool.{cases_lt, cases_eq}, List.{get_or-set_same, get_or-set_other, length-set, set_past}}
+use Rattle.std.proofs.lemmas.{Bool.{cases_lt, cases_eq, both_ways}, List.{get_or-set_same, get_or-set_other, length-set, set_past}}
 use Rattle.std.proofs.lemmas.List.{Elements.{Contains-push, Contains-push_cases, Contains-append_left}, Sums.sum_by-set}
 use Rattle.std.proofs.lemmas.List.Elements.{Contains-append_right, Contains-append_cases}
 use Rattle.std.specs.{Prelude.{Contains, slice_set, slice_index_or, cond}, List.count_by}
@@ -10,7 +10,7 @@ use Rattle.mm_endless.specs.declared.walk.Mark.{Mark, TheVariants.{Unmet, OnPath
 use Rattle.mm_endless.specs.{Graphs.{children, Leads, IsTold, IsRecurrent}, Stages.{Stage, mark_of, number_of, left_of, is_met, is_done}}
 use Rattle.mm_endless.specs.Stages.{IsOnPath, IsDone, IsNotBefore, IsInLast, IsLookedAt, IsOpenAt, IsInSome, IsStage, IsLater}
 use Rattle.mm_endless.specs.Stages.{told_of, told_by, mark_for, numbers_for, marks_after, numbers_after, marked_all, IsLastOpen}
-use Rattle.mm_endless.specs.Stages.{IsLastBelow, HasDone, IsFirstOf}
+use Rattle.mm_endless.specs.Stages.{IsLastBelow, HasDone, IsFirstOf, IsLeastOf, marked}
 use Rattle.mm_endless.proofs.{Walking.{leads_trans, leads_edge, stays}, Discovering.pairs_weaken}
 use Rattle.mm_endless.proofs.{Marks.{path_inside, done_inside, not_both, Kind, kind_of}, Joining.{pairs_front, pairs_last, bounds_below}}
 
@@ -25,7 +25,7 @@ for_met None = refl
 for_met (Some f) = refl
 
 module _ (first : Option ℕ) where
-  marks_len : (marks : List Mark) (nodes : List ℕ) → length (marks_after marks nodes first) ≡ length marks
+  pub marks_len : (marks : List Mark) (nodes : List ℕ) → length (marks_after marks nodes first) ≡ length marks
   marks_len marks [] = refl
   marks_len marks (v ∷ nodes) = marks_len (slice_set marks v (mark_for first)) nodes ∙ length-set marks v (mark_for first)
 
@@ -85,7 +85,7 @@ module _ (first : Option ℕ) where
             ],
           )
 
-numbers_len : (numbers nodes : List ℕ) (first : Option ℕ) → length (numbers_after numbers nodes first) ≡ length numbers
+pub numbers_len : (numbers nodes : List ℕ) (first : Option ℕ) → length (numbers_after numbers nodes first) ≡ length numbers
 numbers_len numbers [] first = refl
 numbers_len numbers (v ∷ nodes) None = numbers_len numbers nodes None
 numbers_len numbers (v ∷ nodes) (Some f) = numbers_len (slice_set numbers v f) nodes (Some f) ∙ length-set numbers v f
@@ -111,6 +111,27 @@ number_in numbers (v ∷ nodes) f u lt h = elim (in_cases v nodes u h) [
       (ap (λ x. slice_index_or (slice_set numbers x f) u 0) e ∙ get_or-set_same numbers u f 0 lt)
   | inr later ↦ number_in (slice_set numbers v f) nodes f u (let n = length-set numbers v f in omega (arith, n, lt)) later
 ]
+
+marks_push : (marks : List Mark) (nodes : List ℕ) (v : ℕ) (first : Option ℕ) → slice_set (marks_after marks nodes first) v (mark_for first) ≡ marks_after marks (nodes ++ v ∷ []) first
+marks_push marks [] v first = refl
+marks_push marks (u ∷ nodes) v first = marks_push (slice_set marks u (mark_for first)) nodes v first
+
+numbers_push : (numbers nodes : List ℕ) (v : ℕ) (first : Option ℕ) → numbers_for (numbers_after numbers nodes first) v first ≡ numbers_after numbers (nodes ++ v ∷ []) first
+numbers_push numbers [] v None = refl
+numbers_push numbers [] v (Some f) = refl
+numbers_push numbers (u ∷ nodes) v first = numbers_push (numbers_for numbers u first) nodes v first
+
+-- one node more is done
+pub marked_push : (s : Stage) (nodes : List ℕ) (v : ℕ) (first : Option ℕ) → marked (marked_all s nodes first) v first ≡ marked_all s (nodes ++ v ∷ []) first
+marked_push s nodes v first =
+    let marks = marks_push s.marks nodes v first in
+    let numbers = numbers_push s.numbers nodes v first in
+    λ j. record s { marks = marks j; numbers = numbers j }
+
+pub first_so : (g : List (List ℕ)) (s : Stage) (members : List ℕ) (o : Option ℕ) → IsLeastOf members o
+    → ((v c : ℕ) → Contains members v → Contains (children g v) c → is_done (mark_of s c) ≡ false) → IsFirstOf g s members o
+first_so g s members None h none = inr h
+first_so g s members (Some f) h none = (h.0, h.1, λ v c inside edge d. both_ways (is_done (mark_of s c)) (none v c inside edge) d)
 
 -- 2. The last set.
 

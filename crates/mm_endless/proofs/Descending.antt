@@ -185,11 +185,20 @@ module _ (g : List (List ℕ)) where
           (r.0, leads_trans g a b r.0 to r.1, r.2)
     ]
 
-pub walks_end : WalksEnd
-walks_end g a nodes inside = descend g ys all nodes (reach g ys all nodes a) a inside (omega arith)
-  where
-    ys : List ℕ
-    ys = range_with_len 0 (length g)
+-- 3. All nodes.
 
-    all : (c : ℕ) → c < length g → Contains ys c
-    all c lt = (c, let e = length-range_with_len 0 (length g) in omega (arith, e, lt), let r = get_or-range_with_len 0 (length g) c c lt in r ∙ zero-add c)
+abbrev all_nodes : List (List ℕ) → List ℕ
+all_nodes g = range_with_len 0 (length g)
+
+each_node : (g : List (List ℕ)) (c : ℕ) → c < length g → Contains (all_nodes g) c
+each_node g c lt = (c, let e = length-range_with_len 0 (length g) in omega (arith, e, lt), let r = get_or-range_with_len 0 (length g) c c lt in r ∙ zero-add c)
+
+pub walks_end : WalksEnd
+walks_end g a nodes inside = descend g (all_nodes g) (each_node g) nodes (reach g (all_nodes g) (each_node g) nodes a) a inside (omega arith)
+
+-- whether a node leads to another is decided
+pub leads_or : (g : List (List ℕ)) (a b : ℕ) → AreNodes g → Leads g a b ⊎ (Leads g a b → ⊥)
+leads_or g a b nodes = elim (cases_Bool (via g (all_nodes g) a b)) [
+  | inl on ↦ inl (via_leads g (all_nodes g) a b on)
+  | inr off ↦ inr (λ l. both_ways (via g (all_nodes g) a b) off (leads_via g (all_nodes g) (each_node g) nodes a b l))
+]

@@ -2,7 +2,7 @@
 use Rattle.std.proofs.Common.{◌≡◌, ◌≢◌, ◌⊎◌, inl, inr, ℕ, ◌+◌, ◌<◌, ◌≤◌, true, List, [], ◌∷◌, ◌++◌, length, drop, refl, sym}
 use Rattle.std.proofs.Common.{ap, ◌∙◌, subst, arith, length-append}
 use Rattle.std.proofs.lemmas.{Bool.cases_eq, List.{get_or-set_same, get_or-set_other, length-set, drop_all}}
-use Rattle.std.proofs.lemmas.List.{Elements.{Contains-push, Contains-push_cases, Contains-append_left}, Sums.sum_by-set}
+use Rattle.std.proofs.lemmas.List.{Elements.{Contains-push, Contains-push_cases, Contains-append_left}, Sums.{sum_by-set, count_by-le-length}}
 use Rattle.std.specs.{Prelude.{Contains, slice_set, cond}, List.{AllByRecursion, count_by}}
 use Rattle.mm_span.{specs.Pairs.EachPair, proofs.Members.{pairs_both, pairs_map, in_cases, none_in, in_first, in_rest, all_of, all_at}}
 use Rattle.mm_endless.specs.declared.walk.Mark.{Mark, TheVariants.{Unmet, OnPath}}
@@ -101,12 +101,27 @@ module _ (g : List (List ℕ)) (s : Stage) (k : IsStage g s) (v : ℕ) (inside :
     | inr at ↦ omega (arith, at, e)
   ]
 
+  -- the new node is in the last set
+  pub last_new : IsInLast (discovered s v) v
+  last_new b there = let e = number_v in elim (Contains-push_cases s.bounds s.met b there) [
+    | inl was ↦ let x = bound_below b was in omega (arith, x, e)
+    | inr at ↦ omega (arith, at, e)
+  ]
+
   counted : s.met + 1 ≡ count_by is_met (slice_set s.marks v OnPath)
   counted =
       let e = sum_by-set (λ m. cond (is_met m) 1 0) s.marks v OnPath Unmet in_marks in
       let z : cond (is_met (mark_of s v)) 1 0 ≡ 0 = ap {B = ℕ} (λ m. cond (is_met m) 1 0) unmet in
       let n = k.met in
       omega (arith, e, z, n)
+
+  -- not all nodes were met
+  pub room : s.met < length s.marks
+  room =
+      let all = count_by-le-length is_met (slice_set s.marks v OnPath) in
+      let same = length-set s.marks v OnPath in
+      let n = counted in
+      omega (arith, all, same, n)
 
   module _ (led : (u : ℕ) → IsOnPath s u → Leads g u v) where
     joined_new : (u w : ℕ) → IsOnPath t u → IsOnPath t w → IsNotBefore t u w → Leads g u w

@@ -4,7 +4,7 @@ use Rattle.std.proofs.lemmas.List.Elements.{Contains-push, Contains-push_cases, 
 use Rattle.std.specs.Prelude.{Contains}
 use Rattle.mm_span.specs.Pairs.{EachPair}
 use Rattle.mm_endless.specs.Stages.{Stage, mark_of, number_of, left_of, IsOnPath, IsNotBefore, IsInLast, IsOpenAt, IsStage, IsLastOpen}
-use Rattle.mm_endless.proofs.{Discovering.pairs_push, Joining.{pairs_front, pairs_last, last_open, last_on_path}}
+use Rattle.mm_endless.proofs.{Lists.pushed, Discovering.pairs_push, Joining.{pairs_front, pairs_last, last_open, last_on_path}}
 
 module _ (g : List (List ℕ)) (s : Stage) (k : IsStage g s) (u : ℕ) (last : IsLastOpen s u) where
   -- the node is among the finished ones, and still among the open ones
@@ -76,3 +76,13 @@ module _ (g : List (List ℕ)) (s : Stage) (k : IsStage g s) (u : ℕ) (last : I
             | inl front ↦ (m.0, front, m.2)
             | inr e ↦ absurd (no_bound b inside (sym m.2 ∙ ap (number_of s) (sym e)))
           ]
+
+-- no set begins with the last open node, if its number is not the last bound
+pub no_bound : (g : List (List ℕ)) (s : Stage) → IsStage g s → (u : ℕ) → IsLastOpen s u → ((front : List ℕ) → s.bounds ≡ front ++ number_of s u ∷ [] → ⊥) → (b : ℕ) → Contains s.bounds b → b ≢ number_of s u
+no_bound g s k u last none b inside e =
+    let p = pushed s.bounds b inside in
+    let le = last_open g s k u last p.last (subst (λ l. Contains l p.last) (sym p.is) (Contains-push p.front p.last)) in
+    elim (Contains-push_cases p.front p.last b (subst (λ l. Contains l b) p.is inside)) [
+      | inl before ↦ let lt = pairs_last ◌<◌ p.front p.last (subst (EachPair ◌<◌) p.is k.bounds) b before in absurd (omega (arith, lt, le, e))
+      | inr same ↦ none p.front (p.is ∙ ap (λ n. p.front ++ n ∷ []) (same ∙ e))
+    ]

@@ -1,11 +1,11 @@
 -- The last sets of the path become one.
-use Rattle.std.proofs.Common.{◌≡◌, ◌⊎◌, inl, inr, ℕ, ◌<◌, ◌≤◌, List, [], ◌∷◌, ◌++◌, refl, sym, subst, arith}
+use Rattle.std.proofs.Common.{◌≡◌, ◌⊎◌, inl, inr, ℕ, ◌<◌, ◌≤◌, List, [], ◌∷◌, ◌++◌, length, refl, sym, ap, ◌∙◌, subst, arith}
 use Rattle.std.proofs.lemmas.{Bool.cases_lt, List.Elements.{Contains-push, Contains-push_cases, Contains-append_left}}
 use Rattle.std.{proofs.lemmas.List.Elements.Contains-append_right, specs.Prelude.Contains}
 use Rattle.mm_span.{specs.Pairs.EachPair, proofs.Members.{in_first, in_cases, none_in, all_at, all_of, in_rest}}
-use Rattle.mm_endless.specs.Graphs.{Leads}
+use Rattle.mm_endless.specs.Graphs.{children, Leads}
 use Rattle.mm_endless.specs.Stages.{Stage, mark_of, number_of, IsOnPath, IsNotBefore, IsInLast, IsInSome, IsStage, IsLastOpen}
-use Rattle.mm_endless.proofs.{Walking.leads_trans, Discovering.pairs_weaken}
+use Rattle.mm_endless.proofs.{Walking.{leads_trans, leads_edge}, Discovering.pairs_weaken, Marks.path_inside}
 
 -- the pairs of a list and its last element
 pub pairs_last : {X : Type 0} (R : X → X → Type 0) (front : List X) (y : X) → EachPair R (front ++ y ∷ []) → (x : X) → Contains front x → R x y
@@ -116,3 +116,15 @@ bounds_below bounds front b n rising is le x inside = elim (Contains-push_cases 
 
 pub no_bounds : (bounds : List ℕ) (n : ℕ) → bounds ≡ [] → (x : ℕ) → Contains bounds x → x ≤ n
 no_bounds bounds n is x inside = absurd (none_in x (subst (λ l. Contains l x) is inside))
+
+-- only bounds were taken away from a stage, and one more is
+pub join_step : (g : List (List ℕ)) (old s : Stage) → IsStage g s → s ≡ record old { bounds = s.bounds } → (u c : ℕ) → IsLastOpen old u → Contains (children g u) c → IsOnPath old c
+    → (front : List ℕ) (b : ℕ) → s.bounds ≡ front ++ b ∷ [] → number_of old c < b → IsStage g (record s { bounds = front })
+join_step g old s k same u c last edge path front b is below =
+    let here : IsLastOpen s u = record { front = last.front; is = ap (λ (x : Stage). x.unfinished) same ∙ last.is } in
+    let number = ap (λ (x : Stage). number_of x c) same in
+    join_keeps g s k u c (last_on_path g s k u here) (last_open g s k u here) (leads_edge g u c edge) (ap (λ (x : Stage). mark_of x c) same ∙ path) front b is (omega (arith, below, number))
+
+-- the last open node is a node
+pub open_inside : (g : List (List ℕ)) (s : Stage) → IsStage g s → (u : ℕ) → IsLastOpen s u → u < length g
+open_inside g s k u last = let low = path_inside s u (last_on_path g s k u last) in let e = k.marks in omega (arith, low, e)

@@ -1,6 +1,8 @@
 -- What the marks and numbers of nodes are, before and after a step.
-use Rattle.std.proofs.Common.{◌≡◌, ◌≢◌, ◌⊎◌, inl, inr, ℕ, ◌<◌, ◌≤◌, true, List, length, refl, sym, ap, ◌∙◌, subst, arith}
-use Rattle.std.proofs.lemmas.{Bool.cases_lt, List.get_or_past}
+use Rattle.std.proofs.Common.{◌≡◌, ◌≢◌, ◌⊎◌, inl, inr, ℕ, zero, suc, ◌<◌, ◌≤◌, true, List, [], ◌∷◌, length, take, drop, refl, sym, ap, ◌∙◌}
+use Rattle.std.proofs.Common.{Result, Ok, Err, OnOk, slice_index_or, subst, arith}
+use Rattle.std.proofs.lemmas.{Bool.cases_lt, List.{get_or_past, take-append-drop, Elements.Contains-append_right}}
+use Rattle.std.specs.Prelude.{Contains}
 use Rattle.mm_endless.specs.declared.walk.Mark.{Mark, TheVariants.{Unmet, OnPath, Passed, Closed}}
 use Rattle.mm_endless.specs.Stages.{Stage, mark_of, is_done, is_met, IsOnPath, IsDone}
 
@@ -39,3 +41,27 @@ kind_of Unmet = unmet refl
 kind_of OnPath = path refl
 kind_of Passed = over refl
 kind_of Closed = over refl
+
+pub ok_more : {T E P Q : Type 0} → (r : Result T E) → (P → Q) → OnOk r P → OnOk r Q
+ok_more (Ok t) f h = f h
+ok_more (Err e) f h = h
+
+pub ok_both : {T E P Q R : Type 0} → (r : Result T E) → (P → Q → R) → OnOk r P → OnOk r Q → OnOk r R
+ok_both (Ok t) f h k = f h k
+ok_both (Err e) f h k = h
+
+pub ok_so : {T E P : Type 0} → (r : Result T E) → P → OnOk r P
+ok_so (Ok t) h = h
+ok_so (Err e) h = tt
+
+-- an element that is read is in its list
+pub read_in : (xs : List ℕ) (k x : ℕ) → k < length xs → x ≡ slice_index_or xs k x → Contains xs x
+read_in xs k x lt e = (k, lt, sym e)
+
+pub read_as : {X : Type 0} (xs : List X) (k : ℕ) (x d : X) → k < length xs → x ≡ slice_index_or xs k x → slice_index_or xs k d ≡ x
+read_as [] k x d lt e = absurd (omega (arith, lt))
+read_as (y ∷ xs) zero x d lt e = sym e
+read_as (y ∷ xs) (suc k) x d lt e = read_as xs k x d (omega (arith, lt)) e
+
+pub in_drop : (from : ℕ) (xs : List ℕ) (v : ℕ) → Contains (drop from xs) v → Contains xs v
+in_drop from xs v inside = subst (λ l. Contains l v) (take-append-drop from xs) (Contains-append_right (take from xs) (drop from xs) v inside)

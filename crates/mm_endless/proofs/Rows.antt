@@ -1,6 +1,6 @@
 -- Rows of numbers that are kept in one list.
 use Rattle.std.proofs.Common.{◌≡◌, ℕ, zero, suc, ◌+◌, ◌-◌, ◌<◌, ◌≤◌, List, [], ◌∷◌, ◌++◌, length, take, drop, refl, sym, ap, ◌∙◌, subst, arith}
-use Rattle.std.proofs.lemmas.List.{drop-append-le, take-append-le, drop_at, take_all, length_push, length-drop, length-append}
+use Rattle.std.proofs.lemmas.List.{drop-append-le, take-append-le, drop_at, drop-take, take_all, length_push, length-drop, length-append}
 use Rattle.std.specs.Prelude.{slice_range, slice_index_or}
 use Rattle.mm_endless.specs.Rows.{rows_from, Ascend, begin_of}
 
@@ -82,3 +82,7 @@ begin_at ends (suc k) h = ap (λ n. slice_index_or ends n 0) (let e : k ≡ suc 
 pub begin_none : (ends : List ℕ) (k : ℕ) → k ≡ 0 → begin_of ends k ≡ 0
 begin_none ends zero h = refl
 begin_none ends (suc k) h = absurd (omega (arith, h))
+
+-- what is left of the front of a list
+pub cut : (xs : List ℕ) (begin end : ℕ) → begin ≤ end → drop begin (take end xs) ≡ slice_range xs begin end
+cut xs begin end le = ap (λ n. drop begin (take n xs)) (let e : end ≡ begin + (end - begin) = omega (arith, le) in e) ∙ drop-take begin (end - begin) xs

@@ -220,7 +220,7 @@ impl<'a> Walk<'a> {
         requires child { IsChildOfLast self.old.graph.now (stage_of self.old) child }
         ensures stage { OnOk result (IsStage self.new.graph.now (stage_of self.new)) }
         ensures graph { OnOk result (self.new.graph.now ≡ self.old.graph.now) }
-        ensures left { self.new.left ≡ self.old.left }
+        ensures left { self.new.left.items ≡ self.old.left.items }
         ensures later { OnOk result (IsLater (stage_of self.old) (stage_of self.new)) }
         ensures path { OnOk result ((v : ℕ) → IsOnPath (stage_of self.old) v → IsOnPath (stage_of self.new) v) }
         ensures looked { OnOk result (IsDone (stage_of self.new) child
@@ -245,7 +245,7 @@ impl<'a> Walk<'a> {
         requires room { self.old.met < length self.old.marks.items }
         ensures stage { OnOk result (stage_of self.new ≡ discovered (stage_of self.old) node) }
         ensures graph { self.new.graph.now ≡ self.old.graph.now }
-        ensures left { self.new.left ≡ self.old.left }
+        ensures left { self.new.left.items ≡ self.old.left.items }
     {
         self.unfinished.push(node as u32)?;
         self.bounds.push(self.met)?;
@@ -262,7 +262,7 @@ impl<'a> Walk<'a> {
         requires child { IsChildOfLast self.old.graph.now (stage_of self.old) node }
         ensures stage { IsStage self.new.graph.now (stage_of self.new) }
         ensures graph { self.new.graph.now ≡ self.old.graph.now }
-        ensures left { self.new.left ≡ self.old.left }
+        ensures left { self.new.left.items ≡ self.old.left.items }
         ensures same { stage_of self.new ≡ record (stage_of self.old) { bounds = self.new.bounds.items } }
         ensures last { IsInLast (stage_of self.new) node }
     {
@@ -283,7 +283,7 @@ impl<'a> Walk<'a> {
         requires left { left_of (stage_of self.old) node ≡ 0 }
         ensures stage { OnOk result (IsStage self.new.graph.now (stage_of self.new)) }
         ensures graph { OnOk result (self.new.graph.now ≡ self.old.graph.now) }
-        ensures left { self.new.left ≡ self.old.left }
+        ensures left { self.new.left.items ≡ self.old.left.items }
         ensures later { OnOk result (IsLater (stage_of self.old) (stage_of self.new)) }
         ensures unfinished { OnOk result (length self.new.unfinished.items + 1 ≡ length self.old.unfinished.items) }
     {
@@ -303,7 +303,7 @@ impl<'a> Walk<'a> {
         requires set { IsSetDone (stage_of self.old) node }
         ensures stage { IsStage self.new.graph.now (stage_of self.new) }
         ensures graph { self.new.graph.now ≡ self.old.graph.now }
-        ensures left { self.new.left ≡ self.old.left }
+        ensures left { self.new.left.items ≡ self.old.left.items }
         ensures later { IsLater (stage_of self.old) (stage_of self.new) }
         ensures unfinished { (front : List ℕ) (n : ℕ) → self.old.unfinished.items ≡ front ++ n ∷ []
             → self.new.unfinished.items ≡ front }

@@ -67,7 +67,7 @@ output_alike s t g e = let h = same_outputs s t (g ∷ []) e in cc
 
 -- 2. Members of a closed set.
 
-no_moves_final : (i : Image) (t : List ℕ) → moves (run (start i) t) ≡ [] → IsFinal i t
+pub no_moves_final : (i : Image) (t : List ℕ) → moves (run (start i) t) ≡ [] → IsFinal i t
 no_moves_final i t none m inside = absurd (none_in m (subst (λ l. Contains l m) none inside))
 
 -- the slots of all runs are as many

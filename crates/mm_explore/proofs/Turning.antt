@@ -20,29 +20,29 @@ module _ (i : Image) (list : List (List ℕ)) (least : AllByRecursion (IsLeast i
   -- 1. The graph.
 
   -- the schedule of a node
-  abbrev at : ℕ → List ℕ
+  abbrev pub at : ℕ → List ℕ
   at a = slice_index_or list a []
 
   -- the node of a schedule's configuration
-  abbrev node : List ℕ → ℕ
+  abbrev pub node : List ℕ → ℕ
   node s = (all s).1.0
 
-  node_inside : (s : List ℕ) → node s < length list
+  pub node_inside : (s : List ℕ) → node s < length list
   node_inside s = (all s).1.1
 
   at_node : (s : List ℕ) → at (node s) ≡ (all s).0
   at_node s = get_or_default list (node s) [] (all s).0 (node_inside s) ∙ (all s).1.2
 
-  leads_node : (s : List ℕ) → leads_to i (at (node s)) ≡ leads_to i s
+  pub leads_node : (s : List ℕ) → leads_to i (at (node s)) ≡ leads_to i s
   leads_node s = ap (leads_to i) (at_node s) ∙ (all s).2
 
   abbrev row : List ℕ → List ℕ
   row t = map (λ m. node (more t m)) (moves (run (start i) t))
 
-  abbrev graph : List (List ℕ)
+  abbrev pub graph : List (List ℕ)
   graph = map row list
 
-  graph_long : length graph ≡ length list
+  pub graph_long : length graph ≡ length list
   graph_long = length-map list row
 
   row_at : (ts : List (List ℕ)) (a : ℕ) → a < length ts → slice_index_or (map row ts) a [] ≡ row (slice_index_or ts a [])
@@ -53,7 +53,7 @@ module _ (i : Image) (list : List (List ℕ)) (least : AllByRecursion (IsLeast i
   children_at : (a : ℕ) → a < length list → children graph a ≡ row (at a)
   children_at a lt = row_at list a lt
 
-  nodes : AreNodes graph
+  pub nodes : AreNodes graph
   nodes a c edge = elim (cases_lt a (length list)) [
     | inl lt ↦
         let from = map_in (λ m. node (more (at a) m)) (moves (run (start i) (at a))) c (subst (λ l. Contains l c) (children_at a lt) edge) in
@@ -70,7 +70,7 @@ module _ (i : Image) (list : List (List ℕ)) (least : AllByRecursion (IsLeast i
       let from = map_in (λ m. node (more (at a) m)) (moves (run (start i) (at a))) c (subst (λ l. Contains l c) (children_at a lt) edge) in
       record { items = from.source ∷ []; leads = sym (leads_node (more (at a) from.source)) ∙ ap (λ k. leads_to i (at k)) from.gives }
 
-  walk_on : (a b : ℕ) (walk : List ℕ) → a < length list → IsWalk graph a walk b → LeadsOn i (at a) (at b)
+  pub walk_on : (a b : ℕ) (walk : List ℕ) → a < length list → IsWalk graph a walk b → LeadsOn i (at a) (at b)
   walk_on a b [] lt e = on_same i (at a) (at b) (ap (λ k. leads_to i (at k)) e)
   walk_on a b (c ∷ walk) lt w =
       let inside = nodes a c w.0 in
@@ -78,13 +78,13 @@ module _ (i : Image) (list : List (List ℕ)) (least : AllByRecursion (IsLeast i
       on_trans i (at a) (at c) (at b) (edge_on a c lt w.0) (walk_on c b walk (omega (arith, inside, long)) w.1)
 
   -- a node to which the node leads, with the configuration to which items lead
-  record Followed (a : ℕ) (items : List ℕ) : Type 0 where
-    to : ℕ
-    inside : to < length list
-    led : Leads graph a to
-    same : leads_to i (at to) ≡ leads_to i (at a ++ items)
+  pub record Followed (a : ℕ) (items : List ℕ) : Type 0 where
+    pub to : ℕ
+    pub inside : to < length list
+    pub led : Leads graph a to
+    pub same : leads_to i (at to) ≡ leads_to i (at a ++ items)
 
-  follow : (a : ℕ) (items : List ℕ) → a < length list → Followed a items
+  pub follow : (a : ℕ) (items : List ℕ) → a < length list → Followed a items
   follow a [] lt = record { to = a; inside = lt; led = record { nodes = []; walk = refl }; same = ap (leads_to i) (sym (append-nil (at a))) }
   follow a (x ∷ items) lt = elim (moves_or_idles (run (start i) (at a)) x) [
     | inl move ↦
@@ -117,7 +117,7 @@ module _ (i : Image) (list : List (List ℕ)) (least : AllByRecursion (IsLeast i
       on_trans i (at b ++ items) (at f.to) (at b) (on_same i (at b ++ items) (at f.to) (sym f.same)) (walk_on f.to b l.nodes f.inside l.walk))
 
   -- whether a configuration is final is decided
-  same_least : (s t : List ℕ) → Contains list s → Contains list t → leads_to i s ≡ leads_to i t → s ≡ t
+  pub same_least : (s t : List ℕ) → Contains list s → Contains list t → leads_to i s ≡ leads_to i t → s ≡ t
   same_least s t hs ht e = elim (before_cases s t) [
     | inl before ↦ absurd (all_at (IsLeast i) list t least ht s before e)
     | inr other ↦ elim other [

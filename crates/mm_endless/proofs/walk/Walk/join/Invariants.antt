@@ -8,7 +8,6 @@ invariant-loop-bound l = record {
   stage : IsStage l.self.graph.now (stage_of l.self);
   same : stage_of l.self ≡ record (stage_of l.fn.self) { bounds = l.self.bounds.items };
   graph : l.self.graph.now ≡ l.fn.self.graph.now;
-  left : l.self.left ≡ l.fn.self.left;
 }
 
 abbrev pub decreases-loop-bound : goal.decreases-loop-bound
