@@ -9,8 +9,8 @@ use Rattle.mm_explore.specs.Benches.{IsAtSomeConfiguration, ArePartsAt}
 use Rattle.mm_explore.specs.{Configurations.moves, Explored.{leads_to, IsLeast, IsExplored, IsAll}}
 use Rattle.mm_explore.specs.Findings.{Extension, extended, extensions, explored_turns, IsFinal}
 use Rattle.mm_explore.specs.{FoundLists.{FoundList, Holds, Looks}, Outcomes.{End, Selects, AreEndsOf, AreEnds, IsSteady, slots_at}}
-use Rattle.mm_explore.specs.Closed.{IsFirstEndless}
-use Rattle.mm_model.specs.Flags.{flags}
+use Rattle.mm_explore.specs.Closed.{LeadsOn, IsFirstEndless}
+use Rattle.mm_model.specs.{Flags.flags, Slot.Slot}
 use Rattle.mm_explore.specs.Noting.{Noted, AreNoted}
 use Rattle.mm_span.specs.Pairs.{EachPair}
 use Rattle.mm_explore.specs.Schedules.{Before}
@@ -166,6 +166,38 @@ IsBusyBy false i t k = IsSteady i t k
 abbrev pub AreBusyBy : Image → List ℕ → ℕ → List Bool → Type 0
 AreBusyBy i t k [] = Unit {0}
 AreBusyBy i t k (b ∷ busy) = IsBusyBy b i t k × AreBusyBy i t (k + 1) busy
+
+-- what was seen of a set in some schedules: that a slot is not the same in one of them, or that it is in all
+abbrev pub IsSeenBy : Bool → Image → List (List ℕ) → List ℕ → ℕ → Type 0
+IsSeenBy true i seen t k =
+    (u : List ℕ) × LeadsOn i t u × (slice_get (slots_at i u) k ≡ slice_get (slots_at i t) k → ⊥)
+IsSeenBy false i seen t k =
+    (u : List ℕ) → Contains seen u → LeadsOn i t u → slice_get (slots_at i u) k ≡ slice_get (slots_at i t) k
+
+abbrev pub AreSeenBy : Image → List (List ℕ) → List ℕ → ℕ → List Bool → Type 0
+AreSeenBy i seen t k [] = Unit {0}
+AreSeenBy i seen t k (b ∷ busy) = IsSeenBy b i seen t k × AreSeenBy i seen t (k + 1) busy
+
+-- what is noted of an endless set when some of its schedules were seen
+pub record IsSetSeen (i : Image) (list seen : List (List ℕ)) (t : List ℕ) (entry : ℕ × ℕ) : Type 0 where
+  pub at : slice_get list entry.0 ≡ Some t
+  pub slots : AreSeenBy i seen t 0 (flags (length (slots_at i t)) entry.1)
+
+-- the endless sets whose first schedules were seen
+pub record AreSetsSeen (i : Image) (list seen : List (List ℕ)) (entries : List (ℕ × ℕ)) : Type 0 where
+  pub firsts : List (List ℕ)
+  pub are : Selects (IsFirstEndless i) seen firsts
+  pub sets : AllZip (IsSetSeen i list seen) firsts entries
+
+-- whether slots of two lists are not the same
+abbrev pub IsApartBy : Bool → Slot → Slot → Type 0
+IsApartBy true a b = a ≡ b → ⊥
+IsApartBy false a b = a ≡ b
+
+abbrev pub AreApart : List Bool → List Slot → List Slot → Type 0
+AreApart [] [] [] = Unit {0}
+AreApart (f ∷ flags) (a ∷ as) (b ∷ bs) = IsApartBy f a b × AreApart flags as bs
+AreApart _ _ _ = ⊥
 
 -- what is noted of an endless set: the index of its first schedule, and a mask of the slots that are busy
 pub record IsBusySet (i : Image) (list : List (List ℕ)) (t : List ℕ) (entry : ℕ × ℕ) : Type 0 where

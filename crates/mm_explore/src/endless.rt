@@ -1,11 +1,12 @@
 //! Sets of configurations that are never left, and their outcomes.
 
-ghost use Rattle.std.specs.Prelude.{◌≡◌, ℕ, ◌<◌, ◌↔◌, [], IfOk, OnOk, IsTrue, length, slice_get, Some};
+ghost use Rattle.std.specs.Prelude.{◌≡◌, ℕ, ◌+◌, ◌<◌, ◌↔◌, [], IfOk, OnOk, IsTrue, length, slice_index_or, take};
 ghost use Rattle.std.specs.List.{AllByRecursion};
-ghost use Rattle.mm_model.specs.Report.{groups_of};
-ghost use Rattle.mm_model.specs.Image.{start};
+ghost use Rattle.mm_endless.specs.Graphs.{AreClosedSets};
+ghost use Rattle.mm_model.specs.Flags.{flags};
 ghost use Rattle.mm_explore.specs.Findings.{explored_turns};
-ghost use Rattle.mm_explore.specs.Searching.{HasCome, HasEnds, AreBusySets};
+ghost use Rattle.mm_explore.specs.Outcomes.{slots_at};
+ghost use Rattle.mm_explore.specs.Searching.{HasCome, HasEnds, AreBusySets, AreSetsSeen, AreApart};
 
 use crate::ends::End;
 use crate::explored::Ending;
@@ -88,7 +89,15 @@ impl Search {
         sets: &ClosedSets,
         at: usize,
         busy: &mut BusySlots,
-    ) -> Result<(), AllocError> {
+    ) -> Result<(), AllocError>
+        requires come { HasCome img.now self.now (explored_turns img.now self.now.found.list) [] self.now.found.list }
+        requires all { IsTrue self.now.all }
+        requires inside { at < length self.now.found.list }
+        requires sets { AreClosedSets self.now.graph sets.now }
+        requires seen { AreSetsSeen img.now self.now.found.list (take at self.now.found.list) busy.old.entries }
+        ensures { OnOk result (AreSetsSeen img.now self.now.found.list (take (at + 1) self.now.found.list)
+            busy.new.entries) }
+    {
         match sets.first(at) {
             None => Ok(()),
             Some(first) if first as usize != at => {
@@ -107,14 +116,26 @@ impl Search {
         img: &Image,
         one: usize,
         other: usize,
-    ) -> Result<u64, AllocError> {
+    ) -> Result<u64, AllocError>
+        requires come { HasCome img.now self.now (explored_turns img.now self.now.found.list) [] self.now.found.list }
+        requires one { one < length self.now.found.list }
+        requires other { other < length self.now.found.list }
+        ensures { IfOk result (λ slots. AreApart
+            (flags (length (slots_at img.now (slice_index_or self.now.found.list one []))) slots)
+            (slots_at img.now (slice_index_or self.now.found.list one []))
+            (slots_at img.now (slice_index_or self.now.found.list other []))) }
+    {
         let before = self.slots(alloc, img, one)?;
         let after = self.slots(alloc, img, other)?;
         Ok(differing(&before, &after))
     }
 
     /// The slots of a configuration.
-    fn slots(&self, alloc: Global, img: &Image, at: usize) -> Result<Vec<Slot>, AllocError> {
+    fn slots(&self, alloc: Global, img: &Image, at: usize) -> Result<Vec<Slot>, AllocError>
+        requires come { HasCome img.now self.now (explored_turns img.now self.now.found.list) [] self.now.found.list }
+        requires inside { at < length self.now.found.list }
+        ensures { IfOk result (λ slots. slots.items ≡ slots_at img.now (slice_index_or self.now.found.list at [])) }
+    {
         let mut reader = Reader::new(self.found.numbers(at));
         let mut slots = Vec::new(alloc);
         take_slots(&mut reader, img.slots(), &mut slots)?;

@@ -209,6 +209,7 @@ impl Search {
         ensures limit { OnOk result (self.new.found.limit ≡ self.old.found.limit) }
     {
         let node = self.node(alloc, img, at)?;
+        self.children.clear();
         let stay = self.make_all(alloc, img, &node)?;
         if self.all {
             self.graph.push(&self.children)?;
@@ -245,7 +246,6 @@ impl Search {
         ensures stay { IfOk result (λ stay. AllStay stay img.now (node_schedule self.old node.now)
             node.now.moves.items) }
     {
-        self.children.clear();
         let mut stay = true;
         for k in 0..node.moves.len() {
             let stays = self.make(alloc, img, node, k)?;

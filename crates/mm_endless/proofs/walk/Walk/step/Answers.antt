@@ -1,6 +1,6 @@
 use Rattle.std.proofs.Common.{◌≡◌, ◌<◌, ◌-◌, ◌+◌, ℕ, zero, suc, List, refl, length, subst, sym, ap, ◌∙◌, arith}
-use Rattle.std.proofs.lemmas.List.{Elements.Contains-get_or, Sums.sum-set}
-use Rattle.std.specs.Prelude.{Contains, slice_index_or, sum}
+use Rattle.std.proofs.lemmas.List.{Elements.Contains-get_or, Sums.sum_by-set}
+use Rattle.std.specs.{Prelude.{Contains, slice_index_or}, List.sum_by}
 use Rattle.mm_endless.specs.{Graphs.children, Stages.{Stage, stage_of, left_of, IsStage, IsLastOpen}}
 use Rattle.mm_endless.proofs.{Joining.{last_on_path, open_inside}, Looking.look_keeps, Marks.{ok_more, read_as, read_in}}
 use Rattle.mm_endless.proofs.walk.Walk.step.Goals as goal
@@ -90,7 +90,7 @@ returns-clause-smaller c =
     let some = above c.index-left.result.now c.if-left-eq0.false in
     let same = ap length c.look_at.ensures.left in
     let here = ap (λ l. slice_index_or l u 0) c.look_at.ensures.left in
-    let was = ap sum c.look_at.ensures.left in
-    let total = sum-set xs u n 0 (omega (arith, low, e, same)) in
-    let open = c.in_ok-look_at.ensures.unfinished in
-    omega (arith, left, some, here, was, total, open)
+    let was = ap (sum_by (λ n. n)) c.look_at.ensures.left in
+    let total = sum_by-set (λ m. m) xs u n 0 (omega (arith, low, e, same)) in
+    let more = c.in_ok-look_at.ensures.unfinished in
+    omega (arith, left, some, here, was, total, more)
