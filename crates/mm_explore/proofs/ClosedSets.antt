@@ -3,7 +3,7 @@ use Rattle.std.proofs.Common.{◌≡◌, ◌⊎◌, inl, inr, ℕ, List, [], ◌
 use Rattle.std.specs.Prelude.{Contains}
 use Rattle.mm_model.specs.{State.State, Image.{Image, start}, Run.run}
 use Rattle.mm_explore.specs.{Closed.{LeadsOn, IsLedOn, IsClosed, IsAtEnd, IsEndless}, Explored.leads_to, Findings.IsFinal}
-use Rattle.mm_explore.specs.{Configurations.moves, Laws.{IsSetOf, ClosedSetsAreLedOn, IsAlone, FinalsAreClosed}}
+use Rattle.mm_explore.specs.{Configurations.moves, Laws.{Passes, IsSetOf, ClosedSetsAreLedOn, IsAlone, FinalsAreClosed}}
 use Rattle.mm_explore.proofs.{Coverings.{alike, leads_alike, leads_more}, Movings.{moves_or_idles, idle_leads}, Orders.more}
 
 module _ (i : Image) where
@@ -82,10 +82,10 @@ module _ (i : Image) where
   final_like s t e final m move = leads_alike i t s m (sym e) ∙ final_stays s final m ∙ e
 
 pub closed_sets_are_led_on : ClosedSetsAreLedOn
-closed_sets_are_led_on i members k s h = record {
-  closed = recurrent_ends i s (λ items. k.joined (s ++ items) s (led_member i members k s (s ++ items) h (on_items i s items)) h);
+closed_sets_are_led_on i test k s h = record {
+  closed = recurrent_ends i s (λ items. k.joined (s ++ items) s (led_member i (Passes test) k s (s ++ items) h (on_items i s items)) h);
   inside = λ t there. k.joined s t h there;
-  led = λ t on. led_member i members k s t h on;
+  led = λ t on. led_member i (Passes test) k s t h on;
 }
 
 pub finals_are_closed : FinalsAreClosed

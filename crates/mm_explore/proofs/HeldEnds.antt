@@ -12,7 +12,8 @@ use Rattle.mm_explore.specs.{Noting.{outcome_held, standings_of}, Searching.{Are
 use Rattle.mm_explore.specs.{Finds.{as_output, outcome_found}, Results.OutcomeFound}
 use Rattle.mm_explore.specs.Outcomes.{End, IsEnding, IsStanding, AreStanding, IsOutcome, IsSteady, slots_at, ending_of}
 use Rattle.mm_explore.proofs.{ClosedSets.final_stays_all, Keepables.parts_again, KeptRuns.runs_state_of}
-use Rattle.mm_explore.specs.declared.{parts.Parts as code, ends.End as code_end}
+use Rattle.mm_explore.specs.declared.parts.Parts as code
+use Rattle.mm_explore.specs.declared.ends.End as code_end
 
 -- 1. What is held of a run's configuration.
 

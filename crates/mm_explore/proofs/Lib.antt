@@ -33,7 +33,7 @@ pub mod CellLists
 pub mod MemoryOver
 pub mod Moves
 pub mod LookThrough
-pub mod Standing
+pub mod Placed
 pub mod Resets
 pub mod Listings
 pub mod FoundForms

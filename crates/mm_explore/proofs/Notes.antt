@@ -13,7 +13,8 @@ use Rattle.mm_explore.specs.FoundLists.{IsOrigin}
 use Rattle.mm_explore.specs.Noting.{IsFrom, first_kept, first_in, outcome_form, outcome_held, IsKeptEnd, tally_after, Noted, AreNoted}
 use Rattle.mm_explore.specs.Words.{order, AreKept, step_words, turn_words}
 use Rattle.mm_explore.proofs.Tallies.{ends_more, counts_fit}
-use Rattle.mm_explore.specs.declared.{ends.End as code_end, parts.Parts as code_parts}
+use Rattle.mm_explore.specs.declared.ends.End as code_end
+use Rattle.mm_explore.specs.declared.parts.Parts as code_parts
 use Rattle.indexmap.specs.IndexMap as index
 
 pub both_ok : {T E P Q R : Type 0} → (r : Result T E) → (P → Q → R) → OnOk r P → OnOk r Q → OnOk r R

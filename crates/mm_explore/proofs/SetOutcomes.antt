@@ -138,11 +138,14 @@ module _ (i : Image) (img : IsImage i) (s t : List ℕ) (k : IsAtEnd i s) (on : 
   standings_there n (x ∷ xs) [] fx fy long st h = cc
   standings_there n (x ∷ xs) (y ∷ ys) fx fy long [] h = absurd h
   standings_there n (x ∷ xs) (y ∷ ys) fx fy long (b ∷ st) h = (
-    standing_there n x y (fx 0) (fy 0) b h.0,
+    standing_there n x y (ap (slice_get (slots_at i s)) here ∙ fx 0) (ap (slice_get (slots_at i t)) here ∙ fy 0) b h.0,
     standings_there (n + 1) xs ys (λ j. ap (slice_get (slots_at i s)) (next j) ∙ fx (suc j)) (λ j. ap (slice_get (slots_at i t)) (next j) ∙ fy (suc j))
         (let e : length xs ≡ length ys = cc in e) st h.1,
   )
     where
+      here : n ≡ n + 0
+      here = omega arith
+
       next : (j : ℕ) → (n + 1) + j ≡ n + suc j
       next j = omega arith
 

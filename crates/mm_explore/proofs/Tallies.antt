@@ -14,7 +14,8 @@ use Rattle.mm_explore.specs.declared.{explored.{Ending.Ending, Standing.Standing
 use Rattle.mm_explore.specs.Outcomes.{Outcome, End, ending_number, standing_number, same_outcome, firsts_after, firsts}
 use Rattle.mm_explore.specs.{Benches.ArePartsAt, Noting.{bytes_form, outcome_form, outcome_held, IsKeptEnd, tally_after}}
 use Rattle.mm_explore.proofs.Finals.{outcomes_decide, numbers_decide, endings_tell, standing_at, standing_back}
-use Rattle.mm_explore.specs.declared.{ends.End as code_end, parts.Parts as code_parts}
+use Rattle.mm_explore.specs.declared.ends.End as code_end
+use Rattle.mm_explore.specs.declared.parts.Parts as code_parts
 
 -- 1. Outcomes are told apart by their numbers.
 

@@ -131,19 +131,19 @@ module _ (i : Image) (list : List (List ℕ)) (least : AllByRecursion (IsLeast i
 
   stays_or : (t : List ℕ) (m : ℕ) → Stays t m ⊎ (Stays t m → ⊥)
   stays_or t m = elim (cases_Bool (pointwise nat_eq (all (more t m)).0 (all t).0)) [
-    | inl yes ↦ inl (sym (all (more t m)).2 ∙ ap (leads_to i) ((pointwise_decides numbers_decide (all (more t m)).0 (all t).0).0 yes) ∙ (all t).2)
-    | inr no ↦ inr (λ e.
+    | inl same ↦ inl (sym (all (more t m)).2 ∙ ap (leads_to i) ((pointwise_decides numbers_decide (all (more t m)).0 (all t).0).0 same) ∙ (all t).2)
+    | inr other ↦ inr (λ e.
         let same = same_least (all (more t m)).0 (all t).0 (all (more t m)).1 (all t).1 ((all (more t m)).2 ∙ e ∙ sym (all t).2) in
-        Rattle.std.proofs.lemmas.Bool.both_ways (pointwise nat_eq (all (more t m)).0 (all t).0) no ((pointwise_decides numbers_decide (all (more t m)).0 (all t).0).1 same))
+        Rattle.std.proofs.lemmas.Bool.both_ways (pointwise nat_eq (all (more t m)).0 (all t).0) other ((pointwise_decides numbers_decide (all (more t m)).0 (all t).0).1 same))
   ]
 
   all_or : (t : List ℕ) (ms : List ℕ) → ((m : ℕ) → Contains ms m → Stays t m) ⊎ (((m : ℕ) → Contains ms m → Stays t m) → ⊥)
   all_or t [] = inl (λ m inside. absurd (none_in m inside))
   all_or t (x ∷ ms) = elim (stays_or t x) [
-    | inr no ↦ inr (λ h. no (h x (Rattle.mm_span.proofs.Members.in_first x ms)))
-    | inl yes ↦ elim (all_or t ms) [
-      | inl rest ↦ inl (λ m inside. elim (in_cases x ms m inside) [ inl e ↦ subst (Stays t) e yes | inr later ↦ rest m later ])
-      | inr no ↦ inr (λ h. no (λ m inside. h m (Rattle.mm_span.proofs.Members.in_rest x ms m inside)))
+    | inr other ↦ inr (λ h. other (h x (Rattle.mm_span.proofs.Members.in_first x ms)))
+    | inl here ↦ elim (all_or t ms) [
+      | inl rest ↦ inl (λ m inside. elim (in_cases x ms m inside) [ inl e ↦ subst (Stays t) e here | inr later ↦ rest m later ])
+      | inr other ↦ inr (λ h. other (λ m inside. h m (Rattle.mm_span.proofs.Members.in_rest x ms m inside)))
     ]
   ]
 

@@ -8,9 +8,9 @@ use Rattle.mm_explore.specs.{Explored.{IsExplored, IsAll}, Findings.{Extension, 
 use Rattle.mm_explore.specs.{Outcomes.{Outcome, End, AreEnds, firsts, count_of}}
 use Rattle.mm_explore.specs.Results.{Results, GroupFound, FaultFound, OutcomeFound, explored_text}
 
-pub record IsGroupOf (i : Image) (list : List (List ℕ)) (group : ℕ) (g : GroupFound) : Type 0 where
-  pub group : g.group ≡ group
-  pub reached : IsReached i list group g.reached
+pub record IsGroupOf (i : Image) (list : List (List ℕ)) (g : ℕ) (found : GroupFound) : Type 0 where
+  pub group : found.group ≡ g
+  pub reached : IsReached i list g found.reached
 
 -- the fault of a slot with a number, if a turn has it
 abbrev pub fault_of : ℕ → ℕ → Option Extension → List FaultFound

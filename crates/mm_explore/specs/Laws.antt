@@ -1,5 +1,5 @@
 -- What holds of every exploration.
-use Rattle.std.specs.Prelude.{◌≡◌, ◌↔◌, ◌⊎◌, ℕ, true, List, [], ◌∷◌, ◌++◌, Contains}
+use Rattle.std.specs.Prelude.{◌≡◌, ◌↔◌, ◌⊎◌, ℕ, Bool, true, List, [], ◌∷◌, ◌++◌, Contains}
 use Rattle.mm_word.specs.Access.{AccessValue}
 use Rattle.mm_model.specs.{State.State, Image.{Image, start}, Spelling.IsImage, Run.{turn_of, after, run}}
 use Rattle.mm_model.specs.{Trace.{touches, group_in}, Counted.writes}
@@ -32,15 +32,19 @@ OthersAreIdle = (s : State) (item : ℕ) → (Contains (moves s) item → ⊥) �
 
 -- 2. Closed sets.
 
+-- the configurations for which a test holds
+abbrev pub Passes : (State → Bool) → State → Type 0
+Passes test c = test c ≡ true
+
 -- a closed set is all to which any of its members leads on
-pub record IsSetOf (i : Image) (members : State → Type 0) (s : List ℕ) : Type 0 where
+pub record IsSetOf (i : Image) (test : State → Bool) (s : List ℕ) : Type 0 where
   pub closed : IsAtEnd i s
-  pub inside : (t : List ℕ) → members (leads_to i t) → LeadsOn i s t
-  pub led : (t : List ℕ) → LeadsOn i s t → members (leads_to i t)
+  pub inside : (t : List ℕ) → Passes test (leads_to i t) → LeadsOn i s t
+  pub led : (t : List ℕ) → LeadsOn i s t → Passes test (leads_to i t)
 
 abbrev pub ClosedSetsAreLedOn : Type 0
-ClosedSetsAreLedOn = (i : Image) (members : State → Type 0) → IsClosed i members → (s : List ℕ) → members (leads_to i s)
-    → IsSetOf i members s
+ClosedSetsAreLedOn = (i : Image) (test : State → Bool) → IsClosed i (Passes test) → (s : List ℕ)
+    → Passes test (leads_to i s) → IsSetOf i test s
 
 -- a final configuration by itself is a closed set
 pub record IsAlone (i : Image) (t : List ℕ) : Type 0 where
@@ -70,17 +74,17 @@ RunsEndOrTurn = (i : Image) (limit : ℕ) (list : List (List ℕ)) → IsExplore
 -- 4. What was found is all that runs come to, and is met first by its schedules.
 
 -- a word is among those that a group touched, or wrote
-pub record IsFoundIn (spans : Reached → List Span) (e : Results) (group word : ℕ) : Type 0 where
+pub record IsFoundIn (spans : Reached → List Span) (e : Results) (g word : ℕ) : Type 0 where
   pub found : GroupFound
   pub inside : Contains e.groups found
-  pub group : found.group ≡ group
+  pub group : found.group ≡ g
   pub at : (span : Span) × Contains (spans found.reached) span × InSpan word span
 
-pub record IsFaultFound (e : Results) (slot cause : ℕ) : Type 0 where
+pub record IsFaultFound (e : Results) (s n : ℕ) : Type 0 where
   pub found : FaultFound
   pub inside : Contains e.faults found
-  pub slot : found.slot ≡ slot
-  pub cause : found.cause ≡ cause
+  pub slot : found.slot ≡ s
+  pub cause : found.cause ≡ n
 
 -- the outcome of a schedule's closed set is found
 pub record IsOutcomeFound (i : Image) (e : Results) (s : List ℕ) : Type 0 where

@@ -6,7 +6,8 @@ use lib.Pointwise.{pointwise}
 use Rattle.mm_model.specs.{Flags.flags, Image.Image, Counted.writes, Slot.Slot}
 use Rattle.mm_explore.specs.declared.explored.Standing.{Standing, TheVariants.{Busy, In}}
 use Rattle.mm_explore.specs.declared.{findings.Findings.Findings, ends.{Tally.Tally}, found.Origin.Origin}
-use Rattle.mm_explore.specs.declared.{ends.End as code_end, parts.Parts as code_parts}
+use Rattle.mm_explore.specs.declared.ends.End as code_end
+use Rattle.mm_explore.specs.declared.parts.Parts as code_parts
 use Rattle.mm_explore.specs.{Benches.ArePartsAt, Findings.{Extension, turn_at, any_kind, has_fault}}
 use Rattle.mm_explore.specs.{FoundLists.{IsOrigin, led_by}, Results.FaultFound, Words.{order, AreKept, turn_words}}
 use Rattle.mm_explore.specs.Outcomes.{Outcome, End, ending_number, standing_number, firsts, count_of}

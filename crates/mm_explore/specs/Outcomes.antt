@@ -100,8 +100,8 @@ SelectsEndless true i list firsts = Selects (IsFirstEndless i) list firsts
 SelectsEndless false i list firsts = firsts ≡ []
 
 -- the ends of schedules, with the outcome of each
-pub record AreEndsOf (i : Image) (schedules : List (List ℕ)) (ends : List End) : Type 0 where
-  pub schedules : map (λ (e : End). e.schedule) ends ≡ schedules
+pub record AreEndsOf (i : Image) (told : List (List ℕ)) (ends : List End) : Type 0 where
+  pub schedules : map (λ (e : End). e.schedule) ends ≡ told
   pub outcomes : AllByRecursion (λ (e : End). IsOutcome i e.schedule e.outcome) ends
 
 -- the ends of a list: those of its final schedules and, if it is all, after them those of the first schedules of endless

@@ -145,10 +145,10 @@ index_of New old = Some (length old.list)
 index_of Full old = None
 
 -- a search looked these numbers up
-pub record Met (numbers : List ℕ) (o : Origin) (child : Option ℕ) (old new : Search) : Type 0 where
+pub record Met (numbers : List ℕ) (o : Origin) (c : Option ℕ) (old new : Search) : Type 0 where
   pub looked : Looked
   pub looks : Looks looked numbers o old.found new.found
-  pub child : child ≡ index_of looked old.found
+  pub child : c ≡ index_of looked old.found
   pub all : new.all ≡ old.all
   pub groups : new.groups ≡ old.groups
   pub bench : new.bench ≡ old.bench
@@ -196,7 +196,7 @@ IsApartBy false a b = a ≡ b
 
 abbrev pub AreApart : List Bool → List Slot → List Slot → Type 0
 AreApart [] [] [] = Unit {0}
-AreApart (f ∷ flags) (a ∷ as) (b ∷ bs) = IsApartBy f a b × AreApart flags as bs
+AreApart (f ∷ flags) (s ∷ slots) (o ∷ others) = IsApartBy f s o × AreApart flags slots others
 AreApart _ _ _ = ⊥
 
 -- what is noted of an endless set: the index of its first schedule, and a mask of the slots that are busy
