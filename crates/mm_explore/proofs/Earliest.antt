@@ -1,5 +1,5 @@
 -- Each finding is met by its schedule, and by none before it.
-use Rattle.std.proofs.Common.{◌≡◌, ◌⊎◌, inl, inr, ℕ, ◌<◌, Bool, true, false, List, [], ◌∷◌, ◌++◌, map, zip, length, Option, Some, None, refl, sym, ap, ◌∙◌, subst}
+use Rattle.std.proofs.Common.{◌≡◌, ◌⊎◌, inl, inr, ℕ, ◌<◌, Bool, true, false, List, [], ◌∷◌, ◌++◌, map, zip, length, Option, Some, None, refl, sym, ap, ◌∙◌, subst, arith}
 use Rattle.std.proofs.lemmas.List.{length-map, Elements.{Contains-append_cases, Contains-append_left, Contains-append_right}}
 use Rattle.std.specs.{Prelude.Contains, List.flat_map}
 use Rattle.mm_word.specs.Cause.{cause_numbers}
@@ -16,7 +16,7 @@ use Rattle.mm_explore.specs.{Laws.{MeetsFault, MeetsOutcome, IsFirst, FindingsAr
 use Rattle.mm_explore.specs.Outcomes.{Outcome, End, IsEnding, IsOutcome, SelectsEndless, firsts, count_of}
 use Rattle.mm_explore.specs.Results.{Results, FaultFound, OutcomeFound}
 use Rattle.mm_explore.proofs.Orders.{before_self, before_up_to, up_to_before, before_front, up_to_both, before_both}
-use Rattle.mm_explore.proofs.Orders.{before_items}
+use Rattle.mm_explore.proofs.Orders.{before_items, before_through}
 use Rattle.mm_span.proofs.Members.{none_in, in_cases, all_at, all_of, map_in, in_map, flat_in, pairs_both, pairs_map, first_found, found_in}
 use Rattle.mm_explore.proofs.{Movings.runs_rise, Coverings.{covers, alike}, FoundOnRuns.{faulting_moves, explores}}
 use Rattle.mm_explore.proofs.Finals.{Stands, firsts_inside, first_stands}
@@ -104,9 +104,9 @@ pairs_of_map R f [] h = tt
 pairs_of_map R f (x ∷ xs) h = (all_of (λ y. R (f x) (f y)) xs (λ y inside. all_at (R (f x)) (map f xs) (f y) h.0 (in_map f xs y inside)), pairs_of_map R f xs h.1)
 
 ending_final : (i : Image) (t : List ℕ) (e : Ending) → IsEnding i t e → (e ≡ Endless → ⊥) → IsFinal i t
-ending_final i t Ended none no = no_moves_final i t none
-ending_final i t Stuck h no = h.0
-ending_final i t Endless h no = absurd (no refl)
+ending_final i t Ended none other = no_moves_final i t none
+ending_final i t Stuck h other = h.0
+ending_final i t Endless h other = absurd (other refl)
 
 ending_turns : (i : Image) (t : List ℕ) (e : Ending) → IsEnding i t e → e ≡ Endless → IsEndless i t
 ending_turns i t e h is = subst (IsEnding i t) is h
@@ -117,9 +117,9 @@ ending_or Stuck = inr (λ e. cc)
 ending_or Endless = inl refl
 
 -- a schedule leads into a closed set with this outcome
-record Leads (i : Image) (o : Outcome) (s : List ℕ) : Type 0 where
-  closed : IsAtEnd i s
-  is : IsOutcome i s o
+pub record LeadsInto (i : Image) (o : Outcome) (s : List ℕ) : Type 0 where
+  pub closed : IsAtEnd i s
+  pub is : IsOutcome i s o
 
 module _ (i : Image) (limit : ℕ) (e : Results) (img : IsImage i) (k : Finds i limit e) where
   abbrev told : List (List ℕ)
@@ -156,20 +156,20 @@ module _ (i : Image) (limit : ℕ) (e : Results) (img : IsImage i) (k : Finds i 
     abbrev t : List ℕ
     t = x.schedule
 
-    inside : Contains k.ends x
-    inside = firsts_inside k.ends x first
+    end_inside : Contains k.ends x
+    end_inside = firsts_inside k.ends x first
 
-    is : IsOutcome i t x.outcome
-    is = all_at (λ (y : End). IsOutcome i y.schedule y.outcome) k.ends x k.are.are.outcomes inside
+    has : IsOutcome i t x.outcome
+    has = all_at (λ (y : End). IsOutcome i y.schedule y.outcome) k.ends x k.are.are.outcomes end_inside
 
     among : Contains k.are.finals t ⊎ Contains k.are.firsts t
-    among = Contains-append_cases k.are.finals k.are.firsts t (subst (λ l. Contains l t) k.are.are.schedules (in_map (λ (y : End). y.schedule) k.ends x inside))
+    among = Contains-append_cases k.are.finals k.are.firsts t (subst (λ l. Contains l t) k.are.are.schedules (in_map (λ (y : End). y.schedule) k.ends x end_inside))
 
-    met : Leads i x.outcome t
-    met = record { closed = elim among [ inl f ↦ (finals_are_closed i t (final_in t f).1).closed | inr f ↦ (turns_in t f).endless.0 ]; is = is }
+    met : LeadsInto i x.outcome t
+    met = record { closed = elim among [ inl f ↦ (finals_are_closed i t (final_in t f).1).closed | inr f ↦ (turns_in t f).endless.0 ]; is = has }
 
-    none_before : (u : List ℕ) → Before u t → Leads i x.outcome u → ⊥
-    none_before u before leads = elim (ending_or x.outcome.ending) [
+    none_sooner : (u : List ℕ) → Before u t → LeadsInto i x.outcome u → ⊥
+    none_sooner u before leads = elim (ending_or x.outcome.ending) [
       | inr final ↦ final_case final
       | inl turns ↦ turns_case turns
     ]
@@ -192,9 +192,9 @@ module _ (i : Image) (limit : ℕ) (e : Results) (img : IsImage i) (k : Finds i 
             ]
 
         final_case : (x.outcome.ending ≡ Endless → ⊥) → ⊥
-        final_case no =
-            let final_t = ending_final i t x.outcome.ending is.ending no in
-            let final_u = ending_final i u x.outcome.ending leads.is.ending no in
+        final_case other =
+            let final_t = ending_final i t x.outcome.ending has.ending other in
+            let final_u = ending_final i u x.outcome.ending leads.is.ending other in
             let place : Contains k.list t = elim among [ inl f ↦ (final_in t f).0 | inr f ↦ absurd ((turns_in t f).endless.1 final_t) ] in
             covers i limit k.list k.explored t place u (inr before) (λ c.
                 let final_c = final_like i u c.by (sym c.same) final_u in
@@ -203,7 +203,7 @@ module _ (i : Image) (limit : ℕ) (e : Results) (img : IsImage i) (k : Finds i 
 
         turns_case : x.outcome.ending ≡ Endless → ⊥
         turns_case turns =
-            let endless_t = ending_turns i t x.outcome.ending is.ending turns in
+            let endless_t = ending_turns i t x.outcome.ending has.ending turns in
             let endless_u = ending_turns i u x.outcome.ending leads.is.ending turns in
             let full : Contains k.are.firsts t = elim among [ inl f ↦ absurd (endless_t.1 (final_in t f).1) | inr f ↦ f ] in
             by e.all refl k.are.endless full endless_t endless_u
@@ -215,8 +215,8 @@ module _ (i : Image) (limit : ℕ) (e : Results) (img : IsImage i) (k : Finds i 
                 clash f.first (Contains-append_right k.are.finals k.are.firsts f.first (selected (IsFirstEndless i) k.list k.are.firsts selects f.first f.inside f.is))
                 f.on f.early (inr (endless_t, f.is.endless))
 
-    pub outcome_first : IsFirst (Leads i x.outcome) t
-    outcome_first = record { met = met; first = none_before }
+    pub outcome_first : IsFirst (LeadsInto i x.outcome) t
+    outcome_first = record { met = met; first = none_sooner }
 
 -- 4. What is told of an outcome is the outcome.
 
@@ -226,10 +226,11 @@ zips_tell [] (y ∷ a) b la lb e = cc
 zips_tell [] [] (y ∷ b) la lb e = cc
 zips_tell (x ∷ xs) [] b la lb e = cc
 zips_tell (x ∷ xs) (y ∷ a) [] la lb e = cc
-zips_tell (x ∷ xs) (y ∷ a) (z ∷ b) la lb e =
-    let head : y ≡ z = cc in
+zips_tell {X = X} {Y = Y} (x ∷ xs) (y ∷ a) (z ∷ b) la lb e =
+    let pair : ◌≡◌ {A = X × Y} (x, y) (x, z) = cc in
+    let head : y ≡ z = ap (λ (p : X × Y). p.1) pair in
     let tail : zip xs a ≡ zip xs b = cc in
-    let rest = zips_tell xs a b (let l : length a ≡ length xs = cc in l) (let l : length b ≡ length xs = cc in l) tail in
+    let rest = zips_tell xs a b (omega (arith, la)) (omega (arith, lb)) tail in
     λ j. head j ∷ rest j
 
 outputs_back : (a b : List (ℕ × List ℕ)) → map as_output a ≡ map as_output b → a ≡ b

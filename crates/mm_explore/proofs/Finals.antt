@@ -23,7 +23,7 @@ ending_back Ended = refl
 ending_back Stuck = refl
 ending_back Endless = refl
 
-abbrev standing_at : ℕ → Standing
+abbrev pub standing_at : ℕ → Standing
 standing_at zero = Busy
 standing_at (suc n) = In (state_at n)
 

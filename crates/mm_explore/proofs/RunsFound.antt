@@ -49,7 +49,7 @@ group_found i list (x ∷ groups) (y ∷ gs) h g inside = elim (in_cases x group
 ]
 
 fault_in : (slot cause : ℕ) (o : Option Extension) → IsSome o → (f : FaultFound) × Contains (fault_of slot cause o) f × (f.slot ≡ slot) × (f.cause ≡ cause)
-fault_in slot cause None h = absurd h
+fault_in slot cause None h = cc
 fault_in slot cause (Some x) h =
     let f : FaultFound = record { slot = slot; cause = cause; by = extended x } in
     (f, in_first f [], refl, refl)

@@ -24,7 +24,7 @@ use Rattle.mm_explore.proofs.KeptRuns.{runs_state_of}
 -- a turn without an access and without a fault, or one that is about a slot
 data AboutTurn (core : Core) (t : Turned) : Type 0 where
   quiet : touches t.step ≡ [] → ((slot cause : ℕ) → has_fault slot cause t.step ≡ true → ⊥) → AboutTurn core t
-  about : (x : Slot) → slot_at core x.number ≡ Some x → t.step.slot ≡ x.number → AboutTurn core t
+  of_slot : (x : Slot) → slot_at core x.number ≡ Some x → t.step.slot ≡ x.number → AboutTurn core t
 
 no_fault : (a : Bool) → (a && false) ≡ true → ⊥
 no_fault true e = cc
@@ -60,7 +60,7 @@ module _ (core : Core) (m : Memory) where
   by_port n (Some x) = arrives_quiet x x.pending
 
   by_state : (n : ℕ) (x : Slot) → x.number ≡ n → slot_at core n ≡ Some x → (b : Bool) → AboutTurn core (if b then started core m x else idle core m n)
-  by_state n x number at true = AboutTurn.about x (ap (slot_at core) number ∙ at) (started_slot x)
+  by_state n x number at true = AboutTurn.of_slot x (ap (slot_at core) number ∙ at) (started_slot x)
   by_state n x number at false = idle_quiet n
 
   by_slot : (n : ℕ) (o : Option Slot) → slot_at core n ≡ o → AboutTurn core (taken_by core m n o)
@@ -74,11 +74,11 @@ module _ (core : Core) (m : Memory) where
 -- 2. Slots of the image.
 
 -- a slot of the image has the number and the group
-record IsIn (i : Image) (number group : ℕ) : Type 0 where
+record IsIn (i : Image) (n g : ℕ) : Type 0 where
   slot : Slot
   inside : Contains i.slots slot
-  number : slot.number ≡ number
-  group : slot.group ≡ group
+  number : slot.number ≡ n
+  group : slot.group ≡ g
 
 row_in_rows : (rows : List ThreadRow) (n : ℕ) (x : Slot) → slot_of (row_in rows n) ≡ Some x → Contains (map (λ (row : ThreadRow). row.slot) rows) x
 row_in_rows [] n x e = cc
@@ -164,21 +164,21 @@ module _ (i : Image) (img : IsImage i) (s : List ℕ) (n : ℕ) where
     where
       by : AboutTurn there.core (turn_of there n) → Contains (groups_of (start i).core) (group_in (turn_of there n))
       by (AboutTurn.quiet none fault) = absurd (none_in a (subst (λ l. Contains l a) none made))
-      by (AboutTurn.about x at about) = subst (Contains (groups_of (start i).core)) (sym (group_about x at about)) (group_there i img x.number x.group (known x at))
+      by (AboutTurn.of_slot x at about) = subst (Contains (groups_of (start i).core)) (sym (group_about x at about)) (group_there i img x.number x.group (known x at))
 
   -- where the fault of a slot is told
-  pub record Faulter (number cause : ℕ) : Type 0 where
+  pub record Faulter (k c : ℕ) : Type 0 where
     pub slot : Slot
     pub inside : Contains i.slots slot
-    pub number : slot.number ≡ number
-    pub cause : Contains cause_numbers cause
+    pub number : slot.number ≡ k
+    pub cause : Contains cause_numbers c
 
   pub faulter_inside : (slot cause : ℕ) → has_fault slot cause (turn_of there n).step ≡ true → Faulter slot cause
   faulter_inside slot cause fault = by (about_turn there.core there.memory n)
     where
       by : AboutTurn there.core (turn_of there n) → Faulter slot cause
       by (AboutTurn.quiet none never) = absurd (never slot cause fault)
-      by (AboutTurn.about x at about) =
+      by (AboutTurn.of_slot x at about) =
           let parts = and_parts ((turn_of there n).step.slot == slot) (fails_by cause (turn_of there n).step.tick) fault in
           let in_image = known x at in
           record {

@@ -1,4 +1,4 @@
-use Rattle.std.proofs.{Common.{◌≡◌, ℕ, Bool, List, zero, suc, refl, ◌∙◌, map, length, sym, ap, cc}, lemmas.List.length-map}
+use Rattle.std.proofs.Common.{◌≡◌, List, ◌∙◌, map, length, sym, ap}
 use Rattle.mm_model.specs.{Flags.flags, Slot.Slot}
 use Rattle.mm_thread.specs.Output.{Output}
 use Rattle.mm_explore.specs.Noting.{standings_of, outcome_held}

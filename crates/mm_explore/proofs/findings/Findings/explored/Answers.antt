@@ -1,7 +1,7 @@
 use Rattle.std.proofs.Common.{◌++◌, ◌∙◌, refl, sym, ap, subst}
 use Rattle.std.specs.{List.{AllZip, flat_map}, BTreeMap.get}
 use Rattle.mm_word.specs.Cause.{cause_numbers}
-use Rattle.mm_model.specs.Slot.{Slot}
+use Rattle.mm_model.specs.{Image.start, Report.groups_of, Slot.Slot}
 use Rattle.mm_explore.specs.{Findings.explored_turns, Finds.{IsGroupOf, outcomes_of, outcome_found}, Noting.{first_in, fault_kept}}
 use Rattle.mm_explore.specs.{Outcomes.{firsts, count_of}, Words.order}
 use Rattle.mm_explore.proofs.AllFound.{groups_found, faults_found, origin_inside, outcomes_are}
@@ -31,7 +31,7 @@ returns c = λ limit ends explored is_all is_more noted are.
       count = c.len.ensures.count;
       all = is_all;
       more = is_more;
-      groups = subst (λ l. AllZip (IsGroupOf i list) l _) c.requires.groups (subst (AllZip (IsGroupOf i list) c.args.groups.now) (sym found_are) groups);
+      groups = subst (AllZip (IsGroupOf i list) (groups_of (start i).core)) (sym found_are) (subst (λ l. AllZip (IsGroupOf i list) l gs) c.requires.groups groups);
       faults =
           c.in_ok-list_faults.ensures
           ∙ ap (λ l. l ++ flat_map (λ (s : Slot). flat_map (λ cause. fault_kept list s.number cause (get order f.faults (s.number, cause))) cause_numbers) c.slots.result.now) c.new-faults.ensures.items
