@@ -19,7 +19,7 @@ use Rattle.mm_explore.specs.Benches.{IsAtConfiguration, ArePartsAt, parts_held}
 use Rattle.mm_explore.specs.{Configurations.{uncounted_slot, moves}, Explored.{leads_to, IsLeast, IsExplored, IsAll}, Schedules.Before}
 use Rattle.mm_explore.specs.Findings.{Extension, extended, extensions, explored_turns, IsFinal, are_none}
 use Rattle.mm_explore.specs.{FoundLists.{FoundList, led_by, Holds, Looks}, Kept.{Parts, parts_of, parts_from, kept}}
-use Rattle.mm_explore.specs.{MoveLists.moves_in, Noting.Noted}
+use Rattle.mm_explore.specs.{MoveLists.moves_in, Noting.{Noted, AreNoted}}
 use Rattle.mm_explore.specs.Searching.{GoesOn, IsFull, IsChild, IsGraph, Ended, HasCome, IsBefore, IsWithin, node_schedule, turns_before}
 use Rattle.mm_explore.specs.Searching.{turns_from, StaysBy, AllStay, index_of, Met}
 use Rattle.mm_explore.specs.declared.parts.Parts as code
@@ -602,6 +602,10 @@ module _ (i : Image) (s : Search) (node : Node) (w : IsWithin i s node (length n
   }
 
 -- 8. The start and the end.
+
+-- no end was noted
+pub ended_begins : (i : Image) (list : List (List ℕ)) (f : Findings) → AreNoted i list [] f → Ended i list [] f
+ended_begins i list f h = record { finals = []; are = refl; ends = []; of = record { schedules = refl; outcomes = tt }; noted = h }
 
 pub begins : (i : Image) (img : IsImage i) (limit : ℕ) → 1 ≤ limit → limit ≤ state_limit → (numbers : List ℕ) → numbers ≡ kept i (run (start i) [])
     → (s : Search) → s.found ≡ record { list = [] ∷ []; forms = numbers ∷ []; limit = limit } → s.all ≡ true
