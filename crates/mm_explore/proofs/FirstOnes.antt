@@ -12,7 +12,7 @@ use Rattle.mm_explore.proofs.{ClosedSets.{all_alike, on_same, on_trans, end_led,
 use Rattle.mm_explore.proofs.Turning.{at, node, graph, nodes, node_inside, leads_node, walk_on, follow, same_least}
 
 -- schedules that ascend are at one index each
-index_one : (ts : List (List ℕ)) → EachPair Before ts → (a b : ℕ) → a < length ts → b < length ts → slice_index_or ts a [] ≡ slice_index_or ts b [] → a ≡ b
+pub index_one : (ts : List (List ℕ)) → EachPair Before ts → (a b : ℕ) → a < length ts → b < length ts → slice_index_or ts a [] ≡ slice_index_or ts b [] → a ≡ b
 index_one [] up a b la lb e = absurd (omega (arith, la))
 index_one (t ∷ ts) up zero zero la lb e = refl
 index_one (t ∷ ts) up zero (suc b) la lb e =

@@ -1,5 +1,5 @@
 -- One more turn of a search.
-use Rattle.std.proofs.Common.{◌≡◌, ℕ, zero, suc, ◌+◌, ◌^◌, ◌<◌, ◌≤◌, Bool, true, false, ◌&&◌, Vec, Global, List, []}
+use Rattle.std.proofs.Common.{◌≡◌, inl, inr, ℕ, zero, suc, ◌+◌, ◌^◌, ◌<◌, ◌≤◌, Bool, true, false, ◌&&◌, Vec, Global, List, []}
 use Rattle.std.proofs.Common.{◌∷◌, ◌++◌, map, length, take, drop, slice_index_or, Option, None, refl, sym, ap, ◌∙◌, subst, arith, eqb-true, eq-eqb}
 use Rattle.std.proofs.{Common.{append_assoc, append-nil, length-append}, Math.Dec.eqb-suc-zero, lemmas.{Bool.both_ways, List.length-map, Option.slice_get_within}}
 use Rattle.std.specs.Prelude.{◌==◌, Contains, Some, slice_get, Result, Ok, Err, IfOk, OnOk}
@@ -329,8 +329,8 @@ pub record IsListed (i : Image) (list : List (List ℕ)) : Type 0 where
   pub least : AllByRecursion (IsLeast i) list
 
 pub listed : (i : Image) (all : Bool) (limit : ℕ) (list : List (List ℕ)) (done left : List Extension) → GoesOn all i limit list done left → IsListed i list
-listed i true limit list done left o = record { in_order = o.in_order; least = o.least }
-listed i false limit list done left h = record { in_order = h.searched.explored.in_order; least = h.searched.explored.least }
+listed i true limit list was coming o = record { in_order = o.in_order; least = o.least }
+listed i false limit list was coming h = record { in_order = h.searched.explored.in_order; least = h.searched.explored.least }
 
 -- schedules of the list that lead to one configuration are at one index
 one_index : (i : Image) (list : List (List ℕ)) → IsListed i list → (a b : ℕ) (s t : List ℕ) → slice_get list a ≡ Some s → slice_get list b ≡ Some t → leads_to i s ≡ leads_to i t → a ≡ b
@@ -350,14 +350,14 @@ module _ (i : Image) (img : IsImage i) (s : Search) (at : ℕ) (inside : at < le
   abbrev t : List ℕ
   t = slice_index_or s.found.list at []
 
-  here : slice_get s.found.list at ≡ Some t
-  here = get_inside s.found.list at [] inside
+  at_here : slice_get s.found.list at ≡ Some t
+  at_here = get_inside s.found.list at [] inside
 
   kept_there : (m : ℕ) → leads_to i (t ++ m ∷ []) ≡ leads_to i t → Contains s.found.forms (kept i (run (start i) (t ++ m ∷ [])))
   kept_there m e =
       let form : List ℕ → List ℕ = λ u. kept i (run (start i) u) in
       subst (λ l. Contains l (form (t ++ m ∷ []))) (sym held)
-      (subst (Contains (map form s.found.list)) (kept_alike i (run (start i) t) (run (start i) (t ++ m ∷ [])) (sym e)) (in_map form s.found.list t (get_in s.found.list at t here)))
+      (subst (Contains (map form s.found.list)) (kept_alike i (run (start i) t) (run (start i) (t ++ m ∷ [])) (sym e)) (in_map form s.found.list t (get_in s.found.list at t at_here)))
 
   stays_so : (looked : Looked) (m : ℕ) (o : Origin) (now : FoundList) → Looks looked (kept i (run (start i) (t ++ m ∷ []))) o s.found now → StaysBy (leads_back at (index_of looked s.found)) i t m
   stays_so (Known c) m o now h = by (c == at) refl
@@ -371,11 +371,11 @@ module _ (i : Image) (img : IsImage i) (s : Search) (at : ℕ) (inside : at < le
       by : (b : Bool) → (c == at) ≡ b → StaysBy b i t m
       by true e =
           let same = eqb-true c at e in
-          let two : Some form.schedule ≡ Some t = sym form.at ∙ ap (slice_get s.found.list) same ∙ here in
+          let two : Some form.schedule ≡ Some t = sym form.at ∙ ap (slice_get s.found.list) same ∙ at_here in
           let is : form.schedule ≡ t = cc in
           sym leads ∙ ap (leads_to i) is
       by false e = λ back.
-          let same = one_index i s.found.list k c at form.schedule t form.at here (leads ∙ back) in
+          let same = one_index i s.found.list k c at form.schedule t form.at at_here (leads ∙ back) in
           both_ways (c == at) e (eq-eqb c at same)
   stays_so New m o now h = by (length s.found.list == at) refl
     where
@@ -411,7 +411,7 @@ module _ (i : Image) (img : IsImage i) (s : Search) (node : Node) (k : ℕ) (w :
   pub move_inside : Contains (moves (run (start i) (node_schedule s node))) (slice_index_or node.moves.items k 0)
   move_inside = subst (λ l. Contains l (slice_index_or node.moves.items k 0)) w.is.moves (k, move, at_any node.moves.items k 0 (slice_index_or node.moves.items k 0) move)
 
-  module _ (mid : Search) (b : Bench) (f : Findings) (o : Origin) (child : Option ℕ) (all : Bool) (row : Vec ℕ) (from : o.from ≡ node.at) (item : o.item ≡ slice_index_or node.moves.items k 0)
+  module _ (mid : Search) (b : Bench) (f : Findings) (o : Origin) (child : Option ℕ) (all : Bool) (row : Vec ℕ Global) (from : o.from ≡ node.at) (item : o.item ≡ slice_index_or node.moves.items k 0)
       (at : IsAtConfiguration i (extended (node_turn s node k)) b)
       (noted : Noted i s.found.list (turns_before i s.found.list node.at k ++ node_turn s node k ∷ []) f)
       (ended : Ended i s.found.list (take node.at s.found.list) f)
@@ -518,7 +518,7 @@ module _ (i : Image) (s : Search) (node : Node) (k : ℕ) (w : IsWithin i s node
   abbrev pub MetBy : Findings → Option ℕ → Search → Type 0
   MetBy f child mid = (u : List ℕ) → IsAtConfiguration i u b → Met (kept i (run (start i) u)) (record { from = node.at; item = m }) child (record s { bench = b; findings = f }) mid
 
-  pub moved_by : (mid : Search) (f : Findings) (child : Option ℕ) (all : Bool) (row : Vec ℕ)
+  pub moved_by : (mid : Search) (f : Findings) (child : Option ℕ) (all : Bool) (row : Vec ℕ Global)
       → Noted i s.found.list (turns_before i s.found.list node.at k ++ (record { schedule = node_schedule s node; item = m }) ∷ []) f
       → Ended i s.found.list (take node.at s.found.list) f
       → MetBy f child mid → all ≡ all_after s.all child → row.items ≡ child_more s.children.items child → Made i s (record mid { all = all; children = row }) node k

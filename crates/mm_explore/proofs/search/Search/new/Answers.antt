@@ -1,6 +1,6 @@
 use Rattle.std.proofs.Common.{◌≡◌, ℕ, List, [], refl, ap, ◌∙◌, ◌++◌}
 use Rattle.mm_model.specs.{Image.start, Run.run}
-use Rattle.mm_explore.{specs.Kept.kept, proofs.{MoveForms.groups_from, Steps.begins}}
+use Rattle.mm_explore.{specs.Kept.kept, proofs.{MoveForms.groups_from, Steps.{begins, ended_begins}}}
 use Rattle.mm_explore.proofs.search.Search.new.Goals as goal
 
 pub put_numbers-requires-clause-groups : goal.put_numbers-requires-clause-groups
