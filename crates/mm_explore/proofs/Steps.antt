@@ -19,7 +19,7 @@ use Rattle.mm_explore.specs.Benches.{IsAtConfiguration, ArePartsAt, parts_held}
 use Rattle.mm_explore.specs.{Configurations.{uncounted_slot, moves}, Explored.{leads_to, IsLeast, IsExplored, IsAll}, Schedules.Before}
 use Rattle.mm_explore.specs.Findings.{Extension, extended, extensions, explored_turns, IsFinal, are_none}
 use Rattle.mm_explore.specs.{FoundLists.{FoundList, led_by, Holds, Looks}, Kept.{Parts, parts_of, parts_from, kept}}
-use Rattle.mm_explore.specs.{MoveLists.moves_in, Noting.{Noted, AreNoted}}
+use Rattle.mm_explore.specs.{MoveLists.moves_in, Noting.{Noted, AreNoted}, Outcomes.End}
 use Rattle.mm_explore.specs.Searching.{GoesOn, IsFull, IsChild, IsGraph, Ended, HasCome, IsBefore, IsWithin, node_schedule, turns_before}
 use Rattle.mm_explore.specs.Searching.{turns_from, StaysBy, AllStay, index_of, Met}
 use Rattle.mm_explore.specs.declared.parts.Parts as code
@@ -534,6 +534,27 @@ module _ (i : Image) (s : Search) (node : Node) (k : ℕ) (w : IsWithin i s node
       let h = met (extended (node_turn s node k)) at_turn in
       subst (λ c. StaysBy c i (node_schedule s node) (slice_index_or node.moves.items k 0)) (ap (leads_back node.at) (sym h.child) ∙ sym e)
       (stays_so i w.come.image s node.at w.is.inside w.come.held (listed i s.all s.found.limit s.found.list _ _ w.come.goes) h.looked (slice_index_or node.moves.items k 0) _ mid.found h.looks)
+
+  -- what the move leaves, if there was room for where it leads, and if there was none
+  module _ (mid : Search) (f : Findings) (child : Option ℕ)
+      (noted : Noted i s.found.list (turns_before i s.found.list node.at k ++ (record { schedule = node_schedule s node; item = m }) ∷ []) f)
+      (ended : Ended i s.found.list (take node.at s.found.list) f) (met : MetBy f child mid) where
+    looked_up : Met (kept i (run (start i) (extended (node_turn s node k)))) (record { from = node.at; item = m }) child (record s { bench = b; findings = f }) mid
+    looked_up = met (extended (node_turn s node k)) at_turn
+
+    pub made_child : (c : ℕ) → child ≡ Some c → (row : Vec ℕ Global) → row.items ≡ mid.children.items ++ c ∷ [] → Made i s (record mid { children = row }) node k
+    made_child c e row items =
+        moved_by mid f child mid.all row noted ended met (looked_up.all ∙ ap (all_after s.all) (sym e))
+        (items ∙ ap (λ (v : Vec ℕ Global). v.items ++ c ∷ []) looked_up.children ∙ ap (child_more s.children.items) (sym e))
+
+    pub made_none : child ≡ None → Made i s (record mid { all = false }) node k
+    made_none e =
+        moved_by mid f child false mid.children noted ended met (ap (all_after s.all) (sym e))
+        (ap (λ (v : Vec ℕ Global). v.items) looked_up.children ∙ ap (child_more s.children.items) (sym e))
+
+-- the ends that were noted stay noted
+pub ended_as : (i : Image) (list past : List (List ℕ)) (f g : Findings) → ((ends : List End) → AreNoted i list ends f → AreNoted i list ends g) → Ended i list past f → Ended i list past g
+ended_as i list past f g h e = record { finals = e.finals; are = e.are; ends = e.ends; of = e.of; noted = h e.ends e.noted }
 
 -- an item that is read is that of its index
 pub item_is : (xs : List ℕ) (k x : ℕ) → k < length xs → x ≡ slice_index_or xs k x → x ≡ slice_index_or xs k 0

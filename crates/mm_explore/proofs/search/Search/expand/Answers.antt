@@ -1,1 +1,0 @@
-use Rattle.mm_explore.proofs.search.Search.expand.Goals as goal
