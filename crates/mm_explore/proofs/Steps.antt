@@ -12,14 +12,14 @@ use Rattle.mm_span.{specs.Pairs.EachPair, proofs.Members.{in_map, map_in, all_at
 use Rattle.mm_explore.proofs.AllFound.{at_index}
 use Rattle.mm_explore.proofs.{MoveForms.{moves_are, small_numbers}, Notings.{noted_more, ended_more, children_more, graph_more}}
 use Rattle.mm_explore.proofs.Searches.{IsNew, search_begins, search_known, search_new, search_full, search_ends}
-use Rattle.mm_explore.proofs.{FirstOnes.index_one, Orders.before_cases}
+use Rattle.mm_explore.proofs.{FirstOnes.index_one, Orders.before_cases, Selections.select_more}
 use Rattle.mm_explore.specs.declared.found.{Looked.{Looked, TheVariants.{Known, New, Full}}, Origin.Origin}
 use Rattle.mm_explore.specs.declared.{search.{Node.Node, Search.Search}, bench.Bench.Bench, findings.Findings.Findings}
 use Rattle.mm_explore.specs.Benches.{IsAtConfiguration, ArePartsAt, parts_held}
 use Rattle.mm_explore.specs.{Configurations.{uncounted_slot, moves}, Explored.{leads_to, IsLeast, IsExplored, IsAll}, Schedules.Before}
 use Rattle.mm_explore.specs.Findings.{Extension, extended, extensions, explored_turns, IsFinal, are_none}
 use Rattle.mm_explore.specs.{FoundLists.{FoundList, led_by, Holds, Looks}, Kept.{Parts, parts_of, parts_from, kept}}
-use Rattle.mm_explore.specs.{MoveLists.moves_in, Noting.{Noted, AreNoted}, Outcomes.End}
+use Rattle.mm_explore.specs.{MoveLists.moves_in, Noting.{Noted, AreNoted}, Outcomes.{Outcome, End, IsOutcome, Selects}}
 use Rattle.mm_explore.specs.Searching.{GoesOn, IsFull, IsChild, IsGraph, Ended, HasCome, IsBefore, IsWithin, node_schedule, turns_before}
 use Rattle.mm_explore.specs.Searching.{turns_from, StaysBy, AllStay, index_of, Met}
 use Rattle.mm_explore.specs.declared.parts.Parts as code
@@ -555,6 +555,38 @@ module _ (i : Image) (s : Search) (node : Node) (k : ℕ) (w : IsWithin i s node
 -- the ends that were noted stay noted
 pub ended_as : (i : Image) (list past : List (List ℕ)) (f g : Findings) → ((ends : List End) → AreNoted i list ends f → AreNoted i list ends g) → Ended i list past f → Ended i list past g
 ended_as i list past f g h e = record { finals = e.finals; are = e.are; ends = e.ends; of = e.of; noted = h e.ends e.noted }
+
+pub take_few : {X : Type 0} (n : ℕ) (xs : List X) → length (take n xs) ≤ length xs
+take_few zero xs = omega arith
+take_few (suc n) [] = omega arith
+take_few (suc n) (x ∷ xs) = let rest = take_few n xs in omega (arith, rest)
+
+-- there are no more ends than schedules that were gone through
+pub ended_few : (i : Image) (list past : List (List ℕ)) (f : Findings) (e : Ended i list past f) → length e.ends ≤ length past
+ended_few i list past f e =
+    let few = selects_few (IsFinal i) past e.finals e.are in
+    let same = ap length e.of.schedules in
+    let long = length-map e.ends (λ (x : End). x.schedule) in
+    omega (arith, few, same, long)
+  where
+    selects_few : (P : List ℕ → Type 0) (ts some : List (List ℕ)) → Selects P ts some → length some ≤ length ts
+    selects_few P [] some h = let e = ap length h in omega (arith, e)
+    selects_few P (t ∷ ts) some (inl h) = let e = ap length h.1.1 in let rest = selects_few P ts h.1.0 h.1.2 in omega (arith, e, rest)
+    selects_few P (t ∷ ts) some (inr h) = let rest = selects_few P ts some h.1 in omega (arith, rest)
+
+-- one final schedule more was noted
+pub ended_one : (i : Image) (list past : List (List ℕ)) (t : List ℕ) (o : Outcome) (f g : Findings) (e : Ended i list past f) → IsFinal i t → IsOutcome i t o
+    → AreNoted i list (e.ends ++ (record { schedule = t; outcome = o }) ∷ []) g → Ended i list (past ++ t ∷ []) g
+ended_one i list past t o f g e final is noted = record {
+  finals = e.finals ++ t ∷ [];
+  are = select_more (IsFinal i) past e.finals t final e.are;
+  ends = e.ends ++ (record { schedule = t; outcome = o }) ∷ [];
+  of = record {
+    schedules = map_push (λ (x : End). x.schedule) e.ends (record { schedule = t; outcome = o }) ∙ ap (λ l. l ++ t ∷ []) e.of.schedules;
+    outcomes = each_push (λ (x : End). IsOutcome i x.schedule x.outcome) e.ends (record { schedule = t; outcome = o }) e.of.outcomes is;
+  };
+  noted = noted;
+}
 
 -- an item that is read is that of its index
 pub item_is : (xs : List ℕ) (k x : ℕ) → k < length xs → x ≡ slice_index_or xs k x → x ≡ slice_index_or xs k 0

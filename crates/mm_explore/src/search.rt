@@ -1,6 +1,6 @@
 //! The search over all schedules, breadth first.
 
-ghost use Rattle.std.specs.Prelude.{◌≡◌, ℕ, ◌+◌, ◌<◌, ◌≤◌, ◌++◌, [], IfOk, OnOk, length};
+ghost use Rattle.std.specs.Prelude.{◌≡◌, ℕ, ◌+◌, ◌<◌, ◌≤◌, ◌++◌, ◌∷◌, [], IfOk, OnOk, length};
 ghost use Rattle.std.specs.Prelude.{filter, slice_index_or, List, true, false};
 ghost use Rattle.std.specs.List.{AllByRecursion, flat_map, range_with_len};
 ghost use Rattle.mm_model.specs.Groups.{has_group as has_group_of};
@@ -211,9 +211,7 @@ impl Search {
         let node = self.node(alloc, img, at)?;
         self.children.clear();
         let stay = self.make_all(alloc, img, &node)?;
-        if self.all {
-            self.graph.push(&self.children)?;
-        }
+        self.keep_children()?;
         if !stay {
             return Ok(());
         }
@@ -223,6 +221,18 @@ impl Search {
             busy: 0,
         };
         self.findings.note_end(alloc, end, &node.parts)
+    }
+
+    /// Keeps where the moves of a configuration lead, as long as there was room for each configuration that was met.
+    fn keep_children(&mut self) -> Result<(), AllocError>
+        ensures graph { OnOk result (self.old.all ≡ true
+            → self.new.graph ≡ self.old.graph ++ self.old.children.items ∷ []) }
+        ensures rest { self.new ≡ record self.old { graph = self.new.graph } }
+    {
+        if !self.all {
+            return Ok(());
+        }
+        self.graph.push(&self.children)
     }
 
     /// The configuration of an index.
