@@ -5,7 +5,7 @@ ghost use Rattle.std.specs.List.{AllByRecursion};
 ghost use Rattle.mm_endless.specs.Graphs.{AreClosedSets};
 ghost use Rattle.mm_model.specs.Flags.{flags};
 ghost use Rattle.mm_explore.specs.Findings.{explored_turns};
-ghost use Rattle.mm_explore.specs.Outcomes.{slots_at};
+ghost use Rattle.mm_explore.specs.{Noting.Noted, Outcomes.slots_at};
 ghost use Rattle.mm_explore.specs.Searching.{HasCome, HasEnds, AreBusySets, AreSetsSeen, AreApart};
 
 use crate::ends::End;
@@ -44,16 +44,36 @@ fn add(busy: &mut BusySlots, first: u32, slots: u64) -> Result<(), AllocError> {
 }
 
 impl Search {
-    /// Notes the outcome of each endless set, by the first configurations of the sets.
+    /// Notes the outcome of each endless set, if there was room for each configuration that was met.
     pub(crate) fn note_endless(&mut self, alloc: Global, img: &Image) -> Result<(), AllocError>
+        requires { HasCome img.now self.old (explored_turns img.now self.old.found.list) [] self.old.found.list }
+        ensures ends { OnOk result (HasEnds img.now self.new) }
+        ensures noted { OnOk result (Noted img.now self.old.found.list (explored_turns img.now self.old.found.list)
+            self.new.findings) }
+        ensures rest { self.new ≡ record self.old { findings = self.new.findings } }
+    {
+        if !self.all {
+            return Ok(());
+        }
+        let busy = self.busy_slots(alloc, img)?;
+        self.note_sets(alloc, img, &busy)
+    }
+
+    /// Notes the outcome of each of these endless sets.
+    fn note_sets(
+        &mut self,
+        alloc: Global,
+        img: &Image,
+        busy: &BusySlots,
+    ) -> Result<(), AllocError>
         requires come { HasCome img.now self.old (explored_turns img.now self.old.found.list) [] self.old.found.list }
         requires all { IsTrue self.old.all }
+        requires sets { AreBusySets img.now self.old.found.list busy.now.entries }
         ensures ends { OnOk result (HasEnds img.now self.new) }
-        ensures found { OnOk result (self.new.found ≡ self.old.found) }
-        ensures groups { OnOk result (self.new.groups ≡ self.old.groups) }
-        ensures all { OnOk result (IsTrue self.new.all) }
+        ensures noted { OnOk result (Noted img.now self.old.found.list (explored_turns img.now self.old.found.list)
+            self.new.findings) }
+        ensures rest { self.new ≡ record self.old { findings = self.new.findings } }
     {
-        let busy = self.busy_slots(alloc, img)?;
         for (at, slots) in busy.iter() {
             let parts = take_parts(alloc, img, &self.groups, self.found.numbers(*at as usize))?;
             let end = End {

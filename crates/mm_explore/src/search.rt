@@ -138,7 +138,7 @@ pub(crate) struct Search {
     /// Where those of the configuration lead whose moves are made.
     children: Vec<u32>,
     /// Whether there was room for each configuration that was met.
-    all: bool,
+    pub(crate) all: bool,
 }
 
 /// Looks at every schedule of an image's machine, up to `states` configurations.
@@ -150,9 +150,7 @@ pub fn explore(alloc: Global, img: &Image, states: u32) -> Result<Explored, NoMe
     let bench = Bench::new(alloc, img)?;
     let mut search = Search::new(alloc, img, states, bench)?;
     search.run(alloc, img)?;
-    if search.all {
-        search.note_endless(alloc, img)?;
-    }
+    search.note_endless(alloc, img)?;
     Ok(
         search
             .findings
