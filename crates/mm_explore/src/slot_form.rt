@@ -10,7 +10,7 @@ ghost use Rattle.mm_model.specs.declared.slot.Pending.{Pending as PendingValue};
 ghost use Rattle.mm_model.specs.Flags.{flags, number_of_flags};
 ghost use Rattle.mm_model.specs.Report.{same_bit};
 ghost use Rattle.mm_explore.specs.Configurations.{are_some};
-ghost use Rattle.mm_explore.specs.Findings.{state_number as state_number_of, same_state};
+ghost use Rattle.mm_explore.specs.Outcomes.{state_number as state_number_of, same_state};
 ghost use Rattle.mm_explore.specs.Kept.{is_base as is_base_of};
 ghost use Rattle.mm_explore.specs.Kept.{state_at as state_at_of, word_of as word_of_bits};
 ghost use Rattle.mm_explore.specs.Kept.{ip_of as ip_of_bits, word_form, word_from, changed_flags, changed_bits};
@@ -252,7 +252,7 @@ fn masks_of(base: &Slot, slot: &Slot) -> u64
 }
 
 /// Whether two states are equal, with the same cause if they are faults.
-fn is_same_state(a: SlotState, b: SlotState) -> bool
+pub(crate) fn is_same_state(a: SlotState, b: SlotState) -> bool
     ensures { result ≡ same_state a b }
 {
     state_number(a) == state_number(b)
@@ -282,7 +282,7 @@ pub(crate) fn has_loads(slot: &Slot) -> bool
 
 /// Whether a slot has a register whose word is not that of the base.
 #[tactic(auto, using(crate::proofs::Putting::any_set))]
-fn has_changed(base: &Slot, slot: &Slot) -> bool
+pub(crate) fn has_changed(base: &Slot, slot: &Slot) -> bool
     ensures { result ≡ list_any (λ b. b) (changed_flags base.now.regs slot.now.regs) }
 {
     changed_mask(&base.regs, &slot.regs) != 0
