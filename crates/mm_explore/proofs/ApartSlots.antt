@@ -1,16 +1,14 @@
 -- The slots that are read of a run's numbers, and which slots of two runs are not the same.
-use Rattle.std.proofs.Common.{◌≡◌, ℕ, suc, ◌+◌, ◌*◌, ◌≤◌, Bool, true, false, nat_eq, List, [], ◌∷◌, ◌++◌, map, length, get_or}
+use Rattle.std.proofs.Common.{◌≡◌, ℕ, suc, ◌≤◌, Bool, true, false, nat_eq, List, [], ◌∷◌, ◌++◌, map, length}
 use Rattle.std.proofs.Common.{refl, sym, ap, ◌∙◌, subst, arith}
 use Rattle.std.specs.Prelude.{not}
-use mir.Val.{bool_byte}
-use Rattle.mm_mem.proofs.PackedCells.{byte_of_bool}
 use Rattle.std.proofs.lemmas.{Bool.both_ways, List.length-map}
 use lib.Pointwise.{pointwise, pointwise_decides}
 use Rattle.mm_model.proofs.CoreRows.{slot_limit-few}
-use Rattle.mm_model.specs.{Fits.{slots_of, identity_of}, Flags.{one_if, flags, number_of_flags}, Image.{Image, start}, Run.run, Slot.Slot, Spelling.IsImage}
+use Rattle.mm_model.specs.{Fits.{slots_of, identity_of}, Flags.{flags, number_of_flags}, Image.{Image, start}, Run.run, Slot.Slot, Spelling.IsImage}
 use Rattle.mm_explore.specs.{Configurations.uncounted_slot, Outcomes.slots_at, Searching.{IsApartBy, AreApart, apart_flags}}
 use Rattle.mm_explore.specs.Kept.{Parts, slot_form, slot_from, slots_from, parts_of, parts_from, parts_with_slots, parts_with_events, parts_with_outputs, parts_with_pages, kept}
-use Rattle.mm_explore.proofs.{Finals.numbers_decide, HeldEnds.slots_bare, Keepables.{can_keep, parts_again}, KeptRuns.runs_state_of, Putting.{behind_first, rest_is}, WordForms.flags_of}
+use Rattle.mm_explore.proofs.{Finals.numbers_decide, HeldEnds.slots_bare, Keepables.{can_keep, parts_again}, KeptRuns.runs_state_of, WordForms.flags_of}
 use Rattle.mm_explore.proofs.SlotForms.{IsKeepable, AreKeepable, slot_read}
 
 -- 1. Two slots.
@@ -94,18 +92,3 @@ apart_at i img t u mask is =
     let long = apart_long i.slots (slots_at i t) (slots_at i u) (slots_count i img t) (slots_count i img u) ∙ sym (slots_count i img t) in
     subst (λ l. AreApart l (slots_at i t) (slots_at i u)) (sym (ap (flags (length (slots_at i t))) is ∙ flags_of (length (slots_at i t)) fs long))
     (apart_all i.slots (slots_at i t) (slots_at i u) (keepable_at i img t) (keepable_at i img u) (bare_at i img t) (bare_at i img u))
-
--- 4. A mask, slot by slot.
-
-pub apart_got : (base slots others : List Slot) (b s o : Slot) (same : Bool) (later : ℕ) → 1 ≤ length base → 1 ≤ length slots → 1 ≤ length others
-    → b ≡ get_or base 0 b → s ≡ get_or slots 0 s → o ≡ get_or others 0 o → same ≡ pointwise nat_eq (slot_form b s) (slot_form b o)
-    → later ≡ number_of_flags (apart_flags (behind_first base) (behind_first slots) (behind_first others))
-    → bool_byte (not same) + 2 * later ≡ number_of_flags (apart_flags base slots others)
-apart_got [] slots others b s o same later lb ls lo fb fs fo is rest = absurd (omega (arith, lb))
-apart_got (x ∷ base) [] others b s o same later lb ls lo fb fs fo is rest = absurd (omega (arith, ls))
-apart_got (x ∷ base) (y ∷ slots) [] b s o same later lb ls lo fb fs fo is rest = absurd (omega (arith, lo))
-apart_got (x ∷ base) (y ∷ slots) (z ∷ others) b s o same later lb ls lo fb fs fo is rest =
-    let tail : later ≡ number_of_flags (apart_flags base slots others) = rest ∙ (λ j. number_of_flags (apart_flags (rest_is x base j) (rest_is y slots j) (rest_is z others j))) in
-    let head : bool_byte (not same) ≡ one_if (not (pointwise nat_eq (slot_form x y) (slot_form x z))) =
-    byte_of_bool (not same) ∙ ap (λ t. one_if (not t)) (is ∙ (λ j. pointwise nat_eq (slot_form (fb j) (fs j)) (slot_form (fb j) (fo j)))) in
-    λ j. head j + 2 * tail j

@@ -79,10 +79,10 @@ pub more_ok : {T E P Q : Type 0} → (r : Result T E) → (P → Q) → OnOk r P
 more_ok (Ok t) f h = f h
 more_ok (Err e) f h = h
 
-abbrev pub behind_first : List Slot → List Slot
+abbrev behind_first : List Slot → List Slot
 behind_first base = take (length base - 1) (drop 1 base)
 
-pub rest_is : (b : Slot) (base : List Slot) → behind_first (b ∷ base) ≡ base
+rest_is : (b : Slot) (base : List Slot) → behind_first (b ∷ base) ≡ base
 rest_is b base = let less : length (b ∷ base) - 1 ≡ length base = omega arith in ap (λ n. take n base) less ∙ take-length base
 
 module _ (slots : List Slot) (at : ℕ) (s : Slot) (got : slice_get slots at ≡ Some s) where

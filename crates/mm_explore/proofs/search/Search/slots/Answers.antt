@@ -1,7 +1,7 @@
 use Rattle.std.proofs.Common.{[], ◌++◌, List, ap, ◌∙◌, slice_index_or}
 use Rattle.mm_model.specs.Slot.{Slot}
 use Rattle.mm_explore.{specs.Kept.slots_from, proofs.{ApartSlots.slots_read_at, Steps.numbers_at}}
-use Rattle.mm_explore.proofs.endless.Search.slots.Goals as goal
+use Rattle.mm_explore.proofs.search.Search.slots.Goals as goal
 
 pub returns : goal.returns
 returns c =

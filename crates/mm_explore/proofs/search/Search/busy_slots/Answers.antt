@@ -1,6 +1,6 @@
 use Rattle.std.proofs.Common.{true, length}
 use Rattle.mm_explore.proofs.{BusySets.{nodes, few, children_few, sets_busy, none_seen}, Steps.searched}
-use Rattle.mm_explore.proofs.endless.Search.busy_slots.Goals as goal
+use Rattle.mm_explore.proofs.search.Search.busy_slots.Goals as goal
 
 pub closed_sets-requires-clause-nodes : goal.closed_sets-requires-clause-nodes
 closed_sets-requires-clause-nodes c = nodes c.args.img.now c.args.self.now c.requires.come c.requires.all
@@ -19,4 +19,4 @@ returns c =
     let i = c.args.img.now in
     let s = c.args.self.now in
     let all = (searched i c.requires.come.image s c.requires.come).1 c.requires.all in
-    sets_busy i s.found.list all c.loop-at.at ? c.loop-at.busy.entries c.loop-at.invariant
+    sets_busy i s.found.list all c.loop-at.at (?) c.loop-at.busy.entries c.loop-at.invariant

@@ -1,7 +1,7 @@
 use Rattle.std.proofs.Common.{◌≡◌}
 use Rattle.mm_explore.specs.{Findings.explored_turns, Noting.Noted}
 use Rattle.mm_explore.proofs.NotingSets.{SetsLeft}
-use Rattle.mm_explore.proofs.endless.Search.note_sets.Given as goal
+use Rattle.mm_explore.proofs.search.Search.note_sets.Given as goal
 
 -- the ends so far were noted, and nothing else of the search is new
 abbrev pub invariant-loop-at : goal.invariant-loop-at
