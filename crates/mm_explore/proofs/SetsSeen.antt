@@ -233,30 +233,31 @@ module _ (i : Image) (limit : ℕ) (list : List (List ℕ)) (k : IsExplored i li
           → AllZip SeenNext firsts (insert_entry nat_eq es f (bit_or (unwrap_or (lookup (nat_eq f) es) 0) mask))
       again [] es are up there z = absurd (none_in at_first there)
       again (u ∷ firsts) [] are up there z = absurd z
-      again (u ∷ firsts) (e ∷ es) are up there z = by (nat_eq f e.0) refl
+      again (u ∷ firsts) (e ∷ es) are up there z =
+          by (λ later. again firsts es (λ w inside. are w (in_rest u firsts w inside)) up.1 later z.1) (nat_eq f e.0) refl
         where
           at : slice_index_or list e.0 [] ≡ u
           at = at_index list e.0 u [] z.0.at
 
-          by : (b : Bool) → nat_eq f e.0 ≡ b
+          one : (n : ℕ) → slice_index_or list n [] ≡ at_first → n < length list → n ≡ f
+          one n same inside = index_one list k.in_order n f inside (omega (arith, low, lt)) same
+
+          by : (Contains firsts at_first → AllZip SeenNext firsts (insert_entry nat_eq es f (bit_or (unwrap_or (lookup (nat_eq f) es) 0) mask)))
+              → (b : Bool) → nat_eq f e.0 ≡ b
               → AllZip SeenNext (u ∷ firsts) (if b then (e.0, bit_or (unwrap_or (cond b (Some e.1) (lookup (nat_eq f) es)) 0) mask) ∷ es
               else e ∷ insert_entry nat_eq es f (bit_or (unwrap_or (cond b (Some e.1) (lookup (nat_eq f) es)) 0) mask))
-          by true is =
+          by rest true is =
               let here : at_first ≡ u = ap (λ n. slice_index_or list n []) (eqb-true f e.0 is) ∙ at in (
                 set_again i list seen u t e mask (subst (λ w. LeadsOn i w t) here on)
                     (subst (λ w. AreApart (flags (length (slots_at i w)) mask) (slots_at i w) (slots_at i t)) here apart) z.0,
                 zip_with Seen SeenNext firsts es (λ w entry inside s. set_seen i list seen w t entry
                     (others_not w (are w (in_rest u firsts w inside)) (λ same. before_self u (subst (Before u) (same ∙ here) (all_at (Before u) firsts w up.0 inside)))) s) z.1,
               )
-          by false is =
+          by rest false is =
               let off : u ≡ at_first → ⊥ = λ same. both_ways (nat_eq f e.0) is (eq-eqb f e.0 (sym (one e.0 (at ∙ same) (slice_get_within list e.0 u z.0.at)))) in (
                 set_seen i list seen u t e (others_not u (are u (in_first u firsts)) off) z.0,
-                again firsts es (λ w inside. are w (in_rest u firsts w inside)) up.1
-                    (elim (in_cases u firsts at_first there) [ inl same ↦ absurd (off same) | inr later ↦ later ]) z.1,
+                rest (elim (in_cases u firsts at_first there) [ inl same ↦ absurd (off same) | inr later ↦ later ]),
               )
-
-          one : (n : ℕ) → slice_index_or list n [] ≡ at_first → n < length list → n ≡ f
-          one n same inside = index_one list k.in_order n f inside (omega (arith, low, lt)) same
 
       pub seen_again : AreSetsSeen i list (take (a + 1) list) (insert_entry nat_eq entries f (bit_or (unwrap_or (lookup (nat_eq f) entries) 0) mask))
       seen_again = subst (λ l. AreSetsSeen i list l (insert_entry nat_eq entries f (bit_or (unwrap_or (lookup (nat_eq f) entries) 0) mask))) (sym more_seen) (record {

@@ -1,4 +1,4 @@
-use Rattle.std.proofs.Common.{true, length}
+use Rattle.std.proofs.Common.{arith}
 use Rattle.mm_explore.proofs.{BusySets.{nodes, few, children_few, sets_busy, none_seen}, Steps.searched}
 use Rattle.mm_explore.proofs.search.Search.busy_slots.Goals as goal
 
@@ -19,4 +19,7 @@ returns c =
     let i = c.args.img.now in
     let s = c.args.self.now in
     let all = (searched i c.requires.come.image s c.requires.come).1 c.requires.all in
-    sets_busy i s.found.list all c.loop-at.at (?) c.loop-at.busy.entries c.loop-at.invariant
+    let low = c.loop-at.auto.at-end in
+    let high = c.loop-at-test.false in
+    let end = c.len-at-end.ensures.count in
+    sets_busy i s.found.list all c.loop-at.at (omega (arith, low, high, end)) c.loop-at.busy.entries c.loop-at.invariant
