@@ -1,4 +1,4 @@
-use Rattle.std.proofs.Common.{◌≡◌, ◌+◌, Some, take, sym, ◌∙◌, subst}
+use Rattle.std.proofs.Common.{◌≡◌, ◌+◌, take, sym, subst}
 use Rattle.std.{proofs.lemmas.Bool.both_ways, specs.List.AllByRecursion}
 use Rattle.mm_endless.specs.Graphs.{children}
 use Rattle.mm_explore.specs.Searching.{AreSetsSeen}
@@ -37,13 +37,11 @@ returns-in-Some-3 c =
     let r = c.requires in
     let g = c.args.self.now.graph in
     let list = c.args.self.now.found.list in
-    let f = c.in-Some-3.first in
-    let two : Some f ≡ Some c.in-Some.first = c.in-Some-3.ensures ∙ sym c.in-Some.ensures in
-    let one : f ≡ c.in-Some.first = cc in
+    let f = c.in-Some.first in
     let turns = λ (stay : AllByRecursion (λ child. child ≡ f) (children g c.args.at)).
         both_ways c.stays.result c.if-stays.false (c.stays.ensures.1
-        (subst (λ n. AllByRecursion (λ child. child ≡ n) c.children.result.now) one (subst (AllByRecursion (λ child. child ≡ f)) (sym c.children.ensures) stay))) in
+        (subst (AllByRecursion (λ child. child ≡ f)) (sym c.children.ensures) stay)) in
     more_ok c.add-in-Some-3.result
     (λ is. subst (AreSetsSeen c.args.img.now list (take (c.args.at + 1) list)) (sym is)
-    (member_first c.args.img.now c.args.self.now r.come r.all c.args.at r.inside c.args.sets.now r.sets c.args.busy.now.entries r.seen f c.in-Some-3.ensures (one ∙ c.if-first-at.false) turns))
+    (member_first c.args.img.now c.args.self.now r.come r.all c.args.at r.inside c.args.sets.now r.sets c.args.busy.now.entries r.seen f c.in-Some.ensures c.if-first-at.false turns))
     c.add-in-Some-3.ensures

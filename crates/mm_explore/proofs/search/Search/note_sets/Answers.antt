@@ -1,4 +1,4 @@
-use Rattle.std.proofs.Common.{◌≡◌, ◌<◌, Some, slice_get, length, refl, sym, ap, ◌∙◌, subst, arith}
+use Rattle.std.proofs.Common.{◌≡◌, ◌<◌, [], Some, slice_get, length, refl, sym, ap, ◌∙◌, subst, arith}
 use Rattle.std.proofs.lemmas.{Map.Iter.{rest_more, rest_all}, Option.slice_get_within}
 use Rattle.std.specs.Map.Iter.{deref_pair}
 use Rattle.mm_explore.specs.{Benches.ArePartsAt, Findings.explored_turns, FoundLists.Holds}
