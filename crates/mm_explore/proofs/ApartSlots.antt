@@ -2,10 +2,10 @@
 use Rattle.std.proofs.Common.{◌≡◌, ℕ, suc, ◌≤◌, Bool, true, false, nat_eq, List, [], ◌∷◌, ◌++◌, map, length}
 use Rattle.std.proofs.Common.{refl, sym, ap, ◌∙◌, subst, arith}
 use Rattle.std.specs.Prelude.{not}
-use Rattle.std.proofs.lemmas.{Bool.both_ways, List.length-map}
+use Rattle.std.proofs.lemmas.{Bool.both_ways}
 use lib.Pointwise.{pointwise, pointwise_decides}
 use Rattle.mm_model.proofs.CoreRows.{slot_limit-few}
-use Rattle.mm_model.specs.{Fits.{slots_of, identity_of}, Flags.{flags, number_of_flags}, Image.{Image, start}, Run.run, Slot.Slot, Spelling.IsImage}
+use Rattle.mm_model.specs.{Flags.{flags, number_of_flags}, Image.{Image, start}, Run.run, Slot.Slot, Spelling.IsImage}
 use Rattle.mm_explore.specs.{Configurations.uncounted_slot, Outcomes.slots_at, Searching.{IsApartBy, AreApart, apart_flags}}
 use Rattle.mm_explore.specs.Kept.{Parts, slot_form, slot_from, slots_from, parts_of, parts_from, parts_with_slots, parts_with_events, parts_with_outputs, parts_with_pages, kept}
 use Rattle.mm_explore.proofs.{Finals.numbers_decide, HeldEnds.slots_bare, Keepables.{can_keep, parts_again}, KeptRuns.runs_state_of, WordForms.flags_of}

@@ -1,20 +1,19 @@
 -- What the graph of a search tells of a configuration, and which slots are busy in endless sets.
-use Rattle.std.proofs.Common.{◌≡◌, inl, inr, ℕ, ◌+◌, ◌<◌, ◌^◌, Bool, true, false, nat_eq, List, [], ◌∷◌, ◌++◌, length, take, slice_get, slice_index_or}
+use Rattle.std.proofs.Common.{◌≡◌, ℕ, ◌+◌, ◌<◌, ◌^◌, Bool, true, false, nat_eq, List, [], ◌∷◌, ◌++◌, length, take, slice_get, slice_index_or}
 use Rattle.std.proofs.Common.{Option, Some, None, refl, sym, ap, ◌∙◌, subst, bit_or, arith}
-use Rattle.std.specs.{Prelude.{Contains, unwrap_or}, List.{AllByRecursion, AllZip}, Map.lookup}
+use Rattle.std.specs.{Prelude.{unwrap_or}, List.{AllByRecursion}, Map.lookup}
 use Rattle.indexmap.specs.IndexMap.{insert_entry}
 use Rattle.mm_endless.{specs.Graphs.{children, AreNodes, IsTold, AreClosedSets}, proofs.Walking.leads_self}
 use Rattle.mm_model.specs.{Fits.slots_of, Flags.flags, Image.Image, State.State}
-use Rattle.mm_explore.specs.{Closed.{LeadsOn, IsEndless, IsFirstEndless}, Explored.{leads_to, IsExplored, IsAll}, Findings.{explored_turns, IsFinal}}
+use Rattle.mm_explore.specs.{Closed.{IsFirstEndless}, Explored.{IsExplored, IsAll}, Findings.{explored_turns, IsFinal}}
 use Rattle.mm_explore.specs.{Outcomes.slots_at, declared.search.Search.Search}
-use Rattle.mm_explore.specs.Searching.{IsGraph, HasCome, IsBusyBy, AreBusyBy, IsSeenBy, AreSeenBy, IsSetSeen, AreSetsSeen, AreApart, IsBusySet, AreBusySets}
+use Rattle.mm_explore.specs.Searching.{HasCome, IsBusyBy, AreBusyBy, IsSeenBy, AreSeenBy, IsSetSeen, AreSetsSeen, AreApart, IsBusySet, AreBusySets}
 use Rattle.mm_explore.proofs.{Notings.zip_to, SetsSeen.{seen_skip, seen_first, seen_again}, Steps.{list_few, take_whole, searched}}
 use Rattle.mm_explore.proofs.GraphRuns.{graph_long as graph_length, nodes as graph_nodes, children_few as graph_few, first_is, first_on, two_turn, end_recurrent, stays_final, final_stays_by}
 
 -- 1. A configuration of the list.
 
 module _ (i : Image) (s : Search) (h : HasCome i s (explored_turns i s.found.list) [] s.found.list) (full : s.all ≡ true) where
-
   explored : IsExplored i s.found.limit s.found.list
   explored = (searched i h.image s h).0
 
@@ -67,7 +66,7 @@ module _ (i : Image) (s : Search) (h : HasCome i s (explored_turns i s.found.lis
       member_first f is same turns =
           let t = told (Some f) is in
           let not_final : IsFinal i (at f) → ⊥ = λ final. turns (subst (λ n. AllByRecursion (λ child. child ≡ n) (children s.graph a)) (sym same)
-              (final_stays_by i s.found.limit s.found.list s.graph explored all (h.graph full) a lt (subst (λ n. IsFinal i (at n)) same final))) in
+          (final_stays_by i s.found.limit s.found.list s.graph explored all (h.graph full) a lt (subst (λ n. IsFinal i (at n)) same final))) in
           let first : IsFirstEndless i (at f) = first_is i s.found.limit s.found.list s.graph explored all (h.graph full) a f lt t.0 t.1 not_final in
           subst (λ n. Next (insert_entry nat_eq entries n (bit_or (unwrap_or (lookup (nat_eq n) entries) 0) 0))) (sym same)
           (seen_first i s.found.limit s.found.list explored a lt entries was (subst (λ n. IsFirstEndless i (at n)) same first))
@@ -81,7 +80,7 @@ module _ (i : Image) (s : Search) (h : HasCome i s (explored_turns i s.found.lis
           let up = t.1.least a (leads_self s.graph a) in
           let low : f < a = omega (arith, up, other) in
           let first = first_is i s.found.limit s.found.list s.graph explored all (h.graph full) a f lt t.0 t.1
-              (two_turn i s.found.limit s.found.list s.graph explored all (h.graph full) a f lt t.0 t.1 other) in
+          (two_turn i s.found.limit s.found.list s.graph explored all (h.graph full) a f lt t.0 t.1 other) in
           let on = first_on i s.found.limit s.found.list s.graph explored all (h.graph full) a f lt t.0 t.1 in
           seen_again i s.found.limit s.found.list explored a lt entries was f low first on mask apart
 

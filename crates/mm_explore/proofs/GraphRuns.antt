@@ -1,15 +1,15 @@
 -- Where all configurations are in a list, the graph of moves that a search keeps tells which of them are in closed sets.
-use Rattle.std.proofs.Common.{◌≡◌, ◌⊎◌, inl, inr, ℕ, zero, suc, ◌+◌, ◌*◌, ◌<◌, ◌≤◌, ◌^◌, Bool, true, false, if◌then◌else◌, List, [], ◌∷◌, ◌++◌, map, length}
-use Rattle.std.proofs.Common.{slice_get, slice_index_or, refl, sym, ap, ◌∙◌, subst, append_assoc, append-nil, length-append, arith}
+use Rattle.std.proofs.Common.{◌≡◌, inl, inr, ℕ, zero, suc, ◌+◌, ◌*◌, ◌<◌, ◌≤◌, Bool, true, false, if◌then◌else◌, List, [], ◌∷◌, ◌++◌, map, length}
+use Rattle.std.proofs.Common.{slice_index_or, refl, sym, ap, ◌∙◌, subst, append_assoc, append-nil, length-append, arith}
 use Rattle.std.proofs.lemmas.{Bool.cases_lt, List.{get_or_past, length-map}, Option.slice_get_within}
 use Rattle.std.proofs.lemmas.List.Elements.{Contains-get_or}
 use Rattle.std.proofs.lemmas.List.Sums.{length-filter, count_by-le-length}
-use Rattle.std.specs.{Prelude.{Contains, Some}, List.{AllByRecursion, AllZip, filter}}
+use Rattle.std.specs.{Prelude.{Contains}, List.{AllByRecursion, AllZip, filter}}
 use Rattle.mm_endless.{specs.Graphs.{children, AreNodes, IsWalk, Leads, IsRecurrent, IsLeast as IsLeastNode}, proofs.Walking.leads_self}
-use Rattle.mm_model.specs.{Image.{Image, start}, Run.run, Slot.Slot, Spelling.IsImage, State.{State, ThreadRow}}
+use Rattle.mm_model.specs.{Image.{Image, start}, Run.run, Spelling.IsImage, State.{State, ThreadRow}}
 use Rattle.mm_span.{specs.Pairs.EachPair, proofs.Members.{none_in, in_first, in_rest, in_cases, all_at, all_of}}
 use Rattle.mm_explore.specs.{Closed.{LeadsOn, IsAtEnd, IsFirstEndless}, Configurations.{uncounted_slot, moves, running_slots, loaded_ports, runs, has_load}, Explored.{leads_to, IsLeast, IsExplored, IsAll}}
-use Rattle.mm_explore.specs.{Findings.IsFinal, Outcomes.slots_at, Schedules.Before, Searching.{IsChild, AreChildren, IsGraph}}
+use Rattle.mm_explore.specs.{Findings.IsFinal, Schedules.Before, Searching.{IsChild, AreChildren, IsGraph}}
 use Rattle.mm_explore.proofs.{AllFound.at_index, ApartSlots.{few_slots, slots_count}, FirstOnes.index_one, HeldEnds.slots_bare, Movings.{moves_or_idles, idle_leads}, Coverings.leads_more}
 use Rattle.mm_explore.proofs.Orders.{before_self, before_through, before_cases, more}
 use Rattle.mm_explore.proofs.ClosedSets.{all_alike, on_same, on_trans, recurrent_ends, ends_back, end_led, final_stays_all}

@@ -1,15 +1,15 @@
 -- Endless sets that are left to be noted.
-use Rattle.std.proofs.Common.{◌≡◌, inl, inr, ℕ, suc, ◌+◌, ◌<◌, ◌≤◌, ◌^◌, Bool, true, false, List, [], ◌∷◌, ◌++◌, map, length, refl, sym, ap, ◌∙◌, subst}
+use Rattle.std.proofs.Common.{◌≡◌, inl, inr, ℕ, ◌+◌, ◌≤◌, true, false, List, [], ◌∷◌, ◌++◌, length, refl, sym, ap, ◌∙◌, subst}
 use Rattle.std.proofs.Common.{append_assoc, append-nil, length-append, arith}
 use Rattle.std.proofs.lemmas.List.{length-map}
 use Rattle.std.proofs.lemmas.List.Elements.{Contains-append_right}
-use Rattle.std.specs.{Prelude.{Contains, Some, slice_get}, List.{AllByRecursion, AllZip}}
+use Rattle.std.specs.{Prelude.{Contains, Some, slice_get}, List.{AllZip}}
 use Rattle.mm_model.proofs.CoreRows.{each_push}
 use Rattle.mm_model.specs.{Flags.flags, Image.Image}
 use Rattle.mm_span.proofs.Members.{in_first}
 use Rattle.mm_explore.specs.declared.{explored.Ending.TheVariants.Endless, findings.Findings.Findings, search.Search.Search}
-use Rattle.mm_explore.specs.{Benches.ArePartsAt, Closed.{IsEndless, IsFirstEndless}, Findings.IsFinal, Noting.{AreNoted, outcome_held}}
-use Rattle.mm_explore.specs.Outcomes.{Outcome, End, Selects, SelectsEndless, IsOutcome, IsEnding, AreEndsOf, slots_at}
+use Rattle.mm_explore.specs.{Benches.ArePartsAt, Closed.{IsFirstEndless}, Findings.IsFinal, Noting.{AreNoted, outcome_held}}
+use Rattle.mm_explore.specs.Outcomes.{End, Selects, SelectsEndless, IsOutcome, IsEnding, AreEndsOf, slots_at}
 use Rattle.mm_explore.specs.Searching.{Ended, AreBusyBy, IsBusySet, AreBusySets, HasEnds}
 use Rattle.mm_explore.proofs.{FoundForms.map_push, HeldEnds.outcome_so, Selections.is_selected}
 use Rattle.mm_explore.specs.declared.parts.Parts as code

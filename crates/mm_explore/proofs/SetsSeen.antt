@@ -1,5 +1,5 @@
 -- The endless sets of a list, as far as its schedules were seen.
-use Rattle.std.proofs.Common.{◌≡◌, inl, inr, ℕ, zero, suc, ◌+◌, ◌/◌, ◌%◌, ◌<◌, ◌≤◌, ◌^◌, Bool, true, false, cond, if◌then◌else◌, ◌||◌, ◌==◌, nat_eq, List, [], ◌∷◌, ◌++◌}
+use Rattle.std.proofs.Common.{◌≡◌, inl, inr, ℕ, zero, suc, ◌+◌, ◌/◌, ◌%◌, ◌<◌, ◌≤◌, Bool, true, false, cond, if◌then◌else◌, ◌||◌, ◌==◌, nat_eq, List, [], ◌∷◌, ◌++◌}
 use Rattle.std.proofs.Common.{length, take, slice_get, slice_index_or, Option, Some, None, refl, sym, ap, ◌∙◌, subst, bit_or, arith, eqb-true, eq-eqb}
 use Rattle.std.proofs.lemmas.{Bool.{both_ways, ne_eqb}, List.Elements.{Contains-get_or, Contains-append_cases}, Nat.{or_shr, or_mod}, Option.slice_get_within}
 use Rattle.std.specs.{Prelude.{Contains, unwrap_or}, List.{AllByRecursion, AllZip}, Map.lookup}
@@ -194,7 +194,7 @@ module _ (i : Image) (limit : ℕ) (list : List (List ℕ)) (k : IsExplored i li
           let rest = fresh v firsts es (λ w inside. before w (in_rest u firsts w inside)) z.1 in
           let at = at_index list e.0 u [] z.0.at in
           let no : nat_eq a e.0 ≡ false = ne_eqb a e.0 (λ same.
-              before_self t (subst (λ w. Before w t) (sym at ∙ ap (λ n. slice_index_or list n []) (sym same)) (before u (in_first u firsts)))) in (
+          before_self t (subst (λ w. Before w t) (sym at ∙ ap (λ n. slice_index_or list n []) (sym same)) (before u (in_first u firsts)))) in (
             ap (λ b. if b then (e.0, v) ∷ es else e ∷ insert_entry nat_eq es a v) no ∙ ap (λ l. e ∷ l) rest.0,
             ap (λ b. cond b (Some e.1) (lookup (nat_eq a) es)) no ∙ rest.1,
           )

@@ -40,12 +40,7 @@ fn stays(children: &[u32], node: u32) -> bool
 }
 
 /// Whether two slots are the same, but for their counts of turns: their differences from that of the image are.
-fn is_same_slot(
-    alloc: Global,
-    base: &Slot,
-    one: &Slot,
-    other: &Slot,
-) -> Result<bool, AllocError>
+fn is_same_slot(alloc: Global, base: &Slot, one: &Slot, other: &Slot) -> Result<bool, AllocError>
     ensures { IfOk result (λ same. same
         ≡ pointwise nat_eq (slot_form base.now one.now) (slot_form base.now other.now)) }
 {
@@ -113,12 +108,7 @@ impl Search {
     }
 
     /// Notes the outcome of each of these endless sets.
-    fn note_sets(
-        &mut self,
-        alloc: Global,
-        img: &Image,
-        busy: &BusySlots,
-    ) -> Result<(), AllocError>
+    fn note_sets(&mut self, alloc: Global, img: &Image, busy: &BusySlots) -> Result<(), AllocError>
         requires come { HasCome img.now self.old (explored_turns img.now self.old.found.list) [] self.old.found.list }
         requires all { IsTrue self.old.all }
         requires sets { AreBusySets img.now self.old.found.list busy.now.entries }

@@ -1,5 +1,5 @@
 use Rattle.std.proofs.Common.{◌≡◌, ◌∙◌, true, false, sym, ap, subst}
-use Rattle.mm_explore.specs.{Explored.{IsExplored, IsAll}, Findings.explored_turns, Finds.Finds, FoundLists.{FoundList, Holds}, Noting.Noted}
+use Rattle.mm_explore.specs.{Explored.{IsExplored, IsAll}, Findings.explored_turns, Finds.Finds, FoundLists.{Holds}, Noting.Noted}
 use Rattle.mm_explore.specs.declared.search.Search.{Search}
 use Rattle.mm_explore.proofs.Steps.{searched}
 use Rattle.mm_explore.proofs.search.explore.Goals as goal

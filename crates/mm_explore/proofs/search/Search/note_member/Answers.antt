@@ -39,8 +39,8 @@ returns-in-Some-3 c =
     let list = c.args.self.now.found.list in
     let f = c.in-Some.first in
     let turns = λ (stay : AllByRecursion (λ child. child ≡ f) (children g c.args.at)).
-        both_ways c.stays.result c.if-stays.false (c.stays.ensures.1
-        (subst (AllByRecursion (λ child. child ≡ f)) (sym c.children.ensures) stay)) in
+    both_ways c.stays.result c.if-stays.false (c.stays.ensures.1
+    (subst (AllByRecursion (λ child. child ≡ f)) (sym c.children.ensures) stay)) in
     more_ok c.add-in-Some-3.result
     (λ is. subst (AreSetsSeen c.args.img.now list (take (c.args.at + 1) list)) (sym is)
     (member_first c.args.img.now c.args.self.now r.come r.all c.args.at r.inside c.args.sets.now r.sets c.args.busy.now.entries r.seen f c.in-Some.ensures c.if-first-at.false turns))
