@@ -27,8 +27,6 @@ USUAL, MOST = 100_000, 100_000_000
 # So many faults and so many ends are told with their places: each is a run of its own.
 MOST_PLACES = 50
 WAITS = ("ld", "st", "evt")
-# Slots whose fault their handler has, or has not looked at yet.
-FAULTED = {"waiting", "taken"}
 
 
 def run_under(console: Console, built: Built, schedule: str) -> tuple[Report, Optional[Turn]]:
@@ -52,23 +50,21 @@ def places_of(console: Console, built: Built, found: Exploration) -> Places:
         said = said_of(cause, there, turn, memory, speller)
         view = ReportView(report, memory, speller, console.style, faults={number: said})
         below = view.place(slot) + said.why
-        handler = next((each.handler for each in built.image.slots if each.number == number), None)
-        served = f", and slot {handler} serves it" if handler is not None else ""
-        places[number, fault] = [f"slot {number} can be {view.state(slot)}{served}", *(f"  {line}" for line in below)]
+        places[number, fault] = [f"slot {number} can be {view.state(slot)}", *(f"  {line}" for line in below)]
     return places
 
 
-def tell_waits(console: Console, built: Built, found: Exploration) -> None:
-    """Puts what each slot waits for in place of `running` where a program is stuck, and says what `waiting` and `taken` are."""
-    for outcome in [one for one in found.outcomes if not one.ended or FAULTED & set(one.states.values())][:MOST_PLACES]:
+def waits_of(console: Console, built: Built, found: Exploration) -> dict[tuple[str, int], str]:
+    """What each slot waits for that waits for ever, by the schedule of its outcome."""
+    waits: dict[tuple[str, int], str] = {}
+    for outcome in [one for one in found.outcomes if one.waiting][:MOST_PLACES]:
         report, _ = run_under(console, built, outcome.schedule)
         memory, speller = Memory.after(built.image, report), Speller(built.symbols)
-        for slot in report.slots:
-            instruction = memory.instruction(slot.ip.pointer.address) if slot.running and slot.ip.pointer else None
-            if instruction and instruction.name in WAITS and not outcome.ended:
-                outcome.states[slot.number] = what_for(slot, memory, speller)
-            elif slot.state in FAULTED:
-                outcome.states[slot.number] = ReportView(report, memory, speller, console.style).state(slot)
+        for slot in [slot for slot in report.slots if slot.number in outcome.waiting]:
+            instruction = memory.instruction(slot.ip.pointer.address) if slot.ip.pointer else None
+            if instruction and instruction.name in WAITS:
+                waits[outcome.schedule, slot.number] = what_for(slot, memory, speller)
+    return waits
 
 
 def run(console: Console) -> int:
@@ -79,6 +75,6 @@ def run(console: Console) -> int:
     built = console.build(console.words)
     text = console.ask(["explore", built.path, str(states)], [built.file]).text
     found = read_exploration(text)
-    tell_waits(console, built, found)
-    console.write(ExplorationView(built.symbols, places_of(console, built, found)).lines(found))
+    view = ExplorationView(built.symbols, places_of(console, built, found), waits_of(console, built, found))
+    console.write(view.lines(found))
     return Status.DONE

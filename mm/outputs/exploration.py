@@ -16,14 +16,33 @@ class Reached:
     wrote: list[tuple[int, int]] = field(default_factory=list)
 
 
+ENDED, STUCK, ENDLESS = "ended", "stuck", "endless"
+BUSY, RUNNING = "busy", "running"
+
+
 @dataclass
 class Outcome:
-    """A way to end: whether no slot runs any more, the state of each slot, each output, and the first schedule."""
+    """A way to end: its kind, how each slot stands, each output, and the first schedule."""
 
-    ended: bool
+    kind: str
     states: dict[int, str] = field(default_factory=dict)
     outputs: dict[int, bytes] = field(default_factory=dict)
     schedule: str = ""
+
+    @property
+    def ended(self) -> bool:
+        """Whether no slot runs any more."""
+        return self.kind == ENDED
+
+    @property
+    def waiting(self) -> list[int]:
+        """The slots that have turns for ever, none of which does anything."""
+        return [number for number, state in self.states.items() if state == RUNNING]
+
+    @property
+    def busy(self) -> list[int]:
+        """The slots that change for ever."""
+        return [number for number, state in self.states.items() if state == BUSY]
 
     @property
     def told(self) -> list[str]:
@@ -63,7 +82,7 @@ class Reader:
         elif verb == "fault":
             self.fault = (int(words[1]), int(words[2]))
         elif verb == "outcome":
-            found.outcomes.append(Outcome(words[2] == "ended"))
+            found.outcomes.append(Outcome(words[2]))
         elif verb == "by":
             self.schedule(" ".join(words[1:]))
         elif not found.outcomes:
@@ -80,7 +99,7 @@ class Reader:
     def end(self, outcome: Outcome, words: list[str]) -> None:
         """A line of an outcome: a slot, or a group's output."""
         if words[0] == "slot":
-            outcome.states[int(words[1])] = state_text(*state_of(words[2:]))
+            outcome.states[int(words[1])] = BUSY if words[2] == BUSY else state_text(*state_of(words[2:]))
         elif words[0] == "group":
             self.group = int(words[1])
             outcome.outputs[self.group] = b""

@@ -141,7 +141,7 @@ def schedules(desk: Desk) -> list[Json]:
     """Each schedule that an exploration has found, with what comes of it."""
     found = _exploration(desk)
     ends = [
-        ["outcome " if each.ended else "stuck: outcome ", number, each.schedule, "; ".join(each.told)]
+        ["outcome " if each.ended else f"{each.kind}: outcome ", number, each.schedule, "; ".join(each.told)]
         for number, each in enumerate(found.outcomes, 1)
     ]
     return [["fault ", cause, turns, f"slot {slot}"] for slot, cause, turns in found.faults] + ends

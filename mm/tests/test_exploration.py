@@ -28,6 +28,12 @@ slot 1 halted
 group 0 output 0
 group 2 output 0
 by
+outcome 3 endless
+slot 0 running
+slot 1 busy
+group 0 output 0
+group 2 output 0
+by 0 1
 """
 
 
@@ -38,10 +44,11 @@ class Exploration(unittest.TestCase):
         self.assertEqual([(g.group, g.touched, g.wrote) for g in found.groups],
                          [(0, [(0x100000, 3), (0x100040, 1)], [(0x100040, 1)]), (2, [], [])])  # fmt: skip
         self.assertEqual(found.faults, [(1, 3, "0 1*4")])
-        first, second = found.outcomes
+        first, second, third = found.outcomes
         self.assertEqual((first.ended, first.states, first.outputs, first.schedule),
                          (True, {0: "halted", 1: "faulted 3"}, {0: b"AB\n", 2: b""}, "0*3 1*4"))  # fmt: skip
-        self.assertEqual((second.ended, second.schedule), (False, ""))
+        self.assertEqual((second.kind, second.schedule, second.waiting, second.busy), ("stuck", "", [0], []))
+        self.assertEqual((third.kind, third.schedule, third.waiting, third.busy), ("endless", "0 1", [0], [1]))
 
     def test_what_is_shown(self):
         lines = list(ExplorationView(Symbols()).lines(read_exploration(TEXT)))
@@ -55,8 +62,17 @@ class Exploration(unittest.TestCase):
             '  group 0 prints "AB\\n"',
             "outcome 2: it is stuck: slots run, and nothing changes any more",
             "  under the schedule without turns",
+            "outcome 3: it goes on for ever: some slots are busy, and nothing else comes of it",
+            "  slot 0 running",
+            "  slot 1 busy",
         ):
             self.assertIn(line, lines)
+        self.assertNotIn("no outcome leaves a slot waiting", lines)
+
+    def test_where_nobody_waits(self):
+        text = TEXT.replace(" more", " all").replace("slot 0 running", "slot 0 busy")
+        self.assertEqual(list(ExplorationView(Symbols()).lines(read_exploration(text)))[-1], "no outcome leaves a slot waiting")
+        self.assertNotIn("no outcome leaves a slot waiting", list(ExplorationView(Symbols()).lines(read_exploration(text.replace(" all", " more")))))
 
     def test_names_and_ends(self):
         ended = mm("explore", "docs/course/race.asm")

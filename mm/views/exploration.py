@@ -7,8 +7,13 @@ from typing import Iterator, Mapping, Optional
 from mm.machine.causes import Cause
 from mm.names.numbers import counted
 from mm.names.symbols import Symbols
-from mm.outputs.exploration import Exploration, Outcome, Reached
+from mm.outputs.exploration import ENDED, ENDLESS, STUCK, Exploration, Outcome, Reached
 
+KINDS = {
+    ENDED: "ends",
+    STUCK: "is stuck: slots run, and nothing changes any more",
+    ENDLESS: "goes on for ever: some slots are busy, and nothing else comes of it",
+}
 # The lines of faults, by slot and number.
 Places = dict[tuple[int, int], list[str]]
 
@@ -16,8 +21,13 @@ Places = dict[tuple[int, int], list[str]]
 class ExplorationView:
     """How an exploration is shown."""
 
-    def __init__(self, symbols: Symbols, places: Optional[Mapping[tuple[int, int], list[str]]] = None) -> None:
-        self.symbols, self.places = symbols, places or {}
+    def __init__(
+        self,
+        symbols: Symbols,
+        places: Optional[Mapping[tuple[int, int], list[str]]] = None,
+        waits: Optional[Mapping[tuple[str, int], str]] = None,
+    ) -> None:
+        self.symbols, self.places, self.waits = symbols, places or {}, waits or {}
 
     def lines(self, found: Exploration) -> Iterator[str]:
         extent = "these are all" if found.all else "there are more: what is missing below may be in those"
@@ -35,6 +45,9 @@ class ExplorationView:
         if not found.outcomes:
             yield ""
             yield "no end was found"
+        elif found.all and not any(outcome.waiting for outcome in found.outcomes):
+            yield ""
+            yield "no outcome leaves a slot waiting"
 
     def fault(self, slot: int, number: int) -> str:
         """A fault whose place is not known."""
@@ -51,8 +64,12 @@ class ExplorationView:
         place = self.symbols.show(first)
         return place if count == 1 else f"{place} and the {counted(count - 1, 'word')} after it"
 
+    def told(self, outcome: Outcome) -> list[str]:
+        """The lines of an outcome's slots and outputs, with what the slots wait for that wait for ever."""
+        waits = {f"slot {number} {state}": self.waits.get((outcome.schedule, number)) for number, state in outcome.states.items()}
+        return [f"{line.rsplit(' ', 1)[0]} {waits[line]}" if waits.get(line) else line for line in outcome.told]
+
     def outcome(self, number: int, outcome: Outcome) -> Iterator[str]:
-        end = "ends" if outcome.ended else "is stuck: slots run, and nothing changes any more"
-        yield f"outcome {number}: it {end}"
-        yield from (f"  {line}" for line in outcome.told)
+        yield f"outcome {number}: it {KINDS[outcome.kind]}"
+        yield from (f"  {line}" for line in self.told(outcome))
         yield f"  under the schedule {outcome.schedule or 'without turns'}"

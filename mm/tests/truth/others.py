@@ -149,13 +149,13 @@ def explored(case: Case, line: str) -> list[tuple[Any, ...]]:
     """What a line of `mm explore` says, as the program has it."""
     span = re.match(r"  (touches|writes) +(\S+)(?: and the (\d+) words? after it)?$", line)
     fault = re.match(r"slot (\d+) can be stopped .*?by fault (\d+)", line)
-    outcome = re.match(r"outcome (\d+): it (ends|is stuck)", line)
+    outcome = re.match(r"outcome (\d+): it (ends|is stuck|goes on for ever)", line)
     if span:
         return [({"touches": "touched", "writes": "wrote"}[span[1]], case.names.address(span[2]), int(span[3] or 0) + 1)]
     if fault:
         return [("fault", fault[1], fault[2])]
     if outcome:
-        return [("outcome", "ended" if outcome[2] == "ends" else "stuck")]
+        return [("outcome", {"ends": "ended", "is stuck": "stuck"}.get(outcome[2], "endless"))]
     if line.startswith("  under the schedule "):
         return [("by", line[21:].replace("without turns", ""))]
     slot, output = re.match(r"  slot (\d+) (.*)$", line), re.match(r'  group (\d+) prints "(.*)"$', line)
