@@ -133,6 +133,17 @@ BODIES = [
     ("a step back is one too far", ANSWERS,
      '[ "$1" != debug ] || { ran "$@"; text "s/^back 1 total 2999/back 1 total 2998/"; told; }'),
     ("an extracted image keeps the slots of others", ANSWERS, '[ "$1" != extract ] || { cat "$2"; exit 0; }'),
+    ("an extracted image is that of the first group", ANSWERS, '[ "$1" != extract ] || set -- "$1" "$2" "${3%%,*}"'),
+    ("an image of a number of five to twelve digits is that of 1", ANSWERS,
+     '[ "$1" != gen ] || [ ${#2} -lt 5 ] || [ ${#2} -gt 12 ] || set -- gen 1 "$3"'),
+    ("a summary of a number of four to nineteen digits is that of 1", ANSWERS,
+     '[ "$1" != soak ] || [ ${#2} -lt 4 ] || [ ${#2} -gt 19 ] || set -- soak 1 "$3" "$4"'),
+    ("a checkpoint has no schedule", ANSWERS, '[ "$1-$#" != save-4 ] || set -- "$1" "$2" "$3"'),
+    ("runs of six digits of cycles have one less", ANSWERS,
+     'case $1 in run|trace|log|save) case $3 in 100000|[1-9]?????) it=$1 at=$2 many=$(($3 - 1)); shift 3; '
+     'set -- "$it" "$at" "$many" "$@" ;; esac ;; esac'),
+    ("a terminal is shown a line less", ANSWERS, 'if [ -t 1 ]; then "$program" "$@" 2>&1 | sed 1d; exit 0; fi'),
+    ("a terminal gives no input", ANSWERS, 'if [ -t 0 ]; then exec "$program" "$@" </dev/null; fi'),
     ("continue counts a cycle more", PIECES,
      '[ "$1" != continue ] || { ran "$@"; text "s/^cycles 3\\(.\\)$/cycles 4\\1/"; told; }'),
     ("a checkpoint forgets the last slot of round robin", PIECES,
@@ -250,3 +261,13 @@ BODIES = [
     ("want of memory of dis is done", LIMITS,
      '[ "$1" != dis ] || { ran "$@"; [ "$status" != 5 ] || exit 0; told; }', "link_most"),
 ]
+
+# What tools/spoiled --quick tries, by what it does wrong.
+QUICK = {
+    "a usage is told twice", "columns begin at 0 after the third line", "a step back is one too far",
+    "the count line of continue is that of the whole run", "a log has no lines of queued events",
+    "a derivation names the register after", "the last of several outcomes is left out", "a kernel that leaks is kept",
+    "a trace tells a turn twice", "a short object is told at its front", "want of memory of gen has no line",
+    "a write is counted twice", "a picture's run has a turn fewer", "a register of a log is another one",
+    "a byte that was put out is another one", "an editor is told of no mistakes",
+}

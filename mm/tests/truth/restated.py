@@ -9,6 +9,7 @@ import shutil
 import subprocess
 from typing import Iterator
 
+from mm.commands.explore import MOST as MOST_STATES
 from mm.formats.image import read_image
 from mm.formats.object import MOST_WORDS, object_of_words
 from mm.formats.schedule import MOST as MOST_ITEMS
@@ -131,7 +132,7 @@ def limits(asking: Asking) -> None:
             refused = "too long" in line_of(asking, command, b"#" * (limit + more))
             asking.facts.check("lengths of files", refused == bool(more), (command, limit + more))
     numbers = (
-        (f"run {image} {{}}", MOST_CYCLES), (f"explore {image} {{}}", MOST_CYCLES), (f"why {image} {{}} 0 touch", MOST_GROUP),
+        (f"run {image} {{}}", MOST_CYCLES), (f"explore {image} {{}}", MOST_STATES), (f"why {image} {{}} 0 touch", MOST_GROUP),
         (f"holders {image} 0 {{}}", LONGEST), (f"grants {image} {{}}", MOST_GROUP),
     )
     for command, most in numbers:
