@@ -28,16 +28,17 @@ class Search(Breadth):
 
     def __init__(self, image: Image, most: int) -> None:
         super().__init__(image, most)
-        # Of each configuration to which others its moves lead; -1 stands for one for which there is no room.
-        self.children: list[list[int]] = []
+        # From one configuration to another, by a move; -1 stands for one for which there is no room.
+        edges: list[tuple[int, int]] = []
         self.touched: list[set[int]] = [set() for _ in self.machine.groups]
         self.wrote: list[set[int]] = [set() for _ in self.machine.groups]
         self.faults: dict[tuple[int, int], tuple[int, int]] = {}
         for at, item, step, to in self.moves():
             self.note(step, (at, item))
-            self.children += ([] for _ in range(len(self.found) - len(self.children)))
-            self.children[at].append(-1 if to is None else to)
-        self.children += ([] for _ in range(len(self.found) - len(self.children)))
+            edges.append((at, -1 if to is None else to))
+        self.children: list[list[int]] = [[] for _ in self.found]
+        for at, child in edges:
+            self.children[at].append(child)
 
     def note(self, step: Step, by: tuple[int, int]) -> None:
         group = self.machine.of_group[step.index]
