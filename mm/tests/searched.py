@@ -32,6 +32,8 @@ class Search(Breadth):
         edges: list[tuple[int, int]] = []
         self.touched: list[set[int]] = [set() for _ in self.machine.groups]
         self.wrote: list[set[int]] = [set() for _ in self.machine.groups]
+        # The words that turns of a group really wrote, each with the group.
+        self.stored: set[tuple[int, int]] = set()
         self.faults: dict[tuple[int, int], tuple[int, int]] = {}
         for at, item, step, to in self.moves():
             self.note(step, (at, item))
@@ -46,6 +48,8 @@ class Search(Breadth):
             self.touched[group].add(word)
             if kind in WRITING:
                 self.wrote[group].add(word)
+            if step.wrote(word):
+                self.stored.add((self.machine.groups[group], word))
         if step.fault:
             self.faults.setdefault((self.machine.numbers[step.index], step.fault), by)
 

@@ -237,6 +237,7 @@ class Wrote(unittest.TestCase):
         box = next(address for address, cell in image.cells() if cell.word.bits == 5 and not cell.word.tagged)
         self.assertEqual(first_writes(image, box, [], 100, Progress(io.StringIO())), {})
         self.assertEqual(first_writes(image, box, [0, 2], 2, Progress(io.StringIO())), {2: "1", 0: "1 0"})
+        self.assertEqual(first_writes(image, box, [0], 100, Progress(io.StringIO())), {0: "1 0"})
 
     def test_writers(self):
         found = read_exploration("explored 9 all\ngroup 0\nwrote 00000000100000 2\ngroup 3\ntouched 00000000100000 4\n")
