@@ -49,14 +49,15 @@ class Progress:
 
     def _write(self) -> None:
         while not self.ended.wait(self.every):
-            self._put(f"{ANEW}mm: {self.said}, {time.monotonic() - self.began:.0f} s")
-            self.there = True
+            self.there = self._put(f"{ANEW}mm: {self.said}, {time.monotonic() - self.began:.0f} s")
 
-    def _put(self, text: str) -> None:
-        """Writes a piece. A terminal that has gone is told of where the answer is written."""
+    def _put(self, text: str) -> bool:
+        """Writes a piece, and says whether it could. A terminal that has gone is told of where the answer is written."""
         try:
             with self.lock:
                 self.stream.write(text)
                 self.stream.flush()
         except (OSError, ValueError):
             self.ended.set()
+            return False
+        return True
