@@ -66,10 +66,10 @@ class Configuration(NamedTuple):
 
 
 class Step(NamedTuple):
-    """What a turn did: the index of its slot, the cause of its fault or 0, its accesses, each a kind and a word, and whether the
+    """What a turn did: the place of its slot among all, the cause of its fault or 0, its accesses, each a kind and a word, and whether the
     instruction was carried out. A delivery of a load is done, and has no access."""
 
-    index: int
+    place: int
     fault: int
     accesses: tuple[tuple[str, int], ...]
     done: bool

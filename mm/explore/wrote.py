@@ -35,7 +35,7 @@ def first_writes(image: Image, word: int, groups: Iterable[int], most: int, prog
     for at, item, step, _ in breadth.moves() if left else ():
         if at % OFTEN == 0:
             progress.say(f"looking for a schedule: {at} of {most} configurations")
-        group = machine.groups[machine.of_group[step.index]]
+        group = machine.groups[machine.of_group[step.place]]
         if group in left and step.wrote(word):
             found[group] = schedule_of((*breadth.schedule(at), item)).text.decode()
             left.remove(group)

@@ -43,7 +43,7 @@ class Search(Breadth):
             self.children[at].append(child)
 
     def note(self, step: Step, by: tuple[int, int]) -> None:
-        group = self.machine.of_group[step.index]
+        group = self.machine.of_group[step.place]
         for kind, word in step.accesses:
             self.touched[group].add(word)
             if kind in WRITING:
@@ -51,7 +51,7 @@ class Search(Breadth):
             if step.wrote(word):
                 self.stored.add((self.machine.groups[group], word))
         if step.fault:
-            self.faults.setdefault((self.machine.numbers[step.index], step.fault), by)
+            self.faults.setdefault((self.machine.numbers[step.place], step.fault), by)
 
     def at(self, items: Iterable[int]) -> int:
         """The index of the configuration to which items lead."""

@@ -228,7 +228,7 @@ class Wrote(unittest.TestCase):
         with folder() as room:
             image = read_image(mm("link", write(room, "k.asm", BOX)).data)
             path = write(room, "k.asm", BOX)
-            with mock.patch("mm.explore.wrote.MOST_LOOKED", 2):
+            with mock.patch("mm.explore.wrote.MOST_LOOKED", 1):
                 out = mm("explore", path, "--wrote", "box").out
                 far = mm("explore", path, "--wrote", "table+8").out
         self.assertIn("group 2 writes box, first in a turn of slot 1", out)
