@@ -66,8 +66,8 @@ class Configuration(NamedTuple):
 
 
 class Step(NamedTuple):
-    """What a turn did: the place of its slot among all, the cause of its fault or 0, its accesses, each a kind and a word, and whether the
-    instruction was carried out. A delivery of a load is done, and has no access."""
+    """What a turn did: the place of its slot among all, the cause of its fault or 0, its accesses, each a kind and a word, and whether
+    the instruction was carried out. A delivery of a load is done, and has no access."""
 
     place: int
     fault: int
