@@ -2,6 +2,7 @@
 
 from __future__ import annotations
 
+from typing import Mapping, Optional
 
 from mm.outputs.report import state_of, state_text
 from mm.records import dataclass, field
@@ -18,16 +19,20 @@ class Reached:
 
 ENDED, STUCK, ENDLESS = "ended", "stuck", "endless"
 BUSY, RUNNING = "busy", "running"
+# The states of slots that still wait for something where nothing comes any more.
+LEFT = (RUNNING, "waiting", "taken")
 
 
 @dataclass
 class Outcome:
-    """A way to end: its kind, how each slot stands, each output, and the first schedule."""
+    """A way to end or to go on for ever: its kind, how each slot stands, each output, the first schedule, and how many final
+    configurations, or sets that are never left, have it."""
 
     kind: str
     states: dict[int, str] = field(default_factory=dict)
     outputs: dict[int, bytes] = field(default_factory=dict)
     schedule: str = ""
+    count: int = 1
 
     @property
     def ended(self) -> bool:
@@ -40,14 +45,18 @@ class Outcome:
         return [number for number, state in self.states.items() if state == RUNNING]
 
     @property
+    def left(self) -> list[int]:
+        """The slots that wait: for a word, for an event, or for a handler that looks at their fault."""
+        return [number for number, state in self.states.items() if state in LEFT]
+
+    @property
     def busy(self) -> list[int]:
         """The slots that change for ever."""
         return [number for number, state in self.states.items() if state == BUSY]
 
-    @property
-    def told(self) -> list[str]:
-        """The slots and the outputs as lines for people."""
-        slots = [f"slot {number} {state}" for number, state in self.states.items()]
+    def told(self, said: Optional[Mapping[int, str]] = None) -> list[str]:
+        """The slots and the outputs as lines for people, with what is said of some slots in place of their states."""
+        slots = [f"slot {number} {(said or {}).get(number, state)}" for number, state in self.states.items()]
         texts = [
             f'group {group} prints "{data.decode("latin-1").encode("unicode_escape").decode()}"'
             for group, data in self.outputs.items()
@@ -82,7 +91,7 @@ class Reader:
         elif verb == "fault":
             self.fault = (int(words[1]), int(words[2]))
         elif verb == "outcome":
-            found.outcomes.append(Outcome(words[2]))
+            found.outcomes.append(Outcome(words[2], count=int(words[1])))
         elif verb == "by":
             self.schedule(" ".join(words[1:]))
         elif not found.outcomes:

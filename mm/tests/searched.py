@@ -1,14 +1,15 @@
-"""What `explore` says of an image, found a second time: a search by breadth over configurations, and the sets of them that are
-never left, by components of the graph of moves."""
+"""What `explore` says of an image, found a second time: the configurations by breadth, and the sets of them that are never left, by
+components of the graph of moves."""
 
 from __future__ import annotations
 
 from dataclasses import dataclass
 from typing import Callable, Iterable, Optional
 
+from mm.explore.breadth import Breadth
+from mm.explore.parts import WRITING, Step
 from mm.formats.image import Image
-from mm.lockstep.case import schedule_text
-from mm.tests.second import LOAD_SET, STORE, Configuration, Machine
+from mm.formats.schedule import schedule_of
 
 BUSY = "busy"
 
@@ -22,54 +23,35 @@ class Outcome:
     outputs: tuple[bytes, ...]
 
 
-class Search:
-    """All configurations of an image's machine, up to a number, in the order of their least schedules."""
+class Search(Breadth):
+    """The configurations of an image's machine, up to a number, and what is met on the moves from them."""
 
     def __init__(self, image: Image, most: int) -> None:
-        self.machine = Machine(image)
-        self.found: list[Configuration] = [self.machine.start()]
-        self.known = {self.found[0]: 0}
-        # Each with the index of the one from which it was found, and the move.
-        self.origins: list[tuple[int, int]] = [(0, 0)]
-        self.children: list[list[int]] = []
-        self.all = True
+        super().__init__(image, most)
+        # From one configuration to another, by a move; -1 stands for one for which there is no room.
+        edges: list[tuple[int, int]] = []
         self.touched: list[set[int]] = [set() for _ in self.machine.groups]
         self.wrote: list[set[int]] = [set() for _ in self.machine.groups]
+        # The words that turns of a group really wrote, each with the group.
+        self.stored: set[tuple[int, int]] = set()
         self.faults: dict[tuple[int, int], tuple[int, int]] = {}
-        while len(self.children) < len(self.found):
-            self.expand(len(self.children), most)
+        for at, item, step, to in self.moves():
+            self.note(step, (at, item))
+            edges.append((at, -1 if to is None else to))
+        self.children: list[list[int]] = [[] for _ in self.found]
+        for at, child in edges:
+            self.children[at].append(child)
 
-    def expand(self, at: int, most: int) -> None:
-        children = []
-        for item in self.machine.moves(self.found[at]):
-            step, to = self.machine.move(self.found[at], item)
-            self.note(step.index, step.fault, step.accesses, (at, item))
-            if to not in self.known:
-                if len(self.found) == most:
-                    self.all = False
-                    children.append(-1)
-                    continue
-                self.known[to] = len(self.found)
-                self.found.append(to)
-                self.origins.append((at, item))
-            children.append(self.known[to])
-        self.children.append(children)
-
-    def note(self, index: int, fault: int, accesses: Iterable[tuple[str, int]], by: tuple[int, int]) -> None:
-        group = self.machine.of_group[index]
-        for kind, word in accesses:
+    def note(self, step: Step, by: tuple[int, int]) -> None:
+        group = self.machine.of_group[step.place]
+        for kind, word in step.accesses:
             self.touched[group].add(word)
-            if kind in (STORE, LOAD_SET):
+            if kind in WRITING:
                 self.wrote[group].add(word)
-        if fault:
-            self.faults.setdefault((self.machine.numbers[index], fault), by)
-
-    def schedule(self, at: int) -> tuple[int, ...]:
-        items = []
-        while at:
-            at, item = self.origins[at]
-            items.append(item)
-        return tuple(reversed(items))
+            if step.wrote(word):
+                self.stored.add((self.machine.groups[group], word))
+        if step.fault:
+            self.faults.setdefault((self.machine.numbers[step.place], step.fault), by)
 
     def at(self, items: Iterable[int]) -> int:
         """The index of the configuration to which items lead."""
@@ -161,7 +143,7 @@ class Search:
 
 
 def by(items: tuple[int, ...]) -> str:
-    return f"by {schedule_text(items)}".rstrip()
+    return f"by {schedule_of(items).text.decode()}".rstrip()
 
 
 def runs_of(words: set[int]) -> list[tuple[int, int]]:

@@ -83,7 +83,7 @@ explore_proved tells held left image states text (an_image i ∷ [], accepted, e
   finds = explores.finds;
   writes = explores.written;
   met = findings_are_met i states explores.found accepted.0.means.image explores.finds;
-  runs = λ all s. runs_are_found i states explores.found explores.finds all s;
+  runs = λ all s. runs_are_found i states explores.found accepted.0.means.image explores.finds all s;
 }
 explore_proved tells held left image states text (values, accepted, writes) = absurd (assumption (accepted, writes))
 

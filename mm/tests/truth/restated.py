@@ -22,7 +22,7 @@ from mm.tests.truth.facts import Asking
 from mm.tests.truth.told import Report
 from mm.view.data import tables
 from mm.view.page import FOLDER
-from mm.words import MOST_CYCLES, MOST_GROUP
+from mm.words import MOST_CYCLES, MOST_GROUP, MOST_STATES
 
 # What a program meets that faults with each cause; of Sync alone no slot is halted.
 CAUSES = {

@@ -1,224 +1,21 @@
-"""The machine a second time, after docs/MACHINE.md and docs/INSTRUCTIONS.md: configurations, their moves and turns.
-
-A configuration is a value: nothing in it changes. It has no counts, of cycles or of turns. A word is its bits, and one bit
-more above them if it is a pointer."""
+"""One turn of a slot of the second machine, operation by operation."""
 
 from __future__ import annotations
 
-from typing import Callable, NamedTuple, Optional
+from typing import TYPE_CHECKING, Any
 
-from mm.formats.image import PAGE_BYTES, PAGE_WORDS, Image
-from mm.formats.schedule import PORT
-from mm.machine.isa import Instruction, Kind, decode
-from mm.machine.words import ADDRESS_LIMIT, LONGEST, WORD_MASK, Permission, Pointer
+from mm.explore.parts import BLANK, FETCH, HALTED, LOAD, LOAD_SET, NUMBERS, RUNNING, STORE, TAG, TAKEN, WAITING
+from mm.explore.parts import BOUNDS, ILLEGAL, MALFORMED, NO_PAGE, NO_SLOT, OUT_FULL, PRIV, SYNC, TRAP
+from mm.explore.parts import Blocked, Cell, Configuration, Event, Fault, Thread
+from mm.explore.parts import checked, entered, moved, pointer_of, restricted, shortened, signed, walkable
+from mm.formats.image import PAGE_BYTES, PAGE_WORDS
+from mm.machine.isa import Instruction
+from mm.machine.words import WORD_MASK, Permission, Pointer
 
-TAG = 1 << 64
-BLANK = (0, True)
+if TYPE_CHECKING:
+    from mm.explore.machine import Machine
+
 PAGE_LIMIT = 1 << 42
-NOT_POINTER, PERM, BOUNDS, ALIGN, NO_PAGE, SYNC, ILLEGAL, PRIV, DIV_ZERO, MALFORMED, TRAP, NO_SLOT, OUT_FULL = range(1, 14)
-RUNNING, WAITING, TAKEN, HALTED = "running", "waiting", "taken", "halted"
-FETCH, LOAD, LOAD_SET, STORE = "fetch", "load", "loadset", "store"
-PRE, POST = ("any", "full", "empty"), ("keep", "full", "empty")
-
-Cell = tuple[int, bool]
-
-
-class Fault(Exception):
-    """A test of a turn that failed. Its operands are those of the event that it becomes."""
-
-    def __init__(self, cause: int, operands: tuple[int, int] = (0, 0)) -> None:
-        super().__init__(cause)
-        self.cause, self.operands = cause, operands
-
-
-class Blocked(Exception):
-    """A turn that waits, given the index of the slot of which it delivers a load, if of one."""
-
-    def __init__(self, deliver: Optional[int] = None) -> None:
-        super().__init__()
-        self.deliver = deliver
-
-
-class Thread(NamedTuple):
-    """What changes of a slot."""
-
-    regs: tuple[int, ...]
-    ip: int
-    past: bool
-    state: str
-    empty: frozenset[int]
-    pending: tuple[tuple[int, int], ...]
-
-
-class Event(NamedTuple):
-    slot: int
-    cause: int
-    ip: int
-    address: int
-    value: int
-
-
-class Configuration(NamedTuple):
-    """A state without its counts. `cells` are those that are not as in the image; of a page that the image does not have, as
-    on a blank page."""
-
-    threads: tuple[Thread, ...]
-    queues: tuple[tuple[Event, ...], ...]
-    outputs: tuple[bytes, ...]
-    pages: frozenset[int]
-    cells: frozenset[tuple[int, Cell]]
-
-
-class Step(NamedTuple):
-    """What a turn did: the index of its slot, the cause of its fault or 0, and its accesses, each a kind and a word."""
-
-    index: int
-    fault: int
-    accesses: tuple[tuple[str, int], ...]
-
-
-def pointer_of(word: int) -> Pointer:
-    """The pointer that a word is."""
-    found = Pointer.of_bits(word & WORD_MASK) if word & TAG else None
-    if found is None:
-        raise Fault(NOT_POINTER)
-    return found
-
-
-def word_of(pointer: Pointer) -> int:
-    return pointer.bits | TAG
-
-
-def signed(bits: int, size: int = 64) -> int:
-    return bits - (1 << size) if bits >> size - 1 else bits
-
-
-def moved(pointer: Pointer, address: int) -> int:
-    """The pointer at another address of its segment."""
-    if not pointer.covers(address):
-        raise Fault(BOUNDS)
-    return word_of(Pointer(pointer.permission, pointer.log, address))
-
-
-def walkable(word: int) -> Pointer:
-    """The pointer that a word is, if its address may be changed."""
-    pointer = pointer_of(word)
-    if pointer.permission.enters or pointer.permission is Permission.KEY:
-        raise Fault(PERM)
-    return pointer
-
-
-def restricted(word: int, code: int) -> int:
-    pointer, to = pointer_of(word), Permission.of_code(code)
-    if to is None:
-        raise Fault(MALFORMED)
-    if to not in pointer.permission.may_become:
-        raise Fault(PERM)
-    return word_of(Pointer(to, pointer.log, pointer.address))
-
-
-def shortened(word: int, log: int) -> int:
-    pointer = walkable(word)
-    if log >= pointer.log:
-        raise Fault(BOUNDS)
-    return word_of(Pointer(pointer.permission, log, pointer.address))
-
-
-def entered(word: int) -> int:
-    """Where a jump through a word leads."""
-    pointer = pointer_of(word)
-    to = {Permission.EU: Permission.XU, Permission.EP: Permission.XP}.get(pointer.permission, pointer.permission)
-    if not to.executes:
-        raise Fault(PERM)
-    return word_of(Pointer(to, pointer.log, pointer.address))
-
-
-def divided(a: int, b: int, of: Callable[[int, int], int]) -> int:
-    if b == 0:
-        raise Fault(DIV_ZERO)
-    return of(a, b)
-
-
-NUMBERS: dict[str, Callable[[int, int], int]] = {
-    "add": lambda a, b: a + b,
-    "sub": lambda a, b: a - b,
-    "mul": lambda a, b: a * b,
-    "divu": lambda a, b: divided(a, b, lambda x, y: x // y),
-    "remu": lambda a, b: divided(a, b, lambda x, y: x % y),
-    "and": lambda a, b: a & b,
-    "or": lambda a, b: a | b,
-    "xor": lambda a, b: a ^ b,
-    "shl": lambda a, b: a << b % 64,
-    "shr": lambda a, b: a >> b % 64,
-    "sar": lambda a, b: signed(a) >> b % 64,
-    "eq": lambda a, b: int(a == b),
-    "ltu": lambda a, b: int(a < b),
-    "lts": lambda a, b: int(signed(a) < signed(b)),
-}
-RIGHTS: dict[str, Callable[[Permission], bool]] = {
-    FETCH: lambda p: p.executes,
-    LOAD: lambda p: p.loads,
-    STORE: lambda p: p.stores,
-    LOAD_SET: lambda p: p.loads and p.stores,
-}
-
-
-def checked(word: int, offset: int, kind: str) -> int:
-    """The word that an access is to, if its first four tests hold."""
-    pointer = pointer_of(word)
-    if not RIGHTS[kind](pointer.permission):
-        raise Fault(PERM)
-    address = pointer.address + offset
-    if not pointer.covers(address, 8):
-        raise Fault(BOUNDS)
-    if address % 8:
-        raise Fault(ALIGN)
-    return address
-
-
-class Machine:
-    """The machine of an image: what never changes of it."""
-
-    def __init__(self, image: Image) -> None:
-        self.image, self.split = image, image.split
-        self.numbers = [slot.number for slot in image.slots]
-        self.groups = image.groups
-        self.of_group = [self.groups.index(slot.group) for slot in image.slots]
-        self.handlers = [None if s.handler is None else self.numbers.index(s.handler) for s in image.slots]
-        self.base: dict[int, Cell] = {
-            address: (cell.word.bits | TAG * cell.word.tagged, cell.full) for address, cell in image.cells()
-        }
-
-    def start(self) -> Configuration:
-        threads = tuple(
-            Thread(
-                tuple(word.bits | TAG * word.tagged for word in slot.registers),
-                word_of(slot.ip),
-                False,
-                HALTED if slot.halted else RUNNING,
-                frozenset(),
-                (),
-            )
-            for slot in self.image.slots
-        )
-        queues, outputs = ((),) * len(threads), (b"",) * len(self.groups)
-        return Configuration(threads, queues, outputs, frozenset(self.image.pages), frozenset())
-
-    def moves(self, here: Configuration) -> list[int]:
-        """The items that do something: running slots, and in a split machine ports of slots with a pending load."""
-        running = [n for n, thread in zip(self.numbers, here.threads) if thread.state == RUNNING]
-        ports = [PORT + n for n, thread in zip(self.numbers, here.threads) if self.split and thread.pending]
-        return running + ports
-
-    def move(self, here: Configuration, item: int) -> tuple[Step, Configuration]:
-        """Makes a move."""
-        index = self.numbers.index(item % PORT)
-        turn = Turn(self, here, index)
-        if item >= PORT:
-            turn.deliver(index)
-            return Step(index, 0, ()), turn.configuration()
-        fault = turn.make()
-        return Step(index, fault, tuple(turn.accesses)), turn.configuration()
 
 
 class Turn:
@@ -229,6 +26,8 @@ class Turn:
         self.threads, self.queues, self.outputs = list(here.threads), list(here.queues), list(here.outputs)
         self.pages, self.cells = set(here.pages), dict(here.cells)
         self.accesses: list[tuple[str, int]] = []
+        # Whether the instruction was carried out.
+        self.done = False
 
     def configuration(self) -> Configuration:
         return Configuration(
@@ -239,17 +38,17 @@ class Turn:
     def own(self) -> Thread:
         return self.threads[self.index]
 
-    def change(self, index: int, **fields: object) -> None:
+    def change(self, index: int, **fields: Any) -> None:
         self.threads[index] = self.threads[index]._replace(**fields)
 
     # Memory.
 
     def cell(self, word: int) -> Cell:
         """The cell of a word of a mapped page."""
-        return self.cells.get(word) or self.machine.base.get(word, BLANK)
+        return self.cells.get(word) or self.machine.cell(word)
 
     def set_cell(self, word: int, cell: Cell) -> None:
-        if cell == self.machine.base.get(word, BLANK):
+        if cell == self.machine.cell(word):
             self.cells.pop(word, None)
         else:
             self.cells[word] = cell
@@ -310,6 +109,7 @@ class Turn:
         """Makes the turn, and gives the cause of its fault, or 0."""
         try:
             self.act()
+            self.done = True
         except Blocked as blocked:
             if blocked.deliver is not None:
                 self.deliver(blocked.deliver)
@@ -346,7 +146,7 @@ class Turn:
         if self.own.past:
             raise Fault(BOUNDS)
         word = self.cell(self.access(self.own.ip, 0, FETCH))[0]
-        instr = None if word & TAG else decode(word)
+        instr = None if word & TAG else self.machine.instruction(word)
         if instr is None:
             raise Fault(ILLEGAL)
         return instr
@@ -423,6 +223,13 @@ class Turn:
     def go(self, ip: int) -> None:
         self.change(self.index, ip=ip, past=False)
 
+    def go_if(self, holds: bool, words: int) -> None:
+        """Goes so many words away if something holds, else to the next instruction."""
+        if holds:
+            self.go(self.branch(words))
+        else:
+            self.advance(self.index)
+
     # Operations that do more than to set a register.
 
     def do_halt(self, instr: Instruction, a: int, b: int, number: int) -> None:
@@ -462,10 +269,10 @@ class Turn:
         self.go(self.branch(number))
 
     def do_bz(self, instr: Instruction, a: int, b: int, number: int) -> None:
-        self.go(self.branch(number)) if a & WORD_MASK == 0 else self.advance(self.index)
+        self.go_if(a & WORD_MASK == 0, number)
 
     def do_bnz(self, instr: Instruction, a: int, b: int, number: int) -> None:
-        self.go(self.branch(number)) if a & WORD_MASK else self.advance(self.index)
+        self.go_if(a & WORD_MASK != 0, number)
 
     def do_jmp(self, instr: Instruction, a: int, b: int, number: int) -> None:
         self.go(entered(a))
