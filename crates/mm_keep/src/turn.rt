@@ -176,8 +176,13 @@ fn restricted(t: &Thread, instr: &Instr, rd: Reg, a: &Form, b: &Form, from: Perm
     let bits = b.exact_bits();
     let mut out = Outcomes::none();
     put_restricted(&mut out, t, rd, a, from, bits, &PERMISSIONS);
-    if bits.is_none() || out.is_empty() {
+    if bits.is_none() {
         out.push(fault(t, instr));
+        return out;
+    }
+    if out.is_empty() {
+        out.push(fault(t, instr));
+        return out;
     }
     out
 }
