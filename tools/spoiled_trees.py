@@ -23,7 +23,8 @@ TREES = [
     ("a module of tests is left out", COUNTS, "mm/tests/test_check_why.py", "import unittest\n",
      'import unittest\nraise unittest.SkipTest("later")\n'),
     # Pages.
-    ("a page of the code names what is not there", NAMES, "docs/DECISIONS.md", "`StopReason`", "`StopReasons`"),
+    # (in two pieces, since else this file would have the name)
+    ("a page of the code names what is not there", NAMES, "docs/DECISIONS.md", "`StopReason`", "`StopReaso" "z`"),
     ("a file has each operation and is not on the page", OPERATIONS, "docs/CARRYING_ON.md", "`mm/machine/isa.py`", "`mm/machine/words.py`"),
     ("a link leads to another definition", CLAUSES, "docs/INSTRUCTIONS.md", "[1A]: ../crates/mm_isa/specs/Table.antt#L46",
      "[1A]: ../crates/mm_isa/specs/Table.antt#L45"),
@@ -42,5 +43,5 @@ TREES = [
     ("a function says nothing", COMMENTS, "crates/mmachine/src/main.rt", "/// The status of the process at an answer.\n", "\n"),
     ("a module takes what it does not use", HINTS, "mm/status.py", "from __future__ import annotations\n",
      "from __future__ import annotations\n\nimport fractions\n"),
-    ("a broken line does not apply", BROKEN, "mm/waves/vcd.py", 'yield "bytes", 17, len(data)', 'yield "bytes", 17, len(data) + 0'),
+    ("a broken line does not apply", BROKEN, "mm/waves/vcd.py", 'yield "bytes", 17, len(data)', 'yield "bytes", 17, (len(data))'),
 ]
