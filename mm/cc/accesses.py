@@ -335,7 +335,7 @@ class Accesses(Lowering):
         if made.name in self.promoted:
             return
         size = self.layouts.size(made.source)
-        if made.operands and not hasattr(made.operands[0], "number"):
+        if made.name in self.repeated or made.operands and not hasattr(made.operands[0], "number"):
             self.dynamic_alloca(made, size)
             return
         if made.operands:
@@ -347,3 +347,5 @@ class Accesses(Lowering):
 
     def dynamic_alloca(self, made: Instruction, size: int) -> None:
         raise NotImplementedError
+
+    repeated: set[str]

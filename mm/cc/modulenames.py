@@ -95,7 +95,7 @@ class ModuleNames(Names):
             module = self.program.home(self.module, value.name) or self.module
             if value.name not in module.aliases:
                 break
-            value = module.aliases[value.name]
+            value = module.aliases[value.name].value
         return value
 
     def declare(self, name: str, variable: Variable) -> None:

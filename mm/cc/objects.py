@@ -22,7 +22,7 @@ from mm.cc.ir import (
 )
 from mm.cc.pointers import Known, Pointer
 from mm.cc.untranslated import Untranslated
-from mm.cc.wide import Vectors
+from mm.cc.vectors import Vectors
 
 WORD = 8
 
@@ -169,7 +169,7 @@ class Objects(Vectors):
     def dynamic_alloca(self, made: Instruction, size: int) -> None:
         assert made.name is not None
         self.code.dynamic = True
-        count = self.number(made.operands[0], ZEROED)
+        count = self.number(made.operands[0], ZEROED) if made.operands else self.constant(1)
         total = self.scaled(count, size) if size else self.constant(0)
         if made.align > WORD:
             # It ends at the end of its segment, so it begins at a multiple of what its size is a multiple of.

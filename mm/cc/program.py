@@ -73,8 +73,9 @@ class Program:
         for name, made in module.globals.items():
             if made.value is not None and not made.internal:
                 self._offer(name, module, made.weak)
-        for name in module.aliases:
-            self._offer(name, module, False)
+        for name, alias in module.aliases.items():
+            if not alias.internal:
+                self._offer(name, module, alias.weak)
 
     def _offer(self, name: str, module: Module, weak: bool) -> None:
         if name not in self.public or not weak and self._is_weak(name):
@@ -82,13 +83,15 @@ class Program:
 
     def _is_weak(self, name: str) -> bool:
         module = self.public[name]
-        made = module.functions.get(name) or module.globals.get(name)
+        made = module.functions.get(name) or module.globals.get(name) or module.aliases.get(name)
         return made is not None and made.weak
 
     def home(self, module: Module, name: str) -> Optional[Module]:
         """The module that defines what a module calls by a name."""
-        function, made = module.functions.get(name), module.globals.get(name)
+        function, made, alias = module.functions.get(name), module.globals.get(name), module.aliases.get(name)
         if function is not None and function.defined and function.internal or made is not None and made.internal:
+            return module
+        if alias is not None and alias.internal:
             return module
         return self.public.get(name)
 

@@ -16,8 +16,7 @@ BROKEN = (
     ("mm/cc/counting.py", "yes, no = (b, a) if greater else (a, b)", "yes, no = (b, a)", VALUES),
     ("mm/cc/wide.py", 'self.give_pair(made.name, made.type, low, self.op("add", self.op("add", b, d), carry))',
      'self.give_pair(made.name, made.type, low, self.op("add", b, d))', VALUES),
-    ("mm/cc/wide.py", 'return self.op("or", self.op(op, b, d), lower), condition[1:] in ("ge", "le")',
-     'return self.op(op, b, d), condition[1:] in ("ge", "le")', VALUES),
+    ("mm/cc/wide.py", 'return self.op("or", self.op(op, one[1], other[1]), lower)', "return self.op(op, one[1], other[1])", VALUES),
     # Memory.
     ("mm/cc/code.py", "return ((1 << log) - max(size, 1)) // align * align if at_end else 0",
      "return ((1 << log) - max(size, 1)) // min(align, 8) * min(align, 8) if at_end else 0", VALUES),
