@@ -68,7 +68,9 @@ class ModuleReader:
             if reader.token == "(":
                 reader.skip_group()
         kind = reader.next()
-        if kind in ("alias", "ifunc"):
+        if kind == "ifunc":
+            return
+        if kind == "alias":
             reader.type()
             reader.want(",")
             self.module.aliases[name] = Alias(reader.typed(), bool(said & LINKAGES_INTERNAL), bool(said & LINKAGES_WEAK))
