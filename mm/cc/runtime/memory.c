@@ -19,7 +19,6 @@ void *__mm_load_anywhere(const void *from)
         return *(void *const *)from;
     for (int at = 0; at < 8; at++)
         found |= (number)((const unsigned char *)from)[at] << 8 * at;
-| (number)*(const unsigned char *)from << 56;
     return (void *)found;
 }
 
