@@ -92,7 +92,7 @@ class Accesses(Lowering):
             return self.load_word(pointer)
         if at is not None:
             return self.load_pieces(pointer, WORD, align, RAW)
-        return self.runtime("__mm_load_anywhere", [self.whole(pointer)], True)
+        return self.runtime("__mm_load_anywhere", [self.exact(pointer)], True)
 
     def store_eight(self, pointer: Pointer, align: int, value: int) -> None:
         at = self.position(pointer, align)
@@ -101,7 +101,7 @@ class Accesses(Lowering):
         elif at is not None:
             self.store_pieces(pointer, WORD, align, value)
         else:
-            self.runtime("__mm_store_anywhere", [self.whole(pointer), value])
+            self.runtime("__mm_store_anywhere", [self.exact(pointer), value])
 
     # Narrow loads
 
