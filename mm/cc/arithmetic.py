@@ -106,10 +106,8 @@ class Arithmetic(Accesses):
         if isinstance(made.type, PointerType):
             self.pointers[made.name] = self.pointer(operand)
         elif isinstance(made.type, IntType) and made.type.bits <= 64:
-            if isinstance(operand, Local):
-                self.numbers[made.name] = self.numbers[operand.name]
-            else:
-                self.define(made.name, made.type, self.number(operand, RAW))
+            # A sum that overflows though LLVM said that it does not has another number in each form: from here on it is one.
+            self.define(made.name, made.type, self.number(operand, RAW))
         else:
             self.groups[made.name] = self.group(operand)
 

@@ -286,6 +286,27 @@ define i64 @main() {
 define i32 @id(i32 %x) noinline {
   ret i32 %x
 }"""),
+    "a sum that overflows, and is one number from then on": (3, """define i64 @main() {
+  %a = call i32 @id(i32 2147483647)
+  %b = add nsw i32 %a, 1
+  %c = freeze i32 %b
+  %d = icmp slt i32 %c, 0
+  %e = lshr i32 %c, 31
+  %f = zext i1 %d to i32
+  %g = icmp eq i32 %e, %f
+  %h = sext i32 %c to i64
+  %i = lshr i64 %h, 63
+  %j = zext i32 %e to i64
+  %k = icmp eq i64 %i, %j
+  %l = zext i1 %g to i64
+  %m = zext i1 %k to i64
+  %n = shl i64 %m, 1
+  %r = or i64 %l, %n
+  ret i64 %r
+}
+define i32 @id(i32 %x) noinline {
+  ret i32 %x
+}"""),
     "a weak name that nothing defines": (5, """declare extern_weak i64 @none(i64)
 @there = extern_weak global i64
 @kept = global ptr @none
