@@ -354,7 +354,9 @@ class Accesses(Lowering):
             return
         if made.operands:
             size *= made.operands[0].number  # type: ignore[attr-defined]
-        self.pointers[made.name] = self.local_object(made.name, size, max(made.align, 1), self.begins.get(made.name))
+        # A pointer keeps its tag in a word alone, also in a packed structure.
+        align = max(made.align, WORD if self.layouts.holds_pointers(made.source) else 1)
+        self.pointers[made.name] = self.local_object(made.name, size, align, self.begins.get(made.name))
 
     def local_object(self, name: str, size: int, align: int, begin: Optional[int] = None) -> Pointer:
         raise NotImplementedError

@@ -161,6 +161,13 @@ class Layouts:
         self._both(type_)
         return self.places[type_]
 
+    def holds_pointers(self, type_: Optional[Type]) -> bool:
+        """Whether there is a pointer in an object."""
+        plain = self.plain(type_) if type_ is not None else VOID
+        if isinstance(plain, StructType):
+            return any(self.holds_pointers(part) for part in plain.fields)
+        return self.holds_pointers(plain.element) if isinstance(plain, ArrayType) else isinstance(plain, PointerType)
+
     def inside(self, type_: Type, index: int) -> tuple[int, Type]:
         """The offset and the type of a part."""
         type_ = self.plain(type_)

@@ -12,7 +12,20 @@ from mm.cc.control import Translator
 from mm.cc.ctypes import Types
 from mm.cc.data import Place, Words
 from mm.cc.failures import INSTEAD, INSTEAD_OF, Failure, Failures, Missing
-from mm.cc.ir import POINTER, ArrayType, BlockAddress, Function, Global, GlobalObject, IntType, Module, Number, Parts, Type
+from mm.cc.ir import (
+    POINTER,
+    WORD,
+    ArrayType,
+    BlockAddress,
+    Function,
+    Global,
+    GlobalObject,
+    IntType,
+    Module,
+    Number,
+    Parts,
+    Type,
+)
 from mm.cc.lines import FunctionNotes
 from mm.cc.modulenames import ASSEMBLER, DOOR, EMPTY, SHARED, WIPING, ModuleNames, Segment
 from mm.cc.options import Options
@@ -205,7 +218,7 @@ class Program:
         made = module.globals[name]
         names = self.names[id(module)]
         size = names.layouts.size(made.type)
-        align = max(made.align or names.layouts.align(made.type), 1)
+        align = max(made.align or names.layouts.align(made.type), WORD if names.layouts.holds_pointers(made.type) else 1)
         log = max(log_of(size), (align - 1).bit_length() if align > 1 else 0)
         if log > MOST_LOG:
             raise Failure(f"{module.name}: {name}", f"an object of {size} bytes, more than a segment can have,")
