@@ -92,7 +92,7 @@ FAR long by_numbers(long *p, long *e)
 }
 FAR long exchanged(long i) { return atomic_exchange(&head, a + i) - a + *atomic_load(&head); }
 FAR long changed(long *from, long i) { long *p = from; return atomic_compare_exchange_strong(&head, &p, a + i) * 100 + *head; }
-FAR long of_number(void) { long x = (number += 3), y = (number -= 1); return x * 10 + y; }
+FAR long of_number(void) { number += 3, number -= 1; return number; }
 FAR long stepped(void) { head++; long *p = atomic_fetch_add(&head, 1); head--; return *p * 100 + *head + of_number(); }
 
 struct __attribute__((packed)) pair { int x, y; char *p; };
