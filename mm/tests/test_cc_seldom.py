@@ -13,7 +13,7 @@ from mm.tests.test_cc_clang import needs_clang
 SOURCE = path_of("mm", "tests", "seldom.c")
 FLAGS = ["-w", "-fwrapv"]
 # The parts of the program, each with the levels at which it is translated and how many lines it prints.
-PARTS = ((0, "012", 10),)
+PARTS = ((0, "012", 10), (1, "01", 94), (2, "01", 25), (3, "1", 59), (4, "02", 10), (5, "1", 54))
 
 
 @needs_clang
