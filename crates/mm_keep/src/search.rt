@@ -212,11 +212,11 @@ impl Search {
         ensures few { IfOk result (λ found. IfSome found (λ tables. length tables.threads ≤ self.limit)) }
     {
         match self.run(kernel) {
-            Ok(true) => Ok(Some(self.into_tables())),
             Ok(false) => {
                 drop(self);
                 Ok(None)
             }
+            Ok(true) => Ok(Some(self.into_tables())),
             Err(error) => {
                 drop(self);
                 Err(error)
