@@ -1,5 +1,5 @@
 -- The last set of the path is done.
-use Rattle.std.proofs.Common.{◌≡◌, ◌≢◌, ◌⊎◌, inl, inr, ℕ, zero, ◌+◌, ◌<◌, ◌≤◌, true, false, List, [], ◌∷◌, ◌++◌, length, drop, refl, sym}
+use Rattle.std.proofs.Common.{◌≡◌, ◌⊎◌, inl, inr, ℕ, ◌<◌, ◌≤◌, true, false, List, [], ◌∷◌, ◌++◌, length, drop, refl, sym}
 use Rattle.std.proofs.Common.{Option, Some, None, ap, ◌∙◌, subst, arith}
 use Rattle.std.proofs.lemmas.{Bool.{cases_lt, cases_eq, both_ways}, List.{get_or-set_same, get_or-set_other, length-set, set_past}}
 use Rattle.std.proofs.lemmas.List.{Elements.{Contains-push, Contains-push_cases, Contains-append_left}, Sums.sum_by-set}
@@ -7,12 +7,12 @@ use Rattle.std.proofs.lemmas.List.Elements.{Contains-append_right, Contains-appe
 use Rattle.std.specs.{Prelude.{Contains, slice_set, slice_index_or, cond}, List.count_by}
 use Rattle.mm_span.{specs.Pairs.EachPair, proofs.Members.{in_first, in_rest, in_cases, none_in}}
 use Rattle.mm_endless.specs.declared.walk.Mark.{Mark, TheVariants.{Unmet, OnPath, Passed, Closed}}
-use Rattle.mm_endless.specs.{Graphs.{children, Leads, IsTold, IsRecurrent}, Stages.{Stage, mark_of, number_of, left_of, is_met, is_done}}
-use Rattle.mm_endless.specs.Stages.{IsOnPath, IsDone, IsNotBefore, IsInLast, IsLookedAt, IsOpenAt, IsInSome, IsStage, IsLater}
+use Rattle.mm_endless.specs.{Graphs.{children, Leads, IsTold}, Stages.{Stage, mark_of, number_of, left_of, is_met, is_done}}
+use Rattle.mm_endless.specs.Stages.{IsOnPath, IsDone, IsNotBefore, IsLookedAt, IsOpenAt, IsInSome, IsStage, IsLater}
 use Rattle.mm_endless.specs.Stages.{told_of, told_by, mark_for, numbers_for, marks_after, numbers_after, marked_all, IsLastOpen}
-use Rattle.mm_endless.specs.Stages.{IsLastBelow, HasDone, IsFirstOf, IsLeastOf, marked}
+use Rattle.mm_endless.specs.Stages.{IsLastBelow, IsFirstOf, IsLeastOf, marked}
 use Rattle.mm_endless.proofs.{Walking.{leads_trans, leads_edge, stays}, Discovering.pairs_weaken}
-use Rattle.mm_endless.proofs.{Marks.{path_inside, done_inside, not_both, Kind, kind_of}, Joining.{pairs_front, pairs_last, bounds_below}}
+use Rattle.mm_endless.proofs.{Marks.{path_inside, not_both, Kind, kind_of}, Joining.{pairs_front, pairs_last, bounds_below}}
 
 -- 1. What marking nodes changes.
 
@@ -51,7 +51,7 @@ module _ (first : Option ℕ) where
   mark_in marks (v ∷ nodes) u lt h = elim (in_cases v nodes u h) [
     | inl e ↦ mark_stays (slice_set marks v (mark_for first)) nodes u (
         ap (λ x. slice_index_or (slice_set marks x (mark_for first)) u Unmet) e ∙ get_or-set_same marks u (mark_for first) Unmet lt
-      )
+        )
     | inr later ↦ mark_in (slice_set marks v (mark_for first)) nodes u (let e = length-set marks v (mark_for first) in omega (arith, e, lt)) later
   ]
 
@@ -322,7 +322,7 @@ module _ (g : List (List ℕ)) (s : Stage) (k : IsStage g s) (u b : ℕ) (last :
         | inr m ↦ m
       ] in
       let num : number_of t v ≡ f = ap (λ o. slice_index_or (numbers_after s.numbers members o) v 0) (sym e) ∙ number_in s.numbers members f v
-          (let a = member_inside v hv in let p = k.marks in let q = k.numbers in omega (arith, a, p, q)) hv in
+      (let a = member_inside v hv in let p = k.marks in let q = k.numbers in omega (arith, a, p, q)) hv in
       subst (λ n. IsTold g v (Some n)) (sym num) (
         λ x l. member_leads x v (stays g (Contains members) kept v x l hv) hv,
         record {

@@ -1,10 +1,10 @@
 -- From each node of a graph some walk leads into a closed set: as long as a node leads to one from which no walk leads
 -- back, that one leads to fewer nodes.
-use Rattle.std.proofs.Common.{◌≡◌, ◌⊎◌, inl, inr, ℕ, zero, suc, ◌+◌, ◌<◌, ◌≤◌, Bool, true, false, ◌&&◌, ◌||◌, ◌==◌, not, List, [], ◌∷◌}
-use Rattle.std.proofs.Common.{length, refl, sym, ap, ◌∙◌, subst, arith, zero-add}
+use Rattle.std.proofs.Common.{◌≡◌, ◌⊎◌, inl, inr, ℕ, zero, suc, ◌+◌, ◌<◌, ◌≤◌, Bool, true, false, ◌&&◌, ◌||◌, not, List, [], ◌∷◌}
+use Rattle.std.proofs.Common.{length, sym, ap, ◌∙◌, subst, arith, zero-add}
 use Rattle.std.proofs.lemmas.List.{Sums.sum_by-cons, FromFn.{length-range_with_len, get_or-range_with_len}}
 use Rattle.std.proofs.lemmas.Bool.{cases_Bool, or_cases, or_left, or_right, and_parts, and_from, eqb-true, eq-eqb, both_ways}
-use Rattle.std.specs.{Prelude.{Contains, cond, nat_eq}, List.{count_by, list_any, range_with_len}}
+use Rattle.std.specs.{Prelude.{Contains, cond, nat_eq}, List.{count_by, range_with_len}}
 use Rattle.mm_span.proofs.Members.{none_in, in_first, in_rest, in_cases}
 use Rattle.mm_endless.specs.Graphs.{children, AreNodes, IsWalk, Leads, IsRecurrent, WalksEnd}
 use Rattle.mm_endless.proofs.Walking.{leads_self, leads_trans, leads_edge, stays}

@@ -1,15 +1,15 @@
 -- A node is met.
-use Rattle.std.proofs.Common.{◌≡◌, ◌≢◌, ◌⊎◌, inl, inr, ℕ, ◌+◌, ◌<◌, ◌≤◌, true, List, [], ◌∷◌, ◌++◌, length, drop, refl, sym}
-use Rattle.std.proofs.Common.{ap, ◌∙◌, subst, arith, length-append}
+use Rattle.std.proofs.Common.{◌≡◌, ◌≢◌, ◌⊎◌, inl, inr, ℕ, ◌+◌, ◌<◌, ◌≤◌, true, List, [], ◌∷◌, ◌++◌, length, drop, sym}
+use Rattle.std.proofs.Common.{ap, ◌∙◌, subst, arith}
 use Rattle.std.proofs.lemmas.{Bool.cases_eq, List.{get_or-set_same, get_or-set_other, length-set, drop_all}}
 use Rattle.std.proofs.lemmas.List.{Elements.{Contains-push, Contains-push_cases, Contains-append_left}, Sums.{sum_by-set, count_by-le-length}}
-use Rattle.std.specs.{Prelude.{Contains, slice_set, cond}, List.{AllByRecursion, count_by}}
-use Rattle.mm_span.{specs.Pairs.EachPair, proofs.Members.{pairs_both, pairs_map, in_cases, none_in, in_first, in_rest, all_of, all_at}}
+use Rattle.std.specs.{Prelude.{Contains, slice_set, cond}, List.{count_by}}
+use Rattle.mm_span.{specs.Pairs.EachPair, proofs.Members.{pairs_both, in_cases, none_in, in_first, in_rest, all_of, all_at}}
 use Rattle.mm_endless.specs.declared.walk.Mark.{Mark, TheVariants.{Unmet, OnPath}}
 use Rattle.mm_endless.specs.{Graphs.{children, Leads, IsTold}, Stages.{Stage, mark_of, number_of, left_of, is_met, is_done}}
-use Rattle.mm_endless.specs.Stages.{IsOnPath, IsDone, IsNotBefore, IsInLast, IsLookedAt, IsStage, IsLater}
+use Rattle.mm_endless.specs.Stages.{IsOnPath, IsDone, IsNotBefore, IsInLast, IsStage, IsLater}
 use Rattle.mm_endless.specs.Stages.{told_of, told_by, discovered}
-use Rattle.mm_endless.proofs.{Walking.leads_self, Marks.{path_inside, path_not_unmet, done_not_unmet}}
+use Rattle.mm_endless.proofs.{Walking.leads_self, Marks.{path_not_unmet, done_not_unmet}}
 
 -- pairs of a list with one element more
 pub pairs_push : {X : Type 0} (R : X → X → Type 0) (xs : List X) (y : X) → EachPair R xs → ((x : X) → Contains xs x → R x y) → EachPair R (xs ++ y ∷ [])
@@ -165,7 +165,7 @@ module _ (g : List (List ℕ)) (s : Stage) (k : IsStage g s) (v : ℕ) (inside :
       ];
       rising = pairs_push (λ u w. number_of t u < number_of t w) s.unfinished v
           (pairs_weaken (λ u w. number_of s u < number_of s w) (λ u w. number_of t u < number_of t w) s.unfinished (λ u w left right lt.
-              let a = number_path u (k.opens u left) in let b = number_path w (k.opens w right) in omega (arith, a, b, lt)) k.rising)
+          let a = number_path u (k.opens u left) in let b = number_path w (k.opens w right) in omega (arith, a, b, lt)) k.rising)
           (λ u there. let low = k.below u (k.opens u there) in let a = number_path u (k.opens u there) in let b = number_v in omega (arith, low, a, b));
       finishes = λ u there. (path_stays u (k.finishes u there).0, (k.finishes u there).1);
       sets = pairs_weaken (IsNotBefore s) (IsNotBefore t) s.finished (λ u w left right n.

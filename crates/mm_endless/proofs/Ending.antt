@@ -1,9 +1,9 @@
 -- The end of a walk.
-use Rattle.std.proofs.Common.{◌≡◌, ℕ, zero, suc, ◌<◌, List, [], ◌∷◌, length, Option, None, refl, sym, ap, ◌∙◌, subst, arith}
+use Rattle.std.proofs.Common.{◌≡◌, ℕ, zero, suc, ◌<◌, List, [], ◌∷◌, length, None, refl, sym, ap, ◌∙◌, subst, arith}
 use Rattle.std.specs.Prelude.{Contains, slice_index_or}
 use Rattle.mm_span.proofs.Members.{none_in}
-use Rattle.mm_endless.specs.declared.walk.Mark.{Mark, TheVariants.{Unmet, OnPath}}
-use Rattle.mm_endless.specs.{Graphs.{AreClosedSets, IsTold}, Stages.{Stage, mark_of, number_of, IsOnPath, IsDone, IsStage, told_by, firsts_of}}
+use Rattle.mm_endless.specs.declared.walk.Mark.{Mark, TheVariants.{Unmet}}
+use Rattle.mm_endless.specs.{Graphs.{AreClosedSets, IsTold}, Stages.{Stage, mark_of, IsOnPath, IsDone, IsStage, told_by, firsts_of}}
 use Rattle.mm_endless.proofs.Marks.{Kind, kind_of}
 
 pub firsts_len : (marks : List Mark) (numbers : List ℕ) → length marks ≡ length numbers → length (firsts_of marks numbers) ≡ length marks

@@ -1,9 +1,9 @@
 -- A node of which no child is left is finished.
-use Rattle.std.proofs.Common.{◌≡◌, ◌≢◌, ◌⊎◌, inl, inr, ℕ, zero, ◌<◌, ◌≤◌, List, [], ◌∷◌, ◌++◌, refl, sym, ap, ◌∙◌, subst, arith}
+use Rattle.std.proofs.Common.{◌≡◌, ◌≢◌, inl, inr, ℕ, ◌<◌, List, [], ◌∷◌, ◌++◌, sym, ap, ◌∙◌, subst, arith}
 use Rattle.std.proofs.lemmas.List.Elements.{Contains-push, Contains-push_cases, Contains-append_left}
 use Rattle.std.specs.Prelude.{Contains}
 use Rattle.mm_span.specs.Pairs.{EachPair}
-use Rattle.mm_endless.specs.Stages.{Stage, mark_of, number_of, left_of, IsOnPath, IsNotBefore, IsInLast, IsOpenAt, IsStage, IsLastOpen}
+use Rattle.mm_endless.specs.Stages.{Stage, number_of, left_of, IsOnPath, IsNotBefore, IsOpenAt, IsStage, IsLastOpen}
 use Rattle.mm_endless.proofs.{Lists.pushed, Discovering.pairs_push, Joining.{pairs_front, pairs_last, last_open, last_on_path}}
 
 module _ (g : List (List ℕ)) (s : Stage) (k : IsStage g s) (u : ℕ) (last : IsLastOpen s u) where

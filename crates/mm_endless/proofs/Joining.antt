@@ -1,8 +1,8 @@
 -- The last sets of the path become one.
-use Rattle.std.proofs.Common.{◌≡◌, ◌⊎◌, inl, inr, ℕ, ◌<◌, ◌≤◌, List, [], ◌∷◌, ◌++◌, length, refl, sym, ap, ◌∙◌, subst, arith}
+use Rattle.std.proofs.Common.{◌≡◌, ◌⊎◌, inl, inr, ℕ, ◌<◌, ◌≤◌, List, [], ◌∷◌, ◌++◌, length, sym, ap, ◌∙◌, subst, arith}
 use Rattle.std.proofs.lemmas.{Bool.cases_lt, List.Elements.{Contains-push, Contains-push_cases, Contains-append_left}}
-use Rattle.std.{proofs.lemmas.List.Elements.Contains-append_right, specs.Prelude.Contains}
-use Rattle.mm_span.{specs.Pairs.EachPair, proofs.Members.{in_first, in_cases, none_in, all_at, all_of, in_rest}}
+use Rattle.std.{specs.Prelude.Contains}
+use Rattle.mm_span.{specs.Pairs.EachPair, proofs.Members.{in_cases, none_in, all_at, all_of}}
 use Rattle.mm_endless.specs.Graphs.{children, Leads}
 use Rattle.mm_endless.specs.Stages.{Stage, mark_of, number_of, IsOnPath, IsNotBefore, IsInLast, IsInSome, IsStage, IsLastOpen}
 use Rattle.mm_endless.proofs.{Walking.{leads_trans, leads_edge}, Discovering.pairs_weaken, Marks.path_inside}

@@ -1,10 +1,10 @@
 -- The last and the least of numbers.
-use Rattle.std.proofs.Common.{◌≡◌, ◌⊎◌, inl, inr, ℕ, zero, suc, ◌+◌, ◌-◌, ◌<◌, ◌≤◌, min, List, [], ◌∷◌, ◌++◌, length, take, drop, Option, Some, None}
+use Rattle.std.proofs.Common.{◌≡◌, inl, inr, ℕ, zero, suc, ◌+◌, ◌-◌, ◌<◌, ◌≤◌, min, List, [], ◌∷◌, ◌++◌, length, take, drop, Option, Some, None}
 use Rattle.std.proofs.Common.{slice_index_or, refl, sym, ap, ◌∙◌, subst, arith, length-append}
-use Rattle.std.proofs.lemmas.{Bool.cases_lt, List.{get_or_at, take_more, drop_more, length-drop}}
+use Rattle.std.proofs.lemmas.{Bool.cases_lt, List.{get_or_at, take_more, length-drop}}
 use Rattle.std.proofs.lemmas.List.Elements.{Contains-push, Contains-push_cases, Contains-append_left}
 use Rattle.std.specs.Prelude.{Contains, slice_range}
-use Rattle.mm_span.proofs.Members.{none_in, in_cases, in_first, in_rest}
+use Rattle.mm_span.proofs.Members.{none_in, in_first}
 use Rattle.mm_endless.specs.Stages.{IsLeastOf, lesser_of}
 
 least_cases : (xs : List ℕ) (a n m : ℕ) → Contains xs a → ((k : ℕ) → Contains xs k → a ≤ k) → m ≡ min a n → Contains (xs ++ n ∷ []) m × ((k : ℕ) → Contains (xs ++ n ∷ []) k → m ≤ k)

@@ -1,11 +1,9 @@
 -- A child of a node was looked at.
-use Rattle.std.proofs.Common.{◌≡◌, ◌≢◌, ◌⊎◌, inl, inr, ℕ, ◌+◌, ◌<◌, ◌≤◌, List, [], ◌∷◌, ◌++◌, length, drop, refl, sym, ap, ◌∙◌, subst, arith}
-use Rattle.std.proofs.lemmas.{Bool.cases_eq, List.{get_or-set_same, get_or-set_other, length-set, drop_more, get_or_default, get_or_past}}
-use Rattle.std.proofs.lemmas.Bool.{cases_lt}
+use Rattle.std.proofs.Common.{◌≡◌, ◌≢◌, ◌⊎◌, inl, inr, ℕ, ◌+◌, ◌<◌, ◌≤◌, List, ◌∷◌, length, drop, sym, ap, ◌∙◌, subst, arith}
+use Rattle.std.proofs.lemmas.{Bool.cases_eq, List.{get_or-set_same, get_or-set_other, length-set, drop_more}}
 use Rattle.std.specs.Prelude.{Contains, slice_set, slice_index_or}
 use Rattle.mm_span.proofs.Members.{in_cases}
-use Rattle.mm_endless.specs.declared.walk.Mark.{Mark, TheVariants.{Unmet, OnPath}}
-use Rattle.mm_endless.specs.{Graphs.children, Stages.{Stage, mark_of, number_of, left_of, IsOnPath, IsDone, IsInLast, IsLookedAt, IsStage}}
+use Rattle.mm_endless.specs.{Graphs.children, Stages.{Stage, number_of, left_of, IsOnPath, IsDone, IsInLast, IsLookedAt, IsStage}}
 use Rattle.mm_endless.proofs.Marks.{path_inside, path_not_unmet}
 
 module _ (g : List (List ℕ)) (s : Stage) (k : IsStage g s) (u n c : ℕ) (path : IsOnPath s u) (is : left_of s u ≡ n + 1)

@@ -1,10 +1,10 @@
 -- What the marks and numbers of nodes are, before and after a step.
-use Rattle.std.proofs.Common.{◌≡◌, ◌≢◌, ◌⊎◌, inl, inr, ℕ, zero, suc, ◌<◌, ◌≤◌, true, List, [], ◌∷◌, length, take, drop, refl, sym, ap, ◌∙◌}
+use Rattle.std.proofs.Common.{◌≡◌, ◌≢◌, inl, inr, ℕ, zero, suc, ◌<◌, true, List, [], ◌∷◌, length, take, drop, refl, sym, ap, ◌∙◌}
 use Rattle.std.proofs.Common.{Result, Ok, Err, OnOk, slice_index_or, subst, arith}
 use Rattle.std.proofs.lemmas.{Bool.cases_lt, List.{get_or_past, take-append-drop, Elements.Contains-append_right}}
 use Rattle.std.specs.Prelude.{Contains}
 use Rattle.mm_endless.specs.declared.walk.Mark.{Mark, TheVariants.{Unmet, OnPath, Passed, Closed}}
-use Rattle.mm_endless.specs.Stages.{Stage, mark_of, is_done, is_met, IsOnPath, IsDone}
+use Rattle.mm_endless.specs.Stages.{Stage, mark_of, is_done, IsOnPath, IsDone}
 
 unmet_not : ◌≡◌ {A = Mark} Unmet OnPath → ⊥
 unmet_not e = cc

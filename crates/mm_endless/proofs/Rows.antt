@@ -1,6 +1,6 @@
 -- Rows of numbers that are kept in one list.
 use Rattle.std.proofs.Common.{◌≡◌, ℕ, zero, suc, ◌+◌, ◌-◌, ◌<◌, ◌≤◌, List, [], ◌∷◌, ◌++◌, length, take, drop, refl, sym, ap, ◌∙◌, subst, arith}
-use Rattle.std.proofs.lemmas.List.{drop-append-le, take-append-le, drop_at, drop-take, take_all, length_push, length-drop, length-append}
+use Rattle.std.proofs.lemmas.List.{drop-append-le, take-append-le, drop_at, drop-take, take_all, length-drop, length-append}
 use Rattle.std.specs.Prelude.{slice_range, slice_index_or}
 use Rattle.mm_endless.specs.Rows.{rows_from, Ascend, begin_of}
 

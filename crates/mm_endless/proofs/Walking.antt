@@ -1,5 +1,5 @@
 -- Walks along edges.
-use Rattle.std.proofs.Common.{◌≡◌, ℕ, List, [], ◌∷◌, ◌++◌, refl, sym, subst}
+use Rattle.std.proofs.Common.{ℕ, List, [], ◌∷◌, ◌++◌, refl, sym, subst}
 use Rattle.std.specs.Prelude.{Contains}
 use Rattle.mm_endless.specs.Graphs.{children, IsWalk, Leads}
 

@@ -1,6 +1,5 @@
 -- Graphs of numbered nodes, and sets of nodes that no edge leaves.
 use Rattle.std.specs.Prelude.{◌≡◌, ℕ, ◌<◌, ◌≤◌, List, [], ◌∷◌, length, Contains, Option, Some, None, slice_index_or}
-use Rattle.std.specs.List.{AllByRecursion}
 
 -- the children of a node; none if there is no such node
 abbrev pub children : List (List ℕ) → ℕ → List ℕ

@@ -1,5 +1,5 @@
 -- Rows of numbers, kept in one list with the ends of each.
-use Rattle.std.specs.Prelude.{◌≡◌, ℕ, zero, suc, ◌≤◌, List, [], ◌∷◌, length, slice_range, slice_index_or}
+use Rattle.std.specs.Prelude.{◌≡◌, ℕ, zero, suc, ◌≤◌, List, [], ◌∷◌, slice_range, slice_index_or}
 
 -- the rows of a list that end at these places; the first begins at `from`
 abbrev pub rows_from : List ℕ → ℕ → List ℕ → List (List ℕ)

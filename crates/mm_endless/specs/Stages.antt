@@ -1,7 +1,7 @@
 -- How far a walk over a graph has come.
 use Rattle.std.specs.Prelude.{◌≡◌, ℕ, ◌+◌, ◌*◌, ◌<◌, ◌≤◌, ◌⊎◌, Bool, true, false, List, [], ◌∷◌, ◌++◌, length, drop}
 use Rattle.std.specs.Prelude.{Contains, Option, Some, None, slice_index_or, slice_set, min}
-use Rattle.std.specs.List.{AllByRecursion, count_by, sum_by}
+use Rattle.std.specs.List.{count_by, sum_by}
 use Rattle.mm_span.specs.Pairs.{EachPair}
 use Rattle.mm_endless.specs.declared.walk.{Mark.{Mark, TheVariants.{Unmet, OnPath, Passed, Closed}}, Walk.Walk}
 use Rattle.mm_endless.specs.Graphs.{children, AreNodes, Leads, IsTold}

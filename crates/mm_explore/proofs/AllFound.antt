@@ -1,15 +1,14 @@
 -- What was noted of all turns explored is what an exploration finds.
 use Rattle.std.proofs.Common.{◌≡◌, inl, inr, ℕ, ◌<◌, Bool, true, false, if◌then◌else◌, List, [], ◌∷◌, ◌++◌, map, length}
-use Rattle.std.proofs.Common.{zip, zero, suc, codes, decimal, Option, Some, None, slice_get, refl, sym, ap, ◌∙◌, subst}
+use Rattle.std.proofs.Common.{zero, suc, Option, Some, None, slice_get, refl, sym, ap, ◌∙◌, subst}
 use Rattle.std.proofs.lemmas.Option.{slice_get_within}
-use Rattle.std.specs.{Prelude.{Contains, IfSome, slice_index_or}, List.{AllByRecursion, AllZip, flat_map}}
+use Rattle.std.specs.{Prelude.{Contains, IfSome, slice_index_or}, List.{AllZip, flat_map}}
 use Rattle.mm_word.specs.{Cause.cause_numbers, declared.perm.Kind.Kind, Access.AccessValue}
-use Rattle.mm_model.specs.{Image.{Image, start}, Report.groups_of, Slot.Slot, Trace.{touches, group_in}, Counted.writes}
+use Rattle.mm_model.specs.{Image.{Image}, Slot.Slot, Trace.{touches, group_in}, Counted.writes}
 use Rattle.mm_explore.specs.declared.found.Origin.{Origin}
 use Rattle.mm_explore.specs.Findings.{Extension, turn_at, explored_turns, Reaches, IsReached, any_kind, first_fault}
-use Rattle.mm_explore.specs.Findings.{extended}
-use Rattle.mm_explore.specs.{Finds.{IsGroupOf, fault_of, faults_of}, Noting.{IsFrom, fault_kept}, FoundLists.led_by}
-use Rattle.mm_explore.specs.{Finds.{outcome_found, outcomes_of}, Outcomes.{End, firsts, count_of}, Results.{GroupFound, FaultFound, OutcomeFound}}
+use Rattle.mm_explore.specs.{Finds.{IsGroupOf, fault_of, faults_of}, Noting.{IsFrom, fault_kept}}
+use Rattle.mm_explore.specs.{Finds.{outcome_found, outcomes_of}, Outcomes.{End, firsts, count_of}, Results.{GroupFound, OutcomeFound}}
 use Rattle.mm_explore.specs.Words.{AreKept, IsGroupFound, passed_words, turn_words}
 use Rattle.mm_span.proofs.Members.{none_in, in_first, in_cases, in_flat, flat_in}
 use Rattle.mm_span.proofs.Runs.{spans_alike}

@@ -1,10 +1,9 @@
 -- Closed sets of configurations.
-use Rattle.std.proofs.Common.{◌≡◌, ◌⊎◌, inl, inr, ℕ, List, [], ◌∷◌, ◌++◌, refl, sym, ap, ◌∙◌, subst, append_assoc, append-nil}
-use Rattle.std.specs.Prelude.{Contains}
+use Rattle.std.proofs.Common.{◌≡◌, inl, inr, ℕ, List, [], ◌∷◌, ◌++◌, refl, sym, ap, ◌∙◌, subst, append_assoc, append-nil}
 use Rattle.mm_model.specs.{State.State, Image.{Image, start}, Run.run}
-use Rattle.mm_explore.specs.{Closed.{LeadsOn, IsLedOn, IsClosed, IsAtEnd, IsEndless}, Explored.leads_to, Findings.IsFinal}
-use Rattle.mm_explore.specs.{Configurations.moves, Laws.{Passes, IsSetOf, ClosedSetsAreLedOn, IsAlone, FinalsAreClosed}}
-use Rattle.mm_explore.proofs.{Coverings.{alike, leads_alike, leads_more}, Movings.{moves_or_idles, idle_leads}, Orders.more}
+use Rattle.mm_explore.specs.{Closed.{LeadsOn, IsClosed, IsAtEnd}, Explored.leads_to, Findings.IsFinal}
+use Rattle.mm_explore.specs.{Laws.{Passes, ClosedSetsAreLedOn, FinalsAreClosed}}
+use Rattle.mm_explore.proofs.{Coverings.{leads_alike, leads_more}, Movings.{moves_or_idles, idle_leads}, Orders.more}
 
 module _ (i : Image) where
   -- 1. What leads on to what.

@@ -197,9 +197,9 @@ module _ (i : Image) (limit : ℕ) (e : Results) (img : IsImage i) (k : Finds i 
             let final_u = ending_final i u x.outcome.ending leads.is.ending other in
             let place : Contains k.list t = elim among [ inl f ↦ (final_in t f).0 | inr f ↦ absurd ((turns_in t f).endless.1 final_t) ] in
             covers i limit k.list k.explored t place u (inr before) (λ c.
-                let final_c = final_like i u c.by (sym c.same) final_u in
-                clash c.by (Contains-append_left k.are.finals k.are.firsts c.by (selected (IsFinal i) k.list k.are.finals k.are.final c.by c.inside final_c))
-                (on_same i u c.by (sym c.same)) c.early (inl (final_t, final_c)))
+            let final_c = final_like i u c.by (sym c.same) final_u in
+            clash c.by (Contains-append_left k.are.finals k.are.firsts c.by (selected (IsFinal i) k.list k.are.finals k.are.final c.by c.inside final_c))
+            (on_same i u c.by (sym c.same)) c.early (inl (final_t, final_c)))
 
         turns_case : x.outcome.ending ≡ Endless → ⊥
         turns_case turns =
@@ -251,7 +251,7 @@ told_once i img s t a b ha hb m n x y e =
     let ending = ap (λ (o : OutcomeFound). o.ending) e in
     let slots = zips_tell numbers a.slots b.slots (outcome_slots i img s a ha ∙ sym long) (outcome_slots i img t b hb ∙ sym long) (ap (λ (o : OutcomeFound). o.slots) e) in
     let outputs = zips_tell groups a.outputs b.outputs (outcome_outputs i s a ha) (outcome_outputs i t b hb)
-        (outputs_back (zip groups a.outputs) (zip groups b.outputs) (ap (λ (o : OutcomeFound). o.outputs) e)) in
+    (outputs_back (zip groups a.outputs) (zip groups b.outputs) (ap (λ (o : OutcomeFound). o.outputs) e)) in
     λ j. record { ending = ending j; slots = slots j; outputs = outputs j }
 
 -- 5. All findings.

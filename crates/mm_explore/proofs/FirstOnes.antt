@@ -1,14 +1,14 @@
 -- Where all configurations are in a list, it is decided whether one leads on to another, and each endless set has a first
 -- schedule in the list.
-use Rattle.std.proofs.Common.{◌≡◌, ◌⊎◌, inl, inr, ℕ, zero, suc, ◌<◌, List, [], ◌∷◌, ◌++◌, length, refl, sym, ap, ◌∙◌, subst, slice_index_or, arith}
+use Rattle.std.proofs.Common.{◌≡◌, ◌⊎◌, inl, inr, ℕ, zero, suc, ◌<◌, List, [], ◌∷◌, length, refl, sym, ap, ◌∙◌, subst, slice_index_or, arith}
 use Rattle.std.proofs.lemmas.List.Elements.{Contains-get_or}
-use Rattle.std.specs.{Prelude.Contains, List.AllByRecursion}
+use Rattle.std.specs.{Prelude.Contains}
 use Rattle.mm_endless.{specs.Graphs.Leads, proofs.Descending.leads_or}
 use Rattle.mm_model.specs.Image.{Image}
 use Rattle.mm_span.{specs.Pairs.EachPair, proofs.Members.{none_in, in_first, in_rest, in_cases, all_at}}
-use Rattle.mm_explore.specs.{Closed.{LeadsOn, IsAtEnd, IsEndless, IsFirstEndless}, Explored.{leads_to, IsLeast, IsExplored, IsAll}}
+use Rattle.mm_explore.specs.{Closed.{LeadsOn, IsEndless, IsFirstEndless}, Explored.{leads_to, IsLeast, IsExplored, IsAll}}
 use Rattle.mm_explore.specs.{Findings.IsFinal, Schedules.Before, Searching.UpTo}
-use Rattle.mm_explore.proofs.{ClosedSets.{all_alike, on_same, on_trans, end_led, final_stays_all}, Orders.{before_self, before_cases, before_up_to, up_to_before, before_through}}
+use Rattle.mm_explore.proofs.{ClosedSets.{all_alike, on_same, on_trans, end_led, final_stays_all}, Orders.{before_self, before_cases, up_to_before, before_through}}
 use Rattle.mm_explore.proofs.Turning.{at, node, graph, nodes, node_inside, leads_node, walk_on, follow, same_least}
 
 -- schedules that ascend are at one index each

@@ -2,7 +2,7 @@
 use Rattle.std.proofs.Common.{◌≡◌, ℕ, ◌+◌, Bool, true, false, cond, if◌then◌else◌, List, [], ◌∷◌, ◌++◌, map}
 use Rattle.std.{proofs.Common.{Option, Some, None, refl, sym, ap, ◌∙◌}, specs.List.filter}
 use Rattle.mm_model.specs.Slot.{Slot}
-use Rattle.mm_model.specs.{State.{ThreadRow, Core, State, slot_at, output_of}, Turn.{Turned, turn}}
+use Rattle.mm_model.specs.{State.{ThreadRow, State, slot_at, output_of}, Turn.{Turned, turn}}
 use Rattle.mm_model.specs.{Run.{turn_of, after}, Trace.{group_of, group_in}}
 use Rattle.mm_explore.specs.Configurations.{uncounted_row, uncounted, configuration, runs, has_load, running_slots}
 use Rattle.mm_explore.specs.Configurations.{loaded_ports, moves}

@@ -15,6 +15,8 @@ pub mod KeptRuns
 pub mod Finals
 pub mod HeldEnds
 pub mod SetOutcomes
+pub mod ApartSlots
+pub mod GraphRuns
 pub mod TellsEnds
 pub mod Turning
 pub mod FirstOnes
@@ -40,6 +42,9 @@ pub mod FoundForms
 pub mod MoveForms
 pub mod Notings
 pub mod Steps
+pub mod SetsSeen
+pub mod BusySets
+pub mod NotingSets
 pub mod Repeats
 pub mod WordKeys
 pub mod Tallies

@@ -1,5 +1,5 @@
 -- What was noted, as the list of schedules grows; and schedules that are not final.
-use Rattle.std.proofs.Common.{◌≡◌, inl, inr, ℕ, suc, zero, List, [], ◌∷◌, ◌++◌, Option, Some, None, slice_get, refl, ap}
+use Rattle.std.proofs.Common.{◌≡◌, ℕ, suc, zero, List, [], ◌∷◌, ◌++◌, Option, Some, None, slice_get}
 use Rattle.std.specs.List.{AllZip}
 use Rattle.mm_model.specs.Image.{Image}
 use Rattle.mm_explore.specs.declared.{findings.Findings.Findings, found.Origin.Origin}

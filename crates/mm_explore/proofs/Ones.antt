@@ -1,5 +1,5 @@
 -- What an exploration finds is determined: the list, the runs of words, the faults, and the ends with their outcomes.
-use Rattle.std.proofs.Common.{◌≡◌, ◌⊎◌, inl, inr, ℕ, zero, suc, ◌<◌, ◌≤◌, Bool, true, false, List, [], ◌∷◌, ◌++◌, map, length}
+use Rattle.std.proofs.Common.{◌≡◌, ◌⊎◌, inl, inr, ℕ, zero, suc, ◌≤◌, Bool, true, false, List, [], ◌∷◌, ◌++◌, map, length}
 use Rattle.std.proofs.Common.{refl, sym, ap, ◌∙◌, subst, arith}
 use Rattle.std.specs.{Prelude.Contains, List.{AllByRecursion, AllZip}}
 use Rattle.mm_model.specs.{Image.{Image, start}, Report.groups_of, Counted.writes}
@@ -7,7 +7,7 @@ use Rattle.mm_span.specs.Pairs.{EachPair}
 use Rattle.mm_explore.specs.Schedules.{Before}
 use Rattle.mm_explore.specs.Explored.{IsLeast, IsExplored, IsAll}
 use Rattle.mm_explore.specs.{Closed.IsFirstEndless, Findings.{any_kind, Reaches, IsFinal}}
-use Rattle.mm_explore.specs.{Finds.{IsGroupOf, Finds, faults_of, outcomes_of}, Laws.ExplorationsAreOne, Results.{GroupFound, Results}}
+use Rattle.mm_explore.specs.{Finds.{IsGroupOf, faults_of, outcomes_of}, Laws.ExplorationsAreOne, Results.{GroupFound}}
 use Rattle.mm_explore.specs.Outcomes.{End, SelectsEndless, AreEnds, IsOutcome}
 use Rattle.mm_explore.proofs.{Selections.selects_one, SetOutcomes.outcome_one}
 use Rattle.mm_explore.specs.Searching.{UpTo}

@@ -1,18 +1,17 @@
 -- If all configurations were found, what comes of every run was found, and the outcome of the closed set into which it
 -- leads.
-use Rattle.std.proofs.Common.{◌≡◌, ◌⊎◌, inl, inr, ℕ, ◌<◌, true, false, List, [], ◌∷◌, ◌++◌, map, length, refl, sym, ap, ◌∙◌, subst}
+use Rattle.std.proofs.Common.{◌≡◌, inl, inr, ℕ, true, List, [], ◌∷◌, ◌++◌, refl, sym, subst}
 use Rattle.std.proofs.lemmas.List.{Elements.{Contains-append_left, Contains-append_right}}
-use Rattle.std.specs.{Prelude.{Contains, IsSome, Some, Option, None}, List.{AllZip, flat_map, AllByRecursion}}
+use Rattle.std.specs.{Prelude.{Contains, IsSome, Some, Option, None}, List.{AllZip, flat_map}}
 use Rattle.mm_word.specs.{Access.AccessValue, Cause.cause_numbers}
 use Rattle.mm_model.specs.{Image.{Image, start}, Report.groups_of, Run.{turn_of, run}, Slot.Slot, Spelling.IsImage}
 use Rattle.mm_model.specs.{Trace.{touches, group_in}, Counted.writes}
-use Rattle.mm_span.specs.Spans.{Span, AreSpans, InSpan}
-use Rattle.mm_span.proofs.Members.{none_in, in_first, in_rest, in_cases, all_at, map_in, in_map, in_flat}
-use Rattle.mm_explore.specs.{Closed.{LeadsOn, IsAtEnd, IsEndless, IsFirstEndless}, Explored.{leads_to, IsAll}}
+use Rattle.mm_span.proofs.Members.{none_in, in_first, in_rest, in_cases, in_map, in_flat}
+use Rattle.mm_explore.specs.{Closed.{LeadsOn, IsAtEnd, IsFirstEndless}, Explored.{IsAll}}
 use Rattle.mm_explore.specs.Findings.{Extension, extended, IsFinal, has_fault, first_fault, any_kind}
 use Rattle.mm_explore.specs.Finds.{Finds, IsGroupOf, fault_of, faults_of, outcome_found, outcomes_of}
-use Rattle.mm_explore.specs.Laws.{IsFoundIn, IsFaultFound, IsOutcomeFound, IsRunFound, RunsAreFound}
-use Rattle.mm_explore.specs.{Outcomes.{End, IsOutcome, AreEndsOf, AreEnds, SelectsEndless, firsts, count_of}, Results.{Results, GroupFound, FaultFound, OutcomeFound}}
+use Rattle.mm_explore.specs.Laws.{IsFaultFound, IsOutcomeFound, IsRunFound, RunsAreFound}
+use Rattle.mm_explore.specs.{Outcomes.{End, IsOutcome, SelectsEndless, firsts, count_of}, Results.{Results, GroupFound, FaultFound, OutcomeFound}}
 use Rattle.mm_explore.proofs.{Finals.first_of, FirstOnes.first_endless, FoundOnRuns.{reaches, faults}, Touchers.{toucher_inside, faulter_inside}}
 use Rattle.mm_explore.proofs.{ClosedSets.{on_same, end_alike, ends_back, end_led, final_like}, Selections.selected, SetOutcomes.outcome_there}
 use Rattle.mm_explore.proofs.{Turning.{final_or, goes_on}, TellsEnds.{HasEnd, end_for}}

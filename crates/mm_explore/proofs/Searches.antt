@@ -13,7 +13,7 @@ use Rattle.mm_explore.specs.Findings.{Extension, extended, extensions, explored_
 use Rattle.mm_explore.specs.Searching.{UpTo, Cover, Open, IsSearched}
 use Rattle.mm_explore.proofs.Orders.{before_self, before_through, before_cases, before_more, up_to_before, up_to_both}
 use Rattle.mm_explore.proofs.Orders.{up_to_through, nothing_before, before_rec, more, length_more}
-use Rattle.mm_span.proofs.Members.{none_in, in_first, in_rest, in_cases, all_at, all_of, map_in, pairs_both}
+use Rattle.mm_span.proofs.Members.{none_in, in_first, in_rest, in_cases, all_of, map_in, pairs_both}
 use Rattle.mm_explore.proofs.{Movings.{moves_or_idles, idle_leads}, Coverings.{leads_alike, leads_more}}
 use Rattle.mm_explore.proofs.{FoundOnRuns.explores, Earliest.{Earlier, turns_in_order}, Selections.pairs_behind}
 

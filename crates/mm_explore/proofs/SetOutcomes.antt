@@ -1,15 +1,15 @@
 -- The members of a closed set have one outcome.
-use Rattle.std.proofs.Common.{◌≡◌, inl, inr, ℕ, zero, suc, ◌+◌, ◌≤◌, List, [], ◌∷◌, ◌++◌, map, length, Option, Some, None, slice_get}
+use Rattle.std.proofs.Common.{◌≡◌, ℕ, zero, suc, ◌+◌, List, [], ◌∷◌, ◌++◌, map, length, Some, slice_get}
 use Rattle.std.proofs.Common.{slice_set, slice_index_or, refl, sym, ap, ◌∙◌, subst, append_assoc, append-nil, length-append, arith}
 use Rattle.std.specs.Prelude.{Contains}
 use Rattle.mm_model.proofs.TurnChanges.{OutputMoves, turn_changes}
 use Rattle.mm_model.specs.{Fits.{slots_of, identity_of}, Image.{Image, start}, Report.groups_of, Run.{after, run}, Slot.Slot}
-use Rattle.mm_model.specs.{Spelling.IsImage, State.{Core, State, output_of}, Turn.turn}
+use Rattle.mm_model.specs.{Spelling.IsImage, State.{State, output_of}, Turn.turn}
 use Rattle.mm_explore.specs.declared.explored.{Ending.{Ending, TheVariants.{Ended, Stuck, Endless}}, Standing.{Standing, TheVariants.{Busy, In}}}
-use Rattle.mm_explore.specs.{Closed.{LeadsOn, IsAtEnd, IsEndless}, Configurations.{uncounted_slot, moves}, Explored.leads_to}
+use Rattle.mm_explore.specs.{Closed.{LeadsOn, IsAtEnd}, Configurations.{uncounted_slot, moves}, Explored.leads_to}
 use Rattle.mm_explore.specs.{Findings.IsFinal, Laws.OutcomesAreOfSets}
 use Rattle.mm_explore.specs.Outcomes.{Outcome, IsEnding, IsStanding, AreStanding, IsOutcome, IsSteady, slots_at}
-use Rattle.mm_explore.proofs.{Coverings.{alike, run_more}, Goings.same_outputs, HeldEnds.slots_bare, KeptRuns.runs_state_of, Orders.more}
+use Rattle.mm_explore.proofs.{Coverings.{alike}, Goings.same_outputs, HeldEnds.slots_bare, KeptRuns.runs_state_of}
 use Rattle.mm_explore.proofs.ClosedSets.{all_alike, ends_back, end_led, final_stays_all, final_like}
 use Rattle.mm_span.proofs.Members.{none_in}
 
@@ -119,7 +119,7 @@ module _ (i : Image) (img : IsImage i) (s t : List ℕ) (k : IsAtEnd i s) (on : 
   outputs_there [] = refl
   outputs_there (g ∷ groups) =
       let one = grows_back (output_of (run (start i) s).core g) (output_of (run (start i) t).core g) (output_grown i s t k on g)
-          (output_grown i t s (there i s t k on) (back i s t k on) g) in
+      (output_grown i t s (there i s t k on) (back i s t k on) g) in
       let rest = outputs_there groups in
       λ j. one j ∷ rest j
 

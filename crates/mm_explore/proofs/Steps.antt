@@ -312,7 +312,7 @@ module _ (i : Image) (img : IsImage i) (f now : FoundList) (held : Holds i f) (a
           subst (λ u. GoesOn all i f.limit (f.list ++ u ∷ []) (turns_before i (f.list ++ u ∷ []) at (k + 1)) (turns_from i (f.list ++ u ∷ []) at (k + 1))) (sym led) there in
           subst (λ g. ComesTo g all) (sym h.2) as_led
 
-zip_push : {A B : Type 0} (R : A → B → Type 0) (xs : List A) (ys : List B) (x : A) (y : B) → AllZip R xs ys → R x y → AllZip R (xs ++ x ∷ []) (ys ++ y ∷ [])
+pub zip_push : {A B : Type 0} (R : A → B → Type 0) (xs : List A) (ys : List B) (x : A) (y : B) → AllZip R xs ys → R x y → AllZip R (xs ++ x ∷ []) (ys ++ y ∷ [])
 zip_push R [] [] x y h k = (k, tt)
 zip_push R [] (b ∷ ys) x y h k = absurd h
 zip_push R (a ∷ xs) [] x y h k = absurd h

@@ -10,7 +10,7 @@ use Rattle.std.specs.Map.{lookup, keys_of}
 use Rattle.indexmap.specs.IndexMap.{insert_entry}
 use lib.Pointwise.{pointwise, pointwise_decides}
 use Rattle.mm_model.specs.Image.{Image}
-use Rattle.mm_explore.specs.declared.{explored.{Ending.Ending, Standing.Standing}, ends.Tally.Tally}
+use Rattle.mm_explore.specs.declared.{explored.{Standing.Standing}, ends.Tally.Tally}
 use Rattle.mm_explore.specs.Outcomes.{Outcome, End, ending_number, standing_number, same_outcome, firsts_after, firsts}
 use Rattle.mm_explore.specs.{Benches.ArePartsAt, Noting.{bytes_form, outcome_form, outcome_held, IsKeptEnd, tally_after}}
 use Rattle.mm_explore.proofs.Finals.{outcomes_decide, numbers_decide, endings_tell, standing_at, standing_back}

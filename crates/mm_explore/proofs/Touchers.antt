@@ -1,19 +1,19 @@
 -- The slot that a turn with an access or with a fault is about, and its group.
-use Rattle.std.proofs.Common.{◌≡◌, inl, inr, ℕ, ◌+◌, ◌-◌, ◌<◌, ◌≤◌, Bool, true, false, ◌&&◌, ◌||◌, ◌==◌, if◌then◌else◌, List, [], ◌∷◌, map}
+use Rattle.std.proofs.Common.{◌≡◌, inl, inr, ℕ, ◌+◌, ◌-◌, ◌≤◌, Bool, true, false, ◌&&◌, ◌==◌, if◌then◌else◌, List, [], ◌∷◌, map}
 use Rattle.std.proofs.Common.{Option, Some, None, refl, sym, ap, ◌∙◌, subst, arith, eqb-true, eq-eqb, zero-add}
-use Rattle.std.proofs.lemmas.{Bool.{and_parts, both_ways, or_left, or_right}, List.FromFn.{length-range_with_len, get_or-range_with_len}}
+use Rattle.std.proofs.lemmas.{Bool.{and_parts, or_left, or_right}, List.FromFn.{length-range_with_len, get_or-range_with_len}}
 use Rattle.std.specs.{Prelude.Contains, List.{list_any, range_with_len}}
 use Rattle.mm_word.specs.{Access.AccessValue, Cause.{number_of, cause_numbers}, declared.cause.Cause.Cause}
 use Rattle.mm_word.proofs.Causes.{number_within}
 use Rattle.mm_isa.specs.declared.instr.Instr.{Instr}
-use Rattle.mm_model.specs.declared.{slot.Pending.Pending, step.{Step.Step, Tick.{Tick, TheVariants.{Idle, Blocked, Did, Faulted, Delivered}}}}
+use Rattle.mm_model.specs.declared.{slot.Pending.Pending, step.{Tick.{Tick, TheVariants.{Idle, Blocked, Did, Faulted, Delivered}}}}
 use Rattle.mm_model.specs.{Memory.Memory, Uses.Use, Slot.Slot, Ask.ask, Image.{Image, start, slot_limit}, Spelling.{IsImage, IsFresh}}
 use Rattle.mm_model.specs.State.{ThreadRow, Core, State, slot_at, row_in, slot_of}
 use Rattle.mm_model.specs.Effect.{Effect, effect, Effect.{Fault, Block, Deliver, Do}}
 use Rattle.mm_model.specs.Turn.{Turned, reply, faulted, touch_of, asked_use, blocked, ended, executed, started, idle}
 use Rattle.mm_model.specs.Turn.{arrives, taken_by_port, taken_by, port_of, is_running, turn}
 use Rattle.mm_model.specs.{Fits.{slots_of, identity_of}, Report.{is_of, groups_of}, Run.{turn_of, run}, Trace.{touches, group_of, group_in}}
-use Rattle.mm_model.proofs.{CoreRows.{slot_at-number, stays_by, identities_of}, SlotSteps.delivered_from, Starts.start_slots}
+use Rattle.mm_model.proofs.{CoreRows.{slot_at-number, stays_by}, SlotSteps.delivered_from, Starts.start_slots}
 use Rattle.mm_model.proofs.{TurnKeeps.turn_keeps, TurnShapes.{fetch_use, started_one}}
 use Rattle.mm_span.proofs.Members.{none_in, in_first, in_rest, in_cases, all_at, in_map, map_in, in_filter}
 use Rattle.mm_explore.specs.Findings.{has_fault, fails_by}

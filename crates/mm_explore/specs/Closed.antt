@@ -1,5 +1,5 @@
 -- Sets of configurations that are never left.
-use Rattle.std.specs.{Prelude.{◌≡◌, ℕ, List, [], ◌∷◌, ◌++◌}, List.AllByRecursion}
+use Rattle.std.specs.{Prelude.{◌≡◌, ℕ, List, [], ◌∷◌, ◌++◌}}
 use Rattle.mm_model.specs.{Image.Image, State.State}
 use Rattle.mm_explore.specs.{Explored.leads_to, Findings.IsFinal, Schedules.Before}
 

@@ -1,13 +1,11 @@
 -- What is found on the turns from a list of schedules: words, faults and outcomes.
-use Rattle.std.specs.Prelude.{◌≡◌, ◌⊎◌, ℕ, ◌+◌, ◌*◌, ◌<◌, Bool, true, false, ◌&&◌, ◌==◌, nat_eq, if◌then◌else◌, List}
-use Rattle.std.specs.Prelude.{[], ◌∷◌, ◌++◌, map, Contains, Option, Some, None}
-use Rattle.std.specs.List.{AllByRecursion, find, flat_map, list_any, count_by}
-use lib.Pointwise.{pointwise}
+use Rattle.std.specs.Prelude.{◌≡◌, ℕ, Bool, true, false, ◌&&◌, ◌==◌, List}
+use Rattle.std.specs.Prelude.{[], ◌∷◌, ◌++◌, map, Contains, Option}
+use Rattle.std.specs.List.{find, flat_map}
 use Rattle.mm_word.specs.{declared.perm.Kind.Kind, Access.AccessValue, Cause.number_of}
-use Rattle.mm_model.specs.declared.slot.SlotState.{SlotState, TheVariants.{Running, Waiting, Taken, Halted}}
-use Rattle.mm_model.specs.{declared.step.{Step.Step, Tick.{Tick, TheVariants.Faulted}}, State.{State, output_of}}
+use Rattle.mm_model.specs.{declared.step.{Step.Step, Tick.{Tick, TheVariants.Faulted}}}
 use Rattle.mm_model.specs.{Image.{Image, start}, Turn.Turned, Run.{turn_of, run}, Trace.{touches, group_in}}
-use Rattle.mm_model.specs.{Report.{same_bit, groups_of}, Counted.writes}
+use Rattle.mm_model.specs.{Counted.writes}
 use Rattle.mm_span.specs.Spans.{Span, AreSpans}
 use Rattle.mm_explore.specs.Configurations.{moves}
 use Rattle.mm_explore.specs.Explored.{leads_to}

@@ -1,5 +1,5 @@
 -- What an exploration finds, and its text.
-use Rattle.std.specs.{Prelude.{ℕ, Bool, true, false, List, [], ◌++◌, length, codes, decimal}, List.flat_map}
+use Rattle.std.specs.{Prelude.{ℕ, Bool, true, false, List, ◌++◌, length, codes, decimal}, List.flat_map}
 use Rattle.mm_model.specs.{Lines.{newline, state_text, output_lines}, Report.group_line}
 use Rattle.mm_span.specs.Spans.{span_line}
 use Rattle.mm_thread.specs.Output.{Output}

@@ -1,14 +1,15 @@
 -- How far a search has come.
 use Rattle.std.specs.Prelude.{◌≡◌, ◌⊎◌, ℕ, ◌+◌, ◌^◌, ◌<◌, ◌≤◌, Bool, true, false, List, [], ◌∷◌, ◌++◌, length, take}
-use Rattle.std.specs.Prelude.{drop, Contains, Option, Some, None, slice_get, slice_index_or}
+use Rattle.std.specs.Prelude.{drop, not, nat_eq, Contains, Option, Some, None, slice_get, slice_index_or}
 use Rattle.std.specs.List.{AllByRecursion, AllZip, flat_map}
+use lib.Pointwise.{pointwise}
 use Rattle.mm_model.specs.{Image.{Image, start}, Report.groups_of, Run.run, Spelling.IsImage}
 use Rattle.mm_explore.specs.declared.found.{Looked.{Looked, TheVariants.{Known, New, Full}}, Origin.Origin}
 use Rattle.mm_explore.specs.declared.{findings.Findings.Findings, search.{Node.Node, Search.Search}}
 use Rattle.mm_explore.specs.Benches.{IsAtSomeConfiguration, ArePartsAt}
 use Rattle.mm_explore.specs.{Configurations.moves, Explored.{leads_to, IsLeast, IsExplored, IsAll}}
 use Rattle.mm_explore.specs.Findings.{Extension, extended, extensions, explored_turns, IsFinal}
-use Rattle.mm_explore.specs.{FoundLists.{FoundList, Holds, Looks}, Outcomes.{End, Selects, AreEndsOf, AreEnds, IsSteady, slots_at}}
+use Rattle.mm_explore.specs.{FoundLists.{FoundList, Holds, Looks}, Kept.slot_form, Outcomes.{End, Selects, AreEndsOf, AreEnds, IsSteady, slots_at}}
 use Rattle.mm_explore.specs.Closed.{LeadsOn, IsFirstEndless}
 use Rattle.mm_model.specs.{Flags.flags, Slot.Slot}
 use Rattle.mm_explore.specs.Noting.{Noted, AreNoted}
@@ -198,6 +199,12 @@ abbrev pub AreApart : List Bool → List Slot → List Slot → Type 0
 AreApart [] [] [] = Unit {0}
 AreApart (f ∷ flags) (s ∷ slots) (o ∷ others) = IsApartBy f s o × AreApart flags slots others
 AreApart _ _ _ = ⊥
+
+-- a flag for each slot of two lists: whether the numbers of their differences from the image's slot are not the same
+abbrev pub apart_flags : List Slot → List Slot → List Slot → List Bool
+apart_flags (b ∷ base) (s ∷ slots) (o ∷ others) =
+    not (pointwise nat_eq (slot_form b s) (slot_form b o)) ∷ apart_flags base slots others
+apart_flags _ _ _ = []
 
 -- what is noted of an endless set: the index of its first schedule, and a mask of the slots that are busy
 pub record IsBusySet (i : Image) (list : List (List ℕ)) (t : List ℕ) (entry : ℕ × ℕ) : Type 0 where

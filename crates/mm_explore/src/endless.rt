@@ -1,19 +1,22 @@
 //! Sets of configurations that are never left, and their outcomes.
 
-ghost use Rattle.std.specs.Prelude.{◌≡◌, ℕ, ◌+◌, ◌<◌, ◌↔◌, [], IfOk, OnOk, IsTrue, length, slice_index_or, take};
+ghost use Rattle.std.specs.Prelude.{◌≡◌, ℕ, ◌+◌, ◌<◌, ◌≤◌, ◌^◌, ◌↔◌, [], IfOk, OnOk, IsTrue, length, nat_eq, bit_or};
+ghost use Rattle.std.specs.Prelude.{slice_index_or, take, unwrap_or};
 ghost use Rattle.std.specs.List.{AllByRecursion};
+ghost use Rattle.indexmap.specs.IndexMap.{get, insert_entry};
+ghost use lib.Pointwise.{pointwise};
 ghost use Rattle.mm_endless.specs.Graphs.{AreClosedSets};
-ghost use Rattle.mm_model.specs.Flags.{flags};
+ghost use Rattle.mm_model.specs.Flags.{flags, number_of_flags};
 ghost use Rattle.mm_explore.specs.Findings.{explored_turns};
-ghost use Rattle.mm_explore.specs.{Noting.Noted, Outcomes.slots_at};
-ghost use Rattle.mm_explore.specs.Searching.{HasCome, HasEnds, AreBusySets, AreSetsSeen, AreApart};
+ghost use Rattle.mm_explore.specs.{Kept.slot_form, Noting.Noted, Outcomes.slots_at};
+ghost use Rattle.mm_explore.specs.Searching.{HasCome, HasEnds, AreBusySets, AreSetsSeen, AreApart, apart_flags};
 
 use crate::ends::End;
 use crate::explored::Ending;
 use crate::parts::{take_parts, take_slots};
 use crate::reader::Reader;
-use crate::same_slots::differing;
 use crate::search::Search;
+use crate::slot_form::put_slot;
 use indexmap::IndexMap;
 use mm_endless::{ClosedSets, closed_sets};
 use mm_image::Image;
@@ -36,8 +39,53 @@ fn stays(children: &[u32], node: u32) -> bool
     true
 }
 
+/// Whether two slots are the same, but for their counts of turns: their differences from that of the image are.
+fn is_same_slot(alloc: Global, base: &Slot, one: &Slot, other: &Slot) -> Result<bool, AllocError>
+    ensures { IfOk result (λ same. same
+        ≡ pointwise nat_eq (slot_form base.now one.now) (slot_form base.now other.now)) }
+{
+    let mut before = Vec::new(alloc);
+    put_slot(&mut before, base, one)?;
+    let mut after = Vec::new(alloc);
+    put_slot(&mut after, base, other)?;
+    Ok(before.as_slice() == after.as_slice())
+}
+
+/// The slots that differ in two configurations, set in a mask, the first in the lowest bit. The slots of the image are
+/// those from which they are told.
+fn differing(
+    alloc: Global,
+    base: &[Slot],
+    slots: &[Slot],
+    others: &[Slot],
+) -> Result<u64, AllocError>
+    requires few { length base.now ≤ 64 }
+    requires slots { length slots.now ≡ length base.now }
+    requires others { length others.now ≡ length base.now }
+    ensures value { IfOk result (λ mask. mask ≡ number_of_flags (apart_flags base.now slots.now others.now)) }
+    ensures below { IfOk result (λ mask. mask < 2 ^ length base.now) }
+{
+    match base {
+        [] => Ok(0),
+        [first, base @ ..] => match slots {
+            [] => Ok(0),
+            [one, slots @ ..] => match others {
+                [] => Ok(0),
+                [other, others @ ..] => {
+                    let same = is_same_slot(alloc, first, one, other)?;
+                    let rest = differing(alloc, base, slots, others)?;
+                    Ok(!same as u64 + 2 * rest)
+                }
+            },
+        },
+    }
+}
+
 /// Adds slots to those that change in a set.
-fn add(busy: &mut BusySlots, first: u32, slots: u64) -> Result<(), AllocError> {
+fn add(busy: &mut BusySlots, first: u32, slots: u64) -> Result<(), AllocError>
+    ensures { OnOk result (busy.new.entries ≡ insert_entry nat_eq busy.old.entries first
+        (bit_or (unwrap_or (get nat_eq busy.old first) 0) slots)) }
+{
     let before = busy.get(&first).copied().unwrap_or(0);
     busy.insert(first, before | slots)?;
     Ok(())
@@ -60,12 +108,7 @@ impl Search {
     }
 
     /// Notes the outcome of each of these endless sets.
-    fn note_sets(
-        &mut self,
-        alloc: Global,
-        img: &Image,
-        busy: &BusySlots,
-    ) -> Result<(), AllocError>
+    fn note_sets(&mut self, alloc: Global, img: &Image, busy: &BusySlots) -> Result<(), AllocError>
         requires come { HasCome img.now self.old (explored_turns img.now self.old.found.list) [] self.old.found.list }
         requires all { IsTrue self.old.all }
         requires sets { AreBusySets img.now self.old.found.list busy.now.entries }
@@ -147,7 +190,7 @@ impl Search {
     {
         let before = self.slots(alloc, img, one)?;
         let after = self.slots(alloc, img, other)?;
-        Ok(differing(&before, &after))
+        differing(alloc, img.slots(), &before, &after)
     }
 
     /// The slots of a configuration.

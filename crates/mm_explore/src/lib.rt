@@ -19,7 +19,6 @@ mod put_parts;
 mod reached;
 mod reader;
 mod search;
-mod same_slots;
 mod slot_form;
 mod text;
 

@@ -252,7 +252,7 @@ fn masks_of(base: &Slot, slot: &Slot) -> u64
 }
 
 /// Whether two states are equal, with the same cause if they are faults.
-pub(crate) fn is_same_state(a: SlotState, b: SlotState) -> bool
+fn is_same_state(a: SlotState, b: SlotState) -> bool
     ensures { result ≡ same_state a b }
 {
     state_number(a) == state_number(b)
@@ -282,7 +282,7 @@ pub(crate) fn has_loads(slot: &Slot) -> bool
 
 /// Whether a slot has a register whose word is not that of the base.
 #[tactic(auto, using(crate::proofs::Putting::any_set))]
-pub(crate) fn has_changed(base: &Slot, slot: &Slot) -> bool
+fn has_changed(base: &Slot, slot: &Slot) -> bool
     ensures { result ≡ list_any (λ b. b) (changed_flags base.now.regs slot.now.regs) }
 {
     changed_mask(&base.regs, &slot.regs) != 0

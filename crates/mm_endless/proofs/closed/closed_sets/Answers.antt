@@ -1,4 +1,4 @@
-use Rattle.std.proofs.Common.{◌<◌, length, arith}
+use Rattle.std.proofs.Common.{arith}
 use Rattle.mm_endless.specs.Stages.{stage_of}
 use Rattle.mm_endless.proofs.Ending.{ends}
 use Rattle.mm_endless.proofs.closed.closed_sets.Goals as goal

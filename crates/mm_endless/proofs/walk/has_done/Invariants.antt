@@ -1,4 +1,4 @@
-use Rattle.std.proofs.Common.{◌≡◌, ◌<◌, ℕ, false, take}
+use Rattle.std.proofs.Common.{◌≡◌, ℕ, false, take}
 use Rattle.std.specs.Prelude.{Contains, slice_index_or}
 use Rattle.mm_endless.specs.Stages.{is_done}
 use Rattle.mm_endless.specs.declared.walk.Mark.TheVariants.{Unmet}

@@ -1,4 +1,4 @@
-use Rattle.std.proofs.{Common.{[], map, zip, length, ◌++◌, ap, ◌∙◌}, lemmas.Option.slice_get_within}
+use Rattle.std.proofs.{Common.{[], map, zip, length, ◌++◌, ◌∙◌}, lemmas.Option.slice_get_within}
 use Rattle.mm_explore.proofs.HeldEnds.{parts_read_at, found_is}
 use Rattle.mm_explore.proofs.AllFound.{at_index}
 use Rattle.mm_explore.proofs.outcomes.outcome.Goals as goal

@@ -1,4 +1,4 @@
-use Rattle.std.proofs.{Common.{sym, subst}, lemmas.Map.Iter.{rest_more, rest_all}}
+use Rattle.std.proofs.{lemmas.Map.Iter.{rest_more, rest_all}}
 use Rattle.std.specs.Map.Iter.{deref_pair}
 use Rattle.mm_explore.specs.{Finds.outcome_found, Noting.IsKeptEnd, Outcomes.count_of}
 use Rattle.mm_explore.proofs.LeftOver.{left_next, left_more, left_none}

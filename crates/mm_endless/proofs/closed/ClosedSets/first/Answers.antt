@@ -1,4 +1,4 @@
-use Rattle.std.proofs.Common.{length, ap, arith, slice_index_or, None, ◌∙◌}
+use Rattle.std.proofs.Common.{length, ap, arith}
 use Rattle.mm_endless.proofs.{Ending.firsts_len}
 use Rattle.mm_endless.proofs.closed.ClosedSets.first.Goals as goal
 

@@ -1,4 +1,4 @@
-use Rattle.std.proofs.Common.{◌≡◌, List, ◌∷◌, [], ◌++◌, length, ap, ◌∙◌, sym, subst, ◌+◌, arith}
+use Rattle.std.proofs.Common.{◌≡◌, ◌∷◌, [], ◌++◌, length, ap, ◌∙◌, sym, subst, ◌+◌, arith}
 use Rattle.mm_endless.specs.Rows.{rows_from, Ascend}
 use Rattle.mm_endless.proofs.Rows.{row_more, ascend_more}
 use Rattle.mm_endless.proofs.graph.Graph.push.Goals as goal

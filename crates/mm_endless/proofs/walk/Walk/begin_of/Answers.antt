@@ -1,4 +1,4 @@
-use Rattle.std.proofs.Common.{◌≡◌, ◌-◌, ◌+◌, ◌<◌, ◌≤◌, ℕ, inl, inr, length, drop, slice_index_or, subst, ◌∷◌, ap, ◌∙◌, arith}
+use Rattle.std.proofs.Common.{◌≡◌, ◌-◌, ◌+◌, ◌<◌, ◌≤◌, inl, inr, length, drop, slice_index_or, subst, ◌∷◌, ap, ◌∙◌, arith}
 use Rattle.std.{proofs.lemmas.List.drop_more, specs.Prelude.Contains}
 use Rattle.mm_span.proofs.Members.{in_cases}
 use Rattle.mm_endless.proofs.Marks.{read_in, read_as}

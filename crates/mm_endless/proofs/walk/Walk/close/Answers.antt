@@ -1,5 +1,5 @@
 use Rattle.std.proofs.Common.{◌≡◌, ◌<◌, ℕ, List, Option, ◌++◌, ◌∷◌, [], length, take, drop, subst, sym, ap, ◌∙◌, arith}
-use Rattle.std.{proofs.lemmas.List.take-append-drop, specs.Prelude.{Contains, slice_index_or}}
+use Rattle.std.{proofs.lemmas.List.take-append-drop, specs.Prelude.{Contains}}
 use Rattle.mm_endless.specs.Stages.{Stage, stage_of, number_of, marked_all, IsStage, IsLater}
 use Rattle.mm_endless.proofs.{Closing.{close_keeps, close_later}, Joining.last_on_path, Marks.{path_inside, read_as}}
 use Rattle.mm_endless.proofs.walk.Walk.close.Goals as goal
@@ -48,10 +48,10 @@ returns-clause-stage c =
     let is : s.bounds ≡ set.front ++ b ∷ [] = set.bound ∙ ap (λ n. set.front ++ n ∷ []) number in
     let stage = c.mark_from.ensures.stage in
     let left = closed_as s (stage_of c.mark_from.new.self) (drop from xs) first set.last.front (take from xs) set.front stage
-        c.drop_last-2.new.numbers.items c.truncate.new.self.items c.drop_last.new.numbers.items
-        (c.drop_last-2.ensures set.last.front u (ap (λ (x : Stage). x.unfinished) stage ∙ set.last.is))
-        (c.truncate.ensures.items ∙ ap (λ (x : Stage). take from x.finished) stage)
-        (c.drop_last.ensures set.front b (ap (λ (x : Stage). x.bounds) stage ∙ is)) in
+    c.drop_last-2.new.numbers.items c.truncate.new.self.items c.drop_last.new.numbers.items
+    (c.drop_last-2.ensures set.last.front u (ap (λ (x : Stage). x.unfinished) stage ∙ set.last.is))
+    (c.truncate.ensures.items ∙ ap (λ (x : Stage). take from x.finished) stage)
+    (c.drop_last.ensures set.front b (ap (λ (x : Stage). x.bounds) stage ∙ is)) in
     subst (λ h. IsStage h (record (stage_of c.mark_from.new.self) { unfinished = c.drop_last-2.new.numbers.items; finished = c.truncate.new.self.items; bounds = c.drop_last.new.numbers.items })) (sym c.mark_from.ensures.graph) (subst (IsStage g) (sym left) (close_keeps g s k u b set.last set.finished number set.front is (take from xs) (drop from xs) (sym (take-append-drop from xs)) c.begin_of-from.ensures.inside c.begin_of-from.ensures.before first c.first_of-first.ensures))
 
 pub returns-clause-later : goal.returns-clause-later
@@ -72,8 +72,8 @@ returns-clause-later c =
     let is : s.bounds ≡ set.front ++ b ∷ [] = set.bound ∙ ap (λ n. set.front ++ n ∷ []) number in
     let stage = c.mark_from.ensures.stage in
     let left = closed_as s (stage_of c.mark_from.new.self) (drop from xs) first set.last.front (take from xs) set.front stage
-        c.drop_last-2.new.numbers.items c.truncate.new.self.items c.drop_last.new.numbers.items
-        (c.drop_last-2.ensures set.last.front u (ap (λ (x : Stage). x.unfinished) stage ∙ set.last.is))
-        (c.truncate.ensures.items ∙ ap (λ (x : Stage). take from x.finished) stage)
-        (c.drop_last.ensures set.front b (ap (λ (x : Stage). x.bounds) stage ∙ is)) in
+    c.drop_last-2.new.numbers.items c.truncate.new.self.items c.drop_last.new.numbers.items
+    (c.drop_last-2.ensures set.last.front u (ap (λ (x : Stage). x.unfinished) stage ∙ set.last.is))
+    (c.truncate.ensures.items ∙ ap (λ (x : Stage). take from x.finished) stage)
+    (c.drop_last.ensures set.front b (ap (λ (x : Stage). x.bounds) stage ∙ is)) in
     subst (IsLater s) (sym left) (close_later g s k u b set.last set.finished number set.front is (take from xs) (drop from xs) (sym (take-append-drop from xs)) c.begin_of-from.ensures.inside c.begin_of-from.ensures.before first c.first_of-first.ensures)

@@ -1,6 +1,6 @@
-use Rattle.std.proofs.Common.{◌≡◌, ◌<◌, ℕ, List, ◌++◌, ◌∷◌, [], length, refl, subst, sym, ap, ◌∙◌, arith}
+use Rattle.std.proofs.Common.{ℕ, List, ◌++◌, ◌∷◌, [], refl, subst, sym, ap, ◌∙◌, arith}
 use Rattle.std.{proofs.lemmas.List.Elements.Contains-push, specs.Prelude.Contains}
-use Rattle.mm_endless.specs.Stages.{Stage, stage_of, number_of, IsStage, IsLastOpen}
+use Rattle.mm_endless.specs.Stages.{Stage, stage_of, IsStage, IsLastOpen}
 use Rattle.mm_endless.proofs.{Finishing.{finish_keeps, pop_keeps, no_bound}, Joining.open_inside, Marks.read_as}
 use Rattle.mm_endless.proofs.walk.Walk.finish.Goals as goal
 

@@ -1,4 +1,4 @@
-use Rattle.std.proofs.Common.{◌≡◌, ◌-◌, ◌+◌, ◌<◌, ℕ, inl, inr, false, List, ◌∷◌, [], ◌++◌, length, take, drop, slice_index_or, refl, subst, sym, ap, ◌∙◌, arith}
+use Rattle.std.proofs.Common.{◌≡◌, ◌-◌, ℕ, inl, inr, false, List, length, take, drop, slice_index_or, refl, subst, sym, ap, ◌∙◌, arith}
 use Rattle.std.{proofs.lemmas.List.{take_more, take_rest, take_all, Elements.{Contains-get_or, Contains-push_cases}}, specs.Prelude.Contains}
 use Rattle.mm_endless.specs.{Graphs.children, Stages.{stage_of, HasDone, is_done, IsLeastOf}}
 use Rattle.mm_endless.specs.declared.walk.Mark.TheVariants.{Unmet}

@@ -1,6 +1,6 @@
-use Rattle.std.proofs.Common.{◌≡◌, ◌<◌, ◌≤◌, ℕ, List, ◌++◌, ◌∷◌, [], length, subst, sym, ap, ◌∙◌, arith}
-use Rattle.std.specs.Prelude.{Contains, slice_index_or}
-use Rattle.mm_endless.specs.{Graphs.children, Stages.{Stage, stage_of, number_of, IsStage, IsLastOpen}}
+use Rattle.std.proofs.Common.{◌≡◌, ◌++◌, ◌∷◌, [], subst, sym, ap, ◌∙◌, arith}
+use Rattle.std.specs.Prelude.{Contains}
+use Rattle.mm_endless.specs.{Graphs.children, Stages.{Stage, stage_of, number_of, IsStage}}
 use Rattle.mm_endless.proofs.{Joining.{bounds_below, join_step}, Marks.{path_inside, read_as}}
 use Rattle.mm_endless.proofs.walk.Walk.join.Goals as goal
 
@@ -35,7 +35,7 @@ loop-bound-preserved c =
     let left : c.drop_last.new.numbers.items ≡ pushed.0 = c.drop_last.ensures pushed.0 c.in-Some.bound is in
     let child = c.requires.child in
     let stage = join_step now.graph.now old (stage_of now) inv.stage inv.same child.node c.args.node child.last
-        (subst (λ g. Contains (children g child.node) c.args.node) (sym inv.graph) child.edge) c.requires.path pushed.0 c.in-Some.bound is (omega (arith, number, past)) in
+    (subst (λ g. Contains (children g child.node) c.args.node) (sym inv.graph) child.edge) c.requires.path pushed.0 c.in-Some.bound is (omega (arith, number, past)) in
     record {
       stage = subst (λ l. IsStage now.graph.now (record (stage_of now) { bounds = l })) (sym left) stage;
       same = λ j. record (inv.same j) { bounds = c.drop_last.new.numbers.items };

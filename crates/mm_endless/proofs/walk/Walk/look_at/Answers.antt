@@ -1,7 +1,6 @@
-use Rattle.std.proofs.Common.{◌≡◌, ◌<◌, ◌⊎◌, ℕ, List, inl, inr, refl, length, true, subst, sym, ap, ◌∙◌, arith}
-use Rattle.std.specs.Prelude.{Contains}
-use Rattle.mm_endless.specs.{Graphs.Leads, Stages.{Stage, stage_of, mark_of, is_done, IsStage, IsLater, IsOnPath, IsDone, IsInLast, IsChildOfLast}}
-use Rattle.mm_endless.specs.declared.walk.Mark.TheVariants.{Unmet, OnPath}
+use Rattle.std.proofs.Common.{◌≡◌, ◌<◌, ℕ, List, inl, inr, length, subst, sym, ap, ◌∙◌, arith}
+use Rattle.mm_endless.specs.{Graphs.Leads, Stages.{Stage, stage_of, mark_of, is_done, IsStage, IsLater, IsOnPath, IsInLast, IsChildOfLast}}
+use Rattle.mm_endless.specs.declared.walk.Mark.TheVariants.{Unmet}
 use Rattle.mm_endless.proofs.{Discovering.{room, discover_keeps, discover_later, path_stays, path_new, last_new}, Marks.{ok_more, read_as}}
 use Rattle.mm_endless.proofs.{Joining.{last_open, last_on_path}, Walking.{leads_trans, leads_edge}}
 use Rattle.mm_endless.proofs.walk.Walk.look_at.Goals as goal

@@ -1,4 +1,4 @@
-use Rattle.std.proofs.Common.{◌≡◌, ◌+◌, ◌<◌, ◌≤◌, ℕ, [], ◌∷◌, ◌++◌, length, slice_index_or, subst, sym, ap, ◌∙◌, arith}
+use Rattle.std.proofs.Common.{◌≡◌, ◌<◌, [], ◌∷◌, ◌++◌, length, slice_index_or, subst, sym, ap, ◌∙◌, arith}
 use Rattle.std.specs.{Prelude.{Contains, slice_range}}
 use Rattle.mm_endless.specs.Stages.{Stage, stage_of, marked, marked_all}
 use Rattle.mm_endless.proofs.{Closing.{marks_len, numbers_len, marked_push}, Lists.range_more, Marks.{read_in, read_as}}

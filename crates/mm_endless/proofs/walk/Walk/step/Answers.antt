@@ -1,8 +1,8 @@
-use Rattle.std.proofs.Common.{◌≡◌, ◌<◌, ◌-◌, ◌+◌, ℕ, zero, suc, List, refl, length, subst, sym, ap, ◌∙◌, arith}
+use Rattle.std.proofs.Common.{◌≡◌, ◌<◌, ◌-◌, ℕ, zero, suc, refl, length, subst, sym, ap, ◌∙◌, arith}
 use Rattle.std.proofs.lemmas.List.{Elements.Contains-get_or, Sums.sum_by-set}
 use Rattle.std.specs.{Prelude.{Contains, slice_index_or}, List.sum_by}
-use Rattle.mm_endless.specs.{Graphs.children, Stages.{Stage, stage_of, left_of, IsStage, IsLastOpen}}
-use Rattle.mm_endless.proofs.{Joining.{last_on_path, open_inside}, Looking.look_keeps, Marks.{ok_more, read_as, read_in}}
+use Rattle.mm_endless.specs.{Graphs.children, Stages.{Stage, stage_of}}
+use Rattle.mm_endless.proofs.{Joining.{last_on_path, open_inside}, Looking.look_keeps, Marks.{read_as}}
 use Rattle.mm_endless.proofs.walk.Walk.step.Goals as goal
 
 above : (n : ℕ) → (n ≡ 0 → ⊥) → 0 < n

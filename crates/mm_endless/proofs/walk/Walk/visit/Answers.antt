@@ -1,5 +1,5 @@
-use Rattle.std.proofs.Common.{◌≡◌, None, sym, ap, ◌∙◌, subst}
-use Rattle.mm_endless.specs.Stages.{Stage, stage_of, mark_of, is_met, IsLast}
+use Rattle.std.proofs.Common.{sym, ap, ◌∙◌, subst}
+use Rattle.mm_endless.specs.Stages.{Stage, stage_of, is_met, IsLast}
 use Rattle.mm_endless.proofs.Ending.{met_done}
 use Rattle.mm_endless.proofs.walk.Walk.visit.Goals as goal
 

@@ -1,9 +1,9 @@
-use Rattle.std.proofs.Common.{◌++◌, ◌∙◌, refl, sym, ap, subst}
+use Rattle.std.proofs.Common.{◌++◌, ◌∙◌, sym, ap, subst}
 use Rattle.std.specs.{List.{AllZip, flat_map}, BTreeMap.get}
 use Rattle.mm_word.specs.Cause.{cause_numbers}
 use Rattle.mm_model.specs.{Image.start, Report.groups_of, Slot.Slot}
-use Rattle.mm_explore.specs.{Findings.explored_turns, Finds.{IsGroupOf, outcomes_of, outcome_found}, Noting.{first_in, fault_kept}}
-use Rattle.mm_explore.specs.{Outcomes.{firsts, count_of}, Words.order}
+use Rattle.mm_explore.specs.{Findings.explored_turns, Finds.{IsGroupOf}, Noting.{first_in, fault_kept}}
+use Rattle.mm_explore.specs.{Outcomes.{firsts}, Words.order}
 use Rattle.mm_explore.proofs.AllFound.{groups_found, faults_found, origin_inside, outcomes_are}
 use Rattle.mm_explore.proofs.findings.Findings.explored.Goals as goal
 

@@ -1,4 +1,3 @@
-use Rattle.std.proofs.Common.{refl}
 use Rattle.mm_explore.specs.Noting.{outcome_held}
 use Rattle.mm_explore.proofs.{HeldEnds.held_once, Notes.{both_ok, ended_next, room_is}, Putting.more_ok}
 use Rattle.mm_explore.proofs.findings.Findings.note_end.Goals as goal

@@ -1,6 +1,6 @@
-use Rattle.std.proofs.Common.{◌≡◌, ◌∙◌, ◌+◌, ◌<◌, ◌^◌, ◌≤◌, [], ◌++◌, ◌∷◌, sym, ap, refl, subst, length, take, map, true, false, ℕ, List, arith, length-append}
+use Rattle.std.proofs.Common.{◌≡◌, ◌∙◌, ◌+◌, [], sym, ap, refl, subst, length, take, arith}
 use Rattle.std.specs.{Prelude.{Some, slice_get}}
-use Rattle.mm_explore.specs.{Findings.{IsFinal, are_none}, Noting.{outcome_held, Noted, AreNoted}, Outcomes.{End, ending_of}, Searching.{IsBefore, Ended, node_schedule, turns_before, turns_from, AllStay}}
+use Rattle.mm_explore.specs.{Findings.{IsFinal, are_none}, Noting.{outcome_held, Noted, AreNoted}, Outcomes.{ending_of}, Searching.{IsBefore, node_schedule, turns_before, turns_from, AllStay}}
 use Rattle.mm_explore.specs.declared.{findings.Findings.Findings, search.Search.Search}
 use Rattle.mm_explore.proofs.{Notings.ended_skip, Putting.more_ok, HeldEnds.final_outcome}
 use Rattle.mm_explore.proofs.Steps.{get_inside, final_so, both_ok, all_made, ended_few, ended_one, list_few, take_few}

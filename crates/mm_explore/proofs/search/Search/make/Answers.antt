@@ -29,7 +29,7 @@ returns-in_ok-push-in-Some-clause-within c =
     let step = c.in_ok-step.ensures.step t at in
     let group = c.in_ok-step.ensures.group t at in
     let noted = c.in_ok-note.ensures.noted i s.found.list (turns_before i s.found.list node.at c.args.k) x w.come.noted
-        (record { schedule = get_inside s.found.list node.at [] w.is.inside; item = refl }) step group in
+    (record { schedule = get_inside s.found.list node.at [] w.is.inside; item = refl }) step group in
     let ended = ended_as i s.found.list (take node.at s.found.list) s.findings c.note.new.self (λ ends h. c.in_ok-note.ensures.ends i s.found.list ends h) w.come.ended in
     (made_child i s node c.args.k w c.requires.inside c.turn.new.self m is (c.in_ok-step.ensures.at t at) c.meet.new.self c.note.new.self c.in_ok-child.field-0 noted ended c.in_ok-child.ensures c.in-Some.child c.in-Some.is c.push.new.self c.in_ok-push-in-Some.ensures.items).within
 
@@ -47,7 +47,7 @@ returns-in_ok-push-in-Some-clause-schedule c =
     let step = c.in_ok-step.ensures.step t at in
     let group = c.in_ok-step.ensures.group t at in
     let noted = c.in_ok-note.ensures.noted i s.found.list (turns_before i s.found.list node.at c.args.k) x w.come.noted
-        (record { schedule = get_inside s.found.list node.at [] w.is.inside; item = refl }) step group in
+    (record { schedule = get_inside s.found.list node.at [] w.is.inside; item = refl }) step group in
     let ended = ended_as i s.found.list (take node.at s.found.list) s.findings c.note.new.self (λ ends h. c.in_ok-note.ensures.ends i s.found.list ends h) w.come.ended in
     (made_child i s node c.args.k w c.requires.inside c.turn.new.self m is (c.in_ok-step.ensures.at t at) c.meet.new.self c.note.new.self c.in_ok-child.field-0 noted ended c.in_ok-child.ensures c.in-Some.child c.in-Some.is c.push.new.self c.in_ok-push-in-Some.ensures.items).schedule
 
@@ -77,7 +77,7 @@ returns-in-None-clause-within c =
     let step = c.in_ok-step.ensures.step t at in
     let group = c.in_ok-step.ensures.group t at in
     let noted = c.in_ok-note.ensures.noted i s.found.list (turns_before i s.found.list node.at c.args.k) x w.come.noted
-        (record { schedule = get_inside s.found.list node.at [] w.is.inside; item = refl }) step group in
+    (record { schedule = get_inside s.found.list node.at [] w.is.inside; item = refl }) step group in
     let ended = ended_as i s.found.list (take node.at s.found.list) s.findings c.note.new.self (λ ends h. c.in_ok-note.ensures.ends i s.found.list ends h) w.come.ended in
     (made_none i s node c.args.k w c.requires.inside c.turn.new.self m is (c.in_ok-step.ensures.at t at) c.meet.new.self c.note.new.self c.in_ok-child.field-0 noted ended c.in_ok-child.ensures c.in-None.is).within
 
