@@ -9,7 +9,6 @@ import shutil
 import subprocess
 from typing import Iterator
 
-from mm.commands.explore import MOST as MOST_STATES
 from mm.formats.image import read_image
 from mm.formats.object import MOST_WORDS, object_of_words
 from mm.formats.schedule import MOST as MOST_ITEMS
