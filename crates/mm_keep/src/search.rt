@@ -212,11 +212,14 @@ impl Search {
         ensures few { IfOk result (λ found. IfSome found (λ tables. length tables.threads ≤ self.limit)) }
     {
         match self.run(kernel) {
-            Ok(false) => {
-                drop(self);
-                Ok(None)
+            Ok(few) => {
+                if few {
+                    Ok(Some(self.into_tables()))
+                } else {
+                    drop(self);
+                    Ok(None)
+                }
             }
-            Ok(true) => Ok(Some(self.into_tables())),
             Err(error) => {
                 drop(self);
                 Err(error)
