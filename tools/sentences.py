@@ -9,7 +9,7 @@ Written by `.ci/claims --write`, a line with a checksum for each
   law        row of a law in docs/THEOREMS.md, with the contract of its function and the statements that this names
   operation  row of docs/INSTRUCTIONS.md, with the definitions to which it links
   crate      row of docs/PROVED.md, with the clauses of the functions that it names
-  section    section of a page in `SECTIONS`, with the definitions that it describes
+  section    section of a page in `SECTIONS`, with the definitions that it describes; if it has none, it was measured
 
 A checksum is of both texts, whatever their blanks and the comments of code. If one has changed, read the sentence beside
 what it speaks of before you write the line anew."""
@@ -65,6 +65,9 @@ SECTIONS = [
     ("docs/ASSEMBLER.md", "## Faults", "mm_line/specs/Faults.antt mm_asm/specs/Faults.antt"),
     ("docs/DEBUGGER.md", "## Lines and replies", "mm_debug/specs/Commands.antt mm_debug/specs/Session.antt"),
     ("docs/COMMITS.md", "## The lines", "mm_log/specs/Lines.antt mm_log/specs/Log.antt"),
+    ("docs/STRENGTH.md", "## The bugs", ""),
+    ("docs/STRENGTH.md", "## Bugs in how files are read", ""),
+    ("docs/STRENGTH.md", "## Bugs in the pipelined core", ""),
 ]
 COMMENT = re.compile(r"(?:^|(?<=\s))(?:--|//)[/!]?\s.*$", re.M)
 
