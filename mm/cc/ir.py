@@ -3,7 +3,7 @@
 from __future__ import annotations
 
 from dataclasses import dataclass, field
-from typing import Any, Callable, Optional, Sequence
+from typing import Any, Callable, Optional, Sequence, Union
 
 from mm.cc.untranslated import Untranslated
 
@@ -361,6 +361,10 @@ class Module:
 
     def layouts(self) -> Layouts:
         return Layouts(self.types, self.wide)
+
+    def named(self, name: str) -> Union[Function, GlobalObject, Alias, None]:
+        """The function, the global or the alias of a name."""
+        return self.functions.get(name) or self.globals.get(name) or self.aliases.get(name)
 
 
 def operands_of(instruction: Instruction) -> Sequence[Value]:

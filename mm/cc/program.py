@@ -12,20 +12,8 @@ from mm.cc.control import Translator
 from mm.cc.ctypes import Types
 from mm.cc.data import Place, Words
 from mm.cc.failures import INSTEAD, INSTEAD_OF, Failure, Failures, Missing
-from mm.cc.ir import (
-    POINTER,
-    WORD,
-    ArrayType,
-    BlockAddress,
-    Function,
-    Global,
-    GlobalObject,
-    IntType,
-    Module,
-    Number,
-    Parts,
-    Type,
-)
+from mm.cc.ir import POINTER, WORD, ArrayType, BlockAddress, Function, Global, GlobalObject, IntType, Module
+from mm.cc.ir import Number, Parts, Type
 from mm.cc.lines import FunctionNotes
 from mm.cc.modulenames import ASSEMBLER, DOOR, EMPTY, SHARED, WIPING, ModuleNames, Segment
 from mm.cc.options import Options
@@ -95,18 +83,13 @@ class Program:
             self.public[name] = module
 
     def _is_weak(self, name: str) -> bool:
-        module = self.public[name]
-        made = module.functions.get(name) or module.globals.get(name) or module.aliases.get(name)
+        made = self.public[name].named(name)
         return made is not None and made.weak
 
     def home(self, module: Module, name: str) -> Optional[Module]:
         """The module that defines what a module calls by a name."""
-        function, made, alias = module.functions.get(name), module.globals.get(name), module.aliases.get(name)
-        if function is not None and function.defined and function.internal or made is not None and made.internal:
-            return module
-        if alias is not None and alias.internal:
-            return module
-        return self.public.get(name)
+        made = module.named(name)
+        return module if made is not None and made.internal else self.public.get(name)
 
     def fresh(self) -> str:
         self.counter += 1
