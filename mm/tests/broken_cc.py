@@ -81,7 +81,7 @@ BROKEN = (
     ("mm/cc/objects.py", 'if how in ("add", "sub") and bits_of(old.type) == 64:', "if False:", VALUES),
     ("mm/cc/modulenames.py", "if self.is_absent(value.name):", "if False:", VALUES),
     ("mm/cc/vectors.py", "found = Local(made.type, name)", "pass", VALUES),
-    ("mm/cc/program.py", "if alias is not None and alias.internal:", "if False:", CC),
+    ("mm/cc/ir.py", " or self.aliases.get(name)", "", CC),
     ("mm/cc/widecounting.py", 'rest = self.op("sub", self.constant(bits - 1), amount)', 'rest = self.op("sub", self.constant(bits), amount)',
      SELDOM),
     ("mm/cc/accesses.py", 'return self.runtime("__mm_load_anywhere", [self.exact(pointer)], True)',
