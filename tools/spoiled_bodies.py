@@ -208,7 +208,7 @@ BODIES = [
     ("a page's report has another word", PAGES,
      '[ "$1" != run ] || { ran "$@"; text "s/i0000000000000041/i0000000000000042/"; told; }'),
     ("a trace tells a turn twice", TRUTH, '[ "$1" != trace ] || { ran "$@"; text "1p"; told; }', "--count", "24"),
-    ("debug has a register that is another one", TRUTH,
+    ("debug has another register than the run", TRUTH,
      '[ "$1" != debug ] || { ran "$@"; text "s/^r 1 i.*/r 1 i0000000000000000/"; told; }', "--count", "6"),
     ("dis has another name for an operation", TRUTH,
      '[ "$1" != dis ] || { ran "$@"; text "s/^sub r/xor r/"; told; }', "--words", "20000"),
@@ -219,7 +219,7 @@ BODIES = [
      '[ "$1" != run ] || [ $# != 3 ] || set -- "$1" "$2" "$(($3 / 2000))"'),
     ("a register of a log is another one", HARDWARE,
      '[ "$1" != log ] || { ran "$@"; text "s/^\\(r .*\\)[0-8]$/\\19/"; told; }'),
-    ("a log has each cell as full", HARDWARE,
+    ("a log for a core has each cell as full", HARDWARE,
      '[ "$1" != log ] || { ran "$@"; text "s/^\\(cell .*\\) empty$/\\1 full/"; told; }'),
     ("asm makes an object of no bytes", EDITORS, '[ "$1" != asm ] || { ran "$@"; : >"$room/out"; told; }'),
     ("a faulted slot is told as halted", EDITORS,
@@ -265,7 +265,7 @@ BODIES = [
 # What tools/spoiled --quick tries, by what it does wrong: texts and lines of messages, and no statuses.
 QUICK = {
     "a usage is told twice", "columns begin at 0 after the third line", "a step back is one too far",
-    "the count line of continue is that of the whole run", "a log has no lines of queued events",
+    "the count line of continue is that of the whole run", "continue goes a cycle less",
     "a derivation names the register after", "an outcome has a turn more", "a kernel that leaks is kept",
     "restrict gives the permission that it was given", "a short object is told at its front",
     "want of memory of gen has no line",
