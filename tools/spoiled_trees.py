@@ -19,6 +19,7 @@ TREES = [
      "  pub reaches : Reaches i items → Reaches i items\n"),
     ("what is on standard error at Done is nothing new", COUNTS, "crates/mm_top/src/top.rt",
      "D.taken diag.new ≡ D.taken diag.old }", "D.taken diag.new ≡ D.taken diag.new }"),
+    ("a wrong body is no code", COUNTS, "crates/mm_seg/wrong/pushes_nothing.edit", "new: ", "new: this is no code ("),
     ("a test asserts less", COUNTS, "mm/tests/test_check_why.py", "    def test_wrong(self):\n", "    def wrong(self):\n"),
     ("a module of tests is left out", COUNTS, "mm/tests/test_check_why.py", "import unittest\n",
      'import unittest\nraise unittest.SkipTest("later")\n'),
