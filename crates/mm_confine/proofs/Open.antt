@@ -17,7 +17,7 @@ use Rattle.mm_kernel.proofs.Ups.{Free, free_form, Bound, up_cases, each_from, ea
 use Rattle.mm_kernel.proofs.{Places.{entered, entered_outside, entered_perm}, Start.cell_shared}
 use Rattle.mm_kernel.proofs.Runs.{caller_any}
 use Rattle.mm_confine.specs.Conduct.{GoesOn, GoesOn.{comes_free, leaves}, LetsOut, LetsOut.{by_going, by_hand}}
-use Rattle.mm_confine.specs.Grants.{Granted, Line, Line.{Holds, Runs}}
+use Rattle.mm_confine.specs.{declared.party.Party.Party, Grants.{Granted, Line, Line.{Holds, Runs}}}
 use Rattle.mm_confine.proofs.Taken.{taken_derived}
 use Rattle.mm_kernel.specs.Derived.Derived.{turns}
 use Rattle.mm_confine.specs.Grants.Granted.{runs_itself, runs_through, in_register, runs_by, in_cell, below, passed}
@@ -111,7 +111,7 @@ module _ (i : Image) (kept : List Segment) (img : IsImage i) (ks : Keeps i kept)
   unfolding is_open
   open_plain q e = e
 
-  pub lines_ok : {line : Line} → Granted i kept line → LineOk line
+  lines_ok : {line : Line} → Granted i kept line → LineOk line
   lines_ok (runs_itself n e) = tt
   lines_ok (runs_through g d h e) = tt
   lines_ok (in_register s q among caller k) = each_contained (IsShared i kept) s.regs (Ptr q) (caller_any i kept img ks s among caller).registers k
@@ -133,3 +133,7 @@ module _ (i : Image) (kept : List Segment) (img : IsImage i) (ks : Keeps i kept)
   lines_ok (seen n y q held serves sees) = lines_ok held
   lines_ok (given n x q held serves gives) = lines_ok held
   lines_ok (freed s q t among held going) = lines_ok held
+
+-- each pointer that a party holds is one that callers may share
+pub granted_is_open : (i : Image) (kept : List Segment) (x : Party) (q : Pointer) → IsImage i → Keeps i kept → Granted i kept (Holds x q) → IsShared i kept (Ptr q)
+granted_is_open i kept x q img ks h = lines_ok i kept img ks h
