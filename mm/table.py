@@ -58,6 +58,8 @@ DOORS_SHUT = Option("--doors-shut", "take each enter pointer for a key: what is 
 THREADS = Option("--threads", "how many threads of the kernel are looked at, 1 to 1000000; default: 100000", "N")
 KEEPS = Option("--keeps", "also show whether a kernel keeps these segments, such as gate,count", "LIST")
 STATES = Option("--states", "how many configurations are looked at, 1 to 100000000; else 100000", "N")
+MEANT = Option("--meant", "a fault that is meant, such as Trap, and not told of; may be repeated", "FAULT")
+WROTE = Option("--wrote", "ask who writes this word, and after which turns first", "WORD")
 PART = Option("--part", "memory, frames, pages, slots, or all for a testbench; default: memory (docs/HARDWARE.md)", "NAME")
 COUNT = Option("--count", "how many; default: 256", "N")
 PORT = Option("--port", "the port of the server, 0 for any that is free; default: 8017", "N")
@@ -91,7 +93,7 @@ COMMANDS = (
     Command("dis", "FILE", "show an image or an object word by word: address, word, instruction and name", (NAMES,), most=1),
     Command("audit", FILES, "say what each group can read and write, whatever its code does", (GROUPS, DOORS_SHUT, NAMES, JSON, *C)),
     Command("keeps", "FILE.. SEGMENT..", "say whether a kernel keeps its segments, whatever code its callers run", (THREADS, NAMES, JSON, *C), more=SEGMENTS),
-    Command("explore", FILES, "say what a program can do under any schedule, with a shortest one for each finding", (STATES, NAMES, *C)),
+    Command("explore", FILES, "say what a program can do under any schedule, with a shortest one for each finding", (STATES, MEANT, WROTE, NAMES, JSON, *C)),
     Command("why", "FILE.. GROUP WORD KIND", "how a group can touch or write a word: the pointers, one after the other", (NAMES, *C), least=4),
     Command("check-why", "IMAGE GROUP WORD KIND", "check a derivation of `mmachine why`, given on the standard input", least=4, most=4, module="check_why"),
     Command("holders", "FILE.. RANGE", "say who holds a pointer into a range (`mm help ranges`)", (NAMES, *C), least=2, module="ranges"),

@@ -133,6 +133,17 @@ BODIES = [
     ("a step back is one too far", ANSWERS,
      '[ "$1" != debug ] || { ran "$@"; text "s/^back 1 total 2999/back 1 total 2998/"; told; }'),
     ("an extracted image keeps the slots of others", ANSWERS, '[ "$1" != extract ] || { cat "$2"; exit 0; }'),
+    ("an extracted image is that of the first group", ANSWERS, '[ "$1" != extract ] || set -- "$1" "$2" "${3%%,*}"'),
+    ("an image of a number of five to twelve digits is that of 1", ANSWERS,
+     '[ "$1" != gen ] || [ ${#2} -lt 5 ] || [ ${#2} -gt 12 ] || set -- gen 1 "$3"'),
+    ("a summary of a number of four to nineteen digits is that of 1", ANSWERS,
+     '[ "$1" != soak ] || [ ${#2} -lt 4 ] || [ ${#2} -gt 19 ] || set -- soak 1 "$3" "$4"'),
+    ("a checkpoint has no schedule", ANSWERS, '[ "$1-$#" != save-4 ] || set -- "$1" "$2" "$3"'),
+    ("runs of six digits of cycles have one less", ANSWERS,
+     'case $1 in run|trace|log|save) case $3 in 100000|[1-9]?????) it=$1 at=$2 many=$(($3 - 1)); shift 3; '
+     'set -- "$it" "$at" "$many" "$@" ;; esac ;; esac'),
+    ("a terminal is shown a line less", ANSWERS, 'if [ -t 1 ]; then "$program" "$@" 2>&1 | sed 1d; exit 0; fi'),
+    ("a terminal gives no input", ANSWERS, 'if [ -t 0 ]; then exec "$program" "$@" </dev/null; fi'),
     ("continue counts a cycle more", PIECES,
      '[ "$1" != continue ] || { ran "$@"; text "s/^cycles 3\\(.\\)$/cycles 4\\1/"; told; }'),
     ("a checkpoint forgets the last slot of round robin", PIECES,
@@ -156,6 +167,10 @@ BODIES = [
     ("what is not looked at is all", EXPLORE, '[ "$1" != explore ] || { ran "$@"; text "1s/ more$/ all/"; told; }'),
     ("the last of several outcomes is left out", EXPLORE,
      '[ "$1" != explore ] || { ran "$@"; text "/^outcome [2-9]/,\\$d"; told; }'),
+    ("what goes on for ever is left out", EXPLORE,
+     '[ "$1" != explore ] || { ran "$@"; text "/^outcome [0-9]* endless/,/^by/d"; told; }'),
+    ("a slot that waits for ever is busy", EXPLORE,
+     '[ "$1" != explore ] || { ran "$@"; text "/endless$/,/^by/s/ running$/ busy/"; told; }'),
     ("an outcome has a turn more", EXPLORE, '[ "$1" != explore ] || { ran "$@"; text "\\$s/^by .*/& 0/"; told; }'),
     ("a written word is told as touched alone", EXPLORE,
      '[ "$1" != explore ] || { ran "$@"; text "/^wrote /d"; told; }'),
@@ -235,6 +250,8 @@ BODIES = [
      '[ "$1" != net ] || [ $# != 12 ] || [ "$(size "$5")" -le 1000000 ] || no_memory', "go_through"),
     ("explore has memory for 100,000 configurations of several slots", LIMITS,
      '[ "$1-$3" != explore-200000 ] || no_memory', "explore_three"),
+    ("explore has memory for 200,000 configurations, unless they go round", LIMITS,
+     '[ "$1-$3" != explore-100000000 ] || no_memory', "explore_round"),
     ("keeps has no memory for a kernel of more threads than are looked at", LIMITS,
      '[ "$1" != keeps ] || { ran "$@"; ! grep -q "^keeps more" "$room/out" || no_memory; told; }', "keep_most"),
     ("want of memory of keeps is a kernel that is kept", LIMITS,
@@ -250,3 +267,12 @@ BODIES = [
     ("want of memory of dis is done", LIMITS,
      '[ "$1" != dis ] || { ran "$@"; [ "$status" != 5 ] || exit 0; told; }', "link_most"),
 ]
+
+# What tools/spoiled --quick tries, by what it does wrong: texts and lines of messages, and no statuses.
+QUICK = {
+    "a usage is told twice", "columns begin at 0 after the third line", "a step back is one too far",
+    "the count line of continue is that of the whole run", "a log has no lines of queued events",
+    "a derivation names the register after", "the last of several outcomes is left out", "a kernel that leaks is kept",
+    "a trace tells a turn twice", "a short object is told at its front", "want of memory of gen has no line",
+    "a picture's run has a turn fewer",
+}
