@@ -5,5 +5,5 @@ use Rattle.mm_why.proofs.carriers.meeting_places.Goals as goal
 pub returns : goal.returns
 returns c =
     let e : c.loop-k.k ≡ length c.args.graph.now.nodes.items = search rules in
-    pair_end c.args.graph.now c.args.giver.now.items c.args.taker.now.items c.in_ok-stores.stores.items c.in_ok-loads.loads.items c.loop-k.k e
+    pair_end c.args.graph.now c.args.giver.now c.args.taker.now c.in_ok-stores.stores.items c.in_ok-loads.loads.items c.loop-k.k e
     c.in_ok-stores.ensures.len c.in_ok-loads.ensures.len c.in_ok-stores.ensures.nearest c.in_ok-loads.ensures.nearest c.loop-k.best c.loop-k.invariant
