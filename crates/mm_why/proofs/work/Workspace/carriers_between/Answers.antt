@@ -1,5 +1,5 @@
 use Rattle.mm_why.proofs.Working.{goes_trans}
-use Rattle.mm_why.proofs.give.Workspace.carriers_between.Goals as goal
+use Rattle.mm_why.proofs.work.Workspace.carriers_between.Goals as goal
 
 pub known_carriers-requires-clause-known_giver : goal.known_carriers-requires-clause-known_giver
 known_carriers-requires-clause-known_giver c = c.in_ok-ensure_searched-2.ensures.goes_on.known c.args.giver c.in_ok-ensure_searched.ensures.known

@@ -5,7 +5,7 @@ use Rattle.mm_why.specs.{declared.line.Line.Line, Derivations.Says, Rounds.round
 use Rattle.mm_why.specs.Giving.{HasLine, JoinedAt}
 use Rattle.mm_why.proofs.Working.{goes_nowhere, goes_trans, says_on}
 use Rattle.mm_why.proofs.Handing.{sooner, handed_on, linked_join, served_by, passes, line_on}
-use Rattle.mm_why.proofs.give.Workspace.+handing.Goals as goal
+use Rattle.mm_why.proofs.work.Workspace.+handing.Goals as goal
 
 pub derive_for-derive_for-requires : goal.derive_for-derive_for-requires
 derive_for-derive_for-requires t c =

@@ -1,5 +1,5 @@
 use Rattle.std.proofs.Common.{◌+◌, ◌*◌}
-use Rattle.mm_why.proofs.give.Workspace.+handing.Given as goal
+use Rattle.mm_why.proofs.work.Workspace.+handing.Given as goal
 
 abbrev pub decreases-give : goal.decreases-give
 decreases-give l = 2 * l.owner.round

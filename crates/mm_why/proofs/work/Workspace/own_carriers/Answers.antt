@@ -1,7 +1,7 @@
 use Rattle.std.proofs.Common.{sym, subst}
 use Rattle.mm_why.specs.{Works.IsSearched, Giving.{MeetsAt, AreCarriers}}
 use Rattle.mm_why.proofs.Giving.{pair_carries, no_pair_meets, pair_all}
-use Rattle.mm_why.proofs.give.Workspace.own_carriers.Goals as goal
+use Rattle.mm_why.proofs.work.Workspace.own_carriers.Goals as goal
 
 pub returns : goal.returns
 returns c =

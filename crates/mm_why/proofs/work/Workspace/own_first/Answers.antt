@@ -1,6 +1,6 @@
 use Rattle.std.proofs.Common.{sym, subst}
 use Rattle.mm_why.{specs.Works.IsSearched, proofs.Giving.{with_right, no_right}}
-use Rattle.mm_why.proofs.give.Workspace.own_first.Goals as goal
+use Rattle.mm_why.proofs.work.Workspace.own_first.Goals as goal
 
 pub unreachable-requires : goal.unreachable-requires
 unreachable-requires c =

@@ -1,6 +1,6 @@
 use Rattle.std.proofs.Common.{ℕ, MatchOption, subst}
 use Rattle.mm_why.{specs.Giving.{MeetsAt, AreCarriers}, proofs.Giving.{maker_of, lines_carry, maker_carries}}
-use Rattle.mm_why.proofs.give.Workspace.known_carriers.Goals as goal
+use Rattle.mm_why.proofs.work.Workspace.known_carriers.Goals as goal
 
 pub own_first-load-requires-clause-some : goal.own_first-load-requires-clause-some
 own_first-load-requires-clause-some c =

@@ -1,7 +1,7 @@
 use Rattle.std.proofs.Common.{length, sym, subst}
 use Rattle.mm_why.{specs.Derivations.{Follows, Says}, proofs.Giving.made_whole}
 use Rattle.mm_why.specs.declared.line.Rule.TheVariants as rules
-use Rattle.mm_why.proofs.give.Workspace.make_whole.Goals as goal
+use Rattle.mm_why.proofs.work.Workspace.make_whole.Goals as goal
 
 pub returns-clause-goes_on : goal.returns-clause-goes_on
 returns-clause-goes_on c =
