@@ -74,7 +74,8 @@ fn sharing(alloc: Global, graph: &Graph, marks: &[u64]) -> Result<Rounds, NoMemo
     ensures { IfOk result (λ r. IsSharing graph.now marks.now r) }
 {
     let meets = meetings(alloc, graph, marks)?;
-    all_rounds(alloc, graph.links, meets)
+    let rounds = all_rounds(alloc, graph.links, meets)?;
+    Ok(rounds)
 }
 
 /// The mask of the groups that have a use of a word of their own.
@@ -136,7 +137,8 @@ fn derivation(
     let place = own_line(context, &mut work, source.group, word, how)?;
     let pointer = pointer_of(&work.lines, place);
     let last = work.derive_for(alloc, context, source, pointer, group)?;
-    prune(alloc, &work.lines, last)
+    let lines = prune(alloc, &work.lines, last)?;
+    Ok(lines)
 }
 
 /// The derivation by which a group is granted a use of the word at an address, if all entries may be made; `None` if it

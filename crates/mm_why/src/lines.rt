@@ -53,5 +53,6 @@ pub fn add(lines: &mut Vec<Line>, line: Line) -> Result<usize, NoMemory>
     requires { IsFresh lines.old.items line.group line.pointer }
     ensures { IfOk result (λ place. Adds lines.old.items line lines.new.items place) }
 {
-    push(lines, line)
+    let place = push(lines, line)?;
+    Ok(place)
 }

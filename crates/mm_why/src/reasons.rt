@@ -122,5 +122,8 @@ pub fn handoff_for(rounds: &Rounds, round: usize, owner: usize, to: usize) -> Op
             },
         });
     }
-    met_by(&rounds.meets, &now, mask, to)
+    match met_by(&rounds.meets, &now, mask, to) {
+        Some(handoff) => Some(handoff),
+        None => None,
+    }
 }

@@ -1,6 +1,6 @@
 //! The lines so far, and which groups were searched.
 
-ghost use Rattle.std.specs.Prelude.{◌≡◌, ℕ, ◌<◌, OnOk, IfOk, IsTrue, None, Some, false, length};
+ghost use Rattle.std.specs.Prelude.{◌≡◌, ℕ, ◌<◌, OnOk, IfOk, IsTrue, None, Some, false, length, slice_set};
 ghost use Rattle.mm_model.specs.Image.{Image as ImageValue};
 ghost use Rattle.mm_graph.specs.declared.graph.Graph.{Graph as GraphValue};
 ghost use Rattle.mm_why.specs.declared.search.NodeLines.{NodeLines as NodeLinesValue};
@@ -76,7 +76,7 @@ impl Workspace {
             return Ok(());
         }
         let found = search_group(alloc, image, graph, group as u8, &mut self.lines)?;
-        self.searches[group] = Some(found);
+        note(&mut self.searches, group, found);
         Ok(())
     }
 
@@ -118,6 +118,14 @@ fn no_searches(alloc: Global) -> Result<Vec<Option<NodeLines>>, NoMemory>
         searches.push(None)?;
     }
     Ok(searches)
+}
+
+/// Notes what the search of a group has found.
+fn note(searches: &mut Vec<Option<NodeLines>>, group: usize, found: NodeLines)
+    requires { group < length searches.old.items }
+    ensures { searches.new.items ≡ slice_set searches.old.items group (Some found) }
+{
+    searches[group] = Some(found);
 }
 
 /// The pointer that reads and writes the whole memory.

@@ -12,5 +12,5 @@ loop-k-preserved c =
           (right_at c.args.graph.now.nodes.items c.args.right) c.loop-k.above.items c.loop-k.k
           c.kept_place-own.result c.over-upper.result c.earlier.result
           c.loop-k.invariant.1 c.loop-k.invariant.0 c.kept_place-own.ensures
-          (subst (λ v. IsOver c.loop-k.above.items v c.loop-k.k c.over-upper.result) c.parent_of.ensures c.over-upper.ensures) c.earlier.ensures),
+          (subst (λ v. IsOver c.loop-k.above.items v c.loop-k.k c.over-upper.result) c.parent_of.ensures (rw c.deref.ensures.value at c.over-upper.ensures)) c.earlier.ensures),
     )

@@ -4,12 +4,12 @@ use Rattle.mm_why.proofs.{Searching.placed_before, GraphFacts.{rising, cell_now}
 use Rattle.mm_why.specs.declared.line.Rule.TheVariants as rules
 use Rattle.mm_why.proofs.search.Search.reach_cell.Goals as goal
 
-pub returns-then-is_placed-clause-placed : goal.returns-then-is_placed-clause-placed
-returns-then-is_placed-clause-placed c = λ a at lo hi now.
+pub returns-then-has_line-clause-placed : goal.returns-then-has_line-clause-placed
+returns-then-has_line-clause-placed c = λ a at lo hi now.
     placed_before c.args.subject.now.image.now c.args.subject.now.graph.now.keys.items c.args.subject.now.group
     (stage_of c.args.self.now) (slice_index c.args.subject.now.graph.now.targets.items
     c.args.k) now
-    (subst (IsPlaced c.args.self.now.places.items) c.target_of-to.ensures (c.if-is_placed.ensures.placed refl))
+    (subst (IsPlaced c.args.self.now.places.items) c.target_of-to.ensures (c.if-has_line.ensures.placed refl))
 
 pub returns-clause-placed : goal.returns-clause-placed
 returns-clause-placed c = λ a at lo hi now.

@@ -8,7 +8,8 @@ use Rattle.mm_why.proofs.search.Search.reach_entry.Goals as goal
 pub returns-in_ok-reach-in-Some-clause-placed : goal.returns-in_ok-reach-in-Some-clause-placed
 returns-in_ok-reach-in-Some-clause-placed c = λ at now.
     let some : (node_at c.args.subject.now.graph.now.nodes.items c.args.node).enters ≢ 0 = subst (λ v. v.enters ≢ 0) c.node_of-gate.ensures c.if-gate-eq0.false in
-    let is : enter_result (line_at c.args.self.now.lines.items c.args.by).pointer ≡ Some c.in-Some.pointer = ap enter_result (sym c.pointer_of.ensures) ∙ sym c.in-Some.ensures.value in
+    let line = rw c.deref.ensures.value at c.pointer_of.ensures in
+    let is : enter_result (line_at c.args.self.now.lines.items c.args.by).pointer ≡ Some c.in-Some.pointer = ap enter_result (sym line) ∙ sym c.in-Some.ensures.value in
     let f = entry_follows c.args.subject.now.image.now c.args.subject.now.graph.now c.requires.graph
     c.args.subject.now.group c.args.node c.args.by (stage_of c.args.self.now) at now some
     c.in-Some.pointer is in
@@ -23,5 +24,5 @@ returns-in-None-clause-placed c = λ at now. (
   λ some.
       absurd (entry_never c.args.subject.now.image.now c.args.subject.now.graph.now c.requires.graph
       c.args.subject.now.group c.args.node c.args.by (stage_of c.args.self.now) at now some
-      (ap enter_result (sym c.pointer_of.ensures) ∙ sym c.in-None.ensures.value)),
+      (ap enter_result (sym (rw c.deref.ensures.value at c.pointer_of.ensures)) ∙ sym c.in-None.ensures.value)),
 )

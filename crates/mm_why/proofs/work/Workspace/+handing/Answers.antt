@@ -1,4 +1,5 @@
 use Rattle.std.proofs.Common.{ℕ, ◌+◌, ◌-◌, ◌*◌, ◌<◌, List, length, refl, subst, arith}
+use Rattle.std.proofs.lemmas.Result.{IfOk-weaker}
 use Rattle.mm_flow.specs.Flow.{Has}
 use Rattle.mm_model.specs.Slot.{Slot}
 use Rattle.mm_why.specs.{declared.line.Line.Line, Derivations.Says, Rounds.round_at, Reasons.{IsHand, IsMeeting}}
@@ -18,8 +19,8 @@ derive_for-derive_for-requires t c =
     )
 
 pub derive_for-returns-then-had_come-clause-goes_on : goal.derive_for-returns-then-had_come-clause-goes_on
-derive_for-returns-then-had_come-clause-goes_on t c =
-    goes_trans c.args.context.now.image.now c.args.context.now.graph.now c.args.self.now c.ensure_searched.new.self c.derive_for.new.self c.in_ok-ensure_searched.ensures.goes_on c.in_ok-place.ensures.goes_on
+derive_for-returns-then-had_come-clause-goes_on t c = IfOk-weaker c.derive_for.result _ _
+    (λ k goes. goes_trans c.args.context.now.image.now c.args.context.now.graph.now c.args.self.now c.ensure_searched.new.self c.derive_for.new.self c.in_ok-ensure_searched.ensures.goes_on goes) c.derive_for.ensures.goes_on
 
 pub derive_for-unreachable-requires-in_default-handoff_for : goal.derive_for-unreachable-requires-in_default-handoff_for
 derive_for-unreachable-requires-in_default-handoff_for t c =
@@ -43,16 +44,17 @@ derive_for-returns-clause-goes_on t c =
     let i = c.args.context.now.image.now in
     let g = c.args.context.now.graph.now in
     let known = c.in_ok-rule.ensures.goes_on.known c.args.to (c.in_ok-from.ensures.goes_on.known c.args.to c.in_ok-ensure_searched.ensures.known) in
-    let done = c.in_ok-place-2.ensures i g c.in_ok-rule.ensures.goes_on.work known (c.in_ok-rule.ensures.follows c.args.pointer c.in_ok-from.ensures.says) in
     let two = goes_trans i g c.args.self.now c.ensure_searched.new.self c.derive_for-2.new.self c.in_ok-ensure_searched.ensures.goes_on c.in_ok-from.ensures.goes_on in
     let three = goes_trans i g c.args.self.now c.derive_for-2.new.self c.derive_handoff.new.self two c.in_ok-rule.ensures.goes_on in
-    goes_trans i g c.args.self.now c.derive_handoff.new.self c.find_or_add.new.self three done.0
+    IfOk-weaker c.find_or_add.result _ _ (λ k put.
+    goes_trans i g c.args.self.now c.derive_handoff.new.self c.find_or_add.new.self three
+    (put i g c.in_ok-rule.ensures.goes_on.work known (c.in_ok-rule.ensures.follows c.args.pointer c.in_ok-from.ensures.says)).0) c.find_or_add.ensures
 
 pub derive_for-returns-clause-says : goal.derive_for-returns-clause-says
 derive_for-returns-clause-says t c =
     let known = c.in_ok-rule.ensures.goes_on.known c.args.to (c.in_ok-from.ensures.goes_on.known c.args.to c.in_ok-ensure_searched.ensures.known) in
-    (c.in_ok-place-2.ensures c.args.context.now.image.now c.args.context.now.graph.now c.in_ok-rule.ensures.goes_on.work
-    known (c.in_ok-rule.ensures.follows c.args.pointer c.in_ok-from.ensures.says)).1
+    IfOk-weaker c.find_or_add.result _ _ (λ k put. (put c.args.context.now.image.now c.args.context.now.graph.now c.in_ok-rule.ensures.goes_on.work
+    known (c.in_ok-rule.ensures.follows c.args.pointer c.in_ok-from.ensures.says)).1) c.find_or_add.ensures
 
 pub derive_handoff-unreachable-requires : goal.derive_handoff-unreachable-requires
 derive_handoff-unreachable-requires t c =
@@ -111,7 +113,7 @@ pub derive_for-had_come-requires-clause-round : goal.derive_for-had_come-require
 derive_for-had_come-requires-clause-round t c = sooner c.args.source.round (length c.args.context.now.rounds.now.rounds.items) c.requires.round
 
 pub derive_for-returns-then-had_come-clause-says : goal.derive_for-returns-then-had_come-clause-says
-derive_for-returns-then-had_come-clause-says t c = c.in_ok-place.ensures.says
+derive_for-returns-then-had_come-clause-says t c = c.derive_for.ensures.says
 
 pub derive_for-handoff_for-requires-clause-round : goal.derive_for-handoff_for-requires-clause-round
 derive_for-handoff_for-requires-clause-round t c = sooner c.args.source.round (length c.args.context.now.rounds.now.rounds.items) c.requires.round

@@ -21,4 +21,4 @@ returns-in_ok-store-in-None-clause-carriers c =
     lines_carry c.make_whole.new.self.lines.items c.args.giver c.args.taker c.in_ok-store-in-None.store c.own_first-load.result c.carriers_of-in-None.result.store c.carriers_of-in-None.result.load
     (maker_carries c.args.context.now.image.now c.args.context.now.graph.now c.args.self.now c.make_whole.new.self c.args.giver c.args.taker c.in_ok-store-in-None.store c.own_first-load.result
     c.requires.graph c.in_ok-store-in-None.ensures.goes_on c.own_first-load.ensures c.in_ok-store-in-None.ensures.says)
-    c.carriers_of-in-None.ensures.store c.carriers_of-in-None.ensures.load
+    (rw c.deref-in-None.ensures.value at c.carriers_of-in-None.ensures.store) (rw c.deref-in-None.ensures.value at c.carriers_of-in-None.ensures.load)
