@@ -1,12 +1,12 @@
 -- A granted use is one that some owner has of its own, and an owner's use can be granted.
-use Rattle.std.proofs.Common.{◌≡◌, ℕ, zero, suc, ◌+◌, ◌-◌, ◌%◌, ◌^◌, ◌<◌, ◌≤◌, ◌⊎◌, ◌↔◌, inl, inr, Bool, true, false}
-use Rattle.std.proofs.Common.{◌==◌, ◌&&◌, IsTrue, List, length, slice_index, replicate, map, bit_and, bit_or, Option}
-use Rattle.std.proofs.Common.{Some, None, refl, sym, ap, ◌∙◌, subst, arith, eqb-true, eq-eqb, add-zero}
-use Rattle.std.proofs.lemmas.{Bool.{cases_lt, and_parts, and_from}, Grind.common_steps}
+use Rattle.std.proofs.Common.{◌≡◌, ℕ, zero, suc, ◌-◌, ◌%◌, ◌^◌, ◌<◌, ◌≤◌, ◌⊎◌, ◌↔◌, inl, inr, Bool, true, false}
+use Rattle.std.proofs.Common.{◌==◌, IsTrue, List, length, slice_index, replicate, map, bit_and, bit_or, Option}
+use Rattle.std.proofs.Common.{Some, None, refl, sym, ap, ◌∙◌, subst, arith, eqb-true, eq-eqb}
+use Rattle.std.proofs.lemmas.{Bool.{cases_lt, and_parts, and_from}}
 use Rattle.std.proofs.lemmas.Nat.{and_le_r, Bits.{bit_at-lt, bit_at_ones}}
 use Rattle.std.{proofs.lemmas.List.{get_or-replicate, get_or_past, get_or-map, length-map}, specs.Int.bit_at}
 use Rattle.mm_word.proofs.{Checked.Covers-holds_word, Below.holds_word-Covers}
-use Rattle.mm_word.specs.{Perm.allows, Pointer.{Pointer, InSegment, Covers, holds_word, IsBelow}}
+use Rattle.mm_word.specs.{Perm.allows, Pointer.{Pointer, holds_word, IsBelow}}
 use Rattle.mm_model.specs.{Image.Image, Flags.in_mask, Reach.{LoadsAt, StoresAt, Entries.All}}
 use Rattle.mm_model.specs.declared.word_use.WordUse.{WordUse}
 use Rattle.mm_flow.specs.declared.node.Right.{Right, TheVariants.{Load, Make}}

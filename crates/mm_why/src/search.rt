@@ -241,11 +241,7 @@ impl Search {
     }
 
     /// Adds the lines of a slot's pointers.
-    fn reach_slot(
-        &mut self,
-        keys: &[CanonicalPtr],
-        slot: &Slot,
-    ) -> Result<(), NoMemory>
+    fn reach_slot(&mut self, keys: &[CanonicalPtr], slot: &Slot) -> Result<(), NoMemory>
         requires len { length self.old.places.items ≡ length keys.now }
         requires rising { IsRising keys.now }
         ensures len { length self.new.places.items ≡ length keys.now }
@@ -306,12 +302,7 @@ impl Search {
 
     /// Adds the line of the pointer in the cell of an index, which the pointer of the line `by` loads, unless its node has
     /// one.
-    fn reach_cell(
-        &mut self,
-        subject: &Subject<'_>,
-        by: usize,
-        k: usize,
-    ) -> Result<(), NoMemory>
+    fn reach_cell(&mut self, subject: &Subject<'_>, by: usize, k: usize) -> Result<(), NoMemory>
         requires graph { IsGraph subject.now.image.now subject.now.graph.now }
         requires small { k < length subject.now.graph.now.found.items }
         requires len { length self.old.places.items ≡ length subject.now.graph.now.keys.items }
@@ -338,12 +329,7 @@ impl Search {
     }
 
     /// Adds the lines of the pointers in the cells that the pointer of a node's line loads.
-    fn reach_cells(
-        &mut self,
-        subject: &Subject<'_>,
-        node: usize,
-        by: usize,
-    ) -> Result<(), NoMemory>
+    fn reach_cells(&mut self, subject: &Subject<'_>, node: usize, by: usize) -> Result<(), NoMemory>
         requires graph { IsGraph subject.now.image.now subject.now.graph.now }
         requires node { node < length subject.now.graph.now.keys.items }
         requires len { length self.old.places.items ≡ length subject.now.graph.now.keys.items }
@@ -363,12 +349,7 @@ impl Search {
     }
 
     /// Adds the line of what an entry by the pointer of a node's line leaves.
-    fn reach_entry(
-        &mut self,
-        subject: &Subject<'_>,
-        node: usize,
-        by: usize,
-    ) -> Result<(), NoMemory>
+    fn reach_entry(&mut self, subject: &Subject<'_>, node: usize, by: usize) -> Result<(), NoMemory>
         requires graph { IsGraph subject.now.image.now subject.now.graph.now }
         requires node { node < length subject.now.graph.now.keys.items }
         requires len { length self.old.places.items ≡ length subject.now.graph.now.keys.items }
@@ -388,12 +369,7 @@ impl Search {
         }
         match enter(pointer_of(&self.lines, by)) {
             Some(pointer) => {
-                self.reach(
-                    subject.group,
-                    gate.entry,
-                    pointer,
-                    Rule::Entered { by },
-                )?;
+                self.reach(subject.group, gate.entry, pointer, Rule::Entered { by })?;
                 Ok(())
             }
             None => Ok(()),
@@ -401,11 +377,7 @@ impl Search {
     }
 
     /// Adds the lines that follow from the line of a node alone.
-    fn expand(
-        &mut self,
-        subject: &Subject<'_>,
-        node: usize,
-    ) -> Result<(), NoMemory>
+    fn expand(&mut self, subject: &Subject<'_>, node: usize) -> Result<(), NoMemory>
         requires graph { IsGraph subject.now.image.now subject.now.graph.now }
         requires now { Searching subject.now.image.now subject.now.graph.now.keys.items subject.now.group
             (stage_of self.old) }
@@ -424,10 +396,7 @@ impl Search {
     }
 
     /// Adds the lines that follow from those of the nodes in the queue, as long as there are any.
-    fn expand_all(
-        &mut self,
-        subject: &Subject<'_>,
-    ) -> Result<(), NoMemory>
+    fn expand_all(&mut self, subject: &Subject<'_>) -> Result<(), NoMemory>
         requires graph { IsGraph subject.now.image.now subject.now.graph.now }
         requires now { Searching subject.now.image.now subject.now.graph.now.keys.items subject.now.group
             (stage_of self.old) }

@@ -137,12 +137,7 @@ fn usable_at(
 }
 
 /// The earliest line of a search whose pointer gives the use.
-pub fn earliest(
-    lines: &[Line],
-    places: &[Option<usize>],
-    how: WordUse,
-    word: u64,
-) -> Option<usize>
+pub fn earliest(lines: &[Line], places: &[Option<usize>], how: WordUse, word: u64) -> Option<usize>
     requires { (k t : ℕ) → place_at places.now k ≡ Some t → t < length lines.now }
     ensures { MatchOption
         result
