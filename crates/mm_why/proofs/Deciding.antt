@@ -1,12 +1,12 @@
 -- A granted use is one that some owner has of its own, and an owner's use can be granted.
-use Rattle.std.proofs.Common.{◌≡◌, ℕ, zero, suc, ◌+◌, ◌-◌, ◌%◌, ◌^◌, ◌<◌, ◌≤◌, ◌⊎◌, ◌↔◌, inl, inr, Bool, true, false}
-use Rattle.std.proofs.Common.{◌==◌, ◌&&◌, IsTrue, List, length, slice_index, replicate, map, bit_and, bit_or, Option}
-use Rattle.std.proofs.Common.{Some, None, refl, sym, ap, ◌∙◌, subst, arith, eqb-true, eq-eqb, add-zero}
-use Rattle.std.proofs.lemmas.{Bool.{cases_lt, and_parts, and_from}, Grind.common_steps}
+use Rattle.std.proofs.Common.{◌≡◌, ℕ, zero, suc, ◌-◌, ◌%◌, ◌^◌, ◌<◌, ◌≤◌, ◌⊎◌, ◌↔◌, inl, inr, Bool, true, false}
+use Rattle.std.proofs.Common.{◌==◌, IsTrue, List, length, slice_index, replicate, map, bit_and, bit_or, Option}
+use Rattle.std.proofs.Common.{Some, None, refl, sym, ap, ◌∙◌, subst, arith, eqb-true, eq-eqb}
+use Rattle.std.proofs.lemmas.{Bool.{cases_lt, and_parts, and_from}}
 use Rattle.std.proofs.lemmas.Nat.{and_le_r, Bits.{bit_at-lt, bit_at_ones}}
 use Rattle.std.{proofs.lemmas.List.{get_or-replicate, get_or_past, get_or-map, length-map}, specs.Int.bit_at}
 use Rattle.mm_word.proofs.{Checked.Covers-holds_word, Below.holds_word-Covers}
-use Rattle.mm_word.specs.{Perm.allows, Pointer.{Pointer, InSegment, Covers, holds_word, IsBelow}}
+use Rattle.mm_word.specs.{Perm.allows, Pointer.{Pointer, holds_word, IsBelow}}
 use Rattle.mm_model.specs.{Image.Image, Flags.in_mask, Reach.{LoadsAt, StoresAt, Entries.All}}
 use Rattle.mm_model.specs.declared.word_use.WordUse.{WordUse}
 use Rattle.mm_flow.specs.declared.node.Right.{Right, TheVariants.{Load, Make}}
@@ -25,11 +25,11 @@ use Rattle.mm_graph.specs.declared.{canonical_ptr.CanonicalPtr.CanonicalPtr, gra
 use Rattle.mm_graph.specs.{Key.{key_at, pointer_at, entry_key, is_entry}, Nodes.AreLinked, Marked.node_pointer}
 use Rattle.mm_graph.specs.{GraphOf.Marked, Summary.{IsExact, SomeLoads, SomeStores}}
 use Rattle.mm_graph.proofs.{Graphs.exact_marks, Segments.{below-loads, below-stores}}
-use Rattle.mm_why.specs.declared.{line.Line.Line, rounds.Rounds.Rounds, uses.Owner.Owner}
+use Rattle.mm_why.specs.declared.{line.Line.Line, rounds.Rounds.Rounds, uses.Source.Source}
 use Rattle.mm_why.specs.Derivations.{line_at, Says, EachFollows, NoneTwice, IsDerivation, GivesUse, IsGranted, Derives}
 use Rattle.mm_why.specs.{Traces.IsTrace, Rounds.{AreRounds, round_at}, Graphs.{IsGraph, edges_of}}
 use Rattle.mm_why.specs.{Works.{IsSearched, ReachesRight}, Giving.{Meets, IsContext, Meets.{by_words, by_maker}}}
-use Rattle.mm_why.specs.Owning.{asked, can_use, CanUse, IsOwner, NoOwner, IsUsable}
+use Rattle.mm_why.specs.Owning.{asked, can_use, CanUse, IsSource, NoSource, IsUsable}
 use Rattle.mm_why.specs.Answers.{ReachesUse, Owns, IsSharing, IsGiver, GivesAt}
 use Rattle.mm_why.proofs.{Pruning.same_or_before, GraphFacts.nodes_len, Giving.{is_graph, below_node}}
 use Rattle.mm_why.proofs.Coming.{came, owned}
@@ -356,10 +356,10 @@ module _ (i : Image) (g : Graph) (h : IsGraph i g) where
         })
         owns o (inr x) = inr (marked_right Make o x)
 
-        pub giver : (o : Owner) → IsOwner r.rounds.items owners t o → IsGiver g r how w t o
+        pub giver : (o : Source) → IsSource r.rounds.items owners t o → IsGiver g r how w t o
         giver o x = record { small = x.small; round = x.round; comes = x.comes; owns = owns o.group ((are o.group).0 x.owns) }
 
-        module _ (none : NoOwner r.rounds.items owners t (length r.rounds.items)) where
+        module _ (none : NoSource r.rounds.items owners t (length r.rounds.items)) where
           never : (keep : ℕ → Bool) → ((o : ℕ) → HasSome marks keep o → bit_at owners o ≡ 1) → HasSome all_marks keep t → ⊥
           never keep own x =
               let c = come_in x.node t x.marked in
@@ -375,17 +375,17 @@ module _ (i : Image) (g : Graph) (h : IsGraph i g) where
               (record { node = m.at; small = m.small; marked = m.marked; kept = subst (λ v. can_use how v w ≡ true) (sym m.is) can })
 
       touch_not : (owners w t : ℕ) → ((o : ℕ) → (bit_at owners o ≡ 1) ↔ (HasSome marks (λ k. can_use uses.Touch (node_pointer g.keys.items k) w) o ⊎ HasSome marks (right_at g.nodes.items Make) o))
-          → NoOwner r.rounds.items owners t (length r.rounds.items) → IsTrue (in_mask makers t) ⊎ SomeLoads (Marked (node_pointer g.keys.items) all_marks t) w → ⊥
+          → NoSource r.rounds.items owners t (length r.rounds.items) → IsTrue (in_mask makers t) ⊎ SomeLoads (Marked (node_pointer g.keys.items) all_marks t) w → ⊥
       touch_not owners w t are none (inl x) = never_maker owners uses.Touch w t are none x
       touch_not owners w t are none (inr x) = never_known owners uses.Touch w t are none x.by x.knows (loads_test x.by w x.loads)
 
       write_not : (owners w t : ℕ) → ((o : ℕ) → (bit_at owners o ≡ 1) ↔ (HasSome marks (λ k. can_use uses.Write (node_pointer g.keys.items k) w) o ⊎ HasSome marks (right_at g.nodes.items Make) o))
-          → NoOwner r.rounds.items owners t (length r.rounds.items) → IsTrue (in_mask makers t) ⊎ SomeStores (Marked (node_pointer g.keys.items) all_marks t) w → ⊥
+          → NoSource r.rounds.items owners t (length r.rounds.items) → IsTrue (in_mask makers t) ⊎ SomeStores (Marked (node_pointer g.keys.items) all_marks t) w → ⊥
       write_not owners w t are none (inl x) = never_maker owners uses.Write w t are none x
       write_not owners w t are none (inr x) = never_known owners uses.Write w t are none x.by x.knows (stores_test x.by w x.stores)
 
       pub not_granted : (owners : ℕ) (how : WordUse) (w t : ℕ)
           → ((o : ℕ) → (bit_at owners o ≡ 1) ↔ (HasSome marks (λ k. can_use how (node_pointer g.keys.items k) w) o ⊎ HasSome marks (right_at g.nodes.items Make) o))
-          → NoOwner r.rounds.items owners t (length r.rounds.items) → IsGranted i how t w → ⊥
+          → NoSource r.rounds.items owners t (length r.rounds.items) → IsGranted i how t w → ⊥
       not_granted owners uses.Touch w t are none x = touch_not owners w t are none (exact.touches t w x)
       not_granted owners uses.Write w t are none x = write_not owners w t are none (exact.writes t w x)

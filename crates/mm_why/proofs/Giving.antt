@@ -7,7 +7,7 @@ use Rattle.mm_flow.specs.{declared.node.Right.{Right, TheVariants.{Load, Make}},
 use Rattle.mm_graph.specs.{declared.graph.Graph.Graph, Key.key_at, Marked.node_pointer, GraphOf.{IsGraphOf, CommonWord}}
 use Rattle.mm_graph.proofs.{Assembly.graph, Representatives.{stands_from, stands_below}}
 use Rattle.mm_graph.proofs.{Segments.{below-loads, below-stores, never_xp}, Summaries.{whole_fits, whole_covers}}
-use Rattle.mm_why.specs.{declared.{line.Line.Line, work.Work.Work}, Derivations.{line_at, Says, Follows}}
+use Rattle.mm_why.specs.{declared.{line.Line.Line, work.Workspace.Workspace}, Derivations.{line_at, Says, Follows}}
 use Rattle.mm_why.specs.{Searches.AtNode, Graphs.{IsGraph, edges_of}, Carrying.{IsPair, NoPair, IsWith}}
 use Rattle.mm_why.specs.Works.{IsSearched, GoesOn, ReachesRight, HasRightAt, whole_pointer}
 use Rattle.mm_why.specs.Giving.{MeetsAt, Meets, AreCarriers, CarryBetween, JoinedBy, JoinedAt}
@@ -114,7 +114,7 @@ whole_common i g h lines t l r =
       loads = below-loads (line_at lines l).pointer (node_pointer g.keys.items r.node) w.word (below_node i g h r.node (line_at lines l).pointer r.at) w.loads;
     }
 
-pub maker_carries : (i : Image) (g : Graph) (old new : Work) (h t s l : ℕ) → IsGraph i g → GoesOn i g old new → HasRightAt g old.lines.items t Load l
+pub maker_carries : (i : Image) (g : Graph) (old new : Workspace) (h t s l : ℕ) → IsGraph i g → GoesOn i g old new → HasRightAt g old.lines.items t Load l
     → Says new.lines.items (length new.lines.items) s h whole_pointer → AreCarriers new.lines.items h t s l
 maker_carries i g old new h t s l graph on r says =
     let e = on.lines.same l r.earlier in

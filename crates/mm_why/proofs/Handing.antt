@@ -5,7 +5,7 @@ use Rattle.mm_word.specs.Pointer.{Pointer}
 use Rattle.mm_model.specs.{Slot.Slot, Image.Image, Reach.{LoadsAt, StoresAt}}
 use Rattle.mm_flow.specs.Flow.{Has}
 use Rattle.mm_graph.specs.{declared.graph.Graph.Graph, Nodes.IsLinks}
-use Rattle.mm_why.specs.{declared.{line.Line.Line, work.Work.Work}, Derivations.{Says, Follows}}
+use Rattle.mm_why.specs.{declared.{line.Line.Line, work.Workspace.Workspace}, Derivations.{Says, Follows}}
 use Rattle.mm_why.specs.{Rounds.{HandsOn, round_at, AreRounds}, Works.GoesOn, Giving.{HasLine, JoinedAt}}
 use Rattle.mm_why.proofs.Working.{says_on}
 use Rattle.mm_why.specs.declared.line.Rule.TheVariants as rules
@@ -70,5 +70,5 @@ passes i lines w k s l by to p store load says ss sl stores loads = record {
   loads = loads;
 }
 
-pub line_on : (i : Image) (g : Graph) (a b : Work) (h : ℕ) (p : Pointer) → GoesOn i g a b → HasLine a.lines.items h p → HasLine b.lines.items h p
+pub line_on : (i : Image) (g : Graph) (a b : Workspace) (h : ℕ) (p : Pointer) → GoesOn i g a b → HasLine a.lines.items h p → HasLine b.lines.items h p
 line_on i g a b h p x l = (l.0, says_on i g a b l.0 h p x l.1)

@@ -4,7 +4,7 @@ use Rattle.std.proofs.Common.{◌∷◌, ◌++◌, length, slice_index, replicat
 use Rattle.std.proofs.lemmas.Bool.{cases_lt, Decides.nat_tests}
 use Rattle.std.proofs.lemmas.List.{get_or-replicate, get_or_past, get_or_push, get_or_append_left, length_push}
 use Rattle.std.specs.Int.{bit_at}
-use Rattle.mm_flow.specs.{Flow.{Has, Within}, Sharing.{AddsEdges, SharedBy, PropagatesShared}}
+use Rattle.mm_flow.specs.{Flow.{Has}, Sharing.{AddsEdges, SharedBy, PropagatesShared}}
 use Rattle.mm_flow.proofs.{Walks.at_one, Bits.zero_bit}
 use Rattle.mm_graph.proofs.OneBits.{with_bit, with_bit-only, with_bit-keeps, with_bit-there, with_bit-length}
 use Rattle.mm_why.specs.Rounds.{IsHanding, HandsOn, IsStep, round_at, FirstRounds, AreRounds, HandingSoFar, OwnSoFar}

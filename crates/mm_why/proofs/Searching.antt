@@ -16,6 +16,10 @@ use Rattle.mm_why.specs.Searches.{WordPlaced, IsSlotOf, HasWords, RegistersPlace
 use Rattle.mm_why.proofs.{Growing.{adds, extends_trans, extends_same}, Pruning.same_or_before}
 use Rattle.mm_why.specs.declared.line.Rule.TheVariants as rules
 
+-- the line that a node has at its index
+pub line_at_node : (places : List (Option ℕ)) (k : ℕ) (at : Option ℕ) (t : ℕ) → k < length places → at ≡ slice_index_or places k at → at ≡ Some t → place_at places k ≡ Some t
+line_at_node places k at t lt is some = sym (get_or_default places k at None lt) ∙ sym is ∙ some
+
 -- two nodes that stand for one pointer are one
 one_node : (keys : List CanonicalPtr) (j k : ℕ) (p q : Pointer) → IsRising keys → AtNode keys j p → AtNode keys k q → p ≡ q → j ≡ k
 one_node keys j k p q rising a b e = same_place keys j k rising a.small b.small (of_some (sym a.stands ∙ ap standing_key e ∙ b.stands))

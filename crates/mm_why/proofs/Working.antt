@@ -5,22 +5,22 @@ use Rattle.std.proofs.lemmas.{Bool.cases_lt, List.{get_or-set_same, get_or-set_o
 use Rattle.mm_word.specs.Pointer.{Pointer}
 use Rattle.mm_model.specs.Image.{Image}
 use Rattle.mm_graph.specs.declared.graph.Graph.{Graph}
-use Rattle.mm_why.specs.declared.{line.Line.Line, search.Search.Search, work.Work.Work}
+use Rattle.mm_why.specs.declared.{line.Line.Line, search.NodeLines.NodeLines, work.Workspace.Workspace}
 use Rattle.mm_why.specs.{Derivations.{line_at, Says, Follows}, Traces.{Extends, Adds}, Searches.AtNode}
 use Rattle.mm_why.specs.{Graphs.{HasNoLine, IsSearch}, Works.{search_at, IsKnown, IsSearched, IsWork, GoesOn}}
 use Rattle.mm_why.proofs.{Growing.extends_trans, Pruning.same_or_before, Searching.{Which, which, Which.{same, other}}}
 
-pub goes_nowhere : (i : Image) (g : Graph) (w : Work) → IsWork i g w → GoesOn i g w w
+pub goes_nowhere : (i : Image) (g : Graph) (w : Workspace) → IsWork i g w → GoesOn i g w w
 goes_nowhere i g w is = record { work = is; lines = record { len = omega arith; same = λ k lt. refl }; known = λ h k. k }
 
-pub goes_trans : (i : Image) (g : Graph) (a b c : Work) → GoesOn i g a b → GoesOn i g b c → GoesOn i g a c
+pub goes_trans : (i : Image) (g : Graph) (a b c : Workspace) → GoesOn i g a b → GoesOn i g b c → GoesOn i g a c
 goes_trans i g a b c x y = record {
   work = y.work;
   lines = extends_trans a.lines.items b.lines.items c.lines.items x.lines y.lines;
   known = λ h k. y.known h (x.known h k);
 }
 
-pub says_on : (i : Image) (g : Graph) (a b : Work) (k h : ℕ) (p : Pointer) → GoesOn i g a b → Says a.lines.items (length a.lines.items) k h p → Says b.lines.items (length b.lines.items) k h p
+pub says_on : (i : Image) (g : Graph) (a b : Workspace) (k h : ℕ) (p : Pointer) → GoesOn i g a b → Says a.lines.items (length a.lines.items) k h p → Says b.lines.items (length b.lines.items) k h p
 says_on i g a b k h p x s =
     let e = x.lines.same k s.earlier in
     record {
@@ -40,15 +40,15 @@ searched_more g old new h places x s = record {
 }
 
 -- a group that was not searched has no line
-pub no_line : (i : Image) (g : Graph) (w : Work) (group : ℕ) → IsWork i g w → search_at w.searches.items group ≡ None → HasNoLine w.lines.items group
+pub no_line : (i : Image) (g : Graph) (w : Workspace) (group : ℕ) → IsWork i g w → search_at w.searches.items group ≡ None → HasNoLine w.lines.items group
 no_line i g w group h none t lt e =
     let k = h.owned t lt in
     let bad = sym none ∙ ap (search_at w.searches.items) (sym e) ∙ k.1 in
     cc
 
 -- a group was searched
-module _ (i : Image) (g : Graph) (old new : Work) (group : ℕ) (found : Search) (h : IsWork i g old) (small : group < 64) (none : search_at old.searches.items group ≡ None)
-    (s : IsSearch i g group old.lines.items new.lines.items found.places.items) (is : new.searches.items ≡ slice_set old.searches.items group (Some found)) where
+module _ (i : Image) (g : Graph) (old new : Workspace) (group : ℕ) (found : NodeLines) (h : IsWork i g old) (small : group < 64) (none : search_at old.searches.items group ≡ None)
+    (s : IsSearch i g group old.lines.items new.lines.items found.lines.items) (is : new.searches.items ≡ slice_set old.searches.items group (Some found)) where
   inside : group < length old.searches.items
   inside = let l = h.len in omega (arith, l, small)
 
@@ -64,15 +64,15 @@ module _ (i : Image) (g : Graph) (old new : Work) (group : ℕ) (found : Search)
   still : (n : ℕ) → IsKnown old n → IsKnown new n
   still n k = elim (which group n) [ same e ↦ subst (IsKnown new) (sym e) now_known | other ne ↦ (k.0, there n ne ∙ k.1) ]
 
-  known : (n : ℕ) (x : Search) → Which group n → search_at new.searches.items n ≡ Some x → IsSearched g new.lines.items n x.places.items
+  known : (n : ℕ) (x : NodeLines) → Which group n → search_at new.searches.items n ≡ Some x → IsSearched g new.lines.items n x.lines.items
   known n x (same e) k =
       let one : found ≡ x = of_some found x (sym here ∙ ap (search_at new.searches.items) (sym e) ∙ k) in
-      subst (λ v. IsSearched g new.lines.items v x.places.items) (sym e)
-      (subst (λ v. IsSearched g new.lines.items group v.places.items) one (record { len = s.len; placed = s.placed; each = s.each }))
+      subst (λ v. IsSearched g new.lines.items v x.lines.items) (sym e)
+      (subst (λ v. IsSearched g new.lines.items group v.lines.items) one (record { len = s.len; placed = s.placed; each = s.each }))
     where
-      of_some : (a b : Search) → ◌≡◌ {A = Option Search} (Some a) (Some b) → a ≡ b
+      of_some : (a b : NodeLines) → ◌≡◌ {A = Option NodeLines} (Some a) (Some b) → a ≡ b
       of_some a b x = cc
-  known n x (other ne) k = searched_more g old.lines.items new.lines.items n x.places.items s.extends (h.known n x (sym (there n ne) ∙ k))
+  known n x (other ne) k = searched_more g old.lines.items new.lines.items n x.lines.items s.extends (h.known n x (sym (there n ne) ∙ k))
 
   pub searched_on : GoesOn i g old new
   searched_on = record {
@@ -91,7 +91,7 @@ module _ (i : Image) (g : Graph) (old new : Work) (group : ℕ) (found : Search)
       owner t lt (inr after) = subst (IsKnown new) (sym (s.only t after lt)) now_known
 
 -- a line was added
-pub added_on : (i : Image) (g : Graph) (old new : Work) (line : Line) (place : ℕ) → IsWork i g old → IsKnown old line.group
+pub added_on : (i : Image) (g : Graph) (old new : Workspace) (line : Line) (place : ℕ) → IsWork i g old → IsKnown old line.group
     → Follows i old.lines.items (length old.lines.items) line.group line.pointer line.rule → Adds old.lines.items line new.lines.items place
     → new.searches.items ≡ old.searches.items → GoesOn i g old new × Says new.lines.items (length new.lines.items) place line.group line.pointer
 added_on i g old new line place h k follows a is = (
@@ -99,7 +99,7 @@ added_on i g old new line place h k follows a is = (
     work = record {
       trace = a.keeps i h.trace follows;
       len = ap length is ∙ h.len;
-      known = λ n x e. searched_more g old.lines.items new.lines.items n x.places.items a.extends (h.known n x (ap (λ v. search_at v n) (sym is) ∙ e));
+      known = λ n x e. searched_more g old.lines.items new.lines.items n x.lines.items a.extends (h.known n x (ap (λ v. search_at v n) (sym is) ∙ e));
       owned = λ t lt. owner t (same_or_before t (length old.lines.items) (let l = a.len in omega (arith, l, lt)));
     };
     lines = a.extends;

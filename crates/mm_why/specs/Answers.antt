@@ -2,7 +2,7 @@
 use Rattle.std.specs.Prelude.{◌≡◌, ℕ, ◌<◌, ◌⊎◌, List, length, replicate}
 use Rattle.mm_flow.specs.{declared.node.Right.TheVariants.Make, Flow.{Has, Flows}, Reached.AreSharingEdges}
 use Rattle.mm_graph.specs.{declared.graph.Graph.Graph, Marked.node_pointer}
-use Rattle.mm_why.specs.declared.{line.Line.Line, rounds.Rounds.Rounds, uses.Owner.Owner}
+use Rattle.mm_why.specs.declared.{line.Line.Line, rounds.Rounds.Rounds, uses.Source.Source}
 use Rattle.mm_why.specs.{Derivations.{line_at, GivesUse}, Rounds.{AreRounds, round_at}, Graphs.edges_of}
 use Rattle.mm_why.specs.{Works.ReachesRight, Owning.CanUse}
 use Rattle.mm_model.specs.declared.word_use.WordUse.{WordUse}
@@ -26,7 +26,7 @@ pub record IsSharing (g : Graph) (marks : List ℕ) (r : Rounds) : Type 0 where
   pub rounds : AreRounds r.links r.meets r.rounds.items
 
 -- the owner has the use of its own, and all that it has comes to the group in this round
-pub record IsGiver (g : Graph) (r : Rounds) (how : WordUse) (word to : ℕ) (o : Owner) : Type 0 where
+pub record IsGiver (g : Graph) (r : Rounds) (how : WordUse) (word to : ℕ) (o : Source) : Type 0 where
   pub small : o.group < 64
   pub round : o.round < length r.rounds.items
   pub comes : Has (round_at r.rounds.items o.round) o.group to

@@ -2,7 +2,7 @@
 use Rattle.std.specs.{Prelude.{◌≡◌, ℕ, ◌<◌, Bool, true, ◌&&◌, List, length, Option, Some, None}, Int.bit_at}
 use Rattle.mm_word.specs.{declared.perm.Kind.Kind, Perm.allows, Pointer.{Pointer, Covers, holds_word}}
 use Rattle.mm_flow.specs.Flow.{Has}
-use Rattle.mm_why.specs.{declared.{line.Line.Line, uses.Owner.Owner}, Derivations.line_at, Searches.place_at}
+use Rattle.mm_why.specs.{declared.{line.Line.Line, uses.Source.Source}, Derivations.line_at, Searches.place_at}
 use Rattle.mm_why.specs.Rounds.{round_at}
 use Rattle.mm_model.specs.declared.word_use.WordUse.{WordUse}
 use Rattle.mm_word.specs.declared.perm.Kind.TheVariants as kinds
@@ -22,16 +22,16 @@ abbrev pub CanUse : WordUse → Pointer → ℕ → Type 0
 CanUse how p w = (allows p.perm (asked how) ≡ true) × Covers p w
 
 -- no group of the mask has its own come to the other in a round before this one
-abbrev pub NoOwner : List (List ℕ) → ℕ → ℕ → ℕ → Type 0
-NoOwner rounds owners to top = (p h : ℕ) → p < top → h < 64 → bit_at owners h ≡ 1 → Has (round_at rounds p) h to → ⊥
+abbrev pub NoSource : List (List ℕ) → ℕ → ℕ → ℕ → Type 0
+NoSource rounds owners to top = (p h : ℕ) → p < top → h < 64 → bit_at owners h ≡ 1 → Has (round_at rounds p) h to → ⊥
 
 -- a group of the mask; this round is the first in which all that one of them has comes to the other group
-pub record IsOwner (rounds : List (List ℕ)) (owners to : ℕ) (o : Owner) : Type 0 where
+pub record IsSource (rounds : List (List ℕ)) (owners to : ℕ) (o : Source) : Type 0 where
   pub small : o.group < 64
   pub round : o.round < length rounds
   pub owns : bit_at owners o.group ≡ 1
   pub comes : Has (round_at rounds o.round) o.group to
-  pub first : NoOwner rounds owners to o.round
+  pub first : NoSource rounds owners to o.round
 
 -- the line of a node below `top` has a pointer that can be used
 pub record IsUsable (lines : List Line) (places : List (Option ℕ)) (how : WordUse) (word top t : ℕ) : Type 0 where

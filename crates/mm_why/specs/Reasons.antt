@@ -1,7 +1,7 @@
 -- Why all that a group has comes to another in a round.
 use Rattle.std.specs.{Prelude.{◌≡◌, ℕ, ◌<◌, List}, Int.bit_at}
 use Rattle.mm_flow.specs.Flow.{Has}
-use Rattle.mm_why.specs.declared.reasons.{Hand.Hand, Reason.Reason}
+use Rattle.mm_why.specs.declared.reasons.{Hand.Hand, Handoff.Handoff}
 use Rattle.mm_why.specs.declared.reasons.Hand.TheVariants as hands
 
 -- the group is one of the mask, and has the other in the table
@@ -28,7 +28,7 @@ IsHand links meets now by to hands.Linked = Has links by to
 IsHand links meets now by to (hands.Met giver taker) = IsMeeting meets now by to giver taker
 
 -- all that the owner has has come to a group that hands to the group `to`
-pub record IsReason (links meets now : List ℕ) (owner to : ℕ) (r : Reason) : Type 0 where
+pub record IsHandoff (links meets now : List ℕ) (owner to : ℕ) (r : Handoff) : Type 0 where
   pub small : r.by < 64
   pub come : Has now owner r.by
   pub hand : IsHand links meets now r.by to r.hand

@@ -14,8 +14,8 @@ pub record Stage : Type 0 where
   pub places : List (Option ℕ)
   pub queue : List ℕ
 
-abbrev pub stage_of : Search → List Line → Stage
-stage_of search lines = record { lines = lines; places = search.places.items; queue = search.queue.items }
+abbrev pub stage_of : Search → Stage
+stage_of search = record { lines = search.lines.items; places = search.places.items; queue = search.queue.items }
 
 abbrev pub place_at : List (Option ℕ) → ℕ → Option ℕ
 place_at places k = slice_index_or places k None

@@ -4,15 +4,15 @@ use Rattle.mm_word.specs.{declared.perm.Perm.TheVariants.Rw, Pointer.Pointer}
 use Rattle.mm_model.specs.Image.{Image}
 use Rattle.mm_flow.specs.{declared.node.Right.Right, Edges.right_at, Flow.Flows}
 use Rattle.mm_graph.specs.declared.graph.Graph.{Graph}
-use Rattle.mm_why.specs.{declared.{line.Line.Line, search.Search.Search, work.Work.Work}, Derivations.line_at}
+use Rattle.mm_why.specs.{declared.{line.Line.Line, search.NodeLines.NodeLines, work.Workspace.Workspace}, Derivations.line_at}
 use Rattle.mm_why.specs.{Traces.{IsTrace, Extends}, Searches.{place_at, IsPlaced, AtNode}, Graphs.edges_of}
 
-abbrev pub search_at : List (Option Search) → ℕ → Option Search
+abbrev pub search_at : List (Option NodeLines) → ℕ → Option NodeLines
 search_at searches h = slice_index_or searches h None
 
 -- the group was searched
-abbrev pub IsKnown : Work → ℕ → Type 0
-IsKnown w h = (s : Search) × (search_at w.searches.items h ≡ Some s)
+abbrev pub IsKnown : Workspace → ℕ → Type 0
+IsKnown w h = (s : NodeLines) × (search_at w.searches.items h ≡ Some s)
 
 -- the places are those of the lines of a group that was searched
 pub record IsSearched (g : Graph) (lines : List Line) (group : ℕ) (places : List (Option ℕ)) : Type 0 where
@@ -22,14 +22,14 @@ pub record IsSearched (g : Graph) (lines : List Line) (group : ℕ) (places : Li
   pub each : (k : ℕ) → Flows (edges_of g) g.start.items group k → IsPlaced places k
 
 -- each line follows, and each group with a line was searched
-pub record IsWork (i : Image) (g : Graph) (w : Work) : Type 0 where
+pub record IsWork (i : Image) (g : Graph) (w : Workspace) : Type 0 where
   pub trace : IsTrace i w.lines.items
   pub len : length w.searches.items ≡ 64
-  pub known : (h : ℕ) (s : Search) → search_at w.searches.items h ≡ Some s → IsSearched g w.lines.items h s.places.items
+  pub known : (h : ℕ) (s : NodeLines) → search_at w.searches.items h ≡ Some s → IsSearched g w.lines.items h s.lines.items
   pub owned : (t : ℕ) → t < length w.lines.items → IsKnown w (line_at w.lines.items t).group
 
 -- the work has gone on
-pub record GoesOn (i : Image) (g : Graph) (old new : Work) : Type 0 where
+pub record GoesOn (i : Image) (g : Graph) (old new : Workspace) : Type 0 where
   pub work : IsWork i g new
   pub lines : Extends old.lines.items new.lines.items
   pub known : (h : ℕ) → IsKnown old h → IsKnown new h

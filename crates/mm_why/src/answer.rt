@@ -15,13 +15,13 @@ ghost use Rattle.mm_why.specs.Works.{IsKnown, IsWork, GoesOn};
 ghost use Rattle.mm_why.specs.Owning.{can_use};
 ghost use Rattle.mm_why.specs.Answers.{Owns, IsSharing, IsGiver, GivesAt};
 
-use crate::give::{Context, give, make_whole, places_of};
+use crate::give::Context;
 use crate::line::Line;
 use crate::lines::pointer_of;
 use crate::prune::prune;
 use crate::rounds::{Masks, Rounds, all_rounds};
-use crate::uses::{Owner, earliest, first_owner, givers};
-use crate::work::{Work, know, no_work};
+use crate::uses::{Source, earliest, first_source, givers};
+use crate::work::Workspace;
 use mm_flow::{Right, any, sharing_edges, spread};
 use mm_graph::{Entries, Graph, built};
 use mm_image::Image;
@@ -95,7 +95,7 @@ fn owners_in(graph: &Graph, marks: &[u64], how: WordUse, word: u64) -> u64
 /// The first of a group's own lines that gives the use; if there is none, the line of its pointer to the whole memory.
 fn own_line(
     context: &Context<'_>,
-    work: &mut Work,
+    work: &mut Workspace,
     owner: usize,
     word: u64,
     how: WordUse,
@@ -110,12 +110,9 @@ fn own_line(
     ensures goes_on { IfOk result (λ k. GoesOn context.now.image.now context.now.graph.now work.old work.new) }
     ensures line { IfOk result (λ k. GivesAt work.new.lines.items k owner how word) }
 {
-    match earliest(&work.lines, places_of(work, owner), how, word) {
+    match earliest(&work.lines, work.lines_of(owner), how, word) {
         Some(place) => Ok(place),
-        None => {
-            let place = make_whole(context, work, owner)?;
-            Ok(place)
-        }
+        None => work.make_whole(context, owner),
     }
 }
 
@@ -123,7 +120,7 @@ fn own_line(
 fn derivation(
     alloc: Global,
     context: &Context<'_>,
-    owner: Owner,
+    source: Source,
     group: usize,
     word: u64,
     how: WordUse,
@@ -132,14 +129,14 @@ fn derivation(
     requires group { group < 64 }
     requires word { word % 8 ≡ 0 }
     requires small { word < 2 ^ 54 }
-    requires owner { IsGiver context.now.graph.now context.now.rounds.now how word group owner }
+    requires source { IsGiver context.now.graph.now context.now.rounds.now how word group source }
     ensures { IfOk result (λ lines. Derives context.now.image.now how group word lines.items) }
 {
-    let mut work = no_work(alloc)?;
-    know(alloc, context.image, context.graph, &mut work, owner.group)?;
-    let place = own_line(context, &mut work, owner.group, word, how)?;
+    let mut work = Workspace::new(alloc)?;
+    work.ensure_searched(alloc, context.image, context.graph, source.group)?;
+    let place = own_line(context, &mut work, source.group, word, how)?;
     let pointer = pointer_of(&work.lines, place);
-    let last = give(alloc, context, &mut work, owner, pointer, group)?;
+    let last = work.derive_for(alloc, context, source, pointer, group)?;
     let lines = prune(alloc, &work.lines, last)?;
     Ok(lines)
 }
@@ -164,7 +161,7 @@ pub fn why(
     let marks = own_marks(alloc, &graph)?;
     let rounds = sharing(alloc, &graph, &marks)?;
     let owners = owners_in(&graph, &marks, how, word);
-    let Some(owner) = first_owner(&rounds, owners, group as usize) else {
+    let Some(source) = first_source(&rounds, owners, group as usize) else {
         return Ok(None);
     };
     let context = Context {
@@ -172,6 +169,6 @@ pub fn why(
         graph: &graph,
         rounds: &rounds,
     };
-    let lines = derivation(alloc, &context, owner, group as usize, word, how)?;
+    let lines = derivation(alloc, &context, source, group as usize, word, how)?;
     Ok(Some(lines))
 }

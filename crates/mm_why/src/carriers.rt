@@ -47,18 +47,18 @@ pub fn earlier(one: Option<usize>, other: Option<usize>) -> Option<usize>
 }
 
 /// The place at an index.
-pub fn item(places: &Vec<Option<usize>>, k: usize) -> Option<usize>
-    requires { k < length places.now.items }
-    ensures { result ≡ place_at places.now.items k }
+pub fn item(places: &[Option<usize>], k: usize) -> Option<usize>
+    requires { k < length places.now }
+    ensures { result ≡ place_at places.now k }
 {
     places[k]
 }
 
 /// The line of a node that has the right.
-fn kept_place(graph: &Graph, places: &Vec<Option<usize>>, right: Right, k: usize) -> Option<usize>
-    requires places { length places.now.items ≡ length graph.now.nodes.items }
+fn kept_place(graph: &Graph, places: &[Option<usize>], right: Right, k: usize) -> Option<usize>
+    requires places { length places.now ≡ length graph.now.nodes.items }
     requires small { k < length graph.now.nodes.items }
-    ensures { IsKept places.now.items (right_at graph.now.nodes.items right) k result }
+    ensures { IsKept places.now (right_at graph.now.nodes.items right) k result }
 {
     let node = graph.nodes[k];
     if node.has(right) {
@@ -69,9 +69,9 @@ fn kept_place(graph: &Graph, places: &Vec<Option<usize>>, right: Right, k: usize
 }
 
 /// The item of a node's parent, if that is before the node.
-fn over(above: &Vec<Option<usize>>, up: usize, k: usize) -> Option<usize>
-    requires { length above.now.items ≡ k }
-    ensures { IsOver above.now.items up k result }
+fn over(above: &[Option<usize>], up: usize, k: usize) -> Option<usize>
+    requires { length above.now ≡ k }
+    ensures { IsOver above.now up k result }
 {
     if up < k { item(above, up) } else { None }
 }
@@ -96,13 +96,13 @@ fn parent_of(graph: &Graph, k: usize) -> usize
 fn nearest(
     alloc: Global,
     graph: &Graph,
-    places: &Vec<Option<usize>>,
+    places: &[Option<usize>],
     right: Right,
 ) -> Result<Vec<Option<usize>>, NoMemory>
-    requires places { length places.now.items ≡ length graph.now.nodes.items }
+    requires places { length places.now ≡ length graph.now.nodes.items }
     requires parents { length graph.now.parents.items ≡ length graph.now.nodes.items }
     ensures len { IfOk result (λ v. length v.items ≡ length graph.now.nodes.items) }
-    ensures nearest { IfOk result (λ v. AreNearest graph.now.parents.items places.now.items
+    ensures nearest { IfOk result (λ v. AreNearest graph.now.parents.items places.now
         (right_at graph.now.nodes.items right) v.items) }
 {
     let mut above = Vec::new(alloc);
@@ -133,19 +133,19 @@ fn sooner(best: Option<(usize, usize)>, store: usize, load: usize) -> Option<(us
 
 /// The sooner of a pair and that of a node.
 fn pair_at(
-    stores: &Vec<Option<usize>>,
-    loads: &Vec<Option<usize>>,
+    stores: &[Option<usize>],
+    loads: &[Option<usize>],
     k: usize,
     best: Option<(usize, usize)>,
 ) -> Option<(usize, usize)>
-    requires stores { k < length stores.now.items }
-    requires loads { k < length loads.now.items }
+    requires stores { k < length stores.now }
+    requires loads { k < length loads.now }
     ensures { MatchOption best
-        ((s l : ℕ) → BothAt stores.now.items loads.now.items k s l → ⊥)
-        (λ pair. BothAt stores.now.items loads.now.items k pair.0 pair.1)
+        ((s l : ℕ) → BothAt stores.now loads.now k s l → ⊥)
+        (λ pair. BothAt stores.now loads.now k pair.0 pair.1)
         → MatchOption result
-        ((s l : ℕ) → BothAt stores.now.items loads.now.items (k + 1) s l → ⊥)
-        (λ pair. BothAt stores.now.items loads.now.items (k + 1) pair.0 pair.1) }
+        ((s l : ℕ) → BothAt stores.now loads.now (k + 1) s l → ⊥)
+        (λ pair. BothAt stores.now loads.now (k + 1) pair.0 pair.1) }
 {
     match item(stores, k) {
         Some(store) => match item(loads, k) {
@@ -160,15 +160,15 @@ fn pair_at(
 pub fn meeting_places(
     alloc: Global,
     graph: &Graph,
-    giver: &Vec<Option<usize>>,
-    taker: &Vec<Option<usize>>,
+    giver: &[Option<usize>],
+    taker: &[Option<usize>],
 ) -> Result<Option<(usize, usize)>, NoMemory>
-    requires giver { length giver.now.items ≡ length graph.now.nodes.items }
-    requires taker { length taker.now.items ≡ length graph.now.nodes.items }
+    requires giver { length giver.now ≡ length graph.now.nodes.items }
+    requires taker { length taker.now ≡ length graph.now.nodes.items }
     requires parents { length graph.now.parents.items ≡ length graph.now.nodes.items }
     ensures { IfOk result (λ r. MatchOption r
-        (NoPair graph.now giver.now.items taker.now.items)
-        (λ pair. IsPair graph.now giver.now.items taker.now.items pair.0 pair.1)) }
+        (NoPair graph.now giver.now taker.now)
+        (λ pair. IsPair graph.now giver.now taker.now pair.0 pair.1)) }
 {
     let stores = nearest(alloc, graph, giver, Right::Store)?;
     let loads = nearest(alloc, graph, taker, Right::Load)?;
@@ -180,11 +180,11 @@ pub fn meeting_places(
 }
 
 /// The earliest line of a node that has the right.
-pub fn first_with(graph: &Graph, places: &Vec<Option<usize>>, right: Right) -> Option<usize>
-    requires { length places.now.items ≡ length graph.now.nodes.items }
+pub fn first_with(graph: &Graph, places: &[Option<usize>], right: Right) -> Option<usize>
+    requires { length places.now ≡ length graph.now.nodes.items }
     ensures { MatchOption result
-        ((t : ℕ) → IsWith graph.now places.now.items right (length graph.now.nodes.items) t → ⊥)
-        (IsWith graph.now places.now.items right (length graph.now.nodes.items)) }
+        ((t : ℕ) → IsWith graph.now places.now right (length graph.now.nodes.items) t → ⊥)
+        (IsWith graph.now places.now right (length graph.now.nodes.items)) }
 {
     let mut best = None;
     for k in 0..graph.nodes.len() {
@@ -194,11 +194,11 @@ pub fn first_with(graph: &Graph, places: &Vec<Option<usize>>, right: Right) -> O
 }
 
 /// The pointers of two lines.
-pub fn carriers_of(lines: &Vec<Line>, store: usize, load: usize) -> Carriers
-    requires store { store < length lines.now.items }
-    requires load { load < length lines.now.items }
-    ensures store { result.store ≡ (line_at lines.now.items store).pointer }
-    ensures load { result.load ≡ (line_at lines.now.items load).pointer }
+pub fn carriers_of(lines: &[Line], store: usize, load: usize) -> Carriers
+    requires store { store < length lines.now }
+    requires load { load < length lines.now }
+    ensures store { result.store ≡ (line_at lines.now store).pointer }
+    ensures load { result.load ≡ (line_at lines.now load).pointer }
 {
     Carriers {
         store: pointer_of(lines, store),

@@ -31,12 +31,11 @@ pub fn find(lines: &[Line], group: u8, pointer: GuardedPtr) -> Option<usize>
 }
 
 /// The pointer of a line.
-pub fn pointer_of(lines: &Vec<Line>, k: usize) -> GuardedPtr
-    requires { k < length lines.now.items }
-    ensures { result ≡ (line_at lines.now.items k).pointer }
+pub fn pointer_of(lines: &[Line], k: usize) -> GuardedPtr
+    requires { k < length lines.now }
+    ensures { result ≡ (line_at lines.now k).pointer }
 {
-    let line = lines[k];
-    line.pointer
+    lines[k].pointer
 }
 
 /// Adds a line, and gives its index.

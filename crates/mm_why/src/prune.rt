@@ -170,6 +170,5 @@ pub fn prune(alloc: Global, lines: &[Line], last: usize) -> Result<Vec<Line>, No
         (line_at lines.now last).pointer) }
 {
     let needed = needed_by(alloc, lines, last)?;
-    let out = kept(alloc, lines, &needed)?;
-    Ok(out)
+    kept(alloc, lines, &needed)
 }

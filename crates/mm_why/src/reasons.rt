@@ -4,7 +4,7 @@ ghost use Rattle.std.specs.Prelude.{◌≡◌, ℕ, ◌<◌, [], MatchOption, If
 ghost use Rattle.std.specs.Int.{bit_at};
 ghost use Rattle.mm_flow.specs.Flow.{Has};
 ghost use Rattle.mm_why.specs.Rounds.{HandsOn, AreRounds, round_at};
-ghost use Rattle.mm_why.specs.Reasons.{IsFirstIn, IsMeeting, NoMeeting, IsHand, IsReason};
+ghost use Rattle.mm_why.specs.Reasons.{IsFirstIn, IsMeeting, NoMeeting, IsHand, IsHandoff};
 
 use crate::rounds::{Masks, Rounds, has};
 
@@ -20,7 +20,7 @@ pub enum Hand {
 
 /// The group that hands on what has come to it, and how.
 #[derive(Clone, Copy)]
-pub struct Reason {
+pub struct Handoff {
     pub by: usize,
     pub hand: Hand,
 }
@@ -74,7 +74,7 @@ fn meeting(meets: &Masks, now: &Masks, by: usize, to: usize) -> Option<(usize, u
 }
 
 /// A group of a mask that hands to another since two groups meet.
-fn met_by(meets: &Masks, now: &Masks, mask: u64, to: usize) -> Option<Reason>
+fn met_by(meets: &Masks, now: &Masks, mask: u64, to: usize) -> Option<Handoff>
     ensures { MatchOption
         result
         ((k : ℕ) → k < 64 → bit_at mask k ≡ 1 → NoMeeting meets.now now.now k to 64)
@@ -83,7 +83,7 @@ fn met_by(meets: &Masks, now: &Masks, mask: u64, to: usize) -> Option<Reason>
     for by in 0..64usize {
         if has(mask, by) {
             if let Some((giver, taker)) = meeting(meets, now, by, to) {
-                return Some(Reason {
+                return Some(Handoff {
                     by,
                     hand: Hand::Met { giver, taker },
                 });
@@ -95,7 +95,7 @@ fn met_by(meets: &Masks, now: &Masks, mask: u64, to: usize) -> Option<Reason>
 
 /// Why all that the group `owner` has comes to the group `to` in the round after a given one. A reason that needs no
 /// other group's pointers comes first.
-pub fn reason_for(rounds: &Rounds, round: usize, owner: usize, to: usize) -> Option<Reason>
+pub fn handoff_for(rounds: &Rounds, round: usize, owner: usize, to: usize) -> Option<Handoff>
     requires rounds { AreRounds rounds.now.links rounds.now.meets rounds.now.rounds.items }
     requires round { round < length rounds.now.rounds.items }
     requires owner { owner < 64 }
@@ -103,18 +103,18 @@ pub fn reason_for(rounds: &Rounds, round: usize, owner: usize, to: usize) -> Opt
     ensures { MatchOption
         result
         (HandsOn rounds.now.links rounds.now.meets (round_at rounds.now.rounds.items round) owner to → ⊥)
-        (IsReason rounds.now.links rounds.now.meets (round_at rounds.now.rounds.items round) owner to) }
+        (IsHandoff rounds.now.links rounds.now.meets (round_at rounds.now.rounds.items round) owner to) }
 {
     let now = rounds.rounds[round];
     let mask = now[owner];
     if let Some(by) = first_in(mask, &rounds.links, to) {
-        return Some(Reason {
+        return Some(Handoff {
             by,
             hand: Hand::Linked,
         });
     }
     if let Some(by) = first_in(mask, &rounds.meets, to) {
-        return Some(Reason {
+        return Some(Handoff {
             by,
             hand: Hand::Met {
                 giver: by,
@@ -123,7 +123,7 @@ pub fn reason_for(rounds: &Rounds, round: usize, owner: usize, to: usize) -> Opt
         });
     }
     match met_by(&rounds.meets, &now, mask, to) {
-        Some(reason) => Some(reason),
+        Some(handoff) => Some(handoff),
         None => None,
     }
 }

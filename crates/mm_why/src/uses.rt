@@ -9,7 +9,7 @@ ghost use Rattle.mm_graph.specs.Key.{IsKey};
 ghost use Rattle.mm_graph.specs.Marked.{node_pointer as pointer_of_node};
 ghost use Rattle.mm_why.specs.Rounds.{AreRounds};
 ghost use Rattle.mm_why.specs.Searches.{place_at};
-ghost use Rattle.mm_why.specs.Owning.{asked, can_use, CanUse, IsOwner, NoOwner, IsUsable, UsableAt};
+ghost use Rattle.mm_why.specs.Owning.{asked, can_use, CanUse, IsSource, NoSource, IsUsable, UsableAt};
 
 use crate::carriers::{earlier, item};
 use crate::line::Line;
@@ -74,7 +74,7 @@ pub fn givers(graph: &Graph, marks: &[u64], how: WordUse, word: u64) -> u64
 
 /// A group, and a round in which all that it has of its own has come to another.
 #[derive(Clone, Copy)]
-pub struct Owner {
+pub struct Source {
     pub group: usize,
     pub round: usize,
 }
@@ -96,17 +96,17 @@ fn owner_in(now: &Masks, owners: u64, to: usize) -> Option<usize>
 
 /// A group of a mask whose own pointers come to a group before those of any other, and the round in which they have
 /// come.
-pub fn first_owner(rounds: &Rounds, owners: u64, to: usize) -> Option<Owner>
+pub fn first_source(rounds: &Rounds, owners: u64, to: usize) -> Option<Source>
     requires { AreRounds rounds.now.links rounds.now.meets rounds.now.rounds.items }
     ensures { MatchOption
         result
-        (NoOwner rounds.now.rounds.items owners to (length rounds.now.rounds.items))
-        (IsOwner rounds.now.rounds.items owners to) }
+        (NoSource rounds.now.rounds.items owners to (length rounds.now.rounds.items))
+        (IsSource rounds.now.rounds.items owners to) }
 {
     for round in 0..rounds.rounds.len() {
         let now = rounds.rounds[round];
         if let Some(group) = owner_in(&now, owners, to) {
-            return Some(Owner { group, round });
+            return Some(Source { group, round });
         }
     }
     None
@@ -114,15 +114,15 @@ pub fn first_owner(rounds: &Rounds, owners: u64, to: usize) -> Option<Owner>
 
 /// The line of a node, if its pointer gives the use.
 fn usable_at(
-    lines: &Vec<Line>,
-    places: &Vec<Option<usize>>,
+    lines: &[Line],
+    places: &[Option<usize>],
     how: WordUse,
     word: u64,
     k: usize,
 ) -> Option<usize>
-    requires small { k < length places.now.items }
-    requires placed { (t : ℕ) → place_at places.now.items k ≡ Some t → t < length lines.now.items }
-    ensures { UsableAt lines.now.items places.now.items how word k result }
+    requires small { k < length places.now }
+    requires placed { (t : ℕ) → place_at places.now k ≡ Some t → t < length lines.now }
+    ensures { UsableAt lines.now places.now how word k result }
 {
     match item(places, k) {
         Some(place) => {
@@ -137,17 +137,12 @@ fn usable_at(
 }
 
 /// The earliest line of a search whose pointer gives the use.
-pub fn earliest(
-    lines: &Vec<Line>,
-    places: &Vec<Option<usize>>,
-    how: WordUse,
-    word: u64,
-) -> Option<usize>
-    requires { (k t : ℕ) → place_at places.now.items k ≡ Some t → t < length lines.now.items }
+pub fn earliest(lines: &[Line], places: &[Option<usize>], how: WordUse, word: u64) -> Option<usize>
+    requires { (k t : ℕ) → place_at places.now k ≡ Some t → t < length lines.now }
     ensures { MatchOption
         result
-        ((t : ℕ) → IsUsable lines.now.items places.now.items how word (length places.now.items) t → ⊥)
-        (IsUsable lines.now.items places.now.items how word (length places.now.items)) }
+        ((t : ℕ) → IsUsable lines.now places.now how word (length places.now) t → ⊥)
+        (IsUsable lines.now places.now how word (length places.now)) }
 {
     let mut best = None;
     for k in 0..places.len() {

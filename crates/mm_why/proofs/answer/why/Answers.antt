@@ -13,9 +13,9 @@ derivation-requires-clause-context c =
     let shared = rw c.deref.ensures.value at c.in_ok-rounds.ensures in
     context c.args.image.now c.in_ok-graph.graph c.in_ok-graph.ensures c.in_ok-marks.marks.items c.in_ok-marks.ensures c.in_ok-rounds.rounds shared
 
-pub derivation-requires-clause-owner : goal.derivation-requires-clause-owner
-derivation-requires-clause-owner c =
+pub derivation-requires-clause-source : goal.derivation-requires-clause-source
+derivation-requires-clause-source c =
     let shared = rw c.deref.ensures.value at c.in_ok-rounds.ensures in
     let are = rw c.deref-2.ensures.value at c.owners_in-owners.ensures in
     giver c.args.image.now c.in_ok-graph.graph c.in_ok-graph.ensures c.in_ok-marks.marks.items c.in_ok-marks.ensures c.in_ok-rounds.rounds shared c.owners_in-owners.result c.args.how c.args.word
-    c.args.group are c.in-Some.owner c.in-Some.ensures
+    c.args.group are c.in-Some.source c.in-Some.ensures

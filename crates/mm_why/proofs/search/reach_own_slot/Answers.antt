@@ -1,9 +1,0 @@
-use Rattle.std.proofs.Common.{◌≡◌, sym, ap, ◌∙◌, subst}
-use Rattle.mm_why.specs.Searches.{stage_of, Searching, Advances}
-use Rattle.mm_why.proofs.search.reach_own_slot.Goals as goal
-
-pub returns-clause-placed : goal.returns-clause-placed
-returns-clause-placed c = λ i h now.
-    let e : c.args.slot.now.group ≡ c.args.group = ap (λ v. v.group) (sym c.slot.view_is) ∙ c.if-slot-group.false in
-    let r = c.in_ok-reach_slot.ensures.placed i h (subst (λ v. Searching i c.args.keys.now v (stage_of c.args.search.now c.args.lines.now.items)) (sym e) now) in
-    (subst (λ v. Advances i c.args.keys.now v (stage_of c.args.search.now c.args.lines.now.items) (stage_of c.reach_slot.new.search c.reach_slot.new.lines.items)) e r.0, λ _. r.1)
