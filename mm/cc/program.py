@@ -11,7 +11,7 @@ from mm.cc.code import Code, log_of, place_in
 from mm.cc.control import Translator
 from mm.cc.ctypes import Types
 from mm.cc.data import Place, Words
-from mm.cc.failures import INSTEAD, INSTEAD_OF, Failure, Failures, Missing
+from mm.cc.failures import INSTEAD, INSTEAD_OF, ONCE, Failure, Failures, Missing, Repeated
 from mm.cc.ir import POINTER, WORD, ArrayType, BlockAddress, Function, Global, GlobalObject, IntType, Module
 from mm.cc.ir import Number, Parts, Type
 from mm.cc.lines import FunctionNotes
@@ -55,6 +55,8 @@ class Program:
         self.pool: dict[str, str] = {}
         self.counter = 0
         self.undefined: dict[str, Failure] = {}
+        # Names that two files define.
+        self.repeated: list[Failure] = []
         # Calls of functions that another file defines with other parameters, or another result.
         self.contradicted: dict[tuple[int, str], str] = {}
         # What is being translated, for what is found wrong there.
@@ -81,6 +83,17 @@ class Program:
     def _offer(self, name: str, module: Module, weak: bool) -> None:
         if name not in self.public or not weak and self._is_weak(name):
             self.public[name] = module
+        elif not weak and module is not self.modules[-1]:
+            # What the library defines too is the program's own.
+            other = self._begins(self.public[name], name) or self.public[name].name
+            said = f"`{name}` is defined here, and {other} defines it too"
+            self.repeated.append(Repeated(module.name, said, self._begins(module, name), ONCE))
+
+    def _begins(self, module: Module, name: str) -> Optional[str]:
+        """Where a module defines a name."""
+        made, lines = module.named(name), self.names[id(module)].lines
+        return lines.of_function(made.debug) if isinstance(made, Function) else lines.of_global(
+            made.debug) if isinstance(made, GlobalObject) else None
 
     def _is_weak(self, name: str) -> bool:
         made = self.public[name].named(name)
@@ -90,6 +103,17 @@ class Program:
         """The module that defines what a module calls by a name."""
         made = module.named(name)
         return module if made is not None and made.internal else self.public.get(name)
+
+    def found(self, module: Module, name: str) -> tuple[Optional[Module], str]:
+        """The module that defines what a module calls by a name, and its name there: an alias is another one for it."""
+        home = self.home(module, name)
+        while home is not None and name in home.aliases:
+            value = strip_casts(home.aliases[name].value)
+            if not isinstance(value, Global):
+                break
+            module, name = home, value.name
+            home = self.home(module, name)
+        return home, name
 
     def fresh(self) -> str:
         self.counter += 1
@@ -109,13 +133,13 @@ class Program:
 
     # What is used
 
-    def want_function(self, module: Module, name: str) -> str:
-        home = self.home(module, name)
+    def want_function(self, module: Module, called: str) -> str:
+        home, name = self.found(module, called)
         if home is None or name not in home.functions:
             if name not in ASSEMBLER:
                 self._undefined(name)
             home = None
-        elif home is not module:
+        elif home is not module and name == called:
             self._compare(module, home, name)
         key = (id(home), name)
         found = self.labels.get(key)
@@ -146,7 +170,7 @@ class Program:
             "    put its declaration into a header, and include that in both files")
 
     def want_global(self, module: Module, name: str) -> Segment:
-        home = self.home(module, name)
+        home, name = self.found(module, name)
         if home is None and name.startswith((DOOR, SHARED, EMPTY)):
             return self._foreign(module, name)
         if name == HEAP:
@@ -216,6 +240,8 @@ class Program:
 
     def translate(self) -> None:
         """Translates everything that is wanted, until nothing new is."""
+        if self.repeated:
+            raise Failures(self.repeated)
         for module in self.modules:
             if module.assembler:
                 raise Failure(module.name, "assembler text outside of functions", None, INSTEAD_OF["assembler text"])
