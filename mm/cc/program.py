@@ -12,8 +12,8 @@ from mm.cc.control import Translator
 from mm.cc.ctypes import Types
 from mm.cc.data import Place, Words
 from mm.cc.failures import INSTEAD, INSTEAD_OF, ONCE, Failure, Failures, Missing, Repeated
-from mm.cc.ir import POINTER, WORD, ArrayType, BlockAddress, Function, Global, GlobalObject, IntType, Module
-from mm.cc.ir import Number, Parts, Type
+from mm.cc.ir import POINTER, VOID, WORD, ArrayType, BlockAddress, Function, Global, GlobalObject, IntType, Layouts
+from mm.cc.ir import Module, Number, Parts, StructType, Type
 from mm.cc.lines import FunctionNotes
 from mm.cc.modulenames import ASSEMBLER, DOOR, EMPTY, SHARED, WIPING, ModuleNames, Segment
 from mm.cc.options import Options
@@ -34,6 +34,7 @@ RESERVED = re.compile(r"r\d+|L\d+|P_.*|none|int|ptr|start|stack|text|heap")
 DOOR_ENTRY, DOOR_LOG = 16, 9
 # How C calls integers, by their bits.
 WIDTHS = {1: "bool", 8: "char", 16: "short", 32: "int", 64: "long", 128: "__int128"}
+IN_A_HEADER = "put its declaration into a header, and include that in both files"
 MAINS = ("main", "__main_argc_argv", "__main_void", "__original_main")
 
 
@@ -167,10 +168,24 @@ class Program:
         _, place = self._where(names, translator.function, translator.line)
         self.contradicted[id(module), name] = (
             f"{place or module.name}: warning: `{own}` is used here, and {begins} defines `{defined}`\n"
-            "    put its declaration into a header, and include that in both files")
+            f"    {IN_A_HEADER}")
 
-    def want_global(self, module: Module, name: str) -> Segment:
-        home, name = self.found(module, name)
+    def _compare_globals(self, module: Module, home: Module, name: str) -> None:
+        """Notes a global that a file declares otherwise than another one defines it, and where the first uses it."""
+        here, there = module.globals.get(name), home.globals[name]
+        begins = self.names[id(home)].lines.of_global(there.debug)
+        if here is None or self.current is None or not begins or (id(module), name) in self.contradicted:
+            return
+        if not _contradict((here.type, self.names[id(module)].layouts), (there.type, self.names[id(home)].layouts)):
+            return
+        names, translator = self.current
+        _, place = self._where(names, translator.function, translator.line)
+        self.contradicted[id(module), name] = (
+            f"{place or module.name}: warning: `{_in_c(here.type)} {name}` is used here, and {begins} defines "
+            f"`{_in_c(there.type)} {name}`\n    {IN_A_HEADER}")
+
+    def want_global(self, module: Module, called: str) -> Segment:
+        home, name = self.found(module, called)
         if home is None and name.startswith((DOOR, SHARED, EMPTY)):
             return self._foreign(module, name)
         if name == HEAP:
@@ -182,6 +197,8 @@ class Program:
             home = module
             if name not in home.globals:
                 raise self.undefined[name]
+        elif home is not module and name == called:
+            self._compare_globals(module, home, name)
         key = (id(home), name)
         found = self.segments.get(key)
         if found is None:
@@ -407,7 +424,23 @@ def _signature(function: Function) -> str:
 
 
 def _in_c(type_: Type) -> str:
-    return WIDTHS.get(type_.bits, str(type_)) if isinstance(type_, IntType) else str(type_)
+    counts = ""
+    while isinstance(type_, ArrayType):
+        type_, counts = type_.element, counts + f"[{type_.count or ''}]"
+    return (WIDTHS.get(type_.bits, str(type_)) if isinstance(type_, IntType) else str(type_)) + counts
+
+
+def _contradict(one: tuple[Type, Layouts], other: tuple[Type, Layouts]) -> bool:
+    """Whether a global cannot be declared with one type and defined with the other. An array may be declared without its
+    length, a structure without what is in it; of one with an initial value the fields are others, or it is longer."""
+    (first, layouts), (second, further) = one, other
+    first, second = layouts.plain(first), further.plain(second)
+    if isinstance(first, ArrayType) and isinstance(second, ArrayType):
+        longer = first.count and second.count and first.count != second.count
+        return bool(longer) or _contradict((first.element, layouts), (second.element, further))
+    if isinstance(first, StructType) and isinstance(second, StructType):
+        return layouts.size(first) > further.size(second)
+    return VOID not in (first, second) and first != second
 
 
 def public_name(name: str) -> str:

@@ -185,11 +185,11 @@ static void bytes(void)
 /* Every choice of flags with widths and precisions, for each way to write a number. */
 static void forms_of_numbers(void)
 {
-    static const char *const rooms[] = {"", "5", "*", ".", ".3", "7.3", "6.*", ".12"};
+    static const char *const rooms[] = {"", "*", ".", ".3", "7.3", "6.*"};
     static const long values[] = {0, 8, -77};
     for (unsigned flags = 0; flags < 32; flags++) {
         for (unsigned which = 0; which < COUNT(rooms); which++) {
-            for (const char *kind = "duoxX"; *kind; kind++) {
+            for (const char *kind = "dox"; *kind; kind++) {
                 char form[16] = "%", *at = form + 1;
                 for (unsigned flag = 0; flag < 5; flag++)
                     if (flags >> flag & 1)
@@ -212,7 +212,7 @@ static void forms_of_others(void)
     static const long values[] = {0, -1, 127, 128, -129, 32768, INT_MAX, INT_MIN, LONG_MAX, LONG_MIN};
     for (unsigned at = 0; at < COUNT(values); at++) {
         long value = values[at];
-        printf("%hhd %hhu %hd %hx %d %u %#o %ld %#lx %lld %llu %zu %td %jd %#jo %i\n", (int)value, (int)value, (int)value, (int)value,
+        printf("%hhd %hhu %hd %#hX %d %u %#o %ld %#lx %lld %llu %zu %td %jd %#jo %i\n", (int)value, (int)value, (int)value, (int)value,
             (int)value, (int)value, (int)value, value, value, (long long)value, (long long)value, value, value, value, value, (int)value);
     }
     for (unsigned at = 0; at < COUNT(texts); at++) {

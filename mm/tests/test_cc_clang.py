@@ -14,6 +14,7 @@ from mm.tests.cc_sources import GONE, HELD, OUTPUTS, REFUSED, REVERSED, SAME_NAM
 from mm.tests.cprograms import Generator
 from mm.tests.cruns import Machine, on_host
 from mm.cc.driver import source_of
+from mm.cc.failures import ONCE
 from mm.cc.options import Options
 from mm.machine.program import find_program
 from mm.status import Stop
@@ -90,6 +91,31 @@ class Programs(unittest.TestCase):
                 f"{paths[0]}:5:12: warning: `long report(pointer, pointer)` is used here, and {paths[1]}:1 defines "
                 "`long report(int, pointer, pointer)`")))
             self.assertEqual(len(ended.err.splitlines()), 2, ended.err)
+
+    def test_a_variable_that_another_file_declares_otherwise(self):
+        with folder() as room:
+            texts = {"a.c": "struct p { int x, y; char rest[]; };\nint table[6] = {3}, grid[2][3];\nlong count = 6;\nunion u { int *p; long n; } u = {.n = 1};\n"
+                            "struct p p = {1, 2, \"more\"};\nint end[4];\nchar *name;\n",
+                     "b.c": "extern int *table, grid[][3];\nextern int count, end[3];\nextern union u { int *p; long n; } u;\nextern struct p { int x, y; } p;\n"
+                            "extern const char *name;\nint main(void)\n{\n    return table[0] + (int)u.n + p.x + grid[1][1] + !name + end[2] +\n        count;\n}\n"}
+            paths = [write(room, name, text) for name, text in texts.items()]
+            ended = mm("cc", *paths)
+            said = [line for line in ended.err.splitlines() if line[:1] != " "]
+            self.assertEqual((ended.status, sorted(line.partition("warning: ")[2] for line in said)), (0, [
+                f"`int count` is used here, and {paths[0]}:3 defines `long count`", f"`int[3] end` is used here, and {paths[0]}:6 defines `int[4] end`",
+                f"`pointer table` is used here, and {paths[0]}:2 defines `int[6] table`"]))
+            self.assertTrue(all(line.startswith(f"{paths[1]}:") for line in said), said)
+
+    def test_a_name_that_two_files_define(self):
+        with folder() as room:
+            texts = {"a.c": "int count;\nint next(void) { return ++count; }\nchar *strdup(const char *s) { return (char *)s; }\n",
+                     "b.c": "int next(void);\nint main(void) { return next(); }\n\nint count = 1;\n"}
+            paths = [write(room, name, text) for name, text in texts.items()]
+            ended = mm("cc", *paths)
+            self.assertEqual((ended.status, ended.err.splitlines()), (2, [
+                f"{paths[1]}:4: error: `count` is defined here, and {paths[0]}:1 defines it too", f"    {ONCE}"]))
+            write(room, "b.c", texts["b.c"].replace("int count = 1", "extern int count"))
+            self.assertEqual(mm("cc", *paths).status, 0)
 
     def test_what_nothing_calls_is_noted(self):
         ended, room = self.ran("double f(double x) { return x; }\nint main(void) { return 0; }\n", "0")

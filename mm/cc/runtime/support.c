@@ -91,11 +91,11 @@ number __mm_signed_wide_product_overflows(number al, number ah, number bl, numbe
     return high >> 63 && !(negative && high == 1ul << 63 && !(al * bl));
 }
 
-/* The length of a segment that holds so many bytes. */
+/* The length of a segment that holds so many bytes. No segment holds more than the longest that is told of here. */
 long __mm_log_of(number size)
 {
     long log = 3;
-    while ((1ul << log) < size)
+    while (log < 40 && (1ul << log) < size)
         log++;
     return log;
 }
