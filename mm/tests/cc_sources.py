@@ -408,11 +408,11 @@ int main(void) { long a[2] = {two, 3}; return of(a); }
 """),
     "a block": ("it left its block of malloc (8 bytes, handed out at {room}/a.c:6) at {room}/a.c:7 (one past the end is outside)", """#include <stdlib.h>
 #include <string.h>
-struct student { char name[20]; int points[4]; };
+struct student { char name[20]; int points[4]; } *volatile all;
 int main(void)
 {
-  struct student *s = malloc(sizeof(s));
-  memset(s->points, 0, sizeof(s->points));
+  struct student *s = malloc(sizeof(s)); all = s;
+  memset(all->points, 0, sizeof(s->points));
   return 0; }
 """),
     "bytes": ("it was copied in pieces at {room}/a.c:3", """volatile int eight = 8; static long x = 5; static long *volatile from = &x, *volatile to;

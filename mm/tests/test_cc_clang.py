@@ -79,6 +79,10 @@ class Programs(unittest.TestCase):
         ended, _ = self.ran("int main(void)\n{\n    int count;\n    return count;\n}\n", "1", "--clang", "-Wno-uninitialized")
         self.assertEqual(ended.err, "")
 
+    def test_a_result_that_must_not_be_thrown_away_is_warned_of(self):
+        ended, room = self.ran("#include <stdlib.h>\nint main(void)\n{\n    char *p = malloc(8);\n    realloc(p, 16);\n    return 0;\n}\n", "1")
+        self.assertIn(f"{room}/a.c:5:5: warning: ignoring return value of function declared with 'warn_unused_result' attribute", ended.err)
+
     def test_a_declaration_that_another_file_contradicts(self):
         with folder() as room:
             texts = {"a.c": "long report(const char *title, const int *counts);\nlong plain();\nlong right(char c, ...);\n"
@@ -95,7 +99,7 @@ class Programs(unittest.TestCase):
     def test_a_variable_that_another_file_declares_otherwise(self):
         with folder() as room:
             texts = {"a.c": "struct p { int x, y; char rest[]; };\nint table[6] = {3}, grid[2][3];\nlong count = 6;\nunion u { int *p; long n; } u = {.n = 1};\n"
-                            "struct p p = {1, 2, \"more\"};\nint end[4];\nchar *name;\n",
+                            "struct p p = {1, 2, {'m', 'o'}};\nint end[4];\nchar *name;\n",
                      "b.c": "extern int *table, grid[][3];\nextern int count, end[3];\nextern union u { int *p; long n; } u;\nextern struct p { int x, y; } p;\n"
                             "extern const char *name;\nint main(void)\n{\n    return table[0] + (int)u.n + p.x + grid[1][1] + !name + end[2] +\n        count;\n}\n"}
             paths = [write(room, name, text) for name, text in texts.items()]

@@ -60,7 +60,9 @@ class CView:
 
     def fault(self, cause: Cause, turn: Optional[Turn] = None) -> Optional[str]:
         """`fault 3 Bounds at ov.c:7: buf[32] of 32 bytes`. Slot and memory are as they were in that turn."""
-        line = self.line()
+        inner = next(self.frames(), None)
+        # Some operations are made by no line: the function is told then.
+        line = self.line() if inner is None or not inner.function.begins else inner.line or inner.function.begins
         if line is None:
             return None
         at = Refusal(cause, self.slot, turn or turn_of(cause, self.slot, self.memory), self.memory, self.speller)
@@ -74,7 +76,6 @@ class CView:
             from mm.views.crights import forbidden
 
             what = forbidden(at)
-        inner = next(self.frames(), None)
         of_library = inner is not None and inner.line is None and not inner.function.begins and not full
         called = self.called() if of_library else ""
         within = f", in {called}" if called and OF_TRANSLATOR not in called else ""
