@@ -25,6 +25,7 @@ INSTEAD = {
     **dict.fromkeys(("system", "execve", "signal", "raise"), "the machine runs nothing but the programs of its image"),
 }
 ONCE = "define it in one of them, and declare it in a header (a variable with `extern`); or make both `static`"
+ONE_MAIN = "a program has one `main`; `mm run` takes each of several files for a program of its own"
 INSTEAD_OF = {"floating point": NO_FLOATS,
               "assembler text": "`mm.h` names the machine's own operations, as `__mm_op_out`"}
 

@@ -11,7 +11,7 @@ from mm.cc.code import Code, log_of, place_in
 from mm.cc.control import Translator
 from mm.cc.ctypes import Types
 from mm.cc.data import Place, Words
-from mm.cc.failures import INSTEAD, INSTEAD_OF, ONCE, Failure, Failures, Missing, Repeated
+from mm.cc.failures import INSTEAD, INSTEAD_OF, ONCE, ONE_MAIN, Failure, Failures, Missing, Repeated
 from mm.cc.ir import POINTER, VOID, WORD, ArrayType, BlockAddress, Function, Global, GlobalObject, IntType, Layouts
 from mm.cc.ir import Module, Number, Parts, StructType, Type
 from mm.cc.lines import FunctionNotes
@@ -57,7 +57,7 @@ class Program:
         self.counter = 0
         self.undefined: dict[str, Failure] = {}
         # Names that two files define.
-        self.repeated: list[Failure] = []
+        self.repeated: dict[str, Failure] = {}
         # Calls of functions that another file defines with other parameters, or another result.
         self.contradicted: dict[tuple[int, str], str] = {}
         # What is being translated, for what is found wrong there.
@@ -82,13 +82,15 @@ class Program:
                 self._offer(name, module, alias.weak)
 
     def _offer(self, name: str, module: Module, weak: bool) -> None:
-        if name not in self.public or not weak and self._is_weak(name):
+        there = next((main for main in MAINS if main in self.public), name) if name in MAINS else name
+        if there not in self.public or not weak and self._is_weak(there):
             self.public[name] = module
-        elif not weak and module is not self.modules[-1]:
-            # What the library defines too is the program's own.
-            other = self._begins(self.public[name], name) or self.public[name].name
-            said = f"`{name}` is defined here, and {other} defines it too"
-            self.repeated.append(Repeated(module.name, said, self._begins(module, name), ONCE))
+        elif not weak and module is not self.modules[-1] and module is not self.public[there]:
+            # What the library defines too is the program's own. Clang gives `main` two names.
+            other, own = self._begins(self.public[there], there) or self.public[there].name, "main" if name in MAINS else name
+            said = f"`{own}` is defined here, and {other} defines it too"
+            made = Repeated(module.name, said, self._begins(module, name), ONE_MAIN if own == "main" else ONCE)
+            self.repeated.setdefault(own, made)
 
     def _begins(self, module: Module, name: str) -> Optional[str]:
         """Where a module defines a name."""
@@ -258,7 +260,7 @@ class Program:
     def translate(self) -> None:
         """Translates everything that is wanted, until nothing new is."""
         if self.repeated:
-            raise Failures(self.repeated)
+            raise Failures(list(self.repeated.values()))
         for module in self.modules:
             if module.assembler:
                 raise Failure(module.name, "assembler text outside of functions", None, INSTEAD_OF["assembler text"])

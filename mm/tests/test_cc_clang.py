@@ -14,7 +14,7 @@ from mm.tests.cc_sources import GONE, HELD, OUTPUTS, REFUSED, REVERSED, SAME_NAM
 from mm.tests.cprograms import Generator
 from mm.tests.cruns import Machine, on_host
 from mm.cc.driver import source_of
-from mm.cc.failures import ONCE
+from mm.cc.failures import ONCE, ONE_MAIN
 from mm.cc.options import Options
 from mm.machine.program import find_program
 from mm.status import Stop
@@ -120,6 +120,9 @@ class Programs(unittest.TestCase):
                 f"{paths[1]}:4: error: `count` is defined here, and {paths[0]}:1 defines it too", f"    {ONCE}"]))
             write(room, "b.c", texts["b.c"].replace("int count = 1", "extern int count"))
             self.assertEqual(mm("cc", *paths).status, 0)
+            write(room, "a.c", texts["a.c"] + "int main(int n, char **v) { return n; }\n")
+            self.assertEqual(mm("cc", *paths).err.splitlines(), [
+                f"{paths[1]}:2: error: `main` is defined here, and {paths[0]}:4 defines it too", f"    {ONE_MAIN}"])
 
     def test_what_nothing_calls_is_noted(self):
         ended, room = self.ran("double f(double x) { return x; }\nint main(void) { return 0; }\n", "0")
