@@ -91,7 +91,7 @@ BROKEN = (
     ("mm/cc/runtime/print.c", "if (form->other && base == 8 && form->precision <= length", "if (form->other && base == 8", LIBRARY),
     ("mm/cc/runtime/print.c", "*(signed char *)to = count;", "*(int *)to = count;", LIBRARY),
     ("mm/cc/runtime/memory.c", "if (bits_of(a) - bits_of(b) << 10 >= size << 10)", "if (bits_of(a) - bits_of(b) >= size)", CLANG),
-    ("mm/cc/runtime/support.c", "while (log < 40 && (1ul << log) < size)", "while ((1ul << log) < size)", CLANG),
+    ("mm/cc/runtime/support.c", "return size >> 40 ? 40 : __mm_log_of(size);", "return __mm_log_of(size);", CLANG),
     # Several files.
     ("mm/cc/program.py", "elif not weak and module is not self.modules[-1] and module is not", "elif not weak and module is not", CC),
     ("mm/cc/program.py", "raise Failures(list(self.repeated.values()))", "pass", CC),

@@ -91,13 +91,19 @@ number __mm_signed_wide_product_overflows(number al, number ah, number bl, numbe
     return high >> 63 && !(negative && high == 1ul << 63 && !(al * bl));
 }
 
-/* The length of a segment that holds so many bytes. No segment holds more than the longest that is told of here. */
+/* The length of a segment that holds so many bytes. */
 long __mm_log_of(number size)
 {
     long log = 3;
-    while (log < 40 && (1ul << log) < size)
+    while ((1ul << log) < size)
         log++;
     return log;
+}
+
+/* The same of an array whose length is known at the run alone; that of one below 0 is longer than any segment. */
+long __mm_log_of_array(number size)
+{
+    return size >> 40 ? 40 : __mm_log_of(size);
 }
 
 static number bits_of(const void *pointer)
