@@ -52,7 +52,7 @@ class Programs(unittest.TestCase):
                 self.assertRegex(ended.out, r"by fault 1 NotPointer at \S*( in memcpy)?: its block of malloc was freed  ", f"{title} at -O{level}: {ended.err}")
         text = GONE + 'struct node *volatile end = a + 1; seen = end[-1].v[2]; return seen; }\n'
         ended, _ = self.ran(text, "1", "--quarantine", "0")
-        self.assertRegex(ended.out, r"is now a number: it left its object at \S+/a.c:\d+ \(one past the end is outside\)")
+        self.assertRegex(ended.out, r"is now a number: it left its block of malloc \(\d+ bytes, handed out at \S+/a.c:\d+\) at \S+/a.c:\d+ \(one past the end is outside\)")
         ended, room = self.ran(STOPPED["a second free"][2], "0", "--quarantine", "0")
         self.assertIn(STOPPED["a second free"][0].format(room=room), ended.out)
 
