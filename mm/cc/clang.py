@@ -25,8 +25,9 @@ TARGET = ("-target", "wasm64-unknown-unknown", "-S", "-emit-llvm", "-o", "-", "-
           "-fno-exceptions", "-fvisibility=default")
 # An overflow of an `int` that C does not define wraps around, so that each `int` has a value of its type.
 FRONT = ("-nostdlibinc", "-isystem", INCLUDE, "-fwrapv")
-# What Clang warns of: that a variable is used before it has a value, and the like. What nothing uses is no mistake.
-WARNINGS = ("-Wall", "-Wno-unused")
+# What Clang warns of: that a variable is used before it has a value, and the like. What nothing uses is no mistake, but
+# for results that must not be thrown away.
+WARNINGS = ("-Wall", "-Wno-unused", "-Wunused-result")
 # What a sanitizer finds becomes a trap. Clang would join the traps of a function if it were to optimise, and their
 # lines would be lost.
 SANITIZE, TRAPPED = "-fsanitize=", ("-fsanitize-trap=all", "-O0", "-Xclang", "-disable-O0-optnone")

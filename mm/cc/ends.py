@@ -106,7 +106,8 @@ class Ends(Objects):
             last = block.body[-1]
             for target in dict.fromkeys(last.labels + [label for _, label in last.cases]):
                 moves = self.moves_of(block.name, target)
-                if not moves:
+                # Where a condition is constant, one of the two is never gone to.
+                if not moves or self.labels[target] not in home.next:
                     continue
                 if len(set(home.next)) == 1 or last.op == "indirectbr":
                     end = home.body.pop()

@@ -24,6 +24,8 @@ INSTEAD = {
                     "another program is another thread: give it a file of its own, and name both to `mm run`"),
     **dict.fromkeys(("system", "execve", "signal", "raise"), "the machine runs nothing but the programs of its image"),
 }
+ONCE = "define it in one of them, and declare it in a header (a variable with `extern`); or make both `static`"
+ONE_MAIN = "a program has one `main`; `mm run` takes each of several files for a program of its own"
 INSTEAD_OF = {"floating point": NO_FLOATS,
               "assembler text": "`mm.h` names the machine's own operations, as `__mm_op_out`"}
 
@@ -63,6 +65,13 @@ class Missing(Failure):
 
     def what(self, inside: str) -> str:
         return f"{self.why} is used{inside}, and nothing defines it"
+
+
+class Repeated(Failure):
+    """A name that two files define."""
+
+    def what(self, inside: str) -> str:
+        return self.why
 
 
 class Failures(Failure):

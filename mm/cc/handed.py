@@ -169,11 +169,11 @@ class Handed:
     def call(self, flow: Flow, made: Instruction) -> Optional[Came]:
         """Follows a call into a function of the program; what it gives, if that is a word as it came."""
         name = called(made)
-        home = self.program.home(flow.module, name) if name else None
-        if home is None or name not in home.functions:
+        home, own = self.program.found(flow.module, name) if name else (None, name)
+        if home is None or own not in home.functions:
             is_number = isinstance(made.type, IntType)
             return Came(f"what the door `{name[len(DOOR):]}` gives is", "") if name.startswith(DOOR) and is_number else None
-        key = (id(home), name)
+        key, name = (id(home), own), own
         if key not in self.functions:
             return None
         there = self.parameters.setdefault(key, {})

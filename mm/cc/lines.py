@@ -16,6 +16,7 @@ FILE = re.compile(r"\bfile: (!\d+)")
 NAME = re.compile(r'\bname: "([^"]*)"')
 FILE_NAME = re.compile(r'filename: "([^"]*)"(?:, directory: "([^"]*)")?')
 LINE = re.compile(r"\bline: (\d+)")
+VARIABLE = re.compile(r"\bvar: (!\d+)")
 
 
 class Lines:
@@ -76,6 +77,11 @@ class Lines:
         said = self.debug.get(subprogram or "", "")
         line, file = LINE.search(said), self.file_of(subprogram) if subprogram else None
         return f"{file}:{line[1]}" if line and file else None
+
+    def of_global(self, debug: Optional[str]) -> Optional[str]:
+        """The line where a global is declared."""
+        variable = VARIABLE.search(self.debug.get(debug or "", ""))
+        return self.of_function(variable[1]) if variable else None
 
     def name_of(self, node: str) -> str:
         name = NAME.search(self.debug.get(node, ""))

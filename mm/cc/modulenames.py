@@ -5,6 +5,7 @@ from __future__ import annotations
 from dataclasses import dataclass
 from typing import TYPE_CHECKING, Optional
 
+from mm.cc.calls import strip_casts
 from mm.cc.code import Variable
 from mm.cc.data import Constants, Words
 from mm.cc.ir import Function, Global, GlobalObject, Module, Value, Zero
@@ -70,16 +71,16 @@ class ModuleNames(Names):
         return self.program.want_function(self.module, name)
 
     def is_function(self, name: str) -> bool:
-        module = self.program.home(self.module, name)
+        module, there = self.program.found(self.module, name)
         if module is None and name.startswith(DOOR):
             return False
         if module is not None:
-            return name in module.functions
+            return there in module.functions
         return name in ASSEMBLER or name in self.module.functions
 
     def function(self, name: str) -> Optional[Function]:
-        module = self.program.home(self.module, name) or self.module
-        return module.functions.get(name)
+        module, there = self.program.found(self.module, name)
+        return (module or self.module).functions.get(there)
 
     def segment(self, name: str) -> tuple[str, Known]:
         found = self.program.want_global(self.module, name)
@@ -87,7 +88,8 @@ class ModuleNames(Names):
 
     def known_segment(self, name: str) -> Optional[str]:
         """The segment of a global that is part of the program already."""
-        found = self.program.segments.get((id(self.program.home(self.module, name)), name))
+        home, there = self.program.found(self.module, name)
+        found = self.program.segments.get((id(home), there))
         return found.name if found else None
 
     def resolve(self, value: Value) -> Value:
@@ -97,7 +99,11 @@ class ModuleNames(Names):
             module = self.program.home(self.module, value.name) or self.module
             if value.name not in module.aliases:
                 break
-            value = module.aliases[value.name].value
+            target = module.aliases[value.name].value
+            if module is not self.module and isinstance(strip_casts(target), Global):
+                # What it stands for has a name of that module.
+                break
+            value = target
         return value
 
     def is_absent(self, name: str) -> bool:

@@ -173,7 +173,7 @@ class Objects(Vectors):
         if made.align > WORD:
             # It ends at the end of its segment, so it begins at a multiple of what its size is a multiple of.
             total = self.op("and", self.plus(total, made.align - 1), self.constant(-made.align))
-        log = self.runtime("__mm_log_of", [total], True)
+        log = self.runtime("__mm_log_of_array", [total], True)
         d = self.code.new()
         self.emit("dynamic", d, log, total, late=(log, total), temporary=(self.code.new(), self.code.new()))
         self.pointers[made.name] = Pointer(d)

@@ -11,9 +11,9 @@ from mm.cc.code import Code, log_of, place_in
 from mm.cc.control import Translator
 from mm.cc.ctypes import Types
 from mm.cc.data import Place, Words
-from mm.cc.failures import INSTEAD, INSTEAD_OF, Failure, Failures, Missing
-from mm.cc.ir import POINTER, WORD, ArrayType, BlockAddress, Function, Global, GlobalObject, IntType, Module
-from mm.cc.ir import Number, Parts, Type
+from mm.cc.failures import INSTEAD, INSTEAD_OF, ONCE, ONE_MAIN, Failure, Failures, Missing, Repeated
+from mm.cc.ir import POINTER, VOID, WORD, ArrayType, BlockAddress, Function, Global, GlobalObject, IntType, Layouts
+from mm.cc.ir import Module, Number, Parts, StructType, Type
 from mm.cc.lines import FunctionNotes
 from mm.cc.modulenames import ASSEMBLER, DOOR, EMPTY, SHARED, WIPING, ModuleNames, Segment
 from mm.cc.options import Options
@@ -34,6 +34,7 @@ RESERVED = re.compile(r"r\d+|L\d+|P_.*|none|int|ptr|start|stack|text|heap")
 DOOR_ENTRY, DOOR_LOG = 16, 9
 # How C calls integers, by their bits.
 WIDTHS = {1: "bool", 8: "char", 16: "short", 32: "int", 64: "long", 128: "__int128"}
+IN_A_HEADER = "put its declaration into a header, and include that in both files"
 MAINS = ("main", "__main_argc_argv", "__main_void", "__original_main")
 
 
@@ -55,6 +56,8 @@ class Program:
         self.pool: dict[str, str] = {}
         self.counter = 0
         self.undefined: dict[str, Failure] = {}
+        # Names that two files define.
+        self.repeated: dict[str, Failure] = {}
         # Calls of functions that another file defines with other parameters, or another result.
         self.contradicted: dict[tuple[int, str], str] = {}
         # What is being translated, for what is found wrong there.
@@ -79,8 +82,21 @@ class Program:
                 self._offer(name, module, alias.weak)
 
     def _offer(self, name: str, module: Module, weak: bool) -> None:
-        if name not in self.public or not weak and self._is_weak(name):
+        there = next((main for main in MAINS if main in self.public), name) if name in MAINS else name
+        if there not in self.public or not weak and self._is_weak(there):
             self.public[name] = module
+        elif not weak and module is not self.modules[-1] and module is not self.public[there]:
+            # What the library defines too is the program's own. Clang gives `main` two names.
+            other, own = self._begins(self.public[there], there) or self.public[there].name, "main" if name in MAINS else name
+            said = f"`{own}` is defined here, and {other} defines it too"
+            made = Repeated(module.name, said, self._begins(module, name), ONE_MAIN if own == "main" else ONCE)
+            self.repeated.setdefault(own, made)
+
+    def _begins(self, module: Module, name: str) -> Optional[str]:
+        """Where a module defines a name."""
+        made, lines = module.named(name), self.names[id(module)].lines
+        return lines.of_function(made.debug) if isinstance(made, Function) else lines.of_global(
+            made.debug) if isinstance(made, GlobalObject) else None
 
     def _is_weak(self, name: str) -> bool:
         made = self.public[name].named(name)
@@ -90,6 +106,17 @@ class Program:
         """The module that defines what a module calls by a name."""
         made = module.named(name)
         return module if made is not None and made.internal else self.public.get(name)
+
+    def found(self, module: Module, name: str) -> tuple[Optional[Module], str]:
+        """The module that defines what a module calls by a name, and its name there: an alias is another one for it."""
+        home = self.home(module, name)
+        while home is not None and name in home.aliases:
+            value = strip_casts(home.aliases[name].value)
+            if not isinstance(value, Global):
+                break
+            module, name = home, value.name
+            home = self.home(module, name)
+        return home, name
 
     def fresh(self) -> str:
         self.counter += 1
@@ -109,13 +136,13 @@ class Program:
 
     # What is used
 
-    def want_function(self, module: Module, name: str) -> str:
-        home = self.home(module, name)
+    def want_function(self, module: Module, called: str) -> str:
+        home, name = self.found(module, called)
         if home is None or name not in home.functions:
             if name not in ASSEMBLER:
                 self._undefined(name)
             home = None
-        elif home is not module:
+        elif home is not module and name == called:
             self._compare(module, home, name)
         key = (id(home), name)
         found = self.labels.get(key)
@@ -143,10 +170,24 @@ class Program:
         _, place = self._where(names, translator.function, translator.line)
         self.contradicted[id(module), name] = (
             f"{place or module.name}: warning: `{own}` is used here, and {begins} defines `{defined}`\n"
-            "    put its declaration into a header, and include that in both files")
+            f"    {IN_A_HEADER}")
 
-    def want_global(self, module: Module, name: str) -> Segment:
-        home = self.home(module, name)
+    def _compare_globals(self, module: Module, home: Module, name: str) -> None:
+        """Notes a global that a file declares otherwise than another one defines it, and where the first uses it."""
+        here, there = module.globals.get(name), home.globals[name]
+        begins = self.names[id(home)].lines.of_global(there.debug)
+        if here is None or self.current is None or not begins or (id(module), name) in self.contradicted:
+            return
+        if not _contradict((here.type, self.names[id(module)].layouts), (there.type, self.names[id(home)].layouts)):
+            return
+        names, translator = self.current
+        _, place = self._where(names, translator.function, translator.line)
+        self.contradicted[id(module), name] = (
+            f"{place or module.name}: warning: `{_in_c(here.type)} {name}` is used here, and {begins} defines "
+            f"`{_in_c(there.type)} {name}`\n    {IN_A_HEADER}")
+
+    def want_global(self, module: Module, called: str) -> Segment:
+        home, name = self.found(module, called)
         if home is None and name.startswith((DOOR, SHARED, EMPTY)):
             return self._foreign(module, name)
         if name == HEAP:
@@ -158,6 +199,8 @@ class Program:
             home = module
             if name not in home.globals:
                 raise self.undefined[name]
+        elif home is not module and name == called:
+            self._compare_globals(module, home, name)
         key = (id(home), name)
         found = self.segments.get(key)
         if found is None:
@@ -216,6 +259,8 @@ class Program:
 
     def translate(self) -> None:
         """Translates everything that is wanted, until nothing new is."""
+        if self.repeated:
+            raise Failures(list(self.repeated.values()))
         for module in self.modules:
             if module.assembler:
                 raise Failure(module.name, "assembler text outside of functions", None, INSTEAD_OF["assembler text"])
@@ -381,7 +426,23 @@ def _signature(function: Function) -> str:
 
 
 def _in_c(type_: Type) -> str:
-    return WIDTHS.get(type_.bits, str(type_)) if isinstance(type_, IntType) else str(type_)
+    counts = ""
+    while isinstance(type_, ArrayType):
+        type_, counts = type_.element, counts + f"[{type_.count or ''}]"
+    return (WIDTHS.get(type_.bits, str(type_)) if isinstance(type_, IntType) else str(type_)) + counts
+
+
+def _contradict(one: tuple[Type, Layouts], other: tuple[Type, Layouts]) -> bool:
+    """Whether a global cannot be declared with one type and defined with the other. An array may be declared without its
+    length, a structure without what is in it; of one with an initial value the fields are others, or it is longer."""
+    (first, layouts), (second, further) = one, other
+    first, second = layouts.plain(first), further.plain(second)
+    if isinstance(first, ArrayType) and isinstance(second, ArrayType):
+        longer = first.count and second.count and first.count != second.count
+        return bool(longer) or _contradict((first.element, layouts), (second.element, further))
+    if isinstance(first, StructType) and isinstance(second, StructType):
+        return layouts.size(first) > further.size(second)
+    return VOID not in (first, second) and first != second
 
 
 def public_name(name: str) -> str:

@@ -86,6 +86,22 @@ BROKEN = (
      SELDOM),
     ("mm/cc/accesses.py", 'return self.runtime("__mm_load_anywhere", [self.exact(pointer)], True)',
      "return self.load_pieces(pointer, WORD, align, RAW)", SELDOM),
+    ("mm/cc/ends.py", "if not moves or self.labels[target] not in home.next:", "if not moves:", VALUES),
+    ("mm/cc/modulenames.py", "if module is not self.module and isinstance(strip_casts(target), Global):", "if False:", CC),
+    ("mm/cc/runtime/print.c", "if (form->other && base == 8 && form->precision <= length", "if (form->other && base == 8", LIBRARY),
+    ("mm/cc/runtime/print.c", "*(signed char *)to = count;", "*(int *)to = count;", LIBRARY),
+    ("mm/cc/runtime/memory.c", "if (bits_of(a) - bits_of(b) << 10 >= size << 10)", "if (bits_of(a) - bits_of(b) >= size)", CLANG),
+    ("mm/cc/runtime/support.c", "return size >> 40 ? 40 : __mm_log_of(size);", "return __mm_log_of(size);", CLANG),
+    # Several files.
+    ("mm/cc/program.py", "elif not weak and module is not self.modules[-1] and module is not", "elif not weak and module is not", CC),
+    ("mm/cc/program.py", "raise Failures(list(self.repeated.values()))", "pass", CC),
+    ("mm/cc/program.py", "        elif home is not module and name == called:\n            self._compare_globals(module, home, name)\n", "", CLANG),
+    ("mm/cc/program.py", "longer = first.count and second.count and first.count != second.count", "longer = first.count != second.count", CLANG),
+    ("mm/cc/include/stdlib.h", "void *realloc(void *, size_t) __attribute__((warn_unused_result));", "void *realloc(void *, size_t);", CLANG),
+    # What is said of faults.
+    ("mm/views/cview.py", "        if log > MOST_STACK:\n", "        if False:\n", CLANG),
+    ("mm/views/cview.py", "if region is not None and self.is_block(region, pointer):\n            whose", "if False:\n            whose", SAID),
+    ("mm/views/cview.py", "inner.line or inner.function.begins", "inner.line", SAID),
     # Doors.
     ("mm/cc/calling.py", "for at in range(0, frame.size, 8):", "for at in range(0, frame.size - 8, 8):", DOORS),
     ("mm/cc/calling.py", "self.store(STACK, SCRATCH, 0)", "pass", DOORS),

@@ -122,6 +122,12 @@ int main(void) { int h = 216; for (const char *s = word; *s; s++) h = (h ^ (unsi
   int n = start + one; long wide = n; printf("%d %d %d %d, %d %ld %d %d %d %d, ", h, h % 8, h < 0, h / 3, n, wide, n / 2, n % 10, n >> 1, n < 0);
   int seed = start; for (int i = 0; i < 3; i++) { seed = seed * 1103515245 + 12345; printf("%d%c", seed % 100, i < 2 ? ' ' : '\\n'); } return 0; }
 """),
+    "a move from a narrower pointer to the same bytes": ("aabcdefg\n", """#include <mm.h>
+#include <stdio.h>
+#include <string.h>
+static _Alignas(16) char text[16] = "abcdefgh";
+int main(void) { memmove(text + 1, mm_slice(text, 8, MM_RO), 7); puts(text); return 0; }
+"""),
     "structures that the optimiser cuts into parts": (
         "1 uno 6 3, a ab 3 b; 1 one 5 9, a aa 2 y; 2 two 0 0, b bb 4 c; 3 three 1 2, c cc 1 x; 5 u v 20 5; 6 s t 2 30; "
         "1 uno 6 3, a ab 3 b; 2 uno 6 2, b ab 3 q; 2 uno 7 2, b ab 4 q; ", CUT),
@@ -163,6 +169,25 @@ int main(void) { return deep(100000); }
 static int *sp = room + 64;
 static __attribute__((noinline)) void push(int x) { *--sp = x; }
 int main(void) { push(1); return 0; }
+"""),
+    "an array of a length below 0": ("fault 3 Bounds at {room}/a.c:2: of wants more for its variables than any stack has: is the length of an array "
+                                     "below 0, or far too great?", "1", """volatile int length = -2;
+static __attribute__((noinline)) int of(int n) { char part[n]; char *volatile p = part; p[0] = 1; return p[0]; }
+int main(void) { return of(length); }
+"""),
+    "an array of a long length below 0": ("fault 3 Bounds at {room}/a.c:2: of wants more for its variables than any stack has", "0", """volatile long length = -2;
+static __attribute__((noinline)) int of(long n) { char part[n]; char *volatile p = part; p[0] = 1; return p[0]; }
+int main(void) { return of(length); }
+"""),
+    "a long array of a length that a stack can have": ("of 65536; `--stack 18` makes it larger", "1", """volatile int length = 100000;
+static __attribute__((noinline)) int of(int n) { char part[n]; char *volatile p = part; p[0] = 1; return p[0]; }
+int main(void) { return of(length); }
+"""),
+    "what the optimiser takes for impossible": ("fault 11 Trap at {room}/a.c:4: a place that C says is never reached: something on the way is not defined by C", "1", """struct city { const char *name; int people; };
+static struct city cities[] = {{"Bern", 134}, {"Basel", 173}, {"Chur", 38}, {"Genf", 203}};
+int main(void) { int sum = 0;
+  for (struct city *c = cities; c != cities + 4; c += sizeof(struct city)) sum += c->people;
+  return sum; }
 """),
     "a second free": ("fault 11 Trap at {room}/a.c:7, in free: `free` of what is not a block of malloc, or was freed before", "0",
                       """#include <stdlib.h>
@@ -380,6 +405,15 @@ int main(void) { begin(64); push(1); return 0; }
 static __attribute__((noinline)) long last(long *end) { return end[-1]; }
 static __attribute__((noinline)) long of(long *a) { return last(a + two); }
 int main(void) { long a[2] = {two, 3}; return of(a); }
+"""),
+    "a block": ("it left its block of malloc (8 bytes, handed out at {room}/a.c:6) at {room}/a.c:7 (one past the end is outside)", """#include <stdlib.h>
+#include <string.h>
+struct student { char name[20]; int points[4]; } *volatile all;
+int main(void)
+{
+  struct student *s = malloc(sizeof(s)); all = s;
+  memset(all->points, 0, sizeof(s->points));
+  return 0; }
 """),
     "bytes": ("it was copied in pieces at {room}/a.c:3", """volatile int eight = 8; static long x = 5; static long *volatile from = &x, *volatile to;
 static __attribute__((noinline)) void copy(volatile char *to, volatile char *from) {

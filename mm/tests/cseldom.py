@@ -1,6 +1,17 @@
 """Programs in LLVM's text with forms that few programs have: each with the wanted bits of r0."""
 
 SELDOM = {
+    "a condition that is a constant, before a loop that is left": (7, """define i64 @main() {
+entry:
+  br label %loop
+loop:
+  %i = phi i64 [ 7, %entry ], [ 99, %again ]
+  br label %again
+again:
+  br i1 false, label %loop, label %out
+out:
+  ret i64 %i
+}"""),
     "an object that a loop makes anew in each turn": (3210, """define i64 @main() {
 entry:
   br label %loop

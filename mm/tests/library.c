@@ -182,6 +182,59 @@ static void bytes(void)
     printf("%ld %ld\n", place(one, index(one, 'e')), place(one, rindex(one, 'q')));
 }
 
+/* Every choice of flags with widths and precisions, for each way to write a number. */
+static void forms_of_numbers(void)
+{
+    static const char *const rooms[] = {"", "*", ".", ".3", "7.3", "6.*"};
+    static const long values[] = {0, 8, -77};
+    for (unsigned flags = 0; flags < 32; flags++) {
+        for (unsigned which = 0; which < COUNT(rooms); which++) {
+            for (const char *kind = "dox"; *kind; kind++) {
+                char form[16] = "%", *at = form + 1;
+                for (unsigned flag = 0; flag < 5; flag++)
+                    if (flags >> flag & 1)
+                        *at++ = "-0+ #"[flag];
+                at = stpcpy(at, rooms[which]);
+                *at++ = *kind;
+                *at++ = '|';
+                *at = 0;
+                for (unsigned value = 0; value < COUNT(values); value++)
+                    strchr(form, '*') ? printf(form, -4 + 9 * (int)(value % 2), (int)values[value]) : printf(form, (int)values[value]);
+            }
+            printf("\n");
+        }
+    }
+}
+
+/* Numbers of every size, texts and letters, what is counted, and what finds no room. */
+static void forms_of_others(void)
+{
+    static const long values[] = {0, -1, 127, 128, -129, 32768, INT_MAX, INT_MIN, LONG_MAX, LONG_MIN};
+    for (unsigned at = 0; at < COUNT(values); at++) {
+        long value = values[at];
+        printf("%hhd %hhu %hd %#hX %d %u %#o %ld %#lx %lld %llu %zu %td %jd %#jo %i\n", (int)value, (int)value, (int)value, (int)value,
+            (int)value, (int)value, (int)value, value, value, (long long)value, (long long)value, value, value, value, value, (int)value);
+    }
+    for (unsigned at = 0; at < COUNT(texts); at++) {
+        const char *text = texts[at];
+        printf("%s|%5s|%-5s|%.2s|%-7.3s|%.*s|%*s|%c|%3c|%-3c|%%|\n", text, text, text, text, text, -1, text, -4, text, 'a' + at, 'b', 'c');
+        for (unsigned size = 0; size < 9; size++) {
+            dashes();
+            printf("%d ", snprintf(room, size, "%s+%u", text, at));
+            tell("snprintf");
+        }
+        dashes();
+        printf("%d ", sprintf(room, "<%-3s>%5u", text, at));
+        tell("sprintf");
+    }
+    signed char least;
+    short less;
+    int one;
+    long more;
+    int all = printf("a%hhn%s%hn%5d%n%c%ln|\n", &least, "bcd", &less, 42, &one, 'e', &more);
+    printf("%d %d %d %ld %d\n", least, less, one, more, all);
+}
+
 static void first(void) { printf("the first, last\n"); }
 static void again(void) { printf("again\n"); }
 static void second(void) { printf("the second\n"); }
@@ -203,6 +256,10 @@ int main(void)
         read_numbers();
     } else if (PART == 5) {
         sorted();
+    } else if (PART == 6) {
+        forms_of_numbers();
+    } else if (PART == 7) {
+        forms_of_others();
     }
     printf("%d", atexit(first));
     for (int at = 0; at < 30; at++)

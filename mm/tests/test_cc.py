@@ -157,10 +157,14 @@ def source(text: str, **options: object) -> str:
     return write_source(Program([read_module(text, "test")], Options(**options)), Options(**options))
 
 
-# Two files that have an alias of one name each, of which nobody else knows; and a weak one that the other file defines.
+# Two files that have an alias of one name each, of which nobody else knows; a weak one that the other file defines; and one
+# of a function and a global of which nobody else knows, but for others that have their names.
 ALIASES = ("""define internal i64 @own() {
   ret i64 1
 }
+@hidden = internal global i64 3000
+@public = alias i64 (), ptr @own
+@shown = alias i64, ptr @hidden
 @same = internal alias i64 (), ptr @own
 @both = weak alias i64 (), ptr @own
 define i64 @first() {
@@ -171,6 +175,13 @@ define i64 @first() {
 }
 @same = internal alias i64 (), ptr @other
 declare i64 @first()
+declare i64 @public()
+@shown = external global i64
+@hidden = internal global i64 50000
+@table = internal global [2 x ptr] [ptr @public, ptr @shown]
+define internal i64 @own() {
+  ret i64 600000
+}
 define i64 @both() {
   ret i64 400
 }
@@ -180,7 +191,21 @@ define i64 @main() {
   %c = call i64 @both()
   %d = add i64 %a, %b
   %e = add i64 %d, %c
-  ret i64 %e
+  %f = call i64 @public()
+  %g = call i64 @own()
+  %h = load i64, ptr @shown
+  %i = load i64, ptr @hidden
+  %t = load ptr, ptr @table
+  %j = call i64 %t()
+  %u = load ptr, ptr getelementptr ([2 x ptr], ptr @table, i64 0, i64 1)
+  %k = load i64, ptr %u
+  %m = add i64 %e, %f
+  %n = add i64 %m, %g
+  %o = add i64 %n, %h
+  %p = add i64 %o, %i
+  %q = add i64 %p, %j
+  %r = add i64 %q, %k
+  ret i64 %r
 }""")
 
 
@@ -206,7 +231,7 @@ class Ran(unittest.TestCase):
 
     def test_aliases_of_two_files(self):
         made = Program([read_module(text, f"test{at}") for at, text in enumerate(ALIASES)], Options())
-        self.assertEqual(self.run_source(write_source(made, Options())).register(0).bits, 421)
+        self.assertEqual(self.run_source(write_source(made, Options())).register(0).bits, 421 + 600000 + 50000 + 2 * 3001)
 
     def test_the_first_byte_after_an_array_is_outside(self):
         for size in (1, 3, 7, 8, 12, 24, 31, 32, 33, 64):
@@ -252,6 +277,18 @@ class Told(unittest.TestCase):
             source("define i32 @main() {\n  %x = fadd double 1.0, 2.0\n  %y = fptosi double %x to i32\n  ret i32 %y\n}")
         with self.assertRaisesRegex(Failure, "main: `missing` is used, and nothing defines it"):
             source("declare i32 @missing()\ndefine i32 @main() {\n  %x = call i32 @missing()\n  ret i32 %x\n}")
+
+    def test_a_name_that_two_files_define(self):
+        texts = ("@n = global i64 1\ndefine i64 @f() {\n  ret i64 1\n}\n@w = weak global i64 1\n@i = internal global i64 1\n",
+                 "@n = global i64 2\ndefine i64 @f() {\n  ret i64 2\n}\n@w = global i64 2\n@i = global i64 2\n",
+                 "define i64 @main() {\n  ret i64 0\n}\n")
+        modules = [read_module(text, f"{name}.c") for text, name in zip(texts, "abc")]
+        with self.assertRaises(Failure) as told:
+            write_source(Program(modules, Options()), Options())
+        said = [line for line in str(told.exception).splitlines() if line[:1] != " "]
+        self.assertEqual(said, [f"mm: b.c: `{name}` is defined here, and a.c defines it too" for name in ("f", "n")])
+        # The last is the library, which a program may define anew.
+        write_source(Program([read_module(texts[0] + texts[2], "a.c"), modules[1]], Options()), Options())
 
     def test_assembler_text_outside_of_functions(self):
         with self.assertRaisesRegex(Failure, "assembler text outside of functions is left out"):

@@ -14,6 +14,7 @@ from mm.tests.cc_sources import GONE, HELD, OUTPUTS, REFUSED, REVERSED, SAME_NAM
 from mm.tests.cprograms import Generator
 from mm.tests.cruns import Machine, on_host
 from mm.cc.driver import source_of
+from mm.cc.failures import ONCE, ONE_MAIN
 from mm.cc.options import Options
 from mm.machine.program import find_program
 from mm.status import Stop
@@ -51,7 +52,7 @@ class Programs(unittest.TestCase):
                 self.assertRegex(ended.out, r"by fault 1 NotPointer at \S*( in memcpy)?: its block of malloc was freed  ", f"{title} at -O{level}: {ended.err}")
         text = GONE + 'struct node *volatile end = a + 1; seen = end[-1].v[2]; return seen; }\n'
         ended, _ = self.ran(text, "1", "--quarantine", "0")
-        self.assertRegex(ended.out, r"is now a number: it left its object at \S+/a.c:\d+ \(one past the end is outside\)")
+        self.assertRegex(ended.out, r"is now a number: it left its block of malloc \(\d+ bytes, handed out at \S+/a.c:\d+\) at \S+/a.c:\d+ \(one past the end is outside\)")
         ended, room = self.ran(STOPPED["a second free"][2], "0", "--quarantine", "0")
         self.assertIn(STOPPED["a second free"][0].format(room=room), ended.out)
 
@@ -78,6 +79,10 @@ class Programs(unittest.TestCase):
         ended, _ = self.ran("int main(void)\n{\n    int count;\n    return count;\n}\n", "1", "--clang", "-Wno-uninitialized")
         self.assertEqual(ended.err, "")
 
+    def test_a_result_that_must_not_be_thrown_away_is_warned_of(self):
+        ended, room = self.ran("#include <stdlib.h>\nint main(void)\n{\n    char *p = malloc(8);\n    realloc(p, 16);\n    return 0;\n}\n", "1")
+        self.assertIn(f"{room}/a.c:5:5: warning: ignoring return value of function declared with 'warn_unused_result' attribute", ended.err)
+
     def test_a_declaration_that_another_file_contradicts(self):
         with folder() as room:
             texts = {"a.c": "long report(const char *title, const int *counts);\nlong plain();\nlong right(char c, ...);\n"
@@ -90,6 +95,34 @@ class Programs(unittest.TestCase):
                 f"{paths[0]}:5:12: warning: `long report(pointer, pointer)` is used here, and {paths[1]}:1 defines "
                 "`long report(int, pointer, pointer)`")))
             self.assertEqual(len(ended.err.splitlines()), 2, ended.err)
+
+    def test_a_variable_that_another_file_declares_otherwise(self):
+        with folder() as room:
+            texts = {"a.c": "struct p { int x, y; char rest[]; };\nint table[6] = {3}, grid[2][3];\nlong count = 6;\nunion u { int *p; long n; } u = {.n = 1};\n"
+                            "struct p p = {1, 2, {'m', 'o'}};\nint end[4];\nchar *name;\n",
+                     "b.c": "extern int *table, grid[][3];\nextern int count, end[3];\nextern union u { int *p; long n; } u;\nextern struct p { int x, y; } p;\n"
+                            "extern const char *name;\nint main(void)\n{\n    return table[0] + (int)u.n + p.x + grid[1][1] + !name + end[2] +\n        count;\n}\n"}
+            paths = [write(room, name, text) for name, text in texts.items()]
+            ended = mm("cc", *paths)
+            said = [line for line in ended.err.splitlines() if line[:1] != " "]
+            self.assertEqual((ended.status, sorted(line.partition("warning: ")[2] for line in said)), (0, [
+                f"`int count` is used here, and {paths[0]}:3 defines `long count`", f"`int[3] end` is used here, and {paths[0]}:6 defines `int[4] end`",
+                f"`pointer table` is used here, and {paths[0]}:2 defines `int[6] table`"]))
+            self.assertTrue(all(line.startswith(f"{paths[1]}:") for line in said), said)
+
+    def test_a_name_that_two_files_define(self):
+        with folder() as room:
+            texts = {"a.c": "int count;\nint next(void) { return ++count; }\nchar *strdup(const char *s) { return (char *)s; }\n",
+                     "b.c": "int next(void);\nint main(void) { return next(); }\n\nint count = 1;\n"}
+            paths = [write(room, name, text) for name, text in texts.items()]
+            ended = mm("cc", *paths)
+            self.assertEqual((ended.status, ended.err.splitlines()), (2, [
+                f"{paths[1]}:4: error: `count` is defined here, and {paths[0]}:1 defines it too", f"    {ONCE}"]))
+            write(room, "b.c", texts["b.c"].replace("int count = 1", "extern int count"))
+            self.assertEqual(mm("cc", *paths).status, 0)
+            write(room, "a.c", texts["a.c"] + "int main(int n, char **v) { return n; }\n")
+            self.assertEqual(mm("cc", *paths).err.splitlines(), [
+                f"{paths[1]}:2: error: `main` is defined here, and {paths[0]}:4 defines it too", f"    {ONE_MAIN}"])
 
     def test_what_nothing_calls_is_noted(self):
         ended, room = self.ran("double f(double x) { return x; }\nint main(void) { return 0; }\n", "0")

@@ -36,7 +36,7 @@ define i64 @mm_door_any(i64 %n, ptr %p) {
   %w = call i64 @inner(ptr %t)
   ret i64 %w
 }
-define i64 @__mm_log_of(i64 %size) {
+define i64 @__mm_log_of_array(i64 %size) {
   ret i64 6
 }
 define internal i64 @inner(ptr %q) {

@@ -14,7 +14,7 @@ from mm.tests.test_cc_clang import needs_clang
 SOURCE = path_of("mm", "tests", "library.c")
 FLAGS = ["-w", "-fno-builtin"]
 # The parts of the program, each with the level at which it is translated and how many lines it prints at least.
-PARTS = ((0, "1", 150), (1, "2", 350), (2, "1", 40), (3, "0", 30), (4, "2", 40), (5, "1", 30))
+PARTS = ((0, "1", 150), (1, "2", 350), (2, "1", 40), (3, "0", 30), (4, "2", 40), (5, "1", 30), (6, "2", 220), (7, "1", 150))
 STATUS = 7
 
 

@@ -95,6 +95,12 @@ class Programs(unittest.TestCase):
         ended, _ = self.ran(text, "--clang", "-fsanitize=undefined", "--clang", "-fwrapv")
         self.assertIn('output "-2147483648"', ended.out)
 
+    def test_an_operation_that_no_line_made(self):
+        with folder() as room:
+            path = write(room, "a.asm", ".segment text 6\nmain:\n  ;@ function main at a.c:4\n  ;@ frame back - caller by 0\n  ldi r0, 5\n"
+                         "  ld r1, r0, 0, any, keep\n  halt\n.segment stack 6\n.thread 0 0 none xu main\n.reg 15 ptr rw stack+0\n")
+            self.assertIn("by fault 1 NotPointer at a.c:4: a null pointer, and 5 bytes on", mm("run", path).out)
+
     def test_plain_output(self):
         text = '#include <stdio.h>\nint a[2];\nint main(int n, char **v) {\n  printf("one \\"two\\"\\n\\x1b[1m\\xe9\\n");\n  a[n + 1] = 3; return 5; }\n'
         ended, room = self.ran(text, "--plain")

@@ -24,7 +24,7 @@ LIBRARY = """define i64 @__mm_bytes_swapped(i64 %x, i64 %n) {
   %r = shl i64 %x, 56
   ret i64 %r
 }
-define i64 @__mm_log_of(i64 %x) {
+define i64 @__mm_log_of_array(i64 %x) {
   ret i64 6
 }
 define i64 @__mm_signed_product_overflows(i64 %x, i64 %y) {

@@ -5,7 +5,8 @@ from __future__ import annotations
 from typing import Optional
 
 # The traps of the translator and of its library.
-TRAPS = {1: "`__builtin_trap`", 2: "a place that C says is never reached", 6: "`abort`",
+TRAPS = {1: "`__builtin_trap`", 6: "`abort`",
+         2: "a place that C says is never reached: something on the way is not defined by C, and `-O0` may tell what",
          7: "the translator's second reckoning differs: the translator is wrong",
          8: "`free` of what is not a block of malloc, or was freed before"}
 # Those of what a sanitizer of Clang finds begin here, in Clang's order of what it can find.

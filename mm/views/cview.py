@@ -15,6 +15,7 @@ from mm.views.why import Refusal, turn_of
 if TYPE_CHECKING:
     from mm.log.past import Lost, Past
     from mm.names.clines import CFrame, CLine
+    from mm.names.symbols import Region
 
 LINK_REGISTER, STACK_REGISTER = 14, 15
 NULL_PAGE = 4096
@@ -24,6 +25,8 @@ MANY_CALLS = 20
 START = "start"
 # The heap of `malloc`, and the bytes for which it had no room; no heap has more than 2^MOST_HEAP bytes.
 HEAP, REFUSED, MOST_HEAP = "__mm_heap", "__mm_refused", 19
+# No stack has more than 2^MOST_STACK bytes.
+MOST_STACK = 19
 # In the name of each function of the library that no C names.
 OF_TRANSLATOR = "__mm_"
 
@@ -57,7 +60,9 @@ class CView:
 
     def fault(self, cause: Cause, turn: Optional[Turn] = None) -> Optional[str]:
         """`fault 3 Bounds at ov.c:7: buf[32] of 32 bytes`. Slot and memory are as they were in that turn."""
-        line = self.line()
+        inner = next(self.frames(), None)
+        # Some operations are made by no line: the function is told then.
+        line = self.line() if inner is None or not inner.function.begins else inner.line or inner.function.begins
         if line is None:
             return None
         at = Refusal(cause, self.slot, turn or turn_of(cause, self.slot, self.memory), self.memory, self.speller)
@@ -71,7 +76,6 @@ class CView:
             from mm.views.crights import forbidden
 
             what = forbidden(at)
-        inner = next(self.frames(), None)
         of_library = inner is not None and inner.line is None and not inner.function.begins and not full
         called = self.called() if of_library else ""
         within = f", in {called}" if called and OF_TRANSLATOR not in called else ""
@@ -97,10 +101,14 @@ class CView:
         inner = next(self.frames(), None)
         name = inner.name if inner else "a function"
         left = pointer.address - pointer.base
+        wanted = -(at.word("rb").signed if at.name == "lea" else instruction.value("imm"))
+        log = max(pointer.log + 1, ((1 << pointer.log) - left + wanted - 1).bit_length())
+        if log > MOST_STACK:
+            return f"{name} wants more for its variables than any stack has: is the length of an array below 0, or far too great?"
         calls = sum(frame.name == name for frame in self.frames())
         again = f" (at least {calls} calls of {name} are open)" if calls > MANY_CALLS else ""
         return (f"the stack is full: {name} has no room for its variables in the {left} bytes that are left of "
-                f"{1 << pointer.log}; `--stack {pointer.log + 1}` makes it larger{again}")
+                f"{1 << pointer.log}; `--stack {log}` makes it larger{again}")
 
     def gave_up(self, at: Refusal) -> Optional[str]:
         """What a trap of the translator or of the library says."""
@@ -156,7 +164,15 @@ class CView:
         region = self.symbols.region(pointer.base)
         whole = region is not None and (region.base, region.log) == (pointer.base, pointer.log)
         made = self.symbols.c_global(region) if region and whole else None
-        return f"it left its object{f' {made.name}' if made else ''}{place} (one past the end is outside)"
+        whose = f"object{f' {made.name}' if made else ''}"
+        if region is not None and self.is_block(region, pointer):
+            whose = f"block of malloc ({counted(pointer.end - pointer.address, 'byte')}{self.handed_out(pointer)})"
+        return f"it left its {whose}{place} (one past the end is outside)"
+
+    @staticmethod
+    def is_block(region: Region, pointer: Pointer) -> bool:
+        """Whether a pointer is to a part of the heap."""
+        return region.name.endswith("heap") and region.log > pointer.log
 
     def is_swept(self, pointer: Pointer) -> bool:
         """Whether it was to a block of malloc that was freed: the library makes the bits of a key of such a pointer."""
@@ -210,7 +226,7 @@ class CView:
 
     def of_heap(self, pointer: Pointer, target: int) -> Optional[str]:
         region = self.symbols.region(pointer.base)
-        if region is None or not region.name.endswith("heap") or region.log <= pointer.log:
+        if region is None or not self.is_block(region, pointer):
             return None
         by, size = target - pointer.address, pointer.end - pointer.address
         element = self.element(pointer, by)

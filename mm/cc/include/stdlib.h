@@ -10,7 +10,7 @@ typedef struct { long quot, rem; } ldiv_t;
 
 void *malloc(size_t);
 void *calloc(size_t, size_t);
-void *realloc(void *, size_t);
+void *realloc(void *, size_t) __attribute__((warn_unused_result));
 void free(void *);
 void abort(void) __attribute__((noreturn));
 void exit(int) __attribute__((noreturn));

@@ -57,7 +57,8 @@ void *memmove(void *to, const void *from, size_t size)
     char *a = to;
     const char *b = from;
     size_t at = size;
-    if (bits_of(a) - bits_of(b) >= size)
+    /* What a pointer may do, and its length, are above its address. */
+    if (bits_of(a) - bits_of(b) << 10 >= size << 10)
         return memcpy(to, from, size);
     if (places_fit(a, b)) {
         for (; at && (bits_of(a) + at & 7); at--)

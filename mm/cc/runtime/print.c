@@ -68,12 +68,14 @@ static void put_number(struct sink *sink, struct form *form, number value, int n
 {
     char digits[24];
     int length = 0, sign = negative ? '-' : form->plus ? '+' : form->blank ? ' ' : 0;
-    int prefix = form->other && value && base != 10 ? (base == 16 ? 2 : 1) : 0;
+    int prefix = form->other && value && base == 16 ? 2 : 0;
     for (; value; value /= base) {
         int digit = value % base;
         digits[length++] = digit < 10 ? '0' + digit : (form->upper ? 'A' : 'a') + digit - 10;
     }
     if (!length && form->precision)
+        digits[length++] = '0';
+    if (form->other && base == 8 && form->precision <= length && (!length || digits[length - 1] != '0'))
         digits[length++] = '0';
     int zeros = form->precision > length ? form->precision - length : 0;
     int rest = form->width - length - zeros - !!sign - prefix;
@@ -83,10 +85,10 @@ static void put_number(struct sink *sink, struct form *form, number value, int n
         pad(sink, rest, ' ');
     if (sign)
         put(sink, sign);
-    if (prefix)
+    if (prefix) {
         put(sink, '0');
-    if (prefix == 2)
         put(sink, form->upper ? 'X' : 'x');
+    }
     pad(sink, zeros, '0');
     while (length)
         put(sink, digits[--length]);
@@ -107,6 +109,19 @@ static void put_text(struct sink *sink, struct form *form, const char *text)
         put(sink, text[at]);
     if (form->left)
         pad(sink, form->width - (int)length, ' ');
+}
+
+/* What `%n` asks for: how many bytes there were so far, as a number of the size that it says. */
+static void put_count(void *to, size_t count, int size)
+{
+    if (size < -1)
+        *(signed char *)to = count;
+    else if (size < 0)
+        *(short *)to = count;
+    else if (size > 0)
+        *(long *)to = count;
+    else
+        *(int *)to = count;
 }
 
 static int print(struct sink *sink, const char *text, va_list given)
@@ -194,6 +209,9 @@ static int print(struct sink *sink, const char *text, va_list given)
         }
         case 's':
             put_text(sink, &form, va_arg(given, const char *));
+            break;
+        case 'n':
+            put_count(va_arg(given, void *), sink->count, size);
             break;
         case '%':
             put(sink, '%');

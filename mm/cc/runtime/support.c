@@ -100,6 +100,12 @@ long __mm_log_of(number size)
     return log;
 }
 
+/* The same of an array whose length is known at the run alone; that of one below 0 is longer than any segment. */
+long __mm_log_of_array(number size)
+{
+    return size >> 40 ? 40 : __mm_log_of(size);
+}
+
 static number bits_of(const void *pointer)
 {
     return (number)pointer;
