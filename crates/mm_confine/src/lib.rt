@@ -1,0 +1,4 @@
+//! What each group can reach, with a kernel that keeps its segments.
+#![tactic(auto)]
+
+pub mod laws;
