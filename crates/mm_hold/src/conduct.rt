@@ -1,6 +1,8 @@
 //! What the threads of each origin do with the pointers of others.
 
-use crate::going::{note_goes, note_leaves, note_loads, note_resumes};
+use crate::going::{
+    note_begins, note_leaves, note_loads, note_reads, note_resumes, note_taken, note_takes,
+};
 use crate::handing::{note_hands_out, note_plain, note_writes};
 use crate::inside::{carrying_words, note_loaded, note_stored};
 use crate::origins::{OriginNumbers, origin_numbers};
@@ -86,7 +88,7 @@ fn note_outcome(
 ) -> Result<(), NoMemory> {
     let origin = origin_numbers(&t.origin);
     match *outcome {
-        Outcome::Goes(next) => note_goes(conduct, facts.kernel, &next),
+        Outcome::Goes(next) => note_taken(conduct, facts.kernel, &next),
         Outcome::Loads { part, reg, next } => {
             note_loaded(conduct, facts.carrying, origin, part)?;
             note_loads(conduct, facts, part, reg, &next)
@@ -98,18 +100,14 @@ fn note_outcome(
             note_hands_out(conduct, facts.kernel, &t.origin, &form, &leak)
         }
         Outcome::Leaves(linked) => note_leaves(conduct, facts.kernel, &linked),
-        Outcome::TakesEvent { reg: _, next: _ } => {
+        Outcome::TakesEvent { reg, next } => {
             conduct.seeing |= origin_mask(&t.origin);
-            Ok(())
+            note_takes(conduct, facts, &t.origin, reg, &next)
         }
         Outcome::Resumes(how) => note_resumes(conduct, facts, &t.origin, how),
-        Outcome::ReadsServed {
-            reg: _,
-            from: _,
-            next: _,
-        } => {
+        Outcome::ReadsServed { reg, from, next } => {
             conduct.seeing |= origin_mask(&t.origin);
-            Ok(())
+            note_reads(conduct, facts, &t.origin, reg, from, &next)
         }
         Outcome::WritesServed { reg: _, form } => note_writes(conduct, &t.origin, &form),
         Outcome::Leaks(_) => Ok(()),
@@ -155,6 +153,7 @@ pub fn conduct_of(
         carrying: &carrying,
     };
     let mut conduct = Conduct::none(alloc);
+    note_begins(&mut conduct, &facts)?;
     for k in 0..tables.threads() {
         note_thread(&mut conduct, &facts, &tables.thread(k))?;
     }
