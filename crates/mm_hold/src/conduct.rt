@@ -1,19 +1,25 @@
-//! What the threads of each origin do with the pointers of others.
+//! What the threads of each origin do with the pointers of others, in sets.
 
-use crate::going::{
-    note_begins, note_leaves, note_loads, note_reads, note_resumes, note_taken, note_takes,
-};
-use crate::handing::{note_hands_out, note_plain, note_writes};
-use crate::inside::{carrying_words, note_loaded, note_stored};
-use crate::origins::{OriginNumbers, origin_numbers};
-use mm_keep::{Kernel, Tables, outcomes};
-use mm_kernel::{Form, Origin, Outcome, Thread};
+use crate::deed::Deed;
+use crate::doing::{Findings, put_begins, put_thread};
+use crate::going::Held;
+use crate::inside::carrying_words;
+use mm_keep::{Kernel, Tables};
+use mm_kernel::Origin;
 use mm_word::NoMemory;
 use std::alloc::Global;
 use std::collections::BTreeSet;
 
-/// A kept word, and a form that it may have.
-pub type Held = (u64, Form);
+/// The numbers of an origin: a kind and a value. Doors come before slots.
+pub type OriginNumbers = (u8, u64);
+
+/// The numbers of an origin.
+pub fn origin_numbers(origin: &Origin) -> OriginNumbers {
+    match *origin {
+        Origin::Door(p) => (0, p.bits()),
+        Origin::Slot(number) => (1, u64::from(number)),
+    }
+}
 
 /// What the threads of each origin do with the pointers of others.
 #[derive(Drop)]
@@ -39,14 +45,9 @@ pub struct Conduct {
     pub freed: u64,
 }
 
-/// What is looked at for the threads: the kernel, all that was found of it, the forms that kept words have from the
-/// start, and the kept words that get a form that carries.
-#[derive(Clone, Copy)]
-pub struct Facts<'a> {
-    pub kernel: &'a Kernel<'a>,
-    pub tables: &'a Tables,
-    pub first: &'a [Held],
-    pub carrying: &'a [u64],
+/// The mask of a slot or a group; it is empty for a number that none has.
+pub fn mask_of(number: u8) -> u64 {
+    if number < 64 { 1u64 << number } else { 0 }
 }
 
 impl Conduct {
@@ -64,78 +65,54 @@ impl Conduct {
             freed: 0,
         }
     }
-}
 
-/// The mask of a slot; it is empty for a number that no slot has.
-pub fn slot_mask(number: u8) -> u64 {
-    if number < 64 { 1u64 << number } else { 0 }
-}
+    /// Notes a deed.
+    fn note(&mut self, deed: &Deed) -> Result<(), NoMemory> {
+        match *deed {
+            Deed::Has(origin, p) => {
+                self.has.insert((origin_numbers(&origin), p.bits()))?;
+            }
+            Deed::Stored(word, origin) => {
+                self.stored.insert((word, origin_numbers(&origin)))?;
+            }
+            Deed::Loaded(word, origin) => {
+                self.loaded.insert((word, origin_numbers(&origin)))?;
+            }
+            Deed::Sent(slot, p) => {
+                self.sent.insert((slot, p.bits()))?;
+            }
+            Deed::Given(slot, p) => {
+                self.given.insert((slot, p.bits()))?;
+            }
+            Deed::Sends(slot) => self.senders |= mask_of(slot),
+            Deed::Gives(slot) => self.givers |= mask_of(slot),
+            Deed::Sees(slot) => self.seeing |= mask_of(slot),
+            Deed::GoesOn(slot) => self.freed |= mask_of(slot),
+        }
+        Ok(())
+    }
 
-/// The mask of the slot of an origin; it is empty for a door.
-pub fn origin_mask(origin: &Origin) -> u64 {
-    match *origin {
-        Origin::Door(_) => 0,
-        Origin::Slot(number) => slot_mask(number),
+    /// Notes deeds.
+    fn note_all(&mut self, deeds: &[Deed]) -> Result<(), NoMemory> {
+        for deed in deeds {
+            self.note(deed)?;
+        }
+        Ok(())
     }
 }
 
-/// Notes what an outcome of a thread does.
-fn note_outcome(
+/// Notes what a thread has, and what its turn does. The list is empty before and after.
+fn note_thread(
     conduct: &mut Conduct,
-    facts: &Facts<'_>,
-    t: &Thread,
-    outcome: &Outcome,
+    deeds: &mut Vec<Deed>,
+    kernel: &Kernel,
+    findings: &Findings<'_>,
+    at: usize,
 ) -> Result<(), NoMemory> {
-    let origin = origin_numbers(&t.origin);
-    match *outcome {
-        Outcome::Goes(next) => note_taken(conduct, facts.kernel, &next),
-        Outcome::Loads { part, reg, next } => {
-            note_loaded(conduct, facts.carrying, origin, part)?;
-            note_loads(conduct, facts, part, reg, &next)
-        }
-        Outcome::Stores { part, form } => {
-            note_stored(conduct, facts.carrying, origin, part, &form)
-        }
-        Outcome::HandsOut { form, leak } => {
-            note_hands_out(conduct, facts.kernel, &t.origin, &form, &leak)
-        }
-        Outcome::Leaves(linked) => note_leaves(conduct, facts.kernel, &linked),
-        Outcome::TakesEvent { reg, next } => {
-            conduct.seeing |= origin_mask(&t.origin);
-            note_takes(conduct, facts, &t.origin, reg, &next)
-        }
-        Outcome::Resumes(how) => note_resumes(conduct, facts, &t.origin, how),
-        Outcome::ReadsServed { reg, from, next } => {
-            conduct.seeing |= origin_mask(&t.origin);
-            note_reads(conduct, facts, &t.origin, reg, from, &next)
-        }
-        Outcome::WritesServed { reg: _, form } => note_writes(conduct, &t.origin, &form),
-        Outcome::Leaks(_) => Ok(()),
-        Outcome::Faults {
-            address: _,
-            value: _,
-        } => Ok(()),
-    }
-}
-
-/// Notes what each outcome of a thread does.
-fn note_outcomes(
-    conduct: &mut Conduct,
-    facts: &Facts<'_>,
-    t: &Thread,
-    all: &[Outcome],
-) -> Result<(), NoMemory> {
-    for outcome in all {
-        note_outcome(conduct, facts, t, outcome)?;
-    }
+    put_thread(deeds, kernel, findings, &findings.tables.thread(at))?;
+    conduct.note_all(deeds)?;
+    deeds.clear();
     Ok(())
-}
-
-/// Notes what a thread has, and what its turn does.
-fn note_thread(conduct: &mut Conduct, facts: &Facts<'_>, t: &Thread) -> Result<(), NoMemory> {
-    note_plain(conduct, facts.kernel, t)?;
-    let all = outcomes(facts.kernel, t);
-    note_outcomes(conduct, facts, t, all.as_slice())
 }
 
 /// What the threads of each origin do, given the forms that kept words have from the start.
@@ -146,16 +123,18 @@ pub fn conduct_of(
     first: &[Held],
 ) -> Result<Conduct, NoMemory> {
     let carrying = carrying_words(alloc, tables)?;
-    let facts = Facts {
-        kernel,
+    let findings = Findings {
         tables,
         first,
         carrying: &carrying,
     };
     let mut conduct = Conduct::none(alloc);
-    note_begins(&mut conduct, &facts)?;
+    let mut deeds = Vec::new(alloc);
+    put_begins(&mut deeds, kernel, tables)?;
+    conduct.note_all(&deeds)?;
+    deeds.clear();
     for k in 0..tables.threads() {
-        note_thread(&mut conduct, &facts, &tables.thread(k))?;
+        note_thread(&mut conduct, &mut deeds, kernel, &findings, k)?;
     }
     Ok(conduct)
 }

@@ -6,7 +6,7 @@ use mm_model::{Page, Slot};
 use mm_word::{Cell, NoMemory, Word};
 use std::alloc::Global;
 
-use crate::conduct::Held;
+use crate::going::Held;
 
 /// The key of the pointer that stands for all that can be made of this one; `None` if that permits nothing. A door
 /// stands for itself.

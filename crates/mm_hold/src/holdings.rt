@@ -1,6 +1,6 @@
 //! What each group can reach, with a kernel that keeps its segments.
 
-use crate::conduct::{Conduct, conduct_of, slot_mask};
+use crate::conduct::{Conduct, conduct_of, mask_of};
 use crate::found::first_forms;
 use crate::graph::{Graph, Start, graph_of};
 use crate::handlers::served_in;
@@ -26,8 +26,8 @@ pub struct Holdings {
 fn groups_of(slots: &[Slot], mask: u64) -> u64 {
     let mut groups = 0;
     for slot in slots {
-        if slot_mask(slot.number) & mask != 0 {
-            groups |= slot_mask(slot.group);
+        if mask_of(slot.number) & mask != 0 {
+            groups |= mask_of(slot.group);
         }
     }
     groups
@@ -100,7 +100,7 @@ impl Holdings {
     /// Whether the callers of a group hold a door.
     pub fn holds(&self, group: u8, door: GuardedPtr) -> bool {
         match find(&self.keys, CanonicalPtr::of(door)) {
-            Some(node) => self.groups[node] & slot_mask(group) != 0,
+            Some(node) => self.groups[node] & mask_of(group) != 0,
             None => false,
         }
     }

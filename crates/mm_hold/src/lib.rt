@@ -2,8 +2,9 @@
 //!
 //! | rule | part | made in |
 //! |---|---|---|
-//! | the kernel's threads have pointers, let doors out, store | what the threads of each origin do, | `conduct`, `going`, |
-//! | and load kept words, serve | in sets | `handing`, `inside` |
+//! | the kernel's threads have pointers, let doors out, store | a list of deeds for each thread, and | `deed`, `handing`, |
+//! | and load kept words, serve, go on as callers | all of them in sets | `going`, `inside`, |
+//! | | | `doing`, `conduct` |
 //! | callers have pointers, and cells that are not kept | the keys and nodes of a graph of pointers | `found`, `graph` |
 //! | it is below a pointer; a cell holds it; an entry leaves it | edges of the graph | `mm_graph`, `mm_flow` |
 //! | parties pass on all that they hold | who shares with whom, worked out anew in each round | `sharing`, `meets` |
@@ -11,6 +12,8 @@
 #![tactic(auto)]
 
 mod conduct;
+mod deed;
+mod doing;
 mod found;
 mod going;
 mod graph;
@@ -20,7 +23,6 @@ mod holdings;
 mod inside;
 mod marks;
 mod meets;
-mod origins;
 mod parties;
 mod rounds;
 mod sharing;

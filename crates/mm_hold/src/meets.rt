@@ -1,9 +1,8 @@
 //! Parties that store where others load.
 
-use crate::conduct::Conduct;
+use crate::conduct::{Conduct, OriginNumbers};
 use crate::graph::{Graph, node_of};
 use crate::marks::Marks;
-use crate::origins::OriginNumbers;
 use crate::parties::Parties;
 use crate::sharing::Sharing;
 use mm_flow::{Right, marks_above};

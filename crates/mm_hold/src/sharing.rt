@@ -1,6 +1,6 @@
 //! Parties that pass on all that they hold.
 
-use crate::conduct::{Conduct, slot_mask};
+use crate::conduct::{Conduct, mask_of};
 use crate::parties::Parties;
 use mm_image::Image;
 use mm_keep::{Kernel, is_kernel_slot};
@@ -79,12 +79,12 @@ fn all_of(rows: &[Parties; 64], mask: u64) -> Parties {
 /// The parties of a slot: its group, and itself if it is one of the kernel.
 fn parties_of(kernel: &Kernel, slot: &Slot) -> Parties {
     let slots = if is_kernel_slot(kernel.kept(), slot) {
-        slot_mask(slot.number)
+        mask_of(slot.number)
     } else {
         0
     };
     Parties {
-        groups: slot_mask(slot.group),
+        groups: mask_of(slot.group),
         slots,
     }
 }
@@ -111,7 +111,7 @@ pub fn served_by(kernel: &Kernel, number: u8) -> Parties {
 /// A handler that is a caller shares with the slots that it serves, and they with it.
 fn share_served(sharing: &mut Sharing, kernel: &Kernel, handler: &Slot) {
     let one = Parties {
-        groups: slot_mask(handler.group),
+        groups: mask_of(handler.group),
         slots: 0,
     };
     let others = Parties {
@@ -125,7 +125,7 @@ fn share_served(sharing: &mut Sharing, kernel: &Kernel, handler: &Slot) {
 /// A slot of the kernel shares with its group if it goes on as a caller; with what it serves, if it gives what carries;
 /// and what it serves with it, if it looks at that.
 fn share_kernel(sharing: &mut Sharing, kernel: &Kernel, conduct: &Conduct, slot: &Slot) {
-    let mask = slot_mask(slot.number);
+    let mask = mask_of(slot.number);
     let one = Parties {
         groups: 0,
         slots: mask,
@@ -135,7 +135,7 @@ fn share_kernel(sharing: &mut Sharing, kernel: &Kernel, conduct: &Conduct, slot:
         sharing.share(
             one,
             Parties {
-                groups: slot_mask(slot.group),
+                groups: mask_of(slot.group),
                 slots: 0,
             },
         );
