@@ -4,6 +4,7 @@ use crate::deed::Deed;
 use crate::doing::{Findings, put_begins, put_thread};
 use crate::going::Held;
 use crate::inside::carrying_words;
+use crate::parties::mask_of;
 use mm_keep::{Kernel, Tables};
 use mm_kernel::Origin;
 use mm_word::NoMemory;
@@ -43,11 +44,6 @@ pub struct Conduct {
     pub seeing: u64,
     /// The mask of the slots whose threads go on as callers.
     pub freed: u64,
-}
-
-/// The mask of a slot or a group; it is empty for a number that none has.
-pub fn mask_of(number: u8) -> u64 {
-    if number < 64 { 1u64 << number } else { 0 }
 }
 
 impl Conduct {

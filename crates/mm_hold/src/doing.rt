@@ -2,7 +2,8 @@
 
 ghost use Rattle.std.specs.List.{flat_map};
 ghost use Rattle.std.specs.Prelude.{◌≡◌, ◌++◌, OnOk};
-ghost use Rattle.mm_hold.specs.Deeds.{begin_deeds, done_by, thread_deeds};
+ghost use Rattle.mm_hold.specs.Deeds.{begin_deeds, done_by, loaded, read, sees, thread_deeds, took, used};
+ghost use Rattle.mm_hold.specs.declared.deed.Deed.TheVariants.{Loaded};
 
 use crate::deed::Deed;
 use crate::going::{
@@ -13,14 +14,23 @@ use crate::inside::{put_loaded_words, put_stored};
 use mm_keep::{Kernel, Tables, outcomes};
 use mm_kernel::{Origin, Outcome, Part, Thread};
 use mm_word::NoMemory;
+use std::marker::Model;
 
 /// What is looked at for each thread: all that was found of the kernel, the forms that kept words have from the start,
 /// and the kept words that get a form that carries.
-#[derive(Clone, Copy)]
+#[derive(Drop)]
 pub struct Findings<'a> {
     pub tables: &'a Tables,
     pub first: &'a [Held],
     pub carrying: &'a [u64],
+}
+
+impl<'a> Model for Findings<'a> {
+    ghost use Rattle.mm_hold.specs.Deeds.{Findings as FindingsValue};
+
+    ghost Value = { FindingsValue };
+
+    ghost view = { λ f. record { tables = f.tables.now; first = f.first.now; carrying = f.carrying.now } };
 }
 
 /// Appends what a load does.
@@ -32,7 +42,11 @@ fn put_load(
     part: Part,
     reg: u8,
     next: &Thread,
-) -> Result<(), NoMemory> {
+) -> Result<(), NoMemory>
+    ensures { OnOk result (deeds.new.items ≡ deeds.old.items
+        ++ (used Loaded origin.now part findings.now.carrying
+        ++ loaded kernel.now.kept findings.now.first findings.now.tables.stored part reg next.now)) }
+{
     put_loaded_words(deeds, findings.carrying, origin, part)?;
     put_loaded(deeds, kernel, findings.tables, findings.first, part, reg, next)
 }
@@ -45,7 +59,10 @@ fn put_event(
     origin: &Origin,
     reg: u8,
     next: &Thread,
-) -> Result<(), NoMemory> {
+) -> Result<(), NoMemory>
+    ensures { OnOk result (deeds.new.items ≡ deeds.old.items
+        ++ (sees origin.now ++ flat_map (took kernel.now.kept origin.now reg next.now) tables.now.events)) }
+{
     put_sees(deeds, origin)?;
     put_takes(deeds, kernel, tables, origin, reg, next)
 }
@@ -59,7 +76,10 @@ fn put_register(
     reg: u8,
     from: u8,
     next: &Thread,
-) -> Result<(), NoMemory> {
+) -> Result<(), NoMemory>
+    ensures { OnOk result (deeds.new.items ≡ deeds.old.items
+        ++ (sees origin.now ++ flat_map (read kernel.now.kept origin.now reg from next.now) tables.now.faulted)) }
+{
     put_sees(deeds, origin)?;
     put_reads(deeds, kernel, tables, origin, reg, from, next)
 }
@@ -71,7 +91,10 @@ fn put_outcome(
     findings: &Findings<'_>,
     origin: &Origin,
     outcome: &Outcome,
-) -> Result<(), NoMemory> {
+) -> Result<(), NoMemory>
+    ensures { OnOk result (deeds.new.items
+        ≡ deeds.old.items ++ done_by kernel.now.kept findings.now origin.now outcome.now) }
+{
     let kept = kernel.kept();
     match *outcome {
         Outcome::Goes(next) => put_taken(deeds, kernel, &next),
@@ -102,7 +125,10 @@ fn put_outcomes(
     findings: &Findings<'_>,
     origin: &Origin,
     all: &[Outcome],
-) -> Result<(), NoMemory> {
+) -> Result<(), NoMemory>
+    ensures { OnOk result (deeds.new.items
+        ≡ deeds.old.items ++ flat_map (done_by kernel.now.kept findings.now origin.now) all.now) }
+{
     for outcome in all {
         put_outcome(deeds, kernel, findings, origin, outcome)?;
     }
@@ -115,14 +141,20 @@ pub fn put_thread(
     kernel: &Kernel,
     findings: &Findings<'_>,
     t: &Thread,
-) -> Result<(), NoMemory> {
+) -> Result<(), NoMemory>
+    ensures { OnOk result (deeds.new.items
+        ≡ deeds.old.items ++ thread_deeds kernel.now.image kernel.now.kept findings.now t.now) }
+{
     put_had(deeds, kernel.kept(), t)?;
     let all = outcomes(kernel, t);
     put_outcomes(deeds, kernel, findings, &t.origin, all.as_slice())
 }
 
 /// Appends what the threads have that begin.
-pub fn put_begins(deeds: &mut Vec<Deed>, kernel: &Kernel, tables: &Tables) -> Result<(), NoMemory> {
+pub fn put_begins(deeds: &mut Vec<Deed>, kernel: &Kernel, tables: &Tables) -> Result<(), NoMemory>
+    ensures { OnOk result (deeds.new.items
+        ≡ deeds.old.items ++ begin_deeds kernel.now.image kernel.now.kept tables.now.doors) }
+{
     put_slots(deeds, kernel, kernel.image().slots())?;
     put_all_entered(deeds, kernel, tables)
 }

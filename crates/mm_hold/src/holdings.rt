@@ -1,10 +1,11 @@
 //! What each group can reach, with a kernel that keeps its segments.
 
-use crate::conduct::{Conduct, conduct_of, mask_of};
+use crate::conduct::{Conduct, conduct_of};
 use crate::found::first_forms;
 use crate::graph::{Graph, Start, graph_of};
 use crate::handlers::served_in;
 use crate::marks::Marks;
+use crate::parties::mask_of;
 use crate::rounds::Passing;
 use mm_audit::{Apart, Segments, Survey, survey_of};
 use mm_graph::{CanonicalPtr, find};

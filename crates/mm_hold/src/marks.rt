@@ -1,5 +1,7 @@
 //! Which parties hold the pointer of each node.
 
+ghost use Rattle.std.specs.Prelude.{◌≡◌, ◌<◌, length};
+
 use crate::graph::Graph;
 use crate::parties::Parties;
 use mm_flow::spread;
@@ -15,7 +17,9 @@ pub struct Marks {
 
 impl Marks {
     /// How many nodes there are.
-    pub fn len(&self) -> usize {
+    pub fn len(&self) -> usize
+        ensures { result ≡ length self.now.groups.items }
+    {
         self.groups.len()
     }
 
@@ -62,5 +66,3 @@ impl Marks {
         Ok(())
     }
 }
-
-ghost use Rattle.std.specs.Prelude.{◌<◌, length};

@@ -3,7 +3,7 @@
 use crate::conduct::{Conduct, OriginNumbers};
 use crate::graph::{Graph, node_of};
 use crate::marks::Marks;
-use crate::parties::Parties;
+use crate::parties::{Parties, mask_of};
 use crate::sharing::Sharing;
 use mm_flow::{Right, marks_above};
 use mm_graph::CanonicalPtr;
@@ -76,10 +76,10 @@ fn running(
 ) -> Parties {
     let (kind, value) = origin;
     if kind == 1 {
-        if value < 64 {
-            return Parties::slot(value as u8);
-        }
-        return Parties::none();
+        return Parties {
+            groups: 0,
+            slots: mask_of((value % 256) as u8),
+        };
     }
     match node_of(kernel, keys, value) {
         Some(node) => Parties {
@@ -116,9 +116,7 @@ pub fn share_inside(
     for stored in conduct.stored.iter() {
         let word = stored.0;
         let from = running(kernel, &graph.keys, marks, stored.1);
-        if !from.is_none() {
-            let to = users(kernel, &graph.keys, marks, &conduct.loaded, word);
-            sharing.share(from, to);
-        }
+        let to = users(kernel, &graph.keys, marks, &conduct.loaded, word);
+        sharing.share(from, to);
     }
 }

@@ -1,7 +1,11 @@
 //! Parties that pass on all that they hold.
 
-use crate::conduct::{Conduct, mask_of};
-use crate::parties::Parties;
+ghost use Rattle.std.specs.Prelude.{◌≡◌, ◌<◌};
+ghost use Rattle.mm_confine.specs.Grants.{Party, Party.{Group, KernelSlot}};
+ghost use Rattle.mm_hold.specs.Parties.{Across, Adds, Is, SharedBy, Shares, row_of};
+
+use crate::conduct::Conduct;
+use crate::parties::{Parties, mask_of};
 use mm_image::Image;
 use mm_keep::{Kernel, is_kernel_slot};
 use mm_model::Slot;
@@ -15,22 +19,19 @@ pub struct Sharing {
 
 impl Sharing {
     /// No party passes on anything.
-    pub fn none() -> Sharing {
+    pub fn none() -> Sharing
+        ensures { (y x : Party) → Shares result y x → ⊥ }
+    {
         Sharing {
-            groups: [Parties {
-                groups: 0,
-                slots: 0,
-            }; 64],
-            slots: [Parties {
-                groups: 0,
-                slots: 0,
-            }; 64],
+            groups: [Parties::none(); 64],
+            slots: [Parties::none(); 64],
         }
     }
 
     /// The parties to which a group passes on.
     pub fn of_group(&self, number: usize) -> Parties
         requires { number < 64 }
+        ensures { result ≡ row_of self.now (Group number) }
     {
         self.groups[number]
     }
@@ -38,23 +39,26 @@ impl Sharing {
     /// The parties to which a slot passes on.
     pub fn of_slot(&self, number: usize) -> Parties
         requires { number < 64 }
+        ensures { result ≡ row_of self.now (KernelSlot number) }
     {
         self.slots[number]
     }
 
     /// Each of some parties passes on to each of others.
-    pub fn share(&mut self, from: Parties, to: Parties) {
+    pub fn share(&mut self, from: Parties, to: Parties)
+        ensures { Adds (Across from to) self.old self.new }
+    {
         share_from(&mut self.groups, from.groups, to);
         share_from(&mut self.slots, from.slots, to);
     }
 
     /// All parties to which some of these pass on.
-    pub fn shared_by(&self, from: Parties) -> Parties {
+    pub fn shared_by(&self, from: Parties) -> Parties
+        ensures { Is result (SharedBy self.now from) }
+    {
         all_of(&self.groups, from.groups).and(all_of(&self.slots, from.slots))
     }
 }
-
-ghost use Rattle.std.specs.Prelude.{◌<◌};
 
 /// Adds parties at each place of a mask.
 fn share_from(rows: &mut [Parties; 64], mask: u64, to: Parties) {
