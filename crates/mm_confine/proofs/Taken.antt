@@ -40,8 +40,9 @@ module _ (i : Image) (kept : List Segment) where
 
   -- 2. A derived thread was taken up.
 
+  -- and it is not free
   abbrev FromTaken : Fact → Type 0
-  FromTaken (HasThread t) = TakenUp i kept t
+  FromTaken (HasThread t) = TakenUp i kept t × (is_free kept t ≡ false)
   FromTaken _ = Unit {0}
 
   lets_none : (f : Form) → AllByRecursion FromTaken (let_out kept f)
@@ -79,11 +80,11 @@ module _ (i : Image) (kept : List Segment) where
 
   takes_up : (t : Thread) → TakenUp i kept t → AllByRecursion FromTaken (take_up i kept t)
   unfolding take_up
-  takes_up t h = by (is_free kept t)
+  takes_up t h = by (is_free kept t) refl
     where
-      by : (b : Bool) → AllByRecursion FromTaken (if b then flat_map (let_out kept) t.forms ++ loose i kept t.origin else HasThread t ∷ [])
-      by true = each_join FromTaken (flat_map (let_out kept) t.forms) (loose i kept t.origin) (lets_all t.forms) (loose_none t.origin)
-      by false = (h, tt)
+      by : (b : Bool) → is_free kept t ≡ b → AllByRecursion FromTaken (if b then flat_map (let_out kept) t.forms ++ loose i kept t.origin else HasThread t ∷ [])
+      by true e = each_join FromTaken (flat_map (let_out kept) t.forms) (loose i kept t.origin) (lets_all t.forms) (loose_none t.origin)
+      by false e = ((h, e), tt)
 
   each_number : (P : Fact → Type 0) (f : ℕ → List Fact) → ((r : ℕ) → AllByRecursion P (f r)) → (rs : List ℕ) → AllByRecursion P (flat_map f rs)
   each_number P f h [] = tt
@@ -151,4 +152,7 @@ module _ (i : Image) (kept : List Segment) where
   derived_from (rule.writes_served t u h reg g d from c held) = tt
 
   pub derived_taken : (t : Thread) → Derived i kept (HasThread t) → TakenUp i kept t
-  derived_taken t d = derived_from d
+  derived_taken t d = (derived_from d).0
+
+  pub derived_bound : (t : Thread) → Derived i kept (HasThread t) → is_free kept t ≡ false
+  derived_bound t d = (derived_from d).1

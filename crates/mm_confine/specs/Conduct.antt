@@ -1,12 +1,12 @@
 -- What the kernel's threads do with the pointers of others, by the origin of the threads.
-use Rattle.std.specs.Prelude.{◌≡◌, ◌⊎◌, ℕ, Bool, true, false, List, Contains, Some}
+use Rattle.std.specs.Prelude.{◌≡◌, ℕ, ◌<◌, Bool, true, false, List, Contains, Some}
 use Rattle.mm_word.specs.declared.{perm.Perm.TheVariants.Key, word.Cell.Cell}
 use Rattle.mm_word.specs.Pointer.{Pointer as PointerValue}
-use Rattle.mm_model.specs.{Memory.cell_at, Slot.Slot, Image.Image}
+use Rattle.mm_model.specs.{Memory.cell_at, Image.Image}
 use Rattle.mm_kernel.specs.Segments.{Segment, is_kept, lies_in, is_door, is_open_pointer}
 use Rattle.mm_kernel.specs.declared.{fact.Leak.Leak, form.Form.{Form, TheVariants.{Pointer, Open, Any}}}
 use Rattle.mm_kernel.specs.declared.{outcome.Outcome.Outcome, thread.{Origin.{Origin, TheVariants.{Slot as OfSlot}}, Thread.Thread}}
-use Rattle.mm_kernel.specs.{Threads.{is_free, is_kernel}, Facts.Fact.HasThread, Turns.outcomes, Derived.Derived}
+use Rattle.mm_kernel.specs.{Threads.{form_in, is_free}, Facts.Fact.HasThread, Turns.outcomes, Derived.Derived}
 use Rattle.mm_confine.specs.Taken.{TakenUp}
 use Rattle.mm_kernel.specs.declared.fact.Leak.TheVariants as leak
 use Rattle.mm_kernel.specs.declared.outcome.Outcome.TheVariants as outcome
@@ -28,7 +28,7 @@ pub data HandsOn (q : PointerValue) : Form → Type 0 where
 -- a thread has a pointer: it runs by it, or has it in a register
 pub data HasExactly (t : Thread) (q : PointerValue) : Type 0 where
   runs_by : t.ip ≡ q → HasExactly t q
-  in_register : Contains t.forms (Pointer q) → HasExactly t q
+  in_register : (r : ℕ) → r < 16 → form_in t r ≡ Pointer q → HasExactly t q
 
 -- a pointer that a caller may have, and that is no door
 abbrev pub IsPlain : List Segment → PointerValue → Type 0
@@ -43,16 +43,14 @@ pub record ComesTo (i : Image) (kept : List Segment) (from : Origin) (o : Outcom
   pub origin : thread.origin ≡ from
   pub comes : Contains (outcomes i kept thread) o
 
--- a thread of an origin comes to be free, or leaves: it goes on as a caller, with these forms
-pub data GoesFree (i : Image) (kept : List Segment) (from : Origin) (forms : List Form) : Type 0 where
-  is_free_now : (t : Thread) → TakenUp i kept t → t.origin ≡ from → is_free kept t ≡ true → t.forms ≡ forms
-      → GoesFree i kept from forms
-  leaves : (linked : Thread) → ComesTo i kept from (outcome.Leaves linked) → linked.forms ≡ forms
-      → GoesFree i kept from forms
+-- a thread of an origin goes on as a caller: it comes to be free, or leaves
+pub data GoesOn (i : Image) (kept : List Segment) (from : Origin) (t : Thread) : Type 0 where
+  comes_free : TakenUp i kept t → t.origin ≡ from → is_free kept t ≡ true → GoesOn i kept from t
+  leaves : ComesTo i kept from (outcome.Leaves t) → GoesOn i kept from t
 
 -- the threads of an origin let a door out
 pub data LetsOut (i : Image) (kept : List Segment) (from : Origin) (d : PointerValue) : Type 0 where
-  by_going : (forms : List Form) → GoesFree i kept from forms → Contains forms (Pointer d) → LetsOut i kept from d
+  by_going : (t : Thread) (r : ℕ) → GoesOn i kept from t → r < 16 → form_in t r ≡ Pointer d → LetsOut i kept from d
   by_hand : (leak : Leak) → ComesTo i kept from (outcome.HandsOut (Pointer d) leak) → LetsOut i kept from d
 
 -- a thread of the first origin stores a form that carries to a kept word of the image's pages that a thread of the second

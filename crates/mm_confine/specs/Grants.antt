@@ -5,9 +5,8 @@ use Rattle.mm_word.specs.Pointer.{Pointer, IsBelow, enter_result}
 use Rattle.mm_model.specs.{Memory.cell_at, Slot.Slot, Image.Image, Reach.{LoadsAt, StoresAt}}
 use Rattle.mm_kernel.specs.{Segments.{Segment, is_kept, is_door}, Threads.is_kernel, Variants.is_caller}
 use Rattle.mm_kernel.specs.declared.thread.{Origin.{Origin, TheVariants.{Door, Slot as OfSlot}}, Thread.Thread}
-use Rattle.mm_kernel.specs.declared.form.Form.{Form}
 use Rattle.mm_confine.specs.Taken.{TakenUp}
-use Rattle.mm_confine.specs.Conduct.{HasExactly, IsPlain, GoesFree, LetsOut, PassesInside, StoresOut, GivesServed}
+use Rattle.mm_confine.specs.Conduct.{HasExactly, IsPlain, GoesOn, LetsOut, PassesInside, StoresOut, GivesServed}
 use Rattle.mm_confine.specs.Conduct.{SeesServed}
 
 -- 1. Parties.
@@ -93,6 +92,6 @@ pub data Granted (i : Image) (kept : List Segment) : Line → Type 0 where
   given : (n : ℕ) (x : Party) (q : Pointer) → Granted i kept (Holds (KernelSlot n) q) → Serves i kept n x
       → GivesServed i kept n q → Granted i kept (Holds x q)
   -- a slot of the kernel goes on as a caller of its group
-  freed : (s : Slot) (q : Pointer) (forms : List Form) → Contains i.slots s
-      → Granted i kept (Holds (KernelSlot s.number) q) → GoesFree i kept (OfSlot s.number) forms
+  freed : (s : Slot) (q : Pointer) (t : Thread) → Contains i.slots s
+      → Granted i kept (Holds (KernelSlot s.number) q) → GoesOn i kept (OfSlot s.number) t
       → Granted i kept (Holds (Group s.group) q)
