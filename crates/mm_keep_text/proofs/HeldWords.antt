@@ -1,5 +1,5 @@
 -- The kept words of pages, and the words that threads fetch.
-use Rattle.std.proofs.Common.{◌≡◌, ◌⊎◌, inl, inr, ℕ, ◌+◌, ◌*◌, ◌/◌, ◌%◌, ◌^◌, ◌<◌, Bool, true, false, if◌then◌else◌, List, [], ◌∷◌, ◌++◌}
+use Rattle.std.proofs.Common.{◌≡◌, ◌⊎◌, inl, inr, ℕ, ◌+◌, ◌*◌, ◌<◌, Bool, true, false, if◌then◌else◌, List, [], ◌∷◌, ◌++◌}
 use Rattle.std.proofs.Common.{length, take, get_or, Option, Some, None, is_some, refl, sym, ap, ◌∙◌, subst, arith, eqb-true, append-nil}
 use Rattle.std.proofs.lemmas.Bool.{cases_lt}
 use Rattle.std.specs.{Prelude.Contains, List.{AllByRecursion, filter}, Ordering.{nat_cmp, eq_by_cmp}, Cmp.unsigned_tied}
@@ -9,10 +9,10 @@ use Rattle.mm_model.specs.{Memory.{cell_at, page_of, place_of, IsPaged}, Image.I
 use Rattle.mm_model.proofs.Memories.{aligned, page_of_cell, page_whole}
 use Rattle.mm_kernel.specs.{Segments.{Segment, is_kept}, declared.thread.Thread.Thread, Derived.Fetches}
 use Rattle.mm_span.specs.Spans.{Span, AreSpans, IsWord}
-use Rattle.mm_span.proofs.{Members.{none_in, in_first, in_rest, all_at, all_of, in_filter, filter_in}, Runs.spans_alike}
+use Rattle.mm_span.proofs.{Members.{in_first, in_rest, all_at, all_of, in_filter, filter_in}, Runs.spans_alike}
 use Rattle.mm_keep_text.specs.Parts.{AreAll, IsHeld, IsHeldIn, InPages, SomeFetches, covers, IsIn}
 use Rattle.mm_keep_text.proofs.Uses.{one_fetch}
-use Rattle.mm_keep_text.proofs.Sets.{word_added, all_as, all_same, all_then, all_more, take_item, got_old, got_new, got_cases}
+use Rattle.mm_keep_text.proofs.Sets.{word_added, all_as, all_then, all_more, take_item, got_old, got_new, got_cases}
 
 -- 1. Kept words.
 

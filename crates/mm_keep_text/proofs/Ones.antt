@@ -1,18 +1,19 @@
 -- The answer is determined by the image, its kept segments and the limit.
-use Rattle.std.proofs.Common.{◌≡◌, ◌⊎◌, inl, inr, ℕ, zero, suc, ◌<◌, ◌≤◌, true, false, List, [], ◌∷◌, ◌++◌, map, length}
-use Rattle.std.proofs.Common.{Option, Some, slice_get, refl, sym, ap, ◌∙◌, subst, arith}
+use Rattle.std.proofs.Common.{◌≡◌, ◌⊎◌, inl, inr, ℕ, zero, suc, ◌≤◌, true, false, List, [], ◌∷◌, ◌++◌, map, length}
+use Rattle.std.proofs.Common.{Option, Some, Result, Ok, Err, IfOk, slice_get, refl, sym, ap, ◌∙◌, subst, arith}
 use Rattle.std.proofs.lemmas.{Option.{slice_get_within, get_or_from_slice_get}, Cmp.nat_list_cmp_total}
 use Rattle.std.specs.declared.cmp.Ordering.{Ordering, TheVariants.{Less, Equal, Greater}}
-use Rattle.std.specs.{Prelude.{Contains, ◌↔◌}, List.{AllByRecursion, AllZip}, Ordering.{is_lt, nat_cmp}, Cmp.Lexicographic.slice_cmp}
-use Rattle.mm_model.specs.Image.{Image}
+use Rattle.std.specs.{Prelude.{Contains}, List.{AllByRecursion, AllZip}, Ordering.{is_lt, nat_cmp}, Cmp.Lexicographic.slice_cmp}
+use Rattle.mm_model.specs.{Image.Image, Spelling.IsImage}
 use Rattle.mm_kernel.specs.Segments.{Segment, is_user}
 use Rattle.mm_kernel.specs.declared.thread.{Origin.{Origin, TheVariants.{Door, Slot as OfSlot}}}
 use Rattle.mm_kernel.specs.{Derived.IsCode, Uses.{IsUsed, Reads, Writes, HasMore, HasAtMost}}
+use Rattle.mm_kernel.proofs.Runs.{kernels_keep}
 use Rattle.mm_span.proofs.{Members.{none_in, in_first, in_rest, in_cases, all_at}, Ones.spans_one}
 use Rattle.mm_keep_text.specs.declared.told.Answer.{Answer, TheVariants.{Privileged, More, Found}}
 use Rattle.mm_keep_text.specs.Keys.{pointer_key, cell_key, leak_key, Ascend}
 use Rattle.mm_keep_text.specs.{Told.{Party, Told}, Answers.{IsParty, IsTold, IsAnswer, kernel_slots, answer_text, told_text}}
-use Rattle.mm_keep_text.specs.Laws.{AnswersAreOne, YesKeeps}
+use Rattle.mm_keep_text.specs.Laws.{AnswersAreOne, YesKeeps, KeepsIfYes}
 
 -- 1. No more distinct elements than a list has, if each is in it.
 
@@ -176,3 +177,13 @@ yes_keeps i kept limit told h none = record {
   user = h.0;
   no_leak = λ leak derived. none_in leak (subst (λ l. Contains l leak) none ((h.2.leaks leak).1 derived));
 }
+
+-- what an answer means
+pub kept_by : (i : Image) (kept : List Segment) (limit : ℕ) (answer : Answer) → IsImage i → IsAnswer i kept limit answer → KeepsIfYes i kept answer
+kept_by i kept limit (Found told) spelled is none j items also variant = kernels_keep i j kept items spelled also (yes_keeps i kept limit told is none) variant
+kept_by i kept limit answer spelled is none j items also variant = absurd none
+
+pub kept_if_made : {E : Type 0} (i : Image) (kept : List Segment) (limit : ℕ) (r : Result Answer E) → IfOk r (IsAnswer i kept limit) → IsImage i
+    → IfOk r (KeepsIfYes i kept)
+kept_if_made i kept limit (Ok answer) is spelled = kept_by i kept limit answer spelled is
+kept_if_made i kept limit (Err e) is spelled = tt

@@ -1,11 +1,11 @@
 -- Sets that grow key by key, and lists of which more is taken.
-use Rattle.std.proofs.Common.{◌≡◌, ◌⊎◌, inl, inr, ℕ, ◌+◌, ◌<◌, List, [], ◌∷◌, ◌++◌, length, take, get_or, Option, Some, slice_get, refl}
+use Rattle.std.proofs.Common.{◌≡◌, ◌⊎◌, inl, inr, ℕ, ◌+◌, ◌<◌, List, [], ◌∷◌, ◌++◌, length, take, get_or, Some, slice_get, refl}
 use Rattle.std.proofs.Common.{Result, Ok, Err, sym, ap, ◌∙◌, subst}
 use Rattle.std.proofs.lemmas.{Option.{slice_get_within, get_or_from_slice_get}, List.take_more}
 use Rattle.std.proofs.lemmas.List.Elements.{Contains-append_left, Contains-push, Contains-push_cases}
 use Rattle.std.proofs.lemmas.Map.Lookups.{CmpEqualImpliesEq, exact_pairs, exact_unsigned}
 use Rattle.std.specs.declared.cmp.Ordering.{Ordering, TheVariants.{Less, Equal, Greater}}
-use Rattle.std.specs.{Prelude.{Contains, OnOk, ◌↔◌}, Ordering.{match_ordering, nat_cmp, ordering_then}, BTreeSet.insert_key}
+use Rattle.std.specs.{Prelude.{Contains, OnOk}, Ordering.{match_ordering, nat_cmp, ordering_then}, BTreeSet.insert_key}
 use Rattle.mm_span.proofs.Members.{none_in, in_first, in_rest, in_cases}
 use Rattle.mm_keep_text.specs.Parts.{AreAll, Use, order}
 

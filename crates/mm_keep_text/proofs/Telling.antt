@@ -1,22 +1,22 @@
 -- What is told is what is derived.
-use Rattle.std.proofs.Common.{◌≡◌, ◌⊎◌, inl, inr, ℕ, ◌≤◌, Bool, true, false, cond, if◌then◌else◌, List, [], ◌∷◌, ◌++◌, map, length}
-use Rattle.std.proofs.Common.{refl, ap, sym, ◌∙◌, subst}
+use Rattle.std.proofs.Common.{◌≡◌, inl, inr, ℕ, Bool, true, false, cond, if◌then◌else◌, List, [], ◌∷◌, ◌++◌, map}
+use Rattle.std.proofs.Common.{refl, ap, subst}
 use Rattle.std.specs.{Prelude.{Contains, ◌↔◌}, List.{AllZip, filter, flat_map}}
 use Rattle.mm_word.specs.Pointer.{Pointer as PointerValue}
 use Rattle.mm_model.specs.{Slot.Slot, Image.Image}
-use Rattle.mm_kernel.specs.Segments.{Segment, is_user}
+use Rattle.mm_kernel.specs.Segments.{Segment}
 use Rattle.mm_kernel.specs.declared.{fact.Leak.Leak, form.Form.Form}
 use Rattle.mm_kernel.specs.declared.thread.{Origin.{Origin, TheVariants.{Door, Slot as OfSlot}}}
 use Rattle.mm_kernel.specs.{Facts.Fact.{HasThread, HasForm, HasDoor, HasLeak}, Derived.{HasFirst, IsCode}}
-use Rattle.mm_kernel.specs.Uses.{IsUsed, Reads, Writes, HasMore, HasAtMost}
+use Rattle.mm_kernel.specs.Uses.{IsUsed, Reads, Writes}
 use Rattle.mm_kernel.specs.Threads.{is_kernel_slot}
 use Rattle.mm_keep.specs.{Claims.Tables, Searching.IsExact}
 use Rattle.mm_span.specs.Spans.{Span, AreSpans}
 use Rattle.mm_span.proofs.Runs.{spans_alike}
-use Rattle.mm_keep_text.specs.declared.{finding.Used.Used, told.Answer.{Answer, TheVariants.{More, Found}}}
+use Rattle.mm_keep_text.specs.declared.{finding.Used.Used}
 use Rattle.mm_keep_text.specs.Keys.{pointer_key, cell_key, leak_key, Ascend}
-use Rattle.mm_keep_text.specs.{Told.{Party, Told}, Answers.{IsParty, IsTold, IsAnswer, kernel_slots}}
-use Rattle.mm_keep_text.specs.{Parts.{origin_numbers, origin_from, Use, SomeFetches, IsIn, ReadsPart, WritesPart}, Used.{IsUsing, slot_origins}}
+use Rattle.mm_keep_text.specs.{Told.{Party}, Answers.{IsParty, IsTold, kernel_slots}}
+use Rattle.mm_keep_text.specs.{Parts.{origin_numbers, origin_from, SomeFetches, IsIn, ReadsPart, WritesPart}, Used.{IsUsing, slot_origins}}
 use Rattle.mm_keep_text.proofs.Uses.{used_to, used_back, reads_say, writes_say}
 
 module _ (i : Image) (kept : List Segment) (tables : Tables) (exact : IsExact i kept tables) where
@@ -69,12 +69,6 @@ module _ (i : Image) (kept : List Segment) (tables : Tables) (exact : IsExact i 
     leaks_ascend = leaks_up;
     leaks = λ l. (λ h. exact.sound (HasLeak l) ((each_leak l).0 h), λ d. (each_leak l).1 (exact.whole (HasLeak l) d));
   }
-
--- the answer for a kernel of which all was found
-pub found_is : (i : Image) (kept : List Segment) (limit : ℕ) (tables : Tables) → IsExact i kept tables → length tables.threads ≤ limit
-    → is_user i ≡ true → (told : Told) → IsTold i kept told → IsAnswer i kept limit (Found told)
-found_is i kept limit tables exact few user told h =
-    (user, record { threads = tables.threads; whole = λ t d. exact.whole (HasThread t) d; few = few }, h)
 
 abbrev number_of : Slot → ℕ
 number_of s = s.number

@@ -1,7 +1,7 @@
 -- The parts that threads use, and the words that these cover.
-use Rattle.std.proofs.Common.{◌≡◌, ◌⊎◌, inl, inr, ℕ, ◌+◌, ◌/◌, ◌%◌, ◌<◌, ◌==◌, Bool, true, false, ◌||◌, List, [], ◌∷◌, ◌++◌, length, take, get_or}
+use Rattle.std.proofs.Common.{◌≡◌, ◌⊎◌, inl, inr, ℕ, ◌+◌, ◌/◌, ◌%◌, ◌<◌, Bool, true, false, ◌||◌, List, [], ◌∷◌, ◌++◌, length, take, get_or}
 use Rattle.std.proofs.Common.{refl, sym, ap, ◌∙◌, subst, arith, eqb-true, eq-eqb}
-use Rattle.std.specs.{Prelude.{Contains, ◌↔◌}, List.list_any, BTreeSet.insert_key}
+use Rattle.std.specs.{Prelude.{Contains, ◌↔◌}, BTreeSet.insert_key}
 use Rattle.mm_model.specs.Image.{Image}
 use Rattle.mm_model.proofs.Memories.{aligned}
 use Rattle.mm_kernel.specs.Segments.{Segment, lies_in}

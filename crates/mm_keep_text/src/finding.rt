@@ -3,10 +3,12 @@
 ghost use Rattle.std.specs.Prelude.{◌≡◌, ◌++◌, true, IfOk, OnOk, map};
 ghost use Rattle.std.specs.List.{AllZip, list_any};
 ghost use Rattle.mm_word.specs.Pointer.{Pointer as PointerValue};
+ghost use Rattle.mm_model.specs.Spelling.{IsImage};
 ghost use Rattle.mm_kernel.specs.Segments.{is_user, runs_privileged};
 ghost use Rattle.mm_kernel.specs.declared.thread.Origin.TheVariants.{Door, Slot as OfSlot};
 ghost use Rattle.mm_keep.specs.Searching.{IsExact};
 ghost use Rattle.mm_keep_text.specs.Answers.{IsAnswer, IsParty, IsTold, kernel_slots};
+ghost use Rattle.mm_keep_text.specs.Laws.{KeepsIfYes};
 ghost use Rattle.mm_keep_text.specs.Used.{IsUsing, slot_origins};
 
 use crate::lists::{cells, doors, leaks};
@@ -191,7 +193,8 @@ fn answer(alloc: Global, kernel: &Kernel, threads: u32) -> Result<Answer, NoMemo
 ///
 /// The kept segments are each a base and the base-2 logarithm of a length.
 pub fn keeps(alloc: Global, image: &Image, threads: u32, kept: &[Part]) -> Result<Answer, NoMemory>
-    ensures { IfOk result (λ answer. IsAnswer image.now kept.now threads answer) }
+    ensures is { IfOk result (λ answer. IsAnswer image.now kept.now threads answer) }
+    ensures holds { IsImage image.now → IfOk result (λ answer. KeepsIfYes image.now kept.now answer) }
 {
     if !is_user(alloc, image)? {
         return Ok(Answer::Privileged);

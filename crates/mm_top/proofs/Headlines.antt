@@ -1,18 +1,17 @@
 -- The headline, from what the answer to the words says.
 use Rattle.std.{proofs.Common.{◌≡◌, ℕ, Bool, List, [], ◌∷◌, ◌++◌, Option, sym, subst}, specs.Io.KnownBytes.append_known}
 use Rattle.mm_model.specs.{declared.counts.Counts.Counts, Uses.Use, Groups.HasSlot, Image.{Image, start}}
-use Rattle.mm_model.specs.{Reach.Entries.All, Report.report_after, Run.{run as run_from, uses}, Spelling.IsImage, State.State}
+use Rattle.mm_model.specs.{Reach.Entries.All, Report.report_after, Run.uses, Spelling.IsImage, State.State}
 use Rattle.mm_model.specs.{Trace.{trace as trace_of}, Worlds.Apart}
 use Rattle.mm_laws.{specs.Runs.Isolates, proofs.WholeRuns.{runs_reach, runs_isolate}}
-use Rattle.mm_kernel.{specs.{Segments.Segment, Variants.Variant, Laws.StateKept}, proofs.Runs.kernels_keep}
-use Rattle.mm_keep_text.specs.declared.told.Answer.{Answer, TheVariants.Found}
-use Rattle.mm_keep_text.{specs.Answers.IsAnswer, proofs.Ones.yes_keeps}
+use Rattle.mm_kernel.specs.Segments.{Segment}
+use Rattle.mm_keep_text.proofs.Ones.{kept_by}
 use Rattle.mm_load.specs.{declared.status.Status.{Status, TheVariants.Done}, Files.FilesAccepted}
 use Rattle.mm_load.specs.Kinds.{Value, an_image}
 use Rattle.mm_cli.{specs.Table.{Row, Matches, files_of}, proofs.Rows.one_row}
 use Rattle.mm_log.{proofs.Logs.logs_replay, specs.Log.log_text}
 use Rattle.mm_top.specs.{Commands.{run, trace, log, keeps}, Answers.{Answers, Call, RowComesTo, write}}
-use Rattle.mm_top.specs.{Headline.{RunIsProved, LogIsProved, KeepsIsProved, IsYes, no_turns}, Orders.AreIssued}
+use Rattle.mm_top.specs.{Headline.{RunIsProved, LogIsProved, KeepsIsProved, no_turns}, Orders.AreIssued}
 use Rattle.mm_top.proofs.{TracedSections.traces_isolate, LoggedSections.logs_isolate, Verdicts.done}
 
 -- 1. What is proved of a command, from what its row comes to.
@@ -61,12 +60,6 @@ module _ (tells : List Use → Option Counts) (held : List ℕ → Option (List 
       }
   log_proved ([], accepted, writes) = absurd writes
   log_proved (v ∷ lists, accepted, writes) = absurd (assumption (accepted, writes))
-
--- a kernel keeps its segments if the answer is yes
-kept_by : (i : Image) (kept : List Segment) (threads : ℕ) (answer : Answer) → IsImage i → IsAnswer i kept threads answer → IsYes answer
-    → (j : Image) (items : List ℕ) → IsImage j → Variant i kept j → StateKept i kept j (run_from (start j) items)
-kept_by i kept threads (Found told) spelled is none j items also variant = kernels_keep i j kept items spelled also (yes_keeps i kept threads told is none) variant
-kept_by i kept threads answer spelled is none j items also variant = absurd none
 
 keeps_proved : (tells : List Use → Option Counts) (held : List ℕ → Option (List ℕ)) (left : Option (List ℕ)) (image : List ℕ) (threads : ℕ) (kept : List Segment) (text : List ℕ)
     → RowComesTo tells held left (keeps image threads kept) (write text) → KeepsIsProved held image threads kept text

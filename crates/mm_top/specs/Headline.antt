@@ -1,14 +1,14 @@
 -- The headline: what is proved of every run, trace, log and look at a kernel that is done.
 use Rattle.std.specs.Prelude.{◌≡◌, ◌++◌, ◌∷◌, [], ℕ, Bool, List, Option}
 use Rattle.mm_model.specs.{declared.counts.Counts.Counts, Uses.Use, Image.{Image, start}, State.State, Groups.HasSlot}
-use Rattle.mm_model.specs.{Reach.Entries.All, Worlds.Apart, Report.report_after, Run.run, Spelling.IsImage}
+use Rattle.mm_model.specs.{Reach.Entries.All, Worlds.Apart, Report.report_after}
 use Rattle.mm_laws.specs.Runs.{Reaches, Isolates}
 use Rattle.mm_cli.specs.Table.{Row, files_of}
 use Rattle.mm_load.specs.{Kinds.{Value, an_image}, Files.FilesAccepted}
 use Rattle.mm_log.specs.{Log.log_text, Laws.Replays}
-use Rattle.mm_kernel.specs.{Segments.Segment, Variants.Variant, Laws.StateKept}
-use Rattle.mm_keep_text.specs.declared.told.Answer.{Answer, TheVariants.Found}
-use Rattle.mm_keep_text.specs.Answers.{IsAnswer, answer_text}
+use Rattle.mm_kernel.specs.Segments.{Segment}
+use Rattle.mm_keep_text.specs.declared.told.Answer.{Answer}
+use Rattle.mm_keep_text.specs.{Answers.{IsAnswer, answer_text}, Laws.KeepsIfYes}
 use Rattle.mm_top.specs.{Commands.{log, keeps}, Orders.AreIssued}
 
 -- What a command that is done did, if it runs an image and writes a report. `turns` is the text that it writes before
@@ -44,11 +44,6 @@ pub record LogIsProved (tells : List Use → Option Counts) (held : List ℕ →
   -- the number of cycles.
   pub replays : (front later : List ℕ) → runs.items ≡ front ++ later → Replays runs.i front later
 
--- the answer is yes: all that the kernel can come to was found, and there is no leak
-abbrev pub IsYes : Answer → Type 0
-IsYes (Found told) = told.leaks ≡ []
-IsYes _ = ⊥
-
 -- What a `keeps` that is done did.
 pub record KeepsIsProved (held : List ℕ → Option (List ℕ)) (image : List ℕ) (threads : ℕ) (kept : List Segment)
     (written : List ℕ) : Type 0 where
@@ -58,7 +53,5 @@ pub record KeepsIsProved (held : List ℕ → Option (List ℕ)) (image : List �
   pub answer : Answer
   pub is : IsAnswer i kept threads answer
   pub writes : written ≡ answer_text answer
-  -- If the answer is yes, the kernel keeps its segments after every list of items, in every variant of the image:
-  -- whatever code and words its callers have.
-  pub holds : IsYes answer → (j : Image) (items : List ℕ) → IsImage j → Variant i kept j
-      → StateKept i kept j (run (start j) items)
+  -- If the answer is yes, the kernel keeps its segments in every run of every variant of the image.
+  pub holds : KeepsIfYes i kept answer

@@ -1,4 +1,4 @@
-use Rattle.std.proofs.Common.{◌≡◌, ◌≤◌, ℕ, List, ◌∷◌, length, take, ap, sym, ◌∙◌, subst, arith}
+use Rattle.std.proofs.Common.{◌≤◌, length, take, ap, sym, ◌∙◌, subst, arith}
 use Rattle.std.proofs.lemmas.{List.take_all, Iterator.items_from_collect}
 use Rattle.std.proofs.lemmas.Iterator.Consumers.{YieldsList-from_copied, YieldsList-at, YieldsList-from_rest}
 use Rattle.std.specs.{Prelude.Contains, Map.values_of}

@@ -1,11 +1,11 @@
-use Rattle.std.proofs.Common.{◌≡◌, ◌≤◌, ℕ, List, ◌∷◌, length, take, ap, sym, ◌∙◌, subst, arith}
+use Rattle.std.proofs.Common.{◌≡◌, ◌≤◌, ℕ, ◌∷◌, length, take, ap, sym, ◌∙◌, subst, arith}
 use Rattle.std.proofs.lemmas.{List.take_all, Iterator.items_from_collect}
 use Rattle.std.proofs.lemmas.Iterator.Consumers.{YieldsList-from_copied, YieldsList-at, YieldsList-from_rest}
 use Rattle.std.specs.{Prelude.Contains, Map.values_of}
 use Rattle.mm_keep_text.specs.Keys.{leak_key, leak_from}
 use Rattle.mm_keep_text.proofs.Listing.{Lists, listed_got, listed_whole, listed_ascend}
 use Rattle.mm_kernel.specs.declared.form.Form.{Form}
-use Rattle.mm_keep_text.specs.Keys.{form_key, leak_by, leak_form, leak_place}
+use Rattle.mm_keep_text.specs.Keys.{form_key, leak_by, leak_form}
 use Rattle.mm_keep_text.proofs.lists.leaks.Goals as goal
 
 pub loop-k-preserved : goal.loop-k-preserved

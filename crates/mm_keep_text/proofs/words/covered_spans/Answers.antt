@@ -1,9 +1,9 @@
-use Rattle.std.proofs.Common.{◌≡◌, ◌<◌, List, ℕ, [], sym, subst}
-use Rattle.std.{proofs.lemmas.Map.Iter.rest_all, specs.{Prelude.{Contains, IfOk}, Map.Iter.deref, List.{AllByRecursion, filter}}}
-use Rattle.mm_span.specs.{Pairs.EachPair, Spans.{IsWord, AreSpans}}
+use Rattle.std.proofs.Common.{◌≡◌, ◌<◌, [], sym, subst}
+use Rattle.std.{proofs.lemmas.Map.Iter.rest_all, specs.{Map.Iter.deref, List.{AllByRecursion}}}
+use Rattle.mm_span.specs.{Pairs.EachPair, Spans.{IsWord}}
 use Rattle.mm_span.proofs.Members.{pairs_filter}
 use Rattle.mm_span.proofs.Built.{rises}
-use Rattle.mm_keep_text.{specs.Parts.{covers, IsIn}, proofs.HeldWords.{covered_so_far, covered_words, covered_are}}
+use Rattle.mm_keep_text.{specs.Parts.{covers}, proofs.HeldWords.{covered_so_far, covered_words, covered_are}}
 use Rattle.mm_keep_text.proofs.words.covered_spans.Goals as goal
 
 pub finish-requires-clause-ascending : goal.finish-requires-clause-ascending

@@ -1,4 +1,4 @@
-use Rattle.std.proofs.Common.{◌≡◌, ◌⊎◌, take, ap, ◌∙◌, subst}
+use Rattle.std.proofs.Common.{◌⊎◌, ap, ◌∙◌, subst}
 use Rattle.std.{proofs.lemmas.List.take_all, specs.Prelude.Contains}
 use Rattle.mm_model.specs.{Image.Image, Memory.IsPaged}
 use Rattle.mm_keep_text.specs.Parts.{AreAll, IsHeldIn, InPages}

@@ -1,4 +1,4 @@
-use Rattle.std.proofs.Common.{◌≡◌, ◌⊎◌, refl, sym, subst}
+use Rattle.std.proofs.Common.{◌⊎◌, refl, sym, subst}
 use Rattle.std.specs.{Prelude.Contains, List.AllByRecursion}
 use Rattle.mm_kernel.specs.Derived.{Fetches}
 use Rattle.mm_span.specs.Spans.{IsWord}

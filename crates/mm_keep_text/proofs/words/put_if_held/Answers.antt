@@ -1,7 +1,7 @@
 use Rattle.std.proofs.Common.{◌≡◌, ◌⊎◌, ap, sym, ◌∙◌, subst}
 use Rattle.std.specs.Prelude.{Contains}
 use Rattle.mm_model.specs.{Image.Image, Memory.cell_at}
-use Rattle.mm_kernel.specs.Segments.{Segment, is_kept}
+use Rattle.mm_kernel.specs.Segments.{is_kept}
 use Rattle.mm_keep_text.{specs.Parts.{AreAll, IsHeld}, proofs.HeldWords.{held_by, held_added}}
 use Rattle.mm_keep_text.proofs.words.put_if_held.Goals as goal
 
