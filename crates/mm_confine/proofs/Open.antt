@@ -1,12 +1,12 @@
 -- Each pointer that a party holds is one that callers may share, if the kernel keeps its segments.
-use Rattle.std.proofs.Common.{◌≡◌, ℕ, ◌<◌, ◌⊎◌, inl, inr, Bool, true, false, if◌then◌else◌, List, [], ◌∷◌, ◌++◌}
+use Rattle.std.proofs.Common.{◌≡◌, ℕ, ◌<◌, ◌⊎◌, inl, inr, Bool, true, false, ◌&&◌, if◌then◌else◌, List, [], ◌∷◌, ◌++◌}
 use Rattle.std.proofs.Common.{refl, sym, ap, ◌∙◌, subst}
 use Rattle.std.specs.{Prelude.Contains, List.{AllByRecursion, flat_map, range_with_len}}
 use Rattle.mm_word.specs.declared.perm.Perm.{Perm, TheVariants.{Ro, Rw, Xu, Xp, Eu, Ep, Key}}
 use Rattle.mm_word.specs.{declared.word.Word.{Word, TheVariants.Ptr}, Perm.can_become}
 use Rattle.mm_word.specs.Pointer.{Pointer, IsBelow}
 use Rattle.mm_model.{specs.{Image.Image, Spelling.IsImage}, proofs.CoreRows.each_contained}
-use Rattle.mm_kernel.specs.Segments.{Segment, is_door, is_open, meets, runs_privileged}
+use Rattle.mm_kernel.specs.Segments.{Segment, is_door, is_enter, is_open, is_open_as, is_open_pointer, meets, runs_privileged}
 use Rattle.mm_kernel.specs.declared.{form.Form.{Form, TheVariants.{Pointer as Exactly}}, thread.{Origin.Origin, Thread.Thread}}
 use Rattle.mm_kernel.specs.declared.fact.Leak.TheVariants.{Jump}
 use Rattle.mm_kernel.specs.Facts.{Fact, let_out, hand_out, loose, Fact.HasDoor}
@@ -19,8 +19,10 @@ use Rattle.mm_kernel.proofs.Runs.{caller_any}
 use Rattle.mm_confine.specs.Conduct.{GoesOn, GoesOn.{comes_free, leaves}, LetsOut, LetsOut.{by_going, by_hand}, ComesTo}
 use Rattle.mm_confine.specs.Grants.{Granted, Line, Line.{Holds, Runs}}
 use Rattle.mm_confine.proofs.Taken.{taken_derived}
-use Rattle.mm_kernel.specs.Derived.Derived as derives
-use Rattle.mm_confine.specs.Grants.Granted as rule
+use Rattle.mm_kernel.specs.Derived.Derived.{turns}
+use Rattle.mm_confine.specs.Grants.Granted.{runs_itself, runs_through, in_register, runs_by, in_cell, below, passed}
+use Rattle.mm_confine.specs.Grants.Granted.{entered as by_entry, served, has_exactly, lets_out, kept_for, seen, given}
+use Rattle.mm_confine.specs.Grants.Granted.{freed}
 use Rattle.mm_kernel.specs.declared.outcome.Outcome.TheVariants as outcome
 
 -- 1. A pointer below one that is shared is shared.
@@ -74,7 +76,7 @@ module _ (i : Image) (kept : List Segment) (img : IsImage i) (ks : Keeps i kept)
       by (inl h) e = free_form i kept t h r
       by (inr b) e = let no = b.not_free in absurd (cc)
   going_public from t r (leaves c) lt =
-      let facts = each_from (Derived i kept) (outcome_facts i kept c.thread (outcome.Leaves t)) (λ fact k. derives.turns c.thread (outcome.Leaves t) c.derived c.comes k) in
+      let facts = each_from (Derived i kept) (outcome_facts i kept c.thread (outcome.Leaves t)) (λ fact k. turns c.thread (outcome.Leaves t) c.derived c.comes k) in
       let parts = each_split (Derived i kept) (flat_map (register_left kept t) (range_with_len 0 16)) (loose i kept t.origin) facts in
       let regs = each_unflat (Derived i kept) (register_left kept t) (range_with_len 0 16) parts.0 in
       handed_out i kept ks (form_in t r) (Jump t.ip.addr r (form_in t r)) (each_register (λ (x : ℕ). AllByRecursion (Derived i kept) (register_left kept t x)) regs r lt)
@@ -83,7 +85,7 @@ module _ (i : Image) (kept : List Segment) (img : IsImage i) (ks : Keeps i kept)
   door_out from d is (by_going t r going lt e) =
       door_derived d is (subst (λ (f : Form). AllByRecursion (Derived i kept) (let_out kept f)) e (going_public from t r going lt).out)
   door_out from d is (by_hand leak c) =
-      let facts = each_from (Derived i kept) (hand_out kept (Exactly d) leak) (λ fact k. derives.turns c.thread (outcome.HandsOut (Exactly d) leak) c.derived c.comes k) in
+      let facts = each_from (Derived i kept) (hand_out kept (Exactly d) leak) (λ fact k. turns c.thread (outcome.HandsOut (Exactly d) leak) c.derived c.comes k) in
       door_derived d is (handed_out i kept ks (Exactly d) leak facts).out
 
   -- 3. What parties hold.
@@ -96,7 +98,7 @@ module _ (i : Image) (kept : List Segment) (img : IsImage i) (ks : Keeps i kept)
   unfolding is_door is_open
   door_open d e = by d.perm refl e
     where
-      by : (perm : Perm) → d.perm ≡ perm → (Rattle.mm_kernel.specs.Segments.is_enter perm Rattle.std.specs.Prelude.&& meets kept d) ≡ true → Rattle.mm_kernel.specs.Segments.is_open_as perm (meets kept d) ≡ true
+      by : (perm : Perm) → d.perm ≡ perm → (is_enter perm && meets kept d) ≡ true → is_open_as perm (meets kept d) ≡ true
       by Eu at k = refl
       by Ro at k = cc
       by Rw at k = cc
@@ -105,29 +107,29 @@ module _ (i : Image) (kept : List Segment) (img : IsImage i) (ks : Keeps i kept)
       by Ep at k = cc
       by Key at k = cc
 
+  open_plain : (q : Pointer) → is_open_pointer kept q ≡ true → is_open kept (Ptr q) ≡ true
+  unfolding is_open
+  open_plain q e = e
+
   pub lines_ok : {line : Line} → Granted i kept line → LineOk line
-  lines_ok (rule.runs_itself n e) = tt
-  lines_ok (rule.runs_through g d h e) = tt
-  lines_ok (rule.in_register s q among caller k) = each_contained (IsShared i kept) s.regs (Ptr q) (caller_any i kept img ks s among caller).registers k
-  lines_ok (rule.runs_by s among caller) =
+  lines_ok (runs_itself n e) = tt
+  lines_ok (runs_through g d h e) = tt
+  lines_ok (in_register s q among caller k) = each_contained (IsShared i kept) s.regs (Ptr q) (caller_any i kept img ks s among caller).registers k
+  lines_ok (runs_by s among caller) =
       let any = caller_any i kept img ks s among caller in
       shared_outside i kept s.ip any.outside (ap runs_privileged any.executable)
-  lines_ok (rule.in_cell x p q w c h load out at is) = subst (IsShared i kept) is (cell_shared i kept ks w c at out)
-  lines_ok (rule.below x p q h b) = shared_below i kept p q b (lines_ok h)
-  lines_ok (rule.passed y x q p r w h on hp st hr ld) = lines_ok h
-  lines_ok (rule.entered x p q h eu none e) =
+  lines_ok (in_cell x p q w c h load out at is) = subst (IsShared i kept) is (cell_shared i kept ks w c at out)
+  lines_ok (below x p q h b) = shared_below i kept p q b (lines_ok h)
+  lines_ok (passed y x q p r w h on hp st hr ld) = lines_ok h
+  lines_ok (by_entry x p q h eu none e) =
       let s : IsShared i kept (Ptr p) = lines_ok h in
       let to = entered p q (open_is_user kept p s.open_word) e in
       shared_outside i kept q (entered_outside kept p q s.open_word none to) (ap runs_privileged (entered_perm p q to))
-  lines_ok (rule.served h g q held by) = lines_ok held
-  lines_ok (rule.has_exactly x from q t runs up same has plain) =
+  lines_ok (served h g q held by) = lines_ok held
+  lines_ok (has_exactly x from q t runs up same has plain) =
       record { open_word = open_plain q plain.0; door = λ e. let no = plain.1 in absurd (cc) }
-    where
-      open_plain : (q : Pointer) → Rattle.mm_kernel.specs.Segments.is_open_pointer kept q ≡ true → is_open kept (Ptr q) ≡ true
-      unfolding is_open
-      open_plain q e = e
-  lines_ok (rule.lets_out x from d runs is out) = record { open_word = door_open d is; door = λ e. door_out from d is out }
-  lines_ok (rule.kept_for y x from to q held runs pass to_runs) = lines_ok held
-  lines_ok (rule.seen n y q held serves sees) = lines_ok held
-  lines_ok (rule.given n x q held serves gives) = lines_ok held
-  lines_ok (rule.freed s q t among held going) = lines_ok held
+  lines_ok (lets_out x from d runs is out) = record { open_word = door_open d is; door = λ e. door_out from d is out }
+  lines_ok (kept_for y x from to q held runs pass to_runs) = lines_ok held
+  lines_ok (seen n y q held serves sees) = lines_ok held
+  lines_ok (given n x q held serves gives) = lines_ok held
+  lines_ok (freed s q t among held going) = lines_ok held

@@ -4,39 +4,42 @@ use Rattle.std.specs.{Prelude.Contains, List.{AllByRecursion, flat_map, range_wi
 use Rattle.mm_word.specs.Pointer.{Pointer}
 use Rattle.mm_word.specs.declared.word.Word.{Word}
 use Rattle.mm_model.{specs.Image.Image, proofs.CoreRows.{each_map, each_contained}}
-use Rattle.mm_kernel.specs.Segments.{Segment, is_kept, is_door, meets}
+use Rattle.mm_kernel.specs.Segments.{Segment, is_kept, is_fixed, is_door, meets}
 use Rattle.mm_kernel.specs.declared.fact.{Leak.{Leak, TheVariants.{Loose, FaultPointer, Fault, Jump, Cell as InCell}}}
 use Rattle.mm_kernel.specs.declared.{form.Form.{Form}, outcome.Outcome.Outcome}
 use Rattle.mm_kernel.specs.declared.form.Form.TheVariants.{Number, Pointer as Exactly, Integer, Open, Any, Inside}
 use Rattle.mm_kernel.specs.declared.thread.Handler.{Handler, TheVariants.{Nobody, Kernel, Caller}}
 use Rattle.mm_kernel.specs.declared.thread.{Origin.{Origin, TheVariants.{Door, Slot as OfSlot}}, Thread.Thread}
-use Rattle.mm_kernel.specs.{Forms.{exactly, is_open_form}, Turns.with_event}
+use Rattle.mm_kernel.specs.{Forms.{exactly, is_open_form}, Turns.{outcomes, with_event}}
 use Rattle.mm_kernel.specs.Threads.{form_in, with_form, handler_of, own_thread, thread_through, is_free, is_kernel, serves_some}
 use Rattle.mm_kernel.specs.Facts.{Fact, let_out, hand_out, loose, take_up}
 use Rattle.mm_kernel.specs.Facts.Fact.{HasThread, HasForm, HasDoor, HasEvent, HasFaulted, HasLeak}
 use Rattle.mm_kernel.specs.Derived.{Derived, cell_facts, first_form, outcome_facts, fault_facts, shown, register_shown, register_left}
-use Rattle.mm_kernel.specs.Derived.Derived as rule
+use Rattle.mm_kernel.specs.Derived.Derived.{begins_in_cell as by_cell, begins_in_slot as by_slot, reaches as by_reach}
+use Rattle.mm_kernel.specs.Derived.Derived.{enters as by_door, turns as by_turn, loads as by_load, stores as by_store}
+use Rattle.mm_kernel.specs.Derived.Derived.{takes as by_event, resumes as by_resume, reads_served as by_read}
+use Rattle.mm_kernel.specs.Derived.Derived.{writes_served as by_write}
 use Rattle.mm_kernel.proofs.Ups.{Up, each_from, each_join, each_flat}
 use Rattle.mm_confine.specs.Taken.{TakenUp}
-use Rattle.mm_confine.specs.Taken.TakenUp as taken
+use Rattle.mm_confine.specs.Taken.TakenUp.{begins, enters, goes, loads, takes, resumes, reads_served}
 use Rattle.mm_kernel.specs.declared.outcome.Outcome.TheVariants as outcome
 
 module _ (i : Image) (kept : List Segment) where
   -- 1. What follows from a thread that is taken up is derived.
 
   pub taken_derived : {t : Thread} → TakenUp i kept t → Up i kept t
-  taken_derived (taken.begins s c) = each_from (Derived i kept) (take_up i kept (own_thread i kept s)) (λ fact k. rule.begins_in_slot s c k)
-  taken_derived (taken.enters door ip s d e c) =
-      each_from (Derived i kept) (take_up i kept (thread_through door ip (handler_of i kept s.handler))) (λ fact k. rule.enters door ip s d e c k)
-  taken_derived (taken.goes {next = next} t d c) = each_from (Derived i kept) (take_up i kept next) (λ fact k. rule.turns t (outcome.Goes next) d c k)
-  taken_derived (taken.loads t next part reg w f d c held inside) =
-      each_from (Derived i kept) (take_up i kept (with_form next reg f)) (λ fact k. rule.loads t next part reg w f d c held inside k)
-  taken_derived (taken.takes t next h reg e d from c held) =
-      each_from (Derived i kept) (take_up i kept (with_event next reg e.ip e.address e.value)) (λ fact k. rule.takes t next h reg e d from c held k)
-  taken_derived (taken.resumes {next = next} t u h how d from c held among) =
-      each_from (Derived i kept) (take_up i kept next) (λ fact k. rule.resumes t u next h how d from c held among k)
-  taken_derived (taken.reads_served t u next h reg from d own c held) =
-      each_from (Derived i kept) (take_up i kept (with_form next reg (form_in u from))) (λ fact k. rule.reads_served t u next h reg from d own c held k)
+  taken_derived (begins s c) = each_from (Derived i kept) (take_up i kept (own_thread i kept s)) (λ fact k. by_slot s c k)
+  taken_derived (enters door ip s d e c) =
+      each_from (Derived i kept) (take_up i kept (thread_through door ip (handler_of i kept s.handler))) (λ fact k. by_door door ip s d e c k)
+  taken_derived (goes {next = next} t d c) = each_from (Derived i kept) (take_up i kept next) (λ fact k. by_turn t (outcome.Goes next) d c k)
+  taken_derived (loads t next part reg w f d c held inside) =
+      each_from (Derived i kept) (take_up i kept (with_form next reg f)) (λ fact k. by_load t next part reg w f d c held inside k)
+  taken_derived (takes t next h reg e d from c held) =
+      each_from (Derived i kept) (take_up i kept (with_event next reg e.ip e.address e.value)) (λ fact k. by_event t next h reg e d from c held k)
+  taken_derived (resumes {next = next} t u h how d from c held among) =
+      each_from (Derived i kept) (take_up i kept next) (λ fact k. by_resume t u next h how d from c held among k)
+  taken_derived (reads_served t u next h reg from d own c held) =
+      each_from (Derived i kept) (take_up i kept (with_form next reg (form_in u from))) (λ fact k. by_read t u next h reg from d own c held k)
 
   -- 2. A derived thread was taken up.
 
@@ -108,8 +111,8 @@ module _ (i : Image) (kept : List Segment) where
   faults_none t (Kernel n) a v = (tt, (tt, tt))
   faults_none t Caller a v = shown_none t
 
-  outcome_from : (t : Thread) (o : Outcome) → Derived i kept (HasThread t) → Contains (Rattle.mm_kernel.specs.Turns.outcomes i kept t) o → AllByRecursion FromTaken (outcome_facts i kept t o)
-  outcome_from t (outcome.Goes next) d c = takes_up next (taken.goes t d c)
+  outcome_from : (t : Thread) (o : Outcome) → Derived i kept (HasThread t) → Contains (outcomes i kept t) o → AllByRecursion FromTaken (outcome_facts i kept t o)
+  outcome_from t (outcome.Goes next) d c = takes_up next (goes t d c)
   outcome_from t (outcome.Loads part reg next) d c = tt
   outcome_from t (outcome.Stores part f) d c = tt
   outcome_from t (outcome.HandsOut form leak) d c = hands_none form leak
@@ -126,30 +129,30 @@ module _ (i : Image) (kept : List Segment) where
   cell_from : (w : ℕ) (word : Word) → AllByRecursion FromTaken (cell_facts i kept w word)
   cell_from w word = by (is_kept kept w)
     where
-      by : (b : Bool) → AllByRecursion FromTaken (if b then HasForm w (first_form (Rattle.mm_kernel.specs.Segments.is_fixed i w) word) ∷ [] else hand_out kept (exactly word) (InCell w (exactly word)))
+      by : (b : Bool) → AllByRecursion FromTaken (if b then HasForm w (first_form (is_fixed i w) word) ∷ [] else hand_out kept (exactly word) (InCell w (exactly word)))
       by true = (tt, tt)
       by false = hands_none (exactly word) (InCell w (exactly word))
 
   derived_from : {fact : Fact} → Derived i kept fact → FromTaken fact
-  derived_from (rule.begins_in_cell {fact = f} w c at k) = each_contained FromTaken (cell_facts i kept w c.word) f (cell_from w c.word) k
-  derived_from (rule.begins_in_slot {fact = f} s among k) = each_contained FromTaken (take_up i kept (own_thread i kept s)) f (takes_up (own_thread i kept s) (taken.begins s among)) k
-  derived_from (rule.reaches p c e) = tt
-  derived_from (rule.enters {fact = f} door ip s d e among k) =
+  derived_from (by_cell {fact = f} w c at k) = each_contained FromTaken (cell_facts i kept w c.word) f (cell_from w c.word) k
+  derived_from (by_slot {fact = f} s among k) = each_contained FromTaken (take_up i kept (own_thread i kept s)) f (takes_up (own_thread i kept s) (begins s among)) k
+  derived_from (by_reach p c e) = tt
+  derived_from (by_door {fact = f} door ip s d e among k) =
       let t : Thread = thread_through door ip (handler_of i kept s.handler) in
-      each_contained FromTaken (take_up i kept t) f (takes_up t (taken.enters door ip s d e among)) k
-  derived_from (rule.turns {fact = f} t o d c k) = each_contained FromTaken (outcome_facts i kept t o) f (outcome_from t o d c) k
-  derived_from (rule.loads {fact = f} t next part reg w g d c held inside k) =
-      each_contained FromTaken (take_up i kept (with_form next reg g)) f (takes_up (with_form next reg g) (taken.loads t next part reg w g d c held inside)) k
-  derived_from (rule.stores t part w c g d among at is inside) = tt
-  derived_from (rule.takes {fact = f} t next h reg e d from c held k) =
+      each_contained FromTaken (take_up i kept t) f (takes_up t (enters door ip s d e among)) k
+  derived_from (by_turn {fact = f} t o d c k) = each_contained FromTaken (outcome_facts i kept t o) f (outcome_from t o d c) k
+  derived_from (by_load {fact = f} t next part reg w g d c held inside k) =
+      each_contained FromTaken (take_up i kept (with_form next reg g)) f (takes_up (with_form next reg g) (loads t next part reg w g d c held inside)) k
+  derived_from (by_store t part w c g d among at is inside) = tt
+  derived_from (by_event {fact = f} t next h reg e d from c held k) =
       each_contained FromTaken (take_up i kept (with_event next reg e.ip e.address e.value)) f
-      (takes_up (with_event next reg e.ip e.address e.value) (taken.takes t next h reg e d from c held)) k
-  derived_from (rule.resumes {fact = f} t u next h how d from c held among k) =
-      each_contained FromTaken (take_up i kept next) f (takes_up next (taken.resumes t u h how d from c held among)) k
-  derived_from (rule.reads_served {fact = f} t u next h reg from d own c held k) =
+      (takes_up (with_event next reg e.ip e.address e.value) (takes t next h reg e d from c held)) k
+  derived_from (by_resume {fact = f} t u next h how d from c held among k) =
+      each_contained FromTaken (take_up i kept next) f (takes_up next (resumes t u h how d from c held among)) k
+  derived_from (by_read {fact = f} t u next h reg from d own c held k) =
       each_contained FromTaken (take_up i kept (with_form next reg (form_in u from))) f
-      (takes_up (with_form next reg (form_in u from)) (taken.reads_served t u next h reg from d own c held)) k
-  derived_from (rule.writes_served t u h reg g d from c held) = tt
+      (takes_up (with_form next reg (form_in u from)) (reads_served t u next h reg from d own c held)) k
+  derived_from (by_write t u h reg g d from c held) = tt
 
   pub derived_taken : (t : Thread) → Derived i kept (HasThread t) → TakenUp i kept t
   derived_taken t d = (derived_from d).0

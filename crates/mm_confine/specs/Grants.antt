@@ -5,16 +5,11 @@ use Rattle.mm_word.specs.Pointer.{Pointer, IsBelow, enter_result}
 use Rattle.mm_model.specs.{Memory.cell_at, Slot.Slot, Image.Image, Reach.{LoadsAt, StoresAt}}
 use Rattle.mm_kernel.specs.{Segments.{Segment, is_kept, is_door}, Threads.is_kernel, Variants.is_caller}
 use Rattle.mm_kernel.specs.declared.thread.{Origin.{Origin, TheVariants.{Door, Slot as OfSlot}}, Thread.Thread}
-use Rattle.mm_confine.specs.Taken.{TakenUp}
+use Rattle.mm_confine.specs.{declared.party.Party.{Party, TheVariants.{Group, KernelSlot}}, Taken.TakenUp}
 use Rattle.mm_confine.specs.Conduct.{HasExactly, IsPlain, GoesOn, LetsOut, PassesInside, StoresOut, GivesServed}
 use Rattle.mm_confine.specs.Conduct.{SeesServed}
 
 -- 1. Parties.
-
--- who holds pointers: the callers of a group, and each slot of the kernel by itself
-pub data Party : Type 0 where
-  Group : (number : ℕ) → Party
-  KernelSlot : (number : ℕ) → Party
 
 -- a slot is of a party: of its group's callers, or by itself if it is one of the kernel
 pub data IsOf (i : Image) (kept : List Segment) (s : Slot) : Party → Type 0 where

@@ -8,7 +8,7 @@ use Rattle.mm_model.specs.Audit.{Verdict, Verdict.{Yes, Handler, Writer}}
 use Rattle.mm_kernel.specs.{Segments.{Segment, is_kept, is_door}, Threads.{is_kernel, is_kernel_slot}}
 use Rattle.mm_kernel.specs.declared.thread.Origin.{Origin, TheVariants.{Door, Slot as OfSlot}}
 use Rattle.mm_kernel.specs.Uses.{IsUsed, Reads, Writes}
-use Rattle.mm_confine.specs.Grants.{Granted, Party.{Group, KernelSlot}, Line.Holds}
+use Rattle.mm_confine.specs.{declared.party.Party.TheVariants.{Group, KernelSlot}, Grants.{Granted, Line.Holds}}
 
 -- 1. Pointers.
 
