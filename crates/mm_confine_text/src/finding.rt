@@ -1,7 +1,7 @@
 //! What a kernel keeps, and what each group can reach.
 
 use crate::kept::{Group, Kept, Reach};
-use mm_hold::holdings;
+use mm_hold::hold;
 use mm_image::{Image, has_group};
 use mm_keep::{Kernel, Tables, find, is_kernel_slot};
 use mm_keep_text::{Answer, Told, is_user, tell};
@@ -69,7 +69,7 @@ fn reach_if(
         return Ok(None);
     }
     let groups = groups_in(alloc, kernel)?;
-    let holdings = holdings(alloc, kernel, tables)?;
+    let holdings = hold(alloc, kernel, tables)?;
     Ok(Some(Reach { groups, holdings }))
 }
 

@@ -90,7 +90,7 @@ fn holdings_by(alloc: Global, kernel: &Kernel, conduct: &Conduct) -> Result<Hold
 }
 
 /// What each group can reach, with a kernel that keeps its segments and of which all was found.
-pub fn holdings(alloc: Global, kernel: &Kernel, tables: &Tables) -> Result<Holdings, NoMemory> {
+pub fn hold(alloc: Global, kernel: &Kernel, tables: &Tables) -> Result<Holdings, NoMemory> {
     let first = first_forms(alloc, kernel)?;
     let conduct = conduct_of(alloc, kernel, tables, &first)?;
     drop(first);

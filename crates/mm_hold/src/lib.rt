@@ -27,4 +27,4 @@ mod parties;
 mod rounds;
 mod sharing;
 
-pub use holdings::{Holdings, holdings};
+pub use holdings::{Holdings, hold};
