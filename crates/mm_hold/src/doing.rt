@@ -48,7 +48,15 @@ fn put_load(
         ++ loaded kernel.now.kept findings.now.first findings.now.tables.stored part reg next.now)) }
 {
     put_loaded_words(deeds, findings.carrying, origin, part)?;
-    put_loaded(deeds, kernel, findings.tables, findings.first, part, reg, next)
+    put_loaded(
+        deeds,
+        kernel,
+        findings.tables,
+        findings.first,
+        part,
+        reg,
+        next,
+    )
 }
 
 /// Appends what taking an event does.

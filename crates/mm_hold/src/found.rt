@@ -1,12 +1,11 @@
 //! The pointers of an image that parties may come to hold, and their keys.
 
+use crate::going::Held;
 use mm_graph::{CanonicalPtr, Found, Seed, standing_in};
 use mm_keep::{Kernel, first_form, is_door, is_kept, is_kernel_slot, runs};
 use mm_model::{Page, Slot};
 use mm_word::{Cell, NoMemory, Word};
 use std::alloc::Global;
-
-use crate::going::Held;
 
 /// The key of the pointer that stands for all that can be made of this one; `None` if that permits nothing. A door
 /// stands for itself.
@@ -60,7 +59,12 @@ pub fn found_in(alloc: Global, kernel: &Kernel) -> Result<Vec<Found>, NoMemory> 
 }
 
 /// Adds the form that a word of a page has from the start, if it is kept.
-fn add_first(first: &mut Vec<Held>, kernel: &Kernel, word: u64, held: Word) -> Result<(), NoMemory> {
+fn add_first(
+    first: &mut Vec<Held>,
+    kernel: &Kernel,
+    word: u64,
+    held: Word,
+) -> Result<(), NoMemory> {
     if is_kept(kernel.kept(), word) {
         first.push((word, first_form(kernel, word, held)))?;
     }
@@ -88,12 +92,7 @@ pub fn first_forms(alloc: Global, kernel: &Kernel) -> Result<Vec<Held>, NoMemory
 }
 
 /// Adds the pointer of a word that a group's caller has.
-fn add_word(
-    seeds: &mut Vec<Seed>,
-    kernel: &Kernel,
-    group: u8,
-    word: Word,
-) -> Result<(), NoMemory> {
+fn add_word(seeds: &mut Vec<Seed>, kernel: &Kernel, group: u8, word: Word) -> Result<(), NoMemory> {
     if let Some(key) = key_in(kernel, word) {
         seeds.push(Seed { group, key })?;
     }

@@ -170,7 +170,11 @@ fn put_read(
         ≡ deeds.old.items ++ read kernel.now.kept origin.now reg from next.now served.now) }
 {
     if comes_from(origin, served.0) {
-        put_taken(deeds, kernel, &with_form(next, reg, form_at(&served.1, from)))
+        put_taken(
+            deeds,
+            kernel,
+            &with_form(next, reg, form_at(&served.1, from)),
+        )
     } else {
         Ok(())
     }
@@ -199,12 +203,7 @@ pub fn put_reads(
 // 3. Threads that are resumed.
 
 /// Appends that a faulted thread is taken up as its handler resumes it.
-fn put_resumed(
-    deeds: &mut Vec<Deed>,
-    kernel: &Kernel,
-    u: &Thread,
-    how: How,
-) -> Result<(), NoMemory>
+fn put_resumed(deeds: &mut Vec<Deed>, kernel: &Kernel, u: &Thread, how: How) -> Result<(), NoMemory>
     ensures { OnOk result (deeds.new.items
         ≡ deeds.old.items ++ flat_map (taken kernel.now.kept) (resumed how u.now)) }
 {

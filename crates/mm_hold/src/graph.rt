@@ -3,9 +3,7 @@
 use crate::conduct::Conduct;
 use crate::found::{callers, found_in, key_in};
 use mm_flow::Node;
-use mm_graph::{
-    CanonicalPtr, Found, Seed, find, keys_and_targets, marks_of, nodes_of, parents_of,
-};
+use mm_graph::{CanonicalPtr, Found, Seed, find, keys_and_targets, marks_of, nodes_of, parents_of};
 use mm_keep::{Kernel, is_door};
 use mm_word::{GuardedPtr, NoMemory, Word};
 use std::alloc::Global;
@@ -79,7 +77,11 @@ fn all_seeds(alloc: Global, one: &[Seed], other: &[Seed]) -> Result<Vec<Seed>, N
 }
 
 /// For each key the mask of the groups that enter by it without the kernel: all, but none by a door.
-fn entry_masks(alloc: Global, kernel: &Kernel, keys: &[CanonicalPtr]) -> Result<Vec<u64>, NoMemory> {
+fn entry_masks(
+    alloc: Global,
+    kernel: &Kernel,
+    keys: &[CanonicalPtr],
+) -> Result<Vec<u64>, NoMemory> {
     let mut masks = Vec::new(alloc);
     for key in keys {
         let mask = if is_door(kernel.kept(), key.pointer()) {

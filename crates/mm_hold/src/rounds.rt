@@ -28,10 +28,7 @@ fn give_behind(marks: &mut Marks, behind: &[Behind]) -> bool {
     let mut changed = false;
     for (door, node) in behind {
         let groups = marks.groups[*door];
-        let parties = Parties {
-            groups,
-            slots: 0,
-        };
+        let parties = Parties { groups, slots: 0 };
         if marks.give(*node, parties) {
             changed = true;
         }

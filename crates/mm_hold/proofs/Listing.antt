@@ -1,0 +1,17 @@
+-- Lists that grow by what each element of another list gives.
+use Rattle.std.proofs.Common.{◌≡◌, ℕ, ◌+◌, ◌<◌, ◌≤◌, List, [], ◌∷◌, ◌++◌, length, take, get_or, Some, refl, sym, ap, ◌∙◌, arith}
+use Rattle.std.proofs.Common.{slice_get}
+use Rattle.std.proofs.lemmas.{List.{flat_map_more, take_all, take_more}, Option.{slice_get_within, get_or_from_slice_get}}
+use Rattle.std.specs.List.{flat_map}
+
+module _ {X A : Type 0} (f : X → List A) (old : List A) (xs : List X) (k : ℕ) where
+  -- with the element at the next index
+  pub put_more : (now new : List A) (x : X) → slice_get xs k ≡ Some x → now ≡ old ++ flat_map f (take k xs) → new ≡ now ++ f x
+      → new ≡ old ++ flat_map f (take (k + 1) xs)
+  put_more now new x at was is =
+      is ∙ ap (λ l. l ++ f x) was ∙ flat_map_more f old (take k xs) x
+      ∙ ap (λ l. old ++ flat_map f l) (sym (take_more xs k x (slice_get_within xs k x at) ∙ ap (λ y. take k xs ++ y ∷ []) (get_or_from_slice_get xs k x x at)))
+
+  -- with all elements
+  pub put_all : (new : List A) → length xs ≤ k → new ≡ old ++ flat_map f (take k xs) → new ≡ old ++ flat_map f xs
+  put_all new le is = is ∙ ap (λ l. old ++ flat_map f l) (take_all xs k le)
