@@ -14,4 +14,4 @@ module _ {X A : Type 0} (f : X → List A) (old : List A) (xs : List X) (k : ℕ
 
   -- with all elements
   pub put_all : (new : List A) → length xs ≤ k → new ≡ old ++ flat_map f (take k xs) → new ≡ old ++ flat_map f xs
-  put_all new le is = is ∙ ap (λ l. old ++ flat_map f l) (take_all xs k le)
+  put_all new le is = is ∙ ap (λ l. old ++ flat_map f l) (take_all k xs le)

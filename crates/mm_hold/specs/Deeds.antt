@@ -79,10 +79,10 @@ handed_out kept origin form _ = door_in kept origin form
 -- 4. Kept words that get a form that carries.
 
 abbrev pub used_in : (ℕ → Origin → Deed) → Origin → Segment → ℕ → List Deed
-used_in use origin part w = if lies_in w part then use w origin ∷ [] else []
+used_in make origin part w = if lies_in w part then make w origin ∷ [] else []
 
 abbrev pub used : (ℕ → Origin → Deed) → Origin → Segment → List ℕ → List Deed
-used use origin part words = flat_map (used_in use origin part) words
+used make origin part words = flat_map (used_in make origin part) words
 
 abbrev pub stored_in : List ℕ → Origin → Segment → Form → List Deed
 stored_in carrying origin part form = if carries form then used deed.Stored origin part carrying else []

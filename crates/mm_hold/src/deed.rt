@@ -1,7 +1,9 @@
 //! What threads do with the pointers of others.
 
+ghost use Rattle.std.specs.Prelude.{◌≡◌, ◌++◌, ◌∷◌, [], if◌then◌else◌, OnOk};
+
 use mm_kernel::Origin;
-use mm_word::GuardedPtr;
+use mm_word::{GuardedPtr, NoMemory};
 
 /// Something that threads of the kernel do with pointers of others.
 #[derive(Clone, Copy)]
@@ -24,4 +26,14 @@ pub enum Deed {
     Sees(u8),
     /// Threads of a slot go on as callers.
     GoesOn(u8),
+}
+
+/// Appends a deed, if there is one.
+pub fn put_if(deeds: &mut Vec<Deed>, done: bool, deed: Deed) -> Result<(), NoMemory>
+    ensures { OnOk result (deeds.new.items ≡ deeds.old.items ++ (if done then deed ∷ [] else [])) }
+{
+    if done {
+        deeds.push(deed)?;
+    }
+    Ok(())
 }

@@ -8,7 +8,7 @@ ghost use Rattle.mm_hold.specs.Deeds.{carried, door_deeds, plain_deeds, sees, ta
 ghost use Rattle.mm_hold.specs.declared.deed.Deed.TheVariants.{Gives as AllGiven, Given as OneGiven};
 ghost use Rattle.mm_hold.specs.declared.deed.Deed.TheVariants.{Sends as AllSent, Sent as OneSent};
 
-use crate::deed::Deed;
+use crate::deed::{Deed, put_if};
 use mm_keep::{Kernel, is_door, is_open_pointer};
 use mm_kernel::{Form, Leak, Origin, Part, Thread};
 use mm_word::{GuardedPtr, NoMemory, Perm};
@@ -185,14 +185,9 @@ fn put_sent(deeds: &mut Vec<Deed>, slot: u8, form: &Form) -> Result<(), NoMemory
     ensures { OnOk result (deeds.new.items ≡ deeds.old.items ++ handed_by AllSent OneSent slot form.now) }
 {
     match *form {
-        Form::Pointer(p) => deeds.push(Deed::Sent(slot, p))?,
-        _ => {
-            if carries(form) {
-                deeds.push(Deed::Sends(slot))?;
-            }
-        }
+        Form::Pointer(p) => put_if(deeds, true, Deed::Sent(slot, p)),
+        _ => put_if(deeds, carries(form), Deed::Sends(slot)),
     }
-    Ok(())
 }
 
 /// Appends that a thread stores a form to a word that is not kept, if the thread is a slot's.
@@ -232,14 +227,9 @@ fn put_given(deeds: &mut Vec<Deed>, slot: u8, form: &Form) -> Result<(), NoMemor
     ensures { OnOk result (deeds.new.items ≡ deeds.old.items ++ handed_by AllGiven OneGiven slot form.now) }
 {
     match *form {
-        Form::Pointer(p) => deeds.push(Deed::Given(slot, p))?,
-        _ => {
-            if carries(form) {
-                deeds.push(Deed::Gives(slot))?;
-            }
-        }
+        Form::Pointer(p) => put_if(deeds, true, Deed::Given(slot, p)),
+        _ => put_if(deeds, carries(form), Deed::Gives(slot)),
     }
-    Ok(())
 }
 
 /// Appends that a thread writes a form into a register of what its slot serves.
