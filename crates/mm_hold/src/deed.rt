@@ -1,9 +1,7 @@
 //! What threads do with the pointers of others.
 
-ghost use Rattle.std.specs.Prelude.{◌≡◌, ◌++◌, ◌∷◌, [], if◌then◌else◌, OnOk};
-
 use mm_kernel::Origin;
-use mm_word::{GuardedPtr, NoMemory};
+use mm_word::GuardedPtr;
 
 /// Something that threads of the kernel do with pointers of others.
 #[derive(Clone, Copy)]
@@ -26,14 +24,4 @@ pub enum Deed {
     Sees(u8),
     /// Threads of a slot go on as callers.
     GoesOn(u8),
-}
-
-/// Appends a deed, if there is one.
-pub fn put_if(deeds: &mut Vec<Deed>, done: bool, deed: Deed) -> Result<(), NoMemory>
-    ensures { OnOk result (deeds.new.items ≡ deeds.old.items ++ (if done then deed ∷ [] else [])) }
-{
-    if done {
-        deeds.push(deed)?;
-    }
-    Ok(())
 }

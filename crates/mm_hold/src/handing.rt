@@ -3,12 +3,12 @@
 ghost use Rattle.std.specs.List.{flat_map};
 ghost use Rattle.std.specs.Prelude.{◌≡◌, ◌++◌, OnOk};
 ghost use Rattle.mm_confine.specs.Conduct.{carries};
-ghost use Rattle.mm_hold.specs.Deeds.{door_in, goes_on, had, handed, handed_by, handed_out, is_plain, left, plain_in};
+ghost use Rattle.mm_hold.specs.Deeds.{door_in, goes_on, had, handed, handed_out, is_plain, left, plain_in};
 ghost use Rattle.mm_hold.specs.Deeds.{carried, door_deeds, plain_deeds, sees, taken};
 ghost use Rattle.mm_hold.specs.declared.deed.Deed.TheVariants.{Gives as AllGiven, Given as OneGiven};
 ghost use Rattle.mm_hold.specs.declared.deed.Deed.TheVariants.{Sends as AllSent, Sent as OneSent};
 
-use crate::deed::{Deed, put_if};
+use crate::deed::Deed;
 use mm_keep::{Kernel, is_door, is_open_pointer};
 use mm_kernel::{Form, Leak, Origin, Part, Thread};
 use mm_word::{GuardedPtr, NoMemory, Perm};
@@ -180,23 +180,23 @@ pub fn put_taken(deeds: &mut Vec<Deed>, kernel: &Kernel, t: &Thread) -> Result<(
 
 // 3. What is handed on.
 
-/// Appends that a slot's threads store a form to a word that is not kept.
-fn put_sent(deeds: &mut Vec<Deed>, slot: u8, form: &Form) -> Result<(), NoMemory>
-    ensures { OnOk result (deeds.new.items ≡ deeds.old.items ++ handed_by AllSent OneSent slot form.now) }
-{
-    match *form {
-        Form::Pointer(p) => put_if(deeds, true, Deed::Sent(slot, p)),
-        _ => put_if(deeds, carries(form), Deed::Sends(slot)),
-    }
-}
-
 /// Appends that a thread stores a form to a word that is not kept, if the thread is a slot's.
 fn put_stored_out(deeds: &mut Vec<Deed>, origin: &Origin, form: &Form) -> Result<(), NoMemory>
     ensures { OnOk result (deeds.new.items ≡ deeds.old.items ++ handed AllSent OneSent origin.now form.now) }
 {
     match *origin {
         Origin::Door(_) => Ok(()),
-        Origin::Slot(slot) => put_sent(deeds, slot, form),
+        Origin::Slot(slot) => {
+            match *form {
+                Form::Pointer(p) => deeds.push(Deed::Sent(slot, p))?,
+                _ => {
+                    if carries(form) {
+                        deeds.push(Deed::Sends(slot))?;
+                    }
+                }
+            }
+            Ok(())
+        }
     }
 }
 
@@ -222,23 +222,23 @@ pub fn put_handed_out(
     }
 }
 
-/// Appends that a slot's threads write a form into a register of what the slot serves.
-fn put_given(deeds: &mut Vec<Deed>, slot: u8, form: &Form) -> Result<(), NoMemory>
-    ensures { OnOk result (deeds.new.items ≡ deeds.old.items ++ handed_by AllGiven OneGiven slot form.now) }
-{
-    match *form {
-        Form::Pointer(p) => put_if(deeds, true, Deed::Given(slot, p)),
-        _ => put_if(deeds, carries(form), Deed::Gives(slot)),
-    }
-}
-
 /// Appends that a thread writes a form into a register of what its slot serves.
 pub fn put_written(deeds: &mut Vec<Deed>, origin: &Origin, form: &Form) -> Result<(), NoMemory>
     ensures { OnOk result (deeds.new.items ≡ deeds.old.items ++ handed AllGiven OneGiven origin.now form.now) }
 {
     match *origin {
         Origin::Door(_) => Ok(()),
-        Origin::Slot(slot) => put_given(deeds, slot, form),
+        Origin::Slot(slot) => {
+            match *form {
+                Form::Pointer(p) => deeds.push(Deed::Given(slot, p))?,
+                _ => {
+                    if carries(form) {
+                        deeds.push(Deed::Gives(slot))?;
+                    }
+                }
+            }
+            Ok(())
+        }
     }
 }
 
