@@ -1,6 +1,6 @@
 -- Lists that grow by what each element of another list gives.
 use Rattle.std.proofs.Common.{◌≡◌, ℕ, ◌+◌, ◌<◌, ◌≤◌, List, [], ◌∷◌, ◌++◌, length, take, get_or, Some, refl, sym, ap, ◌∙◌, arith}
-use Rattle.std.proofs.Common.{slice_get}
+use Rattle.std.proofs.Common.{slice_get, Bool, true, false, if◌then◌else◌}
 use Rattle.std.proofs.lemmas.{List.{flat_map_more, take_all, take_more}, Option.{slice_get_within, get_or_from_slice_get}}
 use Rattle.std.specs.List.{flat_map}
 
@@ -15,3 +15,8 @@ module _ {X A : Type 0} (f : X → List A) (old : List A) (xs : List X) (k : ℕ
   -- with all elements
   pub put_all : (new : List A) → length xs ≤ k → new ≡ old ++ flat_map f (take k xs) → new ≡ old ++ flat_map f xs
   put_all new le is = is ∙ ap (λ l. old ++ flat_map f l) (take_all k xs le)
+
+-- with what is given on a condition that holds
+pub put_when : {A : Type 0} (b : Bool) (new old more : List A) → b ≡ true → new ≡ old ++ more → new ≡ old ++ (if b then more else [])
+put_when true new old more e is = is
+put_when false new old more e is = cc
