@@ -43,7 +43,7 @@ pub record GroupText (i : Image) (kept : List Segment) (g : ℕ) (text : List �
   pub judged : Judged i kept g verdict
   pub is : text
       ≡ group_line g ++ flat_map door_line doors ++ flat_map slot_line (slots_of_kernel i kept g)
-          ++ flat_map (segment_line Touch) touch ++ flat_map (segment_line Write) write ++ apart_line (g ∷ []) verdict
+      ++ flat_map (segment_line Touch) touch ++ flat_map (segment_line Write) write ++ apart_line (g ∷ []) verdict
 
 -- the texts of these groups
 pub data GroupTexts (i : Image) (kept : List Segment) : List ℕ → List ℕ → Type 0 where

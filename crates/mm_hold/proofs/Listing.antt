@@ -20,3 +20,10 @@ module _ {X A : Type 0} (f : X → List A) (old : List A) (xs : List X) (k : ℕ
 pub put_when : {A : Type 0} (b : Bool) (new old more : List A) → b ≡ true → new ≡ old ++ more → new ≡ old ++ (if b then more else [])
 put_when true new old more e is = is
 put_when false new old more e is = cc
+
+-- with the element at the next index, of a slice
+pub put_next : {X A : Type 0} (f : X → List A) (old : List A) (xs : List X) (k : ℕ) (now new : List A) (x : X) → k < length xs → x ≡ get_or xs k x
+    → now ≡ old ++ flat_map f (take k xs) → new ≡ now ++ f x → new ≡ old ++ flat_map f (take (k + 1) xs)
+put_next f old xs k now new x lt at was is =
+    is ∙ ap (λ l. l ++ f x) was ∙ flat_map_more f old (take k xs) x
+    ∙ ap (λ l. old ++ flat_map f l) (sym (take_more xs k x lt ∙ ap (λ y. take k xs ++ y ∷ []) (sym at)))
