@@ -204,7 +204,7 @@ module _ (i : Image) (kept : List Segment) (img : IsImage i) (ks : Keeps i kept)
   words_shared [] h = tt
   words_shared (w ∷ ws) h = (public_shared i kept (exactly w) w h.0 (holds_exactly i kept w), words_shared ws h.1)
 
-  caller_any : (s : Slot) → Contains i.slots s → is_caller kept s ≡ true → IsAnyCaller i kept s
+  pub caller_any : (s : Slot) → Contains i.slots s → is_caller kept s ≡ true → IsAnyCaller i kept s
   unfolding is_free
   caller_any s c e =
       let open_s = caller_open s e in

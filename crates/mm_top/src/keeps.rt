@@ -7,9 +7,9 @@ ghost use Rattle.mm_top.specs.Commands.{YieldsAlone};
 ghost use Rattle.mm_top.specs.Answers.{CommandEnds, EndsWith, writing};
 
 use mm_cli::{Command, Word, name_at, number_at, segments_at};
+use mm_confine_text::write_keeps;
 use mm_image::Image;
 use mm_io::{Files, Sink};
-use mm_keep_text::write_keeps;
 use mm_kernel::Part;
 use mm_load::{CommandError, ended, load_file};
 use std::alloc::Global;
@@ -40,6 +40,6 @@ fn write_kept<O: Sink>(
 ) -> Result<(), CommandError>
     ensures { EndsWith (writing O.taken O.faults out.old out.new) (Says image.now kept.now threads) result }
 {
-    let answer = mm_keep_text::keeps(alloc, image, threads, kept)?;
-    ended(write_keeps(&answer, out))
+    let found = mm_confine_text::keeps(alloc, image, threads, kept)?;
+    ended(write_keeps(&found, out))
 }

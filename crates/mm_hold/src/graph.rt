@@ -1,0 +1,211 @@
+//! The graph of the pointers that parties may come to hold.
+
+use crate::conduct::Conduct;
+use crate::found::{callers, found_in, key_in};
+use mm_flow::Node;
+use mm_graph::{CanonicalPtr, Found, Seed, find, keys_and_targets, marks_of, nodes_of, parents_of};
+use mm_keep::{Kernel, is_door};
+use mm_word::{GuardedPtr, NoMemory, Word};
+use std::alloc::Global;
+use std::collections::BTreeSet;
+
+/// The graph of the pointers that parties may come to hold: a node for each, and edges by which who holds one holds
+/// another.
+#[derive(Drop)]
+pub struct Graph {
+    /// The pointers of the nodes, in their order.
+    pub keys: Vec<CanonicalPtr>,
+    pub nodes: Vec<Node>,
+    /// For each pointer in a cell its node.
+    pub targets: Vec<usize>,
+    /// For each node the nearest one whose segment holds its own.
+    pub parents: Vec<usize>,
+}
+
+/// The keys of a graph, and the nodes of the pointers in cells.
+#[derive(Drop)]
+struct Places {
+    found: Vec<Found>,
+    keys: Vec<CanonicalPtr>,
+    targets: Vec<usize>,
+}
+
+/// The group of a seed that marks nothing.
+const NO_GROUP: u8 = 255;
+
+/// The key of the pointer of these bits.
+pub fn key_of_bits(kernel: &Kernel, bits: u64) -> Option<CanonicalPtr> {
+    match GuardedPtr::from_bits(bits) {
+        Some(p) => key_in(kernel, Word::Ptr(p)),
+        None => None,
+    }
+}
+
+/// The number that a seed has for an origin: that of its slot, or none.
+fn seed_number(kind: u8, value: u64) -> u8 {
+    if kind == 1 && value < 64 {
+        value as u8
+    } else {
+        NO_GROUP
+    }
+}
+
+/// The pointers that threads have or let out, each with the number of the slot from which the threads come, if they do.
+fn seeds_of(alloc: Global, kernel: &Kernel, conduct: &Conduct) -> Result<Vec<Seed>, NoMemory> {
+    let mut seeds = Vec::new(alloc);
+    for ((kind, value), bits) in conduct.has.iter() {
+        if let Some(key) = key_of_bits(kernel, *bits) {
+            seeds.push(Seed {
+                group: seed_number(*kind, *value),
+                key,
+            })?;
+        }
+    }
+    Ok(seeds)
+}
+
+/// The seeds of both lists.
+fn all_seeds(alloc: Global, one: &[Seed], other: &[Seed]) -> Result<Vec<Seed>, NoMemory> {
+    let mut all = Vec::new(alloc);
+    for seed in one {
+        all.push(*seed)?;
+    }
+    for seed in other {
+        all.push(*seed)?;
+    }
+    Ok(all)
+}
+
+/// For each key the mask of the groups that enter by it without the kernel: all, but none by a door.
+fn entry_masks(
+    alloc: Global,
+    kernel: &Kernel,
+    keys: &[CanonicalPtr],
+) -> Result<Vec<u64>, NoMemory> {
+    let mut masks = Vec::new(alloc);
+    for key in keys {
+        let mask = if is_door(kernel.kept(), key.pointer()) {
+            0
+        } else {
+            u64::MAX
+        };
+        masks.push(mask)?;
+    }
+    Ok(masks)
+}
+
+/// The keys of the pointers in cells and of these seeds.
+fn places_of(alloc: Global, kernel: &Kernel, seeds: &[Seed]) -> Result<Places, NoMemory> {
+    let found = found_in(alloc, kernel)?;
+    let (keys, targets) = keys_and_targets(alloc, &found, seeds)?;
+    Ok(Places {
+        found,
+        keys,
+        targets,
+    })
+}
+
+/// The graph for these keys.
+fn graph_for(alloc: Global, kernel: &Kernel, places: Places) -> Result<Graph, NoMemory> {
+    let Places {
+        found,
+        keys,
+        targets,
+    } = places;
+    let masks = entry_masks(alloc, kernel, &keys)?;
+    let nodes = nodes_of(alloc, &keys, &found, &masks)?;
+    let parents = parents_of(alloc, &keys)?;
+    Ok(Graph {
+        keys,
+        nodes,
+        targets,
+        parents,
+    })
+}
+
+/// A graph, and where marks start: for each node the groups, and the slots of the kernel, that hold its pointer from
+/// the start.
+#[derive(Drop)]
+pub struct Start {
+    pub graph: Graph,
+    pub groups: Vec<u64>,
+    pub slots: Vec<u64>,
+}
+
+/// The graph of a kernel, given what its threads do.
+pub fn graph_of(alloc: Global, kernel: &Kernel, conduct: &Conduct) -> Result<Start, NoMemory> {
+    let of_callers = callers(alloc, kernel)?;
+    let of_threads = seeds_of(alloc, kernel, conduct)?;
+    let seeds = all_seeds(alloc, &of_callers, &of_threads)?;
+    let places = places_of(alloc, kernel, &seeds)?;
+    let graph = graph_for(alloc, kernel, places)?;
+    let groups = marks_of(alloc, &graph.keys, &of_callers)?;
+    let slots = marks_of(alloc, &graph.keys, &of_threads)?;
+    Ok(Start {
+        graph,
+        groups,
+        slots,
+    })
+}
+
+/// The node of the pointer of these bits, if it has one.
+pub fn node_of(kernel: &Kernel, keys: &[CanonicalPtr], bits: u64) -> Option<usize> {
+    match key_of_bits(kernel, bits) {
+        Some(key) => find(keys, key),
+        None => None,
+    }
+}
+
+/// What a slot hands on: pointers by their nodes.
+pub type Handed = (u8, usize);
+
+/// The nodes of the pointers that slots hand on.
+pub fn nodes_handed(
+    alloc: Global,
+    kernel: &Kernel,
+    keys: &[CanonicalPtr],
+    handed: &BTreeSet<(u8, u64)>,
+) -> Result<Vec<Handed>, NoMemory> {
+    let mut nodes = Vec::new(alloc);
+    for (slot, bits) in handed.iter() {
+        if let Some(node) = node_of(kernel, keys, *bits) {
+            nodes.push((*slot, node))?;
+        }
+    }
+    Ok(nodes)
+}
+
+/// What stands behind a door: the node of the door, and that of a pointer.
+pub type Behind = (usize, usize);
+
+/// Adds the node of a pointer that threads through a door have or let out.
+fn add_behind(
+    behind: &mut Vec<Behind>,
+    kernel: &Kernel,
+    keys: &[CanonicalPtr],
+    door: u64,
+    bits: u64,
+) -> Result<(), NoMemory> {
+    if let Some(at) = node_of(kernel, keys, door) {
+        if let Some(node) = node_of(kernel, keys, bits) {
+            behind.push((at, node))?;
+        }
+    }
+    Ok(())
+}
+
+/// What stands behind each door.
+pub fn nodes_behind(
+    alloc: Global,
+    kernel: &Kernel,
+    keys: &[CanonicalPtr],
+    conduct: &Conduct,
+) -> Result<Vec<Behind>, NoMemory> {
+    let mut behind = Vec::new(alloc);
+    for ((kind, value), bits) in conduct.has.iter() {
+        if *kind == 0 {
+            add_behind(&mut behind, kernel, keys, *value, *bits)?;
+        }
+    }
+    Ok(behind)
+}

@@ -1,0 +1,30 @@
+//! What each group can reach, with a kernel that keeps its segments.
+//!
+//! | rule | part | made in |
+//! |---|---|---|
+//! | the kernel's threads have pointers, let doors out, store | a list of deeds for each thread, and | `deed`, `handing`, |
+//! | and load kept words, serve, go on as callers | all of them in sets | `going`, `inside`, |
+//! | | | `doing`, `conduct` |
+//! | callers have pointers, and cells that are not kept | the keys and nodes of a graph of pointers | `found`, `graph` |
+//! | it is below a pointer; a cell holds it; an entry leaves it | edges of the graph | `mm_graph`, `mm_flow` |
+//! | parties pass on all that they hold | who shares with whom, worked out anew in each round | `sharing`, `meets` |
+//! | parties pass on single pointers | what stands behind doors, what is sent and given | `rounds` |
+#![tactic(auto)]
+
+mod conduct;
+mod deed;
+mod doing;
+mod found;
+mod going;
+mod graph;
+mod handing;
+mod handlers;
+mod holdings;
+mod inside;
+mod marks;
+mod meets;
+mod parties;
+mod rounds;
+mod sharing;
+
+pub use holdings::{Holdings, hold};
