@@ -1,1 +1,4 @@
 mod Listing
+mod Like
+mod Long
+mod Deeds

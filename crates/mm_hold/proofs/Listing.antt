@@ -1,8 +1,9 @@
 -- Lists that grow by what each element of another list gives.
-use Rattle.std.proofs.Common.{◌≡◌, ℕ, ◌+◌, ◌<◌, ◌≤◌, List, [], ◌∷◌, ◌++◌, length, take, get_or, Some, refl, sym, ap, ◌∙◌, arith}
+use Rattle.std.proofs.Common.{◌≡◌, ◌⊎◌, inl, inr, ℕ, ◌+◌, ◌<◌, ◌≤◌, List, [], ◌∷◌, ◌++◌, length, take, get_or, Some, refl, sym, ap, ◌∙◌, arith}
 use Rattle.std.proofs.Common.{slice_get, Bool, true, false, if◌then◌else◌}
 use Rattle.std.proofs.lemmas.{List.{flat_map_more, take_all, take_more}, Option.{slice_get_within, get_or_from_slice_get}}
-use Rattle.std.specs.List.{flat_map}
+use Rattle.std.specs.{Prelude.Contains, List.flat_map}
+use Rattle.mm_span.proofs.Members.{none_in, in_cases}
 
 module _ {X A : Type 0} (f : X → List A) (old : List A) (xs : List X) (k : ℕ) where
   -- with the element at the next index
@@ -27,3 +28,15 @@ pub put_next : {X A : Type 0} (f : X → List A) (old : List A) (xs : List X) (k
 put_next f old xs k now new x lt at was is =
     is ∙ ap (λ l. l ++ f x) was ∙ flat_map_more f old (take k xs) x
     ∙ ap (λ l. old ++ flat_map f l) (sym (take_more xs k x lt ∙ ap (λ y. take k xs ++ y ∷ []) (sym at)))
+
+module _ {X : Type 0} where
+  pub if_in : (b : Bool) (xs : List X) (x : X) → Contains (if b then xs else []) x → (b ≡ true) × Contains xs x
+  if_in true xs x h = (refl, h)
+  if_in false xs x h = absurd (none_in x h)
+
+  pub in_if : (b : Bool) (xs : List X) (x : X) → b ≡ true → Contains xs x → Contains (if b then xs else []) x
+  in_if true xs x e h = h
+  in_if false xs x e h = cc
+
+  pub only_in : (x y : X) → Contains (x ∷ []) y → x ≡ y
+  only_in x y h = elim (in_cases x [] y h) [ inl same ↦ same | inr none ↦ absurd (none_in y none) ]
