@@ -91,3 +91,9 @@ pub record AreFindings (i : Image) (kept : List Segment) (f : Findings) : Type 0
 -- a list has exactly the deeds of a kernel
 pub record AreDeeds (i : Image) (kept : List Segment) (deeds : List Deed) : Type 0 where
   pub each : (d : Deed) → Contains deeds d ↔ Means i kept d
+
+-- 3. Sets.
+
+-- the keys are those of which something holds
+pub record AreAll {K : Type 0} (what : K → Type 0) (keys : List K) : Type 0 where
+  pub each : (key : K) → Contains keys key ↔ what key

@@ -40,4 +40,15 @@ impl Parties {
             slots: self.slots | other.slots,
         }
     }
+
+    /// The groups alone.
+    pub fn groups_alone(self) -> Parties
+        ensures groups { result.groups ≡ self.groups }
+        ensures slots { result.slots ≡ 0 }
+    {
+        Parties {
+            groups: self.groups,
+            slots: 0,
+        }
+    }
 }
