@@ -1,4 +1,7 @@
 mod Listing
+mod Sets
 mod Like
 mod Long
 mod Deeds
+mod Noted
+mod PartySets

@@ -1,3 +1,4 @@
 pub mod Deeds
 pub mod Conducts
 pub mod Parties
+pub mod Handlers

@@ -1,12 +1,20 @@
 //! What the threads of each origin do with the pointers of others, in sets.
 
+ghost use Rattle.std.specs.List.{flat_map};
+ghost use Rattle.std.specs.Prelude.{◌≡◌, ◌↔◌, ◌<◌, ◌^◌, ◌∷◌, [], ℕ, Contains, IfOk, OnOk};
+ghost use Rattle.mm_kernel.specs.declared.form.Form.{Form as FormValue};
+ghost use Rattle.mm_kernel.specs.Derived.{HasFirst};
+ghost use Rattle.mm_keep.specs.Searching.{IsExact};
+ghost use Rattle.mm_hold.specs.Conducts.{AreConduct, IsNone, Notes, NotesFrom, origin_from, origin_numbers};
+ghost use Rattle.mm_hold.specs.Deeds.{all_deeds, begin_deeds, thread_deeds};
+
 use crate::deed::Deed;
 use crate::doing::{Findings, put_begins, put_thread};
 use crate::going::Held;
 use crate::inside::carrying_words;
 use crate::parties::mask_of;
 use mm_keep::{Kernel, Tables};
-use mm_kernel::Origin;
+use mm_kernel::{Origin, Thread};
 use mm_word::NoMemory;
 use std::alloc::Global;
 use std::collections::BTreeSet;
@@ -15,7 +23,11 @@ use std::collections::BTreeSet;
 pub type OriginNumbers = (u8, u64);
 
 /// The numbers of an origin.
-pub fn origin_numbers(origin: &Origin) -> OriginNumbers {
+pub fn origin_numbers(origin: &Origin) -> OriginNumbers
+    ensures is { result ≡ origin_numbers origin.now }
+    ensures again { origin_from result ≡ origin.now }
+    ensures small { result.1 < 2 ^ 63 }
+{
     match *origin {
         Origin::Door(p) => (0, p.bits()),
         Origin::Slot(number) => (1, u64::from(number)),
@@ -48,7 +60,9 @@ pub struct Conduct {
 
 impl Conduct {
     /// Threads that do nothing.
-    fn none(alloc: Global) -> Conduct {
+    fn none(alloc: Global) -> Conduct
+        ensures { IsNone result }
+    {
         Conduct {
             has: BTreeSet::new(alloc),
             stored: BTreeSet::new(alloc),
@@ -63,7 +77,9 @@ impl Conduct {
     }
 
     /// Notes a deed.
-    fn note(&mut self, deed: &Deed) -> Result<(), NoMemory> {
+    fn note(&mut self, deed: &Deed) -> Result<(), NoMemory>
+        ensures { OnOk result (Notes (deed.now ∷ []) self.old self.new) }
+    {
         match *deed {
             Deed::Has(origin, p) => {
                 self.has.insert((origin_numbers(&origin), p.bits()))?;
@@ -89,7 +105,9 @@ impl Conduct {
     }
 
     /// Notes deeds.
-    fn note_all(&mut self, deeds: &[Deed]) -> Result<(), NoMemory> {
+    fn note_all(&mut self, deeds: &[Deed]) -> Result<(), NoMemory>
+        ensures { OnOk result (Notes deeds.now self.old self.new) }
+    {
         for deed in deeds {
             self.note(deed)?;
         }
@@ -103,12 +121,61 @@ fn note_thread(
     deeds: &mut Vec<Deed>,
     kernel: &Kernel,
     findings: &Findings<'_>,
-    at: usize,
-) -> Result<(), NoMemory> {
-    put_thread(deeds, kernel, findings, &findings.tables.thread(at))?;
+    t: &Thread,
+) -> Result<(), NoMemory>
+    requires { deeds.old.items ≡ [] }
+    ensures notes { OnOk result (Notes (thread_deeds kernel.now.image kernel.now.kept findings.now t.now)
+        conduct.old conduct.new) }
+    ensures empty { OnOk result (deeds.new.items ≡ []) }
+{
+    put_thread(deeds, kernel, findings, t)?;
     conduct.note_all(deeds)?;
     deeds.clear();
     Ok(())
+}
+
+/// Notes what the threads have that begin.
+fn note_begins(conduct: &mut Conduct, alloc: Global, kernel: &Kernel, tables: &Tables) -> Result<(), NoMemory>
+    ensures { OnOk result (Notes (begin_deeds kernel.now.image kernel.now.kept tables.now.doors)
+        conduct.old conduct.new) }
+{
+    let mut deeds = Vec::new(alloc);
+    put_begins(&mut deeds, kernel, tables)?;
+    conduct.note_all(&deeds)
+}
+
+/// Notes what each thread has, and what its turn does.
+fn note_threads(
+    conduct: &mut Conduct,
+    alloc: Global,
+    kernel: &Kernel,
+    findings: &Findings<'_>,
+) -> Result<(), NoMemory>
+    ensures { OnOk result (Notes
+        (flat_map (thread_deeds kernel.now.image kernel.now.kept findings.now) findings.now.tables.threads)
+        conduct.old conduct.new) }
+{
+    let mut deeds = Vec::new(alloc);
+    let tables = findings.tables;
+    for k in 0..tables.threads() {
+        let t = tables.thread(k);
+        note_thread(conduct, &mut deeds, kernel, findings, &t)?;
+    }
+    Ok(())
+}
+
+/// What the threads of each origin do, given these findings.
+fn conduct_in(
+    alloc: Global,
+    kernel: &Kernel,
+    findings: &Findings<'_>,
+) -> Result<Conduct, NoMemory>
+    ensures { IfOk result (λ c. NotesFrom (all_deeds kernel.now.image kernel.now.kept findings.now) c) }
+{
+    let mut conduct = Conduct::none(alloc);
+    note_begins(&mut conduct, alloc, kernel, findings.tables)?;
+    note_threads(&mut conduct, alloc, kernel, findings)?;
+    Ok(conduct)
 }
 
 /// What the threads of each origin do, given the forms that kept words have from the start.
@@ -117,20 +184,18 @@ pub fn conduct_of(
     kernel: &Kernel,
     tables: &Tables,
     first: &[Held],
-) -> Result<Conduct, NoMemory> {
+) -> Result<Conduct, NoMemory>
+    requires exact { IsExact kernel.now.image kernel.now.kept tables.now }
+    requires first { (w : ℕ) (form : FormValue)
+        → Contains first.now (w, form) ↔ HasFirst kernel.now.image kernel.now.kept w form }
+    ensures { IfOk result (λ c. AreConduct kernel.now.image kernel.now.kept c) }
+{
+    let _slots = kernel.image().slots();
     let carrying = carrying_words(alloc, tables)?;
     let findings = Findings {
         tables,
         first,
         carrying: &carrying,
     };
-    let mut conduct = Conduct::none(alloc);
-    let mut deeds = Vec::new(alloc);
-    put_begins(&mut deeds, kernel, tables)?;
-    conduct.note_all(&deeds)?;
-    deeds.clear();
-    for k in 0..tables.threads() {
-        note_thread(&mut conduct, &mut deeds, kernel, &findings, k)?;
-    }
-    Ok(conduct)
+    conduct_in(alloc, kernel, &findings)
 }

@@ -1,11 +1,13 @@
 //! Kept words through which pointers of others pass from thread to thread.
 
 ghost use Rattle.std.specs.List.{flat_map};
-ghost use Rattle.std.specs.Prelude.{◌≡◌, ◌++◌, OnOk};
-ghost use Rattle.mm_hold.specs.Deeds.{stored_in, used, used_in};
+ghost use Rattle.std.specs.Prelude.{◌≡◌, ◌++◌, ◌↔◌, ◌⊎◌, ℕ, Contains, IfOk, OnOk};
+ghost use Rattle.mm_hold.specs.Conducts.{AreAll};
+ghost use Rattle.mm_hold.specs.Deeds.{carrying_in, stored_in, used, used_in};
 ghost use Rattle.mm_hold.specs.declared.deed.Deed.TheVariants.{Loaded, Stored};
 
 use crate::deed::Deed;
+use crate::going::Held;
 use crate::handing::carries;
 use mm_keep::{Tables, lies_in};
 use mm_kernel::{Form, Origin, Part};
@@ -13,14 +15,26 @@ use mm_word::NoMemory;
 use std::alloc::Global;
 use std::collections::BTreeSet;
 
+/// Adds a word, if its form carries.
+fn put_carrying(words: &mut BTreeSet<u64>, held: &Held) -> Result<(), NoMemory>
+    ensures { OnOk result (AreAll (λ (w : ℕ). Contains words.old.keys w ⊎ Contains (carrying_in held.now) w)
+        words.new.keys) }
+{
+    if carries(&held.1) {
+        words.insert(held.0)?;
+    }
+    Ok(())
+}
+
 /// The kept words that get a form that carries.
-pub fn carrying_words(alloc: Global, tables: &Tables) -> Result<Vec<u64>, NoMemory> {
+pub fn carrying_words(alloc: Global, tables: &Tables) -> Result<Vec<u64>, NoMemory>
+    ensures { IfOk result (λ words. (w : ℕ)
+        → Contains words.items w ↔ Contains (flat_map carrying_in tables.now.stored) w) }
+{
     let mut words = BTreeSet::new(alloc);
     for k in 0..tables.stored() {
-        let (word, form) = tables.stored_at(k);
-        if carries(&form) {
-            words.insert(word)?;
-        }
+        let held = tables.stored_at(k);
+        put_carrying(&mut words, &held)?;
     }
     Ok(words.iter().copied().collect(alloc)?)
 }
