@@ -5,3 +5,5 @@ mod Long
 mod Deeds
 mod Noted
 mod PartySets
+mod Marked
+mod Meeting

@@ -10,7 +10,7 @@ use Rattle.mm_kernel.specs.{Segments.Segment, declared.thread.Origin.Origin}
 use Rattle.mm_span.proofs.Members.{none_in, in_first, in_cases, in_flat, flat_in}
 use Rattle.mm_hold.specs.declared.{deed.Deed.Deed, conduct.Conduct.Conduct}
 use Rattle.mm_hold.specs.Deeds.{Findings, all_deeds}
-use Rattle.mm_hold.specs.Conducts.{AreAll, AreDeeds, AreFindings, Grown, Marks, MarksAll, Notes, NotesFrom, SomeDeed}
+use Rattle.mm_hold.specs.Conducts.{AreAll, AreDeeds, AreFindings, Grown, IsRead, Marks, MarksAll, Notes, NotesFrom, SomeDeed}
 use Rattle.mm_hold.specs.Conducts.{AreConduct, IsNone, origin_numbers, has_in, stored_by, loaded_by, sent_in, given_in}
 use Rattle.mm_hold.specs.Conducts.{sends_in, gives_in, sees_in, goes_in}
 use Rattle.mm_hold.proofs.{Sets.{all_same, all_then, all_as, pair_added, first_added, last_added}, Deeds.deeds_are}
@@ -64,6 +64,7 @@ notes_join a b x y z h k = record {
   givers = marks_join gives_in a b x.givers y.givers z.givers h.givers k.givers;
   seeing = marks_join sees_in a b x.seeing y.seeing z.seeing h.seeing k.seeing;
   freed = marks_join goes_in a b x.freed y.freed z.freed h.freed k.freed;
+  read = λ d c. elim (Contains-append_cases a b d c) [ inl left ↦ h.read d left | inr right ↦ k.read d right ];
 }
 
 pub notes_more : (a b c : List Deed) (x y z : Conduct) → c ≡ a ++ b → Notes a x y → Notes b y z → Notes c x z
@@ -89,6 +90,10 @@ one_mark m k n e g = (
   ],
 )
 
+-- one deed that is read
+one_read : (d : Deed) → IsRead d → (e : Deed) → Contains (d ∷ []) e → IsRead e
+one_read d r e c = elim (in_cases d [] e c) [ inl same ↦ subst IsRead same r | inr none ↦ absurd (none_in e none) ]
+
 pub notes_none : (x : Conduct) → Notes [] x x
 notes_none x = record {
   has = all_same x.has.keys;
@@ -100,12 +105,13 @@ notes_none x = record {
   givers = still x.givers;
   seeing = still x.seeing;
   freed = still x.freed;
+  read = λ d c. absurd (none_in d c);
 }
 
 pub noted_has : (x : Conduct) (s : BTreeSet ((ℕ × ℕ) × ℕ)) (from : Origin) (p : PointerValue) (n : ℕ × ℕ) (b : ℕ) → n ≡ origin_numbers from → b ≡ bits_of p
-    → s.keys ≡ insert_key (λ (x y : (ℕ × ℕ) × ℕ). ordering_then (ordering_then (nat_cmp x.0.0 y.0.0) (nat_cmp x.0.1 y.0.1)) (nat_cmp x.1 y.1)) x.has.keys (n, b)
+    → IsRead (deed.Has from p) → s.keys ≡ insert_key (λ (x y : (ℕ × ℕ) × ℕ). ordering_then (ordering_then (nat_cmp x.0.0 y.0.0) (nat_cmp x.0.1 y.0.1)) (nat_cmp x.1 y.1)) x.has.keys (n, b)
     → Notes (deed.Has from p ∷ []) x (record x { has = s })
-noted_has x s from p n b en eb is = record {
+noted_has x s from p n b en eb read is = record {
   has = subst (λ (v : ℕ × ℕ). AreAll (λ e. Contains x.has.keys e ⊎ Contains ((v, bits_of p) ∷ []) e) s.keys) en
       (subst (λ v. AreAll (λ e. Contains x.has.keys e ⊎ Contains ((n, v) ∷ []) e) s.keys) eb
       (subst (AreAll (λ e. Contains x.has.keys e ⊎ Contains ((n, b) ∷ []) e)) (sym is) (first_added x.has.keys (n, b))));
@@ -117,6 +123,7 @@ noted_has x s from p n b en eb is = record {
   givers = still x.givers;
   seeing = still x.seeing;
   freed = still x.freed;
+  read = one_read (deed.Has from p) read;
 }
 
 use_noted : (old new : List (ℕ × (ℕ × ℕ))) (w : ℕ) (from : Origin) (n : ℕ × ℕ) → n ≡ origin_numbers from
@@ -126,10 +133,10 @@ use_noted old new w from n en is =
     subst (λ (v : ℕ × ℕ). AreAll (λ e. Contains old e ⊎ Contains ((w, v) ∷ []) e) new) en
     (subst (AreAll (λ e. Contains old e ⊎ Contains ((w, n) ∷ []) e)) (sym is) (last_added old (w, n)))
 
-pub noted_stored : (x : Conduct) (s : BTreeSet (ℕ × (ℕ × ℕ))) (w : ℕ) (from : Origin) (n : ℕ × ℕ) → n ≡ origin_numbers from
+pub noted_stored : (x : Conduct) (s : BTreeSet (ℕ × (ℕ × ℕ))) (w : ℕ) (from : Origin) (n : ℕ × ℕ) → n ≡ origin_numbers from → IsRead (deed.Stored w from)
     → s.keys ≡ insert_key (λ (x y : ℕ × (ℕ × ℕ)). ordering_then (nat_cmp x.0 y.0) (ordering_then (nat_cmp x.1.0 y.1.0) (nat_cmp x.1.1 y.1.1))) x.stored.keys (w, n)
     → Notes (deed.Stored w from ∷ []) x (record x { stored = s })
-noted_stored x s w from n en is = record {
+noted_stored x s w from n en read is = record {
   has = all_same x.has.keys;
   stored = use_noted x.stored.keys s.keys w from n en is;
   loaded = all_same x.loaded.keys;
@@ -139,12 +146,13 @@ noted_stored x s w from n en is = record {
   givers = still x.givers;
   seeing = still x.seeing;
   freed = still x.freed;
+  read = one_read (deed.Stored w from) read;
 }
 
-pub noted_loaded : (x : Conduct) (s : BTreeSet (ℕ × (ℕ × ℕ))) (w : ℕ) (from : Origin) (n : ℕ × ℕ) → n ≡ origin_numbers from
+pub noted_loaded : (x : Conduct) (s : BTreeSet (ℕ × (ℕ × ℕ))) (w : ℕ) (from : Origin) (n : ℕ × ℕ) → n ≡ origin_numbers from → IsRead (deed.Loaded w from)
     → s.keys ≡ insert_key (λ (x y : ℕ × (ℕ × ℕ)). ordering_then (nat_cmp x.0 y.0) (ordering_then (nat_cmp x.1.0 y.1.0) (nat_cmp x.1.1 y.1.1))) x.loaded.keys (w, n)
     → Notes (deed.Loaded w from ∷ []) x (record x { loaded = s })
-noted_loaded x s w from n en is = record {
+noted_loaded x s w from n en read is = record {
   has = all_same x.has.keys;
   stored = all_same x.stored.keys;
   loaded = use_noted x.loaded.keys s.keys w from n en is;
@@ -154,6 +162,7 @@ noted_loaded x s w from n en is = record {
   givers = still x.givers;
   seeing = still x.seeing;
   freed = still x.freed;
+  read = one_read (deed.Loaded w from) read;
 }
 
 hand_noted : (old new : List (ℕ × ℕ)) (n b : ℕ) (p : PointerValue) → b ≡ bits_of p
@@ -163,9 +172,9 @@ hand_noted old new n b p eb is =
     subst (λ v. AreAll (λ e. Contains old e ⊎ Contains ((n, v) ∷ []) e) new) eb
     (subst (AreAll (λ e. Contains old e ⊎ Contains ((n, b) ∷ []) e)) (sym is) (pair_added old (n, b)))
 
-pub noted_sent : (x : Conduct) (s : BTreeSet (ℕ × ℕ)) (n b : ℕ) (p : PointerValue) → b ≡ bits_of p
+pub noted_sent : (x : Conduct) (s : BTreeSet (ℕ × ℕ)) (n b : ℕ) (p : PointerValue) → b ≡ bits_of p → IsRead (deed.Sent n p)
     → s.keys ≡ insert_key (λ (x y : ℕ × ℕ). ordering_then (nat_cmp x.0 y.0) (nat_cmp x.1 y.1)) x.sent.keys (n, b) → Notes (deed.Sent n p ∷ []) x (record x { sent = s })
-noted_sent x s n b p eb is = record {
+noted_sent x s n b p eb read is = record {
   has = all_same x.has.keys;
   stored = all_same x.stored.keys;
   loaded = all_same x.loaded.keys;
@@ -175,11 +184,12 @@ noted_sent x s n b p eb is = record {
   givers = still x.givers;
   seeing = still x.seeing;
   freed = still x.freed;
+  read = one_read (deed.Sent n p) read;
 }
 
-pub noted_given : (x : Conduct) (s : BTreeSet (ℕ × ℕ)) (n b : ℕ) (p : PointerValue) → b ≡ bits_of p
+pub noted_given : (x : Conduct) (s : BTreeSet (ℕ × ℕ)) (n b : ℕ) (p : PointerValue) → b ≡ bits_of p → IsRead (deed.Given n p)
     → s.keys ≡ insert_key (λ (x y : ℕ × ℕ). ordering_then (nat_cmp x.0 y.0) (nat_cmp x.1 y.1)) x.given.keys (n, b) → Notes (deed.Given n p ∷ []) x (record x { given = s })
-noted_given x s n b p eb is = record {
+noted_given x s n b p eb read is = record {
   has = all_same x.has.keys;
   stored = all_same x.stored.keys;
   loaded = all_same x.loaded.keys;
@@ -189,20 +199,65 @@ noted_given x s n b p eb is = record {
   givers = still x.givers;
   seeing = still x.seeing;
   freed = still x.freed;
+  read = one_read (deed.Given n p) read;
 }
 
 module _ (x : Conduct) (n k : ℕ) (e : (g : ℕ) → (bit_at k g ≡ 1) ↔ ((g ≡ n) × (g < 64))) where
   pub noted_sends : Notes (deed.Sends n ∷ []) x (record x { senders = bit_or x.senders k })
-  noted_sends = record (notes_none x) { senders = one_mark x.senders k n e }
+  noted_sends = record {
+    has = all_same x.has.keys;
+    stored = all_same x.stored.keys;
+    loaded = all_same x.loaded.keys;
+    sent = all_same x.sent.keys;
+    given = all_same x.given.keys;
+    senders = one_mark x.senders k n e;
+    givers = still x.givers;
+    seeing = still x.seeing;
+    freed = still x.freed;
+    read = one_read (deed.Sends n) tt;
+  }
 
   pub noted_gives : Notes (deed.Gives n ∷ []) x (record x { givers = bit_or x.givers k })
-  noted_gives = record (notes_none x) { givers = one_mark x.givers k n e }
+  noted_gives = record {
+    has = all_same x.has.keys;
+    stored = all_same x.stored.keys;
+    loaded = all_same x.loaded.keys;
+    sent = all_same x.sent.keys;
+    given = all_same x.given.keys;
+    senders = still x.senders;
+    givers = one_mark x.givers k n e;
+    seeing = still x.seeing;
+    freed = still x.freed;
+    read = one_read (deed.Gives n) tt;
+  }
 
   pub noted_sees : Notes (deed.Sees n ∷ []) x (record x { seeing = bit_or x.seeing k })
-  noted_sees = record (notes_none x) { seeing = one_mark x.seeing k n e }
+  noted_sees = record {
+    has = all_same x.has.keys;
+    stored = all_same x.stored.keys;
+    loaded = all_same x.loaded.keys;
+    sent = all_same x.sent.keys;
+    given = all_same x.given.keys;
+    senders = still x.senders;
+    givers = still x.givers;
+    seeing = one_mark x.seeing k n e;
+    freed = still x.freed;
+    read = one_read (deed.Sees n) tt;
+  }
 
   pub noted_goes : Notes (deed.GoesOn n ∷ []) x (record x { freed = bit_or x.freed k })
-  noted_goes = record (notes_none x) { freed = one_mark x.freed k n e }
+  noted_goes = record {
+    has = all_same x.has.keys;
+    stored = all_same x.stored.keys;
+    loaded = all_same x.loaded.keys;
+    sent = all_same x.sent.keys;
+    given = all_same x.given.keys;
+    senders = still x.senders;
+    givers = still x.givers;
+    seeing = still x.seeing;
+    freed = one_mark x.freed k n e;
+    read = one_read (deed.GoesOn n) tt;
+  }
 
 -- 3. All deeds of a kernel.
 
@@ -236,6 +291,7 @@ module _ (i : Image) (kept : List Segment) (deeds : List Deed) (d : AreDeeds i k
     givers = all_marks gives_in h.none.givers c.givers h.is_none.givers h.notes.givers;
     seeing = all_marks sees_in h.none.seeing c.seeing h.is_none.seeing h.notes.seeing;
     freed = all_marks goes_in h.none.freed c.freed h.is_none.freed h.notes.freed;
+    read = λ x m. h.notes.read x ((d.each x).1 m);
   }
 
 pub conduct_is : (i : Image) (kept : List Segment) → IsImage i → (f : Findings) → AreFindings i kept f → (c : Conduct)

@@ -1,11 +1,11 @@
 -- Sets of parties, and what is added to who passes on.
 use Rattle.std.proofs.Common.{◌≡◌, ◌⊎◌, ◌↔◌, inl, inr, ℕ, zero, suc, ◌+◌, ◌*◌, ◌%◌, ◌^◌, ◌<◌, ◌≤◌, Bool, true, false, List, [], ◌∷◌, ◌++◌}
-use Rattle.std.proofs.Common.{replicate, slice_index, bit_or, refl, sym, ap, ◌∙◌, subst, arith}
+use Rattle.std.proofs.Common.{replicate, slice_index, bit_and, bit_or, refl, sym, ap, ◌∙◌, subst, arith}
 use Rattle.std.proofs.lemmas.{Nat.Bits.{bit_at-pow_same, bit_at-pow_other, bit_at_above}, Bool.{cases_eq, cases_lt}}
 use Rattle.std.specs.{Prelude.Contains, Int.bit_at}
 use Rattle.mm_model.specs.{Slot.Slot, Image.Image, Turn.is_handler}
 use Rattle.mm_flow.specs.{Flow.Has, Sharing.{AddsEdges, SharedBy as FlowShared}}
-use Rattle.mm_flow.proofs.Bits.{or_left, or_right, or_cases, zero_bit}
+use Rattle.mm_flow.proofs.Bits.{or_left, or_right, or_cases, and_both, both_bits, zero_bit}
 use Rattle.mm_graph.proofs.OneBits.{one_bit}
 use Rattle.mm_kernel.specs.{Segments.Segment, Threads.is_kernel}
 use Rattle.mm_confine.specs.declared.party.Party.{Party, TheVariants.{Group, KernelSlot}}
@@ -61,6 +61,36 @@ both_are a b (KernelSlot n) = (
 
 pub is_as : (set : Parties) (P Q : Party → Type 0) → ((x : Party) → P x → Q x) → ((x : Party) → Q x → P x) → Is set P → Is set Q
 is_as set P Q to back h x = (λ k. to x ((h x).0 k), λ q. (h x).1 (back x q))
+
+-- the set of one group, and of one slot
+module _ (n m : ℕ) (e : (g : ℕ) → (bit_at m g ≡ 1) ↔ ((g ≡ n) × (g < 64))) where
+  pub group_is : (x : Party) → In x (record { groups = m; slots = 0 }) ↔ ((x ≡ Group n) × Small x)
+  group_is (Group g) = (
+    λ h. let r = (e g).0 h in (ap Group r.0, r.1),
+    λ h. let both = h.0 in let same : g ≡ n = cc in (e g).1 (same, h.1),
+  )
+  group_is (KernelSlot k) = (λ h. absurd (zero_bit k h), λ h. let no = h.0 in absurd (cc))
+
+  pub slot_is : (x : Party) → In x (record { groups = 0; slots = m }) ↔ ((x ≡ KernelSlot n) × Small x)
+  slot_is (KernelSlot k) = (
+    λ h. let r = (e k).0 h in (ap KernelSlot r.0, r.1),
+    λ h. let both = h.0 in let same : k ≡ n = cc in (e k).1 (same, h.1),
+  )
+  slot_is (Group g) = (λ h. absurd (zero_bit g h), λ h. let no = h.0 in absurd (cc))
+
+  -- one slot, if it is one of a mask
+  pub slot_among : (mask : ℕ) (x : Party) → In x (record { groups = 0; slots = bit_and m mask }) ↔ ((x ≡ KernelSlot n) × Small x × (bit_at mask n ≡ 1))
+  slot_among mask (KernelSlot k) = (
+    λ h.
+        let b = both_bits m mask k h in
+        let r = (e k).0 b.0 in
+        (ap KernelSlot r.0, r.1, ap (bit_at mask) (sym r.0) ∙ b.1),
+    λ h.
+        let both = h.0 in
+        let same : k ≡ n = cc in
+        and_both m mask k ((e k).1 (same, h.1)) (ap (bit_at mask) same ∙ h.2),
+  )
+  slot_among mask (Group g) = (λ h. absurd (zero_bit g h), λ h. let no = h.0 in absurd (cc))
 
 -- 3. Rows.
 
@@ -200,23 +230,6 @@ module _ (i : Image) (kept : List Segment) where
 
   -- 6. What slots pass on.
 
-  -- the group of a slot
-  group_is : (s : Slot) (m : ℕ) → ((g : ℕ) → (bit_at m g ≡ 1) ↔ ((g ≡ s.group) × (g < 64))) → (x : Party)
-      → In x (record { groups = m; slots = 0 }) ↔ ((x ≡ Group s.group) × Small x)
-  group_is s m e (Group g) = (
-    λ h. let r = (e g).0 h in (ap Group r.0, r.1),
-    λ h. let same : g ≡ s.group = cc in (e g).1 (same, h.1),
-  )
-  group_is s m e (KernelSlot n) = (λ h. absurd (zero_bit n h), λ h. let no = h.0 in cc)
-
-  slot_is : (s : Slot) (m : ℕ) → ((g : ℕ) → (bit_at m g ≡ 1) ↔ ((g ≡ s.number) × (g < 64))) → (x : Party)
-      → In x (record { groups = 0; slots = m }) ↔ ((x ≡ KernelSlot s.number) × Small x)
-  slot_is s m e (KernelSlot n) = (
-    λ h. let r = (e n).0 h in (ap KernelSlot r.0, r.1),
-    λ h. let same : n ≡ s.number = cc in (e n).1 (same, h.1),
-  )
-  slot_is s m e (Group g) = (λ h. absurd (zero_bit g h), λ h. let no = h.0 in cc)
-
   -- the groups alone of what a slot serves
   groups_are : (n : ℕ) (set alone : Parties) → alone.groups ≡ set.groups → alone.slots ≡ 0 → Is set (ServedParty i kept i.slots n)
       → Is alone (λ x. IsGroup x × ServedParty i kept i.slots n x)
@@ -234,7 +247,7 @@ module _ (i : Image) (kept : List Segment) where
       → Adds (Across (record { groups = m; slots = 0 }) alone) a b → Adds (Across alone (record { groups = m; slots = 0 })) b c → Adds (PassesByCaller i kept s) a c
   by_caller s m set alone a b c e eg es h one two =
       let own : Parties = record { groups = m; slots = 0 } in
-      let mine = group_is s m e in
+      let mine = group_is s.group m e in
       let theirs = groups_are s.number set alone eg es h in
       adds_as (λ y x. Across own alone y x ⊎ Across alone own y x) (PassesByCaller i kept s) a c
       (λ y x k. elim k [
@@ -262,7 +275,7 @@ module _ (i : Image) (kept : List Segment) where
         → ((b ≡ true) ↔ ((s.number < 64) × (bit_at mask s.number ≡ 1))) → Is set (λ x. (b ≡ true) × In x own)
         → Is set (λ x. (bit_at mask s.number ≡ 1) × (x ≡ KernelSlot s.number) × Small x)
     on_mask mask b own set m e is eb h x =
-        let mine = slot_is s m e x in
+        let mine = slot_is s.number m e x in
         (
           λ q.
               let r = (h x).0 q in
@@ -285,7 +298,7 @@ module _ (i : Image) (kept : List Segment) where
         let f = on_mask k.freed tf own bf m e is ef hf in
         let g = on_mask k.givers tg own bg m e is eg2 hg in
         let v = on_mask k.seeing ts own bs m e is es hs in
-        let mine = group_is s gm eg in
+        let mine = group_is s.group gm eg in
         adds_as (λ y x. (Across bf group y x ⊎ Across bg set y x) ⊎ Across set bs y x) (PassesByKernel i kept k s) a d
         (λ y x q. elim q [
           | inl r ↦ elim r [

@@ -145,6 +145,15 @@ abbrev pub goes_in : Deed → List ℕ
 goes_in (deed.GoesOn n) = n ∷ []
 goes_in _ = []
 
+-- what a deed has can be read from its numbers
+abbrev pub IsRead : Deed → Type 0
+IsRead (deed.Has from p) = (origin_from (origin_numbers from) ≡ from) × (pointer_of (bits_of p) ≡ p)
+IsRead (deed.Stored w from) = origin_from (origin_numbers from) ≡ from
+IsRead (deed.Loaded w from) = origin_from (origin_numbers from) ≡ from
+IsRead (deed.Sent n p) = pointer_of (bits_of p) ≡ p
+IsRead (deed.Given n p) = pointer_of (bits_of p) ≡ p
+IsRead _ = Unit {0}
+
 -- 5. What a conduct has noted.
 
 -- the keys of these deeds came to those that were there
@@ -166,6 +175,7 @@ pub record Notes (more : List Deed) (old new : Conduct) : Type 0 where
   pub givers : Marks gives_in more old.givers new.givers
   pub seeing : Marks sees_in more old.seeing new.seeing
   pub freed : Marks goes_in more old.freed new.freed
+  pub read : (d : Deed) → Contains more d → IsRead d
 
 -- nothing was noted
 pub record IsNone (c : Conduct) : Type 0 where
@@ -199,6 +209,7 @@ pub record AreConduct (i : Image) (kept : List Segment) (c : Conduct) : Type 0 w
   pub givers : MarksAll i kept gives_in c.givers
   pub seeing : MarksAll i kept sees_in c.seeing
   pub freed : MarksAll i kept goes_in c.freed
+  pub read : (d : Deed) → Means i kept d → IsRead d
 
 -- the conduct has exactly these deeds
 pub record NotesFrom (deeds : List Deed) (c : Conduct) : Type 0 where

@@ -2,3 +2,5 @@ pub mod Deeds
 pub mod Conducts
 pub mod Parties
 pub mod Handlers
+pub mod Marks
+pub mod Passing

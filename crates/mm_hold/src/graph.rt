@@ -1,6 +1,8 @@
 //! The graph of the pointers that parties may come to hold.
 
 use crate::conduct::Conduct;
+use crate::passing::door_node;
+use crate::giving::{NodePair, SlotNode};
 use crate::found::{callers, found_in, key_in};
 use mm_flow::Node;
 use mm_graph::{CanonicalPtr, Found, Seed, find, keys_and_targets, marks_of, nodes_of, parents_of};
@@ -41,9 +43,9 @@ pub fn key_of_bits(kernel: &Kernel, bits: u64) -> Option<CanonicalPtr> {
     }
 }
 
-/// The number that a seed has for an origin: that of its slot, or none.
-fn seed_number(kind: u8, value: u64) -> u8 {
-    if kind == 1 && value < 64 {
+/// The number that a seed has for an origin: that of its slot, if it is one of the kernel, or none.
+fn seed_number(kernel: &Kernel, kind: u8, value: u64) -> u8 {
+    if kind == 1 && value < 64 && kernel.is_kernel(value as u8) {
         value as u8
     } else {
         NO_GROUP
@@ -56,7 +58,7 @@ fn seeds_of(alloc: Global, kernel: &Kernel, conduct: &Conduct) -> Result<Vec<See
     for ((kind, value), bits) in conduct.has.iter() {
         if let Some(key) = key_of_bits(kernel, *bits) {
             seeds.push(Seed {
-                group: seed_number(*kind, *value),
+                group: seed_number(kernel, *kind, *value),
                 key,
             })?;
         }
@@ -156,16 +158,13 @@ pub fn node_of(kernel: &Kernel, keys: &[CanonicalPtr], bits: u64) -> Option<usiz
     }
 }
 
-/// What a slot hands on: pointers by their nodes.
-pub type Handed = (u8, usize);
-
 /// The nodes of the pointers that slots hand on.
 pub fn nodes_handed(
     alloc: Global,
     kernel: &Kernel,
     keys: &[CanonicalPtr],
     handed: &BTreeSet<(u8, u64)>,
-) -> Result<Vec<Handed>, NoMemory> {
+) -> Result<Vec<SlotNode>, NoMemory> {
     let mut nodes = Vec::new(alloc);
     for (slot, bits) in handed.iter() {
         if let Some(node) = node_of(kernel, keys, *bits) {
@@ -175,18 +174,15 @@ pub fn nodes_handed(
     Ok(nodes)
 }
 
-/// What stands behind a door: the node of the door, and that of a pointer.
-pub type Behind = (usize, usize);
-
 /// Adds the node of a pointer that threads through a door have or let out.
 fn add_behind(
-    behind: &mut Vec<Behind>,
+    behind: &mut Vec<NodePair>,
     kernel: &Kernel,
     keys: &[CanonicalPtr],
     door: u64,
     bits: u64,
 ) -> Result<(), NoMemory> {
-    if let Some(at) = node_of(kernel, keys, door) {
+    if let Some(at) = door_node(kernel, keys, door) {
         if let Some(node) = node_of(kernel, keys, bits) {
             behind.push((at, node))?;
         }
@@ -200,7 +196,7 @@ pub fn nodes_behind(
     kernel: &Kernel,
     keys: &[CanonicalPtr],
     conduct: &Conduct,
-) -> Result<Vec<Behind>, NoMemory> {
+) -> Result<Vec<NodePair>, NoMemory> {
     let mut behind = Vec::new(alloc);
     for ((kind, value), bits) in conduct.has.iter() {
         if *kind == 0 {

@@ -7,14 +7,16 @@
 //! | | | `doing`, `conduct` |
 //! | callers have pointers, and cells that are not kept | the keys and nodes of a graph of pointers | `found`, `graph` |
 //! | it is below a pointer; a cell holds it; an entry leaves it | edges of the graph | `mm_graph`, `mm_flow` |
-//! | parties pass on all that they hold | who shares with whom, worked out anew in each round | `sharing`, `meets` |
-//! | parties pass on single pointers | what stands behind doors, what is sent and given | `rounds` |
+//! | parties pass on all that they hold | who shares with whom, worked out anew in each round | `sharing`, `meets`, |
+//! | | | `passing` |
+//! | parties pass on single pointers | what stands behind doors, what is sent and given | `giving`, `rounds` |
 #![tactic(auto)]
 
 mod conduct;
 mod deed;
 mod doing;
 mod found;
+mod giving;
 mod going;
 mod graph;
 mod handing;
@@ -24,6 +26,7 @@ mod inside;
 mod marks;
 mod meets;
 mod parties;
+mod passing;
 mod rounds;
 mod sharing;
 

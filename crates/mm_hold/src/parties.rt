@@ -1,6 +1,6 @@
 //! Sets of parties.
 
-ghost use Rattle.std.specs.Prelude.{◌≡◌, ◌⊎◌, ◌↔◌, ◌<◌, ℕ};
+ghost use Rattle.std.specs.Prelude.{◌≡◌, ◌⊎◌, ◌↔◌, ◌<◌, ℕ, true};
 ghost use Rattle.std.specs.Int.{bit_at};
 ghost use Rattle.mm_hold.specs.Parties.{In, Is};
 
@@ -51,4 +51,11 @@ impl Parties {
             slots: 0,
         }
     }
+}
+
+/// Whether two sets are one.
+pub fn same(a: Parties, b: Parties) -> bool
+    ensures { result ≡ true → a ≡ b }
+{
+    a.groups == b.groups && a.slots == b.slots
 }

@@ -1,11 +1,12 @@
 //! Rounds in which parties come to hold pointers, until nothing changes.
 
 use crate::conduct::Conduct;
-use crate::graph::{Behind, Graph, Handed, Start, nodes_behind, nodes_handed};
+use crate::giving::{NodePair, SlotNode, give_behind, give_given, give_sent, give_shared};
+use crate::graph::{Graph, nodes_behind, nodes_handed};
 use crate::marks::Marks;
-use crate::meets::{meets_of, share_inside, share_meets};
-use crate::parties::Parties;
-use crate::sharing::{Sharing, served_by, sharing_of};
+use crate::meets::{meets_of, share_meets};
+use crate::passing::share_inside;
+use crate::sharing::{Sharing, sharing_of};
 use mm_keep::Kernel;
 use mm_word::NoMemory;
 use std::alloc::Global;
@@ -18,62 +19,9 @@ pub struct Passing<'a> {
     graph: &'a Graph,
     /// Who passes on all that it holds, whatever it holds.
     sharing: Sharing,
-    behind: Vec<Behind>,
-    sent: Vec<Handed>,
-    given: Vec<Handed>,
-}
-
-/// Gives the groups that hold a door what stands behind it, and says whether that was new.
-fn give_behind(marks: &mut Marks, behind: &[Behind]) -> bool {
-    let mut changed = false;
-    for (door, node) in behind {
-        let groups = marks.groups[*door];
-        let parties = Parties { groups, slots: 0 };
-        if marks.give(*node, parties) {
-            changed = true;
-        }
-    }
-    changed
-}
-
-/// Gives each pointer that a slot stores to the parties that load there, and says whether that was new.
-fn give_sent(marks: &mut Marks, sent: &[Handed], meets: &Sharing) -> bool {
-    let mut changed = false;
-    for (slot, node) in sent {
-        if *slot < 64 && marks.give(*node, meets.of_slot(*slot as usize)) {
-            changed = true;
-        }
-    }
-    changed
-}
-
-/// Gives each pointer that a slot gives to what it serves, and says whether that was new.
-fn give_given(marks: &mut Marks, kernel: &Kernel, given: &[Handed]) -> bool {
-    let mut changed = false;
-    for (slot, node) in given {
-        if marks.give(*node, served_by(kernel, *slot)) {
-            changed = true;
-        }
-    }
-    changed
-}
-
-/// Gives what each party holds to the parties to which it passes on all, and says whether that was new.
-fn give_shared(marks: &mut Marks, sharing: &Sharing) -> bool {
-    let mut changed = false;
-    let mut last = Parties::none();
-    let mut shared = Parties::none();
-    for node in 0..marks.len() {
-        let now = marks.at(node);
-        if now != last {
-            last = now;
-            shared = sharing.shared_by(now);
-        }
-        if marks.give(node, shared) {
-            changed = true;
-        }
-    }
-    changed
+    behind: Vec<NodePair>,
+    sent: Vec<SlotNode>,
+    given: Vec<SlotNode>,
 }
 
 impl<'a> Passing<'a> {
@@ -100,11 +48,11 @@ impl<'a> Passing<'a> {
 
     /// Spreads marks along edges, and then gives parties what follows from what all hold; and says whether that was new.
     fn round(&self, alloc: Global, marks: &mut Marks) -> Result<bool, NoMemory> {
-        marks.spread(alloc, self.graph)?;
-        let meets = meets_of(alloc, self.graph, marks)?;
+        marks.spread(alloc, &self.graph.nodes, &self.graph.targets, &self.graph.parents)?;
+        let meets = meets_of(alloc, &self.graph.nodes, &self.graph.parents, marks)?;
         let mut sharing = self.sharing;
         share_meets(&mut sharing, &meets, self.conduct.senders);
-        share_inside(&mut sharing, self.kernel, self.graph, marks, self.conduct);
+        share_inside(&mut sharing, self.kernel, &self.graph.keys, marks, self.conduct);
         let behind = give_behind(marks, &self.behind);
         let sent = give_sent(marks, &self.sent, &meets);
         let given = give_given(marks, self.kernel, &self.given);

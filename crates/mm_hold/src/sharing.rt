@@ -85,7 +85,7 @@ impl Sharing {
 }
 
 /// The mask of a number, if it is that of a slot of the kernel.
-fn kernel_mask(kernel: &Kernel, number: u8) -> u64
+pub fn kernel_mask(kernel: &Kernel, number: u8) -> u64
     ensures { (n : ℕ) → (bit_at result n ≡ 1)
         ↔ ((is_kernel kernel.now.image kernel.now.kept number ≡ true) × (n ≡ number) × (n < 64)) }
 {
