@@ -7,3 +7,4 @@ mod Noted
 mod PartySets
 mod Marked
 mod Meeting
+mod Passes

@@ -1,20 +1,17 @@
 -- Who runs the threads that use kept words.
 use Rattle.std.specs.Prelude.{◌≡◌, ℕ, ◌<◌, true, List, length, Contains, Option, Some, None}
-use Rattle.mm_word.specs.Pointer.{Pointer, bits_of}
 use Rattle.mm_model.specs.Image.{Image}
 use Rattle.mm_flow.specs.Flow.{Has}
-use Rattle.mm_graph.specs.{declared.canonical_ptr.CanonicalPtr.CanonicalPtr, Key.{key_at, key_of}}
+use Rattle.mm_graph.specs.{declared.canonical_ptr.CanonicalPtr.CanonicalPtr, Key.{key_at, pointer_at}}
 use Rattle.mm_kernel.specs.{Segments.{Segment, is_door}, Threads.is_kernel}
 use Rattle.mm_confine.specs.declared.party.Party.{Party, TheVariants.{Group, KernelSlot}}
 use Rattle.mm_hold.specs.declared.marks.Marks.{Marks}
 
--- a door of these bits is at the node
+-- the node is that of a door of these bits
 pub record DoorAt (kept : List Segment) (keys : List CanonicalPtr) (bits k : ℕ) : Type 0 where
-  pub door : Pointer
-  pub is : is_door kept door ≡ true
-  pub bits : bits_of door ≡ bits
   pub small : k < length keys
-  pub key : key_at keys k ≡ key_of door
+  pub bits : (key_at keys k).bits ≡ bits
+  pub is : is_door kept (pointer_at (key_at keys k)) ≡ true
 
 -- the answer is the node of the door of these bits; if there is none, no key is one of such a door
 abbrev pub IsDoorNode : List Segment → List CanonicalPtr → ℕ → Option ℕ → Type 0

@@ -1,8 +1,8 @@
 //! Parties that pass on all that they hold through kept words.
 
 ghost use Rattle.std.specs.List.{AllByRecursion};
-ghost use Rattle.std.specs.Prelude.{◌<◌, ◌^◌, ℕ, length};
-ghost use Rattle.mm_graph.specs.Key.{IsRising};
+ghost use Rattle.std.specs.Prelude.{◌<◌, ◌^◌, ℕ, All, length};
+ghost use Rattle.mm_graph.specs.Key.{IsKey, IsRising};
 ghost use Rattle.mm_hold.specs.Marks.{HasSize};
 ghost use Rattle.mm_hold.specs.Parties.{Adds, Is};
 ghost use Rattle.mm_hold.specs.Passing.{IsDoorNode, PassesAtWord, Runs, RunsAtWord};
@@ -18,7 +18,8 @@ use std::collections::BTreeSet;
 
 /// The node of a door of these bits.
 pub fn door_node(kernel: &Kernel, keys: &[CanonicalPtr], bits: u64) -> Option<usize>
-    requires { IsRising keys.now }
+    requires rising { IsRising keys.now }
+    requires keys { All IsKey keys.now }
     ensures { IsDoorNode kernel.now.kept keys.now bits result }
 {
     match GuardedPtr::from_bits(bits) {
@@ -36,6 +37,7 @@ pub fn door_node(kernel: &Kernel, keys: &[CanonicalPtr], bits: u64) -> Option<us
 /// The groups that hold the door of these bits.
 fn running_door(kernel: &Kernel, keys: &[CanonicalPtr], marks: &Marks, bits: u64) -> Parties
     requires rising { IsRising keys.now }
+    requires keys { All IsKey keys.now }
     requires size { HasSize marks.now (length keys.now) }
     ensures { Is result (Runs kernel.now.image kernel.now.kept keys.now marks.now (0, bits)) }
 {
@@ -56,6 +58,7 @@ fn running(
     origin: OriginNumbers,
 ) -> Parties
     requires rising { IsRising keys.now }
+    requires keys { All IsKey keys.now }
     requires size { HasSize marks.now (length keys.now) }
     ensures { Is result (Runs kernel.now.image kernel.now.kept keys.now marks.now origin) }
 {
@@ -81,6 +84,7 @@ fn users(
     word: u64,
 ) -> Parties
     requires rising { IsRising keys.now }
+    requires keys { All IsKey keys.now }
     requires size { HasSize marks.now (length keys.now) }
     requires small { word < 2 ^ 63 }
     ensures { Is result (RunsAtWord kernel.now.image kernel.now.kept keys.now marks.now uses.now.keys word) }
@@ -101,6 +105,7 @@ pub fn share_inside(
     conduct: &Conduct,
 )
     requires rising { IsRising keys.now }
+    requires keys { All IsKey keys.now }
     requires size { HasSize marks.now (length keys.now) }
     requires small { AllByRecursion (λ (u : ℕ × (ℕ × ℕ)). u.0 < 2 ^ 63) conduct.now.stored.keys }
     ensures { Adds (PassesAtWord kernel.now.image kernel.now.kept keys.now marks.now conduct.now.stored.keys
