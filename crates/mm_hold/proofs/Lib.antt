@@ -8,3 +8,4 @@ mod PartySets
 mod Marked
 mod Meeting
 mod Passes
+mod CellLists

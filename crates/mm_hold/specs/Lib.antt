@@ -4,3 +4,4 @@ pub mod Parties
 pub mod Handlers
 pub mod Marks
 pub mod Passing
+pub mod Finding

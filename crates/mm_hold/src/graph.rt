@@ -38,7 +38,7 @@ const NO_GROUP: u8 = 255;
 /// The key of the pointer of these bits.
 pub fn key_of_bits(kernel: &Kernel, bits: u64) -> Option<CanonicalPtr> {
     match GuardedPtr::from_bits(bits) {
-        Some(p) => key_in(kernel, Word::Ptr(p)),
+        Some(p) => key_in(kernel.kept(), Word::Ptr(p)),
         None => None,
     }
 }
@@ -98,7 +98,7 @@ fn entry_masks(
 
 /// The keys of the pointers in cells and of these seeds.
 fn places_of(alloc: Global, kernel: &Kernel, seeds: &[Seed]) -> Result<Places, NoMemory> {
-    let found = found_in(alloc, kernel)?;
+    let found = found_in(alloc, kernel.kept(), kernel.image().pages())?;
     let (keys, targets) = keys_and_targets(alloc, &found, seeds)?;
     Ok(Places {
         found,
@@ -136,7 +136,7 @@ pub struct Start {
 
 /// The graph of a kernel, given what its threads do.
 pub fn graph_of(alloc: Global, kernel: &Kernel, conduct: &Conduct) -> Result<Start, NoMemory> {
-    let of_callers = callers(alloc, kernel)?;
+    let of_callers = callers(alloc, kernel.kept(), kernel.image().slots())?;
     let of_threads = seeds_of(alloc, kernel, conduct)?;
     let seeds = all_seeds(alloc, &of_callers, &of_threads)?;
     let places = places_of(alloc, kernel, &seeds)?;
