@@ -1,6 +1,7 @@
 -- What the cells of pages give is what each cell of memory gives.
 use Rattle.std.proofs.Common.{◌≡◌, ℕ, zero, suc, ◌+◌, ◌*◌, ◌%◌, ◌^◌, ◌<◌, ◌≤◌, inl, inr, Bool, true, false, if◌then◌else◌, List, [], ◌∷◌, ◌++◌}
 use Rattle.std.proofs.Common.{length, take, get_or, slice_get, Option, Some, None, refl, sym, ap, ◌∙◌, subst, arith, append_assoc, append-nil}
+use Rattle.std.proofs.lemmas.List.{take_more, length-take-le}
 use Rattle.std.proofs.lemmas.List.Elements.{Contains-append_left, Contains-append_right, Contains-append_cases}
 use Rattle.std.proofs.lemmas.List.Elements.{All-from_recursion, All-contains}
 use Rattle.std.specs.{List.{Contains, flat_map}, Ordering.nat_cmp, FinMap.find}
@@ -55,16 +56,24 @@ module _ {A : Type 0} (f : ℕ → Cell → List A) where
   get_small (x ∷ xs) zero c h = omega arith
   get_small (x ∷ xs) (suc k) c h = let lt = get_small xs k c h in omega arith
 
-  pub cells_more : (w k : ℕ) (cells : List Cell) (c : Cell) → k < length cells → c ≡ get_or cells k c → cells_with f w (take (k + 1) cells) ≡ cells_with f w (take k cells) ++ f (w + 8 * k) c
-  cells_more w k [] c lt e = absurd (omega arith)
-  cells_more w zero (y ∷ ys) c lt e =
+  cells_push : (w : ℕ) (xs : List Cell) (c : Cell) → cells_with f w (xs ++ c ∷ []) ≡ cells_with f w xs ++ f (w + 8 * length xs) c
+  cells_push w [] c =
       let word : w ≡ w + 8 * 0 = omega arith in
-      let same : c ≡ y = e in
-      append-nil (f w y) ∙ ap (λ v. f v y) word ∙ ap (f (w + 8 * 0)) (sym same)
-  cells_more w (suc k) (y ∷ ys) c lt e =
-      let word : w + 8 + 8 * k ≡ w + 8 * suc k = omega arith in
-      ap (λ l. f w y ++ l) (cells_more (w + 8) k ys c (omega arith) e ∙ ap (λ v. cells_with f (w + 8) (take k ys) ++ f v c) word)
-      ∙ sym (append_assoc (f w y) (cells_with f (w + 8) (take k ys)) (f (w + 8 * suc k) c))
+      append-nil (f w c) ∙ ap (λ v. f v c) word
+  cells_push w (y ∷ ys) c =
+      let word : w + 8 + 8 * length ys ≡ w + 8 * length (y ∷ ys) = omega arith in
+      ap (λ l. f w y ++ l) (cells_push (w + 8) ys c ∙ ap (λ v. cells_with f (w + 8) ys ++ f v c) word)
+      ∙ sym (append_assoc (f w y) (cells_with f (w + 8) ys) (f (w + 8 * length (y ∷ ys)) c))
+
+  -- with the next cell
+  pub cells_put : (w k : ℕ) (cells : List Cell) (c : Cell) (old now new : List A) → k < length cells → c ≡ get_or cells k c
+      → now ≡ old ++ cells_with f w (take k cells) → new ≡ now ++ f (w + 8 * k) c → new ≡ old ++ cells_with f w (take (k + 1) cells)
+  cells_put w k cells c old now new lt e was is =
+      let more = take_more cells k c lt ∙ ap (λ (v : Cell). take k cells ++ v ∷ []) (sym e) in
+      let long : length (take k cells) ≡ k = length-take-le k cells (omega arith) in
+      let all : cells_with f w (take (k + 1) cells) ≡ cells_with f w (take k cells) ++ f (w + 8 * k) c =
+      ap (cells_with f w) more ∙ cells_push w (take k cells) c ∙ ap (λ n. cells_with f w (take k cells) ++ f (w + 8 * n) c) long in
+      is ∙ ap (λ l. l ++ f (w + 8 * k) c) was ∙ append_assoc old (cells_with f w (take k cells)) (f (w + 8 * k) c) ∙ ap (λ l. old ++ l) (sym all)
 
   -- 2. All pages.
 

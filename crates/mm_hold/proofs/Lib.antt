@@ -9,3 +9,4 @@ mod Marked
 mod Meeting
 mod Passes
 mod CellLists
+mod Granting

@@ -5,3 +5,4 @@ pub mod Handlers
 pub mod Marks
 pub mod Passing
 pub mod Finding
+pub mod Exactly
