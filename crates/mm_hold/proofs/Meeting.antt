@@ -1,8 +1,9 @@
 -- Who passes on by a store, node by node and row by row.
-use Rattle.std.proofs.Common.{◌≡◌, ◌⊎◌, ◌↔◌, inl, inr, ℕ, ◌+◌, ◌<◌, ◌≤◌, Bool, true, false, ◌||◌, List, [], ◌∷◌, ◌++◌, length, slice_index, bit_and}
+use Rattle.std.proofs.Common.{◌≡◌, ◌⊎◌, ◌↔◌, inl, inr, ℕ, ◌+◌, ◌<◌, ◌≤◌, Bool, true, false, ◌||◌, List, [], ◌∷◌, ◌++◌, length, get_or, slice_index, bit_and}
 use Rattle.std.proofs.Common.{refl, sym, ap, ◌∙◌, subst, arith}
 use Rattle.std.proofs.lemmas.Bool.{or_parts}
-use Rattle.std.specs.{Prelude.Contains, Int.bit_at}
+use Rattle.std.specs.{Prelude.Contains, List.AllByRecursion, Int.bit_at}
+use Rattle.mm_model.proofs.CoreRows.{each_get}
 use Rattle.mm_flow.proofs.{Bits.zero_bit, Masks.below_cases}
 use Rattle.mm_flow.specs.{Flow.Has, declared.node.{Node.Node, Right.{Right, TheVariants.{Load, Store}}}}
 use Rattle.mm_confine.specs.declared.party.Party.{Party, TheVariants.{Group, KernelSlot}}
@@ -324,3 +325,8 @@ so_far_more n s old now new set a b h e k = record {
 pub shared_all : (s : Sharing) (old new : Marks) (n : ℕ) (changed : Bool) → n ≡ length old.groups.items → SharedSoFar n s old new changed
     → Adds (SharedAt (length old.groups.items) s old) old new changed
 shared_all s old new n changed e h = subst (λ v. Adds (SharedAt v s old) old new changed) e h.adds
+
+-- 5. Nodes within the marks.
+
+pub node_inside : {A : Type 0} (size : ℕ) (at : A → ℕ) (xs : List A) (n : ℕ) (x : A) → AllByRecursion (λ (y : A). at y < size) xs → n < length xs → x ≡ get_or xs n x → at x < size
+node_inside size at xs n x all lt e = subst (λ y. at y < size) (sym e) (each_get (λ y. at y < size) xs n x all lt)

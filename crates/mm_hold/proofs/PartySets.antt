@@ -13,7 +13,7 @@ use Rattle.mm_confine.specs.Grants.{IsOf, IsOf.{with_group, by_itself}}
 use Rattle.mm_hold.specs.declared.{parties.Parties.Parties, sharing.Sharing.Sharing, conduct.Conduct.Conduct}
 use Rattle.mm_hold.specs.Parties.{In, Is, Small, IsGroup, Shares, SharedBy, Adds, Across, IsPartyOf, ServedPartyOf}
 use Rattle.mm_hold.specs.Parties.{ServedParty, PassesByCaller, PassesByCaller.{serves, is_served}, PassesByKernel}
-use Rattle.mm_hold.specs.Parties.{PassesByKernel.{freed, gives, sees}, PassesBySlot, PassesAlways}
+use Rattle.mm_hold.specs.Parties.{PassesByKernel.{freed, gives, sees}, PassesBySlot, PassesBySlot.{of_kernel, of_caller}, PassesAlways}
 use Rattle.mm_span.proofs.Members.{none_in}
 use Rattle.mm_hold.proofs.Sets.{got_old, got_new, got_cases}
 
@@ -329,3 +329,12 @@ module _ (i : Image) (kept : List Segment) where
       | inr same ↦ (more y x).1 (inr (subst (λ u. PassesBySlot i kept k u y x) (sym same) p.passes))
     ],
   )
+
+  module _ (k : Conduct) (t : Slot) (a b : Sharing) where
+    pub slot_kernel : is_kernel i kept t.number ≡ true → Adds (PassesByKernel i kept k t) a b → Adds (PassesBySlot i kept k t) a b
+    slot_kernel e h = adds_as (PassesByKernel i kept k t) (PassesBySlot i kept k t) a b (λ y x p. of_kernel e p)
+        (λ y x p. elim p [ of_kernel f q ↦ q | of_caller f q ↦ absurd (cc) ]) h
+
+    pub slot_caller : is_kernel i kept t.number ≡ false → Adds (PassesByCaller i kept t) a b → Adds (PassesBySlot i kept k t) a b
+    slot_caller e h = adds_as (PassesByCaller i kept t) (PassesBySlot i kept k t) a b (λ y x p. of_caller e p)
+        (λ y x p. elim p [ of_kernel f q ↦ absurd (cc) | of_caller f q ↦ q ]) h

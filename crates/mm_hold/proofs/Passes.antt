@@ -34,27 +34,27 @@ module _ (kept : List Segment) (keys : List CanonicalPtr) (all : All IsKey keys)
   pub door_found : (bits : ℕ) (p : Pointer) → pointer_of bits ≡ p → bits_of p ≡ bits → is_door kept p ≡ true → (o : Option ℕ)
       → MatchOption o (Contains keys (key_of p) → ⊥) (λ k. (k < length keys) × (key_at keys k ≡ key_of p)) → IsDoorNode kept keys bits o
   door_found bits p is again door None h =
-      λ k at. h (k, at.small, get_or_default keys k (key_of p) no_key at.small ∙ key_is k bits p at.small at.bits is again)
+      λ k at. h (k, at.small, get_or_default keys k (key_of p) no_key at.small ∙ key_is k bits p at.small at.same is again)
   door_found bits p is again door (Some k) h = record {
     small = h.0;
-    bits = ap (λ (x : CanonicalPtr). x.bits) h.1 ∙ again;
+    same = ap (λ (x : CanonicalPtr). x.bits) h.1 ∙ again;
     is = ap (is_door kept) (ap pointer_at h.1 ∙ ap pointer_of again ∙ is) ∙ door;
   }
 
   pub door_none : (bits : ℕ) (p : Pointer) → pointer_of bits ≡ p → is_door kept p ≡ false → IsDoorNode kept keys bits None
   door_none bits p is door = λ k at.
       let yes = at.is in
-      let same = ap (is_door kept) (ap pointer_of at.bits ∙ is) in
+      let same = ap (is_door kept) (ap pointer_of at.same ∙ is) in
       absurd (cc)
 
   pub door_spelled : (bits : ℕ) → (SpellsPointer bits → ⊥) → IsDoorNode kept keys bits None
-  door_spelled bits none = λ k at. none (subst SpellsPointer at.bits (all k no_key at.small).spells)
+  door_spelled bits none = λ k at. none (subst SpellsPointer at.same (all k no_key at.small).spells)
 
   one_node : IsRising keys → (bits j k : ℕ) → DoorAt kept keys bits j → DoorAt kept keys bits k → j ≡ k
   one_node rising bits j k a b =
       let kj = all j no_key a.small in
       let kk = all k no_key b.small in
-      let same : (key_at keys j).bits ≡ (key_at keys k).bits = a.bits ∙ sym b.bits in
+      let same : (key_at keys j).bits ≡ (key_at keys k).bits = a.same ∙ sym b.same in
       let own : pointer_at (key_at keys j) ≡ pointer_at (key_at keys k) = ap pointer_of same in
       let nj = kj.narrow in
       let nk = kk.narrow in

@@ -10,7 +10,7 @@ use Rattle.mm_hold.specs.declared.marks.Marks.{Marks}
 -- the node is that of a door of these bits
 pub record DoorAt (kept : List Segment) (keys : List CanonicalPtr) (bits k : ℕ) : Type 0 where
   pub small : k < length keys
-  pub bits : (key_at keys k).bits ≡ bits
+  pub same : (key_at keys k).bits ≡ bits
   pub is : is_door kept (pointer_at (key_at keys k)) ≡ true
 
 -- the answer is the node of the door of these bits; if there is none, no key is one of such a door

@@ -6,7 +6,7 @@ use crate::graph::{Graph, Start, graph_of};
 use crate::handlers::served_in;
 use crate::marks::Marks;
 use crate::parties::mask_of;
-use crate::rounds::Passing;
+use crate::rounds::{passes_of, until_still};
 use mm_audit::{Apart, Segments, Survey, survey_of};
 use mm_graph::{CanonicalPtr, find};
 use mm_keep::{Kernel, Tables};
@@ -83,9 +83,9 @@ fn holdings_by(alloc: Global, kernel: &Kernel, conduct: &Conduct) -> Result<Hold
         slots,
     } = graph_of(alloc, kernel, conduct)?;
     let mut marks = Marks { groups, slots };
-    let passing = Passing::new(alloc, kernel, conduct, &graph)?;
-    passing.until_still(alloc, &mut marks)?;
-    drop(passing);
+    let passes = passes_of(alloc, kernel, conduct, &graph)?;
+    until_still(alloc, kernel, conduct, &graph, &passes, &mut marks)?;
+    drop(passes);
     holdings_in(alloc, kernel, graph, marks)
 }
 

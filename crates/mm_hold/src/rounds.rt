@@ -11,61 +11,83 @@ use mm_keep::Kernel;
 use mm_word::NoMemory;
 use std::alloc::Global;
 
-/// What is the same in each round.
+/// What passes in each round, whatever is held.
 #[derive(Drop)]
-pub struct Passing<'a> {
-    kernel: &'a Kernel<'a>,
-    conduct: &'a Conduct,
-    graph: &'a Graph,
+pub struct Passes {
     /// Who passes on all that it holds, whatever it holds.
     sharing: Sharing,
+    /// What stands behind doors.
     behind: Vec<NodePair>,
+    /// The pointers that slots store to words that are not kept.
     sent: Vec<SlotNode>,
+    /// The pointers that slots give to what they serve.
     given: Vec<SlotNode>,
 }
 
-impl<'a> Passing<'a> {
-    /// What is the same in each round.
-    pub fn new(
-        alloc: Global,
-        kernel: &'a Kernel<'a>,
-        conduct: &'a Conduct,
-        graph: &'a Graph,
-    ) -> Result<Passing<'a>, NoMemory> {
-        let behind = nodes_behind(alloc, kernel, &graph.keys, conduct)?;
-        let sent = nodes_handed(alloc, kernel, &graph.keys, &conduct.sent)?;
-        let given = nodes_handed(alloc, kernel, &graph.keys, &conduct.given)?;
-        Ok(Passing {
-            kernel,
-            conduct,
-            graph,
-            sharing: sharing_of(kernel, conduct),
-            behind,
-            sent,
-            given,
-        })
-    }
+/// What passes in each round, whatever is held.
+pub fn passes_of(
+    alloc: Global,
+    kernel: &Kernel,
+    conduct: &Conduct,
+    graph: &Graph,
+) -> Result<Passes, NoMemory> {
+    let behind = nodes_behind(alloc, kernel, &graph.keys, conduct)?;
+    let sent = nodes_handed(alloc, kernel, &graph.keys, &conduct.sent)?;
+    let given = nodes_handed(alloc, kernel, &graph.keys, &conduct.given)?;
+    Ok(Passes {
+        sharing: sharing_of(kernel, conduct),
+        behind,
+        sent,
+        given,
+    })
+}
 
-    /// Spreads marks along edges, and then gives parties what follows from what all hold; and says whether that was new.
-    fn round(&self, alloc: Global, marks: &mut Marks) -> Result<bool, NoMemory> {
-        marks.spread(alloc, &self.graph.nodes, &self.graph.targets, &self.graph.parents)?;
-        let meets = meets_of(alloc, &self.graph.nodes, &self.graph.parents, marks)?;
-        let mut sharing = self.sharing;
-        share_meets(&mut sharing, &meets, self.conduct.senders);
-        share_inside(&mut sharing, self.kernel, &self.graph.keys, marks, self.conduct);
-        let behind = give_behind(marks, &self.behind);
-        let sent = give_sent(marks, &self.sent, &meets);
-        let given = give_given(marks, self.kernel, &self.given);
-        let shared = give_shared(marks, &sharing);
-        Ok(behind || sent || given || shared)
-    }
+/// Who passes on all that it holds, as marks are now.
+fn shared_now(
+    kernel: &Kernel,
+    conduct: &Conduct,
+    graph: &Graph,
+    always: Sharing,
+    meets: &Sharing,
+    marks: &Marks,
+) -> Sharing {
+    let mut sharing = always;
+    share_meets(&mut sharing, meets, conduct.senders);
+    share_inside(&mut sharing, kernel, &graph.keys, marks, conduct);
+    sharing
+}
 
-    /// Goes rounds until nothing changes.
-    pub fn until_still(&self, alloc: Global, marks: &mut Marks) -> Result<(), NoMemory> {
-        loop {
-            if !self.round(alloc, marks)? {
-                return Ok(());
-            }
+/// Spreads marks along edges, and then gives parties what follows from what all hold; and says whether that was new.
+fn round(
+    alloc: Global,
+    kernel: &Kernel,
+    conduct: &Conduct,
+    graph: &Graph,
+    passes: &Passes,
+    marks: &mut Marks,
+) -> Result<bool, NoMemory> {
+    marks.spread(alloc, &graph.nodes, &graph.targets, &graph.parents)?;
+    let meets = meets_of(alloc, &graph.nodes, &graph.parents, marks)?;
+    let sharing = shared_now(kernel, conduct, graph, passes.sharing, &meets, marks);
+    let behind = give_behind(marks, &passes.behind);
+    let sent = give_sent(marks, &passes.sent, &meets);
+    let given = give_given(marks, kernel, &passes.given);
+    let shared = give_shared(marks, &sharing);
+    Ok(behind || sent || given || shared)
+}
+
+/// Goes rounds until nothing changes.
+pub fn until_still(
+    alloc: Global,
+    kernel: &Kernel,
+    conduct: &Conduct,
+    graph: &Graph,
+    passes: &Passes,
+    marks: &mut Marks,
+) -> Result<(), NoMemory> {
+    loop {
+        if !round(alloc, kernel, conduct, graph, passes, marks)? {
+            return Ok(());
         }
     }
 }
