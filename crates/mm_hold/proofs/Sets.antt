@@ -5,8 +5,8 @@ use Rattle.std.proofs.lemmas.{Option.{slice_get_within, get_or_from_slice_get}, 
 use Rattle.std.proofs.lemmas.List.Elements.{Contains-append_left, Contains-push, Contains-push_cases}
 use Rattle.std.proofs.lemmas.Map.Lookups.{CmpEqualImpliesEq, exact_pairs, exact_unsigned}
 use Rattle.std.specs.declared.cmp.Ordering.{Ordering, TheVariants.{Less, Equal, Greater}}
-use Rattle.std.specs.{Prelude.{Contains, OnOk}, Ordering.{match_ordering, nat_cmp, ordering_then}, BTreeSet.insert_key}
-use Rattle.mm_span.proofs.Members.{none_in, in_first, in_rest, in_cases}
+use Rattle.std.specs.{Prelude.{Contains, OnOk}, Ordering.{match_ordering, nat_cmp, ordering_then}, BTreeSet.insert_key, List.flat_map}
+use Rattle.mm_span.proofs.Members.{none_in, in_first, in_rest, in_cases, in_flat, flat_in}
 use Rattle.mm_hold.specs.Conducts.{AreAll}
 
 -- 1. Keys.
@@ -156,3 +156,25 @@ module _ {A : Type 0} (xs ys : List A) (x : A) (is : ys ≡ xs ++ x ∷ []) wher
 pub then_ok : {T E : Type 0} {P Q : Type 0} (r : Result T E) → (P → Q) → OnOk r P → OnOk r Q
 then_ok (Ok x) f h = f h
 then_ok (Err e) f h = tt
+
+-- 5. What each element of a list gives.
+
+pub all_flat_none : {X K : Type 0} (of : X → List K) (keys : List K) → keys ≡ [] → AreAll (Contains (flat_map of [])) keys
+all_flat_none of keys is = record { each = λ x. (λ h. subst (λ l. Contains l x) is h, λ h. absurd (none_in x h)) }
+
+pub all_flat_more : {X K : Type 0} (of : X → List K) (xs ys : List X) (x : X) (old new : List K) → ys ≡ xs ++ x ∷ [] → AreAll (Contains (flat_map of xs)) old
+    → AreAll (λ e. Contains old e ⊎ Contains (of x) e) new → AreAll (Contains (flat_map of ys)) new
+all_flat_more of xs ys x old new is h k = record {
+  each = λ e. (
+    λ there. elim ((k.each e).0 there) [
+      | inl before ↦ let w = flat_in of xs e ((h.each e).0 before) in in_flat of ys w.source e (got_old xs ys x is w.source w.inside) w.has
+      | inr now ↦ in_flat of ys x e (got_new xs ys x is) now
+    ],
+    λ given.
+        let w = flat_in of ys e given in
+        elim (got_cases xs ys x is w.source w.inside) [
+          | inl before ↦ (k.each e).1 (inl ((h.each e).1 (in_flat of xs w.source e before w.has)))
+          | inr same ↦ (k.each e).1 (inr (subst (λ v. Contains (of v) e) (sym same) w.has))
+        ],
+  );
+}
