@@ -149,32 +149,43 @@ fn note_threads(
     conduct: &mut Conduct,
     alloc: Global,
     kernel: &Kernel,
-    findings: &Findings<'_>,
+    tables: &Tables,
+    first: &[Held],
+    carrying: &[u64],
 ) -> Result<(), NoMemory>
     ensures { OnOk result (Notes
-        (flat_map (thread_deeds kernel.now.image kernel.now.kept findings.now) findings.now.tables.threads)
+        (flat_map (thread_deeds kernel.now.image kernel.now.kept
+        (record { tables = tables.now; first = first.now; carrying = carrying.now })) tables.now.threads)
         conduct.old conduct.new) }
 {
     let mut deeds = Vec::new(alloc);
-    let tables = findings.tables;
+    let findings = Findings {
+        tables,
+        first,
+        carrying,
+    };
     for k in 0..tables.threads() {
         let t = tables.thread(k);
-        note_thread(conduct, &mut deeds, kernel, findings, &t)?;
+        note_thread(conduct, &mut deeds, kernel, &findings, &t)?;
     }
     Ok(())
 }
 
-/// What the threads of each origin do, given these findings.
+/// What the threads of each origin do, given the forms that kept words have from the start, and the kept words that get
+/// a form that carries.
 fn conduct_in(
     alloc: Global,
     kernel: &Kernel,
-    findings: &Findings<'_>,
+    tables: &Tables,
+    first: &[Held],
+    carrying: &[u64],
 ) -> Result<Conduct, NoMemory>
-    ensures { IfOk result (λ c. NotesFrom (all_deeds kernel.now.image kernel.now.kept findings.now) c) }
+    ensures { IfOk result (λ c. NotesFrom (all_deeds kernel.now.image kernel.now.kept
+        (record { tables = tables.now; first = first.now; carrying = carrying.now })) c) }
 {
     let mut conduct = Conduct::none(alloc);
-    note_begins(&mut conduct, alloc, kernel, findings.tables)?;
-    note_threads(&mut conduct, alloc, kernel, findings)?;
+    note_begins(&mut conduct, alloc, kernel, tables)?;
+    note_threads(&mut conduct, alloc, kernel, tables, first, carrying)?;
     Ok(conduct)
 }
 
@@ -192,10 +203,5 @@ pub fn conduct_of(
 {
     let _slots = kernel.image().slots();
     let carrying = carrying_words(alloc, tables)?;
-    let findings = Findings {
-        tables,
-        first,
-        carrying: &carrying,
-    };
-    conduct_in(alloc, kernel, &findings)
+    conduct_in(alloc, kernel, tables, first, carrying.as_slice())
 }

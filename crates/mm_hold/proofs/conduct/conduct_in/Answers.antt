@@ -1,5 +1,5 @@
 use Rattle.std.specs.List.{flat_map}
-use Rattle.mm_hold.specs.Deeds.{begin_deeds, thread_deeds}
+use Rattle.mm_hold.specs.Deeds.{Findings, begin_deeds, thread_deeds}
 use Rattle.mm_hold.proofs.Noted.{notes_join}
 use Rattle.mm_hold.proofs.conduct.conduct_in.Goals as goal
 
@@ -7,7 +7,7 @@ pub returns : goal.returns
 returns c =
     let i = c.args.kernel.now.image in
     let kept = c.args.kernel.now.kept in
-    let f = c.args.findings.now in
+    let f : Findings = record { tables = c.args.tables.now; first = c.args.first.now; carrying = c.args.carrying.now } in
     record {
       none = c.none-conduct.result;
       is_none = c.none-conduct.ensures;

@@ -10,8 +10,8 @@ loop-k-init c = record { notes = notes_none c.args.conduct.now; empty = c.new-de
 pub loop-k-preserved : goal.loop-k-preserved
 loop-k-preserved c =
     let l = c.loop-k in
-    let f = thread_deeds c.args.kernel.now.image c.args.kernel.now.kept c.args.findings.now in
-    let ts = c.args.findings.now.tables.threads in
+    let f = thread_deeds c.args.kernel.now.image c.args.kernel.now.kept (record { tables = c.args.tables.now; first = c.args.first.now; carrying = c.args.carrying.now }) in
+    let ts = c.args.tables.now.threads in
     let t = c.thread-t.result in
     let more = flat_map_more f [] (take l.k ts) t ∙ ap (flat_map f) (sym (take_got ts l.k t c.thread-t.ensures)) in
     record {
@@ -22,8 +22,8 @@ loop-k-preserved c =
 
 pub returns : goal.returns
 returns c =
-    let f = thread_deeds c.args.kernel.now.image c.args.kernel.now.kept c.args.findings.now in
-    let ts = c.args.findings.now.tables.threads in
+    let f = thread_deeds c.args.kernel.now.image c.args.kernel.now.kept (record { tables = c.args.tables.now; first = c.args.first.now; carrying = c.args.carrying.now }) in
+    let ts = c.args.tables.now.threads in
     let test = c.loop-k-test.false in
     let end = c.threads-k-end.ensures.count in
     subst (λ l. Notes (flat_map f l) c.args.conduct.now c.loop-k.conduct) (take_all c.loop-k.k ts (omega (arith, test, end))) c.loop-k.invariant.notes

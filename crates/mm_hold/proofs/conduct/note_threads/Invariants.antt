@@ -4,6 +4,6 @@ use Rattle.mm_hold.proofs.conduct.note_threads.Given as goal
 
 abbrev pub invariant-loop-k : goal.invariant-loop-k
 invariant-loop-k l = record {
-  notes : Notes (flat_map (thread_deeds l.kernel.image l.kernel.kept l.findings) (take l.k l.findings.tables.threads)) l.fn.conduct l.conduct;
+  notes : Notes (flat_map (thread_deeds l.kernel.image l.kernel.kept (record { tables = l.tables; first = l.first; carrying = l.carrying })) (take l.k l.tables.threads)) l.fn.conduct l.conduct;
   empty : l.deeds.items ≡ [];
 }
