@@ -1,6 +1,6 @@
 -- Sets of parties, and what is added to who passes on.
 use Rattle.std.proofs.Common.{◌≡◌, ◌⊎◌, ◌↔◌, inl, inr, ℕ, zero, suc, ◌+◌, ◌*◌, ◌%◌, ◌^◌, ◌<◌, ◌≤◌, Bool, true, false, List, [], ◌∷◌, ◌++◌}
-use Rattle.std.proofs.Common.{replicate, slice_index, bit_and, bit_or, refl, sym, ap, ◌∙◌, subst, arith}
+use Rattle.std.proofs.Common.{replicate, length, slice_index, bit_and, bit_or, refl, sym, ap, ◌∙◌, subst, arith}
 use Rattle.std.proofs.lemmas.{Nat.Bits.{bit_at-pow_same, bit_at-pow_other, bit_at_above}, Bool.{cases_eq, cases_lt}}
 use Rattle.std.specs.{Prelude.Contains, Int.bit_at}
 use Rattle.mm_model.specs.{Slot.Slot, Image.Image, Turn.is_handler}
@@ -338,3 +338,10 @@ module _ (i : Image) (kept : List Segment) where
     pub slot_caller : is_kernel i kept t.number ≡ false → Adds (PassesByCaller i kept t) a b → Adds (PassesBySlot i kept k t) a b
     slot_caller e h = adds_as (PassesByCaller i kept t) (PassesBySlot i kept k t) a b (λ y x p. of_caller e p)
         (λ y x p. elim p [ of_kernel f q ↦ absurd (cc) | of_caller f q ↦ q ]) h
+
+-- 7. Rows of arrays.
+
+pub has_below : (xs : List ℕ) (k g : ℕ) → Has xs k g → k < length xs
+has_below [] k g h = absurd (zero_bit g h)
+has_below (x ∷ xs) zero g h = omega arith
+has_below (x ∷ xs) (suc k) g h = let lt = has_below xs k g h in omega arith
