@@ -11,7 +11,7 @@ use Rattle.mm_kernel.specs.{Segments.Segment, Threads.is_kernel}
 use Rattle.mm_confine.specs.declared.party.Party.{Party, TheVariants.{Group, KernelSlot}}
 use Rattle.mm_confine.specs.Grants.{IsOf, IsOf.{with_group, by_itself}}
 use Rattle.mm_hold.specs.declared.{parties.Parties.Parties, sharing.Sharing.Sharing, conduct.Conduct.Conduct}
-use Rattle.mm_hold.specs.Parties.{In, Is, Small, IsGroup, Shares, SharedBy, Adds, Across, IsPartyOf, ServedPartyOf}
+use Rattle.mm_hold.specs.Parties.{In, Is, Small, IsGroup, Shares, SharedBy, SharesBit, Adds, AddsBits, Across, IsPartyOf, ServedPartyOf}
 use Rattle.mm_hold.specs.Parties.{ServedParty, PassesByCaller, PassesByCaller.{serves, is_served}, PassesByKernel}
 use Rattle.mm_hold.specs.Parties.{PassesByKernel.{freed, gives, sees}, PassesBySlot, PassesBySlot.{of_kernel, of_caller}, PassesAlways}
 use Rattle.mm_span.proofs.Members.{none_in}
@@ -30,6 +30,14 @@ mask_is n g lt = (
   ],
   λ h. ap (λ v. bit_at v g) (one_bit n lt) ∙ ap (bit_at (2 ^ n)) h.0 ∙ bit_at-pow_same n,
 )
+
+-- the mask of an equal number
+pub mask_as : (m a b : ℕ) → a ≡ b → ((g : ℕ) → (bit_at m g ≡ 1) ↔ ((g ≡ a) × (g < 64))) → (g : ℕ) → (bit_at m g ≡ 1) ↔ ((g ≡ b) × (g < 64))
+mask_as m a b e h = subst (λ v. (g : ℕ) → (bit_at m g ≡ 1) ↔ ((g ≡ v) × (g < 64))) e h
+
+-- the test of an equal number
+pub test_as : (t : Bool) (mask a b : ℕ) → a ≡ b → ((t ≡ true) ↔ ((a < 64) × (bit_at mask a ≡ 1))) → (t ≡ true) ↔ ((b < 64) × (bit_at mask b ≡ 1))
+test_as t mask a b e h = subst (λ v. (t ≡ true) ↔ ((v < 64) × (bit_at mask v ≡ 1))) e h
 
 pub no_mask : (n g : ℕ) → 64 ≤ n → (bit_at 0 g ≡ 1) ↔ ((g ≡ n) × (g < 64))
 no_mask n g le = (λ h. absurd (zero_bit g h), λ h. let e = h.0 in let lt = h.1 in absurd (omega arith))
@@ -117,9 +125,8 @@ pub slot_row : (s : Sharing) (h : ℕ) → Is (record { groups = slice_index s.s
 slot_row s h (Group g) = (λ k. k, λ k. k)
 slot_row s h (KernelSlot n) = (λ k. k, λ k. k)
 
-edges_are : (old new : List ℕ) (from to h g : ℕ) → from < 2 ^ 64 → AddsEdges 64 old from to new
-    → Has new h g ↔ (Has old h g ⊎ ((bit_at from h ≡ 1) × (bit_at to g ≡ 1)))
-edges_are old new from to h g lt e = (
+pub edges_are : (old new : List ℕ) (from to : ℕ) → from < 2 ^ 64 → AddsEdges 64 old from to new → AddsBits old from to new
+edges_are old new from to lt e h g = (
   λ k. e.only h g k,
   λ k. elim k [
     | inl before ↦ e.keeps h g before
@@ -127,33 +134,40 @@ edges_are old new from to h g lt e = (
   ],
 )
 
-pub across : (s t : Sharing) (from to : Parties) → from.groups < 2 ^ 64 → from.slots < 2 ^ 64 → AddsEdges 64 s.groups_to_groups from.groups to.groups t.groups_to_groups
-    → AddsEdges 64 s.groups_to_slots from.groups to.slots t.groups_to_slots → AddsEdges 64 s.slots_to_groups from.slots to.groups t.slots_to_groups
-    → AddsEdges 64 s.slots_to_slots from.slots to.slots t.slots_to_slots → Adds (Across from to) s t
-across s t from to lg ls a b c d (Group h) (Group g) = edges_are s.groups_to_groups t.groups_to_groups from.groups to.groups h g lg a
-across s t from to lg ls a b c d (Group h) (KernelSlot n) = edges_are s.groups_to_slots t.groups_to_slots from.groups to.slots h n lg b
-across s t from to lg ls a b c d (KernelSlot m) (Group g) = edges_are s.slots_to_groups t.slots_to_groups from.slots to.groups m g ls c
-across s t from to lg ls a b c d (KernelSlot m) (KernelSlot n) = edges_are s.slots_to_slots t.slots_to_slots from.slots to.slots m n ls d
+pub bits_are : (all from : ℕ) (sharing : List ℕ) → from < 2 ^ 64 → ((g : ℕ) → (bit_at all g ≡ 1) ↔ FlowShared 64 from sharing g)
+    → (g : ℕ) → (bit_at all g ≡ 1) ↔ SharesBit from sharing g
+bits_are all from sharing lt h g = (
+  λ k. let r = (h g).0 k in record { by = r.by; has = r.has; shares = r.shared_now },
+  λ r. (h g).1 (record { by = r.by; small = bit_below from r.by lt r.has; has = r.has; shared_now = r.shares }),
+)
 
-module _ (s : Sharing) (from : Parties) (lg : from.groups < 2 ^ 64) (ls : from.slots < 2 ^ 64) where
-  shared_bit : (a c g : ℕ) (to_x from_x : List ℕ) (x : Party) → ((bit_at a g ≡ 1) ↔ FlowShared 64 from.groups to_x g) → ((bit_at c g ≡ 1) ↔ FlowShared 64 from.slots from_x g)
+pub across : (s t : Sharing) (from to : Parties) → AddsBits s.groups_to_groups from.groups to.groups t.groups_to_groups
+    → AddsBits s.groups_to_slots from.groups to.slots t.groups_to_slots → AddsBits s.slots_to_groups from.slots to.groups t.slots_to_groups
+    → AddsBits s.slots_to_slots from.slots to.slots t.slots_to_slots → Adds (Across from to) s t
+across s t from to a b c d (Group h) (Group g) = a h g
+across s t from to a b c d (Group h) (KernelSlot n) = b h n
+across s t from to a b c d (KernelSlot m) (Group g) = c m g
+across s t from to a b c d (KernelSlot m) (KernelSlot n) = d m n
+
+module _ (s : Sharing) (from : Parties) where
+  shared_bit : (a c g : ℕ) (to_x from_x : List ℕ) (x : Party) → ((bit_at a g ≡ 1) ↔ SharesBit from.groups to_x g) → ((bit_at c g ≡ 1) ↔ SharesBit from.slots from_x g)
       → ((h : ℕ) → Has to_x h g ↔ Shares s (Group h) x) → ((m : ℕ) → Has from_x m g ↔ Shares s (KernelSlot m) x)
       → (bit_at (bit_or a c) g ≡ 1) ↔ SharedBy s from x
   shared_bit a c g to_x from_x x ea ec eg es = (
     λ h. elim (or_cases a c g h) [
-      | inl l ↦ let k = ea.0 l in record { by = Group k.by; among = k.has; shares = (eg k.by).0 k.shared_now }
-      | inr r ↦ let k = ec.0 r in record { by = KernelSlot k.by; among = k.has; shares = (es k.by).0 k.shared_now }
+      | inl l ↦ let k = ea.0 l in record { by = Group k.by; among = k.has; shares = (eg k.by).0 k.shares }
+      | inr r ↦ let k = ec.0 r in record { by = KernelSlot k.by; among = k.has; shares = (es k.by).0 k.shares }
     ],
     λ k. by k.by k.among k.shares,
   )
     where
       by : (y : Party) → In y from → Shares s y x → bit_at (bit_or a c) g ≡ 1
-      by (Group h) m sh = or_left a c g (ea.1 (record { by = h; small = bit_below from.groups h lg m; has = m; shared_now = (eg h).1 sh }))
-      by (KernelSlot h) m sh = or_right a c g (ec.1 (record { by = h; small = bit_below from.slots h ls m; has = m; shared_now = (es h).1 sh }))
+      by (Group h) m sh = or_left a c g (ea.1 (record { by = h; has = m; shares = (eg h).1 sh }))
+      by (KernelSlot h) m sh = or_right a c g (ec.1 (record { by = h; has = m; shares = (es h).1 sh }))
 
-  pub shared_is : (a b c d : ℕ) → ((g : ℕ) → (bit_at a g ≡ 1) ↔ FlowShared 64 from.groups s.groups_to_groups g)
-      → ((g : ℕ) → (bit_at b g ≡ 1) ↔ FlowShared 64 from.groups s.groups_to_slots g) → ((g : ℕ) → (bit_at c g ≡ 1) ↔ FlowShared 64 from.slots s.slots_to_groups g)
-      → ((g : ℕ) → (bit_at d g ≡ 1) ↔ FlowShared 64 from.slots s.slots_to_slots g)
+  pub shared_is : (a b c d : ℕ) → ((g : ℕ) → (bit_at a g ≡ 1) ↔ SharesBit from.groups s.groups_to_groups g)
+      → ((g : ℕ) → (bit_at b g ≡ 1) ↔ SharesBit from.groups s.groups_to_slots g) → ((g : ℕ) → (bit_at c g ≡ 1) ↔ SharesBit from.slots s.slots_to_groups g)
+      → ((g : ℕ) → (bit_at d g ≡ 1) ↔ SharesBit from.slots s.slots_to_slots g)
       → Is (record { groups = bit_or a c; slots = bit_or b d }) (SharedBy s from)
   shared_is a b c d ea eb ec ed (Group g) =
       shared_bit a c g s.groups_to_groups s.slots_to_groups (Group g) (ea g) (ec g) (λ h. (λ k. k, λ k. k)) (λ h. (λ k. k, λ k. k))
@@ -267,10 +281,7 @@ module _ (i : Image) (kept : List Segment) where
       (adds_then (Across own alone) (Across alone own) a b c one two)
 
   module _ (k : Conduct) (s : Slot) where
-    abbrev Has' : ℕ → Type 0
-    Has' mask = bit_at mask s.number ≡ 1
-
-    -- a set that is taken if a mask has the number of the slot
+      -- a set that is taken if a mask has the number of the slot
     on_mask : (mask : ℕ) (b : Bool) (own set : Parties) (m : ℕ) → ((g : ℕ) → (bit_at m g ≡ 1) ↔ ((g ≡ s.number) × (g < 64))) → own ≡ record { groups = 0; slots = m }
         → ((b ≡ true) ↔ ((s.number < 64) × (bit_at mask s.number ≡ 1))) → Is set (λ x. (b ≡ true) × In x own)
         → Is set (λ x. (bit_at mask s.number ≡ 1) × (x ≡ KernelSlot s.number) × Small x)

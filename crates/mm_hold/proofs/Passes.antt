@@ -68,7 +68,7 @@ module _ (i : Image) (kept : List Segment) (keys : List CanonicalPtr) (m : Marks
   R o x = Runs i kept keys m o x
 
   no_kind : (n bits : ℕ) → ◌≡◌ {A = ℕ × ℕ} (0, bits) (1, n) → ⊥
-  no_kind n bits e = let no : 0 ≡ 1 = ap (λ (o : ℕ × ℕ). o.0) e in omega arith
+  no_kind n bits e = let no : ◌≡◌ {A = ℕ} 0 1 = ap (λ (o : ℕ × ℕ). o.0) e in omega (arith, no)
 
   pub door_runs : All IsKey keys → IsRising keys → (bits k : ℕ) → DoorAt kept keys bits k → Is (record { groups = slice_index m.groups.items k; slots = 0 }) (R (0, bits))
   door_runs all rising bits k at (Group g) = (
@@ -106,12 +106,12 @@ module _ (i : Image) (kept : List Segment) (keys : List CanonicalPtr) (m : Marks
           let number : n ≡ s = ap (λ (v : ℕ × ℕ). v.1) o in
           let own : k ≡ s = cc in
           (e k).1 (subst (λ v. is_kernel i kept v ≡ true) (sym number) kernel, own ∙ sym number, omega arith)
-      by (through j f z there has same) = absurd (let no : 1 ≡ 0 = z in omega arith)
+      by (through j f z there has same) = absurd (let no : ◌≡◌ {A = ℕ} 1 0 = z in omega (arith, no))
   slot_runs n mask small e (Group g) = (λ h. absurd (zero_bit g h), λ r. absurd (by r))
     where
       by : R (1, n) (Group g) → ⊥
       by (itself s kernel lt o same) = cc
-      by (through j f z there has same) = let no : 1 ≡ 0 = z in omega arith
+      by (through j f z there has same) = let no : ◌≡◌ {A = ℕ} 1 0 = z in omega (arith, no)
 
   pub none_runs : (o : ℕ × ℕ) → (o.0 ≡ 0 → ⊥) → (o.0 ≡ 1 → o.1 < 64 → ⊥) → (set : Parties) → Is set (λ x. ⊥) → Is set (R o)
   none_runs o zero one set h x = (λ k. absurd ((h x).0 k), λ r. absurd (by r))

@@ -51,6 +51,16 @@ Adds more old new = (y x : Party) → Shares new y x ↔ (Shares old y x ⊎ mor
 abbrev pub Across : Parties → Parties → Party → Party → Type 0
 Across from to y x = In y from × In x to
 
+-- in one array: each of a mask passes on to each of another
+abbrev pub AddsBits : List ℕ → ℕ → ℕ → List ℕ → Type 0
+AddsBits old from to new = (h g : ℕ) → Has new h g ↔ (Has old h g ⊎ ((bit_at from h ≡ 1) × (bit_at to g ≡ 1)))
+
+-- one of a mask passes on to this
+pub record SharesBit (mask : ℕ) (sharing : List ℕ) (g : ℕ) : Type 0 where
+  pub by : ℕ
+  pub has : bit_at mask by ≡ 1
+  pub shares : Has sharing by g
+
 -- 3. Slots and what they serve.
 
 -- the slot is of the party

@@ -1,7 +1,7 @@
 //! Parties that are given pointers, by their nodes.
 
 ghost use Rattle.std.specs.List.{AllByRecursion};
-ghost use Rattle.std.specs.Prelude.{◌≡◌, ◌<◌, ℕ, length};
+ghost use Rattle.std.specs.Prelude.{◌≡◌, ◌<◌, ◌||◌, ℕ, length};
 ghost use Rattle.mm_hold.specs.Marks.{Adds, GivesBehind, Handed, HasSize, SharedAt, SlotMeets};
 ghost use Rattle.mm_hold.specs.Parties.{Is, ServedParty, SharedBy};
 
@@ -16,6 +16,13 @@ pub type NodePair = (usize, usize);
 /// What a slot hands on: a pointer by its node.
 pub type SlotNode = (u8, usize);
 
+/// Whether one of two things is so.
+fn either(one: bool, other: bool) -> bool
+    ensures { result ≡ (one || other) }
+{
+    one || other
+}
+
 /// Gives the groups that hold a door what stands behind it, and says whether that was new.
 pub fn give_behind(marks: &mut Marks, behind: &[NodePair]) -> bool
     requires size { HasSize marks.old (length marks.old.groups.items) }
@@ -27,7 +34,7 @@ pub fn give_behind(marks: &mut Marks, behind: &[NodePair]) -> bool
     for one in behind {
         let groups = marks.groups[one.0];
         let given = marks.give(one.1, Parties { groups, slots: 0 });
-        changed = given || changed;
+        changed = either(given, changed);
     }
     changed
 }
@@ -52,7 +59,7 @@ pub fn give_sent(marks: &mut Marks, sent: &[SlotNode], meets: &Sharing) -> bool
     let mut changed = false;
     for one in sent {
         let given = marks.give(one.1, slot_meets(meets, one.0));
-        changed = given || changed;
+        changed = either(given, changed);
     }
     changed
 }
@@ -67,7 +74,7 @@ pub fn give_given(marks: &mut Marks, kernel: &Kernel, given: &[SlotNode]) -> boo
     let mut changed = false;
     for one in given {
         let new = marks.give(one.1, served_by(kernel, one.0));
-        changed = new || changed;
+        changed = either(new, changed);
     }
     changed
 }
@@ -97,7 +104,7 @@ pub fn give_shared(marks: &mut Marks, sharing: &Sharing) -> bool
         shared = shared_next(sharing, last, shared, now);
         last = now;
         let given = marks.give(node, shared);
-        changed = given || changed;
+        changed = either(given, changed);
     }
     changed
 }

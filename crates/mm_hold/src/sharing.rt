@@ -1,19 +1,36 @@
 //! Parties that pass on all that they hold.
 
 ghost use Rattle.std.specs.Int.{bit_at};
-ghost use Rattle.std.specs.Prelude.{◌≡◌, ◌<◌, ◌↔◌, ℕ, true};
+ghost use Rattle.std.specs.Prelude.{◌≡◌, ◌<◌, ◌↔◌, ℕ, length, true};
 ghost use Rattle.mm_kernel.specs.Threads.{is_kernel};
 ghost use Rattle.mm_model.specs.Turn.{is_handler};
 ghost use Rattle.mm_confine.specs.declared.party.Party.{Party};
 ghost use Rattle.mm_confine.specs.declared.party.Party.TheVariants.{Group, KernelSlot};
-ghost use Rattle.mm_hold.specs.Parties.{Across, Adds, In, Is, IsPartyOf, PassesAlways, PassesByCaller};
+ghost use Rattle.mm_hold.specs.Parties.{Across, Adds, AddsBits, In, Is, IsPartyOf, PassesAlways, PassesByCaller};
 ghost use Rattle.mm_hold.specs.Parties.{PassesByKernel, PassesBySlot, ServedParty, ServedPartyOf, SharedBy, Shares};
+ghost use Rattle.mm_hold.specs.Parties.{SharesBit};
 
 use crate::conduct::Conduct;
 use crate::parties::{Parties, mask_of};
 use mm_flow::{share, shared_by};
 use mm_keep::Kernel;
 use mm_model::Slot;
+
+/// In one array, each of a mask passes on to each of another.
+fn share_bits(sharing: &mut [u64], from: u64, to: u64)
+    requires { length sharing.old ≡ 64 }
+    ensures { AddsBits sharing.old from to sharing.new }
+{
+    share(sharing, from, to);
+}
+
+/// In one array, those to whom some of a mask pass on.
+fn shared_bits(from: u64, sharing: &[u64]) -> u64
+    requires { length sharing.now ≡ 64 }
+    ensures { (g : ℕ) → (bit_at result g ≡ 1) ↔ SharesBit from sharing.now g }
+{
+    shared_by(from, sharing)
+}
 
 /// For each party the parties to which it passes on all that it holds.
 #[derive(Clone, Copy)]
@@ -63,20 +80,20 @@ impl Sharing {
     pub fn share(&mut self, from: Parties, to: Parties)
         ensures { Adds (Across from to) self.old self.new }
     {
-        share(&mut self.groups_to_groups, from.groups, to.groups);
-        share(&mut self.groups_to_slots, from.groups, to.slots);
-        share(&mut self.slots_to_groups, from.slots, to.groups);
-        share(&mut self.slots_to_slots, from.slots, to.slots);
+        share_bits(&mut self.groups_to_groups, from.groups, to.groups);
+        share_bits(&mut self.groups_to_slots, from.groups, to.slots);
+        share_bits(&mut self.slots_to_groups, from.slots, to.groups);
+        share_bits(&mut self.slots_to_slots, from.slots, to.slots);
     }
 
     /// All parties to which some of these pass on.
     pub fn shared_by(&self, from: Parties) -> Parties
         ensures { Is result (SharedBy self.now from) }
     {
-        let groups = shared_by(from.groups, &self.groups_to_groups);
-        let slots = shared_by(from.groups, &self.groups_to_slots);
-        let more_groups = shared_by(from.slots, &self.slots_to_groups);
-        let more_slots = shared_by(from.slots, &self.slots_to_slots);
+        let groups = shared_bits(from.groups, &self.groups_to_groups);
+        let slots = shared_bits(from.groups, &self.groups_to_slots);
+        let more_groups = shared_bits(from.slots, &self.slots_to_groups);
+        let more_slots = shared_bits(from.slots, &self.slots_to_slots);
         Parties {
             groups: groups | more_groups,
             slots: slots | more_slots,

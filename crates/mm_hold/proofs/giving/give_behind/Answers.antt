@@ -1,7 +1,7 @@
-use Rattle.std.proofs.Common.{◌≡◌, ◌+◌, ◌<◌, ℕ, length, take, subst, sym, ap, ◌∙◌, arith}
-use Rattle.std.proofs.lemmas.List.{take_all}
+use Rattle.std.proofs.Common.{◌+◌, take, get_or, subst, sym}
+use Rattle.std.proofs.lemmas.List.{take_all, take_more}
 use Rattle.mm_hold.specs.Marks.{GivesBehind}
-use Rattle.mm_hold.proofs.{Meeting.{behind_none, behind_more}, Sets.take_item}
+use Rattle.mm_hold.proofs.Meeting.{behind_none, behind_more}
 use Rattle.mm_hold.proofs.giving.give_behind.Goals as goal
 
 pub loop-one-init : goal.loop-one-init
@@ -11,8 +11,11 @@ pub loop-one-preserved : goal.loop-one-preserved
 loop-one-preserved c =
     let l = c.loop-one in
     let xs = c.args.behind.now in
-    behind_more (take l.one-index xs) (take (l.one-index + 1) xs) c.one-item.result.0 c.one-item.result.1 c.args.marks.now l.marks c.give-given.new.self c.give-given.result l.changed
-    (take_item xs l.one-index c.one-item.result c.loop-one-test.true c.one-item.is) l.invariant c.give-given.ensures
+    let n = l.one-index in
+    let e = get_or xs n (0, 0) in
+    subst (λ b. GivesBehind (take (n + 1) xs) c.args.marks.now c.give-given.new.self b) (sym c.either-changed.ensures)
+    (behind_more (take n xs) (take (n + 1) xs) e.0 e.1 c.args.marks.now l.marks c.give-given.new.self c.give-given.result l.changed
+    (take_more xs n (0, 0) c.loop-one-test.true) l.invariant c.give-given.ensures)
 
 pub returns : goal.returns
 returns c =

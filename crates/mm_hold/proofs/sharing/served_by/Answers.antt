@@ -12,8 +12,8 @@ pub loop-slot-preserved : goal.loop-slot-preserved
 loop-slot-preserved c =
     let l = c.loop-slot in
     let xs = c.slots-slots.result.now in
-    served_more c.args.kernel.now.image c.args.kernel.now.kept (take l.slot-index xs) (take (l.slot-index + 1) xs) c.slot-item.result c.args.number l.parties c.parties_if_served.result c.and.result
-    (take_item xs l.slot-index c.slot-item.result c.loop-slot-test.true c.slot-item.is) l.invariant c.parties_if_served.ensures c.and.ensures
+    served_more c.args.kernel.now.image c.args.kernel.now.kept (take l.slot-index xs) (take (l.slot-index + 1) xs) c.slot-item.result c.args.number l.parties c.parties_if_served.result c.and-parties.result
+    (take_item xs l.slot-index c.slot-item.result c.loop-slot-test.true c.slot-item.is) l.invariant c.parties_if_served.ensures c.and-parties.ensures
 
 pub returns : goal.returns
 returns c =
