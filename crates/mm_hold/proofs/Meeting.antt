@@ -138,10 +138,14 @@ rows_more meets senders n s t u h k =
     which (Group g) lt = below_cases g n lt
     which (KernelSlot m) lt = below_cases m n lt
 
-pub rows_all : (meets : Sharing) (senders : ℕ) (s t : Sharing) → ((y x : Party) → Shares meets y x → Below 64 y) → AddsShared (PassesBelow meets senders 64) s t
+pub rows_all : (meets : Sharing) (senders : ℕ) (s t : Sharing) → ((y x : Party) → Shares meets y x → Small y) → AddsShared (PassesBelow meets senders 64) s t
     → AddsShared (PassesByStore meets senders) s t
 rows_all meets senders s t small h =
-    adds_as (PassesBelow meets senders 64) (PassesByStore meets senders) s t (λ y x p. p.passes) (λ y x p. record { number = small y x p.meet; passes = p }) h
+    adds_as (PassesBelow meets senders 64) (PassesByStore meets senders) s t (λ y x p. p.passes) (λ y x p. record { number = below y (small y x p.meet); passes = p }) h
+  where
+    below : (z : Party) → Small z → Below 64 z
+    below (Group g) lt = lt
+    below (KernelSlot n) lt = lt
 
 -- 3. What is given, one after the other.
 

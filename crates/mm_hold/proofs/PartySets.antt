@@ -356,3 +356,10 @@ pub has_below : (xs : List ℕ) (k g : ℕ) → Has xs k g → k < length xs
 has_below [] k g h = absurd (zero_bit g h)
 has_below (x ∷ xs) zero g h = omega arith
 has_below (x ∷ xs) (suc k) g h = let lt = has_below xs k g h in omega arith
+
+pub row_small : (s : Sharing) → length s.groups_to_groups ≡ 64 → length s.groups_to_slots ≡ 64 → length s.slots_to_groups ≡ 64 → length s.slots_to_slots ≡ 64
+    → (y x : Party) → Shares s y x → Small y
+row_small s a b c d (Group h) (Group g) k = let lt = has_below s.groups_to_groups h g k in omega arith
+row_small s a b c d (Group h) (KernelSlot n) k = let lt = has_below s.groups_to_slots h n k in omega arith
+row_small s a b c d (KernelSlot m) (Group g) k = let lt = has_below s.slots_to_groups m g k in omega arith
+row_small s a b c d (KernelSlot m) (KernelSlot n) k = let lt = has_below s.slots_to_slots m n k in omega arith
