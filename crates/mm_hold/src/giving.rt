@@ -32,8 +32,8 @@ pub fn give_behind(marks: &mut Marks, behind: &[NodePair]) -> bool
 {
     let mut changed = false;
     for one in behind {
-        let groups = marks.groups[one.0];
-        let given = marks.give(one.1, Parties { groups, slots: 0 });
+        let groups = marks.at(one.0).groups_alone();
+        let given = marks.give(one.1, groups);
         changed = either(given, changed);
     }
     changed

@@ -42,10 +42,7 @@ fn running_door(kernel: &Kernel, keys: &[CanonicalPtr], marks: &Marks, bits: u64
     ensures { Is result (Runs kernel.now.image kernel.now.kept keys.now marks.now (0, bits)) }
 {
     match door_node(kernel, keys, bits) {
-        Some(node) => Parties {
-            groups: marks.groups[node],
-            slots: 0,
-        },
+        Some(node) => marks.at(node).groups_alone(),
         None => Parties::none(),
     }
 }
