@@ -6,3 +6,4 @@ pub mod Marks
 pub mod Passing
 pub mod Finding
 pub mod Exactly
+pub mod Rounds
