@@ -14,5 +14,5 @@ pub returns : goal.returns
 returns c =
     let m = c.args.meets.now in
     let same : c.loop-n.n ≡ 64 = omega arith in
-    rows_all m c.args.senders c.args.sharing.now c.loop-n.sharing (row_small m c.told-meets c.told-meets2 c.told-meets3 c.told-meets4)
+    rows_all m c.args.senders c.args.sharing.now c.loop-n.sharing (row_small m (omega arith) (omega arith) (omega arith) (omega arith))
     (subst (λ n. Adds (PassesBelow m c.args.senders n) c.args.sharing.now c.loop-n.sharing) same c.loop-n.invariant)
