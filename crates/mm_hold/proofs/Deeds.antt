@@ -181,15 +181,17 @@ module _ (i : Image) (kept : List Segment) (img : IsImage i) (f : Findings) (fd 
     stores_mean part form c = if_mean (carries form) (used deed.Stored t.origin part f.carrying) (λ carried.
         flat_mean (used_in deed.Stored t.origin part) f.carrying (λ w k.
         if_mean (lies_in w part) (deed.Stored w t.origin ∷ []) (λ e.
-        let gets = carrying_means w k in
-        (record {
-          of_image = form_held i kept img w gets.form gets.held;
-          part = part;
-          form = form;
-          stores = comes_to (outcome.Stores part form) c;
-          carried = carried;
-          here = e;
-        }, tt))))
+        let gets = carrying_means w k in (
+          record {
+            of_image = form_held i kept img w gets.form gets.held;
+            part = part;
+            form = form;
+            stores = comes_to (outcome.Stores part form) c;
+            carried = carried;
+            here = e;
+          },
+          tt,
+        ))))
 
     loaded_mean : (part : Segment) (reg : ℕ) (next : Thread) → Contains (outcomes i kept t) (outcome.Loads part reg next)
         → M (loaded kept f.first f.tables.stored part reg next)

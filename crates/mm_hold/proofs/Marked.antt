@@ -13,10 +13,13 @@ module _ (node mask : ℕ) (old : List ℕ) (lt : node < length old) where
   pub mask_same : bit_or (slice_index old node) mask ≡ slice_index old node → AddsMask node mask old old false
   mask_same e = record {
     len = refl;
-    each = λ k g. (λ h. inl h, λ h. elim h [
-      | inl before ↦ before
-      | inr now ↦ ap (λ v. bit_at (slice_index old v) g) now.0 ∙ there_is g now.1
-    ]);
+    each = λ k g. (
+      λ h. inl h,
+      λ h. elim h [
+        | inl before ↦ before
+        | inr now ↦ ap (λ v. bit_at (slice_index old v) g) now.0 ∙ there_is g now.1
+      ],
+    );
     still = λ f g b. there_is g b;
     no_rise = omega arith;
     falls = λ f. cc;

@@ -97,8 +97,10 @@ module _ (meets : Sharing) (senders n mask : ℕ) (lt : n < 64) (e : (g : ℕ) �
       inl ((group_is n mask e (Group g)).1 (ap Group same, omega arith), (rg x).1 (subst (λ v. Shares meets (Group v) x) same p.passes.meet))
   row_back (KernelSlot m) x p =
       let same : m ≡ n = p.number in
-      inr ((slot_among n mask e senders (KernelSlot m)).1 (ap KernelSlot same, omega arith, ap (bit_at senders) (sym same) ∙ p.passes.may),
-      (rs x).1 (subst (λ v. Shares meets (KernelSlot v) x) same p.passes.meet))
+      inr (
+        (slot_among n mask e senders (KernelSlot m)).1 (ap KernelSlot same, omega arith, ap (bit_at senders) (sym same) ∙ p.passes.may),
+        (rs x).1 (subst (λ v. Shares meets (KernelSlot v) x) same p.passes.meet),
+      )
 
   pub row_is : (s t u : Sharing) → AddsShared (Across group groups) s t → AddsShared (Across slot slots) t u → AddsShared (PassesInRow meets senders n) s u
   row_is s t u h k =

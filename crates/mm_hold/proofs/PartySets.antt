@@ -281,13 +281,12 @@ module _ (i : Image) (kept : List Segment) where
       (adds_then (Across own alone) (Across alone own) a b c one two)
 
   module _ (k : Conduct) (s : Slot) where
-      -- a set that is taken if a mask has the number of the slot
+    -- a set that is taken if a mask has the number of the slot
     on_mask : (mask : ℕ) (b : Bool) (own set : Parties) (m : ℕ) → ((g : ℕ) → (bit_at m g ≡ 1) ↔ ((g ≡ s.number) × (g < 64))) → own ≡ record { groups = 0; slots = m }
         → ((b ≡ true) ↔ ((s.number < 64) × (bit_at mask s.number ≡ 1))) → Is set (λ x. (b ≡ true) × In x own)
         → Is set (λ x. (bit_at mask s.number ≡ 1) × (x ≡ KernelSlot s.number) × Small x)
     on_mask mask b own set m e is eb h x =
-        let mine = slot_is s.number m e x in
-        (
+        let mine = slot_is s.number m e x in (
           λ q.
               let r = (h x).0 q in
               let p = mine.0 (subst (In x) is r.1) in

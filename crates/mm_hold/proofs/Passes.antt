@@ -238,8 +238,10 @@ module _ (i : Image) (kept : List Segment) (keys : List CanonicalPtr) (m : Marks
     where
       by : PassesAmong (u ∷ rest) loaded y x → Shares v y x ⊎ PassesAmong rest loaded y x
       by p = elim (in_cases u rest p.store p.inside) [
-        | inl same ↦ inl ((more y x).1 (inr ((f y).1 (subst (λ (w : ℕ × (ℕ × ℕ)). R w.1 y) (sym same) p.runs),
-            (g x).1 (subst (λ (w : ℕ × (ℕ × ℕ)). RunsAtWord i kept keys m loaded w.0 x) (sym same) p.loads))))
+        | inl same ↦ inl ((more y x).1 (inr (
+          (f y).1 (subst (λ (w : ℕ × (ℕ × ℕ)). R w.1 y) (sym same) p.runs),
+          (g x).1 (subst (λ (w : ℕ × (ℕ × ℕ)). RunsAtWord i kept keys m loaded w.0 x) (sym same) p.loads),
+        )))
         | inr later ↦ inr (record { store = p.store; inside = later; runs = p.runs; loads = p.loads })
       ]
 

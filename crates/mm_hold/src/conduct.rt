@@ -135,7 +135,12 @@ fn note_thread(
 }
 
 /// Notes what the threads have that begin.
-fn note_begins(conduct: &mut Conduct, alloc: Global, kernel: &Kernel, tables: &Tables) -> Result<(), NoMemory>
+fn note_begins(
+    conduct: &mut Conduct,
+    alloc: Global,
+    kernel: &Kernel,
+    tables: &Tables,
+) -> Result<(), NoMemory>
     ensures { OnOk result (Notes (begin_deeds kernel.now.image kernel.now.kept tables.now.doors)
         conduct.old conduct.new) }
 {

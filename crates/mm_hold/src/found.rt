@@ -37,12 +37,7 @@ pub fn key_in(kept: &[Part], word: Word) -> Option<CanonicalPtr>
 // 2. Cells.
 
 /// Adds the pointer of a cell that is not kept.
-fn add_cell(
-    found: &mut Vec<Found>,
-    kept: &[Part],
-    word: u64,
-    cell: Cell,
-) -> Result<(), NoMemory>
+fn add_cell(found: &mut Vec<Found>, kept: &[Part], word: u64, cell: Cell) -> Result<(), NoMemory>
     requires { All (λ f. IsKey f.key) found.old.items }
     ensures items { OnOk result (found.new.items ≡ found.old.items ++ cell_found kept.now word cell) }
     ensures keys { OnOk result (All (λ f. IsKey f.key) found.new.items) }
@@ -84,12 +79,7 @@ pub fn found_in(alloc: Global, kept: &[Part], pages: &[Page]) -> Result<Vec<Foun
 }
 
 /// Adds the form that a word of a page has from the start, if it is kept.
-fn add_first(
-    first: &mut Vec<Held>,
-    kernel: &Kernel,
-    word: u64,
-    cell: Cell,
-) -> Result<(), NoMemory>
+fn add_first(first: &mut Vec<Held>, kernel: &Kernel, word: u64, cell: Cell) -> Result<(), NoMemory>
     requires { word % 8 ≡ 0 }
     ensures { OnOk result (first.new.items
         ≡ first.old.items ++ cell_first kernel.now.image kernel.now.kept word cell) }

@@ -1,28 +1,16 @@
 //! The graph of the pointers that parties may come to hold.
 
 use crate::conduct::Conduct;
-use crate::passing::door_node;
-use crate::giving::{NodePair, SlotNode};
+use crate::edges::Graph;
 use crate::found::{callers, found_in, key_in};
+use crate::giving::{NodePair, SlotNode};
+use crate::passing::door_node;
 use mm_flow::Node;
 use mm_graph::{CanonicalPtr, Found, Seed, find, keys_and_targets, marks_of, nodes_of, parents_of};
 use mm_keep::{Kernel, is_door};
 use mm_word::{GuardedPtr, NoMemory, Word};
 use std::alloc::Global;
 use std::collections::BTreeSet;
-
-/// The graph of the pointers that parties may come to hold: a node for each, and edges by which who holds one holds
-/// another.
-#[derive(Drop)]
-pub struct Graph {
-    /// The pointers of the nodes, in their order.
-    pub keys: Vec<CanonicalPtr>,
-    pub nodes: Vec<Node>,
-    /// For each pointer in a cell its node.
-    pub targets: Vec<usize>,
-    /// For each node the nearest one whose segment holds its own.
-    pub parents: Vec<usize>,
-}
 
 /// The keys of a graph, and the nodes of the pointers in cells.
 #[derive(Drop)]

@@ -21,12 +21,7 @@ fn is_by_caller(kernel: &Kernel, handler: Option<u8>, number: u8) -> bool
 }
 
 /// Adds the slot `s` with the group of `t`, if `t` is its handler and no slot of the kernel.
-fn add_server(
-    served: &mut Vec<Served>,
-    kernel: &Kernel,
-    s: &Slot,
-    t: &Slot,
-) -> Result<(), NoMemory>
+fn add_server(served: &mut Vec<Served>, kernel: &Kernel, s: &Slot, t: &Slot) -> Result<(), NoMemory>
     ensures { OnOk result (served.new.items
         ≡ served.old.items ++ served_by_caller kernel.now.image kernel.now.kept s.now t.now) }
 {
@@ -58,11 +53,7 @@ fn add_slot(
 }
 
 /// Adds slots with the groups of their handlers, if these are callers.
-fn add_slots(
-    served: &mut Vec<Served>,
-    kernel: &Kernel,
-    slots: &[Slot],
-) -> Result<(), NoMemory>
+fn add_slots(served: &mut Vec<Served>, kernel: &Kernel, slots: &[Slot]) -> Result<(), NoMemory>
     ensures { OnOk result (served.new.items
         ≡ served.old.items ++ served_by_callers kernel.now.image kernel.now.kept slots.now) }
 {

@@ -1,8 +1,9 @@
 //! What each group can reach, with a kernel that keeps its segments.
 
 use crate::conduct::{Conduct, conduct_of};
+use crate::edges::Graph;
 use crate::found::first_forms;
-use crate::graph::{Graph, Start, graph_of};
+use crate::graph::{Start, graph_of};
 use crate::handlers::served_in;
 use crate::marks::Marks;
 use crate::parties::mask_of;

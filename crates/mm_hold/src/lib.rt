@@ -6,7 +6,7 @@
 //! | and load kept words, serve, go on as callers | all of them in sets | `going`, `inside`, |
 //! | | | `doing`, `conduct` |
 //! | callers have pointers, and cells that are not kept | the keys and nodes of a graph of pointers | `found`, `graph` |
-//! | it is below a pointer; a cell holds it; an entry leaves it | edges of the graph | `mm_graph`, `mm_flow` |
+//! | it is below a pointer; a cell holds it; an entry leaves it | edges of the graph | `edges`, `mm_graph`, `mm_flow` |
 //! | parties pass on all that they hold | who shares with whom, worked out anew in each round | `sharing`, `meets`, |
 //! | | | `passing` |
 //! | parties pass on single pointers | what stands behind doors, what is sent and given | `giving`, `rounds` |
@@ -15,6 +15,7 @@
 mod conduct;
 mod deed;
 mod doing;
+mod edges;
 mod found;
 mod giving;
 mod going;

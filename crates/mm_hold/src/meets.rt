@@ -13,7 +13,13 @@ use mm_word::NoMemory;
 use std::alloc::Global;
 
 /// Shares from a set to another, unless these are the sets of which it was done last.
-fn share_next(sharing: &mut Sharing, last_from: Parties, last_to: Parties, from: Parties, to: Parties)
+fn share_next(
+    sharing: &mut Sharing,
+    last_from: Parties,
+    last_to: Parties,
+    from: Parties,
+    to: Parties,
+)
     requires { (y x : Party) → Across last_from last_to y x → Shares sharing.old y x }
     ensures { Adds (Across from to) sharing.old sharing.new }
 {

@@ -48,12 +48,7 @@ fn running_door(kernel: &Kernel, keys: &[CanonicalPtr], marks: &Marks, bits: u64
 }
 
 /// The parties that run the threads of an origin.
-fn running(
-    kernel: &Kernel,
-    keys: &[CanonicalPtr],
-    marks: &Marks,
-    origin: OriginNumbers,
-) -> Parties
+fn running(kernel: &Kernel, keys: &[CanonicalPtr], marks: &Marks, origin: OriginNumbers) -> Parties
     requires rising { IsRising keys.now }
     requires keys { All IsKey keys.now }
     requires size { HasSize marks.now (length keys.now) }

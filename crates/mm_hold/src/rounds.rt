@@ -1,8 +1,13 @@
 //! Rounds in which parties come to hold pointers, until nothing changes.
 
+ghost use Rattle.std.specs.Prelude.{◌≡◌, ◌||◌, IfOk, length};
+ghost use Rattle.mm_hold.specs.Marks.{HasSize};
+ghost use Rattle.mm_hold.specs.Rounds.{AreOf, Round, SharesNow};
+
 use crate::conduct::Conduct;
+use crate::edges::Graph;
 use crate::giving::{NodePair, SlotNode, give_behind, give_given, give_sent, give_shared};
-use crate::graph::{Graph, nodes_behind, nodes_handed};
+use crate::graph::{nodes_behind, nodes_handed};
 use crate::marks::Marks;
 use crate::meets::{meets_of, share_meets};
 use crate::passing::share_inside;
@@ -15,13 +20,13 @@ use std::alloc::Global;
 #[derive(Drop)]
 pub struct Passes {
     /// Who passes on all that it holds, whatever it holds.
-    sharing: Sharing,
+    pub sharing: Sharing,
     /// What stands behind doors.
-    behind: Vec<NodePair>,
+    pub behind: Vec<NodePair>,
     /// The pointers that slots store to words that are not kept.
-    sent: Vec<SlotNode>,
+    pub sent: Vec<SlotNode>,
     /// The pointers that slots give to what they serve.
-    given: Vec<SlotNode>,
+    pub given: Vec<SlotNode>,
 }
 
 /// What passes in each round, whatever is held.
@@ -47,33 +52,51 @@ fn shared_now(
     kernel: &Kernel,
     conduct: &Conduct,
     graph: &Graph,
-    always: Sharing,
+    passes: &Passes,
     meets: &Sharing,
     marks: &Marks,
-) -> Sharing {
-    let mut sharing = always;
+) -> Sharing
+    requires parts { AreOf conduct.now graph.now passes.now (length graph.now.parents.items) }
+    requires size { HasSize marks.now (length graph.now.parents.items) }
+    ensures { SharesNow kernel.now.image kernel.now.kept conduct.now graph.now passes.now.sharing meets.now marks.now
+        result }
+{
+    let mut sharing = passes.sharing;
     share_meets(&mut sharing, meets, conduct.senders);
     share_inside(&mut sharing, kernel, &graph.keys, marks, conduct);
     sharing
 }
 
+/// Whether one of four things is so.
+fn some_of(a: bool, b: bool, c: bool, d: bool) -> bool
+    ensures { result ≡ ((a || b) || (c || d)) }
+{
+    (a || b) || (c || d)
+}
+
 /// Spreads marks along edges, and then gives parties what follows from what all hold; and says whether that was new.
-fn round(
+pub fn round(
     alloc: Global,
     kernel: &Kernel,
     conduct: &Conduct,
     graph: &Graph,
     passes: &Passes,
     marks: &mut Marks,
-) -> Result<bool, NoMemory> {
+) -> Result<bool, NoMemory>
+    requires parts { AreOf conduct.now graph.now passes.now (length graph.now.parents.items) }
+    requires size { HasSize marks.old (length graph.now.parents.items) }
+    ensures round { IfOk result (λ changed. Round kernel.now.image kernel.now.kept conduct.now graph.now passes.now
+        marks.old marks.new changed) }
+    ensures size { IfOk result (λ changed. HasSize marks.new (length graph.now.parents.items)) }
+{
     marks.spread(alloc, &graph.nodes, &graph.targets, &graph.parents)?;
     let meets = meets_of(alloc, &graph.nodes, &graph.parents, marks)?;
-    let sharing = shared_now(kernel, conduct, graph, passes.sharing, &meets, marks);
+    let sharing = shared_now(kernel, conduct, graph, passes, &meets, marks);
     let behind = give_behind(marks, &passes.behind);
     let sent = give_sent(marks, &passes.sent, &meets);
     let given = give_given(marks, kernel, &passes.given);
     let shared = give_shared(marks, &sharing);
-    Ok(behind || sent || given || shared)
+    Ok(some_of(behind, sent, given, shared))
 }
 
 /// Goes rounds until nothing changes.

@@ -4,8 +4,7 @@ use Rattle.mm_hold.proofs.sharing.kernel_mask.Goals as goal
 
 pub returns-then-is_kernel : goal.returns-then-is_kernel
 returns-then-is_kernel c = λ n.
-    let e = c.mask_of.ensures n in
-    (
+    let e = c.mask_of.ensures n in (
       λ h. let r = e.0 h in (sym c.is_kernel.ensures ∙ c.if-is_kernel.true, r.0, r.1),
       λ h. e.1 (h.1, h.2),
     )
