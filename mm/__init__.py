@@ -17,6 +17,7 @@ What it tells of a machine comes from `mmachine`. By itself it reads sources, ob
     log        commit logs, and the machine after any turn
     waves      value change dumps
     view       runs as pages for a browser
+    explore    every schedule: the answer of `mmachine`, where its findings come from, and who writes a word
     pictures   pictures for pages and slides, which `tools/draw` writes
     names      names for addresses
     messages   refusals in words

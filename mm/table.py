@@ -58,11 +58,13 @@ DOORS_SHUT = Option("--doors-shut", "take each enter pointer for a key: what is 
 THREADS = Option("--threads", "how many threads of the kernel are looked at, 1 to 1000000; default: 100000", "N")
 KEEPS = Option("--keeps", "also show whether a kernel keeps these segments, such as gate,count", "LIST")
 STATES = Option("--states", "how many configurations are looked at, 1 to 100000000; else 100000", "N")
+MEANT = Option("--meant", "a fault that is meant, such as Trap, and not told of; may be repeated", "FAULT")
+WROTE = Option("--wrote", "ask who writes this word, and after which turns first", "WORD")
 PART = Option("--part", "memory, frames, pages, slots, or all for a testbench; default: memory (docs/HARDWARE.md)", "NAME")
 COUNT = Option("--count", "how many; default: 256", "N")
 PORT = Option("--port", "the port of the server, 0 for any that is free; default: 8017", "N")
 HOST = Option("--host", "the address to listen at; default: 127.0.0.1, which only this computer reaches", "A")
-LESSON = Option("--lesson", "open this lesson of the course, 1 to 11", "N")
+LESSON = Option("--lesson", "open this lesson of the course, 1 to 12", "N")
 TOKEN = Option("--token", "the word in the address of the page; default: a new one each time", "WORD")
 WITH_C = Option("--c", "take programs in C from other computers too (docs/SERVE.md)")
 CSV = Option("--csv", "write CSV: a row for each answer")
@@ -77,7 +79,7 @@ SEGMENT is what the kernel keeps: its code, its data, its gates.
 Without SEGMENT it tells which segments only doors lead to. docs/KEEPS.md says what an answer is worth."""
 RUNNING = (CYCLES, SCHEDULE, TURNS, NAMES)
 FILES = "FILE.."
-EXERCISES = "FILE may be a folder that has a folder or a file for each student. EXERCISE is lab-1 to lab-5 for a task of the first lab, 1.1 to 8.2 or 10.1 to 11.2 for an exercise of a lesson, or a file of your own (docs/course/GRADING.md). `mm help executes` explains the line `executes`, and so on for each kind of line."
+EXERCISES = "FILE may be a folder that has a folder or a file for each student. EXERCISE is lab-1 to lab-5 for a task of the first lab, 1.1 to 8.2 or 10.1 to 12.2 for an exercise of a lesson, or a file of your own (docs/course/GRADING.md). `mm help executes` explains the line `executes`, and so on for each kind of line."
 
 # fmt: off
 COMMANDS = (
@@ -91,7 +93,7 @@ COMMANDS = (
     Command("dis", "FILE", "show an image or an object word by word: address, word, instruction and name", (NAMES,), most=1),
     Command("audit", FILES, "say what each group can read and write, whatever its code does", (GROUPS, DOORS_SHUT, NAMES, JSON, *C)),
     Command("keeps", "FILE.. SEGMENT..", "say whether a kernel keeps its segments, whatever code its callers run", (THREADS, NAMES, JSON, *C), more=SEGMENTS),
-    Command("explore", FILES, "say what a program can do under any schedule, with a shortest one for each finding", (STATES, NAMES, *C)),
+    Command("explore", FILES, "say what a program can do under any schedule, with a shortest one for each finding", (STATES, MEANT, WROTE, NAMES, JSON, *C)),
     Command("why", "FILE.. GROUP WORD KIND", "how a group can touch or write a word: the pointers, one after the other", (NAMES, *C), least=4),
     Command("check-why", "IMAGE GROUP WORD KIND", "check a derivation of `mmachine why`, given on the standard input", least=4, most=4, module="check_why"),
     Command("holders", "FILE.. RANGE", "say who holds a pointer into a range (`mm help ranges`)", (NAMES, *C), least=2, module="ranges"),

@@ -12,6 +12,7 @@ from mm.table import ALIASES, BY_NAME, GLOBAL_OPTIONS, Command, Option
 
 MOST_CYCLES = 1_000_000
 MOST_GROUP = 63
+MOST_STATES = 100_000_000
 
 
 @dataclass

@@ -14,7 +14,8 @@ _mm() {
     case $before in
         --program | --schedule | --names | --output | -s | -o) compopt -o default; return ;;
         --part) COMPREPLY=($(compgen -W 'memory frames pages slots all' -- "$word")); return ;;
-        --cycles | --states | --threads | --turns | --groups | --from | --keeps | --seed | -n | -t | -g) return ;;
+        --meant) COMPREPLY=($(compgen -W 'NotPointer Perm Bounds Align NoPage Sync Illegal Priv DivZero Malformed Trap NoSlot OutFull' -- "$word")); return ;;
+        --cycles | --states | --wrote | --threads | --turns | --groups | --from | --keeps | --seed | -n | -t | -g) return ;;
         --optimise | -O) COMPREPLY=($(compgen -W '0 1 2 3 s' -- "$word")); return ;;
         --heap | --stack | --quarantine | --clang | --slot | --prefix) return ;;
         --port | --host | --lesson | --token) return ;;
@@ -36,7 +37,7 @@ _mm() {
             cc) options="$options --optimise --heap --stack --quarantine --clang --slot --prefix --output" ;;
             hex) options="$options --part --output --optimise --heap --stack --quarantine --clang" ;;
             vectors) options="$options --count --output" ;;
-            explore) options="$options --states --names --optimise --heap --stack --quarantine --clang" ;;
+            explore) options="$options --states --meant --wrote --names --json --optimise --heap --stack --quarantine --clang" ;;
             grade) options="$options --json --csv --feedback --check --seed --optimise --heap --stack --quarantine --clang" ;;
             dis) options="$options --names" ;;
             holders | why) options="$options --names --optimise --heap --stack --quarantine --clang" ;;

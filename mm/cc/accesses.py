@@ -84,6 +84,25 @@ class Accesses(Lowering):
         register, constant = self.address(pointer, less)
         self.emit("st", None, register, value, number=constant)
 
+    # Eight bytes that may stand anywhere. A pointer in them stays one if they are a word.
+
+    def load_eight(self, pointer: Pointer, align: int) -> int:
+        at = self.position(pointer, align)
+        if at == 0 or align >= WORD:
+            return self.load_word(pointer)
+        if at is not None:
+            return self.load_pieces(pointer, WORD, align, RAW)
+        return self.runtime("__mm_load_anywhere", [self.exact(pointer)], True)
+
+    def store_eight(self, pointer: Pointer, align: int, value: int) -> None:
+        at = self.position(pointer, align)
+        if at == 0 or align >= WORD:
+            self.store_word(pointer, value)
+        elif at is not None:
+            self.store_pieces(pointer, WORD, align, value)
+        else:
+            self.runtime("__mm_store_anywhere", [self.exact(pointer), value])
+
     # Narrow loads
 
     def load_narrow(self, pointer: Pointer, size: int, align: int, form: str) -> int:
@@ -197,11 +216,7 @@ class Accesses(Lowering):
         """Loads a value and says where it is."""
         type_ = self.layouts.plain(type_)
         if isinstance(type_, PointerType):
-            if align < WORD:
-                register = self.load_pieces(pointer, WORD, align, RAW)
-            else:
-                register = self.load_word(pointer)
-            self.pointers[name] = Pointer(register)
+            self.pointers[name] = Pointer(self.load_eight(pointer, align))
         elif isinstance(type_, IntType) and type_.bits <= 64:
             register, known = self.load_integer(pointer, type_.bits, align, self.form_wanted(name))
             self.define(name, type_, register, known)
@@ -243,7 +258,7 @@ class Accesses(Lowering):
         """An integer of any width up to a word, and the forms that it has."""
         size = (bits + 7) // 8
         if size == WORD:
-            register = self.load_word(pointer) if align >= WORD else self.load_pieces(pointer, WORD, align, RAW)
+            register = self.load_eight(pointer, align)
             return (register, "SZ") if bits == 64 else (register, "")
         if size in (1, 2, 4) and bits == size * 8:
             return self.load_narrow(pointer, size, align, form), form if form != RAW else ""
@@ -256,11 +271,7 @@ class Accesses(Lowering):
     def store_value(self, pointer: Pointer, value: Value, align: int) -> None:
         type_ = self.layouts.plain(value.type)
         if isinstance(type_, PointerType):
-            register = self.whole(self.pointer(value))
-            if align < WORD:
-                self.store_pieces(pointer, WORD, align, register)
-            else:
-                self.store_word(pointer, register)
+            self.store_eight(pointer, align, self.whole(self.pointer(value)))
         elif isinstance(type_, IntType) and type_.bits <= 64:
             self.store_integer(pointer, value, type_.bits, align)
         elif isinstance(value, Undefined):
@@ -273,14 +284,17 @@ class Accesses(Lowering):
     def store_integer(self, pointer: Pointer, value: Value, bits: int, align: int) -> None:
         size = (bits + 7) // 8
         register = self.number(value, RAW if bits == size * 8 else ZEROED)
-        if size == WORD and align >= WORD:
-            self.store_word(pointer, register)
+        if size == WORD:
+            self.store_eight(pointer, align, register)
         elif size in (1, 2, 4):
             self.store_narrow(pointer, size, align, register)
         else:
             self.store_pieces(pointer, size, min(align, size & -size), register)
 
     def group(self, value: Value) -> list[Value]:
+        raise NotImplementedError
+
+    def runtime(self, name: str, arguments: list[int], result: bool = False) -> int:
         raise NotImplementedError
 
     def load(self, made: Instruction) -> None:
@@ -335,15 +349,19 @@ class Accesses(Lowering):
         if made.name in self.promoted:
             return
         size = self.layouts.size(made.source)
-        if made.operands and not hasattr(made.operands[0], "number"):
+        if made.name in self.repeated or made.operands and not hasattr(made.operands[0], "number"):
             self.dynamic_alloca(made, size)
             return
         if made.operands:
             size *= made.operands[0].number  # type: ignore[attr-defined]
-        self.pointers[made.name] = self.local_object(made.name, size, max(made.align, 1), self.begins.get(made.name))
+        # A pointer keeps its tag in a word alone, also in a packed structure.
+        align = max(made.align, WORD if self.layouts.holds_pointers(made.source) else 1)
+        self.pointers[made.name] = self.local_object(made.name, size, align, self.begins.get(made.name))
 
     def local_object(self, name: str, size: int, align: int, begin: Optional[int] = None) -> Pointer:
         raise NotImplementedError
 
     def dynamic_alloca(self, made: Instruction, size: int) -> None:
         raise NotImplementedError
+
+    repeated: set[str]

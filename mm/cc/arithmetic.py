@@ -13,6 +13,8 @@ from mm.cc.untranslated import Untranslated
 
 PLAIN = {"add": "add", "sub": "sub", "mul": "mul", "and": "and", "or": "or", "xor": "xor"}
 UNSIGNED = {"udiv": "divu", "urem": "remu"}
+# What takes a number of which a pointer may be made again.
+KEEPS_TAG = {"store", "call", "ret", "phi", "select", "inttoptr", "insertvalue", "freeze", "atomicrmw", "cmpxchg"}
 # Conditions as a comparison, whether its operands change places, and whether its result is turned round.
 CONDITIONS = {
     "ult": ("ltu", False, False), "ugt": ("ltu", True, False), "uge": ("ltu", False, True), "ule": ("ltu", True, True),
@@ -104,18 +106,16 @@ class Arithmetic(Accesses):
         if isinstance(made.type, PointerType):
             self.pointers[made.name] = self.pointer(operand)
         elif isinstance(made.type, IntType) and made.type.bits <= 64:
-            if isinstance(operand, Local):
-                self.numbers[made.name] = self.numbers[operand.name]
-            else:
-                self.define(made.name, made.type, self.number(operand, RAW))
+            # A sum that overflows though LLVM said that it does not has another number in each form: from here on it is one.
+            self.define(made.name, made.type, self.number(operand, RAW))
         else:
             self.groups[made.name] = self.group(operand)
 
     def pointer_to_number(self, made: Instruction) -> None:
         """Keeps the tag where the number goes where a pointer may be wanted of it."""
         pointer = self.pointer(made.operands[0])
-        keeps = any(user.op in ("store", "call", "ret", "phi", "select", "inttoptr", "insertvalue")
-                    for user in self.users.get(made.name or "", []))
+        users = self.users.get(made.name or "")
+        keeps = users is None or any(user.op in KEEPS_TAG for user in users)
         register = self.whole(pointer) if keeps else self.bits(pointer)
         self.define(made.name, made.type, register)
 
@@ -215,8 +215,12 @@ class Arithmetic(Accesses):
         register, turned = self.branch_condition(condition)
         if turned:
             yes, no = no, yes
+        return self.picked(register, yes, no)
+
+    def picked(self, condition: int, yes: int, no: int) -> int:
+        """One of two registers, by whether a third one is zero."""
         d = self.code.new()
-        self.emit("select", d, register, no, extra=(yes,), late=(register, no))
+        self.emit("select", d, condition, no, extra=(yes,), late=(condition, no))
         return d
 
     def select_pointer(self, name: str, condition: Value, yes: Value, no: Value) -> None:

@@ -45,12 +45,11 @@ class Calls(Arithmetic):
     def call_function(self, made: Instruction, callee: Value) -> None:
         self.copied = 0
         registers: list[int] = []
-        named = made.signature.parameters if made.signature and made.signature.variadic else None
-        variadic = bool(named)
+        variadic = made.signature is not None and made.signature.variadic
         target = self.names.function(callee.name) if isinstance(callee, Global) else None
         if target is not None and not target.variadic and target.defined:
             variadic = False
-        fixed = len(named) if variadic and named is not None else len(made.arguments)
+        fixed = len(made.signature.parameters) if variadic and made.signature else len(made.arguments)
         words: list[int] = []
         for argument in made.arguments[:fixed]:
             registers += self.argument(argument)

@@ -12,7 +12,8 @@ from mm.cc.pointers import Pointer, is_twice, read_unset
 from mm.cc.reading import FLOATING, FLOAT_CASTS
 from mm.cc.variables import event_of
 from mm.cc.untranslated import Untranslated
-from mm.cc.wide import has_floats, is_plain, is_wide
+from mm.cc.vectors import has_floats
+from mm.cc.wide import is_plain, is_wide
 
 
 class Translator(Ends):
@@ -27,6 +28,7 @@ class Translator(Ends):
         self.block_with: dict[str, str] = {}
         self.order = self.reachable()
         self.by_name = {block.name: block for block in self.order}
+        self.repeated = self.made_anew()
         self.code.twice = any(is_twice(made) for block in self.order for made in block.body)
         self.code.variadic = function.variadic
         self.promote()
@@ -81,6 +83,27 @@ class Translator(Ends):
                 work.pop()
         order.reverse()
         return order
+
+    def made_anew(self) -> set[str]:
+        """Objects that a loop makes anew in each turn, as `alloca` does; all others stand in the frame."""
+        found: set[str] = set()
+        for block in self.order[1:]:
+            objects = {made.name for made in block.body if made.op == "alloca" and made.name is not None}
+            if objects and block.name in self.reached_from(block):
+                found |= objects
+        return found
+
+    def reached_from(self, block: Block) -> set[str]:
+        """The blocks that can come after one."""
+        found: set[str] = set()
+        work = [block]
+        while work:
+            last = work.pop().body[-1]
+            for label in [*last.labels, *[label for _, label in last.cases]]:
+                if label not in found:
+                    found.add(label)
+                    work.append(self.by_name[label])
+        return found
 
     def promote(self) -> None:
         for name, type_ in self.promoted.items():

@@ -13,10 +13,8 @@ class Counting(Intrinsics):
     def _extreme(self, made: Instruction, op: str, form: str, greater: bool) -> None:
         a, b = (self.number(self.value_of(made, at), form) for at in (0, 1))
         less = self.op(op, a, b)
-        d = self.code.new()
         yes, no = (b, a) if greater else (a, b)
-        self.emit("select", d, less, no, extra=(yes,), late=(less, no))
-        self.give(made, d, form)
+        self.give(made, self.picked(less, yes, no), form)
 
     def _smax(self, made: Instruction) -> None:
         self._extreme(made, "lts", SIGNED, True)
@@ -29,6 +27,17 @@ class Counting(Intrinsics):
 
     def _umin(self, made: Instruction) -> None:
         self._extreme(made, "ltu", ZEROED, False)
+
+    def _order(self, made: Instruction, op: str, form: str) -> None:
+        """-1, 0 or 1: how two numbers compare."""
+        a, b = (self.number(self.value_of(made, at), form) for at in (0, 1))
+        self.give(made, self.op("sub", self.op(op, b, a), self.op(op, a, b)), SIGNED)
+
+    def _scmp(self, made: Instruction) -> None:
+        self._order(made, "lts", SIGNED)
+
+    def _ucmp(self, made: Instruction) -> None:
+        self._order(made, "ltu", ZEROED)
 
     def _abs(self, made: Instruction) -> None:
         a = self.number(self.value_of(made, 0), SIGNED)
@@ -60,7 +69,7 @@ class Counting(Intrinsics):
         high, low = (self.number(self.value_of(made, at), ZEROED) for at in (0, 1))
         by = self.value_of(made, 2)
         if isinstance(by, Number):
-            amount = by.number % bits
+            amount = (by.number & (1 << bits) - 1) % bits
             if not amount:
                 self.give(made, high if left else low, ZEROED)
                 return
@@ -158,6 +167,4 @@ class Counting(Intrinsics):
             end = self.op("xor", self.op("sar", a, self.constant(63)), self.constant((1 << (bits - 1)) - 1))
         else:
             end = self.constant((1 << bits) - 1 if op == "add" else 0)
-        d = self.code.new()
-        self.emit("select", d, over, total, extra=(end,), late=(over, total))
-        self.give(made, d)
+        self.give(made, self.picked(over, end, total))

@@ -36,19 +36,19 @@ class Ends(Objects):
         self.block.next = [self.labels[label]]
 
     def switch(self, made: Instruction) -> None:
-        if not made.cases:
+        if {label for _, label in made.cases} <= {made.labels[0]}:
             self.go(made.labels[0])
             return
         value = made.operands[0]
         bits = bits_of(value.type)
-        if bits > 64:
-            raise Untranslated(self.left_out(value.type))
-        form = ZEROED if bits == 1 else SIGNED
-        register = self.number(value, form)
         cases = sorted((number if bits == 1 else signed(number, bits), self.labels[label])
                        for number, label in made.cases)
         default = self.labels[made.labels[0]]
         self.block.next = list(dict.fromkeys([label for _, label in cases] + [default]))
+        if bits > 64:
+            self.wide_switch(value, cases, default)
+            return
+        register = self.number(value, ZEROED if bits == 1 else SIGNED)
         least, most = cases[0][0], cases[-1][0]
         if len(cases) >= LEAST_TABLE and most - least < 4 * len(cases) + 8:
             self.table(register, cases, default)
@@ -58,6 +58,14 @@ class Ends(Objects):
                 self.emit("bnz", None, self.op("eq", register, self.constant(number)), extra=label)
             else:
                 self.emit("bz", None, register, extra=label)
+        self.emit("br", extra=default)
+
+    def wide_switch(self, value: Value, cases: list[tuple[int, str]], default: str) -> None:
+        """Compares both words of a number of up to 128 bits."""
+        low, high = self.pair(value, SIGNED)
+        for number, label in cases:
+            change = self.op("xor", low, self.constant(number)), self.op("xor", high, self.constant(number >> 64))
+            self.emit("bz", None, self.op("or", *change), extra=label)
         self.emit("br", extra=default)
 
     def table(self, register: int, cases: list[tuple[int, str]], default: str) -> None:

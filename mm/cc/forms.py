@@ -126,8 +126,6 @@ class Forms:
             carried = self.carried(name)
             for value in made.operands[1:]:
                 self.want(value, carried)
-        elif made.op == "freeze":
-            self.want(made.operands[0], form)
         elif made.op == "load":
             place = made.operands[0]
             if isinstance(place, Local) and place.name in self.promoted:

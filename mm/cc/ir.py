@@ -3,7 +3,7 @@
 from __future__ import annotations
 
 from dataclasses import dataclass, field
-from typing import Any, Callable, Optional, Sequence
+from typing import Any, Callable, Optional, Sequence, Union
 
 from mm.cc.untranslated import Untranslated
 
@@ -99,8 +99,9 @@ FLOAT_SIZES = {"half": 2, "bfloat": 2, "float": 4, "double": 8, "x86_fp80": 16, 
 class Layouts:
     """Sizes, alignments and places of fields, as Clang lays them out for the target that is asked for."""
 
-    def __init__(self, named: dict[str, Type]) -> None:
-        self.named = named
+    def __init__(self, named: dict[str, Type], wide: int = 16) -> None:
+        # How integers of more than 64 bits are aligned.
+        self.named, self.wide = named, wide
         self.known: dict[Type, tuple[int, int]] = {}
         self.places: dict[Type, list[int]] = {}
 
@@ -128,7 +129,7 @@ class Layouts:
             while size * 8 < type_.bits and size < 8:
                 size *= 2
             if type_.bits > 64:
-                return (type_.bits + 127) // 128 * 16, 8 if type_.bits <= 64 else 16
+                return -(-type_.bits // (8 * self.wide)) * self.wide, self.wide
             return size, size
         if isinstance(type_, PointerType):
             return WORD, WORD
@@ -159,6 +160,13 @@ class Layouts:
         """The offsets of a structure's fields."""
         self._both(type_)
         return self.places[type_]
+
+    def holds_pointers(self, type_: Optional[Type]) -> bool:
+        """Whether there is a pointer in an object."""
+        plain = self.plain(type_) if type_ is not None else VOID
+        if isinstance(plain, StructType):
+            return any(self.holds_pointers(part) for part in plain.fields)
+        return self.holds_pointers(plain.element) if isinstance(plain, ArrayType) else isinstance(plain, PointerType)
 
     def inside(self, type_: Type, index: int) -> tuple[int, Type]:
         """The offset and the type of a part."""
@@ -324,6 +332,15 @@ class GlobalObject:
 
 
 @dataclass
+class Alias:
+    """Another name for a function or a global."""
+
+    value: Value
+    internal: bool = False
+    weak: bool = False
+
+
+@dataclass
 class Module:
     """A translated file."""
 
@@ -331,7 +348,7 @@ class Module:
     types: dict[str, Type] = field(default_factory=dict)
     globals: dict[str, GlobalObject] = field(default_factory=dict)
     functions: dict[str, Function] = field(default_factory=dict)
-    aliases: dict[str, Value] = field(default_factory=dict)
+    aliases: dict[str, Alias] = field(default_factory=dict)
     debug: dict[str, str] = field(default_factory=dict)
     # Functions and blocks whose address is taken.
     addressed: set[tuple[str, str]] = field(default_factory=set)
@@ -339,9 +356,15 @@ class Module:
     unread: dict[str, str] = field(default_factory=dict)
     # Whether there is assembler text outside of functions.
     assembler: bool = False
+    # How integers of more than 64 bits are aligned.
+    wide: int = 16
 
     def layouts(self) -> Layouts:
-        return Layouts(self.types)
+        return Layouts(self.types, self.wide)
+
+    def named(self, name: str) -> Union[Function, GlobalObject, Alias, None]:
+        """The function, the global or the alias of a name."""
+        return self.functions.get(name) or self.globals.get(name) or self.aliases.get(name)
 
 
 def operands_of(instruction: Instruction) -> Sequence[Value]:

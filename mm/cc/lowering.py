@@ -2,7 +2,7 @@
 
 from __future__ import annotations
 
-from typing import Optional
+from typing import Optional, Sequence
 
 from mm.cc.code import Code, CodeBlock, Fixed, Op, Variable
 from mm.cc.forms import RAW, SIGNED, ZEROED, Forms, bits_of
@@ -31,6 +31,10 @@ from mm.cc.pointers import Bases, Known, Pointer, promotable
 from mm.cc.untranslated import Untranslated
 
 MASK = (1 << 64) - 1
+# What computes an integer of others that may have been pointers; how far back that is followed, and up to which mask an
+# `and` leaves the lowest bits alone.
+COMPUTED = {"add", "sub", "and", "or", "xor", "shl", "lshr", "mul", "udiv", "freeze"}
+MOST_STEPS, MOST_MARKS = 8, 1 << 16
 
 
 def signed(number: int, bits: int) -> int:
@@ -313,35 +317,56 @@ class Lowering:
     def pointer_of_number(self, value: Value) -> Pointer:
         """A pointer of an integer. Where the integer was computed of one pointer of this function, it is that
         pointer, moved."""
-        leaf = self._leaf(value)
-        if leaf is not None and not (isinstance(value, Local) and self.made.get(value.name) is leaf):
-            start = self.pointer(leaf.operands[0])
-            return Pointer(start.base, self.op("sub", self.number(value, ZEROED), start.base))
-        if leaf is not None:
-            return self.pointer(leaf.operands[0])
-        if isinstance(value, Expression) and value.op == "ptrtoint":
-            return self.pointer(value.parts[0])
-        return Pointer(self.number(value, ZEROED))
+        start = self._leaf(value)
+        if start is None:
+            return Pointer(self.number(value, ZEROED))
+        here = self.pointer(start)
+        if self._origin(value)[0] == "ptrtoint":
+            return here
+        return Pointer(here.base, self.op("sub", self.number(value, ZEROED), here.base))
 
-    def _leaf(self, value: Value, depth: int = 6) -> Optional[Instruction]:
-        """The one ptrtoint that a sum or a mask was computed of."""
-        if not isinstance(value, Local) or not depth:
+    def _origin(self, value: Value) -> tuple[str, Sequence[Value], Optional[Instruction]]:
+        """What makes a value in this function: the operation, its operands, and its instruction if it has one."""
+        if isinstance(value, Expression):
+            return value.op, value.parts, None
+        made = self.made.get(value.name) if isinstance(value, Local) else None
+        return (made.op, made.operands, made) if made is not None else ("", (), None)
+
+    def _leaf(self, value: Value, depth: int = MOST_STEPS) -> Optional[Value]:
+        """The pointer that an integer was computed of, the first of several. A distance of two pointers and the lowest
+        bits of one are computed of none."""
+        op, operands, made = self._origin(value)
+        if op == "ptrtoint":
+            return operands[0] if bits_of(value.type) == 64 else None
+        if made is not None and op in ("load", "phi") and depth:
+            return self._leaf_of_several(made, depth)
+        if op not in COMPUTED or not depth:
             return None
-        made = self.made.get(value.name)
-        if made is None:
-            return None
-        if made.op == "ptrtoint" and bits_of(made.type) == 64:
-            return made
-        if made.op == "load" and isinstance(made.operands[0], Local):
-            stored = self.forms.stored.get(made.operands[0].name, [])
-            leaf = self._leaf(stored[0], depth - 1) if len(stored) == 1 else None
-            start = leaf.operands[0] if leaf else None
-            return None if isinstance(start, Local) and start.name not in self.pointers else leaf
-        if made.op in ("add", "sub", "and", "or", "xor"):
-            found = [self._leaf(operand, depth - 1) for operand in made.operands]
-            found = [leaf for leaf in found if leaf is not None]
-            return found[0] if len(found) == 1 else None
-        return None
+        found = [leaf for leaf in (self._leaf(operand, depth - 1) for operand in operands) if leaf is not None]
+        marks = op == "and" and isinstance(operands[1], Number) and 0 <= operands[1].number < MOST_MARKS
+        return found[0] if found and not marks and (op != "sub" or len(found) == 1) else None
+
+    def _leaf_of_several(self, made: Instruction, depth: int) -> Optional[Value]:
+        """The same of a variable that lives in a register, or of a value of a loop: of what it is given, all but one are
+        computed of itself."""
+        name = self._variable(made)
+        given = made.operands if made.op == "phi" else self.forms.stored.get(name, [])
+        others = list(dict.fromkeys(each for each in given if not self._is_of(each, name, depth)))
+        leaf = self._leaf(others[0], depth - 1) if len(others) == 1 else None
+        return None if isinstance(leaf, Local) and leaf.name not in self.pointers else leaf
+
+    @staticmethod
+    def _variable(made: Instruction) -> str:
+        """The name of the variable that is read, or of the value of a loop."""
+        place = made.operands[0] if made.op == "load" else None
+        return place.name if isinstance(place, Local) else made.name or ""
+
+    def _is_of(self, value: Value, name: str, depth: int) -> bool:
+        """Whether an integer is computed of a variable."""
+        op, operands, made = self._origin(value)
+        if made is not None and op in ("load", "phi"):
+            return self._variable(made) == name
+        return op in COMPUTED and depth > 0 and any(self._is_of(operand, name, depth - 1) for operand in operands)
 
     def instruction(self, made: Instruction) -> None:
         raise NotImplementedError

@@ -7,7 +7,7 @@ from typing import TYPE_CHECKING, Optional
 
 from mm.cc.code import Variable
 from mm.cc.data import Constants, Words
-from mm.cc.ir import Function, Global, GlobalObject, Module, Value
+from mm.cc.ir import Function, Global, GlobalObject, Module, Value, Zero
 from mm.cc.lines import Lines
 from mm.cc.lowering import Names
 from mm.cc.pointers import Known
@@ -92,11 +92,19 @@ class ModuleNames(Names):
 
     def resolve(self, value: Value) -> Value:
         while isinstance(value, Global):
+            if self.is_absent(value.name):
+                return Zero(value.type)
             module = self.program.home(self.module, value.name) or self.module
             if value.name not in module.aliases:
                 break
-            value = module.aliases[value.name]
+            value = module.aliases[value.name].value
         return value
+
+    def is_absent(self, name: str) -> bool:
+        """Whether nothing defines a name that is weak where it is used: its address is null."""
+        function, made = self.module.functions.get(name), self.module.globals.get(name)
+        weak = function is not None and "extern_weak" in function.words or made is not None and made.weak and made.value is None
+        return weak and self.program.home(self.module, name) is None
 
     def declare(self, name: str, variable: Variable) -> None:
         self.declared.setdefault(name, variable)

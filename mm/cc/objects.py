@@ -22,9 +22,11 @@ from mm.cc.ir import (
 )
 from mm.cc.pointers import Known, Pointer
 from mm.cc.untranslated import Untranslated
-from mm.cc.wide import Vectors
+from mm.cc.vectors import Vectors
 
 WORD = 8
+# Comparisons that say whether the old number is less, and whether the greater one is wanted.
+EXTREMES = {"max": ("lts", True), "min": ("lts", False), "umax": ("ltu", True), "umin": ("ltu", False)}
 
 
 class Objects(Vectors):
@@ -95,10 +97,8 @@ class Objects(Vectors):
     def read_and_write(self, made: Instruction) -> None:
         """The old value is loaded and the new one stored, in two turns."""
         place, value = made.operands
-        bits = bits_of(made.type)
         align = self.layouts.align(made.type)
         name = made.name or f"?{self.code.registers}"
-        made.name = name
         pointer = self.pointer(place)
         if isinstance(made.type, PointerType):
             if made.condition != "xchg":
@@ -106,26 +106,31 @@ class Objects(Vectors):
             self.load_value(pointer, made.type, align, name)
             self.store_value(pointer, value, align)
             return
-        register, known = self.load_integer(pointer, bits, align, SIGNED)
+        if not isinstance(made.type, IntType) or made.type.bits > 64:
+            raise Untranslated(self.left_out(made.type))
+        register, known = self.load_integer(pointer, made.type.bits, align, SIGNED)
         self.define(name, made.type, register, known)
-        old = Local(made.type, name)
-        if made.condition == "xchg":
-            new = self.number(value)
-        elif made.condition == "nand":
-            new = self.op("xor", self.op("and", register, self.number(value)), self.constant(-1))
-        elif made.condition in ("add", "sub", "and", "or", "xor"):
-            new = self.op(made.condition, register, self.number(value))
-        else:
-            op, form = {"max": ("lts", SIGNED), "min": ("lts", SIGNED), "umax": ("ltu", SIGNED),
-                        "umin": ("ltu", SIGNED)}[made.condition]
-            less = self.op(op, self.number(old, form), self.number(value, form))
-            yes, no = self.number(value, form), self.number(old, form)
-            if made.condition.endswith("min"):
-                yes, no = no, yes
-            new = self.code.new()
-            self.emit("select", new, less, no, extra=(yes,), late=(less, no))
-        self.define(name + "?new", made.type, new)
-        self.store_integer(pointer, Local(made.type, name + "?new"), bits, align)
+        self.define(name + "?new", made.type, self.changed(made.condition, Local(made.type, name), value))
+        self.store_integer(pointer, Local(made.type, name + "?new"), made.type.bits, align)
+
+    def changed(self, how: str, old: Value, value: Value) -> int:
+        """What such an operation stores."""
+        if how in EXTREMES:
+            op, greater = EXTREMES[how]
+            # Extended by their signs, unsigned numbers keep their order.
+            a, b = self.number(old, SIGNED), self.number(value, SIGNED)
+            return self.picked(self.op(op, a, b), *((b, a) if greater else (a, b)))
+        a, b = self.number(old), self.number(value)
+        if how == "xchg":
+            return b
+        if how == "nand":
+            return self.op("xor", self.op("and", a, b), self.constant(-1))
+        if how in ("add", "sub") and bits_of(old.type) == 64:
+            # The number may be a pointer, which stays one while it is in its segment.
+            return self.whole(Pointer(a, b if how == "add" else self.op("sub", self.constant(0), b)))
+        if how in ("add", "sub", "and", "or", "xor"):
+            return self.op(how, a, b)
+        raise Untranslated(f"atomicrmw {how}")
 
     def compare_and_change(self, made: Instruction) -> None:
         assert made.name is not None
@@ -137,16 +142,10 @@ class Objects(Vectors):
         old = Local(type_, name + "?0")
         if isinstance(type_, PointerType):
             same = self.op("eq", self.whole(self.pointer(old)), self.whole(self.pointer(expected)))
-            d = self.code.new()
-            yes, no = self.whole(self.pointer(new)), self.whole(self.pointer(old))
-            self.emit("select", d, same, no, extra=(yes,), late=(same, no))
-            self.store_word(pointer, d)
+            self.store_word(pointer, self.picked(same, self.whole(self.pointer(new)), self.whole(self.pointer(old))))
         else:
             same = self.op("eq", self.number(old, SIGNED), self.number(expected, SIGNED))
-            d = self.code.new()
-            yes, no = self.number(new, SIGNED), self.number(old, SIGNED)
-            self.emit("select", d, same, no, extra=(yes,), late=(same, no))
-            self.define(name + "?new", type_, d)
+            self.define(name + "?new", type_, self.picked(same, self.number(new, SIGNED), self.number(old, SIGNED)))
             self.store_integer(pointer, Local(type_, name + "?new"), bits_of(type_), align)
         self.define(name + "?1", IntType(1), same, ZEROED)
         self.groups[name] = [old, Local(IntType(1), name + "?1")]
@@ -169,7 +168,7 @@ class Objects(Vectors):
     def dynamic_alloca(self, made: Instruction, size: int) -> None:
         assert made.name is not None
         self.code.dynamic = True
-        count = self.number(made.operands[0], ZEROED)
+        count = self.number(made.operands[0], ZEROED) if made.operands else self.constant(1)
         total = self.scaled(count, size) if size else self.constant(0)
         if made.align > WORD:
             # It ends at the end of its segment, so it begins at a multiple of what its size is a multiple of.

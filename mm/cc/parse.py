@@ -6,7 +6,7 @@ import re
 from functools import partial
 
 from mm.cc.instructions import InstructionReader
-from mm.cc.ir import Argument, Block, Function, GlobalObject, Instruction, Local, Module, Zero
+from mm.cc.ir import WORD, Alias, Argument, Block, Function, GlobalObject, Instruction, Local, Module, Zero
 from mm.cc.reading import ADDRESSED, LINKAGES_INTERNAL, LINKAGES_WEAK, Reader, bare
 from mm.cc.untranslated import Untranslated
 
@@ -14,6 +14,8 @@ DEFINE = re.compile(r"(define|declare)\b")
 GLOBAL = re.compile(r'(@(?:[-\w.$]+|"[^"]*")) = (.*)')
 DEBUG = re.compile(r"!dbg (!\d+)")
 LABEL = re.compile(r'^([-\w.$]+|"[^"]*"):')
+# What is said of integers of 128 bits; nothing says that they are aligned like those of 64.
+WIDE = re.compile(r"\bi128:(\d+)")
 
 
 class ModuleReader:
@@ -42,6 +44,9 @@ class ModuleReader:
             elif line[0] == "!":
                 number, _, rest = line.partition(" = ")
                 self.module.debug[number] = rest
+            elif line.startswith("target datalayout"):
+                wide = WIDE.search(line)
+                self.module.wide = int(wide[1]) // 8 if wide else WORD
             elif line.startswith("module asm") and line != 'module asm ""':
                 self.module.assembler = True
         return self.module
@@ -63,10 +68,12 @@ class ModuleReader:
             if reader.token == "(":
                 reader.skip_group()
         kind = reader.next()
-        if kind in ("alias", "ifunc"):
+        if kind == "ifunc":
+            return
+        if kind == "alias":
             reader.type()
             reader.want(",")
-            self.module.aliases[name] = reader.typed()
+            self.module.aliases[name] = Alias(reader.typed(), bool(said & LINKAGES_INTERNAL), bool(said & LINKAGES_WEAK))
             return
         type_ = reader.type()
         value = None

@@ -83,6 +83,16 @@ class Bases:
         for name in self.promoted:
             if name in base:
                 base[name] = name
+        while True:
+            self._settle(base)
+            unknown = [name for name, found in base.items() if found is None]
+            if not unknown:
+                return base
+            for name in unknown:
+                base[name] = name
+
+    def _settle(self, base: dict[str, Base]) -> None:
+        """Gives each value the one base of what it comes from, or itself, until nothing changes."""
         changed = True
         while changed:
             changed = False
@@ -91,12 +101,14 @@ class Bases:
                     continue
                 found = {self._base_of(value, base) for value in values} - {None}
                 new = found.pop() if len(found) == 1 else name if found else None
+                if new in self.made and any(isinstance(value, Undefined) for value in values):
+                    # A value of a loop is another one in each turn: on the way that brings none, it may be made later.
+                    new = name
                 if new != base[name]:
                     if base[name] is not None:
                         new = name
                     base[name] = new
                     changed = True
-        return {name: found or name for name, found in base.items()}
 
     def _base_of(self, value: Value, base: dict[str, Base]) -> Base:
         while True:

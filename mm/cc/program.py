@@ -12,7 +12,8 @@ from mm.cc.control import Translator
 from mm.cc.ctypes import Types
 from mm.cc.data import Place, Words
 from mm.cc.failures import INSTEAD, INSTEAD_OF, Failure, Failures, Missing
-from mm.cc.ir import POINTER, ArrayType, BlockAddress, Function, Global, GlobalObject, IntType, Module, Number, Parts, Type
+from mm.cc.ir import POINTER, WORD, ArrayType, BlockAddress, Function, Global, GlobalObject, IntType, Module
+from mm.cc.ir import Number, Parts, Type
 from mm.cc.lines import FunctionNotes
 from mm.cc.modulenames import ASSEMBLER, DOOR, EMPTY, SHARED, WIPING, ModuleNames, Segment
 from mm.cc.options import Options
@@ -73,24 +74,22 @@ class Program:
         for name, made in module.globals.items():
             if made.value is not None and not made.internal:
                 self._offer(name, module, made.weak)
-        for name in module.aliases:
-            self._offer(name, module, False)
+        for name, alias in module.aliases.items():
+            if not alias.internal:
+                self._offer(name, module, alias.weak)
 
     def _offer(self, name: str, module: Module, weak: bool) -> None:
         if name not in self.public or not weak and self._is_weak(name):
             self.public[name] = module
 
     def _is_weak(self, name: str) -> bool:
-        module = self.public[name]
-        made = module.functions.get(name) or module.globals.get(name)
+        made = self.public[name].named(name)
         return made is not None and made.weak
 
     def home(self, module: Module, name: str) -> Optional[Module]:
         """The module that defines what a module calls by a name."""
-        function, made = module.functions.get(name), module.globals.get(name)
-        if function is not None and function.defined and function.internal or made is not None and made.internal:
-            return module
-        return self.public.get(name)
+        made = module.named(name)
+        return module if made is not None and made.internal else self.public.get(name)
 
     def fresh(self) -> str:
         self.counter += 1
@@ -202,7 +201,7 @@ class Program:
         made = module.globals[name]
         names = self.names[id(module)]
         size = names.layouts.size(made.type)
-        align = max(made.align or names.layouts.align(made.type), 1)
+        align = max(made.align or names.layouts.align(made.type), WORD if names.layouts.holds_pointers(made.type) else 1)
         log = max(log_of(size), (align - 1).bit_length() if align > 1 else 0)
         if log > MOST_LOG:
             raise Failure(f"{module.name}: {name}", f"an object of {size} bytes, more than a segment can have,")

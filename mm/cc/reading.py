@@ -254,9 +254,11 @@ class Reader:
             if self.token == "(" and self.tokens[self.at - 1] == "inrange":
                 self.skip_group()
         condition = self.next() if op in ("icmp", "fcmp") else ""
-        if op == "splat":
-            raise Untranslated("a vector")
         self.want("(")
+        if op == "splat":
+            part = self.typed()
+            self.want(")")
+            return Parts(type_, (part,) * type_.count if isinstance(type_, VectorType) else ())
         source = None
         if op == "getelementptr":
             source = self.type()

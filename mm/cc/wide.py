@@ -1,4 +1,4 @@
-"""Values in parts: integers of 128 bits as two words, and vectors as their elements."""
+"""Integers of 128 bits, as two words."""
 
 from __future__ import annotations
 
@@ -6,19 +6,7 @@ from typing import Optional
 
 from mm.cc.counting import Counting
 from mm.cc.forms import RAW, SIGNED, ZEROED, bits_of
-from mm.cc.ir import (
-    FloatType,
-    Instruction,
-    IntType,
-    Local,
-    Number,
-    PointerType,
-    Type,
-    Undefined,
-    Value,
-    VectorType,
-    Zero,
-)
+from mm.cc.ir import Instruction, IntType, Local, Number, PointerType, Type, Value, VectorType
 from mm.cc.untranslated import Untranslated
 
 WORD_TYPE = IntType(64)
@@ -72,10 +60,14 @@ class Wide(Counting):
         if isinstance(amount, Number) and 0 < amount.number < 128:
             self.give_pair(made.name, made.type, *self.shifted(made.op, low, high, amount.number))
             return
+        self.give_pair(made.name, made.type, *self.moved_by(made.op, (low, high), by))
+
+    def moved_by(self, op: str, pair: Pair, by: int) -> Pair:
+        """A shift by an amount from 0 to 127."""
         names = {"shl": ("__mm_left_low", "__mm_left_high"), "lshr": ("__mm_right_low", "__mm_right_high"),
-                 "ashr": ("__mm_signed_right_low", "__mm_signed_right_high")}[made.op]
-        halves = [self.runtime(name, [low, high, by], True) for name in names]
-        self.give_pair(made.name, made.type, *halves)
+                 "ashr": ("__mm_signed_right_low", "__mm_signed_right_high")}[op]
+        low, high = (self.runtime(name, [*pair, by], True) for name in names)
+        return low, high
 
     def shifted(self, op: str, low: int, high: int, by: int) -> Pair:
         """A shift by a constant from 1 to 127."""
@@ -152,9 +144,13 @@ class Wide(Counting):
             return self.op("eq", change, self.constant(0)), condition == "ne"
         if condition[1:] in ("gt", "le"):
             a, b, c, d = c, d, a, b
-        op = "lts" if condition[0] == "s" else "ltu"
-        lower = self.op("and", self.op("eq", b, d), self.op("ltu", a, c))
-        return self.op("or", self.op(op, b, d), lower), condition[1:] in ("ge", "le")
+        less = self.wide_less("lts" if condition[0] == "s" else "ltu", (a, b), (c, d))
+        return less, condition[1:] in ("ge", "le")
+
+    def wide_less(self, op: str, one: Pair, other: Pair) -> int:
+        """1 where a number is less than another one, by a comparison of their upper words, else 0."""
+        lower = self.op("and", self.op("eq", one[1], other[1]), self.op("ltu", one[0], other[0]))
+        return self.op("or", self.op(op, one[1], other[1]), lower)
 
     def condition_of(self, made: Instruction) -> tuple[int, bool]:
         if is_wide(made.operands[0].type):
@@ -174,83 +170,6 @@ class Wide(Counting):
             self.select(chosen)
             parts.append(Local(first.type, name))
         self.groups[made.name] = parts
-
-
-class Vectors(Wide):
-    """Vectors, which the machine has none of: each operation is done element by element."""
-
-    def by_element(self, made: Instruction, element: Type) -> None:
-        """An operation on vectors, for each element by itself."""
-        assert made.name is not None
-        groups = [self.group(operand) for operand in made.operands]
-        parts: list[Value] = []
-        for number, operands in enumerate(zip(*groups)):
-            name = f"{made.name}?{number}"
-            part = Instruction(made.op, element, name, list(operands), condition=made.condition)
-            if made.op == "icmp":
-                self.define(name, element, self.truth(part), ZEROED)
-            else:
-                self.instruction(part)
-            parts.append(Local(element, name))
-        self.groups[made.name] = parts
-
-    def extract_element(self, made: Instruction) -> None:
-        whole, at = made.operands
-        if isinstance(at, (Number, Zero)):
-            self.alias(made.name, self.group(whole)[at.number if isinstance(at, Number) else 0])
-            return
-        assert made.name is not None
-        place = self.element_place(whole, at)
-        self.load_value(place, made.type, self.layouts.align(made.type), made.name)
-
-    def element_place(self, whole: Value, at: Value):  # type: ignore[no-untyped-def]
-        size = self.layouts.size(whole.type)
-        kept = self.local_object("vector", size, 8)
-        self.store_value(kept, whole, 8)
-        self.kept = kept
-        return self.moved(kept, self.layouts.plain(whole.type), [Zero(WORD_TYPE), at])
-
-    def insert_element(self, made: Instruction) -> None:
-        assert made.name is not None
-        whole, value, at = made.operands
-        if isinstance(at, (Number, Zero)):
-            parts = list(self.group(whole))
-            parts[at.number if isinstance(at, Number) else 0] = value
-            self.groups[made.name] = parts
-            return
-        place = self.element_place(whole, at)
-        self.store_value(place, value, self.layouts.align(value.type))
-        self.load_value(self.kept, made.type, 8, made.name)
-
-    def shuffle(self, made: Instruction) -> None:
-        assert made.name is not None
-        first, second, mask = made.operands
-        both = [*self.group(first), *self.group(second)]
-        element = both[0].type
-        parts = self.group(mask)
-        self.groups[made.name] = [
-            Undefined(element) if isinstance(at, Undefined) else both[at.number if isinstance(at, Number) else 0]
-            for at in parts
-        ]
-
-    def through_object(self, made: Instruction) -> None:
-        """The same bits as another type, through an object."""
-        assert made.name is not None
-        operand = made.operands[0]
-        for type_ in (operand.type, made.type):
-            inner = type_.element if isinstance(type_, VectorType) else type_
-            if isinstance(inner, FloatType):
-                raise Untranslated("floating point")
-        kept = self.local_object("bits", self.layouts.size(operand.type), 8)
-        self.store_value(kept, operand, 8)
-        self.load_value(kept, made.type, 8, made.name)
-
-    def alias(self, name: Optional[str], value: Value) -> None:
-        raise NotImplementedError
-
-
-def has_floats(type_: Type) -> bool:
-    return isinstance(type_, FloatType) or isinstance(type_, VectorType) and isinstance(type_.element, FloatType)
 
 
 def is_plain(type_: Type) -> bool:

@@ -2,83 +2,34 @@
 
 from __future__ import annotations
 
-from typing import Optional
-
-from mm.build import Built
-from mm.commands.running import Runner
-from mm.console import Console, Order
-from mm.machine.causes import Cause
-from mm.named import NamedFile
-from mm.names.numbers import number_of
-from mm.outputs.exploration import Exploration, read_exploration
-from mm.outputs.report import Report, read_report
-from mm.outputs.trace import Turn, read_turn
-from mm.records import replace
-from mm.status import Status, usage
-from mm.table import STATES
-from mm.views.exploration import ExplorationView, Places
-from mm.views.faults import said_of
-from mm.views.report import ReportView
-from mm.views.spell import Memory, Speller
-from mm.views.waiting import what_for
-from mm.words import MOST_CYCLES
-
-USUAL, MOST = 100_000, 1_000_000
-# So many faults and so many ends are told with their places: each is a run of its own.
-MOST_PLACES = 50
-WAITS = ("ld", "st", "evt")
-# Slots whose fault their handler has, or has not looked at yet.
-FAULTED = {"waiting", "taken"}
-
-
-def run_under(console: Console, built: Built, schedule: str) -> tuple[Report, Optional[Turn]]:
-    """The report of a run under a schedule that was found, and its last turn."""
-    file = NamedFile("the schedule", schedule.encode())
-    runner = Runner(console, built, Order(file, console.workshop.keep(file.data, ".schedule")))
-    answer = console.ask(runner.words("run", MOST_CYCLES), runner.files)
-    lines = runner.last_turns(MOST_CYCLES, len(answer.out))
-    return read_report(answer.text.splitlines()), read_turn(lines[-1]) if lines else None
-
-
-def places_of(console: Console, built: Built, found: Exploration) -> Places:
-    """Where each fault is met and why, from a run under its schedule."""
-    places: Places = {}
-    for number, fault, schedule in found.faults[:MOST_PLACES]:
-        (report, turn), cause = run_under(console, built, schedule), Cause.of_number(fault)
-        there = report.slot(number)
-        if there is None or turn is None or cause is None or (turn.slot, turn.fault) != (number, fault):
-            continue
-        slot, memory, speller = replace(there, fault=fault), Memory.after(built.image, report), Speller(built.symbols)
-        said = said_of(cause, there, turn, memory, speller)
-        view = ReportView(report, memory, speller, console.style, faults={number: said})
-        below = view.place(slot) + said.why
-        handler = next((each.handler for each in built.image.slots if each.number == number), None)
-        served = f", and slot {handler} serves it" if handler is not None else ""
-        places[number, fault] = [f"slot {number} can be {view.state(slot)}{served}", *(f"  {line}" for line in below)]
-    return places
-
-
-def tell_waits(console: Console, built: Built, found: Exploration) -> None:
-    """Puts what each slot waits for in place of `running` where a program is stuck, and says what `waiting` and `taken` are."""
-    for outcome in [one for one in found.outcomes if not one.ended or FAULTED & set(one.states.values())][:MOST_PLACES]:
-        report, _ = run_under(console, built, outcome.schedule)
-        memory, speller = Memory.after(built.image, report), Speller(built.symbols)
-        for slot in report.slots:
-            instruction = memory.instruction(slot.ip.pointer.address) if slot.running and slot.ip.pointer else None
-            if instruction and instruction.name in WAITS and not outcome.ended:
-                outcome.states[slot.number] = what_for(slot, memory, speller)
-            elif slot.state in FAULTED:
-                outcome.states[slot.number] = ReportView(report, memory, speller, console.style).state(slot)
+from mm.console import Console
+from mm.explore.asked import meant_of, states_of
+from mm.explore.looking import explored
+from mm.explore.places import met_in, standings
+from mm.explore.wrote import written
+from mm.status import Status
+from mm.table import JSON, MEANT, STATES, WROTE
+from mm.views.exploration import ExplorationView, WritesView
+from mm.views.exploreddata import ExploredForm
+from mm.views.style import Style
+from mm.why.ask import address_of_word
 
 
 def run(console: Console) -> int:
-    said = console.said.value(STATES)
-    states = USUAL if said is None else number_of(said)
-    if states is None or not 1 <= states <= MOST:
-        raise usage(f"mm: explore: --states is a number from 1 to {MOST}, not `{said}`")
+    """Writes what was found: all of it, or who writes a word."""
+    said, form = console.said, console.said.has(JSON)
+    asked, meant, named = states_of(said.value(STATES)), meant_of(said.all(MEANT)), said.value(WROTE)
     built = console.build(console.words)
-    text = console.ask(["explore", built.path, str(states)], [built.file]).text
-    found = read_exploration(text)
-    tell_waits(console, built, found)
-    console.write(ExplorationView(built.symbols, places_of(console, built, found)).lines(found))
+    word = None if named is None else address_of_word(named, built.symbols)
+    found, states = explored(console, built, asked)
+    writes = None if word is None else written(console, built, found, word)
+    if writes is not None and not form:
+        console.write(WritesView(built.symbols).lines(found, writes))
+        return Status.DONE
+    style = Style() if form else console.style
+    places, stand = met_in(console, built, found, meant), standings(console, built, found, style)
+    if form:
+        console.write_json(ExploredForm(built.symbols, states, found, places, stand, meant, writes).form())
+    else:
+        console.write(ExplorationView(built.symbols, places, stand, meant, style).lines(found))
     return Status.DONE

@@ -3,7 +3,8 @@
 from __future__ import annotations
 
 import re
-from typing import Iterator
+from itertools import groupby
+from typing import Iterable, Iterator
 
 from mm.records import dataclass
 
@@ -41,6 +42,11 @@ class Schedule:
         for slot, count in self.runs:
             for _ in range(count):
                 yield slot
+
+
+def schedule_of(items: Iterable[int]) -> Schedule:
+    """The schedule of some items, equal ones together."""
+    return Schedule(tuple((item, sum(1 for _ in each)) for item, each in groupby(items)))
 
 
 def words_of(data: bytes) -> Iterator[tuple[int, bytes]]:

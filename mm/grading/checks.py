@@ -12,7 +12,7 @@ from mm.grading.values import is_value
 from mm.machine.causes import Cause
 from mm.machine.words import Word
 from mm.names.numbers import counted
-from mm.outputs.exploration import Exploration
+from mm.outputs.exploration import ENDLESS, Exploration
 from mm.outputs.report import SlotState
 from mm.views.spell import bytes_as_text
 
@@ -249,9 +249,10 @@ def outcomes(program: Program, number: str) -> Optional[str]:
 
 def never(program: Program, what: str) -> Optional[str]:
     found = program.exploration
-    stuck = [outcome.schedule for outcome in found.outcomes if not outcome.ended]
-    if what == "stuck" and stuck:
-        return f"it is, under the schedule {stuck[0]}"
+    left = [outcome for outcome in found.outcomes if not outcome.ended]
+    if what == "stuck" and left:
+        does = "goes on for ever" if left[0].kind == ENDLESS else "is"
+        return f"it {does}, under the schedule {left[0].schedule}"
     if what == "faults" and found.faults:
         slot, cause, schedule = found.faults[0]
         title = Cause.of_number(cause)

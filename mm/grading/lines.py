@@ -88,8 +88,8 @@ OF_PROGRAM = (
     _row("common GROUP GROUP", "by the audit the first group can write a word that the second can touch"),
     _row("own GROUP", "the group has a pointer to data that no other group can touch, in a register or in memory that it can load"),
     _row("keeps NAME..", "a gate keeps these segments, whatever its callers do; `gates` means all behind enter pointers, `NAME*` all that begin so"),
-    _row("outcomes N", "over all schedules, the program can end in exactly N ways (`mm explore`)"),
-    _row("never stuck", "never faults", "under no schedule does the program get stuck, or a slot fault"),
+    _row("outcomes N", "over all schedules, the program can end or go on for ever in exactly N ways (`mm explore`)"),
+    _row("never stuck", "never faults", "under no schedule does the program get stuck or go on for ever, or a slot fault"),
     _row("uses OPERATION..", "without OPERATION..", "each of these operations is in the source; or none is, and none is carried out"),
 )
 # fmt: on

@@ -2,6 +2,7 @@
 
 from __future__ import annotations
 
+from typing import Mapping, Optional
 
 from mm.outputs.report import state_of, state_text
 from mm.records import dataclass, field
@@ -16,19 +17,46 @@ class Reached:
     wrote: list[tuple[int, int]] = field(default_factory=list)
 
 
+ENDED, STUCK, ENDLESS = "ended", "stuck", "endless"
+BUSY, RUNNING = "busy", "running"
+# The states of slots that still wait for something where nothing comes any more.
+LEFT = (RUNNING, "waiting", "taken")
+
+
 @dataclass
 class Outcome:
-    """A way to end: whether no slot runs any more, the state of each slot, each output, and the first schedule."""
+    """A way to end or to go on for ever: its kind, how each slot stands, each output, the first schedule, and how many final
+    configurations, or sets that are never left, have it."""
 
-    ended: bool
+    kind: str
     states: dict[int, str] = field(default_factory=dict)
     outputs: dict[int, bytes] = field(default_factory=dict)
     schedule: str = ""
+    count: int = 1
 
     @property
-    def told(self) -> list[str]:
-        """The slots and the outputs as lines for people."""
-        slots = [f"slot {number} {state}" for number, state in self.states.items()]
+    def ended(self) -> bool:
+        """Whether no slot runs any more."""
+        return self.kind == ENDED
+
+    @property
+    def waiting(self) -> list[int]:
+        """The slots that have turns for ever, none of which does anything."""
+        return [number for number, state in self.states.items() if state == RUNNING]
+
+    @property
+    def left(self) -> list[int]:
+        """The slots that wait: for a word, for an event, or for a handler that looks at their fault."""
+        return [number for number, state in self.states.items() if state in LEFT]
+
+    @property
+    def busy(self) -> list[int]:
+        """The slots that change for ever."""
+        return [number for number, state in self.states.items() if state == BUSY]
+
+    def told(self, said: Optional[Mapping[int, str]] = None) -> list[str]:
+        """The slots and the outputs as lines for people, with what is said of some slots in place of their states."""
+        slots = [f"slot {number} {(said or {}).get(number, state)}" for number, state in self.states.items()]
         texts = [
             f'group {group} prints "{data.decode("latin-1").encode("unicode_escape").decode()}"'
             for group, data in self.outputs.items()
@@ -63,7 +91,7 @@ class Reader:
         elif verb == "fault":
             self.fault = (int(words[1]), int(words[2]))
         elif verb == "outcome":
-            found.outcomes.append(Outcome(words[2] == "ended"))
+            found.outcomes.append(Outcome(words[2], count=int(words[1])))
         elif verb == "by":
             self.schedule(" ".join(words[1:]))
         elif not found.outcomes:
@@ -80,7 +108,7 @@ class Reader:
     def end(self, outcome: Outcome, words: list[str]) -> None:
         """A line of an outcome: a slot, or a group's output."""
         if words[0] == "slot":
-            outcome.states[int(words[1])] = state_text(*state_of(words[2:]))
+            outcome.states[int(words[1])] = BUSY if words[2] == BUSY else state_text(*state_of(words[2:]))
         elif words[0] == "group":
             self.group = int(words[1])
             outcome.outputs[self.group] = b""

@@ -8,10 +8,11 @@ from typing import Any, Callable, Optional, Union
 
 from mm.commands.behind import audit_of, behind_doors, names_of, patterns_of
 from mm.commands.keeps import answer_of, files_and_segments, threads_of
+from mm.explore.looking import explored
 from mm.formats.schedule import read_schedule
 from mm.names.kept import kept_of
 from mm.outputs.audit import read_audit
-from mm.outputs.exploration import Exploration, read_exploration
+from mm.outputs.exploration import Exploration
 from mm.outputs.trace import numbered, read_turn, split_trace
 from mm.pictures import audit as audit_picture
 from mm.pictures import image as image_picture
@@ -51,8 +52,7 @@ class Pane:
 
 
 def _exploration(desk: Desk) -> Exploration:
-    words = ["explore", desk.built.path, str(desk.states)]
-    return read_exploration(desk.ask(words, [desk.built.file]).text)
+    return explored(desk, desk.built, desk.states)[0]
 
 
 def _audit(desk: Desk) -> Picture:
@@ -141,7 +141,7 @@ def schedules(desk: Desk) -> list[Json]:
     """Each schedule that an exploration has found, with what comes of it."""
     found = _exploration(desk)
     ends = [
-        ["outcome " if each.ended else "stuck: outcome ", number, each.schedule, "; ".join(each.told)]
+        ["outcome " if each.ended else f"{each.kind}: outcome ", number, each.schedule, "; ".join(each.told())]
         for number, each in enumerate(found.outcomes, 1)
     ]
     return [["fault ", cause, turns, f"slot {slot}"] for slot, cause, turns in found.faults] + ends

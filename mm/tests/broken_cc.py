@@ -1,8 +1,8 @@
 """Broken lines of `mm/cc`, each of which the tests must notice: a path, the text of a line, what is put into its place,
 and the module of tests that notices it."""
 
-VALUES, CLANG, CC, SAID, DOORS, LIBRARY = (
-    f"mm.tests.test_cc{part}" for part in ("_values", "_clang", "", "_said", "_doors", "_library"))
+VALUES, CLANG, CC, SAID, DOORS, LIBRARY, SELDOM = (
+    f"mm.tests.test_cc{part}" for part in ("_values", "_clang", "", "_said", "_doors", "_library", "_seldom"))
 BROKEN = (
     # Numbers.
     ("mm/cc/arithmetic.py", 'op, (a, b) = "lts" if op == "ltu" else op, distances', "a, b = distances", VALUES),
@@ -16,8 +16,7 @@ BROKEN = (
     ("mm/cc/counting.py", "yes, no = (b, a) if greater else (a, b)", "yes, no = (b, a)", VALUES),
     ("mm/cc/wide.py", 'self.give_pair(made.name, made.type, low, self.op("add", self.op("add", b, d), carry))',
      'self.give_pair(made.name, made.type, low, self.op("add", b, d))', VALUES),
-    ("mm/cc/wide.py", 'return self.op("or", self.op(op, b, d), lower), condition[1:] in ("ge", "le")',
-     'return self.op(op, b, d), condition[1:] in ("ge", "le")', VALUES),
+    ("mm/cc/wide.py", 'return self.op("or", self.op(op, one[1], other[1]), lower)', "return self.op(op, one[1], other[1])", VALUES),
     # Memory.
     ("mm/cc/code.py", "return ((1 << log) - max(size, 1)) // align * align if at_end else 0",
      "return ((1 << log) - max(size, 1)) // min(align, 8) * min(align, 8) if at_end else 0", VALUES),
@@ -72,6 +71,21 @@ BROKEN = (
     ("mm/cc/runtime/allocate.c", "let_go(), at = find(count);", ";", CLANG),
     ("mm/cc/runtime/allocate.c", "__mm_heap[word] ^= maps[word];", "", CLANG),
     ("mm/cc/forms.py", "return [form for form in (SIGNED, ZEROED) if form in wanted]", "return list(wanted)", CLANG),
+    # Seldom forms.
+    ("mm/cc/pointers.py", "if new in self.made and any(isinstance(value, Undefined) for value in values):", "if False:", VALUES),
+    ("mm/cc/control.py", "found |= objects", "pass", VALUES),
+    ("mm/cc/lowering.py", 'return found[0] if found and not marks and (op != "sub" or len(found) == 1) else None', "return None", VALUES),
+    ("mm/cc/ends.py", "if {label for _, label in made.cases} <= {made.labels[0]}:", "if not made.cases:", VALUES),
+    ("mm/cc/parse.py", "self.module.wide = int(wide[1]) // 8 if wide else WORD", "self.module.wide = 16", VALUES),
+    ("mm/cc/arithmetic.py", '"freeze", "atomicrmw", "cmpxchg"}', '"freeze"}', VALUES),
+    ("mm/cc/objects.py", 'if how in ("add", "sub") and bits_of(old.type) == 64:', "if False:", VALUES),
+    ("mm/cc/modulenames.py", "if self.is_absent(value.name):", "if False:", VALUES),
+    ("mm/cc/vectors.py", "found = Local(made.type, name)", "pass", VALUES),
+    ("mm/cc/ir.py", " or self.aliases.get(name)", "", CC),
+    ("mm/cc/widecounting.py", 'rest = self.op("sub", self.constant(bits - 1), amount)', 'rest = self.op("sub", self.constant(bits), amount)',
+     SELDOM),
+    ("mm/cc/accesses.py", 'return self.runtime("__mm_load_anywhere", [self.exact(pointer)], True)',
+     "return self.load_pieces(pointer, WORD, align, RAW)", SELDOM),
     # Doors.
     ("mm/cc/calling.py", "for at in range(0, frame.size, 8):", "for at in range(0, frame.size - 8, 8):", DOORS),
     ("mm/cc/calling.py", "self.store(STACK, SCRATCH, 0)", "pass", DOORS),

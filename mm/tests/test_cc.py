@@ -157,6 +157,33 @@ def source(text: str, **options: object) -> str:
     return write_source(Program([read_module(text, "test")], Options(**options)), Options(**options))
 
 
+# Two files that have an alias of one name each, of which nobody else knows; and a weak one that the other file defines.
+ALIASES = ("""define internal i64 @own() {
+  ret i64 1
+}
+@same = internal alias i64 (), ptr @own
+@both = weak alias i64 (), ptr @own
+define i64 @first() {
+  %r = call i64 @same()
+  ret i64 %r
+}""", """define internal i64 @other() {
+  ret i64 20
+}
+@same = internal alias i64 (), ptr @other
+declare i64 @first()
+define i64 @both() {
+  ret i64 400
+}
+define i64 @main() {
+  %a = call i64 @first()
+  %b = call i64 @same()
+  %c = call i64 @both()
+  %d = add i64 %a, %b
+  %e = add i64 %d, %c
+  ret i64 %e
+}""")
+
+
 @needs_program
 class Ran(unittest.TestCase):
     def run_source(self, text: str):
@@ -176,6 +203,10 @@ class Ran(unittest.TestCase):
         for wanted, text in VALUES:
             slot = self.run_source(source(text))
             self.assertEqual((slot.state, slot.register(0).bits), ("halted", wanted), text)
+
+    def test_aliases_of_two_files(self):
+        made = Program([read_module(text, f"test{at}") for at, text in enumerate(ALIASES)], Options())
+        self.assertEqual(self.run_source(write_source(made, Options())).register(0).bits, 421)
 
     def test_the_first_byte_after_an_array_is_outside(self):
         for size in (1, 3, 7, 8, 12, 24, 31, 32, 33, 64):

@@ -10,15 +10,16 @@ from mm.cc.arithmetic import CONDITIONS
 from mm.machine.program import find_program
 from mm.outputs.report import read_report
 from mm.tests.cflows import FLOWS
+from mm.tests.cseldom import SELDOM
 from mm.tests.cvalues import NUMBERS, SUM
 from mm.tests.support import folder, needs_program, write
 from mm.tests.test_cc import source
 
 TRAP = 11
-PROGRAMS = {**NUMBERS, **FLOWS}
+PROGRAMS = {**NUMBERS, **FLOWS, **SELDOM}
 # Numbers that the library would count: these programs need it.
 OF_LIBRARY = ("extremes and numbers turned round", "overflows of 64, 40 and 128 bits",
-              "objects stand as LLVM's text aligns them")
+              "objects stand as LLVM's text aligns them", "an object that a loop makes anew in each turn")
 LIBRARY = """define i64 @__mm_bytes_swapped(i64 %x, i64 %n) {
   %r = shl i64 %x, 56
   ret i64 %r

@@ -25,6 +25,8 @@ class Grade(unittest.TestCase):
             ("10.2", "docs/course/race.asm", 'it prints "A'),
             ("11.1", "docs/course/board.asm", "slot 0 has halted"),
             ("11.2", "docs/course/lost.asm", "slot 2 is taken"),
+            ("12.1", "docs/course/drawers.asm", "r8 is "),
+            ("12.2", "docs/course/cloakroom.asm", "slot 0 does not store there"),
             ("1.1", "examples/hello.asm", "slot 0 does not carry out st"),
             ("8.1", "docs/course/answers/told.asm", "the audit says that they do not"),
             ("8.1", "docs/course/apart.asm", "there is no slot 2"),

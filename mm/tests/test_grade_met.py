@@ -79,7 +79,7 @@ class Found(unittest.TestCase):
     """Lines about what an exploration and an audit have found."""
 
     def test_what_was_not_looked_at_may_be_otherwise(self):
-        ended = Outcome(True, {0: "halted"}, {0: b"A"}, "0*2")
+        ended = Outcome("ended", {0: "halted"}, {0: b"A"}, "0*2")
         for found, wrong in ((Exploration(9, True, [], [], [ended]), None),
                              (Exploration(9, False, [], [], [ended]), "there are more than 9 configurations")):
             program = SimpleNamespace(exploration=found)
@@ -90,9 +90,10 @@ class Found(unittest.TestCase):
     def test_what_was_found_counts(self):
         """Whether all configurations were looked at or not."""
         for every in (True, False):
-            stuck = [Outcome(True, {}, {}, "0"), Outcome(False, {}, {}, "1 0")]
-            program = SimpleNamespace(exploration=Exploration(9, every, [], [(1, 3, "1*4")], stuck))
-            self.assertEqual(checks.never(program, "stuck"), "it is, under the schedule 1 0")
+            for kind, does in (("stuck", "is"), ("endless", "goes on for ever")):
+                left = [Outcome("ended", {}, {}, "0"), Outcome(kind, {}, {}, "1 0")]
+                program = SimpleNamespace(exploration=Exploration(9, every, [], [(1, 3, "1*4")], left))
+                self.assertEqual(checks.never(program, "stuck"), f"it {does}, under the schedule 1 0")
             self.assertEqual(checks.never(program, "faults"), "slot 1 has fault 3 Bounds, under the schedule 1*4")
             self.assertEqual(checks.outcomes(program, "1"), "there are 2")
 

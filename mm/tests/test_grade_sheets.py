@@ -12,7 +12,7 @@ COURSE = os.path.join(CHECKOUT, "docs", "course")
 # Right answers that are not the official ones: other registers, names and ways. The name of each begins with its exercise.
 RIGHT = sorted(glob.glob(os.path.join(CHECKOUT, "mm", "tests", "right", "*.asm")))
 SHEETS = sorted(os.path.basename(path)[:-4] for path in glob.glob(os.path.join(COURSE, "grade", "*.txt")))
-EXERCISES = 25
+EXERCISES = 27
 # What a review wrote without solving anything, by the names of today.
 REVIEWED = "lab2-unrolled lab3-constant lab4-jump lab5-constant lab5-owner taken-constant doors-constant ticket-empty"
 REVIEWED += " calls-constant round-before pairs-without"

@@ -60,6 +60,21 @@ class Asked(unittest.TestCase):
         self.assertIn("out r2\n  it can fault, and the caller's handler then gets (slot 1 for slot 0)\n"
                       "    r7   rw 2^3 credits_a or rw 2^3 credits_b\n", out)
 
+    def test_a_handler_of_the_kernel(self):
+        """It is a caller's as long as its code is not named, and then the cure has that name. One of the same group is the caller's."""
+        source, rest = read("examples", "leases.asm"), ("*_gate", "*_lease", "leases", "pool", "block_*")
+        cure = "  mend  or, if slot 0 is the kernel's own, keep its code too: name keeper\n"
+        with folder() as room:
+            path = write(room, "leases.asm", source)
+            self.assertEqual(mm("keeps", path, "use", "*_gate").out.count(cure), 4)
+            yes = mm("keeps", path, "keeper", "use", *rest).out
+            own = source.replace(".thread 3 3 0", ".thread 3 3 4") + ".segment own 4\n  evt r4\n  halt\n.thread 4 3 none xu own\n"
+            no = mm("keeps", write(room, "own.asm", own), "keeper", "use", *rest).out
+        self.assertTrue(yes.startswith("yes: "), yes)
+        self.assertIn("\npool          rw 2^4 block_one or rw 2^4 block_two\nblock_one     an integer\n", yes)
+        self.assertIn("the caller's handler then gets (slot 4 for slot 3)\n", no)
+        self.assertNotIn("kernel's own", no)
+
     def test_threads(self):
         words = ("keeps", "examples/scheduler.asm", "scheduler", "first", "second")
         self.assertIn("more than 400 threads", mm(*words, "--threads", "400").out)

@@ -69,6 +69,10 @@ class Words(unittest.TestCase):
         self.assertIn("write 0xb6cb652fed8 for the first, 0x12561543266008 for the second", str(refused.exception))
 
 
+# What the page of instructions calls each cause.
+TITLES = {cause.title.replace("NotPointer", "Ptr"): cause.title for cause in Cause}
+
+
 class Operations(unittest.TestCase):
     def test_table_is_that_of_the_page(self):
         row = r"^\| \[([0-9A-F]{2})\] \| \[(\w+)\] \| ([^|]*) \| ([^|]*) \|"
@@ -82,11 +86,9 @@ class Operations(unittest.TestCase):
             wanted = [fields.get(word, word) for word in re.findall(r"\b(rd|ra|rb|imm|c)\b", said)]
             wanted = ["how" if name == "resume" and word == "pre" else word for word in wanted]
             self.assertEqual(kinds - {"post"}, set(wanted), name)
-            titles = [
-                cause.title for cause in Cause if re.search(rf"\b{cause.title.replace('NotPointer', 'Ptr')}\b", tests)
-            ]
             if "access" not in tests:
-                self.assertEqual(sorted(titles), sorted(operation.tests.split()), name)
+                said = [TITLES[word] for word in re.findall(r"\w+", tests.partition("][")[0]) if word in TITLES]
+                self.assertEqual(said, operation.tests.split(), name)
 
     def test_examples_are_read(self):
         for operation in OPERATIONS.values():

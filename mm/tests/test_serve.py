@@ -174,8 +174,8 @@ class Shelf(unittest.TestCase):
     def test_what_there_is(self):
         found = shelf(True)
         self.assertEqual(found["examples"][0]["name"], "hello.asm")
-        self.assertEqual([lesson["number"] for lesson in found["lessons"]], list(range(1, 12)))
-        self.assertEqual(len(found["exercises"]), 25)
+        self.assertEqual([lesson["number"] for lesson in found["lessons"]], list(range(1, 13)))
+        self.assertEqual(len(found["exercises"]), 27)
         self.assertEqual([each["name"] for each in found["exercises"] if not each["html"]], [])
         lab2 = next(each for each in found["exercises"] if each["name"] == "lab-2")
         self.assertEqual([bool(said) for said in lab2["meanings"]], [True] * len(lab2["asks"]))

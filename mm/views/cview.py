@@ -24,6 +24,8 @@ MANY_CALLS = 20
 START = "start"
 # The heap of `malloc`, and the bytes for which it had no room; no heap has more than 2^MOST_HEAP bytes.
 HEAP, REFUSED, MOST_HEAP = "__mm_heap", "__mm_refused", 19
+# In the name of each function of the library that no C names.
+OF_TRANSLATOR = "__mm_"
 
 
 class CView:
@@ -71,7 +73,8 @@ class CView:
             what = forbidden(at)
         inner = next(self.frames(), None)
         of_library = inner is not None and inner.line is None and not inner.function.begins and not full
-        within = f", in {self.called()}" if inner is not None and of_library else ""
+        called = self.called() if of_library else ""
+        within = f", in {called}" if called and OF_TRANSLATOR not in called else ""
         return f"fault {cause.number} {cause.title} at {line}{within}: {what or cause.meaning}"
 
     def called(self) -> str:

@@ -162,7 +162,8 @@ class KeepsView:
         runs: list[tuple[Run, list[Form]]] = []
         for address, forms in cells:
             (first, count), last = runs[-1] if runs else ((0, 0), [])
-            if count and forms == last and address == first + 8 * count and self.symbols.region(address) is self.symbols.region(first):
+            same = set(forms) == set(last) and self.symbols.region(address) is self.symbols.region(first)
+            if count and same and address == first + 8 * count:
                 runs[-1] = ((first, count + 1), last)
             else:
                 runs.append(((address, 1), forms))

@@ -163,7 +163,8 @@ class LeakView:
         if needed:
             mend.append(f"it works with {listed(needed)} itself: use {'it' if len(needed) == 1 else 'them'} where nothing can fault")
         mend += self.elsewhere(place) if place.ip else []
-        return said, mend + ([WAY_BACK] if instruction is not None and instruction.name in ("jmp", "jal") else [])
+        mend += [WAY_BACK] if instruction is not None and instruction.name in ("jmp", "jal") else []
+        return said, mend + self.own_handlers()
 
     def loose(self, place: Place) -> tuple[str, list[str]]:
         slot = self.image.slot(place.slot) if place.slot is not None else None
@@ -213,6 +214,14 @@ class LeakView:
                 served.setdefault(slot.handler, []).append(str(slot.number))
         said = [f"slot {handler} for slot{'s' * (len(slots) > 1)} {listed(slots)}" for handler, slots in sorted(served.items())]
         return f" ({', '.join(said)})" if said else ":"
+
+    def own_handlers(self) -> list[str]:
+        """What to do if a handler of other groups is the kernel's own."""
+        slots = {slot.number: slot for slot in self.image.slots if not slot.halted}
+        across = {slots[slot.handler].number for slot in slots.values() if slot.handler in slots
+            and slot.handler not in self.kept.slots and slots[slot.handler].group != slot.group}
+        return [f"or, if slot {number} is the kernel's own, keep its code too: name {self.home(slots[number].ip.address)}"
+            for number in sorted(across)]
 
     def is_stub(self, place: Place) -> bool:
         """Whether a place is in a door that `mm cc` made."""

@@ -32,7 +32,7 @@ class Asked:
         return [str(self.group), str(self.address), self.kind]
 
 
-def _address(word: str, symbols: Optional[Symbols]) -> int:
+def address_of_word(word: str, symbols: Optional[Symbols]) -> int:
     """The address that a word tells: a name where there are symbols, or a number."""
     try:
         found = number_of(word) if symbols is None else address_of(word, symbols)
@@ -48,7 +48,7 @@ def asked(group: str, word: str, kind: str, symbols: Optional[Symbols] = None) -
     number = number_of(group)
     if number is None or not 0 <= number <= MOST_GROUP:
         raise usage(f"mm: `{group}` is not a group: 0 to {MOST_GROUP}")
-    address = _address(word, symbols)
+    address = address_of_word(word, symbols)
     kind = kind if symbols is None else OTHER_NAMES.get(kind, kind)
     if kind not in KINDS:
         raise usage(f"mm: `{kind}` is neither touch (or read) nor write")

@@ -1,23 +1,23 @@
 -- Each pointer that a party holds is one that callers may share, if the kernel keeps its segments.
-use Rattle.std.proofs.Common.{◌≡◌, ℕ, ◌<◌, ◌⊎◌, inl, inr, Bool, true, false, ◌&&◌, if◌then◌else◌, List, [], ◌∷◌, ◌++◌}
+use Rattle.std.proofs.Common.{◌≡◌, ℕ, ◌<◌, ◌⊎◌, inl, inr, Bool, true, false, ◌&&◌, if◌then◌else◌, List, [], ◌∷◌}
 use Rattle.std.proofs.Common.{refl, sym, ap, ◌∙◌, subst}
-use Rattle.std.specs.{Prelude.Contains, List.{AllByRecursion, flat_map, range_with_len}}
+use Rattle.std.specs.{List.{AllByRecursion, flat_map, range_with_len}}
 use Rattle.mm_word.specs.declared.perm.Perm.{Perm, TheVariants.{Ro, Rw, Xu, Xp, Eu, Ep, Key}}
-use Rattle.mm_word.specs.{declared.word.Word.{Word, TheVariants.Ptr}, Perm.can_become}
+use Rattle.mm_word.specs.{declared.word.Word.{TheVariants.Ptr}, Perm.can_become}
 use Rattle.mm_word.specs.Pointer.{Pointer, IsBelow}
 use Rattle.mm_model.{specs.{Image.Image, Spelling.IsImage}, proofs.CoreRows.each_contained}
 use Rattle.mm_kernel.specs.Segments.{Segment, is_door, is_enter, is_open, is_open_as, is_open_pointer, meets, runs_privileged}
 use Rattle.mm_kernel.specs.declared.{form.Form.{Form, TheVariants.{Pointer as Exactly}}, thread.{Origin.Origin, Thread.Thread}}
 use Rattle.mm_kernel.specs.declared.fact.Leak.TheVariants.{Jump}
-use Rattle.mm_kernel.specs.Facts.{Fact, let_out, hand_out, loose, Fact.HasDoor}
+use Rattle.mm_kernel.specs.Facts.{let_out, hand_out, loose, Fact.HasDoor}
 use Rattle.mm_kernel.specs.{Threads.{form_in, is_free}, Derived.{Derived, Keeps, outcome_facts, register_left}, Variants.IsShared}
 use Rattle.mm_kernel.proofs.Segs.{below_within, outside_within}
 use Rattle.mm_kernel.proofs.Values.{Public, shared_outside, open_outside, open_is_user, moves_loads}
-use Rattle.mm_kernel.proofs.Ups.{Up, Free, Bound, up_cases, each_from, each_split, each_unflat, each_register, handed_out}
-use Rattle.mm_kernel.proofs.{Slots.free_form, Places.{entered, entered_outside, entered_perm}, Start.cell_shared}
+use Rattle.mm_kernel.proofs.Ups.{Free, free_form, Bound, up_cases, each_from, each_split, each_unflat, each_register, handed_out}
+use Rattle.mm_kernel.proofs.{Places.{entered, entered_outside, entered_perm}, Start.cell_shared}
 use Rattle.mm_kernel.proofs.Runs.{caller_any}
-use Rattle.mm_confine.specs.Conduct.{GoesOn, GoesOn.{comes_free, leaves}, LetsOut, LetsOut.{by_going, by_hand}, ComesTo}
-use Rattle.mm_confine.specs.Grants.{Granted, Line, Line.{Holds, Runs}}
+use Rattle.mm_confine.specs.Conduct.{GoesOn, GoesOn.{comes_free, leaves}, LetsOut, LetsOut.{by_going, by_hand}}
+use Rattle.mm_confine.specs.{declared.party.Party.Party, Grants.{Granted, Line, Line.{Holds, Runs}}}
 use Rattle.mm_confine.proofs.Taken.{taken_derived}
 use Rattle.mm_kernel.specs.Derived.Derived.{turns}
 use Rattle.mm_confine.specs.Grants.Granted.{runs_itself, runs_through, in_register, runs_by, in_cell, below, passed}
@@ -111,7 +111,7 @@ module _ (i : Image) (kept : List Segment) (img : IsImage i) (ks : Keeps i kept)
   unfolding is_open
   open_plain q e = e
 
-  pub lines_ok : {line : Line} → Granted i kept line → LineOk line
+  lines_ok : {line : Line} → Granted i kept line → LineOk line
   lines_ok (runs_itself n e) = tt
   lines_ok (runs_through g d h e) = tt
   lines_ok (in_register s q among caller k) = each_contained (IsShared i kept) s.regs (Ptr q) (caller_any i kept img ks s among caller).registers k
@@ -133,3 +133,7 @@ module _ (i : Image) (kept : List Segment) (img : IsImage i) (ks : Keeps i kept)
   lines_ok (seen n y q held serves sees) = lines_ok held
   lines_ok (given n x q held serves gives) = lines_ok held
   lines_ok (freed s q t among held going) = lines_ok held
+
+-- each pointer that a party holds is one that callers may share
+pub granted_is_open : (i : Image) (kept : List Segment) (x : Party) (q : Pointer) → IsImage i → Keeps i kept → Granted i kept (Holds x q) → IsShared i kept (Ptr q)
+granted_is_open i kept x q img ks h = lines_ok i kept img ks h

@@ -1,9 +1,8 @@
 -- What is derived of threads that are taken up, and that derived threads are.
-use Rattle.std.proofs.Common.{◌≡◌, ℕ, Bool, true, false, ◌&&◌, ◌||◌, if◌then◌else◌, List, [], ◌∷◌, ◌++◌, map, refl, sym, subst}
+use Rattle.std.proofs.Common.{◌≡◌, ℕ, Bool, true, false, ◌&&◌, if◌then◌else◌, List, [], ◌∷◌, ◌++◌, refl}
 use Rattle.std.specs.{Prelude.Contains, List.{AllByRecursion, flat_map, range_with_len}}
-use Rattle.mm_word.specs.Pointer.{Pointer}
 use Rattle.mm_word.specs.declared.word.Word.{Word}
-use Rattle.mm_model.{specs.Image.Image, proofs.CoreRows.{each_map, each_contained}}
+use Rattle.mm_model.{specs.Image.Image, proofs.CoreRows.{each_contained}}
 use Rattle.mm_kernel.specs.Segments.{Segment, is_kept, is_fixed, is_door, meets}
 use Rattle.mm_kernel.specs.declared.fact.{Leak.{Leak, TheVariants.{Loose, FaultPointer, Fault, Jump, Cell as InCell}}}
 use Rattle.mm_kernel.specs.declared.{form.Form.{Form}, outcome.Outcome.Outcome}
@@ -13,13 +12,13 @@ use Rattle.mm_kernel.specs.declared.thread.{Origin.{Origin, TheVariants.{Door, S
 use Rattle.mm_kernel.specs.{Forms.{exactly, is_open_form}, Turns.{outcomes, with_event}}
 use Rattle.mm_kernel.specs.Threads.{form_in, with_form, handler_of, own_thread, thread_through, is_free, is_kernel, serves_some}
 use Rattle.mm_kernel.specs.Facts.{Fact, let_out, hand_out, loose, take_up}
-use Rattle.mm_kernel.specs.Facts.Fact.{HasThread, HasForm, HasDoor, HasEvent, HasFaulted, HasLeak}
+use Rattle.mm_kernel.specs.Facts.Fact.{HasThread, HasForm, HasDoor, HasLeak}
 use Rattle.mm_kernel.specs.Derived.{Derived, cell_facts, first_form, outcome_facts, fault_facts, shown, register_shown, register_left}
 use Rattle.mm_kernel.specs.Derived.Derived.{begins_in_cell as by_cell, begins_in_slot as by_slot, reaches as by_reach}
 use Rattle.mm_kernel.specs.Derived.Derived.{enters as by_door, turns as by_turn, loads as by_load, stores as by_store}
 use Rattle.mm_kernel.specs.Derived.Derived.{takes as by_event, resumes as by_resume, reads_served as by_read}
 use Rattle.mm_kernel.specs.Derived.Derived.{writes_served as by_write}
-use Rattle.mm_kernel.proofs.Ups.{Up, each_from, each_join, each_flat}
+use Rattle.mm_kernel.proofs.{Owns.Up, Ups.{each_from, each_join}}
 use Rattle.mm_confine.specs.Taken.{TakenUp}
 use Rattle.mm_confine.specs.Taken.TakenUp.{begins, enters, goes, loads, takes, resumes, reads_served}
 use Rattle.mm_kernel.specs.declared.outcome.Outcome.TheVariants as outcome

@@ -1,24 +1,18 @@
 -- What the kernel's threads do with the pointers of others, by the origin of the threads.
-use Rattle.std.specs.Prelude.{◌≡◌, ℕ, ◌<◌, Bool, true, false, List, Contains, Some}
-use Rattle.mm_word.specs.declared.{perm.Perm.TheVariants.Key, word.Cell.Cell}
+use Rattle.std.specs.Prelude.{◌≡◌, ℕ, ◌<◌, true, false, List, Contains, Some}
+use Rattle.mm_word.specs.declared.word.Cell.{Cell}
 use Rattle.mm_word.specs.Pointer.{Pointer as PointerValue}
 use Rattle.mm_model.specs.{Memory.cell_at, Image.Image}
 use Rattle.mm_kernel.specs.Segments.{Segment, is_kept, lies_in, is_door, is_open_pointer}
-use Rattle.mm_kernel.specs.declared.{fact.Leak.Leak, form.Form.{Form, TheVariants.{Pointer, Open, Any}}}
+use Rattle.mm_kernel.specs.declared.{fact.Leak.Leak, form.Form.{Form, TheVariants.Pointer}}
 use Rattle.mm_kernel.specs.declared.{outcome.Outcome.Outcome, thread.{Origin.{Origin, TheVariants.{Slot as OfSlot}}, Thread.Thread}}
 use Rattle.mm_kernel.specs.{Threads.{form_in, is_free}, Facts.Fact.HasThread, Turns.outcomes, Derived.Derived}
 use Rattle.mm_confine.specs.Taken.{TakenUp}
+pub use Rattle.mm_kernel.specs.Forms.{carries}
 use Rattle.mm_kernel.specs.declared.fact.Leak.TheVariants as leak
 use Rattle.mm_kernel.specs.declared.outcome.Outcome.TheVariants as outcome
 
 -- 1. Forms.
-
--- A form carries if it stands for pointers that others have. Nothing can be made of a key.
-abbrev pub carries : Form → Bool
-carries (Open Key) = false
-carries (Open perm) = true
-carries Any = true
-carries _ = false
 
 -- a form hands on a pointer: it is the pointer's own, or it carries
 pub data HandsOn (q : PointerValue) : Form → Type 0 where

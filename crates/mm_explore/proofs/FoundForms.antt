@@ -2,8 +2,8 @@
 use Rattle.std.proofs.Common.{◌≡◌, inl, inr, ℕ, zero, suc, ◌+◌, ◌-◌, ◌^◌, ◌<◌, ◌≤◌, Bool, true, false, nat_eq, List, []}
 use Rattle.std.proofs.Common.{◌∷◌, ◌++◌, map, length, slice_index_or, reverse, refl, sym, ap, ◌∙◌, subst, arith}
 use Rattle.std.proofs.Common.{append_assoc, length-append}
-use Rattle.std.proofs.lemmas.{Bool.{cases_Bool, both_ways, or_cases, or_parts}, List.{length-map, reverse-append}}
-use Rattle.std.specs.{Prelude.{Contains, Some, slice_get, if◌then◌else◌, Result, Ok, Err, OnOk}, List.list_any}
+use Rattle.std.proofs.lemmas.{Bool.{cases_Bool, both_ways, or_cases, or_parts}, List.{length-map, reverse-append, Quantifiers.position-Some}}
+use Rattle.std.specs.{Prelude.{Contains, Option, Some, None, IfSome, slice_get, if◌then◌else◌, Result, Ok, Err, OnOk}, List.{list_any, position}}
 use lib.Pointwise.{pointwise, pointwise_decides}
 use Rattle.mm_explore.proofs.Finals.{numbers_decide}
 use Rattle.mm_span.proofs.Members.{none_in, in_first, in_rest, in_cases}
@@ -36,6 +36,20 @@ module _ {K : Type 0} (of : K → List ℕ) (numbers : List ℕ) where
     | inl there ↦ absurd (none (has_yes keys there))
     | inr absent ↦ absent
   ]
+
+-- where numbers are found, they are kept
+pub found_at : {K : Type 0} (of : K → List ℕ) (numbers : List ℕ) (keys : List K) (o : Option ℕ) → o ≡ position (λ k. pointwise nat_eq numbers (of k)) keys
+    → IfSome o (λ k. slice_get (map of keys) k ≡ Some numbers)
+found_at of numbers keys None e = tt
+found_at of numbers [] (Some k) e = cc
+found_at of numbers (x ∷ keys) (Some k) e =
+    let h = position-Some (λ y. pointwise nat_eq numbers (of y)) (x ∷ keys) k x (sym e) in
+    got_map of (x ∷ keys) k x h.0 ∙ ap Some (sym ((pointwise_decides numbers_decide numbers (of (slice_index_or (x ∷ keys) k x))).0 h.1))
+  where
+    got_map : {A : Type 0} (f : A → List ℕ) (xs : List A) (n : ℕ) (d : A) → n < length xs → slice_get (map f xs) n ≡ Some (f (slice_index_or xs n d))
+    got_map f [] n d lt = absurd (omega (arith, lt))
+    got_map f (y ∷ xs) zero d lt = refl
+    got_map f (y ∷ xs) (suc n) d lt = got_map f xs n d (omega (arith, lt))
 
 pub map_push : {X Y : Type 0} (f : X → Y) (xs : List X) (x : X) → map f (xs ++ x ∷ []) ≡ map f xs ++ f x ∷ []
 map_push f [] x = refl

@@ -1,17 +1,14 @@
--- In a list that is all, what comes of every run is found.
+-- What comes of a run is found on the turns from a schedule of the list that leads to its configuration.
 use Rattle.std.proofs.Common.{◌≡◌, inl, inr, ℕ, ◌==◌, Bool, true, false, ◌&&◌, List, refl, sym, ap, ◌∙◌, subst}
 use Rattle.std.{proofs.lemmas.Bool.both_ways, specs.Prelude.{Contains, IsSome}}
 use Rattle.mm_word.specs.{declared.perm.Kind.Kind, Access.AccessValue}
 use Rattle.mm_model.specs.{declared.step.Step.Step, State.State, Image.{Image, start}, Turn.{Turned, idle}}
-use Rattle.mm_model.specs.{Run.{turn_of, run}, Trace.{touches, group_in}, Counted.writes}
-use Rattle.mm_explore.specs.{Configurations.moves, Explored.{leads_to, IsLeast}}
-use Rattle.mm_explore.specs.Findings.{Extension, turn_at, extensions, explored_turns, any_kind, Reaches, has_fault}
-use Rattle.mm_explore.specs.Findings.{first_fault, IsFinal, AreFinal, outcome_at, firsts}
-use Rattle.mm_explore.specs.Laws.{GoesOnAlike, ExploredIsAll}
-use Rattle.mm_span.proofs.Members.{none_in, in_map, in_flat, all_at, finds_some}
-use Rattle.mm_explore.proofs.Goings.{same_outcomes}
+use Rattle.mm_model.specs.{Run.{turn_of, run}, Trace.{touches, group_in}}
+use Rattle.mm_explore.specs.{Configurations.moves, Explored.leads_to}
+use Rattle.mm_explore.specs.Findings.{Extension, turn_at, extensions, explored_turns, Reaches, has_fault}
+use Rattle.mm_explore.specs.{Findings.{first_fault, IsFinal}, Laws.GoesOnAlike}
+use Rattle.mm_span.proofs.Members.{none_in, in_map, in_flat, finds_some}
 use Rattle.mm_explore.proofs.{Movings.moves_or_idles, Coverings.{alike, leads_alike}, Orders.more}
-use Rattle.mm_explore.proofs.Finals.{final_in, first_of}
 
 -- a cycle with an access, or with a fault, is that of a move
 pub touching_moves : (s : State) (n : ℕ) (a : AccessValue) → Contains (touches (turn_of s n).step) a → Contains (moves s) n
@@ -74,20 +71,3 @@ module _ (i : Image) (list : List (List ℕ)) (t s : List ℕ) (inside : Contain
   faults n slot cause fault =
       finds_some (λ x. has_fault slot cause (turn_at i x).step) (explored_turns i list) (record { schedule = t; item = n })
       (move_of n (faulting_moves there n slot cause fault)) (ap (has_fault slot cause) (on n).step ∙ fault)
-
-  pub ends : (finals : List (List ℕ)) → AreFinal i list finals → IsFinal i t → (one : List ℕ) × Contains (firsts i finals) one × (outcome_at i one ≡ outcome_at i s)
-  ends finals are final =
-      let k = first_of i finals t (final_in i list finals are t inside final) in
-      (k.0, k.1, sym k.2 ∙ same_outcomes (run (start i) t) there e)
-
-pub explored_is_all : ExploredIsAll
-explored_is_all i limit list k all s =
-    let one = all s in
-    let t = one.0 in
-    record {
-      least = (t, one.1, all_at (IsLeast i) list t k.least one.1, one.2);
-      touched = λ n a made. reaches i list t s one.1 one.2 any_kind n a made refl;
-      wrote = λ n a made kind. reaches i list t s one.1 one.2 writes n a made kind;
-      fault = λ n slot cause fault. faults i list t s one.1 one.2 n slot cause fault;
-      outcome = λ finals are rests. ends i list t s one.1 one.2 finals are (final_alike i s t one.2 (λ m move. rests m));
-    }

@@ -1,11 +1,11 @@
 -- States of one configuration go on alike, and what is read of a configuration.
-use Rattle.std.proofs.Common.{◌≡◌, ℕ, ◌+◌, Bool, true, false, cond, ◌||◌, if◌then◌else◌, List, [], ◌∷◌, ◌++◌, map}
-use Rattle.std.{proofs.Common.{Option, Some, None, refl, sym, ap, ◌∙◌}, specs.List.{filter, list_any, range_with_len}}
-use Rattle.mm_model.specs.{declared.slot.SlotState.SlotState, Slot.Slot}
-use Rattle.mm_model.specs.{State.{ThreadRow, Core, State, slot_at, output_of}, Turn.{Turned, turn}}
-use Rattle.mm_model.specs.{Run.{turn_of, after}, Trace.{group_of, group_in}, Report.{is_of, groups_of}}
+use Rattle.std.proofs.Common.{◌≡◌, ℕ, ◌+◌, Bool, true, false, cond, if◌then◌else◌, List, [], ◌∷◌, ◌++◌, map}
+use Rattle.std.{proofs.Common.{Option, Some, None, refl, sym, ap, ◌∙◌}, specs.List.filter}
+use Rattle.mm_model.specs.Slot.{Slot}
+use Rattle.mm_model.specs.{State.{ThreadRow, State, slot_at, output_of}, Turn.{Turned, turn}}
+use Rattle.mm_model.specs.{Run.{turn_of, after}, Trace.{group_of, group_in}}
 use Rattle.mm_explore.specs.Configurations.{uncounted_row, uncounted, configuration, runs, has_load, running_slots}
-use Rattle.mm_explore.specs.{Configurations.{loaded_ports, moves}, Findings.{Outcome, are_none, outcome_of}}
+use Rattle.mm_explore.specs.Configurations.{loaded_ports, moves}
 use Rattle.mm_explore.specs.Laws.{GoesOnAlike, ConfigurationsGoOn}
 use Rattle.mm_explore.proofs.Uncounted.{uncounted_one, slot_at_so, SameTurn, turns_alike}
 
@@ -26,10 +26,6 @@ map_bare : {Y : Type 0} (f : ThreadRow → Y) → ((row : ThreadRow) → f (unco
 map_bare f h [] = refl
 map_bare f h (row ∷ rows) = ap (λ x. x ∷ map f (map uncounted_row rows)) (h row) ∙ ap (λ l. f row ∷ l) (map_bare f h rows)
 
-any_bare : (g : ℕ) (rows : List ThreadRow) → list_any (is_of g) (map uncounted_row rows) ≡ list_any (is_of g) rows
-any_bare g [] = refl
-any_bare g (row ∷ rows) = ap (λ b. is_of g row || b) (any_bare g rows)
-
 running_bare : (rows : List ThreadRow) → running_slots (map uncounted_row rows) ≡ running_slots rows
 running_bare rows =
     ap (map (λ (row : ThreadRow). row.slot.number)) (filter_bare runs (λ row. refl) rows)
@@ -47,25 +43,13 @@ moves_bare s =
     ap (λ l. l ++ (if s.core.split then loaded_ports (map uncounted_row s.core.rows) else [])) (running_bare s.core.rows)
     ∙ ap (λ l. running_slots s.core.rows ++ (if s.core.split then l else [])) (loaded_bare s.core.rows)
 
-filter_same : {X : Type 0} (p q : X → Bool) → ((x : X) → p x ≡ q x) → (xs : List X) → filter p xs ≡ filter q xs
-filter_same p q h [] = refl
-filter_same p q h (x ∷ xs) = ap (λ l. cond (p x) (x ∷ l) l) (filter_same p q h xs) ∙ ap (λ b. cond b (x ∷ filter q xs) (filter q xs)) (h x)
+outputs_bare : (s : State) (groups : List ℕ) → map (output_of (configuration s).core) groups ≡ map (output_of s.core) groups
+unfolding configuration output_of
+outputs_bare s groups = refl
 
-groups_bare : (core : Core) → groups_of (uncounted core) ≡ groups_of core
-groups_bare core = filter_same (λ g. list_any (is_of g) (map uncounted_row core.rows)) (λ g. list_any (is_of g) core.rows) (λ g. any_bare g core.rows) (range_with_len 0 64)
-
--- the outcome of a configuration
-pub outcome_bare : (s : State) → outcome_of (configuration s) ≡ outcome_of s
-unfolding outcome_of configuration output_of
-outcome_bare s =
-    let core = s.core in
-    let make : List ℕ → List SlotState → List (List ℕ) → Outcome = λ ms states outputs. record { ended = are_none ms; states = states; outputs = outputs } in
-    ap (λ ms. make ms (map (λ (row : ThreadRow). row.slot.state) (map uncounted_row core.rows)) (map (output_of core) (groups_of (uncounted core)))) (moves_bare s)
-    ∙ ap (λ states. make (moves s) states (map (output_of core) (groups_of (uncounted core)))) (map_bare (λ (row : ThreadRow). row.slot.state) (λ row. refl) core.rows)
-    ∙ ap (λ gs. make (moves s) (map (λ (row : ThreadRow). row.slot.state) core.rows) (map (output_of core) gs)) (groups_bare core)
-
-pub same_outcomes : (s t : State) → configuration s ≡ configuration t → outcome_of s ≡ outcome_of t
-same_outcomes s t e = sym (outcome_bare s) ∙ ap outcome_of e ∙ outcome_bare t
+-- states of one configuration have the same outputs
+pub same_outputs : (s t : State) (groups : List ℕ) → configuration s ≡ configuration t → map (output_of s.core) groups ≡ map (output_of t.core) groups
+same_outputs s t groups e = sym (outputs_bare s groups) ∙ ap (λ (x : State). map (output_of x.core) groups) e ∙ outputs_bare t groups
 
 -- 2. The cycle of an item in states of one configuration.
 

@@ -1,9 +1,9 @@
 -- What is kept of two states is the same exactly if they are of one configuration; and states of runs are kept.
-use Rattle.std.proofs.Common.{◌≡◌, ℕ, zero, suc, ◌<◌, List, [], ◌∷◌, ◌++◌, map, replicate, slice_index_or, sym, refl}
-use Rattle.std.{proofs.Common.{ap, ◌∙◌, subst}, specs.{Prelude.slice_set, List.{AllByRecursion, flat_map}}}
+use Rattle.std.proofs.Common.{◌≡◌, ℕ, List, [], ◌∷◌, ◌++◌, map, sym, refl}
+use Rattle.std.{proofs.Common.{ap, ◌∙◌}, specs.{List.{flat_map}}}
 use Rattle.mm_model.specs.{declared.event.Event.Event, Slot.Slot, State.{ThreadRow, Core, State, output_of}}
 use Rattle.mm_model.specs.{Image.{Image, start}, Spelling.IsImage, Run.{after, run}, Report.{groups_of, changes}}
-use Rattle.mm_model.specs.{Fits.slots_of, Turn.turn}
+use Rattle.mm_model.specs.{Fits.slots_of}
 use Rattle.mm_model.proofs.Starts.{start_state, start_fits, start_kept}
 use Rattle.mm_model.proofs.{StateKeeps.{after_state, after_fits, after_kept}, OutputBytes.{after_bytes, start_bytes}}
 use Rattle.mm_machine.specs.Snapshot.{queued, queued_at, page_numbers}

@@ -1,4 +1,4 @@
--- One turn more, and one final schedule more, is noted.
+-- One turn more, and one end more, is noted.
 use Rattle.std.proofs.Common.{◌≡◌, ℕ, ◌<◌, ◌^◌, Bool, true, false, cond, nat_eq, List, [], ◌∷◌, ◌++◌, length, Option}
 use Rattle.std.proofs.Common.{Some, None, slice_get, Result, Ok, Err, OnOk, sym, ap, ◌∙◌, subst, append-nil}
 use Rattle.std.proofs.lemmas.{Grind.flat_map-append, List.Folds.find-append}
@@ -8,11 +8,13 @@ use lib.Pointwise.{pointwise}
 use Rattle.mm_word.specs.declared.perm.Kind.{Kind}
 use Rattle.mm_model.specs.{declared.step.Step.Step, Image.Image, Trace.group_in, Counted.writes}
 use Rattle.mm_explore.specs.declared.{findings.Findings.Findings, found.Origin.Origin}
-use Rattle.mm_explore.specs.Findings.{Extension, turn_at, any_kind, has_fault, IsFinal, outcome_at, firsts}
+use Rattle.mm_explore.specs.{Benches.ArePartsAt, Findings.{Extension, turn_at, any_kind, has_fault}, Outcomes.{End, firsts}}
 use Rattle.mm_explore.specs.FoundLists.{IsOrigin}
-use Rattle.mm_explore.specs.Noting.{IsFrom, first_kept, first_in, outcome_form, IsEnd, tally_after, Noted, Ended}
+use Rattle.mm_explore.specs.Noting.{IsFrom, first_kept, first_in, outcome_form, outcome_held, IsKeptEnd, tally_after, Noted, AreNoted}
 use Rattle.mm_explore.specs.Words.{order, AreKept, step_words, turn_words}
-use Rattle.mm_explore.proofs.{Notings.final_more, Tallies.{ends_more, counts_fit}}
+use Rattle.mm_explore.proofs.Tallies.{ends_more, counts_fit}
+use Rattle.mm_explore.specs.declared.ends.End as code_end
+use Rattle.mm_explore.specs.declared.parts.Parts as code_parts
 use Rattle.indexmap.specs.IndexMap as index
 
 pub both_ok : {T E P Q R : Type 0} → (r : Result T E) → (P → Q → R) → OnOk r P → OnOk r Q → OnOk r R
@@ -57,17 +59,16 @@ module _ (i : Image) (list : List (List ℕ)) (done : List Extension) (x : Exten
 
 -- 2. An end.
 
-module _ (i : Image) (list past : List (List ℕ)) (t : List ℕ) (f g : Findings) (at : ℕ) where
-  pub ended_next : (key : Vec ℕ) → Ended i list past f → slice_get list at ≡ Some t → IsFinal i t → key.items ≡ outcome_form (outcome_at i t)
+module _ (i : Image) (list : List (List ℕ)) (ends : List End) (e : End) (f g : Findings) (at : code_end.End) where
+  pub ended_next : (key : Vec ℕ) → AreNoted i list ends f → slice_get list at.at ≡ Some e.schedule → key.items ≡ outcome_form e.outcome
+      → ((p : code_parts.Parts) → ArePartsAt i e.schedule p → outcome_held at p ≡ e.outcome)
       → g.ends.entries ≡ insert_entry (λ a b. pointwise nat_eq a.items b.items) f.ends.entries key (tally_after at (index.get (λ a b. pointwise nat_eq a.items b.items) f.ends key))
-      → IsUnique (λ a b. pointwise nat_eq a.items b.items) g.ends → Ended i list (past ++ t ∷ []) g
-  ended_next key h first final form entries unique = record {
-    finals = h.finals ++ t ∷ [];
-    are = final_more i past h.finals t final h.are;
-    ends = subst (AllZip (λ u end. IsEnd i list (h.finals ++ t ∷ []) u end.0.items end.1) (firsts i (h.finals ++ t ∷ []))) (sym entries)
-        (ends_more (λ k. k.items) i list h.finals t at key f.ends.entries first form h.unique h.ends);
+      → IsUnique (λ a b. pointwise nat_eq a.items b.items) g.ends → AreNoted i list (ends ++ e ∷ []) g
+  ended_next key h first form held entries unique = record {
+    entries = subst (AllZip (λ u entry. IsKeptEnd i list (ends ++ e ∷ []) u entry.0.items entry.1) (firsts (ends ++ e ∷ []))) (sym entries)
+        (ends_more (λ k. k.items) i list ends e at key f.ends.entries first form held h.unique h.entries);
     unique = unique;
   }
 
-pub room_is : (i : Image) (list past : List (List ℕ)) (f : Findings) → Ended i list past f → length past < 2 ^ 32 → AllByRecursion (λ end. end.1.count < 2 ^ 63) f.ends.entries
-room_is i list past f h few = counts_fit (λ k. k.items) i list past h.finals f.ends.entries h.are h.ends few
+pub room_is : (i : Image) (list : List (List ℕ)) (ends : List End) (f : Findings) → AreNoted i list ends f → length ends < 2 ^ 32 → AllByRecursion (λ entry. entry.1.count < 2 ^ 63) f.ends.entries
+room_is i list ends f h few = counts_fit (λ k. k.items) i list ends f.ends.entries h.entries few

@@ -1,9 +1,11 @@
 -- What was noted, as the list of schedules grows; and schedules that are not final.
-use Rattle.std.proofs.Common.{◌≡◌, inl, inr, ℕ, suc, zero, List, [], ◌∷◌, ◌++◌, Option, Some, None, slice_get, refl, ap}
+use Rattle.std.proofs.Common.{◌≡◌, ℕ, suc, zero, List, [], ◌∷◌, ◌++◌, Option, Some, None, slice_get}
 use Rattle.std.specs.List.{AllZip}
 use Rattle.mm_model.specs.Image.{Image}
 use Rattle.mm_explore.specs.declared.{findings.Findings.Findings, found.Origin.Origin}
-use Rattle.mm_explore.specs.{Findings.{Extension, IsFinal, AreFinal}, Noting.{IsFrom, IsEnd, Noted, Ended}}
+use Rattle.mm_explore.specs.{Findings.{Extension, IsFinal}, Noting.{IsFrom, IsKeptEnd, Noted, AreNoted}, Outcomes.End}
+use Rattle.mm_explore.specs.Searching.{IsChild, AreChildren, IsGraph, Ended}
+use Rattle.mm_explore.proofs.Selections.{select_skip}
 
 -- what is at an index stays there
 stays_at : {X : Type 0} (xs ys : List X) (k : ℕ) (x : X) → slice_get xs k ≡ Some x → slice_get (xs ++ ys) k ≡ Some x
@@ -30,24 +32,26 @@ zip_to R S to [] (y ∷ ys) h = h
 zip_to R S to (x ∷ xs) [] h = h
 zip_to R S to (x ∷ xs) (y ∷ ys) h = (to x y h.0, zip_to R S to xs ys h.1)
 
-pub ended_more : (i : Image) (list more past : List (List ℕ)) (f : Findings) → Ended i list past f → Ended i (list ++ more) past f
-ended_more i list more past f h = record {
-  finals = h.finals;
-  are = h.are;
+pub ends_stay : (i : Image) (list more : List (List ℕ)) (ends : List End) (f : Findings) → AreNoted i list ends f → AreNoted i (list ++ more) ends f
+ends_stay i list more ends f h = record {
+  entries = zip_to (λ e entry. IsKeptEnd i list ends e entry.0.items entry.1) (λ e entry. IsKeptEnd i (list ++ more) ends e entry.0.items entry.1)
+      (λ e entry k. record { form = k.form; count = k.count; first = stays_at list more entry.1.first.at e.schedule k.first; held = k.held }) _ f.ends.entries h.entries;
   unique = h.unique;
-  ends = zip_to (λ t end. IsEnd i list h.finals t end.0.items end.1) (λ t end. IsEnd i (list ++ more) h.finals t end.0.items end.1)
-      (λ t end e. record { form = e.form; count = e.count; first = stays_at list more end.1.first t e.first }) _ f.ends.entries h.ends;
 }
 
-final_skip : (i : Image) (past finals : List (List ℕ)) (t : List ℕ) → (IsFinal i t → ⊥) → AreFinal i past finals → AreFinal i (past ++ t ∷ []) finals
-final_skip i [] finals t none h = inr (none, h)
-final_skip i (s ∷ past) finals t none (inl h) = inl (h.0, (h.1.0, h.1.1, final_skip i past h.1.0 t none h.1.2))
-final_skip i (s ∷ past) finals t none (inr h) = inr (h.0, final_skip i past finals t none h.1)
+pub ended_more : (i : Image) (list more past : List (List ℕ)) (f : Findings) → Ended i list past f → Ended i (list ++ more) past f
+ended_more i list more past f h = record { finals = h.finals; are = h.are; ends = h.ends; of = h.of; noted = ends_stay i list more h.ends f h.noted }
 
 pub ended_skip : (i : Image) (list past : List (List ℕ)) (t : List ℕ) (f : Findings) → Ended i list past f → (IsFinal i t → ⊥) → Ended i list (past ++ t ∷ []) f
-ended_skip i list past t f h none = record { finals = h.finals; are = final_skip i past h.finals t none h.are; ends = h.ends; unique = h.unique }
+ended_skip i list past t f h none = record { finals = h.finals; are = select_skip (IsFinal i) past h.finals t none h.are; ends = h.ends; of = h.of; noted = h.noted }
 
-pub final_more : (i : Image) (past finals : List (List ℕ)) (t : List ℕ) → IsFinal i t → AreFinal i past finals → AreFinal i (past ++ t ∷ []) (finals ++ t ∷ [])
-final_more i [] finals t final h = inl (final, ([], ap (λ l. l ++ t ∷ []) h, refl))
-final_more i (s ∷ past) finals t final (inl h) = inl (h.0, (h.1.0 ++ t ∷ [], ap (λ l. l ++ t ∷ []) h.1.1, final_more i past h.1.0 t final h.1.2))
-final_more i (s ∷ past) finals t final (inr h) = inr (h.0, final_more i past finals t final h.1)
+-- where moves lead stays, as the list grows
+child_more : (i : Image) (list more : List (List ℕ)) (t : List ℕ) (m c : ℕ) → IsChild i list t m c → IsChild i (list ++ more) t m c
+child_more i list more t m c h = record { schedule = h.schedule; at = stays_at list more c h.schedule h.at; leads = h.leads }
+
+pub children_more : (i : Image) (list more : List (List ℕ)) (t ms row : List ℕ) → AllZip (IsChild i list t) ms row → AllZip (IsChild i (list ++ more) t) ms row
+children_more i list more t ms row h = zip_to (IsChild i list t) (IsChild i (list ++ more) t) (child_more i list more t) ms row h
+
+pub graph_more : (i : Image) (list more past rows : List (List ℕ)) → IsGraph i list past rows → IsGraph i (list ++ more) past rows
+graph_more i list more past rows h =
+    zip_to (AreChildren i list) (AreChildren i (list ++ more)) (λ t row k. children_more i list more t _ row k) past rows h

@@ -1,13 +1,15 @@
--- What an exploration finds is determined: the list, the runs of words, the final schedules, and so the text.
-use Rattle.std.proofs.Common.{◌≡◌, ◌⊎◌, inl, inr, ℕ, zero, suc, ◌<◌, ◌≤◌, Bool, true, false, List, [], ◌∷◌, length}
+-- What an exploration finds is determined: the list, the runs of words, the faults, and the ends with their outcomes.
+use Rattle.std.proofs.Common.{◌≡◌, ◌⊎◌, inl, inr, ℕ, zero, suc, ◌≤◌, Bool, true, false, List, [], ◌∷◌, ◌++◌, map, length}
 use Rattle.std.proofs.Common.{refl, sym, ap, ◌∙◌, subst, arith}
 use Rattle.std.specs.{Prelude.Contains, List.{AllByRecursion, AllZip}}
 use Rattle.mm_model.specs.{Image.{Image, start}, Report.groups_of, Counted.writes}
 use Rattle.mm_span.specs.Pairs.{EachPair}
 use Rattle.mm_explore.specs.Schedules.{Before}
 use Rattle.mm_explore.specs.Explored.{IsLeast, IsExplored, IsAll}
-use Rattle.mm_explore.specs.Findings.{any_kind, Reaches, Reached, IsReached, AreFinal}
-use Rattle.mm_explore.specs.{Texts.{Exploration, IsExploration, exploration_text}, Laws.ExplorationsAreOne}
+use Rattle.mm_explore.specs.{Closed.IsFirstEndless, Findings.{any_kind, Reaches, IsFinal}}
+use Rattle.mm_explore.specs.{Finds.{IsGroupOf, faults_of, outcomes_of}, Laws.ExplorationsAreOne, Results.{GroupFound}}
+use Rattle.mm_explore.specs.Outcomes.{End, SelectsEndless, AreEnds, IsOutcome}
+use Rattle.mm_explore.proofs.{Selections.selects_one, SetOutcomes.outcome_one}
 use Rattle.mm_explore.specs.Searching.{UpTo}
 use Rattle.mm_explore.proofs.Orders.{before_self, before_through}
 use Rattle.mm_span.proofs.{Members.{none_in, in_cases, all_at}, Ones.spans_one}
@@ -79,29 +81,20 @@ lists_one i n a b k m =
 
 -- 2. What each group reached.
 
-reached_one : (i : Image) (list : List (List ℕ)) (gs : List ℕ) (a b : List Reached) → AllZip (IsReached i list) gs a → AllZip (IsReached i list) gs b → a ≡ b
-reached_one i list [] [] [] h k = refl
-reached_one i list [] (x ∷ a) b h k = absurd h
-reached_one i list [] [] (y ∷ b) h k = absurd k
-reached_one i list (g ∷ gs) [] b h k = absurd h
-reached_one i list (g ∷ gs) (x ∷ a) [] h k = absurd k
-reached_one i list (g ∷ gs) (x ∷ a) (y ∷ b) h k =
-    let touched = spans_one (Reaches any_kind i list g) x.touched y.touched h.0.touched k.0.touched in
-    let wrote = spans_one (Reaches writes i list g) x.wrote y.wrote h.0.wrote k.0.wrote in
-    let rest = reached_one i list gs a b h.1 k.1 in
-    λ j. record { touched = touched j; wrote = wrote j } ∷ rest j
+groups_one : (i : Image) (list : List (List ℕ)) (gs : List ℕ) (a b : List GroupFound) → AllZip (IsGroupOf i list) gs a → AllZip (IsGroupOf i list) gs b → a ≡ b
+groups_one i list [] [] [] h k = refl
+groups_one i list [] (x ∷ a) b h k = absurd h
+groups_one i list [] [] (y ∷ b) h k = absurd k
+groups_one i list (g ∷ gs) [] b h k = absurd h
+groups_one i list (g ∷ gs) (x ∷ a) [] h k = absurd k
+groups_one i list (g ∷ gs) (x ∷ a) (y ∷ b) h k =
+    let number = h.0.group ∙ sym k.0.group in
+    let touched = spans_one (Reaches any_kind i list g) x.reached.touched y.reached.touched h.0.reached.touched k.0.reached.touched in
+    let wrote = spans_one (Reaches writes i list g) x.reached.wrote y.reached.wrote h.0.reached.wrote k.0.reached.wrote in
+    let rest = groups_one i list gs a b h.1 k.1 in
+    λ j. record { group = number j; reached = record { touched = touched j; wrote = wrote j } } ∷ rest j
 
--- 3. Final schedules, and all.
-
-finals_one : (i : Image) (list a b : List (List ℕ)) → AreFinal i list a → AreFinal i list b → a ≡ b
-finals_one i [] a b h k = h ∙ sym k
-finals_one i (t ∷ list) a b (inl h) (inl k) =
-    let x = h.1 in
-    let y = k.1 in
-    x.1 ∙ ap (λ l. t ∷ l) (finals_one i list x.0 y.0 x.2 y.2) ∙ sym y.1
-finals_one i (t ∷ list) a b (inl h) (inr k) = absurd (k.0 h.0)
-finals_one i (t ∷ list) a b (inr h) (inl k) = absurd (h.0 k.0)
-finals_one i (t ∷ list) a b (inr h) (inr k) = finals_one i list a b h.1 k.1
+-- 3. Ends.
 
 answers_one : (A : Type 0) (a b : Bool) → (a ≡ true → A) → (a ≡ false → A → ⊥) → (b ≡ true → A) → (b ≡ false → A → ⊥) → a ≡ b
 answers_one A true true h k m n = refl
@@ -109,16 +102,37 @@ answers_one A true false h k m n = absurd (n refl (h refl))
 answers_one A false true h k m n = absurd (k refl (m refl))
 answers_one A false false h k m n = refl
 
+endless_one : (all : Bool) (i : Image) (list a b : List (List ℕ)) → SelectsEndless all i list a → SelectsEndless all i list b → a ≡ b
+endless_one true i list a b h k = selects_one (IsFirstEndless i) list a b h k
+endless_one false i list a b h k = h ∙ sym k
+
+ends_same : (i : Image) (a b : List End) → map (λ (e : End). e.schedule) a ≡ map (λ (e : End). e.schedule) b
+    → AllByRecursion (λ (e : End). IsOutcome i e.schedule e.outcome) a → AllByRecursion (λ (e : End). IsOutcome i e.schedule e.outcome) b → a ≡ b
+ends_same i [] [] e h k = refl
+ends_same i [] (y ∷ b) e h k = cc
+ends_same i (x ∷ a) [] e h k = cc
+ends_same i (x ∷ a) (y ∷ b) e h k =
+    let head : x.schedule ≡ y.schedule = cc in
+    let tail : map (λ (z : End). z.schedule) a ≡ map (λ (z : End). z.schedule) b = cc in
+    let outcome = outcome_one i y.schedule x.outcome y.outcome (subst (λ t. IsOutcome i t x.outcome) head h.0) k.0 in
+    let rest = ends_same i a b tail h.1 k.1 in
+    λ j. record { schedule = head j; outcome = outcome j } ∷ rest j
+
+ends_one : (all : Bool) (i : Image) (list : List (List ℕ)) (a b : List End) → AreEnds i list all a → AreEnds i list all b → a ≡ b
+ends_one all i list a b h k =
+    let finals = selects_one (IsFinal i) list h.finals k.finals h.final k.final in
+    let firsts = endless_one all i list h.firsts k.firsts h.endless k.endless in
+    ends_same i a b (h.are.schedules ∙ (λ j. finals j ++ firsts j) ∙ sym k.are.schedules) h.are.outcomes k.are.outcomes
+
 -- 4. The whole.
 
-found_one : (i : Image) (limit : ℕ) (a b : Exploration) → IsExploration i limit a → IsExploration i limit b → a ≡ b
-found_one i limit a b k m =
-    let list : b.list ≡ a.list = lists_one i limit b.list a.list m.list k.list in
-    let reached = reached_one i a.list (groups_of (start i).core) a.reached b.reached k.reached (subst (λ l. AllZip (IsReached i l) (groups_of (start i).core) b.reached) list m.reached) in
-    let finals = finals_one i a.list a.finals b.finals k.finals (subst (λ l. AreFinal i l b.finals) list m.finals) in
-    let all = answers_one (IsAll i a.list) a.all b.all k.all k.more (λ e. subst (IsAll i) list (m.all e)) (λ e h. m.more e (subst (IsAll i) (sym list) h)) in
-    λ j. record { list = sym list j; all = all j; reached = reached j; finals = finals j }
-
 pub explorations_are_one : ExplorationsAreOne
-explorations_are_one i limit text other k m =
-    k.written ∙ ap (exploration_text i) (found_one i limit k.exploration m.exploration k.is m.is) ∙ sym m.written
+explorations_are_one i limit e other k m =
+    let list : m.list ≡ k.list = lists_one i limit m.list k.list m.explored k.explored in
+    let all : e.all ≡ other.all = answers_one (IsAll i k.list) e.all other.all k.all k.more (λ h. subst (IsAll i) list (m.all h)) (λ h n. m.more h (subst (IsAll i) (sym list) n)) in
+    let count = k.count ∙ ap length (sym list) ∙ sym m.count in
+    let groups = groups_one i k.list (groups_of (start i).core) e.groups other.groups k.groups (subst (λ l. AllZip (IsGroupOf i l) (groups_of (start i).core) other.groups) list m.groups) in
+    let faults = k.faults ∙ ap (faults_of i) (sym list) ∙ sym m.faults in
+    let ends : k.ends ≡ m.ends = ends_one e.all i k.list k.ends m.ends k.are (subst (λ b. AreEnds i k.list b m.ends) (sym all) (subst (λ l. AreEnds i l other.all m.ends) list m.are)) in
+    let outcomes = k.outcomes ∙ ap (outcomes_of i) ends ∙ sym m.outcomes in
+    λ j. record { count = count j; all = all j; groups = groups j; faults = faults j; outcomes = outcomes j }

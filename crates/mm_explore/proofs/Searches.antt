@@ -13,9 +13,9 @@ use Rattle.mm_explore.specs.Findings.{Extension, extended, extensions, explored_
 use Rattle.mm_explore.specs.Searching.{UpTo, Cover, Open, IsSearched}
 use Rattle.mm_explore.proofs.Orders.{before_self, before_through, before_cases, before_more, up_to_before, up_to_both}
 use Rattle.mm_explore.proofs.Orders.{up_to_through, nothing_before, before_rec, more, length_more}
-use Rattle.mm_span.proofs.Members.{none_in, in_first, in_rest, in_cases, all_at, all_of, map_in, pairs_both}
+use Rattle.mm_span.proofs.Members.{none_in, in_first, in_rest, in_cases, all_of, map_in, pairs_both}
 use Rattle.mm_explore.proofs.{Movings.{moves_or_idles, idle_leads}, Coverings.{leads_alike, leads_more}}
-use Rattle.mm_explore.proofs.{FoundOnRuns.explores, Earliest.{Earlier, turns_in_order}}
+use Rattle.mm_explore.proofs.{FoundOnRuns.explores, Earliest.{Earlier, turns_in_order}, Selections.pairs_behind}
 
 -- 1. What is covered.
 
@@ -69,10 +69,6 @@ module _ (i : Image) (list : List (List ℕ)) (begins : Contains list []) (Withi
 -- none of the list leads where a schedule leads
 abbrev pub IsNew : Image → List (List ℕ) → List ℕ → Type 0
 IsNew i list t = (v : List ℕ) → Contains list v → leads_to i v ≡ leads_to i t → ⊥
-
-pairs_behind : {X : Type 0} (R : X → X → Type 0) (front : List X) (x : X) (behind : List X) → EachPair R (front ++ x ∷ behind) → (y : X) → Contains behind y → R x y
-pairs_behind R [] x behind h y inside = all_at (R x) behind y h.0 inside
-pairs_behind R (z ∷ front) x behind h y inside = pairs_behind R front x behind h.1 y inside
 
 -- a least schedule that is covered is in the list
 least_inside : (i : Image) (list : List (List ℕ)) (t : List ℕ) → IsLeast i t → Cover i list t → Contains list t

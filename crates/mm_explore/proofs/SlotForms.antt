@@ -12,7 +12,7 @@ use Rattle.mm_model.specs.{Report.same_bit, Slot.Slot}
 use Rattle.mm_word.specs.{declared.word.Word.{Word, TheVariants.Ptr}, Cause.{number_of, cause_of}, Perm.can_fetch}
 use Rattle.mm_word.specs.{Pointer.{Pointer, IsWellFormed, bits_of}, Word.is_pointer}
 use Rattle.mm_word.proofs.Causes.{cause_back, number_within}
-use Rattle.mm_explore.specs.{Configurations.{uncounted_slot, are_some}, Findings.{state_number, same_state}}
+use Rattle.mm_explore.specs.{Configurations.{uncounted_slot, are_some}, Outcomes.{state_number, same_state}}
 use Rattle.mm_explore.specs.Kept.{changed_flags, changed_bits, words_from, load_form, loads_from, few_loads}
 use Rattle.mm_explore.specs.Kept.{register_flags, state_at, ip_of, slot_head, slot_masks, slot_form, slot_from, is_base}
 use Rattle.mm_explore.specs.Kept.{slot_flags, slot_forms, slots_by, slots_form, slots_from}

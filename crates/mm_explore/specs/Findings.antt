@@ -1,13 +1,11 @@
 -- What is found on the turns from a list of schedules: words, faults and outcomes.
-use Rattle.std.specs.Prelude.{◌≡◌, ◌⊎◌, ℕ, ◌+◌, ◌*◌, ◌<◌, Bool, true, false, ◌&&◌, ◌==◌, nat_eq, if◌then◌else◌, List}
-use Rattle.std.specs.Prelude.{[], ◌∷◌, ◌++◌, map, Contains, Option, Some, None}
-use Rattle.std.specs.List.{AllByRecursion, find, flat_map, list_any, count_by}
-use lib.Pointwise.{pointwise}
+use Rattle.std.specs.Prelude.{◌≡◌, ℕ, Bool, true, false, ◌&&◌, ◌==◌, List}
+use Rattle.std.specs.Prelude.{[], ◌∷◌, ◌++◌, map, Contains, Option}
+use Rattle.std.specs.List.{find, flat_map}
 use Rattle.mm_word.specs.{declared.perm.Kind.Kind, Access.AccessValue, Cause.number_of}
-use Rattle.mm_model.specs.declared.slot.SlotState.{SlotState, TheVariants.{Running, Waiting, Taken, Halted}}
-use Rattle.mm_model.specs.{declared.step.{Step.Step, Tick.{Tick, TheVariants.Faulted}}, State.{State, output_of}}
+use Rattle.mm_model.specs.{declared.step.{Step.Step, Tick.{Tick, TheVariants.Faulted}}}
 use Rattle.mm_model.specs.{Image.{Image, start}, Turn.Turned, Run.{turn_of, run}, Trace.{touches, group_in}}
-use Rattle.mm_model.specs.{Report.{same_bit, groups_of}, Counted.writes}
+use Rattle.mm_model.specs.{Counted.writes}
 use Rattle.mm_span.specs.Spans.{Span, AreSpans}
 use Rattle.mm_explore.specs.Configurations.{moves}
 use Rattle.mm_explore.specs.Explored.{leads_to}
@@ -73,66 +71,12 @@ has_fault slot cause step = step.slot == slot && fails_by cause step.tick
 abbrev pub first_fault : Image → List (List ℕ) → ℕ → ℕ → Option Extension
 first_fault i list slot cause = find (λ x. has_fault slot cause (turn_at i x).step) (explored_turns i list)
 
--- 4. Outcomes.
+-- 4. Final configurations.
 
 -- no move leads to another configuration
 abbrev pub IsFinal : Image → List ℕ → Type 0
 IsFinal i t = (m : ℕ) → Contains (moves (run (start i) t)) m → leads_to i (t ++ m ∷ []) ≡ leads_to i t
 
--- the final schedules of a list, in its order
-abbrev pub AreFinal : Image → List (List ℕ) → List (List ℕ) → Type 0
-AreFinal i [] finals = finals ≡ []
-AreFinal i (t ∷ list) finals =
-    (IsFinal i t × ((rest : List (List ℕ)) × (finals ≡ t ∷ rest) × AreFinal i list rest))
-    ⊎ ((IsFinal i t → ⊥) × AreFinal i list finals)
-
--- an end: whether there is no move, the state of each slot, and the output of each group
-pub record Outcome : Type 0 where
-  pub ended : Bool
-  pub states : List SlotState
-  pub outputs : List (List ℕ)
-
 abbrev pub are_none : List ℕ → Bool
 are_none [] = true
 are_none (m ∷ ms) = false
-
-unfoldable pub outcome_of : State → Outcome
-outcome_of s = record {
-  ended = are_none (moves s);
-  states = map (λ row. row.slot.state) s.core.rows;
-  outputs = map (output_of s.core) (groups_of s.core);
-}
-
-abbrev pub outcome_at : Image → List ℕ → Outcome
-outcome_at i t = outcome_of (run (start i) t)
-
--- a number for each state of a slot
-abbrev pub state_number : SlotState → ℕ
-state_number Running = 0
-state_number Waiting = 1
-state_number Taken = 2
-state_number (Halted None) = 3
-state_number (Halted (Some c)) = 3 + number_of c
-
-abbrev pub same_state : SlotState → SlotState → Bool
-same_state a b = state_number a == state_number b
-
-abbrev pub same_outcome : Outcome → Outcome → Bool
-same_outcome a b =
-    same_bit a.ended b.ended && (pointwise same_state a.states b.states
-    && pointwise (pointwise nat_eq) a.outputs b.outputs)
-
--- the schedules of a list whose outcome no earlier one has, and none of these
-abbrev pub firsts_after : Image → List Outcome → List (List ℕ) → List (List ℕ)
-firsts_after i seen [] = []
-firsts_after i seen (t ∷ ts) =
-    if list_any (same_outcome (outcome_at i t)) seen then firsts_after i seen ts
-    else t ∷ firsts_after i (outcome_at i t ∷ seen) ts
-
--- the first schedule of each outcome
-unfoldable pub firsts : Image → List (List ℕ) → List (List ℕ)
-firsts i finals = firsts_after i [] finals
-
--- the count of schedules that have the outcome of this one
-abbrev pub count_like : Image → List (List ℕ) → List ℕ → ℕ
-count_like i finals t = count_by (λ u. same_outcome (outcome_at i t) (outcome_at i u)) finals

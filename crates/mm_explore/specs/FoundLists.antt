@@ -43,7 +43,7 @@ Holds i f = f.forms ≡ map (λ t. kept i (run (start i) t)) f.list
 
 -- what looking numbers up answers, and what it adds
 abbrev pub Looks : Looked → List ℕ → Origin → FoundList → FoundList → Type 0
-Looks Known numbers o old new = Contains old.forms numbers × (new ≡ old)
+Looks (Known at) numbers o old new = (slice_get old.forms at ≡ Some numbers) × (new ≡ old)
 Looks New numbers o old new =
     (Contains old.forms numbers → ⊥) × (length old.list < old.limit)
     × (new ≡ record old { list = old.list ++ led_by old.list o ∷ []; forms = old.forms ++ numbers ∷ [] })

@@ -13,7 +13,7 @@ use Rattle.mm_model.specs.{Flags.{one_if, flags, number_of_flags}, Image.{Image,
 use Rattle.mm_model.specs.{Report.{same_bit, groups_of, changes}, Slot.Slot, State.{Core, State, output_of}}
 use Rattle.mm_thread.specs.Output.{Output}
 use Rattle.mm_machine.specs.Snapshot.{queued, page_numbers}
-use Rattle.mm_explore.specs.{Configurations.{uncounted_slot, are_some}, Findings.{state_number, same_state}}
+use Rattle.mm_explore.specs.{Configurations.{uncounted_slot, are_some}, Outcomes.{state_number, same_state}}
 
 -- 1. Parts.
 

@@ -1,12 +1,14 @@
 -- What holds of every exploration.
-use Rattle.std.specs.Prelude.{◌≡◌, ◌↔◌, ℕ, true, List, [], ◌∷◌, ◌++◌, Contains, Some, IsSome}
+use Rattle.std.specs.Prelude.{◌≡◌, ◌↔◌, ◌⊎◌, ℕ, Bool, true, List, [], ◌∷◌, ◌++◌, Contains}
 use Rattle.mm_word.specs.Access.{AccessValue}
 use Rattle.mm_model.specs.{State.State, Image.{Image, start}, Spelling.IsImage, Run.{turn_of, after, run}}
 use Rattle.mm_model.specs.{Trace.{touches, group_in}, Counted.writes}
-use Rattle.mm_explore.specs.{Configurations.{configuration, moves}, Schedules.Before}
-use Rattle.mm_explore.specs.Explored.{leads_to, IsLeast, IsExplored, IsAll}
-use Rattle.mm_explore.specs.Findings.{Extension, extended, turn_at, any_kind, Reaches, has_fault, first_fault, IsFinal}
-use Rattle.mm_explore.specs.{Findings.{AreFinal, outcome_at, firsts}, Texts.Explores, Kept.kept}
+use Rattle.mm_span.specs.Spans.{Span, InSpan}
+use Rattle.mm_explore.specs.{Closed.{LeadsOn, IsClosed, IsAtEnd, IsEndless}, Configurations.{configuration, moves}}
+use Rattle.mm_explore.specs.{Explored.{leads_to, IsLeast, IsExplored, IsAll}, Finds.{Finds, outcome_found}, Kept.kept}
+use Rattle.mm_explore.specs.Findings.{Extension, extended, turn_at, has_fault, Reached, IsFinal}
+use Rattle.mm_explore.specs.{Outcomes.{Outcome, IsOutcome}, Results.{Results, GroupFound, FaultFound, OutcomeFound}}
+use Rattle.mm_explore.specs.Schedules.{Before}
 
 -- 1. States of one configuration go on alike.
 
@@ -28,30 +30,84 @@ ConfigurationsGoOn = (s t : State) → configuration s ≡ configuration t → G
 abbrev pub OthersAreIdle : Type 0
 OthersAreIdle = (s : State) (item : ℕ) → (Contains (moves s) item → ⊥) → configuration (after s item) ≡ configuration s
 
--- 2. A list that is all has what every run comes to.
+-- 2. Closed sets.
+
+-- the configurations for which a test holds
+abbrev pub Passes : (State → Bool) → State → Type 0
+Passes test c = test c ≡ true
+
+-- a closed set is all to which any of its members leads on
+pub record IsSetOf (i : Image) (test : State → Bool) (s : List ℕ) : Type 0 where
+  pub closed : IsAtEnd i s
+  pub inside : (t : List ℕ) → Passes test (leads_to i t) → LeadsOn i s t
+  pub led : (t : List ℕ) → LeadsOn i s t → Passes test (leads_to i t)
+
+abbrev pub ClosedSetsAreLedOn : Type 0
+ClosedSetsAreLedOn = (i : Image) (test : State → Bool) → IsClosed i (Passes test) → (s : List ℕ)
+    → Passes test (leads_to i s) → IsSetOf i test s
+
+-- a final configuration by itself is a closed set
+pub record IsAlone (i : Image) (t : List ℕ) : Type 0 where
+  pub closed : IsAtEnd i t
+  pub alone : (s : List ℕ) → LeadsOn i t s → leads_to i s ≡ leads_to i t
+
+abbrev pub FinalsAreClosed : Type 0
+FinalsAreClosed = (i : Image) (t : List ℕ) → IsFinal i t → IsAlone i t
+
+-- the members of a closed set have one outcome
+abbrev pub OutcomesAreOfSets : Type 0
+OutcomesAreOfSets = (i : Image) (s t : List ℕ) (o : Outcome) → IsImage i → IsAtEnd i s → LeadsOn i s t → IsOutcome i s o
+    → IsOutcome i t o
+
+-- 3. Where all configurations are in a list, every run can go on into a closed set.
+
+-- some items more lead to a configuration that is final or in an endless set
+pub record EndsOrTurns (i : Image) (s : List ℕ) : Type 0 where
+  pub items : List ℕ
+  pub closed : IsAtEnd i (s ++ items)
+  pub kind : IsFinal i (s ++ items) ⊎ IsEndless i (s ++ items)
+
+abbrev pub RunsEndOrTurn : Type 0
+RunsEndOrTurn = (i : Image) (limit : ℕ) (list : List (List ℕ)) → IsExplored i limit list → IsAll i list
+    → (s : List ℕ) → EndsOrTurns i s
+
+-- 4. What was found is all that runs come to, and is met first by its schedules.
+
+-- a word is among those that a group touched, or wrote
+pub record IsFoundIn (spans : Reached → List Span) (e : Results) (g word : ℕ) : Type 0 where
+  pub found : GroupFound
+  pub inside : Contains e.groups found
+  pub group : found.group ≡ g
+  pub at : (span : Span) × Contains (spans found.reached) span × InSpan word span
+
+pub record IsFaultFound (e : Results) (s n : ℕ) : Type 0 where
+  pub found : FaultFound
+  pub inside : Contains e.faults found
+  pub slot : found.slot ≡ s
+  pub cause : found.cause ≡ n
+
+-- the outcome of a schedule's closed set is found
+pub record IsOutcomeFound (i : Image) (e : Results) (s : List ℕ) : Type 0 where
+  pub outcome : Outcome
+  pub is : IsOutcome i s outcome
+  pub count : ℕ
+  pub by : List ℕ
+  pub inside : Contains e.outcomes (outcome_found i count outcome by)
 
 -- what comes of a run under a schedule, and of one more item after it, is in what was found
-pub record IsFound (i : Image) (list : List (List ℕ)) (s : List ℕ) : Type 0 where
-  -- the run's configuration has its least schedule in the list
-  pub least : (t : List ℕ) × Contains list t × IsLeast i t × (leads_to i t ≡ leads_to i s)
-  -- each access is on a word that its slot's group touched, and wrote if the access writes
+pub record IsRunFound (i : Image) (e : Results) (s : List ℕ) : Type 0 where
   pub touched : (item : ℕ) (a : AccessValue) → Contains (touches (turn_of (run (start i) s) item).step) a
-      → Reaches any_kind i list (group_in (turn_of (run (start i) s) item)) a.addr
+      → IsFoundIn (λ r. r.touched) e (group_in (turn_of (run (start i) s) item)) a.addr
   pub wrote : (item : ℕ) (a : AccessValue) → Contains (touches (turn_of (run (start i) s) item).step) a
-      → writes a.kind ≡ true → Reaches writes i list (group_in (turn_of (run (start i) s) item)) a.addr
-  -- each fault is found
+      → writes a.kind ≡ true → IsFoundIn (λ r. r.wrote) e (group_in (turn_of (run (start i) s) item)) a.addr
   pub fault : (item slot cause : ℕ) → has_fault slot cause (turn_of (run (start i) s) item).step ≡ true
-      → IsSome (first_fault i list slot cause)
-  -- if no item changes its configuration, its outcome is found
-  pub outcome : (finals : List (List ℕ)) → AreFinal i list finals
-      → ((item : ℕ) → leads_to i (s ++ item ∷ []) ≡ leads_to i s)
-      → (t : List ℕ) × Contains (firsts i finals) t × (outcome_at i t ≡ outcome_at i s)
+      → IsFaultFound e slot cause
+  pub outcome : IsAtEnd i s → IsOutcomeFound i e s
+  pub goes_on : EndsOrTurns i s
 
-abbrev pub ExploredIsAll : Type 0
-ExploredIsAll = (i : Image) (limit : ℕ) (list : List (List ℕ)) → IsExplored i limit list → IsAll i list
-    → (s : List ℕ) → IsFound i list s
-
--- 3. Each finding is met by its schedule, and by none before it.
+abbrev pub RunsAreFound : Type 0
+RunsAreFound = (i : Image) (limit : ℕ) (e : Results) → IsImage i → Finds i limit e → e.all ≡ true
+    → (s : List ℕ) → IsRunFound i e s
 
 -- the last turn of a schedule is one in which a slot has a fault
 pub record MeetsFault (i : Image) (slot cause : ℕ) (s : List ℕ) : Type 0 where
@@ -59,30 +115,27 @@ pub record MeetsFault (i : Image) (slot cause : ℕ) (s : List ℕ) : Type 0 whe
   pub whole : extended last ≡ s
   pub faults : has_fault slot cause (turn_at i last).step ≡ true
 
--- a schedule is final and has an outcome that is the same as that of t
-pub record MeetsOutcome (i : Image) (t s : List ℕ) : Type 0 where
-  pub final : IsFinal i s
-  pub same : outcome_at i s ≡ outcome_at i t
+-- a schedule leads into a closed set with an outcome
+pub record MeetsOutcome (i : Image) (o : OutcomeFound) (s : List ℕ) : Type 0 where
+  pub closed : IsAtEnd i s
+  pub outcome : Outcome
+  pub is : IsOutcome i s outcome
+  pub told : o ≡ outcome_found i o.count outcome o.by
 
 -- a schedule meets something, and none before it does
 pub record IsFirst (meets : List ℕ → Type 0) (s : List ℕ) : Type 0 where
   pub met : meets s
   pub first : (t : List ℕ) → Before t s → meets t → ⊥
 
-pub record AreMet (i : Image) (list : List (List ℕ)) : Type 0 where
-  pub faults : (slot cause : ℕ) (x : Extension) → first_fault i list slot cause ≡ Some x
-      → IsFirst (MeetsFault i slot cause) (extended x)
-  pub outcomes : (finals : List (List ℕ)) → AreFinal i list finals → (t : List ℕ) → Contains (firsts i finals) t
-      → IsFirst (MeetsOutcome i t) t
+pub record AreMet (i : Image) (e : Results) : Type 0 where
+  pub faults : (f : FaultFound) → Contains e.faults f → IsFirst (MeetsFault i f.slot f.cause) f.by
+  pub outcomes : (o : OutcomeFound) → Contains e.outcomes o → IsFirst (MeetsOutcome i o) o.by
 
 abbrev pub FindingsAreMet : Type 0
-FindingsAreMet = (i : Image) (limit : ℕ) (list : List (List ℕ)) → IsImage i → IsExplored i limit list → AreMet i list
-
--- 4. The text of an exploration is one.
+FindingsAreMet = (i : Image) (limit : ℕ) (e : Results) → IsImage i → Finds i limit e → AreMet i e
 
 abbrev pub ExplorationsAreOne : Type 0
-ExplorationsAreOne = (i : Image) (limit : ℕ) (text other : List ℕ) → Explores i limit text → Explores i limit other
-    → text ≡ other
+ExplorationsAreOne = (i : Image) (limit : ℕ) (e other : Results) → Finds i limit e → Finds i limit other → e ≡ other
 
 -- 5. What is kept of the states of two runs is the same exactly if they are of one configuration.
 

@@ -2,6 +2,8 @@ pub mod Configurations
 pub mod Schedules
 pub mod Explored
 pub mod Findings
+pub mod Closed
+pub mod Outcomes
 pub mod Texts
 pub mod Kept
 pub mod Assembled

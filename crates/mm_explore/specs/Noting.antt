@@ -1,13 +1,16 @@
 -- What was noted of the turns and of the ends that a search went through.
-use Rattle.std.specs.Prelude.{◌≡◌, ℕ, ◌+◌, nat_eq, Bool, true, false, List, [], ◌∷◌, ◌++◌, map, length, Option, Some}
-use Rattle.std.specs.{Prelude.{None, slice_get}, List.{AllZip, find, flat_map}, BTreeMap.get}
+use Rattle.std.specs.Prelude.{◌≡◌, ℕ, ◌+◌, nat_eq, Bool, true, false, if◌then◌else◌, List, [], ◌∷◌, ◌++◌, map, length}
+use Rattle.std.specs.{Prelude.{Option, Some, None, slice_get}, List.{AllZip, find, flat_map}, BTreeMap.get}
 use Rattle.indexmap.specs.IndexMap.{IsUnique}
 use lib.Pointwise.{pointwise}
-use Rattle.mm_model.specs.{Flags.one_if, Image.Image, Counted.writes}
-use Rattle.mm_explore.specs.declared.{findings.Findings.Findings, ends.Tally.Tally, found.Origin.Origin}
-use Rattle.mm_explore.specs.Findings.{Extension, turn_at, any_kind, has_fault, AreFinal, Outcome, outcome_at}
-use Rattle.mm_explore.specs.{Findings.{state_number, firsts, count_like}, FoundLists.{IsOrigin, led_by}}
-use Rattle.mm_explore.specs.{Results.fault_found_lines, Words.{order, AreKept, turn_words}}
+use Rattle.mm_model.specs.{Flags.flags, Image.Image, Counted.writes, Slot.Slot}
+use Rattle.mm_explore.specs.declared.explored.Standing.{Standing, TheVariants.{Busy, In}}
+use Rattle.mm_explore.specs.declared.{findings.Findings.Findings, ends.{Tally.Tally}, found.Origin.Origin}
+use Rattle.mm_explore.specs.declared.ends.End as code_end
+use Rattle.mm_explore.specs.declared.parts.Parts as code_parts
+use Rattle.mm_explore.specs.{Benches.ArePartsAt, Findings.{Extension, turn_at, any_kind, has_fault}}
+use Rattle.mm_explore.specs.{FoundLists.{IsOrigin, led_by}, Results.FaultFound, Words.{order, AreKept, turn_words}}
+use Rattle.mm_explore.specs.Outcomes.{Outcome, End, ending_number, standing_number, firsts, count_of}
 
 -- 1. Faults.
 
@@ -27,10 +30,10 @@ first_kept (Some p) here o = Some p
 first_kept None true o = Some o
 first_kept None false o = None
 
--- the lines of what is kept of a fault
-abbrev pub fault_found : List (List ℕ) → ℕ → ℕ → Option Origin → List ℕ
-fault_found list slot cause None = []
-fault_found list slot cause (Some o) = fault_found_lines (record { slot = slot; cause = cause; by = led_by list o })
+-- the fault that is kept of a slot under a number
+abbrev pub fault_kept : List (List ℕ) → ℕ → ℕ → Option Origin → List FaultFound
+fault_kept list slot cause None = []
+fault_kept list slot cause (Some o) = record { slot = slot; cause = cause; by = led_by list o } ∷ []
 
 -- 2. Ends.
 
@@ -39,18 +42,33 @@ bytes_form bytes = length bytes ∷ bytes
 
 -- the numbers by which an outcome is kept
 unfoldable pub outcome_form : Outcome → List ℕ
-outcome_form o = one_if o.ended ∷ length o.states ∷ map state_number o.states ++ flat_map bytes_form o.outputs
+outcome_form o =
+    ending_number o.ending ∷ length o.slots ∷ map standing_number o.slots ++ flat_map bytes_form o.outputs
 
--- the count of final schedules that have the outcome of one, and the index of this one
-pub record IsEnd (i : Image) (list finals : List (List ℕ)) (t key : List ℕ) (tally : Tally) : Type 0 where
-  pub form : key ≡ outcome_form (outcome_at i t)
-  pub count : tally.count ≡ count_like i finals t
-  pub first : slice_get list tally.first ≡ Some t
+-- how slots stand, given a flag for each: whether it is busy
+abbrev pub standings_of : List Bool → List Slot → List Standing
+standings_of (b ∷ busy) (s ∷ slots) = (if b then Busy else In s.state) ∷ standings_of busy slots
+standings_of _ _ = []
 
--- one final schedule more
-abbrev pub tally_after : ℕ → Option Tally → Tally
-tally_after at None = record { count = 1; first = at }
-tally_after at (Some t) = record { count = t.count + 1; first = t.first }
+-- the outcome of an end that is kept, given the parts of its configuration
+abbrev pub outcome_held : code_end.End → code_parts.Parts → Outcome
+outcome_held e p = record {
+  ending = e.ending;
+  slots = standings_of (flags (length p.slots.items) e.busy) p.slots.items;
+  outputs = map (λ o. o.bytes) p.outputs.items;
+}
+
+-- what is kept of an end: the numbers of its outcome, how many of these ends have it, and the end itself
+pub record IsKeptEnd (i : Image) (list : List (List ℕ)) (ends : List End) (e : End) (key : List ℕ) (tally : Tally) : Type 0 where
+  pub form : key ≡ outcome_form e.outcome
+  pub count : tally.count ≡ count_of ends e.outcome
+  pub first : slice_get list tally.first.at ≡ Some e.schedule
+  pub held : (p : code_parts.Parts) → ArePartsAt i e.schedule p → outcome_held tally.first p ≡ e.outcome
+
+-- one end more
+abbrev pub tally_after : code_end.End → Option Tally → Tally
+tally_after e None = record { count = 1; first = e }
+tally_after e (Some t) = record { count = t.count + 1; first = t.first }
 
 -- 3. What was noted.
 
@@ -60,9 +78,7 @@ pub record Noted (i : Image) (list : List (List ℕ)) (done : List Extension) (f
   pub wrote : AreKept (flat_map (turn_words writes i) done) f.words.wrote.keys
   pub faults : (slot cause : ℕ) → IsFrom list (first_in i done slot cause) (get order f.faults (slot, cause))
 
--- of the schedules that were gone through, those that are final were noted, in their order
-pub record Ended (i : Image) (list past : List (List ℕ)) (f : Findings) : Type 0 where
-  pub finals : List (List ℕ)
-  pub are : AreFinal i past finals
-  pub ends : AllZip (λ t end. IsEnd i list finals t end.0.items end.1) (firsts i finals) f.ends.entries
+-- these ends were noted, in their order
+pub record AreNoted (i : Image) (list : List (List ℕ)) (ends : List End) (f : Findings) : Type 0 where
+  pub entries : AllZip (λ e entry. IsKeptEnd i list ends e entry.0.items entry.1) (firsts ends) f.ends.entries
   pub unique : IsUnique (λ a b. pointwise nat_eq a.items b.items) f.ends

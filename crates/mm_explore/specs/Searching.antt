@@ -1,13 +1,18 @@
 -- How far a search has come.
 use Rattle.std.specs.Prelude.{◌≡◌, ◌⊎◌, ℕ, ◌+◌, ◌^◌, ◌<◌, ◌≤◌, Bool, true, false, List, [], ◌∷◌, ◌++◌, length, take}
-use Rattle.std.specs.{Prelude.{drop, Contains, Some, slice_get, slice_index_or}, List.{AllByRecursion, flat_map}}
+use Rattle.std.specs.Prelude.{drop, not, nat_eq, Contains, Option, Some, None, slice_get, slice_index_or}
+use Rattle.std.specs.List.{AllByRecursion, AllZip, flat_map}
+use lib.Pointwise.{pointwise}
 use Rattle.mm_model.specs.{Image.{Image, start}, Report.groups_of, Run.run, Spelling.IsImage}
 use Rattle.mm_explore.specs.declared.found.{Looked.{Looked, TheVariants.{Known, New, Full}}, Origin.Origin}
-use Rattle.mm_explore.specs.{declared.search.{Node.Node, Search.Search}, Benches.{IsAtSomeConfiguration, ArePartsAt}}
+use Rattle.mm_explore.specs.declared.{findings.Findings.Findings, search.{Node.Node, Search.Search}}
+use Rattle.mm_explore.specs.Benches.{IsAtSomeConfiguration, ArePartsAt}
 use Rattle.mm_explore.specs.{Configurations.moves, Explored.{leads_to, IsLeast, IsExplored, IsAll}}
 use Rattle.mm_explore.specs.Findings.{Extension, extended, extensions, explored_turns, IsFinal}
-use Rattle.mm_explore.specs.FoundLists.{Holds, Looks}
-use Rattle.mm_explore.specs.Noting.{Noted, Ended}
+use Rattle.mm_explore.specs.{FoundLists.{FoundList, Holds, Looks}, Kept.slot_form, Outcomes.{End, Selects, AreEndsOf, AreEnds, IsSteady, slots_at}}
+use Rattle.mm_explore.specs.Closed.{LeadsOn, IsFirstEndless}
+use Rattle.mm_model.specs.{Flags.flags, Slot.Slot}
+use Rattle.mm_explore.specs.Noting.{Noted, AreNoted}
 use Rattle.mm_span.specs.Pairs.{EachPair}
 use Rattle.mm_explore.specs.Schedules.{Before}
 
@@ -50,7 +55,31 @@ abbrev pub GoesOn : Bool → Image → ℕ → List (List ℕ) → List Extensio
 GoesOn true i limit list done left = Open i limit list done left
 GoesOn false i limit list done left = IsFull i limit list done left
 
--- 2. What the code has.
+-- 2. Where moves lead, and which schedules are final.
+
+-- the configuration at an index is that to which an item after a schedule leads
+pub record IsChild (i : Image) (list : List (List ℕ)) (t : List ℕ) (m c : ℕ) : Type 0 where
+  pub schedule : List ℕ
+  pub at : slice_get list c ≡ Some schedule
+  pub leads : leads_to i schedule ≡ leads_to i (t ++ m ∷ [])
+
+-- the configurations to which the moves after a schedule lead
+abbrev pub AreChildren : Image → List (List ℕ) → List ℕ → List ℕ → Type 0
+AreChildren i list t row = AllZip (IsChild i list t) (moves (run (start i) t)) row
+
+-- a row for each schedule
+abbrev pub IsGraph : Image → List (List ℕ) → List (List ℕ) → List (List ℕ) → Type 0
+IsGraph i list past rows = AllZip (AreChildren i list) past rows
+
+-- of the schedules that were gone through, those that are final were noted, in their order
+pub record Ended (i : Image) (list past : List (List ℕ)) (f : Findings) : Type 0 where
+  pub finals : List (List ℕ)
+  pub are : Selects (IsFinal i) past finals
+  pub ends : List End
+  pub of : AreEndsOf i finals ends
+  pub noted : AreNoted i list ends f
+
+-- 3. What the code has.
 
 -- a search has gone through these turns and these schedules, and has these turns left
 pub record HasCome (i : Image) (s : Search) (done left : List Extension) (past : List (List ℕ)) : Type 0 where
@@ -62,6 +91,7 @@ pub record HasCome (i : Image) (s : Search) (done left : List Extension) (past :
   pub goes : GoesOn s.all i s.found.limit s.found.list done left
   pub noted : Noted i s.found.list done s.findings
   pub ended : Ended i s.found.list past s.findings
+  pub graph : s.all ≡ true → IsGraph i s.found.list past s.graph
 
 -- a search has gone through the schedules before an index
 abbrev pub IsBefore : Image → Search → ℕ → Type 0
@@ -94,6 +124,8 @@ pub record IsWithin (i : Image) (s : Search) (node : Node) (k : ℕ) : Type 0 wh
   pub is : IsNode i s node
   pub come : HasCome i s (turns_before i s.found.list node.at k) (turns_from i s.found.list node.at k)
       (take node.at s.found.list)
+  pub children : s.all ≡ true
+      → AllZip (IsChild i s.found.list (node_schedule s node)) (take k node.moves.items) s.children.items
 
 -- whether a move leads back to the configuration from which it is made
 abbrev pub StaysBy : Bool → Image → List ℕ → ℕ → Type 0
@@ -105,24 +137,88 @@ abbrev pub AllStay : Bool → Image → List ℕ → List ℕ → Type 0
 AllStay true i t ms = AllByRecursion (λ m. leads_to i (t ++ m ∷ []) ≡ leads_to i t) ms
 AllStay false i t ms = IsFinal i t → ⊥
 
--- 3. One move.
+-- 4. One move.
 
--- whether there was room for all, after a look-up
-abbrev pub all_after : Bool → Looked → Bool
-all_after all Known = all
-all_after all New = all
-all_after all Full = false
+-- the index of what was looked up, if there was room
+abbrev pub index_of : Looked → FoundList → Option ℕ
+index_of (Known at) old = Some at
+index_of New old = Some (length old.list)
+index_of Full old = None
 
 -- a search looked these numbers up
-pub record Met (numbers : List ℕ) (o : Origin) (old new : Search) : Type 0 where
+pub record Met (numbers : List ℕ) (o : Origin) (c : Option ℕ) (old new : Search) : Type 0 where
   pub looked : Looked
   pub looks : Looks looked numbers o old.found new.found
-  pub all : new.all ≡ all_after old.all looked
+  pub child : c ≡ index_of looked old.found
+  pub all : new.all ≡ old.all
   pub groups : new.groups ≡ old.groups
   pub bench : new.bench ≡ old.bench
   pub findings : new.findings ≡ old.findings
+  pub graph : new.graph ≡ old.graph
+  pub children : new.children ≡ old.children
 
--- whether numbers are those that are kept at an index
-abbrev pub KeptBy : Bool → List (List ℕ) → ℕ → List ℕ → Type 0
-KeptBy true forms at numbers = slice_get forms at ≡ Some numbers
-KeptBy false forms at numbers = slice_get forms at ≡ Some numbers → ⊥
+-- 5. Endless sets.
+
+-- whether each slot, from an index on, is busy in the closed set of a schedule
+abbrev pub IsBusyBy : Bool → Image → List ℕ → ℕ → Type 0
+IsBusyBy true i t k = IsSteady i t k → ⊥
+IsBusyBy false i t k = IsSteady i t k
+
+abbrev pub AreBusyBy : Image → List ℕ → ℕ → List Bool → Type 0
+AreBusyBy i t k [] = Unit {0}
+AreBusyBy i t k (b ∷ busy) = IsBusyBy b i t k × AreBusyBy i t (k + 1) busy
+
+-- what was seen of a set in some schedules: that a slot is not the same in one of them, or that it is in all
+abbrev pub IsSeenBy : Bool → Image → List (List ℕ) → List ℕ → ℕ → Type 0
+IsSeenBy true i seen t k =
+    (u : List ℕ) × LeadsOn i t u × (slice_get (slots_at i u) k ≡ slice_get (slots_at i t) k → ⊥)
+IsSeenBy false i seen t k =
+    (u : List ℕ) → Contains seen u → LeadsOn i t u → slice_get (slots_at i u) k ≡ slice_get (slots_at i t) k
+
+abbrev pub AreSeenBy : Image → List (List ℕ) → List ℕ → ℕ → List Bool → Type 0
+AreSeenBy i seen t k [] = Unit {0}
+AreSeenBy i seen t k (b ∷ busy) = IsSeenBy b i seen t k × AreSeenBy i seen t (k + 1) busy
+
+-- what is noted of an endless set when some of its schedules were seen
+pub record IsSetSeen (i : Image) (list seen : List (List ℕ)) (t : List ℕ) (entry : ℕ × ℕ) : Type 0 where
+  pub at : slice_get list entry.0 ≡ Some t
+  pub slots : AreSeenBy i seen t 0 (flags (length (slots_at i t)) entry.1)
+
+-- the endless sets whose first schedules were seen
+pub record AreSetsSeen (i : Image) (list seen : List (List ℕ)) (entries : List (ℕ × ℕ)) : Type 0 where
+  pub firsts : List (List ℕ)
+  pub are : Selects (IsFirstEndless i) seen firsts
+  pub sets : AllZip (IsSetSeen i list seen) firsts entries
+
+-- whether slots of two lists are not the same
+abbrev pub IsApartBy : Bool → Slot → Slot → Type 0
+IsApartBy true a b = a ≡ b → ⊥
+IsApartBy false a b = a ≡ b
+
+abbrev pub AreApart : List Bool → List Slot → List Slot → Type 0
+AreApart [] [] [] = Unit {0}
+AreApart (f ∷ flags) (s ∷ slots) (o ∷ others) = IsApartBy f s o × AreApart flags slots others
+AreApart _ _ _ = ⊥
+
+-- a flag for each slot of two lists: whether the numbers of their differences from the image's slot are not the same
+abbrev pub apart_flags : List Slot → List Slot → List Slot → List Bool
+apart_flags (b ∷ base) (s ∷ slots) (o ∷ others) =
+    not (pointwise nat_eq (slot_form b s) (slot_form b o)) ∷ apart_flags base slots others
+apart_flags _ _ _ = []
+
+-- what is noted of an endless set: the index of its first schedule, and a mask of the slots that are busy
+pub record IsBusySet (i : Image) (list : List (List ℕ)) (t : List ℕ) (entry : ℕ × ℕ) : Type 0 where
+  pub at : slice_get list entry.0 ≡ Some t
+  pub slots : AreBusyBy i t 0 (flags (length (slots_at i t)) entry.1)
+
+-- the endless sets of a list, by their first schedules
+pub record AreBusySets (i : Image) (list : List (List ℕ)) (entries : List (ℕ × ℕ)) : Type 0 where
+  pub firsts : List (List ℕ)
+  pub are : Selects (IsFirstEndless i) list firsts
+  pub sets : AllZip (IsBusySet i list) firsts entries
+
+-- a search has noted all ends
+pub record HasEnds (i : Image) (s : Search) : Type 0 where
+  pub ends : List End
+  pub noted : AreNoted i s.found.list ends s.findings
+  pub are : AreEnds i s.found.list s.all ends

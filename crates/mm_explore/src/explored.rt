@@ -21,13 +21,33 @@ impl Model for FaultFound {
     ghost view = { λ f. record { slot = f.slot; cause = f.cause; by = f.by.items } };
 }
 
-/// An outcome: how many final schedules have it, whether they have no move, the number and the state of each slot, the
-/// output of each group, and the first schedule.
+/// How an outcome ends.
+#[derive(Clone, Copy)]
+pub enum Ending {
+    /// There is no move: no slot runs, and no load is pending.
+    Ended,
+    /// There are moves, and none of them changes anything.
+    Stuck,
+    /// Moves go on for ever among configurations that none of them leaves.
+    Endless,
+}
+
+/// How a slot stands in an outcome.
+#[derive(Clone, Copy)]
+pub enum Standing {
+    /// It changes, for ever.
+    Busy,
+    /// It stays as it is, in a state.
+    In(SlotState),
+}
+
+/// An outcome: how many final configurations or endless sets have it, its kind, each slot's number with how the slot
+/// stands, the output of each group, and the first schedule that leads to one of them.
 #[derive(Drop)]
 pub struct OutcomeFound {
     pub count: u64,
-    pub ended: bool,
-    pub states: Vec<(u8, SlotState)>,
+    pub ending: Ending,
+    pub slots: Vec<(u8, Standing)>,
     pub outputs: Vec<Output>,
     pub by: Vec<u8>,
 }
@@ -39,8 +59,8 @@ impl Model for OutcomeFound {
 
     ghost view = { λ o. record {
       count = o.count;
-      ended = o.ended;
-      states = o.states.items;
+      ending = o.ending;
+      slots = o.slots.items;
       outputs = o.outputs.items;
       by = o.by.items;
     } };

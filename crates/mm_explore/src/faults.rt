@@ -5,8 +5,7 @@ ghost use Rattle.std.specs.List.{flat_map};
 ghost use Rattle.std.specs.BTreeMap.{get};
 ghost use Rattle.mm_word.specs.Cause.{cause_numbers};
 ghost use Rattle.mm_explore.specs.Findings.{has_fault};
-ghost use Rattle.mm_explore.specs.Noting.{first_kept, fault_found};
-ghost use Rattle.mm_explore.specs.Results.{fault_found_lines};
+ghost use Rattle.mm_explore.specs.Noting.{first_kept, fault_kept};
 ghost use Rattle.mm_explore.specs.Words.{order};
 
 use crate::explored::FaultFound;
@@ -58,8 +57,8 @@ fn put_fault(
     found: &Found,
 ) -> Result<(), AllocError>
     requires { IfSome (get order faults.now (slot, cause)) (λ o. o.from < length found.now.list) }
-    ensures { OnOk result (flat_map fault_found_lines out.new.items ≡ flat_map fault_found_lines out.old.items
-        ++ fault_found found.now.list slot cause (get order faults.now (slot, cause))) }
+    ensures { OnOk result (out.new.items
+        ≡ out.old.items ++ fault_kept found.now.list slot cause (get order faults.now (slot, cause))) }
 {
     if let Some(origin) = faults.get(&(slot, cause)) {
         let by = found.schedule(alloc, origin.from as usize, Some(origin.item))?;
@@ -77,9 +76,8 @@ pub(crate) fn put_faults(
     found: &Found,
 ) -> Result<(), AllocError>
     requires { (cause : ℕ) → IfSome (get order faults.now (slot, cause)) (λ o. o.from < length found.now.list) }
-    ensures { OnOk result (flat_map fault_found_lines out.new.items ≡ flat_map fault_found_lines out.old.items
-        ++ flat_map (λ cause. fault_found found.now.list slot cause (get order faults.now (slot, cause)))
-        cause_numbers) }
+    ensures { OnOk result (out.new.items ≡ out.old.items
+        ++ flat_map (λ cause. fault_kept found.now.list slot cause (get order faults.now (slot, cause))) cause_numbers) }
 {
     for cause in 1..Cause::LAST_NUMBER + 1 {
         put_fault(alloc, out, faults, slot, cause, found)?;

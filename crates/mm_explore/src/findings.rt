@@ -6,22 +6,20 @@ ghost use Rattle.std.specs.BTreeMap.{get};
 ghost use Rattle.std.specs.List.{flat_map};
 ghost use Rattle.mm_word.specs.Cause.{cause_numbers};
 ghost use Rattle.mm_model.specs.Image.{Image as ImageValue, start};
-ghost use Rattle.mm_model.specs.Run.{run};
 ghost use Rattle.mm_model.specs.Report.{groups_of};
 ghost use Rattle.mm_model.specs.Spelling.{IsImage};
 ghost use Rattle.mm_model.specs.Trace.{group_in};
 ghost use Rattle.mm_explore.specs.Benches.{ArePartsAt};
-ghost use Rattle.mm_explore.specs.Configurations.{moves};
 ghost use Rattle.mm_explore.specs.Explored.{IsExplored, IsAll};
-ghost use Rattle.mm_explore.specs.Findings.{Extension, turn_at, explored_turns, are_none, IsFinal};
+ghost use Rattle.mm_explore.specs.Findings.{Extension, turn_at, explored_turns};
 ghost use Rattle.mm_explore.specs.FoundLists.{IsOrigin, Holds};
-ghost use Rattle.mm_explore.specs.Noting.{Noted, Ended, fault_found};
+ghost use Rattle.mm_explore.specs.Noting.{Noted, AreNoted, fault_kept, outcome_held};
+ghost use Rattle.mm_explore.specs.Outcomes.{End as EndValue, AreEnds};
 ghost use Rattle.mm_explore.specs.Finds.{Finds};
-ghost use Rattle.mm_explore.specs.Results.{fault_found_lines};
 ghost use Rattle.mm_explore.specs.Words.{order};
 
 use crate::bench::Made;
-use crate::ends::{Tally, count_end, outcome_key};
+use crate::ends::{End, Tally, count_end, outcome_key};
 use crate::explored::{Explored, FaultFound};
 use crate::faults::{note_fault, put_faults};
 use crate::found::{Found, Origin};
@@ -51,9 +49,8 @@ fn list_faults(
     found: &Found,
 ) -> Result<(), AllocError>
     requires { (key : ℕ × ℕ) → IfSome (get order faults.now key) (λ o. o.from < length found.now.list) }
-    ensures { OnOk result (flat_map fault_found_lines out.new.items ≡ flat_map fault_found_lines out.old.items
-        ++ flat_map (λ s. flat_map (λ cause. fault_found found.now.list s.number cause
-        (get order faults.now (s.number, cause))) cause_numbers) slots.now) }
+    ensures { OnOk result (out.new.items ≡ out.old.items ++ flat_map (λ s. flat_map (λ cause. fault_kept found.now.list
+        s.number cause (get order faults.now (s.number, cause))) cause_numbers) slots.now) }
 {
     for slot in slots {
         put_faults(alloc, out, faults, slot.number, found)?;
@@ -63,10 +60,10 @@ fn list_faults(
 
 impl Findings {
     /// Nothing yet.
-    #[tactic(auto, unfolding(crate::specs::Findings::firsts))]
+    #[tactic(auto, unfolding(crate::specs::Outcomes::firsts))]
     pub(crate) fn new(alloc: Global) -> Result<Findings, AllocError>
         ensures noted { IfOk result (λ f. (i : ImageValue) (list : List (List ℕ)) → Noted i list [] f) }
-        ensures ended { IfOk result (λ f. (i : ImageValue) (list : List (List ℕ)) → Ended i list [] f) }
+        ensures ends { IfOk result (λ f. (i : ImageValue) (list : List (List ℕ)) → AreNoted i list [] f) }
     {
         Ok(Findings {
             words: Words::new(alloc),
@@ -80,32 +77,30 @@ impl Findings {
         ensures noted { OnOk result ((i : ImageValue) (list : List (List ℕ)) (done : List Extension) (x : Extension)
             → Noted i list done self.old → IsOrigin list origin x → made.now.step ≡ (turn_at i x).step
             → made.now.group ≡ group_in (turn_at i x) → Noted i list (done ++ x ∷ []) self.new) }
-        ensures ended { OnOk result ((i : ImageValue) (list past : List (List ℕ))
-            → Ended i list past self.old → Ended i list past self.new) }
+        ensures ends { OnOk result ((i : ImageValue) (list : List (List ℕ)) (ends : List EndValue)
+            → AreNoted i list ends self.old → AreNoted i list ends self.new) }
     {
         self.words.note_step(made.group, &made.step)?;
         note_fault(&mut self.faults, &made.step, origin)
     }
 
-    /// Notes a final configuration, given its index, whether it has no move, and its parts.
+    /// Notes an end, given its parts.
     pub(crate) fn note_end(
         &mut self,
         alloc: Global,
-        at: u32,
-        ended: bool,
+        end: End,
         parts: &Parts,
     ) -> Result<(), AllocError>
-        requires room { (i : ImageValue) × (list : List (List ℕ)) × (past : List (List ℕ)) × Ended i list past self.old
-            × (length past < 2 ^ 32) }
+        requires room { (i : ImageValue) × (list : List (List ℕ)) × (ends : List EndValue) × AreNoted i list ends self.old
+            × (length ends < 2 ^ 32) }
         ensures noted { OnOk result ((i : ImageValue) (list : List (List ℕ)) (done : List Extension)
             → Noted i list done self.old → Noted i list done self.new) }
-        ensures ended { OnOk result ((i : ImageValue) (list past : List (List ℕ)) (t : List ℕ)
-            → IsImage i → Ended i list past self.old → slice_get list at ≡ Some t → IsFinal i t
-            → ended ≡ are_none (moves (run (start i) t)) → ArePartsAt i t parts.now
-            → Ended i list (past ++ t ∷ []) self.new) }
+        ensures ends { OnOk result ((i : ImageValue) (list : List (List ℕ)) (ends : List EndValue) (t : List ℕ)
+            → IsImage i → AreNoted i list ends self.old → slice_get list end.at ≡ Some t → ArePartsAt i t parts.now
+            → AreNoted i list (ends ++ record { schedule = t; outcome = outcome_held end parts.now } ∷ []) self.new) }
     {
-        let key = outcome_key(alloc, ended, parts)?;
-        count_end(&mut self.ends, key, at)
+        let key = outcome_key(alloc, end, parts)?;
+        count_end(&mut self.ends, key, end)
     }
 
     /// What was found in all. The groups are those that have a slot.
@@ -120,9 +115,10 @@ impl Findings {
         requires groups { groups.now ≡ groups_of (start img.now).core }
         requires held { Holds img.now found.now }
         requires noted { Noted img.now found.now.list (explored_turns img.now found.now.list) self.now }
-        requires ended { Ended img.now found.now.list found.now.list self.now }
-        ensures { IfOk result (λ e. (limit : ℕ) → IsExplored img.now limit found.now.list
+        requires ends { (ends : List EndValue) × AreNoted img.now found.now.list ends self.now }
+        ensures { IfOk result (λ e. (limit : ℕ) (ends : List EndValue) → IsExplored img.now limit found.now.list
             → (all ≡ true → IsAll img.now found.now.list) → (all ≡ false → IsAll img.now found.now.list → ⊥)
+            → AreNoted img.now found.now.list ends self.now → AreEnds img.now found.now.list all ends
             → Finds img.now limit e) }
     {
         let mut reached = Vec::new(alloc);

@@ -1,7 +1,7 @@
 //! The configurations that were found, in the order in which they were found.
 
-ghost use Rattle.std.specs.Prelude.{◌≡◌, ◌<◌, ◌≤◌, ◌^◌, ◌∷◌, ◌++◌, [], true, false, IfOk, OnOk, OnErr};
-ghost use Rattle.std.specs.Prelude.{Contains, length, map, slice_get};
+ghost use Rattle.std.specs.Prelude.{◌≡◌, ◌<◌, ◌≤◌, ◌^◌, ◌∷◌, ◌++◌, [], IfOk, IfSome, OnOk, OnErr};
+ghost use Rattle.std.specs.Prelude.{Contains, Some, None, length, map, slice_get};
 ghost use Rattle.mm_explore.specs.FoundLists.{Looks, schedule_with};
 
 use indexmap::IndexSet;
@@ -19,8 +19,8 @@ pub(crate) struct Origin {
 /// What looking a configuration up answers.
 #[derive(Clone, Copy, PartialEq, Eq)]
 pub(crate) enum Looked {
-    /// The configuration was found before.
-    Known,
+    /// The configuration was found before, at an index.
+    Known(u32),
     /// The configuration is new, and was added.
     New,
     /// The configuration is new, and there was no room.
@@ -53,12 +53,12 @@ impl Model for Found {
         × (f.limit ≤ 2 ^ 31) × AreEarlier 1 f.origins.items };
 }
 
-/// Whether these numbers are kept.
-fn has(kept: &IndexSet<Vec<u64>>, numbers: &[u64]) -> bool
-    ensures yes { result ≡ true → Contains (map (λ v. v.items) kept.now.keys) numbers.now }
-    ensures no { result ≡ false → Contains (map (λ v. v.items) kept.now.keys) numbers.now → ⊥ }
+/// The index at which these numbers are kept.
+fn index_of(kept: &IndexSet<Vec<u64>>, numbers: &[u64]) -> Option<usize>
+    ensures some { IfSome result (λ k. slice_get (map (λ v. v.items) kept.now.keys) k ≡ Some numbers.now) }
+    ensures none { result ≡ None → Contains (map (λ v. v.items) kept.now.keys) numbers.now → ⊥ }
 {
-    kept.contains(numbers)
+    kept.get_index_of(numbers)
 }
 
 /// Adds numbers that are not kept yet.
@@ -117,8 +117,8 @@ impl Found {
         requires { origin.from < length self.old.list }
         ensures { IfOk result (λ looked. Looks looked numbers.now origin self.old self.new) }
     {
-        if has(&self.kept, numbers) {
-            return Ok(Looked::Known);
+        if let Some(at) = index_of(&self.kept, numbers) {
+            return Ok(Looked::Known(at as u32));
         }
         if self.origins.len() + 1 == self.limit {
             return Ok(Looked::Full);

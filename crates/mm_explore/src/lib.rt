@@ -3,6 +3,7 @@
 
 mod bench;
 mod changed;
+mod endless;
 mod ends;
 mod explored;
 mod faults;
@@ -21,7 +22,7 @@ mod search;
 mod slot_form;
 mod text;
 
-pub use explored::{Explored, FaultFound, OutcomeFound};
+pub use explored::{Ending, Explored, FaultFound, OutcomeFound, Standing};
 pub use mm_span::Span;
 pub use reached::GroupFound;
 pub use search::explore;

@@ -1,6 +1,6 @@
 //! The search over all schedules, breadth first.
 
-ghost use Rattle.std.specs.Prelude.{◌≡◌, ℕ, ◌+◌, ◌<◌, ◌≤◌, ◌++◌, [], IfOk, OnOk, length};
+ghost use Rattle.std.specs.Prelude.{◌≡◌, ℕ, ◌+◌, ◌<◌, ◌≤◌, ◌++◌, ◌∷◌, [], IfOk, OnOk, length};
 ghost use Rattle.std.specs.Prelude.{filter, slice_index_or, List, true, false};
 ghost use Rattle.std.specs.List.{AllByRecursion, flat_map, range_with_len};
 ghost use Rattle.mm_model.specs.Groups.{has_group as has_group_of};
@@ -14,15 +14,17 @@ ghost use Rattle.mm_explore.specs.Findings.{explored_turns};
 ghost use Rattle.mm_explore.specs.Kept.{kept};
 ghost use Rattle.mm_explore.specs.MoveLists.{running_item, loaded_item, ports_in, moves_in};
 ghost use Rattle.mm_explore.specs.Finds.{Finds};
-ghost use Rattle.mm_explore.specs.Searching.{HasCome, IsBefore, IsNode, IsWithin, StaysBy, AllStay, node_schedule};
-ghost use Rattle.mm_explore.specs.Searching.{all_after as all_after_look, Met, KeptBy};
+ghost use Rattle.mm_explore.specs.Searching.{HasCome, IsBefore, IsNode, IsWithin, StaysBy, AllStay, node_schedule, Met};
+ghost use Rattle.mm_explore.specs.{Findings.are_none, Outcomes.ending_of};
 
 use crate::bench::{Bench, Made};
-use crate::explored::Explored;
+use crate::ends::End;
+use crate::explored::{Ending, Explored};
 use crate::findings::Findings;
 use crate::found::{Found, Looked, Origin};
 use crate::parts::{Parts, take_parts};
 use crate::slot_form::has_loads;
+use mm_endless::Graph;
 use mm_image::{Image, has_group};
 use mm_model::{Slot, SlotState};
 use mm_word::NoMemory;
@@ -125,14 +127,18 @@ struct Node {
 
 /// What a search has: the groups, the machine, what was found and met, and room for the numbers of a configuration.
 #[derive(Drop)]
-struct Search {
-    groups: Vec<u8>,
+pub(crate) struct Search {
+    pub(crate) groups: Vec<u8>,
     bench: Bench,
-    found: Found,
-    findings: Findings,
+    pub(crate) found: Found,
+    pub(crate) findings: Findings,
     numbers: Vec<u64>,
+    /// Where the moves of each configuration lead, as long as there was room for each configuration that was met.
+    pub(crate) graph: Graph,
+    /// Where those of the configuration lead whose moves are made.
+    children: Vec<u32>,
     /// Whether there was room for each configuration that was met.
-    all: bool,
+    pub(crate) all: bool,
 }
 
 /// Looks at every schedule of an image's machine, up to `states` configurations.
@@ -144,6 +150,7 @@ pub fn explore(alloc: Global, img: &Image, states: u32) -> Result<Explored, NoMe
     let bench = Bench::new(alloc, img)?;
     let mut search = Search::new(alloc, img, states, bench)?;
     search.run(alloc, img)?;
+    search.note_endless(alloc, img)?;
     Ok(
         search
             .findings
@@ -170,6 +177,8 @@ impl Search {
             found,
             findings: Findings::new(alloc)?,
             numbers,
+            graph: Graph::new(alloc),
+            children: Vec::new(alloc),
             all: true,
         })
     }
@@ -198,11 +207,30 @@ impl Search {
         ensures limit { OnOk result (self.new.found.limit ≡ self.old.found.limit) }
     {
         let node = self.node(alloc, img, at)?;
-        if !self.make_all(alloc, img, &node)? {
+        self.children.clear();
+        let stay = self.make_all(alloc, img, &node)?;
+        self.keep_children()?;
+        if !stay {
             return Ok(());
         }
-        self.findings
-            .note_end(alloc, at as u32, node.moves.is_empty(), &node.parts)
+        let end = End {
+            at: at as u32,
+            ending: final_ending(&node.moves),
+            busy: 0,
+        };
+        self.findings.note_end(alloc, end, &node.parts)
+    }
+
+    /// Keeps where the moves of a configuration lead, as long as there was room for each configuration that was met.
+    fn keep_children(&mut self) -> Result<(), AllocError>
+        ensures graph { OnOk result (self.old.all ≡ true
+            → self.new.graph ≡ self.old.graph ++ self.old.children.items ∷ []) }
+        ensures rest { self.new ≡ record self.old { graph = self.new.graph } }
+    {
+        if !self.all {
+            return Ok(());
+        }
+        self.graph.push(&self.children)
     }
 
     /// The configuration of an index.
@@ -257,45 +285,48 @@ impl Search {
         self.bench.put(alloc, img, &node.parts)?;
         let Made { step, group } = self.bench.turn(alloc, img, origin.item)?;
         self.findings.note(&Made { step, group }, origin)?;
-        self.meet(alloc, img, origin)
+        match self.meet(alloc, img, origin)? {
+            Some(child) => {
+                self.children.push(child)?;
+                Ok(child == origin.from)
+            }
+            None => {
+                self.all = false;
+                Ok(false)
+            }
+        }
     }
 
-    /// Looks up the configuration of the machine, to which a move led, and says whether it is that from which the move
-    /// was made.
-    fn meet(&mut self, alloc: Global, img: &Image, origin: Origin) -> Result<bool, AllocError>
+    /// The index of the configuration of the machine, to which a move led. If it is new it is added, if there is room.
+    fn meet(
+        &mut self,
+        alloc: Global,
+        img: &Image,
+        origin: Origin,
+    ) -> Result<Option<u32>, AllocError>
         requires groups { self.old.groups.items ≡ groups_of (start img.now).core }
         requires some { IsAtSomeConfiguration img.now self.old.bench }
         requires from { origin.from < length self.old.found.list }
-        ensures met { OnOk result ((t : List ℕ) → IsAtConfiguration img.now t self.old.bench
-            → Met (kept img.now (run (start img.now) t)) origin self.old self.new) }
-        ensures stays { IfOk result (λ stays. (t : List ℕ) → IsAtConfiguration img.now t self.old.bench
-            → KeptBy stays self.old.found.forms origin.from (kept img.now (run (start img.now) t))) }
+        ensures { IfOk result (λ child. (t : List ℕ) → IsAtConfiguration img.now t self.old.bench
+            → Met (kept img.now (run (start img.now) t)) origin child self.old self.new) }
     {
         self.numbers.clear();
         self.bench
             .put_numbers(alloc, img, &self.groups, &mut self.numbers)?;
-        let stays = is_same(&self.numbers, self.found.numbers(origin.from as usize));
-        let looked = self.found.look(alloc, &self.numbers, origin)?;
-        self.all = all_after(self.all, looked);
-        Ok(stays)
+        match self.found.look(alloc, &self.numbers, origin)? {
+            Looked::Known(at) => Ok(Some(at)),
+            Looked::New => Ok(Some(self.found.len() as u32 - 1)),
+            Looked::Full => Ok(None),
+        }
     }
 }
 
-/// Whether two lists of numbers are equal.
-fn is_same(a: &[u64], b: &[u64]) -> bool
-    ensures yes { result ≡ true → a.now ≡ b.now }
-    ensures no { result ≡ false → a.now ≡ b.now → ⊥ }
+/// How a final configuration ends that has these moves.
+fn final_ending(moves: &[u8]) -> Ending
+    ensures { result ≡ ending_of (are_none moves.now) }
 {
-    a == b
-}
-
-/// Whether there was room for all, given what the last look-up answered.
-fn all_after(all: bool, looked: Looked) -> bool
-    ensures { result ≡ all_after_look all looked }
-{
-    match looked {
-        Looked::Known => all,
-        Looked::New => all,
-        Looked::Full => false,
+    match moves {
+        [] => Ending::Ended,
+        [_, ..] => Ending::Stuck,
     }
 }

@@ -10,7 +10,7 @@ ghost use Rattle.mm_model.specs.declared.slot.Pending.{Pending as PendingValue};
 ghost use Rattle.mm_model.specs.Flags.{flags, number_of_flags};
 ghost use Rattle.mm_model.specs.Report.{same_bit};
 ghost use Rattle.mm_explore.specs.Configurations.{are_some};
-ghost use Rattle.mm_explore.specs.Findings.{state_number as state_number_of, same_state};
+ghost use Rattle.mm_explore.specs.Outcomes.{state_number as state_number_of, same_state};
 ghost use Rattle.mm_explore.specs.Kept.{is_base as is_base_of};
 ghost use Rattle.mm_explore.specs.Kept.{state_at as state_at_of, word_of as word_of_bits};
 ghost use Rattle.mm_explore.specs.Kept.{ip_of as ip_of_bits, word_form, word_from, changed_flags, changed_bits};

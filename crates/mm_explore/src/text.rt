@@ -6,14 +6,13 @@ ghost use Rattle.mm_io.specs.Sinks.{Writes};
 ghost use Rattle.mm_text.specs.Appends.{Appends};
 ghost use Rattle.mm_explore.specs.Repeats.{leading as leading_of};
 ghost use Rattle.mm_explore.specs.Results.{explored_text, group_found_lines, fault_found_lines, outcome_found_lines};
-ghost use Rattle.mm_explore.specs.Results.{state_found_line, output_text};
-ghost use Rattle.mm_explore.specs.Texts.{by_line, end_text, extent_text};
+ghost use Rattle.mm_explore.specs.Results.{slot_found_line, output_text, ending_text, standing_text, extent_text};
+ghost use Rattle.mm_explore.specs.Texts.{by_line};
 ghost use Rattle.mm_explore.specs.Texts.{repeats_of, repeat_text, count_text};
 
-use crate::explored::{Explored, FaultFound, OutcomeFound};
+use crate::explored::{Ending, Explored, FaultFound, OutcomeFound, Standing};
 use crate::reached::GroupFound;
 use mm_io::{Sink, WriteFault};
-use mm_model::SlotState;
 use mm_span::put_spans;
 use mm_text::Piece::{Decimal, HexAddress, Text};
 use mm_text::{TextBuffer, put_output, put_state};
@@ -25,8 +24,9 @@ use mm_thread::Output;
 /// - for each group that has a slot, ascending, `group G` and its words, `touched ADDRESS COUNT` for each run of words
 ///   that it touched and `wrote ADDRESS COUNT` for each that it wrote;
 /// - for each fault, `fault SLOT NUMBER` and the first schedule that meets it;
-/// - for each outcome, `outcome N ended` or `outcome N stuck` with the number of final schedules that have it, `slot S`
-///   and the state of each slot, the output of each group, and the first schedule.
+/// - for each outcome, `outcome N ended` or `outcome N stuck` with the number of final configurations that have it, or
+///   `outcome N endless` with the number of endless sets, `slot S` and how each slot stands, the output of each group, and
+///   the first schedule.
 ///
 /// A schedule is a line `by`, with each run of equal items as the item, and `*` and the count if there are more than
 /// one. After a [`WriteFault`] the sink has taken a prefix of the text.
@@ -110,41 +110,55 @@ fn put_outcomes<O: Sink>(text: &mut TextBuffer, out: &mut O, outcomes: &[Outcome
     }
 }
 
-/// Appends the lines of an outcome: how many schedules end so, the states, the outputs, and the first schedule.
+/// Appends the lines of an outcome: how many end so, how the slots stand, the outputs, and the first schedule.
 fn put_outcome<O: Sink>(text: &mut TextBuffer, out: &mut O, outcome: &OutcomeFound)
     ensures { Appends O.taken O.faults out.old out.new text.old text.new (outcome_found_lines outcome.now) }
 {
-    put_end(text, out, outcome.count, outcome.ended);
-    put_states(text, out, &outcome.states);
+    put_ending(text, out, outcome.count, outcome.ending);
+    put_slots(text, out, &outcome.slots);
     put_outputs(text, out, &outcome.outputs);
     put_by(text, out, &outcome.by);
 }
 
-/// Appends the first line of an outcome: `outcome N ended`, or `outcome N stuck` if there are moves left.
-fn put_end<O: Sink>(text: &mut TextBuffer, out: &mut O, count: u64, ended: bool)
+/// Appends the first line of an outcome: `outcome N`, and its kind.
+fn put_ending<O: Sink>(text: &mut TextBuffer, out: &mut O, count: u64, ending: Ending)
     ensures { Appends O.taken O.faults out.old out.new text.old text.new
-        (codes "outcome " ++ decimal count ++ end_text ended) }
+        (codes "outcome " ++ decimal count ++ ending_text ending) }
 {
-    let end = if ended { " ended\n" } else { " stuck\n" };
+    let end = match ending {
+        Ending::Ended => " ended\n",
+        Ending::Stuck => " stuck\n",
+        Ending::Endless => " endless\n",
+    };
     text.put_number(out, "outcome ", count, end);
 }
 
-/// Appends the lines of slots with their states.
-fn put_states<O: Sink>(text: &mut TextBuffer, out: &mut O, states: &[(u8, SlotState)])
-    ensures { Appends O.taken O.faults out.old out.new text.old text.new (flat_map state_found_line states.now) }
+/// Appends the lines of slots with how they stand.
+fn put_slots<O: Sink>(text: &mut TextBuffer, out: &mut O, slots: &[(u8, Standing)])
+    ensures { Appends O.taken O.faults out.old out.new text.old text.new (flat_map slot_found_line slots.now) }
 {
-    for (slot, state) in states {
-        put_state_line(text, out, *slot, *state);
+    for (slot, standing) in slots {
+        put_slot_line(text, out, *slot, *standing);
     }
 }
 
-/// Appends the line of a slot with its state: `slot S STATE`.
-fn put_state_line<O: Sink>(text: &mut TextBuffer, out: &mut O, slot: u8, state: SlotState)
-    ensures { Appends O.taken O.faults out.old out.new text.old text.new (state_found_line (slot, state)) }
+/// Appends the line of a slot: `slot S`, and how it stands.
+fn put_slot_line<O: Sink>(text: &mut TextBuffer, out: &mut O, slot: u8, standing: Standing)
+    ensures { Appends O.taken O.faults out.old out.new text.old text.new (slot_found_line (slot, standing)) }
 {
     text.put_number(out, "slot ", slot as u64, " ");
-    put_state(text, out, state);
+    put_standing(text, out, standing);
     text.put(out, &[Text("\n")]);
+}
+
+/// Appends how a slot stands: `busy`, or its state.
+fn put_standing<O: Sink>(text: &mut TextBuffer, out: &mut O, standing: Standing)
+    ensures { Appends O.taken O.faults out.old out.new text.old text.new (standing_text standing) }
+{
+    match standing {
+        Standing::Busy => text.put(out, &[Text("busy")]),
+        Standing::In(state) => put_state(text, out, state),
+    }
 }
 
 /// Appends the lines of the groups' outputs.

@@ -7,3 +7,5 @@ pub mod Passing
 pub mod Finding
 pub mod Exactly
 pub mod Rounds
+pub mod Reached
+pub mod Apart

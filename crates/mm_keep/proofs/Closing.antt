@@ -1,6 +1,6 @@
 -- When a round adds nothing, the tables are closed under the rules, and so they are exact.
-use Rattle.std.proofs.Common.{◌≡◌, ◌⊎◌, inl, inr, ℕ, ◌+◌, ◌<◌, ◌≤◌, Bool, true, false, List, [], ◌∷◌, ◌++◌, length}
-use Rattle.std.proofs.Common.{Option, Some, None, refl, sym, ap, ◌∙◌, subst, arith, length-append, eq-eqb}
+use Rattle.std.proofs.Common.{◌≡◌, inl, inr, ℕ, Bool, true, List, [], ◌∷◌, ◌++◌, length}
+use Rattle.std.proofs.Common.{Some, refl, sym, ap, ◌∙◌, subst, arith, length-append, eq-eqb}
 use Rattle.std.proofs.lemmas.{Bool.cases_Bool, List.append-nil}
 use Rattle.std.proofs.lemmas.List.Elements.{Contains-append_left, Contains-append_right}
 use Rattle.std.specs.{Prelude.{if◌then◌else◌, ◌==◌, Contains}, List.flat_map}
@@ -8,11 +8,11 @@ use Rattle.mm_word.specs.{Pointer.{Pointer, enter_result}, declared.word.Cell.Ce
 use Rattle.mm_isa.specs.declared.instr.How.{How}
 use Rattle.mm_model.specs.{Memory.cell_at, Slot.Slot, Image.Image, Turn.is_running}
 use Rattle.mm_kernel.specs.Segments.{Segment, is_kept, is_fixed, lies_in, live_pointers, running_slots}
-use Rattle.mm_kernel.specs.declared.fact.{Leak.TheVariants.{Across, Cell as InCell}, Handling.Handling}
+use Rattle.mm_kernel.specs.declared.fact.{Leak.TheVariants.{Across, Cell as InCell}}
 use Rattle.mm_kernel.specs.declared.{form.Form.Form, outcome.Outcome.Outcome, thread.{Handler.Handler, Thread.Thread}}
 use Rattle.mm_kernel.specs.declared.thread.Origin.{Origin, TheVariants.{Door, Slot as OfSlot}}
 use Rattle.mm_kernel.specs.{Forms.exactly, Threads.{form_in, with_form, handler_of, own_thread, thread_through}}
-use Rattle.mm_kernel.specs.Facts.{Fact, hand_out, take_up, Fact.{HasDoor, HasForm, HasFaulted, HasLeak}}
+use Rattle.mm_kernel.specs.Facts.{Fact, hand_out, take_up, Fact.{HasForm, HasFaulted, HasLeak}}
 use Rattle.mm_kernel.specs.Turns.{outcomes, with_event}
 use Rattle.mm_kernel.specs.Derived.{HasFirst, first_form, cell_facts, outcome_facts, reaches_across, resumed}
 use Rattle.mm_keep.specs.Claims.{Claim, Tables, Begins, Grows, Holds, HoldsFact, IsSound, sizes_of}

@@ -1,7 +1,7 @@
 -- What a loop over a list adds.
 use Rattle.std.proofs.Common.{◌≡◌, ◌⊎◌, inl, inr, ℕ, zero, suc, ◌+◌, ◌<◌, ◌≤◌, Bool, true, false, ◌||◌, List, [], ◌∷◌, ◌++◌, length, take}
-use Rattle.std.proofs.Common.{map, get_or, refl, sym, ap, ◌∙◌, subst, arith, append_assoc, length-append, eq-eqb, ne_eqb}
-use Rattle.std.proofs.lemmas.List.{append-nil, flat_map_more, map-id, take_all, take_more}
+use Rattle.std.proofs.Common.{get_or, refl, sym, ap, ◌∙◌, subst, arith, append_assoc, length-append, eq-eqb, ne_eqb}
+use Rattle.std.proofs.lemmas.List.{append-nil, map-id, take_all, take_more}
 use Rattle.std.proofs.lemmas.{List.FromFn.map-range_with_len_more, Option.{slice_get_within, get_or_from_slice_get}}
 use Rattle.std.proofs.lemmas.List.Elements.{Contains-append_left, Contains-push, Contains-push_cases}
 use Rattle.std.specs.Prelude.{if◌then◌else◌, ◌==◌, Contains, Some, slice_get}

@@ -1,5 +1,5 @@
 -- What a search puts in is derived.
-use Rattle.std.proofs.Common.{◌≡◌, ◌⊎◌, inl, inr, ℕ, Bool, true, false, List, [], ◌∷◌, ◌++◌, Option, Some, None, refl}
+use Rattle.std.proofs.Common.{◌≡◌, inl, inr, ℕ, Bool, true, false, List, [], ◌∷◌, ◌++◌, Option, Some, None, refl}
 use Rattle.std.proofs.Common.{sym, ap, ◌∙◌, subst, eqb-true}
 use Rattle.std.proofs.lemmas.List.Elements.{Contains-append_cases}
 use Rattle.std.specs.{Prelude.{if◌then◌else◌, ◌==◌, Contains}, List.flat_map}
@@ -7,7 +7,7 @@ use Rattle.mm_word.specs.{Pointer.{Pointer as PointerValue, enter_result}, decla
 use Rattle.mm_isa.specs.declared.instr.How.{How}
 use Rattle.mm_model.specs.{Memory.cell_at, Slot.Slot, Image.Image, Turn.is_running}
 use Rattle.mm_kernel.specs.Segments.{Segment, is_kept, is_fixed, lies_in, live_pointers, running_slots}
-use Rattle.mm_kernel.specs.declared.fact.{Leak.TheVariants.{Across, Cell as InCell}, Handling.Handling}
+use Rattle.mm_kernel.specs.declared.fact.{Leak.TheVariants.{Across, Cell as InCell}}
 use Rattle.mm_kernel.specs.declared.{form.Form.Form, outcome.Outcome.Outcome, thread.{Handler.Handler, Thread.Thread}}
 use Rattle.mm_kernel.specs.declared.thread.Origin.{Origin, TheVariants.{Door, Slot as OfSlot}}
 use Rattle.mm_kernel.specs.{Forms.exactly, Threads.{form_in, with_form, handler_of, own_thread, thread_through}}
@@ -23,7 +23,7 @@ use Rattle.mm_keep.specs.Searching.{across_facts, first_in, first_at, handed_in,
 use Rattle.mm_keep.specs.Searching.{words_below, slot_facts, handler_in}
 use Rattle.mm_keep.specs.Searching.{handlers_in, begin_facts, firsts_in, loaded_facts, stored_facts, ResumesBy, WritesBy}
 use Rattle.mm_keep.specs.Searching.{FollowsAtOnce, SomeAtOnce, comes_from, taken_facts, read_facts, follows_from}
-use Rattle.mm_keep.specs.Searching.{entered_facts, enter_facts, resumed_facts, written_facts, goes_on_facts}
+use Rattle.mm_keep.specs.Searching.{entered_facts, enter_facts, resumed_facts, written_facts}
 use Rattle.mm_keep.proofs.Members.{none_in, in_first, in_cases, in_filter, flat_in}
 use Rattle.mm_kernel.specs.declared.outcome.Outcome.TheVariants as outcome
 

@@ -1,10 +1,10 @@
 -- The words of pages.
-use Rattle.std.proofs.Common.{◌≡◌, ◌⊎◌, inl, inr, ℕ, zero, suc, ◌+◌, ◌*◌, ◌/◌, ◌%◌, ◌<◌, Bool, true, false, List, []}
+use Rattle.std.proofs.Common.{◌≡◌, inl, inr, ℕ, zero, suc, ◌+◌, ◌*◌, ◌<◌, Bool, true, false, List, []}
 use Rattle.std.proofs.Common.{◌∷◌, ◌++◌, if◌then◌else◌, Some, None, refl, sym, ap, ◌∙◌, subst, arith, add-one, eqb-true, append_assoc}
 use Rattle.std.proofs.lemmas.{Bool.cases_lt, List.{append-nil, Elements.{Contains-append_left, Contains-append_right}}}
 use Rattle.std.specs.{Prelude.Contains, List.flat_map, Ordering.{nat_cmp, eq_by_cmp}, Cmp.unsigned_tied, FinMap.find}
 use Rattle.mm_word.specs.declared.word.Cell.{Cell}
-use Rattle.mm_model.specs.{Memory.{Memory, cell_at, page_at, page_of, place_of}, Image.Image}
+use Rattle.mm_model.specs.{Memory.{Memory, cell_at, page_of, place_of}, Image.Image}
 use Rattle.mm_model.proofs.Memories.{aligned, page_of_cell}
 use Rattle.mm_kernel.specs.{Segments.{Segment, is_kept, is_fixed}, Facts.{Fact, hand_out}, Forms.exactly, Derived.first_form}
 use Rattle.mm_kernel.specs.declared.{form.Form.Form, fact.Leak.TheVariants.{Cell as InCell}}

@@ -3,7 +3,7 @@ use Rattle.std.proofs.Common.{◌≡◌, ◌⊎◌, inl, inr, ℕ, zero, suc, �
 use Rattle.std.proofs.Common.{false, ◌&&◌, ◌||◌, List, [], ◌∷◌, length, take, get_or, refl, sym, ap, ◌∙◌, subst, arith}
 use Rattle.std.proofs.Common.{pow_pos, eq-eqb, eqb-true, Result, Ok, Err}
 use Rattle.std.proofs.Math.Nat.{div-mul-le_self, lt-div-mul-add, div-eq_of_lt-le}
-use Rattle.std.proofs.lemmas.{Bool.{both_ways}, List.Folds.list_any_more}
+use Rattle.std.proofs.lemmas.{Bool.{both_ways}, List.{take_all, Folds.list_any_more}}
 use Rattle.std.proofs.lemmas.Nat.{pow-add, shl-shr, shr_split}
 use Rattle.std.specs.{Prelude.{OnOk}, List.list_any}
 use Rattle.mm_word.specs.{Perm.can_store, Pointer.{Pointer, InSegment, IsWellFormed, base_of, in_segment, holds_word}}
@@ -168,3 +168,7 @@ more_written ps k p old new lt is before step = record { covers = λ w even. (to
 
 pub none_written : CoversWritten [] []
 none_written = record { covers = λ w even. (λ e. cc, λ c. absurd (let lt = c.at.0 in omega (arith, lt))) }
+
+-- all pointers
+pub all_written : (ps : List Pointer) (k : ℕ) (set : List (ℕ × ℕ)) → length ps ≤ k → CoversWritten (take k ps) set → CoversWritten ps set
+all_written ps k set le h = subst (λ l. CoversWritten l set) (take_all k ps le) h

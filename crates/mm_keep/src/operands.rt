@@ -1,13 +1,13 @@
 //! The operands of instructions, and their faults.
-#![tactic(auto, unfolding(mm_kernel::specs::Turns::fault))]
 
 ghost use Rattle.std.specs.Int.{w64, cast_unsigned};
-ghost use Rattle.std.specs.Prelude.{◌≡◌};
+ghost use Rattle.std.specs.Prelude.{◌≡◌, ◌∷◌, []};
 ghost use Rattle.mm_kernel.specs.Threads.{form_in};
 ghost use Rattle.mm_kernel.specs.Turns.{fault};
 ghost use Rattle.mm_kernel.specs.declared.form.Form.TheVariants.{Number};
 ghost use Rattle.mm_kernel.specs.declared.outcome.Outcome.TheVariants.{Faults};
 
+use crate::outcome_list::Outcomes;
 use crate::thread::form_at;
 use mm_isa::{Instr, Reg};
 use mm_kernel::{Form, Outcome, Thread};
@@ -59,6 +59,7 @@ fn fault_of(bits: u64) -> Outcome
 }
 
 /// The turn faults at its instruction.
+#[tactic(auto, unfolding(mm_kernel::specs::Turns::fault))]
 pub fn fault(t: &Thread, instr: &Instr) -> Outcome
     ensures { result ≡ fault t.now instr.now }
 {
@@ -112,12 +113,12 @@ pub fn fault(t: &Thread, instr: &Instr) -> Outcome
     }
 }
 
-/// The turn faults before it has an instruction.
-pub fn early_fault() -> Outcome
-    ensures { result ≡ Faults (Number 0) (Number 0) }
+/// The turn faults before it has an instruction: the only outcome.
+pub fn early_fault() -> Outcomes
+    ensures { result ≡ Faults (Number 0) (Number 0) ∷ [] }
 {
-    Outcome::Faults {
+    Outcomes::one(Outcome::Faults {
         address: ZERO,
         value: ZERO,
-    }
+    })
 }

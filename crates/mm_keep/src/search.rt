@@ -82,8 +82,13 @@ impl Search {
             looked: 0,
             readers: Vec::new(alloc),
         };
-        search.begin(alloc, kernel)?;
-        Ok(search)
+        match search.begin(alloc, kernel) {
+            Ok(()) => Ok(search),
+            Err(error) => {
+                drop(search);
+                Err(error)
+            }
+        }
     }
 
     /// Takes up what the image begins with.
@@ -206,11 +211,20 @@ impl Search {
         ensures all { IfOk result (λ found. IfSome found (IsExact kernel.now.image kernel.now.kept)) }
         ensures few { IfOk result (λ found. IfSome found (λ tables. length tables.threads ≤ self.limit)) }
     {
-        let few = self.run(kernel)?;
-        if !few {
-            return Ok(None);
+        match self.run(kernel) {
+            Ok(few) => {
+                if few {
+                    Ok(Some(self.into_tables()))
+                } else {
+                    drop(self);
+                    Ok(None)
+                }
+            }
+            Err(error) => {
+                drop(self);
+                Err(error)
+            }
         }
-        Ok(Some(self.into_tables()))
     }
 }
 

@@ -375,4 +375,9 @@ impl Tables {
             self.writes.len(),
         ]
     }
+
+    /// Frees the tables.
+    pub fn free(self) {
+        drop(self);
+    }
 }

@@ -1,23 +1,20 @@
 //! What a turn of a thread can come to, instruction by instruction.
-#![tactic(auto, unfolding(mm_kernel::specs::Turns::fault, mm_kernel::specs::Turns::sets, mm_kernel::specs::Turns::moves, mm_kernel::specs::Turns::restricts, mm_kernel::specs::Turns::loads, mm_kernel::specs::Turns::stores, mm_kernel::specs::Turns::branches, mm_kernel::specs::Turns::jumps, mm_kernel::specs::Turns::tests_tag))]
 
 ghost use Rattle.std.specs.List.{filter};
 ghost use Rattle.std.specs.Prelude.{◌≡◌, ◌≤◌, ◌%◌, ◌+◌, ◌&&◌, ◌∷◌, ◌++◌, [], length, map, pos, true};
 ghost use Rattle.mm_word.specs.Access.{check_result};
 ghost use Rattle.mm_word.specs.Perm.{allows, can_become};
 ghost use Rattle.mm_word.specs.Pointer.{next_result};
-ghost use Rattle.mm_word.specs.declared.perm.Kind.TheVariants.{Fetch, Store};
+ghost use Rattle.mm_word.specs.declared.perm.Kind.TheVariants.{Fetch};
 ghost use Rattle.mm_word.specs.declared.word.Word.TheVariants.{Ptr};
-ghost use Rattle.mm_model.specs.Ask.{load_kind};
 ghost use Rattle.mm_model.specs.Memory.{cell_at};
 ghost use Rattle.mm_model.specs.Turn.{instr_in};
 ghost use Rattle.mm_kernel.specs.Operations.{choices, may_name, with_permission};
 ghost use Rattle.mm_kernel.specs.Threads.{form_in, going_to, stepped, with_form};
 ghost use Rattle.mm_kernel.specs.Turns.{at_distance, branched, branches, branches_if, computes, fault, fetched};
-ghost use Rattle.mm_kernel.specs.Turns.{jumped, jumps, links, loaded_at, loads, moved, moved_somewhere, moves};
+ghost use Rattle.mm_kernel.specs.Turns.{jumped, jumps, links, moved, moved_somewhere, moves};
 ghost use Rattle.mm_kernel.specs.Turns.{outcomes, outcomes_of, restricted, restricts, restricts_as, seen_as, sets};
-ghost use Rattle.mm_kernel.specs.Turns.{stored_at, stores, stores_outside, tests_tag, word_loaded, word_stored};
-ghost use Rattle.mm_kernel.specs.Turns.{pointer_moved, loaded_by, stored_by, with_event, aimed, decoded};
+ghost use Rattle.mm_kernel.specs.Turns.{aimed, decoded, pointer_moved, tests_tag, with_event};
 ghost use Rattle.mm_kernel.specs.declared.fact.Leak.TheVariants.{Give};
 ghost use Rattle.mm_kernel.specs.declared.form.Form.TheVariants.{Any};
 ghost use Rattle.mm_kernel.specs.declared.outcome.Outcome.TheVariants.{Goes, HandsOut, TakesEvent};
@@ -26,34 +23,25 @@ ghost use Rattle.mm_keep.specs.Movings.{moved_by};
 
 use crate::integers::{alu_form, divides, equal, high};
 use crate::kernel::Kernel;
+use crate::memory::{load_kind, loads, stores};
 use crate::operands::{bits_of, early_fault, fault, form};
 use crate::outcome_list::Outcomes;
-use crate::segments::{around, is_kept};
+use crate::plain::{faults, or_fault, or_puts, puts, sets};
+use crate::segments::around;
 use crate::thread::{going_to, stepped, with_event, with_form};
 use mm_isa::{AluOp, Instr, Reg, decode};
 use mm_kernel::{Form, Leak, Outcome, Thread};
-use mm_word::{
-    Cause, Cell, GuardedPtr, Kind, Perm, Post, Pre, Word, check, enter, lea, leab, next, subseg,
-};
+use mm_word::{Cause, GuardedPtr, Kind, Perm, Word, check, enter, lea, leab, next, subseg};
 
-// 1. What most instructions come to.
-
-/// A register gets a form, and the thread goes on.
-fn sets(t: &Thread, rd: Reg, form: Form) -> Outcome
-    ensures { result ≡ sets t.now rd form }
-{
-    Outcome::Goes(with_form(&stepped(t), rd.number(), form))
-}
-
-// 2. Pointers.
+// 1. Pointers.
 
 /// What a pointer that is moved or narrowed can come to: itself in a register, or a fault.
 fn moved(t: &Thread, instr: &Instr, rd: Reg, to: Result<GuardedPtr, Cause>) -> Outcomes
     ensures { result ≡ moved t.now instr.now rd to }
 {
     match to {
-        Ok(p) => Outcomes::one(sets(t, rd, Form::Pointer(p))),
-        Err(_) => Outcomes::one(fault(t, instr)),
+        Ok(p) => puts(t, rd, Form::Pointer(p)),
+        Err(_) => faults(t, instr),
     }
 }
 
@@ -62,9 +50,9 @@ fn moved_somewhere(t: &Thread, instr: &Instr, rd: Reg, perm: Perm, form: Form) -
     ensures { result ≡ moved_somewhere t.now instr.now rd perm form }
 {
     if perm.may_move() {
-        Outcomes::two(fault(t, instr), sets(t, rd, form))
+        or_puts(t, instr, rd, form)
     } else {
-        Outcomes::one(fault(t, instr))
+        faults(t, instr)
     }
 }
 
@@ -112,6 +100,7 @@ fn pointer_moved(
 }
 
 /// A form is moved or narrowed by the bits of another.
+#[tactic(auto, unfolding(mm_kernel::specs::Turns::moves))]
 fn moves(
     kernel: &Kernel,
     t: &Thread,
@@ -124,16 +113,15 @@ fn moves(
     ensures { result ≡ moves kernel.now.kept t.now instr.now rd form bits (moved_by moving) }
 {
     match form {
-        Form::Number(_) => Outcomes::one(fault(t, instr)),
+        Form::Number(_) | Form::Integer => faults(t, instr),
         Form::Pointer(p) => pointer_moved(kernel, t, instr, rd, p, bits, moving),
-        Form::Integer => Outcomes::one(fault(t, instr)),
         Form::Open(perm) => moved_somewhere(t, instr, rd, perm, Form::Open(perm)),
-        Form::Any => Outcomes::two(fault(t, instr), sets(t, rd, Form::Any)),
+        Form::Any => or_puts(t, instr, rd, Form::Any),
         Form::Inside(p) => moved_somewhere(t, instr, rd, p.perm(), Form::Inside(p)),
     }
 }
 
-// 3. Permissions.
+// 2. Permissions.
 
 const PERMISSIONS: [Perm; 7] = [
     Perm::Ro,
@@ -188,256 +176,32 @@ fn restricted(t: &Thread, instr: &Instr, rd: Reg, a: &Form, b: &Form, from: Perm
     let bits = b.exact_bits();
     let mut out = Outcomes::none();
     put_restricted(&mut out, t, rd, a, from, bits, &PERMISSIONS);
-    if bits.is_none() || out.is_empty() {
+    if bits.is_none() {
         out.push(fault(t, instr));
+        return out;
+    }
+    if out.is_empty() {
+        out.push(fault(t, instr));
+        return out;
     }
     out
 }
 
 /// A form gets other permissions.
+#[tactic(auto, unfolding(mm_kernel::specs::Turns::restricts))]
 fn restricts(t: &Thread, instr: &Instr, rd: Reg, a: &Form, b: &Form) -> Outcomes
     ensures { result ≡ restricts t.now instr.now rd a.now b.now }
 {
     match *a {
-        Form::Number(_) => Outcomes::one(fault(t, instr)),
+        Form::Number(_) | Form::Integer => faults(t, instr),
         Form::Pointer(p) => restricted(t, instr, rd, a, b, p.perm()),
-        Form::Integer => Outcomes::one(fault(t, instr)),
         Form::Open(perm) => restricted(t, instr, rd, a, b, perm),
-        Form::Any => Outcomes::two(fault(t, instr), sets(t, rd, Form::Any)),
+        Form::Any => or_puts(t, instr, rd, Form::Any),
         Form::Inside(p) => restricted(t, instr, rd, a, b, p.perm()),
     }
 }
 
-// 4. Memory.
-
-/// The kind of a load: with another post than keep it sets the synchronisation bit.
-fn load_kind(post: Post) -> Kind
-    ensures { result ≡ load_kind post }
-{
-    match post {
-        Post::Keep => Kind::Load,
-        Post::Full => Kind::LoadSet,
-        Post::Empty => Kind::LoadSet,
-    }
-}
-
-/// The thread goes on with what a word may hold, in a register.
-fn word_loaded(kernel: &Kernel, t: &Thread, rd: Reg, word: u64, cell: Cell) -> Outcome
-    requires { word % 8 ≡ 0 }
-    ensures { result ≡ word_loaded kernel.now.image kernel.now.kept t.now rd word cell }
-{
-    if is_kept(kernel.kept(), word) {
-        Outcome::Loads {
-            part: (word, 3),
-            reg: rd.number(),
-            next: stepped(t),
-        }
-    } else if kernel.is_fixed(word) {
-        sets(t, rd, Form::of(cell.word))
-    } else {
-        sets(t, rd, Form::Any)
-    }
-}
-
-/// What a load from a word can come to.
-fn loaded_at(kernel: &Kernel, t: &Thread, instr: &Instr, rd: Reg, pre: Pre, word: u64) -> Outcomes
-    requires { word % 8 ≡ 0 }
-    ensures { result ≡ loaded_at kernel.now.image kernel.now.kept t.now instr.now rd pre word
-        (cell_at kernel.now.image.memory word) }
-{
-    match kernel.image().cell(word) {
-        None => Outcomes::one(fault(t, instr)),
-        Some(cell) => {
-            let loaded = word_loaded(kernel, t, rd, word, cell);
-            match pre {
-                Pre::Any => Outcomes::one(loaded),
-                _ => Outcomes::two(loaded, fault(t, instr)),
-            }
-        }
-    }
-}
-
-/// What a load through a known pointer can come to.
-fn loaded_by(
-    kernel: &Kernel,
-    t: &Thread,
-    instr: &Instr,
-    rd: Reg,
-    pre: Pre,
-    through: GuardedPtr,
-    imm: i32,
-    kind: Kind,
-) -> Outcomes
-    ensures { result ≡ loaded_by kernel.now.image kernel.now.kept t.now instr.now rd pre
-        (check_result (Ptr through) imm kind) }
-{
-    match check(Word::Ptr(through), i64::from(imm), kind) {
-        Err(_) => Outcomes::one(fault(t, instr)),
-        Ok(access) => loaded_at(kernel, t, instr, rd, pre, access.addr()),
-    }
-}
-
-/// What a load through an open pointer can come to: what is not kept may hold any open word.
-fn loads_open(t: &Thread, instr: &Instr, rd: Reg) -> Outcomes
-    ensures { result ≡ fault t.now instr.now ∷ sets t.now rd Any ∷ [] }
-{
-    Outcomes::two(fault(t, instr), sets(t, rd, Form::Any))
-}
-
-/// A load, through a form.
-fn loads(
-    kernel: &Kernel,
-    t: &Thread,
-    instr: &Instr,
-    rd: Reg,
-    form: Form,
-    imm: i32,
-    pre: Pre,
-    kind: Kind,
-) -> Outcomes
-    ensures { result ≡ loads kernel.now.image kernel.now.kept t.now instr.now rd form imm pre kind }
-{
-    match form {
-        Form::Number(_) => Outcomes::one(fault(t, instr)),
-        Form::Pointer(p) => loaded_by(kernel, t, instr, rd, pre, p, imm, kind),
-        Form::Integer => Outcomes::one(fault(t, instr)),
-        Form::Open(perm) => {
-            if perm.permits(kind) {
-                loads_open(t, instr, rd)
-            } else {
-                Outcomes::one(fault(t, instr))
-            }
-        }
-        Form::Any => loads_open(t, instr, rd),
-        Form::Inside(p) => {
-            if p.perm().permits(kind) {
-                let loaded = Outcome::Loads {
-                    part: (p.addr(), p.log()),
-                    reg: rd.number(),
-                    next: stepped(t),
-                };
-                Outcomes::two(fault(t, instr), loaded)
-            } else {
-                Outcomes::one(fault(t, instr))
-            }
-        }
-    }
-}
-
-/// A store outside of the kept words hands its word out.
-fn stores_outside(t: &Thread, rb: Reg) -> Outcome
-    ensures { result ≡ stores_outside t.now rb }
-{
-    let leak = Leak::Store {
-        at: t.ip.addr(),
-        reg: rb.number(),
-        form: form(t, rb),
-    };
-    Outcome::HandsOut {
-        form: form(t, rb),
-        leak,
-    }
-}
-
-/// A kept word gets what is stored; another word hands it out.
-fn word_stored(kernel: &Kernel, t: &Thread, rb: Reg, word: u64) -> Outcome
-    ensures { result ≡ word_stored kernel.now.kept t.now rb word }
-{
-    if is_kept(kernel.kept(), word) {
-        Outcome::Stores {
-            part: (word, 3),
-            form: form(t, rb).stored(),
-        }
-    } else {
-        stores_outside(t, rb)
-    }
-}
-
-/// What a store to a word can come to.
-fn stored_at(kernel: &Kernel, t: &Thread, instr: &Instr, rb: Reg, pre: Pre, word: u64) -> Outcomes
-    requires { word % 8 ≡ 0 }
-    ensures { result ≡ stored_at kernel.now.kept t.now instr.now rb pre word
-        (cell_at kernel.now.image.memory word) }
-{
-    match kernel.image().cell(word) {
-        None => Outcomes::one(fault(t, instr)),
-        Some(_) => {
-            let stored = word_stored(kernel, t, rb, word);
-            let on = Outcome::Goes(stepped(t));
-            match pre {
-                Pre::Any => Outcomes::two(stored, on),
-                _ => Outcomes::three(stored, on, fault(t, instr)),
-            }
-        }
-    }
-}
-
-/// What a store through a known pointer can come to.
-fn stored_by(
-    kernel: &Kernel,
-    t: &Thread,
-    instr: &Instr,
-    rb: Reg,
-    pre: Pre,
-    through: GuardedPtr,
-    imm: i32,
-) -> Outcomes
-    ensures { result ≡ stored_by kernel.now.image kernel.now.kept t.now instr.now rb pre
-        (check_result (Ptr through) imm Store) }
-{
-    match check(Word::Ptr(through), i64::from(imm), Kind::Store) {
-        Err(_) => Outcomes::one(fault(t, instr)),
-        Ok(access) => stored_at(kernel, t, instr, rb, pre, access.addr()),
-    }
-}
-
-/// A store, through a form.
-fn stores(
-    kernel: &Kernel,
-    t: &Thread,
-    instr: &Instr,
-    through: Form,
-    rb: Reg,
-    imm: i32,
-    pre: Pre,
-) -> Outcomes
-    ensures { result ≡ stores kernel.now.image kernel.now.kept t.now instr.now through rb imm pre }
-{
-    match through {
-        Form::Number(_) => Outcomes::one(fault(t, instr)),
-        Form::Pointer(p) => stored_by(kernel, t, instr, rb, pre, p, imm),
-        Form::Integer => Outcomes::one(fault(t, instr)),
-        Form::Open(perm) => {
-            if perm.permits(Kind::Store) {
-                Outcomes::three(
-                    fault(t, instr),
-                    stores_outside(t, rb),
-                    Outcome::Goes(stepped(t)),
-                )
-            } else {
-                Outcomes::one(fault(t, instr))
-            }
-        }
-        Form::Any => Outcomes::three(
-            fault(t, instr),
-            stores_outside(t, rb),
-            Outcome::Goes(stepped(t)),
-        ),
-        Form::Inside(p) => {
-            if p.perm().permits(Kind::Store) {
-                let stored = Outcome::Stores {
-                    part: (p.addr(), p.log()),
-                    form: form(t, rb).stored(),
-                };
-                Outcomes::three(fault(t, instr), stored, Outcome::Goes(stepped(t)))
-            } else {
-                Outcomes::one(fault(t, instr))
-            }
-        }
-    }
-}
-
-// 5. Jumps.
+// 3. Jumps.
 
 /// The pointer at a distance in words from the instruction.
 fn at_distance(t: &Thread, imm: i32) -> Result<GuardedPtr, Cause>
@@ -448,6 +212,7 @@ fn at_distance(t: &Thread, imm: i32) -> Result<GuardedPtr, Cause>
 }
 
 /// The thread goes on at a distance in words.
+#[tactic(auto, unfolding(mm_kernel::specs::Turns::branches))]
 fn branches(t: &Thread, instr: &Instr, imm: i32) -> Outcome
     requires { allows t.now.ip.perm Fetch ≡ true }
     ensures { result ≡ branches t.now instr.now imm }
@@ -480,27 +245,27 @@ fn jumped(t: &Thread, linked: &Thread, instr: &Instr, to: Option<GuardedPtr>) ->
     ensures { result ≡ jumped t.now linked.now instr.now to }
 {
     match to {
-        None => Outcomes::one(fault(t, instr)),
+        None => faults(t, instr),
         Some(ip) => Outcomes::one(Outcome::Goes(going_to(linked, ip))),
     }
 }
 
 /// A jump through a form; the thread goes on, or leaves, with its link.
+#[tactic(auto, unfolding(mm_kernel::specs::Turns::jumps))]
 fn jumps(t: &Thread, linked: &Thread, instr: &Instr, ra: Reg, form: Form) -> Outcomes
     ensures { result ≡ jumps t.now linked.now instr.now ra form }
 {
     match form {
-        Form::Number(_) => Outcomes::one(fault(t, instr)),
+        Form::Number(_) | Form::Integer => faults(t, instr),
         Form::Pointer(p) => jumped(t, linked, instr, enter(p)),
-        Form::Integer => Outcomes::one(fault(t, instr)),
         Form::Open(perm) => {
             if perm.entered().is_some() {
                 Outcomes::one(Outcome::Leaves(*linked))
             } else {
-                Outcomes::one(fault(t, instr))
+                faults(t, instr)
             }
         }
-        Form::Any => Outcomes::two(fault(t, instr), Outcome::Leaves(*linked)),
+        Form::Any => or_fault(t, instr, Outcome::Leaves(*linked)),
         Form::Inside(p) => {
             if p.perm().entered().is_some() {
                 Outcomes::one(Outcome::Leaks(Leak::Enter {
@@ -509,7 +274,7 @@ fn jumps(t: &Thread, linked: &Thread, instr: &Instr, ra: Reg, form: Form) -> Out
                     form: Form::Inside(p),
                 }))
             } else {
-                Outcomes::one(fault(t, instr))
+                faults(t, instr)
             }
         }
     }
@@ -520,7 +285,7 @@ fn links(t: &Thread, instr: &Instr, rd: Reg, ra: Reg) -> Outcomes
     ensures { result ≡ links t.now instr.now rd ra (next_result t.now.ip) }
 {
     match next(t.ip) {
-        None => Outcomes::one(fault(t, instr)),
+        None => faults(t, instr),
         Some(back) => {
             let linked = with_form(t, rd.number(), Form::Pointer(back));
             jumps(t, &linked, instr, ra, form(t, ra))
@@ -528,7 +293,7 @@ fn links(t: &Thread, instr: &Instr, rd: Reg, ra: Reg) -> Outcomes
     }
 }
 
-// 6. Tags and divisions.
+// 4. Tags and divisions.
 
 /// The thread goes on knowing a form and its tag.
 fn seen_as(t: &Thread, rd: Reg, ra: Reg, form: Form, tag: u64) -> Outcome
@@ -539,12 +304,12 @@ fn seen_as(t: &Thread, rd: Reg, ra: Reg, form: Form, tag: u64) -> Outcome
 }
 
 /// The tag of a form that is not known is looked at: each kind of pointer goes on by itself.
+#[tactic(auto, unfolding(mm_kernel::specs::Turns::tests_tag))]
 fn tests_tag(t: &Thread, rd: Reg, ra: Reg, form: Form) -> Outcomes
     ensures { result ≡ tests_tag t.now rd ra form }
 {
     match form {
-        Form::Number(_) => Outcomes::one(sets(t, rd, Form::Number(0))),
-        Form::Integer => Outcomes::one(sets(t, rd, Form::Number(0))),
+        Form::Number(_) | Form::Integer => puts(t, rd, Form::Number(0)),
         Form::Any => {
             let mut out = Outcomes::one(seen_as(t, rd, ra, Form::Integer, 0));
             out.push(seen_as(t, rd, ra, Form::Open(Perm::Ro), 1));
@@ -554,7 +319,7 @@ fn tests_tag(t: &Thread, rd: Reg, ra: Reg, form: Form) -> Outcomes
             out.push(seen_as(t, rd, ra, Form::Open(Perm::Key), 1));
             out
         }
-        _ => Outcomes::one(sets(t, rd, Form::Number(1))),
+        _ => puts(t, rd, Form::Number(1)),
     }
 }
 
@@ -570,21 +335,21 @@ fn computes(
     ensures { result ≡ computes t.now instr.now divides rd form divisor }
 {
     if !divides {
-        return Outcomes::one(sets(t, rd, form));
+        return puts(t, rd, form);
     }
     match divisor {
-        None => Outcomes::two(fault(t, instr), sets(t, rd, form)),
+        None => or_puts(t, instr, rd, form),
         Some(bits) => {
             if bits == 0 {
-                Outcomes::one(fault(t, instr))
+                faults(t, instr)
             } else {
-                Outcomes::one(sets(t, rd, form))
+                puts(t, rd, form)
             }
         }
     }
 }
 
-// 7. The table of instructions.
+// 5. The table of instructions.
 
 /// What an event that is read can come to.
 fn reads_event(t: &Thread, rd: u8) -> Outcomes
@@ -629,20 +394,20 @@ fn carries_out(kernel: &Kernel, t: &Thread, instr: &Instr) -> Outcomes
     match *instr {
         Instr::Halt => Outcomes::none(),
         Instr::Nop => Outcomes::one(Outcome::Goes(stepped(t))),
-        Instr::Ldi { rd, imm } => Outcomes::one(sets(t, rd, Form::Number(bits_of(imm)))),
-        Instr::Ldhi { rd, imm } => Outcomes::one(sets(t, rd, high(form(t, rd), imm))),
-        Instr::Mov { rd, ra } => Outcomes::one(sets(t, rd, form(t, ra))),
+        Instr::Ldi { rd, imm } => puts(t, rd, Form::Number(bits_of(imm))),
+        Instr::Ldhi { rd, imm } => puts(t, rd, high(form(t, rd), imm)),
+        Instr::Mov { rd, ra } => puts(t, rd, form(t, ra)),
         Instr::Isptr { rd, ra } => tests_tag(t, rd, ra, form(t, ra)),
-        Instr::Eqw { rd, ra, rb } => Outcomes::one(sets(t, rd, equal(form(t, ra), form(t, rb)))),
-        Instr::Out { ra: _ } => Outcomes::two(fault(t, instr), Outcome::Goes(stepped(t))),
-        Instr::SelfSlot { rd } => Outcomes::one(sets(t, rd, Form::Integer)),
+        Instr::Eqw { rd, ra, rb } => puts(t, rd, equal(form(t, ra), form(t, rb))),
+        Instr::Out { ra: _ } => or_fault(t, instr, Outcome::Goes(stepped(t))),
+        Instr::SelfSlot { rd } => puts(t, rd, Form::Integer),
         Instr::Alu { op, rd, ra, rb } => {
             let f = alu_form(op, form(t, ra), form(t, rb));
             computes(t, instr, divides(op), rd, f, form(t, rb).exact_bits())
         }
         Instr::Addi { rd, ra, imm } => {
             let sum = alu_form(AluOp::Add, form(t, ra), Form::Number(bits_of(imm)));
-            Outcomes::one(sets(t, rd, sum))
+            puts(t, rd, sum)
         }
         Instr::Lea { rd, ra, rb } => moves(
             kernel,
@@ -720,14 +485,14 @@ fn carries_out(kernel: &Kernel, t: &Thread, instr: &Instr) -> Outcomes
             Outcomes::three(fault(t, instr), sets(t, rd, Form::Any), read)
         }
         Instr::Wreg { ra: _, rb, reg } => gives(t, instr, rb, reg),
-        Instr::Setptr { rd: _, ra: _ } => Outcomes::one(fault(t, instr)),
-        Instr::Trap { imm: _ } => Outcomes::one(fault(t, instr)),
-        Instr::Map { rd: _, ra: _ } => Outcomes::one(fault(t, instr)),
-        Instr::Unmap { rd: _, ra: _ } => Outcomes::one(fault(t, instr)),
+        Instr::Setptr { rd: _, ra: _ } => faults(t, instr),
+        Instr::Trap { imm: _ } => faults(t, instr),
+        Instr::Map { rd: _, ra: _ } => faults(t, instr),
+        Instr::Unmap { rd: _, ra: _ } => faults(t, instr),
     }
 }
 
-// 8. The turn.
+// 6. The turn.
 
 /// The instruction in a word.
 pub fn instruction(word: Word) -> Option<Instr>
@@ -745,7 +510,7 @@ fn decoded(kernel: &Kernel, t: &Thread, word: Word) -> Outcomes
     ensures { result ≡ decoded kernel.now.image kernel.now.kept t.now (instr_in word) }
 {
     match instruction(word) {
-        None => Outcomes::one(early_fault()),
+        None => early_fault(),
         Some(instr) => carries_out(kernel, t, &instr),
     }
 }
@@ -757,7 +522,7 @@ fn fetched(kernel: &Kernel, t: &Thread, word: u64) -> Outcomes
     ensures { result ≡ fetched kernel.now.image kernel.now.kept t.now word (cell_at kernel.now.image.memory word) }
 {
     match kernel.image().cell(word) {
-        None => Outcomes::one(early_fault()),
+        None => early_fault(),
         Some(cell) => {
             if kernel.is_fixed(word) {
                 decoded(kernel, t, cell.word)
@@ -773,7 +538,7 @@ fn aimed(kernel: &Kernel, t: &Thread) -> Outcomes
     ensures { result ≡ aimed kernel.now.image kernel.now.kept t.now (check_result (Ptr t.now.ip) (pos 0) Fetch) }
 {
     match check(Word::Ptr(t.ip), 0, Kind::Fetch) {
-        Err(_) => Outcomes::one(early_fault()),
+        Err(_) => early_fault(),
         Ok(access) => fetched(kernel, t, access.addr()),
     }
 }
@@ -784,7 +549,7 @@ pub fn outcomes(kernel: &Kernel, t: &Thread) -> Outcomes
     ensures { result ≡ outcomes kernel.now.image kernel.now.kept t.now }
 {
     if t.past {
-        Outcomes::one(early_fault())
+        early_fault()
     } else {
         aimed(kernel, t)
     }

@@ -175,7 +175,9 @@ fn told_of(alloc: Global, kernel: &Kernel, tables: Tables) -> Result<Told, NoMem
     requires { IsExact kernel.now.image kernel.now.kept tables }
     ensures { IfOk result (λ told. IsTold kernel.now.image kernel.now.kept told) }
 {
-    tell(alloc, kernel, &tables)
+    let told = tell(alloc, kernel, &tables);
+    tables.free();
+    told
 }
 
 /// What a kernel of an image without privileged code keeps, if it has at most so many threads.

@@ -23,7 +23,7 @@ use Rattle.mm_kernel.specs.Turns.{outcomes_of, fault, sets, moves, moved, restri
 use Rattle.mm_kernel.specs.Turns.{branches_if, jumps, links, at_distance, tests_tag, computes, with_event, seen_as}
 use Rattle.mm_kernel.proofs.Segs.{below_within, outside_within}
 use Rattle.mm_kernel.proofs.Values.{Public, public_any, public_number, public_integer, public_open, public_outside}
-use Rattle.mm_kernel.proofs.Ups.{Free, free_up, Follows}
+use Rattle.mm_kernel.proofs.{Owns.{Mode.AsAnyone, World}, Ups.{Free, Follows}}
 use Rattle.mm_word.specs.declared.cause.Cause.TheVariants as cause
 use Rattle.mm_kernel.specs.declared.outcome.Outcome.TheVariants as outcome
 
@@ -57,7 +57,7 @@ unfolding form_in
 any_register t r lt = each_get (λ (f : Form). f ≡ Any) (replicate 16 Any) r zero_form
     (refl, (refl, (refl, (refl, (refl, (refl, (refl, (refl, (refl, (refl, (refl, (refl, (refl, (refl, (refl, (refl, tt)))))))))))))))) lt
 
-module _ (i : Image) (kept : List Segment) (t : Thread) (out : meets kept t.ip ≡ false) (user : runs_privileged t.ip.perm ≡ false) (runs : can_fetch t.ip.perm ≡ true) where
+module _ (i : Image) (kept : List Segment) (wd : World i kept) (t : Thread) (out : meets kept t.ip ≡ false) (user : runs_privileged t.ip.perm ≡ false) (runs : can_fetch t.ip.perm ≡ true) where
   abbrev ft : Thread
   ft = anyone t
 
@@ -68,28 +68,28 @@ module _ (i : Image) (kept : List Segment) (t : Thread) (out : meets kept t.ip �
   anyone_free = record { outside = out; forms = all_any; fast = tt }
 
   abbrev F : Outcome → Type 0
-  F o = Follows i kept (anyone t) o
+  F o = Follows i kept wd AsAnyone (anyone t) o
 
   abbrev All : List Outcome → Type 0
-  All os = AllByRecursion (Follows i kept (anyone t)) os
+  All os = AllByRecursion (Follows i kept wd AsAnyone (anyone t)) os
 
   faults : (instr : Instr) → F (fault ft instr)
   unfolding fault
-  faults instr = inl anyone_free
+  faults instr = anyone_free
 
   advanced_out : meets kept (advanced t.ip) ≡ false
   advanced_out = outside_within kept (advanced t.ip) t.ip (below_within (advanced t.ip) t.ip (advanced_below t.ip)) out
 
   goes_on : F (outcome.Goes (stepped ft))
   unfolding stepped
-  goes_on = free_up i kept (stepped ft) (record { outside = advanced_out; forms = all_any; fast = tt })
+  goes_on = (record { outside = advanced_out; forms = all_any; fast = tt })
 
   sets_public : (rd : ℕ) (f : Form) → Public i kept f → F (sets ft rd f)
   unfolding stepped sets with_form
-  sets_public rd f p = free_up i kept (with_form (stepped ft) rd f) (record { outside = advanced_out; forms = each_set (Public i kept) (replicate 16 Any) rd f all_any p; fast = tt })
+  sets_public rd f p = (record { outside = advanced_out; forms = each_set (Public i kept) (replicate 16 Any) rd f all_any p; fast = tt })
 
   goes_to : (p : Pointer) → IsBelow p t.ip → F (outcome.Goes (going_to ft p))
-  goes_to p below = free_up i kept (going_to ft p) (record { outside = outside_within kept p t.ip (below_within p t.ip below) out; forms = all_any; fast = tt })
+  goes_to p below = (record { outside = outside_within kept p t.ip (below_within p t.ip below) out; forms = all_any; fast = tt })
 
   any : (r : ℕ) → r < 16 → form_in ft r ≡ Any
   any = any_register t
@@ -105,7 +105,6 @@ module _ (i : Image) (kept : List Segment) (t : Thread) (out : meets kept t.ip �
   unfolding stepped with_form
   sees rd ra f tag p =
       let first = each_set (Public i kept) (replicate 16 Any) ra f all_any p in
-      free_up i kept (with_form (with_form (stepped ft) ra f) rd (Number tag))
       (record { outside = advanced_out; forms = each_set (Public i kept) (slice_set (replicate 16 Any) ra f) rd (Number tag) first (public_number i kept tag); fast = tt })
 
   tested : (rd ra : ℕ) → All (tests_tag ft rd ra Any)
@@ -148,7 +147,7 @@ module _ (i : Image) (kept : List Segment) (t : Thread) (out : meets kept t.ip �
 
   stored_any : (instr : Instr) (rb : ℕ) (imm : ℤ) (pre : Pre) → rb < 16 → All (stores i kept ft instr Any rb imm pre)
   unfolding stores
-  stored_any instr rb imm pre lt = (faults instr, (any_public rb lt, (goes_on, tt)))
+  stored_any instr rb imm pre lt = (faults instr, ((tt, any_public rb lt), (goes_on, tt)))
 
   at : (imm : ℤ) (q : Pointer) → at_distance ft imm ≡ Ok q → IsBelow q t.ip
   at imm q is = distance_below t.ip q imm runs is
@@ -169,11 +168,12 @@ module _ (i : Image) (kept : List Segment) (t : Thread) (out : meets kept t.ip �
   lips instr rd imm (Err c) is = (faults instr, tt)
 
   leaves : F (outcome.Leaves ft)
-  leaves = (any_public, tt)
+  leaves = (tt, any_public, tt)
 
   leaves_linked : (rd : ℕ) (back : Pointer) → Public i kept (Exactly back) → F (outcome.Leaves (with_form ft rd (Exactly back)))
   unfolding with_form form_in
   leaves_linked rd back p = (
+    tt,
     (λ r lt. each_or (Public i kept) (slice_set (replicate 16 Any) rd (Exactly back)) r zero_form (each_set (Public i kept) (replicate 16 Any) rd (Exactly back) all_any p)
         (public_number i kept 0)),
     tt,
@@ -193,7 +193,6 @@ module _ (i : Image) (kept : List Segment) (t : Thread) (out : meets kept t.ip �
   unfolding stepped with_form
   events rd =
       let p = public_any i kept in
-      free_up i kept (with_event (stepped ft) rd Any Any Any)
       (record {
         outside = advanced_out;
         forms =
@@ -235,9 +234,9 @@ module _ (i : Image) (kept : List Segment) (t : Thread) (out : meets kept t.ip �
   anyone_follows (Jal rd ra) h = linked_any (Jal rd ra) rd ra h.operands.1.0 (next_result t.ip) refl
   anyone_follows (Lip rd imm) h = lips (Lip rd imm) rd imm (at_distance ft imm) refl
   anyone_follows (Trap imm) h = (faults (Trap imm), tt)
-  anyone_follows (Evt rd) h = (events rd, ((λ k e from held. cc), tt))
+  anyone_follows (Evt rd) h = (events rd, ((tt, (λ k e from held. cc)), tt))
   anyone_follows (Resume ra how) h = (faults (Resume ra how), (goes_on, ((λ k u next from held among. cc), tt)))
-  anyone_follows (Rreg rd ra reg) h = (faults (Rreg rd ra reg), (sets_public rd Any (public_any i kept), ((λ k u from held. cc), tt)))
-  anyone_follows (Wreg ra rb reg) h = (faults (Wreg ra rb reg), (goes_on, (any_public rb h.operands.1.0, ((λ k u from held. cc), tt))))
+  anyone_follows (Rreg rd ra reg) h = (faults (Rreg rd ra reg), (sets_public rd Any (public_any i kept), ((tt, (λ k u from held. cc)), tt)))
+  anyone_follows (Wreg ra rb reg) h = (faults (Wreg ra rb reg), (goes_on, ((tt, any_public rb h.operands.1.0), ((tt, (λ k u from held. cc)), tt))))
   anyone_follows (Map rd ra) h = (faults (Map rd ra), tt)
   anyone_follows (Unmap rd ra) h = (faults (Unmap rd ra), tt)

@@ -14,9 +14,9 @@ use Rattle.mm_model.proofs.Memories.{put_cases, cell_at-put_same, cell_at-put_ot
 use Rattle.mm_kernel.specs.Segments.{Segment, is_kept, is_fixed}
 use Rattle.mm_kernel.specs.declared.{fact.Handling.Handling, form.Form.{Form, TheVariants.Any}}
 use Rattle.mm_kernel.specs.{Facts.Fact.{HasForm, HasEvent}, Derived.Derived}
-use Rattle.mm_kernel.proofs.{Values.Fits, Slots.{guards, SlotOk}}
+use Rattle.mm_kernel.proofs.{Owns.{World, Left, KeptFor, SeenBy}, Values.Fits, Slots.{guards, SlotOk}}
 
-module _ (i : Image) (kept : List Segment) where
+module _ (i : Image) (kept : List Segment) (wd : World i kept) where
   -- 1. Events.
 
   abbrev pub any_event : Handling
@@ -24,21 +24,21 @@ module _ (i : Image) (kept : List Segment) where
 
   pub record EventOk (n : ℕ) (e : Event) : Type 0 where
     pub event : Handling
-    pub ip : Fits i kept event.ip (Ptr e.ip)
-    pub address : Fits i kept event.address e.addr_op
-    pub value : Fits i kept event.value e.value_op
+    pub ip : Fits i kept (SeenBy i kept wd n) event.ip (Ptr e.ip)
+    pub address : Fits i kept (SeenBy i kept wd n) event.address e.addr_op
+    pub value : Fits i kept (SeenBy i kept wd n) event.value e.value_op
     pub from : (event ≡ any_event) ⊎ ((guards i kept n ≡ true) × Derived i kept (HasEvent n event))
 
   -- 2. Rows.
 
   pub record RowOk (row : ThreadRow) : Type 0 where
-    pub slot : SlotOk i kept row.slot
+    pub slot : SlotOk i kept wd row.slot
     pub queue : AllByRecursion (EventOk row.slot.number) row.queue
 
   abbrev pub RowsOk : Core → Type 0
   RowsOk core = AllByRecursion RowOk core.rows
 
-  rows_slot : (s : Slot) → SlotOk i kept s → (rows : List ThreadRow) → AllByRecursion RowOk rows → AllByRecursion RowOk (map (at_number s.number (λ (row : ThreadRow). record row { slot = s })) rows)
+  rows_slot : (s : Slot) → SlotOk i kept wd s → (rows : List ThreadRow) → AllByRecursion RowOk rows → AllByRecursion RowOk (map (at_number s.number (λ (row : ThreadRow). record row { slot = s })) rows)
   rows_slot s ok [] h = tt
   rows_slot s ok (row ∷ rows) h = (by (nat_eq row.slot.number s.number) refl, rows_slot s ok rows h.1)
     where
@@ -55,7 +55,7 @@ module _ (i : Image) (kept : List Segment) where
       by true e = record { slot = h.0.slot; queue = subst (λ k. AllByRecursion (EventOk k) q) (sym (eqb-true row.slot.number n e)) ok }
       by false e = h.0
 
-  pub put_slot_ok : (core : Core) (s : Slot) → RowsOk core → SlotOk i kept s → RowsOk (put_slot core s)
+  pub put_slot_ok : (core : Core) (s : Slot) → RowsOk core → SlotOk i kept wd s → RowsOk (put_slot core s)
   unfolding put_slot
   put_slot_ok core s h ok = rows_slot s ok core.rows h
 
@@ -63,9 +63,9 @@ module _ (i : Image) (kept : List Segment) where
   unfolding put_queue
   put_queue_ok core n q h ok = rows_queue n q ok core.rows h
 
-  pub slot_ok : (core : Core) → RowsOk core → (n : ℕ) (s : Slot) → slot_at core n ≡ Some s → SlotOk i kept s
-  slot_ok core h n s at = slot_has (SlotOk i kept) core n s
-      (into_map (SlotOk i kept) (λ (row : ThreadRow). row.slot) core.rows (each_map RowOk (λ (row : ThreadRow). SlotOk i kept row.slot) (λ row k. k.slot) core.rows h)) at
+  pub slot_ok : (core : Core) → RowsOk core → (n : ℕ) (s : Slot) → slot_at core n ≡ Some s → SlotOk i kept wd s
+  slot_ok core h n s at = slot_has (SlotOk i kept wd) core n s
+      (into_map (SlotOk i kept wd) (λ (row : ThreadRow). row.slot) core.rows (each_map RowOk (λ (row : ThreadRow). SlotOk i kept wd row.slot) (λ row k. k.slot) core.rows h)) at
 
   queue_in : (rows : List ThreadRow) (n : ℕ) → AllByRecursion RowOk rows → AllByRecursion (EventOk n) (queue_of (row_in rows n))
   queue_in [] n h = tt
@@ -85,11 +85,11 @@ module _ (i : Image) (kept : List Segment) where
   pub record HeldIn (w : ℕ) (word : Word) : Type 0 where
     pub form : Form
     pub derived : Derived i kept (HasForm w form)
-    pub fits : Fits i kept form word
+    pub fits : Fits i kept (KeptFor i kept wd w) form word
 
   abbrev pub WordOkAs : (is_kept : Bool) → ℕ → Word → Type 0
   WordOkAs true w word = HeldIn w word
-  WordOkAs false w word = Fits i kept Any word
+  WordOkAs false w word = Fits i kept (Left i kept wd w) Any word
 
   abbrev pub WordOk : ℕ → Word → Type 0
   WordOk w word = WordOkAs (is_kept kept w) w word
@@ -136,14 +136,14 @@ module _ (i : Image) (kept : List Segment) where
 
   abbrev pub OtherOk : Option Slot → Type 0
   OtherOk None = Unit {0}
-  OtherOk (Some o) = SlotOk i kept o
+  OtherOk (Some o) = SlotOk i kept wd o
 
   abbrev pub QueueOk : ℕ → Option (List Event) → Type 0
   QueueOk n None = Unit {0}
   QueueOk n (Some q) = AllByRecursion (EventOk n) q
 
   pub record ChangeOk (m : Memory) (s : Slot) (c : Change) : Type 0 where
-    pub own : SlotOk i kept (slot_after s c)
+    pub own : SlotOk i kept wd (slot_after s c)
     pub cell : CellOk m c.cell
     pub pages : c.pages ≡ Keep
     pub queue : QueueOk s.number c.queue
@@ -177,8 +177,8 @@ module _ (i : Image) (kept : List Segment) where
 
   -- what a fault needs: by its handler
   abbrev pub FaultOk : Slot → Event → Option ℕ → Type 0
-  FaultOk s e None = SlotOk i kept (stood s Running)
-  FaultOk s e (Some h) = SlotOk i kept (stood s Waiting) × EventOk h e
+  FaultOk s e None = SlotOk i kept wd (stood s Running)
+  FaultOk s e (Some h) = SlotOk i kept wd (stood s Waiting) × EventOk h e
 
   pub fault_rows : (core : Core) (s : Slot) (e : Event) (o : Option ℕ) → RowsOk core → FaultOk s e o → RowsOk (core_faulted core s e o)
   unfolding core_faulted

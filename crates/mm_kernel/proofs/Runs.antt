@@ -17,16 +17,20 @@ use Rattle.mm_model.proofs.{Starts.{start_state, start_fits, start_kept}, Filter
 use Rattle.mm_kernel.specs.Segments.{Segment, is_kept, is_fixed, meets, is_open, running_slots, runs_privileged}
 use Rattle.mm_kernel.specs.declared.{fact.Handling.Handling, form.Form.TheVariants.Any, thread.Thread.Thread}
 use Rattle.mm_kernel.specs.Forms.{exactly, is_open_form}
-use Rattle.mm_kernel.specs.Threads.{form_in, has_open_words, is_kernel_slot, is_kernel, serves_some, is_free}
-use Rattle.mm_kernel.specs.{Threads.own_thread, Facts.{take_up, Fact.HasEvent}}
-use Rattle.mm_kernel.specs.Derived.{Derived, Keeps, Derived.begins_in_slot}
+use Rattle.mm_kernel.specs.Threads.{form_in, with_form, has_open_words, is_kernel_slot, is_kernel, serves_some, is_free}
+use Rattle.mm_kernel.specs.{Threads.{own_thread, thread_through, handler_of}, Facts.{take_up, Fact.HasEvent}}
+use Rattle.mm_kernel.specs.{Turns.with_event, Derived.{Derived, Keeps}}
+use Rattle.mm_kernel.specs.Derived.Derived.{begins_in_slot, enters, turns, loads, takes, resumes, reads_served}
 use Rattle.mm_kernel.specs.Variants.{IsShared, is_caller, IsAnyCaller, IsVariantSlot, Variant}
 use Rattle.mm_kernel.specs.Laws.{SlotShares, EventShares, is_of_kernel, ServedByOthers, RowKept, StateKept}
-use Rattle.mm_kernel.proofs.Values.{Fits, shared_int, public_shared, holds_stands, holds_exactly, Public}
-use Rattle.mm_kernel.proofs.Ups.{Up, Free, Bound, up_cases, each_in, each_from}
-use Rattle.mm_kernel.proofs.Slots.{guards, Match, free_form, HeldFor, StoppedOk, SlotOkAs}
+use Rattle.mm_kernel.proofs.Owns.{Who, Who.Callers, Mode, Mode.{AsAnyone, AsKernel}, World, Up, IfPointer, Mine, Left}
+use Rattle.mm_kernel.proofs.{Owns.SeenBy, Values.{Fits, shared_int, public_shared, holds_stands, holds_exactly, Public}}
+use Rattle.mm_kernel.proofs.Ups.{Free, Bound, free_form, up_cases, Next, each_in, each_from}
+use Rattle.mm_kernel.proofs.Slots.{guards, Held, Match, Why, StoppedOk, SlotOkAs}
 use Rattle.mm_kernel.proofs.{Cores.{any_event, EventOk, RowOk, RowsOk, HeldIn, WordOkAs, MemOk}, Rows.Machine}
-use Rattle.mm_kernel.proofs.{Turned.{TurnOk, turn_ok}, Start.{start_rows, start_cells, live_user, cell_shared}}
+use Rattle.mm_kernel.proofs.Turned.{TurnOk, turn_ok}
+use Rattle.mm_kernel.proofs.Start.{Begun, start_rows, start_cells, live_user, cell_shared}
+use Rattle.mm_kernel.specs.declared.outcome.Outcome.TheVariants as outcome
 
 -- 1. What holds of each state of a run.
 
@@ -38,13 +42,13 @@ each_index : {A : Type 0} (P : A → Type 0) (xs : List A) (d : A) → ((r : ℕ
 each_index P [] d f = tt
 each_index P (x ∷ xs) d f = (f 0 (omega arith), each_index P xs d (λ r lt. f (suc r) (omega arith)))
 
-module _ (i j : Image) (kept : List Segment) (img : IsImage i) (jmg : IsImage j) (ks : Keeps i kept) (v : Variant i kept j) where
+module _ (i j : Image) (kept : List Segment) (img : IsImage i) (jmg : IsImage j) (ks : Keeps i kept) (v : Variant i kept j) (wd : World i kept) (bg : Begun i j kept wd) where
   pub record Holding (s : State) : Type 0 where
     pub state : IsState s
     pub fits : FitsImage j s
     pub keeps : IsConsistent s.core
-    pub rows : RowsOk i kept s.core
-    pub cells : MemOk i kept s.memory
+    pub rows : RowsOk i kept wd s.core
+    pub cells : MemOk i kept wd s.memory
 
   slot_is : (s : State) → Holding s → (n : ℕ) (of : Slot) → slot_at s.core n ≡ Some of → IsSlot of
   slot_is s h n of at = slot_has IsSlot s.core n of h.state.core.slots at
@@ -52,7 +56,7 @@ module _ (i j : Image) (kept : List Segment) (img : IsImage i) (jmg : IsImage j)
   loads_are : (s : State) → Holding s → (n : ℕ) (of : Slot) → slot_at s.core n ≡ Some of → LoadsMatch of
   loads_are s h n of at = slot_has LoadsMatch s.core n of h.fits.matched.loads at
 
-  machine : (s : State) → Holding s → Machine i kept s.core s.memory
+  pub machine : (s : State) → Holding s → Machine i kept wd s.core s.memory
   machine s h = record {
     rows = h.rows;
     cells = h.cells;
@@ -66,10 +70,10 @@ module _ (i j : Image) (kept : List Segment) (img : IsImage i) (jmg : IsImage j)
     matched = h.fits.matched;
   }
 
-  turns_ok : (s : State) (h : Holding s) (n : ℕ) → TurnOk i kept ks s.core s.memory (machine s h) (λ n of at. (slot_words s.core n of h.state.rows at).ip) (turn_of s n)
-  turns_ok s h n = turn_ok i kept ks s.core s.memory (machine s h) (λ n of at. (slot_words s.core n of h.state.rows at).ip) n
+  pub turns_ok : (s : State) (h : Holding s) (n : ℕ) → TurnOk i kept wd ks s.core s.memory (machine s h) (λ n of at. (slot_words s.core n of h.state.rows at).ip) (turn_of s n)
+  turns_ok s h n = turn_ok i kept wd ks s.core s.memory (machine s h) (λ n of at. (slot_words s.core n of h.state.rows at).ip) n
 
-  after_holds : (s : State) (n : ℕ) → Holding s → Holding (after s n)
+  pub after_holds : (s : State) (n : ℕ) → Holding s → Holding (after s n)
   unfolding after
   after_holds s n h =
       let t = turns_ok s h n in
@@ -81,29 +85,29 @@ module _ (i j : Image) (kept : List Segment) (img : IsImage i) (jmg : IsImage j)
         cells = t.cells;
       }
 
-  run_holds : (items : List ℕ) (s : State) → Holding s → Holding (run s items)
+  pub run_holds : (items : List ℕ) (s : State) → Holding s → Holding (run s items)
   unfolding run
   run_holds [] s h = h
   run_holds (n ∷ items) s h = run_holds items (after s n) (after_holds s n h)
 
-  start_holds : Holding (start j)
+  pub start_holds : Holding (start j)
   start_holds = record {
     state = start_state j jmg;
     fits = start_fits j jmg;
     keeps = start_kept j jmg.rising jmg.fresh;
-    rows = start_rows i j kept img jmg ks v;
-    cells = start_cells i j kept img jmg ks v;
+    rows = start_rows i j kept img jmg ks v wd bg;
+    cells = start_cells i j kept img jmg ks v wd bg;
   }
 
   -- 2. What that says.
 
   module _ (s : State) (h : Holding s) where
     -- a slot whose thread is free shares its words
-    free_shares : (n : ℕ) (of : Slot) (t : Thread) → slot_at s.core n ≡ Some of → Free i kept t → Match i kept t of → SlotShares i kept of
+    free_shares : (n : ℕ) (of : Slot) (d : Mode) (t : Thread) → slot_at s.core n ≡ Some of → Free i kept t → Match i kept wd d t of → SlotShares i kept of
     unfolding register
-    free_shares n of t at free m = record {
+    free_shares n of d t at free m = record {
       registers = each_index (IsShared i kept) of.regs (Int 0) (λ r lt. word r (is_empty of r) refl);
-      pending = each_map (λ (p : Pending). Fits i kept (form_in t p.reg) p.word) (λ (p : Pending). IsShared i kept p.word)
+      pending = each_map (λ (p : Pending). Fits i kept (Held i kept wd d t of) (form_in t p.reg) p.word) (λ (p : Pending). IsShared i kept p.word)
           (λ p f. public_shared i kept (form_in t p.reg) p.word (free_form i kept t free p.reg) f.holds) of.pending m.pending;
     }
       where
@@ -113,59 +117,113 @@ module _ (i j : Image) (kept : List Segment) (img : IsImage i) (jmg : IsImage j)
             let loads = slot_has (LoadsAreConsistent s.core.split) s.core n of h.keeps.loads at in
             subst (IsShared i kept) (sym (loads.zero r e)) (shared_int i kept 0)
 
-    event_shares : (n : ℕ) (e : Event) → is_kernel i kept n ≡ false → EventOk i kept n e → EventShares i kept e
+    event_shares : (n : ℕ) (e : Event) → is_kernel i kept n ≡ false → EventOk i kept wd n e → EventShares i kept e
     event_shares n e none ok = by ok.from
       where
-        by : (ok.event ≡ any_event i kept) ⊎ ((guards i kept n ≡ true) × Derived i kept (HasEvent n ok.event)) → EventShares i kept e
+        by : (ok.event ≡ any_event i kept wd) ⊎ ((guards i kept n ≡ true) × Derived i kept (HasEvent n ok.event)) → EventShares i kept e
         by (inl is) = record {
-          ip = (subst (λ (g : Handling). Fits i kept g.ip (Ptr e.ip)) is ok.ip).holds;
-          address = (subst (λ (g : Handling). Fits i kept g.address e.addr_op) is ok.address).holds;
-          value = (subst (λ (g : Handling). Fits i kept g.value e.value_op) is ok.value).holds;
+          ip = (subst (λ (g : Handling). Fits i kept (SeenBy i kept wd n) g.ip (Ptr e.ip)) is ok.ip).holds;
+          address = (subst (λ (g : Handling). Fits i kept (SeenBy i kept wd n) g.address e.addr_op) is ok.address).holds;
+          value = (subst (λ (g : Handling). Fits i kept (SeenBy i kept wd n) g.value e.value_op) is ok.value).holds;
         }
         by (inr g) = let yes = (and_parts (is_kernel i kept n) (serves_some i n) g.0).0 in absurd (cc)
 
-    stopped_shares : (n : ℕ) (of : Slot) → slot_at s.core n ≡ Some of → StoppedOk i kept of → is_of_kernel i kept of.handler ≡ false → SlotShares i kept of
-    stopped_shares n of at ok none = by ok.why
+    stopped_shares : (n : ℕ) (of : Slot) → slot_at s.core n ≡ Some of → StoppedOk i kept wd of → is_of_kernel i kept of.handler ≡ false → SlotShares i kept of
+    stopped_shares n of at ok none = by ok.mode ok.matches ok.why
       where
-        by : Free i kept ok.thread ⊎ HeldFor i kept ok.thread of.handler → SlotShares i kept of
-        by (inl free) = free_shares n of ok.thread at free ok.matches
-        by (inr held) = let yes : is_of_kernel i kept of.handler ≡ true = ap (is_of_kernel i kept) held.is ∙ held.kernel in absurd (cc)
+        by : (d : Mode) → Match i kept wd d ok.thread of → Why i kept wd d ok.thread of.handler → SlotShares i kept of
+        by AsAnyone m free = free_shares n of AsAnyone ok.thread at free m
+        by AsKernel m held = let yes : is_of_kernel i kept of.handler ≡ true = ap (is_of_kernel i kept) held.is ∙ held.kernel in absurd (cc)
 
-    slot_kept : (n : ℕ) (of : Slot) → slot_at s.core n ≡ Some of → (st : SlotState) → SlotOkAs i kept of st → ServedByOthers i kept of st → SlotShares i kept of
-    slot_kept n of at Running ok served = by (up_cases i kept ok.thread ok.up)
+    slot_kept : (n : ℕ) (of : Slot) → slot_at s.core n ≡ Some of → (st : SlotState) → SlotOkAs i kept wd of st → ServedByOthers i kept of st → SlotShares i kept of
+    slot_kept n of at Running ok served = by ok.mode ok.matches ok.next
       where
-        by : Free i kept ok.thread ⊎ Bound i kept ok.thread → SlotShares i kept of
-        by (inl free) = free_shares n of ok.thread at free ok.matches
-        by (inr b) = absurd (served ok.thread b.derived ok.matches.ip)
+        kernels : Match i kept wd AsKernel ok.thread of → Free i kept ok.thread ⊎ Bound i kept ok.thread → SlotShares i kept of
+        kernels m (inl free) = free_shares n of AsKernel ok.thread at free m
+        kernels m (inr b) = absurd (served ok.thread b.derived m.ip)
+
+        by : (d : Mode) → Match i kept wd d ok.thread of → Next i kept wd d ok.thread → SlotShares i kept of
+        by AsAnyone m free = free_shares n of AsAnyone ok.thread at free m
+        by AsKernel m taken = kernels m (up_cases i kept ok.thread (wd.rules.up ok.thread taken))
     slot_kept n of at Waiting ok served = stopped_shares n of at ok served
     slot_kept n of at Taken ok served = stopped_shares n of at ok served
     slot_kept n of at (Halted c) ok served = absurd served
 
-    row_kept : (row : ThreadRow) → slot_at s.core row.slot.number ≡ Some row.slot → RowOk i kept row → RowKept i kept row
+    row_kept : (row : ThreadRow) → slot_at s.core row.slot.number ≡ Some row.slot → RowOk i kept wd row → RowKept i kept row
     row_kept row at ok = record {
       slot = λ served. slot_kept row.slot.number row.slot at row.slot.state ok.slot served;
-      queue = λ none. each_map (EventOk i kept row.slot.number) (EventShares i kept) (λ e k. event_shares row.slot.number e none k) row.queue ok.queue;
+      queue = λ none. each_map (EventOk i kept wd row.slot.number) (EventShares i kept) (λ e k. event_shares row.slot.number e none k) row.queue ok.queue;
     }
 
     pub state_kept : StateKept i kept j s
     state_kept = record {
       accesses = λ n. (turns_ok s h n).accesses;
       rows =
-          each_both (λ (row : ThreadRow). slot_at s.core row.slot.number ≡ Some row.slot) (RowOk i kept) (RowKept i kept) row_kept s.core.rows
+          each_both (λ (row : ThreadRow). slot_at s.core row.slot.number ≡ Some row.slot) (RowOk i kept wd) (RowKept i kept) row_kept s.core.rows
           (out_of_map (λ (x : Slot). slot_at s.core x.number ≡ Some x) (λ (row : ThreadRow). row.slot) s.core.rows (slots_found s.core h.state.core.rising)) h.rows;
       kept_cells = λ w c at is.
-          let held : HeldIn i kept w c.word = subst (λ b. WordOkAs i kept b w c.word) is (h.cells.cells w c at) in
+          let held : HeldIn i kept wd w c.word = subst (λ b. WordOkAs i kept wd b w c.word) is (h.cells.cells w c at) in
           record { form = held.form; derived = held.derived; stands = holds_stands i kept held.form c.word held.fits.holds };
-      other_cells = λ w c at is. let f : Fits i kept Any c.word = subst (λ b. WordOkAs i kept b w c.word) is (h.cells.cells w c at) in f.holds;
+      other_cells = λ w c at is. let f : Fits i kept (Left i kept wd w) Any c.word = subst (λ b. WordOkAs i kept wd b w c.word) is (h.cells.cells w c at) in f.holds;
       fixed_cells = λ w c at fixed. h.cells.fixed w c at fixed ∙ sym (v.same w c at (or_right (is_kept kept w) (is_fixed i w) fixed));
     }
+
+-- everybody holds everything
+abbrev everyone : (i : Image) (kept : List Segment) → World i kept
+everyone i kept = record {
+  Own = λ x p. Unit {0};
+  Taken = Up i kept;
+  rules = record {
+    up = λ t h. h;
+    begins = λ s c. each_from (Derived i kept) (take_up i kept (own_thread i kept s)) (λ fact k. begins_in_slot s c k);
+    enters = λ door ip s d e c. each_from (Derived i kept) (take_up i kept (thread_through door ip (handler_of i kept s.handler))) (λ fact k. enters door ip s d e c k);
+    goes = λ t next d c. each_from (Derived i kept) (take_up i kept next) (λ fact k. turns t (outcome.Goes next) d c k);
+    loads = λ t next part reg w f d c held inside. each_from (Derived i kept) (take_up i kept (with_form next reg f)) (λ fact k. loads t next part reg w f d c held inside k);
+    takes = λ t next h reg e d from c held. each_from (Derived i kept) (take_up i kept (with_event next reg e.ip e.address e.value)) (λ fact k. takes t next h reg e d from c held k);
+    resumes = λ t u next h how d from c held among. each_from (Derived i kept) (take_up i kept next) (λ fact k. resumes t u next h how d from c held among k);
+    reads = λ t u next h reg from d own c held. each_from (Derived i kept) (take_up i kept (with_form next reg (form_in u from))) (λ fact k. reads_served t u next h reg from d own c held k);
+    below = λ x p q own b. tt;
+    entered = λ x p q own eu none e. tt;
+    passed = λ g x q p r w a b c d e. tt;
+    stored = λ n x q p r w f at reg own comes hands a b c d. tt;
+    served_up = λ served server q a b c d own. tt;
+    served_down = λ served server q a b c d own. tt;
+    seen_event = λ n y q reg next own by comes. tt;
+    seen_register = λ n y q reg from next own by comes. tt;
+    given = λ n x q reg f own by comes hands. tt;
+    exact_ip = λ x t runs taken plain. tt;
+    exact_register = λ x q t r runs taken lt e plain. tt;
+    lets_going = λ x from d t r runs is going lt e. tt;
+    lets_hand = λ x from d l runs is comes. tt;
+    kept_for = λ y x from to q w c put f got reg next own runs at is stores carried here loads there runs'. tt;
+    freed = λ s q t among own going. tt;
+  };
+}
+
+everyones : (i j : Image) (kept : List Segment) → Begun i j kept (everyone i kept)
+everyones i j kept = record {
+  registers = λ u c run none. each_from (λ (w : Word). IfPointer w (Mine i kept (everyone i kept) (Callers u.group))) u.regs (λ w k. mine (Callers u.group) w);
+  ip = λ u c run none. inr (tt);
+  cells = λ w c at out. left w c.word;
+}
+  where
+    mine : (x : Who) (w : Word) → IfPointer w (Mine i kept (everyone i kept) x)
+    mine x (Int n) = tt
+    mine x (Ptr p) = inr (tt)
+
+    left : (w : ℕ) (v : Word) → IfPointer v (Left i kept (everyone i kept) w Any)
+    left w (Int n) = tt
+    left w (Ptr p) = λ x r own ld. inr (tt)
 
 -- a kernel that keeps its segments keeps them in every run of every variant
 pub kernels_keep : (i j : Image) (kept : List Segment) (items : List ℕ) → IsImage i → IsImage j → Keeps i kept → Variant i kept j
     → StateKept i kept j (run (start j) items)
-kernels_keep i j kept items img jmg ks v = state_kept i j kept img jmg ks v (run (start j) items) (run_holds i j kept img jmg ks v items (start j) (start_holds i j kept img jmg ks v))
+kernels_keep i j kept items img jmg ks v =
+    let wd : World i kept = everyone i kept in
+    let bg : Begun i j kept wd = everyones i j kept in
+    state_kept i j kept img jmg ks v wd bg (run (start j) items) (run_holds i j kept img jmg ks v wd bg items (start j) (start_holds i j kept img jmg ks v wd bg))
 
--- 2. An image that keeps its segments is a variant of itself.
+-- 3. An image that keeps its segments is a variant of itself.
 
 executable : (p : Perm) → can_fetch p ≡ true → runs_privileged p ≡ false → p ≡ Xu
 executable Ro e u = cc

@@ -529,3 +529,7 @@ module _ (i : Image) (kept : List Segment) (ks : Keeps i kept) where
   -- each form of a derived thread: what is known of its pointers
   pub thread_whole : (t : Thread) → Derived i kept (HasThread t) → (r : ℕ) → WholeForm kept (form_in t r)
   thread_whole t d r = sane_whole kept (form_in t r) (sane_form kept t (facts_sane d) r)
+
+  -- and of the pointer by which it runs
+  pub ip_whole : (t : Thread) → Derived i kept (HasThread t) → has_segment t.ip.perm ≡ true → meets kept t.ip ≡ true → is_inside kept t.ip ≡ true
+  ip_whole t d = (facts_sane d).ip.whole

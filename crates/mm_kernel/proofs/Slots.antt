@@ -8,14 +8,16 @@ use Rattle.mm_word.specs.{declared.word.Word.{Word, TheVariants.Int}, Pointer.Po
 use Rattle.mm_model.specs.declared.slot.SlotState.{SlotState, TheVariants.{Running, Waiting, Taken, Halted}}
 use Rattle.mm_model.specs.{declared.slot.Pending.Pending, Slot.{Slot, register, is_empty}, Image.Image, Flags.one_if}
 use Rattle.mm_model.specs.{Fits.{loads_for, LoadsMatch, identity_of}, Effect.{delivers, delivered}, Turn.with_issue}
-use Rattle.mm_model.proofs.{CoreRows.{each_map, each_both, each_push}, EffectWords.each_or, CoreSteps.some_true}
+use Rattle.mm_model.proofs.{CoreRows.{each_map, each_both, each_push}, CoreSteps.some_true}
 use Rattle.mm_model.proofs.SlotSteps.{empty_within}
-use Rattle.mm_kernel.specs.Segments.{Segment, running_slots}
-use Rattle.mm_kernel.specs.declared.{fact.Leak.TheVariants.Loose, form.Form.{Form, TheVariants.Any}}
+use Rattle.mm_kernel.specs.Segments.{Segment, running_slots, is_door}
+use Rattle.mm_kernel.specs.declared.{fact.Leak.TheVariants.Loose, form.Form.{Form, TheVariants.{Pointer as Exactly, Any}}}
 use Rattle.mm_kernel.specs.declared.thread.{Origin.{Origin, TheVariants.{Door, Slot as OfSlot}}, Thread.Thread}
 use Rattle.mm_kernel.specs.{Forms.zero_form, Threads.{form_in, with_form, handler_of, is_kernel, serves_some}}
 use Rattle.mm_kernel.specs.{Facts.{loose, Fact.{HasFaulted, HasLeak}}, Derived.{Derived, Keeps}}
-use Rattle.mm_kernel.proofs.{Values.{Clean, Fits, Public, public_fits, public_number}, Ups.{Up, Free}}
+use Rattle.mm_kernel.proofs.Owns.{Who.Callers, Mode, Mode.{AsAnyone, AsKernel}, World, KernelOf, party, IfPointer}
+use Rattle.mm_kernel.proofs.Owns.{each_pointer, Mine, Has}
+use Rattle.mm_kernel.proofs.{Values.{Clean, Fits, Public, public_fits}, Ups.{Free, Next}}
 use Rattle.mm_kernel.proofs.Anyone.{anyone, any_register}
 
 -- 1. A slot of the machine: its registers and flags are sixteen, and its loads match.
@@ -65,21 +67,28 @@ loaded_small s h p rest e =
 abbrev pub guards : Image → List Segment → ℕ → Bool
 guards i kept n = is_kernel i kept n && serves_some i n
 
-abbrev pub OriginOk : Image → List Segment → Origin → ℕ → Type 0
-OriginOk i kept (Door d) n = guards i kept n ≡ false
-OriginOk i kept (OfSlot m) n = m ≡ n
+-- where a thread came from, for a slot of a number and a group
+abbrev pub OriginOk : (i : Image) (kept : List Segment) → World i kept → Mode → Origin → ℕ → ℕ → Type 0
+OriginOk i kept wd AsAnyone o n g = guards i kept n ≡ false
+OriginOk i kept wd AsKernel (Door d) n g = (guards i kept n ≡ false) × wd.Own (Callers g) d × (is_door kept d ≡ true)
+OriginOk i kept wd AsKernel (OfSlot m) n g = (m ≡ n) × KernelOf i kept m g
 
-pub record Match (i : Image) (kept : List Segment) (t : Thread) (s : Slot) : Type 0 where
+-- what holds of a pointer in a register of a thread's slot
+abbrev pub Held : (i : Image) (kept : List Segment) → World i kept → Mode → Thread → Slot → Form → Pointer → Type 0
+Held i kept wd md t s = Has i kept wd (party md t.origin s.group) md
+
+pub record Match (i : Image) (kept : List Segment) (wd : World i kept) (md : Mode) (t : Thread) (s : Slot) : Type 0 where
   pub ip : t.ip ≡ s.ip
   pub past : t.past ≡ s.past
   pub handler : t.handler ≡ handler_of i kept s.handler
-  pub origin : OriginOk i kept t.origin s.number
+  pub origin : OriginOk i kept wd md t.origin s.number s.group
   pub long : length t.forms ≡ 16
   pub clean : Clean i s.ip
-  pub registers : (r : ℕ) → is_empty s r ≡ false → Fits i kept (form_in t r) (register s r)
-  pub pending : AllByRecursion (λ (p : Pending). Fits i kept (form_in t p.reg) p.word) s.pending
+  pub mine : Held i kept wd md t s (Exactly s.ip) s.ip
+  pub registers : (r : ℕ) → is_empty s r ≡ false → Fits i kept (Held i kept wd md t s) (form_in t r) (register s r)
+  pub pending : AllByRecursion (λ (p : Pending). Fits i kept (Held i kept wd md t s) (form_in t p.reg) p.word) s.pending
 
-module _ (i : Image) (kept : List Segment) where
+module _ (i : Image) (kept : List Segment) (wd : World i kept) (md : Mode) where
   -- 3. Forms that are set.
 
   pub form_same : (t : Thread) (r : ℕ) (f : Form) → length t.forms ≡ 16 → r < 16 → form_in (with_form t r f) r ≡ f
@@ -90,18 +99,18 @@ module _ (i : Image) (kept : List Segment) where
   unfolding form_in with_form
   form_other t r k f ne = get_or-set_other t.forms r k f zero_form ne
 
-  form_fits : (t : Thread) (r k : ℕ) (f : Form) (w : Word) → (k ≡ r → ⊥) → Fits i kept (form_in t k) w → Fits i kept (form_in (with_form t r f) k) w
-  form_fits t r k f w ne h = subst (λ x. Fits i kept x w) (sym (form_other t r k f ne)) h
+  form_fits : (M : Form → Pointer → Type 0) (t : Thread) (r k : ℕ) (f : Form) (w : Word) → (k ≡ r → ⊥) → Fits i kept M (form_in t k) w → Fits i kept M (form_in (with_form t r f) k) w
+  form_fits M t r k f w ne h = subst (λ x. Fits i kept M x w) (sym (form_other t r k f ne)) h
 
-  same_fits : (t : Thread) (r k : ℕ) (f : Form) (w : Word) → length t.forms ≡ 16 → r < 16 → k ≡ r → Fits i kept f w → Fits i kept (form_in (with_form t r f) k) w
-  same_fits t r k f w long lt e h = subst (λ x. Fits i kept (form_in (with_form t r f) x) w) (sym e) (subst (λ x. Fits i kept x w) (sym (form_same t r f long lt)) h)
+  same_fits : (M : Form → Pointer → Type 0) (t : Thread) (r k : ℕ) (f : Form) (w : Word) → length t.forms ≡ 16 → r < 16 → k ≡ r → Fits i kept M f w → Fits i kept M (form_in (with_form t r f) k) w
+  same_fits M t r k f w long lt e h = subst (λ x. Fits i kept M (form_in (with_form t r f) x) w) (sym e) (subst (λ x. Fits i kept M x w) (sym (form_same t r f long lt)) h)
 
   pub with_long : (t : Thread) (r : ℕ) (f : Form) → length t.forms ≡ 16 → length (with_form t r f).forms ≡ 16
   unfolding with_form
   with_long t r f long = length-set t.forms r f ∙ long
 
-  pub match_write : (t : Thread) (s : Slot) (r : ℕ) (f : Form) (w : Word) → Match i kept t s → Sound s → r < 16 → is_empty s r ≡ false → Fits i kept f w
-      → Match i kept (with_form t r f) (record s { regs = slice_set s.regs r w })
+  pub match_write : (t : Thread) (s : Slot) (r : ℕ) (f : Form) (w : Word) → Match i kept wd md t s → Sound s → r < 16 → is_empty s r ≡ false → Fits i kept (Held i kept wd md t s) f w
+      → Match i kept wd md (with_form t r f) (record s { regs = slice_set s.regs r w })
   unfolding register is_empty with_form
   match_write t s r f w m h lt free fits = record {
     ip = m.ip;
@@ -110,37 +119,39 @@ module _ (i : Image) (kept : List Segment) where
     origin = m.origin;
     long = with_long t r f m.long;
     clean = m.clean;
+    mine = m.mine;
     registers = λ k ready. one k ready (cases_eq k r);
     pending =
-        each_both (λ (p : Pending). p.reg ≡ r → ⊥) (λ (p : Pending). Fits i kept (form_in t p.reg) p.word)
-        (λ (p : Pending). Fits i kept (form_in (with_form t r f) p.reg) p.word) (λ p ne k. form_fits t r p.reg f p.word ne k) s.pending (nothing_for s h r free) m.pending;
+        each_both (λ (p : Pending). p.reg ≡ r → ⊥) (λ (p : Pending). Fits i kept (Held i kept wd md t s) (form_in t p.reg) p.word)
+        (λ (p : Pending). Fits i kept (Held i kept wd md t s) (form_in (with_form t r f) p.reg) p.word) (λ p ne k. form_fits (Held i kept wd md t s) t r p.reg f p.word ne k) s.pending (nothing_for s h r free) m.pending;
   }
     where
-      one : (k : ℕ) → slice_index_or s.empty k false ≡ false → (k ≡ r) ⊎ (k ≡ r → ⊥) → Fits i kept (form_in (with_form t r f) k) (slice_index_or (slice_set s.regs r w) k (Int 0))
+      one : (k : ℕ) → slice_index_or s.empty k false ≡ false → (k ≡ r) ⊎ (k ≡ r → ⊥) → Fits i kept (Held i kept wd md t s) (form_in (with_form t r f) k) (slice_index_or (slice_set s.regs r w) k (Int 0))
       one k ready (inl e) =
           let regs = h.registers in
           let at : slice_index_or (slice_set s.regs r w) k (Int 0) ≡ w = ap (λ x. slice_index_or (slice_set s.regs r w) x (Int 0)) e ∙ get_or-set_same s.regs r w (Int 0) (omega arith) in
-          subst (Fits i kept (form_in (with_form t r f) k)) (sym at) (same_fits t r k f w m.long lt e fits)
+          subst (Fits i kept (Held i kept wd md t s) (form_in (with_form t r f) k)) (sym at) (same_fits (Held i kept wd md t s) t r k f w m.long lt e fits)
       one k ready (inr ne) =
-          subst (Fits i kept (form_in (with_form t r f) k)) (sym (get_or-set_other s.regs r k w (Int 0) ne)) (form_fits t r k f (slice_index_or s.regs k (Int 0)) ne (m.registers k ready))
+          subst (Fits i kept (Held i kept wd md t s) (form_in (with_form t r f) k)) (sym (get_or-set_other s.regs r k w (Int 0) ne)) (form_fits (Held i kept wd md t s) t r k f (slice_index_or s.regs k (Int 0)) ne (m.registers k ready))
 
-  pub match_at : (t : Thread) (s : Slot) (ip ip' : Pointer) (past past' : Bool) (turns : ℕ) (state : SlotState) → Match i kept t s → ip ≡ ip' → past ≡ past' → Clean i ip'
-      → Match i kept (record t { ip = ip; past = past }) (record s { ip = ip'; past = past'; turns = turns; state = state })
+  pub match_at : (t : Thread) (s : Slot) (ip ip' : Pointer) (past past' : Bool) (turns : ℕ) (state : SlotState) → Match i kept wd md t s → ip ≡ ip' → past ≡ past' → Clean i ip' → Held i kept wd md t s (Exactly ip') ip'
+      → Match i kept wd md (record t { ip = ip; past = past }) (record s { ip = ip'; past = past'; turns = turns; state = state })
   unfolding register is_empty form_in
-  match_at t s ip ip' past past' turns state m same alike clean = record {
+  match_at t s ip ip' past past' turns state m same alike clean mine = record {
     ip = same;
     past = alike;
     handler = m.handler;
     origin = m.origin;
     long = m.long;
     clean = clean;
+    mine = mine;
     registers = m.registers;
     pending = m.pending;
   }
 
   -- a load that is issued: its register is empty, and its form is that of the word to come
-  pub match_issue : (t : Thread) (s : Slot) (r : ℕ) (f : Form) (w : Word) → Match i kept t s → Sound s → r < 16 → is_empty s r ≡ false → Fits i kept f w
-      → Match i kept (with_form t r f) (with_issue (record s { regs = slice_set s.regs r (Int 0) }) (Some (record { reg = r; word = w })))
+  pub match_issue : (t : Thread) (s : Slot) (r : ℕ) (f : Form) (w : Word) → Match i kept wd md t s → Sound s → r < 16 → is_empty s r ≡ false → Fits i kept (Held i kept wd md t s) f w
+      → Match i kept wd md (with_form t r f) (with_issue (record s { regs = slice_set s.regs r (Int 0) }) (Some (record { reg = r; word = w })))
   unfolding register is_empty with_form
   match_issue t s r f w m h lt free fits = record {
     ip = m.ip;
@@ -149,25 +160,26 @@ module _ (i : Image) (kept : List Segment) where
     origin = m.origin;
     long = with_long t r f m.long;
     clean = m.clean;
+    mine = m.mine;
     registers = λ k ready. one k ready (cases_eq k r);
     pending =
-        each_push (λ (p : Pending). Fits i kept (form_in (with_form t r f) p.reg) p.word) s.pending (record { reg = r; word = w })
-        (each_both (λ (p : Pending). p.reg ≡ r → ⊥) (λ (p : Pending). Fits i kept (form_in t p.reg) p.word)
-        (λ (p : Pending). Fits i kept (form_in (with_form t r f) p.reg) p.word) (λ p ne k. form_fits t r p.reg f p.word ne k) s.pending (nothing_for s h r free) m.pending)
-        (same_fits t r r f w m.long lt refl fits);
+        each_push (λ (p : Pending). Fits i kept (Held i kept wd md t s) (form_in (with_form t r f) p.reg) p.word) s.pending (record { reg = r; word = w })
+        (each_both (λ (p : Pending). p.reg ≡ r → ⊥) (λ (p : Pending). Fits i kept (Held i kept wd md t s) (form_in t p.reg) p.word)
+        (λ (p : Pending). Fits i kept (Held i kept wd md t s) (form_in (with_form t r f) p.reg) p.word) (λ p ne k. form_fits (Held i kept wd md t s) t r p.reg f p.word ne k) s.pending (nothing_for s h r free) m.pending)
+        (same_fits (Held i kept wd md t s) t r r f w m.long lt refl fits);
   }
     where
       one : (k : ℕ) → slice_index_or (slice_set s.empty r true) k false ≡ false → (k ≡ r) ⊎ (k ≡ r → ⊥)
-          → Fits i kept (form_in (with_form t r f) k) (slice_index_or (slice_set s.regs r (Int 0)) k (Int 0))
+          → Fits i kept (Held i kept wd md t s) (form_in (with_form t r f) k) (slice_index_or (slice_set s.regs r (Int 0)) k (Int 0))
       one k ready (inl e) =
           let flags = h.flags in
           let at : slice_index_or (slice_set s.empty r true) k false ≡ true = ap (λ x. slice_index_or (slice_set s.empty r true) x false) e ∙ get_or-set_same s.empty r true false (omega arith) in
           absurd (cc)
       one k ready (inr ne) =
-          subst (Fits i kept (form_in (with_form t r f) k)) (sym (get_or-set_other s.regs r k (Int 0) (Int 0) ne))
-          (form_fits t r k f (slice_index_or s.regs k (Int 0)) ne (m.registers k (sym (get_or-set_other s.empty r k true false ne) ∙ ready)))
+          subst (Fits i kept (Held i kept wd md t s) (form_in (with_form t r f) k)) (sym (get_or-set_other s.regs r k (Int 0) (Int 0) ne))
+          (form_fits (Held i kept wd md t s) t r k f (slice_index_or s.regs k (Int 0)) ne (m.registers k (sym (get_or-set_other s.empty r k true false ne) ∙ ready)))
 
-  match_delivers : (t : Thread) (s : Slot) (p : Pending) (rest : List Pending) → Match i kept t s → Sound s → s.pending ≡ p ∷ rest → Match i kept t (delivers s (p ∷ rest))
+  match_delivers : (t : Thread) (s : Slot) (p : Pending) (rest : List Pending) → Match i kept wd md t s → Sound s → s.pending ≡ p ∷ rest → Match i kept wd md t (delivers s (p ∷ rest))
   unfolding register is_empty
   match_delivers t s p rest m h e = record {
     ip = m.ip;
@@ -176,66 +188,87 @@ module _ (i : Image) (kept : List Segment) where
     origin = m.origin;
     long = m.long;
     clean = m.clean;
+    mine = m.mine;
     registers = λ k ready. one k ready (cases_eq k p.reg);
     pending = parts.1;
   }
     where
-      parts : AllByRecursion (λ (q : Pending). Fits i kept (form_in t q.reg) q.word) (p ∷ rest)
-      parts = subst (AllByRecursion (λ (q : Pending). Fits i kept (form_in t q.reg) q.word)) e m.pending
+      parts : AllByRecursion (λ (q : Pending). Fits i kept (Held i kept wd md t s) (form_in t q.reg) q.word) (p ∷ rest)
+      parts = subst (AllByRecursion (λ (q : Pending). Fits i kept (Held i kept wd md t s) (form_in t q.reg) q.word)) e m.pending
 
       small : p.reg < 16
       small = loaded_small s h p rest e
 
       one : (k : ℕ) → slice_index_or (slice_set s.empty p.reg false) k false ≡ false → (k ≡ p.reg) ⊎ (k ≡ p.reg → ⊥)
-          → Fits i kept (form_in t k) (slice_index_or (slice_set s.regs p.reg p.word) k (Int 0))
+          → Fits i kept (Held i kept wd md t s) (form_in t k) (slice_index_or (slice_set s.regs p.reg p.word) k (Int 0))
       one k ready (inl same) =
           let regs = h.registers in
           let lt = small in
           let at : slice_index_or (slice_set s.regs p.reg p.word) k (Int 0) ≡ p.word = ap (λ x. slice_index_or (slice_set s.regs p.reg p.word) x (Int 0)) same
           ∙ get_or-set_same s.regs p.reg p.word (Int 0) (omega arith) in
-          subst (Fits i kept (form_in t k)) (sym at) (subst (λ x. Fits i kept (form_in t x) p.word) (sym same) parts.0)
+          subst (Fits i kept (Held i kept wd md t s) (form_in t k)) (sym at) (subst (λ x. Fits i kept (Held i kept wd md t s) (form_in t x) p.word) (sym same) parts.0)
       one k ready (inr ne) =
-          subst (Fits i kept (form_in t k)) (sym (get_or-set_other s.regs p.reg k p.word (Int 0) ne))
+          subst (Fits i kept (Held i kept wd md t s) (form_in t k)) (sym (get_or-set_other s.regs p.reg k p.word (Int 0) ne))
           (m.registers k (sym (get_or-set_other s.empty p.reg k false false ne) ∙ ready))
 
   -- 4. A thread that is free: callers could have each of its words.
 
-  pub origin_guards : Keeps i kept → (o : Origin) (n : ℕ) → OriginOk i kept o n → AllByRecursion (Derived i kept) (loose i kept o) → guards i kept n ≡ false
-  origin_guards ks (Door d) n h k = h
-  origin_guards ks (OfSlot m) n h k = subst (λ x. guards i kept x ≡ false) h (by (guards i kept m) refl k)
+  pub origin_guards : Keeps i kept → (o : Origin) (n g : ℕ) → OriginOk i kept wd md o n g → AllByRecursion (Derived i kept) (loose i kept o) → guards i kept n ≡ false
+  origin_guards ks o n g h k = by md o h k
     where
-      by : (b : Bool) → guards i kept m ≡ b → AllByRecursion (Derived i kept) (if b then HasLeak (Loose m) ∷ [] else []) → guards i kept m ≡ false
-      by true e j = absurd (ks.no_leak (Loose m) j.0)
-      by false e j = e
+      kernel : (m : ℕ) (b : Bool) → guards i kept m ≡ b → AllByRecursion (Derived i kept) (if b then HasLeak (Loose m) ∷ [] else []) → guards i kept m ≡ false
+      kernel m true e j = absurd (ks.no_leak (Loose m) j.0)
+      kernel m false e j = e
 
-  pub free_form : (t : Thread) → Free i kept t → (r : ℕ) → Public i kept (form_in t r)
-  unfolding form_in
-  free_form t h r = each_or (Public i kept) t.forms r zero_form h.forms (public_number i kept 0)
+      by : (d : Mode) (o : Origin) → OriginOk i kept wd d o n g → AllByRecursion (Derived i kept) (loose i kept o) → guards i kept n ≡ false
+      by AsAnyone o h k = h
+      by AsKernel (Door d) h k = h.0
+      by AsKernel (OfSlot m) h k = subst (λ x. guards i kept x ≡ false) h.0 (kernel m (guards i kept m) refl k)
 
-  any_fits : (t : Thread) → length t.forms ≡ 16 → (r : ℕ) (w : Word) → Public i kept (form_in t r) → Fits i kept (form_in t r) w → Fits i kept (form_in (anyone t) r) w
+  -- a word of anyone's thread
+  abbrev pub Anys : Slot → Form → Pointer → Type 0
+  Anys s = Has i kept wd (Callers s.group) AsAnyone
+
+  pub any_fits : (t : Thread) (s : Slot) → length t.forms ≡ 16 → (r : ℕ) (w : Word) → Public i kept (form_in t r) → (r < 16 → IfPointer w (Mine i kept wd (Callers s.group)))
+      → Fits i kept (Held i kept wd md t s) (form_in t r) w
+      → Fits i kept (Anys s) (form_in (anyone t) r) w
   unfolding form_in
-  any_fits t long r w p h = by (cases_lt r 16)
+  any_fits t s long r w p mine h = by (cases_lt r 16)
     where
+      none : 16 ≤ r → form_in t r ≡ zero_form
+      none le = get_or_past t.forms r zero_form (omega arith)
+
       past : 16 ≤ r → form_in (anyone t) r ≡ form_in t r
-      past le = get_or_past (replicate 16 Any) r zero_form (omega arith) ∙ sym (get_or_past t.forms r zero_form (omega arith))
+      past le = get_or_past (replicate 16 Any) r zero_form (omega arith) ∙ sym (none le)
 
-      by : (r < 16) ⊎ (16 ≤ r) → Fits i kept (form_in (anyone t) r) w
-      by (inl lt) = subst (λ x. Fits i kept x w) (sym (any_register t r lt)) (public_fits i kept (form_in t r) w p h)
-      by (inr le) = subst (λ x. Fits i kept x w) (sym (past le)) h
+      empty : (v : Word) → v ≡ Int 0 → IfPointer v (Anys s zero_form)
+      empty v e = subst (λ (y : Word). IfPointer y (Anys s zero_form)) (sym e) tt
 
-  pub match_anyone : (t : Thread) (s : Slot) → Match i kept t s → ((r : ℕ) → Public i kept (form_in t r)) → guards i kept s.number ≡ false → Match i kept (anyone t) s
-  match_anyone t s m free out = record {
+      by : (r < 16) ⊎ (16 ≤ r) → Fits i kept (Anys s) (form_in (anyone t) r) w
+      by (inl lt) = subst (λ x. Fits i kept (Anys s) x w) (sym (any_register t r lt))
+          (public_fits i kept (Held i kept wd md t s) (Anys s) (form_in t r) w p (each_pointer (Mine i kept wd (Callers s.group)) (Anys s Any) (λ q m o. m) w (mine lt)) h)
+      by (inr le) =
+          let is : w ≡ Int 0 = (subst (λ x. Fits i kept (Held i kept wd md t s) x w) (none le) h).holds in
+          subst (λ x. Fits i kept (Anys s) x w) (sym (past le ∙ none le)) (record { holds = is; clean = h.clean; mine = empty w is })
+
+  pub match_anyone : (t : Thread) (s : Slot) → Match i kept wd md t s → ((r : ℕ) → Public i kept (form_in t r)) → guards i kept s.number ≡ false
+      → Mine i kept wd (Callers s.group) s.ip
+      → ((r : ℕ) (w : Word) → r < 16 → Fits i kept (Held i kept wd md t s) (form_in t r) w → IfPointer w (Mine i kept wd (Callers s.group)))
+      → Match i kept wd AsAnyone (anyone t) s
+  match_anyone t s m free out ip mine = record {
     ip = m.ip;
     past = m.past;
     handler = m.handler;
     origin = out;
     long = refl;
     clean = m.clean;
-    registers = λ r ready. any_fits t m.long r (register s r) (free r) (m.registers r ready);
-    pending = each_map (λ (p : Pending). Fits i kept (form_in t p.reg) p.word) (λ (p : Pending). Fits i kept (form_in (anyone t) p.reg) p.word)
-        (λ p k. any_fits t m.long p.reg p.word (free p.reg) k) s.pending m.pending;
+    mine = λ o. ip;
+    registers = λ r ready. any_fits t s m.long r (register s r) (free r) (λ lt. mine r (register s r) lt (m.registers r ready)) (m.registers r ready);
+    pending = each_map (λ (p : Pending). Fits i kept (Held i kept wd md t s) (form_in t p.reg) p.word) (λ (p : Pending). Fits i kept (Anys s) (form_in (anyone t) p.reg) p.word)
+        (λ p k. any_fits t s m.long p.reg p.word (free p.reg) (λ lt. mine p.reg p.word lt k) k) s.pending m.pending;
   }
 
+module _ (i : Image) (kept : List Segment) (wd : World i kept) where
   -- 5. Slots by their states.
 
   -- the running slot of the image that a slot is
@@ -250,17 +283,24 @@ module _ (i : Image) (kept : List Segment) where
     pub kernel : is_kernel i kept handler ≡ true
     pub derived : Derived i kept (HasFaulted handler t)
 
+  -- why a thread is stopped
+  abbrev pub Why : Mode → Thread → Option ℕ → Type 0
+  Why AsAnyone t o = Free i kept t
+  Why AsKernel t o = HeldFor t o
+
   pub record RunningOk (s : Slot) : Type 0 where
     pub came : Came s
+    pub mode : Mode
     pub thread : Thread
-    pub up : Up i kept thread
-    pub matches : Match i kept thread s
+    pub next : Next i kept wd mode thread
+    pub matches : Match i kept wd mode thread s
 
   pub record StoppedOk (s : Slot) : Type 0 where
     pub came : Came s
+    pub mode : Mode
     pub thread : Thread
-    pub why : Free i kept thread ⊎ HeldFor thread s.handler
-    pub matches : Match i kept thread s
+    pub why : Why mode thread s.handler
+    pub matches : Match i kept wd mode thread s
 
   abbrev pub SlotOkAs : Slot → SlotState → Type 0
   SlotOkAs s Running = RunningOk s
@@ -274,10 +314,11 @@ module _ (i : Image) (kept : List Segment) where
   pub came_like : (s s' : Slot) → identity_of s ≡ identity_of s' → Came s → Came s'
   came_like s s' e h = record { slot = h.slot; among = h.among; same = h.same ∙ e }
 
-  pub slot_like : (s s' : Slot) → identity_of s ≡ identity_of s' → s.handler ≡ s'.handler → ((t : Thread) → Match i kept t s → Match i kept t s') → (st : SlotState) → SlotOkAs s st → SlotOkAs s' st
-  slot_like s s' e k f Running h = record { came = came_like s s' e h.came; thread = h.thread; up = h.up; matches = f h.thread h.matches }
-  slot_like s s' e k f Waiting h = record { came = came_like s s' e h.came; thread = h.thread; why = subst (λ o. Free i kept h.thread ⊎ HeldFor h.thread o) k h.why; matches = f h.thread h.matches }
-  slot_like s s' e k f Taken h = record { came = came_like s s' e h.came; thread = h.thread; why = subst (λ o. Free i kept h.thread ⊎ HeldFor h.thread o) k h.why; matches = f h.thread h.matches }
+  pub slot_like : (s s' : Slot) → identity_of s ≡ identity_of s' → s.handler ≡ s'.handler → ((md : Mode) (t : Thread) → Match i kept wd md t s → Match i kept wd md t s') → (st : SlotState)
+      → SlotOkAs s st → SlotOkAs s' st
+  slot_like s s' e k f Running h = record { came = came_like s s' e h.came; mode = h.mode; thread = h.thread; next = h.next; matches = f h.mode h.thread h.matches }
+  slot_like s s' e k f Waiting h = record { came = came_like s s' e h.came; mode = h.mode; thread = h.thread; why = subst (Why h.mode h.thread) k h.why; matches = f h.mode h.thread h.matches }
+  slot_like s s' e k f Taken h = record { came = came_like s s' e h.came; mode = h.mode; thread = h.thread; why = subst (Why h.mode h.thread) k h.why; matches = f h.mode h.thread h.matches }
   slot_like s s' e k f (Halted cause) h = tt
 
   pub slot_delivered : (s : Slot) → Sound s → SlotOk s → SlotOk (delivered s)
@@ -286,4 +327,4 @@ module _ (i : Image) (kept : List Segment) where
     where
       by : (ps : List Pending) → s.pending ≡ ps → SlotOk (delivers s ps)
       by [] e = ok
-      by (p ∷ rest) e = slot_like s (delivers s (p ∷ rest)) refl refl (λ t m. match_delivers t s p rest m h e) s.state ok
+      by (p ∷ rest) e = slot_like s (delivers s (p ∷ rest)) refl refl (λ md t m. match_delivers i kept wd md t s p rest m h e) s.state ok

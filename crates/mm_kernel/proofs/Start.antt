@@ -1,8 +1,8 @@
 -- What holds at the start of a variant.
 use Rattle.std.proofs.Common.{◌≡◌, ℕ, zero, suc, ◌%◌, ◌<◌, ◌≤◌, ◌⊎◌, inl, inr, Bool, true, false, ◌&&◌, ◌==◌, nat_eq}
-use Rattle.std.proofs.Common.{eqb-true, if◌then◌else◌, cond, List, [], ◌∷◌, map, replicate, length, slice_get}
+use Rattle.std.proofs.Common.{eqb-true, eq-eqb, if◌then◌else◌, cond, List, [], ◌∷◌, map, replicate, length, slice_get}
 use Rattle.std.proofs.Common.{slice_index_or, Option, Some, None, refl, sym, ap, ◌∙◌, subst, arith}
-use Rattle.std.proofs.lemmas.Bool.{and_left, or_parts, or_from, or_left, or_right, not-true, cases_lt}
+use Rattle.std.proofs.lemmas.Bool.{and_left, and_from, or_parts, or_from, or_left, or_right, not-true, cases_lt}
 use Rattle.std.proofs.{lemmas.List.{get_or_past, length-map}, Math.ListN.get_or-map}
 use Rattle.std.specs.{Prelude.Contains, List.{AllByRecursion, AllZip, flat_map, list_any}}
 use Rattle.std.specs.{Ordering.{nat_cmp, eq_by_cmp}, FinMap.find}
@@ -19,14 +19,17 @@ use Rattle.mm_model.proofs.{EffectWords.each_or, Filters.contained_filter, Start
 use Rattle.mm_kernel.specs.Segments.{Segment, is_kept, is_fixed, may_write, pointers_in, slot_pointers, page_pointers}
 use Rattle.mm_kernel.specs.Segments.{running_slots, live_pointers, runs_privileged, is_user, is_open}
 use Rattle.mm_kernel.specs.declared.{form.Form.TheVariants.Any, thread.{Origin.TheVariants.Door, Thread.Thread}}
-use Rattle.mm_kernel.specs.Forms.{exactly, zero_form}
+use Rattle.mm_kernel.specs.Forms.{exactly, carries, zero_form}
 use Rattle.mm_kernel.specs.Threads.{form_in, handler_of, is_kernel_slot, is_kernel, serves_some, own_thread}
-use Rattle.mm_kernel.specs.Facts.{hand_out, take_up, Fact.HasForm}
-use Rattle.mm_kernel.specs.Derived.{Derived, Keeps, first_form, cell_facts, Derived.{begins_in_cell, begins_in_slot}}
+use Rattle.mm_kernel.specs.Facts.{hand_out, Fact.HasForm}
+use Rattle.mm_kernel.specs.Derived.{Derived, Keeps, first_form, cell_facts, Derived.begins_in_cell}
 use Rattle.mm_kernel.specs.Variants.{IsShared, IsAnyCaller, IsVariantSlot, stays, Variant}
+use Rattle.mm_kernel.proofs.Owns.{Who.{Callers, Alone}, Mode.{AsAnyone, AsKernel}, World, KernelOf, IfPointer, each_pointer}
+use Rattle.mm_kernel.proofs.Owns.{falsely, Mine, Has, Left, KeptFor}
 use Rattle.mm_kernel.proofs.Values.{CleanWord, open_is_user, Fits, fits_exactly, fits_any_int, fits_number}
 use Rattle.mm_kernel.proofs.Values.{public_shared, holds_exactly}
-use Rattle.mm_kernel.proofs.Ups.{free_up, handed_out, each_in, each_from, each_split, each_unflat}
+use Rattle.mm_kernel.proofs.Serves.{any_contained}
+use Rattle.mm_kernel.proofs.Ups.{handed_out, each_in, each_from, each_split, each_unflat}
 use Rattle.mm_kernel.proofs.{Anyone.{anyone, anyone_free, any_register}, Slots.{RunningOk, SlotOk, SlotOkAs}}
 use Rattle.mm_kernel.proofs.Cores.{RowOk, RowsOk, HeldIn, WordOk, WordOkAs, MemOk}
 use Rattle.mm_kernel.specs.declared.fact.Leak.TheVariants as leak
@@ -144,7 +147,14 @@ module _ (i : Image) (kept : List Segment) (ks : Keeps i kept) where
 
 -- 5. The pointers of a variant.
 
-module _ (i j : Image) (kept : List Segment) (img : IsImage i) (jmg : IsImage j) (ks : Keeps i kept) (v : Variant i kept j) where
+-- what a variant's callers have, and what its words hold that are not kept, is theirs and their readers'
+pub record Begun (i j : Image) (kept : List Segment) (wd : World i kept) : Type 0 where
+  pub registers : (u : Slot) → Contains j.slots u → u.state ≡ Running → is_kernel i kept u.number ≡ false
+      → AllByRecursion (λ (w : Word). IfPointer w (Mine i kept wd (Callers u.group))) u.regs
+  pub ip : (u : Slot) → Contains j.slots u → u.state ≡ Running → is_kernel i kept u.number ≡ false → Mine i kept wd (Callers u.group) u.ip
+  pub cells : (w : ℕ) (c : Cell) → cell_at j.memory w ≡ Some c → is_kept kept w ≡ false → IfPointer c.word (Left i kept wd w Any)
+
+module _ (i j : Image) (kept : List Segment) (img : IsImage i) (jmg : IsImage j) (ks : Keeps i kept) (v : Variant i kept j) (wd : World i kept) (bg : Begun i j kept wd) where
   abbrev Spares : Pointer → Type 0
   Spares p = (w : ℕ) (c : Cell) → cell_at i.memory w ≡ Some c → is_fixed i w ≡ true → may_write w p ≡ false
 
@@ -176,10 +186,27 @@ module _ (i j : Image) (kept : List Segment) (img : IsImage i) (jmg : IsImage j)
   fresh_of : (x : Image) → IsImage x → (s : Slot) → Contains x.slots s → IsFresh (slot_limit x.version) x.slots s
   fresh_of x h s c = each_contained (IsFresh (slot_limit x.version) x.slots) x.slots s h.fresh c
 
-  -- a slot of the kernel begins as its own thread
-  kernel_begins : (s : Slot) → Contains i.slots s → Contains j.slots s → s.state ≡ Running → RunningOk i kept s
+  -- a slot of the kernel
+  kernel_is : (s : Slot) → Contains i.slots s → is_kernel_slot kept s ≡ true → KernelOf i kept s.number s.group
+  unfolding is_kernel
+  kernel_is s c e = record {
+    slot = s;
+    among = c;
+    number = refl;
+    group = refl;
+    kernel = e;
+    is = any_contained (λ (x : Slot). (x.number == s.number) && is_kernel_slot kept x) i.slots s c (and_from (s.number == s.number) (is_kernel_slot kept s) (eq-eqb s.number s.number refl) e);
+  }
+
+  -- nothing is owed of an exact form
+  none_owed : (M : Pointer → Type 0) (w : Word) → IfPointer w (λ (p : Pointer). carries (exactly w) ≡ true → M p)
+  none_owed M (Int n) = tt
+  none_owed M (Ptr p) = λ o. falsely o
+
+  -- it begins as its own thread
+  kernel_begins : (s : Slot) → Contains i.slots s → Contains j.slots s → is_kernel_slot kept s ≡ true → s.state ≡ Running → RunningOk i kept wd s
   unfolding form_in register
-  kernel_begins s c d e =
+  kernel_begins s c d kernel e =
       let among = running_in i s c e in
       let fresh = fresh_of i img s c in
       let spares = live_slot j Spares spared s (running_in j s d e) in
@@ -187,19 +214,22 @@ module _ (i j : Image) (kept : List Segment) (img : IsImage i) (jmg : IsImage j)
       let long = fresh.registers in
       record {
         came = record { slot = s; among = among; same = refl };
+        mode = AsKernel;
         thread = own_thread i kept s;
-        up = each_from (Derived i kept) (take_up i kept (own_thread i kept s)) (λ fact k. begins_in_slot s among k);
+        next = wd.rules.begins s among;
         matches = record {
           ip = refl;
           past = sym fresh.past;
           handler = refl;
-          origin = refl;
+          origin = (refl, kernel_is s c kernel);
           long = length-map s.regs exactly ∙ fresh.registers;
           clean = record { user = user.0; spares = spares.0 };
+          mine = λ o. falsely o;
           registers = λ r ready.
-              subst (λ f. Fits i kept f (slice_index_or s.regs r (Int 0))) (sym (get_or-map exactly s.regs r (Int 0)))
-              (fits_exactly i kept (slice_index_or s.regs r (Int 0)) (each_or (CleanWord i) s.regs r (Int 0) (cleans s c d e) tt));
-          pending = subst (AllByRecursion (λ (p : Pending). Fits i kept (form_in (own_thread i kept s) p.reg) p.word)) (sym fresh.pending) tt;
+              subst (λ f. Fits i kept (Has i kept wd (Alone s.number) AsKernel) f (slice_index_or s.regs r (Int 0))) (sym (get_or-map exactly s.regs r (Int 0)))
+              (fits_exactly i kept (Has i kept wd (Alone s.number) AsKernel) (slice_index_or s.regs r (Int 0)) (each_or (CleanWord i) s.regs r (Int 0) (cleans s c d e) tt)
+              (none_owed (Mine i kept wd (Alone s.number)) (slice_index_or s.regs r (Int 0))));
+          pending = subst (AllByRecursion (λ (p : Pending). Fits i kept (Has i kept wd (Alone s.number) AsKernel) (form_in (own_thread i kept s) p.reg) p.word)) (sym fresh.pending) tt;
         };
       }
     where
@@ -232,7 +262,7 @@ module _ (i j : Image) (kept : List Segment) (img : IsImage i) (jmg : IsImage j)
       by x d false at = refl
 
   caller_begins : (s u : Slot) → Contains i.slots s → Contains j.slots u → identity_of u ≡ identity_of s → s.state ≡ Running → u.state ≡ Running → is_kernel_slot kept s ≡ false
-      → IsAnyCaller i kept u → RunningOk i kept u
+      → IsAnyCaller i kept u → RunningOk i kept wd u
   unfolding form_in register
   caller_begins s u c d same on run k h =
       let among = running_in j u d run in
@@ -243,8 +273,9 @@ module _ (i j : Image) (kept : List Segment) (img : IsImage i) (jmg : IsImage j)
       let none : is_kernel i kept u.number ≡ false = ap (is_kernel i kept) number ∙ not_kernel s c k in
       record {
         came = record { slot = s; among = running_in i s c on; same = sym same };
+        mode = AsAnyone;
         thread = anyone t;
-        up = free_up i kept (anyone t) (anyone_free i kept t h.outside user (ap can_fetch h.executable));
+        next = anyone_free i kept wd t h.outside user (ap can_fetch h.executable);
         matches = record {
           ip = refl;
           past = refl;
@@ -252,48 +283,58 @@ module _ (i j : Image) (kept : List Segment) (img : IsImage i) (jmg : IsImage j)
           origin = and_left (is_kernel i kept u.number) (serves_some i u.number) none;
           long = refl;
           clean = record { user = user; spares = (live_slot j Spares spared u among).0 };
+          mine = λ o. bg.ip u d run none;
           registers = λ r ready. one t r (cases_lt r 16) fresh.registers
-              (each_or (λ (w : Word). Fits i kept Any w) u.regs r (Int 0) (fits u.regs h.registers (live_registers j Spares spared u among)) (fits_any_int i kept 0));
-          pending = subst (AllByRecursion (λ (p : Pending). Fits i kept (form_in (anyone t) p.reg) p.word)) (sym fresh.pending) tt;
+              (each_or (λ (w : Word). Fits i kept (Has i kept wd (Callers u.group) AsAnyone) Any w) u.regs r (Int 0)
+              (fits u.regs h.registers (live_registers j Spares spared u among) (bg.registers u d run none)) (fits_any_int i kept (Has i kept wd (Callers u.group) AsAnyone) 0));
+          pending = subst (AllByRecursion (λ (p : Pending). Fits i kept (Has i kept wd (Callers u.group) AsAnyone) (form_in (anyone t) p.reg) p.word)) (sym fresh.pending) tt;
         };
       }
     where
-      fits : (ws : List Word) → AllByRecursion (IsShared i kept) ws → AllByRecursion (λ (w : Word). AllByRecursion Spares (pointers_in w)) ws → AllByRecursion (λ (w : Word). Fits i kept Any w) ws
-      fits [] h p = tt
-      fits (w ∷ ws) h p = (record { holds = h.0; clean = clean_word w p.0 (open_users w h.0.open_word) }, fits ws h.1 p.1)
+      fits : (ws : List Word) → AllByRecursion (IsShared i kept) ws → AllByRecursion (λ (w : Word). AllByRecursion Spares (pointers_in w)) ws
+          → AllByRecursion (λ (w : Word). IfPointer w (Mine i kept wd (Callers u.group))) ws → AllByRecursion (λ (w : Word). Fits i kept (Has i kept wd (Callers u.group) AsAnyone) Any w) ws
+      fits [] h p own = tt
+      fits (w ∷ ws) h p own = (
+        record {
+          holds = h.0;
+          clean = clean_word w p.0 (open_users w h.0.open_word);
+          mine = each_pointer (Mine i kept wd (Callers u.group)) (Has i kept wd (Callers u.group) AsAnyone Any) (λ q k o. k) w own.0;
+        },
+        fits ws h.1 p.1 own.1,
+      )
 
-      one : (t : Thread) (r : ℕ) → (r < 16) ⊎ (16 ≤ r) → length u.regs ≡ 16 → Fits i kept Any (slice_index_or u.regs r (Int 0))
-          → Fits i kept (slice_index_or (replicate 16 Any) r zero_form) (slice_index_or u.regs r (Int 0))
-      one t r (inl lt) long f = subst (λ x. Fits i kept x (slice_index_or u.regs r (Int 0))) (sym (any_register t r lt)) f
+      one : (t : Thread) (r : ℕ) → (r < 16) ⊎ (16 ≤ r) → length u.regs ≡ 16 → Fits i kept (Has i kept wd (Callers u.group) AsAnyone) Any (slice_index_or u.regs r (Int 0))
+          → Fits i kept (Has i kept wd (Callers u.group) AsAnyone) (slice_index_or (replicate 16 Any) r zero_form) (slice_index_or u.regs r (Int 0))
+      one t r (inl lt) long f = subst (λ x. Fits i kept (Has i kept wd (Callers u.group) AsAnyone) x (slice_index_or u.regs r (Int 0))) (sym (any_register t r lt)) f
       one t r (inr le) long f =
-          subst (λ x. Fits i kept x (slice_index_or u.regs r (Int 0))) (sym (get_or_past (replicate 16 Any) r zero_form (omega arith)))
-          (subst (λ x. Fits i kept zero_form x) (sym (get_or_past u.regs r (Int 0) (omega arith))) (fits_number i kept 0))
+          subst (λ x. Fits i kept (Has i kept wd (Callers u.group) AsAnyone) x (slice_index_or u.regs r (Int 0))) (sym (get_or_past (replicate 16 Any) r zero_form (omega arith)))
+          (subst (λ x. Fits i kept (Has i kept wd (Callers u.group) AsAnyone) zero_form x) (sym (get_or_past u.regs r (Int 0) (omega arith))) (fits_number i kept (Has i kept wd (Callers u.group) AsAnyone) 0))
 
-  slot_begins : (s u : Slot) → Contains i.slots s → Contains j.slots u → IsVariantSlot i kept s u → SlotOk i kept u
+  slot_begins : (s u : Slot) → Contains i.slots s → Contains j.slots u → IsVariantSlot i kept s u → SlotOk i kept wd u
   slot_begins s u c d h = by u.state refl (fresh_of j jmg u d).begins
     where
-      caller : (b : Bool) → is_kernel_slot kept s ≡ b → u.state ≡ Running → RunningOk i kept u
+      caller : (b : Bool) → is_kernel_slot kept s ≡ b → u.state ≡ Running → RunningOk i kept wd u
       caller true e run =
           let same : u ≡ s = h.other (ap (λ z. if z then false else is_running s.state) e) in
-          subst (RunningOk i kept) (sym same) (kernel_begins s c (subst (Contains j.slots) same d) (sym h.state ∙ run))
+          subst (RunningOk i kept wd) (sym same) (kernel_begins s c (subst (Contains j.slots) same d) e (sym h.state ∙ run))
       caller false e run =
           let on : s.state ≡ Running = sym h.state ∙ run in
           caller_begins s u c d h.identity on run e (h.caller (ap (λ z. if z then false else is_running s.state) e ∙ ap is_running on))
 
-      by : (st : SlotState) → u.state ≡ st → Begins st → SlotOkAs i kept u st
+      by : (st : SlotState) → u.state ≡ st → Begins st → SlotOkAs i kept wd u st
       by Running e b = caller (is_kernel_slot kept s) refl e
       by Waiting e b = absurd b
       by Taken e b = absurd b
       by (Halted c) e b = tt
 
   rows_begin : (xs ys : List Slot) → AllZip (IsVariantSlot i kept) xs ys → AllByRecursion (Contains i.slots) xs → AllByRecursion (Contains j.slots) ys
-      → AllByRecursion (RowOk i kept) (map (λ (s : Slot). record { slot = s; queue = [] }) ys)
+      → AllByRecursion (RowOk i kept wd) (map (λ (s : Slot). record { slot = s; queue = [] }) ys)
   rows_begin [] [] z h k = tt
   rows_begin [] (y ∷ ys) z h k = absurd z
   rows_begin (x ∷ xs) [] z h k = absurd z
   rows_begin (x ∷ xs) (y ∷ ys) z h k = (record { slot = slot_begins x y h.0 k.0 z.0; queue = tt }, rows_begin xs ys z.1 h.1 k.1)
 
-  pub start_rows : RowsOk i kept (start j).core
+  pub start_rows : RowsOk i kept wd (start j).core
   unfolding start
   start_rows = rows_begin i.slots j.slots v.slots (each_in i.slots) (each_in j.slots)
 
@@ -314,13 +355,13 @@ module _ (i j : Image) (kept : List Segment) (img : IsImage i) (jmg : IsImage j)
   user_cell : (w : ℕ) (d : Cell) → cell_at i.memory w ≡ Some d → AllByRecursion User (pointers_in d.word)
   user_cell w d at = live_cell i User users w d at
 
-  first_fits : (b : Bool) (w : Word) → CleanWord i w → Fits i kept (first_form b w) w
-  first_fits true (Int n) h = record { holds = refl; clean = tt }
-  first_fits false (Int n) h = record { holds = refl; clean = tt }
-  first_fits true (Ptr p) h = record { holds = refl; clean = h }
-  first_fits false (Ptr p) h = record { holds = refl; clean = h }
+  first_fits : (w : ℕ) (b : Bool) (v : Word) → CleanWord i v → Fits i kept (KeptFor i kept wd w) (first_form b v) v
+  first_fits w true (Int n) h = record { holds = refl; clean = tt; mine = tt }
+  first_fits w false (Int n) h = record { holds = refl; clean = tt; mine = tt }
+  first_fits w true (Ptr p) h = record { holds = refl; clean = h; mine = λ carried. falsely carried }
+  first_fits w false (Ptr p) h = record { holds = refl; clean = h; mine = λ carried. falsely carried }
 
-  cell_begins : (w : ℕ) (c : Cell) → cell_at j.memory w ≡ Some c → WordOk i kept w c.word
+  cell_begins : (w : ℕ) (c : Cell) → cell_at j.memory w ≡ Some c → WordOk i kept wd w c.word
   cell_begins w c at = by (is_kept kept w) (is_fixed i w) refl refl
     where
       was : (d : Cell) × (cell_at i.memory w ≡ Some d)
@@ -331,24 +372,28 @@ module _ (i j : Image) (kept : List Segment) (img : IsImage i) (jmg : IsImage j)
           let same : was.0 ≡ c = same_cell w c was.0 at was.1 st in
           clean_word was.0.word (subst (λ (x : Cell). AllByRecursion Spares (pointers_in x.word)) (sym same) (spared_cell w c at)) (user_cell w was.0 was.1)
 
-      by : (b e : Bool) → is_kept kept w ≡ b → is_fixed i w ≡ e → WordOkAs i kept (is_kept kept w) w c.word
+      by : (b e : Bool) → is_kept kept w ≡ b → is_fixed i w ≡ e → WordOkAs i kept wd (is_kept kept w) w c.word
       by true e is fx =
           let st : stays i kept w ≡ true = or_left (is_kept kept w) (is_fixed i w) is in
           let same : was.0 ≡ c = same_cell w c was.0 at was.1 st in
-          subst (λ z. WordOkAs i kept z w c.word) (sym is)
-          (subst (λ (x : Cell). HeldIn i kept w x.word) same
-          (record { form = first_form (is_fixed i w) was.0.word; derived = cell_held i kept ks w was.0 was.1 is; fits = first_fits (is_fixed i w) was.0.word (clean_same st) }))
+          subst (λ z. WordOkAs i kept wd z w c.word) (sym is)
+          (subst (λ (x : Cell). HeldIn i kept wd w x.word) same
+          (record { form = first_form (is_fixed i w) was.0.word; derived = cell_held i kept ks w was.0 was.1 is; fits = first_fits w (is_fixed i w) was.0.word (clean_same st) }))
       by false true is fx =
           let st : stays i kept w ≡ true = or_right (is_kept kept w) (is_fixed i w) fx in
           let same : was.0 ≡ c = same_cell w c was.0 at was.1 st in
-          subst (λ z. WordOkAs i kept z w c.word) (sym is)
-          (subst (λ (x : Cell). Fits i kept Any x.word) same (record { holds = cell_shared i kept ks w was.0 was.1 is; clean = clean_same st }))
+          subst (λ z. WordOkAs i kept wd z w c.word) (sym is)
+          (record {
+            holds = subst (λ (x : Cell). IsShared i kept x.word) same (cell_shared i kept ks w was.0 was.1 is);
+            clean = subst (λ (x : Cell). CleanWord i x.word) same (clean_same st);
+            mine = bg.cells w c at is;
+          })
       by false false is fx =
           let shared = v.others w c at (or_from (is_kept kept w) (is_fixed i w) is fx) in
-          subst (λ z. WordOkAs i kept z w c.word) (sym is)
-          (record { holds = shared; clean = clean_word c.word (spared_cell w c at) (open_users c.word shared.open_word) })
+          subst (λ z. WordOkAs i kept wd z w c.word) (sym is)
+          (record { holds = shared; clean = clean_word c.word (spared_cell w c at) (open_users c.word shared.open_word); mine = bg.cells w c at is })
 
-  pub start_cells : MemOk i kept (start j).memory
+  pub start_cells : MemOk i kept wd (start j).memory
   unfolding start
   start_cells = record {
     cells = cell_begins;

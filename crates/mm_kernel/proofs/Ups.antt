@@ -1,11 +1,11 @@
 -- What follows from what a derived thread can come to, where no leak is derived.
 use Rattle.std.proofs.Common.{◌≡◌, ℕ, suc, ◌+◌, ◌<◌, ◌⊎◌, inl, inr, Bool, true, false, not, if◌then◌else◌, List, []}
-use Rattle.std.proofs.Common.{◌∷◌, ◌++◌, length, slice_index_or, Some, refl, sym, subst, arith}
+use Rattle.std.proofs.Common.{◌∷◌, ◌++◌, length, slice_index_or, Some, refl, subst, arith}
 use Rattle.std.proofs.lemmas.Bool.{and_parts, and_from, not-true, not_from_false}
 use Rattle.std.proofs.lemmas.List.FromFn.{length-range_with_len, get_or-range_with_len}
 use Rattle.std.specs.{Prelude.Contains, List.{AllByRecursion, flat_map, list_all, range_with_len}}
 use Rattle.mm_word.specs.declared.word.Cell.{Cell}
-use Rattle.mm_model.{specs.{Memory.cell_at, Image.Image}, proofs.CoreRows.{each_map, each_get}}
+use Rattle.mm_model.{specs.{Memory.cell_at, Image.Image}, proofs.{CoreRows.{each_map, each_get}, EffectWords.each_or}}
 use Rattle.mm_kernel.specs.Segments.{Segment, lies_in, is_kept, meets}
 use Rattle.mm_kernel.specs.declared.fact.{Leak.{Leak, TheVariants.{Jump, FaultPointer, Fault}}, Handling.Handling}
 use Rattle.mm_kernel.specs.declared.{form.{Form.{Form, TheVariants.{Pointer as Exactly}}}, outcome.Outcome.Outcome}
@@ -17,8 +17,8 @@ use Rattle.mm_kernel.specs.Facts.Fact.{HasThread, HasForm, HasEvent, HasFaulted,
 use Rattle.mm_kernel.specs.Turns.{outcomes, with_event}
 use Rattle.mm_kernel.specs.Derived.{Derived, Keeps, outcome_facts, fault_facts, shown, register_shown, register_left}
 use Rattle.mm_kernel.specs.Derived.{resumed}
-use Rattle.mm_kernel.specs.Derived.Derived.{turns, loads, stores, takes, resumes, reads_served, writes_served}
-use Rattle.mm_kernel.proofs.Values.{Public}
+use Rattle.mm_kernel.specs.Derived.Derived.{turns, stores, writes_served}
+use Rattle.mm_kernel.proofs.{Owns.{Mode, Mode.{AsAnyone, AsKernel}, World, Up, Comes, Kernels, Only}, Values.{Public, public_number}}
 use Rattle.mm_kernel.specs.declared.outcome.Outcome.TheVariants as outcome
 
 -- 1. Lists.
@@ -63,9 +63,6 @@ all_from p (x ∷ xs) d f = and_from (p x) (list_all p xs) (f 0 (omega arith)) (
 
 -- 2. A thread that is taken up.
 
-abbrev pub Up : Image → List Segment → Thread → Type 0
-Up i kept t = AllByRecursion (Derived i kept) (take_up i kept t)
-
 pub record Free (i : Image) (kept : List Segment) (t : Thread) : Type 0 where
   pub outside : meets kept t.ip ≡ false
   pub forms : AllByRecursion (Public i kept) t.forms
@@ -83,9 +80,6 @@ module _ (i : Image) (kept : List Segment) where
       let r = each_split (Derived i kept) (let_out kept f) (flat_map (let_out kept) fs) h in
       (record { open_form = parts.0; out = r.0 }, publics fs parts.1 r.1)
 
-  outs : (fs : List Form) → AllByRecursion (Public i kept) fs → AllByRecursion (Derived i kept) (flat_map (let_out kept) fs)
-  outs fs h = each_flat (Derived i kept) (let_out kept) fs (each_map (Public i kept) (λ (f : Form). AllByRecursion (Derived i kept) (let_out kept f)) (λ f p. p.out) fs h)
-
   opens : (fs : List Form) → AllByRecursion (Public i kept) fs → list_all (is_open_form kept) fs ≡ true
   opens [] h = refl
   opens (f ∷ fs) h = and_from (is_open_form kept f) (list_all (is_open_form kept) fs) h.0.open_form (opens fs h.1)
@@ -93,12 +87,6 @@ module _ (i : Image) (kept : List Segment) where
   pub free_is : (t : Thread) → Free i kept t → is_free kept t ≡ true
   unfolding is_free
   free_is t h = and_from (not (meets kept t.ip)) (list_all (is_open_form kept) t.forms) (not_from_false (meets kept t.ip) h.outside) (opens t.forms h.forms)
-
-  pub free_up : (t : Thread) → Free i kept t → Up i kept t
-  unfolding take_up
-  free_up t h =
-      subst (λ b. AllByRecursion (Derived i kept) (if b then flat_map (let_out kept) t.forms ++ loose i kept t.origin else HasThread t ∷ [])) (sym (free_is t h))
-      (each_join (Derived i kept) (flat_map (let_out kept) t.forms) (loose i kept t.origin) (outs t.forms h.forms) h.fast)
 
   pub up_cases : (t : Thread) → Up i kept t → Free i kept t ⊎ Bound i kept t
   unfolding take_up is_free
@@ -111,6 +99,10 @@ module _ (i : Image) (kept : List Segment) where
           inl (record { outside = not-true (meets kept t.ip) parts.0; forms = publics t.forms parts.1 r.0; fast = r.1 })
       by false e k = inr (record { not_free = e; derived = k.0 })
 
+  pub free_form : (t : Thread) → Free i kept t → (r : ℕ) → Public i kept (form_in t r)
+  unfolding form_in
+  free_form t h r = each_or (Public i kept) t.forms r zero_form h.forms (public_number i kept 0)
+
 -- 3. What follows from an outcome.
 
 abbrev pub ByHandler : Image → List Segment → Thread → Handler → Form → Form → Type 0
@@ -119,18 +111,40 @@ ByHandler i kept t (Kernel h) address value =
     Derived i kept (HasEvent h (record { ip = Exactly t.ip; address = address; value = value })) × Derived i kept (HasFaulted h t)
 ByHandler i kept t Caller address value = ⊥
 
-abbrev pub Follows : Image → List Segment → Thread → Outcome → Type 0
-Follows i kept t (outcome.Goes next) = Up i kept next
-Follows i kept t (outcome.Loads part reg next) = (w : ℕ) (f : Form) → Derived i kept (HasForm w f) → lies_in w part ≡ true → Up i kept (with_form next reg f)
-Follows i kept t (outcome.Stores part f) = (w : ℕ) (c : Cell) → cell_at i.memory w ≡ Some c → is_kept kept w ≡ true → lies_in w part ≡ true → Derived i kept (HasForm w f)
-Follows i kept t (outcome.HandsOut form leak) = Public i kept form
-Follows i kept t (outcome.Leaves linked) = ((r : ℕ) → r < 16 → Public i kept (form_in linked r)) × AllByRecursion (Derived i kept) (loose i kept linked.origin)
-Follows i kept t (outcome.Leaks leak) = ⊥
-Follows i kept t (outcome.Faults address value) = Free i kept t ⊎ ByHandler i kept t t.handler address value
-Follows i kept t (outcome.TakesEvent reg next) = (h : ℕ) (e : Handling) → t.origin ≡ OfSlot h → Derived i kept (HasEvent h e) → Up i kept (with_event next reg e.ip e.address e.value)
-Follows i kept t (outcome.Resumes how) = (h : ℕ) (u next : Thread) → t.origin ≡ OfSlot h → Derived i kept (HasFaulted h u) → Contains (resumed how u) next → Up i kept next
-Follows i kept t (outcome.ReadsServed reg from next) = (h : ℕ) (u : Thread) → t.origin ≡ OfSlot h → Derived i kept (HasFaulted h u) → Up i kept (with_form next reg (form_in u from))
-Follows i kept t (outcome.WritesServed reg f) = (h : ℕ) (u : Thread) → t.origin ≡ OfSlot h → Derived i kept (HasFaulted h u) → Derived i kept (HasFaulted h (with_form u reg f))
+-- how a thread goes on: anyone's is free, and the kernel's is taken up
+abbrev pub Next : (i : Image) (kept : List Segment) → World i kept → Mode → Thread → Type 0
+Next i kept wd AsAnyone t = Free i kept t
+Next i kept wd AsKernel t = wd.Taken t
+
+abbrev pub Faulty : Image → List Segment → Mode → Thread → Form → Form → Type 0
+Faulty i kept AsAnyone t address value = Free i kept t
+Faulty i kept AsKernel t address value = ByHandler i kept t t.handler address value
+
+abbrev pub Follows : (i : Image) (kept : List Segment) → World i kept → Mode → Thread → Outcome → Type 0
+Follows i kept wd md t (outcome.Goes next) = Next i kept wd md next
+Follows i kept wd md t (outcome.Loads part reg next) =
+    Only md (Comes i kept t.origin (outcome.Loads part reg next))
+    × ((w : ℕ) (f : Form) → Derived i kept (HasForm w f) → lies_in w part ≡ true → Next i kept wd md (with_form next reg f))
+    × Only md (Contains (outcomes i kept t) (outcome.Loads part reg next))
+Follows i kept wd md t (outcome.Stores part f) =
+    Only md (Comes i kept t.origin (outcome.Stores part f))
+    × ((w : ℕ) (c : Cell) → cell_at i.memory w ≡ Some c → is_kept kept w ≡ true → lies_in w part ≡ true → Derived i kept (HasForm w f))
+    × Only md (Contains (outcomes i kept t) (outcome.Stores part f))
+Follows i kept wd md t (outcome.HandsOut form leak) = Kernels md (Comes i kept t.origin (outcome.HandsOut form leak)) × Public i kept form
+Follows i kept wd md t (outcome.Leaves linked) =
+    Kernels md (Comes i kept t.origin (outcome.Leaves linked)) × ((r : ℕ) → r < 16 → Public i kept (form_in linked r)) × AllByRecursion (Derived i kept) (loose i kept linked.origin)
+Follows i kept wd md t (outcome.Leaks leak) = ⊥
+Follows i kept wd md t (outcome.Faults address value) = Faulty i kept md t address value
+Follows i kept wd md t (outcome.TakesEvent reg next) =
+    Kernels md (Comes i kept t.origin (outcome.TakesEvent reg next))
+    × ((h : ℕ) (e : Handling) → t.origin ≡ OfSlot h → Derived i kept (HasEvent h e) → Next i kept wd md (with_event next reg e.ip e.address e.value))
+Follows i kept wd md t (outcome.Resumes how) = (h : ℕ) (u next : Thread) → t.origin ≡ OfSlot h → Derived i kept (HasFaulted h u) → Contains (resumed how u) next → wd.Taken next
+Follows i kept wd md t (outcome.ReadsServed reg from next) =
+    Kernels md (Comes i kept t.origin (outcome.ReadsServed reg from next))
+    × ((h : ℕ) (u : Thread) → t.origin ≡ OfSlot h → Derived i kept (HasFaulted h u) → Next i kept wd md (with_form next reg (form_in u from)))
+Follows i kept wd md t (outcome.WritesServed reg f) =
+    Kernels md (Comes i kept t.origin (outcome.WritesServed reg f))
+    × ((h : ℕ) (u : Thread) → t.origin ≡ OfSlot h → Derived i kept (HasFaulted h u) → Derived i kept (HasFaulted h (with_form u reg f)))
 
 module _ (i : Image) (kept : List Segment) (ks : Keeps i kept) where
   -- what is handed out is public
@@ -145,7 +159,7 @@ module _ (i : Image) (kept : List Segment) (ks : Keeps i kept) where
   pub handed_out : (f : Form) (leak : Leak) → AllByRecursion (Derived i kept) (hand_out kept f leak) → Public i kept f
   handed_out = handed
 
-  module _ (t : Thread) (long : length t.forms ≡ 16) (bound : Bound i kept t) where
+  module _ (wd : World i kept) (t : Thread) (long : length t.forms ≡ 16) (bound : Bound i kept t) where
     facts : (o : Outcome) → Contains (outcomes i kept t) o → AllByRecursion (Derived i kept) (outcome_facts i kept t o)
     facts o c = each_from (Derived i kept) (outcome_facts i kept t o) (λ fact k. turns t o bound.derived c k)
 
@@ -174,25 +188,29 @@ module _ (i : Image) (kept : List Segment) (ks : Keeps i kept) where
     handles (Kernel h) a v k = (k.0, k.1.0)
     handles Caller a v k = let yes = shown_free k in let no = bound.not_free in cc
 
+    pub comes : (o : Outcome) → Contains (outcomes i kept t) o → Comes i kept t.origin o
+    comes o c = record { thread = t; derived = bound.derived; origin = refl; comes = c }
+
     -- each outcome of a derived thread has what follows from it
-    pub derived_follows : (o : Outcome) → Contains (outcomes i kept t) o → Follows i kept t o
-    derived_follows (outcome.Goes next) c = facts (outcome.Goes next) c
-    derived_follows (outcome.Loads part reg next) c = λ w f held inside. each_from (Derived i kept) (take_up i kept (with_form next reg f))
-        (λ fact k. loads t next part reg w f bound.derived c held inside k)
-    derived_follows (outcome.Stores part f) c = λ w cell at k inside. stores t part w cell f bound.derived c at k inside
-    derived_follows (outcome.HandsOut form leak) c = handed form leak (facts (outcome.HandsOut form leak) c)
+    pub derived_follows : (o : Outcome) → Contains (outcomes i kept t) o → Follows i kept wd AsKernel t o
+    derived_follows (outcome.Goes next) c = wd.rules.goes t next bound.derived c
+    derived_follows (outcome.Loads part reg next) c = (comes (outcome.Loads part reg next) c, (λ w f held inside. wd.rules.loads t next part reg w f bound.derived c held inside), c)
+    derived_follows (outcome.Stores part f) c = (comes (outcome.Stores part f) c, (λ w cell at k inside. stores t part w cell f bound.derived c at k inside), c)
+    derived_follows (outcome.HandsOut form leak) c = (comes (outcome.HandsOut form leak) c, handed form leak (facts (outcome.HandsOut form leak) c))
     derived_follows (outcome.Leaves linked) c =
         let parts = each_split (Derived i kept) (flat_map (register_left kept linked) (range_with_len 0 16)) (loose i kept linked.origin) (facts (outcome.Leaves linked) c) in
-        let regs = each_unflat (Derived i kept) (register_left kept linked) (range_with_len 0 16) parts.0 in
-        ((λ r lt. handed (form_in linked r) (Jump linked.ip.addr r (form_in linked r)) (each_register (λ (x : ℕ). AllByRecursion (Derived i kept) (register_left kept linked x)) regs r lt)), parts.1)
+        let regs = each_unflat (Derived i kept) (register_left kept linked) (range_with_len 0 16) parts.0 in (
+          comes (outcome.Leaves linked) c,
+          (λ r lt. handed (form_in linked r) (Jump linked.ip.addr r (form_in linked r)) (each_register (λ (x : ℕ). AllByRecursion (Derived i kept) (register_left kept linked x)) regs r lt)),
+          parts.1,
+        )
     derived_follows (outcome.Leaks leak) c = ks.no_leak leak (facts (outcome.Leaks leak) c).0
-    derived_follows (outcome.Faults address value) c = inr (handles t.handler address value (facts (outcome.Faults address value) c))
-    derived_follows (outcome.TakesEvent reg next) c = λ h e from held. each_from (Derived i kept) (take_up i kept (with_event next reg e.ip e.address e.value))
-        (λ fact k. takes t next h reg e bound.derived from c held k)
-    derived_follows (outcome.Resumes how) c = λ h u next from held among. each_from (Derived i kept) (take_up i kept next) (λ fact k. resumes t u next h how bound.derived from c held among k)
-    derived_follows (outcome.ReadsServed reg from next) c = λ h u own held. each_from (Derived i kept) (take_up i kept (with_form next reg (form_in u from)))
-        (λ fact k. reads_served t u next h reg from bound.derived own c held k)
-    derived_follows (outcome.WritesServed reg f) c = λ h u from held. writes_served t u h reg f bound.derived from c held
+    derived_follows (outcome.Faults address value) c = handles t.handler address value (facts (outcome.Faults address value) c)
+    derived_follows (outcome.TakesEvent reg next) c = (comes (outcome.TakesEvent reg next) c, (λ h e from held. wd.rules.takes t next h reg e bound.derived from c held))
+    derived_follows (outcome.Resumes how) c = λ h u next from held among. wd.rules.resumes t u next h how bound.derived from c held among
+    derived_follows (outcome.ReadsServed reg from next) c =
+        (comes (outcome.ReadsServed reg from next) c, (λ h u own held. wd.rules.reads t u next h reg from bound.derived own c held))
+    derived_follows (outcome.WritesServed reg f) c = (comes (outcome.WritesServed reg f) c, (λ h u from held. writes_served t u h reg f bound.derived from c held))
 
-    pub all_follow : AllByRecursion (Follows i kept t) (outcomes i kept t)
-    all_follow = each_from (Follows i kept t) (outcomes i kept t) derived_follows
+    pub all_follow : AllByRecursion (Follows i kept wd AsKernel t) (outcomes i kept t)
+    all_follow = each_from (Follows i kept wd AsKernel t) (outcomes i kept t) derived_follows

@@ -16,7 +16,7 @@ use Rattle.mm_kernel.specs.declared.form.Form.{Form}
 use Rattle.mm_kernel.specs.declared.form.Form.TheVariants.{Number, Pointer as Exactly, Integer, Open, Any, Inside}
 use Rattle.mm_kernel.specs.Forms.{Stands, PointsInside, exactly, is_open_form, stored_form}
 use Rattle.mm_kernel.specs.{Facts.{let_out, Fact.HasDoor}, Derived.Derived, Variants.{EntersByDoor, IsShared}}
-use Rattle.mm_kernel.proofs.Segs.{Within, within_all, below_within, outside_within}
+use Rattle.mm_kernel.proofs.{Owns.{IfPointer, each_pointer}, Segs.{Within, within_all, below_within, outside_within}}
 
 -- 1. What holds of every pointer that is held: it is no privileged one, and stores to no fixed word of the image.
 
@@ -87,7 +87,7 @@ clean_below i q p (inr n) h = by n.rights
 
 -- 2. Words that callers share.
 
-open_as : (perm : Perm) → runs_privileged perm ≡ false → is_open_as perm false ≡ true
+pub open_as : (perm : Perm) → runs_privileged perm ≡ false → is_open_as perm false ≡ true
 open_as Ro e = refl
 open_as Rw e = refl
 open_as Xu e = refl
@@ -182,9 +182,14 @@ Holds i kept (Open perm) w = IsPointerAnd w (λ p. p.perm ≡ perm) × IsShared 
 Holds i kept Any w = IsShared i kept w
 Holds i kept (Inside outer) w = IsPointerAnd w (PointsInside outer)
 
-pub record Fits (i : Image) (kept : List Segment) (f : Form) (w : Word) : Type 0 where
+-- M says what else holds of a pointer that stands in a word of a form
+pub record Fits (i : Image) (kept : List Segment) (M : Form → Pointer → Type 0) (f : Form) (w : Word) : Type 0 where
   pub holds : Holds i kept f w
   pub clean : CleanWord i w
+  pub mine : IfPointer w (M f)
+
+pub fits_as : (i : Image) (kept : List Segment) (M N : Form → Pointer → Type 0) (f : Form) (w : Word) → ((p : Pointer) → M f p → N f p) → Fits i kept M f w → Fits i kept N f w
+fits_as i kept M N f w g h = record { holds = h.holds; clean = h.clean; mine = each_pointer (M f) (N f) g w h.mine }
 
 pub holds_stands : (i : Image) (kept : List Segment) (f : Form) (w : Word) → Holds i kept f w → Stands kept f w
 holds_stands i kept (Number bits) w h = h
@@ -198,26 +203,27 @@ pub holds_exactly : (i : Image) (kept : List Segment) (w : Word) → Holds i kep
 holds_exactly i kept (Int bits) = refl
 holds_exactly i kept (Ptr p) = refl
 
-pub fits_exactly : (i : Image) (kept : List Segment) (w : Word) → CleanWord i w → Fits i kept (exactly w) w
-fits_exactly i kept w h = record { holds = holds_exactly i kept w; clean = h }
+pub fits_exactly : (i : Image) (kept : List Segment) (M : Form → Pointer → Type 0) (w : Word) → CleanWord i w → IfPointer w (M (exactly w)) → Fits i kept M (exactly w) w
+fits_exactly i kept M w h mine = record { holds = holds_exactly i kept w; clean = h; mine = mine }
 
-pub fits_number : (i : Image) (kept : List Segment) (bits : ℕ) → Fits i kept (Number bits) (Int bits)
-fits_number i kept bits = record { holds = refl; clean = tt }
+module _ (i : Image) (kept : List Segment) (M : Form → Pointer → Type 0) where
+  pub fits_number : (bits : ℕ) → Fits i kept M (Number bits) (Int bits)
+  fits_number bits = record { holds = refl; clean = tt; mine = tt }
 
-pub fits_integer : (i : Image) (kept : List Segment) (bits : ℕ) → Fits i kept Integer (Int bits)
-fits_integer i kept bits = record { holds = refl; clean = tt }
+  pub fits_integer : (bits : ℕ) → Fits i kept M Integer (Int bits)
+  fits_integer bits = record { holds = refl; clean = tt; mine = tt }
 
-pub fits_any_int : (i : Image) (kept : List Segment) (bits : ℕ) → Fits i kept Any (Int bits)
-fits_any_int i kept bits = record { holds = shared_int i kept bits; clean = tt }
+  pub fits_any_int : (bits : ℕ) → Fits i kept M Any (Int bits)
+  fits_any_int bits = record { holds = shared_int i kept bits; clean = tt; mine = tt }
 
-pub fits_stored : (i : Image) (kept : List Segment) (f : Form) (w : Word) → Fits i kept f w → Fits i kept (stored_form f) w
+pub fits_stored : (i : Image) (kept : List Segment) (M N : Form → Pointer → Type 0) (f : Form) (w : Word) → IfPointer w (N (stored_form f)) → Fits i kept M f w → Fits i kept N (stored_form f) w
 unfolding stored_form
-fits_stored i kept (Number bits) w h = record { holds = ap is_pointer h.holds; clean = h.clean }
-fits_stored i kept (Exactly p) w h = h
-fits_stored i kept Integer w h = h
-fits_stored i kept (Open perm) w h = h
-fits_stored i kept Any w h = h
-fits_stored i kept (Inside outer) w h = h
+fits_stored i kept M N (Number bits) w n h = record { holds = ap is_pointer h.holds; clean = h.clean; mine = n }
+fits_stored i kept M N (Exactly p) w n h = record { holds = h.holds; clean = h.clean; mine = n }
+fits_stored i kept M N Integer w n h = record { holds = h.holds; clean = h.clean; mine = n }
+fits_stored i kept M N (Open perm) w n h = record { holds = h.holds; clean = h.clean; mine = n }
+fits_stored i kept M N Any w n h = record { holds = h.holds; clean = h.clean; mine = n }
+fits_stored i kept M N (Inside outer) w n h = record { holds = h.holds; clean = h.clean; mine = n }
 
 -- 4. Forms that are handed out.
 
@@ -244,8 +250,8 @@ public_shared i kept (Open perm) w p h = h.1
 public_shared i kept Any w p h = h
 public_shared i kept (Inside outer) w p h = let no = p.open_form in cc
 
-pub public_fits : (i : Image) (kept : List Segment) (f : Form) (w : Word) → Public i kept f → Fits i kept f w → Fits i kept Any w
-public_fits i kept f w p h = record { holds = public_shared i kept f w p h.holds; clean = h.clean }
+pub public_fits : (i : Image) (kept : List Segment) (M N : Form → Pointer → Type 0) (f : Form) (w : Word) → Public i kept f → IfPointer w (N Any) → Fits i kept M f w → Fits i kept N Any w
+public_fits i kept M N f w p n h = record { holds = public_shared i kept f w p h.holds; clean = h.clean; mine = n }
 
 pub public_any : (i : Image) (kept : List Segment) → Public i kept Any
 unfolding is_open_form let_out

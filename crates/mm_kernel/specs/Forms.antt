@@ -1,5 +1,6 @@
 -- Forms: what is known of a word that a kernel's code handles.
 use Rattle.std.specs.Prelude.{◌≡◌, ℕ, Bool, true, false, Option, Some, None, List}
+use Rattle.mm_word.specs.declared.perm.Perm.TheVariants.{Key}
 use Rattle.mm_word.specs.declared.word.Word.{Word, TheVariants.{Int, Ptr}}
 use Rattle.mm_word.specs.{Pointer.{Pointer as PointerValue, base_of, bits_of}, Word.{IsPointerAnd, is_pointer}}
 use Rattle.mm_kernel.specs.declared.form.Form.{Form, TheVariants.{Number, Pointer, Integer, Open, Any, Inside}}
@@ -33,6 +34,13 @@ unfoldable pub is_open_form : List Segment → Form → Bool
 is_open_form kept (Pointer p) = is_open_pointer kept p
 is_open_form kept (Inside outer) = false
 is_open_form kept _ = true
+
+-- A form carries if it stands for pointers that others have. Nothing can be made of a key.
+abbrev pub carries : Form → Bool
+carries (Open Key) = false
+carries (Open perm) = true
+carries Any = true
+carries _ = false
 
 -- the 64 bits of the word, if the form stands for one alone
 abbrev pub exact_bits : Form → Option ℕ

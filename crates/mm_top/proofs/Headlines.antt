@@ -10,8 +10,9 @@ use Rattle.mm_load.specs.{declared.status.Status.{Status, TheVariants.Done}, Fil
 use Rattle.mm_load.specs.Kinds.{Value, an_image}
 use Rattle.mm_cli.{specs.Table.{Row, Matches, files_of}, proofs.Rows.one_row}
 use Rattle.mm_log.{proofs.Logs.logs_replay, specs.Log.log_text}
-use Rattle.mm_top.specs.{Commands.{run, trace, log, keeps}, Answers.{Answers, Call, RowComesTo, write}}
-use Rattle.mm_top.specs.{Headline.{RunIsProved, LogIsProved, KeepsIsProved, no_turns}, Orders.AreIssued}
+use Rattle.mm_explore.proofs.{Earliest.findings_are_met, RunsFound.runs_are_found}
+use Rattle.mm_top.specs.{Commands.{run, trace, log, explore, keeps}, Answers.{Answers, Call, RowComesTo, write}}
+use Rattle.mm_top.specs.{Headline.{RunIsProved, LogIsProved, ExploreIsProved, KeepsIsProved, no_turns}, Orders.AreIssued}
 use Rattle.mm_top.proofs.{TracedSections.traces_isolate, LoggedSections.logs_isolate, Verdicts.done}
 
 -- 1. What is proved of a command, from what its row comes to.
@@ -73,6 +74,19 @@ keeps_proved tells held left image threads kept text (an_image i ∷ [], accepte
 }
 keeps_proved tells held left image threads kept text (values, accepted, writes) = absurd (assumption (accepted, writes))
 
+explore_proved : (tells : List Use → Option Counts) (held : List ℕ → Option (List ℕ)) (left : Option (List ℕ)) (image : List ℕ) (states : ℕ) (text : List ℕ)
+    → RowComesTo tells held left (explore image states) (write text) → ExploreIsProved held image states text
+explore_proved tells held left image states text (an_image i ∷ [], accepted, explores) = record {
+  i = i;
+  reads = accepted;
+  found = explores.found;
+  finds = explores.finds;
+  writes = explores.written;
+  met = findings_are_met i states explores.found accepted.0.means.image explores.finds;
+  runs = λ all s. runs_are_found i states explores.found accepted.0.means.image explores.finds all s;
+}
+explore_proved tells held left image states text (values, accepted, writes) = absurd (assumption (accepted, writes))
+
 -- 2. The headline, from the answer.
 
 -- the text that is written is what the row of the words comes to
@@ -102,6 +116,12 @@ pub log_headline : {c : Call} {words : List (List ℕ)} {status : Status} → An
 log_headline {c = c} answers same image cycles schedule asks =
     let (text, gives, took) = written answers same (log image cycles schedule) asks in
     (text, log_proved c.tells c.files.held c.input.left image cycles schedule text gives, took)
+
+pub explore_headline : {c : Call} {words : List (List ℕ)} {status : Status} → Answers c words status → status ≡ Done → (image : List ℕ) (states : ℕ)
+    → Matches words (explore image states) → (text : List ℕ) × ExploreIsProved c.files.held image states text × (c.out.taken ≡ append_known c.out.taken_before text)
+explore_headline {c = c} answers same image states asks =
+    let (text, gives, took) = written answers same (explore image states) asks in
+    (text, explore_proved c.tells c.files.held c.input.left image states text gives, took)
 
 pub keeps_headline : {c : Call} {words : List (List ℕ)} {status : Status} → Answers c words status → status ≡ Done → (image : List ℕ) (threads : ℕ) (kept : List Segment)
     → Matches words (keeps image threads kept) → (text : List ℕ) × KeepsIsProved c.files.held image threads kept text × (c.out.taken ≡ append_known c.out.taken_before text)

@@ -9,7 +9,7 @@ use Rattle.mm_disasm.specs.Canonical.{canonical}
 use Rattle.mm_gen.specs.{Generated.generated, Summary.summary}
 use Rattle.mm_sweep.specs.{Swept.swept, Refusals.CanSweep}
 use Rattle.mm_audit.specs.Refusals.{StandAlone}
-use Rattle.mm_explore.specs.Texts.{Explores}
+use Rattle.mm_explore.specs.Finds.{Explores}
 use Rattle.mm_why.specs.Text.{SaysWhy}
 use Rattle.mm_kernel.specs.Segments.{Segment}
 use Rattle.mm_keep_text.specs.Answers.{Says}
@@ -156,6 +156,9 @@ trace image cycles schedule = record { command = Trace; words = run_words image 
 
 abbrev pub log : (image : List ℕ) (cycles : ℕ) (schedule : Option (List ℕ)) → Row
 log image cycles schedule = record { command = Log; words = run_words image cycles schedule }
+
+abbrev pub explore : (image : List ℕ) (states : ℕ) → Row
+explore image states = record { command = Explore; words = file_word image_file image ∷ number_word states ∷ [] }
 
 abbrev pub keeps : (image : List ℕ) (threads : ℕ) (kept : List Segment) → Row
 keeps image threads kept = record {

@@ -1,15 +1,16 @@
--- The headline: what is proved of every run, trace, log and look at a kernel that is done.
-use Rattle.std.specs.Prelude.{◌≡◌, ◌++◌, ◌∷◌, [], ℕ, Bool, List, Option}
+-- The headline: what is proved of every run, trace, log, exploration and look at a kernel that is done.
+use Rattle.std.specs.Prelude.{◌≡◌, ◌++◌, ◌∷◌, [], ℕ, Bool, true, List, Option}
 use Rattle.mm_model.specs.{declared.counts.Counts.Counts, Uses.Use, Image.{Image, start}, State.State, Groups.HasSlot}
 use Rattle.mm_model.specs.{Reach.Entries.All, Worlds.Apart, Report.report_after}
 use Rattle.mm_laws.specs.Runs.{Reaches, Isolates}
 use Rattle.mm_cli.specs.Table.{Row, files_of}
 use Rattle.mm_load.specs.{Kinds.{Value, an_image}, Files.FilesAccepted}
 use Rattle.mm_log.specs.{Log.log_text, Laws.Replays}
+use Rattle.mm_explore.specs.{Finds.Finds, Laws.{AreMet, IsRunFound}, Results.{Results, explored_text}}
 use Rattle.mm_kernel.specs.Segments.{Segment}
 use Rattle.mm_keep_text.specs.declared.told.Answer.{Answer}
 use Rattle.mm_keep_text.specs.{Answers.{IsAnswer, answer_text}, Laws.KeepsIfYes}
-use Rattle.mm_top.specs.{Commands.{log, keeps}, Orders.AreIssued}
+use Rattle.mm_top.specs.{Commands.{log, explore, keeps}, Orders.AreIssued}
 
 -- What a command that is done did, if it runs an image and writes a report. `turns` is the text that it writes before
 -- the report, of the state at the start and the items that are issued.
@@ -43,6 +44,20 @@ pub record LogIsProved (tells : List Use → Option Counts) (held : List ℕ →
   -- The lines up to any cycle, carried out from the machine's start, make the state that the run has then, except for
   -- the number of cycles.
   pub replays : (front later : List ℕ) → runs.items ≡ front ++ later → Replays runs.i front later
+
+-- What an `explore` that is done did.
+pub record ExploreIsProved (held : List ℕ → Option (List ℕ)) (image : List ℕ) (states : ℕ) (written : List ℕ) : Type 0 where
+  -- the image that the file spells, and what is found of it
+  pub i : Image
+  pub reads : FilesAccepted held [] (files_of (explore image states)) (an_image i ∷ [])
+  pub found : Results
+  pub finds : Finds i states found
+  pub writes : written ≡ explored_text found
+  -- Each fault and each outcome is met by its schedule, and by none before it.
+  pub met : AreMet i found
+  -- If all configurations were looked at, whatever comes of a run under any items is found, and some more items lead to a
+  -- configuration that is final or in an endless set, with an outcome that is found.
+  pub runs : found.all ≡ true → (s : List ℕ) → IsRunFound i found s
 
 -- What a `keeps` that is done did.
 pub record KeepsIsProved (held : List ℕ → Option (List ℕ)) (image : List ℕ) (threads : ℕ) (kept : List Segment)

@@ -2,7 +2,7 @@
 
 ghost use Rattle.std.specs.Prelude.{◌≤◌};
 ghost use Rattle.mm_model.specs.Limits.{state_limit};
-ghost use Rattle.mm_explore.specs.Texts.{Explores};
+ghost use Rattle.mm_explore.specs.Finds.{Explores};
 ghost use Rattle.mm_load.specs.Files.{reading};
 ghost use Rattle.mm_cli.specs.Arguments.{HasArguments, row};
 ghost use Rattle.mm_top.specs.Commands.{YieldsAlone};

@@ -9,13 +9,13 @@ ghost use Rattle.mm_load.specs.Files.{AsksFiles, DrawnBehind, ReadsWhole, drawin
 ghost use Rattle.mm_cli.specs.Words.{texts};
 ghost use Rattle.mm_cli.specs.Table.{InNoRow, Matches, LeaveInput, Row, files_of, input_of};
 ghost use Rattle.mm_cli.specs.Arguments.{HasArguments, row};
-ghost use Rattle.mm_top.specs.Commands.{run, trace, log, keeps};
+ghost use Rattle.mm_top.specs.Commands.{run, trace, log, explore, keeps};
 ghost use Rattle.mm_load.specs.Lines.{line_of};
 ghost use Rattle.mm_top.specs.Answers.{ComesTo, ReadFailed, WritesNothing, TookLine, NothingFails, HasToRefuse};
 ghost use Rattle.mm_top.specs.Answers.{RefusedUnless, RowEnds, Answers, call, writing, status_of, refuse, write};
 ghost use Rattle.mm_model.specs.Trace.{trace as trace_of};
 ghost use Rattle.mm_kernel.specs.Segments.{Segment};
-ghost use Rattle.mm_top.specs.Headline.{RunIsProved, LogIsProved, KeepsIsProved, no_turns};
+ghost use Rattle.mm_top.specs.Headline.{RunIsProved, LogIsProved, ExploreIsProved, KeepsIsProved, no_turns};
 
 use crate::asm::asm;
 use crate::debug::debug;
@@ -110,6 +110,14 @@ pub fn mmachine<M: Boot + Reset, F: Files, I: Source, O: Sink, D: Sink>(
     ensures replay { result ≡ Status.Done → (image : List ℕ) (cycles : ℕ) (schedule : Option (List ℕ))
         → Matches (texts words.now) (log image cycles schedule)
         → (written : List ℕ) × LogIsProved M.tells (F.held files.old) image cycles schedule written
+        × (O.taken out.new ≡ append_known (O.taken out.old) written) }
+
+    // What runs come to is proved of each exploration that is done: it writes what is found of the image up to STATES
+    // configurations, and each finding is met first by its schedule. If these are all configurations, each access, each
+    // fault and each outcome of every run is found, and every run can go on into a final configuration or an endless set.
+    ensures explore { result ≡ Status.Done → (image : List ℕ) (states : ℕ)
+        → Matches (texts words.now) (explore image states)
+        → (written : List ℕ) × ExploreIsProved (F.held files.old) image states written
         × (O.taken out.new ≡ append_known (O.taken out.old) written) }
 
     // What a kernel keeps is proved of each `keeps` that is done: it writes the answer for the image and its kept

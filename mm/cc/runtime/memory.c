@@ -11,6 +11,26 @@ static int places_fit(const void *a, const void *b)
     return ((bits_of(a) ^ bits_of(b)) & 7) == 0;
 }
 
+/* Eight bytes that may stand anywhere. */
+void *__mm_load_anywhere(const void *from)
+{
+    number found = 0;
+    if (words_fit(from, from))
+        return *(void *const *)from;
+    for (int at = 0; at < 8; at++)
+        found |= (number)((const unsigned char *)from)[at] << 8 * at;
+    return (void *)found;
+}
+
+void __mm_store_anywhere(void *to, void *value)
+{
+    if (words_fit(to, to))
+        *(void **)to = value;
+    else
+        for (int at = 0; at < 8; at++)
+            ((char *)to)[at] = (number)value >> 8 * at;
+}
+
 void *memcpy(void *to, const void *from, size_t size)
 {
     char *a = to;

@@ -3,7 +3,7 @@
 from __future__ import annotations
 
 import re
-from typing import Any
+from typing import Any, Iterator, Optional
 
 from mm.tests.support import mm
 from mm.tests.truth.names import PLACE
@@ -119,6 +119,7 @@ def explore_text(case: Case, out: str, text: str) -> None:
     """What `explore` found, in words."""
     lines = out.splitlines()
     said: list[tuple[Any, ...]] = []
+    outcomes = outcomes_of(text)
     wanted: list[tuple[Any, ...]] = []
     first = text.split("\n", 1)[0].split()
     head = re.match(r"(\d+) configurations?, (these are all|there are more)", lines[0])
@@ -128,8 +129,8 @@ def explore_text(case: Case, out: str, text: str) -> None:
             wanted.append((words[0], int(words[1], 16), int(words[2])))
         elif words[0] == "fault":
             wanted.append(tuple(words))
-        elif words[0] == "outcome":  # Its number is how many configurations have it.
-            wanted.append((words[0], words[2]))
+        elif words[0] == "outcome":
+            wanted.append(next(outcomes))
         elif words[0] == "by":
             wanted.append(("by", " ".join(words[1:])))
         elif words[0] == "slot":
@@ -143,19 +144,38 @@ def explore_text(case: Case, out: str, text: str) -> None:
         said += explored(case, line)
     same = len(said) == len(wanted) and all(map(is_outcome, said, wanted))
     case.check("explore findings", same, lambda: ([pair for pair in zip(said, wanted) if not is_outcome(*pair)], len(said), len(wanted), out))
+    nobody = first[2] == "all" and not re.search(r"^slot \d+ (running|waiting|taken)$", text, re.M)
+    case.check("explore verdict", ("no outcome leaves a thread waiting" in lines) == nobody, out)
+
+
+KINDS = {"ends": "ended", "is stuck": "stuck", "goes on for ever": "endless"}
+
+
+def outcomes_of(text: str) -> Iterator[tuple[Any, ...]]:
+    """Of each outcome its kind and, if it goes on for ever, the slots that are busy and those that wait."""
+    for block in re.split(r"^outcome \d+ ", text, flags=re.M)[1:]:
+        kind = block.split("\n", 1)[0]
+        slots = [tuple(re.findall(rf"^slot (\d+) {state}$", block, re.M)) for state in ("busy", "running")]
+        yield ("outcome", kind, *(slots if kind == "endless" else ((), ())))
+
+
+def slots_in(text: Optional[str], does: str) -> tuple[str, ...]:
+    """The slots of which a sentence says that they do something."""
+    found = re.search(rf"slots? ((?:\d+|, | and )+) {does}(?:, |$)", text or "")
+    return tuple(re.findall(r"\d+", found[1])) if found else ()
 
 
 def explored(case: Case, line: str) -> list[tuple[Any, ...]]:
     """What a line of `mm explore` says, as the program has it."""
     span = re.match(r"  (touches|writes) +(\S+)(?: and the (\d+) words? after it)?$", line)
     fault = re.match(r"slot (\d+) can be stopped .*?by fault (\d+)", line)
-    outcome = re.match(r"outcome (\d+): it (ends|is stuck)", line)
+    outcome = re.match(r"outcome (\d+): it (ends|is stuck|goes on for ever)(?:: (.*))?$", line)
     if span:
         return [({"touches": "touched", "writes": "wrote"}[span[1]], case.names.address(span[2]), int(span[3] or 0) + 1)]
     if fault:
         return [("fault", fault[1], fault[2])]
     if outcome:
-        return [("outcome", "ended" if outcome[2] == "ends" else "stuck")]
+        return [("outcome", KINDS[outcome[2]], *(slots_in(outcome[3], does) for does in (r"(?:is|are) busy", r"waits?")))]
     if line.startswith("  under the schedule "):
         return [("by", line[21:].replace("without turns", ""))]
     slot, output = re.match(r"  slot (\d+) (.*)$", line), re.match(r'  group (\d+) prints "(.*)"$', line)
@@ -169,12 +189,13 @@ FAULTED = {"waiting": "and its handler has not looked yet", "taken": "and its ha
 
 
 def is_outcome(said: tuple[Any, ...], wanted: tuple[Any, ...]) -> bool:
-    """Whether a finding is the program's. A slot that runs where nothing changes any more may be said to wait."""
+    """Whether a finding is the program's. A slot that runs where nothing comes of its turns may be said to wait."""
     if said == wanted:
         return True
     if said[:2] == wanted[:2] and said[0] == "slot" and wanted[2] in FAULTED:
         return bool(re.fullmatch(rf"has faulted at {PLACE}(, past the end of its segment)?, {FAULTED[wanted[2]]}", str(said[2])))
-    return said[:2] == wanted[:2] and said[0] == "slot" and wanted[2] == "running" and str(said[2]).startswith("waiting")
+    waits = r"(waiting|running) at .*, for ever"
+    return said[:2] == wanted[:2] and said[0] == "slot" and wanted[2] == "running" and bool(re.fullmatch(waits, str(said[2])))
 
 
 def symbols(case: Case, form: Any, out: str) -> None:

@@ -21,7 +21,7 @@ from mm.tests.truth.facts import Asking
 from mm.tests.truth.told import Report
 from mm.view.data import tables
 from mm.view.page import FOLDER
-from mm.words import MOST_CYCLES, MOST_GROUP
+from mm.words import MOST_CYCLES, MOST_GROUP, MOST_STATES
 
 # What a program meets that faults with each cause; of Sync alone no slot is halted.
 CAUSES = {
@@ -131,7 +131,7 @@ def limits(asking: Asking) -> None:
             refused = "too long" in line_of(asking, command, b"#" * (limit + more))
             asking.facts.check("lengths of files", refused == bool(more), (command, limit + more))
     numbers = (
-        (f"run {image} {{}}", MOST_CYCLES), (f"explore {image} {{}}", MOST_CYCLES), (f"why {image} {{}} 0 touch", MOST_GROUP),
+        (f"run {image} {{}}", MOST_CYCLES), (f"explore {image} {{}}", MOST_STATES), (f"why {image} {{}} 0 touch", MOST_GROUP),
         (f"holders {image} 0 {{}}", LONGEST), (f"grants {image} {{}}", MOST_GROUP),
     )
     for command, most in numbers:

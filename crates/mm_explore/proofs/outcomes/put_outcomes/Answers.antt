@@ -1,6 +1,6 @@
-use Rattle.std.proofs.{Common.{sym, subst}, lemmas.Map.Iter.{rest_more, rest_all}}
-use Rattle.std.specs.{List.flat_map, Map.Iter.deref_pair}
-use Rattle.mm_explore.specs.{Noting.IsEnd, Results.outcome_found_lines, Texts.outcome_lines}
+use Rattle.std.proofs.{lemmas.Map.Iter.{rest_more, rest_all}}
+use Rattle.std.specs.Map.Iter.{deref_pair}
+use Rattle.mm_explore.specs.{Finds.outcome_found, Noting.IsKeptEnd, Outcomes.count_of}
 use Rattle.mm_explore.proofs.LeftOver.{left_next, left_more, left_none}
 use Rattle.mm_explore.proofs.outcomes.put_outcomes.Goals as goal
 
@@ -8,30 +8,31 @@ pub outcome-requires-clause-end : goal.outcome-requires-clause-end
 outcome-requires-clause-end c =
     let i = c.args.img.now in
     let list = c.args.found.now.list in
-    let finals = c.requires.ends.0 in
-    let ts = c.requires.ends.1 in
+    let all = c.requires.ends.0 in
+    let some = c.requires.ends.1 in
     let tally = c.in-Some.tally.now in
-    let now = rest_more deref_pair c.loop-key.key-iterator c.next.new.self c.next.result (c.in-Some.key, c.in-Some.tally) c.in-Some.is c.next.ensures.steps in
-    let next = left_next (λ t end. IsEnd i list finals t end.0.items end.1) (outcome_lines i finals) outcome_found_lines ts (flat_map outcome_found_lines c.args.out.now.items) c.loop-key.out.items
-    c.loop-key.key-iterator c.next.new.self (c.in-Some.key.now, tally) now (c.loop-key.invariant finals ts c.requires.ends.2) in
-    (finals, next.a, subst (λ k. IsEnd i list finals next.a k tally) (sym c.deref.ensures.value) next.stands)
+    let now = rest_more deref_pair c.loop-tally.tally-iterator c.next.new.self c.next.result (c.in-Some.field-0-0, c.in-Some.tally) c.in-Some.is c.next.ensures.steps in
+    let next = left_next (λ e entry. IsKeptEnd i list all e entry.0.items entry.1) (λ e. outcome_found i (count_of all e.outcome) e.outcome e.schedule) some
+    c.args.out.now.items c.loop-tally.out.items
+    c.loop-tally.tally-iterator c.next.new.self (c.in-Some.field-0-0.now, tally) now (c.loop-tally.invariant all some c.requires.ends.2) in
+    (all, next.a, c.in-Some.field-0-0.now.items, next.stands)
 
-pub loop-key-preserved : goal.loop-key-preserved
-loop-key-preserved c = λ finals ts all.
+pub loop-tally-preserved : goal.loop-tally-preserved
+loop-tally-preserved c = λ all some zip.
     let i = c.args.img.now in
     let list = c.args.found.now.list in
     let tally = c.in-Some.tally.now in
-    let now = rest_more deref_pair c.loop-key.key-iterator c.next.new.self c.next.result (c.in-Some.key, c.in-Some.tally) c.in-Some.is c.next.ensures.steps in
-    left_more (λ t end. IsEnd i list finals t end.0.items end.1) (outcome_lines i finals) outcome_found_lines ts
-    (flat_map outcome_found_lines c.args.out.now.items) c.loop-key.out.items c.push.new.self.items
-    c.in_ok-outcome.outcome (c.in-Some.key.now, tally) c.loop-key.key-iterator c.next.new.self now c.in_ok-push.ensures.items
-    (λ t e. c.in_ok-outcome.ensures finals t (subst (λ k. IsEnd i list finals t k tally) (sym c.deref.ensures.value) e))
-    (c.loop-key.invariant finals ts all)
+    let now = rest_more deref_pair c.loop-tally.tally-iterator c.next.new.self c.next.result (c.in-Some.field-0-0, c.in-Some.tally) c.in-Some.is c.next.ensures.steps in
+    left_more (λ e entry. IsKeptEnd i list all e entry.0.items entry.1) (λ e. outcome_found i (count_of all e.outcome) e.outcome e.schedule) some
+    c.args.out.now.items c.loop-tally.out.items c.push.new.self.items
+    c.in_ok-outcome.outcome (c.in-Some.field-0-0.now, tally) c.loop-tally.tally-iterator c.next.new.self now c.in_ok-push.ensures.items
+    (λ e k. c.in_ok-outcome.ensures all e c.in-Some.field-0-0.now.items k)
+    (c.loop-tally.invariant all some zip)
 
 pub returns : goal.returns
-returns c = λ finals ts all.
+returns c = λ all some zip.
     let i = c.args.img.now in
     let list = c.args.found.now.list in
-    let none = rest_all deref_pair c.loop-key.key-iterator c.next.new.self c.next.result c.in-None.is c.next.ensures.steps in
-    left_none (λ t end. IsEnd i list finals t end.0.items end.1) (outcome_lines i finals) outcome_found_lines ts (flat_map outcome_found_lines c.args.out.now.items) c.loop-key.out.items
-    c.loop-key.key-iterator none (c.loop-key.invariant finals ts all)
+    let none = rest_all deref_pair c.loop-tally.tally-iterator c.next.new.self c.next.result c.in-None.is c.next.ensures.steps in
+    left_none (λ e entry. IsKeptEnd i list all e entry.0.items entry.1) (λ e. outcome_found i (count_of all e.outcome) e.outcome e.schedule) some c.args.out.now.items c.loop-tally.out.items
+    c.loop-tally.tally-iterator none (c.loop-tally.invariant all some zip)

@@ -1,10 +1,10 @@
-use Rattle.std.{proofs.Common.{ℕ, List}, specs.List.{AllZip, flat_map}}
-use Rattle.mm_explore.{specs.{Noting.IsEnd, Results.outcome_found_lines, Texts.outcome_lines}, proofs.LeftOver.LeftOver}
+use Rattle.std.{proofs.Common.List, specs.List.AllZip}
+use Rattle.mm_explore.{specs.{Finds.outcome_found, Noting.IsKeptEnd, Outcomes.{End, count_of}}, proofs.LeftOver.LeftOver}
 use Rattle.mm_explore.proofs.outcomes.put_outcomes.Given as goal
 
--- the lines so far and those of the ends that are left are the lines of all ends
-abbrev pub invariant-loop-key : goal.invariant-loop-key
-invariant-loop-key l =
-    (finals ts : List (List ℕ)) → AllZip (λ t end. IsEnd l.img l.found.list finals t end.0.items end.1) ts l.ends.entries
-    → LeftOver (λ t end. IsEnd l.img l.found.list finals t end.0.items end.1) (outcome_lines l.img finals)
-    outcome_found_lines ts (flat_map outcome_found_lines l.fn.out.items) l.out.items l.key-iterator
+-- the outcomes so far and those of the ends that are left are the outcomes of all ends
+abbrev pub invariant-loop-tally : goal.invariant-loop-tally
+invariant-loop-tally l =
+    (all some : List End) → AllZip (λ e entry. IsKeptEnd l.img l.found.list all e entry.0.items entry.1) some l.ends.entries
+    → LeftOver (λ e entry. IsKeptEnd l.img l.found.list all e entry.0.items entry.1) (λ e. outcome_found l.img (count_of all e.outcome) e.outcome e.schedule)
+    some l.fn.out.items l.out.items l.tally-iterator

@@ -1,4 +1,4 @@
-use Rattle.std.proofs.Common.{◌≡◌, ◌++◌, ◌<◌, [], List, ℕ, ap, ◌∙◌, sym, subst, append-nil}
+use Rattle.std.proofs.Common.{◌≡◌, ◌<◌, [], List, ℕ, sym, subst}
 use Rattle.std.{proofs.lemmas.{Map.Iter.rest_all, Result.IfOk-weaker}, specs.{Prelude.{Contains, IfOk}, Map.Iter.deref, List.AllByRecursion}}
 use Rattle.mm_span.specs.{Pairs.EachPair, Spans.{AreSpans, IsWord}}
 use Rattle.mm_span.proofs.Runs.{spans_alike}

@@ -1,7 +1,6 @@
 use Rattle.std.{proofs.Common.{◌++◌, ◌∙◌, codes, decimal, ap}, specs.List.flat_map}
 use Rattle.mm_text.proofs.Appending.{appends_then, appends_same, buffered_writes}
-use Rattle.mm_explore.specs.Results.{explored_text, group_found_lines, fault_found_lines, outcome_found_lines}
-use Rattle.mm_explore.specs.Texts.{extent_text}
+use Rattle.mm_explore.specs.Results.{explored_text, extent_text, group_found_lines, fault_found_lines, outcome_found_lines}
 use Rattle.mm_explore.proofs.text.write_explored.Goals as goal
 
 pub returns : goal.returns

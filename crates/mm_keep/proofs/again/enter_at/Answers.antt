@@ -1,4 +1,4 @@
-use Rattle.std.proofs.Common.{◌≡◌, sym, ap, ◌∙◌, subst}
+use Rattle.std.proofs.Common.{sym, ap, ◌∙◌, subst}
 use Rattle.std.proofs.lemmas.List.{get_or_default}
 use Rattle.mm_kernel.specs.declared.thread.{Handler.Handler, Thread.Thread}
 use Rattle.mm_kernel.specs.{Facts.take_up, Threads.thread_through}

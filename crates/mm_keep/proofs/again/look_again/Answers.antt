@@ -1,6 +1,5 @@
-use Rattle.std.proofs.Common.{length, take, sym, ap, ◌∙◌, subst}
+use Rattle.std.proofs.Common.{◌∙◌, subst}
 use Rattle.std.specs.List.{flat_map}
-use Rattle.mm_kernel.specs.Turns.{outcomes}
 use Rattle.mm_keep.specs.Searching.{Derives, follows_from}
 use Rattle.mm_keep.proofs.{Loops.get_in, Rounds.{derives_none, derives_all, outcome_more, looked_again}}
 use Rattle.mm_keep.proofs.again.look_again.Goals as goal

@@ -1,4 +1,4 @@
-use Rattle.mm_keep.proofs.{Claims.facts_none, Loops.{facts_more, facts_all, appended_more, appended_all}}
+use Rattle.mm_keep.proofs.{Loops.{facts_more, facts_all, appended_more, appended_all}}
 use Rattle.mm_keep.specs.Searching.{page_handed, page_first}
 use Rattle.mm_keep.proofs.begin.begin_pages.Goals as goal
 

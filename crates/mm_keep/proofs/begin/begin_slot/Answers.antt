@@ -1,7 +1,7 @@
-use Rattle.std.proofs.Common.{◌≡◌, true, false, [], ◌∷◌, sym, ap, ◌∙◌, subst}
+use Rattle.std.proofs.Common.{◌≡◌, true, [], subst}
 use Rattle.std.proofs.lemmas.Result.{on_ok_weaker}
 use Rattle.mm_keep.specs.Claims.{AddsFacts}
-use Rattle.mm_keep.proofs.{Claims.facts_none, Loops.facts_at}
+use Rattle.mm_keep.proofs.{Loops.facts_at}
 use Rattle.mm_model.specs.Turn.{is_running}
 use Rattle.mm_kernel.specs.declared.thread.Thread.{Thread}
 use Rattle.mm_kernel.specs.{Facts.take_up, Threads.own_thread}

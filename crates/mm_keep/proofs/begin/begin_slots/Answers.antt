@@ -1,4 +1,4 @@
-use Rattle.mm_keep.proofs.{Claims.facts_none, Loops.{facts_more, facts_all, appended_more, appended_all}}
+use Rattle.mm_keep.proofs.{Loops.{facts_more, facts_all, appended_more, appended_all}}
 use Rattle.mm_keep.specs.Searching.{slot_facts, handler_in}
 use Rattle.mm_keep.proofs.begin.begin_slots.Goals as goal
 

@@ -1,7 +1,6 @@
-use Rattle.std.proofs.Common.{◌≡◌, true, false, [], ◌∷◌, sym, ap, ◌∙◌, subst}
+use Rattle.std.proofs.Common.{◌≡◌, false, subst}
 use Rattle.std.proofs.lemmas.Result.{on_ok_weaker}
 use Rattle.mm_keep.specs.Claims.{AddsFacts}
-use Rattle.mm_keep.proofs.{Claims.facts_none, Loops.facts_at}
 use Rattle.mm_word.specs.declared.word.Cell.{Cell}
 use Rattle.mm_model.specs.{Memory.cell_at}
 use Rattle.std.proofs.Common.{Some}

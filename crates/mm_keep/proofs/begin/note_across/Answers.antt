@@ -1,10 +1,8 @@
-use Rattle.std.proofs.Common.{◌≡◌, true, false, [], ◌∷◌, sym, ap, ◌∙◌, subst}
+use Rattle.std.proofs.Common.{◌≡◌, true, false, [], ◌∷◌}
 use Rattle.std.proofs.lemmas.Result.{on_ok_weaker}
-use Rattle.mm_keep.specs.Claims.{AddsFacts}
 use Rattle.mm_keep.proofs.{Claims.facts_none, Loops.facts_at}
 use Rattle.mm_kernel.specs.declared.fact.Leak.TheVariants.{Across}
 use Rattle.mm_kernel.specs.Facts.Fact.{HasLeak}
-use Rattle.mm_kernel.specs.Facts.{Fact}
 use Rattle.mm_kernel.specs.Derived.{reaches_across}
 use Rattle.mm_keep.proofs.begin.note_across.Goals as goal
 

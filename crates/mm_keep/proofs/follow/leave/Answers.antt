@@ -2,7 +2,7 @@ use Rattle.mm_keep.proofs.Loops.{facts_next}
 use Rattle.mm_kernel.specs.{Derived.register_left, Facts.loose}
 use Rattle.std.proofs.lemmas.Result.{on_ok_weaker}
 use Rattle.mm_keep.proofs.Claims.{facts_then}
-use Rattle.std.proofs.Common.{◌≡◌, ℕ, List, subst, arith}
+use Rattle.std.proofs.Common.{◌≡◌, ℕ, subst, arith}
 use Rattle.std.specs.List.{flat_map, range_with_len}
 use Rattle.mm_keep.specs.Claims.{AddsFacts}
 use Rattle.mm_keep.proofs.follow.leave.Goals as goal

@@ -2,7 +2,7 @@ use Rattle.mm_keep.proofs.Loops.{facts_next}
 use Rattle.mm_kernel.specs.Derived.{register_shown}
 use Rattle.mm_keep.proofs.Claims.{facts_then}
 use Rattle.mm_keep.specs.Searching.{pointer_shown}
-use Rattle.std.proofs.Common.{◌≡◌, ℕ, List, subst, arith}
+use Rattle.std.proofs.Common.{◌≡◌, ℕ, subst, arith}
 use Rattle.std.specs.List.{flat_map, range_with_len}
 use Rattle.mm_keep.specs.Claims.{AddsFacts}
 use Rattle.mm_keep.proofs.follow.show.Goals as goal

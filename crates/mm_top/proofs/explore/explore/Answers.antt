@@ -1,5 +1,5 @@
 use Rattle.std.proofs.Common.{ℕ, [], refl, subst, arith}
-use Rattle.mm_explore.specs.Texts.{Explores}
+use Rattle.mm_explore.specs.Finds.{Explores}
 use Rattle.mm_top.proofs.{Rows.{row_stops, row_ends}, NamedFiles.named}
 use Rattle.mm_top.proofs.explore.explore.Goals as goal
 

@@ -1,5 +1,5 @@
 use Rattle.mm_top.proofs.{Once.{complete, refuses}, Verdicts.{usage, refused, asks, whole, done, part, line}}
-use Rattle.mm_top.proofs.Headlines.{run_headline, trace_headline, log_headline, keeps_headline}
+use Rattle.mm_top.proofs.Headlines.{run_headline, trace_headline, log_headline, explore_headline, keeps_headline}
 use Rattle.mm_top.proofs.top.mmachine.Goals as goal
 
 pub returns-clause-usage : goal.returns-clause-usage
@@ -13,6 +13,9 @@ returns-clause-reach g c = trace_headline c.by_row-status.ensures.answers
 
 pub returns-clause-replay : goal.returns-clause-replay
 returns-clause-replay g c = log_headline c.by_row-status.ensures.answers
+
+pub returns-clause-explore : goal.returns-clause-explore
+returns-clause-explore g c = explore_headline c.by_row-status.ensures.answers
 
 pub returns-clause-keeps : goal.returns-clause-keeps
 returns-clause-keeps g c = keeps_headline c.by_row-status.ensures.answers

@@ -4,7 +4,7 @@ use Rattle.mm_model.specs.{Fits.{slots_of, IsOfVersion}, Memory.Memory, Slot.Slo
 use Rattle.mm_model.specs.State.{Core}
 use Rattle.mm_machine.proofs.Starting.{fresh_slots, no_output}
 use Rattle.mm_thread.specs.SlotIndices.{row_alone}
-use Rattle.mm_explore.{specs.Holds.IsHolding, proofs.Standing.{each_fresh, start_made, begun, first_memory}}
+use Rattle.mm_explore.{specs.Holds.IsHolding, proofs.Placed.{each_fresh, start_made, begun, first_memory}}
 use Rattle.mm_explore.proofs.bench.Bench.new.Goals as goal
 
 pub new-requires-clause-rising : goal.new-requires-clause-rising

@@ -4,7 +4,7 @@ use Rattle.mm_model.specs.{declared.event.Event.Event, Image.start, Run.run, Slo
 use Rattle.mm_thread.specs.{Output.Output, Parts.{core_of, AreParts}}
 use Rattle.mm_explore.specs.{Configurations.uncounted, Holds.AreListed}
 use Rattle.mm_explore.proofs.{KeptRuns.runs_state_of, Putting.more_ok}
-use Rattle.mm_explore.proofs.Standing.{memory_of, listed_of, parts_given, core_given, core_like, standing_at, turns_few}
+use Rattle.mm_explore.proofs.Placed.{memory_of, listed_of, parts_given, core_given, core_like, standing_at, turns_few}
 use Rattle.mm_explore.proofs.bench.Bench.put.Goals as goal
 
 pub assign-requires : goal.assign-requires

@@ -6,7 +6,7 @@ use Rattle.mm_model.{specs.{Fits.slots_of, Image.start, Memory.Memory, Run.run, 
 use Rattle.mm_machine.specs.Snapshot.{queued, page_numbers}
 use Rattle.mm_explore.specs.{Holds.{AreListed, numbers_in}, Kept.core_output}
 use Rattle.mm_explore.proofs.{CellLists.listed_at_words, KeptRuns.runs_state_of, Putting.{more_ok, numbers_put}}
-use Rattle.mm_explore.proofs.Standing.{memory_of, as_many, few_slots, numbers_kept}
+use Rattle.mm_explore.proofs.Placed.{memory_of, as_many, few_slots, numbers_kept}
 use Rattle.mm_explore.proofs.bench.Bench.put_numbers.Goals as goal
 
 given : {V : Type 0} (o : Option V) (items : V → List ℕ) (base : List ℕ) → IfSome (option_map items o) (λ p. pointwise nat_eq p base ≡ false) → IfSome o (λ v. pointwise nat_eq (items v) base ≡ false)

@@ -1,7 +1,7 @@
 use Rattle.std.proofs.Common.{ℕ, List, [], ◌∷◌, ◌++◌, ◌≡◌, ◌∙◌, sym, ap, subst, arith}
 use Rattle.mm_model.specs.{Image.start, Memory.Memory, Run.run, State.slot_at, Trace.group_of}
 use Rattle.mm_explore.specs.{Configurations.configuration, Holds.{IsMemoryOf, AreListed, numbers_in}}
-use Rattle.mm_explore.proofs.{KeptRuns.runs_state_of, Moves.{standing, moved_by, turns_alike}, Standing.memory_of}
+use Rattle.mm_explore.proofs.{KeptRuns.runs_state_of, Moves.{standing, moved_by, turns_alike}, Placed.memory_of}
 use Rattle.mm_explore.proofs.bench.Bench.turn.Goals as goal
 
 pub note-requires-clause-old : goal.note-requires-clause-old

@@ -1,14 +1,19 @@
-use Rattle.std.proofs.Common.{◌∙◌}
-use Rattle.mm_explore.proofs.{Notes.{both_ok, ended_next, room_is}, EndTexts.key_is}
+use Rattle.mm_explore.specs.Noting.{outcome_held}
+use Rattle.mm_explore.proofs.{HeldEnds.held_once, Notes.{both_ok, ended_next, room_is}, Putting.more_ok}
 use Rattle.mm_explore.proofs.findings.Findings.note_end.Goals as goal
 
 pub count_end-requires : goal.count_end-requires
-count_end-requires c = record { room = room_is c.requires.room.0 c.requires.room.1 c.requires.room.2 c.args.self.now c.requires.room.3 c.requires.room.4 }
+count_end-requires c =
+    let r = c.requires.room in
+    record { room = room_is r.0 r.1 r.2 c.args.self.now r.3 r.4 }
 
-pub returns-clause-ended : goal.returns-clause-ended
-returns-clause-ended c =
+pub returns-clause-noted : goal.returns-clause-noted
+returns-clause-noted c = more_ok c.count_end.result (λ entries i list done h. record { touched = h.touched; wrote = h.wrote; faults = h.faults }) c.count_end.ensures.entries
+
+pub returns-clause-ends : goal.returns-clause-ends
+returns-clause-ends c =
     both_ok c.count_end.result
-    (λ entries unique i list past t img h at final is parts.
-    ended_next i list past t c.args.self.now (record c.args.self.now { ends = c.count_end.new.ends }) c.args.at c.in_ok-key.key h at final
-    (c.in_ok-key.ensures ∙ key_is i t img c.args.parts.now parts c.args.ended is) entries unique)
+    (λ entries unique i list ends t img h at parts.
+    ended_next i list ends (record { schedule = t; outcome = outcome_held c.args.end c.args.parts.now }) c.args.self.now (record c.args.self.now { ends = c.count_end.new.ends })
+    c.args.end c.in_ok-key.key h at c.in_ok-key.ensures (λ p there. held_once i t c.args.end p c.args.parts.now there parts) entries unique)
     c.count_end.ensures.entries c.count_end.ensures.unique

@@ -9,7 +9,7 @@ returns-then-len-self c =
     let limit = limit_is (λ v. v.items) k.kept.keys k.origins.items k.limit c.args.self.now c.self.view_is in
     let count = c.len.ensures in
     let full = c.if-len-self.true in
-    (none_there (λ v. v.items) k.kept.keys k.origins.items k.limit c.args.self.now c.self.view_is c.args.numbers.now (c.has.ensures.no c.if-has.false), omega (arith, long, limit, count, full), refl)
+    (none_there (λ v. v.items) k.kept.keys k.origins.items k.limit c.args.self.now c.self.view_is c.args.numbers.now (c.index_of.ensures.none c.in_default.is), omega (arith, long, limit, count, full), refl)
 
 pub invariant_of-self-in-Ok : goal.invariant_of-self-in-Ok
 invariant_of-self-in-Ok c =
@@ -31,7 +31,7 @@ returns-in-Ok c =
     let left = c.if-len-self.false in
     let lists = list_long (λ v. v.items) k.kept.keys k.origins.items k.limit c.args.self.now c.self.view_is in
     let limit = limit_is (λ v. v.items) k.kept.keys k.origins.items k.limit c.args.self.now c.self.view_is in (
-      none_there (λ v. v.items) k.kept.keys k.origins.items k.limit c.args.self.now c.self.view_is c.args.numbers.now (c.has.ensures.no c.if-has.false),
+      none_there (λ v. v.items) k.kept.keys k.origins.items k.limit c.args.self.now c.self.view_is c.args.numbers.now (c.index_of.ensures.none c.in_default.is),
       omega (arith, count, few, long, left, lists, limit),
       seen_more (λ v. v.items) k.kept.keys k.origins.items k.limit c.args.self.now c.self.view_is c.args.origin
           c.args.numbers.now c.add.new.kept.keys c.push.new.self.items c.in_ok-push.ensures.items c.in-Ok.ensures.forms,

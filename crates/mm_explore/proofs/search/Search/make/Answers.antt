@@ -1,7 +1,7 @@
-use Rattle.std.proofs.Common.{[], refl, arith}
+use Rattle.std.proofs.Common.{[], false, nat_eq, take, refl, sym, ap, arith}
 use Rattle.mm_explore.specs.{Benches.IsAtConfiguration, Findings.Extension}
 use Rattle.mm_explore.specs.Searching.{node_schedule, turns_before, turns_from}
-use Rattle.mm_explore.proofs.{Putting.more_ok, Steps.{moved_by, stays_by, item_is, list_few, if_more, get_inside}}
+use Rattle.mm_explore.proofs.Steps.{made_child, made_none, stays_by, leads_back, ended_as, item_is, list_few, get_inside}
 use Rattle.mm_explore.proofs.search.Search.make.Goals as goal
 
 pub overflow_cast-origin : goal.overflow_cast-origin
@@ -15,8 +15,8 @@ overflow_cast-origin c =
     let inside = c.requires.within.is.inside in
     omega (arith, few, room, inside)
 
-pub returns-clause-within : goal.returns-clause-within
-returns-clause-within c =
+pub returns-in_ok-push-in-Some-clause-within : goal.returns-in_ok-push-in-Some-clause-within
+returns-in_ok-push-in-Some-clause-within c =
     let s = c.args.self.now in
     let node = c.args.node.now in
     let i = c.args.img.now in
@@ -30,12 +30,29 @@ returns-clause-within c =
     let group = c.in_ok-step.ensures.group t at in
     let noted = c.in_ok-note.ensures.noted i s.found.list (turns_before i s.found.list node.at c.args.k) x w.come.noted
     (record { schedule = get_inside s.found.list node.at [] w.is.inside; item = refl }) step group in
-    let ended = c.in_ok-note.ensures.ended i s.found.list _ w.come.ended in
-    more_ok c.meet.result (λ met. (moved_by i s node c.args.k w c.requires.inside c.turn.new.self m is
-    (c.in_ok-step.ensures.at t at) c.meet.new.self c.note.new.self noted ended met).within) c.meet.ensures.met
+    let ended = ended_as i s.found.list (take node.at s.found.list) s.findings c.note.new.self (λ ends h. c.in_ok-note.ensures.ends i s.found.list ends h) w.come.ended in
+    (made_child i s node c.args.k w c.requires.inside c.turn.new.self m is (c.in_ok-step.ensures.at t at) c.meet.new.self c.note.new.self c.in_ok-child.field-0 noted ended c.in_ok-child.ensures c.in-Some.child c.in-Some.is c.push.new.self c.in_ok-push-in-Some.ensures.items).within
 
-pub returns-clause-stays : goal.returns-clause-stays
-returns-clause-stays c =
+pub returns-in_ok-push-in-Some-clause-schedule : goal.returns-in_ok-push-in-Some-clause-schedule
+returns-in_ok-push-in-Some-clause-schedule c =
+    let s = c.args.self.now in
+    let node = c.args.node.now in
+    let i = c.args.img.now in
+    let w = c.requires.within in
+    let t = node_schedule s node in
+    let m = c.index.result.now in
+    let x : Extension = record { schedule = t; item = m } in
+    let is = item_is node.moves.items c.args.k m c.requires.inside c.index.ensures in
+    let at : IsAtConfiguration i t c.put.new.self = c.in_ok-put.ensures.at t w.is.parts in
+    let step = c.in_ok-step.ensures.step t at in
+    let group = c.in_ok-step.ensures.group t at in
+    let noted = c.in_ok-note.ensures.noted i s.found.list (turns_before i s.found.list node.at c.args.k) x w.come.noted
+    (record { schedule = get_inside s.found.list node.at [] w.is.inside; item = refl }) step group in
+    let ended = ended_as i s.found.list (take node.at s.found.list) s.findings c.note.new.self (λ ends h. c.in_ok-note.ensures.ends i s.found.list ends h) w.come.ended in
+    (made_child i s node c.args.k w c.requires.inside c.turn.new.self m is (c.in_ok-step.ensures.at t at) c.meet.new.self c.note.new.self c.in_ok-child.field-0 noted ended c.in_ok-child.ensures c.in-Some.child c.in-Some.is c.push.new.self c.in_ok-push-in-Some.ensures.items).schedule
+
+pub returns-in_ok-push-in-Some-clause-stays : goal.returns-in_ok-push-in-Some-clause-stays
+returns-in_ok-push-in-Some-clause-stays c =
     let s = c.args.self.now in
     let node = c.args.node.now in
     let i = c.args.img.now in
@@ -44,4 +61,34 @@ returns-clause-stays c =
     let m = c.index.result.now in
     let is = item_is node.moves.items c.args.k m c.requires.inside c.index.ensures in
     let at : IsAtConfiguration i t c.put.new.self = c.in_ok-put.ensures.at t w.is.parts in
-    if_more c.meet.result (λ stays h. stays_by i s node c.args.k w c.requires.inside c.turn.new.self m is (c.in_ok-step.ensures.at t at) stays h) c.meet.ensures.stays
+    stays_by i s node c.args.k w c.requires.inside c.turn.new.self m is (c.in_ok-step.ensures.at t at) c.meet.new.self c.note.new.self c.in_ok-child.field-0 c.in_ok-child.ensures (nat_eq c.in-Some.child node.at) (ap (leads_back node.at) (sym c.in-Some.is))
+
+pub returns-in-None-clause-within : goal.returns-in-None-clause-within
+returns-in-None-clause-within c =
+    let s = c.args.self.now in
+    let node = c.args.node.now in
+    let i = c.args.img.now in
+    let w = c.requires.within in
+    let t = node_schedule s node in
+    let m = c.index.result.now in
+    let x : Extension = record { schedule = t; item = m } in
+    let is = item_is node.moves.items c.args.k m c.requires.inside c.index.ensures in
+    let at : IsAtConfiguration i t c.put.new.self = c.in_ok-put.ensures.at t w.is.parts in
+    let step = c.in_ok-step.ensures.step t at in
+    let group = c.in_ok-step.ensures.group t at in
+    let noted = c.in_ok-note.ensures.noted i s.found.list (turns_before i s.found.list node.at c.args.k) x w.come.noted
+    (record { schedule = get_inside s.found.list node.at [] w.is.inside; item = refl }) step group in
+    let ended = ended_as i s.found.list (take node.at s.found.list) s.findings c.note.new.self (λ ends h. c.in_ok-note.ensures.ends i s.found.list ends h) w.come.ended in
+    (made_none i s node c.args.k w c.requires.inside c.turn.new.self m is (c.in_ok-step.ensures.at t at) c.meet.new.self c.note.new.self c.in_ok-child.field-0 noted ended c.in_ok-child.ensures c.in-None.is).within
+
+pub returns-in-None-clause-stays : goal.returns-in-None-clause-stays
+returns-in-None-clause-stays c =
+    let s = c.args.self.now in
+    let node = c.args.node.now in
+    let i = c.args.img.now in
+    let w = c.requires.within in
+    let t = node_schedule s node in
+    let m = c.index.result.now in
+    let is = item_is node.moves.items c.args.k m c.requires.inside c.index.ensures in
+    let at : IsAtConfiguration i t c.put.new.self = c.in_ok-put.ensures.at t w.is.parts in
+    stays_by i s node c.args.k w c.requires.inside c.turn.new.self m is (c.in_ok-step.ensures.at t at) c.meet.new.self c.note.new.self c.in_ok-child.field-0 c.in_ok-child.ensures false (ap (leads_back node.at) (sym c.in-None.is))

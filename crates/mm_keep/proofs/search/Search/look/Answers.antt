@@ -1,5 +1,5 @@
-use Rattle.std.proofs.Common.{◌≡◌, ◌∙◌, ◌++◌, List, refl, ap, subst}
-use Rattle.mm_kernel.specs.{Turns.outcomes, declared.{form.Form.Form, outcome.Outcome.Outcome}}
+use Rattle.std.proofs.Common.{◌∙◌, ◌++◌, refl, ap, subst}
+use Rattle.mm_kernel.specs.{Turns.outcomes}
 use Rattle.mm_keep.specs.Claims.{Adds}
 use Rattle.mm_keep.specs.Searching.{SomeAtOnce, noted}
 use Rattle.mm_keep.proofs.Rounds.{looked_one}

@@ -1,0 +1,11 @@
+pub mod Walking
+pub mod Rows
+pub mod Lists
+pub mod Marks
+pub mod Discovering
+pub mod Joining
+pub mod Looking
+pub mod Finishing
+pub mod Closing
+pub mod Ending
+pub mod Descending

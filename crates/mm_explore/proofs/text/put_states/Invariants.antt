@@ -1,7 +1,0 @@
-use Rattle.std.{proofs.Common.take, specs.List.flat_map}
-use Rattle.mm_text.specs.Appends.{Appends}
-use Rattle.mm_explore.specs.Results.{state_found_line}
-use Rattle.mm_explore.proofs.text.put_states.Given as goal
-
-abbrev pub invariant-loop-slot : goal.invariant-loop-slot
-invariant-loop-slot g l = Appends g.O.Sink.taken g.O.Sink.faults l.initial.out l.out l.initial.text l.text (flat_map state_found_line (take l.slot-index l.states))

@@ -1,0 +1,51 @@
+; Of a pointer a number is made, and it is taken.
+.segment code 7
+leaves: addi r8, r1, 0
+  st r7, r8, 0, any, keep
+  ldi r2, 1
+  br back
+fetches: ld r1, r7, 0, any, keep
+back: ldi r7, 0
+  ldi r8, 0
+  jmp r6
+.segment gate 7
+own: .ptr rw hook
+  .ptr xu leaves
+  .ptr ro hook
+  .ptr xu fetches
+leave: lip r7, own
+  ld r8, r7, 8, any, keep
+  ld r7, r7, 0, any, keep
+  jmp r8
+fetch: lip r7, own
+  ld r8, r7, 24, any, keep
+  ld r7, r7, 16, any, keep
+  jmp r8
+.segment hook 3
+  .int 0
+.segment sender 5
+  trap 1                  ; wakes its handler
+  jal r6, r5
+  ldi r6, 0
+  jmp r5                  ; without a way back
+.segment robber 6
+  evt r4
+  resume r2, skip         ; slot 0 goes on after its trap
+  evt r4                  ; r5 leads to the instruction that has faulted in the gate
+  leab r6, r5, r0         ; r6 to the beginning of its segment
+  ld r6, r6, 0, any, keep
+  st r6, r3, 0, any, keep ; if there is a pointer, then through it
+  halt
+.segment receiver 6
+again: jal r6, r5
+  bz r1, again            ; nothing is there yet
+  out r1
+  halt
+.thread 0 0 2 xu sender
+.reg 1 int 42
+.reg 2 int 7
+.reg 5 ptr eu leave
+.thread 1 1 none xu receiver
+.reg 5 ptr eu fetch
+.thread 2 0 none xu robber
+.reg 3 int 99

@@ -1,0 +1,48 @@
+"""Checkouts that are wrong in one place, for tools/spoiled: for scripts of the merge check that run no program.
+
+Each has what is wrong, the script with its words, the file, a text that stands there once, and what stands there
+instead. The script has to notice, in a copy of this checkout with this one change."""
+
+EDITS, COUNTS, OPERATIONS, NAMES = [".ci/edits"], [".ci/counts"], [".ci/operations"], [".ci/names"]
+CLAIMS, COMMENTS, HINTS, BROKEN = [".ci/claims"], [".ci/comments"], [".ci/hints"], ["tools/broken", "--applies"]
+CLAUSES = ["docs/clauses", "--check"]
+
+TREES = [
+    ("a wrong body does not apply", EDITS, "crates/mm_word/must-fail/restrict_ro_to_rw.edit", "Perm::Key,", "Perm::Kez,"),
+    ("a wrong body changes nothing", EDITS, "crates/mm_word/must-fail/restrict_ro_to_rw.edit",
+     "matches!(to, Perm::Key | Perm::Rw)", "to == Perm::Key"),
+    # Less is tried, or says less.
+    ("the tests of `mm` are not run", COUNTS, ".ci/run", "timed .ci/mm\n", "timed .ci/mm true\n"),
+    ("nothing is proved", COUNTS, ".ci/run", "    timed .ci/proofs\n", "    timed rt version\n"),
+    ("a script that fails ends nothing", COUNTS, ".ci/run", '    "$@" || exit\n', '    "$@" || true\n'),
+    ("what a thread touches is nowhere", COUNTS, "crates/mm_top/specs/Headline.antt", "  pub reaches : Reaches i items\n",
+     "  pub reaches : Reaches i items → Reaches i items\n"),
+    ("what is on standard error at Done is nothing new", COUNTS, "crates/mm_top/src/top.rt",
+     "D.taken diag.new ≡ D.taken diag.old }", "D.taken diag.new ≡ D.taken diag.new }"),
+    ("a wrong body is no code", COUNTS, "crates/mm_seg/wrong/pushes_nothing.edit", "new: ", "new: this is no code ("),
+    ("a test asserts less", COUNTS, "mm/tests/test_check_why.py", "    def test_wrong(self):\n", "    def wrong(self):\n"),
+    ("a module of tests is left out", COUNTS, "mm/tests/test_check_why.py", "import unittest\n",
+     'import unittest\nraise unittest.SkipTest("later")\n'),
+    # Pages.
+    # (in two pieces, since else this file would have the name)
+    ("a page of the code names what is not there", NAMES, "docs/DECISIONS.md", "`StopReason`", "`StopReaso" "z`"),
+    ("a file has each operation and is not on the page", OPERATIONS, "docs/CARRYING_ON.md", "`mm/machine/isa.py`", "`mm/machine/words.py`"),
+    ("a link leads to another definition", CLAUSES, "docs/INSTRUCTIONS.md", "[1A]: ../crates/mm_isa/specs/Table.antt#L46",
+     "[1A]: ../crates/mm_isa/specs/Table.antt#L45"),
+    ("a program may print twice as much", CLAIMS, "README.md", "prints at most 4,096 bytes", "prints at most 8,192 bytes"),
+    ("numbers are kept too", CLAIMS, "docs/KEEPS.md", "- **Nothing about integers.**", "- **About integers too.**"),
+    ("what is only tested is proved", CLAIMS, "README.md", "- **Only tested:** `mm`", "- **Proved:** `mm`"),
+    ("a law says more", CLAIMS, "docs/THEOREMS.md", "| A word that a group can write it can touch. |",
+     "| A word that a group can write no other can touch. |"),
+    ("an operation does something else", CLAIMS, "docs/INSTRUCTIONS.md", "bits(A) shifted right by bits(B) mod 64, with the sign",
+     "bits(A) shifted right by bits(B), with zeros"),
+    ("a definition has another meaning than its row", CLAIMS, "crates/mm_isa/specs/Alu.antt", "alu_result Or a b = Ok (bit_or a b)",
+     "alu_result Or a b = Ok (bit_xor a b)"),
+    ("a server answers everybody", CLAIMS, "docs/SERVE.md", "- Without `--host` only your own computer", "- Without `--host` everybody"),
+    ("a wrong body has no row", CLAIMS, "docs/WRONG.md", "| pushes_nothing ", "| pushes_something "),
+    # Code.
+    ("a function says nothing", COMMENTS, "crates/mmachine/src/main.rt", "/// The status of the process at an answer.\n", "\n"),
+    ("a module takes what it does not use", HINTS, "mm/status.py", "from __future__ import annotations\n",
+     "from __future__ import annotations\n\nimport fractions\n"),
+    ("a broken line does not apply", BROKEN, "mm/waves/vcd.py", 'yield "bytes", 17, len(data)', 'yield "bytes", 17, (len(data))'),
+]
