@@ -9,3 +9,4 @@ pub mod Exactly
 pub mod Rounds
 pub mod Reached
 pub mod Apart
+pub mod Holdings
