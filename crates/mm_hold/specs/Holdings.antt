@@ -5,7 +5,7 @@ use Rattle.mm_model.specs.{Slot.Slot, Image.Image, Spelling.IsImage}
 use Rattle.mm_flow.specs.{declared.node.{Node.Node, Right.TheVariants.{Load, Store}}, Edges.right_at, Flow.Has}
 use Rattle.mm_graph.specs.{declared.canonical_ptr.CanonicalPtr.CanonicalPtr, Marked.node_pointer}
 use Rattle.mm_graph.specs.Key.{IsKey, IsRising, key_at, pointer_at, loads_words, stores_words}
-use Rattle.mm_kernel.specs.Segments.{Segment, is_door}
+use Rattle.mm_kernel.specs.{Segments.{Segment, is_door}, Derived.Keeps}
 use Rattle.mm_audit.specs.{Surveys.SurveyValue, Held.{AreSpansOf, IsTableOf}}
 use Rattle.mm_confine.specs.declared.party.Party.TheVariants.{Group, KernelSlot}
 use Rattle.mm_confine.specs.{Grants.{Granted, Line.Holds}, Reach.Reaches}
@@ -85,6 +85,7 @@ pub record DoorOf (keys : List CanonicalPtr) (doors : List ℕ) (g : ℕ) (d : P
 -- the value says what each group of a kernel that keeps its segments reaches
 pub record AreHoldings (i : Image) (kept : List Segment) (h : HoldingsValue) : Type 0 where
   pub image : IsImage i
+  pub keeps : Keeps i kept
   pub doors : (g : ℕ) (d : Pointer) → DoorOf h.keys h.doors g d ↔ HoldsDoor i kept g d
   pub spans : AreSpansOf (Reaches i kept) h.survey.spans
   pub served : h.survey.served ≡ served_by_callers i kept i.slots
