@@ -6,6 +6,7 @@ pub mod Marks
 pub mod Passing
 pub mod Finding
 pub mod Exactly
+pub mod Graphs
 pub mod Rounds
 pub mod Reached
 pub mod Apart
