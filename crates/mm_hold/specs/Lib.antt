@@ -7,5 +7,6 @@ pub mod Passing
 pub mod Finding
 pub mod Exactly
 pub mod Rounds
+pub mod Standing
 pub mod Reached
 pub mod Apart
