@@ -8,5 +8,6 @@ pub mod Finding
 pub mod Exactly
 pub mod Graphs
 pub mod Rounds
+pub mod Standing
 pub mod Reached
 pub mod Apart
