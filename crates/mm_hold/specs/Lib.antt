@@ -6,8 +6,8 @@ pub mod Marks
 pub mod Passing
 pub mod Finding
 pub mod Exactly
-pub mod Graphs
 pub mod Rounds
 pub mod Standing
+pub mod Graphs
 pub mod Reached
 pub mod Apart

@@ -1,11 +1,15 @@
 //! The graph of the pointers that parties may come to hold.
 
 ghost use Rattle.std.specs.List.{flat_map};
-ghost use Rattle.std.specs.Prelude.{◌≡◌, ◌⊎◌, ◌++◌, All, Contains, IfOk, IfSome, OnOk, map};
+ghost use Rattle.std.specs.Prelude.{◌≡◌, ◌⊎◌, ◌&&◌, ◌++◌, All, Contains, IfOk, IfSome, OnOk, length, map, not};
 ghost use Rattle.mm_graph.specs.Key.{IsKey, IsRising};
+ghost use Rattle.mm_kernel.specs.Segments.{is_door, is_enter};
 ghost use Rattle.mm_hold.specs.Conducts.{AreAll, AreConduct};
-ghost use Rattle.mm_hold.specs.Graphs.{ArePlaces, BehindAt, HandedAt, HandsAt, IsBitsNode, IsBuilt, IsGraph, IsStart};
+ghost use Rattle.mm_hold.specs.Exactly.{IsSound};
+ghost use Rattle.mm_hold.specs.Graphs.{ArePlaces, BehindAt, HandedAt, HandsAt, HasKeys, IsBitsNode, IsBuilt, IsShaped};
 ghost use Rattle.mm_hold.specs.Graphs.{StandsBehind, bits_key, entry_mask, had_seeds, seed_number};
+ghost use Rattle.mm_hold.specs.Marks.{HasSize};
+ghost use Rattle.mm_hold.specs.Standing.{AreStarted, IsGraphOf};
 
 use crate::conduct::Conduct;
 use crate::edges::Graph;
@@ -15,7 +19,7 @@ use crate::passing::door_node;
 use mm_flow::Node;
 use mm_graph::{CanonicalPtr, Found, Seed, find, keys_and_targets, marks_of, nodes_of, parents_of};
 use mm_keep::{Kernel, is_door};
-use mm_word::{GuardedPtr, NoMemory, Word};
+use mm_word::{GuardedPtr, NoMemory, Perm, Word};
 use std::alloc::Global;
 use std::collections::BTreeSet;
 
@@ -87,7 +91,14 @@ fn all_seeds(alloc: Global, one: &[Seed], other: &[Seed]) -> Result<Vec<Seed>, N
     Ok(all)
 }
 
-/// For each key the mask of the groups that enter by it without the kernel: all, but none by a door.
+/// Whether who holds a pointer enters by it without the kernel: an enter pointer to user code that is no door.
+fn enters_alone(kernel: &Kernel, p: GuardedPtr) -> bool
+    ensures { result ≡ is_enter p.perm && not (is_door kernel.now.kept p) }
+{
+    matches!(p.perm(), Perm::Eu) && !is_door(kernel.kept(), p)
+}
+
+/// For each key the mask of the parties that enter by it without the kernel: all or none.
 fn entry_masks(
     alloc: Global,
     kernel: &Kernel,
@@ -98,10 +109,10 @@ fn entry_masks(
 {
     let mut masks = Vec::new(alloc);
     for key in keys {
-        let mask = if is_door(kernel.kept(), key.pointer()) {
-            0
-        } else {
+        let mask = if enters_alone(kernel, key.pointer()) {
             u64::MAX
+        } else {
+            0
         };
         masks.push(mask)?;
     }
@@ -157,8 +168,14 @@ pub struct Start {
 /// The graph of a kernel, given what its threads do.
 pub fn graph_of(alloc: Global, kernel: &Kernel, conduct: &Conduct) -> Result<Start, NoMemory>
     requires { AreConduct kernel.now.image kernel.now.kept conduct.now }
-    ensures graph { IfOk result (λ s. IsGraph kernel.now.image kernel.now.kept s.graph) }
-    ensures start { IfOk result (λ s. IsStart kernel.now.image kernel.now.kept s.graph.keys.items
+    ensures shape { IfOk result (λ s. IsShaped s.graph) }
+    ensures graph { IfOk result (λ s. IsGraphOf kernel.now.image kernel.now.kept s.graph) }
+    ensures had { IfOk result (λ s. HasKeys kernel.now.kept conduct.now.has.keys s.graph.keys.items) }
+    ensures size { IfOk result (λ s. HasSize (record { groups = s.groups; slots = s.slots })
+        (length s.graph.keys.items)) }
+    ensures sound { IfOk result (λ s. IsSound kernel.now.image kernel.now.kept s.graph.keys.items
+        (record { groups = s.groups; slots = s.slots })) }
+    ensures started { IfOk result (λ s. AreStarted kernel.now.image kernel.now.kept s.graph.keys.items
         (record { groups = s.groups; slots = s.slots })) }
 {
     let of_callers = callers(alloc, kernel.kept(), kernel.image().slots())?;
@@ -254,8 +271,7 @@ pub fn nodes_behind(
 ) -> Result<Vec<NodePair>, NoMemory>
     requires rising { IsRising keys.now }
     requires keys { All IsKey keys.now }
-    requires conduct { AreConduct kernel.now.image kernel.now.kept conduct.now }
-    ensures { IfOk result (λ behind. AreAll (BehindAt kernel.now.image kernel.now.kept keys.now) behind.items) }
+    ensures { IfOk result (λ behind. AreAll (BehindAt kernel.now.kept keys.now conduct.now.has.keys) behind.items) }
 {
     let mut behind = Vec::new(alloc);
     for ((kind, value), bits) in conduct.has.iter() {
