@@ -10,3 +10,5 @@ mod Meeting
 mod Passes
 mod CellLists
 mod Granting
+mod HeldKeys
+mod Graphed
