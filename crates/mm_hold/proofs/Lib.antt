@@ -12,3 +12,4 @@ mod CellLists
 mod Granting
 mod HeldKeys
 mod Graphed
+mod Begun
