@@ -10,3 +10,7 @@ mod Meeting
 mod Passes
 mod CellLists
 mod Granting
+mod Keyed
+mod Handed
+mod Rounding
+mod Closing
