@@ -21,8 +21,8 @@ use Rattle.mm_hold.specs.declared.{deed.Deed.Deed, conduct.Conduct.Conduct, mark
 use Rattle.mm_hold.specs.Conducts.{AreConduct, HasOrLets, HasOrLets.{has, lets}, IsRead, IsSpelled, Means, has_in, origin_from, origin_numbers}
 use Rattle.mm_hold.specs.{Finding.{caller_seeds, held_key, held_word, word_seed}, Marks.{Held, HasSize}}
 use Rattle.mm_hold.specs.Exactly.{Covered, Covered.{powerless, above}, IsSound}
-use Rattle.mm_hold.specs.Graphs.{HasKeys, bits_key, found_of, had_seeds, seed_number}
-use Rattle.mm_hold.specs.Standing.{AreStarted}
+use Rattle.mm_hold.specs.Graphs.{bits_key, found_of, had_seeds, seed_number}
+use Rattle.mm_hold.specs.Standing.{AreStarted, HasKeys}
 use Rattle.mm_hold.proofs.HeldKeys.{held_none, held_above, held_below, word_pointer, seed_there, seed_from, spelled_well_formed, key_there, key_from}
 use Rattle.mm_hold.proofs.Listing.{if_in, in_if, only_in}
 use Rattle.mm_hold.specs.declared.deed.Deed.TheVariants as deed
@@ -210,10 +210,11 @@ module _ (i : Image) (kept : List Segment) (img : IsImage i) (c : Conduct) (k : 
     pub sizes : HasSize m (length keys)
     sizes = record { groups = of_groups.len; slots = of_slots.len }
 
-    pub has_keys : HasKeys kept c.has.keys keys
-    has_keys o bits x mem spells e =
-        is.of_seeds (record { group = seed_number i kept o; key = x })
-        (Contains-append_right (callers_in i kept) hads_in _ (had_seed o bits x mem (key_there kept bits spells ∙ e)))
+    pub has_keys : HasKeys i kept keys
+    has_keys from q x h e =
+        let o = origin_numbers from in
+        let seed = had_seed o (bits_of q) x (had_there i kept c k from q h) (had_key i kept c k from q h ∙ e) in
+        is.of_seeds (record { group = seed_number i kept o; key = x }) (Contains-append_right (callers_in i kept) hads_in _ seed)
 
     -- each mark is of what is granted
     group_sound : (g a : ℕ) → Held m (Group g) a → Granted i kept (Holds (Group g) (node a))

@@ -13,3 +13,7 @@ mod Granting
 mod HeldKeys
 mod Graphed
 mod Begun
+mod Keyed
+mod Handed
+mod Rounding
+mod Closing

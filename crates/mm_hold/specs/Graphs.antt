@@ -74,25 +74,17 @@ pub record IsShaped (g : Graph) : Type 0 where
   pub stores : (k : ℕ) → k < length g.keys.items
       → right_at g.nodes.items Store k ≡ stores_words (node_pointer g.keys.items k)
 
--- the keys of all pointers that threads have or let out are among those of the graph
-abbrev pub HasKeys : List Segment → List ((ℕ × ℕ) × ℕ) → List CanonicalPtr → Type 0
-HasKeys kept had keys = (o : ℕ × ℕ) (bits : ℕ) (x : CanonicalPtr) → Contains had (o, bits) → SpellsPointer bits
-    → held_key kept (pointer_of bits) ≡ Some x → Contains keys x
-
 -- 4. What is handed on, and what stands behind doors.
 
--- the slot is one of the kernel, and the node stands for the pointer of these bits
-pub record HandsAt (i : Image) (kept : List Segment) (keys : List CanonicalPtr) (slot bits : ℕ) (h : ℕ × ℕ) : Type 0 where
-  pub of_kernel : is_kernel i kept slot ≡ true
+-- the number is that of the slot, and the node stands for the pointer of these bits
+pub record HandsAt (kept : List Segment) (keys : List CanonicalPtr) (slot bits : ℕ) (h : ℕ × ℕ) : Type 0 where
   pub number : h.0 ≡ slot
   pub at : BitsAt kept keys bits h.1
 
--- a slot of the kernel hands on the pointer of some bits, for which the node stands
-pub record HandedAt (i : Image) (kept : List Segment) (keys : List CanonicalPtr) (handed : List (ℕ × ℕ))
-    (h : ℕ × ℕ) : Type 0 where
+-- a slot hands on the pointer of some bits, for which the node stands
+pub record HandedAt (kept : List Segment) (keys : List CanonicalPtr) (handed : List (ℕ × ℕ)) (h : ℕ × ℕ) : Type 0 where
   pub bits : ℕ
   pub inside : Contains handed (h.0, bits)
-  pub of_kernel : is_kernel i kept h.0 ≡ true
   pub at : BitsAt kept keys bits h.1
 
 -- the first node is that of the door of some bits, and the second stands for the pointer of others

@@ -10,12 +10,12 @@ use Rattle.mm_graph.specs.{declared.canonical_ptr.CanonicalPtr.CanonicalPtr, Mar
 use Rattle.mm_graph.specs.GraphOf.{CommonWord}
 use Rattle.mm_kernel.specs.Segments.{Segment, is_kept, is_door}
 use Rattle.mm_kernel.specs.declared.{form.Form.{TheVariants.{Pointer as Exactly}}}
-use Rattle.mm_kernel.specs.declared.thread.Origin.{TheVariants.{Door, Slot as OfSlot}}
+use Rattle.mm_kernel.specs.declared.thread.Origin.{Origin, TheVariants.{Door, Slot as OfSlot}}
 use Rattle.mm_kernel.specs.{Threads.is_kernel, Variants.is_caller}
 use Rattle.mm_confine.specs.declared.party.Party.{Party, TheVariants.{Group, KernelSlot}}
 use Rattle.mm_hold.specs.declared.{marks.Marks.Marks, edges.Graph.Graph, conduct.Conduct.Conduct, rounds.Passes.Passes}
 use Rattle.mm_hold.specs.Parties.{Shares, PassesAlways}
-use Rattle.mm_hold.specs.{Marks.Held, Conducts.{HasOrLets, Sends, Gives}, Exactly.Covered}
+use Rattle.mm_hold.specs.{Marks.Held, Conducts.{HasOrLets, Sends, Gives}, Exactly.Covered, Finding.held_key}
 
 -- 1. The graph.
 
@@ -95,6 +95,11 @@ pub record BelowSome (keys : List CanonicalPtr) (what : Pointer → Type 0) (k :
   pub pointer : Pointer
   pub is : what pointer
   pub below : IsBelow (node_pointer keys k) pointer
+
+-- the key of each pointer that threads have or let out is one of these
+abbrev pub HasKeys : Image → List Segment → List CanonicalPtr → Type 0
+HasKeys i kept keys =
+    (from : Origin) (q : Pointer) (x : CanonicalPtr) → HasOrLets i kept from q → held_key kept q ≡ Some x → Contains keys x
 
 -- the first node is a door, and the second at or below what stands behind it
 pub record IsBehind (i : Image) (kept : List Segment) (keys : List CanonicalPtr) (d k : ℕ) : Type 0 where

@@ -6,10 +6,10 @@ ghost use Rattle.mm_graph.specs.Key.{IsKey, IsRising};
 ghost use Rattle.mm_kernel.specs.Segments.{is_door, is_enter};
 ghost use Rattle.mm_hold.specs.Conducts.{AreAll, AreConduct};
 ghost use Rattle.mm_hold.specs.Exactly.{IsSound};
-ghost use Rattle.mm_hold.specs.Graphs.{ArePlaces, BehindAt, HandedAt, HandsAt, HasKeys, IsBitsNode, IsBuilt, IsShaped};
+ghost use Rattle.mm_hold.specs.Graphs.{ArePlaces, BehindAt, HandedAt, HandsAt, IsBitsNode, IsBuilt, IsShaped};
 ghost use Rattle.mm_hold.specs.Graphs.{StandsBehind, bits_key, entry_mask, had_seeds, seed_number};
 ghost use Rattle.mm_hold.specs.Marks.{HasSize};
-ghost use Rattle.mm_hold.specs.Standing.{AreStarted, IsGraphOf};
+ghost use Rattle.mm_hold.specs.Standing.{AreStarted, HasKeys, IsGraphOf};
 
 use crate::conduct::Conduct;
 use crate::edges::Graph;
@@ -170,7 +170,7 @@ pub fn graph_of(alloc: Global, kernel: &Kernel, conduct: &Conduct) -> Result<Sta
     requires { AreConduct kernel.now.image kernel.now.kept conduct.now }
     ensures shape { IfOk result (λ s. IsShaped s.graph) }
     ensures graph { IfOk result (λ s. IsGraphOf kernel.now.image kernel.now.kept s.graph) }
-    ensures had { IfOk result (λ s. HasKeys kernel.now.kept conduct.now.has.keys s.graph.keys.items) }
+    ensures had { IfOk result (λ s. HasKeys kernel.now.image kernel.now.kept s.graph.keys.items) }
     ensures size { IfOk result (λ s. HasSize (record { groups = s.groups; slots = s.slots })
         (length s.graph.keys.items)) }
     ensures sound { IfOk result (λ s. IsSound kernel.now.image kernel.now.kept s.graph.keys.items
@@ -203,7 +203,7 @@ pub fn node_of(kernel: &Kernel, keys: &[CanonicalPtr], bits: u64) -> Option<usiz
     }
 }
 
-/// Adds the node of a pointer that a slot hands on, if the slot is one of the kernel.
+/// Adds the node of a pointer that a slot hands on.
 fn add_handed(
     nodes: &mut Vec<SlotNode>,
     kernel: &Kernel,
@@ -213,17 +213,15 @@ fn add_handed(
 ) -> Result<(), NoMemory>
     requires { IsRising keys.now }
     ensures { OnOk result (AreAll (λ h. Contains nodes.old.items h
-        ⊎ HandsAt kernel.now.image kernel.now.kept keys.now slot bits h) nodes.new.items) }
+        ⊎ HandsAt kernel.now.kept keys.now slot bits h) nodes.new.items) }
 {
-    if kernel.is_kernel(slot) {
-        if let Some(node) = node_of(kernel, keys, bits) {
-            nodes.push((slot, node))?;
-        }
+    if let Some(node) = node_of(kernel, keys, bits) {
+        nodes.push((slot, node))?;
     }
     Ok(())
 }
 
-/// The nodes of the pointers that slots of the kernel hand on.
+/// The nodes of the pointers that slots hand on.
 pub fn nodes_handed(
     alloc: Global,
     kernel: &Kernel,
@@ -231,7 +229,7 @@ pub fn nodes_handed(
     handed: &BTreeSet<(u8, u64)>,
 ) -> Result<Vec<SlotNode>, NoMemory>
     requires { IsRising keys.now }
-    ensures { IfOk result (λ nodes. AreAll (HandedAt kernel.now.image kernel.now.kept keys.now handed.now.keys)
+    ensures { IfOk result (λ nodes. AreAll (HandedAt kernel.now.kept keys.now handed.now.keys)
         nodes.items) }
 {
     let mut nodes = Vec::new(alloc);
