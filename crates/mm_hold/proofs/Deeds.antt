@@ -46,11 +46,11 @@ forms_at [] r q e = cc
 forms_at (g ∷ fs) zero q e = subst (Contains (g ∷ fs)) e (in_first g fs)
 forms_at (g ∷ fs) (suc r) q e = let h = forms_at fs r q e in let lt = h.1 in (suc h.0, omega (arith, lt), h.2)
 
-has_form : (t : Thread) (r : ℕ) (q : PointerValue) → form_in t r ≡ Exactly q → Contains t.forms (Exactly q)
+pub has_form : (t : Thread) (r : ℕ) (q : PointerValue) → form_in t r ≡ Exactly q → Contains t.forms (Exactly q)
 unfolding form_in
 has_form t r q e = forms_at t.forms r q e
 
-form_at : (t : Thread) → Long t → (g : Form) → Contains t.forms g → (r : ℕ) × (r < 16) × (form_in t r ≡ g)
+pub form_at : (t : Thread) → Long t → (g : Form) → Contains t.forms g → (r : ℕ) × (r < 16) × (form_in t r ≡ g)
 unfolding form_in
 form_at t long g c =
     let lt = c.1 in
@@ -290,7 +290,7 @@ module _ (i : Image) (kept : List Segment) (img : IsImage i) (f : Findings) (fd 
         each_join (Means i kept) (used deed.Loaded t.origin part f.carrying) (loaded kept f.first f.tables.stored part reg next)
         (loads_mean part reg next c) (loaded_mean part reg next c)
     done_mean (outcome.Stores part form) c = stores_mean part form c
-    done_mean (outcome.HandsOut form l) c = hands_mean form l c (outcome_like i kept t (outcome.HandsOut form l) c)
+    done_mean (outcome.HandsOut form l) c = hands_mean form l c (outcome_like i kept t (outcome.HandsOut form l) c).0
     done_mean (outcome.Leaves linked) c =
         let like = outcome_like i kept t (outcome.Leaves linked) c in
         left_mean linked (like.1 ∙ thread_long i kept img t d) linked.origin

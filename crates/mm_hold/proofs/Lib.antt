@@ -10,3 +10,11 @@ mod Meeting
 mod Passes
 mod CellLists
 mod Granting
+mod HeldKeys
+mod Graphed
+mod Begun
+mod Walked
+mod Keyed
+mod Handed
+mod Rounding
+mod Closing

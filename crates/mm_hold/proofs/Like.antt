@@ -1,6 +1,6 @@
 -- What each outcome of a turn keeps of its thread: how many registers it has, its origin, and the form that it hands out.
 use Rattle.std.proofs.Common.{◌≡◌, ℕ, ◌+◌, Bool, true, false, ◌==◌, if◌then◌else◌, ℤ, pos, ◌+ℤ◌, ◌*ℤ◌, List, [], ◌∷◌, ◌++◌, map}
-use Rattle.std.proofs.Common.{length, is_some, Option, Some, None, Result, Ok, Err, refl, sym, ap, ◌∙◌, subst}
+use Rattle.std.proofs.Common.{length, is_some, Option, Some, None, Result, Ok, Err, refl, sym, ap, ◌∙◌, subst, arith}
 use Rattle.std.proofs.lemmas.List.{length-set, length-map, length-replicate}
 use Rattle.std.specs.{Prelude.Contains, Int.{w64, cast_unsigned, cast_signed}}
 use Rattle.std.specs.List.{AllByRecursion, flat_map, range_with_len}
@@ -40,43 +40,57 @@ use Rattle.mm_word.specs.declared.word.Pre.TheVariants as pres
 use Rattle.mm_kernel.specs.declared.fact.Leak.TheVariants as leak
 use Rattle.mm_kernel.specs.declared.outcome.Outcome.TheVariants as outcome
 
+-- the next thread has as many registers, and is of the same origin
 abbrev pub AsLong : Thread → Thread → Type 0
-AsLong t next = length next.forms ≡ length t.forms
+AsLong t next = (next.origin ≡ t.origin) × (length next.forms ≡ length t.forms)
 
 -- a store that hands out a form names it
 abbrev pub SameForm : Form → Leak → Type 0
 SameForm f (leak.Store at reg g) = g ≡ f
 SameForm f _ = Unit {0}
 
-abbrev pub Like : Thread → Outcome → Type 0
-Like t (outcome.Goes next) = AsLong t next
-Like t (outcome.Loads part reg next) = AsLong t next
-Like t (outcome.HandsOut f leak) = SameForm f leak
-Like t (outcome.Leaves linked) = (linked.origin ≡ t.origin) × AsLong t linked
-Like t (outcome.TakesEvent reg next) = AsLong t next
-Like t (outcome.ReadsServed reg from next) = AsLong t next
-Like t _ = Unit {0}
+-- a register of the thread has the form
+pub record InRegister (t : Thread) (f : Form) : Type 0 where
+  pub reg : ℕ
+  pub is : form_in t reg ≡ f
+
+-- one of the outcomes hands out the form
+pub record HandedIn (all : List Outcome) (f : Form) : Type 0 where
+  pub by : Leak
+  pub inside : Contains all (outcome.HandsOut f by)
+
+abbrev pub Like : List Outcome → Thread → Outcome → Type 0
+Like all t (outcome.Goes next) = AsLong t next
+Like all t (outcome.Loads part reg next) = AsLong t next
+Like all t (outcome.HandsOut f leak) = SameForm f leak × InRegister t f
+Like all t (outcome.Leaves linked) = AsLong t linked
+Like all t (outcome.TakesEvent reg next) = AsLong t next
+Like all t (outcome.ReadsServed reg from next) = AsLong t next
+Like all t (outcome.WritesServed reg f) = InRegister t f × HandedIn all f
+Like all t _ = Unit {0}
+
+pub then_long : (t u v : Thread) → AsLong t u → AsLong u v → AsLong t v
+then_long t u v h k = (k.0 ∙ h.0, k.1 ∙ h.1)
 
 pub with_long : (u : Thread) (r : ℕ) (f : Form) → AsLong u (with_form u r f)
 unfolding with_form
-with_long u r f = length-set u.forms r f
-
-with_origin : (u : Thread) (r : ℕ) (f : Form) → (with_form u r f).origin ≡ u.origin
-unfolding with_form
-with_origin u r f = refl
+with_long u r f = (refl, length-set u.forms r f)
 
 pub event_long : (u : Thread) (rd : ℕ) (a b c : Form) → AsLong u (with_event u rd a b c)
 event_long u rd a b c =
-    with_long (with_form (with_form (with_form u rd Integer) (rd + 1) a) (rd + 2) b) (rd + 3) c
-    ∙ with_long (with_form (with_form u rd Integer) (rd + 1) a) (rd + 2) b
-    ∙ with_long (with_form u rd Integer) (rd + 1) a ∙ with_long u rd Integer
+    let u1 = with_form u rd Integer in
+    let u2 = with_form u1 (rd + 1) a in
+    let u3 = with_form u2 (rd + 2) b in
+    then_long u u1 (with_form u3 (rd + 3) c) (with_long u rd Integer)
+    (then_long u1 u2 (with_form u3 (rd + 3) c) (with_long u1 (rd + 1) a)
+    (then_long u2 u3 (with_form u3 (rd + 3) c) (with_long u2 (rd + 2) b) (with_long u3 (rd + 3) c)))
 
-module _ (i : Image) (kept : List Segment) (t : Thread) where
+module _ (i : Image) (kept : List Segment) (t : Thread) (all : List Outcome) where
   abbrev O : Outcome → Type 0
-  O o = Like t o
+  O o = Like all t o
 
   abbrev Os : List Outcome → Type 0
-  Os os = AllByRecursion (Like t) os
+  Os os = AllByRecursion (Like all t) os
 
   faults : (x : Instr) → O (fault t x)
   unfolding fault
@@ -84,11 +98,11 @@ module _ (i : Image) (kept : List Segment) (t : Thread) where
 
   next : AsLong t (stepped t)
   unfolding stepped
-  next = refl
+  next = (refl, refl)
 
   setting : (rd : ℕ) (f : Form) → O (sets t rd f)
   unfolding sets
-  setting rd f = with_long (stepped t) rd f ∙ next
+  setting rd f = then_long t (stepped t) (with_form (stepped t) rd f) next (with_long (stepped t) rd f)
 
   somewhere : (x : Instr) (rd : ℕ) (perm : Perm) (f : Form) → Os (moved_somewhere t x rd perm f)
   somewhere x rd perm f = by (can_move perm)
@@ -113,8 +127,8 @@ module _ (i : Image) (kept : List Segment) (t : Thread) where
 
   choosing : (x : Instr) (rd : ℕ) (f b : Form) (to : List Perm) → Os (restricted t x rd f b to)
   choosing x rd f b to =
-      each_join (Like t) (map (λ perm. sets t rd (with_permission f perm)) to) (if may_refuse (exact_bits b) to then fault t x ∷ [] else [])
-      (into_map (Like t) (λ perm. sets t rd (with_permission f perm)) to
+      each_join (Like all t) (map (λ perm. sets t rd (with_permission f perm)) to) (if may_refuse (exact_bits b) to then fault t x ∷ [] else [])
+      (into_map (Like all t) (λ perm. sets t rd (with_permission f perm)) to
       (each_from (λ (c : Perm). O (sets t rd (with_permission f c))) to (λ c k. setting rd (with_permission f c))))
       (last (may_refuse (exact_bits b) to))
     where
@@ -169,12 +183,15 @@ module _ (i : Image) (kept : List Segment) (t : Thread) where
   three true x o k = (faults x, (k, (next, tt)))
   three false x o k = (faults x, tt)
 
+  handing : (rb : ℕ) → O (stores_outside t rb)
+  handing rb = (refl, record { reg = rb; is = refl })
+
   word_put : (rb w : ℕ) → O (word_stored kept t rb w)
   word_put rb w = by (is_kept kept w)
     where
       by : (b : Bool) → O (if b then outcome.Stores (w, 3) (stored_form (form_in t rb)) else stores_outside t rb)
       by true = tt
-      by false = refl
+      by false = handing rb
 
   stored_from : (x : Instr) (rb : ℕ) (pre : Pre) (r : Result AccessValue Cause) → Os (stored_by i kept t x rb pre r)
   stored_from x rb pre (Err c) = (faults x, tt)
@@ -188,8 +205,8 @@ module _ (i : Image) (kept : List Segment) (t : Thread) where
   unfolding stores
   storing x (Number n) rb imm pre = (faults x, tt)
   storing x Integer rb imm pre = (faults x, tt)
-  storing x Any rb imm pre = (faults x, (refl, (next, tt)))
-  storing x (Open perm) rb imm pre = three (allows perm Store) x (stores_outside t rb) refl
+  storing x Any rb imm pre = (faults x, (handing rb, (next, tt)))
+  storing x (Open perm) rb imm pre = three (allows perm Store) x (stores_outside t rb) (handing rb)
   storing x (Inside p) rb imm pre = three (allows p.perm Store) x (outcome.Stores (p.addr, p.log) (stored_form (form_in t rb))) tt
   storing x (Exactly p) rb imm pre = stored_from x rb pre (check_result (Ptr p) imm Store)
 
@@ -198,7 +215,7 @@ module _ (i : Image) (kept : List Segment) (t : Thread) where
   branching x imm = by (at_distance t imm)
     where
       by : (r : Result Pointer Cause) → O (branched t x r)
-      by (Ok q) = refl
+      by (Ok q) = (refl, refl)
       by (Err c) = faults x
 
   one_of : (b : Bool) (o p : Outcome) → O o → O p → Os ((if b then o else p) ∷ [])
@@ -215,29 +232,32 @@ module _ (i : Image) (kept : List Segment) (t : Thread) where
   one_more true o p k j = (k, tt)
   one_more false o p k j = (j, tt)
 
-  jumping : (l : Thread) (x : Instr) (ra : ℕ) (f : Form) → l.origin ≡ t.origin → AsLong t l → Os (jumps t l x ra f)
+  jumping : (l : Thread) (x : Instr) (ra : ℕ) (f : Form) → AsLong t l → Os (jumps t l x ra f)
   unfolding jumps
-  jumping l x ra (Number n) k j = (faults x, tt)
-  jumping l x ra Integer k j = (faults x, tt)
-  jumping l x ra Any k j = (faults x, ((k, j), tt))
-  jumping l x ra (Open perm) k j = one_more (is_some (execute_form perm)) (outcome.Leaves l) (fault t x) (k, j) (faults x)
-  jumping l x ra (Inside p) k j = one_more (is_some (execute_form p.perm)) (outcome.Leaks (leak.Enter t.ip.addr ra (Inside p))) (fault t x) tt (faults x)
-  jumping l x ra (Exactly p) k j = by (enter_result p)
+  jumping l x ra (Number n) k = (faults x, tt)
+  jumping l x ra Integer k = (faults x, tt)
+  jumping l x ra Any k = (faults x, (k, tt))
+  jumping l x ra (Open perm) k = one_more (is_some (execute_form perm)) (outcome.Leaves l) (fault t x) k (faults x)
+  jumping l x ra (Inside p) k = one_more (is_some (execute_form p.perm)) (outcome.Leaks (leak.Enter t.ip.addr ra (Inside p))) (fault t x) tt (faults x)
+  jumping l x ra (Exactly p) k = by (enter_result p)
     where
       by : (o : Option Pointer) → Os (jumped t l x o)
       by None = (faults x, tt)
-      by (Some to) = (j, tt)
+      by (Some to) = (k, tt)
 
   linking : (x : Instr) (rd ra : ℕ) (o : Option Pointer) → Os (links t x rd ra o)
   linking x rd ra None = (faults x, tt)
-  linking x rd ra (Some back) = jumping (with_form t rd (Exactly back)) x ra (form_in t ra) (with_origin t rd (Exactly back)) (with_long t rd (Exactly back))
+  linking x rd ra (Some back) = jumping (with_form t rd (Exactly back)) x ra (form_in t ra) (with_long t rd (Exactly back))
 
   lipping : (x : Instr) (rd : ℕ) (r : Result Pointer Cause) → Os (moved t x rd r)
   lipping x rd (Ok q) = (setting rd (Exactly q), tt)
   lipping x rd (Err c) = (faults x, tt)
 
   seeing : (rd ra : ℕ) (f : Form) (tag : ℕ) → O (seen_as t rd ra f tag)
-  seeing rd ra f tag = with_long (with_form (stepped t) ra f) rd (Number tag) ∙ with_long (stepped t) ra f ∙ next
+  seeing rd ra f tag =
+      let u = stepped t in
+      let v = with_form u ra f in
+      then_long t u (with_form v rd (Number tag)) next (then_long u v (with_form v rd (Number tag)) (with_long u ra f) (with_long v rd (Number tag)))
 
   testing : (rd ra : ℕ) (f : Form) → Os (tests_tag t rd ra f)
   unfolding tests_tag
@@ -258,64 +278,74 @@ module _ (i : Image) (kept : List Segment) (t : Thread) where
       by true = (faults x, tt)
       by false = (setting rd f, tt)
 
-  instr_like : (x : Instr) → Os (outcomes_of i kept t x)
+  instr_like : (x : Instr) → ((o : Outcome) → Contains (outcomes_of i kept t x) o → Contains all o) → Os (outcomes_of i kept t x)
   unfolding outcomes_of
-  instr_like Halt = tt
-  instr_like Nop = (next, tt)
-  instr_like (Ldi rd imm) = (setting rd (Number (cast_unsigned w64 imm)), tt)
-  instr_like (Ldhi rd imm) = (setting rd (high_form (form_in t rd) imm), tt)
-  instr_like (Mov rd ra) = (setting rd (form_in t ra), tt)
-  instr_like (Isptr rd ra) = testing rd ra (form_in t ra)
-  instr_like (Eqw rd ra rb) = (setting rd (equal_form (form_in t ra) (form_in t rb)), tt)
-  instr_like (Out ra) = (faults (Out ra), (next, tt))
-  instr_like (SelfSlot rd) = (setting rd Integer, tt)
-  instr_like (Alu op rd ra rb) = computing (Alu op rd ra rb) (divides op) rd (alu_form op (form_in t ra) (form_in t rb)) (exact_bits (form_in t rb))
-  instr_like (Addi rd ra imm) = (setting rd (alu_form Add (form_in t ra) (Number (cast_unsigned w64 imm))), tt)
-  instr_like (Lea rd ra rb) = moving (Lea rd ra rb) rd (form_in t ra) (exact_bits (form_in t rb)) (λ p bits. lea_result p (cast_signed w64 bits))
-  instr_like (Leai rd ra imm) = moving (Leai rd ra imm) rd (form_in t ra) (Some 0) (λ p bits. lea_result p imm)
-  instr_like (Leab rd ra rb) = moving (Leab rd ra rb) rd (form_in t ra) (exact_bits (form_in t rb)) (λ p bits. leab_result p (cast_signed w64 bits))
-  instr_like (Restrict rd ra rb) = narrowing (Restrict rd ra rb) rd (form_in t ra) (form_in t rb)
-  instr_like (Subseg rd ra rb) = moving (Subseg rd ra rb) rd (form_in t ra) (exact_bits (form_in t rb)) subseg_result
-  instr_like (Setptr rd ra) = (faults (Setptr rd ra), tt)
-  instr_like (Ld rd ra pre post imm) = loading (Ld rd ra pre post imm) rd (form_in t ra) imm pre (load_kind post)
-  instr_like (St ra rb pre post imm) = storing (St ra rb pre post imm) (form_in t ra) rb imm pre
-  instr_like (Br imm) = (branching (Br imm) imm, tt)
-  instr_like (Bz ra imm) = branching_if true (Bz ra imm) (exact_bits (form_in t ra)) imm
-  instr_like (Bnz ra imm) = branching_if false (Bnz ra imm) (exact_bits (form_in t ra)) imm
-  instr_like (Jmp ra) = jumping t (Jmp ra) ra (form_in t ra) refl refl
-  instr_like (Jal rd ra) = linking (Jal rd ra) rd ra (next_result t.ip)
-  instr_like (Lip rd imm) = lipping (Lip rd imm) rd (at_distance t imm)
-  instr_like (Trap imm) = (faults (Trap imm), tt)
-  instr_like (Evt rd) = (event_long (stepped t) rd Any Any Any ∙ next, (next, tt))
-  instr_like (Resume ra how) = (faults (Resume ra how), (next, (tt, tt)))
-  instr_like (Rreg rd ra reg) = (faults (Rreg rd ra reg), (setting rd Any, (next, tt)))
-  instr_like (Wreg ra rb reg) = (faults (Wreg ra rb reg), (next, (tt, (tt, tt))))
-  instr_like (Map rd ra) = (faults (Map rd ra), tt)
-  instr_like (Unmap rd ra) = (faults (Unmap rd ra), tt)
+  instr_like Halt among = tt
+  instr_like Nop among = (next, tt)
+  instr_like (Ldi rd imm) among = (setting rd (Number (cast_unsigned w64 imm)), tt)
+  instr_like (Ldhi rd imm) among = (setting rd (high_form (form_in t rd) imm), tt)
+  instr_like (Mov rd ra) among = (setting rd (form_in t ra), tt)
+  instr_like (Isptr rd ra) among = testing rd ra (form_in t ra)
+  instr_like (Eqw rd ra rb) among = (setting rd (equal_form (form_in t ra) (form_in t rb)), tt)
+  instr_like (Out ra) among = (faults (Out ra), (next, tt))
+  instr_like (SelfSlot rd) among = (setting rd Integer, tt)
+  instr_like (Alu op rd ra rb) among = computing (Alu op rd ra rb) (divides op) rd (alu_form op (form_in t ra) (form_in t rb)) (exact_bits (form_in t rb))
+  instr_like (Addi rd ra imm) among = (setting rd (alu_form Add (form_in t ra) (Number (cast_unsigned w64 imm))), tt)
+  instr_like (Lea rd ra rb) among = moving (Lea rd ra rb) rd (form_in t ra) (exact_bits (form_in t rb)) (λ p bits. lea_result p (cast_signed w64 bits))
+  instr_like (Leai rd ra imm) among = moving (Leai rd ra imm) rd (form_in t ra) (Some 0) (λ p bits. lea_result p imm)
+  instr_like (Leab rd ra rb) among = moving (Leab rd ra rb) rd (form_in t ra) (exact_bits (form_in t rb)) (λ p bits. leab_result p (cast_signed w64 bits))
+  instr_like (Restrict rd ra rb) among = narrowing (Restrict rd ra rb) rd (form_in t ra) (form_in t rb)
+  instr_like (Subseg rd ra rb) among = moving (Subseg rd ra rb) rd (form_in t ra) (exact_bits (form_in t rb)) subseg_result
+  instr_like (Setptr rd ra) among = (faults (Setptr rd ra), tt)
+  instr_like (Ld rd ra pre post imm) among = loading (Ld rd ra pre post imm) rd (form_in t ra) imm pre (load_kind post)
+  instr_like (St ra rb pre post imm) among = storing (St ra rb pre post imm) (form_in t ra) rb imm pre
+  instr_like (Br imm) among = (branching (Br imm) imm, tt)
+  instr_like (Bz ra imm) among = branching_if true (Bz ra imm) (exact_bits (form_in t ra)) imm
+  instr_like (Bnz ra imm) among = branching_if false (Bnz ra imm) (exact_bits (form_in t ra)) imm
+  instr_like (Jmp ra) among = jumping t (Jmp ra) ra (form_in t ra) (refl, refl)
+  instr_like (Jal rd ra) among = linking (Jal rd ra) rd ra (next_result t.ip)
+  instr_like (Lip rd imm) among = lipping (Lip rd imm) rd (at_distance t imm)
+  instr_like (Trap imm) among = (faults (Trap imm), tt)
+  instr_like (Evt rd) among = (then_long t (stepped t) (with_event (stepped t) rd Any Any Any) next (event_long (stepped t) rd Any Any Any), (next, tt))
+  instr_like (Resume ra how) among = (faults (Resume ra how), (next, (tt, tt)))
+  instr_like (Rreg rd ra reg) among = (faults (Rreg rd ra reg), (setting rd Any, (next, tt)))
+  instr_like (Wreg ra rb reg) among =
+      let handed = among (outcome.HandsOut (form_in t rb) (leak.Give t.ip.addr rb (form_in t rb))) (2, omega arith, refl) in
+      (faults (Wreg ra rb reg), (next, ((tt, record { reg = rb; is = refl }), ((record { reg = rb; is = refl }, record { by = leak.Give t.ip.addr rb (form_in t rb); inside = handed }), tt))))
+  instr_like (Map rd ra) among = (faults (Map rd ra), tt)
+  instr_like (Unmap rd ra) among = (faults (Unmap rd ra), tt)
 
-  turn_like : Os (outcomes i kept t)
-  unfolding outcomes
-  turn_like = by t.past
-    where
-      read : (o : Option Instr) → Os (decoded i kept t o)
-      read None = (tt, tt)
-      read (Some x) = instr_like x
+pub turn_like : (i : Image) (kept : List Segment) (t : Thread) → AllByRecursion (Like (outcomes i kept t) t) (outcomes i kept t)
+unfolding outcomes
+turn_like i kept t = by t.past (λ o c. c)
+  where
+    abbrev Among : List Outcome → Type 0
+    Among os = (o : Outcome) → Contains os o → Contains (outcomes i kept t) o
 
-      word_is : (w : ℕ) (c : Cell) (b : Bool) → Os (if b then decoded i kept t (instr_in c.word) else outcome.Leaks (leak.Code w) ∷ [])
-      word_is w c true = read (instr_in c.word)
-      word_is w c false = (tt, tt)
+    abbrev Os : List Outcome → Type 0
+    Os os = AllByRecursion (Like (outcomes i kept t) t) os
 
-      got : (w : ℕ) (o : Option Cell) → Os (fetched i kept t w o)
-      got w None = (tt, tt)
-      got w (Some c) = word_is w c (is_fixed i w)
+    read : (o : Option Instr) → Among (decoded i kept t o) → Os (decoded i kept t o)
+    read None among = (tt, tt)
+    read (Some x) among = instr_like i kept t (outcomes i kept t) x among
 
-      aims : (r : Result AccessValue Cause) → Os (aimed i kept t r)
-      aims (Err c) = (tt, tt)
-      aims (Ok a) = got a.addr (cell_at i.memory a.addr)
+    word_is : (w : ℕ) (c : Cell) (b : Bool) → Among (if b then decoded i kept t (instr_in c.word) else outcome.Leaks (leak.Code w) ∷ [])
+        → Os (if b then decoded i kept t (instr_in c.word) else outcome.Leaks (leak.Code w) ∷ [])
+    word_is w c true among = read (instr_in c.word) among
+    word_is w c false among = (tt, tt)
 
-      by : (b : Bool) → Os (if b then early_fault ∷ [] else aimed i kept t (check_result (Ptr t.ip) (pos 0) Fetch))
-      by true = (tt, tt)
-      by false = aims (check_result (Ptr t.ip) (pos 0) Fetch)
+    got : (w : ℕ) (o : Option Cell) → Among (fetched i kept t w o) → Os (fetched i kept t w o)
+    got w None among = (tt, tt)
+    got w (Some c) among = word_is w c (is_fixed i w) among
 
-  pub outcome_like : (o : Outcome) → Contains (outcomes i kept t) o → Like t o
-  outcome_like o c = each_contained (Like t) (outcomes i kept t) o turn_like c
+    aims : (r : Result AccessValue Cause) → Among (aimed i kept t r) → Os (aimed i kept t r)
+    aims (Err c) among = (tt, tt)
+    aims (Ok a) among = got a.addr (cell_at i.memory a.addr) among
+
+    by : (b : Bool) → Among (if b then early_fault ∷ [] else aimed i kept t (check_result (Ptr t.ip) (pos 0) Fetch))
+        → Os (if b then early_fault ∷ [] else aimed i kept t (check_result (Ptr t.ip) (pos 0) Fetch))
+    by true among = (tt, tt)
+    by false among = aims (check_result (Ptr t.ip) (pos 0) Fetch) among
+
+pub outcome_like : (i : Image) (kept : List Segment) (t : Thread) (o : Outcome) → Contains (outcomes i kept t) o → Like (outcomes i kept t) t o
+outcome_like i kept t o c = each_contained (Like (outcomes i kept t) t) (outcomes i kept t) o (turn_like i kept t) c

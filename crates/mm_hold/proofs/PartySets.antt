@@ -200,11 +200,11 @@ adds_as A B s t to back h y x = (
 -- 5. Slots and what they serve.
 
 module _ (i : Image) (kept : List Segment) where
-  abbrev OfAs : Slot → Party → Type 0
+  abbrev pub OfAs : Slot → Party → Type 0
   OfAs s (Group g) = g ≡ s.group
   OfAs s (KernelSlot n) = (is_kernel i kept s.number ≡ true) × (n ≡ s.number)
 
-  of_then : (s : Slot) {x : Party} → IsOf i kept s x → OfAs s x
+  pub of_then : (s : Slot) {x : Party} → IsOf i kept s x → OfAs s x
   of_then s with_group = refl
   of_then s (by_itself e) = (e, refl)
 

@@ -7,6 +7,8 @@ pub mod Passing
 pub mod Finding
 pub mod Exactly
 pub mod Rounds
+pub mod Standing
+pub mod Graphs
 pub mod Reached
 pub mod Apart
 pub mod Holdings
