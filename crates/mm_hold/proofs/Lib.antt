@@ -10,6 +10,9 @@ mod Meeting
 mod Passes
 mod CellLists
 mod Granting
+mod HeldKeys
+mod Graphed
+mod Begun
 mod Keyed
 mod Handed
 mod Rounding

@@ -3,14 +3,14 @@ use Rattle.std.proofs.Common.{◌≡◌, ◌⊎◌, ◌↔◌, inl, inr, ℕ, �
 use Rattle.std.proofs.lemmas.List.Elements.{Contains-append_left, Contains-append_right, Contains-append_cases}
 use Rattle.std.specs.{Prelude.Contains, Int.bit_at, List.flat_map, BTreeSet.{BTreeSet, insert_key}}
 use Rattle.std.specs.Ordering.{nat_cmp, ordering_then}
-use Rattle.mm_word.specs.Pointer.{Pointer as PointerValue, bits_of}
+use Rattle.mm_word.specs.Pointer.{Pointer as PointerValue, SpellsPointer, bits_of, pointer_of}
 use Rattle.mm_model.specs.{Image.Image, Spelling.IsImage}
 use Rattle.mm_flow.proofs.Bits.{or_left, or_right, or_cases, zero_bit}
 use Rattle.mm_kernel.specs.{Segments.Segment, declared.thread.Origin.Origin}
 use Rattle.mm_span.proofs.Members.{none_in, in_first, in_cases, in_flat, flat_in}
 use Rattle.mm_hold.specs.declared.{deed.Deed.Deed, conduct.Conduct.Conduct}
 use Rattle.mm_hold.specs.Deeds.{Findings, all_deeds}
-use Rattle.mm_hold.specs.Conducts.{AreAll, AreDeeds, AreFindings, Grown, IsRead, Marks, MarksAll, Notes, NotesFrom, SomeDeed}
+use Rattle.mm_hold.specs.Conducts.{AreAll, AreDeeds, AreFindings, Grown, IsRead, IsSpelled, Marks, MarksAll, Notes, NotesFrom, SomeDeed}
 use Rattle.mm_hold.specs.Conducts.{AreConduct, IsNone, origin_numbers, has_in, stored_by, loaded_by, sent_in, given_in}
 use Rattle.mm_hold.specs.Conducts.{sends_in, gives_in, sees_in, goes_in}
 use Rattle.mm_hold.proofs.{Sets.{all_same, all_then, all_as, pair_added, first_added, last_added}, Deeds.deeds_are}
@@ -89,6 +89,10 @@ one_mark m k n e g = (
     ]
   ],
 )
+
+-- a pointer is spelled by the bits that are its own
+pub spelled : (p : PointerValue) (b : ℕ) → b ≡ bits_of p → SpellsPointer b → pointer_of b ≡ p → IsSpelled p
+spelled p b is spells again = record { spells = subst SpellsPointer is spells; again = ap pointer_of (sym is) ∙ again }
 
 -- one deed that is read
 one_read : (d : Deed) → IsRead d → (e : Deed) → Contains (d ∷ []) e → IsRead e

@@ -2,7 +2,7 @@
 use Rattle.std.specs.Prelude.{◌≡◌, ◌⊎◌, ◌↔◌, ℕ, ◌<◌, ◌==◌, Bool, true, List, [], ◌∷◌, Contains, Some, if◌then◌else◌}
 use Rattle.std.specs.{Int.bit_at, List.flat_map}
 use Rattle.mm_word.specs.declared.word.Cell.{Cell}
-use Rattle.mm_word.specs.Pointer.{Pointer as PointerValue, bits_of, pointer_of}
+use Rattle.mm_word.specs.Pointer.{Pointer as PointerValue, SpellsPointer, bits_of, pointer_of}
 use Rattle.mm_model.specs.{Memory.cell_at, Image.Image}
 use Rattle.mm_kernel.specs.Segments.{Segment, is_kept, lies_in, is_door}
 use Rattle.mm_kernel.specs.declared.fact.Leak.{Leak}
@@ -145,13 +145,18 @@ abbrev pub goes_in : Deed → List ℕ
 goes_in (deed.GoesOn n) = n ∷ []
 goes_in _ = []
 
+-- a pointer's bits spell it
+pub record IsSpelled (p : PointerValue) : Type 0 where
+  pub spells : SpellsPointer (bits_of p)
+  pub again : pointer_of (bits_of p) ≡ p
+
 -- what a deed has can be read from its numbers
 abbrev pub IsRead : Deed → Type 0
-IsRead (deed.Has from p) = (origin_from (origin_numbers from) ≡ from) × (pointer_of (bits_of p) ≡ p)
+IsRead (deed.Has from p) = (origin_from (origin_numbers from) ≡ from) × IsSpelled p
 IsRead (deed.Stored w from) = origin_from (origin_numbers from) ≡ from
 IsRead (deed.Loaded w from) = origin_from (origin_numbers from) ≡ from
-IsRead (deed.Sent n p) = pointer_of (bits_of p) ≡ p
-IsRead (deed.Given n p) = pointer_of (bits_of p) ≡ p
+IsRead (deed.Sent n p) = IsSpelled p
+IsRead (deed.Given n p) = IsSpelled p
 IsRead _ = Unit {0}
 
 -- 5. What a conduct has noted.

@@ -8,5 +8,6 @@ pub mod Finding
 pub mod Exactly
 pub mod Rounds
 pub mod Standing
+pub mod Graphs
 pub mod Reached
 pub mod Apart

@@ -1,8 +1,7 @@
 use Rattle.std.proofs.Common.{◌∷◌, [], bit_or, sym, ap, ◌∙◌, subst}
-use Rattle.mm_word.specs.Pointer.{pointer_of}
 use Rattle.mm_hold.specs.declared.{deed.Deed.Deed}
 use Rattle.mm_hold.specs.Conducts.{Notes, origin_from}
-use Rattle.mm_hold.proofs.Noted.{noted_has, noted_stored, noted_loaded, noted_sent, noted_given, noted_sends, noted_gives, noted_sees, noted_goes}
+use Rattle.mm_hold.proofs.Noted.{spelled, noted_has, noted_stored, noted_loaded, noted_sent, noted_given, noted_sends, noted_gives, noted_sees, noted_goes}
 use Rattle.mm_hold.proofs.conduct.Conduct.note.Goals as goal
 
 pub returns-in_ok-insert-in-Has : goal.returns-in_ok-insert-in-Has
@@ -12,7 +11,7 @@ returns-in_ok-insert-in-Has c =
     let b = c.bits in
     subst (λ (d : Deed). Notes (d ∷ []) x (record x { has = c.insert.new.self })) (sym c.in-Has.is)
     (noted_has x c.insert.new.self c.in-Has.origin c.in-Has.p n.result b.result n.ensures.is b.ensures.bits
-    (ap origin_from (sym n.ensures.is) ∙ n.ensures.again, ap pointer_of (sym b.ensures.bits) ∙ b.ensures.again) c.in_ok-insert-in-Has.ensures.keys)
+    (ap origin_from (sym n.ensures.is) ∙ n.ensures.again, spelled c.in-Has.p b.result b.ensures.bits b.ensures.spells b.ensures.again) c.in_ok-insert-in-Has.ensures.keys)
 
 pub returns-in_ok-insert-in-Stored : goal.returns-in_ok-insert-in-Stored
 returns-in_ok-insert-in-Stored c =
@@ -36,7 +35,7 @@ returns-in_ok-insert-in-Sent c =
     let b = c.bits-in-Sent in
     subst (λ (d : Deed). Notes (d ∷ []) x (record x { sent = c.insert-in-Sent.new.self })) (sym c.in-Sent.is)
     (noted_sent x c.insert-in-Sent.new.self c.in-Sent.slot b.result c.in-Sent.p b.ensures.bits
-    (ap pointer_of (sym b.ensures.bits) ∙ b.ensures.again) c.in_ok-insert-in-Sent.ensures.keys)
+    (spelled c.in-Sent.p b.result b.ensures.bits b.ensures.spells b.ensures.again) c.in_ok-insert-in-Sent.ensures.keys)
 
 pub returns-in_ok-insert-in-Given : goal.returns-in_ok-insert-in-Given
 returns-in_ok-insert-in-Given c =
@@ -44,7 +43,7 @@ returns-in_ok-insert-in-Given c =
     let b = c.bits-in-Given in
     subst (λ (d : Deed). Notes (d ∷ []) x (record x { given = c.insert-in-Given.new.self })) (sym c.in-Given.is)
     (noted_given x c.insert-in-Given.new.self c.in-Given.slot b.result c.in-Given.p b.ensures.bits
-    (ap pointer_of (sym b.ensures.bits) ∙ b.ensures.again) c.in_ok-insert-in-Given.ensures.keys)
+    (spelled c.in-Given.p b.result b.ensures.bits b.ensures.spells b.ensures.again) c.in_ok-insert-in-Given.ensures.keys)
 
 pub returns-in-Sends : goal.returns-in-Sends
 returns-in-Sends c =
