@@ -2,7 +2,7 @@
 use Rattle.std.proofs.Common.{◌≡◌, ◌⊎◌, ◌↔◌, inl, inr, ℕ, zero, suc, ◌+◌, ◌<◌, ◌≤◌, Bool, true, false, ◌||◌, List, [], ◌∷◌, length, slice_index}
 use Rattle.std.proofs.Common.{bit_and, Some, refl, sym, ap, ◌∙◌, subst, arith, eq-eqb}
 use Rattle.std.proofs.lemmas.{Bool.{or_parts, cases_lt}, Nat.Bits.bit_at-lt}
-use Rattle.std.specs.{Prelude.Contains, Int.bit_at}
+use Rattle.std.specs.{Prelude.{All, Contains}, Int.bit_at}
 use Rattle.mm_word.specs.declared.{perm.Perm.TheVariants.Eu, word.{Word.TheVariants.Ptr, Cell.Cell}}
 use Rattle.mm_word.specs.Pointer.{Pointer, IsBelow, enter_result, bits_of, pointer_of}
 use Rattle.mm_word.specs.PointerBits.{bits_of-pointer_of}
@@ -55,7 +55,7 @@ module _ (more : Party → ℕ → Type 0) (old new : Marks) (changed : Bool) (a
   adds_on x k h = (a.each x k).1 (inl h)
 
 module _ (i : Image) (kept : List Segment) (img : IsImage i) (ks : Keeps i kept) (c : Conduct) (all : AreConduct i kept c) (g : Graph) (gr : IsGraphOf i kept g)
-    (allkeys : (k : ℕ) → k < length g.keys.items → IsKey (key_at g.keys.items k)) (p : Passes) (ps : ArePasses i kept c g.keys.items p)
+    (allkeys : All IsKey g.keys.items) (p : Passes) (ps : ArePasses i kept c g.keys.items p)
     (old new : Marks) (changed : Bool) (r : Round i kept c g p old new changed) (still : changed ≡ false) (size : HasSize old (length g.keys.items))
     (sound : IsSound i kept g.keys.items new) (start : AreStarted i kept g.keys.items new) where
   abbrev keys : List CanonicalPtr
@@ -175,7 +175,7 @@ module _ (i : Image) (kept : List Segment) (img : IsImage i) (ks : Keeps i kept)
       let same = door_is x d e a in
       record {
         small = a.small;
-        same = sym (bits_of-pointer_of (key_at keys a.node).bits (allkeys a.node a.small).spells) ∙ ap bits_of (sym same);
+        same = sym (bits_of-pointer_of (key_at keys a.node).bits (allkeys a.node no_key a.small).spells) ∙ ap bits_of (sym same);
         is = subst (λ v. is_door kept v ≡ true) same e;
       }
 

@@ -17,3 +17,4 @@ mod Keyed
 mod Handed
 mod Rounding
 mod Closing
+mod Passed
