@@ -24,12 +24,12 @@ use Rattle.mm_hold.specs.declared.{sharing.Sharing.Sharing, marks.Marks.Marks, e
 use Rattle.mm_hold.specs.Conducts.{AreConduct, HasOrLets, IsHeld, IsCarrying, StoresInside, LoadsInside, Sends, Gives, SomeCarries, origin_numbers}
 use Rattle.mm_hold.specs.Parties.{Small, IsGroup, Shares, ServedParty, PassesAlways, PassesBySlot, PassesBySlot.{of_kernel, of_caller}}
 use Rattle.mm_hold.specs.Parties.{PassesByCaller.{serves, is_served}, PassesByKernel, PassesByKernel.{freed, gives, sees}}
-use Rattle.mm_hold.specs.Marks.{Held, HasSize, MayPass, MeetAbove, Adds, Handed, SlotMeets, SharedAt}
+use Rattle.mm_hold.specs.Marks.{Held, HasSize, room_of, MayPass, MeetAbove, Adds, Handed, SlotMeets, SharedAt}
 use Rattle.mm_hold.specs.Passing.{DoorAt, Runs, Runs.{itself, through}}
 use Rattle.mm_hold.specs.{Rounds.{Round}, Exactly.{Above, Covered, Covered.{powerless, above}, Running, Running.{itself as runs_itself, through as runs_through}}}
 use Rattle.mm_hold.specs.Exactly.{StoresFor, CarriesOut, PassesAll, PassesAll.{by_store, by_service, by_word, by_look, by_gift, by_leave}}
 use Rattle.mm_hold.specs.Exactly.{IsClosed, IsSound}
-use Rattle.mm_hold.specs.Standing.{edges_in, Placed, Placed.{powerless as is_powerless, at}, LeadsTo, EntersTo, IsGraphOf, ArePasses, AreStarted}
+use Rattle.mm_hold.specs.Standing.{edges_in, Placed, Placed.{powerless as is_powerless, at}, LeadsTo, EntersTo, IsGraphOf, ArePasses, AreStarted, Grew}
 use Rattle.mm_hold.proofs.Handed.{number_small, of_small, kernel_is, kernel_small, granted_party, party_small}
 use Rattle.mm_hold.proofs.Keyed.{stored_noted, loaded_noted, sends_noted, gives_noted, sees_noted, goes_noted}
 
@@ -322,4 +322,46 @@ module _ (i : Image) (kept : List Segment) (img : IsImage i) (ks : Keeps i kept)
     passes = passes;
     sends = sends;
     gives = gives_on;
+  }
+
+-- 6. Rounds take no mark back, and what they give takes room.
+
+fall : (a b c d : Bool) (r0 r1 r2 r3 r4 : ℕ) → r1 ≤ r0 → r2 ≤ r1 → r3 ≤ r2 → r4 ≤ r3 → (a ≡ true → r1 + 1 ≤ r0) → (b ≡ true → r2 + 1 ≤ r1)
+    → (c ≡ true → r3 + 1 ≤ r2) → (d ≡ true → r4 + 1 ≤ r3) → ((a || b) || (c || d)) ≡ true → r4 + 1 ≤ r0
+fall true b c d r0 r1 r2 r3 r4 l1 l2 l3 l4 f1 f2 f3 f4 e = let x = f1 refl in omega arith
+fall false true c d r0 r1 r2 r3 r4 l1 l2 l3 l4 f1 f2 f3 f4 e = let x = f2 refl in omega arith
+fall false false true d r0 r1 r2 r3 r4 l1 l2 l3 l4 f1 f2 f3 f4 e = let x = f3 refl in omega arith
+fall false false false true r0 r1 r2 r3 r4 l1 l2 l3 l4 f1 f2 f3 f4 e = let x = f4 refl in omega arith
+fall false false false false r0 r1 r2 r3 r4 l1 l2 l3 l4 f1 f2 f3 f4 e = cc
+
+module _ (i : Image) (kept : List Segment) (c : Conduct) (g : Graph) (p : Passes) (old new : Marks) (changed : Bool) (r : Round i kept c g p old new changed) where
+  spread_room : room_of r.spread ≤ room_of old
+  spread_room = let a = r.spreads.groups.no_rise in let b = r.spreads.slots.no_rise in omega arith
+
+  pub round_falls : changed ≡ true → room_of new + 1 ≤ room_of old
+  round_falls e =
+      let f = fall r.changes.0 r.changes.1 r.changes.2 r.changes.3 (room_of r.spread) (room_of r.behind) (room_of r.sent) (room_of r.given) (room_of new)
+          r.first.grows.no_rise r.second.grows.no_rise r.third.grows.no_rise r.last.grows.no_rise
+          r.first.grows.falls r.second.grows.falls r.third.grows.falls r.last.grows.falls (sym r.is ∙ e) in
+      let s = spread_room in
+      omega arith
+
+  spread_grew : Grew old r.spread
+  spread_grew (Group f) k h = within_has _ _ f (r.spreads.groups.grows k) h
+  spread_grew (KernelSlot n) k h = within_has _ _ n (r.spreads.slots.grows k) h
+
+  pub round_grew : Grew old new
+  round_grew x k h =
+      (r.last.each x k).1 (inl ((r.third.each x k).1 (inl ((r.second.each x k).1 (inl (r.first.keeps x k (spread_grew x k h)))))))
+
+module _ (i : Image) (kept : List Segment) (keys : List CanonicalPtr) (old new : Marks) (grew : Grew old new) where
+  covered_on : (x : Party) (q : Pointer) → Covered kept keys old x q → Covered kept keys new x q
+  covered_on x q (powerless none pw) = powerless none pw
+  covered_on x q (above a) = above (record { node = a.node; small = a.small; held = grew x a.node a.held; below = a.below })
+
+  pub started_on : AreStarted i kept keys old → AreStarted i kept keys new
+  started_on s = record {
+    registers = λ t q among caller inside. covered_on (Group t.group) q (s.registers t q among caller inside);
+    runs = λ t among caller. covered_on (Group t.group) t.ip (s.runs t among caller);
+    has = λ n q e h. covered_on (KernelSlot n) q (s.has n q e h);
   }
