@@ -10,10 +10,10 @@ use Rattle.mm_model.specs.{Memory.cell_at, Slot.Slot, Image.Image, Spelling.IsIm
 use Rattle.mm_flow.specs.{Edges.{Edges, entry_at, enters_at}, Flow.{Within, IsFlow}}
 use Rattle.mm_flow.proofs.Bits.{and_both, zero_bit}
 use Rattle.mm_graph.specs.{declared.canonical_ptr.CanonicalPtr.CanonicalPtr, Marked.node_pointer, Key.{IsKey, key_at, no_key}}
-use Rattle.mm_kernel.specs.Segments.{Segment, is_door, is_kept, meets as meets_kept}
+use Rattle.mm_kernel.specs.Segments.{Segment, is_door, is_kept}
 use Rattle.mm_kernel.specs.declared.form.Form.{TheVariants.{Pointer as Exactly}}
 use Rattle.mm_kernel.specs.declared.thread.{Origin.{Origin, TheVariants.{Door, Slot as OfSlot}}, Thread.Thread}
-use Rattle.mm_kernel.specs.{Threads.is_kernel, Derived.{Keeps, Derived.stores as derived_stores}, Forms.carries}
+use Rattle.mm_kernel.specs.{Threads.is_kernel, Derived.{Keeps, Derived.stores as derived_stores}, Variants.IsShared}
 use Rattle.mm_kernel.proofs.Segs.{below_within, outside_within}
 use Rattle.mm_kernel.proofs.Values.{open_outside, moves_loads}
 use Rattle.mm_confine.specs.declared.party.Party.{Party, TheVariants.{Group, KernelSlot}}
@@ -30,6 +30,7 @@ use Rattle.mm_hold.specs.{Rounds.{Round}, Exactly.{Above, Covered, Covered.{powe
 use Rattle.mm_hold.specs.Exactly.{StoresFor, CarriesOut, PassesAll, PassesAll.{by_store, by_service, by_word, by_look, by_gift, by_leave}}
 use Rattle.mm_hold.specs.Exactly.{IsClosed, IsSound}
 use Rattle.mm_hold.specs.Standing.{edges_in, Placed, Placed.{powerless as is_powerless, at}, LeadsTo, EntersTo, IsGraphOf, ArePasses, AreStarted, Grew}
+use Rattle.mm_hold.proofs.Granting.{not_door}
 use Rattle.mm_hold.proofs.Handed.{number_small, of_small, kernel_is, kernel_small, granted_party, party_small}
 use Rattle.mm_hold.proofs.Keyed.{stored_noted, loaded_noted, sends_noted, gives_noted, sees_noted, goes_noted}
 
@@ -161,14 +162,11 @@ module _ (i : Image) (kept : List Segment) (img : IsImage i) (ks : Keeps i kept)
   door_is x d e a = elim a.below [
     | inl same ↦ same
     | inr n ↦
-        let up = lines_ok i kept img ks (sound x a.node a.small a.held) in
+        let up : IsShared i kept (Ptr (node a.node)) = lines_ok i kept img ks (sound x a.node a.small a.held) in
         let out = outside_within kept d (node a.node) (below_within d (node a.node) (inr n)) (open_outside kept (node a.node) up.open_word (moves_loads (node a.node).perm n.movable)) in
-        absurd (no_door out)
+        let none = not_door kept d out in
+        absurd (cc)
   ]
-    where
-      no_door : meets_kept kept d ≡ false → ⊥
-      unfolding is_door
-      no_door out = cc
 
   door_at : (x : Party) (d : Pointer) → is_door kept d ≡ true → (a : Above keys new x d) → DoorAt kept keys (bits_of d) a.node
   door_at x d e a =
