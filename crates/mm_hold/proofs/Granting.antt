@@ -38,7 +38,7 @@ eu_moves : (p : Perm) → p ≡ Eu → can_move p ≡ true → ⊥
 eu_moves p f h = let no : can_move Eu ≡ true = subst (λ v. can_move v ≡ true) f h in cc
 
 -- no pointer but an enter pointer is a door
-not_door : (kept : List Segment) (q : Pointer) → meets kept q ≡ false → is_door kept q ≡ false
+pub not_door : (kept : List Segment) (q : Pointer) → meets kept q ≡ false → is_door kept q ≡ false
 unfolding is_door
 not_door kept q e = by q.perm
   where

@@ -1,7 +1,7 @@
 -- What threads hand on they have or let out; and parties that are granted anything are parties of the image.
-use Rattle.std.proofs.Common.{◌≡◌, ◌⊎◌, inl, inr, ℕ, ◌<◌, Bool, true, false, ◌&&◌, ◌==◌, List, [], ◌∷◌, Option, Some, refl, sym, ap, ◌∙◌, subst}
+use Rattle.std.proofs.Common.{◌≡◌, ◌⊎◌, inl, inr, ℕ, ◌<◌, Bool, true, false, ◌&&◌, ◌||◌, ◌==◌, List, [], ◌∷◌, Option, Some, refl, sym, ap, ◌∙◌, subst}
 use Rattle.std.proofs.Common.{arith, eqb-true}
-use Rattle.std.proofs.lemmas.Bool.{and_parts, or_parts}
+use Rattle.std.proofs.lemmas.Bool.{and_parts}
 use Rattle.std.specs.{Prelude.Contains, List.list_any}
 use Rattle.mm_word.specs.Pointer.{Pointer}
 use Rattle.mm_model.specs.{Slot.Slot, Image.{Image, slot_limit}, Spelling.{IsImage, IsFresh}}
@@ -29,13 +29,14 @@ use Rattle.mm_kernel.specs.declared.outcome.Outcome.TheVariants as outcome
 
 -- 1. Slots.
 
-any_found : {A : Type 0} (p : A → Bool) (xs : List A) → list_any p xs ≡ true → (x : A) × Contains xs x × (p x ≡ true)
-any_found p [] e = cc
-any_found p (x ∷ xs) e = by (p x) refl e
-  where
-    by : (b : Bool) → p x ≡ b → (b || list_any p xs) ≡ true → (y : _) × Contains (x ∷ xs) y × (p y ≡ true)
-    by true is k = (x, in_first x xs, is)
-    by false is k = let r = any_found p xs k in (r.0, in_rest x xs r.0 r.1, r.2)
+module _ {A : Type 0} (p : A → Bool) where
+  any_found : (xs : List A) → list_any p xs ≡ true → (x : A) × Contains xs x × (p x ≡ true)
+  any_found [] e = cc
+  any_found (x ∷ xs) e = by (p x) refl e (any_found xs)
+    where
+      by : (b : Bool) → p x ≡ b → (b || list_any p xs) ≡ true → (list_any p xs ≡ true → (y : A) × Contains xs y × (p y ≡ true)) → (y : A) × Contains (x ∷ xs) y × (p y ≡ true)
+      by true is k later = (x, in_first x xs, is)
+      by false is k later = let r = later k in (r.0, in_rest x xs r.0 r.1, r.2)
 
 module _ (i : Image) (kept : List Segment) (img : IsImage i) where
   pub fresh : (s : Slot) → Contains i.slots s → IsFresh (slot_limit i.version) i.slots s

@@ -18,3 +18,4 @@ mod Keyed
 mod Handed
 mod Rounding
 mod Closing
+mod Passed

@@ -315,37 +315,38 @@ module _ (i : Image) (kept : List Segment) (t : Thread) (all : List Outcome) whe
   instr_like (Map rd ra) among = (faults (Map rd ra), tt)
   instr_like (Unmap rd ra) among = (faults (Unmap rd ra), tt)
 
-pub turn_like : (i : Image) (kept : List Segment) (t : Thread) → AllByRecursion (Like (outcomes i kept t) t) (outcomes i kept t)
-unfolding outcomes
-turn_like i kept t = by t.past (λ o c. c)
-  where
-    abbrev Among : List Outcome → Type 0
-    Among os = (o : Outcome) → Contains os o → Contains (outcomes i kept t) o
+module _ (i : Image) (kept : List Segment) (t : Thread) where
+  abbrev Among : List Outcome → Type 0
+  Among os = (o : Outcome) → Contains os o → Contains (outcomes i kept t) o
 
-    abbrev Os : List Outcome → Type 0
-    Os os = AllByRecursion (Like (outcomes i kept t) t) os
+  abbrev Likes : List Outcome → Type 0
+  Likes os = AllByRecursion (Like (outcomes i kept t) t) os
 
-    read : (o : Option Instr) → Among (decoded i kept t o) → Os (decoded i kept t o)
-    read None among = (tt, tt)
-    read (Some x) among = instr_like i kept t (outcomes i kept t) x among
+  read : (o : Option Instr) → Among (decoded i kept t o) → Likes (decoded i kept t o)
+  read None among = (tt, tt)
+  read (Some x) among = instr_like i kept t (outcomes i kept t) x among
 
-    word_is : (w : ℕ) (c : Cell) (b : Bool) → Among (if b then decoded i kept t (instr_in c.word) else outcome.Leaks (leak.Code w) ∷ [])
-        → Os (if b then decoded i kept t (instr_in c.word) else outcome.Leaks (leak.Code w) ∷ [])
-    word_is w c true among = read (instr_in c.word) among
-    word_is w c false among = (tt, tt)
+  word_is : (w : ℕ) (c : Cell) (b : Bool) → Among (if b then decoded i kept t (instr_in c.word) else outcome.Leaks (leak.Code w) ∷ [])
+      → Likes (if b then decoded i kept t (instr_in c.word) else outcome.Leaks (leak.Code w) ∷ [])
+  word_is w c true among = read (instr_in c.word) among
+  word_is w c false among = (tt, tt)
 
-    got : (w : ℕ) (o : Option Cell) → Among (fetched i kept t w o) → Os (fetched i kept t w o)
-    got w None among = (tt, tt)
-    got w (Some c) among = word_is w c (is_fixed i w) among
+  got : (w : ℕ) (o : Option Cell) → Among (fetched i kept t w o) → Likes (fetched i kept t w o)
+  got w None among = (tt, tt)
+  got w (Some c) among = word_is w c (is_fixed i w) among
 
-    aims : (r : Result AccessValue Cause) → Among (aimed i kept t r) → Os (aimed i kept t r)
-    aims (Err c) among = (tt, tt)
-    aims (Ok a) among = got a.addr (cell_at i.memory a.addr) among
+  aims : (r : Result AccessValue Cause) → Among (aimed i kept t r) → Likes (aimed i kept t r)
+  aims (Err c) among = (tt, tt)
+  aims (Ok a) among = got a.addr (cell_at i.memory a.addr) among
 
-    by : (b : Bool) → Among (if b then early_fault ∷ [] else aimed i kept t (check_result (Ptr t.ip) (pos 0) Fetch))
-        → Os (if b then early_fault ∷ [] else aimed i kept t (check_result (Ptr t.ip) (pos 0) Fetch))
-    by true among = (tt, tt)
-    by false among = aims (check_result (Ptr t.ip) (pos 0) Fetch) among
+  turn_like : Likes (outcomes i kept t)
+  unfolding outcomes
+  turn_like = by t.past (λ o c. c)
+    where
+      by : (b : Bool) → Among (if b then early_fault ∷ [] else aimed i kept t (check_result (Ptr t.ip) (pos 0) Fetch))
+          → Likes (if b then early_fault ∷ [] else aimed i kept t (check_result (Ptr t.ip) (pos 0) Fetch))
+      by true among = (tt, tt)
+      by false among = aims (check_result (Ptr t.ip) (pos 0) Fetch) among
 
-pub outcome_like : (i : Image) (kept : List Segment) (t : Thread) (o : Outcome) → Contains (outcomes i kept t) o → Like (outcomes i kept t) t o
-outcome_like i kept t o c = each_contained (Like (outcomes i kept t) t) (outcomes i kept t) o (turn_like i kept t) c
+  pub outcome_like : (o : Outcome) → Contains (outcomes i kept t) o → Like (outcomes i kept t) t o
+  outcome_like o c = each_contained (Like (outcomes i kept t) t) (outcomes i kept t) o turn_like c

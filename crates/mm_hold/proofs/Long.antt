@@ -5,7 +5,7 @@ use Rattle.std.proofs.lemmas.Bool.{and_from, not_from_false}
 use Rattle.std.proofs.lemmas.List.{length-map, length-replicate}
 use Rattle.std.specs.{Prelude.Contains, List.{AllByRecursion, filter, flat_map, list_all, list_any, range_with_len}}
 use Rattle.mm_word.specs.Pointer.{Pointer}
-use Rattle.mm_word.specs.declared.word.{Word.Word, Cell.Cell}
+use Rattle.mm_word.specs.declared.word.{Word.{Word, TheVariants.{Int, Ptr}}, Cell.Cell}
 use Rattle.mm_isa.specs.declared.instr.How.{How, TheVariants.{Retry, Skip, Kill}}
 use Rattle.mm_model.specs.{Memory.cell_at, Slot.Slot, Image.{Image, slot_limit}, Turn.is_running}
 use Rattle.mm_model.{specs.Spelling.{IsImage, IsFresh}, proofs.CoreRows.each_contained}

@@ -1,8 +1,13 @@
 //! Rounds in which parties come to hold pointers, until nothing changes.
 
 ghost use Rattle.std.specs.Prelude.{◌≡◌, ◌||◌, IfOk, length};
+ghost use Rattle.mm_kernel.specs.Derived.{Keeps};
+ghost use Rattle.mm_hold.specs.Conducts.{AreConduct};
+ghost use Rattle.mm_hold.specs.Exactly.{IsClosed, IsSound};
+ghost use Rattle.mm_hold.specs.Graphs.{IsShaped};
 ghost use Rattle.mm_hold.specs.Marks.{HasSize};
 ghost use Rattle.mm_hold.specs.Rounds.{AreOf, Round, SharesNow};
+ghost use Rattle.mm_hold.specs.Standing.{ArePasses, AreStarted, Grew, HasKeys, IsGraphOf};
 
 use crate::conduct::Conduct;
 use crate::edges::Graph;
@@ -35,7 +40,15 @@ pub fn passes_of(
     kernel: &Kernel,
     conduct: &Conduct,
     graph: &Graph,
-) -> Result<Passes, NoMemory> {
+) -> Result<Passes, NoMemory>
+    requires keeps { Keeps kernel.now.image kernel.now.kept }
+    requires conduct { AreConduct kernel.now.image kernel.now.kept conduct.now }
+    requires shape { IsShaped graph.now }
+    requires has { HasKeys kernel.now.image kernel.now.kept graph.now.keys.items }
+    ensures passes { IfOk result (λ p. ArePasses kernel.now.image kernel.now.kept conduct.now graph.now.keys.items p) }
+    ensures parts { IfOk result (λ p. AreOf conduct.now graph.now p (length graph.now.parents.items)) }
+{
+    let _slots = kernel.image().slots();
     let behind = nodes_behind(alloc, kernel, &graph.keys, conduct)?;
     let sent = nodes_handed(alloc, kernel, &graph.keys, &conduct.sent)?;
     let given = nodes_handed(alloc, kernel, &graph.keys, &conduct.given)?;
@@ -99,7 +112,7 @@ pub fn round(
     Ok(some_of(behind, sent, given, shared))
 }
 
-/// Goes rounds until nothing changes.
+/// Goes rounds until nothing changes. Then no rule adds to the marks.
 pub fn until_still(
     alloc: Global,
     kernel: &Kernel,
@@ -107,7 +120,21 @@ pub fn until_still(
     graph: &Graph,
     passes: &Passes,
     marks: &mut Marks,
-) -> Result<(), NoMemory> {
+) -> Result<(), NoMemory>
+    requires keeps { Keeps kernel.now.image kernel.now.kept }
+    requires conduct { AreConduct kernel.now.image kernel.now.kept conduct.now }
+    requires graph { IsGraphOf kernel.now.image kernel.now.kept graph.now }
+    requires passes { ArePasses kernel.now.image kernel.now.kept conduct.now graph.now.keys.items passes.now }
+    requires parts { AreOf conduct.now graph.now passes.now (length graph.now.parents.items) }
+    requires size { HasSize marks.old (length graph.now.parents.items) }
+    requires sound { IsSound kernel.now.image kernel.now.kept graph.now.keys.items marks.old }
+    requires started { AreStarted kernel.now.image kernel.now.kept graph.now.keys.items marks.old }
+    ensures size { IfOk result (λ _. HasSize marks.new (length graph.now.parents.items)) }
+    ensures grew { IfOk result (λ _. Grew marks.old marks.new) }
+    ensures sound { IfOk result (λ _. IsSound kernel.now.image kernel.now.kept graph.now.keys.items marks.new) }
+    ensures closed { IfOk result (λ _. IsClosed kernel.now.image kernel.now.kept graph.now.keys.items marks.new) }
+{
+    let _slots = kernel.image().slots();
     loop {
         if !round(alloc, kernel, conduct, graph, passes, marks)? {
             return Ok(());
