@@ -1,5 +1,5 @@
 -- What is found of a kernel and its groups, before it is told.
-use Rattle.std.specs.Prelude.{◌≡◌, ℕ, Bool, ◌&&◌, ◌==◌, if◌then◌else◌, List, [], ◌∷◌, ◌++◌, map, Option, Some, None}
+use Rattle.std.specs.Prelude.{◌≡◌, ◌⊎◌, ℕ, Bool, ◌&&◌, ◌==◌, if◌then◌else◌, List, [], ◌∷◌, ◌++◌, map, Option, Some, None}
 use Rattle.std.specs.List.{AllByRecursion, filter}
 use Rattle.mm_word.specs.Pointer.{Pointer}
 use Rattle.mm_model.specs.{Slot.Slot, Image.{Image, start}, Report.groups_of}
@@ -75,12 +75,10 @@ pub record IsKept (i : Image) (kept : List Segment) (limit : ℕ) (k : Kept) : T
 
 -- 3. Doors.
 
--- the doors of these origins that the callers of a group hold, in their order
-pub data HeldOf (i : Image) (kept : List Segment) (g : ℕ) : List Origin → List Pointer → Type 0 where
-  no_origin : HeldOf i kept g [] []
-  held : {d : Pointer} {origins : List Origin} {doors : List Pointer} → HoldsDoor i kept g d → HeldOf i kept g origins doors
-      → HeldOf i kept g (Door d ∷ origins) (d ∷ doors)
-  others : {d : Pointer} {origins : List Origin} {doors : List Pointer} → (HoldsDoor i kept g d → ⊥)
-      → HeldOf i kept g origins doors → HeldOf i kept g (Door d ∷ origins) doors
-  slots : {n : ℕ} {origins : List Origin} {doors : List Pointer} → HeldOf i kept g origins doors
-      → HeldOf i kept g (OfSlot n ∷ origins) doors
+-- the second list has the doors of the first that the callers of a group hold, in their order
+abbrev pub HeldOf : Image → List Segment → ℕ → List Origin → List Pointer → Type 0
+HeldOf i kept g [] doors = doors ≡ []
+HeldOf i kept g (OfSlot n ∷ origins) doors = HeldOf i kept g origins doors
+HeldOf i kept g (Door d ∷ origins) doors =
+    ((HoldsDoor i kept g d → ⊥) × HeldOf i kept g origins doors)
+    ⊎ (HoldsDoor i kept g d × ((rest : List Pointer) × (doors ≡ d ∷ rest) × HeldOf i kept g origins rest))

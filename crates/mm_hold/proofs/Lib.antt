@@ -10,6 +10,9 @@ mod Meeting
 mod Passes
 mod CellLists
 mod Granting
+mod Groups
+mod Reaching
+mod Judging
 mod HeldKeys
 mod Graphed
 mod Begun

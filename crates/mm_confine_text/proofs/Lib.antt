@@ -1,0 +1,4 @@
+mod Listing
+mod Texts
+mod Ones
+pub mod Confining
