@@ -1,5 +1,5 @@
 -- The groups that have a slot, and their slots.
-use Rattle.std.proofs.Common.{◌≡◌, ℕ, Bool, true, false, ◌&&◌, ◌==◌, cond, if◌then◌else◌, List, [], ◌∷◌, ◌++◌, map, refl, sym, ap, ◌∙◌, subst}
+use Rattle.std.proofs.Common.{◌≡◌, ℕ, Bool, true, false, ◌&&◌, ◌==◌, cond, if◌then◌else◌, List, [], ◌∷◌, ◌++◌, map, refl, sym, ap, ◌∙◌, subst, append-nil}
 use Rattle.std.proofs.lemmas.List.{map-append}
 use Rattle.std.specs.List.{AllByRecursion, filter, flat_map}
 use Rattle.mm_model.specs.{Slot.Slot, Image.Image}
@@ -44,3 +44,7 @@ module _ (i : Image) (kept : List Segment) where
   put_one true g group old new e number is same =
       record { part = group ∷ []; groups = record { numbers_are = ap (λ (n : ℕ). n ∷ []) number; each = (is, tt) }; is = same }
   put_one false g group old new e number is same = cc
+
+  pub put_no : (b : Bool) (g : ℕ) (old new : List Group) → b ≡ false → new ≡ old → PutGroups i kept (if_present b g) old new
+  put_no false g old new e same = record { part = []; groups = none_put; is = same ∙ sym (append-nil old) }
+  put_no true g old new e same = cc

@@ -1,19 +1,24 @@
 -- The text of groups, one group after the other, and the doors that they hold.
-use Rattle.std.proofs.Common.{◌≡◌, ◌⊎◌, ◌↔◌, inl, inr, ℕ, List, [], ◌∷◌, ◌++◌, map, refl, sym, ap, ◌∙◌, subst, append_assoc}
+use Rattle.std.proofs.Common.{◌≡◌, ◌⊎◌, ◌↔◌, inl, inr, ℕ, ◌+◌, ◌<◌, List, [], ◌∷◌, ◌++◌, map, length, take, get_or, Option, Some, None, refl, sym, ap}
+use Rattle.std.proofs.Common.{◌∙◌, subst, append_assoc, append-nil}
+use Rattle.std.proofs.lemmas.List.{take_more, map-append}
 use Rattle.std.specs.{Prelude.Contains, List.{AllByRecursion, AllZip}}
 use Rattle.mm_word.specs.{Pointer.Pointer, declared.word.Word.TheVariants.Ptr}
 use Rattle.mm_model.specs.Image.{Image}
 use Rattle.mm_kernel.specs.Segments.{Segment}
 use Rattle.mm_kernel.specs.declared.thread.Origin.{Origin, TheVariants.{Door, Slot as OfSlot}}
 use Rattle.mm_kernel.specs.{Facts.Fact.HasDoor, Derived.Derived}
-use Rattle.mm_span.proofs.Members.{none_in, in_first, in_rest, in_cases}
+use Rattle.mm_span.proofs.Members.{none_in, in_first, in_rest, in_cases, all_at}
 use Rattle.mm_span.specs.Pairs.{EachPair}
-use Rattle.mm_keep_text.specs.{Told.Party, Keys.{pointer_key, Ascend}, Answers.{IsParty, AreDoors, kernel_slots}}
+use Rattle.mm_kernel.specs.declared.fact.Leak.{Leak}
+use Rattle.mm_keep_text.specs.declared.told.Answer.{Answer, TheVariants.{Privileged, More, Found}}
+use Rattle.mm_keep_text.specs.{Told.{Party, Told}, Keys.{pointer_key, Ascend}, Answers.{IsParty, IsTold, AreDoors, kernel_slots}}
 use Rattle.mm_confine.proofs.Open.{granted_is_open}
-use Rattle.mm_confine.specs.declared.party.Party.TheVariants.{Group}
+use Rattle.mm_confine.specs.declared.party.Party.TheVariants.{Group as GroupParty}
 use Rattle.mm_hold.specs.Holdings.{AreHoldings, HoldsDoor, HoldingsValue}
-use Rattle.mm_confine_text.specs.{Found.HeldOf, Parts.{AreParties, origins_of}}
-use Rattle.mm_confine_text.specs.Told.{AreHeldDoors, GroupTexts, GroupTexts.{no_group, group}}
+use Rattle.mm_confine_text.specs.declared.kept.{Group.Group, Reach.Reach}
+use Rattle.mm_confine_text.specs.{Found.{HeldOf, IsGroup, IsReach, IsReachIf, numbers_of}, Parts.{AreParties, origins_of}}
+use Rattle.mm_confine_text.specs.Told.{AreHeldDoors, AreGroups, GroupsIf, GroupText, GroupTexts, GroupTexts.{no_group, group}}
 
 module _ (i : Image) (kept : List Segment) where
   -- 1. Texts.
@@ -103,7 +108,49 @@ module _ (i : Image) (kept : List Segment) where
           each = λ d. (
             λ there. (to_all p.doors slots ds d k there).1,
             λ door.
-                let open_door = (granted_is_open i kept (Group g) d are.image are.keeps door.granted).door door.is in
+                let open_door = (granted_is_open i kept (GroupParty g) d are.image are.keeps door.granted).door door.is in
                 from_all p.doors slots ds d k ((p.doors_are.each d).1 open_door) door,
           );
         }
+
+  -- 3. All.
+
+  pub parties_told : (told : Told) → IsTold i kept told → AreParties i kept told.parties
+  parties_told told h = record { doors = h.doors; doors_are = h.doors_are; all = h.parties }
+
+  -- a group more
+  pub one_more : (groups : List Group) (n : ℕ) (one : Group) (whole own : List ℕ) → n < length groups → one ≡ get_or groups n one
+      → GroupTexts i kept (numbers_of (take n groups)) whole → GroupText i kept one.number own → GroupTexts i kept (numbers_of (take (n + 1) groups)) (whole ++ own)
+  one_more groups n one whole own lt at was is =
+      subst (λ gs. GroupTexts i kept gs (whole ++ own))
+      (sym (ap numbers_of (take_more groups n one lt ∙ ap (λ y. take n groups ++ y ∷ []) (sym at)) ∙ map-append (λ (g : Group). g.number) (take n groups) (one ∷ [])))
+      (texts_then (numbers_of (take n groups)) (one.number ∷ []) whole own was
+      (subst (GroupTexts i kept (one.number ∷ [])) (append-nil own) (group is no_group)))
+
+  pub own_slots : (groups : List Group) (n : ℕ) (one : Group) → n < length groups → one ≡ get_or groups n one → AllByRecursion (IsGroup i kept) groups → IsGroup i kept one
+  own_slots groups n one lt at all = all_at (IsGroup i kept) groups one all (n, lt, sym at)
+
+  -- an origin more
+  pub origins_more : (parties : List Party) (n : ℕ) (one : Party) → n < length parties → one ≡ get_or parties n one → origins_of (take (n + 1) parties) ≡ origins_of (take n parties) ++ one.origin ∷ []
+  origins_more parties n one lt at =
+      ap origins_of (take_more parties n one lt ∙ ap (λ y. take n parties ++ y ∷ []) (sym at)) ∙ map-append (λ (p : Party). p.origin) (take n parties) (one ∷ [])
+
+  pub none_reached : (answer : Answer) → IsReach i kept answer None → AreGroups i kept answer []
+  none_reached Privileged h = refl
+  none_reached More h = refl
+  none_reached (Found told) h = by told.leaks h
+    where
+      by : (leaks : List Leak) → IsReachIf i kept leaks None → GroupsIf i kept leaks []
+      by [] k = absurd k
+      by (l ∷ leaks) k = refl
+
+  pub all_reached : (told : Told) (r : Reach) (whole : List ℕ) → IsTold i kept told → IsReachIf i kept told.leaks (Some r)
+      → (AreParties i kept told.parties → AreHoldings i kept r.holdings → AllByRecursion (IsGroup i kept) r.groups.items → GroupTexts i kept (numbers_of r.groups.items) whole)
+      → GroupsIf i kept told.leaks whole
+  all_reached told r whole is = by told.leaks
+    where
+      by : (leaks : List Leak) → IsReachIf i kept leaks (Some r)
+          → (AreParties i kept told.parties → AreHoldings i kept r.holdings → AllByRecursion (IsGroup i kept) r.groups.items → GroupTexts i kept (numbers_of r.groups.items) whole)
+          → GroupsIf i kept leaks whole
+      by [] k texts = subst (λ gs. GroupTexts i kept gs whole) k.groups.numbers_are (texts (parties_told told is) k.holdings k.groups.each)
+      by (l ∷ leaks) k texts = absurd k
