@@ -13,6 +13,8 @@ mod Granting
 mod Groups
 mod Reaching
 mod Judging
+mod Held
+mod Maximal
 mod HeldKeys
 mod Graphed
 mod Begun
