@@ -1,13 +1,12 @@
-use Rattle.std.proofs.Common.{sym, ap, ◌∙◌, subst}
+use Rattle.std.proofs.Common.{sym, ◌∙◌, subst}
 use Rattle.mm_model.specs.Groups.{among}
 use Rattle.mm_audit.specs.{Surveys.{SurveyValue, Surveys, IsLeastTable}, Answering.IsAnswerOf}
 use Rattle.mm_audit.proofs.surveys.Survey.apart.Goals as goal
 
 pub returns-clause-answer : goal.returns-clause-answer
 returns-clause-answer c =
-    let here = subst (λ v. IsAnswerOf v _ (among c.args.groups.now) _) c.deref.ensures.value
-        (subst (λ v. IsAnswerOf _ v (among c.args.groups.now) _) c.deref-2.ensures.value c.judge.ensures.answer) in
-    subst (λ (s : SurveyValue). IsAnswerOf s.served s.least (among c.args.groups.now) c.judge.result) c.self.view_is here
+    subst (λ (s : SurveyValue). IsAnswerOf s.served s.least (among c.args.groups.now) c.judge.result) c.self.view_is
+    (rw (c.deref.ensures.value, c.deref-2.ensures.value) at c.judge.ensures.answer)
 
 pub returns-clause-judged : goal.returns-clause-judged
 returns-clause-judged c i e a =
