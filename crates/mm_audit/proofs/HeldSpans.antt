@@ -26,7 +26,7 @@ pub record MarkedAbove (keys : List CanonicalPtr) (marks : List ℕ) (g : ℕ) (
 
 -- the marks say who has the pointers of nodes, and whatever a group has is powerless or below one of these
 pub record AreMarksOf (has : ℕ → Pointer → Type 0) (keys : List CanonicalPtr) (nodes : List Node) (marks : List ℕ) : Type 0 where
-  pub keys : All IsKey keys
+  pub all : All IsKey keys
   pub loads : (k : ℕ) → k < length keys → right_at nodes Load k ≡ loads_words (node_pointer keys k)
   pub stores : (k : ℕ) → k < length keys → right_at nodes Store k ≡ stores_words (node_pointer keys k)
   pub sound : (g k : ℕ) → k < length keys → bit_at (slice_index marks k) g ≡ 1 → has g (node_pointer keys k)
@@ -35,7 +35,7 @@ pub record AreMarksOf (has : ℕ → Pointer → Type 0) (keys : List CanonicalP
 module _ (has : ℕ → Pointer → Type 0) (keys : List CanonicalPtr) (nodes : List Node) (marks : List ℕ) (m : AreMarksOf has keys nodes marks)
     (spans : List Span) (s : SpansOf keys nodes marks 0 (length keys) spans) where
   segment_is : (k : ℕ) → k < length keys → key_segment (key_at keys k) ≡ segment_of (node_pointer keys k)
-  segment_is k lt = let h = m.keys k no_key lt in λ j. (h.base j, log_is (key_at keys k) h j)
+  segment_is k lt = let h = m.all k no_key lt in λ j. (h.base j, log_is (key_at keys k) h j)
 
   module _ (how : WordUse) (right : Right) (no_key_right : can how KeyPerm ≡ true → ⊥)
       (below-can : (p q : Pointer) → IsBelow q p → can how q.perm ≡ true → can how p.perm ≡ true)

@@ -111,7 +111,7 @@ module _ (i : Image) (kept : List Segment) (image : IsImage i) (keeps : Keeps i 
     covers g q (by_slot s among e h) = by_one g q s among e (covered (KernelSlot s.number) q h)
 
     pub are_marks : AreMarksOf (Reaches i kept) keys nodes reached
-    are_marks = record { keys = x.all; loads = x.loads; stores = x.stores; sound = sound; covers = covers }
+    are_marks = record { all = x.all; loads = x.loads; stores = x.stores; sound = sound; covers = covers }
 
   -- 3. Doors.
 
