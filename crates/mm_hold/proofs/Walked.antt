@@ -146,9 +146,9 @@ module _ (kept : List Segment) (keys : List CanonicalPtr) where
   pub behind_pushed : IsRising keys → All IsKey keys → (old : List (ℕ × ℕ)) (door bits at node : ℕ) → DoorAt kept keys door at → BitsAt kept keys bits node
       → AreAll (λ b. Contains old b ⊎ StandsBehind kept keys door bits b) (old ++ (at, node) ∷ [])
   behind_pushed rising all old door bits at node d n =
-      pushed (StandsBehind kept keys door bits) old (at, node) (record { door = d; at = n })
+      pushed (StandsBehind kept keys door bits) old (at, node) (record { node = d; at = n })
       (λ b one.
-          let first = one_node kept keys all rising door at b.0 d one.door in
+          let first = one_node kept keys all rising door at b.0 d one.node in
           let second = one_bits kept keys bits rising node b.1 n one.at in
           λ i. (first i, second i))
 

@@ -90,7 +90,7 @@ pub record HandedAt (kept : List Segment) (keys : List CanonicalPtr) (handed : L
 
 -- the first node is that of the door of some bits, and the second stands for the pointer of others
 pub record StandsBehind (kept : List Segment) (keys : List CanonicalPtr) (door bits : ℕ) (b : ℕ × ℕ) : Type 0 where
-  pub door : DoorAt kept keys door b.0
+  pub node : DoorAt kept keys door b.0
   pub at : BitsAt kept keys bits b.1
 
 -- threads through the door of the first node have or let out a pointer, for which the second node stands
