@@ -5,7 +5,7 @@ use Rattle.std.proofs.lemmas.Bool.{and_from, le-leb}
 use Rattle.std.specs.Prelude.{Contains}
 use Rattle.mm_word.specs.declared.word.{Word.{Word, TheVariants.{Int, Ptr}}, Cell.Cell}
 use Rattle.mm_word.specs.Pointer.{Pointer, IsBelow, IsWellFormed, SpellsPointer, pointer_of, spells_pointer}
-use Rattle.mm_model.proofs.Bytes.{CleanWords, SpelledRecords.known_codes}
+use Rattle.mm_model.proofs.Bytes.{CleanWords.{spells, well_formed as spelled_fits}, SpelledRecords.known_codes}
 use Rattle.mm_graph.specs.declared.{canonical_ptr.CanonicalPtr.CanonicalPtr, found.Found.Found, seed.Seed.Seed}
 use Rattle.mm_graph.specs.{Key.{key_of, pointer_at, standing_key}, Found.{found_at, seed_at}, Summary.IsPowerless}
 use Rattle.mm_graph.proofs.Representatives.{pointer_at-key_of, stands_from, stands_above, stands_below, standing_none}
@@ -89,7 +89,7 @@ pub spells_test : (bits : ℕ) → SpellsPointer bits → spells_pointer bits �
 spells_test bits s = and_from _ _ (known_codes (bits / 2 ^ 60) s.some_code s.known_code) (le-leb _ _ s.log_in_range)
 
 pub spelled_well_formed : (bits : ℕ) → SpellsPointer bits → IsWellFormed (pointer_of bits)
-spelled_well_formed bits s = CleanWords.well_formed bits (spells_test bits s)
+spelled_well_formed bits s = spelled_fits bits (spells_test bits s)
 
 module _ (kept : List Segment) (bits : ℕ) where
   pub key_there : SpellsPointer bits → bits_key kept bits ≡ held_key kept (pointer_of bits)
@@ -99,12 +99,12 @@ module _ (kept : List Segment) (bits : ℕ) where
   key_from k = by (spells_pointer bits) refl
     where
       by : (b : Bool) → spells_pointer bits ≡ b → (if b then held_key kept (pointer_of bits) else None) ≡ Some k → SpellsPointer bits × (held_key kept (pointer_of bits) ≡ Some k)
-      by true t e = (CleanWords.spells bits t, e)
+      by true t e = (spells bits t, e)
       by false t e = cc
 
   pub key_none : (SpellsPointer bits → ⊥) → bits_key kept bits ≡ None
-  key_none no = by (spells_pointer bits) refl
+  key_none none = by (spells_pointer bits) refl
     where
       by : (b : Bool) → spells_pointer bits ≡ b → (if b then held_key kept (pointer_of bits) else None) ≡ None
-      by true t = absurd (no (CleanWords.spells bits t))
+      by true t = absurd (none (spells bits t))
       by false t = refl

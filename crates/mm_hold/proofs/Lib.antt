@@ -13,6 +13,7 @@ mod Granting
 mod HeldKeys
 mod Graphed
 mod Begun
+mod Walked
 mod Keyed
 mod Handed
 mod Rounding

@@ -50,7 +50,7 @@ module _ (kept : List Segment) (keys : List CanonicalPtr) (all : All IsKey keys)
   pub door_spelled : (bits : ℕ) → (SpellsPointer bits → ⊥) → IsDoorNode kept keys bits None
   door_spelled bits none = λ k at. none (subst SpellsPointer at.same (all k no_key at.small).spells)
 
-  one_node : IsRising keys → (bits j k : ℕ) → DoorAt kept keys bits j → DoorAt kept keys bits k → j ≡ k
+  pub one_node : IsRising keys → (bits j k : ℕ) → DoorAt kept keys bits j → DoorAt kept keys bits k → j ≡ k
   one_node rising bits j k a b =
       let kj = all j no_key a.small in
       let kk = all k no_key b.small in

@@ -7,7 +7,7 @@ use Rattle.mm_flow.specs.declared.node.Right.TheVariants.{Load, Store}
 use Rattle.mm_flow.specs.{Edges.right_at, Flow.Fits}
 use Rattle.mm_graph.specs.declared.{canonical_ptr.CanonicalPtr.CanonicalPtr, found.Found.Found, seed.Seed.Seed}
 use Rattle.mm_graph.specs.Key.{IsKey, IsRising, key_at, pointer_at, loads_words, stores_words}
-use Rattle.mm_graph.specs.{Found.seed_at, Nodes.{IsKeysOf, IsNodes, IsTargets}, Forest.HasForest, Marked.node_pointer}
+use Rattle.mm_graph.specs.{Found.seed_at, Nodes.{IsAscending, IsKeysOf, IsNodes, IsTargets}, Forest.HasForest, Marked.node_pointer}
 use Rattle.mm_kernel.specs.{Segments.{Segment, is_door, is_enter}, Threads.is_kernel}
 use Rattle.mm_hold.specs.declared.edges.Graph.{Graph}
 use Rattle.mm_hold.specs.{Finding.{cell_found, held_key, pages_with}, Passing.DoorAt, Standing.edges_in}
@@ -53,6 +53,7 @@ entry_mask kept key = if is_enter (pointer_at key).perm && not (is_door kept (po
 pub record ArePlaces (i : Image) (kept : List Segment) (seeds : List Seed) (found : List Found)
     (keys : List CanonicalPtr) (targets : List ℕ) : Type 0 where
   pub is_found : found ≡ found_of i kept
+  pub ascends : IsAscending (found_of i kept)
   pub is_keys : IsKeysOf (found_of i kept) seeds keys
   pub is_targets : IsTargets keys (found_of i kept) targets
 
@@ -89,7 +90,7 @@ pub record HandedAt (kept : List Segment) (keys : List CanonicalPtr) (handed : L
 
 -- the first node is that of the door of some bits, and the second stands for the pointer of others
 pub record StandsBehind (kept : List Segment) (keys : List CanonicalPtr) (door bits : ℕ) (b : ℕ × ℕ) : Type 0 where
-  pub door : DoorAt kept keys door b.0
+  pub node : DoorAt kept keys door b.0
   pub at : BitsAt kept keys bits b.1
 
 -- threads through the door of the first node have or let out a pointer, for which the second node stands
