@@ -16,7 +16,6 @@ use crate::edges::Graph;
 use crate::found::{callers, found_in, key_in};
 use crate::giving::{NodePair, SlotNode};
 use crate::passing::door_node;
-use mm_flow::Node;
 use mm_graph::{CanonicalPtr, Found, Seed, find, keys_and_targets, marks_of, nodes_of, parents_of};
 use mm_keep::{Kernel, is_door};
 use mm_word::{GuardedPtr, NoMemory, Perm, Word};
