@@ -88,11 +88,12 @@ slot_origin o e = ap (λ v. if v == 0 then Door (pointer_of o.1) else OfSlot o.1
 
 any_has : {A : Type 0} (p : A → Bool) (xs : List A) → list_any p xs ≡ true → (x : A) × Contains xs x × (p x ≡ true)
 any_has p [] h = cc
-any_has {A = A} p (x ∷ xs) h = by (p x) refl h
+any_has {A = A} p (x ∷ xs) h = by (any_has p xs) (p x) refl h
   where
-    by : (b : Bool) → p x ≡ b → (b || list_any p xs) ≡ true → (y : A) × Contains (x ∷ xs) y × (p y ≡ true)
-    by true e f = (x, in_first x xs, e)
-    by false e f = let r = any_has p xs f in (r.0, in_rest x xs r.0 r.1, r.2)
+    by : (list_any p xs ≡ true → (y : A) × Contains xs y × (p y ≡ true)) → (b : Bool) → p x ≡ b → (b || list_any p xs) ≡ true
+        → (y : A) × Contains (x ∷ xs) y × (p y ≡ true)
+    by later true e f = (x, in_first x xs, e)
+    by later false e f = let r = later f in (r.0, in_rest x xs r.0 r.1, r.2)
 
 below_test : (n : ℕ) → n < 64 → nat_lt n 64 ≡ true
 below_test n lt = grind (arith, nat_tests)

@@ -103,8 +103,8 @@ module _ (kept : List Segment) (bits : ℕ) where
       by false t e = cc
 
   pub key_none : (SpellsPointer bits → ⊥) → bits_key kept bits ≡ None
-  key_none no = by (spells_pointer bits) refl
+  key_none none = by (spells_pointer bits) refl
     where
       by : (b : Bool) → spells_pointer bits ≡ b → (if b then held_key kept (pointer_of bits) else None) ≡ None
-      by true t = absurd (no (spells bits t))
+      by true t = absurd (none (spells bits t))
       by false t = refl

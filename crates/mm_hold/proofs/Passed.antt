@@ -96,7 +96,7 @@ module _ (i : Image) (kept : List Segment) (keys : List CanonicalPtr) where
       → AllByRecursion (λ (b : ℕ × ℕ). (b.0 < size) × (b.1 < size)) pairs
   behind_inside had pairs size len all =
       all_of (λ (b : ℕ × ℕ). (b.0 < size) × (b.1 < size)) pairs
-      (λ b inside. let r = (all.each b).0 inside in (subst (λ v. b.0 < v) len r.stands.door.small, subst (λ v. b.1 < v) len r.stands.at.small))
+      (λ b inside. let r = (all.each b).0 inside in (subst (λ v. b.0 < v) len r.stands.node.small, subst (λ v. b.1 < v) len r.stands.at.small))
 
 -- 3. What passes.
 
@@ -112,10 +112,10 @@ module _ (i : Image) (kept : List Segment) (img : IsImage i) (ks : Keeps i kept)
         let m = has_means i kept c all ((0, b.door), b.bits) b.inside in
         let read = all.read (deed.Has m.origin m.pointer) m.means in
         let numbers : origin_numbers m.origin ≡ (0, b.door) = ap (λ (v : (ℕ × ℕ) × ℕ). v.0) m.is in
-        let from : m.origin ≡ Door (node_pointer K d) = sym read.0 ∙ ap origin_from numbers ∙ ap (λ v. Door (pointer_of v)) (sym b.stands.door.same) in
+        let from : m.origin ≡ Door (node_pointer K d) = sym read.0 ∙ ap origin_from numbers ∙ ap (λ v. Door (pointer_of v)) (sym b.stands.node.same) in
         record {
-          small = b.stands.door.small;
-          door = b.stands.door.is;
+          small = b.stands.node.small;
+          door = b.stands.node.is;
           some = record {
             pointer = m.pointer;
             is = subst (λ o. HasOrLets i kept o m.pointer) from m.means;
@@ -134,7 +134,7 @@ module _ (i : Image) (kept : List Segment) (img : IsImage i) (ks : Keeps i kept)
           door = bits_of (node_pointer K d);
           bits = bits_of q;
           inside = has_noted i kept c all from q h;
-          stands = record { door = at_door; at = b };
+          stands = record { node = at_door; at = b };
         }));
   }
 
