@@ -8,8 +8,8 @@ use Rattle.mm_graph.specs.{declared.canonical_ptr.CanonicalPtr.CanonicalPtr, Key
 use Rattle.mm_kernel.specs.Segments.{Segment}
 use Rattle.mm_confine.specs.declared.party.Party.{TheVariants.Group}
 use Rattle.mm_span.proofs.Members.{none_in}
-use Rattle.mm_hold.specs.declared.marks.Marks.{Marks}
-use Rattle.mm_hold.specs.{Marks.Held, Holdings.{HasGroup, GroupOf, AreReached, AreDoorMarks, door_mask}}
+use Rattle.mm_hold.specs.declared.{marks.Marks.Marks, parties.Parties.Parties}
+use Rattle.mm_hold.specs.{Marks.{Held, parties_at}, Holdings.{HasGroup, GroupOf, AreReached, AreDoorMarks, door_mask}}
 use Rattle.mm_hold.proofs.Sets.{got_old, got_new, got_cases}
 
 -- 1. The groups of slots.
@@ -25,7 +25,7 @@ group_more groups m mask s e has g = (
 )
 
 pub group_skip : (groups mask : ℕ) (s : Slot) → ((s.number < 64) × (bit_at mask s.number ≡ 1) → ⊥) → (g : ℕ) → (bit_at groups g ≡ 1) ↔ ((bit_at groups g ≡ 1) ⊎ HasGroup s mask g)
-group_skip groups mask s no g = (λ h. inl h, λ h. elim h [ inl l ↦ l | inr k ↦ absurd (no (k.number, k.marked)) ])
+group_skip groups mask s out g = (λ h. inl h, λ h. elim h [ inl l ↦ l | inr k ↦ absurd (out (k.number, k.marked)) ])
 
 pub groups_none : (mask g : ℕ) → (bit_at 0 g ≡ 1) ↔ GroupOf [] mask g
 groups_none mask g = (λ h. absurd (zero_bit g h), λ k. absurd (none_in k.slot k.inside))
@@ -34,11 +34,11 @@ pub groups_more : (xs ys : List Slot) (x : Slot) (mask old new : ℕ) → ys ≡
     → ((g : ℕ) → (bit_at new g ≡ 1) ↔ ((bit_at old g ≡ 1) ⊎ HasGroup x mask g)) → (g : ℕ) → (bit_at new g ≡ 1) ↔ GroupOf ys mask g
 groups_more xs ys x mask old new is h k g = (
   λ bit. elim ((k g).0 bit) [
-    | inl before ↦ let o = (h g).0 before in record { slot = o.slot; inside = got_old xs ys x is o.slot o.inside; has = o.has }
+    | inl old_bit ↦ let o = (h g).0 old_bit in record { slot = o.slot; inside = got_old xs ys x is o.slot o.inside; has = o.has }
     | inr here ↦ record { slot = x; inside = got_new xs ys x is; has = here }
   ],
   λ o. elim (got_cases xs ys x is o.slot o.inside) [
-    | inl before ↦ (k g).1 (inl ((h g).1 (record { slot = o.slot; inside = before; has = o.has })))
+    | inl there ↦ (k g).1 (inl ((h g).1 (record { slot = o.slot; inside = there; has = o.has })))
     | inr same ↦ (k g).1 (inr (subst (λ s. HasGroup s mask g) (sym same) o.has))
   ],
 )
@@ -51,31 +51,40 @@ one_more xs v n len = let e = length-append xs (v ∷ []) in omega arith
 pub reached_none : (slots : List Slot) (m : Marks) → AreReached slots m 0 []
 reached_none slots m = record { len = λ j. 0; each = λ k g lt. absurd (omega arith) }
 
-pub reached_more : (slots : List Slot) (m : Marks) (n : ℕ) (old : List ℕ) (groups : ℕ) → AreReached slots m n old
-    → ((g : ℕ) → (bit_at groups g ≡ 1) ↔ GroupOf slots (slice_index m.slots.items n) g)
-    → AreReached slots m (n + 1) (old ++ bit_or (slice_index m.groups.items n) groups ∷ [])
-reached_more slots m n old groups h are = record { len = one_more old v n h.len; each = each }
+pub reached_more : (slots : List Slot) (m : Marks) (n : ℕ) (old : List ℕ) (own : Parties) (groups : ℕ) → AreReached slots m n old → own ≡ parties_at m n
+    → ((g : ℕ) → (bit_at groups g ≡ 1) ↔ GroupOf slots own.slots g) → AreReached slots m (n + 1) (old ++ bit_or own.groups groups ∷ [])
+reached_more slots m n old own groups h is are = record { len = one_more old v n h.len; each = each }
   where
     v : ℕ
-    v = bit_or (slice_index m.groups.items n) groups
+    v = bit_or own.groups groups
 
     P : ℕ → ℕ → Type 0
     P k g = Held m (Group g) k ⊎ GroupOf slots (slice_index m.slots.items k) g
 
-    here : (g : ℕ) → (bit_at v g ≡ 1) ↔ (Held m (Group g) n ⊎ GroupOf slots (slice_index m.slots.items n) g)
-    here g = (
-      λ bit. elim (or_cases (slice_index m.groups.items n) groups g bit) [ inl l ↦ inl l | inr r ↦ inr ((are g).0 r) ],
-      λ o. elim o [ inl l ↦ or_left (slice_index m.groups.items n) groups g l | inr r ↦ or_right (slice_index m.groups.items n) groups g ((are g).1 r) ],
+    own_groups : own.groups ≡ slice_index m.groups.items n
+    own_groups = ap (λ (p : Parties). p.groups) is
+
+    own_slots : own.slots ≡ slice_index m.slots.items n
+    own_slots = ap (λ (p : Parties). p.slots) is
+
+    at_new : (g : ℕ) → (bit_at (bit_or own.groups groups) g ≡ 1) ↔ P n g
+    at_new g = (
+      λ bit. elim (or_cases own.groups groups g bit) [
+        | inl l ↦ inl (subst (λ w. bit_at w g ≡ 1) own_groups l)
+        | inr r ↦ inr (subst (λ w. GroupOf slots w g) own_slots ((are g).0 r))
+      ],
+      λ o. elim o [
+        | inl l ↦ or_left own.groups groups g (subst (λ w. bit_at w g ≡ 1) (sym own_groups) l)
+        | inr r ↦ or_right own.groups groups g ((are g).1 (subst (λ w. GroupOf slots w g) (sym own_slots) r))
+      ],
     )
 
-    each : (k g : ℕ) → k < n + 1 → Has (old ++ v ∷ []) k g ↔ (Held m (Group g) k ⊎ GroupOf slots (slice_index m.slots.items k) g)
-    each k g lt = elim (push_cases old v k (let len = h.len in omega arith)) [
-      | last e is ↦
-          let same : k ≡ n = e ∙ h.len in
-          subst (λ w. (bit_at w g ≡ 1) ↔ (Held m (Group g) k ⊎ GroupOf slots (slice_index m.slots.items k) g)) (sym is)
-          (subst (λ x. (bit_at v g ≡ 1) ↔ (Held m (Group g) x ⊎ GroupOf slots (slice_index m.slots.items x) g)) (sym same) (here g))
-      | before small is ↦ subst (λ w. (bit_at w g ≡ 1) ↔ (Held m (Group g) k ⊎ GroupOf slots (slice_index m.slots.items k) g)) (sym is)
-          (h.each k g (let len = h.len in omega arith))
+    each : (k g : ℕ) → k < n + 1 → Has (old ++ bit_or own.groups groups ∷ []) k g ↔ P k g
+    each k g lt = elim (push_cases old (bit_or own.groups groups) k (let len = h.len in omega arith)) [
+      | last e same ↦
+          let place : k ≡ n = e ∙ h.len in
+          subst (λ w. (bit_at w g ≡ 1) ↔ P k g) (sym same) (subst (λ x. (bit_at (bit_or own.groups groups) g ≡ 1) ↔ P x g) (sym place) (at_new g))
+      | before small same ↦ subst (λ w. (bit_at w g ≡ 1) ↔ P k g) (sym same) (h.each k g (let len = h.len in omega arith))
     ]
 
 -- 3. The groups of doors.

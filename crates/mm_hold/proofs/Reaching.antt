@@ -150,9 +150,9 @@ module _ (i : Image) (kept : List Segment) (image : IsImage i) (keeps : Keeps i 
   ]
     where
       by : (b : Bool) → right_at nodes Load k ≡ b → right_at nodes Load k ≡ loads_words (node_pointer keys k) → (kept_mask (right_at nodes Load k) (slice_index marks k) ≡ 0 → ⊥) → 3 ≤ (node_pointer keys k).log
-      by true e is no = three (node_pointer keys k).log (and_parts _ _ (sym is ∙ e)).1
-      by false e is no = absurd (no (ap (λ b. kept_mask b (slice_index marks k)) e))
+      by true e is none = three (node_pointer keys k).log (and_parts _ _ (sym is ∙ e)).1
+      by false e is none = absurd (none (ap (λ b. kept_mask b (slice_index marks k)) e))
 
       by2 : (b : Bool) → right_at nodes Store k ≡ b → right_at nodes Store k ≡ stores_words (node_pointer keys k) → (kept_mask (right_at nodes Store k) (slice_index marks k) ≡ 0 → ⊥) → 3 ≤ (node_pointer keys k).log
-      by2 true e is no = three (node_pointer keys k).log (and_parts _ _ (sym is ∙ e)).1
-      by2 false e is no = absurd (no (ap (λ b. kept_mask b (slice_index marks k)) e))
+      by2 true e is none = three (node_pointer keys k).log (and_parts _ _ (sym is ∙ e)).1
+      by2 false e is none = absurd (none (ap (λ b. kept_mask b (slice_index marks k)) e))

@@ -45,8 +45,9 @@ pub fn reached(alloc: Global, slots: &[Slot], marks: &Marks) -> Result<Vec<u64>,
 {
     let mut reached = Vec::new(alloc);
     for node in 0..marks.len() {
-        let groups = groups_of(slots, marks.slots[node]);
-        reached.push(marks.groups[node] | groups)?;
+        let here = marks.at(node);
+        let groups = groups_of(slots, here.slots);
+        reached.push(here.groups | groups)?;
     }
     Ok(reached)
 }

@@ -4,7 +4,7 @@ use Rattle.mm_hold.proofs.Groups.{doors_none, doors_more}
 use Rattle.mm_hold.proofs.reached.door_marks.Goals as goal
 
 pub loop-node-init : goal.loop-node-init
-loop-node-init c = doors_none c.args.kept.now c.args.keys.now c.args.marks.now
+loop-node-init c = subst (AreDoorMarks _ _ _ 0) (sym c.new-doors.ensures.items) (doors_none _ _ _)
 
 pub loop-node-preserved : goal.loop-node-preserved
 loop-node-preserved c =
