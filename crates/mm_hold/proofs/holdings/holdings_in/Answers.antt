@@ -31,3 +31,33 @@ survey_of-requires-clause-nodes c = ap length c.deref-4.ensures.value ∙ c.requ
 pub survey_of-requires-clause-marks : goal.survey_of-requires-clause-marks
 survey_of-requires-clause-marks c =
     ap length c.deref-5.ensures.value ∙ c.in_ok-reached.ensures.len ∙ c.requires.exact.size.groups ∙ ap length (sym c.deref-3.ensures.value)
+
+pub returns : goal.returns
+returns c =
+    let i = c.args.kernel.now.image in
+    let kept = c.args.kernel.now.kept in
+    let keys = c.args.graph.keys.items in
+    let nodes = c.args.graph.nodes.items in
+    let m = c.args.marks in
+    let x = c.requires.exact in
+    let keeps = c.requires.keeps in
+    let image : IsImage i = subst IsImage c.image.ensures c.slots-slots.ensures.image in
+    let slots = c.slots-slots.ensures.slots ∙ ap (λ (v : Image). v.slots) c.image.ensures in
+    let reached = c.in_ok-reached.reached.items in
+    let r : AreReached i.slots m (length keys) reached =
+        subst (λ n. AreReached i.slots m n reached) x.size.groups (subst (λ ss. AreReached ss m (length m.groups.items) reached) slots c.in_ok-reached.ensures) in
+    let doors = c.in_ok-doors.doors.items in
+    let d : AreDoorMarks kept keys m.groups.items (length keys) doors =
+        subst (λ p. AreDoorMarks p keys m.groups.items (length keys) doors) c.kept.ensures
+        (rw (c.deref.ensures.value, c.deref-2.ensures.value) at c.in_ok-doors.ensures) in
+    let survey = c.in_ok-survey.survey in
+    let are = spans_of_marks (Reaches i kept) keys nodes reached (are_marks i kept image keeps keys nodes m x reached r) survey.spans
+        (rw (c.deref-3.ensures.value, c.deref-4.ensures.value, c.deref-5.ensures.value) at c.in_ok-survey.ensures.spans) in
+    record {
+      image = image;
+      keeps = keeps;
+      doors = are_doors i kept image keeps keys nodes m x doors d;
+      spans = are;
+      served = c.in_ok-survey.ensures.served ∙ c.in_ok-served.ensures;
+      least = least_table (Reaches i kept) (reaches_small i kept image) survey.spans are survey.least c.in_ok-survey.ensures.least;
+    }
