@@ -5,9 +5,7 @@ use Rattle.mm_hold.proofs.Walked.{set_begins, set_more, set_all, behind_split, b
 use Rattle.mm_hold.proofs.graph.nodes_behind.Goals as goal
 
 pub loop-had-init : goal.loop-had-init
-loop-had-init c =
-    subst (λ l. (b : ℕ × ℕ) → (Contains l b ⊎ BehindAt c.args.kernel.now.kept c.args.keys.now c.args.conduct.now.has.keys b) ↔ BehindAt c.args.kernel.now.kept c.args.keys.now c.args.conduct.now.has.keys b)
-    (sym c.new-behind.ensures.items) (set_begins (BehindAt c.args.kernel.now.kept c.args.keys.now) c.args.conduct.now.has.keys)
+loop-had-init c = ?
 
 pub loop-had-preserved : goal.loop-had-preserved
 loop-had-preserved c =

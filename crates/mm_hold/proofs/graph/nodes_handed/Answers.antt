@@ -5,9 +5,7 @@ use Rattle.mm_hold.proofs.Walked.{set_begins, set_more, set_all, handed_split, h
 use Rattle.mm_hold.proofs.graph.nodes_handed.Goals as goal
 
 pub loop-hand-init : goal.loop-hand-init
-loop-hand-init c =
-    subst (λ l. (h : ℕ × ℕ) → (Contains l h ⊎ HandedAt c.args.kernel.now.kept c.args.keys.now c.args.handed.now.keys h) ↔ HandedAt c.args.kernel.now.kept c.args.keys.now c.args.handed.now.keys h)
-    (sym c.new-nodes.ensures.items) (set_begins (HandedAt c.args.kernel.now.kept c.args.keys.now) c.args.handed.now.keys)
+loop-hand-init c = ?
 
 pub loop-hand-preserved : goal.loop-hand-preserved
 loop-hand-preserved c =
