@@ -1,26 +1,21 @@
 -- What is told of the groups, and its text.
-use Rattle.std.specs.Prelude.{◌≡◌, ◌↔◌, ℕ, Bool, true, false, ◌&&◌, ◌==◌, List, [], ◌∷◌, ◌++◌, map, codes, decimal, Contains}
-use Rattle.std.specs.List.{filter, flat_map}
+use Rattle.std.specs.Prelude.{◌≡◌, ◌↔◌, ℕ, List, [], ◌∷◌, ◌++◌, codes, decimal, Contains}
+use Rattle.std.specs.List.{flat_map}
 use Rattle.mm_word.specs.{Perm.{can_load, can_store}, Pointer.Pointer, declared.word.Word.TheVariants.Ptr}
-use Rattle.mm_model.specs.{declared.word_use.WordUse.TheVariants.{Touch, Write}, Lines.{newline, word_text}, Slot.Slot}
+use Rattle.mm_model.specs.{declared.word_use.WordUse.TheVariants.{Touch, Write}, Lines.{newline, word_text}}
 use Rattle.mm_model.specs.{Image.{Image, start}, Report.groups_of, Audit.{Verdict, segment_line, apart_line}}
-use Rattle.mm_kernel.specs.{Segments.{Segment, is_door}, Threads.is_kernel_slot, declared.fact.Leak.Leak}
+use Rattle.mm_kernel.specs.{Segments.Segment, declared.fact.Leak.Leak}
 use Rattle.mm_keep_text.specs.declared.told.Answer.{Answer, TheVariants.{Privileged, More, Found}}
 use Rattle.mm_keep_text.specs.{Keys.{pointer_key, Ascend}, Answers.{IsAnswer, answer_text}}
-use Rattle.mm_confine.specs.{declared.party.Party.TheVariants.Group, Grants.{Granted, Line.Holds}}
-use Rattle.mm_confine.specs.Reach.{MaximalSegments, Judged}
+use Rattle.mm_hold.specs.{Holdings.HoldsDoor, Reached.MaximalSegments, Apart.Judged}
+use Rattle.mm_confine_text.specs.Found.{slots_of_kernel}
 
 -- 1. A group.
 
 -- the doors that the callers of a group hold, ascending
 pub record AreHeldDoors (i : Image) (kept : List Segment) (g : ℕ) (doors : List Pointer) : Type 0 where
   pub ascend : Ascend pointer_key doors
-  pub each : (d : Pointer) → Contains doors d ↔ ((is_door kept d ≡ true) × Granted i kept (Holds (Group g) d))
-
--- the slots of a group that are of the kernel
-abbrev pub slots_of_kernel : Image → List Segment → ℕ → List ℕ
-slots_of_kernel i kept g =
-    map (λ (s : Slot). s.number) (filter (λ s. (s.group == g) && is_kernel_slot kept s) i.slots)
+  pub each : (d : Pointer) → Contains doors d ↔ HoldsDoor i kept g d
 
 abbrev pub group_line : ℕ → List ℕ
 group_line g = codes "group " ++ decimal g ++ newline

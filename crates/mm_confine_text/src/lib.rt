@@ -3,6 +3,7 @@
 
 mod finding;
 mod kept;
+pub mod laws;
 mod text;
 
 pub use finding::keeps;

@@ -19,7 +19,7 @@ use Rattle.mm_kernel.proofs.Values.{open_outside, moves_loads}
 use Rattle.mm_confine.specs.declared.party.Party.{Party, TheVariants.{Group, KernelSlot}}
 use Rattle.mm_confine.specs.Conduct.{GoesOn, PassesInside, SeesServed}
 use Rattle.mm_confine.specs.Grants.{AreServed, Serves, IsOf, IsOf.with_group}
-use Rattle.mm_confine.proofs.Open.{lines_ok}
+use Rattle.mm_confine.proofs.Open.{granted_is_open}
 use Rattle.mm_hold.specs.declared.{sharing.Sharing.Sharing, marks.Marks.Marks, edges.Graph.Graph, conduct.Conduct.Conduct, rounds.Passes.Passes}
 use Rattle.mm_hold.specs.Conducts.{AreConduct, HasOrLets, IsHeld, IsCarrying, StoresInside, LoadsInside, Sends, Gives, SomeCarries, origin_numbers}
 use Rattle.mm_hold.specs.Parties.{Small, IsGroup, Shares, ServedParty, PassesAlways, PassesBySlot, PassesBySlot.{of_kernel, of_caller}}
@@ -162,7 +162,7 @@ module _ (i : Image) (kept : List Segment) (img : IsImage i) (ks : Keeps i kept)
   door_is x d e a = elim a.below [
     | inl same ↦ same
     | inr n ↦
-        let up : IsShared i kept (Ptr (node a.node)) = lines_ok i kept img ks (sound x a.node a.small a.held) in
+        let up : IsShared i kept (Ptr (node a.node)) = granted_is_open i kept x (node a.node) img ks (sound x a.node a.small a.held) in
         let out = outside_within kept d (node a.node) (below_within d (node a.node) (inr n)) (open_outside kept (node a.node) up.open_word (moves_loads (node a.node).perm n.movable)) in
         let none = not_door kept d out in
         absurd (cc)

@@ -19,7 +19,7 @@ use Rattle.mm_confine.specs.Grants.{Granted, Line, Line.{Holds, Runs}, PassesOn,
 use Rattle.mm_confine.specs.Grants.Granted.{runs_itself, runs_through, in_register, runs_by, in_cell, below, passed}
 use Rattle.mm_confine.specs.Grants.Granted.{entered, served, has_exactly, lets_out, kept_for, seen, given, freed}
 use Rattle.mm_confine.specs.Conduct.{StoresOut, GivesServed, HandsOn, HandsOn.{exact, carried}}
-use Rattle.mm_confine.proofs.Open.{lines_ok}
+use Rattle.mm_confine.proofs.Open.{granted_is_open}
 use Rattle.mm_hold.specs.declared.marks.Marks.{Marks}
 use Rattle.mm_hold.specs.{Marks.Held, Conducts.{HasOrLets.{has, lets}, Sends, Gives, SomeCarries}}
 use Rattle.mm_hold.specs.Exactly.{Above, Covered, Covered.{powerless, above}, Running, Running.{itself, through}, StoresFor}
@@ -66,7 +66,7 @@ module _ (i : Image) (kept : List Segment) (img : IsImage i) (ks : Keeps i kept)
   node k = node_pointer keys k
 
   shared_by : (x : Party) (p : Pointer) → Granted i kept (Holds x p) → IsShared i kept (Ptr p)
-  shared_by x p h = lines_ok i kept img ks h
+  shared_by x p h = granted_is_open i kept x p img ks h
 
   -- what is narrowed from a pointer that is held is no door
   narrowed_out : (x : Party) (p q : Pointer) → Granted i kept (Holds x p) → IsBelow q p → can_move p.perm ≡ true → is_door kept q ≡ false

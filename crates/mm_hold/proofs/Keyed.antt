@@ -140,31 +140,31 @@ module _ (i : Image) (kept : List Segment) where
     has_means e k = let d = (all.has.each e).0 k in of_has e d.deed d.means d.has
 
     pub has_noted : (from : Origin) (q : Pointer) → HasOrLets i kept from q → Contains c.has.keys (origin_numbers from, bits_of q)
-    has_noted from q h = let e = (origin_numbers from, bits_of q) in (all.has.each e).1 (record { deed = deed.Has from q; means = h; has = in_first e [] })
+    has_noted from q h = let e : (ℕ × ℕ) × ℕ = (origin_numbers from, bits_of q) in (all.has.each e).1 (record { deed = deed.Has from q; means = h; has = in_first e [] })
 
     pub stored_means : (e : ℕ × (ℕ × ℕ)) → Contains c.stored.keys e → IsUse (StoresInside i kept) e
     stored_means e k = let d = (all.stored.each e).0 k in of_stored e d.deed d.means d.has
 
     pub stored_noted : (from : Origin) (w : ℕ) → StoresInside i kept from w → Contains c.stored.keys (w, origin_numbers from)
-    stored_noted from w h = let e = (w, origin_numbers from) in (all.stored.each e).1 (record { deed = deed.Stored w from; means = h; has = in_first e [] })
+    stored_noted from w h = let e : ℕ × (ℕ × ℕ) = (w, origin_numbers from) in (all.stored.each e).1 (record { deed = deed.Stored w from; means = h; has = in_first e [] })
 
     pub loaded_means : (e : ℕ × (ℕ × ℕ)) → Contains c.loaded.keys e → IsUse (LoadsInside i kept) e
     loaded_means e k = let d = (all.loaded.each e).0 k in of_loaded e d.deed d.means d.has
 
     pub loaded_noted : (from : Origin) (w : ℕ) → LoadsInside i kept from w → Contains c.loaded.keys (w, origin_numbers from)
-    loaded_noted from w h = let e = (w, origin_numbers from) in (all.loaded.each e).1 (record { deed = deed.Loaded w from; means = h; has = in_first e [] })
+    loaded_noted from w h = let e : ℕ × (ℕ × ℕ) = (w, origin_numbers from) in (all.loaded.each e).1 (record { deed = deed.Loaded w from; means = h; has = in_first e [] })
 
     pub sent_means : (e : ℕ × ℕ) → Contains c.sent.keys e → IsHand (λ n q. Sends i kept n (Exactly q)) e
     sent_means e k = let d = (all.sent.each e).0 k in of_sent e d.deed d.means d.has
 
     pub sent_noted : (n : ℕ) (q : Pointer) → Sends i kept n (Exactly q) → Contains c.sent.keys (n, bits_of q)
-    sent_noted n q h = let e = (n, bits_of q) in (all.sent.each e).1 (record { deed = deed.Sent n q; means = h; has = in_first e [] })
+    sent_noted n q h = let e : ℕ × ℕ = (n, bits_of q) in (all.sent.each e).1 (record { deed = deed.Sent n q; means = h; has = in_first e [] })
 
     pub given_means : (e : ℕ × ℕ) → Contains c.given.keys e → IsHand (λ n q. Gives i kept n (Exactly q)) e
     given_means e k = let d = (all.given.each e).0 k in of_given e d.deed d.means d.has
 
     pub given_noted : (n : ℕ) (q : Pointer) → Gives i kept n (Exactly q) → Contains c.given.keys (n, bits_of q)
-    given_noted n q h = let e = (n, bits_of q) in (all.given.each e).1 (record { deed = deed.Given n q; means = h; has = in_first e [] })
+    given_noted n q h = let e : ℕ × ℕ = (n, bits_of q) in (all.given.each e).1 (record { deed = deed.Given n q; means = h; has = in_first e [] })
 
     pub sends_means : (n : ℕ) → bit_at c.senders n ≡ 1 → SomeCarries (Sends i kept n)
     sends_means n b = let d = ((all.senders n).0 b).1 in of_sends n d.deed d.means d.has

@@ -10,6 +10,11 @@ mod Meeting
 mod Passes
 mod CellLists
 mod Granting
+mod Groups
+mod Reaching
+mod Judging
+mod Held
+mod Maximal
 mod HeldKeys
 mod Graphed
 mod Begun

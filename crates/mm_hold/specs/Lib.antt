@@ -11,3 +11,4 @@ pub mod Standing
 pub mod Graphs
 pub mod Reached
 pub mod Apart
+pub mod Holdings

@@ -3,8 +3,8 @@ use Rattle.std.specs.Prelude.{◌≡◌, ◌↔◌, ℕ, ◌<◌, ◌≤◌, Boo
 use Rattle.std.specs.List.{AllByRecursion}
 use Rattle.mm_word.specs.{declared.perm.Perm.Perm, Pointer.{Pointer, InSegment, base_of}}
 use Rattle.mm_model.specs.{Image.Image, Reach.{LoadsAt, StoresAt}}
-use Rattle.mm_kernel.specs.Segments.Segment
-use Rattle.mm_confine.specs.Reach.Reaches
+use Rattle.mm_kernel.specs.Segments.{Segment}
+use Rattle.mm_confine.specs.Reach.{Reaches}
 
 -- 1. Words.
 

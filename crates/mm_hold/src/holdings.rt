@@ -1,54 +1,52 @@
 //! What each group can reach, with a kernel that keeps its segments.
 
+ghost use Rattle.std.specs.Prelude.{◌≡◌, ◌↔◌, IfOk, List, true};
+ghost use Rattle.mm_word.specs.Perm.{can_load, can_store};
+ghost use Rattle.mm_model.specs.Image.{Image as ImageValue};
+ghost use Rattle.mm_kernel.specs.Segments.{Segment};
+ghost use Rattle.mm_kernel.specs.Derived.{Keeps};
+ghost use Rattle.mm_keep.specs.Searching.{IsExact};
+ghost use Rattle.mm_audit.specs.Crossing.{verdict_of};
+ghost use Rattle.mm_hold.specs.Apart.{Judged};
+ghost use Rattle.mm_hold.specs.Conducts.{AreConduct};
+ghost use Rattle.mm_hold.specs.Holdings.{AreExact, AreHoldings, HoldsDoor};
+ghost use Rattle.mm_hold.specs.Reached.{MaximalSegments};
+
 use crate::conduct::{Conduct, conduct_of};
 use crate::edges::Graph;
 use crate::found::first_forms;
 use crate::graph::{Start, graph_of};
 use crate::handlers::served_in;
 use crate::marks::Marks;
-use crate::parties::mask_of;
+use crate::reached::{door_marks, reached};
 use crate::rounds::{passes_of, until_still};
+use crate::sharing::has;
 use mm_audit::{Apart, Segments, Survey, survey_of};
 use mm_graph::{CanonicalPtr, find};
 use mm_keep::{Kernel, Tables};
-use mm_model::Slot;
 use mm_word::{GuardedPtr, NoMemory};
 use std::alloc::Global;
+use std::marker::Model;
 
-/// What each group can reach: the pointers of nodes with the groups whose callers hold them, and a survey of what the
-/// groups can touch and write.
+/// What each group can reach: the pointers of nodes with the groups whose callers hold them, if they are doors, and a
+/// survey of what the groups can touch and write.
 #[derive(Drop)]
 pub struct Holdings {
     keys: Vec<CanonicalPtr>,
-    groups: Vec<u64>,
+    doors: Vec<u64>,
     survey: Survey,
 }
 
-/// The mask of the groups of the slots of a mask.
-fn groups_of(slots: &[Slot], mask: u64) -> u64 {
-    let mut groups = 0;
-    for slot in slots {
-        if mask_of(slot.number) & mask != 0 {
-            groups |= mask_of(slot.group);
-        }
-    }
-    groups
-}
+impl Model for Holdings {
+    ghost use Rattle.std.specs.Prelude.{◌≡◌, length, All};
+    ghost use Rattle.mm_graph.specs.Key.{IsKey, IsRising};
+    ghost use Rattle.mm_hold.specs.Holdings.{HoldingsValue, AreKeys};
 
-/// For each node the groups that reach its pointer: those whose callers hold it, and those of the slots that do.
-fn reached(alloc: Global, slots: &[Slot], marks: &Marks) -> Result<Vec<u64>, NoMemory> {
-    let mut reached = Vec::new(alloc);
-    let mut last = 0;
-    let mut groups = 0;
-    for node in 0..marks.len() {
-        let now = marks.slots[node];
-        if now != last {
-            last = now;
-            groups = groups_of(slots, now);
-        }
-        reached.push(marks.groups[node] | groups)?;
-    }
-    Ok(reached)
+    ghost Value = { HoldingsValue };
+
+    ghost view = { λ h. record { keys = h.keys.items; doors = h.doors.items; survey = h.survey } };
+
+    ghost invariant = { λ h. AreKeys h.keys.items (length h.doors.items) };
 }
 
 /// What groups reach, given a graph and the parties that hold the pointers of its nodes.
@@ -57,27 +55,35 @@ fn holdings_in(
     kernel: &Kernel,
     graph: Graph,
     marks: Marks,
-) -> Result<Holdings, NoMemory> {
+) -> Result<Holdings, NoMemory>
+    requires keeps { Keeps kernel.now.image kernel.now.kept }
+    requires exact { AreExact kernel.now.image kernel.now.kept graph.keys.items graph.nodes.items marks }
+    ensures { IfOk result (λ h. AreHoldings kernel.now.image kernel.now.kept h) }
+{
     let slots = kernel.image().slots();
     let reached = reached(alloc, slots, &marks)?;
+    let doors = door_marks(alloc, kernel.kept(), &graph.keys, &marks.groups)?;
+    let served = served_in(alloc, kernel)?;
+    let survey = survey_of(alloc, &graph.keys, &graph.nodes, &reached, served)?;
     let Graph {
         keys,
-        nodes,
+        nodes: _,
         targets: _,
         parents: _,
     } = graph;
-    let Marks { groups, slots: _ } = marks;
-    let served = served_in(alloc, kernel)?;
-    let survey = survey_of(alloc, &keys, &nodes, &reached, served)?;
     Ok(Holdings {
         keys,
-        groups,
+        doors,
         survey,
     })
 }
 
 /// What each group can reach, given what the kernel's threads do.
-fn holdings_by(alloc: Global, kernel: &Kernel, conduct: &Conduct) -> Result<Holdings, NoMemory> {
+fn holdings_by(alloc: Global, kernel: &Kernel, conduct: &Conduct) -> Result<Holdings, NoMemory>
+    requires keeps { Keeps kernel.now.image kernel.now.kept }
+    requires conduct { AreConduct kernel.now.image kernel.now.kept conduct.now }
+    ensures { IfOk result (λ h. AreHoldings kernel.now.image kernel.now.kept h) }
+{
     let Start {
         graph,
         groups,
@@ -91,7 +97,11 @@ fn holdings_by(alloc: Global, kernel: &Kernel, conduct: &Conduct) -> Result<Hold
 }
 
 /// What each group can reach, with a kernel that keeps its segments and of which all was found.
-pub fn hold(alloc: Global, kernel: &Kernel, tables: &Tables) -> Result<Holdings, NoMemory> {
+pub fn hold(alloc: Global, kernel: &Kernel, tables: &Tables) -> Result<Holdings, NoMemory>
+    requires exact { IsExact kernel.now.image kernel.now.kept tables.now }
+    requires keeps { Keeps kernel.now.image kernel.now.kept }
+    ensures { IfOk result (λ h. AreHoldings kernel.now.image kernel.now.kept h) }
+{
     let first = first_forms(alloc, kernel)?;
     let conduct = conduct_of(alloc, kernel, tables, &first)?;
     drop(first);
@@ -99,26 +109,42 @@ pub fn hold(alloc: Global, kernel: &Kernel, tables: &Tables) -> Result<Holdings,
 }
 
 impl Holdings {
-    /// Whether the callers of a group hold a door.
-    pub fn holds(&self, group: u8, door: GuardedPtr) -> bool {
+    /// Whether a pointer is a door that the callers of a group hold.
+    pub fn holds(&self, group: u8, door: GuardedPtr) -> bool
+        ensures { (i : ImageValue) (kept : List Segment)
+            → AreHoldings i kept self.now
+            → (result ≡ true) ↔ HoldsDoor i kept group door }
+    {
         match find(&self.keys, CanonicalPtr::of(door)) {
-            Some(node) => self.groups[node] & mask_of(group) != 0,
+            Some(node) => has(self.doors[node], group),
             None => false,
         }
     }
 
     /// The maximal segments of at least a word that a group can touch.
-    pub fn touched(&self, group: u8) -> Segments<'_> {
+    pub fn touched(&self, group: u8) -> Segments<'_>
+        ensures { (i : ImageValue) (kept : List Segment)
+            → AreHoldings i kept self.now
+            → MaximalSegments i kept group can_load result }
+    {
         self.survey.touched(group)
     }
 
     /// The maximal segments of at least a word that a group can write.
-    pub fn written(&self, group: u8) -> Segments<'_> {
+    pub fn written(&self, group: u8) -> Segments<'_>
+        ensures { (i : ImageValue) (kept : List Segment)
+            → AreHoldings i kept self.now
+            → MaximalSegments i kept group can_store result }
+    {
         self.survey.written(group)
     }
 
     /// Whether a group stands apart from all others.
-    pub fn apart(&self, group: u8) -> Apart {
+    pub fn apart(&self, group: u8) -> Apart
+        ensures { (i : ImageValue) (kept : List Segment)
+            → AreHoldings i kept self.now
+            → Judged i kept group (verdict_of result) }
+    {
         self.survey.apart(&[group])
     }
 }

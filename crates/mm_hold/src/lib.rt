@@ -10,6 +10,8 @@
 //! | parties pass on all that they hold | who shares with whom, worked out anew in each round | `sharing`, `meets`, |
 //! | | | `passing` |
 //! | parties pass on single pointers | what stands behind doors, what is sent and given | `giving`, `rounds` |
+//! | what groups reach, and the doors that they hold | masks of the nodes, and a survey of `mm_audit` | `reached`, |
+//! | | | `handlers`, `holdings` |
 #![tactic(auto)]
 
 mod conduct;
@@ -28,6 +30,7 @@ mod marks;
 mod meets;
 mod parties;
 mod passing;
+mod reached;
 mod rounds;
 mod sharing;
 

@@ -170,7 +170,7 @@ fn share_served(sharing: &mut Sharing, kernel: &Kernel, handler: &Slot)
 }
 
 /// Whether a mask has a number.
-fn has(mask: u64, number: u8) -> bool
+pub fn has(mask: u64, number: u8) -> bool
     ensures { (result ≡ true) ↔ ((number < 64) × (bit_at mask number ≡ 1)) }
 {
     number < 64 && (mask >> number) & 1 == 1

@@ -11,5 +11,5 @@ mod told;
 mod words;
 
 pub use finding::{is_user, keeps, tell};
-pub use text::write_keeps;
+pub use text::{put_keeps, write_keeps};
 pub use told::{Answer, Party, Told};

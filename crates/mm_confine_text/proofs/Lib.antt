@@ -1,0 +1,5 @@
+mod Listing
+mod Finding
+mod Texts
+mod Ones
+pub mod Confining
