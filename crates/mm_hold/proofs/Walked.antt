@@ -1,6 +1,6 @@
 -- Lists of seeds and of nodes that grow on a walk over a set.
-use Rattle.std.proofs.Common.{◌≡◌, ◌⊎◌, ◌↔◌, inl, inr, ℕ, ◌<◌, List, [], ◌∷◌, ◌++◌, length, Option, Some, None, refl, sym, ap, ◌∙◌, subst, append_assoc, append-nil}
-use Rattle.std.proofs.lemmas.List.{get_or_default}
+use Rattle.std.proofs.Common.{◌≡◌, ◌⊎◌, ◌↔◌, inl, inr, ℕ, ◌<◌, ◌+◌, List, [], ◌∷◌, ◌++◌, length, map, take, get_or, Option, Some, None, refl, sym, ap, ◌∙◌, subst, append_assoc, append-nil}
+use Rattle.std.proofs.lemmas.List.{get_or_default, map-append, take_more}
 use Rattle.std.proofs.lemmas.List.Elements.{Contains-append_left, Contains-push, Contains-push_cases}
 use Rattle.std.specs.{Prelude.{All, Contains, MatchOption}, List.flat_map}
 use Rattle.mm_word.specs.Pointer.{SpellsPointer, pointer_of}
@@ -11,7 +11,7 @@ use Rattle.mm_kernel.specs.Segments.{Segment}
 use Rattle.mm_model.specs.Image.{Image}
 use Rattle.mm_span.proofs.Members.{none_in, in_first, in_rest, in_cases}
 use Rattle.mm_hold.specs.{Conducts.AreAll, Finding.held_key, Passing.DoorAt}
-use Rattle.mm_hold.specs.Graphs.{BitsAt, IsBitsNode, HandsAt, HandedAt, StandsBehind, BehindAt, bits_key, had_seeds, seed_number}
+use Rattle.mm_hold.specs.Graphs.{BitsAt, IsBitsNode, HandsAt, HandedAt, StandsBehind, ThroughDoor, BehindAt, bits_key, had_seeds, seed_number}
 use Rattle.mm_hold.proofs.{HeldKeys.key_there, Passes.one_node}
 
 -- 1. Lists.
@@ -28,6 +28,13 @@ module _ {X A : Type 0} (f : X → List A) where
 
   pub walk_all : (all now : List A) (left : List X) → left ≡ [] → now ++ flat_map f left ≡ all → now ≡ all
   walk_all all now left is was = sym (append-nil now) ∙ ap (λ l. now ++ flat_map f l) (sym is) ∙ was
+
+-- with the next element of a slice
+pub map_next : {X A : Type 0} (f : X → A) (xs : List X) (k : ℕ) (now new : List A) (x : X) → k < length xs → x ≡ get_or xs k x → now ≡ map f (take k xs)
+    → new ≡ now ++ f x ∷ [] → new ≡ map f (take (k + 1) xs)
+map_next f xs k now new x lt at was is =
+    let more : take (k + 1) xs ≡ take k xs ++ x ∷ [] = take_more xs k x lt ∙ ap (λ y. take k xs ++ y ∷ []) (sym at) in
+    is ∙ ap (λ l. l ++ f x ∷ []) was ∙ sym (ap (map f) more ∙ map-append f (take k xs) (x ∷ []))
 
 -- 2. Sets of which each element adds something.
 
@@ -138,12 +145,7 @@ module _ (kept : List Segment) (keys : List CanonicalPtr) where
 
   -- 5. What stands behind doors.
 
-  -- the first of these is through a door
-  pub record ThroughDoor (o : ℕ × ℕ) (bits : ℕ) (b : ℕ × ℕ) : Type 0 where
-    pub kind : o.0 ≡ 0
-    pub stands : StandsBehind kept keys o.1 bits b
-
-  pub behind_pushed : IsRising keys → All IsKey keys → (old : List (ℕ × ℕ)) (door bits at node : ℕ) → DoorAt kept keys door at → BitsAt kept keys bits node
+  behind_pushed : IsRising keys → All IsKey keys → (old : List (ℕ × ℕ)) (door bits at node : ℕ) → DoorAt kept keys door at → BitsAt kept keys bits node
       → AreAll (λ b. Contains old b ⊎ StandsBehind kept keys door bits b) (old ++ (at, node) ∷ [])
   behind_pushed rising all old door bits at node d n =
       pushed (StandsBehind kept keys door bits) old (at, node) (record { node = d; at = n })
@@ -152,12 +154,8 @@ module _ (kept : List Segment) (keys : List CanonicalPtr) where
           let second = one_bits kept keys bits rising node b.1 n one.at in
           λ i. (first i, second i))
 
-  pub behind_none : (old : List (ℕ × ℕ)) (door bits : ℕ) → ((b : ℕ × ℕ) → StandsBehind kept keys door bits b → ⊥)
-      → AreAll (λ b. Contains old b ⊎ StandsBehind kept keys door bits b) old
-  behind_none old door bits none = nothing_more (StandsBehind kept keys door bits) old none
-
-  pub through_door : (o : ℕ × ℕ) (bits : ℕ) (old new : List (ℕ × ℕ)) → o.0 ≡ 0 → AreAll (λ b. Contains old b ⊎ StandsBehind kept keys o.1 bits b) new
-      → AreAll (λ b. Contains old b ⊎ ThroughDoor o bits b) new
+  through_door : (o : ℕ × ℕ) (bits : ℕ) (old new : List (ℕ × ℕ)) → o.0 ≡ 0 → AreAll (λ b. Contains old b ⊎ StandsBehind kept keys o.1 bits b) new
+      → AreAll (λ b. Contains old b ⊎ ThroughDoor kept keys o bits b) new
   through_door o bits old new kind all = record {
     each = λ b. (
       λ there. elim ((all.each b).0 there) [ inl before ↦ inl before | inr one ↦ inr (record { kind = kind; stands = one }) ],
@@ -165,11 +163,15 @@ module _ (kept : List Segment) (keys : List CanonicalPtr) where
     );
   }
 
-  pub through_none : (o : ℕ × ℕ) (bits : ℕ) (old : List (ℕ × ℕ)) → (o.0 ≡ 0 → ⊥) → AreAll (λ b. Contains old b ⊎ ThroughDoor o bits b) old
-  through_none o bits old other = nothing_more (ThroughDoor o bits) old (λ b one. other one.kind)
+  pub through_pushed : IsRising keys → All IsKey keys → (old : List (ℕ × ℕ)) (o : ℕ × ℕ) (bits at node : ℕ) → o.0 ≡ 0 → DoorAt kept keys o.1 at → BitsAt kept keys bits node
+      → AreAll (λ b. Contains old b ⊎ ThroughDoor kept keys o bits b) (old ++ (at, node) ∷ [])
+  through_pushed rising all old o bits at node kind d n = through_door o bits old (old ++ (at, node) ∷ []) kind (behind_pushed rising all old o.1 bits at node d n)
+
+  pub through_none : (o : ℕ × ℕ) (bits : ℕ) (old : List (ℕ × ℕ)) → ((b : ℕ × ℕ) → ThroughDoor kept keys o bits b → ⊥) → AreAll (λ b. Contains old b ⊎ ThroughDoor kept keys o bits b) old
+  through_none o bits old none = nothing_more (ThroughDoor kept keys o bits) old none
 
   pub behind_split : (left rest : List ((ℕ × ℕ) × ℕ)) (o : ℕ × ℕ) (bits : ℕ) → left ≡ (o, bits) ∷ rest → (b : ℕ × ℕ)
-      → BehindAt kept keys left b ↔ (ThroughDoor o bits b ⊎ BehindAt kept keys rest b)
+      → BehindAt kept keys left b ↔ (ThroughDoor kept keys o bits b ⊎ BehindAt kept keys rest b)
   behind_split left rest o bits is b = (
     λ k. elim (in_cases (o, bits) rest ((0, k.door), k.bits) (subst (λ l. Contains l ((0, k.door), k.bits)) is k.inside)) [
       | inl same ↦

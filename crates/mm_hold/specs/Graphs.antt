@@ -93,6 +93,11 @@ pub record StandsBehind (kept : List Segment) (keys : List CanonicalPtr) (door b
   pub node : DoorAt kept keys door b.0
   pub at : BitsAt kept keys bits b.1
 
+-- the origin is a door
+pub record ThroughDoor (kept : List Segment) (keys : List CanonicalPtr) (o : ℕ × ℕ) (bits : ℕ) (b : ℕ × ℕ) : Type 0 where
+  pub kind : o.0 ≡ 0
+  pub stands : StandsBehind kept keys o.1 bits b
+
 -- threads through the door of the first node have or let out a pointer, for which the second node stands
 pub record BehindAt (kept : List Segment) (keys : List CanonicalPtr) (had : List ((ℕ × ℕ) × ℕ)) (b : ℕ × ℕ) : Type 0 where
   pub door : ℕ

@@ -7,16 +7,15 @@ ghost use Rattle.mm_kernel.specs.Segments.{is_door, is_enter};
 ghost use Rattle.mm_hold.specs.Conducts.{AreAll, AreConduct};
 ghost use Rattle.mm_hold.specs.Exactly.{IsSound};
 ghost use Rattle.mm_hold.specs.Graphs.{ArePlaces, BehindAt, HandedAt, HandsAt, IsBitsNode, IsBuilt, IsShaped};
-ghost use Rattle.mm_hold.specs.Graphs.{StandsBehind, bits_key, entry_mask, had_seeds, seed_number};
+ghost use Rattle.mm_hold.specs.Graphs.{ThroughDoor, bits_key, entry_mask, had_seeds, seed_number};
 ghost use Rattle.mm_hold.specs.Marks.{HasSize};
 ghost use Rattle.mm_hold.specs.Standing.{AreStarted, HasKeys, IsGraphOf};
 
-use crate::conduct::Conduct;
+use crate::conduct::{Conduct, OriginNumbers};
 use crate::edges::Graph;
 use crate::found::{callers, found_in, key_in};
 use crate::giving::{NodePair, SlotNode};
 use crate::passing::door_node;
-use mm_flow::Node;
 use mm_graph::{CanonicalPtr, Found, Seed, find, keys_and_targets, marks_of, nodes_of, parents_of};
 use mm_keep::{Kernel, is_door};
 use mm_word::{GuardedPtr, NoMemory, Perm, Word};
@@ -46,14 +45,34 @@ pub fn key_of_bits(kernel: &Kernel, bits: u64) -> Option<CanonicalPtr>
 }
 
 /// The number that a seed has for an origin: that of its slot, if it is one of the kernel, or none.
-fn seed_number(kernel: &Kernel, kind: u8, value: u64) -> u8
-    ensures { result ≡ seed_number kernel.now.image kernel.now.kept (kind, value) }
+fn seed_number(kernel: &Kernel, origin: OriginNumbers) -> u8
+    ensures { result ≡ seed_number kernel.now.image kernel.now.kept origin }
 {
+    let (kind, value) = origin;
     if kind == 1 && value < 64 && kernel.is_kernel(value as u8) {
         value as u8
     } else {
         NO_GROUP
     }
+}
+
+/// Adds the seed of a pointer that threads of an origin have or let out.
+fn add_had(
+    seeds: &mut Vec<Seed>,
+    kernel: &Kernel,
+    origin: OriginNumbers,
+    bits: u64,
+) -> Result<(), NoMemory>
+    requires { All (λ s. IsKey s.key) seeds.old.items }
+    ensures items { OnOk result (seeds.new.items
+        ≡ seeds.old.items ++ had_seeds kernel.now.image kernel.now.kept (origin, bits)) }
+    ensures keys { OnOk result (All (λ s. IsKey s.key) seeds.new.items) }
+{
+    if let Some(key) = key_of_bits(kernel, bits) {
+        let group = seed_number(kernel, origin);
+        seeds.push(Seed { group, key })?;
+    }
+    Ok(())
 }
 
 /// The pointers that threads have or let out, each with the number of the slot from which the threads come, if they do.
@@ -63,13 +82,8 @@ fn seeds_of(alloc: Global, kernel: &Kernel, conduct: &Conduct) -> Result<Vec<See
     ensures keys { IfOk result (λ seeds. All (λ s. IsKey s.key) seeds.items) }
 {
     let mut seeds = Vec::new(alloc);
-    for ((kind, value), bits) in conduct.has.iter() {
-        if let Some(key) = key_of_bits(kernel, *bits) {
-            seeds.push(Seed {
-                group: seed_number(kernel, *kind, *value),
-                key,
-            })?;
-        }
+    for had in conduct.has.iter() {
+        add_had(&mut seeds, kernel, had.0, had.1)?;
     }
     Ok(seeds)
 }
@@ -82,12 +96,8 @@ fn all_seeds(alloc: Global, one: &[Seed], other: &[Seed]) -> Result<Vec<Seed>, N
     ensures keys { IfOk result (λ seeds. All (λ s. IsKey s.key) seeds.items) }
 {
     let mut all = Vec::new(alloc);
-    for seed in one {
-        all.push(*seed)?;
-    }
-    for seed in other {
-        all.push(*seed)?;
-    }
+    all.extend_from_slice(one)?;
+    all.extend_from_slice(other)?;
     Ok(all)
 }
 
@@ -98,7 +108,19 @@ fn enters_alone(kernel: &Kernel, p: GuardedPtr) -> bool
     matches!(p.perm(), Perm::Eu) && !is_door(kernel.kept(), p)
 }
 
-/// For each key the mask of the parties that enter by it without the kernel: all or none.
+/// The mask of the parties that enter by a key without the kernel: all or none.
+fn entry_mask(kernel: &Kernel, key: CanonicalPtr) -> u64
+    requires { IsKey key }
+    ensures { result ≡ entry_mask kernel.now.kept key }
+{
+    if enters_alone(kernel, key.pointer()) {
+        u64::MAX
+    } else {
+        0
+    }
+}
+
+/// For each key the mask of the parties that enter by it without the kernel.
 fn entry_masks(
     alloc: Global,
     kernel: &Kernel,
@@ -108,13 +130,9 @@ fn entry_masks(
     ensures { IfOk result (λ masks. masks.items ≡ map (entry_mask kernel.now.kept) keys.now) }
 {
     let mut masks = Vec::new(alloc);
-    for key in keys {
-        let mask = if enters_alone(kernel, key.pointer()) {
-            u64::MAX
-        } else {
-            0
-        };
-        masks.push(mask)?;
+    for k in 0..keys.len() {
+        let key = keys[k];
+        masks.push(entry_mask(kernel, key))?;
     }
     Ok(masks)
 }
@@ -233,26 +251,29 @@ pub fn nodes_handed(
         nodes.items) }
 {
     let mut nodes = Vec::new(alloc);
-    for (slot, bits) in handed.iter() {
-        add_handed(&mut nodes, kernel, keys, *slot, *bits)?;
+    for hand in handed.iter() {
+        add_handed(&mut nodes, kernel, keys, hand.0, hand.1)?;
     }
     Ok(nodes)
 }
 
-/// Adds the node of a pointer that threads through a door have or let out.
+/// Adds the nodes of a door and of a pointer that threads through it have or let out. Other origins are passed over.
 fn add_behind(
     behind: &mut Vec<NodePair>,
     kernel: &Kernel,
     keys: &[CanonicalPtr],
-    door: u64,
+    origin: OriginNumbers,
     bits: u64,
 ) -> Result<(), NoMemory>
     requires rising { IsRising keys.now }
     requires keys { All IsKey keys.now }
     ensures { OnOk result (AreAll (λ b. Contains behind.old.items b
-        ⊎ StandsBehind kernel.now.kept keys.now door bits b) behind.new.items) }
+        ⊎ ThroughDoor kernel.now.kept keys.now origin bits b) behind.new.items) }
 {
-    if let Some(at) = door_node(kernel, keys, door) {
+    if origin.0 != 0 {
+        return Ok(());
+    }
+    if let Some(at) = door_node(kernel, keys, origin.1) {
         if let Some(node) = node_of(kernel, keys, bits) {
             behind.push((at, node))?;
         }
@@ -272,10 +293,8 @@ pub fn nodes_behind(
     ensures { IfOk result (λ behind. AreAll (BehindAt kernel.now.kept keys.now conduct.now.has.keys) behind.items) }
 {
     let mut behind = Vec::new(alloc);
-    for ((kind, value), bits) in conduct.has.iter() {
-        if *kind == 0 {
-            add_behind(&mut behind, kernel, keys, *value, *bits)?;
-        }
+    for had in conduct.has.iter() {
+        add_behind(&mut behind, kernel, keys, had.0, had.1)?;
     }
     Ok(behind)
 }
