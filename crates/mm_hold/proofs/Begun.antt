@@ -295,3 +295,26 @@ module _ (i : Image) (kept : List Segment) (img : IsImage i) (c : Conduct) (k : 
       runs = λ s inside caller. caller_covered s s.ip inside caller (in_first (Ptr s.ip) s.regs) (fresh s inside).ip;
       has = slot_covered;
     }
+
+-- 5. All of it, for lists that are these.
+
+pub record IsBegun (i : Image) (kept : List Segment) (keys : List CanonicalPtr) (m : Marks) : Type 0 where
+  pub had : HasKeys i kept keys
+  pub size : HasSize m (length keys)
+  pub sound : IsSound i kept keys m
+  pub started : AreStarted i kept keys m
+
+pub begun : (i : Image) (kept : List Segment) (img : IsImage i) (c : Conduct) (k : AreConduct i kept c) (keys : List CanonicalPtr) (m : Marks)
+    (callers threads seeds : List Seed) → callers ≡ callers_in i kept → threads ≡ flat_map (had_seeds i kept) c.has.keys → seeds ≡ callers ++ threads
+    → IsKeysOf (found_of i kept) seeds keys → IsMarks keys callers m.groups.items → IsMarks keys threads m.slots.items → IsBegun i kept keys m
+begun i kept img c k keys m callers threads seeds ci ti si is gs ss =
+    let all = si ∙ ap (λ l. l ++ threads) ci ∙ ap (λ l. callers_in i kept ++ l) ti in
+    let own = subst (λ l. IsKeysOf (found_of i kept) l keys) all is in
+    let groups = subst (λ l. IsMarks keys l m.groups.items) ci gs in
+    let slots = subst (λ l. IsMarks keys l m.slots.items) ti ss in
+    record {
+      had = has_keys i kept img c k keys m own groups slots;
+      size = sizes i kept img c k keys m own groups slots;
+      sound = start_sound i kept img c k keys m own groups slots;
+      started = started i kept img c k keys m own groups slots;
+    }

@@ -15,17 +15,17 @@ use Rattle.mm_flow.{specs.{Sharing.Up, Forest.In}, proofs.{Geometry.{share, shar
 use Rattle.mm_graph.specs.{Summary.IsPowerless, GraphOf.CommonWord, Marked.node_pointer}
 use Rattle.mm_graph.specs.declared.{canonical_ptr.CanonicalPtr.CanonicalPtr, found.Found.Found, seed.Seed.Seed}
 use Rattle.mm_graph.specs.Key.{IsKey, key_at, no_key, pointer_at, standing_key, entry_key, loads_words, is_entry}
-use Rattle.mm_graph.specs.Nodes.{IsNode, nothing, found_word}
+use Rattle.mm_graph.specs.Nodes.{IsKeysOf, IsTargets, IsNode, nothing, found_word}
 use Rattle.mm_graph.proofs.Representatives.{stands_from, stands_above, stands_below, standing_none, entry_from, enters_from}
 use Rattle.mm_graph.proofs.{Nesting.log_is, CellWords.well_formed}
 use Rattle.mm_graph.proofs.Bounds.{covers_in, in_covers, of_words, loads_then, stores_then, loads_test, stores_test}
 use Rattle.mm_graph.proofs.Bounds.{entry_test, entry_then}
 use Rattle.mm_kernel.specs.Segments.{Segment, is_kept, is_door, is_enter, meets}
 use Rattle.mm_hold.specs.declared.edges.Graph.{Graph}
-use Rattle.mm_hold.specs.{Finding.{cell_found, held_key, held_word}, Graphs.{IsBuilt, IsShaped, entry_mask, found_of}}
+use Rattle.mm_hold.specs.{Finding.{cell_found, held_key, held_word}, Graphs.{ArePlaces, IsBuilt, IsShaped, entry_mask, found_of}}
 use Rattle.mm_hold.specs.Standing.{edges_in, IsGraphOf, Placed, Placed.{powerless, at as placed}, LeadsTo, EntersTo, CellOf, EntryOf, Meet}
 use Rattle.mm_hold.proofs.HeldKeys.{held_none, held_above, held_below, word_pointer, cell_there, cell_from}
-use Rattle.mm_hold.proofs.CellLists.{given_there, given_from}
+use Rattle.mm_hold.proofs.CellLists.{given_there, given_from, found_ascends}
 
 -- 1. Masks of entries.
 
@@ -69,6 +69,15 @@ entered_out kept p q eu h =
     let form : ◌≡◌ {A = Option Perm} (Some Xu) (Some to.perm) = sym (ap execute_form eu) ∙ to.form in
     let perm : Xu ≡ to.perm = cc in
     ap (λ v. is_enter v && meets kept q) (ap (λ (v : Pointer). v.perm) to.is ∙ sym perm)
+
+pub places_are : (i : Image) (kept : List Segment) → IsImage i → (seeds : List Seed) (found : List Found) (keys : List CanonicalPtr) (targets : List ℕ)
+    → found ≡ found_of i kept → IsKeysOf found seeds keys → IsTargets keys found targets → ArePlaces i kept seeds found keys targets
+places_are i kept img seeds found keys targets is k t = record {
+  is_found = is;
+  ascends = found_ascends kept i.memory img.paged;
+  is_keys = subst (λ l. IsKeysOf l seeds keys) is k;
+  is_targets = subst (λ l. IsTargets keys l targets) is t;
+}
 
 module _ (i : Image) (kept : List Segment) (image : IsImage i) (seeds : List Seed) (g : Graph) (b : IsBuilt i kept seeds g) where
   abbrev keys : List CanonicalPtr

@@ -66,8 +66,11 @@ module _ {X K : Type 0} (Of : List X → K → Type 0) where
     );
   }
 
-  pub set_begins : (all : List X) (h : K) → (Contains [] h ⊎ Of all h) ↔ Of all h
-  set_begins all h = (λ k. elim k [ inl there ↦ absurd (none_in h there) | inr some ↦ some ], λ k. inr k)
+  pub set_begins : (all left : List X) (new : List K) → left ≡ all → new ≡ [] → (h : K) → (Contains new h ⊎ Of left h) ↔ Of all h
+  set_begins all left new is none h = (
+    λ k. elim k [ inl there ↦ absurd (none_in h (subst (λ l. Contains l h) none there)) | inr some ↦ subst (λ l. Of l h) is some ],
+    λ k. inr (subst (λ l. Of l h) (sym is) k),
+  )
 
 module _ {K : Type 0} (One : K → Type 0) (old : List K) where
   -- one element, if it is the only one

@@ -130,9 +130,8 @@ fn entry_masks(
     ensures { IfOk result (λ masks. masks.items ≡ map (entry_mask kernel.now.kept) keys.now) }
 {
     let mut masks = Vec::new(alloc);
-    for k in 0..keys.len() {
-        let key = keys[k];
-        masks.push(entry_mask(kernel, key))?;
+    for key in keys {
+        masks.push(entry_mask(kernel, *key))?;
     }
     Ok(masks)
 }

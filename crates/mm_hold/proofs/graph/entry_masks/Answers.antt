@@ -1,9 +1,5 @@
-use Rattle.mm_hold.specs.Graphs.{entry_mask}
-use Rattle.mm_hold.proofs.Walked.{map_next}
+use Rattle.std.proofs.{Common.arith, lemmas.Grind.common_steps}
 use Rattle.mm_hold.proofs.graph.entry_masks.Goals as goal
 
-pub loop-k-preserved : goal.loop-k-preserved
-loop-k-preserved c =
-    let l = c.loop-k in
-    map_next (entry_mask c.args.kernel.now.kept) c.args.keys.now l.k l.masks.items c.push.new.self.items c.index-keys-k.result
-    c.loop-k-test.true c.index-keys-k.is l.invariant (rw c.entry_mask.ensures at c.in_ok-push.ensures.items)
+pub loop-key-preserved : goal.loop-key-preserved
+loop-key-preserved c = grind (arith, common_steps)

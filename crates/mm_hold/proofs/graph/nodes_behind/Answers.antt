@@ -1,13 +1,13 @@
-use Rattle.std.proofs.Common.{[], ◌≡◌, ◌⊎◌, ◌↔◌, ℕ, subst, sym}
-use Rattle.std.{proofs.lemmas.Map.Iter.{rest_all, rest_more}, specs.{Prelude.Contains, Map.Iter.deref}}
+use Rattle.std.proofs.Common.{[], ◌≡◌, ◌∙◌}
+use Rattle.std.{proofs.lemmas.Map.Iter.{rest_all, rest_more}, specs.Map.Iter.deref}
 use Rattle.mm_hold.specs.Graphs.{BehindAt, ThroughDoor}
 use Rattle.mm_hold.proofs.Walked.{set_begins, set_more, set_all, behind_split, behind_empty}
 use Rattle.mm_hold.proofs.graph.nodes_behind.Goals as goal
 
 pub loop-had-init : goal.loop-had-init
 loop-had-init c =
-    subst (λ l. (b : ℕ × ℕ) → (Contains l b ⊎ BehindAt c.args.kernel.now.kept c.args.keys.now c.args.conduct.now.has.keys b) ↔ BehindAt c.args.kernel.now.kept c.args.keys.now c.args.conduct.now.has.keys b)
-    (sym c.new-behind.ensures.items) (set_begins (BehindAt c.args.kernel.now.kept c.args.keys.now) c.args.conduct.now.has.keys)
+    let is = c.into_iter-had-iterator.ensures.into_iter_gives ∙ c.iter-had-items.ensures.rest in
+    set_begins (BehindAt c.args.kernel.now.kept c.args.keys.now) c.args.conduct.now.has.keys c.into_iter-had-iterator.result c.new-behind.result.items is c.new-behind.ensures.items
 
 pub loop-had-preserved : goal.loop-had-preserved
 loop-had-preserved c =

@@ -1,13 +1,13 @@
-use Rattle.std.proofs.Common.{[], ◌≡◌, ◌⊎◌, ◌↔◌, ℕ, subst, sym}
-use Rattle.std.{proofs.lemmas.Map.Iter.{rest_all, rest_more}, specs.{Prelude.Contains, Map.Iter.deref}}
+use Rattle.std.proofs.Common.{[], ◌≡◌, ◌∙◌}
+use Rattle.std.{proofs.lemmas.Map.Iter.{rest_all, rest_more}, specs.Map.Iter.deref}
 use Rattle.mm_hold.specs.Graphs.{HandedAt, HandsAt}
 use Rattle.mm_hold.proofs.Walked.{set_begins, set_more, set_all, handed_split, handed_none}
 use Rattle.mm_hold.proofs.graph.nodes_handed.Goals as goal
 
 pub loop-hand-init : goal.loop-hand-init
 loop-hand-init c =
-    subst (λ l. (h : ℕ × ℕ) → (Contains l h ⊎ HandedAt c.args.kernel.now.kept c.args.keys.now c.args.handed.now.keys h) ↔ HandedAt c.args.kernel.now.kept c.args.keys.now c.args.handed.now.keys h)
-    (sym c.new-nodes.ensures.items) (set_begins (HandedAt c.args.kernel.now.kept c.args.keys.now) c.args.handed.now.keys)
+    let is = c.into_iter-hand-iterator.ensures.into_iter_gives ∙ c.iter-hand-items.ensures.rest in
+    set_begins (HandedAt c.args.kernel.now.kept c.args.keys.now) c.args.handed.now.keys c.into_iter-hand-iterator.result c.new-nodes.result.items is c.new-nodes.ensures.items
 
 pub loop-hand-preserved : goal.loop-hand-preserved
 loop-hand-preserved c =
