@@ -1,5 +1,5 @@
 -- What threads hand on they have or let out; and parties that are granted anything are parties of the image.
-use Rattle.std.proofs.Common.{◌≡◌, ◌⊎◌, inl, inr, ℕ, ◌<◌, Bool, true, false, ◌&&◌, ◌||◌, ◌==◌, List, [], ◌∷◌, Option, Some, refl, sym, ap, ◌∙◌, subst}
+use Rattle.std.proofs.Common.{◌≡◌, ◌⊎◌, inl, inr, ℕ, ◌<◌, Bool, true, false, ◌&&◌, ◌||◌, ◌==◌, List, [], ◌∷◌, refl, sym, subst}
 use Rattle.std.proofs.Common.{arith, eqb-true}
 use Rattle.std.proofs.lemmas.Bool.{and_parts}
 use Rattle.std.specs.{Prelude.Contains, List.list_any}
@@ -8,10 +8,10 @@ use Rattle.mm_model.specs.{Slot.Slot, Image.{Image, slot_limit}, Spelling.{IsIma
 use Rattle.mm_model.proofs.CoreRows.{each_contained}
 use Rattle.mm_kernel.specs.Segments.{Segment, is_door, is_open_pointer}
 use Rattle.mm_kernel.specs.declared.fact.Leak.{Leak}
-use Rattle.mm_kernel.specs.declared.form.Form.{Form, TheVariants.{Pointer as Exactly}}
+use Rattle.mm_kernel.specs.declared.form.Form.{TheVariants.{Pointer as Exactly}}
 use Rattle.mm_kernel.specs.declared.thread.Origin.{Origin, TheVariants.{Slot as OfSlot}}
 use Rattle.mm_kernel.specs.declared.{outcome.Outcome.Outcome, thread.Thread.Thread}
-use Rattle.mm_kernel.specs.{Forms.is_open_form, Threads.{form_in, is_kernel, is_kernel_slot}, Turns.outcomes, Derived.{Derived, Keeps, Derived.turns}}
+use Rattle.mm_kernel.specs.{Forms.is_open_form, Threads.{form_in, is_kernel, is_kernel_slot}, Derived.{Derived, Keeps, Derived.turns}}
 use Rattle.mm_kernel.specs.Facts.{hand_out}
 use Rattle.mm_kernel.proofs.{Ups.{each_from, handed_out}, Values.Public}
 use Rattle.mm_span.proofs.Members.{in_first, in_rest}
