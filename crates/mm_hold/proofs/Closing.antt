@@ -339,8 +339,8 @@ module _ (i : Image) (kept : List Segment) (c : Conduct) (g : Graph) (p : Passes
   pub round_falls : changed ≡ true → room_of new + 1 ≤ room_of old
   round_falls e =
       let f = fall r.changes.0 r.changes.1 r.changes.2 r.changes.3 (room_of r.spread) (room_of r.behind) (room_of r.sent) (room_of r.given) (room_of new)
-          r.first.grows.no_rise r.second.grows.no_rise r.third.grows.no_rise r.last.grows.no_rise
-          r.first.grows.falls r.second.grows.falls r.third.grows.falls r.last.grows.falls (sym r.is ∙ e) in
+      r.first.grows.no_rise r.second.grows.no_rise r.third.grows.no_rise r.last.grows.no_rise
+      r.first.grows.falls r.second.grows.falls r.third.grows.falls r.last.grows.falls (sym r.is ∙ e) in
       let s = spread_room in
       omega arith
 

@@ -150,7 +150,7 @@ module _ (i : Image) (kept : List Segment) (img : IsImage i) where
         let c = s.writes in
         let like = outcome_like i kept c.thread (outcome.WritesServed s.reg (Exactly q)) c.comes in
         let handed : ComesTo i kept (OfSlot n) (outcome.HandsOut (Exactly q) like.1.by) =
-            record { thread = c.thread; derived = c.derived; origin = c.origin; comes = like.1.inside } in
+        record { thread = c.thread; derived = c.derived; origin = c.origin; comes = like.1.inside } in
         handed_has (OfSlot n) q like.1.by handed like.0
 
   pub comes_kernel : (n : ℕ) (o : Outcome) → ComesTo i kept (OfSlot n) o → is_kernel i kept n ≡ true
