@@ -130,9 +130,9 @@ module _ (kept : List Segment) (keys : List CanonicalPtr) where
   behind_pushed rising all old door bits at node d n =
       pushed (StandsBehind kept keys door bits) old (at, node) (record { node = d; at = n })
       (λ b one.
-          let first = one_node kept keys all rising door at b.0 d one.node in
-          let second = one_bits kept keys bits rising node b.1 n one.at in
-          λ i. (first i, second i))
+      let first = one_node kept keys all rising door at b.0 d one.node in
+      let second = one_bits kept keys bits rising node b.1 n one.at in
+      λ i. (first i, second i))
 
   through_door : (o : ℕ × ℕ) (bits : ℕ) (old new : List (ℕ × ℕ)) → o.0 ≡ 0 → AreAll (λ b. Contains old b ⊎ StandsBehind kept keys o.1 bits b) new
       → AreAll (λ b. Contains old b ⊎ ThroughDoor kept keys o bits b) new

@@ -121,11 +121,7 @@ fn entry_mask(kernel: &Kernel, key: CanonicalPtr) -> u64
 }
 
 /// For each key the mask of the parties that enter by it without the kernel.
-fn entry_masks(
-    alloc: Global,
-    kernel: &Kernel,
-    keys: &[CanonicalPtr],
-) -> Result<Vec<u64>, NoMemory>
+fn entry_masks(alloc: Global, kernel: &Kernel, keys: &[CanonicalPtr]) -> Result<Vec<u64>, NoMemory>
     requires { All IsKey keys.now }
     ensures { IfOk result (λ masks. masks.items ≡ map (entry_mask kernel.now.kept) keys.now) }
 {
@@ -152,7 +148,12 @@ fn places_of(alloc: Global, kernel: &Kernel, seeds: &[Seed]) -> Result<Places, N
 }
 
 /// The graph for these keys.
-fn graph_for(alloc: Global, kernel: &Kernel, seeds: &[Seed], places: Places) -> Result<Graph, NoMemory>
+fn graph_for(
+    alloc: Global,
+    kernel: &Kernel,
+    seeds: &[Seed],
+    places: Places,
+) -> Result<Graph, NoMemory>
     requires { ArePlaces kernel.now.image kernel.now.kept seeds.now places.found.items places.keys.items
         places.targets.items }
     ensures { IfOk result (λ g. IsBuilt kernel.now.image kernel.now.kept seeds.now g) }
