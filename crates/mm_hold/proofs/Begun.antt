@@ -24,61 +24,42 @@ use Rattle.mm_hold.specs.Exactly.{Covered, Covered.{powerless, above}, IsSound}
 use Rattle.mm_hold.specs.Graphs.{bits_key, found_of, had_seeds, seed_number}
 use Rattle.mm_hold.specs.Standing.{AreStarted, HasKeys}
 use Rattle.mm_hold.proofs.HeldKeys.{held_none, held_above, held_below, word_pointer, seed_there, seed_from, spelled_well_formed, key_there, key_from}
-use Rattle.mm_hold.proofs.Listing.{if_in, in_if, only_in}
+use Rattle.mm_hold.proofs.{Handed.{fresh, group_small, kernel_small}, Keyed.{has_means, has_noted}, Listing.{if_in, in_if}}
 use Rattle.mm_hold.specs.declared.deed.Deed.TheVariants as deed
 
 -- 1. What a conduct says of pointers that threads have or let out.
 
 -- threads of an origin with these numbers have or let out the pointer of these bits
-pub record HadBits (i : Image) (kept : List Segment) (o : ℕ × ℕ) (bits : ℕ) : Type 0 where
-  pub from : Origin
-  pub pointer : Pointer
-  pub numbers : origin_numbers from ≡ o
-  pub again : origin_from o ≡ from
-  pub bits_are : bits_of pointer ≡ bits
-  pub is : pointer_of bits ≡ pointer
-  pub spells : SpellsPointer bits
-  pub has_it : HasOrLets i kept from pointer
+record HadBits (i : Image) (kept : List Segment) (o : ℕ × ℕ) (bits : ℕ) : Type 0 where
+  from : Origin
+  pointer : Pointer
+  again : origin_from o ≡ from
+  is : pointer_of bits ≡ pointer
+  has_it : HasOrLets i kept from pointer
 
 module _ (i : Image) (kept : List Segment) (c : Conduct) (k : AreConduct i kept c) where
-  pub had_from : (o : ℕ × ℕ) (bits : ℕ) → Contains c.has.keys (o, bits) → HadBits i kept o bits
-  had_from o bits h = let d = (k.has.each (o, bits)).0 h in by d.deed d.means d.has (k.read d.deed d.means)
-    where
-      by : (d : Deed) → Means i kept d → Contains (has_in d) (o, bits) → IsRead d → HadBits i kept o bits
-      by (deed.Has from p) means h read =
-          let same : ◌≡◌ {A = (ℕ × ℕ) × ℕ} (origin_numbers from, bits_of p) (o, bits) = only_in {X = (ℕ × ℕ) × ℕ} (origin_numbers from, bits_of p) (o, bits) h in
-          let numbers : origin_numbers from ≡ o = ap (λ (v : (ℕ × ℕ) × ℕ). v.0) same in
-          let own : bits_of p ≡ bits = ap (λ (v : (ℕ × ℕ) × ℕ). v.1) same in
-          record {
-            from = from;
-            pointer = p;
-            numbers = numbers;
-            again = subst (λ (v : ℕ × ℕ). origin_from v ≡ from) numbers read.0;
-            bits_are = own;
-            is = ap pointer_of (sym own) ∙ read.1.again;
-            spells = subst SpellsPointer own read.1.spells;
-            has_it = means;
-          }
-      by (deed.Stored w from) means h read = absurd (none_in {X = (ℕ × ℕ) × ℕ} (o, bits) h)
-      by (deed.Loaded w from) means h read = absurd (none_in {X = (ℕ × ℕ) × ℕ} (o, bits) h)
-      by (deed.Sent n q) means h read = absurd (none_in {X = (ℕ × ℕ) × ℕ} (o, bits) h)
-      by (deed.Given n q) means h read = absurd (none_in {X = (ℕ × ℕ) × ℕ} (o, bits) h)
-      by (deed.Sends n) means h read = absurd (none_in {X = (ℕ × ℕ) × ℕ} (o, bits) h)
-      by (deed.Gives n) means h read = absurd (none_in {X = (ℕ × ℕ) × ℕ} (o, bits) h)
-      by (deed.Sees n) means h read = absurd (none_in {X = (ℕ × ℕ) × ℕ} (o, bits) h)
-      by (deed.GoesOn n) means h read = absurd (none_in {X = (ℕ × ℕ) × ℕ} (o, bits) h)
+  had_from : (o : ℕ × ℕ) (bits : ℕ) → Contains c.has.keys (o, bits) → HadBits i kept o bits
+  had_from o bits h =
+      let d = has_means i kept c k (o, bits) h in
+      let read = k.read (deed.Has d.origin d.pointer) d.means in
+      let numbers : origin_numbers d.origin ≡ o = ap (λ (v : (ℕ × ℕ) × ℕ). v.0) d.is in
+      let own : bits_of d.pointer ≡ bits = ap (λ (v : (ℕ × ℕ) × ℕ). v.1) d.is in
+      record {
+        from = d.origin;
+        pointer = d.pointer;
+        again = subst (λ (v : ℕ × ℕ). origin_from v ≡ d.origin) numbers read.0;
+        is = ap pointer_of (sym own) ∙ read.1.again;
+        has_it = d.means;
+      }
 
   module _ (from : Origin) (q : Pointer) (h : HasOrLets i kept from q) where
-    pub had_there : Contains c.has.keys (origin_numbers from, bits_of q)
-    had_there = (k.has.each (origin_numbers from, bits_of q)).1 (record { deed = deed.Has from q; means = h; has = in_first {X = (ℕ × ℕ) × ℕ} (origin_numbers from, bits_of q) [] })
-
-    pub had_spelled : IsSpelled q
+    had_spelled : IsSpelled q
     had_spelled = (k.read (deed.Has from q) h).1
 
-    pub had_well_formed : IsWellFormed q
+    had_well_formed : IsWellFormed q
     had_well_formed = subst IsWellFormed had_spelled.again (spelled_well_formed (bits_of q) had_spelled.spells)
 
-    pub had_key : bits_key kept (bits_of q) ≡ held_key kept q
+    had_key : bits_key kept (bits_of q) ≡ held_key kept q
     had_key = key_there kept (bits_of q) had_spelled.spells ∙ ap (held_key kept) had_spelled.again
 
 -- 2. Numbers of seeds.
@@ -86,26 +67,10 @@ module _ (i : Image) (kept : List Segment) (c : Conduct) (k : AreConduct i kept 
 slot_origin : (o : ℕ × ℕ) → o.0 ≡ 1 → origin_from o ≡ OfSlot o.1
 slot_origin o e = ap (λ v. if v == 0 then Door (pointer_of o.1) else OfSlot o.1) e
 
-any_has : {A : Type 0} (p : A → Bool) (xs : List A) → list_any p xs ≡ true → (x : A) × Contains xs x × (p x ≡ true)
-any_has p [] h = cc
-any_has {A = A} p (x ∷ xs) h = by (any_has p xs) (p x) refl h
-  where
-    by : (list_any p xs ≡ true → (y : A) × Contains xs y × (p y ≡ true)) → (b : Bool) → p x ≡ b → (b || list_any p xs) ≡ true
-        → (y : A) × Contains (x ∷ xs) y × (p y ≡ true)
-    by later true e f = (x, in_first x xs, e)
-    by later false e f = let r = later f in (r.0, in_rest x xs r.0 r.1, r.2)
-
 below_test : (n : ℕ) → n < 64 → nat_lt n 64 ≡ true
 below_test n lt = grind (arith, nat_tests)
 
 module _ (i : Image) (kept : List Segment) where
-  kernel_slot : (n : ℕ) → is_kernel i kept n ≡ true → (s : Slot) × Contains i.slots s × (s.number ≡ n)
-  unfolding is_kernel
-  kernel_slot n h =
-      let r = any_has (λ (s : Slot). (s.number == n) && is_kernel_slot kept s) i.slots h in
-      let parts = and_parts (r.0.number == n) (is_kernel_slot kept r.0) r.2 in
-      (r.0, r.1, eqb-true r.0.number n parts.0)
-
   number_from : (o : ℕ × ℕ) (n : ℕ) → n < 64 → seed_number i kept o ≡ n → (o.0 ≡ 1) × (is_kernel i kept o.1 ≡ true) × (o.1 ≡ n)
   number_from o n lt = by (((o.0 == 1) && nat_lt o.1 64) && is_kernel i kept o.1) refl
     where
@@ -122,20 +87,20 @@ module _ (i : Image) (kept : List Segment) where
 -- 3. Seeds of callers.
 
 -- the caller and the pointer of a seed
-pub record CallerSeed (i : Image) (kept : List Segment) (x : Seed) : Type 0 where
-  pub slot : Slot
-  pub inside : Contains i.slots slot
-  pub caller : is_caller kept slot ≡ true
-  pub group : x.group ≡ slot.group
-  pub pointer : Pointer
-  pub holds : (slot.ip ≡ pointer) ⊎ Contains slot.regs (Ptr pointer)
-  pub stands : held_key kept pointer ≡ Some x.key
+record CallerSeed (i : Image) (kept : List Segment) (x : Seed) : Type 0 where
+  slot : Slot
+  inside : Contains i.slots slot
+  caller : is_caller kept slot ≡ true
+  group : x.group ≡ slot.group
+  pointer : Pointer
+  holds : (slot.ip ≡ pointer) ⊎ Contains slot.regs (Ptr pointer)
+  stands : held_key kept pointer ≡ Some x.key
 
 module _ (i : Image) (kept : List Segment) where
   abbrev pub callers_in : List Seed
   callers_in = flat_map (caller_seeds kept) i.slots
 
-  pub caller_there : (s : Slot) (q : Pointer) (y : CanonicalPtr) → Contains i.slots s → is_caller kept s ≡ true → Contains (Ptr s.ip ∷ s.regs) (Ptr q)
+  caller_there : (s : Slot) (q : Pointer) (y : CanonicalPtr) → Contains i.slots s → is_caller kept s ≡ true → Contains (Ptr s.ip ∷ s.regs) (Ptr q)
       → held_key kept q ≡ Some y → Contains callers_in (record { group = s.group; key = y })
   caller_there s q y inside caller mem e =
       in_flat (caller_seeds kept) i.slots s _ inside
@@ -145,7 +110,7 @@ module _ (i : Image) (kept : List Segment) where
   same_pointer : (p q : Pointer) → ◌≡◌ {A = Word} (Ptr p) (Ptr q) → p ≡ q
   same_pointer p q e = cc
 
-  pub caller_from : (x : Seed) → Contains callers_in x → CallerSeed i kept x
+  caller_from : (x : Seed) → Contains callers_in x → CallerSeed i kept x
   caller_from x m =
       let f = flat_in (caller_seeds kept) i.slots x m in
       let s = f.source in
@@ -172,29 +137,8 @@ module _ (i : Image) (kept : List Segment) (img : IsImage i) (c : Conduct) (k : 
   abbrev pub hads_in : List Seed
   hads_in = flat_map (had_seeds i kept) c.has.keys
 
-  fresh : (x : Slot) → Contains i.slots x → IsFresh (slot_limit i.version) i.slots x
-  fresh x h = All-contains (IsFresh (slot_limit i.version) i.slots) i.slots x (All-from_recursion _ i.slots img.fresh) h
-
-  limit : slot_limit i.version ≤ 64
-  limit = at i.version img.version
-    where
-      at : (v : ℕ) → (v ≡ 1) ⊎ (v ≡ 2) → slot_limit v ≤ 64
-      at v (inl x) = subst (λ w. slot_limit w ≤ 64) (sym x) (omega arith)
-      at v (inr x) = subst (λ w. slot_limit w ≤ 64) (sym x) (omega arith)
-
-  group_small : (x : Slot) → Contains i.slots x → x.group < 64
-  group_small x h = let lt = (fresh x h).group in let le = limit in omega arith
-
-  pub kernel_small : (n : ℕ) → is_kernel i kept n ≡ true → n < 64
-  kernel_small n h =
-      let s = kernel_slot i kept n h in
-      let lt = (fresh s.0 s.1).number in
-      let le = limit in
-      let same = s.2 in
-      omega arith
-
   register_well_formed : (x : Slot) (q : Pointer) → Contains i.slots x → Contains x.regs (Ptr q) → IsWellFormed q
-  register_well_formed x q h r = All-contains IsWord x.regs (Ptr q) (All-from_recursion IsWord x.regs (fresh x h).words) r
+  register_well_formed x q h r = All-contains IsWord x.regs (Ptr q) (All-from_recursion IsWord x.regs (fresh i kept img x h).words) r
 
   had_seed : (o : ℕ × ℕ) (bits : ℕ) (y : CanonicalPtr) → Contains c.has.keys (o, bits) → bits_key kept bits ≡ Some y
       → Contains hads_in (record { group = seed_number i kept o; key = y })
@@ -208,13 +152,13 @@ module _ (i : Image) (kept : List Segment) (img : IsImage i) (c : Conduct) (k : 
     place_of : (x : CanonicalPtr) → Contains keys x → (a : ℕ) × (a < length keys) × (key_at keys a ≡ x)
     place_of x h = (h.0, h.1, get_or_default keys h.0 no_key x h.1 ∙ h.2)
 
-    pub sizes : HasSize m (length keys)
+    sizes : HasSize m (length keys)
     sizes = record { groups = of_groups.len; slots = of_slots.len }
 
-    pub has_keys : HasKeys i kept keys
+    has_keys : HasKeys i kept keys
     has_keys from q x h e =
         let o = origin_numbers from in
-        let seed = had_seed o (bits_of q) x (had_there i kept c k from q h) (had_key i kept c k from q h ∙ e) in
+        let seed = had_seed o (bits_of q) x (has_noted i kept c k from q h) (had_key i kept c k from q h ∙ e) in
         is.of_seeds (record { group = seed_number i kept o; key = x }) (Contains-append_right (callers_in i kept) hads_in _ seed)
 
     -- each mark is of what is granted
@@ -226,7 +170,7 @@ module _ (i : Image) (kept : List Segment) (img : IsImage i) (c : Conduct) (k : 
           | inr r ↦ in_register o.slot o.pointer o.inside o.caller r
         ] in
         let w : IsWellFormed o.pointer = elim o.holds [
-          | inl ip ↦ subst IsWellFormed ip (fresh o.slot o.inside).ip
+          | inl ip ↦ subst IsWellFormed ip (fresh i kept img o.slot o.inside).ip
           | inr r ↦ register_well_formed o.slot o.pointer o.inside r
         ] in
         below (Group g) o.pointer (node a) (subst (λ v. Granted i kept (Holds (Group v) o.pointer)) (sym o.group) got) (held_below kept o.pointer (key_at keys a) w o.stands)
@@ -251,7 +195,7 @@ module _ (i : Image) (kept : List Segment) (img : IsImage i) (c : Conduct) (k : 
         below (KernelSlot n) (pointer_of bits) (node a) (had_granted n (pointer_of bits) (subst (λ v. is_kernel i kept v ≡ true) number.2 number.1) has_it)
         (held_below kept (pointer_of bits) (key_at keys a) (spelled_well_formed bits stands.0) stands.1)
 
-    pub start_sound : IsSound i kept keys m
+    start_sound : IsSound i kept keys m
     start_sound (Group g) a lt h = group_sound g a h
     start_sound (KernelSlot n) a lt h = slot_sound n a h
 
@@ -273,13 +217,13 @@ module _ (i : Image) (kept : List Segment) (img : IsImage i) (c : Conduct) (k : 
           p.0,
           p.1,
           p.2,
-          of_groups.each p.0 s.group p.1 (group_small s inside) (subst (λ v. Contains (callers_in i kept) (record { group = s.group; key = v })) (sym p.2) seed),
+          of_groups.each p.0 s.group p.1 (group_small i kept img s inside) (subst (λ v. Contains (callers_in i kept) (record { group = s.group; key = v })) (sym p.2) seed),
         ))
 
     slot_covered : (n : ℕ) (q : Pointer) → is_kernel i kept n ≡ true → HasOrLets i kept (OfSlot n) q → Covered kept keys m (KernelSlot n) q
     slot_covered n q kernel h = covered (KernelSlot n) q (had_well_formed i kept c k (OfSlot n) q h) (λ y e.
-        let small = kernel_small n kernel in
-        let mem = had_there i kept c k (OfSlot n) q h in
+        let small = kernel_small i kept img n kernel in
+        let mem = has_noted i kept c k (OfSlot n) q h in
         let seed = had_seed (1, n) (bits_of q) y mem (had_key i kept c k (OfSlot n) q h ∙ e) in
         let own : Contains hads_in (record { group = n; key = y }) = subst (λ v. Contains hads_in (record { group = v; key = y })) (number_there i kept n small kernel) seed in
         let p = place_of y (is.of_seeds _ (Contains-append_right (callers_in i kept) hads_in _ own)) in (
@@ -289,10 +233,10 @@ module _ (i : Image) (kept : List Segment) (img : IsImage i) (c : Conduct) (k : 
           of_slots.each p.0 n p.1 small (subst (λ v. Contains hads_in (record { group = n; key = v })) (sym p.2) own),
         ))
 
-    pub started : AreStarted i kept keys m
+    started : AreStarted i kept keys m
     started = record {
       registers = λ s q inside caller r. caller_covered s q inside caller (in_rest (Ptr s.ip) s.regs (Ptr q) r) (register_well_formed s q inside r);
-      runs = λ s inside caller. caller_covered s s.ip inside caller (in_first (Ptr s.ip) s.regs) (fresh s inside).ip;
+      runs = λ s inside caller. caller_covered s s.ip inside caller (in_first (Ptr s.ip) s.regs) (fresh i kept img s inside).ip;
       has = slot_covered;
     }
 

@@ -1,28 +1,28 @@
 -- Marks that a round did not change are closed.
-use Rattle.std.proofs.Common.{◌≡◌, ◌⊎◌, ◌↔◌, inl, inr, ℕ, zero, suc, ◌+◌, ◌<◌, ◌≤◌, Bool, true, false, ◌||◌, List, [], ◌∷◌, length, slice_index}
-use Rattle.std.proofs.Common.{bit_and, Some, refl, sym, ap, ◌∙◌, subst, arith, eq-eqb}
+use Rattle.std.proofs.Common.{◌≡◌, inl, inr, ℕ, zero, suc, ◌+◌, ◌<◌, ◌≤◌, Bool, true, false, ◌||◌, List, [], ◌∷◌, length, slice_index}
+use Rattle.std.proofs.Common.{Some, refl, sym, ap, ◌∙◌, subst, arith, eq-eqb}
 use Rattle.std.proofs.lemmas.{Bool.{or_parts, cases_lt}, Nat.Bits.bit_at-lt}
 use Rattle.std.specs.{Prelude.{All, Contains}, Int.bit_at}
 use Rattle.mm_word.specs.declared.{perm.Perm.TheVariants.Eu, word.{Word.TheVariants.Ptr, Cell.Cell}}
-use Rattle.mm_word.specs.Pointer.{Pointer, IsBelow, enter_result, bits_of, pointer_of}
+use Rattle.mm_word.specs.Pointer.{Pointer, enter_result, bits_of}
 use Rattle.mm_word.specs.PointerBits.{bits_of-pointer_of}
 use Rattle.mm_model.specs.{Memory.cell_at, Slot.Slot, Image.Image, Spelling.IsImage, Reach.LoadsAt, Turn.is_handler}
-use Rattle.mm_flow.specs.{Edges.{Edges, entry_at, enters_at}, Flow.{Within, IsFlow}}
+use Rattle.mm_flow.specs.{Edges.{Edges, enters_at}, Flow.{Within}}
 use Rattle.mm_flow.proofs.Bits.{and_both, zero_bit}
 use Rattle.mm_graph.specs.{declared.canonical_ptr.CanonicalPtr.CanonicalPtr, Marked.node_pointer, Key.{IsKey, key_at, no_key}}
 use Rattle.mm_kernel.specs.Segments.{Segment, is_door, is_kept}
 use Rattle.mm_kernel.specs.declared.form.Form.{TheVariants.{Pointer as Exactly}}
-use Rattle.mm_kernel.specs.declared.thread.{Origin.{Origin, TheVariants.{Door, Slot as OfSlot}}, Thread.Thread}
+use Rattle.mm_kernel.specs.declared.thread.{Origin.{Origin, TheVariants.{Door}}}
 use Rattle.mm_kernel.specs.{Threads.is_kernel, Derived.{Keeps, Derived.stores as derived_stores}, Variants.IsShared}
 use Rattle.mm_kernel.proofs.Segs.{below_within, outside_within}
 use Rattle.mm_kernel.proofs.Values.{open_outside, moves_loads}
 use Rattle.mm_confine.specs.declared.party.Party.{Party, TheVariants.{Group, KernelSlot}}
-use Rattle.mm_confine.specs.Conduct.{GoesOn, PassesInside, SeesServed}
+use Rattle.mm_confine.specs.Conduct.{PassesInside}
 use Rattle.mm_confine.specs.Grants.{AreServed, Serves, IsOf, IsOf.with_group}
 use Rattle.mm_confine.proofs.Open.{granted_is_open}
-use Rattle.mm_hold.specs.declared.{sharing.Sharing.Sharing, marks.Marks.Marks, edges.Graph.Graph, conduct.Conduct.Conduct, rounds.Passes.Passes}
-use Rattle.mm_hold.specs.Conducts.{AreConduct, HasOrLets, IsHeld, IsCarrying, StoresInside, LoadsInside, Sends, Gives, SomeCarries, origin_numbers}
-use Rattle.mm_hold.specs.Parties.{Small, IsGroup, Shares, ServedParty, PassesAlways, PassesBySlot, PassesBySlot.{of_kernel, of_caller}}
+use Rattle.mm_hold.specs.declared.{marks.Marks.Marks, edges.Graph.Graph, conduct.Conduct.Conduct, rounds.Passes.Passes}
+use Rattle.mm_hold.specs.Conducts.{AreConduct, HasOrLets, IsHeld, IsCarrying, StoresInside, LoadsInside, Sends, Gives, origin_numbers}
+use Rattle.mm_hold.specs.Parties.{Small, Shares, ServedParty, PassesAlways, PassesBySlot.{of_kernel, of_caller}}
 use Rattle.mm_hold.specs.Parties.{PassesByCaller.{serves, is_served}, PassesByKernel, PassesByKernel.{freed, gives, sees}}
 use Rattle.mm_hold.specs.Marks.{Held, HasSize, room_of, MayPass, MeetAbove, Adds, Handed, SlotMeets, SharedAt}
 use Rattle.mm_hold.specs.Passing.{DoorAt, Runs, Runs.{itself, through}}
@@ -339,8 +339,8 @@ module _ (i : Image) (kept : List Segment) (c : Conduct) (g : Graph) (p : Passes
   pub round_falls : changed ≡ true → room_of new + 1 ≤ room_of old
   round_falls e =
       let f = fall r.changes.0 r.changes.1 r.changes.2 r.changes.3 (room_of r.spread) (room_of r.behind) (room_of r.sent) (room_of r.given) (room_of new)
-          r.first.grows.no_rise r.second.grows.no_rise r.third.grows.no_rise r.last.grows.no_rise
-          r.first.grows.falls r.second.grows.falls r.third.grows.falls r.last.grows.falls (sym r.is ∙ e) in
+      r.first.grows.no_rise r.second.grows.no_rise r.third.grows.no_rise r.last.grows.no_rise
+      r.first.grows.falls r.second.grows.falls r.third.grows.falls r.last.grows.falls (sym r.is ∙ e) in
       let s = spread_room in
       omega arith
 

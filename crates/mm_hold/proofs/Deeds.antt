@@ -1,6 +1,6 @@
 -- What is listed of threads is what they do, and all of it.
-use Rattle.std.proofs.Common.{◌≡◌, ◌⊎◌, inl, inr, ℕ, zero, suc, ◌<◌, Bool, true, false, not, ◌&&◌, ◌==◌, if◌then◌else◌, List, [], ◌∷◌, ◌++◌}
-use Rattle.std.proofs.Common.{length, Option, Some, None, refl, sym, ap, ◌∙◌, subst, arith, eq-eqb, eqb-true}
+use Rattle.std.proofs.Common.{◌≡◌, ◌⊎◌, inl, inr, ℕ, zero, suc, ◌<◌, Bool, true, false, not, if◌then◌else◌, List, [], ◌∷◌, ◌++◌}
+use Rattle.std.proofs.Common.{Option, Some, None, refl, sym, ap, ◌∙◌, subst, arith, eq-eqb, eqb-true}
 use Rattle.std.proofs.lemmas.{Bool.{and_parts, and_from, not-true, not_from_false}, List.get_or_default}
 use Rattle.std.proofs.lemmas.List.Elements.{Contains-append_left, Contains-append_right}
 use Rattle.std.specs.{Prelude.{Contains, slice_index_or, slice_set}, List.{AllByRecursion, flat_map, list_all}}
@@ -9,17 +9,17 @@ use Rattle.mm_isa.specs.declared.instr.How.{How}
 use Rattle.mm_model.specs.{Slot.Slot, Image.Image, Turn.is_running, Spelling.IsImage}
 use Rattle.mm_model.proofs.CoreRows.{each_contained}
 use Rattle.mm_kernel.specs.Segments.{Segment, is_door, is_fixed, is_open_pointer, lies_in, meets}
-use Rattle.mm_kernel.specs.declared.fact.{Leak.Leak, Handling.Handling}
+use Rattle.mm_kernel.specs.declared.fact.{Leak.Leak}
 use Rattle.mm_kernel.specs.declared.form.Form.{Form}
 use Rattle.mm_kernel.specs.declared.form.Form.TheVariants.{Number, Pointer as Exactly, Integer, Open, Any, Inside}
 use Rattle.mm_kernel.specs.declared.thread.Origin.{Origin, TheVariants.{Door, Slot as OfSlot}}
 use Rattle.mm_kernel.specs.declared.{outcome.Outcome.Outcome, thread.Thread.Thread}
-use Rattle.mm_kernel.specs.{Forms.{exactly, is_open_form, zero_form}, Turns.{outcomes, with_event}}
+use Rattle.mm_kernel.specs.{Forms.{is_open_form, zero_form}, Turns.{outcomes, with_event}}
 use Rattle.mm_kernel.specs.Threads.{form_in, with_form, own_thread, thread_through, handler_of, is_free}
 use Rattle.mm_kernel.specs.Facts.Fact.{HasThread, HasForm, HasDoor, HasEvent, HasFaulted}
 use Rattle.mm_kernel.specs.Derived.{Derived, HasFirst, first_form, resumed, Derived.{stores as derived_stores}}
 use Rattle.mm_kernel.proofs.Ups.{each_from, each_join, each_flat, up_cases, free_is}
-use Rattle.mm_span.proofs.Members.{none_in, in_first, in_flat, flat_in, in_filter, filter_in}
+use Rattle.mm_span.proofs.Members.{in_first, in_flat, flat_in, in_filter, filter_in}
 use Rattle.mm_keep.specs.Searching.{comes_from}
 use Rattle.mm_confine.specs.Taken.{TakenUp, TakenUp.{begins, enters, goes, loads, takes, resumes, reads_served}}
 use Rattle.mm_confine.specs.Conduct.{carries, HasExactly, HasExactly.{runs_by, in_register}, ComesTo, SeesServed}
@@ -32,7 +32,7 @@ use Rattle.mm_hold.specs.Deeds.{handed_out, used_in, used, stored_in, loaded_wit
 use Rattle.mm_hold.specs.Deeds.{Findings, done_by, thread_deeds, slot_deeds, entry_deeds, entered_by, begin_deeds}
 use Rattle.mm_hold.specs.Deeds.{all_deeds, carrying_in}
 use Rattle.mm_hold.specs.Conducts.{AreFindings, AreDeeds, Means, HasOrLets, HasOrLets.{has, lets}, IsCarrying, StoresInside}
-use Rattle.mm_hold.specs.Conducts.{LoadsInside, Sends, Gives, SomeCarries}
+use Rattle.mm_hold.specs.Conducts.{Sends, Gives}
 use Rattle.mm_hold.proofs.{Listing.{if_in, in_if, only_in}, Like.{outcome_like, SameForm}}
 use Rattle.mm_hold.proofs.Long.{Long, thread_long, form_held, taken_long}
 use Rattle.mm_hold.specs.declared.deed.Deed.TheVariants as deed

@@ -1,28 +1,27 @@
 -- Marks to which no rule adds cover all that is granted.
-use Rattle.std.proofs.Common.{◌≡◌, ◌⊎◌, inl, inr, ℕ, ◌<◌, Bool, true, false, ◌&&◌, List, length, Option, Some, refl, sym, ap, ◌∙◌, subst}
-use Rattle.std.proofs.lemmas.Bool.{and_parts}
-use Rattle.std.specs.Prelude.{Contains, option_map}
+use Rattle.std.proofs.Common.{◌≡◌, inl, inr, ℕ, ◌<◌, true, false, ◌&&◌, List, length, Option, Some, refl, sym, ap, ◌∙◌, subst}
+use Rattle.std.specs.Prelude.{option_map}
 use Rattle.mm_word.specs.declared.perm.Perm.{Perm, TheVariants.{Ro, Rw, Xu, Xp, Eu, Ep, Key}}
-use Rattle.mm_word.specs.declared.word.{Word.TheVariants.Ptr, Cell.Cell}
+use Rattle.mm_word.specs.declared.word.{Word.TheVariants.Ptr}
 use Rattle.mm_word.specs.{Perm.{can_move, can_become, execute_form}, Pointer.{Pointer, InSegment, IsBelow, enter_result}}
 use Rattle.mm_word.proofs.Below.{IsBelow-trans}
-use Rattle.mm_model.specs.{Memory.cell_at, Slot.Slot, Image.Image, Reach.{LoadsAt, StoresAt}, Spelling.IsImage}
+use Rattle.mm_model.specs.{Image.Image, Reach.{LoadsAt, StoresAt}, Spelling.IsImage}
 use Rattle.mm_graph.specs.{declared.canonical_ptr.CanonicalPtr.CanonicalPtr, Marked.node_pointer, Summary.IsPowerless}
 use Rattle.mm_graph.proofs.Segments.{powerless_loads, below-loads, below-stores, stores-loads, below-powerless, only_x}
-use Rattle.mm_kernel.specs.Segments.{Segment, is_door, is_enter, is_open, is_kept, meets, runs_privileged}
+use Rattle.mm_kernel.specs.Segments.{Segment, is_door, is_enter, meets, runs_privileged}
 use Rattle.mm_kernel.specs.{Variants.IsShared, Derived.Keeps}
-use Rattle.mm_kernel.specs.declared.{form.Form.{Form, TheVariants.{Pointer as Exactly}}, thread.{Origin.{Origin, TheVariants.Door}, Thread.Thread}}
+use Rattle.mm_kernel.specs.declared.{form.Form.{Form}, thread.{Origin.{TheVariants.Door}}}
 use Rattle.mm_kernel.proofs.Segs.{below_within, outside_within}
 use Rattle.mm_kernel.proofs.Values.{open_outside, open_is_user, moves_loads}
 use Rattle.mm_confine.specs.declared.party.Party.{Party, TheVariants.{Group, KernelSlot}}
 use Rattle.mm_confine.specs.Grants.{Granted, Line, Line.{Holds, Runs}, PassesOn, Serves}
 use Rattle.mm_confine.specs.Grants.Granted.{runs_itself, runs_through, in_register, runs_by, in_cell, below, passed}
 use Rattle.mm_confine.specs.Grants.Granted.{entered, served, has_exactly, lets_out, kept_for, seen, given, freed}
-use Rattle.mm_confine.specs.Conduct.{StoresOut, GivesServed, HandsOn, HandsOn.{exact, carried}}
+use Rattle.mm_confine.specs.Conduct.{HandsOn, HandsOn.{exact, carried}}
 use Rattle.mm_confine.proofs.Open.{granted_is_open}
 use Rattle.mm_hold.specs.declared.marks.Marks.{Marks}
-use Rattle.mm_hold.specs.{Marks.Held, Conducts.{HasOrLets.{has, lets}, Sends, Gives, SomeCarries}}
-use Rattle.mm_hold.specs.Exactly.{Above, Covered, Covered.{powerless, above}, Running, Running.{itself, through}, StoresFor}
+use Rattle.mm_hold.specs.{Marks.Held, Conducts.{HasOrLets.{has, lets}, Sends, Gives}}
+use Rattle.mm_hold.specs.Exactly.{Covered, Covered.{powerless, above}, Running, Running.{itself, through}, StoresFor}
 use Rattle.mm_hold.specs.Exactly.{PassesAll, PassesAll.{by_store, by_service, by_word, by_look, by_gift, by_leave}}
 use Rattle.mm_hold.specs.Exactly.{IsClosed, IsSound}
 

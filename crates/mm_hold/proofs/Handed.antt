@@ -1,5 +1,5 @@
 -- What threads hand on they have or let out; and parties that are granted anything are parties of the image.
-use Rattle.std.proofs.Common.{◌≡◌, ◌⊎◌, inl, inr, ℕ, ◌<◌, Bool, true, false, ◌&&◌, ◌||◌, ◌==◌, List, [], ◌∷◌, Option, Some, refl, sym, ap, ◌∙◌, subst}
+use Rattle.std.proofs.Common.{◌≡◌, ◌⊎◌, inl, inr, ℕ, ◌<◌, Bool, true, false, ◌&&◌, ◌||◌, ◌==◌, List, [], ◌∷◌, refl, sym, subst}
 use Rattle.std.proofs.Common.{arith, eqb-true}
 use Rattle.std.proofs.lemmas.Bool.{and_parts}
 use Rattle.std.specs.{Prelude.Contains, List.list_any}
@@ -8,10 +8,10 @@ use Rattle.mm_model.specs.{Slot.Slot, Image.{Image, slot_limit}, Spelling.{IsIma
 use Rattle.mm_model.proofs.CoreRows.{each_contained}
 use Rattle.mm_kernel.specs.Segments.{Segment, is_door, is_open_pointer}
 use Rattle.mm_kernel.specs.declared.fact.Leak.{Leak}
-use Rattle.mm_kernel.specs.declared.form.Form.{Form, TheVariants.{Pointer as Exactly}}
+use Rattle.mm_kernel.specs.declared.form.Form.{TheVariants.{Pointer as Exactly}}
 use Rattle.mm_kernel.specs.declared.thread.Origin.{Origin, TheVariants.{Slot as OfSlot}}
 use Rattle.mm_kernel.specs.declared.{outcome.Outcome.Outcome, thread.Thread.Thread}
-use Rattle.mm_kernel.specs.{Forms.is_open_form, Threads.{form_in, is_kernel, is_kernel_slot}, Turns.outcomes, Derived.{Derived, Keeps, Derived.turns}}
+use Rattle.mm_kernel.specs.{Forms.is_open_form, Threads.{form_in, is_kernel, is_kernel_slot}, Derived.{Derived, Keeps, Derived.turns}}
 use Rattle.mm_kernel.specs.Facts.{hand_out}
 use Rattle.mm_kernel.proofs.{Ups.{each_from, handed_out}, Values.Public}
 use Rattle.mm_span.proofs.Members.{in_first, in_rest}
@@ -150,7 +150,7 @@ module _ (i : Image) (kept : List Segment) (img : IsImage i) where
         let c = s.writes in
         let like = outcome_like i kept c.thread (outcome.WritesServed s.reg (Exactly q)) c.comes in
         let handed : ComesTo i kept (OfSlot n) (outcome.HandsOut (Exactly q) like.1.by) =
-            record { thread = c.thread; derived = c.derived; origin = c.origin; comes = like.1.inside } in
+        record { thread = c.thread; derived = c.derived; origin = c.origin; comes = like.1.inside } in
         handed_has (OfSlot n) q like.1.by handed like.0
 
   pub comes_kernel : (n : ℕ) (o : Outcome) → ComesTo i kept (OfSlot n) o → is_kernel i kept n ≡ true

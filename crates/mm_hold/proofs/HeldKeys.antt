@@ -40,9 +40,6 @@ module _ (kept : List Segment) (q : Pointer) where
       by true e = inl (sym (ap pointer_at (same_key e)) ∙ pointer_at-key_of q w)
       by false e = stands_below q k w (stands_from q k e)
 
-  pub held_standing : is_door kept q ≡ false → held_key kept q ≡ standing_key q
-  held_standing e = ap (λ b. if b then Some (key_of q) else standing_key q) e
-
 -- the pointer of a word that has a key
 pub word_pointer : (kept : List Segment) (o : Word) (k : CanonicalPtr) → held_word kept o ≡ Some k → (q : Pointer) × (o ≡ Ptr q) × (held_key kept q ≡ Some k)
 word_pointer kept (Int v) k h = cc
@@ -101,10 +98,3 @@ module _ (kept : List Segment) (bits : ℕ) where
       by : (b : Bool) → spells_pointer bits ≡ b → (if b then held_key kept (pointer_of bits) else None) ≡ Some k → SpellsPointer bits × (held_key kept (pointer_of bits) ≡ Some k)
       by true t e = (spells bits t, e)
       by false t e = cc
-
-  pub key_none : (SpellsPointer bits → ⊥) → bits_key kept bits ≡ None
-  key_none none = by (spells_pointer bits) refl
-    where
-      by : (b : Bool) → spells_pointer bits ≡ b → (if b then held_key kept (pointer_of bits) else None) ≡ None
-      by true t = absurd (none (spells bits t))
-      by false t = refl

@@ -1,5 +1,5 @@
 -- What the numbers that a conduct has noted mean.
-use Rattle.std.proofs.Common.{◌≡◌, ◌↔◌, ℕ, ◌<◌, List, [], ◌∷◌, sym, subst}
+use Rattle.std.proofs.Common.{◌≡◌, ℕ, ◌<◌, List, [], subst}
 use Rattle.std.specs.{Prelude.Contains, Int.bit_at}
 use Rattle.mm_word.specs.Pointer.{Pointer, bits_of}
 use Rattle.mm_model.specs.Image.{Image}
@@ -9,7 +9,7 @@ use Rattle.mm_kernel.specs.declared.thread.{Origin.{Origin, TheVariants.{Slot as
 use Rattle.mm_confine.specs.Conduct.{GoesOn, SeesServed}
 use Rattle.mm_span.proofs.Members.{none_in, in_first}
 use Rattle.mm_hold.specs.declared.{deed.Deed.Deed, conduct.Conduct.Conduct}
-use Rattle.mm_hold.specs.Conducts.{AreConduct, HasOrLets, IsRead, LoadsInside, Means, Sends, Gives, SomeCarries, SomeDeed, StoresInside}
+use Rattle.mm_hold.specs.Conducts.{AreConduct, HasOrLets, LoadsInside, Means, Sends, Gives, SomeCarries, StoresInside}
 use Rattle.mm_hold.specs.Conducts.{origin_numbers, has_in, stored_by, loaded_by, sent_in, given_in, sends_in, gives_in, sees_in, goes_in}
 use Rattle.mm_hold.proofs.Listing.{only_in}
 use Rattle.mm_hold.specs.declared.deed.Deed.TheVariants as deed

@@ -1,35 +1,31 @@
 -- What each outcome of a turn keeps of its thread: how many registers it has, its origin, and the form that it hands out.
-use Rattle.std.proofs.Common.{◌≡◌, ℕ, ◌+◌, Bool, true, false, ◌==◌, if◌then◌else◌, ℤ, pos, ◌+ℤ◌, ◌*ℤ◌, List, [], ◌∷◌, ◌++◌, map}
-use Rattle.std.proofs.Common.{length, is_some, Option, Some, None, Result, Ok, Err, refl, sym, ap, ◌∙◌, subst, arith}
-use Rattle.std.proofs.lemmas.List.{length-set, length-map, length-replicate}
+use Rattle.std.proofs.Common.{◌≡◌, ℕ, ◌+◌, Bool, true, false, ◌==◌, if◌then◌else◌, ℤ, pos, List, [], ◌∷◌, ◌++◌, map}
+use Rattle.std.proofs.Common.{length, is_some, Option, Some, None, Result, Ok, Err, refl, ◌∙◌, arith}
+use Rattle.std.proofs.lemmas.List.{length-set}
 use Rattle.std.specs.{Prelude.Contains, Int.{w64, cast_unsigned, cast_signed}}
-use Rattle.std.specs.List.{AllByRecursion, flat_map, range_with_len}
+use Rattle.std.specs.List.{AllByRecursion}
 use Rattle.mm_word.specs.declared.perm.Perm.{Perm, TheVariants.{Ro, Rw, Xu, Eu, Key}}
 use Rattle.mm_word.specs.declared.{perm.Kind.{Kind, TheVariants.{Fetch, Store}}, cause.Cause.Cause}
-use Rattle.mm_word.specs.declared.word.{Pre.Pre, Word.{Word, TheVariants.{Int, Ptr}}, Cell.Cell}
+use Rattle.mm_word.specs.declared.word.{Pre.Pre, Word.{TheVariants.{Ptr}}, Cell.Cell}
 use Rattle.mm_word.specs.Access.{AccessValue, check_result}
 use Rattle.mm_word.specs.Perm.{can_move, allows, execute_form}
 use Rattle.mm_word.specs.Pointer.{Pointer, next_result, enter_result, lea_result, leab_result, subseg_result}
-use Rattle.mm_isa.specs.declared.instr.{AluOp.TheVariants.Add, How.{How, TheVariants.{Retry, Skip, Kill}}}
+use Rattle.mm_isa.specs.declared.instr.{AluOp.TheVariants.Add}
 use Rattle.mm_isa.specs.declared.instr.Instr.{Instr}
 use Rattle.mm_isa.specs.declared.instr.Instr.TheVariants.{Halt, Nop, Ldi, Ldhi, Mov, Isptr, Eqw, Out, SelfSlot, Alu}
 use Rattle.mm_isa.specs.declared.instr.Instr.TheVariants.{Addi, Lea, Leai, Leab, Restrict, Subseg, Setptr, Ld, St, Br}
 use Rattle.mm_isa.specs.declared.instr.Instr.TheVariants.{Bz, Bnz, Jmp, Jal, Lip, Trap, Evt, Resume, Rreg, Wreg, Map}
 use Rattle.mm_isa.specs.{declared.instr.Instr.TheVariants.Unmap, Alu.divides}
-use Rattle.mm_model.specs.{Memory.cell_at, Slot.Slot, Image.{Image, slot_limit}, Ask.load_kind, Turn.instr_in}
-use Rattle.mm_model.{specs.Spelling.{IsImage, IsFresh}, proofs.CoreRows.{each_contained, into_map}}
-use Rattle.mm_kernel.specs.Segments.{Segment, is_kept, is_fixed, meets, running_slots, lies_in}
+use Rattle.mm_model.specs.{Memory.cell_at, Image.{Image}, Ask.load_kind, Turn.instr_in}
+use Rattle.mm_model.{proofs.CoreRows.{each_contained, into_map}}
+use Rattle.mm_kernel.specs.Segments.{Segment, is_kept, is_fixed}
 use Rattle.mm_kernel.specs.declared.fact.{Leak.{Leak, TheVariants.{Loose, FaultPointer, Fault, Jump, Cell as InCell}}}
 use Rattle.mm_kernel.specs.declared.form.Form.{Form}
 use Rattle.mm_kernel.specs.declared.form.Form.TheVariants.{Number, Pointer as Exactly, Integer, Open, Any, Inside}
-use Rattle.mm_kernel.specs.declared.thread.Handler.{Handler, TheVariants.{Nobody, Kernel, Caller}}
-use Rattle.mm_kernel.specs.declared.thread.Origin.{Origin, TheVariants.{Door, Slot as OfSlot}}
 use Rattle.mm_kernel.specs.declared.{outcome.Outcome.Outcome, thread.Thread.Thread}
-use Rattle.mm_kernel.specs.Forms.{exactly, exact_bits, stored_form, around, is_open_form}
-use Rattle.mm_kernel.specs.Threads.{form_in, with_form, stepped, going_to, own_thread, thread_through, handler_of}
-use Rattle.mm_kernel.specs.Threads.{is_free, is_kernel, serves_some}
-use Rattle.mm_kernel.specs.Operations.{alu_form, equal_form, high_form, choices, with_permission, permission_of}
-use Rattle.mm_kernel.specs.Operations.{may_be_zero, is_zero}
+use Rattle.mm_kernel.specs.Forms.{exactly, exact_bits, stored_form, around}
+use Rattle.mm_kernel.specs.Threads.{form_in, with_form, stepped}
+use Rattle.mm_kernel.specs.Operations.{alu_form, equal_form, high_form, choices, with_permission}
 use Rattle.mm_kernel.specs.Turns.{outcomes, outcomes_of, decoded, fetched, aimed, fault, early_fault, sets, moves, moved}
 use Rattle.mm_kernel.specs.Turns.{moved_somewhere, restricts, restricted, may_refuse, loads, loaded_by, loaded_at}
 use Rattle.mm_kernel.specs.Turns.{word_loaded, waits, stores, stored_by, stored_at, word_stored, stores_outside}

@@ -1,5 +1,5 @@
 -- Lists that grow by what each element of another list gives.
-use Rattle.std.proofs.Common.{◌≡◌, ◌⊎◌, inl, inr, ℕ, ◌+◌, ◌<◌, ◌≤◌, List, [], ◌∷◌, ◌++◌, length, take, get_or, Some, refl, sym, ap, ◌∙◌, arith}
+use Rattle.std.proofs.Common.{◌≡◌, inl, inr, ℕ, ◌+◌, ◌<◌, ◌≤◌, List, [], ◌∷◌, ◌++◌, length, take, get_or, Some, refl, sym, ap, ◌∙◌}
 use Rattle.std.proofs.Common.{slice_get, Bool, true, false, if◌then◌else◌}
 use Rattle.std.proofs.lemmas.{List.{flat_map_more, take_all, take_more}, Option.{slice_get_within, get_or_from_slice_get}}
 use Rattle.std.specs.{Prelude.Contains, List.flat_map}

@@ -3,7 +3,7 @@ use Rattle.std.proofs.Common.{◌≡◌, ℕ, Bool, true, false, not, ◌&&◌, 
 use Rattle.std.proofs.Common.{refl, sym, ap, ◌∙◌, subst, eq-eqb}
 use Rattle.std.proofs.lemmas.Bool.{and_from, not_from_false}
 use Rattle.std.proofs.lemmas.List.{length-map, length-replicate}
-use Rattle.std.specs.{Prelude.Contains, List.{AllByRecursion, filter, flat_map, list_all, list_any, range_with_len}}
+use Rattle.std.specs.{Prelude.Contains, List.{AllByRecursion, flat_map, list_all, range_with_len}}
 use Rattle.mm_word.specs.Pointer.{Pointer}
 use Rattle.mm_word.specs.declared.word.{Word.{Word, TheVariants.{Int, Ptr}}, Cell.Cell}
 use Rattle.mm_isa.specs.declared.instr.How.{How, TheVariants.{Retry, Skip, Kill}}
@@ -20,7 +20,7 @@ use Rattle.mm_kernel.specs.{Forms.{exactly, is_open_form}, Turns.{outcomes, with
 use Rattle.mm_kernel.specs.Threads.{form_in, with_form, own_thread, thread_through, handler_of, is_free, is_kernel, is_kernel_slot}
 use Rattle.mm_kernel.specs.Threads.{has_open_words, serves_some}
 use Rattle.mm_kernel.specs.Facts.{Fact, let_out, hand_out, loose, take_up}
-use Rattle.mm_kernel.specs.Facts.Fact.{HasThread, HasForm, HasDoor, HasEvent, HasFaulted, HasLeak}
+use Rattle.mm_kernel.specs.Facts.Fact.{HasThread, HasForm, HasDoor, HasFaulted, HasLeak}
 use Rattle.mm_kernel.specs.Derived.{Derived, cell_facts, first_form, outcome_facts, fault_facts, shown, register_shown}
 use Rattle.mm_kernel.specs.Derived.{register_left, on_after, resumed}
 use Rattle.mm_kernel.specs.Derived.Derived.{begins_in_cell, begins_in_slot, reaches, enters, turns, loads, stores, takes}

@@ -1,13 +1,13 @@
 -- What is given to nodes.
 use Rattle.std.proofs.Common.{◌≡◌, ◌⊎◌, ◌↔◌, inl, inr, ℕ, ◌+◌, ◌^◌, ◌<◌, ◌≤◌, Bool, true, false, ◌||◌, List, length, slice_index, slice_set, bit_or}
-use Rattle.std.proofs.Common.{refl, sym, ap, ◌∙◌, subst, arith}
+use Rattle.std.proofs.Common.{refl, sym, ap, ◌∙◌, arith}
 use Rattle.std.proofs.lemmas.{Nat.le_or_l, Bool.or_parts}
 use Rattle.std.specs.Int.{bit_at}
 use Rattle.mm_flow.specs.{Flow.{Has, room}, declared.node.{Node.Node, Right.Right}, Edges.right_at, Sharing.{AreMarksAbove}}
 use Rattle.mm_flow.proofs.{Bits.{or_left, or_right, or_cases}, Masks.{set_cases, length_set, room_set, Set.{here, there}}}
 use Rattle.mm_confine.specs.declared.party.Party.{Party, TheVariants.{Group, KernelSlot}}
 use Rattle.mm_hold.specs.declared.{parties.Parties.Parties, marks.Marks.Marks}
-use Rattle.mm_hold.specs.{Parties.In, Marks.{parties_at, Held, HasSize, room_of, AddsMask, Grows, Gives, HeldAbove, AreAbove}}
+use Rattle.mm_hold.specs.{Parties.In, Marks.{Held, room_of, AddsMask, Gives, HeldAbove, AreAbove}}
 
 module _ (node mask : ℕ) (old : List ℕ) (lt : node < length old) where
   pub mask_same : bit_or (slice_index old node) mask ≡ slice_index old node → AddsMask node mask old old false

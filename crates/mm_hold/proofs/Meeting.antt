@@ -5,11 +5,11 @@ use Rattle.std.proofs.lemmas.Bool.{or_parts}
 use Rattle.std.specs.{Prelude.Contains, List.AllByRecursion, Int.bit_at}
 use Rattle.mm_model.proofs.CoreRows.{each_get}
 use Rattle.mm_flow.proofs.{Bits.zero_bit, Masks.below_cases}
-use Rattle.mm_flow.specs.{Flow.Has, declared.node.{Node.Node, Right.{Right, TheVariants.{Load, Store}}}}
+use Rattle.mm_flow.specs.{declared.node.{Node.Node, Right.{TheVariants.{Load, Store}}}}
 use Rattle.mm_confine.specs.declared.party.Party.{Party, TheVariants.{Group, KernelSlot}}
 use Rattle.mm_hold.specs.declared.{parties.Parties.Parties, sharing.Sharing.Sharing, marks.Marks.Marks}
 use Rattle.mm_hold.specs.Parties.{In, Is, Small, Shares, SharedBy, Across, Adds as AddsShared}
-use Rattle.mm_hold.specs.Marks.{parties_at, Held, HasSize, room_of, Grows, Gives, Adds, HeldAbove, AreAbove, MeetAt, MeetAbove}
+use Rattle.mm_hold.specs.Marks.{parties_at, Held, room_of, Grows, Gives, Adds, AreAbove, MeetAt, MeetAbove}
 use Rattle.mm_hold.specs.Marks.{MayPass, Below, IsNumber, PassesByStore, PassesInRow, PassesBelow, Behind, GivesBehind}
 use Rattle.mm_hold.specs.Marks.{Behind.{held, behind as by_door}, Handed, SharedAt}
 use Rattle.mm_hold.proofs.{PartySets.{group_is, slot_among, adds_then, adds_as}, Sets.{got_old, got_new, got_cases}}

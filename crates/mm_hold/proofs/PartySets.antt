@@ -1,8 +1,8 @@
 -- Sets of parties, and what is added to who passes on.
-use Rattle.std.proofs.Common.{◌≡◌, ◌⊎◌, ◌↔◌, inl, inr, ℕ, zero, suc, ◌+◌, ◌*◌, ◌%◌, ◌^◌, ◌<◌, ◌≤◌, Bool, true, false, List, [], ◌∷◌, ◌++◌}
+use Rattle.std.proofs.Common.{◌≡◌, ◌⊎◌, ◌↔◌, inl, inr, ℕ, zero, suc, ◌*◌, ◌%◌, ◌^◌, ◌<◌, ◌≤◌, Bool, true, false, List, [], ◌∷◌, ◌++◌}
 use Rattle.std.proofs.Common.{replicate, length, slice_index, bit_and, bit_or, refl, sym, ap, ◌∙◌, subst, arith}
 use Rattle.std.proofs.lemmas.{Nat.Bits.{bit_at-pow_same, bit_at-pow_other, bit_at_above}, Bool.{cases_eq, cases_lt}}
-use Rattle.std.specs.{Prelude.Contains, Int.bit_at}
+use Rattle.std.specs.{Int.bit_at}
 use Rattle.mm_model.specs.{Slot.Slot, Image.Image, Turn.is_handler}
 use Rattle.mm_flow.specs.{Flow.Has, Sharing.{AddsEdges, SharedBy as FlowShared}}
 use Rattle.mm_flow.proofs.Bits.{or_left, or_right, or_cases, and_both, both_bits, zero_bit}

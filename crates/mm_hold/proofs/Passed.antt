@@ -1,27 +1,27 @@
 -- What passes is what the kernel's threads pass, and it is of nodes.
-use Rattle.std.proofs.Common.{◌≡◌, ◌↔◌, ℕ, ◌+◌, ◌*◌, ◌/◌, ◌%◌, ◌^◌, ◌<◌, ◌≤◌, Bool, true, false, inl, inr, List, length, get_or, Option, Some, None}
+use Rattle.std.proofs.Common.{◌≡◌, ◌↔◌, ℕ, ◌^◌, ◌<◌, inl, inr, List, length, Option, Some, None}
 use Rattle.std.proofs.Common.{refl, sym, ap, ◌∙◌, subst, arith}
 use Rattle.std.proofs.lemmas.List.{get_or_default, Elements.{All-from_recursion, All-contains}}
-use Rattle.std.specs.{Prelude.{All, Contains}, List.AllByRecursion, Ordering.nat_cmp}
+use Rattle.std.specs.{Prelude.{Contains}, List.AllByRecursion}
 use Rattle.mm_word.specs.declared.word.Cell.{Cell}
-use Rattle.mm_word.specs.Pointer.{Pointer, IsBelow, IsWellFormed, SpellsPointer, bits_of, pointer_of}
+use Rattle.mm_word.specs.Pointer.{Pointer, IsBelow, IsWellFormed, bits_of, pointer_of}
 use Rattle.mm_word.specs.PointerBits.{bits_of-pointer_of}
 use Rattle.mm_model.specs.{Memory.{Memory, cell_at, cell_in, page_at, page_of, place_of, IsPage, IsPaged}, Image.Image, Spelling.IsImage}
 use Rattle.mm_model.proofs.Memories.{cell_at-aligned, cell_at-unaligned, word_or_none}
 use Rattle.mm_flow.specs.Flow.{Fits}
-use Rattle.mm_graph.specs.{declared.canonical_ptr.CanonicalPtr.CanonicalPtr, Marked.node_pointer, Key.{IsKey, key_at, no_key, pointer_at}}
+use Rattle.mm_graph.specs.{declared.canonical_ptr.CanonicalPtr.CanonicalPtr, Marked.node_pointer, Key.{key_at, no_key}}
 use Rattle.mm_graph.proofs.Cells.{found_page}
-use Rattle.mm_kernel.specs.Segments.{Segment, is_door}
+use Rattle.mm_kernel.specs.Segments.{Segment}
 use Rattle.mm_kernel.specs.declared.form.Form.{TheVariants.{Pointer as Exactly}}
-use Rattle.mm_kernel.specs.declared.thread.Origin.{Origin, TheVariants.{Door, Slot as OfSlot}}
+use Rattle.mm_kernel.specs.declared.thread.Origin.{TheVariants.{Door, Slot as OfSlot}}
 use Rattle.mm_kernel.specs.Derived.{Keeps}
 use Rattle.mm_confine.specs.declared.party.Party.{Party}
 use Rattle.mm_span.proofs.Members.{all_of}
 use Rattle.mm_hold.specs.declared.{edges.Graph.Graph, conduct.Conduct.Conduct, rounds.Passes.Passes}
 use Rattle.mm_hold.specs.Conducts.{AreAll, AreConduct, HasOrLets, IsSpelled, Sends, Gives, origin_numbers, origin_from}
 use Rattle.mm_hold.specs.{Finding.held_key, Passing.DoorAt, Parties.{Shares, PassesAlways}, Rounds.AreOf}
-use Rattle.mm_hold.specs.Graphs.{BitsAt, HandedAt, StandsBehind, BehindAt, IsShaped}
-use Rattle.mm_hold.specs.Standing.{Placed, Placed.{powerless, at}, BelowSome, HasKeys, IsBehind, AreHanded, AreBehind, ArePasses, edges_in}
+use Rattle.mm_hold.specs.Graphs.{BitsAt, HandedAt, BehindAt, IsShaped}
+use Rattle.mm_hold.specs.Standing.{Placed, Placed.{powerless, at}, HasKeys, AreHanded, AreBehind, ArePasses, edges_in}
 use Rattle.mm_hold.proofs.{HeldKeys.{held_none, held_above, held_below, spelled_well_formed}, Handed.{sends_has, gives_has}}
 use Rattle.mm_hold.proofs.Keyed.{IsHand, has_means, has_noted, stored_means, sent_means, sent_noted, given_means, given_noted}
 use Rattle.mm_hold.specs.declared.deed.Deed.TheVariants as deed

@@ -1,11 +1,10 @@
 -- Who runs the threads that use kept words.
-use Rattle.std.proofs.Common.{◌≡◌, ◌⊎◌, ◌↔◌, inl, inr, ℕ, ◌+◌, ◌-◌, ◌<◌, ◌≤◌, ◌&&◌, Bool, true, false, not, List, [], ◌∷◌, ◌++◌, length, slice_index}
+use Rattle.std.proofs.Common.{◌≡◌, ◌⊎◌, ◌↔◌, inl, inr, ℕ, ◌+◌, ◌<◌, ◌&&◌, Bool, true, false, not, List, [], ◌∷◌, length, slice_index}
 use Rattle.std.proofs.Common.{Option, Some, None, refl, sym, ap, ◌∙◌, subst, arith}
 use Rattle.std.proofs.lemmas.{List.get_or_default, Bool.Decides.nat_tests}
-use Rattle.std.specs.{Prelude.{All, Contains, MatchOption, SomeIff}, List.{AllByRecursion, filter}, Int.bit_at}
+use Rattle.std.specs.{Prelude.{All, Contains, MatchOption}, List.{filter}, Int.bit_at}
 use Rattle.std.specs.declared.ops.Bound.TheVariants.{Included, Excluded}
 use Rattle.std.specs.{Ordering.{nat_cmp, ordering_then, is_le}, BTreeMap.Range.range_contains}
-use Rattle.mm_word.specs.declared.word.Word.{Word}
 use Rattle.mm_word.specs.Pointer.{Pointer, bits_of, base_of, pointer_of, SpellsPointer}
 use Rattle.mm_model.specs.Image.{Image}
 use Rattle.mm_flow.{specs.Flow.Has, proofs.Bits.zero_bit}
@@ -17,7 +16,6 @@ use Rattle.mm_confine.specs.declared.party.Party.{Party, TheVariants.{Group, Ker
 use Rattle.mm_hold.specs.declared.{parties.Parties.Parties, sharing.Sharing.Sharing, marks.Marks.Marks}
 use Rattle.mm_hold.specs.Parties.{In, Is, Across, Adds, Shares}
 use Rattle.mm_hold.specs.Passing.{DoorAt, IsDoorNode, Runs, Runs.{itself, through}, RunsAtWord, PassesAtWord}
-use Rattle.mm_hold.proofs.PartySets.{adds_then, adds_as}
 use Rattle.mm_span.proofs.Members.{none_in, in_first, in_rest, in_cases, in_filter, filter_in}
 
 -- 1. Doors.

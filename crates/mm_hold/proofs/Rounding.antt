@@ -1,8 +1,8 @@
 -- A round keeps marks sound.
-use Rattle.std.proofs.Common.{◌≡◌, ◌⊎◌, ◌↔◌, inl, inr, ℕ, ◌<◌, ◌≤◌, Bool, true, false, List, length, slice_index, Some, refl, sym, ap, ◌∙◌, subst, arith}
-use Rattle.std.specs.{Prelude.Contains, Int.bit_at}
-use Rattle.mm_word.specs.Pointer.{Pointer, IsBelow, bits_of, pointer_of}
-use Rattle.mm_model.specs.{Slot.Slot, Image.Image, Spelling.IsImage, Reach.{LoadsAt, StoresAt}}
+use Rattle.std.proofs.Common.{◌≡◌, ◌↔◌, inl, inr, ℕ, ◌<◌, ◌≤◌, Bool, true, false, List, length, slice_index, refl, sym, ap, ◌∙◌, subst, arith}
+use Rattle.std.specs.{Prelude.Contains}
+use Rattle.mm_word.specs.Pointer.{Pointer, bits_of, pointer_of}
+use Rattle.mm_model.specs.{Slot.Slot, Image.Image, Spelling.IsImage}
 use Rattle.mm_model.proofs.CoreSteps.{handler_is}
 use Rattle.mm_flow.specs.{Edges.{Edges, entry_at}, Flow.{Has, Flows, Flows.{from as begins, along, through as by_entry}}, Sharing.{Up, Up.{here, over}}}
 use Rattle.mm_graph.specs.{declared.canonical_ptr.CanonicalPtr.CanonicalPtr, Marked.node_pointer}
@@ -12,15 +12,15 @@ use Rattle.mm_kernel.specs.declared.thread.Origin.{Origin, TheVariants.{Door, Sl
 use Rattle.mm_kernel.specs.{Threads.is_kernel, Derived.Keeps}
 use Rattle.mm_confine.specs.declared.party.Party.{Party, TheVariants.{Group, KernelSlot}}
 use Rattle.mm_confine.specs.Conduct.{HandsOn.{exact, carried}, PassesInside}
-use Rattle.mm_confine.specs.Grants.{Granted, Line.{Holds, Runs}, PassesOn, Serves, AreServed}
+use Rattle.mm_confine.specs.Grants.{Granted, Line.{Holds, Runs}, PassesOn, Serves}
 use Rattle.mm_confine.specs.Grants.Granted.{runs_itself, runs_through, in_cell, below, passed, entered, served, has_exactly, lets_out, kept_for}
 use Rattle.mm_confine.specs.Grants.Granted.{seen, given, freed}
 use Rattle.mm_hold.specs.declared.{sharing.Sharing.Sharing, marks.Marks.Marks, edges.Graph.Graph, conduct.Conduct.Conduct, rounds.Passes.Passes}
 use Rattle.mm_hold.specs.Conducts.{AreConduct, HasOrLets, HasOrLets.{has, lets}, origin_numbers, origin_from}
-use Rattle.mm_hold.specs.Parties.{IsGroup, Shares, ServedParty, PassesAlways, PassesBySlot, PassesBySlot.{of_kernel, of_caller}, PassesByCaller}
+use Rattle.mm_hold.specs.Parties.{Shares, ServedParty, PassesAlways, PassesBySlot, PassesBySlot.{of_kernel, of_caller}, PassesByCaller}
 use Rattle.mm_hold.specs.Parties.{PassesByCaller.{serves, is_served}, PassesByKernel, PassesByKernel.{freed as by_freed, gives, sees}}
-use Rattle.mm_hold.specs.Marks.{Held, HasSize, Spreads, MayPass, MeetAbove, PassesByStore, Behind, Behind.{held, behind}, GivesBehind, Adds}
-use Rattle.mm_hold.specs.Marks.{Handed, SlotMeets, SharedAt}
+use Rattle.mm_hold.specs.Marks.{HasSize, Spreads, MayPass, MeetAbove, PassesByStore, Behind, Behind.{held, behind}, GivesBehind, Adds}
+use Rattle.mm_hold.specs.Marks.{Handed, SlotMeets}
 use Rattle.mm_hold.specs.Passing.{Runs as RunsBy, Runs.{itself, through}, PassesAtWord}
 use Rattle.mm_hold.specs.{Rounds.{Round, SharesNow}, Exactly.{IsSound, StoresFor}, Standing.{edges_in, IsGraphOf, ArePasses}}
 use Rattle.mm_hold.proofs.Handed.{comes_kernel, sends_has, gives_has}

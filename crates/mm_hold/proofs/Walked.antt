@@ -23,9 +23,6 @@ module _ {X A : Type 0} (f : X → List A) where
   walk_more all now new left rest x is was more =
       ap (λ l. l ++ flat_map f rest) more ∙ append_assoc now (f x) (flat_map f rest) ∙ ap (λ l. now ++ flat_map f l) (sym is) ∙ was
 
-  pub walk_none : (all now : List A) (left rest : List X) (x : X) → left ≡ x ∷ rest → now ++ flat_map f left ≡ all → f x ≡ [] → now ++ flat_map f rest ≡ all
-  walk_none all now left rest x is was none = walk_more all now now left rest x is was (sym (ap (λ l. now ++ l) none ∙ append-nil now))
-
   pub walk_all : (all now : List A) (left : List X) → left ≡ [] → now ++ flat_map f left ≡ all → now ≡ all
   walk_all all now left is was = sym (append-nil now) ∙ ap (λ l. now ++ flat_map f l) (sym is) ∙ was
 
@@ -74,7 +71,7 @@ module _ {X K : Type 0} (Of : List X → K → Type 0) where
 
 module _ {K : Type 0} (One : K → Type 0) (old : List K) where
   -- one element, if it is the only one
-  pub pushed : (x : K) → One x → ((h : K) → One h → x ≡ h) → AreAll (λ h. Contains old h ⊎ One h) (old ++ x ∷ [])
+  pushed : (x : K) → One x → ((h : K) → One h → x ≡ h) → AreAll (λ h. Contains old h ⊎ One h) (old ++ x ∷ [])
   pushed x is only = record {
     each = λ h. (
       λ there. elim (Contains-push_cases old x h there) [ inl before ↦ inl before | inr same ↦ inr (subst One same is) ],
@@ -85,30 +82,13 @@ module _ {K : Type 0} (One : K → Type 0) (old : List K) where
     );
   }
 
-  pub nothing_more : ((h : K) → One h → ⊥) → AreAll (λ h. Contains old h ⊎ One h) old
-  nothing_more none = record { each = λ h. (λ there. inl there, λ k. elim k [ inl before ↦ before | inr one ↦ absurd (none h one) ]) }
-
 -- 3. Nodes of bits.
-
-no_some : {A : Type 0} (x : A) → ◌≡◌ {A = Option A} None (Some x) → ⊥
-no_some x e = cc
 
 same_some : {A : Type 0} (x y : A) → ◌≡◌ {A = Option A} (Some x) (Some y) → x ≡ y
 same_some x y e = cc
 
 module _ (kept : List Segment) (keys : List CanonicalPtr) (bits : ℕ) where
-  bits_as : (k : ℕ) → BitsAt kept keys bits k → bits_key kept bits ≡ Some (key_at keys k)
-  bits_as k b = key_there kept bits b.spells ∙ b.is
-
-  pub no_node : bits_key kept bits ≡ None → IsBitsNode kept keys bits None
-  no_node e k b = no_some (key_at keys k) (sym e ∙ bits_as k b)
-
-  pub node_found : (x : CanonicalPtr) → bits_key kept bits ≡ Some x → SpellsPointer bits × (held_key kept (pointer_of bits) ≡ Some x) → (o : Option ℕ)
-      → MatchOption o (Contains keys x → ⊥) (λ k. (k < length keys) × (key_at keys k ≡ x)) → IsBitsNode kept keys bits o
-  node_found x e of None h = λ k b. h (k, b.small, get_or_default keys k x no_key b.small ∙ same_some (key_at keys k) x (sym (bits_as k b) ∙ e))
-  node_found x e of (Some k) h = record { spells = of.0; small = h.0; is = of.1 ∙ ap Some (sym h.1) }
-
-  pub one_bits : IsRising keys → (j k : ℕ) → BitsAt kept keys bits j → BitsAt kept keys bits k → j ≡ k
+  one_bits : IsRising keys → (j k : ℕ) → BitsAt kept keys bits j → BitsAt kept keys bits k → j ≡ k
   one_bits rising j k a b = same_place keys j k rising a.small b.small (same_some (key_at keys j) (key_at keys k) (sym a.is ∙ b.is))
 
 -- 4. What slots hand on.
@@ -119,9 +99,6 @@ module _ (kept : List Segment) (keys : List CanonicalPtr) where
   hands_pushed rising old slot bits node b =
       pushed (HandsAt kept keys slot bits) old (slot, node) (record { number = refl; at = b })
       (λ h one. let same = one_bits kept keys bits rising node h.1 b one.at in λ i. (sym one.number i, same i))
-
-  pub hands_none : (old : List (ℕ × ℕ)) (slot bits : ℕ) → IsBitsNode kept keys bits None → AreAll (λ h. Contains old h ⊎ HandsAt kept keys slot bits h) old
-  hands_none old slot bits none = nothing_more (HandsAt kept keys slot bits) old (λ h one. none h.1 one.at)
 
   pub handed_split : (left rest : List (ℕ × ℕ)) (slot bits : ℕ) → left ≡ (slot, bits) ∷ rest → (h : ℕ × ℕ)
       → HandedAt kept keys left h ↔ (HandsAt kept keys slot bits h ⊎ HandedAt kept keys rest h)
@@ -153,9 +130,9 @@ module _ (kept : List Segment) (keys : List CanonicalPtr) where
   behind_pushed rising all old door bits at node d n =
       pushed (StandsBehind kept keys door bits) old (at, node) (record { node = d; at = n })
       (λ b one.
-          let first = one_node kept keys all rising door at b.0 d one.node in
-          let second = one_bits kept keys bits rising node b.1 n one.at in
-          λ i. (first i, second i))
+      let first = one_node kept keys all rising door at b.0 d one.node in
+      let second = one_bits kept keys bits rising node b.1 n one.at in
+      λ i. (first i, second i))
 
   through_door : (o : ℕ × ℕ) (bits : ℕ) (old new : List (ℕ × ℕ)) → o.0 ≡ 0 → AreAll (λ b. Contains old b ⊎ StandsBehind kept keys o.1 bits b) new
       → AreAll (λ b. Contains old b ⊎ ThroughDoor kept keys o bits b) new
@@ -169,9 +146,6 @@ module _ (kept : List Segment) (keys : List CanonicalPtr) where
   pub through_pushed : IsRising keys → All IsKey keys → (old : List (ℕ × ℕ)) (o : ℕ × ℕ) (bits at node : ℕ) → o.0 ≡ 0 → DoorAt kept keys o.1 at → BitsAt kept keys bits node
       → AreAll (λ b. Contains old b ⊎ ThroughDoor kept keys o bits b) (old ++ (at, node) ∷ [])
   through_pushed rising all old o bits at node kind d n = through_door o bits old (old ++ (at, node) ∷ []) kind (behind_pushed rising all old o.1 bits at node d n)
-
-  pub through_none : (o : ℕ × ℕ) (bits : ℕ) (old : List (ℕ × ℕ)) → ((b : ℕ × ℕ) → ThroughDoor kept keys o bits b → ⊥) → AreAll (λ b. Contains old b ⊎ ThroughDoor kept keys o bits b) old
-  through_none o bits old none = nothing_more (ThroughDoor kept keys o bits) old none
 
   pub behind_split : (left rest : List ((ℕ × ℕ) × ℕ)) (o : ℕ × ℕ) (bits : ℕ) → left ≡ (o, bits) ∷ rest → (b : ℕ × ℕ)
       → BehindAt kept keys left b ↔ (ThroughDoor kept keys o bits b ⊎ BehindAt kept keys rest b)

@@ -1,15 +1,14 @@
 -- What the deeds of threads mean, and sets of deeds.
-use Rattle.std.specs.Prelude.{◌≡◌, ◌⊎◌, ◌↔◌, ℕ, ◌<◌, ◌==◌, Bool, true, List, [], ◌∷◌, Contains, Some, if◌then◌else◌}
+use Rattle.std.specs.Prelude.{◌≡◌, ◌⊎◌, ◌↔◌, ℕ, ◌<◌, ◌==◌, true, List, [], ◌∷◌, Contains, Some, if◌then◌else◌}
 use Rattle.std.specs.{Int.bit_at, List.flat_map}
 use Rattle.mm_word.specs.declared.word.Cell.{Cell}
 use Rattle.mm_word.specs.Pointer.{Pointer as PointerValue, SpellsPointer, bits_of, pointer_of}
 use Rattle.mm_model.specs.{Memory.cell_at, Image.Image}
 use Rattle.mm_kernel.specs.Segments.{Segment, is_kept, lies_in, is_door}
-use Rattle.mm_kernel.specs.declared.fact.Leak.{Leak}
-use Rattle.mm_kernel.specs.declared.{form.Form.{Form, TheVariants.Pointer}, outcome.Outcome.Outcome}
+use Rattle.mm_kernel.specs.declared.{form.Form.{Form, TheVariants.Pointer}}
 use Rattle.mm_kernel.specs.declared.thread.{Origin.{Origin, TheVariants.{Door, Slot as OfSlot}}, Thread.Thread}
 use Rattle.mm_kernel.specs.{Facts.Fact.HasForm, Derived.{Derived, HasFirst}}
-use Rattle.mm_keep.specs.{Claims.Tables, Searching.IsExact}
+use Rattle.mm_keep.specs.{Searching.IsExact}
 use Rattle.mm_confine.specs.{Taken.TakenUp, Conduct.{carries, HasExactly, IsPlain, ComesTo, GoesOn, LetsOut, SeesServed}}
 use Rattle.mm_hold.specs.{declared.{deed.Deed.Deed, conduct.Conduct.Conduct}, Deeds.{Findings, carrying_in}}
 use Rattle.mm_hold.specs.declared.deed.Deed.TheVariants as deed

@@ -1,6 +1,6 @@
 -- What threads do with the pointers of others, one after the other.
-use Rattle.std.specs.Prelude.{◌≡◌, ℕ, Bool, true, false, not, ◌&&◌, ◌==◌, if◌then◌else◌, List, [], ◌∷◌, ◌++◌, map, Option}
-use Rattle.std.specs.{Prelude.{Some, None}, List.{flat_map, filter}}
+use Rattle.std.specs.Prelude.{ℕ, Bool, not, ◌&&◌, if◌then◌else◌, List, [], ◌∷◌, ◌++◌, Option}
+use Rattle.std.specs.{Prelude.{Some, None}, List.{flat_map}}
 use Rattle.mm_word.specs.Pointer.{Pointer as PointerValue, enter_result}
 use Rattle.mm_isa.specs.declared.instr.How.{How}
 use Rattle.mm_model.specs.{Slot.Slot, Image.Image, Turn.is_running}

@@ -1,5 +1,5 @@
 -- Marks that are sound, and to which no rule adds.
-use Rattle.std.specs.Prelude.{◌≡◌, ◌⊎◌, ◌↔◌, ℕ, ◌<◌, true, false, List, length, Contains, Some}
+use Rattle.std.specs.Prelude.{◌≡◌, ℕ, ◌<◌, true, false, List, length, Contains, Some}
 use Rattle.mm_word.specs.declared.{perm.Perm.TheVariants.Eu, word.{Word.TheVariants.Ptr, Cell.Cell}}
 use Rattle.mm_word.specs.Pointer.{Pointer, IsBelow, enter_result}
 use Rattle.mm_model.specs.{Memory.cell_at, Slot.Slot, Image.Image, Reach.{LoadsAt, StoresAt}}

@@ -1,7 +1,7 @@
 -- Which parties hold the pointer of each node, and how they come to hold more.
 use Rattle.std.specs.Prelude.{◌≡◌, ◌⊎◌, ◌↔◌, ℕ, ◌+◌, ◌^◌, ◌<◌, ◌≤◌, Bool, true, false, List, length, slice_index, Contains}
 use Rattle.std.specs.Int.{bit_at}
-use Rattle.mm_flow.specs.Flow.{Has, room, IsFlow, Fits}
+use Rattle.mm_flow.specs.Flow.{Has, room, IsFlow}
 use Rattle.mm_flow.specs.{declared.node.{Node.Node, Right.{Right, TheVariants.{Load, Store}}}, Edges.{Edges, right_at}, Sharing.Up}
 use Rattle.mm_confine.specs.declared.party.Party.{Party, TheVariants.{Group, KernelSlot}}
 use Rattle.mm_hold.specs.declared.{parties.Parties.Parties, sharing.Sharing.Sharing, marks.Marks.Marks}

@@ -9,7 +9,7 @@ use Rattle.mm_confine.specs.declared.party.Party.{Party}
 use Rattle.mm_hold.specs.declared.{sharing.Sharing.Sharing, marks.Marks.Marks, edges.Graph.Graph, conduct.Conduct.Conduct}
 use Rattle.mm_hold.specs.declared.rounds.Passes.{Passes}
 use Rattle.mm_hold.specs.Parties.{Shares, ServedParty}
-use Rattle.mm_hold.specs.Marks.{HasSize, Spreads, MeetAbove, PassesByStore, GivesBehind, Adds, Handed, SlotMeets, SharedAt}
+use Rattle.mm_hold.specs.Marks.{Spreads, MeetAbove, PassesByStore, GivesBehind, Adds, Handed, SlotMeets, SharedAt}
 use Rattle.mm_hold.specs.Passing.{PassesAtWord}
 
 -- the parts of a graph are of one size, and all that passes is of its nodes

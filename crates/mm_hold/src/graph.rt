@@ -22,9 +22,10 @@ use mm_word::{GuardedPtr, NoMemory, Perm, Word};
 use std::alloc::Global;
 use std::collections::BTreeSet;
 
-/// The keys of a graph, and the nodes of the pointers in cells.
+/// The keys of a graph with the pointers that they are of, and the nodes of those in cells.
 #[derive(Drop)]
 struct Places {
+    seeds: Vec<Seed>,
     found: Vec<Found>,
     keys: Vec<CanonicalPtr>,
     targets: Vec<usize>,
@@ -121,11 +122,7 @@ fn entry_mask(kernel: &Kernel, key: CanonicalPtr) -> u64
 }
 
 /// For each key the mask of the parties that enter by it without the kernel.
-fn entry_masks(
-    alloc: Global,
-    kernel: &Kernel,
-    keys: &[CanonicalPtr],
-) -> Result<Vec<u64>, NoMemory>
+fn entry_masks(alloc: Global, kernel: &Kernel, keys: &[CanonicalPtr]) -> Result<Vec<u64>, NoMemory>
     requires { All IsKey keys.now }
     ensures { IfOk result (λ masks. masks.items ≡ map (entry_mask kernel.now.kept) keys.now) }
 {
@@ -137,14 +134,16 @@ fn entry_masks(
 }
 
 /// The keys of the pointers in cells and of these seeds.
-fn places_of(alloc: Global, kernel: &Kernel, seeds: &[Seed]) -> Result<Places, NoMemory>
-    requires { All (λ s. IsKey s.key) seeds.now }
-    ensures { IfOk result (λ p. ArePlaces kernel.now.image kernel.now.kept seeds.now p.found.items p.keys.items
-        p.targets.items) }
+fn places_of(alloc: Global, kernel: &Kernel, seeds: Vec<Seed>) -> Result<Places, NoMemory>
+    requires { All (λ s. IsKey s.key) seeds.items }
+    ensures same { IfOk result (λ p. p.seeds.items ≡ seeds.items) }
+    ensures places { IfOk result (λ p. ArePlaces kernel.now.image kernel.now.kept p.seeds.items p.found.items
+        p.keys.items p.targets.items) }
 {
     let found = found_in(alloc, kernel.kept(), kernel.image().pages())?;
-    let (keys, targets) = keys_and_targets(alloc, &found, seeds)?;
+    let (keys, targets) = keys_and_targets(alloc, &found, &seeds)?;
     Ok(Places {
+        seeds,
         found,
         keys,
         targets,
@@ -152,12 +151,13 @@ fn places_of(alloc: Global, kernel: &Kernel, seeds: &[Seed]) -> Result<Places, N
 }
 
 /// The graph for these keys.
-fn graph_for(alloc: Global, kernel: &Kernel, seeds: &[Seed], places: Places) -> Result<Graph, NoMemory>
-    requires { ArePlaces kernel.now.image kernel.now.kept seeds.now places.found.items places.keys.items
+fn graph_for(alloc: Global, kernel: &Kernel, places: Places) -> Result<Graph, NoMemory>
+    requires { ArePlaces kernel.now.image kernel.now.kept places.seeds.items places.found.items places.keys.items
         places.targets.items }
-    ensures { IfOk result (λ g. IsBuilt kernel.now.image kernel.now.kept seeds.now g) }
+    ensures { IfOk result (λ g. IsBuilt kernel.now.image kernel.now.kept places.seeds.items g) }
 {
     let Places {
+        seeds: _,
         found,
         keys,
         targets,
@@ -198,8 +198,8 @@ pub fn graph_of(alloc: Global, kernel: &Kernel, conduct: &Conduct) -> Result<Sta
     let of_callers = callers(alloc, kernel.kept(), kernel.image().slots())?;
     let of_threads = seeds_of(alloc, kernel, conduct)?;
     let seeds = all_seeds(alloc, &of_callers, &of_threads)?;
-    let places = places_of(alloc, kernel, &seeds)?;
-    let graph = graph_for(alloc, kernel, &seeds, places)?;
+    let places = places_of(alloc, kernel, seeds)?;
+    let graph = graph_for(alloc, kernel, places)?;
     let groups = marks_of(alloc, &graph.keys, &of_callers)?;
     let slots = marks_of(alloc, &graph.keys, &of_threads)?;
     Ok(Start {

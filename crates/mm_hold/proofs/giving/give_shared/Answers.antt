@@ -1,6 +1,6 @@
-use Rattle.std.proofs.Common.{◌≡◌, ◌≤◌, ◌+◌, length, sym, subst, arith}
+use Rattle.std.proofs.Common.{◌+◌, sym, subst}
 use Rattle.mm_hold.specs.Parties.{Is, SharedBy}
-use Rattle.mm_hold.proofs.Meeting.{SharedSoFar, shared_none, so_far_none, so_far_more, shared_all}
+use Rattle.mm_hold.proofs.Meeting.{SharedSoFar, shared_none, so_far_none, so_far_more}
 use Rattle.mm_hold.proofs.giving.give_shared.Goals as goal
 
 pub loop-node-init : goal.loop-node-init

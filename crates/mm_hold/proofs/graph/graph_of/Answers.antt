@@ -9,12 +9,12 @@ use Rattle.mm_hold.proofs.graph.graph_of.Goals as goal
 pub returns-clause-shape : goal.returns-clause-shape
 returns-clause-shape c =
     let img = subst IsImage c.image.ensures c.slots.ensures.image in
-    graph_shaped c.args.kernel.now.image c.args.kernel.now.kept img c.deref-4.result.now c.in_ok-graph.graph c.in_ok-graph.ensures
+    graph_shaped c.args.kernel.now.image c.args.kernel.now.kept img c.in_ok-places.places.seeds.items c.in_ok-graph.graph c.in_ok-graph.ensures
 
 pub returns-clause-graph : goal.returns-clause-graph
 returns-clause-graph c =
     let img = subst IsImage c.image.ensures c.slots.ensures.image in
-    graph_is c.args.kernel.now.image c.args.kernel.now.kept img c.deref-4.result.now c.in_ok-graph.graph c.in_ok-graph.ensures
+    graph_is c.args.kernel.now.image c.args.kernel.now.kept img c.in_ok-places.places.seeds.items c.in_ok-graph.graph c.in_ok-graph.ensures
 
 pub returns-clause-had : goal.returns-clause-had
 returns-clause-had c =
@@ -26,12 +26,12 @@ returns-clause-had c =
     let m : Marks = record { groups = c.in_ok-groups.groups; slots = c.in_ok-slots.slots } in
     let own = c.slots.ensures.slots ∙ ap (λ (v : Image). v.slots) c.image.ensures in
     let callers = c.in_ok-of_callers.ensures.items ∙ ap (λ k. flat_map (caller_seeds k) c.slots.result.now) c.kept.ensures ∙ ap (flat_map (caller_seeds kept)) own in
-    let seeds = c.deref-4.ensures.value ∙ c.in_ok-seeds.ensures.items ∙ ap (λ l. l ++ c.deref-2.result.now) c.deref.ensures.value
+    let seeds = c.in_ok-places.ensures.same ∙ c.in_ok-seeds.ensures.items ∙ ap (λ l. l ++ c.deref-2.result.now) c.deref.ensures.value
     ∙ ap (λ l. c.in_ok-of_callers.of_callers.items ++ l) c.deref-2.ensures.value in
-    let of_groups = subst (λ l. IsMarks keys l groups) c.deref-6.ensures.value (subst (λ l. IsMarks l c.deref-6.result.now groups) c.deref-5.ensures.value c.in_ok-groups.ensures) in
-    let of_slots = subst (λ l. IsMarks keys l slots) c.deref-8.ensures.value (subst (λ l. IsMarks l c.deref-8.result.now slots) c.deref-7.ensures.value c.in_ok-slots.ensures) in
+    let of_groups = subst (λ l. IsMarks keys l groups) c.deref-4.ensures.value (subst (λ l. IsMarks l c.deref-4.result.now groups) c.deref-3.ensures.value c.in_ok-groups.ensures) in
+    let of_slots = subst (λ l. IsMarks keys l slots) c.deref-6.ensures.value (subst (λ l. IsMarks l c.deref-6.result.now slots) c.deref-5.ensures.value c.in_ok-slots.ensures) in
     (begun i kept (subst IsImage c.image.ensures c.slots.ensures.image) c.args.conduct.now c.requires keys m c.in_ok-of_callers.of_callers.items c.in_ok-of_threads.of_threads.items
-    c.deref-4.result.now callers c.in_ok-of_threads.ensures.items seeds c.in_ok-graph.ensures.is_keys of_groups of_slots).had
+    c.in_ok-places.places.seeds.items callers c.in_ok-of_threads.ensures.items seeds c.in_ok-graph.ensures.is_keys of_groups of_slots).had
 
 pub returns-clause-sound : goal.returns-clause-sound
 returns-clause-sound c =
@@ -43,12 +43,12 @@ returns-clause-sound c =
     let m : Marks = record { groups = c.in_ok-groups.groups; slots = c.in_ok-slots.slots } in
     let own = c.slots.ensures.slots ∙ ap (λ (v : Image). v.slots) c.image.ensures in
     let callers = c.in_ok-of_callers.ensures.items ∙ ap (λ k. flat_map (caller_seeds k) c.slots.result.now) c.kept.ensures ∙ ap (flat_map (caller_seeds kept)) own in
-    let seeds = c.deref-4.ensures.value ∙ c.in_ok-seeds.ensures.items ∙ ap (λ l. l ++ c.deref-2.result.now) c.deref.ensures.value
+    let seeds = c.in_ok-places.ensures.same ∙ c.in_ok-seeds.ensures.items ∙ ap (λ l. l ++ c.deref-2.result.now) c.deref.ensures.value
     ∙ ap (λ l. c.in_ok-of_callers.of_callers.items ++ l) c.deref-2.ensures.value in
-    let of_groups = subst (λ l. IsMarks keys l groups) c.deref-6.ensures.value (subst (λ l. IsMarks l c.deref-6.result.now groups) c.deref-5.ensures.value c.in_ok-groups.ensures) in
-    let of_slots = subst (λ l. IsMarks keys l slots) c.deref-8.ensures.value (subst (λ l. IsMarks l c.deref-8.result.now slots) c.deref-7.ensures.value c.in_ok-slots.ensures) in
+    let of_groups = subst (λ l. IsMarks keys l groups) c.deref-4.ensures.value (subst (λ l. IsMarks l c.deref-4.result.now groups) c.deref-3.ensures.value c.in_ok-groups.ensures) in
+    let of_slots = subst (λ l. IsMarks keys l slots) c.deref-6.ensures.value (subst (λ l. IsMarks l c.deref-6.result.now slots) c.deref-5.ensures.value c.in_ok-slots.ensures) in
     (begun i kept (subst IsImage c.image.ensures c.slots.ensures.image) c.args.conduct.now c.requires keys m c.in_ok-of_callers.of_callers.items c.in_ok-of_threads.of_threads.items
-    c.deref-4.result.now callers c.in_ok-of_threads.ensures.items seeds c.in_ok-graph.ensures.is_keys of_groups of_slots).sound
+    c.in_ok-places.places.seeds.items callers c.in_ok-of_threads.ensures.items seeds c.in_ok-graph.ensures.is_keys of_groups of_slots).sound
 
 pub returns-clause-started : goal.returns-clause-started
 returns-clause-started c =
@@ -60,9 +60,9 @@ returns-clause-started c =
     let m : Marks = record { groups = c.in_ok-groups.groups; slots = c.in_ok-slots.slots } in
     let own = c.slots.ensures.slots ∙ ap (λ (v : Image). v.slots) c.image.ensures in
     let callers = c.in_ok-of_callers.ensures.items ∙ ap (λ k. flat_map (caller_seeds k) c.slots.result.now) c.kept.ensures ∙ ap (flat_map (caller_seeds kept)) own in
-    let seeds = c.deref-4.ensures.value ∙ c.in_ok-seeds.ensures.items ∙ ap (λ l. l ++ c.deref-2.result.now) c.deref.ensures.value
+    let seeds = c.in_ok-places.ensures.same ∙ c.in_ok-seeds.ensures.items ∙ ap (λ l. l ++ c.deref-2.result.now) c.deref.ensures.value
     ∙ ap (λ l. c.in_ok-of_callers.of_callers.items ++ l) c.deref-2.ensures.value in
-    let of_groups = subst (λ l. IsMarks keys l groups) c.deref-6.ensures.value (subst (λ l. IsMarks l c.deref-6.result.now groups) c.deref-5.ensures.value c.in_ok-groups.ensures) in
-    let of_slots = subst (λ l. IsMarks keys l slots) c.deref-8.ensures.value (subst (λ l. IsMarks l c.deref-8.result.now slots) c.deref-7.ensures.value c.in_ok-slots.ensures) in
+    let of_groups = subst (λ l. IsMarks keys l groups) c.deref-4.ensures.value (subst (λ l. IsMarks l c.deref-4.result.now groups) c.deref-3.ensures.value c.in_ok-groups.ensures) in
+    let of_slots = subst (λ l. IsMarks keys l slots) c.deref-6.ensures.value (subst (λ l. IsMarks l c.deref-6.result.now slots) c.deref-5.ensures.value c.in_ok-slots.ensures) in
     (begun i kept (subst IsImage c.image.ensures c.slots.ensures.image) c.args.conduct.now c.requires keys m c.in_ok-of_callers.of_callers.items c.in_ok-of_threads.of_threads.items
-    c.deref-4.result.now callers c.in_ok-of_threads.ensures.items seeds c.in_ok-graph.ensures.is_keys of_groups of_slots).started
+    c.in_ok-places.places.seeds.items callers c.in_ok-of_threads.ensures.items seeds c.in_ok-graph.ensures.is_keys of_groups of_slots).started

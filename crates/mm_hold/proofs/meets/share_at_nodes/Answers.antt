@@ -1,5 +1,5 @@
-use Rattle.std.proofs.Common.{◌≡◌, ◌≤◌, ◌<◌, length, subst, arith}
-use Rattle.mm_hold.specs.{Marks.{MeetAt, parties_at}, Parties.{Across, Adds}}
+use Rattle.std.proofs.Common.{subst}
+use Rattle.mm_hold.specs.{Marks.{parties_at}, Parties.{Across, Adds}}
 use Rattle.mm_hold.proofs.Meeting.{meet_none, meet_more, last_shared}
 use Rattle.mm_hold.proofs.meets.share_at_nodes.Goals as goal
 

@@ -1,4 +1,4 @@
-use Rattle.std.proofs.Common.{◌≡◌, length, subst, arith}
+use Rattle.std.proofs.Common.{◌≡◌, subst, arith}
 use Rattle.mm_hold.specs.{Marks.PassesBelow, Parties.Adds}
 use Rattle.mm_hold.proofs.{Meeting.{rows_none, rows_more, rows_all}, PartySets.row_small}
 use Rattle.mm_hold.proofs.meets.share_meets.Goals as goal

@@ -1,7 +1,7 @@
-use Rattle.std.proofs.Common.{◌≡◌, ◌<◌, ℕ, length, sym, ap, ◌∙◌, subst}
+use Rattle.std.proofs.Common.{◌≡◌, ◌<◌, length, sym, ap, ◌∙◌, subst}
 use Rattle.std.specs.Prelude.{Contains, MatchOption}
 use Rattle.mm_graph.specs.{declared.canonical_ptr.CanonicalPtr.CanonicalPtr, Key.key_at}
-use Rattle.mm_kernel.specs.Segments.{Segment, is_door}
+use Rattle.mm_kernel.specs.Segments.{is_door}
 use Rattle.mm_hold.proofs.Passes.{door_found}
 use Rattle.mm_hold.proofs.passing.door_node.Goals as goal
 

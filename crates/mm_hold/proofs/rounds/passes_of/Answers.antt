@@ -1,7 +1,6 @@
-use Rattle.std.proofs.Common.{ℕ, List, subst}
-use Rattle.mm_model.specs.{Image.Image, Spelling.IsImage}
+use Rattle.std.proofs.Common.{List, subst}
+use Rattle.mm_model.specs.{Spelling.IsImage}
 use Rattle.mm_graph.specs.declared.canonical_ptr.CanonicalPtr.{CanonicalPtr}
-use Rattle.mm_kernel.specs.Segments.{Segment}
 use Rattle.mm_hold.specs.declared.rounds.Passes.{Passes}
 use Rattle.mm_hold.specs.Conducts.{AreAll}
 use Rattle.mm_hold.specs.Graphs.{BehindAt, HandedAt}

@@ -1,4 +1,4 @@
-use Rattle.std.proofs.Common.{◌≡◌, ◌↔◌, ℕ, List, subst}
+use Rattle.std.proofs.Common.{◌↔◌, ℕ, List, subst}
 use Rattle.mm_flow.specs.declared.node.Node.{Node}
 use Rattle.mm_confine.specs.declared.party.Party.{Party}
 use Rattle.mm_hold.specs.{Parties.{Shares, ServedParty}, Marks.{Spreads, MeetAbove, GivesBehind, Adds, Handed, SlotMeets}}

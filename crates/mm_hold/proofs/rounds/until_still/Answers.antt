@@ -39,7 +39,7 @@ returns-then-not-branch-clause-closed c =
     let r = c.in_ok-round.ensures.round in
     let size : HasSize old (length g.keys.items) = subst (HasSize old) (sym c.requires.parts.many) c.loop.invariant.0 in
     let sound : IsSound i kept g.keys.items new =
-        round_sound i kept img c.requires.keeps a.conduct.now c.requires.conduct g c.requires.graph a.passes.now c.requires.passes old new changed size c.loop.invariant.1 r in
+    round_sound i kept img c.requires.keeps a.conduct.now c.requires.conduct g c.requires.graph a.passes.now c.requires.passes old new changed size c.loop.invariant.1 r in
     let grew : Grew a.marks.now new = λ x k h. round_grew i kept a.conduct.now g a.passes.now old new changed r x k (c.loop.invariant.2 x k h) in
     round_closed i kept img c.requires.keeps a.conduct.now c.requires.conduct g c.requires.graph c.requires.parts.keys a.passes.now c.requires.passes old new changed r
     c.if-not-branch.true size sound (started_on i kept g.keys.items a.marks.now new grew c.requires.started)
@@ -50,7 +50,7 @@ loop-smaller c =
     let old = c.loop.marks in
     let new = c.round.new.marks in
     let fell : room_of new + 1 ≤ room_of old =
-        round_falls a.kernel.now.image a.kernel.now.kept a.conduct.now a.graph.now a.passes.now old new c.in_ok-round.field-0 c.in_ok-round.ensures.round c.if-not-branch.false in
+    round_falls a.kernel.now.image a.kernel.now.kept a.conduct.now a.graph.now a.passes.now old new c.in_ok-round.field-0 c.in_ok-round.ensures.round c.if-not-branch.false in
     let less : room_of new < room_of old = omega arith in
     less
 

@@ -1,5 +1,4 @@
-use Rattle.std.proofs.Common.{◌≡◌, ◌↔◌, ◌<◌, true, refl, ap, subst}
-use Rattle.std.specs.Int.{bit_at}
+use Rattle.std.proofs.Common.{refl, ap, subst}
 use Rattle.mm_model.specs.Slot.{Slot}
 use Rattle.mm_hold.specs.Parties.{Is, ServedParty}
 use Rattle.mm_hold.proofs.PartySets.{by_kernel, mask_as, test_as}

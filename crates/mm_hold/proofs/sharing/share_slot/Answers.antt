@@ -1,4 +1,4 @@
-use Rattle.std.proofs.Common.{◌≡◌, true, false, sym, ap, ◌∙◌}
+use Rattle.std.proofs.Common.{sym, ap, ◌∙◌}
 use Rattle.mm_model.specs.Slot.{Slot}
 use Rattle.mm_kernel.specs.Threads.{is_kernel}
 use Rattle.mm_hold.proofs.PartySets.{slot_kernel, slot_caller}
