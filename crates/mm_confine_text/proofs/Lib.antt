@@ -1,5 +1,5 @@
 mod Listing
-mod Finding
+mod Answering
 mod Texts
 mod Ones
 pub mod Confining

@@ -1,7 +1,7 @@
 use Rattle.std.{proofs.Common.{length, ◌≤◌, subst}, specs.Prelude.{IfSome, IfOk}}
 use Rattle.mm_kernel.specs.Facts.Fact.{HasThread}
 use Rattle.mm_keep.specs.{Claims.Tables, Searching.IsExact}
-use Rattle.mm_confine_text.proofs.Finding.{found_kept}
+use Rattle.mm_confine_text.proofs.Answering.{found_kept}
 use Rattle.mm_confine_text.proofs.finding.looked.Goals as goal
 
 pub returns-in-None : goal.returns-in-None
