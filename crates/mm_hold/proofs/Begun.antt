@@ -1,24 +1,24 @@
 -- Where marks start: at what callers have, and at what threads of the kernel's slots have or let out.
-use Rattle.std.proofs.Common.{◌≡◌, ℕ, ◌+◌, ◌<◌, ◌≤◌, ◌⊎◌, inl, inr, ◌==◌, ◌&&◌, ◌||◌, Bool, true, false, if◌then◌else◌, List, [], ◌∷◌, ◌++◌, length, nat_lt}
+use Rattle.std.proofs.Common.{◌≡◌, ℕ, ◌+◌, ◌<◌, ◌⊎◌, inl, inr, ◌==◌, ◌&&◌, Bool, true, false, if◌then◌else◌, List, ◌∷◌, ◌++◌, length, nat_lt}
 use Rattle.std.proofs.Common.{Option, Some, None, refl, sym, ap, ◌∙◌, subst, arith, eqb-true}
 use Rattle.std.proofs.lemmas.{List.get_or_default, Bool.{and_parts, and_from, Decides.nat_tests}}
 use Rattle.std.proofs.lemmas.List.Elements.{All-from_recursion, All-contains, Contains-append_left, Contains-append_right}
-use Rattle.std.specs.{Prelude.Contains, List.{flat_map, list_any}}
+use Rattle.std.specs.{Prelude.Contains, List.flat_map}
 use Rattle.mm_word.specs.declared.word.Word.{Word, TheVariants.Ptr}
-use Rattle.mm_word.specs.Pointer.{Pointer, IsBelow, IsWellFormed, SpellsPointer, bits_of, pointer_of}
+use Rattle.mm_word.specs.Pointer.{Pointer, IsBelow, IsWellFormed, bits_of, pointer_of}
 use Rattle.mm_word.specs.Word.{IsWord}
-use Rattle.mm_model.specs.{Slot.Slot, Image.{Image, slot_limit}, Spelling.{IsImage, IsFresh}}
+use Rattle.mm_model.specs.{Slot.Slot, Image.Image, Spelling.IsImage}
 use Rattle.mm_graph.specs.declared.{canonical_ptr.CanonicalPtr.CanonicalPtr, seed.Seed.Seed}
 use Rattle.mm_graph.specs.Key.{key_at, no_key, pointer_at}
 use Rattle.mm_graph.specs.{Nodes.{IsKeysOf, IsMarks}, Marked.node_pointer}
-use Rattle.mm_kernel.specs.{Segments.{Segment, is_door}, Threads.{is_kernel, is_kernel_slot}, Variants.is_caller}
+use Rattle.mm_kernel.specs.{Segments.Segment, Threads.is_kernel, Variants.is_caller}
 use Rattle.mm_kernel.specs.declared.thread.Origin.{Origin, TheVariants.{Door, Slot as OfSlot}}
 use Rattle.mm_confine.specs.declared.party.Party.{Party, TheVariants.{Group, KernelSlot}}
-use Rattle.mm_confine.specs.Grants.{Granted, Line.{Holds, Runs}}
+use Rattle.mm_confine.specs.Grants.{Granted, Line.Holds}
 use Rattle.mm_confine.specs.Grants.Granted.{runs_itself, in_register, runs_by, below, has_exactly, lets_out}
-use Rattle.mm_span.proofs.Members.{none_in, in_first, in_rest, in_cases, in_flat, flat_in}
-use Rattle.mm_hold.specs.declared.{deed.Deed.Deed, conduct.Conduct.Conduct, marks.Marks.Marks}
-use Rattle.mm_hold.specs.Conducts.{AreConduct, HasOrLets, HasOrLets.{has, lets}, IsRead, IsSpelled, Means, has_in, origin_from, origin_numbers}
+use Rattle.mm_span.proofs.Members.{in_first, in_rest, in_cases, in_flat, flat_in}
+use Rattle.mm_hold.specs.declared.{conduct.Conduct.Conduct, marks.Marks.Marks}
+use Rattle.mm_hold.specs.Conducts.{AreConduct, HasOrLets, HasOrLets.{has, lets}, IsSpelled, origin_from, origin_numbers}
 use Rattle.mm_hold.specs.{Finding.{caller_seeds, held_key, held_word, word_seed}, Marks.{Held, HasSize}}
 use Rattle.mm_hold.specs.Exactly.{Covered, Covered.{powerless, above}, IsSound}
 use Rattle.mm_hold.specs.Graphs.{bits_key, found_of, had_seeds, seed_number}

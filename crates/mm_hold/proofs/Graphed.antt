@@ -1,25 +1,25 @@
 -- The parts of a graph stand for the pointers in cells that are not kept, with doors that stand for themselves.
-use Rattle.std.proofs.Common.{◌≡◌, ℕ, zero, suc, ◌+◌, ◌-◌, ◌*◌, ◌/◌, ◌%◌, ◌^◌, ◌<◌, ◌≤◌, ◌⊎◌, inl, inr, Bool, true, false, not, ◌&&◌, List, [], ◌∷◌}
+use Rattle.std.proofs.Common.{◌≡◌, ℕ, zero, suc, ◌+◌, ◌-◌, ◌*◌, ◌/◌, ◌%◌, ◌^◌, ◌<◌, ◌≤◌, inl, inr, Bool, true, false, not, ◌&&◌, List, [], ◌∷◌}
 use Rattle.std.proofs.Common.{length, map, slice_index, get_or, if◌then◌else◌, Option, Some, None, option_and_then, refl, sym, ap, ◌∙◌, subst, arith}
 use Rattle.std.proofs.lemmas.{List.get_or_default, List.Elements.Contains-get_or, Nat.Bits.bit_at_ones, Bool.and_parts}
-use Rattle.std.specs.{Int.bit_at, List.Contains}
+use Rattle.std.specs.{Int.bit_at}
 use Rattle.mm_word.proofs.Results.{enter_result-well_formed}
 use Rattle.mm_word.specs.declared.perm.Perm.{Perm, TheVariants.{Ro, Rw, Xu, Xp, Eu, Ep, Key}}
-use Rattle.mm_word.specs.declared.word.{Word.{Word, TheVariants.Ptr}, Cell.Cell}
+use Rattle.mm_word.specs.declared.word.{Word.TheVariants.Ptr, Cell.Cell}
 use Rattle.mm_word.specs.Pointer.{Pointer, IsWellFormed, IsBelow, base_of, enter_result}
 use Rattle.mm_word.specs.Perm.{execute_form}
 use Rattle.mm_model.specs.{Memory.cell_at, Image.Image, Spelling.IsImage, Reach.{LoadsAt, StoresAt}}
-use Rattle.mm_flow.specs.declared.node.{Node.Node, Right.TheVariants.{Load, Store}}
+use Rattle.mm_flow.specs.declared.node.{Right.TheVariants.{Load, Store}}
 use Rattle.mm_flow.specs.Edges.{Edges, node_at, low_at, high_at, entry_at, enters_at, right_at}
 use Rattle.mm_flow.{specs.{Sharing.Up, Forest.In}, proofs.{Geometry.{share, shared_base}, Bits.zero_bit}}
-use Rattle.mm_graph.specs.{Summary.IsPowerless, GraphOf.CommonWord, Marked.node_pointer}
+use Rattle.mm_graph.specs.{GraphOf.CommonWord, Marked.node_pointer}
 use Rattle.mm_graph.specs.declared.{canonical_ptr.CanonicalPtr.CanonicalPtr, found.Found.Found, seed.Seed.Seed}
 use Rattle.mm_graph.specs.Key.{IsKey, key_at, no_key, pointer_at, standing_key, entry_key, loads_words, is_entry}
 use Rattle.mm_graph.specs.Nodes.{IsKeysOf, IsTargets, IsNode, nothing, found_word}
 use Rattle.mm_graph.proofs.Representatives.{stands_from, stands_above, stands_below, standing_none, entry_from, enters_from}
 use Rattle.mm_graph.proofs.{Nesting.log_is, CellWords.well_formed}
 use Rattle.mm_graph.proofs.Bounds.{covers_in, in_covers, of_words, loads_then, stores_then, loads_test, stores_test}
-use Rattle.mm_graph.proofs.Bounds.{entry_test, entry_then}
+use Rattle.mm_graph.proofs.Bounds.{entry_test}
 use Rattle.mm_kernel.specs.Segments.{Segment, is_kept, is_door, is_enter, meets}
 use Rattle.mm_hold.specs.declared.edges.Graph.{Graph}
 use Rattle.mm_hold.specs.{Finding.{cell_found, held_key, held_word}, Graphs.{ArePlaces, IsBuilt, IsShaped, entry_mask, found_of}}

@@ -1,18 +1,16 @@
 -- Lists of seeds and of nodes that grow on a walk over a set.
-use Rattle.std.proofs.Common.{◌≡◌, ◌⊎◌, ◌↔◌, inl, inr, ℕ, ◌<◌, ◌+◌, List, [], ◌∷◌, ◌++◌, length, map, take, get_or, Option, Some, None, refl, sym, ap, ◌∙◌, subst, append_assoc, append-nil}
-use Rattle.std.proofs.lemmas.List.{get_or_default, map-append, take_more}
+use Rattle.std.proofs.Common.{◌≡◌, ◌⊎◌, ◌↔◌, inl, inr, ℕ, ◌<◌, ◌+◌, List, [], ◌∷◌, ◌++◌, length, map, take, get_or, Option, Some, refl, sym, ap, ◌∙◌, subst, append_assoc, append-nil}
+use Rattle.std.proofs.lemmas.List.{map-append, take_more}
 use Rattle.std.proofs.lemmas.List.Elements.{Contains-append_left, Contains-push, Contains-push_cases}
-use Rattle.std.specs.{Prelude.{All, Contains, MatchOption}, List.flat_map}
-use Rattle.mm_word.specs.Pointer.{SpellsPointer, pointer_of}
-use Rattle.mm_graph.specs.declared.{canonical_ptr.CanonicalPtr.CanonicalPtr, seed.Seed.Seed}
-use Rattle.mm_graph.specs.{Key.{IsKey, IsRising, key_at, no_key}, Found.seed_at}
+use Rattle.std.specs.{Prelude.{All, Contains}, List.flat_map}
+use Rattle.mm_graph.specs.declared.{canonical_ptr.CanonicalPtr.CanonicalPtr}
+use Rattle.mm_graph.specs.{Key.{IsKey, IsRising, key_at}}
 use Rattle.mm_graph.proofs.Rising.{same_place}
 use Rattle.mm_kernel.specs.Segments.{Segment}
-use Rattle.mm_model.specs.Image.{Image}
 use Rattle.mm_span.proofs.Members.{none_in, in_first, in_rest, in_cases}
-use Rattle.mm_hold.specs.{Conducts.AreAll, Finding.held_key, Passing.DoorAt}
-use Rattle.mm_hold.specs.Graphs.{BitsAt, IsBitsNode, HandsAt, HandedAt, StandsBehind, ThroughDoor, BehindAt, bits_key, had_seeds, seed_number}
-use Rattle.mm_hold.proofs.{HeldKeys.key_there, Passes.one_node}
+use Rattle.mm_hold.specs.{Conducts.AreAll, Passing.DoorAt}
+use Rattle.mm_hold.specs.Graphs.{BitsAt, HandsAt, HandedAt, StandsBehind, ThroughDoor, BehindAt}
+use Rattle.mm_hold.proofs.{Passes.one_node}
 
 -- 1. Lists.
 

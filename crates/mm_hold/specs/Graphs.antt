@@ -1,5 +1,5 @@
 -- How the graph of the pointers that parties may come to hold is made, and the nodes of pointers that are handed on.
-use Rattle.std.specs.Prelude.{◌≡◌, ℕ, ◌-◌, ◌^◌, ◌<◌, ◌==◌, ◌&&◌, nat_lt, Bool, true, not, if◌then◌else◌, List, length, map, All}
+use Rattle.std.specs.Prelude.{◌≡◌, ℕ, ◌-◌, ◌^◌, ◌<◌, ◌==◌, ◌&&◌, nat_lt, not, if◌then◌else◌, List, length, map, All}
 use Rattle.std.specs.Prelude.{Contains, Option, Some, None}
 use Rattle.mm_word.specs.Pointer.{SpellsPointer, pointer_of, spells_pointer}
 use Rattle.mm_model.specs.Image.{Image}
