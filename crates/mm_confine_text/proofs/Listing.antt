@@ -1,6 +1,7 @@
 -- The groups that have a slot, and their slots.
 use Rattle.std.proofs.Common.{◌≡◌, ℕ, Bool, true, false, ◌&&◌, ◌==◌, cond, if◌then◌else◌, List, [], ◌∷◌, ◌++◌, map, refl, sym, ap, ◌∙◌, subst, append-nil}
-use Rattle.std.proofs.lemmas.List.{map-append}
+use Rattle.std.proofs.Common.{◌+◌, ◌<◌, length, take, get_or}
+use Rattle.std.proofs.lemmas.List.{map-append, flat_map_more, take_more}
 use Rattle.std.specs.List.{AllByRecursion, filter, flat_map}
 use Rattle.mm_model.specs.{Slot.Slot, Image.Image}
 use Rattle.mm_kernel.specs.{Segments.Segment, Threads.is_kernel_slot}
@@ -25,6 +26,13 @@ slots_are kept g (s ∷ slots) = by ((s.group == g) && is_kernel_slot kept s) (s
         ≡ map (λ (t : Slot). t.number) (cond b (s ∷ filter (λ t. (t.group == g) && is_kernel_slot kept t) slots) (filter (λ t. (t.group == g) && is_kernel_slot kept t) slots))
     by true rest = ap (λ (l : List ℕ). s.number ∷ l) rest
     by false rest = rest
+
+-- the part of the item at `i` comes behind those of the items before it
+pub part_more : {A B : Type 0} (f : A → List B) (xs : List A) (i : ℕ) (x : A) → i < length xs → x ≡ get_or xs i x → (start now next : List B)
+    → now ≡ start ++ flat_map f (take i xs) → next ≡ now ++ f x → next ≡ start ++ flat_map f (take (i + 1) xs)
+part_more f xs i x lt read start now next is pushed =
+    pushed ∙ ap (λ v. v ++ f x) is ∙ flat_map_more f start (take i xs) x
+    ∙ ap (λ v. start ++ flat_map f v) (ap (λ v. take i xs ++ v ∷ []) read ∙ sym (take_more xs i x lt))
 
 module _ (i : Image) (kept : List Segment) where
   pub none_put : AreGroups i kept [] []

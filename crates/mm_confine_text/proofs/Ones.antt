@@ -9,7 +9,7 @@ use Rattle.mm_span.proofs.Members.{none_in, in_first, in_rest, in_cases, all_at}
 use Rattle.mm_keep_text.specs.declared.told.Answer.{Answer, TheVariants.{Privileged, More, Found}}
 use Rattle.mm_keep_text.specs.{Told.Told, Keys.pointer_key, Answers.{IsAnswer, answer_text}}
 use Rattle.mm_keep_text.proofs.Ones.{answers_are_one, told_one, lists_one, not_at_most, not_user}
-use Rattle.mm_hold.specs.{Reached.{MaximalSegments, MaximalSegment}, Apart.{Judged, WritesIn}
+use Rattle.mm_hold.specs.{Reached.{MaximalSegments, MaximalSegment}, Apart.{Judged, WritesIn}}
 use Rattle.mm_confine_text.specs.Found.{slots_of_kernel}
 use Rattle.mm_confine_text.specs.Told.{AreGroups, GroupsIf, GroupText, GroupTexts, GroupTexts.{no_group, group}, Tells}
 use Rattle.mm_confine_text.specs.Told.{group_line, door_line, slot_line}

@@ -12,7 +12,7 @@ use Rattle.mm_span.proofs.Members.{none_in, in_first, in_rest, in_cases, all_at}
 use Rattle.mm_span.specs.Pairs.{EachPair}
 use Rattle.mm_kernel.specs.declared.fact.Leak.{Leak}
 use Rattle.mm_keep_text.specs.declared.told.Answer.{Answer, TheVariants.{Privileged, More, Found}}
-use Rattle.mm_keep_text.specs.{Told.{Party, Told}, Keys.{pointer_key, Ascend}, Answers.{IsParty, IsTold, AreDoors, kernel_slots}}
+use Rattle.mm_keep_text.specs.{Told.{Party, Told}, Keys.{pointer_key, Ascend}, Answers.{IsAnswer, IsParty, IsTold, AreDoors, kernel_slots}}
 use Rattle.mm_confine.proofs.Open.{granted_is_open}
 use Rattle.mm_confine.specs.declared.party.Party.TheVariants.{Group as GroupParty}
 use Rattle.mm_hold.specs.Holdings.{AreHoldings, HoldsDoor, HoldingsValue}
@@ -46,7 +46,7 @@ module _ (i : Image) (kept : List Segment) where
     held_one d h = inr (h, ([], refl, refl))
 
     pub held_none : (d : Pointer) → (P d → ⊥) → HeldOf i kept g (Door d ∷ []) []
-    held_none d no = inl (no, refl)
+    held_none d out = inl (out, refl)
 
     no_slots : (slots : List ℕ) (ds : List Pointer) → HeldOf i kept g (map OfSlot slots) ds → ds ≡ []
     no_slots [] ds h = h
@@ -154,3 +154,17 @@ module _ (i : Image) (kept : List Segment) where
           → GroupsIf i kept leaks whole
       by [] k texts = subst (λ gs. GroupTexts i kept gs whole) k.groups.numbers_are (texts (parties_told told is) k.holdings k.groups.each)
       by (l ∷ leaks) k texts = absurd k
+
+  pub found_reached : (limit : ℕ) (answer : Answer) (told : Told) (r : Reach) (whole : List ℕ) → answer ≡ Found told → IsAnswer i kept limit answer → IsReach i kept answer (Some r)
+      → (AreParties i kept told.parties → AreHoldings i kept r.holdings → AllByRecursion (IsGroup i kept) r.groups.items → GroupTexts i kept (numbers_of r.groups.items) whole)
+      → AreGroups i kept answer whole
+  found_reached limit answer told r whole e is reach texts =
+      let here : IsAnswer i kept limit (Found told) = subst (IsAnswer i kept limit) e is in
+      let there : IsReach i kept (Found told) (Some r) = subst (λ a. IsReach i kept a (Some r)) e reach in
+      subst (λ a. AreGroups i kept a whole) (sym e) (all_reached told r whole here.2 there texts)
+
+  pub none_found : (answer : Answer) (r : Reach) (whole : List ℕ) → answer ≡ Privileged → IsReach i kept answer (Some r) → AreGroups i kept answer whole
+  none_found answer r whole e reach = absurd (subst (λ a. IsReach i kept a (Some r)) e reach)
+
+  pub more_found : (answer : Answer) (r : Reach) (whole : List ℕ) → answer ≡ More → IsReach i kept answer (Some r) → AreGroups i kept answer whole
+  more_found answer r whole e reach = absurd (subst (λ a. IsReach i kept a (Some r)) e reach)

@@ -55,8 +55,9 @@ fn put_reach_if<O: Sink>(
         × ((i : ImageValue) (kept : List Segment) (limit : ℕ) → IsAnswer i kept limit answer.now
         → IsReach i kept answer.now reach.now → AreGroups i kept answer.now groups) }
 {
-    if let Some(reach) = reach {
-        put_reach(text, out, answer, reach);
+    match reach {
+        Some(reach) => put_reach(text, out, answer, reach),
+        None => {}
     }
 }
 

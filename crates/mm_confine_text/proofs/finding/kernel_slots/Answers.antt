@@ -1,5 +1,5 @@
 use Rattle.std.{proofs.{Common.{[], ap, ◌∙◌}, lemmas.List.take_all}, specs.List.flat_map}
-use Rattle.mm_audit.proofs.Servers.{part_more}
+use Rattle.mm_confine_text.proofs.Listing.{part_more}
 use Rattle.mm_confine_text.specs.Found.{slot_if}
 use Rattle.mm_confine_text.proofs.finding.kernel_slots.Goals as goal
 

@@ -1,4 +1,4 @@
-use Rattle.std.{proofs.Common.{◌++◌, [], ◌∷◌, refl, sym, ap, subst}, specs.List.flat_map}
+use Rattle.std.{proofs.Common.{◌++◌, [], ◌∷◌, sym, ap, ◌∙◌, subst}, specs.List.flat_map}
 use Rattle.mm_model.specs.{declared.word_use.WordUse.TheVariants.{Touch, Write}, Audit.{segment_line, apart_line}}
 use Rattle.mm_text.proofs.Appending.{appends_then}
 use Rattle.mm_audit.specs.Crossing.{verdict_of}
@@ -10,7 +10,7 @@ pub returns : goal.returns
 returns g c =
     let (doors, wrote, held) = c.put_doors.ensures in
     let n = c.args.group.now.number in
-    let slots = c.args.group.now.slots.items in
+    let slots = c.deref.result.now in
     let touch = c.touched.result in
     let write = c.written.result in
     let verdict = verdict_of c.apart.result in (
@@ -27,6 +27,6 @@ returns g c =
         write_is = c.written.ensures i kept are;
         judged = c.apart.ensures i kept are;
         is = ap (λ v. group_line n ++ flat_map door_line doors ++ flat_map slot_line v ++ flat_map (segment_line Touch) touch
-            ++ flat_map (segment_line Write) write ++ apart_line (n ∷ []) verdict) own;
+            ++ flat_map (segment_line Write) write ++ apart_line (n ∷ []) verdict) (c.deref.ensures.value ∙ own);
       },
     )

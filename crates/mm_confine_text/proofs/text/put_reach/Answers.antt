@@ -1,8 +1,8 @@
-use Rattle.std.proofs.Common.{rules, []}
-use Rattle.mm_confine_text.proofs.Texts.{all_reached}
+use Rattle.std.proofs.Common.{rules, [], subst}
+use Rattle.mm_confine_text.proofs.Texts.{found_reached, none_found, more_found}
 use Rattle.mm_confine_text.proofs.text.put_reach.Goals as goal
 
 pub returns-in-Found : goal.returns-in-Found
 returns-in-Found g c =
     let (whole, wrote, texts) = c.put_groups.ensures in
-    (whole, wrote, λ i kept limit is reach. all_reached i kept c.in-Found.told c.args.reach.now whole is.2 reach (texts i kept))
+    (whole, wrote, λ i kept limit is reach. found_reached i kept limit c.args.answer.now c.in-Found.told c.args.reach.now whole c.in-Found.is is reach (texts i kept))
