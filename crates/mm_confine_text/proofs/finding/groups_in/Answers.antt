@@ -1,4 +1,4 @@
-use Rattle.std.{proofs.Common.{sym, subst, arith, take}, specs.List.{filter, range_with_len}}
+use Rattle.std.{proofs.Common.{[], sym, subst, arith, take}, specs.List.{filter, range_with_len}}
 use Rattle.mm_model.specs.Groups.{has_group}
 use Rattle.mm_audit_text.proofs.Presence.{one_more, all_present}
 use Rattle.mm_confine_text.specs.Found.{AreGroups, if_present}
@@ -6,7 +6,7 @@ use Rattle.mm_confine_text.proofs.Listing.{none_put, more_put}
 use Rattle.mm_confine_text.proofs.finding.groups_in.Goals as goal
 
 pub loop-number-init : goal.loop-number-init
-loop-number-init c = none_put c.args.kernel.now.image c.args.kernel.now.kept
+loop-number-init c = subst (AreGroups _ _ []) (sym c.new-groups.ensures.items) (none_put _ _)
 
 pub loop-number-preserved : goal.loop-number-preserved
 loop-number-preserved c =
