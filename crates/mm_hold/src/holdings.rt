@@ -102,6 +102,7 @@ pub fn hold(alloc: Global, kernel: &Kernel, tables: &Tables) -> Result<Holdings,
     requires keeps { Keeps kernel.now.image kernel.now.kept }
     ensures { IfOk result (λ h. AreHoldings kernel.now.image kernel.now.kept h) }
 {
+    let _slots = kernel.image().slots();
     let first = first_forms(alloc, kernel)?;
     let conduct = conduct_of(alloc, kernel, tables, &first)?;
     drop(first);
