@@ -166,6 +166,29 @@ class Callers:
 # 3. Runs.
 
 
+class Confined:
+    """Whether each access of a run is one that the text of its own image allows to the group of its slot."""
+
+    def __init__(self, kernel: Kernel, answer: Answer) -> None:
+        self.kernel, self.answer = kernel, answer
+        self.groups = {slot.number: slot.group for slot in kernel.image.slots}
+
+    def used(self, turn: Turn, access: str, address: int) -> None:
+        kept = self.kernel.is_kept(address)
+        if kept and self.kernel.image.cell(address) is None:
+            return
+        if not self.answer.confines(self.groups[turn.slot], access, address, kept):
+            what = "a kept" if kept else "another"
+            raise Broken(f"slot {turn.slot} of group {self.groups[turn.slot]} makes a {access} on {what} word {address:014x}")
+
+    def step(self, step: Step) -> None:
+        turn = step.turn
+        if turn.fetch is not None:
+            self.used(turn, "fetch", turn.fetch)
+        if turn.access is not None and turn.address is not None:
+            self.used(turn, turn.access, turn.address)
+
+
 class Watch:
     """A run of a variant, turn by turn, beside what was promised."""
 

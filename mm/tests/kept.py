@@ -119,13 +119,43 @@ WORD, PLACE = "[ip][0-9a-f]{16}", "[0-9a-f]{14}"
 FORM = rf"(?:{WORD}|int|any|ptr [1-7]|in [1-7] {PLACE} \d+)"
 LEAK = rf"across {WORD}|code {PLACE}|cell {PLACE} {FORM}|fault {PLACE} ip|loose \d+"
 LEAK += rf"|(?:jump|enter|store|give|fault) {PLACE} \d+ {FORM}"
-LINE = re.compile(rf"(?:door {WORD}|slot \d+|(?:reads|writes|code) {PLACE} \d+|cell {PLACE} {FORM}|leak (?:{LEAK}))\n")
+APART = rf"apart \d+ (?:yes|handler \d+|writer \d+ word {PLACE})"
+GROUP = rf"group \d+|(?:touch|write) {PLACE} \d+|{APART}"
+USE = rf"door {WORD}|slot \d+|(?:reads|writes|code) {PLACE} \d+|cell {PLACE} {FORM}"
+LINE = re.compile(rf"(?:{USE}|leak (?:{LEAK})|{GROUP})\n")
 VERDICTS = ("yes", "no", "more", "privileged")
 
 
 def words_from(place: str, count: str) -> Iterator[int]:
     """The addresses of a run of words."""
     return (int(place, 16) + 8 * k for k in range(int(count)))
+
+
+@dataclass
+class Origin:
+    """A door or a slot of the kernel: the kept words that its threads use."""
+
+    reads: set[int] = field(default_factory=set)
+    writes: set[int] = field(default_factory=set)
+
+    def uses(self, access: str, address: int) -> bool:
+        """Whether its threads use a kept word in the way of an access."""
+        read, written = access != "store", access in ("store", "loadset")
+        return (not read or address in self.reads) and (not written or address in self.writes)
+
+
+@dataclass
+class Group:
+    """What a group reaches: its doors and its slots of the kernel, and the segments that it can touch and write."""
+
+    origins: list[str] = field(default_factory=list)
+    touch: list[Segment] = field(default_factory=list)
+    write: list[Segment] = field(default_factory=list)
+
+    def reaches(self, access: str, address: int) -> bool:
+        """Whether one of its segments covers a word that is not kept, with the rights that an access needs."""
+        segments = self.write if access in ("store", "loadset") else self.touch
+        return any(log >= 3 and address >> log == base >> log for base, log in segments)
 
 
 @dataclass
@@ -139,6 +169,8 @@ class Answer:
     writes: set[int] = field(default_factory=set)
     code: set[int] = field(default_factory=set)
     forms: dict[int, list[Form]] = field(default_factory=dict)
+    origins: dict[str, Origin] = field(default_factory=dict)
+    groups: dict[int, Group] = field(default_factory=dict)
 
     @classmethod
     def of(cls, text: str) -> Answer:
@@ -150,11 +182,16 @@ class Answer:
         if found.verdict != "no" and "leak" in text or found.verdict == "no" and "\nleak" not in text:
             raise Broken(f"it wrote `keeps {found.verdict}`, and its leaks do not go with that")
         for key, *words in map(str.split, lines):
-            found.take(key, words)
+            if found.groups or key == "group":
+                found.take_group(key, words)
+            else:
+                found.take(key, words)
+        if bool(found.groups) != (found.verdict == "yes"):
+            raise Broken(f"it wrote `keeps {found.verdict}`, and {len(found.groups)} groups")
         return found
 
     def take(self, key: str, words: list[str]) -> None:
-        """A line after the first."""
+        """A line after the first, and before those of the groups."""
         if key == "door":
             self.doors.append(Word.parse(words[0]))
         elif key == "slot":
@@ -163,3 +200,27 @@ class Answer:
             self.forms.setdefault(int(words[0], 16), []).append(Form(tuple(words[1:])))
         elif key != "leak":
             {"reads": self.reads, "writes": self.writes, "code": self.code}[key].update(words_from(*words))
+        if key in ("door", "slot"):
+            self.origins[f"{key} {words[0]}"] = Origin()
+        elif key in ("reads", "writes"):
+            origin = list(self.origins.values())[-1]
+            (origin.reads if key == "reads" else origin.writes).update(words_from(*words))
+
+    def take_group(self, key: str, words: list[str]) -> None:
+        """A line of a group."""
+        if key == "group":
+            self.groups[int(words[0])] = Group()
+            return
+        group = list(self.groups.values())[-1]
+        if key in ("door", "slot"):
+            group.origins.append(f"{key} {words[0]}")
+        elif key in ("touch", "write"):
+            (group.touch if key == "touch" else group.write).append((int(words[0], 16), int(words[1])))
+
+    def confines(self, group: int, access: str, address: int, kept: bool) -> bool:
+        """Whether a group may make an access: the word is kept and stands behind one of its doors or slots, or it is not
+        and the group reaches it."""
+        own = self.groups[group]
+        if kept:
+            return any(self.origins[origin].uses(access, address) for origin in own.origins)
+        return own.reaches(access, address)

@@ -21,7 +21,9 @@ mod Noting
 mod Opens
 mod Meetings
 pub mod MaximalSpans
-mod LeastTable
+pub mod LeastTable
+pub mod HeldSpans
+mod GrantedSpans
 pub mod AuditSets
 mod Rows
-mod GroupSegments
+pub mod GroupSegments

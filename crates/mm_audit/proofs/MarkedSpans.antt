@@ -20,14 +20,14 @@ use Rattle.mm_audit.specs.{Marks.{kept_mask, span_of, whole_span, IsUsed, IsAmon
 use Rattle.mm_audit.proofs.{Granted.granted-well_formed, KeyOrder.{key_segment, in_memory}}
 use Rattle.mm_audit.proofs.PointerSegments.{segment_of, pointer_segment, lies_below, log_below}
 
-kept_then : (b : Bool) (m g : ℕ) → bit_at (kept_mask b m) g ≡ 1 → (bit_at m g ≡ 1) × (b ≡ true)
+pub kept_then : (b : Bool) (m g : ℕ) → bit_at (kept_mask b m) g ≡ 1 → (bit_at m g ≡ 1) × (b ≡ true)
 kept_then true m g h = (h, refl)
 kept_then false m g h = absurd (let z = bit_at-zero g in omega arith)
 
-then_kept : (b : Bool) (m g : ℕ) → bit_at m g ≡ 1 → b ≡ true → bit_at (kept_mask b m) g ≡ 1
+pub then_kept : (b : Bool) (m g : ℕ) → bit_at m g ≡ 1 → b ≡ true → bit_at (kept_mask b m) g ≡ 1
 then_kept b m g h e = subst (λ v. bit_at (kept_mask v m) g ≡ 1) (sym e) h
 
-some_bit : (m g : ℕ) → bit_at m g ≡ 1 → m ≡ 0 → ⊥
+pub some_bit : (m g : ℕ) → bit_at m g ≡ 1 → m ≡ 0 → ⊥
 some_bit m g h e = let z = bit_at-zero g in let one : bit_at 0 g ≡ 1 = subst (λ v. bit_at v g ≡ 1) e h in omega arith
 
 module _ (i : Image) (e : Entries) (image : IsImage i) (keys : List CanonicalPtr) (nodes : List Node) (marks : List ℕ) (m : IsMarked i e keys nodes marks) where

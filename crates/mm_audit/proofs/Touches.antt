@@ -4,12 +4,13 @@ use Rattle.std.proofs.Common.{IsTrue, List, [], ◌∷◌, refl, sym, arith, eqb
 use Rattle.std.proofs.lemmas.Bool.{and_parts, and_from, leb-true, ltb-true, le-leb, lt-ltb, Decides.nat_tests}
 use Rattle.std.specs.Int.{bit_at}
 use Rattle.mm_word.proofs.Segments.{segment_below}
-use Rattle.mm_model.specs.{Image.Image, Spelling.IsImage, Reach.{Entries, CanTouch, Entries.All}, Worlds.Touchable}
+use Rattle.mm_model.specs.{Image.Image, Spelling.IsImage, Reach.{Entries, Grants, CanTouch, Entries.All}, Worlds.Touchable}
 use Rattle.mm_model.specs.declared.word_use.WordUse.TheVariants.{Touch}
 use Rattle.mm_seg.specs.Segments.{Covered, At, end_of}
 use Rattle.mm_audit.specs.{Own.{CoversTouched, is_covered}, declared.span.Span.Span, Spans.{AreSpans, span_at}}
 use Rattle.mm_audit.specs.Walks.{outermost}
-use Rattle.mm_audit.proofs.{MaximalSpans.{touch_use, use_span, span_use, covered_use, use_covered}, Sharing.shares_test}
+use Rattle.mm_audit.proofs.{MaximalSpans.{use_span, span_use, covered_use, use_covered}, Sharing.shares_test}
+use Rattle.mm_audit.proofs.GrantedSpans.{touch_use, spans_granted}
 use Rattle.mm_audit.proofs.{Granted.{granted-well_formed, granted-small}, Words.first_byte}
 
 pub touch_small : (i : Image) (e : Entries) → IsImage i → (g w : ℕ) → CanTouch i e g w → w < 2 ^ 54
@@ -21,18 +22,18 @@ module _ (i : Image) (spans : List Span) (s : AreSpans i All spans) (groups : �
   pub covers_touched : CoversTouched i groups (outermost Touch groups 0 spans)
   covers_touched w aligned small = (
     λ c.
-        let u = covered_use i All spans s Touch groups w c in
+        let u = covered_use (Grants i All) spans (spans_granted i All spans s) Touch groups w c in
         let t = (shares_test (span_at spans u.0).touch groups fits).0 u.2 in
         record {
           group = t.group;
           member = eq-eqb _ _ t.other;
           touches = (touch_use i All t.group w).1
-              (span_use i All spans s Touch t.group w aligned
+              (span_use (Grants i All) spans (spans_granted i All spans s) Touch t.group w aligned
               (record { at = u.0; small = u.1; uses = t.one; low = u.3; high = u.4 }));
         },
     λ y.
-        let u = use_span i All spans s Touch y.group w ((touch_use i All y.group w).0 y.touches) in
-        use_covered i All spans s Touch groups w u.at u.small ((shares_test (span_at spans u.at).touch groups fits).1
+        let u = use_span (Grants i All) spans (spans_granted i All spans s) Touch y.group w ((touch_use i All y.group w).0 y.touches) in
+        use_covered (Grants i All) spans (spans_granted i All spans s) Touch groups w u.at u.small ((shares_test (span_at spans u.at).touch groups fits).1
         (record { group = y.group; one = u.uses; other = eqb-true _ _ y.member })) u.low u.high,
   )
 

@@ -3,12 +3,14 @@ pub mod Marks
 pub mod Walks
 pub mod Opening
 pub mod Meeting
+pub mod Held
 pub mod Surveys
 pub mod Audits
 pub mod GroupSets
 pub mod Serving
 pub mod Writers
 pub mod Crossing
+pub mod Answering
 pub mod Refusals
 pub mod Inside
 pub mod Own

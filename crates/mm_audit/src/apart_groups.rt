@@ -7,6 +7,7 @@ ghost use Rattle.mm_model.specs.Image.{Image as ImageValue};
 ghost use Rattle.mm_model.specs.Spelling.{IsImage};
 ghost use Rattle.mm_model.specs.Reach.{Entries as EntriesValue};
 ghost use Rattle.mm_model.specs.Audit.{Judged};
+ghost use Rattle.mm_audit.specs.Answering.{IsAnswerOf};
 ghost use Rattle.mm_audit.specs.Crossing.{NoCrossing, LeastCrossing, verdict_of};
 ghost use Rattle.mm_audit.specs.Meeting.{AreRows};
 ghost use Rattle.mm_audit.specs.Serving.{served_of};
@@ -85,7 +86,8 @@ pub fn crossing(served: &[Served], groups: &[u8]) -> Option<u8>
 /// or else the least group outside that can write a word that one inside can touch, with the least such word.
 pub fn judge(served: &[Served], least: &[Meets], groups: &[u8]) -> Apart
     requires { AreRows least.now }
-    ensures { (i : ImageValue) (e : EntriesValue)
+    ensures answer { IsAnswerOf served.now least.now (among groups.now) result }
+    ensures judged { (i : ImageValue) (e : EntriesValue)
         → IsImage i
         → served.now ≡ served_of i.slots
         → IsLeastTable i e least.now

@@ -38,10 +38,11 @@ mod writers;
 
 pub use apart_groups::Apart;
 pub use extracting::{ExtractError, extract};
+pub use handlers::Served;
 pub use mm_graph::Entries;
 pub use outermost_spans::Segments;
 pub use reach::Reach;
 pub use refusals::{Refused, refusal};
 pub use solo::alone;
-pub use surveying::{audit, survey};
+pub use surveying::{audit, survey, survey_of};
 pub use surveys::Survey;

@@ -1,21 +1,24 @@
 //! The survey and the audit of an image.
 
-ghost use Rattle.std.specs.Prelude.{IfOk};
+ghost use Rattle.std.specs.Prelude.{◌≡◌, ◌<◌, ◌≤◌, ℕ, All, IfOk, length};
+ghost use Rattle.mm_graph.specs.Key.{IsKey, IsRising, key_at, pointer_at};
 ghost use Rattle.mm_graph.specs.Masks.{meaning};
 ghost use Rattle.mm_model.specs.Spelling.{IsImage};
 ghost use Rattle.mm_audit.specs.Audits.{Audits};
+ghost use Rattle.mm_audit.specs.Marks.{IsUsed, SpansOf, span_of};
+ghost use Rattle.mm_audit.specs.Meeting.{HaveMet};
 ghost use Rattle.mm_audit.specs.Spans.{AreSpans};
 ghost use Rattle.mm_audit.specs.Surveys.{ArePrivileged, Surveys};
 
-use crate::handlers::served_in;
+use crate::handlers::{Served, served_in};
 use crate::least_shared::least_words;
 use crate::reach::Reach;
 use crate::sets::group_sets;
 use crate::span::Span;
 use crate::spans::spans_of;
 use crate::surveys::Survey;
-use mm_flow::{Right, any};
-use mm_graph::{Entries, marked};
+use mm_flow::{Node, Right, any};
+use mm_graph::{CanonicalPtr, Entries, marked};
 use mm_image::Image;
 use mm_model::WordUse;
 use mm_word::NoMemory;
@@ -52,6 +55,37 @@ pub fn survey(alloc: Global, img: &Image, entries: &Entries) -> Result<Survey, N
     let served = served_in(alloc, slots)?;
     Ok(Survey {
         privileged,
+        spans,
+        served,
+        least,
+    })
+}
+
+/// A survey of groups that are marked at these keys, of which none is privileged, with these slots and the groups of
+/// their handlers.
+pub fn survey_of(
+    alloc: Global,
+    keys: &[CanonicalPtr],
+    nodes: &[Node],
+    marks: &[u64],
+    served: Vec<Served>,
+) -> Result<Survey, NoMemory>
+    requires rising { IsRising keys.now }
+    requires keys { All IsKey keys.now }
+    requires nodes { length nodes.now ≡ length keys.now }
+    requires marks { length marks.now ≡ length keys.now }
+    requires words { (k : ℕ)
+        → k < length keys.now
+        → IsUsed (span_of keys.now nodes.now marks.now k)
+        → 3 ≤ (pointer_at (key_at keys.now k)).log }
+    ensures spans { IfOk result (λ s. SpansOf keys.now nodes.now marks.now 0 (length keys.now) s.spans) }
+    ensures least { IfOk result (λ s. HaveMet s.spans (length s.spans) s.least) }
+    ensures served { IfOk result (λ s. s.served ≡ served.items) }
+{
+    let spans = spans_of(alloc, keys, nodes, marks, 0)?;
+    let least = least_words(alloc, &spans)?;
+    Ok(Survey {
+        privileged: 0,
         spans,
         served,
         least,

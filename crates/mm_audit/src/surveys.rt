@@ -1,11 +1,14 @@
 //! A finished audit with one list of segments for all groups.
 
-ghost use Rattle.std.specs.Prelude.{◌≡◌, ◌^◌, ◌↔◌, nat_lt, if◌then◌else◌, IsTrue};
+ghost use Rattle.std.specs.Prelude.{◌≡◌, ◌↔◌, IsTrue};
 ghost use Rattle.mm_word.specs.Perm.{can_load, can_store};
 ghost use Rattle.mm_model.specs.Image.{Image as ImageValue};
 ghost use Rattle.mm_model.specs.Groups.{among};
 ghost use Rattle.mm_model.specs.Reach.{Entries as EntriesValue, Privileged};
 ghost use Rattle.mm_model.specs.Audit.{MaximalSegments, Judged};
+ghost use Rattle.mm_model.specs.declared.word_use.WordUse.TheVariants.{Touch, Write};
+ghost use Rattle.mm_audit.specs.Walks.{group_mask, outermost_of};
+ghost use Rattle.mm_audit.specs.Answering.{IsAnswerOf};
 
 use crate::apart_groups::{Apart, judge};
 use crate::handlers::Served;
@@ -45,7 +48,7 @@ impl Model for Survey {
 
 /// The mask of a group; it is empty for a group that no slot can have.
 fn mask_of(group: u8) -> u64
-    ensures { result ≡ (if nat_lt group 64 then 2 ^ group else 0) }
+    ensures { result ≡ group_mask group }
 {
     if group < 64 { 1 << group } else { 0 }
 }
@@ -63,7 +66,8 @@ impl Survey {
 
     /// The maximal segments of at least a word that a group can touch: none for a group that no slot can have.
     pub fn touched(&self, group: u8) -> Segments<'_>
-        ensures { (i : ImageValue) (e : EntriesValue)
+        ensures outermost { result ≡ outermost_of Touch group self.now.spans }
+        ensures maximal { (i : ImageValue) (e : EntriesValue)
             → Surveys i e self.now
             → MaximalSegments i e group can_load result }
     {
@@ -72,7 +76,8 @@ impl Survey {
 
     /// The maximal segments of at least a word that a group can write: none for a group that no slot can have.
     pub fn written(&self, group: u8) -> Segments<'_>
-        ensures { (i : ImageValue) (e : EntriesValue)
+        ensures outermost { result ≡ outermost_of Write group self.now.spans }
+        ensures maximal { (i : ImageValue) (e : EntriesValue)
             → Surveys i e self.now
             → MaximalSegments i e group can_store result }
     {
@@ -82,7 +87,8 @@ impl Survey {
     /// Whether groups stand apart from all others. If not, the answer is the least slot with a handler on the other
     /// side; or else the least group outside that can write a word that one inside can touch, with the least such word.
     pub fn apart(&self, groups: &[u8]) -> Apart
-        ensures { (i : ImageValue) (e : EntriesValue)
+        ensures answer { IsAnswerOf self.now.served self.now.least (among groups.now) result }
+        ensures judged { (i : ImageValue) (e : EntriesValue)
             → Surveys i e self.now
             → Judged i e (among groups.now) (verdict_of result) }
     {

@@ -7,3 +7,4 @@ mod lines;
 mod uses;
 
 pub use audit::{write_audit, write_audit_of};
+pub use lines::{put_answer, put_segments};

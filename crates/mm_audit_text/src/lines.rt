@@ -101,7 +101,7 @@ fn put_verdict<O: Sink>(text: &mut TextBuffer, out: &mut O, apart: Apart)
 }
 
 /// Appends the line that says whether groups stand apart, given the answer.
-fn put_answer<O: Sink>(text: &mut TextBuffer, out: &mut O, groups: &[u8], apart: Apart)
+pub fn put_answer<O: Sink>(text: &mut TextBuffer, out: &mut O, groups: &[u8], apart: Apart)
     ensures { Appends O.taken O.faults out.old out.new text.old text.new (apart_line groups.now (verdict_of apart)) }
 {
     text.put(out, &[Piece::Text("apart ")]);

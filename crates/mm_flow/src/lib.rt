@@ -28,4 +28,4 @@ mod worklist;
 pub use forest::parents;
 pub use node::{Node, Right};
 pub use reach::{any, saturate, sharing_edges, spread};
-pub use sharing::{propagate_shared, share, shared_by};
+pub use sharing::{marks_above, propagate_shared, share, shared_by};

@@ -35,8 +35,13 @@ mod placed;
 mod seed;
 mod targets;
 
+pub use above::parents_of;
 pub use canonical_ptr::{CanonicalPtr, standing_in};
 pub use entries::Entries;
 pub use found::Found;
 pub use graph::{Graph, Marks, built, marked};
+pub use keys::keys_and_targets;
+pub use mark::marks_of;
+pub use nodes::nodes_of;
 pub use order::find;
+pub use seed::Seed;

@@ -39,7 +39,7 @@ fn load_stored(
 }
 
 /// Whether a thread comes from a slot.
-fn comes_from(origin: &Origin, slot: u8) -> bool
+pub fn comes_from(origin: &Origin, slot: u8) -> bool
     ensures { result ≡ comes_from origin.now slot }
 {
     match *origin {
@@ -57,7 +57,7 @@ fn registers(forms: &[Form; 16]) -> usize
 }
 
 /// A thread with the words of an event in four registers, from a register on.
-fn with_words(t: &Thread, reg: u8, words: &Handling) -> Thread
+pub fn with_words(t: &Thread, reg: u8, words: &Handling) -> Thread
     ensures { result ≡ with_event t.now reg words.now.ip words.now.address words.now.value }
 {
     let at = usize::from(reg);

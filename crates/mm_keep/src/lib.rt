@@ -19,12 +19,14 @@ mod thread;
 mod turn;
 mod uses;
 
+pub use again::{comes_from, with_words};
 pub use begin::first_form;
-pub use kernel::{Kernel, is_kernel_slot};
-pub use live::live_pointers;
+pub use kernel::{Kernel, is_kernel_slot, thread_through};
+pub use live::{live_pointers, runs};
 pub use outcome_list::Outcomes;
 pub use search::find;
-pub use segments::{is_kept, lies_in};
+pub use segments::{is_door, is_kept, is_open_pointer, lies_in};
 pub use tables::Tables;
+pub use thread::{form_at, on_after, with_form};
 pub use turn::outcomes;
 pub use uses::{fetched_word, sets_bit};

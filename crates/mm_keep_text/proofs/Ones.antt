@@ -133,7 +133,7 @@ module _ (i : Image) (kept : List Segment) where
       let rest = parties_one os a b h.1 k.1 in
       λ j. one j ∷ rest j
 
-  told_one : (a b : Told) → IsTold i kept a → IsTold i kept b → a ≡ b
+  pub told_one : (a b : Told) → IsTold i kept a → IsTold i kept b → a ≡ b
   told_one a b h k =
       let doors = lists_one pointer_key h.doors k.doors h.doors_are.ascend k.doors_are.ascend
       (λ p there. (k.doors_are.each p).1 ((h.doors_are.each p).0 there)) (λ p there. (h.doors_are.each p).1 ((k.doors_are.each p).0 there)) in
@@ -146,14 +146,14 @@ module _ (i : Image) (kept : List Segment) where
       (λ x there. (k.leaks x).1 ((h.leaks x).0 there)) (λ x there. (h.leaks x).1 ((k.leaks x).0 there)) in
       λ j. record { parties = parties j; code = code j; cells = cells j; leaks = leaks j }
 
-  not_at_most : (limit : ℕ) → HasMore i kept limit → HasAtMost i kept limit → ⊥
+  pub not_at_most : (limit : ℕ) → HasMore i kept limit → HasAtMost i kept limit → ⊥
   not_at_most limit h k =
       let short = no_more h.threads k.threads h.distinct (λ t there. k.whole t (h.derived t there)) in
       let many = h.many in
       let few = k.few in
       omega (arith, short, many, few)
 
-  not_user : is_user i ≡ false → is_user i ≡ true → ⊥
+  pub not_user : is_user i ≡ false → is_user i ≡ true → ⊥
   not_user off on = let wrong : false ≡ true = sym off ∙ on in cc
 
   text_one : (limit : ℕ) (a b : Answer) → IsAnswer i kept limit a → IsAnswer i kept limit b → answer_text a ≡ answer_text b

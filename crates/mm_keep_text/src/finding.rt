@@ -42,7 +42,7 @@ fn some_privileged(pointers: &[GuardedPtr]) -> bool
 
 /// Whether an image has no live pointer to privileged code.
 #[tactic(auto, unfolding(mm_kernel::specs::Segments::is_user))]
-fn is_user(alloc: Global, image: &Image) -> Result<bool, NoMemory>
+pub fn is_user(alloc: Global, image: &Image) -> Result<bool, NoMemory>
     ensures { IfOk result (λ user. user ≡ is_user image.now) }
 {
     let pointers = live_pointers(alloc, image)?;
@@ -152,7 +152,7 @@ fn parties(
 }
 
 /// What is told of a kernel of which all was found.
-fn tell(alloc: Global, kernel: &Kernel, tables: &Tables) -> Result<Told, NoMemory>
+pub fn tell(alloc: Global, kernel: &Kernel, tables: &Tables) -> Result<Told, NoMemory>
     requires { IsExact kernel.now.image kernel.now.kept tables.now }
     ensures { IfOk result (λ told. IsTold kernel.now.image kernel.now.kept told) }
 {

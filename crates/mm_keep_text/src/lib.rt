@@ -10,6 +10,6 @@ mod text;
 mod told;
 mod words;
 
-pub use finding::keeps;
-pub use text::write_keeps;
+pub use finding::{is_user, keeps, tell};
+pub use text::{put_keeps, write_keeps};
 pub use told::{Answer, Party, Told};

@@ -16,7 +16,7 @@ use mm_io::{Sink, WriteFault};
 use mm_kernel::{Form, Leak, Origin};
 use mm_span::put_spans;
 use mm_text::Piece::{Decimal, HexAddress, Text};
-use mm_text::{TextBuffer, put_word, write_pieces};
+use mm_text::{TextBuffer, put_word};
 use mm_word::{GuardedPtr, Word};
 
 /// Writes what a kernel keeps:
@@ -35,24 +35,31 @@ use mm_word::{GuardedPtr, Word};
 pub fn write_keeps<O: Sink>(answer: &Answer, out: &mut O) -> Result<(), WriteFault>
     ensures { Writes O.taken O.faults out.old out.new (answer_text answer.now) result }
 {
+    let mut text = TextBuffer::new();
+    put_keeps(&mut text, out, answer);
+    text.finish(out)
+}
+
+/// Appends what a kernel keeps, as [`write_keeps`] writes it.
+pub fn put_keeps<O: Sink>(text: &mut TextBuffer, out: &mut O, answer: &Answer)
+    ensures { Appends O.taken O.faults out.old out.new text.old text.new (answer_text answer.now) }
+{
     match answer {
-        Answer::Privileged => write_pieces(out, &[Text("keeps privileged\n")]),
-        Answer::More => write_pieces(out, &[Text("keeps more\n")]),
-        Answer::Found(told) => write_told(told, out),
+        Answer::Privileged => text.put(out, &[Text("keeps privileged\n")]),
+        Answer::More => text.put(out, &[Text("keeps more\n")]),
+        Answer::Found(told) => put_told(text, out, told),
     }
 }
 
-/// Writes what is told of a kernel.
-fn write_told<O: Sink>(told: &Told, out: &mut O) -> Result<(), WriteFault>
-    ensures { Writes O.taken O.faults out.old out.new (told_text told.now) result }
+/// Appends what is told of a kernel.
+fn put_told<O: Sink>(text: &mut TextBuffer, out: &mut O, told: &Told)
+    ensures { Appends O.taken O.faults out.old out.new text.old text.new (told_text told.now) }
 {
-    let mut text = TextBuffer::new();
-    put_verdict(&mut text, out, &told.leaks);
-    put_parties(&mut text, out, &told.parties);
-    put_spans(&mut text, out, "code ", &told.code);
-    put_cells(&mut text, out, &told.cells);
-    put_leaks(&mut text, out, &told.leaks);
-    text.finish(out)
+    put_verdict(text, out, &told.leaks);
+    put_parties(text, out, &told.parties);
+    put_spans(text, out, "code ", &told.code);
+    put_cells(text, out, &told.cells);
+    put_leaks(text, out, &told.leaks);
 }
 
 /// Appends the first line, given the leaks.

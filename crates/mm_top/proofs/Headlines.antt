@@ -6,6 +6,7 @@ use Rattle.mm_model.specs.{Trace.{trace as trace_of}, Worlds.Apart}
 use Rattle.mm_laws.{specs.Runs.Isolates, proofs.WholeRuns.{runs_reach, runs_isolate}}
 use Rattle.mm_kernel.specs.Segments.{Segment}
 use Rattle.mm_keep_text.proofs.Ones.{kept_by}
+use Rattle.mm_confine_text.proofs.Confining.{confined_by}
 use Rattle.mm_load.specs.{declared.status.Status.{Status, TheVariants.Done}, Files.FilesAccepted}
 use Rattle.mm_load.specs.Kinds.{Value, an_image}
 use Rattle.mm_cli.{specs.Table.{Row, Matches, files_of}, proofs.Rows.one_row}
@@ -69,8 +70,11 @@ keeps_proved tells held left image threads kept text (an_image i ∷ [], accepte
   reads = accepted;
   answer = says.answer;
   is = says.is;
+  groups = says.groups;
+  groups_are = says.groups_are;
   writes = says.written;
   holds = kept_by i kept threads says.answer accepted.0.means.image says.is;
+  confines = confined_by i kept threads says.answer accepted.0.means.image says.is;
 }
 keeps_proved tells held left image threads kept text (values, accepted, writes) = absurd (assumption (accepted, writes))
 

@@ -12,7 +12,7 @@ use Rattle.mm_audit.specs.Refusals.{StandAlone}
 use Rattle.mm_explore.specs.Finds.{Explores}
 use Rattle.mm_why.specs.Text.{SaysWhy}
 use Rattle.mm_kernel.specs.Segments.{Segment}
-use Rattle.mm_keep_text.specs.Answers.{Says}
+use Rattle.mm_confine_text.specs.Told.{Tells}
 use Rattle.mm_sched.specs.declared.schedule.Order.{Order}
 use Rattle.mm_log.specs.Log.{log_text}
 use Rattle.mm_save.specs.Recorder.{recorded}
@@ -102,7 +102,7 @@ YieldsAloneAt Explore (image ∷ number_word states ∷ []) (an_image i ∷ []) 
 YieldsAloneAt Why (image ∷ number_word group ∷ number_word word ∷ use_word how ∷ []) (an_image i ∷ []) text =
     SaysWhy i how group word text
 YieldsAloneAt Keeps (image ∷ number_word threads ∷ segments_word kept ∷ []) (an_image i ∷ []) text =
-    Says i kept threads text
+    Tells i kept threads text
 YieldsAloneAt _ _ _ text = ⊥
 
 -- a command writes a text, given what the memory tells of uses

@@ -10,6 +10,7 @@ use Rattle.mm_explore.specs.{Finds.Finds, Laws.{AreMet, IsRunFound}, Results.{Re
 use Rattle.mm_kernel.specs.Segments.{Segment}
 use Rattle.mm_keep_text.specs.declared.told.Answer.{Answer}
 use Rattle.mm_keep_text.specs.{Answers.{IsAnswer, answer_text}, Laws.KeepsIfYes}
+use Rattle.mm_confine_text.specs.{Told.AreGroups, Laws.ConfinesIfYes}
 use Rattle.mm_top.specs.{Commands.{log, explore, keeps}, Orders.AreIssued}
 
 -- What a command that is done did, if it runs an image and writes a report. `turns` is the text that it writes before
@@ -67,6 +68,12 @@ pub record KeepsIsProved (held : List ℕ → Option (List ℕ)) (image : List �
   pub reads : FilesAccepted held [] (files_of (keeps image threads kept)) (an_image i ∷ [])
   pub answer : Answer
   pub is : IsAnswer i kept threads answer
-  pub writes : written ≡ answer_text answer
+  -- The text is that of the answer and, if this is yes, of what each group can reach.
+  pub groups : List ℕ
+  pub groups_are : AreGroups i kept answer groups
+  pub writes : written ≡ answer_text answer ++ groups
   -- If the answer is yes, the kernel keeps its segments in every run of every variant of the image.
   pub holds : KeepsIfYes i kept answer
+  -- If the answer is yes, then in every run each access is one that its group reaches, or is on a kept word that threads of
+  -- the kernel use so, from a door or a slot that the text names for the group.
+  pub confines : ConfinesIfYes i kept answer

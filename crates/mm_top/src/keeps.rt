@@ -1,15 +1,15 @@
-//! `keeps`: what a kernel keeps, whatever its callers do.
+//! `keeps`: what a kernel keeps, whatever its callers do, and what each group can reach then.
 
-ghost use Rattle.mm_keep_text.specs.Answers.{Says};
+ghost use Rattle.mm_confine_text.specs.Told.{Tells};
 ghost use Rattle.mm_load.specs.Files.{reading};
 ghost use Rattle.mm_cli.specs.Arguments.{HasArguments, row};
 ghost use Rattle.mm_top.specs.Commands.{YieldsAlone};
 ghost use Rattle.mm_top.specs.Answers.{CommandEnds, EndsWith, writing};
 
 use mm_cli::{Command, Word, name_at, number_at, segments_at};
+use mm_confine_text::write_keeps;
 use mm_image::Image;
 use mm_io::{Files, Sink};
-use mm_keep_text::write_keeps;
 use mm_kernel::Part;
 use mm_load::{CommandError, ended, load_file};
 use std::alloc::Global;
@@ -30,7 +30,8 @@ pub fn keeps<F: Files, O: Sink>(
     write_kept(alloc, &image, threads, segments_at(words, 2), out)
 }
 
-/// Writes what the kernel of an image keeps, given its kept segments, if it has no more than so many threads.
+/// Writes what the kernel of an image keeps and what each group can reach, given its kept segments, if it has no more than
+/// so many threads.
 fn write_kept<O: Sink>(
     alloc: Global,
     image: &Image,
@@ -38,8 +39,8 @@ fn write_kept<O: Sink>(
     kept: &[Part],
     out: &mut O,
 ) -> Result<(), CommandError>
-    ensures { EndsWith (writing O.taken O.faults out.old out.new) (Says image.now kept.now threads) result }
+    ensures { EndsWith (writing O.taken O.faults out.old out.new) (Tells image.now kept.now threads) result }
 {
-    let answer = mm_keep_text::keeps(alloc, image, threads, kept)?;
-    ended(write_keeps(&answer, out))
+    let found = mm_confine_text::keeps(alloc, image, threads, kept)?;
+    ended(write_keeps(&found, out))
 }

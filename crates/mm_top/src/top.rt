@@ -121,7 +121,8 @@ pub fn mmachine<M: Boot + Reset, F: Files, I: Source, O: Sink, D: Sink>(
         × (O.taken out.new ≡ append_known (O.taken out.old) written) }
 
     // What a kernel keeps is proved of each `keeps` that is done: it writes the answer for the image and its kept
-    // segments. If the answer is yes, the kernel keeps them in every run of every variant of the image.
+    // segments and, if the answer is yes, what each group can reach. Then the kernel keeps the segments in every run of
+    // every variant of the image, and confines each group to what it reaches in every run of the image.
     ensures keeps { result ≡ Status.Done → (image : List ℕ) (threads : ℕ) (kept : List Segment)
         → Matches (texts words.now) (keeps image threads kept)
         → (written : List ℕ) × KeepsIsProved (F.held files.old) image threads kept written

@@ -15,8 +15,8 @@ returns g c =
         touch = touch;
         write = write;
         privileged_is = c.privileged.ensures i All surveys;
-        touch_is = c.touched.ensures i All surveys;
-        write_is = c.written.ensures i All surveys;
+        touch_is = c.touched.ensures.maximal i All surveys;
+        write_is = c.written.ensures.maximal i All surveys;
         is = refl;
       },
     )

@@ -7,5 +7,5 @@ pub returns : goal.returns
 returns g c = (
   apart_line c.args.groups.now (verdict_of c.apart.result),
   c.put_answer.ensures,
-  λ i surveys. record { verdict = verdict_of c.apart.result; judged = c.apart.ensures i All surveys; is = refl },
+  λ i surveys. record { verdict = verdict_of c.apart.result; judged = c.apart.ensures.judged i All surveys; is = refl },
 )

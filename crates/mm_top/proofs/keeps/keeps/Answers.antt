@@ -1,6 +1,6 @@
 use Rattle.std.proofs.Common.{ℕ, List, [], slice_get, refl, subst}
 use Rattle.mm_kernel.specs.Segments.{Segment}
-use Rattle.mm_keep_text.specs.Answers.{Says}
+use Rattle.mm_confine_text.specs.Told.{Tells}
 use Rattle.mm_cli.specs.Arguments.{segments_of}
 use Rattle.mm_top.proofs.{Rows.{row_stops, row_ends}, NamedFiles.named}
 use Rattle.mm_top.proofs.keeps.keeps.Goals as goal
@@ -13,5 +13,5 @@ returns g c =
     let i = c.in_ok-image.image in
     row_ends _ _ (named c.name_at.ensures (c.in_ok-image.ensures.read [] refl)) refl c.write_kept.ensures (λ r no. no)
     (λ text is.
-    subst (λ (threads : ℕ). Says i (segments_of (slice_get c.args.words.now 2)) threads text) c.number_at-threads.ensures
-    (subst (λ (kept : List Segment). Says i kept c.number_at-threads.result text) c.segments_at.ensures is))
+    subst (λ (threads : ℕ). Tells i (segments_of (slice_get c.args.words.now 2)) threads text) c.number_at-threads.ensures
+    (subst (λ (kept : List Segment). Tells i kept c.number_at-threads.result text) c.segments_at.ensures is))

@@ -1,7 +1,7 @@
-use Rattle.std.proofs.Common.{refl}
 use Rattle.mm_top.proofs.Reported.{ends_written}
 use Rattle.mm_top.proofs.keeps.write_kept.Goals as goal
 
 pub returns : goal.returns
 returns g c =
-    ends_written _ _ _ _ (record { answer = c.in_ok-answer.answer; is = c.in_ok-answer.ensures.is; written = refl }) _ _ c.ended.ensures c.write_keeps.ensures
+    let (text, wrote, tells) = c.write_keeps.ensures in
+    ends_written _ _ _ text (tells c.args.image.now c.args.kept.now c.args.threads c.in_ok-found.ensures.is) _ _ c.ended.ensures wrote

@@ -1,0 +1,5 @@
+mod Listing
+mod Answering
+mod Texts
+mod Ones
+pub mod Confining

@@ -1,0 +1,14 @@
+pub mod Deeds
+pub mod Conducts
+pub mod Parties
+pub mod Handlers
+pub mod Marks
+pub mod Passing
+pub mod Finding
+pub mod Exactly
+pub mod Rounds
+pub mod Standing
+pub mod Graphs
+pub mod Reached
+pub mod Apart
+pub mod Holdings
