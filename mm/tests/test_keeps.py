@@ -297,6 +297,8 @@ class Said(unittest.TestCase):
         self.assertEqual((form["answer"], form["threads"], form["form"]), ("no", 7, 1))
         self.assertEqual(form["kept"], [{"address": "0x1000c0", "name": "gate", "log": 6}])
         self.assertEqual(form["slots"][0]["reads"], [{"address": "0x1000c0", "name": "gate", "words": 2}])
+        self.assertEqual({leak["leak"]: leak["said"] for leak in form["leaks"]}["jump"], "it can leave the kernel with what no caller may hold")
+        self.assertTrue(all(leak["notes"] == [] for leak in form["leaks"] if leak["leak"] != "fault"))
         self.assertEqual([cell["kind"] for cell in form["cells"]], ["any", "in"])
         self.assertEqual(form["cells"][1]["segment"], {"address": "0x1000c0", "name": "gate", "log": 6})
         jump = form["leaks"][3]

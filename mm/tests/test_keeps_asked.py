@@ -75,6 +75,26 @@ class Asked(unittest.TestCase):
         self.assertIn("the caller's handler then gets (slot 4 for slot 3)\n", no)
         self.assertNotIn("kernel's own", no)
 
+    def test_a_client_that_counts_as_the_kernel(self):
+        """A client with a pointer too many at the start is told below a yes, and no slot whose code is kept."""
+        source = read("examples", "counter.asm").replace(".thread 1 1 none xu cons\n", ".thread 1 1 none xu cons\n.reg 9 ptr rw count\n")
+        with folder() as room:
+            path = write(room, "extra.asm", source)
+            out = mm("keeps", path, "gate", "count").out
+            kept = mm("keeps", path, "gate", "count", "cons").out
+        self.assertIn("\n  slot 1 counts as the kernel: r9 holds rw 2^3 count, and its code, cons, is not kept\n", out)
+        self.assertTrue(kept.startswith("yes: ") and "slot 1  the kernel" in kept, kept)
+        self.assertNotIn("counts as", kept)
+
+    def test_who_handles_across(self):
+        """A group stands apart though the kernel handles its faults, and that is said; nothing of it without such a handler."""
+        rest = ("*_gate", "*_lease", "leases", "pool", "block_*")
+        out = mm("keeps", "examples/leases.asm", "keeper", "use", *rest).out
+        self.assertEqual(out.count("no fault is handled across but by the kernel\n"), 4)
+        box = mm("keeps", "examples/mailbox.asm", "code", "put_gate", "take_gate", "box").out
+        self.assertIn("no fault is handled across\n", box)
+        self.assertNotIn("but by the kernel", box)
+
     def test_threads(self):
         words = ("keeps", "examples/scheduler.asm", "scheduler", "first", "second")
         self.assertIn("more than 400 threads", mm(*words, "--threads", "400").out)

@@ -47,15 +47,15 @@ class AuditView:
         ]
         return [f"{head} can", *lines]
 
-    def apart(self, apart: Apart) -> str:
-        """Whether groups stand apart, and if not, why."""
+    def apart(self, apart: Apart, but: str = "") -> str:
+        """Whether groups stand apart, and if not, why; and by whom faults are handled all the same."""
         many = "," in apart.groups
         who = f"groups {apart.groups.replace(',', ', ')}" if many else f"group {apart.groups}"
         verb, pronoun = ("stand", "they") if many else ("stands", "it")
         if apart.apart:
             return (
                 self.style.good(f"{who} {verb} apart")
-                + f": nobody else can write a word that {pronoun} can read, and no fault is handled across"
+                + f": nobody else can write a word that {pronoun} can read, and no fault is handled across{but}"
             )
         does_not = self.style.warn(f"{who} {'do' if many else 'does'} not stand apart")
         if apart.handler is not None:

@@ -65,10 +65,38 @@ class KeepsView:
             yield f"{self.style.good('yes')}: the kernel keeps {self.names}"
             yield f"  whatever code its callers run, and in whatever order: only its own code, {own}, uses these words,"
             yield "  and nobody else gets a pointer into them but to its doors (or a key, which does nothing)"
+            yield from self.strangers(found)
             return
         count = len(places_of(found.leaks))
         yield f"{self.style.bad('no')}: the kernel can give away what it keeps ({self.names}), at {counted(count, 'place')}"
         yield "  each register is looked at by itself, so perhaps no program gets there: a leak says where to look"
+
+    def strangers(self, found: Kept) -> Iterator[str]:
+        """The slots that are the kernel's by a word in a register alone: their code is not kept."""
+        for party in found.parties:
+            if party.door is not None:
+                continue
+            slot = next(slot for slot in self.image.slots if slot.number == party.slot)
+            if any(self.overlap(slot.ip, segment) for segment in self.kept):
+                continue
+            for number, word in enumerate(slot.registers):
+                held = word.pointer
+                if held and self.is_inside(held):
+                    code = self.symbols.show(slot.ip.address)
+                    yield (f"  {self.style.warn(f'slot {slot.number} counts as the kernel')}: r{number} holds"
+                           f" {self.words.speller.pointer(held)}, and its code, {self.style.name(code)}, is not kept")
+                    break
+
+    def overlap(self, pointer: Pointer, segment: Segment) -> bool:
+        """Whether a pointer's segment and a kept one have an address in common."""
+        base, log = segment
+        return pointer.base < base + (1 << log) and base < pointer.end
+
+    def is_inside(self, pointer: Pointer) -> bool:
+        """Whether a pointer leads into a kept segment, and is neither a key nor a door."""
+        if pointer.permission in (Permission.KEY, Permission.EU, Permission.EP):
+            return False
+        return any(self.overlap(pointer, segment) for segment in self.kept)
 
     def more(self, threads: int) -> Iterator[str]:
         yield f"{self.style.warn('not known')}: the kernel has more than {threads} threads, and the others were not looked at"
@@ -176,9 +204,17 @@ class KeepsView:
         """What each group can reach that is not kept, if the answer tells."""
         for group in found.groups:
             yield ""
-            yield from self.group(group)
+            yield from self.group(group, self.handled(group.reach.group, found))
 
-    def group(self, group: Confined) -> Iterator[str]:
+    def handled(self, group: int, found: Kept) -> str:
+        """Who handles faults across all the same: the kernel, if a slot of the group has its handler there, or serves there."""
+        own = {party.slot for party in found.parties if party.door is None}
+        slots = {slot.number: slot for slot in self.image.slots}
+        pairs = [(slot, slots[slot.handler]) for slot in self.image.slots if slot.handler in slots and slot.handler in own]
+        across = any((served.group == group) != (server.group == group) for served, server in pairs)
+        return " but by the kernel" if across else ""
+
+    def group(self, group: Confined, handled: str) -> Iterator[str]:
         view = AuditView(self.symbols, self.style)
         slots = [slot.number for slot in self.image.slots if slot.group == group.reach.group]
         yield from view.reach(group.reach, slots)
@@ -189,4 +225,4 @@ class KeepsView:
             numbers = f"{'slot' if len(group.slots) == 1 else 'slots'} {listed(list(map(str, group.slots)))}"
             yield f"  {'run as':<14}  {self.style.name('the kernel')}, by {numbers}"
         if group.apart:
-            yield "  " + view.apart(group.apart)
+            yield "  " + view.apart(group.apart, handled)

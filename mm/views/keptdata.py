@@ -68,13 +68,15 @@ class KeptForm:
 
     def leak(self, leak: Leak, place: Place) -> Json:
         """A leak: where it is, what gets out, and what the author does about it."""
-        _, mend = self.view.told(place)
+        said, mend = self.view.told(place)
         form: Json = {
             "leak": leak.kind,
             "slot": leak.slot,
             "register": None if leak.register is None else f"r{leak.register}",
             "form": None if leak.form is None else self.of(leak.form),
+            "said": said,
             "mend": mend,
+            "notes": list(self.view.notes(place)) if leak.kind == "fault" else [],
             "address": None,
             "name": None,
             "source": None,
