@@ -28,6 +28,8 @@ TREES = [
     # Pages.
     # (in two pieces, since else this file would have the name)
     ("a page of the code names what is not there", NAMES, "docs/DECISIONS.md", "`StopReason`", "`StopReaso" "z`"),
+    ("a program that is not built here uses what is not there", NAMES, "conformance/logger/main.txt", "use mm_text::TextBuffer;",
+     "use mm_text::Gather;"),
     ("a file has each operation and is not on the page", OPERATIONS, "docs/CARRYING_ON.md", "`mm/machine/isa.py`", "`mm/machine/words.py`"),
     ("a link leads to another definition", CLAUSES, "docs/INSTRUCTIONS.md", "[1A]: ../crates/mm_isa/specs/Table.antt#L46",
      "[1A]: ../crates/mm_isa/specs/Table.antt#L45"),
