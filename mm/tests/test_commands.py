@@ -244,7 +244,6 @@ class Looking(unittest.TestCase):
                 file.write(image_bytes(image))
             lines = mm("dis", os.path.join(room, "halted.img")).out.splitlines()
         self.assertIn("slot 3  group 2, handler none, at xu 2^3 0x100100, halted", lines)
-        self.assertIn("    r4   9", lines)
         self.assertEqual(lines[-2:], ["  0x100000  i0000000000000007  number 7", "  0x100008  511 words of 0"])
 
     def test_instructions_are_called_what_the_program_calls_them(self):
