@@ -23,12 +23,12 @@ from mm.lockstep.shorten import Shortener
 from mm.lockstep.shrink import Shrinker, image_of, kind_of
 from mm.lockstep.tally import Tally
 from mm.lockstep.world import World
-from mm.log.read import LogReader, read_log
+from mm.log.read import read_log
 from mm.log.replay import Machine
 from mm.machine.isa import OPERATIONS, decode
 from mm.machine.program import find_program
 from mm.machine.words import ZERO, Cell
-from mm.tests.support import folder, mm, needs_log, path_of, read, read_bytes, write
+from mm.tests.support import folder, needs_log, path_of, read, read_bytes, write
 from mm.tests.test_log import LOG, small_image
 
 # What the cases 0 to 49 of seed 1 are. It changes with the generator: then numbers that were written down mean others.
@@ -326,17 +326,6 @@ class Command(unittest.TestCase):
         status, out, _ = lockstep("--tally", "--count", "5")
         self.assertEqual((status, out.splitlines()[0].split(",")[0]), (0, "5 cases"))
         self.assertEqual(len([line for line in out.splitlines() if line.startswith("|")]), 2 + len(OPERATIONS) + 2)
-
-    def test_ways_in_the_tally(self):
-        """A branch that is taken, two that are not, and the end of a segment."""
-        source = ".segment a 5\n bz r1, on\n nop\non: bnz r1, on\n bz r2, on\n.thread 0 0 none xu a\n.reg 2 int 1\n"
-        with folder() as room:
-            image = mm("asm", write(room, "ways.asm", source), "-o", os.path.join(room, "ways.obj")).status or \
-                mm("link", os.path.join(room, "ways.obj"), "-o", os.path.join(room, "ways.img")).status or os.path.join(room, "ways.img")
-            tally, log = Tally(), find_program().run(["log", image, "9"]).text
-            with open(image, "rb") as file:
-                tally.count(Machine(read_image(file.read())), LogReader(log.splitlines()).steps())
-        self.assertEqual(list(tally.lines())[-3:], ["(fetch): Bounds, past 1", "bz: not taken 1; taken 1", "bnz: not taken 1"])
 
     def test_some_operations_alone(self):
         few = "ldi,add,lea,ld,st,bnz"
