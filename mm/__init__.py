@@ -25,6 +25,6 @@ What it tells of a machine comes from `mmachine`. By itself it reads sources, ob
     debugger   the interactive debugger
     help       texts of `mm help`
     packing    packages and installs, for `tools/package` and `tools/install`
-    tests      tests (`python3 -m unittest discover -s mm/tests -t .`)
+    tests      tests (`python3 -m mm.tests`)
 
 A command that comes later is a row of `table` and a module of `commands`; what it draws or translates is a package of its own beside `views`."""

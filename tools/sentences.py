@@ -10,6 +10,8 @@ Written by `.ci/claims --write`, a line with a checksum for each
   operation  row of docs/INSTRUCTIONS.md, with the definitions to which it links
   crate      row of docs/PROVED.md, with the clauses of the functions that it names
   section    section of a page in `SECTIONS`, with the definitions that it describes; if it has none, it was measured
+  names      other sections of docs/MODEL.md, docs/PROVED.md and docs/THEOREMS.md, with the definitions and the contracts
+             that they name: those of the crates of the heading, or of all
 
 A checksum is of both texts, whatever their blanks and the comments of code. If one has changed, read the sentence beside
 what it speaks of before you write the line anew."""
@@ -65,6 +67,36 @@ SECTIONS = [
     ("docs/ASSEMBLER.md", "## Faults", "mm_line/specs/Faults.antt mm_asm/specs/Faults.antt"),
     ("docs/DEBUGGER.md", "## Lines and replies", "mm_debug/specs/Commands.antt mm_debug/specs/Session.antt"),
     ("docs/COMMITS.md", "## The lines", "mm_log/specs/Lines.antt mm_log/specs/Log.antt"),
+    ("docs/AUDIT.md", "## What an audit does not say", "mm_model/specs/Reach.antt"),
+    (KEEPS, "## What is followed, and what is not", "mm_kernel/specs/Turns.antt mm_kernel/specs/Operations.antt"),
+    (KEEPS, "## If it is not known", "mm_keep_text/specs/Answers.antt mm_kernel/specs/Uses.antt"),
+    (KEEPS, "## What `mmachine` writes", "mm_keep_text/specs/Told.antt"),
+    ("docs/EXPLORE.md", "## The lines of an exploration", "mm_explore/specs/Texts.antt mm_explore/specs/Findings.antt"),
+    ("docs/EXPLORE.md", "## What goes on for ever", "mm_explore/specs/Closed.antt mm_explore/specs/Outcomes.antt"),
+    ("docs/EXPLORE.md", "## What an exploration does not say", "mm_explore/specs/Finds.antt mm_explore/specs/Schedules.antt"),
+    ("docs/REVOCATION.md", "## Step by step", "mm_sweep/specs/Swept.antt mm_sweep/specs/Refusals.antt mm_sweep/specs/Holders.antt"),
+    ("docs/REVOCATION.md", "## What sweeping cannot take back", "mm_sweep/specs/Swept.antt mm_sweep/specs/Refusals.antt"),
+    ("docs/CHECKPOINTS.md", "## What a checkpoint has", "mm_checkpoint/specs/Format.antt mm_checkpoint/specs/States.antt"),
+    ("docs/CHECKPOINTS.md", "## What is not claimed", "mm_checkpoint/specs/Checkpoints.antt"),
+    ("docs/NETS.md", "## Why no pointer crosses", "mm_net/specs/Moves.antt mm_net/specs/Wires.antt"),
+    ("docs/NETS.md", "## The report of a net", "mm_net/specs/Texts.antt"),
+    ("docs/DEBUGGER.md", "## Going back", "mm_save/specs/Recorded.antt mm_save/specs/Laws.antt"),
+    ("docs/COMMITS.md", "## Carrying out a log", "mm_log/specs/Replay.antt mm_log/specs/Laws.antt"),
+    ("docs/CACHE.md", "## How an access goes through the cache", "mm_model/specs/Counted.antt mm_vmem/specs/Cached.antt"),
+    ("docs/CACHE.md", "## A worked run", "mm_model/specs/Counted.antt mm_vmem/specs/Entries.antt"),
+    ("docs/CACHE.md", "## What is proved", "mm_model/specs/CountFacts.antt mm_vmem/specs/Stands.antt"),
+    ("docs/ASSEMBLER.md", "## Lines and tokens", "mm_line/specs/Tokens.antt mm_line/specs/Reading.antt"),
+    ("docs/ASSEMBLER.md", "## Segments and words", "mm_line/specs/Statements.antt mm_line/specs/Words.antt"),
+    ("docs/ASSEMBLER.md", "## Operations", "mm_line/specs/Operands.antt mm_line/specs/Ranges.antt"),
+    ("docs/ASSEMBLER.md", "## Threads", "mm_line/specs/Forms.antt mm_draft/specs/Drafts.antt"),
+    ("docs/MACHINE.md", "## Memory", "mm_model/specs/Memory.antt"),
+    ("docs/MACHINE.md", "## Slots", "mm_model/specs/Slot.antt mm_model/specs/State.antt"),
+    ("docs/MACHINE.md", "## Snapshots", "mm_machine/specs/Snapshot.antt mm_machine/specs/Validity.antt"),
+    (FORMATS, "## Trace", "mm_model/specs/Trace.antt"),
+    (FORMATS, "## Audit", "mm_model/specs/Audit.antt mm_audit/specs/Audits.antt"),
+    ("docs/COMMANDS.md", "## All commands", "mm_top/specs/Commands.antt mm_cli/src/table.rt"),
+    ("docs/COMMANDS.md", "## How a command ends", "mm_load/specs/Lines.antt mmachine/specs/Exit.antt"),
+    (INSTRUCTIONS, "## The word", "mm_isa/specs/Decode.antt"),
     ("docs/STRENGTH.md", "## The bugs", ""),
     ("docs/STRENGTH.md", "## Bugs in how files are read", ""),
     ("docs/STRENGTH.md", "## Bugs in the pipelined core", ""),
@@ -212,6 +244,31 @@ def crates():
         yield "crate " + ",".join(names), row, "\n".join(contracts(path).get(it, "") for it in functions for path in files)
 
 
+@functools.lru_cache(None)
+def named_of(crate):
+    """What a crate has by a name: definitions, contracts of functions, and those that have a clause of that name."""
+    found = {}
+    for it in re.finditer(r"^(?:(?:abbrev|unfoldable|effect|pub|record|data) )+(\w+)\b.*(?:\n.+)*", specs_of(crate), re.M):
+        found.setdefault(it[1], []).append(it[0])
+    for path in sorted(glob.glob(f"crates/{crate}/src/**/*.rt", recursive=True)):
+        for function, said in contracts(path).items():
+            for name in {function, *re.findall(r"\bensures (\w+) ", said)}:
+                found.setdefault(name, []).append(said)
+    return found
+
+
+def named():
+    held, every = {it[:2] for it in SECTIONS} | {(PROVED, "## Crate by crate")}, sorted(map(os.path.basename, glob.glob("crates/*")))
+    for page in (MODEL, PROVED, THEOREMS):
+        parts = re.split(r"^(#{2,3} .*)$", text_of(page), flags=re.M)
+        for heading, said in zip(parts[1::2], parts[2::2]):
+            if (page, heading) not in held:
+                names = sorted({it for words in re.findall(r"`([^`]*)`", said) for it in re.findall(r"\w+", words)})
+                theirs = re.findall(r"`(mm_\w+)`", heading) or every
+                texts = (text for it in names for crate in theirs for text in named_of(crate).get(it, []))
+                yield f"names {page} {heading}", said, "\n".join(texts)
+
+
 def sections():
     for page, heading, files in SECTIONS:
         yield f"section {page} {heading}", section_of(page, heading), "\n".join(text_of(f"crates/{it}") for it in files.split())
@@ -220,7 +277,7 @@ def sections():
 def lines():
     """The lines that are written: what each holds, and its checksum."""
     found = {}
-    for kind in (laws, operations, crates, sections):
+    for kind in (laws, operations, crates, sections, named):
         for key, said, spoken_of in kind():
             again = sum(it == key or it.startswith(f"{key} again") for it in found)
             found[key + f" again {again}" * bool(again)] = checksum(said, spoken_of)

@@ -15,6 +15,8 @@ TREES = [
     ("the tests of `mm` are not run", COUNTS, ".ci/run", "timed .ci/mm\n", "timed .ci/mm true\n"),
     ("nothing is proved", COUNTS, ".ci/run", "    timed .ci/proofs\n", "    timed rt version\n"),
     ("a script that fails ends nothing", COUNTS, ".ci/run", '    "$@" || exit\n', '    "$@" || true\n'),
+    ("a script that fails beside others ends nothing", COUNTS, ".ci/run", '.ci/run --one "$room" || exit 1\n',
+     '.ci/run --one "$room" || true\n'),
     ("what a thread touches is nowhere", COUNTS, "crates/mm_top/specs/Headline.antt", "  pub reaches : Reaches i items\n",
      "  pub reaches : Reaches i items → Reaches i items\n"),
     ("what is on standard error at Done is nothing new", COUNTS, "crates/mm_top/src/top.rt",
@@ -26,6 +28,8 @@ TREES = [
     # Pages.
     # (in two pieces, since else this file would have the name)
     ("a page of the code names what is not there", NAMES, "docs/DECISIONS.md", "`StopReason`", "`StopReaso" "z`"),
+    ("a program that is not built here uses what is not there", NAMES, "conformance/logger/main.txt", "use mm_text::TextBuffer;",
+     "use mm_text::Gather;"),
     ("a file has each operation and is not on the page", OPERATIONS, "docs/CARRYING_ON.md", "`mm/machine/isa.py`", "`mm/machine/words.py`"),
     ("a link leads to another definition", CLAUSES, "docs/INSTRUCTIONS.md", "[1A]: ../crates/mm_isa/specs/Table.antt#L46",
      "[1A]: ../crates/mm_isa/specs/Table.antt#L45"),
@@ -34,6 +38,10 @@ TREES = [
     ("what is only tested is proved", CLAIMS, "README.md", "- **Only tested:** `mm`", "- **Proved:** `mm`"),
     ("a law says more", CLAIMS, "docs/THEOREMS.md", "| A word that a group can write it can touch. |",
      "| A word that a group can write no other can touch. |"),
+    ("a definition is told as another one", CLAIMS, "docs/MODEL.md", "the least slot, running or halted, whose",
+     "the least running slot whose"),
+    ("a contract is told as more", CLAIMS, "docs/PROVED.md", "**What is read:** nothing if the words are in no row of the table of commands",
+     "**What is read:** nothing if a word is wrong"),
     ("an operation does something else", CLAIMS, "docs/INSTRUCTIONS.md", "bits(A) shifted right by bits(B) mod 64, with the sign",
      "bits(A) shifted right by bits(B), with zeros"),
     ("a definition has another meaning than its row", CLAIMS, "crates/mm_isa/specs/Alu.antt", "alu_result Or a b = Ok (bit_or a b)",

@@ -34,6 +34,8 @@ class History:
         self.pasts: dict[tuple[int, int], Past] = {}
         self.files = [built.file, *order.files]
         self.end: Optional[int] = None
+        # Up to which cycle a search for turns after one has come.
+        self.looked = 0
         # Whether the run ends here since each slot that runs waits, and nothing can change that.
         self.stuck = False
 
@@ -89,6 +91,7 @@ class History:
         """The turns after a cycle whose line has a pattern, as far as the run goes."""
         seen = cycle
         while True:
+            self.looked = seen
             self.reach(seen + 1)
             for at in range(self.index(seen + 1), len(self.lines)):
                 if wanted.search(self.lines[at]):

@@ -196,7 +196,7 @@ class Session:
                 if point and not self._goes_on(point):
                     return self._stop(cycle, turn, point)
         except KeyboardInterrupt:
-            self.go(max(seen, self.total))
+            self.go(max(seen, self.history.looked))
             raise
         return self._to_end()
 

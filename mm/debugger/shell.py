@@ -2,6 +2,7 @@
 
 from __future__ import annotations
 
+import contextlib
 import sys
 from typing import Optional
 
@@ -143,7 +144,8 @@ class Shell:
                 self.console.out.flush()
             except KeyboardInterrupt:
                 self.debugger.todo.clear()
-                self.console.write(["", *self.debugger.stop(Halt())])
+                with contextlib.suppress(KeyboardInterrupt):
+                    self.console.write(["", *self.debugger.stop(Halt())])
         if self.terminal and not self.debugger.over:
             self.console.write([""])
         return Status.DONE

@@ -8,8 +8,10 @@ import sys
 import unittest
 
 from mm.build import Workshop
+from mm.formats.image import image_bytes, read_image
 from mm.machine.isa import decode, encode
 from mm.machine.program import CHECKOUT, find_program
+from mm.records import replace
 from mm.tests.support import folder, mm, needs_program, path_of, read, read_bytes, sources, write
 
 DEADLOCK = """\
@@ -231,6 +233,18 @@ class Looking(unittest.TestCase):
             "number 0",
         ):
             self.assertIn(text, out)
+
+    def test_dis_of_a_halted_slot_and_of_zeros(self):
+        with folder() as room:
+            source = ".segment a 3\n halt\n.segment b 8\n .int 7\n.thread 3 2 none xu a\n.reg 4 int 9\n"
+            path = write(room, "p.asm", source)
+            image = read_image(mm("link", path).data)
+            image = replace(image, slots=[replace(slot, halted=True) for slot in image.slots])
+            with open(os.path.join(room, "halted.img"), "wb") as file:
+                file.write(image_bytes(image))
+            lines = mm("dis", os.path.join(room, "halted.img")).out.splitlines()
+        self.assertIn("slot 3  group 2, handler none, at xu 2^3 0x100100, halted", lines)
+        self.assertEqual(lines[-2:], ["  0x100000  i0000000000000007  number 7", "  0x100008  511 words of 0"])
 
     def test_instructions_are_called_what_the_program_calls_them(self):
         words = [

@@ -1,13 +1,9 @@
-"""Commands and views in their corners: numbers of every length, groups and schedules of every kind, terminals."""
+"""Commands and views in their corners: numbers of every length, groups and schedules of every kind."""
 
 import json
 import os
-import pty
-import re
 import shutil
 import subprocess
-import sys
-import termios
 import unittest
 from itertools import combinations
 from types import SimpleNamespace
@@ -239,50 +235,6 @@ class Versions(unittest.TestCase):
             self.assertRegex(clean, r"^[0-9a-f]{7,}$")
             write(room, "file", "two")
             self.assertEqual(version.version(), f"{clean}-dirty")
-
-
-def at_terminal(words, typed=b""):
-    """What a program writes at a terminal of its own, where somebody types, and its status."""
-    ours, theirs = pty.openpty()
-    how = termios.tcgetattr(theirs)
-    how[1] &= ~termios.OPOST
-    how[3] &= ~termios.ECHO
-    termios.tcsetattr(theirs, termios.TCSANOW, how)
-    env = {**os.environ, "TERM": "xterm", "NO_COLOR": ""}
-    with subprocess.Popen(words, stdin=theirs, stdout=theirs, stderr=theirs, cwd=path_of(), env=env) as running:
-        os.close(theirs)
-        os.write(ours, typed + b"\x04")
-        text = b""
-        try:
-            while piece := os.read(ours, 4096):
-                text += piece
-        except OSError:
-            pass  # On Linux its end is a failure.
-        finally:
-            os.close(ours)
-    return running.returncode, text
-
-
-@needs_program
-class Terminals(unittest.TestCase):
-    def test_the_program_writes_the_same(self):
-        program, image = find_program(), path_of("examples", "counter.img")
-        for words in (["run", image, "99"], ["trace", image, "99"], ["grants", image], ["walk"], ["run", "none", "1"]):
-            answer = program.run(words)
-            wanted = answer.out + (answer.line + "\n" if answer.line else "").encode()
-            self.assertEqual(at_terminal([program.path, *words]), (answer.status, wanted), words)
-        typed = b"step 3\nregs 0\nback 1\nquit\n"
-        answer = program.run(["debug", image], typed)
-        self.assertEqual(at_terminal([program.path, "debug", image], typed), (0, answer.out))
-
-    def test_mm_writes_the_same_with_colours(self):
-        for words in (["run", "examples/counter.asm"], ["audit", "examples/kernel.asm"], ["trace", "examples/hello.asm"],
-                      ["run", "examples/none.asm"], ["explore", "docs/course/race.asm"]):
-            piped = subprocess.run([sys.executable, path_of("bin", "mm"), *words], cwd=path_of(), capture_output=True,
-                                   stdin=subprocess.DEVNULL, check=False)
-            status, text = at_terminal([sys.executable, path_of("bin", "mm"), *words])
-            self.assertEqual((status, re.sub(rb"\033\[[\d;]*m", b"", text)), (piped.returncode, piped.stdout + piped.stderr))
-            self.assertEqual(b"\033[" in text, words[0] != "explore", words)
 
 
 if __name__ == "__main__":

@@ -4,6 +4,9 @@ import time
 import unittest
 from unittest import mock
 
+from mm.debugger.commands import Debugger
+from mm.debugger.history import FIRST_TURNS, History
+from mm.debugger.session import Session
 from mm.tests.support import folder, mm, needs_program, write
 
 
@@ -315,6 +318,34 @@ class MorePoints(unittest.TestCase):
             out = self.session("break again+8 if r1 == 7", "continue", "p r1")
         self.assertIn("cycle 298", out)
         self.assertIn("r1 = 99 ", out.replace("r1 = 100 ", "r1 = 99 "))
+
+    def test_an_interrupt_stops_after_what_was_looked_at(self):
+        """Where nothing stops the run, while its further turns are asked for."""
+        reach, ends = History.reach, [KeyboardInterrupt]
+
+        def interrupted(history, cycle):
+            if cycle == FIRST_TURNS + 1 and ends:
+                raise ends.pop()
+            reach(history, cycle)
+
+        with mock.patch.object(History, "reach", interrupted):
+            self.assertIn(f"cycle {FIRST_TURNS}\n", self.session("continue", "p r1"))
+
+    def test_a_second_interrupt_ends_nothing(self):
+        """It comes while the answer to the first one is made."""
+        stop, ends = Debugger.stop, []
+
+        def resumed(session):
+            ends.append(KeyboardInterrupt)
+            raise KeyboardInterrupt
+
+        def interrupted(debugger, halt):
+            if ends:
+                raise ends.pop()
+            return stop(debugger, halt)
+
+        with mock.patch.object(Session, "resume", resumed), mock.patch.object(Debugger, "stop", interrupted):
+            self.assertIn("(mm) p r1\nr1 = 0 ", self.session("continue", "p r1"))
 
 
 if __name__ == "__main__":

@@ -2,6 +2,7 @@
 
 import unittest
 
+from mm.machine.program import find_program
 from mm.messages.others import OPERATION_HINTS
 from mm.source.wants import DIRECTIVES, OPERANDS
 from mm.tests.mistakes import MISTAKES
@@ -49,6 +50,20 @@ class Mistakes(unittest.TestCase):
         places = [line.split(": error")[0][len(path) + 1 :] for line in ended.err.splitlines() if ": error: " in line]
         self.assertEqual(places, ["2:3", "3:10", "5:12", "6:6", "8:14", "9:3", "11:13", "12:12"])
         self.assertEqual(ended.status, 2)
+
+    @needs_program
+    def test_numbers_at_the_ends_of_their_ranges(self):
+        """What is taken here the program takes, and what is not has its range in the message."""
+        frame = ".segment code 3\n halt\n.segment b {}\n.fill {}\n.thread {} {} none xu code\n.spare {}\n"
+        for place, (first, last) in enumerate([(3, 20), (0, 131_072), (0, 15), (0, 15), (0, 256)]):
+            for number in (first - 1, first, last, last + 1):
+                words = [3, 1, 0, 0, 2]
+                words[place] = number
+                with folder() as room:
+                    path = write(room, "p.asm", frame.format(*words))
+                    said, ended = mm("asm", path, "-o", f"{path}.obj").err, find_program().run(["asm", path])
+                self.assertEqual(f"{first} to {last}" in said, not first <= number <= last, (words, said))
+                self.assertTrue("error" in said or not ended.status, (words, said))
 
     def test_caret_stands_under_the_letter(self):
         with folder() as room:

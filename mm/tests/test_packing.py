@@ -193,6 +193,15 @@ class Platform(unittest.TestCase):
         self.assertEqual((program[:6], program[18:20]), (b"\x7fELF\2\1", b"\x3e\0"))
         self.assertAlmostEqual(len(program) / 1000, int(re.search(r"about (\d+) KB", page)[1]), delta=40)
 
+    @unittest.skipUnless(shutil.which("objdump"), "there is no objdump")
+    def test_it_has_no_operation_of_a_later_processor(self):
+        """Those of AVX begin with a v, and those of BMI are these, but `tzcnt`, of which the page speaks."""
+        said = subprocess.run(["objdump", "-d", "--no-show-raw-insn", find_program().path], capture_output=True, text=True, check=True)
+        operations = set(re.findall(r"^ +[0-9a-f]+:\t(\w+)", said.stdout, re.M))
+        later = "lzcnt andn bextr blsi blsmsk blsr bzhi mulx pdep pext rorx sarx shlx shrx movbe".split()
+        self.assertGreater(len(operations), 50)
+        self.assertEqual({it for it in operations if it in later or it.startswith("v") and it not in ("verr", "verw")}, set())
+
 
 @needs_program
 @unittest.skipUnless(has_git(), "this is not a checkout of git")
