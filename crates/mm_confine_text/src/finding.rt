@@ -36,12 +36,7 @@ fn is_of_kernel(kept: &[Part], group: u8, slot: &Slot) -> bool
 }
 
 /// Adds the number of a slot, if it is of a group and of the kernel.
-fn put_slot(
-    numbers: &mut Vec<u8>,
-    kept: &[Part],
-    group: u8,
-    slot: &Slot,
-) -> Result<(), NoMemory>
+fn put_slot(numbers: &mut Vec<u8>, kept: &[Part], group: u8, slot: &Slot) -> Result<(), NoMemory>
     ensures { OnOk result (numbers.new.items ≡ numbers.old.items ++ slot_if kept.now group slot.now) }
 {
     if is_of_kernel(kept, group, slot) {

@@ -45,12 +45,7 @@ pub fn write_keeps<O: Sink>(found: &Kept, out: &mut O) -> Result<(), WriteFault>
 }
 
 /// Appends the lines of each group, if what groups can reach was found.
-fn put_reach_if<O: Sink>(
-    text: &mut TextBuffer,
-    out: &mut O,
-    answer: &Answer,
-    reach: &Option<Reach>,
-)
+fn put_reach_if<O: Sink>(text: &mut TextBuffer, out: &mut O, answer: &Answer, reach: &Option<Reach>)
     ensures { (groups : List ℕ) × Appends O.taken O.faults out.old out.new text.old text.new groups
         × ((i : ImageValue) (kept : List Segment) (limit : ℕ) → IsAnswer i kept limit answer.now
         → IsReach i kept answer.now reach.now → AreGroups i kept answer.now groups) }

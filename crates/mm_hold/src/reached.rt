@@ -57,7 +57,11 @@ fn door_mask(kept: &[Part], key: CanonicalPtr, mask: u64) -> u64
     requires { IsKey key }
     ensures { result ≡ door_mask kept.now key mask }
 {
-    if is_door(kept, key.pointer()) { mask } else { 0 }
+    if is_door(kept, key.pointer()) {
+        mask
+    } else {
+        0
+    }
 }
 
 /// For each node the groups whose callers hold its pointer, if that is a door; otherwise none.

@@ -15,7 +15,7 @@ returns g c =
     let write = c.written.result in
     let verdict = verdict_of c.apart.result in (
       group_line n ++ flat_map door_line doors ++ flat_map slot_line slots ++ flat_map (segment_line Touch) touch
-      ++ flat_map (segment_line Write) write ++ apart_line (n ∷ []) verdict,
+          ++ flat_map (segment_line Write) write ++ apart_line (n ∷ []) verdict,
       appends_then (appends_then (appends_then (appends_then (appends_then c.put_number.ensures wrote) c.put_slots.ensures) c.put_segments.ensures) c.put_segments-2.ensures) c.put_answer.ensures,
       λ i kept parties are own. record {
         doors = doors;

@@ -45,14 +45,14 @@ returns c =
     let slots = c.slots-slots.ensures.slots ∙ ap (λ (v : Image). v.slots) c.image.ensures in
     let reached = c.in_ok-reached.reached.items in
     let r : AreReached i.slots m (length keys) reached =
-        subst (λ n. AreReached i.slots m n reached) x.size.groups (subst (λ ss. AreReached ss m (length m.groups.items) reached) slots c.in_ok-reached.ensures) in
+    subst (λ n. AreReached i.slots m n reached) x.size.groups (subst (λ ss. AreReached ss m (length m.groups.items) reached) slots c.in_ok-reached.ensures) in
     let doors = c.in_ok-doors.doors.items in
     let d : AreDoorMarks kept keys m.groups.items (length keys) doors =
-        subst (λ p. AreDoorMarks p keys m.groups.items (length keys) doors) c.kept.ensures
-        (rw (c.deref.ensures.value, c.deref-2.ensures.value) at c.in_ok-doors.ensures) in
+    subst (λ p. AreDoorMarks p keys m.groups.items (length keys) doors) c.kept.ensures
+    (rw (c.deref.ensures.value, c.deref-2.ensures.value) at c.in_ok-doors.ensures) in
     let survey = c.in_ok-survey.survey in
     let are = spans_of_marks (Reaches i kept) keys nodes reached (are_marks i kept image keeps keys nodes m x reached r) survey.spans
-        (rw (c.deref-3.ensures.value, c.deref-4.ensures.value, c.deref-5.ensures.value) at c.in_ok-survey.ensures.spans) in
+    (rw (c.deref-3.ensures.value, c.deref-4.ensures.value, c.deref-5.ensures.value) at c.in_ok-survey.ensures.spans) in
     record {
       image = image;
       keeps = keeps;

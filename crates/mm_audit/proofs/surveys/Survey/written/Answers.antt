@@ -17,5 +17,5 @@ returns-clause-maximal c i e a =
     let spans = c.self.inside.spans.items in
     let is = c.new.ensures ∙ ap (outermost Write _ 0) c.deref.ensures.value ∙ ap (λ v. outermost Write v 0 spans) c.mask_of.ensures in
     subst (MaximalSegments i e c.args.group can_store) (sym is)
-        (maximal_granted i e c.args.group can_store (outermost_of Write c.args.group spans)
-        (segments_of (Grants i e) (granted-small i e b.image) Write c.args.group spans (spans_granted i e spans b.spans)))
+    (maximal_granted i e c.args.group can_store (outermost_of Write c.args.group spans)
+    (segments_of (Grants i e) (granted-small i e b.image) Write c.args.group spans (spans_granted i e spans b.spans)))
