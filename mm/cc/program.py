@@ -428,7 +428,8 @@ def _signature(function: Function) -> str:
 def _in_c(type_: Type) -> str:
     counts = ""
     while isinstance(type_, ArrayType):
-        type_, counts = type_.element, counts + f"[{type_.count or ''}]"
+        counts += f"[{type_.count or ''}]"
+        type_ = type_.element
     return (WIDTHS.get(type_.bits, str(type_)) if isinstance(type_, IntType) else str(type_)) + counts
 
 
