@@ -17,7 +17,7 @@ from mm.machine.program import find_program
 from mm.machine.words import Cell, Permission, Pointer, Word
 from mm.names.symbols import Region, Symbols
 from mm.outputs.report import SlotState
-from mm.tests.support import folder, mm, needs_log, needs_program, path_of, read_bytes, write
+from mm.tests.support import folder, mm, needs_log, needs_program, read_bytes, write
 from mm.tests.test_grade_lines import A, Room
 from mm.tests.test_hex import read_hex
 from mm.tests.test_waves import Reader
