@@ -5,7 +5,7 @@ import unittest
 from mm.log.past import Lost as Found, cut_out, lost
 from mm.machine.isa import OPERATIONS, Instruction
 from mm.machine.words import Permission, Pointer, Word
-from mm.tests.cc_sources import LOST, NESTED, SANITIZED
+from mm.tests.cc_said_sources import LOST, NESTED, SANITIZED
 from mm.tests.support import folder, mm, needs_program, write
 from mm.tests.test_cc_clang import needs_clang
 from mm.views.ctraps import FOUND, trap_said
