@@ -11,9 +11,9 @@ from mm.cc.code import Code, log_of, place_in
 from mm.cc.control import Translator
 from mm.cc.ctypes import Types
 from mm.cc.data import Place, Words
+from mm.cc.declared import Declared, contradiction, elsewhere, warning
 from mm.cc.failures import INSTEAD, INSTEAD_OF, ONCE, ONE_MAIN, Failure, Failures, Missing, Repeated
-from mm.cc.ir import POINTER, VOID, WORD, ArrayType, BlockAddress, Function, Global, GlobalObject, IntType, Layouts
-from mm.cc.ir import Module, Number, Parts, StructType, Type
+from mm.cc.ir import POINTER, WORD, ArrayType, BlockAddress, Function, Global, GlobalObject, IntType, Module, Number, Parts
 from mm.cc.lines import FunctionNotes
 from mm.cc.modulenames import ASSEMBLER, DOOR, EMPTY, SHARED, WIPING, ModuleNames, Segment
 from mm.cc.options import Options
@@ -23,8 +23,6 @@ from mm.cc.text import Line, TextBlock
 from mm.cc.untranslated import Untranslated
 
 MOST_NAME = 31
-# How near a name must be to one that nothing defines, to be what may have been meant.
-NEAR = 0.8
 HEAP = "__mm_heap"
 # A pointer to each segment in which a program can have pointers, where the library is to find these.
 ROOTS, ROOTS_LOG = "__mm_roots", 11
@@ -32,9 +30,6 @@ MOST_LOG = 20
 RESERVED = re.compile(r"r\d+|L\d+|P_.*|none|int|ptr|start|stack|text|heap")
 # A door's segment: where it is entered, and its length.
 DOOR_ENTRY, DOOR_LOG = 16, 9
-# How C calls integers, by their bits.
-WIDTHS = {1: "bool", 8: "char", 16: "short", 32: "int", 64: "long", 128: "__int128"}
-IN_A_HEADER = "put its declaration into a header, and include that in both files"
 MAINS = ("main", "__main_argc_argv", "__main_void", "__original_main")
 
 
@@ -143,7 +138,7 @@ class Program:
                 self._undefined(name)
             home = None
         elif home is not module and name == called:
-            self._compare(module, home, name)
+            self._compare(module, home, name, module.functions.get(name), home.functions[name])
         key = (id(home), name)
         found = self.labels.get(key)
         if found is None:
@@ -157,34 +152,16 @@ class Program:
                 self.texts.append([block])
         return found
 
-    def _compare(self, module: Module, home: Module, name: str) -> None:
-        """Notes a function that a file declares otherwise than another one defines it, and where the first uses it."""
-        here, there = module.functions.get(name), home.functions[name]
-        if here is None or self.current is None or here.variadic and not here.parameters or (id(module), name) in self.contradicted:
-            return
-        own, defined = _signature(here), _signature(there)
-        begins = self.names[id(home)].lines.of_function(there.debug)
-        if own == defined or not begins:
-            return
-        names, translator = self.current
-        _, place = self._where(names, translator.function, translator.line)
-        self.contradicted[id(module), name] = (
-            f"{place or module.name}: warning: `{own}` is used here, and {begins} defines `{defined}`\n"
-            f"    {IN_A_HEADER}")
-
-    def _compare_globals(self, module: Module, home: Module, name: str) -> None:
-        """Notes a global that a file declares otherwise than another one defines it, and where the first uses it."""
-        here, there = module.globals.get(name), home.globals[name]
-        begins = self.names[id(home)].lines.of_global(there.debug)
+    def _compare(self, module: Module, home: Module, name: str, here: Optional[Declared], there: Declared) -> None:
+        """Notes what a file declares otherwise than another one defines it, and where the first uses it."""
+        begins = self._begins(home, name)
         if here is None or self.current is None or not begins or (id(module), name) in self.contradicted:
             return
-        if not _contradict((here.type, self.names[id(module)].layouts), (there.type, self.names[id(home)].layouts)):
-            return
-        names, translator = self.current
-        _, place = self._where(names, translator.function, translator.line)
-        self.contradicted[id(module), name] = (
-            f"{place or module.name}: warning: `{_in_c(here.type)} {name}` is used here, and {begins} defines "
-            f"`{_in_c(there.type)} {name}`\n    {IN_A_HEADER}")
+        said = contradiction(name, (here, self.names[id(module)].layouts), (there, self.names[id(home)].layouts))
+        if said:
+            names, translator = self.current
+            _, place = self._where(names, translator.function, translator.line)
+            self.contradicted[id(module), name] = warning(place or module.name, begins, said)
 
     def want_global(self, module: Module, called: str) -> Segment:
         home, name = self.found(module, called)
@@ -200,7 +177,7 @@ class Program:
             if name not in home.globals:
                 raise self.undefined[name]
         elif home is not module and name == called:
-            self._compare_globals(module, home, name)
+            self._compare(module, home, name, module.globals.get(name), home.globals[name])
         key = (id(home), name)
         found = self.segments.get(key)
         if found is None:
@@ -283,18 +260,8 @@ class Program:
         if self.current is not None:
             names, translator = self.current
             where, place = self._where(names, translator.function, translator.line)
-        self.undefined[name] = Missing(where, f"`{name}`", place, INSTEAD.get(name, self._elsewhere(name)))
-
-    def _elsewhere(self, name: str) -> str:
-        """What can be done for a name that may be a typing error, or that another file may define."""
-        from difflib import get_close_matches
-
-        near = get_close_matches(name, [known for known in self.public if not known.startswith("_")], 1, NEAR)
-        paths = " ".join(module.name for module in self.modules[:-1])
-        said = [f"do you mean `{near[0]}`?"] if near else []
-        if paths:
-            said.append(f"if another file defines `{name}`, name that too: `mm cc {paths} FILE.c > SOURCE.asm`")
-        return " Or ".join(said)
+        said = INSTEAD.get(name) or elsewhere(name, self.public, [module.name for module in self.modules[:-1]])
+        self.undefined[name] = Missing(where, f"`{name}`", place, said)
 
     def _where(self, names: ModuleNames, function: Function, location: Optional[str]) -> tuple[str, Optional[str]]:
         """The file and the function of a place in C, and the place; without a location, where the function begins."""
@@ -417,33 +384,6 @@ class Program:
         if 0 <= at < 1 << found.known.log:
             return f"{permission} {found.name}+{at}", None
         return f"{permission} {found.name}+{found.known.place}", place.by
-
-
-def _signature(function: Function) -> str:
-    """A function's parameters and its result, in words of C."""
-    given = [_in_c(parameter.type) for parameter in function.parameters] + ["..."] * function.variadic
-    return f"{_in_c(function.result)} {function.name}({', '.join(given)})"
-
-
-def _in_c(type_: Type) -> str:
-    counts = ""
-    while isinstance(type_, ArrayType):
-        counts += f"[{type_.count or ''}]"
-        type_ = type_.element
-    return (WIDTHS.get(type_.bits, str(type_)) if isinstance(type_, IntType) else str(type_)) + counts
-
-
-def _contradict(one: tuple[Type, Layouts], other: tuple[Type, Layouts]) -> bool:
-    """Whether a global cannot be declared with one type and defined with the other. An array may be declared without its
-    length, a structure without what is in it; of one with an initial value the fields are others, or it is longer."""
-    (first, layouts), (second, further) = one, other
-    first, second = layouts.plain(first), further.plain(second)
-    if isinstance(first, ArrayType) and isinstance(second, ArrayType):
-        longer = first.count and second.count and first.count != second.count
-        return bool(longer) or _contradict((first.element, layouts), (second.element, further))
-    if isinstance(first, StructType) and isinstance(second, StructType):
-        return layouts.size(first) > further.size(second)
-    return VOID not in (first, second) and first != second
 
 
 def public_name(name: str) -> str:

@@ -95,8 +95,8 @@ BROKEN = (
     # Several files.
     ("mm/cc/program.py", "elif not weak and module is not self.modules[-1] and module is not", "elif not weak and module is not", CC),
     ("mm/cc/program.py", "raise Failures(list(self.repeated.values()))", "pass", CC),
-    ("mm/cc/program.py", "        elif home is not module and name == called:\n            self._compare_globals(module, home, name)\n", "", CLANG),
-    ("mm/cc/program.py", "longer = first.count and second.count and first.count != second.count", "longer = first.count != second.count", CLANG),
+    ("mm/cc/program.py", "        elif home is not module and name == called:\n            self._compare(module, home, name, module.globals.get(name), home.globals[name])\n", "", CLANG),
+    ("mm/cc/declared.py", "longer = first.count and second.count and first.count != second.count", "longer = first.count != second.count", CLANG),
     ("mm/cc/include/stdlib.h", "void *realloc(void *, size_t) __attribute__((warn_unused_result));", "void *realloc(void *, size_t);", CLANG),
     # What is said of faults.
     ("mm/views/cview.py", "        if log > MOST_STACK:\n", "        if False:\n", CLANG),
@@ -125,9 +125,9 @@ BROKEN = (
     ("mm/cc/runtime/allocate.c", "if (wanted > heap_words() * 4)", "if (0)", CLANG),
     ("mm/cc/runtime/allocate.c", "__mm_refused = size;", "", CLANG),
     ("mm/cc/runtime/string.c", "*rest = text + length + 1;", "", CLANG),
-    ("mm/cc/program.py", 'said = [f"do you mean `{near[0]}`?"] if near else []', "said = []", CLANG),
-    ("mm/cc/program.py", "if own == defined or not begins:", "if True:", CLANG),
-    ("mm/cc/program.py", "INSTEAD.get(name, self._elsewhere(name)))", 'INSTEAD.get(name, ""))', CLANG),
+    ("mm/cc/declared.py", 'said = [f"do you mean `{near[0]}`?"] if near else []', "said = []", CLANG),
+    ("mm/cc/declared.py", "return (own, defined) if own != defined and", "return (own, defined) if False and", CLANG),
+    ("mm/cc/program.py", "INSTEAD.get(name) or elsewhere(name, self.public, [module.name for module in self.modules[:-1]])", 'INSTEAD.get(name, "")', CLANG),
     ("mm/cc/source.py", "elif segment.known.place or not segment.writable:", "elif False:", CLANG),
     ("mm/cc/lines.py", "return os.path.join(own, near)", "return near", CLANG),
     ("mm/cc/program.py", 'if module.assembler:', 'if False:', CC),
