@@ -5,7 +5,8 @@ use Rattle.std.proofs.Common.{pow_pos, eq-eqb, eqb-true, Result, Ok, Err}
 use Rattle.std.proofs.Math.Nat.{div-mul-le_self, lt-div-mul-add, div-eq_of_lt-le}
 use Rattle.std.proofs.lemmas.{Bool.{both_ways}, List.{take_all, Folds.list_any_more}}
 use Rattle.std.proofs.lemmas.Nat.{pow-add, shl-shr, shr_split}
-use Rattle.std.specs.{Prelude.{OnOk}, List.list_any}
+use Rattle.std.proofs.lemmas.List.Sorted.{list_any-IsPermutation}
+use Rattle.std.specs.{Prelude.{OnOk}, List.{list_any, Sorted.IsPermutation}}
 use Rattle.mm_word.specs.{Perm.can_store, Pointer.{Pointer, InSegment, IsWellFormed, base_of, in_segment, holds_word}}
 use Rattle.mm_seg.specs.Segments.{IsSegment, IsMaximal, Covered, SomeHolds, segment_at, end_of}
 use Rattle.mm_seg.proofs.Inserts.{at_in, in_at, in_first, in_rest, in_cases}
@@ -172,3 +173,10 @@ none_written = record { covers = λ w even. (λ e. cc, λ c. absurd (let lt = c.
 -- all pointers
 pub all_written : (ps : List Pointer) (k : ℕ) (set : List (ℕ × ℕ)) → length ps ≤ k → CoversWritten (take k ps) set → CoversWritten ps set
 all_written ps k set le h = subst (λ l. CoversWritten l set) (take_all k ps le) h
+
+-- the pointers in another order
+pub written_in_order : (ps qs : List Pointer) (set : List (ℕ × ℕ)) → IsPermutation ps qs → CoversWritten qs set → CoversWritten ps set
+written_in_order ps qs set same h = record {
+  covers = λ w even. let e = list_any-IsPermutation (may_write w) ps qs same in
+      ((λ c. (h.covers w even).0 (sym e ∙ c)), (λ c. e ∙ (h.covers w even).1 c));
+}

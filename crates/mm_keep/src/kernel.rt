@@ -6,7 +6,7 @@ ghost use Rattle.mm_word.specs.Perm.{can_store};
 ghost use Rattle.mm_model.specs.Slot.{Slot as SlotValue};
 ghost use Rattle.mm_model.specs.Turn.{is_handler, is_running};
 ghost use Rattle.mm_kernel.specs.Forms.{is_open_form, exactly};
-ghost use Rattle.mm_kernel.specs.Segments.{is_fixed, is_open};
+ghost use Rattle.mm_kernel.specs.Segments.{is_fixed, is_open, live_pointers};
 ghost use Rattle.mm_kernel.specs.Threads.{handler_of, is_free, is_kernel, is_kernel_slot, own_thread, serves_some};
 ghost use Rattle.mm_kernel.specs.Threads.{has_open_words, thread_through};
 ghost use Rattle.mm_keep.specs.Kernels.{AreFlags, CoversWritten, WritesToo};
@@ -167,6 +167,17 @@ fn written(alloc: Global, pointers: &[GuardedPtr]) -> Result<SegSet, NoMemory>
     Ok(set)
 }
 
+/// The words that the live pointers of an image can write. Each segment is put at the end of the set, since the pointers
+/// are sorted before.
+#[tactic(auto, using(crate::proofs::Writing::written_in_order))]
+fn writable(alloc: Global, image: &Image) -> Result<SegSet, NoMemory>
+    ensures { IfOk result (λ set. CoversWritten (live_pointers image.now) set) }
+{
+    let mut pointers = live_pointers(alloc, image)?;
+    pointers.sort_by_key(|p| p.base())?;
+    written(alloc, &pointers)
+}
+
 impl<'a> Kernel<'a> {
     /// A kernel, of an image and its kept segments.
     pub fn new(alloc: Global, image: &'a Image, kept: &'a [Part]) -> Result<Kernel<'a>, NoMemory>
@@ -174,8 +185,7 @@ impl<'a> Kernel<'a> {
         ensures kept { IfOk result (λ k. k.kept ≡ kept.now) }
     {
         let _slots = image.slots();
-        let pointers = live_pointers(alloc, image)?;
-        let writable = written(alloc, &pointers)?;
+        let writable = writable(alloc, image)?;
         let of_kernel = kernel_flags(image, kept);
         let serving = serving_flags(image);
         Ok(Kernel {
