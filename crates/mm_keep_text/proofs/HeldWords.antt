@@ -10,7 +10,7 @@ use Rattle.mm_model.proofs.Memories.{aligned, page_of_cell, page_whole}
 use Rattle.mm_kernel.specs.{Segments.{Segment, is_kept}, declared.thread.Thread.Thread, Derived.Fetches}
 use Rattle.mm_span.specs.Spans.{Span, AreSpans, IsWord}
 use Rattle.mm_span.proofs.{Members.{in_first, in_rest, all_at, all_of, in_filter, filter_in}, Runs.spans_alike}
-use Rattle.mm_keep_text.specs.Parts.{AreAll, IsHeld, IsHeldIn, InPages, SomeFetches, covers, IsIn}
+use Rattle.mm_keep_text.specs.Parts.{AreAll, IsHeld, IsHeldIn, InPages, SomeFetches}
 use Rattle.mm_keep_text.proofs.Uses.{one_fetch}
 use Rattle.mm_keep_text.proofs.Sets.{word_added, all_as, all_then, all_more, take_item, got_old, got_new, got_cases}
 
@@ -122,22 +122,3 @@ fetches_more ts more t mid new is h k =
       | inr e ↦ inr (subst (λ u. Fetches u x) (sym e) r.fetches)
     ])
     h k
-
--- 3. Covered words.
-
--- no words are left after those so far
-pub covered_so_far : (parts : List Segment) (words left keys : List ℕ) → left ≡ [] → words ++ filter (covers parts) left ≡ filter (covers parts) keys
-    → words ≡ filter (covers parts) keys
-covered_so_far parts words left keys none whole = sym (append-nil words) ∙ ap (λ l. words ++ filter (covers parts) l) (sym none) ∙ whole
-
-pub covered_words : (parts : List Segment) (keys : List ℕ) → AllByRecursion IsWord keys → AllByRecursion IsWord (filter (covers parts) keys)
-covered_words parts keys h =
-    all_of IsWord (filter (covers parts) keys) (λ w there. all_at IsWord keys w h (filter_in (covers parts) keys w there).0)
-
-pub covered_are : (parts : List Segment) (words keys : List ℕ) → words ≡ filter (covers parts) keys → (spans : List Span) → AreSpans (Contains words) spans
-    → AreSpans (IsIn keys parts) spans
-covered_are parts words keys is spans h =
-    spans_alike (Contains words) (IsIn keys parts)
-    (λ w there. let one = filter_in (covers parts) keys w (subst (λ l. Contains l w) is there) in record { word = one.0; covered = one.1 })
-    (λ w k. subst (λ l. Contains l w) (sym is) (in_filter (covers parts) keys w k.word k.covered))
-    spans h

@@ -3,5 +3,6 @@ mod Listing
 mod Uses
 mod HeldWords
 mod Ranges
+mod Covering
 pub mod Ones
 mod Telling

@@ -1,14 +1,15 @@
 //! The runs of words that a kernel's threads use.
 
-ghost use Rattle.std.specs.Prelude.{◌≡◌, ◌⊎◌, ◌%◌, ◌<◌, ◌^◌, ◌++◌, ◌∷◌, ℕ, List, IfOk, OnOk, Contains};
-ghost use Rattle.std.specs.List.{AllByRecursion, filter};
+ghost use Rattle.std.specs.Prelude.{◌≡◌, ◌⊎◌, ◌↔◌, ◌%◌, ◌<◌, ◌≤◌, ◌^◌, ◌∷◌, [], ℕ, true, IfOk, OnOk, Contains};
+ghost use Rattle.std.specs.List.{AllByRecursion};
 ghost use Rattle.mm_kernel.specs.Derived.{Fetches};
+ghost use Rattle.mm_kernel.specs.Segments.{lies_in};
 ghost use Rattle.mm_span.specs.Spans.{AreSpans, IsWord};
-ghost use Rattle.mm_keep_text.specs.Parts.{AreAll, IsHeld, IsIn, IsHeldIn, SomeFetches, covers};
+ghost use Rattle.mm_keep_text.specs.Parts.{AreAll, IsHeld, IsIn, IsHeldIn, SomeFetches};
 
 use mm_keep::{Kernel, Tables, fetched_word, is_kept, lies_in};
 use mm_kernel::{Part, Thread};
-use mm_span::{Span, SpanBuilder, spans};
+use mm_span::{Span, spans};
 use mm_word::NoMemory;
 use std::alloc::Global;
 use std::collections::BTreeSet;
@@ -50,21 +51,34 @@ pub(crate) fn kept_words(alloc: Global, kernel: &Kernel) -> Result<BTreeSet<u64>
     Ok(words)
 }
 
-/// Whether one of the parts covers a word.
-fn covers(parts: &[Part], word: u64) -> bool
-    ensures { result ≡ covers parts.now word }
+/// The first address of a segment, and the first one after it, as far as words have them.
+fn bounds(part: Part) -> (u64, u64)
+    ensures { (w : ℕ) → w < 2 ^ 54 → (lies_in w part ≡ true) ↔ ((result.0 ≤ w) × (w < result.1)) }
 {
-    parts.iter().any(|part| lies_in(word, *part))
+    let (base, log) = part;
+    if log < 54 {
+        let first = (base >> log) << log;
+        (first, first.saturating_add(1 << log))
+    } else if lies_in(0, part) {
+        (0, 1 << 54)
+    } else {
+        (0, 0)
+    }
 }
 
-/// Gives a word to a builder, if one of the parts covers it.
-fn give_covered(spans: &mut SpanBuilder, parts: &[Part], word: u64) -> Result<(), NoMemory>
-    requires { IsWord word }
-    ensures { OnOk result ((more : List ℕ) → spans.new ++ filter (covers parts.now) more
-        ≡ spans.old ++ filter (covers parts.now) (word ∷ more)) }
+/// Adds those of the words that lie in a segment.
+fn put_covered(
+    covered: &mut BTreeSet<u64>,
+    words: &BTreeSet<u64>,
+    part: Part,
+) -> Result<(), NoMemory>
+    requires { AllByRecursion IsWord words.now.keys }
+    ensures { OnOk result (AreAll (λ w. Contains covered.old.keys w ⊎ IsIn words.now.keys (part ∷ []) w)
+        covered.new.keys) }
 {
-    if covers(parts, word) {
-        spans.push(word)?;
+    let (first, after) = bounds(part);
+    for word in words.range(first..after) {
+        covered.insert(*word)?;
     }
     Ok(())
 }
@@ -78,11 +92,11 @@ pub(crate) fn covered_spans(
     requires { AllByRecursion IsWord words.now.keys }
     ensures { IfOk result (λ spans. AreSpans (IsIn words.now.keys parts.now) spans.items) }
 {
-    let mut spans = SpanBuilder::new(alloc);
-    for word in words.iter() {
-        give_covered(&mut spans, parts, *word)?;
+    let mut covered = BTreeSet::new(alloc);
+    for part in parts {
+        put_covered(&mut covered, words, *part)?;
     }
-    Ok(spans.finish()?)
+    Ok(spans(alloc, &covered)?)
 }
 
 /// Adds the word that the turn of a thread fetches, if it fetches one.

@@ -1,10 +1,6 @@
-use Rattle.std.{proofs.Common.{◌≡◌, ◌++◌}, specs.List.{AllByRecursion, filter}}
-use Rattle.mm_span.specs.Spans.{IsWord}
-use Rattle.mm_keep_text.specs.Parts.{covers}
+use Rattle.std.proofs.Common.{take}
+use Rattle.mm_keep_text.specs.Parts.{AreAll, IsIn}
 use Rattle.mm_keep_text.proofs.words.covered_spans.Given as goal
 
-abbrev pub invariant-loop-word : goal.invariant-loop-word
-invariant-loop-word l = record {
-  whole : l.spans ++ filter (covers l.parts) l.word-iterator ≡ filter (covers l.parts) l.words.keys;
-  left : AllByRecursion IsWord l.word-iterator;
-}
+abbrev pub invariant-loop-part : goal.invariant-loop-part
+invariant-loop-part l = AreAll (IsIn l.words.keys (take l.part-index l.parts)) l.covered.keys
