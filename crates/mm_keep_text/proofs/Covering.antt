@@ -1,7 +1,7 @@
 -- The words of a set that lie in segments.
-use Rattle.std.proofs.Common.{◌≡◌, ◌⊎◌, inl, inr, ℕ, ◌+◌, ◌*◌, ◌/◌, ◌^◌, ◌&&◌, ◌||◌, ◌==◌, ◌<◌, ◌≤◌, Bool, true, false, not, List, []}
+use Rattle.std.proofs.Common.{◌≡◌, ◌⊎◌, inl, inr, ℕ, ◌+◌, ◌*◌, ◌/◌, ◌%◌, ◌^◌, ◌&&◌, ◌||◌, ◌==◌, ◌<◌, ◌≤◌, Bool, true, false, not, List, []}
 use Rattle.std.proofs.Common.{◌∷◌, length, take, get_or, refl, sym, ap, ◌∙◌, subst, arith, pow_pos, eq-eqb, eqb-true}
-use Rattle.std.proofs.Math.Nat.{div-mul-le_self, lt-div-mul-add, div-eq_of_lt-le}
+use Rattle.std.proofs.Math.{Nat.{div-mul-le_self, lt-div-mul-add, div-eq_of_lt-le, div-eq_of_lt, mod-eq_of_lt, lt_of_lt_of_le}, Pow.pow_mono}
 use Rattle.std.proofs.lemmas.{Bool.Decides.nat_tests, List.{take_all, Folds.list_any-append}}
 use Rattle.std.specs.declared.ops.Bound.TheVariants.{Included, Excluded}
 use Rattle.std.specs.{Prelude.{Contains, ◌↔◌}, List.{filter, list_any, AllByRecursion}, Ordering.{nat_cmp, is_le}, BTreeMap.Range.range_contains}
@@ -46,8 +46,8 @@ in_bounds base log after small same w low = (
 -- no word reaches the second block of a long segment
 pub in_long : (w base log : ℕ) → 54 ≤ log → w < 2 ^ 54 → lies_in w (base, log) ≡ lies_in 0 (base, log)
 in_long w base log long low =
-    let less : w < 2 ^ log = lt_of_lt_of_le low (pow-le_pow long) in
-    ap (λ q. q == base / 2 ^ log) (div-eq_zero_of_lt less ∙ sym (div-eq_zero_of_lt (pow_pos log)))
+    let less : w < 2 ^ log = lt_of_lt_of_le low (pow_mono long) in
+    ap (λ q. q == base / 2 ^ log) (div-eq_of_lt less ∙ sym (div-eq_of_lt (pow_pos log)))
 
 -- 2. The words of a range that are put into a set.
 

@@ -53,7 +53,8 @@ pub(crate) fn kept_words(alloc: Global, kernel: &Kernel) -> Result<BTreeSet<u64>
 
 /// The first address of a segment, and the first one after it, as far as words have them.
 fn bounds(part: Part) -> (u64, u64)
-    ensures { (w : ℕ) → w < 2 ^ 54 → (lies_in w part ≡ true) ↔ ((result.0 ≤ w) × (w < result.1)) }
+    ensures order { result.0 ≤ result.1 }
+    ensures inside { (w : ℕ) → w < 2 ^ 54 → (lies_in w part ≡ true) ↔ ((result.0 ≤ w) × (w < result.1)) }
 {
     let (base, log) = part;
     if log < 54 {
