@@ -4,7 +4,7 @@
 ghost use Rattle.std.specs.Prelude.{◌≡◌, ◌&&◌, ◌++◌, ◌∷◌, [], drop, nat_lt, not, if◌then◌else◌, Some};
 ghost use Rattle.std.specs.List.{flat_map};
 ghost use Rattle.mm_text.specs.Appends.{Appends};
-ghost use Rattle.mm_model.specs.Memory.{cell_at};
+ghost use Rattle.mm_model.specs.Memory.{cell_at, is_mapped as is_mapped_in};
 ghost use Rattle.mm_model.specs.State.{output_of};
 ghost use Rattle.mm_machine.specs.Machine.{state_of};
 ghost use Rattle.mm_log.specs.Lines.{line_text};
@@ -20,7 +20,6 @@ use mm_machine::{LastTurn, Machine, There, Told};
 use mm_mem::{Inspect, Memory};
 use mm_model::{Slot, Tick, is_same_word};
 use mm_text::TextBuffer;
-use mm_thread::is_mapped;
 use mm_word::{Access, Cell};
 
 /// Appends the lines of a slot's changes.
@@ -93,7 +92,9 @@ fn put_slots<M: Memory, O: Sink>(
         (text_of (slots_seen (state_of machine.now).core told.now)) }
 {
     match &told.there {
-        There::Slot(other) => put_two(text, out, machine, &told.own, other),
+        There::Slot(other) | There::Event(other) => {
+            put_two(text, out, machine, &told.own, other)
+        }
         There::Nothing | There::Cell(..) | There::Page(..) => put_own(text, out, machine, &told.own),
     }
 }
@@ -117,7 +118,7 @@ fn put_queued<O: Sink>(text: &mut TextBuffer, out: &mut O, told: &Told, tick: Ti
 fn put_read<O: Sink>(text: &mut TextBuffer, out: &mut O, told: &Told, tick: Tick)
     ensures { Appends O.taken O.faults out.old out.new text.old text.new (text_of (read_seen told.now tick)) }
 {
-    if tick == Tick::Did && told.reads() {
+    if let (Tick::Did, There::Event(_)) = (tick, &told.there) {
         put_taken(text, out, told.own.number);
     }
 }
@@ -148,6 +149,15 @@ fn put_out<M: Memory, O: Sink>(
     if told.output < bytes.len() {
         put_bytes(text, out, told.own.group, &bytes[told.output..]);
     }
+}
+
+/// Whether a page is mapped.
+#[tactic(auto, using(crate::proofs::Peeks::mapped_by, crate::proofs::Peeks::mapped_not))]
+fn is_mapped<M: Inspect>(machine: &Machine<M>, page: u64) -> bool
+    ensures { result ≡ is_mapped_in (state_of machine.now).memory page }
+{
+    let memory = machine.memory();
+    page < 1 << 42 && memory.peek(page * 4096).is_some()
 }
 
 /// Appends the line that a page was mapped, if it is mapped now and was not before.
@@ -216,9 +226,9 @@ fn put_memory<M: Inspect, O: Sink>(
         ++ cell_seen (state_of machine.now).memory there.now)) }
 {
     match there {
-        There::Page(page, was) => put_page(text, out, *page, *was, is_mapped(machine.memory(), *page)),
+        There::Page(page, was) => put_page(text, out, *page, *was, is_mapped(machine, *page)),
         There::Cell(access, was) => put_reached(text, out, machine, *access, was),
-        There::Nothing | There::Slot(_) => {}
+        There::Nothing | There::Slot(_) | There::Event(_) => {}
     }
 }
 

@@ -1,11 +1,12 @@
 -- What a turn can change, as it is before the turn.
-use Rattle.std.specs.Prelude.{ℕ, Bool, true, false, if◌then◌else◌, pos, length, List, [], ◌∷◌, Option, Some, None, Result, Ok, Err}
+use Rattle.std.specs.Prelude.{ℕ, ◌*◌, Bool, if◌then◌else◌, pos, length, List, [], ◌∷◌, Option, Some, None, is_some, Result}
+use Rattle.std.specs.Prelude.{Ok, Err}
 use Rattle.mm_word.specs.declared.{perm.Kind.TheVariants.Fetch, cause.Cause.Cause}
 use Rattle.mm_word.specs.declared.word.{Word.{Word, TheVariants.{Int, Ptr}}, Cell.Cell}
 use Rattle.mm_word.specs.Access.{AccessValue, check_result}
-use Rattle.mm_isa.specs.declared.instr.Instr.{Instr, TheVariants.Evt}
+use Rattle.mm_isa.specs.declared.instr.Instr.{Instr}
 use Rattle.mm_model.specs.declared.event.Event.{Event}
-use Rattle.mm_model.specs.{Memory.{Memory, cell_at, is_mapped}, Slot.Slot, State.{Core, slot_at, queue_at, output_of}}
+use Rattle.mm_model.specs.{Memory.{Memory, cell_at}, Slot.Slot, State.{Core, slot_at, queue_at, output_of}}
 use Rattle.mm_model.specs.Ask.{Ask, ask, Ask.{Reach, MapPage, UnmapPage, NextEvent, Serve}}
 use Rattle.mm_model.specs.{Operands.{addr_operand, value_operand}, Turn.{instr_in, is_running, port_of, event_of}}
 use Rattle.mm_thread.specs.declared.told.{There.There, Told.Told}
@@ -21,15 +22,27 @@ abbrev pub slot_there : Option Slot → There
 slot_there None = there.Nothing
 slot_there (Some s) = there.Slot s
 
+-- whether the first cell of a page is there
+abbrev pub has_page : Memory → ℕ → Bool
+has_page m p = is_some (cell_at m (p * 4096))
+
+abbrev pub page_there : Memory → Result ℕ Cause → There
+page_there m (Err c) = there.Nothing
+page_there m (Ok p) = there.Page p (has_page m p)
+
+abbrev pub event_of_slot : Option Slot → There
+event_of_slot None = there.Nothing
+event_of_slot (Some s) = there.Event s
+
 -- the slot of the oldest event
 abbrev pub event_there : Core → List Event → There
 event_there core [] = there.Nothing
-event_there core (e ∷ rest) = slot_there (slot_at core e.slot)
+event_there core (e ∷ rest) = event_of_slot (slot_at core e.slot)
 
 abbrev pub there_at : Core → Memory → ℕ → Ask → There
 there_at core m n (Reach a pre) = cell_there a (cell_at m a.addr)
-there_at core m n (MapPage p) = there.Page p (is_mapped m p)
-there_at core m n (UnmapPage p) = there.Page p (is_mapped m p)
+there_at core m n (MapPage p) = there.Page p (has_page m p)
+there_at core m n (UnmapPage p) = there.Page p (has_page m p)
 there_at core m n (Serve k) = slot_there (slot_at core k)
 there_at core m n NextEvent = event_there core (queue_at core n)
 there_at core m n _ = there.Nothing
@@ -56,11 +69,6 @@ operands_in s (Some i) = (addr_operand i s, value_operand i s)
 
 abbrev pub event_in : Told → Cause → Event
 event_in told c = event_of told.own c (operands_in told.own told.instr).0 (operands_in told.own told.instr).1
-
--- the instruction is one that reads an event
-abbrev pub reads : Option Instr → Bool
-reads (Some (Evt rd)) = true
-reads _ = false
 
 -- the instruction that a cell holds, if it holds one
 abbrev pub in_cell : Option Cell → Option Instr

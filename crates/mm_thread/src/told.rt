@@ -1,26 +1,26 @@
 //! What the turn of a slot can change, as it is before the turn.
 #![tactic(auto)]
 
-ghost use Rattle.std.specs.Prelude.{◌≡◌, ◌<◌, length};
+ghost use Rattle.std.specs.Prelude.{◌≡◌, ℕ, ◌<◌, length, Some};
 ghost use Rattle.mm_word.specs.declared.word.Pre.{Pre as PreValue};
-ghost use Rattle.mm_model.specs.Ask.{ask, reaching, page_asked};
-ghost use Rattle.mm_model.specs.Ask.Ask.{MapPage, NextEvent};
+ghost use Rattle.mm_model.specs.Ask.{reaching};
 ghost use Rattle.mm_model.specs.Fits.{IsCore};
-ghost use Rattle.mm_model.specs.Memory.{cell_at, is_mapped as is_mapped_in};
-ghost use Rattle.mm_model.specs.State.{slot_at};
-ghost use Rattle.mm_thread.specs.SlotIndices.{slot_in};
-ghost use Rattle.mm_thread.specs.Told.{cell_there as cell_there_of, slot_there as slot_there_of, there_at, there_for};
-ghost use Rattle.mm_thread.specs.Told.{told_at};
+ghost use Rattle.mm_model.specs.Memory.{cell_at};
+ghost use Rattle.mm_model.specs.State.{Core, slot_at};
+ghost use Rattle.mm_thread.specs.SlotIndices.{slot_in, queue_in};
+ghost use Rattle.mm_thread.specs.Execution.{page_named as page_named_of};
+ghost use Rattle.mm_thread.specs.Told.{cell_there as cell_there_of, slot_there as slot_there_of};
+ghost use Rattle.mm_thread.specs.Told.{event_there as event_there_of, page_there as page_there_of, there_at};
+ghost use Rattle.mm_thread.specs.Told.{there_for, told_at};
 
-use crate::local_ops::is_privileged;
-use crate::memory_ops::load_kind;
+use crate::memory_ops::{load_kind, page_named, reach};
 use crate::operands::{addr_operand, value_operand};
 use crate::slot::word_of;
 use crate::tables::Tables;
 use mm_isa::{Instr, Reg};
 use mm_mem::Inspect;
 use mm_model::{Event, Slot};
-use mm_word::{Access, Cause, Cell, Kind, Word, check};
+use mm_word::{Access, Cause, Cell, Kind, Word};
 
 /// What an instruction asks for besides its slot, as it is before the turn.
 #[derive(Drop)]
@@ -30,8 +30,10 @@ pub enum There {
     Cell(Access, Cell),
     /// A page, and whether it is mapped.
     Page(u64, bool),
-    /// A slot that the instruction serves, or the slot of the event that it reads.
+    /// The slot that the instruction serves.
     Slot(Slot),
+    /// The slot of the oldest event, which the instruction reads.
+    Event(Slot),
 }
 
 /// What the turn of a slot can change, as it is before the turn.
@@ -48,7 +50,8 @@ pub struct Told {
 }
 
 impl Told {
-    ghost use Rattle.mm_thread.specs.Told.{event_in, reads};
+    ghost use Rattle.std.specs.Prelude.{◌≡◌};
+    ghost use Rattle.mm_thread.specs.Told.{event_in};
 
     /// The event of a fault of the turn.
     #[cold]
@@ -69,13 +72,6 @@ impl Told {
             value_op,
         }
     }
-
-    /// Whether the instruction is one that reads an event.
-    pub fn reads(&self) -> bool
-        ensures { result ≡ reads self.now.instr }
-    {
-        matches!(&self.instr, Some(Instr::Evt { .. }))
-    }
 }
 
 /// The cell of an access as what an instruction asks for; nothing if the cell's page is not mapped.
@@ -90,6 +86,8 @@ fn cell_there<M: Inspect>(mem: &M, access: Access) -> There
 
 /// The cell of an access as what an instruction asks for; nothing if the access faults or its page is not mapped.
 fn access_there<M: Inspect>(mem: &M, access: Result<Access, Cause>) -> There
+    ensures { (core : Core) (n : ℕ) (pre : PreValue)
+        → result ≡ there_at core (M.meaning mem.now) n (reaching access pre) }
 {
     match access {
         Ok(access) => cell_there(mem, access),
@@ -97,21 +95,14 @@ fn access_there<M: Inspect>(mem: &M, access: Result<Access, Cause>) -> There
     }
 }
 
-/// Whether a page is mapped.
-pub fn is_mapped<M: Inspect>(mem: &M, page: u64) -> bool
-    ensures { result ≡ is_mapped_in (M.meaning mem.now) page }
-{
-    page < 1 << 42 && mem.peek(page * 4096).is_some()
-}
-
-/// A page, if the slot is privileged and such a page can exist.
+/// The page that a register names, if the code is privileged and such a page can exist.
 fn page_there<M: Inspect>(slot: &Slot, mem: &M, ra: Reg) -> There
+    ensures { result ≡ page_there_of (M.meaning mem.now) (page_named_of slot.now ra) }
 {
-    let page = word_of(slot, ra).bits();
-    if !is_privileged(slot) || page >= 1 << 42 {
-        return There::Nothing;
+    match page_named(slot, ra) {
+        Ok(page) => There::Page(page, mem.peek(page * 4096).is_some()),
+        Err(_) => There::Nothing,
     }
-    There::Page(page, is_mapped(mem, page))
 }
 
 /// The slot of a number, if there is one.
@@ -126,26 +117,31 @@ fn slot_there(tables: &Tables, number: u64) -> There
 
 /// The slot of the oldest event in the queue of the slot at `slot_index`, if there is one.
 fn event_there(tables: &Tables, slot_index: usize) -> There
+    requires { slot_index < length tables.now.rows }
+    ensures { result ≡ event_there_of tables.now (queue_in tables.now slot_index) }
 {
-    match tables.queue(slot_index).first() {
-        Some(event) => slot_there(tables, u64::from(event.slot)),
+    let Some(event) = tables.queue(slot_index).first() else {
+        return There::Nothing;
+    };
+    match tables.find_slot(u64::from(event.slot)) {
+        Some(of) => There::Event(tables.slot(of).copy()),
         None => There::Nothing,
     }
 }
 
 /// What an instruction asks for besides its slot, as it is before the turn.
 fn there_of<M: Inspect>(tables: &Tables, slot_index: usize, mem: &M, instr: &Instr) -> There
+    requires whole { IsCore tables.now }
+    requires within { slot_index < length tables.now.rows }
+    ensures { result
+        ≡ there_for tables.now (M.meaning mem.now) (slot_in tables.now slot_index) (Some instr.now) }
 {
     let slot = tables.slot(slot_index);
     match instr {
-        Instr::Ld { ra, post, imm, .. } => access_there(
-            mem,
-            check(word_of(slot, *ra), i64::from(*imm), load_kind(*post)),
-        ),
-        Instr::St { ra, imm, .. } => access_there(
-            mem,
-            check(word_of(slot, *ra), i64::from(*imm), Kind::Store),
-        ),
+        Instr::Ld { ra, post, imm, .. } => {
+            access_there(mem, reach(slot, *ra, *imm, load_kind(*post)))
+        }
+        Instr::St { ra, imm, .. } => access_there(mem, reach(slot, *ra, *imm, Kind::Store)),
         Instr::Evt { .. } => event_there(tables, slot_index),
         Instr::Resume { ra, .. } => slot_there(tables, word_of(slot, *ra).bits()),
         Instr::Rreg { ra, .. } => slot_there(tables, word_of(slot, *ra).bits()),
