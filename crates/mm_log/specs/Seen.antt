@@ -2,6 +2,7 @@
 use Rattle.std.specs.Prelude.{ℕ, Bool, ◌&&◌, nat_lt, not, if◌then◌else◌, List, [], ◌∷◌, ◌++◌, drop, map}
 use Rattle.std.specs.Prelude.{Option, Some, None}
 use Rattle.mm_word.specs.declared.{cause.Cause.Cause, word.Cell.Cell}
+use Rattle.mm_isa.specs.declared.instr.Instr.{Instr, TheVariants.Evt}
 use Rattle.mm_model.specs.declared.step.Tick.{Tick, TheVariants.{Did, Faulted}}
 use Rattle.mm_model.specs.{Memory.{Memory, cell_at, is_mapped}, Report.same_cell, Slot.Slot}
 use Rattle.mm_model.specs.State.{Core, State, slot_at, output_of}
@@ -21,7 +22,6 @@ in_order own other first second =
 
 abbrev pub with_there : Core → Slot → There → List Line
 with_there later own (there.Slot other) = in_order own.number other.number (seen_of later own) (seen_of later other)
-with_there later own (there.Event other) = in_order own.number other.number (seen_of later own) (seen_of later other)
 with_there later own _ = seen_of later own
 
 abbrev pub slots_seen : Core → Told → List Line
@@ -36,12 +36,12 @@ abbrev pub queued_seen : Told → Tick → List Line
 queued_seen told (Faulted c) = queued_for told c told.own.handler
 queued_seen told _ = []
 
-abbrev pub read_from : ℕ → There → List Line
-read_from own (there.Event other) = Reads own ∷ []
-read_from own _ = []
+abbrev pub read_own : Option Instr → ℕ → List Line
+read_own (Some (Evt rd)) own = Reads own ∷ []
+read_own _ own = []
 
 abbrev pub read_seen : Told → Tick → List Line
-read_seen told Did = read_from told.own.number told.there
+read_seen told Did = read_own told.instr told.own.number
 read_seen told _ = []
 
 abbrev pub out_seen : Core → Told → List Line

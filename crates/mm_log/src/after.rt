@@ -16,6 +16,7 @@ ghost use Rattle.mm_log.specs.Seen.{cell_now, cell_seen, seen, seen_by};
 use crate::lines::{put_byte, put_event, put_gone_page, put_new_page, put_set, put_taken};
 use crate::slots::{is_same_bit, put_slot_changes};
 use mm_io::Sink;
+use mm_isa::Instr;
 use mm_machine::{LastTurn, Machine, There, Told};
 use mm_mem::{Inspect, Memory};
 use mm_model::{Slot, Tick, is_same_word};
@@ -92,9 +93,7 @@ fn put_slots<M: Memory, O: Sink>(
         (text_of (slots_seen (state_of machine.now).core told.now)) }
 {
     match &told.there {
-        There::Slot(other) | There::Event(other) => {
-            put_two(text, out, machine, &told.own, other)
-        }
+        There::Slot(other) => put_two(text, out, machine, &told.own, other),
         There::Nothing | There::Cell(..) | There::Page(..) => put_own(text, out, machine, &told.own),
     }
 }
@@ -118,7 +117,7 @@ fn put_queued<O: Sink>(text: &mut TextBuffer, out: &mut O, told: &Told, tick: Ti
 fn put_read<O: Sink>(text: &mut TextBuffer, out: &mut O, told: &Told, tick: Tick)
     ensures { Appends O.taken O.faults out.old out.new text.old text.new (text_of (read_seen told.now tick)) }
 {
-    if let (Tick::Did, There::Event(_)) = (tick, &told.there) {
+    if let (Tick::Did, Some(Instr::Evt { .. })) = (tick, &told.instr) {
         put_taken(text, out, told.own.number);
     }
 }
@@ -228,7 +227,7 @@ fn put_memory<M: Inspect, O: Sink>(
     match there {
         There::Page(page, was) => put_page(text, out, *page, *was, is_mapped(machine, *page)),
         There::Cell(access, was) => put_reached(text, out, machine, *access, was),
-        There::Nothing | There::Slot(_) | There::Event(_) => {}
+        There::Nothing | There::Slot(_) => {}
     }
 }
 

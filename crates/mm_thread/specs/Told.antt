@@ -30,14 +30,10 @@ abbrev pub page_there : Memory → Result ℕ Cause → There
 page_there m (Err c) = there.Nothing
 page_there m (Ok p) = there.Page p (has_page m p)
 
-abbrev pub event_of_slot : Option Slot → There
-event_of_slot None = there.Nothing
-event_of_slot (Some s) = there.Event s
-
 -- the slot of the oldest event
 abbrev pub event_there : Core → List Event → There
 event_there core [] = there.Nothing
-event_there core (e ∷ rest) = event_of_slot (slot_at core e.slot)
+event_there core (e ∷ rest) = slot_there (slot_at core e.slot)
 
 abbrev pub there_at : Core → Memory → ℕ → Ask → There
 there_at core m n (Reach a pre) = cell_there a (cell_at m a.addr)

@@ -30,10 +30,8 @@ pub enum There {
     Cell(Access, Cell),
     /// A page, and whether it is mapped.
     Page(u64, bool),
-    /// The slot that the instruction serves.
+    /// The slot that the instruction serves, or that of the event that it reads.
     Slot(Slot),
-    /// The slot of the oldest event, which the instruction reads.
-    Event(Slot),
 }
 
 /// What the turn of a slot can change, as it is before the turn.
@@ -120,11 +118,8 @@ fn event_there(tables: &Tables, slot_index: usize) -> There
     requires { slot_index < length tables.now.rows }
     ensures { result ≡ event_there_of tables.now (queue_in tables.now slot_index) }
 {
-    let Some(event) = tables.queue(slot_index).first() else {
-        return There::Nothing;
-    };
-    match tables.find_slot(u64::from(event.slot)) {
-        Some(of) => There::Event(tables.slot(of).copy()),
+    match tables.queue(slot_index).first() {
+        Some(event) => slot_there(tables, u64::from(event.slot)),
         None => There::Nothing,
     }
 }

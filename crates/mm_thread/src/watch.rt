@@ -82,6 +82,8 @@ pub struct LastTurn {
 }
 
 impl<M: Inspect> Watch<M> for LastTurn {
+    ghost use Rattle.std.specs.Prelude.{Some};
+
     ghost looks = { λ w told. record w { told = Some told } };
 
     ghost tells = { λ w step. record w { step = step } };
