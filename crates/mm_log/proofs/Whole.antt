@@ -256,3 +256,107 @@ module _ (core : Core) (m : Memory) (formed : IsFormed core) (fit : Fitting core
     pub turn_tells : TellsAll (told_of core m n) (turn core m n)
     unfolding turn
     turn_tells = item_tells (slot_at core n) refl
+
+-- 3. All that changes.
+
+module _ (s : State) (n : ℕ) (k : IsValid s) where
+  abbrev t : Turned
+  t = turn_of s n
+
+  fit : Fitting s.core
+  fit = fitting_of k.image s k.is_image k.fits
+
+  paged : IsPaged s.memory
+  paged = paged_of k.image s k.state k.fits
+
+  low : (j : ℕ) (x : Slot) → slot_at s.core j ≡ Some x → x.group < 64
+  low j x at =
+      let whole = core_of k.image s k.is_image k.state k.fits k.types in
+      (slot_has (IsOfVersion 2) s.core j x whole.numbers at).group
+
+  -- nothing where core and memory stay
+  none_changed : (turn_of s n).core ≡ s.core → (turn_of s n).memory ≡ s.memory → changes s (after s n) ≡ []
+  unfolding changes after
+  none_changed core memory = ap (λ (c : Core). changes_of c (turn_of s n).memory) core ∙ ap (changes_of s.core) memory
+      ∙ self (memory_told s.memory k.state.pages Rattle.mm_model.specs.Ask.Ask.Nothing s.memory (MemoryMove.stays refl))
+    where
+      changes_of : Core → Memory → List Line
+      changes_of c m = slots_changed s.core c ++ each_number (queued_at s.core c) ++ each_number (read_at s.core c) ++
+          each_number (put_out_by s.core c) ++ pages_mapped s.memory m ++ pages_removed s.memory m ++ cells_changed
+          s.memory m
+
+      self : MemoryTold s.memory Rattle.mm_model.specs.Ask.Ask.Nothing s.memory → changes_of s.core s.memory ≡ []
+      self (MemoryTold.nothing is a b c) =
+          ap (λ l. l ++ each_number (queued_at s.core s.core) ++ each_number (read_at s.core s.core) ++ each_number
+          (put_out_by s.core s.core) ++ pages_mapped s.memory s.memory ++ pages_removed s.memory s.memory ++
+          cells_changed s.memory s.memory)
+          (no_number (λ j. changes_between (slot_at s.core j) (slot_at s.core j)) (λ j. changes_self (slot_at s.core j)))
+          ∙ ap (λ l. l ++ each_number (read_at s.core s.core) ++ each_number (put_out_by s.core s.core) ++ pages_mapped
+          s.memory s.memory ++ pages_removed s.memory s.memory ++ cells_changed s.memory s.memory)
+          (none_queued s.core s.core (λ h. refl))
+          ∙ ap (λ l. l ++ each_number (put_out_by s.core s.core) ++ pages_mapped s.memory s.memory ++ pages_removed
+          s.memory s.memory ++ cells_changed s.memory s.memory) (none_read s.core s.core (λ h. refl))
+          ∙ ap (λ l. l ++ pages_mapped s.memory s.memory ++ pages_removed s.memory s.memory ++ cells_changed s.memory
+          s.memory) (no_number (put_out_by s.core s.core)
+          (λ g. ap (map (Puts g)) (drop-length (output_of s.core g))))
+          ∙ ap (λ l. l ++ pages_removed s.memory s.memory ++ cells_changed s.memory s.memory) a
+          ∙ ap (λ l. l ++ cells_changed s.memory s.memory) b ∙ c
+      self (MemoryTold.cell a pre old c is at made x y z) = cc
+      self (MemoryTold.mapped p is free made x y z) = cc
+      self (MemoryTold.removed p is there made x y z) = cc
+
+  changes_seen : (o : Option Told) → TellsAll s.core s.memory k.state.core fit paged o t → changes s (after s n) ≡ seen_by (after s n) o t.step.tick
+  unfolding changes seen after
+  changes_seen None same = none_changed same.0 same.1
+  changes_seen (Some b) tells =
+      let q : List Line = each_number (queued_at s.core t.core) in
+      let r : List Line = each_number (read_at s.core t.core) in
+      let o : List Line = each_number (put_out_by s.core t.core) in
+      let e : List Line = pages_mapped s.memory t.memory in
+      let f : List Line = pages_removed s.memory t.memory in
+      let g : List Line = cells_changed s.memory t.memory in
+      let a1 : List Line = slots_seen t.core b in
+      let a2 : List Line = queued_seen b t.step.tick in
+      let a3 : List Line = read_seen b t.step.tick in
+      let a4 : List Line = out_seen t.core b in
+      ap (λ l. l ++ q ++ r ++ o ++ e ++ f ++ g) tells.slots
+      ∙ ap (λ l. a1 ++ l ++ r ++ o ++ e ++ f ++ g) tells.queued
+      ∙ ap (λ l. a1 ++ a2 ++ l ++ o ++ e ++ f ++ g) tells.read
+      ∙ ap (λ l. a1 ++ a2 ++ a3 ++ l ++ e ++ f ++ g) tells.outs
+      ∙ ap (λ l. l ++ g) (append_assoc (a1 ++ a2 ++ a3 ++ a4) e f)
+      ∙ append_assoc (a1 ++ a2 ++ a3 ++ a4) (e ++ f) g
+      ∙ ap (λ l. a1 ++ a2 ++ a3 ++ a4 ++ (l ++ g)) tells.memory.0
+      ∙ ap (λ l. a1 ++ a2 ++ a3 ++ a4 ++ (page_seen t.memory b.there ++ l)) tells.memory.1
+
+  whole_seen : changes s (after s n) ≡ seen_by (after s n) (told_of s.core s.memory n) t.step.tick
+  whole_seen = changes_seen (told_of s.core s.memory n) (turn_tells s.core s.memory k.state.core fit paged low n)
+
+  -- 4. The text of a cycle.
+
+  cycle_text : step_line (turns_in t) t.step t.step.tick ++ text_of (seen_by (after s n) (told_of s.core s.memory n) t.step.tick) ≡ text_of (cycle_log s n)
+  unfolding cycle_log line_text step_line
+  cycle_text = ap (λ l. step_line (turns_in t) t.step t.step.tick ++ text_of l) (sym whole_seen) ∙ by t.step.tick refl
+    where
+      idle_line : (turns : ℕ) (step : Step) → step_line turns step Idle ++ [] ≡ []
+      idle_line turns step = refl
+
+      by : (tick : Tick) → t.step.tick ≡ tick → step_line (turns_in t) t.step t.step.tick ++ text_of (changes s (after s n)) ≡ text_of (told (turns_in t) t.step tick (changes s (after s n)))
+      by Idle e =
+          let same = (turn_moves s.core s.memory k.state.core fit n).idle e in
+          ap (λ l. step_line (turns_in t) t.step t.step.tick ++ text_of l) (none_changed same.0 same.1) ∙ ap (λ x. step_line (turns_in t) t.step x ++ []) e ∙ idle_line (turns_in t) t.step
+      by Did e = refl
+      by Blocked e = refl
+      by (Faulted c) e = refl
+      by (Delivered r) e = refl
+
+pub line_is : (s t : State) (n : ℕ) (shown : Option Told) (step : Step) (turns : ℕ) → ∥ IsValid s ∥₁
+    → shown ≡ told_of s.core s.memory n → step ≡ (turn_of s n).step → t ≡ after s n → turns ≡ turns_of
+    (slot_at t.core step.slot)
+    → step_line turns step step.tick ++ text_of (seen_by t shown step.tick) ≡ text_of (cycle_log s n)
+unfolding after
+line_is s t n shown step turns kept looked is left counted =
+    ap (λ (k : ℕ). step_line k step step.tick ++ text_of (seen_by t shown step.tick)) (counted ∙ ap (λ (x : State). turns_of (slot_at x.core step.slot)) left)
+    ∙ ap (λ (x : State). step_line (turns_of (slot_at (turn_of s n).core step.slot)) step step.tick ++ text_of (seen_by x shown step.tick)) left
+    ∙ ap (λ (x : Option Told). step_line (turns_of (slot_at (turn_of s n).core step.slot)) step step.tick ++ text_of (seen_by (after s n) x step.tick)) looked
+    ∙ ap (λ (x : Step). step_line (turns_of (slot_at (turn_of s n).core x.slot)) x x.tick ++ text_of (seen_by (after s n) (told_of s.core s.memory n) x.tick)) is
+    ∙ ∥∥₁_elim kept (hlevel props) (λ k. cycle_text s n k)
