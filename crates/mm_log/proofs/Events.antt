@@ -22,7 +22,8 @@ use Rattle.mm_model.proofs.{CoreSteps.Fitting, TurnKeeps.changed_from}
 use Rattle.mm_log.specs.{Lines.{Line, Line.{Queues, Reads}}, Changes.{each_number, queued_at, read_at}}
 use Rattle.mm_thread.specs.{declared.told.Told.Told, Told.{told_at, event_in}}
 use Rattle.mm_log.specs.Seen.{queued_for, queued_seen, read_own, read_seen}
-use Rattle.mm_log.proofs.{Rows.QueueMoves, Numbers.{no_number, one_number}}
+use Rattle.mm_thread.proofs.Rows.{QueueMoves}
+use Rattle.mm_log.proofs.Numbers.{no_number, one_number}
 use Rattle.mm_word.specs.declared.cause.Cause.TheVariants as cause
 
 -- 1. Which instruction reads events.

@@ -1,4 +1,3 @@
-pub mod Rows
 pub mod Turns
 pub mod Runs
 pub mod Sames

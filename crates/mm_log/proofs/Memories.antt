@@ -10,7 +10,8 @@ use Rattle.mm_thread.specs.declared.told.{There.There}
 use Rattle.mm_thread.specs.Told.{has_page, slot_there, event_there, cell_there, there_at, there_for}
 use Rattle.mm_log.specs.{Lines.Line.{Maps, Sets}, Changes.{pages_mapped, pages_removed, cells_changed}}
 use Rattle.mm_log.specs.Seen.{page_told, page_seen, cell_now, cell_seen}
-use Rattle.mm_log.proofs.{Rows.MemoryMove, Pages.{MemoryTold, memory_told}, Peeks.mapped_by}
+use Rattle.mm_thread.proofs.Rows.{MemoryMove}
+use Rattle.mm_log.proofs.{Pages.{MemoryTold, memory_told}, Peeks.mapped_by}
 use Rattle.mm_thread.specs.declared.told.There.TheVariants as there
 
 module _ (core : Core) (m : Memory) (paged : IsPaged m) where

@@ -12,7 +12,8 @@ use Rattle.mm_thread.specs.declared.told.{There.There, Told.Told}
 use Rattle.mm_thread.specs.Told.{slot_there, event_there, cell_there, there_at, there_for}
 use Rattle.mm_log.specs.{Lines.{Line, Line.Puts}, Changes.{changes_between, each_number, slots_changed, put_out_by}}
 use Rattle.mm_log.specs.Seen.{seen_of, in_order, with_there}
-use Rattle.mm_log.proofs.{Rows.OtherMove, Numbers.{one_number, two_numbers, changes_none}}
+use Rattle.mm_thread.proofs.Rows.{OtherMove}
+use Rattle.mm_log.proofs.Numbers.{one_number, two_numbers, changes_none}
 use Rattle.mm_thread.specs.declared.told.There.TheVariants as there
 
 -- 1. The other slot.

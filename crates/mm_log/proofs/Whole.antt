@@ -28,8 +28,8 @@ use Rattle.mm_log.specs.{Lines.{Line, line_text, Line.Puts}, Log.{turns_in, told
 use Rattle.mm_log.specs.Changes.{changes_between, each_number, slots_changed, queued_at, read_at, put_out_by}
 use Rattle.mm_log.specs.Changes.{pages_mapped, pages_removed, cells_changed, changes}
 use Rattle.mm_log.specs.Seen.{slots_seen, queued_seen, read_own, read_seen, out_seen, page_seen, cell_seen, seen, seen_by}
-use Rattle.mm_log.proofs.{Rows.{OtherMove, OtherMoves, ChangeMoves, EffectMoves, effect_moves}, Turns.turn_moves}
-use Rattle.mm_log.proofs.{Numbers.{no_number, changes_self}, Pages.{MemoryTold, memory_told}, Rows.MemoryMove}
+use Rattle.mm_thread.proofs.Rows.{MemoryMove, OtherMove, OtherMoves, ChangeMoves, EffectMoves, effect_moves}
+use Rattle.mm_log.proofs.{Turns.turn_moves, Numbers.{no_number, changes_self}, Pages.{MemoryTold, memory_told}}
 use Rattle.mm_log.proofs.{Slots.{Apart, shown_is, other_shown, slots_seen_by, outs_seen_by}, Memories.{TellsMemory, memory_seen, same_seen}}
 use Rattle.mm_log.proofs.Events.{none_queued, none_read, fault_events, change_events}
 
