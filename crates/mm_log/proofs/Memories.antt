@@ -1,5 +1,5 @@
 -- What a turn showed tells the changes of the memory.
-use Rattle.std.proofs.Common.{◌≡◌, ◌≢◌, ℕ, Bool, true, false, List, [], ◌∷◌, ◌++◌, Option, Some, None, is_some, refl}
+use Rattle.std.proofs.Common.{◌≡◌, ℕ, ◌*◌, Bool, true, false, List, [], ◌∷◌, ◌++◌, Option, Some, None, is_some, refl}
 use Rattle.std.proofs.Common.{if◌then◌else◌, sym, ap, ◌∙◌, subst}
 use Rattle.mm_word.specs.{declared.word.Cell.Cell, Access.AccessValue}
 use Rattle.mm_isa.specs.declared.instr.Instr.{Instr}

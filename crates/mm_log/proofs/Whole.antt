@@ -1,5 +1,5 @@
 -- What a turn showed tells all that it changes: the lines of a cycle are the differences of its two states.
-use Rattle.std.proofs.Common.{◌≡◌, ◌≢◌, ◌⊎◌, ℕ, ◌<◌, inl, inr, Bool, true, false, ◌&&◌, nat_lt, if◌then◌else◌, List, []}
+use Rattle.std.proofs.Common.{◌≡◌, ◌≢◌, ◌⊎◌, ℕ, ◌-◌, ◌<◌, inl, inr, Bool, true, false, ◌&&◌, nat_le, if◌then◌else◌, List, []}
 use Rattle.std.proofs.Common.{◌∷◌, ◌++◌, length, drop, map, Option, Some, None, Result, Ok, Err, pos, refl, sym, ap, ◌∙◌}
 use Rattle.std.proofs.{Common.{subst, arith, append_assoc, slice_index_or, get_or-set_other}, Math.Seq.drop-length}
 use Rattle.std.proofs.{Props.props, Math.Logic.∥∥₁_elim}
@@ -11,9 +11,9 @@ use Rattle.mm_model.specs.declared.event.Event.{Event}
 use Rattle.mm_model.specs.declared.step.{Step.Step, Tick.{Tick, TheVariants.{Idle, Did, Blocked, Faulted, Delivered}}}
 use Rattle.mm_model.specs.{Memory.{Memory, cell_at, IsPaged}, Uses.{Use, Accessed}, Slot.Slot}
 use Rattle.mm_model.specs.State.{Core, State, slot_at, queue_at, put_slot, put_queue, output_of, put_output}
-use Rattle.mm_model.specs.{Fits.{IsOfVersion, IsFormed}, Operands.lacks, Ask.ask}
+use Rattle.mm_model.specs.{Fits.{IsOfVersion, IsFormed}, Operands.lacks, Ask.{ask, Ask.Nothing}}
 use Rattle.mm_model.specs.Effect.{Change, Effect, effect, delivered, Effect.{Fault, Block, Deliver, Do}}
-use Rattle.mm_model.specs.Turn.{Turned, reply, slot_after, with_other, with_queue, with_out, core_after, stood, is_sync}
+use Rattle.mm_model.specs.Turn.{Turned, reply, slot_after, with_other, with_queue, with_out, core_after, memory_after, stood, is_sync}
 use Rattle.mm_model.specs.Turn.{event_of, core_faulted, faulted, touch_of, asked_use, blocked, ended, executed, issued}
 use Rattle.mm_model.specs.Turn.{decoded, instr_in, fetched, aimed, started, idle, arrives, port_of, taken_by_port, taken_by}
 use Rattle.mm_model.specs.{Turn.{is_running, turn}, Run.{turn_of, after}, Trace.{turns_of, step_line}}
@@ -176,7 +176,7 @@ module _ (core : Core) (m : Memory) (formed : IsFormed core) (fit : Fitting core
           queued = events.0;
           read = events.1;
           outs = outs_seen_by core formed s at (core_after core s c) low (change_outs (slot_after s c) c.other c.queue c.out);
-          memory = memory_seen core m paged s.number (ask i s) (Rattle.mm_model.specs.Turn.memory_after m c) moves.memory;
+          memory = memory_seen core m paged s.number (ask i s) (memory_after m c) moves.memory;
         }
 
     -- the turn
@@ -238,10 +238,10 @@ module _ (core : Core) (m : Memory) (formed : IsFormed core) (fit : Fitting core
     port_tells (Some s) at = arrives_tells s (at s refl) (versions s.number s (at s refl)) s.pending
 
     port_at : (s : Slot) → port_of core n ≡ Some s → slot_at core s.number ≡ Some s
-    port_at s is = by (core.split && Rattle.std.specs.Prelude.nat_le 128 n) is
+    port_at s is = by (core.split && nat_le 128 n) is
       where
-        by : (b : Bool) → (if b then slot_at core (n Rattle.std.specs.Prelude.- 128) else None) ≡ Some s → slot_at core s.number ≡ Some s
-        by true e = own_at _ s e
+        by : (b : Bool) → (if b then slot_at core (n - 128) else None) ≡ Some s → slot_at core s.number ≡ Some s
+        by true e = own_at (n - 128) s e
         by false e = cc
 
     item_tells : (o : Option Slot) → slot_at core n ≡ o → TellsAll (told_by core m n o) (taken_by core m n o)
@@ -278,14 +278,14 @@ module _ (s : State) (n : ℕ) (k : IsValid s) where
   none_changed : (turn_of s n).core ≡ s.core → (turn_of s n).memory ≡ s.memory → changes s (after s n) ≡ []
   unfolding changes after
   none_changed core memory = ap (λ (c : Core). changes_of c (turn_of s n).memory) core ∙ ap (changes_of s.core) memory
-      ∙ self (memory_told s.memory k.state.pages Rattle.mm_model.specs.Ask.Ask.Nothing s.memory (MemoryMove.stays refl))
+      ∙ self (memory_told s.memory k.state.pages Nothing s.memory (MemoryMove.stays refl))
     where
       changes_of : Core → Memory → List Line
       changes_of c m = slots_changed s.core c ++ each_number (queued_at s.core c) ++ each_number (read_at s.core c) ++
           each_number (put_out_by s.core c) ++ pages_mapped s.memory m ++ pages_removed s.memory m ++ cells_changed
           s.memory m
 
-      self : MemoryTold s.memory Rattle.mm_model.specs.Ask.Ask.Nothing s.memory → changes_of s.core s.memory ≡ []
+      self : MemoryTold s.memory Nothing s.memory → changes_of s.core s.memory ≡ []
       self (MemoryTold.nothing is a b c) =
           ap (λ l. l ++ each_number (queued_at s.core s.core) ++ each_number (read_at s.core s.core) ++ each_number
           (put_out_by s.core s.core) ++ pages_mapped s.memory s.memory ++ pages_removed s.memory s.memory ++
