@@ -11,7 +11,7 @@ ghost use Rattle.mm_log.specs.Log.{log_text};
 use crate::after::put_changes;
 use crate::telling::{Teller, issue_told, turns_of};
 use mm_io::Sink;
-use mm_machine::Machine;
+use mm_machine::{LastTurn, Machine, Step};
 use mm_mem::Inspect;
 use mm_report::put_step;
 use mm_sched::Order;
@@ -49,7 +49,11 @@ impl Teller for Logger {
         text: &mut TextBuffer,
         out: &mut O,
     ) {
-        let last = machine.cycle_shown(item);
+        let mut last = LastTurn {
+            step: Step::idle(0),
+            told: None,
+        };
+        machine.cycle_shown(item, &mut last);
         let turns = turns_of(machine, last.step.slot);
         put_step(text, out, &last.step, turns);
         put_changes(text, out, machine, &last);

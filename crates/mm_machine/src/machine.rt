@@ -305,24 +305,20 @@ impl<M: Inspect> Machine<M> {
     ghost use Rattle.mm_machine.specs.Machine.{state_of, ports_used, StandsFor};
     ghost use Rattle.mm_thread.specs.Told.{told_of};
 
-    /// Does what [`Machine::cycle`] does, and gives with the step what the turn could change, as it was before the turn.
-    pub fn cycle_shown(&mut self, item: u8) -> LastTurn
+    /// Does what [`Machine::cycle`] does, and writes with the step what the turn could change, as it was before the turn.
+    pub fn cycle_shown(&mut self, item: u8, last: &mut LastTurn)
         requires { (state_of self.old).cycles < 2 ^ 32 }
         ensures state { state_of self.new ≡ after (state_of self.old) item }
-        ensures step { result.step ≡ (turn_of (state_of self.old) item).step }
-        ensures told { result.told ≡ told_of (state_of self.old).core (state_of self.old).memory item }
+        ensures step { last.new.step ≡ (turn_of (state_of self.old) item).step }
+        ensures told { last.new.told ≡ told_of (state_of self.old).core (state_of self.old).memory item }
 
         // The machine after one item more, from the machine after any items of an image.
         ensures runs { (i : ImageValue) (items : List ℕ) → StandsFor i items self.old
             → StandsFor i (items ++ item ∷ []) self.new }
         ensures ports { ports_used self.new ≡ ports_used self.old }
     {
-        let mut last = LastTurn {
-            step: Step::idle(0),
-            told: None,
-        };
-        self.issue(&[item], None, 0, &mut last);
-        last
+        last.told = None;
+        self.issue(&[item], None, 0, last);
     }
 }
 
