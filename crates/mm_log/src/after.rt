@@ -14,22 +14,22 @@ ghost use Rattle.mm_log.specs.Seen.{seen_of, in_order, slots_seen, queued_seen, 
 ghost use Rattle.mm_log.specs.Seen.{cell_now, cell_seen, seen, seen_by};
 
 use crate::lines::{put_byte, put_event, put_gone_page, put_new_page, put_set, put_taken};
-use crate::slots::{is_same_bit, put_slot_changes};
+use crate::slots::{is_same_bit, put_slot_left};
 use mm_io::Sink;
 use mm_isa::Instr;
-use mm_machine::{LastTurn, Machine, There, Told};
+use mm_machine::{LastTurn, Machine, There, Told, Was, event_of};
 use mm_mem::{Inspect, Memory};
-use mm_model::{Slot, Tick, is_same_word};
+use mm_model::{Tick, is_same_word};
 use mm_text::TextBuffer;
 use mm_word::{Access, Cell};
 
 /// Appends the lines of a slot's changes.
-fn put_own<M: Memory, O: Sink>(text: &mut TextBuffer, out: &mut O, machine: &Machine<M>, was: &Slot)
+fn put_own<M: Memory, O: Sink>(text: &mut TextBuffer, out: &mut O, machine: &Machine<M>, was: &Was)
     ensures { Appends O.taken O.faults out.old out.new text.old text.new
         (text_of (seen_of (state_of machine.now).core was.now)) }
 {
     if let Some(now) = machine.slot(was.number) {
-        put_slot_changes(text, out, was, now);
+        put_slot_left(text, out, was, now);
     }
 }
 
@@ -38,8 +38,8 @@ fn put_own_before<M: Memory, O: Sink>(
     text: &mut TextBuffer,
     out: &mut O,
     machine: &Machine<M>,
-    was: &Slot,
-    own: &Slot,
+    was: &Was,
+    own: &Was,
 )
     ensures { Appends O.taken O.faults out.old out.new text.old text.new
         (text_of (if nat_lt was.now.number own.now.number then seen_of (state_of machine.now).core was.now else [])) }
@@ -54,8 +54,8 @@ fn put_own_behind<M: Memory, O: Sink>(
     text: &mut TextBuffer,
     out: &mut O,
     machine: &Machine<M>,
-    was: &Slot,
-    own: &Slot,
+    was: &Was,
+    own: &Was,
 )
     ensures { Appends O.taken O.faults out.old out.new text.old text.new
         (text_of (if nat_lt own.now.number was.now.number then seen_of (state_of machine.now).core was.now else [])) }
@@ -70,8 +70,8 @@ fn put_two<M: Memory, O: Sink>(
     text: &mut TextBuffer,
     out: &mut O,
     machine: &Machine<M>,
-    own: &Slot,
-    other: &Slot,
+    own: &Was,
+    other: &Was,
 )
     ensures { Appends O.taken O.faults out.old out.new text.old text.new
         (text_of (in_order own.now.number other.now.number (seen_of (state_of machine.now).core own.now)
@@ -100,16 +100,26 @@ fn put_slots<M: Memory, O: Sink>(
 
 /// Appends the line of the event that a fault queued, if one was queued.
 #[inline(always)]
-fn put_queued<O: Sink>(text: &mut TextBuffer, out: &mut O, told: &Told, tick: Tick)
-    ensures { Appends O.taken O.faults out.old out.new text.old text.new (text_of (queued_seen told.now tick)) }
+fn put_queued<M: Memory, O: Sink>(
+    text: &mut TextBuffer,
+    out: &mut O,
+    machine: &Machine<M>,
+    told: &Told,
+    tick: Tick,
+)
+    ensures { Appends O.taken O.faults out.old out.new text.old text.new
+        (text_of (queued_seen (state_of machine.now).core told.now tick)) }
 {
     let Tick::Faulted(cause) = tick else {
         return;
     };
-    let Some(handler) = told.own.handler else {
+    let Some(now) = machine.slot(told.own.number) else {
         return;
     };
-    let event = told.event(cause);
+    let Some(handler) = now.handler else {
+        return;
+    };
+    let event = event_of(now, &told.instr, cause);
     put_event(text, out, handler, &event);
 }
 
@@ -141,12 +151,12 @@ fn put_out<M: Memory, O: Sink>(
     told: &Told,
 )
     ensures { Appends O.taken O.faults out.old out.new text.old text.new
-        (flat_map (λ b. line_text (Puts told.now.own.group b))
-        (drop told.now.output (output_of (state_of machine.now).core told.now.own.group))) }
+        (flat_map (λ b. line_text (Puts told.now.group b))
+        (drop told.now.output (output_of (state_of machine.now).core told.now.group))) }
 {
-    let bytes = machine.output(told.own.group);
+    let bytes = machine.output(told.group);
     if told.output < bytes.len() {
-        put_bytes(text, out, told.own.group, &bytes[told.output..]);
+        put_bytes(text, out, told.group, &bytes[told.output..]);
     }
 }
 
@@ -243,7 +253,7 @@ fn put_seen<M: Inspect, O: Sink>(
         (text_of (seen (state_of machine.now) told.now tick)) }
 {
     put_slots(text, out, machine, told);
-    put_queued(text, out, told, tick);
+    put_queued(text, out, machine, told, tick);
     put_read(text, out, told, tick);
     put_out(text, out, machine, told);
     put_memory(text, out, machine, &told.there);

@@ -1,26 +1,54 @@
 -- What a turn can change, as it is before the turn.
-use Rattle.std.specs.Prelude.{ℕ, ◌*◌, Bool, if◌then◌else◌, pos, length, List, [], ◌∷◌, Option, Some, None, is_some, Result}
+use Rattle.std.specs.Prelude.{ℕ, ◌*◌, Bool, ◌&&◌, map, if◌then◌else◌, pos, length, List, [], ◌∷◌, Option, Some, None, is_some, Result}
 use Rattle.std.specs.Prelude.{Ok, Err}
 use Rattle.mm_word.specs.declared.{perm.Kind.TheVariants.Fetch, cause.Cause.Cause}
 use Rattle.mm_word.specs.declared.word.{Word.{Word, TheVariants.{Int, Ptr}}, Cell.Cell}
 use Rattle.mm_word.specs.Access.{AccessValue, check_result}
-use Rattle.mm_isa.specs.declared.instr.Instr.{Instr}
-use Rattle.mm_model.specs.declared.event.Event.{Event}
-use Rattle.mm_model.specs.{Memory.{Memory, cell_at}, Slot.Slot, State.{Core, slot_at, queue_at, output_of}}
+use Rattle.mm_isa.specs.declared.instr.Instr.{Instr, TheVariants.{Rreg, Wreg}}
+use Rattle.mm_model.specs.declared.{event.Event.Event, slot.Pending.Pending}
+use Rattle.mm_model.specs.{Memory.{Memory, cell_at}, Slot.{Slot, register, is_empty}, State.{Core, slot_at, queue_at, output_of}}
 use Rattle.mm_model.specs.Ask.{Ask, ask, Ask.{Reach, MapPage, UnmapPage, NextEvent, Serve}}
-use Rattle.mm_model.specs.{Operands.{addr_operand, value_operand}, Turn.{instr_in, is_running, port_of, event_of}}
-use Rattle.mm_thread.specs.declared.told.{There.There, Told.Told}
+use Rattle.mm_model.specs.{Operands.{fields_d, lacks, addr_operand, value_operand}, Turn.{instr_in, is_running, port_of, event_of}}
+use Rattle.mm_thread.specs.declared.told.{Held.Held, Was.Was, There.There, Told.Told}
 use Rattle.mm_thread.specs.declared.told.There.TheVariants as there
 
--- 1. What an instruction asks for besides its slot.
+-- 1. Slots.
+
+-- a register as it is
+abbrev pub held_of : Slot → ℕ → Held
+held_of s r = record { register = r; word = register s r; empty = is_empty s r }
+
+-- the parts of a slot that a turn can change, with these registers
+abbrev pub was_of : Slot → List ℕ → Was
+was_of s rs = record {
+  number = s.number;
+  ip = s.ip;
+  past = s.past;
+  state = s.state;
+  loads = length s.pending;
+  held = map (held_of s) rs;
+}
+
+-- the register of the oldest pending load
+abbrev pub oldest : List Pending → List ℕ
+oldest [] = []
+oldest (p ∷ rest) = p.reg ∷ []
+
+-- the registers that an instruction can change of another slot
+abbrev pub other_registers : Bool → Instr → Slot → List ℕ
+other_registers split (Wreg ra rb reg) of = if split && is_empty of reg then oldest of.pending else reg ∷ []
+other_registers split (Rreg rd ra reg) of = oldest of.pending
+other_registers split _ of = []
+
+-- 2. What an instruction asks for besides its slot.
 
 abbrev pub cell_there : AccessValue → Option Cell → There
 cell_there a None = there.Nothing
 cell_there a (Some c) = there.Cell a c
 
-abbrev pub slot_there : Option Slot → There
-slot_there None = there.Nothing
-slot_there (Some s) = there.Slot s
+abbrev pub slot_there : Bool → Instr → Option Slot → There
+slot_there split i None = there.Nothing
+slot_there split i (Some of) = there.Slot (was_of of (other_registers split i of))
 
 -- whether the first cell of a page is there
 abbrev pub has_page : Memory → ℕ → Bool
@@ -31,40 +59,54 @@ page_there m (Err c) = there.Nothing
 page_there m (Ok p) = there.Page p (has_page m p)
 
 -- the slot of the oldest event
-abbrev pub event_there : Core → List Event → There
-event_there core [] = there.Nothing
-event_there core (e ∷ rest) = slot_there (slot_at core e.slot)
+abbrev pub event_there : Core → Instr → List Event → There
+event_there core i [] = there.Nothing
+event_there core i (e ∷ rest) = slot_there core.split i (slot_at core e.slot)
 
-abbrev pub there_at : Core → Memory → ℕ → Ask → There
-there_at core m n (Reach a pre) = cell_there a (cell_at m a.addr)
-there_at core m n (MapPage p) = there.Page p (has_page m p)
-there_at core m n (UnmapPage p) = there.Page p (has_page m p)
-there_at core m n (Serve k) = slot_there (slot_at core k)
-there_at core m n NextEvent = event_there core (queue_at core n)
-there_at core m n _ = there.Nothing
+abbrev pub there_at : Core → Memory → ℕ → Instr → Ask → There
+there_at core m n i (Reach a pre) = cell_there a (cell_at m a.addr)
+there_at core m n i (MapPage p) = there.Page p (has_page m p)
+there_at core m n i (UnmapPage p) = there.Page p (has_page m p)
+there_at core m n i (Serve k) = slot_there core.split i (slot_at core k)
+there_at core m n i NextEvent = event_there core i (queue_at core n)
+there_at core m n i _ = there.Nothing
 
-abbrev pub there_for : Core → Memory → Slot → Option Instr → There
-there_for core m s None = there.Nothing
-there_for core m s (Some i) = there_at core m s.number (ask i s)
+abbrev pub there_for : Core → Memory → Slot → Instr → There
+there_for core m s i = there_at core m s.number i (ask i s)
 
--- 2. The turn.
+-- 3. The turn.
+
+-- a turn that comes to no instruction, or whose instruction waits for a load: the slot's oldest load may be delivered
+abbrev pub told_waiting : Core → Slot → Option Instr → Told
+told_waiting core s instr = record {
+  own = was_of s (oldest s.pending);
+  group = s.group;
+  instr = instr;
+  there = there.Nothing;
+  output = length (output_of core s.group);
+}
+
+abbrev pub told_executing : Core → Memory → Slot → Instr → Told
+told_executing core m s i = record {
+  own = was_of s (fields_d i);
+  group = s.group;
+  instr = Some i;
+  there = there_for core m s i;
+  output = length (output_of core s.group);
+}
 
 -- what the turn of a slot can change if it comes to this instruction, or to none
 abbrev pub told_at : Core → Memory → Slot → Option Instr → Told
-told_at core m s instr = record {
-  own = s;
-  instr = instr;
-  there = there_for core m s instr;
-  output = length (output_of core s.group);
-}
+told_at core m s None = told_waiting core s None
+told_at core m s (Some i) = if core.split && lacks i s then told_waiting core s (Some i) else told_executing core m s i
 
 -- the operands of the event of a fault
 abbrev pub operands_in : Slot → Option Instr → Word × Word
 operands_in s None = (Int 0, Int 0)
 operands_in s (Some i) = (addr_operand i s, value_operand i s)
 
-abbrev pub event_in : Told → Cause → Event
-event_in told c = event_of told.own c (operands_in told.own told.instr).0 (operands_in told.own told.instr).1
+abbrev pub event_in : Slot → Option Instr → Cause → Event
+event_in s instr c = event_of s c (operands_in s instr).0 (operands_in s instr).1
 
 -- the instruction that a cell holds, if it holds one
 abbrev pub in_cell : Option Cell → Option Instr
