@@ -14,3 +14,4 @@ pub mod RowIndex
 pub mod RunningSlots
 pub mod Assigned
 pub mod Rows
+pub mod Writes
