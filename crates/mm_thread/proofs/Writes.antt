@@ -22,6 +22,7 @@ use Rattle.mm_model.specs.Effect.Reply.{Fine, Refused, Got, Paged, NoEvent, Took
 use Rattle.mm_model.specs.Effect.Effect.{Fault, Block, Deliver, Do}
 use Rattle.mm_model.specs.Turn.{put_all, state_after, with_issue, slot_after}
 use Rattle.mm_thread.specs.Told.{oldest, other_registers}
+use Rattle.mm_word.specs.declared.cause.Cause.TheVariants as cause
 
 -- 1. What stays.
 
@@ -271,8 +272,8 @@ module _ (s : Slot) (split : Bool) where
   row_keeps (Ld rd ra pre post imm) r = load_keeps s (rd ∷ []) (λ of. []) split rd post (λ k h. h.0) r
   row_keeps (St ra rb pre post imm) r = store_keeps s [] (λ of. []) (register s rb) post r
   row_keeps (Br imm) r = branch_keeps s [] (λ of. []) r (at_distance s imm)
-  row_keeps (Bz ra imm) r = if_keeps s [] (λ of. []) r (word_bits (register s ra) == 0) (branches s (at_distance s imm)) (Do (plain s)) (branch_keeps s [] (λ of. []) r (at_distance s imm)) plain_keeps s [] (λ of. []) r
-  row_keeps (Bnz ra imm) r = if_keeps s [] (λ of. []) r (word_bits (register s ra) == 0) (Do (plain s)) (branches s (at_distance s imm)) plain_keeps s [] (λ of. []) r (branch_keeps s [] (λ of. []) r (at_distance s imm))
+  row_keeps (Bz ra imm) r = if_keeps s [] (λ of. []) r (word_bits (register s ra) == 0) (branches s (at_distance s imm)) (Do (plain s)) (branch_keeps s [] (λ of. []) r (at_distance s imm)) (plain_keeps s [] (λ of. []) r)
+  row_keeps (Bnz ra imm) r = if_keeps s [] (λ of. []) r (word_bits (register s ra) == 0) (Do (plain s)) (branches s (at_distance s imm)) (plain_keeps s [] (λ of. []) r) (branch_keeps s [] (λ of. []) r (at_distance s imm))
   row_keeps (Jmp ra) r = through_keeps s [] (λ of. []) r (register s ra) (λ p. jumps s p (enter_result p)) (λ p. jump_keeps s [] (λ of. []) r p (enter_result p))
   row_keeps (Jal rd ra) r = through_keeps s (rd ∷ []) (λ of. []) r (register s ra) (λ p. links s rd p (enter_result p) (next_result s.ip)) (λ p. link_keeps s (rd ∷ []) (λ of. []) r rd (λ k h. h.0) p (enter_result p) (next_result s.ip))
   row_keeps (Lip rd imm) r = pointer_keeps s (rd ∷ []) (λ of. []) r rd (λ k h. h.0) (at_distance s imm)

@@ -11,6 +11,7 @@ ghost use Rattle.mm_model.specs.Fits.{IsCore};
 ghost use Rattle.mm_model.specs.Memory.{cell_at};
 ghost use Rattle.mm_model.specs.State.{Core, slot_at};
 ghost use Rattle.mm_thread.specs.SlotIndices.{slot_in, queue_in};
+ghost use Rattle.mm_thread.specs.declared.told.Held.{Held as HeldValue};
 ghost use Rattle.mm_thread.specs.Execution.{page_named as page_named_of};
 ghost use Rattle.mm_thread.specs.Told.{cell_there as cell_there_of, slot_there as slot_there_of};
 ghost use Rattle.mm_thread.specs.Told.{event_there as event_there_of, page_there as page_there_of, there_at};
@@ -62,6 +63,7 @@ pub struct Was {
     pub loads: usize,
     /// The registers that the turn can change, ascending.
     pub held: ArrayVec<Held, 4>,
+    ghost small: { AllByRecursion (λ (h : HeldValue). h.register < 16) held.items },
 }
 
 /// What an instruction asks for besides its slot, as it is before the turn.
@@ -103,10 +105,11 @@ fn held_at(slot: &Slot, register: u8) -> Held
     }
 }
 
-/// No registers of a slot.
+/// The parts of a slot, with these registers.
 #[inline(always)]
-fn was_bare(slot: &Slot) -> Was
-    ensures { result ≡ was_of slot.now [] }
+fn was_with(slot: &Slot, held: ArrayVec<Held, 4>) -> Was
+    requires { AllByRecursion (λ (h : HeldValue). h.register < 16) held.items }
+    ensures { result ≡ record (was_of slot.now []) { held = held } }
 {
     Was {
         number: slot.number,
@@ -114,19 +117,27 @@ fn was_bare(slot: &Slot) -> Was
         past: slot.past,
         state: slot.state,
         loads: slot.pending.len(),
-        held: ArrayVec::new(),
+        held,
     }
 }
 
-/// One register of a slot.
+/// The parts of a slot, with no register.
+#[inline(always)]
+fn was_bare(slot: &Slot) -> Was
+    ensures { result ≡ was_of slot.now [] }
+{
+    was_with(slot, ArrayVec::new())
+}
+
+/// The parts of a slot, with one register.
 #[inline(always)]
 fn was_one(slot: &Slot, register: u8) -> Was
     requires { register < 16 }
     ensures { result ≡ was_of slot.now (register ∷ []) }
 {
-    let mut was = was_bare(slot);
-    was.held.push(held_at(slot, register));
-    was
+    let mut held = ArrayVec::new();
+    held.push(held_at(slot, register));
+    was_with(slot, held)
 }
 
 /// The register of a slot's oldest pending load, if one is pending.
@@ -157,12 +168,12 @@ fn was_four(slot: &Slot, evt: EvtReg) -> Was
     ensures { result ≡ was_of slot.now (evt ∷ (evt + 1) ∷ (evt + 2) ∷ (evt + 3) ∷ []) }
 {
     let first = evt.number();
-    let mut was = was_bare(slot);
-    was.held.push(held_at(slot, first));
-    was.held.push(held_at(slot, first + 1));
-    was.held.push(held_at(slot, first + 2));
-    was.held.push(held_at(slot, first + 3));
-    was
+    let mut held = ArrayVec::new();
+    held.push(held_at(slot, first));
+    held.push(held_at(slot, first + 1));
+    held.push(held_at(slot, first + 2));
+    held.push(held_at(slot, first + 3));
+    was_with(slot, held)
 }
 
 /// The event of a fault of a slot whose turn comes to an instruction, or to none.
