@@ -7,6 +7,7 @@ pub mod Registers
 pub mod Logs
 pub mod Told
 pub mod Numbers
+pub mod Left
 pub mod Slots
 pub mod Memories
 pub mod Events

@@ -8,67 +8,50 @@ use Rattle.mm_word.specs.{declared.word.Cell.Cell, Access.AccessValue}
 use Rattle.mm_model.specs.{State.{Core, slot_at, queue_at, output_of}, Fits.{IsSlot, IsFormed}}
 use Rattle.mm_model.specs.Ask.{Ask, ask, Ask.{Reach, MapPage, UnmapPage, NextEvent, Serve}}
 use Rattle.mm_model.proofs.CoreRows.{slot_at-number, slot_has}
-use Rattle.mm_thread.specs.declared.told.{There.There, Told.Told}
-use Rattle.mm_thread.specs.Told.{slot_there, event_there, cell_there, there_at, there_for}
+use Rattle.mm_thread.specs.declared.told.{Was.Was, There.There}
+use Rattle.mm_thread.specs.Told.{was_of, other_registers, slot_there, event_there, there_at}
 use Rattle.mm_log.specs.{Lines.{Line, Line.Puts}, Changes.{changes_between, each_number, slots_changed, put_out_by}}
 use Rattle.mm_log.specs.Seen.{seen_of, in_order, with_there}
 use Rattle.mm_thread.proofs.Rows.{OtherMove}
+use Rattle.mm_log.proofs.Left.{AreNamed, Kept, between_left}
 use Rattle.mm_log.proofs.Numbers.{one_number, two_numbers, changes_none}
 use Rattle.mm_thread.specs.declared.told.There.TheVariants as there
 
 -- 1. The other slot.
 
--- another slot that was shown is the machine's
+-- another slot that was shown: the machine's own, with these registers
+pub record IsOf (core : Core) (w : Was) : Type 0 where
+  pub of : Slot
+  pub registers : List ℕ
+  pub is : w ≡ was_of of registers
+  pub at : slot_at core of.number ≡ Some of
+  pub names : AreNamed registers
+
 abbrev pub IsThere : Core → There → Type 0
-IsThere core (there.Slot o) = slot_at core o.number ≡ Some o
+IsThere core (there.Slot w) = IsOf core w
 IsThere core _ = Unit {0}
 
 -- a number is not that of another slot that was shown
 abbrev pub Apart : ℕ → There → Type 0
-Apart k (there.Slot o) = k ≢ o.number
+Apart k (there.Slot w) = k ≢ w.number
 Apart k _ = Unit {0}
 
-module _ (core : Core) (m : Memory) where
-  at_own : (k : ℕ) (o : Slot) → slot_at core k ≡ Some o → slot_at core o.number ≡ Some o
-  at_own k o is = ap (slot_at core) (slot_at-number core k o is) ∙ is
+-- of another slot that was shown none but its registers have changed
+abbrev pub OtherKept : (core later : Core) (x : There) → IsThere core x → Type 0
+OtherKept core later (there.Slot w) is = Kept is.of is.registers (slot_at later is.of.number)
+OtherKept core later _ is = Unit {0}
 
-  slot_is : (k : ℕ) (o : Option Slot) → slot_at core k ≡ o → IsThere core (slot_there o)
-  slot_is k None is = tt
-  slot_is k (Some o) is = at_own k o is
-
-  event_is : (q : List Event) → IsThere core (event_there core q)
-  event_is [] = tt
-  event_is (e ∷ rest) = slot_is e.slot (slot_at core e.slot) refl
-
-  cell_is : (a : AccessValue) (o : Option Cell) → IsThere core (cell_there a o)
-  cell_is a None = tt
-  cell_is a (Some c) = tt
-
-  there_is : (n : ℕ) (a : Ask) → IsThere core (there_at core m n a)
-  there_is n (Reach a pre) = cell_is a (cell_at m a.addr)
-  there_is n (Serve k) = slot_is k (slot_at core k) refl
-  there_is n NextEvent = event_is (queue_at core n)
-  there_is n Ask.Nothing = tt
-  there_is n (Ask.Refuse c) = tt
-  there_is n (MapPage p) = tt
-  there_is n (UnmapPage p) = tt
-  there_is n (Ask.Room g) = tt
-
-  pub shown_is : (s : Slot) (i : Option Instr) → IsThere core (there_for core m s i)
-  shown_is s None = tt
-  shown_is s (Some i) = there_is s.number (ask i s)
-
-  -- a slot that the turn changes besides its own was shown
-  pub other_shown : (n : ℕ) (asked : Ask) (o : Slot) → OtherMove core n asked o → (k : ℕ) → Apart k (there_at core m n asked) → k ≢ o.number
-  other_shown n asked o (OtherMove.serves old is at move turns) k apart =
-      let here : there_at core m n asked ≡ there.Slot old = ap (there_at core m n) is ∙ ap slot_there at in
-      let ne : k ≢ old.number = subst (Apart k) here apart in
-      λ e. ne (e ∙ sym (slot_at-number core o.number old at))
-  other_shown n asked o (OtherMove.takes_first old e rest is queue slot at made) k apart =
-      let here : there_at core m n asked ≡ there.Slot old =
-      ap (there_at core m n) is ∙ ap (event_there core) queue ∙ ap slot_there (ap (slot_at core) slot ∙ at) in
-      let ne : k ≢ old.number = subst (Apart k) here apart in
-      λ e. ne (e ∙ sym (slot_at-number core o.number old at))
+-- a slot that the turn changes besides its own was shown
+pub other_shown : (core : Core) (m : Memory) (n : ℕ) (i : Instr) (asked : Ask) (o : Slot) → OtherMove core n asked o → (k : ℕ) → Apart k (there_at core m n i asked) → k ≢ o.number
+other_shown core m n i asked o (OtherMove.serves old is at move turns) k apart =
+    let here : there_at core m n i asked ≡ there.Slot (was_of old (other_registers core.split i old)) = ap (there_at core m n i) is ∙ ap (slot_there core.split i) at in
+    let ne : k ≢ old.number = subst (Apart k) here apart in
+    λ e. ne (e ∙ sym (slot_at-number core o.number old at))
+other_shown core m n i asked o (OtherMove.takes_first old e rest is queue slot at made) k apart =
+    let here : there_at core m n i asked ≡ there.Slot (was_of old (other_registers core.split i old)) =
+    ap (there_at core m n i) is ∙ ap (event_there core i) queue ∙ ap (slot_there core.split i) (ap (slot_at core) slot ∙ at) in
+    let ne : k ≢ old.number = subst (Apart k) here apart in
+    λ e. ne (e ∙ sym (slot_at-number core o.number old at))
 
 -- 2. The lines of the slots.
 
@@ -101,35 +84,51 @@ module _ (core : Core) (formed : IsFormed core) (s : Slot) (at : slot_at core s.
   abbrev told_at : ℕ → List Line
   told_at k = changes_between (slot_at core k) (slot_at later k)
 
-  told_is : (o : Slot) → slot_at core o.number ≡ Some o → told_at o.number ≡ seen_of later o
-  told_is o is = ap (λ x. changes_between x (slot_at later o.number)) is
+  told_is : (o : Slot) (rs : List ℕ) → AreNamed rs → slot_at core o.number ≡ Some o → Kept o rs (slot_at later o.number) → told_at o.number ≡ seen_of later (was_of o rs)
+  told_is o rs names is kept = ap (λ x. changes_between x (slot_at later o.number)) is ∙ between_left o rs names (slot_at later o.number) kept
 
-  -- no other slot changes
-  alone : ((k : ℕ) → k ≢ s.number → slot_at later k ≡ slot_at core k) → slots_changed core later ≡ seen_of later s
-  alone h = one_number told_at s.number (few s at) (λ k ne. changes_none (slot_at core k) (slot_at later k) (h k ne)) ∙ told_is s at
+  module _ (rs : List ℕ) (names : AreNamed rs) (kept : Kept s rs (slot_at later s.number)) where
+    abbrev own : List Line
+    own = seen_of later (was_of s rs)
 
-  -- one other slot may change
-  beside : (o : Slot) → slot_at core o.number ≡ Some o → ((k : ℕ) → k ≢ s.number → k ≢ o.number → slot_at later k ≡ slot_at core k)
-      → slots_changed core later ≡ in_order s.number o.number (seen_of later s) (seen_of later o)
-  beside o is h = elim (cases_eq s.number o.number) [
-    | inl e ↦ alone (λ k ne. h k ne (λ same. ne (same ∙ sym e))) ∙ sym (order_same s.number o.number (seen_of later s) (seen_of later o) e)
-    | inr ne ↦ elim (apart_ways s.number o.number ne) [
-      | inl less ↦
-          two_numbers told_at s.number o.number less (few o is) (λ k a b. changes_none (slot_at core k) (slot_at later k) (h k a b))
-          ∙ ap (λ l. l ++ told_at o.number) (told_is s at) ∙ ap (λ l. seen_of later s ++ l) (told_is o is)
-          ∙ sym (order_less s.number o.number (seen_of later s) (seen_of later o) less)
-      | inr more ↦
-          two_numbers told_at o.number s.number more (few s at) (λ k a b. changes_none (slot_at core k) (slot_at later k) (h k b a))
-          ∙ ap (λ l. told_at o.number ++ l) (told_is s at) ∙ ap (λ l. l ++ seen_of later s) (told_is o is)
-          ∙ sym (order_more s.number o.number (seen_of later s) (seen_of later o) more)
-    ]
-  ]
+    own_is : told_at s.number ≡ own
+    own_is = told_is s rs names at kept
 
-  pub slots_seen_by : (x : There) → IsThere core x → ((k : ℕ) → k ≢ s.number → Apart k x → slot_at later k ≡ slot_at core k) → slots_changed core later ≡ with_there later s x
-  slots_seen_by (there.Slot o) is h = beside o is h
-  slots_seen_by there.Nothing is h = alone (λ k ne. h k ne tt)
-  slots_seen_by (there.Cell a c) is h = alone (λ k ne. h k ne tt)
-  slots_seen_by (there.Page p b) is h = alone (λ k ne. h k ne tt)
+    -- no other slot changes
+    alone : ((k : ℕ) → k ≢ s.number → slot_at later k ≡ slot_at core k) → slots_changed core later ≡ own
+    alone h = one_number told_at s.number (few s at) (λ k ne. changes_none (slot_at core k) (slot_at later k) (h k ne)) ∙ own_is
+
+    -- one other slot may change
+    beside : (w : Was) (o : IsOf core w) → Kept o.of o.registers (slot_at later o.of.number) → ((k : ℕ) → k ≢ s.number → k ≢ w.number → slot_at later k ≡ slot_at core k)
+        → slots_changed core later ≡ in_order s.number w.number own (seen_of later w)
+    beside w o same h =
+        let j : ℕ = o.of.number in
+        let second : List Line = seen_of later (was_of o.of o.registers) in
+        let other : told_at j ≡ second = told_is o.of o.registers o.names o.at same in
+        let low = few o.of o.at in
+        let apart : (k : ℕ) → k ≢ s.number → k ≢ j → slot_at later k ≡ slot_at core k = λ k a b. h k a (λ e. b (e ∙ ap (λ (x : Was). x.number) o.is)) in
+        both j second other low apart ∙ ap (λ (x : Was). in_order s.number x.number own (seen_of later x)) (sym o.is)
+      where
+        both : (j : ℕ) (second : List Line) → told_at j ≡ second → j < 64 → ((k : ℕ) → k ≢ s.number → k ≢ j → slot_at later k ≡ slot_at core k)
+            → slots_changed core later ≡ in_order s.number j own second
+        both j second other low apart = elim (cases_eq s.number j) [
+          | inl e ↦ alone (λ k ne. apart k ne (λ same. ne (same ∙ sym e))) ∙ sym (order_same s.number j own second e)
+          | inr ne ↦ elim (apart_ways s.number j ne) [
+            | inl less ↦
+                two_numbers told_at s.number j less low (λ k a b. changes_none (slot_at core k) (slot_at later k) (apart k a b))
+                ∙ ap (λ l. l ++ told_at j) own_is ∙ ap (λ l. own ++ l) other ∙ sym (order_less s.number j own second less)
+            | inr more ↦
+                two_numbers told_at j s.number more (few s at) (λ k a b. changes_none (slot_at core k) (slot_at later k) (apart k b a))
+                ∙ ap (λ l. told_at j ++ l) own_is ∙ ap (λ l. l ++ own) other ∙ sym (order_more s.number j own second more)
+          ]
+        ]
+
+    pub slots_seen_by : (x : There) (is : IsThere core x) → OtherKept core later x is → ((k : ℕ) → k ≢ s.number → Apart k x → slot_at later k ≡ slot_at core k)
+        → slots_changed core later ≡ with_there later (was_of s rs) x
+    slots_seen_by (there.Slot w) is same h = beside w is same h
+    slots_seen_by there.Nothing is same h = alone (λ k ne. h k ne tt)
+    slots_seen_by (there.Cell a c) is same h = alone (λ k ne. h k ne tt)
+    slots_seen_by (there.Page p b) is same h = alone (λ k ne. h k ne tt)
 
   -- 3. The lines of what groups put out.
 
