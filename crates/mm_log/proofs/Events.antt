@@ -6,8 +6,8 @@ use Rattle.std.{proofs.Math.{Seq.{drop-length, drop-append_seam}, ListN.drop_of_
 use Rattle.mm_word.specs.declared.{cause.Cause.Cause, perm.Kind.TheVariants.Store, word.Pre.Pre}
 use Rattle.mm_word.specs.{Access.{AccessValue, check_result}, Word.word_bits}
 use Rattle.mm_isa.specs.declared.instr.Instr.{Instr, TheVariants.{Out, Ld, St, Evt, Resume, Rreg, Wreg, Map, Unmap}}
-use Rattle.mm_model.specs.declared.{slot.SlotState.TheVariants.{Running, Waiting, Halted}, event.Event.Event}
-use Rattle.mm_model.specs.{declared.step.Tick.TheVariants.{Blocked, Faulted}, Memory.Memory, Slot.{Slot, register}}
+use Rattle.mm_model.specs.declared.{slot.SlotState.{SlotState, TheVariants.{Running, Waiting, Halted}}, event.Event.Event}
+use Rattle.mm_model.specs.{declared.step.Tick.{Tick, TheVariants.{Blocked, Faulted}}, Memory.Memory, Slot.{Slot, register}}
 use Rattle.mm_model.specs.{State.{Core, slot_at, queue_at, put_slot, put_queue, put_output}, Spelling.IsOther}
 use Rattle.mm_model.specs.Fits.{slots_of, IsSlot, IsFormed}
 use Rattle.mm_model.specs.Ask.{Ask, ask, is_privileged, load_kind, reaching}
@@ -20,8 +20,9 @@ use Rattle.mm_model.proofs.CoreRows.{slot_at-number, slot_at-put_same, slot_at-p
 use Rattle.mm_model.proofs.CoreRows.{queue_at-put_same, queue_at-put_other, slot_has, other_at}
 use Rattle.mm_model.proofs.{CoreSteps.Fitting, TurnKeeps.changed_from}
 use Rattle.mm_log.specs.{Lines.{Line, Line.{Queues, Reads}}, Changes.{each_number, queued_at, read_at}}
-use Rattle.mm_thread.specs.{declared.told.Told.Told, Told.{told_at, event_in}}
-use Rattle.mm_log.specs.Seen.{queued_for, queued_seen, read_own, read_seen}
+use Rattle.mm_thread.specs.Told.{event_in}
+use Rattle.mm_model.specs.Operands.{addr_operand, value_operand}
+use Rattle.mm_log.specs.Seen.{queued_for, queued_of, queued_by, read_own}
 use Rattle.mm_thread.proofs.Rows.{QueueMoves}
 use Rattle.mm_log.proofs.Numbers.{no_number, one_number}
 use Rattle.mm_word.specs.declared.cause.Cause.TheVariants as cause
@@ -108,13 +109,24 @@ module _ (core later : Core) (same : (h : ℕ) → queue_at later h ≡ queue_at
   pub none_read : each_number (read_at core later) ≡ []
   none_read = no_number (read_at core later) (λ h. read_same core later h (same h))
 
+-- the event of a fault is that of the slot after it
+stood_event : (s : Slot) (state : SlotState) (instr : Option Instr) (c : Cause) → event_in (stood s state) instr c ≡ event_in s instr c
+unfolding event_of addr_operand value_operand register
+stood_event s state None c = refl
+stood_event s state (Some i) c = refl
+
 module _ (core : Core) (m : Memory) (formed : IsFormed core) (fit : Fitting core) (s : Slot) (at : slot_at core s.number ≡ Some s) where
-  -- a fault
-  pub fault_events : (i : Option Instr) (c : Cause) (e : Event) → e.cause ≡ c → e ≡ event_in (told_at core m s i) c → (o : Option ℕ) → s.handler ≡ o
-      → (each_number (queued_at core (core_faulted core s e o)) ≡ queued_seen (told_at core m s i) (tick_faulted c o))
-      × (each_number (read_at core (core_faulted core s e o)) ≡ read_seen (told_at core m s i) (tick_faulted c o))
+  -- what is told of the events of a fault
+  abbrev FaultTells : Option Instr → Core → Tick → Type 0
+  FaultTells instr later tick = (each_number (queued_at core later) ≡ queued_by (slot_at later s.number) instr tick) × (each_number (read_at core later) ≡ [])
+
+  stood_queued : (instr : Option Instr) (c : Cause) (state : SlotState) (o : Option Slot) (h : Option ℕ) → o ≡ Some (stood s state) → s.handler ≡ h → queued_of o instr c ≡ queued_for s instr c h
+  stood_queued instr c state o None there is = ap (λ x. queued_of x instr c) there ∙ ap (queued_for (stood s state) instr c) is
+  stood_queued instr c state o (Some h) there is = ap (λ x. queued_of x instr c) there ∙ ap (queued_for (stood s state) instr c) is ∙ ap (λ e. Queues h e ∷ []) (stood_event s state instr c)
+
+  pub fault_events : (instr : Option Instr) (c : Cause) (e : Event) → e.cause ≡ c → e ≡ event_in s instr c → (o : Option ℕ) → s.handler ≡ o → FaultTells instr (core_faulted core s e o) (tick_faulted c o)
   unfolding core_faulted
-  fault_events i c e causes made (Some g) is =
+  fault_events instr c e causes made (Some g) is =
       let waits : Core = put_slot core (stood s Waiting) in
       let queued : Core = put_queue waits g (queue_at waits g ++ e ∷ []) in
       let handlers = slot_has (λ (x : Slot). IfSome x.handler (IsOther (slots_of core) x.number)) core s.number s fit.handlers at in
@@ -125,33 +137,29 @@ module _ (core : Core) (m : Memory) (formed : IsFormed core) (fit : Fitting core
       let few : g < 64 = let low = small.number in omega arith in
       let here : queue_at queued g ≡ queue_at core g ++ e ∷ [] = queue_at-put_same waits g (queue_at waits g ++ e ∷ [])
       other.1.0 there ∙ ap (λ q. q ++ e ∷ []) (queue_at-put_slot core (stood s Waiting) g) in
-      let others : (k : ℕ) → k ≢ g → queue_at queued k ≡ queue_at core k = λ k ne. queue_at-put_other waits g (queue_at waits g ++ e ∷ []) k ne ∙ queue_at-put_slot core (stood s Waiting) k in (
+      let others : (k : ℕ) → k ≢ g → queue_at queued k ≡ queue_at core k = λ k ne. queue_at-put_other waits g (queue_at waits g ++ e ∷ []) k ne ∙ queue_at-put_slot core (stood s Waiting) k in
+      let now : slot_at queued s.number ≡ Some (stood s Waiting) = slot_at-put_queue waits g (queue_at waits g ++ e ∷ []) s.number ∙ slot_at-put_same core (stood s Waiting) s at in (
         one_number (queued_at core queued) g few (λ k ne. queued_same core queued k (others k ne))
             ∙ queued_added core queued g e here
             ∙ ap (λ x. Queues g x ∷ []) made
-            ∙ sym (ap (queued_for (told_at core m s i) c) is),
+            ∙ sym (stood_queued instr c Waiting (slot_at queued s.number) (Some g) now is),
         one_number (read_at core queued) g few (λ k ne. read_same core queued k (others k ne)) ∙ read_added core queued g e here,
       )
-  fault_events i c e causes made None is = subst
-      (λ (x : Cause). (each_number (queued_at core (if is_sync x then put_slot core (stood s Running) else put_slot core
-      (stood s (Halted (Some x))))) ≡ queued_seen (told_at core m s i) (if is_sync c then Blocked else Faulted c))
-      × (each_number (read_at core (if is_sync x then put_slot core (stood s Running) else put_slot core
-      (stood s (Halted (Some x))))) ≡ read_seen (told_at core m s i) (if is_sync c then Blocked else Faulted c)))
+  fault_events instr c e causes made None is = subst
+      (λ (x : Cause). FaultTells instr (if is_sync x then put_slot core (stood s Running) else put_slot core (stood s (Halted (Some x)))) (if is_sync c then Blocked else Faulted c))
       (sym causes) (by (is_sync c))
     where
-      by : (b : Bool) → (each_number
-          (queued_at core (if b then put_slot core (stood s Running) else put_slot core (stood s (Halted (Some c))))) ≡
-          queued_seen (told_at core m s i) (if b then Blocked else Faulted c))
-          × (each_number (read_at core (if b then put_slot core (stood s Running) else put_slot core
-          (stood s (Halted (Some c))))) ≡ read_seen (told_at core m s i) (if b then Blocked else Faulted c))
+      by : (b : Bool) → FaultTells instr (if b then put_slot core (stood s Running) else put_slot core (stood s (Halted (Some c)))) (if b then Blocked else Faulted c)
       by true = (
         none_queued core (put_slot core (stood s Running)) (queue_at-put_slot core (stood s Running)),
         none_read core (put_slot core (stood s Running)) (queue_at-put_slot core (stood s Running)),
       )
-      by false = (
-        none_queued core (put_slot core (stood s (Halted (Some c)))) (queue_at-put_slot core (stood s (Halted (Some c)))) ∙ sym (ap (queued_for (told_at core m s i) c) is),
-        none_read core (put_slot core (stood s (Halted (Some c)))) (queue_at-put_slot core (stood s (Halted (Some c)))),
-      )
+      by false =
+          let later : Core = put_slot core (stood s (Halted (Some c))) in (
+            none_queued core later (queue_at-put_slot core (stood s (Halted (Some c))))
+                ∙ sym (stood_queued instr c (Halted (Some c)) (slot_at later s.number) None (slot_at-put_same core (stood s (Halted (Some c))) s at) is),
+            none_read core later (queue_at-put_slot core (stood s (Halted (Some c)))),
+          )
 
   -- an instruction that is carried out
   module _ (i : Instr) (c : Change) (made : effect core.split i s (reply core m s.number (ask i s)) ≡ Do c) where

@@ -59,9 +59,13 @@ abbrev pub queued_for : Slot → Option Instr → Cause → Option ℕ → List 
 queued_for now instr c None = []
 queued_for now instr c (Some h) = Queues h (event_in now instr c) ∷ []
 
+abbrev pub queued_of : Option Slot → Option Instr → Cause → List Line
+queued_of None instr c = []
+queued_of (Some now) instr c = queued_for now instr c now.handler
+
 abbrev pub queued_by : Option Slot → Option Instr → Tick → List Line
-queued_by (Some now) instr (Faulted c) = queued_for now instr c now.handler
-queued_by _ instr _ = []
+queued_by now instr (Faulted c) = queued_of now instr c
+queued_by now instr _ = []
 
 abbrev pub queued_seen : Core → Told → Tick → List Line
 queued_seen later told tick = queued_by (slot_at later told.own.number) told.instr tick
