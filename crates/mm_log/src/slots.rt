@@ -10,7 +10,7 @@ ghost use Rattle.mm_model.specs.Report.{same_bit as same_bit_of};
 ghost use Rattle.mm_log.specs.Lines.{line_text};
 ghost use Rattle.mm_log.specs.Lines.Line.{Issues};
 ghost use Rattle.mm_log.specs.Changes.{same_state as same_state_of, register_now};
-ghost use Rattle.mm_log.specs.Seen.{pointer_left, state_left, held_left, slot_left};
+ghost use Rattle.mm_log.specs.Seen.{IsSmall, pointer_left, state_left, held_left, slot_left};
 ghost use Rattle.mm_thread.specs.declared.told.Held.{Held as HeldValue};
 ghost use Rattle.mm_log.specs.Log.{text_of};
 
@@ -145,7 +145,7 @@ fn put_all_held<O: Sink>(text: &mut TextBuffer, out: &mut O, held: &[Held], now:
 
 /// Appends the lines of a slot's changes, but for loads.
 fn put_front_left<O: Sink>(text: &mut TextBuffer, out: &mut O, was: &Was, now: &Slot)
-    requires { AllByRecursion (λ (h : HeldValue). h.register < 16) was.now.held }
+    requires { IsSmall was.now }
     ensures { Appends O.taken O.faults out.old out.new text.old text.new
         (text_of (pointer_left was.now.ip was.now.past now.now) ++ text_of (state_left was.now.state now.now)
         ++ flat_map (λ h. text_of (held_left now.now h)) was.now.held) }
@@ -182,7 +182,7 @@ fn put_load_changes<O: Sink>(text: &mut TextBuffer, out: &mut O, was: &Was, now:
 
 /// Appends the lines of all changes of a slot.
 pub(crate) fn put_slot_left<O: Sink>(text: &mut TextBuffer, out: &mut O, was: &Was, now: &Slot)
-    requires { AllByRecursion (λ (h : HeldValue). h.register < 16) was.now.held }
+    requires { IsSmall was.now }
     ensures { Appends O.taken O.faults out.old out.new text.old text.new (text_of (slot_left was.now now.now)) }
 {
     put_front_left(text, out, was, now);

@@ -11,7 +11,6 @@ ghost use Rattle.mm_model.specs.Fits.{IsCore};
 ghost use Rattle.mm_model.specs.Memory.{cell_at};
 ghost use Rattle.mm_model.specs.State.{Core, slot_at};
 ghost use Rattle.mm_thread.specs.SlotIndices.{slot_in, queue_in};
-ghost use Rattle.mm_thread.specs.declared.told.Held.{Held as HeldValue};
 ghost use Rattle.mm_thread.specs.Execution.{page_named as page_named_of};
 ghost use Rattle.mm_thread.specs.Told.{cell_there as cell_there_of, slot_there as slot_there_of};
 ghost use Rattle.mm_thread.specs.Told.{event_there as event_there_of, page_there as page_there_of, there_at};
@@ -63,7 +62,6 @@ pub struct Was {
     pub loads: usize,
     /// The registers that the turn can change, ascending.
     pub held: ArrayVec<Held, 4>,
-    ghost small: { AllByRecursion (λ (h : HeldValue). h.register < 16) held.items },
 }
 
 /// What an instruction asks for besides its slot, as it is before the turn.
@@ -108,8 +106,7 @@ fn held_at(slot: &Slot, register: u8) -> Held
 /// The parts of a slot, with these registers.
 #[inline(always)]
 fn was_with(slot: &Slot, held: ArrayVec<Held, 4>) -> Was
-    requires { AllByRecursion (λ (h : HeldValue). h.register < 16) held.items }
-    ensures { result ≡ record (was_of slot.now []) { held = held } }
+    ensures { result ≡ record (was_of slot.now []) { held = held.items } }
 {
     Was {
         number: slot.number,
