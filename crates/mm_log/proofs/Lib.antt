@@ -1,4 +1,3 @@
-pub mod Rows
 pub mod Turns
 pub mod Runs
 pub mod Sames
@@ -7,17 +6,11 @@ pub mod Carried
 pub mod Registers
 pub mod Logs
 pub mod Told
-pub mod Ways
 pub mod Numbers
-pub mod Frames
-pub mod Seeing
+pub mod Left
+pub mod Slots
+pub mod Memories
 pub mod Events
 pub mod Peeks
-pub mod OneSlot
-pub mod Placed
-pub mod Taking
 pub mod Whole
 pub mod ToldRuns
-pub mod Written
-pub mod Near
-pub mod NearLines

@@ -26,7 +26,8 @@ use Rattle.mm_log.specs.Log.{turns_in, told, cycle_log, log}
 use Rattle.mm_log.specs.Replay.{holding, emptied, is_turn, with_turns, without_first, carry_out, replay}
 use Rattle.mm_log.specs.Laws.{but_cycles, LogsReplay}
 use Rattle.mm_log.proofs.Runs.{all_flat, all_map, all_unless, all_where, run_on, run_append, run_silent, run_range}
-use Rattle.mm_log.proofs.{Runs.IsSilent, Rows.SlotMove, Turns.{Counts, QueueMove, OutMove, TurnMoves, turn_moves}}
+use Rattle.mm_thread.proofs.Rows.{SlotMove}
+use Rattle.mm_log.proofs.{Runs.IsSilent, Turns.{Counts, QueueMove, OutMove, TurnMoves, turn_moves}}
 use Rattle.mm_log.proofs.Pages.{memory_line, memory_told, memory_made}
 use Rattle.mm_log.proofs.Carried.{row_line, out_line, slot_line, queue_line, replayed, row_all, found_number, core_made}
 use Rattle.mm_log.proofs.Registers.{slot_all, slot_replayed}

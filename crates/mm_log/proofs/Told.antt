@@ -3,7 +3,8 @@ use Rattle.std.proofs.Common.{◌≡◌, ℕ, Bool, ◌&&◌, not, nat_lt, if◌
 use Rattle.std.proofs.{Common.{sym, ap, ◌∙◌}, lemmas.{Grind.flat_map-append, List.Folds.flat_map-map}}
 use Rattle.std.specs.List.{flat_map, range_with_len}
 use Rattle.mm_model.specs.{Slot.Slot, declared.step.Tick.Tick, State.{State, output_of}}
-use Rattle.mm_log.specs.{Lines.{Line, line_text, Line.{Issues, Puts, Maps, Removes}}, declared.before.Before.Before}
+use Rattle.mm_thread.specs.declared.told.Told.{Told}
+use Rattle.mm_log.specs.Lines.{Line, line_text, Line.{Issues, Puts, Maps, Removes}}
 use Rattle.mm_log.specs.Changes.{pointer_changes, state_changes, register_changes, load_changes, slot_changes}
 use Rattle.mm_log.specs.Log.{text_of}
 use Rattle.mm_log.specs.Seen.{in_order, slots_seen, queued_seen, read_seen, out_seen, page_told, page_seen, cell_seen}
@@ -45,17 +46,16 @@ pub page_text : (p : ℕ) (was now : Bool)
 page_text p was now = sym (text_append (if now && not was then Maps p ∷ [] else []) (if was && not now then Removes p ∷ [] else []))
 
 -- the text of what was seen of a cycle
-pub seen_text : (later : State) (b : Before) (tick : Tick)
-    → text_of (slots_seen later.core b tick) ++ text_of (queued_seen b tick) ++ text_of
-    (read_seen b.instr b.own.number tick) ++ flat_map (λ x. line_text (Puts b.own.group x))
+pub seen_text : (later : State) (b : Told) (tick : Tick)
+    → text_of (slots_seen later.core b) ++ text_of (queued_seen b tick) ++ text_of (read_seen b tick) ++ flat_map (λ x. line_text (Puts b.own.group x))
     (drop b.output (output_of later.core b.own.group))
     ++ text_of (page_seen later.memory b.there ++ cell_seen later.memory b.there)
     ≡ text_of (seen later b tick)
 unfolding seen
 seen_text later b tick =
-    let s : List Line = slots_seen later.core b tick in
+    let s : List Line = slots_seen later.core b in
     let q : List Line = queued_seen b tick in
-    let r : List Line = read_seen b.instr b.own.number tick in
+    let r : List Line = read_seen b tick in
     let o : List Line = out_seen later.core b in
     let m : List Line = page_seen later.memory b.there ++ cell_seen later.memory b.there in
     ap (λ l. text_of s ++ text_of q ++ text_of r ++ l ++ text_of m) (sym (flat_map-map line_text (Puts b.own.group) (drop b.output (output_of later.core b.own.group))))

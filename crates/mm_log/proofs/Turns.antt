@@ -18,8 +18,8 @@ use Rattle.mm_model.proofs.CoreRows.{slot_at-put_same, slot_at-put_other, queue_
 use Rattle.mm_model.proofs.CoreRows.{queue_at-put_same, queue_at-put_other, slot_has, other_at}
 use Rattle.mm_model.proofs.{CoreSteps.Fitting, TurnShapes.{fetch_uses, fetch_use, started_one, turn_by}}
 use Rattle.mm_log.specs.Replay.{is_turn}
-use Rattle.mm_log.proofs.Rows.{LoadsMove, SlotMove, MemoryMove, OtherMove, OtherMoves, QueueMoves, ChangeMoves}
-use Rattle.mm_log.proofs.Rows.{EffectMoves, delivered_move, delivered_turns, effect_moves}
+use Rattle.mm_thread.proofs.Rows.{LoadsMove, SlotMove, MemoryMove, OtherMove, OtherMoves, QueueMoves, ChangeMoves}
+use Rattle.mm_thread.proofs.Rows.{EffectMoves, delivered_move, delivered_turns, effect_moves}
 
 -- 1. Slots.
 

@@ -13,3 +13,5 @@ pub mod Fresh
 pub mod RowIndex
 pub mod RunningSlots
 pub mod Assigned
+pub mod Rows
+pub mod Writes

@@ -6,5 +6,5 @@ use Rattle.mm_log.proofs.after.put_seen.Goals as goal
 pub returns : goal.returns
 returns g c =
     appends_same
-    (appends_then (appends_then (appends_then (appends_then c.put_slots.ensures c.put_queued.ensures) c.put_read.ensures) c.put_own_out.ensures) c.put_memory.ensures)
-    (seen_text (state_of c.args.machine.now) c.args.before.now c.args.tick)
+    (appends_then (appends_then (appends_then (appends_then c.put_slots.ensures c.put_queued.ensures) c.put_read.ensures) c.put_out.ensures) c.put_memory.ensures)
+    (seen_text (state_of c.args.machine.now) c.args.told.now c.args.tick)
