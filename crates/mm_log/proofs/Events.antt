@@ -161,6 +161,14 @@ module _ (core : Core) (m : Memory) (formed : IsFormed core) (fit : Fitting core
             none_read core later (queue_at-put_slot core (stood s (Halted (Some c)))),
           )
 
+  -- the slot is there, whatever slot was put back before it
+  pub before_there : (o : Option Slot) → (x : Slot) × (slot_at (with_other core o) s.number ≡ Some x)
+  before_there None = (s, at)
+  before_there (Some o) = elim (cases_eq s.number o.number) [
+    | inl e ↦ (o, ap (slot_at (put_slot core o)) e ∙ slot_at-put_same core o s (ap (slot_at core) (sym e) ∙ at))
+    | inr ne ↦ (s, slot_at-put_other core o s.number ne ∙ at)
+  ]
+
   -- an instruction that is carried out
   module _ (i : Instr) (c : Change) (made : effect core.split i s (reply core m s.number (ask i s)) ≡ Do c) where
     abbrev mid : Core
@@ -173,14 +181,7 @@ module _ (core : Core) (m : Memory) (formed : IsFormed core) (fit : Fitting core
         by None = refl
         by (Some o) = queue_at-put_slot core o k
 
-    before_there : (o : Option Slot) → (x : Slot) × (slot_at (with_other core o) s.number ≡ Some x)
-    before_there None = (s, at)
-    before_there (Some o) = elim (cases_eq s.number o.number) [
-      | inl e ↦ (o, ap (slot_at (put_slot core o)) e ∙ slot_at-put_same core o s (ap (slot_at core) (sym e) ∙ at))
-      | inr ne ↦ (s, slot_at-put_other core o s.number ne ∙ at)
-    ]
-
-    mid_there : slot_at mid s.number ≡ Some (slot_after s c)
+    pub mid_there : slot_at mid s.number ≡ Some (slot_after s c)
     mid_there =
         let number = (changed_from s c).number in
         let x = before_there c.other in

@@ -19,27 +19,22 @@ use Rattle.mm_thread.specs.declared.told.There.TheVariants as there
 
 -- 1. The other slot.
 
--- another slot that was shown: the machine's own, with these registers
-pub record IsOf (core : Core) (w : Was) : Type 0 where
-  pub of : Slot
-  pub registers : List ℕ
-  pub is : w ≡ was_of of registers
-  pub at : slot_at core of.number ≡ Some of
-  pub names : AreNamed registers
+module _ (core : Core) (os : Slot → List ℕ) where
+  -- another slot that was shown: the machine's own, with its registers
+  pub record IsOf (w : Was) : Type 0 where
+    pub of : Slot
+    pub is : w ≡ was_of of (os of)
+    pub at : slot_at core of.number ≡ Some of
+    pub names : AreNamed (os of)
 
-abbrev pub IsThere : Core → There → Type 0
-IsThere core (there.Slot w) = IsOf core w
-IsThere core _ = Unit {0}
+  abbrev pub IsThere : There → Type 0
+  IsThere (there.Slot w) = IsOf w
+  IsThere _ = Unit {0}
 
 -- a number is not that of another slot that was shown
 abbrev pub Apart : ℕ → There → Type 0
 Apart k (there.Slot w) = k ≢ w.number
 Apart k _ = Unit {0}
-
--- of another slot that was shown none but its registers have changed
-abbrev pub OtherKept : (core later : Core) (x : There) → IsThere core x → Type 0
-OtherKept core later (there.Slot w) is = Kept is.of is.registers (slot_at later is.of.number)
-OtherKept core later _ is = Unit {0}
 
 -- a slot that the turn changes besides its own was shown
 pub other_shown : (core : Core) (m : Memory) (n : ℕ) (i : Instr) (asked : Ask) (o : Slot) → OtherMove core n asked o → (k : ℕ) → Apart k (there_at core m n i asked) → k ≢ o.number
@@ -87,7 +82,8 @@ module _ (core : Core) (formed : IsFormed core) (s : Slot) (at : slot_at core s.
   told_is : (o : Slot) (rs : List ℕ) → AreNamed rs → slot_at core o.number ≡ Some o → Kept o rs (slot_at later o.number) → told_at o.number ≡ seen_of later (was_of o rs)
   told_is o rs names is kept = ap (λ x. changes_between x (slot_at later o.number)) is ∙ between_left o rs names (slot_at later o.number) kept
 
-  module _ (rs : List ℕ) (names : AreNamed rs) (kept : Kept s rs (slot_at later s.number)) where
+  module _ (rs : List ℕ) (names : AreNamed rs) (kept : Kept s rs (slot_at later s.number)) (os : Slot → List ℕ)
+      (others : (of : Slot) → slot_at core of.number ≡ Some of → s.number ≢ of.number → Kept of (os of) (slot_at later of.number)) where
     abbrev own : List Line
     own = seen_of later (was_of s rs)
 
@@ -99,36 +95,34 @@ module _ (core : Core) (formed : IsFormed core) (s : Slot) (at : slot_at core s.
     alone h = one_number told_at s.number (few s at) (λ k ne. changes_none (slot_at core k) (slot_at later k) (h k ne)) ∙ own_is
 
     -- one other slot may change
-    beside : (w : Was) (o : IsOf core w) → Kept o.of o.registers (slot_at later o.of.number) → ((k : ℕ) → k ≢ s.number → k ≢ w.number → slot_at later k ≡ slot_at core k)
-        → slots_changed core later ≡ in_order s.number w.number own (seen_of later w)
-    beside w o same h =
+    beside : (w : Was) → IsOf core os w → ((k : ℕ) → k ≢ s.number → k ≢ w.number → slot_at later k ≡ slot_at core k) → slots_changed core later ≡ in_order s.number w.number own (seen_of later w)
+    beside w o h =
         let j : ℕ = o.of.number in
-        let second : List Line = seen_of later (was_of o.of o.registers) in
-        let other : told_at j ≡ second = told_is o.of o.registers o.names o.at same in
+        let second : List Line = seen_of later (was_of o.of (os o.of)) in
+        let other : s.number ≢ j → told_at j ≡ second = λ ne. told_is o.of (os o.of) o.names o.at (others o.of o.at ne) in
         let low = few o.of o.at in
         let apart : (k : ℕ) → k ≢ s.number → k ≢ j → slot_at later k ≡ slot_at core k = λ k a b. h k a (λ e. b (e ∙ ap (λ (x : Was). x.number) o.is)) in
         both j second other low apart ∙ ap (λ (x : Was). in_order s.number x.number own (seen_of later x)) (sym o.is)
       where
-        both : (j : ℕ) (second : List Line) → told_at j ≡ second → j < 64 → ((k : ℕ) → k ≢ s.number → k ≢ j → slot_at later k ≡ slot_at core k)
+        both : (j : ℕ) (second : List Line) → (s.number ≢ j → told_at j ≡ second) → j < 64 → ((k : ℕ) → k ≢ s.number → k ≢ j → slot_at later k ≡ slot_at core k)
             → slots_changed core later ≡ in_order s.number j own second
         both j second other low apart = elim (cases_eq s.number j) [
           | inl e ↦ alone (λ k ne. apart k ne (λ same. ne (same ∙ sym e))) ∙ sym (order_same s.number j own second e)
           | inr ne ↦ elim (apart_ways s.number j ne) [
             | inl less ↦
                 two_numbers told_at s.number j less low (λ k a b. changes_none (slot_at core k) (slot_at later k) (apart k a b))
-                ∙ ap (λ l. l ++ told_at j) own_is ∙ ap (λ l. own ++ l) other ∙ sym (order_less s.number j own second less)
+                ∙ ap (λ l. l ++ told_at j) own_is ∙ ap (λ l. own ++ l) (other ne) ∙ sym (order_less s.number j own second less)
             | inr more ↦
                 two_numbers told_at j s.number more (few s at) (λ k a b. changes_none (slot_at core k) (slot_at later k) (apart k b a))
-                ∙ ap (λ l. told_at j ++ l) own_is ∙ ap (λ l. l ++ own) other ∙ sym (order_more s.number j own second more)
+                ∙ ap (λ l. told_at j ++ l) own_is ∙ ap (λ l. l ++ own) (other ne) ∙ sym (order_more s.number j own second more)
           ]
         ]
 
-    pub slots_seen_by : (x : There) (is : IsThere core x) → OtherKept core later x is → ((k : ℕ) → k ≢ s.number → Apart k x → slot_at later k ≡ slot_at core k)
-        → slots_changed core later ≡ with_there later (was_of s rs) x
-    slots_seen_by (there.Slot w) is same h = beside w is same h
-    slots_seen_by there.Nothing is same h = alone (λ k ne. h k ne tt)
-    slots_seen_by (there.Cell a c) is same h = alone (λ k ne. h k ne tt)
-    slots_seen_by (there.Page p b) is same h = alone (λ k ne. h k ne tt)
+    pub slots_seen_by : (x : There) → IsThere core os x → ((k : ℕ) → k ≢ s.number → Apart k x → slot_at later k ≡ slot_at core k) → slots_changed core later ≡ with_there later (was_of s rs) x
+    slots_seen_by (there.Slot w) is h = beside w is h
+    slots_seen_by there.Nothing is h = alone (λ k ne. h k ne tt)
+    slots_seen_by (there.Cell a c) is h = alone (λ k ne. h k ne tt)
+    slots_seen_by (there.Page p b) is h = alone (λ k ne. h k ne tt)
 
   -- 3. The lines of what groups put out.
 

@@ -1,7 +1,7 @@
 -- The lines of what a cycle changed, given what its turn showed before it did.
-use Rattle.std.specs.Prelude.{ℕ, ◌<◌, Bool, ◌&&◌, nat_lt, not, if◌then◌else◌, List, [], ◌∷◌, ◌++◌, drop, map}
+use Rattle.std.specs.Prelude.{ℕ, Bool, ◌&&◌, nat_lt, not, if◌then◌else◌, List, [], ◌∷◌, ◌++◌, drop, map}
 use Rattle.std.specs.Prelude.{Option, Some, None}
-use Rattle.std.specs.List.{AllByRecursion, flat_map}
+use Rattle.std.specs.List.{flat_map}
 use Rattle.mm_word.specs.declared.{cause.Cause.Cause, word.{Word.TheVariants.Ptr, Cell.Cell}}
 use Rattle.mm_word.specs.Pointer.{Pointer}
 use Rattle.mm_model.specs.declared.slot.SlotState.{SlotState}
@@ -106,20 +106,3 @@ seen later told tick =
 abbrev pub seen_by : State → Option Told → Tick → List Line
 seen_by later None tick = []
 seen_by later (Some told) tick = seen later told tick
-
--- the registers that were kept are registers
-
-abbrev pub IsSmall : Was → Type 0
-IsSmall was = AllByRecursion (λ (h : Held). h.register < 16) was.held
-
-abbrev pub IsSmallThere : There → Type 0
-IsSmallThere (there.Slot other) = IsSmall other
-IsSmallThere _ = Unit {0}
-
-pub record IsSmallTold (told : Told) : Type 0 where
-  pub own : IsSmall told.own
-  pub there : IsSmallThere told.there
-
-abbrev pub AreSmall : Option Told → Type 0
-AreSmall None = Unit {0}
-AreSmall (Some told) = IsSmallTold told

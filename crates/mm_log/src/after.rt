@@ -11,7 +11,7 @@ ghost use Rattle.mm_log.specs.Lines.{line_text};
 ghost use Rattle.mm_log.specs.Lines.Line.{Puts, Maps, Removes};
 ghost use Rattle.mm_log.specs.Log.{text_of};
 ghost use Rattle.mm_log.specs.Seen.{seen_of, in_order, slots_seen, queued_seen, read_seen, page_told, page_seen};
-ghost use Rattle.mm_log.specs.Seen.{cell_now, cell_seen, seen, seen_by, IsSmall, IsSmallTold, AreSmall};
+ghost use Rattle.mm_log.specs.Seen.{cell_now, cell_seen, seen, seen_by};
 
 use crate::lines::{put_byte, put_event, put_gone_page, put_new_page, put_set, put_taken};
 use crate::slots::{is_same_bit, put_slot_left};
@@ -25,7 +25,6 @@ use mm_word::{Access, Cell};
 
 /// Appends the lines of a slot's changes.
 fn put_own<M: Memory, O: Sink>(text: &mut TextBuffer, out: &mut O, machine: &Machine<M>, was: &Was)
-    requires { IsSmall was.now }
     ensures { Appends O.taken O.faults out.old out.new text.old text.new
         (text_of (seen_of (state_of machine.now).core was.now)) }
 {
@@ -42,7 +41,6 @@ fn put_own_before<M: Memory, O: Sink>(
     was: &Was,
     own: &Was,
 )
-    requires { IsSmall was.now }
     ensures { Appends O.taken O.faults out.old out.new text.old text.new
         (text_of (if nat_lt was.now.number own.now.number then seen_of (state_of machine.now).core was.now else [])) }
 {
@@ -59,7 +57,6 @@ fn put_own_behind<M: Memory, O: Sink>(
     was: &Was,
     own: &Was,
 )
-    requires { IsSmall was.now }
     ensures { Appends O.taken O.faults out.old out.new text.old text.new
         (text_of (if nat_lt own.now.number was.now.number then seen_of (state_of machine.now).core was.now else [])) }
 {
@@ -76,8 +73,6 @@ fn put_two<M: Memory, O: Sink>(
     own: &Was,
     other: &Was,
 )
-    requires own { IsSmall own.now }
-    requires other { IsSmall other.now }
     ensures { Appends O.taken O.faults out.old out.new text.old text.new
         (text_of (in_order own.now.number other.now.number (seen_of (state_of machine.now).core own.now)
         (seen_of (state_of machine.now).core other.now))) }
@@ -94,7 +89,6 @@ fn put_slots<M: Memory, O: Sink>(
     machine: &Machine<M>,
     told: &Told,
 )
-    requires { IsSmallTold told.now }
     ensures { Appends O.taken O.faults out.old out.new text.old text.new
         (text_of (slots_seen (state_of machine.now).core told.now)) }
 {
@@ -255,7 +249,6 @@ fn put_seen<M: Inspect, O: Sink>(
     told: &Told,
     tick: Tick,
 )
-    requires { IsSmallTold told.now }
     ensures { Appends O.taken O.faults out.old out.new text.old text.new
         (text_of (seen (state_of machine.now) told.now tick)) }
 {
@@ -273,7 +266,6 @@ pub(crate) fn put_changes<M: Inspect, O: Sink>(
     machine: &Machine<M>,
     last: &LastTurn,
 )
-    requires { AreSmall last.now.told }
     ensures { Appends O.taken O.faults out.old out.new text.old text.new
         (text_of (seen_by (state_of machine.now) last.now.told last.now.step.tick)) }
 {

@@ -2,7 +2,7 @@
 #![tactic(auto)]
 
 ghost use Rattle.std.specs.Prelude.{◌≡◌, ◌+◌, ◌<◌, ◌≤◌, ◌++◌, drop, length};
-ghost use Rattle.std.specs.List.{AllByRecursion, flat_map};
+ghost use Rattle.std.specs.List.{flat_map};
 ghost use Rattle.mm_text.specs.Appends.{Appends};
 ghost use Rattle.mm_word.specs.declared.word.Word.TheVariants.{Ptr};
 ghost use Rattle.mm_model.specs.Effect.{same_word as same_word_of};
@@ -10,8 +10,7 @@ ghost use Rattle.mm_model.specs.Report.{same_bit as same_bit_of};
 ghost use Rattle.mm_log.specs.Lines.{line_text};
 ghost use Rattle.mm_log.specs.Lines.Line.{Issues};
 ghost use Rattle.mm_log.specs.Changes.{same_state as same_state_of, register_now};
-ghost use Rattle.mm_log.specs.Seen.{IsSmall, pointer_left, state_left, held_left, slot_left};
-ghost use Rattle.mm_thread.specs.declared.told.Held.{Held as HeldValue};
+ghost use Rattle.mm_log.specs.Seen.{pointer_left, state_left, held_left, slot_left};
 ghost use Rattle.mm_log.specs.Log.{text_of};
 
 use crate::lines::{put_load, put_slot_state, write_empty, write_pointer, write_register};
@@ -78,12 +77,11 @@ fn write_pointer_left(line: &mut Line, was: &Was, now: &Slot)
 /// Puts the line of a register before the text so far, if its word changed or it began or ended a wait for a load.
 #[inline(always)]
 fn write_held(line: &mut Line, held: &Held, now: &Slot)
-    requires register { held.now.register < 16 }
-    requires room { length line.old + 28 ≤ 64 }
+    requires { length line.old + 28 ≤ 64 }
     ensures text { line.new ≡ text_of (held_left now.now held.now) ++ line.old }
     ensures short { length line.new ≤ length line.old + 28 }
 {
-    let register = held.register;
+    let register = held.register.number();
     let same = is_same_word(held.word, now.register(register))
         && is_same_bit(held.empty, now.is_empty(register));
     if !same {
@@ -93,7 +91,6 @@ fn write_held(line: &mut Line, held: &Held, now: &Slot)
 
 /// Appends the lines of the instruction pointer and of one register, as one text, if they changed.
 fn put_moved<O: Sink>(text: &mut TextBuffer, out: &mut O, was: &Was, held: &Held, now: &Slot)
-    requires { held.now.register < 16 }
     ensures { Appends O.taken O.faults out.old out.new text.old text.new
         (text_of (pointer_left was.now.ip was.now.past now.now) ++ text_of (held_left now.now held.now)) }
 {
@@ -124,7 +121,6 @@ fn put_state_left<O: Sink>(text: &mut TextBuffer, out: &mut O, was: &Was, now: &
 
 /// Appends the line of a register, if its word changed or it began or ended a wait for a load.
 fn put_held<O: Sink>(text: &mut TextBuffer, out: &mut O, held: &Held, now: &Slot)
-    requires { held.now.register < 16 }
     ensures { Appends O.taken O.faults out.old out.new text.old text.new (text_of (held_left now.now held.now)) }
 {
     let mut line = Line::new();
@@ -134,7 +130,6 @@ fn put_held<O: Sink>(text: &mut TextBuffer, out: &mut O, held: &Held, now: &Slot
 
 /// Appends the lines of registers that changed.
 fn put_all_held<O: Sink>(text: &mut TextBuffer, out: &mut O, held: &[Held], now: &Slot)
-    requires { AllByRecursion (λ (h : HeldValue). h.register < 16) held.now }
     ensures { Appends O.taken O.faults out.old out.new text.old text.new
         (flat_map (λ h. text_of (held_left now.now h)) held.now) }
 {
@@ -145,7 +140,6 @@ fn put_all_held<O: Sink>(text: &mut TextBuffer, out: &mut O, held: &[Held], now:
 
 /// Appends the lines of a slot's changes, but for loads.
 fn put_front_left<O: Sink>(text: &mut TextBuffer, out: &mut O, was: &Was, now: &Slot)
-    requires { IsSmall was.now }
     ensures { Appends O.taken O.faults out.old out.new text.old text.new
         (text_of (pointer_left was.now.ip was.now.past now.now) ++ text_of (state_left was.now.state now.now)
         ++ flat_map (λ h. text_of (held_left now.now h)) was.now.held) }
@@ -182,7 +176,6 @@ fn put_load_changes<O: Sink>(text: &mut TextBuffer, out: &mut O, was: &Was, now:
 
 /// Appends the lines of all changes of a slot.
 pub(crate) fn put_slot_left<O: Sink>(text: &mut TextBuffer, out: &mut O, was: &Was, now: &Slot)
-    requires { IsSmall was.now }
     ensures { Appends O.taken O.faults out.old out.new text.old text.new (text_of (slot_left was.now now.now)) }
 {
     put_front_left(text, out, was, now);

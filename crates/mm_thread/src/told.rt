@@ -29,7 +29,7 @@ use mm_word::{Access, Cause, Cell, GuardedPtr, Kind, Word};
 /// A register as it is before the turn.
 #[derive(Clone, Copy)]
 pub struct Held {
-    pub register: u8,
+    pub register: Reg,
     pub word: Word,
     /// Whether the register waits for a load.
     pub empty: bool,
@@ -44,7 +44,7 @@ impl Default for Held {
 
     fn default() -> Held {
         Held {
-            register: 0,
+            register: Reg::of(0),
             word: Word::Int(0),
             empty: false,
         }
@@ -97,7 +97,7 @@ fn held_at(slot: &Slot, register: u8) -> Held
     ensures { result ≡ held_of slot.now register }
 {
     Held {
-        register,
+        register: Reg::of(register),
         word: slot.register(register),
         empty: slot.is_empty(register),
     }
