@@ -3,7 +3,7 @@ use Rattle.std.proofs.Common.{◌≡◌, ℕ, Bool, ◌&&◌, not, nat_lt, if◌
 use Rattle.std.proofs.{Common.{sym, ap, ◌∙◌}, lemmas.{Grind.flat_map-append, List.Folds.flat_map-map}}
 use Rattle.std.specs.List.{flat_map}
 use Rattle.mm_model.specs.{Slot.Slot, declared.step.Tick.Tick, State.{State, output_of}}
-use Rattle.mm_thread.specs.declared.told.{Was.Was, Told.Told}
+use Rattle.mm_thread.specs.{declared.told.Was.Was, Told.Told}
 use Rattle.mm_log.specs.Lines.{Line, line_text, Line.{Issues, Puts, Maps, Removes}}
 use Rattle.mm_log.specs.Log.{text_of}
 use Rattle.mm_log.specs.Seen.{pointer_left, state_left, held_left, slot_left}

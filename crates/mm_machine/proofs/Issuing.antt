@@ -5,7 +5,8 @@ use Rattle.std.{proofs.lemmas.{List.{take_more, take_all}, Bool.cases_lt}, specs
 use Rattle.mm_mem.specs.declared.memory.Memory.{Ghosts}
 use Rattle.mm_model.specs.{State.State, Uses.Use, declared.step.Step.Step}
 use Rattle.mm_model.specs.Run.{after, run, uses, turn_of, next_running, robin_from, last_item}
-use Rattle.mm_thread.specs.{declared.{told.Told.Told, watch.LastTurn.LastTurn}, Told.{told_of, shown}}
+use Rattle.mm_thread.specs.{declared.watch.LastTurn.LastTurn, Told.{There, Told, told_of, kind_of, other_in, keep, there_in}}
+use Rattle.mm_thread.specs.{declared.told.Kept.Kept, Told.{shown_in, shown}}
 use Rattle.mm_machine.specs.{declared.machine.Machine.Machine, Machine.{state_of, Takes}, Going.WentOn}
 use Rattle.mm_machine.proofs.Rounds.{one_more, robin_step, robin_over, robin_ends, robin_done}
 use Rattle.mm_machine.proofs.Went.{went_nowhere, went_further, last_more}
@@ -175,6 +176,13 @@ module _ {M : Type 0} {memory : Ghosts M} where
   robin_of old new behind last count went is = (went, is)
 
 -- what an observer that keeps what it was shown has kept
-pub told_kept : (step : Step) (o : Option Told) → (shown (λ (w : LastTurn) (b : Told). record w { told = Some b }) (record { step = step; told = None }) o).told ≡ o
-told_kept step None = refl
-told_kept step (Some b) = refl
+
+there_kept : (w : Kept) (x : There) → there_in (kind_of x) (other_in w.other x) ≡ x
+there_kept w There.Nothing = refl
+there_kept w (There.CellAt a c) = refl
+there_kept w (There.PageAt p b) = refl
+there_kept w (There.SlotAt o) = refl
+
+pub told_kept : (w : LastTurn) → w.shown ≡ false → (o : Option Told) → shown_in (shown (λ (v : LastTurn) (b : Told). record v { shown = true; kept = keep v.kept b }) w o) ≡ o
+told_kept w none None = rw none refl
+told_kept w none (Some b) = ap (λ (x : There). Some (record b { there = x })) (there_kept w.kept b.there)
