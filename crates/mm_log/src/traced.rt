@@ -33,6 +33,7 @@ pub fn issue_traced<M: Inspect, O: Sink>(
 }
 
 // The teller of a trace.
+#[derive(Drop)]
 struct Tracer;
 
 impl Teller for Tracer {

@@ -10,7 +10,8 @@ use Rattle.mm_model.specs.{Memory.{Memory, cell_at}, Slot.{Slot, register, is_em
 use Rattle.mm_model.specs.Ask.{Ask, ask, Ask.{Reach, MapPage, UnmapPage, NextEvent, Serve}}
 use Rattle.mm_model.specs.{Operands.{fields_d, lacks, addr_operand, value_operand}, Turn.{instr_in, is_running, port_of, event_of}}
 use Rattle.mm_thread.specs.declared.told.{Held.Held, Was.Was, Beside.Beside, Kept.Kept}
-use Rattle.mm_thread.specs.declared.{told.Beside.TheVariants as beside, watch.LastTurn.LastTurn}
+use Rattle.mm_thread.specs.declared.watch.LastTurn.{LastTurn}
+use Rattle.mm_thread.specs.declared.told.Beside.TheVariants as beside
 
 -- 1. Slots.
 
