@@ -26,6 +26,7 @@ use mm_isa::{Instr, Reg};
 use mm_mem::Inspect;
 use mm_model::{Event, Slot, SlotState};
 use mm_word::{Access, Cause, Cell, GuardedPtr, Kind, Perm, Word};
+use std::marker::Model;
 
 /// A register as it is before the turn.
 #[derive(Clone, Copy)]
@@ -52,6 +53,60 @@ impl Default for Held {
     }
 }
 
+/// The registers that a turn can change of a slot, ascending: four at most.
+#[derive(Drop)]
+pub struct Registers {
+    held: ArrayVec<Held, 4>,
+}
+
+impl Model for Registers {
+    ghost use Rattle.std.specs.Prelude.{List};
+    ghost use Rattle.mm_thread.specs.declared.told.Held.{Held};
+
+    ghost Value = { List Held };
+
+    ghost view = { λ r. r.held.items };
+}
+
+impl Registers {
+    /// No register.
+    fn new() -> Registers
+        ensures { result ≡ [] }
+    {
+        Registers {
+            held: ArrayVec::new(),
+        }
+    }
+
+    /// The registers, ascending.
+    pub fn as_slice(&self) -> &[Held]
+        ensures { result.now ≡ self.now }
+    {
+        self.held.as_slice()
+    }
+
+    /// Forgets all registers.
+    fn clear(&mut self)
+        ensures { self.new ≡ [] }
+    {
+        self.held.clear();
+    }
+
+    /// Adds a register of a slot.
+    #[inline(always)]
+    fn push(&mut self, slot: &Slot, register: u8)
+        requires small { register < 16 }
+        requires room { length self.old < 4 }
+        ensures { self.new ≡ self.old ++ held_of slot.now register ∷ [] }
+    {
+        self.held.push(Held {
+            register: Reg::of(register),
+            word: slot.register(register),
+            empty: slot.is_empty(register),
+        });
+    }
+}
+
 /// What a turn can change of a slot, as it is before the turn.
 #[derive(Drop)]
 pub struct Was {
@@ -61,8 +116,8 @@ pub struct Was {
     pub state: SlotState,
     /// The count of pending loads.
     pub loads: usize,
-    /// The registers that the turn can change, ascending.
-    pub held: ArrayVec<Held, 4>,
+    /// The registers that the turn can change.
+    pub held: Registers,
 }
 
 impl Was {
@@ -74,7 +129,7 @@ impl Was {
             past: false,
             state: SlotState::Running,
             loads: 0,
-            held: ArrayVec::new(),
+            held: Registers::new(),
         }
     }
 }
@@ -140,11 +195,7 @@ fn keep_register(was: &mut Was, slot: &Slot, register: u8)
     requires room { length was.old.held < 4 }
     ensures { was.new ≡ record was.old { held = was.old.held ++ held_of slot.now register ∷ [] } }
 {
-    was.held.push(Held {
-        register: Reg::of(register),
-        word: slot.register(register),
-        empty: slot.is_empty(register),
-    });
+    was.held.push(slot, register);
 }
 
 /// Keeps the parts of a slot, with one register.
