@@ -216,7 +216,7 @@ read_keeps s split rd reg _ = tt
 
 write_keeps : (s : Slot) (split : Bool) (reg : ℕ) (w : Word) (r : Reply)
     → RowKeeps [] (λ of. if split && is_empty of reg then oldest of.pending else reg ∷ []) r (writes_of split s reg w r)
-unfolding plain register
+unfolding plain register is_empty
 write_keeps s split reg w (Served of) = by (split && is_empty of reg) refl
   where
     spared : (k : ℕ) (b : Bool) → (split && is_empty of reg) ≡ b → Spares (if split && is_empty of reg then oldest of.pending else reg ∷ []) k

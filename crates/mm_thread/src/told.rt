@@ -338,6 +338,7 @@ fn event_there(other: &mut Was, tables: &Tables, slot_index: usize, instr: &Inst
 }
 
 /// Keeps what an instruction asks for besides its slot, as it is before the turn.
+#[tactic(auto, unfolding(mm_model::specs::Ask::ask))]
 fn keep_there<M: Inspect>(
     other: &mut Was,
     tables: &Tables,
