@@ -18,7 +18,7 @@ use Rattle.mm_model.specs.Effect.{Reply, Change, Effect, effect, plain, sets, se
 use Rattle.mm_model.specs.Effect.{test, same_word, high_and_low, puts_out, loaded, stored, at_distance, branches, jumps}
 use Rattle.mm_model.specs.Effect.{links, takes, resumed_by, resumes, delivers, delivered, reads_of, writes_of, maps}
 use Rattle.mm_model.specs.Effect.{unmaps}
-use Rattle.mm_model.specs.Effect.Reply.{Fine, Refused, Got, Paged, NoEvent, Took, Served}
+use Rattle.mm_model.specs.Effect.Reply.{Fine, Refused, Got, Paged, Took, Served}
 use Rattle.mm_model.specs.Effect.Effect.{Fault, Block, Deliver, Do}
 use Rattle.mm_model.specs.Turn.{put_all, state_after, with_issue, slot_after}
 use Rattle.mm_thread.specs.Told.{oldest, other_registers}

@@ -1,4 +1,4 @@
-use Rattle.std.{proofs.Common.{ℕ, ◌<◌, sym, ap, subst, ◌∙◌, arith}, specs.List.AllByRecursion}
+use Rattle.std.{proofs.Common.{◌<◌, sym, ap, subst, ◌∙◌, arith}, specs.List.AllByRecursion}
 use Rattle.mm_model.specs.{declared.slot.Pending.Pending, Slot.Slot}
 use Rattle.mm_thread.proofs.Cores.{group_small, registers_small}
 use Rattle.mm_thread.proofs.told.look_at.Goals as goal

@@ -1,4 +1,4 @@
-use Rattle.std.{proofs.Common.{◌≡◌, ℕ, ◌<◌, Bool, Some, refl, sym, ap, subst, ◌∙◌}, specs.List.AllByRecursion}
+use Rattle.std.{proofs.Common.{◌≡◌, ◌<◌, Bool, Some, refl, sym, ap, subst, ◌∙◌}, specs.List.AllByRecursion}
 use Rattle.mm_model.specs.{declared.slot.Pending.Pending, Slot.Slot, State.slot_at}
 use Rattle.mm_thread.specs.{SlotIndices.slot_in, Told.{was_of, other_registers}}
 use Rattle.mm_thread.proofs.{Cores.registers_small, Index.slot_found, RowIndex.apart_in}
