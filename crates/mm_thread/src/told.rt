@@ -163,7 +163,7 @@ pub struct Kept {
 
 impl Kept {
     /// A place for what is kept of a turn.
-    pub fn new() -> Kept {
+    pub(crate) fn new() -> Kept {
         Kept {
             own: Was::new(),
             group: 0,

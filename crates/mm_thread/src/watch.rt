@@ -83,8 +83,12 @@ pub struct LastTurn {
 }
 
 impl LastTurn {
+    ghost use Rattle.std.specs.Prelude.{◌≡◌, false};
+
     /// A place for what is kept of turns. None was shown yet.
-    pub fn new() -> LastTurn {
+    pub fn new() -> LastTurn
+        ensures { result.shown ≡ false }
+    {
         LastTurn {
             step: Step::idle(0),
             shown: false,
