@@ -46,7 +46,7 @@ module _ (f : ℕ → List Line) where
       let two : r + 1 + 1 ≡ r + 2 = omega arith in
       let three : r + 1 + 1 + 1 ≡ r + 3 = omega arith in
       window f r 4 0 16 (omega arith) (omega (arith, low)) (λ k up lt. h k (omega arith, (omega arith, (omega arith, (omega arith, tt))))) (λ k up. h k (omega arith, (omega arith, (omega arith, (omega arith, tt)))))
-      ∙ ap (λ (x : ℕ). f r ++ f (r + 1) ++ f x ++ f (x + 1) ++ []) two
+      ∙ ap (flat_map f) (ap (λ (x : ℕ). r ∷ (r + 1) ∷ x ∷ (r + 1 + 1 + 1) ∷ []) two ∙ ap (λ (x : ℕ). r ∷ (r + 1) ∷ (r + 2) ∷ x ∷ []) three)
 
 -- 2. A slot.
 
