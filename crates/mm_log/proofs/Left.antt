@@ -1,6 +1,6 @@
 -- The lines of what was kept of a slot are its changes, if no other register changed.
-use Rattle.std.proofs.Common.{◌≡◌, ◌≢◌, ℕ, zero, suc, ◌+◌, ◌<◌, ◌≤◌, inl, inr, ◌&&◌, if◌then◌else◌, List, [], ◌∷◌, ◌++◌}
-use Rattle.std.proofs.Common.{map, Option, Some, None, refl, sym, ap, ◌∙◌, arith, append-nil}
+use Rattle.std.proofs.Common.{◌≡◌, ℕ, zero, suc, ◌+◌, ◌<◌, ◌≤◌, inl, inr, ◌&&◌, if◌then◌else◌, List, [], ◌∷◌, ◌++◌}
+use Rattle.std.proofs.Common.{Option, Some, None, refl, sym, ap, ◌∙◌, arith}
 use Rattle.std.proofs.lemmas.{Bool.{cases_eq, cases_lt}, List.Folds.flat_map-map}
 use Rattle.std.specs.List.{flat_map, range_with_len}
 use Rattle.mm_model.{specs.{Effect.same_word, Report.same_bit, Slot.{Slot, register, is_empty}}, proofs.Sames.pair_self}
@@ -9,7 +9,7 @@ use Rattle.mm_thread.proofs.Writes.{Spares, SameAt}
 use Rattle.mm_log.specs.Lines.{Line}
 use Rattle.mm_log.specs.Changes.{pointer_changes, state_changes, register_now, register_changes, load_changes}
 use Rattle.mm_log.specs.Changes.{slot_changes, changes_between}
-use Rattle.mm_log.specs.Seen.{pointer_left, state_left, held_left, left_of}
+use Rattle.mm_log.specs.Seen.{held_left, left_of}
 use Rattle.mm_log.proofs.Numbers.{none_from}
 
 -- 1. Lines of few numbers.

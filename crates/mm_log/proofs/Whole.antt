@@ -1,6 +1,6 @@
 -- What a turn showed tells all that it changes: the lines of a cycle are the differences of its two states.
-use Rattle.std.proofs.Common.{◌≡◌, ◌≢◌, ℕ, ◌+◌, ◌-◌, ◌<◌, ◌≤◌, inl, inr, Bool, true, false, ◌&&◌, nat_le, if◌then◌else◌}
-use Rattle.std.proofs.Common.{List, [], ◌∷◌, ◌++◌, length, drop, map, Option, Some, None, Result, Ok, Err, pos, refl, sym, ap}
+use Rattle.std.proofs.Common.{◌≡◌, ◌≢◌, ℕ, ◌-◌, ◌<◌, ◌≤◌, inl, inr, Bool, true, false, ◌&&◌, nat_le, if◌then◌else◌}
+use Rattle.std.proofs.Common.{List, [], ◌∷◌, ◌++◌, length, map, Option, Some, None, Result, Ok, Err, pos, refl, sym, ap}
 use Rattle.std.proofs.{Common.{◌∙◌, subst, arith, append_assoc, slice_index_or, get_or-set_other}, Math.Seq.drop-length}
 use Rattle.std.proofs.{Props.props, Math.Logic.∥∥₁_elim, lemmas.Bool.cases_eq}
 use Rattle.std.specs.{Prelude.IfSome, List.AllByRecursion}
@@ -34,7 +34,7 @@ use Rattle.mm_thread.specs.Told.{told_by_port, told_by, told_of}
 use Rattle.mm_log.specs.{Lines.{Line, line_text, Line.Puts}, Log.{turns_in, told, cycle_log, text_of}}
 use Rattle.mm_log.specs.Changes.{changes_between, each_number, slots_changed, queued_at, read_at, put_out_by}
 use Rattle.mm_log.specs.Changes.{pages_mapped, pages_removed, cells_changed, changes}
-use Rattle.mm_log.specs.Seen.{slots_seen, queued_seen, read_own, read_seen, out_seen, page_seen, cell_seen, seen, seen_by}
+use Rattle.mm_log.specs.Seen.{slots_seen, queued_seen, read_seen, out_seen, page_seen, seen, seen_by}
 use Rattle.mm_thread.proofs.Rows.{MemoryMove, OtherMove, OtherMoves, ChangeMoves, EffectMoves, effect_moves}
 use Rattle.mm_thread.proofs.Writes.{Spares, SameAt, same_at, OtherKeeps, ChangeKeeps, RowKeeps, delivered_leaves, after_leaves}
 use Rattle.mm_thread.proofs.Writes.{row_keeps}
