@@ -1,4 +1,4 @@
--- What was looked at before a cycle tells the events that the cycle queues and reads.
+-- What a turn showed tells the events that it queues and reads.
 use Rattle.std.proofs.Common.{◌≡◌, ◌≢◌, ℕ, suc, ◌+◌, ◌<◌, ◌^◌, inl, inr, Bool, true, false, nat_lt, if◌then◌else◌, List}
 use Rattle.std.proofs.Common.{[], ◌∷◌, ◌++◌, length, drop, map, Option, Some, None, Result, Ok, Err, refl, sym, ap, ◌∙◌}
 use Rattle.std.proofs.{Common.{subst, arith, length-append}, lemmas.Bool.{cases_eq, Decides.nat_tests}}
@@ -6,24 +6,24 @@ use Rattle.std.{proofs.Math.{Seq.{drop-length, drop-append_seam}, ListN.drop_of_
 use Rattle.mm_word.specs.declared.{cause.Cause.Cause, perm.Kind.TheVariants.Store, word.Pre.Pre}
 use Rattle.mm_word.specs.{Access.{AccessValue, check_result}, Word.word_bits}
 use Rattle.mm_isa.specs.declared.instr.Instr.{Instr, TheVariants.{Out, Ld, St, Evt, Resume, Rreg, Wreg, Map, Unmap}}
-use Rattle.mm_model.specs.declared.{slot.SlotState.TheVariants.{Running, Waiting, Halted}, event.Event.Event}
-use Rattle.mm_model.specs.{declared.step.Tick.TheVariants.{Blocked, Faulted}, Memory.Memory, Slot.{Slot, register}}
+use Rattle.mm_model.specs.declared.{slot.SlotState.{SlotState, TheVariants.{Running, Waiting, Halted}}, event.Event.Event}
+use Rattle.mm_model.specs.{declared.step.Tick.{Tick, TheVariants.{Blocked, Faulted}}, Memory.Memory, Slot.{Slot, register}}
 use Rattle.mm_model.specs.{State.{Core, slot_at, queue_at, put_slot, put_queue, put_output}, Spelling.IsOther}
 use Rattle.mm_model.specs.Fits.{slots_of, IsSlot, IsFormed}
 use Rattle.mm_model.specs.Ask.{Ask, ask, is_privileged, load_kind, reaching}
 use Rattle.mm_model.specs.Ask.Ask.{Refuse, MapPage, UnmapPage, NextEvent}
-use Rattle.mm_model.specs.Effect.{Change, effect, takes, delivered, Effect.Do}
-use Rattle.mm_model.specs.Turn.{Turned, reply, first_event, event_reply, slot_after, with_other, with_queue, with_out}
-use Rattle.mm_model.specs.Turn.{core_after, stood, is_sync, event_of, core_faulted, tick_faulted, faulted, blocked}
-use Rattle.mm_model.specs.Turn.{ended, idle, turn}
+use Rattle.mm_model.specs.Effect.{Change, effect, takes, Effect.Do}
+use Rattle.mm_model.specs.Turn.{reply, first_event, event_reply, slot_after, with_other, with_queue, with_out}
+use Rattle.mm_model.specs.Turn.{core_after, stood, is_sync, event_of, core_faulted, tick_faulted}
 use Rattle.mm_model.proofs.CoreRows.{slot_at-number, slot_at-put_same, slot_at-put_other, queue_at-put_slot}
-use Rattle.mm_model.proofs.CoreRows.{queue_at-put_same, queue_at-put_other, slot_has, other_at}
+use Rattle.mm_model.proofs.CoreRows.{slot_at-put_queue, queue_at-put_same, queue_at-put_other, slot_has, other_at}
 use Rattle.mm_model.proofs.{CoreSteps.Fitting, TurnKeeps.changed_from}
 use Rattle.mm_log.specs.{Lines.{Line, Line.{Queues, Reads}}, Changes.{each_number, queued_at, read_at}}
-use Rattle.mm_log.specs.Looks.{own_of, comes_to, address_told, value_told}
-use Rattle.mm_log.specs.Seen.{queued_for, queued_by, read_own, read_seen}
-use Rattle.mm_log.proofs.{Rows.QueueMoves, Numbers.{no_number, one_number}, Ways.{Way, turn_way}}
-use Rattle.mm_log.proofs.Seeing.{runs_own, same_own}
+use Rattle.mm_thread.specs.Told.{event_in}
+use Rattle.mm_model.specs.Operands.{addr_operand, value_operand}
+use Rattle.mm_log.specs.Seen.{queued_for, queued_of, queued_by, read_own}
+use Rattle.mm_thread.proofs.Rows.{QueueMoves}
+use Rattle.mm_log.proofs.Numbers.{no_number, one_number}
 use Rattle.mm_word.specs.declared.cause.Cause.TheVariants as cause
 
 -- 1. Which instruction reads events.
@@ -108,18 +108,24 @@ module _ (core later : Core) (same : (h : ℕ) → queue_at later h ≡ queue_at
   pub none_read : each_number (read_at core later) ≡ []
   none_read = no_number (read_at core later) (λ h. read_same core later h (same h))
 
-module _ (core : Core) (m : Memory) (n : ℕ) (formed : IsFormed core) (fit : Fitting core) where
-  -- what is told of events of a turn, by how it ended
-  abbrev TellsEvents : Slot → Turned → Type 0
-  TellsEvents s t = (each_number (queued_at core t.core) ≡ queued_by (comes_to m s) s t.step.tick) × (each_number (read_at core t.core) ≡ read_seen (comes_to m s) s.number t.step.tick)
+-- the event of a fault is that of the slot after it
+stood_event : (s : Slot) (state : SlotState) (instr : Option Instr) (c : Cause) → event_in (stood s state) instr c ≡ event_in s instr c
+unfolding event_of addr_operand value_operand register
+stood_event s state None c = refl
+stood_event s state (Some i) c = refl
 
-  fault_events : (s : Slot) → slot_at core s.number ≡ Some s → (c : Cause) (e : Event) → e.cause ≡ c → e ≡ event_of s c
-      (address_told (comes_to m s) s) (value_told (comes_to m s) s) → (o : Option ℕ) → s.handler ≡ o
-      → (each_number (queued_at core (core_faulted core s e o)) ≡ queued_by (comes_to m s) s (tick_faulted c o))
-      × (each_number (read_at core (core_faulted core s e o)) ≡ read_seen (comes_to m s) s.number
-      (tick_faulted c o))
+module _ (core : Core) (m : Memory) (formed : IsFormed core) (fit : Fitting core) (s : Slot) (at : slot_at core s.number ≡ Some s) where
+  -- what is told of the events of a fault
+  abbrev FaultTells : Option Instr → Core → Tick → Type 0
+  FaultTells instr later tick = (each_number (queued_at core later) ≡ queued_by (slot_at later s.number) instr tick) × (each_number (read_at core later) ≡ [])
+
+  stood_queued : (instr : Option Instr) (c : Cause) (state : SlotState) (o : Option Slot) (h : Option ℕ) → o ≡ Some (stood s state) → s.handler ≡ h → queued_of o instr c ≡ queued_for s instr c h
+  stood_queued instr c state o None there is = ap (λ x. queued_of x instr c) there ∙ ap (queued_for (stood s state) instr c) is
+  stood_queued instr c state o (Some h) there is = ap (λ x. queued_of x instr c) there ∙ ap (queued_for (stood s state) instr c) is ∙ ap (λ e. Queues h e ∷ []) (stood_event s state instr c)
+
+  pub fault_events : (instr : Option Instr) (c : Cause) (e : Event) → e.cause ≡ c → e ≡ event_in s instr c → (o : Option ℕ) → s.handler ≡ o → FaultTells instr (core_faulted core s e o) (tick_faulted c o)
   unfolding core_faulted
-  fault_events s at c e causes made (Some g) is =
+  fault_events instr c e causes made (Some g) is =
       let waits : Core = put_slot core (stood s Waiting) in
       let queued : Core = put_queue waits g (queue_at waits g ++ e ∷ []) in
       let handlers = slot_has (λ (x : Slot). IfSome x.handler (IsOther (slots_of core) x.number)) core s.number s fit.handlers at in
@@ -130,36 +136,40 @@ module _ (core : Core) (m : Memory) (n : ℕ) (formed : IsFormed core) (fit : Fi
       let few : g < 64 = let low = small.number in omega arith in
       let here : queue_at queued g ≡ queue_at core g ++ e ∷ [] = queue_at-put_same waits g (queue_at waits g ++ e ∷ [])
       other.1.0 there ∙ ap (λ q. q ++ e ∷ []) (queue_at-put_slot core (stood s Waiting) g) in
-      let others : (k : ℕ) → k ≢ g → queue_at queued k ≡ queue_at core k = λ k ne. queue_at-put_other waits g (queue_at waits g ++ e ∷ []) k ne ∙ queue_at-put_slot core (stood s Waiting) k in (
+      let others : (k : ℕ) → k ≢ g → queue_at queued k ≡ queue_at core k = λ k ne. queue_at-put_other waits g (queue_at waits g ++ e ∷ []) k ne ∙ queue_at-put_slot core (stood s Waiting) k in
+      let now : slot_at queued s.number ≡ Some (stood s Waiting) = slot_at-put_queue waits g (queue_at waits g ++ e ∷ []) s.number ∙ slot_at-put_same core (stood s Waiting) s at in (
         one_number (queued_at core queued) g few (λ k ne. queued_same core queued k (others k ne))
             ∙ queued_added core queued g e here
             ∙ ap (λ x. Queues g x ∷ []) made
-            ∙ sym (ap (queued_for (comes_to m s) s c) is),
+            ∙ sym (stood_queued instr c Waiting (slot_at queued s.number) (Some g) now is),
         one_number (read_at core queued) g few (λ k ne. read_same core queued k (others k ne)) ∙ read_added core queued g e here,
       )
-  fault_events s at c e causes made None is = subst
-      (λ (x : Cause). (each_number (queued_at core (if is_sync x then put_slot core (stood s Running) else put_slot core
-      (stood s (Halted (Some x))))) ≡ queued_by (comes_to m s) s (if is_sync c then Blocked else Faulted c))
-      × (each_number (read_at core (if is_sync x then put_slot core (stood s Running) else put_slot core
-      (stood s (Halted (Some x))))) ≡ read_seen (comes_to m s) s.number (if is_sync c then Blocked else Faulted c)))
+  fault_events instr c e causes made None is = subst
+      (λ (x : Cause). FaultTells instr (if is_sync x then put_slot core (stood s Running) else put_slot core (stood s (Halted (Some x)))) (if is_sync c then Blocked else Faulted c))
       (sym causes) (by (is_sync c))
     where
-      by : (b : Bool) → (each_number
-          (queued_at core (if b then put_slot core (stood s Running) else put_slot core (stood s (Halted (Some c))))) ≡
-          queued_by (comes_to m s) s (if b then Blocked else Faulted c))
-          × (each_number (read_at core (if b then put_slot core (stood s Running) else put_slot core
-          (stood s (Halted (Some c))))) ≡ read_seen (comes_to m s) s.number (if b then Blocked else Faulted c))
+      by : (b : Bool) → FaultTells instr (if b then put_slot core (stood s Running) else put_slot core (stood s (Halted (Some c)))) (if b then Blocked else Faulted c)
       by true = (
         none_queued core (put_slot core (stood s Running)) (queue_at-put_slot core (stood s Running)),
         none_read core (put_slot core (stood s Running)) (queue_at-put_slot core (stood s Running)),
       )
-      by false = (
-        none_queued core (put_slot core (stood s (Halted (Some c)))) (queue_at-put_slot core (stood s (Halted (Some c)))) ∙ sym (ap (queued_for (comes_to m s) s c) is),
-        none_read core (put_slot core (stood s (Halted (Some c)))) (queue_at-put_slot core (stood s (Halted (Some c)))),
-      )
+      by false =
+          let later : Core = put_slot core (stood s (Halted (Some c))) in (
+            none_queued core later (queue_at-put_slot core (stood s (Halted (Some c))))
+                ∙ sym (stood_queued instr c (Halted (Some c)) (slot_at later s.number) None (slot_at-put_same core (stood s (Halted (Some c))) s at) is),
+            none_read core later (queue_at-put_slot core (stood s (Halted (Some c)))),
+          )
+
+  -- the slot is there, whatever slot was put back before it
+  pub before_there : (o : Option Slot) → (x : Slot) × (slot_at (with_other core o) s.number ≡ Some x)
+  before_there None = (s, at)
+  before_there (Some o) = elim (cases_eq s.number o.number) [
+    | inl e ↦ (o, ap (slot_at (put_slot core o)) e ∙ slot_at-put_same core o s (ap (slot_at core) (sym e) ∙ at))
+    | inr ne ↦ (s, slot_at-put_other core o s.number ne ∙ at)
+  ]
 
   -- an instruction that is carried out
-  module _ (s : Slot) (at : slot_at core s.number ≡ Some s) (i : Instr) (c : Change) (made : effect core.split i s (reply core m s.number (ask i s)) ≡ Do c) where
+  module _ (i : Instr) (c : Change) (made : effect core.split i s (reply core m s.number (ask i s)) ≡ Do c) where
     abbrev mid : Core
     mid = put_slot (with_other core c.other) (slot_after s c)
 
@@ -170,14 +180,7 @@ module _ (core : Core) (m : Memory) (n : ℕ) (formed : IsFormed core) (fit : Fi
         by None = refl
         by (Some o) = queue_at-put_slot core o k
 
-    before_there : (o : Option Slot) → (x : Slot) × (slot_at (with_other core o) s.number ≡ Some x)
-    before_there None = (s, at)
-    before_there (Some o) = elim (cases_eq s.number o.number) [
-      | inl e ↦ (o, ap (slot_at (put_slot core o)) e ∙ slot_at-put_same core o s (ap (slot_at core) (sym e) ∙ at))
-      | inr ne ↦ (s, slot_at-put_other core o s.number ne ∙ at)
-    ]
-
-    mid_there : slot_at mid s.number ≡ Some (slot_after s c)
+    pub mid_there : slot_at mid s.number ≡ Some (slot_after s c)
     mid_there =
         let number = (changed_from s c).number in
         let x = before_there c.other in
@@ -211,40 +214,8 @@ module _ (core : Core) (m : Memory) (n : ℕ) (formed : IsFormed core) (fit : Fi
               ∙ sym (event_row i s s.number k.0),
         )
 
-    change_events : QueueMoves core s.number (ask i s) c.queue
+    pub change_events : QueueMoves core s.number (ask i s) c.queue
         → (each_number (queued_at core (core_after core s c)) ≡ [])
         × (each_number (read_at core (core_after core s c)) ≡ read_own (Some i) s.number)
     unfolding core_after
     change_events k = queue_events c.queue refl k
-
-  at_its_number : (s : Slot) → slot_at core n ≡ Some s → slot_at core s.number ≡ Some s
-  at_its_number s is = ap (slot_at core) (slot_at-number core n s is) ∙ is
-
-  way_events : (s : Slot) → own_of core n ≡ Some s → (t : Turned) → Way core m n t → TellsEvents s t
-  unfolding idle faulted blocked ended event_of
-  way_events s own t (Way.idles j is) = subst (TellsEvents s) (sym is) (none_queued core core (λ h. refl), none_read core core (λ h. refl))
-  way_events s own t (Way.arrives_at x p rest none high at pending is) = subst (TellsEvents s) (sym is) (
-    none_queued core (put_slot core (delivered x)) (queue_at-put_slot core (delivered x)),
-    none_read core
-        (put_slot core (delivered x)) (queue_at-put_slot core (delivered x)),
-  )
-  way_events s own t (Way.waits x y f u us r same is) = subst (TellsEvents s) (sym is) (
-    none_queued core (put_slot core (stood y Running)) (queue_at-put_slot core (stood y Running)),
-    none_read core
-        (put_slot core (stood y Running)) (queue_at-put_slot core (stood y Running)),
-  )
-  way_events s own t (Way.helps x o i f u us r comes made other is) =
-      let same : (h : ℕ) → queue_at (put_slot (put_slot core o) (stood x Running)) h ≡ queue_at core h = λ h. queue_at-put_slot (put_slot core o) (stood x Running) h ∙ queue_at-put_slot core o h in
-      subst (TellsEvents s) (sym is) (none_queued core (put_slot (put_slot core o) (stood x Running)) same, none_read core (put_slot (put_slot core o) (stood x Running)) same)
-  way_events s own t (Way.faults x c f u us r is) =
-      let one = same_own core n x s (runs_own core n x r) own in
-      subst (λ (z : Slot). TellsEvents z t) (sym one)
-      (subst (TellsEvents x) (sym is) (fault_events x (at_its_number x r.at) c (event_of x c (address_told (comes_to m x) x) (value_told (comes_to m x) x)) refl refl x.handler refl))
-  way_events s own t (Way.does x i c f u us r comes made moves is) =
-      let one = same_own core n x s (runs_own core n x r) own in
-      let told = change_events x (at_its_number x r.at) i c made moves.queue in
-      subst (λ (z : Slot). TellsEvents z t) (sym one) (subst (TellsEvents x) (sym is) (told.0, told.1 ∙ sym (ap (λ o. read_own o x.number) comes)))
-
-  -- what is told of events is what was looked at
-  pub events_seen : (s : Slot) → own_of core n ≡ Some s → TellsEvents s (turn core m n)
-  events_seen s own = way_events s own (turn core m n) (turn_way core m n)

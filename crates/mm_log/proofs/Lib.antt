@@ -1,5 +1,3 @@
-pub mod Rows
-pub mod Turns
 pub mod Runs
 pub mod Sames
 pub mod Pages
@@ -7,17 +5,11 @@ pub mod Carried
 pub mod Registers
 pub mod Logs
 pub mod Told
-pub mod Ways
 pub mod Numbers
-pub mod Frames
-pub mod Seeing
+pub mod Left
+pub mod Beside
+pub mod Memories
 pub mod Events
 pub mod Peeks
-pub mod OneSlot
-pub mod Placed
-pub mod Taking
 pub mod Whole
 pub mod ToldRuns
-pub mod Written
-pub mod Near
-pub mod NearLines

@@ -18,7 +18,8 @@ use Rattle.mm_model.proofs.Memories.{page_at-map_other, page_at-unmap_same, page
 use Rattle.mm_model.proofs.{Memories.cell_at-put_same, EffectWords.page_words, Sames.{cell_self, cells_same}}
 use Rattle.mm_log.specs.Lines.{Line, Line.{Maps, Removes, Sets}}
 use Rattle.mm_log.specs.Changes.{pages_mapped, pages_removed, cells_changed, cells_changed_in}
-use Rattle.mm_log.proofs.{Runs.{flat_none, run_on}, Rows.MemoryMove}
+use Rattle.mm_thread.proofs.Rows.{MemoryMove}
+use Rattle.mm_log.proofs.Runs.{flat_none, run_on}
 
 -- 1. Pages that rise.
 

@@ -15,7 +15,8 @@ use Rattle.mm_log.specs.Lines.{Line, Line.{Points, Enters, Holds, Empties, Issue
 use Rattle.mm_log.specs.Changes.{same_state, pointer_changes, state_changes, register_now, register_changes}
 use Rattle.mm_log.specs.{Changes.{load_changes, slot_changes}, Replay.{without_load, holding, emptied}}
 use Rattle.mm_log.proofs.Runs.{run_on, run_append, all_append, all_flat, all_map, all_unless}
-use Rattle.mm_log.proofs.{Rows.{LoadsMove, SlotMove}, Sames.states_same, Carried.slot_line}
+use Rattle.mm_thread.proofs.Rows.{LoadsMove, SlotMove}
+use Rattle.mm_log.proofs.{Sames.states_same, Carried.slot_line}
 
 -- 1. Which lines these are.
 

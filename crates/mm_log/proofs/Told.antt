@@ -1,11 +1,12 @@
 -- The texts of lines, part by part.
-use Rattle.std.proofs.Common.{◌≡◌, ℕ, Bool, ◌&&◌, not, nat_lt, if◌then◌else◌, List, [], ◌∷◌, ◌++◌, length, drop, refl}
-use Rattle.std.proofs.{Common.{sym, ap, ◌∙◌}, lemmas.{Grind.flat_map-append, List.Folds.flat_map-map}}
-use Rattle.std.specs.List.{flat_map, range_with_len}
+use Rattle.std.proofs.Common.{◌≡◌, ℕ, Bool, ◌&&◌, not, nat_lt, if◌then◌else◌, List, [], ◌∷◌, ◌++◌, drop, map}
+use Rattle.std.proofs.{Common.{refl, sym, ap, ◌∙◌}, lemmas.{Grind.flat_map-append, List.Folds.flat_map-map}}
+use Rattle.std.specs.List.{flat_map}
 use Rattle.mm_model.specs.{Slot.Slot, declared.step.Tick.Tick, State.{State, output_of}}
-use Rattle.mm_log.specs.{Lines.{Line, line_text, Line.{Issues, Puts, Maps, Removes}}, declared.before.Before.Before}
-use Rattle.mm_log.specs.Changes.{pointer_changes, state_changes, register_changes, load_changes, slot_changes}
+use Rattle.mm_thread.specs.{declared.told.Was.Was, Told.Told}
+use Rattle.mm_log.specs.Lines.{Line, line_text, Line.{Issues, Puts, Maps, Removes}}
 use Rattle.mm_log.specs.Log.{text_of}
+use Rattle.mm_log.specs.Seen.{pointer_left, state_left, held_left, slot_left}
 use Rattle.mm_log.specs.Seen.{in_order, slots_seen, queued_seen, read_seen, out_seen, page_told, page_seen, cell_seen}
 use Rattle.mm_log.specs.Seen.{seen}
 
@@ -16,22 +17,22 @@ pub text_flat : {A : Type 0} (f : A → List Line) (xs : List A) → text_of (fl
 text_flat f [] = refl
 text_flat f (x ∷ xs) = text_append (f x) (flat_map f xs) ∙ ap (λ l. text_of (f x) ++ l) (text_flat f xs)
 
--- the text of what changed of a slot
-pub slot_text : (was now : Slot)
-    → text_of (pointer_changes was now) ++ text_of (state_changes was now) ++ flat_map (λ r. text_of (register_changes was now r)) (range_with_len 0 16)
-    ++ flat_map (λ load. line_text (Issues now.number load)) (drop (length was.pending) now.pending)
-    ≡ text_of (slot_changes was now)
-unfolding slot_changes
+-- the text of what was kept of a slot
+pub slot_text : (was : Was) (now : Slot)
+    → (text_of (pointer_left was.ip was.past now) ++ text_of (state_left was.state now) ++ flat_map (λ h. text_of (held_left now h)) was.held)
+    ++ flat_map (λ load. line_text (Issues now.number load)) (drop was.loads now.pending)
+    ≡ text_of (slot_left was now)
 slot_text was now =
+    let a : List Line = pointer_left was.ip was.past now in
+    let b : List Line = state_left was.state now in
+    let c : List Line = flat_map (held_left now) was.held in
+    let d : List Line = map (Issues now.number) (drop was.loads now.pending) in
     sym
-    (text_append (pointer_changes was now ++ state_changes was now ++ flat_map (register_changes was now) (range_with_len 0 16)) (load_changes was now)
-    ∙ ap (λ l. l ++ text_of (load_changes was now))
-    (text_append (pointer_changes was now ++ state_changes was now) (flat_map (register_changes was now) (range_with_len 0 16))
-    ∙ ap (λ l. l ++ text_of (flat_map (register_changes was now) (range_with_len 0 16))) (text_append (pointer_changes was now) (state_changes was now)))
-    ∙ ap (λ l. text_of (pointer_changes was now) ++ text_of (state_changes was now) ++ l ++ text_of (load_changes was now)) (text_flat (register_changes was now) (range_with_len 0 16))
-    ∙ ap (λ l. text_of (pointer_changes was now) ++ text_of (state_changes was now) ++ flat_map
-    (λ r. text_of (register_changes was now r)) (range_with_len 0 16) ++ l)
-    (flat_map-map line_text (Issues now.number) (drop (length was.pending) now.pending)))
+    (text_append (a ++ b ++ c) d
+    ∙ ap (λ l. l ++ text_of d) (text_append (a ++ b) c ∙ ap (λ l. l ++ text_of c) (text_append a b))
+    ∙ ap (λ l. text_of a ++ text_of b ++ l ++ text_of d) (text_flat (held_left now) was.held)
+    ∙ ap (λ l. text_of a ++ text_of b ++ flat_map (λ h. text_of (held_left now h)) was.held ++ l)
+    (flat_map-map line_text (Issues now.number) (drop was.loads now.pending)))
 
 -- the texts of two slots in order
 pub order_text : (a b : ℕ) (first second : List Line)
@@ -45,20 +46,19 @@ pub page_text : (p : ℕ) (was now : Bool)
 page_text p was now = sym (text_append (if now && not was then Maps p ∷ [] else []) (if was && not now then Removes p ∷ [] else []))
 
 -- the text of what was seen of a cycle
-pub seen_text : (later : State) (b : Before) (tick : Tick)
-    → text_of (slots_seen later.core b tick) ++ text_of (queued_seen b tick) ++ text_of
-    (read_seen b.instr b.own.number tick) ++ flat_map (λ x. line_text (Puts b.own.group x))
-    (drop b.output (output_of later.core b.own.group))
+pub seen_text : (later : State) (b : Told) (tick : Tick)
+    → text_of (slots_seen later.core b) ++ text_of (queued_seen later.core b tick) ++ text_of (read_seen b tick) ++ flat_map (λ x. line_text (Puts b.group x))
+    (drop b.output (output_of later.core b.group))
     ++ text_of (page_seen later.memory b.there ++ cell_seen later.memory b.there)
     ≡ text_of (seen later b tick)
 unfolding seen
 seen_text later b tick =
-    let s : List Line = slots_seen later.core b tick in
-    let q : List Line = queued_seen b tick in
-    let r : List Line = read_seen b.instr b.own.number tick in
+    let s : List Line = slots_seen later.core b in
+    let q : List Line = queued_seen later.core b tick in
+    let r : List Line = read_seen b tick in
     let o : List Line = out_seen later.core b in
     let m : List Line = page_seen later.memory b.there ++ cell_seen later.memory b.there in
-    ap (λ l. text_of s ++ text_of q ++ text_of r ++ l ++ text_of m) (sym (flat_map-map line_text (Puts b.own.group) (drop b.output (output_of later.core b.own.group))))
+    ap (λ l. text_of s ++ text_of q ++ text_of r ++ l ++ text_of m) (sym (flat_map-map line_text (Puts b.group) (drop b.output (output_of later.core b.group))))
     ∙ sym (text_append (s ++ q ++ r ++ o) m
     ∙ ap (λ l. l ++ text_of m)
     (text_append (s ++ q ++ r) o

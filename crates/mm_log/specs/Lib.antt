@@ -3,7 +3,5 @@ pub mod Changes
 pub mod Log
 pub mod Replay
 pub mod Laws
-pub mod Looks
 pub mod Seen
 pub mod Telling
-pub mod Local

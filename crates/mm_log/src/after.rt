@@ -1,80 +1,36 @@
 //! The lines of what a cycle changed.
 #![tactic(auto)]
 
-ghost use Rattle.std.specs.Prelude.{◌≡◌, ◌/◌, ◌%◌, ◌&&◌, ◌++◌, ◌∷◌, [], drop, nat_lt, not, if◌then◌else◌, Some};
+ghost use Rattle.std.specs.Prelude.{◌≡◌, ◌&&◌, ◌++◌, ◌∷◌, [], drop, nat_lt, not, if◌then◌else◌, Some};
 ghost use Rattle.std.specs.List.{flat_map};
 ghost use Rattle.mm_text.specs.Appends.{Appends};
-ghost use Rattle.mm_word.specs.Word.{word_bits};
-ghost use Rattle.mm_model.specs.Slot.{register as register_of};
-ghost use Rattle.mm_model.specs.Memory.{cell_at};
-ghost use Rattle.mm_model.specs.Turn.{event_of as event_of_fault};
-ghost use Rattle.mm_log.specs.Looks.{address_told as address_told_of, value_told as value_told_of};
-ghost use Rattle.mm_model.specs.State.{slot_at, output_of};
+ghost use Rattle.mm_model.specs.Memory.{cell_at, is_mapped as is_mapped_in};
+ghost use Rattle.mm_model.specs.State.{output_of};
 ghost use Rattle.mm_machine.specs.Machine.{state_of};
+ghost use Rattle.mm_thread.specs.Told.{told_in, shown_in};
 ghost use Rattle.mm_log.specs.Lines.{line_text};
-ghost use Rattle.mm_log.specs.Lines.Line.{Enters, Puts, Maps, Removes};
-ghost use Rattle.mm_model.specs.declared.slot.SlotState.TheVariants.{Taken};
+ghost use Rattle.mm_log.specs.Lines.Line.{Puts, Maps, Removes};
 ghost use Rattle.mm_log.specs.Log.{text_of};
-ghost use Rattle.mm_log.specs.Seen.{seen_of, in_order, read_by as read_by_of, read_in, with_taken, slots_seen};
-ghost use Rattle.mm_log.specs.Seen.{queued_by, read_own, read_seen, page_told, page_seen, cell_now, cell_seen, seen};
-ghost use Rattle.mm_log.specs.Seen.{seen_by};
+ghost use Rattle.mm_log.specs.Seen.{seen_of, in_order, slots_seen, queued_seen, read_seen, page_told, page_seen};
+ghost use Rattle.mm_log.specs.Seen.{cell_now, cell_seen, seen, seen_by};
 
-use crate::before::{Before, There, cell_of, is_mapped};
-use crate::lines::{
-    put_byte, put_event, put_gone_page, put_new_page, put_set, put_slot_state, put_taken,
-};
-use crate::operands::{address_told, value_told};
-use crate::slots::{is_same_bit, put_slot_changes};
+use crate::lines::{put_byte, put_event, put_gone_page, put_new_page, put_set, put_taken};
+use crate::slots::{is_same_bit, put_slot_left};
 use mm_io::Sink;
-use mm_isa::{EvtReg, Instr};
-use mm_machine::Machine;
+use mm_isa::Instr;
+use mm_machine::{Beside, Kept, LastTurn, Machine, Was, event_of};
 use mm_mem::{Inspect, Memory};
-use mm_model::{Event, Slot, SlotState, Tick, is_same_word};
+use mm_model::{Tick, is_same_word};
 use mm_text::TextBuffer;
-use mm_word::{Access, Cause, Cell};
+use mm_word::{Access, Cell};
 
 /// Appends the lines of a slot's changes.
-fn put_own<M: Memory, O: Sink>(text: &mut TextBuffer, out: &mut O, machine: &Machine<M>, was: &Slot)
+fn put_own<M: Memory, O: Sink>(text: &mut TextBuffer, out: &mut O, machine: &Machine<M>, was: &Was)
     ensures { Appends O.taken O.faults out.old out.new text.old text.new
         (text_of (seen_of (state_of machine.now).core was.now)) }
 {
     if let Some(now) = machine.slot(was.number) {
-        put_slot_changes(text, out, was, now);
-    }
-}
-
-/// The slot of an event that was read. The first register that the event was read into names it.
-fn slot_in(register: EvtReg, now: &Slot) -> u8
-    ensures { result ≡ word_bits (register_of now.now register) / 256 % 256 }
-{
-    (now.register(register.number()).bits() / 256 % 256) as u8
-}
-
-/// The slot of the event that an instruction read, if it is one that reads.
-fn read_by(instr: &Option<Instr>, now: &Slot) -> Option<u8>
-    ensures { result ≡ read_by_of instr.now (Some now.now) }
-{
-    match instr {
-        Some(Instr::Evt { rd }) => Some(slot_in(*rd, now)),
-        _ => None,
-    }
-}
-
-/// The slot of the event that a turn read, if it read one.
-fn read_slot<M: Memory>(
-    machine: &Machine<M>,
-    own: &Slot,
-    instr: &Option<Instr>,
-    tick: Tick,
-) -> Option<u8>
-    ensures { result ≡ read_in instr.now tick (slot_at (state_of machine.now).core own.now.number) }
-{
-    if tick != Tick::Did {
-        return None;
-    }
-    match machine.slot(own.number) {
-        Some(now) => read_by(instr, now),
-        None => None,
+        put_slot_left(text, out, was, now);
     }
 }
 
@@ -83,8 +39,8 @@ fn put_own_before<M: Memory, O: Sink>(
     text: &mut TextBuffer,
     out: &mut O,
     machine: &Machine<M>,
-    was: &Slot,
-    own: &Slot,
+    was: &Was,
+    own: &Was,
 )
     ensures { Appends O.taken O.faults out.old out.new text.old text.new
         (text_of (if nat_lt was.now.number own.now.number then seen_of (state_of machine.now).core was.now else [])) }
@@ -99,8 +55,8 @@ fn put_own_behind<M: Memory, O: Sink>(
     text: &mut TextBuffer,
     out: &mut O,
     machine: &Machine<M>,
-    was: &Slot,
-    own: &Slot,
+    was: &Was,
+    own: &Was,
 )
     ensures { Appends O.taken O.faults out.old out.new text.old text.new
         (text_of (if nat_lt own.now.number was.now.number then seen_of (state_of machine.now).core was.now else [])) }
@@ -115,8 +71,8 @@ fn put_two<M: Memory, O: Sink>(
     text: &mut TextBuffer,
     out: &mut O,
     machine: &Machine<M>,
-    own: &Slot,
-    other: &Slot,
+    own: &Was,
+    other: &Was,
 )
     ensures { Appends O.taken O.faults out.old out.new text.old text.new
         (text_of (in_order own.now.number other.now.number (seen_of (state_of machine.now).core own.now)
@@ -127,138 +83,56 @@ fn put_two<M: Memory, O: Sink>(
     put_own_behind(text, out, machine, other, own);
 }
 
-/// Appends the line of a taken slot, if its number is less than that of `own`.
-fn put_taken_before<O: Sink>(text: &mut TextBuffer, out: &mut O, slot: u8, own: &Slot)
-    ensures { Appends O.taken O.faults out.old out.new text.old text.new
-        (text_of (if nat_lt slot own.now.number then Enters slot Taken ∷ [] else [])) }
-{
-    if slot < own.number {
-        put_slot_state(text, out, slot, SlotState::Taken);
-    }
-}
-
-/// Appends the line of a taken slot, if its number is greater than that of `own`.
-fn put_taken_behind<O: Sink>(text: &mut TextBuffer, out: &mut O, slot: u8, own: &Slot)
-    ensures { Appends O.taken O.faults out.old out.new text.old text.new
-        (text_of (if nat_lt own.now.number slot then Enters slot Taken ∷ [] else [])) }
-{
-    if own.number < slot {
-        put_slot_state(text, out, slot, SlotState::Taken);
-    }
-}
-
-/// Appends the lines of a slot's changes and the line of a taken slot, ascending by number.
-fn put_both<M: Memory, O: Sink>(
-    text: &mut TextBuffer,
-    out: &mut O,
-    machine: &Machine<M>,
-    own: &Slot,
-    taken: u8,
-)
-    ensures { Appends O.taken O.faults out.old out.new text.old text.new
-        (text_of (in_order own.now.number taken (seen_of (state_of machine.now).core own.now)
-        (Enters taken Taken ∷ []))) }
-{
-    put_taken_before(text, out, taken, own);
-    put_own(text, out, machine, own);
-    put_taken_behind(text, out, taken, own);
-}
-
-/// Appends the lines of a slot's changes and, if a slot was taken, the line of that, ascending by number.
-fn put_with_taken<M: Memory, O: Sink>(
-    text: &mut TextBuffer,
-    out: &mut O,
-    machine: &Machine<M>,
-    own: &Slot,
-    taken: Option<u8>,
-)
-    ensures { Appends O.taken O.faults out.old out.new text.old text.new
-        (text_of (with_taken (state_of machine.now).core own.now taken)) }
-{
-    match taken {
-        Some(taken) => put_both(text, out, machine, own, taken),
-        None => put_own(text, out, machine, own),
-    }
-}
-
 /// Appends the lines of the slots that changed.
 fn put_slots<M: Memory, O: Sink>(
     text: &mut TextBuffer,
     out: &mut O,
     machine: &Machine<M>,
-    before: &Before,
-    tick: Tick,
+    kept: &Kept,
 )
     ensures { Appends O.taken O.faults out.old out.new text.old text.new
-        (text_of (slots_seen (state_of machine.now).core before.now tick)) }
+        (text_of (slots_seen (state_of machine.now).core (told_in kept.now))) }
 {
-    match &before.there {
-        There::Slot(other) => put_two(text, out, machine, &before.own, other),
-        There::Nothing | There::Cell(..) | There::Page(..) => {
-            let taken = read_slot(machine, &before.own, &before.instr, tick);
-            put_with_taken(text, out, machine, &before.own, taken);
+    match kept.beside {
+        Beside::Slot => put_two(text, out, machine, &kept.own, &kept.other),
+        Beside::Nothing | Beside::Cell(..) | Beside::Page(..) => {
+            put_own(text, out, machine, &kept.own)
         }
-    }
-}
-
-/// The event of a fault of a slot.
-#[cold]
-#[inline(never)]
-#[tactic(auto, unfolding(mm_model::specs::Turn::event_of))]
-fn event_of(slot: &Slot, instr: &Option<Instr>, cause: Cause) -> Event
-    ensures { result ≡ event_of_fault slot.now cause (address_told_of instr.now slot.now)
-        (value_told_of instr.now slot.now) }
-{
-    let addr_op = address_told(instr, slot);
-    let value_op = value_told(instr, slot);
-    Event {
-        slot: slot.number,
-        cause,
-        ip: slot.ip,
-        addr_op,
-        value_op,
     }
 }
 
 /// Appends the line of the event that a fault queued, if one was queued.
 #[inline(always)]
-pub(crate) fn put_queued<O: Sink>(
+fn put_queued<M: Memory, O: Sink>(
     text: &mut TextBuffer,
     out: &mut O,
-    own: &Slot,
-    instr: &Option<Instr>,
+    machine: &Machine<M>,
+    kept: &Kept,
     tick: Tick,
 )
-    ensures { Appends O.taken O.faults out.old out.new text.old text.new (text_of (queued_by instr.now own.now tick)) }
+    ensures { Appends O.taken O.faults out.old out.new text.old text.new
+        (text_of (queued_seen (state_of machine.now).core (told_in kept.now) tick)) }
 {
     let Tick::Faulted(cause) = tick else {
         return;
     };
-    let Some(handler) = own.handler else {
+    let Some(now) = machine.slot(kept.own.number) else {
         return;
     };
-    let event = event_of(own, instr, cause);
+    let Some(handler) = now.handler else {
+        return;
+    };
+    let event = event_of(now, &kept.instr, cause);
     put_event(text, out, handler, &event);
 }
 
-/// Appends the line of the event that an instruction read, if it is one that reads.
-fn put_read_by<O: Sink>(text: &mut TextBuffer, out: &mut O, instr: &Option<Instr>, own: u8)
-    ensures { Appends O.taken O.faults out.old out.new text.old text.new (text_of (read_own instr.now own)) }
-{
-    if let Some(Instr::Evt { .. }) = instr {
-        put_taken(text, out, own);
-    }
-}
-
 /// Appends the line of the event that a turn read, if it read one.
-fn put_read<O: Sink>(text: &mut TextBuffer, out: &mut O, before: &Before, tick: Tick)
-    ensures { Appends O.taken O.faults out.old out.new text.old text.new
-        (text_of (read_seen before.now.instr before.now.own.number tick)) }
+fn put_read<O: Sink>(text: &mut TextBuffer, out: &mut O, kept: &Kept, tick: Tick)
+    ensures { Appends O.taken O.faults out.old out.new text.old text.new (text_of (read_seen (told_in kept.now) tick)) }
 {
-    if tick != Tick::Did {
-        return;
+    if let (Tick::Did, Some(Instr::Evt { .. })) = (tick, &kept.instr) {
+        put_taken(text, out, kept.own.number);
     }
-    put_read_by(text, out, &before.instr, before.own.number);
 }
 
 /// Appends the lines of bytes that a group put out.
@@ -271,36 +145,31 @@ fn put_bytes<O: Sink>(text: &mut TextBuffer, out: &mut O, group: u8, bytes: &[u8
     }
 }
 
-/// Appends the lines of the bytes that a group has put out since it had put out `before` bytes.
+/// Appends the lines of the bytes that the slot's group put out.
 #[inline(always)]
-pub(crate) fn put_out<M: Memory, O: Sink>(
+fn put_out<M: Memory, O: Sink>(
     text: &mut TextBuffer,
     out: &mut O,
     machine: &Machine<M>,
-    group: u8,
-    before: usize,
+    kept: &Kept,
 )
     ensures { Appends O.taken O.faults out.old out.new text.old text.new
-        (flat_map (λ b. line_text (Puts group b)) (drop before (output_of (state_of machine.now).core group))) }
+        (flat_map (λ b. line_text (Puts kept.now.group b))
+        (drop kept.now.output (output_of (state_of machine.now).core kept.now.group))) }
 {
-    let bytes = machine.output(group);
-    if before < bytes.len() {
-        put_bytes(text, out, group, &bytes[before..]);
+    let bytes = machine.output(kept.group);
+    if kept.output < bytes.len() {
+        put_bytes(text, out, kept.group, &bytes[kept.output..]);
     }
 }
 
-/// Appends the lines of the bytes that the slot's group put out.
-fn put_own_out<M: Memory, O: Sink>(
-    text: &mut TextBuffer,
-    out: &mut O,
-    machine: &Machine<M>,
-    before: &Before,
-)
-    ensures { Appends O.taken O.faults out.old out.new text.old text.new
-        (flat_map (λ b. line_text (Puts before.now.own.group b))
-        (drop before.now.output (output_of (state_of machine.now).core before.now.own.group))) }
+/// Whether a page is mapped.
+#[tactic(auto, using(crate::proofs::Peeks::mapped_by, crate::proofs::Peeks::mapped_not))]
+fn is_mapped<M: Inspect>(machine: &Machine<M>, page: u64) -> bool
+    ensures { result ≡ is_mapped_in (state_of machine.now).memory page }
 {
-    put_out(text, out, machine, before.own.group, before.output);
+    let memory = machine.memory();
+    page < 1 << 42 && memory.peek(page * 4096).is_some()
 }
 
 /// Appends the line that a page was mapped, if it is mapped now and was not before.
@@ -342,7 +211,7 @@ fn put_changed<O: Sink>(text: &mut TextBuffer, out: &mut O, word: u64, was: &Cel
 }
 
 /// Appends the line of the cell of an access, if the cell changed.
-pub(crate) fn put_reached<M: Inspect, O: Sink>(
+fn put_reached<M: Inspect, O: Sink>(
     text: &mut TextBuffer,
     out: &mut O,
     machine: &Machine<M>,
@@ -352,7 +221,7 @@ pub(crate) fn put_reached<M: Inspect, O: Sink>(
     ensures { Appends O.taken O.faults out.old out.new text.old text.new
         (text_of (cell_now access.addr was.now (cell_at (state_of machine.now).memory access.addr))) }
 {
-    if let Some(now) = cell_of(machine, access) {
+    if let Some(now) = machine.memory().peek(access.addr()) {
         put_changed(text, out, access.addr(), was, &now);
     }
 }
@@ -362,49 +231,48 @@ fn put_memory<M: Inspect, O: Sink>(
     text: &mut TextBuffer,
     out: &mut O,
     machine: &Machine<M>,
-    there: &There,
+    kept: &Kept,
 )
     ensures { Appends O.taken O.faults out.old out.new text.old text.new
-        (text_of (page_seen (state_of machine.now).memory there.now
-        ++ cell_seen (state_of machine.now).memory there.now)) }
+        (text_of (page_seen (state_of machine.now).memory (told_in kept.now).there
+        ++ cell_seen (state_of machine.now).memory (told_in kept.now).there)) }
 {
-    match there {
-        There::Page(page, was) => put_page(text, out, *page, *was, is_mapped(machine, *page)),
-        There::Cell(access, was) => put_reached(text, out, machine, *access, was),
-        There::Nothing | There::Slot(_) => {}
+    match &kept.beside {
+        Beside::Page(page, was) => put_page(text, out, *page, *was, is_mapped(machine, *page)),
+        Beside::Cell(access, was) => put_reached(text, out, machine, *access, was),
+        Beside::Nothing | Beside::Slot => {}
     }
 }
 
-/// Appends the lines of what a cycle changed, given what the look before it found.
+/// Appends the lines of what the turn of a slot changed, given what it showed before it did.
 fn put_seen<M: Inspect, O: Sink>(
     text: &mut TextBuffer,
     out: &mut O,
     machine: &Machine<M>,
-    before: &Before,
+    kept: &Kept,
     tick: Tick,
 )
     ensures { Appends O.taken O.faults out.old out.new text.old text.new
-        (text_of (seen (state_of machine.now) before.now tick)) }
+        (text_of (seen (state_of machine.now) (told_in kept.now) tick)) }
 {
-    put_slots(text, out, machine, before, tick);
-    put_queued(text, out, &before.own, &before.instr, tick);
-    put_read(text, out, before, tick);
-    put_own_out(text, out, machine, before);
-    put_memory(text, out, machine, &before.there);
+    put_slots(text, out, machine, kept);
+    put_queued(text, out, machine, kept, tick);
+    put_read(text, out, kept, tick);
+    put_out(text, out, machine, kept);
+    put_memory(text, out, machine, kept);
 }
 
-/// Appends the lines of what a cycle changed. Appends nothing if the look before it found no slot.
+/// Appends the lines of what a cycle changed.
 pub(crate) fn put_changes<M: Inspect, O: Sink>(
     text: &mut TextBuffer,
     out: &mut O,
     machine: &Machine<M>,
-    before: &Option<Before>,
-    tick: Tick,
+    last: &LastTurn,
 )
     ensures { Appends O.taken O.faults out.old out.new text.old text.new
-        (text_of (seen_by (state_of machine.now) before.now tick)) }
+        (text_of (seen_by (state_of machine.now) (shown_in last.now) last.now.step.tick)) }
 {
-    if let Some(before) = before {
-        put_seen(text, out, machine, before, tick);
+    if last.shown {
+        put_seen(text, out, machine, &last.kept, last.step.tick);
     }
 }

@@ -14,21 +14,6 @@ use mm_model::{Event, Pending, SlotState};
 use mm_text::{Line, Piece, TextBuffer, put_state, put_word};
 use mm_word::{Cause, Cell, GuardedPtr, Word};
 
-/// Appends `ip S P`, or `ip S P past`.
-pub(crate) fn put_pointer<O: Sink>(
-    text: &mut TextBuffer,
-    out: &mut O,
-    slot: u8,
-    ip: GuardedPtr,
-    past: bool,
-)
-    ensures { Appends O.taken O.faults out.old out.new text.old text.new (line_text (Points slot ip past)) }
-{
-    let mut line = Line::new();
-    write_pointer(&mut line, slot, ip, past);
-    text.put_bytes(out, line.as_bytes());
-}
-
 /// Puts `ip S P` or `ip S P past` before the text so far.
 #[inline(always)]
 #[tactic(auto, using(mm_text::proofs::LineLengths::line_lengths), unfolding(crate::specs::Lines::line_text))]

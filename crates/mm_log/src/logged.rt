@@ -6,15 +6,12 @@ ghost use Rattle.mm_model.specs.Image.{Image};
 ghost use Rattle.mm_model.specs.Run.{after};
 ghost use Rattle.mm_machine.specs.Machine.{state_of, StandsFor};
 ghost use Rattle.mm_sched.specs.Orders.{items_of};
-ghost use Rattle.mm_log.specs.Log.{cycle_log, log_text, text_of};
-ghost use Rattle.mm_log.specs.Local.{IsLocal};
+ghost use Rattle.mm_log.specs.Log.{log_text};
 
 use crate::after::put_changes;
-use crate::before::look;
-use crate::local::{Local, look_near, put_local};
 use crate::telling::{Teller, issue_told, turns_of};
 use mm_io::Sink;
-use mm_machine::Machine;
+use mm_machine::{LastTurn, Machine};
 use mm_mem::Inspect;
 use mm_report::put_step;
 use mm_sched::Order;
@@ -35,11 +32,17 @@ pub fn issue_logged<M: Inspect, O: Sink>(
     ensures lines { Appends O.taken O.faults out.old out.new text.old text.new
         (log_text (state_of machine.old) (items_of order.now (state_of machine.old) count)) }
 {
-    issue_told::<Logger, M, O>(machine, order, count, text, out)
+    let mut logger = Logger {
+        last: LastTurn::new(),
+    };
+    issue_told(&mut logger, machine, order, count, text, out)
 }
 
-// The teller of a log.
-struct Logger;
+// The teller of a log, with the place for what its turns show.
+#[derive(Drop)]
+struct Logger {
+    last: LastTurn,
+}
 
 impl Teller for Logger {
     ghost use Rattle.mm_log.specs.Telling.{logged_cycle};
@@ -47,75 +50,15 @@ impl Teller for Logger {
     ghost of_cycle = { logged_cycle };
 
     fn tell<M: Inspect, O: Sink>(
+        &mut self,
         machine: &mut Machine<M>,
         item: u8,
         text: &mut TextBuffer,
         out: &mut O,
     ) {
-        cycle_logged(machine, item, text, out)
+        machine.cycle_shown(item, &mut self.last);
+        let turns = turns_of(machine, self.last.step.slot);
+        put_step(text, out, &self.last.step, turns);
+        put_changes(text, out, machine, &self.last);
     }
-}
-
-/// Makes one cycle, and appends its lines.
-fn cycle_logged<M: Inspect, O: Sink>(
-    machine: &mut Machine<M>,
-    item: u8,
-    text: &mut TextBuffer,
-    out: &mut O,
-)
-    requires { (state_of machine.old).cycles < 2 ^ 32 }
-    ensures state { state_of machine.new ≡ after (state_of machine.old) item }
-    ensures goes { (i : Image) (before : List ℕ) → StandsFor i before machine.old
-        → StandsFor i (before ++ item ∷ []) machine.new }
-    ensures line { Appends O.taken O.faults out.old out.new text.old text.new
-        (text_of (cycle_log (state_of machine.old) item)) }
-{
-    match look_near(machine, item) {
-        Some(was) => cycle_near(machine, item, &was, text, out),
-        None => cycle_looked(machine, item, text, out),
-    }
-}
-
-/// Makes the turn of an instruction that writes one register at most, and appends its lines.
-fn cycle_near<M: Inspect, O: Sink>(
-    machine: &mut Machine<M>,
-    item: u8,
-    was: &Local,
-    text: &mut TextBuffer,
-    out: &mut O,
-)
-    requires cycles { (state_of machine.old).cycles < 2 ^ 32 }
-    requires looked { IsLocal (state_of machine.old).core (state_of machine.old).memory item was.now }
-    ensures state { state_of machine.new ≡ after (state_of machine.old) item }
-    ensures goes { (i : Image) (before : List ℕ) → StandsFor i before machine.old
-        → StandsFor i (before ++ item ∷ []) machine.new }
-    ensures line { Appends O.taken O.faults out.old out.new text.old text.new
-        (text_of (cycle_log (state_of machine.old) item)) }
-{
-    let step = machine.cycle(item);
-    let turns = turns_of(machine, step.slot);
-    put_step(text, out, &step, turns);
-    put_local(text, out, machine, was, step.tick);
-}
-
-/// Makes one cycle of any kind, and appends its lines.
-#[inline(never)]
-fn cycle_looked<M: Inspect, O: Sink>(
-    machine: &mut Machine<M>,
-    item: u8,
-    text: &mut TextBuffer,
-    out: &mut O,
-)
-    requires { (state_of machine.old).cycles < 2 ^ 32 }
-    ensures state { state_of machine.new ≡ after (state_of machine.old) item }
-    ensures goes { (i : Image) (before : List ℕ) → StandsFor i before machine.old
-        → StandsFor i (before ++ item ∷ []) machine.new }
-    ensures line { Appends O.taken O.faults out.old out.new text.old text.new
-        (text_of (cycle_log (state_of machine.old) item)) }
-{
-    let before = look(machine, item);
-    let step = machine.cycle(item);
-    let turns = turns_of(machine, step.slot);
-    put_step(text, out, &step, turns);
-    put_changes(text, out, machine, &before, step.tick);
 }

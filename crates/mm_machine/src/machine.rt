@@ -9,7 +9,7 @@ use crate::capture::{events_of, outputs_of, pages_of, slots_of};
 use mm_image::Image;
 use mm_mem::{Inspect, Loaded, Memory, Reset, Stored};
 use mm_sched::Robin;
-use mm_thread::{Core, Slot, Step, Tick, turn_into};
+use mm_thread::{Core, LastStep, LastTurn, NoWatch, Slot, Step, Tick, Watch, turn_watched};
 use mm_word::{Access, NoMemory, Post, Pre, Word};
 use std::alloc::Global;
 
@@ -46,6 +46,7 @@ impl<M: Memory> Machine<M> {
     ghost use Rattle.mm_model.specs.Outcomes.{IsIdle, Delivers, StopsAt, Blocks, Faults, Completes, FaultChanges};
     ghost use Rattle.mm_machine.specs.Machine.{state_of, ports_used, StandsTo, Takes, StandsFor};
     ghost use Rattle.mm_machine.specs.Going.{WentOn};
+    ghost use Rattle.mm_thread.specs.Told.{told_of, shown};
 
     /// The machine of an image at its start, over an unused memory that holds the image's pages. `NoMemory` comes if
     /// memory ran out.
@@ -95,9 +96,11 @@ impl<M: Memory> Machine<M> {
             → StandsFor i (items ++ item ∷ []) self.new }
         ensures ports { ports_used self.new ≡ ports_used self.old }
     {
-        let mut step = Step::idle(0);
-        self.issue(&[item], None, 0, &mut step);
-        step
+        let mut last = LastStep {
+            step: Step::idle(0),
+        };
+        self.issue(&[item], None, 0, &mut last);
+        last.step
     }
 
     /// Issues the items of a list.
@@ -106,8 +109,7 @@ impl<M: Memory> Machine<M> {
         ensures goes { WentOn self.old self.new items.now }
         ensures ports { ports_used self.new ≡ ports_used self.old }
     {
-        let mut step = Step::idle(0);
-        self.issue(items, None, 0, &mut step);
+        self.issue(items, None, 0, &mut NoWatch {});
     }
 
     /// Issues up to `count` cycles of round robin, fewer only if no slot runs. It begins after the slot `previous`, or
@@ -120,20 +122,19 @@ impl<M: Memory> Machine<M> {
         ensures slot { IfSome result (λ n. n < 64) }
         ensures ports { ports_used self.new ≡ ports_used self.old }
     {
-        let mut step = Step::idle(0);
-        self.issue(&[], previous, count, &mut step)
+        self.issue(&[], previous, count, &mut NoWatch {})
     }
 
-    /// Issues the items of a list, and then up to `count` cycles of round robin as [`Machine::round_robin`] does. The
-    /// last step is written, and contracts say so of a single item.
+    /// Issues the items of a list, and then up to `count` cycles of round robin as [`Machine::round_robin`] does, under an
+    /// observer. Contracts say of a single item what the observer was shown and told.
     ///
-    /// Every cycle passes here, so that a turn has one caller, into whose loop the compiler puts it.
-    fn issue(
+    /// Every cycle passes here, so that a turn has one caller for each observer, into whose loop the compiler puts it.
+    fn issue<W: Watch<M>>(
         &mut self,
         items: &[u8],
         previous: Option<u8>,
         count: u64,
-        step: &mut Step,
+        watch: &mut W,
     ) -> Option<u8>
         requires few { (state_of self.old).cycles + (length items.now + count) ≤ 2 ^ 32 }
         requires slot { IfSome previous (λ n. n < 64) }
@@ -141,7 +142,8 @@ impl<M: Memory> Machine<M> {
             (items.now ++ robin_from (run (state_of self.old) items.now) previous count) }
         ensures last { result ≡ last_item previous (robin_from (run (state_of self.old) items.now) previous count) }
         ensures slot { IfSome result (λ n. n < 64) }
-        ensures step { (n : ℕ) → items.now ≡ n ∷ [] → count ≡ 0 → step.new ≡ (turn_of (state_of self.old) n).step }
+        ensures watch { (n : ℕ) → items.now ≡ n ∷ [] → count ≡ 0 → let s = state_of self.old in
+            watch.new ≡ W.tells (shown W.looks watch.old (told_of s.core s.memory n)) (turn_of s n).step }
         ensures ports { ports_used self.new ≡ ports_used self.old }
     {
         let mut last = previous;
@@ -150,7 +152,7 @@ impl<M: Memory> Machine<M> {
             let Some(item) = self.next_item(items, at, &mut last) else {
                 break;
             };
-            self.advance(item, step);
+            self.advance(item, watch);
         }
         last
     }
@@ -172,16 +174,17 @@ impl<M: Memory> Machine<M> {
         Some(next)
     }
 
-    /// Runs one more cycle, the turn of an item, and writes its step.
-    fn advance(&mut self, item: u8, step: &mut Step)
+    /// Runs one more cycle, the turn of an item, under an observer.
+    fn advance<W: Watch<M>>(&mut self, item: u8, watch: &mut W)
         requires { (state_of self.old).cycles < 2 ^ 32 }
         ensures state { state_of self.new ≡ after (state_of self.old) item }
-        ensures step { step.new ≡ (turn_of (state_of self.old) item).step }
+        ensures watch { let s = state_of self.old in
+            watch.new ≡ W.tells (shown W.looks watch.old (told_of s.core s.memory item)) (turn_of s item).step }
         ensures takes { Takes self.old self.new (turn_of (state_of self.old) item).uses }
         ensures ports { ports_used self.new ≡ ports_used self.old }
     {
         self.cycles += 1;
-        turn_into(&mut self.core, &mut self.mem, item, step);
+        turn_watched(&mut self.core, &mut self.mem, item, watch);
     }
 
     /// The count of cycles so far.
@@ -291,6 +294,31 @@ impl<M: Memory> Machine<M> {
         ensures { result ≡ ports_used self.now }
     {
         self.ports
+    }
+}
+
+/// Cycles that are shown.
+impl<M: Inspect> Machine<M> {
+    ghost use Rattle.std.specs.Prelude.{◌≡◌, ◌<◌, ◌^◌, ℕ, List, [], ◌∷◌, ◌++◌};
+    ghost use Rattle.mm_model.specs.Image.{Image as ImageValue};
+    ghost use Rattle.mm_model.specs.Run.{turn_of, after};
+    ghost use Rattle.mm_machine.specs.Machine.{state_of, ports_used, StandsFor};
+    ghost use Rattle.mm_thread.specs.Told.{told_of, shown_in};
+
+    /// Does what [`Machine::cycle`] does, and writes with the step what the turn could change, as it was before the turn.
+    pub fn cycle_shown(&mut self, item: u8, last: &mut LastTurn)
+        requires { (state_of self.old).cycles < 2 ^ 32 }
+        ensures state { state_of self.new ≡ after (state_of self.old) item }
+        ensures step { last.new.step ≡ (turn_of (state_of self.old) item).step }
+        ensures told { shown_in last.new ≡ told_of (state_of self.old).core (state_of self.old).memory item }
+
+        // The machine after one item more, from the machine after any items of an image.
+        ensures runs { (i : ImageValue) (items : List ℕ) → StandsFor i items self.old
+            → StandsFor i (items ++ item ∷ []) self.new }
+        ensures ports { ports_used self.new ≡ ports_used self.old }
+    {
+        last.shown = false;
+        self.issue(&[item], None, 0, last);
     }
 }
 

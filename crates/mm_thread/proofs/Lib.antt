@@ -13,3 +13,6 @@ pub mod Fresh
 pub mod RowIndex
 pub mod RunningSlots
 pub mod Assigned
+pub mod Rows
+pub mod Writes
+pub mod Moves

@@ -17,7 +17,7 @@ use Rattle.mm_mem.specs.{Answers.{fetched as fetched_answer}}
 use Rattle.mm_thread.specs.declared.completion.{Completion.Completion, Retired.Retired}
 use Rattle.mm_thread.specs.SlotIndices.{row_at, slot_in, with_row, with_slot, numbers_in}
 use Rattle.mm_thread.specs.Execution.{CanTurn, CanEnd, Leaves, effect_in, Executes, TakesTurn, core_ended, step_ended}
-use Rattle.mm_thread.specs.Tables.{AreNumbered}
+use Rattle.mm_thread.specs.{Tables.AreNumbered, Told.{in_cell, found_by, comes_to}}
 use Rattle.mm_thread.proofs.{RowIndex.apart_in, Index.{slot_found, put_slot-at, number-get, apart_by}}
 use Rattle.mm_thread.proofs.Cores.{queue_in-slot, slot_in-same}
 use Rattle.mm_thread.specs.declared.completion.Completion.TheVariants as completions
@@ -149,32 +149,33 @@ ended_uses core m s i f touched us (Do c) = refl
 
 -- 3. The same with what is asked of a memory.
 
-module _ {M : Type 0} (meaning : M → Memory) (uses : M → ℕ) (stands : M → List Use → Type 0) where
-  pub faults_give : (core : Core) (m : Memory) (s : Slot) (c : Cause) (f : Option AccessValue) (us : List Use) (old new : M) (core' : Core) (step : Step)
+module _ {M : Type 0} (meaning : M → Memory) (uses : M → ℕ) (stands : M → List Use → Type 0) {W : Type 0} (tells : W → Step → W) (seen : W) where
+  pub faults_give : (core : Core) (m : Memory) (s : Slot) (c : Cause) (f : Option AccessValue) (us : List Use) (old new : M) (core' : Core) (watch : W)
       → core' ≡ core_faulted core s (event_of s c (Int 0) (Int 0)) s.handler → meaning new ≡ m
-      → step ≡ record { tick = tick_faulted c s.handler; slot = s.number; fetched = f; touched = None; entered = None } → TakesUses stands old new us → uses new ≡ uses old + accesses us
-      → TakesTurn meaning uses stands (faulted core m s c (Int 0) (Int 0) f None us) old new core' step
+      → watch ≡ tells seen (record { tick = tick_faulted c s.handler; slot = s.number; fetched = f; touched = None; entered = None }) → TakesUses stands old new us → uses new ≡ uses old + accesses us
+      → TakesTurn meaning uses stands tells seen (faulted core m s c (Int 0) (Int 0) f None us) old new core' watch
   unfolding faulted
-  faults_give core m s c f us old new core' step core_is memory_is step_is takes count =
-      record { core_is = core_is; memory_is = memory_is; step_is = step_is; takes = takes; count = count }
+  faults_give core m s c f us old new core' watch core_is memory_is watch_is takes count =
+      record { core_is = core_is; memory_is = memory_is; watch_is = watch_is; takes = takes; count = count }
 
   module _ (core : Core) (p : ℕ) (can : CanTurn core p) (f : AccessValue) (u : Use) (i : Instr) (before mid : M)
       (first : TakesUses stands before mid (u ∷ [])) (same : meaning mid ≡ meaning before) (counted : uses mid ≡ uses before + accesses (u ∷ [])) where
     -- the instruction is carried out
     pub issued_gives : (core.split && lacks i (slot_in core p)) ≡ false → (new : M) (core1 core2 : Core)
-        (retired : Retired) (step : Step) → Executes meaning uses stands core (slot_in core p) i mid new core1 retired
-        → core2 ≡ core_ended i core1 (slot_in core1 p) p retired.completion → step ≡ step_ended (slot_in core p).number (slot_in core1 p) (Some f) retired.touched retired.completion
-        → TakesTurn meaning uses stands (issued core (meaning before) (slot_in core p) f u i) before new core2 step
+        (retired : Retired) (watch : W) → Executes meaning uses stands core (slot_in core p) i mid new core1 retired
+        → core2 ≡ core_ended i core1 (slot_in core1 p) p retired.completion → watch ≡ tells seen (step_ended (slot_in core p).number (slot_in core1 p) (Some f) retired.touched retired.completion)
+        → TakesTurn meaning uses stands tells seen (issued core (meaning before) (slot_in core p) f u i) before new core2 watch
     unfolding issued executed
-    issued_gives free new core1 core2 retired step ex core_is step_is =
+    issued_gives free new core1 core2 retired watch ex core_is watch_is =
         let s = slot_in core p in
         let m : Memory = meaning before in
         let LeavesAt : Memory → Type 0 = λ x. Leaves core x s (effect_in core x s i) core1 (meaning new) retired.completion in
         let TakesAt : Memory → Type 0 = λ x. TakesUses stands mid new (asked_use x (ask i s)) in
         let CountAt : Memory → Type 0 = λ x. uses new ≡ uses mid + accesses (asked_use x (ask i s)) in
         let us : List Use = u ∷ asked_use m (ask i s) in
-        let so = ended_so core p can m i f (touch_of (ask i s)) us core1 (meaning new) retired.completion core2 step core_is
-        (step_is ∙ ap (λ t. step_ended s.number (slot_in core1 p) (Some f) t retired.completion) ex.touched) (effect_in core m s i) (subst LeavesAt same ex.leaves) in
+        let step : Option AccessValue → Step = λ t. step_ended s.number (slot_in core1 p) (Some f) t retired.completion in
+        let so = ended_so core p can m i f (touch_of (ask i s)) us core1 (meaning new) retired.completion core2 (step (touch_of (ask i s))) core_is
+        refl (effect_in core m s i) (subst LeavesAt same ex.leaves) in
         let listed = ended_uses core m s i f (touch_of (ask i s)) us (effect_in core m s i) in
         let Takes : List Use → Type 0 = λ ws. TakesUses stands before new ws in
         let Count : List Use → Type 0 = λ ws. uses new ≡ uses before + accesses ws in
@@ -182,19 +183,19 @@ module _ {M : Type 0} (meaning : M → Memory) (uses : M → ℕ) (stands : M �
         rw free (record {
           core_is = so.core_is;
           memory_is = so.memory_is;
-          step_is = so.step_is;
+          watch_is = watch_is ∙ ap (λ (t : Option AccessValue). tells seen (step t)) ex.touched ∙ ap (tells seen) so.step_is;
           takes = subst Takes (sym listed) (takes_both first (subst TakesAt same ex.takes));
           count = subst Count (sym listed) all;
         })
 
     -- the slot waits for a register
-    pub issued_waits : (core.split && lacks i (slot_in core p)) ≡ true → (core1 core2 : Core) (step : Step) (n : ℕ)
+    pub issued_waits : (core.split && lacks i (slot_in core p)) ≡ true → (core1 core2 : Core) (watch : W) (n : ℕ)
         → core1 ≡ with_slot core p (delivered (slot_in core p)) → core2 ≡ with_slot core1 p
         (stood (slot_in core1 p) Running)
-        → n ≡ (slot_in core p).number → step ≡ record { tick = Blocked; slot = n; fetched = Some f; touched = None; entered = None }
-        → TakesTurn meaning uses stands (issued core (meaning before) (slot_in core p) f u i) before mid core2 step
+        → n ≡ (slot_in core p).number → watch ≡ tells seen (record { tick = Blocked; slot = n; fetched = Some f; touched = None; entered = None })
+        → TakesTurn meaning uses stands tells seen (issued core (meaning before) (slot_in core p) f u i) before mid core2 watch
     unfolding issued blocked
-    issued_waits waits core1 core2 step n first_is core_is number_is step_is =
+    issued_waits waits core1 core2 watch n first_is core_is number_is watch_is =
         let s = slot_in core p in
         let from = delivered_from s in
         rw waits (record {
@@ -203,7 +204,7 @@ module _ {M : Type 0} (meaning : M → Memory) (uses : M → ℕ) (stands : M �
               ∙ with_slot-twice core p (delivered s) (stood (delivered s) Running) can.within
               ∙ sym (put_slot-at core (apart_in core can.whole) p can.within (stood (delivered s) Running) from.number);
           memory_is = same;
-          step_is = step_is ∙ ap (λ (k : ℕ). record { tick = Blocked; slot = k; fetched = Some f; touched = None; entered = None }) (number_is ∙ sym from.number);
+          watch_is = watch_is ∙ ap (λ (k : ℕ). tells seen (record { tick = Blocked; slot = k; fetched = Some f; touched = None; entered = None })) (number_is ∙ sym from.number);
           takes = first;
           count = counted;
         })
@@ -247,3 +248,14 @@ module _ (core : Core) (m : Memory) (s : Slot) where
   pub starts_fetched : (f : AccessValue) → s.past ≡ false → check_result (Ptr s.ip) (pos 0) Fetch ≡ Ok f → started core m s ≡ fetched core m s f (cell_at m f.addr)
   unfolding started
   starts_fetched f past ok = where_false s.past _ _ past ∙ ap (aimed core m s) ok
+
+  -- the instruction that it comes to
+
+  pub comes_past : s.past ≡ true → comes_to m s ≡ None
+  comes_past past = where_true s.past None (found_by m (check_result (Ptr s.ip) (pos 0) Fetch)) past
+
+  pub comes_unfetched : (c : Cause) → s.past ≡ false → check_result (Ptr s.ip) (pos 0) Fetch ≡ Err c → comes_to m s ≡ None
+  comes_unfetched c past err = where_false s.past None (found_by m (check_result (Ptr s.ip) (pos 0) Fetch)) past ∙ ap (found_by m) err
+
+  pub comes_fetched : (f : AccessValue) → s.past ≡ false → check_result (Ptr s.ip) (pos 0) Fetch ≡ Ok f → comes_to m s ≡ in_cell (cell_at m f.addr)
+  comes_fetched f past ok = where_false s.past None (found_by m (check_result (Ptr s.ip) (pos 0) Fetch)) past ∙ ap (found_by m) ok

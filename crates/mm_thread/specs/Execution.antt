@@ -67,11 +67,12 @@ module _ {M : Type 0} (meaning : M → Memory) (uses : M → ℕ) (stands : M �
     pub takes : TakesUses stands old new (asked_use (meaning old) (ask i s))
     pub count : uses new ≡ uses old + accesses (asked_use (meaning old) (ask i s))
 
-  -- the turn is taken
-  pub record TakesTurn (t : Turned) (old new : M) (core' : Core) (step' : Step) : Type 0 where
+  -- the turn is taken, and the observer `seen` is told its step
+  pub record TakesTurn {W : Type 0} (tells : W → Step → W) (seen : W) (t : Turned) (old new : M) (core' : Core) (watch' : W) :
+      Type 0 where
     pub core_is : core' ≡ t.core
     pub memory_is : meaning new ≡ t.memory
-    pub step_is : step' ≡ t.step
+    pub watch_is : watch' ≡ tells seen t.step
     pub takes : TakesUses stands old new t.uses
     pub count : uses new ≡ uses old + accesses t.uses
 
@@ -125,9 +126,10 @@ page_named s ra =
     (if nat_lt (word_bits (register s ra)) (2 ^ 42) then Ok (word_bits (register s ra)) else Err Bounds) else Err
     Priv
 
--- a turn that asks nothing of a memory and leaves it as it is
-pub record AsksNothing (t : Turned) (m : Memory) (core' : Core) (step' : Step) : Type 0 where
+-- a turn that asks nothing of a memory and leaves it as it is, and whose step the observer `seen` is told
+pub record AsksNothing {W : Type 0} (tells : W → Step → W) (seen : W) (t : Turned) (m : Memory) (core' : Core) (watch' : W) :
+    Type 0 where
   pub core_is : core' ≡ t.core
   pub memory_is : m ≡ t.memory
-  pub step_is : step' ≡ t.step
+  pub watch_is : watch' ≡ tells seen t.step
   pub uses_are : t.uses ≡ []

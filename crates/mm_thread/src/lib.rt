@@ -1,7 +1,8 @@
 //! One turn of a machine over any memory.
 //!
-//! A [`Core`] has the slots, the queues of their events and the outputs of groups. [`turn_into`] takes the turn of an
-//! item: it changes the core and the memory, and writes the step where its caller keeps it.
+//! A [`Core`] has the slots, the queues of their events and the outputs of groups. [`turn_watched`] takes the turn of an
+//! item: it changes the core and the memory, shows its observer what it can change before it does, and tells it the
+//! step.
 //!
 //! | what | modules |
 //! |---|---|
@@ -10,6 +11,7 @@
 //! | how it keeps what groups put out | `group_output`, `output` |
 //! | a turn: whose it is, from its fetch to its end, a fault | `item`, `slot_turn`, `fault` |
 //! | the table of instructions that concern their slot alone, and a function for each | `carry_out`, `local_ops` |
+//! | observers of turns, and what they are shown | `watch`, `told` |
 //! | the changes of a turn to its slot | `slot` |
 //! | the table of the other instructions | `execute` |
 //! | a function for each that needs memory, or other slots, queues or outputs | `memory_ops`, `slot_ops` |
@@ -36,9 +38,11 @@ mod slot_ops;
 mod slot_turn;
 mod state;
 mod tables;
+mod told;
+mod watch;
 
-pub use memory_ops::load_kind;
 pub use mm_model::{Event, Pending, Slot, SlotState, Step, Tick};
-pub use operands::{addr_operand, value_operand};
 pub use output::Output;
-pub use state::{Core, turn, turn_into};
+pub use state::{Core, turn, turn_watched};
+pub use told::{Beside, Held, Kept, Registers, Was, event_of};
+pub use watch::{LastStep, LastTurn, NoWatch, Watch};

@@ -150,7 +150,7 @@ fn touching(completion: Completion, access: Access) -> Retired
 
 /// The kind of a load's access. A load that sets the bit has a kind of its own.
 #[inline(always)]
-pub fn load_kind(post: Post) -> Kind
+pub(crate) fn load_kind(post: Post) -> Kind
     ensures { result ≡ load_kind post }
 {
     match post {
@@ -160,7 +160,7 @@ pub fn load_kind(post: Post) -> Kind
 }
 
 /// The access through a register's word, or the fault of the access.
-fn reach(slot: &Slot, ra: Reg, imm: i32, kind: Kind) -> Result<Access, Cause>
+pub(crate) fn reach(slot: &Slot, ra: Reg, imm: i32, kind: Kind) -> Result<Access, Cause>
     ensures value { result ≡ check_result (register slot.now ra) imm kind }
     ensures kind { IfOk result (λ a. a.kind ≡ kind) }
 {
@@ -209,7 +209,7 @@ fn finish_store(tables: &mut Tables, slot_index: usize, stored: Stored) -> Compl
 }
 
 /// The page that a register names, if the code is privileged and the page's number is in range.
-fn page_named(slot: &Slot, ra: Reg) -> Result<u64, Cause>
+pub(crate) fn page_named(slot: &Slot, ra: Reg) -> Result<u64, Cause>
     ensures value { result ≡ page_named slot.now ra }
     ensures small { IfOk result (λ page. page < 2 ^ 42) }
 {

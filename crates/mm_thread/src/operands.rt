@@ -15,10 +15,10 @@ use mm_word::Word;
 
 // The operands of an instruction, gathered one after the other.
 #[derive(Clone, Copy)]
-struct Named {
-    rd: Option<Reg>,
+pub(crate) struct Named {
+    pub(crate) rd: Option<Reg>,
     // The first of the four registers of `evt`.
-    evt: Option<EvtReg>,
+    pub(crate) evt: Option<EvtReg>,
     ra: Option<Reg>,
     rb: Option<Reg>,
     // The number of imm; 0 if the operation has none.
@@ -72,7 +72,7 @@ impl Visitor for Named {
 }
 
 /// The registers and the number among an instruction's operands.
-fn names(instr: &Instr) -> Named
+pub(crate) fn names(instr: &Instr) -> Named
     ensures d { results result.rd result.evt ≡ fields_d instr.now }
     ensures a { result.ra ≡ field_a instr.now }
     ensures b { result.rb ≡ field_b instr.now }

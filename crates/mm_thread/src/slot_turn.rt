@@ -6,6 +6,7 @@ ghost use Rattle.mm_model.specs.Uses.{Use, accesses, TakesUses};
 ghost use Rattle.mm_model.specs.Operands.{lacks};
 ghost use Rattle.mm_model.specs.Turn.{issued, fetched, started, instr_in, core_faulted, event_of, tick_faulted};
 ghost use Rattle.mm_thread.specs.SlotIndices.{slot_in};
+ghost use Rattle.mm_thread.specs.Told.{told_at, in_cell, comes_to};
 ghost use Rattle.mm_thread.specs.Execution.{CanTurn, CanEnd, TakesTurn, core_ended, step_ended};
 
 use crate::completion::{Completion, Retired};
@@ -13,78 +14,90 @@ use crate::execute::execute;
 use crate::fault::fault;
 use crate::operands::{addr_operand, lacks, value_operand};
 use crate::tables::Tables;
+use crate::watch::Watch;
 use mm_isa::{Instr, read};
 use mm_mem::Memory;
 use mm_model::{SlotState, Step, Tick};
 use mm_word::{Access, Cause, Kind, Word, check};
 
-/// Takes the turn of the running slot at `slot_index`, and writes its step.
-pub(crate) fn start<M: Memory>(tables: &mut Tables, slot_index: usize, mem: &mut M, step: &mut Step)
+/// Takes the turn of the running slot at `slot_index`, which the observer is shown, and tells its step.
+pub(crate) fn start<M: Memory, W: Watch<M>>(
+    tables: &mut Tables,
+    slot_index: usize,
+    mem: &mut M,
+    watch: &mut W,
+)
     requires can { CanTurn tables.old slot_index }
     requires room { M.uses mem.old < 2 ^ 61 }
-    ensures { TakesTurn M.meaning M.uses M.stands (started tables.old (M.meaning mem.old) (slot_in tables.old slot_index))
-        mem.old mem.new tables.new step.new }
+    ensures { let s = slot_in tables.old slot_index in
+        let m = M.meaning mem.old in
+        TakesTurn M.meaning M.uses M.stands W.tells (W.looks watch.old (told_at tables.old m s (comes_to m s)))
+        (started tables.old m s) mem.old mem.new tables.new watch.new }
 {
     let slot = tables.slot(slot_index);
     let past = slot.past;
     let ip = slot.ip;
     if past {
-        fail_fetch(tables, slot_index, Cause::Bounds, None, step);
+        fail_fetch(tables, slot_index, mem, Cause::Bounds, None, watch);
         return;
     }
     match check(Word::Ptr(ip), 0, Kind::Fetch) {
-        Err(cause) => fail_fetch(tables, slot_index, cause, None, step),
-        Ok(access) => fetch(tables, slot_index, mem, access, step),
+        Err(cause) => fail_fetch(tables, slot_index, mem, cause, None, watch),
+        Ok(access) => fetch(tables, slot_index, mem, access, watch),
     }
 }
 
 /// Ends a turn by a fault before an instruction is known: it has no operands.
-fn fail_fetch(
+fn fail_fetch<M: Memory, W: Watch<M>>(
     tables: &mut Tables,
     slot_index: usize,
+    mem: &M,
     cause: Cause,
     fetched: Option<Access>,
-    step: &mut Step,
+    watch: &mut W,
 )
     requires can { CanTurn tables.old slot_index }
     ensures core { let s = slot_in tables.old slot_index in
         tables.new ≡ core_faulted tables.old s (event_of s cause (Word.Int 0) (Word.Int 0)) s.handler }
-    ensures step { let s = slot_in tables.old slot_index in
-        step.new ≡ record {
+    ensures watch { let s = slot_in tables.old slot_index in
+        watch.new ≡ W.tells (W.looks watch.old (told_at tables.old (M.meaning mem.now) s None)) (record {
           tick = tick_faulted cause s.handler;
           slot = s.number;
           fetched = fetched;
           touched = None;
           entered = None;
-        } }
+        }) }
 {
+    watch.look(tables, slot_index, mem, None);
     let number = tables.slot(slot_index).number;
     let tick = fault(tables, slot_index, cause, Word::Int(0), Word::Int(0));
-    write_step(step, tick, number, fetched, None);
+    tell_step::<M, W>(watch, tick, number, fetched);
 }
 
 /// Goes on with the turn from the fetch.
-fn fetch<M: Memory>(
+fn fetch<M: Memory, W: Watch<M>>(
     tables: &mut Tables,
     slot_index: usize,
     mem: &mut M,
     access: Access,
-    step: &mut Step,
+    watch: &mut W,
 )
     requires can { CanTurn tables.old slot_index }
     requires room { M.uses mem.old < 2 ^ 61 }
     requires kind { access.kind ≡ Kind.Fetch }
-    ensures { TakesTurn M.meaning M.uses M.stands
-        (fetched tables.old (M.meaning mem.old) (slot_in tables.old slot_index) access
-        (cell_at (M.meaning mem.old) access.addr)) mem.old mem.new tables.new step.new }
+    ensures { let s = slot_in tables.old slot_index in
+        let m = M.meaning mem.old in
+        TakesTurn M.meaning M.uses M.stands W.tells
+        (W.looks watch.old (told_at tables.old m s (in_cell (cell_at m access.addr))))
+        (fetched tables.old m s access (cell_at m access.addr)) mem.old mem.new tables.new watch.new }
 {
     let Some(word) = mem.fetch(&access) else {
-        fail_fetch(tables, slot_index, Cause::NoPage, Some(access), step);
+        fail_fetch(tables, slot_index, mem, Cause::NoPage, Some(access), watch);
         return;
     };
     match instr_in(word) {
-        None => fail_fetch(tables, slot_index, Cause::Illegal, Some(access), step),
-        Some(instr) => issue(tables, slot_index, mem, access, instr, step),
+        None => fail_fetch(tables, slot_index, mem, Cause::Illegal, Some(access), watch),
+        Some(instr) => issue(tables, slot_index, mem, access, instr, watch),
     }
 }
 
@@ -100,33 +113,32 @@ fn instr_in(word: Word) -> Option<Instr>
 }
 
 /// Goes on with the turn from the instruction.
-fn issue<M: Memory>(
+fn issue<M: Memory, W: Watch<M>>(
     tables: &mut Tables,
     slot_index: usize,
     mem: &mut M,
     access: Access,
     instr: Instr,
-    step: &mut Step,
+    watch: &mut W,
 )
     requires can { CanTurn tables.old slot_index }
     requires room { M.uses mem.old < 2 ^ 62 }
     ensures { (before : M) (u : Use) → TakesUses M.stands before mem.old (u ∷ []) → M.meaning mem.old ≡ M.meaning before
-        → M.uses mem.old ≡ M.uses before + accesses (u ∷ []) →
-        TakesTurn M.meaning M.uses M.stands
-        (issued tables.old (M.meaning before) (slot_in tables.old slot_index) access u instr)
-        before mem.new tables.new step.new }
+        → M.uses mem.old ≡ M.uses before + accesses (u ∷ []) → let s = slot_in tables.old slot_index in
+        let m = M.meaning before in
+        TakesTurn M.meaning M.uses M.stands W.tells (W.looks watch.old (told_at tables.old m s (Some instr)))
+        (issued tables.old m s access u instr) before mem.new tables.new watch.new }
 {
+    watch.look(tables, slot_index, mem, Some(instr));
     let number = tables.slot(slot_index).number;
     if must_wait(tables, slot_index, &instr) {
         let _register = tables.deliver(slot_index);
         tables.stand(slot_index, SlotState::Running);
-        write_step(step, Tick::Blocked, number, Some(access), None);
+        tell_step::<M, W>(watch, Tick::Blocked, number, Some(access));
         return;
     }
     let retired = execute(tables, slot_index, mem, &instr);
-    step.slot = number;
-    step.fetched = Some(access);
-    end(tables, slot_index, &instr, retired, step);
+    end::<M, W>(tables, slot_index, &instr, retired, number, access, watch);
 }
 
 /// Whether a register in the instruction waits for a load, in a split machine.
@@ -138,53 +150,65 @@ fn must_wait(tables: &Tables, slot_index: usize, instr: &Instr) -> bool
     tables.split() && lacks(instr, tables.slot(slot_index))
 }
 
-/// Ends a turn, whose step has the slot and the fetch: a slot that waits stays at its instruction, and a slot that
+/// Ends a turn of the slot of a number, and tells its step: a slot that waits stays at its instruction, and a slot that
 /// faults goes to its handler.
 #[inline(always)]
-fn end(tables: &mut Tables, slot_index: usize, instr: &Instr, retired: Retired, step: &mut Step)
+fn end<M: Memory, W: Watch<M>>(
+    tables: &mut Tables,
+    slot_index: usize,
+    instr: &Instr,
+    retired: Retired,
+    number: u8,
+    fetched: Access,
+    watch: &mut W,
+)
     requires { CanEnd retired.completion tables.old slot_index }
     ensures core { tables.new ≡ core_ended instr.now tables.old (slot_in tables.old slot_index) slot_index retired.completion }
-    ensures step { step.new
-        ≡ step_ended step.old.slot (slot_in tables.old slot_index) step.old.fetched retired.touched retired.completion }
+    ensures watch { watch.new
+        ≡ W.tells watch.old (step_ended number (slot_in tables.old slot_index) (Some fetched) retired.touched
+        retired.completion) }
 {
     let Retired {
         completion,
         touched,
     } = retired;
-    step.touched = touched;
-    step.entered = None;
-    match completion {
-        Completion::Did(entered) => {
-            step.tick = Tick::Did;
-            step.entered = entered;
-        }
+    let (tick, entered) = match completion {
+        Completion::Did(entered) => (Tick::Did, entered),
         Completion::Blocked => {
             tables.stand(slot_index, SlotState::Running);
-            step.tick = Tick::Blocked;
+            (Tick::Blocked, None)
         }
         Completion::Faulted(cause) => {
             let slot = tables.slot(slot_index);
             let (addr_op, value_op) = (addr_operand(instr, slot), value_operand(instr, slot));
-            step.tick = fault(tables, slot_index, cause, addr_op, value_op);
+            (fault(tables, slot_index, cause, addr_op, value_op), None)
         }
-    }
+    };
+    watch.tell(Step {
+        tick,
+        slot: number,
+        fetched: Some(fetched),
+        touched,
+        entered,
+    });
 }
 
-/// Writes the step of a turn that enters nothing. It is written field by field into the caller's step, since a step
-/// that is returned from function to function is copied at each of them.
+/// Tells the step of a turn that touches and enters nothing.
 #[inline(always)]
-pub(crate) fn write_step(
-    step: &mut Step,
+pub(crate) fn tell_step<M: Memory, W: Watch<M>>(
+    watch: &mut W,
     tick: Tick,
     slot: u8,
     fetched: Option<Access>,
-    touched: Option<Access>,
 )
-    ensures { step.new ≡ record { tick = tick; slot = slot; fetched = fetched; touched = touched; entered = None } }
+    ensures { watch.new
+        ≡ W.tells watch.old (record { tick = tick; slot = slot; fetched = fetched; touched = None; entered = None }) }
 {
-    step.tick = tick;
-    step.slot = slot;
-    step.fetched = fetched;
-    step.touched = touched;
-    step.entered = None;
+    watch.tell(Step {
+        tick,
+        slot,
+        fetched,
+        touched: None,
+        entered: None,
+    });
 }

@@ -19,12 +19,14 @@ ghost use Rattle.mm_word.specs.declared.cause.Cause.{Cause};
 ghost use Rattle.mm_model.specs.declared.step.Tick.{Tick};
 ghost use Rattle.mm_thread.specs.SlotIndices.{row_alone};
 ghost use Rattle.mm_thread.specs.StepAccesses.{accesses_in, accesses_shown};
+ghost use Rattle.mm_thread.specs.Told.{told_of, shown};
 
 use crate::build::{no_outputs, rows_of};
 use crate::item::take_item;
 use crate::output::Output;
 use crate::restore::{put_events, put_outputs, put_slots};
 use crate::tables::Tables;
+use crate::watch::{LastStep, Watch};
 use mm_mem::Memory;
 use mm_model::{Event, Slot, Step, Tick};
 use mm_word::NoMemory;
@@ -73,25 +75,30 @@ pub fn turn<M: Memory>(core: &mut Core, mem: &mut M, item: u8) -> Step
     // The step tells exactly the accesses that were made.
     ensures exactly { accesses_in (turn_of core.old (M.meaning mem.old) item).uses ≡ accesses_shown result }
 {
-    let mut step = Step::idle(item);
-    turn_into(core, mem, item, &mut step);
-    step
+    let mut last = LastStep {
+        step: Step::idle(item),
+    };
+    turn_watched(core, mem, item, &mut last);
+    last.step
 }
 
-/// Does what [`turn`] does, and writes the step into the caller's. A step that is returned is copied by each function
-/// that it passes through, so a loop of turns uses this call.
-pub fn turn_into<M: Memory>(core: &mut Core, mem: &mut M, item: u8, step: &mut Step)
+/// Does what [`turn`] does under an observer. A step that is returned is copied by each function that it passes through,
+/// so a loop of turns uses this call.
+pub fn turn_watched<M: Memory, W: Watch<M>>(core: &mut Core, mem: &mut M, item: u8, watch: &mut W)
     requires turns { AllByRecursion (λ (s : SlotValue). s.turns < 2 ^ 61) (slots_of core.old) }
     requires room { M.uses mem.old < 2 ^ 61 }
     ensures core { core.new ≡ (turn_of core.old (M.meaning mem.old) item).core }
     ensures memory { M.meaning mem.new ≡ (turn_of core.old (M.meaning mem.old) item).memory }
-    ensures step { step.new ≡ (turn_of core.old (M.meaning mem.old) item).step }
+
+    // The observer was shown what the turn can change, before it, and was told its step.
+    ensures watch { let m = M.meaning mem.old in
+        watch.new ≡ W.tells (shown W.looks watch.old (told_of core.old m item)) (turn_of core.old m item).step }
     ensures takes { TakesUses M.stands mem.old mem.new (turn_of core.old (M.meaning mem.old) item).uses }
     ensures count { M.uses mem.new ≡ M.uses mem.old + accesses (turn_of core.old (M.meaning mem.old) item).uses }
     ensures few { accesses (turn_of core.old (M.meaning mem.old) item).uses ≤ 2 }
     ensures whole { IsCore core.old }
 {
-    take_item(&mut core.tables, mem, item, step);
+    take_item(&mut core.tables, mem, item, watch);
 }
 
 impl Core {

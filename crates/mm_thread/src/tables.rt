@@ -32,7 +32,7 @@ use std::marker::Model;
 
 /// The slots by ascending number, each with its queue, the index of each number's slot, and the output of each group.
 #[derive(Drop)]
-pub(crate) struct Tables {
+pub struct Tables {
     rows: Vec<ThreadRow>,
     /// For each number the index of its row, and 64 if there is none.
     index: [u8; 64],

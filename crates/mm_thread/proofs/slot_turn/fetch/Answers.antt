@@ -1,7 +1,8 @@
 use Rattle.std.proofs.Common.{◌≡◌, [], ◌∷◌, true, false, Some, None, sym, ap, ◌∙◌}
 use Rattle.mm_word.specs.declared.cause.Cause.TheVariants.{NoPage, Illegal}
 use Rattle.mm_model.specs.{Memory.{Memory, cell_at}, Uses.Accessed, Turn.instr_in}
-use Rattle.mm_thread.{specs.SlotIndices.slot_in, proofs.Turns.{faults_give, fetched-none, fetched-some}}
+use Rattle.mm_thread.specs.{SlotIndices.slot_in, Told.told_at}
+use Rattle.mm_thread.proofs.Turns.{faults_give, fetched-none, fetched-some}
 use Rattle.mm_thread.proofs.slot_turn.fetch.Goals as goal
 
 pub returns-in_default : goal.returns-in_default
@@ -10,12 +11,14 @@ returns-in_default g c =
     let t = a.tables.now in
     let f = a.access in
     let m : Memory = g.M.Memory.meaning a.mem.now in
+    let s = slot_in t a.slot_index in
+    let seen = g.W.Watch.looks a.watch.now (told_at t m s None) in
     let cell : cell_at m f.addr ≡ None = fetched-none (cell_at m f.addr) (sym c.fetch.ensures.answer ∙ c.in_default.is) in
     let takes = rw cell at c.fetch.ensures.takes in
-    rw cell (faults_give g.M.Memory.meaning g.M.Memory.uses g.M.Memory.stands t m (slot_in t a.slot_index) NoPage (Some f)
+    rw cell (faults_give g.M.Memory.meaning g.M.Memory.uses g.M.Memory.stands g.W.Watch.tells seen t m s NoPage (Some f)
     (Accessed f.kind f.addr false false ∷ []) a.mem.now c.fetch.new.self c.fail_fetch.new.tables
-    c.fail_fetch.new.step
-    c.fail_fetch.ensures.core c.fetch.ensures.after c.fail_fetch.ensures.step takes c.fetch.ensures.count)
+    c.fail_fetch.new.watch
+    c.fail_fetch.ensures.core c.fetch.ensures.after c.fail_fetch.ensures.watch takes c.fetch.ensures.count)
 
 pub returns-in-None : goal.returns-in-None
 returns-in-None g c =
@@ -23,13 +26,15 @@ returns-in-None g c =
     let t = a.tables.now in
     let f = a.access in
     let m : Memory = g.M.Memory.meaning a.mem.now in
+    let s = slot_in t a.slot_index in
+    let seen = g.W.Watch.looks a.watch.now (told_at t m s None) in
     let found = fetched-some (cell_at m f.addr) c.in-Some.word (sym c.fetch.ensures.answer ∙ c.in-Some.is) in
     let takes = rw found.1 at c.fetch.ensures.takes in
     let none : instr_in (found.0).word ≡ None = ap instr_in found.2 ∙ sym c.instr_in.ensures ∙ c.in-None.is in
-    rw (found.1, none) (faults_give g.M.Memory.meaning g.M.Memory.uses g.M.Memory.stands t m (slot_in t a.slot_index) Illegal
+    rw (found.1, none) (faults_give g.M.Memory.meaning g.M.Memory.uses g.M.Memory.stands g.W.Watch.tells seen t m s Illegal
     (Some f) (Accessed f.kind f.addr true true ∷ []) a.mem.now c.fetch.new.self c.fail_fetch-in-None.new.tables
-    c.fail_fetch-in-None.new.step
-    c.fail_fetch-in-None.ensures.core c.fetch.ensures.after c.fail_fetch-in-None.ensures.step takes c.fetch.ensures.count)
+    c.fail_fetch-in-None.new.watch
+    c.fail_fetch-in-None.ensures.core c.fetch.ensures.after c.fail_fetch-in-None.ensures.watch takes c.fetch.ensures.count)
 
 pub returns-in-Some-instr_in : goal.returns-in-Some-instr_in
 returns-in-Some-instr_in g c =

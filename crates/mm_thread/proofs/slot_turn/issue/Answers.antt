@@ -1,6 +1,6 @@
-use Rattle.std.proofs.Common.{ℕ, Some, sym, ap, ◌∙◌}
-use Rattle.mm_model.specs.Slot.{Slot}
-use Rattle.mm_thread.specs.{SlotIndices.slot_in, Execution.step_ended}
+use Rattle.std.proofs.Common.{ℕ, Some, None, sym, ap, ◌∙◌}
+use Rattle.mm_model.specs.{Slot.Slot, Memory.Memory, declared.step.Tick.TheVariants.Blocked}
+use Rattle.mm_thread.specs.{SlotIndices.slot_in, Execution.step_ended, Told.told_at}
 use Rattle.mm_thread.proofs.{Cores.registers_small, Turns.{can_end, issued_gives, issued_waits, turns-delivered}}
 use Rattle.mm_thread.proofs.slot_turn.issue.Goals as goal
 
@@ -17,9 +17,13 @@ pub returns-then-must_wait : goal.returns-then-must_wait
 returns-then-must_wait g c = λ before u first same counted.
     let a = c.args in
     let number = ap (λ (x : Slot). x.number) (c.behind-tables.view_is ∙ c.slot.ensures) in
-    issued_waits g.M.Memory.meaning g.M.Memory.uses g.M.Memory.stands a.tables.now a.slot_index c.requires.can a.access u a.instr before a.mem.now first same counted
-    (sym c.must_wait.ensures ∙ c.if-must_wait.true) c.deliver-register.new.self c.stand.new.self c.write_step.new.step
-    c.behind-tables.inside.number c.deliver-register.ensures.slot c.stand.ensures number c.write_step.ensures
+    let tells = g.W.Watch.tells in
+    let told = λ (m : Memory). g.W.Watch.looks a.watch.now (told_at a.tables.now m (slot_in a.tables.now a.slot_index) (Some a.instr)) in
+    let seen = c.look.ensures ∙ ap told same in
+    issued_waits g.M.Memory.meaning g.M.Memory.uses g.M.Memory.stands tells (told (g.M.Memory.meaning before)) a.tables.now a.slot_index c.requires.can a.access u a.instr before a.mem.now first same counted
+    (sym c.must_wait.ensures ∙ c.if-must_wait.true) c.deliver-register.new.self c.stand.new.self c.tell_step.new.watch
+    c.behind-tables.inside.number c.deliver-register.ensures.slot c.stand.ensures number
+    (c.tell_step.ensures ∙ ap (λ v. tells v (record { tick = Blocked; slot = c.behind-tables.inside.number; fetched = Some a.access; touched = None; entered = None })) seen)
 
 pub end-requires : goal.end-requires
 end-requires g c =
@@ -31,7 +35,11 @@ pub returns : goal.returns
 returns g c = λ before u first same counted.
     let a = c.args in
     let number = ap (λ (x : Slot). x.number) (c.behind-tables.view_is ∙ c.slot.ensures) in
-    issued_gives g.M.Memory.meaning g.M.Memory.uses g.M.Memory.stands a.tables.now a.slot_index c.requires.can a.access u a.instr before a.mem.now first same counted
-    (sym c.must_wait.ensures ∙ c.if-must_wait.false) c.execute-retired.new.mem c.execute-retired.new.tables c.end.new.tables c.execute-retired.result c.end.new.step
+    let tells = g.W.Watch.tells in
+    let told = λ (m : Memory). g.W.Watch.looks a.watch.now (told_at a.tables.now m (slot_in a.tables.now a.slot_index) (Some a.instr)) in
+    let seen = c.look.ensures ∙ ap told same in
+    let step = λ (n : ℕ). step_ended n (slot_in c.execute-retired.new.tables a.slot_index) (Some a.access) c.execute-retired.result.touched c.execute-retired.result.completion in
+    issued_gives g.M.Memory.meaning g.M.Memory.uses g.M.Memory.stands tells (told (g.M.Memory.meaning before)) a.tables.now a.slot_index c.requires.can a.access u a.instr before a.mem.now first same counted
+    (sym c.must_wait.ensures ∙ c.if-must_wait.false) c.execute-retired.new.mem c.execute-retired.new.tables c.end.new.tables c.execute-retired.result c.end.new.watch
     c.execute-retired.ensures c.end.ensures.core
-    (c.end.ensures.step ∙ ap (λ (n : ℕ). step_ended n (slot_in c.execute-retired.new.tables a.slot_index) (Some a.access) c.execute-retired.result.touched c.execute-retired.result.completion) number)
+    (c.end.ensures.watch ∙ ap (λ v. tells v (step c.behind-tables.inside.number)) seen ∙ ap (λ (n : ℕ). tells (told (g.M.Memory.meaning before)) (step n)) number)

@@ -1,40 +1,44 @@
 use Rattle.std.proofs.Common.{◌≡◌, [], true, false, None, Ok, Err, sym, ap, ◌∙◌, refl, arith, pos}
 use Rattle.mm_word.specs.declared.{cause.Cause.TheVariants.Bounds, perm.Kind.TheVariants.Fetch}
 use Rattle.mm_word.specs.{declared.word.Word.TheVariants.Ptr, Access.check_result}
-use Rattle.mm_model.specs.{Slot.Slot, Uses.takes_none}
-use Rattle.mm_thread.specs.SlotIndices.{slot_in}
-use Rattle.mm_thread.proofs.Turns.{faults_give, starts_past, starts_unfetched, starts_fetched}
+use Rattle.mm_model.specs.{Slot.Slot, Memory.Memory, Uses.takes_none}
+use Rattle.mm_thread.specs.{SlotIndices.slot_in, Told.told_at}
+use Rattle.mm_thread.proofs.Turns.{faults_give, starts_past, starts_unfetched, starts_fetched, comes_past}
+use Rattle.mm_thread.proofs.Turns.{comes_unfetched, comes_fetched}
 use Rattle.mm_thread.proofs.slot_turn.start.Goals as goal
 
 pub returns-then-past : goal.returns-then-past
 returns-then-past g c =
     let a = c.args in
     let t = a.tables.now in
+    let m : Memory = g.M.Memory.meaning a.mem.now in
     let s = slot_in t a.slot_index in
     let past : s.past ≡ true = ap (λ (x : Slot). x.past) (sym (c.slot.view_is ∙ c.slot-slot.ensures)) ∙ c.if-past.true in
-    rw (starts_past t (g.M.Memory.meaning a.mem.now) s past)
-    (faults_give g.M.Memory.meaning g.M.Memory.uses g.M.Memory.stands t (g.M.Memory.meaning a.mem.now) s Bounds None [] a.mem.now a.mem.now c.fail_fetch.new.tables c.fail_fetch.new.step
-    c.fail_fetch.ensures.core refl c.fail_fetch.ensures.step (takes_none a.mem.now) (omega arith))
+    rw (starts_past t m s past, comes_past t m s past)
+    (faults_give g.M.Memory.meaning g.M.Memory.uses g.M.Memory.stands g.W.Watch.tells (g.W.Watch.looks a.watch.now (told_at t m s None)) t m s Bounds None [] a.mem.now a.mem.now c.fail_fetch.new.tables c.fail_fetch.new.watch
+    c.fail_fetch.ensures.core refl c.fail_fetch.ensures.watch (takes_none a.mem.now) (omega arith))
 
 pub returns-in-Err : goal.returns-in-Err
 returns-in-Err g c =
     let a = c.args in
     let t = a.tables.now in
+    let m : Memory = g.M.Memory.meaning a.mem.now in
     let s = slot_in t a.slot_index in
     let same = c.slot.view_is ∙ c.slot-slot.ensures in
     let past : s.past ≡ false = ap (λ (x : Slot). x.past) (sym same) ∙ c.if-past.false in
     let checked : check_result (Ptr s.ip) (pos 0) Fetch ≡ Err c.in-Err.cause = ap (λ (x : Slot). check_result (Ptr x.ip) (pos 0) Fetch) (sym same) ∙ sym c.in-Err.ensures.value in
-    rw (starts_unfetched t (g.M.Memory.meaning a.mem.now) s c.in-Err.cause past checked)
-    (faults_give g.M.Memory.meaning g.M.Memory.uses g.M.Memory.stands t (g.M.Memory.meaning a.mem.now) s c.in-Err.cause
-    None [] a.mem.now a.mem.now c.fail_fetch-in-Err.new.tables c.fail_fetch-in-Err.new.step
-    c.fail_fetch-in-Err.ensures.core refl c.fail_fetch-in-Err.ensures.step (takes_none a.mem.now) (omega arith))
+    rw (starts_unfetched t m s c.in-Err.cause past checked, comes_unfetched t m s c.in-Err.cause past checked)
+    (faults_give g.M.Memory.meaning g.M.Memory.uses g.M.Memory.stands g.W.Watch.tells (g.W.Watch.looks a.watch.now (told_at t m s None)) t m s c.in-Err.cause
+    None [] a.mem.now a.mem.now c.fail_fetch-in-Err.new.tables c.fail_fetch-in-Err.new.watch
+    c.fail_fetch-in-Err.ensures.core refl c.fail_fetch-in-Err.ensures.watch (takes_none a.mem.now) (omega arith))
 
 pub returns-in-Ok : goal.returns-in-Ok
 returns-in-Ok g c =
     let a = c.args in
     let t = a.tables.now in
+    let m : Memory = g.M.Memory.meaning a.mem.now in
     let s = slot_in t a.slot_index in
     let same = c.slot.view_is ∙ c.slot-slot.ensures in
     let past : s.past ≡ false = ap (λ (x : Slot). x.past) (sym same) ∙ c.if-past.false in
     let checked : check_result (Ptr s.ip) (pos 0) Fetch ≡ Ok c.in-Ok.access = ap (λ (x : Slot). check_result (Ptr x.ip) (pos 0) Fetch) (sym same) ∙ sym c.in-Ok.ensures.value in
-    rw (starts_fetched t (g.M.Memory.meaning a.mem.now) s c.in-Ok.access past checked) c.fetch.ensures
+    rw (starts_fetched t m s c.in-Ok.access past checked, comes_fetched t m s c.in-Ok.access past checked) c.fetch.ensures

@@ -1,4 +1,5 @@
-use Rattle.std.proofs.Common.{refl}
+use Rattle.std.proofs.Common.{refl, ap}
+use Rattle.mm_thread.specs.declared.watch.LastStep.{LastStep}
 use Rattle.mm_machine.specs.Machine.{state_of}
 use Rattle.mm_machine.proofs.{Keeping.{fault_changed, exactly}, Went.went_stands, Issuing.one_more_of}
 use Rattle.mm_machine.proofs.machine.Machine.cycle.Goals as goal
@@ -7,7 +8,7 @@ pub returns-clause-state : goal.returns-clause-state
 returns-clause-state g c = (one_more_of c.args.self.now c.issue.new.self c.args.item c.issue.ensures.goes).state
 
 pub returns-clause-step : goal.returns-clause-step
-returns-clause-step g c = c.issue.ensures.step c.args.item refl refl
+returns-clause-step g c = ap (λ (last : LastStep). last.step) (c.issue.ensures.watch c.args.item refl refl)
 
 pub returns-clause-takes : goal.returns-clause-takes
 returns-clause-takes g c = (one_more_of c.args.self.now c.issue.new.self c.args.item c.issue.ensures.goes).takes

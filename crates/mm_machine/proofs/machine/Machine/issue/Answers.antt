@@ -1,7 +1,7 @@
 use Rattle.std.{proofs.Common.{ℕ, Option, refl, sym, ap, ◌∙◌, arith}, specs.Option.option_or}
 use Rattle.mm_model.specs.State.{State}
 use Rattle.mm_machine.specs.Machine.{state_of}
-use Rattle.mm_machine.proofs.{Rounds.after_cycles, Issuing.{begins, cycle_more, cycle_step, ends, stops}}
+use Rattle.mm_machine.proofs.{Rounds.after_cycles, Issuing.{begins, cycle_more, cycle_watched, ends, stops}}
 use Rattle.mm_machine.proofs.machine.Machine.issue.Goals as goal
 
 pub loop-at-init : goal.loop-at-init
@@ -9,7 +9,7 @@ loop-at-init g c = record {
   cycles = omega (arith, c.requires.few);
   slot = c.requires.slot;
   issued = begins c.args.self.now c.args.items.now c.args.previous c.args.previous c.args.count refl;
-  step = λ n one none first. absurd (omega (arith, first));
+  watched = record { begins = λ first. refl; alone = λ n one none first. absurd (omega (arith, first)) };
   ports = refl;
 }
 
@@ -27,8 +27,8 @@ loop-at-preserved g c =
           (λ inside. let (next, same) = c.next_item.ensures.listed inside in (sym c.in-Some.is ∙ next, same))
           (λ past. let (next, same) = c.next_item.ensures.robin past in (sym c.in-Some.is ∙ next, same ∙ ap (λ (o : Option ℕ). option_or o c.loop-at.last) c.in-Some.is))
           c.advance.ensures.state c.advance.ensures.takes;
-      step = cycle_step old mid items c.args.previous c.loop-at.last c.args.count at item c.advance.new.step c.loop-at.invariant.issued
-          (λ inside. sym c.in-Some.is ∙ (c.next_item.ensures.listed inside).0) c.advance.ensures.step;
+      watched = cycle_watched g.W.Watch.tells g.W.Watch.looks c.args.watch.now old mid items c.args.previous c.loop-at.last c.args.count at item c.loop-at.watch c.advance.new.watch c.loop-at.invariant.issued
+          c.loop-at.invariant.watched (λ inside. sym c.in-Some.is ∙ (c.next_item.ensures.listed inside).0) c.advance.ensures.watch;
       ports = c.advance.ensures.ports ∙ c.loop-at.invariant.ports;
     }
 
