@@ -167,8 +167,8 @@ fn written(alloc: Global, pointers: &[GuardedPtr]) -> Result<SegSet, NoMemory>
     Ok(set)
 }
 
-/// The words that the live pointers of an image can write. Each segment is put at the end of the set, since the pointers
-/// are sorted before.
+/// The words that the live pointers of an image can write. The pointers are sorted by their bases, so that each segment
+/// is put at the end of the set.
 #[tactic(auto, using(crate::proofs::Writing::written_in_order))]
 fn writable(alloc: Global, image: &Image) -> Result<SegSet, NoMemory>
     ensures { IfOk result (λ set. CoversWritten (live_pointers image.now) set) }

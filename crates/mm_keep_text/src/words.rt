@@ -51,7 +51,7 @@ pub(crate) fn kept_words(alloc: Global, kernel: &Kernel) -> Result<BTreeSet<u64>
     Ok(words)
 }
 
-/// The first address of a segment, and the first one after it, as far as words have them.
+/// The first address of a segment, and the first one after it. A segment of 2^54 bytes or more has all words or none.
 fn bounds(part: Part) -> (u64, u64)
     ensures order { result.0 ≤ result.1 }
     ensures inside { (w : ℕ) → w < 2 ^ 54 → (lies_in w part ≡ true) ↔ ((result.0 ≤ w) × (w < result.1)) }

@@ -1,4 +1,4 @@
--- The lines of what a cycle changed, given what its turn showed before it did.
+-- The lines of what a cycle changed, given what its turn showed at its start.
 use Rattle.std.specs.Prelude.{ℕ, Bool, ◌&&◌, nat_lt, not, if◌then◌else◌, List, [], ◌∷◌, ◌++◌, drop, map}
 use Rattle.std.specs.Prelude.{Option, Some, None}
 use Rattle.std.specs.List.{flat_map}

@@ -101,7 +101,8 @@ fn put_slots<M: Memory, O: Sink>(
     }
 }
 
-/// Appends the line of the event that a fault queued, if one was queued.
+/// Appends the line of the event that a fault queued, if one was queued. It is made of the slot after the turn: a fault
+/// leaves registers and pointer as they were.
 #[inline(always)]
 fn put_queued<M: Memory, O: Sink>(
     text: &mut TextBuffer,
@@ -244,7 +245,7 @@ fn put_memory<M: Inspect, O: Sink>(
     }
 }
 
-/// Appends the lines of what the turn of a slot changed, given what it showed before it did.
+/// Appends the lines of what the turn of a slot changed, given what it showed at its start.
 fn put_seen<M: Inspect, O: Sink>(
     text: &mut TextBuffer,
     out: &mut O,

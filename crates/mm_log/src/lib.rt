@@ -1,7 +1,7 @@
 //! The trace of a run, and its commit log: the line of each turn, followed by all that the turn changed.
 //!
 //! After the line of a turn a log has the differences of two states. They are found without a copy of the first: the
-//! turn shows what it can change before it does, and after it these places are compared.
+//! turn shows what it can change at its start, and after it these places are compared.
 //!
 //! | what | modules |
 //! |---|---|

@@ -302,7 +302,7 @@ impl<M: Inspect> Machine<M> {
     ghost use Rattle.std.specs.Prelude.{◌≡◌, ◌<◌, ◌^◌, ℕ, List, [], ◌∷◌, ◌++◌};
     ghost use Rattle.mm_model.specs.Image.{Image as ImageValue};
     ghost use Rattle.mm_model.specs.Run.{turn_of, after};
-    ghost use Rattle.mm_machine.specs.Machine.{state_of, ports_used, StandsFor};
+    ghost use Rattle.mm_machine.specs.Machine.{state_of, ports_used, StandsFor, Takes};
     ghost use Rattle.mm_thread.specs.Told.{told_of, shown_in};
 
     /// Does what [`Machine::cycle`] does, and writes with the step what the turn could change, as it was before the turn.
@@ -311,6 +311,7 @@ impl<M: Inspect> Machine<M> {
         ensures state { state_of self.new ≡ after (state_of self.old) item }
         ensures step { last.new.step ≡ (turn_of (state_of self.old) item).step }
         ensures told { shown_in last.new ≡ told_of (state_of self.old).core (state_of self.old).memory item }
+        ensures takes { Takes self.old self.new (turn_of (state_of self.old) item).uses }
 
         // The machine after one item more, from the machine after any items of an image.
         ensures runs { (i : ImageValue) (items : List ℕ) → StandsFor i items self.old

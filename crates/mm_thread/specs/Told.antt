@@ -1,4 +1,4 @@
--- What a turn can change, as it is before the turn.
+-- What a turn can change of slots, outputs and memory, but for the count of turns, as it is before the turn.
 use Rattle.std.specs.Prelude.{ℕ, ◌*◌, Bool, ◌&&◌, map, if◌then◌else◌, pos, length, List, [], ◌∷◌, Option, Some, None, is_some, Result}
 use Rattle.std.specs.Prelude.{Ok, Err}
 use Rattle.mm_word.specs.declared.{perm.Kind.TheVariants.Fetch, cause.Cause.Cause}
@@ -47,9 +47,9 @@ pub data There : Type 0 where
   Nothing : There
   -- the cell of an access
   CellAt : (access : AccessValue) (cell : Cell) → There
-  -- a page, and whether it is mapped
+  -- a page, and whether it is there: in a memory of whole pages, whether it is mapped
   PageAt : (page : ℕ) (mapped : Bool) → There
-  -- the slot that the instruction serves, or that of the event that it reads
+  -- the slot that the instruction names, or that of the event that it reads
   SlotAt : (was : Was) → There
 
 abbrev pub cell_there : AccessValue → Option Cell → There
@@ -159,7 +159,7 @@ abbrev pub shown : {W : Type 0} → (W → Told → W) → W → Option Told →
 shown looks w None = w
 shown looks w (Some told) = looks w told
 
--- 4. What is kept of it: in place, so that the other slot stays as it was kept before where there is none.
+-- 4. What is kept of it, in place. If no other slot is shown, the one kept before stays.
 
 abbrev pub kind_of : There → Beside
 kind_of There.Nothing = beside.Nothing

@@ -16,7 +16,7 @@ use crate::watch::Watch;
 use mm_mem::Memory;
 use mm_model::{Slot, SlotState, Tick};
 
-/// Takes the turn of an item, which the observer is shown if it is one of a slot, and tells its step.
+/// Takes the turn of an item, which the observer is shown if it is a slot's or a port's, and tells its step.
 pub(crate) fn take_item<M: Memory, W: Watch<M>>(
     tables: &mut Tables,
     mem: &mut M,

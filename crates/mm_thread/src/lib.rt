@@ -1,7 +1,7 @@
 //! One turn of a machine over any memory.
 //!
 //! A [`Core`] has the slots, the queues of their events and the outputs of groups. [`turn_watched`] takes the turn of an
-//! item: it changes the core and the memory, shows its observer what it can change before it does, and tells it the
+//! item: it changes the core and the memory, shows its observer at its start what it can change, and tells it the
 //! step.
 //!
 //! | what | modules |

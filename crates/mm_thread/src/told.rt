@@ -1,4 +1,4 @@
-//! What the turn of a slot can change, as it is before the turn.
+//! What the turn of a slot can change of slots, outputs and memory, but for the count of turns, as it is before the turn.
 #![tactic(auto)]
 
 ghost use Rattle.std.specs.Prelude.{◌≡◌, ℕ, ◌+◌, ◌<◌, ◌≤◌, [], ◌∷◌, ◌++◌, length};
@@ -142,7 +142,7 @@ pub enum Beside {
     Cell(Access, Cell),
     /// A page, and whether it is mapped.
     Page(u64, bool),
-    /// The slot that the instruction serves, or that of the event that it reads.
+    /// The slot that the instruction names, or that of the event that it reads.
     Slot,
 }
 
@@ -155,7 +155,7 @@ pub struct Kept {
     /// The instruction that the turn comes to, if it comes to one.
     pub instr: Option<Instr>,
     pub beside: Beside,
-    /// The slot besides the turn's own, if there is one; else what an earlier turn left.
+    /// The slot that the instruction asks for, if it asks for one; else what an earlier turn left.
     pub other: Was,
     /// The number of bytes that the slot's group has put out.
     pub output: usize,

@@ -6,8 +6,9 @@ use mm_isa::Instr;
 use mm_mem::{Inspect, Memory};
 use mm_model::Step;
 
-/// An observer of turns over a memory. Each turn of a slot is shown to it before anything is changed, and every step is
-/// told to it at the turn's end. It is called twice because a turn writes over what it changes.
+/// An observer of turns over a memory. Each turn of a slot and each delivery of a port is shown to it before the state
+/// changes, and every step is told to it at the turn's end. It is called twice because a turn writes over what it
+/// changes. The observers are those below: what is shown is the tables, which other crates do not see.
 pub trait Watch<M: Memory> {
     ghost use Rattle.std.specs.Prelude.{◌≡◌, ◌<◌, length};
     ghost use Rattle.mm_model.specs.declared.step.Step.{Step as StepValue};

@@ -14,5 +14,8 @@ returns-clause-told g c =
     let s = state_of c.args.self.now in
     ap shown_in (c.issue.ensures.watch c.args.item refl refl) ∙ told_kept (record c.args.last.now { shown = false }) refl (told_of s.core s.memory c.args.item)
 
+pub returns-clause-takes : goal.returns-clause-takes
+returns-clause-takes g c = (one_more_of c.args.self.now c.issue.new.self c.args.item c.issue.ensures.goes).takes
+
 pub returns-clause-runs : goal.returns-clause-runs
 returns-clause-runs g c i items h = went_stands i items _ c.args.self.now c.issue.new.self h (one_more_of c.args.self.now c.issue.new.self c.args.item c.issue.ensures.goes).went
