@@ -1,9 +1,10 @@
 //! The turn of a slot, from its fetch to its end.
 
-ghost use Rattle.std.specs.Prelude.{◌≡◌, ◌+◌, ◌<◌, ◌^◌, ◌&&◌, length, None, Some, [], ◌∷◌};
+ghost use Rattle.std.specs.Prelude.{◌≡◌, ◌+◌, ◌<◌, ◌^◌, ◌&&◌, true, false, length, None, Some, IfSome, [], ◌∷◌};
+ghost use Rattle.mm_word.specs.declared.word.Cell.{Cell};
 ghost use Rattle.mm_model.specs.Memory.{cell_at};
-ghost use Rattle.mm_model.specs.Uses.{Use, accesses, TakesUses};
-ghost use Rattle.mm_model.specs.Operands.{lacks};
+ghost use Rattle.mm_model.specs.Uses.{Use, Accessed, accesses, TakesUses};
+ghost use Rattle.mm_model.specs.Operands.{addr_operand, value_operand, lacks};
 ghost use Rattle.mm_model.specs.Turn.{issued, fetched, started, instr_in, core_faulted, event_of, tick_faulted};
 ghost use Rattle.mm_thread.specs.SlotIndices.{slot_in};
 ghost use Rattle.mm_thread.specs.Told.{told_at, in_cell, comes_to};
@@ -15,12 +16,13 @@ use crate::fault::fault;
 use crate::operands::{addr_operand, lacks, value_operand};
 use crate::tables::Tables;
 use crate::watch::Watch;
-use mm_isa::{Instr, read};
+use mm_isa::{Instr, common, read};
 use mm_mem::Memory;
 use mm_model::{SlotState, Step, Tick};
 use mm_word::{Access, Cause, Kind, Word, check};
 
 /// Takes the turn of the running slot at `slot_index`, which the observer is shown, and tells its step.
+#[inline(always)]
 pub(crate) fn start<M: Memory, W: Watch<M>>(
     tables: &mut Tables,
     slot_index: usize,
@@ -48,6 +50,8 @@ pub(crate) fn start<M: Memory, W: Watch<M>>(
 }
 
 /// Ends a turn by a fault before an instruction is known: it has no operands.
+#[cold]
+#[inline(never)]
 fn fail_fetch<M: Memory, W: Watch<M>>(
     tables: &mut Tables,
     slot_index: usize,
@@ -75,6 +79,7 @@ fn fail_fetch<M: Memory, W: Watch<M>>(
 }
 
 /// Goes on with the turn from the fetch.
+#[inline(always)]
 fn fetch<M: Memory, W: Watch<M>>(
     tables: &mut Tables,
     slot_index: usize,
@@ -95,6 +100,47 @@ fn fetch<M: Memory, W: Watch<M>>(
         fail_fetch(tables, slot_index, mem, Cause::NoPage, Some(access), watch);
         return;
     };
+    match likely(tables, word) {
+        Some(instr) => {
+            watch.look(tables, slot_index, mem, Some(instr));
+            carry::<M, W>(tables, slot_index, mem, access, instr, watch);
+        }
+        None => read_on(tables, slot_index, mem, access, word, watch),
+    }
+}
+
+/// The instruction of a word, if the machine is not split and the instruction is one that most words spell.
+#[inline(always)]
+fn likely(tables: &Tables, word: Word) -> Option<Instr>
+    ensures { IfSome result (λ i. (tables.now.split ≡ false) × (instr_in word ≡ Some i)) }
+{
+    match word {
+        Word::Int(bits) if !tables.split() => common(bits),
+        _ => None,
+    }
+}
+
+/// Goes on with the turn from the word that was fetched, whatever it spells. It stays a call, so that the loop of cycles
+/// has the common instructions alone.
+#[inline(never)]
+fn read_on<M: Memory, W: Watch<M>>(
+    tables: &mut Tables,
+    slot_index: usize,
+    mem: &mut M,
+    access: Access,
+    word: Word,
+    watch: &mut W,
+)
+    requires can { CanTurn tables.old slot_index }
+    requires room { M.uses mem.old < 2 ^ 62 }
+    ensures { (before : M) (cell : Cell) → let m = M.meaning before in
+        let us = Accessed access.kind access.addr true true ∷ [] in
+        TakesUses M.stands before mem.old us → M.meaning mem.old ≡ m → M.uses mem.old ≡ M.uses before + accesses us
+        → cell.word ≡ word → let s = slot_in tables.old slot_index in
+        TakesTurn M.meaning M.uses M.stands W.tells
+        (W.looks watch.old (told_at tables.old m s (in_cell (Some cell))))
+        (fetched tables.old m s access (Some cell)) before mem.new tables.new watch.new }
+{
     match instr_in(word) {
         None => fail_fetch(tables, slot_index, mem, Cause::Illegal, Some(access), watch),
         Some(instr) => issue(tables, slot_index, mem, access, instr, watch),
@@ -113,6 +159,7 @@ fn instr_in(word: Word) -> Option<Instr>
 }
 
 /// Goes on with the turn from the instruction.
+#[inline(always)]
 fn issue<M: Memory, W: Watch<M>>(
     tables: &mut Tables,
     slot_index: usize,
@@ -137,8 +184,30 @@ fn issue<M: Memory, W: Watch<M>>(
         tell_step::<M, W>(watch, Tick::Blocked, number, Some(access));
         return;
     }
+    carry::<M, W>(tables, slot_index, mem, access, instr, watch);
+}
+
+/// Carries out an instruction that waits for no register, which the observer was shown, and ends the turn.
+#[inline(always)]
+fn carry<M: Memory, W: Watch<M>>(
+    tables: &mut Tables,
+    slot_index: usize,
+    mem: &mut M,
+    access: Access,
+    instr: Instr,
+    watch: &mut W,
+)
+    requires can { CanTurn tables.old slot_index }
+    requires free { (tables.old.split && lacks instr (slot_in tables.old slot_index)) ≡ false }
+    requires room { M.uses mem.old < 2 ^ 62 }
+    ensures { (before : M) (u : Use) → TakesUses M.stands before mem.old (u ∷ []) → M.meaning mem.old ≡ M.meaning before
+        → M.uses mem.old ≡ M.uses before + accesses (u ∷ []) → let s = slot_in tables.old slot_index in
+        TakesTurn M.meaning M.uses M.stands W.tells watch.old
+        (issued tables.old (M.meaning before) s access u instr) before mem.new tables.new watch.new }
+{
+    let number = tables.slot(slot_index).number;
     let retired = execute(tables, slot_index, mem, &instr);
-    end::<M, W>(tables, slot_index, &instr, retired, number, access, watch);
+    end::<M, W>(tables, slot_index, instr, retired, number, access, watch);
 }
 
 /// Whether a register in the instruction waits for a load, in a split machine.
@@ -156,14 +225,14 @@ fn must_wait(tables: &Tables, slot_index: usize, instr: &Instr) -> bool
 fn end<M: Memory, W: Watch<M>>(
     tables: &mut Tables,
     slot_index: usize,
-    instr: &Instr,
+    instr: Instr,
     retired: Retired,
     number: u8,
     fetched: Access,
     watch: &mut W,
 )
     requires { CanEnd retired.completion tables.old slot_index }
-    ensures core { tables.new ≡ core_ended instr.now tables.old (slot_in tables.old slot_index) slot_index retired.completion }
+    ensures core { tables.new ≡ core_ended instr tables.old (slot_in tables.old slot_index) slot_index retired.completion }
     ensures watch { watch.new
         ≡ W.tells watch.old (step_ended number (slot_in tables.old slot_index) (Some fetched) retired.touched
         retired.completion) }
@@ -178,11 +247,7 @@ fn end<M: Memory, W: Watch<M>>(
             tables.stand(slot_index, SlotState::Running);
             (Tick::Blocked, None)
         }
-        Completion::Faulted(cause) => {
-            let slot = tables.slot(slot_index);
-            let (addr_op, value_op) = (addr_operand(instr, slot), value_operand(instr, slot));
-            (fault(tables, slot_index, cause, addr_op, value_op), None)
-        }
+        Completion::Faulted(cause) => (fail(tables, slot_index, instr, cause), None),
     };
     watch.tell(Step {
         tick,
@@ -191,6 +256,21 @@ fn end<M: Memory, W: Watch<M>>(
         touched,
         entered,
     });
+}
+
+/// The fault of an instruction, whose event has its operands. The instruction is handed over by value, so that a turn that
+/// does not fault need not keep it in memory.
+#[cold]
+#[inline(never)]
+fn fail(tables: &mut Tables, slot_index: usize, instr: Instr, cause: Cause) -> Tick
+    requires { CanTurn tables.old slot_index }
+    ensures core { let s = slot_in tables.old slot_index in
+        tables.new ≡ core_faulted tables.old s (event_of s cause (addr_operand instr s) (value_operand instr s)) s.handler }
+    ensures tick { result ≡ tick_faulted cause (slot_in tables.old slot_index).handler }
+{
+    let slot = tables.slot(slot_index);
+    let (addr_op, value_op) = (addr_operand(&instr, slot), value_operand(&instr, slot));
+    fault(tables, slot_index, cause, addr_op, value_op)
 }
 
 /// Tells the step of a turn that touches and enters nothing.

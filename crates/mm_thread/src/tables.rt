@@ -100,6 +100,7 @@ impl Tables {
     }
 
     /// The index of the slot of a number, if there is one.
+    #[inline(always)]
     pub(crate) fn find_slot(&self, number: u64) -> Option<usize>
         ensures within { IfSome result (λ p. p < length self.now.rows) }
         ensures number { IfSome result (λ p. (slot_in self.now p).number ≡ number) }
@@ -118,6 +119,7 @@ impl Tables {
     }
 
     /// The slot at `slot_index`.
+    #[inline(always)]
     pub(crate) fn slot(&self, slot_index: usize) -> &Slot
         requires { slot_index < length self.now.rows }
         ensures { result.now ≡ slot_in self.now slot_index }
@@ -176,6 +178,7 @@ impl Tables {
     }
 
     /// Whether the machine is split: its loads are delivered in turns of their own.
+    #[inline(always)]
     pub(crate) fn split(&self) -> bool
         ensures { result ≡ self.now.split }
     {
@@ -198,6 +201,7 @@ impl Tables {
     }
 
     /// Lets the slot go on to its next instruction.
+    #[inline(always)]
     pub(crate) fn advance(&mut self, slot_index: usize)
         requires slot_index { slot_index < length self.old.rows }
         requires runs { is_running (slot_in self.old slot_index).state ≡ true }
@@ -212,6 +216,7 @@ impl Tables {
     }
 
     /// Writes a word to a register of the slot, and lets the slot go on.
+    #[inline(always)]
     pub(crate) fn sets(&mut self, slot_index: usize, rd: Reg, word: Word)
         requires slot_index { slot_index < length self.old.rows }
         requires runs { is_running (slot_in self.old slot_index).state ≡ true }

@@ -210,6 +210,7 @@ impl VMem {
     }
 
     /// Writes the cell of a word whose block is in its line.
+    #[inline(always)]
     fn write(&mut self, word: u64, cell: Cell)
         requires { hits self.old.lines (block_of word) ≡ true }
         ensures after { meaning self.new ≡ put_cell (meaning self.old) word cell }
@@ -233,11 +234,13 @@ impl Memory for VMem {
 
     ghost counted = { λ m us h. h.count };
 
+    #[inline(always)]
     fn fetch(&mut self, a: &Access) -> Option<Word> {
         let cell = self.touch(a.addr())?;
         Some(cell.word)
     }
 
+    #[inline(always)]
     fn load(&mut self, a: &Access, pre: Pre, post: Post) -> Loaded {
         let word = a.addr();
         let Some(cell) = self.touch(word) else {
@@ -260,6 +263,7 @@ impl Memory for VMem {
         Loaded::Value(cell.word)
     }
 
+    #[inline(always)]
     fn store(&mut self, a: &Access, w: Word, pre: Pre, post: Post) -> Stored {
         let word = a.addr();
         let Some(cell) = self.touch(word) else {
