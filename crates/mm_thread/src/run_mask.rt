@@ -34,6 +34,16 @@ pub(crate) fn keep_running(runners: u64, slot: &Slot) -> u64
     }
 }
 
+/// The set after a turn of a slot that ran and runs on: it stays as it is.
+#[inline(always)]
+pub(crate) fn ran_on(runners: u64, slot: &Slot) -> u64
+    requires ran { bit_at runners slot.now.number ≡ 1 }
+    requires runs { is_running slot.now.state ≡ true }
+    ensures { IsNoted runners result slot.now }
+{
+    runners
+}
+
 /// The set without a slot that does not run.
 #[cold]
 #[inline(never)]

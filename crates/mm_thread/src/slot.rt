@@ -65,8 +65,8 @@ pub(crate) fn sets(slot: &mut Slot, rd: Reg, word: Word)
     requires { slot.old.turns < 2 ^ 62 }
     ensures { slot.new ≡ slot_after slot.old (record (plain slot.old) { writes = (rd, word) ∷ [] }) }
 {
-    set_register(slot, rd, word);
     advance(slot);
+    set_register(slot, rd, word);
 }
 
 /// Goes on at another instruction.

@@ -23,7 +23,7 @@ use crate::carry_out::carry_out;
 use crate::group_output::GroupOutput;
 use crate::local_ops::Entered;
 use crate::row::ThreadRow;
-use crate::run_mask::{keep_running, noted, runners_of};
+use crate::run_mask::{keep_running, noted, ran_on, runners_of};
 use crate::slot::{advance, deliver, issue, resume, set_register, sets, stand, take_event};
 use mm_isa::{EvtReg, How, Instr, Reg};
 use mm_model::{Event, Slot, SlotState, output_limit};
@@ -212,7 +212,7 @@ impl Tables {
         let row = &mut self.rows[slot_index];
         let slot = &mut row.slot;
         advance(slot);
-        self.runners = keep_running(self.runners, slot);
+        self.runners = ran_on(self.runners, slot);
     }
 
     /// Writes a word to a register of the slot, and lets the slot go on.
@@ -228,7 +228,7 @@ impl Tables {
         let row = &mut self.rows[slot_index];
         let slot = &mut row.slot;
         sets(slot, rd, word);
-        self.runners = keep_running(self.runners, slot);
+        self.runners = ran_on(self.runners, slot);
     }
 
     /// Issues a load of the slot: the word arrives in the register later. The slot goes on.
@@ -245,7 +245,7 @@ impl Tables {
         let row = &mut self.rows[slot_index];
         let slot = &mut row.slot;
         issue(slot, rd, word);
-        self.runners = keep_running(self.runners, slot);
+        self.runners = ran_on(self.runners, slot);
     }
 
     /// Carries out an instruction of the slot that concerns it alone.
@@ -279,7 +279,7 @@ impl Tables {
         let row = &mut self.rows[slot_index];
         let slot = &mut row.slot;
         take_event(slot, rd, event);
-        self.runners = keep_running(self.runners, slot);
+        self.runners = ran_on(self.runners, slot);
     }
 
     /// Delivers the slot's oldest pending load, and gives its register; `None` if no load is pending.
