@@ -1,6 +1,6 @@
 //! Instructions read from their words.
 
-ghost use Rattle.std.specs.Prelude.{◌≡◌, ◌≢◌, ◌≤◌, IfSome, IfNone};
+ghost use Rattle.std.specs.Prelude.{◌≡◌, ◌≢◌, ◌+◌, ◌<◌, ◌≤◌, ◌/◌, ◌%◌, ◌^◌, ◌==◌, ◌&&◌, not, IfSome, IfNone, Some};
 ghost use Rattle.mm_isa.specs.declared.instr.Instr.{Instr};
 ghost use Rattle.mm_isa.specs.Table.{number_of, spelling, IsInstr};
 ghost use Rattle.mm_isa.specs.Decode.{instr_of, row_of, pre_in, post_in, how_in, register_in};
@@ -32,6 +32,78 @@ pub fn read(w: u64) -> Option<Instr>
 {
     let i = row(Fields::of_word(w))?;
     if summed(&i) == w { Some(i) } else { None }
+}
+
+/// The instruction that a word spells, if it is one of the twelve that most words spell; `None` at any other word. Each row
+/// tests the bits that its instruction leaves zero, so that a compiler joins this table with the one that carries
+/// instructions out.
+#[inline(always)]
+#[tactic(auto, using(crate::proofs::CommonRows::common_rows))]
+pub fn common(w: u64) -> Option<Instr>
+    ensures { IfSome result (λ i. instr_of w ≡ Some i) }
+{
+    let Fields {
+        operation,
+        rd,
+        ra,
+        rb,
+        c,
+        imm,
+    } = Fields::of_word(w);
+    match operation {
+        0x02 if are_zero(w, 32, 20) => Some(Instr::Ldi { rd, imm }),
+        0x04 if are_zero(w, 0, 48) => Some(Instr::Mov { rd, ra }),
+        0x10 if are_zero(w, 0, 44) => Some(Instr::Alu {
+            op: AluOp::Add,
+            rd,
+            ra,
+            rb,
+        }),
+        0x11 if are_zero(w, 0, 44) => Some(Instr::Alu {
+            op: AluOp::Sub,
+            rd,
+            ra,
+            rb,
+        }),
+        0x1e if are_zero(w, 32, 16) => Some(Instr::Addi { rd, ra, imm }),
+        0x20 if are_zero(w, 0, 44) => Some(Instr::Lea { rd, ra, rb }),
+        0x21 if are_zero(w, 32, 16) => Some(Instr::Leai { rd, ra, imm }),
+        0x30 if are_zero(w, 44, 4) && are_zero(w, 32, 8) && are_conditions(c) => Some(Instr::Ld {
+            rd,
+            ra,
+            pre: pre_of(c),
+            post: post_of(c),
+            imm,
+        }),
+        0x31 if are_zero(w, 52, 4) && are_zero(w, 32, 8) && are_conditions(c) => Some(Instr::St {
+            ra,
+            rb,
+            pre: pre_of(c),
+            post: post_of(c),
+            imm,
+        }),
+        0x40 if are_zero(w, 32, 24) => Some(Instr::Br { imm }),
+        0x41 if are_zero(w, 52, 4) && are_zero(w, 32, 16) => Some(Instr::Bz { ra, imm }),
+        0x42 if are_zero(w, 52, 4) && are_zero(w, 32, 16) => Some(Instr::Bnz { ra, imm }),
+        _ => None,
+    }
+}
+
+/// Whether `count` bits of a word, from bit `from` on, are zero.
+#[inline(always)]
+fn are_zero(w: u64, from: u32, count: u32) -> bool
+    requires { from + count < 64 }
+    ensures { result ≡ (w / 2 ^ from % 2 ^ count == 0) }
+{
+    w >> from & ((1 << count) - 1) == 0
+}
+
+/// Whether both halves of a field `c` name a condition.
+#[inline(always)]
+fn are_conditions(c: u8) -> bool
+    ensures { result ≡ (not (c / 4 == 3) && not (c % 4 == 3)) }
+{
+    c / 4 != 3 && c % 4 != 3
 }
 
 /// The instruction of the fields' operation, with the fields that it uses. The other fields are ignored.
@@ -135,6 +207,7 @@ fn op_of(number: u8) -> AluOp
 }
 
 /// The precondition that the upper two bits of a 4-bit `c` name: 0 any, 1 full, else empty.
+#[inline(always)]
 fn pre_of(c: u8) -> Pre
     ensures { result ≡ pre_in c }
 {
@@ -146,6 +219,7 @@ fn pre_of(c: u8) -> Pre
 }
 
 /// The postcondition that the lower two bits of `c` name: 0 keep, 1 full, else empty.
+#[inline(always)]
 fn post_of(c: u8) -> Post
     ensures { result ≡ post_in c }
 {
