@@ -1,11 +1,13 @@
 //! The turn of a slot, from its fetch to its end.
 
-ghost use Rattle.std.specs.Prelude.{◌≡◌, ◌+◌, ◌<◌, ◌^◌, ◌&&◌, true, false, length, None, Some, IfSome, [], ◌∷◌};
+ghost use Rattle.std.specs.Prelude.{◌≡◌, ◌+◌, ◌<◌, ◌^◌, ◌&&◌, true, false, length, None, Some, IfSome, is_some, [], ◌∷◌};
 ghost use Rattle.mm_word.specs.declared.word.Cell.{Cell};
+ghost use Rattle.mm_isa.specs.declared.instr.Instr.{Instr};
+ghost use Rattle.mm_isa.specs.Decode.{instr_of};
 ghost use Rattle.mm_model.specs.Memory.{cell_at};
 ghost use Rattle.mm_model.specs.Uses.{Use, Accessed, accesses, TakesUses};
 ghost use Rattle.mm_model.specs.Operands.{addr_operand, value_operand, lacks};
-ghost use Rattle.mm_model.specs.Turn.{issued, fetched, started, instr_in, core_faulted, event_of, tick_faulted};
+ghost use Rattle.mm_model.specs.Turn.{issued, fetched, started, core_faulted, event_of, tick_faulted};
 ghost use Rattle.mm_thread.specs.SlotIndices.{slot_in};
 ghost use Rattle.mm_thread.specs.Told.{told_at, in_cell, comes_to};
 ghost use Rattle.mm_thread.specs.Execution.{CanTurn, CanEnd, TakesTurn, core_ended, step_ended};
@@ -16,7 +18,7 @@ use crate::fault::fault;
 use crate::operands::{addr_operand, lacks, value_operand};
 use crate::tables::Tables;
 use crate::watch::Watch;
-use mm_isa::{Instr, common, read};
+use mm_isa::{Instr, common, decode, read};
 use mm_mem::Memory;
 use mm_model::{SlotState, Step, Tick};
 use mm_word::{Access, Cause, Kind, Word, check};
@@ -100,24 +102,25 @@ fn fetch<M: Memory, W: Watch<M>>(
         fail_fetch(tables, slot_index, mem, Cause::NoPage, Some(access), watch);
         return;
     };
-    match likely(tables, word) {
+    let Word::Int(bits) = word else {
+        fail_fetch(tables, slot_index, mem, Cause::Illegal, Some(access), watch);
+        return;
+    };
+    match likely(tables, bits) {
         Some(instr) => {
             watch.look(tables, slot_index, mem, Some(instr));
-            carry::<M, W>(tables, slot_index, mem, access, instr, watch);
+            carry::<M, W>(tables, slot_index, mem, access, bits, instr, watch);
         }
-        None => read_on(tables, slot_index, mem, access, word, watch),
+        None => read_on(tables, slot_index, mem, access, bits, watch),
     }
 }
 
 /// The instruction of a word, if the machine is not split and the instruction is one that most words spell.
 #[inline(always)]
-fn likely(tables: &Tables, word: Word) -> Option<Instr>
-    ensures { IfSome result (λ i. (tables.now.split ≡ false) × (instr_in word ≡ Some i)) }
+fn likely(tables: &Tables, bits: u64) -> Option<Instr>
+    ensures { IfSome result (λ i. (tables.now.split ≡ false) × (instr_of bits ≡ Some i)) }
 {
-    match word {
-        Word::Int(bits) if !tables.split() => common(bits),
-        _ => None,
-    }
+    if tables.split() { None } else { common(bits) }
 }
 
 /// Goes on with the turn from the word that was fetched, whatever it spells. It stays a call, so that the loop of cycles
@@ -128,7 +131,7 @@ fn read_on<M: Memory, W: Watch<M>>(
     slot_index: usize,
     mem: &mut M,
     access: Access,
-    word: Word,
+    bits: u64,
     watch: &mut W,
 )
     requires can { CanTurn tables.old slot_index }
@@ -136,25 +139,14 @@ fn read_on<M: Memory, W: Watch<M>>(
     ensures { (before : M) (cell : Cell) → let m = M.meaning before in
         let us = Accessed access.kind access.addr true true ∷ [] in
         TakesUses M.stands before mem.old us → M.meaning mem.old ≡ m → M.uses mem.old ≡ M.uses before + accesses us
-        → cell.word ≡ word → let s = slot_in tables.old slot_index in
+        → cell.word ≡ Word.Int bits → let s = slot_in tables.old slot_index in
         TakesTurn M.meaning M.uses M.stands W.tells
         (W.looks watch.old (told_at tables.old m s (in_cell (Some cell))))
         (fetched tables.old m s access (Some cell)) before mem.new tables.new watch.new }
 {
-    match instr_in(word) {
+    match read(bits) {
         None => fail_fetch(tables, slot_index, mem, Cause::Illegal, Some(access), watch),
-        Some(instr) => issue(tables, slot_index, mem, access, instr, watch),
-    }
-}
-
-/// The instruction that a word spells.
-#[inline(always)]
-fn instr_in(word: Word) -> Option<Instr>
-    ensures { result ≡ instr_in word }
-{
-    match word {
-        Word::Int(bits) => read(bits),
-        Word::Ptr(_) => None,
+        Some(instr) => issue(tables, slot_index, mem, access, bits, instr, watch),
     }
 }
 
@@ -165,10 +157,12 @@ fn issue<M: Memory, W: Watch<M>>(
     slot_index: usize,
     mem: &mut M,
     access: Access,
+    bits: u64,
     instr: Instr,
     watch: &mut W,
 )
     requires can { CanTurn tables.old slot_index }
+    requires spelled { instr_of bits ≡ Some instr }
     requires room { M.uses mem.old < 2 ^ 62 }
     ensures { (before : M) (u : Use) → TakesUses M.stands before mem.old (u ∷ []) → M.meaning mem.old ≡ M.meaning before
         → M.uses mem.old ≡ M.uses before + accesses (u ∷ []) → let s = slot_in tables.old slot_index in
@@ -184,7 +178,7 @@ fn issue<M: Memory, W: Watch<M>>(
         tell_step::<M, W>(watch, Tick::Blocked, number, Some(access));
         return;
     }
-    carry::<M, W>(tables, slot_index, mem, access, instr, watch);
+    carry::<M, W>(tables, slot_index, mem, access, bits, instr, watch);
 }
 
 /// Carries out an instruction that waits for no register, which the observer was shown, and ends the turn.
@@ -194,10 +188,12 @@ fn carry<M: Memory, W: Watch<M>>(
     slot_index: usize,
     mem: &mut M,
     access: Access,
+    bits: u64,
     instr: Instr,
     watch: &mut W,
 )
     requires can { CanTurn tables.old slot_index }
+    requires spelled { instr_of bits ≡ Some instr }
     requires free { (tables.old.split && lacks instr (slot_in tables.old slot_index)) ≡ false }
     requires room { M.uses mem.old < 2 ^ 62 }
     ensures { (before : M) (u : Use) → TakesUses M.stands before mem.old (u ∷ []) → M.meaning mem.old ≡ M.meaning before
@@ -207,7 +203,7 @@ fn carry<M: Memory, W: Watch<M>>(
 {
     let number = tables.slot(slot_index).number;
     let retired = execute(tables, slot_index, mem, &instr);
-    end::<M, W>(tables, slot_index, instr, retired, number, access, watch);
+    end::<M, W>(tables, slot_index, bits, retired, number, access, watch);
 }
 
 /// Whether a register in the instruction waits for a load, in a split machine.
@@ -225,14 +221,16 @@ fn must_wait(tables: &Tables, slot_index: usize, instr: &Instr) -> bool
 fn end<M: Memory, W: Watch<M>>(
     tables: &mut Tables,
     slot_index: usize,
-    instr: Instr,
+    bits: u64,
     retired: Retired,
     number: u8,
     fetched: Access,
     watch: &mut W,
 )
-    requires { CanEnd retired.completion tables.old slot_index }
-    ensures core { tables.new ≡ core_ended instr tables.old (slot_in tables.old slot_index) slot_index retired.completion }
+    requires can { CanEnd retired.completion tables.old slot_index }
+    requires spelled { is_some (instr_of bits) ≡ true }
+    ensures core { (i : Instr) → instr_of bits ≡ Some i
+        → tables.new ≡ core_ended i tables.old (slot_in tables.old slot_index) slot_index retired.completion }
     ensures watch { watch.new
         ≡ W.tells watch.old (step_ended number (slot_in tables.old slot_index) (Some fetched) retired.touched
         retired.completion) }
@@ -247,7 +245,7 @@ fn end<M: Memory, W: Watch<M>>(
             tables.stand(slot_index, SlotState::Running);
             (Tick::Blocked, None)
         }
-        Completion::Faulted(cause) => (fail(tables, slot_index, instr, cause), None),
+        Completion::Faulted(cause) => (fail(tables, slot_index, bits, cause), None),
     };
     watch.tell(Step {
         tick,
@@ -258,16 +256,20 @@ fn end<M: Memory, W: Watch<M>>(
     });
 }
 
-/// The fault of an instruction, whose event has its operands. The instruction is handed over by value, so that a turn that
-/// does not fault need not keep it in memory.
+/// The fault of the instruction that a word spells, whose event has its operands. It reads the word again, so that a turn
+/// that does not fault need not keep the instruction in memory.
 #[cold]
 #[inline(never)]
-fn fail(tables: &mut Tables, slot_index: usize, instr: Instr, cause: Cause) -> Tick
-    requires { CanTurn tables.old slot_index }
-    ensures core { let s = slot_in tables.old slot_index in
-        tables.new ≡ core_faulted tables.old s (event_of s cause (addr_operand instr s) (value_operand instr s)) s.handler }
+fn fail(tables: &mut Tables, slot_index: usize, bits: u64, cause: Cause) -> Tick
+    requires can { CanTurn tables.old slot_index }
+    requires spelled { is_some (instr_of bits) ≡ true }
+    ensures core { (i : Instr) → instr_of bits ≡ Some i → let s = slot_in tables.old slot_index in
+        tables.new ≡ core_faulted tables.old s (event_of s cause (addr_operand i s) (value_operand i s)) s.handler }
     ensures tick { result ≡ tick_faulted cause (slot_in tables.old slot_index).handler }
 {
+    let Some(instr) = decode(bits) else {
+        unreachable!();
+    };
     let slot = tables.slot(slot_index);
     let (addr_op, value_op) = (addr_operand(&instr, slot), value_operand(&instr, slot));
     fault(tables, slot_index, cause, addr_op, value_op)
