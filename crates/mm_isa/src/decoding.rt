@@ -68,20 +68,26 @@ pub fn common(w: u64) -> Option<Instr>
         0x1e if are_zero(w, 32, 16) => Some(Instr::Addi { rd, ra, imm }),
         0x20 if are_zero(w, 0, 44) => Some(Instr::Lea { rd, ra, rb }),
         0x21 if are_zero(w, 32, 16) => Some(Instr::Leai { rd, ra, imm }),
-        0x30 if are_zero(w, 44, 4) && are_zero(w, 32, 8) && are_conditions(c) => Some(Instr::Ld {
-            rd,
-            ra,
-            pre: pre_of(c),
-            post: post_of(c),
-            imm,
-        }),
-        0x31 if are_zero(w, 52, 4) && are_zero(w, 32, 8) && are_conditions(c) => Some(Instr::St {
-            ra,
-            rb,
-            pre: pre_of(c),
-            post: post_of(c),
-            imm,
-        }),
+        0x30 if are_zero(w, 44, 4) && are_zero(w, 32, 8) => match conditions(c) {
+            Some((pre, post)) => Some(Instr::Ld {
+                rd,
+                ra,
+                pre,
+                post,
+                imm,
+            }),
+            None => None,
+        },
+        0x31 if are_zero(w, 52, 4) && are_zero(w, 32, 8) => match conditions(c) {
+            Some((pre, post)) => Some(Instr::St {
+                ra,
+                rb,
+                pre,
+                post,
+                imm,
+            }),
+            None => None,
+        },
         0x40 if are_zero(w, 32, 24) => Some(Instr::Br { imm }),
         0x41 if are_zero(w, 52, 4) && are_zero(w, 32, 16) => Some(Instr::Bz { ra, imm }),
         0x42 if are_zero(w, 52, 4) && are_zero(w, 32, 16) => Some(Instr::Bnz { ra, imm }),
@@ -98,12 +104,26 @@ fn are_zero(w: u64, from: u32, count: u32) -> bool
     w >> from & ((1 << count) - 1) == 0
 }
 
-/// Whether both halves of a field `c` name a condition.
+/// The conditions that a field `c` of four bits names; `None` if one of its halves names none.
 #[inline(always)]
-fn are_conditions(c: u8) -> bool
-    ensures { result ≡ (not (c / 4 == 3) && not (c % 4 == 3)) }
+fn conditions(c: u8) -> Option<(Pre, Post)>
+    requires { c < 16 }
+    ensures { IfSome result (λ both. (both.0 ≡ pre_in c) × (both.1 ≡ post_in c)
+        × (pre_code both.0 * 4 + post_code both.1 ≡ c)) }
 {
-    c / 4 != 3 && c % 4 != 3
+    let pre = match c / 4 {
+        0 => Pre::Any,
+        1 => Pre::Full,
+        2 => Pre::Empty,
+        _ => return None,
+    };
+    let post = match c % 4 {
+        0 => Post::Keep,
+        1 => Post::Full,
+        2 => Post::Empty,
+        _ => return None,
+    };
+    Some((pre, post))
 }
 
 /// The instruction of the fields' operation, with the fields that it uses. The other fields are ignored.
@@ -207,7 +227,6 @@ fn op_of(number: u8) -> AluOp
 }
 
 /// The precondition that the upper two bits of a 4-bit `c` name: 0 any, 1 full, else empty.
-#[inline(always)]
 fn pre_of(c: u8) -> Pre
     ensures { result ≡ pre_in c }
 {
@@ -219,7 +238,6 @@ fn pre_of(c: u8) -> Pre
 }
 
 /// The postcondition that the lower two bits of `c` name: 0 keep, 1 full, else empty.
-#[inline(always)]
 fn post_of(c: u8) -> Post
     ensures { result ≡ post_in c }
 {

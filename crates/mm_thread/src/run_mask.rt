@@ -47,7 +47,7 @@ pub(crate) fn ran_on(runners: u64, slot: &Slot) -> u64
 /// The set without a slot that does not run.
 #[cold]
 #[inline(never)]
-fn without(runners: u64, slot: &Slot) -> u64
+pub(crate) fn without(runners: u64, slot: &Slot) -> u64
     requires { slot.now.number < 64 }
     ensures { IsNoted runners result slot.now }
 {

@@ -46,9 +46,27 @@ pub(crate) fn start<M: Memory, W: Watch<M>>(
         return;
     }
     match check(Word::Ptr(ip), 0, Kind::Fetch) {
-        Err(cause) => fail_fetch(tables, slot_index, mem, cause, None, watch),
+        Err(_) => fail_check(tables, slot_index, mem, watch),
         Ok(access) => fetch(tables, slot_index, mem, access, watch),
     }
+}
+
+/// Ends a turn whose instruction pointer fails its check. It makes the check again, so that a turn that does not fault
+/// need not keep the cause.
+#[cold]
+#[inline(never)]
+fn fail_check<M: Memory, W: Watch<M>>(
+    tables: &mut Tables,
+    slot_index: usize,
+    mem: &M,
+    watch: &mut W,
+)
+{
+    let slot = tables.slot(slot_index);
+    let Err(cause) = check(Word::Ptr(slot.ip), 0, Kind::Fetch) else {
+        unreachable!();
+    };
+    fail_fetch(tables, slot_index, mem, cause, None, watch);
 }
 
 /// Ends a turn by a fault before an instruction is known: it has no operands.
@@ -80,6 +98,30 @@ fn fail_fetch<M: Memory, W: Watch<M>>(
     tell_step::<M, W>(watch, tick, number, fetched);
 }
 
+/// Ends a turn by a fault after the fetch's check.
+#[cold]
+#[inline(never)]
+fn fail_fetched<M: Memory, W: Watch<M>>(
+    tables: &mut Tables,
+    slot_index: usize,
+    mem: &M,
+    cause: Cause,
+    watch: &mut W,
+)
+{
+    let access = fetch_access(tables, slot_index);
+    fail_fetch(tables, slot_index, mem, cause, Some(access), watch);
+}
+
+/// The access of the fetch of a slot whose instruction pointer passes its check.
+fn fetch_access(tables: &Tables, slot_index: usize) -> Access {
+    let slot = tables.slot(slot_index);
+    let Ok(access) = check(Word::Ptr(slot.ip), 0, Kind::Fetch) else {
+        unreachable!();
+    };
+    access
+}
+
 /// Goes on with the turn from the fetch.
 #[inline(always)]
 fn fetch<M: Memory, W: Watch<M>>(
@@ -99,11 +141,11 @@ fn fetch<M: Memory, W: Watch<M>>(
         (fetched tables.old m s access (cell_at m access.addr)) mem.old mem.new tables.new watch.new }
 {
     let Some(word) = mem.fetch(&access) else {
-        fail_fetch(tables, slot_index, mem, Cause::NoPage, Some(access), watch);
+        fail_fetched(tables, slot_index, mem, Cause::NoPage, watch);
         return;
     };
     let Word::Int(bits) = word else {
-        fail_fetch(tables, slot_index, mem, Cause::Illegal, Some(access), watch);
+        fail_fetched(tables, slot_index, mem, Cause::Illegal, watch);
         return;
     };
     match likely(tables, bits) {
@@ -111,7 +153,7 @@ fn fetch<M: Memory, W: Watch<M>>(
             watch.look(tables, slot_index, mem, Some(instr));
             carry::<M, W>(tables, slot_index, mem, access, bits, instr, watch);
         }
-        None => read_on(tables, slot_index, mem, access, bits, watch),
+        None => read_on(tables, slot_index, mem, bits, watch),
     }
 }
 
@@ -130,7 +172,6 @@ fn read_on<M: Memory, W: Watch<M>>(
     tables: &mut Tables,
     slot_index: usize,
     mem: &mut M,
-    access: Access,
     bits: u64,
     watch: &mut W,
 )
@@ -144,6 +185,7 @@ fn read_on<M: Memory, W: Watch<M>>(
         (W.looks watch.old (told_at tables.old m s (in_cell (Some cell))))
         (fetched tables.old m s access (Some cell)) before mem.new tables.new watch.new }
 {
+    let access = fetch_access(tables, slot_index);
     match read(bits) {
         None => fail_fetch(tables, slot_index, mem, Cause::Illegal, Some(access), watch),
         Some(instr) => issue(tables, slot_index, mem, access, bits, instr, watch),

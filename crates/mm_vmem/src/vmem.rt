@@ -229,8 +229,10 @@ impl Memory for VMem {
 
     #[inline(always)]
     fn fetch(&mut self, a: &Access) -> Option<Word> {
-        let cell = self.touch(a.addr())?;
-        Some(cell.word)
+        match self.touch(a.addr()) {
+            Some(cell) => Some(cell.word),
+            None => None,
+        }
     }
 
     #[inline(always)]
