@@ -1,11 +1,11 @@
 -- The rows of the instructions that most words spell, each by the bits that it leaves zero.
-use Rattle.std.proofs.Common.{◌≡◌, ℕ, zero, suc, ◌+◌, ◌*◌, ◌/◌, ◌%◌, ◌^◌, ◌<◌, ◌==◌, true, not, ◌&&◌, if◌then◌else◌, Some, arith, refl, ap, eq-eqb}
-use Rattle.std.{proofs.lemmas.{Bool.{eqb-true, and_parts}, Int.of_z-to_z}, specs.{Bool.then_some, Int.{w32, cast_signed, cast_unsigned}}}
+use Rattle.std.proofs.Common.{◌≡◌, ℕ, ◌+◌, ◌*◌, ◌/◌, ◌%◌, ◌^◌, ◌<◌, ◌==◌, true, Some, arith, refl, ap, eq-eqb}
+use Rattle.std.{proofs.lemmas.{Bool.eqb-true, Int.of_z-to_z}, specs.{Bool.then_some, Int.{w32, cast_signed, cast_unsigned}}}
 use Rattle.mm_isa.specs.declared.instr.{AluOp.TheVariants.{Add, Sub}, Instr.{Instr, TheVariants.{Ldi, Mov, Alu, Addi, Lea, Leai}}}
 use Rattle.mm_isa.specs.declared.instr.Instr.TheVariants.{Ld, St, Br, Bz, Bnz}
 use Rattle.mm_isa.specs.{Table.{packed, spelling, pre_code, post_code}, Decode.{fields_in, rows, row_of, instr_of, pre_in, post_in}}
-use Rattle.mm_word.specs.declared.word.Pre.TheVariants as pre
-use Rattle.mm_word.specs.declared.word.Post.TheVariants as post
+use Rattle.mm_isa.proofs.Operands.{post_small}
+use Rattle.mm_word.specs.declared.word.{Pre.Pre, Post.Post}
 
 -- a row that the word spells
 row_spelled : (w : ℕ) (i : Instr) → row_of (fields_in w) ≡ Some i → spelling i ≡ w → instr_of w ≡ Some i
@@ -15,25 +15,9 @@ row_spelled w i row same = rw row (ap (λ b. then_some b i) (eq-eqb (spelling i)
 constant : (w : ℕ) → cast_unsigned w32 (cast_signed w32 (w % 2 ^ 32)) ≡ w % 2 ^ 32
 constant w = of_z-to_z w32 (w % 2 ^ 32) (omega arith)
 
-pre_named : (n : ℕ) → n < 4 → not (n == 3) ≡ true → pre_code (if n == 0 then pre.Any else (if n == 1 then pre.Full else pre.Empty)) ≡ n
-pre_named zero h e = refl
-pre_named (suc zero) h e = refl
-pre_named (suc (suc zero)) h e = refl
-pre_named (suc (suc (suc zero))) h e = cc
-pre_named (suc (suc (suc (suc n)))) h e = omega arith
-
-post_named : (n : ℕ) → n < 4 → not (n == 3) ≡ true → post_code (if n == 0 then post.Keep else (if n == 1 then post.Full else post.Empty)) ≡ n
-post_named zero h e = refl
-post_named (suc zero) h e = refl
-post_named (suc (suc zero)) h e = refl
-post_named (suc (suc (suc zero))) h e = cc
-post_named (suc (suc (suc (suc n)))) h e = omega arith
-
--- a field `c` whose halves name conditions is made of these again
-conditions : (c : ℕ) → c < 16 → (not (c / 4 == 3) && not (c % 4 == 3)) ≡ true → pre_code (pre_in c) * 4 + post_code (post_in c) ≡ c
-conditions c h e =
-    let parts = and_parts (not (c / 4 == 3)) (not (c % 4 == 3)) e in
-    omega (arith, pre_named (c / 4) (omega arith) parts.0, post_named (c % 4) (omega arith) parts.1)
+pub c_small : (w : ℕ) → (fields_in w).c < 16
+unfolding fields_in
+c_small w = omega arith
 
 pub ldi_spelled : (w : ℕ) → w < 2 ^ 64 → (fields_in w).operation ≡ 0x02 → (w / 2 ^ 32 % 2 ^ 20 == 0) ≡ true →
     instr_of w ≡ Some (Ldi (fields_in w).rd (fields_in w).imm)
@@ -84,19 +68,21 @@ leai_spelled w low e z0 =
     let row : row_of (fields_in w) ≡ Some (Leai (w / 2 ^ 52 % 16) (w / 2 ^ 48 % 16) (cast_signed w32 (w % 2 ^ 32))) = rw e refl in
     row_spelled w _ row (omega (arith, eqb-true (w / 2 ^ 32 % 2 ^ 16) 0 z0, constant w, low, e))
 
-pub ld_spelled : (w : ℕ) → w < 2 ^ 64 → (fields_in w).operation ≡ 0x30 → (w / 2 ^ 44 % 2 ^ 4 == 0) ≡ true → (w / 2 ^ 32 % 2 ^ 8 == 0) ≡ true → (not ((fields_in w).c / 4 == 3) && not ((fields_in w).c % 4 == 3)) ≡ true →
-    instr_of w ≡ Some (Ld (fields_in w).rd (fields_in w).ra (pre_in (fields_in w).c) (post_in (fields_in w).c) (fields_in w).imm)
+pub ld_spelled : (w : ℕ) (p : Pre) (q : Post) → w < 2 ^ 64 → (fields_in w).operation ≡ 0x30 → (w / 2 ^ 44 % 2 ^ 4 == 0) ≡ true → (w / 2 ^ 32 % 2 ^ 8 == 0) ≡ true
+    → p ≡ pre_in (fields_in w).c → q ≡ post_in (fields_in w).c → pre_code p * 4 + post_code q ≡ (fields_in w).c
+    → instr_of w ≡ Some (Ld (fields_in w).rd (fields_in w).ra p q (fields_in w).imm)
 unfolding row_of rows fields_in packed
-ld_spelled w low e z0 z1 k =
-    let row : row_of (fields_in w) ≡ Some (Ld (w / 2 ^ 52 % 16) (w / 2 ^ 48 % 16) (pre_in (w / 2 ^ 40 % 16)) (post_in (w / 2 ^ 40 % 16)) (cast_signed w32 (w % 2 ^ 32))) = rw e refl in
-    row_spelled w _ row (omega (arith, eqb-true (w / 2 ^ 44 % 2 ^ 4) 0 z0, eqb-true (w / 2 ^ 32 % 2 ^ 8) 0 z1, constant w, conditions (w / 2 ^ 40 % 16) (omega arith) k, low, e))
+ld_spelled w p q low e z0 z1 pre post again =
+    let row : row_of (fields_in w) ≡ Some (Ld (w / 2 ^ 52 % 16) (w / 2 ^ 48 % 16) p q (cast_signed w32 (w % 2 ^ 32))) = rw (e, pre, post) refl in
+    row_spelled w _ row (omega (arith, eqb-true (w / 2 ^ 44 % 2 ^ 4) 0 z0, eqb-true (w / 2 ^ 32 % 2 ^ 8) 0 z1, constant w, again, post_small q, low, e))
 
-pub st_spelled : (w : ℕ) → w < 2 ^ 64 → (fields_in w).operation ≡ 0x31 → (w / 2 ^ 52 % 2 ^ 4 == 0) ≡ true → (w / 2 ^ 32 % 2 ^ 8 == 0) ≡ true → (not ((fields_in w).c / 4 == 3) && not ((fields_in w).c % 4 == 3)) ≡ true →
-    instr_of w ≡ Some (St (fields_in w).ra (fields_in w).rb (pre_in (fields_in w).c) (post_in (fields_in w).c) (fields_in w).imm)
+pub st_spelled : (w : ℕ) (p : Pre) (q : Post) → w < 2 ^ 64 → (fields_in w).operation ≡ 0x31 → (w / 2 ^ 52 % 2 ^ 4 == 0) ≡ true → (w / 2 ^ 32 % 2 ^ 8 == 0) ≡ true
+    → p ≡ pre_in (fields_in w).c → q ≡ post_in (fields_in w).c → pre_code p * 4 + post_code q ≡ (fields_in w).c
+    → instr_of w ≡ Some (St (fields_in w).ra (fields_in w).rb p q (fields_in w).imm)
 unfolding row_of rows fields_in packed
-st_spelled w low e z0 z1 k =
-    let row : row_of (fields_in w) ≡ Some (St (w / 2 ^ 48 % 16) (w / 2 ^ 44 % 16) (pre_in (w / 2 ^ 40 % 16)) (post_in (w / 2 ^ 40 % 16)) (cast_signed w32 (w % 2 ^ 32))) = rw e refl in
-    row_spelled w _ row (omega (arith, eqb-true (w / 2 ^ 52 % 2 ^ 4) 0 z0, eqb-true (w / 2 ^ 32 % 2 ^ 8) 0 z1, constant w, conditions (w / 2 ^ 40 % 16) (omega arith) k, low, e))
+st_spelled w p q low e z0 z1 pre post again =
+    let row : row_of (fields_in w) ≡ Some (St (w / 2 ^ 48 % 16) (w / 2 ^ 44 % 16) p q (cast_signed w32 (w % 2 ^ 32))) = rw (e, pre, post) refl in
+    row_spelled w _ row (omega (arith, eqb-true (w / 2 ^ 52 % 2 ^ 4) 0 z0, eqb-true (w / 2 ^ 32 % 2 ^ 8) 0 z1, constant w, again, post_small q, low, e))
 
 pub br_spelled : (w : ℕ) → w < 2 ^ 64 → (fields_in w).operation ≡ 0x40 → (w / 2 ^ 32 % 2 ^ 24 == 0) ≡ true →
     instr_of w ≡ Some (Br (fields_in w).imm)

@@ -1,8 +1,8 @@
 //! Instructions read from their words.
 
-ghost use Rattle.std.specs.Prelude.{◌≡◌, ◌≢◌, ◌+◌, ◌<◌, ◌≤◌, ◌/◌, ◌%◌, ◌^◌, ◌==◌, ◌&&◌, not, IfSome, IfNone, Some};
+ghost use Rattle.std.specs.Prelude.{◌≡◌, ◌≢◌, ◌+◌, ◌*◌, ◌<◌, ◌≤◌, ◌/◌, ◌%◌, ◌^◌, ◌==◌, IfSome, IfNone, Some};
 ghost use Rattle.mm_isa.specs.declared.instr.Instr.{Instr};
-ghost use Rattle.mm_isa.specs.Table.{number_of, spelling, IsInstr};
+ghost use Rattle.mm_isa.specs.Table.{number_of, pre_code, post_code, spelling, IsInstr};
 ghost use Rattle.mm_isa.specs.Decode.{instr_of, row_of, pre_in, post_in, how_in, register_in};
 
 use crate::encoding::encode;

@@ -1,4 +1,4 @@
-use Rattle.std.proofs.Common.{◌≡◌, ◌*◌, ◌%◌, ◌^◌, ◌<◌, ap, ◌∙◌, arith, nat_eq, bit_and, ◌/◌, ◌-◌, rules}
+use Rattle.std.proofs.Common.{◌≡◌, ◌*◌, ◌%◌, ◌^◌, ◌<◌, arith, ◌/◌, rules}
 use Rattle.std.proofs.{lemmas.Nat.and_mask, Math.Pow.pow-lt}
 use Rattle.mm_isa.proofs.decoding.are_zero.Goals as goal
 
