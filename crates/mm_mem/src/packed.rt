@@ -25,7 +25,11 @@ pub(crate) fn with_bit(byte: u8, index: usize, bit: bool) -> u8
     ensures own { in_mask result index ≡ bit }
     ensures others { (i : ℕ) → i < 8 → i ≢ index → in_mask result i ≡ in_mask byte i }
 {
-    byte & !(1 << index) | (bit as u8) << index
+    if bit {
+        byte | 1 << index
+    } else {
+        byte & !(1 << index)
+    }
 }
 
 /// The word of these bits: a pointer if it is tagged.

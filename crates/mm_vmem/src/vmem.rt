@@ -93,27 +93,64 @@ impl VMem {
             }
             None => {
                 self.others += 1;
-                if self.miss(word) {
-                    self.lines.cell(word)
-                } else {
-                    None
-                }
+                self.miss(word)
             }
         }
     }
 
     /// Brings the block of a word into its line, which does not have it, and gives the word's cell; `None`, and nothing
     /// is brought, if its page is not mapped.
-    #[inline(never)]
-    fn miss(&mut self, word: u64) -> bool
+    #[inline(always)]
+    fn miss(&mut self, word: u64) -> Option<Cell>
         requires aligned { word % 8 ≡ 0 }
         requires small { word < 2 ^ 54 }
         requires absent { hits self.old.lines (block_of word) ≡ false }
         requires some { 0 < self.old.uses }
         requires room { self.old.uses ≤ 2 ^ 62 }
         requires few { AreFew self.old.numbers (self.old.uses - 1) }
+        ensures answer { result ≡ cell_at (meaning self.old) word }
+        ensures after { meaning self.new ≡ meaning self.old }
+        ensures count { self.new.uses ≡ self.old.uses }
+        ensures there { IfSome result (λ cell. hits self.new.lines (block_of word) ≡ true) }
+        ensures same { IfNone result (self.new ≡ self.old) }
+        ensures lines { IfSome result (λ cell. line_states self.new.lines ≡ slice_set (line_states self.old.lines)
+            (line_of (block_of word)) (Some (record { block = block_of word; dirty = false }))) }
+        ensures entries { IfSome result (λ cell. pages_in self.new.entries ≡ after_looks
+            (sought (state_at (line_states self.old.lines) (line_of (block_of word))) (block_of word))
+            (pages_in self.old.entries)) }
+        ensures numbers { IfSome result (λ cell. self.new.numbers ≡ next_numbers
+            (state_at (line_states self.old.lines) (line_of (block_of word))) (block_of word)
+            (pages_in self.old.entries) self.old.numbers) }
     {
-        let block = word / 64;
+        if self.bring_mapped(word / 64) {
+            self.lines.cell(word)
+        } else {
+            None
+        }
+    }
+
+    /// Brings a block into its line, which does not have it. `false`, and nothing is brought, if its page is not mapped. It
+    /// stays a call, and gives no cell, so that a hit need not clear a place for one.
+    #[inline(never)]
+    fn bring_mapped(&mut self, block: u64) -> bool
+        requires small { block < 2 ^ 48 }
+        requires absent { hits self.old.lines block ≡ false }
+        requires some { 0 < self.old.uses }
+        requires room { self.old.uses ≤ 2 ^ 62 }
+        requires few { AreFew self.old.numbers (self.old.uses - 1) }
+        ensures answer { result ≡ is_some (frame_of self.old.frames (page_of_block block)) }
+        ensures after { meaning self.new ≡ meaning self.old }
+        ensures count { self.new.uses ≡ self.old.uses }
+        ensures there { result ≡ true → hits self.new.lines block ≡ true }
+        ensures same { result ≡ false → self.new ≡ self.old }
+        ensures lines { result ≡ true → line_states self.new.lines ≡ slice_set (line_states self.old.lines)
+            (line_of block) (Some (record { block = block; dirty = false })) }
+        ensures entries { result ≡ true → pages_in self.new.entries ≡ after_looks
+            (sought (state_at (line_states self.old.lines) (line_of block)) block) (pages_in self.old.entries) }
+        ensures numbers { result ≡ true → self.new.numbers
+            ≡ next_numbers (state_at (line_states self.old.lines) (line_of block)) block
+            (pages_in self.old.entries) self.old.numbers }
+    {
         let Some(frame) = self.frame_of(block / 64) else {
             return false;
         };
